@@ -1,0 +1,6 @@
+pub mod Gauss
+pub mod Integers
+pub mod Made
+pub mod Orders
+pub mod Products
+pub mod Signs

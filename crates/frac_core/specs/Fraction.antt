@@ -1,0 +1,45 @@
+-- Fractions in lowest terms.
+use Rattle.std.specs.Prelude.{◌≡◌, ℕ, ◌<◌, ◌^◌, ℤ, pos}
+use Rattle.std.specs.Int.{IsGcd}
+use Rattle.std.specs.Int.RustNames.{unsigned_abs}
+use Rattle.std.specs.Prelude.{◌*ℤ◌, ◌+ℤ◌}
+use Rattle.std.specs.Ordering.{int_cmp}
+use Rattle.std.specs.declared.cmp.Ordering.{Ordering}
+
+pub record Fraction : Type 0 where
+  pub num : ℤ
+  pub den : ℕ
+
+-- the denominator is above 0, and the parts have no common divisor but 1
+pub record IsLowest (f : Fraction) : Type 0 where
+  pub above : 0 < f.den
+  pub coprime : IsGcd (unsigned_abs f.num) f.den 1
+
+-- both parts are below 2^42 in size
+pub record Fits (f : Fraction) : Type 0 where
+  pub num_fits : unsigned_abs f.num < 2 ^ 42
+  pub den_fits : f.den < 2 ^ 42
+
+-- in lowest terms, and fitting
+pub record IsKept (f : Fraction) : Type 0 where
+  pub lowest : IsLowest f
+  pub fits : Fits f
+
+-- the fraction is p over q
+abbrev pub IsRatio : Fraction → ℤ → ℤ → Type 0
+IsRatio f p q = f.num *ℤ q ≡ p *ℤ pos f.den
+
+-- a whole number below 2^42 in size
+abbrev pub IsFitting : ℤ → Type 0
+IsFitting z = unsigned_abs z < 2 ^ 42
+
+-- the order of the two values
+abbrev pub fraction_order : Fraction → Fraction → Ordering
+fraction_order f g = int_cmp (f.num *ℤ pos g.den) (g.num *ℤ pos f.den)
+
+-- a + (n/d)*t is this number over `sum_den a d t`
+abbrev pub sum_num : Fraction → ℤ → ℤ → Fraction → ℤ
+sum_num a n d t = a.num *ℤ (d *ℤ pos t.den) +ℤ n *ℤ (t.num *ℤ pos a.den)
+
+abbrev pub sum_den : Fraction → ℤ → Fraction → ℤ
+sum_den a d t = pos a.den *ℤ (d *ℤ pos t.den)

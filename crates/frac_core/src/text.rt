@@ -1,0 +1,54 @@
+// Fractions as text.
+ghost use Rattle.std.specs.Prelude.{◌≡◌, ◌+◌, ◌≤◌, ◌++◌, length, take, drop};
+ghost use Rattle.frac_core.specs.Text.{fraction_text};
+
+use crate::wide::Wide;
+use itoa::Buffer;
+
+// Writes the piece at this place; the answer is where it ends.
+fn put(out: &mut [u8], at: usize, piece: &[u8]) -> usize
+    requires { at + length piece.now ≤ length out.old }
+    ensures end { result ≡ at + length piece.now }
+    ensures written { take result out.new ≡ take at out.old ++ piece.now }
+    ensures len { length out.new ≡ length out.old }
+{
+    let end = at + piece.len();
+    out[at..end].copy_from_slice(piece);
+    end
+}
+
+/// Writes the fraction as `p/q`, or as `p` where q is 1, into the first bytes of `out`; the answer is the text's length.
+pub fn write_frac(f: Wide, out: &mut [u8; 82]) -> usize
+    ensures length { result ≡ length (fraction_text f) }
+    ensures text { take result out.new ≡ fraction_text f }
+    ensures within { result ≤ 82 }
+{
+    let mut digits = Buffer::new();
+    let end = put(out, 0, digits.format(f.num()).as_bytes());
+    if f.den() == 1 {
+        return end;
+    }
+    let end = put(out, end, b"/");
+    put(out, end, digits.format(f.den()).as_bytes())
+}
+
+#[cfg(test)]
+mod tests {
+    use super::*;
+    use std::test::Fail;
+
+    #[test]
+    fn fractions_are_written(rt: HostRuntime) -> Result<(), Fail> {
+        let mut out = [0; 82];
+        let end = write_frac(Wide::of(6, 4), &mut out);
+        assert!(rt; &out[..end] == b"3/2".as_slice());
+        let end = write_frac(Wide::of(-10, 5), &mut out);
+        assert!(rt; &out[..end] == b"-2".as_slice());
+        let end = write_frac(Wide::of(-i128::MAX, i128::MAX - 1), &mut out);
+        assert!(rt;
+            &out[..end]
+                == b"-170141183460469231731687303715884105727/170141183460469231731687303715884105726".as_slice()
+        );
+        Ok(())
+    }
+}
