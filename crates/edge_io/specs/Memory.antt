@@ -1,0 +1,42 @@
+-- What the objects in memory hold, and what decides their answers.
+use Rattle.std.specs.Prelude.{◌≡◌, ◌↔◌, ℕ, ◌-◌, ◌+◌, ◌^◌, ◌≤◌, ◌⊎◌, ◌==◌, List, min, slice_index, if◌then◌else◌, length, Result, IfOk, IsErr, Contains}
+
+-- a source in memory: what is left, the greatest sizes, the calls that fail, and the next call's number
+pub record MemoryInput : Type 0 where
+  pub left : List ℕ
+  pub sizes : List ℕ
+  pub fails : List ℕ
+  pub call : ℕ
+  pub faults : ℕ
+
+-- a sink in memory: what it holds, its room, the calls that fail, and the next call's number
+pub record MemoryOutput : Type 0 where
+  pub held : List ℕ
+  pub room : ℕ
+  pub fails : List ℕ
+  pub call : ℕ
+  pub faults : ℕ
+
+-- the greatest size of a call: a missing or zero size means no bound
+abbrev pub size_of : List ℕ → ℕ → ℕ
+size_of sizes call = if slice_index sizes call == 0 then 2 ^ 64 - 1 else slice_index sizes call
+
+-- the number of the call after this one, up to the last number that the count has
+abbrev pub next_call : ℕ → ℕ
+next_call call = min (call + 1) (2 ^ 64 - 1)
+
+-- A pull fails exactly where its call is listed, and else takes the most that it may. The call counts, and the lists stay.
+pub record PullsMost {E : Type 0} (old new : MemoryInput) (room : ℕ) (result : Result ℕ E) : Type 0 where
+  pub fails : IsErr result ↔ Contains old.fails old.call
+  pub most : IfOk result (λ n. n ≡ min (min (size_of old.sizes old.call) room) (length old.left))
+  pub counted : new.call ≡ next_call old.call
+  pub same_sizes : new.sizes ≡ old.sizes
+  pub same_fails : new.fails ≡ old.fails
+
+-- A put fails exactly where its call is listed or the sink is full, and else takes the most that it may. The call counts, and room and list stay.
+pub record PutsMost {E : Type 0} (old new : MemoryOutput) (size : ℕ) (result : Result ℕ E) : Type 0 where
+  pub fails : IsErr result ↔ ((old.room ≤ length old.held) ⊎ Contains old.fails old.call)
+  pub most : IfOk result (λ n. n ≡ min (old.room - length old.held) size)
+  pub counted : new.call ≡ next_call old.call
+  pub same_room : new.room ≡ old.room
+  pub same_fails : new.fails ≡ old.fails
