@@ -1,0 +1,31 @@
+-- Where a line is cut into tokens: the longest runs of letters, digits and _, the relations ==, <= and >=, and other
+-- characters one by one. Between them stand spaces alone.
+use Rattle.std.specs.Prelude.{◌≡◌, ℕ, Bool, true, false, ◌==◌, ◌&&◌, ◌||◌, ◌<◌, List, [], ◌∷◌, ◌++◌, length, ◌⊎◌, encode_utf8}
+use Rattle.span_text.specs.Language.{AllIn, NotStart}
+use Rattle.span_text.specs.Classes.{is_space, is_word}
+
+abbrev pub begins_relation : List ℕ → Bool
+begins_relation [] = false
+begins_relation (b ∷ []) = false
+begins_relation (b ∷ c ∷ s) = (c == 61) && ((b == 60) || (b == 61) || (b == 62))
+
+-- the longest run of letters, digits and _ in front of what follows
+pub record IsRun (text rest : List ℕ) : Type 0 where
+  pub some : 0 < length text
+  pub inside : AllIn is_word text
+  pub longest : NotStart is_word rest
+
+abbrev pub IsRelation : List ℕ → Type 0
+IsRelation text = (length text ≡ 2) × (begins_relation text ≡ true)
+
+-- one character with which neither a run nor a relation begins
+pub record IsOther (text rest : List ℕ) : Type 0 where
+  pub character : ℕ
+  pub encoded : text ≡ encode_utf8 character
+  pub no_word : NotStart is_word text
+  pub no_space : NotStart is_space text
+  pub no_relation : begins_relation (text ++ rest) ≡ false
+
+-- a token that the rest follows
+abbrev pub IsToken : List ℕ → List ℕ → Type 0
+IsToken text rest = IsRun text rest ⊎ (IsRelation text ⊎ IsOther text rest)

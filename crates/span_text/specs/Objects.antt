@@ -1,0 +1,12 @@
+-- What an object means, whatever the place of its name in memory.
+use Rattle.std.specs.Prelude.{ℕ, List, ℤ}
+use Rattle.span_text.specs.declared.object.Object.{Object}
+use Rattle.span_text.specs.declared.object.Object.TheVariants as object
+
+pub data Meant : Type 0 where
+  Number : ℤ → Meant
+  Name : List ℕ → Meant
+
+abbrev pub meant : Object → Meant
+meant (object.Number thousandths) = Number thousandths
+meant (object.Name text) = Name text.now

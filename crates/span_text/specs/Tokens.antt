@@ -1,0 +1,131 @@
+-- Tokens with the spaces behind them, and their readers.
+use Rattle.std.specs.Prelude.{ℕ, ◌+◌, ◌-◌, ◌*◌, ◌^◌, ◌==◌, Bool, List, [], ◌∷◌, length, Result, Ok, if◌then◌else◌}
+use Rattle.span_text.specs.Language.{Rel, Lit, One, Run, Few, Not, Or}
+use Rattle.span_text.specs.Classes.{is_space, is_digit, is_letter, is_word}
+use Rattle.span_text.specs.Digits.{digits, Nonzero, nonzero_at}
+use Rattle.span_text.specs.Reading.{◌>>=◌, lit_at, front, back, one_at, not_at, few_at, starts}
+
+-- spaces, and then a text of F
+abbrev pub Gap : {A : Type 0} → Rel A → Rel A
+Gap F = Run is_space (λ _. F)
+
+-- Behind a letter, a digit or _: no other one of them follows, so a space stands before the next one.
+abbrev pub Tail : {A : Type 0} → Rel A → Rel A
+Tail F = Not is_word (Gap F)
+
+abbrev pub Word : {A : Type 0} → List ℕ → Rel A → Rel A
+Word w F = Lit w (Tail F)
+
+abbrev pub Sign : {A : Type 0} → ℕ → Rel A → Rel A
+Sign c F = Lit (c ∷ []) (Gap F)
+
+abbrev pub Name : {A : Type 0} → (List ℕ → Rel A) → Rel A
+Name F = One is_letter (λ b. Run is_word (λ x. Gap (F (b ∷ x))))
+
+-- a name with nothing said of what follows, as in a.left
+abbrev pub RawName : {A : Type 0} → (List ℕ → Rel A) → Rel A
+RawName F = One is_letter (λ b. Run is_word (λ x. F (b ∷ x)))
+
+-- 1 to n + 1 digits
+abbrev pub Digits : {A : Type 0} → ℕ → (List ℕ → Rel A) → Rel A
+Digits n F = One is_digit (λ b. Few is_digit n (λ x. F (b ∷ x)))
+
+-- The decimals in thousandths.
+abbrev pub decimals : List ℕ → ℕ
+decimals f = digits 0 f * 10 ^ (3 - length f)
+
+abbrev pub is_point : ℕ → Bool
+is_point b = b == 46
+
+-- 1 to 6 digits, and perhaps a point and 1 to 3 digits; the value in thousandths
+abbrev pub Number : {A : Type 0} → (ℕ → Rel A) → Rel A
+Number F = Digits 5 (λ x. Or
+    (Lit (46 ∷ []) (Digits 2 (λ y. Tail (F (digits 0 x * 1000 + decimals y)))))
+    (Not is_point (Tail (F (digits 0 x * 1000)))))
+
+-- 1 to 19 digits
+abbrev pub Whole : {A : Type 0} → (ℕ → Rel A) → Rel A
+Whole F = Digits 18 (λ x. Tail (F (digits 0 x)))
+
+-- 1 to 4 digits, a slash, and 1 to 4 digits whose value isn't 0
+abbrev pub Ratio : {A : Type 0} → (ℕ → ℕ → Rel A) → Rel A
+Ratio F = Digits 3 (λ x. Lit (47 ∷ []) (Nonzero 4 0 (λ d. Tail (F (digits 0 x) d))))
+
+abbrev pub skip : List ℕ → List ℕ
+skip s = back is_space s
+
+abbrev pub skipped : List ℕ → Result (List ℕ) ℕ
+skipped s = Ok (skip s)
+
+unfoldable pub tail_at : List ℕ → Result (List ℕ) ℕ
+tail_at s = not_at is_word s >>= skipped
+
+unfoldable pub word_at : List ℕ → List ℕ → Result (List ℕ) ℕ
+word_at w s = lit_at w s >>= tail_at
+
+unfoldable pub sign_at : ℕ → List ℕ → Result (List ℕ) ℕ
+sign_at c s = lit_at (c ∷ []) s >>= skipped
+
+abbrev pub named : ℕ × List ℕ → Result (List ℕ × List ℕ) ℕ
+named r = Ok (r.0 ∷ front is_word r.1, skip (back is_word r.1))
+
+unfoldable pub name_at : List ℕ → Result (List ℕ × List ℕ) ℕ
+name_at s = one_at is_letter s >>= named
+
+abbrev pub raw_named : ℕ × List ℕ → Result (List ℕ × List ℕ) ℕ
+raw_named r = Ok (r.0 ∷ front is_word r.1, back is_word r.1)
+
+unfoldable pub raw_name_at : List ℕ → Result (List ℕ × List ℕ) ℕ
+raw_name_at s = one_at is_letter s >>= raw_named
+
+unfoldable pub digits_at : ℕ → List ℕ → Result (List ℕ × List ℕ) ℕ
+digits_at n s = do
+  first ← one_at is_digit s
+  others ← few_at is_digit n first.1
+  Ok (first.0 ∷ others.0, others.1)
+
+abbrev pub valued : List ℕ × List ℕ → Result (ℕ × ℕ × List ℕ) ℕ
+valued r = Ok (digits 0 r.0, length r.0, r.1)
+
+-- digits as their value and their count
+unfoldable pub valued_at : ℕ → List ℕ → Result (ℕ × ℕ × List ℕ) ℕ
+valued_at n s = digits_at n s >>= valued
+
+unfoldable pub decimals_at : ℕ → List ℕ → Result (ℕ × List ℕ) ℕ
+decimals_at whole s = do
+  rest ← lit_at (46 ∷ []) s
+  part ← valued_at 2 rest
+  rest ← tail_at part.2
+  Ok (whole * 1000 + part.0 * 10 ^ (3 - part.1), rest)
+
+unfoldable pub no_decimals_at : ℕ → List ℕ → Result (ℕ × List ℕ) ℕ
+no_decimals_at whole s = do
+  rest ← not_at is_point s
+  rest ← tail_at rest
+  Ok (whole * 1000, rest)
+
+unfoldable pub number_at : List ℕ → Result (ℕ × List ℕ) ℕ
+number_at s = do
+  whole ← valued_at 5 s
+  if starts is_point whole.2 then decimals_at whole.0 whole.2 else no_decimals_at whole.0 whole.2
+
+unfoldable pub whole_at : List ℕ → Result (ℕ × List ℕ) ℕ
+whole_at s = do
+  value ← valued_at 18 s
+  rest ← tail_at value.2
+  Ok (value.0, rest)
+
+abbrev pub with_parts : ℕ → ℕ → List ℕ → Result (ℕ × ℕ × List ℕ) ℕ
+with_parts above below s = Ok (above, below, s)
+
+unfoldable pub below_at : ℕ → List ℕ → Result (ℕ × ℕ × List ℕ) ℕ
+below_at above s = do
+  rest ← lit_at (47 ∷ []) s
+  below ← nonzero_at 4 0 rest
+  tail_at below.1 >>= with_parts above below.0
+
+-- a ratio's two parts and the text behind it
+unfoldable pub ratio_at : List ℕ → Result (ℕ × ℕ × List ℕ) ℕ
+ratio_at s = do
+  above ← valued_at 3 s
+  below_at above.0 above.2
