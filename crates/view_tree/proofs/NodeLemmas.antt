@@ -1,0 +1,134 @@
+-- What is kept under the names, seen as a tree.
+use Rattle.std.proofs.Common.{◌≡◌, ℕ, ◌+◌, Bool, true, false, cond, not, List, [], ◌∷◌, ◌++◌, Option, None, Some, All, IfNone, IfSome, codes, find, get_or, is_some, length, map, nat_eq, position, slice_get, refl, sym, ap, subst, ◌∙◌, ◌<◌, ◌≤◌, arith, add-one}
+use Rattle.std.proofs.lemmas.Bool.{eqb-true}
+use Rattle.std.proofs.lemmas.Grind.{common_steps}
+use Rattle.std.proofs.lemmas.List.{map-append}
+use Rattle.std.proofs.lemmas.List.Folds.{find_at}
+use Rattle.std.proofs.lemmas.List.Elements.{All-from_recursion, All-push, recursion_from_All}
+use Rattle.std.proofs.lemmas.List.Quantifiers.{position-Some}
+use Rattle.std.proofs.lemmas.Option.{none-some, slice_get-get_or, slice_get_past}
+use Rattle.std.specs.List.{AllByRecursion, position_or_len}
+use Rattle.std.specs.Map.{lookup, values_of}
+use Rattle.std.specs.Option.{option_map}
+use Rattle.std.specs.Str.{bytes_eq}
+use Rattle.name_tables.specs.Names.{names_of, place_of}
+use Rattle.view_tree.specs.Nodes.{AreKept, live_view, tree_of}
+use Rattle.view_tree.specs.Views.{IsOnLevel, IsTree, LiveView, view_named, view_of, window, with_view}
+use Rattle.view_tree.specs.Stops.{IsNewView}
+use Rattle.view_tree.proofs.ViewLemmas.{IsOnLevel-append, IsOnLevel-push, IsTree-window, IsTree-with_view}
+use Rattle.view_tree.specs.declared.tree.Node.{Node}
+
+-- ---- searches
+
+-- what is found stands at the first place
+pub find-position : {X : Type 0} (p : X → Bool) (xs : List X) (place : ℕ) (d : X) → position p xs ≡ Some place → find p xs ≡ Some (get_or xs place d)
+find-position p xs place d h =
+    let first : position_or_len p xs ≡ place = grind (arith, common_steps, h) in
+    find_at p xs ∙ ap (slice_get xs) first ∙ slice_get-get_or xs place d (position-Some p xs place d h).0
+
+pub find-nowhere : {X : Type 0} (p : X → Bool) (xs : List X) → position p xs ≡ None → find p xs ≡ None
+find-nowhere p xs h =
+    let past : length xs ≤ position_or_len p xs = grind (arith, common_steps, h) in
+    find_at p xs ∙ slice_get_past xs (position_or_len p xs) past
+
+-- what a look-up by name finds belongs to the view of that name
+pub lookup-live_view : {B : Type 0} (f : Node → B) (g : LiveView → B) → ((e : List ℕ × Node) → f e.1 ≡ g (live_view e)) → (name : List ℕ) (es : List (List ℕ × Node))
+    → option_map f (lookup (bytes_eq name) es) ≡ option_map g (view_named (map live_view es) name)
+lookup-live_view f g same name [] = refl
+lookup-live_view f g same name (e ∷ es) =
+    elim (bytes_eq name e.0) as (λ b. option_map f (cond b (Some e.1) (lookup (bytes_eq name) es)) ≡ option_map g (cond b (Some (live_view e)) (view_named (map live_view es) name))) [
+      | true ↦ ap Some (same e)
+      | false ↦ lookup-live_view f g same name es
+    ]
+
+-- and what a search by number finds to the view of that number
+pub find-live_view : {B : Type 0} (f : Node → B) (g : LiveView → B) → ((e : List ℕ × Node) → f e.1 ≡ g (live_view e)) → (id : ℕ) (es : List (List ℕ × Node))
+    → option_map f (find (λ n. nat_eq n.id.0 id) (values_of es)) ≡ option_map g (view_of (map live_view es) id)
+find-live_view f g same id [] = refl
+find-live_view f g same id (e ∷ es) =
+    elim (nat_eq e.1.id.0 id) as (λ b. option_map f (cond b (Some e.1) (find (λ n. nat_eq n.id.0 id) (values_of es))) ≡ option_map g (cond b (Some (live_view e)) (view_of (map live_view es) id))) [
+      | true ↦ ap Some (same e)
+      | false ↦ find-live_view f g same id es
+    ]
+
+module _ {X Y Z : Type 0} (f : X → Y) (g : Z → Y) where
+  -- a node that was found, or not, tells as much of the view
+  pub found : (o : Option X) (p : Option Z) → option_map f o ≡ option_map g p → IfSome o (λ x. option_map g p ≡ Some (f x))
+  found None p h = tt
+  found (Some x) p h = sym h
+
+  pub missing : (o : Option X) (p : Option Z) → option_map f o ≡ option_map g p → IfNone o (p ≡ None)
+  missing None None h = refl
+  missing None (Some z) h = absurd (none-some (g z) h)
+  missing (Some x) p h = tt
+
+  pub is_some-same : (o : Option X) (p : Option Z) → option_map f o ≡ option_map g p → is_some o ≡ is_some p
+  is_some-same None None h = refl
+  is_some-same None (Some z) h = absurd (none-some (g z) h)
+  is_some-same (Some x) None h = absurd (none-some (f x) (sym h))
+  is_some-same (Some x) (Some z) h = refl
+
+-- the node of a number has the level of that view
+level_by : (views : List LiveView) (id : ℕ) (es : List (List ℕ × Node)) → AllByRecursion (λ e. IsOnLevel views e.1.id.0 e.1.level) es
+    → IfSome (find (λ n. nat_eq n.id.0 id) (values_of es)) (λ n. IsOnLevel views id n.level)
+level_by views id [] h = tt
+level_by views id (e ∷ es) h = by (nat_eq e.1.id.0 id) refl (level_by views id es h.1)
+  where
+    by : (b : Bool) → nat_eq e.1.id.0 id ≡ b → IfSome (find (λ n. nat_eq n.id.0 id) (values_of es)) (λ n. IsOnLevel views id n.level)
+        → IfSome (cond b (Some e.1) (find (λ n. nat_eq n.id.0 id) (values_of es))) (λ n. IsOnLevel views id n.level)
+    by true same rest = subst (λ i. IsOnLevel views i e.1.level) (eqb-true _ _ same) h.0
+    by false other rest = rest
+
+pub IsOnLevel-find : (views : List LiveView) (id : ℕ) (es : List (List ℕ × Node)) → All (λ e. IsOnLevel views e.1.id.0 e.1.level) es
+    → IfSome (find (λ n. nat_eq n.id.0 id) (values_of es)) (λ n. IsOnLevel views id n.level)
+IsOnLevel-find views id es h = level_by views id es (recursion_from_All (λ e. IsOnLevel views e.1.id.0 e.1.level) es h)
+
+-- ---- one entry more
+
+module _ (es : List (List ℕ × Node)) (next : ℕ) (name : List ℕ) (node : Node) (parent : ℕ) (id : node.id.0 ≡ next) (below : option_map (λ p. p.0) node.parent ≡ Some parent) where
+  entry : List ℕ × Node
+  entry = (name, node)
+
+  same_views : map live_view (es ++ (name, node) ∷ []) ≡ (with_view (tree_of es next) name parent).views
+  same_views = map-append live_view es ((name, node) ∷ []) ∙ ap (λ v. map live_view es ++ v ∷ []) same
+    where
+      same : live_view (name, node) ≡ record { id = next; name = name; parent = Some parent }
+      same = λ i. record { id = id i; name = name; parent = below i }
+
+  pub tree_of-push : tree_of (es ++ (name, node) ∷ []) (next + 1) ≡ with_view (tree_of es next) name parent
+  tree_of-push = ap (λ views. record { views = views; next = next + 1 }) same_views
+
+  pub AreKept-push : (above : ℕ) → AreKept es next → IsNewView (tree_of es next) name parent → IsOnLevel (map live_view es) parent above → node.level ≡ above + 1
+      → AreKept (es ++ (name, node) ∷ []) (next + 1)
+  AreKept-push above kept new on level =
+      let views : List LiveView = map live_view es in
+      let highest : All (λ w. w.id < node.id.0) views = subst (λ n. All (λ w. w.id < n) views) (sym id) kept.tree.below in
+      let pushed : IsOnLevel (views ++ live_view (name, node) ∷ []) node.id.0 node.level =
+      subst (IsOnLevel (views ++ live_view (name, node) ∷ []) node.id.0) (sym level) (IsOnLevel-push views (live_view (name, node)) parent above below highest on) in
+      record {
+        tree = subst IsTree (sym tree_of-push) (IsTree-with_view (tree_of es next) name parent kept.tree new);
+        levels = rw (map-append live_view es ((name, node) ∷ []))
+            (All-push (λ e. IsOnLevel (views ++ live_view (name, node) ∷ []) e.1.id.0 e.1.level) es (name, node)
+            (λ k d l. IsOnLevel-append views (live_view (name, node) ∷ []) _ _ (kept.levels k d l)) pushed);
+      }
+
+pub AreKept-window : AreKept ((codes "window", record { id = record { 0 = 0 }; parent = None; level = 1 }) ∷ []) 1
+AreKept-window = record {
+  tree = IsTree-window;
+  levels = All-from_recursion (λ (e : List ℕ × Node). IsOnLevel (window ∷ []) e.1.id.0 e.1.level) ((codes "window", record { id = record { 0 = 0 }; parent = None; level = 1 }) ∷ [])
+      (record { above = []; chain = refl; count = refl }, tt);
+}
+
+-- a name that no view has stands nowhere
+first_past : (name : List ℕ) (es : List (List ℕ × Node)) → view_named (map live_view es) name ≡ None → length es ≤ position_or_len (bytes_eq name) (names_of es)
+first_past name [] none = omega arith
+first_past name (e ∷ es) none =
+    rw (← add-one (length es)) (elim (bytes_eq name e.0) as (λ b. cond b (Some (live_view e)) (view_named (map live_view es) name) ≡ None → length es + 1 ≤ cond (not b) (1 + position_or_len (bytes_eq name) (names_of es)) 0) [
+      | true ↦ λ h. absurd (none-some (live_view e) (sym h))
+      | false ↦ λ h. omega (arith, first_past name es h)
+    ] none)
+
+pub unnamed : (name : List ℕ) (es : List (List ℕ × Node)) → view_named (map live_view es) name ≡ None → place_of (names_of es) name ≡ None
+unnamed name es none =
+    let past : length es ≤ position_or_len (bytes_eq name) (names_of es) = first_past name es none in
+    grind (arith, common_steps, past)

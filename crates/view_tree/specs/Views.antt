@@ -1,0 +1,56 @@
+-- The tree of views.
+use Rattle.std.specs.Prelude.{◌≡◌, ◌<◌, ◌≤◌, ◌+◌, ◌^◌, ℕ, List, [], ◌∷◌, ◌++◌, Option, None, Some, All, AllPairs, codes, find, length, map, nat_eq, slice_get}
+use Rattle.std.specs.Option.{option_map}
+use Rattle.std.specs.Str.{bytes_eq}
+use Rattle.name_tables.specs.Names.{AreDistinct}
+
+-- a live view: its number, its name, and its parent's number, which the window alone lacks
+pub record LiveView : Type 0 where
+  pub id : ℕ
+  pub name : List ℕ
+  pub parent : Option ℕ
+
+-- the live views in order of creation, and the number that the next view takes
+pub record ViewTree : Type 0 where
+  pub views : List LiveView
+  pub next : ℕ
+
+abbrev pub window : LiveView
+window = record { id = 0; name = codes "window"; parent = None }
+
+-- the live view with this number, and the one with this name
+abbrev pub view_of : List LiveView → ℕ → Option LiveView
+view_of views id = find (λ v. nat_eq v.id id) views
+
+abbrev pub view_named : List LiveView → List ℕ → Option LiveView
+view_named views name = find (λ v. bytes_eq name v.name) views
+
+-- the view is live, and this is its parent
+abbrev pub HasParent : List LiveView → ℕ → Option ℕ → Type 0
+HasParent views id parent = option_map (λ v. v.parent) (view_of views id) ≡ Some parent
+
+-- these are the views above this one, from its parent up to the window
+abbrev pub AreAbove : List LiveView → ℕ → List ℕ → Type 0
+AreAbove views id [] = HasParent views id None
+AreAbove views id (parent ∷ above) = HasParent views id (Some parent) × AreAbove views parent above
+
+-- the level of a live view: the window is on the first, and each other view one level below its parent
+pub record IsOnLevel (views : List LiveView) (id level : ℕ) : Type 0 where
+  pub above : List ℕ
+  pub chain : AreAbove views id above
+  pub count : length above + 1 ≡ level
+
+-- what holds of every tree
+pub record IsTree (t : ViewTree) : Type 0 where
+  pub root : slice_get t.views 0 ≡ Some window
+  pub few : length t.views ≤ 200
+  pub ids : t.next ≤ 2 ^ 29
+  pub below : All (λ v. v.id < t.next) t.views
+  pub rising : AllPairs (λ v w. v.id < w.id) t.views
+  pub short : All (λ v. length v.name ≤ 64) t.views
+  pub names : AreDistinct (map (λ v. v.name) t.views)
+  pub levels : All (λ v. (level : ℕ) × IsOnLevel t.views v.id level × (level ≤ 32)) t.views
+
+-- the tree with one view more
+abbrev pub with_view : ViewTree → List ℕ → ℕ → ViewTree
+with_view t name parent = record { views = t.views ++ record { id = t.next; name = name; parent = Some parent } ∷ []; next = t.next + 1 }

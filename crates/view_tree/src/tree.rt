@@ -1,0 +1,196 @@
+// The live views.
+ghost use Rattle.std.specs.Prelude.{◌≡◌, ◌≤◌, ◌++◌, ◌∷◌, [], None, ℕ, ◌+◌, ◌==◌, find, position, IfOk, IfSome, OnErr, OnOk, IfErr, IfNone, is_some, length, slice_get};
+ghost use Rattle.std.specs.Option.{option_map, option_and_then};
+ghost use Rattle.view_tree.specs.Views.{IsTree, IsOnLevel, HasParent, view_of, view_named, with_view, window};
+ghost use Rattle.view_tree.specs.Stops.{IsNewView, MayStop, is_full};
+
+use crate::stops::TreeStop;
+use crate::view::{View, ViewId};
+use frac_core::OutOfMemory;
+use name_tables::{LimitWord, NAME_LIMIT, NameMap};
+use std::alloc::Global;
+use std::marker::Model;
+
+/// How many views may be live, the window counted.
+pub const VIEW_LIMIT: usize = 200;
+
+/// Each view's number is below this.
+pub const ID_LIMIT: u32 = 1 << 29;
+
+/// How many levels there may be, the window's counted.
+pub const DEPTH_LIMIT: u32 = 32;
+
+// What is kept under a view's name. The level is 1 for the window.
+#[derive(Clone, Copy, Debug)]
+pub(crate) struct Node {
+    id: ViewId,
+    parent: Option<ViewId>,
+    level: u32,
+}
+
+// The place of the node of this number.
+fn place_of_number(nodes: &[Node], id: u32) -> Option<usize>
+    ensures { result ≡ position (λ node. node.id.0 == id) nodes.now }
+{
+    nodes.iter().position(|node| node.id.0 == id)
+}
+
+// The node of this number.
+fn node_of(nodes: &[Node], id: u32) -> Option<Node>
+    ensures { result ≡ find (λ node. node.id.0 == id) nodes.now }
+{
+    match place_of_number(nodes, id) {
+        Some(place) => Some(nodes[place]),
+        None => None,
+    }
+}
+
+/// The live views in order of creation, and the number that the next one takes. The first is the window.
+#[derive(Drop)]
+pub struct Tree {
+    table: NameMap<Node>,
+    next: u32,
+}
+
+impl Model for Tree {
+    ghost use Rattle.view_tree.specs.Views.{ViewTree};
+    ghost use Rattle.view_tree.specs.Nodes.{tree_of, AreKept};
+
+    ghost Value = { ViewTree };
+
+    ghost view = { λ t. tree_of t.table t.next };
+
+    ghost invariant = { λ t. AreKept t.table t.next };
+}
+
+impl Tree {
+    /// The window alone.
+    pub fn new(alloc: Global) -> Result<Tree, OutOfMemory>
+        ensures { IfOk result (λ tree. tree ≡ record { views = window ∷ []; next = 1 }) }
+    {
+        let mut table = NameMap::new(alloc);
+        let node = Node {
+            id: ViewId(0),
+            parent: None,
+            level: 1,
+        };
+        table.add("window", node)?;
+        Ok(Tree { table, next: 1 })
+    }
+
+    /// How many views are live.
+    pub fn len(&self) -> usize
+        ensures len { result ≡ length self.now.views }
+        ensures tree { IsTree self.now }
+    {
+        self.table.len()
+    }
+
+    /// The view of a name.
+    pub fn find(&self, name: &str) -> Option<ViewId>
+        ensures { option_map (λ id. id.0) result ≡ option_map (λ v. v.id) (view_named self.now.views name.now) }
+    {
+        let node = self.table.get(name)?;
+        Some(node.id)
+    }
+
+    // What is kept of a view, if it is live.
+    fn node(&self, id: ViewId) -> Option<Node>
+        ensures live { IfSome result (λ n. HasParent self.now.views id.0 (option_map (λ p. p.0) n.parent)) }
+        ensures level { IfSome result (λ n. IsOnLevel self.now.views id.0 n.level) }
+        ensures dead { IfNone result (view_of self.now.views id.0 ≡ None) }
+    {
+        node_of(self.table.values(), id.0)
+    }
+
+    // Whether a live view has the name.
+    fn has_name(&self, name: &str) -> bool
+        ensures { result ≡ is_some (view_named self.now.views name.now) }
+    {
+        self.table.get(name).is_some()
+    }
+
+    /// The parent of a view: none for the window, and none where the view isn't live.
+    pub fn parent(&self, id: ViewId) -> Option<ViewId>
+        ensures { option_map (λ p. p.0) result ≡ option_and_then (λ v. v.parent) (view_of self.now.views id.0) }
+    {
+        let node = self.node(id)?;
+        node.parent
+    }
+
+    /// The view at a place, counted from 0 in order of creation. There is none exactly past the end.
+    pub fn at(&self, place: usize) -> Option<View<'_>>
+        ensures { option_map (λ v. record { id = v.id.0; name = v.name.now; parent = option_map (λ p. p.0) v.parent }) result ≡ slice_get self.now.views place }
+    {
+        let entry = self.table.at(place)?;
+        Some(View {
+            id: entry.value.id,
+            name: entry.name,
+            parent: entry.value.parent,
+        })
+    }
+
+    // The level of a new view below this parent, or the first cause that there is against it.
+    fn level_below(&self, name: &str, parent: ViewId) -> Result<u32, TreeStop>
+        ensures level { IfOk result (λ level. (above : ℕ) × IsOnLevel self.now.views parent.0 above × (level ≡ above + 1)) }
+        ensures low { IfOk result (λ level. level ≤ 32) }
+        ensures new { OnOk result (IsNewView self.now name.now parent.0) }
+        ensures refused { IfErr result (MayStop self.now name.now parent.0) }
+    {
+        let above = self.node(parent).ok_or(TreeStop::Unknown(None))?;
+        if self.has_name(name) {
+            return Err(TreeStop::Taken(None));
+        }
+        if name.len() > NAME_LIMIT {
+            return Err(TreeStop::Limit(LimitWord::Name));
+        }
+        if self.is_full() {
+            return Err(TreeStop::Limit(LimitWord::Views));
+        }
+        if above.level >= DEPTH_LIMIT {
+            return Err(TreeStop::Limit(LimitWord::Depth));
+        }
+        Ok(above.level + 1)
+    }
+
+    // Whether there are as many views as there may be, or no number is left.
+    fn is_full(&self) -> bool
+        ensures { result ≡ is_full self.now }
+    {
+        self.table.len() >= VIEW_LIMIT || self.next >= ID_LIMIT
+    }
+
+    /// Adds a view below a parent, and answers its number, which is the next one.
+    ///
+    /// `Unknown` where the parent isn't live, otherwise `Taken` where a live view has the name, otherwise the first limit that
+    /// would be passed: `Name` at more than 64 bytes, `Views` at 200 live views or at the number 2^29, `Depth` at more than 32
+    /// levels. After a refusal all is as before.
+    pub fn add(&mut self, name: &str, parent: ViewId) -> Result<ViewId, TreeStop>
+        ensures id { IfOk result (λ id. id.0 ≡ self.old.next) }
+        ensures new { OnOk result (IsNewView self.old name.now parent.0) }
+        ensures added { OnOk result (self.new ≡ with_view self.old name.now parent.0) }
+        ensures refused { IfErr result (MayStop self.old name.now parent.0) }
+        ensures unchanged { OnErr result (self.new ≡ self.old) }
+    {
+        let level = self.level_below(name, parent)?;
+        let id = ViewId(self.next);
+        let node = Node {
+            id,
+            parent: Some(parent),
+            level,
+        };
+        self.table.add(name, node)?;
+        self.next += 1;
+        Ok(id)
+    }
+
+    /// The same tree.
+    pub fn copy(&self) -> Result<Tree, OutOfMemory>
+        ensures { IfOk result (λ same. same ≡ self.now) }
+    {
+        Ok(Tree {
+            table: self.table.copy()?,
+            next: self.next,
+        })
+    }
+}

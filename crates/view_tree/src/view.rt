@@ -1,0 +1,13 @@
+// A view as a caller sees it.
+
+/// The number of a view. The window's is 0, and none is used twice.
+#[derive(Clone, Copy, Debug, PartialEq, Eq)]
+pub struct ViewId(pub u32);
+
+/// A live view. The window alone has no parent.
+#[derive(Clone, Copy, Debug)]
+pub struct View<'a> {
+    pub id: ViewId,
+    pub name: &'a str,
+    pub parent: Option<ViewId>,
+}
