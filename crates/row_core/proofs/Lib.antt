@@ -1,0 +1,5 @@
+pub mod Divisors
+pub mod Lowest
+pub mod Merging
+pub mod Places
+pub mod Sums
