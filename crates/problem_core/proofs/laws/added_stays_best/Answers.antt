@@ -1,0 +1,5 @@
+use Rattle.problem_core.proofs.Additions.{added-IsBest}
+use Rattle.problem_core.proofs.laws.added_stays_best.Goals as goal
+
+pub returns : goal.returns
+returns c = added-IsBest

@@ -1,0 +1,5 @@
+use Rattle.problem_core.proofs.Midpoints.{best-AreSame}
+use Rattle.problem_core.proofs.laws.best_is_unique.Goals as goal
+
+pub returns : goal.returns
+returns c = best-AreSame

@@ -1,0 +1,5 @@
+use Rattle.problem_core.proofs.Ends.{end-IsCertificate}
+use Rattle.problem_core.proofs.laws.end_has_certificate.Goals as goal
+
+pub returns : goal.returns
+returns c = end-IsCertificate

@@ -1,0 +1,5 @@
+use Rattle.problem_core.proofs.Conflicts.{end-IsRefutation}
+use Rattle.problem_core.proofs.laws.required_cost_refutes.Goals as goal
+
+pub returns : goal.returns
+returns c = end-IsRefutation

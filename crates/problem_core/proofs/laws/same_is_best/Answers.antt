@@ -1,0 +1,5 @@
+use Rattle.problem_core.proofs.Additions.{same-IsBest}
+use Rattle.problem_core.proofs.laws.same_is_best.Goals as goal
+
+pub returns : goal.returns
+returns c = same-IsBest

@@ -1,0 +1,44 @@
+-- What the types of rows, problems and values keep.
+use Rattle.std.specs.Prelude.{◌≢◌, ℕ, ◌^◌, ◌<◌, ◌≤◌, List, length, pos, All, AllPairs}
+use Rattle.std.specs.Int.RustNames.{unsigned_abs}
+use Rattle.frac_core.specs.Fraction.{Fraction, IsKept}
+use Rattle.problem_core.specs.declared.parts.Term.{Term}
+use Rattle.problem_core.specs.declared.parts.Stay.{Stay}
+use Rattle.problem_core.specs.Layout.{Row, Problem, IsCovered}
+
+-- a row's or an attribute's number
+abbrev pub IsNumber : ℕ → Type 0
+IsNumber n = (0 < n) × (n ≤ 2 ^ 31)
+
+-- the attribute times a number that isn't 0 and at most 2^30 in size
+pub record IsTerm (t : Term) : Type 0 where
+  pub attr : IsNumber t.attr
+  pub nonzero : t.by ≢ pos 0
+  pub small : unsigned_abs t.by ≤ 2 ^ 30
+
+pub record IsRow (r : Row) : Type 0 where
+  pub number : IsNumber r.id
+  pub rank : r.rank ≤ 1000
+  pub weight : (0 < r.weight) × (r.weight ≤ 1000)
+  pub scale : (0 < r.scale) × (r.scale ≤ 2 ^ 30)
+  pub constant : IsKept r.constant
+  pub terms : All IsTerm r.terms
+  pub rising : AllPairs (λ s t. s.attr < t.attr) r.terms
+  pub count : length r.terms ≤ 32
+
+pub record IsStay (s : Stay) : Type 0 where
+  pub attr : IsNumber s.attr
+  pub target : IsKept s.target
+
+pub record IsWhole (p : Problem) : Type 0 where
+  pub rows : All IsRow p.rows
+  pub stays : All IsStay p.stays
+  pub rising : AllPairs (λ r s. r.id < s.id) p.rows
+  pub apart : AllPairs (λ s t. s.attr ≢ t.attr) p.stays
+  pub covered : All (IsCovered p.stays) p.rows
+  pub row_count : length p.rows ≤ 4096
+  pub stay_count : length p.stays ≤ 4096
+
+-- attributes with their values, by number
+abbrev pub AreRising : List (ℕ × Fraction) → Type 0
+AreRising pairs = AllPairs (λ u v. u.0 < v.0) pairs

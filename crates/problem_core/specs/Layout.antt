@@ -1,0 +1,170 @@
+-- Layout problems: assignments, rows, stays, errors, vectors of errors, and the best assignment.
+use Rattle.std.specs.Prelude.{◌≡◌, ℕ, ◌+◌, ◌-◌, ◌*◌, ◌/◌, ◌<◌, ◌≤◌, cond, nat_eq, List, [], ◌∷◌, ◌++◌, map, ℤ, pos, negsuc, ◌+ℤ◌, ◌-ℤ◌, ◌*ℤ◌, All}
+use Rattle.std.specs.List.{Any}
+use Rattle.frac_core.specs.Fraction.{Fraction}
+use Rattle.problem_core.specs.declared.parts.Rel.{Rel}
+use Rattle.problem_core.specs.declared.parts.Rel.TheVariants.{Eq, Le, Ge}
+use Rattle.problem_core.specs.declared.parts.RowName.{RowName}
+use Rattle.problem_core.specs.declared.parts.RowName.TheVariants.{Held, Stay as StayOf}
+use Rattle.problem_core.specs.declared.parts.Term.{Term}
+use Rattle.problem_core.specs.declared.parts.Stay.{Stay}
+
+-- ---- words for sums
+
+abbrev pub sum_of : {A : Type 0} → (A → ℤ) → List A → ℤ
+sum_of f [] = pos 0
+sum_of f (x ∷ xs) = f x +ℤ sum_of f xs
+
+abbrev pub count_of : {A : Type 0} → (A → ℕ) → List A → ℕ
+count_of f [] = 0
+count_of f (x ∷ xs) = f x + count_of f xs
+
+abbrev pub product_of : {A : Type 0} → (A → ℕ) → List A → ℕ
+product_of f [] = 1
+product_of f (x ∷ xs) = f x * product_of f xs
+
+-- how far z is above 0, and how far below
+abbrev pub above : ℤ → ℕ
+above (pos n) = n
+above (negsuc n) = 0
+
+abbrev pub below : ℤ → ℕ
+below (pos n) = 0
+below (negsuc n) = n + 1
+
+-- ---- assignments
+
+-- the attribute v has the value num v / den
+pub record Assignment : Type 0 where
+  pub den : ℕ
+  pub num : ℕ → ℤ
+  pub positive : 0 < den
+
+-- ---- linear forms
+
+-- the coefficient of v
+abbrev pub coefficient : ℕ → List Term → ℤ
+coefficient v form = sum_of (λ e. cond (nat_eq e.attr v) e.by (pos 0)) form
+
+-- the form's value where the attribute v is n v
+abbrev pub value_at : (ℕ → ℤ) → List Term → ℤ
+value_at n form = sum_of (λ e. e.by *ℤ n e.attr) form
+
+-- ---- rows and problems
+
+-- the constraint `terms rel constant`, whose coefficients are scale times those that were written
+pub record Row : Type 0 where
+  pub id : ℕ
+  pub rank : ℕ
+  pub weight : ℕ
+  pub rel : Rel
+  pub scale : ℕ
+  pub constant : Fraction
+  pub terms : List Term
+
+pub record Problem : Type 0 where
+  pub rows : List Row
+  pub stays : List Stay
+
+-- a row or a stay with its name and its level: 1000 less the rank for a row, and 1001, 1002, .. for the stays in their order
+pub record Line : Type 0 where
+  pub name : RowName
+  pub level : ℕ
+  pub weight : ℕ
+  pub rel : Rel
+  pub scale : ℕ
+  pub num : ℤ
+  pub den : ℕ
+  pub form : List Term
+
+abbrev pub line_of_row : Row → Line
+line_of_row r = record { name = Held r.id; level = 1000 - r.rank; weight = r.weight; rel = r.rel; scale = r.scale; num = r.constant.num; den = r.constant.den; form = r.terms }
+
+-- the row `attr == num / den`
+abbrev pub line_of_stay : ℕ → Stay → Line
+line_of_stay level s = record { name = StayOf s.attr; level = level; weight = 1; rel = Eq; scale = 1; num = s.target.num; den = s.target.den; form = record { attr = s.attr; by = pos 1 } ∷ [] }
+
+abbrev pub stay_lines : ℕ → List Stay → List Line
+stay_lines level [] = []
+stay_lines level (s ∷ rest) = line_of_stay level s ∷ stay_lines (level + 1) rest
+
+abbrev pub lines : Problem → List Line
+lines p = map line_of_row p.rows ++ stay_lines 1001 p.stays
+
+-- what the type of a problem promises: no scale and no denominator is 0
+abbrev pub IsProblem : Problem → Type 0
+IsProblem p = All (λ l. (0 < l.scale) × (0 < l.den)) (lines p)
+
+-- ---- gaps and errors
+
+-- the gap of a line at x is this number over `x.den * den * scale`
+abbrev pub gap : Assignment → Line → ℤ
+gap x l = pos l.den *ℤ value_at x.num l.form -ℤ l.num *ℤ pos x.den
+
+abbrev pub error_of : Rel → ℤ → ℕ
+error_of Eq g = above g + below g
+error_of Ge g = below g
+error_of Le g = above g
+
+-- the error of a line at x is this number over `x.den * den * scale`
+abbrev pub error : Assignment → Line → ℕ
+error x l = error_of l.rel (gap x l)
+
+-- ---- vectors
+
+-- a common denominator of all errors
+abbrev pub common : List Line → ℕ
+common ls = product_of (λ l. l.scale * l.den) ls
+
+-- an error over `x.den * den * scale` is `share` times as much over `x.den * common`
+abbrev pub share : List Line → Line → ℕ
+share ls l = common ls / (l.scale * l.den)
+
+-- the sum of the weighted errors at this level, over `x.den * common`
+abbrev pub cost : List Line → Assignment → ℕ → ℕ
+cost ls x level = count_of (λ l. cond (nat_eq l.level level) (l.weight * error x l * share ls l) 0) ls
+
+-- at the first level where they differ, x costs less than y
+abbrev pub IsLess : Problem → Assignment → Assignment → Type 0
+IsLess p x y =
+    (level : ℕ)
+    × ((k : ℕ) → k < level → cost (lines p) x k * y.den ≡ cost (lines p) y k * x.den)
+    × (cost (lines p) x level * y.den < cost (lines p) y level * x.den)
+
+-- ---- the best assignment
+
+abbrev pub Satisfies : Problem → Assignment → Type 0
+Satisfies p x = All (λ r. r.rank ≡ 1000 → error x (line_of_row r) ≡ 0) p.rows
+
+abbrev pub IsInConflict : Problem → Type 0
+IsInConflict p = (x : Assignment) → Satisfies p x → ⊥
+
+abbrev pub IsBest : Problem → Assignment → Type 0
+IsBest p x = Satisfies p x × ((y : Assignment) → IsLess p y x → ⊥)
+
+-- x and y give each attribute that has a stay the same value
+abbrev pub AreSame : Problem → Assignment → Assignment → Type 0
+AreSame p x y = All (λ s. x.num s.attr *ℤ pos y.den ≡ y.num s.attr *ℤ pos x.den) p.stays
+
+-- the stays' targets are x's values
+abbrev pub StandAt : Assignment → List Stay → Type 0
+StandAt x stays = All (λ s. gap x (line_of_stay 0 s) ≡ pos 0) stays
+
+-- x gives each listed attribute its fraction
+abbrev pub Gives : List (ℕ × Fraction) → Assignment → Type 0
+Gives values x = All (λ v. x.num v.0 *ℤ pos v.1.den ≡ v.1.num *ℤ pos x.den) values
+
+-- one of the stays is the attribute's
+abbrev pub HasStay : List Stay → ℕ → Type 0
+HasStay stays attr = Any (λ s. s.attr ≡ attr) stays
+
+-- each attribute of the row has a stay
+abbrev pub IsCovered : List Stay → Row → Type 0
+IsCovered stays r = All (λ t. HasStay stays t.attr) r.terms
+
+-- besides, no rank is above 1000, no weight is 0, and each attribute of a row has a stay
+pub record IsProper (p : Problem) : Type 0 where
+  pub problem : IsProblem p
+  pub ranks : All (λ r. r.rank ≤ 1000) p.rows
+  pub weights : All (λ r. 0 < r.weight) p.rows
+  pub covered : All (IsCovered p.stays) p.rows

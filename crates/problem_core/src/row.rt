@@ -1,0 +1,121 @@
+// Rows.
+ghost use Rattle.std.specs.Prelude.{◌≡◌, ◌<ℤ◌, pos, nat_abs, IfOk};
+ghost use Rattle.problem_core.specs.Kept.{IsRow};
+ghost use Rattle.frac_core.specs.Fraction.{IsKept};
+
+use crate::parts::{Rel, Term};
+use frac_core::{Frac, OutOfMemory};
+use std::alloc::Global;
+use std::marker::Model;
+
+/// A row `a1*x1 + .. + an*xn REL c` of whole coefficients, with its number, its rank and its weight.
+///
+/// The scale is the factor by which the row as written was multiplied to make its coefficients whole: a gap
+/// is the left side less the constant, divided by the scale, in points. The rank 1000 is required, those
+/// below it are priorities, and the rank 0 is that of a probe.
+#[derive(Clone, Debug, Drop)]
+pub struct Row {
+    id: u32,
+    rank: u16,
+    weight: u16,
+    rel: Rel,
+    scale: i64,
+    constant: Frac,
+    terms: Vec<Term>,
+}
+
+impl Model for Row {
+    ghost use Rattle.std.specs.Prelude.{◌<ℤ◌, pos};
+    ghost use Rattle.problem_core.specs.Layout as layout;
+    ghost use Rattle.problem_core.specs.Kept.{IsRow};
+
+    ghost Value = { layout.Row };
+
+    ghost use Rattle.problem_core.specs.Fields.{row_of};
+
+    ghost view = { row_of };
+
+    ghost invariant = { λ r. (pos 0 <ℤ r.scale) × IsRow (row_of r) };
+}
+
+impl Row {
+    /// The row with just these parts, which `IsRow` limits.
+    pub fn of(
+        alloc: Global,
+        id: u32,
+        rank: u16,
+        weight: u16,
+        rel: Rel,
+        scale: i64,
+        constant: Frac,
+        terms: &[Term],
+    ) -> Result<Row, OutOfMemory>
+        requires scale { pos 0 <ℤ scale }
+        requires row { IsRow (record { id = id; rank = rank; weight = weight; rel = rel; scale = nat_abs scale; constant = constant; terms = terms.now }) }
+        ensures { IfOk result (λ r. r ≡ record { id = id; rank = rank; weight = weight; rel = rel; scale = nat_abs scale; constant = constant; terms = terms.now }) }
+    {
+        Ok(Row {
+            id,
+            rank,
+            weight,
+            rel,
+            scale,
+            constant,
+            terms: Vec::from_slice(alloc, terms)?,
+        })
+    }
+
+    /// The number, from 1 to 2^31.
+    pub fn id(&self) -> u32
+        ensures { result ≡ self.now.id }
+    {
+        self.id
+    }
+
+    /// The rank, at most 1000, which is that of the required rows.
+    pub fn rank(&self) -> u16
+        ensures { result ≡ self.now.rank }
+    {
+        self.rank
+    }
+
+    /// The weight, from 1 to 1000.
+    pub fn weight(&self) -> u16
+        ensures { result ≡ self.now.weight }
+    {
+        self.weight
+    }
+
+    pub fn rel(&self) -> Rel
+        ensures { result ≡ self.now.rel }
+    {
+        self.rel
+    }
+
+    /// The scale, from 1 to 2^30.
+    pub fn scale(&self) -> i64
+        ensures { result ≡ pos self.now.scale }
+    {
+        self.scale
+    }
+
+    pub fn constant(&self) -> Frac
+        ensures { result ≡ self.now.constant }
+    {
+        self.constant
+    }
+
+    /// The terms, by rising attribute.
+    pub fn terms(&self) -> &[Term]
+        ensures { result.now ≡ self.now.terms }
+    {
+        &self.terms
+    }
+
+    /// Shows what each row keeps.
+    pub fn show_row(&self)
+        ensures { IsRow self.now }
+    {
+        let _ = &self.id;
+    }
+}
