@@ -1,0 +1,47 @@
+-- A format without where its names and lists lie in memory.
+use Rattle.std.specs.Prelude.{List, map, Option, Some, None}
+use Rattle.span_text.specs.declared.object.Object.{Object}
+use Rattle.span_text.specs.Objects.{Meant, meant}
+use Rattle.vfl_text.specs.declared.parts.Pred.{Pred}
+use Rattle.vfl_text.specs.declared.parts.Gap.{Gap}
+use Rattle.vfl_text.specs.declared.parts.Gap.TheVariants as gap
+use Rattle.vfl_text.specs.declared.parts.Item.{Item}
+use Rattle.vfl_text.specs.declared.parts.Format.{Format}
+use Rattle.vfl_text.specs.Formats.{PredMeaning, GapMeaning, Flush, Standard, Given, ItemMeaning, FormatMeaning}
+
+abbrev pub priority_meaning : Option Object → Option Meant
+priority_meaning None = None
+priority_meaning (Some p) = Some (meant p)
+
+abbrev pub pred_meaning : Pred → PredMeaning
+pred_meaning p = record { rel = p.rel; object = meant p.object; priority = priority_meaning p.priority }
+
+abbrev pub pred_meanings : List Pred → List PredMeaning
+pred_meanings ps = map pred_meaning ps
+
+abbrev pub gap_meaning : Gap → GapMeaning
+gap_meaning gap.Flush = Flush
+gap_meaning gap.Standard = Standard
+gap_meaning (gap.Given preds) = Given (pred_meanings preds.items)
+
+abbrev pub gap_meanings : List Gap → List GapMeaning
+gap_meanings gs = map gap_meaning gs
+
+abbrev pub end_meaning : Option Gap → Option GapMeaning
+end_meaning None = None
+end_meaning (Some g) = Some (gap_meaning g)
+
+abbrev pub item_meaning : Item → ItemMeaning
+item_meaning i = record { name = i.name.now; sizes = pred_meanings i.sizes.items }
+
+abbrev pub item_meanings : List Item → List ItemMeaning
+item_meanings is = map item_meaning is
+
+abbrev pub meaning : Format → FormatMeaning
+meaning f = record {
+  axis = f.axis;
+  from_parent = end_meaning f.from_parent;
+  items = item_meanings f.items.items;
+  gaps = gap_meanings f.gaps.items;
+  to_parent = end_meaning f.to_parent;
+}

@@ -1,0 +1,60 @@
+-- Which formats have a text: names are names, numbers are those that the grammar can write, and each space that is given
+-- has a predicate.
+use Rattle.std.specs.Prelude.{◌≡◌, ℕ, pos, negsuc, suc, ◌+◌, ◌<◌, ◌^◌, true, List, [], ◌∷◌, length, Option, Some, None}
+use Rattle.span_text.specs.Classes.{is_letter, is_word}
+use Rattle.span_text.specs.Language.{AllIn}
+use Rattle.span_text.specs.Objects as object
+use Rattle.span_text.specs.Objects.{Meant}
+use Rattle.vfl_text.specs.Formats.{PredMeaning, GapMeaning, Flush, Standard, Given, ItemMeaning, FormatMeaning}
+
+-- a letter or _, and then letters, digits and _
+abbrev pub IsName : List ℕ → Type 0
+IsName [] = ⊥
+IsName (b ∷ x) = (is_letter b ≡ true) × AllIn is_word x
+
+-- a name, or a number of at most six digits before the point and three behind it
+abbrev pub IsObject : Meant → Type 0
+IsObject (object.Number (pos n)) = n < 10 ^ 9
+IsObject (object.Number (negsuc n)) = suc n < 10 ^ 9
+IsObject (object.Name n) = IsName n
+
+-- the same, where the number isn't below 0
+abbrev pub IsValue : Meant → Type 0
+IsValue (object.Number (pos n)) = n < 10 ^ 9
+IsValue (object.Number (negsuc n)) = ⊥
+IsValue (object.Name n) = IsName n
+
+abbrev pub IsPriority : Option Meant → Type 0
+IsPriority None = Unit {0}
+IsPriority (Some p) = IsValue p
+
+abbrev pub IsPred : PredMeaning → Type 0
+IsPred p = IsObject p.object × IsPriority p.priority
+
+abbrev pub ArePreds : List PredMeaning → Type 0
+ArePreds [] = Unit {0}
+ArePreds (p ∷ ps) = IsPred p × ArePreds ps
+
+abbrev pub IsGap : GapMeaning → Type 0
+IsGap Flush = Unit {0}
+IsGap Standard = Unit {0}
+IsGap (Given ps) = (0 < length ps) × ArePreds ps
+
+abbrev pub AreGaps : List GapMeaning → Type 0
+AreGaps [] = Unit {0}
+AreGaps (g ∷ gs) = IsGap g × AreGaps gs
+
+abbrev pub IsEnd : Option GapMeaning → Type 0
+IsEnd None = Unit {0}
+IsEnd (Some g) = IsGap g
+
+abbrev pub AreItems : List ItemMeaning → Type 0
+AreItems [] = Unit {0}
+AreItems (i ∷ is) = (IsName i.name × ArePreds i.sizes) × AreItems is
+
+pub record IsWritable (f : FormatMeaning) : Type 0 where
+  pub from_parent : IsEnd f.from_parent
+  pub items : AreItems f.items
+  pub gaps : AreGaps f.gaps
+  pub to_parent : IsEnd f.to_parent
+  pub between : length f.gaps + 1 ≡ length f.items
