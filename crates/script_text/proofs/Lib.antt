@@ -1,0 +1,9 @@
+pub mod ArgumentLemmas
+pub mod ConstraintLemmas
+pub mod FormatLemmas
+pub mod FractionLemmas
+pub mod LineLemmas
+pub mod SumLemmas
+pub mod SumSteps
+pub mod Tables
+pub mod VariableLemmas

@@ -1,0 +1,113 @@
+-- A line has its reader, whatever table of first words the grammar has.
+use Rattle.std.proofs.Common.{◌≡◌, ℕ, true, false, List, [], length, Some, None, Result, Ok, Err, ◌⊎◌, inl, inr, ◌-◌, refl, sym, ◌∙◌, arith}
+use Rattle.std.specs.Prelude.{codes}
+use Rattle.span_text.specs.Language.{Rel, End, Lit, Or, Words, Stops, LeavesAt, Answers}
+use Rattle.span_text.specs.Classes.{is_space, is_word}
+use Rattle.span_text.specs.Reading.{◌>>=◌}
+use Rattle.span_text.specs.Tokens.{Tail, Word, Sign, Name, Number, tail_at}
+use Rattle.span_text.proofs.PieceLemmas.{Lives, begins, lit_answers, or_answers}
+use Rattle.span_text.proofs.TokensLemmas.{end_lives, tail_lives, name_lives, number_lives, whole_lives, right_lives, gap_answers, tail_answers, lit_only, end_never, or_never, table_inside, table_apart, words_only, words_never}
+use Rattle.span_text.proofs.Offsets.{answers_ok, answers_err, stops_leaves}
+use Rattle.script_text.specs.Meaning.{Meaning}
+use Rattle.script_text.specs.Meaning as mean
+use Rattle.script_text.specs.Grammar.{decimal, Arguments, Any, Line, all_words, stage_words, words_of}
+use Rattle.script_text.specs.LineReading.{is_hash, is_any, arguments_at, command_at, content_at, line_at}
+use Rattle.script_text.specs.declared.words.Table.{Table}
+use Rattle.script_text.specs.declared.words.Table.TheVariants as table
+use Rattle.script_text.specs.declared.words.Keyword.{Keyword}
+use Rattle.script_text.specs.declared.words.Keyword.TheVariants as key
+use Rattle.script_text.proofs.Tables.{IsTable, table_answers}
+use Rattle.script_text.proofs.ArgumentLemmas.{bare_answers, window_answers, budget_answers, view_answers, metric_answers}
+use Rattle.script_text.proofs.FormatLemmas.{vfl_lives, vfl_answers}
+use Rattle.script_text.proofs.ConstraintLemmas.{linear_lives, constrain_answers}
+
+-- a table of first words: each begins neither with a space nor with #
+pub record AreCommands (words : List (List ℕ × Keyword)) : Type 0 where
+  pub table : IsTable words
+  pub inside : table_inside is_any words ≡ true
+  pub no_hash : table_apart is_hash words ≡ true
+
+pub all_commands : AreCommands all_words
+unfolding all_words
+all_commands = record { table = record { full = refl; free = refl; bytes = refl }; inside = refl; no_hash = refl }
+
+pub stage_commands : AreCommands stage_words
+unfolding stage_words
+stage_commands = record { table = record { full = refl; free = refl; bytes = refl }; inside = refl; no_hash = refl }
+
+table_commands : (t : Table) → AreCommands (words_of t)
+table_commands table.All = all_commands
+table_commands table.Stage = stage_commands
+
+arguments_lives : (k : Keyword) → Lives is_space (Arguments k)
+arguments_lives key.View = name_lives is_space refl (λ n. right_lives is_space (Word (codes "in") (Name (λ p. End (mean.View n (Some p))))) (end_lives is_space (mean.View n None)))
+arguments_lives key.Metric = name_lives is_space refl (λ n. right_lives is_space (Sign 45 (Number (λ v. End (mean.Metric n (decimal true v))))) (number_lives is_space refl (λ v. end_lives is_space (mean.Metric n (decimal false v)))))
+arguments_lives key.Window = number_lives is_space refl (λ w. number_lives is_space refl (λ h. end_lives is_space (mean.Window (decimal false w) (decimal false h))))
+arguments_lives key.Vfl = vfl_lives
+arguments_lives key.Constrain = name_lives is_space refl linear_lives
+arguments_lives key.Budget = whole_lives is_space refl (λ n. end_lives is_space (mean.Budget n))
+arguments_lives key.Frames = end_lives is_space mean.Frames
+arguments_lives key.Rows = end_lives is_space mean.Rows
+
+arguments_answers : (k : Keyword) (s : List ℕ) → Answers (Arguments k) s (arguments_at k s)
+arguments_answers key.View s = view_answers s
+arguments_answers key.Metric s = metric_answers s
+arguments_answers key.Window s = window_answers s
+arguments_answers key.Vfl s = vfl_answers s
+arguments_answers key.Constrain s = constrain_answers s
+arguments_answers key.Budget s = budget_answers s
+arguments_answers key.Frames s = bare_answers mean.Frames s
+arguments_answers key.Rows s = bare_answers mean.Rows s
+
+any_answers : {A : Type 0} (a : A) (s : List ℕ) → Answers (Any a) s (Ok a)
+any_answers a s = (refl, λ w h. h)
+
+module _ (words : List (List ℕ × Keyword)) (are : AreCommands words) where
+  abbrev Command : Rel Meaning
+  Command = Words words (λ k. Tail (Arguments k))
+
+  command_answers : (s : List ℕ) → Answers Command s (command_at words s)
+  unfolding command_at
+  command_answers s = table_answers (λ k. Tail (Arguments k)) (λ k t. tail_at t >>= arguments_at k) (λ k. begins (tail_lives is_word refl (arguments_lives k))) s
+      (λ k t h. tail_answers (Arguments k) (arguments_at k) (arguments_lives k) t (λ u i. arguments_answers k u)) words are.table
+
+  content_lives : Lives is_space (Or Command (End mean.Nothing))
+  content_lives = right_lives is_space Command (end_lives is_space mean.Nothing)
+
+  content_answers : (s : List ℕ) → Answers (Or (Lit (codes "#") (Any mean.Nothing)) (Or Command (End mean.Nothing))) s (content_at words s)
+  unfolding content_at
+  content_answers s = or_answers is_hash (Lit (codes "#") (Any mean.Nothing)) (Or Command (End mean.Nothing)) _ _
+      (lit_only _ is_hash 35 [] refl) (or_never is_hash Command (End mean.Nothing) (words_never (λ k. Tail (Arguments k)) is_hash words are.no_hash) (end_never is_hash mean.Nothing))
+      (begins (right_lives is_space (Lit (codes "#") (Any mean.Nothing)) content_lives)) s
+      (lit_answers (Any mean.Nothing) (λ _. Ok mean.Nothing) ([], mean.Nothing, tt, refl) (codes "#") s refl (λ t h. any_answers mean.Nothing t))
+      (or_answers is_any Command (End mean.Nothing) _ _ (words_only (λ k. Tail (Arguments k)) is_any words are.inside) (end_never is_any mean.Nothing) (begins content_lives) s
+      (command_answers s) (bare_answers mean.Nothing s))
+
+  pub line_answers : (s : List ℕ) → Answers (Line words) s (line_at words s)
+  unfolding line_at Line
+  line_answers s = gap_answers (Or (Lit (codes "#") (Any mean.Nothing)) (Or Command (End mean.Nothing))) (content_at words)
+      (right_lives is_space (Lit (codes "#") (Any mean.Nothing)) content_lives) s (λ t i. content_answers t)
+
+-- what a reader's answer says of the line, by its case
+pub line_ok : (t : Table) (s : List ℕ) (v : Meaning) → line_at (words_of t) s ≡ Ok v → Line (words_of t) s v × ((w : Meaning) → Line (words_of t) s w → w ≡ v)
+line_ok t s v e = answers_ok (Line (words_of t)) s (line_at (words_of t) s) v (line_answers (words_of t) (table_commands t) s) e
+
+pub line_err : (t : Table) (s : List ℕ) (m : ℕ) → line_at (words_of t) s ≡ Err m → Stops (Line (words_of t)) s m
+line_err t s m e = answers_err (Line (words_of t)) s (line_at (words_of t) s) m (line_answers (words_of t) (table_commands t) s) e
+
+pub one_reading : (t : Table) (s : List ℕ) (v w : Meaning) → Line (words_of t) s v → Line (words_of t) s w → v ≡ w
+one_reading t s v w h i = one_reading_by (line_at (words_of t) s) (line_answers (words_of t) (table_commands t) s)
+  where
+    one_reading_by : (r : Result Meaning ℕ) → Answers (Line (words_of t)) s r → v ≡ w
+    one_reading_by (Ok x) a = a.1 v h ∙ sym (a.1 w i)
+    one_reading_by (Err m) a = absurd (a.outside v h)
+
+pub one_offset : (t : Table) (s : List ℕ) (m n : ℕ) → LeavesAt (Line (words_of t)) s m → LeavesAt (Line (words_of t)) s n → m ≡ n
+one_offset t s m n h i = omega (arith, h.longest n i.within i.begins, i.longest m h.within h.begins)
+
+pub reads_or_leaves : (t : Table) (s : List ℕ) → ((m : Meaning) × Line (words_of t) s m) ⊎ ((at : ℕ) × LeavesAt (Line (words_of t)) s at)
+reads_or_leaves t s = reads_or_leaves_by (line_at (words_of t) s) (line_answers (words_of t) (table_commands t) s)
+  where
+    reads_or_leaves_by : (r : Result Meaning ℕ) → Answers (Line (words_of t)) s r → ((m : Meaning) × Line (words_of t) s m) ⊎ ((at : ℕ) × LeavesAt (Line (words_of t)) s at)
+    reads_or_leaves_by (Ok x) a = inl (x, a.0)
+    reads_or_leaves_by (Err m) a = inr (length s - m, stops_leaves (Line (words_of t)) s m a)

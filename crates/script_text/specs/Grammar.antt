@@ -1,0 +1,110 @@
+-- The lines of a script, by the cases of their grammar. What follows a construct is its last argument.
+use Rattle.std.specs.Prelude.{◌≡◌, ℕ, Bool, true, false, List, [], ◌∷◌, ◌++◌, Option, Some, None, codes, pos}
+use Rattle.span_text.specs.Language.{Rel, End, Lit, Or, Words}
+use Rattle.span_text.specs.Loops.{Loop}
+use Rattle.span_text.specs.Tokens.{Gap, Tail, Word, Sign, Name, RawName, Number, Whole, Ratio}
+use Rattle.span_text.specs.Objects.{Meant}
+use Rattle.span_text.specs.Objects as object
+use Rattle.frac_core.specs.Fraction.{Fraction}
+use Rattle.vfl_text.specs.Grammar.{FormatText}
+use Rattle.script_text.specs.Fractions.{lowest}
+use Rattle.script_text.specs.Meaning.{Operand, Term, Linear, Meaning}
+use Rattle.script_text.specs.Meaning as mean
+use Rattle.script_text.specs.declared.words.Keyword.{Keyword}
+use Rattle.script_text.specs.declared.words.Keyword.TheVariants as key
+use Rattle.script_text.specs.declared.words.Table.{Table}
+use Rattle.script_text.specs.declared.words.Table.TheVariants as table
+use Rattle.script_text.specs.declared.words.Align.{Align}
+use Rattle.script_text.specs.declared.words.Align.TheVariants as align
+use Rattle.script_text.specs.declared.words.AttrWord.{AttrWord}
+use Rattle.script_text.specs.declared.words.AttrWord.TheVariants as attr
+use Rattle.problem_core.specs.declared.parts.Rel.TheVariants as rel
+use Rattle.problem_core.specs.declared.parts.Rel as parts
+
+-- the first words of the lines that are read
+unfoldable pub all_words : List (List ℕ × Keyword)
+all_words = (codes "view", key.View) ∷ (codes "metric", key.Metric) ∷ (codes "window", key.Window) ∷ (codes "vfl", key.Vfl) ∷ (codes "constrain", key.Constrain) ∷ (codes "budget", key.Budget) ∷ (codes "frames", key.Frames) ∷ (codes "rows", key.Rows) ∷ []
+
+-- the first words of the lines that a run takes in this stage
+unfoldable pub stage_words : List (List ℕ × Keyword)
+stage_words = (codes "view", key.View) ∷ (codes "metric", key.Metric) ∷ (codes "window", key.Window) ∷ (codes "frames", key.Frames) ∷ (codes "rows", key.Rows) ∷ []
+
+abbrev pub words_of : Table → List (List ℕ × Keyword)
+words_of table.All = all_words
+words_of table.Stage = stage_words
+
+unfoldable pub alignments : List (List ℕ × Align)
+alignments = (codes "left", align.Left) ∷ (codes "right", align.Right) ∷ (codes "top", align.Top) ∷ (codes "bottom", align.Bottom) ∷ (codes "centerX", align.CenterX) ∷ (codes "centerY", align.CenterY) ∷ []
+
+unfoldable pub attributes : List (List ℕ × AttrWord)
+attributes = (codes "left", attr.Left) ∷ (codes "top", attr.Top) ∷ (codes "width", attr.Width) ∷ (codes "height", attr.Height) ∷ (codes "right", attr.Right) ∷ (codes "bottom", attr.Bottom) ∷ (codes "centerX", attr.CenterX) ∷ (codes "centerY", attr.CenterY) ∷ (codes "leading", attr.Leading) ∷ (codes "trailing", attr.Trailing) ∷ []
+
+unfoldable pub relations : List (List ℕ × parts.Rel)
+relations = (codes "==", rel.Eq) ∷ (codes "<=", rel.Le) ∷ (codes ">=", rel.Ge) ∷ []
+
+-- thousandths as a fraction
+abbrev pub decimal : Bool → ℕ → Fraction
+decimal is_negative n = lowest is_negative n 1000
+
+-- a name, a point and an attribute, with no space between them
+abbrev pub Attribute : {A : Type 0} → (List ℕ → AttrWord → Rel A) → Rel A
+Attribute F = RawName (λ n. Lit (codes ".") (Words attributes (λ w. Tail (F n w))))
+
+abbrev pub Variable : {A : Type 0} → (Operand → Rel A) → Rel A
+Variable F = Or (Attribute (λ n w. F (mean.Attr n w))) (Name (λ n. F (mean.Metric n)))
+
+abbrev pub times : Fraction → Operand → Term
+times by of = record { by = by; of = of }
+
+-- a multiplied variable, a variable, or a number
+abbrev pub TermText : {A : Type 0} → Bool → (Term → Rel A) → Rel A
+TermText is_negative F = Or (Variable (λ o. F (times (lowest is_negative 1 1) o)))
+    (Or (Number (λ n. Or (Sign 42 (Variable (λ o. F (times (decimal is_negative n) o)))) (F (times (decimal is_negative n) mean.One))))
+    (Ratio (λ p q. Sign 42 (Variable (λ o. F (times (lowest is_negative p q) o))))))
+
+-- behind some terms
+abbrev pub Behind : {A : Type 0} → (List Term → Rel A) → (List Term → Rel A) → List Term → Rel A
+Behind F G terms = Or (Sign 43 (TermText false (λ t. G (terms ++ t ∷ [])))) (Or (Sign 45 (TermText true (λ t. G (terms ++ t ∷ [])))) (F terms))
+
+-- terms with + and - between them, and perhaps - in front
+abbrev pub Expression : {A : Type 0} → (List Term → Rel A) → Rel A
+Expression F = Or (Sign 45 (TermText true (λ t. Loop (Behind F) (t ∷ [])))) (TermText false (λ t. Loop (Behind F) (t ∷ [])))
+
+abbrev pub Relation : {A : Type 0} → (parts.Rel → Rel A) → Rel A
+Relation F = Words relations (λ r. Gap (F r))
+
+abbrev pub Priority : {A : Type 0} → (Option Meant → Rel A) → Rel A
+Priority F = Or (Sign 64 (Or (Name (λ n. F (Some (object.Name n)))) (Number (λ n. F (Some (object.Number (pos n))))))) (F None)
+
+abbrev pub Weight : {A : Type 0} → (ℕ → Rel A) → Rel A
+Weight F = Or (Word (codes "weight") (Whole (λ n. F n))) (F 1)
+
+abbrev pub LinearText : (Linear → Rel Meaning) → Rel Meaning
+LinearText F = Expression (λ l. Relation (λ r. Expression (λ e. Priority (λ p. Weight (λ w. F (record { left = l; rel = r; right = e; priority = p; weight = w }))))))
+
+-- a text of F, whose value is made of F's value
+abbrev pub Made : {M A : Type 0} → (M → A) → Rel M → Rel A
+Made {M} f F s v = (m : M) × F s m × (v ≡ f m)
+
+-- a format of this group with this alignment
+abbrev pub FormatLine : List ℕ → Option Align → Rel Meaning
+FormatLine n a = Made (mean.Vfl n a) FormatText
+
+-- what follows the first word
+abbrev pub Arguments : Keyword → Rel Meaning
+Arguments key.View = Name (λ n. Or (Word (codes "in") (Name (λ p. End (mean.View n (Some p))))) (End (mean.View n None)))
+Arguments key.Metric = Name (λ n. Or (Sign 45 (Number (λ v. End (mean.Metric n (decimal true v))))) (Number (λ v. End (mean.Metric n (decimal false v)))))
+Arguments key.Window = Number (λ w. Number (λ h. End (mean.Window (decimal false w) (decimal false h))))
+Arguments key.Vfl = Name (λ n. Or (Word (codes "align") (Words alignments (λ a. Tail (FormatLine n (Some a))))) (FormatLine n None))
+Arguments key.Constrain = Name (λ n. LinearText (λ l. End (mean.Constrain n l)))
+Arguments key.Budget = Whole (λ n. End (mean.Budget n))
+Arguments key.Frames = End mean.Frames
+Arguments key.Rows = End mean.Rows
+
+-- whatever follows
+abbrev pub Any : {A : Type 0} → A → Rel A
+Any a s v = v ≡ a
+
+-- a line whose first word is one of these: a comment, a command, or a blank line
+unfoldable pub Line : List (List ℕ × Keyword) → Rel Meaning
+Line words = Gap (Or (Lit (codes "#") (Any mean.Nothing)) (Or (Words words (λ k. Tail (Arguments k))) (End mean.Nothing)))

@@ -1,0 +1,232 @@
+-- Reading a line from left to right.
+use Rattle.std.specs.Prelude.{ℕ, Bool, true, false, List, [], ◌∷◌, ◌++◌, Option, Some, None, Result, Ok, codes, pos, ◌==◌, if◌then◌else◌}
+use Rattle.span_text.specs.Reading.{◌>>=◌, lit_at, starts, tried, end_at}
+use Rattle.span_text.specs.Classes.{is_letter}
+use Rattle.span_text.specs.Tokens.{is_point, skip, tail_at, word_at, sign_at, name_at, raw_name_at, number_at, whole_at}
+use Rattle.span_text.specs.Loops.{loop_at}
+use Rattle.span_text.specs.Multiples.{multiple_at}
+use Rattle.span_text.specs.declared.multiples.Multiple.{Multiple}
+use Rattle.span_text.specs.declared.multiples.Multiple.TheVariants as multiple
+use Rattle.span_text.specs.Objects.{Meant}
+use Rattle.span_text.specs.Objects as object
+use Rattle.frac_core.specs.Fraction.{Fraction}
+use Rattle.vfl_text.specs.Reading.{format_at}
+use Rattle.script_text.specs.Fractions.{lowest}
+use Rattle.script_text.specs.Meaning.{Operand, Term, Linear, Meaning}
+use Rattle.script_text.specs.Meaning as mean
+use Rattle.script_text.specs.Grammar.{alignments, attributes, relations, decimal, times}
+use Rattle.problem_core.specs.declared.parts.Rel.{Rel}
+use Rattle.script_text.specs.declared.words.Align.{Align}
+use Rattle.script_text.specs.declared.words.Keyword.{Keyword}
+use Rattle.script_text.specs.declared.words.Keyword.TheVariants as key
+
+abbrev pub is_a : ℕ → Bool
+is_a b = b == 97
+
+abbrev pub is_i : ℕ → Bool
+is_i b = b == 105
+
+abbrev pub is_w : ℕ → Bool
+is_w b = b == 119
+
+abbrev pub is_plus : ℕ → Bool
+is_plus b = b == 43
+
+abbrev pub is_minus : ℕ → Bool
+is_minus b = b == 45
+
+abbrev pub is_star : ℕ → Bool
+is_star b = b == 42
+
+abbrev pub is_at : ℕ → Bool
+is_at b = b == 64
+
+abbrev pub is_hash : ℕ → Bool
+is_hash b = b == 35
+
+unfoldable pub view_at : List ℕ → Result Meaning ℕ
+view_at s = do
+  name ← name_at s
+  if starts is_i name.1
+      then (do
+        rest ← word_at (codes "in") name.1
+        parent ← name_at rest
+        _ ← end_at parent.1
+        Ok (mean.View name.0 (Some parent.0)))
+      else (do
+        _ ← end_at name.1
+        Ok (mean.View name.0 None))
+
+unfoldable pub metric_at : List ℕ → Result Meaning ℕ
+metric_at s = do
+  name ← name_at s
+  if starts is_minus name.1
+      then (do
+        rest ← sign_at 45 name.1
+        value ← number_at rest
+        _ ← end_at value.1
+        Ok (mean.Metric name.0 (decimal true value.0)))
+      else (do
+        value ← number_at name.1
+        _ ← end_at value.1
+        Ok (mean.Metric name.0 (decimal false value.0)))
+
+unfoldable pub window_at : List ℕ → Result Meaning ℕ
+window_at s = do
+  width ← number_at s
+  height ← number_at width.1
+  _ ← end_at height.1
+  Ok (mean.Window (decimal false width.0) (decimal false height.0))
+
+unfoldable pub budget_at : List ℕ → Result Meaning ℕ
+budget_at s = do
+  value ← whole_at s
+  _ ← end_at value.1
+  Ok (mean.Budget value.0)
+
+unfoldable pub bare_at : Meaning → List ℕ → Result Meaning ℕ
+bare_at m s = do
+  _ ← end_at s
+  Ok m
+
+unfoldable pub attribute_at : List ℕ → List ℕ → Result (Operand × List ℕ) ℕ
+attribute_at name s = do
+  rest ← lit_at (codes ".") s
+  word ← tried attributes rest
+  rest ← tail_at word.1
+  Ok (mean.Attr name word.0, rest)
+
+unfoldable pub variable_at : List ℕ → Result (Operand × List ℕ) ℕ
+variable_at s = do
+  name ← raw_name_at s
+  if starts is_point name.1 then attribute_at name.0 name.1 else Ok (mean.Metric name.0, skip name.1)
+
+abbrev pub with_by : Fraction → Operand × List ℕ → Result (Term × List ℕ) ℕ
+with_by by o = Ok (times by o.0, o.1)
+
+unfoldable pub product_at : Fraction → List ℕ → Result (Term × List ℕ) ℕ
+product_at by s = variable_at s >>= with_by by
+
+-- behind a multiplier or a number
+unfoldable pub multiplied_at : Bool → Multiple → List ℕ → Result (Term × List ℕ) ℕ
+multiplied_at is_negative (multiple.Number n) s = if starts is_star s
+    then sign_at 42 s >>= product_at (decimal is_negative n)
+    else Ok (times (decimal is_negative n) mean.One, s)
+multiplied_at is_negative (multiple.Ratio p q) s = sign_at 42 s >>= product_at (lowest is_negative p q)
+
+unfoldable pub term_at : Bool → List ℕ → Result (Term × List ℕ) ℕ
+term_at is_negative s = if starts is_letter s
+    then product_at (lowest is_negative 1 1) s
+    else multiple_at s >>= λ m. multiplied_at is_negative m.0 m.1
+
+abbrev pub some_term : Term × List ℕ → Result (Option (Term × List ℕ)) ℕ
+some_term t = Ok (Some t)
+
+-- the next term of a sum, if there is one
+unfoldable pub next_at : List ℕ → Result (Option (Term × List ℕ)) ℕ
+next_at s = if starts is_plus s
+    then sign_at 43 s >>= term_at false >>= some_term
+    else (if starts is_minus s then sign_at 45 s >>= term_at true >>= some_term else Ok None)
+
+abbrev pub go_on : (List Term → List ℕ → Result (List Term × List ℕ) ℕ) → List Term → List ℕ → Option (Term × List ℕ) → Result (List Term × List ℕ) ℕ
+go_on g terms s None = Ok (terms, s)
+go_on g terms s (Some t) = g (terms ++ t.0 ∷ []) t.1
+
+unfoldable pub behind_at : (List Term → List ℕ → Result (List Term × List ℕ) ℕ) → List Term → List ℕ → Result (List Term × List ℕ) ℕ
+behind_at g terms s = next_at s >>= go_on g terms s
+
+unfoldable pub first_at : List ℕ → Result (Term × List ℕ) ℕ
+first_at s = if starts is_minus s then sign_at 45 s >>= term_at true else term_at false s
+
+unfoldable pub expression_at : List ℕ → Result (List Term × List ℕ) ℕ
+expression_at s = first_at s >>= λ t. loop_at behind_at (t.0 ∷ []) t.1
+
+abbrev pub with_gap : Rel × List ℕ → Result (Rel × List ℕ) ℕ
+with_gap r = Ok (r.0, skip r.1)
+
+unfoldable pub relation_at : List ℕ → Result (Rel × List ℕ) ℕ
+relation_at s = tried relations s >>= with_gap
+
+abbrev pub named_object : List ℕ × List ℕ → Result (Option Meant × List ℕ) ℕ
+named_object n = Ok (Some (object.Name n.0), n.1)
+
+abbrev pub number_object : ℕ × List ℕ → Result (Option Meant × List ℕ) ℕ
+number_object n = Ok (Some (object.Number (pos n.0)), n.1)
+
+unfoldable pub object_at : List ℕ → Result (Option Meant × List ℕ) ℕ
+object_at s = if starts is_letter s then name_at s >>= named_object else number_at s >>= number_object
+
+unfoldable pub priority_at : List ℕ → Result (Option Meant × List ℕ) ℕ
+priority_at s = if starts is_at s then sign_at 64 s >>= object_at else Ok (None, s)
+
+unfoldable pub weight_at : List ℕ → Result (ℕ × List ℕ) ℕ
+weight_at s = if starts is_w s then word_at (codes "weight") s >>= whole_at else Ok (1, s)
+
+abbrev pub with_weight : List Term → Rel → List Term → Option Meant → ℕ × List ℕ → Result (Linear × List ℕ) ℕ
+with_weight l r e p w = Ok (record { left = l; rel = r; right = e; priority = p; weight = w.0 }, w.1)
+
+-- behind the priority, behind the right side, behind the relation, behind the left side
+unfoldable pub behind_priority_at : List Term → Rel → List Term → Option Meant → List ℕ → Result (Linear × List ℕ) ℕ
+behind_priority_at l r e p s = weight_at s >>= with_weight l r e p
+
+unfoldable pub behind_right_at : List Term → Rel → List Term → List ℕ → Result (Linear × List ℕ) ℕ
+behind_right_at l r e s = priority_at s >>= λ p. behind_priority_at l r e p.0 p.1
+
+unfoldable pub behind_relation_at : List Term → Rel → List ℕ → Result (Linear × List ℕ) ℕ
+behind_relation_at l r s = expression_at s >>= λ e. behind_right_at l r e.0 e.1
+
+unfoldable pub behind_left_at : List Term → List ℕ → Result (Linear × List ℕ) ℕ
+behind_left_at l s = relation_at s >>= λ r. behind_relation_at l r.0 r.1
+
+unfoldable pub linear_at : List ℕ → Result (Linear × List ℕ) ℕ
+linear_at s = expression_at s >>= λ l. behind_left_at l.0 l.1
+
+unfoldable pub constrain_at : List ℕ → Result Meaning ℕ
+constrain_at s = do
+  group ← name_at s
+  line ← linear_at group.1
+  _ ← end_at line.1
+  Ok (mean.Constrain group.0 line.0)
+
+unfoldable pub format_line_at : List ℕ → Option Align → List ℕ → Result Meaning ℕ
+format_line_at n a s = format_at s >>= λ f. Ok (mean.Vfl n a f)
+
+unfoldable pub vfl_at : List ℕ → Result Meaning ℕ
+vfl_at s = do
+  group ← name_at s
+  if starts is_a group.1
+      then (do
+        rest ← word_at (codes "align") group.1
+        align ← tried alignments rest
+        rest ← tail_at align.1
+        format_line_at group.0 (Some align.0) rest)
+      else format_line_at group.0 None group.1
+
+abbrev pub arguments_at : Keyword → List ℕ → Result Meaning ℕ
+arguments_at key.View s = view_at s
+arguments_at key.Metric s = metric_at s
+arguments_at key.Window s = window_at s
+arguments_at key.Vfl s = vfl_at s
+arguments_at key.Constrain s = constrain_at s
+arguments_at key.Budget s = budget_at s
+arguments_at key.Frames s = bare_at mean.Frames s
+arguments_at key.Rows s = bare_at mean.Rows s
+
+abbrev pub is_any : ℕ → Bool
+is_any b = true
+
+unfoldable pub command_at : List (List ℕ × Keyword) → List ℕ → Result Meaning ℕ
+command_at words s = do
+  word ← tried words s
+  rest ← tail_at word.1
+  arguments_at word.0 rest
+
+unfoldable pub content_at : List (List ℕ × Keyword) → List ℕ → Result Meaning ℕ
+content_at words s = if starts is_hash s
+    then (do
+      _ ← lit_at (codes "#") s
+      Ok mean.Nothing)
+    else (if starts is_any s then command_at words s else bare_at mean.Nothing s)
+
+unfoldable pub line_at : List (List ℕ × Keyword) → List ℕ → Result Meaning ℕ
+line_at words s = content_at words (skip s)

@@ -1,0 +1,37 @@
+-- What a line of a script means.
+use Rattle.std.specs.Prelude.{ℕ, List, Option}
+use Rattle.frac_core.specs.Fraction.{Fraction}
+use Rattle.vfl_text.specs.Formats.{FormatMeaning}
+use Rattle.script_text.specs.declared.words.Align.{Align}
+use Rattle.script_text.specs.declared.words.AttrWord.{AttrWord}
+use Rattle.problem_core.specs.declared.parts.Rel.{Rel}
+use Rattle.span_text.specs.Objects.{Meant}
+
+-- an attribute of a view, a metric, or the number 1
+pub data Operand : Type 0 where
+  Attr : List ℕ → AttrWord → Operand
+  Metric : List ℕ → Operand
+  One : Operand
+
+-- so many times the operand
+pub record Term : Type 0 where
+  pub by : Fraction
+  pub of : Operand
+
+pub record Linear : Type 0 where
+  pub left : List Term
+  pub rel : Rel
+  pub right : List Term
+  pub priority : Option Meant
+  pub weight : ℕ
+
+pub data Meaning : Type 0 where
+  Nothing : Meaning
+  View : List ℕ → Option (List ℕ) → Meaning
+  Metric : List ℕ → Fraction → Meaning
+  Window : Fraction → Fraction → Meaning
+  Vfl : List ℕ → Option Align → FormatMeaning → Meaning
+  Constrain : List ℕ → Linear → Meaning
+  Budget : ℕ → Meaning
+  Frames : Meaning
+  Rows : Meaning

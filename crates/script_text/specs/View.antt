@@ -1,0 +1,56 @@
+-- What the reading of a line means, whatever the place of its names in memory.
+use Rattle.std.specs.Prelude.{ℕ, List, map, Option, Some, None}
+use Rattle.std.specs.Borrow.{Bor}
+use Rattle.span_text.specs.Objects.{Meant, meant}
+use Rattle.span_text.specs.declared.object.Object.{Object}
+use Rattle.vfl_text.specs.View.{meaning}
+use Rattle.script_text.specs.Meaning as mean
+use Rattle.script_text.specs.declared.command.Operand as declared_operand
+use Rattle.script_text.specs.declared.command.Operand.TheVariants as operand
+use Rattle.script_text.specs.declared.command.ExprTerm.{ExprTerm}
+use Rattle.script_text.specs.declared.command.Linear as declared_linear
+use Rattle.script_text.specs.declared.command.Command.{Command}
+use Rattle.script_text.specs.declared.command.Command.TheVariants as command
+
+abbrev pub operand_view : declared_operand.Operand → mean.Operand
+operand_view (operand.Attr name word) = mean.Attr name.now word
+operand_view (operand.Metric name) = mean.Metric name.now
+operand_view operand.One = mean.One
+
+abbrev pub term_view : ExprTerm → mean.Term
+term_view t = record { by = t.by; of = operand_view t.of }
+
+abbrev pub terms_view : List ExprTerm → List mean.Term
+terms_view ts = map term_view ts
+
+abbrev pub next_view : Option (ExprTerm × Bor (List ℕ)) → Option (mean.Term × List ℕ)
+next_view None = None
+next_view (Some p) = Some (term_view p.0, p.1.now)
+
+abbrev pub object_view : Option Object → Option Meant
+object_view None = None
+object_view (Some o) = Some (meant o)
+
+abbrev pub linear_view : declared_linear.Linear → mean.Linear
+linear_view l = record {
+  left = terms_view l.left.items;
+  rel = l.rel;
+  right = terms_view l.right.items;
+  priority = object_view l.priority;
+  weight = l.weight;
+}
+
+abbrev pub name_view : Option (Bor (List ℕ)) → Option (List ℕ)
+name_view None = None
+name_view (Some t) = Some t.now
+
+abbrev pub view : Command → mean.Meaning
+view command.Nothing = mean.Nothing
+view (command.View name parent) = mean.View name.now (name_view parent)
+view (command.Metric name value) = mean.Metric name.now value
+view (command.Window width height) = mean.Window width height
+view (command.Vfl group align format) = mean.Vfl group.now align (meaning format)
+view (command.Constrain group line) = mean.Constrain group.now (linear_view line)
+view (command.Budget exchanges) = mean.Budget exchanges
+view command.Frames = mean.Frames
+view command.Rows = mean.Rows

@@ -1,0 +1,180 @@
+// The readers of lines.
+ghost use Rattle.std.specs.Prelude.{◌≡◌, IfOk};
+ghost use Rattle.span_text.specs.GivesOrMemory.{GivesOrMemory};
+ghost use Rattle.span_text.specs.Language.{LeavesAt};
+ghost use Rattle.script_text.specs.Grammar.{Line, all_words, stage_words, words_of};
+ghost use Rattle.script_text.specs.Meaning.{Meaning};
+ghost use Rattle.script_text.specs.Meaning as mean;
+ghost use Rattle.script_text.specs.LineReading.{view_at, metric_at, window_at, budget_at, bare_at, arguments_at, command_at, content_at, line_at};
+ghost use Rattle.script_text.specs.Stops.{OnSyntax};
+ghost use Rattle.script_text.specs.View.{view};
+
+use crate::command::{Command, LineStop};
+use crate::constraint::constrain;
+use crate::formats::vfl;
+use crate::fractions::signed_number;
+use crate::words::{Keyword, Table, first_word};
+use span_text::{PartStop, names, numbers, pieces};
+use std::alloc::Global;
+
+#[tactic(auto, unfolding(crate::specs::LineReading::view_at))]
+fn view_line(text: &[u8]) -> Result<Command<'_>, PartStop>
+    ensures { GivesOrMemory view result (view_at text.now) }
+{
+    let (name, text) = names::name(text)?;
+    if pieces::begins(text, b'i') {
+        let (parent, text) = names::name(names::word(b"in", text)?)?;
+        pieces::end(text)?;
+        let parent = Some(parent);
+        Ok(Command::View { name, parent })
+    } else {
+        pieces::end(text)?;
+        Ok(Command::View { name, parent: None })
+    }
+}
+
+#[tactic(auto, unfolding(crate::specs::LineReading::metric_at))]
+fn metric_line(text: &[u8]) -> Result<Command<'_>, PartStop>
+    ensures { GivesOrMemory view result (metric_at text.now) }
+{
+    let (name, text) = names::name(text)?;
+    if pieces::begins(text, b'-') {
+        let (thousandths, text) = numbers::number(names::sign(b'-', text)?)?;
+        pieces::end(text)?;
+        let value = signed_number(true, thousandths);
+        Ok(Command::Metric { name, value })
+    } else {
+        let (thousandths, text) = numbers::number(text)?;
+        pieces::end(text)?;
+        let value = signed_number(false, thousandths);
+        Ok(Command::Metric { name, value })
+    }
+}
+
+#[tactic(auto, unfolding(crate::specs::LineReading::window_at))]
+fn window_line(text: &[u8]) -> Result<Command<'_>, PartStop>
+    ensures { GivesOrMemory view result (window_at text.now) }
+{
+    let (width, text) = numbers::number(text)?;
+    let (height, text) = numbers::number(text)?;
+    pieces::end(text)?;
+    Ok(Command::Window {
+        width: signed_number(false, width),
+        height: signed_number(false, height),
+    })
+}
+
+#[tactic(auto, unfolding(crate::specs::LineReading::budget_at))]
+fn budget_line(text: &[u8]) -> Result<Command<'_>, PartStop>
+    ensures { GivesOrMemory view result (budget_at text.now) }
+{
+    let (exchanges, text) = numbers::whole(text)?;
+    pieces::end(text)?;
+    Ok(Command::Budget { exchanges })
+}
+
+#[tactic(auto, unfolding(crate::specs::LineReading::bare_at))]
+fn frames_line(text: &[u8]) -> Result<Command<'_>, PartStop>
+    ensures { GivesOrMemory view result (bare_at mean.Frames text.now) }
+{
+    pieces::end(text)?;
+    Ok(Command::Frames)
+}
+
+#[tactic(auto, unfolding(crate::specs::LineReading::bare_at))]
+fn rows_line(text: &[u8]) -> Result<Command<'_>, PartStop>
+    ensures { GivesOrMemory view result (bare_at mean.Rows text.now) }
+{
+    pieces::end(text)?;
+    Ok(Command::Rows)
+}
+
+#[tactic(auto, unfolding(crate::specs::LineReading::bare_at))]
+fn blank_line(text: &[u8]) -> Result<Command<'_>, PartStop>
+    ensures { GivesOrMemory view result (bare_at mean.Nothing text.now) }
+{
+    pieces::end(text)?;
+    Ok(Command::Nothing)
+}
+
+// What follows the first word.
+fn arguments(alloc: Global, keyword: Keyword, text: &[u8]) -> Result<Command<'_>, PartStop>
+    ensures { GivesOrMemory view result (arguments_at keyword text.now) }
+{
+    match keyword {
+        Keyword::View => view_line(text),
+        Keyword::Metric => metric_line(text),
+        Keyword::Window => window_line(text),
+        Keyword::Vfl => vfl(alloc, text),
+        Keyword::Constrain => constrain(alloc, text),
+        Keyword::Budget => budget_line(text),
+        Keyword::Frames => frames_line(text),
+        Keyword::Rows => rows_line(text),
+    }
+}
+
+#[tactic(auto, unfolding(crate::specs::LineReading::command_at))]
+fn command(alloc: Global, table: Table, text: &[u8]) -> Result<Command<'_>, PartStop>
+    ensures { GivesOrMemory view result (command_at (words_of table) text.now) }
+{
+    let (word, text) = first_word(table, text)?;
+    let text = names::tail(text)?;
+    arguments(alloc, word, text)
+}
+
+// A line behind the spaces in front of it.
+#[tactic(auto, unfolding(crate::specs::LineReading::content_at))]
+fn content(alloc: Global, table: Table, text: &[u8]) -> Result<Command<'_>, PartStop>
+    ensures { GivesOrMemory view result (content_at (words_of table) text.now) }
+{
+    if pieces::begins(text, b'#') {
+        pieces::literal(b"#", text)?;
+        return Ok(Command::Nothing);
+    }
+    if text.is_empty() {
+        blank_line(text)
+    } else {
+        command(alloc, table, text)
+    }
+}
+
+#[tactic(auto, unfolding(crate::specs::LineReading::line_at))]
+fn line_with(alloc: Global, table: Table, line: &[u8]) -> Result<Command<'_>, PartStop>
+    ensures { GivesOrMemory view result (line_at (words_of table) line.now) }
+{
+    content(alloc, table, pieces::skip(line))
+}
+
+// The reading of a line by the grammar whose first words are the table's.
+fn read_with(alloc: Global, table: Table, line: &[u8]) -> Result<Command<'_>, LineStop>
+    ensures sound { IfOk result (λ command. Line (words_of table) line.now (view command)) }
+    ensures one { (m : Meaning) → Line (words_of table) line.now m → IfOk result (λ command. view command ≡ m) }
+    ensures offset { OnSyntax result (LeavesAt (Line (words_of table)) line.now) }
+{
+    match line_with(alloc, table, line) {
+        Ok(command) => Ok(command),
+        Err(PartStop::Left(left)) => Err(LineStop::SyntaxAt(line.len() - left)),
+        Err(PartStop::OutOfMemory) => Err(LineStop::OutOfMemory),
+    }
+}
+
+/// The one reading of a line by the grammar of all commands. A line of the grammar is never refused as syntax; for any
+/// other the refusal has the length of its longest prefix that is a prefix of some line of the grammar. The line's
+/// bytes need not be a text.
+pub fn read_line(alloc: Global, line: &[u8]) -> Result<Command<'_>, LineStop>
+    ensures sound { IfOk result (λ command. Line all_words line.now (view command)) }
+    ensures one { (m : Meaning) → Line all_words line.now m → IfOk result (λ command. view command ≡ m) }
+    ensures offset { OnSyntax result (LeavesAt (Line all_words) line.now) }
+{
+    read_with(alloc, Table::All, line)
+}
+
+/// The same by the grammar of the commands that a run takes in this stage, which are those but `vfl`, `constrain`
+/// and `budget`.
+pub fn read_line_in_stage(alloc: Global, line: &[u8]) -> Result<Command<'_>, LineStop>
+    ensures sound { IfOk result (λ command. Line stage_words line.now (view command)) }
+    ensures one { (m : Meaning) → Line stage_words line.now m → IfOk result (λ command. view command ≡ m) }
+    ensures offset { OnSyntax result (LeavesAt (Line stage_words) line.now) }
+{
+    read_with(alloc, Table::Stage, line)
+}

@@ -1,0 +1,129 @@
+//! The words of the grammar that stand in tables.
+
+ghost use Rattle.std.specs.Prelude.{◌≡◌};
+ghost use Rattle.span_text.specs.Gives.{Gives};
+ghost use Rattle.span_text.specs.Reading.{tried};
+ghost use Rattle.script_text.specs.Grammar.{all_words, stage_words, words_of, alignments, attributes, relations};
+
+use problem_core::Rel;
+use span_text::pieces::or_else;
+
+/// The first word of a line.
+#[derive(Clone, Copy, Debug, PartialEq, Eq)]
+pub enum Keyword {
+    View,
+    Metric,
+    Window,
+    Vfl,
+    Constrain,
+    Budget,
+    Frames,
+    Rows,
+}
+
+/// The edges and middles that an alignment may name.
+#[derive(Clone, Copy, Debug, PartialEq, Eq)]
+pub enum Align {
+    Left,
+    Right,
+    Top,
+    Bottom,
+    CenterX,
+    CenterY,
+}
+
+/// Which first words the grammar has.
+#[derive(Clone, Copy, Debug, PartialEq, Eq)]
+pub enum Table {
+    /// Those of all commands that are read.
+    All,
+    /// Those of the commands that a run takes in this stage.
+    Stage,
+}
+
+/// The attributes of a view that an expression may name.
+#[derive(Clone, Copy, Debug, PartialEq, Eq)]
+pub enum AttrWord {
+    Left,
+    Top,
+    Width,
+    Height,
+    Right,
+    Bottom,
+    CenterX,
+    CenterY,
+    Leading,
+    Trailing,
+}
+
+// The first word of a line and the text at once behind it.
+fn any_keyword(text: &[u8]) -> Result<(Keyword, &[u8]), usize>
+    ensures { Gives (λ p. (p.0, p.1.now)) result (tried all_words text.now) }
+{
+    let found = or_else(b"rows", Keyword::Rows, text, Err(text.len()));
+    let found = or_else(b"frames", Keyword::Frames, text, found);
+    let found = or_else(b"budget", Keyword::Budget, text, found);
+    let found = or_else(b"constrain", Keyword::Constrain, text, found);
+    let found = or_else(b"vfl", Keyword::Vfl, text, found);
+    let found = or_else(b"window", Keyword::Window, text, found);
+    let found = or_else(b"metric", Keyword::Metric, text, found);
+    or_else(b"view", Keyword::View, text, found)
+}
+
+// The same for the first words of this stage.
+fn stage_keyword(text: &[u8]) -> Result<(Keyword, &[u8]), usize>
+    ensures { Gives (λ p. (p.0, p.1.now)) result (tried stage_words text.now) }
+{
+    let found = or_else(b"rows", Keyword::Rows, text, Err(text.len()));
+    let found = or_else(b"frames", Keyword::Frames, text, found);
+    let found = or_else(b"window", Keyword::Window, text, found);
+    let found = or_else(b"metric", Keyword::Metric, text, found);
+    or_else(b"view", Keyword::View, text, found)
+}
+
+// A first word of the table and the text at once behind it.
+pub fn first_word(table: Table, text: &[u8]) -> Result<(Keyword, &[u8]), usize>
+    ensures { Gives (λ p. (p.0, p.1.now)) result (tried (words_of table) text.now) }
+{
+    match table {
+        Table::All => any_keyword(text),
+        Table::Stage => stage_keyword(text),
+    }
+}
+
+// The attribute's word and the text at once behind it.
+pub fn attribute_word(text: &[u8]) -> Result<(AttrWord, &[u8]), usize>
+    ensures { Gives (λ p. (p.0, p.1.now)) result (tried attributes text.now) }
+{
+    let found = or_else(b"trailing", AttrWord::Trailing, text, Err(text.len()));
+    let found = or_else(b"leading", AttrWord::Leading, text, found);
+    let found = or_else(b"centerY", AttrWord::CenterY, text, found);
+    let found = or_else(b"centerX", AttrWord::CenterX, text, found);
+    let found = or_else(b"bottom", AttrWord::Bottom, text, found);
+    let found = or_else(b"right", AttrWord::Right, text, found);
+    let found = or_else(b"height", AttrWord::Height, text, found);
+    let found = or_else(b"width", AttrWord::Width, text, found);
+    let found = or_else(b"top", AttrWord::Top, text, found);
+    or_else(b"left", AttrWord::Left, text, found)
+}
+
+// The alignment's word and the text at once behind it.
+pub fn align_word(text: &[u8]) -> Result<(Align, &[u8]), usize>
+    ensures { Gives (λ p. (p.0, p.1.now)) result (tried alignments text.now) }
+{
+    let found = or_else(b"centerY", Align::CenterY, text, Err(text.len()));
+    let found = or_else(b"centerX", Align::CenterX, text, found);
+    let found = or_else(b"bottom", Align::Bottom, text, found);
+    let found = or_else(b"top", Align::Top, text, found);
+    let found = or_else(b"right", Align::Right, text, found);
+    or_else(b"left", Align::Left, text, found)
+}
+
+// The relation's sign and the text at once behind it.
+pub fn relation_sign(text: &[u8]) -> Result<(Rel, &[u8]), usize>
+    ensures { Gives (λ p. (p.0, p.1.now)) result (tried relations text.now) }
+{
+    let found = or_else(b">=", Rel::Ge, text, Err(text.len()));
+    let found = or_else(b"<=", Rel::Le, text, found);
+    or_else(b"==", Rel::Eq, text, found)
+}
