@@ -1,0 +1,10 @@
+pub mod Places
+pub mod Stops
+pub mod Algebra
+pub mod Exchanging
+pub mod Insides
+pub mod Swapping
+pub mod Extending
+pub mod Fresh
+pub mod NewAttrs
+pub mod NewRows

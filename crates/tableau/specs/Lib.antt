@@ -1,0 +1,5 @@
+pub mod Written
+pub mod Tables
+pub mod Exchanges
+pub mod Joining
+pub mod Views
