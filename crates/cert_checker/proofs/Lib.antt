@@ -1,0 +1,16 @@
+pub mod Sizes
+pub mod Adding
+pub mod LinePlaces
+pub mod Zeros
+pub mod Indexes
+pub mod Weighing
+pub mod Swapping
+pub mod Multiples
+pub mod Apart
+pub mod Naming
+pub mod Refuted
+pub mod Valuing
+pub mod Levels
+pub mod Columns
+pub mod FrontLoops
+pub mod Unseen

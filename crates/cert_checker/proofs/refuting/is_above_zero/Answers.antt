@@ -1,0 +1,29 @@
+use Rattle.cert_checker.proofs.Refuted.{room-from, room-lost, above-zero, rows-count, required-fit, test-above, above-test}
+use Rattle.std.proofs.Common.{pos, ◌<ℤ◌, subst, sym, SFits}
+use Rattle.std.specs.Int.{w128}
+use Rattle.std.proofs.lemmas.Int.{to_z-of_z}
+use Rattle.cert_checker.proofs.Naming.{required-named}
+use Rattle.cert_checker.proofs.refuting.is_above_zero.Goals as goal
+
+pub constants-requires-clause-rows : goal.constants-requires-clause-rows
+constants-requires-clause-rows c = required-fit c.args.p.now c.args.by.now c.args.weighted.now c.requires.weighted c.requires.by c.requires.rows
+
+pub constants-requires-clause-count : goal.constants-requires-clause-count
+constants-requires-clause-count c = rows-count c.args.p.now c.show_whole.ensures c.args.by.now c.args.weighted.now c.requires.weighted c.requires.by c.requires.rows
+
+pub returns-in-Ok-clause-room : goal.returns-in-Ok-clause-room
+returns-in-Ok-clause-room c =
+    room-from c.args.p.now c.show_whole.ensures c.args.by.now c.args.weighted.now c.requires.weighted c.in-Ok.common c.in-Ok.ensures.room c.in-Ok.ensures.least
+
+pub returns-in-Ok-clause-above : goal.returns-in-Ok-clause-above
+returns-in-Ok-clause-above c =
+    let both = above-zero c.args.p.now c.show_whole.ensures c.args.by.now c.args.weighted.now c.requires.weighted (required-named c.args.p.now c.args.by.now c.args.weighted.now c.requires.weighted c.requires.rows) c.requires.rows c.in-Ok.common c.in-Ok.ensures.least.above c.in-Ok.ensures.least.common in
+    let fits : SFits w128 c.constants.result = record { sfits = c.constants.type_inv } in
+    simp to_z-of_z (
+      λ h. both.1 (subst (λ z. pos 0 <ℤ z) c.constants.ensures (test-above c.constants.result h)),
+      λ h. above-test c.constants.result (subst (λ z. pos 0 <ℤ z) (sym c.constants.ensures) (both.0 h)),
+    )
+
+pub returns-in-Err-clause-lost : goal.returns-in-Err-clause-lost
+returns-in-Err-clause-lost c =
+    room-lost c.args.p.now c.show_whole.ensures c.args.by.now c.args.weighted.now c.requires.weighted c.requires.rows c.in-Err.row c.in-Err.ensures.reached

@@ -1,0 +1,96 @@
+-- The first number of a column that is not 0.
+use Rattle.std.specs.Prelude.{◌≡◌, ℕ, ◌*◌, ◌<◌, ◌≤◌, ◌^◌, Bool, true, false, ◌&&◌, cond, nat_eq, List, length, ℤ, pos, ◌-ℤ◌, ◌+ℤ◌, ◌*ℤ◌, ◌<ℤ◌, nat_abs, unsigned_abs, Option, Some, None, All, slice_index_or}
+use Rattle.std.specs.List.{HoldsAt, list_any}
+use Rattle.problem_core.specs.Layout.{Line, Problem, lines}
+use Rattle.problem_core.specs.declared.parts.Rel.{Rel}
+use Rattle.problem_core.specs.declared.parts.Side.{Side}
+use Rattle.problem_core.specs.declared.parts.Side.TheVariants.{Under, Over}
+use Rattle.problem_core.specs.Certificates.{Multipliers, under, over, under_weight, over_weight}
+use Rattle.cert_checker.specs.declared.fronts.Front.{Front}
+use Rattle.cert_checker.specs.declared.fronts.Facts.{Facts}
+use Rattle.cert_checker.specs.declared.fronts.Sides.{Sides}
+use Rattle.frac_core.specs.Fraction.{IsFitting}
+use Rattle.cert_checker.specs.declared.leveled.PlacedLevel.{PlacedLevel}
+use Rattle.cert_checker.specs.declared.sums.Weighted.{Weighted}
+use Rattle.cert_checker.specs.LineSums.{line_count}
+use Rattle.cert_checker.specs.LinePlaces.{name_at}
+
+-- of the levels that were seen
+abbrev pub IsFront : (ℕ → ℤ) → (ℕ → Bool) → Option Front → Type 0
+IsFront f seen None = (k : ℕ) → seen k ≡ true → f k ≡ pos 0
+IsFront f seen (Some q) =
+    (q.negative ≡ true → f q.level <ℤ pos 0)
+    × (q.negative ≡ false → pos 0 <ℤ f q.level)
+    × ((k : ℕ) → seen k ≡ true → k < q.level → f k ≡ pos 0)
+
+abbrev pub weight_of_side : Rel → Side → ℕ → ℕ
+weight_of_side rel Under weight = under_weight rel weight
+weight_of_side rel Over weight = over_weight rel weight
+
+-- the reduced cost of a side at a level, from the line's facts, the level's scale and the line's multiplier there
+abbrev pub reduced : Facts → Side → ℕ → ℕ → ℤ → ℤ
+reduced facts Under level scale times = pos (scale * under_weight facts.rel (cond (nat_eq facts.own level) facts.weight 0)) -ℤ facts.scale *ℤ times
+reduced facts Over level scale times = pos (scale * over_weight facts.rel (cond (nat_eq facts.own level) facts.weight 0)) +ℤ facts.scale *ℤ times
+
+-- the facts are those of the line at the place
+pub record AreFacts (p : Problem) (at : ℕ) (facts : Facts) : Type 0 where
+  pub own : HoldsAt (λ l. l.level ≡ facts.own) (lines p) at
+  pub weight : HoldsAt (λ l. l.weight ≡ facts.weight) (lines p) at
+  pub rel : HoldsAt (λ l. l.rel ≡ facts.rel) (lines p) at
+  pub scale : HoldsAt (λ l. pos l.scale ≡ facts.scale) (lines p) at
+  pub scale_fits : unsigned_abs facts.scale ≤ 2 ^ 30
+  pub weight_fits : facts.weight ≤ 1000
+
+-- both fronts of a line, and whether a multiplier at its own level was seen
+pub record HasFronts (f g : ℕ → ℤ) (seen : ℕ → Bool) (own : ℕ) (sides : Sides) : Type 0 where
+  pub below : IsFront f seen sides.under
+  pub above : IsFront g seen sides.over
+  pub own_seen : sides.own ≡ seen own
+
+-- the fronts of all lines
+pub record AreFronts (p : Problem) (m : Multipliers) (seen : ℕ → ℕ → Bool) (sides : List Sides) : Type 0 where
+  pub count : length sides ≡ line_count p
+  pub each : (at : ℕ) (l : Line) (s : Sides) → at < line_count p → HasFronts (under m (slice_index_or (lines p) at l)) (over m (slice_index_or (lines p) at l)) (seen at) (slice_index_or (lines p) at l).level (slice_index_or sides at s)
+
+-- the multipliers at the level are those that are written for it
+pub record AreOfLevel (p : Problem) (m : Multipliers) (level : ℕ) (scale : ℤ) (ws : List Weighted) : Type 0 where
+  pub is_scale : m.scale level ≡ nat_abs scale
+  pub are_times : All (λ w. m.times level (name_at p w.at) ≡ w.times) ws
+
+-- whether the line at the place is named
+abbrev pub names_line : ℕ → List Weighted → Bool
+names_line at ws = list_any (λ w. nat_eq w.at at) ws
+
+-- whether a placed level names the line at the level k
+abbrev pub seen_by : List PlacedLevel → ℕ → ℕ → Bool
+seen_by placed at k = list_any (λ q. names_line at q.weighted.items && nat_eq k q.level) placed
+
+-- what the fronts need of a placed level
+pub record IsReady (p : Problem) (q : PlacedLevel) : Type 0 where
+  pub below : All (λ w. (w.at < line_count p) × IsFitting w.times) q.weighted.items
+  pub fits : IsFitting q.scale
+  pub above : pos 0 <ℤ q.scale
+
+-- nothing is seen yet
+pub record IsBlank (s : Sides) : Type 0 where
+  pub below : s.under ≡ None
+  pub above : s.over ≡ None
+  pub unseen : s.own ≡ false
+
+-- at the line's own level the number is 0 where the side costs nothing, else above 0
+pub record HasOwnNumber (f : ℕ → ℤ) (facts : Facts) (side : Side) : Type 0 where
+  pub free : weight_of_side facts.rel side facts.weight ≡ 0 → f facts.own ≡ pos 0
+  pub costed : 0 < weight_of_side facts.rel side facts.weight → pos 0 <ℤ f facts.own
+
+-- of all levels
+abbrev pub IsColumnFront : (ℕ → ℤ) → Option Front → Type 0
+IsColumnFront f None = (k : ℕ) → f k ≡ pos 0
+IsColumnFront f (Some q) =
+    (q.negative ≡ true → f q.level <ℤ pos 0)
+    × (q.negative ≡ false → pos 0 <ℤ f q.level)
+    × ((k : ℕ) → k < q.level → f k ≡ pos 0)
+
+-- whether the first number that isn't 0 is below 0
+abbrev pub is_below : Option Front → Bool
+is_below None = false
+is_below (Some q) = q.negative

@@ -1,0 +1,7 @@
+pub mod LineSums
+pub mod LinePlaces
+pub mod Required
+pub mod Refuting
+pub mod Certifying
+pub mod PlacedLevels
+pub mod Fronts

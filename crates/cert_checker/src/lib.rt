@@ -1,0 +1,14 @@
+//! A checker of claims on layout problems that stands apart from any solver.
+#![tactic(auto)]
+
+mod arithmetic;
+mod fronts;
+mod leveled;
+mod places;
+mod refuting;
+mod sums;
+mod valued;
+mod verdict;
+
+pub use refuting::check_conflict;
+pub use verdict::Verdict;

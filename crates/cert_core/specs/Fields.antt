@@ -1,0 +1,6 @@
+-- What the fields of a level and of a certificate stand for.
+use Rattle.cert_core.specs.declared.best.BestLevel.TheInside.{Inside}
+use Rattle.cert_core.specs.Claims.{BestLevel}
+
+abbrev pub level_of : Inside → BestLevel
+level_of l = record { level = l.level; scale = l.scale; by = l.by.items }

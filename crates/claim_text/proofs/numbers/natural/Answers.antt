@@ -1,0 +1,12 @@
+use Rattle.std.proofs.Common.{arith, ◌≡◌, sym, ◌∙◌}
+use Rattle.claim_text.proofs.Digits.{same_value}
+use Rattle.claim_text.proofs.numbers.natural.Goals as goal
+use Rattle.claim_text.proofs.numbers.natural.Goals.{else-least-value-via-then-least-value+else-value-most, else-least-value-via-else-least-value}
+
+pub returns-else-least-value-clause-none : goal.returns-else-least-value-clause-none
+returns-else-least-value-clause-none c = λ n low high same.
+    let is : c.in-Some.value ≡ n = same_value c.in-Some.value n c.in-Some.ensures.some.0 (omega arith) (sym c.in-Some.ensures.some.1 ∙ same) in
+    elim c.else-least-value.branch [
+      | else-least-value-via-then-least-value+else-value-most w ↦ omega arith
+      | else-least-value-via-else-least-value w ↦ omega arith
+    ]

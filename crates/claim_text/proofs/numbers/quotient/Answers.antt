@@ -1,0 +1,12 @@
+use Rattle.std.proofs.Common.{SFits, w64, rules}
+use Rattle.std.proofs.lemmas.Int.{to_z-of_z}
+use Rattle.claim_text.proofs.Maybe.{none_from}
+use Rattle.claim_text.proofs.Lowest.{no_other}
+use Rattle.claim_text.proofs.numbers.quotient.Goals as goal
+
+pub returns-clause-none : goal.returns-clause-none
+returns-clause-none c =
+    let fits : SFits w64 c.in-Some.num = search rules in
+    none_from c.lowest.result (λ none f kept more above below.
+    none (simp to_z-of_z (no_other f c.in-Some.num c.in-Some-natural.den c.args.above.now c.args.below.now kept c.in-Some.ensures.some.0 c.in-Some-natural.ensures.some.1
+    c.in-Some.ensures.some.1 c.in-Some-natural.ensures.some.2 above below))) c.lowest.ensures.none

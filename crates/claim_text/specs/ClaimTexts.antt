@@ -1,0 +1,179 @@
+-- Which texts are claims, and where a text stops to be one.
+use Rattle.std.specs.Prelude.{◌≡◌, ◌≢◌, ℕ, ◌+◌, ◌<◌, ◌⊎◌, List, [], ◌∷◌, ◌++◌, length, All, AllPairs}
+use Rattle.frac_core.specs.Fraction.{Fraction, IsFitting}
+use Rattle.problem_core.specs.declared.parts.RowName.{RowName}
+use Rattle.problem_core.specs.declared.parts.RowName.TheVariants.{Held, Stay as StayRow}
+use Rattle.problem_core.specs.declared.parts.Level.{Level}
+use Rattle.problem_core.specs.declared.parts.Level.TheVariants.{Priority, Stay as StayLevel}
+use Rattle.cert_core.specs.declared.by.By.{By}
+use Rattle.cert_core.specs.Claims.{BestLevel}
+use Rattle.claim_text.specs.declared.claim_lines.LevelLine.{LevelLine}
+use Rattle.claim_text.specs.declared.claim_lines.ClaimLine.{ClaimLine}
+use Rattle.claim_text.specs.declared.claim_lines.ClaimLine.TheVariants.{OfValue, OfBest, OfConflict, OfLevel, OfBy}
+use Rattle.claim_text.specs.declared.claim_draft.Stage.{Stage}
+use Rattle.claim_text.specs.declared.claim_draft.Stage.TheVariants.{Values, Levels, Bys, Conflict}
+use Rattle.claim_text.specs.declared.claim.Claim.{Claim}
+use Rattle.claim_text.specs.declared.claim.Claim.TheVariants.{IsBest, IsConflict}
+use Rattle.claim_text.specs.declared.stops.ReadStop.{ReadStop}
+use Rattle.claim_text.specs.declared.stops.ReadStop.TheVariants.{BadLine, OutOfMemory}
+use Rattle.claim_text.specs.Words.{words}
+use Rattle.claim_text.specs.ClaimLines.{value_words, level_words, by_words, best_words, conflict_words, IsValue, IsLevelLine, IsLevelName, IsBy}
+
+-- what a line says by itself
+abbrev pub Says : List ℕ → ClaimLine → Type 0
+Says line (OfValue v) = IsValue v × (words line ≡ value_words v)
+Says line OfBest = words line ≡ best_words
+Says line OfConflict = words line ≡ conflict_words
+Says line (OfLevel l) = IsLevelLine l × (words line ≡ level_words l)
+Says line (OfBy b) = IsBy b × (words line ≡ by_words b)
+
+-- ---- the order of rows and of levels
+
+-- rows rise and come before the stays, which are different
+abbrev pub IsRowBefore : RowName → RowName → Type 0
+IsRowBefore (Held a) (Held b) = a < b
+IsRowBefore (Held a) (StayRow b) = Unit {0}
+IsRowBefore (StayRow a) (Held b) = ⊥
+IsRowBefore (StayRow a) (StayRow b) = a ≢ b
+
+-- priorities fall and come before the stays, which are different
+abbrev pub IsLevelBefore : Level → Level → Type 0
+IsLevelBefore (Priority a) (Priority b) = b < a
+IsLevelBefore (Priority a) (StayLevel b) = Unit {0}
+IsLevelBefore (StayLevel a) (Priority b) = ⊥
+IsLevelBefore (StayLevel a) (StayLevel b) = a ≢ b
+
+-- ---- reading line by line
+
+-- what was read: values, levels that have ended, and the multipliers of the level that is open or of a conflict
+pub record Draft : Type 0 where
+  pub stage : Stage
+  pub values : List (ℕ × Fraction)
+  pub levels : List BestLevel
+  pub bys : List By
+
+abbrev pub nothing_read : Draft
+nothing_read = record { stage = Values; values = []; levels = []; bys = [] }
+
+-- the levels, the open one with its multipliers among them
+abbrev pub closed : Stage → List BestLevel → List By → List BestLevel
+closed Values levels bys = levels
+closed Levels levels bys = levels
+closed (Bys l) levels bys = levels ++ record { level = l.level; scale = l.scale; by = bys } ∷ []
+closed Conflict levels bys = levels
+
+abbrev pub HasLevels : Stage → Type 0
+HasLevels Values = ⊥
+HasLevels Levels = Unit {0}
+HasLevels (Bys l) = Unit {0}
+HasLevels Conflict = ⊥
+
+abbrev pub HasBys : Stage → Type 0
+HasBys Values = ⊥
+HasBys Levels = ⊥
+HasBys (Bys l) = Unit {0}
+HasBys Conflict = Unit {0}
+
+-- a line that says this may follow what was read
+abbrev pub MayFollow : Draft → ClaimLine → Type 0
+MayFollow old (OfValue v) = (old.stage ≡ Values) × All (λ u. u.0 < v.0) old.values
+MayFollow old OfBest = old.stage ≡ Values
+MayFollow old OfConflict = (old.stage ≡ Values) × (old.values ≡ [])
+MayFollow old (OfLevel l) = HasLevels old.stage × All (λ k. IsLevelBefore k.level l.level) (closed old.stage old.levels old.bys)
+MayFollow old (OfBy b) = HasBys old.stage × All (λ k. IsRowBefore k.row b.row) old.bys
+
+abbrev pub with_line : Draft → ClaimLine → Draft
+with_line old (OfValue v) = record { stage = old.stage; values = old.values ++ v ∷ []; levels = old.levels; bys = old.bys }
+with_line old OfBest = record { stage = Levels; values = old.values; levels = old.levels; bys = old.bys }
+with_line old OfConflict = record { stage = Conflict; values = old.values; levels = old.levels; bys = old.bys }
+with_line old (OfLevel l) = record { stage = Bys l; values = old.values; levels = closed old.stage old.levels old.bys; bys = [] }
+with_line old (OfBy b) = record { stage = old.stage; values = old.values; levels = old.levels; bys = old.bys ++ b ∷ [] }
+
+pub record Step (old : Draft) (line : List ℕ) (new : Draft) : Type 0 where
+  pub item : ClaimLine
+  pub says : Says line item
+  pub may : MayFollow old item
+  pub is : new ≡ with_line old item
+
+abbrev pub ReadFrom : Draft → List (List ℕ) → Draft → Type 0
+ReadFrom old [] new = new ≡ old
+ReadFrom old (line ∷ more) new = (mid : Draft) × Step old line mid × ReadFrom mid more new
+
+-- what was read is all of the claim
+abbrev pub Ends : Draft → Claim → Type 0
+Ends d (IsBest values best) = HasLevels d.stage × (values ≡ d.values) × (best ≡ closed d.stage d.levels d.bys)
+Ends d (IsConflict bys) = (d.stage ≡ Conflict) × (bys ≡ d.bys)
+
+-- the lines say the claim
+abbrev pub Reads : List (List ℕ) → Claim → Type 0
+Reads all claim = (last : Draft) × ReadFrom nothing_read all last × Ends last claim
+
+-- The n-th line is the first, counted from 1, that may not follow those before it.
+pub record IsFirstBad (all : List (List ℕ)) (n : ℕ) : Type 0 where
+  pub before : List (List ℕ)
+  pub line : List ℕ
+  pub after : List (List ℕ)
+  pub parts : all ≡ before ++ line ∷ after
+  pub number : n ≡ length before + 1
+  pub so_far : Draft
+  pub reads : ReadFrom nothing_read before so_far
+  pub bad : (new : Draft) → Step so_far line new → ⊥
+
+-- The text ends where `best` must still come, after all but the n-th line.
+pub record EndsEarly (all : List (List ℕ)) (n : ℕ) : Type 0 where
+  pub number : n ≡ length all + 1
+  pub so_far : Draft
+  pub reads : ReadFrom nothing_read all so_far
+  pub waits : so_far.stage ≡ Values
+
+-- where the text stops to be a claim, unless memory was wanting
+abbrev pub StopsAt : List (List ℕ) → ReadStop → Type 0
+StopsAt all (BadLine n) = IsFirstBad all n ⊎ EndsEarly all n
+StopsAt all OutOfMemory = Unit {0}
+
+-- ---- what the reader of lines tells
+
+pub record IsRead (all : List (List ℕ)) (draft : Draft) (count : ℕ) : Type 0 where
+  pub reads : ReadFrom nothing_read all draft
+  pub count_is : count ≡ length all
+
+abbrev pub LinesStopAt : List (List ℕ) → ReadStop → Type 0
+LinesStopAt all (BadLine n) = IsFirstBad all n
+LinesStopAt all OutOfMemory = Unit {0}
+
+-- ---- what a draft keeps
+
+-- rows with multipliers as they are read
+pub record AreRead (bys : List By) : Type 0 where
+  pub each : All IsBy bys
+  pub order : AllPairs (λ a b. IsRowBefore a.row b.row) bys
+
+pub record IsLevelRead (l : BestLevel) : Type 0 where
+  pub level : IsLevelName l.level
+  pub scale : IsFitting l.scale
+  pub by : AreRead l.by
+
+abbrev pub IsStage : Stage → Type 0
+IsStage Values = Unit {0}
+IsStage Levels = Unit {0}
+IsStage (Bys l) = IsLevelLine l
+IsStage Conflict = Unit {0}
+
+pub record IsDraft (d : Draft) : Type 0 where
+  pub stage : IsStage d.stage
+  pub values : AllPairs (λ u v. u.0 < v.0) d.values
+  pub levels : All IsLevelRead (closed d.stage d.levels d.bys)
+  pub level_order : AllPairs (λ k l. IsLevelBefore k.level l.level) (closed d.stage d.levels d.bys)
+  pub bys : AreRead d.bys
+
+-- ---- the claims that are written so that they are read back
+
+pub record IsBestWritten (pairs : List (ℕ × Fraction)) (best : List BestLevel) : Type 0 where
+  pub values : All IsValue pairs
+  pub rising : AllPairs (λ u v. u.0 < v.0) pairs
+  pub levels : All IsLevelRead best
+  pub level_order : AllPairs (λ k l. IsLevelBefore k.level l.level) best
+
+abbrev pub IsWritten : Claim → Type 0
+IsWritten (IsBest values best) = IsBestWritten values best
+IsWritten (IsConflict bys) = AreRead bys

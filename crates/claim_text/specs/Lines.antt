@@ -1,0 +1,79 @@
+-- The words of the lines of problems.
+use Rattle.std.specs.Prelude.{◌≡◌, ℕ, ◌<◌, ◌≤◌, ◌^◌, List, [], ◌∷◌, ◌++◌, length, map, All, AllPairs, codes, decimal}
+use Rattle.std.specs.Fmt.{signed_decimal}
+use Rattle.frac_core.specs.Fraction.{IsKept}
+use Rattle.frac_core.specs.Text.{fraction_text}
+use Rattle.problem_core.specs.declared.parts.Rel.{Rel}
+use Rattle.problem_core.specs.declared.parts.Rel.TheVariants.{Eq, Le, Ge}
+use Rattle.problem_core.specs.declared.parts.Term.{Term}
+use Rattle.problem_core.specs.declared.parts.Stay.{Stay}
+use Rattle.problem_core.specs.Kept.{IsNumber, IsTerm}
+use Rattle.problem_core.specs.Layout.{Row, Problem}
+use Rattle.claim_text.specs.Words.{line_of}
+use Rattle.claim_text.specs.declared.row_lines.Head.{Head}
+
+abbrev pub rel_word : Rel → List ℕ
+rel_word Eq = codes "=="
+rel_word Le = codes "<="
+rel_word Ge = codes ">="
+
+-- `ATTR:BY`
+abbrev pub term_word : Term → List ℕ
+term_word t = decimal t.attr ++ 58 ∷ signed_decimal t.by
+
+-- `row ID RANK WEIGHT REL SCALE CONSTANT`, and a word for each term
+abbrev pub row_words : Row → List (List ℕ)
+row_words r = codes "row" ∷ decimal r.id ∷ decimal r.rank ∷ decimal r.weight ∷ rel_word r.rel ∷ decimal r.scale ∷ fraction_text r.constant ∷ map term_word r.terms
+
+-- `stay ATTR TARGET`
+abbrev pub stay_words : Stay → List (List ℕ)
+stay_words s = codes "stay" ∷ decimal s.attr ∷ fraction_text s.target ∷ []
+
+-- the words of a row before its terms
+abbrev pub head_words : Head → List (List ℕ)
+head_words h = codes "row" ∷ decimal h.id ∷ decimal h.rank ∷ decimal h.weight ∷ rel_word h.rel ∷ decimal h.scale ∷ fraction_text h.constant ∷ []
+
+pub record IsHead (h : Head) : Type 0 where
+  pub number : IsNumber h.id
+  pub rank : h.rank ≤ 1000
+  pub weight_above : 1 ≤ h.weight
+  pub weight : h.weight ≤ 1000
+  pub scale_above : 1 ≤ h.scale
+  pub scale : h.scale ≤ 2 ^ 30
+  pub constant : IsKept h.constant
+
+-- the terms of a row: at most 32, their attributes rise
+pub record AreTerms (terms : List Term) : Type 0 where
+  pub each : All IsTerm terms
+  pub rising : AllPairs (λ s t. s.attr < t.attr) terms
+  pub count : length terms ≤ 32
+
+-- the row of these parts
+abbrev pub row_from : Head → List Term → Row
+row_from h terms = record { id = h.id; rank = h.rank; weight = h.weight; rel = h.rel; scale = h.scale; constant = h.constant; terms = terms }
+
+-- ---- texts
+
+abbrev pub row_line : Row → List ℕ
+row_line r = line_of (row_words r)
+
+abbrev pub stay_line : Stay → List ℕ
+stay_line s = line_of (stay_words s)
+
+-- the text of these lines, each ended by byte 10
+abbrev pub text_of_lines : List (List ℕ) → List ℕ
+text_of_lines [] = []
+text_of_lines (line ∷ more) = line ++ 10 ∷ text_of_lines more
+
+-- the rows, and then the stays
+abbrev pub problem_text : Problem → List ℕ
+problem_text p = text_of_lines (map row_line p.rows ++ map stay_line p.stays)
+
+-- each of these words behind a space
+abbrev pub spaced : List (List ℕ) → List ℕ
+spaced [] = []
+spaced (w ∷ ws) = 32 ∷ w ++ spaced ws
+
+-- what stands before the terms of a row's line
+abbrev pub head_line : Row → List ℕ
+head_line r = codes "row " ++ (decimal r.id ++ (32 ∷ (decimal r.rank ++ (32 ∷ (decimal r.weight ++ (32 ∷ (rel_word r.rel ++ (32 ∷ (decimal r.scale ++ (32 ∷ fraction_text r.constant))))))))))

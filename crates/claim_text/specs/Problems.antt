@@ -1,0 +1,90 @@
+-- Which texts are problems, and where a text stops to be one.
+use Rattle.std.specs.Prelude.{◌≡◌, ◌≢◌, ℕ, ◌+◌, ◌<◌, ◌⊎◌, Bool, true, List, [], ◌∷◌, ◌++◌, length, All, Contains}
+use Rattle.span_text.specs.Words.{is_space}
+use Rattle.problem_core.specs.declared.parts.Stay.{Stay}
+use Rattle.problem_core.specs.Kept.{IsRow, IsStay}
+use Rattle.problem_core.specs.Layout.{Row, Problem}
+use Rattle.claim_text.specs.declared.items.Item.{Item}
+use Rattle.claim_text.specs.declared.items.Item.TheVariants.{Nothing, OfRow, OfStay}
+use Rattle.claim_text.specs.declared.stops.ReadStop.{ReadStop}
+use Rattle.claim_text.specs.declared.stops.ReadStop.TheVariants.{BadLine, OutOfMemory}
+use Rattle.claim_text.specs.Words.{words}
+use Rattle.claim_text.specs.Lines.{row_words, stay_words}
+
+-- spaces and tabs alone, or a line that begins with `#`
+abbrev pub IsPassedOver : List ℕ → Type 0
+IsPassedOver line = All (λ b. is_space b ≡ true) line ⊎ ((more : List ℕ) × (line ≡ 35 ∷ more))
+
+-- what a line says by itself
+abbrev pub Says : List ℕ → Item → Type 0
+Says line Nothing = IsPassedOver line
+Says line (OfRow r) = IsRow r × (words line ≡ row_words r)
+Says line (OfStay s) = IsStay s × (words line ≡ stay_words s)
+
+-- the row may follow what was read, where these attributes have stays in the text
+pub record RowMayFollow (HasStay : ℕ → Type 0) (old : Problem) (r : Row) : Type 0 where
+  pub first : old.stays ≡ []
+  pub rises : All (λ q. q.id < r.id) old.rows
+  pub covered : All (λ t. HasStay t.attr) r.terms
+  pub room : length old.rows < 2001
+
+pub record StayMayFollow (old : Problem) (s : Stay) : Type 0 where
+  pub fresh : All (λ q. q.attr ≢ s.attr) old.stays
+  pub room : length old.stays < 800
+
+abbrev pub MayFollow : (ℕ → Type 0) → Problem → Item → Type 0
+MayFollow HasStay old Nothing = Unit {0}
+MayFollow HasStay old (OfRow r) = RowMayFollow HasStay old r
+MayFollow HasStay old (OfStay s) = StayMayFollow old s
+
+abbrev pub with_item : Problem → Item → Problem
+with_item old Nothing = old
+with_item old (OfRow r) = record { rows = old.rows ++ r ∷ []; stays = old.stays }
+with_item old (OfStay s) = record { rows = old.rows; stays = old.stays ++ s ∷ [] }
+
+-- after what was read before the line comes this
+pub record Step (HasStay : ℕ → Type 0) (old : Problem) (line : List ℕ) (new : Problem) : Type 0 where
+  pub item : Item
+  pub says : Says line item
+  pub may : MayFollow HasStay old item
+  pub is : new ≡ with_item old item
+
+abbrev pub ReadFrom : (ℕ → Type 0) → Problem → List (List ℕ) → Problem → Type 0
+ReadFrom HasStay old [] new = new ≡ old
+ReadFrom HasStay old (line ∷ more) new = (mid : Problem) × Step HasStay old line mid × ReadFrom HasStay mid more new
+
+abbrev pub nothing_read : Problem
+nothing_read = record { rows = []; stays = [] }
+
+abbrev pub IsStayOf : List ℕ → ℕ → Type 0
+IsStayOf line attr = (s : Stay) × Says line (OfStay s) × (s.attr ≡ attr)
+
+-- some line is a stay of the attribute
+abbrev pub HasStayLine : List (List ℕ) → ℕ → Type 0
+HasStayLine [] attr = ⊥
+HasStayLine (line ∷ more) attr = IsStayOf line attr ⊎ HasStayLine more attr
+
+-- the attributes that have stays among the lines
+pub record AreStayAttributes (lines : List (List ℕ)) (attrs : List ℕ) : Type 0 where
+  pub each : All (HasStayLine lines) attrs
+  pub all : (attr : ℕ) → HasStayLine lines attr → Contains attrs attr
+
+-- the lines say the problem
+abbrev pub Reads : List (List ℕ) → Problem → Type 0
+Reads all p = ReadFrom (HasStayLine all) nothing_read all p
+
+-- The n-th line is the first, counted from 1, that may not follow those before it.
+pub record IsFirstBad (all : List (List ℕ)) (n : ℕ) : Type 0 where
+  pub before : List (List ℕ)
+  pub line : List ℕ
+  pub after : List (List ℕ)
+  pub parts : all ≡ before ++ line ∷ after
+  pub number : n ≡ length before + 1
+  pub so_far : Problem
+  pub reads : ReadFrom (HasStayLine all) nothing_read before so_far
+  pub bad : (new : Problem) → Step (HasStayLine all) so_far line new → ⊥
+
+-- where the text stops to be a problem, unless memory was wanting
+abbrev pub StopsAt : List (List ℕ) → ReadStop → Type 0
+StopsAt all (BadLine n) = IsFirstBad all n
+StopsAt all OutOfMemory = Unit {0}

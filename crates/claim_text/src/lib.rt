@@ -1,0 +1,34 @@
+//! Problems and claims as text, and their readers.
+#![tactic(auto)]
+
+mod attributes;
+mod claim;
+mod claim_draft;
+mod claim_fields;
+mod claim_lines;
+mod claim_reader;
+mod claim_writer;
+mod cut;
+mod draft;
+mod fields;
+mod items;
+mod line_writers;
+mod numbers;
+mod problem_reader;
+mod problem_writer;
+mod row_lines;
+mod stay_lines;
+mod stops;
+mod term_words;
+mod words;
+
+pub use claim::Claim;
+pub use claim_reader::read_claim;
+pub use claim_writer::cert_text;
+pub use cut::{CheckInput, cut_input};
+pub use problem_reader::read_problem;
+pub use problem_writer::problem_text;
+pub use stops::ReadStop;
+
+#[cfg(test)]
+mod tests;

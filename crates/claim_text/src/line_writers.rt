@@ -1,0 +1,80 @@
+// The lines of rows and stays as text.
+ghost use Rattle.std.specs.Prelude.{◌≡◌, ◌++◌, ◌∷◌, [], IfOk, string_bytes, map};
+ghost use Rattle.frac_core.specs.Text.{fraction_text};
+ghost use Rattle.claim_text.specs.Lines.{rel_word, term_word, row_line, stay_line, spaced, head_line};
+
+use frac_core::{Frac, OutOfMemory};
+use problem_core::{Rel, Row, Stay, Term};
+
+fn relation_text(rel: Rel) -> &'static str
+    ensures { result.now ≡ rel_word rel }
+{
+    match rel {
+        Rel::Eq => "==",
+        Rel::Le => "<=",
+        Rel::Ge => ">=",
+    }
+}
+
+pub(crate) fn put_fraction(text: &mut String, f: Frac) -> Result<(), OutOfMemory>
+    ensures { IfOk result (λ _. string_bytes text.new ≡ string_bytes text.old ++ fraction_text f) }
+{
+    let num = f.num();
+    let den = f.den();
+    if den == 1 {
+        write!(text, "{num}")?;
+    } else {
+        write!(text, "{num}/{den}")?;
+    }
+    Ok(())
+}
+
+fn put_term(text: &mut String, term: &Term) -> Result<(), OutOfMemory>
+    ensures { IfOk result (λ _. string_bytes text.new ≡ string_bytes text.old ++ (32 ∷ term_word term.now)) }
+{
+    let attr = term.attr;
+    let by = term.by;
+    write!(text, " {attr}:{by}")?;
+    Ok(())
+}
+
+fn put_terms(text: &mut String, terms: &[Term]) -> Result<(), OutOfMemory>
+    ensures { IfOk result (λ _. string_bytes text.new ≡ string_bytes text.old ++ spaced (map term_word terms.now)) }
+{
+    for term in terms {
+        put_term(text, term)?;
+    }
+    Ok(())
+}
+
+// What stands before the terms of a row.
+fn put_head(text: &mut String, row: &Row) -> Result<(), OutOfMemory>
+    ensures { IfOk result (λ _. string_bytes text.new ≡ string_bytes text.old ++ head_line row.now) }
+{
+    let id = row.id();
+    let rank = row.rank();
+    let weight = row.weight();
+    let rel = relation_text(row.rel());
+    let scale = row.scale();
+    write!(text, "row {id} {rank} {weight} {rel} {scale} ")?;
+    put_fraction(text, row.constant())
+}
+
+pub(crate) fn put_row(text: &mut String, row: &Row) -> Result<(), OutOfMemory>
+    ensures { IfOk result (λ _. string_bytes text.new ≡ string_bytes text.old ++ (row_line row.now ++ 10 ∷ [])) }
+{
+    put_head(text, row)?;
+    put_terms(text, row.terms())?;
+    writeln!(text)?;
+    Ok(())
+}
+
+pub(crate) fn put_stay(text: &mut String, stay: &Stay) -> Result<(), OutOfMemory>
+    ensures { IfOk result (λ _. string_bytes text.new ≡ string_bytes text.old ++ (stay_line stay.now ++ 10 ∷ [])) }
+{
+    let attr = stay.attr;
+    write!(text, "stay {attr} ")?;
+    put_fraction(text, stay.target)?;
+    writeln!(text)?;
+    Ok(())
+}

@@ -1,0 +1,85 @@
+// The words of the terms of a row.
+ghost use Rattle.std.specs.Prelude.{◌≡◌, ℕ, ◌<◌, ◌≤◌, ◌++◌, ◌∷◌, [], All, List, IfOk, IfSome, IfNone, IsTrue, ◌↔◌, decimal, map};
+ghost use Rattle.std.specs.Fmt.{signed_decimal};
+ghost use Rattle.problem_core.specs.Kept.{IsTerm};
+ghost use Rattle.problem_core.specs.declared.parts.Term.{Term};
+ghost use Rattle.claim_text.specs.Lines.{term_word, AreTerms};
+
+use crate::numbers::{integer, natural};
+use crate::words::{Words, first_part};
+use frac_core::OutOfMemory;
+use problem_core::Term;
+use std::alloc::Global;
+
+// The term of an attribute and a coefficient.
+fn product(attr: &[u8], by: &[u8]) -> Option<Term>
+    ensures some { IfSome result (λ t. IsTerm t × (attr.now ≡ decimal t.attr) × (by.now ≡ signed_decimal t.by)) }
+    ensures none { IfNone result ((t : Term) → IsTerm t → attr.now ≡ decimal t.attr → by.now ≡ signed_decimal t.by → ⊥) }
+{
+    let Some(attr) = natural(attr, 1, 1 << 31) else {
+        return None;
+    };
+    let Some(by) = integer(by, 1 << 30) else {
+        return None;
+    };
+    if by == 0 {
+        None
+    } else {
+        Some(Term {
+            attr: attr as u32,
+            by,
+        })
+    }
+}
+
+fn term(word: &[u8]) -> Option<Term>
+    ensures some { IfSome result (λ t. IsTerm t × (word.now ≡ term_word t)) }
+    ensures none { IfNone result ((t : Term) → IsTerm t → word.now ≡ term_word t → ⊥) }
+{
+    let cut = first_part(word, b':');
+    match cut.rest {
+        None => None,
+        Some(by) => product(cut.part, by),
+    }
+}
+
+// Whether the attribute is above those of all these terms.
+fn is_above(terms: &[Term], attr: u32) -> bool
+    ensures { IsTrue result ↔ All (λ t. t.attr < attr) terms.now }
+{
+    terms.iter().all(|t| t.attr < attr)
+}
+
+// The term of a word that may follow these terms.
+fn next_term(terms: &[Term], word: &[u8]) -> Option<Term>
+    requires { AreTerms terms.now }
+    ensures some { IfSome result (λ t. AreTerms (terms.now ++ t ∷ []) × (word.now ≡ term_word t)) }
+    ensures none { IfNone result ((t : Term) → AreTerms (terms.now ++ t ∷ []) → word.now ≡ term_word t → ⊥) }
+{
+    if terms.len() == 32 {
+        return None;
+    }
+    let Some(term) = term(word) else {
+        return None;
+    };
+    if is_above(terms, term.attr) {
+        Some(term)
+    } else {
+        None
+    }
+}
+
+// The terms that the words say.
+pub(crate) fn read_terms(alloc: Global, words: &mut Words) -> Result<Option<Vec<Term>>, OutOfMemory>
+    ensures some { IfOk result (λ found. IfSome found (λ v. AreTerms v.items × (words.old ≡ map term_word v.items))) }
+    ensures none { IfOk result (λ found. IfNone found ((ts : List Term) → AreTerms ts → words.old ≡ map term_word ts → ⊥)) }
+{
+    let mut terms = Vec::new(alloc);
+    while let Some(word) = words.next() {
+        let Some(term) = next_term(&terms, word) else {
+            return Ok(None);
+        };
+        terms.push(term)?;
+    }
+    Ok(Some(terms))
+}
