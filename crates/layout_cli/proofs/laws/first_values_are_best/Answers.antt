@@ -1,0 +1,5 @@
+use Rattle.layout_cli.proofs.BestRuns.{first-AreBest}
+use Rattle.layout_cli.proofs.laws.first_values_are_best.Goals as goal
+
+pub returns : goal.returns
+returns c = first-AreBest

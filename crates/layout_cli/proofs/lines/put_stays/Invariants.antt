@@ -1,0 +1,11 @@
+use Rattle.std.proofs.Common.{◌≡◌, ◌≤◌, ◌++◌, take, length, string_bytes}
+use Rattle.layout_cli.specs.Kept.{stay_lines_of}
+use Rattle.layout_cli.specs.Replies.{text_of_each}
+use Rattle.layout_cli.proofs.lines.put_stays.Given as goal
+
+abbrev pub invariant-loop-place : goal.invariant-loop-place
+invariant-loop-place l = record {
+  within : l.place ≤ l.place-end;
+  is_end : l.place-end ≡ length l.tree.views;
+  text : string_bytes l.text ≡ string_bytes l.fn.text ++ text_of_each (λ v. stay_lines_of l.size v.id) (take l.place l.tree.views);
+}
