@@ -1,0 +1,138 @@
+-- The sums of ever more terms.
+use Rattle.std.proofs.Common.{◌≡◌, ℕ, zero, suc, ◌+◌, ◌*◌, ◌<◌, ◌≤◌, ◌^◌, List, [], ◌∷◌, ◌++◌, length, length-append, take, get_or, All, ℤ, pos, ◌*ℤ◌, refl, sym, subst, ap, ◌∙◌, arith, ◌⊎◌, inl, inr}
+use Rattle.std.specs.Prelude.{unsigned_abs}
+use borrow.Author.Differences.{ints}
+use Rattle.std.proofs.lemmas.List.Elements.{All-push}
+use Rattle.frac_core.specs.Fraction.{Fraction}
+use Rattle.frac_core.proofs.Integers.{cancel_mul, mul-zero_ℤ}
+use Rattle.script_text.specs.Meaning.{Term}
+use Rattle.script_text.specs.View.{term_view, terms_view}
+use Rattle.script_text.specs.declared.command.ExprTerm.{ExprTerm}
+use Rattle.std.proofs.Math.ListN.{get_or-map}
+use Rattle.std.proofs.lemmas.List.{length-map}
+use Rattle.view_tree.specs.Views.{LiveView}
+use Rattle.constraint_compile.specs.Fractions.{zero_fraction, plus, IsOver, IsScale, MakesWhole, AreSmall}
+use Rattle.constraint_compile.specs.Meaning.{share, sum_at}
+use Rattle.constraint_compile.specs.Shares.{IsOff, share_fraction}
+use Rattle.constraint_compile.specs.Sums.{AreKept, HasOnly, IsSum, IsCovered, AreScales, attr_at, number_at, with_share, with_term, first_sum}
+use Rattle.constraint_compile.specs.declared.attributes.Share.{Share}
+use Rattle.constraint_compile.proofs.Joint.{find_place}
+use Rattle.constraint_compile.proofs.Lists.{each_pushed_by, lt_or_eq}
+use Rattle.constraint_compile.proofs.Totals.{total_more, plus-zero}
+
+-- ---- coefficients that are the same
+
+abbrev pub AreSame : (ℕ → Fraction) → (ℕ → Fraction) → Type 0
+AreSame b c = (v : ℕ) → b v ≡ c v
+
+makes_same : (b c : ℕ → Fraction) (k : ℕ) → AreSame b c → MakesWhole k b → MakesWhole k c
+makes_same b c k same makes = λ v. subst (λ (f : Fraction). (z : ℤ) × IsOver k f z) (same v) (makes v)
+
+scale_same : (b c : ℕ → Fraction) (k : ℕ) → AreSame b c → IsScale b k → IsScale c k
+scale_same b c k same is = record {
+  above = is.above;
+  whole = makes_same b c k same is.whole;
+  least = λ j some makes. is.least j some (makes_same c b j (λ v. sym (same v)) makes);
+}
+
+pub small_same : (b c : ℕ → Fraction) → AreSame b c → AreSmall b → AreSmall c
+small_same b c same are = record {
+  scale = are.scale;
+  is_scale = scale_same b c are.scale same are.is_scale;
+  small_scale = are.small_scale;
+  small = λ v z over. are.small v z (subst (λ (f : Fraction). IsOver are.scale f z) (sym (same v)) over);
+}
+
+pub sum_same : (b c : ℕ → Fraction) (attrs : List ℕ) (k : ℕ) (numbers : List ℤ) → AreSame b c → IsSum b attrs k numbers → IsSum c attrs k numbers
+sum_same b c attrs k numbers same is = record {
+  only = record {
+    off = λ v off. subst (λ (f : Fraction). f.num ≡ pos 0) (same v) (is.only.off v off);
+    above = λ v. subst (λ (f : Fraction). 0 < f.den) (same v) (is.only.above v);
+  };
+  over = λ i within. subst (λ (f : Fraction). IsOver k f (number_at numbers i)) (same (attr_at attrs i)) (is.over i within);
+  is_scale = scale_same b c k same is.is_scale;
+}
+
+-- ---- the first sum
+
+pub zero_sum : (attrs : List ℕ) (numbers : List ℤ) → length numbers ≡ length attrs → All (λ z. z ≡ pos 0) numbers → IsSum (λ v. zero_fraction) attrs 1 numbers
+zero_sum attrs numbers long zeros = record {
+  only = record { off = λ v off. refl; above = λ v. omega arith };
+  over = λ i within. rw (zeros i (pos 0) (omega (arith, within, long))) refl;
+  is_scale = record { above = omega arith; whole = λ v. (pos 0, refl); least = λ j some makes. some };
+}
+
+pub zero_kept : (attrs : List ℕ) (numbers : List ℤ) → length numbers ≡ length attrs → All (λ z. z ≡ pos 0) numbers → AreKept attrs 1 numbers
+zero_kept attrs numbers long zeros = record {
+  long = long;
+  above = omega arith;
+  small_scale = omega arith;
+  small = λ k d within. rw (zeros k d within) (omega arith);
+}
+
+-- ---- one term more
+
+pub same_share : (views : List LiveView) (b : ℕ → Fraction) (t : Term) (s : Share) → ((v : ℕ) → share views v t ≡ share_fraction s v) → AreSame (with_share b s) (with_term views b t)
+same_share views b t s same = λ v. ap (plus (b v)) (sym (same v))
+
+pub same_none : (views : List LiveView) (b : ℕ → Fraction) (t : Term) → ((v : ℕ) → share views v t ≡ zero_fraction) → AreSame b (with_term views b t)
+same_none views b t same = λ v. sym (ap (plus (b v)) (same v) ∙ plus-zero (b v))
+
+pub covered_by : (views : List LiveView) (attrs : List ℕ) (t : Term) (s : Share) → ((v : ℕ) → share views v t ≡ share_fraction s v) → ((v : ℕ) → IsOff attrs v → (share views v t).num ≡ pos 0) → IsCovered attrs s
+covered_by views attrs t s same off = λ v is. subst (λ (f : Fraction). f.num ≡ pos 0) (same v) (off v is)
+
+pub same_more : (views : List LiveView) (terms : List Term) (i : ℕ) (d : Term) → i < length terms → AreSame (with_term views (first_sum views terms i) (get_or terms i d)) (first_sum views terms (i + 1))
+same_more views terms i d within = λ v. sym (total_more (share views v) terms i d within)
+
+-- ---- a sum is small
+
+only_number : (k d : ℕ) (n x y : ℤ) → 0 < d → x *ℤ pos d ≡ pos k *ℤ n → y *ℤ pos d ≡ pos k *ℤ n → x ≡ y
+only_number k d n x y some e f = cancel_mul d x y some (swap x ∙ e ∙ sym f ∙ sym (swap y))
+  where
+    swap : (x : ℤ) → pos d *ℤ x ≡ x *ℤ pos d
+    swap x = omega (arith, ints)
+
+zero_left : (d : ℕ) → pos 0 *ℤ pos d ≡ pos 0
+zero_left d = omega (arith, ints)
+
+pub small_sum : (b : ℕ → Fraction) (attrs : List ℕ) (k : ℕ) (numbers : List ℤ) → IsSum b attrs k numbers → AreKept attrs k numbers → AreSmall b
+small_sum b attrs k numbers is kept = record {
+  scale = k;
+  is_scale = is.is_scale;
+  small_scale = kept.small_scale;
+  small = λ v z over. small_at v z over (find_place attrs v);
+}
+  where
+    small_at : (v : ℕ) (z : ℤ) → IsOver k (b v) z → ((i : ℕ) × (i < length attrs) × (attr_at attrs i ≡ v)) ⊎ IsOff attrs v → unsigned_abs z ≤ 2 ^ 30
+    small_at v z over (inl (i, within, at)) =
+        let here : IsOver k (b v) (number_at numbers i) = subst (λ (w : ℕ). IsOver k (b w) (number_at numbers i)) at (is.over i within) in
+        let same : z ≡ number_at numbers i = only_number k (b v).den (b v).num z (number_at numbers i) (is.only.above v) over here in
+        rw same (kept.small i (pos 0) (omega (arith, within, kept.long)))
+    small_at v z over (inr off) =
+        let none : z ≡ pos 0 = only_number k (b v).den (b v).num z (pos 0) (is.only.above v) over (rw (is.only.off v off) (zero_left (b v).den ∙ sym (mul-zero_ℤ (pos k)))) in
+        rw none (omega arith)
+
+pub scales_more : (views : List LiveView) (terms : List Term) (attrs : List ℕ) (i : ℕ) (scales : List ℕ) (k : ℕ) (numbers : List ℤ) → AreScales views terms i scales → IsSum (first_sum views terms (i + 1)) attrs k numbers → AreKept attrs k numbers → AreScales views terms (i + 1) (scales ++ k ∷ [])
+scales_more views terms attrs i scales k numbers are is kept = record {
+  long = omega (arith, length-append scales (k ∷ []), are.long);
+  each = each_pushed_by (λ (j m : ℕ). IsScale (first_sum views terms (j + 1)) m) scales i k 0 are.long are.each is.is_scale;
+  low = All-push (λ m. m ≤ 2 ^ 30) scales k are.low kept.small_scale;
+  small = λ j within. small_at j (less_or_same j within);
+}
+  where
+    less_or_same : (j : ℕ) → j < i + 1 → (j < i) ⊎ (j ≡ i)
+    less_or_same j h = lt_or_eq j i h
+
+    small_at : (j : ℕ) → (j < i) ⊎ (j ≡ i) → AreSmall (first_sum views terms (j + 1))
+    small_at j (inl less) = are.small j less
+    small_at j (inr same) = subst (λ (n : ℕ). AreSmall (first_sum views terms (n + 1))) (sym same) (small_sum (first_sum views terms (i + 1)) attrs k numbers is kept)
+
+-- ---- terms as the code has them
+
+pub term_at : (terms : List ExprTerm) (i : ℕ) (t : ExprTerm) → t ≡ get_or terms i t → get_or (terms_view terms) i (term_view t) ≡ term_view t
+term_at terms i t is = get_or-map term_view terms i t ∙ sym (ap term_view is)
+
+pub same_term : (views : List LiveView) (terms : List ExprTerm) (i : ℕ) (t : ExprTerm) → i < length terms → t ≡ get_or terms i t → AreSame (with_term views (first_sum views (terms_view terms) i) (term_view t)) (first_sum views (terms_view terms) (i + 1))
+same_term views terms i t within is = λ v.
+    ap (λ (u : Term). plus (first_sum views (terms_view terms) i v) (share views v u)) (sym (term_at terms i t is))
+    ∙ same_more views (terms_view terms) i (term_view t) (omega (arith, within, length-map terms term_view)) v

@@ -1,0 +1,12 @@
+pub mod Beginnings
+pub mod Constants
+pub mod Divisors
+pub mod Finding
+pub mod Insertion
+pub mod Joint
+pub mod Lines
+pub mod Lists
+pub mod Lowest
+pub mod Quotients
+pub mod RowTerms
+pub mod Totals

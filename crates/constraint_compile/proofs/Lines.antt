@@ -1,0 +1,77 @@
+-- The row of a line, put together.
+use Rattle.std.proofs.Common.{◌≡◌, ℕ, zero, suc, ◌+◌, ◌<◌, ◌≤◌, List, [], ◌∷◌, ◌++◌, length, map, take, take_all, get_or, pos, refl, sym, subst, ap, ◌∙◌, arith}
+use Rattle.std.proofs.lemmas.List.{take_more, map_push, get_or_default, get_or-map, length-map}
+use Rattle.script_text.specs.Meaning.{Term}
+use Rattle.script_text.specs.View.{term_view, terms_view}
+use Rattle.script_text.specs.declared.command.ExprTerm.{ExprTerm}
+use Rattle.view_tree.specs.Views.{LiveView}
+use Rattle.constraint_compile.specs.Fractions.{IsScale}
+use Rattle.constraint_compile.specs.Meaning as meaning
+use Rattle.constraint_compile.specs.Meaning.{sum_at}
+use Rattle.constraint_compile.specs.Sums.{first_sum, AreScales}
+use Rattle.constraint_compile.specs.Compiled as compiled
+use Rattle.constraint_compile.specs.Compiled.{last_scale}
+use Rattle.constraint_compile.specs.Keeps.{part_view, step_view, steps_view, metric_name}
+use Rattle.constraint_compile.specs.Stops.{AreSteps}
+use Rattle.constraint_compile.specs.declared.steps.Step.{Step}
+use Rattle.constraint_compile.specs.declared.steps.Part.TheVariants as part
+use Rattle.constraint_compile.proofs.Beginnings.{zero_sum}
+use Rattle.constraint_compile.proofs.Constants.{last_more}
+
+name_at : (terms : List ExprTerm) (i : ℕ) (t : ExprTerm) → i < length terms → t ≡ get_or terms i t → get_or (map metric_name (terms_view terms)) i [] ≡ metric_name (term_view t)
+name_at terms i t within is =
+    get_or-map metric_name (terms_view terms) i (term_view t) [] (omega (arith, within, length-map terms term_view))
+    ∙ ap metric_name (get_or-map term_view terms i t (term_view t) within ∙ sym (ap term_view is))
+
+pub parts_more : (terms : List ExprTerm) (steps : List Step) (i : ℕ) (t : ExprTerm) (s : Step) → i < length terms → t ≡ get_or terms i t
+    → ((names : List (List ℕ)) → get_or names i [] ≡ metric_name (term_view t) → part_view names s.part ≡ meaning.part (term_view t))
+    → ((names : List (List ℕ)) → names ≡ map metric_name (terms_view terms) → map (λ (u : compiled.Step). u.part) (steps_view names steps) ≡ map meaning.part (terms_view (take i terms)))
+    → (names : List (List ℕ)) → names ≡ map metric_name (terms_view terms) → map (λ (u : compiled.Step). u.part) (steps_view names (steps ++ s ∷ [])) ≡ map meaning.part (terms_view (take (i + 1) terms))
+parts_more terms steps i t s within is here before names same =
+    let named : get_or names i [] ≡ metric_name (term_view t) = ap (λ (ns : List (List ℕ)). get_or ns i []) same ∙ name_at terms i t within is in
+    let left : map (λ (u : compiled.Step). u.part) (steps_view names (steps ++ s ∷ [])) ≡ map (λ (u : compiled.Step). u.part) (steps_view names steps) ++ part_view names s.part ∷ [] =
+    ap (map (λ (u : compiled.Step). u.part)) (map_push (step_view names) steps s) ∙ map_push (λ (u : compiled.Step). u.part) (steps_view names steps) (step_view names s) in
+    let right : map meaning.part (terms_view (take (i + 1) terms)) ≡ map meaning.part (terms_view (take i terms)) ++ meaning.part (term_view t) ∷ [] =
+    ap (λ (ts : List ExprTerm). map meaning.part (terms_view ts)) (take_more terms i t within ∙ ap (λ (x : ExprTerm). take i terms ++ x ∷ []) (sym is))
+    ∙ ap (map meaning.part) (map_push term_view (take i terms) t) ∙ map_push meaning.part (terms_view (take i terms)) (term_view t) in
+    left ∙ ap (λ (ps : List meaning.Part). ps ++ part_view names s.part ∷ []) (before names same) ∙ ap (λ (p : meaning.Part). map meaning.part (terms_view (take i terms)) ++ p ∷ []) (here names named) ∙ sym right
+
+pub scales_more_steps : (scales : List ℕ) (steps : List Step) (i : ℕ) (s : Step) → i < length scales → s.scale ≡ get_or scales i 0 → map (λ (u : Step). u.scale) steps ≡ take i scales → map (λ (u : Step). u.scale) (steps ++ s ∷ []) ≡ take (i + 1) scales
+scales_more_steps scales steps i s within is before =
+    map_push (λ (u : Step). u.scale) steps s ∙ ap (λ (ks : List ℕ). ks ++ s.scale ∷ []) before ∙ ap (λ (k : ℕ). take i scales ++ k ∷ []) is ∙ sym (take_more scales i 0 within)
+
+-- the steps of the code are those of the terms
+pub are_steps : (views : List LiveView) (terms : List Term) (names : List (List ℕ)) (steps : List Step) (scales : List ℕ) → AreScales views terms (length terms) scales → length steps ≡ length terms
+    → map (λ (s : Step). s.scale) steps ≡ scales → map (λ (s : compiled.Step). s.part) (steps_view names steps) ≡ map meaning.part terms → AreSteps views terms (steps_view names steps)
+are_steps views terms names steps scales are long same parts = record {
+  long = length-map steps (step_view names) ∙ long;
+  scales = λ i d within. subst (λ (k : ℕ). IsScale (first_sum views terms (i + 1)) k) (sym (scale_at i d within)) (are.each i within);
+  parts = parts;
+}
+  where
+    none : Step
+    none = record { scale = 0; part = part.Nothing }
+
+    scale_at : (i : ℕ) (d : compiled.Step) → i < length terms → (get_or (steps_view names steps) i d).scale ≡ get_or scales i 0
+    scale_at i d within =
+        ap (λ (s : compiled.Step). s.scale) (get_or-map (step_view names) steps i none d (omega (arith, within, long)))
+        ∙ sym (get_or-map (λ (s : Step). s.scale) steps i none 0 (omega (arith, within, long))) ∙ ap (λ (ks : List ℕ). get_or ks i 0) same
+
+no_terms : (views : List LiveView) (terms : List Term) (steps : List compiled.Step) → length terms ≡ 0 → length steps ≡ 0 → IsScale (sum_at views terms) (last_scale steps)
+no_terms views [] [] none nothing = (zero_sum [] [] refl (λ k d h. absurd (omega (arith, h)))).is_scale
+no_terms views [] (s ∷ steps) none nothing = absurd (omega (arith, nothing))
+no_terms views (t ∷ terms) steps none nothing = absurd (omega (arith, none))
+
+pub last_is_scale : (views : List LiveView) (terms : List Term) (steps : List compiled.Step) → AreSteps views terms steps → IsScale (sum_at views terms) (last_scale steps)
+last_is_scale views terms steps are = at (length terms) refl
+  where
+    first : compiled.Step
+    first = record { scale = 0; part = meaning.Nothing }
+
+    at : (n : ℕ) → length terms ≡ n → IsScale (sum_at views terms) (last_scale steps)
+    at zero is = no_terms views terms steps is (are.long ∙ is)
+    at (suc n) is =
+        let whole : take (n + 1) terms ≡ terms = take_all (n + 1) terms (omega (arith, is)) in
+        let whole_steps : take (n + 1) steps ≡ steps = take_all (n + 1) steps (omega (arith, is, are.long)) in
+        let last : last_scale steps ≡ (get_or steps n first).scale = ap last_scale (sym whole_steps) ∙ last_more steps n first (omega (arith, is, are.long)) in
+        subst (λ (ts : List Term). IsScale (sum_at views ts) (last_scale steps)) whole (subst (λ (k : ℕ). IsScale (sum_at views (take (n + 1) terms)) k) (sym last) (are.scales n first (omega (arith, is))))

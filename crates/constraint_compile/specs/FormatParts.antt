@@ -1,0 +1,140 @@
+-- A format as one list of what it says, in the order of its text, the alignment behind all of it.
+use Rattle.std.specs.Prelude.{ℕ, pos, List, [], ◌∷◌, ◌++◌, map, Option, Some, None}
+use Rattle.problem_core.specs.declared.parts.Rel.TheVariants as rel
+use Rattle.span_text.specs.Objects as object
+use Rattle.vfl_text.specs.declared.parts.Axis.{Axis}
+use Rattle.vfl_text.specs.declared.parts.Axis.TheVariants as axis
+use Rattle.vfl_text.specs.Formats.{PredMeaning, GapMeaning, Flush, Standard, Given, ItemMeaning, FormatMeaning}
+use Rattle.script_text.specs.declared.words.Align.{Align}
+use Rattle.script_text.specs.declared.words.Align.TheVariants as align
+use Rattle.script_text.specs.declared.words.AttrWord.{AttrWord}
+use Rattle.script_text.specs.declared.words.AttrWord.TheVariants as word
+use Rattle.constraint_compile.specs.declared.format_parts.Owner.{Owner}
+use Rattle.constraint_compile.specs.declared.format_parts.Owner.TheVariants as owner
+
+-- an attribute of the view of this name, or of that view's parent
+pub record End : Type 0 where
+  pub owner : Owner
+  pub view : List ℕ
+  pub word : AttrWord
+
+-- what a row measures: the first end less the second, or the first alone, which is then a size
+pub record Span : Type 0 where
+  pub plus : End
+  pub minus : Option End
+
+-- the name of a view, the parent's bar beside a view, and a row that is asked for
+pub data Part : Type 0 where
+  View : List ℕ → Part
+  Bar : List ℕ → Part
+  Asks : Span → PredMeaning → Part
+
+-- ---- what is measured
+
+abbrev pub near : Axis → AttrWord
+near axis.H = word.Left
+near axis.V = word.Top
+
+abbrev pub far : Axis → AttrWord
+far axis.H = word.Right
+far axis.V = word.Bottom
+
+abbrev pub extent : Axis → AttrWord
+extent axis.H = word.Width
+extent axis.V = word.Height
+
+abbrev pub own : List ℕ → AttrWord → End
+own name w = record { owner = owner.Itself; view = name; word = w }
+
+abbrev pub parents : List ℕ → AttrWord → End
+parents name w = record { owner = owner.Parent; view = name; word = w }
+
+-- from the parent to its view
+abbrev pub inside_near : Axis → List ℕ → Span
+inside_near a name = record { plus = own name (near a); minus = Some (parents name (near a)) }
+
+-- from one view to the next
+abbrev pub between : Axis → List ℕ → List ℕ → Span
+between a before name = record { plus = own name (near a); minus = Some (own before (far a)) }
+
+-- from the view to its parent
+abbrev pub inside_far : Axis → List ℕ → Span
+inside_far a name = record { plus = parents name (far a); minus = Some (own name (far a)) }
+
+-- the view along the format
+abbrev pub size : Axis → List ℕ → Span
+size a name = record { plus = own name (extent a); minus = None }
+
+-- how far the view is off the one before it
+abbrev pub off : AttrWord → List ℕ → List ℕ → Span
+off w before name = record { plus = own name w; minus = Some (own before w) }
+
+-- ---- rows that are asked for
+
+-- so many thousandths, required
+abbrev pub exactly : ℕ → PredMeaning
+exactly n = record { rel = rel.Eq; object = object.Number (pos n); priority = None }
+
+abbrev pub asks : Span → List PredMeaning → List Part
+asks s ps = map (Asks s) ps
+
+-- a connection, and the space that is usual there, in thousandths
+abbrev pub gap_parts : Span → ℕ → GapMeaning → List Part
+gap_parts s usual Flush = Asks s (exactly 0) ∷ []
+gap_parts s usual Standard = Asks s (exactly usual) ∷ []
+gap_parts s usual (Given ps) = asks s ps
+
+abbrev pub item_parts : Axis → ItemMeaning → List Part
+item_parts a i = View i.name ∷ asks (size a i.name) i.sizes
+
+-- the views behind the one of this name, each with the connection before it
+abbrev pub chain_parts : Axis → List ℕ → List GapMeaning → List ItemMeaning → List Part
+chain_parts a before [] is = []
+chain_parts a before (g ∷ gs) [] = []
+chain_parts a before (g ∷ gs) (i ∷ is) = gap_parts (between a before i.name) 8000 g ++ (item_parts a i ++ chain_parts a i.name gs is)
+
+abbrev pub front_parts : Axis → List ℕ → Option GapMeaning → List Part
+front_parts a name None = []
+front_parts a name (Some g) = Bar name ∷ gap_parts (inside_near a name) 20000 g
+
+abbrev pub back_parts : Axis → List ℕ → Option GapMeaning → List Part
+back_parts a name None = []
+back_parts a name (Some g) = Bar name ∷ gap_parts (inside_far a name) 20000 g
+
+-- ---- alignment
+
+abbrev pub aligned_word : Align → AttrWord
+aligned_word align.Left = word.Left
+aligned_word align.Right = word.Right
+aligned_word align.Top = word.Top
+aligned_word align.Bottom = word.Bottom
+aligned_word align.CenterX = word.CenterX
+aligned_word align.CenterY = word.CenterY
+
+-- the views behind the one of this name, each level with the one before it
+abbrev pub level_parts : AttrWord → List ℕ → List ItemMeaning → List Part
+level_parts w before [] = []
+level_parts w before (i ∷ is) = Asks (off w before i.name) (exactly 0) ∷ level_parts w i.name is
+
+abbrev pub align_parts : Option Align → List ℕ → List ItemMeaning → List Part
+align_parts None first is = []
+align_parts (Some a) first is = level_parts (aligned_word a) first is
+
+-- ---- the whole
+
+-- the name of the last one, where this one stands in front
+abbrev pub last_name : List ℕ → List ItemMeaning → List ℕ
+last_name name [] = name
+last_name name (i ∷ is) = last_name i.name is
+
+abbrev pub parts_over : FormatMeaning → Option Align → List ItemMeaning → List Part
+parts_over f align [] = []
+parts_over f align (i ∷ is) =
+    front_parts f.axis i.name f.from_parent
+    ++ (item_parts f.axis i
+    ++ (chain_parts f.axis i.name f.gaps is
+    ++ (back_parts f.axis (last_name i.name is) f.to_parent
+    ++ align_parts align i.name is)))
+
+unfoldable pub parts : FormatMeaning → Option Align → List Part
+parts f align = parts_over f align f.items

@@ -1,0 +1,53 @@
+-- Sums of fractions that need not be in lowest terms, and the numbers that make them whole.
+use Rattle.std.specs.Prelude.{◌≡◌, ℕ, ◌*◌, ◌<◌, ◌≤◌, ◌^◌, List, [], ◌∷◌, ℤ, pos, neg_ℤ, ◌+ℤ◌, ◌*ℤ◌, unsigned_abs}
+use Rattle.frac_core.specs.Fraction.{Fraction, IsLowest, IsRatio}
+
+abbrev pub zero_fraction : Fraction
+zero_fraction = record { num = pos 0; den = 1 }
+
+abbrev pub plus : Fraction → Fraction → Fraction
+plus f g = record { num = f.num *ℤ pos g.den +ℤ g.num *ℤ pos f.den; den = f.den * g.den }
+
+abbrev pub times : Fraction → Fraction → Fraction
+times f g = record { num = f.num *ℤ g.num; den = f.den * g.den }
+
+abbrev pub negated : Fraction → Fraction
+negated f = record { num = neg_ℤ f.num; den = f.den }
+
+-- the sum of f over a list
+abbrev pub total : {A : Type 0} → (A → Fraction) → List A → Fraction
+total f [] = zero_fraction
+total f (x ∷ xs) = plus (f x) (total f xs)
+
+-- z over k is the fraction
+abbrev pub IsOver : ℕ → Fraction → ℤ → Type 0
+IsOver k f z = z *ℤ pos f.den ≡ pos k *ℤ f.num
+
+-- k times each of the coefficients is whole
+abbrev pub MakesWhole : ℕ → (ℕ → Fraction) → Type 0
+MakesWhole k b = (v : ℕ) → (z : ℤ) × IsOver k (b v) z
+
+-- k is the least number of at least 1 that makes each coefficient whole
+pub record IsScale (b : ℕ → Fraction) (k : ℕ) : Type 0 where
+  pub above : 0 < k
+  pub whole : MakesWhole k b
+  pub least : (j : ℕ) → 0 < j → MakesWhole j b → k ≤ j
+
+-- the scale, and each coefficient times the scale, are at most 2^30 in size
+pub record AreSmall (b : ℕ → Fraction) : Type 0 where
+  pub scale : ℕ
+  pub is_scale : IsScale b scale
+  pub small_scale : scale ≤ 2 ^ 30
+  pub small : (v : ℕ) (z : ℤ) → IsOver scale (b v) z → unsigned_abs z ≤ 2 ^ 30
+
+-- c is -k*e in lowest terms
+pub record IsConstant (k : ℕ) (e c : Fraction) : Type 0 where
+  pub lowest : IsLowest c
+  pub value : IsRatio c (neg_ℤ (pos k *ℤ e.num)) (pos e.den)
+
+-- both parts of -k*e in lowest terms are below 2^40 in size
+pub record IsSmallConstant (k : ℕ) (e : Fraction) : Type 0 where
+  pub constant : Fraction
+  pub is_constant : IsConstant k e constant
+  pub num_small : unsigned_abs constant.num < 2 ^ 40
+  pub den_small : constant.den < 2 ^ 40

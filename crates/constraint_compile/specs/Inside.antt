@@ -1,0 +1,25 @@
+-- What a compiled line is made of.
+use Rattle.std.specs.Prelude.{ℕ, ◌<◌, ◌≤◌, ◌^◌, List, map, length, All, AllPairs}
+use Rattle.problem_core.specs.Kept.{IsTerm}
+use Rattle.view_tree.specs.declared.view.ViewId.{ViewId}
+use Rattle.constraint_compile.specs.Compiled as compiled
+use Rattle.constraint_compile.specs.Keeps.{steps_view, AreScalesKept}
+use Rattle.constraint_compile.specs.declared.compiled.RowForm.{RowForm}
+
+abbrev pub form_view : List (List ℕ) → RowForm → compiled.RowForm
+form_view names r = record { id = r.id; rank = r.rank; weight = r.weight; rel = r.rel; terms = r.terms.items; steps = steps_view names r.steps.items }
+
+abbrev pub line_of : List RowForm → List (List ℕ) → List ViewId → compiled.CompiledLine
+line_of rows names views = record { rows = map (form_view names) rows; views = map (λ v. v.0) views }
+
+pub record IsForm (r : RowForm) : Type 0 where
+  pub number : (0 < r.id) × (r.id < 2 ^ 31)
+  pub rank : r.rank ≤ 1000
+  pub weight : (0 < r.weight) × (r.weight ≤ 1000)
+  pub each : All IsTerm r.terms.items
+  pub rising : AllPairs (λ s t. s.attr < t.attr) r.terms.items
+  pub count : length r.terms.items ≤ 32
+  pub scales : AreScalesKept r.steps.items
+
+abbrev pub AreForms : List RowForm → Type 0
+AreForms rows = All IsForm rows

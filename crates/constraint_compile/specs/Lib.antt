@@ -1,0 +1,13 @@
+pub mod Compiled
+pub mod FormatLines
+pub mod FormatParts
+pub mod FormatRefusals
+pub mod FormatStops
+pub mod FormatViews
+pub mod Fractions
+pub mod Inside
+pub mod Keeps
+pub mod Meaning
+pub mod Shares
+pub mod Stops
+pub mod Sums

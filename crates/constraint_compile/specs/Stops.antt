@@ -1,0 +1,92 @@
+-- When a line isn't compiled.
+use Rattle.std.specs.Prelude.{◌≡◌, ◌≢◌, ℕ, ◌+◌, ◌<◌, ◌≤◌, ◌^◌, Bool, true, false, List, [], ◌∷◌, length, map, take, Option, None, Some, slice_index_or, ⊤}
+use Rattle.std.specs.List.{Any}
+use Rattle.name_tables.specs.declared.stops.LimitWord.{LimitWord}
+use Rattle.name_tables.specs.declared.stops.LimitWord.TheVariants as limit
+use Rattle.view_tree.specs.Views.{LiveView}
+use Rattle.script_text.specs.Meaning.{Term, Linear}
+use Rattle.constraint_compile.specs.Fractions.{IsScale, AreSmall}
+use Rattle.constraint_compile.specs.Meaning.{MetricList, part, terms_of, sum_at, first_unknown, has_view_number, IsRank, IsInThousand, views_in}
+use Rattle.constraint_compile.specs.Sums.{first_sum, HasTooMany, AreTerms}
+use Rattle.constraint_compile.specs.Compiled.{Step, RowForm, CompiledLine, AreSmallSteps, last_scale}
+use Rattle.constraint_compile.specs.declared.stops.CompileStop.{CompileStop}
+use Rattle.constraint_compile.specs.declared.stops.CompileStop.TheVariants.{Unknown, Kind, Limit, OutOfMemory}
+use Rattle.constraint_compile.specs.declared.stops.KindWord.{KindWord}
+use Rattle.constraint_compile.specs.declared.stops.KindWord.TheVariants as kind
+
+-- each name of the line is a view's or a metric's where it must be
+abbrev pub AreKnown : List LiveView → MetricList → Linear → Type 0
+AreKnown views metrics l = first_unknown views metrics l ≡ None
+
+abbrev pub HasRank : List LiveView → MetricList → Linear → Type 0
+HasRank views metrics l = (rank : ℕ) × IsRank views metrics l.priority rank
+
+-- the first wrong use of the line
+abbrev pub IsWrongUse : List LiveView → MetricList → Linear → KindWord → Type 0
+IsWrongUse views metrics l kind.Object = has_view_number views (terms_of l) ≡ true
+IsWrongUse views metrics l kind.Priority = (has_view_number views (terms_of l) ≡ false) × (HasRank views metrics l → ⊥)
+IsWrongUse views metrics l kind.Weight = (has_view_number views (terms_of l) ≡ false) × HasRank views metrics l × (IsInThousand l.weight → ⊥)
+IsWrongUse views metrics l _ = ⊥
+
+-- no use in the line is wrong
+pub record IsUsable (views : List LiveView) (metrics : MetricList) (l : Linear) : Type 0 where
+  pub known : AreKnown views metrics l
+  pub numbers : has_view_number views (terms_of l) ≡ false
+  pub rank : HasRank views metrics l
+  pub weight : IsInThousand l.weight
+
+-- after each term the scale and the coefficients are small
+abbrev pub AreSmallSums : List LiveView → List Term → Type 0
+AreSmallSums views terms = (i : ℕ) → i < length terms → AreSmall (first_sum views terms (i + 1))
+
+-- the steps are those of the terms: the scale after each, and what each adds to the constant
+pub record AreSteps (views : List LiveView) (terms : List Term) (steps : List Step) : Type 0 where
+  pub long : length steps ≡ length terms
+  pub scales : (i : ℕ) (d : Step) → i < length terms → IsScale (first_sum views terms (i + 1)) (slice_index_or steps i d).scale
+  pub parts : map (λ s. s.part) steps ≡ map part terms
+
+-- the row of a line: its rank, weight and relation, the scale and the coefficients of the sum of its terms, and the steps of its constant
+pub record IsRowOf (views : List LiveView) (metrics : MetricList) (l : Linear) (number : ℕ) (row : RowForm) : Type 0 where
+  pub id : row.id ≡ number
+  pub rank : IsRank views metrics l.priority row.rank
+  pub weight : row.weight ≡ l.weight
+  pub rel : row.rel ≡ l.rel
+  pub scale : IsScale (sum_at views (terms_of l)) (last_scale row.steps)
+  pub terms : AreTerms (sum_at views (terms_of l)) (last_scale row.steps) row.terms
+  pub few : length row.terms ≤ 32
+  pub steps : AreSteps views (terms_of l) row.steps
+
+-- a line within all limits, and what it is compiled to
+pub record IsCompiled (views : List LiveView) (metrics : MetricList) (l : Linear) (number : ℕ) (c : CompiledLine) : Type 0 where
+  pub usable : IsUsable views metrics l
+  pub numbers : number < 2 ^ 31
+  pub count : length (terms_of l) ≤ 64
+  pub small : AreSmallSums views (terms_of l)
+  pub row : (r : RowForm) × (c.rows ≡ r ∷ []) × IsRowOf views metrics l number r × AreSmallSteps metrics r.steps
+  pub views_named : c.views ≡ views_in views (terms_of l)
+
+-- the limit that is passed first
+abbrev pub PassesLimit : List LiveView → MetricList → Linear → ℕ → LimitWord → Type 0
+PassesLimit views metrics l number limit.Rows = 2 ^ 31 ≤ number
+PassesLimit views metrics l number limit.Terms = (number < 2 ^ 31) × (64 < length (terms_of l))
+PassesLimit views metrics l number limit.Attributes = (number < 2 ^ 31) × (length (terms_of l) ≤ 64) × HasTooMany (sum_at views (terms_of l))
+PassesLimit views metrics l number limit.Coefficient = (number < 2 ^ 31) × (length (terms_of l) ≤ 64) × (AreSmallSums views (terms_of l) → ⊥)
+PassesLimit views metrics l number limit.Constant = (number < 2 ^ 31) × (length (terms_of l) ≤ 64) × AreSmallSums views (terms_of l)
+    × ((steps : List Step) × AreSteps views (terms_of l) steps × (AreSmallSteps metrics steps → ⊥))
+PassesLimit views metrics l number _ = ⊥
+
+-- when a line may be refused
+abbrev pub MayStop : List LiveView → MetricList → Linear → ℕ → CompileStop → Type 0
+MayStop views metrics l number (Unknown name) = first_unknown views metrics l ≡ Some name
+MayStop views metrics l number (Kind word) = AreKnown views metrics l × IsWrongUse views metrics l word
+MayStop views metrics l number (Limit word) = IsUsable views metrics l × PassesLimit views metrics l number word
+MayStop views metrics l number OutOfMemory = ⊤
+
+-- why the sum of terms has no row
+abbrev pub IsSumStop : List LiveView → List Term → CompileStop → Type 0
+IsSumStop views terms (Limit limit.Attributes) = HasTooMany (sum_at views terms)
+IsSumStop views terms (Limit limit.Coefficient) = AreSmallSums views terms → ⊥
+IsSumStop views terms (Limit _) = ⊥
+IsSumStop views terms OutOfMemory = ⊤
+IsSumStop views terms (Unknown name) = ⊥
+IsSumStop views terms (Kind word) = ⊥

@@ -1,0 +1,172 @@
+// The attributes that terms have.
+ghost use Rattle.std.specs.Prelude.{◌≡◌, ◌≢◌, ℕ, ◌<◌, ◌≤◌, ◌^◌, [], ◌∷◌, pos, false, length, slice_index_or, All, AllPairs, IsTrue, IfOk, IfSome, IfNone, OnOk};
+ghost use Rattle.std.specs.Option.{option_map};
+ghost use Rattle.script_text.specs.View.{term_view, terms_view};
+ghost use Rattle.view_tree.specs.Views.{view_named};
+ghost use Rattle.problem_core.specs.Kept.{IsNumber};
+ghost use Rattle.constraint_compile.specs.Fractions.{zero_fraction};
+ghost use Rattle.constraint_compile.specs.Meaning as meaning;
+ghost use Rattle.constraint_compile.specs.Meaning.{share};
+ghost use Rattle.constraint_compile.specs.Shares.{form, share_fraction, AreHalves, IsOff};
+
+use frac_core::{Frac, OutOfMemory};
+use problem_core::Term;
+use script_text::{AttrWord, ExprTerm, Operand};
+use std::alloc::Global;
+use view_tree::{Tree, ViewId};
+
+/// Twice an attribute, by an edge and a size that are kept.
+#[derive(Clone, Copy, Debug)]
+pub(crate) struct Doubled {
+    pub edge: Term,
+    pub size: Term,
+}
+
+/// So many times half of a sum of attributes.
+#[derive(Clone, Copy, Debug)]
+pub(crate) struct Share {
+    pub by: Frac,
+    pub of: Doubled,
+}
+
+fn times(attr: u32, by: u8) -> Term
+    ensures { result ≡ record { attr = attr; by = pos by } }
+{
+    Term {
+        attr,
+        by: i64::from(by),
+    }
+}
+
+fn horizontal(view: ViewId, edge: u8, size: u8) -> Doubled
+    requires { view.0 < 2 ^ 29 }
+    ensures { form result ≡ meaning.horizontal view.0 edge size }
+{
+    Doubled {
+        edge: times(4 * view.0 + 1, edge),
+        size: times(4 * view.0 + 3, size),
+    }
+}
+
+fn vertical(view: ViewId, edge: u8, size: u8) -> Doubled
+    requires { view.0 < 2 ^ 29 }
+    ensures { form result ≡ meaning.vertical view.0 edge size }
+{
+    Doubled {
+        edge: times(4 * view.0 + 2, edge),
+        size: times(4 * view.0 + 4, size),
+    }
+}
+
+// Twice an attribute of a view.
+fn twice(view: ViewId, word: AttrWord) -> Doubled
+    requires { view.0 < 2 ^ 29 }
+    ensures form { form result ≡ meaning.doubled view.0 word }
+    ensures halves { AreHalves result }
+{
+    match word {
+        AttrWord::Left => horizontal(view, 2, 0),
+        AttrWord::Leading => horizontal(view, 2, 0),
+        AttrWord::Right => horizontal(view, 2, 2),
+        AttrWord::Trailing => horizontal(view, 2, 2),
+        AttrWord::CenterX => horizontal(view, 2, 1),
+        AttrWord::Width => horizontal(view, 0, 2),
+        AttrWord::Top => vertical(view, 2, 0),
+        AttrWord::Bottom => vertical(view, 2, 2),
+        AttrWord::CenterY => vertical(view, 2, 1),
+        AttrWord::Height => vertical(view, 0, 2),
+    }
+}
+
+// The number of a view.
+fn number_of(tree: &Tree, name: &str) -> Option<ViewId>
+    ensures id { option_map (λ id. id.0) result ≡ option_map (λ v. v.id) (view_named tree.now.views name.now) }
+    ensures within { IfSome result (λ id. id.0 < 2 ^ 29) }
+{
+    let _count = tree.len();
+    tree.find(name)
+}
+
+/// What a term has of the attributes of views.
+pub(crate) fn share_of(tree: &Tree, term: &ExprTerm<'_>) -> Option<Share>
+    ensures some { IfSome result (λ s. (v : ℕ) → share tree.now.views v (term_view term.now) ≡ share_fraction s v) }
+    ensures halves { IfSome result (λ s. AreHalves s.of) }
+    ensures none { IfNone result ((v : ℕ) → share tree.now.views v (term_view term.now) ≡ zero_fraction) }
+{
+    match term.of {
+        Operand::Attr { view, word } => {
+            let id = number_of(tree, view)?;
+            Some(Share {
+                by: term.by,
+                of: twice(id, word),
+            })
+        }
+        Operand::Metric { name: _ } => None,
+        Operand::One => None,
+    }
+}
+
+// The place of the first attribute that isn't below this one.
+fn place_of(attrs: &[u32], attr: u32) -> usize
+    ensures within { result ≤ length attrs.now }
+    ensures below { (k d : ℕ) → k < result → slice_index_or attrs.now k d < attr }
+    ensures here { (d : ℕ) → result < length attrs.now → attr ≤ slice_index_or attrs.now result d }
+{
+    attrs.iter().position(|a| *a >= attr).unwrap_or(attrs.len())
+}
+
+fn stands_at(attrs: &[u32], place: usize, attr: u32) -> bool
+    ensures yes { IsTrue result → (place < length attrs.now) × ((d : ℕ) → slice_index_or attrs.now place d ≡ attr) }
+    ensures no { result ≡ false → (d : ℕ) → place < length attrs.now → slice_index_or attrs.now place d ≢ attr }
+{
+    place < attrs.len() && attrs[place] == attr
+}
+
+// Puts an attribute in its place among rising ones, unless it is there.
+fn include(attrs: &mut Vec<u32>, attr: u32) -> Result<(), OutOfMemory>
+    requires rising { AllPairs (λ a b. a < b) attrs.old.items }
+    requires numbers { All IsNumber attrs.old.items }
+    requires number { IsNumber attr }
+    ensures rising { OnOk result (AllPairs (λ a b. a < b) attrs.new.items) }
+    ensures numbers { OnOk result (All IsNumber attrs.new.items) }
+    ensures off { OnOk result ((v : ℕ) → IsOff attrs.new.items v → IsOff attrs.old.items v × (attr ≢ v)) }
+{
+    let place = place_of(attrs, attr);
+    if stands_at(attrs, place, attr) {
+        return Ok(());
+    }
+    attrs.insert(place, attr)?;
+    Ok(())
+}
+
+// Puts the attributes of a term among the others.
+fn include_term(attrs: &mut Vec<u32>, tree: &Tree, term: &ExprTerm<'_>) -> Result<(), OutOfMemory>
+    requires rising { AllPairs (λ a b. a < b) attrs.old.items }
+    requires numbers { All IsNumber attrs.old.items }
+    ensures rising { OnOk result (AllPairs (λ a b. a < b) attrs.new.items) }
+    ensures numbers { OnOk result (All IsNumber attrs.new.items) }
+    ensures off { OnOk result ((v : ℕ) → IsOff attrs.new.items v → IsOff attrs.old.items v × ((share tree.now.views v (term_view term.now)).num ≡ pos 0)) }
+{
+    if let Some(share) = share_of(tree, term) {
+        include(attrs, share.of.edge.attr)?;
+        include(attrs, share.of.size.attr)?;
+    }
+    Ok(())
+}
+
+/// The attributes of the terms, each once, by rising number.
+pub(crate) fn attributes(
+    alloc: Global,
+    tree: &Tree,
+    terms: &[ExprTerm<'_>],
+) -> Result<Vec<u32>, OutOfMemory>
+    ensures rising { IfOk result (λ attrs. AllPairs (λ a b. a < b) attrs.items) }
+    ensures numbers { IfOk result (λ attrs. All IsNumber attrs.items) }
+    ensures off { IfOk result (λ attrs. (v : ℕ) → IsOff attrs.items v → All (λ t. (share tree.now.views v (term_view t)).num ≡ pos 0) terms.now) }
+{
+    let mut attrs = Vec::new(alloc);
+    for term in terms {
+        include_term(&mut attrs, tree, term)?;
+    }
+    Ok(attrs)
+}

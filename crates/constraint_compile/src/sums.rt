@@ -1,0 +1,172 @@
+// Sums of terms, over a common scale.
+ghost use Rattle.std.specs.Prelude.{◌≡◌, ℕ, ◌<◌, ◌≤◌, ◌*◌, ◌^◌, ◌*ℤ◌, ◌<ℤ◌, pos, length, if◌then◌else◌, ◌==◌, All, AllPairs, IfOk, IfSome, IfNone, unsigned_abs};
+ghost use Prim.Native.Nat.{◌∣◌};
+ghost use Rattle.frac_core.specs.Fraction.{Fraction};
+ghost use Rattle.problem_core.specs.Layout.{coefficient};
+ghost use Rattle.constraint_compile.specs.Fractions.{AreSmall};
+ghost use Rattle.constraint_compile.specs.Shares.{form, AreHalves};
+ghost use Rattle.constraint_compile.specs.Sums.{AreKept, IsSum, IsCovered, IsDivisor, AreDivided, IsPast, attr_at, number_at, with_share, with_share_number};
+
+use crate::attributes::{Doubled, Share};
+use crate::wide::{product, quotient, total};
+use frac_core::{Frac, OutOfMemory, gcd};
+use problem_core::Term;
+use std::alloc::Global;
+
+/// The greatest size of a coefficient and of a scale.
+pub const COEFFICIENT_LIMIT: u32 = 1 << 30;
+
+/// A sum of terms: each attribute of a list of them has the number at its place, over the scale.
+#[derive(Drop, Debug)]
+pub(crate) struct Sum {
+    pub scale: u32,
+    pub numbers: Vec<i64>,
+}
+
+fn at(term: Term, attr: u32) -> i64
+    requires { unsigned_abs term.by ≤ 2 }
+    ensures value { result ≡ (if term.attr == attr then term.by else pos 0) }
+    ensures small { unsigned_abs result ≤ 2 }
+{
+    if term.attr == attr { term.by } else { 0 }
+}
+
+// How many halves of an attribute there are.
+fn halves(of: &Doubled, attr: u32) -> i64
+    requires { AreHalves of.now }
+    ensures value { result ≡ coefficient attr (form of.now) }
+    ensures small { unsigned_abs result ≤ 4 }
+{
+    at(of.edge, attr) + at(of.size, attr)
+}
+
+// So many halves over the scale.
+fn scaled_halves(of: &Doubled, attr: u32, scale: u32) -> i64
+    requires halves { AreHalves of.now }
+    requires scale { scale ≤ 2 ^ 30 }
+    ensures value { result ≡ pos scale *ℤ coefficient attr (form of.now) }
+    ensures small { unsigned_abs result < 2 ^ 44 }
+{
+    i64::from(scale) * halves(of, attr)
+}
+
+// Twice the denominator.
+fn double_den(f: Frac) -> i64
+    ensures value { result ≡ pos (f.den * 2) }
+    ensures small { unsigned_abs result < 2 ^ 44 }
+    ensures above { 0 < f.den }
+{
+    f.den() * 2
+}
+
+// The number of an attribute over the scale times twice the share's denominator, with the share added.
+fn with_more(number: i64, scale: u32, share: &Share, attr: u32) -> i128
+    requires number { unsigned_abs number ≤ 2 ^ 30 }
+    requires scale { scale ≤ 2 ^ 30 }
+    requires halves { AreHalves share.now.of }
+    ensures { result ≡ with_share_number number scale share.now attr }
+{
+    total(
+        product(number, double_den(share.by)),
+        product(share.by.num(), scaled_halves(&share.of, attr, scale)),
+    )
+}
+
+// The numbers with the share added, over the scale times twice the share's denominator.
+fn widened(alloc: Global, attrs: &[u32], sum: &Sum, share: &Share) -> Result<Vec<i128>, OutOfMemory>
+    requires kept { AreKept attrs.now sum.now.scale sum.now.numbers.items }
+    requires halves { AreHalves share.now.of }
+    ensures long { IfOk result (λ wide. length wide.items ≡ length attrs.now) }
+    ensures each { IfOk result (λ wide. (i : ℕ) → i < length attrs.now → number_at wide.items i ≡ with_share_number (number_at sum.now.numbers.items i) sum.now.scale share.now (attr_at attrs.now i)) }
+{
+    let mut wide = Vec::with_capacity(alloc, attrs.len())?;
+    for place in 0..attrs.len() {
+        let more = with_more(sum.numbers[place], sum.scale, share, attrs[place]);
+        wide.push(more)?;
+    }
+    Ok(wide)
+}
+
+// A common divisor of all.
+fn common_divisor(whole: u128, numbers: &[i128]) -> u128
+    ensures { IsDivisor whole numbers.now result }
+{
+    let mut divisor = whole;
+    for number in numbers {
+        divisor = gcd(number.unsigned_abs(), divisor);
+    }
+    divisor
+}
+
+// The exact quotient, unless it is past the limit.
+fn small_quotient(number: i128, divisor: i128) -> Option<i64>
+    requires above { pos 0 <ℤ divisor }
+    requires divides { unsigned_abs divisor ∣ unsigned_abs number }
+    ensures value { IfSome result (λ z. divisor *ℤ z ≡ number) }
+    ensures small { IfSome result (λ z. unsigned_abs z ≤ 2 ^ 30) }
+    ensures past { IfNone result (unsigned_abs divisor * 2 ^ 30 < unsigned_abs number) }
+{
+    let by = quotient(number, divisor);
+    if by.unsigned_abs() > u128::from(COEFFICIENT_LIMIT) {
+        return None;
+    }
+    Some(by as i64)
+}
+
+// The numbers divided, unless a quotient is past the limit.
+fn divided(alloc: Global, wide: &[i128], divisor: i128) -> Result<Option<Vec<i64>>, OutOfMemory>
+    requires above { pos 0 <ℤ divisor }
+    requires divides { All (λ z. unsigned_abs divisor ∣ unsigned_abs z) wide.now }
+    ensures some { IfOk result (λ o. IfSome o (λ out. AreDivided wide.now divisor out.items)) }
+    ensures none { IfOk result (λ o. IfNone o (IsPast wide.now divisor)) }
+{
+    let mut out = Vec::with_capacity(alloc, wide.len())?;
+    for number in wide {
+        match small_quotient(*number, divisor) {
+            Some(small) => out.push(small)?,
+            None => return Ok(None),
+        }
+    }
+    Ok(Some(out))
+}
+
+// The scale times twice the denominator.
+fn whole_of(scale: u32, f: Frac) -> u128
+    requires above { 0 < scale }
+    requires small { scale ≤ 2 ^ 30 }
+    ensures value { result ≡ scale * (f.den * 2) }
+    ensures above { 0 < result }
+    ensures small { result < 2 ^ 80 }
+    ensures den { 0 < f.den }
+{
+    u128::from(scale) * (f.den() as u128 * 2)
+}
+
+/// The sum with a share more, unless the scale or a number would be past the limit.
+pub(crate) fn added(
+    alloc: Global,
+    attrs: &[u32],
+    sum: &Sum,
+    share: &Share,
+) -> Result<Option<Sum>, OutOfMemory>
+    requires kept { AreKept attrs.now sum.now.scale sum.now.numbers.items }
+    requires halves { AreHalves share.now.of }
+    ensures kept { IfOk result (λ o. IfSome o (λ next. AreKept attrs.now next.scale next.numbers.items)) }
+    ensures sum { IfOk result (λ o. IfSome o (λ next. (b : ℕ → Fraction) → IsSum b attrs.now sum.now.scale sum.now.numbers.items → IsCovered attrs.now share.now → IsSum (with_share b share.now) attrs.now next.scale next.numbers.items)) }
+    ensures past { IfOk result (λ o. IfNone o ((b : ℕ → Fraction) → IsSum b attrs.now sum.now.scale sum.now.numbers.items → IsCovered attrs.now share.now → AreSmall (with_share b share.now) → ⊥)) }
+{
+    let wide = widened(alloc, attrs, sum, share)?;
+    let whole = whole_of(sum.scale, share.by);
+    let divisor = common_divisor(whole, &wide);
+    let scale = whole / divisor;
+    if scale > u128::from(COEFFICIENT_LIMIT) {
+        return Ok(None);
+    }
+    match divided(alloc, &wide, divisor as i128)? {
+        Some(numbers) => Ok(Some(Sum {
+            scale: scale as u32,
+            numbers,
+        })),
+        None => Ok(None),
+    }
+}

@@ -1,0 +1,33 @@
+// Products and sums in 128 bits.
+ghost use Rattle.std.specs.Prelude.{◌≡◌, ◌^◌, ◌<◌, ◌≤◌, ◌+◌, ◌*◌, ◌+ℤ◌, ◌*ℤ◌, ◌<ℤ◌, pos, unsigned_abs};
+ghost use Prim.Native.Nat.{◌∣◌};
+
+pub(crate) fn product(x: i64, y: i64) -> i128
+    requires x { unsigned_abs x < 2 ^ 44 }
+    requires y { unsigned_abs y < 2 ^ 44 }
+    ensures value { result ≡ x *ℤ y }
+    ensures small { unsigned_abs result < 2 ^ 88 }
+{
+    i128::from(x) * i128::from(y)
+}
+
+pub(crate) fn total(x: i128, y: i128) -> i128
+    requires x { unsigned_abs x < 2 ^ 125 }
+    requires y { unsigned_abs y < 2 ^ 125 }
+    ensures value { result ≡ x +ℤ y }
+    ensures size { unsigned_abs result ≤ unsigned_abs x + unsigned_abs y }
+{
+    x + y
+}
+
+// The exact quotient.
+pub(crate) fn quotient(number: i128, divisor: i128) -> i128
+    requires above { pos 0 <ℤ divisor }
+    requires divides { unsigned_abs divisor ∣ unsigned_abs number }
+    ensures { divisor *ℤ result ≡ number }
+{
+    if divisor == 1 {
+        return number;
+    }
+    number / divisor
+}
