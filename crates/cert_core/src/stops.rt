@@ -1,0 +1,35 @@
+// What ends a run from corner to corner before its goal.
+ghost use Rattle.std.specs.Prelude.{◌≡◌};
+
+use crate::conflict::Conflict;
+use crate::path::Path;
+use frac_core::OutOfMemory;
+use problem_core::Quantity;
+
+/// A path, and a quantity that does not fit at its last corner.
+#[derive(Clone, Debug, Drop)]
+pub struct UnfitPath {
+    pub path: Path,
+    pub quantity: Quantity,
+}
+
+/// What ends a run: the required rows are in conflict, a quantity does not fit, the exchanges are used up, what the run found was not
+/// shown to be right, or memory is wanting.
+#[derive(Debug, Drop)]
+pub enum RunStop {
+    Conflict(Conflict),
+    Unfit(UnfitPath),
+    Spent(Path),
+    Unshown,
+    OutOfMemory,
+}
+
+impl From<OutOfMemory> for RunStop {
+    ghost use Rattle.cert_core.specs.declared.stops.RunStop.TheVariants.{OutOfMemory};
+
+    ghost from_gives = { λ _ stop. stop ≡ OutOfMemory };
+
+    fn from(_: OutOfMemory) -> RunStop {
+        RunStop::OutOfMemory
+    }
+}
