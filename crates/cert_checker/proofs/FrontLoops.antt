@@ -64,13 +64,13 @@ names-more ws i d at l =
 
 -- ---- the numbers of a line
 
-under-is : (m : Multipliers) (l : Line) (level : ℕ) (facts : Facts) (scale : ℕ) (times : ℤ) → l.level ≡ facts.own → l.weight ≡ facts.weight → l.rel ≡ facts.rel → pos l.scale ≡ facts.scale → m.scale level ≡ scale → m.times level l.name ≡ times → under m l level ≡ reduced facts Under level scale times
+pub under-is : (m : Multipliers) (l : Line) (level : ℕ) (facts : Facts) (scale : ℕ) (times : ℤ) → l.level ≡ facts.own → l.weight ≡ facts.weight → l.rel ≡ facts.rel → pos l.scale ≡ facts.scale → m.scale level ≡ scale → m.times level l.name ≡ times → under m l level ≡ reduced facts Under level scale times
 under-is m l level facts scale times own weight rel shift is_scale is_times =
     ap₂ (λ (a b : ℤ). a -ℤ b)
     (ap pos (ap₂ (λ (a b : ℕ). a * b) is_scale (ap₂ (λ (r : Rel) (w : ℕ). under_weight r w) rel (ap₂ (λ (o w : ℕ). cond (nat_eq o level) w 0) own weight))))
     (ap₂ (λ (a b : ℤ). a *ℤ b) shift is_times)
 
-over-is : (m : Multipliers) (l : Line) (level : ℕ) (facts : Facts) (scale : ℕ) (times : ℤ) → l.level ≡ facts.own → l.weight ≡ facts.weight → l.rel ≡ facts.rel → pos l.scale ≡ facts.scale → m.scale level ≡ scale → m.times level l.name ≡ times → over m l level ≡ reduced facts Over level scale times
+pub over-is : (m : Multipliers) (l : Line) (level : ℕ) (facts : Facts) (scale : ℕ) (times : ℤ) → l.level ≡ facts.own → l.weight ≡ facts.weight → l.rel ≡ facts.rel → pos l.scale ≡ facts.scale → m.scale level ≡ scale → m.times level l.name ≡ times → over m l level ≡ reduced facts Over level scale times
 over-is m l level facts scale times own weight rel shift is_scale is_times =
     ap₂ (λ (a b : ℤ). a +ℤ b)
     (ap pos (ap₂ (λ (a b : ℕ). a * b) is_scale (ap₂ (λ (r : Rel) (w : ℕ). over_weight r w) rel (ap₂ (λ (o w : ℕ). cond (nat_eq o level) w 0) own weight))))

@@ -14,3 +14,6 @@ pub mod Levels
 pub mod Columns
 pub mod FrontLoops
 pub mod Unseen
+pub mod Wholes
+pub mod Certified
+pub mod Givens

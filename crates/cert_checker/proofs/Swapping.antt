@@ -37,7 +37,7 @@ cond-times false y g = zero-mul_ℤ g ∙ sym (mul-zero_ℤ y)
 unfoldable pub picked : (Line → ℤ) → List Line → RowName → ℤ
 picked g ls row = sum_of (λ l. cond (same_row row l.name) (g l) (pos 0)) ls
 
-zeros : (g : Line → ℤ) (ls : List Line) → sum_of (λ l. pos 0 *ℤ g l) ls ≡ pos 0
+pub zeros : (g : Line → ℤ) (ls : List Line) → sum_of (λ l. pos 0 *ℤ g l) ls ≡ pos 0
 zeros g [] = refl
 zeros g (l ∷ ls) = omega (arith, ints, zeros g ls)
 

@@ -26,7 +26,7 @@ use Rattle.cert_checker.proofs.Levels.{stay-level, low-level, priority-same, lev
 
 -- ---- tests
 
-none-either : (a b : Bool) → (a || b) ≡ false → (a ≡ false) × (b ≡ false)
+pub none-either : (a b : Bool) → (a || b) ≡ false → (a ≡ false) × (b ≡ false)
 none-either true b e = absurd (let g : true ≡ false = e in cc)
 none-either false b e = (refl, e)
 

@@ -18,7 +18,7 @@ pub on-ok : {T E : Type 0} (r : Result T E) (P : Type 0) (b : Bool) → b ≡ is
 on-ok (Ok x) P b e f h = h
 on-ok (Err x) P b e f h = absurd (let g : true ≡ false = sym e ∙ f in cc)
 
-more-cmp : (n : ℕ) → int_cmp (pos (suc n)) (pos 0) ≡ Greater
+pub more-cmp : (n : ℕ) → int_cmp (pos (suc n)) (pos 0) ≡ Greater
 more-cmp n = sym (int_cmp_is (pos (suc n)) (pos 0) Greater (let l : pos 0 <ℤ pos (suc n) = omega (arith, ints) in l))
 
 met : (rel : Rel) (g : ℤ) → is_met rel (int_cmp g (pos 0)) ≡ true → error_of rel g ≡ 0

@@ -1,6 +1,8 @@
 -- The first number of a column that is not 0.
 use Rattle.std.specs.Prelude.{◌≡◌, ℕ, ◌*◌, ◌<◌, ◌≤◌, ◌^◌, Bool, true, false, ◌&&◌, cond, nat_eq, List, length, ℤ, pos, ◌-ℤ◌, ◌+ℤ◌, ◌*ℤ◌, ◌<ℤ◌, nat_abs, unsigned_abs, Option, Some, None, All, slice_index_or}
 use Rattle.std.specs.List.{HoldsAt, list_any}
+use Rattle.std.specs.declared.cmp.Ordering.{Ordering}
+use Rattle.std.specs.declared.cmp.Ordering.TheVariants.{Less, Equal, Greater}
 use Rattle.problem_core.specs.Layout.{Line, Problem, lines}
 use Rattle.problem_core.specs.declared.parts.Rel.{Rel}
 use Rattle.problem_core.specs.declared.parts.Side.{Side}
@@ -94,3 +96,25 @@ IsColumnFront f (Some q) =
 abbrev pub is_below : Option Front → Bool
 is_below None = false
 is_below (Some q) = q.negative
+
+abbrev pub is_zero : Option Front → Bool
+is_zero None = true
+is_zero (Some q) = false
+
+-- what is not seen has no multiplier, and no scale is 0
+pub record AreKnown (p : Problem) (m : Multipliers) (seen : ℕ → ℕ → Bool) : Type 0 where
+  pub scales : (k : ℕ) → 0 < m.scale k
+  pub unseen : (at k : ℕ) → at < line_count p → seen at k ≡ false → m.times k (name_at p at) ≡ pos 0
+
+-- the fronts of the line at a place
+abbrev pub HasFrontsAt : Problem → Multipliers → (ℕ → ℕ → Bool) → ℕ → Sides → Type 0
+HasFrontsAt p m seen at sides = HoldsAt (λ l. HasFronts (under m l) (over m l) (seen at) l.level sides) (lines p) at
+
+abbrev pub HasColumnFronts : Multipliers → Line → Sides → Type 0
+HasColumnFronts m l sides = IsColumnFront (under m l) sides.under × IsColumnFront (over m l) sides.over
+
+-- whether the column of the side that the sign of the gap uses is all 0
+abbrev pub is_free : Sides → Ordering → Bool
+is_free sides Less = is_zero sides.under
+is_free sides Equal = true
+is_free sides Greater = is_zero sides.over

@@ -94,7 +94,7 @@ fn reduced(facts: &Facts, side: Side, level: usize, scale: i64, times: i64) -> i
 }
 
 /// What the columns of the line at a place depend on.
-fn facts_of(p: &Problem, at: usize) -> Facts
+pub(crate) fn facts_of(p: &Problem, at: usize) -> Facts
     requires { at < line_count p.now }
     ensures { AreFacts p.now at result }
 {
@@ -194,7 +194,8 @@ pub(crate) fn fronts(
     placed: &[PlacedLevel],
 ) -> Result<Vec<Sides>, OutOfMemory>
     requires { All (IsReady p.now) placed.now }
-    ensures { IfOk result (λ v. (m : Multipliers) → All (λ q. AreOfLevel p.now m q.level q.scale q.weighted.items) placed.now → AreFronts p.now m (seen_by placed.now) v.items) }
+    ensures count { IfOk result (λ v. length v.items ≡ line_count p.now) }
+    ensures fronts { IfOk result (λ v. (m : Multipliers) → All (λ q. AreOfLevel p.now m q.level q.scale q.weighted.items) placed.now → AreFronts p.now m (seen_by placed.now) v.items) }
 {
     let mut sides = start(alloc, p)?;
     enter_levels(p, placed, &mut sides);
@@ -224,7 +225,12 @@ fn keep_above(front: Option<Front>, level: usize) -> Option<Front>
 }
 
 /// The front of a whole column: at the line's own level its weight stands where no multiplier was seen.
-fn whole_front(front: Option<Front>, named: bool, facts: &Facts, side: Side) -> Option<Front>
+pub(crate) fn whole_front(
+    front: Option<Front>,
+    named: bool,
+    facts: &Facts,
+    side: Side,
+) -> Option<Front>
     ensures { (f : ℕ → ℤ) (seen : ℕ → Bool) → named ≡ seen facts.now.own → (seen facts.now.own ≡ false → HasOwnNumber f facts.now side) → IsFront f seen front → IsFront f (λ k. seen k || nat_eq k facts.now.own) result }
 {
     if named {

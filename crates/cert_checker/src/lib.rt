@@ -3,6 +3,8 @@
 
 mod arithmetic;
 mod fronts;
+mod judging;
+mod laws;
 mod leveled;
 mod places;
 mod refuting;
@@ -10,5 +12,7 @@ mod sums;
 mod valued;
 mod verdict;
 
+pub use judging::check_best;
+pub use laws::values_are_given;
 pub use refuting::check_conflict;
 pub use verdict::Verdict;
