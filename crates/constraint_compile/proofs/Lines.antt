@@ -1,6 +1,8 @@
 -- The row of a line, put together.
-use Rattle.std.proofs.Common.{◌≡◌, ℕ, zero, suc, ◌+◌, ◌<◌, ◌≤◌, List, [], ◌∷◌, ◌++◌, length, map, take, take_all, get_or, pos, refl, sym, subst, ap, ◌∙◌, arith}
+use Rattle.std.proofs.Common.{◌≡◌, ℕ, zero, suc, ◌+◌, ◌<◌, ◌≤◌, ◌^◌, List, [], ◌∷◌, ◌++◌, length, map, take, take_all, get_or, pos, refl, sym, subst, ap, ◌∙◌, arith}
 use Rattle.std.proofs.lemmas.List.{take_more, map_push, get_or_default, get_or-map, length-map}
+use Rattle.frac_core.specs.Fraction.{Fraction}
+use Rattle.problem_core.specs.declared.parts.Term.{Term as RowTerm}
 use Rattle.script_text.specs.Meaning.{Term}
 use Rattle.script_text.specs.View.{term_view, terms_view}
 use Rattle.script_text.specs.declared.command.ExprTerm.{ExprTerm}
@@ -8,11 +10,11 @@ use Rattle.view_tree.specs.Views.{LiveView}
 use Rattle.constraint_compile.specs.Fractions.{IsScale}
 use Rattle.constraint_compile.specs.Meaning as meaning
 use Rattle.constraint_compile.specs.Meaning.{sum_at}
-use Rattle.constraint_compile.specs.Sums.{first_sum, AreScales}
+use Rattle.constraint_compile.specs.Sums.{first_sum, AreScales, AreTerms}
 use Rattle.constraint_compile.specs.Compiled as compiled
 use Rattle.constraint_compile.specs.Compiled.{last_scale}
-use Rattle.constraint_compile.specs.Keeps.{part_view, step_view, steps_view, metric_name}
-use Rattle.constraint_compile.specs.Stops.{AreSteps}
+use Rattle.constraint_compile.specs.Keeps.{part_view, step_view, steps_view, metric_name, AreScalesKept}
+use Rattle.constraint_compile.specs.Stops.{AreSteps, IsSumRow}
 use Rattle.constraint_compile.specs.declared.steps.Step.{Step}
 use Rattle.constraint_compile.specs.declared.steps.Part.TheVariants as part
 use Rattle.constraint_compile.proofs.Beginnings.{zero_sum}
@@ -75,3 +77,43 @@ last_is_scale views terms steps are = at (length terms) refl
         let whole_steps : take (n + 1) steps ≡ steps = take_all (n + 1) steps (omega (arith, is, are.long)) in
         let last : last_scale steps ≡ (get_or steps n first).scale = ap last_scale (sym whole_steps) ∙ last_more steps n first (omega (arith, is, are.long)) in
         subst (λ (ts : List Term). IsScale (sum_at views ts) (last_scale steps)) whole (subst (λ (k : ℕ). IsScale (sum_at views (take (n + 1) terms)) k) (sym last) (are.scales n first (omega (arith, is))))
+
+-- the code's steps are those of the code's terms
+pub code_steps : (views : List LiveView) (terms : List ExprTerm) (names : List (List ℕ)) (steps : List Step) (scales : List ℕ) → AreScales views (terms_view terms) (length terms) scales → length steps ≡ length terms
+    → map (λ (s : Step). s.scale) steps ≡ scales → map (λ (s : compiled.Step). s.part) (steps_view names steps) ≡ map meaning.part (terms_view terms) → AreSteps views (terms_view terms) (steps_view names steps)
+code_steps views terms names steps scales are long same parts =
+    are_steps views (terms_view terms) names steps scales (subst (λ (n : ℕ). AreScales views (terms_view terms) n scales) (sym (length-map terms term_view)) are) (long ∙ sym (length-map terms term_view)) same parts
+
+pub scales_kept : (views : List LiveView) (terms : List Term) (steps : List Step) (scales : List ℕ) (n : ℕ) → AreScales views terms n scales → map (λ (s : Step). s.scale) steps ≡ scales → AreScalesKept steps
+scales_kept views terms steps scales n are same k d within = (
+  subst (λ (m : ℕ). 0 < m) (sym here) (are.each k less).above,
+  subst (λ (m : ℕ). m ≤ 2 ^ 30) (sym here) (are.low k 0 (omega (arith, less, are.long))),
+)
+  where
+    less : k < n
+    less = omega (arith, within, length-map steps (λ (s : Step). s.scale), ap length same, are.long)
+
+    here : (get_or steps k d).scale ≡ get_or scales k 0
+    here = sym (get_or-map (λ (s : Step). s.scale) steps k d 0 within) ∙ ap (λ (ks : List ℕ). get_or ks k 0) same
+
+-- there is one scale
+pub one_scale : (b : ℕ → Fraction) (j k : ℕ) → IsScale b j → IsScale b k → j ≡ k
+one_scale b j k is_j is_k = omega (arith, is_j.least k is_k.above is_k.whole, is_k.least j is_j.above is_j.whole)
+
+pub terms_at : (b : ℕ → Fraction) (j k : ℕ) (terms : List RowTerm) → IsScale b j → IsScale b k → AreTerms b j terms → AreTerms b k terms
+terms_at b j k terms is_j is_k are = subst (λ (m : ℕ). AreTerms b m terms) (one_scale b j k is_j is_k) are
+
+pub sum_row : (views : List LiveView) (terms : List Term) (row : compiled.RowForm) → AreSteps views terms row.steps → ((k : ℕ) → IsScale (sum_at views terms) k → AreTerms (sum_at views terms) k row.terms) → length row.terms ≤ 32 → IsSumRow views terms row
+sum_row views terms row are of few = record {
+  scale = last_is_scale views terms row.steps are;
+  terms = of (last_scale row.steps) (last_is_scale views terms row.steps are);
+  few = few;
+  steps = are;
+}
+
+pub last_at : (names : List (List ℕ)) (steps : List Step) (i : ℕ) (d : Step) → length steps ≡ i + 1 → (get_or steps i d).scale ≡ last_scale (steps_view names steps)
+last_at names [] i d long = absurd (omega (arith, long))
+last_at names (s ∷ []) zero d long = refl
+last_at names (s ∷ []) (suc i) d long = absurd (omega (arith, long))
+last_at names (s ∷ (t ∷ steps)) zero d long = absurd (omega (arith, long))
+last_at names (s ∷ (t ∷ steps)) (suc i) d long = last_at names (t ∷ steps) i d (omega (arith, long))

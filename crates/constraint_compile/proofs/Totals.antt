@@ -21,7 +21,7 @@ plus-zero f = made _ _ _ _ (let e : f.num *ℤ pos 1 +ℤ pos 0 *ℤ pos f.den �
 zero-plus : (f : Fraction) → plus zero_fraction f ≡ f
 zero-plus f = made _ _ _ _ (let e : pos 0 *ℤ pos f.den +ℤ f.num *ℤ pos 1 ≡ f.num = omega (arith, ints) in e) (let e : 1 * f.den ≡ f.den = omega arith in e)
 
-total_pushed : {A : Type 0} (f : A → Fraction) (xs : List A) (x : A) → total f (xs ++ x ∷ []) ≡ plus (total f xs) (f x)
+pub total_pushed : {A : Type 0} (f : A → Fraction) (xs : List A) (x : A) → total f (xs ++ x ∷ []) ≡ plus (total f xs) (f x)
 total_pushed f [] x = plus-zero (f x) ∙ sym (zero-plus (f x))
 total_pushed f (y ∷ xs) x = ap (plus (f y)) (total_pushed f xs x) ∙ sym (plus_assoc (f y) (total f xs) (f x))
 

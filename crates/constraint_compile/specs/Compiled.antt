@@ -49,7 +49,7 @@ pub record IsFittingSum (e : Fraction) : Type 0 where
 
 -- after the step at i the constant is small
 abbrev pub IsSmallAfter : MetricList → List Step → ℕ → Step → Type 0
-IsSmallAfter metrics steps i s = IsFittingSum (step_sum metrics (take (i + 1) steps)) × IsSmallConstant s.scale (step_sum metrics (take (i + 1) steps))
+IsSmallAfter metrics steps i s = IsSmallConstant s.scale (step_sum metrics (take (i + 1) steps))
 
 -- after each step the constant is small
 abbrev pub AreSmallSteps : MetricList → List Step → Type 0
@@ -64,3 +64,19 @@ pub record IsRowNow (metrics : MetricList) (form : RowForm) (row : Row) : Type 0
   pub scale : row.scale ≡ last_scale form.steps
   pub terms : row.terms ≡ form.terms
   pub constant : IsConstant (last_scale form.steps) (step_sum metrics form.steps) row.constant
+
+-- no constant is past the limit, after whatever step
+abbrev pub AreSmallForms : MetricList → List RowForm → Type 0
+AreSmallForms metrics forms = All (λ f. AreSmallSteps metrics f.steps) forms
+
+-- the rows for these metrics, in order
+pub record AreRowsNow (metrics : MetricList) (forms : List RowForm) (rows : List Row) : Type 0 where
+  pub long : length rows ≡ length forms
+  pub each : (i : ℕ) (f : RowForm) (r : Row) → i < length forms → IsRowNow metrics (slice_index_or forms i f) (slice_index_or rows i r)
+  pub small : AreSmallForms metrics forms
+
+-- the rows' constants for these metrics, in order
+pub record AreConstantsNow (metrics : MetricList) (forms : List RowForm) (constants : List Fraction) : Type 0 where
+  pub long : length constants ≡ length forms
+  pub each : (i : ℕ) (f : RowForm) (c : Fraction) → i < length forms → IsConstant (last_scale (slice_index_or forms i f).steps) (step_sum metrics (slice_index_or forms i f).steps) (slice_index_or constants i c)
+  pub small : AreSmallForms metrics forms

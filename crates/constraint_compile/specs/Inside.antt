@@ -1,16 +1,17 @@
 -- What a compiled line is made of.
 use Rattle.std.specs.Prelude.{ℕ, ◌<◌, ◌≤◌, ◌^◌, List, map, length, All, AllPairs}
+use Rattle.std.specs.String.{string_bytes}
 use Rattle.problem_core.specs.Kept.{IsTerm}
 use Rattle.view_tree.specs.declared.view.ViewId.{ViewId}
 use Rattle.constraint_compile.specs.Compiled as compiled
 use Rattle.constraint_compile.specs.Keeps.{steps_view, AreScalesKept}
 use Rattle.constraint_compile.specs.declared.compiled.RowForm.{RowForm}
 
-abbrev pub form_view : List (List ℕ) → RowForm → compiled.RowForm
-form_view names r = record { id = r.id; rank = r.rank; weight = r.weight; rel = r.rel; terms = r.terms.items; steps = steps_view names r.steps.items }
+abbrev pub form_view : RowForm → compiled.RowForm
+form_view r = record { id = r.id; rank = r.rank; weight = r.weight; rel = r.rel; terms = r.terms.items; steps = steps_view (map string_bytes r.names.items) r.steps.items }
 
-abbrev pub line_of : List RowForm → List (List ℕ) → List ViewId → compiled.CompiledLine
-line_of rows names views = record { rows = map (form_view names) rows; views = map (λ v. v.0) views }
+abbrev pub line_of : List RowForm → List ViewId → compiled.CompiledLine
+line_of rows views = record { rows = map form_view rows; views = map (λ v. v.0) views }
 
 pub record IsForm (r : RowForm) : Type 0 where
   pub number : (0 < r.id) × (r.id < 2 ^ 31)

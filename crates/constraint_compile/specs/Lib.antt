@@ -1,13 +1,17 @@
 pub mod Compiled
+pub mod FormatFound
 pub mod FormatLines
 pub mod FormatParts
 pub mod FormatRefusals
+pub mod FormatRows
 pub mod FormatStops
 pub mod FormatViews
 pub mod Fractions
 pub mod Inside
 pub mod Keeps
 pub mod Meaning
+pub mod Pieces
+pub mod Quotients
 pub mod Shares
 pub mod Stops
 pub mod Sums

@@ -8,7 +8,7 @@ use Rattle.script_text.specs.Meaning.{Term, Linear}
 use Rattle.constraint_compile.specs.Fractions.{IsScale, AreSmall}
 use Rattle.constraint_compile.specs.Meaning.{MetricList, part, terms_of, sum_at, first_unknown, has_view_number, IsRank, IsInThousand, views_in}
 use Rattle.constraint_compile.specs.Sums.{first_sum, HasTooMany, AreTerms}
-use Rattle.constraint_compile.specs.Compiled.{Step, RowForm, CompiledLine, AreSmallSteps, last_scale}
+use Rattle.constraint_compile.specs.Compiled.{Step, RowForm, CompiledLine, AreSmallSteps, AreSmallForms, last_scale}
 use Rattle.constraint_compile.specs.declared.stops.CompileStop.{CompileStop}
 use Rattle.constraint_compile.specs.declared.stops.CompileStop.TheVariants.{Unknown, Kind, Limit, OutOfMemory}
 use Rattle.constraint_compile.specs.declared.stops.KindWord.{KindWord}
@@ -45,35 +45,48 @@ pub record AreSteps (views : List LiveView) (terms : List Term) (steps : List St
   pub scales : (i : ℕ) (d : Step) → i < length terms → IsScale (first_sum views terms (i + 1)) (slice_index_or steps i d).scale
   pub parts : map (λ s. s.part) steps ≡ map part terms
 
--- the row of a line: its rank, weight and relation, the scale and the coefficients of the sum of its terms, and the steps of its constant
+-- the row of a sum of terms: its scale, its coefficients, and the steps of its constant
+pub record IsSumRow (views : List LiveView) (summed : List Term) (row : RowForm) : Type 0 where
+  pub scale : IsScale (sum_at views summed) (last_scale row.steps)
+  pub terms : AreTerms (sum_at views summed) (last_scale row.steps) row.terms
+  pub few : length row.terms ≤ 32
+  pub steps : AreSteps views summed row.steps
+
+-- the row of a line: its number, rank, weight and relation, and the row of the sum of its terms
 pub record IsRowOf (views : List LiveView) (metrics : MetricList) (l : Linear) (number : ℕ) (row : RowForm) : Type 0 where
   pub id : row.id ≡ number
   pub rank : IsRank views metrics l.priority row.rank
   pub weight : row.weight ≡ l.weight
   pub rel : row.rel ≡ l.rel
-  pub scale : IsScale (sum_at views (terms_of l)) (last_scale row.steps)
-  pub terms : AreTerms (sum_at views (terms_of l)) (last_scale row.steps) row.terms
-  pub few : length row.terms ≤ 32
-  pub steps : AreSteps views (terms_of l) row.steps
+  pub sum : IsSumRow views (terms_of l) row
+
+-- the terms pass no limit of a row whose constant has these steps
+pub record IsWithinLimits (views : List LiveView) (metrics : MetricList) (terms : List Term) (steps : List Step) : Type 0 where
+  pub few : HasTooMany (sum_at views terms) → ⊥
+  pub small : AreSmallSums views terms
+  pub constants : AreSmallSteps metrics steps
 
 -- a line within all limits, and what it is compiled to
 pub record IsCompiled (views : List LiveView) (metrics : MetricList) (l : Linear) (number : ℕ) (c : CompiledLine) : Type 0 where
   pub usable : IsUsable views metrics l
   pub numbers : number < 2 ^ 31
   pub count : length (terms_of l) ≤ 64
-  pub small : AreSmallSums views (terms_of l)
-  pub row : (r : RowForm) × (c.rows ≡ r ∷ []) × IsRowOf views metrics l number r × AreSmallSteps metrics r.steps
+  pub row : (r : RowForm) × (c.rows ≡ r ∷ []) × IsRowOf views metrics l number r × IsWithinLimits views metrics (terms_of l) r.steps
   pub views_named : c.views ≡ views_in views (terms_of l)
 
--- the limit that is passed first
+-- the first limit of a row that the terms pass
+abbrev pub PassesRowLimit : List LiveView → MetricList → List Term → LimitWord → Type 0
+PassesRowLimit views metrics terms limit.Attributes = HasTooMany (sum_at views terms)
+PassesRowLimit views metrics terms limit.Coefficient = (HasTooMany (sum_at views terms) → ⊥) × (AreSmallSums views terms → ⊥)
+PassesRowLimit views metrics terms limit.Constant = (HasTooMany (sum_at views terms) → ⊥) × AreSmallSums views terms
+    × ((steps : List Step) × AreSteps views terms steps × (AreSmallSteps metrics steps → ⊥))
+PassesRowLimit views metrics terms _ = ⊥
+
+-- the first limit that the line passes
 abbrev pub PassesLimit : List LiveView → MetricList → Linear → ℕ → LimitWord → Type 0
 PassesLimit views metrics l number limit.Rows = 2 ^ 31 ≤ number
 PassesLimit views metrics l number limit.Terms = (number < 2 ^ 31) × (64 < length (terms_of l))
-PassesLimit views metrics l number limit.Attributes = (number < 2 ^ 31) × (length (terms_of l) ≤ 64) × HasTooMany (sum_at views (terms_of l))
-PassesLimit views metrics l number limit.Coefficient = (number < 2 ^ 31) × (length (terms_of l) ≤ 64) × (AreSmallSums views (terms_of l) → ⊥)
-PassesLimit views metrics l number limit.Constant = (number < 2 ^ 31) × (length (terms_of l) ≤ 64) × AreSmallSums views (terms_of l)
-    × ((steps : List Step) × AreSteps views (terms_of l) steps × (AreSmallSteps metrics steps → ⊥))
-PassesLimit views metrics l number _ = ⊥
+PassesLimit views metrics l number word = (number < 2 ^ 31) × (length (terms_of l) ≤ 64) × PassesRowLimit views metrics (terms_of l) word
 
 -- when a line may be refused
 abbrev pub MayStop : List LiveView → MetricList → Linear → ℕ → CompileStop → Type 0
@@ -82,11 +95,17 @@ MayStop views metrics l number (Kind word) = AreKnown views metrics l × IsWrong
 MayStop views metrics l number (Limit word) = IsUsable views metrics l × PassesLimit views metrics l number word
 MayStop views metrics l number OutOfMemory = ⊤
 
--- why the sum of terms has no row
-abbrev pub IsSumStop : List LiveView → List Term → CompileStop → Type 0
-IsSumStop views terms (Limit limit.Attributes) = HasTooMany (sum_at views terms)
-IsSumStop views terms (Limit limit.Coefficient) = AreSmallSums views terms → ⊥
-IsSumStop views terms (Limit _) = ⊥
-IsSumStop views terms OutOfMemory = ⊤
-IsSumStop views terms (Unknown name) = ⊥
-IsSumStop views terms (Kind word) = ⊥
+-- why terms have no row
+abbrev pub IsRowStop : List LiveView → MetricList → List Term → CompileStop → Type 0
+IsRowStop views metrics terms (Limit word) = PassesRowLimit views metrics terms word
+IsRowStop views metrics terms OutOfMemory = ⊤
+IsRowStop views metrics terms (Unknown name) = ⊥
+IsRowStop views metrics terms (Kind word) = ⊥
+
+-- why rows have no constants for these metrics
+abbrev pub IsConstantStop : MetricList → List RowForm → CompileStop → Type 0
+IsConstantStop metrics forms (Limit limit.Constant) = AreSmallForms metrics forms → ⊥
+IsConstantStop metrics forms (Limit _) = ⊥
+IsConstantStop metrics forms OutOfMemory = ⊤
+IsConstantStop metrics forms (Unknown name) = ⊥
+IsConstantStop metrics forms (Kind word) = ⊥

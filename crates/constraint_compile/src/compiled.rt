@@ -1,21 +1,25 @@
 // Compiled lines.
-ghost use Rattle.std.specs.Prelude.{◌≡◌, map};
+ghost use Rattle.std.specs.Prelude.{◌≡◌, map, nat_eq, IfOk};
+ghost use Rattle.std.specs.List.{list_any};
 ghost use Rattle.std.specs.String.{string_bytes};
-ghost use Rattle.constraint_compile.specs.Inside.{line_of, AreForms};
+ghost use Rattle.constraint_compile.specs.Inside.{form_view, line_of, IsForm, AreForms};
 
 use crate::steps::Step;
+use frac_core::OutOfMemory;
 use problem_core::{Rel, Term};
+use std::alloc::Global;
 use std::marker::Model;
 use view_tree::ViewId;
 
-// A row without its constant.
-#[derive(Clone, Debug, Drop)]
+// A row without its constant. The steps name metrics by the places of their names.
+#[derive(Debug, Drop)]
 pub(crate) struct RowForm {
     pub id: u32,
     pub rank: u16,
     pub weight: u16,
     pub rel: Rel,
     pub terms: Vec<Term>,
+    pub names: Vec<String>,
     pub steps: Vec<Step>,
 }
 
@@ -24,29 +28,100 @@ pub(crate) struct RowForm {
 #[derive(Drop)]
 pub struct Compiled {
     rows: Vec<RowForm>,
-    names: Vec<String>,
     views: Vec<ViewId>,
 }
 
 impl Model for Compiled {
-    ghost use Rattle.std.specs.Prelude.{map};
-    ghost use Rattle.std.specs.String.{string_bytes};
     ghost use Rattle.constraint_compile.specs.Compiled.{CompiledLine};
     ghost use Rattle.constraint_compile.specs.Inside.{line_of, AreForms};
 
     ghost Value = { CompiledLine };
 
-    ghost view = { λ c. line_of c.rows.items (map string_bytes c.names.items) c.views.items };
+    ghost view = { λ c. line_of c.rows.items c.views.items };
 
     ghost invariant = { λ c. AreForms c.rows.items };
 }
 
 impl Compiled {
     /// The rows and the views with just these parts.
-    pub(crate) fn of(rows: Vec<RowForm>, names: Vec<String>, views: Vec<ViewId>) -> Compiled
+    pub(crate) fn of(rows: Vec<RowForm>, views: Vec<ViewId>) -> Compiled
         requires { AreForms rows.items }
-        ensures { result ≡ line_of rows.items (map string_bytes names.items) views.items }
+        ensures { result ≡ line_of rows.items views.items }
     {
-        Compiled { rows, names, views }
+        Compiled { rows, views }
     }
+
+    /// The rows, whose constants the metrics give.
+    pub(crate) fn forms(&self) -> &[RowForm]
+        ensures rows { map form_view result.now ≡ self.now.rows }
+        ensures kept { AreForms result.now }
+    {
+        &self.rows
+    }
+
+    /// Whether the line's text names the view, also where the view has no part in a row.
+    pub fn names_view(&self, view: ViewId) -> bool
+        ensures { result ≡ list_any (λ v. nat_eq v view.0) self.now.views }
+    {
+        has_view(&self.views, view)
+    }
+
+    /// The same rows and views.
+    pub fn copy(&self, alloc: Global) -> Result<Compiled, OutOfMemory>
+        ensures { IfOk result (λ same. same ≡ self.now) }
+    {
+        let rows = copy_forms(alloc, &self.rows)?;
+        let views = Vec::from_slice(alloc, &self.views)?;
+        Ok(Compiled { rows, views })
+    }
+}
+
+fn has_view(views: &[ViewId], view: ViewId) -> bool
+    ensures { result ≡ list_any (λ v. nat_eq v.0 view.0) views.now }
+{
+    for v in views {
+        if v.0 == view.0 {
+            return true;
+        }
+    }
+    false
+}
+
+fn copy_names(alloc: Global, names: &[String]) -> Result<Vec<String>, OutOfMemory>
+    ensures { IfOk result (λ same. map string_bytes same.items ≡ map string_bytes names.now) }
+{
+    let mut same = Vec::with_capacity(alloc, names.len())?;
+    for name in names {
+        same.push(String::from_str(alloc, name.as_str())?)?;
+    }
+    Ok(same)
+}
+
+fn copy_form(alloc: Global, form: &RowForm) -> Result<RowForm, OutOfMemory>
+    requires { IsForm form.now }
+    ensures form { IfOk result IsForm }
+    ensures same { IfOk result (λ same. form_view same ≡ form_view form.now) }
+{
+    let names = copy_names(alloc, &form.names)?;
+    Ok(RowForm {
+        id: form.id,
+        rank: form.rank,
+        weight: form.weight,
+        rel: form.rel,
+        terms: Vec::from_slice(alloc, &form.terms)?,
+        names,
+        steps: Vec::from_slice(alloc, &form.steps)?,
+    })
+}
+
+fn copy_forms(alloc: Global, forms: &[RowForm]) -> Result<Vec<RowForm>, OutOfMemory>
+    requires { AreForms forms.now }
+    ensures forms { IfOk result (λ same. AreForms same.items) }
+    ensures same { IfOk result (λ same. map form_view same.items ≡ map form_view forms.now) }
+{
+    let mut same = Vec::with_capacity(alloc, forms.len())?;
+    for form in forms {
+        same.push(copy_form(alloc, form)?)?;
+    }
+    Ok(same)
 }

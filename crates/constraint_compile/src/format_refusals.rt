@@ -34,8 +34,8 @@ fn rows_in(tree: &Tree, part: &Part<'_>) -> usize
     }
 }
 
-// How many rows are asked for.
-fn row_count(tree: &Tree, parts: &[Part<'_>]) -> usize
+/// How many rows are asked for.
+pub(crate) fn row_count(tree: &Tree, parts: &[Part<'_>]) -> usize
     ensures { result ≡ stops.row_count tree.now.views (parts_view parts.now) }
 {
     let mut count = 0;

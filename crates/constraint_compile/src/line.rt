@@ -1,17 +1,26 @@
 // The row of a linear line.
-ghost use Rattle.std.specs.Prelude.{◌≡◌, ◌≤◌, ◌<◌, ◌^◌, ℕ, false, true, None, length, map, IfOk, OnOk, IfErr, IfSome, IfNone};
-ghost use Rattle.std.specs.String.{string_bytes};
+ghost use Rattle.std.specs.Prelude.{◌≡◌, ◌≤◌, ◌<◌, ◌^◌, ◌∷◌, [], ℕ, List, false, true, None, length, map, IfOk, OnOk, IfErr, IfSome, IfNone};
+ghost use Rattle.view_tree.specs.Views.{LiveView};
 ghost use Rattle.script_text.specs.View.{terms_view, linear_view, object_view};
-ghost use Rattle.constraint_compile.specs.Meaning.{terms_of, IsRank, IsInThousand, has_view_number};
-ghost use Rattle.constraint_compile.specs.Stops.{AreKnown, IsUsable, IsWrongUse, IsCompiled, MayStop};
+ghost use Rattle.constraint_compile.specs.Meaning.{MetricList, terms_of, views_in, IsRank, IsInThousand, has_view_number};
+ghost use Rattle.constraint_compile.specs.Stops.{AreKnown, IsUsable, IsWrongUse, IsCompiled, MayStop, PassesLimit};
+ghost use Rattle.constraint_compile.specs.Inside.{form_view, IsForm};
 
 use crate::compiled::{Compiled, RowForm};
+use crate::format_refusals::NUMBER_LIMIT;
+use crate::line_rows::{Head, row_of_terms};
 use crate::lookups::{has_view_as_number, rank, unknown_priority, unknown_term};
+use crate::parts::views_of;
+use crate::signs::signed_terms;
 use crate::stops::{CompileStop, KindWord};
-use name_tables::{Metrics, OwnedName};
+use frac_core::OutOfMemory;
+use name_tables::{LimitWord, Metrics, OwnedName};
 use script_text::{ExprTerm, Linear};
 use std::alloc::Global;
 use view_tree::Tree;
+
+/// How many terms a line may have.
+pub const TERM_LIMIT: usize = 64;
 
 // Each name must be that of a view or a metric.
 fn known(
@@ -75,5 +84,80 @@ fn strength_of(
     match weight_of(line.weight) {
         Some(weight) => Ok(Strength { rank, weight }),
         None => Err(KindWord::Weight),
+    }
+}
+
+// The limits of the row's number and of the count of terms.
+fn within_limits(id: u32, terms: &[ExprTerm<'_>], line: &Linear<'_>) -> Result<(), LimitWord>
+    requires { terms_view terms.now ≡ terms_of (linear_view line.now) }
+    ensures ok { OnOk result ((id < 2 ^ 31) × (length terms.now ≤ 64) × (length (terms_of (linear_view line.now)) ≤ 64)) }
+    ensures stop { IfErr result (λ word. (views : List LiveView) (metrics : MetricList) → PassesLimit views metrics (linear_view line.now) id word) }
+{
+    let _rel = line.rel;
+    if id >= NUMBER_LIMIT {
+        return Err(LimitWord::Rows);
+    }
+    if terms.len() > TERM_LIMIT {
+        return Err(LimitWord::Terms);
+    }
+    Ok(())
+}
+
+// One row, and the views that the terms name.
+fn with_views(
+    alloc: Global,
+    tree: &Tree,
+    terms: &[ExprTerm<'_>],
+    row: RowForm,
+) -> Result<Compiled, OutOfMemory>
+    requires { IsForm row }
+    ensures rows { IfOk result (λ c. c.rows ≡ form_view row ∷ []) }
+    ensures views { IfOk result (λ c. c.views ≡ views_in tree.now.views (terms_view terms.now)) }
+{
+    let views = views_of(alloc, tree, terms)?;
+    let mut rows = Vec::with_capacity(alloc, 1)?;
+    rows.push(row)?;
+    Ok(Compiled::of(rows, views))
+}
+
+/// The row of a linear line, with this number, and the views that the line names.
+///
+/// Every term of the left side is added and every term of the right side subtracted. `Unknown` with the first name of the line
+/// that must be a view's or a metric's and isn't. Otherwise `Kind` with the first wrong use: `Object` where a view stands for a
+/// number, `Priority` where the priority is no whole number from 1 to 1000, `Weight` where the weight is outside 1 to 1000.
+/// Otherwise `Limit` with the first limit that is passed: `Rows` where the number isn't below 2^31, `Terms` at more than 64
+/// terms, `Attributes` at more than 32 attributes with coefficients that aren't 0, `Coefficient` where after some term the scale
+/// or a coefficient is past 2^30 in size, `Constant` where after some term a part of the constant isn't below 2^40 in size.
+pub fn compile_line(
+    alloc: Global,
+    tree: &Tree,
+    metrics: &Metrics,
+    line: &Linear<'_>,
+    id: u32,
+) -> Result<Compiled, CompileStop>
+    requires { 0 < id }
+    ensures compiled { IfOk result (IsCompiled tree.now.views metrics.now (linear_view line.now) id) }
+    ensures stop { IfErr result (MayStop tree.now.views metrics.now (linear_view line.now) id) }
+{
+    let terms = signed_terms(alloc, line)?;
+    if let Err(stop) = known(alloc, tree, metrics, &terms, line) {
+        return Err(stop);
+    }
+    let strength = match strength_of(tree, metrics, &terms, line) {
+        Ok(strength) => strength,
+        Err(word) => return Err(CompileStop::Kind(word)),
+    };
+    if let Err(word) = within_limits(id, &terms, line) {
+        return Err(CompileStop::Limit(word));
+    }
+    let head = Head {
+        id,
+        rank: strength.rank,
+        weight: strength.weight,
+        rel: line.rel,
+    };
+    match row_of_terms(alloc, tree, metrics, &terms, head) {
+        Ok(row) => Ok(with_views(alloc, tree, &terms, row)?),
+        Err(stop) => Err(stop),
     }
 }

@@ -1,18 +1,18 @@
 // The constant of a row, as a sum of numbers and of multiples of metrics.
-ghost use Rattle.std.specs.Prelude.{◌≡◌, ℕ, ◌<◌, ◌<ℤ◌, ◌≤◌, ◌+◌, ◌^◌, [], false, pos, neg_ℤ, IsTrue, map, slice_index_or, IfSome, IfNone, IfOk, unsigned_abs};
-ghost use Rattle.frac_core.specs.Fraction.{Fraction, IsLowest, Fits, IsFitting, IsKept, IsRatio, sum_num, sum_den};
+ghost use Rattle.std.specs.Prelude.{◌≡◌, ℕ, ◌<◌, ◌<ℤ◌, ◌≤◌, ◌*ℤ◌, ◌^◌, [], pos, neg_ℤ, map, slice_index_or, IfSome, IfNone, unsigned_abs};
+ghost use Rattle.frac_core.specs.Fraction.{Fraction};
 ghost use Rattle.std.specs.String.{string_bytes};
 ghost use Rattle.constraint_compile.specs.Fractions.{plus, times, IsConstant, IsSmallConstant};
+ghost use Rattle.constraint_compile.specs.Quotients.{IsReduced};
 ghost use Rattle.constraint_compile.specs.Meaning.{part_value};
-ghost use Rattle.constraint_compile.specs.Compiled.{IsValue, IsFittingSum, AreSmallSteps, step_sum, last_scale};
+ghost use Rattle.constraint_compile.specs.Compiled.{AreSmallSteps, step_sum, last_scale};
 ghost use Rattle.constraint_compile.specs.Keeps.{AreScalesKept, part_view, steps_view};
 ghost use Rattle.name_tables.specs.Names.{value_of};
 
+use crate::ratios::{Ratio, common, reduced, small_of};
+use crate::wide::product;
 use frac_core::Frac;
 use name_tables::Metrics;
-
-/// Both parts of a constant are below this in size.
-pub const CONSTANT_LIMIT: i64 = 1 << 40;
 
 /// What a term adds to the constant: nothing, a number, or a multiple of the metric whose name stands at a place.
 #[derive(Clone, Copy, Debug)]
@@ -29,43 +29,6 @@ pub(crate) struct Step {
     pub part: Part,
 }
 
-// `sum + (n/d)*value`, where it fits.
-fn with_times(sum: Frac, n: i64, d: i64, value: Frac) -> Option<Frac>
-    requires n { IsFitting n }
-    requires d { IsFitting d }
-    requires above { pos 0 <ℤ d }
-    ensures value { IfSome result (λ f. IsRatio f (sum_num sum n d value) (sum_den sum d value)) }
-    ensures kept { IfSome result IsKept }
-    ensures unfit { IfNone result ((f : Fraction) → IsLowest f → IsRatio f (sum_num sum n d value) (sum_den sum d value) → Fits f → ⊥) }
-{
-    match Frac::mul_add(sum, n, d, value) {
-        Ok(f) => Some(f),
-        Err(_) => None,
-    }
-}
-
-// The sum with a number added.
-fn with_number(sum: Frac, by: Frac) -> Option<Frac>
-    ensures value { IfSome result (λ f. IsValue f (plus sum by)) }
-    ensures unfit { IfNone result (IsFittingSum (plus sum by) → ⊥) }
-{
-    match with_times(sum, 1, 1, by) {
-        Some(f) => Some(f),
-        None => None,
-    }
-}
-
-// The sum with so many times a value added.
-fn with_multiple(sum: Frac, by: Frac, value: Frac) -> Option<Frac>
-    ensures value { IfSome result (λ f. IsValue f (plus sum (times by value))) }
-    ensures unfit { IfNone result (IsFittingSum (plus sum (times by value)) → ⊥) }
-{
-    match with_times(sum, by.num(), by.den(), value) {
-        Some(f) => Some(f),
-        None => None,
-    }
-}
-
 // The value of the metric whose name stands at a place.
 fn metric_value(metrics: &Metrics, names: &[String], place: u32) -> Option<Frac>
     ensures { result ≡ value_of metrics.now (slice_index_or (map string_bytes names.now) place []) }
@@ -76,17 +39,45 @@ fn metric_value(metrics: &Metrics, names: &[String], place: u32) -> Option<Frac>
     }
 }
 
-// The sum with a part added.
-fn with_part(sum: Frac, metrics: &Metrics, names: &[String], part: Part) -> Option<Frac>
-    ensures value { IfSome result (λ f. IsValue f (plus sum (part_value metrics.now (part_view (map string_bytes names.now) part)))) }
-    ensures unfit { IfNone result (IsFittingSum (plus sum (part_value metrics.now (part_view (map string_bytes names.now) part))) → ⊥) }
+// A number as a ratio.
+fn ratio_of(f: Frac) -> Ratio
+    ensures num { result.num ≡ f.num }
+    ensures den { result.den ≡ pos f.den }
+    ensures small { unsigned_abs result.num < 2 ^ 88 }
+    ensures above { 0 < f.den }
+{
+    Ratio {
+        num: i128::from(f.num()),
+        den: i128::from(f.den()),
+    }
+}
+
+// The product of two numbers as a ratio.
+fn times(by: Frac, value: Frac) -> Ratio
+    ensures num { result.num ≡ (times by value).num }
+    ensures den { result.den ≡ pos (times by value).den }
+    ensures small { unsigned_abs result.num < 2 ^ 88 }
+    ensures above { 0 < (times by value).den }
+{
+    Ratio {
+        num: product(by.num(), value.num()),
+        den: product(by.den(), value.den()),
+    }
+}
+
+// What a part adds to the sum.
+fn part_ratio(metrics: &Metrics, names: &[String], part: Part) -> Ratio
+    ensures num { result.num ≡ (part_value metrics.now (part_view (map string_bytes names.now) part)).num }
+    ensures den { result.den ≡ pos (part_value metrics.now (part_view (map string_bytes names.now) part)).den }
+    ensures small { unsigned_abs result.num < 2 ^ 88 }
+    ensures above { 0 < (part_value metrics.now (part_view (map string_bytes names.now) part)).den }
 {
     match part {
-        Part::Nothing => Some(sum),
-        Part::Number(by) => with_number(sum, by),
+        Part::Nothing => ratio_of(Frac::zero()),
+        Part::Number(by) => ratio_of(by),
         Part::Multiple { by, place } => match metric_value(metrics, names, place) {
-            Some(value) => with_multiple(sum, by, value),
-            None => Some(sum),
+            Some(value) => times(by, value),
+            None => ratio_of(Frac::zero()),
         },
     }
 }
@@ -95,97 +86,97 @@ fn with_part(sum: Frac, metrics: &Metrics, names: &[String], part: Part) -> Opti
 fn negative(scale: u32) -> i64
     requires { scale ≤ 2 ^ 30 }
     ensures value { result ≡ neg_ℤ (pos scale) }
-    ensures fits { IsFitting result }
+    ensures small { unsigned_abs result ≤ 2 ^ 30 }
 {
     -i64::from(scale)
 }
 
-fn is_small(constant: Frac) -> bool
-    ensures yes { IsTrue result → (unsigned_abs constant.num < 2 ^ 40) × (constant.den < 2 ^ 40) }
-    ensures no { result ≡ false → unsigned_abs constant.num < 2 ^ 40 → constant.den < 2 ^ 40 → ⊥ }
-{
-    constant.num().abs() < CONSTANT_LIMIT && constant.den() < CONSTANT_LIMIT
-}
-
-// The constant of a sum at a scale, where both parts are small.
-fn constant_of(scale: u32, sum: Frac) -> Option<Frac>
+// What a part with this value changes the constant by, at a scale.
+fn change(scale: u32, value: Ratio) -> Ratio
     requires scale { scale ≤ 2 ^ 30 }
-    ensures constant { IfSome result (IsConstant scale sum) }
-    ensures small { IfSome result (λ c. (unsigned_abs c.num < 2 ^ 40) × (c.den < 2 ^ 40)) }
-    ensures none { IfNone result (IsSmallConstant scale sum → ⊥) }
+    requires small { unsigned_abs value.num < 2 ^ 88 }
+    requires above { pos 0 <ℤ value.den }
+    ensures { IsReduced (neg_ℤ (pos scale) *ℤ value.num) value.den result.num result.den }
 {
-    let Some(constant) = with_times(Frac::zero(), negative(scale), 1, sum) else {
-        return None;
-    };
-    if is_small(constant) {
-        Some(constant)
-    } else {
-        None
-    }
+    reduced(i128::from(negative(scale)) * value.num, value.den)
 }
 
-// A sum of terms, and the constant that it makes.
+// A part of the constant times a scale.
+fn scaled(scale: u32, part: i64) -> i128
+    requires scale { scale ≤ 2 ^ 30 }
+    requires small { unsigned_abs part < 2 ^ 40 }
+    ensures value { result ≡ pos scale *ℤ part }
+    ensures small { unsigned_abs result < 2 ^ 70 }
+{
+    i128::from(scale) * i128::from(part)
+}
+
+// A constant, and its scale.
 #[derive(Clone, Copy, Debug)]
 struct Progress {
-    sum: Frac,
+    scale: u32,
     constant: Frac,
 }
 
-// What is above 0 in a part.
-fn show_part(metrics: &Metrics, names: &[String], part: Part)
-    ensures { 0 < (part_value metrics.now (part_view (map string_bytes names.now) part)).den }
+// The constant at the new scale with a value added to the sum, where it is small.
+fn moved(before: Progress, scale: u32, value: Ratio) -> Option<Frac>
+    requires before { (0 < before.scale) × (before.scale ≤ 2 ^ 30) }
+    requires num_small { unsigned_abs before.constant.num < 2 ^ 40 }
+    requires den_small { before.constant.den < 2 ^ 40 }
+    requires scale { (0 < scale) × (scale ≤ 2 ^ 30) }
+    requires small { unsigned_abs value.num < 2 ^ 88 }
+    requires above { pos 0 <ℤ value.den }
+    ensures constant { IfSome result (λ f. (e p : Fraction) → 0 < e.den → value.num ≡ p.num → value.den ≡ pos p.den → IsConstant before.scale e before.constant → IsConstant scale (plus e p) f) }
+    ensures small { IfSome result (λ f. (unsigned_abs f.num < 2 ^ 40) × (f.den < 2 ^ 40)) }
+    ensures none { IfNone result ((e p : Fraction) → 0 < e.den → value.num ≡ p.num → value.den ≡ pos p.den → IsConstant before.scale e before.constant → IsSmallConstant scale (plus e p) → ⊥) }
 {
-    match part {
-        Part::Nothing => {}
-        Part::Number(by) => {
-            let _den = by.den();
-        }
-        Part::Multiple { by, place } => {
-            let _den = by.den();
-            if let Some(value) = metric_value(metrics, names, place) {
-                let _value_den = value.den();
-            }
-        }
-    }
+    let change = change(scale, value);
+    let num = scaled(scale, before.constant.num());
+    let den = scaled(before.scale, before.constant.den());
+    let Some(sum) = common(num, den, change.num, change.den) else {
+        return None;
+    };
+    small_of(sum)
 }
 
-// The sum with a step's part added, and the constant after the step.
-fn made(metrics: &Metrics, names: &[String], sum: Frac, step: &Step) -> Option<Progress>
-    requires scale { step.now.scale ≤ 2 ^ 30 }
-    ensures value { IfSome result (λ m. IsValue m.sum (plus sum (part_value metrics.now (part_view (map string_bytes names.now) step.now.part)))) }
-    ensures kept { IfSome result (λ m. IsKept m.sum) }
-    ensures constant { IfSome result (λ m. IsConstant step.now.scale m.sum m.constant) }
-    ensures small { IfSome result (λ m. (unsigned_abs m.constant.num < 2 ^ 40) × (m.constant.den < 2 ^ 40)) }
-    ensures none { IfNone result (IsFittingSum (plus sum (part_value metrics.now (part_view (map string_bytes names.now) step.now.part))) → IsSmallConstant step.now.scale (plus sum (part_value metrics.now (part_view (map string_bytes names.now) step.now.part))) → ⊥) }
+// The constant after a step.
+fn after(metrics: &Metrics, names: &[String], before: Progress, step: &Step) -> Option<Progress>
+    requires before { (0 < before.scale) × (before.scale ≤ 2 ^ 30) }
+    requires num_small { unsigned_abs before.constant.num < 2 ^ 40 }
+    requires den_small { before.constant.den < 2 ^ 40 }
+    requires scale { (0 < step.now.scale) × (step.now.scale ≤ 2 ^ 30) }
+    ensures scale { IfSome result (λ p. p.scale ≡ step.now.scale) }
+    ensures constant { IfSome result (λ p. (e : Fraction) → 0 < e.den → IsConstant before.scale e before.constant → IsConstant step.now.scale (plus e (part_value metrics.now (part_view (map string_bytes names.now) step.now.part))) p.constant) }
+    ensures small { IfSome result (λ p. (unsigned_abs p.constant.num < 2 ^ 40) × (p.constant.den < 2 ^ 40)) }
+    ensures none { IfNone result ((e : Fraction) → 0 < e.den → IsConstant before.scale e before.constant → IsSmallConstant step.now.scale (plus e (part_value metrics.now (part_view (map string_bytes names.now) step.now.part))) → ⊥) }
     ensures above { 0 < (part_value metrics.now (part_view (map string_bytes names.now) step.now.part)).den }
-    ensures whole { IsKept sum }
 {
-    let _den = sum.den();
-    show_part(metrics, names, step.part);
-    let Some(sum) = with_part(sum, metrics, names, step.part) else {
+    let value = part_ratio(metrics, names, step.part);
+    let Some(constant) = moved(before, step.scale, value) else {
         return None;
     };
-    let Some(constant) = constant_of(step.scale, sum) else {
-        return None;
-    };
-    Some(Progress { sum, constant })
+    Some(Progress {
+        scale: step.scale,
+        constant,
+    })
 }
 
-/// The constant after all steps, unless it is past the limit after one of them, or the sum doesn't fit there.
+/// The constant after all steps, unless it is past the limit after one of them.
 pub(crate) fn constant_after(metrics: &Metrics, names: &[String], steps: &[Step]) -> Option<Frac>
     requires scales { AreScalesKept steps.now }
     ensures constant { IfSome result (IsConstant (last_scale (steps_view (map string_bytes names.now) steps.now)) (step_sum metrics.now (steps_view (map string_bytes names.now) steps.now))) }
     ensures small { IfSome result (λ c. AreSmallSteps metrics.now (steps_view (map string_bytes names.now) steps.now)) }
     ensures none { IfNone result (AreSmallSteps metrics.now (steps_view (map string_bytes names.now) steps.now) → ⊥) }
 {
-    let mut sum = Frac::zero();
-    let mut constant = Frac::zero();
+    let mut now = Progress {
+        scale: 1,
+        constant: Frac::zero(),
+    };
     for step in steps {
-        let Some(next) = made(metrics, names, sum, step) else {
+        let Some(next) = after(metrics, names, now, step) else {
             return None;
         };
-        sum = next.sum;
-        constant = next.constant;
+        now = next;
     }
-    Some(constant)
+    Some(now.constant)
 }

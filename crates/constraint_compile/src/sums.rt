@@ -32,7 +32,7 @@ fn at(term: Term, attr: u32) -> i64
 }
 
 // How many halves of an attribute there are.
-fn halves(of: &Doubled, attr: u32) -> i64
+pub(crate) fn halves(of: &Doubled, attr: u32) -> i64
     requires { AreHalves of.now }
     ensures value { result ≡ coefficient attr (form of.now) }
     ensures small { unsigned_abs result ≤ 4 }
@@ -51,7 +51,7 @@ fn scaled_halves(of: &Doubled, attr: u32, scale: u32) -> i64
 }
 
 // Twice the denominator.
-fn double_den(f: Frac) -> i64
+pub(crate) fn double_den(f: Frac) -> i64
     ensures value { result ≡ pos (f.den * 2) }
     ensures small { unsigned_abs result < 2 ^ 44 }
     ensures above { 0 < f.den }

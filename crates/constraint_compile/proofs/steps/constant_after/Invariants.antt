@@ -5,4 +5,4 @@ use Rattle.constraint_compile.proofs.Constants.{IsAfter}
 use Rattle.constraint_compile.proofs.steps.constant_after.Given as goal
 
 abbrev pub invariant-loop-step : goal.invariant-loop-step
-invariant-loop-step l = IsAfter l.metrics (steps_view (map string_bytes l.names) l.steps) l.step-index l.sum l.constant
+invariant-loop-step l = IsAfter l.metrics (steps_view (map string_bytes l.names) l.steps) l.step-index l.now.scale l.now.constant

@@ -1,0 +1,8 @@
+use Rattle.std.proofs.Common.{◌≡◌, ◌∙◌, sym, nat_eq}
+use Rattle.constraint_compile.proofs.Forms.{any_number}
+use Rattle.constraint_compile.proofs.compiled.Compiled.names_view.Goals as goal
+
+pub returns : goal.returns
+returns c =
+    let is = rw c.deref.ensures.value at c.has_view.ensures in
+    rw (← c.self.view_is) (is ∙ any_number c.self.inside.views.items c.args.view.0)

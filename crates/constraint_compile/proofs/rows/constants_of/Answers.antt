@@ -1,0 +1,12 @@
+use Rattle.std.proofs.Common.{◌≡◌, map}
+use Rattle.constraint_compile.specs.Inside.{form_view}
+use Rattle.constraint_compile.proofs.Forms.{constants_more, form_small}
+use Rattle.constraint_compile.proofs.rows.constants_of.Goals as goal
+
+pub returns-in-None-clause-none : goal.returns-in-None-clause-none
+returns-in-None-clause-none c = λ small.
+    c.in-None.ensures.none (form_small c.args.metrics.now c.args.forms.now c.loop-form.form-index c.form-item.result c.loop-form-test.true c.form-item.is small)
+
+pub loop-form-preserved : goal.loop-form-preserved
+loop-form-preserved c =
+    rw c.in_ok-push-in-Some.ensures.items (constants_more c.args.metrics.now c.args.forms.now c.loop-form.constants.items c.loop-form.form-index c.form-item.result c.in-Some.constant c.loop-form-test.true c.form-item.is c.in-Some.ensures.constant c.in-Some.ensures.small c.loop-form.invariant)

@@ -1,0 +1,57 @@
+// Visual formats, compiled.
+ghost use Rattle.std.specs.Prelude.{◌≡◌, ◌<◌, IfOk, IfErr};
+ghost use Rattle.vfl_text.specs.View.{meaning};
+ghost use Rattle.constraint_compile.specs.FormatParts as parts;
+ghost use Rattle.constraint_compile.specs.FormatStops.{row_count};
+ghost use Rattle.constraint_compile.specs.FormatRows.{IsCompiledFormat, MayStopFormat};
+
+use crate::compiled::Compiled;
+use crate::format_lines::views_of;
+use crate::format_lists::parts_of;
+use crate::format_refusals::{checked, row_count};
+use crate::format_rows::rows_of;
+use crate::stops::CompileStop;
+use frac_core::OutOfMemory;
+use name_tables::Metrics;
+use script_text::Align;
+use std::alloc::Global;
+use vfl_text::Format;
+use view_tree::Tree;
+
+/// How many rows the format has.
+pub fn format_row_count(
+    alloc: Global,
+    tree: &Tree,
+    format: &Format<'_>,
+    align: Option<Align>,
+) -> Result<usize, OutOfMemory>
+    ensures { IfOk result (λ n. n ≡ row_count tree.now.views (parts.parts (meaning format.now) align)) }
+{
+    let parts = parts_of(alloc, format, align)?;
+    Ok(row_count(tree, &parts))
+}
+
+/// The rows of a visual format and the views that its text names. The rows are numbered from the first number, in the
+/// order of the text, those of the alignment last.
+///
+/// It stops at the first unknown name of the text, and else at the first wrong use in the order `Align`, `Parent`, `Object`,
+/// `Priority`, and else at the first limit that is passed: `Rows`, where a row's number would be 2^31 or more, then
+/// `Attributes`, `Coefficient` and `Constant`, each over all rows.
+pub fn compile_format(
+    alloc: Global,
+    tree: &Tree,
+    metrics: &Metrics,
+    format: &Format<'_>,
+    align: Option<Align>,
+    first: u32,
+) -> Result<Compiled, CompileStop>
+    requires first { 0 < first }
+    ensures compiled { IfOk result (IsCompiledFormat tree.now.views metrics.now (meaning format.now) align first) }
+    ensures stop { IfErr result (MayStopFormat tree.now.views metrics.now (meaning format.now) align first) }
+{
+    let parts = parts_of(alloc, format, align)?;
+    checked(alloc, tree, metrics, format.axis, align, &parts, first)?;
+    let rows = rows_of(alloc, tree, metrics, &parts, first)?;
+    let views = views_of(alloc, tree, &parts)?;
+    Ok(Compiled::of(rows, views))
+}

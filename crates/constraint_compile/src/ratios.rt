@@ -1,0 +1,93 @@
+// Sums of quotients in 128 bits.
+ghost use Rattle.std.specs.Prelude.{◌≡◌, ℕ, ◌<◌, ◌≤◌, ◌*◌, ◌^◌, ◌+ℤ◌, ◌*ℤ◌, ◌<ℤ◌, pos, false, IsTrue, IfSome, IfNone, unsigned_abs};
+ghost use Rattle.std.specs.Int.{IsGcd};
+ghost use Rattle.frac_core.specs.Fraction.{Fraction, IsLowest, IsRatio};
+ghost use Rattle.constraint_compile.specs.Quotients.{IsDivided, IsReduced};
+
+use crate::wide::quotient;
+use frac_core::{Frac, gcd};
+
+const PRODUCT_MOST: u128 = (1 << 112) - 1;
+
+/// Both parts of a constant are below this in size.
+const CONSTANT_LIMIT: i64 = 1 << 40;
+
+/// A number over another, which is above 0.
+#[derive(Clone, Copy, Debug)]
+pub(crate) struct Ratio {
+    pub num: i128,
+    pub den: i128,
+}
+
+/// The ratio of two numbers, divided by their greatest common divisor.
+pub(crate) fn reduced(p: i128, q: i128) -> Ratio
+    requires { pos 0 <ℤ q }
+    ensures { IsReduced p q result.num result.den }
+{
+    let divisor = gcd(p.unsigned_abs(), q.unsigned_abs()) as i128;
+    Ratio {
+        num: quotient(p, divisor),
+        den: quotient(q, divisor),
+    }
+}
+
+// The product, where it is below 2^112 in size.
+fn bounded(x: i128, y: i128) -> Option<i128>
+    requires { pos 0 <ℤ y }
+    ensures value { IfSome result (λ z. z ≡ x *ℤ y) }
+    ensures small { IfSome result (λ z. unsigned_abs z < 2 ^ 112) }
+    ensures large { IfNone result (2 ^ 112 ≤ unsigned_abs x * unsigned_abs y) }
+{
+    if x.unsigned_abs() > PRODUCT_MOST / y.unsigned_abs() {
+        return None;
+    }
+    Some(x * y)
+}
+
+/// `a/b + x/y`, unless its parts in lowest terms aren't small.
+pub(crate) fn common(a: i128, b: i128, x: i128, y: i128) -> Option<Ratio>
+    requires a { unsigned_abs a < 2 ^ 70 }
+    requires b { unsigned_abs b < 2 ^ 70 }
+    requires b_above { pos 0 <ℤ b }
+    requires y_above { pos 0 <ℤ y }
+    requires apart { IsGcd (unsigned_abs x) (unsigned_abs y) 1 }
+    ensures some { IfSome result (λ r. IsDivided (a *ℤ y +ℤ x *ℤ b) (b *ℤ y) r.num r.den) }
+    ensures none { IfNone result ((f : Fraction) → IsLowest f → IsRatio f (a *ℤ y +ℤ x *ℤ b) (b *ℤ y) → unsigned_abs f.num < 2 ^ 40 → f.den < 2 ^ 40 → ⊥) }
+{
+    let shares = reduced(b, y);
+    let Some(left) = bounded(a, shares.den) else {
+        return None;
+    };
+    let Some(right) = bounded(x, shares.num) else {
+        return None;
+    };
+    let Some(den) = bounded(b, shares.den) else {
+        return None;
+    };
+    Some(Ratio {
+        num: left + right,
+        den,
+    })
+}
+
+fn is_small(constant: Frac) -> bool
+    ensures yes { IsTrue result → (unsigned_abs constant.num < 2 ^ 40) × (constant.den < 2 ^ 40) }
+    ensures no { result ≡ false → unsigned_abs constant.num < 2 ^ 40 → constant.den < 2 ^ 40 → ⊥ }
+{
+    constant.num().abs() < CONSTANT_LIMIT && constant.den() < CONSTANT_LIMIT
+}
+
+/// The ratio in lowest terms, where both parts are small.
+pub(crate) fn small_of(r: Ratio) -> Option<Frac>
+    requires { pos 0 <ℤ r.den }
+    ensures value { IfSome result (λ f. IsRatio f r.num r.den) }
+    ensures lowest { IfSome result IsLowest }
+    ensures small { IfSome result (λ f. (unsigned_abs f.num < 2 ^ 40) × (f.den < 2 ^ 40)) }
+    ensures none { IfNone result ((f : Fraction) → IsLowest f → IsRatio f r.num r.den → unsigned_abs f.num < 2 ^ 40 → f.den < 2 ^ 40 → ⊥) }
+{
+    match Frac::of(r.num, r.den) {
+        Ok(f) if is_small(f) => Some(f),
+        Ok(_) => None,
+        Err(_) => None,
+    }
+}

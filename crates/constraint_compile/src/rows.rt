@@ -1,0 +1,138 @@
+// The rows of compiled lines for given metrics.
+ghost use Rattle.std.specs.Prelude.{◌≡◌, ◌≤◌, ◌<◌, ◌^◌, ℕ, List, length, map, IfOk, IfErr, IfSome, IfNone, OnSome};
+ghost use Rattle.frac_core.specs.Fraction.{IsKept};
+ghost use Rattle.constraint_compile.specs.Fractions.{IsConstant};
+ghost use Rattle.constraint_compile.specs.Compiled.{AreSmallSteps, AreSmallForms, AreRowsNow, AreConstantsNow, IsRowNow, step_sum, last_scale};
+ghost use Rattle.constraint_compile.specs.Inside.{form_view, IsForm, AreForms};
+ghost use Rattle.constraint_compile.specs.Keeps.{AreScalesKept, steps_view};
+ghost use Rattle.constraint_compile.specs.Stops.{IsConstantStop};
+
+use crate::compiled::{Compiled, RowForm};
+use crate::steps::{Step, constant_after};
+use crate::stops::CompileStop;
+use frac_core::{Frac, OutOfMemory};
+use name_tables::{LimitWord, Metrics};
+use problem_core::Row;
+use std::alloc::Global;
+
+// The scale after the last step.
+fn scale_of(steps: &[Step]) -> u32
+    requires { AreScalesKept steps.now }
+    ensures scale { (names : List (List ℕ)) → result ≡ last_scale (steps_view names steps.now) }
+    ensures above { 0 < result }
+    ensures small { result ≤ 2 ^ 30 }
+{
+    if steps.is_empty() {
+        return 1;
+    }
+    steps[steps.len() - 1].scale
+}
+
+// The row with this constant.
+fn with_constant(alloc: Global, form: &RowForm, constant: Frac) -> Result<Row, OutOfMemory>
+    requires { IsForm form.now }
+    ensures kept { IsKept constant }
+    ensures row { IfOk result (λ r. (r.id ≡ form.now.id) × (r.rank ≡ form.now.rank) × (r.weight ≡ form.now.weight) × (r.rel ≡ form.now.rel) × (r.scale ≡ last_scale (form_view form.now).steps) × (r.terms ≡ form.now.terms.items) × (r.constant ≡ constant)) }
+{
+    let _den = constant.den();
+    let scale = i64::from(scale_of(&form.steps));
+    Row::of(
+        alloc,
+        form.id,
+        form.rank,
+        form.weight,
+        form.rel,
+        scale,
+        constant,
+        &form.terms,
+    )
+}
+
+// The row's constant for these metrics, unless it is past the limit after a step.
+fn constant_now(form: &RowForm, metrics: &Metrics) -> Option<Frac>
+    requires { IsForm form.now }
+    ensures constant { IfSome result (IsConstant (last_scale (form_view form.now).steps) (step_sum metrics.now (form_view form.now).steps)) }
+    ensures small { OnSome result (AreSmallSteps metrics.now (form_view form.now).steps) }
+    ensures none { IfNone result (AreSmallSteps metrics.now (form_view form.now).steps → ⊥) }
+{
+    constant_after(metrics, &form.names, &form.steps)
+}
+
+fn row_now(alloc: Global, form: &RowForm, metrics: &Metrics) -> Result<Option<Row>, OutOfMemory>
+    requires { IsForm form.now }
+    ensures row { IfOk result (λ o. IfSome o (IsRowNow metrics.now (form_view form.now))) }
+    ensures small { IfOk result (λ o. OnSome o (AreSmallSteps metrics.now (form_view form.now).steps)) }
+    ensures none { IfOk result (λ o. IfNone o (AreSmallSteps metrics.now (form_view form.now).steps → ⊥)) }
+{
+    match constant_now(form, metrics) {
+        Some(constant) => Ok(Some(with_constant(alloc, form, constant)?)),
+        None => Ok(None),
+    }
+}
+
+fn rows_of(
+    alloc: Global,
+    forms: &[RowForm],
+    metrics: &Metrics,
+) -> Result<Option<Vec<Row>>, OutOfMemory>
+    requires { AreForms forms.now }
+    ensures rows { IfOk result (λ o. IfSome o (λ rows. AreRowsNow metrics.now (map form_view forms.now) rows.items)) }
+    ensures none { IfOk result (λ o. IfNone o (AreSmallForms metrics.now (map form_view forms.now) → ⊥)) }
+{
+    let mut rows = Vec::with_capacity(alloc, forms.len())?;
+    for form in forms {
+        match row_now(alloc, form, metrics)? {
+            Some(row) => rows.push(row)?,
+            None => return Ok(None),
+        }
+    }
+    Ok(Some(rows))
+}
+
+fn constants_of(
+    alloc: Global,
+    forms: &[RowForm],
+    metrics: &Metrics,
+) -> Result<Option<Vec<Frac>>, OutOfMemory>
+    requires { AreForms forms.now }
+    ensures constants { IfOk result (λ o. IfSome o (λ constants. AreConstantsNow metrics.now (map form_view forms.now) constants.items)) }
+    ensures none { IfOk result (λ o. IfNone o (AreSmallForms metrics.now (map form_view forms.now) → ⊥)) }
+{
+    let mut constants = Vec::with_capacity(alloc, forms.len())?;
+    for form in forms {
+        match constant_now(form, metrics) {
+            Some(constant) => constants.push(constant)?,
+            None => return Ok(None),
+        }
+    }
+    Ok(Some(constants))
+}
+
+/// The constant of each row of a line for these metrics. `Limit(Constant)` where a part of the constant of some row isn't below
+/// 2^40 in size after some term. A metric that isn't there counts as 0.
+pub fn constants_now(
+    alloc: Global,
+    c: &Compiled,
+    metrics: &Metrics,
+) -> Result<Vec<Frac>, CompileStop>
+    ensures constants { IfOk result (λ constants. AreConstantsNow metrics.now c.now.rows constants.items) }
+    ensures stop { IfErr result (IsConstantStop metrics.now c.now.rows) }
+{
+    match constants_of(alloc, c.forms(), metrics)? {
+        Some(constants) => Ok(constants),
+        None => Err(CompileStop::Limit(LimitWord::Constant)),
+    }
+}
+
+impl Compiled {
+    /// The rows with their constants for these metrics; the rest as in `constants_now`.
+    pub fn rows_now(&self, alloc: Global, metrics: &Metrics) -> Result<Vec<Row>, CompileStop>
+        ensures rows { IfOk result (λ rows. AreRowsNow metrics.now self.now.rows rows.items) }
+        ensures stop { IfErr result (IsConstantStop metrics.now self.now.rows) }
+    {
+        match rows_of(alloc, self.forms(), metrics)? {
+            Some(rows) => Ok(rows),
+            None => Err(CompileStop::Limit(LimitWord::Constant)),
+        }
+    }
+}
