@@ -1,11 +1,11 @@
 -- The products of an exchange.
-use Rattle.std.proofs.Common.{◌≡◌, ℕ, ◌+◌, ◌*◌, ◌<◌, List, ℤ, pos, ◌+ℤ◌, ◌*ℤ◌, ◌-ℤ◌, neg_ℤ, ◌<ℤ◌, refl, sym, ap, ap₂, subst, ◌∙◌, arith, mul-pos}
+use Rattle.std.proofs.Common.{◌≡◌, ℕ, ◌*◌, ◌<◌, List, ℤ, pos, ◌+ℤ◌, ◌*ℤ◌, ◌-ℤ◌, neg_ℤ, ◌<ℤ◌, sym, ap, ap₂, subst, ◌∙◌, arith, mul-pos}
 use borrow.Author.Differences.{ints}
 use Rattle.problem_core.proofs.Tableaus.{IsPivoted, zero_of_product}
 use lib.Signed.{<ℤ_irrefl}
 use Rattle.problem_core.specs.declared.parts.Term.{Term}
 use Rattle.problem_core.specs.Layout.{coefficient}
-use Rattle.frac_core.proofs.Integers.{mul_assoc_ℤ, mul_left_comm_ℤ, zero-mul_ℤ, mul-zero_ℤ, zero_from_mul, mul-sub_left, same_from_sub, sub-self, cancel_mul, diff, diff-add, diff-mul, diff-neg, diff-pos, neg-pos, on_1, on_2, on_3, diff_eq, mul-add_left, add-mul_right}
+use Rattle.frac_core.proofs.Integers.{mul_assoc_ℤ, mul_left_comm_ℤ, zero-mul_ℤ, mul-zero_ℤ, zero_from_mul, mul-sub_left, same_from_sub, sub-self, cancel_mul, diff-add, diff-mul, diff-neg, diff-pos, neg-pos, on_1, on_2, on_3, diff_eq, mul-add_left, add-mul_right}
 
 ruleset ring = (diff-add, diff-mul, diff-neg, diff-pos, neg-pos)
 

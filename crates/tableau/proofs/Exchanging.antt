@@ -1,6 +1,5 @@
 -- What an exchange makes of one row.
-use Rattle.std.proofs.Common.{◌≡◌, ◌≢◌, ℕ, ◌+◌, ◌*◌, ◌<◌, Bool, true, false, cond, nat_eq, List, [], ◌∷◌, map, ℤ, pos, negsuc, ◌+ℤ◌, ◌*ℤ◌, neg_ℤ, ◌<ℤ◌, refl, sym, ap, ap₂, subst, ◌∙◌, inl, inr, arith, mul-pos, eq-eqb, ne_eqb}
-use Rattle.std.proofs.lemmas.Bool.{cases_Bool}
+use Rattle.std.proofs.Common.{◌≡◌, ◌≢◌, ℕ, ◌*◌, ◌<◌, Bool, true, false, cond, nat_eq, List, [], ◌∷◌, map, ℤ, pos, negsuc, ◌+ℤ◌, ◌*ℤ◌, neg_ℤ, ◌<ℤ◌, refl, sym, ap, ap₂, subst, ◌∙◌, arith, mul-pos, eq-eqb, ne_eqb}
 use lib.IntN.{*ℤ_comm}
 use lib.Signed.{<ℤ_irrefl}
 use borrow.Author.Differences.{ints}
@@ -11,11 +10,10 @@ use Rattle.problem_core.specs.declared.stops.What.TheVariants.{Mark as MarkOf}
 use Rattle.problem_core.specs.Corners.{place}
 use Rattle.row_core.specs.Rows.{IsKeptRow, IsReduced}
 use Rattle.tableau.specs.Exchanges.{IsReady, IsExchangedWriting, IsCombined, IsTurned, IsTurnedRow, IsTurnedValue, IsCleared, IsClearedValue, clearing}
-use Rattle.problem_core.specs.declared.parts.Term.{Term}
 use Rattle.problem_core.specs.Layout.{coefficient as named_coefficient}
 use Rattle.problem_core.specs.Corners.{one_column}
 use Rattle.problem_core.proofs.Tableaus.{IsPivoted, zero_of_product}
-use Rattle.frac_core.proofs.Integers.{mul-add_left, mul-zero_ℤ, zero-mul_ℤ, mul-sub_left, mul_positive, mul-opposite, positive_from, zero_from_mul}
+use Rattle.frac_core.proofs.Integers.{mul-add_left, mul-zero_ℤ, zero-mul_ℤ, mul_positive, mul-opposite, positive_from, zero_from_mul}
 use Rattle.row_core.specs.Rows.{coefficient}
 use Rattle.row_core.specs.Rows as rows
 use Rattle.tableau.specs.Written.{Writing}
@@ -156,31 +154,45 @@ without-last x m z e = omega (arith, ints, ap (λ (t : ℤ). m *ℤ t) e ∙ mul
 swapped-out : (e r : ℤ) → e *ℤ r +ℤ neg_ℤ r *ℤ e ≡ pos 0
 swapped-out e r = ap (λ (t : ℤ). t +ℤ neg_ℤ r *ℤ e) (*ℤ_comm e r) ∙ mul-opposite r e
 
-pub cleared_made : (pivot old new : Writing) (c : ℕ) → IsKeptWriting old → IsKeptWriting pivot → new.what ≡ old.what → IsReduced new.row (clearing pivot c old) → IsClearedValue pivot c old new.value → IsKeptRow new.row → IsKept new.value → pos 0 <ℤ own old → column_of pivot.what ≡ c → pos 0 <ℤ coefficient c pivot.row → coefficient (column_of old.what) pivot.row ≡ pos 0 → IsCleared pivot c old new
-cleared_made pivot old new c kept-old kept-pivot what t value row fraction own-old pivot-what entering apart =
+-- the old row without the column c, which the pivot writes, whether its numbers fit or not
+pub record IsSwept (pivot : Writing) (c : ℕ) (old new : Writing) : Type 0 where
+  pub what : new.what ≡ old.what
+  pub without : coefficient c new.row ≡ pos 0
+  pub row : IsPivoted (plain pivot) (plain old) (plain new)
+  pub form : IsPivoted (form pivot) (form old) (form new)
+  pub own : pos 0 <ℤ own new
+
+pub swept_made : (pivot old new : Writing) (c : ℕ) → IsKept old.value → IsKept pivot.value → new.what ≡ old.what → IsReduced new.row (clearing pivot c old) → IsClearedValue pivot c old new.value → IsKept new.value → pos 0 <ℤ own old → column_of pivot.what ≡ c → pos 0 <ℤ coefficient c pivot.row → coefficient (column_of old.what) pivot.row ≡ pos 0 → IsSwept pivot c old new
+swept_made pivot old new c kept-old kept-pivot what t value fraction own-old pivot-what entering apart =
     let e : ℤ = coefficient c pivot.row in
     let r : ℤ = neg_ℤ (coefficient c old.row) in
     let own-pivot : own pivot ≡ coefficient c pivot.row = own-column pivot c pivot-what in
     let own-new : own new ≡ coefficient (column_of old.what) new.row = ap (λ (x : What). coefficient (column_of x) new.row) what in
     let own-same : pos t.factor *ℤ own new ≡ coefficient c pivot.row *ℤ own old =
     ap (λ (k : ℤ). pos t.factor *ℤ k) own-new ∙ t.same (column_of old.what) ∙ without-last (coefficient c pivot.row *ℤ own old) (neg_ℤ (coefficient c old.row)) (coefficient (column_of old.what) pivot.row) apart in
-    let above-a : 0 < old.value.den = kept-old.1.lowest.above in
-    let above-b : 0 < pivot.value.den = kept-pivot.1.lowest.above in
+    let above-a : 0 < old.value.den = kept-old.lowest.above in
+    let above-b : 0 < pivot.value.den = kept-pivot.lowest.above in
     let above-d : 0 < new.value.den = fraction.lowest.above in
     record {
       what = what;
       without = zero_from_mul t.factor (coefficient c new.row) t.above (t.same c ∙ swapped-out (coefficient c pivot.row) (coefficient c old.row));
-      combined = record {
-        row = plain_pivoted pivot old new t.factor e r t.above (not-zero _ entering) t.same;
-        form = form_pivoted pivot old new (t.factor * (old.value.den * pivot.value.den)) (e *ℤ pos (new.value.den * pivot.value.den)) (r *ℤ pos (new.value.den * old.value.den))
-            (mul-pos t.above (mul-pos above-a above-b))
-            (factor-nonzero e (new.value.den * pivot.value.den) (not-zero _ entering) (mul-pos above-d above-b))
-            (λ k. row-combined t.factor old.value.den pivot.value.den new.value.den e r (coefficient k old.row) (coefficient k pivot.row) (coefficient k new.row) (t.same k))
-            (value-combined t.factor old.value.den pivot.value.den new.value.den e (own old) (own new) r old.value.num pivot.value.num new.value.num own-same value
-            ∙ ap (λ (k : ℤ). (e *ℤ pos (new.value.den * pivot.value.den)) *ℤ (own old *ℤ old.value.num) +ℤ (r *ℤ pos (new.value.den * old.value.den)) *ℤ (k *ℤ pivot.value.num)) (sym own-pivot));
-        own = positive_from t.factor (own new) (subst (λ (k : ℤ). pos 0 <ℤ k) (sym own-same) (times-positive e (own old) entering own-old));
-        kept = (row, fraction);
-      };
+      row = plain_pivoted pivot old new t.factor e r t.above (not-zero _ entering) t.same;
+      form = form_pivoted pivot old new (t.factor * (old.value.den * pivot.value.den)) (e *ℤ pos (new.value.den * pivot.value.den)) (r *ℤ pos (new.value.den * old.value.den))
+          (mul-pos t.above (mul-pos above-a above-b))
+          (factor-nonzero e (new.value.den * pivot.value.den) (not-zero _ entering) (mul-pos above-d above-b))
+          (λ k. row-combined t.factor old.value.den pivot.value.den new.value.den e r (coefficient k old.row) (coefficient k pivot.row) (coefficient k new.row) (t.same k))
+          (value-combined t.factor old.value.den pivot.value.den new.value.den e (own old) (own new) r old.value.num pivot.value.num new.value.num own-same value
+          ∙ ap (λ (k : ℤ). (e *ℤ pos (new.value.den * pivot.value.den)) *ℤ (own old *ℤ old.value.num) +ℤ (r *ℤ pos (new.value.den * old.value.den)) *ℤ (k *ℤ pivot.value.num)) (sym own-pivot));
+      own = positive_from t.factor (own new) (subst (λ (k : ℤ). pos 0 <ℤ k) (sym own-same) (times-positive e (own old) entering own-old));
+    }
+
+pub cleared_made : (pivot old new : Writing) (c : ℕ) → IsKeptWriting old → IsKeptWriting pivot → new.what ≡ old.what → IsReduced new.row (clearing pivot c old) → IsClearedValue pivot c old new.value → IsKeptRow new.row → IsKept new.value → pos 0 <ℤ own old → column_of pivot.what ≡ c → pos 0 <ℤ coefficient c pivot.row → coefficient (column_of old.what) pivot.row ≡ pos 0 → IsCleared pivot c old new
+cleared_made pivot old new c kept-old kept-pivot what t value row fraction own-old pivot-what entering apart =
+    let swept : IsSwept pivot c old new = swept_made pivot old new c kept-old.1 kept-pivot.1 what t value fraction own-old pivot-what entering apart in
+    record {
+      what = what;
+      without = swept.without;
+      combined = record { row = swept.row; form = swept.form; own = swept.own; kept = (row, fraction) };
     }
 
 -- what the pivot of an exchange needs

@@ -1,10 +1,9 @@
 -- A tableau with one more line and one more row.
-use Rattle.std.proofs.Common.{◌≡◌, ◌≢◌, ◌∙◌, ◌⊎◌, ℕ, zero, suc, ◌+◌, ◌<◌, ◌≤◌, ◌++◌, Bool, true, false, cond, nat_eq, List, [], ◌∷◌, map, length, get_or, pos, ◌*ℤ◌, ◌+ℤ◌, ◌<ℤ◌, ℤ, sym, ap, ap₂, subst, refl, arith, inl, inr, All, eq-eqb, ne_eqb, true≢false}
-use Rattle.std.specs.List.{AllByRecursion as Each, Any}
+use Rattle.std.proofs.Common.{◌≡◌, ◌≢◌, ◌∙◌, ◌⊎◌, ℕ, ◌+◌, ◌<◌, ◌++◌, Bool, true, false, cond, nat_eq, List, [], ◌∷◌, map, length, pos, ◌*ℤ◌, ◌+ℤ◌, ◌<ℤ◌, ℤ, sym, ap, subst, refl, arith, inl, inr, All, eq-eqb, ne_eqb, true≢false}
+use Rattle.std.specs.List.{AllByRecursion as Each}
 use Rattle.std.proofs.lemmas.Bool.{cases_Bool, cases_eq}
 use Rattle.std.proofs.lemmas.List.Elements.{recursion_from_All, All-from_recursion, All-push}
 use Rattle.std.proofs.Common.{length-append}
-use borrow.Author.Differences.{ints}
 use Rattle.problem_core.specs.declared.parts.Side.TheVariants.{Under}
 use Rattle.problem_core.specs.declared.stops.What.{What}
 use Rattle.problem_core.specs.declared.stops.What.TheVariants.{Attr}
@@ -12,7 +11,7 @@ use Rattle.problem_core.specs.Kept.{IsWhole}
 use Rattle.problem_core.specs.Layout.{Problem, Line, lines, sum_of, value_at, coefficient as named_coefficient}
 use Rattle.problem_core.specs.Corners.{one_column, place_of, equation}
 use Rattle.problem_core.proofs.Forms.{sum-append, sum-zero, each-impl, each-both}
-use Rattle.problem_core.proofs.Tableaus.{Basic, Holds, HoldAll, IsTableau, IsUnitRow, AreDistinct, is_inside, IsMarked}
+use Rattle.problem_core.proofs.Tableaus.{Basic, Holds, HoldAll, IsTableau, IsUnitRow, AreDistinct, is_inside}
 use Rattle.frac_core.proofs.Integers.{mul_positive, mul-zero_ℤ, zero-mul_ℤ, zero-add_ℤ}
 use Rattle.row_core.specs.Rows.{coefficient}
 use Rattle.tableau.specs.Written.{Writing}

@@ -1,13 +1,12 @@
 -- The columns of a new attribute and its stay, which no line of a problem has.
-use Rattle.std.proofs.Common.{◌≡◌, ◌≢◌, ◌∙◌, ℕ, zero, suc, ◌+◌, ◌*◌, ◌<◌, ◌≤◌, ◌^◌, ◌++◌, Bool, true, false, cond, nat_eq, List, [], ◌∷◌, map, length, get_or, pos, negsuc, neg_ℤ, ◌*ℤ◌, ◌+ℤ◌, ℤ, sym, ap, ap₂, subst, refl, arith, All, ne_eqb, length-append, append_assoc}
+use Rattle.std.proofs.Common.{◌≡◌, ◌≢◌, ◌∙◌, ℕ, ◌+◌, ◌*◌, ◌<◌, ◌++◌, Bool, cond, nat_eq, List, [], ◌∷◌, map, length, get_or, pos, neg_ℤ, ◌+ℤ◌, ℤ, sym, ap, ap₂, subst, refl, arith, All, ne_eqb, length-append, append_assoc}
 use Rattle.std.specs.List.{AllByRecursion as Each, Any}
 use Rattle.std.proofs.lemmas.List.{get_or_append_left}
 use Rattle.std.proofs.lemmas.List.Elements.{recursion_from_All, All-from_recursion}
-use borrow.Author.Differences.{ints}
 use Rattle.problem_core.specs.declared.parts.Term.{Term}
 use Rattle.problem_core.specs.declared.parts.Stay.{Stay}
 use Rattle.problem_core.specs.declared.parts.Mark.{Mark}
-use Rattle.problem_core.specs.declared.parts.RowName.TheVariants.{Held, Stay as StayOf}
+use Rattle.problem_core.specs.declared.parts.RowName.TheVariants.{Stay as StayOf}
 use Rattle.problem_core.specs.declared.parts.Side.TheVariants.{Under, Over}
 use Rattle.problem_core.specs.declared.stops.What.{What}
 use Rattle.problem_core.specs.declared.stops.What.TheVariants.{Attr, Mark as MarkOf, Level}

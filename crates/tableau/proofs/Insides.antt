@@ -1,18 +1,15 @@
 -- What is written, by its place in the list.
-use Rattle.std.proofs.Common.{◌≡◌, ◌≢◌, ◌∙◌, ℕ, zero, suc, ◌+◌, ◌<◌, Bool, true, false, cond, nat_eq, List, [], ◌∷◌, map, length, get_or, pos, ◌*ℤ◌, ◌+ℤ◌, ◌<ℤ◌, neg_ℤ, ℤ, sym, ap, ap₂, subst, refl, arith, inl, inr, All, eq-eqb, ne_eqb, true≢false}
-use Rattle.std.specs.List.{AllByRecursion as Each, Any}
+use Rattle.std.proofs.Common.{◌≡◌, ◌≢◌, ◌∙◌, ℕ, zero, suc, ◌<◌, Bool, true, false, cond, nat_eq, List, [], ◌∷◌, map, length, get_or, pos, ◌*ℤ◌, ◌+ℤ◌, ◌<ℤ◌, neg_ℤ, ℤ, sym, ap, subst, refl, arith, inl, inr, eq-eqb, ne_eqb, true≢false}
+use Rattle.std.specs.List.{AllByRecursion as Each}
 use Rattle.std.proofs.lemmas.Bool.{cases_Bool, cases_eq}
-use Rattle.std.proofs.lemmas.List.Elements.{recursion_from_All, All-from_recursion}
-use borrow.Author.Differences.{ints}
 use Rattle.problem_core.specs.Layout.{coefficient as named_coefficient}
 use Rattle.problem_core.specs.Corners.{one_column}
-use Rattle.problem_core.proofs.Tableaus.{Basic, IsTableau, IsUnitRow, AreDistinct, is_inside}
+use Rattle.problem_core.proofs.Tableaus.{Basic, IsUnitRow, AreDistinct, is_inside}
 use Rattle.frac_core.proofs.Integers.{zero_from_mul, positive_from, zero-add_ℤ}
 use Rattle.row_core.specs.Rows.{coefficient}
 use Rattle.tableau.specs.Written.{Writing}
-use Rattle.tableau.specs.Tables.{Table, IsTable, HasColumn, IsKeptWriting, basic, basics, column_of, form, own}
-use Rattle.tableau.specs.Exchanges.{IsReady}
-use Rattle.tableau.proofs.Exchanging.{coefficient-form, constant_at}
+use Rattle.tableau.specs.Tables.{HasColumn, IsKeptWriting, basic, column_of, form, own}
+use Rattle.tableau.proofs.Exchanging.{coefficient-form}
 
 -- what holds of each row holds of the row at a place
 pub each_at : (P : Basic → Type 0) (ws : List Writing) (i : ℕ) (x : Writing) → i < length ws → x ≡ get_or ws i x → Each P (map basic ws) → P (basic x)

@@ -8,3 +8,16 @@ pub mod Extending
 pub mod Fresh
 pub mod NewAttrs
 pub mod NewRows
+pub mod MovedPoints
+pub mod ShiftLemmas
+pub mod WideProducts
+pub mod WideMerging
+pub mod WideDivisors
+pub mod WideLowest
+pub mod WideSums
+pub mod SumRows
+pub mod Joined
+pub mod NamedMarks
+pub mod Words
+pub mod Counting
+pub mod Standing

@@ -1,7 +1,7 @@
 -- A tableau with one more attribute.
-use Rattle.std.proofs.Common.{◌≡◌, ◌≢◌, ◌∙◌, ℕ, zero, suc, ◌+◌, ◌*◌, ◌<◌, ◌≤◌, ◌^◌, ◌++◌, Bool, true, false, cond, nat_eq, List, [], ◌∷◌, map, length, get_or, pos, negsuc, neg_ℤ, ◌*ℤ◌, ◌+ℤ◌, ◌<ℤ◌, ℤ, sym, ap, ap₂, subst, refl, arith, All, Result, Ok, Err, IfOk, IfErr, eq-eqb, ne_eqb, length-append, append-nil}
-use Rattle.std.specs.List.{AllByRecursion as Each, Any}
-use Rattle.std.proofs.lemmas.List.Elements.{recursion_from_All, All-from_recursion, All-push}
+use Rattle.std.proofs.Common.{◌≡◌, ◌≢◌, ◌∙◌, ℕ, zero, ◌+◌, ◌<◌, ◌++◌, Bool, true, false, cond, nat_eq, [], ◌∷◌, length, get_or, pos, negsuc, neg_ℤ, ◌*ℤ◌, ◌+ℤ◌, ◌<ℤ◌, ℤ, sym, ap, ap₂, subst, refl, arith, All, eq-eqb, ne_eqb, length-append, append-nil}
+use Rattle.std.specs.List.{AllByRecursion as Each}
+use Rattle.std.proofs.lemmas.List.Elements.{All-push}
 use Rattle.std.proofs.lemmas.List.Quantifiers.{all_pairs_push, Any-push}
 use Rattle.std.proofs.lemmas.Nat.Gcd.{IsGcd-from_zero, IsGcd-swap}
 use borrow.Author.Differences.{ints}
@@ -12,18 +12,17 @@ use Rattle.problem_core.specs.declared.parts.Side.TheVariants.{Under, Over}
 use Rattle.problem_core.specs.declared.stops.What.{What}
 use Rattle.problem_core.specs.declared.stops.What.TheVariants.{Attr}
 use Rattle.problem_core.specs.Kept.{IsNumber, IsStay, IsWhole}
-use Rattle.problem_core.specs.Layout.{Problem, Line, lines, line_of_stay, sum_of, value_at, coefficient as named_coefficient, HasStay, IsCovered}
+use Rattle.problem_core.specs.Layout.{Problem, Line, lines, line_of_stay, sum_of, value_at, coefficient as named_coefficient}
 use Rattle.problem_core.specs.Corners.{attr_column, one_column, place_of, equation}
 use Rattle.problem_core.proofs.Forms.{value-pivot, sum-append, sum-zero, each-impl}
-use Rattle.problem_core.proofs.Tableaus.{Holds, HoldAll, is_inside}
 use Rattle.frac_core.proofs.Integers.{zero_from_mul, cancel_mul, mul-zero_ℤ, zero-mul_ℤ, zero-add_ℤ, add-zero_ℤ, mul_assoc_ℤ, positive_from}
 use Rattle.row_core.specs.Rows.{coefficient}
 use Rattle.tableau.specs.Written.{Writing}
-use Rattle.tableau.specs.Tables.{Table, IsTable, HasColumn, IsWritten, IsNamed, IsSumOfLines, basics, column_of, form, plain, own, marked_form}
-use Rattle.tableau.specs.Joining.{IsAttrWriting, attr_row, zero as nought}
-use Rattle.tableau.proofs.Exchanging.{coefficient-plain, coefficient-form, constant_at}
+use Rattle.tableau.specs.Tables.{Table, IsTable, HasColumn, IsWritten, IsNamed, IsSumOfLines, column_of, form, plain, own, marked_form}
+use Rattle.tableau.specs.Joining.{IsAttrWriting, attr_row, nought}
+use Rattle.tableau.proofs.Exchanging.{coefficient-plain, coefficient-form}
 use Rattle.tableau.proofs.Insides.{at_inside, not_inside, form_at}
-use Rattle.tableau.proofs.Extending.{IsExtension, extended_table}
+use Rattle.tableau.proofs.Extending.{extended_table}
 use Rattle.tableau.proofs.Fresh.{IsApart, any_append, lines-push, lines-apart, under-fresh, attr-fresh, named-apart, named-more}
 
 abbrev stay_at : ℕ → Stay
@@ -42,7 +41,7 @@ stays-apart t attr table fresh = λ k d h e.
     let w : IsWritten t.written (Attr (get_or t.problem.stays k d).attr) = table.attrs k d h in
     fresh (w.0, w.1, w.2, w.3, ap column_of w.4 ∙ ap attr_column e)
 
-nought-kept : IsKept nought
+pub nought-kept : IsKept nought
 nought-kept = record { lowest = record { above = omega arith; coprime = IsGcd-swap 1 0 1 (IsGcd-from_zero 1 0 refl) }; fits = record { num_fits = omega arith; den_fits = omega arith } }
 
 whole-more : (p : Problem) (attr : ℕ) → IsWhole p → IsNumber attr → All (λ s. s.attr ≢ attr) p.stays → length p.stays < 4096 → IsWhole (with_stay p attr)

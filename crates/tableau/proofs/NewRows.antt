@@ -1,34 +1,30 @@
 -- A tableau with one more row.
-use Rattle.std.proofs.Common.{◌≡◌, ◌⊎◌, ◌≢◌, ◌∙◌, ℕ, zero, suc, ◌+◌, ◌*◌, ◌<◌, ◌≤◌, ◌^◌, ◌++◌, Bool, true, false, cond, nat_eq, List, [], ◌∷◌, map, length, get_or, pos, negsuc, neg_ℤ, ◌*ℤ◌, ◌+ℤ◌, ◌<ℤ◌, ℤ, sym, ap, ap₂, subst, refl, arith, inl, inr, All, eq-eqb, ne_eqb, length-append, append_assoc, mul-pos}
+use Rattle.std.proofs.Common.{◌≡◌, ◌⊎◌, ◌≢◌, ◌∙◌, ℕ, zero, suc, ◌+◌, ◌*◌, ◌<◌, ◌++◌, List, [], ◌∷◌, map, pos, ◌*ℤ◌, ◌+ℤ◌, ◌<ℤ◌, ℤ, sym, ap, ap₂, subst, refl, arith, inl, inr, append_assoc}
 use Rattle.std.specs.List.{AllByRecursion as Each, Any}
 use Rattle.std.proofs.lemmas.Bool.{cases_eq}
-use Rattle.std.proofs.lemmas.List.Elements.{recursion_from_All, All-from_recursion, All-push}
-use Rattle.std.proofs.lemmas.List.Quantifiers.{all_pairs_push}
-use borrow.Author.Differences.{ints}
-use Rattle.frac_core.specs.Fraction.{Fraction, IsKept}
+use Rattle.std.proofs.lemmas.List.Elements.{recursion_from_All}
 use Rattle.problem_core.specs.declared.parts.Term.{Term}
 use Rattle.problem_core.specs.declared.parts.Stay.{Stay}
 use Rattle.problem_core.specs.declared.parts.Mark.{Mark}
-use Rattle.problem_core.specs.declared.parts.RowName.TheVariants.{Held, Stay as StayOf}
+use Rattle.problem_core.specs.declared.parts.RowName.TheVariants.{Held}
+use Rattle.problem_core.specs.declared.parts.Side.{Side}
 use Rattle.problem_core.specs.declared.parts.Side.TheVariants.{Under, Over}
 use Rattle.problem_core.specs.declared.stops.What.{What}
 use Rattle.problem_core.specs.declared.stops.What.TheVariants.{Attr, Mark as MarkOf, Level}
-use Rattle.problem_core.specs.Kept.{IsNumber, IsRow, IsStay, IsWhole}
-use Rattle.problem_core.specs.Layout.{Problem, Row, Line, lines, line_of_row, line_of_stay, stay_lines, sum_of, value_at, coefficient as named_coefficient, IsCovered}
-use Rattle.problem_core.specs.Corners.{attr_column, one_column, place, place_of, equation, marks_of}
-use Rattle.problem_core.proofs.Forms.{value-pivot, sum-append, sum-zero, each-impl}
-use Rattle.problem_core.proofs.Tableaus.{IsUnitRow, Holds, HoldAll, is_inside, held_before, holds_after, marked_after}
-use Rattle.frac_core.proofs.Integers.{diff, diff-add, diff-mul, diff-neg, diff-pos, neg-pos, on_1, on_2, on_3, diff_eq, zero_from_mul, cancel_mul, mul-zero_ℤ, zero-mul_ℤ, zero-add_ℤ, add-zero_ℤ, mul_assoc_ℤ, positive_from, mul-add_left}
+use Rattle.problem_core.specs.Kept.{IsNumber, IsRow, IsStay}
+use Rattle.problem_core.specs.Layout.{Problem, Row, Line, lines, line_of_row, stay_lines, coefficient as named_coefficient}
+use Rattle.problem_core.specs.Corners.{attr_column, one_column, place, place_of, marks_of}
+use Rattle.problem_core.proofs.Forms.{each-impl}
+use Rattle.problem_core.proofs.Tableaus.{IsUnitRow, Holds, held_before, holds_after, marked_after}
+use Rattle.frac_core.proofs.Integers.{zero_from_mul, mul-zero_ℤ}
 use Rattle.row_core.specs.Rows.{coefficient}
 use Rattle.tableau.specs.Written.{Writing}
-use Rattle.tableau.specs.Tables.{Table, IsTable, IsWriting, HasColumn, IsNamed, IsSumOfLines, IsKeptWriting, basic, basics, column_of, form, plain, own, marked_form}
-use Rattle.tableau.specs.Exchanges.{IsCleared}
+use Rattle.tableau.specs.Tables.{Table, IsTable, IsWriting, HasColumn, IsNamed, IsSumOfLines, IsKeptWriting, basic, basics, column_of, form, plain, marked_form}
 use Rattle.tableau.specs.Joining.{IsJoining, IsJoinable, over_mark, with_row}
-use Rattle.tableau.proofs.Algebra.{mul-neg}
-use Rattle.tableau.proofs.Exchanging.{coefficient-plain, coefficient-form}
-use Rattle.tableau.proofs.Insides.{at_inside, inside_at, not_inside, form_at, each_at, row_others, row_own}
-use Rattle.tableau.proofs.Extending.{IsExtension, extended_table, each-append, row-without, sum-more}
-use Rattle.tableau.proofs.Fresh.{any_append, attr_terms, marks-absent, marked-zero, named-apart}
+use Rattle.tableau.proofs.Exchanging.{IsSwept, coefficient-plain}
+use Rattle.tableau.proofs.Insides.{at_inside, each_at, row_others, row_own}
+use Rattle.tableau.proofs.Extending.{each-append, row-without, sum-more}
+use Rattle.tableau.proofs.Fresh.{marks-absent, marked-zero}
 
 -- ---- the lines
 
@@ -78,7 +74,7 @@ id-small id h = omega (arith, h.1)
 pub over-fresh : (id : ℕ) (l : Line) → IsNumber id → IsAway id l → named_coefficient (place_of (Held id) Over) (marked_form l) ≡ pos 0
 over-fresh id l h a = marked-zero (place_of (Held id) Over) l a.under_over a.over_over (marks-absent (place_of (Held id) Over) l.form (omega (arith, h.1)))
 
-under-free : (id : ℕ) (l : Line) → IsNumber id → IsAway id l → named_coefficient (place_of (Held id) Under) (marked_form l) ≡ pos 0
+pub under-free : (id : ℕ) (l : Line) → IsNumber id → IsAway id l → named_coefficient (place_of (Held id) Under) (marked_form l) ≡ pos 0
 under-free id l h a = marked-zero (place_of (Held id) Under) l a.under_under a.over_under (marks-absent (place_of (Held id) Under) l.form (omega (arith, h.1)))
 
 map-append : (xs ys : List Row) → map line_of_row (xs ++ ys) ≡ map line_of_row xs ++ map line_of_row ys
@@ -92,7 +88,7 @@ lines-insert p r =
 
 -- ---- a term's attribute goes
 
-pub joining_step : (t : Table) (r : Row) (e : Term) (left : List Term) (pivot old new : Writing) → IsTable t → IsJoinable t r → IsWriting t.written (attr_column e.attr) pivot → IsJoining t r (e ∷ left) old → IsCleared pivot (attr_column e.attr) old new → IsJoining t r left new
+pub joining_step : (t : Table) (r : Row) (e : Term) (left : List Term) (pivot old new : Writing) → IsTable t → IsJoinable t r → IsWriting t.written (attr_column e.attr) pivot → IsJoining t r (e ∷ left) old → IsSwept pivot (attr_column e.attr) old new → IsJoining t r left new
 joining_step t r e left pivot old new table j at x k =
     let unit : IsUnitRow (basics t) (basic pivot) = each_at (IsUnitRow (basics t)) t.written at.at pivot at.within at.is table.table.units in
     let kept : IsKeptWriting pivot = subst IsKeptWriting (sym at.is) (table.kept at.at pivot at.within) in
@@ -103,9 +99,8 @@ joining_step t r e left pivot old new table j at x k =
     (row-without t.problem pivot (place_of (Held r.id) Under) (each-impl (IsAway r.id) (λ l. named_coefficient (place_of (Held r.id) Under) (marked_form l) ≡ pos 0) (lines t.problem) (λ l a. under-free r.id l j.row.number a) away) sum) sum in
     record {
       what = k.what ∙ x.what;
-      own = k.combined.own;
-      kept = k.combined.kept;
-      sum = marked_after (λ l. place_of l.name Under) marked_form (lines (with_row t.problem r)) (plain pivot) (plain old) (plain new) k.combined.row more x.sum;
+      own = k.own;
+      sum = marked_after (λ l. place_of l.name Under) marked_form (lines (with_row t.problem r)) (plain pivot) (plain old) (plain new) k.row more x.sum;
       others = λ c i none. elim (cases_eq (attr_column e.attr) c) [
         | inl q ↦ subst (λ (d : ℕ). coefficient d new.row ≡ pos 0) q k.without
         | inr q ↦
@@ -114,11 +109,11 @@ joining_step t r e left pivot old new table j at x k =
             let here : coefficient c pivot.row ≡ pos 0 = row_others (basics t) pivot c kept (omega (arith, below)) unit i (λ s. q (sym at.column ∙ sym s)) in
             let before : coefficient c old.row ≡ pos 0 = x.others c i (q, none) in
             sym (coefficient-plain c new)
-            ∙ zero_from_mul k.combined.row.g (named_coefficient c (plain new)) k.combined.row.positive
-            (k.combined.row.same c ∙ ap₂ ◌+ℤ◌ (ap (λ (z : ℤ). k.combined.row.k *ℤ z) (coefficient-plain c old ∙ before) ∙ mul-zero_ℤ k.combined.row.k) (ap (λ (z : ℤ). k.combined.row.m *ℤ z) (coefficient-plain c pivot ∙ here) ∙ mul-zero_ℤ k.combined.row.m))
+            ∙ zero_from_mul k.row.g (named_coefficient c (plain new)) k.row.positive
+            (k.row.same c ∙ ap₂ ◌+ℤ◌ (ap (λ (z : ℤ). k.row.k *ℤ z) (coefficient-plain c old ∙ before) ∙ mul-zero_ℤ k.row.k) (ap (λ (z : ℤ). k.row.m *ℤ z) (coefficient-plain c pivot ∙ here) ∙ mul-zero_ℤ k.row.m))
       ];
-      forward = λ n h q. holds_after n (form pivot) (form old) (form new) k.combined.form (each_at (λ b. Holds n b.form) t.written at.at pivot at.within at.is h) (x.forward n h q);
-      back = λ n h q. x.back n h (held_before n (form pivot) (form old) (form new) k.combined.form (each_at (λ b. Holds n b.form) t.written at.at pivot at.within at.is h) q);
+      forward = λ n h q. holds_after n (form pivot) (form old) (form new) k.form (each_at (λ b. Holds n b.form) t.written at.at pivot at.within at.is h) (x.forward n h q);
+      back = λ n h q. x.back n h (held_before n (form pivot) (form old) (form new) k.form (each_at (λ b. Holds n b.form) t.written at.at pivot at.within at.is h) q);
     }
 
 -- what the step needs of the pivot
@@ -156,7 +151,14 @@ marks-insert m (b ∷ before) after l h =
       ])
     ]
 
-named-with : (p : Problem) (r : Row) (x : What) → IsNamed p x → IsNamed (with_row p r) x
+pub named-with : (p : Problem) (r : Row) (x : What) → IsNamed p x → IsNamed (with_row p r) x
 named-with p r (Attr attr) n = n
 named-with p r (MarkOf m) n = subst (λ (ls : List Line). Any (λ k. place k ≡ place m) (marks_of ls)) (sym (lines-insert p r)) (marks-insert m (map line_of_row p.rows) (stay_lines 1001 p.stays) (line_of_row r) n)
 named-with p r (Level level) n = absurd n
+
+pub marks-here : (side : Side) (before after : List Line) (l : Line) → Any (λ k. place k ≡ place_of l.name side) (marks_of (before ++ l ∷ after))
+marks-here Under [] after l = any-first (λ k. place k ≡ place_of l.name Under) (record { row = l.name; side = Under }) (record { row = l.name; side = Over } ∷ marks_of after) refl
+marks-here Over [] after l = any-later (λ k. place k ≡ place_of l.name Over) (record { row = l.name; side = Under }) (record { row = l.name; side = Over } ∷ marks_of after) (any-first (λ k. place k ≡ place_of l.name Over) (record { row = l.name; side = Over }) (marks_of after) refl)
+marks-here side (b ∷ before) after l =
+    any-later (λ k. place k ≡ place_of l.name side) (record { row = b.name; side = Under }) (record { row = b.name; side = Over } ∷ marks_of (before ++ l ∷ after))
+    (any-later (λ k. place k ≡ place_of l.name side) (record { row = b.name; side = Over }) (marks_of (before ++ l ∷ after)) (marks-here side before after l))

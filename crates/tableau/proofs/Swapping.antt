@@ -1,23 +1,21 @@
 -- An exchange makes a tableau of a tableau.
-use Rattle.std.proofs.Common.{◌≡◌, ◌≢◌, ◌∙◌, ℕ, zero, suc, ◌+◌, ◌<◌, Bool, true, false, cond, nat_eq, List, [], ◌∷◌, map, length, get_or, pos, ◌*ℤ◌, ◌+ℤ◌, ◌<ℤ◌, ℤ, sym, ap, ap₂, subst, refl, arith, inl, inr, All, eq-eqb, ne_eqb, true≢false}
+use Rattle.std.proofs.Common.{◌≡◌, ◌≢◌, ◌∙◌, ℕ, ◌<◌, Bool, true, false, cond, nat_eq, List, [], ◌∷◌, map, length, get_or, pos, ◌*ℤ◌, ◌+ℤ◌, ◌<ℤ◌, ℤ, sym, ap, subst, refl, arith, All, ne_eqb}
 use Rattle.std.specs.List.{AllByRecursion as Each, AllZip}
-use Rattle.std.proofs.lemmas.Bool.{cases_Bool, cases_eq}
 use Rattle.std.proofs.lemmas.List.{get_or_default}
 use Rattle.std.proofs.lemmas.List.Elements.{recursion_from_All, All-from_recursion, AllZip-get_or, length_all_zip}
 use lib.Signed.{<ℤ_irrefl}
-use borrow.Author.Differences.{ints}
 use Rattle.problem_core.specs.declared.parts.Mark.{Mark}
 use Rattle.problem_core.specs.declared.parts.Side.TheVariants.{Under}
 use Rattle.problem_core.specs.declared.stops.What.{What}
 use Rattle.problem_core.specs.declared.stops.What.TheVariants.{Attr, Mark as MarkOf}
-use Rattle.problem_core.specs.Layout.{Problem, Line, lines, value_at, coefficient as named_coefficient}
+use Rattle.problem_core.specs.Layout.{Problem, lines, value_at, coefficient as named_coefficient}
 use Rattle.problem_core.specs.Corners.{one_column, attr_column, place, place_of}
 use Rattle.problem_core.proofs.Forms.{value-pivot}
-use Rattle.problem_core.proofs.Tableaus.{Basic, Holds, HoldAll, IsPivoted, IsTableau, IsUnitRow, is_inside, held_before, zero_of_product, marked_after}
+use Rattle.problem_core.proofs.Tableaus.{Basic, Holds, HoldAll, IsPivoted, IsUnitRow, held_before, zero_of_product, marked_after}
 use Rattle.problem_core.proofs.Swaps.{IsExchangedRow, AreExchanged, exchanged-IsTableau, exchanged-HoldAll}
 use Rattle.frac_core.proofs.Integers.{zero_from_mul, mul_positive, mul-zero_ℤ, zero-mul_ℤ, add-mul_right}
 use Rattle.tableau.specs.Written.{Writing}
-use Rattle.tableau.specs.Tables.{Table, IsTable, HasColumn, IsWritten, IsNamed, IsSumOfLines, IsKeptWriting, basic, basics, column_of, form, plain, own, marked_form}
+use Rattle.tableau.specs.Tables.{Table, IsTable, HasColumn, IsWritten, IsNamed, IsSumOfLines, IsKeptWriting, basic, basics, column_of, plain, own, marked_form}
 use Rattle.tableau.specs.Exchanges.{IsExchangedWriting, IsReady, IsRenamed}
 use Rattle.tableau.proofs.Insides.{each_at, inside_at, not_inside, written_once, form_at, row_own, row_others}
 
@@ -63,7 +61,7 @@ positive-apart : (z : ℤ) → pos 0 <ℤ z → z ≡ pos 0 → ⊥
 positive-apart z h e = <ℤ_irrefl (subst (λ (t : ℤ). pos 0 <ℤ t) e h)
 
 -- the turned row holds only where the leaving row does
-holds_leaving : (n : ℕ → ℤ) (leaving new : Basic) → pos 0 <ℤ named_coefficient new.inside new.form → IsPivoted leaving.form leaving.form new.form → Holds n new.form → Holds n leaving.form
+pub holds_leaving : (n : ℕ → ℤ) (leaving new : Basic) → pos 0 <ℤ named_coefficient new.inside new.form → IsPivoted leaving.form leaving.form new.form → Holds n new.form → Holds n leaving.form
 holds_leaving n leaving new o p h =
     let c : ℕ = new.inside in
     zero_of_product (p.k +ℤ p.m) (value_at n leaving.form)

@@ -5,7 +5,7 @@ use Rattle.frac_core.specs.Fraction.{Fraction, IsLowest, Fits, IsRatio, sum_num,
 use Rattle.row_core.specs.Rows.{Term, coefficient, combination, IsUnfit}
 use Rattle.problem_core.specs.declared.parts.Mark.{Mark}
 use Rattle.problem_core.specs.declared.stops.What.{What}
-use Rattle.problem_core.specs.declared.stops.What.TheVariants.{Attr, Mark as MarkOf}
+use Rattle.problem_core.specs.declared.stops.What.TheVariants.{Mark as MarkOf}
 use Rattle.problem_core.specs.declared.stops.TableStop.{TableStop}
 use Rattle.problem_core.specs.declared.stops.TableStop.TheVariants.{UnfitAt, OutOfMemory}
 use Rattle.problem_core.specs.declared.stops.Quantity.TheVariants.{Plain}

@@ -1,8 +1,7 @@
 -- Tableaus: the attributes and the inside marks of a corner, each written by the outside marks.
-use Rattle.std.specs.Prelude.{◌≡◌, ◌⊎◌, ℕ, ◌+◌, ◌<◌, true, List, [], ◌∷◌, map, length, slice_index_or, ℤ, pos, ◌*ℤ◌, neg_ℤ, All, Any, Contains}
+use Rattle.std.specs.Prelude.{◌≡◌, ℕ, ◌+◌, ◌<◌, List, ◌∷◌, map, length, slice_index_or, ℤ, pos, ◌*ℤ◌, neg_ℤ, All, Any}
 use Rattle.frac_core.specs.Fraction.{IsKept}
 use Rattle.row_core.specs.Rows.{coefficient, IsKeptRow}
-use Rattle.problem_core.specs.declared.parts.Mark.{Mark}
 use Rattle.problem_core.specs.declared.parts.Side.TheVariants.{Under, Over}
 use Rattle.problem_core.specs.declared.parts.Term.{Term}
 use Rattle.problem_core.specs.declared.stops.What.{What}
@@ -10,7 +9,7 @@ use Rattle.problem_core.specs.declared.stops.What.TheVariants.{Attr, Mark as Mar
 use Rattle.problem_core.specs.Layout.{Line, Problem, lines, value_at}
 use Rattle.problem_core.specs.Kept.{IsWhole}
 use Rattle.problem_core.specs.Corners.{attr_column, one_column, place, place_of, equation, marks_of}
-use Rattle.problem_core.proofs.Tableaus.{Basic, IsTableau, IsMarked, HoldAll, is_inside}
+use Rattle.problem_core.proofs.Tableaus.{Basic, IsTableau, IsMarked, HoldAll}
 use Rattle.tableau.specs.Written.{Writing}
 
 -- a problem, and what is written at one of its corners

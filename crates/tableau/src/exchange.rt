@@ -90,6 +90,7 @@ pub(crate) fn turned(
     requires kept { IsKeptWriting leaving.now }
     requires entering { coefficient (corners.place enter) leaving.now.row ≢ pos 0 }
     ensures turned { IfOk result (IsTurned leaving.now enter) }
+    ensures value { IfOk result (λ w. IsTurnedValue leaving.now enter w.value) }
     ensures unfit { IfErr result (IsStopAt (MarkOf enter) (IsUnfitTurn leaving.now enter)) }
 {
     let row = turned_row(alloc, leaving, enter)?;
@@ -185,7 +186,7 @@ fn exchanged_one(
 }
 
 // Appends what is written.
-fn push(out: &mut Vec<Written>, written: Written) -> Result<(), OutOfMemory>
+pub(crate) fn push(out: &mut Vec<Written>, written: Written) -> Result<(), OutOfMemory>
     ensures { IfOk result (λ _. out.new.items ≡ out.old.items ++ written ∷ []) }
 {
     out.push(written)?;
@@ -193,7 +194,7 @@ fn push(out: &mut Vec<Written>, written: Written) -> Result<(), OutOfMemory>
 }
 
 // Room for what is written.
-fn room(alloc: Global, count: usize) -> Result<Vec<Written>, OutOfMemory>
+pub(crate) fn room(alloc: Global, count: usize) -> Result<Vec<Written>, OutOfMemory>
     ensures { IfOk result (λ out. out.items ≡ []) }
 {
     Ok(Vec::with_capacity(alloc, count)?)

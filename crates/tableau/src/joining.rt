@@ -13,8 +13,8 @@ use problem_core::{Mark, RowName, Side, What, place};
 use row_core::{Col, Entry, IntRow};
 use std::alloc::Global;
 
-// The entry at the column of what is written.
-fn entry(what: What, by: i64) -> Entry
+/// The entry at the column of what is written.
+pub(crate) fn entry(what: What, by: i64) -> Entry
     ensures col { result.col ≡ column_of what }
     ensures by { result.by ≡ by }
 {

@@ -1,9 +1,21 @@
 //! Corners of layout problems: attributes and inside marks written by the outside marks.
 #![tactic(auto)]
 
+mod adding;
+mod asking;
+mod columns;
+mod entering;
 mod exchange;
 mod joining;
+mod laws;
+mod moving;
+mod sums;
 mod table;
+#[cfg(test)]
+mod tests;
+mod wide_merge;
+mod wide_reduce;
 mod written;
 
+pub use laws::corners_are_few;
 pub use table::Tableau;

@@ -1,17 +1,27 @@
 // Tableaus.
-ghost use Rattle.std.specs.Prelude.{◌≡◌, ◌<◌, [], length, IfOk, IfErr};
+ghost use Rattle.std.specs.Prelude.{◌≡◌, ◌<◌, ◌↔◌, [], length, IfOk, IfErr, IsTrue};
 ghost use Rattle.problem_core.specs.Corners as corners;
 ghost use Rattle.problem_core.specs.Corners.{attr_column};
 ghost use Rattle.tableau.specs.Tables.{Table, IsTable, HasColumn};
 ghost use Rattle.problem_core.specs.Kept.{IsNumber};
-ghost use Rattle.tableau.specs.Joining.{IsWithAttr};
+ghost use Rattle.tableau.specs.Joining.{IsJoinable, IsJoinStop, IsWithAttr, IsWithRow};
+ghost use Rattle.tableau.specs.Columns.{IsColumn};
+ghost use Rattle.tableau.specs.Moving.{CanShift, IsShifted, IsShiftStop};
+ghost use Rattle.problem_core.specs.declared.stops.What.TheVariants.{Mark as MarkOf};
+ghost use Rattle.tableau.specs.Tables.{IsNamed};
 ghost use Rattle.tableau.specs.Exchanges.{HasRow, HasValue, IsInside, IsOutside, IsPossible, IsSwapped, IsSwapStop};
 
+use crate::asking::{
+    are_below, are_covered, can_move_row, can_move_stay, has_stay, is_held, is_possible, is_written,
+};
+use crate::columns::listed;
+use crate::entering::{not_negative, over_writing};
 use crate::exchange::exchanged;
 use crate::joining::{attr_writing, push_both};
+use crate::moving::{moved_rows, moved_stays, moved_writings};
 use crate::written::{HeldRow, Written, column, writing};
 use frac_core::{Frac, OutOfMemory};
-use problem_core::{Mark, Stay, TableStop, What, place};
+use problem_core::{Mark, Row, RowName, Side, Stay, TableStop, What, place};
 use row_core::IntRow;
 use std::alloc::Global;
 use std::marker::Model;
@@ -98,6 +108,15 @@ impl Tableau {
         writing(&self.written, place(m)).row()
     }
 
+    /// Those in whose writing an outside mark stands: attributes by number, then inside marks by the number of their row, then those of
+    /// stays by attribute.
+    pub fn column(&self, m: Mark) -> Result<Vec<What>, OutOfMemory>
+        requires { IsOutside self.now m }
+        ensures { IfOk result (λ list. IsColumn self.now m list.items) }
+    {
+        listed(*self.written.allocator(), &self.written, place(m))
+    }
+
     /// An equal tableau, which shares the rows.
     pub fn copy(&self) -> Result<Tableau, OutOfMemory>
         ensures { IfOk result (λ t. t ≡ self.now) }
@@ -110,6 +129,55 @@ impl Tableau {
         ensures { IsTable self.now }
     {
         let _ = &self.written;
+    }
+
+    /// Adds a row and the one of its marks that is not negative: over at 0.
+    ///
+    /// `UnfitAt` names the sum of the row's first terms, or past their number that of all of them less the constant, which does not
+    /// fit. After any stop the tableau is as before.
+    pub fn add_row(&mut self, row: &Row) -> Result<(), TableStop>
+        requires { IsJoinable self.old row.now }
+        ensures joined { IfOk result (λ _. IsWithRow row.now self.old self.new) }
+        ensures stop { IfErr result (IsJoinStop self.old row.now) }
+        ensures same { IfErr result (λ _. self.new ≡ self.old) }
+    {
+        let alloc = *self.written.allocator();
+        let written: &[Written] = &self.written;
+        let over = match over_writing(alloc, written, row) {
+            Ok(over) => over,
+            Err(stop) => return Err(stop),
+        };
+        let entering = not_negative(alloc, &over, row.id())?;
+        let held = HeldRow::copy_of(alloc, row)?;
+        Ok(push_both(&mut self.rows, &mut self.written, held, entering)?)
+    }
+
+    /// Changes the constant of a row, or the target of a stay, by `by`. The corner stays; values may turn negative.
+    ///
+    /// `UnfitAt` names what has no fitting value then. After any stop the tableau is as before.
+    pub fn shift(&mut self, row: RowName, by: Frac) -> Result<(), TableStop>
+        requires { CanShift self.old.problem row by }
+        ensures shifted { IfOk result (λ _. IsShifted row by self.old self.new) }
+        ensures stop { IfErr result (IsShiftStop self.old row by) }
+        ensures same { IfErr result (λ _. self.new ≡ self.old) }
+    {
+        let alloc = *self.written.allocator();
+        let _above = by.den();
+        let under = place(Mark {
+            row,
+            side: Side::Under,
+        });
+        let written: &[Written] = &self.written;
+        let written = match moved_writings(alloc, written, under, by) {
+            Ok(written) => written,
+            Err(stop) => return Err(stop),
+        };
+        let rows = moved_rows(alloc, &self.rows, row, by)?;
+        let stays = moved_stays(alloc, &self.stays, row, by)?;
+        self.rows = rows;
+        self.stays = stays;
+        self.written = written;
+        Ok(())
     }
 
     /// Adds an attribute with the value 0, and its stay at 0 as the last one. After want of memory the tableau is as before.
@@ -127,5 +195,76 @@ impl Tableau {
             target: Frac::zero(),
         };
         push_both(&mut self.stays, &mut self.written, stay, written)
+    }
+}
+
+impl Tableau {
+    /// Whether the mark is inside.
+    pub fn is_inside(&self, m: Mark) -> bool
+        ensures { IsTrue result ↔ IsInside self.now m }
+    {
+        is_written(&self.written, place(m))
+    }
+
+    /// Whether the attribute is written.
+    pub fn has_attr(&self, attr: u32) -> bool
+        ensures { IsTrue result ↔ HasColumn self.now.written (attr_column attr) }
+    {
+        is_written(&self.written, column(What::Attr(attr)))
+    }
+
+    // Whether the mark is one of the problem's.
+    fn is_named(&self, m: Mark) -> bool
+        ensures { IsTrue result → IsNamed self.now.problem (MarkOf m) }
+    {
+        match m.row {
+            RowName::Held(id) => is_held(&self.rows, id),
+            RowName::Stay(attr) => has_stay(&self.stays, attr),
+        }
+    }
+
+    /// Whether the marks can be exchanged.
+    pub fn can_swap(&self, enter: Mark, leave: Mark) -> bool
+        ensures outside { IsTrue result → IsOutside self.now enter }
+        ensures inside { IsTrue result → IsInside self.now leave }
+        ensures possible { IsTrue result → IsPossible self.now enter leave }
+    {
+        self.is_named(enter)
+            && !self.is_inside(enter)
+            && self.is_inside(leave)
+            && is_possible(&self.written, place(leave), place(enter))
+    }
+
+    /// Whether the attribute can join.
+    pub fn can_add_attr(&self, attr: u32) -> bool
+        ensures number { IsTrue result → IsNumber attr }
+        ensures fresh { IsTrue result → HasColumn self.now.written (attr_column attr) → ⊥ }
+        ensures room { IsTrue result → length self.now.problem.stays < 4096 }
+    {
+        attr > 0 && attr <= 1 << 31 && !self.has_attr(attr) && self.stays.len() < 4096
+    }
+
+    /// Whether the row can join.
+    pub fn can_add_row(&self, row: &Row) -> bool
+        ensures { IsTrue result → IsJoinable self.now row.now }
+    {
+        row.show_row();
+        if !are_below(&self.rows, row.id()) {
+            return false;
+        }
+        if !are_covered(&self.stays, row.terms()) {
+            return false;
+        }
+        self.rows.len() < 4096
+    }
+
+    /// Whether the constant or target of that name can change by `by`.
+    pub fn can_shift(&self, row: RowName, by: Frac) -> bool
+        ensures { IsTrue result → CanShift self.now.problem row by }
+    {
+        match row {
+            RowName::Held(id) => can_move_row(&self.rows, id, by),
+            RowName::Stay(attr) => can_move_stay(&self.stays, attr, by),
+        }
     }
 }

@@ -54,6 +54,17 @@ impl Written {
         self.value
     }
 
+    /// The same row with another value.
+    pub fn with_value(&self, value: Frac) -> Result<Written, OutOfMemory>
+        ensures { IfOk result (λ w. w ≡ record { what = self.now.what; row = self.now.row; value = value }) }
+    {
+        Ok(Written {
+            what: self.what,
+            row: self.row.clone()?,
+            value,
+        })
+    }
+
     /// An equal writing, with the same row.
     pub fn copy(&self) -> Result<Written, OutOfMemory>
         ensures { IfOk result (λ w. w ≡ self.now) }
@@ -86,6 +97,13 @@ impl HeldRow {
     {
         let row = Rc::new(alloc, row)?;
         Ok(HeldRow { row })
+    }
+
+    /// A row of its own, equal to this one.
+    pub fn copy_of(alloc: Global, row: &Row) -> Result<HeldRow, OutOfMemory>
+        ensures { IfOk result (λ h. h ≡ row.now) }
+    {
+        HeldRow::of(alloc, row.clone()?)
     }
 
     pub fn row(&self) -> &Row

@@ -1,9 +1,7 @@
-use Rattle.std.proofs.Common.{◌≡◌, ◌∙◌, ℕ, ℤ, List, sym, ap, subst, rules, SFits, to_z, of_z, neg_ℤ}
+use Rattle.std.proofs.Common.{◌≡◌, rules, to_z, of_z, neg_ℤ}
 use Rattle.std.specs.Int.{w64}
-use Rattle.std.proofs.lemmas.Int.{to_z-of_z}
-use Rattle.row_core.specs.Rows.{Term, IsUnfit, combination, coefficient}
+use Rattle.row_core.specs.Rows.{IsUnfit, coefficient}
 use Rattle.row_core.specs.declared.entry.RowStop.TheVariants.{Unfit}
-use Rattle.problem_core.specs.Corners.{place}
 use Rattle.tableau.specs.Exchanges.{clearing}
 use Rattle.tableau.proofs.Stops.{stopped, same_combination}
 use Rattle.tableau.proofs.exchange.cleared_row.Goals as goal

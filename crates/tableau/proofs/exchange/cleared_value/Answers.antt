@@ -1,7 +1,6 @@
-use Rattle.std.proofs.Common.{◌≡◌, ◌∙◌, ℕ, ℤ, ap, rules, SFits, to_z, of_z, neg_ℤ}
+use Rattle.std.proofs.Common.{◌≡◌, rules, to_z, of_z, neg_ℤ}
 use Rattle.std.specs.Int.{w64}
 use Rattle.row_core.specs.Rows.{coefficient}
-use Rattle.problem_core.specs.Corners.{place}
 use Rattle.tableau.specs.Tables.{own}
 use Rattle.tableau.specs.Exchanges.{IsUnfitSum}
 use Rattle.tableau.proofs.Places.{err_implies}

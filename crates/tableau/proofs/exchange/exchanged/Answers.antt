@@ -1,4 +1,4 @@
-use Rattle.std.proofs.Common.{◌≡◌, ◌⊎◌, ◌+◌, inl, inr, sym, subst, take, List}
+use Rattle.std.proofs.Common.{◌+◌, inr, sym, subst, take, List}
 use Rattle.std.specs.List.{AllZip}
 use Rattle.std.proofs.lemmas.List.Elements.{all_zip_more}
 use Rattle.tableau.specs.Written.{Writing}

@@ -1,4 +1,4 @@
-use Rattle.std.proofs.Common.{◌≡◌, ◌∙◌, ℕ, ℤ, ap, rules, SFits, to_z, of_z}
+use Rattle.std.proofs.Common.{◌≡◌, ◌∙◌, ℕ, ap, rules, SFits, to_z, of_z}
 use Rattle.std.specs.Int.{w64}
 use Rattle.std.proofs.lemmas.Int.{to_z-of_z}
 use Rattle.frac_core.specs.Fraction.{Fraction, IsRatio, IsLowest, Fits, sum_num, sum_den}

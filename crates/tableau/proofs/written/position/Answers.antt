@@ -1,4 +1,4 @@
-use Rattle.std.proofs.Common.{◌≡◌, ◌≢◌, ap, ◌∙◌, sym}
+use Rattle.std.proofs.Common.{◌≡◌, ◌≢◌, ap, ◌∙◌}
 use Rattle.tableau.specs.Written.{Writing}
 use Rattle.tableau.specs.Tables.{column_of}
 use Rattle.tableau.proofs.Places.{all_more, all_done, none_holds}

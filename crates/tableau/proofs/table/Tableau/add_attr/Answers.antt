@@ -1,18 +1,18 @@
-use Rattle.std.proofs.Common.{◌≡◌, ◌<◌, length, ◌++◌, ◌∷◌, [], List, sym, ap, ap₂, subst, ◌∙◌}
+use Rattle.std.proofs.Common.{◌≡◌, ◌<◌, length, ◌++◌, ◌∷◌, [], List, sym, ap₂, subst}
 use Rattle.frac_core.specs.Fraction.{Fraction}
 use Rattle.problem_core.specs.declared.parts.Stay.{Stay}
 use Rattle.problem_core.specs.Corners.{attr_column}
 use Rattle.tableau.specs.Written.{Writing}
 use Rattle.tableau.specs.Tables.{Table, IsTable, HasColumn}
 use Rattle.tableau.specs.Views.{table_of}
-use Rattle.tableau.specs.Joining.{zero}
+use Rattle.tableau.specs.Joining.{nought}
 use Rattle.tableau.proofs.Places.{either}
 use Rattle.tableau.proofs.NewAttrs.{attr_table}
 use Rattle.tableau.proofs.table.Tableau.add_attr.Goals as goal
 
 pub invariant_of-self : goal.invariant_of-self
 invariant_of-self c =
-    let nought : c.zero.result ≡ zero = ap₂ (λ n d. record { num = n; den = d }) c.zero.ensures.num c.zero.ensures.den in
+    let none : c.zero.result ≡ nought = ap₂ (λ n d. record { num = n; den = d }) c.zero.ensures.num c.zero.ensures.den in
     either c.push_both.result
     (c.push_both.new.left.items ≡ c.self.inside.stays.items ++ record { attr = c.args.attr; target = c.zero.result } ∷ [])
     (c.push_both.new.right.items ≡ c.self.inside.written.items ++ c.in_ok-written.written ∷ [])
@@ -22,7 +22,7 @@ invariant_of-self c =
     (λ l r.
     subst (λ (ss : List Stay). IsTable (record { problem = record { rows = c.self.inside.rows.items; stays = ss }; written = c.push_both.new.right.items })) (sym l)
     (subst (λ (ws : List Writing). IsTable (record { problem = record { rows = c.self.inside.rows.items; stays = c.self.inside.stays.items ++ record { attr = c.args.attr; target = c.zero.result } ∷ [] }; written = ws })) (sym r)
-    (subst (λ (v : Fraction). IsTable (record { problem = record { rows = c.self.inside.rows.items; stays = c.self.inside.stays.items ++ record { attr = c.args.attr; target = v } ∷ [] }; written = c.self.inside.written.items ++ c.in_ok-written.written ∷ [] })) (sym nought)
+    (subst (λ (v : Fraction). IsTable (record { problem = record { rows = c.self.inside.rows.items; stays = c.self.inside.stays.items ++ record { attr = c.args.attr; target = v } ∷ [] }; written = c.self.inside.written.items ++ c.in_ok-written.written ∷ [] })) (sym none)
     (attr_table (table_of c.self.inside) c.args.attr c.in_ok-written.written c.self.invariant c.requires.number
     (subst (λ (t : Table). HasColumn t.written (attr_column c.args.attr) → ⊥) (sym c.self.view_is) c.requires.fresh)
     (subst (λ (t : Table). length t.problem.stays < 4096) (sym c.self.view_is) c.requires.room)

@@ -1,8 +1,8 @@
-use Rattle.std.proofs.Common.{◌≡◌, ◌<◌, ◌∙◌, ℕ, List, refl, sym, subst, All}
+use Rattle.std.proofs.Common.{◌<◌, ◌∙◌, ℕ, List, refl, sym, subst, All}
 use Rattle.std.specs.List.{AllZip}
 use Rattle.problem_core.specs.Corners.{place}
 use Rattle.tableau.specs.Written.{Writing}
-use Rattle.tableau.specs.Tables.{IsTable, IsWriting}
+use Rattle.tableau.specs.Tables.{IsWriting}
 use Rattle.tableau.specs.Exchanges.{IsReady, IsOutside, IsSwapped, IsSwapStop, IsExchangedWriting, IsExchangeStop}
 use Rattle.tableau.specs.Views.{table_of}
 use Rattle.tableau.proofs.Swapping.{all_ready, all_renamed, exchanged_table}
