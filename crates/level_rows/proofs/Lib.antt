@@ -1,0 +1,15 @@
+pub mod Results
+pub mod Algebra
+pub mod Listings
+pub mod Counts
+pub mod Clearing
+pub mod Following
+pub mod Lines
+pub mod Stays
+pub mod Shifts
+pub mod Ratios
+pub mod Entries
+pub mod Joined
+pub mod Changed
+pub mod Left
+pub mod Columns
