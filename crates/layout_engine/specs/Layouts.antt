@@ -1,0 +1,34 @@
+-- A layout: a problem with its best values, and what it becomes.
+use Rattle.std.specs.Prelude.{◌≡◌, ℕ, List, ◌++◌, map, All}
+use Rattle.frac_core.specs.Fraction.{Fraction, IsLowest}
+use Rattle.problem_core.specs.declared.parts.Stay.{Stay}
+use Rattle.problem_core.specs.Layout.{Row, Problem, Assignment, IsBest, Gives}
+use Rattle.problem_core.specs.Window.{zero_fraction}
+
+-- The fractions in lowest terms are the values that a best assignment gives the stays' attributes. No other list is.
+pub record AreBest (problem : Problem) (values : List (ℕ × Fraction)) : Type 0 where
+  pub attributes : map (λ v. v.0) values ≡ map (λ s. s.attr) problem.stays
+  pub lowest : All (λ v. IsLowest v.1) values
+  pub best : (x : Assignment) × IsBest problem x × Gives values x
+
+pub record Layout : Type 0 where
+  pub problem : Problem
+  pub values : List (ℕ × Fraction)
+
+-- a stay for each attribute, at its value
+abbrev pub stays_at : List (ℕ × Fraction) → List Stay
+stays_at values = map (λ v. record { attr = v.0; target = v.1 }) values
+
+-- the attributes at 0
+abbrev pub zeros : List ℕ → List (ℕ × Fraction)
+zeros attrs = map (λ a. (a, zero_fraction)) attrs
+
+-- In both that follow the stays have moved to the values before.
+
+-- with more attributes and more rows
+abbrev pub with_added : Layout → List ℕ → List Row → Problem
+with_added old attrs rows = record { rows = old.problem.rows ++ rows; stays = stays_at (old.values ++ zeros attrs) }
+
+-- with other rows
+abbrev pub with_rows : Layout → List Row → Problem
+with_rows old rows = record { rows = rows; stays = stays_at old.values }

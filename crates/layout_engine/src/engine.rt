@@ -1,0 +1,196 @@
+// The engine.
+ghost use Rattle.std.specs.Prelude.{◌≡◌, ◌≢◌, ◌≤◌, [], length, All, IfOk, IfErr, IfSome, IfNone, OnErr};
+ghost use Rattle.problem_core.specs.Gaps.{value_of};
+ghost use Rattle.layout_engine.specs.Stops.{IsStopOf};
+
+use crate::accepting::{accepted_stop, best_values};
+use crate::corners::{extended, fresh, run_stop};
+use crate::problems::{added, renewed};
+use add_phase::settle;
+use cert_core::{Path, RunStop};
+use frac_core::{Frac, OutOfMemory};
+use problem_core::{Problem, Row, Values, errorless_is_best};
+use std::alloc::Global;
+use std::marker::Model;
+use tableau::Tableau;
+
+/// A problem with its best values, and the corner at which they stand.
+#[derive(Drop)]
+pub struct Engine {
+    problem: Problem,
+    values: Values,
+    table: Tableau,
+    alloc: Global,
+}
+
+impl Model for Engine {
+    ghost use Rattle.layout_engine.specs.Layouts.{Layout, AreBest};
+
+    ghost Value = { Layout };
+
+    ghost view = { λ e. record { problem = e.problem; values = e.values } };
+
+    ghost invariant = { λ e. AreBest e.problem e.values };
+}
+
+/// What an accepted run leads to.
+#[derive(Drop)]
+struct Settled {
+    path: Path,
+    values: Values,
+    table: Tableau,
+}
+
+ghost use Rattle.layout_engine.specs.Layouts.{AreBest, with_added, with_rows};
+
+/// Runs from the tableau's corner to the best one.
+fn run_to_best(
+    alloc: Global,
+    mut table: Tableau,
+    p: &Problem,
+    budget: u64,
+) -> Result<Settled, RunStop>
+    ensures best { IfOk result (λ end. AreBest p.now end.values) }
+    ensures few { IfOk result (λ end. length end.path.swaps ≤ budget) }
+    ensures stop { IfErr result (IsStopOf p.now budget) }
+{
+    match settle(alloc, &mut table, p, budget) {
+        Ok(path) => match best_values(alloc, &table, p) {
+            Ok(values) => Ok(Settled {
+                path,
+                values,
+                table,
+            }),
+            Err(stop) => Err(stop),
+        },
+        Err(stop) => Err(accepted_stop(alloc, p, stop)),
+    }
+}
+
+/// The problem of no attribute and no row.
+fn empty_problem(alloc: Global) -> Problem
+    ensures { result ≡ record { rows = []; stays = [] } }
+{
+    Problem::of(Vec::new(alloc), Vec::new(alloc))
+}
+
+/// The values of no attribute.
+fn no_values(alloc: Global) -> Result<Values, OutOfMemory>
+    ensures { IfOk result (λ values. values ≡ []) }
+{
+    Values::of(alloc, &[])
+}
+
+/// The value under the attribute.
+fn find(values: &[(u32, Frac)], attr: u32) -> Option<Frac>
+    ensures some { IfSome result (λ f. value_of values.now attr ≡ f) }
+    ensures none { IfNone result (All (λ v. v.0 ≢ attr) values.now) }
+{
+    for pair in values {
+        if pair.0 == attr {
+            return Some(pair.1);
+        }
+    }
+    None
+}
+
+impl Engine {
+    /// The engine of no attribute and no row.
+    pub fn new(alloc: Global) -> Result<Engine, OutOfMemory>
+        ensures { IfOk result (λ e. e ≡ record { problem = record { rows = []; stays = [] }; values = [] }) }
+    {
+        errorless_is_best();
+        Ok(Engine {
+            problem: empty_problem(alloc),
+            values: no_values(alloc)?,
+            table: Tableau::new(alloc),
+            alloc,
+        })
+    }
+
+    /// Adds attributes at 0 and rows, with the stays at the present values, and goes on to the best values. The path begins at the
+    /// corner that was kept, with the mark of each new row that is not negative.
+    ///
+    /// `Conflict`: the required rows have no solution, as the multipliers show. `Unfit`: a quantity does not fit at the last corner
+    /// of the path. `Spent`: the path has as many exchanges as the budget. `Unshown`: the rows and attributes make no problem, or
+    /// what the run led to was not shown to be right. After each of them the engine is as before.
+    pub fn add(&mut self, attrs: &[u32], rows: &[Row], budget: u64) -> Result<Path, RunStop>
+        ensures done { IfOk result (λ _. self.new.problem ≡ with_added self.old attrs.now rows.now) }
+        ensures few { IfOk result (λ path. length path.swaps ≤ budget) }
+        ensures stop { IfErr result (IsStopOf (with_added self.old attrs.now rows.now) budget) }
+        ensures same { OnErr result (self.new ≡ self.old) }
+    {
+        let alloc = self.alloc;
+        let (held, values) = (self.problem.rows(), self.values.pairs());
+        let Some(problem) = added(alloc, held, values, attrs, rows)? else {
+            return Err(RunStop::Unshown);
+        };
+        let stays = self.problem.stays();
+        let table = match extended(alloc, &self.table, stays, &problem, attrs, rows) {
+            Ok(table) => table,
+            Err(stop) => return Err(run_stop(stop)),
+        };
+        match run_to_best(alloc, table, &problem, budget) {
+            Ok(end) => {
+                self.problem = problem;
+                self.values = end.values;
+                self.table = end.table;
+                Ok(end.path)
+            }
+            Err(stop) => Err(stop),
+        }
+    }
+
+    /// Takes these rows in place of the held ones, with the stays at the present values, and goes on to the best values. The path
+    /// begins at the corner at which all attributes stand at the present values, with the mark of each row that is not negative.
+    ///
+    /// The stops are those of `add`.
+    pub fn renew(&mut self, rows: &[Row], budget: u64) -> Result<Path, RunStop>
+        ensures done { IfOk result (λ _. self.new.problem ≡ with_rows self.old rows.now) }
+        ensures few { IfOk result (λ path. length path.swaps ≤ budget) }
+        ensures stop { IfErr result (IsStopOf (with_rows self.old rows.now) budget) }
+        ensures same { OnErr result (self.new ≡ self.old) }
+    {
+        let alloc = self.alloc;
+        let Some(problem) = renewed(alloc, self.values.pairs(), rows)? else {
+            return Err(RunStop::Unshown);
+        };
+        let table = match fresh(alloc, &problem) {
+            Ok(table) => table,
+            Err(stop) => return Err(run_stop(stop)),
+        };
+        match run_to_best(alloc, table, &problem, budget) {
+            Ok(end) => {
+                self.problem = problem;
+                self.values = end.values;
+                self.table = end.table;
+                Ok(end.path)
+            }
+            Err(stop) => Err(stop),
+        }
+    }
+
+    /// The problem.
+    pub fn problem(&self) -> &Problem
+        ensures value { result.now ≡ self.now.problem }
+        ensures best { AreBest self.now.problem self.now.values }
+    {
+        &self.problem
+    }
+
+    /// The values of the attributes, by number.
+    pub fn values(&self) -> &Values
+        ensures value { result.now ≡ self.now.values }
+        ensures best { AreBest self.now.problem self.now.values }
+    {
+        &self.values
+    }
+
+    /// The attribute's value.
+    pub fn value(&self, attr: u32) -> Option<Frac>
+        ensures some { IfSome result (λ f. value_of self.now.values attr ≡ f) }
+        ensures none { IfNone result (All (λ v. v.0 ≢ attr) self.now.values) }
+    {
+        find(self.values.pairs(), attr)
+    }
+}
