@@ -1,0 +1,62 @@
+-- The first session.
+use Rattle.std.proofs.Common.{◌≡◌, ℕ, List, [], ◌∷◌, None, refl, ap, ap₂, ◌∙◌, subst, lit<, pos, ◌<◌}
+use Rattle.std.specs.Prelude.{◌*ℤ◌}
+use Rattle.std.proofs.lemmas.List.Elements.{All-from_recursion}
+use Rattle.std.proofs.Math.Nat.{one-dvd}
+use Rattle.frac_core.specs.Fraction.{Fraction, IsLowest}
+use Rattle.problem_core.specs.Window.{zero_fraction, structural_rows}
+use Rattle.problem_core.specs.Layout.{Row, Problem, Assignment, IsProblem, lines}
+use Rattle.problem_core.proofs.WindowRows.{first-IsBest}
+use Rattle.view_tree.specs.Views.{ViewTree, window}
+use Rattle.layout_engine.specs.Layouts.{Layout, AreBest, stays_at}
+use Rattle.session_undo.specs.declared.item.Item.TheVariants.{OfWindow}
+use Rattle.session_undo.specs.Scene.{new_values, first_state}
+use Rattle.session_undo.specs.Kept.{IsItem, IsUnsized, IsKept, state_at}
+use Rattle.session_undo.proofs.BestValues.{best-unique}
+
+zero-IsLowest : IsLowest zero_fraction
+zero-IsLowest = record { above = lit< tt; coprime = (one-dvd 0, one-dvd 1, λ d a b. b) }
+
+abbrev pub first_problem : Problem
+first_problem = record { rows = structural_rows; stays = stays_at (new_values 0) }
+
+abbrev nothing : Assignment
+nothing = record { den = 1; num = λ v. pos 0; positive = lit< tt }
+
+pub first-AreBest : AreBest first_problem (new_values 0)
+first-AreBest = record {
+  attributes = refl;
+  lowest = All-from_recursion (λ v. IsLowest v.1) (new_values 0) (zero-IsLowest, (zero-IsLowest, (zero-IsLowest, (zero-IsLowest, tt))));
+  best = (
+    nothing,
+    first-IsBest (stays_at (new_values 0)) (refl, All-from_recursion (λ s. 0 < s.target.den) (stays_at (new_values 0)) (lit< tt, (lit< tt, (lit< tt, (lit< tt, tt)))))
+        (All-from_recursion (λ s. s.target.num ≡ pos 0) (stays_at (new_values 0)) (refl, (refl, (refl, (refl, tt))))) nothing
+        (All-from_recursion (λ v. nothing.num v.0 *ℤ pos v.1.den ≡ v.1.num *ℤ pos nothing.den) (new_values 0) (refl, (refl, (refl, (refl, tt))))),
+    All-from_recursion (λ v. nothing.num v.0 *ℤ pos v.1.den ≡ v.1.num *ℤ pos nothing.den) (new_values 0) (refl, (refl, (refl, (refl, tt)))),
+  );
+}
+
+first-IsProblem : IsProblem first_problem
+first-IsProblem =
+    All-from_recursion (λ l. (0 < l.scale) × (0 < l.den)) (lines first_problem)
+    ((lit< tt, lit< tt), ((lit< tt, lit< tt), ((lit< tt, lit< tt), ((lit< tt, lit< tt), ((lit< tt, lit< tt), ((lit< tt, lit< tt), ((lit< tt, lit< tt), ((lit< tt, lit< tt), tt))))))))
+
+-- the values of a layout of the first problem
+first-values : (l : Layout) → l.problem ≡ first_problem → AreBest l.problem l.values → l.values ≡ new_values 0
+first-values l is best = best-unique first_problem first-IsProblem l.values (new_values 0) (subst (λ (p : Problem). AreBest p l.values) is best) first-AreBest
+
+abbrev first_tree : ViewTree
+first_tree = record { views = window ∷ []; next = 1 }
+
+pub first-is : (t : ViewTree) (l : Layout) → t ≡ first_tree → l.problem ≡ first_problem → AreBest l.problem l.values → state_at t [] None (OfWindow ∷ []) 5 l 100000 ≡ first_state
+first-is t l t_is is best =
+    ap (λ (u : ViewTree). state_at u [] None (OfWindow ∷ []) 5 l 100000) t_is
+    ∙ ap₂ (λ (p : Problem) (vs : List (ℕ × Fraction)). state_at first_tree [] None (OfWindow ∷ []) 5 (record { problem = p; values = vs }) 100000) is (first-values l is best)
+
+pub first-kept : (rows : List Row) → rows ≡ structural_rows → IsKept [] None (OfWindow ∷ []) 5 rows
+first-kept rows is = record {
+  are_rows = (structural_rows, [], is, refl, refl);
+  each = All-from_recursion IsItem (OfWindow ∷ []) (tt, tt);
+  of_size = All-from_recursion IsUnsized (OfWindow ∷ []) (tt, tt);
+  next = lit< tt;
+}

@@ -1,0 +1,9 @@
+pub mod BestValues
+pub mod Chains
+pub mod First
+pub mod ItemRows
+pub mod LineStops
+pub mod Nears
+pub mod OneFraction
+pub mod Solved
+pub mod Steps

@@ -1,0 +1,25 @@
+use Rattle.std.proofs.Common.{◌+◌, ◌++◌, ◌∷◌, [], ◌∙◌, ap, arith, length, ℕ, List}
+use Rattle.session_undo.specs.declared.item.Item.{Item}
+use Rattle.session_undo.specs.declared.item.Item.TheVariants.{OfLine}
+use Rattle.session_undo.proofs.Solved.{line-refuses, line-solved, line-kept}
+use Rattle.session_undo.proofs.session.Session.solve_line.Goals as goal
+
+pub returns-in-Err-clause-refused : goal.returns-in-Err-clause-refused
+returns-in-Err-clause-refused c =
+    rw (c.refusal_of.ensures, ← c.self.view_is)
+    (line-refuses c.self.inside.tree c.self.inside.metrics c.self.inside.size c.self.inside.items.items c.self.inside.next_row c.self.inside.engine c.self.inside.budget c.args.group c.args.line c.args.rows.now c.in-Err.stop
+    c.self.invariant (rw (← c.self.view_is) at c.requires.rows) c.in-Err.ensures.stop)
+
+pub invariant_of-self-2 : goal.invariant_of-self-2
+invariant_of-self-2 c =
+    line-kept c.self.inside.metrics c.self.inside.size c.self.inside.items.items c.push_reserved.new.self.items c.self.inside.next_row (c.self.inside.next_row + length c.args.rows.now) c.self.inside.engine c.add.new.self c.args.group c.args.line c.args.rows.now
+    c.self.invariant (rw (← c.self.view_is) at c.requires.rows) c.in_default.ensures.done
+    (c.push_reserved.ensures.items ∙ ap (λ (hs : List Item). hs ++ OfLine c.args.group c.args.line ∷ []) c.in_ok-reserve.ensures.items) (omega arith)
+
+pub returns-clause-accepted : goal.returns-clause-accepted
+returns-clause-accepted c =
+    rw (← c.self.view_is)
+    (line-solved c.self.inside.tree c.self.inside.metrics c.self.inside.size c.self.inside.items.items c.push_reserved.new.self.items c.self.inside.next_row (c.self.inside.next_row + length c.args.rows.now) c.self.inside.engine c.add.new.self c.self.inside.budget c.args.group c.args.line c.args.rows.now
+    c.self.invariant (rw (← c.self.view_is) at c.requires.rows) c.in_default.ensures.done c.problem-best.ensures.best
+    (c.push_reserved.ensures.items ∙ ap (λ (hs : List Item). hs ++ OfLine c.args.group c.args.line ∷ []) c.in_ok-reserve.ensures.items)
+    (ap (λ (n : ℕ). c.self.inside.next_row + n) c.requires.rows.long))

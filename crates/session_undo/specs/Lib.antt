@@ -1,0 +1,5 @@
+pub mod Adding
+pub mod Kept
+pub mod Machine
+pub mod Replies
+pub mod Scene

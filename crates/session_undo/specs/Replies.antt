@@ -1,0 +1,75 @@
+-- Replies to the lines of a script.
+use Rattle.std.specs.Prelude.{ℕ, Bool, true, false, List, ⊤}
+use Rattle.problem_core.specs.declared.stops.Quantity.{Quantity}
+use Rattle.name_tables.specs.declared.stops.LimitWord.{LimitWord}
+use Rattle.constraint_compile.specs.declared.stops.KindWord.{KindWord}
+use Rattle.cert_core.specs.declared.by.By.{By}
+use Rattle.cert_core.specs.Paths.{Path}
+use Rattle.session_undo.specs.declared.reply.Reply as answer
+use Rattle.session_undo.specs.declared.reply.Reply.TheVariants as good
+use Rattle.session_undo.specs.declared.reply.Refusal.{Refusal}
+use Rattle.session_undo.specs.declared.reply.Refusal.TheVariants as refusal
+
+-- `Nothing` to a blank line or a comment, `Done` to a change, `Frames` and `Rows` to questions, and the refusals: where the
+-- line leaves the grammar, the unknown or taken name, the limit, the wrong use, the multipliers of the required rows, the path
+-- with the quantity that doesn't fit at its end, the path that uses up the exchanges
+pub data Reply : Type 0 where
+  Nothing : Reply
+  Done : Reply
+  Frames : Reply
+  Rows : Reply
+  Outside : ℕ → Reply
+  Unknown : List ℕ → Reply
+  Taken : List ℕ → Reply
+  Limit : LimitWord → Reply
+  Kind : KindWord → Reply
+  Conflict : List By → Reply
+  Overflow : Path → Quantity → Reply
+  Spent : Path → Reply
+
+-- whether it is no refusal
+abbrev pub is_accepted : Reply → Bool
+is_accepted Nothing = true
+is_accepted Done = true
+is_accepted Frames = true
+is_accepted Rows = true
+is_accepted (Outside at) = false
+is_accepted (Unknown name) = false
+is_accepted (Taken name) = false
+is_accepted (Limit word) = false
+is_accepted (Kind word) = false
+is_accepted (Conflict by) = false
+is_accepted (Overflow path quantity) = false
+is_accepted (Spent path) = false
+
+abbrev pub accepted : answer.Reply → Reply
+accepted good.Silent = Nothing
+accepted good.Done = Done
+accepted good.Frames = Frames
+accepted good.Rows = Rows
+
+-- the refusal is one that F allows, or what ends the run
+abbrev pub MayRefuse : (Reply → Type 0) → Refusal → Type 0
+MayRefuse F (refusal.Syntax at) = F (Outside at)
+MayRefuse F (refusal.Unknown name) = F (Unknown name)
+MayRefuse F (refusal.Taken name) = F (Taken name)
+MayRefuse F (refusal.Limit word) = F (Limit word)
+MayRefuse F (refusal.Kind word) = F (Kind word)
+MayRefuse F (refusal.Conflict by) = F (Conflict by)
+MayRefuse F (refusal.Overflow at) = F (Overflow at.path at.quantity)
+MayRefuse F (refusal.Spent path) = F (Spent path)
+MayRefuse F refusal.Unshown = ⊤
+MayRefuse F refusal.OutOfMemory = ⊤
+
+-- the refusal is one that is told, and F holds of its reply
+abbrev pub IsTold : (Reply → Type 0) → Refusal → Type 0
+IsTold F (refusal.Syntax at) = F (Outside at)
+IsTold F (refusal.Unknown name) = F (Unknown name)
+IsTold F (refusal.Taken name) = F (Taken name)
+IsTold F (refusal.Limit word) = F (Limit word)
+IsTold F (refusal.Kind word) = F (Kind word)
+IsTold F (refusal.Conflict by) = F (Conflict by)
+IsTold F (refusal.Overflow at) = F (Overflow at.path at.quantity)
+IsTold F (refusal.Spent path) = F (Spent path)
+IsTold F refusal.Unshown = ⊥
+IsTold F refusal.OutOfMemory = ⊥

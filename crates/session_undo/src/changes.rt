@@ -1,0 +1,75 @@
+// Parts of the changes of a session.
+ghost use Rattle.std.specs.Prelude.{◌≡◌, true, false, IfOk, OnErr};
+ghost use Rattle.session_undo.specs.Machine.{AreTooMany, AreNear, IsNear, line_count, parent_name};
+ghost use Rattle.script_text.specs.View.{name_view};
+ghost use Rattle.session_undo.specs.Scene.{metrics_with};
+
+use crate::item::Item;
+use frac_core::{Frac, OutOfMemory};
+use name_tables::{Metrics, NameStop};
+use problem_core::Row;
+
+/// Gives a metric a value, and says whether there was room for it.
+pub fn put_metric(metrics: &mut Metrics, name: &str, value: Frac) -> Result<bool, OutOfMemory>
+    ensures made { IfOk result (λ made. made ≡ true → (metrics.new ≡ metrics_with metrics.old name.now value) × (AreTooMany metrics.old name.now → ⊥)) }
+    ensures full { IfOk result (λ made. made ≡ false → (metrics.new ≡ metrics.old) × AreTooMany metrics.old name.now) }
+    ensures unchanged { OnErr result (metrics.new ≡ metrics.old) }
+{
+    match metrics.change(name, value) {
+        Ok(()) => return Ok(true),
+        Err(_) => (),
+    }
+    match metrics.define(name, value) {
+        Ok(()) => Ok(true),
+        Err(NameStop::Full) => Ok(false),
+        Err(NameStop::OutOfMemory) => Err(OutOfMemory),
+        Err(NameStop::Taken | NameStop::Unknown) => unreachable!(),
+    }
+}
+
+// Whether the second constant less the first fits.
+fn is_near(before: &Row, after: &Row) -> bool
+    ensures yes { result ≡ true → IsNear before.now after.now }
+    ensures no { result ≡ false → IsNear before.now after.now → ⊥ }
+{
+    match Frac::mul_add(after.constant(), -1, 1, before.constant()) {
+        Ok(_) => true,
+        Err(_) => false,
+    }
+}
+
+/// Whether no constant moves too far.
+pub fn are_near(before: &[Row], after: &[Row]) -> bool
+    ensures yes { result ≡ true → AreNear before.now after.now }
+    ensures no { result ≡ false → AreNear before.now after.now → ⊥ }
+{
+    if after.len() != before.len() {
+        return false;
+    }
+    for place in 0..before.len() {
+        if !is_near(&before[place], &after[place]) {
+            return false;
+        }
+    }
+    true
+}
+
+/// How many of the items are lines of groups.
+pub fn line_count(items: &[Item]) -> usize
+    ensures { result ≡ line_count items.now }
+{
+    items
+        .iter()
+        .filter(|item| matches!(item, Item::OfLine { .. }))
+        .count()
+}
+
+/// The name of the view that a new one is to stand in: the window where none is named.
+pub fn parent_or_window<'a>(parent: Option<&'a str>) -> &'a str
+    ensures { result.now ≡ parent_name (name_view parent.entry) }
+{
+    match parent {
+        Some(name) => name,
+        None => "window",
+    }
+}

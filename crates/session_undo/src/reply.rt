@@ -1,0 +1,82 @@
+// Replies and refusals.
+ghost use Rattle.std.specs.Prelude.{◌≡◌};
+ghost use Rattle.session_undo.specs.Adding.{refusal_of};
+
+use cert_core::{Conflict, Path, RunStop, UnfitPath};
+use constraint_compile::KindWord;
+use frac_core::OutOfMemory;
+use name_tables::{LimitWord, OwnedName};
+use std::alloc::AllocError;
+
+/// The reply to an accepted line.
+#[derive(Clone, Copy, Debug, PartialEq, Eq)]
+pub enum Reply {
+    /// None, to a blank line or a comment.
+    Silent,
+    /// A change was made.
+    Done,
+    /// The frames of all views.
+    Frames,
+    /// The problem.
+    Rows,
+}
+
+/// Why a line is refused. Then all is as before.
+#[derive(Debug, Drop)]
+pub enum Refusal {
+    /// The line leaves the grammar at this offset.
+    Syntax(usize),
+    /// This name must be that of a view or a metric, and isn't.
+    Unknown(OwnedName),
+    /// A view or a metric has this name.
+    Taken(OwnedName),
+    /// A limit would be passed.
+    Limit(LimitWord),
+    /// A name or a number is used wrongly.
+    Kind(KindWord),
+    /// The required rows have no solution, as these multipliers show.
+    Conflict(Conflict),
+    /// A quantity doesn't fit at the end of this path.
+    Overflow(UnfitPath),
+    /// The exchanges are used up.
+    Spent(Path),
+    /// What the engine found wasn't shown to be right. This ends a run.
+    Unshown,
+    /// Memory is wanting. This ends a run.
+    OutOfMemory,
+}
+
+impl From<OutOfMemory> for Refusal {
+    ghost use Rattle.std.specs.Prelude.{◌≡◌};
+    ghost use Rattle.session_undo.specs.declared.reply.Refusal.TheVariants.{OutOfMemory as NoMemory};
+
+    ghost from_gives = { λ _ stop. stop ≡ NoMemory };
+
+    fn from(_: OutOfMemory) -> Refusal {
+        Refusal::OutOfMemory
+    }
+}
+
+impl From<AllocError> for Refusal {
+    ghost use Rattle.std.specs.Prelude.{◌≡◌};
+    ghost use Rattle.session_undo.specs.declared.reply.Refusal.TheVariants.{OutOfMemory as NoMemory};
+
+    ghost from_gives = { λ _ stop. stop ≡ NoMemory };
+
+    fn from(_: AllocError) -> Refusal {
+        Refusal::OutOfMemory
+    }
+}
+
+/// The refusal for what stops the engine.
+pub fn refusal_of(stop: RunStop) -> Refusal
+    ensures { result ≡ refusal_of stop }
+{
+    match stop {
+        RunStop::Conflict(by) => Refusal::Conflict(by),
+        RunStop::Unfit(at) => Refusal::Overflow(at),
+        RunStop::Spent(path) => Refusal::Spent(path),
+        RunStop::Unshown => Refusal::Unshown,
+        RunStop::OutOfMemory => Refusal::OutOfMemory,
+    }
+}

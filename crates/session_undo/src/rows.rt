@@ -1,0 +1,139 @@
+// The rows of what is held.
+ghost use Rattle.std.specs.Prelude.{◌≡◌, ◌++◌, ◌∷◌, ◌<◌, ◌^◌, ◌*◌, ◌+◌, [], All, IfOk, IfErr};
+ghost use Rattle.problem_core.specs.declared.parts.Rel.TheVariants as rel;
+ghost use Rattle.problem_core.specs.Kept.{IsNumber};
+ghost use Rattle.problem_core.specs.Window.{required_row, structural_rows};
+ghost use Rattle.session_undo.specs.Scene.{view_rows, size_rows, width_of, height_of, AreItemRows, AreRows};
+ghost use Rattle.session_undo.specs.Kept.{IsItem, MayLackRows, MayLackItemRows};
+
+use crate::item::Item;
+use crate::window::WindowSize;
+use constraint_compile::CompileStop;
+use frac_core::{Frac, OutOfMemory};
+use name_tables::Metrics;
+use problem_core::{Rel, Row, Term};
+use std::alloc::Global;
+
+// The required row of one attribute, once.
+fn required(alloc: Global, id: u32, attr: u32, rel: Rel, constant: Frac) -> Result<Row, OutOfMemory>
+    requires id { IsNumber id }
+    requires attr { IsNumber attr }
+    ensures { IfOk result (λ row. row ≡ required_row id attr rel constant) }
+{
+    let _den = constant.den();
+    Row::of(
+        alloc,
+        id,
+        1000,
+        1,
+        rel,
+        1,
+        constant,
+        &[Term { attr, by: 1 }],
+    )
+}
+
+// A list of two rows.
+fn pair(alloc: Global, first: Row, second: Row) -> Result<Vec<Row>, OutOfMemory>
+    ensures { IfOk result (λ rows. rows.items ≡ first ∷ second ∷ []) }
+{
+    let mut rows = Vec::new(alloc);
+    rows.push(first)?;
+    rows.push(second)?;
+    Ok(rows)
+}
+
+/// The rows of the window.
+pub fn window_rows(alloc: Global) -> Result<Vec<Row>, OutOfMemory>
+    ensures { IfOk result (λ rows. rows.items ≡ structural_rows) }
+{
+    let mut rows = Vec::new(alloc);
+    rows.push(required(alloc, 1, 1, Rel::Eq, Frac::zero())?)?;
+    rows.push(required(alloc, 2, 2, Rel::Eq, Frac::zero())?)?;
+    rows.push(required(alloc, 3, 3, Rel::Ge, Frac::zero())?)?;
+    rows.push(required(alloc, 4, 4, Rel::Ge, Frac::zero())?)?;
+    Ok(rows)
+}
+
+/// The rows of a view.
+pub fn view_rows(alloc: Global, first: u32, id: u32) -> Result<Vec<Row>, OutOfMemory>
+    requires first { (0 < first) × (first < 2 ^ 31) }
+    requires id { id < 2 ^ 29 }
+    ensures { IfOk result (λ rows. rows.items ≡ view_rows first id) }
+{
+    let width = required(alloc, first, 4 * id + 3, Rel::Ge, Frac::zero())?;
+    let height = required(alloc, first + 1, 4 * id + 4, Rel::Ge, Frac::zero())?;
+    pair(alloc, width, height)
+}
+
+fn width_of(size: &Option<WindowSize>) -> Frac
+    ensures { result ≡ width_of size.now }
+{
+    match size {
+        Some(size) => size.width,
+        None => Frac::zero(),
+    }
+}
+
+fn height_of(size: &Option<WindowSize>) -> Frac
+    ensures { result ≡ height_of size.now }
+{
+    match size {
+        Some(size) => size.height,
+        None => Frac::zero(),
+    }
+}
+
+/// The rows of the window's size.
+pub fn size_rows(
+    alloc: Global,
+    first: u32,
+    size: &Option<WindowSize>,
+) -> Result<Vec<Row>, OutOfMemory>
+    requires first { (0 < first) × (first < 2 ^ 31) }
+    ensures { IfOk result (λ rows. rows.items ≡ size_rows first size.now) }
+{
+    let width = required(alloc, first, 3, Rel::Eq, width_of(size))?;
+    let height = required(alloc, first + 1, 4, Rel::Eq, height_of(size))?;
+    pair(alloc, width, height)
+}
+
+// The rows of an item, for these metrics and this size.
+fn item_rows(
+    alloc: Global,
+    item: &Item,
+    metrics: &Metrics,
+    size: &Option<WindowSize>,
+) -> Result<Vec<Row>, CompileStop>
+    requires { IsItem item.now }
+    ensures rows { IfOk result (λ rows. AreItemRows metrics.now size.now item.now rows.items) }
+    ensures stop { IfErr result (MayLackItemRows metrics.now item.now) }
+{
+    match item {
+        Item::OfWindow => Ok(window_rows(alloc)?),
+        Item::OfView { first, id } => Ok(view_rows(alloc, *first, *id)?),
+        Item::Sized { first } => Ok(size_rows(alloc, *first, size)?),
+        Item::OfLine { line, .. } => line.rows_now(alloc, metrics),
+    }
+}
+
+/// The rows of all items, for these metrics and this size. It stops at `Limit(Constant)` where a constant isn't small after some term.
+pub fn rows_of(
+    alloc: Global,
+    items: &[Item],
+    metrics: &Metrics,
+    size: &Option<WindowSize>,
+) -> Result<Vec<Row>, CompileStop>
+    requires { All IsItem items.now }
+    ensures rows { IfOk result (λ rows. AreRows metrics.now size.now items.now rows.items) }
+    ensures stop { IfErr result (MayLackRows metrics.now items.now) }
+{
+    let mut rows = Vec::new(alloc);
+    for item in items {
+        let mut more = item_rows(alloc, item, metrics, size)?;
+        if rows.append(&mut more).is_err() {
+            return Err(CompileStop::OutOfMemory);
+        }
+    }
+    Ok(rows)
+}
