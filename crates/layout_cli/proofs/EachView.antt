@@ -4,13 +4,15 @@ use Rattle.std.specs.Prelude.{slice_get}
 use Rattle.std.specs.declared.option.Option.{Option}
 use Rattle.std.proofs.lemmas.List.{append-nil, take_all}
 use Rattle.std.proofs.lemmas.Option.{none-some, same_Some, slice_get-get_or}
-use Rattle.claim_text.specs.Lines.{text_of_lines, spaced, row_line, stay_line}
+use Rattle.std.specs.Prelude.{◌≢◌, All}
+use Rattle.std.specs.List.{AllByRecursion as Each}
+use Rattle.std.proofs.Common.{ne_eqb}
+use Rattle.std.proofs.lemmas.List.Elements.{recursion_from_All}
+use Rattle.frac_core.specs.Fraction.{Fraction}
+use Rattle.problem_core.specs.Window.{zero_fraction}
+use Rattle.problem_core.specs.Gaps.{value_of}
 use Rattle.view_tree.specs.Views.{LiveView}
-use Rattle.layout_cli.specs.declared.held.Held.{Held}
-use Rattle.layout_cli.specs.declared.window.WindowSize.{WindowSize}
 use Rattle.layout_cli.specs.Replies.{text_of_each}
-use Rattle.layout_cli.specs.Scene.{stays_at, row_of}
-use Rattle.layout_cli.specs.Kept.{value_in, values_in, stay_lines_of, stay_text}
 
 -- with the view at the next place
 each-more : (text : LiveView → List ℕ) (views : List LiveView) (i : ℕ) (v : LiveView) → slice_get views i ≡ Some v → text_of_each text (take (suc i) views) ≡ text_of_each text (take i views) ++ text v
@@ -30,26 +32,10 @@ some_view [] i h is = absurd (omega (arith, h))
 some_view (w ∷ views) zero h is = absurd (none-some w (sym is))
 some_view (w ∷ views) (suc i) h is = some_view views i (omega (arith, h)) is
 
-split : (a b c d rest : List ℕ) → a ++ (10 ∷ (b ++ (10 ∷ (c ++ (10 ∷ (d ++ (10 ∷ rest))))))) ≡ ((a ++ 10 ∷ []) ++ ((b ++ 10 ∷ []) ++ ((c ++ 10 ∷ []) ++ (d ++ 10 ∷ [])))) ++ rest
-split a b c d rest = simp append_assoc refl
+each-none : (values : List (ℕ × Fraction)) (attr : ℕ) → Each (λ v. v.0 ≢ attr) values → value_of values attr ≡ zero_fraction
+each-none [] attr h = refl
+each-none (v ∷ values) attr h = rw (ne_eqb v.0 attr h.0) (each-none values attr h.1)
 
--- the lines of the stays, view by view
-pub stays-by_view : (size : Option WindowSize) (views : List LiveView) → text_of_lines (map stay_line (stays_at (values_in size views))) ≡ text_of_each (λ v. stay_lines_of size v.id) views
-stays-by_view size [] = refl
-stays-by_view size (v ∷ views) =
-    let line : ℕ → List ℕ = λ n. stay_line (record { attr = n; target = value_in size n }) in
-    split (line (4 * v.id + 1)) (line (4 * v.id + 2)) (line (4 * v.id + 3)) (line (4 * v.id + 4)) (text_of_lines (map stay_line (stays_at (values_in size views))))
-    ∙ ap (λ (rest : List ℕ). stay_lines_of size v.id ++ rest) (stays-by_view size views)
-
--- one word behind a space
-pub one_spaced : (one two w : List ℕ) → two ≡ one ++ (32 ∷ w) → two ≡ one ++ spaced (w ∷ [])
-one_spaced one two w is = is ∙ ap (λ (v : List ℕ). one ++ (32 ∷ v)) (sym (append-nil w))
-
--- the lines of the rows
-pub lines_of_rows : (size : Option WindowSize) (held : List Held) → map (λ h. row_line (row_of size h)) held ≡ map row_line (map (row_of size) held)
-lines_of_rows size [] = refl
-lines_of_rows size (h ∷ held) = ap (λ (ls : List (List ℕ)). row_line (row_of size h) ∷ ls) (lines_of_rows size held)
-
--- the whole of a problem, from its rows and its stays
-pub problem_lines : (front names : List ℕ) (after rows text stays : List ℕ) (whole : List ℕ) → front ≡ names → after ≡ front ++ rows → text ≡ after ++ stays → whole ≡ rows ++ stays → text ≡ names ++ whole
-problem_lines front names after rows text stays whole a b c d = rw (c, b, a, d) (append_assoc names rows stays)
+-- an attribute without a value counts as 0
+pub value_of-none : (values : List (ℕ × Fraction)) (attr : ℕ) → All (λ v. v.0 ≢ attr) values → value_of values attr ≡ zero_fraction
+value_of-none values attr h = each-none values attr (recursion_from_All (λ v. v.0 ≢ attr) values h)

@@ -1,12 +1,5 @@
 pub mod BestRuns
-pub mod BestValues
 pub mod EachView
-pub mod FrameTexts
-pub mod OneFraction
-pub mod OneRun
 pub mod Runs
-pub mod Scenes
-pub mod Stages
-pub mod Steps
 pub mod Texts
-pub mod WordLemmas
+pub mod Told

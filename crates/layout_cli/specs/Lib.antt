@@ -1,7 +1,6 @@
-pub mod Kept
 pub mod Machine
+pub mod PathTexts
 pub mod Replies
-pub mod Scene
-pub mod Stage
-pub mod View
 pub mod Words
+pub mod Checks
+pub mod Outputs

@@ -1,36 +1,22 @@
--- Replies to the lines of a script, and their text.
-use Rattle.std.specs.Prelude.{ℕ, ◌+◌, ◌*◌, Bool, true, false, cond, nat_eq, List, [], ◌∷◌, ◌++◌, codes, decimal}
+-- The text of replies.
+use Rattle.std.specs.Prelude.{ℕ, ◌+◌, ◌*◌, List, [], ◌∷◌, ◌++◌, codes, decimal}
 use Rattle.frac_core.specs.Fraction.{Fraction}
 use Rattle.frac_core.specs.Text.{fraction_text}
-use Rattle.problem_core.specs.Window.{zero_fraction}
+use Rattle.problem_core.specs.Gaps.{value_of}
+use Rattle.problem_core.specs.declared.stops.Quantity.{Quantity}
 use Rattle.name_tables.specs.declared.stops.LimitWord.{LimitWord}
 use Rattle.name_tables.specs.declared.stops.LimitWord.TheVariants as word
+use Rattle.constraint_compile.specs.declared.stops.KindWord.{KindWord}
+use Rattle.constraint_compile.specs.declared.stops.KindWord.TheVariants as kind
 use Rattle.view_tree.specs.Views.{LiveView}
+use Rattle.cert_core.specs.declared.by.By.{By}
+use Rattle.cert_core.specs.Paths.{Path}
 use Rattle.claim_text.specs.Lines.{problem_text}
-use Rattle.layout_cli.specs.Scene.{Scene, problem_of}
-
--- `Nothing` to a blank line or a comment, `Done` to a change, `Frames` and `Rows` to questions, and the refusals: where the
--- line leaves the grammar, the unknown or taken name, the limit
-pub data Reply : Type 0 where
-  Nothing : Reply
-  Done : Reply
-  Frames : Reply
-  Rows : Reply
-  Outside : ℕ → Reply
-  Unknown : List ℕ → Reply
-  Taken : List ℕ → Reply
-  Limit : LimitWord → Reply
-
--- whether it is no refusal
-abbrev pub is_accepted : Reply → Bool
-is_accepted Nothing = true
-is_accepted Done = true
-is_accepted Frames = true
-is_accepted Rows = true
-is_accepted (Outside at) = false
-is_accepted (Unknown name) = false
-is_accepted (Taken name) = false
-is_accepted (Limit word) = false
+use Rattle.claim_text.specs.ClaimLines.{claim_text}
+use Rattle.claim_text.specs.declared.claim.Claim.TheVariants.{IsConflict}
+use Rattle.session_undo.specs.Scene.{Scene, problem_of}
+use Rattle.session_undo.specs.Replies.{Reply, Nothing, Done, Frames, Rows, Outside, Unknown, Taken, Limit, Kind, Conflict, Overflow, Spent}
+use Rattle.layout_cli.specs.PathTexts.{path_text, unfit_text}
 
 abbrev pub limit_text : LimitWord → List ℕ
 limit_text word.Line = codes "line"
@@ -46,10 +32,15 @@ limit_text word.Coefficient = codes "coefficient"
 limit_text word.Constant = codes "constant"
 limit_text word.Budget = codes "budget"
 
--- the value of an attribute, of which there is one
-abbrev pub value_of : List (ℕ × Fraction) → ℕ → Fraction
-value_of [] attr = zero_fraction
-value_of (v ∷ more) attr = cond (nat_eq v.0 attr) v.1 (value_of more attr)
+abbrev pub kind_text : KindWord → List ℕ
+kind_text kind.Align = codes "align"
+kind_text kind.Parent = codes "parent"
+kind_text kind.Object = codes "object"
+kind_text kind.Priority = codes "priority"
+kind_text kind.Weight = codes "weight"
+kind_text kind.Window = codes "window"
+kind_text kind.Suggested = codes "suggested"
+kind_text kind.Tree = codes "tree"
 
 -- a space and the fraction
 unfoldable pub value_text : Fraction → List ℕ
@@ -85,13 +76,34 @@ frames_text scene = text_of_each (frame_of scene.values) scene.tree.views ++ lin
 abbrev pub rows_text : Scene → List ℕ
 rows_text scene = text_of_each names_of scene.tree.views ++ (problem_text (problem_of scene) ++ line_of (codes "ok"))
 
+-- the multipliers, each on a line `by TIMES row ID`
+abbrev pub conflict_text : List By → List ℕ
+conflict_text by = codes "refused 6 " ++ claim_text (IsConflict by)
+
+abbrev pub overflow_text : Path → Quantity → List ℕ
+overflow_text path quantity = line_of (codes "refused 7 overflow") ++ (path_text path ++ unfit_text quantity)
+
+abbrev pub spent_text : Path → List ℕ
+spent_text path = line_of (codes "refused 8 spent") ++ path_text path
+
+abbrev pub refusal_text : Reply → List ℕ
+refusal_text Nothing = []
+refusal_text Done = []
+refusal_text Frames = []
+refusal_text Rows = []
+refusal_text (Outside at) = codes "refused 1 syntax " ++ (decimal at ++ 10 ∷ [])
+refusal_text (Unknown name) = codes "refused 2 unknown " ++ (name ++ 10 ∷ [])
+refusal_text (Taken name) = codes "refused 3 taken " ++ (name ++ 10 ∷ [])
+refusal_text (Limit word) = codes "refused 4 limit " ++ (limit_text word ++ 10 ∷ [])
+refusal_text (Kind word) = codes "refused 5 kind " ++ (kind_text word ++ 10 ∷ [])
+refusal_text (Conflict by) = conflict_text by
+refusal_text (Overflow path quantity) = overflow_text path quantity
+refusal_text (Spent path) = spent_text path
+
 -- the text of a reply, of which the scene is the one after the line
 abbrev pub text_of : Scene → Reply → List ℕ
 text_of scene Nothing = []
 text_of scene Done = line_of (codes "ok")
 text_of scene Frames = frames_text scene
 text_of scene Rows = rows_text scene
-text_of scene (Outside at) = codes "refused 1 syntax " ++ (decimal at ++ 10 ∷ [])
-text_of scene (Unknown name) = codes "refused 2 unknown " ++ (name ++ 10 ∷ [])
-text_of scene (Taken name) = codes "refused 3 taken " ++ (name ++ 10 ∷ [])
-text_of scene (Limit word) = codes "refused 4 limit " ++ (limit_text word ++ 10 ∷ [])
+text_of scene refusal = refusal_text refusal

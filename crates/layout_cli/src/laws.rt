@@ -2,8 +2,9 @@
 ghost use Rattle.std.specs.Prelude.{◌≡◌, ℕ, Bool, List};
 ghost use Rattle.frac_core.specs.Fraction.{Fraction};
 ghost use Rattle.problem_core.specs.Layout.{Problem, IsProblem};
-ghost use Rattle.layout_cli.specs.Scene.{Scene, first_scene, problem_of, AreBest};
-ghost use Rattle.layout_cli.specs.Machine.{Run, IsRunOf};
+ghost use Rattle.layout_engine.specs.Layouts.{AreBest};
+ghost use Rattle.session_undo.specs.Scene.{State, first_scene, problem_of};
+ghost use Rattle.layout_cli.specs.Machine.{Run};
 
 /// A problem has at most one list of best values.
 pub fn best_values_are_unique()
@@ -17,11 +18,6 @@ pub fn first_values_are_best()
 
 /// Over any lines, a run leads from best values to best values.
 pub fn runs_lead_to_best_values()
-    ensures { (old new : Scene) (lines : List (List ℕ)) (text : List ℕ) (good : Bool) → AreBest (problem_of old) old.values
-        → Run old lines text good new → AreBest (problem_of new) new.values }
-{}
-
-/// A script decides the text of its replies, and whether all are accepted.
-pub fn a_script_has_one_run()
-    ensures { (script text other : List ℕ) (good kind : Bool) → IsRunOf script text good → IsRunOf script other kind → (text ≡ other) × (good ≡ kind) }
+    ensures { (old new : State) (lines : List (List ℕ)) (text : List ℕ) (good : Bool) → AreBest (problem_of old.scene) old.scene.values
+        → Run old lines text good new → AreBest (problem_of new.scene) new.scene.values }
 {}

@@ -1,26 +1,25 @@
-//! The program's run: a script of lines in, their replies out.
+//! The program's run: a script of lines in, their replies out; or a problem and a claim in, and the checker's verdict out.
 //!
-//! A script makes views and metrics, changes the size of the window, and asks for the frames of the views and for the
-//! rows. The values that a frame shows are those of the assignment that is best for the rows held; for these scripts it
-//! is known without a search.
+//! A script makes views, metrics and constraints, changes the size of the window, and asks for the frames of the views and
+//! for the rows. The values that a frame shows are those of the assignment that is best for the rows held.
 #![tactic(auto)]
 
 mod answers;
-mod frame;
-mod held;
+mod checking;
+mod frames;
 mod input;
 mod laws;
-mod lines;
+mod mode;
+mod names;
+mod output;
+mod path_lines;
 mod program;
-mod reply;
-mod session;
-mod window;
-mod worth;
+mod refusals;
+mod replies;
 
-pub use laws::{
-    a_script_has_one_run, best_values_are_unique, first_values_are_best, runs_lead_to_best_values,
-};
-pub use program::{INPUT_LIMIT, Status, run};
+pub use laws::{best_values_are_unique, first_values_are_best, runs_lead_to_best_values};
+pub use mode::{CHECK_LIMIT, INPUT_LIMIT};
+pub use program::{Status, run};
 
 #[cfg(test)]
 mod tests;

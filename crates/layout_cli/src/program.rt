@@ -1,23 +1,28 @@
 // The program's run, over any source and sink.
-ghost use Rattle.std.specs.Prelude.{◌≡◌, ◌⊎◌, ◌<◌, ◌≤◌, ℕ, List, [], true, false, length, IfSome, IsTrue, codes, take, Bool, ◌↔◌};
+ghost use Rattle.std.specs.Prelude.{◌≡◌, ◌⊎◌, ◌<◌, ◌≤◌, ◌^◌, ℕ, List, [], true, false, length, IfSome, IfOk, take, Bool};
 ghost use Rattle.std.specs.Io.KnownBytes.{Appends};
 ghost use Rattle.edge_io.specs.Cause.{Rose};
-ghost use Rattle.layout_cli.specs.Machine.{IsRunOf};
-ghost use Rattle.layout_cli.specs.Words.{AreRun, usage_line};
+ghost use Rattle.layout_cli.specs.Outputs.{IsOutputOf};
+ghost use Rattle.layout_cli.specs.Words.{AreOther, AreWordsOf, limit_of, usage_line};
+ghost use Rattle.layout_cli.specs.declared.mode.Mode.{Mode};
 
 use crate::answers::answer_script;
+use crate::checking::check_input;
 use crate::input::{InputStop, read_all};
+use crate::mode::{Mode, limit_of as greatest, mode_of};
+use crate::output::Output;
 use edge_io::{Sink, Source, put_all};
+use frac_core::OutOfMemory;
 use std::alloc::Global;
 
 /// How a run ended.
 #[derive(Clone, Copy, Debug, PartialEq, Eq)]
 pub enum Status {
-    /// Every reply was accepted.
+    /// Every reply was accepted, or the verdict is `yes`.
     Done,
-    /// Some reply was a refusal.
+    /// Some reply was a refusal, or the verdict is another.
     Refused,
-    /// The words are not those of a run.
+    /// The words name no mode.
     Usage,
     /// The source failed.
     ReadFault,
@@ -29,26 +34,19 @@ pub enum Status {
     TooLong,
 }
 
-/// The greatest length of an input, in bytes.
-pub const INPUT_LIMIT: usize = 1_048_576;
-
-fn is_run(word: &str) -> bool
-    ensures { IsTrue result ↔ (word.now ≡ codes "run") }
+// What a run in the mode writes for the input.
+fn output_of(alloc: Global, mode: Mode, input: &[u8]) -> Result<Output, OutOfMemory>
+    requires { length input.now < 2 ^ 31 }
+    ensures { IfOk result (λ output. IsOutputOf mode input.now output.text.items output.is_good) }
 {
-    word == "run"
-}
-
-// Whether the words are the one word `run`.
-fn are_run(words: &[String]) -> bool
-    ensures { IsTrue result ↔ AreRun words.now }
-{
-    match words {
-        [word] => is_run(word.as_str()),
-        _ => false,
+    match mode {
+        Mode::Run => answer_script(alloc, input),
+        Mode::Check => check_input(alloc, input),
     }
 }
 
-/// Reads a script to its end and writes the replies to its lines. `words` are the program's words after its name.
+/// Reads an input to its end and writes what the mode answers: the replies to the lines of a script, or the checker's
+/// verdict on a problem and a claim. `words` are the program's words after its name, and name the mode.
 ///
 /// Nothing is written before the whole input has been read. The first event that ends the run decides the status.
 pub fn run<S: Source, K: Sink>(
@@ -57,51 +55,51 @@ pub fn run<S: Source, K: Sink>(
     source: &mut S,
     sink: &mut K,
 ) -> Status
-    // The whole input was read, and what was written is a run of its lines.
-    ensures done { result ≡ Status.Done → IfSome (S.left source.old) (λ script. (length script ≤ INPUT_LIMIT)
-        × ((text : List ℕ) × IsRunOf script text true × Appends (K.held sink.old) (K.held sink.new) text)) }
-    ensures refused { result ≡ Status.Refused → IfSome (S.left source.old) (λ script. (length script ≤ INPUT_LIMIT)
-        × ((text : List ℕ) × IsRunOf script text false × Appends (K.held sink.old) (K.held sink.new) text)) }
+    // The whole input was read, and what was written is what the mode that the words name answers it.
+    ensures done { result ≡ Status.Done → IfSome (S.left source.old) (λ input. (mode : Mode) × AreWordsOf words.now mode × (length input ≤ limit_of mode)
+        × ((text : List ℕ) × IsOutputOf mode input text true × Appends (K.held sink.old) (K.held sink.new) text)) }
+    ensures refused { result ≡ Status.Refused → IfSome (S.left source.old) (λ input. (mode : Mode) × AreWordsOf words.now mode × (length input ≤ limit_of mode)
+        × ((text : List ℕ) × IsOutputOf mode input text false × Appends (K.held sink.old) (K.held sink.new) text)) }
 
     // Other words get the usage line, unless the sink fails.
     ensures usage { result ≡ Status.Usage → Appends (K.held sink.old) (K.held sink.new) usage_line }
-    ensures words { result ≡ Status.Usage → AreRun words.now → ⊥ }
-    ensures other_words { (AreRun words.now → ⊥) → (result ≡ Status.Usage) ⊎ (result ≡ Status.WriteFault) }
+    ensures words { result ≡ Status.Usage → AreOther words.now }
+    ensures other_words { AreOther words.now → (result ≡ Status.Usage) ⊎ (result ≡ Status.WriteFault) }
 
     // A fault has its cause, and only a front of the output was written.
     ensures read_fault { result ≡ Status.ReadFault → Rose (S.faults source.old) (S.faults source.new) }
     ensures after_read_fault { result ≡ Status.ReadFault → Appends (K.held sink.old) (K.held sink.new) [] }
     ensures write_fault { result ≡ Status.WriteFault → Rose (K.faults sink.old) (K.faults sink.new) }
-    ensures after_write_fault { result ≡ Status.WriteFault → AreRun words.now → IfSome (S.left source.old) (λ script.
-        (length script ≤ INPUT_LIMIT) × ((text : List ℕ) × (good : Bool) × (n : ℕ)
-        × IsRunOf script text good × Appends (K.held sink.old) (K.held sink.new) (take n text))) }
-    ensures usage_fault { result ≡ Status.WriteFault → (AreRun words.now → ⊥)
+    ensures after_write_fault { result ≡ Status.WriteFault → (mode : Mode) → AreWordsOf words.now mode → IfSome (S.left source.old) (λ input.
+        (length input ≤ limit_of mode) × ((text : List ℕ) × (good : Bool) × (n : ℕ)
+        × IsOutputOf mode input text good × Appends (K.held sink.old) (K.held sink.new) (take n text))) }
+    ensures usage_fault { result ≡ Status.WriteFault → AreOther words.now
         → (n : ℕ) × Appends (K.held sink.old) (K.held sink.new) (take n usage_line) }
 
     // The source gave more than the limit.
-    ensures too_long { result ≡ Status.TooLong → IfSome (S.left source.old) (λ script. INPUT_LIMIT < length script) }
+    ensures too_long { result ≡ Status.TooLong → IfSome (S.left source.old) (λ input. (mode : Mode) × AreWordsOf words.now mode × (limit_of mode < length input)) }
     ensures after_too_long { result ≡ Status.TooLong → Appends (K.held sink.old) (K.held sink.new) [] }
     ensures out_of_memory { result ≡ Status.OutOfMemory → Appends (K.held sink.old) (K.held sink.new) [] }
 {
-    if !are_run(words) {
-        return match put_all(sink, b"usage: layout run\n") {
+    let Some(mode) = mode_of(words) else {
+        return match put_all(sink, b"usage: layout run | check\n") {
             Ok(()) => Status::Usage,
             Err(_) => Status::WriteFault,
         };
-    }
-    let script = match read_all(alloc, source, INPUT_LIMIT) {
-        Ok(script) => script,
+    };
+    let input = match read_all(alloc, source, greatest(mode)) {
+        Ok(input) => input,
         Err(InputStop::Fault) => return Status::ReadFault,
         Err(InputStop::TooLong) => return Status::TooLong,
         Err(InputStop::OutOfMemory) => return Status::OutOfMemory,
     };
-    let Ok(replies) = answer_script(alloc, &script) else {
+    let Ok(output) = output_of(alloc, mode, &input) else {
         return Status::OutOfMemory;
     };
-    if put_all(sink, &replies.text).is_err() {
+    if put_all(sink, &output.text).is_err() {
         return Status::WriteFault;
     }
-    if replies.are_good {
+    if output.is_good {
         Status::Done
     } else {
         Status::Refused

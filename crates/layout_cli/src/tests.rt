@@ -1,6 +1,6 @@
 ghost use Rattle.std.specs.Prelude.{Some};
 
-use crate::{INPUT_LIMIT, Status, run};
+use crate::{CHECK_LIMIT, INPUT_LIMIT, Status, run};
 use edge_io::{Failed, MemorySink, MemorySource, Sink, Source, StdSink, StdSource};
 use std::io::Cursor;
 use std::test::Fail;
@@ -19,7 +19,25 @@ fn plain(rt: &HostRuntime, text: &[u8]) -> Result<MemorySource, Fail> {
     Ok(MemorySource::new(text.to_vec(alloc)?, Vec::new(alloc), Vec::new(alloc)))
 }
 
-// Tries that a run with the word `run` leaves this in a sink of so much room, with this status.
+// Tries that a run with the word leaves this in a sink of so much room, with this status.
+fn expect_mode<S: Source>(
+    rt: &HostRuntime,
+    word: &str,
+    source: &mut S,
+    room: usize,
+    want: &[u8],
+    status: Status,
+) -> Result<(), Fail> {
+    let words = words_of(rt, &[word])?;
+    let mut sink = MemorySink::new(rt.alloc(), room, Vec::new(rt.alloc()))?;
+    let ended = run(rt.alloc(), &words, source, &mut sink);
+    if sink.bytes() != want || ended != status {
+        return Err(Fail::new(format_args!("{ended:?} in place of {status:?}, or another text")));
+    }
+    Ok(())
+}
+
+// Tries the word `run`.
 fn expect_run<S: Source>(
     rt: &HostRuntime,
     source: &mut S,
@@ -27,13 +45,7 @@ fn expect_run<S: Source>(
     want: &[u8],
     status: Status,
 ) -> Result<(), Fail> {
-    let words = words_of(rt, &["run"])?;
-    let mut sink = MemorySink::new(rt.alloc(), room, Vec::new(rt.alloc()))?;
-    let ended = run(rt.alloc(), &words, source, &mut sink);
-    if sink.bytes() != want || ended != status {
-        return Err(Fail::new(format_args!("{ended:?} in place of {status:?}, or another text")));
-    }
-    Ok(())
+    expect_mode(rt, "run", source, room, want, status)
 }
 
 #[test]
@@ -114,12 +126,29 @@ fn wrong_lines_are_refused(rt: HostRuntime) -> Result<(), Fail> {
     let syntax = b"view 1a\nview a b\nwindow 1 2x\n  frame\n constrain c\nvfl\n";
     let mut script = plain(&rt, syntax)?;
     let want =
-        b"refused 1 syntax 5\nrefused 1 syntax 7\nrefused 1 syntax 10\nrefused 1 syntax 7\nrefused 1 syntax 1\nrefused 1 syntax 1\n";
+        b"refused 1 syntax 5\nrefused 1 syntax 7\nrefused 1 syntax 10\nrefused 1 syntax 7\nrefused 1 syntax 12\nrefused 1 syntax 3\n";
     expect_run(&rt, &mut script, 1000, want, Status::Refused)?;
     let names = b"metric m -0.5\nview m in q\nview m\nview a\nmetric a 1\nview b in a\nframes\n";
     let mut script = plain(&rt, names)?;
     let want =
         b"ok\nrefused 2 unknown q\nrefused 3 taken m\nok\nrefused 3 taken a\nok\nframe window 0 0 0 0\nframe a 0 0 0 0\nframe b 0 0 0 0\nok\n";
+    expect_run(&rt, &mut script, 1000, want, Status::Refused)
+}
+
+#[test]
+fn constraints_are_solved(rt: HostRuntime) -> Result<(), Fail> {
+    let mut script = plain(
+        &rt,
+        b"view a\nwindow 30 40\nconstrain g a.width == 1/3*window.width + 2.5 @500\nvfl h |-[a]\nframes\n",
+    )?;
+    let want = b"ok\nok\nok\nok\nframe window 0 0 30 40\nframe a 20 0 25/2 0\nok\n";
+    expect_run(&rt, &mut script, 1000, want, Status::Done)?;
+    let mut script = plain(
+        &rt,
+        b"view a\nwindow 100 50\nconstrain g a.width >= 60\nconstrain g a.width <= 50\nbudget 0\nconstrain g zz.left == a\nconstrain g a.left == a\nframes\n",
+    )?;
+    let want =
+        b"ok\nok\nok\nrefused 6 conflict\nby 1 row 9\nby -1 row 10\nrefused 4 limit budget\nrefused 2 unknown zz\nrefused 5 kind object\nframe window 0 0 100 50\nframe a 0 0 60 0\nok\n";
     expect_run(&rt, &mut script, 1000, want, Status::Refused)
 }
 
@@ -170,8 +199,14 @@ fn faults_are_told(rt: HostRuntime) -> Result<(), Fail> {
 #[test]
 fn other_words_get_the_usage_line(rt: HostRuntime) -> Result<(), Fail> {
     let alloc = rt.alloc();
-    let usage = b"usage: layout run\n".as_slice();
-    for words in [[].as_slice(), &["runs"], &["run", "run"]] {
+    let usage = b"usage: layout run | check\n".as_slice();
+    for words in [
+        [].as_slice(),
+        &["runs"],
+        &["run", "run"],
+        &["check", "run"],
+        &["Check"],
+    ] {
         let words = words_of(&rt, words)?;
         let mut source = plain(&rt, b"frames\n")?;
         let mut sink = MemorySink::new(alloc, 100, Vec::new(alloc))?;
@@ -238,4 +273,116 @@ fn std_readers_and_writers_serve(rt: HostRuntime) -> Result<(), Fail> {
     assert_eq!(rt; status, Status::WriteFault);
     assert!(rt; &room == b"fram");
     Ok(())
+}
+
+// A problem of eight attributes: a view's width is wanted to be 100 by the row 7, more strongly 200 by the row 8.
+const WANTED: &str =
+    "row 1 1000 1 == 1 0 1:1\nrow 2 1000 1 == 1 0 2:1\nrow 3 1000 1 >= 1 0 3:1\nrow 4 1000 1 >= 1 0 4:1\nrow 5 1000 1 >= 1 0 7:1\nrow 6 1000 1 >= 1 0 8:1\nrow 7 20 1 == 1 100 7:1\nrow 8 30 1 == 1 200 7:1\nstay 1 0\nstay 2 0\nstay 3 0\nstay 4 0\nstay 5 0\nstay 6 0\nstay 7 100\nstay 8 0\n";
+
+const VALUES: &str =
+    "value 1 0\nvalue 2 0\nvalue 3 0\nvalue 4 0\nvalue 5 0\nvalue 6 0\nvalue 7 200\nvalue 8 0\n";
+
+// A problem with two more rows and the stays at 0, the last of which is given.
+fn apart(
+    rt: &HostRuntime,
+    seven: &str,
+    eight: &str,
+    last: &str,
+    claim: &str,
+) -> Result<String, Fail> {
+    let mut text = String::from_str(
+        rt.alloc(),
+        "row 1 1000 1 == 1 0 1:1\nrow 2 1000 1 == 1 0 2:1\nrow 3 1000 1 >= 1 0 3:1\nrow 4 1000 1 >= 1 0 4:1\nrow 5 1000 1 >= 1 0 7:1\nrow 6 1000 1 >= 1 0 8:1\n",
+    )?;
+    write!(
+        text,
+        "{seven}\n{eight}\nstay 1 0\nstay 2 0\nstay 3 0\nstay 4 0\nstay 5 0\nstay 6 0\nstay 7 0\nstay 8 0\n{last}{claim}"
+    )?;
+    Ok(text)
+}
+
+// Tries the word `check` on a text.
+fn expect_check(rt: &HostRuntime, text: &str, want: &str) -> Result<(), Fail> {
+    let status = if want == "yes\n" {
+        Status::Done
+    } else {
+        Status::Refused
+    };
+    let mut source = plain(rt, text.as_bytes())?;
+    expect_mode(rt, "check", &mut source, 100, want.as_bytes(), status)
+}
+
+#[test]
+fn certificates_are_checked(rt: HostRuntime) -> Result<(), Fail> {
+    let right = "level 20 1\nby -1 row 7\nby 1 row 8\nlevel s7 1\nby 1 row 8\nby -1 row s7\n";
+    for (levels, want) in [
+        (right, "yes\n"),
+        (
+            "level 20 1\nby -1 row 7\nby 2 row 8\nlevel s7 1\nby 1 row 8\nby -1 row s7\n",
+            "no 3\n",
+        ),
+        (
+            "level 20 1\nby -1 row 7\nby 1 row 8\nlevel s7 1\nby -1 row 5\nby 1 row s7\n",
+            "no 4\n",
+        ),
+        ("", "no 5\n"),
+        ("level 20 1\nby 0 row 7\n", "bad 27\n"),
+        ("level 20 1\nby -1 row 7\nby 1 row 8\nok\n", "no 5\n"),
+        ("ok\nok\n", "bad 26\n"),
+    ] {
+        let mut text = String::new(rt.alloc());
+        write!(text, "{WANTED}{VALUES}best\n{levels}")?;
+        expect_check(&rt, &text, want)?;
+    }
+    let mut text = String::new(rt.alloc());
+    write!(text, "\n# any\n{WANTED}{VALUES}best\n{right}ok\r\n")?;
+    expect_check(&rt, &text, "yes\n")
+}
+
+#[test]
+fn conflicts_are_checked(rt: HostRuntime) -> Result<(), Fail> {
+    let (seven, eight) = ("row 7 1000 1 >= 1 200 7:1", "row 8 1000 1 <= 1 100 7:1");
+    let fifty = "row 7 1000 1 >= 1 50 7:1";
+    let fine = "row 7 1000 1 >= 1 201/1073741824 7:1";
+    let claim = "conflict\nby 1 row 7\nby -1 row 8\n";
+    for (seven, last, claim, want) in [
+        (seven, "", claim, "yes\n"),
+        (seven, "", "conflict\nby -1 row 7\nby 1 row 8\n", "no 7\n"),
+        (fifty, "", claim, "no 8\n"),
+        (fine, "", claim, "no room 7\n"),
+        (seven, "", "conflict\n", "no 6\n"),
+        (seven, "stay 8 0\n", claim, "bad 17\n"),
+        (seven, "", "", "bad 17\n"),
+        (seven, "", "ok\n", "bad 17\n"),
+        (seven, "", "path primal\n", "bad 17\n"),
+    ] {
+        expect_check(&rt, &apart(&rt, seven, eight, last, claim)?, want)?;
+    }
+    expect_check(&rt, "", "bad 1\n")
+}
+
+#[test]
+fn a_check_has_a_limit(rt: HostRuntime) -> Result<(), Fail> {
+    let alloc = rt.alloc();
+    for (len, want, status) in [
+        (CHECK_LIMIT, "bad 2\n", Status::Refused),
+        (CHECK_LIMIT + 1, "", Status::TooLong),
+    ] {
+        let comment = vec![in alloc; b'#'; len]?;
+        let mut source = MemorySource::new(comment, Vec::new(alloc), Vec::new(alloc));
+        expect_mode(&rt, "check", &mut source, 100, want.as_bytes(), status)?;
+    }
+    Ok(())
+}
+
+#[test]
+fn faults_of_a_check_are_told(rt: HostRuntime) -> Result<(), Fail> {
+    let alloc = rt.alloc();
+    let mut calls = Vec::new(alloc);
+    calls.push(1)?;
+    let text = b"conflict\n".to_vec(alloc)?;
+    let mut source = MemorySource::new(text, Vec::new(alloc), calls);
+    expect_mode(&rt, "check", &mut source, 100, b"", Status::ReadFault)?;
+    let mut source = plain(&rt, b"")?;
+    expect_mode(&rt, "check", &mut source, 4, b"bad ", Status::WriteFault)
 }

@@ -1,4 +1,4 @@
-use Rattle.layout_cli.proofs.BestRuns.{first-AreBest}
+use Rattle.session_undo.proofs.First.{first-AreBest}
 use Rattle.layout_cli.proofs.laws.first_values_are_best.Goals as goal
 
 pub returns : goal.returns

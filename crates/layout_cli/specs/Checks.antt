@@ -1,0 +1,58 @@
+-- What the check of an input answers, and its text.
+use Rattle.std.specs.Prelude.{◌≡◌, ◌⊎◌, ℕ, ◌+◌, Bool, true, false, List, [], ◌∷◌, ◌++◌, length, codes, decimal}
+use Rattle.std.specs.Str.Lines.{lines}
+use Rattle.problem_core.specs.Layout.{Problem}
+use Rattle.cert_checker.specs.declared.verdict.Verdict.{Verdict}
+use Rattle.cert_checker.specs.declared.verdict.Verdict.TheVariants.{Yes, No, NoRoom}
+use Rattle.cert_checker.specs.Certifying.{IsBestVerdict}
+use Rattle.cert_checker.specs.Refuting.{IsConflictVerdict}
+use Rattle.claim_text.specs.declared.claim.Claim.{Claim}
+use Rattle.claim_text.specs.declared.claim.Claim.TheVariants.{IsBest, IsConflict}
+use Rattle.claim_text.specs.declared.stops.ReadStop.TheVariants.{BadLine}
+use Rattle.claim_text.specs.Cut.{IsCut}
+use Rattle.claim_text.specs.Problems as problem
+use Rattle.claim_text.specs.ClaimTexts as claim
+use Rattle.layout_cli.specs.declared.checking.Answer.{Answer}
+use Rattle.layout_cli.specs.declared.checking.Answer.TheVariants.{Judged, Bad}
+
+abbrev pub IsVerdictOn : Problem → Claim → Verdict → Type 0
+IsVerdictOn p (IsBest values best) v = IsBestVerdict p values best v
+IsVerdictOn p (IsConflict bys) v = IsConflictVerdict p bys v
+
+-- the lines are those of a problem and of a claim, and this is the verdict on them
+pub record IsJudged (all : List (List ℕ)) (v : Verdict) : Type 0 where
+  pub before : List (List ℕ)
+  pub after : List (List ℕ)
+  pub cut : IsCut all before after
+  pub p : Problem
+  pub says : problem.Reads before p
+  pub c : Claim
+  pub claims : claim.Reads after c
+  pub verdict : IsVerdictOn p c v
+
+-- the n-th line, counted from 1, is the first outside the form: one of the problem's, or one of the claim's where the problem is in the form
+pub record IsBad (all : List (List ℕ)) (n : ℕ) : Type 0 where
+  pub before : List (List ℕ)
+  pub after : List (List ℕ)
+  pub cut : IsCut all before after
+  pub bad : problem.StopsAt before (BadLine n) ⊎ ((p : Problem) × problem.Reads before p × (m : ℕ) × claim.StopsAt after (BadLine m) × (n ≡ length before + m))
+
+abbrev pub IsAnswerTo : List (List ℕ) → Answer → Type 0
+IsAnswerTo all (Judged v) = IsJudged all v
+IsAnswerTo all (Bad n) = IsBad all n
+
+abbrev pub answer_text : Answer → List ℕ
+answer_text (Judged Yes) = codes "yes" ++ 10 ∷ []
+answer_text (Judged (No clause)) = codes "no " ++ (decimal clause ++ 10 ∷ [])
+answer_text (Judged (NoRoom row)) = codes "no room " ++ (decimal row ++ 10 ∷ [])
+answer_text (Bad n) = codes "bad " ++ (decimal n ++ 10 ∷ [])
+
+abbrev pub is_yes : Answer → Bool
+is_yes (Judged Yes) = true
+is_yes (Judged (No clause)) = false
+is_yes (Judged (NoRoom row)) = false
+is_yes (Bad n) = false
+
+-- The text is the one line that the check of the input answers, which is `yes` or not.
+abbrev pub IsCheckOf : List ℕ → List ℕ → Bool → Type 0
+IsCheckOf input text good = (answer : Answer) × IsAnswerTo (lines input) answer × (text ≡ answer_text answer) × (good ≡ is_yes answer)

@@ -1,0 +1,93 @@
+// The check of a claim on a problem.
+ghost use Rattle.std.specs.Prelude.{◌≡◌, ◌<◌, ◌^◌, ◌++◌, ◌∷◌, [], IfOk, decimal, length};
+ghost use Rattle.std.specs.Str.Lines.{lines};
+ghost use Rattle.layout_cli.specs.Checks.{IsAnswerTo, IsCheckOf, IsVerdictOn, answer_text, is_yes};
+
+use crate::output::Output;
+use crate::refusals::push_line;
+use cert_checker::{Verdict, check_best, check_conflict};
+use claim_text::{Claim, ReadStop, cut_input, read_claim, read_problem};
+use frac_core::OutOfMemory;
+use problem_core::Problem;
+use std::alloc::Global;
+
+/// What the check of an input answers.
+#[derive(Clone, Copy, Debug, PartialEq, Eq)]
+pub enum Answer {
+    /// The checker's verdict.
+    Judged(Verdict),
+    /// The first line outside the form, counted from 1.
+    Bad(u64),
+}
+
+impl Answer {
+    fn is_yes(self) -> bool
+        ensures { result ≡ is_yes self }
+    {
+        self == Answer::Judged(Verdict::Yes)
+    }
+}
+
+fn verdict_on(alloc: Global, p: &Problem, claim: &Claim) -> Result<Verdict, OutOfMemory>
+    ensures { IfOk result (IsVerdictOn p.now claim.now) }
+{
+    match claim {
+        Claim::IsBest { values, best } => check_best(alloc, p, values, best),
+        Claim::IsConflict(conflict) => check_conflict(alloc, p, conflict),
+    }
+}
+
+// What the check of an input answers.
+fn answer_to(alloc: Global, input: &[u8]) -> Result<Answer, OutOfMemory>
+    requires { length input.now < 2 ^ 31 }
+    ensures { IfOk result (IsAnswerTo (lines input.now)) }
+{
+    let cut = cut_input(input);
+    let problem = match read_problem(alloc, cut.problem) {
+        Ok(problem) => problem,
+        Err(ReadStop::BadLine(line)) => return Ok(Answer::Bad(u64::from(line))),
+        Err(ReadStop::OutOfMemory) => return Err(OutOfMemory),
+    };
+    match read_claim(alloc, cut.claim) {
+        Ok(claim) => Ok(Answer::Judged(verdict_on(alloc, &problem, &claim)?)),
+        Err(ReadStop::BadLine(line)) => {
+            Ok(Answer::Bad(u64::from(cut.lines_before) + u64::from(line)))
+        }
+        Err(ReadStop::OutOfMemory) => Err(OutOfMemory),
+    }
+}
+
+// Some bytes, a number and the end of the line.
+fn number_line(alloc: Global, front: &[u8], number: u64) -> Result<Vec<u8>, OutOfMemory>
+    ensures { IfOk result (λ v. v.items ≡ front.now ++ (decimal number ++ 10 ∷ [])) }
+{
+    let mut word = String::new(alloc);
+    write!(word, "{number}")?;
+    let mut out = Vec::new(alloc);
+    push_line(&mut out, front, word.as_bytes())?;
+    Ok(out)
+}
+
+// The line of an answer.
+fn answer_line(alloc: Global, answer: Answer) -> Result<Vec<u8>, OutOfMemory>
+    ensures { IfOk result (λ v. v.items ≡ answer_text answer) }
+{
+    match answer {
+        Answer::Judged(Verdict::Yes) => Ok(b"yes\n".to_vec(alloc)?),
+        Answer::Judged(Verdict::No(clause)) => number_line(alloc, b"no ", u64::from(clause)),
+        Answer::Judged(Verdict::NoRoom(row)) => number_line(alloc, b"no room ", u64::from(row)),
+        Answer::Bad(line) => number_line(alloc, b"bad ", line),
+    }
+}
+
+/// The line that the check of an input answers, and whether it is `yes`.
+pub fn check_input(alloc: Global, input: &[u8]) -> Result<Output, OutOfMemory>
+    requires { length input.now < 2 ^ 31 }
+    ensures { IfOk result (λ output. IsCheckOf input.now output.text.items output.is_good) }
+{
+    let answer = answer_to(alloc, input)?;
+    Ok(Output {
+        text: answer_line(alloc, answer)?,
+        is_good: answer.is_yes(),
+    })
+}
