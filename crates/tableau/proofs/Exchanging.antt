@@ -1,4 +1,5 @@
 -- What an exchange makes of one row.
+use Rattle.std.specs.List.{AllZip}
 use Rattle.std.proofs.Common.{◌≡◌, ◌≢◌, ℕ, ◌*◌, ◌<◌, Bool, true, false, cond, nat_eq, List, [], ◌∷◌, map, ℤ, pos, negsuc, ◌+ℤ◌, ◌*ℤ◌, neg_ℤ, ◌<ℤ◌, refl, sym, ap, ap₂, subst, ◌∙◌, arith, mul-pos, eq-eqb, ne_eqb}
 use lib.IntN.{*ℤ_comm}
 use lib.Signed.{<ℤ_irrefl}
@@ -9,7 +10,7 @@ use Rattle.problem_core.specs.declared.stops.What.{What}
 use Rattle.problem_core.specs.declared.stops.What.TheVariants.{Mark as MarkOf}
 use Rattle.problem_core.specs.Corners.{place}
 use Rattle.row_core.specs.Rows.{IsKeptRow, IsReduced}
-use Rattle.tableau.specs.Exchanges.{IsReady, IsExchangedWriting, IsCombined, IsTurned, IsTurnedRow, IsTurnedValue, IsCleared, IsClearedValue, clearing}
+use Rattle.tableau.specs.Exchanges.{IsReady, IsExchangedWriting, IsMovedBy, IsCombined, IsTurned, IsTurnedRow, IsTurnedValue, IsCleared, IsClearedValue, clearing}
 use Rattle.problem_core.specs.Layout.{coefficient as named_coefficient}
 use Rattle.problem_core.specs.Corners.{one_column}
 use Rattle.problem_core.proofs.Tableaus.{IsPivoted, zero_of_product}
@@ -233,3 +234,35 @@ exchanged_cleared leaving old pivot new enter t other c = record {
     kept = c.combined.kept;
   };
 }
+
+-- the same three with the values
+pub moved_leaving : (leaving old pivot new : Writing) (enter : Mark) → IsReady leaving old → IsTurned leaving enter pivot → column_of old.what ≡ column_of leaving.what → new ≡ pivot → IsMovedBy leaving pivot enter old new
+moved_leaving leaving old pivot new enter ready t same e = record {
+  exchanged = exchanged_leaving leaving old pivot new enter ready t same e;
+  leaves = λ _. e;
+  follows = λ n. absurd (n same);
+  stays = λ n. absurd (n same);
+}
+
+pub moved_unchanged : (leaving old pivot new : Writing) (enter : Mark) → IsReady leaving old → column_of old.what ≢ column_of leaving.what → coefficient (place enter) old.row ≡ pos 0 → new ≡ old → IsMovedBy leaving pivot enter old new
+moved_unchanged leaving old pivot new enter ready other none e = record {
+  exchanged = exchanged_unchanged leaving old new enter ready other none e;
+  leaves = λ q. absurd (other q);
+  follows = λ _ n. absurd (n none);
+  stays = λ _ _. e;
+}
+
+pub moved_cleared : (leaving old pivot new : Writing) (enter : Mark) → IsTurned leaving enter pivot → column_of old.what ≢ column_of leaving.what → coefficient (place enter) old.row ≢ pos 0 → IsCleared pivot (place enter) old new → IsClearedValue pivot (place enter) old new.value → IsMovedBy leaving pivot enter old new
+moved_cleared leaving old pivot new enter t other stands c value = record {
+  exchanged = exchanged_cleared leaving old pivot new enter t other c;
+  leaves = λ q. absurd (other q);
+  follows = λ _ _. value;
+  stays = λ _ n. absurd (stands n);
+}
+
+-- what each writing is after the exchange, without its value
+pub exchanged_all : (leaving pivot : Writing) (enter : Mark) (olds news : List Writing) → AllZip (IsMovedBy leaving pivot enter) olds news → AllZip (IsExchangedWriting leaving enter) olds news
+exchanged_all leaving pivot enter [] [] z = tt
+exchanged_all leaving pivot enter [] (n ∷ news) z = absurd z
+exchanged_all leaving pivot enter (o ∷ olds) [] z = absurd z
+exchanged_all leaving pivot enter (o ∷ olds) (n ∷ news) z = (z.0.exchanged, exchanged_all leaving pivot enter olds news z.1)

@@ -25,6 +25,7 @@ use Rattle.tableau.specs.Written.{Writing}
 use Rattle.tableau.specs.Tables.{Table, IsTable, IsWriting, HasColumn, IsNamed, IsSumOfLines, IsKeptWriting, basic, basics, column_of, form, plain, own, marked_form}
 use Rattle.tableau.specs.Joining.{IsJoining, IsJoinable, IsStart, IsAdded, IsTermSum, IsOver, IsNotNegative, IsWithRow, nought, over_mark, under_mark, term_at, with_row}
 use Rattle.tableau.specs.Moving.{with_constant}
+use Rattle.tableau.proofs.Reindexing.{last_fresh}
 use Rattle.tableau.proofs.Algebra.{mul-neg}
 use Rattle.tableau.proofs.Exchanging.{IsSwept, swept_made, coefficient-plain}
 use Rattle.tableau.proofs.Insides.{at_inside, inside_at, not_inside, form_at, each_at, row_others, row_own}
@@ -696,3 +697,7 @@ terms_written t r table j = λ k d h.
 
 pub joinable_facts : (t : Table) (r : Row) (over : Writing) → IsTable t → IsJoinable t r → IsOver t.written r over → (over.what ≡ MarkOf (over_mark r.id)) × (IsKeptWriting over × ((pos 0 <ℤ own over) × (coefficient (place_of (Held r.id) Under) over.row ≡ neg_ℤ (own over))))
 joinable_facts t r over table j is = let x = over_enters t r over table j is in (x.1.0, (x.0.kept, (x.0.above, x.1.1)))
+
+-- the mark that a row joins by was not written before
+pub row_fresh : (t : Table) (r : Row) (over w : Writing) → IsTable t → IsJoinable t r → IsOver t.written r over → IsNotNegative r.id over w → HasColumn t.written (column_of w.what) → ⊥
+row_fresh t r over w table j is side = last_fresh t.written w (row_joined t r over w table j is side).0.table.distinct

@@ -20,4 +20,11 @@ pub mod Joined
 pub mod NamedMarks
 pub mod Words
 pub mod Counting
+pub mod Shuffles
 pub mod Standing
+pub mod Zips
+pub mod Changing
+pub mod Covering
+pub mod Indexing
+pub mod Reindexing
+pub mod Swapped

@@ -20,6 +20,10 @@ pub ok_implies : {A E : Type 0} (r : Result A E) (P Q : A → Type 0) → ((x : 
 ok_implies (Ok x) P Q f h = f x h
 ok_implies (Err e) P Q f h = h
 
+pub ok_both : {A E : Type 0} (r : Result A E) (P Q R : A → Type 0) → ((x : A) → P x → Q x → R x) → IfOk r P → IfOk r Q → IfOk r R
+ok_both (Ok x) P Q R f h i = f x h i
+ok_both (Err e) P Q R f h i = h
+
 pub err_implies : {A E : Type 0} (r : Result A E) (P Q : Type 0) → (P → Q) → OnErr r P → OnErr r Q
 err_implies (Ok x) P Q f h = h
 err_implies (Err e) P Q f h = f h

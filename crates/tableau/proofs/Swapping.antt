@@ -27,7 +27,7 @@ cond-apart : (b : Bool) (x y z : ℕ) → x ≢ z → y ≢ z → cond b x y ≢
 cond-apart true x y z h k = h
 cond-apart false x y z h k = k
 
-inside_after : (leaving old new : Writing) (enter : Mark) → IsExchangedWriting leaving enter old new → column_of new.what ≡ cond (nat_eq (column_of old.what) (column_of leaving.what)) (place enter) (column_of old.what)
+pub inside_after : (leaving old new : Writing) (enter : Mark) → IsExchangedWriting leaving enter old new → column_of new.what ≡ cond (nat_eq (column_of old.what) (column_of leaving.what)) (place enter) (column_of old.what)
 inside_after leaving old new enter x = ap column_of x.what ∙ column-cond (nat_eq (column_of old.what) (column_of leaving.what)) (MarkOf enter) old.what
 
 row_exchanged : (leaving old new : Writing) (enter : Mark) → place enter ≢ one_column → column_of old.what ≢ one_column → IsExchangedWriting leaving enter old new → IsExchangedRow (basic leaving) (place enter) (basic old) (basic new)

@@ -12,7 +12,7 @@ use Rattle.problem_core.specs.declared.stops.Quantity.TheVariants.{Plain}
 use Rattle.problem_core.specs.Corners.{place}
 use Rattle.problem_core.proofs.Tableaus.{IsPivoted}
 use Rattle.tableau.specs.Written.{Writing}
-use Rattle.tableau.specs.Tables.{Table, HasColumn, IsNamed, column_of, own, form, plain, IsKeptWriting}
+use Rattle.tableau.specs.Tables.{Table, HasColumn, IsNamed, IsWriting, column_of, own, form, plain, IsKeptWriting}
 
 -- the new row is the old one with a multiple of the pivot, in its sums and in its value
 pub record IsCombined (pivot old new : Writing) : Type 0 where
@@ -121,6 +121,26 @@ IsPossible t enter leave = All (λ w. column_of w.what ≡ place leave → coeff
 -- what was written at the leaving column is the entering mark, and all else is what it was
 abbrev pub IsRenamed : ℕ → Mark → Writing → Writing → Type 0
 IsRenamed c enter old new = new.what ≡ cond (nat_eq (column_of old.what) c) (MarkOf enter) old.what
+
+-- one writing after an exchange: the pivot in place of the leaving one, the value that follows where the entering mark stood, and else what it was
+pub record IsMovedBy (leaving pivot : Writing) (enter : Mark) (old new : Writing) : Type 0 where
+  pub exchanged : IsExchangedWriting leaving enter old new
+  pub leaves : column_of old.what ≡ column_of leaving.what → new ≡ pivot
+  pub follows : column_of old.what ≢ column_of leaving.what → coefficient (place enter) old.row ≢ pos 0 → IsClearedValue pivot (place enter) old new.value
+  pub stays : column_of old.what ≢ column_of leaving.what → coefficient (place enter) old.row ≡ pos 0 → new ≡ old
+
+-- the leaving row turned round is the pivot, and each writing moves by it
+pub record AreMoved (leaving : Writing) (enter : Mark) (old new : List Writing) : Type 0 where
+  pub pivot : Writing
+  pub turned : IsTurned leaving enter pivot
+  pub value : IsTurnedValue leaving enter pivot.value
+  pub written : AllZip (IsMovedBy leaving pivot enter) old new
+
+-- what the exchange makes of the rows and of the values
+pub record IsMovedTo (enter leave : Mark) (old new : Table) : Type 0 where
+  pub leaving : Writing
+  pub writes : IsWriting old.written (place leave) leaving
+  pub moved : AreMoved leaving enter old.written new.written
 
 -- the tableau of the corner with the mark that enters in place of the one that leaves
 pub record IsSwapped (enter leave : Mark) (old new : Table) : Type 0 where

@@ -4,5 +4,6 @@ pub mod Exchanges
 pub mod Joining
 pub mod Moving
 pub mod Columns
+pub mod Indexes
 pub mod WideMerges
 pub mod Views

@@ -9,12 +9,14 @@ ghost use Rattle.problem_core.specs.declared.parts.RowName.TheVariants.{Held};
 ghost use Rattle.problem_core.specs.declared.stops.TableStop.TheVariants.{UnfitAt, OutOfMemory as NoMemory};
 ghost use Rattle.problem_core.specs.declared.stops.Quantity.TheVariants.{Terms};
 ghost use Rattle.tableau.specs.Tables.{HasColumn, column_of};
+ghost use Rattle.tableau.specs.Indexes.{IsPlaced};
 ghost use Rattle.tableau.specs.Exchanges.{IsUnfitSum};
 ghost use Rattle.tableau.specs.Joining.{IsStart, IsAdded, IsUnfitAdded, IsTermSum, IsUnfitTerms, added, over_mark, start_row, term_at};
 
+use crate::index::Index;
 use crate::joining::entry;
 use crate::sums::{factor, sum_without};
-use crate::written::{Written, column, writing};
+use crate::written::{Written, column};
 use frac_core::{Frac, OutOfMemory, Unfit};
 use problem_core::{Mark, Quantity, Row, RowName, Side, TableStop, Term, What};
 use row_core::{Col, IntRow, RowStop};
@@ -123,11 +125,13 @@ fn terms_stop(stop: RowStop, id: u32, count: u32) -> TableStop
 fn next_sum(
     alloc: Global,
     written: &[Written],
+    index: &Index,
     row: &Row,
     count: usize,
     sum: &Written,
 ) -> Result<Written, TableStop>
     requires row { IsRow row.now }
+    requires placed { IsPlaced index.now.places written.now }
     requires within { count < length row.now.terms }
     requires covered { HasColumn written.now (attr_column (term_at row.now count).attr) }
     requires sum { IsTermSum written.now row.now count sum.now }
@@ -135,7 +139,7 @@ fn next_sum(
     ensures stop { IfErr result (λ stop. (stop ≡ NoMemory) ⊎ ((stop ≡ UnfitAt (Terms (over_mark row.now.id) (count + 1))) × IsUnfitTerms written.now row.now count)) }
 {
     let term = row.terms()[count];
-    let attr = writing(written, column(What::Attr(term.attr)));
+    let attr = index.writing(written, column(What::Attr(term.attr)));
     match with_term(alloc, sum, term, attr) {
         Ok(next) => Ok(next),
         Err(stop) => Err(terms_stop(stop, row.id(), count as u32)),
@@ -143,15 +147,21 @@ fn next_sum(
 }
 
 /// The sum of the row's terms, written by the outside marks at the row's over mark.
-pub(crate) fn summed(alloc: Global, written: &[Written], row: &Row) -> Result<Written, TableStop>
+pub(crate) fn summed(
+    alloc: Global,
+    written: &[Written],
+    index: &Index,
+    row: &Row,
+) -> Result<Written, TableStop>
     requires row { IsRow row.now }
+    requires placed { IsPlaced index.now.places written.now }
     requires covered { All (λ e. HasColumn written.now (attr_column e.attr)) row.now.terms }
     ensures sum { IfOk result (IsTermSum written.now row.now (length row.now.terms)) }
     ensures stop { IfErr result (λ stop. (stop ≡ NoMemory) ⊎ ((j : ℕ) × (stop ≡ UnfitAt (Terms (over_mark row.now.id) (j + 1))) × IsUnfitTerms written.now row.now j)) }
 {
     let mut sum = no_terms(alloc, row.id())?;
     for i in 0..row.terms().len() {
-        sum = next_sum(alloc, written, row, i, &sum)?;
+        sum = next_sum(alloc, written, index, row, i, &sum)?;
     }
     Ok(sum)
 }

@@ -1,28 +1,11 @@
 // Tests of what the calls of a tableau ask for.
-ghost use Rattle.std.specs.Prelude.{◌≡◌, ◌≢◌, ◌<◌, ◌↔◌, pos, true, All, Any, IsTrue};
-ghost use Rattle.row_core.specs.Rows.{coefficient};
+ghost use Rattle.std.specs.Prelude.{◌≡◌, ◌<◌, ◌↔◌, true, All, Any, IsTrue};
 ghost use Rattle.problem_core.specs.Layout.{HasStay};
-ghost use Rattle.tableau.specs.Tables.{HasColumn, column_of};
 ghost use Rattle.tableau.specs.Moving.{CanMove};
 
-use crate::written::{HeldRow, Written, column};
+use crate::written::HeldRow;
 use frac_core::Frac;
 use problem_core::{Stay, Term};
-use row_core::Col;
-
-/// Whether something is written at the column.
-pub(crate) fn is_written(written: &[Written], col: u64) -> bool
-    ensures { IsTrue result ↔ HasColumn written.now col }
-{
-    written.iter().any(|w| column(w.what()) == col)
-}
-
-/// Whether what is written at one column has a number at the other.
-pub(crate) fn is_possible(written: &[Written], leave: u64, enter: u64) -> bool
-    ensures { IsTrue result → All (λ w. column_of w.what ≡ leave → coefficient enter w.row ≢ pos 0) written.now }
-{
-    written.iter().all(|w| column(w.what()) != leave || w.row().entry(Col(enter)) != 0)
-}
 
 /// Whether a row of this number is held.
 pub(crate) fn is_held(rows: &[HeldRow], id: u32) -> bool

@@ -1,12 +1,15 @@
 // In whose writings an outside mark stands.
-ghost use Rattle.std.specs.Prelude.{◌≡◌, ◌≢◌, ◌<◌, ◌≤◌, ◌∷◌, ℕ, List, All, [], length, take, slice_index_or, true, false, IfOk, pos};
+ghost use Rattle.std.specs.Prelude.{◌≡◌, ◌≢◌, ◌<◌, ◌≤◌, ◌∷◌, ◌++◌, ℕ, List, All, [], length, take, slice_index_or, true, false, IfOk, IfSome, IfNone, pos};
 ghost use Rattle.std.specs.List.{insert};
 ghost use Rattle.row_core.specs.Rows.{coefficient};
+ghost use Rattle.problem_core.specs.declared.stops.What.{What};
 ghost use Rattle.problem_core.specs.declared.stops.What.TheVariants.{Attr};
 ghost use Rattle.tableau.specs.Columns as columns;
 ghost use Rattle.tableau.specs.Columns.{IsListed};
+ghost use Rattle.tableau.specs.Indexes.{AreApart, changed};
 ghost use Rattle.tableau.specs.Written.{Writing};
 
+use crate::changes::Change;
 use crate::written::Written;
 use frac_core::OutOfMemory;
 use problem_core::{Mark, RowName, Side, What};
@@ -56,8 +59,8 @@ fn put(list: &mut Vec<What>, what: What) -> Result<(), OutOfMemory>
     Ok(())
 }
 
-// Whether the row has a number at the column.
-fn has_number(w: &Written, col: u64) -> bool
+/// Whether the row has a number at the column.
+pub(crate) fn has_number(w: &Written, col: u64) -> bool
     ensures yes { result ≡ true → coefficient col w.now.row ≢ pos 0 }
     ensures no { result ≡ false → coefficient col w.now.row ≡ pos 0 }
 {
@@ -74,15 +77,83 @@ fn put_standing(list: &mut Vec<What>, w: &Written, col: u64) -> Result<(), OutOf
     Ok(())
 }
 
-/// Those in whose writing the column stands, by rank.
-pub(crate) fn listed(alloc: Global, written: &[Written], col: u64) -> Result<Vec<What>, OutOfMemory>
-    ensures { IfOk result (λ out. IsListed col written.now out.items) }
+// Where it stands in the list.
+fn where_is(list: &[What], what: What) -> Option<usize>
+    ensures some { IfSome result (λ at. (at < length list.now) × (slice_index_or list.now at what ≡ what)) }
+    ensures none { IfNone result (All (λ x. x ≢ what) list.now) }
 {
-    let mut out = Vec::new(alloc);
-    let mut i = written.len();
+    list.iter().position(|x| *x == what)
+}
+
+// Takes out what stands in the list.
+fn take_out(list: &mut Vec<What>, what: What)
+    ensures { (c : ℕ) → (w : Writing) → (ws : List Writing) → IsListed c (w ∷ ws) list.old.items → w.what ≡ what → coefficient c w.row ≢ pos 0 → IsListed c ws list.new.items }
+{
+    if let Some(at) = where_is(list, what) {
+        list.remove(at);
+    }
+}
+
+// Takes out what had a number at the column.
+fn take_standing(list: &mut Vec<What>, w: &Written, col: u64)
+    ensures { (ws : List Writing) → IsListed col (w.now ∷ ws) list.old.items → IsListed col ws list.new.items }
+{
+    if has_number(w, col) {
+        take_out(list, w.what());
+    }
+}
+
+// Whether the list of the column is the same for both.
+fn are_listed_alike(old: &Written, new: &Written, col: u64) -> bool
+    ensures { result ≡ true → (ws : List Writing) → (list : List What) → IsListed col (old.now ∷ ws) list → IsListed col (new.now ∷ ws) list }
+{
+    has_number(old, col) && has_number(new, col) && old.what() == new.what()
+}
+
+// The list after one writing changes.
+fn change(list: &mut Vec<What>, old: &Written, new: &Written, col: u64) -> Result<(), OutOfMemory>
+    ensures { IfOk result (λ _. (ws : List Writing) → IsListed col (old.now ∷ ws) list.old.items → IsListed col (new.now ∷ ws) list.new.items) }
+{
+    if are_listed_alike(old, new, col) {
+        return Ok(());
+    }
+    take_standing(list, old, col);
+    put_standing(list, new, col)
+}
+
+/// The list of the column after the changes.
+pub(crate) fn changed_list(
+    alloc: Global,
+    list: &[What],
+    written: &[Written],
+    changes: &[Change],
+    col: u64,
+) -> Result<Vec<What>, OutOfMemory>
+    requires within { All (λ k. k.at < length written.now) changes.now }
+    requires apart { AreApart changes.now }
+    requires listed { IsListed col written.now list.now }
+    ensures { IfOk result (λ out. IsListed col (changed written.now changes.now) out.items) }
+{
+    let mut out = Vec::from_slice(alloc, list)?;
+    let mut i = changes.len();
     while i > 0 {
         i -= 1;
-        put_standing(&mut out, &written[i], col)?;
+        let to = &changes[i];
+        change(&mut out, &written[to.at], &to.writing, col)?;
     }
+    Ok(out)
+}
+
+/// The list of the column with one writing more.
+pub(crate) fn longer_list(
+    alloc: Global,
+    list: &[What],
+    w: &Written,
+    col: u64,
+) -> Result<Vec<What>, OutOfMemory>
+    ensures { IfOk result (λ out. (ws : List Writing) → IsListed col ws list.now → IsListed col (ws ++ w.now ∷ []) out.items) }
+{
+    let mut out = Vec::from_slice(alloc, list)?;
+    put_standing(&mut out, w, col)?;
     Ok(out)
 }

@@ -9,11 +9,13 @@ ghost use Rattle.problem_core.specs.declared.stops.What.TheVariants.{Mark as Mar
 ghost use Rattle.problem_core.specs.declared.stops.TableStop.TheVariants.{UnfitAt, OutOfMemory as NoMemory};
 ghost use Rattle.problem_core.specs.declared.stops.Quantity.TheVariants.{Terms};
 ghost use Rattle.tableau.specs.Tables.{HasColumn, IsKeptWriting, own};
+ghost use Rattle.tableau.specs.Indexes.{IsPlaced};
 ghost use Rattle.tableau.specs.Exchanges.{IsUnfitSum};
 ghost use Rattle.tableau.specs.Joining.{IsGap, IsGapValue, IsOver, IsOverStop, IsNotNegative, IsTurnedOver, over_mark};
 
 use crate::adding::summed;
 use crate::exchange::turned;
+use crate::index::Index;
 use crate::written::Written;
 use frac_core::{Frac, OutOfMemory, Unfit};
 use problem_core::{Mark, Quantity, Row, RowName, Side, TableStop};
@@ -50,14 +52,16 @@ fn gap(sum: &Written, row: &Row) -> Result<Written, TableStop>
 pub(crate) fn over_writing(
     alloc: Global,
     written: &[Written],
+    index: &Index,
     row: &Row,
 ) -> Result<Written, TableStop>
     requires row { IsRow row.now }
+    requires placed { IsPlaced index.now.places written.now }
     requires covered { All (λ e. HasColumn written.now (attr_column e.attr)) row.now.terms }
     ensures over { IfOk result (IsOver written.now row.now) }
     ensures stop { IfErr result (IsOverStop written.now row.now) }
 {
-    let sum = match summed(alloc, written, row) {
+    let sum = match summed(alloc, written, index, row) {
         Ok(sum) => sum,
         Err(stop) => return Err(stop),
     };

@@ -1,5 +1,5 @@
 // The exchange of an outside mark for an inside one, row by row.
-ghost use Rattle.std.specs.Prelude.{◌≡◌, ◌≢◌, ◌⊎◌, ◌<ℤ◌, ◌*ℤ◌, neg_ℤ, pos, All, ◌++◌, ◌∷◌, [], IfOk, IfErr, OnErr, ℤ, true, false};
+ghost use Rattle.std.specs.Prelude.{◌≡◌, ◌≢◌, ◌⊎◌, ◌<ℤ◌, ◌*ℤ◌, neg_ℤ, pos, All, Any, ◌++◌, ◌∷◌, [], IfOk, IfErr, OnErr, ℤ, true, false};
 ghost use Rattle.std.specs.List.{AllZip};
 ghost use Rattle.frac_core.specs.Fraction.{IsFitting, IsKept, IsRatio, Fraction, IsLowest, Fits, sum_num, sum_den};
 ghost use Rattle.row_core.specs.Rows.{IsKeptRow, IsReduced, IsUnfit, coefficient};
@@ -9,8 +9,11 @@ ghost use Rattle.problem_core.specs.declared.stops.TableStop.TheVariants.{UnfitA
 ghost use Rattle.problem_core.specs.declared.stops.Quantity.TheVariants.{Plain};
 ghost use Rattle.row_core.specs.declared.entry.RowStop.TheVariants.{Unfit as UnfitRow};
 ghost use Rattle.tableau.specs.Tables.{IsKeptWriting, column_of, own};
-ghost use Rattle.tableau.specs.Exchanges.{IsTurned, IsCleared, IsReady, IsExchangedWriting, IsExchangeStop, IsUnfitAfter, IsTurnedRow, IsTurnedValue, IsClearedValue, IsUnfitTurn, IsUnfitClearing, IsUnfitSum, IsStopAt, turn, clearing};
+ghost use Rattle.tableau.specs.Indexes.{AreChanges, IsChangeOf, IsIndexed, list_at};
+ghost use Rattle.tableau.specs.Exchanges.{IsTurned, IsCleared, IsReady, IsMovedBy, IsExchangeStop, IsUnfitAfter, IsTurnedRow, IsTurnedValue, IsClearedValue, IsUnfitTurn, IsUnfitClearing, IsUnfitSum, IsStopAt, turn, clearing};
 
+use crate::changes::{Change, change_room, push_change};
+use crate::index::Index;
 use crate::written::{Written, column};
 use frac_core::{Frac, OutOfMemory, Unfit};
 use problem_core::{Mark, Quantity, TableStop, What, place};
@@ -146,6 +149,7 @@ pub(crate) fn cleared(
     requires entering { pos 0 <ℤ coefficient (col) pivot.now.row }
     requires apart { coefficient (column_of old.now.what) pivot.now.row ≡ pos 0 }
     ensures cleared { IfOk result (IsCleared pivot.now col old.now) }
+    ensures value { IfOk result (λ w. IsClearedValue pivot.now col old.now w.value) }
     ensures unfit { IfErr result (IsStopAt old.now.what (IsUnfitClearing pivot.now col old.now)) }
 {
     let row = cleared_row(alloc, old, pivot, col)?;
@@ -173,7 +177,7 @@ fn exchanged_one(
 ) -> Result<Written, TableStop>
     requires ready { IsReady leaving.now old.now }
     requires turned { IsTurned leaving.now enter pivot.now }
-    ensures exchanged { IfOk result (IsExchangedWriting leaving.now enter old.now) }
+    ensures moved { IfOk result (IsMovedBy leaving.now pivot.now enter old.now) }
     ensures unfit { IfErr result (IsStopAt old.now.what (IsUnfitAfter leaving.now enter old.now)) }
 {
     if column(old.what()) == column(leaving.what()) {
@@ -200,28 +204,53 @@ pub(crate) fn room(alloc: Global, count: usize) -> Result<Vec<Written>, OutOfMem
     Ok(Vec::with_capacity(alloc, count)?)
 }
 
-/// All that is written after the exchange of `leave`, which `leaving` writes, for `enter`.
-pub(crate) fn exchanged(
+// The changes of the writings in which the entering mark stands.
+fn changes(
     alloc: Global,
     written: &[Written],
+    index: &Index,
     leaving: &Written,
-    leave: Mark,
+    pivot: &Written,
     enter: Mark,
-) -> Result<Vec<Written>, TableStop>
-    requires what { column_of leaving.now.what ≡ corners.place leave }
-    requires kept { IsKeptWriting leaving.now }
-    requires entering { coefficient (corners.place enter) leaving.now.row ≢ pos 0 }
+) -> Result<Vec<Change>, TableStop>
     requires ready { All (IsReady leaving.now) written.now }
-    ensures exchanged { IfOk result (λ out. AllZip (IsExchangedWriting leaving.now enter) written.now out.items) }
-    ensures unfit { IfErr result (IsExchangeStop leaving.now enter written.now) }
+    requires turned { IsTurned leaving.now enter pivot.now }
+    requires indexed { IsIndexed index.now written.now }
+    ensures changes { IfOk result (λ ks. AllZip (IsChangeOf leaving.now pivot.now enter written.now) (list_at index.now.lists (corners.place enter)) ks.items) }
+    ensures unfit { IfErr result (λ stop. (stop ≡ NoMemory) ⊎ Any (λ old. IsStopAt old.what (IsUnfitAfter leaving.now enter old) stop) written.now) }
 {
-    let pivot = turned(alloc, leaving, leave, enter)?;
-    let mut out = room(alloc, written.len())?;
-    for old in written {
-        match exchanged_one(alloc, old, leaving, &pivot, enter) {
-            Ok(new) => push(&mut out, new)?,
+    let list = index.list(place(enter));
+    let mut out = change_room(alloc, list.len())?;
+    for what in list {
+        let at = index.place_of(written, column(*what));
+        match exchanged_one(alloc, &written[at], leaving, pivot, enter) {
+            Ok(writing) => push_change(&mut out, at, writing)?,
             Err(stop) => return Err(stop),
         }
     }
     Ok(out)
+}
+
+/// What changes by the exchange of `leave`, which `leaving` writes, for `enter`.
+pub(crate) fn exchanged(
+    alloc: Global,
+    written: &[Written],
+    index: &Index,
+    leaving: &Written,
+    leave: Mark,
+    enter: Mark,
+) -> Result<Vec<Change>, TableStop>
+    requires what { column_of leaving.now.what ≡ corners.place leave }
+    requires kept { IsKeptWriting leaving.now }
+    requires entering { coefficient (corners.place enter) leaving.now.row ≢ pos 0 }
+    requires ready { All (IsReady leaving.now) written.now }
+    requires indexed { IsIndexed index.now written.now }
+    ensures changes { IfOk result (λ ks. AreChanges leaving.now enter written.now (list_at index.now.lists (corners.place enter)) ks.items) }
+    ensures unfit { IfErr result (IsExchangeStop leaving.now enter written.now) }
+{
+    let pivot = turned(alloc, leaving, leave, enter)?;
+    match changes(alloc, written, index, leaving, &pivot, enter) {
+        Ok(changes) => Ok(changes),
+        Err(stop) => Err(stop),
+    }
 }

@@ -4,9 +4,11 @@ ghost use Rattle.row_core.specs.Rows.{IsKeptRow, IsReduced, coefficient};
 ghost use Rattle.problem_core.specs.Kept.{IsNumber};
 ghost use Rattle.problem_core.specs.Corners.{place_of};
 ghost use Rattle.problem_core.specs.declared.parts.RowName.TheVariants.{Stay as StayOf};
-ghost use Rattle.tableau.specs.Tables.{column_of};
+ghost use Rattle.tableau.specs.Tables.{HasColumn, column_of};
+ghost use Rattle.tableau.specs.Indexes.{IsIndexed};
 ghost use Rattle.tableau.specs.Joining.{IsAttrWriting, attr_row};
 
+use crate::index::Index;
 use crate::written::{Written, column};
 use frac_core::{Frac, OutOfMemory};
 use problem_core::{Mark, RowName, Side, What, place};
@@ -56,8 +58,8 @@ pub(crate) fn attr_writing(alloc: Global, attr: u32) -> Result<Written, OutOfMem
     Written::of(alloc, What::Attr(attr), row, Frac::zero())
 }
 
-/// Appends to both lists, or to neither.
-pub(crate) fn push_both<T: Drop>(
+// Appends to both lists, or to neither.
+fn push_both<T: Drop>(
     left: &mut Vec<T>,
     right: &mut Vec<Written>,
     x: T,
@@ -74,6 +76,39 @@ pub(crate) fn push_both<T: Drop>(
         Err(_) => {
             let _last = left.pop();
             Err(OutOfMemory)
+        }
+    }
+}
+
+/// Appends to both lists, and tells the index, or leaves all as they are.
+pub(crate) fn join<T: Drop>(
+    left: &mut Vec<T>,
+    right: &mut Vec<Written>,
+    index: &mut Index,
+    x: T,
+    written: Written,
+) -> Result<(), OutOfMemory>
+    requires indexed { IsIndexed index.old right.old.items }
+    requires fresh { HasColumn right.old.items (column_of written.what) → ⊥ }
+    ensures left { IfOk result (λ _. left.new.items ≡ left.old.items ++ x ∷ []) }
+    ensures right { IfOk result (λ _. right.new.items ≡ right.old.items ++ written ∷ []) }
+    ensures same_left { IfErr result (λ _. left.new.items ≡ left.old.items) }
+    ensures same_right { IfErr result (λ _. right.new.items ≡ right.old.items) }
+    ensures indexed { IsIndexed index.new right.new.items }
+{
+    let alloc = *right.allocator();
+    let lists = index.longer_lists(alloc, right, &written, written.row().entries())?;
+    index.reserve(alloc, &lists)?;
+    let col = column(written.what());
+    index.put_place(col, right.len())?;
+    match push_both(left, right, x, written) {
+        Ok(()) => {
+            index.put_lists(lists);
+            Ok(())
+        }
+        Err(stop) => {
+            index.forget_place(col);
+            Err(stop)
         }
     }
 }

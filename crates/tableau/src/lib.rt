@@ -3,12 +3,15 @@
 
 mod adding;
 mod asking;
+mod changes;
 mod columns;
 mod entering;
 mod exchange;
+mod index;
 mod joining;
 mod laws;
 mod moving;
+mod replacing;
 mod sums;
 mod table;
 #[cfg(test)]

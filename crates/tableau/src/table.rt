@@ -9,17 +9,17 @@ ghost use Rattle.tableau.specs.Columns.{IsColumn};
 ghost use Rattle.tableau.specs.Moving.{CanShift, IsShifted, IsShiftStop};
 ghost use Rattle.problem_core.specs.declared.stops.What.TheVariants.{Mark as MarkOf};
 ghost use Rattle.tableau.specs.Tables.{IsNamed};
-ghost use Rattle.tableau.specs.Exchanges.{HasRow, HasValue, IsInside, IsOutside, IsPossible, IsSwapped, IsSwapStop};
+ghost use Rattle.tableau.specs.Exchanges.{HasRow, HasValue, IsInside, IsOutside, IsPossible, IsMovedTo, IsSwapped, IsSwapStop};
 
-use crate::asking::{
-    are_below, are_covered, can_move_row, can_move_stay, has_stay, is_held, is_possible, is_written,
-};
-use crate::columns::listed;
+use crate::asking::{are_below, are_covered, can_move_row, can_move_stay, has_stay, is_held};
+use crate::columns::has_number;
 use crate::entering::{not_negative, over_writing};
 use crate::exchange::exchanged;
-use crate::joining::{attr_writing, push_both};
+use crate::index::Index;
+use crate::joining::{attr_writing, join};
 use crate::moving::{moved_rows, moved_stays, moved_writings};
-use crate::written::{HeldRow, Written, column, writing};
+use crate::replacing::put_exchange;
+use crate::written::{HeldRow, Written, column};
 use frac_core::{Frac, OutOfMemory};
 use problem_core::{Mark, Row, RowName, Side, Stay, TableStop, What, place};
 use row_core::IntRow;
@@ -27,11 +27,12 @@ use std::alloc::Global;
 use std::marker::Model;
 
 /// A problem and one of its corners: each attribute and each inside mark written by the outside marks.
-#[derive(Clone, Debug, Drop)]
+#[derive(Debug, Drop)]
 pub struct Tableau {
     rows: Vec<HeldRow>,
     stays: Vec<Stay>,
     written: Vec<Written>,
+    index: Index,
 }
 
 impl Model for Tableau {
@@ -39,12 +40,11 @@ impl Model for Tableau {
 
     ghost Value = { Table };
 
-    ghost use Rattle.tableau.specs.Views.{table_of};
-    ghost use Rattle.tableau.specs.Tables.{IsTable};
+    ghost use Rattle.tableau.specs.Views.{IsConsistent, table_of};
 
     ghost view = { table_of };
 
-    ghost invariant = { λ t. IsTable (table_of t) };
+    ghost invariant = { IsConsistent };
 }
 
 impl Tableau {
@@ -56,6 +56,7 @@ impl Tableau {
             rows: Vec::new(alloc),
             stays: Vec::new(alloc),
             written: Vec::new(alloc),
+            index: Index::new(alloc),
         }
     }
 
@@ -68,18 +69,24 @@ impl Tableau {
         requires leave { IsInside self.old leave }
         requires possible { IsPossible self.old enter leave }
         ensures swapped { IfOk result (λ _. IsSwapped enter leave self.old self.new) }
+        ensures moved { IfOk result (λ _. IsMovedTo enter leave self.old self.new) }
         ensures stop { IfErr result (IsSwapStop self.old enter leave) }
         ensures same { IfErr result (λ _. self.new ≡ self.old) }
     {
         let alloc = *self.written.allocator();
         let written: &[Written] = &self.written;
-        let leaving = writing(written, place(leave));
+        let at = self.index.place_of(written, place(leave));
         let _entering = place(enter);
-        match exchanged(alloc, written, leaving, leave, enter) {
-            Ok(written) => {
-                self.written = written;
-                Ok(())
-            }
+        match exchanged(alloc, written, &self.index, &written[at], leave, enter) {
+            Ok(changes) => Ok(put_exchange(
+                alloc,
+                &mut self.index,
+                &mut self.written,
+                at,
+                enter,
+                leave,
+                changes,
+            )?),
             Err(stop) => Err(stop),
         }
     }
@@ -89,7 +96,7 @@ impl Tableau {
         requires { IsInside self.now m }
         ensures { HasValue self.now (corners.place m) result }
     {
-        writing(&self.written, place(m)).value()
+        self.index.writing(&self.written, place(m)).value()
     }
 
     /// The value of an attribute.
@@ -97,7 +104,9 @@ impl Tableau {
         requires { HasColumn self.now.written (attr_column attr) }
         ensures { HasValue self.now (attr_column attr) result }
     {
-        writing(&self.written, column(What::Attr(attr))).value()
+        self.index
+            .writing(&self.written, column(What::Attr(attr)))
+            .value()
     }
 
     /// The row that writes an inside mark by the outside ones.
@@ -105,23 +114,28 @@ impl Tableau {
         requires { IsInside self.now m }
         ensures { HasRow self.now (corners.place m) result.now }
     {
-        writing(&self.written, place(m)).row()
+        self.index.writing(&self.written, place(m)).row()
     }
 
     /// Those in whose writing an outside mark stands: attributes by number, then inside marks by the number of their row, then those of
     /// stays by attribute.
-    pub fn column(&self, m: Mark) -> Result<Vec<What>, OutOfMemory>
+    pub fn column(&self, m: Mark) -> &[What]
         requires { IsOutside self.now m }
-        ensures { IfOk result (λ list. IsColumn self.now m list.items) }
+        ensures { IsColumn self.now m result.now }
     {
-        listed(*self.written.allocator(), &self.written, place(m))
+        self.index.list(place(m))
     }
 
     /// An equal tableau, which shares the rows.
     pub fn copy(&self) -> Result<Tableau, OutOfMemory>
         ensures { IfOk result (λ t. t ≡ self.now) }
     {
-        Ok(self.clone()?)
+        Ok(Tableau {
+            rows: self.rows.clone()?,
+            stays: self.stays.clone()?,
+            written: self.written.clone()?,
+            index: self.index.copy()?,
+        })
     }
 
     /// Shows what each tableau keeps.
@@ -143,13 +157,19 @@ impl Tableau {
     {
         let alloc = *self.written.allocator();
         let written: &[Written] = &self.written;
-        let over = match over_writing(alloc, written, row) {
+        let over = match over_writing(alloc, written, &self.index, row) {
             Ok(over) => over,
             Err(stop) => return Err(stop),
         };
         let entering = not_negative(alloc, &over, row.id())?;
         let held = HeldRow::copy_of(alloc, row)?;
-        Ok(push_both(&mut self.rows, &mut self.written, held, entering)?)
+        Ok(join(
+            &mut self.rows,
+            &mut self.written,
+            &mut self.index,
+            held,
+            entering,
+        )?)
     }
 
     /// Changes the constant of a row, or the target of a stay, by `by`. The corner stays; values may turn negative.
@@ -194,7 +214,13 @@ impl Tableau {
             attr,
             target: Frac::zero(),
         };
-        push_both(&mut self.stays, &mut self.written, stay, written)
+        join(
+            &mut self.stays,
+            &mut self.written,
+            &mut self.index,
+            stay,
+            written,
+        )
     }
 }
 
@@ -203,14 +229,22 @@ impl Tableau {
     pub fn is_inside(&self, m: Mark) -> bool
         ensures { IsTrue result ↔ IsInside self.now m }
     {
-        is_written(&self.written, place(m))
+        self.index.is_written(&self.written, place(m))
+    }
+
+    /// The stays, in the order in which they joined.
+    pub fn stays(&self) -> &[Stay]
+        ensures { result.now ≡ self.now.problem.stays }
+    {
+        &self.stays
     }
 
     /// Whether the attribute is written.
     pub fn has_attr(&self, attr: u32) -> bool
         ensures { IsTrue result ↔ HasColumn self.now.written (attr_column attr) }
     {
-        is_written(&self.written, column(What::Attr(attr)))
+        self.index
+            .is_written(&self.written, column(What::Attr(attr)))
     }
 
     // Whether the mark is one of the problem's.
@@ -223,6 +257,15 @@ impl Tableau {
         }
     }
 
+    // Whether the one mark stands in the row of the other.
+    fn is_possible(&self, enter: Mark, leave: Mark) -> bool
+        requires { IsInside self.now leave }
+        ensures { IsTrue result → IsPossible self.now enter leave }
+    {
+        let leaving = self.index.writing(&self.written, place(leave));
+        has_number(leaving, place(enter))
+    }
+
     /// Whether the marks can be exchanged.
     pub fn can_swap(&self, enter: Mark, leave: Mark) -> bool
         ensures outside { IsTrue result → IsOutside self.now enter }
@@ -232,7 +275,7 @@ impl Tableau {
         self.is_named(enter)
             && !self.is_inside(enter)
             && self.is_inside(leave)
-            && is_possible(&self.written, place(leave), place(enter))
+            && self.is_possible(enter, leave)
     }
 
     /// Whether the attribute can join.

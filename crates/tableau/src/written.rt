@@ -132,26 +132,3 @@ pub(crate) fn column(what: What) -> u64
         What::Level(_) => 1 << 35,
     }
 }
-
-// The place of what writes the column.
-fn position(written: &[Written], col: u64) -> usize
-    requires { HasColumn written.now col }
-    ensures within { result < length written.now }
-    ensures found { column_of (slice_index_or written.now result (record { what = Attr 0; row = []; value = record { num = pos 0; den = 1 } })).what ≡ col }
-{
-    for i in 0..written.len() {
-        if column(written[i].what()) == col {
-            return i;
-        }
-    }
-    prove!(false);
-    0
-}
-
-/// What writes the column.
-pub(crate) fn writing(written: &[Written], col: u64) -> &Written
-    requires { HasColumn written.now col }
-    ensures { IsWriting written.now col result.now }
-{
-    &written[position(written, col)]
-}

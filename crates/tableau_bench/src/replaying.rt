@@ -54,7 +54,7 @@ impl Replay {
         if !self.table.can_swap(enter, leave) {
             return Ok(false);
         }
-        let visited = self.table.column(enter)?.len() as u64;
+        let visited = self.table.column(enter).len() as u64;
         self.counts.visited = self.counts.visited.saturating_add(visited);
         more(&mut self.counts.exchanges);
         went(self.table.swap(enter, leave))

@@ -1,41 +1,74 @@
-use Rattle.std.proofs.Common.{◌<◌, ◌∙◌, ℕ, List, refl, sym, subst, All}
-use Rattle.std.specs.List.{AllZip}
+use Rattle.std.proofs.Common.{◌≡◌, ◌≢◌, ◌<◌, ◌∙◌, ℕ, List, pos, get_or, rules, sym, ap, subst, All, IfErr}
+use Rattle.row_core.specs.Rows.{coefficient}
 use Rattle.problem_core.specs.Corners.{place}
+use Rattle.problem_core.specs.declared.stops.TableStop.TheVariants.{OutOfMemory as NoMemory}
 use Rattle.tableau.specs.Written.{Writing}
-use Rattle.tableau.specs.Tables.{IsWriting}
-use Rattle.tableau.specs.Exchanges.{IsReady, IsOutside, IsSwapped, IsSwapStop, IsExchangedWriting, IsExchangeStop}
+use Rattle.tableau.specs.Tables.{Table, IsTable, HasColumn}
+use Rattle.tableau.specs.Exchanges.{IsExchangeStop, IsMovedTo, IsOutside, IsPossible, IsReady, IsSwapped, IsSwapStop}
+use Rattle.tableau.specs.Indexes.{AreChanges, IsExchange, IsPlaced, IsPlaceOf, changed, list_at}
 use Rattle.tableau.specs.Views.{table_of}
-use Rattle.tableau.proofs.Swapping.{all_ready, all_renamed, exchanged_table}
+use Rattle.tableau.proofs.Places.{either, err_maps}
+use Rattle.tableau.proofs.Swapping.{all_ready}
+use Rattle.tableau.proofs.Swapped.{found, found_exchange, found_moved, found_swapped, found_table, memory_stop, stop_at}
 use Rattle.tableau.proofs.table.Tableau.swap.Goals as goal
+
+pub place_of-at-requires-clause-placed : goal.place_of-at-requires-clause-placed
+place_of-at-requires-clause-placed c = subst (IsPlaced c.self.inside.index.places) (sym c.deref-written.ensures.value) c.self.invariant.indexed.places
 
 pub exchanged-requires-clause-ready : goal.exchanged-requires-clause-ready
 exchanged-requires-clause-ready c =
-    let found : IsWriting c.self.inside.written.items c.place.result c.writing-leaving.result.now = subst (λ (ws : List Writing). IsWriting ws c.place.result c.writing-leaving.result.now) c.deref-written.ensures.value c.writing-leaving.ensures in
-    subst (All (IsReady c.writing-leaving.result.now)) (sym c.deref-written.ensures.value) (all_ready (table_of c.self.inside) found.at c.writing-leaving.result.now c.self.invariant found.within found.is)
+    let at : IsPlaceOf c.self.inside.written.items c.place.result c.place_of-at.result = subst (λ (ws : List Writing). IsPlaceOf ws c.place.result c.place_of-at.result) c.deref-written.ensures.value c.place_of-at.ensures in
+    let is : c.index-written-at.result ≡ get_or c.self.inside.written.items c.place_of-at.result c.index-written-at.result = subst (λ (ws : List Writing). c.index-written-at.result ≡ get_or ws c.place_of-at.result c.index-written-at.result) c.deref-written.ensures.value c.index-written-at.is in
+    subst (All (IsReady c.index-written-at.result)) (sym c.deref-written.ensures.value) (all_ready (table_of c.self.inside) c.place_of-at.result c.index-written-at.result c.self.invariant.table at.within is)
 
-pub invariant_of-self : goal.invariant_of-self
-invariant_of-self c =
-    let found : IsWriting c.self.inside.written.items c.place.result c.writing-leaving.result.now = subst (λ (ws : List Writing). IsWriting ws c.place.result c.writing-leaving.result.now) c.deref-written.ensures.value c.writing-leaving.ensures in
-    let outside : IsOutside (table_of c.self.inside) c.args.enter = subst (λ t. IsOutside t c.args.enter) (sym c.self.view_is) c.requires.enter in
-    let zip : AllZip (IsExchangedWriting c.writing-leaving.result.now c.args.enter) c.self.inside.written.items c.in-Ok.written.items = subst (λ (ws : List Writing). AllZip (IsExchangedWriting c.writing-leaving.result.now c.args.enter) ws c.in-Ok.written.items) c.deref-written.ensures.value c.in-Ok.ensures.exchanged in
-    exchanged_table (table_of c.self.inside) c.args.leave c.args.enter found.at c.writing-leaving.result.now c.in-Ok.written.items c.self.invariant found.within found.is (found.column ∙ c.place.ensures.value)
-    (subst (λ (k : ℕ). k < 17179869184) c.place.ensures.value c.place.ensures.small)
-    (subst (λ (k : ℕ). k < 17179869184) c.place-entering.ensures.value c.place-entering.ensures.small)
-    outside.0 outside.1 zip
+pub put_exchange-requires-clause-exchange : goal.put_exchange-requires-clause-exchange
+put_exchange-requires-clause-exchange c =
+    found_exchange (table_of c.self.inside) c.self.inside.index c.args.enter c.args.leave c.place_of-at.result c.index-written-at.result c.in-Ok.changes.items
+    (found (table_of c.self.inside) c.args.self.now c.self.inside.index c.args.enter c.args.leave c.place_of-at.result c.index-written-at.result c.in-Ok.changes.items c.deref-written.result.now c.place.result c.place-entering.result c.self.invariant.table c.self.invariant.indexed c.self.view_is c.deref-written.ensures.value c.place.ensures.value c.place-entering.ensures.value c.place.ensures.small c.place-entering.ensures.small
+    c.place_of-at.ensures c.index-written-at.is c.requires.enter c.requires.possible c.in-Ok.ensures.changes)
 
-pub returns-in-Ok-clause-swapped : goal.returns-in-Ok-clause-swapped
-returns-in-Ok-clause-swapped c =
-    let found : IsWriting c.self.inside.written.items c.place.result c.writing-leaving.result.now = subst (λ (ws : List Writing). IsWriting ws c.place.result c.writing-leaving.result.now) c.deref-written.ensures.value c.writing-leaving.ensures in
-    let zip : AllZip (IsExchangedWriting c.writing-leaving.result.now c.args.enter) c.self.inside.written.items c.in-Ok.written.items = subst (λ (ws : List Writing). AllZip (IsExchangedWriting c.writing-leaving.result.now c.args.enter) ws c.in-Ok.written.items) c.deref-written.ensures.value c.in-Ok.ensures.exchanged in
-    subst (λ t. IsSwapped c.args.enter c.args.leave t (table_of (record { rows = c.self.inside.rows; stays = c.self.inside.stays; written = c.in-Ok.written }))) c.self.view_is
-    (record {
-      problem = refl;
-      written = all_renamed c.writing-leaving.result.now c.args.enter (place c.args.leave) c.self.inside.written.items c.in-Ok.written.items (found.column ∙ c.place.ensures.value) zip;
-    })
+pub returns-in_err-put_exchange-in-Ok-clause-stop : goal.returns-in_err-put_exchange-in-Ok-clause-stop
+returns-in_err-put_exchange-in-Ok-clause-stop c =
+    err_maps c.from_residual.result (λ stop. stop ≡ NoMemory) (IsSwapStop c.args.self.now c.args.enter c.args.leave)
+    (λ stop e. subst (λ t. IsSwapStop t c.args.enter c.args.leave stop) c.self.view_is
+    (memory_stop (table_of c.self.inside) c.args.enter c.args.leave c.place_of-at.result c.index-written-at.result stop
+    (subst (λ (k : ℕ). IsPlaceOf c.self.inside.written.items k c.place_of-at.result) c.place.ensures.value (subst (λ (ws : List Writing). IsPlaceOf ws c.place.result c.place_of-at.result) c.deref-written.ensures.value c.place_of-at.ensures))
+    (subst (λ (ws : List Writing). c.index-written-at.result ≡ get_or ws c.place_of-at.result c.index-written-at.result) c.deref-written.ensures.value c.index-written-at.is) e))
+    (search rules)
+
+pub invariant_of-self-in-Ok : goal.invariant_of-self-in-Ok
+invariant_of-self-in-Ok c = record {
+  table = either c.put_exchange.result
+      (c.put_exchange.new.written.items ≡ changed c.self.inside.written.items c.in-Ok.changes.items) (c.put_exchange.new.written.items ≡ changed c.self.inside.written.items c.in-Ok.changes.items)
+      (c.put_exchange.new.written.items ≡ c.self.inside.written.items) (c.put_exchange.new.written.items ≡ c.self.inside.written.items)
+      (IsTable (record { problem = (table_of c.self.inside).problem; written = c.put_exchange.new.written.items }))
+      c.put_exchange.ensures.written c.put_exchange.ensures.written c.put_exchange.ensures.same c.put_exchange.ensures.same
+      (λ e f. subst (λ (ws : List Writing). IsTable (record { problem = (table_of c.self.inside).problem; written = ws })) (sym e)
+      (found_table (table_of c.self.inside) c.self.inside.index c.args.enter c.args.leave c.place_of-at.result c.index-written-at.result c.in-Ok.changes.items
+      (found (table_of c.self.inside) c.args.self.now c.self.inside.index c.args.enter c.args.leave c.place_of-at.result c.index-written-at.result c.in-Ok.changes.items c.deref-written.result.now c.place.result c.place-entering.result c.self.invariant.table c.self.invariant.indexed c.self.view_is c.deref-written.ensures.value c.place.ensures.value c.place-entering.ensures.value c.place.ensures.small c.place-entering.ensures.small
+      c.place_of-at.ensures c.index-written-at.is c.requires.enter c.requires.possible c.in-Ok.ensures.changes)))
+      (λ e f. subst (λ (ws : List Writing). IsTable (record { problem = (table_of c.self.inside).problem; written = ws })) (sym e) c.self.invariant.table);
+  indexed = c.put_exchange.ensures.indexed;
+}
+
+pub returns-in_ok-put_exchange-in-Ok-clause-swapped :
+    goal.returns-in_ok-put_exchange-in-Ok-clause-swapped
+returns-in_ok-put_exchange-in-Ok-clause-swapped c =
+    found_swapped (table_of c.self.inside) c.args.self.now c.self.inside.index c.args.enter c.args.leave c.place_of-at.result c.index-written-at.result c.in-Ok.changes.items c.put_exchange.new.written.items c.self.view_is c.in_ok-put_exchange-in-Ok.ensures.written
+    (found (table_of c.self.inside) c.args.self.now c.self.inside.index c.args.enter c.args.leave c.place_of-at.result c.index-written-at.result c.in-Ok.changes.items c.deref-written.result.now c.place.result c.place-entering.result c.self.invariant.table c.self.invariant.indexed c.self.view_is c.deref-written.ensures.value c.place.ensures.value c.place-entering.ensures.value c.place.ensures.small c.place-entering.ensures.small
+    c.place_of-at.ensures c.index-written-at.is c.requires.enter c.requires.possible c.in-Ok.ensures.changes)
+
+pub returns-in_ok-put_exchange-in-Ok-clause-moved :
+    goal.returns-in_ok-put_exchange-in-Ok-clause-moved
+returns-in_ok-put_exchange-in-Ok-clause-moved c =
+    found_moved (table_of c.self.inside) c.args.self.now c.self.inside.index c.args.enter c.args.leave c.place_of-at.result c.index-written-at.result c.in-Ok.changes.items c.put_exchange.new.written.items c.self.view_is c.in_ok-put_exchange-in-Ok.ensures.written
+    (found (table_of c.self.inside) c.args.self.now c.self.inside.index c.args.enter c.args.leave c.place_of-at.result c.index-written-at.result c.in-Ok.changes.items c.deref-written.result.now c.place.result c.place-entering.result c.self.invariant.table c.self.invariant.indexed c.self.view_is c.deref-written.ensures.value c.place.ensures.value c.place-entering.ensures.value c.place.ensures.small c.place-entering.ensures.small
+    c.place_of-at.ensures c.index-written-at.is c.requires.enter c.requires.possible c.in-Ok.ensures.changes)
 
 pub returns-in-Err-clause-stop : goal.returns-in-Err-clause-stop
 returns-in-Err-clause-stop c =
-    let found : IsWriting c.self.inside.written.items c.place.result c.writing-leaving.result.now = subst (λ (ws : List Writing). IsWriting ws c.place.result c.writing-leaving.result.now) c.deref-written.ensures.value c.writing-leaving.ensures in
-    let stop : IsExchangeStop c.writing-leaving.result.now c.args.enter c.self.inside.written.items c.in-Err.stop = subst (λ (ws : List Writing). IsExchangeStop c.writing-leaving.result.now c.args.enter ws c.in-Err.stop) c.deref-written.ensures.value c.in-Err.ensures.unfit in
     subst (λ t. IsSwapStop t c.args.enter c.args.leave c.in-Err.stop) c.self.view_is
-    (found.at, c.writing-leaving.result.now, found.within, sym found.is, (found.column ∙ c.place.ensures.value, stop))
+    (stop_at (table_of c.self.inside) c.args.enter c.args.leave c.place_of-at.result c.index-written-at.result c.in-Err.stop
+    (subst (λ (k : ℕ). IsPlaceOf c.self.inside.written.items k c.place_of-at.result) c.place.ensures.value (subst (λ (ws : List Writing). IsPlaceOf ws c.place.result c.place_of-at.result) c.deref-written.ensures.value c.place_of-at.ensures))
+    (subst (λ (ws : List Writing). c.index-written-at.result ≡ get_or ws c.place_of-at.result c.index-written-at.result) c.deref-written.ensures.value c.index-written-at.is)
+    (subst (λ (ws : List Writing). IsExchangeStop c.index-written-at.result c.args.enter ws c.in-Err.stop) c.deref-written.ensures.value c.in-Err.ensures.unfit))
