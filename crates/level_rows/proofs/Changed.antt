@@ -43,7 +43,7 @@ single-small : (b : Bool) → unsigned_abs (cond b (pos 1) (pos 0) +ℤ pos 0) �
 single-small true = omega arith
 single-small false = omega arith
 
-empty-number : (rank c : ℕ) (w : Cost) → IsEmptyCost rank w → cost_column ≢ c → coefficient c w.row ≡ pos 0
+pub empty-number : (rank c : ℕ) (w : Cost) → IsEmptyCost rank w → cost_column ≢ c → coefficient c w.row ≡ pos 0
 empty-number rank c w is ne =
     zero_from_mul is.row.factor (coefficient c w.row) is.row.above
     (is.row.same c ∙ ap (λ (b : Bool). cond b (pos 1) (pos 0) +ℤ pos 0) (ne_eqb cost_column c ne))
@@ -290,11 +290,11 @@ absent_changed change r side written value costs at first old new news are absen
   kept = subst AreKept (sym made) (inserted_kept r.rank costs at new (x.level ∙ empty.level) x.kept within before behind absent are);
 }
 
-pub join_stopped : (change : Change) (r : Row) (side : Side) (written : List rows.Term) (value : Fraction) (costs : List Cost) (old : Cost) (first : ℕ) (stop : TableStop) → HasLevel r.rank old costs → old.level ≡ Priority r.rank → first ≡ rows_after change old.rows → IsStopAt (Rows old.level first) (IsUnfitJoin r side (signed_weight change r.weight) written value old) stop → IsJoinStop change r side written value costs stop
+pub join_stopped : (change : Change) (r : Row) (side : Side) (written : List rows.Term) (value : Fraction) (costs : List Cost) (old : Cost) (first : ℕ) (stop : TableStop) → HasLevel r.rank old costs → old.level ≡ Priority r.rank → first ≡ rows_after change old.rows → IsStopAt (Rows old.level first) (IsUnfitJoin change r side written value old) stop → IsJoinStop change r side written value costs stop
 join_stopped change r side written value costs old first stop has level count h =
     inr (
       old,
       has,
-      subst (λ (l : Level). IsStopAt (Rows l (rows_after change old.rows)) (IsUnfitJoin r side (signed_weight change r.weight) written value old) stop) level
-          (subst (λ (n : ℕ). IsStopAt (Rows old.level n) (IsUnfitJoin r side (signed_weight change r.weight) written value old) stop) count h),
+      subst (λ (l : Level). IsStopAt (Rows l (rows_after change old.rows)) (IsUnfitJoin change r side written value old) stop) level
+          (subst (λ (n : ℕ). IsStopAt (Rows old.level n) (IsUnfitJoin change r side written value old) stop) count h),
     )

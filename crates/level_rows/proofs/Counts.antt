@@ -22,7 +22,7 @@ fits-opposite (negsuc n) h = h
 fits-neg : (z : ℤ) → IsFitting z → IsFitting (pos 0 -ℤ z)
 fits-neg z h = subst IsFitting (sym (zero-add_ℤ (neg_ℤ z))) (fits-opposite z h)
 
-elsewhere : (c : ℕ) (x : Term) (row : List Term) → x.col ≢ c → coefficient c (x ∷ row) ≡ coefficient c row
+pub elsewhere : (c : ℕ) (x : Term) (row : List Term) → x.col ≢ c → coefficient c (x ∷ row) ≡ coefficient c row
 elsewhere c x row ne =
     let first : cond (nat_eq x.col c) x.by (pos 0) ≡ pos 0 = ap (λ (b : Bool). cond b x.by (pos 0)) (ne_eqb x.col c ne) in
     omega (arith, ints, first)

@@ -44,7 +44,7 @@ gone g c w u t k n o d e e' p above above-c h is old total balance =
     (ap (λ (x : ℤ). pos c *ℤ x) h ∙ mul-add_left (pos c) (k *ℤ e) (n *ℤ p) ∙ (let sum : pos c *ℤ (k *ℤ e) +ℤ pos c *ℤ (n *ℤ p) ≡ pos 0 = omega (arith, ints, scaled, second, last) in sum)))
 
 -- what the row's marks had at the level before
-own_before : (r : Row) (old : Cost) → IsRow r → old.level ≡ Priority r.rank → weight_in old.level (line_of_row r) ≡ r.weight
+pub own_before : (r : Row) (old : Cost) → IsRow r → old.level ≡ Priority r.rank → weight_in old.level (line_of_row r) ≡ r.weight
 own_before r old row level = ap (λ (v : Level). weight_in v (line_of_row r)) level ∙ ap (λ (b : Bool). cond b r.weight 0) (row_at r row.rank)
 
 under_gone : (r : Row) (side : Side) (written : List rows.Term) (value : Fraction) (old new : Cost) → IsRow r → old.level ≡ Priority r.rank → (x : IsJoined r side (neg_ℤ (pos r.weight)) written value old new) → IsErrorOf r side written x.error → IsCosted old (line_of_row r) → coefficient (weight_column (column_of r Under)) new.row ≡ pos 0

@@ -3,6 +3,7 @@ pub mod Algebra
 pub mod Listings
 pub mod Counts
 pub mod Clearing
+pub mod Negatives
 pub mod Following
 pub mod Lines
 pub mod Stays
@@ -13,3 +14,10 @@ pub mod Joined
 pub mod Changed
 pub mod Left
 pub mod Columns
+pub mod TooLarge
+pub mod Weights
+pub mod PlaceLists
+pub mod Touched
+pub mod Replacing
+pub mod Nearing
+pub mod Applying

@@ -26,14 +26,17 @@ level_above m n g x some-m some is hx =
 pub divisor_above : (m n g : ℕ) → 0 < n → IsGcd m n g → 0 < g
 divisor_above m n g some is = (reduces m n g some is).g_above
 
-pub too_large : (m n g : ℕ) (own scale weight denominator : ℤ) → 0 < n → IsGcd m n g → pos m ≡ own *ℤ scale → pos n ≡ weight *ℤ denominator → (2 ^ 42 ≤ m / g) ⊎ (2 ^ 42 ≤ n / g) → IsTooLarge own scale weight denominator
-too_large m n g own scale weight denominator some is hm hn large =
+pub too_large : (m n g : ℕ) (own scale weight denominator : ℤ) → 0 < m → 0 < n → IsGcd m n g → pos m ≡ own *ℤ scale → pos n ≡ weight *ℤ denominator → (2 ^ 42 ≤ m / g) ⊎ (2 ^ 42 ≤ n / g) → IsTooLarge own scale weight denominator
+too_large m n g own scale weight denominator some-m some is hm hn large =
     let r = reduces m n g some is in
     record {
       level = m / g;
       error = n / g;
       divisor = g;
       apart = r.apart;
+      level_above = above-part (m / g) g m r.num_is some-m;
+      error_above = above-part (n / g) g n r.den_is some;
+      divisor_above = r.g_above;
       level_is = ap pos r.num_is ∙ hm;
       error_is = ap pos r.den_is ∙ hn;
       large = large;

@@ -90,19 +90,25 @@ pub record IsTooLarge (own scale weight denominator : ℤ) : Type 0 where
   pub error : ℕ
   pub divisor : ℕ
   pub apart : IsGcd level error 1
+  pub level_above : 0 < level
+  pub error_above : 0 < error
+  pub divisor_above : 0 < divisor
   pub level_is : pos (level * divisor) ≡ own *ℤ scale
   pub error_is : pos (error * divisor) ≡ weight *ℤ denominator
   pub large : (2 ^ 42 ≤ level) ⊎ (2 ^ 42 ≤ error)
 
--- the factors do not fit, or the row does not
+-- what a side of the row costs at a level: nothing before its error joins, and its weight before it leaves
+abbrev pub HasWeight : Change → Row → List Term → Type 0
+HasWeight Joins r row = coefficient (weight_column (column_of r (costed_side r.rel))) row ≡ pos 0
+HasWeight Leaves r row = pos r.scale *ℤ coefficient (weight_column (column_of r (costed_side r.rel))) row ≡ scale_of row *ℤ pos r.weight
+
+-- the level's row with the error more does not fit
 abbrev pub IsUnfitJoinedRow : Row → ℤ → List Term → List Term → Type 0
-IsUnfitJoinedRow r weight old s =
-    IsTooLarge (own_of r s) (pos r.scale) (pos r.weight) (scale_of old)
-    ⊎ ((k : ℤ) × (n : ℤ) × (pos 0 <ℤ k) × (k *ℤ (weight *ℤ scale_of old) ≡ n *ℤ (own_of r s *ℤ pos r.scale)) × IsUnfitRow (combination k old n s))
+IsUnfitJoinedRow r weight old s = (k : ℤ) × (n : ℤ) × (pos 0 <ℤ k) × (k *ℤ (weight *ℤ scale_of old) ≡ n *ℤ (own_of r s *ℤ pos r.scale)) × IsUnfitRow (combination k old n s)
 
 -- why the level with the row's error more or less does not fit: the error, the row or the cost
-abbrev pub IsUnfitJoin : Row → Side → ℤ → List Term → Fraction → Cost → Type 0
-IsUnfitJoin r side weight written value old =
+abbrev pub IsUnfitJoin : Change → Row → Side → List Term → Fraction → Cost → Type 0
+IsUnfitJoin change r side written value old =
     IsUnfit (λ c. coefficient c (error_terms r side written))
-    ⊎ ((s : List Term) × IsErrorRow r side written s × IsUnfitJoinedRow r weight old.row s)
-    ⊎ ((f : Fraction) → IsLowest f → IsJoinedValue r side weight value old.value f → Fits f → ⊥)
+    ⊎ ((s : List Term) × IsErrorRow r side written s × (HasWeight change r old.row → IsUnfitJoinedRow r (signed_weight change r.weight) old.row s))
+    ⊎ ((f : Fraction) → IsLowest f → IsJoinedValue r side (signed_weight change r.weight) value old.value f → Fits f → ⊥)

@@ -4,3 +4,8 @@ pub mod Swaps
 pub mod Changes
 pub mod Joins
 pub mod Lists
+pub mod Fronts
+pub mod Updates
+pub mod Places
+pub mod Lows
+pub mod Nearest

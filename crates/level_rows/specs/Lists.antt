@@ -30,7 +30,7 @@ pub record IsEmptyCost (rank : ℕ) (w : Cost) : Type 0 where
 
 -- the list has this level of the priority, or the level is empty and the list has none
 abbrev pub HasLevel : ℕ → Cost → List Cost → Type 0
-HasLevel rank old costs = Any (λ w. w ≡ old) costs ⊎ (IsEmptyCost rank old × All (λ w. w.level ≢ Priority rank) costs)
+HasLevel rank old costs = Any (λ w. (w ≡ old) × (w.level ≡ Priority rank)) costs ⊎ (IsEmptyCost rank old × All (λ w. w.level ≢ Priority rank) costs)
 
 -- one level is changed, which was there or was empty
 pub record IsChangedList (change : Change) (r : Row) (side : Side) (written : List Term) (value : Fraction) (olds news : List Cost) : Type 0 where
@@ -49,4 +49,4 @@ pub record IsChangedList (change : Change) (r : Row) (side : Side) (written : Li
 abbrev pub IsJoinStop : Change → Row → Side → List Term → Fraction → List Cost → TableStop → Type 0
 IsJoinStop change r side written value costs stop =
     (stop ≡ OutOfMemory)
-    ⊎ ((old : Cost) × HasLevel r.rank old costs × IsStopAt (Rows (Priority r.rank) (rows_after change old.rows)) (IsUnfitJoin r side (signed_weight change r.weight) written value old) stop)
+    ⊎ ((old : Cost) × HasLevel r.rank old costs × IsStopAt (Rows (Priority r.rank) (rows_after change old.rows)) (IsUnfitJoin change r side written value old) stop)

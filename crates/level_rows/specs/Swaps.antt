@@ -1,6 +1,7 @@
 -- The exchange of a mark outside for a mark inside, level by level.
 use Rattle.std.specs.Prelude.{◌≡◌, ◌⊎◌, ℕ, ◌<◌, List, ℤ, pos, ◌*ℤ◌, ◌<ℤ◌, All, Any}
-use Rattle.frac_core.specs.Fraction.{Fraction, IsLowest, Fits, IsRatio, sum_num, sum_den}
+use Rattle.std.specs.List.{AllZip}
+use Rattle.frac_core.specs.Fraction.{Fraction, IsKept, IsLowest, Fits, IsRatio, sum_num, sum_den}
 use Rattle.row_core.specs.Rows.{Term, coefficient, combination, IsLowestRow, IsReduced, AllFit}
 use Rattle.problem_core.specs.declared.parts.Mark.{Mark}
 use Rattle.problem_core.specs.declared.parts.Level.{Level}
@@ -47,6 +48,13 @@ pub record IsClearedCost (pivot : List Term) (enter : ℕ) (value : Fraction) (o
 -- a level without the entering mark stays as it is
 abbrev pub IsExchangedCost : List Term → ℕ → Fraction → Cost → Cost → Type 0
 IsExchangedCost pivot enter value old new = ((reduced_at enter old.row ≡ pos 0) × (new ≡ old)) ⊎ IsClearedCost pivot enter value old new
+
+-- each level follows the exchange, at which the entering mark takes the value that the leaving mark's row gives it
+pub record AreExchangedCosts (pivot : List Term) (value : Fraction) (enter leave : ℕ) (olds news : List Cost) : Type 0 where
+  pub entering : Fraction
+  pub kept : IsKept entering
+  pub enters : IsEnteringValue pivot value enter leave entering
+  pub levels : AllZip (IsExchangedCost pivot enter entering) olds news
 
 -- neither the row in lowest terms nor its reduced costs fit
 abbrev pub IsUnfitRow : (ℕ → ℤ) → Type 0

@@ -5,6 +5,7 @@ ghost use Rattle.problem_core.specs.declared.parts.Level.TheVariants.{Priority};
 ghost use Rattle.level_rows.specs.Costs as costs;
 ghost use Rattle.level_rows.specs.Costs.{Cost, AreKept, MayPrecede};
 ghost use Rattle.level_rows.specs.Swaps.{IsOfMarks};
+ghost use Rattle.level_rows.specs.Updates.{updated};
 ghost use Rattle.level_rows.specs.Joins as joins;
 ghost use Rattle.level_rows.specs.Joins.{signed_weight};
 ghost use Rattle.level_rows.specs.Lists.{IsEmptyCost, IsChangedList, IsJoinStop, rows_after};
@@ -12,6 +13,7 @@ ghost use Rattle.level_rows.specs.Lists.{IsEmptyCost, IsChangedList, IsJoinStop,
 use crate::costed::{Costed, cost_column};
 use crate::joining::{Change, joined};
 use crate::listing::{push, room};
+use crate::updates::{Update, one_update};
 use frac_core::{Frac, OutOfMemory};
 use problem_core::{Level, Row, Side, TableStop};
 use row_core::{Entry, IntRow};
@@ -42,8 +44,8 @@ fn rank_place(costs: &[Costed], rank: u16) -> usize
     costs.len()
 }
 
-// The place of the priority.
-fn position_of(costs: &[Costed], rank: u16) -> Option<usize>
+/// The place of the priority.
+pub(crate) fn position_of(costs: &[Costed], rank: u16) -> Option<usize>
     ensures within { IfSome result (λ i. i < length costs.now) }
     ensures level { IfSome result (λ i. (w : Cost) → w ≡ slice_index_or costs.now i w → w.level ≡ Priority rank) }
     ensures absent { IfNone result (All (λ w. w.level ≢ Priority rank) costs.now) }
@@ -82,8 +84,8 @@ fn empty(alloc: Global, rank: u16) -> Result<Costed, OutOfMemory>
     Costed::of(alloc, level, row, zero, 0)
 }
 
-// Appends copies of all.
-fn push_copies(out: &mut Vec<Costed>, costs: &[Costed]) -> Result<(), OutOfMemory>
+/// Appends copies of all.
+pub(crate) fn push_copies(out: &mut Vec<Costed>, costs: &[Costed]) -> Result<(), OutOfMemory>
     ensures { IfOk result (λ _. out.new.items ≡ out.old.items ++ costs.now) }
 {
     for cost in costs {
@@ -118,8 +120,8 @@ fn count_after(rows: u32, change: Change) -> u32
     }
 }
 
-// The levels where one has the priority of the row.
-fn held_change(
+/// The new cost of the level that has the priority of the row.
+pub(crate) fn held_change(
     alloc: Global,
     costs: &[Costed],
     at: usize,
@@ -128,25 +130,26 @@ fn held_change(
     written: &IntRow,
     value: Frac,
     change: Change,
-) -> Result<Vec<Costed>, TableStop>
+) -> Result<Vec<Update>, TableStop>
     requires kept { AreKept costs.now }
     requires within { at < length costs.now }
     requires level { (w : Cost) → w ≡ slice_index_or costs.now at w → w.level ≡ Priority row.now.rank }
     requires written { IsOfMarks written.now }
     requires own { pos 0 <ℤ coefficient (joins.column_of row.now side) written.now }
-    ensures changed { IfOk result (λ out. IsChangedList change row.now side written.now value costs.now out.items) }
+    ensures within { IfOk result (λ out. All (λ u. u.at < length costs.now) out.items) }
+    ensures changed { IfOk result (λ out. IsChangedList change row.now side written.now value costs.now (updated costs.now out.items)) }
     ensures stop { IfErr result (IsJoinStop change row.now side written.now value costs.now) }
 {
     let old = &costs[at];
     let first = count_after(old.rows(), change);
     match joined(alloc, old, row, side, written, value, change, first) {
-        Ok(new) => Ok(placed(alloc, &costs[..at], new, &costs[at + 1..])?),
+        Ok(new) => Ok(one_update(alloc, at, new)?),
         Err(stop) => Err(stop),
     }
 }
 
-// The levels where none has the priority of the row.
-fn absent_change(
+/// The levels with that of the row, where none has its priority.
+pub(crate) fn absent_change(
     alloc: Global,
     costs: &[Costed],
     row: &Row,
@@ -168,27 +171,5 @@ fn absent_change(
     match joined(alloc, &old, row, side, written, value, change, first) {
         Ok(new) => Ok(placed(alloc, &costs[..at], new, &costs[at..])?),
         Err(stop) => Err(stop),
-    }
-}
-
-/// The levels with the row's error more or less, where `written` and `value` are those of its mark inside.
-pub(crate) fn changed(
-    alloc: Global,
-    costs: &[Costed],
-    row: &Row,
-    side: Side,
-    written: &IntRow,
-    value: Frac,
-    change: Change,
-) -> Result<Vec<Costed>, TableStop>
-    requires kept { AreKept costs.now }
-    requires written { IsOfMarks written.now }
-    requires own { pos 0 <ℤ coefficient (joins.column_of row.now side) written.now }
-    ensures changed { IfOk result (λ out. IsChangedList change row.now side written.now value costs.now out.items) }
-    ensures stop { IfErr result (IsJoinStop change row.now side written.now value costs.now) }
-{
-    match position_of(costs, row.rank()) {
-        Some(at) => held_change(alloc, costs, at, row, side, written, value, change),
-        None => absent_change(alloc, costs, row, side, written, value, change),
     }
 }

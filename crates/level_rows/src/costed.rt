@@ -36,7 +36,7 @@ pub(crate) fn mark_column(m: Mark) -> Col
 }
 
 /// A level, the row of its cost, the cost where the outside marks are 0, and how many rows cost there. Copies share the row.
-#[derive(Clone, Debug, Drop)]
+#[derive(Debug, Drop)]
 pub(crate) struct Costed {
     level: Level,
     row: Rc<IntRow>,

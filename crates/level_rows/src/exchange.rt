@@ -1,17 +1,17 @@
 // The exchange of an outside mark for an inside one, level by level.
-ghost use Rattle.std.specs.Prelude.{◌≡◌, ◌≢◌, ◌⊎◌, ℤ, ◌<ℤ◌, ◌*ℤ◌, pos, negsuc, neg_ℤ, All, Any, IfOk, IfErr, OnErr};
-ghost use Rattle.std.specs.List.{AllZip};
+ghost use Rattle.std.specs.Prelude.{◌≡◌, ◌≢◌, ◌⊎◌, ℕ, Contains, ℤ, ◌<ℤ◌, ◌*ℤ◌, pos, negsuc, neg_ℤ, All, Any, IfOk, IfErr, OnErr};
 ghost use Rattle.frac_core.specs.Fraction.{IsFitting, IsKept, Fraction, IsLowest, Fits};
 ghost use Rattle.row_core.specs.Rows.{IsKeptRow, coefficient, combination};
 ghost use Rattle.row_core.specs.declared.entry.RowStop.TheVariants.{Unfit as UnfitRow};
 ghost use Rattle.problem_core.specs.Corners as corners;
 ghost use Rattle.problem_core.specs.declared.stops.TableStop.TheVariants.{UnfitAt, OutOfMemory as NoMemory};
 ghost use Rattle.level_rows.specs.Costs.{IsKeptCost, AllReducedFit, reduced_at};
-ghost use Rattle.level_rows.specs.Swaps.{IsOfMarks, IsEnteringValue, IsUnfitEntering, IsClearedValue, IsClearedRow, IsClearedCost, IsExchangedCost, IsUnfitRow, IsUnfitCleared, IsStopAt, IsExchangeStop, plain};
+ghost use Rattle.level_rows.specs.Updates.{HasUpdate, IsDone, IsExchangeUpdate};
+ghost use Rattle.level_rows.specs.Swaps.{IsOfMarks, IsEnteringValue, IsUnfitEntering, IsClearedValue, IsClearedRow, IsClearedCost, IsUnfitRow, IsUnfitCleared, IsStopAt, IsExchangeStop, plain};
 
 use crate::costed::{Costed, mark_column};
 use crate::counting::checked;
-use crate::listing::{push, room};
+use crate::updates::{Update, push_update, update_room};
 use frac_core::{Frac, Unfit};
 use problem_core::{Level, Mark, Quantity, TableStop, What};
 use row_core::{IntRow, RowStop, combine};
@@ -128,44 +128,59 @@ fn cleared(
     Ok(Costed::of(alloc, old.level(), row, value, old.rows())?)
 }
 
-// One level after the exchange.
-fn exchanged_one(
-    alloc: Global,
-    old: &Costed,
-    pivot: &IntRow,
-    enter: Mark,
-    value: Frac,
-) -> Result<Costed, TableStop>
-    requires pivot { IsOfMarks pivot.now }
-    requires entering { coefficient (corners.place enter) pivot.now ≢ pos 0 }
-    requires old { IsKeptCost old.now }
-    ensures exchanged { IfOk result (IsExchangedCost pivot.now (corners.place enter) value old.now) }
-    ensures unfit { IfErr result (IsStopAt (plain old.now.level) (IsUnfitCleared pivot.now (corners.place enter) value old.now)) }
-{
-    if old.reduced(enter) == 0 {
-        return Ok(old.copy()?);
-    }
-    cleared(alloc, old, pivot, enter, value)
-}
-
-/// All levels after the exchange of the mark that the pivot writes for `enter`, which has this value then.
-pub(crate) fn exchanged(
+// The update of the level at the place, where the entering mark stands in its cost.
+fn push_exchanged(
+    out: &mut Vec<Update>,
     alloc: Global,
     costs: &[Costed],
+    at: usize,
     pivot: &IntRow,
     enter: Mark,
     value: Frac,
-) -> Result<Vec<Costed>, TableStop>
+) -> Result<(), TableStop>
     requires pivot { IsOfMarks pivot.now }
     requires entering { coefficient (corners.place enter) pivot.now ≢ pos 0 }
     requires kept { All IsKeptCost costs.now }
-    ensures exchanged { IfOk result (λ out. AllZip (IsExchangedCost pivot.now (corners.place enter) value) costs.now out.items) }
+    requires each { All (IsExchangeUpdate pivot.now (corners.place enter) value costs.now) out.old.items }
+    ensures each { IfOk result (λ _. All (IsExchangeUpdate pivot.now (corners.place enter) value costs.now) out.new.items) }
+    ensures more { (k : ℕ) → HasUpdate out.old.items k → HasUpdate out.new.items k }
+    ensures done { IfOk result (λ _. IsDone costs.now out.new.items (corners.place enter) at) }
     ensures unfit { IfErr result (IsExchangeStop pivot.now (corners.place enter) value costs.now) }
 {
-    let mut out = room(alloc, costs.len())?;
-    for old in costs {
-        match exchanged_one(alloc, old, pivot, enter, value) {
-            Ok(new) => push(&mut out, new)?,
+    if at >= costs.len() {
+        return Ok(());
+    }
+    let old = &costs[at];
+    if old.reduced(enter) == 0 {
+        return Ok(());
+    }
+    match cleared(alloc, old, pivot, enter, value) {
+        Ok(cost) => Ok(push_update(out, at, cost)?),
+        Err(stop) => Err(stop),
+    }
+}
+
+/// The new costs after the exchange of the mark that the pivot writes for `enter`, which has this value then, at those of these places where
+/// `enter` stands.
+pub(crate) fn exchanged(
+    alloc: Global,
+    costs: &[Costed],
+    places: &[usize],
+    pivot: &IntRow,
+    enter: Mark,
+    value: Frac,
+) -> Result<Vec<Update>, TableStop>
+    requires pivot { IsOfMarks pivot.now }
+    requires entering { coefficient (corners.place enter) pivot.now ≢ pos 0 }
+    requires kept { All IsKeptCost costs.now }
+    ensures each { IfOk result (λ out. All (IsExchangeUpdate pivot.now (corners.place enter) value costs.now) out.items) }
+    ensures done { IfOk result (λ out. (k : ℕ) → Contains places.now k → IsDone costs.now out.items (corners.place enter) k) }
+    ensures unfit { IfErr result (IsExchangeStop pivot.now (corners.place enter) value costs.now) }
+{
+    let mut out = update_room(alloc, places.len())?;
+    for at in places {
+        match push_exchanged(&mut out, alloc, costs, *at, pivot, enter, value) {
+            Ok(()) => (),
             Err(stop) => return Err(stop),
         }
     }

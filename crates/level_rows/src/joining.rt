@@ -9,7 +9,7 @@ ghost use Rattle.problem_core.specs.declared.stops.Quantity.TheVariants.{Rows};
 ghost use Rattle.level_rows.specs.Costs.{IsKeptCost, AllReducedFit, scale_of};
 ghost use Rattle.level_rows.specs.Swaps.{IsOfMarks, IsUnfitRow, IsStopAt};
 ghost use Rattle.level_rows.specs.Joins as joins;
-ghost use Rattle.level_rows.specs.Joins.{costs_at, weight_term, weight_terms, error_terms, IsErrorRow, IsJoinedRow, IsJoinedValue, IsJoined, IsTooLarge, IsUnfitJoinedRow, IsUnfitJoin, signed_value, signed_weight};
+ghost use Rattle.level_rows.specs.Joins.{costs_at, weight_term, weight_terms, error_terms, IsErrorRow, IsJoinedRow, IsJoinedValue, IsJoined, IsTooLarge, HasWeight, IsUnfitJoinedRow, IsUnfitJoin, signed_value, signed_weight};
 
 use crate::costed::{Costed, mark_column, weight_column};
 use crate::counting::checked;
@@ -177,7 +177,7 @@ fn reduced_multiples(old: &Costed, error: &IntRow, row: &Row) -> Option<Multiple
 
 /// Whether a row's error joins a level or leaves it.
 #[derive(Clone, Copy, Debug, PartialEq, Eq)]
-pub(crate) enum Change {
+pub enum Change {
     Joins,
     Leaves,
 }
@@ -204,11 +204,13 @@ fn joined_row(
 ) -> Result<IntRow, RowStop>
     requires old { IsKeptCost old.now }
     requires own { pos 0 <ℤ joins.own_of row.now error.now }
+    requires scale { scale_of error.now ≡ pos 0 }
     ensures row { IfOk result (IsJoinedRow row.now (signed_weight change row.now.weight) old.now.row error.now) }
     ensures kept { IfOk result IsKeptRow }
     ensures reduced { IfOk result AllReducedFit }
-    ensures unfit { IfErr result (λ stop. stop ≡ UnfitRow → IsUnfitJoinedRow row.now (signed_weight change row.now.weight) old.now.row error.now) }
+    ensures unfit { IfErr result (λ stop. stop ≡ UnfitRow → HasWeight change row.now old.now.row → IsUnfitJoinedRow row.now (signed_weight change row.now.weight) old.now.row error.now) }
 {
+    let _kept = error.entries();
     let Some(by) = reduced_multiples(old, error, row) else {
         return Err(RowStop::Unfit);
     };
@@ -274,7 +276,7 @@ pub(crate) fn joined(
     requires own { pos 0 <ℤ coefficient (joins.column_of row.now side) written.now }
     ensures joined { IfOk result (IsJoined row.now side (signed_weight change row.now.weight) written.now value old.now) }
     ensures rows { IfOk result (λ w. w.rows ≡ first) }
-    ensures unfit { IfErr result (IsStopAt (Rows old.now.level first) (IsUnfitJoin row.now side (signed_weight change row.now.weight) written.now value old.now)) }
+    ensures unfit { IfErr result (IsStopAt (Rows old.now.level first) (IsUnfitJoin change row.now side written.now value old.now)) }
 {
     let error = match error_row(alloc, row, side, written) {
         Ok(error) => error,

@@ -1,6 +1,6 @@
 // The levels' costs.
-ghost use Rattle.std.specs.Prelude.{◌≡◌, ◌≢◌, ◌⊎◌, ℕ, Bool, ℤ, List, [], ◌∷◌, ◌++◌, true, map, pos, ◌<ℤ◌, All, Any, IfOk, IfErr, IfSome, IfNone};
-ghost use Rattle.frac_core.specs.Fraction.{Fraction};
+ghost use Rattle.std.specs.Prelude.{◌≡◌, ◌≢◌, ◌⊎◌, ℕ, Bool, ℤ, List, [], ◌∷◌, ◌++◌, true, map, length, pos, ◌<ℤ◌, ◌≤ℤ◌, ◌<◌, All, Any, IfOk, IfErr, IfSome, IfNone};
+ghost use Rattle.frac_core.specs.Fraction.{Fraction, IsFitting};
 ghost use Rattle.problem_core.specs.declared.parts.Level.TheVariants.{Stay};
 ghost use Rattle.problem_core.specs.declared.stops.What.TheVariants.{Level as LevelOf};
 ghost use Rattle.problem_core.specs.declared.stops.TableStop.TheVariants.{UnfitAt, OutOfMemory as NoMemory};
@@ -12,41 +12,51 @@ ghost use Rattle.problem_core.specs.Corners as corners;
 ghost use Rattle.problem_core.specs.Layout as layout;
 ghost use Rattle.level_rows.specs.Costs.{Cost, AreKept, used_of, cost_of, nothing_at, scale_of, reduced_at, times_of};
 ghost use Rattle.level_rows.specs.Corners.{AreCosts, IsWrittenAt, AreExchanged};
-ghost use Rattle.level_rows.specs.Swaps.{IsOfMarks, IsSwapStop};
+ghost use Rattle.level_rows.specs.Swaps.{AreExchangedCosts, IsOfMarks, IsSwapStop};
+ghost use Rattle.level_rows.specs.Updates.{updated, HasSameRow};
+ghost use Rattle.level_rows.specs.Fronts.{IsNegativeIn, IsNonnegativeIn};
 ghost use Rattle.level_rows.specs.Joins as joins;
 ghost use Rattle.level_rows.specs.Lists.{IsChangedList, IsJoinStop};
 ghost use Rattle.level_rows.specs.declared.joining.Change.TheVariants.{Joins, Leaves};
 ghost use Rattle.problem_core.specs.declared.parts.RowName.TheVariants.{Held};
 
-use crate::changing::changed;
+use crate::changing::{absent_change, held_change, position_of, push_copies};
 use crate::costed::Costed;
 use crate::exchange::{entering_value, exchanged};
+use crate::fronts::{first_negative, lowest, prune};
 use crate::joining::Change;
-use crate::listing::{found, used_levels};
+use crate::listing::{found, push_all_used, room};
+use crate::lows::{all_marks, all_places, count, place_all, place_row, touch, touch_all};
+use crate::places::Places;
 use crate::shifting::shifted;
 use crate::staying::stay_cost;
+use crate::updates::{Update, put_all};
 use frac_core::{Frac, OutOfMemory};
-use problem_core::{Level, Mark, Quantity, Row, RowName, TableStop, What};
+use problem_core::{Level, Mark, Quantity, Row, RowName, Side, TableStop, What};
 use row_core::IntRow;
 use std::alloc::Global;
 use std::marker::Model;
 
 /// The cost of each level that has a row or a stay, written by the outside marks of a corner, strongest first.
-#[derive(Clone, Debug, Drop)]
+#[derive(Debug, Drop)]
 pub struct Levels {
     costs: Vec<Costed>,
     used: Vec<Level>,
+    places: Places,
+    low: Vec<Mark>,
 }
 
 impl Model for Levels {
     ghost use Rattle.std.specs.Prelude.{List, ◌≡◌};
     ghost use Rattle.level_rows.specs.Costs.{Cost, AreKept, used_of};
+    ghost use Rattle.level_rows.specs.Places.{ArePlaced};
+    ghost use Rattle.level_rows.specs.Lows.{AreLows};
 
     ghost Value = { List Cost };
 
     ghost view = { λ l. l.costs.items };
 
-    ghost invariant = { λ l. AreKept l.costs.items × (l.used.items ≡ used_of l.costs.items) };
+    ghost invariant = { λ l. AreKept l.costs.items × (l.used.items ≡ used_of l.costs.items) × ArePlaced l.costs.items l.places × AreLows l.costs.items l.low.items };
 }
 
 impl Levels {
@@ -57,7 +67,27 @@ impl Levels {
         Ok(Levels {
             costs: Vec::new(alloc),
             used: Vec::new(alloc),
+            places: Places::new(alloc),
+            low: Vec::new(alloc),
         })
+    }
+
+    // Takes these new costs.
+    fn apply(&mut self, updates: Vec<Update>) -> Result<(), OutOfMemory>
+        requires within { All (λ u. u.at < length self.old) updates.items }
+        requires kept { AreKept (updated self.old updates.items) }
+        ensures put { IfOk result (λ _. self.new ≡ updated self.old updates.items) }
+        ensures same { IfErr result (λ _. self.new ≡ self.old) }
+    {
+        let alloc = *self.costs.allocator();
+        touch_all(&mut self.low, &self.costs, &updates)?;
+        place_all(&mut self.places, alloc, &updates)?;
+        let mut used = Vec::with_capacity(alloc, self.costs.len())?;
+        put_all(&mut self.costs, updates);
+        push_all_used(&mut used, &self.costs);
+        self.used = used;
+        prune(&mut self.low, &self.costs, &self.places);
+        Ok(())
     }
 
     // Takes these levels.
@@ -66,10 +96,57 @@ impl Levels {
         ensures put { IfOk result (λ _. self.new ≡ costs.items) }
         ensures same { IfErr result (λ _. self.new ≡ self.old) }
     {
-        let used = used_levels(*self.costs.allocator(), &costs)?;
+        let alloc = *self.costs.allocator();
+        let places = all_places(alloc, &costs)?;
+        let mut low = all_marks(alloc, &costs)?;
+        let mut used = Vec::with_capacity(alloc, costs.len())?;
+        push_all_used(&mut used, &costs);
+        prune(&mut low, &costs, &places);
         self.costs = costs;
         self.used = used;
+        self.places = places;
+        self.low = low;
         Ok(())
+    }
+
+    // Takes these levels, which differ in their values alone.
+    fn put_values(&mut self, costs: Vec<Costed>)
+        requires kept { AreKept costs.items }
+        requires same { AllZip HasSameRow self.old costs.items }
+        ensures { self.new ≡ costs.items }
+    {
+        self.costs = costs;
+    }
+
+    // Adds the weighted error of a row to its level, or takes it away.
+    fn join(
+        &mut self,
+        row: &Row,
+        side: Side,
+        written: &IntRow,
+        value: Frac,
+        change: Change,
+    ) -> Result<(), TableStop>
+        requires marks { IsOfMarks written.now }
+        requires own { pos 0 <ℤ coefficient (joins.column_of row.now side) written.now }
+        ensures kept { AreKept self.old }
+        ensures changed { IfOk result (λ _. IsChangedList change row.now side written.now value self.old self.new) }
+        ensures stop { IfErr result (IsJoinStop change row.now side written.now value self.old) }
+        ensures same { IfErr result (λ _. self.new ≡ self.old) }
+    {
+        let alloc = *self.costs.allocator();
+        match position_of(&self.costs, row.rank()) {
+            Some(at) => {
+                match held_change(alloc, &self.costs, at, row, side, written, value, change) {
+                    Ok(updates) => Ok(self.apply(updates)?),
+                    Err(stop) => Err(stop),
+                }
+            }
+            None => match absent_change(alloc, &self.costs, row, side, written, value, change) {
+                Ok(costs) => Ok(self.put(costs)?),
+                Err(stop) => Err(stop),
+            },
+        }
     }
 
     /// Follows an exchange of a mark outside for one inside, whose row and value before it are the pivot and its value.
@@ -86,6 +163,7 @@ impl Levels {
         requires marks { IsOfMarks pivot.now }
         requires possible { coefficient (corners.place enter) pivot.now ≢ pos 0 }
         ensures levels { IfOk result (λ _. map (λ w. w.level) self.new ≡ map (λ w. w.level) self.old) }
+        ensures exchanged { IfOk result (λ _. AreExchangedCosts pivot.now value (corners.place enter) (corners.place leave) self.old self.new) }
         ensures swapped { IfOk result (λ _. (ls : List layout.Line) (inside after : ℕ → Bool) → AreCosts ls inside self.old → IsWrittenAt ls inside (corners.place leave) pivot.now value → AreExchanged inside (corners.place enter) (corners.place leave) after → AreCosts ls after self.new) }
         ensures stop { IfErr result (IsSwapStop pivot.now value enter (corners.place enter) (corners.place leave) self.old) }
         ensures same { IfErr result (λ _. self.new ≡ self.old) }
@@ -95,8 +173,9 @@ impl Levels {
         };
         let _kept = value.den();
         let alloc = *self.costs.allocator();
-        match exchanged(alloc, &self.costs, pivot, enter, entering) {
-            Ok(costs) => Ok(self.put(costs)?),
+        let places = self.places.list(enter);
+        match exchanged(alloc, &self.costs, places, pivot, enter, entering) {
+            Ok(updates) => Ok(self.apply(updates)?),
             Err(stop) => Err(stop),
         }
     }
@@ -109,7 +188,10 @@ impl Levels {
         ensures added { IfOk result (λ _. (ls : List layout.Line) (inside : ℕ → Bool) (level : ℕ) (target : Fraction) → AreCosts ls inside self.old → IsNew ls (stay_line level attr target) → IsOutside inside (stay_line level attr target) → AreCosts (ls ++ stay_line level attr target ∷ []) inside self.new) }
         ensures same { IfErr result (λ _. self.new ≡ self.old) }
     {
-        let cost = stay_cost(*self.costs.allocator(), attr)?;
+        let alloc = *self.costs.allocator();
+        let cost = stay_cost(alloc, attr)?;
+        place_row(&mut self.places, alloc, count(&self.costs), cost.row())?;
+        touch(&mut self.low, cost.row())?;
         self.costs.push(cost)?;
         Ok(())
     }
@@ -135,19 +217,7 @@ impl Levels {
     {
         row.show_row();
         let _kept = value.den();
-        let alloc = *self.costs.allocator();
-        match changed(
-            alloc,
-            &self.costs,
-            row,
-            inside.side,
-            written,
-            value,
-            Change::Joins,
-        ) {
-            Ok(costs) => Ok(self.put(costs)?),
-            Err(stop) => Err(stop),
-        }
+        self.join(row, inside.side, written, value, Change::Joins)
     }
 
     /// Takes the weighted error of a row from the cost of its level. `inside` is the row's mark at the corner, `written` its row and `value`
@@ -171,19 +241,7 @@ impl Levels {
     {
         row.show_row();
         let _kept = value.den();
-        let alloc = *self.costs.allocator();
-        match changed(
-            alloc,
-            &self.costs,
-            row,
-            inside.side,
-            written,
-            value,
-            Change::Leaves,
-        ) {
-            Ok(costs) => Ok(self.put(costs)?),
-            Err(stop) => Err(stop),
-        }
+        self.join(row, inside.side, written, value, Change::Leaves)
     }
 
     /// Follows the shift of a row's constant or of a stay's target by `by`.
@@ -198,7 +256,10 @@ impl Levels {
         let _kept = by.den();
         let alloc = *self.costs.allocator();
         match shifted(alloc, &self.costs, row, by) {
-            Ok(costs) => Ok(self.put(costs)?),
+            Ok(costs) => {
+                self.put_values(costs);
+                Ok(())
+            }
             Err(stop) => Err(stop),
         }
     }
@@ -240,7 +301,8 @@ impl Levels {
 
     /// The multiplier of a row or a stay at the level, over the level's scale. It is 0 where the level has no row.
     pub fn multiplier(&self, level: Level, row: RowName) -> i64
-        ensures { result ≡ times_of row (cost_of self.now level).row }
+        ensures value { result ≡ times_of row (cost_of self.now level).row }
+        ensures fits { IsFitting result }
     {
         match self.find(level) {
             Some(cost) => cost.multiplier(row),
@@ -258,185 +320,45 @@ impl Levels {
         }
     }
 
+    /// A mark whose first reduced cost that is not 0, over the levels from the strongest on, is below 0, and None where there is none. It
+    /// has the lowest reduced cost of those at its level.
+    pub fn negative(&self) -> Option<Mark>
+        ensures some { IfSome result (λ m. IsNegativeIn (corners.place m) self.now) }
+        ensures none { IfNone result ((c : ℕ) → c < 17179869184 → IsNonnegativeIn c self.now) }
+    {
+        first_negative(&self.costs, &self.places, &self.low)
+    }
+
+    /// A mark whose reduced cost at the level is below 0, and None where there is none. It has the lowest of them.
+    pub fn negative_at(&self, level: Level) -> Option<Mark>
+        ensures some { IfSome result (λ m. reduced_at (corners.place m) (cost_of self.now level).row <ℤ pos 0) }
+        ensures none { IfNone result ((c : ℕ) → c < 17179869184 → pos 0 ≤ℤ reduced_at c (cost_of self.now level).row) }
+    {
+        match self.find(level) {
+            Some(cost) => lowest(&[], cost),
+            None => None,
+        }
+    }
+
+    /// Shows what all levels keep.
+    pub fn show_levels(&self)
+        ensures { AreKept self.now }
+    {
+        let _ = &self.costs;
+    }
+
     /// Equal levels, which share the rows.
     pub fn copy(&self) -> Result<Levels, OutOfMemory>
         ensures { IfOk result (λ l. l ≡ self.now) }
     {
-        Ok(self.clone()?)
-    }
-}
-
-#[cfg(test)]
-mod tests {
-    use super::*;
-    use crate::counting::are_marks;
-    use problem_core::{Rel, Side, Term, place};
-    use row_core::{Col, Entry, RowStop, are_rising};
-    use std::alloc::Global;
-    use std::test::Fail;
-
-    const LEVEL: Level = Level::Priority(1000);
-
-    const STAY: Level = Level::Stay(1);
-
-    fn held(id: u32, side: Side) -> Mark {
-        Mark {
-            row: RowName::Held(id),
-            side,
-        }
-    }
-
-    fn stay(side: Side) -> Mark {
-        Mark {
-            row: RowName::Stay(1),
-            side,
-        }
-    }
-
-    fn entry(m: Mark, by: i64) -> Entry {
-        Entry {
-            col: Col(place(m)),
-            by,
-        }
-    }
-
-    fn written(alloc: Global, entries: &[Entry]) -> Result<IntRow, RowStop> {
-        if are_rising(entries) {
-            IntRow::of(alloc, entries)
-        } else {
-            Err(RowStop::OutOfMemory)
-        }
-    }
-
-    // The writing of the under mark of row 1 at the first corner.
-    fn first_row(alloc: Global) -> Result<IntRow, RowStop> {
-        let entries = [
-            entry(held(1, Side::Under), 1),
-            entry(held(1, Side::Over), -1),
-            entry(stay(Side::Under), -1),
-            entry(stay(Side::Over), 1),
-        ];
-        written(alloc, &entries)
-    }
-
-    fn at_least(alloc: Global, five: Frac, scale: i64, weight: u16) -> Result<Row, OutOfMemory> {
-        let _kept = five.den();
-        if scale <= 0 || scale > 1 << 30 || weight == 0 || weight > 1000 {
-            return Err(OutOfMemory);
-        }
-        let terms = [Term { attr: 1, by: 1 }];
-        Row::of(alloc, 1, 1000, weight, Rel::Ge, scale, five, &terms)
-    }
-
-    // Adds a row's error where the call's conditions hold.
-    fn add(
-        levels: &mut Levels,
-        row: &Row,
-        inside: Mark,
-        written: &IntRow,
-        value: Frac,
-    ) -> Result<(), TableStop> {
-        let held = Mark {
-            row: RowName::Held(row.id()),
-            side: inside.side,
-        };
-        if inside.row == held.row && are_marks(written) && written.entry(Col(place(held))) > 0 {
-            levels.add_cost(row, inside, written, value)
-        } else {
-            Err(TableStop::OutOfMemory)
-        }
-    }
-
-    // Takes a row's error away where the call's conditions hold.
-    fn drop_error(
-        levels: &mut Levels,
-        row: &Row,
-        inside: Mark,
-        written: &IntRow,
-        value: Frac,
-    ) -> Result<(), TableStop> {
-        let held = Mark {
-            row: RowName::Held(row.id()),
-            side: inside.side,
-        };
-        if inside.row == held.row && are_marks(written) && written.entry(Col(place(held))) > 0 {
-            levels.drop_cost(row, inside, written, value)
-        } else {
-            Err(TableStop::OutOfMemory)
-        }
-    }
-
-    // Follows an exchange where the call's conditions hold.
-    fn exchange(
-        levels: &mut Levels,
-        enter: Mark,
-        leave: Mark,
-        pivot: &IntRow,
-        value: Frac,
-    ) -> Result<(), TableStop> {
-        if are_marks(pivot) && pivot.entry(Col(place(enter))) != 0 {
-            levels.swap(enter, leave, pivot, value)
-        } else {
-            Err(TableStop::OutOfMemory)
-        }
-    }
-
-    #[test]
-    fn levels_follow_an_exchange(rt: HostRuntime) -> Result<(), Fail> {
-        let alloc = rt.alloc();
-        let mut levels = Levels::new(alloc)?;
-        levels.add_stay(1)?;
-        let five = Frac::of(5, 1)?;
-        let row = at_least(alloc, five, 1, 1)?;
-        let pivot = first_row(alloc)?;
-        add(&mut levels, &row, held(1, Side::Under), &pivot, five)?;
-        assert_eq!(rt; levels.cost(LEVEL), five);
-        assert_eq!(rt; levels.cost(STAY), Frac::zero());
-        assert!(rt; levels.in_use() == [LEVEL].as_slice());
-        assert_eq!(rt; levels.reduced(LEVEL, stay(Side::Over)), -1);
-        let kept = levels.copy()?;
-        exchange(
-            &mut levels,
-            stay(Side::Over),
-            held(1, Side::Under),
-            &pivot,
-            five,
-        )?;
-        assert_eq!(rt; levels.cost(LEVEL), Frac::zero());
-        assert_eq!(rt; levels.cost(STAY), five);
-        assert!(rt; levels.in_use() == [STAY].as_slice());
-        let column = |m: Mark| (levels.reduced(LEVEL, m), levels.reduced(STAY, m));
-        assert_eq!(rt; column(held(1, Side::Under)), (1, -1));
-        assert_eq!(rt; column(held(1, Side::Over)), (0, 1));
-        assert_eq!(rt; column(stay(Side::Under)), (0, 2));
-        assert_eq!(rt; column(stay(Side::Over)), (0, 0));
-        assert_eq!(rt; levels.scale(STAY), 1);
-        assert_eq!(rt; levels.multiplier(STAY, RowName::Held(1)), 1);
-        assert_eq!(rt; levels.multiplier(STAY, RowName::Stay(1)), -1);
-        levels.shift(RowName::Held(1), Frac::of((1 << 40) - 6, 1)?)?;
-        assert_eq!(rt; levels.cost(STAY), Frac::of((1 << 40) - 1, 1)?);
-        assert_eq!(rt; levels.cost(LEVEL), Frac::zero());
-        assert_eq!(rt; kept.cost(LEVEL), five);
-        Ok(())
-    }
-
-    #[test]
-    fn errors_join_and_leave(rt: HostRuntime) -> Result<(), Fail> {
-        let alloc = rt.alloc();
-        let mut levels = Levels::new(alloc)?;
-        levels.add_stay(1)?;
-        let ten = Frac::of(10, 1)?;
-        let row = at_least(alloc, ten, 2, 3)?;
-        let pivot = first_row(alloc)?;
-        add(&mut levels, &row, held(1, Side::Under), &pivot, ten)?;
-        assert_eq!(rt; levels.cost(LEVEL), Frac::of(15, 1)?);
-        assert_eq!(rt; levels.scale(LEVEL), 2);
-        assert_eq!(rt; levels.multiplier(LEVEL, RowName::Held(1)), 3);
-        assert_eq!(rt; levels.reduced(LEVEL, stay(Side::Over)), -3);
-        drop_error(&mut levels, &row, held(1, Side::Under), &pivot, ten)?;
-        assert_eq!(rt; levels.cost(LEVEL), Frac::zero());
-        assert_eq!(rt; levels.scale(LEVEL), 1);
-        assert!(rt; levels.in_use().is_empty());
-        Ok(())
+        let alloc = *self.costs.allocator();
+        let mut costs = room(alloc, self.costs.len())?;
+        push_copies(&mut costs, &self.costs)?;
+        Ok(Levels {
+            costs,
+            used: Vec::from_slice(alloc, &self.used)?,
+            places: self.places.copy()?,
+            low: Vec::from_slice(alloc, &self.low)?,
+        })
     }
 }

@@ -5,13 +5,20 @@ mod changing;
 mod costed;
 mod counting;
 mod exchange;
+mod fronts;
 mod joining;
 mod laws;
 mod levels;
 mod listing;
+mod lows;
+mod places;
 mod shifting;
 mod staying;
+#[cfg(test)]
+mod tests;
+mod updates;
 
 pub use counting::are_marks;
-pub use laws::costs_are_columns;
+pub use joining::Change;
+pub use laws::{costs_are_columns, rows_have_weights};
 pub use levels::Levels;

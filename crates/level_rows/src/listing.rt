@@ -1,5 +1,6 @@
 // Lists of levels.
-ghost use Rattle.std.specs.Prelude.{◌≡◌, ◌++◌, ◌∷◌, [], IfOk, IfSome, IfNone};
+ghost use Rattle.std.specs.Prelude.{◌≡◌, ◌<◌, ◌≤◌, ◌+◌, ◌++◌, ◌∷◌, [], length, IfOk, IfSome, IfNone};
+ghost use Rattle.std.specs.Vec.{vec_len, vec_capacity};
 ghost use Rattle.level_rows.specs.Costs.{used_of, cost_of, nothing_at};
 
 use crate::costed::Costed;
@@ -37,22 +38,25 @@ pub(crate) fn found(costs: &[Costed], level: Level) -> Option<&Costed>
 }
 
 // Appends the level where some row has a multiplier.
-fn push_used(out: &mut Vec<Level>, cost: &Costed) -> Result<(), OutOfMemory>
-    ensures { IfOk result (λ _. out.new.items ≡ out.old.items ++ used_of (cost.now ∷ [])) }
+fn push_used(out: &mut Vec<Level>, cost: &Costed)
+    requires { vec_len out.old < vec_capacity out.old }
+    ensures items { out.new.items ≡ out.old.items ++ used_of (cost.now ∷ []) }
+    ensures len { vec_len out.new ≤ vec_len out.old + 1 }
+    ensures capacity { vec_capacity out.new ≡ vec_capacity out.old }
 {
     if has_multiplier(cost.row()) {
-        out.push(cost.level())?;
+        out.push_reserved(cost.level());
     }
-    Ok(())
 }
 
-/// The levels at which some row has a multiplier.
-pub(crate) fn used_levels(alloc: Global, costs: &[Costed]) -> Result<Vec<Level>, OutOfMemory>
-    ensures { IfOk result (λ out. out.items ≡ used_of costs.now) }
+/// Appends the levels at which some row has a multiplier, for which there is room.
+pub(crate) fn push_all_used(out: &mut Vec<Level>, costs: &[Costed])
+    requires empty { out.old.items ≡ [] }
+    requires none { vec_len out.old ≡ 0 }
+    requires room { length costs.now ≤ vec_capacity out.old }
+    ensures { out.new.items ≡ used_of costs.now }
 {
-    let mut out = Vec::new(alloc);
     for cost in costs {
-        push_used(&mut out, cost)?;
+        push_used(out, cost);
     }
-    Ok(out)
 }

@@ -1,17 +1,19 @@
-use Rattle.std.proofs.Common.{◌≡◌, ◌∙◌, ◌+◌, ◌++◌, ◌∷◌, List, take, drop, inl, sym, ap, refl}
-use Rattle.level_rows.specs.Costs.{Cost}
+use Rattle.std.proofs.Common.{◌≡◌, ◌∙◌, ◌+◌, ◌++◌, ◌∷◌, take, drop, inl, sym, ap, refl}
 use Rattle.level_rows.specs.Lists.{rows_after}
-use Rattle.level_rows.proofs.Changed.{held_changed, join_stopped, rest_of}
+use Rattle.level_rows.specs.Updates.{updated}
+use Rattle.level_rows.proofs.Changed.{held_changed, join_stopped}
+use Rattle.level_rows.proofs.Replacing.{set_parts}
 use Rattle.level_rows.proofs.changing.held_change.Goals as goal
 
-pub returns-in_ok-placed-in-Ok-clause-changed : goal.returns-in_ok-placed-in-Ok-clause-changed
-returns-in_ok-placed-in-Ok-clause-changed c =
+pub returns-in_ok-one_update-in-Ok-clause-changed : goal.returns-in_ok-one_update-in-Ok-clause-changed
+returns-in_ok-one_update-in-Ok-clause-changed c =
     let count : c.count_after-first.result ≡ rows_after c.args.change c.index-costs-at.result.rows = c.count_after-first.ensures ∙ ap (rows_after c.args.change) c.rows.ensures in
-    let made : c.in_ok-placed-in-Ok.field-0.items ≡ take c.args.at c.args.costs.now ++ c.in-Ok.new ∷ drop (c.args.at + 1) c.args.costs.now = c.in_ok-placed-in-Ok.ensures ∙ ap (λ (xs : List Cost). take c.args.at c.args.costs.now ++ c.in-Ok.new ∷ xs) (rest_of c.args.costs.now (c.args.at + 1)) in
-    held_changed c.args.change c.args.row.now c.args.side c.args.written.now c.args.value c.args.costs.now c.args.at c.count_after-first.result c.index-costs-at.result c.in-Ok.new c.in_ok-placed-in-Ok.field-0.items c.requires.kept c.requires.within c.index-costs-at.is (c.requires.level c.index-costs-at.result c.index-costs-at.is) c.in-Ok.ensures.joined count c.in-Ok.ensures.rows made
+    let made : updated c.args.costs.now c.in_ok-one_update-in-Ok.field-0.items ≡ take c.args.at c.args.costs.now ++ c.in-Ok.new ∷ drop (c.args.at + 1) c.args.costs.now =
+    ap (updated c.args.costs.now) c.in_ok-one_update-in-Ok.ensures ∙ set_parts c.args.costs.now c.args.at c.in-Ok.new c.requires.within in
+    held_changed c.args.change c.args.row.now c.args.side c.args.written.now c.args.value c.args.costs.now c.args.at c.count_after-first.result c.index-costs-at.result c.in-Ok.new (updated c.args.costs.now c.in_ok-one_update-in-Ok.field-0.items) c.requires.kept c.requires.within c.index-costs-at.is (c.requires.level c.index-costs-at.result c.index-costs-at.is) c.in-Ok.ensures.joined count c.in-Ok.ensures.rows made
 
 pub returns-in-Err-clause-stop : goal.returns-in-Err-clause-stop
 returns-in-Err-clause-stop c =
     let count : c.count_after-first.result ≡ rows_after c.args.change c.index-costs-at.result.rows = c.count_after-first.ensures ∙ ap (rows_after c.args.change) c.rows.ensures in
     join_stopped c.args.change c.args.row.now c.args.side c.args.written.now c.args.value c.args.costs.now c.index-costs-at.result c.count_after-first.result c.in-Err.stop
-    (inl (c.args.at, c.index-costs-at.result, c.requires.within, sym c.index-costs-at.is, refl)) (c.requires.level c.index-costs-at.result c.index-costs-at.is) count c.in-Err.ensures.unfit
+    (inl (c.args.at, c.index-costs-at.result, c.requires.within, sym c.index-costs-at.is, (refl, c.requires.level c.index-costs-at.result c.index-costs-at.is))) (c.requires.level c.index-costs-at.result c.index-costs-at.is) count c.in-Err.ensures.unfit

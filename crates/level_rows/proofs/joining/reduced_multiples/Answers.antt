@@ -15,13 +15,13 @@ pub returns-in_default-clause-none : goal.returns-in_default-clause-none
 returns-in_default-clause-none c =
     let level : pos c.product-level.result ≡ own_of c.args.row.now c.args.error.now *ℤ pos c.args.row.now.scale = search rules in
     let error : pos c.product-error.result ≡ pos c.args.row.now.weight *ℤ scale_of c.args.old.now.row = search rules in
-    too_large c.product-level.result c.product-error.result c.gcd-divisor.result (own_of c.args.row.now c.args.error.now) (pos c.args.row.now.scale) (pos c.args.row.now.weight) (scale_of c.args.old.now.row) c.product-error.ensures.above c.gcd-divisor.ensures level error (inl c.in_default.ensures.none)
+    too_large c.product-level.result c.product-error.result c.gcd-divisor.result (own_of c.args.row.now c.args.error.now) (pos c.args.row.now.scale) (pos c.args.row.now.weight) (scale_of c.args.old.now.row) c.product-level.ensures.above c.product-error.ensures.above c.gcd-divisor.ensures level error (inl c.in_default.ensures.none)
 
 pub returns-in_default-fitting-clause-none : goal.returns-in_default-fitting-clause-none
 returns-in_default-fitting-clause-none c =
     let level : pos c.product-level.result ≡ own_of c.args.row.now c.args.error.now *ℤ pos c.args.row.now.scale = search rules in
     let error : pos c.product-error.result ≡ pos c.args.row.now.weight *ℤ scale_of c.args.old.now.row = search rules in
-    too_large c.product-level.result c.product-error.result c.gcd-divisor.result (own_of c.args.row.now c.args.error.now) (pos c.args.row.now.scale) (pos c.args.row.now.weight) (scale_of c.args.old.now.row) c.product-error.ensures.above c.gcd-divisor.ensures level error (inr c.in_default-fitting.ensures.none)
+    too_large c.product-level.result c.product-error.result c.gcd-divisor.result (own_of c.args.row.now c.args.error.now) (pos c.args.row.now.scale) (pos c.args.row.now.weight) (scale_of c.args.old.now.row) c.product-level.ensures.above c.product-error.ensures.above c.gcd-divisor.ensures level error (inr c.in_default-fitting.ensures.none)
 
 pub returns-clause-level : goal.returns-clause-level
 returns-clause-level c =
