@@ -1,0 +1,8 @@
+//! A tableau and the costs of its levels, kept together.
+#![tactic(auto)]
+
+mod joint;
+mod laws;
+
+pub use joint::{add_attr, add_row, shift, stand, start, swap};
+pub use laws::{cost_refutes, end_is_best, negative_column_has_exchange};
