@@ -1,2 +1,5 @@
-pub mod RowKeys
 pub mod Runs
+pub mod Shares
+pub mod Ratios
+pub mod Steps
+pub mod InsideMarks

@@ -1,14 +1,12 @@
 //! Runs from corner to corner down to one that is best, or to a conflict.
 #![tactic(auto)]
 
-mod by_rows;
-mod certificates;
-mod choice;
-mod costs;
-mod levels;
-mod multipliers;
+mod conflicts;
+mod corners;
+mod laws;
 mod ratios;
+mod runs;
 mod settling;
 
-pub use certificates::certificate;
+pub use laws::paths_are_short;
 pub use settling::settle;

@@ -1,147 +1,136 @@
 // The run to a corner without negative columns.
-ghost use Rattle.std.specs.Prelude.{◌≡◌, ◌≤◌, ◌+◌, ℕ, [], length, IfOk, IfErr};
-ghost use Rattle.add_phase.specs.Runs.{IsSpentAt};
+ghost use Rattle.std.specs.Prelude.{◌≡◌, ◌<◌, ◌≤◌, ◌<ℤ◌, ◌≤ℤ◌, pos, ℕ, length, IfOk, IfErr, IfSome, IfNone};
+ghost use Rattle.problem_core.specs.Layout as layout;
+ghost use Rattle.problem_core.specs.Corners as corners;
+ghost use Rattle.problem_core.specs.Corners.{IsPrimalPath};
+ghost use Rattle.problem_core.specs.declared.parts.Level.TheVariants.{Priority};
+ghost use Rattle.tableau.specs.Tables.{Table};
+ghost use Rattle.level_rows.specs.Costs.{cost_of, reduced_at};
+ghost use Rattle.level_rows.specs.Fronts.{IsNegativeIn};
+ghost use Rattle.corner_costs.specs.Corners.{AreCostsAt, IsEnd, NoNegativeValue};
+ghost use Rattle.add_phase.specs.Ratios.{IsLeast};
+ghost use Rattle.add_phase.specs.Runs.{BeginsAt, IsRunStop};
+ghost use Rattle.add_phase.specs.Steps.{AreInside, last_marks};
 
-use crate::certificates::conflict_at;
-use crate::choice::{Found, find};
-use crate::levels::corner_of;
+use crate::conflicts::{conflict_stop, required_level};
 use crate::ratios::leaving;
-use cert_core::{Path, RunStop, Swap, UnfitPath};
-use frac_core::OutOfMemory;
-use problem_core::{Mark, Problem, Quantity, TableStop, What};
-use row_core::IntRow;
+use crate::runs::Run;
+use cert_core::{Path, RunStop};
+use corner_costs::{cost_refutes, negative_column_has_exchange};
+use level_rows::Levels;
+use problem_core::{Mark, Problem, place};
 use std::alloc::Global;
 use tableau::Tableau;
 
-/// The first corner of a run, the marks inside now, and the exchanges between.
-#[derive(Drop)]
-struct Run {
-    corner: Vec<Mark>,
-    inside: Vec<Mark>,
-    swaps: Vec<Swap>,
-}
-
-impl Run {
-    fn of(alloc: Global, t: &Tableau, p: &Problem) -> Result<Run, OutOfMemory>
-        ensures { IfOk result (λ run. run.swaps.items ≡ []) }
-    {
-        Ok(Run {
-            corner: corner_of(alloc, t, p)?,
-            inside: corner_of(alloc, t, p)?,
-            swaps: Vec::new(alloc),
-        })
-    }
-
-    /// The path so far.
-    fn path(&self, alloc: Global) -> Result<Path, OutOfMemory>
-        ensures { IfOk result (λ path. path.swaps ≡ self.now.swaps.items) }
-    {
-        Path::of(alloc, false, &self.corner, &self.swaps)
-    }
-
-    /// The quantity as the path names it: the cost of a level's first rows counts only where no exchange was made.
-    fn named(&self, quantity: Quantity) -> Quantity {
-        match quantity {
-            Quantity::Rows { level, .. } if !self.swaps.is_empty() => {
-                Quantity::Plain(What::Level(level))
-            }
-            other => other,
-        }
-    }
-
-    /// The stop that a stop of the tableau or of a cost leads to.
-    fn stop(&self, alloc: Global, stop: TableStop) -> RunStop
-        ensures { (budget : ℕ) → IsSpentAt budget result }
-    {
-        let TableStop::UnfitAt(quantity) = stop else {
-            return RunStop::OutOfMemory;
-        };
-        let quantity = self.named(quantity);
-        match self.path(alloc) {
-            Ok(path) => RunStop::Unfit(UnfitPath { path, quantity }),
-            Err(_) => RunStop::OutOfMemory,
-        }
-    }
-
-    /// The stop where the exchanges are used up.
-    fn spent(&self, alloc: Global) -> RunStop
-        ensures { IsSpentAt (length self.now.swaps.items) result }
-    {
-        match self.path(alloc) {
-            Ok(path) => RunStop::Spent(path),
-            Err(_) => RunStop::OutOfMemory,
-        }
-    }
-
-    /// Exchanges two marks.
-    fn exchange(&mut self, alloc: Global, t: &mut Tableau, swap: Swap) -> Result<(), RunStop>
-        ensures more { IfOk result (λ _. length self.new.swaps.items ≡ length self.old.swaps.items + 1) }
-        ensures stop { IfErr result (λ stop. (budget : ℕ) → IsSpentAt budget stop) }
-    {
-        if !t.can_swap(swap.enter, swap.leave) {
-            return Err(RunStop::Unshown);
-        }
-        if self.swaps.push(swap).is_err() {
-            return Err(RunStop::OutOfMemory);
-        }
-        for m in self.inside.iter_mut() {
-            if *m == swap.leave {
-                *m = swap.enter;
-            }
-        }
-        match t.swap(swap.enter, swap.leave) {
-            Ok(()) => Ok(()),
-            Err(stop) => Err(self.stop(alloc, stop)),
-        }
-    }
-}
-
-/// The stop at a conflict.
-fn conflict_stop(alloc: Global, p: &Problem, row: &IntRow) -> RunStop
-    ensures { (budget : ℕ) → IsSpentAt budget result }
+/// The stop where the required rows cost and no column is negative at their level.
+fn required_stop(alloc: Global, t: &Tableau, l: &Levels, p: &Problem) -> RunStop
+    requires problem { p.now ≡ t.now.problem }
+    requires costs { AreCostsAt t.now l.now }
+    requires above { pos 0 <ℤ (cost_of l.now (Priority 1000)).value.num }
+    requires columns { (c : ℕ) → c < 17179869184 → pos 0 ≤ℤ reduced_at c (cost_of l.now (Priority 1000)).row }
+    ensures begins { (first : Table) → BeginsAt first result }
+    ensures stop { (budget : ℕ) → IsRunStop p.now budget result }
 {
-    match conflict_at(alloc, p, row) {
-        Ok(Some(conflict)) => RunStop::Conflict(conflict),
-        Ok(None) => RunStop::Unshown,
-        Err(_) => RunStop::OutOfMemory,
+    t.show_table();
+    l.show_levels();
+    cost_refutes();
+    conflict_stop(alloc, l, p)
+}
+
+/// The mark that enters next, and None at the end of the run.
+fn entering(alloc: Global, t: &Tableau, l: &Levels, p: &Problem) -> Result<Option<Mark>, RunStop>
+    requires problem { p.now ≡ t.now.problem }
+    requires costs { AreCostsAt t.now l.now }
+    ensures negative { IfOk result (λ found. IfSome found (λ m. IsNegativeIn (corners.place m) l.now)) }
+    ensures required { IfOk result (λ found. IfSome found (λ m. pos 0 <ℤ (cost_of l.now (Priority 1000)).value.num → reduced_at (corners.place m) (cost_of l.now (Priority 1000)).row <ℤ pos 0)) }
+    ensures end { IfOk result (λ found. IfNone found (IsEnd l.now)) }
+    ensures begins { IfErr result (λ stop. (first : Table) → BeginsAt first stop) }
+    ensures stop { IfErr result (λ stop. (budget : ℕ) → IsRunStop p.now budget stop) }
+{
+    let level = required_level();
+    let cost = l.cost(level);
+    if cost.num() == 0 {
+        return Ok(l.negative());
+    }
+    if cost.num() < 0 {
+        return Err(RunStop::Unshown);
+    }
+    if l.negative_at(level).is_none() {
+        return Err(required_stop(alloc, t, l, p));
+    }
+    let Some(m) = l.negative() else {
+        return Err(RunStop::Unshown);
+    };
+    if l.reduced(level, m) < 0 {
+        Ok(Some(m))
+    } else {
+        Err(RunStop::Unshown)
     }
 }
 
-/// The next exchange, and None at the end of the run.
-fn next_swap(alloc: Global, t: &Tableau, p: &Problem, run: &Run) -> Result<Option<Swap>, RunStop>
-    ensures { IfErr result (λ stop. (budget : ℕ) → IsSpentAt budget stop) }
+/// The mark that leaves where a mark with a negative column enters.
+fn leaves(t: &Tableau, l: &Levels, enter: Mark, first: &[Mark]) -> Result<Mark, RunStop>
+    requires costs { AreCostsAt t.now l.now }
+    requires negative { IsNegativeIn (corners.place enter) l.now }
+    ensures least { IfOk result (IsLeast t.now (corners.place enter) first.now) }
+    ensures begins { IfErr result (λ stop. (first : Table) → BeginsAt first stop) }
+    ensures stop { IfErr result (λ stop. (p : layout.Problem) (budget : ℕ) → IsRunStop p budget stop) }
 {
-    match find(alloc, t, p) {
-        Err(stop) => Err(run.stop(alloc, stop)),
-        Ok(Found::End) => Ok(None),
-        Ok(Found::Conflict(row)) => Err(conflict_stop(alloc, p, &row)),
-        Ok(Found::Enters(enter)) => match leaving(t, &run.inside, enter, &run.corner) {
-            Some(leave) => Ok(Some(Swap { enter, leave })),
-            None => Err(RunStop::Unshown),
-        },
+    t.show_table();
+    l.show_levels();
+    let _below = place(enter);
+    negative_column_has_exchange();
+    match leaving(t, enter, first) {
+        Some(leave) => Ok(leave),
+        None => {
+            prove!(false);
+            Err(RunStop::Unshown)
+        }
     }
 }
 
 /// Exchanges marks until no column is lexicographically negative.
 ///
-/// The tableau is of the problem's rows and stays, and no value of a mark is negative. The path begins at the corner that was there.
-/// `Conflict`: the required rows cost, and no column is negative at their level. `Spent`: as many exchanges as the budget were made.
-/// `Unfit`: a quantity does not fit at the last corner of the path. `Unshown`: no exchange is possible.
-pub fn settle(alloc: Global, t: &mut Tableau, p: &Problem, budget: u64) -> Result<Path, RunStop>
+/// `p` is the tableau's problem. The path begins at the tableau's corner, and comes to no corner twice. `Conflict`: the multipliers refute
+/// the required rows. `Spent`: as many exchanges as the budget were made, and the last corner is no end. `Unfit`: a quantity does not fit
+/// at the corner that the path's last exchange leads to. The lexicographic rule against cycles is that of Dantzig, Orden and Wolfe.
+pub fn settle(
+    alloc: Global,
+    t: &mut Tableau,
+    l: &mut Levels,
+    p: &Problem,
+    budget: u64,
+) -> Result<Path, RunStop>
+    requires problem { p.now ≡ t.old.problem }
+    requires costs { AreCostsAt t.old l.old }
+    requires values { NoNegativeValue t.old }
+    ensures problem { IfOk result (λ _. t.new.problem ≡ t.old.problem) }
+    ensures costs { IfOk result (λ _. AreCostsAt t.new l.new) }
+    ensures values { IfOk result (λ _. NoNegativeValue t.new) }
+    ensures end { IfOk result (λ _. IsEnd l.new) }
+    ensures first { IfOk result (λ path. AreInside t.old path.corner) }
+    ensures path { IfOk result (λ path. IsPrimalPath p.now path.corner path.swaps) }
+    ensures corner { IfOk result (λ path. AreInside t.new (last_marks path.corner path.swaps)) }
     ensures few { IfOk result (λ path. length path.swaps ≤ budget) }
-    ensures spent { IfErr result (IsSpentAt budget) }
+    ensures begins { IfErr result (BeginsAt t.old) }
+    ensures stop { IfErr result (IsRunStop p.now budget) }
 {
-    let mut run = Run::of(alloc, t, p)?;
+    let mut run = Run::of(alloc, t, l, p)?;
     loop {
-        let swap = match next_swap(alloc, t, p, &run) {
-            Ok(Some(swap)) => swap,
-            Ok(None) => return Ok(run.path(alloc)?),
+        let enter = match entering(alloc, t, l, p) {
+            Ok(Some(enter)) => enter,
+            Ok(None) => return Ok(run.path()?),
             Err(stop) => return Err(stop),
         };
-        if run.swaps.len() as u64 >= budget {
-            return Err(run.spent(alloc));
+        let leave = match leaves(t, l, enter, run.corner()) {
+            Ok(leave) => leave,
+            Err(stop) => return Err(stop),
+        };
+        let _below = place(enter);
+        if run.is_spent(budget) {
+            return Err(run.spent());
         }
-        if let Err(stop) = run.exchange(alloc, t, swap) {
+        if let Err(stop) = run.exchange(t, l, enter, leave) {
             return Err(stop);
         }
     }

@@ -1,8 +1,14 @@
-use Rattle.std.proofs.Common.{◌≤◌, ◌-◌, length}
+use Rattle.std.proofs.Common.{◌≡◌, ◌≤◌, ◌-◌, length}
+use Rattle.add_phase.specs.Steps.{AreInside, HasRun}
 use Rattle.add_phase.proofs.settling.settle.Given as goal
 
-abbrev pub invariant-loop-swap : goal.invariant-loop-swap
-invariant-loop-swap l = length l.run.swaps.items ≤ l.budget
+abbrev pub invariant-loop-enter : goal.invariant-loop-enter
+invariant-loop-enter l = record {
+  problem : l.t.problem ≡ l.fn.t.problem;
+  marks : AreInside l.fn.t l.run.corner.items;
+  run : HasRun l.run.corner.items l.run.swaps.items l.t l.l;
+  few : length l.run.swaps.items ≤ l.budget;
+}
 
-abbrev pub decreases-loop-swap : goal.decreases-loop-swap
-decreases-loop-swap l = l.budget - length l.run.swaps.items
+abbrev pub decreases-loop-enter : goal.decreases-loop-enter
+decreases-loop-enter l = l.budget - length l.run.swaps.items

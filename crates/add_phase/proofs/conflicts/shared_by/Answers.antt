@@ -1,0 +1,11 @@
+use Rattle.std.proofs.Common.{rules, SFits, ℤ, subst}
+use Rattle.std.specs.Int.{w64, ◌∣◌}
+use Rattle.std.specs.Int.RustNames.{unsigned_abs}
+use Rattle.std.proofs.lemmas.Int.{to_z-of_z}
+use Rattle.add_phase.proofs.conflicts.shared_by.Goals as goal
+
+pub returns-then-rank-eq1000-clause-times : goal.returns-then-rank-eq1000-clause-times
+returns-then-rank-eq1000-clause-times c = λ _.
+    let fits : SFits w64 c.multiplier.result = search rules in
+    let divides = simp to_z-of_z at c.shared.ensures.times in
+    subst (λ (z : ℤ). ◌∣◌ c.shared.result (unsigned_abs z)) c.multiplier.ensures.value divides

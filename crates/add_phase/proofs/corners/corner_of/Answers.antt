@@ -1,0 +1,18 @@
+use Rattle.std.proofs.Common.{◌≡◌, ◌∙◌, ◌++◌, List, sym, ap, subst}
+use Rattle.problem_core.specs.declared.parts.Mark.{Mark}
+use Rattle.problem_core.specs.Layout.{Problem}
+use Rattle.corner_costs.specs.Corners.{inside_of}
+use Rattle.add_phase.specs.InsideMarks.{row_marks, stay_marks}
+use Rattle.add_phase.specs.Steps.{AreInside}
+use Rattle.add_phase.proofs.PathInside.{corner_marks}
+use Rattle.add_phase.proofs.corners.corner_of.Goals as goal
+
+pub returns : goal.returns
+returns c =
+    let rows : c.push_rows.new.out.items ≡ row_marks (inside_of c.args.t.now) c.args.p.now.rows =
+    c.in_ok-push_rows.ensures ∙ ap (λ (ms : List Mark). ms ++ row_marks (inside_of c.args.t.now) c.args.p.now.rows) c.new-corner.ensures.items in
+    subst (AreInside c.args.t.now)
+    (sym (c.in_ok-push_stays.ensures
+    ∙ ap (λ (ms : List Mark). ms ++ stay_marks (inside_of c.args.t.now) c.args.p.now.stays) rows
+    ∙ ap (λ (p : Problem). row_marks (inside_of c.args.t.now) p.rows ++ stay_marks (inside_of c.args.t.now) p.stays) c.requires))
+    (corner_marks c.args.t.now c.show_table.ensures)

@@ -1,0 +1,24 @@
+-- Multipliers of the required rows without a common factor.
+use Rattle.std.specs.Prelude.{◌≡◌, ◌≢◌, ℕ, List, ℤ, pos, ◌*ℤ◌, unsigned_abs, All}
+use Rattle.std.specs.Int.{◌∣◌}
+use Rattle.problem_core.specs.declared.parts.RowName.TheVariants.{Held}
+use Rattle.problem_core.specs.declared.parts.Level.TheVariants.{Priority}
+use Rattle.problem_core.specs.Layout.{Row}
+use Rattle.cert_core.specs.declared.by.By.{By}
+use Rattle.cert_core.specs.Claims.{AreBys, times_of}
+use Rattle.level_rows.specs.Costs as costs
+use Rattle.level_rows.specs.Costs.{Cost, cost_of}
+
+-- the multiplier of the row with this number at the level of the required rows
+abbrev pub required_times : List Cost → ℕ → ℤ
+required_times levels id = costs.times_of (Held id) (cost_of levels (Priority 1000)).row
+
+-- the factor divides the row's multiplier, where the row is required
+abbrev pub IsDivisor : ℕ → (ℕ → ℤ) → Row → Type 0
+IsDivisor g y r = r.rank ≡ 1000 → g ∣ unsigned_abs (y r.id)
+
+-- the multipliers of the required ones of these rows, each divided by g, and no others
+pub record AreShares (y : ℕ → ℤ) (g : ℕ) (rows : List Row) (by : List By) : Type 0 where
+  pub times : All (λ r. r.rank ≡ 1000 → pos g *ℤ times_of by (Held r.id) ≡ y r.id) rows
+  pub absent : (id : ℕ) → All (λ r. r.id ≢ id) rows → All (λ b. b.row ≢ Held id) by
+  pub kept : AreBys by
