@@ -5,7 +5,7 @@ use Rattle.std.proofs.lemmas.List.Elements.{All-push}
 use Rattle.frac_core.specs.Fraction.{Fraction, IsKept}
 use Rattle.problem_core.specs.declared.parts.Stay.{Stay}
 use Rattle.problem_core.specs.Gaps.{value_of}
-use Rattle.add_phase.proofs.Rising.{AreRisingTo, rising_more}
+use Rattle.layout_engine.proofs.Rising.{AreRisingTo, rising_more}
 
 pub rising_item : {X : Type 0} (f : X → ℕ) (xs : List X) (i n : ℕ) (x : X) → i < length xs → x ≡ get_or xs i x → AreRisingTo f (take i xs) n → n ≤ f x → AreRisingTo f (take (i + 1) xs) (f x + 1)
 rising_item f xs i n x within is before above =

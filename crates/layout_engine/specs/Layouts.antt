@@ -1,9 +1,12 @@
 -- A layout: a problem with its best values, and what it becomes.
-use Rattle.std.specs.Prelude.{◌≡◌, ℕ, List, ◌++◌, map, All}
+use Rattle.std.specs.Prelude.{◌≡◌, ℕ, ◌≤◌, List, [], ◌++◌, map, All}
 use Rattle.frac_core.specs.Fraction.{Fraction, IsLowest}
 use Rattle.problem_core.specs.declared.parts.Stay.{Stay}
 use Rattle.problem_core.specs.Layout.{Row, Problem, Assignment, IsBest, Gives}
 use Rattle.problem_core.specs.Window.{zero_fraction}
+use Rattle.tableau.specs.Tables.{Table, column_of}
+use Rattle.level_rows.specs.Costs.{Cost}
+use Rattle.corner_costs.specs.Corners.{AreCostsAt, NoNegativeValue, IsEnd}
 
 -- The fractions in lowest terms are the values that a best assignment gives the stays' attributes. No other list is.
 pub record AreBest (problem : Problem) (values : List (ℕ × Fraction)) : Type 0 where
@@ -22,6 +25,19 @@ stays_at values = map (λ v. record { attr = v.0; target = v.1 }) values
 -- the attributes at 0
 abbrev pub zeros : List ℕ → List (ℕ × Fraction)
 zeros attrs = map (λ a. (a, zero_fraction)) attrs
+
+-- the tableau has no row, and no mark is inside
+pub record HasNoRow (t : Table) : Type 0 where
+  pub rows : t.problem.rows ≡ []
+  pub marks : All (λ w. 17179869184 ≤ column_of w.what) t.written
+
+-- what an engine keeps: the best values of its problem, and an end at which they stand
+pub record IsKept (p : Problem) (pairs : List (ℕ × Fraction)) (t : Table) (levels : List Cost) : Type 0 where
+  pub best : AreBest p pairs
+  pub problem : t.problem ≡ p
+  pub costs : AreCostsAt t levels
+  pub values : NoNegativeValue t
+  pub end : IsEnd levels
 
 -- In both that follow the stays have moved to the values before.
 

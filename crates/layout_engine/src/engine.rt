@@ -1,14 +1,17 @@
 // The engine.
 ghost use Rattle.std.specs.Prelude.{◌≡◌, ◌≢◌, ◌≤◌, [], length, All, IfOk, IfErr, IfSome, IfNone, OnErr};
 ghost use Rattle.problem_core.specs.Gaps.{value_of};
+ghost use Rattle.problem_core.specs.Kept.{IsWhole};
+ghost use Rattle.corner_costs.specs.Corners.{AreCostsAt, NoNegativeValue};
 ghost use Rattle.layout_engine.specs.Stops.{IsStopOf};
 
-use crate::accepting::{accepted_stop, best_values};
-use crate::corners::{extended, fresh, run_stop};
 use crate::problems::{added, renewed};
+use crate::reading::best_values;
+use crate::starts::{begin, extend, run_stop};
 use add_phase::settle;
 use cert_core::{Path, RunStop};
 use frac_core::{Frac, OutOfMemory};
+use level_rows::Levels;
 use problem_core::{Problem, Row, Values, errorless_is_best};
 use std::alloc::Global;
 use std::marker::Model;
@@ -20,50 +23,52 @@ pub struct Engine {
     problem: Problem,
     values: Values,
     table: Tableau,
+    levels: Levels,
     alloc: Global,
 }
 
 impl Model for Engine {
-    ghost use Rattle.layout_engine.specs.Layouts.{Layout, AreBest};
+    ghost use Rattle.layout_engine.specs.Layouts.{Layout, IsKept};
 
     ghost Value = { Layout };
 
     ghost view = { λ e. record { problem = e.problem; values = e.values } };
 
-    ghost invariant = { λ e. AreBest e.problem e.values };
+    ghost invariant = { λ e. IsKept e.problem e.values e.table e.levels };
 }
 
-/// What an accepted run leads to.
+/// What a run leads to.
 #[derive(Drop)]
 struct Settled {
     path: Path,
     values: Values,
-    table: Tableau,
 }
 
-ghost use Rattle.layout_engine.specs.Layouts.{AreBest, with_added, with_rows};
+ghost use Rattle.layout_engine.specs.Layouts.{AreBest, IsKept, with_added, with_rows};
 
-/// Runs from the tableau's corner to the best one.
+/// Runs from the corner to the best one.
 fn run_to_best(
     alloc: Global,
-    mut table: Tableau,
+    t: &mut Tableau,
+    l: &mut Levels,
     p: &Problem,
     budget: u64,
 ) -> Result<Settled, RunStop>
-    ensures best { IfOk result (λ end. AreBest p.now end.values) }
+    requires problem { t.old.problem ≡ p.now }
+    requires costs { AreCostsAt t.old l.old }
+    requires values { NoNegativeValue t.old }
+    ensures kept { IfOk result (λ end. IsKept p.now end.values t.new l.new) }
     ensures few { IfOk result (λ end. length end.path.swaps ≤ budget) }
     ensures stop { IfErr result (IsStopOf p.now budget) }
 {
-    match settle(alloc, &mut table, p, budget) {
-        Ok(path) => match best_values(alloc, &table, p) {
-            Ok(values) => Ok(Settled {
-                path,
-                values,
-                table,
-            }),
-            Err(stop) => Err(stop),
-        },
-        Err(stop) => Err(accepted_stop(alloc, p, stop)),
+    p.show_whole();
+    let path = match settle(alloc, t, l, p, budget) {
+        Ok(path) => path,
+        Err(stop) => return Err(stop),
+    };
+    match best_values(alloc, t, l, p) {
+        Ok(values) => Ok(Settled { path, values }),
+        Err(stop) => Err(stop),
     }
 }
 
@@ -104,6 +109,7 @@ impl Engine {
             problem: empty_problem(alloc),
             values: no_values(alloc)?,
             table: Tableau::new(alloc),
+            levels: Levels::new(alloc)?,
             alloc,
         })
     }
@@ -112,9 +118,10 @@ impl Engine {
     /// corner that was kept, with the mark of each new row that is not negative.
     ///
     /// `Conflict`: the required rows have no solution, as the multipliers show. `Unfit`: a quantity does not fit at the last corner
-    /// of the path. `Spent`: the path has as many exchanges as the budget. `Unshown`: the rows and attributes make no problem, or
-    /// what the run led to was not shown to be right. After each of them the engine is as before.
+    /// of the path. `Spent`: the path has as many exchanges as the budget. `Unshown`: what the run led to was not
+    /// shown to be right. After each of them the engine is as before.
     pub fn add(&mut self, attrs: &[u32], rows: &[Row], budget: u64) -> Result<Path, RunStop>
+        requires whole { IsWhole (with_added self.old attrs.now rows.now) }
         ensures done { IfOk result (λ _. self.new.problem ≡ with_added self.old attrs.now rows.now) }
         ensures few { IfOk result (λ path. length path.swaps ≤ budget) }
         ensures stop { IfErr result (IsStopOf (with_added self.old attrs.now rows.now) budget) }
@@ -122,19 +129,17 @@ impl Engine {
     {
         let alloc = self.alloc;
         let (held, values) = (self.problem.rows(), self.values.pairs());
-        let Some(problem) = added(alloc, held, values, attrs, rows)? else {
-            return Err(RunStop::Unshown);
-        };
-        let stays = self.problem.stays();
-        let table = match extended(alloc, &self.table, stays, &problem, attrs, rows) {
-            Ok(table) => table,
-            Err(stop) => return Err(run_stop(stop)),
-        };
-        match run_to_best(alloc, table, &problem, budget) {
+        let problem = added(alloc, held, values, attrs, rows)?;
+        let (mut table, mut levels) = (self.table.copy()?, self.levels.copy()?);
+        if let Err(stop) = extend(alloc, &mut table, &mut levels, &problem, attrs, rows) {
+            return Err(run_stop(stop));
+        }
+        match run_to_best(alloc, &mut table, &mut levels, &problem, budget) {
             Ok(end) => {
                 self.problem = problem;
                 self.values = end.values;
-                self.table = end.table;
+                self.table = table;
+                self.levels = levels;
                 Ok(end.path)
             }
             Err(stop) => Err(stop),
@@ -146,24 +151,24 @@ impl Engine {
     ///
     /// The stops are those of `add`.
     pub fn renew(&mut self, rows: &[Row], budget: u64) -> Result<Path, RunStop>
+        requires whole { IsWhole (with_rows self.old rows.now) }
         ensures done { IfOk result (λ _. self.new.problem ≡ with_rows self.old rows.now) }
         ensures few { IfOk result (λ path. length path.swaps ≤ budget) }
         ensures stop { IfErr result (IsStopOf (with_rows self.old rows.now) budget) }
         ensures same { OnErr result (self.new ≡ self.old) }
     {
         let alloc = self.alloc;
-        let Some(problem) = renewed(alloc, self.values.pairs(), rows)? else {
-            return Err(RunStop::Unshown);
-        };
-        let table = match fresh(alloc, &problem) {
-            Ok(table) => table,
-            Err(stop) => return Err(run_stop(stop)),
-        };
-        match run_to_best(alloc, table, &problem, budget) {
+        let problem = renewed(alloc, self.values.pairs(), rows)?;
+        let (mut table, mut levels) = (Tableau::new(alloc), Levels::new(alloc)?);
+        if let Err(stop) = begin(alloc, &mut table, &mut levels, &problem) {
+            return Err(run_stop(stop));
+        }
+        match run_to_best(alloc, &mut table, &mut levels, &problem, budget) {
             Ok(end) => {
                 self.problem = problem;
                 self.values = end.values;
-                self.table = end.table;
+                self.table = table;
+                self.levels = levels;
                 Ok(end.path)
             }
             Err(stop) => Err(stop),

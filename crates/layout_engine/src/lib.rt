@@ -1,10 +1,10 @@
 //! The engine: a layout problem and its best values, changed step by step.
 #![tactic(auto)]
 
-mod accepting;
-mod corners;
 mod engine;
 mod problems;
-mod wholes;
+mod reading;
+mod showing;
+mod starts;
 
 pub use engine::Engine;

@@ -1,8 +1,8 @@
 // Problems with the stays at the present values.
-ghost use Rattle.std.specs.Prelude.{◌≡◌, ◌++◌, IfOk, IfSome};
+ghost use Rattle.std.specs.Prelude.{◌≡◌, ◌++◌, IfOk};
+ghost use Rattle.problem_core.specs.Kept.{IsWhole};
 ghost use Rattle.layout_engine.specs.Layouts.{stays_at, zeros};
 
-use crate::wholes::are_whole;
 use frac_core::{Frac, OutOfMemory};
 use problem_core::{Problem, Row, Stay};
 use std::alloc::Global;
@@ -75,42 +75,33 @@ fn joined_stays(
     Ok(all)
 }
 
-/// The problem of these rows and stays, if they make one.
-fn whole(rows: Vec<Row>, stays: Vec<Stay>) -> Option<Problem>
-    ensures { IfSome result (λ p. p ≡ record { rows = rows.items; stays = stays.items }) }
-{
-    if are_whole(&rows, &stays) {
-        Some(Problem::of(rows, stays))
-    } else {
-        None
-    }
-}
-
-/// The old rows and the new ones with the stays at these values and the new ones at 0, if they make a problem.
+/// The problem of the old rows and the new ones, with the stays at these values and the new ones at 0.
 pub(crate) fn added(
     alloc: Global,
     old: &[Row],
     values: &[(u32, Frac)],
     attrs: &[u32],
     rows: &[Row],
-) -> Result<Option<Problem>, OutOfMemory>
-    ensures { IfOk result (λ found. IfSome found (λ p. p ≡ record { rows = old.now ++ rows.now; stays = stays_at (values.now ++ zeros attrs.now) })) }
+) -> Result<Problem, OutOfMemory>
+    requires { IsWhole (record { rows = old.now ++ rows.now; stays = stays_at (values.now ++ zeros attrs.now) }) }
+    ensures { IfOk result (λ p. p ≡ record { rows = old.now ++ rows.now; stays = stays_at (values.now ++ zeros attrs.now) }) }
 {
     let all = joined_rows(alloc, old, rows)?;
     let stays = joined_stays(alloc, values, attrs)?;
-    Ok(whole(all, stays))
+    Ok(Problem::of(all, stays))
 }
 
-/// The rows with the stays at these values, if they make a problem.
+/// The problem of the rows with the stays at these values.
 pub(crate) fn renewed(
     alloc: Global,
     values: &[(u32, Frac)],
     rows: &[Row],
-) -> Result<Option<Problem>, OutOfMemory>
-    ensures { IfOk result (λ found. IfSome found (λ p. p ≡ record { rows = rows.now; stays = stays_at values.now })) }
+) -> Result<Problem, OutOfMemory>
+    requires { IsWhole (record { rows = rows.now; stays = stays_at values.now }) }
+    ensures { IfOk result (λ p. p ≡ record { rows = rows.now; stays = stays_at values.now }) }
 {
     let all = joined_rows(alloc, &[], rows)?;
     let mut stays = Vec::new(alloc);
     push_stays(&mut stays, values)?;
-    Ok(whole(all, stays))
+    Ok(Problem::of(all, stays))
 }

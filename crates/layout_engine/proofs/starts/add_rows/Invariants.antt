@@ -1,0 +1,10 @@
+use Rattle.std.proofs.Common.{◌≡◌, ◌++◌, take}
+use Rattle.corner_costs.specs.Corners.{AreCostsAt, NoNegativeValue}
+use Rattle.layout_engine.proofs.starts.add_rows.Given as goal
+
+abbrev pub invariant-loop-i : goal.invariant-loop-i
+invariant-loop-i l = record {
+  costs : AreCostsAt l.t l.l;
+  values : NoNegativeValue l.t;
+  rows : l.t.problem.rows ≡ l.fn.t.problem.rows ++ take l.i l.rows;
+}

@@ -1,0 +1,9 @@
+use Rattle.corner_costs.specs.Corners.{AreCostsAt}
+use Rattle.layout_engine.specs.Layouts.{HasNoRow}
+use Rattle.layout_engine.proofs.starts.add_stays.Given as goal
+
+abbrev pub invariant-loop-stay : goal.invariant-loop-stay
+invariant-loop-stay l = record {
+  costs : AreCostsAt l.t l.l;
+  none : HasNoRow l.t;
+}
