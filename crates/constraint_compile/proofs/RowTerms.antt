@@ -99,7 +99,7 @@ absent v (t ∷ terms) all =
     let no : cond (nat_eq t.attr v) t.by (pos 0) ≡ pos 0 = rw (ne_eqb t.attr v (all zero t (omega arith))) refl in
     omega (arith, ints, no, absent v terms (λ k d h. all (suc k) d (omega (arith, h))))
 
-coefficient_at : (terms : List Term) (k : ℕ) (d : Term) → AllPairs (λ (s t : Term). s.attr < t.attr) terms → k < length terms → coefficient (get_or terms k d).attr terms ≡ (get_or terms k d).by
+pub coefficient_at : (terms : List Term) (k : ℕ) (d : Term) → AllPairs (λ (s t : Term). s.attr < t.attr) terms → k < length terms → coefficient (get_or terms k d).attr terms ≡ (get_or terms k d).by
 coefficient_at [] k d rising within = absurd (omega (arith, within))
 coefficient_at (t ∷ terms) zero d rising within =
     let yes : cond (nat_eq t.attr t.attr) t.by (pos 0) ≡ t.by = rw (eq-eqb t.attr t.attr refl) refl in
@@ -110,7 +110,7 @@ coefficient_at (t ∷ terms) (suc k) d rising within =
     let no : cond (nat_eq t.attr (get_or terms k d).attr) t.by (pos 0) ≡ pos 0 = rw (ne_eqb t.attr (get_or terms k d).attr (λ same. omega (arith, less, same))) refl in
     omega (arith, ints, no, coefficient_at terms k d (λ i j e h l. rising (suc i) (suc j) e (omega (arith, h)) (omega (arith, l))) (omega (arith, within)))
 
-is_zero : (k d : ℕ) (z n : ℤ) → 0 < d → z *ℤ pos d ≡ pos k *ℤ n → n ≡ pos 0 → z ≡ pos 0
+pub is_zero : (k d : ℕ) (z n : ℤ) → 0 < d → z *ℤ pos d ≡ pos k *ℤ n → n ≡ pos 0 → z ≡ pos 0
 is_zero k d z n some is none = zero_from_mul d z some (swap ∙ is ∙ ap (λ (t : ℤ). pos k *ℤ t) none ∙ mul-zero_ℤ (pos k))
   where
     swap : pos d *ℤ z ≡ z *ℤ pos d

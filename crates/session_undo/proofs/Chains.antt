@@ -21,7 +21,7 @@ use Rattle.constraint_compile.specs.declared.stops.CompileStop.TheVariants as st
 use Rattle.session_undo.specs.declared.reply.Refusal.{Refusal}
 use Rattle.session_undo.specs.Replies.{Reply, Limit, MayRefuse}
 use Rattle.session_undo.specs.Scene.{Scene, State, AreDraftRows, with_window, metrics_with}
-use Rattle.session_undo.specs.Machine.{Unless, Solves, IsTaken, IsDeep, IsCrowded, AreNear, AreTooMany, AddsView, ViewStep, MetricStep, WindowStep, UnlessFar}
+use Rattle.session_undo.specs.Machine.{Unless, Solves, IsTaken, IsDeep, IsCrowded, AreNear, AreTooMany, SolvesFree, AddsView, ViewStep, MetricStep, WindowStep, UnlessFar}
 use Rattle.session_undo.specs.Adding.{view_draft, metrics_draft}
 use Rattle.session_undo.specs.Kept.{MayLackRows}
 use Rattle.session_undo.proofs.ItemRows.{rows-small}
@@ -121,7 +121,7 @@ pub view-crowded : (old : State) (name parent : List ℕ) → IsCrowded old.scen
 view-crowded old name parent crowded = inl (crowded, refl, refl)
 
 pub view-room : (old : State) (name parent : List ℕ) (t new_tree : ViewTree) (above id : ℕ) → MayBeView old name parent t new_tree above id → (IsCrowded old.scene 2 → ⊥) → (reply : Reply) (new : State)
-    → Solves (view_draft old.scene new_tree id) old reply new → AtRoom old name parent reply new
+    → SolvesFree (view_draft old.scene new_tree id) old reply new → AtRoom old name parent reply new
 view-room old name parent t new_tree above id may room reply new solves =
     let tr = old.scene.tree in
     let v = view_of_name (view_named tr.views parent) above may.found in
@@ -132,7 +132,7 @@ view-room old name parent t new_tree above id may room reply new solves =
       (
         v.0,
         v.1,
-        subst (λ (u : ViewTree). Solves (view_draft old.scene u tr.next) old reply new) tree_is (subst (λ (n : ℕ). Solves (view_draft old.scene new_tree n) old reply new) id_is solves),
+        subst (λ (u : ViewTree). SolvesFree (view_draft old.scene u tr.next) old reply new) tree_is (subst (λ (n : ℕ). SolvesFree (view_draft old.scene new_tree n) old reply new) id_is solves),
       ),
     )
 

@@ -45,7 +45,7 @@ first-IsProblem =
 first-values : (l : Layout) → l.problem ≡ first_problem → AreBest l.problem l.values → l.values ≡ new_values 0
 first-values l is best = best-unique first_problem first-IsProblem l.values (new_values 0) (subst (λ (p : Problem). AreBest p l.values) is best) first-AreBest
 
-abbrev first_tree : ViewTree
+abbrev pub first_tree : ViewTree
 first_tree = record { views = window ∷ []; next = 1 }
 
 pub first-is : (t : ViewTree) (l : Layout) → t ≡ first_tree → l.problem ≡ first_problem → AreBest l.problem l.values → state_at t [] None (OfWindow ∷ []) 5 l 100000 ≡ first_state

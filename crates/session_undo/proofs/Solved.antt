@@ -1,5 +1,5 @@
 -- What the engine's answers come to.
-use Rattle.std.proofs.Common.{◌≡◌, ℕ, ◌+◌, ◌*◌, ◌^◌, ◌<◌, ◌≤◌, List, [], ◌∷◌, ◌++◌, length, Some, None, Option, IsSome, refl, sym, ap, ap₂, ◌∙◌, subst, arith, inl, inr, true≢false}
+use Rattle.std.proofs.Common.{◌≡◌, ℕ, ◌+◌, ◌*◌, ◌^◌, ◌<◌, ◌≤◌, List, [], ◌∷◌, ◌++◌, length, Some, None, Option, IsSome, All, refl, sym, ap, ap₂, ◌∙◌, subst, arith, inl, inr, true≢false}
 use Rattle.std.proofs.lemmas.Bool.{cases_lt}
 use Rattle.std.proofs.lemmas.List.{append-nil}
 use Rattle.std.proofs.lemmas.Option.{none-some}
@@ -9,32 +9,39 @@ use Rattle.problem_core.specs.Layout.{Row, Problem}
 use Rattle.view_tree.specs.Views.{ViewTree}
 use Rattle.constraint_compile.specs.Meaning.{MetricList}
 use Rattle.constraint_compile.specs.Compiled.{CompiledLine, AreRowsNow}
+use Rattle.problem_core.specs.Layout.{IsInConflict}
+use Rattle.problem_core.specs.Kept.{IsWhole}
 use Rattle.cert_core.specs.declared.stops.RunStop.{RunStop}
-use Rattle.layout_engine.specs.Layouts.{Layout, AreBest, stays_at, with_added, with_rows}
+use Rattle.cert_core.specs.declared.stops.RunStop.TheVariants as run
+use Rattle.layout_engine.specs.Layouts.{Layout, AreBest, stays_at, zeros, with_added, with_rows}
 use Rattle.layout_engine.specs.Stops.{IsStopOf}
 use Rattle.session_undo.specs.declared.window.WindowSize.{WindowSize}
 use Rattle.session_undo.specs.declared.item.Item.{Item}
 use Rattle.session_undo.specs.declared.item.Item.TheVariants.{OfView, Sized, OfLine}
 use Rattle.session_undo.specs.Scene.{Scene, State, AreRows, AreDraftRows, view_rows, size_rows, with_line, with_window}
 use Rattle.session_undo.specs.Replies.{Done, MayRefuse}
-use Rattle.session_undo.specs.Machine.{Solves, IsCrowded}
+use Rattle.session_undo.specs.Machine.{Accepts, Solves, SolvesFree, IsCrowded}
 use Rattle.session_undo.specs.Adding.{refusal_of, view_draft, metrics_draft}
 use Rattle.session_undo.specs.Kept.{IsKept, AreOfSize, state_at}
 use Rattle.session_undo.proofs.ItemRows.{rows-more, same-rows, kept-more, kept-sized, kept-anew}
 use Rattle.session_undo.proofs.Steps.{stop-refuses}
+use Rattle.session_undo.proofs.NewViews.{view-possible}
 
 abbrev parts : Scene → List Item → List Row → List Stay → List (ℕ × Fraction) → Scene
 parts draft held rows stays values = record draft { held = held; rows = rows; stays = stays; values = values }
 
 -- the draft with the engine's rows and values
+accepts : (draft : Scene) (old : State) (held : List Item) (l : Layout) → held ≡ draft.held → l.problem.stays ≡ draft.stays → AreDraftRows draft l.problem.rows → AreBest l.problem l.values
+    → Accepts draft old Done (record { scene = parts draft held l.problem.rows l.problem.stays l.values; budget = old.budget })
+accepts draft old held l held_is stays_is are best = (
+  refl,
+  record { same = ap₂ (λ (hs : List Item) (ss : List Stay). parts draft hs l.problem.rows ss l.values) held_is stays_is; rows = are; best = best },
+  refl,
+)
+
 solved : (draft : Scene) (old : State) (held : List Item) (l : Layout) → held ≡ draft.held → l.problem.stays ≡ draft.stays → AreDraftRows draft l.problem.rows → AreBest l.problem l.values
     → Solves draft old Done (record { scene = parts draft held l.problem.rows l.problem.stays l.values; budget = old.budget })
-solved draft old held l held_is stays_is are best =
-    inl (
-      refl,
-      record { same = ap₂ (λ (hs : List Item) (ss : List Stay). parts draft hs l.problem.rows ss l.values) held_is stays_is; rows = are; best = best },
-      refl,
-    )
+solved draft old held l held_is stays_is are best = inl (accepts draft old held l held_is stays_is are best)
 
 rows_is : (p q : Problem) → p ≡ q → p.rows ≡ q.rows
 rows_is p q e = ap (λ (r : Problem). r.rows) e
@@ -48,23 +55,32 @@ kept_at ms size held items next rows new items_is new_is kept =
 
 -- ---- a view
 
-abbrev attrs_of : ℕ → List ℕ
+abbrev pub attrs_of : ℕ → List ℕ
 attrs_of id = (4 * id + 1) ∷ (4 * id + 2) ∷ (4 * id + 3) ∷ (4 * id + 4) ∷ []
 
-pub view-refuses : (old_tree new_tree : ViewTree) (ms : MetricList) (size : Option WindowSize) (held : List Item) (next : ℕ) (l : Layout) (budget id : ℕ) (more : List Row) (s : RunStop) → IsKept ms size held next l.problem.rows → more ≡ view_rows next id
-    → IsStopOf (with_added l (attrs_of id) more) budget s
-    → MayRefuse (λ reply. Solves (view_draft (state_at old_tree ms size held next l budget).scene new_tree id) (state_at old_tree ms size held next l budget) reply (state_at old_tree ms size held next l budget)) (refusal_of s)
-view-refuses old_tree new_tree ms size held next l budget id more s kept more_is stops =
+free-refuses : (draft : Scene) (old : State) (p : Problem) (stop : RunStop) → (IsInConflict p → ⊥) → IsStopOf p old.budget stop → MayRefuse (λ reply. SolvesFree draft old reply old) (refusal_of stop)
+free-refuses draft old p (run.Conflict by) free is = absurd (free is.1)
+free-refuses draft old p (run.Unfit at) free is = inr (inl (at.path, at.quantity, (refl, refl)))
+free-refuses draft old p (run.Spent path) free is = inr (inr (path, is, (refl, refl)))
+free-refuses draft old p run.Unshown free is = tt
+free-refuses draft old p run.OutOfMemory free is = tt
+
+pub view-refuses : (old_tree new_tree : ViewTree) (ms : MetricList) (size : Option WindowSize) (held : List Item) (next : ℕ) (l : Layout) (budget id : ℕ) (more : List Row) (s : RunStop) → IsWhole l.problem → AreBest l.problem l.values
+    → All (λ s. s.attr ≤ 4 * id) l.problem.stays → more ≡ view_rows next id → IsStopOf (with_added l (attrs_of id) more) budget s
+    → MayRefuse (λ reply. SolvesFree (view_draft (state_at old_tree ms size held next l budget).scene new_tree id) (state_at old_tree ms size held next l budget) reply (state_at old_tree ms size held next l budget)) (refusal_of s)
+view-refuses old_tree new_tree ms size held next l budget id more s whole best before more_is stops =
     let old = state_at old_tree ms size held next l budget in
-    stop-refuses (view_draft old.scene new_tree id) old (l.problem.rows ++ more) s (rows-more ms size held (OfView next id) l.problem.rows more kept.are_rows more_is) stops
+    free-refuses (view_draft old.scene new_tree id) old (with_added l (attrs_of id) more) s
+    (λ conflict. view-possible l.problem best.best.0 (stays_at (l.values ++ zeros (attrs_of id))) next id best.best.1.0 whole.covered before
+    (subst (λ (rs : List Row). IsInConflict (record { rows = l.problem.rows ++ rs; stays = stays_at (l.values ++ zeros (attrs_of id)) })) more_is conflict)) stops
 
 pub view-solved : (old_tree new_tree : ViewTree) (ms : MetricList) (size : Option WindowSize) (held items : List Item) (next : ℕ) (l new : Layout) (budget id : ℕ) (more : List Row) → IsKept ms size held next l.problem.rows → more ≡ view_rows next id
     → new.problem ≡ with_added l (attrs_of id) more → AreBest new.problem new.values → items ≡ held ++ OfView next id ∷ []
-    → Solves (view_draft (state_at old_tree ms size held next l budget).scene new_tree id) (state_at old_tree ms size held next l budget) Done (state_at new_tree ms size items (next + 2) new budget)
+    → SolvesFree (view_draft (state_at old_tree ms size held next l budget).scene new_tree id) (state_at old_tree ms size held next l budget) Done (state_at new_tree ms size items (next + 2) new budget)
 view-solved old_tree new_tree ms size held items next l new budget id more kept more_is is best items_is =
     let old = state_at old_tree ms size held next l budget in
-    solved (view_draft old.scene new_tree id) old items new items_is (stays_is new.problem (with_added l (attrs_of id) more) is)
-    (subst (λ (rs : List Row). AreRows ms size (held ++ OfView next id ∷ []) rs) (sym (rows_is new.problem (with_added l (attrs_of id) more) is)) (rows-more ms size held (OfView next id) l.problem.rows more kept.are_rows more_is)) best
+    inl (accepts (view_draft old.scene new_tree id) old items new items_is (stays_is new.problem (with_added l (attrs_of id) more) is)
+    (subst (λ (rs : List Row). AreRows ms size (held ++ OfView next id ∷ []) rs) (sym (rows_is new.problem (with_added l (attrs_of id) more) is)) (rows-more ms size held (OfView next id) l.problem.rows more kept.are_rows more_is)) best)
 
 pub view-kept : (ms : MetricList) (size : Option WindowSize) (held items : List Item) (next : ℕ) (l new : Layout) (id : ℕ) (more : List Row) → IsKept ms size held next l.problem.rows → more ≡ view_rows next id → id < 2 ^ 29 → next < 2 ^ 31
     → new.problem ≡ with_added l (attrs_of id) more → items ≡ held ++ OfView next id ∷ [] → IsKept ms size items (next + 2) new.problem.rows

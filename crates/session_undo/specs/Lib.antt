@@ -1,4 +1,5 @@
 pub mod Adding
+pub mod Attributes
 pub mod Kept
 pub mod Machine
 pub mod Replies

@@ -61,6 +61,10 @@ Overflows old reply new = (path : Path) × (quantity : Quantity) × Keeps (Overf
 abbrev pub Spends : State → Reply → State → Type 0
 Spends old reply new = (path : Path) × (length path.swaps ≡ old.budget) × Keeps (Spent path) old reply new
 
+-- the draft, whose required rows have a solution, is solved, or there is no change
+abbrev pub SolvesFree : Scene → State → Reply → State → Type 0
+SolvesFree draft old reply new = Accepts draft old reply new ⊎ Overflows old reply new ⊎ Spends old reply new
+
 -- the draft is solved, or there is no change
 abbrev pub Solves : Scene → State → Reply → State → Type 0
 Solves draft old reply new = Accepts draft old reply new ⊎ Conflicts draft old reply new ⊎ Overflows old reply new ⊎ Spends old reply new
@@ -116,8 +120,9 @@ parent_name (Some name) = name
 
 -- ---- views, metrics, the window
 
+-- a new view changes no row that is held, so it is in no conflict
 abbrev pub AddsView : State → List ℕ → List ℕ → Reply → State → Type 0
-AddsView old name parent reply new = (above : LiveView) × (view_named old.scene.tree.views parent ≡ Some above) × Solves (with_view old.scene name above.id) old reply new
+AddsView old name parent reply new = (above : LiveView) × (view_named old.scene.tree.views parent ≡ Some above) × SolvesFree (with_view old.scene name above.id) old reply new
 
 -- the causes against a view, in the order in which they are tried
 abbrev pub ViewStep : State → List ℕ → List ℕ → Reply → State → Type 0

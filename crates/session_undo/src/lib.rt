@@ -6,9 +6,11 @@
 
 mod changes;
 mod item;
+mod renewal;
 mod reply;
 mod rows;
 mod session;
+mod showing;
 mod window;
 
 pub use item::Item;

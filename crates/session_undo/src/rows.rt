@@ -4,11 +4,12 @@ ghost use Rattle.problem_core.specs.declared.parts.Rel.TheVariants as rel;
 ghost use Rattle.problem_core.specs.Kept.{IsNumber};
 ghost use Rattle.problem_core.specs.Window.{required_row, structural_rows};
 ghost use Rattle.session_undo.specs.Scene.{view_rows, size_rows, width_of, height_of, AreItemRows, AreRows};
-ghost use Rattle.session_undo.specs.Kept.{IsItem, MayLackRows, MayLackItemRows};
+ghost use Rattle.session_undo.specs.Kept.{IsItem, IsSmallItem, MayLackRows, MayLackItemRows};
+ghost use Rattle.constraint_compile.specs.Compiled.{AreRowsNow, AreSmallForms};
 
 use crate::item::Item;
 use crate::window::WindowSize;
-use constraint_compile::CompileStop;
+use constraint_compile::{CompileStop, Compiled};
 use frac_core::{Frac, OutOfMemory};
 use name_tables::Metrics;
 use problem_core::{Rel, Row, Term};
@@ -136,4 +137,42 @@ pub fn rows_of(
         }
     }
     Ok(rows)
+}
+
+/// The rows of all items, whose constants are small for these metrics after each term.
+pub fn small_rows_of(
+    alloc: Global,
+    items: &[Item],
+    metrics: &Metrics,
+    size: &Option<WindowSize>,
+) -> Result<Vec<Row>, OutOfMemory>
+    requires items { All IsItem items.now }
+    requires small { All (IsSmallItem metrics.now) items.now }
+    ensures { IfOk result (λ rows. AreRows metrics.now size.now items.now rows.items) }
+{
+    match rows_of(alloc, items, metrics, size) {
+        Ok(rows) => Ok(rows),
+        Err(CompileStop::OutOfMemory) => Err(OutOfMemory),
+        Err(CompileStop::Unknown(_) | CompileStop::Kind(_) | CompileStop::Limit(_)) => {
+            unreachable!()
+        }
+    }
+}
+
+/// The rows of a line, whose constants are small for these metrics after each term.
+pub fn small_line_rows(
+    alloc: Global,
+    line: &Compiled,
+    metrics: &Metrics,
+) -> Result<Vec<Row>, OutOfMemory>
+    requires { AreSmallForms metrics.now line.now.rows }
+    ensures { IfOk result (λ rows. AreRowsNow metrics.now line.now.rows rows.items) }
+{
+    match line.rows_now(alloc, metrics) {
+        Ok(rows) => Ok(rows),
+        Err(CompileStop::OutOfMemory) => Err(OutOfMemory),
+        Err(CompileStop::Unknown(_) | CompileStop::Kind(_) | CompileStop::Limit(_)) => {
+            unreachable!()
+        }
+    }
 }

@@ -3,8 +3,10 @@ ghost use Rattle.std.specs.Prelude.{◌≡◌, ◌<◌, ◌≤◌, ◌^◌, ◌+
 
 use crate::changes::{are_near, line_count, parent_or_window, put_metric};
 use crate::item::Item;
+use crate::renewal::take_rows;
 use crate::reply::{Refusal, Reply, refusal_of};
-use crate::rows::{rows_of, size_rows, view_rows, window_rows};
+use crate::rows::{rows_of, size_rows, small_line_rows, small_rows_of, view_rows, window_rows};
+use crate::showing::{show_rows, show_terms};
 use crate::window::WindowSize;
 use constraint_compile::{CompileStop, Compiled, compile_format, compile_line, format_row_count};
 use frac_core::{Frac, OutOfMemory};
@@ -48,21 +50,23 @@ pub struct Session {
 impl Model for Session {
     ghost use Rattle.session_undo.specs.Scene.{State};
     ghost use Rattle.session_undo.specs.Kept.{IsKept, state_at};
+    ghost use Rattle.session_undo.specs.Attributes.{IsCounted};
 
     ghost Value = { State };
 
     ghost view = { λ s. state_at s.tree s.metrics s.size s.items.items s.next_row s.engine s.budget };
 
-    ghost invariant = { λ s. IsKept s.metrics s.size s.items.items s.next_row s.engine.problem.rows };
+    ghost invariant = { λ s. IsKept s.metrics s.size s.items.items s.next_row s.engine.problem.rows × IsCounted s.tree.views s.next_row s.engine.problem };
 }
 
 impl Session {
     ghost use Rattle.script_text.specs.View.{view, linear_view};
     ghost use Rattle.vfl_text.specs.View.{meaning};
-    ghost use Rattle.constraint_compile.specs.Compiled.{AreRowsNow};
+    ghost use Rattle.constraint_compile.specs.Compiled.{AreRowsNow, AreSmallForms};
+    ghost use Rattle.session_undo.specs.Attributes.{IsNextLine, IsGrown};
     ghost use Rattle.session_undo.specs.Scene.{first_state, with_line, with_window, AreRows};
     ghost use Rattle.session_undo.specs.Replies.{accepted, MayRefuse};
-    ghost use Rattle.session_undo.specs.Machine.{ViewStep, MetricStep, WindowStep, ConstrainStep, FormatStep, BudgetStep, MeaningStep, IsCrowded, Solves};
+    ghost use Rattle.session_undo.specs.Machine.{ViewStep, MetricStep, WindowStep, ConstrainStep, FormatStep, BudgetStep, MeaningStep, IsCrowded, Solves, SolvesFree};
     ghost use Rattle.session_undo.specs.Adding.{AddStep, StopStep, view_draft, metrics_draft, IsGroupLimit, IsGroupFree, IsLineLimit, IsLineFree};
 
     /// The window alone, and a budget of 100,000 exchanges.
@@ -73,6 +77,7 @@ impl Session {
         items.push(Item::OfWindow)?;
         let mut engine = Engine::new(alloc)?;
         let rows = window_rows(alloc)?;
+        show_rows(&rows);
         // The checker has room for so small a problem, so it is memory that is wanting.
         let Ok(_path) = engine.add(&[1, 2, 3, 4], &rows, FIRST_BUDGET) else {
             return Err(OutOfMemory);
@@ -116,19 +121,24 @@ impl Session {
         if self.is_crowded(2) {
             return Err(Refusal::Limit(LimitWord::Rows));
         }
+        let _before = self.tree.len();
+        let _after = tree.len();
         self.solve_view(tree, id)
     }
 
     // The tree has this new view, which takes two rows.
     fn solve_view(&mut self, tree: Tree, id: u32) -> Result<Reply, Refusal>
         requires id { id < 2 ^ 29 }
+        requires grown { IsGrown self.old.scene.tree.views tree.views id }
         requires room { IsCrowded self.old.scene 2 → ⊥ }
-        ensures accepted { IfOk result (λ reply. Solves (view_draft self.old.scene tree id) self.old (accepted reply) self.new) }
-        ensures refused { IfErr result (MayRefuse (λ reply. Solves (view_draft self.old.scene tree id) self.old reply self.old)) }
+        ensures accepted { IfOk result (λ reply. SolvesFree (view_draft self.old.scene tree id) self.old (accepted reply) self.new) }
+        ensures refused { IfErr result (MayRefuse (λ reply. SolvesFree (view_draft self.old.scene tree id) self.old reply self.old)) }
         ensures same { OnErr result (self.new ≡ self.old) }
     {
+        self.engine.show_layout();
         let first = self.next_row;
         let rows = view_rows(self.alloc, first, id)?;
+        show_rows(&rows);
         let attrs = [4 * id + 1, 4 * id + 2, 4 * id + 3, 4 * id + 4];
         self.items.reserve(1)?;
         if let Err(stop) = self.engine.add(&attrs, &rows, self.budget) {
@@ -160,7 +170,8 @@ impl Session {
         let rows = match rows_of(self.alloc, &self.items, &metrics, &self.size) {
             Ok(rows) => rows,
             Err(CompileStop::Limit(word)) => return Err(Refusal::Limit(word)),
-            Err(_) => return Err(Refusal::OutOfMemory),
+            Err(CompileStop::OutOfMemory) => return Err(Refusal::OutOfMemory),
+            Err(CompileStop::Unknown(_) | CompileStop::Kind(_)) => unreachable!(),
         };
         if !are_near(self.engine.problem().rows(), &rows) {
             return Err(Refusal::Limit(LimitWord::Constant));
@@ -175,7 +186,9 @@ impl Session {
         ensures refused { IfErr result (MayRefuse (λ reply. Solves (metrics_draft self.old.scene metrics) self.old reply self.old)) }
         ensures same { OnErr result (self.new ≡ self.old) }
     {
-        if let Err(stop) = self.engine.renew(rows, self.budget) {
+        self.engine.show_layout();
+        show_rows(rows);
+        if let Err(stop) = take_rows(&mut self.engine, rows, self.budget) {
             return Err(refusal_of(stop));
         }
         let _best = self.engine.problem();
@@ -194,7 +207,10 @@ impl Session {
         let first = self.next_row;
         let sized = Some(size);
         let rows = size_rows(self.alloc, first, &sized)?;
+        show_rows(&rows);
         self.items.reserve(1)?;
+        self.engine.show_layout();
+        let _count = self.tree.len();
         if let Err(stop) = self.engine.add(&[], &rows, self.budget) {
             return Err(refusal_of(stop));
         }
@@ -213,11 +229,10 @@ impl Session {
         ensures same { OnErr result (self.new ≡ self.old) }
     {
         let sized = Some(size);
-        // The constants of the lines are as before, so it is memory that is wanting.
-        let Ok(rows) = rows_of(self.alloc, &self.items, &self.metrics, &sized) else {
-            return Err(Refusal::OutOfMemory);
-        };
-        if let Err(stop) = self.engine.renew(&rows, self.budget) {
+        let rows = small_rows_of(self.alloc, &self.items, &self.metrics, &sized)?;
+        self.engine.show_layout();
+        show_rows(&rows);
+        if let Err(stop) = take_rows(&mut self.engine, &rows, self.budget) {
             return Err(refusal_of(stop));
         }
         let _best = self.engine.problem();
@@ -282,20 +297,20 @@ impl Session {
 
     // The group has a line more.
     fn add_line(&mut self, group: &str, line: Compiled) -> Result<Reply, Refusal>
+        requires small { AreSmallForms self.old.scene.metrics line.rows }
+        requires next { IsNextLine self.old.scene.tree.views self.old.scene.next_row line }
         ensures accepted { IfOk result (λ reply. AddStep self.old group.now line (accepted reply) self.new) }
         ensures refused { IfErr result (MayRefuse (λ reply. AddStep self.old group.now line reply self.old)) }
         ensures same { OnErr result (self.new ≡ self.old) }
     {
-        // The line is within its limits, so it is memory that is wanting.
-        let Ok(rows) = line.rows_now(self.alloc, &self.metrics) else {
-            return Err(Refusal::OutOfMemory);
-        };
+        let rows = small_line_rows(self.alloc, &line, &self.metrics)?;
         self.add_rows(group, line, &rows)
     }
 
     // The group has a line more, and these are its rows.
     fn add_rows(&mut self, group: &str, line: Compiled, rows: &[Row]) -> Result<Reply, Refusal>
-        requires { AreRowsNow self.old.scene.metrics line.rows rows.now }
+        requires rows { AreRowsNow self.old.scene.metrics line.rows rows.now }
+        requires next { IsNextLine self.old.scene.tree.views self.old.scene.next_row line }
         ensures accepted { IfOk result (λ reply. AddStep self.old group.now line (accepted reply) self.new) }
         ensures refused { IfErr result (MayRefuse (λ reply. AddStep self.old group.now line reply self.old)) }
         ensures same { OnErr result (self.new ≡ self.old) }
@@ -315,12 +330,15 @@ impl Session {
         rows: &[Row],
     ) -> Result<Reply, Refusal>
         requires rows { AreRowsNow self.old.scene.metrics line.rows rows.now }
+        requires next { IsNextLine self.old.scene.tree.views self.old.scene.next_row line }
         requires room { IsCrowded self.old.scene (length rows.now) → ⊥ }
         ensures accepted { IfOk result (λ reply. Solves (with_line self.old.scene group line) self.old (accepted reply) self.new) }
         ensures refused { IfErr result (MayRefuse (λ reply. Solves (with_line self.old.scene group line) self.old reply self.old)) }
         ensures same { OnErr result (self.new ≡ self.old) }
     {
         self.items.reserve(1)?;
+        self.engine.show_layout();
+        show_rows(rows);
         if let Err(stop) = self.engine.add(&[], rows, self.budget) {
             return Err(refusal_of(stop));
         }
@@ -354,6 +372,8 @@ impl Session {
         ensures refused { IfErr result (MayRefuse (λ reply. ConstrainStep self.old group.now (linear_view line.now) reply self.old)) }
         ensures same { OnErr result (self.new ≡ self.old) }
     {
+        show_terms(&line.left);
+        show_terms(&line.right);
         match compile_line(self.alloc, &self.tree, &self.metrics, line, self.next_row) {
             Ok(compiled) => self.add_line(group, compiled),
             Err(stop) => Err(self.line_refusal(group, 1, stop)),

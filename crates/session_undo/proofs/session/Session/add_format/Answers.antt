@@ -11,6 +11,9 @@ use Rattle.session_undo.specs.Adding.{AddStep, StopStep}
 use Rattle.session_undo.proofs.Steps.{refuses}
 use Rattle.session_undo.proofs.Chains.{ok-map, err-map}
 use Rattle.session_undo.proofs.LineStops.{format-added, format-stopped}
+use Rattle.session_undo.proofs.SmallLines.{format-small}
+use Rattle.session_undo.specs.Attributes.{IsNextLine}
+use Rattle.session_undo.proofs.NextLines.{format-next}
 use Rattle.session_undo.proofs.session.Session.add_format.Goals as goal
 
 pub returns-in-Ok-clause-accepted : goal.returns-in-Ok-clause-accepted
@@ -35,3 +38,14 @@ returns-in_ok-count-in-Err-clause-refused c =
     subst (λ (s : State). c.in_ok-count-in-Err.count ≡ row_count s.scene.tree.views (parts (meaning c.args.format.now) c.args.align)) c.self.view_is c.in_ok-count-in-Err.ensures in
     refuses (λ (reply : Reply). StopStep c.args.self.now c.args.group.now c.in_ok-count-in-Err.count c.in-Err.stop reply c.args.self.now) (λ (reply : Reply). FormatStep c.args.self.now c.args.group.now c.args.align (meaning c.args.format.now) reply c.args.self.now) c.line_refusal.result
     (λ reply step. format-stopped c.args.self.now c.args.group.now c.args.align (meaning c.args.format.now) c.in_ok-count-in-Err.count c.in-Err.stop count may reply step) c.line_refusal.ensures
+
+pub add_line-requires-clause-small : goal.add_line-requires-clause-small
+add_line-requires-clause-small c =
+    let is : IsCompiledFormat c.args.self.now.scene.tree.views c.args.self.now.scene.metrics (meaning c.args.format.now) c.args.align c.args.self.now.scene.next_row c.in-Ok.compiled =
+    subst (λ (s : State). IsCompiledFormat s.scene.tree.views s.scene.metrics (meaning c.args.format.now) c.args.align s.scene.next_row c.in-Ok.compiled) c.self.view_is c.in-Ok.ensures.compiled in
+    format-small c.args.self.now.scene.tree.views c.args.self.now.scene.metrics (meaning c.args.format.now) c.args.align c.args.self.now.scene.next_row c.in-Ok.compiled is
+
+pub add_line-requires-clause-next : goal.add_line-requires-clause-next
+add_line-requires-clause-next c =
+    subst (λ (s : State). IsNextLine s.scene.tree.views s.scene.next_row c.in-Ok.compiled) c.self.view_is
+    (format-next c.self.inside.tree.views c.self.inside.metrics (meaning c.args.format.now) c.args.align c.self.inside.next_row c.in-Ok.compiled c.in-Ok.ensures.compiled)

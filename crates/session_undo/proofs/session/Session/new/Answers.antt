@@ -3,16 +3,20 @@ use Rattle.problem_core.specs.Layout.{Problem}
 use Rattle.session_undo.specs.declared.item.Item.{Item}
 use Rattle.session_undo.specs.declared.item.Item.TheVariants.{OfWindow}
 use Rattle.session_undo.proofs.First.{first_problem, first-is, first-kept}
+use Rattle.session_undo.proofs.Additions.{first-whole, first-counted}
 use Rattle.session_undo.proofs.session.Session.new.Goals as goal
 
 pub invariant_of-result : goal.invariant_of-result
 invariant_of-result c =
     let items : c.push.new.self.items ≡ OfWindow ∷ [] = c.in_ok-push.ensures.items ∙ ap (λ (is : List Item). is ++ OfWindow ∷ []) c.new-items.ensures.items in
-    let problem : c.add.new.self.problem ≡ first_problem = rw (c.deref.ensures.value, c.in_ok-rows.ensures, c.in_ok-engine.ensures) at c.in-Ok.ensures.done in
-    rw (c.in_ok-new-2.ensures, items) (first-kept c.add.new.self.problem.rows (ap (λ (p : Problem). p.rows) problem))
+    let problem : c.add.new.self.problem ≡ first_problem = rw (c.deref-2.ensures.value, c.in_ok-rows.ensures, c.in_ok-engine.ensures) at c.in-Ok.ensures.done in
+    rw (c.in_ok-new-2.ensures, items) (first-kept c.add.new.self.problem.rows (ap (λ (p : Problem). p.rows) problem), first-counted c.in_ok-new.field-0 c.add.new.self.problem c.in_ok-new.ensures problem)
 
 pub returns : goal.returns
 returns c =
     let items : c.push.new.self.items ≡ OfWindow ∷ [] = c.in_ok-push.ensures.items ∙ ap (λ (is : List Item). is ++ OfWindow ∷ []) c.new-items.ensures.items in
-    let problem : c.add.new.self.problem ≡ first_problem = rw (c.deref.ensures.value, c.in_ok-rows.ensures, c.in_ok-engine.ensures) at c.in-Ok.ensures.done in
+    let problem : c.add.new.self.problem ≡ first_problem = rw (c.deref-2.ensures.value, c.in_ok-rows.ensures, c.in_ok-engine.ensures) at c.in-Ok.ensures.done in
     rw (c.in_ok-new-2.ensures, items) (first-is c.in_ok-new.field-0 c.add.new.self c.in_ok-new.ensures problem c.problem-best.ensures.best)
+
+pub add-requires : goal.add-requires
+add-requires c = rw c.deref-2.ensures.value (record { whole = first-whole c.in_ok-engine.engine c.in_ok-rows.rows.items c.in_ok-engine.ensures c.in_ok-rows.ensures (rw c.deref.ensures.value at c.show_rows.ensures) })

@@ -1,0 +1,204 @@
+-- What a session hands its engine makes a problem, and the session counts on.
+use Rattle.std.proofs.Common.{◌≡◌, ℕ, ◌+◌, ◌*◌, ◌^◌, ◌<◌, ◌≤◌, List, [], ◌∷◌, ◌++◌, length, map, length-append, Option, refl, sym, ap, subst, ◌∙◌, arith, inl, inr, All, lit<, pos}
+use Rattle.std.specs.List.{Contains}
+use Rattle.std.proofs.lemmas.Bool.{cases_lt}
+use Rattle.std.proofs.lemmas.List.{append-nil, length-map}
+use Rattle.std.proofs.lemmas.List.Elements.{All-from_recursion, All-append, All-weaker, All-map, Contains-append_right}
+use Rattle.frac_core.specs.Fraction.{Fraction, IsKept}
+use Rattle.problem_core.specs.declared.parts.Rel.TheVariants.{Eq, Ge}
+use Rattle.problem_core.specs.declared.parts.Stay.{Stay}
+use Rattle.problem_core.specs.declared.parts.Term.{Term}
+use Rattle.problem_core.specs.Layout.{Row, Problem}
+use Rattle.problem_core.specs.Kept.{IsNumber, IsRow, IsWhole, AreRising}
+use Rattle.problem_core.specs.Window.{required_row, structural_rows, zero_fraction}
+use Rattle.view_tree.specs.Views.{LiveView, ViewTree, IsTree}
+use Rattle.constraint_compile.specs.Meaning.{MetricList}
+use Rattle.constraint_compile.specs.Compiled.{CompiledLine, AreRowsNow}
+use Rattle.layout_engine.specs.Layouts.{Layout, AreBest, stays_at, zeros, with_added, with_rows}
+use Rattle.session_undo.specs.declared.window.WindowSize.{WindowSize}
+use Rattle.session_undo.specs.Scene.{Scene, view_rows, size_rows}
+use Rattle.session_undo.specs.Machine.{IsCrowded}
+use Rattle.session_undo.specs.Attributes.{view_attributes, attributes_of, HasOnly, IsNextLine, IsGrown, IsCounted}
+use Rattle.session_undo.proofs.Lists.{pairs-nil, pairs-cons, four-rising, all-unmapped}
+use Rattle.session_undo.proofs.Attributes.{attributes-below, attribute-count, view-new, none-new, contains-left, contains-top, contains-width, contains-height, window-among}
+use Rattle.session_undo.proofs.Wholes.{IsSettled, MayBeAdded, added-whole, renewed-whole, settled-numbers, attributes-joined, shape}
+use Rattle.session_undo.proofs.First.{first_problem, first_tree}
+use Rattle.session_undo.proofs.NextRows.{line-may, line-below}
+
+-- ---- required rows
+
+one-only : (attrs : List ℕ) (t : Term) → Contains attrs t.attr → All (λ s. Contains attrs s.attr) (t ∷ [])
+one-only attrs t inside = All-from_recursion (λ (s : Term). Contains attrs s.attr) (t ∷ []) (inside, tt)
+
+abbrev once : ℕ → Term
+once attr = record { attr = attr; by = pos 1 }
+
+two-may : (attrs : List ℕ) (n : ℕ) (r s : Row) → All IsRow (r ∷ s ∷ []) → r.id ≡ n → s.id ≡ n + 1 → HasOnly attrs r → HasOnly attrs s → MayBeAdded attrs n (r ∷ s ∷ [])
+two-may attrs n r s each first second only_r only_s = record {
+  rows = each;
+  rising = pairs-cons (λ (x y : Row). x.id < y.id) r (s ∷ []) (All-from_recursion (λ (y : Row). r.id < y.id) (s ∷ []) (omega (arith, first, second), tt))
+      (pairs-cons (λ (x y : Row). x.id < y.id) s [] (All-from_recursion (λ (y : Row). s.id < y.id) [] tt) (pairs-nil (λ (x y : Row). x.id < y.id)));
+  above = All-from_recursion (λ (x : Row). n ≤ x.id) (r ∷ s ∷ []) (omega (arith, first), (omega (arith, second), tt));
+  only = All-from_recursion (HasOnly attrs) (r ∷ s ∷ []) (only_r, (only_s, tt));
+}
+
+view-may : (views : List LiveView) (next id : ℕ) (more : List Row) → more ≡ view_rows next id → All IsRow more → MayBeAdded (attributes_of views ++ view_attributes id) next more
+view-may views next id more is each =
+    subst (MayBeAdded (attributes_of views ++ view_attributes id) next) (sym is)
+    (two-may (attributes_of views ++ view_attributes id) next _ _ (subst (All IsRow) is each) refl refl
+    (one-only (attributes_of views ++ view_attributes id) (once (4 * id + 3)) (Contains-append_right (attributes_of views) (view_attributes id) (4 * id + 3) (contains-width id)))
+    (one-only (attributes_of views ++ view_attributes id) (once (4 * id + 4)) (Contains-append_right (attributes_of views) (view_attributes id) (4 * id + 4) (contains-height id))))
+
+size-may : (t : ViewTree) (next : ℕ) (size : Option WindowSize) (more : List Row) → IsTree t → more ≡ size_rows next size → All IsRow more → MayBeAdded (attributes_of t.views) next more
+size-may t next size more tree is each =
+    subst (MayBeAdded (attributes_of t.views) next) (sym is)
+    (two-may (attributes_of t.views) next _ _ (subst (All IsRow) is each) refl refl
+    (one-only (attributes_of t.views) (once 3) (window-among t.views 3 tree.root (contains-width 0)))
+    (one-only (attributes_of t.views) (once 4) (window-among t.views 4 tree.root (contains-height 0))))
+
+-- ---- problems
+
+pub settled : (l : Layout) → IsWhole l.problem → AreBest l.problem l.values → All (λ v. IsKept v.1) l.values → AreRising l.values → IsSettled l.problem l.values
+settled l whole best kept rising = record { whole = whole; attributes = best.attributes; kept = kept; rising = rising }
+
+-- rows of the old attributes
+rows-whole : (views : List LiveView) (next : ℕ) (l : Layout) (more : List Row) → IsSettled l.problem l.values → IsCounted views next l.problem → MayBeAdded (attributes_of views) next more → length l.problem.rows + length more ≤ 2000
+    → IsWhole (with_added l [] more)
+rows-whole views next l more is counted may room =
+    added-whole l.problem l.values [] more next (2 ^ 31 + 1) is
+    (all-unmapped (λ (v : ℕ × Fraction). v.0) (λ n. n < 2 ^ 31 + 1) l.values (All-weaker IsNumber (λ n. n < 2 ^ 31 + 1) (λ n h. omega (arith, h.1)) (map (λ v. v.0) l.values) (settled-numbers l.problem l.values is)))
+    (none-new (2 ^ 31 + 1)) counted.below
+    (subst (λ (ns : List ℕ). MayBeAdded ns next more) (sym (append-nil (map (λ s. s.attr) l.problem.stays) ∙ counted.stays)) may)
+    (omega (arith, room)) (omega (arith, is.whole.stay_count))
+
+pub line-whole : (views : List LiveView) (next : ℕ) (l : Layout) (line : CompiledLine) (ms : MetricList) (more : List Row) → IsSettled l.problem l.values → IsCounted views next l.problem → IsNextLine views next line → AreRowsNow ms line.rows more → All IsRow more
+    → length l.problem.rows + length more ≤ 2000 → IsWhole (with_added l [] more)
+line-whole views next l line ms more is counted fits are each room = rows-whole views next l more is counted (line-may views next line ms more fits are each) room
+
+pub size-whole : (t : ViewTree) (next : ℕ) (l : Layout) (size : Option WindowSize) (more : List Row) → IsTree t → IsSettled l.problem l.values → IsCounted t.views next l.problem → more ≡ size_rows next size → All IsRow more
+    → length l.problem.rows + 2 ≤ 2000 → IsWhole (with_added l [] more)
+size-whole t next l size more tree is counted are each room =
+    let two : length more ≡ 2 = ap length are in
+    rows-whole t.views next l more is counted (size-may t next size more tree are each) (omega (arith, room, two))
+
+-- the same rows
+pub same-whole : (l : Layout) → IsWhole (with_rows l l.problem.rows) → IsWhole (with_added l [] [])
+same-whole l h =
+    subst (λ (rows : List Row). IsWhole (record { rows = rows; stays = stays_at (l.values ++ zeros []) })) (sym (append-nil l.problem.rows))
+    (subst (λ (vs : List (ℕ × Fraction)). IsWhole (record { rows = l.problem.rows; stays = stays_at vs })) (sym (append-nil l.values)) h)
+
+pub view-whole : (views new_views : List LiveView) (next id : ℕ) (l : Layout) (more : List Row) → IsSettled l.problem l.values → IsCounted views next l.problem → IsGrown views new_views id → id < 2 ^ 29 → more ≡ view_rows next id → All IsRow more
+    → length l.problem.rows + 2 ≤ 2000 → IsWhole (with_added l (view_attributes id) more)
+view-whole views new_views next id l more is counted grown small are each room =
+    let two : length more ≡ 2 = ap length are in
+    let stays : length l.problem.stays ≡ length (attributes_of views) = sym (length-map l.problem.stays (λ (s : Stay). s.attr)) ∙ ap length counted.stays in
+    let all : length (attributes_of new_views) ≡ length (attributes_of views) + 4 = ap length grown.attributes ∙ length-append (attributes_of views) (view_attributes id) in
+    let joined : map (λ (v : ℕ × Fraction). v.0) l.values ≡ attributes_of views = is.attributes ∙ counted.stays in
+    added-whole l.problem l.values (view_attributes id) more next (4 * id + 1) is
+    (all-unmapped (λ (v : ℕ × Fraction). v.0) (λ a. a < 4 * id + 1) l.values (subst (All (λ a. a < 4 * id + 1)) (sym joined) (attributes-below views id grown.above)))
+    (view-new id small) counted.below
+    (subst (λ (ns : List ℕ). MayBeAdded (ns ++ view_attributes id) next more) (sym counted.stays) (view-may views next id more are each))
+    (omega (arith, room, two)) (omega (arith, stays, all, attribute-count new_views, grown.few))
+
+pub renewed : (l : Layout) (rows : List Row) → IsSettled l.problem l.values → All IsRow rows → map shape rows ≡ map shape l.problem.rows → IsWhole (with_rows l rows)
+renewed l rows is each same = renewed-whole l.problem l.values rows is each same
+
+-- ---- counts
+
+stays-at : (values : List (ℕ × Fraction)) → map (λ s. s.attr) (stays_at values) ≡ map (λ v. v.0) values
+stays-at [] = refl
+stays-at (v ∷ values) = ap (λ (ns : List ℕ). v.0 ∷ ns) (stays-at values)
+
+pub counted-added : (views new_views : List LiveView) (next now : ℕ) (l : Layout) (attrs : List ℕ) (more : List Row) (p : Problem) → map (λ v. v.0) l.values ≡ map (λ s. s.attr) l.problem.stays → IsCounted views next l.problem
+    → attributes_of new_views ≡ attributes_of views ++ attrs → All (λ r. r.id < now) more → next ≤ now → length l.problem.rows + length more ≤ 2000 → p ≡ with_added l attrs more → IsCounted new_views now p
+counted-added views new_views next now l attrs more p same counted grown below up room is =
+    subst (IsCounted new_views now) (sym is) (record {
+      stays = stays-at (l.values ++ zeros attrs) ∙ attributes-joined l.values attrs ∙ ap (λ (ns : List ℕ). ns ++ attrs) (same ∙ counted.stays) ∙ sym grown;
+      below = All-append (λ (r : Row). r.id < now) l.problem.rows more (All-weaker (λ (r : Row). r.id < next) (λ (r : Row). r.id < now) (λ r h. omega (arith, h, up)) l.problem.rows counted.below) below;
+      few = omega (arith, room, length-append l.problem.rows more);
+    })
+
+pub counted-view : (views new_views : List LiveView) (next id : ℕ) (l : Layout) (more : List Row) (p : Problem) → map (λ v. v.0) l.values ≡ map (λ s. s.attr) l.problem.stays → IsCounted views next l.problem → IsGrown views new_views id
+    → more ≡ view_rows next id → length l.problem.rows + 2 ≤ 2000 → p ≡ with_added l (view_attributes id) more → IsCounted new_views (next + 2) p
+counted-view views new_views next id l more p same counted grown are room is =
+    let two : length more ≡ 2 = ap length are in
+    counted-added views new_views next (next + 2) l (view_attributes id) more p same counted grown.attributes
+    (subst (All (λ (r : Row). r.id < next + 2)) (sym are) (All-from_recursion (λ (r : Row). r.id < next + 2) (view_rows next id) (omega arith, (omega arith, tt)))) (omega arith) (omega (arith, room, two)) is
+
+pub counted-size : (views : List LiveView) (next : ℕ) (l : Layout) (size : Option WindowSize) (more : List Row) (p : Problem) → map (λ v. v.0) l.values ≡ map (λ s. s.attr) l.problem.stays → IsCounted views next l.problem
+    → more ≡ size_rows next size → length l.problem.rows + 2 ≤ 2000 → p ≡ with_added l [] more → IsCounted views (next + 2) p
+counted-size views next l size more p same counted are room is =
+    let two : length more ≡ 2 = ap length are in
+    counted-added views views next (next + 2) l [] more p same counted (sym (append-nil (attributes_of views)))
+    (subst (All (λ (r : Row). r.id < next + 2)) (sym are) (All-from_recursion (λ (r : Row). r.id < next + 2) (size_rows next size) (omega arith, (omega arith, tt)))) (omega arith) (omega (arith, room, two)) is
+
+pub counted-line : (views : List LiveView) (next : ℕ) (l : Layout) (line : CompiledLine) (ms : MetricList) (more : List Row) (p : Problem) → map (λ v. v.0) l.values ≡ map (λ s. s.attr) l.problem.stays → IsCounted views next l.problem
+    → IsNextLine views next line → AreRowsNow ms line.rows more → length l.problem.rows + length more ≤ 2000 → p ≡ with_added l [] more → IsCounted views (next + length more) p
+counted-line views next l line ms more p same counted fits are room is =
+    counted-added views views next (next + length more) l [] more p same counted (sym (append-nil (attributes_of views))) (line-below views next line ms more fits are) (omega arith) room is
+
+pub counted-renewed : (views : List LiveView) (next : ℕ) (l : Layout) (rows : List Row) (p : Problem) → map (λ v. v.0) l.values ≡ map (λ s. s.attr) l.problem.stays → IsCounted views next l.problem
+    → map shape rows ≡ map shape l.problem.rows → p ≡ with_rows l rows → IsCounted views next p
+counted-renewed views next l rows p same counted shapes is =
+    subst (IsCounted views next) (sym is) (record {
+      stays = stays-at l.values ∙ same ∙ counted.stays;
+      below = all-unmapped shape (λ s. s.0 < next) rows (subst (All (λ (s : ℕ × List Term). s.0 < next)) (sym shapes) (mapped l.problem.rows counted.below));
+      few = (let long : length rows ≡ length l.problem.rows = sym (length-map rows shape) ∙ ap length shapes ∙ length-map l.problem.rows shape in omega (arith, counted.few, long));
+    })
+  where
+    mapped : (rows : List Row) → All (λ r. r.id < next) rows → All (λ (s : ℕ × List Term). s.0 < next) (map shape rows)
+    mapped rows h = All-map (λ (s : ℕ × List Term). s.0 < next) shape rows h
+
+-- ---- room
+
+pub room-fits : (scene : Scene) (n : ℕ) → (IsCrowded scene n → ⊥) → length scene.rows + n ≤ 2000
+room-fits scene n room = elim (cases_lt 2000 (length scene.rows + n)) [
+  | inl more ↦ absurd (room (inl more))
+  | inr few ↦ few
+]
+
+-- ---- the first session
+
+first-may : All IsRow structural_rows → MayBeAdded (view_attributes 0) 1 structural_rows
+first-may each = record {
+  rows = each;
+  rising = four-rising (λ (r : Row). r.id) (required_row 1 1 Eq zero_fraction) (required_row 2 2 Eq zero_fraction) (required_row 3 3 Ge zero_fraction) (required_row 4 4 Ge zero_fraction) (lit< tt) (lit< tt) (lit< tt);
+  above = All-from_recursion (λ (x : Row). 1 ≤ x.id) structural_rows (omega arith, (omega arith, (omega arith, (omega arith, tt))));
+  only = All-from_recursion (HasOnly (view_attributes 0)) structural_rows
+      (one-only (view_attributes 0) (once 1) (contains-left 0), (one-only (view_attributes 0) (once 2) (contains-top 0), (one-only (view_attributes 0) (once 3) (contains-width 0), (one-only (view_attributes 0) (once 4) (contains-height 0), tt))));
+}
+
+abbrev pub empty : Layout
+empty = record { problem = record { rows = []; stays = [] }; values = [] }
+
+empty-settled : IsSettled empty.problem empty.values
+empty-settled = record {
+  whole = record {
+    rows = λ k d within. absurd (omega (arith, within));
+    stays = λ k d within. absurd (omega (arith, within));
+    rising = pairs-nil (λ (r s : Row). r.id < s.id);
+    apart = pairs-nil (λ (s t : Stay). s.attr ≡ t.attr → ⊥);
+    covered = λ k d within. absurd (omega (arith, within));
+    row_count = omega arith;
+    stay_count = omega arith;
+  };
+  attributes = refl;
+  kept = λ k d within. absurd (omega (arith, within));
+  rising = pairs-nil (λ (u v : ℕ × Fraction). u.0 < v.0);
+}
+
+pub first-whole : (l : Layout) (more : List Row) → l ≡ empty → more ≡ structural_rows → All IsRow more → IsWhole (with_added l (1 ∷ 2 ∷ 3 ∷ 4 ∷ []) more)
+first-whole l more is are each =
+    subst (λ (k : Layout). IsWhole (with_added k (1 ∷ 2 ∷ 3 ∷ 4 ∷ []) more)) (sym is)
+    (subst (λ (rows : List Row). IsWhole (with_added empty (1 ∷ 2 ∷ 3 ∷ 4 ∷ []) rows)) (sym are)
+    (added-whole empty.problem empty.values (view_attributes 0) structural_rows 1 1 empty-settled (λ k d within. absurd (omega (arith, within))) (view-new 0 (lit< tt)) (λ k d within. absurd (omega (arith, within)))
+    (first-may (subst (All IsRow) are each)) (omega arith) (omega arith)))
+
+pub first-counted : (t : ViewTree) (p : Problem) → t ≡ first_tree → p ≡ first_problem → IsCounted t.views 5 p
+first-counted t p tree is =
+    subst (λ (u : ViewTree). IsCounted u.views 5 p) (sym tree)
+    (subst (IsCounted first_tree.views 5) (sym is) (record {
+      stays = refl;
+      below = All-from_recursion (λ (r : Row). r.id < 5) structural_rows (lit< tt, (lit< tt, (lit< tt, (lit< tt, tt))));
+      few = omega arith;
+    }))

@@ -1,0 +1,41 @@
+-- The attributes of views, and what makes the rows and stays of a session a problem.
+use Rattle.std.specs.Prelude.{◌≡◌, ℕ, ◌+◌, ◌*◌, ◌<◌, ◌≤◌, List, [], ◌∷◌, ◌++◌, length, map, All}
+use Rattle.std.specs.List.{Contains}
+use Rattle.problem_core.specs.Layout.{Row, Problem}
+use Rattle.view_tree.specs.Views.{LiveView}
+use Rattle.constraint_compile.specs.Compiled.{RowForm, CompiledLine}
+
+-- left, top, width and height of a view
+abbrev pub view_attributes : ℕ → List ℕ
+view_attributes id = (4 * id + 1) ∷ (4 * id + 2) ∷ (4 * id + 3) ∷ (4 * id + 4) ∷ []
+
+-- those of all views, in order
+abbrev pub attributes_of : List LiveView → List ℕ
+attributes_of [] = []
+attributes_of (v ∷ views) = view_attributes v.id ++ attributes_of views
+
+-- a row has these attributes alone
+abbrev pub HasOnly : List ℕ → Row → Type 0
+HasOnly attrs r = All (λ t. Contains attrs t.attr) r.terms
+
+-- each row's number is the one before it and 1 more, from this number on
+abbrev pub AreNumberedFrom : ℕ → List RowForm → Type 0
+AreNumberedFrom n [] = Unit {0}
+AreNumberedFrom n (f ∷ forms) = (f.id ≡ n) × AreNumberedFrom (n + 1) forms
+
+-- a line whose rows are numbered from this number on, and have attributes of these views alone
+pub record IsNextLine (views : List LiveView) (next : ℕ) (line : CompiledLine) : Type 0 where
+  pub numbers : AreNumberedFrom next line.rows
+  pub attributes : All (λ f. All (λ t. Contains (attributes_of views) t.attr) f.terms) line.rows
+
+-- there is one view more, whose number is above all others
+pub record IsGrown (old new : List LiveView) (id : ℕ) : Type 0 where
+  pub attributes : attributes_of new ≡ attributes_of old ++ view_attributes id
+  pub above : All (λ v. v.id < id) old
+  pub few : length new ≤ 200
+
+-- the stays are those of the views' attributes, and the rows, at most 2,000, have numbers below the next one
+pub record IsCounted (views : List LiveView) (next_row : ℕ) (problem : Problem) : Type 0 where
+  pub stays : map (λ s. s.attr) problem.stays ≡ attributes_of views
+  pub below : All (λ r. r.id < next_row) problem.rows
+  pub few : length problem.rows ≤ 2000
