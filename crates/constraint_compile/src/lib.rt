@@ -37,8 +37,6 @@ pub use rows::constants_now;
 pub use stops::{CompileStop, KindWord};
 
 #[cfg(test)]
-mod format_table;
-#[cfg(test)]
 mod format_tests;
 #[cfg(test)]
 mod tests;

@@ -1,0 +1,69 @@
+// Rows and refusals as text.
+use constraint_compile::{CompileStop, KindWord};
+use frac_core::{Frac, OutOfMemory};
+use problem_core::{Rel, Row};
+
+fn relation(rel: Rel) -> &'static str {
+    match rel {
+        Rel::Eq => "==",
+        Rel::Le => "<=",
+        Rel::Ge => ">=",
+    }
+}
+
+fn put_fraction(out: &mut String, f: Frac) -> Result<(), OutOfMemory> {
+    let num = f.num();
+    let den = f.den();
+    if den == 1 {
+        write!(out, "{num}")?;
+    } else {
+        write!(out, "{num}/{den}")?;
+    }
+    Ok(())
+}
+
+/// Appends the line of a row.
+pub fn put_row(out: &mut String, row: &Row) -> Result<(), OutOfMemory> {
+    let id = row.id();
+    let rank = row.rank();
+    let weight = row.weight();
+    let rel = relation(row.rel());
+    let scale = row.scale();
+    write!(out, "row {id} {rank} {weight} {rel} {scale} ")?;
+    put_fraction(out, row.constant())?;
+    for term in row.terms() {
+        let attr = term.attr;
+        let by = term.by;
+        write!(out, " {attr}:{by}")?;
+    }
+    writeln!(out)?;
+    Ok(())
+}
+
+fn kind(word: KindWord) -> &'static str {
+    match word {
+        KindWord::Align => "align",
+        KindWord::Parent => "parent",
+        KindWord::Object => "object",
+        KindWord::Priority => "priority",
+        KindWord::Weight => "weight",
+        KindWord::Window | KindWord::Suggested | KindWord::Tree => "of another line",
+    }
+}
+
+/// Appends the line of a refusal.
+pub fn put_stop(out: &mut String, stop: &CompileStop) -> Result<(), OutOfMemory> {
+    match stop {
+        CompileStop::Unknown(name) => {
+            let name = str::from_utf8(name.bytes()).unwrap_or("bytes that are no text");
+            writeln!(out, "unknown {name}")?;
+        }
+        CompileStop::Kind(word) => {
+            let word = kind(*word);
+            writeln!(out, "kind {word}")?;
+        }
+        CompileStop::Limit(_) => writeln!(out, "limit")?,
+        CompileStop::OutOfMemory => return Err(OutOfMemory),
+    }
+    Ok(())
+}
