@@ -1,16 +1,12 @@
 -- Which lines may follow.
-use Rattle.std.proofs.Common.{◌≡◌, ℕ, List, [], ◌∷◌, ◌++◌, All, Bool, true, false, IsTrue, ◌↔◌}
+use Rattle.std.proofs.Common.{◌≡◌, ℕ, List, [], ◌∷◌, All, Bool, false, IsTrue, ◌↔◌}
 use Rattle.std.proofs.lemmas.Bool.{false≢true}
-use Rattle.std.proofs.lemmas.List.Elements.{All-push}
 use Rattle.problem_core.specs.declared.parts.Level.{Level}
-use Rattle.cert_core.specs.declared.by.By.{By}
-use Rattle.cert_core.specs.Claims.{BestLevel}
 use Rattle.claim_text.specs.declared.claim_lines.LevelLine.{LevelLine}
 use Rattle.claim_text.specs.declared.claim_lines.ClaimLine.{ClaimLine}
-use Rattle.claim_text.specs.declared.claim_draft.Stage.{Stage}
-use Rattle.claim_text.specs.declared.claim_draft.Stage.TheVariants.{Values, Levels, Bys, Conflict}
+use Rattle.claim_text.specs.declared.claim_draft.Stage.TheVariants.{Bys}
 use Rattle.claim_text.specs.ClaimTexts.{Says, MayFollow, Draft, Step, closed, HasLevels, IsLevelBefore}
-use Rattle.claim_text.proofs.Rising.{All-front, All-at_end}
+use Rattle.claim_text.proofs.Rising.{All-front}
 use Rattle.claim_text.proofs.SameClaims.{one_line}
 
 pub may_not : (old : Draft) (line : List ℕ) (item : ClaimLine) (b : Bool) → Says line item → IsTrue b ↔ MayFollow old item → b ≡ false → (new : Draft) → Step old line new → ⊥

@@ -1,7 +1,7 @@
 -- Readings of the lines of claims, one after the other.
-use Rattle.std.proofs.Common.{◌≡◌, ◌≢◌, ℕ, ◌+◌, ◌<◌, ◌≤◌, List, [], ◌∷◌, ◌++◌, length, take, get_or, All, sym, ap, ◌∙◌, arith, refl, subst}
-use Rattle.std.specs.Prelude.{◌⊎◌, AllPairs}
-use Rattle.std.proofs.lemmas.List.{length-append, length-take, get_or-take, get_or_default}
+use Rattle.std.proofs.Common.{◌≡◌, ◌≢◌, ℕ, ◌+◌, ◌<◌, List, [], ◌∷◌, ◌++◌, length, take, get_or, All, sym, ap, ◌∙◌, arith, refl, subst}
+use Rattle.std.specs.Prelude.{AllPairs}
+use Rattle.std.proofs.lemmas.List.{length-take, get_or-take, get_or_default}
 use Rattle.std.proofs.lemmas.List.Elements.{All-push, All-nil, All-weaker}
 use Rattle.std.proofs.lemmas.List.Quantifiers.{all_pairs_push}
 use Rattle.frac_core.specs.Fraction.{Fraction, IsFitting}
@@ -9,16 +9,14 @@ use Rattle.problem_core.specs.declared.parts.RowName.{RowName}
 use Rattle.problem_core.specs.declared.parts.RowName.TheVariants.{Held, Stay as StayRow}
 use Rattle.problem_core.specs.declared.parts.Level.{Level}
 use Rattle.problem_core.specs.declared.parts.Level.TheVariants.{Priority, Stay as StayLevel}
-use Rattle.problem_core.specs.Kept.{AreRising}
 use Rattle.cert_core.specs.declared.by.By.{By}
 use Rattle.cert_core.specs.Claims.{BestLevel, AreBys, IsLevel, AreLevels, IsPlace}
-use Rattle.claim_text.specs.declared.claim_lines.LevelLine.{LevelLine}
 use Rattle.claim_text.specs.declared.claim_lines.ClaimLine.{ClaimLine}
 use Rattle.claim_text.specs.declared.claim_lines.ClaimLine.TheVariants.{OfValue, OfBest, OfConflict, OfLevel, OfBy}
 use Rattle.claim_text.specs.declared.claim_draft.Stage.{Stage}
 use Rattle.claim_text.specs.declared.claim_draft.Stage.TheVariants.{Values, Levels, Bys, Conflict}
-use Rattle.claim_text.specs.ClaimLines.{IsBy, IsLevelLine, IsLevelName}
-use Rattle.claim_text.specs.ClaimTexts.{Says, MayFollow, Draft, Step, ReadFrom, nothing_read, closed, with_line, HasLevels, HasBys, AreRead, IsLevelRead, IsStage, IsDraft, IsRowBefore, IsLevelBefore, IsFirstBad}
+use Rattle.claim_text.specs.ClaimLines.{IsBy, IsLevelName}
+use Rattle.claim_text.specs.ClaimTexts.{Says, MayFollow, Draft, Step, ReadFrom, nothing_read, closed, with_line, AreRead, IsLevelRead, IsDraft, IsRowBefore, IsLevelBefore, IsFirstBad}
 use Rattle.claim_text.proofs.LineLists.{line_here}
 use Rattle.claim_text.proofs.SameClaims.{one_line}
 use Rattle.claim_text.proofs.Rising.{All-front, AllPairs-front, All-last, All-at_end}

@@ -1,9 +1,9 @@
 -- What is written of a claim is read.
-use Rattle.std.proofs.Common.{◌≡◌, ◌≢◌, ℕ, ◌+◌, ◌<◌, ◌≤◌, ◌^◌, List, [], ◌∷◌, ◌++◌, length, map, All, decimal, sym, ap, ap₂, ◌∙◌, refl, arith, subst, unsigned_abs, inl, inr}
-use Rattle.std.specs.Prelude.{AllPairs, codes, ◌⊎◌}
+use Rattle.std.proofs.Common.{◌≡◌, ℕ, ◌+◌, ◌<◌, List, [], ◌∷◌, ◌++◌, map, All, decimal, sym, ap, ap₂, ◌∙◌, refl, arith, subst, inl, inr}
+use Rattle.std.specs.Prelude.{AllPairs, codes}
 use Rattle.std.specs.Str.Lines.{lines}
 use Rattle.std.specs.Fmt.{signed_decimal}
-use Rattle.std.proofs.lemmas.List.{append_assoc, append-nil, length-append}
+use Rattle.std.proofs.lemmas.List.{append_assoc, append-nil}
 use Rattle.std.proofs.lemmas.List.Elements.{All-append, All-map, All-weaker, All-head, All-tail, All-cons, All-nil}
 use Rattle.frac_core.specs.Fraction.{Fraction}
 use Rattle.frac_core.specs.Text.{fraction_text}
@@ -14,7 +14,6 @@ use Rattle.problem_core.specs.declared.parts.Level.TheVariants.{Priority, Stay a
 use Rattle.cert_core.specs.declared.by.By.{By}
 use Rattle.cert_core.specs.Claims.{BestLevel}
 use Rattle.claim_text.specs.declared.claim_lines.LevelLine.{LevelLine}
-use Rattle.claim_text.specs.declared.claim_lines.ClaimLine.{ClaimLine}
 use Rattle.claim_text.specs.declared.claim_lines.ClaimLine.TheVariants.{OfValue, OfBest, OfConflict, OfLevel, OfBy}
 use Rattle.claim_text.specs.declared.claim_draft.Stage.{Stage}
 use Rattle.claim_text.specs.declared.claim_draft.Stage.TheVariants.{Values, Levels, Bys, Conflict}
@@ -22,10 +21,9 @@ use Rattle.claim_text.specs.declared.claim.Claim.{Claim}
 use Rattle.claim_text.specs.declared.claim.Claim.TheVariants.{IsBest, IsConflict}
 use Rattle.claim_text.specs.declared.stops.ReadStop.{ReadStop}
 use Rattle.claim_text.specs.declared.stops.ReadStop.TheVariants.{BadLine, OutOfMemory}
-use Rattle.claim_text.specs.Words.{words, line_of}
-use Rattle.claim_text.specs.Lines.{text_of_lines}
-use Rattle.claim_text.specs.ClaimLines.{row_word, level_word, value_words, level_words, by_words, best_words, conflict_words, value_line, level_line, by_line, level_lines, lines_of_levels, best_lines, conflict_lines, claim_lines, claim_text, IsRowName, IsLevelName, IsValue, IsLevelLine, IsBy}
-use Rattle.claim_text.specs.ClaimTexts.{Says, MayFollow, Draft, Step, ReadFrom, nothing_read, closed, with_line, HasLevels, HasBys, AreRead, IsLevelRead, IsRowBefore, IsLevelBefore, Ends, Reads, StopsAt, IsFirstBad, EndsEarly, IsWritten, IsRead, LinesStopAt}
+use Rattle.claim_text.specs.Words.{line_of}
+use Rattle.claim_text.specs.ClaimLines.{row_word, level_word, value_words, level_words, by_words, best_words, conflict_words, value_line, level_line, by_line, lines_of_levels, claim_lines, claim_text, IsRowName, IsLevelName, IsValue, IsLevelLine, IsBy}
+use Rattle.claim_text.specs.ClaimTexts.{Draft, Step, ReadFrom, nothing_read, closed, HasLevels, HasBys, AreRead, IsLevelRead, IsRowBefore, IsLevelBefore, Ends, Reads, StopsAt, IsWritten, IsRead, LinesStopAt}
 use Rattle.claim_text.proofs.Rising.{All-front, AllPairs-front, All-last, All-at_end}
 use Rattle.claim_text.proofs.Visible.{IsVisible, decimal_visible, signed_visible, fraction_visible, words_of_line, line_bytes, lines_of_text}
 use Rattle.claim_text.proofs.ClaimReadings.{read_two, one_reading, no_bad_line}

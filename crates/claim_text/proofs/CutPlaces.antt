@@ -1,13 +1,12 @@
 -- Places between lines.
-use Rattle.std.proofs.Common.{◌≡◌, ℕ, ◌+◌, ◌-◌, ◌<◌, ◌≤◌, ◌==◌, List, [], ◌∷◌, ◌++◌, length, take, drop, All, Bool, false, sym, ap, ◌∙◌, refl, arith, inl, inr, subst, zero, suc, zero-add, IsTrue}
-use Rattle.std.specs.Prelude.{◌⊎◌}
+use Rattle.std.proofs.Common.{◌≡◌, ℕ, ◌+◌, ◌-◌, ◌<◌, ◌≤◌, ◌==◌, List, [], ◌∷◌, ◌++◌, length, take, drop, Bool, false, sym, ap, ◌∙◌, refl, arith, inl, inr, subst, zero, suc, zero-add, IsTrue}
 use Rattle.std.specs.Str.Lines.{lines, lines_of_parts, strip_carriage_return}
 use Rattle.std.proofs.lemmas.Bool.Decides.{nat_tests}
 use Rattle.std.proofs.lemmas.Bool.{false≢true}
 use Rattle.std.proofs.lemmas.List.{append_assoc, append-nil, length-append, take_at, drop_at, take_all, drop_all, take-append-drop, length-drop, length-take-le, same_from_push}
 use Rattle.std.proofs.lemmas.List.Elements.{All-push, All-nil}
 use Rattle.span_text.proofs.Cuts.{lines_at, lines_last, first_part}
-use Rattle.claim_text.specs.Cut.{BeginsClaim, IsClaimStart, IsWithoutOk, IsCut, ok_line}
+use Rattle.claim_text.specs.Cut.{BeginsClaim, IsClaimStart, IsWithoutOk, ok_line}
 use Rattle.claim_text.specs.CutLines.{IsWhole, IsLineLength, IsLastStart, IsPlace}
 use Rattle.claim_text.specs.Words.{parts}
 use Rattle.claim_text.proofs.Parts.{IsFree, whole_is}

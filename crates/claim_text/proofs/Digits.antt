@@ -1,5 +1,5 @@
 -- The values of digits, and the digits of values.
-use Rattle.std.proofs.Common.{◌≡◌, ℕ, ◌<◌, ◌≤◌, ◌+◌, ◌*◌, ◌-◌, ◌^◌, List, length, get_or, take, All, arith, decimal, sym, ap, ◌∙◌, zero, suc, ◌∷◌, ◌==◌, Bool, false, ℤ, pos, negsuc, unsigned_abs}
+use Rattle.std.proofs.Common.{◌≡◌, ℕ, ◌<◌, ◌≤◌, ◌+◌, ◌*◌, ◌-◌, ◌^◌, List, length, get_or, take, All, arith, decimal, sym, ap, ◌∙◌, zero, suc, ◌∷◌, ◌==◌, false, ℤ, pos, negsuc, unsigned_abs}
 use Rattle.std.specs.Char.{IsAsciiDigit}
 use Rattle.std.specs.Int.{IsInRange}
 use Rattle.std.specs.Str.Parse.{digits_value}

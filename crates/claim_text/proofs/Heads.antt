@@ -1,5 +1,5 @@
 -- What stands before the terms of a row.
-use Rattle.std.proofs.Common.{◌≡◌, ℕ, List, ◌++◌, map, refl, arith}
+use Rattle.std.proofs.Common.{◌≡◌, ◌++◌, map, refl, arith}
 use Rattle.problem_core.specs.Kept.{IsRow}
 use Rattle.problem_core.specs.Layout.{Row}
 use Rattle.claim_text.specs.declared.row_lines.Head.{Head}

@@ -20,3 +20,4 @@ pub mod ClaimReadings
 pub mod LevelTexts
 pub mod CutPlaces
 pub mod ClaimRoundTrip
+pub mod SeenStays

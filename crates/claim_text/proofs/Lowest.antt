@@ -1,5 +1,5 @@
 -- Fractions in lowest terms, and their text.
-use Rattle.std.proofs.Common.{◌≡◌, ℕ, ◌+◌, ◌-◌, ◌*◌, ◌<◌, ◌≤◌, ◌^◌, ◌==◌, Bool, true, false, List, [], ◌∷◌, ◌++◌, ℤ, pos, unsigned_abs, decimal, arith, ap, ap₂, sym, ◌∙◌, refl, inl, inr}
+use Rattle.std.proofs.Common.{◌≡◌, ℕ, ◌-◌, ◌*◌, ◌≤◌, ◌^◌, ◌==◌, false, List, [], ◌∷◌, ◌++◌, ℤ, pos, unsigned_abs, decimal, arith, ap, ap₂, sym, ◌∙◌, refl, inl, inr}
 use Rattle.std.specs.Prelude.{◌*ℤ◌, ◌⊎◌}
 use Rattle.std.proofs.Math.IntN.{*ℤ_comm}
 use Rattle.std.specs.Char.{IsAsciiDigit}

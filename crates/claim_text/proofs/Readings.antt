@@ -1,7 +1,7 @@
 -- Readings of lines, one after the other.
-use Rattle.std.proofs.Common.{◌≡◌, ◌≢◌, ℕ, ◌+◌, ◌<◌, ◌≤◌, List, [], ◌∷◌, ◌++◌, length, All, Bool, true, false, sym, ap, ◌∙◌, arith, refl, inl, inr, ◌==◌}
-use Rattle.std.specs.Prelude.{◌⊎◌, AllPairs, Contains}
-use Rattle.std.specs.List.{Any, slice_split}
+use Rattle.std.proofs.Common.{◌≡◌, ◌≢◌, ℕ, ◌+◌, ◌<◌, ◌≤◌, List, [], ◌∷◌, ◌++◌, length, All, ap, ◌∙◌, arith, refl, inl, inr, ◌==◌}
+use Rattle.std.specs.Prelude.{AllPairs, Contains}
+use Rattle.std.specs.List.{slice_split}
 use Rattle.std.specs.Str.Lines.{lines, lines_of_parts}
 use Rattle.std.proofs.lemmas.List.{length_push, get_or_append_left, length-append}
 use Rattle.std.proofs.lemmas.List.Elements.{All-push, All-weaker, All-nil, All-contains}
@@ -15,7 +15,7 @@ use Rattle.problem_core.specs.Kept.{IsRow, IsStay, IsWhole}
 use Rattle.problem_core.specs.Layout.{Row, Problem, HasStay as HasStayIn, IsCovered}
 use Rattle.claim_text.specs.declared.items.Item.{Item}
 use Rattle.claim_text.specs.declared.items.Item.TheVariants.{Nothing, OfRow, OfStay}
-use Rattle.claim_text.specs.Problems.{Says, MayFollow, RowMayFollow, with_item, Step, ReadFrom, Reads, nothing_read, HasStayLine, IsStayOf, AreStayAttributes, IsFirstBad}
+use Rattle.claim_text.specs.Problems.{Says, MayFollow, with_item, Step, ReadFrom, Reads, nothing_read, HasStayLine, IsStayOf, AreStayAttributes, IsFirstBad}
 use Rattle.claim_text.proofs.Same.{one_item}
 use Rattle.claim_text.proofs.LineLists.{line_here, no_line_left}
 

@@ -1,5 +1,5 @@
 -- What is written is read.
-use Rattle.std.proofs.Common.{◌≡◌, ◌≢◌, ℕ, ◌+◌, ◌<◌, ◌≤◌, List, [], ◌∷◌, ◌++◌, length, map, All, sym, ap, ◌∙◌, refl, arith, zero, suc, get_or, inl, inr, subst}
+use Rattle.std.proofs.Common.{◌≡◌, ◌≢◌, ℕ, ◌<◌, ◌≤◌, List, [], ◌∷◌, ◌++◌, length, map, All, sym, ap, ◌∙◌, refl, arith, zero, suc, get_or, inl, inr, subst}
 use Rattle.std.specs.Prelude.{AllPairs}
 use Rattle.std.specs.Str.Lines.{lines}
 use Rattle.std.proofs.lemmas.List.{append_assoc, append-nil, length-append}
@@ -8,11 +8,10 @@ use Rattle.problem_core.specs.declared.parts.Stay.{Stay}
 use Rattle.problem_core.specs.declared.parts.Term.{Term}
 use Rattle.problem_core.specs.Kept.{IsRow, IsStay, IsWhole}
 use Rattle.problem_core.specs.Layout.{Row, Problem, HasStay as HasStayIn, IsCovered}
-use Rattle.claim_text.specs.declared.items.Item.{Item}
-use Rattle.claim_text.specs.declared.items.Item.TheVariants.{Nothing, OfRow, OfStay}
+use Rattle.claim_text.specs.declared.items.Item.TheVariants.{OfRow, OfStay}
 use Rattle.claim_text.specs.Words.{words}
-use Rattle.claim_text.specs.Lines.{row_words, stay_words, row_line, stay_line, problem_text, text_of_lines}
-use Rattle.claim_text.specs.Problems.{Says, MayFollow, with_item, Step, ReadFrom, Reads, nothing_read, HasStayLine, IsFirstBad, StopsAt}
+use Rattle.claim_text.specs.Lines.{row_words, stay_words, row_line, stay_line, problem_text}
+use Rattle.claim_text.specs.Problems.{with_item, Step, ReadFrom, Reads, nothing_read, HasStayLine, IsFirstBad, StopsAt}
 use Rattle.claim_text.specs.declared.stops.ReadStop.{ReadStop}
 use Rattle.claim_text.specs.declared.stops.ReadStop.TheVariants.{BadLine, OutOfMemory}
 use Rattle.claim_text.proofs.Same.{one_item}

@@ -1,6 +1,6 @@
 -- One row, one stay, one fraction at most has these words.
-use Rattle.std.proofs.Common.{◌≡◌, ℕ, ◌+◌, ◌<◌, ◌≤◌, ◌^◌, List, [], ◌∷◌, ◌++◌, length, get_or, drop, All, Bool, true, false, decimal, ap, ap₂, sym, ◌∙◌, arith, map, inl, inr, refl}
-use Rattle.std.specs.Prelude.{◌⊎◌, codes}
+use Rattle.std.proofs.Common.{◌≡◌, ℕ, List, [], ◌∷◌, ◌++◌, get_or, drop, All, true, false, decimal, ap, ap₂, sym, ◌∙◌, arith, map, inl, inr, refl}
+use Rattle.std.specs.Prelude.{codes}
 use Rattle.std.specs.Fmt.{signed_decimal}
 use Rattle.std.specs.List.{join_with_byte}
 use Rattle.std.proofs.lemmas.Bool.{false≢true}
@@ -17,10 +17,10 @@ use Rattle.problem_core.specs.Kept.{IsRow, IsStay, IsTerm}
 use Rattle.problem_core.specs.Layout.{Row}
 use Rattle.claim_text.specs.declared.items.Item.{Item}
 use Rattle.claim_text.specs.declared.items.Item.TheVariants.{Nothing, OfRow, OfStay}
-use Rattle.claim_text.specs.Words.{words, parts}
+use Rattle.claim_text.specs.Words.{words}
 use Rattle.claim_text.specs.Lines.{rel_word, row_words, stay_words, term_word}
 use Rattle.claim_text.specs.Problems.{Says, IsPassedOver}
-use Rattle.claim_text.proofs.Parts.{parts_two, same_text, cut_is, not_whole, parts_one}
+use Rattle.claim_text.proofs.Parts.{parts_two, cut_is, not_whole, parts_one}
 use Rattle.claim_text.proofs.Digits.{same_value, same_integer}
 use Rattle.claim_text.proofs.Lowest.{same_parts, text_cases, num_free}
 use Rattle.claim_text.proofs.Rising.{begins}

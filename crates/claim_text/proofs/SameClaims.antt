@@ -1,7 +1,7 @@
 -- One value, one level, one multiplier at most has these words.
-use Rattle.std.proofs.Common.{◌≡◌, ◌≢◌, ℕ, ℤ, ◌+◌, ◌*◌, ◌<◌, ◌≤◌, ◌^◌, List, [], ◌∷◌, ◌++◌, get_or, decimal, ap, ap₂, sym, ◌∙◌, arith, refl, unsigned_abs}
+use Rattle.std.proofs.Common.{◌≡◌, ℕ, ℤ, ◌+◌, ◌*◌, List, [], get_or, decimal, ap, ap₂, sym, ◌∙◌, arith, refl}
 use Rattle.std.specs.Fmt.{signed_decimal}
-use Rattle.frac_core.specs.Fraction.{Fraction, IsKept}
+use Rattle.frac_core.specs.Fraction.{Fraction}
 use Rattle.frac_core.specs.Text.{fraction_text}
 use Rattle.problem_core.specs.declared.parts.RowName.{RowName}
 use Rattle.problem_core.specs.declared.parts.RowName.TheVariants.{Held, Stay as StayRow}

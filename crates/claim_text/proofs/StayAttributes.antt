@@ -1,5 +1,5 @@
 -- The attributes that have stays.
-use Rattle.std.proofs.Common.{◌≡◌, ℕ, ◌+◌, ◌<◌, ◌≤◌, List, [], ◌∷◌, ◌++◌, length, get_or, All, Bool, true, false, IsTrue, ◌↔◌, Ok, Err, Result, sym, ap, ◌∙◌, arith, refl, inl, inr}
+use Rattle.std.proofs.Common.{◌≡◌, ℕ, ◌<◌, ◌≤◌, List, [], ◌∷◌, ◌++◌, length, get_or, Bool, IsTrue, ◌↔◌, Ok, Err, Result, sym, ap, ◌∙◌, arith, refl, inl, inr}
 use Rattle.std.specs.Prelude.{◌⊎◌, Contains, is_ok, MatchResult}
 use Rattle.std.proofs.lemmas.Bool.{false≢true, cases_lt}
 use Rattle.std.proofs.lemmas.List.{get_or_default}

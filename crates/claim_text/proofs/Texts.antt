@@ -1,11 +1,9 @@
 -- Lines and their words, joined.
-use Rattle.std.proofs.Common.{◌≡◌, ℕ, ◌+◌, ◌<◌, List, [], ◌∷◌, ◌++◌, length, get_or, take, map, decimal, sym, ap, ◌∙◌, refl}
+use Rattle.std.proofs.Common.{◌≡◌, ℕ, ◌+◌, ◌<◌, List, [], ◌∷◌, ◌++◌, length, get_or, take, map, sym, ap, ◌∙◌, refl}
 use Rattle.std.specs.List.{join_with_byte}
-use Rattle.std.proofs.lemmas.List.{append_assoc, append-nil, map_more, map-append}
-use Rattle.frac_core.specs.Text.{fraction_text}
-use Rattle.problem_core.specs.Layout.{Row, Problem}
-use Rattle.claim_text.specs.Words.{line_of}
-use Rattle.claim_text.specs.Lines.{spaced, rel_word, term_word, row_words, row_line, stay_line, head_line, text_of_lines}
+use Rattle.std.proofs.lemmas.List.{append_assoc, append-nil, map_more}
+use Rattle.problem_core.specs.Layout.{Row}
+use Rattle.claim_text.specs.Lines.{spaced, term_word, row_line, head_line, text_of_lines}
 
 pub spaced-append : (xs ys : List (List ℕ)) → spaced (xs ++ ys) ≡ spaced xs ++ spaced ys
 spaced-append [] ys = refl

@@ -1,6 +1,6 @@
 -- Words have visible bytes alone, so that lines and texts are cut back into them.
-use Rattle.std.proofs.Common.{◌≡◌, ℕ, ◌+◌, ◌-◌, ◌<◌, ◌≤◌, ◌^◌, ◌==◌, List, [], ◌∷◌, ◌++◌, length, get_or, take, map, All, Bool, true, false, decimal, ℤ, pos, negsuc, unsigned_abs, sym, ap, ◌∙◌, refl, arith, inl, inr, suc}
-use Rattle.std.specs.Prelude.{◌⊎◌, codes}
+use Rattle.std.proofs.Common.{◌≡◌, ℕ, ◌-◌, ◌<◌, ◌≤◌, ◌^◌, ◌==◌, List, [], ◌∷◌, ◌++◌, length, get_or, map, All, false, decimal, ℤ, pos, negsuc, unsigned_abs, ap, ◌∙◌, refl, arith, inl, inr, suc}
+use Rattle.std.specs.Prelude.{codes}
 use Rattle.std.specs.Char.{IsAsciiDigit}
 use Rattle.std.specs.Fmt.{signed_decimal}
 use Rattle.std.specs.List.{join_with_byte}
@@ -16,7 +16,7 @@ use Rattle.problem_core.specs.declared.parts.Term.{Term}
 use Rattle.problem_core.specs.declared.parts.Stay.{Stay}
 use Rattle.problem_core.specs.Kept.{IsRow, IsStay, IsTerm}
 use Rattle.problem_core.specs.Layout.{Row}
-use Rattle.claim_text.specs.Words.{words, parts, line_of}
+use Rattle.claim_text.specs.Words.{words, line_of}
 use Rattle.claim_text.specs.Lines.{rel_word, term_word, row_words, stay_words, text_of_lines}
 use Rattle.claim_text.proofs.Parts.{IsFree, parts_one, parts_two}
 use Rattle.claim_text.proofs.Digits.{decimal_digits}

@@ -1,5 +1,5 @@
 -- The words of the lines of claims.
-use Rattle.std.specs.Prelude.{◌≡◌, ◌≢◌, ℕ, ◌<◌, ◌≤◌, List, [], ◌∷◌, ◌++◌, map, codes, decimal, ℤ, pos}
+use Rattle.std.specs.Prelude.{◌≢◌, ℕ, ◌≤◌, List, [], ◌∷◌, ◌++◌, map, codes, decimal, pos}
 use Rattle.std.specs.Fmt.{signed_decimal}
 use Rattle.frac_core.specs.Fraction.{Fraction, IsKept, IsFitting}
 use Rattle.frac_core.specs.Text.{fraction_text}

@@ -7,7 +7,6 @@ use Rattle.problem_core.specs.declared.parts.Level.{Level}
 use Rattle.problem_core.specs.declared.parts.Level.TheVariants.{Priority, Stay as StayLevel}
 use Rattle.cert_core.specs.declared.by.By.{By}
 use Rattle.cert_core.specs.Claims.{BestLevel}
-use Rattle.claim_text.specs.declared.claim_lines.LevelLine.{LevelLine}
 use Rattle.claim_text.specs.declared.claim_lines.ClaimLine.{ClaimLine}
 use Rattle.claim_text.specs.declared.claim_lines.ClaimLine.TheVariants.{OfValue, OfBest, OfConflict, OfLevel, OfBy}
 use Rattle.claim_text.specs.declared.claim_draft.Stage.{Stage}

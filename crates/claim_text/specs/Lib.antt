@@ -6,3 +6,4 @@ pub mod ClaimLines
 pub mod ClaimTexts
 pub mod Cut
 pub mod CutLines
+pub mod Seen

@@ -1,5 +1,5 @@
 -- The words of the lines of problems.
-use Rattle.std.specs.Prelude.{◌≡◌, ℕ, ◌<◌, ◌≤◌, ◌^◌, List, [], ◌∷◌, ◌++◌, length, map, All, AllPairs, codes, decimal}
+use Rattle.std.specs.Prelude.{ℕ, ◌<◌, ◌≤◌, ◌^◌, List, [], ◌∷◌, ◌++◌, length, map, All, AllPairs, codes, decimal}
 use Rattle.std.specs.Fmt.{signed_decimal}
 use Rattle.frac_core.specs.Fraction.{IsKept}
 use Rattle.frac_core.specs.Text.{fraction_text}

@@ -1,5 +1,5 @@
 -- Lists as sets.
-use Rattle.std.specs.Prelude.{ℕ, List, Contains, All}
+use Rattle.std.specs.Prelude.{ℕ, List, Contains}
 
 -- the same numbers, in whatever order
 pub record HaveSame (xs ys : List ℕ) : Type 0 where

@@ -1,5 +1,5 @@
 -- The words of a line, and the parts of a word.
-use Rattle.std.specs.Prelude.{ℕ, ◌<◌, ◌≤◌, ◌==◌, List, [], ◌∷◌, length, All, Option, Some, None}
+use Rattle.std.specs.Prelude.{ℕ, ◌<◌, ◌≤◌, ◌==◌, List, length, All}
 use Rattle.std.specs.Char.{IsAsciiDigit}
 use Rattle.std.specs.List.{slice_split, join_with_byte}
 

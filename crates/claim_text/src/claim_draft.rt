@@ -1,5 +1,5 @@
 // A claim while it is read.
-ghost use Rattle.std.specs.Prelude.{◌≡◌, ◌<◌, ◌++◌, ◌∷◌, [], ℕ, All, IfOk, IfSome, IfNone, IsTrue, ◌↔◌, true, false, List};
+ghost use Rattle.std.specs.Prelude.{◌≡◌, ◌<◌, ◌++◌, ◌∷◌, [], ℕ, All, AllPairs, IfOk, IfSome, IfNone, IsTrue, ◌↔◌, true, false, List, map};
 ghost use Rattle.frac_core.specs.Fraction.{Fraction};
 ghost use Rattle.problem_core.specs.Kept.{AreRising};
 ghost use Rattle.problem_core.specs.declared.parts.RowName.{RowName};
@@ -7,10 +7,12 @@ ghost use Rattle.problem_core.specs.declared.parts.Level.{Level};
 
 use crate::claim::Claim;
 use crate::claim_lines::{ClaimLine, LevelLine, read_claim_line};
+use crate::seen::Seen;
 use cert_core::{Best, By, Conflict};
 use frac_core::{Frac, OutOfMemory};
 use problem_core::{Level, RowName, Values};
 use std::alloc::Global;
+use std::collections::BTreeMap;
 use std::marker::Model;
 use std::mem;
 
@@ -58,13 +60,18 @@ impl Model for ClaimDraft {
 
 // Whether the attribute is above those of all these values.
 fn is_above(values: &[(u32, Frac)], attr: u32) -> bool
+    requires { AreRising values.now }
     ensures { IsTrue result ↔ All (λ v. v.0 < attr) values.now }
 {
-    values.iter().all(|v| v.0 < attr)
+    if values.is_empty() {
+        return true;
+    }
+    values[values.len() - 1].0 < attr
 }
 
 ghost use Rattle.cert_core.specs.Claims.{BestLevel};
 ghost use Rattle.claim_text.specs.ClaimTexts.{IsRowBefore, IsLevelBefore};
+ghost use Rattle.claim_text.specs.Seen.{AreRowKeys};
 
 fn is_row_before(a: RowName, b: RowName) -> bool
     ensures { IsTrue result ↔ IsRowBefore a b }
@@ -88,28 +95,19 @@ fn is_level_before(a: Level, b: Level) -> bool
     }
 }
 
-// Whether the row may stand behind all these.
-fn are_rows_before(bys: &[By], row: RowName) -> bool
+// Whether the row may stand behind all these, whose stays are the keys.
+fn are_rows_before(keys: &BTreeMap<u32, u32>, bys: &[By], row: RowName) -> bool
+    requires order { AllPairs (λ a b. IsRowBefore a.row b.row) bys.now }
+    requires keys { AreRowKeys (map (λ b. b.row) bys.now) keys.now }
     ensures { IsTrue result ↔ All (λ b. IsRowBefore b.row row) bys.now }
 {
-    for by in bys {
-        if !is_row_before(by.row, row) {
-            return false;
-        }
+    if let RowName::Stay(attr) = row {
+        return !keys.contains_key(&attr);
     }
-    true
-}
-
-// Whether the level may stand behind all these.
-fn are_levels_before(levels: &[EndedLevel], level: Level) -> bool
-    ensures { IsTrue result ↔ All (λ l. IsLevelBefore l.level level) levels.now }
-{
-    for ended in levels {
-        if !is_level_before(ended.level(), level) {
-            return false;
-        }
+    if bys.is_empty() {
+        return true;
     }
-    true
+    is_row_before(bys[bys.len() - 1].row, row)
 }
 
 impl EndedLevel {
@@ -134,6 +132,23 @@ impl EndedLevel {
 
 ghost use Rattle.cert_core.specs.Claims.{AreBys, AreLevels};
 
+fn level_of(line: &LevelLine) -> Level
+    ensures { result ≡ line.now.level }
+{
+    line.level
+}
+
+// The last level.
+fn last_of(levels: &[EndedLevel]) -> Option<Level>
+    ensures none { IfNone result (levels.now ≡ []) }
+    ensures some { IfSome result (λ last. (front : List Level) × (map (λ l. l.level) levels.now ≡ front ++ last ∷ [])) }
+{
+    if levels.is_empty() {
+        return None;
+    }
+    Some(levels[levels.len() - 1].level())
+}
+
 // The certificate of these levels.
 fn best_of(alloc: Global, levels: &[EndedLevel]) -> Result<Best, OutOfMemory>
     requires { AreLevels levels.now }
@@ -150,6 +165,8 @@ impl ClaimDraft {
     ghost use Rattle.cert_core.specs.Claims.{BestLevel};
     ghost use Rattle.claim_text.specs.declared.claim_lines.ClaimLine as item;
     ghost use Rattle.claim_text.specs.ClaimTexts as claims;
+    ghost use Rattle.problem_core.specs.declared.parts.Level as level;
+    ghost use Rattle.claim_text.specs.Seen.{AreRowKeys, AreLevelKeys, AreSeen, levels_of, rows_of};
     ghost use Rattle.claim_text.specs.ClaimTexts.{nothing_read, closed, HasLevels, HasBys, IsRowBefore, IsLevelBefore, MayFollow, with_line, Step, Ends, IsDraft};
 
     pub(crate) fn new(alloc: Global) -> ClaimDraft
@@ -189,44 +206,65 @@ impl ClaimDraft {
     }
 
     fn value_may_follow(&self, attr: u32) -> bool
+        requires { AreRising self.now.values }
         ensures { IsTrue result ↔ ((self.now.stage ≡ Stage.Values) × All (λ v. v.0 < attr) self.now.values) }
     {
         self.takes_values() && is_above(&self.values, attr)
     }
 
-    fn by_may_follow(&self, row: RowName) -> bool
+    fn by_may_follow(&self, keys: &BTreeMap<u32, u32>, row: RowName) -> bool
+        requires order { AllPairs (λ a b. IsRowBefore a.row b.row) self.now.bys }
+        requires keys { AreRowKeys (rows_of self.now) keys.now }
         ensures { IsTrue result ↔ (HasBys self.now.stage × All (λ b. IsRowBefore b.row row) self.now.bys) }
     {
-        self.has_bys() && are_rows_before(&self.bys, row)
+        self.has_bys() && are_rows_before(keys, &self.bys, row)
     }
 
-    // Whether the level may stand behind those that have ended.
-    fn ended_are_before(&self, level: Level) -> bool
-        ensures { IsTrue result ↔ All (λ l. IsLevelBefore l.level level) self.now.levels }
+    // The last level, which is the open one where one is.
+    fn last_level(&self) -> Option<Level>
+        ensures none { IfNone result (levels_of self.now ≡ []) }
+        ensures some { IfSome result (λ last. (front : List level.Level) × (levels_of self.now ≡ front ++ last ∷ [])) }
     {
-        are_levels_before(&self.levels, level)
-    }
-
-    fn level_may_follow(&self, level: Level) -> bool
-        ensures { IsTrue result ↔ (HasLevels self.now.stage × All (λ l. IsLevelBefore l.level level) (closed self.now.stage self.now.levels self.now.bys)) }
-    {
-        let ended = self.ended_are_before(level);
         match self.stage {
-            Stage::Levels => ended,
-            Stage::Bys(open) => ended && is_level_before(open.level, level),
-            Stage::Values | Stage::Conflict => false,
+            Stage::Bys(open) => Some(level_of(&open)),
+            _ => last_of(&self.levels),
         }
     }
 
-    fn may_follow(&self, line: &ClaimLine) -> bool
+    // Whether the level may stand behind all, whose stays are the keys.
+    fn levels_are_before(&self, keys: &BTreeMap<u32, u32>, level: Level) -> bool
+        requires order { AllPairs (λ k l. IsLevelBefore k.level l.level) (closed self.now.stage self.now.levels self.now.bys) }
+        requires keys { AreLevelKeys (levels_of self.now) keys.now }
+        ensures { IsTrue result ↔ All (λ l. IsLevelBefore l.level level) (closed self.now.stage self.now.levels self.now.bys) }
+    {
+        if let Level::Stay(attr) = level {
+            return !keys.contains_key(&attr);
+        }
+        match self.last_level() {
+            None => true,
+            Some(last) => is_level_before(last, level),
+        }
+    }
+
+    fn level_may_follow(&self, keys: &BTreeMap<u32, u32>, level: Level) -> bool
+        requires order { AllPairs (λ k l. IsLevelBefore k.level l.level) (closed self.now.stage self.now.levels self.now.bys) }
+        requires keys { AreLevelKeys (levels_of self.now) keys.now }
+        ensures { IsTrue result ↔ (HasLevels self.now.stage × All (λ l. IsLevelBefore l.level level) (closed self.now.stage self.now.levels self.now.bys)) }
+    {
+        self.has_levels() && self.levels_are_before(keys, level)
+    }
+
+    fn may_follow(&self, seen: &Seen, line: &ClaimLine) -> bool
+        requires draft { IsDraft self.now }
+        requires seen { AreSeen self.now seen.now }
         ensures { IsTrue result ↔ MayFollow self.now line.now }
     {
         match line {
             ClaimLine::OfValue((attr, _)) => self.value_may_follow(*attr),
             ClaimLine::OfBest => self.takes_values(),
             ClaimLine::OfConflict => self.is_fresh(),
-            ClaimLine::OfLevel(line) => self.level_may_follow(line.level),
-            ClaimLine::OfBy(by) => self.by_may_follow(by.row),
+            ClaimLine::OfLevel(line) => self.level_may_follow(&seen.levels, line.level),
+            ClaimLine::OfBy(by) => self.by_may_follow(&seen.rows, by.row),
         }
     }
 
@@ -262,16 +300,25 @@ impl ClaimDraft {
     }
 
     /// Adds what the line says. The answer is false where the line may not follow those before it.
-    pub(crate) fn take_line(&mut self, alloc: Global, line: &[u8]) -> Result<bool, OutOfMemory>
+    pub(crate) fn take_line(
+        &mut self,
+        alloc: Global,
+        seen: &mut Seen,
+        line: &[u8],
+    ) -> Result<bool, OutOfMemory>
+        requires draft { IsDraft self.old }
+        requires seen { AreSeen self.old seen.old }
+        ensures seen { IfOk result (λ good. good ≡ true → AreSeen self.new seen.new) }
         ensures taken { IfOk result (λ good. good ≡ true → Step self.old line.now self.new) }
         ensures refused { IfOk result (λ good. good ≡ false → (new : claims.Draft) → Step self.old line.now new → ⊥) }
     {
         let Some(item) = read_claim_line(line) else {
             return Ok(false);
         };
-        if !self.may_follow(&item) {
+        if !self.may_follow(seen, &item) {
             return Ok(false);
         }
+        seen.note(alloc, &item)?;
         self.put(alloc, item)?;
         Ok(true)
     }

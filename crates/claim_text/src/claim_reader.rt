@@ -7,6 +7,7 @@ ghost use Rattle.claim_text.specs.ClaimTexts.{IsRead, LinesStopAt, Reads, StopsA
 
 use crate::claim::Claim;
 use crate::claim_draft::ClaimDraft;
+use crate::seen::Seen;
 use crate::stops::ReadStop;
 use span_text::lines;
 use std::alloc::Global;
@@ -25,10 +26,11 @@ fn read_lines(alloc: Global, text: &[u8]) -> Result<ReadLines, ReadStop>
     ensures stop { IfErr result (LinesStopAt (lines text.now)) }
 {
     let mut draft = ClaimDraft::new(alloc);
+    let mut seen = Seen::new(alloc);
     let mut count = 0;
     for line in lines(text) {
         count += 1;
-        if !draft.take_line(alloc, line.bytes)? {
+        if !draft.take_line(alloc, &mut seen, line.bytes)? {
             return Err(ReadStop::BadLine(count));
         }
     }

@@ -17,6 +17,7 @@ mod numbers;
 mod problem_reader;
 mod problem_writer;
 mod row_lines;
+mod seen;
 mod stay_lines;
 mod stops;
 mod term_words;

@@ -1,4 +1,4 @@
-use Rattle.std.proofs.Common.{string_bytes, map, codes, ◌++◌, ◌∷◌, [], ◌∙◌, ap}
+use Rattle.std.proofs.Common.{string_bytes, map, codes, ◌++◌, ◌∷◌, []}
 use Rattle.std.proofs.lemmas.Result.{IfOk-weaker}
 use Rattle.claim_text.specs.Words.{line_of}
 use Rattle.claim_text.specs.Lines.{text_of_lines}

@@ -1,6 +1,5 @@
-use Rattle.std.proofs.Common.{arith, ◌+◌, ◌-◌, ◌≡◌, ◌++◌, ◌∷◌, length}
-use Rattle.std.proofs.lemmas.List.{length-append}
-use Rattle.claim_text.proofs.CutPlaces.{line_ended, line_open, rest_count}
+use Rattle.std.proofs.Common.{◌≡◌, ◌++◌, ◌∷◌}
+use Rattle.claim_text.proofs.CutPlaces.{line_ended, rest_count}
 use Rattle.claim_text.proofs.cut.line_length.Goals as goal
 
 pub returns-in-Some : goal.returns-in-Some

@@ -1,4 +1,4 @@
-use Rattle.std.proofs.Common.{◌≡◌, ℕ, ℤ, pos, negsuc, zero, suc, ◌<◌, ◌≤◌, ◌^◌, decimal, unsigned_abs, List, ◌∷◌, arith}
+use Rattle.std.proofs.Common.{◌≡◌, ℕ, ℤ, pos, negsuc, suc, ◌<◌, ◌≤◌, ◌^◌, decimal, unsigned_abs, List, ◌∷◌, arith}
 use Rattle.std.specs.Fmt.{signed_decimal}
 use Rattle.claim_text.proofs.Digits.{no_minus}
 use Rattle.claim_text.proofs.numbers.integer.Goals as goal

@@ -1,4 +1,4 @@
-use Rattle.std.proofs.Common.{refl, ◌≡◌, pos, SFits, w64, sym, ◌∙◌, rules}
+use Rattle.std.proofs.Common.{refl, pos, SFits, w64, sym, ◌∙◌, rules}
 use Rattle.std.specs.Int.{w128}
 use Rattle.std.proofs.lemmas.Int.{to_z-of_z}
 use Rattle.frac_core.specs.Fraction.{IsRatio}

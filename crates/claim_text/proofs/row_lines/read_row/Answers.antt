@@ -1,4 +1,4 @@
-use Rattle.std.proofs.Common.{map, sym, ◌∙◌}
+use Rattle.std.proofs.Common.{map, ◌∙◌}
 use Rattle.claim_text.specs.Lines.{term_word}
 use Rattle.claim_text.proofs.Heads.{head_of, head_is, words_in_two}
 use Rattle.claim_text.proofs.row_lines.read_row.Goals as goal

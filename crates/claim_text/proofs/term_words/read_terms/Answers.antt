@@ -1,5 +1,3 @@
-use Rattle.std.proofs.Common.{sym}
-use Rattle.claim_text.specs.Lines.{AreTerms}
 use Rattle.claim_text.proofs.Terms.{stuck}
 use Rattle.claim_text.proofs.term_words.read_terms.Goals as goal
 

@@ -1,4 +1,3 @@
-use Rattle.std.proofs.Common.{rules, Some}
 use Rattle.claim_text.specs.Problems.{Says}
 use Rattle.claim_text.proofs.Refused.{may_not}
 use Rattle.claim_text.proofs.draft.Draft.take_line.Goals as goal
