@@ -12,7 +12,7 @@ use Rattle.constraint_compile.specs.declared.stops.CompileStop.{CompileStop}
 use Rattle.layout_engine.specs.Layouts.{AreBest}
 use Rattle.session_undo.specs.Scene.{Scene, State, problem_of}
 use Rattle.session_undo.specs.Replies.{Reply}
-use Rattle.session_undo.specs.Machine.{Solves, UnlessFar, MeaningStep, ViewStep, MetricStep, WindowStep, LineStep, BudgetStep, parent_name, ConstrainStep, FormatStep}
+use Rattle.session_undo.specs.Machine.{Solves, SolvesFree, UnlessFar, MeaningStep, ViewStep, MetricStep, WindowStep, LineStep, BudgetStep, parent_name, ConstrainStep, FormatStep}
 use Rattle.layout_cli.specs.Machine.{GrammarStep, Step, Run}
 
 abbrev IsBestState : State → Type 0
@@ -27,6 +27,11 @@ solves-AreBest draft old reply new best (inr (inl (by, rows, are, shows, keeps))
 solves-AreBest draft old reply new best (inr (inr (inl (path, quantity, keeps)))) = kept old new best keeps.1
 solves-AreBest draft old reply new best (inr (inr (inr (path, all, keeps)))) = kept old new best keeps.1
 
+solves-free-AreBest : (draft : Scene) (old : State) (reply : Reply) (new : State) → IsBestState old → SolvesFree draft old reply new → IsBestState new
+solves-free-AreBest draft old reply new best (inl (done, to, is)) = to.best
+solves-free-AreBest draft old reply new best (inr (inl (path, quantity, keeps))) = kept old new best keeps.1
+solves-free-AreBest draft old reply new best (inr (inr (path, all, keeps))) = kept old new best keeps.1
+
 view-AreBest : (old : State) (name parent : List ℕ) (reply : Reply) (new : State) → IsBestState old → ViewStep old name parent reply new → IsBestState new
 view-AreBest old name parent reply new best (inl x) = kept old new best x.2
 view-AreBest old name parent reply new best (inr (a, inl x)) = kept old new best x.2
@@ -34,7 +39,7 @@ view-AreBest old name parent reply new best (inr (a, inr (b, inl x))) = kept old
 view-AreBest old name parent reply new best (inr (a, inr (b, inr (c, inl x)))) = kept old new best x.2
 view-AreBest old name parent reply new best (inr (a, inr (b, inr (c, inr (d, inl x))))) = kept old new best x.2
 view-AreBest old name parent reply new best (inr (a, inr (b, inr (c, inr (d, inr (e, inl x)))))) = kept old new best x.2
-view-AreBest old name parent reply new best (inr (a, inr (b, inr (c, inr (d, inr (e, inr (f, (above, named, solves)))))))) = solves-AreBest _ old reply new best solves
+view-AreBest old name parent reply new best (inr (a, inr (b, inr (c, inr (d, inr (e, inr (f, (above, named, solves)))))))) = solves-free-AreBest _ old reply new best solves
 
 metric-AreBest : (old : State) (name : List ℕ) (value : Fraction) (reply : Reply) (new : State) → IsBestState old → MetricStep old name value reply new → IsBestState new
 metric-AreBest old name value reply new best (inl x) = kept old new best x.2

@@ -22,4 +22,6 @@ pub use mode::{CHECK_LIMIT, INPUT_LIMIT};
 pub use program::{Status, run};
 
 #[cfg(test)]
+mod script_tests;
+#[cfg(test)]
 mod tests;
