@@ -1,0 +1,65 @@
+"""Writes a script for the program `layout` to standard output.
+
+    python3 bench/scripts.py chain SEED VIEWS     a chain of so many views under a window that is made smaller at the end
+    python3 bench/scripts.py resize TIMES         the login form of examples/, then so many windows of two sizes in turn
+
+A chain has for each view a format with an optional width, for each two neighbours a format that stacks them and an optional
+constraint between their widths. Its numbers come from a linear congruence, so that the same words give the same script.
+"""
+import os
+import sys
+
+MODULUS = 2 ** 64
+
+
+def draws(seed):
+    """A function that draws the next number below its argument."""
+    state = seed
+
+    def draw(below):
+        nonlocal state
+        state = (5 * state + 7) % MODULUS
+        return state // 4 % below
+
+    return draw
+
+
+def chain(seed, views):
+    draw = draws(seed)
+    yield "window 1000 1000"
+    for i in range(1, views + 1):
+        yield f"view v{i}"
+    for i in range(1, views + 1):
+        left, width, priority = draw(50), 10 + draw(200), 100 + draw(800)
+        yield f"vfl h{i} H:|-{left}-[v{i}({width}@{priority})]"
+    for i in range(2, views + 1):
+        yield f"vfl t{i} V:[v{i - 1}({10 + draw(90)})]-8-[v{i}]"
+    for i in range(2, views + 1):
+        more, priority = draw(20), 100 + draw(800)
+        yield f"constrain e{i} v{i}.width >= v{i - 1}.width + {more} @{priority}"
+    yield "window 800 600"
+    yield "frames"
+
+
+def resize(times):
+    examples = os.path.join(os.path.dirname(os.path.abspath(__file__)), "..", "examples")
+    with open(os.path.join(examples, "login.script"), encoding="utf-8") as script:
+        for line in script:
+            yield line.rstrip("\n")
+    for i in range(times):
+        yield "window 320 480" if i % 2 == 0 else "window 375 667"
+    yield "frames"
+
+
+def main(words):
+    match words:
+        case ["chain", seed, views]:
+            lines = chain(int(seed), int(views))
+        case ["resize", times]:
+            lines = resize(int(times))
+        case _:
+            sys.exit(__doc__)
+    sys.stdout.writelines(line + "\n" for line in lines)
+
+
+main(sys.argv[1:])
