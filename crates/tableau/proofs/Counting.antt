@@ -54,10 +54,10 @@ at_place P (m ∷ ms) c h e =
 abbrev IsSmall : RowName → Type 0
 IsSmall name = place_of name Under + 1 < 17179869184
 
-cond_same : (a b : ℕ) (k : ℤ) → a ≡ b → cond (nat_eq a b) k (pos 0) ≡ k
+pub cond_same : (a b : ℕ) (k : ℤ) → a ≡ b → cond (nat_eq a b) k (pos 0) ≡ k
 cond_same a b k e = ap (λ (t : Bool). cond t k (pos 0)) (eq-eqb a b e)
 
-cond_other : (a b : ℕ) (k : ℤ) → a ≢ b → cond (nat_eq a b) k (pos 0) ≡ pos 0
+pub cond_other : (a b : ℕ) (k : ℤ) → a ≢ b → cond (nat_eq a b) k (pos 0) ≡ pos 0
 cond_other a b k n = ap (λ (t : Bool). cond t k (pos 0)) (ne_eqb a b n)
 
 over_next : (name : RowName) → place_of name Over ≡ place_of name Under + 1
@@ -102,7 +102,7 @@ cancels l name small =
           ap₂ ◌+ℤ◌ (sum_3 _ _ _ _ _ _ _ _ under_u over_u one_u none_u) (sum_3 _ _ _ _ _ _ _ _ under_o over_o one_o none_o)
     ]
 
-unit_value : (c : ℕ) (form : List Term) → value_at (unit_at c) form ≡ coefficient c form
+pub unit_value : (c : ℕ) (form : List Term) → value_at (unit_at c) form ≡ coefficient c form
 unit_value c form =
     value-single (unit_at c) c form (λ v ne. ap (λ (b : Bool). coefficient v form *ℤ cond b (pos 1) (pos 0)) (ne_eqb v c ne) ∙ mul-zero_ℤ (coefficient v form))
     ∙ ap (λ (b : Bool). coefficient c form *ℤ cond b (pos 1) (pos 0)) (eq-eqb c c refl) ∙ omega (arith, ints)

@@ -1,28 +1,24 @@
--- The changes of an exchange make the exchange.
-use Rattle.std.proofs.Common.{◌≡◌, ◌≢◌, ◌∙◌, ◌⊎◌, inl, inr, ℕ, zero, suc, ◌+◌, ◌<◌, Bool, true, false, cond, nat_eq, List, [], ◌∷◌, map, length, set, get_or, ℤ, pos, refl, sym, ap, subst, arith, All, Contains, IsPermutation, eq-eqb, true≢false}
+-- The changes of all in whose writings a column stands.
+use Rattle.std.proofs.Common.{◌≡◌, ◌≢◌, ◌∙◌, ◌⊎◌, inl, inr, ℕ, zero, suc, ◌<◌, Bool, true, false, cond, nat_eq, List, [], ◌∷◌, map, length, set, get_or, ℤ, pos, refl, sym, ap, subst, arith, All, Contains, IsPermutation, eq-eqb, true≢false}
 use Rattle.std.specs.Bool.{Decides}
 use Rattle.std.specs.Ordering.{int_eq}
 use Rattle.std.specs.List.{AllByRecursion as Each, AllZip}
-use Rattle.std.proofs.lemmas.Bool.{cases_Bool, cases_eq}
+use Rattle.std.proofs.lemmas.Bool.{cases_eq}
 use Rattle.std.proofs.lemmas.Bool.Decides.{Decides-int_eq}
 use Rattle.std.proofs.lemmas.List.{get_or_default}
 use Rattle.std.proofs.lemmas.List.Sorted.{All-permutation, Contains-permutation, IsPermutation-cons, IsPermutation-refl, IsPermutation-trans}
 use Rattle.std.proofs.lemmas.List.Elements.{recursion_from_All, All-from_recursion}
 use Rattle.std.proofs.Math.Seq.{get_or-set_same, get_or-set_other}
 use Rattle.row_core.specs.Rows.{coefficient}
-use Rattle.problem_core.specs.declared.parts.Mark.{Mark}
 use Rattle.problem_core.specs.declared.stops.What.{What}
-use Rattle.problem_core.specs.Corners.{place}
-use Rattle.problem_core.proofs.Tableaus.{Basic, AreDistinct, is_inside}
+use Rattle.problem_core.proofs.Tableaus.{AreDistinct, is_inside}
 use Rattle.tableau.specs.Written.{Writing}
 use Rattle.tableau.specs.Tables.{HasColumn, basic, column_of}
-use Rattle.tableau.specs.Exchanges.{IsMovedBy, IsReady}
 use Rattle.tableau.specs.Columns.{IsListed, standing}
 use Rattle.tableau.specs.Indexes.{AreApart, IsChangeOf, IsPlaceOf, changed}
 use Rattle.tableau.specs.declared.changes.Change.{Change}
 use Rattle.tableau.proofs.Shuffles.{along_permutation, heads}
 use Rattle.tableau.proofs.Insides.{inside_at}
-use Rattle.tableau.proofs.Exchanging.{moved_unchanged}
 use Rattle.tableau.proofs.Changing.{length_changed}
 use Rattle.tableau.proofs.Zips.{each_second, each_second_where, zip_at, zip_from}
 
@@ -127,59 +123,60 @@ placed_once (w ∷ ws) c (suc i) zero d p q =
 placed_once (w ∷ ws) c (suc i) (suc j) d p q =
     ap suc (placed_once ws c i j d.1 (record { within = omega (arith, p.within); column = p.column }) (record { within = omega (arith, q.within); column = q.column }))
 
-module _ (leaving pivot : Writing) (enter : Mark) (ws : List Writing) where
-  pub all_within : (list : List What) (ks : List Change) → AllZip (IsChangeOf leaving pivot enter ws) list ks → All (λ k. k.at < length ws) ks
-  all_within list ks z = All-from_recursion (λ k. k.at < length ws) ks (each_second (IsChangeOf leaving pivot enter ws) (λ k. k.at < length ws) list ks (λ x k r. r.place.within) z)
+module _ (Becomes : Writing → Writing → Type 0) (ws : List Writing) where
+  pub all_within : (list : List What) (ks : List Change) → AllZip (IsChangeOf Becomes ws) list ks → All (λ k. k.at < length ws) ks
+  all_within list ks z = All-from_recursion (λ k. k.at < length ws) ks (each_second (IsChangeOf Becomes ws) (λ k. k.at < length ws) list ks (λ x k r. r.place.within) z)
 
-  others_apart : (x : What) (k : Change) (list : List What) (ks : List Change) → IsChangeOf leaving pivot enter ws x k → AllZip (IsChangeOf leaving pivot enter ws) list ks → Each (λ y. column_of y ≢ column_of x) list → Each (λ m. m.at ≢ k.at) ks
-  others_apart x k list ks r z h =
-      each_second_where (IsChangeOf leaving pivot enter ws) (λ y. column_of y ≢ column_of x) (λ m. m.at ≢ k.at) list ks
-      (λ y m s n e. n (sym (s.place.column leaving) ∙ ap (λ (i : ℕ). column_of (get_or ws i leaving).what) e ∙ r.place.column leaving)) z h
+  others_apart : (d : Writing) (x : What) (k : Change) (list : List What) (ks : List Change) → IsChangeOf Becomes ws x k → AllZip (IsChangeOf Becomes ws) list ks → Each (λ y. column_of y ≢ column_of x) list → Each (λ m. m.at ≢ k.at) ks
+  others_apart d x k list ks r z h =
+      each_second_where (IsChangeOf Becomes ws) (λ y. column_of y ≢ column_of x) (λ m. m.at ≢ k.at) list ks
+      (λ y m s n e. n (sym (s.place.column d) ∙ ap (λ (i : ℕ). column_of (get_or ws i d).what) e ∙ r.place.column d)) z h
 
-  pub all_apart : (list : List What) (ks : List Change) → AllZip (IsChangeOf leaving pivot enter ws) list ks → AreOnce list → AreApart ks
+  pub all_apart : (list : List What) (ks : List Change) → AllZip (IsChangeOf Becomes ws) list ks → AreOnce list → AreApart ks
   all_apart [] [] z h = tt
   all_apart [] (k ∷ ks) z h = absurd z
   all_apart (x ∷ list) [] z h = absurd z
-  all_apart (x ∷ list) (k ∷ ks) z h = (others_apart x k list ks z.0 z.1 h.0, all_apart list ks z.1 h.1)
+  all_apart (x ∷ list) (k ∷ ks) z h = (others_apart k.writing x k list ks z.0 z.1 h.0, all_apart list ks z.1 h.1)
 
-  -- where the entering mark stands, there is a change
-  covered : (list : List What) (ks : List Change) (i : ℕ) (d : Writing) → AreDistinct (map basic ws) → IsListed (place enter) ws list → AllZip (IsChangeOf leaving pivot enter ws) list ks → i < length ws → coefficient (place enter) (get_or ws i d).row ≢ pos 0 → Each (λ m. m.at ≢ i) ks → ⊥
-  covered list ks i d distinct is z h n none =
+  -- where the column stands, there is a change
+  covered : (c : ℕ) (list : List What) (ks : List Change) (i : ℕ) (d : Writing) → AreDistinct (map basic ws) → IsListed c ws list → AllZip (IsChangeOf Becomes ws) list ks → i < length ws → coefficient c (get_or ws i d).row ≢ pos 0 → Each (λ m. m.at ≢ i) ks → ⊥
+  covered c list ks i d distinct is z h n none =
       let w : Writing = get_or ws i d in
       let at : get_or ws i d ≡ get_or ws i (get_or ws i d) = get_or_default ws i d (get_or ws i d) h in
-      let in-list : Contains list (get_or ws i d).what = Contains-permutation (standing (place enter) ws) list (get_or ws i d).what is.same (standing_contains (place enter) ws i (get_or ws i d) h at n) in
+      let in-list : Contains list (get_or ws i d).what = Contains-permutation (standing c ws) list (get_or ws i d).what is.same (standing_contains c ws i (get_or ws i d) h at n) in
       let k0 : Change = record { at = 0; writing = d } in
-      let pair = zip_at (IsChangeOf leaving pivot enter ws) list ks in-list.0 (get_or ws i d).what k0 z in-list.1 in
+      let pair = zip_at (IsChangeOf Becomes ws) list ks in-list.0 (get_or ws i d).what k0 z in-list.1 in
       let here : IsPlaceOf ws (column_of (get_or ws i d).what) (get_or ks in-list.0 k0).at = subst (λ (x : What). IsPlaceOf ws (column_of x) (get_or ks in-list.0 k0).at) in-list.2 pair.1.place in
       All-from_recursion (λ m. m.at ≢ i) ks none in-list.0 k0 pair.0
       (placed_once ws (column_of (get_or ws i d).what) (get_or ks in-list.0 k0).at i distinct here
       (record { within = h; column = λ e. ap (λ (x : Writing). column_of x.what) (get_or_default ws i e d h) }))
 
   -- a place after the changes
-  at_changed : (ks : List Change) (i : ℕ) (d : Writing) → i < length ws → Each (λ k. (e : Writing) → IsMovedBy leaving pivot enter (get_or ws k.at e) k.writing) ks → ((get_or (changed ws ks) i d ≡ get_or ws i d) × Each (λ m. m.at ≢ i) ks) ⊎ IsMovedBy leaving pivot enter (get_or ws i d) (get_or (changed ws ks) i d)
+  at_changed : (ks : List Change) (i : ℕ) (d : Writing) → i < length ws → Each (λ k. (e : Writing) → Becomes (get_or ws k.at e) k.writing) ks → ((get_or (changed ws ks) i d ≡ get_or ws i d) × Each (λ m. m.at ≢ i) ks) ⊎ Becomes (get_or ws i d) (get_or (changed ws ks) i d)
   at_changed [] i d h z = inl (refl, tt)
   at_changed (k ∷ ks) i d h z =
       elim (cases_eq k.at i) [
         | inl e ↦ inr
-            (subst (λ (w : Writing). IsMovedBy leaving pivot enter (get_or ws i d) w) (sym (ap (λ (j : ℕ). get_or (set (changed ws ks) j k.writing) i d) e ∙ get_or-set_same (changed ws ks) i k.writing d (subst (λ (n : ℕ). i < n) (sym (length_changed ws ks)) h)))
-            (subst (λ (j : ℕ). IsMovedBy leaving pivot enter (get_or ws j d) k.writing) e (z.0 d)))
+            (subst (λ (w : Writing). Becomes (get_or ws i d) w) (sym (ap (λ (j : ℕ). get_or (set (changed ws ks) j k.writing) i d) e ∙ get_or-set_same (changed ws ks) i k.writing d (subst (λ (n : ℕ). i < n) (sym (length_changed ws ks)) h)))
+            (subst (λ (j : ℕ). Becomes (get_or ws j d) k.writing) e (z.0 d)))
         | inr q ↦
             let same : get_or (changed ws (k ∷ ks)) i d ≡ get_or (changed ws ks) i d = get_or-set_other (changed ws ks) k.at i k.writing d (λ e. q (sym e)) in
             elim (at_changed ks i d h z.1) [
               | inl p ↦ inl (same ∙ p.0, (q, p.1))
-              | inr m ↦ inr (subst (λ (w : Writing). IsMovedBy leaving pivot enter (get_or ws i d) w) (sym same) m)
+              | inr m ↦ inr (subst (λ (w : Writing). Becomes (get_or ws i d) w) (sym same) m)
             ]
       ]
 
-  pub all_moved : (list : List What) (ks : List Change) → AreDistinct (map basic ws) → All (IsReady leaving) ws → coefficient (place enter) leaving.row ≢ pos 0 → IsListed (place enter) ws list → AllZip (IsChangeOf leaving pivot enter ws) list ks → AllZip (IsMovedBy leaving pivot enter) ws (changed ws ks)
-  all_moved list ks distinct ready entering is z =
-      zip_from (IsMovedBy leaving pivot enter) ws (changed ws ks) (sym (length_changed ws ks))
+  -- the changes of all in whose writings the column stands, where the others become what they are
+  pub all_become : (c : ℕ) (list : List What) (ks : List Change) → AreDistinct (map basic ws) → All (λ w. coefficient c w.row ≡ pos 0 → Becomes w w) ws → IsListed c ws list → AllZip (IsChangeOf Becomes ws) list ks → AllZip Becomes ws (changed ws ks)
+  all_become c list ks distinct still is z =
+      zip_from Becomes ws (changed ws ks) (sym (length_changed ws ks))
       (λ i d e h.
-      subst (λ (w : Writing). IsMovedBy leaving pivot enter (get_or ws i d) w) (get_or_default (changed ws ks) i d e (subst (λ (n : ℕ). i < n) (sym (length_changed ws ks)) h))
-      (elim (at_changed ks i d h (each_second (IsChangeOf leaving pivot enter ws) (λ k. (e : Writing) → IsMovedBy leaving pivot enter (get_or ws k.at e) k.writing) list ks (λ x k r. r.moved) z)) [
+      subst (λ (w : Writing). Becomes (get_or ws i d) w) (get_or_default (changed ws ks) i d e (subst (λ (n : ℕ). i < n) (sym (length_changed ws ks)) h))
+      (elim (at_changed ks i d h (each_second (IsChangeOf Becomes ws) (λ k. (e : Writing) → Becomes (get_or ws k.at e) k.writing) list ks (λ x k r. r.moved) z)) [
         | inr m ↦ m
-        | inl p ↦ elim (cases_zero (coefficient (place enter) (get_or ws i d).row)) [
-          | inr n ↦ absurd (covered list ks i d distinct is z h n p.1)
-          | inl none ↦ moved_unchanged leaving (get_or ws i d) pivot (get_or (changed ws ks) i d) enter (ready i d h) (λ q. entering (ap (λ (w : Writing). coefficient (place enter) w.row) (sym ((ready i d h).unique q)) ∙ none)) none p.0
+        | inl p ↦ elim (cases_zero (coefficient c (get_or ws i d).row)) [
+          | inr n ↦ absurd (covered c list ks i d distinct is z h n p.1)
+          | inl none ↦ subst (λ (w : Writing). Becomes (get_or ws i d) w) (sym p.0) (still i d h none)
         ]
       ]))

@@ -54,7 +54,7 @@ outside-push rows r c f n = elim (cases_Bool (is_inside (rows ++ r ∷ []) c)) [
   | inl e ↦ elim (inside-push rows r c e) [ inl h ↦ absurd (true≢false (sym h ∙ f)) | inr h ↦ absurd (n h) ]
 ]
 
-first-apart : (x : Basic) (rows : List Basic) (c : ℕ) → is_inside (x ∷ rows) c ≡ false → (x.inside ≡ c → ⊥) × (is_inside rows c ≡ false)
+pub first-apart : (x : Basic) (rows : List Basic) (c : ℕ) → is_inside (x ∷ rows) c ≡ false → (x.inside ≡ c → ⊥) × (is_inside rows c ≡ false)
 first-apart x rows c f =
     elim (cases_eq x.inside c) [
       | inl e ↦ absurd (true≢false (sym (ap (λ (b : Bool). cond b true (is_inside rows c)) (eq-eqb x.inside c e)) ∙ f))
@@ -99,7 +99,7 @@ row-without p w c fresh s =
     (λ l e. ap (λ (t : ℤ). named_coefficient (place_of l.name Under) (plain w) *ℤ t) e ∙ mul-zero_ℤ (named_coefficient (place_of l.name Under) (plain w))) fresh)
 
 -- one more line, at whose under mark the row has nothing
-more-lines : (f : Line → ℤ) (before after : List Line) (l : Line) → f l ≡ pos 0 → sum_of f (before ++ after) ≡ sum_of f (before ++ l ∷ after)
+pub more-lines : (f : Line → ℤ) (before after : List Line) (l : Line) → f l ≡ pos 0 → sum_of f (before ++ after) ≡ sum_of f (before ++ l ∷ after)
 more-lines f before after l e =
     sum-append f before after
     ∙ sym (sum-append f before (l ∷ after) ∙ ap (λ (t : ℤ). sum_of f before +ℤ (t +ℤ sum_of f after)) e ∙ ap (λ (t : ℤ). sum_of f before +ℤ t) (zero-add_ℤ (sum_of f after)))
@@ -113,7 +113,7 @@ sum-more p q before after l w old new none s = λ c.
     (ap (λ (t : ℤ). t *ℤ named_coefficient c (marked_form l)) (coefficient-plain (place_of l.name Under) w ∙ none) ∙ zero-mul_ℤ (named_coefficient c (marked_form l)))
     ∙ ap (sum_of (λ k. named_coefficient (place_of k.name Under) (plain w) *ℤ named_coefficient c (marked_form k))) (sym new)
 
-each-basics : (c : ℕ) (ws : List Writing) → c ≢ one_column → Each (λ w. coefficient c w.row ≡ pos 0) ws → Each (λ b. named_coefficient c b.form ≡ pos 0) (map basic ws)
+pub each-basics : (c : ℕ) (ws : List Writing) → c ≢ one_column → Each (λ w. coefficient c w.row ≡ pos 0) ws → Each (λ b. named_coefficient c b.form ≡ pos 0) (map basic ws)
 each-basics c [] n h = tt
 each-basics c (w ∷ ws) n h = (form_at w c n ∙ ap (λ (k : ℤ). pos w.value.den *ℤ k) h.0 ∙ mul-zero_ℤ (pos w.value.den), each-basics c ws n h.1)
 

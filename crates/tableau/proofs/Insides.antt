@@ -20,7 +20,7 @@ each_at P (w ∷ ws) (suc i) x h e all = each_at P ws i x (omega arith) e all.1
 inside_here : (b : Basic) (rows : List Basic) (c : ℕ) → b.inside ≡ c → is_inside (b ∷ rows) c ≡ true
 inside_here b rows c e = ap (λ (t : Bool). cond t true (is_inside rows c)) (eq-eqb b.inside c e)
 
-inside_later : (b : Basic) (rows : List Basic) (c : ℕ) → is_inside rows c ≡ true → is_inside (b ∷ rows) c ≡ true
+pub inside_later : (b : Basic) (rows : List Basic) (c : ℕ) → is_inside rows c ≡ true → is_inside (b ∷ rows) c ≡ true
 inside_later b rows c e =
     elim (cases_Bool (nat_eq b.inside c)) [
       | inl t ↦ ap (λ (k : Bool). cond k true (is_inside rows c)) t

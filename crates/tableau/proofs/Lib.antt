@@ -28,3 +28,7 @@ pub mod Covering
 pub mod Indexing
 pub mod Reindexing
 pub mod Swapped
+pub mod Reordered
+pub mod Unlisting
+pub mod Dropped
+pub mod ShiftChanges

@@ -12,13 +12,13 @@ use Rattle.problem_core.specs.Corners.{marks_of, place, place_of}
 use Rattle.tableau.specs.Tables.{IsNamed}
 use Rattle.tableau.proofs.Fresh.{any_append}
 
-later : {A : Type 0} (P : A → Type 0) (x : A) (xs : List A) → Any P xs → Any P (x ∷ xs)
+pub later : {A : Type 0} (P : A → Type 0) (x : A) (xs : List A) → Any P xs → Any P (x ∷ xs)
 later P x xs h = (suc h.0, h.1, omega (arith, h.2), h.3, h.4)
 
-first : {A : Type 0} (P : A → Type 0) (x : A) (xs : List A) → P x → Any P (x ∷ xs)
+pub first : {A : Type 0} (P : A → Type 0) (x : A) (xs : List A) → P x → Any P (x ∷ xs)
 first P x xs h = (zero, x, omega arith, refl, h)
 
-tail : {A : Type 0} (P : A → Type 0) (x : A) (xs : List A) → Any P (x ∷ xs) → P x ⊎ Any P xs
+pub tail : {A : Type 0} (P : A → Type 0) (x : A) (xs : List A) → Any P (x ∷ xs) → P x ⊎ Any P xs
 tail P x xs (zero, y, within, is, h) = inl (subst P (sym is) h)
 tail P x xs (suc k, y, within, is, h) = inr (k, y, omega (arith, within), is, h)
 

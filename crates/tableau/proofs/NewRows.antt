@@ -49,7 +49,7 @@ rows-away id (r ∷ rows) h k = (
   rows-away id rows h.1 k.1,
 )
 
-stays-away : (id level : ℕ) (stays : List Stay) → Each IsStay stays → Each (IsAway id) (stay_lines level stays)
+pub stays-away : (id level : ℕ) (stays : List Stay) → Each IsStay stays → Each (IsAway id) (stay_lines level stays)
 stays-away id level [] k = tt
 stays-away id level (s ∷ stays) k = (
   record {
@@ -77,7 +77,7 @@ over-fresh id l h a = marked-zero (place_of (Held id) Over) l a.under_over a.ove
 pub under-free : (id : ℕ) (l : Line) → IsNumber id → IsAway id l → named_coefficient (place_of (Held id) Under) (marked_form l) ≡ pos 0
 under-free id l h a = marked-zero (place_of (Held id) Under) l a.under_under a.over_under (marks-absent (place_of (Held id) Under) l.form (omega (arith, h.1)))
 
-map-append : (xs ys : List Row) → map line_of_row (xs ++ ys) ≡ map line_of_row xs ++ map line_of_row ys
+pub map-append : (xs ys : List Row) → map line_of_row (xs ++ ys) ≡ map line_of_row xs ++ map line_of_row ys
 map-append [] ys = refl
 map-append (x ∷ xs) ys = ap (λ (t : List Line). line_of_row x ∷ t) (map-append xs ys)
 

@@ -1,7 +1,7 @@
 -- The index after an exchange, and after one writing more.
-use Rattle.std.proofs.Common.{◌≡◌, ◌≢◌, ◌∙◌, ◌⊎◌, inl, inr, ℕ, zero, suc, ◌+◌, ◌<◌, Bool, true, false, cond, nat_eq, List, [], ◌∷◌, ◌++◌, map, length, get_or, Option, Some, None, MatchOption, IsTrue, ◌↔◌, ℤ, pos, ◌*ℤ◌, ◌+ℤ◌, refl, sym, ap, ap₂, subst, arith, All, IsPermutation, eq-eqb, ne_eqb, true≢false, length-append}
+use Rattle.std.proofs.Common.{◌≡◌, ◌≢◌, ◌∙◌, ◌⊎◌, inl, inr, ℕ, zero, suc, ◌<◌, Bool, true, false, cond, nat_eq, List, [], ◌∷◌, ◌++◌, map, length, get_or, Option, Some, None, MatchOption, IsTrue, ◌↔◌, ℤ, pos, ◌*ℤ◌, ◌+ℤ◌, refl, sym, ap, ap₂, subst, arith, All, IsPermutation, eq-eqb, ne_eqb, true≢false, length-append}
 use borrow.Author.Differences.{ints}
-use Rattle.std.specs.List.{Any, AllByRecursion as Each, AllZip}
+use Rattle.std.specs.List.{AllByRecursion as Each, AllZip}
 use Rattle.std.specs.Ordering.{int_eq, nat_cmp}
 use Rattle.std.specs.Option.{is_some}
 use Rattle.std.specs.Global.{Vec}
@@ -23,7 +23,7 @@ use Rattle.problem_core.specs.Corners.{place}
 use Rattle.problem_core.proofs.Tableaus.{AreDistinct, IsPivoted, zero_of_product}
 use Rattle.tableau.specs.Written.{Writing}
 use Rattle.tableau.specs.Tables.{HasColumn, basic, column_of, plain}
-use Rattle.tableau.specs.Exchanges.{IsExchangedWriting, IsMovedBy, IsReady}
+use Rattle.tableau.specs.Exchanges.{IsMovedBy, IsReady}
 use Rattle.tableau.specs.Columns.{IsListed, standing}
 use Rattle.tableau.specs.Indexes.{AreListsOf, IsExchange, IsIndexed, IsPlaceOf, IsPlaced, IsPut, changed, list_at}
 use Rattle.tableau.specs.declared.changes.Change.{Change}
@@ -37,7 +37,7 @@ use Rattle.tableau.proofs.Swapping.{inside_after}
 
 -- ---- places
 
-apart : (x q : ℕ) → x ≢ q → is_at (nat_cmp x) q ≡ false
+pub apart : (x q : ℕ) → x ≢ q → is_at (nat_cmp x) q ≡ false
 apart x q n = grind (arith, nat_tests)
 
 abbrev pub IsAt : List Writing → ℕ → Option ℕ → Type 0
@@ -174,7 +174,7 @@ module _ (leaving pivot : Writing) (enter : Mark) where
 
 -- ---- lists that were put in place
 
-each_unmapped : {A B : Type 0} (P : B → Type 0) (f : A → B) (xs : List A) → Each P (map f xs) → Each (λ x. P (f x)) xs
+pub each_unmapped : {A B : Type 0} (P : B → Type 0) (f : A → B) (xs : List A) → Each P (map f xs) → Each (λ x. P (f x)) xs
 each_unmapped P f [] h = tt
 each_unmapped P f (x ∷ xs) h = (h.0, each_unmapped P f xs h.1)
 

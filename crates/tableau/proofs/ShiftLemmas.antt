@@ -74,13 +74,13 @@ zip_map f R S (x ∷ xs) (y ∷ ys) z h = (h x y z.0, zip_map f R S xs ys z.1 h)
 
 -- ---- names
 
-same_held : (a b : ℕ) → Held a ≡ Held b → a ≡ b
+pub same_held : (a b : ℕ) → Held a ≡ Held b → a ≡ b
 same_held a b e = cc
 
-same_stay : (a b : ℕ) → StayOf a ≡ StayOf b → a ≡ b
+pub same_stay : (a b : ℕ) → StayOf a ≡ StayOf b → a ≡ b
 same_stay a b e = cc
 
-held_no_stay : (a b : ℕ) → Held a ≡ StayOf b → ⊥
+pub held_no_stay : (a b : ℕ) → Held a ≡ StayOf b → ⊥
 held_no_stay a b e = cc
 
 pub name_cases : (m n : RowName) → (m ≡ n) ⊎ (m ≢ n)
@@ -217,11 +217,11 @@ both-zero a b x y h e z = zero_from_mul b y h (sym e ∙ ap (λ (t : ℤ). pos a
 nothing : (a c : ℕ) (x z : ℤ) → a ≢ c → z ≡ pos 0 → cond (nat_eq a c) x (pos 0) +ℤ z ≡ pos 0
 nothing a c x z n e = skip a c x z n ∙ e
 
-absent-scaled : (u : ℕ) (k : ℤ) (f : List Term) → u < 17179869184 → named_coefficient u (map (λ e. record { attr = attr_column e.attr; by = k *ℤ e.by }) f) ≡ pos 0
+pub absent-scaled : (u : ℕ) (k : ℤ) (f : List Term) → u < 17179869184 → named_coefficient u (map (λ e. record { attr = attr_column e.attr; by = k *ℤ e.by }) f) ≡ pos 0
 absent-scaled u k [] h = refl
 absent-scaled u k (e ∷ f) h = nothing (attr_column e.attr) u (k *ℤ e.by) _ (λ q. omega (arith, h, q)) (absent-scaled u k f h)
 
-none-in-equation : (u : ℕ) (l : Line) → u < 17179869184 → place_of l.name Under ≢ u → place_of l.name Over ≢ u → named_coefficient u (equation l) ≡ pos 0
+pub none-in-equation : (u : ℕ) (l : Line) → u < 17179869184 → place_of l.name Under ≢ u → place_of l.name Over ≢ u → named_coefficient u (equation l) ≡ pos 0
 none-in-equation u l h a b =
     nothing (place_of l.name Under) u (pos l.den) _ a
     (nothing (place_of l.name Over) u (neg_ℤ (pos l.den)) _ b

@@ -1,11 +1,12 @@
 -- Lists by rank of those in whose writing a column stands.
-use Rattle.std.proofs.Common.{◌≡◌, ◌≢◌, ◌∙◌, ℕ, suc, ◌+◌, ◌<◌, ◌≤◌, Bool, true, false, cond, List, [], ◌∷◌, ◌++◌, length, take, drop, remove, set, get_or, pos, refl, sym, ap, subst, arith, All}
+use Rattle.std.proofs.Common.{◌≡◌, ◌≢◌, ◌∙◌, ℕ, suc, ◌+◌, ◌-◌, ◌<◌, ◌≤◌, Bool, true, false, cond, List, [], ◌∷◌, ◌++◌, length, take, drop, remove, set, get_or, pos, refl, sym, ap, subst, arith, inl, inr, All}
 use Rattle.std.specs.Bool.{Decides}
 use Rattle.std.specs.List.{insert}
 use Rattle.std.specs.List.Sorted.{IsPermutation}
 use Rattle.std.specs.Ordering.{int_eq}
 use Rattle.std.proofs.lemmas.Bool.Decides.{Decides-int_eq}
-use Rattle.std.proofs.lemmas.List.{get_or-take, get_or_default, length-take-le}
+use Rattle.std.proofs.lemmas.Bool.{cases_lt}
+use Rattle.std.proofs.lemmas.List.{get_or-drop, get_or-take, get_or_default, length-drop, length-take-le, take_rest}
 use Rattle.std.proofs.lemmas.List.Sorted.{All-permutation, IsPermutation-remove, IsPermutation-to_front, IsPermutation-sym, IsPermutation-cons, IsPermutation-insert, IsPermutation-trans, IsPermutation-refl, IsNonDecreasingBy-insert, IsNonDecreasingBy-short}
 use Rattle.std.proofs.Math.Seq.{drop-cons}
 use Rattle.problem_core.specs.declared.stops.What.{What}
@@ -64,6 +65,20 @@ taken_listed c w ws old new y i is what stands within here e =
 pub stands_listed : (c : ℕ) (w : Writing) (ws : List Writing) (list : List What) (y : What) → IsListed c (w ∷ ws) list → w.what ≡ y → coefficient c w.row ≢ pos 0 → All (λ x. x ≢ y) list → ⊥
 stands_listed c w ws list y is what stands none =
     All-permutation (λ x. x ≢ y) list (y ∷ standing c ws) (IsPermutation-sym (y ∷ standing c ws) list (head_listed c w ws list y is what stands)) none 0 y (omega arith) refl
+
+-- what stands neither among those of lower rank nor among the others stands nowhere
+pub stands_nowhere : (xs : List What) (what : What) (r i : ℕ) → r ≡ rank what → i ≤ length xs → All (λ x. rank x < r) (take i xs) → All (λ x. x ≢ what) (take (length xs - i) (drop i xs)) → All (λ x. x ≢ what) xs
+stands_nowhere xs what r i e within low rest = λ k d h is.
+    elim (cases_lt k i) [
+      | inl less ↦
+          let lower : rank (get_or xs k d) < r = subst (λ (x : What). rank x < r) (get_or-take i xs k d less) (low k d (omega (arith, length-take-le i xs within, less))) in
+          let same : rank (get_or xs k d) ≡ rank what = ap rank is in
+          absurd (omega (arith, lower, same, e))
+      | inr more ↦
+          let other : All (λ x. x ≢ what) (drop i xs) = subst (All (λ x. x ≢ what)) (take_rest xs i) rest in
+          let past : i + (k - i) ≡ k = omega (arith, more) in
+          other (k - i) d (omega (arith, length-drop i xs, more, h)) (get_or-drop i xs (k - i) d ∙ ap (λ (j : ℕ). get_or xs j d) past ∙ is)
+    ]
 
 pub unlisted : (c : ℕ) (w : Writing) (ws : List Writing) (list : List What) → coefficient c w.row ≡ pos 0 → IsListed c (w ∷ ws) list → IsListed c ws list
 unlisted c w ws list none is = record { same = subst (λ (xs : List What). IsPermutation xs list) (standing_same c w ws none) is.same; rising = is.rising }

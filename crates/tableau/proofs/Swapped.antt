@@ -1,6 +1,5 @@
 -- What an exchange by an index makes of a tableau.
 use Rattle.std.proofs.Common.{◌≡◌, ◌≢◌, ◌∙◌, ℕ, ◌<◌, List, get_or, pos, sym, ap, subst, refl, inl, All}
-use Rattle.std.specs.List.{AllZip}
 use Rattle.std.proofs.lemmas.List.{get_or_default}
 use Rattle.row_core.specs.Rows.{coefficient}
 use Rattle.problem_core.specs.declared.parts.Mark.{Mark}
@@ -9,17 +8,23 @@ use Rattle.problem_core.specs.declared.stops.TableStop.TheVariants.{OutOfMemory}
 use Rattle.problem_core.specs.Corners.{place}
 use Rattle.tableau.specs.Written.{Writing}
 use Rattle.tableau.specs.Tables.{Table, IsTable, HasColumn, IsWriting, column_of}
-use Rattle.tableau.specs.Exchanges.{IsExchangeStop, IsMovedTo, IsOutside, IsPossible, IsReady, IsSwapped, IsSwapStop}
+use Rattle.tableau.specs.Exchanges.{IsExchangeStop, IsMovedBy, IsMovedTo, IsOutside, IsPossible, IsReady, IsSwapped, IsSwapStop}
 use Rattle.tableau.specs.Indexes.{AreChanges, IsExchange, IsIndexed, IsPlaceOf, changed, list_at}
 use Rattle.tableau.specs.declared.changes.Change.{Change}
 use Rattle.tableau.specs.declared.index.Index.{Index}
-use Rattle.tableau.proofs.Covering.{all_apart, all_moved, all_within, listed_once}
-use Rattle.tableau.proofs.Exchanging.{exchanged_all}
+use Rattle.tableau.proofs.Covering.{all_apart, all_become, all_within, listed_once}
+use Rattle.tableau.proofs.Exchanging.{exchanged_all, moved_unchanged}
 use Rattle.tableau.proofs.Insides.{written_once}
 use Rattle.tableau.proofs.Swapping.{all_ready, all_renamed, exchanged_table}
 
 pub leaving_column : (ws : List Writing) (c at : ℕ) (w : Writing) → IsPlaceOf ws c at → w ≡ get_or ws at w → column_of w.what ≡ c
 leaving_column ws c at w p is = ap (λ (v : Writing). column_of v.what) is ∙ p.column w
+
+-- where the entering mark does not stand, the exchange changes nothing
+all_still : (leaving pivot : Writing) (enter : Mark) (ws : List Writing) → All (IsReady leaving) ws → coefficient (place enter) leaving.row ≢ pos 0 → All (λ w. coefficient (place enter) w.row ≡ pos 0 → IsMovedBy leaving pivot enter w w) ws
+all_still leaving pivot enter ws ready entering = λ i d h none.
+    moved_unchanged leaving (get_or ws i d) pivot (get_or ws i d) enter (ready i d h)
+    (λ q. entering (ap (λ (w : Writing). coefficient (place enter) w.row) (sym ((ready i d h).unique q)) ∙ none)) none refl
 
 pub exchange_of : (t : Table) (index : Index) (enter leave : Mark) (at : ℕ) (w : Writing) (ks : List Change) → IsTable t → IsIndexed index t.written → IsPlaceOf t.written (place leave) at → w ≡ get_or t.written at w → (HasColumn t.written (place enter) → ⊥) → coefficient (place enter) w.row ≢ pos 0 → AreChanges w enter t.written (list_at index.lists (place enter)) ks → IsExchange enter leave at t.written ks
 exchange_of t index enter leave at w ks table indexed p is outside entering k =
@@ -31,9 +36,9 @@ exchange_of t index enter leave at w ks table indexed p is outside entering k =
       leaves = p;
       other = λ e. outside (at, w, p.within, sym is, leaving_column t.written (place leave) at w p is ∙ e);
       ready = ready;
-      within = all_within w k.pivot enter t.written (list_at index.lists (place enter)) ks k.each;
-      apart = all_apart w k.pivot enter t.written (list_at index.lists (place enter)) ks k.each (listed_once (place enter) t.written (list_at index.lists (place enter)) table.table.distinct (indexed.lists (place enter)));
-      moved = all_moved w k.pivot enter t.written (list_at index.lists (place enter)) ks table.table.distinct ready entering (indexed.lists (place enter)) k.each;
+      within = all_within (IsMovedBy w k.pivot enter) t.written (list_at index.lists (place enter)) ks k.each;
+      apart = all_apart (IsMovedBy w k.pivot enter) t.written (list_at index.lists (place enter)) ks k.each (listed_once (place enter) t.written (list_at index.lists (place enter)) table.table.distinct (indexed.lists (place enter)));
+      moved = all_become (IsMovedBy w k.pivot enter) t.written (place enter) (list_at index.lists (place enter)) ks table.table.distinct (all_still w k.pivot enter t.written ready entering) (indexed.lists (place enter)) k.each;
     }
 
 pub swapped_table : (t : Table) (enter leave : Mark) (at : ℕ) (ks : List Change) → IsTable t → IsExchange enter leave at t.written ks → place leave < 17179869184 → place enter < 17179869184 → IsOutside t enter → IsTable (record { problem = t.problem; written = changed t.written ks })

@@ -1,5 +1,5 @@
 -- Lists of pairs, item by item.
-use Rattle.std.proofs.Common.{◌≡◌, ◌∙◌, ℕ, zero, suc, ◌+◌, ◌<◌, List, [], ◌∷◌, ◌++◌, length, take, get_or, refl, sym, ap, subst, arith, All}
+use Rattle.std.proofs.Common.{◌≡◌, ℕ, zero, suc, ◌+◌, ◌<◌, List, [], ◌∷◌, ◌++◌, length, take, get_or, sym, subst, arith, All}
 use Rattle.std.specs.List.{AllByRecursion as Each, AllZip}
 use Rattle.std.proofs.lemmas.List.{take_more}
 
@@ -17,6 +17,10 @@ zip_at R [] ys i d e z h = absurd (omega (arith, h))
 zip_at R (a ∷ xs) [] i d e z h = absurd z
 zip_at R (a ∷ xs) (b ∷ ys) zero d e z h = (omega arith, z.0)
 zip_at R (a ∷ xs) (b ∷ ys) (suc i) d e z h = let r = zip_at R xs ys i d e z.1 (omega (arith, h)) in (omega (arith, r.0), r.1)
+
+pub zip_self : {A : Type 0} (R : A → A → Type 0) (xs : List A) → All (λ x. R x x) xs → AllZip R xs xs
+zip_self R [] all = tt
+zip_self R (a ∷ xs) all = (all 0 a (omega arith), zip_self R xs (λ i d h. all (suc i) d (omega (arith, h))))
 
 pub each_second : {A B : Type 0} (R : A → B → Type 0) (P : B → Type 0) (xs : List A) (ys : List B) → ((x : A) (y : B) → R x y → P y) → AllZip R xs ys → Each P ys
 each_second R P [] [] f z = tt

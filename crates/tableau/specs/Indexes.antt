@@ -35,17 +35,17 @@ pub record IsIndexed (index : Index) (written : List Writing) : Type 0 where
   pub places : IsPlaced index.places written
   pub lists : (c : ℕ) → IsListed c written (list_at index.lists c)
 
--- the change of what is listed: where it is written, and what the exchange makes of its writing
-pub record IsChangeOf (leaving pivot : Writing) (enter : Mark) (ws : List Writing) (what : What) (k : Change) : Type 0 where
+-- the change of what is listed: where it is written, and what its writing becomes
+pub record IsChangeOf (Becomes : Writing → Writing → Type 0) (ws : List Writing) (what : What) (k : Change) : Type 0 where
   pub place : IsPlaceOf ws (column_of what) k.at
-  pub moved : (d : Writing) → IsMovedBy leaving pivot enter (slice_index_or ws k.at d) k.writing
+  pub moved : (d : Writing) → Becomes (slice_index_or ws k.at d) k.writing
 
 -- the changes of the exchange, for all that is listed
 pub record AreChanges (leaving : Writing) (enter : Mark) (ws : List Writing) (list : List What) (ks : List Change) : Type 0 where
   pub pivot : Writing
   pub turned : IsTurned leaving enter pivot
   pub value : IsTurnedValue leaving enter pivot.value
-  pub each : AllZip (IsChangeOf leaving pivot enter ws) list ks
+  pub each : AllZip (IsChangeOf (IsMovedBy leaving pivot enter) ws) list ks
 
 -- the lists of a row's columns over these writings
 pub record AreListsOf (ws : List Writing) (row : List Term) (lists : List NewList) : Type 0 where

@@ -1,6 +1,7 @@
 // In whose writings an outside mark stands.
 ghost use Rattle.std.specs.Prelude.{◌≡◌, ◌≢◌, ◌<◌, ◌≤◌, ◌∷◌, ◌++◌, ℕ, List, All, [], length, take, slice_index_or, true, false, IfOk, IfSome, IfNone, pos};
 ghost use Rattle.std.specs.List.{insert};
+ghost use Rattle.std.specs.List.Sorted.{IsNonDecreasingBy};
 ghost use Rattle.row_core.specs.Rows.{coefficient};
 ghost use Rattle.problem_core.specs.declared.stops.What.{What};
 ghost use Rattle.problem_core.specs.declared.stops.What.TheVariants.{Attr};
@@ -41,13 +42,13 @@ fn rank(what: What) -> u64
     }
 }
 
-// Where something of that rank goes.
+// Where something of that rank goes in a list by rank.
 fn place_for(list: &[What], r: u64) -> usize
     ensures within { result ≤ length list.now }
-    ensures before { All (λ x. columns.rank x ≤ r) (take result list.now) }
-    ensures here { result < length list.now → r < columns.rank (slice_index_or list.now result (Attr 0)) }
+    ensures before { IsNonDecreasingBy columns.rank list.now → All (λ x. columns.rank x ≤ r) (take result list.now) }
+    ensures here { IsNonDecreasingBy columns.rank list.now → result < length list.now → r < columns.rank (slice_index_or list.now result (Attr 0)) }
 {
-    list.iter().position(|x| r < rank(*x)).unwrap_or(list.len())
+    list.partition_point(|x| rank(*x) <= r)
 }
 
 // Puts it where its rank belongs.
@@ -77,12 +78,32 @@ fn put_standing(list: &mut Vec<What>, w: &Written, col: u64) -> Result<(), OutOf
     Ok(())
 }
 
+// How many have a lower rank in a list by rank.
+fn lower_ranks(list: &[What], r: u64) -> usize
+    ensures within { result ≤ length list.now }
+    ensures before { IsNonDecreasingBy columns.rank list.now → All (λ x. columns.rank x < r) (take result list.now) }
+{
+    list.partition_point(|x| rank(*x) < r)
+}
+
 // Where it stands in the list.
-fn where_is(list: &[What], what: What) -> Option<usize>
+fn first_place(list: &[What], what: What) -> Option<usize>
     ensures some { IfSome result (λ at. (at < length list.now) × (slice_index_or list.now at what ≡ what)) }
     ensures none { IfNone result (All (λ x. x ≢ what) list.now) }
 {
     list.iter().position(|x| *x == what)
+}
+
+// Where it stands in a list by rank.
+fn where_is(list: &[What], what: What) -> Option<usize>
+    ensures some { IfSome result (λ at. (at < length list.now) × (slice_index_or list.now at what ≡ what)) }
+    ensures none { IsNonDecreasingBy columns.rank list.now → IfNone result (All (λ x. x ≢ what) list.now) }
+{
+    let lower = lower_ranks(list, rank(what));
+    match first_place(&list[lower..], what) {
+        Some(past) => Some(lower + past),
+        None => None,
+    }
 }
 
 // Takes out what stands in the list.
@@ -94,8 +115,8 @@ fn take_out(list: &mut Vec<What>, what: What)
     }
 }
 
-// Takes out what had a number at the column.
-fn take_standing(list: &mut Vec<What>, w: &Written, col: u64)
+/// Takes out what had a number at the column.
+pub(crate) fn take_standing(list: &mut Vec<What>, w: &Written, col: u64)
     ensures { (ws : List Writing) → IsListed col (w.now ∷ ws) list.old.items → IsListed col ws list.new.items }
 {
     if has_number(w, col) {
@@ -107,7 +128,7 @@ fn take_standing(list: &mut Vec<What>, w: &Written, col: u64)
 fn are_listed_alike(old: &Written, new: &Written, col: u64) -> bool
     ensures { result ≡ true → (ws : List Writing) → (list : List What) → IsListed col (old.now ∷ ws) list → IsListed col (new.now ∷ ws) list }
 {
-    has_number(old, col) && has_number(new, col) && old.what() == new.what()
+    old.what() == new.what() && has_number(old, col) && has_number(new, col)
 }
 
 // The list after one writing changes.

@@ -189,21 +189,6 @@ fn exchanged_one(
     Ok(old.copy()?)
 }
 
-// Appends what is written.
-pub(crate) fn push(out: &mut Vec<Written>, written: Written) -> Result<(), OutOfMemory>
-    ensures { IfOk result (λ _. out.new.items ≡ out.old.items ++ written ∷ []) }
-{
-    out.push(written)?;
-    Ok(())
-}
-
-// Room for what is written.
-pub(crate) fn room(alloc: Global, count: usize) -> Result<Vec<Written>, OutOfMemory>
-    ensures { IfOk result (λ out. out.items ≡ []) }
-{
-    Ok(Vec::with_capacity(alloc, count)?)
-}
-
 // The changes of the writings in which the entering mark stands.
 fn changes(
     alloc: Global,
@@ -216,7 +201,7 @@ fn changes(
     requires ready { All (IsReady leaving.now) written.now }
     requires turned { IsTurned leaving.now enter pivot.now }
     requires indexed { IsIndexed index.now written.now }
-    ensures changes { IfOk result (λ ks. AllZip (IsChangeOf leaving.now pivot.now enter written.now) (list_at index.now.lists (corners.place enter)) ks.items) }
+    ensures changes { IfOk result (λ ks. AllZip (IsChangeOf (IsMovedBy leaving.now pivot.now enter) written.now) (list_at index.now.lists (corners.place enter)) ks.items) }
     ensures unfit { IfErr result (λ stop. (stop ≡ NoMemory) ⊎ Any (λ old. IsStopAt old.what (IsUnfitAfter leaving.now enter old) stop) written.now) }
 {
     let list = index.list(place(enter));

@@ -1,14 +1,16 @@
 // Where each column is written, and in whose writings it stands.
-ghost use Rattle.std.specs.Prelude.{◌≡◌, ◌≢◌, ◌<◌, ◌↔◌, IsTrue, ◌++◌, ◌∷◌, [], All, length, IfOk, IfErr, ℕ, List, Some, None};
+ghost use Rattle.std.specs.Prelude.{◌≡◌, ◌≢◌, ◌<◌, ◌↔◌, IsTrue, ◌++◌, ◌∷◌, [], All, length, IfOk, IfErr, IfSome, true, false, ℕ, List, Some, None};
 ghost use Rattle.std.specs.Option.{IsSome};
 ghost use Rattle.std.specs.Ordering.{nat_cmp};
 ghost use Rattle.std.specs.BTreeMap.{Updates, UpdatesBy, get};
 ghost use Rattle.tableau.specs.Written.{Writing};
 ghost use Rattle.tableau.specs.Tables.{HasColumn, IsWriting};
+ghost use Rattle.row_core.specs.Rows.{IsRising};
+ghost use Rattle.tableau.specs.Columns.{IsListed};
 ghost use Rattle.tableau.specs.Indexes.{AreApart, AreListsOf, IsIndexed, IsPlaced, IsPlaceOf, IsPut, changed, list_at};
 
 use crate::changes::{Change, NewList};
-use crate::columns::{changed_list, longer_list};
+use crate::columns::{changed_list, longer_list, take_standing};
 use crate::written::Written;
 use frac_core::OutOfMemory;
 use problem_core::What;
@@ -48,6 +50,47 @@ fn put_one(lists: &mut BTreeMap<u64, Vec<What>>, new: NewList)
     if lists.insert(new.col, new.list).is_err() {
         prove!(false);
     }
+}
+
+// Whether the column has a list with nothing in it.
+fn has_empty_list(lists: &BTreeMap<u64, Vec<What>>, col: u64) -> bool
+    ensures yes { result ≡ true → list_at lists.now col ≡ [] }
+    ensures no { result ≡ false → IfSome (get nat_cmp lists.now col) (λ v. v.items ≢ []) }
+{
+    match lists.get(&col) {
+        Some(list) => list.is_empty(),
+        None => false,
+    }
+}
+
+// Forgets the column's list if nothing is in it.
+fn forget_empty(lists: &mut BTreeMap<u64, Vec<What>>, col: u64)
+    ensures same { (c : ℕ) → list_at lists.new c ≡ list_at lists.old c }
+    ensures gone { IfSome (get nat_cmp lists.new col) (λ v. v.items ≢ []) }
+{
+    if has_empty_list(lists, col) {
+        lists.remove(&col);
+    }
+}
+
+// Takes what is no longer written out of the column's list, if it has one.
+fn take_from(lists: &mut BTreeMap<u64, Vec<What>>, w: &Written, col: u64)
+    ensures here { (ws : List Writing) → IsListed col (w.now ∷ ws) (list_at lists.old col) → IsListed col ws (list_at lists.new col) }
+    ensures others { (c : ℕ) → c ≢ col → list_at lists.new c ≡ list_at lists.old c }
+{
+    if let Some(list) = lists.get_mut(&col) {
+        take_standing(list, w, col);
+    }
+}
+
+// Takes what is no longer written out of the column's list, and forgets a list with nothing in it.
+fn unlist_one(lists: &mut BTreeMap<u64, Vec<What>>, w: &Written, col: u64)
+    ensures here { (ws : List Writing) → IsListed col (w.now ∷ ws) (list_at lists.old col) → IsListed col ws (list_at lists.new col) }
+    ensures others { (c : ℕ) → c ≢ col → list_at lists.new c ≡ list_at lists.old c }
+    ensures gone { IfSome (get nat_cmp lists.new col) (λ v. v.items ≢ []) }
+{
+    take_from(lists, w, col);
+    forget_empty(lists, col);
 }
 
 impl Index {
@@ -192,6 +235,29 @@ impl Index {
         ensures lists { self.new.lists ≡ self.old.lists }
     {
         self.places.remove(&col);
+    }
+
+    /// Has the column, which has a place, at another one.
+    pub(crate) fn move_place(&mut self, col: u64, at: usize)
+        requires { IsSome (get nat_cmp self.old.places col) }
+        ensures places { Updates nat_cmp self.old.places self.new.places col (Some at) }
+        ensures lists { self.new.lists ≡ self.old.lists }
+    {
+        if self.places.insert(col, at).is_err() {
+            prove!(false);
+        }
+    }
+
+    /// Takes what is no longer written out of the lists of its row's columns.
+    pub(crate) fn unlist(&mut self, w: &Written, row: &[Entry])
+        requires rising { IsRising row.now }
+        requires row { row.now ≡ w.now.row }
+        ensures places { self.new.places ≡ self.old.places }
+        ensures lists { (ws : List Writing) → (c : ℕ) → IsListed c (w.now ∷ ws) (list_at self.old.lists c) → IsListed c ws (list_at self.new.lists c) }
+    {
+        for e in row {
+            unlist_one(&mut self.lists, w, e.col.0);
+        }
     }
 
     /// An index that says the same.

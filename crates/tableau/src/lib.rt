@@ -5,6 +5,7 @@ mod adding;
 mod asking;
 mod changes;
 mod columns;
+mod dropping;
 mod entering;
 mod exchange;
 mod index;

@@ -1,14 +1,18 @@
 // A change of one constant or target, and the values that follow.
-ghost use Rattle.std.specs.Prelude.{◌≡◌, ◌⊎◌, ◌<ℤ◌, pos, All, Any, IfOk, IfErr, OnErr};
+ghost use Rattle.std.specs.Prelude.{◌≡◌, ◌≢◌, ◌⊎◌, ◌<◌, ◌<ℤ◌, pos, All, AllPairs, Any, length, slice_index_or, IfOk, IfErr, IfSome, IfNone, OnErr};
+ghost use Rattle.problem_core.specs.declared.parts.RowName.TheVariants.{Held, Stay as StayOf};
 ghost use Rattle.problem_core.specs.declared.stops.TableStop.TheVariants.{OutOfMemory as NoMemory};
 ghost use Rattle.std.specs.List.{AllZip};
 ghost use Rattle.frac_core.specs.Fraction.{Fraction, IsLowest, IsRatio, Fits, sum_num, sum_den};
 ghost use Rattle.row_core.specs.Rows.{coefficient};
 ghost use Rattle.tableau.specs.Tables.{own};
 ghost use Rattle.tableau.specs.Exchanges.{IsUnfitSum};
+ghost use Rattle.tableau.specs.Indexes.{IsChangeOf, IsIndexed, list_at};
 ghost use Rattle.tableau.specs.Moving.{IsMoved, IsMovedRow, IsMovedStay, IsMovedWriting, IsMoveStop, with_constant};
 
-use crate::exchange::{push, room};
+use crate::changes::{Change, change_room, push_change};
+use crate::dropping::where_row;
+use crate::index::Index;
 use crate::written::{HeldRow, Written, column};
 use frac_core::{Frac, OutOfMemory, Unfit};
 use problem_core::{Quantity, Row, RowName, Stay, TableStop};
@@ -43,42 +47,32 @@ fn with_other_constant(alloc: Global, old: &Row, constant: Frac) -> Result<Row, 
     )
 }
 
-// The row after the change.
-fn moved_row(alloc: Global, old: &HeldRow, name: RowName, by: Frac) -> Result<HeldRow, OutOfMemory>
-    ensures { IfOk result (IsMovedRow name by old.now) }
+// The row after the change of its constant.
+fn moved_row(alloc: Global, old: &HeldRow, by: Frac) -> Result<HeldRow, OutOfMemory>
+    ensures { IfOk result (IsMovedRow (Held old.now.id) by old.now) }
 {
-    if RowName::Held(old.row().id()) != name {
-        return old.copy();
-    }
     let constant = moved(old.row().constant(), by)?;
     let row = with_other_constant(alloc, old.row(), constant)?;
     HeldRow::of(alloc, row)
 }
 
-#[tactic(auto, using(std::proofs::lemmas::List::Elements::all_zip_more))]
-/// The rows after the change.
-pub(crate) fn moved_rows(
-    alloc: Global,
-    rows: &[HeldRow],
-    name: RowName,
-    by: Frac,
-) -> Result<Vec<HeldRow>, OutOfMemory>
-    ensures { IfOk result (λ out. AllZip (IsMovedRow name by) rows.now out.items) }
+// Changes the constant of the row of this number, if there is one. After want of memory the rows are as before.
+fn move_row(alloc: Global, rows: &mut Vec<HeldRow>, id: u32, by: Frac) -> Result<(), OutOfMemory>
+    requires { AllPairs (λ r s. r.id < s.id) rows.old.items }
+    ensures moved { IfOk result (λ _. AllZip (IsMovedRow (Held id) by) rows.old.items rows.new.items) }
+    ensures same { IfErr result (λ _. rows.new.items ≡ rows.old.items) }
 {
-    let mut out = Vec::with_capacity(alloc, rows.len())?;
-    for old in rows {
-        out.push(moved_row(alloc, old, name, by)?)?;
+    if let Some(at) = where_row(rows, id) {
+        let new = moved_row(alloc, &rows[at], by)?;
+        rows[at] = new;
     }
-    Ok(out)
+    Ok(())
 }
 
-// The stay after the change.
-fn moved_stay(old: Stay, name: RowName, by: Frac) -> Result<Stay, OutOfMemory>
-    ensures { IfOk result (IsMovedStay name by old) }
+// The stay after the change of its target.
+fn moved_stay(old: &Stay, by: Frac) -> Result<Stay, OutOfMemory>
+    ensures { IfOk result (IsMovedStay (StayOf old.now.attr) by old.now) }
 {
-    if RowName::Stay(old.attr) != name {
-        return Ok(old);
-    }
     let target = moved(old.target, by)?;
     Ok(Stay {
         attr: old.attr,
@@ -86,21 +80,46 @@ fn moved_stay(old: Stay, name: RowName, by: Frac) -> Result<Stay, OutOfMemory>
     })
 }
 
-#[tactic(auto, using(std::proofs::lemmas::List::Elements::all_zip_more))]
-/// The stays after the change.
-pub(crate) fn moved_stays(
+// Where the stay of the attribute is.
+fn where_stay(stays: &[Stay], attr: u32) -> Option<usize>
+    ensures some { IfSome result (λ at. (at < length stays.now) × ((s : _) → (slice_index_or stays.now at s).attr ≡ attr)) }
+    ensures none { IfNone result (All (λ s. s.attr ≢ attr) stays.now) }
+{
+    stays.iter().position(|s| s.attr == attr)
+}
+
+// Changes the target of the attribute's stay, if it has one. After want of memory the stays are as before.
+fn move_stay(stays: &mut Vec<Stay>, attr: u32, by: Frac) -> Result<(), OutOfMemory>
+    requires { AllPairs (λ s t. s.attr ≢ t.attr) stays.old.items }
+    ensures moved { IfOk result (λ _. AllZip (IsMovedStay (StayOf attr) by) stays.old.items stays.new.items) }
+    ensures same { IfErr result (λ _. stays.new.items ≡ stays.old.items) }
+{
+    if let Some(at) = where_stay(stays, attr) {
+        let new = moved_stay(&stays[at], by)?;
+        stays[at] = new;
+    }
+    Ok(())
+}
+
+/// Changes the constant or the target of that name. After want of memory all is as before.
+pub(crate) fn move_line(
     alloc: Global,
-    stays: &[Stay],
+    rows: &mut Vec<HeldRow>,
+    stays: &mut Vec<Stay>,
     name: RowName,
     by: Frac,
-) -> Result<Vec<Stay>, OutOfMemory>
-    ensures { IfOk result (λ out. AllZip (IsMovedStay name by) stays.now out.items) }
+) -> Result<(), OutOfMemory>
+    requires rising { AllPairs (λ r s. r.id < s.id) rows.old.items }
+    requires apart { AllPairs (λ s t. s.attr ≢ t.attr) stays.old.items }
+    ensures rows { IfOk result (λ _. AllZip (IsMovedRow name by) rows.old.items rows.new.items) }
+    ensures stays { IfOk result (λ _. AllZip (IsMovedStay name by) stays.old.items stays.new.items) }
+    ensures same_rows { IfErr result (λ _. rows.new.items ≡ rows.old.items) }
+    ensures same_stays { IfErr result (λ _. stays.new.items ≡ stays.old.items) }
 {
-    let mut out = Vec::with_capacity(alloc, stays.len())?;
-    for old in stays {
-        out.push(moved_stay(*old, name, by)?)?;
+    match name {
+        RowName::Held(id) => move_row(alloc, rows, id, by),
+        RowName::Stay(attr) => move_stay(stays, attr, by),
     }
-    Ok(out)
 }
 
 // The value after the change.
@@ -131,22 +150,25 @@ fn moved_writing(old: &Written, under: u64, by: Frac) -> Result<Written, TableSt
     Ok(old.with_value(value)?)
 }
 
-#[tactic(auto, using(std::proofs::lemmas::List::Elements::all_zip_more))]
-/// All that is written, after the change.
+/// The changes of all in whose writings the under mark stands. All else that is written keeps its value.
 pub(crate) fn moved_writings(
     alloc: Global,
     written: &[Written],
+    index: &Index,
     under: u64,
     by: Frac,
-) -> Result<Vec<Written>, TableStop>
-    requires { All (λ w. pos 0 <ℤ own w) written.now }
-    ensures moved { IfOk result (λ out. AllZip (IsMovedWriting under by) written.now out.items) }
+) -> Result<Vec<Change>, TableStop>
+    requires own { All (λ w. pos 0 <ℤ own w) written.now }
+    requires indexed { IsIndexed index.now written.now }
+    ensures changes { IfOk result (λ ks. AllZip (IsChangeOf (IsMovedWriting under by) written.now) (list_at index.now.lists under) ks.items) }
     ensures stop { IfErr result (λ stop. (stop ≡ NoMemory) ⊎ Any (λ w. IsMoveStop under by w stop) written.now) }
 {
-    let mut out = room(alloc, written.len())?;
-    for old in written {
-        match moved_writing(old, under, by) {
-            Ok(new) => push(&mut out, new)?,
+    let list = index.list(under);
+    let mut out = change_room(alloc, list.len())?;
+    for what in list {
+        let at = index.place_of(written, column(*what));
+        match moved_writing(&written[at], under, by) {
+            Ok(writing) => push_change(&mut out, at, writing)?,
             Err(stop) => return Err(stop),
         }
     }

@@ -6,18 +6,21 @@ ghost use Rattle.tableau.specs.Tables.{Table, IsTable, HasColumn};
 ghost use Rattle.problem_core.specs.Kept.{IsNumber};
 ghost use Rattle.tableau.specs.Joining.{IsJoinable, IsJoinStop, IsWithAttr, IsWithRow};
 ghost use Rattle.tableau.specs.Columns.{IsColumn};
+ghost use Rattle.tableau.specs.Dropping.{CanDrop, IsWithoutRow};
 ghost use Rattle.tableau.specs.Moving.{CanShift, IsShifted, IsShiftStop};
 ghost use Rattle.problem_core.specs.declared.stops.What.TheVariants.{Mark as MarkOf};
 ghost use Rattle.tableau.specs.Tables.{IsNamed};
 ghost use Rattle.tableau.specs.Exchanges.{HasRow, HasValue, IsInside, IsOutside, IsPossible, IsMovedTo, IsSwapped, IsSwapStop};
 
 use crate::asking::{are_below, are_covered, can_move_row, can_move_stay, has_stay, is_held};
+use crate::changes::put_changes;
 use crate::columns::has_number;
+use crate::dropping::{inside_place, row_mark, take_row, take_writing};
 use crate::entering::{not_negative, over_writing};
 use crate::exchange::exchanged;
 use crate::index::Index;
 use crate::joining::{attr_writing, join};
-use crate::moving::{moved_rows, moved_stays, moved_writings};
+use crate::moving::{move_line, moved_writings};
 use crate::replacing::put_exchange;
 use crate::written::{HeldRow, Written, column};
 use frac_core::{Frac, OutOfMemory};
@@ -172,6 +175,16 @@ impl Tableau {
         )?)
     }
 
+    /// Removes a row one of whose marks is inside, and this mark with it. Takes no memory.
+    pub fn drop_row(&mut self, id: u32)
+        requires { CanDrop self.old id }
+        ensures { IsWithoutRow id self.old self.new }
+    {
+        let at = inside_place(&self.index, &self.written, id);
+        take_writing(&mut self.index, &mut self.written, at);
+        take_row(&mut self.rows, id);
+    }
+
     /// Changes the constant of a row, or the target of a stay, by `by`. The corner stays; values may turn negative.
     ///
     /// `UnfitAt` names what has no fitting value then. After any stop the tableau is as before.
@@ -188,15 +201,12 @@ impl Tableau {
             side: Side::Under,
         });
         let written: &[Written] = &self.written;
-        let written = match moved_writings(alloc, written, under, by) {
-            Ok(written) => written,
+        let changes = match moved_writings(alloc, written, &self.index, under, by) {
+            Ok(changes) => changes,
             Err(stop) => return Err(stop),
         };
-        let rows = moved_rows(alloc, &self.rows, row, by)?;
-        let stays = moved_stays(alloc, &self.stays, row, by)?;
-        self.rows = rows;
-        self.stays = stays;
-        self.written = written;
+        move_line(alloc, &mut self.rows, &mut self.stays, row, by)?;
+        put_changes(&mut self.written, changes);
         Ok(())
     }
 
@@ -299,6 +309,15 @@ impl Tableau {
             return false;
         }
         self.rows.len() < 4096
+    }
+
+    /// Whether the row can be removed.
+    pub fn can_drop_row(&self, id: u32) -> bool
+        ensures { IsTrue result → CanDrop self.now id }
+    {
+        is_held(&self.rows, id)
+            && (self.is_inside(row_mark(id, Side::Over))
+                || self.is_inside(row_mark(id, Side::Under)))
     }
 
     /// Whether the constant or target of that name can change by `by`.

@@ -59,6 +59,14 @@ fn swapped(t: &mut Tableau, enter: Mark, leave: Mark) -> Result<(), TableStop> {
     t.swap(enter, leave)
 }
 
+fn dropped(t: &mut Tableau, id: u32) -> Result<(), TableStop> {
+    if !t.can_drop_row(id) {
+        return Err(TableStop::OutOfMemory);
+    }
+    t.drop_row(id);
+    Ok(())
+}
+
 fn value(t: &Tableau, m: Mark) -> Option<Frac> {
     if !t.is_inside(m) {
         return None;
@@ -130,6 +138,28 @@ fn a_sum_does_not_fit(rt: HostRuntime) -> Result<(), Fail> {
     Ok(())
 }
 
+// The rows `x1 >= 5` and `2*x1 >= 4`, with another constant of the second: at the first corner only its own mark has another
+// value, and at the corner where it holds exactly all in whose writings its under mark stands.
+#[test]
+fn a_constant_changes_alone(rt: HostRuntime) -> Result<(), Fail> {
+    let mut t = first_corner(rt.alloc())?;
+    let row = row_of(rt.alloc(), 2, 2, whole(4))?;
+    let (first, second) = (held(1, Side::Under), held(2, Side::Under));
+    joined(&mut t, &row)?;
+    let mut exact = t.copy()?;
+    assert!(rt; shifted(&mut t, RowName::Held(3), whole(3)).is_err());
+    shifted(&mut t, RowName::Held(2), whole(3))?;
+    assert_eq!(rt; value(&t, second), Some(whole(7)));
+    assert_eq!(rt; value(&t, first), Some(whole(5)));
+    assert_eq!(rt; attr_value(&t, 1), Some(whole(0)));
+    swapped(&mut exact, stay(1, Side::Over), second)?;
+    shifted(&mut exact, RowName::Held(2), whole(4))?;
+    assert_eq!(rt; attr_value(&exact, 1), Some(whole(4)));
+    assert_eq!(rt; value(&exact, first), Some(whole(1)));
+    assert_eq!(rt; value(&t, second), Some(whole(7)));
+    Ok(())
+}
+
 #[test]
 fn targets_change(rt: HostRuntime) -> Result<(), Fail> {
     let mut t = first_corner(rt.alloc())?;
@@ -137,5 +167,49 @@ fn targets_change(rt: HostRuntime) -> Result<(), Fail> {
     shifted(&mut t, RowName::Stay(1), whole(7))?;
     assert_eq!(rt; attr_value(&t, 1), Some(whole(7)));
     assert_eq!(rt; value(&t, held(1, Side::Under)), Some(whole(-2)));
+    Ok(())
+}
+
+// The rows `x1 >= 5` and `2*x1 >= 4` at the first corner, where `x1` is 0 and both marks are under.
+#[test]
+fn the_first_row_leaves(rt: HostRuntime) -> Result<(), Fail> {
+    let mut t = first_corner(rt.alloc())?;
+    let row = row_of(rt.alloc(), 2, 2, whole(4))?;
+    let (under, over) = (held(1, Side::Under), stay(1, Side::Over));
+    joined(&mut t, &row)?;
+    assert!(rt; dropped(&mut t, 3).is_err());
+    assert_eq!(rt; value(&t, held(2, Side::Under)), Some(whole(4)));
+    dropped(&mut t, 1)?;
+    assert_eq!(rt; value(&t, under), None);
+    assert_eq!(rt; attr_value(&t, 1), Some(whole(0)));
+    assert_eq!(rt; value(&t, held(2, Side::Under)), Some(whole(4)));
+    let left = [What::Attr(1), What::Mark(held(2, Side::Under))];
+    assert!(rt; column(&t, over, held(2, Side::Under)) == Some(left.as_slice()));
+    assert!(rt; dropped(&mut t, 1).is_err());
+    assert!(rt; joined(&mut t, &row).is_err());
+    let next = row_of(rt.alloc(), 3, 1, whole(7))?;
+    joined(&mut t, &next)?;
+    assert_eq!(rt; value(&t, held(3, Side::Under)), Some(whole(7)));
+    Ok(())
+}
+
+// A row whose marks are both outside stays; once one is inside it leaves, and joins again.
+#[test]
+fn the_last_row_leaves(rt: HostRuntime) -> Result<(), Fail> {
+    let mut t = first_corner(rt.alloc())?;
+    let row = row_of(rt.alloc(), 2, 2, whole(4))?;
+    let (under, over) = (held(2, Side::Under), stay(1, Side::Over));
+    joined(&mut t, &row)?;
+    swapped(&mut t, over, under)?;
+    assert!(rt; dropped(&mut t, 2).is_err());
+    swapped(&mut t, under, over)?;
+    dropped(&mut t, 2)?;
+    assert_eq!(rt; attr_value(&t, 1), Some(whole(0)));
+    assert_eq!(rt; value(&t, held(1, Side::Under)), Some(whole(5)));
+    joined(&mut t, &row)?;
+    assert_eq!(rt; value(&t, under), Some(whole(4)));
+    swapped(&mut t, over, held(1, Side::Under))?;
+    assert_eq!(rt; value(&t, held(2, Side::Over)), None);
+    assert_eq!(rt; value(&t, under), Some(whole(-6)));
     Ok(())
 }

@@ -1,4 +1,4 @@
-use Rattle.std.proofs.Common.{◌≡◌, ◌-◌, ℕ, List, drop, arith, ap, subst}
+use Rattle.std.proofs.Common.{◌-◌, List, arith, subst}
 use Rattle.tableau.specs.Columns.{IsListed}
 use Rattle.tableau.specs.Indexes.{changed}
 use Rattle.tableau.specs.declared.changes.Change.{Change}

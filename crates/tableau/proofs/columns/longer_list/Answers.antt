@@ -1,5 +1,4 @@
-use Rattle.std.proofs.Common.{List, sym, subst}
-use Rattle.problem_core.specs.declared.stops.What.{What}
+use Rattle.std.proofs.Common.{sym, subst}
 use Rattle.tableau.specs.Columns.{IsListed}
 use Rattle.tableau.proofs.Standing.{last_listed}
 use Rattle.tableau.proofs.columns.longer_list.Goals as goal

@@ -1,15 +1,12 @@
-use Rattle.std.proofs.Common.{◌≡◌, ◌∙◌, ◌+◌, ℕ, List, ap, get_or, inr, sym, subst, take}
+use Rattle.std.proofs.Common.{◌∙◌, ◌+◌, ℕ, sym, subst, take}
 use Rattle.std.specs.List.{AllZip}
 use Rattle.std.proofs.lemmas.List.{get_or_default}
-use Rattle.problem_core.specs.declared.stops.What.{What}
 use Rattle.problem_core.specs.declared.stops.What.TheVariants.{Attr}
-use Rattle.problem_core.specs.Corners.{place}
 use Rattle.tableau.specs.Written.{Writing}
-use Rattle.tableau.specs.Tables.{HasColumn, column_of}
+use Rattle.tableau.specs.Tables.{HasColumn}
 use Rattle.tableau.specs.Exchanges.{IsMovedBy}
 use Rattle.tableau.specs.Columns.{IsListed}
 use Rattle.tableau.specs.Indexes.{IsChangeOf, IsPlaceOf}
-use Rattle.tableau.specs.declared.changes.Change.{Change}
 use Rattle.tableau.proofs.Covering.{listed_written}
 use Rattle.tableau.proofs.Zips.{zip_more}
 use Rattle.tableau.proofs.exchange.changes.Goals as goal
@@ -21,8 +18,8 @@ place_of-at-requires-clause-here c =
 
 pub loop-what-preserved : goal.loop-what-preserved
 loop-what-preserved c =
-    subst (AllZip (IsChangeOf c.args.leaving.now c.args.pivot.now c.args.enter c.args.written.now) (take (c.loop-what.what-index + 1) c.list-list.result.now)) (sym c.in_ok-push_change-in-Ok.ensures)
-    (zip_more (IsChangeOf c.args.leaving.now c.args.pivot.now c.args.enter c.args.written.now) c.list-list.result.now c.loop-what.out.items c.loop-what.what-index (Attr 0) (record { at = c.place_of-at.result; writing = c.in-Ok.writing }) c.loop-what-test.true c.loop-what.invariant
+    subst (AllZip (IsChangeOf (IsMovedBy c.args.leaving.now c.args.pivot.now c.args.enter) c.args.written.now) (take (c.loop-what.what-index + 1) c.list-list.result.now)) (sym c.in_ok-push_change-in-Ok.ensures)
+    (zip_more (IsChangeOf (IsMovedBy c.args.leaving.now c.args.pivot.now c.args.enter) c.args.written.now) c.list-list.result.now c.loop-what.out.items c.loop-what.what-index (Attr 0) (record { at = c.place_of-at.result; writing = c.in-Ok.writing }) c.loop-what-test.true c.loop-what.invariant
     (record {
       place = subst (λ (k : ℕ). IsPlaceOf c.args.written.now k c.place_of-at.result) c.column.ensures c.place_of-at.ensures;
       moved = λ d. subst (λ (w : Writing). IsMovedBy c.args.leaving.now c.args.pivot.now c.args.enter w c.in-Ok.writing) (c.index-written-at.is ∙ get_or_default c.args.written.now c.place_of-at.result c.index-written-at.result d c.place_of-at.ensures.within) c.in-Ok.ensures.moved;

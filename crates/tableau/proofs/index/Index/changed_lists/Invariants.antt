@@ -1,4 +1,4 @@
-use Rattle.std.proofs.Common.{◌++◌, ◌∷◌, [], take}
+use Rattle.std.proofs.Common.{take}
 use Rattle.tableau.specs.Indexes.{AreListsOf, changed}
 use Rattle.tableau.proofs.index.Index.changed_lists.Given as goal
 

@@ -1,9 +1,7 @@
-use Rattle.std.proofs.Common.{◌≡◌, ◌∙◌, ℕ, List, take, get_or, ap, sym, subst, ◌+◌, ◌++◌, ◌∷◌, []}
+use Rattle.std.proofs.Common.{◌∙◌, take, ap, sym, subst, ◌+◌, ◌++◌, ◌∷◌, []}
 use Rattle.row_core.specs.Rows.{Term}
-use Rattle.problem_core.specs.declared.stops.What.{What}
 use Rattle.tableau.specs.Columns.{IsListed}
 use Rattle.tableau.specs.Indexes.{AreListsOf}
-use Rattle.tableau.specs.declared.changes.NewList.{NewList}
 use Rattle.tableau.proofs.Indexing.{lists_more}
 use Rattle.tableau.proofs.index.Index.longer_lists.Goals as goal
 

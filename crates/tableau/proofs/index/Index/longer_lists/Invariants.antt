@@ -1,5 +1,5 @@
 use Rattle.std.proofs.Common.{◌++◌, ◌∷◌, [], take}
-use Rattle.tableau.specs.Indexes.{AreListsOf, changed}
+use Rattle.tableau.specs.Indexes.{AreListsOf}
 use Rattle.tableau.proofs.index.Index.longer_lists.Given as goal
 
 abbrev pub invariant-loop-e : goal.invariant-loop-e

@@ -1,7 +1,6 @@
-use Rattle.std.proofs.Common.{◌≡◌, ◌<◌, ◌∙◌, ℕ, length, ◌++◌, ◌∷◌, [], List, sym, ap, ap₂, subst}
+use Rattle.std.proofs.Common.{◌≡◌, ◌<◌, length, ◌++◌, ◌∷◌, [], List, sym, ap, ap₂, subst}
 use Rattle.frac_core.specs.Fraction.{Fraction}
 use Rattle.problem_core.specs.declared.parts.Stay.{Stay}
-use Rattle.problem_core.specs.declared.stops.What.{What}
 use Rattle.problem_core.specs.Corners.{attr_column}
 use Rattle.tableau.specs.Written.{Writing}
 use Rattle.tableau.specs.Tables.{Table, IsTable, HasColumn, column_of}

@@ -1,11 +1,9 @@
-use Rattle.std.proofs.Common.{◌≡◌, ◌≢◌, ◌<◌, ◌∙◌, ℕ, List, pos, get_or, rules, sym, ap, subst, All, IfErr}
-use Rattle.row_core.specs.Rows.{coefficient}
-use Rattle.problem_core.specs.Corners.{place}
+use Rattle.std.proofs.Common.{◌≡◌, ℕ, List, get_or, rules, sym, subst, All}
 use Rattle.problem_core.specs.declared.stops.TableStop.TheVariants.{OutOfMemory as NoMemory}
 use Rattle.tableau.specs.Written.{Writing}
-use Rattle.tableau.specs.Tables.{Table, IsTable, HasColumn}
-use Rattle.tableau.specs.Exchanges.{IsExchangeStop, IsMovedTo, IsOutside, IsPossible, IsReady, IsSwapped, IsSwapStop}
-use Rattle.tableau.specs.Indexes.{AreChanges, IsExchange, IsPlaced, IsPlaceOf, changed, list_at}
+use Rattle.tableau.specs.Tables.{IsTable}
+use Rattle.tableau.specs.Exchanges.{IsExchangeStop, IsReady, IsSwapStop}
+use Rattle.tableau.specs.Indexes.{IsPlaced, IsPlaceOf, changed}
 use Rattle.tableau.specs.Views.{table_of}
 use Rattle.tableau.proofs.Places.{either, err_maps}
 use Rattle.tableau.proofs.Swapping.{all_ready}
