@@ -4,7 +4,7 @@ use borrow.Author.Differences.{ints}
 use Rattle.std.specs.Prelude.{unsigned_abs}
 use Rattle.std.proofs.lemmas.Bool.{cases_order}
 use Rattle.std.proofs.lemmas.Bool.Decides.{nat_tests}
-use Rattle.std.proofs.lemmas.List.{take-append-drop, drop_more, take_rest}
+use Rattle.std.proofs.lemmas.List.{take-append-drop, drop_more}
 use Rattle.std.proofs.lemmas.List.Elements.{All-cons}
 use Rattle.std.proofs.lemmas.List.Kept.{AllPairs-cons}
 use Rattle.frac_core.specs.Fraction.{Fraction, IsKept}
@@ -256,9 +256,6 @@ changed_costs a b inside r side written value olds news row kept-value are marks
     ])
 
 -- ---- what the calls answer
-
-pub rest_of : (costs : List Cost) (n : ℕ) → take (length costs - n) (drop n costs) ≡ drop n costs
-rest_of costs n = take_rest costs n
 
 pub held_changed : (change : Change) (r : Row) (side : Side) (written : List rows.Term) (value : Fraction) (costs : List Cost) (at first : ℕ) (old new : Cost) (news : List Cost) → AreKept costs → at < length costs → old ≡ get_or costs at old → old.level ≡ Priority r.rank → IsJoined r side (signed_weight change r.weight) written value old new → first ≡ rows_after change old.rows → new.rows ≡ first → news ≡ take at costs ++ new ∷ drop (at + 1) costs → IsChangedList change r side written value costs news
 held_changed change r side written value costs at first old new news are within is level x count rows made =

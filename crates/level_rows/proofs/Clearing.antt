@@ -67,7 +67,7 @@ unfit_reduced whole row kept red unfit other low of_other fits reduced =
 pub past_marks : (row : List Term) (c : ℕ) → IsOfMarks row → 17179869184 ≤ c → coefficient c row ≡ pos 0
 past_marks row c marks above = absent c row (λ k d within e. let less : (get_or row k d).col < 17179869184 = marks k d within in omega (arith, less, above, e))
 
-without-second : (k n x y : ℤ) → y ≡ pos 0 → k *ℤ x +ℤ n *ℤ y ≡ k *ℤ x
+pub without-second : (k n x y : ℤ) → y ≡ pos 0 → k *ℤ x +ℤ n *ℤ y ≡ k *ℤ x
 without-second k n x y e = ap (λ (t : ℤ). k *ℤ x +ℤ n *ℤ t) e ∙ omega (arith, ints, mul-zero_ℤ n)
 
 -- past the marks' columns the level's row is a multiple of the old one

@@ -21,3 +21,4 @@ pub mod Touched
 pub mod Replacing
 pub mod Nearing
 pub mod Applying
+pub mod Steady

@@ -1,7 +1,9 @@
 -- The first level at which a column's reduced cost isn't 0.
-use Rattle.std.proofs.Common.{◌≡◌, ◌≢◌, ◌∙◌, ◌⊎◌, ℕ, zero, suc, ◌+◌, ◌<◌, ◌≤◌, ◌++◌, List, [], ◌∷◌, length, take, drop, get_or, Option, Some, None, IfSome, IfNone, ℤ, pos, negsuc, ◌-ℤ◌, ◌<ℤ◌, refl, sym, ap, ap₂, subst, arith, All, Contains, inl, inr}
+use Rattle.std.proofs.Common.{◌≡◌, ◌≢◌, ◌∙◌, ◌⊎◌, ℕ, zero, suc, ◌<◌, ◌≤◌, ◌++◌, List, [], ◌∷◌, length, take, drop, get_or, Option, Some, None, ℤ, pos, negsuc, ◌-ℤ◌, ◌<ℤ◌, refl, sym, ap, ap₂, subst, arith, All, Contains, inl, inr}
 use borrow.Author.Differences.{ints}
+use Rattle.std.specs.List.Sorted.{IsNonDecreasing}
 use Rattle.std.proofs.lemmas.Bool.{cases_lt}
+use Rattle.std.proofs.lemmas.Grind.{get_or_default_zero}
 use Rattle.std.proofs.lemmas.List.{get_or_default, get_or-take, length-take-le}
 use Rattle.problem_core.specs.declared.parts.Level.TheVariants.{Priority}
 use Rattle.problem_core.specs.declared.parts.Mark.{Mark}
@@ -21,17 +23,6 @@ pub past_zero : (costs : List Cost) (c k : ℕ) (best : Option Front) → IsZero
 past_zero costs c k None none = none
 past_zero costs c k (Some f) none = λ less. none
 
-pub past_behind : (costs : List Cost) (c k : ℕ) (best : Option Front) → IfSome best (λ f. f.at ≤ k) → IfNone best ⊥ → IsPast costs c best k
-past_behind costs c k None some never = absurd never
-past_behind costs c k (Some f) some never = λ less. absurd (omega (arith, less, some))
-
-pub past_nearer : (costs : List Cost) (c k : ℕ) (best : Option Front) (f : Front) → IfSome best (λ g. f.at < g.at) → IsPast costs c best k → IsPast costs c (Some f) k
-past_nearer costs c k None f nearer past = λ less. past
-past_nearer costs c k (Some g) f nearer past = λ less. past (omega (arith, less, nearer))
-
-pub past_itself : (costs : List Cost) (c : ℕ) (f : Front) → IsPast costs c (Some f) f.at
-past_itself costs c f = λ less. absurd (omega (arith, less))
-
 pub zero_at : (costs : List Cost) (c k : ℕ) (w : Cost) → w ≡ get_or costs k w → reduced_at c w.row ≡ pos 0 → IsZeroAt costs c k
 zero_at costs c k w is none v within at = subst (λ (x : Cost). reduced_at c x.row ≡ pos 0) (is ∙ get_or_default costs k w v within ∙ sym at) none
 
@@ -40,6 +31,17 @@ zero_past costs c k over w within is = absurd (omega (arith, over, within))
 
 pub free_zero : (c : ℕ) (row : List Term) → IsFree c row → reduced_at c row ≡ pos 0
 free_zero c row free = ap₂ (λ (x y : ℤ). x -ℤ y) free.1 free.0
+
+-- the first of the places that rise at which the reduced cost isn't 0 is before all others
+pub past_first : (costs : List Cost) (list : List ℕ) (c i : ℕ) (f : Front) → IsNonDecreasing list → i < length list → f.at ≡ get_or list i 0 → ((k : ℕ) → Contains (take i list) k → IsZeroAt costs c k) → (k : ℕ) → Contains list k → IsPast costs c (Some f) k
+past_first costs list c i f rising within is zeros k has =
+    elim (cases_lt has.0 i) [
+      | inl less ↦ λ before. zeros k (has.0, omega (arith, less, length-take-le i list (omega (arith, within))), get_or-take i list has.0 k less ∙ has.2)
+      | inr ge ↦
+          let rise : get_or list i 0 ≤ get_or list has.0 0 = rising i has.0 0 (omega (arith, ge)) has.1 in
+          let here : get_or list has.0 k ≡ get_or list has.0 0 = get_or_default_zero list has.0 k has.1 in
+          λ before. absurd (omega (arith, before, is, rise, here, has.2))
+    ]
 
 -- past all listed places, each place is past
 pub all_past : (costs : List Cost) (list : List ℕ) (c : ℕ) (best : Option Front) → AreListed costs list c → ((k : ℕ) → Contains list k → IsPast costs c best k) → (k : ℕ) → IsPast costs c best k
@@ -125,29 +127,4 @@ lows_nonnegative costs low lows all c below =
     elim (lows c below) [
       | inl among ↦ subst (λ (x : ℕ). IsNonnegativeIn x costs) among.4 (subst (λ (m : Mark). IsNonnegativeIn (place m) costs) among.3 (all among.0 among.1 among.2))
       | inr nonnegative ↦ nonnegative
-    ]
-
--- the costs of the levels are free of the column
-pub free_nonnegative : (costs : List Cost) (c : ℕ) → All (λ w. IsFree c w.row) costs → IsNonnegativeIn c costs
-free_nonnegative costs c free = zero_nonnegative costs c (λ k d h. free_zero c (get_or costs k d).row (free k d h))
-
-pub listed_more : (costs : List Cost) (i : ℕ) (w : Cost) (list more : List ℕ) (c : ℕ) → ((k : ℕ) → Contains list k → Contains more k) → i < length costs → w ≡ get_or costs i w → Contains more i ⊎ IsFree c w.row → AreListed (take i costs) list c → AreListed (take (i + 1) costs) more c
-listed_more costs i w list more c kept within is here listed k v inside at =
-    let size : length (take (i + 1) costs) ≡ i + 1 = length-take-le (i + 1) costs (omega (arith, within)) in
-    let least : k < i + 1 = omega (arith, inside, size) in
-    let of_costs : v ≡ get_or costs k v = at ∙ get_or-take (i + 1) costs k v least in
-    elim (cases_lt k i) [
-      | inl less ↦
-          let first : length (take i costs) ≡ i = length-take-le i costs (omega (arith, within)) in
-          elim (listed k v (omega (arith, less, first)) (of_costs ∙ sym (get_or-take i costs k v less))) [
-            | inl has ↦ inl (kept k has)
-            | inr free ↦ inr free
-          ]
-      | inr ge ↦
-          let same : i ≡ k = omega (arith, least, ge) in
-          let cost : w ≡ v = is ∙ get_or_default costs i w v within ∙ ap (λ (j : ℕ). get_or costs j v) same ∙ sym of_costs in
-          elim here [
-            | inl has ↦ inl (subst (Contains more) same has)
-            | inr free ↦ inr (subst (λ (x : Cost). IsFree c x.row) cost free)
-          ]
     ]

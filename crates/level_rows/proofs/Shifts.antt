@@ -2,8 +2,8 @@
 use Rattle.std.proofs.Common.{◌≡◌, ◌≢◌, ◌∙◌, ℕ, zero, suc, ◌*◌, ◌<◌, ◌++◌, Bool, true, false, cond, List, [], ◌∷◌, length, get_or, ℤ, pos, ◌+ℤ◌, ◌-ℤ◌, ◌*ℤ◌, refl, sym, ap, ap₂, subst, arith, Any, eq-eqb, ◌⊎◌, inl, inr}
 use Rattle.std.specs.List.{AllZip}
 use borrow.Author.Differences.{ints}
-use Rattle.frac_core.specs.Fraction.{Fraction, IsKept}
-use Rattle.frac_core.proofs.Integers.{mul_left_comm_ℤ, mul_assoc_ℤ, mul-zero_ℤ, cancel_mul, mul-sub_left, mul-add_left, diff-add, diff-mul, diff-neg, diff-pos, neg-pos, on_2, on_3, diff_eq}
+use Rattle.frac_core.specs.Fraction.{Fraction, IsKept, IsRatio, sum_num, sum_den}
+use Rattle.frac_core.proofs.Integers.{mul_left_comm_ℤ, mul_assoc_ℤ, mul-zero_ℤ, zero-mul_ℤ, cancel_mul, mul-sub_left, mul-add_left, diff-add, diff-mul, diff-neg, diff-pos, neg-pos, on_2, on_3, diff_eq}
 use Rattle.problem_core.specs.declared.parts.Level.{Level}
 use Rattle.problem_core.specs.declared.parts.Level.TheVariants.{Priority, Stay}
 use Rattle.problem_core.specs.declared.parts.RowName.{RowName}
@@ -177,3 +177,18 @@ shifted_costs a b l inside name by num den olds news kept-by are named apart shi
 pub shift_stop : (name : RowName) (by : Fraction) (costs : List Cost) (i : ℕ) (old : Cost) (stop : TableStop) → i < length costs → get_or costs i old ≡ old → (stop ≡ OutOfMemory) ⊎ ((stop ≡ UnfitAt (Shifts (LevelOf old.level) 1)) × IsUnfitShift name by old) → (stop ≡ OutOfMemory) ⊎ Any (λ (w : Cost). (stop ≡ UnfitAt (Shifts (LevelOf w.level) 1)) × IsUnfitShift name by w) costs
 shift_stop name by costs i old stop within is (inl memory) = inl memory
 shift_stop name by costs i old stop within is (inr unfit) = inr (i, old, within, is, unfit)
+
+-- a level at which the row has no multiplier stays
+turned : (n a x : ℤ) → n *ℤ (a *ℤ x) ≡ (n *ℤ x) *ℤ a
+turned = on_3 (λ n a x. n *ℤ (a *ℤ x) ≡ (n *ℤ x) *ℤ a) (λ x x' y y' z z'. simp ring (diff_eq _ _ _ _ (omega arith)))
+
+still : (n a x m : ℤ) → n *ℤ (a *ℤ x) ≡ (n *ℤ x +ℤ pos 0 *ℤ m) *ℤ a
+still n a x m = turned n a x ∙ ap (λ (t : ℤ). t *ℤ a) (let none : n *ℤ x ≡ n *ℤ x +ℤ pos 0 *ℤ m = omega (arith, ints, zero-mul_ℤ m) in none)
+
+pub shift_none : (name : RowName) (by : Fraction) (w : Cost) → IsKeptCost w → times_of name w.row ≡ pos 0 → IsShiftedCost name by w w
+shift_none name by w kept none = record {
+  value = w.value;
+  is = refl;
+  shifted = subst (λ (n : ℤ). IsRatio w.value (sum_num w.value n (scale_of w.row) by) (sum_den w.value (scale_of w.row) by)) (sym none) (still w.value.num (pos w.value.den) (scale_of w.row *ℤ pos by.den) (by.num *ℤ pos w.value.den));
+  kept = kept.value;
+}

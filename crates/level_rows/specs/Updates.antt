@@ -3,7 +3,9 @@ use Rattle.std.specs.Prelude.{◌≡◌, ◌⊎◌, ℕ, ◌<◌, List, [], ◌�
 use Rattle.frac_core.specs.Fraction.{Fraction}
 use Rattle.row_core.specs.Rows.{Term}
 use Rattle.level_rows.specs.declared.updates.Update.{Update}
-use Rattle.level_rows.specs.Costs.{Cost, reduced_at}
+use Rattle.problem_core.specs.declared.parts.RowName.{RowName}
+use Rattle.level_rows.specs.Costs.{Cost, reduced_at, times_of}
+use Rattle.level_rows.specs.Changes.{IsShiftedCost}
 use Rattle.level_rows.specs.Swaps.{IsClearedCost}
 
 -- the costs with the new ones in place
@@ -25,6 +27,18 @@ IsDone costs us c k = HasUpdate us k ⊎ IsZeroAt costs c k
 -- the new cost is that of its place after an exchange
 abbrev pub IsExchangeUpdate : List Term → ℕ → Fraction → List Cost → Update → Type 0
 IsExchangeUpdate pivot enter value costs u = (u.at < length costs) × ((w : Cost) → w ≡ slice_index_or costs u.at w → IsClearedCost pivot enter value w u.cost)
+
+-- the row's multiplier at the level of the place is 0
+abbrev pub IsWithout : List Cost → RowName → ℕ → Type 0
+IsWithout costs name k = (w : Cost) → k < length costs → w ≡ slice_index_or costs k w → times_of name w.row ≡ pos 0
+
+-- the level of the place is updated, or the row has no multiplier there
+abbrev pub IsShiftDone : List Cost → List Update → RowName → ℕ → Type 0
+IsShiftDone costs us name k = HasUpdate us k ⊎ IsWithout costs name k
+
+-- the new cost is that of its place after a shift
+abbrev pub IsShiftUpdate : RowName → Fraction → List Cost → Update → Type 0
+IsShiftUpdate name by costs u = (u.at < length costs) × ((w : Cost) → w ≡ slice_index_or costs u.at w → IsShiftedCost name by w u.cost)
 
 -- the level and the row stay
 abbrev pub HasSameRow : Cost → Cost → Type 0

@@ -1,18 +1,22 @@
 // Levels that gain or lose the error of a row.
-ghost use Rattle.std.specs.Prelude.{◌≡◌, ◌≢◌, ◌⊎◌, ◌<◌, ◌≤◌, ◌++◌, ◌∷◌, ◌<ℤ◌, length, slice_index_or, take, pos, true, false, All, IfOk, IfErr, IfSome, IfNone};
+ghost use Rattle.std.specs.Prelude.{◌≡◌, ◌≢◌, ◌⊎◌, ℕ, ◌<◌, ◌≤◌, ◌++◌, ◌<ℤ◌, length, slice_index_or, take, pos, true, false, All, IfOk, IfErr, IfSome, IfNone};
+ghost use Rattle.std.specs.List.{insert};
 ghost use Rattle.row_core.specs.Rows.{coefficient, IsReduced, IsKeptRow};
 ghost use Rattle.problem_core.specs.declared.parts.Level.TheVariants.{Priority};
 ghost use Rattle.level_rows.specs.Costs as costs;
 ghost use Rattle.level_rows.specs.Costs.{Cost, AreKept, MayPrecede};
 ghost use Rattle.level_rows.specs.Swaps.{IsOfMarks};
 ghost use Rattle.level_rows.specs.Updates.{updated};
+ghost use Rattle.level_rows.specs.Places.{IsFree};
+ghost use Rattle.level_rows.specs.Lows.{IsSteadyAt};
+ghost use Rattle.problem_core.specs.declared.parts.Side.TheVariants.{Under, Over};
 ghost use Rattle.level_rows.specs.Joins as joins;
 ghost use Rattle.level_rows.specs.Joins.{signed_weight};
 ghost use Rattle.level_rows.specs.Lists.{IsEmptyCost, IsChangedList, IsJoinStop, rows_after};
 
 use crate::costed::{Costed, cost_column};
 use crate::joining::{Change, joined};
-use crate::listing::{push, room};
+use crate::listing::push;
 use crate::updates::{Update, one_update};
 use frac_core::{Frac, OutOfMemory};
 use problem_core::{Level, Row, Side, TableStop};
@@ -94,22 +98,6 @@ pub(crate) fn push_copies(out: &mut Vec<Costed>, costs: &[Costed]) -> Result<(),
     Ok(())
 }
 
-// The levels with this one between.
-fn placed(
-    alloc: Global,
-    before: &[Costed],
-    new: Costed,
-    after: &[Costed],
-) -> Result<Vec<Costed>, OutOfMemory>
-    ensures { IfOk result (λ out. out.items ≡ before.now ++ new ∷ after.now) }
-{
-    let mut out = room(alloc, before.len())?;
-    push_copies(&mut out, before)?;
-    push(&mut out, new)?;
-    push_copies(&mut out, after)?;
-    Ok(out)
-}
-
 // The count of rows with one more or one less.
 fn count_after(rows: u32, change: Change) -> u32
     ensures { result ≡ rows_after change rows }
@@ -138,6 +126,7 @@ pub(crate) fn held_change(
     requires own { pos 0 <ℤ coefficient (joins.column_of row.now side) written.now }
     ensures within { IfOk result (λ out. All (λ u. u.at < length costs.now) out.items) }
     ensures changed { IfOk result (λ out. IsChangedList change row.now side written.now value costs.now (updated costs.now out.items)) }
+    ensures steady { IfOk result (λ out. (c : ℕ) → c < 17179869184 → IsFree c written.now → joins.column_of row.now Under ≢ c → joins.column_of row.now Over ≢ c → IsSteadyAt c costs.now out.items) }
     ensures stop { IfErr result (IsJoinStop change row.now side written.now value costs.now) }
 {
     let old = &costs[at];
@@ -148,7 +137,7 @@ pub(crate) fn held_change(
     }
 }
 
-/// The levels with that of the row, where none has its priority.
+/// The cost of the row's level and its place, where no level has its priority.
 pub(crate) fn absent_change(
     alloc: Global,
     costs: &[Costed],
@@ -157,19 +146,20 @@ pub(crate) fn absent_change(
     written: &IntRow,
     value: Frac,
     change: Change,
-) -> Result<Vec<Costed>, TableStop>
+) -> Result<Update, TableStop>
     requires kept { AreKept costs.now }
     requires absent { All (λ w. w.level ≢ Priority row.now.rank) costs.now }
     requires written { IsOfMarks written.now }
     requires own { pos 0 <ℤ coefficient (joins.column_of row.now side) written.now }
-    ensures changed { IfOk result (λ out. IsChangedList change row.now side written.now value costs.now out.items) }
+    ensures within { IfOk result (λ u. u.at ≤ length costs.now) }
+    ensures changed { IfOk result (λ u. IsChangedList change row.now side written.now value costs.now (insert costs.now u.at u.cost)) }
     ensures stop { IfErr result (IsJoinStop change row.now side written.now value costs.now) }
 {
     let at = rank_place(costs, row.rank());
     let old = empty(alloc, row.rank())?;
     let first = count_after(old.rows(), change);
     match joined(alloc, &old, row, side, written, value, change, first) {
-        Ok(new) => Ok(placed(alloc, &costs[..at], new, &costs[at..])?),
+        Ok(new) => Ok(Update { at, cost: new }),
         Err(stop) => Err(stop),
     }
 }

@@ -1,5 +1,6 @@
 // A level with its cost.
-ghost use Rattle.std.specs.Prelude.{◌≡◌, ℕ, ◌+◌, ◌<◌, IfOk};
+ghost use Rattle.std.specs.Prelude.{◌≡◌, ℕ, ◌+◌, ◌<◌, false, IfOk};
+ghost use Rattle.level_rows.specs.Places.{IsFree};
 ghost use Rattle.frac_core.specs.Fraction.{IsFitting, IsKept};
 ghost use Rattle.row_core.specs.Rows.{IsKeptRow};
 ghost use Rattle.problem_core.specs.Corners as corners;
@@ -33,6 +34,13 @@ pub(crate) fn mark_column(m: Mark) -> Col
     ensures below { result.0 < 17179869184 }
 {
     Col(place(m))
+}
+
+/// Whether the mark may stand in the row.
+pub(crate) fn stands(row: &IntRow, m: Mark) -> bool
+    ensures { result ≡ false → IsFree (corners.place m) row.now }
+{
+    row.entry(mark_column(m)) != 0 || row.entry(weight_column(m)) != 0
 }
 
 /// A level, the row of its cost, the cost where the outside marks are 0, and how many rows cost there. Copies share the row.

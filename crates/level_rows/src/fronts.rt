@@ -1,14 +1,16 @@
 // Marks with a reduced cost below 0.
-ghost use Rattle.std.specs.Prelude.{◌≡◌, ℕ, ◌<◌, ◌≤◌, ◌<ℤ◌, ◌≤ℤ◌, pos, true, false, None, IfSome, IfNone};
+ghost use Rattle.std.specs.Prelude.{◌≡◌, ◌⊎◌, ℕ, slice_index_or, ◌<◌, ◌≤◌, ◌<ℤ◌, ◌≤ℤ◌, pos, true, false, None, IfSome, IfNone};
 ghost use Rattle.std.specs.Vec.{vec_len};
+ghost use Rattle.std.specs.List.Sorted.{IsNonDecreasing};
 ghost use Rattle.problem_core.specs.Corners as corners;
 ghost use Rattle.level_rows.specs.Costs.{reduced_at};
-ghost use Rattle.level_rows.specs.Places.{AreListed, ArePlaced};
+ghost use Rattle.level_rows.specs.Places.{HasPlace, IsFreeAt, AreListed, ArePlaced, AreRising};
 ghost use Rattle.level_rows.specs.Lows.{AreLows};
+ghost use Rattle.level_rows.specs.Updates.{IsZeroAt};
 ghost use Rattle.level_rows.specs.Nearest.{IsFrontOf, IsPast};
 ghost use Rattle.level_rows.specs.Fronts.{IsNegativeIn, IsNonnegativeIn, AllZeroAt, IsAbout, IsLowAt, IsNotLowAt, AreNotLow};
 
-use crate::costed::Costed;
+use crate::costed::{Costed, stands};
 use crate::places::Places;
 use problem_core::{Mark, mark_at};
 use row_core::Col;
@@ -113,34 +115,18 @@ struct Front {
     reduced: i64,
 }
 
-// Whether the place is before that of the level found so far.
-fn is_nearer(best: Option<Front>, at: usize) -> bool
-    ensures yes { result ≡ true → IfSome best (λ f. at < f.at) }
-    ensures no { result ≡ false → IfSome best (λ f. f.at ≤ at) }
-    ensures first { result ≡ false → IfNone best ⊥ }
-{
-    match best {
-        Some(front) => at < front.at,
-        None => true,
-    }
-}
-
-// The level found so far, or the one at the place where that comes first.
-fn nearer(best: Option<Front>, costs: &[Costed], m: Mark, at: usize) -> Option<Front>
-    requires { IfSome best (IsFrontOf costs.now (corners.place m)) }
+// The level at the place, unless the mark's reduced cost is 0 there.
+fn front_at(costs: &[Costed], m: Mark, at: usize) -> Option<Front>
     ensures some { IfSome result (IsFrontOf costs.now (corners.place m)) }
-    ensures kept { (k : ℕ) → IsPast costs.now (corners.place m) best k → IsPast costs.now (corners.place m) result k }
-    ensures here { IsPast costs.now (corners.place m) result at }
+    ensures here { IfSome result (λ f. f.at ≡ at) }
+    ensures none { IfNone result (IsZeroAt costs.now (corners.place m) at) }
 {
     if at >= costs.len() {
-        return best;
-    }
-    if !is_nearer(best, at) {
-        return best;
+        return None;
     }
     let reduced = costs[at].reduced(m);
     if reduced == 0 {
-        best
+        None
     } else {
         Some(Front { at, reduced })
     }
@@ -148,20 +134,24 @@ fn nearer(best: Option<Front>, costs: &[Costed], m: Mark, at: usize) -> Option<F
 
 // The first level at which the mark's reduced cost isn't 0.
 fn front_of(costs: &[Costed], places: &[usize], m: Mark) -> Option<Front>
-    requires { AreListed costs.now places.now (corners.place m) }
+    requires listed { AreListed costs.now places.now (corners.place m) }
+    requires rising { IsNonDecreasing places.now }
     ensures some { IfSome result (IsFrontOf costs.now (corners.place m)) }
     ensures past { (k : ℕ) → IsPast costs.now (corners.place m) result k }
 {
-    let mut best = None;
     for at in places {
-        best = nearer(best, costs, m, *at);
+        match front_at(costs, m, *at) {
+            Some(front) => return Some(front),
+            None => (),
+        }
     }
-    best
+    None
 }
 
 // The first level at which the mark's reduced cost isn't 0, where it is below 0 there.
 fn negative_front(costs: &[Costed], places: &[usize], m: Mark) -> Option<Front>
-    requires { AreListed costs.now places.now (corners.place m) }
+    requires listed { AreListed costs.now places.now (corners.place m) }
+    requires rising { IsNonDecreasing places.now }
     ensures some { IfSome result (λ _. IsNegativeIn (corners.place m) costs.now) }
     ensures none { IfNone result (IsNonnegativeIn (corners.place m) costs.now) }
 {
@@ -193,6 +183,7 @@ fn is_better(best: Option<Entering>, front: Front) -> bool
 // The mark so far, or this one where its column is negative and it is better.
 fn chosen(best: Option<Entering>, costs: &[Costed], places: &[usize], m: Mark) -> Option<Entering>
     requires listed { AreListed costs.now places.now (corners.place m) }
+    requires rising { IsNonDecreasing places.now }
     requires best { IfSome best (λ b. IsNegativeIn (corners.place b.mark) costs.now) }
     ensures some { IfSome result (λ b. IsNegativeIn (corners.place b.mark) costs.now) }
     ensures first { IfNone result (best ≡ None) }
@@ -213,6 +204,7 @@ fn chosen(best: Option<Entering>, costs: &[Costed], places: &[usize], m: Mark) -
 /// A mark among these whose first reduced cost that is not 0 is below 0.
 pub(crate) fn first_negative(costs: &[Costed], places: &Places, low: &[Mark]) -> Option<Mark>
     requires placed { ArePlaced costs.now places.now }
+    requires rising { AreRising places.now }
     requires low { AreLows costs.now low.now }
     ensures some { IfSome result (λ m. IsNegativeIn (corners.place m) costs.now) }
     ensures none { IfNone result ((c : ℕ) → c < 17179869184 → IsNonnegativeIn c costs.now) }
@@ -227,14 +219,47 @@ pub(crate) fn first_negative(costs: &[Costed], places: &Places, low: &[Mark]) ->
     }
 }
 
+// Whether the mark does not stand at the first of these places.
+fn starts_free(costs: &[Costed], places: &[usize], m: Mark) -> bool
+    ensures { result ≡ true → (k : ℕ) → k ≡ slice_index_or places.now 0 k → IsFreeAt costs.now (corners.place m) k }
+{
+    if places.is_empty() {
+        return false;
+    }
+    let first = places[0];
+    if first >= costs.len() {
+        return false;
+    }
+    !stands(costs[first].row(), m)
+}
+
+// Takes the places away that come before the first at which the mark stands.
+fn trim(places: &mut Places, costs: &[Costed], m: Mark)
+    ensures kept { (c k : ℕ) → HasPlace places.old c k → HasPlace places.new c k ⊎ IsFreeAt costs.now c k }
+    ensures rising { AreRising places.old → AreRising places.new }
+{
+    let mut left = places.list(m).len();
+    while left > 0 {
+        if !starts_free(costs, places.list(m), m) {
+            return;
+        }
+        places.cut(m);
+        left -= 1;
+    }
+}
+
 // Takes the mark at the place away where its column isn't negative.
-fn prune_at(low: &mut Vec<Mark>, costs: &[Costed], places: &Places, at: usize)
-    requires placed { ArePlaced costs.now places.now }
+fn prune_at(low: &mut Vec<Mark>, costs: &[Costed], places: &mut Places, at: usize)
+    requires placed { ArePlaced costs.now places.old }
+    requires rising { AreRising places.old }
     requires within { at < vec_len low.old }
+    ensures placed { ArePlaced costs.now places.new }
+    ensures rising { AreRising places.new }
     ensures low { AreLows costs.now low.old.items → AreLows costs.now low.new.items }
     ensures within { at ≤ vec_len low.new }
 {
     let m = low[at];
+    trim(places, costs, m);
     match negative_front(costs, places.list(m), m) {
         Some(_) => (),
         None => {
@@ -243,10 +268,13 @@ fn prune_at(low: &mut Vec<Mark>, costs: &[Costed], places: &Places, at: usize)
     }
 }
 
-/// Takes the marks away whose column isn't negative.
-pub(crate) fn prune(low: &mut Vec<Mark>, costs: &[Costed], places: &Places)
-    requires { ArePlaced costs.now places.now }
-    ensures { AreLows costs.now low.old.items → AreLows costs.now low.new.items }
+/// Takes the marks away whose column isn't negative, and places at which those that are looked at do not stand.
+pub(crate) fn prune(low: &mut Vec<Mark>, costs: &[Costed], places: &mut Places)
+    requires placed { ArePlaced costs.now places.old }
+    requires rising { AreRising places.old }
+    ensures placed { ArePlaced costs.now places.new }
+    ensures rising { AreRising places.new }
+    ensures low { AreLows costs.now low.old.items → AreLows costs.now low.new.items }
 {
     let mut at = low.len();
     while at > 0 {

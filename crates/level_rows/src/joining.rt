@@ -42,8 +42,8 @@ fn costed_side(rel: Rel) -> Side
     }
 }
 
-// A mark of the row.
-fn mark_of(row: &Row, side: Side) -> Mark
+/// A mark of the row.
+pub(crate) fn mark_of(row: &Row, side: Side) -> Mark
     ensures row { result.row ≡ Held row.now.id }
     ensures side { result.side ≡ side }
 {

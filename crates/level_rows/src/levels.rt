@@ -1,12 +1,12 @@
 // The levels' costs.
-ghost use Rattle.std.specs.Prelude.{◌≡◌, ◌≢◌, ◌⊎◌, ℕ, Bool, ℤ, List, [], ◌∷◌, ◌++◌, true, map, length, pos, ◌<ℤ◌, ◌≤ℤ◌, ◌<◌, All, Any, IfOk, IfErr, IfSome, IfNone};
+ghost use Rattle.std.specs.Prelude.{◌≡◌, ◌≢◌, ◌⊎◌, ℕ, Bool, ℤ, List, [], ◌∷◌, ◌++◌, true, map, length, pos, ◌<ℤ◌, ◌≤ℤ◌, ◌<◌, ◌≤◌, All, Any, IfOk, IfErr, IfSome, IfNone};
 ghost use Rattle.frac_core.specs.Fraction.{Fraction, IsFitting};
 ghost use Rattle.problem_core.specs.declared.parts.Level.TheVariants.{Stay};
 ghost use Rattle.problem_core.specs.declared.stops.What.TheVariants.{Level as LevelOf};
 ghost use Rattle.problem_core.specs.declared.stops.TableStop.TheVariants.{UnfitAt, OutOfMemory as NoMemory};
 ghost use Rattle.problem_core.specs.declared.stops.Quantity.TheVariants.{Shifts};
 ghost use Rattle.level_rows.specs.Changes.{IsNew, IsOutside, stay_line, with_constant, IsShifted, IsApart, IsUnfitShift};
-ghost use Rattle.std.specs.List.{AllZip};
+ghost use Rattle.std.specs.List.{AllZip, insert};
 ghost use Rattle.row_core.specs.Rows.{coefficient};
 ghost use Rattle.problem_core.specs.Corners as corners;
 ghost use Rattle.problem_core.specs.Layout as layout;
@@ -15,6 +15,7 @@ ghost use Rattle.level_rows.specs.Corners.{AreCosts, IsWrittenAt, AreExchanged};
 ghost use Rattle.level_rows.specs.Swaps.{AreExchangedCosts, IsOfMarks, IsSwapStop};
 ghost use Rattle.level_rows.specs.Updates.{updated, HasSameRow};
 ghost use Rattle.level_rows.specs.Fronts.{IsNegativeIn, IsNonnegativeIn};
+ghost use Rattle.level_rows.specs.Lows.{AreTouched};
 ghost use Rattle.level_rows.specs.Joins as joins;
 ghost use Rattle.level_rows.specs.Lists.{IsChangedList, IsJoinStop};
 ghost use Rattle.level_rows.specs.declared.joining.Change.TheVariants.{Joins, Leaves};
@@ -26,7 +27,9 @@ use crate::exchange::{entering_value, exchanged};
 use crate::fronts::{first_negative, lowest, prune};
 use crate::joining::Change;
 use crate::listing::{found, push_all_used, room};
-use crate::lows::{all_marks, all_places, count, place_all, place_row, touch, touch_all};
+use crate::lows::{
+    add_marks, count, marks_of, marks_of_join, one_more, place_all, place_row, touch,
+};
 use crate::places::Places;
 use crate::shifting::shifted;
 use crate::staying::stay_cost;
@@ -49,14 +52,14 @@ pub struct Levels {
 impl Model for Levels {
     ghost use Rattle.std.specs.Prelude.{List, ◌≡◌};
     ghost use Rattle.level_rows.specs.Costs.{Cost, AreKept, used_of};
-    ghost use Rattle.level_rows.specs.Places.{ArePlaced};
+    ghost use Rattle.level_rows.specs.Places.{ArePlaced, AreRising};
     ghost use Rattle.level_rows.specs.Lows.{AreLows};
 
     ghost Value = { List Cost };
 
     ghost view = { λ l. l.costs.items };
 
-    ghost invariant = { λ l. AreKept l.costs.items × (l.used.items ≡ used_of l.costs.items) × ArePlaced l.costs.items l.places × AreLows l.costs.items l.low.items };
+    ghost invariant = { λ l. AreKept l.costs.items × (l.used.items ≡ used_of l.costs.items) × ArePlaced l.costs.items l.places × AreLows l.costs.items l.low.items × AreRising l.places };
 }
 
 impl Levels {
@@ -72,50 +75,53 @@ impl Levels {
         })
     }
 
-    // Takes these new costs.
-    fn apply(&mut self, updates: Vec<Update>) -> Result<(), OutOfMemory>
+    // Takes these new costs, at which the columns of other marks than these are steady.
+    fn apply(&mut self, updates: Vec<Update>, marks: Vec<Mark>) -> Result<(), OutOfMemory>
         requires within { All (λ u. u.at < length self.old) updates.items }
         requires kept { AreKept (updated self.old updates.items) }
+        requires touched { AreTouched marks.items self.old updates.items }
         ensures put { IfOk result (λ _. self.new ≡ updated self.old updates.items) }
         ensures same { IfErr result (λ _. self.new ≡ self.old) }
     {
         let alloc = *self.costs.allocator();
-        touch_all(&mut self.low, &self.costs, &updates)?;
-        place_all(&mut self.places, alloc, &updates)?;
-        let mut used = Vec::with_capacity(alloc, self.costs.len())?;
+        add_marks(&mut self.low, &marks)?;
+        place_all(&mut self.places, alloc, &marks, &updates)?;
+        let mut used = Vec::with_capacity(alloc, count(&self.costs))?;
         put_all(&mut self.costs, updates);
         push_all_used(&mut used, &self.costs);
         self.used = used;
-        prune(&mut self.low, &self.costs, &self.places);
+        prune(&mut self.low, &self.costs, &mut self.places);
         Ok(())
     }
 
-    // Takes these levels.
-    fn put(&mut self, costs: Vec<Costed>) -> Result<(), OutOfMemory>
-        requires { AreKept costs.items }
-        ensures put { IfOk result (λ _. self.new ≡ costs.items) }
+    // Puts this level in at its place.
+    fn put_in(&mut self, added: Update) -> Result<(), OutOfMemory>
+        requires within { added.at ≤ length self.old }
+        requires kept { AreKept (insert self.old added.at added.cost) }
+        ensures put { IfOk result (λ _. self.new ≡ insert self.old added.at added.cost) }
         ensures same { IfErr result (λ _. self.new ≡ self.old) }
     {
         let alloc = *self.costs.allocator();
-        let places = all_places(alloc, &costs)?;
-        let mut low = all_marks(alloc, &costs)?;
-        let mut used = Vec::with_capacity(alloc, costs.len())?;
-        push_all_used(&mut used, &costs);
-        prune(&mut low, &costs, &places);
-        self.costs = costs;
+        let mut places = self.places.make_way(alloc, added.at)?;
+        place_row(&mut places, alloc, added.at, added.cost.row())?;
+        touch(&mut self.low, added.cost.row())?;
+        let mut used = Vec::with_capacity(alloc, one_more(count(&self.costs))?)?;
+        self.costs.insert(added.at, added.cost)?;
+        push_all_used(&mut used, &self.costs);
+        prune(&mut self.low, &self.costs, &mut places);
         self.used = used;
         self.places = places;
-        self.low = low;
         Ok(())
     }
 
-    // Takes these levels, which differ in their values alone.
-    fn put_values(&mut self, costs: Vec<Costed>)
-        requires kept { AreKept costs.items }
-        requires same { AllZip HasSameRow self.old costs.items }
-        ensures { self.new ≡ costs.items }
+    // Takes these new costs, which differ in their values alone.
+    fn put_values(&mut self, updates: Vec<Update>)
+        requires within { All (λ u. u.at < length self.old) updates.items }
+        requires kept { AreKept (updated self.old updates.items) }
+        requires same { AllZip HasSameRow self.old (updated self.old updates.items) }
+        ensures { self.new ≡ updated self.old updates.items }
     {
-        self.costs = costs;
+        put_all(&mut self.costs, updates);
     }
 
     // Adds the weighted error of a row to its level, or takes it away.
@@ -137,13 +143,14 @@ impl Levels {
         let alloc = *self.costs.allocator();
         match position_of(&self.costs, row.rank()) {
             Some(at) => {
+                let marks = marks_of_join(alloc, row, written)?;
                 match held_change(alloc, &self.costs, at, row, side, written, value, change) {
-                    Ok(updates) => Ok(self.apply(updates)?),
+                    Ok(updates) => Ok(self.apply(updates, marks)?),
                     Err(stop) => Err(stop),
                 }
             }
             None => match absent_change(alloc, &self.costs, row, side, written, value, change) {
-                Ok(costs) => Ok(self.put(costs)?),
+                Ok(added) => Ok(self.put_in(added)?),
                 Err(stop) => Err(stop),
             },
         }
@@ -173,9 +180,10 @@ impl Levels {
         };
         let _kept = value.den();
         let alloc = *self.costs.allocator();
+        let marks = marks_of(alloc, pivot)?;
         let places = self.places.list(enter);
         match exchanged(alloc, &self.costs, places, pivot, enter, entering) {
-            Ok(updates) => Ok(self.apply(updates)?),
+            Ok(updates) => Ok(self.apply(updates, marks)?),
             Err(stop) => Err(stop),
         }
     }
@@ -255,9 +263,13 @@ impl Levels {
     {
         let _kept = by.den();
         let alloc = *self.costs.allocator();
-        match shifted(alloc, &self.costs, row, by) {
-            Ok(costs) => {
-                self.put_values(costs);
+        let under = Mark {
+            row,
+            side: Side::Under,
+        };
+        match shifted(alloc, &self.costs, self.places.list(under), row, by) {
+            Ok(updates) => {
+                self.put_values(updates);
                 Ok(())
             }
             Err(stop) => Err(stop),

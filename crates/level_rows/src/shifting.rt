@@ -1,15 +1,15 @@
 // The shift of a row's constant, level by level.
-ghost use Rattle.std.specs.Prelude.{◌≡◌, ◌⊎◌, All, Any, IfOk, IfErr, OnErr};
-ghost use Rattle.std.specs.List.{AllZip};
+ghost use Rattle.std.specs.Prelude.{◌≡◌, ◌⊎◌, ℕ, Contains, All, Any, IfOk, IfErr, OnErr};
 ghost use Rattle.frac_core.specs.Fraction.{IsKept};
 ghost use Rattle.problem_core.specs.declared.stops.What.TheVariants.{Level as LevelOf};
 ghost use Rattle.problem_core.specs.declared.stops.TableStop.TheVariants.{UnfitAt, OutOfMemory as NoMemory};
 ghost use Rattle.problem_core.specs.declared.stops.Quantity.TheVariants.{Shifts};
 ghost use Rattle.level_rows.specs.Costs.{IsKeptCost};
+ghost use Rattle.level_rows.specs.Updates.{HasUpdate, IsShiftDone, IsShiftUpdate};
 ghost use Rattle.level_rows.specs.Changes.{IsShiftedValue, IsShiftedCost, IsUnfitShift};
 
 use crate::costed::Costed;
-use crate::listing::{push, room};
+use crate::updates::{Update, push_update, update_room};
 use frac_core::{Frac, Unfit};
 use problem_core::{Level, Quantity, RowName, TableStop, What};
 use std::alloc::Global;
@@ -46,21 +46,51 @@ fn shifted_one(old: &Costed, row: RowName, by: Frac) -> Result<Costed, TableStop
     }
 }
 
-/// All levels after the shift of a row's constant.
+// The update of the level at the place, where the row has a multiplier.
+fn push_shifted(
+    out: &mut Vec<Update>,
+    costs: &[Costed],
+    at: usize,
+    row: RowName,
+    by: Frac,
+) -> Result<(), TableStop>
+    requires kept { All IsKeptCost costs.now }
+    requires each { All (IsShiftUpdate row by costs.now) out.old.items }
+    ensures each { IfOk result (λ _. All (IsShiftUpdate row by costs.now) out.new.items) }
+    ensures more { (k : ℕ) → HasUpdate out.old.items k → HasUpdate out.new.items k }
+    ensures done { IfOk result (λ _. IsShiftDone costs.now out.new.items row at) }
+    ensures unfit { IfErr result (λ stop. (stop ≡ NoMemory) ⊎ Any (λ old. (stop ≡ UnfitAt (Shifts (LevelOf old.level) 1)) × IsUnfitShift row by old) costs.now) }
+{
+    if at >= costs.len() {
+        return Ok(());
+    }
+    let old = &costs[at];
+    if old.multiplier(row) == 0 {
+        return Ok(());
+    }
+    match shifted_one(old, row, by) {
+        Ok(cost) => Ok(push_update(out, at, cost)?),
+        Err(stop) => Err(stop),
+    }
+}
+
+/// The new costs after the shift of a row's constant, at those of these places where the row has a multiplier.
 pub(crate) fn shifted(
     alloc: Global,
     costs: &[Costed],
+    places: &[usize],
     row: RowName,
     by: Frac,
-) -> Result<Vec<Costed>, TableStop>
+) -> Result<Vec<Update>, TableStop>
     requires { All IsKeptCost costs.now }
-    ensures shifted { IfOk result (λ out. AllZip (IsShiftedCost row by) costs.now out.items) }
+    ensures each { IfOk result (λ out. All (IsShiftUpdate row by costs.now) out.items) }
+    ensures done { IfOk result (λ out. (k : ℕ) → Contains places.now k → IsShiftDone costs.now out.items row k) }
     ensures unfit { IfErr result (λ stop. (stop ≡ NoMemory) ⊎ Any (λ old. (stop ≡ UnfitAt (Shifts (LevelOf old.level) 1)) × IsUnfitShift row by old) costs.now) }
 {
-    let mut out = room(alloc, costs.len())?;
-    for old in costs {
-        match shifted_one(old, row, by) {
-            Ok(new) => push(&mut out, new)?,
+    let mut out = update_room(alloc, places.len())?;
+    for at in places {
+        match push_shifted(&mut out, costs, *at, row, by) {
+            Ok(()) => (),
             Err(stop) => return Err(stop),
         }
     }

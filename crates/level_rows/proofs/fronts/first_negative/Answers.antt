@@ -1,4 +1,5 @@
 use Rattle.std.proofs.Common.{◌≡◌, ◌≤◌, ℕ, List, length, get_or, take, arith, sym, subst, All}
+use Rattle.std.specs.List.Sorted.{IsNonDecreasing}
 use Rattle.std.proofs.lemmas.List.{get_or_default}
 use Rattle.problem_core.specs.declared.parts.RowName.TheVariants.{Held}
 use Rattle.problem_core.specs.declared.parts.Side.TheVariants.{Under}
@@ -13,6 +14,9 @@ use Rattle.level_rows.proofs.fronts.first_negative.Goals as goal
 pub chosen-best-requires-clause-listed : goal.chosen-best-requires-clause-listed
 chosen-best-requires-clause-listed c =
     subst (λ (ks : List ℕ). AreListed c.args.costs.now ks (place (get_or c.args.low.now c.loop-m.m-index (record { row = Held 0; side = Under })))) (sym c.list.ensures.value) (c.requires.placed (place (get_or c.args.low.now c.loop-m.m-index (record { row = Held 0; side = Under }))) c.list.ensures.below)
+
+pub chosen-best-requires-clause-rising : goal.chosen-best-requires-clause-rising
+chosen-best-requires-clause-rising c = subst IsNonDecreasing (sym c.list.ensures.value) (c.requires.rising (place (get_or c.args.low.now c.loop-m.m-index (record { row = Held 0; side = Under }))))
 
 pub loop-m-preserved : goal.loop-m-preserved
 loop-m-preserved c =

@@ -1,9 +1,11 @@
-use Rattle.std.proofs.Common.{ℕ, take}
-use Rattle.level_rows.specs.Places.{HasPlace}
-use Rattle.level_rows.specs.Lows.{AreNewPlaces}
+use Rattle.std.proofs.Common.{ℕ, take, All}
+use Rattle.problem_core.specs.Corners.{place}
+use Rattle.level_rows.specs.Places.{HasPlace, AreRising}
+use Rattle.level_rows.specs.Lows.{HasNewPlaces}
 use Rattle.level_rows.proofs.lows.place_all.Given as goal
 
-abbrev pub invariant-loop-update : goal.invariant-loop-update
-invariant-loop-update l =
+abbrev pub invariant-loop-m : goal.invariant-loop-m
+invariant-loop-m l =
     ((c k : ℕ) → HasPlace l.initial.places c k → HasPlace l.places c k)
-    × AreNewPlaces l.places (take l.update-index l.updates)
+    × (AreRising l.initial.places → AreRising l.places)
+    × All (λ m. HasNewPlaces l.places l.updates (place m)) (take l.m-index l.marks)

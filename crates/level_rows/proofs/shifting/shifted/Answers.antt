@@ -1,15 +1,21 @@
-use Rattle.std.proofs.Common.{◌+◌, sym, subst, take, List}
-use Rattle.std.specs.List.{AllZip}
-use Rattle.std.proofs.lemmas.List.Elements.{all_zip_more}
-use Rattle.level_rows.specs.Costs.{Cost}
-use Rattle.level_rows.specs.Changes.{IsShiftedCost}
-use Rattle.level_rows.proofs.Shifts.{shift_stop}
+use Rattle.std.proofs.Common.{◌≤◌, ℕ, List, length, get_or, take, arith, inl, inr, sym, subst, Contains}
+use Rattle.std.proofs.lemmas.List.{take_more, take_all}
+use Rattle.std.proofs.lemmas.List.Elements.{Contains-push_cases}
+use Rattle.level_rows.specs.Updates.{IsShiftDone}
+use Rattle.level_rows.proofs.Touched.{either_map}
 use Rattle.level_rows.proofs.shifting.shifted.Goals as goal
 
-pub loop-old-preserved : goal.loop-old-preserved
-loop-old-preserved c =
-    subst (λ (xs : List Cost). AllZip (IsShiftedCost c.args.row c.args.by) (take (c.loop-old.old-index + 1) c.args.costs.now) xs) (sym c.in_ok-push-in-Ok.ensures)
-    (all_zip_more (IsShiftedCost c.args.row c.args.by) c.args.costs.now c.loop-old.out.items c.loop-old.old-index c.old-item.result c.in-Ok.new c.loop-old-test.true c.old-item.is c.loop-old.invariant c.in-Ok.ensures.shifted)
+pub loop-at-preserved : goal.loop-at-preserved
+loop-at-preserved c = (
+  c.in-Ok.ensures.each,
+  λ k has.
+      elim (Contains-push_cases (take c.loop-at.at-index c.args.places.now) (get_or c.args.places.now c.loop-at.at-index 0) k (subst (λ (ks : List ℕ). Contains ks k) (take_more c.args.places.now c.loop-at.at-index 0 c.loop-at-test.true) has)) [
+        | inl before ↦ either_map (c.push_shifted.ensures.more k) (c.loop-at.invariant.1 k before)
+        | inr here ↦ subst (IsShiftDone c.args.costs.now c.push_shifted.new.out.items c.args.row) here c.in-Ok.ensures.done
+      ],
+)
 
-pub returns-in-Err-clause-unfit : goal.returns-in-Err-clause-unfit
-returns-in-Err-clause-unfit c = shift_stop c.args.row c.args.by c.args.costs.now c.loop-old.old-index c.old-item.result c.in-Err.stop c.loop-old-test.true (sym c.old-item.is) c.in-Err.ensures.unfit
+pub returns-clause-done : goal.returns-clause-done
+returns-clause-done c k has =
+    let over : length c.args.places.now ≤ c.loop-at.at-index = omega (arith, c.loop-at-test.false) in
+    c.loop-at.invariant.1 k (subst (λ (ks : List ℕ). Contains ks k) (sym (take_all c.loop-at.at-index c.args.places.now over)) has)

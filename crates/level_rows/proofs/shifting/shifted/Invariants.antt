@@ -1,7 +1,8 @@
-use Rattle.std.proofs.Common.{take}
-use Rattle.std.specs.List.{AllZip}
-use Rattle.level_rows.specs.Changes.{IsShiftedCost}
+use Rattle.std.proofs.Common.{ℕ, take, All, Contains}
+use Rattle.level_rows.specs.Updates.{IsShiftDone, IsShiftUpdate}
 use Rattle.level_rows.proofs.shifting.shifted.Given as goal
 
-abbrev pub invariant-loop-old : goal.invariant-loop-old
-invariant-loop-old l = AllZip (IsShiftedCost l.row l.by) (take l.old-index l.costs) l.out.items
+abbrev pub invariant-loop-at : goal.invariant-loop-at
+invariant-loop-at l =
+    All (IsShiftUpdate l.row l.by l.costs) l.out.items
+    × ((k : ℕ) → Contains (take l.at-index l.places) k → IsShiftDone l.costs l.out.items l.row k)

@@ -16,6 +16,7 @@ invariant_of-self c = (
   c.self.invariant.1,
   placed_kept c.self.inside.costs.items c.self.inside.places c.place_row.new.places c.place_row.ensures.kept c.self.invariant.2,
   c.self.invariant.3,
+  c.place_row.ensures.rising c.self.invariant.4,
 )
 
 pub invariant_of-self-in_err-touch : goal.invariant_of-self-in_err-touch
@@ -24,6 +25,7 @@ invariant_of-self-in_err-touch c = (
   c.self.invariant.1,
   placed_kept c.self.inside.costs.items c.self.inside.places c.place_row.new.places c.place_row.ensures.kept c.self.invariant.2,
   lows_kept c.self.inside.costs.items c.self.inside.low.items c.touch.new.low.items c.touch.ensures.kept c.self.invariant.3,
+  c.place_row.ensures.rising c.self.invariant.4,
 )
 
 pub invariant_of-self-in_err-push : goal.invariant_of-self-in_err-push
@@ -33,6 +35,7 @@ invariant_of-self-in_err-push c =
       c.self.invariant.1 ∙ ap used_of (sym items),
       subst (λ (ws : List Cost). ArePlaced ws c.place_row.new.places) (sym items) (placed_kept c.self.inside.costs.items c.self.inside.places c.place_row.new.places c.place_row.ensures.kept c.self.invariant.2),
       subst (λ (ws : List Cost). AreLows ws c.touch.new.low.items) (sym items) (lows_kept c.self.inside.costs.items c.self.inside.low.items c.touch.new.low.items c.touch.ensures.kept c.self.invariant.3),
+      c.place_row.ensures.rising c.self.invariant.4,
     )
 
 pub invariant_of-self-2 : goal.invariant_of-self-2
@@ -48,6 +51,7 @@ invariant_of-self-2 c =
       c.self.invariant.1 ∙ sym (stay_unused c.args.attr c.self.inside.costs.items c.in_ok-cost.cost c.in_ok-cost.ensures) ∙ ap used_of (sym items),
       subst (λ (ws : List Cost). ArePlaced ws c.place_row.new.places) (sym items) (placed_pushed c.self.inside.costs.items c.in_ok-cost.cost c.self.inside.places c.place_row.new.places c.place_row.ensures.kept placed c.self.invariant.2),
       subst (λ (ws : List Cost). AreLows ws c.touch.new.low.items) (sym items) (lows_pushed c.self.inside.costs.items c.in_ok-cost.cost c.self.inside.low.items c.touch.new.low.items c.touch.ensures.kept touched c.self.invariant.3),
+      c.place_row.ensures.rising c.self.invariant.4,
     )
 
 pub returns-clause-added : goal.returns-clause-added

@@ -7,6 +7,7 @@ use Rattle.level_rows.specs.Swaps.{IsExchangedCost}
 use Rattle.level_rows.specs.Updates.{updated}
 use Rattle.level_rows.proofs.Following.{exchanged_kept, exchanged_costs, levels_zip, level_after}
 use Rattle.level_rows.proofs.Applying.{swap_zip}
+use Rattle.level_rows.proofs.Steady.{swap_touched}
 use Rattle.level_rows.proofs.levels.Levels.swap.Goals as goal
 
 pub apply-requires-clause-within : goal.apply-requires-clause-within
@@ -19,6 +20,10 @@ apply-requires-clause-kept c =
     swap_zip c.args.pivot.now (place c.args.enter) c.in-Ok.entering c.self.inside.costs.items c.deref.result.now c.list-places.result.now c.self.inside.places c.in-Ok-exchanged.updates.items c.deref.ensures.value c.list-places.ensures.value c.list-places.ensures.below c.self.invariant.2 c.in-Ok-exchanged.ensures.each c.in-Ok-exchanged.ensures.done in
     subst (λ (ws : List Cost). AreKept (updated ws c.in-Ok-exchanged.updates.items)) c.self.view_is
     (exchanged_kept c.args.pivot.now (place c.args.enter) c.in-Ok.entering c.self.inside.costs.items (updated c.self.inside.costs.items c.in-Ok-exchanged.updates.items) zip c.self.invariant.0)
+
+pub apply-requires-clause-touched : goal.apply-requires-clause-touched
+apply-requires-clause-touched c =
+    swap_touched c.args.pivot.now (place c.args.enter) c.in-Ok.entering c.args.self.now c.deref.result.now c.in_ok-marks.marks.items c.in-Ok-exchanged.updates.items (c.deref.ensures.value ∙ c.self.view_is) c.in_ok-marks.ensures c.in-Ok-exchanged.ensures.each
 
 pub returns-in_ok-apply-in-Ok-exchanged-clause-levels : goal.returns-in_ok-apply-in-Ok-exchanged-clause-levels
 returns-in_ok-apply-in-Ok-exchanged-clause-levels c =
