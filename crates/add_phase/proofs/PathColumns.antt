@@ -127,17 +127,24 @@ front_negative t levels c costed low negative =
 
 -- ---- the line of a mark
 
-same-side : (a b : Side) (i j : ℕ) → 2 * i + side_number a ≡ 2 * j + side_number b → a ≡ b
+pub same-side : (a b : Side) (i j : ℕ) → 2 * i + side_number a ≡ 2 * j + side_number b → a ≡ b
 same-side Under Under i j h = refl
 same-side Under Over i j h = absurd (omega (arith, h))
 same-side Over Under i j h = absurd (omega (arith, h))
 same-side Over Over i j h = refl
 
-half : RowName → ℕ
+pub half : RowName → ℕ
 half (Held id) = 2 * id
 half (StayOf attr) = 2 * attr + 1
 
-place-half : (name : RowName) (s : Side) → place_of name s ≡ 2 * half name + side_number s
+pub same-name : (r q : RowName) → half r ≡ half q → r ≡ q
+unfolding half
+same-name (Held i) (Held j) h = ap Held (let e : i ≡ j = omega (arith, h) in e)
+same-name (Held i) (StayOf a) h = absurd (omega (arith, h))
+same-name (StayOf a) (Held i) h = absurd (omega (arith, h))
+same-name (StayOf a) (StayOf b) h = ap StayOf (let e : a ≡ b = omega (arith, h) in e)
+
+pub place-half : (name : RowName) (s : Side) → place_of name s ≡ 2 * half name + side_number s
 unfolding half
 place-half (Held id) s = omega arith
 place-half (StayOf attr) s = omega arith

@@ -1,5 +1,5 @@
 -- A tableau's marks are a corner.
-use Rattle.std.proofs.Common.{◌≡◌, ◌≢◌, ◌∙◌, ℕ, ◌+◌, ◌<◌, false, List, [], ◌∷◌, map, length, get_or, ℤ, pos, negsuc, ◌+ℤ◌, ◌-ℤ◌, ◌*ℤ◌, neg_ℤ, ◌<ℤ◌, sym, ap, subst, arith, inl, inr, true≢false}
+use Rattle.std.proofs.Common.{◌≡◌, ◌≢◌, ◌∙◌, ℕ, ◌+◌, ◌<◌, false, List, [], ◌∷◌, map, length, get_or, ℤ, pos, negsuc, ◌+ℤ◌, ◌-ℤ◌, ◌*ℤ◌, neg_ℤ, ◌<ℤ◌, sym, ap, subst, arith, All, AllPairs, inl, inr, true≢false}
 use Rattle.std.specs.List.{AllByRecursion as Each}
 use Rattle.std.proofs.lemmas.Bool.{cases_Bool, cases_lt}
 use Rattle.std.proofs.lemmas.List.{get_or-map, length-map}
@@ -12,7 +12,8 @@ use Rattle.problem_core.specs.declared.parts.Mark.{Mark}
 use Rattle.problem_core.specs.declared.parts.RowName.TheVariants.{Stay as StayOf}
 use Rattle.problem_core.specs.declared.parts.Side.TheVariants.{Under, Over}
 use Rattle.problem_core.specs.declared.parts.Stay.{Stay}
-use Rattle.problem_core.specs.Layout.{Line, lines, line_of_row, line_of_stay, stay_lines, value_at}
+use Rattle.problem_core.specs.Kept.{IsWhole}
+use Rattle.problem_core.specs.Layout.{Problem, Line, lines, line_of_row, line_of_stay, stay_lines, value_at}
 use Rattle.problem_core.specs.Corners.{Point, StandsAt, Agree, IsIn, IsCorner, equation, marks_of, place, place_of, attr_column, one_column}
 use Rattle.problem_core.proofs.CornerFacts.{is_place}
 use Rattle.problem_core.proofs.Forms.{each-impl, each-both, value-single}
@@ -153,30 +154,36 @@ stays-agree x y level (s ∷ stays) h = (
 pub mark-in : (ms : List Mark) (k : ℕ) (d : Mark) → k < length ms → IsIn (place (get_or ms k d)) ms
 mark-in ms k d within = (k, subst (λ (n : ℕ). k < n) (sym (length-map ms place)) within, get_or-map place ms k d (place (get_or ms k d)) within)
 
+-- a point whose marks no other point at the corner has otherwise
+pub point_corner : (p : Problem) (at : List Mark) (x : Point) → IsWhole p → length at ≡ length p.rows → All (λ m. IsIn (place m) (marks_of (lines p))) at → AllPairs (λ m n. place m ≢ place n) at → StandsAt p at x → ((y : Point) → StandsAt p at y → Each (λ m. Agree (place m) x y) (marks_of (lines p))) → IsCorner p at
+point_corner p at x whole count marks apart stands agree = record {
+  count = count;
+  marks = marks;
+  apart = apart;
+  point = x;
+  stands = stands;
+  marks_fixed = λ y sy. All-from_recursion (λ m. Agree (place m) x y) (marks_of (lines p)) (agree y sy);
+  attrs_fixed = λ y sy.
+      All-from_recursion (λ s. Agree (attr_column s.attr) x y) p.stays
+      (stays-agree x y 1001 p.stays
+      (each-later (IsAgreed x y) (map line_of_row p.rows) (stay_lines 1001 p.stays)
+      (each-impl (λ l. ((0 < l.scale) × (0 < l.den)) × ((value_at x.num (equation l) ≡ pos 0) × ((value_at y.num (equation l) ≡ pos 0) × (Agree (place_of l.name Under) x y × Agree (place_of l.name Over) x y)))) (IsAgreed x y) (lines p)
+      (λ l h. record { den = h.0.1; first = h.1.0; second = h.1.1.0; under = h.1.1.1.0; over = h.1.1.1.1 })
+      (each-both _ _ (lines p) (recursion_from_All _ (lines p) (whole-IsProblem p whole))
+      (each-both _ _ (lines p) (recursion_from_All (λ l. value_at x.num (equation l) ≡ pos 0) (lines p) stands.0)
+      (each-both _ _ (lines p) (recursion_from_All (λ l. value_at y.num (equation l) ≡ pos 0) (lines p) sy.0)
+      (marks-each (λ v. Agree v x y) (lines p) (agree y sy))))))));
+}
+
 pub table_corner : (t : Table) (levels : List Cost) (at : List Mark) → IsCosted t levels → AreInside t at → IsCorner t.problem at
 table_corner t levels at c marks =
     let low : Each (λ m. place m < 17179869184) (marks_of (lines t.problem)) = low-marks t levels c.costs in
     let stands : StandsAt t.problem at (corner t c.table) = corner_stands t levels at c marks in
-    let agree : (y : Point) → StandsAt t.problem at y → Each (λ m. Agree (place m) (corner t c.table) y) (marks_of (lines t.problem)) = λ y sy.
+    point_corner t.problem at (corner t c.table) c.table.whole marks.count
+    (All-from_recursion (λ m. IsIn (place m) (marks_of (lines t.problem))) at (each-impl (λ m. IsLowInside t (place m)) _ at (λ m i. inside-named t (place m) c.table i) (each-inside t at marks)))
+    marks.apart stands
+    (λ y sy.
     recursion_from_All (λ m. Agree (place m) (corner t c.table) y) (marks_of (lines t.problem))
     (λ k d within.
     marks_agree t at (corner t c.table) y (place (get_or (marks_of (lines t.problem)) k d)) c.table marks stands sy (mark-in (marks_of (lines t.problem)) k d within)
-    (All-from_recursion (λ m. place m < 17179869184) (marks_of (lines t.problem)) low k d within)) in
-    record {
-      count = marks.count;
-      marks = All-from_recursion (λ m. IsIn (place m) (marks_of (lines t.problem))) at (each-impl (λ m. IsLowInside t (place m)) _ at (λ m i. inside-named t (place m) c.table i) (each-inside t at marks));
-      apart = marks.apart;
-      point = corner t c.table;
-      stands = stands;
-      marks_fixed = λ y sy. All-from_recursion (λ m. Agree (place m) (corner t c.table) y) (marks_of (lines t.problem)) (agree y sy);
-      attrs_fixed = λ y sy.
-          All-from_recursion (λ s. Agree (attr_column s.attr) (corner t c.table) y) t.problem.stays
-          (stays-agree (corner t c.table) y 1001 t.problem.stays
-          (each-later (IsAgreed (corner t c.table) y) (map line_of_row t.problem.rows) (stay_lines 1001 t.problem.stays)
-          (each-impl (λ l. ((0 < l.scale) × (0 < l.den)) × ((value_at (corner t c.table).num (equation l) ≡ pos 0) × ((value_at y.num (equation l) ≡ pos 0) × (Agree (place_of l.name Under) (corner t c.table) y × Agree (place_of l.name Over) (corner t c.table) y)))) (IsAgreed (corner t c.table) y) (lines t.problem)
-          (λ l h. record { den = h.0.1; first = h.1.0; second = h.1.1.0; under = h.1.1.1.0; over = h.1.1.1.1 })
-          (each-both _ _ (lines t.problem) (recursion_from_All _ (lines t.problem) (whole-IsProblem t.problem c.table.whole))
-          (each-both _ _ (lines t.problem) (recursion_from_All (λ l. value_at (corner t c.table).num (equation l) ≡ pos 0) (lines t.problem) stands.0)
-          (each-both _ _ (lines t.problem) (recursion_from_All (λ l. value_at y.num (equation l) ≡ pos 0) (lines t.problem) sy.0)
-          (marks-each (λ v. Agree v (corner t c.table) y) (lines t.problem) (agree y sy))))))));
-    }
+    (All-from_recursion (λ m. place m < 17179869184) (marks_of (lines t.problem)) low k d within)))

@@ -183,7 +183,7 @@ pub enter-out : (first : List Mark) (t : Table) (levels : List Cost) (s : Swap) 
 enter-out first t levels s u after at costed x marks i =
     negative_enters t levels (place s.enter) costed (enter_low first t levels s u after costed.table x) x.negative (in-inside t at (place s.enter) marks i).1
 
-enters-none : (t : Table) (s : Swap) (at : List Mark) → (is_inside (basics t) (place s.enter) ≡ true → ⊥) → AreInside t at → Each (λ n. place n ≢ place s.enter) at
+pub enters-none : (t : Table) (s : Swap) (at : List Mark) → (is_inside (basics t) (place s.enter) ≡ true → ⊥) → AreInside t at → Each (λ n. place n ≢ place s.enter) at
 enters-none t s at out marks = each-impl (λ m. IsLowInside t (place m)) _ at (λ m h e. out (subst (λ (c : ℕ). is_inside (basics t) c ≡ true) e h.1)) (each-inside t at marks)
 
 pub marks_after : (first : List Mark) (t : Table) (levels : List Cost) (s : Swap) (u : Table) (after : List Cost) (at : List Mark) → IsCosted t levels → IsStep first t levels s u after → AreInside t at → AreInside u (exchanged s at)

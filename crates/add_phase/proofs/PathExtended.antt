@@ -31,7 +31,7 @@ extended-one w c e = ap (λ (b : Bool). cond b (ratio_num w) (pos w.value.den *�
 pub extended-at : (w : Writing) (c : ℕ) → c ≢ one_column → extended w c ≡ pos w.value.den *ℤ coefficient c w.row
 extended-at w c n = ap (λ (b : Bool). cond b (ratio_num w) (pos w.value.den *ℤ coefficient c w.row)) (ne_eqb c one_column n)
 
-form-one : (w : Writing) → coefficient one_column w.row ≡ pos 0 → named_coefficient one_column (form w) ≡ neg_ℤ (own w *ℤ w.value.num)
+pub form-one : (w : Writing) → coefficient one_column w.row ≡ pos 0 → named_coefficient one_column (form w) ≡ neg_ℤ (own w *ℤ w.value.num)
 form-one w none =
     coefficient-form one_column w
     ∙ ap₂ (λ (b : Bool) (z : ℤ). cond b (neg_ℤ (own w *ℤ w.value.num)) (pos 0) +ℤ z) (eq-eqb one_column one_column refl) (ap (λ (z : ℤ). pos w.value.den *ℤ z) none ∙ mul-zero_ℤ (pos w.value.den))

@@ -105,7 +105,7 @@ lines-each inside P (l ∷ ls) h = each-append P (inside_mark inside l.name) (li
 
 -- ---- each mark that is inside
 
-place-left : (xs ys : List Mark) (c : ℕ) → is_place xs c ≡ true → is_place (xs ++ ys) c ≡ true
+pub place-left : (xs ys : List Mark) (c : ℕ) → is_place xs c ≡ true → is_place (xs ++ ys) c ≡ true
 place-left [] ys c h = absurd (true≢false (sym h))
 place-left (x ∷ xs) ys c h =
     elim (cases_Bool (nat_eq (place x) c)) [
@@ -113,7 +113,7 @@ place-left (x ∷ xs) ys c h =
       | inr n ↦ ap (λ (b : Bool). cond b true (is_place (xs ++ ys) c)) n ∙ place-left xs ys c (sym (ap (λ (b : Bool). cond b true (is_place xs c)) n) ∙ h)
     ]
 
-place-right : (xs ys : List Mark) (c : ℕ) → is_place ys c ≡ true → is_place (xs ++ ys) c ≡ true
+pub place-right : (xs ys : List Mark) (c : ℕ) → is_place ys c ≡ true → is_place (xs ++ ys) c ≡ true
 place-right [] ys c h = h
 place-right (x ∷ xs) ys c h =
     elim (cases_Bool (nat_eq (place x) c)) [

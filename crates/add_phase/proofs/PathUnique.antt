@@ -1,27 +1,26 @@
 -- A corner has one list of multipliers at each level, up to the scale.
-use Rattle.std.proofs.Common.{◌≡◌, ◌∙◌, ◌⊎◌, ℕ, ◌*◌, ◌<◌, false, List, [], ◌∷◌, ℤ, pos, negsuc, ◌+ℤ◌, ◌-ℤ◌, ◌*ℤ◌, neg_ℤ, ◌<ℤ◌, sym, ap, ap₂, arith, inl, inr}
+use Rattle.std.proofs.Common.{◌≡◌, ◌∙◌, ◌⊎◌, ℕ, ◌*◌, ◌<◌, false, List, ℤ, pos, ◌+ℤ◌, ◌-ℤ◌, ◌*ℤ◌, neg_ℤ, sym, ap, ap₂, arith, inl, inr}
 use Rattle.std.specs.List.{AllByRecursion as Each}
 use Rattle.std.proofs.lemmas.Bool.{cases_Bool}
 use Rattle.std.proofs.lemmas.List.Elements.{recursion_from_All}
-use lib.IntN.{*ℤ_comm}
 use borrow.Author.Differences.{ints}
-use Rattle.frac_core.proofs.Integers.{cancel_mul, mul_assoc_ℤ, mul_left_comm_ℤ, mul-add_left, mul-sub_left, mul-zero_ℤ, zero-mul_ℤ, add-mul_right, add-zero_ℤ, zero-add_ℤ, zero_from_mul, same_from_sub, sub-self}
+use Rattle.frac_core.proofs.Integers.{cancel_mul, mul_assoc_ℤ, mul_left_comm_ℤ, mul-add_left, mul-sub_left, mul-zero_ℤ, add-mul_right, same_from_sub, sub-self}
 use Rattle.problem_core.specs.declared.parts.Mark.{Mark}
 use Rattle.problem_core.specs.declared.parts.Side.{Side}
 use Rattle.problem_core.specs.declared.parts.Side.TheVariants.{Under, Over}
 use Rattle.problem_core.specs.Layout.{Problem, Line, lines, coefficient, sum_of, value_at}
 use Rattle.problem_core.specs.Certificates.{Multipliers, under_weight, over_weight, weight_at}
-use Rattle.problem_core.specs.Corners.{AreMultipliersAt, IsIn, attr_column, column, equation, one_column, place_of}
-use Rattle.problem_core.proofs.Forms.{combination-zero, each-impl, each-both, mul-sum, sum-add, sum-cong, sum-zero}
+use Rattle.problem_core.specs.Corners.{AreMultipliersAt, IsIn, column, equation, place_of}
+use Rattle.problem_core.proofs.Forms.{each-impl, each-both, mul-sum, sum-add, sum-cong}
 use Rattle.problem_core.proofs.Tableaus.{is_inside}
 use Rattle.problem_core.proofs.Wholes.{whole-IsProblem}
 use Rattle.tableau.specs.Tables.{Table, IsTable, basics}
 use Rattle.tableau.proofs.Algebra.{mul-neg}
 use Rattle.corner_costs.proofs.EndRays.{ray, ray_holds, ray_here, ray_other, one_outside}
-use Rattle.corner_costs.proofs.EndSums.{deviation, form_value, line_gap}
-use Rattle.corner_costs.proofs.LinePlaces.{AreApart, AllApart, IsSmallLine, apart-sym, lines_apart, lines_small}
+use Rattle.corner_costs.proofs.LinePlaces.{IsSmallLine, lines_apart, lines_small}
 use Rattle.add_phase.specs.Steps.{AreInside}
 use Rattle.level_rows.proofs.Entries.{neg-mul}
+use Rattle.add_phase.proofs.LoneLines.{AreRays, IsSettled, all_none}
 use Rattle.add_phase.proofs.PathTies.{first_mark}
 
 -- how far the multipliers are from being proportional, at the level k
@@ -73,83 +72,15 @@ over-none k m n l above e f =
     (over-given (m.scale k) (over_weight l.rel (weight_at l k)) l.scale (m.times k l.name) e) (over-given (n.scale k) (over_weight l.rel (weight_at l k)) l.scale (n.times k l.name) f) in
     omega (arith, ints, same, mul-neg (pos (m.scale k)) (n.times k l.name), mul-neg (pos (n.scale k)) (m.times k l.name))
 
--- what is known of each line: the multipliers are proportional, or both marks are outside
-pub record IsSettled (t : Table) (k : ℕ) (m n : Multipliers) (l : Line) : Type 0 where
-  pub small : IsSmallLine l
-  pub den : 0 < l.den
-  pub holds : (c : ℕ) → value_at (ray t c) (equation l) ≡ pos 0
-  pub either : (apart_by k m n l ≡ pos 0) ⊎ ((is_inside (basics t) (place_of l.name Under) ≡ false) × (is_inside (basics t) (place_of l.name Over) ≡ false))
+-- ---- the rays of a tableau
 
--- ---- the sum on a ray
-
-no-gap : (d : ℕ) (q x z : ℤ) → 0 < d → pos d *ℤ x ≡ q *ℤ z → z ≡ pos 0 → x ≡ pos 0
-no-gap d q x z above e f = zero_from_mul d x above (e ∙ ap (λ (y : ℤ). q *ℤ y) f ∙ mul-zero_ℤ q)
-
-split-part : (d v f : ℤ) → v +ℤ f ≡ pos 0 → d *ℤ v +ℤ d *ℤ f ≡ pos 0
-split-part d v f e = sym (mul-add_left d v f) ∙ ap (λ (z : ℤ). d *ℤ z) e ∙ mul-zero_ℤ d
-
--- the parts of the deviations add up to 0
-parts-cancel : (t : Table) (k : ℕ) (m n : Multipliers) (c : ℕ) → IsTable t → c < 17179869184 → ((v : ℕ) → sum_of (λ l. apart_by k m n l *ℤ coefficient v l.form) (lines t.problem) ≡ pos 0) → Each (IsSettled t k m n) (lines t.problem) → sum_of (λ l. apart_by k m n l *ℤ deviation (ray t c) l) (lines t.problem) ≡ pos 0
-parts-cancel t k m n c table low cancel settled =
-    let one : ray t c one_column ≡ pos 0 = ray_other t c one_column (one_outside t table) (λ e. omega (arith, low, e)) in
-    let forms : sum_of (λ l. apart_by k m n l *ℤ form_value (ray t c) l) (lines t.problem) ≡ pos 0 =
-    combination-zero (λ v. ray t c (attr_column v)) (apart_by k m n) (λ l. l.form) (lines t.problem) cancel in
-    let whole : sum_of (λ l. apart_by k m n l *ℤ deviation (ray t c) l) (lines t.problem) +ℤ sum_of (λ l. apart_by k m n l *ℤ form_value (ray t c) l) (lines t.problem) ≡ pos 0 =
-    sym (sum-add (λ l. apart_by k m n l *ℤ deviation (ray t c) l) (λ l. apart_by k m n l *ℤ form_value (ray t c) l) (lines t.problem))
-    ∙ sum-zero (λ l. apart_by k m n l *ℤ deviation (ray t c) l +ℤ apart_by k m n l *ℤ form_value (ray t c) l) (lines t.problem)
-    (each-impl (IsSettled t k m n) _ (lines t.problem)
-    (λ l h. split-part (apart_by k m n l) (deviation (ray t c) l) (form_value (ray t c) l) (no-gap l.den l.num (deviation (ray t c) l +ℤ form_value (ray t c) l) (ray t c one_column) h.den (line_gap (ray t c) l (h.holds c)) one))
-    settled) in
-    omega (arith, ints, whole, forms)
-
--- a line alone
-sum-alone : (g : Line → Line → ℤ) (P : Line → Type 0) → ((k l : Line) → P l → AreApart k l → g k l ≡ pos 0) → (ls : List Line) → Each P ls → AllApart ls → Each (λ k. sum_of (g k) ls ≡ g k k) ls
-sum-alone g P z [] h a = tt
-sum-alone g P z (x ∷ ls) h a = (
-  ap (λ (t : ℤ). g x x +ℤ t)
-      (sum-zero (g x) ls (each-impl (λ l. P l × AreApart x l) (λ l. g x l ≡ pos 0) ls (λ l q. z x l q.0 q.1) (each-both _ _ ls h.1 a.0))) ∙ add-zero_ℤ (g x x),
-  each-impl (λ k. AreApart x k × (sum_of (g k) ls ≡ g k k)) (λ k. sum_of (g k) (x ∷ ls) ≡ g k k) ls
-      (λ k q. ap₂ ◌+ℤ◌ (z k x h.0 (apart-sym x k q.0)) q.1 ∙ zero-add_ℤ (g k k))
-      (each-both (AreApart x) (λ k. sum_of (g k) ls ≡ g k k) ls a.0 (sum-alone g P z ls h.1 a.1)),
-)
-
-no-deviation : (u o : ℤ) → u ≡ pos 0 → o ≡ pos 0 → u -ℤ o ≡ pos 0
-no-deviation u o e f = omega (arith, ints, e, f)
-
--- on the ray of one line's under mark another line has no part
-other-line : (t : Table) (k : ℕ) (m n : Multipliers) (x l : Line) → IsSettled t k m n l → AreApart x l → apart_by k m n l *ℤ deviation (ray t (place_of x.name Under)) l ≡ pos 0
-other-line t k m n x l settled apart =
-    elim settled.either [
-      | inl none ↦ ap (λ (z : ℤ). z *ℤ deviation (ray t (place_of x.name Under)) l) none ∙ zero-mul_ℤ (deviation (ray t (place_of x.name Under)) l)
-      | inr out ↦
-          ap (λ (z : ℤ). apart_by k m n l *ℤ z)
-          (no-deviation (ray t (place_of x.name Under) (place_of l.name Under)) (ray t (place_of x.name Under) (place_of l.name Over))
-          (ray_other t (place_of x.name Under) (place_of l.name Under) out.0 (λ e. apart.under_under (sym e)))
-          (ray_other t (place_of x.name Under) (place_of l.name Over) out.1 (λ e. apart.under_over (sym e))))
-          ∙ mul-zero_ℤ (apart_by k m n l)
-    ]
-
-zero-factor : (d u o : ℤ) → pos 0 <ℤ u → o ≡ pos 0 → d *ℤ (u -ℤ o) ≡ pos 0 → d ≡ pos 0
-zero-factor d (pos u) o above e h =
-    let same : pos u -ℤ o ≡ pos u = omega (arith, ints, e) in
-    zero_from_mul u d (omega (arith, ints, above)) (*ℤ_comm (pos u) d ∙ ap (λ (z : ℤ). d *ℤ z) (sym same) ∙ h)
-zero-factor d (negsuc u) o above e h = absurd above.lt
-
-own-line : (t : Table) (k : ℕ) (m n : Multipliers) (l : Line) → IsTable t → IsSettled t k m n l → apart_by k m n l *ℤ deviation (ray t (place_of l.name Under)) l ≡ pos 0 → apart_by k m n l ≡ pos 0
-own-line t k m n l table settled h =
-    elim settled.either [
-      | inl none ↦ none
-      | inr out ↦
-          zero-factor (apart_by k m n l) (ray t (place_of l.name Under) (place_of l.name Under)) (ray t (place_of l.name Under) (place_of l.name Over)) (ray_here t (place_of l.name Under) table out.0)
-          (ray_other t (place_of l.name Under) (place_of l.name Over) out.1 (λ e. settled.small.sides (sym e))) h
-    ]
-
-all-none : (t : Table) (k : ℕ) (m n : Multipliers) → IsTable t → ((v : ℕ) → sum_of (λ l. apart_by k m n l *ℤ coefficient v l.form) (lines t.problem) ≡ pos 0) → Each (IsSettled t k m n) (lines t.problem) → Each (λ l. apart_by k m n l ≡ pos 0) (lines t.problem)
-all-none t k m n table cancel settled =
-    each-impl (λ l. IsSettled t k m n l × (sum_of (λ j. apart_by k m n j *ℤ deviation (ray t (place_of l.name Under)) j) (lines t.problem) ≡ apart_by k m n l *ℤ deviation (ray t (place_of l.name Under)) l)) _ (lines t.problem)
-    (λ l h. own-line t k m n l table h.0 (sym h.1 ∙ parts-cancel t k m n (place_of l.name Under) table h.0.small.under cancel settled))
-    (each-both _ _ (lines t.problem) settled
-    (sum-alone (λ x l. apart_by k m n l *ℤ deviation (ray t (place_of x.name Under)) l) (IsSettled t k m n) (λ x l q a. other-line t k m n x l q a) (lines t.problem) settled (lines_apart t.problem table.whole)))
+pub table_rays : (t : Table) → IsTable t → AreRays t.problem (is_inside (basics t)) (ray t)
+table_rays t table = record {
+  holds = λ c. ray_holds t c table;
+  other = λ c v. ray_other t c v;
+  here = λ c. ray_here t c table;
+  one = one_outside t table;
+}
 
 -- ---- the multipliers of a corner
 
@@ -163,9 +94,9 @@ either-mark t at k m n l marks small above under over =
       ]
     ]
 
-all-settled : (t : Table) (at : List Mark) (k : ℕ) (m n : Multipliers) → IsTable t → AreInside t at → AreMultipliersAt t.problem at m → AreMultipliersAt t.problem at n → Each (IsSettled t k m n) (lines t.problem)
+all-settled : (t : Table) (at : List Mark) (k : ℕ) (m n : Multipliers) → IsTable t → AreInside t at → AreMultipliersAt t.problem at m → AreMultipliersAt t.problem at n → Each (IsSettled (is_inside (basics t)) (ray t) (apart_by k m n)) (lines t.problem)
 all-settled t at k m n table marks f g =
-    each-impl (λ l. (((0 < l.scale) × (0 < l.den)) × (IsSmallLine l × ((c : ℕ) → value_at (ray t c) (equation l) ≡ pos 0))) × (((IsIn (place_of l.name Under) at → (level : ℕ) → column m Under l level ≡ pos 0) × (IsIn (place_of l.name Under) at → (level : ℕ) → column n Under l level ≡ pos 0)) × ((IsIn (place_of l.name Over) at → (level : ℕ) → column m Over l level ≡ pos 0) × (IsIn (place_of l.name Over) at → (level : ℕ) → column n Over l level ≡ pos 0)))) (IsSettled t k m n) (lines t.problem)
+    each-impl (λ l. (((0 < l.scale) × (0 < l.den)) × (IsSmallLine l × ((c : ℕ) → value_at (ray t c) (equation l) ≡ pos 0))) × (((IsIn (place_of l.name Under) at → (level : ℕ) → column m Under l level ≡ pos 0) × (IsIn (place_of l.name Under) at → (level : ℕ) → column n Under l level ≡ pos 0)) × ((IsIn (place_of l.name Over) at → (level : ℕ) → column m Over l level ≡ pos 0) × (IsIn (place_of l.name Over) at → (level : ℕ) → column n Over l level ≡ pos 0)))) (IsSettled (is_inside (basics t)) (ray t) (apart_by k m n)) (lines t.problem)
     (λ l h. record {
       small = h.0.1.0;
       den = h.0.0.1;
@@ -201,4 +132,4 @@ columns-same k m n Over l e = over-columns (m.scale k) (n.scale k) (over_weight 
 pub proportional : (t : Table) (at : List Mark) (k : ℕ) (m n : Multipliers) (side : Side) → IsTable t → AreInside t at → AreMultipliersAt t.problem at m → AreMultipliersAt t.problem at n → Each (λ l. pos (m.scale k) *ℤ column n side l k ≡ pos (n.scale k) *ℤ column m side l k) (lines t.problem)
 proportional t at k m n side table marks f g =
     each-impl (λ l. apart_by k m n l ≡ pos 0) _ (lines t.problem) (λ l e. columns-same k m n side l e)
-    (all-none t k m n table (apart-cancel t.problem k m n (f.cancel k) (g.cancel k)) (all-settled t at k m n table marks f g))
+    (all_none t.problem (is_inside (basics t)) (ray t) (apart_by k m n) (table_rays t table) (lines_apart t.problem table.whole) (apart-cancel t.problem k m n (f.cancel k) (g.cancel k)) (all-settled t at k m n table marks f g))

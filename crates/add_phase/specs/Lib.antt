@@ -1,3 +1,4 @@
+pub mod Unfit
 pub mod Runs
 pub mod Shares
 pub mod Ratios

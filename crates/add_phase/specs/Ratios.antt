@@ -1,8 +1,8 @@
 -- How much of an entering mark takes the values of the inside marks to 0.
-use Rattle.std.specs.Prelude.{◌≡◌, ◌⊎◌, ℕ, ◌<◌, List, pos, ◌<ℤ◌, All}
+use Rattle.std.specs.Prelude.{◌≡◌, ◌⊎◌, ℕ, ◌<◌, ◌≤◌, List, pos, ◌<ℤ◌, All}
 use Rattle.std.specs.declared.option.Option.{Option}
 use Rattle.std.specs.declared.option.Option.TheVariants.{Some, None}
-use Rattle.row_core.specs.Rows.{coefficient}
+use Rattle.row_core.specs.Rows.{Term, coefficient}
 use Rattle.problem_core.specs.declared.parts.Mark.{Mark}
 use Rattle.problem_core.specs.declared.stops.What.{What}
 use Rattle.problem_core.specs.Corners.{place}
@@ -49,3 +49,7 @@ pub record IsLeast (t : Table) (c : ℕ) (first : List Mark) (m : Mark) : Type 0
   pub leaves : IsWriting t.written (place m) leaving
   pub falls : pos 0 <ℤ coefficient c leaving.row
   pub least : All (λ w. column_of w.what < 17179869184 → pos 0 <ℤ coefficient c w.row → IsFirstToFall c first leaving w) t.written
+
+-- the row has no number at the columns between the two
+abbrev pub HasNoneBetween : ℕ → ℕ → List Term → Type 0
+HasNoneBetween low high row = All (λ t. (t.col ≤ low) ⊎ (high ≤ t.col)) row

@@ -1,35 +1,28 @@
 -- What the stops of a run say.
-use Rattle.std.specs.Prelude.{◌≡◌, ℕ, List, [], ◌∷◌, ◌++◌, length}
-use Rattle.problem_core.specs.declared.parts.Mark.{Mark}
+use Rattle.std.specs.Prelude.{◌≡◌, ℕ, length}
 use Rattle.problem_core.specs.declared.parts.RowName.TheVariants.{Held}
 use Rattle.problem_core.specs.Layout.{Problem}
 use Rattle.problem_core.specs.Certificates.{IsRefutation}
-use Rattle.problem_core.specs.Corners.{HasNegativeColumn, IsIn, IsPrimalEnd, IsPrimalPath, Swap, place}
+use Rattle.problem_core.specs.declared.stops.Quantity.{Quantity}
+use Rattle.problem_core.specs.Corners.{IsPrimalEnd, IsPrimalPath}
 use Rattle.cert_core.specs.Paths.{Path}
 use Rattle.cert_core.specs.Claims.{times_of}
 use Rattle.cert_core.specs.declared.stops.RunStop.{RunStop}
 use Rattle.tableau.specs.Tables.{Table}
 use Rattle.add_phase.specs.Steps.{AreInside, last_marks}
-use Rattle.cert_core.specs.declared.stops.RunStop.TheVariants.{Conflict, Unfit, Spent, Unshown, OutOfMemory}
+use Rattle.add_phase.specs.Unfit.{IsUnfitAt}
+use Rattle.cert_core.specs.declared.stops.RunStop.TheVariants.{Conflict, Unfit, Spent, OutOfMemory}
 
--- the corner is no end, and the exchange brings in an outside mark with a negative column for an inside one
-pub record IsNext (p : Problem) (at : List Mark) (s : Swap) : Type 0 where
-  pub goes_on : IsPrimalEnd p at → ⊥
-  pub enters : IsIn (place s.enter) at → ⊥
-  pub leaves : IsIn (place s.leave) at
-  pub negative : HasNegativeColumn p at s.enter
-
--- a lawful path and one exchange more, at whose corner a quantity does not fit
-abbrev pub IsPathTo : Problem → Path → Type 0
-IsPathTo p path = (swaps : List Swap) × (last : Swap) × (path.swaps ≡ swaps ++ last ∷ []) × IsPrimalPath p path.corner swaps × IsNext p (last_marks path.corner swaps) last
+-- a lawful path to a corner at which the quantity does not fit
+abbrev pub IsPathTo : Problem → Path → Quantity → Type 0
+IsPathTo p path quantity = IsPrimalPath p path.corner path.swaps × IsUnfitAt p (last_marks path.corner path.swaps) quantity
 
 -- at a conflict the multipliers refute the required rows; where the exchanges are used up, a lawful path has as many as the budget, and its last
--- corner is no end
+-- corner is no end; where something does not fit, a lawful path leads to a corner at which it does not
 abbrev pub IsRunStop : Problem → ℕ → RunStop → Type 0
 IsRunStop p budget (Conflict by) = IsRefutation p (λ id. times_of by (Held id))
 IsRunStop p budget (Spent path) = (length path.swaps ≡ budget) × IsPrimalPath p path.corner path.swaps × (IsPrimalEnd p (last_marks path.corner path.swaps) → ⊥)
-IsRunStop p budget (Unfit at) = IsPathTo p at.path
-IsRunStop p budget Unshown = Unit {0}
+IsRunStop p budget (Unfit at) = IsPathTo p at.path at.quantity
 IsRunStop p budget OutOfMemory = Unit {0}
 
 -- the path of the stop, if it has one, begins at the tableau's corner
@@ -37,5 +30,4 @@ abbrev pub BeginsAt : Table → RunStop → Type 0
 BeginsAt t (Conflict by) = Unit {0}
 BeginsAt t (Spent path) = AreInside t path.corner
 BeginsAt t (Unfit at) = AreInside t at.path.corner
-BeginsAt t Unshown = Unit {0}
 BeginsAt t OutOfMemory = Unit {0}

@@ -6,7 +6,7 @@ ghost use Rattle.add_phase.specs.InsideMarks as inside;
 ghost use Rattle.add_phase.specs.Steps.{AreInside};
 
 use frac_core::OutOfMemory;
-use problem_core::{Mark, Problem, RowName, Side};
+use problem_core::{Mark, Problem, Row, RowName, Side};
 use std::alloc::Global;
 use tableau::Tableau;
 
@@ -49,11 +49,11 @@ fn push_inside(out: &mut Vec<Mark>, t: &Tableau, row: RowName) -> Result<(), Out
     Ok(())
 }
 
-/// Appends the marks of the held rows that are inside.
-fn push_rows(out: &mut Vec<Mark>, t: &Tableau, p: &Problem) -> Result<(), OutOfMemory>
-    ensures { IfOk result (λ _. out.new.items ≡ out.old.items ++ inside.row_marks (inside_of t.now) p.now.rows) }
+/// Appends the marks of these rows that are inside.
+fn push_rows(out: &mut Vec<Mark>, t: &Tableau, rows: &[Row]) -> Result<(), OutOfMemory>
+    ensures { IfOk result (λ _. out.new.items ≡ out.old.items ++ inside.row_marks (inside_of t.now) rows.now) }
 {
-    for row in p.rows() {
+    for row in rows {
         push_inside(out, t, RowName::Held(row.id()))?;
     }
     Ok(())
@@ -76,7 +76,39 @@ pub(crate) fn corner_of(alloc: Global, t: &Tableau, p: &Problem) -> Result<Vec<M
 {
     t.show_table();
     let mut corner = Vec::new(alloc);
-    push_rows(&mut corner, t, p)?;
+    push_rows(&mut corner, t, p.rows())?;
+    push_stays(&mut corner, t, p)?;
+    Ok(corner)
+}
+
+/// Appends the over marks of these rows.
+fn push_over(out: &mut Vec<Mark>, rows: &[Row]) -> Result<(), OutOfMemory>
+    ensures { IfOk result (λ _. out.new.items ≡ out.old.items ++ inside.over_marks rows.now) }
+{
+    for row in rows {
+        out.push(Mark {
+            row: RowName::Held(row.id()),
+            side: Side::Over,
+        })?;
+    }
+    Ok(())
+}
+
+/// The marks inside and the over marks of the rows `new`, which have yet to join, by row number with the stays last.
+pub fn corner_with(
+    alloc: Global,
+    t: &Tableau,
+    p: &Problem,
+    new: &[Row],
+) -> Result<Vec<Mark>, OutOfMemory>
+    requires rows { p.now.rows ≡ t.now.problem.rows ++ new.now }
+    requires stays { p.now.stays ≡ t.now.problem.stays }
+    ensures { IfOk result (λ corner. inside.IsCornerWith t.now new.now corner.items) }
+{
+    let held = p.rows().len() - new.len();
+    let mut corner = Vec::new(alloc);
+    push_rows(&mut corner, t, &p.rows()[..held])?;
+    push_over(&mut corner, new)?;
     push_stays(&mut corner, t, p)?;
     Ok(corner)
 }

@@ -7,6 +7,8 @@ mod laws;
 mod ratios;
 mod runs;
 mod settling;
+mod ties;
 
-pub use laws::paths_are_short;
+pub use corners::corner_with;
+pub use laws::{held_quantities_fit, paths_are_short};
 pub use settling::settle;

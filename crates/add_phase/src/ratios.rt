@@ -1,5 +1,5 @@
 // The mark that leaves.
-ghost use Rattle.std.specs.Prelude.{◌≡◌, ◌<◌, ◌<ℤ◌, ◌≤ℤ◌, ◌*ℤ◌, ◌++◌, ◌∷◌, [], List, map, pos, true, false, All, IfSome, IfNone};
+ghost use Rattle.std.specs.Prelude.{◌≡◌, ◌<◌, ◌^◌, ◌<ℤ◌, ◌≤ℤ◌, ◌*ℤ◌, ◌++◌, ◌∷◌, [], List, map, pos, true, false, unsigned_abs, All, IfSome, IfNone};
 ghost use Rattle.std.specs.Ordering.{int_cmp};
 ghost use Rattle.frac_core.specs.Fraction.{IsFitting};
 ghost use Rattle.row_core.specs.Rows.{coefficient};
@@ -11,6 +11,7 @@ ghost use Rattle.tableau.specs.Exchanges.{IsOutside};
 ghost use Rattle.add_phase.specs.Steps.{IsRowFirst};
 ghost use Rattle.add_phase.specs.Ratios.{IsRatioAt, IsRatioOrNone, NeverFalls, IsEarlier, IsFirstOf, IsLeast};
 
+use crate::ties::{is_row_first, product};
 use frac_core::{Frac, cmp_wide};
 use problem_core::{Mark, What, place};
 use row_core::{Col, IntRow};
@@ -25,15 +26,6 @@ fn number(row: &IntRow, m: Mark) -> i64
     row.entry(Col(place(m)))
 }
 
-/// The product of two fitting numbers.
-fn product(x: i64, y: i64) -> i128
-    requires x { IsFitting x }
-    requires y { IsFitting y }
-    ensures { result ≡ x *ℤ y }
-{
-    i128::from(x) * i128::from(y)
-}
-
 /// An inside mark, and how much of another one takes its value to 0: `above` over `below`.
 #[derive(Clone, Copy, Debug)]
 pub(crate) struct Ratio {
@@ -43,7 +35,7 @@ pub(crate) struct Ratio {
 }
 
 /// Whether the number is above 0.
-fn is_above(z: i64) -> bool
+pub(crate) fn is_above(z: i64) -> bool
     ensures yes { result ≡ true → pos 0 <ℤ z }
     ensures no { result ≡ false → z ≤ℤ pos 0 }
 {
@@ -84,38 +76,6 @@ fn ratio_of(t: &Tableau, m: Mark, enter: Mark) -> Option<Ratio>
     }
 }
 
-/// The order of the numbers of two rows at a mark, each divided by the row's number at the entering mark.
-fn column_order(a: &IntRow, a_by: i64, b: &IntRow, b_by: i64, m: Mark) -> Ordering
-    requires a { pos 0 <ℤ a_by }
-    requires b { pos 0 <ℤ b_by }
-    ensures { result ≡ int_cmp (coefficient (corners.place m) a.now *ℤ b_by) (coefficient (corners.place m) b.now *ℤ a_by) }
-{
-    cmp_wide(
-        i128::from(number(a, m)),
-        i128::from(a_by),
-        i128::from(number(b, m)),
-        i128::from(b_by),
-    )
-}
-
-/// Whether the first row comes first, of two that are each divided by the number at the entering mark, at the marks of a corner.
-fn is_row_first(a: &IntRow, b: &IntRow, enter: Mark, first: &[Mark]) -> bool
-    requires a { pos 0 <ℤ coefficient (corners.place enter) a.now }
-    requires b { pos 0 <ℤ coefficient (corners.place enter) b.now }
-    ensures yes { result ≡ true → IsRowFirst (corners.place enter) (map corners.place first.now) a.now b.now }
-    ensures no { result ≡ false → IsRowFirst (corners.place enter) (map corners.place first.now) b.now a.now }
-{
-    let (a_by, b_by) = (number(a, enter), number(b, enter));
-    for m in first {
-        match column_order(a, a_by, b, b_by, *m) {
-            Ordering::Less => return true,
-            Ordering::Greater => return false,
-            Ordering::Equal => {}
-        }
-    }
-    false
-}
-
 /// Whether the row of the first mark comes first, of two inside ones.
 fn is_tie_first(t: &Tableau, a: Ratio, b: Ratio, enter: Mark, first: &[Mark]) -> bool
     requires a { IsRatioAt t.now (corners.place enter) a }
@@ -127,13 +87,33 @@ fn is_tie_first(t: &Tableau, a: Ratio, b: Ratio, enter: Mark, first: &[Mark]) ->
     is_row_first(t.row_of(a.mark), t.row_of(b.mark), enter, first)
 }
 
+/// Whether products of this number and another such one fit.
+fn is_small(z: i128) -> bool
+    ensures { result ≡ true → unsigned_abs z < 2 ^ 63 }
+{
+    z.unsigned_abs() < 1 << 63
+}
+
+/// The product of two small numbers.
+fn small_product(x: i128, y: i128) -> i128
+    requires x { unsigned_abs x < 2 ^ 63 }
+    requires y { unsigned_abs y < 2 ^ 63 }
+    ensures { result ≡ x *ℤ y }
+{
+    x * y
+}
+
 /// The order of two ratios.
 fn ratio_order(a: Ratio, b: Ratio) -> Ordering
     requires a { pos 0 <ℤ a.below }
     requires b { pos 0 <ℤ b.below }
     ensures { result ≡ int_cmp (a.above *ℤ b.below) (b.above *ℤ a.below) }
 {
-    cmp_wide(a.above, a.below, b.above, b.below)
+    if is_small(a.above) && is_small(a.below) && is_small(b.above) && is_small(b.below) {
+        small_product(a.above, b.below).cmp(&small_product(b.above, a.below))
+    } else {
+        cmp_wide(a.above, a.below, b.above, b.below)
+    }
 }
 
 /// The ratio of the mark that leaves: the smaller one, and of equal ones that whose row comes first.
@@ -201,5 +181,48 @@ pub(crate) fn leaving(t: &Tableau, enter: Mark, first: &[Mark]) -> Option<Mark>
     match first_of(t, t.column(enter), enter, first) {
         Some(ratio) => Some(ratio.mark),
         None => None,
+    }
+}
+
+#[cfg(test)]
+mod tests {
+    use super::*;
+    use problem_core::{RowName, Side};
+    use std::test::Fail;
+
+    fn ratio(above: i128, below: i128) -> Ratio {
+        let mark = Mark {
+            row: RowName::Held(1),
+            side: Side::Under,
+        };
+        Ratio { mark, above, below }
+    }
+
+    fn order_of(a: Ratio, b: Ratio) -> Option<Ordering> {
+        if a.below > 0 && b.below > 0 {
+            Some(ratio_order(a, b))
+        } else {
+            None
+        }
+    }
+
+    #[test]
+    fn ratios_are_ordered(rt: HostRuntime) -> Result<(), Fail> {
+        let large = 1 << 80;
+        assert_eq!(rt; order_of(ratio(1, 2), ratio(2, 4)), Some(Ordering::Equal));
+        assert_eq!(rt; order_of(ratio(-1, 2), ratio(0, 4)), Some(Ordering::Less));
+        assert_eq!(rt;
+            order_of(ratio(1 << 62, 3), ratio(1 << 61, 2)),
+            Some(Ordering::Greater)
+        );
+        assert_eq!(rt;
+            order_of(ratio(large, 3), ratio(large, 2)),
+            Some(Ordering::Less)
+        );
+        assert_eq!(rt;
+            order_of(ratio(large, 3), ratio(large, 3)),
+            Some(Ordering::Equal)
+        );
+        Ok(())
     }
 }

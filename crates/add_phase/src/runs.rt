@@ -4,12 +4,14 @@ ghost use Rattle.problem_core.specs.Layout as layout;
 ghost use Rattle.problem_core.specs.Corners as corners;
 ghost use Rattle.problem_core.specs.Corners.{IsPrimalEnd, IsPrimalPath};
 ghost use Rattle.problem_core.specs.declared.parts.Level.TheVariants.{Priority};
+ghost use Rattle.problem_core.specs.declared.stops.Quantity.{Quantity};
+ghost use Rattle.problem_core.specs.declared.stops.TableStop.TheVariants.{UnfitAt};
 ghost use Rattle.tableau.specs.Tables.{Table};
 ghost use Rattle.level_rows.specs.Costs.{cost_of, reduced_at};
 ghost use Rattle.level_rows.specs.Fronts.{IsNegativeIn};
 ghost use Rattle.corner_costs.specs.Corners.{AreCostsAt, NoNegativeValue};
 ghost use Rattle.add_phase.specs.Ratios.{IsLeast};
-ghost use Rattle.add_phase.specs.Runs.{BeginsAt, IsNext, IsRunStop};
+ghost use Rattle.add_phase.specs.Runs.{BeginsAt, IsPathTo, IsRunStop};
 ghost use Rattle.add_phase.specs.Steps.{AreInside, HasRun, last_marks};
 
 use crate::corners::corner_of;
@@ -73,7 +75,7 @@ impl Run {
     /// The stop that a stop of an exchange leads to.
     fn stop(&self, stop: TableStop) -> RunStop
         ensures begins { (t : Table) → AreInside t self.now.corner.items → BeginsAt t result }
-        ensures stop { (p : layout.Problem) (swaps : List corners.Swap) (last : corners.Swap) → self.now.swaps.items ≡ swaps ++ last ∷ [] → IsPrimalPath p self.now.corner.items swaps → IsNext p (last_marks self.now.corner.items swaps) last → (budget : ℕ) → IsRunStop p budget result }
+        ensures stop { (p : layout.Problem) → ((q : Quantity) → stop ≡ UnfitAt q → IsPathTo p (record { dual = false; corner = self.now.corner.items; swaps = self.now.swaps.items }) q) → (budget : ℕ) → IsRunStop p budget result }
     {
         let TableStop::UnfitAt(quantity) = stop else {
             return RunStop::OutOfMemory;

@@ -1,5 +1,5 @@
 // The run to a corner without negative columns.
-ghost use Rattle.std.specs.Prelude.{◌≡◌, ◌<◌, ◌≤◌, ◌<ℤ◌, ◌≤ℤ◌, pos, ℕ, length, IfOk, IfErr, IfSome, IfNone};
+ghost use Rattle.std.specs.Prelude.{◌≡◌, true, false, ◌<◌, ◌≤◌, ◌<ℤ◌, ◌≤ℤ◌, pos, ℕ, length, IfOk, IfErr, IfSome, IfNone};
 ghost use Rattle.problem_core.specs.Layout as layout;
 ghost use Rattle.problem_core.specs.Corners as corners;
 ghost use Rattle.problem_core.specs.Corners.{IsPrimalPath};
@@ -13,10 +13,12 @@ ghost use Rattle.add_phase.specs.Runs.{BeginsAt, IsRunStop};
 ghost use Rattle.add_phase.specs.Steps.{AreInside, last_marks};
 
 use crate::conflicts::{conflict_stop, required_level};
-use crate::ratios::leaving;
+use crate::ratios::{is_above, leaving};
 use crate::runs::Run;
 use cert_core::{Path, RunStop};
-use corner_costs::{cost_refutes, negative_column_has_exchange};
+use corner_costs::{
+    cost_refutes, costs_are_not_negative, negative_column_has_exchange, required_level_is_first,
+};
 use level_rows::Levels;
 use problem_core::{Mark, Problem, place};
 use std::alloc::Global;
@@ -37,55 +39,74 @@ fn required_stop(alloc: Global, t: &Tableau, l: &Levels, p: &Problem) -> RunStop
     conflict_stop(alloc, l, p)
 }
 
+/// A mark that is negative at the level of the required rows, which cost.
+fn required_entering(alloc: Global, t: &Tableau, l: &Levels, p: &Problem) -> Result<Mark, RunStop>
+    requires problem { p.now ≡ t.now.problem }
+    requires costs { AreCostsAt t.now l.now }
+    requires above { pos 0 <ℤ (cost_of l.now (Priority 1000)).value.num }
+    ensures negative { IfOk result (λ m. IsNegativeIn (corners.place m) l.now) }
+    ensures required { IfOk result (λ m. reduced_at (corners.place m) (cost_of l.now (Priority 1000)).row <ℤ pos 0) }
+    ensures begins { IfErr result (λ stop. (first : Table) → BeginsAt first stop) }
+    ensures stop { IfErr result (λ stop. (budget : ℕ) → IsRunStop p.now budget stop) }
+{
+    t.show_table();
+    l.show_levels();
+    required_level_is_first();
+    match l.negative_at(required_level()) {
+        Some(m) => {
+            let _below = place(m);
+            Ok(m)
+        }
+        None => Err(required_stop(alloc, t, l, p)),
+    }
+}
+
+/// Whether the required rows cost.
+fn is_costly(t: &Tableau, l: &Levels) -> bool
+    requires costs { AreCostsAt t.now l.now }
+    requires values { NoNegativeValue t.now }
+    ensures yes { result ≡ true → pos 0 <ℤ (cost_of l.now (Priority 1000)).value.num }
+    ensures no { result ≡ false → (cost_of l.now (Priority 1000)).value.num ≡ pos 0 }
+{
+    t.show_table();
+    l.show_levels();
+    costs_are_not_negative();
+    is_above(l.cost(required_level()).num())
+}
+
 /// The mark that enters next, and None at the end of the run.
 fn entering(alloc: Global, t: &Tableau, l: &Levels, p: &Problem) -> Result<Option<Mark>, RunStop>
     requires problem { p.now ≡ t.now.problem }
     requires costs { AreCostsAt t.now l.now }
+    requires values { NoNegativeValue t.now }
     ensures negative { IfOk result (λ found. IfSome found (λ m. IsNegativeIn (corners.place m) l.now)) }
     ensures required { IfOk result (λ found. IfSome found (λ m. pos 0 <ℤ (cost_of l.now (Priority 1000)).value.num → reduced_at (corners.place m) (cost_of l.now (Priority 1000)).row <ℤ pos 0)) }
     ensures end { IfOk result (λ found. IfNone found (IsEnd l.now)) }
     ensures begins { IfErr result (λ stop. (first : Table) → BeginsAt first stop) }
     ensures stop { IfErr result (λ stop. (budget : ℕ) → IsRunStop p.now budget stop) }
 {
-    let level = required_level();
-    let cost = l.cost(level);
-    if cost.num() == 0 {
+    if !is_costly(t, l) {
         return Ok(l.negative());
     }
-    if cost.num() < 0 {
-        return Err(RunStop::Unshown);
-    }
-    if l.negative_at(level).is_none() {
-        return Err(required_stop(alloc, t, l, p));
-    }
-    let Some(m) = l.negative() else {
-        return Err(RunStop::Unshown);
-    };
-    if l.reduced(level, m) < 0 {
-        Ok(Some(m))
-    } else {
-        Err(RunStop::Unshown)
+    match required_entering(alloc, t, l, p) {
+        Ok(m) => Ok(Some(m)),
+        Err(stop) => Err(stop),
     }
 }
 
 /// The mark that leaves where a mark with a negative column enters.
-fn leaves(t: &Tableau, l: &Levels, enter: Mark, first: &[Mark]) -> Result<Mark, RunStop>
+fn leaves(t: &Tableau, l: &Levels, enter: Mark, first: &[Mark]) -> Mark
     requires costs { AreCostsAt t.now l.now }
     requires negative { IsNegativeIn (corners.place enter) l.now }
-    ensures least { IfOk result (IsLeast t.now (corners.place enter) first.now) }
-    ensures begins { IfErr result (λ stop. (first : Table) → BeginsAt first stop) }
-    ensures stop { IfErr result (λ stop. (p : layout.Problem) (budget : ℕ) → IsRunStop p budget stop) }
+    ensures { IsLeast t.now (corners.place enter) first.now result }
 {
     t.show_table();
     l.show_levels();
     let _below = place(enter);
     negative_column_has_exchange();
     match leaving(t, enter, first) {
-        Some(leave) => Ok(leave),
-        None => {
-            prove!(false);
-            Err(RunStop::Unshown)
-        }
+        Some(leave) => leave,
+        None => unreachable!(),
     }
 }
 
@@ -122,10 +143,7 @@ pub fn settle(
             Ok(None) => return Ok(run.path()?),
             Err(stop) => return Err(stop),
         };
-        let leave = match leaves(t, l, enter, run.corner()) {
-            Ok(leave) => leave,
-            Err(stop) => return Err(stop),
-        };
+        let leave = leaves(t, l, enter, run.corner());
         let _below = place(enter);
         if run.is_spent(budget) {
             return Err(run.spent());

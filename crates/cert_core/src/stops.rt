@@ -13,14 +13,12 @@ pub struct UnfitPath {
     pub quantity: Quantity,
 }
 
-/// What ends a run: the required rows are in conflict, a quantity does not fit, the exchanges are used up, what the run found was not
-/// shown to be right, or memory is wanting.
+/// What ends a run: the required rows are in conflict, a quantity does not fit, the exchanges are used up, or memory is wanting.
 #[derive(Debug, Drop)]
 pub enum RunStop {
     Conflict(Conflict),
     Unfit(UnfitPath),
     Spent(Path),
-    Unshown,
     OutOfMemory,
 }
 

@@ -46,7 +46,7 @@ mark-sign t costs c table are values low =
       | inr o ↦ let none : ray t one_column c ≡ pos 0 = outside-zero t c table low o in omega (arith, ints, none)
     ]
 
-marks-sign : (t : Table) (costs : List Cost) → IsTable t → AreCostsAt t costs → NoNegativeValue t → MarksNotNegative t
+pub marks-sign : (t : Table) (costs : List Cost) → IsTable t → AreCostsAt t costs → NoNegativeValue t → MarksNotNegative t
 marks-sign t costs table are values =
     each-impl (λ l. place_of l.name Over < 17179869184) _ (lines t.problem)
     (λ l low. (mark-sign t costs (place_of l.name Under) table are values (under_below l.name low), mark-sign t costs (place_of l.name Over) table are values low)) (recursion_from_All _ (lines t.problem) are.costs.below)

@@ -123,6 +123,13 @@ reduced-zero t w v table is low =
       | inr o ↦ ap (λ (z : ℤ). reduced_at v w.row *ℤ z) (outside-zero t v table low o) ∙ mul-zero_ℤ (reduced_at v w.row)
     ]
 
+-- so at the corner's point their part is 0
+pub reduced-sum_zero : (t : Table) (costs : List Cost) (w : Cost) → IsTable t → AreCostsAt t costs → IsCostOf (lines t.problem) (inside_of t) w → sum_of (reduced_part w.row (ray t one_column)) (lines t.problem) ≡ pos 0
+reduced-sum_zero t costs w table are is =
+    sum-zero (reduced_part w.row (ray t one_column)) (lines t.problem)
+    (each-impl (λ l. place_of l.name Over < 17179869184) _ (lines t.problem)
+    (λ l low. ap₂ ◌+ℤ◌ (reduced-zero t w (place_of l.name Under) table is (under_below l.name low)) (reduced-zero t w (place_of l.name Over) table is low)) (recursion_from_All _ (lines t.problem) are.costs.below))
+
 -- the marks' numbers at the corner's point aren't below 0
 abbrev pub MarksNotNegative : Table → Type 0
 MarksNotNegative t = Each (λ l. (pos 0 ≤ℤ ray t one_column (place_of l.name Under)) × (pos 0 ≤ℤ ray t one_column (place_of l.name Over))) (lines t.problem)
@@ -132,10 +139,7 @@ all-free t costs w table are kept is free signs =
     let facts : Each (λ l. ((0 < l.scale) × (0 < l.den)) × ((IsCosted w l × (value_at (ray t one_column) (equation l) ≡ pos 0)) × ((pos 0 ≤ℤ ray t one_column (place_of l.name Under)) × (pos 0 ≤ℤ ray t one_column (place_of l.name Over))))) (lines t.problem) =
     each-both _ _ (lines t.problem) (recursion_from_All _ (lines t.problem) (whole-IsProblem t.problem table.whole))
     (each-both _ _ (lines t.problem) (each-both _ _ (lines t.problem) (recursion_from_All (IsCosted w) (lines t.problem) is.costs) (recursion_from_All _ (lines t.problem) (ray_holds t one_column table))) signs) in
-    let none : sum_of (reduced_part w.row (ray t one_column)) (lines t.problem) ≡ pos 0 =
-    sum-zero (reduced_part w.row (ray t one_column)) (lines t.problem)
-    (each-impl (λ l. place_of l.name Over < 17179869184) _ (lines t.problem)
-    (λ l low. ap₂ ◌+ℤ◌ (reduced-zero t w (place_of l.name Under) table is (under_below l.name low)) (reduced-zero t w (place_of l.name Over) table is low)) (recursion_from_All _ (lines t.problem) are.costs.below)) in
+    let none : sum_of (reduced_part w.row (ray t one_column)) (lines t.problem) ≡ pos 0 = reduced-sum_zero t costs w table are is in
     let total : sum_of (weighed w.row (ray t one_column)) (lines t.problem) ≡ pos 0 =
     no-cost w.value.den (sum_of (weighed w.row (ray t one_column)) (lines t.problem)) (sum_of (reduced_part w.row (ray t one_column)) (lines t.problem)) (scale_of w.row) w.value.num (ray t one_column one_column) kept.value.lowest.above
     (costs_sum t.problem (inside_of t) w table.whole is (ray t one_column) (ray_holds t one_column table)) none free in

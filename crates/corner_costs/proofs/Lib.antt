@@ -14,6 +14,7 @@ pub mod EndExchanges
 pub mod EndPoints
 pub mod EndRequired
 pub mod EndBest
+pub mod EndCosts
 pub mod SameValues
 pub mod Offsets
 pub mod Stood

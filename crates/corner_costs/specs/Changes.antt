@@ -38,9 +38,9 @@ IsErrorStop old new levels r stop =
     IsWithRow r old new
     × ((side : Side) × (row : List Term) × (value : Fraction) × HasRow new (place_of (Held r.id) side) row × HasValue new (place_of (Held r.id) side) value × IsLevelJoinStop Joins r side row value levels stop)
 
--- the stop of the tableau, or that of the levels
+-- the stop of the tableau, which is as before, or that of the levels
 abbrev pub IsJoinStop : Table → Table → List Cost → Row → TableStop → Type 0
-IsJoinStop old new levels r stop = IsTableJoinStop old r stop ⊎ IsErrorStop old new levels r stop
+IsJoinStop old new levels r stop = ((new ≡ old) × IsTableJoinStop old r stop) ⊎ IsErrorStop old new levels r stop
 
 -- the stop is want of memory, or names a level whose cost does not fit after the shift
 abbrev pub IsLevelShiftStop : List Cost → RowName → Fraction → TableStop → Type 0

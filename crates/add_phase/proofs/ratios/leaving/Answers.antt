@@ -1,4 +1,3 @@
-use Rattle.std.specs.declared.option.Option.TheVariants.{Some, None}
 use Rattle.add_phase.proofs.Leavings.{least_of_all, none_of_all}
 use Rattle.add_phase.proofs.ratios.leaving.Goals as goal
 

@@ -13,8 +13,11 @@ use Rattle.add_phase.proofs.settling.settle.Goals as goal
 pub entering-requires-clause-costs : goal.entering-requires-clause-costs
 entering-requires-clause-costs c = (run_here c.loop-enter.run.corner.items c.loop-enter.run.swaps.items c.loop-enter.t c.loop-enter.l c.loop-enter.invariant.run).0.0.costs
 
-pub leaves-requires-clause-costs : goal.leaves-requires-clause-costs
-leaves-requires-clause-costs c = (run_here c.loop-enter.run.corner.items c.loop-enter.run.swaps.items c.loop-enter.t c.loop-enter.l c.loop-enter.invariant.run).0.0.costs
+pub entering-requires-clause-values : goal.entering-requires-clause-values
+entering-requires-clause-values c = (run_here c.loop-enter.run.corner.items c.loop-enter.run.swaps.items c.loop-enter.t c.loop-enter.l c.loop-enter.invariant.run).0.1
+
+pub leaves-leave-requires-clause-costs : goal.leaves-leave-requires-clause-costs
+leaves-leave-requires-clause-costs c = (run_here c.loop-enter.run.corner.items c.loop-enter.run.swaps.items c.loop-enter.t c.loop-enter.l c.loop-enter.invariant.run).0.0.costs
 
 pub returns-in-Ok-None-clause-costs : goal.returns-in-Ok-None-clause-costs
 returns-in-Ok-None-clause-costs c = (run_here c.loop-enter.run.corner.items c.loop-enter.run.swaps.items c.loop-enter.t c.loop-enter.l c.loop-enter.invariant.run).0.0.costs
@@ -36,9 +39,6 @@ returns-in-Ok-None-clause-corner c =
 pub returns-in-Err-clause-stop : goal.returns-in-Err-clause-stop
 returns-in-Err-clause-stop c = c.in-Err.ensures.stop c.args.budget
 
-pub returns-in-Err-leaves-clause-stop : goal.returns-in-Err-leaves-clause-stop
-returns-in-Err-leaves-clause-stop c = c.in-Err-leaves.ensures.stop c.args.p.now c.args.budget
-
 pub returns-then-is_spent-clause-stop : goal.returns-then-is_spent-clause-stop
 returns-then-is_spent-clause-stop c =
     let same : c.loop-enter.t.problem ≡ c.args.p.now = c.loop-enter.invariant.problem ∙ sym c.requires.problem in
@@ -58,6 +58,3 @@ returns-in-Err-exchange-clause-stop c =
 
 pub returns-in-Err-clause-begins : goal.returns-in-Err-clause-begins
 returns-in-Err-clause-begins c = c.in-Err.ensures.begins c.args.t.now
-
-pub returns-in-Err-leaves-clause-begins : goal.returns-in-Err-leaves-clause-begins
-returns-in-Err-leaves-clause-begins c = c.in-Err-leaves.ensures.begins c.args.t.now

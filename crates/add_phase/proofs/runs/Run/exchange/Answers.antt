@@ -1,10 +1,12 @@
-use Rattle.std.proofs.Common.{rules, ◌≡◌, List, [], ◌∷◌, ◌++◌, sym, subst, arith}
+use Rattle.std.proofs.Common.{rules, false, ◌≡◌, List, [], ◌∷◌, ◌++◌, sym, subst, arith}
 use Rattle.problem_core.specs.Corners.{Swap, place}
 use Rattle.add_phase.proofs.Leavings.{writing_has_column}
 use Rattle.add_phase.proofs.EnterFacts.{possible, outside}
-use Rattle.add_phase.specs.Steps.{HasRun}
+use Rattle.add_phase.specs.Runs.{IsPathTo}
+use Rattle.add_phase.specs.Steps.{HasRun, last_marks}
 use Rattle.add_phase.proofs.PathMade.{step_made}
-use Rattle.add_phase.proofs.PathTo.{run_here, run_more, run_next, run_path}
+use Rattle.add_phase.proofs.NextCorner.{IsExchangeAt}
+use Rattle.add_phase.proofs.PathTo.{run_exchange, run_here, run_more, run_unfit}
 use Rattle.add_phase.proofs.runs.Run.exchange.Goals as goal
 
 pub swap-requires-clause-enter : goal.swap-requires-clause-enter
@@ -33,6 +35,10 @@ returns-in-Ok-clause-run c =
 pub returns-in-Err-clause-stop : goal.returns-in-Err-clause-stop
 returns-in-Err-clause-stop c =
     let pushed : c.push.new.self.items ≡ c.args.self.now.swaps.items ++ record { enter = c.args.enter; leave = c.args.leave } ∷ [] = search rules in
-    c.stop.ensures.stop c.args.t.now.problem c.args.self.now.swaps.items (record { enter = c.args.enter; leave = c.args.leave }) pushed (run_path c.args.self.now.corner.items c.args.self.now.swaps.items c.args.t.now c.args.l.now c.requires.run)
-    (run_next c.args.self.now.corner.items c.args.self.now.swaps.items c.args.t.now c.args.l.now (record { enter = c.args.enter; leave = c.args.leave }) c.requires.least.leaving c.requires.run
-    (omega (arith, c.place-enters.ensures.value, c.place-enters.ensures.small)) (omega (arith, c.place-leaves.ensures.value, c.place-leaves.ensures.small)) c.requires.negative c.requires.required c.requires.least.leaves)
+    let known : IsExchangeAt c.args.t.now c.args.l.now (last_marks c.args.self.now.corner.items c.args.self.now.swaps.items) (record { enter = c.args.enter; leave = c.args.leave }) c.requires.least.leaving =
+    run_exchange c.args.self.now.corner.items c.args.self.now.swaps.items c.args.t.now c.args.l.now (record { enter = c.args.enter; leave = c.args.leave }) c.requires.least.leaving c.requires.run
+    (omega (arith, c.place-enters.ensures.value, c.place-enters.ensures.small)) (omega (arith, c.place-leaves.ensures.value, c.place-leaves.ensures.small)) c.requires.negative c.requires.least.leaves c.requires.least.falls in
+    c.stop.ensures.stop c.args.t.now.problem
+    (λ q e.
+    subst (λ (xs : List Swap). IsPathTo c.args.t.now.problem (record { dual = false; corner = c.args.self.now.corner.items; swaps = xs }) q) (sym pushed)
+    (run_unfit c.args.self.now.corner.items c.args.self.now.swaps.items c.args.t.now c.args.l.now (record { enter = c.args.enter; leave = c.args.leave }) c.requires.least.leaving c.in-Err.stop c.requires.run known c.requires.negative c.requires.required c.requires.least.least c.in-Err.ensures.stop q e))
