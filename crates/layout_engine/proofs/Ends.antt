@@ -24,7 +24,7 @@ low_at ms c low h = subst (λ (k : ℕ). k < 17179869184) h.4 (each_at ms h.0 h.
     each_at (y ∷ xs) (suc k) x within is e = each_at xs k x (omega (arith, within)) is e.1
 
 -- what is written at an attribute's column is the attribute
-attr_at : (t : Table) (costs : List Cost) (attr : ℕ) (x : What) → AreCostsAt t costs → IsNamed t.problem x → column_of x ≡ attr_column attr → x ≡ Attr attr
+pub attr_at : (t : Table) (costs : List Cost) (attr : ℕ) (x : What) → AreCostsAt t costs → IsNamed t.problem x → column_of x ≡ attr_column attr → x ≡ Attr attr
 attr_at t costs attr (Attr a) are named e = ap (λ (n : ℕ). Attr n) (omega (arith, e))
 attr_at t costs attr (MarkOf m) are named e = absurd (omega (arith, e, low_at (marks_of (lines t.problem)) (place m) (low-marks t costs are) named))
 attr_at t costs attr (LevelOf l) are named e = absurd named

@@ -1,15 +1,10 @@
 -- Steps of loops over the items of a list.
-use Rattle.std.proofs.Common.{◌≡◌, ◌≢◌, ◌∙◌, ℕ, ◌+◌, ◌<◌, ◌≤◌, ◌++◌, List, [], ◌∷◌, length, take, drop, get_or, map, sym, ap, subst, append_assoc, All}
+use Rattle.std.proofs.Common.{◌≡◌, ◌≢◌, ◌∙◌, ℕ, ◌+◌, ◌<◌, ◌++◌, List, [], ◌∷◌, length, take, drop, get_or, map, sym, ap, subst, append_assoc, All}
 use Rattle.std.proofs.lemmas.List.{take_more, map_push}
 use Rattle.std.proofs.lemmas.List.Elements.{All-push}
 use Rattle.frac_core.specs.Fraction.{Fraction, IsKept}
 use Rattle.problem_core.specs.declared.parts.Stay.{Stay}
 use Rattle.problem_core.specs.Gaps.{value_of}
-use Rattle.layout_engine.proofs.Rising.{AreRisingTo, rising_more}
-
-pub rising_item : {X : Type 0} (f : X → ℕ) (xs : List X) (i n : ℕ) (x : X) → i < length xs → x ≡ get_or xs i x → AreRisingTo f (take i xs) n → n ≤ f x → AreRisingTo f (take (i + 1) xs) (f x + 1)
-rising_item f xs i n x within is before above =
-    subst (λ y. AreRisingTo f (take (i + 1) xs) (f y + 1)) (sym is) (rising_more f xs i n x within before (subst (λ y. n ≤ f y) is above))
 
 item_taken : {X : Type 0} (xs : List X) (i : ℕ) (x : X) → i < length xs → x ≡ get_or xs i x → take i xs ++ x ∷ [] ≡ take (i + 1) xs
 item_taken xs i x within is = ap (λ y. take i xs ++ y ∷ []) is ∙ sym (take_more xs i x within)

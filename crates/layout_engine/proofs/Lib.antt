@@ -1,6 +1,12 @@
-pub mod Rising
+pub mod ListPairs
 pub mod Items
 pub mod Empty
 pub mod NoRows
 pub mod Ends
 pub mod RunStops
+pub mod Joins
+pub mod FreshShifts
+pub mod StoodStays
+pub mod Standing
+pub mod NewRowStops
+pub mod StartCorners

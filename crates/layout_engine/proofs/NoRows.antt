@@ -11,11 +11,13 @@ use Rattle.problem_core.specs.Layout.{Problem, Row}
 use Rattle.problem_core.specs.Corners.{place_of}
 use Rattle.tableau.specs.Written.{Writing}
 use Rattle.tableau.specs.Tables.{Table, column_of}
+use Rattle.problem_core.specs.Corners.{attr_column}
+use Rattle.tableau.specs.Exchanges.{HasValue}
 use Rattle.tableau.specs.Joining.{IsWithAttr}
 use Rattle.tableau.specs.Moving.{IsShifted, IsMovedRow, IsMovedWriting}
 use Rattle.level_rows.specs.Costs.{Cost}
 use Rattle.corner_costs.specs.Corners.{AreCostsAt, IsEnd, NoNegativeValue}
-use Rattle.layout_engine.specs.Layouts.{AreBest, HasNoRow, IsKept}
+use Rattle.layout_engine.specs.Layouts.{AreBest, AreValuesOf, HasNoRow, IsKept}
 
 pub no_row_values : (t : Table) → HasNoRow t → NoNegativeValue t
 no_row_values t h = λ k d within below. absurd (omega (arith, h.marks k d within, below))
@@ -64,9 +66,10 @@ same_problem a b rows stays = ap₂ (λ (rs : List Row) (ss : List Stay). record
 empty_end : (levels : List Cost) → levels ≡ [] → IsEnd levels
 empty_end levels e = subst IsEnd (sym e) (record { columns = λ c low. tt; required = refl })
 
-pub empty_kept : (p : Problem) (pairs : List (ℕ × Fraction)) (t : Table) (levels : List Cost) → p ≡ record { rows = []; stays = [] } → AreBest p pairs → t ≡ record { problem = record { rows = []; stays = [] }; written = [] } → levels ≡ [] → IsKept p pairs t levels
-empty_kept p pairs t levels e best f g = record {
+pub empty_kept : (p : Problem) (pairs : List (ℕ × Fraction)) (t : Table) (levels : List Cost) → p ≡ record { rows = []; stays = [] } → pairs ≡ [] → AreBest p pairs → t ≡ record { problem = record { rows = []; stays = [] }; written = [] } → levels ≡ [] → IsKept p pairs t levels
+empty_kept p pairs t levels e none best f g = record {
   best = best;
+  corner = subst (AreValuesOf t) (sym none) (All-nil (λ (v : ℕ × Fraction). HasValue t (attr_column v.0) v.1));
   problem = ap (λ (u : Table). u.problem) f ∙ sym e;
   costs = empty_costs t levels f g;
   values = no_row_values t (empty_no_row t f);

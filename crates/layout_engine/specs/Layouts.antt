@@ -1,10 +1,13 @@
 -- A layout: a problem with its best values, and what it becomes.
-use Rattle.std.specs.Prelude.{◌≡◌, ℕ, ◌≤◌, List, [], ◌++◌, map, All}
+use Rattle.std.specs.Prelude.{◌≡◌, ℕ, ◌<◌, ◌≤◌, List, [], ◌++◌, map, All, AllPairs}
 use Rattle.frac_core.specs.Fraction.{Fraction, IsLowest}
 use Rattle.problem_core.specs.declared.parts.Stay.{Stay}
-use Rattle.problem_core.specs.Layout.{Row, Problem, Assignment, IsBest, Gives}
+use Rattle.problem_core.specs.declared.parts.Mark.{Mark}
+use Rattle.problem_core.specs.Layout.{Row, Problem, Assignment, IsBest, Gives, StandAt}
 use Rattle.problem_core.specs.Window.{zero_fraction}
+use Rattle.problem_core.specs.Corners.{Point, StandsAt, assignment_at, attr_column}
 use Rattle.tableau.specs.Tables.{Table, column_of}
+use Rattle.tableau.specs.Exchanges.{HasValue}
 use Rattle.level_rows.specs.Costs.{Cost}
 use Rattle.corner_costs.specs.Corners.{AreCostsAt, NoNegativeValue, IsEnd}
 
@@ -31,9 +34,18 @@ pub record HasNoRow (t : Table) : Type 0 where
   pub rows : t.problem.rows ≡ []
   pub marks : All (λ w. 17179869184 ≤ column_of w.what) t.written
 
+-- the values are those of the tableau's corner
+abbrev pub AreValuesOf : Table → List (ℕ × Fraction) → Type 0
+AreValuesOf t values = All (λ v. HasValue t (attr_column v.0) v.1) values
+
+-- the stays come by number of their attributes
+abbrev pub AreRisingStays : List Stay → Type 0
+AreRisingStays stays = AllPairs (λ s t. s.attr < t.attr) stays
+
 -- what an engine keeps: the best values of its problem, and an end at which they stand
 pub record IsKept (p : Problem) (pairs : List (ℕ × Fraction)) (t : Table) (levels : List Cost) : Type 0 where
   pub best : AreBest p pairs
+  pub corner : AreValuesOf t pairs
   pub problem : t.problem ≡ p
   pub costs : AreCostsAt t levels
   pub values : NoNegativeValue t
@@ -48,3 +60,13 @@ with_added old attrs rows = record { rows = old.problem.rows ++ rows; stays = st
 -- with other rows
 abbrev pub with_rows : Layout → List Row → Problem
 with_rows old rows = record { rows = rows; stays = stays_at old.values }
+
+-- ---- the ends of paths
+
+-- at the corner the attributes have these values
+abbrev pub GivesAt : Problem → List Mark → List (ℕ × Fraction) → Type 0
+GivesAt p corner values = (x : Point) × StandsAt p corner x × Gives values (assignment_at x)
+
+-- at the corner the attributes have the targets of their stays
+abbrev pub StandsAtStays : Problem → List Mark → Type 0
+StandsAtStays p corner = (x : Point) × StandsAt p corner x × StandAt (assignment_at x) p.stays

@@ -1,2 +1,4 @@
 pub mod Layouts
+pub mod Starts
 pub mod Stops
+pub mod StartStops

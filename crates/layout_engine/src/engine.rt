@@ -1,9 +1,11 @@
 // The engine.
-ghost use Rattle.std.specs.Prelude.{◌≡◌, ◌≢◌, ◌≤◌, [], length, All, IfOk, IfErr, IfSome, IfNone, OnErr};
+ghost use Rattle.std.specs.Prelude.{◌≡◌, ◌≢◌, ◌≤◌, ◌++◌, [], length, All, IfOk, IfErr, IfSome, IfNone, OnErr};
 ghost use Rattle.problem_core.specs.Gaps.{value_of};
-ghost use Rattle.problem_core.specs.Kept.{IsWhole};
+ghost use Rattle.problem_core.specs.Kept.{IsWhole, AreRising};
 ghost use Rattle.corner_costs.specs.Corners.{AreCostsAt, NoNegativeValue};
-ghost use Rattle.layout_engine.specs.Stops.{IsStopOf};
+ghost use Rattle.add_phase.specs.Steps.{last_marks};
+ghost use Rattle.layout_engine.specs.Starts.{IsStanding};
+ghost use Rattle.layout_engine.specs.Stops.{IsLawful, IsStopOf};
 
 use crate::problems::{added, renewed};
 use crate::reading::best_values;
@@ -44,7 +46,7 @@ struct Settled {
     values: Values,
 }
 
-ghost use Rattle.layout_engine.specs.Layouts.{AreBest, IsKept, with_added, with_rows};
+ghost use Rattle.layout_engine.specs.Layouts.{AreBest, AreRisingStays, GivesAt, IsKept, StandsAtStays, with_added, with_rows, zeros};
 
 /// Runs from the corner to the best one.
 fn run_to_best(
@@ -57,19 +59,26 @@ fn run_to_best(
     requires problem { t.old.problem ≡ p.now }
     requires costs { AreCostsAt t.old l.old }
     requires values { NoNegativeValue t.old }
+    requires standing { IsStanding t.old }
+    requires rising { AreRisingStays p.now.stays }
     ensures kept { IfOk result (λ end. IsKept p.now end.values t.new l.new) }
+    ensures path { IfOk result (λ end. IsLawful p.now end.path) }
+    ensures first { IfOk result (λ end. StandsAtStays p.now end.path.corner) }
+    ensures last { IfOk result (λ end. GivesAt p.now (last_marks end.path.corner end.path.swaps) end.values) }
     ensures few { IfOk result (λ end. length end.path.swaps ≤ budget) }
     ensures stop { IfErr result (IsStopOf p.now budget) }
 {
     p.show_whole();
+    t.show_table();
+    l.show_levels();
     let path = match settle(alloc, t, l, p, budget) {
         Ok(path) => path,
         Err(stop) => return Err(stop),
     };
-    match best_values(alloc, t, l, p) {
-        Ok(values) => Ok(Settled { path, values }),
-        Err(stop) => Err(stop),
-    }
+    t.show_table();
+    l.show_levels();
+    let values = best_values(alloc, t, l, p)?;
+    Ok(Settled { path, values })
 }
 
 /// The problem of no attribute and no row.
@@ -118,11 +127,14 @@ impl Engine {
     /// corner that was kept, with the mark of each new row that is not negative.
     ///
     /// `Conflict`: the required rows have no solution, as the multipliers show. `Unfit`: a quantity does not fit at the last corner
-    /// of the path. `Spent`: the path has as many exchanges as the budget. `Unshown`: what the run led to was not
-    /// shown to be right. After each of them the engine is as before.
+    /// of the path. `Spent`: the path has as many exchanges as the budget. After each of them the engine is as before.
     pub fn add(&mut self, attrs: &[u32], rows: &[Row], budget: u64) -> Result<Path, RunStop>
         requires whole { IsWhole (with_added self.old attrs.now rows.now) }
+        requires rising { AreRising (self.old.values ++ zeros attrs.now) }
         ensures done { IfOk result (λ _. self.new.problem ≡ with_added self.old attrs.now rows.now) }
+        ensures path { IfOk result (IsLawful (with_added self.old attrs.now rows.now)) }
+        ensures first { IfOk result (λ path. StandsAtStays (with_added self.old attrs.now rows.now) path.corner) }
+        ensures last { IfOk result (λ path. GivesAt (with_added self.old attrs.now rows.now) (last_marks path.corner path.swaps) self.new.values) }
         ensures few { IfOk result (λ path. length path.swaps ≤ budget) }
         ensures stop { IfErr result (IsStopOf (with_added self.old attrs.now rows.now) budget) }
         ensures same { OnErr result (self.new ≡ self.old) }
@@ -132,7 +144,7 @@ impl Engine {
         let problem = added(alloc, held, values, attrs, rows)?;
         let (mut table, mut levels) = (self.table.copy()?, self.levels.copy()?);
         if let Err(stop) = extend(alloc, &mut table, &mut levels, &problem, attrs, rows) {
-            return Err(run_stop(stop));
+            return Err(run_stop(alloc, stop));
         }
         match run_to_best(alloc, &mut table, &mut levels, &problem, budget) {
             Ok(end) => {
@@ -153,15 +165,19 @@ impl Engine {
     pub fn renew(&mut self, rows: &[Row], budget: u64) -> Result<Path, RunStop>
         requires whole { IsWhole (with_rows self.old rows.now) }
         ensures done { IfOk result (λ _. self.new.problem ≡ with_rows self.old rows.now) }
+        ensures path { IfOk result (IsLawful (with_rows self.old rows.now)) }
+        ensures first { IfOk result (λ path. StandsAtStays (with_rows self.old rows.now) path.corner) }
+        ensures last { IfOk result (λ path. GivesAt (with_rows self.old rows.now) (last_marks path.corner path.swaps) self.new.values) }
         ensures few { IfOk result (λ path. length path.swaps ≤ budget) }
         ensures stop { IfErr result (IsStopOf (with_rows self.old rows.now) budget) }
         ensures same { OnErr result (self.new ≡ self.old) }
     {
         let alloc = self.alloc;
+        self.values.show_rising();
         let problem = renewed(alloc, self.values.pairs(), rows)?;
         let (mut table, mut levels) = (Tableau::new(alloc), Levels::new(alloc)?);
         if let Err(stop) = begin(alloc, &mut table, &mut levels, &problem) {
-            return Err(run_stop(stop));
+            return Err(run_stop(alloc, stop));
         }
         match run_to_best(alloc, &mut table, &mut levels, &problem, budget) {
             Ok(end) => {

@@ -1,14 +1,12 @@
 // The values at a corner.
-ghost use Rattle.std.specs.Prelude.{◌≡◌, ◌<◌, ◌++◌, ◌∷◌, [], ℕ, map, All, IfOk, IfErr, IfSome, IsTrue};
+ghost use Rattle.std.specs.Prelude.{◌≡◌, ◌++◌, ◌∷◌, [], map, All, IfOk};
 ghost use Rattle.frac_core.specs.Fraction.{IsKept};
-ghost use Rattle.problem_core.specs.Kept.{AreRising};
 ghost use Rattle.problem_core.specs.Corners.{attr_column};
 ghost use Rattle.tableau.specs.Exchanges.{HasValue};
+ghost use Rattle.tableau.specs.Tables.{HasColumn};
 ghost use Rattle.corner_costs.specs.Corners.{AreCostsAt, NoNegativeValue, IsEnd};
-ghost use Rattle.layout_engine.specs.Layouts.{AreBest};
-ghost use Rattle.layout_engine.specs.Stops.{IsStopOf};
+ghost use Rattle.layout_engine.specs.Layouts.{AreBest, AreValuesOf, AreRisingStays};
 
-use cert_core::RunStop;
 use corner_costs::end_is_best;
 use frac_core::{Frac, OutOfMemory};
 use level_rows::Levels;
@@ -18,17 +16,15 @@ use std::slice;
 use tableau::Tableau;
 
 /// The attribute with its value.
-fn pair_at(t: &Tableau, attr: u32) -> Option<(u32, Frac)>
-    ensures attr { IfSome result (λ v. v.0 ≡ attr) }
-    ensures kept { IfSome result (λ v. IsKept v.1) }
-    ensures value { IfSome result (λ v. HasValue t.now (attr_column v.0) v.1) }
+fn pair_at(t: &Tableau, attr: u32) -> (u32, Frac)
+    requires { HasColumn t.now.written (attr_column attr) }
+    ensures attr { result.0 ≡ attr }
+    ensures kept { IsKept result.1 }
+    ensures value { HasValue t.now (attr_column result.0) result.1 }
 {
-    if !t.has_attr(attr) {
-        return None;
-    }
     let value = t.attr_value(attr);
     let _ = value.num();
-    Some((attr, value))
+    (attr, value)
 }
 
 fn push_pair(out: &mut Vec<(u32, Frac)>, pair: (u32, Frac)) -> Result<(), OutOfMemory>
@@ -37,62 +33,30 @@ fn push_pair(out: &mut Vec<(u32, Frac)>, pair: (u32, Frac)) -> Result<(), OutOfM
     Ok(out.extend_from_slice(slice::from_ref(&pair))?)
 }
 
-/// The values of the stays' attributes, if the tableau has them.
-fn values_at(
-    alloc: Global,
-    t: &Tableau,
-    stays: &[Stay],
-) -> Result<Option<Vec<(u32, Frac)>>, OutOfMemory>
-    ensures attributes { IfOk result (λ found. IfSome found (λ values. map (λ v. v.0) values.items ≡ map (λ s. s.attr) stays.now)) }
-    ensures kept { IfOk result (λ found. IfSome found (λ values. All (λ v. IsKept v.1) values.items)) }
-    ensures values { IfOk result (λ found. IfSome found (λ values. All (λ v. HasValue t.now (attr_column v.0) v.1) values.items)) }
+/// The values of the stays' attributes.
+fn values_at(alloc: Global, t: &Tableau, stays: &[Stay]) -> Result<Vec<(u32, Frac)>, OutOfMemory>
+    requires { All (λ s. HasColumn t.now.written (attr_column s.attr)) stays.now }
+    ensures attributes { IfOk result (λ values. map (λ v. v.0) values.items ≡ map (λ s. s.attr) stays.now) }
+    ensures kept { IfOk result (λ values. All (λ v. IsKept v.1) values.items) }
+    ensures values { IfOk result (λ values. All (λ v. HasValue t.now (attr_column v.0) v.1) values.items) }
 {
     let mut pairs = Vec::new(alloc);
     for stay in stays {
-        let Some(pair) = pair_at(t, stay.attr) else {
-            return Ok(None);
-        };
-        push_pair(&mut pairs, pair)?;
+        push_pair(&mut pairs, pair_at(t, stay.attr))?;
     }
-    Ok(Some(pairs))
+    Ok(pairs)
 }
 
-fn pair_place(pair: &(u32, Frac)) -> u64
-    ensures value { result ≡ pair.now.0 }
-    ensures small { result < 4294967296 }
-{
-    u64::from(pair.0)
-}
-
-/// Whether the attributes of the values rise.
-fn values_rise(values: &[(u32, Frac)]) -> bool
-    ensures { IsTrue result → AreRising values.now }
-{
-    let mut next: u64 = 0;
-    for pair in values {
-        let place = pair_place(pair);
-        if place < next {
-            return false;
-        }
-        next = place + 1;
-    }
-    true
-}
-
-/// The values of the tableau's corner, if all have one.
-fn corner_values(alloc: Global, t: &Tableau, p: &Problem) -> Result<Values, RunStop>
+/// The values of the tableau's corner.
+fn corner_values(alloc: Global, t: &Tableau, p: &Problem) -> Result<Values, OutOfMemory>
+    requires written { All (λ s. HasColumn t.now.written (attr_column s.attr)) p.now.stays }
+    requires rising { AreRisingStays p.now.stays }
     ensures attributes { IfOk result (λ values. map (λ v. v.0) values ≡ map (λ s. s.attr) p.now.stays) }
     ensures kept { IfOk result (All (λ v. IsKept v.1)) }
     ensures values { IfOk result (All (λ v. HasValue t.now (attr_column v.0) v.1)) }
-    ensures stop { IfErr result (λ stop. (budget : ℕ) → IsStopOf p.now budget stop) }
 {
-    let Some(pairs) = values_at(alloc, t, p.stays())? else {
-        return Err(RunStop::Unshown);
-    };
-    if !values_rise(&pairs) {
-        return Err(RunStop::Unshown);
-    }
-    Ok(Values::of(alloc, &pairs)?)
+    let pairs = values_at(alloc, t, p.stays())?;
+    Values::of(alloc, &pairs)
 }
 
 /// The values of the tableau's corner, which is an end.
@@ -101,13 +65,14 @@ pub(crate) fn best_values(
     t: &Tableau,
     l: &Levels,
     p: &Problem,
-) -> Result<Values, RunStop>
+) -> Result<Values, OutOfMemory>
     requires problem { t.now.problem ≡ p.now }
     requires costs { AreCostsAt t.now l.now }
     requires values { NoNegativeValue t.now }
     requires end { IsEnd l.now }
+    requires rising { AreRisingStays p.now.stays }
     ensures best { IfOk result (AreBest p.now) }
-    ensures stop { IfErr result (λ stop. (budget : ℕ) → IsStopOf p.now budget stop) }
+    ensures values { IfOk result (AreValuesOf t.now) }
 {
     t.show_table();
     l.show_levels();

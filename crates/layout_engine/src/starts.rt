@@ -1,79 +1,96 @@
 // The corner from which a run starts.
-ghost use Rattle.std.specs.Prelude.{◌≡◌, ℕ, ◌++◌, ◌∷◌, [], true, IfOk};
+ghost use Rattle.std.specs.Prelude.{◌≡◌, ℕ, List, ◌++◌, ◌∷◌, [], IfOk, IfErr};
+ghost use Rattle.problem_core.specs.declared.parts.Mark as mark;
+ghost use Rattle.problem_core.specs.declared.stops.Quantity as quantity;
+ghost use Rattle.problem_core.specs.declared.stops.TableStop.TheVariants.{UnfitAt, OutOfMemory as NoMemory};
 ghost use Rattle.problem_core.specs.Layout as layout;
+ghost use Rattle.problem_core.specs.Window.{zero_fraction};
 ghost use Rattle.corner_costs.specs.Corners.{AreCostsAt, NoNegativeValue};
-ghost use Rattle.layout_engine.specs.Layouts.{HasNoRow};
-ghost use Rattle.layout_engine.specs.Stops.{IsStopOf};
+ghost use Rattle.layout_engine.specs.Layouts.{HasNoRow, stays_at, zeros};
+ghost use Rattle.add_phase.specs.InsideMarks.{IsCornerWith};
+ghost use Rattle.layout_engine.specs.Starts.{AreStays, CanJoin, IsExtended, IsStanding, with_more};
+ghost use Rattle.layout_engine.specs.StartStops.{IsStartStop, StopsAt};
+ghost use Rattle.layout_engine.specs.Stops.{IsStopOf, IsUnfitStart};
 
+use add_phase::corner_with;
 use cert_core::{Path, RunStop, UnfitPath};
 use corner_costs::{add_attr, add_row, shift, stand};
-use frac_core::{Frac, OutOfMemory};
+use frac_core::OutOfMemory;
 use level_rows::Levels;
-use problem_core::{Mark, Problem, Quantity, Row, RowName, Side, Stay, TableStop};
+use problem_core::{Level, Mark, Problem, Quantity, Row, RowName, Stay, TableStop};
 use std::alloc::Global;
 use tableau::Tableau;
+
+/// A corner, and a quantity that does not fit there.
+#[derive(Debug, Drop)]
+pub(crate) struct UnfitStart {
+    corner: Vec<Mark>,
+    quantity: Quantity,
+}
 
 /// What stops the making of a run's first corner.
 #[derive(Debug, Drop)]
 pub(crate) enum StartStop {
     /// A new row, or the sum of its level with it, does not fit at this corner.
-    Unfit(UnfitPath),
-    /// A call is not possible.
-    Unshown,
+    Unfit(UnfitStart),
     OutOfMemory,
 }
 
-impl From<OutOfMemory> for StartStop {
-    ghost use Rattle.layout_engine.specs.declared.starts.StartStop.TheVariants.{OutOfMemory};
-
-    ghost from_gives = { λ _ stop. stop ≡ OutOfMemory };
-
-    fn from(_: OutOfMemory) -> StartStop {
-        StartStop::OutOfMemory
+/// The stop of the run, whose path makes no exchange.
+pub(crate) fn run_stop(alloc: Global, stop: StartStop) -> RunStop
+    ensures { (p : layout.Problem) (budget : ℕ) → IsStartStop p stop → IsStopOf p budget result }
+{
+    let UnfitStart { corner, quantity } = match stop {
+        StartStop::Unfit(start) => start,
+        StartStop::OutOfMemory => return RunStop::OutOfMemory,
+    };
+    match Path::of(alloc, false, &corner, &[]) {
+        Ok(path) => RunStop::Unfit(UnfitPath { path, quantity }),
+        Err(_) => RunStop::OutOfMemory,
     }
 }
 
-/// The stop of the run.
-pub(crate) fn run_stop(stop: StartStop) -> RunStop
-    ensures { (p : layout.Problem) (budget : ℕ) → IsStopOf p budget result }
+/// Want of memory, by which alone the call stops.
+fn memory_stop(stop: TableStop) -> OutOfMemory
+    requires { stop ≡ NoMemory }
 {
     match stop {
-        StartStop::Unfit(at) => RunStop::Unfit(at),
-        StartStop::Unshown => RunStop::Unshown,
-        StartStop::OutOfMemory => RunStop::OutOfMemory,
-    }
-}
-
-/// What a stop means where no new row joins.
-fn quiet_stop(stop: TableStop) -> StartStop {
-    match stop {
-        TableStop::UnfitAt(_) => StartStop::Unshown,
-        TableStop::OutOfMemory => StartStop::OutOfMemory,
+        TableStop::OutOfMemory => OutOfMemory,
+        TableStop::UnfitAt(_) => {
+            prove!(false);
+            OutOfMemory
+        }
     }
 }
 
 /// Adds an attribute at 0.
-fn add_one(t: &mut Tableau, l: &mut Levels, attr: u32) -> Result<(), StartStop>
+fn add_one(t: &mut Tableau, l: &mut Levels, attr: u32) -> Result<(), OutOfMemory>
+    requires joins { CanJoin t.old.problem.stays (record { attr = attr; target = zero_fraction }) }
     requires costs { AreCostsAt t.old l.old }
     requires values { NoNegativeValue t.old }
+    requires standing { IsStanding t.old }
     ensures costs { IfOk result (λ _. AreCostsAt t.new l.new) }
     ensures values { IfOk result (λ _. NoNegativeValue t.new) }
+    ensures standing { IfOk result (λ _. IsStanding t.new) }
     ensures rows { IfOk result (λ _. t.new.problem.rows ≡ t.old.problem.rows) }
-    ensures none { IfOk result (λ _. HasNoRow t.old → HasNoRow t.new) }
+    ensures stays { IfOk result (λ _. t.new.problem.stays ≡ t.old.problem.stays ++ record { attr = attr; target = zero_fraction } ∷ []) }
 {
-    if !t.can_add_attr(attr) {
-        return Err(StartStop::Unshown);
-    }
-    Ok(add_attr(t, l, attr)?)
+    t.show_table();
+    add_attr(t, l, attr)?;
+    Ok(())
 }
 
 /// Adds attributes at 0.
-fn add_attrs(t: &mut Tableau, l: &mut Levels, attrs: &[u32]) -> Result<(), StartStop>
+fn add_attrs(t: &mut Tableau, l: &mut Levels, attrs: &[u32]) -> Result<(), OutOfMemory>
+    requires stays { AreStays (t.old.problem.stays ++ stays_at (zeros attrs.now)) }
     requires costs { AreCostsAt t.old l.old }
     requires values { NoNegativeValue t.old }
+    requires standing { IsStanding t.old }
     ensures costs { IfOk result (λ _. AreCostsAt t.new l.new) }
     ensures values { IfOk result (λ _. NoNegativeValue t.new) }
+    ensures standing { IfOk result (λ _. IsStanding t.new) }
     ensures rows { IfOk result (λ _. t.new.problem.rows ≡ t.old.problem.rows) }
+    ensures stays { IfOk result (λ _. t.new.problem.stays ≡ t.old.problem.stays ++ stays_at (zeros attrs.now)) }
 {
     for attr in attrs {
         if let Err(stop) = add_one(t, l, *attr) {
@@ -83,42 +100,37 @@ fn add_attrs(t: &mut Tableau, l: &mut Levels, attrs: &[u32]) -> Result<(), Start
     Ok(())
 }
 
-/// Changes the target of a stay where there is no row.
-fn move_stay(t: &mut Tableau, l: &mut Levels, stay: Stay) -> Result<(), StartStop>
-    requires costs { AreCostsAt t.old l.old }
-    requires none { HasNoRow t.old }
-    ensures costs { IfOk result (λ _. AreCostsAt t.new l.new) }
-    ensures none { IfOk result (λ _. HasNoRow t.new) }
-{
-    let row = RowName::Stay(stay.attr);
-    if !t.can_shift(row, stay.target) {
-        return Err(StartStop::Unshown);
-    }
-    match shift(t, l, row, stay.target) {
-        Ok(()) => Ok(()),
-        Err(stop) => Err(quiet_stop(stop)),
-    }
-}
-
 /// Adds an attribute at the target of its stay where there is no row.
-fn add_at(t: &mut Tableau, l: &mut Levels, stay: Stay) -> Result<(), StartStop>
+fn add_at(t: &mut Tableau, l: &mut Levels, stay: Stay) -> Result<(), OutOfMemory>
+    requires joins { CanJoin t.old.problem.stays stay }
     requires costs { AreCostsAt t.old l.old }
     requires none { HasNoRow t.old }
+    requires standing { IsStanding t.old }
     ensures costs { IfOk result (λ _. AreCostsAt t.new l.new) }
     ensures none { IfOk result (λ _. HasNoRow t.new) }
+    ensures standing { IfOk result (λ _. IsStanding t.new) }
+    ensures stays { IfOk result (λ _. t.new.problem.stays ≡ t.old.problem.stays ++ stay ∷ []) }
 {
-    if let Err(stop) = add_one(t, l, stay.attr) {
-        return Err(stop);
+    t.show_table();
+    add_attr(t, l, stay.attr)?;
+    t.show_table();
+    l.show_levels();
+    match shift(t, l, RowName::Stay(stay.attr), stay.target) {
+        Ok(()) => Ok(()),
+        Err(stop) => Err(memory_stop(stop)),
     }
-    move_stay(t, l, stay)
 }
 
 /// Adds attributes at the targets of their stays where there is no row.
-fn add_stays(t: &mut Tableau, l: &mut Levels, stays: &[Stay]) -> Result<(), StartStop>
+fn add_stays(t: &mut Tableau, l: &mut Levels, stays: &[Stay]) -> Result<(), OutOfMemory>
+    requires stays { AreStays (t.old.problem.stays ++ stays.now) }
     requires costs { AreCostsAt t.old l.old }
     requires none { HasNoRow t.old }
+    requires standing { IsStanding t.old }
     ensures costs { IfOk result (λ _. AreCostsAt t.new l.new) }
     ensures none { IfOk result (λ _. HasNoRow t.new) }
+    ensures standing { IfOk result (λ _. IsStanding t.new) }
+    ensures stays { IfOk result (λ _. t.new.problem.stays ≡ t.old.problem.stays ++ stays.now) }
 {
     for stay in stays {
         if let Err(stop) = add_at(t, l, *stay) {
@@ -128,50 +140,51 @@ fn add_stays(t: &mut Tableau, l: &mut Levels, stays: &[Stay]) -> Result<(), Star
     Ok(())
 }
 
-/// The mark of a row where rows of numbers from `first` on are over.
-fn start_mark(t: &Tableau, row: RowName, is_over: bool) -> Option<Mark> {
-    let over = Mark {
-        row,
-        side: Side::Over,
-    };
-    let under = Mark {
-        row,
-        side: Side::Under,
-    };
-    if is_over || t.is_inside(over) {
-        return Some(over);
-    }
-    if t.is_inside(under) {
-        Some(under)
-    } else {
-        None
-    }
-}
-
-/// The corner at which the rows of numbers from `first` on are over.
-fn start(alloc: Global, t: &Tableau, p: &Problem, first: u32) -> Result<Vec<Mark>, OutOfMemory> {
-    let mut corner = Vec::new(alloc);
-    for row in p.rows() {
-        if let Some(m) = start_mark(t, RowName::Held(row.id()), row.id() >= first) {
-            corner.push(m)?;
-        }
-    }
-    for stay in p.stays() {
-        if let Some(m) = start_mark(t, RowName::Stay(stay.attr), false) {
-            corner.push(m)?;
-        }
-    }
-    Ok(corner)
-}
-
-/// The stop where a quantity does not fit at the corner at which the rows of numbers from `first` on are over.
-fn unfit(alloc: Global, t: &Tableau, p: &Problem, first: u32, quantity: Quantity) -> StartStop {
-    let Ok(corner) = start(alloc, t, p, first) else {
-        return StartStop::OutOfMemory;
-    };
-    match Path::of(alloc, false, &corner, &[]) {
-        Ok(path) => StartStop::Unfit(UnfitPath { path, quantity }),
+/// The stop where a quantity does not fit at the corner at which the rows `new` are over, which have yet to join.
+fn unfit(alloc: Global, t: &Tableau, p: &Problem, new: &[Row], quantity: Quantity) -> StartStop
+    requires problem { p.now ≡ with_more t.now.problem new.now }
+    requires unfit { (corner : List mark.Mark) → IsCornerWith t.now new.now corner → IsUnfitStart p.now corner quantity }
+    ensures { IsStartStop p.now result }
+{
+    p.show_whole();
+    t.show_table();
+    match corner_with(alloc, t, p, new) {
+        Ok(corner) => StartStop::Unfit(UnfitStart { corner, quantity }),
         Err(_) => StartStop::OutOfMemory,
+    }
+}
+
+/// The stop of a row that has yet to join, the first of the rows `new`, where the tableau names what does not fit.
+fn terms_stop(alloc: Global, t: &Tableau, p: &Problem, new: &[Row], stop: TableStop) -> StartStop
+    requires problem { p.now ≡ with_more t.now.problem new.now }
+    requires unfit { (q : quantity.Quantity) → stop ≡ UnfitAt q → (corner : List mark.Mark) → IsCornerWith t.now new.now corner → IsUnfitStart p.now corner q }
+    ensures { IsStartStop p.now result }
+{
+    match stop {
+        TableStop::UnfitAt(named) => unfit(alloc, t, p, new, named),
+        TableStop::OutOfMemory => StartStop::OutOfMemory,
+    }
+}
+
+/// Adds the first of the rows `new` to the tableau alone; `rest` are the rows after it.
+fn join_table(
+    alloc: Global,
+    t: &mut Tableau,
+    p: &Problem,
+    row: &Row,
+    new: &[Row],
+    rest: &[Row],
+) -> Result<(), StartStop>
+    requires new { new.now ≡ row.now ∷ rest.now }
+    requires problem { p.now ≡ with_more t.old.problem (row.now ∷ rest.now) }
+    ensures problem { IfOk result (λ _. t.new.problem ≡ with_more t.old.problem (row.now ∷ [])) }
+    ensures stop { IfErr result (IsStartStop p.now) }
+{
+    p.show_whole();
+    t.show_table();
+    match t.add_row(row) {
+        Ok(()) => Ok(()),
+        Err(stop) => Err(terms_stop(alloc, t, p, new, stop)),
     }
 }
 
@@ -181,60 +194,88 @@ fn unfit_sum(
     t: &mut Tableau,
     p: &Problem,
     rest: &[Row],
-    quantity: Quantity,
-) -> StartStop {
-    for row in rest {
-        if !t.can_add_row(row) {
-            return StartStop::Unshown;
-        }
-        match t.add_row(row) {
-            Ok(()) => {}
-            Err(TableStop::UnfitAt(terms)) => return unfit(alloc, t, p, row.id(), terms),
-            Err(TableStop::OutOfMemory) => return StartStop::OutOfMemory,
+    level: Level,
+    first: u32,
+) -> StartStop
+    requires { p.now ≡ with_more t.old.problem rest.now }
+    ensures { IsStartStop p.now result }
+{
+    for i in 0..rest.len() {
+        if let Err(stop) = join_table(alloc, t, p, &rest[i], &rest[i..], &rest[i + 1..]) {
+            return stop;
         }
     }
-    unfit(alloc, t, p, u32::MAX, quantity)
+    unfit(alloc, t, p, &[], Quantity::Rows { level, first })
 }
 
-/// The stop where the row of this number, or the sum of its level with it, does not fit.
+/// The stop where the first of the rows `new`, or the sum of its level with it, does not fit.
+fn named_stop(
+    alloc: Global,
+    t: &mut Tableau,
+    p: &Problem,
+    new: &[Row],
+    rest: &[Row],
+    named: Quantity,
+) -> StartStop
+    requires { StopsAt t.old new.now rest.now p.now named }
+    ensures { IsStartStop p.now result }
+{
+    match named {
+        Quantity::Rows { level, first } => unfit_sum(alloc, t, p, rest, level, first),
+        Quantity::Terms { mark, first } => {
+            unfit(alloc, t, p, new, Quantity::Terms { mark, first })
+        }
+        _ => {
+            prove!(false);
+            StartStop::OutOfMemory
+        }
+    }
+}
+
+/// The stop of the first of the rows `new`.
 fn joining_stop(
     alloc: Global,
     t: &mut Tableau,
     p: &Problem,
-    id: u32,
+    new: &[Row],
     rest: &[Row],
     stop: TableStop,
-) -> StartStop {
+) -> StartStop
+    requires { (q : quantity.Quantity) → stop ≡ UnfitAt q → StopsAt t.old new.now rest.now p.now q }
+    ensures { IsStartStop p.now result }
+{
     match stop {
-        TableStop::UnfitAt(Quantity::Rows { level, first }) => {
-            unfit_sum(alloc, t, p, rest, Quantity::Rows { level, first })
-        }
-        TableStop::UnfitAt(quantity) => unfit(alloc, t, p, id, quantity),
+        TableStop::UnfitAt(named) => named_stop(alloc, t, p, new, rest, named),
         TableStop::OutOfMemory => StartStop::OutOfMemory,
     }
 }
 
-/// Adds a row, with its mark that is not negative; `rest` are the rows after it.
+/// Adds the first of the rows `new`, with its mark that is not negative; `rest` are the rows after it.
 fn join(
     alloc: Global,
     t: &mut Tableau,
     l: &mut Levels,
     p: &Problem,
     row: &Row,
+    new: &[Row],
     rest: &[Row],
 ) -> Result<(), StartStop>
+    requires new { new.now ≡ row.now ∷ rest.now }
+    requires problem { p.now ≡ with_more t.old.problem (row.now ∷ rest.now) }
     requires costs { AreCostsAt t.old l.old }
     requires values { NoNegativeValue t.old }
+    requires standing { IsStanding t.old }
     ensures costs { IfOk result (λ _. AreCostsAt t.new l.new) }
     ensures values { IfOk result (λ _. NoNegativeValue t.new) }
-    ensures rows { IfOk result (λ _. t.new.problem.rows ≡ t.old.problem.rows ++ row.now ∷ []) }
+    ensures standing { IfOk result (λ _. IsStanding t.new) }
+    ensures problem { IfOk result (λ _. t.new.problem ≡ with_more t.old.problem (row.now ∷ [])) }
+    ensures stop { IfErr result (IsStartStop p.now) }
 {
-    if !t.can_add_row(row) {
-        return Err(StartStop::Unshown);
-    }
+    p.show_whole();
+    t.show_table();
     match add_row(t, l, row) {
         Ok(()) => Ok(()),
-        Err(stop) => Err(joining_stop(alloc, t, p, row.id(), rest, stop)),
+        Err(stop) => Err(joining_stop(alloc, t, p, new, rest, stop)),
     }
 }
 
@@ -246,40 +287,22 @@ fn add_rows(
     p: &Problem,
     rows: &[Row],
 ) -> Result<(), StartStop>
+    requires problem { p.now ≡ with_more t.old.problem rows.now }
     requires costs { AreCostsAt t.old l.old }
     requires values { NoNegativeValue t.old }
+    requires standing { IsStanding t.old }
     ensures costs { IfOk result (λ _. AreCostsAt t.new l.new) }
     ensures values { IfOk result (λ _. NoNegativeValue t.new) }
-    ensures rows { IfOk result (λ _. t.new.problem.rows ≡ t.old.problem.rows ++ rows.now) }
+    ensures standing { IfOk result (λ _. IsStanding t.new) }
+    ensures problem { IfOk result (λ _. t.new.problem ≡ p.now) }
+    ensures stop { IfErr result (IsStartStop p.now) }
 {
     for i in 0..rows.len() {
-        if let Err(stop) = join(alloc, t, l, p, &rows[i], &rows[i + 1..]) {
+        if let Err(stop) = join(alloc, t, l, p, &rows[i], &rows[i..], &rows[i + 1..]) {
             return Err(stop);
         }
     }
     Ok(())
-}
-
-/// Whether the stays are equal.
-fn is_same(a: &Stay, b: &Stay) -> bool
-    ensures { result ≡ true → a.now ≡ b.now }
-{
-    a.attr == b.attr && a.target == b.target
-}
-
-/// Whether two lists have equal stays.
-fn are_same(a: &[Stay], b: &[Stay]) -> bool
-    ensures { result ≡ true → a.now ≡ b.now }
-{
-    if a.len() != b.len() {
-        return false;
-    }
-    for place in 0..a.len() {
-        if !is_same(&a[place], &b[place]) {
-            return false;
-        }
-    }
-    true
 }
 
 /// Goes on from the kept corner to that with the stays at the attributes' values, and with these attributes and rows, whose problem is `p`.
@@ -291,27 +314,25 @@ pub(crate) fn extend(
     attrs: &[u32],
     rows: &[Row],
 ) -> Result<(), StartStop>
+    requires extended { IsExtended t.old attrs.now rows.now p.now }
     requires costs { AreCostsAt t.old l.old }
     requires values { NoNegativeValue t.old }
-    requires rows { p.now.rows ≡ t.old.problem.rows ++ rows.now }
     ensures costs { IfOk result (λ _. AreCostsAt t.new l.new) }
     ensures values { IfOk result (λ _. NoNegativeValue t.new) }
+    ensures standing { IfOk result (λ _. IsStanding t.new) }
     ensures problem { IfOk result (λ _. t.new.problem ≡ p.now) }
+    ensures stop { IfErr result (IsStartStop p.now) }
 {
+    p.show_whole();
+    t.show_table();
     if let Err(stop) = stand(t, l) {
-        return Err(quiet_stop(stop));
+        let _ = memory_stop(stop);
+        return Err(StartStop::OutOfMemory);
     }
-    if let Err(stop) = add_attrs(t, l, attrs) {
-        return Err(stop);
+    if let Err(_) = add_attrs(t, l, attrs) {
+        return Err(StartStop::OutOfMemory);
     }
-    if let Err(stop) = add_rows(alloc, t, l, p, rows) {
-        return Err(stop);
-    }
-    if are_same(t.stays(), p.stays()) {
-        Ok(())
-    } else {
-        Err(StartStop::Unshown)
-    }
+    add_rows(alloc, t, l, p, rows)
 }
 
 /// Goes from nothing to the corner of the problem `p` at which all attributes start at the targets of their stays.
@@ -323,19 +344,16 @@ pub(crate) fn begin(
 ) -> Result<(), StartStop>
     requires costs { AreCostsAt t.old l.old }
     requires none { HasNoRow t.old }
+    requires empty { t.old.problem.stays ≡ [] }
     ensures costs { IfOk result (λ _. AreCostsAt t.new l.new) }
     ensures values { IfOk result (λ _. NoNegativeValue t.new) }
+    ensures standing { IfOk result (λ _. IsStanding t.new) }
     ensures problem { IfOk result (λ _. t.new.problem ≡ p.now) }
+    ensures stop { IfErr result (IsStartStop p.now) }
 {
-    if let Err(stop) = add_stays(t, l, p.stays()) {
-        return Err(stop);
+    p.show_whole();
+    if let Err(_) = add_stays(t, l, p.stays()) {
+        return Err(StartStop::OutOfMemory);
     }
-    if let Err(stop) = add_rows(alloc, t, l, p, p.rows()) {
-        return Err(stop);
-    }
-    if are_same(t.stays(), p.stays()) {
-        Ok(())
-    } else {
-        Err(StartStop::Unshown)
-    }
+    add_rows(alloc, t, l, p, p.rows())
 }

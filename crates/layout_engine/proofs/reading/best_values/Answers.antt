@@ -5,7 +5,11 @@ use Rattle.tableau.specs.Exchanges.{HasValue}
 use Rattle.tableau.proofs.Places.{ok_both}
 use Rattle.layout_engine.specs.Layouts.{AreBest}
 use Rattle.layout_engine.proofs.Ends.{best_at}
+use Rattle.layout_engine.proofs.StoodStays.{stays_written}
 use Rattle.layout_engine.proofs.reading.best_values.Goals as goal
+
+pub corner_values-requires-clause-written : goal.corner_values-requires-clause-written
+corner_values-requires-clause-written c = stays_written c.args.t.now c.args.p.now c.show_table.ensures c.requires.problem
 
 pub returns-clause-best : goal.returns-clause-best
 returns-clause-best c =

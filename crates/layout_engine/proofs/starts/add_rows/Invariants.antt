@@ -1,10 +1,12 @@
-use Rattle.std.proofs.Common.{◌≡◌, ◌++◌, take}
+use Rattle.std.proofs.Common.{◌≡◌, drop}
 use Rattle.corner_costs.specs.Corners.{AreCostsAt, NoNegativeValue}
+use Rattle.layout_engine.specs.Starts.{IsStanding, with_more}
 use Rattle.layout_engine.proofs.starts.add_rows.Given as goal
 
 abbrev pub invariant-loop-i : goal.invariant-loop-i
 invariant-loop-i l = record {
   costs : AreCostsAt l.t l.l;
   values : NoNegativeValue l.t;
-  rows : l.t.problem.rows ≡ l.fn.t.problem.rows ++ take l.i l.rows;
+  standing : IsStanding l.t;
+  problem : l.p ≡ with_more l.t.problem (drop l.i l.rows);
 }
