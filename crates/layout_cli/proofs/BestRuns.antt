@@ -24,13 +24,13 @@ kept old new best is = subst IsBestState (sym is) best
 solves-AreBest : (draft : Scene) (old : State) (reply : Reply) (new : State) → IsBestState old → Solves draft old reply new → IsBestState new
 solves-AreBest draft old reply new best (inl (done, to, is)) = to.best
 solves-AreBest draft old reply new best (inr (inl (by, rows, are, shows, keeps))) = kept old new best keeps.1
-solves-AreBest draft old reply new best (inr (inr (inl (path, quantity, keeps)))) = kept old new best keeps.1
-solves-AreBest draft old reply new best (inr (inr (inr (path, all, keeps)))) = kept old new best keeps.1
+solves-AreBest draft old reply new best (inr (inr (inl over))) = kept old new best over.refused.1
+solves-AreBest draft old reply new best (inr (inr (inr spent))) = kept old new best spent.refused.1
 
 solves-free-AreBest : (draft : Scene) (old : State) (reply : Reply) (new : State) → IsBestState old → SolvesFree draft old reply new → IsBestState new
 solves-free-AreBest draft old reply new best (inl (done, to, is)) = to.best
-solves-free-AreBest draft old reply new best (inr (inl (path, quantity, keeps))) = kept old new best keeps.1
-solves-free-AreBest draft old reply new best (inr (inr (path, all, keeps))) = kept old new best keeps.1
+solves-free-AreBest draft old reply new best (inr (inl over)) = kept old new best over.refused.1
+solves-free-AreBest draft old reply new best (inr (inr spent)) = kept old new best spent.refused.1
 
 view-AreBest : (old : State) (name parent : List ℕ) (reply : Reply) (new : State) → IsBestState old → ViewStep old name parent reply new → IsBestState new
 view-AreBest old name parent reply new best (inl x) = kept old new best x.2

@@ -112,6 +112,6 @@ pub fn push_refusal(refusal: &Refusal, out: &mut Vec<u8>) -> Result<(), OutOfMem
         Refusal::Conflict(conflict) => push_conflict(out, conflict),
         Refusal::Overflow(at) => push_overflow(out, at),
         Refusal::Spent(path) => push_spent(out, path),
-        Refusal::Unshown | Refusal::OutOfMemory => Err(OutOfMemory),
+        Refusal::OutOfMemory => Err(OutOfMemory),
     }
 }

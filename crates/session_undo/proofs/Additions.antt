@@ -21,7 +21,7 @@ use Rattle.session_undo.specs.Machine.{IsCrowded}
 use Rattle.session_undo.specs.Attributes.{view_attributes, attributes_of, HasOnly, IsNextLine, IsGrown, IsCounted}
 use Rattle.session_undo.proofs.Lists.{pairs-nil, pairs-cons, four-rising, all-unmapped}
 use Rattle.session_undo.proofs.Attributes.{attributes-below, attribute-count, view-new, none-new, contains-left, contains-top, contains-width, contains-height, window-among}
-use Rattle.session_undo.proofs.Wholes.{IsSettled, MayBeAdded, added-whole, renewed-whole, settled-numbers, attributes-joined, shape}
+use Rattle.session_undo.proofs.Wholes.{IsSettled, MayBeAdded, added-rising, added-whole, renewed-whole, settled-numbers, attributes-joined, shape}
 use Rattle.session_undo.proofs.First.{first_problem, first_tree}
 use Rattle.session_undo.proofs.NextRows.{line-may, line-below}
 
@@ -99,6 +99,20 @@ view-whole views new_views next id l more is counted grown small are each room =
     (view-new id small) counted.below
     (subst (λ (ns : List ℕ). MayBeAdded (ns ++ view_attributes id) next more) (sym counted.stays) (view-may views next id more are each))
     (omega (arith, room, two)) (omega (arith, stays, all, attribute-count new_views, grown.few))
+
+-- ---- attributes that rise
+
+-- those of a new view are above all others
+pub view-rising : (views new_views : List LiveView) (next id : ℕ) (l : Layout) → IsSettled l.problem l.values → IsCounted views next l.problem → IsGrown views new_views id → id < 2 ^ 29 → AreRising (l.values ++ zeros (view_attributes id))
+view-rising views new_views next id l is counted grown small =
+    let joined : map (λ (v : ℕ × Fraction). v.0) l.values ≡ attributes_of views = is.attributes ∙ counted.stays in
+    added-rising l.values (view_attributes id) (4 * id + 1) is.rising
+    (all-unmapped (λ (v : ℕ × Fraction). v.0) (λ a. a < 4 * id + 1) l.values (subst (All (λ a. a < 4 * id + 1)) (sym joined) (attributes-below views id grown.above)))
+    (view-new id small)
+
+-- there is none more
+pub still-rising : (l : Layout) → AreRising l.values → AreRising (l.values ++ zeros [])
+still-rising l rising = subst AreRising (sym (append-nil l.values)) rising
 
 pub renewed : (l : Layout) (rows : List Row) → IsSettled l.problem l.values → All IsRow rows → map shape rows ≡ map shape l.problem.rows → IsWhole (with_rows l rows)
 renewed l rows is each same = renewed-whole l.problem l.values rows is each same
@@ -202,3 +216,8 @@ first-counted t p tree is =
       below = All-from_recursion (λ (r : Row). r.id < 5) structural_rows (lit< tt, (lit< tt, (lit< tt, (lit< tt, tt))));
       few = omega arith;
     }))
+
+pub first-rising : (l : Layout) → l ≡ empty → AreRising (l.values ++ zeros (1 ∷ 2 ∷ 3 ∷ 4 ∷ []))
+first-rising l is =
+    subst (λ (k : Layout). AreRising (k.values ++ zeros (1 ∷ 2 ∷ 3 ∷ 4 ∷ []))) (sym is)
+    (added-rising empty.values (view_attributes 0) 1 empty-settled.rising (λ k d within. absurd (omega (arith, within))) (view-new 0 (lit< tt)))

@@ -20,7 +20,7 @@ use Rattle.session_undo.specs.declared.item.Item.{Item}
 use Rattle.session_undo.specs.declared.item.Item.TheVariants.{OfView, Sized, OfLine}
 use Rattle.session_undo.specs.Scene.{Scene, State, AreRows, AreDraftRows, view_rows, size_rows, with_line, with_window}
 use Rattle.session_undo.specs.Replies.{Done, MayRefuse}
-use Rattle.session_undo.specs.Machine.{Accepts, Solves, SolvesFree, IsCrowded}
+use Rattle.session_undo.specs.Machine.{Accepts, Solves, SolvesFree, IsCrowded, problem_of}
 use Rattle.session_undo.specs.Adding.{refusal_of, view_draft, metrics_draft}
 use Rattle.session_undo.specs.Kept.{IsKept, AreOfSize, state_at}
 use Rattle.session_undo.proofs.ItemRows.{rows-more, same-rows, kept-more, kept-sized, kept-anew}
@@ -58,21 +58,21 @@ kept_at ms size held items next rows new items_is new_is kept =
 abbrev pub attrs_of : ℕ → List ℕ
 attrs_of id = (4 * id + 1) ∷ (4 * id + 2) ∷ (4 * id + 3) ∷ (4 * id + 4) ∷ []
 
-free-refuses : (draft : Scene) (old : State) (p : Problem) (stop : RunStop) → (IsInConflict p → ⊥) → IsStopOf p old.budget stop → MayRefuse (λ reply. SolvesFree draft old reply old) (refusal_of stop)
-free-refuses draft old p (run.Conflict by) free is = absurd (free is.1)
-free-refuses draft old p (run.Unfit at) free is = inr (inl (at.path, at.quantity, (refl, refl)))
-free-refuses draft old p (run.Spent path) free is = inr (inr (path, is, (refl, refl)))
-free-refuses draft old p run.Unshown free is = tt
-free-refuses draft old p run.OutOfMemory free is = tt
+free-refuses : (draft : Scene) (old : State) (rows : List Row) (stop : RunStop) → (IsInConflict (problem_of draft rows) → ⊥) → AreDraftRows draft rows → IsStopOf (problem_of draft rows) old.budget stop → MayRefuse (λ reply. SolvesFree draft old reply old) (refusal_of stop)
+free-refuses draft old rows (run.Conflict by) free are is = absurd (free is.1)
+free-refuses draft old rows (run.Unfit at) free are is = inr (inl (record { path = at.path; quantity = at.quantity; rows = rows; are = are; cut = is; refused = (refl, refl) }))
+free-refuses draft old rows (run.Spent path) free are is = inr (inr (record { path = path; rows = rows; are = are; spent = is; refused = (refl, refl) }))
+free-refuses draft old rows run.OutOfMemory free are is = tt
 
-pub view-refuses : (old_tree new_tree : ViewTree) (ms : MetricList) (size : Option WindowSize) (held : List Item) (next : ℕ) (l : Layout) (budget id : ℕ) (more : List Row) (s : RunStop) → IsWhole l.problem → AreBest l.problem l.values
+pub view-refuses : (old_tree new_tree : ViewTree) (ms : MetricList) (size : Option WindowSize) (held : List Item) (next : ℕ) (l : Layout) (budget id : ℕ) (more : List Row) (s : RunStop) → IsKept ms size held next l.problem.rows → IsWhole l.problem → AreBest l.problem l.values
     → All (λ s. s.attr ≤ 4 * id) l.problem.stays → more ≡ view_rows next id → IsStopOf (with_added l (attrs_of id) more) budget s
     → MayRefuse (λ reply. SolvesFree (view_draft (state_at old_tree ms size held next l budget).scene new_tree id) (state_at old_tree ms size held next l budget) reply (state_at old_tree ms size held next l budget)) (refusal_of s)
-view-refuses old_tree new_tree ms size held next l budget id more s whole best before more_is stops =
+view-refuses old_tree new_tree ms size held next l budget id more s kept whole best before more_is stops =
     let old = state_at old_tree ms size held next l budget in
-    free-refuses (view_draft old.scene new_tree id) old (with_added l (attrs_of id) more) s
+    free-refuses (view_draft old.scene new_tree id) old (l.problem.rows ++ more) s
     (λ conflict. view-possible l.problem best.best.0 (stays_at (l.values ++ zeros (attrs_of id))) next id best.best.1.0 whole.covered before
-    (subst (λ (rs : List Row). IsInConflict (record { rows = l.problem.rows ++ rs; stays = stays_at (l.values ++ zeros (attrs_of id)) })) more_is conflict)) stops
+    (subst (λ (rs : List Row). IsInConflict (record { rows = l.problem.rows ++ rs; stays = stays_at (l.values ++ zeros (attrs_of id)) })) more_is conflict))
+    (rows-more ms size held (OfView next id) l.problem.rows more kept.are_rows more_is) stops
 
 pub view-solved : (old_tree new_tree : ViewTree) (ms : MetricList) (size : Option WindowSize) (held items : List Item) (next : ℕ) (l new : Layout) (budget id : ℕ) (more : List Row) → IsKept ms size held next l.problem.rows → more ≡ view_rows next id
     → new.problem ≡ with_added l (attrs_of id) more → AreBest new.problem new.values → items ≡ held ++ OfView next id ∷ []

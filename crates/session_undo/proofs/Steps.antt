@@ -27,16 +27,14 @@ refuses F G (refusal.Kind word) to h = to _ h
 refuses F G (refusal.Conflict by) to h = to _ h
 refuses F G (refusal.Overflow at) to h = to _ h
 refuses F G (refusal.Spent path) to h = to _ h
-refuses F G refusal.Unshown to h = h
 refuses F G refusal.OutOfMemory to h = h
 
 -- what stops the engine on a draft's problem refuses the draft
 pub stop-refuses : (draft : Scene) (old : State) (rows : List Row) (stop : RunStop) → AreDraftRows draft rows → IsStopOf (record { rows = rows; stays = draft.stays }) old.budget stop
     → MayRefuse (λ reply. Solves draft old reply old) (refusal_of stop)
 stop-refuses draft old rows (run.Conflict by) are is = inr (inl (by, rows, are, is.0, (refl, refl)))
-stop-refuses draft old rows (run.Unfit at) are is = inr (inr (inl (at.path, at.quantity, (refl, refl))))
-stop-refuses draft old rows (run.Spent path) are is = inr (inr (inr (path, is, (refl, refl))))
-stop-refuses draft old rows run.Unshown are is = tt
+stop-refuses draft old rows (run.Unfit at) are is = inr (inr (inl (record { path = at.path; quantity = at.quantity; rows = rows; are = are; cut = is; refused = (refl, refl) })))
+stop-refuses draft old rows (run.Spent path) are is = inr (inr (inr (record { path = path; rows = rows; are = are; spent = is; refused = (refl, refl) })))
 stop-refuses draft old rows run.OutOfMemory are is = tt
 
 -- the stops of a compiler exclude each other

@@ -109,6 +109,11 @@ attributes-zeros (a ∷ attrs) = ap (λ (ns : List ℕ). a ∷ ns) (attributes-z
 pub attributes-joined : (values : List (ℕ × Fraction)) (attrs : List ℕ) → map at (values ++ zeros attrs) ≡ map at values ++ attrs
 attributes-joined values attrs = map-append at values (zeros attrs) ∙ ap (λ (ns : List ℕ). map at values ++ ns) (attributes-zeros attrs)
 
+-- the attributes still rise with the new ones
+pub added-rising : (values : List (ℕ × Fraction)) (attrs : List ℕ) (m : ℕ) → AreRising values → All (λ v. v.0 < m) values → MayBeNew m attrs → AreRising (values ++ zeros attrs)
+added-rising values attrs m rising taken fresh =
+    rising-append at values (zeros attrs) m rising (pairs-map (λ (a : ℕ). (let v : ℕ × Fraction = (a, zero_fraction) in v)) (λ (u v : ℕ × Fraction). u.0 < v.0) attrs fresh.rising) taken (All-map (λ (v : ℕ × Fraction). m ≤ v.0) (λ (a : ℕ). (a, zero_fraction)) attrs fresh.above)
+
 pub added-whole : (p : Problem) (values : List (ℕ × Fraction)) (attrs : List ℕ) (more : List Row) (n m : ℕ) → IsSettled p values → All (λ v. v.0 < m) values → MayBeNew m attrs → All (λ r. r.id < n) p.rows
     → MayBeAdded (map (λ s. s.attr) p.stays ++ attrs) n more → length p.rows + length more ≤ 4096 → length p.stays + length attrs ≤ 4096 → IsWhole (record { rows = p.rows ++ more; stays = stays_at (values ++ zeros attrs) })
 added-whole p values attrs more n m is taken fresh below may rows_fit stays_fit =
@@ -119,7 +124,7 @@ added-whole p values attrs more n m is taken fresh below may rows_fit stays_fit 
       only = subst (λ (ns : List ℕ). All (HasOnly ns) (p.rows ++ more)) (sym all) (All-append (HasOnly (map (λ s. s.attr) p.stays ++ attrs)) p.rows more (wider (map (λ s. s.attr) p.stays) attrs p.rows (only-stays p.stays p.rows is.whole.covered)) may.only);
       row_count = omega (arith, rows_fit, length-append p.rows more);
       numbers = subst (All IsNumber) (sym (attributes-joined values attrs)) (All-append IsNumber (map at values) attrs (settled-numbers p values is) fresh.numbers);
-      apart = rising-append at values (zeros attrs) m is.rising (pairs-map (λ (a : ℕ). (let v : ℕ × Fraction = (a, zero_fraction) in v)) (λ (u v : ℕ × Fraction). u.0 < v.0) attrs fresh.rising) taken (All-map (λ (v : ℕ × Fraction). m ≤ v.0) (λ (a : ℕ). (a, zero_fraction)) attrs fresh.above);
+      apart = added-rising values attrs m is.rising taken fresh;
       kept = All-append (λ (v : ℕ × Fraction). IsKept v.1) values (zeros attrs) is.kept (All-map (λ (v : ℕ × Fraction). IsKept v.1) (λ (a : ℕ). (a, zero_fraction)) attrs (λ k d within. zero-IsKept));
       stay_count = omega (arith, stays_fit, length-append values (zeros attrs), settled-count p values is, length-map attrs (λ (a : ℕ). (let v : ℕ × Fraction = (a, zero_fraction) in v)));
     })

@@ -22,7 +22,6 @@ abbrev pub refusal_of : RunStop → Refusal
 refusal_of (run.Conflict by) = refusal.Conflict by
 refusal_of (run.Unfit at) = refusal.Overflow at
 refusal_of (run.Spent path) = refusal.Spent path
-refusal_of run.Unshown = refusal.Unshown
 refusal_of run.OutOfMemory = refusal.OutOfMemory
 
 -- the limits of groups that a further line may pass

@@ -7,12 +7,13 @@ use Rattle.view_tree.specs.Views.{LiveView, ViewTree, IsOnLevel, view_named}
 use Rattle.view_tree.specs.Stops.{is_full}
 use Rattle.problem_core.specs.declared.parts.RowName.TheVariants.{Held}
 use Rattle.problem_core.specs.declared.stops.Quantity.{Quantity}
-use Rattle.problem_core.specs.Layout.{Row}
+use Rattle.problem_core.specs.Layout.{Row, Problem}
 use Rattle.problem_core.specs.Certificates.{IsRefutation}
 use Rattle.cert_core.specs.declared.by.By.{By}
 use Rattle.cert_core.specs.Claims.{times_of}
 use Rattle.cert_core.specs.Paths.{Path}
 use Rattle.vfl_text.specs.Formats.{FormatMeaning}
+use Rattle.layout_engine.specs.Stops.{IsCut, IsSpent}
 use Rattle.script_text.specs.declared.words.Align.{Align}
 use Rattle.script_text.specs.Meaning.{Meaning, Linear}
 use Rattle.script_text.specs.Meaning as mean
@@ -48,26 +49,39 @@ Keeps answer old reply new = (reply ≡ answer) × (new ≡ old)
 abbrev pub Accepts : Scene → State → Reply → State → Type 0
 Accepts draft old reply new = (reply ≡ Done) × Becomes draft new.scene × (new ≡ record old { scene = new.scene })
 
+-- these rows, with the draft's stays
+abbrev pub problem_of : Scene → List Row → Problem
+problem_of draft rows = record { rows = rows; stays = draft.stays }
+
 -- the required rows of the draft have no solution, as multipliers of them show
 abbrev pub Conflicts : Scene → State → Reply → State → Type 0
 Conflicts draft old reply new = (by : List By) × (rows : List Row) × AreDraftRows draft rows
-    × IsRefutation (record { rows = rows; stays = draft.stays }) (λ id. times_of by (Held id)) × Keeps (Conflict by) old reply new
+    × IsRefutation (problem_of draft rows) (λ id. times_of by (Held id)) × Keeps (Conflict by) old reply new
 
--- a quantity doesn't fit at the end of a path
-abbrev pub Overflows : State → Reply → State → Type 0
-Overflows old reply new = (path : Path) × (quantity : Quantity) × Keeps (Overflow path quantity) old reply new
+-- a quantity doesn't fit at the end of a path over the draft's rows
+pub record Overflows (draft : Scene) (old : State) (reply : Reply) (new : State) : Type 0 where
+  pub path : Path
+  pub quantity : Quantity
+  pub rows : List Row
+  pub are : AreDraftRows draft rows
+  pub cut : IsCut (problem_of draft rows) path quantity
+  pub refused : Keeps (Overflow path quantity) old reply new
 
 -- a path has just the budget's exchanges
-abbrev pub Spends : State → Reply → State → Type 0
-Spends old reply new = (path : Path) × (length path.swaps ≡ old.budget) × Keeps (Spent path) old reply new
+pub record Spends (draft : Scene) (old : State) (reply : Reply) (new : State) : Type 0 where
+  pub path : Path
+  pub rows : List Row
+  pub are : AreDraftRows draft rows
+  pub spent : IsSpent (problem_of draft rows) old.budget path
+  pub refused : Keeps (Spent path) old reply new
 
 -- the draft, whose required rows have a solution, is solved, or there is no change
 abbrev pub SolvesFree : Scene → State → Reply → State → Type 0
-SolvesFree draft old reply new = Accepts draft old reply new ⊎ Overflows old reply new ⊎ Spends old reply new
+SolvesFree draft old reply new = Accepts draft old reply new ⊎ Overflows draft old reply new ⊎ Spends draft old reply new
 
 -- the draft is solved, or there is no change
 abbrev pub Solves : Scene → State → Reply → State → Type 0
-Solves draft old reply new = Accepts draft old reply new ⊎ Conflicts draft old reply new ⊎ Overflows old reply new ⊎ Spends old reply new
+Solves draft old reply new = Accepts draft old reply new ⊎ Conflicts draft old reply new ⊎ Overflows draft old reply new ⊎ Spends draft old reply new
 
 -- ---- limits and names
 

@@ -58,7 +58,6 @@ MayRefuse F (refusal.Kind word) = F (Kind word)
 MayRefuse F (refusal.Conflict by) = F (Conflict by)
 MayRefuse F (refusal.Overflow at) = F (Overflow at.path at.quantity)
 MayRefuse F (refusal.Spent path) = F (Spent path)
-MayRefuse F refusal.Unshown = ⊤
 MayRefuse F refusal.OutOfMemory = ⊤
 
 -- the refusal is one that is told, and F holds of its reply
@@ -71,5 +70,4 @@ IsTold F (refusal.Kind word) = F (Kind word)
 IsTold F (refusal.Conflict by) = F (Conflict by)
 IsTold F (refusal.Overflow at) = F (Overflow at.path at.quantity)
 IsTold F (refusal.Spent path) = F (Spent path)
-IsTold F refusal.Unshown = ⊥
 IsTold F refusal.OutOfMemory = ⊥

@@ -78,6 +78,7 @@ fn run_on(engine: &mut Engine, budget: u64) -> Result<(), RunStop>
     ensures stop { IfErr result (IsStopOf (with_rows engine.old engine.old.problem.rows) budget) }
     ensures same { OnErr result (engine.new ≡ engine.old) }
 {
+    engine.show_layout();
     match engine.add(&[], &[], budget) {
         Ok(_) => Ok(()),
         Err(stop) => Err(stop),

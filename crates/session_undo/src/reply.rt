@@ -40,8 +40,6 @@ pub enum Refusal {
     Overflow(UnfitPath),
     /// The exchanges are used up.
     Spent(Path),
-    /// What the engine found wasn't shown to be right. This ends a run.
-    Unshown,
     /// Memory is wanting. This ends a run.
     OutOfMemory,
 }
@@ -76,7 +74,6 @@ pub fn refusal_of(stop: RunStop) -> Refusal
         RunStop::Conflict(by) => Refusal::Conflict(by),
         RunStop::Unfit(at) => Refusal::Overflow(at),
         RunStop::Spent(path) => Refusal::Spent(path),
-        RunStop::Unshown => Refusal::Unshown,
         RunStop::OutOfMemory => Refusal::OutOfMemory,
     }
 }

@@ -16,3 +16,9 @@ returns-in-Constrain-clause-accepted c = rw c.in-Constrain.is c.constrain.ensure
 
 pub returns-in-Constrain-clause-refused : goal.returns-in-Constrain-clause-refused
 returns-in-Constrain-clause-refused c = rw c.in-Constrain.is c.constrain.ensures.refused
+
+pub returns-in-Metric-clause-refused : goal.returns-in-Metric-clause-refused
+returns-in-Metric-clause-refused c = rw c.in-Metric.is c.set_metric.ensures.refused
+
+pub returns-in-Vfl-clause-refused : goal.returns-in-Vfl-clause-refused
+returns-in-Vfl-clause-refused c = rw c.in-Vfl.is c.add_format.ensures.refused

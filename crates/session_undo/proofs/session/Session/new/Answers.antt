@@ -3,7 +3,7 @@ use Rattle.problem_core.specs.Layout.{Problem}
 use Rattle.session_undo.specs.declared.item.Item.{Item}
 use Rattle.session_undo.specs.declared.item.Item.TheVariants.{OfWindow}
 use Rattle.session_undo.proofs.First.{first_problem, first-is, first-kept}
-use Rattle.session_undo.proofs.Additions.{first-whole, first-counted}
+use Rattle.session_undo.proofs.Additions.{first-whole, first-rising, first-counted}
 use Rattle.session_undo.proofs.session.Session.new.Goals as goal
 
 pub invariant_of-result : goal.invariant_of-result
@@ -19,4 +19,4 @@ returns c =
     rw (c.in_ok-new-2.ensures, items) (first-is c.in_ok-new.field-0 c.add.new.self c.in_ok-new.ensures problem c.problem-best.ensures.best)
 
 pub add-requires : goal.add-requires
-add-requires c = rw c.deref-2.ensures.value (record { whole = first-whole c.in_ok-engine.engine c.in_ok-rows.rows.items c.in_ok-engine.ensures c.in_ok-rows.ensures (rw c.deref.ensures.value at c.show_rows.ensures) })
+add-requires c = rw c.deref-2.ensures.value (record { whole = first-whole c.in_ok-engine.engine c.in_ok-rows.rows.items c.in_ok-engine.ensures c.in_ok-rows.ensures (rw c.deref.ensures.value at c.show_rows.ensures); rising = first-rising c.in_ok-engine.engine c.in_ok-engine.ensures })

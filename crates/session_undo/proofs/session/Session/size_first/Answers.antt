@@ -4,7 +4,7 @@ use Rattle.session_undo.specs.declared.item.Item.TheVariants.{Sized}
 use Rattle.session_undo.specs.Kept.{state_at}
 use Rattle.session_undo.proofs.Solved.{first-refuses, first-solved, first-kept, room-below}
 use Rattle.session_undo.specs.Scene.{State}
-use Rattle.session_undo.proofs.Additions.{settled, size-whole, counted-size, room-fits}
+use Rattle.session_undo.proofs.Additions.{settled, size-whole, still-rising, counted-size, room-fits}
 use Rattle.session_undo.proofs.session.Session.size_first.Goals as goal
 
 pub returns-in-Err-clause-refused : goal.returns-in-Err-clause-refused
@@ -37,4 +37,5 @@ add-requires c =
       whole = size-whole c.self.inside.tree c.self.inside.next_row c.self.inside.engine (Some c.args.size) c.in_ok-rows.rows.items c.len-count.ensures.tree
           (settled c.self.inside.engine c.show_layout.ensures.whole c.show_layout.ensures.best c.show_layout.ensures.kept c.show_layout.ensures.rising) c.self.invariant.1 c.in_ok-rows.ensures (rw c.deref.ensures.value at c.show_rows.ensures)
           (subst (λ (s : State). length s.scene.rows + 2 ≤ 2000) (sym c.self.view_is) (room-fits c.args.self.now.scene 2 c.requires.room));
+      rising = still-rising c.self.inside.engine c.show_layout.ensures.rising;
     })

@@ -5,7 +5,7 @@ use Rattle.session_undo.proofs.Solved.{line-refuses, line-solved, line-kept}
 use Rattle.constraint_compile.specs.Compiled.{AreRowsNow}
 use Rattle.session_undo.specs.Scene.{State}
 use Rattle.session_undo.specs.Attributes.{IsNextLine}
-use Rattle.session_undo.proofs.Additions.{settled, line-whole, counted-line, room-fits}
+use Rattle.session_undo.proofs.Additions.{settled, line-whole, still-rising, counted-line, room-fits}
 use Rattle.session_undo.proofs.session.Session.solve_line.Goals as goal
 
 pub returns-in-Err-clause-refused : goal.returns-in-Err-clause-refused
@@ -38,4 +38,5 @@ add-requires c = record {
       (settled c.self.inside.engine c.show_layout.ensures.whole c.show_layout.ensures.best c.show_layout.ensures.kept c.show_layout.ensures.rising) c.self.invariant.1
       (subst (λ (s : State). IsNextLine s.scene.tree.views s.scene.next_row c.args.line) (sym c.self.view_is) c.requires.next) (subst (λ (s : State). AreRowsNow s.scene.metrics c.args.line.rows c.args.rows.now) (sym c.self.view_is) c.requires.rows) c.show_rows.ensures
       (subst (λ (s : State). length s.scene.rows + length c.args.rows.now ≤ 2000) (sym c.self.view_is) (room-fits c.args.self.now.scene (length c.args.rows.now) c.requires.room));
+  rising = still-rising c.self.inside.engine c.show_layout.ensures.rising;
 }

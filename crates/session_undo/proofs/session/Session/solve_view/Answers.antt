@@ -6,14 +6,14 @@ use Rattle.session_undo.specs.Kept.{state_at}
 use Rattle.session_undo.proofs.Solved.{view-refuses, view-solved, view-kept, room-below}
 use Rattle.session_undo.specs.Attributes.{IsGrown}
 use Rattle.session_undo.proofs.Attributes.{stays-below}
-use Rattle.session_undo.proofs.Additions.{settled, view-whole, counted-view, room-fits}
+use Rattle.session_undo.proofs.Additions.{settled, view-whole, view-rising, counted-view, room-fits}
 use Rattle.session_undo.proofs.session.Session.solve_view.Goals as goal
 
 pub returns-in-Err-clause-refused : goal.returns-in-Err-clause-refused
 returns-in-Err-clause-refused c =
     rw (c.refusal_of.ensures, ← c.self.view_is)
     (view-refuses c.self.inside.tree c.args.tree c.self.inside.metrics c.self.inside.size c.self.inside.items.items c.self.inside.next_row c.self.inside.engine c.self.inside.budget c.args.id c.in_ok-rows.rows.items c.in-Err.stop
-    c.show_layout.ensures.whole c.show_layout.ensures.best
+    c.self.invariant.0 c.show_layout.ensures.whole c.show_layout.ensures.best
     (stays-below c.self.inside.engine.problem.stays c.self.inside.tree.views c.args.id c.self.invariant.1.stays (subst (λ (s : State). IsGrown s.scene.tree.views c.args.tree.views c.args.id) (sym c.self.view_is) c.requires.grown).above)
     c.in_ok-rows.ensures (rw c.deref-2.ensures.value at c.in-Err.ensures.stop))
 
@@ -42,4 +42,7 @@ add-requires c =
           (settled c.self.inside.engine c.show_layout.ensures.whole c.show_layout.ensures.best c.show_layout.ensures.kept c.show_layout.ensures.rising) c.self.invariant.1
           (subst (λ (s : State). IsGrown s.scene.tree.views c.args.tree.views c.args.id) (sym c.self.view_is) c.requires.grown) c.requires.id c.in_ok-rows.ensures (rw c.deref.ensures.value at c.show_rows.ensures)
           (subst (λ (s : State). length s.scene.rows + 2 ≤ 2000) (sym c.self.view_is) (room-fits c.args.self.now.scene 2 c.requires.room));
+      rising = view-rising c.self.inside.tree.views c.args.tree.views c.self.inside.next_row c.args.id c.self.inside.engine
+          (settled c.self.inside.engine c.show_layout.ensures.whole c.show_layout.ensures.best c.show_layout.ensures.kept c.show_layout.ensures.rising) c.self.invariant.1
+          (subst (λ (s : State). IsGrown s.scene.tree.views c.args.tree.views c.args.id) (sym c.self.view_is) c.requires.grown) c.requires.id;
     })
