@@ -1,10 +1,11 @@
 -- Fractions in lowest terms.
-use Rattle.std.specs.Prelude.{◌≡◌, ℕ, ◌<◌, ◌^◌, ℤ, pos}
+use Rattle.std.specs.Prelude.{◌≡◌, ℕ, ◌<◌, ℤ, pos}
 use Rattle.std.specs.Int.{IsGcd}
 use Rattle.std.specs.Int.RustNames.{unsigned_abs}
 use Rattle.std.specs.Prelude.{◌*ℤ◌, ◌+ℤ◌}
 use Rattle.std.specs.Ordering.{int_cmp}
 use Rattle.std.specs.declared.cmp.Ordering.{Ordering}
+use Rattle.frac_core.specs.declared.frac.TheConstants.{PART_BOUND}
 
 pub record Fraction : Type 0 where
   pub num : ℤ
@@ -15,10 +16,10 @@ pub record IsLowest (f : Fraction) : Type 0 where
   pub above : 0 < f.den
   pub coprime : IsGcd (unsigned_abs f.num) f.den 1
 
--- both parts are below 2^42 in size
+-- both parts are below the bound in size
 pub record Fits (f : Fraction) : Type 0 where
-  pub num_fits : unsigned_abs f.num < 2 ^ 42
-  pub den_fits : f.den < 2 ^ 42
+  pub num_fits : unsigned_abs f.num < PART_BOUND
+  pub den_fits : f.den < PART_BOUND
 
 -- in lowest terms, and fitting
 pub record IsKept (f : Fraction) : Type 0 where
@@ -29,9 +30,13 @@ pub record IsKept (f : Fraction) : Type 0 where
 abbrev pub IsRatio : Fraction → ℤ → ℤ → Type 0
 IsRatio f p q = f.num *ℤ q ≡ p *ℤ pos f.den
 
--- a whole number below 2^42 in size
+-- a whole number below the bound in size
 abbrev pub IsFitting : ℤ → Type 0
-IsFitting z = unsigned_abs z < 2 ^ 42
+IsFitting z = unsigned_abs z < PART_BOUND
+
+-- p over q in lowest terms does not fit
+abbrev pub IsUnfitRatio : ℤ → ℤ → Type 0
+IsUnfitRatio p q = (f : Fraction) → IsLowest f → IsRatio f p q → Fits f → ⊥
 
 -- the order of the two values
 abbrev pub fraction_order : Fraction → Fraction → Ordering

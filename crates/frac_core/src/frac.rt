@@ -1,19 +1,21 @@
 // A fraction whose parts fit.
 ghost use Rattle.std.specs.Prelude.{◌≡◌, ℕ, ◌<◌, ◌^◌, ℤ, pos, ◌<ℤ◌, IfOk, OnErr, if◌then◌else◌, neg_ℤ};
-ghost use Rattle.std.specs.Prelude.{◌*ℤ◌, ◌+ℤ◌, unsigned_abs};
-ghost use Rattle.frac_core.specs.Fraction.{Fraction, IsLowest, Fits, IsFitting, IsKept, IsRatio, fraction_order, sum_num, sum_den};
+ghost use Rattle.std.specs.Prelude.{◌*ℤ◌, ◌+ℤ◌, ◌/◌, unsigned_abs};
+ghost use Rattle.std.specs.Int.{IsGcd};
+ghost use Rattle.frac_core.specs.Fraction.{Fraction, IsLowest, Fits, IsFitting, IsKept, IsRatio, IsUnfitRatio, fraction_order, sum_num, sum_den};
 
 use crate::divisor::gcd;
 use std::cmp::Ordering;
 use std::marker::Model;
 
-/// A part is 2^42 or more in size.
+/// A part is not below the bound in size.
 #[derive(Clone, Copy, Debug, PartialEq, Eq)]
 pub struct Unfit;
 
-const BOUND: u128 = 1 << 42;
+/// What the parts of a fitting number are below in size.
+pub const PART_BOUND: u128 = 1 << 42;
 
-/// A fraction in lowest terms, both of whose parts are below 2^42 in size.
+/// A fraction in lowest terms, both of whose parts fit.
 #[derive(Clone, Copy, Debug, PartialEq, Eq)]
 pub struct Frac {
     num: i64,
@@ -34,7 +36,7 @@ impl Model for Frac {
 
 // The size of a number with its sign.
 fn signed(is_negative: bool, size: u64) -> i64
-    requires { size < 2 ^ 42 }
+    requires { size < PART_BOUND }
     ensures { result ≡ (if is_negative then neg_ℤ (pos size) else pos size) }
 {
     if is_negative {
@@ -64,6 +66,21 @@ fn product(x: i64, y: i64, z: i64) -> i128
     i128::from(x) * (i128::from(y) * i128::from(z))
 }
 
+// The greatest common divisor, which a denominator of 1 tells at once.
+fn divisor_of(size: u128, whole: u128) -> u128
+    ensures { IsGcd size whole result }
+{
+    if whole == 1 { 1 } else { gcd(size, whole) }
+}
+
+// The quotient, which a divisor of 1 tells at once.
+fn part(size: u128, divisor: u128) -> u128
+    requires { 0 < divisor }
+    ensures { result ≡ size / divisor }
+{
+    if divisor == 1 { size } else { size / divisor }
+}
+
 impl Frac {
     /// The number 0.
     pub fn zero() -> Frac
@@ -79,14 +96,14 @@ impl Frac {
         ensures value { IfOk result (λ f. IsRatio f p q) }
         ensures lowest { IfOk result IsLowest }
         ensures fits { IfOk result Fits }
-        ensures unfit { OnErr result ((f : Fraction) → IsLowest f → IsRatio f p q → Fits f → ⊥) }
+        ensures unfit { OnErr result (IsUnfitRatio p q) }
     {
         let size = p.unsigned_abs();
         let whole = q.unsigned_abs();
-        let divisor = gcd(size, whole);
-        let num = size / divisor;
-        let den = whole / divisor;
-        if num >= BOUND || den >= BOUND {
+        let divisor = divisor_of(size, whole);
+        let num = part(size, divisor);
+        let den = part(whole, divisor);
+        if num >= PART_BOUND || den >= PART_BOUND {
             return Err(Unfit);
         }
         Ok(Frac {
@@ -131,40 +148,10 @@ impl Frac {
         ensures value { IfOk result (λ f. IsRatio f (sum_num a n d t) (sum_den a d t)) }
         ensures lowest { IfOk result IsLowest }
         ensures fits { IfOk result Fits }
-        ensures unfit { OnErr result ((f : Fraction) → IsLowest f → IsRatio f (sum_num a n d t) (sum_den a d t) → Fits f → ⊥) }
+        ensures unfit { OnErr result (IsUnfitRatio (sum_num a n d t) (sum_den a d t)) }
     {
         let first = product(a.num(), d, t.den());
         let second = product(n, t.num(), a.den());
         Frac::of(first + second, product(a.den(), d, t.den()))
-    }
-}
-
-#[cfg(test)]
-mod tests {
-    use super::*;
-    use std::test::Fail;
-
-    #[test]
-    fn fractions_are_reduced(rt: HostRuntime) -> Result<(), Fail> {
-        for (p, q, num, den) in [(6, 4, 3, 2), (-6, 4, -3, 2), (0, 7, 0, 1), (5, 1, 5, 1)] {
-            let made = Frac::of(p, q).ok();
-            assert_eq!(rt; made.map(|f| (f.num(), f.den())), Some((num, den)));
-        }
-        assert!(rt; Frac::of(1 << 42, 1).is_err());
-        assert!(rt; Frac::of(1, 1 << 42).is_err());
-        assert!(rt; Frac::of(i128::MIN, i128::MAX).is_err());
-        Ok(())
-    }
-
-    #[test]
-    fn sums_and_orders(rt: HostRuntime) -> Result<(), Fail> {
-        let half = Frac::of(1, 2)?;
-        let sixth = Frac::of(-1, 6)?;
-        let sum = Frac::mul_add(half, 3, 4, sixth)?;
-        assert_eq!(rt; (sum.num(), sum.den()), (3, 8));
-        assert_eq!(rt; half.compare(&sixth), Ordering::Greater);
-        assert_eq!(rt; sixth.compare(&Frac::zero()), Ordering::Less);
-        assert_eq!(rt; half.compare(&half), Ordering::Equal);
-        Ok(())
     }
 }

@@ -9,7 +9,7 @@ mod text;
 mod wide;
 
 pub use divisor::gcd;
-pub use frac::{Frac, Unfit};
+pub use frac::{Frac, PART_BOUND, Unfit};
 pub use memory::OutOfMemory;
 pub use order::cmp_wide;
 pub use text::write_frac;

@@ -4,8 +4,8 @@ ghost use Rattle.std.specs.Ordering.{nat_cmp, int_cmp};
 
 use std::cmp::Ordering;
 
-// The order of a/b and c/d, by successive quotients: where the whole parts are equal, a/b stands to c/d as the
-// reciprocals of what is left stand to each other the other way round.
+// The order of a/b and c/d, by successive quotients: where the whole parts are equal, a/b stands to c/d as
+// the reciprocals of what is left stand to each other the other way round.
 fn cmp_sizes(mut a: u128, mut b: u128, mut c: u128, mut d: u128) -> Ordering
     requires b { 0 < b }
     requires d { 0 < d }
@@ -40,25 +40,5 @@ pub fn cmp_wide(a: i128, b: i128, c: i128, d: i128) -> Ordering
         (false, true) => Ordering::Greater,
         (false, false) => cmp_sizes(left, left_den, right, right_den),
         (true, true) => cmp_sizes(right, right_den, left, left_den),
-    }
-}
-
-#[cfg(test)]
-mod tests {
-    use super::*;
-    use std::test::Fail;
-
-    #[test]
-    fn quotients_are_ordered(rt: HostRuntime) -> Result<(), Fail> {
-        assert_eq!(rt; cmp_wide(1, 3, 2, 6), Ordering::Equal);
-        assert_eq!(rt; cmp_wide(22, 7, 355, 113), Ordering::Greater);
-        assert_eq!(rt; cmp_wide(-22, 7, -355, 113), Ordering::Less);
-        assert_eq!(rt; cmp_wide(-1, 9, 0, 4), Ordering::Less);
-        assert_eq!(rt; cmp_wide(i128::MIN, i128::MAX, -1, 1), Ordering::Less);
-        assert_eq!(rt;
-            cmp_wide(i128::MAX, i128::MAX - 1, i128::MAX - 1, i128::MAX - 2),
-            Ordering::Less
-        );
-        Ok(())
     }
 }

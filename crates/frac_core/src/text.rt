@@ -31,24 +31,3 @@ pub fn write_frac(f: Wide, out: &mut [u8; 82]) -> usize
     let end = put(out, end, b"/");
     put(out, end, digits.format(f.den()).as_bytes())
 }
-
-#[cfg(test)]
-mod tests {
-    use super::*;
-    use std::test::Fail;
-
-    #[test]
-    fn fractions_are_written(rt: HostRuntime) -> Result<(), Fail> {
-        let mut out = [0; 82];
-        let end = write_frac(Wide::of(6, 4), &mut out);
-        assert!(rt; &out[..end] == b"3/2".as_slice());
-        let end = write_frac(Wide::of(-10, 5), &mut out);
-        assert!(rt; &out[..end] == b"-2".as_slice());
-        let end = write_frac(Wide::of(-i128::MAX, i128::MAX - 1), &mut out);
-        assert!(rt;
-            &out[..end]
-                == b"-170141183460469231731687303715884105727/170141183460469231731687303715884105726".as_slice()
-        );
-        Ok(())
-    }
-}

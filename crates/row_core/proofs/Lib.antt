@@ -1,5 +1,10 @@
+pub mod Noted
+pub mod Dividing
 pub mod Divisors
 pub mod Lowest
-pub mod Merging
+pub mod Negated
+pub mod Patches
 pub mod Places
+pub mod Sizes
 pub mod Sums
+pub mod Walks

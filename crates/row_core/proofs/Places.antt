@@ -22,12 +22,12 @@ rising_head x row rising = λ k d within. rising zero (suc k) d (omega arith) (o
 pub all_tail : (P : Term → Type 0) (x : Term) (row : List Term) → All P (x ∷ row) → All P row
 all_tail P x row all = λ k d within. all (suc k) d (omega arith)
 
-at-here : (c : ℕ) (t : Term) → t.col ≡ c → at c t ≡ t.by
+pub at-here : (c : ℕ) (t : Term) → t.col ≡ c → at c t ≡ t.by
 at-here c t e =
     let test : nat_eq t.col c ≡ true = grind (arith, nat_tests) in
     rw test refl
 
-at-elsewhere : (c : ℕ) (t : Term) → t.col ≢ c → at c t ≡ pos 0
+pub at-elsewhere : (c : ℕ) (t : Term) → t.col ≢ c → at c t ≡ pos 0
 at-elsewhere c t e =
     let test : nat_eq t.col c ≡ false = grind (arith, nat_tests) in
     rw test refl

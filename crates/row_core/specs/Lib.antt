@@ -1,2 +1,4 @@
-pub mod Merges
+pub mod Changes
+pub mod Combinations
 pub mod Rows
+pub mod Walks

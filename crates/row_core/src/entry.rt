@@ -26,21 +26,19 @@ impl Model for Entry {
     ghost inverse = { λ t. record { col = record { 0 = t.col }; by = t.by } };
 }
 
-/// An entry before it is divided.
+/// What two rows are multiplied by before they are added.
 #[derive(Clone, Copy, Debug, PartialEq, Eq)]
-pub(crate) struct WideEntry {
-    pub col: Col,
-    pub by: i128,
+pub struct Factors {
+    pub k: i128,
+    pub n: i128,
 }
 
-impl Model for WideEntry {
-    ghost use Rattle.row_core.specs.Rows.{Term};
-
-    ghost Value = { Term };
-
-    ghost view = { λ e. record { col = e.col.0; by = e.by } };
-
-    ghost inverse = { λ t. record { col = record { 0 = t.col }; by = t.by } };
+/// The column that a sum of rows leaves out, and the number that it adds at another one.
+#[derive(Clone, Copy, Debug, PartialEq, Eq)]
+pub struct Patch {
+    pub without: Col,
+    pub at: Col,
+    pub extra: i128,
 }
 
 /// A part in lowest terms does not fit, or memory is wanting.

@@ -1,19 +1,20 @@
 // Rows in lowest terms.
-ghost use Rattle.std.specs.Prelude.{◌≡◌, ℕ, ℤ, List, IfOk, IfErr, IfSome, IfNone, IsTrue, ◌↔◌, ◌<◌, ◌≢◌, length, All};
+ghost use Rattle.std.specs.Prelude.{◌≡◌, ℕ, ℤ, List, IfOk, IfErr, IfSome, IfNone, IsTrue, ◌↔◌, ◌<◌, ◌≢◌, pos, neg_ℤ, [], ◌∷◌, length, All};
 ghost use Rattle.std.specs.List.{HoldsAt};
 ghost use Rattle.frac_core.specs.Fraction.{IsFitting};
-ghost use Rattle.row_core.specs.Rows.{IsRising, AllNonzero, AllFit, IsKeptRow, IsReduced, IsUnfit, coefficient, combination};
-ghost use Rattle.row_core.specs.Merges.{AllSmall, IsWhole};
+ghost use Rattle.row_core.specs.Rows.{IsRising, AllFit, IsKeptRow, IsReduced, IsUnfit, coefficient, combination};
+ghost use Rattle.row_core.specs.Combinations.{IsFactor, combination_but};
+ghost use Rattle.row_core.specs.Walks.{HasSmallProducts, IsNarrowSum, whole};
 ghost use Rattle.row_core.specs.declared.entry.RowStop.TheVariants.{Unfit};
 
-use crate::entry::{Col, Entry, RowStop, WideEntry};
-use crate::merge::{merged, widened};
-use crate::reduce::{divided, divisor_of};
+use crate::divide::{divided, divided_narrow, divisor_of};
+use crate::entry::{Col, Entry, Factors, Patch, RowStop};
+use crate::walk::{Sum, patched, plain};
 use frac_core::OutOfMemory;
 use std::alloc::Global;
 use std::marker::Model;
 
-/// A row `sum by*col = 0`: its columns rise, its numbers are not 0, are below 2^42 in size and have no common divisor.
+/// A row `sum by*col = 0`: its columns rise, its numbers are not 0, fit and have no common divisor.
 #[derive(Debug, Drop)]
 pub struct IntRow {
     entries: Vec<Entry>,
@@ -43,17 +44,43 @@ pub fn are_rising(entries: &[Entry]) -> bool
     true
 }
 
-// The row in lowest terms.
-fn lowest(alloc: Global, wide: &[WideEntry]) -> Result<IntRow, RowStop>
-    requires rising { IsRising wide.now }
-    requires nonzero { AllNonzero wide.now }
-    requires small { AllSmall wide.now }
-    ensures value { IfOk result (λ row. (whole : ℕ → ℤ) → IsWhole wide.now whole → IsReduced row whole) }
+// The row in lowest terms with the coefficients of the sum.
+fn lowest(alloc: Global, r: &[Entry], p: &[Entry], sum: Sum) -> Result<IntRow, RowStop>
+    requires r_rising { IsRising r.now }
+    requires p_rising { IsRising p.now }
+    requires products { HasSmallProducts sum r.now p.now }
+    ensures value { IfOk result (λ row. IsReduced row (whole sum r.now p.now)) }
     ensures kept { IfOk result IsKeptRow }
-    ensures unfit { IfErr result (λ stop. stop ≡ Unfit → (whole : ℕ → ℤ) → IsWhole wide.now whole → IsUnfit whole) }
+    ensures unfit { IfErr result (λ stop. stop ≡ Unfit → IsUnfit (whole sum r.now p.now)) }
 {
-    let divisor = divisor_of(wide);
-    let entries = divided(alloc, wide, divisor)?;
+    let divisor = divisor_of(r, p, sum);
+    let entries = divided(alloc, r, p, sum, divisor)?;
+    Ok(IntRow { entries })
+}
+
+// Whether all numbers of the sum have 64 bits.
+fn is_narrow(sum: Sum) -> bool
+    ensures { IsTrue result → IsNarrowSum sum }
+{
+    sum.k.unsigned_abs() < 1 << 19
+        && sum.n.unsigned_abs() < 1 << 19
+        && sum.extra.unsigned_abs() < 1 << 61
+}
+
+// The same of two rows in lowest terms.
+fn combined(alloc: Global, r: &[Entry], p: &[Entry], sum: Sum) -> Result<IntRow, RowStop>
+    requires r { IsKeptRow r.now }
+    requires p { IsKeptRow p.now }
+    requires products { HasSmallProducts sum r.now p.now }
+    ensures value { IfOk result (λ row. IsReduced row (whole sum r.now p.now)) }
+    ensures kept { IfOk result IsKeptRow }
+    ensures unfit { IfErr result (λ stop. stop ≡ Unfit → IsUnfit (whole sum r.now p.now)) }
+{
+    if !is_narrow(sum) {
+        return lowest(alloc, r, p, sum);
+    }
+    let divisor = divisor_of(r, p, sum);
+    let entries = divided_narrow(alloc, r, p, sum, divisor)?;
     Ok(IntRow { entries })
 }
 
@@ -82,6 +109,24 @@ fn number_at(entries: &[Entry], col: Col) -> i64
 }
 
 impl IntRow {
+    /// The row without entries, whose coefficients are all 0.
+    pub fn empty(alloc: Global) -> IntRow
+        ensures { result ≡ [] }
+    {
+        IntRow {
+            entries: Vec::new(alloc),
+        }
+    }
+
+    /// The row of the number 1 at the column.
+    pub fn unit(alloc: Global, col: Col) -> Result<IntRow, OutOfMemory>
+        ensures { IfOk result (λ row. row ≡ (record { col = col.0; by = pos 1 }) ∷ []) }
+    {
+        let mut entries = Vec::new(alloc);
+        entries.push(Entry { col, by: 1 })?;
+        Ok(IntRow { entries })
+    }
+
     /// The row of these entries in lowest terms, without those that are 0, unless a part of it does not fit.
     pub fn of(alloc: Global, entries: &[Entry]) -> Result<IntRow, RowStop>
         requires { IsRising entries.now }
@@ -89,8 +134,7 @@ impl IntRow {
         ensures kept { IfOk result IsKeptRow }
         ensures unfit { IfErr result (λ stop. stop ≡ Unfit → IsUnfit (λ c. coefficient c entries.now)) }
     {
-        let wide = widened(alloc, entries)?;
-        lowest(alloc, &wide)
+        lowest(alloc, entries, &[], plain(Factors { k: 1, n: 0 }))
     }
 
     /// The number at a column, which is 0 where the row has none.
@@ -110,6 +154,22 @@ impl IntRow {
         &self.entries
     }
 
+    /// The row of the opposite numbers.
+    pub fn negated(self) -> IntRow
+        ensures value { (c : ℕ) → coefficient c result ≡ neg_ℤ (coefficient c self) }
+        ensures kept { IsKeptRow result }
+    {
+        let mut entries = self.entries;
+        for i in 0..entries.len() {
+            let e = entries[i];
+            entries[i] = Entry {
+                col: e.col,
+                by: -e.by,
+            };
+        }
+        IntRow { entries }
+    }
+
     /// An equal row.
     pub fn copy(&self) -> Result<IntRow, OutOfMemory>
         ensures { IfOk result (λ row. row ≡ self.now) }
@@ -127,48 +187,42 @@ pub fn combine(alloc: Global, r: &IntRow, p: &IntRow, k: i64, n: i64) -> Result<
     ensures kept { IfOk result IsKeptRow }
     ensures unfit { IfErr result (λ stop. stop ≡ Unfit → IsUnfit (combination k r.now n p.now)) }
 {
-    let wide = merged(alloc, k, &r.entries, n, &p.entries)?;
-    lowest(alloc, &wide)
+    combine_wide(alloc, r, p, i128::from(k), i128::from(n))
 }
 
-#[cfg(test)]
-mod tests {
-    use super::*;
-    use std::test::Fail;
+/// The same for factors that need not fit.
+pub fn combine_wide(
+    alloc: Global,
+    r: &IntRow,
+    p: &IntRow,
+    k: i128,
+    n: i128,
+) -> Result<IntRow, RowStop>
+    requires k { IsFactor k }
+    requires n { IsFactor n }
+    ensures value { IfOk result (λ row. IsReduced row (combination k r.now n p.now)) }
+    ensures kept { IfOk result IsKeptRow }
+    ensures unfit { IfErr result (λ stop. stop ≡ Unfit → IsUnfit (combination k r.now n p.now)) }
+{
+    combined(alloc, &r.entries, &p.entries, plain(Factors { k, n }))
+}
 
-    fn entry(col: u64, by: i64) -> Entry {
-        Entry { col: Col(col), by }
-    }
-
-    fn row(alloc: Global, entries: &[Entry]) -> Result<IntRow, RowStop> {
-        if are_rising(entries) {
-            IntRow::of(alloc, entries)
-        } else {
-            Err(RowStop::OutOfMemory)
-        }
-    }
-
-    #[test]
-    fn rows_are_reduced(rt: HostRuntime) -> Result<(), Fail> {
-        let made = row(rt.alloc(), &[entry(2, 6), entry(5, 0), entry(9, -4)])?;
-        assert!(rt; made.entries() == [entry(2, 3), entry(9, -2)].as_slice());
-        assert_eq!(rt; made.entry(Col(9)), -2);
-        assert_eq!(rt; made.entry(Col(5)), 0);
-        assert!(rt; made.copy()?.entries() == made.entries());
-        let wide = [entry(1, 1), entry(2, 1 << 42)];
-        assert_eq!(rt; row(rt.alloc(), &wide).err(), Some(RowStop::Unfit));
-        assert!(rt; !are_rising(&[entry(3, 1), entry(3, 2)]));
-        Ok(())
-    }
-
-    #[test]
-    fn rows_are_combined(rt: HostRuntime) -> Result<(), Fail> {
-        let r = row(rt.alloc(), &[entry(1, 2), entry(3, 5), entry(4, 1)])?;
-        let p = row(rt.alloc(), &[entry(1, 3), entry(2, 7), entry(4, -4)])?;
-        let made = combine(rt.alloc(), &r, &p, 3, -2)?;
-        assert!(rt; made.entries() == [entry(2, -14), entry(3, 15), entry(4, 11)].as_slice());
-        let none = combine(rt.alloc(), &r, &r, 1, -1)?;
-        assert!(rt; none.entries().is_empty());
-        Ok(())
-    }
+/// The row `k*r + n*p` in lowest terms, without one column and with a number more at another one.
+///
+/// `Unfit` where a part of it does not fit.
+pub fn combine_but(
+    alloc: Global,
+    r: &IntRow,
+    p: &IntRow,
+    by: Factors,
+    but: Patch,
+) -> Result<IntRow, RowStop>
+    requires k { IsFactor by.k }
+    requires n { IsFactor by.n }
+    requires extra { IsFactor but.extra }
+    ensures value { IfOk result (λ row. IsReduced row (combination_but by r.now p.now but)) }
+    ensures kept { IfOk result IsKeptRow }
+    ensures unfit { IfErr result (λ stop. stop ≡ Unfit → IsUnfit (combination_but by r.now p.now but)) }
+{
+    combined(alloc, &r.entries, &p.entries, patched(by, but))
 }

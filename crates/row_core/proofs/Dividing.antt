@@ -1,0 +1,213 @@
+-- The divisor of a sum's numbers, and the row that is divided by it.
+use Rattle.std.proofs.Common.{◌≡◌, ◌≢◌, ℕ, zero, suc, ◌+◌, ◌<◌, ◌≤◌, ◌^◌, ◌++◌, length, true, false, cond, List, [], ◌∷◌, ℤ, pos, negsuc, Bool, ◌+ℤ◌, ◌*ℤ◌, sym, subst, ap, ◌∙◌, arith, ◌⊎◌, inl, inr, All}
+use Prim.Native.Nat.{◌∣◌}
+use Rattle.std.specs.Prelude.{unsigned_abs}
+use Rattle.std.specs.Int.{IsGcd}
+use Rattle.std.proofs.lemmas.Bool.{cases_lt}
+use Rattle.std.proofs.lemmas.List.Elements.{All-push}
+use Rattle.std.proofs.lemmas.List.Quantifiers.{all_pairs_push}
+use Rattle.std.proofs.lemmas.Nat.Gcd.{dvd_trans, dvd-zero, le_of_dvd}
+use Rattle.std.proofs.Math.Nat.{eq-zero_of_zero-dvd, one-dvd}
+use borrow.Author.Differences.{ints}
+use Rattle.frac_core.specs.Fraction.{IsFitting}
+use Rattle.frac_core.proofs.Integers.{mul-zero_ℤ, add-zero_ℤ}
+use Rattle.row_core.specs.declared.walk.Sum.{Sum}
+use Rattle.row_core.specs.declared.walk.Place.{Place}
+use Rattle.row_core.specs.Rows.{Term, coefficient, IsRising, AllNonzero, AllFit}
+use Rattle.row_core.specs.Walks.{AreRead, IsFirst, IsEnd, DividesWhole, IsDivisor, IsPushed, steps, whole}
+use Rattle.row_core.proofs.Places.{absent, at-here, at-elsewhere}
+use Rattle.row_core.proofs.Sums.{at as number_of, sum-push}
+use Rattle.row_core.proofs.Walks.{before_first, past_end, floor_below}
+
+-- ---- the divisor
+
+-- the divisor of the numbers below a column, which is the end of what has been read
+pub record IsDivisorSoFar (r p : List Term) (sum : Sum) (at : Place) (divisor : ℕ) : Type 0 where
+  pub floor : ℕ
+  pub are : AreRead r p sum at floor
+  pub divides : (c : ℕ) → c < floor → divisor ∣ unsigned_abs (whole sum r p c)
+  pub greatest : (d : ℕ) → DividesWhole d (whole sum r p) → d ∣ divisor
+  pub small : divisor < 2 ^ 127
+
+gcd_small : (a b g n : ℕ) → IsGcd a b g → a < n → b < n → g < n
+gcd_small zero zero g n is a_small b_small =
+    let none : g ≡ 0 = eq-zero_of_zero-dvd (is.2 0 (dvd-zero 0) (dvd-zero 0)) in
+    omega (arith, none, a_small)
+gcd_small zero (suc b) g n is a_small b_small =
+    let le : g ≤ suc b = le_of_dvd (omega arith) is.1 in
+    omega (arith, le, b_small)
+gcd_small (suc a) b g n is a_small b_small =
+    let le : g ≤ suc a = le_of_dvd (omega arith) is.0 in
+    omega (arith, le, a_small)
+
+divides_none : (d : ℕ) (z : ℤ) → z ≡ pos 0 → d ∣ unsigned_abs z
+divides_none d z none = subst (λ (y : ℤ). d ∣ unsigned_abs y) (sym none) (dvd-zero d)
+
+-- a column below one, or the first that is read
+pub split : (c floor col : ℕ) → c < col + 1 → (c < floor) ⊎ (((floor ≤ c) × (c < col)) ⊎ (c ≡ col))
+split c floor col less =
+    elim (cases_lt c floor) [
+      | inl below ↦ inl below
+      | inr from ↦
+          elim (cases_lt c col) [
+            | inl before ↦ inr (inl (from, before))
+            | inr on ↦ inr (inr (omega (arith, less, on)))
+          ]
+    ]
+
+pub divisor_more : (r p : List Term) (sum : Sum) (at next : Place) (old new col : ℕ) (v : ℤ) → IsRising r → IsRising p → IsDivisorSoFar r p sum at old → IsFirst r p sum at col
+    → ((floor : ℕ) → AreRead r p sum at floor → v ≡ whole sum r p col) → ((floor : ℕ) → AreRead r p sum at floor → AreRead r p sum next (col + 1))
+    → unsigned_abs v < 2 ^ 127 → IsGcd (unsigned_abs v) old new → IsDivisorSoFar r p sum next new
+divisor_more r p sum at next old new col v r_rising p_rising is first value read small gcd =
+    let here : v ≡ whole sum r p col = value is.floor is.are in
+    record {
+      floor = col + 1;
+      are = read is.floor is.are;
+      divides = λ c less.
+          elim (split c is.floor col less) [
+            | inl below ↦ dvd_trans new gcd.1 (is.divides c below)
+            | inr (inl between) ↦ divides_none new (whole sum r p c) (before_first r p sum at is.floor col c r_rising p_rising is.are first between.0 between.1)
+            | inr (inr same) ↦ subst (λ (q : ℕ). new ∣ unsigned_abs (whole sum r p q)) (sym same) (subst (λ (z : ℤ). new ∣ unsigned_abs z) here gcd.0)
+          ];
+      greatest = λ d all. gcd.2 d (subst (λ (z : ℤ). d ∣ unsigned_abs z) (sym here) (all col)) (is.greatest d all);
+      small = gcd_small (unsigned_abs v) old new (2 ^ 127) gcd small is.small;
+    }
+
+pub divisor_starts : (r p : List Term) (sum : Sum) (at : Place) → AreRead r p sum at 0 → IsDivisorSoFar r p sum at 0
+divisor_starts r p sum at are = record {
+  floor = 0;
+  are = are;
+  divides = λ c less. absurd (omega (arith, less));
+  greatest = λ d all. dvd-zero d;
+  small = omega arith;
+}
+
+pub divisor_ends : (r p : List Term) (sum : Sum) (at : Place) (g : ℕ) → IsRising r → IsRising p → IsDivisorSoFar r p sum at g → IsEnd r p at → DividesWhole g (whole sum r p)
+divisor_ends r p sum at g r_rising p_rising is end c =
+    elim (cases_lt c is.floor) [
+      | inl below ↦ is.divides c below
+      | inr from ↦ divides_none g (whole sum r p c) (past_end r p sum at is.floor c r_rising p_rising is.are end from)
+    ]
+
+added_once : (b : Bool) → cond b 1 0 ≤ 1
+added_once true = omega arith
+added_once false = omega arith
+
+pub steps_within : (r p : List Term) (sum : Sum) (at : Place) (floor : ℕ) → AreRead r p sum at floor → steps at ≤ length r + (length p + 1)
+steps_within r p sum at floor are = omega (arith, are.left.within, are.right.within, added_once at.is_added)
+
+size_some : (z : ℤ) → 0 ∣ unsigned_abs z → z ≡ pos 0
+size_some (pos n) none = ap pos (eq-zero_of_zero-dvd none)
+size_some (negsuc n) none = let no : suc n ≡ 0 = eq-zero_of_zero-dvd none in absurd (omega (arith, no))
+
+pub divisor_of_none : (whole : ℕ → ℤ) (g : ℕ) → DividesWhole g whole → g ≡ 0 → IsDivisor (pos 1) whole
+divisor_of_none whole g divides none = record {
+  above = omega (arith, ints);
+  divides = λ c. one-dvd (unsigned_abs (whole c));
+  greatest = λ d c some all. absurd (some (size_some (whole c) (subst (λ (n : ℕ). n ∣ unsigned_abs (whole c)) none (divides c))));
+}
+
+pub divisor_of_some : (whole : ℕ → ℤ) (g : ℕ) (z : ℤ) → DividesWhole g whole → ((d : ℕ) → DividesWhole d whole → d ∣ g) → 0 < g → z ≡ pos g → IsDivisor z whole
+divisor_of_some whole g z divides greatest some is =
+    subst (λ (y : ℤ). IsDivisor y whole) (sym is)
+    (record { above = omega (arith, ints); divides = divides; greatest = λ d c filled all. greatest d all })
+
+-- ---- the divided row
+
+-- the row has the numbers below a column, divided
+pub record IsDividedSoFar (r p : List Term) (sum : Sum) (at : Place) (divisor : ℤ) (out : List Term) : Type 0 where
+  pub floor : ℕ
+  pub are : AreRead r p sum at floor
+  pub same : (c : ℕ) → c < floor → divisor *ℤ coefficient c out ≡ whole sum r p c
+  pub below : All (λ t. t.col < floor) out
+  pub rising : IsRising out
+  pub nonzero : AllNonzero out
+  pub fits : AllFit out
+
+-- what is behind all terms
+none_behind : (out : List Term) (floor c : ℕ) → All (λ t. t.col < floor) out → floor ≤ c → coefficient c out ≡ pos 0
+none_behind out floor c below from = absent c out (λ k d within same. absurd (omega (arith, below k d within, same, from)))
+
+times_none : (g z : ℤ) → z ≡ pos 0 → g *ℤ z ≡ pos 0
+times_none g z none = ap (λ (y : ℤ). g *ℤ y) none ∙ mul-zero_ℤ g
+
+same_none : (g v w : ℤ) → v ≡ pos 0 → w ≡ pos 0 → g *ℤ v ≡ w
+same_none g v w none absent = times_none g v none ∙ sym absent
+
+pub divided_more : (r p : List Term) (sum : Sum) (at next : Place) (divisor : ℤ) (out new : List Term) (col : ℕ) (v : ℤ) → IsRising r → IsRising p
+    → IsDividedSoFar r p sum at divisor out → IsFirst r p sum at col
+    → ((floor : ℕ) → AreRead r p sum at floor → v ≡ whole sum r p col) → ((floor : ℕ) → AreRead r p sum at floor → AreRead r p sum next (col + 1))
+    → IsPushed divisor col v out new → IsDividedSoFar r p sum next divisor new
+divided_more r p sum at next divisor out new col v r_rising p_rising is first value read pushed =
+    let here : v ≡ whole sum r p col = value is.floor is.are in
+    let le : is.floor ≤ col = floor_below r p sum at is.floor col is.are first in
+    let further : All (λ t. t.col < col + 1) out = λ k d within. omega (arith, is.below k d within, le) in
+    elim pushed [
+      | inl kept ↦
+          subst (λ (row : List Term). IsDividedSoFar r p sum next divisor row) (sym kept.1)
+          (record {
+            floor = col + 1;
+            are = read is.floor is.are;
+            same = λ c less.
+                elim (split c is.floor col less) [
+                  | inl low ↦ is.same c low
+                  | inr (inl between) ↦
+                      same_none divisor (coefficient c out) (whole sum r p c) (none_behind out is.floor c is.below between.0)
+                      (before_first r p sum at is.floor col c r_rising p_rising is.are first between.0 between.1)
+                  | inr (inr on) ↦
+                      same_none divisor (coefficient c out) (whole sum r p c) (none_behind out is.floor c is.below (omega (arith, le, on)))
+                      (ap (whole sum r p) on ∙ sym here ∙ kept.0)
+                ];
+            below = further;
+            rising = is.rising;
+            nonzero = is.nonzero;
+            fits = is.fits;
+          })
+      | inr more ↦
+          let q : ℤ = more.0 in
+          let t : Term = record { col = col; by = q } in
+          subst (λ (row : List Term). IsDividedSoFar r p sum next divisor row) (sym more.4)
+          (record {
+            floor = col + 1;
+            are = read is.floor is.are;
+            same = λ c less.
+                let push : coefficient c (out ++ t ∷ []) ≡ coefficient c out +ℤ number_of c t = sum-push (number_of c) out t in
+                elim (split c is.floor col less) [
+                  | inl low ↦
+                      let other : number_of c t ≡ pos 0 = at-elsewhere c t (λ e. absurd (omega (arith, e, low, le))) in
+                      ap (λ (z : ℤ). divisor *ℤ z) (push ∙ ap (λ (z : ℤ). coefficient c out +ℤ z) other ∙ add-zero_ℤ (coefficient c out)) ∙ is.same c low
+                  | inr (inl between) ↦
+                      let other : number_of c t ≡ pos 0 = at-elsewhere c t (λ e. absurd (omega (arith, e, between.1))) in
+                      same_none divisor (coefficient c (out ++ t ∷ [])) (whole sum r p c)
+                      (push ∙ ap (λ (z : ℤ). coefficient c out +ℤ z) other ∙ add-zero_ℤ (coefficient c out) ∙ none_behind out is.floor c is.below between.0)
+                      (before_first r p sum at is.floor col c r_rising p_rising is.are first between.0 between.1)
+                  | inr (inr on) ↦
+                      let this : number_of c t ≡ q = at-here c t (sym on) in
+                      let number : coefficient c (out ++ t ∷ []) ≡ q = omega (arith, ints, push, this, none_behind out is.floor c is.below (omega (arith, le, on))) in
+                      ap (λ (z : ℤ). divisor *ℤ z) number ∙ more.2 ∙ here ∙ ap (whole sum r p) (sym on)
+                ];
+            below = All-push (λ s. s.col < col + 1) out t further (omega arith);
+            rising = all_pairs_push (λ x y. x.col < y.col) out t is.rising (λ k d within. omega (arith, is.below k d within, le));
+            nonzero = All-push (λ s. s.by ≢ pos 0) out t is.nonzero (λ none. more.1 (sym more.2 ∙ times_none divisor q none));
+            fits = All-push (λ s. IsFitting s.by) out t is.fits more.3;
+          })
+    ]
+
+pub divided_starts : (r p : List Term) (sum : Sum) (at : Place) (divisor : ℤ) → AreRead r p sum at 0 → IsDividedSoFar r p sum at divisor []
+divided_starts r p sum at divisor are = record {
+  floor = 0;
+  are = are;
+  same = λ c less. absurd (omega (arith, less));
+  below = λ k d within. absurd (omega arith);
+  rising = λ i j d less within. absurd (omega arith);
+  nonzero = λ k d within. absurd (omega arith);
+  fits = λ k d within. absurd (omega arith);
+}
+
+pub divided_ends : (r p : List Term) (sum : Sum) (at : Place) (divisor : ℤ) (out : List Term) → IsRising r → IsRising p → IsDividedSoFar r p sum at divisor out → IsEnd r p at
+    → (c : ℕ) → divisor *ℤ coefficient c out ≡ whole sum r p c
+divided_ends r p sum at divisor out r_rising p_rising is end c =
+    elim (cases_lt c is.floor) [
+      | inl low ↦ is.same c low
+      | inr from ↦ same_none divisor (coefficient c out) (whole sum r p c) (none_behind out is.floor c is.below from) (past_end r p sum at is.floor c r_rising p_rising is.are end from)
+    ]

@@ -1,0 +1,10 @@
+use Rattle.std.proofs.Common.{◌+◌, ◌-◌, length}
+use Rattle.row_core.specs.Walks.{steps}
+use Rattle.row_core.proofs.Dividing.{IsDividedSoFar}
+use Rattle.row_core.proofs.divide.divided_narrow.Given as goal
+
+abbrev pub invariant-loop-read : goal.invariant-loop-read
+invariant-loop-read l = IsDividedSoFar l.r l.p l.sum l.at l.divisor l.out.items
+
+abbrev pub decreases-loop-read : goal.decreases-loop-read
+decreases-loop-read l = (length l.r + (length l.p + 1)) - steps l.at

@@ -1,0 +1,10 @@
+use Rattle.std.proofs.Common.{◌∙◌, ap, ◌*ℤ◌, ℤ}
+use Rattle.std.specs.Int.{w128}
+use Rattle.std.proofs.lemmas.Int.{quot_is, quot_fits}
+use Rattle.row_core.proofs.Divisors.{exact_quotient}
+use Rattle.row_core.proofs.divide.quotient.Goals as goal
+
+pub returns : goal.returns
+returns c =
+    ap (λ (z : ℤ). c.args.divisor *ℤ z) (quot_is w128 c.args.by c.args.divisor c.ranges.by c.ranges.divisor (quot_fits w128 c.args.by c.args.divisor c.ranges.by c.requires.above))
+    ∙ exact_quotient c.args.by c.args.divisor c.requires.above c.requires.divides

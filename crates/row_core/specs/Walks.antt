@@ -1,0 +1,136 @@
+-- The columns of two rows, from the lowest up.
+use Rattle.std.specs.Prelude.{◌≡◌, ◌≢◌, ℕ, ◌+◌, ◌-◌, ◌*◌, ◌<◌, ◌≤◌, ◌^◌, true, false, ◌&&◌, cond, nat_eq, List, [], ◌∷◌, ◌++◌, length, slice_index_or, ℤ, pos, ◌<ℤ◌, ◌+ℤ◌, ◌*ℤ◌, unsigned_abs, All, ◌⊎◌}
+use Prim.Native.Nat.{◌∣◌}
+use Rattle.frac_core.specs.Fraction.{IsFitting}
+use Rattle.frac_core.specs.declared.frac.TheConstants.{PART_BOUND}
+use Rattle.row_core.specs.Rows.{Term, coefficient, combination}
+use Rattle.row_core.specs.Combinations.{IsFactor}
+use Rattle.row_core.specs.declared.walk.Sum.{Sum}
+use Rattle.row_core.specs.declared.walk.Place.{Place}
+use Rattle.row_core.specs.declared.walk.RowsRead.{RowsRead}
+use Rattle.row_core.specs.declared.walk.Reading.{Reading}
+
+-- small enough for the sum of two products and a factor to have 128 bits
+abbrev pub IsSmallProduct : ℤ → ℤ → Type 0
+IsSmallProduct k by = unsigned_abs (k *ℤ by) < 2 ^ 126 - 2 ^ 84
+
+-- the factor is one, and the numbers fit unless it is 1 in size or 0
+pub record IsFactorOf (k : ℤ) (row : List Term) : Type 0 where
+  pub factor : IsFactor k
+  pub room : All (λ t. IsFitting t.by) row ⊎ (unsigned_abs k ≤ 1)
+
+pub record HasSmallProducts (sum : Sum) (r p : List Term) : Type 0 where
+  pub left : IsFactorOf sum.k r
+  pub right : IsFactorOf sum.n p
+  pub extra : IsFactor sum.extra
+
+-- the sum's number at the column c where that of the two rows is z
+abbrev pub whole_of : Sum → ℕ → ℤ → ℤ
+whole_of sum c z =
+    cond (sum.leaves && nat_eq c sum.without.0) (pos 0) (z +ℤ cond (nat_eq c sum.at.0) sum.extra (pos 0))
+
+-- the sum's numbers
+abbrev pub whole : Sum → List Term → List Term → ℕ → ℤ
+whole sum r p c = whole_of sum c (combination sum.k r sum.n p c)
+
+abbrev pub column_at : List Term → ℕ → ℕ
+column_at row i = (slice_index_or row i (record { col = 0; by = pos 0 })).col
+
+-- the first i terms of the row are those below the column
+pub record IsRead (row : List Term) (i floor : ℕ) : Type 0 where
+  pub within : i ≤ length row
+  pub before : (m : ℕ) → m < i → column_at row m < floor
+  pub behind : (m : ℕ) → i ≤ m → m < length row → floor ≤ column_at row m
+
+-- all below the column has been read, and nothing else
+pub record AreRead (r p : List Term) (sum : Sum) (at : Place) (floor : ℕ) : Type 0 where
+  pub left : IsRead r at.left floor
+  pub right : IsRead p at.right floor
+  pub added : at.is_added ≡ true → (sum.at.0 < floor) ⊎ (sum.extra ≡ pos 0)
+  pub waiting : at.is_added ≡ false → floor ≤ sum.at.0
+
+-- the row's place i has this column
+abbrev pub HasNext : List Term → ℕ → ℕ → Type 0
+HasNext row i col = (i < length row) × (col ≡ column_at row i)
+
+-- the column is the lowest that has not been read
+pub record IsFirst (r p : List Term) (sum : Sum) (at : Place) (col : ℕ) : Type 0 where
+  pub left : at.left < length r → col ≤ column_at r at.left
+  pub right : at.right < length p → col ≤ column_at p at.right
+  pub waiting : at.is_added ≡ false → col ≤ sum.at.0
+  pub one : HasNext r at.left col ⊎ (HasNext p at.right col ⊎ ((at.is_added ≡ false) × (col ≡ sum.at.0)))
+
+-- all columns have been read
+pub record IsEnd (r p : List Term) (at : Place) : Type 0 where
+  pub left : length r ≤ at.left
+  pub right : length p ≤ at.right
+  pub added : at.is_added ≡ true
+
+-- how many of the entries and of the numbers at one column have been read
+abbrev pub steps : Place → ℕ
+steps at = at.left + (at.right + cond at.is_added 1 0)
+
+-- the row has this number at a column up to its next one, and then next terms have been read
+pub record IsRowRead (row : List Term) (i col : ℕ) (by : ℤ) (next : ℕ) : Type 0 where
+  pub first : i < length row → col ≤ column_at row i
+  pub value : (floor : ℕ) → IsRead row i floor → floor ≤ col → by ≡ coefficient col row
+  pub read : (floor : ℕ) → IsRead row i floor → floor ≤ col → IsRead row next (col + 1)
+  pub small : (k : ℤ) → IsFactorOf k row → IsSmallProduct k by
+  pub fits : All (λ t. IsFitting t.by) row → IsFitting by
+  pub further : i ≤ next
+  pub here : i < length row → col ≡ column_at row i → i < next
+
+-- the number at one column alone has been read
+abbrev pub alone : Place → ℕ → RowsRead
+alone at col =
+    record {
+      col = col;
+      left = pos 0;
+      right = pos 0;
+      next = record { left = at.left; right = at.right; is_added = true };
+    }
+
+-- the two rows have been read at the sum's lowest column
+pub record IsSumRead (r p : List Term) (sum : Sum) (at : Place) (x : RowsRead) : Type 0 where
+  pub left : IsRowRead r at.left x.col x.left x.next.left
+  pub right : IsRowRead p at.right x.col x.right x.next.right
+  pub first : IsFirst r p sum at x.col
+  pub read : (floor : ℕ) → AreRead r p sum at floor → AreRead r p sum x.next (x.col + 1)
+  pub further : steps at < steps x.next
+
+-- the sum has this number at its lowest column that has not been read
+pub record IsReading (r p : List Term) (sum : Sum) (at : Place) (x : Reading) : Type 0 where
+  pub value : (floor : ℕ) → AreRead r p sum at floor → x.by ≡ whole sum r p x.col
+  pub first : IsFirst r p sum at x.col
+  pub read : (floor : ℕ) → AreRead r p sum at floor → AreRead r p sum x.next (x.col + 1)
+  pub further : steps at < steps x.next
+
+-- small enough for its product with a fitting number to have 62 bits
+abbrev pub IsNarrow : ℤ → Type 0
+IsNarrow k = unsigned_abs k < 2 ^ 19
+
+-- all its numbers have 64 bits where those of the rows fit
+pub record IsNarrowSum (sum : Sum) : Type 0 where
+  pub k : IsNarrow sum.k
+  pub n : IsNarrow sum.n
+  pub extra : unsigned_abs sum.extra < 2 ^ 61
+
+abbrev pub DividesWhole : ℕ → (ℕ → ℤ) → Type 0
+DividesWhole d whole = (c : ℕ) → d ∣ unsigned_abs (whole c)
+
+-- the greatest common divisor of the numbers, or a number above 0 where all are 0
+pub record IsDivisor (divisor : ℤ) (whole : ℕ → ℤ) : Type 0 where
+  pub above : pos 0 <ℤ divisor
+  pub divides : DividesWhole (unsigned_abs divisor) whole
+  pub greatest : (d c : ℕ) → whole c ≢ pos 0 → DividesWhole d whole → d ∣ unsigned_abs divisor
+
+-- the row has one more term, whose number times the divisor is this one, unless that is 0
+abbrev pub IsPushed : ℤ → ℕ → ℤ → List Term → List Term → Type 0
+IsPushed divisor col by old new =
+    ((by ≡ pos 0) × (new ≡ old))
+    ⊎ ((q : ℤ) × (by ≢ pos 0) × (divisor *ℤ q ≡ by) × IsFitting q
+    × (new ≡ old ++ record { col = col; by = q } ∷ []))
+
+-- the quotient does not fit
+abbrev pub IsTooLarge : ℤ → ℤ → Type 0
+IsTooLarge divisor by = unsigned_abs divisor * PART_BOUND ≤ unsigned_abs by

@@ -1,0 +1,138 @@
+// The division of a sum's numbers by their greatest common divisor.
+ghost use Rattle.std.specs.Prelude.{◌≡◌, ℕ, ℤ, ◌*◌, ◌<◌, ◌≤◌, ◌^◌, ◌*ℤ◌, ◌<ℤ◌, pos, unsigned_abs, IfOk, IfErr, IfSome, IfNone};
+ghost use Prim.Native.Nat.{◌∣◌};
+ghost use Rattle.frac_core.specs.Fraction.{IsFitting};
+ghost use Rattle.row_core.specs.Rows.{IsRising, IsKeptRow, IsReduced, IsUnfit};
+ghost use Rattle.row_core.specs.Walks.{HasSmallProducts, IsNarrowSum, DividesWhole, IsDivisor, IsPushed, IsTooLarge, whole};
+ghost use Rattle.row_core.specs.declared.entry.RowStop.TheVariants.{Unfit};
+
+use crate::entry::{Col, Entry, RowStop};
+use crate::walk::{Sum, next_narrow, next_wide, start};
+use frac_core::{PART_BOUND, gcd};
+use std::alloc::Global;
+
+// The greatest common divisor of the numbers, which is 0 where all are 0.
+fn common_divisor(r: &[Entry], p: &[Entry], sum: Sum) -> u128
+    requires r_rising { IsRising r.now }
+    requires p_rising { IsRising p.now }
+    requires products { HasSmallProducts sum r.now p.now }
+    ensures divides { DividesWhole result (whole sum r.now p.now) }
+    ensures greatest { (d : ℕ) → DividesWhole d (whole sum r.now p.now) → d ∣ result }
+    ensures small { result < 2 ^ 127 }
+{
+    let mut divisor = 0;
+    let mut at = start(sum);
+    while let Some(read) = next_wide(r, p, sum, at) {
+        divisor = gcd(read.by.unsigned_abs(), divisor);
+        if divisor == 1 {
+            return 1;
+        }
+        at = read.next;
+    }
+    divisor
+}
+
+/// The number that each number of the sum is to be divided by.
+pub(crate) fn divisor_of(r: &[Entry], p: &[Entry], sum: Sum) -> i128
+    requires r_rising { IsRising r.now }
+    requires p_rising { IsRising p.now }
+    requires products { HasSmallProducts sum r.now p.now }
+    ensures { IsDivisor result (whole sum r.now p.now) }
+{
+    let divisor = common_divisor(r, p, sum);
+    if divisor == 0 { 1 } else { divisor as i128 }
+}
+
+// The exact quotient.
+fn quotient(by: i128, divisor: i128) -> i128
+    requires above { pos 0 <ℤ divisor }
+    requires divides { unsigned_abs divisor ∣ unsigned_abs by }
+    ensures { divisor *ℤ result ≡ by }
+{
+    if divisor == 1 {
+        return by;
+    }
+    by / divisor
+}
+
+// The quotient, where it fits.
+fn fitting_quotient(by: i128, divisor: i128) -> Option<i64>
+    requires above { pos 0 <ℤ divisor }
+    requires divides { unsigned_abs divisor ∣ unsigned_abs by }
+    ensures same { IfSome result (λ q. divisor *ℤ q ≡ by) }
+    ensures fits { IfSome result (λ q. IsFitting q) }
+    ensures unfit { IfNone result (IsTooLarge divisor by) }
+{
+    let q = quotient(by, divisor);
+    if q.unsigned_abs() >= PART_BOUND {
+        return None;
+    }
+    Some(q as i64)
+}
+
+// Appends the quotient unless it is 0.
+fn keep(out: &mut Vec<Entry>, col: u64, by: i128, divisor: i128) -> Result<(), RowStop>
+    requires above { pos 0 <ℤ divisor }
+    requires divides { unsigned_abs divisor ∣ unsigned_abs by }
+    ensures pushed { IfOk result (λ _. IsPushed divisor col by out.old.items out.new.items) }
+    ensures unfit { IfErr result (λ stop. stop ≡ Unfit → IsTooLarge divisor by) }
+{
+    if by == 0 {
+        return Ok(());
+    }
+    let Some(by) = fitting_quotient(by, divisor) else {
+        return Err(RowStop::Unfit);
+    };
+    out.push(Entry { col: Col(col), by })?;
+    Ok(())
+}
+
+/// The sum's numbers divided by their divisor, unless a quotient does not fit.
+pub(crate) fn divided(
+    alloc: Global,
+    r: &[Entry],
+    p: &[Entry],
+    sum: Sum,
+    divisor: i128,
+) -> Result<Vec<Entry>, RowStop>
+    requires r_rising { IsRising r.now }
+    requires p_rising { IsRising p.now }
+    requires products { HasSmallProducts sum r.now p.now }
+    requires divisor { IsDivisor divisor (whole sum r.now p.now) }
+    ensures value { IfOk result (λ out. IsReduced out.items (whole sum r.now p.now)) }
+    ensures kept { IfOk result (λ out. IsKeptRow out.items) }
+    ensures unfit { IfErr result (λ stop. stop ≡ Unfit → IsUnfit (whole sum r.now p.now)) }
+{
+    let mut out = Vec::with_capacity(alloc, r.len() + p.len())?;
+    let mut at = start(sum);
+    while let Some(read) = next_wide(r, p, sum, at) {
+        keep(&mut out, read.col, read.by, divisor)?;
+        at = read.next;
+    }
+    Ok(out)
+}
+
+/// The same of a sum whose numbers have 64 bits.
+pub(crate) fn divided_narrow(
+    alloc: Global,
+    r: &[Entry],
+    p: &[Entry],
+    sum: Sum,
+    divisor: i128,
+) -> Result<Vec<Entry>, RowStop>
+    requires r_kept { IsKeptRow r.now }
+    requires p_kept { IsKeptRow p.now }
+    requires narrow { IsNarrowSum sum }
+    requires divisor { IsDivisor divisor (whole sum r.now p.now) }
+    ensures value { IfOk result (λ out. IsReduced out.items (whole sum r.now p.now)) }
+    ensures kept { IfOk result (λ out. IsKeptRow out.items) }
+    ensures unfit { IfErr result (λ stop. stop ≡ Unfit → IsUnfit (whole sum r.now p.now)) }
+{
+    let mut out = Vec::with_capacity(alloc, r.len() + p.len())?;
+    let mut at = start(sum);
+    while let Some(read) = next_narrow(r, p, sum, at) {
+        keep(&mut out, read.col, read.by, divisor)?;
+        at = read.next;
+    }
+    Ok(out)
+}

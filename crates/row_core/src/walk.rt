@@ -1,0 +1,371 @@
+// The columns of two rows, from the lowest up.
+ghost use Rattle.std.specs.Prelude.{◌≡◌, ℕ, ℤ, Bool, true, false, ◌&&◌, nat_eq, ◌+◌, ◌-◌, ◌<◌, ◌≤◌, ◌^◌, ◌*ℤ◌, ◌+ℤ◌, pos, unsigned_abs, length, IfSome, IfNone, ◌⊎◌};
+ghost use Rattle.frac_core.specs.Fraction.{IsFitting};
+ghost use Rattle.row_core.specs.Rows.{IsRising, AllFit, coefficient};
+ghost use Rattle.row_core.specs.Combinations.{IsFactor};
+ghost use Rattle.row_core.specs.Walks.{IsSmallProduct, IsFactorOf, HasSmallProducts, HasNext, alone, IsRowRead, IsSumRead, IsReading, IsNarrow, IsNarrowSum, IsRead, IsEnd, column_at, whole_of};
+
+use crate::entry::{Col, Entry, Factors, Patch};
+
+/// A sum of multiples of two rows and of a number at one column, perhaps without another column.
+#[derive(Clone, Copy, Debug, PartialEq, Eq)]
+pub(crate) struct Sum {
+    pub k: i128,
+    pub n: i128,
+    pub leaves: bool,
+    pub without: Col,
+    pub at: Col,
+    pub extra: i128,
+}
+
+/// How many entries of two rows have been read, and whether the number at one column has been.
+#[derive(Clone, Copy, Debug, PartialEq, Eq)]
+pub(crate) struct Place {
+    pub left: usize,
+    pub right: usize,
+    pub is_added: bool,
+}
+
+/// The sum of multiples of two rows alone.
+pub(crate) fn plain(by: Factors) -> Sum
+    ensures k { result.k ≡ by.k }
+    ensures n { result.n ≡ by.n }
+    ensures extra { result.extra ≡ pos 0 }
+    ensures leaves { result.leaves ≡ false }
+{
+    Sum {
+        k: by.k,
+        n: by.n,
+        leaves: false,
+        without: Col(0),
+        at: Col(0),
+        extra: 0,
+    }
+}
+
+/// The sum that leaves a column out and adds a number at another one.
+pub(crate) fn patched(by: Factors, but: Patch) -> Sum
+    ensures k { result.k ≡ by.k }
+    ensures n { result.n ≡ by.n }
+    ensures leaves { result.leaves ≡ true }
+    ensures without { result.without ≡ but.without }
+    ensures at { result.at ≡ but.at }
+    ensures extra { result.extra ≡ but.extra }
+{
+    Sum {
+        k: by.k,
+        n: by.n,
+        leaves: true,
+        without: but.without,
+        at: but.at,
+        extra: but.extra,
+    }
+}
+
+/// The place before all columns.
+pub(crate) fn start(sum: Sum) -> Place
+    ensures left { result.left ≡ 0 }
+    ensures right { result.right ≡ 0 }
+    ensures added { result.is_added ≡ true → sum.extra ≡ pos 0 }
+{
+    Place {
+        left: 0,
+        right: 0,
+        is_added: sum.extra == 0,
+    }
+}
+
+// What a row has at a column, and how many of its entries have been read then.
+#[derive(Clone, Copy, Debug, PartialEq, Eq)]
+struct There {
+    by: i64,
+    next: usize,
+}
+
+// Reads the row at the column.
+fn read_row(row: &[Entry], i: usize, col: u64) -> There
+    requires rising { IsRising row.now }
+    requires first { i < length row.now → col ≤ column_at row.now i }
+    ensures value { (floor : ℕ) → IsRead row.now i floor → floor ≤ col → result.by ≡ coefficient col row.now }
+    ensures read { (floor : ℕ) → IsRead row.now i floor → floor ≤ col → IsRead row.now result.next (col + 1) }
+    ensures small { (k : ℤ) → IsFactorOf k row.now → IsSmallProduct k result.by }
+    ensures fits { AllFit row.now → IsFitting result.by }
+    ensures further { i ≤ result.next }
+    ensures here { i < length row.now → col ≡ column_at row.now i → i < result.next }
+{
+    if i < row.len() {
+        let e = row[i];
+        if e.col.0 == col {
+            return There {
+                by: e.by,
+                next: i + 1,
+            };
+        }
+    }
+    There { by: 0, next: i }
+}
+
+/// What two rows have at a column, and what has been read then.
+#[derive(Clone, Copy, Debug, PartialEq, Eq)]
+pub(crate) struct RowsRead {
+    pub col: u64,
+    pub left: i64,
+    pub right: i64,
+    pub next: Place,
+}
+
+// Reads the two rows at their lowest column.
+fn read_rows(r: &[Entry], p: &[Entry], at: Place, col: u64) -> RowsRead
+    requires r_rising { IsRising r.now }
+    requires p_rising { IsRising p.now }
+    requires left { at.left < length r.now → col ≤ column_at r.now at.left }
+    requires right { at.right < length p.now → col ≤ column_at p.now at.right }
+    ensures col { result.col ≡ col }
+    ensures left { IsRowRead r.now at.left col result.left result.next.left }
+    ensures right { IsRowRead p.now at.right col result.right result.next.right }
+    ensures added { result.next.is_added ≡ at.is_added }
+{
+    let left = read_row(r, at.left, col);
+    let right = read_row(p, at.right, col);
+    RowsRead {
+        col,
+        left: left.by,
+        right: right.by,
+        next: Place {
+            left: left.next,
+            right: right.next,
+            is_added: at.is_added,
+        },
+    }
+}
+
+/// Reads the two rows at the lowest column that has not been read, unless there is none.
+pub(crate) fn next_of_rows(r: &[Entry], p: &[Entry], at: Place) -> Option<RowsRead>
+    requires r_rising { IsRising r.now }
+    requires p_rising { IsRising p.now }
+    requires left { at.left ≤ length r.now }
+    requires right { at.right ≤ length p.now }
+    ensures left { IfSome result (λ x. IsRowRead r.now at.left x.col x.left x.next.left) }
+    ensures right { IfSome result (λ x. IsRowRead p.now at.right x.col x.right x.next.right) }
+    ensures added { IfSome result (λ x. x.next.is_added ≡ at.is_added) }
+    ensures one { IfSome result (λ x. HasNext r.now at.left x.col ⊎ HasNext p.now at.right x.col) }
+    ensures left_end { IfNone result (length r.now ≤ at.left) }
+    ensures right_end { IfNone result (length p.now ≤ at.right) }
+{
+    if at.left == r.len() {
+        if at.right == p.len() {
+            return None;
+        }
+        let right = p[at.right];
+        return Some(read_rows(r, p, at, right.col.0));
+    }
+    let left = r[at.left];
+    if at.right == p.len() {
+        return Some(read_rows(r, p, at, left.col.0));
+    }
+    let right = p[at.right];
+    if left.col.0 < right.col.0 {
+        Some(read_rows(r, p, at, left.col.0))
+    } else if right.col.0 < left.col.0 {
+        Some(read_rows(r, p, at, right.col.0))
+    } else {
+        Some(read_rows(r, p, at, left.col.0))
+    }
+}
+
+// What has been read of the two rows when the number at one column is added before their next one.
+fn added_alone(at: Place, col: u64) -> RowsRead
+    ensures { result ≡ alone at col }
+{
+    RowsRead {
+        col,
+        left: 0,
+        right: 0,
+        next: Place {
+            left: at.left,
+            right: at.right,
+            is_added: true,
+        },
+    }
+}
+
+// The same with the number at one column added, where that is theirs.
+fn with_added(read: RowsRead, col: u64) -> RowsRead
+    ensures col { result.col ≡ read.col }
+    ensures left { result.left ≡ read.left }
+    ensures right { result.right ≡ read.right }
+    ensures next_left { result.next.left ≡ read.next.left }
+    ensures next_right { result.next.right ≡ read.next.right }
+    ensures added { result.next.is_added ≡ nat_eq read.col col }
+{
+    RowsRead {
+        col: read.col,
+        left: read.left,
+        right: read.right,
+        next: Place {
+            left: read.next.left,
+            right: read.next.right,
+            is_added: read.col == col,
+        },
+    }
+}
+
+// Reads the two rows at the lowest column that has not been read, or at that of the number.
+fn next_of_both(r: &[Entry], p: &[Entry], sum: Sum, at: Place) -> Option<RowsRead>
+    requires r_rising { IsRising r.now }
+    requires p_rising { IsRising p.now }
+    requires left { at.left ≤ length r.now }
+    requires right { at.right ≤ length p.now }
+    ensures read { IfSome result (IsSumRead r.now p.now sum at) }
+    ensures end { IfNone result (IsEnd r.now p.now at) }
+{
+    let rows = next_of_rows(r, p, at);
+    if at.is_added {
+        return rows;
+    }
+    match rows {
+        None => Some(added_alone(at, sum.at.0)),
+        Some(read) => {
+            if read.col <= sum.at.0 {
+                Some(with_added(read, sum.at.0))
+            } else {
+                Some(added_alone(at, sum.at.0))
+            }
+        }
+    }
+}
+
+// The product.
+fn product(k: i128, by: i64) -> i128
+    requires { IsSmallProduct k by }
+    ensures value { result ≡ k *ℤ by }
+    ensures small { IsSmallProduct k by }
+{
+    if k == 1 {
+        return i128::from(by);
+    }
+    k * i128::from(by)
+}
+
+// The sum of two products.
+fn both(sum: Sum, left: i64, right: i64) -> i128
+    requires left { IsSmallProduct sum.k left }
+    requires right { IsSmallProduct sum.n right }
+    ensures value { result ≡ sum.k *ℤ left +ℤ sum.n *ℤ right }
+    ensures small { unsigned_abs result < 2 ^ 127 - 2 ^ 85 }
+{
+    product(sum.k, left) + product(sum.n, right)
+}
+
+// Whether the column is left out.
+fn is_left_out(sum: Sum, col: u64) -> bool
+    ensures { result ≡ (sum.leaves && nat_eq col sum.without.0) }
+{
+    sum.leaves && col == sum.without.0
+}
+
+// The number that the sum has at a column where the rows have these ones.
+fn total(sum: Sum, left: i64, right: i64, col: u64) -> i128
+    requires left { IsSmallProduct sum.k left }
+    requires right { IsSmallProduct sum.n right }
+    requires extra { IsFactor sum.extra }
+    ensures value { result ≡ whole_of sum col (sum.k *ℤ left +ℤ sum.n *ℤ right) }
+    ensures small { unsigned_abs result < 2 ^ 127 }
+{
+    if is_left_out(sum, col) {
+        return 0;
+    }
+    let rows = both(sum, left, right);
+    if col == sum.at.0 {
+        rows + sum.extra
+    } else {
+        rows
+    }
+}
+
+// The product, where it has 64 bits.
+fn narrow_product(k: i128, by: i64) -> i64
+    requires k { IsNarrow k }
+    requires by { IsFitting by }
+    ensures value { result ≡ k *ℤ by }
+    ensures small { unsigned_abs result < 2 ^ 61 }
+{
+    k as i64 * by
+}
+
+// The sum of two products of 64 bits.
+fn narrow_both(sum: Sum, left: i64, right: i64) -> i64
+    requires k { IsNarrow sum.k }
+    requires n { IsNarrow sum.n }
+    requires left { IsFitting left }
+    requires right { IsFitting right }
+    ensures value { result ≡ sum.k *ℤ left +ℤ sum.n *ℤ right }
+    ensures small { unsigned_abs result < 2 ^ 62 }
+{
+    narrow_product(sum.k, left) + narrow_product(sum.n, right)
+}
+
+// The same in 64 bits.
+fn narrow_total(sum: Sum, left: i64, right: i64, col: u64) -> i64
+    requires narrow { IsNarrowSum sum }
+    requires left { IsFitting left }
+    requires right { IsFitting right }
+    ensures value { result ≡ whole_of sum col (sum.k *ℤ left +ℤ sum.n *ℤ right) }
+{
+    if is_left_out(sum, col) {
+        return 0;
+    }
+    let rows = narrow_both(sum, left, right);
+    if col == sum.at.0 {
+        rows + sum.extra as i64
+    } else {
+        rows
+    }
+}
+
+/// The number of a sum at a column, and what has been read then.
+#[derive(Clone, Copy, Debug, PartialEq, Eq)]
+pub(crate) struct Reading {
+    pub col: u64,
+    pub by: i128,
+    pub next: Place,
+}
+
+/// Reads the sum at the lowest column that has not been read, unless there is none.
+pub(crate) fn next_wide(r: &[Entry], p: &[Entry], sum: Sum, at: Place) -> Option<Reading>
+    requires r_rising { IsRising r.now }
+    requires p_rising { IsRising p.now }
+    requires products { HasSmallProducts sum r.now p.now }
+    requires left { at.left ≤ length r.now }
+    requires right { at.right ≤ length p.now }
+    ensures read { IfSome result (IsReading r.now p.now sum at) }
+    ensures small { IfSome result (λ x. unsigned_abs x.by < 2 ^ 127) }
+    ensures end { IfNone result (IsEnd r.now p.now at) }
+{
+    let read = next_of_both(r, p, sum, at)?;
+    Some(Reading {
+        col: read.col,
+        by: total(sum, read.left, read.right, read.col),
+        next: read.next,
+    })
+}
+
+/// The same of a sum whose numbers have 64 bits.
+pub(crate) fn next_narrow(r: &[Entry], p: &[Entry], sum: Sum, at: Place) -> Option<Reading>
+    requires r_rising { IsRising r.now }
+    requires p_rising { IsRising p.now }
+    requires r_fits { AllFit r.now }
+    requires p_fits { AllFit p.now }
+    requires narrow { IsNarrowSum sum }
+    requires left { at.left ≤ length r.now }
+    requires right { at.right ≤ length p.now }
+    ensures read { IfSome result (IsReading r.now p.now sum at) }
+    ensures end { IfNone result (IsEnd r.now p.now at) }
+{
+    let read = next_of_both(r, p, sum, at)?;
+    Some(Reading {
+        col: read.col,
+        by: i128::from(narrow_total(sum, read.left, read.right, read.col)),
+        next: read.next,
+    })
+}
