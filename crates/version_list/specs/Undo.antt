@@ -1,0 +1,54 @@
+-- What the logs of the marks stand for: the earlier versions.
+use Rattle.std.specs.Prelude.{◌≡◌, ◌≢◌, ℕ, ◌<◌, ◌≤◌, List, [], ◌∷◌, length, take, slice_set, slice_get}
+use Rattle.std.specs.Prelude.{slice_index, slice_index_or, IsSomeAnd, All, AllPairs}
+use Rattle.version_list.specs.declared.TheConstants.{MOST}
+use Rattle.version_list.specs.declared.log.Log.{Log}
+use Rattle.version_list.specs.declared.log.Replaced.{Replaced}
+
+-- the list with what was replaced at its places again, the last one first. `part` is the element or the slot.
+abbrev pub undo : {T X : Type 0} → (Replaced T → X) → List (Replaced T) → List X → List X
+undo part [] xs = xs
+undo part (r ∷ rs) xs = slice_set (undo part rs xs) r.at (part r)
+
+-- the elements at the log's mark
+abbrev pub items_at : {T : Type 0} → Log T → List T → List T
+items_at log items = undo (λ r. r.value) log.replaced.items (take log.len items)
+
+-- the slots at the log's mark
+abbrev pub slots_at : {T : Type 0} → Log T → List ℕ → List ℕ
+slots_at log slots = undo (λ r. r.slot) log.replaced.items (take log.len slots)
+
+-- the earlier versions of a list, where the newest log is first
+abbrev pub versions : {T : Type 0} → List T → List (Log T) → List (List T)
+versions items [] = []
+versions items (log ∷ logs) = items_at log items ∷ versions (items_at log items) logs
+
+-- the log has an element of the place at this slot
+abbrev pub HasAt : {T : Type 0} → List (Replaced T) → ℕ → ℕ → Type 0
+HasAt rs slot at = IsSomeAnd (slice_get rs slot) (λ r. r.at ≡ at)
+
+-- the log is one of a list with these slots: each place is at the slot that it has, and so there once
+pub record IsLogOf {T : Type 0} (slots : List ℕ) (log : Log T) : Type 0 where
+  pub no_longer : log.len ≤ length slots
+  pub places : All (λ r. r.at < log.len) log.replaced.items
+  pub found : (k : ℕ) (d : Replaced T) → k < length log.replaced.items
+      → slice_index slots (slice_index_or log.replaced.items k d).at ≡ k
+  pub once : AllPairs (λ r s. r.at ≢ s.at) log.replaced.items
+
+-- each log is one of the list as it was at the next newer mark
+abbrev pub AreLogsOf : {T : Type 0} → List ℕ → List (Log T) → Type 0
+AreLogsOf slots [] = Unit {0}
+AreLogsOf slots (log ∷ logs) = IsLogOf slots log × AreLogsOf (slots_at log slots) logs
+
+-- the place was there at the newest mark, and was not written since
+abbrev pub IsAsMarked : {T : Type 0} → List (Log T) → ℕ → ℕ → Type 0
+IsAsMarked [] slot at = ⊥
+IsAsMarked (log ∷ logs) slot at = (at < log.len) × ¬ HasAt log.replaced.items slot at
+
+-- the fields of a list: a slot for each element, logs of these, and room for one more mark
+pub record IsSound {T : Type 0} (items : List T) (slots : List ℕ) (stack : List (Log T)) (capacity : ℕ) :
+    Type 0 where
+  pub lengths : length slots ≡ length items
+  pub logs : AreLogsOf slots stack
+  pub few : length stack ≤ MOST
+  pub room : MOST ≤ capacity

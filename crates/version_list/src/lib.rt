@@ -1,0 +1,214 @@
+//! A list that can go back to earlier versions of itself.
+//!
+//! [`VersionList::mark`] keeps the elements of now as an earlier version, and [`VersionList::back`] returns
+//! to the newest of these. Neither copies the list: from a mark on, an element that another takes the place
+//! of moves into the mark's log, once for each place, and going back moves it to its place again. No call
+//! takes an element out, so the list is at least as long as each earlier version, and going back truncates it
+//! and needs no memory.
+//!
+//! A contract sees a list as its `items` and, the newest first, the items of the versions `before`.
+//!
+//! | Call | Time |
+//! |---|---|
+//! | `put`, `push` | constant, beside what a growing `Vec` moves |
+//! | `edit` | a clone of the element where it was not written since the mark, and else constant |
+//! | `mark`, `forget` | constant, beside dropping the log of the version that is forgotten |
+//! | `back` | what was put and pushed since the mark |
+//!
+//! ```
+//! let mut names = VersionList::new(alloc)?;
+//! names.push("a")?;
+//! names.mark();
+//! names.put(0, "b")?;
+//! names.push("c")?;   // now "b", "c"
+//! names.back();       // now "a"
+//! ```
+#![tactic(auto)]
+
+ghost use Rattle.std.specs.Borrow.{sem};
+ghost use Rattle.std.specs.Prelude.{◌≡◌, ◌+◌, ◌-◌, ◌<◌, ◌≤◌, ◌==◌, [], ◌∷◌, ◌++◌, length, take, IfOk, OnOk};
+ghost use Rattle.std.specs.Prelude.{OnErr, slice_get, slice_set, slice_index_or};
+
+mod log;
+
+use frac_core::OutOfMemory;
+use log::{Log, empty_log, is_kept, own, replace_at, restore};
+use std::alloc::Global;
+use std::collections::VecDeque;
+use std::marker::Model;
+
+/// The most earlier versions that a list keeps.
+pub const MOST: usize = 33;
+
+/// A list with its earlier versions, of which a mark past the thirty-third forgets the oldest.
+#[derive(Drop)]
+pub struct VersionList<T> {
+    items: Vec<T>,
+    // Where the newest log has the element that each place had at the mark, if it has one.
+    slots: Vec<usize>,
+    // The newest first.
+    logs: VecDeque<Log<T>>,
+    alloc: Global,
+}
+
+impl<T> Model for VersionList<T> {
+    ghost use Rattle.std.specs.VecDeque.{deque_capacity};
+    ghost use Rattle.version_list.specs.Versions.{Versions, versions_code};
+
+    ghost Value = { Versions T };
+
+    ghost coded = { versions_code T.code };
+
+    ghost use Rattle.version_list.specs.Undo.{versions, IsSound};
+
+    ghost view = { λ s. record { items = s.items.items; before = versions s.items.items s.logs.items } };
+
+    ghost invariant = { λ s. IsSound s.items.items s.slots.items s.logs.items (deque_capacity s.logs) };
+}
+
+impl<T> VersionList<T> {
+    /// A list with no elements and no earlier version. It has all the memory that `mark` will want.
+    pub fn new(alloc: Global) -> Result<VersionList<T>, OutOfMemory>
+        ensures { IfOk result (λ list. list ≡ record { items = []; before = [] }) }
+    {
+        let logs = VecDeque::with_capacity(alloc, MOST)?;
+        Ok(VersionList {
+            items: Vec::new(alloc),
+            slots: Vec::new(alloc),
+            logs,
+            alloc,
+        })
+    }
+
+    /// How many elements there are now.
+    pub fn len(&self) -> usize
+        ensures { result ≡ length self.now.items }
+    {
+        self.items.len()
+    }
+
+    /// Whether there is no element now.
+    pub fn is_empty(&self) -> bool
+        ensures { result ≡ (length self.now.items == 0) }
+    {
+        self.items.is_empty()
+    }
+
+    /// How many earlier versions there are.
+    pub fn earlier(&self) -> usize
+        ensures count { result ≡ length self.now.before }
+        ensures most { result ≤ MOST }
+    {
+        self.logs.len()
+    }
+
+    /// The elements of now.
+    pub fn as_slice(&self) -> &[T]
+        ensures { result.now ≡ self.now.items }
+    {
+        self.items.as_slice()
+    }
+
+    /// The element at a place.
+    pub fn get(&self, i: usize) -> &T
+        requires { i < length self.now.items }
+        ensures { slice_get self.now.items i ≡ Some result.now }
+    {
+        &self.items[i]
+    }
+}
+
+impl<T: Drop> VersionList<T> {
+    /// Puts a value in the place of an element. After want of memory the list is as before.
+    pub fn put(&mut self, i: usize, value: T) -> Result<(), OutOfMemory>
+        requires { i < length self.old.items }
+        ensures ok { OnOk result (self.new.items ≡ slice_set self.old.items i value) }
+        ensures before { self.new.before ≡ self.old.before }
+        ensures err { OnErr result (self.new ≡ self.old) }
+    {
+        if is_kept(&self.logs, self.slots[i], i) {
+            self.items[i] = value;
+            return Ok(());
+        }
+        replace_at(
+            &mut self.logs[0],
+            &mut self.items,
+            &mut self.slots,
+            i,
+            value,
+        )
+    }
+
+    /// Puts a value behind the last element. After want of memory the list is as before.
+    pub fn push(&mut self, value: T) -> Result<(), OutOfMemory>
+        ensures ok { OnOk result (self.new.items ≡ self.old.items ++ value ∷ []) }
+        ensures before { self.new.before ≡ self.old.before }
+        ensures err { OnErr result (self.new ≡ self.old) }
+    {
+        self.items.reserve(1)?;
+        self.slots.reserve(1)?;
+        self.items.push_reserved(value);
+        self.slots.push_reserved(0);
+        Ok(())
+    }
+
+    /// Makes the elements of now the newest earlier version, and forgets the oldest where there are too many.
+    pub fn mark(&mut self)
+        ensures items { self.new.items ≡ self.old.items }
+        ensures before { self.new.before ≡ take MOST (self.old.items ∷ self.old.before) }
+    {
+        let mut log = empty_log(&mut self.logs, self.alloc);
+        log.len = self.items.len();
+        self.logs.push_front_reserved(log);
+    }
+
+    /// Goes back to the newest earlier version, which is never the longer one.
+    pub fn back(&mut self)
+        requires { 0 < length self.old.before }
+        ensures version { self.old.before ≡ self.new.items ∷ self.new.before }
+        ensures no_longer { length self.new.items ≤ length self.old.items }
+    {
+        if let Some(log) = self.logs.pop_front() {
+            restore(log, &mut self.items, &mut self.slots);
+        }
+    }
+
+    /// Takes back what was done since the newest mark, which stays. Without a mark the list ends empty.
+    pub fn rewind(&mut self)
+        ensures items { self.new.items ≡ slice_index_or self.old.before 0 [] }
+        ensures before { self.new.before ≡ self.old.before }
+    {
+        if self.logs.is_empty() {
+            self.items.clear();
+            self.slots.clear();
+        } else {
+            self.back();
+            self.mark();
+        }
+    }
+
+    /// Forgets the oldest earlier version.
+    pub fn forget(&mut self)
+        requires { 0 < length self.old.before }
+        ensures items { self.new.items ≡ self.old.items }
+        ensures before { self.new.before ≡ take (length self.old.before - 1) self.old.before }
+    {
+        self.logs.pop_back();
+    }
+}
+
+impl<T: Clone + Drop> VersionList<T> {
+    ghost use Rattle.version_list.specs.Lending.{lends_item};
+    ghost use Rattle.version_list.specs.Versions.{IsOwn};
+
+    /// The element at a place, to be written where it is. Its first `edit` since a mark clones it, and the
+    /// clone takes its place. After want of memory the list is as before.
+    pub fn edit(&mut self, i: usize) -> Result<&mut T, OutOfMemory>
+        requires { i < length self.old.items }
+        ensures* writes_back { sem 𝓛 (lends_item T.row self.entry i result) }
+        ensures value { IfOk result (λ x. IsOwn T.is_clone self.old.items i x.now) }
+    {
+        own(&mut self.logs, &mut self.items, &mut self.slots, i)?;
+        Ok(&mut self.items[i])
+    }
+}
