@@ -1,0 +1,4 @@
+pub mod Listed
+pub mod Columns
+pub mod Relisting
+pub mod Indexing

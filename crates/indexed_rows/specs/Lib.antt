@@ -1,0 +1,4 @@
+pub mod Indexes
+pub mod Lists
+pub mod Matrices
+pub mod Walks

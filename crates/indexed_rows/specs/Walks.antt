@@ -1,0 +1,30 @@
+-- The walk over the old and the new row of a slot, by rising columns.
+use Rattle.std.specs.Prelude.{◌≡◌, ℕ, ◌<◌, ◌≤◌, List, ◌++◌, length, take, drop, slice_index_or, All, pos}
+use Rattle.std.specs.Global.{Vec}
+use Rattle.row_core.specs.Rows.{Term}
+use Rattle.indexed_rows.specs.Lists.{IsListedAt}
+
+abbrev pub column_at : List Term → ℕ → ℕ
+column_at row i = (slice_index_or row i (record { col = 0; by = pos 0 })).col
+
+-- the row has a place i, and its column there is below that of the other row at j
+pub record IsNext (row : List Term) (i : ℕ) (other : List Term) (j : ℕ) : Type 0 where
+  pub within : i < length row
+  pub first : j < length other → column_at row i < column_at other j
+
+-- the rows have places i and j, and there one column
+pub record IsNextInBoth (row : List Term) (i : ℕ) (other : List Term) (j : ℕ) : Type 0 where
+  pub left_within : i < length row
+  pub right_within : j < length other
+  pub one_column : column_at row i ≡ column_at other j
+
+-- each of these columns is below those of the row from its place i on
+abbrev pub IsBehind : List Term → List Term → ℕ → Type 0
+IsBehind read row i = All (λ t. (m : ℕ) → i ≤ m → m < length row → t.col < column_at row m) read
+
+-- w is listed for the first j entries of the new row and for the old row's from i on
+pub record IsRelisted (w : ℕ) (old new : List Term) (i j : ℕ) (lists : List (Vec ℕ)) : Type 0 where
+  pub old_within : i ≤ length old
+  pub new_within : j ≤ length new
+  pub behind : IsBehind (take j new) old i
+  pub listed : IsListedAt w (take j new ++ drop i old) lists
