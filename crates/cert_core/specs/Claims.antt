@@ -1,5 +1,6 @@
 -- Lists of multipliers, and what they stand for.
-use Rattle.std.specs.Prelude.{◌≢◌, ℕ, ◌-◌, ◌≤◌, Bool, false, cond, nat_eq, nat_lt, List, [], ◌∷◌, map, ℤ, pos, nat_abs, All, AllPairs, slice_index_or}
+use Rattle.std.specs.Prelude.{◌≢◌, ℕ, ◌-◌, ◌≤◌, Bool, false, cond, nat_eq, nat_lt, List, [], ◌∷◌, map, ℤ, pos}
+use Rattle.std.specs.Prelude.{nat_abs, All, AllPairs, slice_index_or}
 use Rattle.frac_core.specs.Fraction.{IsFitting}
 use Rattle.problem_core.specs.declared.parts.RowName.{RowName}
 use Rattle.problem_core.specs.declared.parts.RowName.TheVariants.{Held, Stay as StayOf}
@@ -66,8 +67,12 @@ bys_of (l ∷ levels) level = cond (same_level l.level level) l.by (bys_of level
 
 -- the levels of a problem, strongest first: the priorities 1000 to 0, then the stays in their order
 abbrev pub level_at : Problem → ℕ → Level
-level_at p k = cond (nat_lt 1000 k) (StayLevel (slice_index_or (map (λ s. s.attr) p.stays) (k - 1001) 0)) (Priority (1000 - k))
+level_at p k = cond (nat_lt 1000 k) (StayLevel (slice_index_or (map (λ s. s.attr) p.stays) (k - 1001) 0))
+    (Priority (1000 - k))
 
 -- the multipliers for each level of the problem
 abbrev pub multipliers_of : Problem → List BestLevel → Multipliers
-multipliers_of p levels = record { scale = λ k. scale_of levels (level_at p k); times = λ k row. times_of (bys_of levels (level_at p k)) row }
+multipliers_of p levels = record {
+  scale = λ k. scale_of levels (level_at p k);
+  times = λ k row. times_of (bys_of levels (level_at p k)) row;
+}

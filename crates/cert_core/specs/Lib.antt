@@ -1,3 +1,4 @@
 pub mod Claims
 pub mod Fields
 pub mod Paths
+pub mod Stops

@@ -1,9 +1,11 @@
 -- What shows a conflict, and what shows that an assignment is best: multipliers of the rows.
-use Rattle.std.specs.Prelude.{◌≡◌, ℕ, ◌*◌, ◌/◌, ◌<◌, cond, nat_eq, List, filter, ℤ, pos, ◌+ℤ◌, ◌-ℤ◌, ◌*ℤ◌, ◌≤ℤ◌, ◌<ℤ◌, All}
+use Rattle.std.specs.Prelude.{◌≡◌, ℕ, ◌*◌, ◌/◌, ◌<◌, cond, nat_eq, List, filter, ℤ, pos, ◌+ℤ◌, ◌-ℤ◌, ◌*ℤ◌}
+use Rattle.std.specs.Prelude.{◌≤ℤ◌, ◌<ℤ◌, All}
 use Rattle.problem_core.specs.declared.parts.Rel.{Rel}
 use Rattle.problem_core.specs.declared.parts.Rel.TheVariants.{Eq, Le, Ge}
 use Rattle.problem_core.specs.declared.parts.RowName.{RowName}
-use Rattle.problem_core.specs.Layout.{Row, Line, Problem, Assignment, Satisfies, lines, gap, coefficient, share, sum_of, product_of}
+use Rattle.problem_core.specs.Layout.{Row, Line, Problem, Assignment, Satisfies, lines, gap, coefficient}
+use Rattle.problem_core.specs.Layout.{share, sum_of, product_of}
 
 -- ---- conflict
 
@@ -19,7 +21,9 @@ HasSign Le y = y ≤ℤ pos 0
 pub record IsRefutation (p : Problem) (y : ℕ → ℤ) : Type 0 where
   pub cancel : (v : ℕ) → sum_of (λ r. y r.id *ℤ coefficient v r.terms) (required p) ≡ pos 0
   pub signs : All (λ r. HasSign r.rel (y r.id)) (required p)
-  pub above_zero : pos 0 <ℤ sum_of (λ r. y r.id *ℤ (r.constant.num *ℤ pos (product_of (λ s. s.constant.den) (required p) / r.constant.den))) (required p)
+  pub above_zero : pos 0 <ℤ sum_of (λ r. y r.id
+      *ℤ (r.constant.num *ℤ pos (product_of (λ s. s.constant.den) (required p) / r.constant.den)))
+      (required p)
 
 -- ---- certificates
 
@@ -44,10 +48,12 @@ weight_at l level = cond (nat_eq l.level level) l.weight 0
 
 -- the reduced costs of the two sides of a line, level by level
 abbrev pub under : Multipliers → Line → ℕ → ℤ
-under m l level = pos (m.scale level * under_weight l.rel (weight_at l level)) -ℤ pos l.scale *ℤ m.times level l.name
+under m l level = pos (m.scale level * under_weight l.rel (weight_at l level))
+    -ℤ pos l.scale *ℤ m.times level l.name
 
 abbrev pub over : Multipliers → Line → ℕ → ℤ
-over m l level = pos (m.scale level * over_weight l.rel (weight_at l level)) +ℤ pos l.scale *ℤ m.times level l.name
+over m l level = pos (m.scale level * over_weight l.rel (weight_at l level))
+    +ℤ pos l.scale *ℤ m.times level l.name
 
 -- scale times the level's cost at a point without slack, over `common`
 abbrev pub constant : Multipliers → List Line → ℕ → ℤ

@@ -1,5 +1,8 @@
--- Corners: points of the attributes and the deviations, the problem's equations, corners, writings, exchanges and paths.
-use Rattle.std.specs.Prelude.{◌≡◌, ◌≢◌, ◌⊎◌, ℕ, zero, suc, ◌+◌, ◌*◌, ◌<◌, cond, nat_eq, List, [], ◌∷◌, map, length, ℤ, pos, negsuc, ◌-ℤ◌, ◌*ℤ◌, neg_ℤ, nat_abs, ◌≤ℤ◌, ◌<ℤ◌, All, AllPairs, Any, Contains}
+-- Corners: points of the attributes and the deviations, the problem's equations, corners, writings, exchanges
+-- and paths.
+use Rattle.std.specs.Prelude.{◌≡◌, ◌≢◌, ◌⊎◌, ℕ, zero, suc, ◌+◌, ◌*◌, ◌<◌, cond, nat_eq, List, [], ◌∷◌, map}
+use Rattle.std.specs.Prelude.{length, ℤ, pos, negsuc, ◌-ℤ◌, ◌*ℤ◌, neg_ℤ, nat_abs, ◌≤ℤ◌, ◌<ℤ◌, All, AllPairs}
+use Rattle.std.specs.Prelude.{Any, Contains}
 use native.Mathlib.Nat.{zero-lt-suc}
 use Rattle.problem_core.specs.declared.parts.Side.{Side}
 use Rattle.problem_core.specs.declared.parts.Side.TheVariants.{Under, Over}
@@ -8,7 +11,8 @@ use Rattle.problem_core.specs.declared.parts.RowName.TheVariants.{Held, Stay as 
 use Rattle.problem_core.specs.declared.parts.Mark.{Mark}
 use Rattle.problem_core.specs.declared.parts.Term.{Term}
 use Rattle.problem_core.specs.Layout.{Assignment, Line, Problem, lines, coefficient, value_at, sum_of}
-use Rattle.problem_core.specs.Certificates.{Multipliers, under, over, under_weight, over_weight, IsLexNonnegative}
+use Rattle.problem_core.specs.Certificates.{Multipliers, under, over, under_weight, over_weight}
+use Rattle.problem_core.specs.Certificates.{IsLexNonnegative}
 
 abbrev pub side_number : Side → ℕ
 side_number Under = 0
@@ -33,6 +37,10 @@ pub record Point : Type 0 where
   pub num : ℕ → ℤ
   pub positive : pos 0 <ℤ num one_column
 
+-- the columns before those of attributes are those of marks
+abbrev pub IsMarkColumn : ℕ → Type 0
+IsMarkColumn c = c < attr_column 0
+
 -- `den * (form + under - over) - num * one = 0`
 abbrev pub equation : Line → List Term
 equation l =
@@ -54,7 +62,8 @@ IsIn c marks = Contains (map place marks) c
 
 -- the deviations outside are 0
 abbrev pub StandsAt : Problem → List Mark → Point → Type 0
-StandsAt p inside x = Solves p x × All (λ m. (IsIn (place m) inside → ⊥) → x.num (place m) ≡ pos 0) (marks_of (lines p))
+StandsAt p inside x = Solves p x × All (λ m. (IsIn (place m) inside → ⊥) → x.num (place m) ≡ pos 0)
+    (marks_of (lines p))
 
 abbrev pub Agree : ℕ → Point → Point → Type 0
 Agree c x y = x.num c *ℤ y.num one_column ≡ y.num c *ℤ x.num one_column
@@ -66,16 +75,26 @@ pub record IsCorner (p : Problem) (inside : List Mark) : Type 0 where
   pub apart : AllPairs (λ m n. place m ≢ place n) inside
   pub point : Point
   pub stands : StandsAt p inside point
-  pub marks_fixed : (y : Point) → StandsAt p inside y → All (λ m. Agree (place m) point y) (marks_of (lines p))
+  pub marks_fixed : (y : Point) → StandsAt p inside y
+      → All (λ m. Agree (place m) point y) (marks_of (lines p))
   pub attrs_fixed : (y : Point) → StandsAt p inside y → All (λ s. Agree (attr_column s.attr) point y) p.stays
 
--- `scale * c = sum of form + constant` in each solution, where the form is of outside marks and the constant is `num / den`
-pub record IsWriting (p : Problem) (inside : List Mark) (c : ℕ) (scale : ℕ) (form : List Term) (num : ℤ) (den : ℕ) : Type 0 where
+-- in each solution `scale` times the quantity is the sum of the form of outside marks and of a constant; the
+-- constant is `num / den`, the others are in joint lowest terms
+pub record IsWritingOf (p : Problem) (at : List Mark) (quantity : (ℕ → ℤ) → ℤ) (scale : ℕ) (form : List Term)
+    (num : ℤ) (den : ℕ) : Type 0 where
   pub scale_positive : 0 < scale
   pub den_positive : 0 < den
-  pub outside : (v : ℕ) → coefficient v form ≢ pos 0 → Contains (map place (marks_of (lines p))) v × (IsIn v inside → ⊥)
-  pub holds : (x : Point) → Solves p x → pos den *ℤ (pos scale *ℤ x.num c -ℤ value_at x.num form) ≡ pos scale *ℤ (num *ℤ x.num one_column)
-  pub lowest : (k : ℕ) → ((v : ℕ) → (z : ℤ) × (coefficient v form ≡ pos k *ℤ z)) → (n : ℕ) × (scale ≡ k * n) → k ≡ 1
+  pub outside : (v : ℕ) → coefficient v form ≢ pos 0
+      → Contains (map place (marks_of (lines p))) v × (IsIn v at → ⊥)
+  pub holds : (x : Point) → Solves p x → pos den *ℤ (pos scale *ℤ quantity x.num -ℤ value_at x.num form)
+      ≡ pos scale *ℤ (num *ℤ x.num one_column)
+  pub lowest : (k : ℕ) → ((v : ℕ) → (z : ℤ) × (coefficient v form ≡ pos k *ℤ z)) → (n : ℕ) × (scale ≡ k * n)
+      → k ≡ 1
+
+-- the writing of the column c
+abbrev pub IsWriting : Problem → List Mark → ℕ → ℕ → List Term → ℤ → ℕ → Type 0
+IsWriting p at c scale form num den = IsWritingOf p at (λ x. x c) scale form num den
 
 pub record Swap : Type 0 where
   pub enter : Mark
@@ -108,21 +127,24 @@ column m Over l level = over m l level
 pub record AreMultipliersAt (p : Problem) (inside : List Mark) (m : Multipliers) : Type 0 where
   pub scales : (level : ℕ) → 0 < m.scale level
   pub cancel : (level v : ℕ) → sum_of (λ l. m.times level l.name *ℤ coefficient v l.form) (lines p) ≡ pos 0
-  pub inside_zero : (side : Side) → All (λ l. IsIn (place_of l.name side) inside → (level : ℕ) → column m side l level ≡ pos 0) (lines p)
+  pub inside_zero : (side : Side) → All (λ l. IsIn (place_of l.name side) inside → (level : ℕ)
+      → column m side l level ≡ pos 0) (lines p)
 
 -- the first number that isn't 0 is below 0
 abbrev pub IsLexNegative : (ℕ → ℤ) → Type 0
 IsLexNegative f = (level : ℕ) × ((k : ℕ) → k < level → f k ≡ pos 0) × (f level <ℤ pos 0)
 
 abbrev pub NoNegativeColumn : Problem → List Mark → Type 0
-NoNegativeColumn p inside = (m : Multipliers) × AreMultipliersAt p inside m × ((side : Side) → All (λ l. IsLexNonnegative (column m side l)) (lines p))
+NoNegativeColumn p inside = (m : Multipliers) × AreMultipliersAt p inside m
+    × ((side : Side) → All (λ l. IsLexNonnegative (column m side l)) (lines p))
 
 abbrev pub NoNegativeValue : Problem → List Mark → Type 0
 NoNegativeValue p inside = (x : Point) × StandsAt p inside x × All (λ m. pos 0 ≤ℤ x.num (place m)) inside
 
 -- the mark's column is lexicographically negative
 abbrev pub HasNegativeColumn : Problem → List Mark → Mark → Type 0
-HasNegativeColumn p inside mark = (m : Multipliers) × AreMultipliersAt p inside m × Any (λ l. (place_of l.name mark.side ≡ place mark) × IsLexNegative (column m mark.side l)) (lines p)
+HasNegativeColumn p inside mark = (m : Multipliers) × AreMultipliersAt p inside m
+    × Any (λ l. (place_of l.name mark.side ≡ place mark) × IsLexNegative (column m mark.side l)) (lines p)
 
 abbrev pub HasNegativeValue : Problem → List Mark → Mark → Type 0
 HasNegativeValue p inside mark = (x : Point) × StandsAt p inside x × (x.num (place mark) <ℤ pos 0)
@@ -135,14 +157,18 @@ pub record IsExchange (p : Problem) (at : List Mark) (s : Swap) : Type 0 where
 
 -- the required cost at the corner is above 0
 abbrev pub HasRequiredCost : Problem → List Mark → Type 0
-HasRequiredCost p inside = (x : Point) × StandsAt p inside x × Any (λ l. (l.level ≡ 0) × ((pos 0 <ℤ (pos (over_weight l.rel 1) *ℤ x.num (place_of l.name Over))) ⊎ (pos 0 <ℤ (pos (under_weight l.rel 1) *ℤ x.num (place_of l.name Under))))) (lines p)
+HasRequiredCost p inside = (x : Point) × StandsAt p inside x
+    × Any (λ l. (l.level ≡ 0) × ((pos 0 <ℤ (pos (over_weight l.rel 1) *ℤ x.num (place_of l.name Over)))
+    ⊎ (pos 0 <ℤ (pos (under_weight l.rel 1) *ℤ x.num (place_of l.name Under))))) (lines p)
 
 abbrev pub IsPrimalEnd : Problem → List Mark → Type 0
-IsPrimalEnd p at = NoNegativeColumn p at ⊎ (HasRequiredCost p at × (m : Multipliers) × AreMultipliersAt p at m × ((side : Side) → All (λ l. pos 0 ≤ℤ column m side l 0) (lines p)))
+IsPrimalEnd p at = NoNegativeColumn p at ⊎ (HasRequiredCost p at × (m : Multipliers) × AreMultipliersAt p at m
+    × ((side : Side) → All (λ l. pos 0 ≤ℤ column m side l 0) (lines p)))
 
 abbrev pub ArePrimalSwaps : Problem → List Mark → List Swap → Type 0
 ArePrimalSwaps p at [] = NoNegativeValue p at
-ArePrimalSwaps p at (s ∷ swaps) = NoNegativeValue p at × (IsPrimalEnd p at → ⊥) × IsExchange p at s × HasNegativeColumn p at s.enter × ArePrimalSwaps p (exchanged s at) swaps
+ArePrimalSwaps p at (s ∷ swaps) = NoNegativeValue p at × (IsPrimalEnd p at → ⊥) × IsExchange p at s
+    × HasNegativeColumn p at s.enter × ArePrimalSwaps p (exchanged s at) swaps
 
 pub record IsPrimalPath (p : Problem) (at : List Mark) (swaps : List Swap) : Type 0 where
   pub corner : IsCorner p at
@@ -156,4 +182,8 @@ abs_positive (negsuc n) h = absurd h.lt
 
 -- the attributes' values at a point
 abbrev pub assignment_at : Point → Assignment
-assignment_at x = record { den = nat_abs (x.num one_column); num = λ v. x.num (attr_column v); positive = abs_positive (x.num one_column) x.positive }
+assignment_at x = record {
+  den = nat_abs (x.num one_column);
+  num = λ v. x.num (attr_column v);
+  positive = abs_positive (x.num one_column) x.positive;
+}

@@ -5,7 +5,15 @@ use Rattle.problem_core.specs.declared.problem.Problem.TheInside.{Inside as Prob
 use Rattle.problem_core.specs.Layout.{Row, Problem}
 
 abbrev pub row_of : Inside → Row
-row_of r = record { id = r.id; rank = r.rank; weight = r.weight; rel = r.rel; scale = nat_abs r.scale; constant = r.constant; terms = r.terms.items }
+row_of r = record {
+  id = r.id;
+  rank = r.rank;
+  weight = r.weight;
+  rel = r.rel;
+  scale = nat_abs r.scale;
+  constant = r.constant;
+  terms = r.terms.items;
+}
 
 abbrev pub problem_of : ProblemInside → Problem
 problem_of p = record { rows = p.rows.items; stays = p.stays.items }

@@ -1,5 +1,6 @@
 -- The values of a row's attributes over a common denominator.
-use Rattle.std.specs.Prelude.{◌≡◌, ℕ, ◌*◌, ◌/◌, ◌<◌, ◌^◌, cond, nat_eq, List, [], ◌∷◌, map, ℤ, pos, ◌*ℤ◌, unsigned_abs, All}
+use Rattle.std.specs.Prelude.{◌≡◌, ℕ, ◌/◌, ◌<◌, ◌^◌, cond, nat_eq, List, [], ◌∷◌, map, ℤ, pos, ◌*ℤ◌}
+use Rattle.std.specs.Prelude.{unsigned_abs, All}
 use Rattle.std.specs.Int.{◌∣◌}
 use Rattle.std.specs.List.{Any}
 use Rattle.frac_core.specs.Fraction.{Fraction}
@@ -24,9 +25,11 @@ times_common f d = f.num *ℤ pos (d / f.den)
 abbrev pub HasRoomOver : ℕ → Fraction → Type 0
 HasRoomOver d f = (f.den ∣ d) × (unsigned_abs (times_common f d) < 2 ^ 62)
 
--- the values of the row's attributes have a common denominator below 2^62, and each of them times it is below 2^62 in size
+-- the values of the row's attributes have a common denominator below 2^62, and each of them times it is below
+-- 2^62 in size
 abbrev pub HasRoom : Row → List (ℕ × Fraction) → Type 0
-HasRoom r values = (d : ℕ) × (0 < d) × (d < 2 ^ 62) × All (λ t. HasRoomOver d (value_of values t.attr)) r.terms
+HasRoom r values = (d : ℕ) × (0 < d) × (d < 2 ^ 62)
+    × All (λ t. HasRoomOver d (value_of values t.attr)) r.terms
 
 abbrev pub value_dens : List (ℕ × Fraction) → List Term → List ℕ
 value_dens values terms = map (λ t. (value_of values t.attr).den) terms

@@ -1,5 +1,6 @@
 -- Layout problems: assignments, rows, stays, errors, vectors of errors, and the best assignment.
-use Rattle.std.specs.Prelude.{◌≡◌, ℕ, ◌+◌, ◌-◌, ◌*◌, ◌/◌, ◌<◌, ◌≤◌, cond, nat_eq, List, [], ◌∷◌, ◌++◌, map, ℤ, pos, negsuc, ◌+ℤ◌, ◌-ℤ◌, ◌*ℤ◌, All}
+use Rattle.std.specs.Prelude.{◌≡◌, ℕ, ◌+◌, ◌-◌, ◌*◌, ◌/◌, ◌<◌, ◌≤◌, cond, nat_eq, List, [], ◌∷◌, ◌++◌, map, ℤ}
+use Rattle.std.specs.Prelude.{pos, negsuc, ◌+ℤ◌, ◌-ℤ◌, ◌*ℤ◌, All}
 use Rattle.std.specs.List.{Any}
 use Rattle.frac_core.specs.Fraction.{Fraction}
 use Rattle.problem_core.specs.declared.parts.Rel.{Rel}
@@ -66,7 +67,8 @@ pub record Problem : Type 0 where
   pub rows : List Row
   pub stays : List Stay
 
--- a row or a stay with its name and its level: 1000 less the rank for a row, and 1001, 1002, .. for the stays in their order
+-- a row or a stay with its name and its level: 1000 less the rank for a row, and 1001, 1002, .. for the stays
+-- in their order
 pub record Line : Type 0 where
   pub name : RowName
   pub level : ℕ
@@ -78,11 +80,29 @@ pub record Line : Type 0 where
   pub form : List Term
 
 abbrev pub line_of_row : Row → Line
-line_of_row r = record { name = Held r.id; level = 1000 - r.rank; weight = r.weight; rel = r.rel; scale = r.scale; num = r.constant.num; den = r.constant.den; form = r.terms }
+line_of_row r = record {
+  name = Held r.id;
+  level = 1000 - r.rank;
+  weight = r.weight;
+  rel = r.rel;
+  scale = r.scale;
+  num = r.constant.num;
+  den = r.constant.den;
+  form = r.terms;
+}
 
 -- the row `attr == num / den`
 abbrev pub line_of_stay : ℕ → Stay → Line
-line_of_stay level s = record { name = StayOf s.attr; level = level; weight = 1; rel = Eq; scale = 1; num = s.target.num; den = s.target.den; form = record { attr = s.attr; by = pos 1 } ∷ [] }
+line_of_stay level s = record {
+  name = StayOf s.attr;
+  level = level;
+  weight = 1;
+  rel = Eq;
+  scale = 1;
+  num = s.target.num;
+  den = s.target.den;
+  form = record { attr = s.attr; by = pos 1 } ∷ [];
+}
 
 abbrev pub stay_lines : ℕ → List Stay → List Line
 stay_lines level [] = []

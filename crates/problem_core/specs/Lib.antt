@@ -6,3 +6,9 @@ pub mod Fields
 pub mod Window
 pub mod Certificates
 pub mod Corners
+pub mod Levels
+pub mod Unfit
+pub mod Paths
+pub mod Begins
+pub mod Rays
+pub mod OwnCosts

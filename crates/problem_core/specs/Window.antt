@@ -11,11 +11,20 @@ zero_fraction = record { num = pos 0; den = 1 }
 
 -- the required row `attr rel c`
 abbrev pub required_row : ℕ → ℕ → Rel → Fraction → Row
-required_row id attr rel c = record { id = id; rank = 1000; weight = 1; rel = rel; scale = 1; constant = c; terms = record { attr = attr; by = pos 1 } ∷ [] }
+required_row id attr rel c = record {
+  id = id;
+  rank = 1000;
+  weight = 1;
+  rel = rel;
+  scale = 1;
+  constant = c;
+  terms = record { attr = attr; by = pos 1 } ∷ [];
+}
 
 -- left and top are 0, width and height at least 0
 abbrev pub structural_rows : List Row
-structural_rows = required_row 1 1 Eq zero_fraction ∷ required_row 2 2 Eq zero_fraction ∷ required_row 3 3 Ge zero_fraction ∷ required_row 4 4 Ge zero_fraction ∷ []
+structural_rows = required_row 1 1 Eq zero_fraction ∷ required_row 2 2 Eq zero_fraction
+    ∷ required_row 3 3 Ge zero_fraction ∷ required_row 4 4 Ge zero_fraction ∷ []
 
 -- and width and height are as given
 abbrev pub window_rows : Fraction → Fraction → List Row
