@@ -1,0 +1,175 @@
+-- The columns of a whole problem's lines: all are different, and below those of attributes.
+use Rattle.std.proofs.Common.{◌≡◌, ◌≢◌, ◌∙◌, ℕ, zero, suc, ◌+◌, ◌<◌, ◌++◌, List, [], ◌∷◌, map, refl, sym, ap, ap₂, arith, ℤ, pos, ◌+ℤ◌, All, AllPairs}
+use Rattle.std.specs.List.{AllByRecursion as Each}
+use Rattle.std.proofs.lemmas.List.Elements.{recursion_from_All}
+use Rattle.problem_core.specs.declared.parts.Side.TheVariants.{Under, Over}
+use Rattle.problem_core.specs.declared.parts.Stay.{Stay}
+use Rattle.problem_core.specs.Kept.{IsTerm, IsRow, IsStay, IsWhole}
+use Rattle.problem_core.specs.Layout.{Problem, Row, Line, lines, line_of_row, line_of_stay, stay_lines, sum_of}
+use Rattle.problem_core.specs.Corners.{place_of, attr_column}
+use Rattle.problem_core.proofs.Forms.{sum-zero, each-impl, each-both}
+use Rattle.corner_laws.proofs.ZeroColumns.{each-joined}
+use Rattle.frac_core.proofs.Integers.{add-zero_ℤ, zero-add_ℤ}
+
+-- the columns of the lines' marks are below those of attributes
+pub record IsSmallLine (l : Line) : Type 0 where
+  pub under : place_of l.name Under < attr_column 0
+  pub over : place_of l.name Over < attr_column 0
+  pub sides : place_of l.name Under ≢ place_of l.name Over
+
+-- two lines with different marks
+pub record AreApart (k l : Line) : Type 0 where
+  pub first : IsSmallLine k
+  pub second : IsSmallLine l
+  pub under_under : place_of k.name Under ≢ place_of l.name Under
+  pub under_over : place_of k.name Under ≢ place_of l.name Over
+  pub over_under : place_of k.name Over ≢ place_of l.name Under
+  pub over_over : place_of k.name Over ≢ place_of l.name Over
+
+abbrev pub AllApart : List Line → Type 0
+AllApart [] = Unit {0}
+AllApart (l ∷ ls) = Each (AreApart l) ls × AllApart ls
+
+pub apart-sym : (k l : Line) → AreApart k l → AreApart l k
+apart-sym k l a = record {
+  first = a.second;
+  second = a.first;
+  under_under = λ e. a.under_under (sym e);
+  under_over = λ e. a.over_under (sym e);
+  over_under = λ e. a.under_over (sym e);
+  over_over = λ e. a.over_over (sym e);
+}
+
+small-row : (r : Row) → IsRow r → IsSmallLine (line_of_row r)
+small-row r h = record {
+  under = omega (arith, h.number.1);
+  over = omega (arith, h.number.1);
+  sides = λ e. omega (arith, e);
+}
+
+small-stay : (level : ℕ) (s : Stay) → IsStay s → IsSmallLine (line_of_stay level s)
+small-stay level s h = record {
+  under = omega (arith, h.attr.1);
+  over = omega (arith, h.attr.1);
+  sides = λ e. omega (arith, e);
+}
+
+small-rows : (rows : List Row) → Each IsRow rows → Each IsSmallLine (map line_of_row rows)
+small-rows [] h = tt
+small-rows (r ∷ rows) h = (small-row r h.0, small-rows rows h.1)
+
+small-stays : (level : ℕ) (stays : List Stay) → Each IsStay stays → Each IsSmallLine (stay_lines level stays)
+small-stays level [] h = tt
+small-stays level (s ∷ stays) h = (small-stay level s h.0, small-stays (level + 1) stays h.1)
+
+pub lines_small : (p : Problem) → IsWhole p → Each IsSmallLine (lines p)
+lines_small p whole =
+    each-joined IsSmallLine (map line_of_row p.rows) (stay_lines 1001 p.stays)
+    (small-rows p.rows (recursion_from_All IsRow p.rows whole.rows))
+    (small-stays 1001 p.stays (recursion_from_All IsStay p.stays whole.stays))
+
+row-row : (r s : Row) → IsRow r → IsRow s → r.id < s.id → AreApart (line_of_row r) (line_of_row s)
+row-row r s h k lt = record {
+  first = small-row r h;
+  second = small-row s k;
+  under_under = λ e. omega (arith, e, lt);
+  under_over = λ e. omega (arith, e, lt);
+  over_under = λ e. omega (arith, e, lt);
+  over_over = λ e. omega (arith, e, lt);
+}
+
+row-stay : (level : ℕ) (r : Row) (s : Stay) → IsRow r → IsStay s → AreApart (line_of_row r) (line_of_stay level s)
+row-stay level r s h k = record {
+  first = small-row r h;
+  second = small-stay level s k;
+  under_under = λ e. omega (arith, e);
+  under_over = λ e. omega (arith, e);
+  over_under = λ e. omega (arith, e);
+  over_over = λ e. omega (arith, e);
+}
+
+stay-stay : (n m : ℕ) (s t : Stay) → IsStay s → IsStay t → s.attr ≢ t.attr → AreApart (line_of_stay n s) (line_of_stay m t)
+stay-stay n m s t h k ne = record {
+  first = small-stay n s h;
+  second = small-stay m t k;
+  under_under = λ e. ne (omega (arith, e));
+  under_over = λ e. omega (arith, e);
+  over_under = λ e. omega (arith, e);
+  over_over = λ e. ne (omega (arith, e));
+}
+
+-- a row and the later ones
+row-rows : (r : Row) (rows : List Row) → IsRow r → Each IsRow rows → Each (λ s. r.id < s.id) rows → Each (AreApart (line_of_row r)) (map line_of_row rows)
+row-rows r [] h k lt = tt
+row-rows r (s ∷ rows) h k lt = (row-row r s h k.0 lt.0, row-rows r rows h k.1 lt.1)
+
+row-stays : (level : ℕ) (r : Row) (stays : List Stay) → IsRow r → Each IsStay stays → Each (AreApart (line_of_row r)) (stay_lines level stays)
+row-stays level r [] h k = tt
+row-stays level r (s ∷ stays) h k = (row-stay level r s h k.0, row-stays (level + 1) r stays h k.1)
+
+stay-stays : (n level : ℕ) (s : Stay) (stays : List Stay) → IsStay s → Each IsStay stays → Each (λ t. s.attr ≢ t.attr) stays → Each (AreApart (line_of_stay n s)) (stay_lines level stays)
+stay-stays n level s [] h k ne = tt
+stay-stays n level s (t ∷ stays) h k ne = (stay-stay n level s t h k.0 ne.0, stay-stays n (level + 1) s stays h k.1 ne.1)
+
+-- the first of a list with what holds of each two
+pub pairs-first : {X : Type 0} (R : X → X → Type 0) (x : X) (xs : List X) → AllPairs R (x ∷ xs) → All (R x) xs
+pairs-first R x xs h = λ k d within. h zero (suc k) d (omega arith) (omega (arith, within))
+
+pub pairs-rest : {X : Type 0} (R : X → X → Type 0) (x : X) (xs : List X) → AllPairs R (x ∷ xs) → AllPairs R xs
+pairs-rest R x xs h = λ i j d lt within. h (suc i) (suc j) d (omega (arith, lt)) (omega (arith, within))
+
+stays-apart : (level : ℕ) (stays : List Stay) → Each IsStay stays → AllPairs (λ s t. s.attr ≢ t.attr) stays → AllApart (stay_lines level stays)
+stays-apart level [] h k = tt
+stays-apart level (s ∷ stays) h k = (
+  stay-stays level (level + 1) s stays h.0 h.1 (recursion_from_All (λ t. s.attr ≢ t.attr) stays (pairs-first (λ s t. s.attr ≢ t.attr) s stays k)),
+  stays-apart (level + 1) stays h.1 (pairs-rest (λ s t. s.attr ≢ t.attr) s stays k),
+)
+
+rows-apart : (rows : List Row) (level : ℕ) (stays : List Stay) → Each IsRow rows → Each IsStay stays → AllPairs (λ r s. r.id < s.id) rows → AllApart (stay_lines level stays) → AllApart (map line_of_row rows ++ stay_lines level stays)
+rows-apart [] level stays h k lt a = a
+rows-apart (r ∷ rows) level stays h k lt a = (
+  each-joined (AreApart (line_of_row r)) (map line_of_row rows) (stay_lines level stays)
+      (row-rows r rows h.0 h.1 (recursion_from_All (λ s. r.id < s.id) rows (pairs-first (λ r s. r.id < s.id) r rows lt)))
+      (row-stays level r stays h.0 k),
+  rows-apart rows level stays h.1 k (pairs-rest (λ r s. r.id < s.id) r rows lt) a,
+)
+
+pub lines_apart : (p : Problem) → IsWhole p → AllApart (lines p)
+lines_apart p whole =
+    let stays : Each IsStay p.stays = recursion_from_All IsStay p.stays whole.stays in
+    rows-apart p.rows 1001 p.stays (recursion_from_All IsRow p.rows whole.rows) stays whole.rising (stays-apart 1001 p.stays stays whole.apart)
+
+-- ---- the lines' attributes
+
+row-attrs : (rows : List Row) → Each IsRow rows → Each (λ l. Each (λ e. e.attr < attr_column 0) l.form) (map line_of_row rows)
+row-attrs [] h = tt
+row-attrs (r ∷ rows) h = (
+  each-impl IsTerm (λ e. e.attr < attr_column 0) r.terms (λ e k. omega (arith, k.attr.1)) (recursion_from_All IsTerm r.terms h.0.terms),
+  row-attrs rows h.1,
+)
+
+stay-attrs : (level : ℕ) (stays : List Stay) → Each IsStay stays → Each (λ l. Each (λ e. e.attr < attr_column 0) l.form) (stay_lines level stays)
+stay-attrs level [] h = tt
+stay-attrs level (s ∷ stays) h = ((omega (arith, h.0.attr.1), tt), stay-attrs (level + 1) stays h.1)
+
+pub lines_attrs : (p : Problem) → IsWhole p → Each (λ l. Each (λ e. e.attr < attr_column 0) l.form) (lines p)
+lines_attrs p whole =
+    each-joined (λ l. Each (λ e. e.attr < attr_column 0) l.form) (map line_of_row p.rows) (stay_lines 1001 p.stays)
+    (row-attrs p.rows (recursion_from_All IsRow p.rows whole.rows))
+    (stay-attrs 1001 p.stays (recursion_from_All IsStay p.stays whole.stays))
+
+-- ---- sums over the lines
+
+pub sum-each : {A : Type 0} (f g : A → ℤ) (xs : List A) → Each (λ x. f x ≡ g x) xs → sum_of f xs ≡ sum_of g xs
+sum-each f g [] h = refl
+sum-each f g (x ∷ xs) h = ap₂ ◌+ℤ◌ h.0 (sum-each f g xs h.1)
+
+-- a sum in which only the line itself counts
+pub sum-single : (g : Line → Line → ℤ) → ((k l : Line) → AreApart k l → g k l ≡ pos 0) → (ls : List Line) → AllApart ls → Each (λ k. sum_of (g k) ls ≡ g k k) ls
+sum-single g z [] a = tt
+sum-single g z (x ∷ ls) a = (
+  ap (λ (t : ℤ). g x x +ℤ t) (sum-zero (g x) ls (each-impl (AreApart x) (λ l. g x l ≡ pos 0) ls (λ l h. z x l h) a.0)) ∙ add-zero_ℤ (g x x),
+  each-impl (λ k. AreApart x k × (sum_of (g k) ls ≡ g k k)) (λ k. sum_of (g k) (x ∷ ls) ≡ g k k) ls
+      (λ k h. ap₂ ◌+ℤ◌ (z k x (apart-sym x k h.0)) h.1 ∙ zero-add_ℤ (g k k))
+      (each-both (AreApart x) (λ k. sum_of (g k) ls ≡ g k k) ls a.0 (sum-single g z ls a.1)),
+)

@@ -1,0 +1,5 @@
+use Rattle.corner_laws.proofs.BeginsUnique.{begins_unique}
+use Rattle.corner_laws.proofs.changes.begins_unique.Goals as goal
+
+pub returns : goal.returns
+returns c = begins_unique

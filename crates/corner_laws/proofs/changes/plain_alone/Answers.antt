@@ -1,0 +1,5 @@
+use Rattle.corner_laws.proofs.Complete.{plain_alone}
+use Rattle.corner_laws.proofs.changes.plain_alone.Goals as goal
+
+pub returns : goal.returns
+returns c = plain_alone

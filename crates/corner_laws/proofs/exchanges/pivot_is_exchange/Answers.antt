@@ -1,0 +1,5 @@
+use Rattle.corner_laws.proofs.Pivots.{pivot_is_exchange}
+use Rattle.corner_laws.proofs.exchanges.pivot_is_exchange.Goals as goal
+
+pub returns : goal.returns
+returns c = pivot_is_exchange

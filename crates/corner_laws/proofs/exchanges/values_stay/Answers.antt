@@ -1,0 +1,5 @@
+use Rattle.corner_laws.proofs.ValuesStay.{values_stay}
+use Rattle.corner_laws.proofs.exchanges.values_stay.Goals as goal
+
+pub returns : goal.returns
+returns c = values_stay

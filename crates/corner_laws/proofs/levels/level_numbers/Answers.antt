@@ -1,0 +1,5 @@
+use Rattle.corner_laws.proofs.LevelNumbers.{level_numbers}
+use Rattle.corner_laws.proofs.levels.level_numbers.Goals as goal
+
+pub returns : goal.returns
+returns c = level_numbers

@@ -1,0 +1,5 @@
+use Rattle.corner_laws.proofs.LevelExists.{level_writing_exists}
+use Rattle.corner_laws.proofs.levels.level_writing_exists.Goals as goal
+
+pub returns : goal.returns
+returns c = level_writing_exists

@@ -1,0 +1,5 @@
+use Rattle.corner_laws.proofs.LevelLifts.{rows_lift}
+use Rattle.corner_laws.proofs.levels.rows_lift.Goals as goal
+
+pub returns : goal.returns
+returns c = rows_lift

@@ -1,0 +1,5 @@
+use Rattle.corner_laws.proofs.StayLevels.{stay_level_row}
+use Rattle.corner_laws.proofs.levels.stay_level_row.Goals as goal
+
+pub returns : goal.returns
+returns c = stay_level_row

@@ -1,0 +1,5 @@
+use Rattle.corner_laws.proofs.Equal.{unfit_from_level}
+use Rattle.corner_laws.proofs.levels.unfit_from_level.Goals as goal
+
+pub returns : goal.returns
+returns c = unfit_from_level

@@ -1,0 +1,5 @@
+use Rattle.corner_laws.proofs.Ends.{end_is_best}
+use Rattle.corner_laws.proofs.paths.end_is_best.Goals as goal
+
+pub returns : goal.returns
+returns c = end_is_best

@@ -1,0 +1,5 @@
+use Rattle.corner_laws.proofs.RunPaths.{run_grows}
+use Rattle.corner_laws.proofs.runs.run_grows.Goals as goal
+
+pub returns : goal.returns
+returns c = run_grows

@@ -1,0 +1,5 @@
+use Rattle.corner_laws.proofs.Equations.{unfit_from_equation}
+use Rattle.corner_laws.proofs.writings.unfit_from_equation.Goals as goal
+
+pub returns : goal.returns
+returns c = unfit_from_equation

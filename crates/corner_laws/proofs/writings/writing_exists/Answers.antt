@@ -1,0 +1,5 @@
+use Rattle.corner_laws.proofs.LowestForms.{writing_exists}
+use Rattle.corner_laws.proofs.writings.writing_exists.Goals as goal
+
+pub returns : goal.returns
+returns c = writing_exists

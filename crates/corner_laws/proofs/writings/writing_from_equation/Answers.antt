@@ -1,0 +1,5 @@
+use Rattle.corner_laws.proofs.Equations.{writing_from_equation}
+use Rattle.corner_laws.proofs.writings.writing_from_equation.Goals as goal
+
+pub returns : goal.returns
+returns c = writing_from_equation

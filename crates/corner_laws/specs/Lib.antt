@@ -1,0 +1,13 @@
+pub mod Equations
+pub mod Sums
+pub mod Units
+pub mod Lifts
+pub mod Laws
+pub mod Runs
+pub mod Examples
+pub mod WritingLaws
+pub mod LevelLaws
+pub mod ExchangeLaws
+pub mod PathLaws
+pub mod ChangeLaws
+pub mod RunLaws
