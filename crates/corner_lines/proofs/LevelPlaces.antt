@@ -1,0 +1,125 @@
+-- A level costs the same at each point of a corner.
+use Rattle.std.proofs.Common.{◌≡◌, ◌∙◌, ℕ, ◌*◌, ◌/◌, ◌<◌, List, ℤ, pos, negsuc, ◌+ℤ◌, ◌*ℤ◌, neg_ℤ, ◌<ℤ◌, unsigned_abs, sym, ap, ap₂, arith}
+use Rattle.std.specs.List.{AllByRecursion as Each}
+use Rattle.std.proofs.lemmas.List.Elements.{recursion_from_All}
+use lib.IntN.{*ℤ_comm}
+use borrow.Author.Differences.{ints}
+use Rattle.std.proofs.lemmas.Int.{unsigned_abs-mul}
+use Rattle.frac_core.specs.Fraction.{Fraction, IsLowest, IsRatio}
+use Rattle.frac_core.proofs.Gauss.{same_lowest}
+use Rattle.frac_core.proofs.Integers.{cancel_mul, diff-add, diff-mul, diff-neg, diff-pos, diff_eq, mul_assoc_ℤ, mul_left_comm_ℤ, mul_positive, mul-zero_ℤ, neg-pos, on_2}
+use Rattle.problem_core.specs.declared.parts.Mark.{Mark}
+use Rattle.problem_core.specs.declared.parts.Side.TheVariants.{Under, Over}
+use Rattle.problem_core.specs.Layout.{IsProblem, Problem, lines}
+use Rattle.problem_core.specs.Certificates.{under_weight, over_weight, weight_at}
+use Rattle.problem_core.specs.Corners.{Agree, IsCorner, Point, StandsAt, marks_of, one_column, place, place_of}
+use Rattle.problem_core.proofs.Forms.{each-impl, each-both, sum-zero}
+use Rattle.problem_core.specs.Levels.{IsCostAt, cost_at, line_cost, scales}
+use Rattle.corner_laws.proofs.Exchanged.{neg-times}
+use Rattle.corner_laws.proofs.Rises.{cost_linear}
+use Rattle.corner_laws.proofs.ZeroColumns.{scales-above}
+use Rattle.corner_lines.proofs.LevelRests.{marks-each}
+
+-- ---- fractions of one value
+
+ruleset ring = (diff-add, diff-mul, diff-neg, diff-pos, neg-pos)
+
+fraction_from : ℤ → ℕ → Fraction
+fraction_from num den = record { num = num; den = den }
+
+same_parts : (f g : Fraction) → f.num ≡ g.num → f.den ≡ g.den → f ≡ g
+unfolding fraction_from
+same_parts f g num den = ap₂ fraction_from num den
+
+same-lowest : (f g : Fraction) → IsLowest f → IsLowest g → IsRatio f g.num (pos g.den) → f ≡ g
+same-lowest f g low_f low_g ratio =
+    let sizes : unsigned_abs f.num * g.den ≡ unsigned_abs g.num * f.den =
+    sym (unsigned_abs-mul f.num (pos g.den)) ∙ (ap unsigned_abs ratio ∙ unsigned_abs-mul g.num (pos f.den)) in
+    let same = same_lowest (unsigned_abs g.num) g.den (unsigned_abs f.num) f.den low_g.above low_g.coprime low_f.coprime sizes in
+    let scaled : f.num *ℤ pos g.den ≡ g.num *ℤ pos g.den = ratio ∙ ap (λ (d : ℕ). g.num *ℤ pos d) same.1 in
+    let num : f.num ≡ g.num = cancel_mul g.den f.num g.num low_g.above (*ℤ_comm (pos g.den) f.num ∙ (scaled ∙ *ℤ_comm g.num (pos g.den))) in
+    same_parts f g num same.1
+
+as_pos : (z : ℤ) → pos 0 <ℤ z → pos (unsigned_abs z) ≡ z
+as_pos z h = omega (arith, ints, h)
+
+crossed : (z q : ℤ) (d : ℕ) → q *ℤ (z *ℤ pos d) ≡ (z *ℤ q) *ℤ pos d
+crossed z q d = on_2 (λ z q. q *ℤ (z *ℤ pos d) ≡ (z *ℤ q) *ℤ pos d) (λ a a' b b'. simp ring (diff_eq _ _ _ _ (omega arith))) z q
+
+turned : (p : ℤ) (d e : ℕ) → (p *ℤ pos d) *ℤ pos e ≡ (p *ℤ pos e) *ℤ pos d
+turned p d e = on_2 (λ p o. (p *ℤ pos d) *ℤ pos e ≡ (p *ℤ pos e) *ℤ pos d) (λ a a' b b'. simp ring (diff_eq _ _ _ _ (omega arith))) p p
+
+pub same_value : (f g : Fraction) (p q : ℤ) → pos 0 <ℤ q → IsLowest f → IsLowest g → IsRatio f p q → IsRatio g p q → f ≡ g
+same_value f g p q above low_f low_g is_f is_g =
+    same-lowest f g low_f low_g
+    (cancel_mul (unsigned_abs q) (f.num *ℤ pos g.den) (g.num *ℤ pos f.den) (omega (arith, ints, above))
+    (ap (λ (k : ℤ). k *ℤ (f.num *ℤ pos g.den)) (as_pos q above)
+    ∙ crossed f.num q g.den ∙ ap (λ (z : ℤ). z *ℤ pos g.den) is_f ∙ turned p f.den g.den
+    ∙ sym (ap (λ (k : ℤ). k *ℤ (g.num *ℤ pos f.den)) (as_pos q above) ∙ crossed g.num q f.den ∙ ap (λ (z : ℤ). z *ℤ pos f.den) is_g)))
+
+-- ---- points of a corner
+
+-- both are as the corner's point, over their denominators
+agree-through : (c : ℕ) (m x1 x y1 y : ℤ) → 0 < c → m *ℤ x1 ≡ x *ℤ pos c → m *ℤ y1 ≡ y *ℤ pos c → x *ℤ y1 ≡ y *ℤ x1
+agree-through c m x1 x y1 y above e f =
+    cancel_mul c (x *ℤ y1) (y *ℤ x1) above
+    (sym (mul_assoc_ℤ (pos c) x y1) ∙ ap (λ (z : ℤ). z *ℤ y1) (*ℤ_comm (pos c) x ∙ sym e) ∙ mul_assoc_ℤ m x1 y1 ∙ ap (λ (z : ℤ). m *ℤ z) (*ℤ_comm x1 y1) ∙ sym (mul_assoc_ℤ m y1 x1)
+    ∙ ap (λ (z : ℤ). z *ℤ x1) (f ∙ *ℤ_comm y (pos c)) ∙ mul_assoc_ℤ (pos c) y x1)
+
+agree-both : (c m x1 x y1 y : ℤ) → pos 0 <ℤ c → m *ℤ x1 ≡ x *ℤ c → m *ℤ y1 ≡ y *ℤ c → x *ℤ y1 ≡ y *ℤ x1
+agree-both (pos c) m x1 x y1 y above e f = agree-through c m x1 x y1 y (omega (arith, ints, above)) e f
+agree-both (negsuc c) m x1 x y1 y above e f = absurd above.lt
+
+pub marks-agree : (p : Problem) (at : List Mark) (x y : Point) → IsCorner p at → StandsAt p at x → StandsAt p at y → Each (λ m. x.num (place m) *ℤ y.num one_column ≡ y.num (place m) *ℤ x.num one_column) (marks_of (lines p))
+marks-agree p at x y corner here there =
+    each-impl (λ m. Agree (place m) corner.point x × Agree (place m) corner.point y) _ (marks_of (lines p))
+    (λ m h. agree-both (corner.point.num one_column) (corner.point.num (place m)) (x.num one_column) (x.num (place m)) (y.num one_column) (y.num (place m)) corner.point.positive h.0 h.1)
+    (each-both _ _ (marks_of (lines p)) (recursion_from_All _ (marks_of (lines p)) (corner.marks_fixed x here)) (recursion_from_All _ (marks_of (lines p)) (corner.marks_fixed y there)))
+
+no-step : (a b x y : ℤ) → x *ℤ b ≡ y *ℤ a → a *ℤ y +ℤ neg_ℤ b *ℤ x ≡ pos 0
+no-step a b x y e = omega (arith, ints, e, neg-times b x, *ℤ_comm a y, *ℤ_comm b x)
+
+no-cost : (q wu wo : ℕ) (u o : ℤ) → u ≡ pos 0 → o ≡ pos 0 → pos q *ℤ (pos wu *ℤ u +ℤ pos wo *ℤ o) ≡ pos 0
+no-cost q wu wo u o e f =
+    ap (λ (z : ℤ). pos q *ℤ z) (ap₂ ◌+ℤ◌ (ap (λ (z : ℤ). pos wu *ℤ z) e ∙ mul-zero_ℤ (pos wu)) (ap (λ (z : ℤ). pos wo *ℤ z) f ∙ mul-zero_ℤ (pos wo))) ∙ mul-zero_ℤ (pos q)
+
+same-from : (a b : ℤ) → a +ℤ neg_ℤ b ≡ pos 0 → a ≡ b
+same-from a b e = omega (arith, ints, e)
+
+-- the cost at one point, over its denominator, is that at the other
+pub costs-agree : (p : Problem) (at : List Mark) (level : ℕ) (x y : Point) → IsCorner p at → StandsAt p at x → StandsAt p at y → x.num one_column *ℤ cost_at p level y.num ≡ y.num one_column *ℤ cost_at p level x.num
+costs-agree p at level x y corner here there =
+    same-from (x.num one_column *ℤ cost_at p level y.num) (y.num one_column *ℤ cost_at p level x.num)
+    (ap (λ (z : ℤ). x.num one_column *ℤ cost_at p level y.num +ℤ z) (sym (neg-times (y.num one_column) (cost_at p level x.num)))
+    ∙ sym (cost_linear p level (x.num one_column) (neg_ℤ (y.num one_column)) y.num x.num)
+    ∙ sum-zero (λ l. pos (scales p / l.scale) *ℤ line_cost level (λ v. x.num one_column *ℤ y.num v +ℤ neg_ℤ (y.num one_column) *ℤ x.num v) l) (lines p)
+    (each-impl (λ l. (x.num (place_of l.name Under) *ℤ y.num one_column ≡ y.num (place_of l.name Under) *ℤ x.num one_column) × (x.num (place_of l.name Over) *ℤ y.num one_column ≡ y.num (place_of l.name Over) *ℤ x.num one_column)) _ (lines p)
+    (λ l h. no-cost (scales p / l.scale) (under_weight l.rel (weight_at l level)) (over_weight l.rel (weight_at l level)) (x.num one_column *ℤ y.num (place_of l.name Under) +ℤ neg_ℤ (y.num one_column) *ℤ x.num (place_of l.name Under)) (x.num one_column *ℤ y.num (place_of l.name Over) +ℤ neg_ℤ (y.num one_column) *ℤ x.num (place_of l.name Over))
+    (no-step (x.num one_column) (y.num one_column) (x.num (place_of l.name Under)) (y.num (place_of l.name Under)) h.0)
+    (no-step (x.num one_column) (y.num one_column) (x.num (place_of l.name Over)) (y.num (place_of l.name Over)) h.1))
+    (marks-each (λ c. x.num c *ℤ y.num one_column ≡ y.num c *ℤ x.num one_column) (lines p) (marks-agree p at x y corner here there))))
+
+moved-over : (X : ℕ) (y1 cx cy fn s : ℤ) (fd : ℕ) → 0 < X → pos X *ℤ cy ≡ y1 *ℤ cx → cx *ℤ pos fd ≡ fn *ℤ (s *ℤ pos X) → cy *ℤ pos fd ≡ fn *ℤ (s *ℤ y1)
+moved-over X y1 cx cy fn s fd above e f =
+    cancel_mul X (cy *ℤ pos fd) (fn *ℤ (s *ℤ y1)) above
+    (sym (mul_assoc_ℤ (pos X) cy (pos fd)) ∙ ap (λ (z : ℤ). z *ℤ pos fd) e ∙ mul_assoc_ℤ y1 cx (pos fd) ∙ ap (λ (z : ℤ). y1 *ℤ z) f
+    ∙ mul_left_comm_ℤ y1 fn (s *ℤ pos X) ∙ ap (λ (z : ℤ). fn *ℤ z) (mul_left_comm_ℤ y1 s (pos X) ∙ ap (λ (z : ℤ). s *ℤ z) (*ℤ_comm y1 (pos X)) ∙ mul_left_comm_ℤ s (pos X) y1)
+    ∙ mul_left_comm_ℤ fn (pos X) (s *ℤ y1))
+
+moved-ratio : (x1 y1 cx cy fn s : ℤ) (fd : ℕ) → pos 0 <ℤ x1 → x1 *ℤ cy ≡ y1 *ℤ cx → cx *ℤ pos fd ≡ fn *ℤ (s *ℤ x1) → cy *ℤ pos fd ≡ fn *ℤ (s *ℤ y1)
+moved-ratio (pos X) y1 cx cy fn s fd above e f = moved-over X y1 cx cy fn s fd (omega (arith, ints, above)) e f
+moved-ratio (negsuc X) y1 cx cy fn s fd above e f = absurd above.lt
+
+-- the cost at any point of the corner
+pub cost_everywhere : (p : Problem) (at : List Mark) (level : ℕ) (f : Fraction) (y : Point) → IsCorner p at → IsCostAt p at level f → StandsAt p at y → cost_at p level y.num *ℤ pos f.den ≡ f.num *ℤ (pos (scales p) *ℤ y.num one_column)
+cost_everywhere p at level f y corner (x, here, e) there =
+    moved-ratio (x.num one_column) (y.num one_column) (cost_at p level x.num) (cost_at p level y.num) f.num (pos (scales p)) f.den x.positive (costs-agree p at level x y corner here there) e
+
+up-product : (s : ℕ) (x1 : ℤ) → 0 < s → pos 0 <ℤ x1 → pos 0 <ℤ (pos s *ℤ x1)
+up-product s x1 h k = mul_positive s x1 h k
+
+-- one cost has one fraction in lowest terms
+pub cost_same : (p : Problem) (at : List Mark) (level : ℕ) (f g : Fraction) → IsProblem p → IsCorner p at → IsLowest f → IsLowest g → IsCostAt p at level f → IsCostAt p at level g → f ≡ g
+cost_same p at level f g problem corner low_f low_g is_f (y, there, e) =
+    same_value f g (cost_at p level y.num) (pos (scales p) *ℤ y.num one_column) (up-product (scales p) (y.num one_column) (scales-above p problem) y.positive) low_f low_g
+    (sym (cost_everywhere p at level f y corner is_f there)) (sym e)

@@ -1,0 +1,5 @@
+use Rattle.corner_lines.proofs.LineCarried.{carried}
+use Rattle.corner_lines.proofs.equations.equation_is_carried.Goals as goal
+
+pub returns : goal.returns
+returns c = carried

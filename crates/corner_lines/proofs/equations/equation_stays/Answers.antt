@@ -1,0 +1,5 @@
+use Rattle.corner_lines.proofs.LineExchanges.{line_stays}
+use Rattle.corner_lines.proofs.equations.equation_stays.Goals as goal
+
+pub returns : goal.returns
+returns c = line_stays

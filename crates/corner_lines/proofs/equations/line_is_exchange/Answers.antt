@@ -1,0 +1,5 @@
+use Rattle.corner_lines.proofs.LineMoves.{line_is_exchange}
+use Rattle.corner_lines.proofs.equations.line_is_exchange.Goals as goal
+
+pub returns : goal.returns
+returns c = line_is_exchange

@@ -1,0 +1,5 @@
+use Rattle.corner_lines.proofs.NewStays.{attr_rays}
+use Rattle.corner_lines.proofs.joins.attr_joins_rays.Goals as goal
+
+pub returns : goal.returns
+returns c = attr_rays

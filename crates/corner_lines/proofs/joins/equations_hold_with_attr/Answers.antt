@@ -1,0 +1,5 @@
+use Rattle.corner_lines.proofs.NewStays.{old_line}
+use Rattle.corner_lines.proofs.joins.equations_hold_with_attr.Goals as goal
+
+pub returns : goal.returns
+returns c = old_line

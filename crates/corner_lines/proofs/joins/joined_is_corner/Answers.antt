@@ -1,0 +1,5 @@
+use Rattle.corner_lines.proofs.JoinedRows.{joined_corner}
+use Rattle.corner_lines.proofs.joins.joined_is_corner.Goals as goal
+
+pub returns : goal.returns
+returns c = joined_corner

@@ -1,0 +1,5 @@
+use Rattle.corner_lines.proofs.JoinedUnder.{under_corner}
+use Rattle.corner_lines.proofs.joins.joined_under_is_corner.Goals as goal
+
+pub returns : goal.returns
+returns c = under_corner

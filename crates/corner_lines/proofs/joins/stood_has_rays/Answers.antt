@@ -1,0 +1,5 @@
+use Rattle.corner_lines.proofs.MovedStays.{stood_rays}
+use Rattle.corner_lines.proofs.joins.stood_has_rays.Goals as goal
+
+pub returns : goal.returns
+returns c = stood_rays

@@ -1,0 +1,5 @@
+use Rattle.corner_lines.proofs.MovedStays.{stood_corner}
+use Rattle.corner_lines.proofs.joins.stood_is_corner.Goals as goal
+
+pub returns : goal.returns
+returns c = stood_corner

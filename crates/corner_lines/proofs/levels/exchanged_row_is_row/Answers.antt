@@ -1,0 +1,5 @@
+use Rattle.corner_lines.proofs.LevelExchanges.{exchanged_row_is_row}
+use Rattle.corner_lines.proofs.levels.exchanged_row_is_row.Goals as goal
+
+pub returns : goal.returns
+returns c = exchanged_row_is_row

@@ -1,0 +1,5 @@
+use Rattle.corner_lines.proofs.LevelJoinCosts.{joined_cost_is_cost}
+use Rattle.corner_lines.proofs.levels.joined_cost_is_cost.Goals as goal
+
+pub returns : goal.returns
+returns c = joined_cost_is_cost

@@ -1,0 +1,5 @@
+use Rattle.corner_lines.proofs.LevelJoinCosts.{joining_rows_cost_nothing}
+use Rattle.corner_lines.proofs.levels.joining_rows_cost_nothing.Goals as goal
+
+pub returns : goal.returns
+returns c = joining_rows_cost_nothing

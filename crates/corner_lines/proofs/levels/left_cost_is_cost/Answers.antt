@@ -1,0 +1,5 @@
+use Rattle.corner_lines.proofs.LevelJoinCosts.{left_cost_is_cost}
+use Rattle.corner_lines.proofs.levels.left_cost_is_cost.Goals as goal
+
+pub returns : goal.returns
+returns c = left_cost_is_cost

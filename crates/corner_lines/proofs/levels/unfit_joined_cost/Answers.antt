@@ -1,0 +1,5 @@
+use Rattle.corner_lines.proofs.LevelJoinCosts.{unfit_joined_cost}
+use Rattle.corner_lines.proofs.levels.unfit_joined_cost.Goals as goal
+
+pub returns : goal.returns
+returns c = unfit_joined_cost
