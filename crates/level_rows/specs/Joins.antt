@@ -1,6 +1,7 @@
 -- A row whose error joins its level or leaves it.
-use Rattle.std.specs.Prelude.{◌≡◌, ◌⊎◌, ℕ, ◌<◌, ◌≤◌, ◌^◌, ◌*◌, Bool, true, false, cond, List, [], ◌∷◌, ◌++◌, ℤ, pos, neg_ℤ, ◌*ℤ◌, ◌<ℤ◌}
+use Rattle.std.specs.Prelude.{◌≡◌, ◌⊎◌, ℕ, ◌<◌, ◌≤◌, ◌*◌, Bool, true, false, cond, List, [], ◌∷◌, ◌++◌, ℤ, pos, neg_ℤ, ◌*ℤ◌, ◌<ℤ◌}
 use Rattle.std.specs.Int.{IsGcd}
+use Rattle.frac_core.specs.declared.frac.TheConstants.{PART_BOUND}
 use Rattle.frac_core.specs.Fraction.{Fraction, IsLowest, Fits, IsRatio, sum_num, sum_den}
 use Rattle.row_core.specs.Rows.{Term, coefficient, combination, IsReduced, IsKeptRow, IsUnfit}
 use Rattle.problem_core.specs.declared.parts.Rel.{Rel}
@@ -95,7 +96,7 @@ pub record IsTooLarge (own scale weight denominator : ℤ) : Type 0 where
   pub divisor_above : 0 < divisor
   pub level_is : pos (level * divisor) ≡ own *ℤ scale
   pub error_is : pos (error * divisor) ≡ weight *ℤ denominator
-  pub large : (2 ^ 42 ≤ level) ⊎ (2 ^ 42 ≤ error)
+  pub large : (PART_BOUND ≤ level) ⊎ (PART_BOUND ≤ error)
 
 -- what a side of the row costs at a level: nothing before its error joins, and its weight before it leaves
 abbrev pub HasWeight : Change → Row → List Term → Type 0

@@ -5,9 +5,8 @@ ghost use Rattle.row_core.specs.Rows.{coefficient};
 ghost use Rattle.level_rows.specs.Costs.{AllReducedFit, has_mark, weight_column};
 ghost use Rattle.level_rows.specs.Swaps.{IsOfMarks};
 
+use frac_core::PART_BOUND;
 use row_core::{Col, Entry, IntRow, RowStop};
-
-const BOUND: u64 = 1 << 42;
 
 const MARKS: u64 = 1 << 34;
 
@@ -23,7 +22,7 @@ fn fits_at(row: &IntRow, e: Entry) -> bool
         return true;
     }
     let reduced = e.by - row.entry(Col(e.col.0 - WEIGHTS));
-    reduced.unsigned_abs() < BOUND
+    u128::from(reduced.unsigned_abs()) < PART_BOUND
 }
 
 // Whether each reduced cost of the row fits.

@@ -71,7 +71,7 @@ fn better(best: Option<Candidate>, stronger: &[Costed], cost: &Costed, m: Mark) 
     ensures none { IfNone result (IsNotLowAt stronger.now cost.now.row (corners.place m)) }
 {
     let reduced = cost.reduced(m);
-    if reduced < least(best) && are_zero(stronger, m) {
+    if reduced < 0 && reduced <= least(best) && are_zero(stronger, m) {
         Some(Candidate { mark: m, reduced })
     } else {
         best
@@ -174,7 +174,7 @@ fn is_better(best: Option<Entering>, front: Front) -> bool
 {
     match best {
         Some(b) => {
-            front.at < b.front.at || front.at == b.front.at && front.reduced < b.front.reduced
+            front.at < b.front.at || front.at == b.front.at && front.reduced <= b.front.reduced
         }
         None => true,
     }

@@ -13,12 +13,10 @@ ghost use Rattle.level_rows.specs.Joins.{costs_at, weight_term, weight_terms, er
 
 use crate::costed::{Costed, mark_column, weight_column};
 use crate::counting::checked;
-use frac_core::{Frac, OutOfMemory, Unfit, gcd};
+use frac_core::{Frac, OutOfMemory, PART_BOUND, Unfit, gcd};
 use problem_core::{Level, Mark, Quantity, Rel, Row, RowName, Side, TableStop};
 use row_core::{Entry, IntRow, RowStop, combine};
 use std::alloc::Global;
-
-const BOUND: u128 = 1 << 42;
 
 // Whether the side of a row costs.
 fn costs(rel: Rel, side: Side) -> bool
@@ -130,9 +128,9 @@ struct Multiples {
 fn fitting(size: u128) -> Option<i64>
     ensures some { IfSome result (λ z. z ≡ pos size) }
     ensures fits { IfSome result IsFitting }
-    ensures none { IfNone result (2 ^ 42 ≤ size) }
+    ensures none { IfNone result (PART_BOUND ≤ size) }
 {
-    if size < BOUND {
+    if size < PART_BOUND {
         Some(size as i64)
     } else {
         None

@@ -14,8 +14,6 @@ mod lows;
 mod places;
 mod shifting;
 mod staying;
-#[cfg(test)]
-mod tests;
 mod updates;
 
 pub use counting::are_marks;

@@ -10,12 +10,7 @@ pub mod NewAttrs
 pub mod NewRows
 pub mod MovedPoints
 pub mod ShiftLemmas
-pub mod WideProducts
-pub mod WideMerging
-pub mod WideDivisors
-pub mod WideLowest
-pub mod WideSums
-pub mod SumRows
+pub mod TermRows
 pub mod Joined
 pub mod NamedMarks
 pub mod Words

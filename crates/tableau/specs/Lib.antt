@@ -6,5 +6,4 @@ pub mod Dropping
 pub mod Moving
 pub mod Columns
 pub mod Indexes
-pub mod WideMerges
 pub mod Views

@@ -1,7 +1,8 @@
 // A new row's over mark, written by the outside marks.
-ghost use Rattle.std.specs.Prelude.{◌≡◌, ◌⊎◌, ℕ, ◌+◌, ◌<◌, ◌≤◌, ◌^◌, All, length, pos, negsuc, unsigned_abs, IfOk, IfErr, OnErr};
-ghost use Rattle.frac_core.specs.Fraction.{IsRatio, IsLowest, Fits, sum_num, sum_den};
+ghost use Rattle.std.specs.Prelude.{◌≡◌, ◌⊎◌, ℕ, ◌+◌, ◌<◌, ◌≤◌, ◌^◌, ◌*ℤ◌, All, length, pos, negsuc, unsigned_abs, IfOk, IfErr, OnErr};
+ghost use Rattle.frac_core.specs.Fraction.{IsFitting, IsRatio, IsLowest, Fits, sum_num, sum_den};
 ghost use Rattle.row_core.specs.Rows.{IsKeptRow, IsReduced, IsUnfit, coefficient};
+ghost use Rattle.row_core.specs.Combinations.{IsFactor};
 ghost use Rattle.row_core.specs.declared.entry.RowStop.TheVariants.{Unfit as UnfitRow};
 ghost use Rattle.problem_core.specs.Kept.{IsRow};
 ghost use Rattle.problem_core.specs.Corners.{attr_column, place_of};
@@ -15,11 +16,10 @@ ghost use Rattle.tableau.specs.Joining.{IsStart, IsAdded, IsUnfitAdded, IsTermSu
 
 use crate::index::Index;
 use crate::joining::entry;
-use crate::sums::{factor, sum_without};
 use crate::written::{Written, column};
 use frac_core::{Frac, OutOfMemory, Unfit};
 use problem_core::{Mark, Quantity, Row, RowName, Side, TableStop, Term, What};
-use row_core::{Col, IntRow, RowStop};
+use row_core::{Col, Factors, IntRow, Patch, RowStop, combine_but};
 use std::alloc::Global;
 
 /// The mark of a held row.
@@ -57,6 +57,16 @@ fn no_terms(alloc: Global, id: u32) -> Result<Written, OutOfMemory>
     Written::of(alloc, What::Mark(over), row, Frac::zero())
 }
 
+// The product of a fitting number and a coefficient.
+fn factor(own: i64, by: i64) -> i128
+    requires own { IsFitting own }
+    requires by { unsigned_abs by ≤ 2 ^ 30 }
+    ensures value { result ≡ own *ℤ by }
+    ensures factor { IsFactor result }
+{
+    i128::from(own) * i128::from(by)
+}
+
 // The row of the sum with one more term.
 fn added_row(alloc: Global, sum: &Written, term: Term, attr: &Written) -> Result<IntRow, RowStop>
     requires { unsigned_abs term.by ≤ 2 ^ 30 }
@@ -67,14 +77,16 @@ fn added_row(alloc: Global, sum: &Written, term: Term, attr: &Written) -> Result
     let col = Col(column(attr.what()));
     let own = attr.row().entry(col);
     let number = sum.row().entry(Col(column(sum.what())));
-    sum_without(
-        alloc,
-        i128::from(own),
-        sum.row().entries(),
-        factor(number, term.by),
-        attr.row().entries(),
-        col,
-    )
+    let by = Factors {
+        k: i128::from(own),
+        n: factor(number, term.by),
+    };
+    let but = Patch {
+        without: col,
+        at: col,
+        extra: 0,
+    };
+    combine_but(alloc, sum.row(), attr.row(), by, but)
 }
 
 // The value of the sum with one more term.

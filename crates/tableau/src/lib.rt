@@ -13,12 +13,7 @@ mod joining;
 mod laws;
 mod moving;
 mod replacing;
-mod sums;
 mod table;
-#[cfg(test)]
-mod tests;
-mod wide_merge;
-mod wide_reduce;
 mod written;
 
 pub use laws::corners_are_few;

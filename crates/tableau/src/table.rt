@@ -4,7 +4,8 @@ ghost use Rattle.problem_core.specs.Corners as corners;
 ghost use Rattle.problem_core.specs.Corners.{attr_column};
 ghost use Rattle.tableau.specs.Tables.{Table, IsTable, HasColumn};
 ghost use Rattle.problem_core.specs.Kept.{IsNumber};
-ghost use Rattle.tableau.specs.Joining.{IsJoinable, IsJoinStop, IsWithAttr, IsWithRow};
+ghost use Rattle.tableau.specs.Written.{Writing};
+ghost use Rattle.tableau.specs.Joining.{IsJoinStop, IsJoinable, IsOver, IsWithAttr, IsWithRow};
 ghost use Rattle.tableau.specs.Columns.{IsColumn};
 ghost use Rattle.tableau.specs.Dropping.{CanDrop, IsWithoutRow};
 ghost use Rattle.tableau.specs.Moving.{CanShift, IsShifted, IsShiftStop};
@@ -155,6 +156,7 @@ impl Tableau {
     pub fn add_row(&mut self, row: &Row) -> Result<(), TableStop>
         requires { IsJoinable self.old row.now }
         ensures joined { IfOk result (λ _. IsWithRow row.now self.old self.new) }
+        ensures over { IfOk result (λ _. (over : Writing) × IsOver self.old.written row.now over) }
         ensures stop { IfErr result (IsJoinStop self.old row.now) }
         ensures same { IfErr result (λ _. self.new ≡ self.old) }
     {
