@@ -121,7 +121,7 @@ no-whole t r corner x unfit w what kept is =
     let summed : IsSummed t (bare r) [] unfit.sum = subst (λ (left : List Term). IsSummed t (bare r) left unfit.sum) (dropped-all r.terms) (summed_at t r x.table x.joins (length r.terms) (omega arith) unfit.sum unfit.is) in
     no_gap t r corner unfit.sum w (record { sum_is = record { join = x; summed = summed }; kept = kept; column = ap column_of what; writing = is }) unfit.unfit
 
-no-first : (t : Table) (r : Row) (corner : List Mark) (j : ℕ) → IsJoinAt t r corner → IsUnfitTerms t.written r j ⊎ ((j ≡ length r.terms) × IsUnfitGap t.written r) → HasNoRow (with_row t.problem (first_terms (j + 1) r)) corner (MarkOf (over_mark r.id))
+pub no-first : (t : Table) (r : Row) (corner : List Mark) (j : ℕ) → IsJoinAt t r corner → IsUnfitTerms t.written r j ⊎ ((j ≡ length r.terms) × IsUnfitGap t.written r) → HasNoRow (with_row t.problem (first_terms (j + 1) r)) corner (MarkOf (over_mark r.id))
 no-first t r corner j x (inl terms) =
     let within = terms.within in
     subst (λ (s : Row). HasNoRow (with_row t.problem s) corner (MarkOf (over_mark r.id)))

@@ -192,7 +192,7 @@ not-zero : (o x : ℤ) → pos 0 <ℤ o → x ≡ neg_ℤ o → x ≡ pos 0 → 
 not-zero o x h e f = omega (arith, ints, h, e, f)
 
 -- not both marks of a line are inside
-not-both : (t : Table) → IsTable t → Each (λ l. inside_of t (place_of l.name Under) ≡ true → inside_of t (place_of l.name Over) ≡ true → ⊥) (lines t.problem)
+pub not-both : (t : Table) → IsTable t → Each (λ l. inside_of t (place_of l.name Under) ≡ true → inside_of t (place_of l.name Over) ≡ true → ⊥) (lines t.problem)
 not-both t table =
     recursion_from_All (λ l. inside_of t (place_of l.name Under) ≡ true → inside_of t (place_of l.name Over) ≡ true → ⊥) (lines t.problem)
     (λ k d within u o.

@@ -1,5 +1,5 @@
 -- A run so far: how it begins and goes on, and what its path is.
-use Rattle.std.proofs.Common.{◌<◌, false, List, [], ◌∷◌, ◌++◌, ◌≡◌, refl, sym, subst, pos, ◌<ℤ◌, All, inl, inr}
+use Rattle.std.proofs.Common.{ℕ, ◌<◌, false, List, length, length-append, arith, [], ◌∷◌, ◌++◌, ◌≡◌, refl, sym, subst, pos, ◌<ℤ◌, All, inl, inr}
 use Rattle.std.proofs.lemmas.Bool.{cases_Bool}
 use Rattle.row_core.specs.Rows.{coefficient}
 use Rattle.problem_core.specs.declared.parts.Level.TheVariants.{Priority}
@@ -19,7 +19,10 @@ use Rattle.level_rows.specs.Fronts.{IsNegativeIn}
 use Rattle.corner_costs.specs.Changes.{IsSwapStop}
 use Rattle.corner_costs.specs.Corners.{NoNegativeValue}
 use Rattle.add_phase.specs.Steps.{AreInside, HasRun, IsCosted, IsFirstToFall, IsStep, last_marks}
+use Rattle.problem_core.specs.Paths.{IsPath}
 use Rattle.add_phase.specs.Runs.{IsPathTo}
+use Rattle.add_phase.proofs.KnownLevels.{plain_words}
+use Rattle.add_phase.proofs.PathWords.{path_words}
 use Rattle.add_phase.specs.Unfit.{IsUnfitAt}
 use Rattle.add_phase.proofs.NextCorner.{IsExchangeAt, corner_after}
 use Rattle.add_phase.proofs.NextCosts.{unfit_after}
@@ -56,6 +59,9 @@ pub run_path : (first : List Mark) (swaps : List Swap) (t : Table) (levels : Lis
 run_path first swaps t levels run =
     subst (λ (p : Problem). IsPrimalPath p first swaps) (sym (steps_last first run.start run.before swaps t levels run.costed run.values run.marks run.steps).1.1)
     (steps_path first run.start run.before swaps t levels run.costed run.values run.marks run.steps)
+
+pub run_words : (first : List Mark) (swaps : List Swap) (t : Table) (levels : List Cost) → HasRun first swaps t levels → IsPath false t.problem first swaps
+run_words first swaps t levels run = path_words t.problem first swaps (run_path first swaps t levels run)
 
 -- where a mark enters next, the corner is no end
 pub run_no_end : (first : List Mark) (swaps : List Swap) (t : Table) (levels : List Cost) (enter : Mark) → HasRun first swaps t levels → place enter < 17179869184 → IsNegativeIn (place enter) levels → (pos 0 <ℤ (cost_of levels (Priority 1000)).value.num → reduced_at (place enter) (cost_of levels (Priority 1000)).row <ℤ pos 0) → IsPrimalEnd t.problem (last_marks first swaps) → ⊥
@@ -94,7 +100,7 @@ run_next first swaps t levels s leaving run x negative required = record {
 }
 
 -- the path to a corner at which what the stop names does not fit
-pub run_unfit : (first : List Mark) (swaps : List Swap) (t : Table) (levels : List Cost) (s : Swap) (leaving : Writing) (stop : TableStop) → HasRun first swaps t levels → IsExchangeAt t levels (last_marks first swaps) s leaving → IsNegativeIn (place s.enter) levels → (pos 0 <ℤ (cost_of levels (Priority 1000)).value.num → reduced_at (place s.enter) (cost_of levels (Priority 1000)).row <ℤ pos 0) → All (λ w. column_of w.what < 17179869184 → pos 0 <ℤ coefficient (place s.enter) w.row → IsFirstToFall (place s.enter) first leaving w) t.written → IsSwapStop t levels s.enter s.leave stop → (q : Quantity) → stop ≡ UnfitAt q → IsPathTo t.problem (record { dual = false; corner = first; swaps = swaps ++ s ∷ [] }) q
+pub run_unfit : (first : List Mark) (swaps : List Swap) (t : Table) (levels : List Cost) (s : Swap) (leaving : Writing) (stop : TableStop) → HasRun first swaps t levels → IsExchangeAt t levels (last_marks first swaps) s leaving → IsNegativeIn (place s.enter) levels → (pos 0 <ℤ (cost_of levels (Priority 1000)).value.num → reduced_at (place s.enter) (cost_of levels (Priority 1000)).row <ℤ pos 0) → All (λ w. column_of w.what < 17179869184 → pos 0 <ℤ coefficient (place s.enter) w.row → IsFirstToFall (place s.enter) first leaving w) t.written → IsSwapStop t levels s.enter s.leave stop → (q : Quantity) → stop ≡ UnfitAt q → IsPrimalPath t.problem first (swaps ++ s ∷ []) × IsUnfitAt t.problem (last_marks first (swaps ++ s ∷ [])) q
 run_unfit first swaps t levels s leaving stop run x negative required least h q e =
     let unfit : IsUnfitAt t.problem (exchanged s (last_marks first swaps)) q = unfit_after t levels (last_marks first swaps) s leaving stop x h q e in
     let same : run.start.problem ≡ t.problem = sym (steps_last first run.start run.before swaps t levels run.costed run.values run.marks run.steps).1.1 in (
@@ -103,3 +109,17 @@ run_unfit first swaps t levels s leaving stop run x negative required least h q 
           (corners_differ first swaps t levels (exchanged s (last_marks first swaps)) q run same (known_after t levels s stop x.costed.table.named h q e) unfit),
       subst (λ (corner : List Mark). IsUnfitAt t.problem corner q) (sym (last_more first swaps s)) unfit,
     )
+
+-- the same in the words of corners
+pub run_stop : (first : List Mark) (swaps : List Swap) (t : Table) (levels : List Cost) (s : Swap) (leaving : Writing) (stop : TableStop) (budget : ℕ) → HasRun first swaps t levels → IsExchangeAt t levels (last_marks first swaps) s leaving → IsNegativeIn (place s.enter) levels → (pos 0 <ℤ (cost_of levels (Priority 1000)).value.num → reduced_at (place s.enter) (cost_of levels (Priority 1000)).row <ℤ pos 0) → All (λ w. column_of w.what < 17179869184 → pos 0 <ℤ coefficient (place s.enter) w.row → IsFirstToFall (place s.enter) first leaving w) t.written → IsSwapStop t levels s.enter s.leave stop → length swaps < budget → (q : Quantity) → stop ≡ UnfitAt q → IsPathTo t.problem budget (record { dual = false; corner = first; swaps = swaps ++ s ∷ [] }) q
+run_stop first swaps t levels s leaving stop budget run x negative required least h less q e =
+    let path = run_unfit first swaps t levels s leaving stop run x negative required least h q e in
+    let words = plain_words levels t.problem (last_marks first (swaps ++ s ∷ [])) q x.costed.table.whole (known_after t levels s stop x.costed.table.named h q e) path.1 in
+    record {
+      primal = refl;
+      few = omega (arith, less, length-append swaps (s ∷ []));
+      lawful = path_words t.problem first (swaps ++ s ∷ []) path.0;
+      what = words.0;
+      plain = words.1;
+      unfit = words.2;
+    }

@@ -1,5 +1,5 @@
 -- Multipliers divided by a common factor.
-use Rattle.std.proofs.Common.{◌≡◌, ◌≢◌, ◌∙◌, ℕ, zero, suc, ◌*◌, ◌/◌, ◌<◌, Bool, true, false, cond, nat_eq, List, [], ◌∷◌, ◌++◌, length, take, get_or, ℤ, pos, negsuc, ◌+ℤ◌, ◌*ℤ◌, neg_ℤ, ◌≤ℤ◌, ◌<ℤ◌, refl, sym, ap, ap₂, subst, arith, All, AllPairs, eq-eqb, ne_eqb, eqb-true}
+use Rattle.std.proofs.Common.{◌≡◌, ◌≢◌, ◌∙◌, ℕ, zero, suc, ◌*◌, ◌/◌, ◌<◌, Bool, true, false, cond, nat_eq, List, [], ◌∷◌, ◌++◌, length, take, get_or, ℤ, pos, negsuc, ◌+ℤ◌, ◌*ℤ◌, neg_ℤ, ◌≤ℤ◌, ◌<ℤ◌, refl, sym, ap, ap₂, subst, arith, All, AllPairs, Any, eq-eqb, ne_eqb, eqb-true}
 use Rattle.std.specs.Int.RustNames.{unsigned_abs}
 use Rattle.std.specs.Int.{◌∣◌}
 use Rattle.std.proofs.lemmas.Nat.Gcd.{dvd_trans}
@@ -19,6 +19,7 @@ use Rattle.problem_core.specs.Certificates.{IsRefutation, HasSign, required}
 use Rattle.problem_core.proofs.Forms.{sum-append, each-impl, each-both, each-filter}
 use Rattle.cert_core.specs.declared.by.By.{By}
 use Rattle.cert_core.specs.Claims.{times_of, same_row}
+use Rattle.cert_core.specs.Stops.{ComesBefore}
 use Rattle.add_phase.specs.Shares.{AreShares, IsDivisor}
 
 -- ---- one number
@@ -72,7 +73,29 @@ shares_none y g = record {
   times = All-nil (λ r. r.rank ≡ 1000 → pos g *ℤ times_of [] (Held r.id) ≡ y r.id);
   absent = λ id none. All-nil (λ b. b.row ≢ Held id);
   kept = record { fitting = All-nil (λ b. IsFitting b.times); apart = λ i j d less within. absurd (omega (arith, within)) };
+  named = All-nil (λ b. Any (λ r. (r.rank ≡ 1000) × (b.row ≡ Held r.id)) []);
+  nonzero = All-nil (λ b. b.times ≢ pos 0);
+  rising = λ i j d less within. absurd (omega (arith, within));
 }
+
+-- a row more
+any-front : (P : Row → Type 0) (rows : List Row) (r : Row) → Any P rows → Any P (rows ++ r ∷ [])
+any-front P [] r (k, x, within, is, h) = absurd (omega (arith, within))
+any-front P (s ∷ rows) r (zero, x, within, is, h) = (0, x, omega arith, is, h)
+any-front P (s ∷ rows) r (suc k, x, within, is, h) = let more = any-front P rows r (k, x, omega (arith, within), is, h) in (suc more.0, more.1, omega (arith, more.2), more.3, more.4)
+
+any-last : (P : Row → Type 0) (rows : List Row) (r : Row) → P r → Any P (rows ++ r ∷ [])
+any-last P [] r h = (0, r, omega arith, refl, h)
+any-last P (s ∷ rows) r h = let more = any-last P rows r h in (suc more.0, more.1, omega (arith, more.2), more.3, more.4)
+
+named-more : (rows : List Row) (by : List By) (r : Row) → All (λ b. Any (λ r. (r.rank ≡ 1000) × (b.row ≡ Held r.id)) rows) by → All (λ b. Any (λ s. (s.rank ≡ 1000) × (b.row ≡ Held s.id)) (rows ++ r ∷ [])) by
+named-more rows by r h = λ k d within. any-front (λ s. (s.rank ≡ 1000) × ((get_or by k d).row ≡ Held s.id)) rows r (h k d within)
+
+-- each that is named so far comes before the next row
+comes-before : (rows : List Row) (by : List By) (r : Row) → All (λ s. s.id < r.id) rows → All (λ b. Any (λ r. (r.rank ≡ 1000) × (b.row ≡ Held r.id)) rows) by → All (λ b. ComesBefore b.row (Held r.id)) by
+comes-before rows by r below h = λ k d within.
+    let n = h k d within in
+    subst (λ (name : RowName). ComesBefore name (Held r.id)) (sym n.4.1) (subst (λ (s : Row). s.id < r.id) n.3 (below n.0 n.1 n.2))
 
 own_times : (y : ℕ → ℤ) (g : ℕ) (rows : List Row) (by : List By) (id : ℕ) → All (λ r. r.id < id) rows → AreShares y g rows by → times_of by (Held id) ≡ pos 0
 own_times y g rows by id below are = absent_times by (Held id) (recursion_from_All (λ b. b.row ≢ Held id) by (are.absent id (apart_ids rows id below)))
@@ -84,10 +107,13 @@ shares_skip y g rows by r below none are = record {
       (λ rank. ap (λ (z : ℤ). pos g *ℤ z) (own_times y g rows by r.id below are) ∙ mul-zero_ℤ (pos g) ∙ sym (none rank));
   absent = λ id h. are.absent id (front_apart rows r id h);
   kept = are.kept;
+  named = named-more rows by r are.named;
+  nonzero = are.nonzero;
+  rising = are.rising;
 }
 
-pub shares_push : (y : ℕ → ℤ) (g : ℕ) (rows : List Row) (by new : List By) (r : Row) (z : ℤ) → All (λ s. s.id < r.id) rows → pos g *ℤ z ≡ y r.id → IsFitting z → new ≡ by ++ record { row = Held r.id; times = z } ∷ [] → AreShares y g rows by → AreShares y g (rows ++ r ∷ []) new
-shares_push y g rows by new r z below same fits e are =
+pub shares_push : (y : ℕ → ℤ) (g : ℕ) (rows : List Row) (by new : List By) (r : Row) (z : ℤ) → All (λ s. s.id < r.id) rows → r.rank ≡ 1000 → z ≢ pos 0 → pos g *ℤ z ≡ y r.id → IsFitting z → new ≡ by ++ record { row = Held r.id; times = z } ∷ [] → AreShares y g rows by → AreShares y g (rows ++ r ∷ []) new
+shares_push y g rows by new r z below rank some same fits e are =
     subst (AreShares y g (rows ++ r ∷ [])) (sym e)
     (record {
       times = All-push (λ s. s.rank ≡ 1000 → pos g *ℤ times_of (by ++ record { row = Held r.id; times = z } ∷ []) (Held s.id) ≡ y s.id) rows r
@@ -103,6 +129,9 @@ shares_push y g rows by new r z below same fits e are =
         fitting = All-push (λ b. IsFitting b.times) by (record { row = Held r.id; times = z }) are.kept.fitting fits;
         apart = all_pairs_push (λ b c. b.row ≢ c.row) by (record { row = Held r.id; times = z }) are.kept.apart (are.absent r.id (apart_ids rows r.id below));
       };
+      named = All-push (λ b. Any (λ s. (s.rank ≡ 1000) × (b.row ≡ Held s.id)) (rows ++ r ∷ [])) by (record { row = Held r.id; times = z }) (named-more rows by r are.named) (any-last (λ s. (s.rank ≡ 1000) × (Held r.id ≡ Held s.id)) rows r (rank, refl));
+      nonzero = All-push (λ b. b.times ≢ pos 0) by (record { row = Held r.id; times = z }) are.nonzero some;
+      rising = all_pairs_push (λ a b. ComesBefore a.row b.row) by (record { row = Held r.id; times = z }) are.rising (comes-before rows by r below are.named);
     })
   where
     plus_zero : (x : ℤ) → x +ℤ pos 0 ≡ x

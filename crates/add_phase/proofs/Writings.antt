@@ -30,22 +30,22 @@ use Rattle.add_phase.proofs.SortedRows.{sorted_nonzero, sorted_number, sorted_ri
 
 -- ---- divisors
 
-same-size : (z : ℤ) → unsigned_abs (neg_ℤ z) ≡ unsigned_abs z
+pub same-size : (z : ℤ) → unsigned_abs (neg_ℤ z) ≡ unsigned_abs z
 same-size (pos zero) = refl
 same-size (pos (suc n)) = refl
 same-size (negsuc n) = refl
 
 -- a number that is divided is a multiple
-multiple : (d : ℕ) (z : ℤ) → d ∣ unsigned_abs z → (y : ℤ) × (z ≡ pos d *ℤ y)
+pub multiple : (d : ℕ) (z : ℤ) → d ∣ unsigned_abs z → (y : ℤ) × (z ≡ pos d *ℤ y)
 multiple d (pos n) h = (pos (n / d), (let e : n / d * d ≡ n = div-mul_cancel d h in ap pos (let q : n ≡ d * (n / d) = omega (arith, e) in q)))
 multiple d (negsuc n) h =
     let e : suc n / d * d ≡ suc n = div-mul_cancel d h in
     (neg_ℤ (pos (suc n / d)), ap (λ (k : ℕ). neg_ℤ (pos k)) (let q : suc n ≡ d * (suc n / d) = omega (arith, e) in q) ∙ sym (mul-neg (pos d) (pos (suc n / d))))
 
-divides-multiple : (d : ℕ) (z y : ℤ) → z ≡ pos d *ℤ y → d ∣ unsigned_abs z
+pub divides-multiple : (d : ℕ) (z y : ℤ) → z ≡ pos d *ℤ y → d ∣ unsigned_abs z
 divides-multiple d z y e = subst (λ (k : ℕ). d ∣ k) (sym (ap unsigned_abs e ∙ unsigned_abs-mul (pos d) y)) (dvd-mul_right d (unsigned_abs y))
 
-divides-none : (d : ℕ) → d ∣ unsigned_abs (pos 0)
+pub divides-none : (d : ℕ) → d ∣ unsigned_abs (pos 0)
 divides-none d = divides-multiple d (pos 0) (pos 0) (sym (mul-zero_ℤ (pos d)))
 
 turned-multiple : (d : ℕ) (f z y : ℤ) → z ≡ neg_ℤ f → z ≡ pos d *ℤ y → f ≡ pos d *ℤ neg_ℤ y

@@ -4,7 +4,8 @@ use Rattle.std.specs.List.{AllZip}
 use Rattle.row_core.specs.Rows.{Term, coefficient}
 use Rattle.problem_core.specs.declared.parts.Mark.{Mark}
 use Rattle.problem_core.specs.declared.parts.Level.TheVariants.{Priority}
-use Rattle.problem_core.specs.Corners.{Swap, IsIn, exchanged, place}
+use Rattle.problem_core.specs.Corners.{Swap, IsIn, place}
+pub use Rattle.problem_core.specs.Paths.{last_marks}
 use Rattle.tableau.specs.Written.{Writing}
 use Rattle.tableau.specs.Tables.{Table, IsTable, IsWriting, column_of, own}
 use Rattle.tableau.specs.Exchanges.{IsInside, IsExchangedWriting}
@@ -12,11 +13,6 @@ use Rattle.level_rows.specs.Costs.{Cost, AreKept, cost_of, reduced_at}
 use Rattle.level_rows.specs.Swaps.{AreExchangedCosts}
 use Rattle.level_rows.specs.Fronts.{IsNegativeIn}
 use Rattle.corner_costs.specs.Corners.{AreCostsAt, NoNegativeValue}
-
--- the marks after the exchanges
-abbrev pub last_marks : List Mark → List Swap → List Mark
-last_marks at [] = at
-last_marks at (s ∷ swaps) = last_marks (exchanged s at) swaps
 
 -- a tableau with the costs of the levels at its corner
 pub record IsCosted (t : Table) (levels : List Cost) : Type 0 where

@@ -1,15 +1,14 @@
 // The conflict that the multipliers of the required level show.
-ghost use Rattle.std.specs.Prelude.{◌≡◌, ◌≢◌, ℕ, ◌<◌, ◌^◌, ◌/◌, neg_ℤ, ◌++◌, ◌∷◌, [], ◌*ℤ◌, ◌<ℤ◌, ◌≤ℤ◌, pos, true, false, List, All, AllPairs, IfOk, unsigned_abs};
+ghost use Rattle.std.specs.Prelude.{◌≡◌, ◌≢◌, ◌⊎◌, ℕ, ◌<◌, ◌^◌, ◌/◌, neg_ℤ, ◌++◌, ◌∷◌, [], ◌*ℤ◌, ◌<ℤ◌, ◌≤ℤ◌, pos, true, false, List, All, AllPairs, IfOk, unsigned_abs};
 ghost use Rattle.std.specs.Int.{◌∣◌};
 ghost use Rattle.frac_core.specs.Fraction.{IsFitting};
 ghost use Rattle.problem_core.specs.Layout as layout;
 ghost use Rattle.problem_core.specs.Certificates.{IsRefutation};
-ghost use Rattle.problem_core.specs.declared.parts.RowName.TheVariants.{Held};
 ghost use Rattle.problem_core.specs.declared.parts.Level.TheVariants.{Priority};
-ghost use Rattle.cert_core.specs.Claims as claims;
+ghost use Rattle.cert_core.specs.Stops.{IsShownConflict};
 ghost use Rattle.tableau.specs.Tables.{Table};
 ghost use Rattle.add_phase.specs.Runs.{BeginsAt, IsRunStop};
-ghost use Rattle.add_phase.specs.Shares.{AreShares, IsDivisor, required_times};
+ghost use Rattle.add_phase.specs.Shares.{AreShares, IsDivisor, IsGreatest, required_times};
 
 use cert_core::{By, Conflict, RunStop};
 use frac_core::{OutOfMemory, gcd};
@@ -39,6 +38,7 @@ fn shared(factor: u128, times: i64) -> u128
     ensures small { result < 2 ^ 42 }
     ensures factor { result ∣ factor }
     ensures times { result ∣ unsigned_abs times }
+    ensures greatest { (k : ℕ) → k ∣ factor → k ∣ unsigned_abs times → k ∣ result }
 {
     if is_zero(times) {
         factor
@@ -53,6 +53,7 @@ fn shared_by(factor: u128, l: &Levels, row: &Row) -> u128
     ensures small { result < 2 ^ 42 }
     ensures factor { result ∣ factor }
     ensures times { row.now.rank ≡ 1000 → result ∣ unsigned_abs (required_times l.now row.now.id) }
+    ensures greatest { (k : ℕ) → k ∣ factor → IsDivisor k (required_times l.now) row.now → k ∣ result }
 {
     if row.rank() == 1000 {
         shared(factor, multiplier(l, row))
@@ -66,6 +67,8 @@ fn common_factor(l: &Levels, rows: &[Row]) -> u128
     ensures above { 0 < result }
     ensures small { result < 2 ^ 42 }
     ensures divides { All (IsDivisor result (required_times l.now)) rows.now }
+    ensures greatest { All (IsDivisor 0 (required_times l.now)) rows.now
+        ⊎ IsGreatest result (required_times l.now) rows.now }
 {
     let mut factor = 0;
     for row in rows {
@@ -153,7 +156,9 @@ fn push_share(out: &mut Vec<By>, l: &Levels, row: &Row, factor: u128) -> Result<
 /// The multipliers of the required rows without a common factor.
 fn shares(alloc: Global, l: &Levels, rows: &[Row]) -> Result<Vec<By>, OutOfMemory>
     requires { AllPairs (λ r s. r.id < s.id) rows.now }
-    ensures { IfOk result (λ out. (g : ℕ) × AreShares (required_times l.now) g rows.now out.items) }
+    ensures { IfOk result (λ out. (g : ℕ) × (0 < g)
+        × (All (IsDivisor 0 (required_times l.now)) rows.now ⊎ IsGreatest g (required_times l.now) rows.now)
+        × AreShares (required_times l.now) g rows.now out.items) }
 {
     let factor = common_factor(l, rows);
     let mut out = Vec::new(alloc);
@@ -166,7 +171,7 @@ fn shares(alloc: Global, l: &Levels, rows: &[Row]) -> Result<Vec<By>, OutOfMemor
 /// The conflict that the multipliers of the required level show.
 fn conflict(alloc: Global, l: &Levels, p: &Problem) -> Result<Conflict, OutOfMemory>
     requires { IsRefutation p.now (required_times l.now) }
-    ensures { IfOk result (λ by. IsRefutation p.now (λ id. claims.times_of by (Held id))) }
+    ensures { IfOk result (IsShownConflict p.now) }
 {
     p.show_whole();
     let by = shares(alloc, l, p.rows())?;

@@ -72,7 +72,8 @@ fn push_stays(out: &mut Vec<Mark>, t: &Tableau, p: &Problem) -> Result<(), OutOf
 /// The marks inside, by row number with the stays last.
 pub(crate) fn corner_of(alloc: Global, t: &Tableau, p: &Problem) -> Result<Vec<Mark>, OutOfMemory>
     requires { p.now ≡ t.now.problem }
-    ensures { IfOk result (λ corner. AreInside t.now corner.items) }
+    ensures inside { IfOk result (λ corner. AreInside t.now corner.items) }
+    ensures ordered { IfOk result (λ corner. inside.IsCornerWith t.now [] corner.items) }
 {
     t.show_table();
     let mut corner = Vec::new(alloc);

@@ -2,7 +2,7 @@
 ghost use Rattle.std.specs.Prelude.{◌≡◌, ◌<◌, ◌≤◌, ◌<ℤ◌, ◌+◌, ◌++◌, ◌∷◌, [], ℕ, List, pos, length, true, false, IfOk, IfErr};
 ghost use Rattle.problem_core.specs.Layout as layout;
 ghost use Rattle.problem_core.specs.Corners as corners;
-ghost use Rattle.problem_core.specs.Corners.{IsPrimalEnd, IsPrimalPath};
+ghost use Rattle.problem_core.specs.Paths.{IsEndOf, IsPath};
 ghost use Rattle.problem_core.specs.declared.parts.Level.TheVariants.{Priority};
 ghost use Rattle.problem_core.specs.declared.stops.Quantity.{Quantity};
 ghost use Rattle.problem_core.specs.declared.stops.TableStop.TheVariants.{UnfitAt};
@@ -10,6 +10,7 @@ ghost use Rattle.tableau.specs.Tables.{Table};
 ghost use Rattle.level_rows.specs.Costs.{cost_of, reduced_at};
 ghost use Rattle.level_rows.specs.Fronts.{IsNegativeIn};
 ghost use Rattle.corner_costs.specs.Corners.{AreCostsAt, NoNegativeValue};
+ghost use Rattle.add_phase.specs.InsideMarks.{IsCornerWith};
 ghost use Rattle.add_phase.specs.Ratios.{IsLeast};
 ghost use Rattle.add_phase.specs.Runs.{BeginsAt, IsPathTo, IsRunStop};
 ghost use Rattle.add_phase.specs.Steps.{AreInside, HasRun, last_marks};
@@ -39,6 +40,7 @@ impl Run {
         requires values { NoNegativeValue t.now }
         ensures none { IfOk result (λ run. run.swaps.items ≡ []) }
         ensures marks { IfOk result (λ run. AreInside t.now run.corner.items) }
+        ensures ordered { IfOk result (λ run. IsCornerWith t.now [] run.corner.items) }
         ensures run { IfOk result (λ run. HasRun run.corner.items run.swaps.items t.now l.now) }
     {
         t.show_table();
@@ -74,8 +76,11 @@ impl Run {
 
     /// The stop that a stop of an exchange leads to.
     fn stop(&self, stop: TableStop) -> RunStop
-        ensures begins { (t : Table) → AreInside t self.now.corner.items → BeginsAt t result }
-        ensures stop { (p : layout.Problem) → ((q : Quantity) → stop ≡ UnfitAt q → IsPathTo p (record { dual = false; corner = self.now.corner.items; swaps = self.now.swaps.items }) q) → (budget : ℕ) → IsRunStop p budget result }
+        ensures begins { (t : Table) → IsCornerWith t [] self.now.corner.items → BeginsAt t result }
+        ensures stop { (p : layout.Problem) (budget : ℕ)
+            → ((q : Quantity) → stop ≡ UnfitAt q
+            → IsPathTo p budget (record { dual = false; corner = self.now.corner.items; swaps = self.now.swaps.items }) q)
+            → IsRunStop p budget result }
     {
         let TableStop::UnfitAt(quantity) = stop else {
             return RunStop::OutOfMemory;
@@ -88,8 +93,10 @@ impl Run {
 
     /// The stop where the exchanges are used up.
     pub fn spent(&self) -> RunStop
-        ensures begins { (t : Table) → AreInside t self.now.corner.items → BeginsAt t result }
-        ensures stop { (p : layout.Problem) → IsPrimalPath p self.now.corner.items self.now.swaps.items → (IsPrimalEnd p (last_marks self.now.corner.items self.now.swaps.items) → ⊥) → IsRunStop p (length self.now.swaps.items) result }
+        ensures begins { (t : Table) → IsCornerWith t [] self.now.corner.items → BeginsAt t result }
+        ensures stop { (p : layout.Problem) → IsPath false p self.now.corner.items self.now.swaps.items
+            → (IsEndOf false p (last_marks self.now.corner.items self.now.swaps.items) → ⊥)
+            → IsRunStop p (length self.now.swaps.items) result }
     {
         match self.path() {
             Ok(path) => RunStop::Spent(path),
@@ -113,8 +120,8 @@ impl Run {
         ensures problem { IfOk result (λ _. t.new.problem ≡ t.old.problem) }
         ensures corner { IfOk result (λ _. self.new.corner.items ≡ self.old.corner.items) }
         ensures more { IfOk result (λ _. length self.new.swaps.items ≡ length self.old.swaps.items + 1) }
-        ensures begins { IfErr result (λ stop. (first : Table) → AreInside first self.old.corner.items → BeginsAt first stop) }
-        ensures stop { IfErr result (λ stop. (budget : ℕ) → IsRunStop t.old.problem budget stop) }
+        ensures begins { IfErr result (λ stop. (first : Table) → IsCornerWith first [] self.old.corner.items → BeginsAt first stop) }
+        ensures stop { IfErr result (λ stop. (budget : ℕ) → length self.old.swaps.items < budget → IsRunStop t.old.problem budget stop) }
     {
         t.show_table();
         let (_enters, _leaves) = (place(enter), place(leave));

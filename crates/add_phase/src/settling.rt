@@ -1,13 +1,14 @@
 // The run to a corner without negative columns.
-ghost use Rattle.std.specs.Prelude.{◌≡◌, true, false, ◌<◌, ◌≤◌, ◌<ℤ◌, ◌≤ℤ◌, pos, ℕ, length, IfOk, IfErr, IfSome, IfNone};
+ghost use Rattle.std.specs.Prelude.{◌≡◌, [], true, false, ◌<◌, ◌≤◌, ◌<ℤ◌, ◌≤ℤ◌, pos, ℕ, length, IfOk, IfErr, IfSome, IfNone};
 ghost use Rattle.problem_core.specs.Layout as layout;
 ghost use Rattle.problem_core.specs.Corners as corners;
-ghost use Rattle.problem_core.specs.Corners.{IsPrimalPath};
+ghost use Rattle.problem_core.specs.Paths.{IsPath};
 ghost use Rattle.problem_core.specs.declared.parts.Level.TheVariants.{Priority};
 ghost use Rattle.tableau.specs.Tables.{Table};
 ghost use Rattle.level_rows.specs.Costs.{cost_of, reduced_at};
 ghost use Rattle.level_rows.specs.Fronts.{IsNegativeIn};
 ghost use Rattle.corner_costs.specs.Corners.{AreCostsAt, IsEnd, NoNegativeValue};
+ghost use Rattle.add_phase.specs.InsideMarks.{IsCornerWith};
 ghost use Rattle.add_phase.specs.Ratios.{IsLeast};
 ghost use Rattle.add_phase.specs.Runs.{BeginsAt, IsRunStop};
 ghost use Rattle.add_phase.specs.Steps.{AreInside, last_marks};
@@ -129,8 +130,9 @@ pub fn settle(
     ensures costs { IfOk result (λ _. AreCostsAt t.new l.new) }
     ensures values { IfOk result (λ _. NoNegativeValue t.new) }
     ensures end { IfOk result (λ _. IsEnd l.new) }
-    ensures first { IfOk result (λ path. AreInside t.old path.corner) }
-    ensures path { IfOk result (λ path. IsPrimalPath p.now path.corner path.swaps) }
+    ensures first { IfOk result (λ path. IsCornerWith t.old [] path.corner) }
+    ensures primal { IfOk result (λ path. path.dual ≡ false) }
+    ensures path { IfOk result (λ path. IsPath false p.now path.corner path.swaps) }
     ensures corner { IfOk result (λ path. AreInside t.new (last_marks path.corner path.swaps)) }
     ensures few { IfOk result (λ path. length path.swaps ≤ budget) }
     ensures begins { IfErr result (BeginsAt t.old) }

@@ -1,10 +1,9 @@
 -- Steps of loops over the items of a list.
-use Rattle.std.proofs.Common.{◌≡◌, ◌≢◌, ◌∙◌, ℕ, ◌+◌, ◌<◌, ◌++◌, List, [], ◌∷◌, length, take, drop, get_or, map, sym, ap, subst, append_assoc, All}
+use Rattle.std.proofs.Common.{◌≡◌, ◌∙◌, ℕ, ◌+◌, ◌<◌, ◌++◌, List, [], ◌∷◌, length, take, get_or, map, sym, ap, subst, append_assoc, All}
 use Rattle.std.proofs.lemmas.List.{take_more, map_push}
 use Rattle.std.proofs.lemmas.List.Elements.{All-push}
 use Rattle.frac_core.specs.Fraction.{Fraction, IsKept}
 use Rattle.problem_core.specs.declared.parts.Stay.{Stay}
-use Rattle.problem_core.specs.Gaps.{value_of}
 
 item_taken : {X : Type 0} (xs : List X) (i : ℕ) (x : X) → i < length xs → x ≡ get_or xs i x → take i xs ++ x ∷ [] ≡ take (i + 1) xs
 item_taken xs i x within is = ap (λ y. take i xs ++ y ∷ []) is ∙ sym (take_more xs i x within)
@@ -18,11 +17,6 @@ push_mapped f base out xs i x within is e =
     ap (λ os. os ++ f x ∷ []) e
     ∙ append_assoc base (map f (take i xs)) (f x ∷ [])
     ∙ ap (λ ys. base ++ ys) (sym (map_push f (take i xs) x) ∙ ap (map f) (item_taken xs i x within is))
-
--- none of the first pairs is the attribute's
-pub record IsPast (values : List (ℕ × Fraction)) (attr i : ℕ) : Type 0 where
-  pub value : value_of values attr ≡ value_of (drop i values) attr
-  pub none : All (λ v. v.0 ≢ attr) (take i values)
 
 -- the values are of the stays' attributes
 pub record ArePairs (values : List (ℕ × Fraction)) (stays : List Stay) : Type 0 where

@@ -10,3 +10,8 @@ pub mod StoodStays
 pub mod Standing
 pub mod NewRowStops
 pub mod StartCorners
+pub mod OrderedMarks
+pub mod NewTerms
+pub mod NewCorners
+pub mod Absent
+pub mod SumRows

@@ -1,3 +1,4 @@
+pub mod Orders
 pub mod Layouts
 pub mod Starts
 pub mod Stops

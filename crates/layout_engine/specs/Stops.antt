@@ -1,48 +1,78 @@
 -- When a change of a layout stops.
-use Rattle.std.specs.Prelude.{◌≡◌, ◌⊎◌, ℕ, List, [], length}
-use Rattle.problem_core.specs.declared.parts.RowName.TheVariants.{Held}
+use Rattle.std.specs.Prelude.{◌≡◌, ◌⊎◌, ◌≤◌, ◌-◌, ℕ, false, nat_eq, List, [], ◌++◌, filter, length}
 use Rattle.problem_core.specs.declared.parts.Mark.{Mark}
 use Rattle.problem_core.specs.declared.stops.Quantity.{Quantity}
 use Rattle.problem_core.specs.declared.stops.Quantity.TheVariants.{Plain, Terms, Rows, Shifts}
-use Rattle.problem_core.specs.Layout.{Problem, IsInConflict}
-use Rattle.problem_core.specs.Certificates.{IsRefutation}
-use Rattle.problem_core.specs.Corners.{IsCorner, IsPrimalPath, IsPrimalEnd}
-use Rattle.cert_core.specs.Claims.{times_of}
+use Rattle.problem_core.specs.declared.parts.Level.{Level}
+use Rattle.problem_core.specs.Layout.{Problem, Row, IsInConflict, lines}
+use Rattle.problem_core.specs.Levels.{IsLevelAt}
+use Rattle.problem_core.specs.Unfit.{IsNewAt}
+use Rattle.problem_core.specs.OwnCosts.{IsUnfitCosted}
+use Rattle.problem_core.specs.Paths.{IsPath, last_marks}
 use Rattle.cert_core.specs.Paths.{Path}
+use Rattle.cert_core.specs.Stops.{IsPlain, IsShownConflict, IsSpentPath, IsUnfitPath}
 use Rattle.cert_core.specs.declared.stops.RunStop.{RunStop}
 use Rattle.cert_core.specs.declared.stops.RunStop.TheVariants.{Conflict, Unfit, Spent, OutOfMemory}
-use Rattle.add_phase.specs.Runs.{IsPathTo}
-use Rattle.add_phase.specs.Unfit.{IsUnfitAt}
-use Rattle.add_phase.specs.Steps.{last_marks}
 use Rattle.layout_engine.specs.Layouts.{StandsAtStays}
+use Rattle.layout_engine.specs.Orders.{IsInOrder}
 
--- a lawful path
-abbrev pub IsLawful : Problem → Path → Type 0
-IsLawful p path = IsPrimalPath p path.corner path.swaps
+-- a lawful primal path, whose first corner's marks are in order
+pub record IsLawful (p : Problem) (path : Path) : Type 0 where
+  pub primal : path.dual ≡ false
+  pub ordered : IsInOrder p path.corner
+  pub lawful : IsPath false p path.corner path.swaps
 
--- a lawful path from a corner at the stays' targets has as many exchanges as the budget, and its last corner is no end
+-- a path may begin where the attributes have the targets of their stays, at marks in order, while the last rows are
+-- still to join
+abbrev pub BeginsAtStays : Problem → List Row → List Mark → Type 0
+BeginsAtStays p rest at = StandsAtStays p at × IsInOrder p at × ((joined : List Row) × (joined ++ rest ≡ p.rows))
+
+-- as a path to what does not fit, where a level does not fit with what each mark costs by itself
+pub record IsCostedPath
+    (p : Problem) (old : List Row) (Begins : List Row → List Mark → Type 0) (path : Path) (quantity : Quantity)
+    : Type 0 where
+  pub begins : Begins [] path.corner
+  pub lawful : IsPath false p path.corner path.swaps
+  pub partial : (IsPlain quantity → ⊥) → path.swaps ≡ []
+  pub unfit : IsUnfitCosted p old (last_marks path.corner path.swaps) quantity
+
+-- the j-th row of the level is new
+pub record IsNewSum (old : List Row) (p : Problem) (level : Level) (j : ℕ) : Type 0 where
+  pub number : ℕ
+  pub known : IsLevelAt p level number
+  pub some : 1 ≤ j
+  pub most : j ≤ length (filter (λ l. nat_eq l.level number) (lines p))
+  pub last : IsNewAt old j (filter (λ r. nat_eq (1000 - r.rank) number) p.rows)
+
+-- the sum of a level's first rows, the last of which is new: that it does not fit is not said, but which it is, where
+-- its path begins, and that this is lawful
+abbrev pub IsOpen : List Row → Problem → Path → Quantity → Type 0
+IsOpen old p path (Plain what) = ⊥
+IsOpen old p path (Terms mark j) = ⊥
+IsOpen old p path (Rows level j) =
+    (path.swaps ≡ [])
+    × BeginsAtStays p [] path.corner
+    × IsPath false p path.corner []
+    × IsNewSum old p level j
+IsOpen old p path (Shifts what j) = ⊥
+
+-- a primal path of no more exchanges than the budget to what does not fit, where these are the rows before
+pub record IsCut (old : List Row) (p : Problem) (budget : ℕ) (path : Path) (quantity : Quantity) : Type 0 where
+  pub primal : path.dual ≡ false
+  pub few : length path.swaps ≤ budget
+  pub unfit :
+      IsUnfitPath false p old (BeginsAtStays p) path quantity
+      ⊎ IsCostedPath p old (BeginsAtStays p) path quantity
+      ⊎ IsOpen old p path quantity
+
+-- a lawful primal path has as many exchanges as the budget, and its last corner is no end
 pub record IsSpent (p : Problem) (budget : ℕ) (path : Path) : Type 0 where
-  pub count : length path.swaps ≡ budget
-  pub begins : StandsAtStays p path.corner
-  pub lawful : IsLawful p path
-  pub no_end : IsPrimalEnd p (last_marks path.corner path.swaps) → ⊥
+  pub primal : path.dual ≡ false
+  pub spent : IsSpentPath false p (BeginsAtStays p) budget path
 
--- before a run's first exchange: the sum of the first terms of a row that joins does not fit at the corner; of the sum of a level's rows no more
--- is said
-abbrev pub IsUnfitStart : Problem → List Mark → Quantity → Type 0
-IsUnfitStart p corner (Plain what) = ⊥
-IsUnfitStart p corner (Terms mark first) = IsUnfitAt p corner (Terms mark first)
-IsUnfitStart p corner (Rows level first) = Unit {0}
-IsUnfitStart p corner (Shifts what first) = ⊥
-
--- a lawful path from a corner at the stays' targets to a corner at which the quantity does not fit; or a path without exchanges, at whose corner
--- a row that joins, or the sum of its level with it, does not fit
-abbrev pub IsCut : Problem → Path → Quantity → Type 0
-IsCut p path quantity = (StandsAtStays p path.corner × IsPathTo p path quantity) ⊎ ((path.swaps ≡ []) × IsCorner p path.corner × IsUnfitStart p path.corner quantity)
-
--- at a conflict the multipliers refute the required rows of the problem
-abbrev pub IsStopOf : Problem → ℕ → RunStop → Type 0
-IsStopOf p budget (Conflict by) = IsRefutation p (λ id. times_of by (Held id)) × IsInConflict p
-IsStopOf p budget (Spent path) = IsSpent p budget path
-IsStopOf p budget (Unfit at) = IsCut p at.path at.quantity
-IsStopOf p budget OutOfMemory = Unit {0}
+-- why a change to the problem p stops, where these are the rows before
+abbrev pub IsStopOf : List Row → Problem → ℕ → RunStop → Type 0
+IsStopOf old p budget (Conflict by) = IsShownConflict p by × IsInConflict p
+IsStopOf old p budget (Spent path) = IsSpent p budget path
+IsStopOf old p budget (Unfit at) = IsCut old p budget at.path at.quantity
+IsStopOf old p budget OutOfMemory = Unit {0}

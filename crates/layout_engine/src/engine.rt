@@ -1,6 +1,7 @@
 // The engine.
-ghost use Rattle.std.specs.Prelude.{◌≡◌, ◌≢◌, ◌≤◌, ◌++◌, [], length, All, IfOk, IfErr, IfSome, IfNone, OnErr};
-ghost use Rattle.problem_core.specs.Gaps.{value_of};
+ghost use Rattle.std.specs.Prelude.{◌≡◌, ◌≢◌, ◌≤◌, ◌++◌, [], List, length, All, Any, IfOk, IfErr, IfSome, IfNone, OnErr};
+ghost use Rattle.problem_core.specs.Layout as layout;
+ghost use Rattle.problem_core.specs.Layout.{HasStay};
 ghost use Rattle.problem_core.specs.Kept.{IsWhole, AreRising};
 ghost use Rattle.corner_costs.specs.Corners.{AreCostsAt, NoNegativeValue};
 ghost use Rattle.add_phase.specs.Steps.{last_marks};
@@ -66,7 +67,7 @@ fn run_to_best(
     ensures first { IfOk result (λ end. StandsAtStays p.now end.path.corner) }
     ensures last { IfOk result (λ end. GivesAt p.now (last_marks end.path.corner end.path.swaps) end.values) }
     ensures few { IfOk result (λ end. length end.path.swaps ≤ budget) }
-    ensures stop { IfErr result (IsStopOf p.now budget) }
+    ensures stop { IfErr result (λ stop. (old : List layout.Row) → IsStopOf old p.now budget stop) }
 {
     p.show_whole();
     t.show_table();
@@ -97,7 +98,7 @@ fn no_values(alloc: Global) -> Result<Values, OutOfMemory>
 
 /// The value under the attribute.
 fn find(values: &[(u32, Frac)], attr: u32) -> Option<Frac>
-    ensures some { IfSome result (λ f. value_of values.now attr ≡ f) }
+    ensures some { IfSome result (λ f. Any (λ v. (v.0 ≡ attr) × (v.1 ≡ f)) values.now) }
     ensures none { IfNone result (All (λ v. v.0 ≢ attr) values.now) }
 {
     for pair in values {
@@ -136,7 +137,7 @@ impl Engine {
         ensures first { IfOk result (λ path. StandsAtStays (with_added self.old attrs.now rows.now) path.corner) }
         ensures last { IfOk result (λ path. GivesAt (with_added self.old attrs.now rows.now) (last_marks path.corner path.swaps) self.new.values) }
         ensures few { IfOk result (λ path. length path.swaps ≤ budget) }
-        ensures stop { IfErr result (IsStopOf (with_added self.old attrs.now rows.now) budget) }
+        ensures stop { IfErr result (IsStopOf self.old.problem.rows (with_added self.old attrs.now rows.now) budget) }
         ensures same { OnErr result (self.new ≡ self.old) }
     {
         let alloc = self.alloc;
@@ -169,7 +170,7 @@ impl Engine {
         ensures first { IfOk result (λ path. StandsAtStays (with_rows self.old rows.now) path.corner) }
         ensures last { IfOk result (λ path. GivesAt (with_rows self.old rows.now) (last_marks path.corner path.swaps) self.new.values) }
         ensures few { IfOk result (λ path. length path.swaps ≤ budget) }
-        ensures stop { IfErr result (IsStopOf (with_rows self.old rows.now) budget) }
+        ensures stop { IfErr result (IsStopOf [] (with_rows self.old rows.now) budget) }
         ensures same { OnErr result (self.new ≡ self.old) }
     {
         let alloc = self.alloc;
@@ -209,8 +210,8 @@ impl Engine {
 
     /// The attribute's value.
     pub fn value(&self, attr: u32) -> Option<Frac>
-        ensures some { IfSome result (λ f. value_of self.now.values attr ≡ f) }
-        ensures none { IfNone result (All (λ v. v.0 ≢ attr) self.now.values) }
+        ensures some { IfSome result (λ f. Any (λ v. (v.0 ≡ attr) × (v.1 ≡ f)) self.now.values) }
+        ensures none { IfNone result (HasStay self.now.problem.stays attr → ⊥) }
     {
         find(self.values.pairs(), attr)
     }

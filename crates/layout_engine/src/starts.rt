@@ -1,5 +1,5 @@
 // The corner from which a run starts.
-ghost use Rattle.std.specs.Prelude.{◌≡◌, ℕ, List, ◌++◌, ◌∷◌, [], IfOk, IfErr};
+ghost use Rattle.std.specs.Prelude.{◌≡◌, ◌≤◌, ℕ, nat_eq, List, ◌++◌, ◌∷◌, [], filter, length, IfOk, IfErr};
 ghost use Rattle.problem_core.specs.declared.parts.Mark as mark;
 ghost use Rattle.problem_core.specs.declared.stops.Quantity as quantity;
 ghost use Rattle.problem_core.specs.declared.stops.TableStop.TheVariants.{UnfitAt, OutOfMemory as NoMemory};
@@ -9,8 +9,8 @@ ghost use Rattle.corner_costs.specs.Corners.{AreCostsAt, NoNegativeValue};
 ghost use Rattle.layout_engine.specs.Layouts.{HasNoRow, stays_at, zeros};
 ghost use Rattle.add_phase.specs.InsideMarks.{IsCornerWith};
 ghost use Rattle.layout_engine.specs.Starts.{AreStays, CanJoin, IsExtended, IsStanding, with_more};
-ghost use Rattle.layout_engine.specs.StartStops.{IsStartStop, StopsAt};
-ghost use Rattle.layout_engine.specs.Stops.{IsStopOf, IsUnfitStart};
+ghost use Rattle.layout_engine.specs.StartStops.{HasJoined, IsCutFrom, IsNewSumOf, IsStartCut, IsStartStop, IsStopBefore, IsStopFrom, StopsAt};
+ghost use Rattle.layout_engine.specs.Stops.{IsStopOf};
 
 use add_phase::corner_with;
 use cert_core::{Path, RunStop, UnfitPath};
@@ -38,7 +38,7 @@ pub(crate) enum StartStop {
 
 /// The stop of the run, whose path makes no exchange.
 pub(crate) fn run_stop(alloc: Global, stop: StartStop) -> RunStop
-    ensures { (p : layout.Problem) (budget : ℕ) → IsStartStop p stop → IsStopOf p budget result }
+    ensures { (old : List layout.Row) (p : layout.Problem) (budget : ℕ) → IsStartStop old p stop → IsStopOf old p budget result }
 {
     let UnfitStart { corner, quantity } = match stop {
         StartStop::Unfit(start) => start,
@@ -142,12 +142,11 @@ fn add_stays(t: &mut Tableau, l: &mut Levels, stays: &[Stay]) -> Result<(), OutO
 
 /// The stop where a quantity does not fit at the corner at which the rows `new` are over, which have yet to join.
 fn unfit(alloc: Global, t: &Tableau, p: &Problem, new: &[Row], quantity: Quantity) -> StartStop
-    requires problem { p.now ≡ with_more t.now.problem new.now }
-    requires unfit { (corner : List mark.Mark) → IsCornerWith t.now new.now corner → IsUnfitStart p.now corner quantity }
-    ensures { IsStartStop p.now result }
+    requires { p.now ≡ with_more t.now.problem new.now }
+    ensures { (old : List layout.Row)
+        → ((corner : List mark.Mark) → IsCornerWith t.now new.now corner → IsStartCut old p.now corner quantity)
+        → IsStartStop old p.now result }
 {
-    p.show_whole();
-    t.show_table();
     match corner_with(alloc, t, p, new) {
         Ok(corner) => StartStop::Unfit(UnfitStart { corner, quantity }),
         Err(_) => StartStop::OutOfMemory,
@@ -157,8 +156,9 @@ fn unfit(alloc: Global, t: &Tableau, p: &Problem, new: &[Row], quantity: Quantit
 /// The stop of a row that has yet to join, the first of the rows `new`, where the tableau names what does not fit.
 fn terms_stop(alloc: Global, t: &Tableau, p: &Problem, new: &[Row], stop: TableStop) -> StartStop
     requires problem { p.now ≡ with_more t.now.problem new.now }
-    requires unfit { (q : quantity.Quantity) → stop ≡ UnfitAt q → (corner : List mark.Mark) → IsCornerWith t.now new.now corner → IsUnfitStart p.now corner q }
-    ensures { IsStartStop p.now result }
+    requires unfit { (q : quantity.Quantity) → stop ≡ UnfitAt q → (corner : List mark.Mark)
+        → IsCornerWith t.now new.now corner → IsCutFrom t.now p.now corner q }
+    ensures { IsStopFrom t.now p.now result }
 {
     match stop {
         TableStop::UnfitAt(named) => unfit(alloc, t, p, new, named),
@@ -177,8 +177,12 @@ fn join_table(
 ) -> Result<(), StartStop>
     requires new { new.now ≡ row.now ∷ rest.now }
     requires problem { p.now ≡ with_more t.old.problem (row.now ∷ rest.now) }
+    requires values { NoNegativeValue t.old }
+    requires standing { IsStanding t.old }
     ensures problem { IfOk result (λ _. t.new.problem ≡ with_more t.old.problem (row.now ∷ [])) }
-    ensures stop { IfErr result (IsStartStop p.now) }
+    ensures values { IfOk result (λ _. NoNegativeValue t.new) }
+    ensures standing { IfOk result (λ _. IsStanding t.new) }
+    ensures stop { IfErr result (IsStopFrom t.old p.now) }
 {
     p.show_whole();
     t.show_table();
@@ -188,24 +192,47 @@ fn join_table(
     }
 }
 
-/// The stop where a level's sum does not fit: the rows after it join the tableau, with their marks that are not negative.
-fn unfit_sum(
-    alloc: Global,
-    t: &mut Tableau,
-    p: &Problem,
-    rest: &[Row],
-    level: Level,
-    first: u32,
-) -> StartStop
-    requires { p.now ≡ with_more t.old.problem rest.now }
-    ensures { IsStartStop p.now result }
+/// How many of the rows have this rank.
+fn rows_at(rows: &[Row], rank: u16) -> u32
+    requires { length rows.now ≤ 4096 }
+    ensures { result ≡ length (filter (λ r. nat_eq r.rank rank) rows.now) }
+{
+    let mut count = 0;
+    for row in rows {
+        if row.rank() == rank {
+            count += 1;
+        }
+    }
+    count
+}
+
+/// The sum of the rows of a level up to this row, after which these come.
+fn sum_to(p: &Problem, row: &Row, rest: &[Row]) -> Quantity
+    requires { (before : List layout.Row) × (p.now.rows ≡ before ++ row.now ∷ rest.now) }
+    ensures { (old more : List layout.Row) → p.now.rows ≡ old ++ (more ++ row.now ∷ rest.now) → IsNewSumOf old p.now result }
+{
+    p.show_whole();
+    let held = p.rows().len() - rest.len();
+    Quantity::Rows {
+        level: Level::Priority(row.rank()),
+        first: rows_at(&p.rows()[..held], row.rank()),
+    }
+}
+
+/// The stop where the sum of the row's level does not fit: the rows after it join the tableau, with their marks that are
+/// not negative.
+fn unfit_sum(alloc: Global, t: &mut Tableau, p: &Problem, row: &Row, rest: &[Row]) -> StartStop
+    requires { HasJoined t.old row.now rest.now p.now }
+    ensures { IsStopBefore (row.now ∷ rest.now) p.now result }
 {
     for i in 0..rest.len() {
         if let Err(stop) = join_table(alloc, t, p, &rest[i], &rest[i..], &rest[i + 1..]) {
             return stop;
         }
     }
-    unfit(alloc, t, p, &[], Quantity::Rows { level, first })
+    p.show_whole();
+    t.show_table();
+    unfit(alloc, t, p, &[], sum_to(p, row, rest))
 }
 
 /// The stop where the first of the rows `new`, or the sum of its level with it, does not fit.
@@ -213,15 +240,17 @@ fn named_stop(
     alloc: Global,
     t: &mut Tableau,
     p: &Problem,
+    row: &Row,
     new: &[Row],
     rest: &[Row],
     named: Quantity,
 ) -> StartStop
-    requires { StopsAt t.old new.now rest.now p.now named }
-    ensures { IsStartStop p.now result }
+    requires new { new.now ≡ row.now ∷ rest.now }
+    requires stops { StopsAt t.old row.now rest.now p.now named }
+    ensures { IsStopBefore (row.now ∷ rest.now) p.now result }
 {
     match named {
-        Quantity::Rows { level, first } => unfit_sum(alloc, t, p, rest, level, first),
+        Quantity::Rows { .. } => unfit_sum(alloc, t, p, row, rest),
         Quantity::Terms { mark, first } => {
             unfit(alloc, t, p, new, Quantity::Terms { mark, first })
         }
@@ -237,15 +266,17 @@ fn joining_stop(
     alloc: Global,
     t: &mut Tableau,
     p: &Problem,
+    row: &Row,
     new: &[Row],
     rest: &[Row],
     stop: TableStop,
 ) -> StartStop
-    requires { (q : quantity.Quantity) → stop ≡ UnfitAt q → StopsAt t.old new.now rest.now p.now q }
-    ensures { IsStartStop p.now result }
+    requires new { new.now ≡ row.now ∷ rest.now }
+    requires stops { (q : quantity.Quantity) → stop ≡ UnfitAt q → StopsAt t.old row.now rest.now p.now q }
+    ensures { IsStopBefore (row.now ∷ rest.now) p.now result }
 {
     match stop {
-        TableStop::UnfitAt(named) => named_stop(alloc, t, p, new, rest, named),
+        TableStop::UnfitAt(named) => named_stop(alloc, t, p, row, new, rest, named),
         TableStop::OutOfMemory => StartStop::OutOfMemory,
     }
 }
@@ -269,13 +300,13 @@ fn join(
     ensures values { IfOk result (λ _. NoNegativeValue t.new) }
     ensures standing { IfOk result (λ _. IsStanding t.new) }
     ensures problem { IfOk result (λ _. t.new.problem ≡ with_more t.old.problem (row.now ∷ [])) }
-    ensures stop { IfErr result (IsStartStop p.now) }
+    ensures stop { IfErr result (IsStopFrom t.old p.now) }
 {
     p.show_whole();
     t.show_table();
     match add_row(t, l, row) {
         Ok(()) => Ok(()),
-        Err(stop) => Err(joining_stop(alloc, t, p, new, rest, stop)),
+        Err(stop) => Err(joining_stop(alloc, t, p, row, new, rest, stop)),
     }
 }
 
@@ -295,7 +326,7 @@ fn add_rows(
     ensures values { IfOk result (λ _. NoNegativeValue t.new) }
     ensures standing { IfOk result (λ _. IsStanding t.new) }
     ensures problem { IfOk result (λ _. t.new.problem ≡ p.now) }
-    ensures stop { IfErr result (IsStartStop p.now) }
+    ensures stop { IfErr result (IsStopFrom t.old p.now) }
 {
     for i in 0..rows.len() {
         if let Err(stop) = join(alloc, t, l, p, &rows[i], &rows[i..], &rows[i + 1..]) {
@@ -321,7 +352,7 @@ pub(crate) fn extend(
     ensures values { IfOk result (λ _. NoNegativeValue t.new) }
     ensures standing { IfOk result (λ _. IsStanding t.new) }
     ensures problem { IfOk result (λ _. t.new.problem ≡ p.now) }
-    ensures stop { IfErr result (IsStartStop p.now) }
+    ensures stop { IfErr result (IsStartStop t.old.problem.rows p.now) }
 {
     p.show_whole();
     t.show_table();
@@ -349,7 +380,7 @@ pub(crate) fn begin(
     ensures values { IfOk result (λ _. NoNegativeValue t.new) }
     ensures standing { IfOk result (λ _. IsStanding t.new) }
     ensures problem { IfOk result (λ _. t.new.problem ≡ p.now) }
-    ensures stop { IfErr result (IsStartStop p.now) }
+    ensures stop { IfErr result (IsStartStop [] p.now) }
 {
     p.show_whole();
     if let Err(_) = add_stays(t, l, p.stays()) {

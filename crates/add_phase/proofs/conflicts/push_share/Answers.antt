@@ -19,7 +19,8 @@ returns-in_ok-push c = λ rows below are.
     let small : SFits w64 c.share-times.result = search rules in
     let same = simp to_z-of_z at c.share-times.ensures.value in
     let items = simp to_z-of_z at c.in_ok-push.ensures.items in
-    shares_push (required_times c.args.l.now) c.args.factor rows c.args.out.now.items c.push.new.self.items c.args.row.now c.share-times.result below (same ∙ c.multiplier.ensures.value) c.share-times.ensures.fits
+    let some = simp to_z-of_z at c.is_zero.ensures.no in
+    shares_push (required_times c.args.l.now) c.args.factor rows c.args.out.now.items c.push.new.self.items c.args.row.now c.share-times.result below (sym c.rank.ensures ∙ c.if-rank-eq1000.true) (some c.if-not-is_zero.true) (same ∙ c.multiplier.ensures.value) c.share-times.ensures.fits
     (items ∙ ap (λ (k : ℕ). c.args.out.now.items ++ record { row = Held k; times = c.share-times.result } ∷ []) c.id.ensures) are
 
 pub returns-else-not-is_zero : goal.returns-else-not-is_zero

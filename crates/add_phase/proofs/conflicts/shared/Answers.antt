@@ -1,4 +1,4 @@
-use Rattle.std.proofs.Common.{◌≡◌, ◌<◌, ◌≤◌, ℕ, subst, arith}
+use Rattle.std.proofs.Common.{◌≡◌, ◌<◌, ◌≤◌, ℕ, sym, subst, arith}
 use Rattle.std.specs.Int.{◌∣◌}
 use Rattle.std.specs.Int.RustNames.{unsigned_abs}
 use Rattle.std.proofs.lemmas.Int.{to_z-of_z}
@@ -18,3 +18,11 @@ pub returns-else-is_zero-clause-times : goal.returns-else-is_zero-clause-times
 returns-else-is_zero-clause-times c =
     let same : c.size_of.result ≡ unsigned_abs c.args.times = simp (to_z-of_z, c.ranges.times) at c.size_of.ensures in
     subst (λ (n : ℕ). ◌∣◌ c.gcd.result n) same c.gcd.ensures.1
+
+pub returns-then-is_zero-clause-greatest : goal.returns-then-is_zero-clause-greatest
+returns-then-is_zero-clause-greatest c = λ k first second. first
+
+pub returns-else-is_zero-clause-greatest : goal.returns-else-is_zero-clause-greatest
+returns-else-is_zero-clause-greatest c = λ k first second.
+    let same : c.size_of.result ≡ unsigned_abs c.args.times = simp (to_z-of_z, c.ranges.times) at c.size_of.ensures in
+    c.gcd.ensures.2 k first (subst (λ (n : ℕ). ◌∣◌ k n) (sym same) second)

@@ -1,4 +1,4 @@
-use Rattle.std.proofs.Common.{rules, SFits, ℤ, subst}
+use Rattle.std.proofs.Common.{rules, SFits, ◌∙◌, ℤ, sym, subst}
 use Rattle.std.specs.Int.{w64, ◌∣◌}
 use Rattle.std.specs.Int.RustNames.{unsigned_abs}
 use Rattle.std.proofs.lemmas.Int.{to_z-of_z}
@@ -9,3 +9,12 @@ returns-then-rank-eq1000-clause-times c = λ _.
     let fits : SFits w64 c.multiplier.result = search rules in
     let divides = simp to_z-of_z at c.shared.ensures.times in
     subst (λ (z : ℤ). ◌∣◌ c.shared.result (unsigned_abs z)) c.multiplier.ensures.value divides
+
+pub returns-then-rank-eq1000-clause-greatest : goal.returns-then-rank-eq1000-clause-greatest
+returns-then-rank-eq1000-clause-greatest c = λ k first own.
+    let fits : SFits w64 c.multiplier.result = search rules in
+    let greatest = simp to_z-of_z at c.shared.ensures.greatest in
+    greatest k first (subst (λ (z : ℤ). ◌∣◌ k (unsigned_abs z)) (sym c.multiplier.ensures.value) (own (sym c.rank.ensures ∙ c.if-rank-eq1000.true)))
+
+pub returns-else-rank-eq1000-clause-greatest : goal.returns-else-rank-eq1000-clause-greatest
+returns-else-rank-eq1000-clause-greatest c = λ k first own. first

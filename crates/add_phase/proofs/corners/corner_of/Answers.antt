@@ -7,8 +7,16 @@ use Rattle.add_phase.specs.Steps.{AreInside}
 use Rattle.add_phase.proofs.PathInside.{corner_marks}
 use Rattle.add_phase.proofs.corners.corner_of.Goals as goal
 
-pub returns : goal.returns
-returns c =
+pub returns-clause-ordered : goal.returns-clause-ordered
+returns-clause-ordered c =
+    let rows : c.push_rows.new.out.items ≡ row_marks (inside_of c.args.t.now) c.args.p.now.rows =
+    c.in_ok-push_rows.ensures ∙ ap₂ (λ (ms : List Mark) (rs : List Row). ms ++ row_marks (inside_of c.args.t.now) rs) c.new-corner.ensures.items c.rows.ensures in
+    c.in_ok-push_stays.ensures
+    ∙ ap (λ (ms : List Mark). ms ++ stay_marks (inside_of c.args.t.now) c.args.p.now.stays) rows
+    ∙ ap (λ (p : Problem). row_marks (inside_of c.args.t.now) p.rows ++ stay_marks (inside_of c.args.t.now) p.stays) c.requires
+
+pub returns-clause-inside : goal.returns-clause-inside
+returns-clause-inside c =
     let rows : c.push_rows.new.out.items ≡ row_marks (inside_of c.args.t.now) c.args.p.now.rows =
     c.in_ok-push_rows.ensures ∙ ap₂ (λ (ms : List Mark) (rs : List Row). ms ++ row_marks (inside_of c.args.t.now) rs) c.new-corner.ensures.items c.rows.ensures in
     subst (AreInside c.args.t.now)

@@ -1,4 +1,4 @@
-use Rattle.std.proofs.Common.{◌≡◌, drop}
+use Rattle.std.proofs.Common.{◌≡◌, ◌++◌, drop, take}
 use Rattle.corner_costs.specs.Corners.{AreCostsAt, NoNegativeValue}
 use Rattle.layout_engine.specs.Starts.{IsStanding, with_more}
 use Rattle.layout_engine.proofs.starts.add_rows.Given as goal
@@ -9,4 +9,5 @@ invariant-loop-i l = record {
   values : NoNegativeValue l.t;
   standing : IsStanding l.t;
   problem : l.p ≡ with_more l.t.problem (drop l.i l.rows);
+  grown : l.t.problem.rows ≡ l.fn.t.problem.rows ++ take l.i l.rows;
 }

@@ -6,7 +6,7 @@ use Rattle.add_phase.specs.Runs.{IsPathTo}
 use Rattle.add_phase.specs.Steps.{HasRun, last_marks}
 use Rattle.add_phase.proofs.PathMade.{step_made}
 use Rattle.add_phase.proofs.NextCorner.{IsExchangeAt}
-use Rattle.add_phase.proofs.PathTo.{run_exchange, run_here, run_more, run_unfit}
+use Rattle.add_phase.proofs.PathTo.{run_exchange, run_here, run_more, run_stop}
 use Rattle.add_phase.proofs.runs.Run.exchange.Goals as goal
 
 pub swap-requires-clause-enter : goal.swap-requires-clause-enter
@@ -38,7 +38,8 @@ returns-in-Err-clause-stop c =
     let known : IsExchangeAt c.args.t.now c.args.l.now (last_marks c.args.self.now.corner.items c.args.self.now.swaps.items) (record { enter = c.args.enter; leave = c.args.leave }) c.requires.least.leaving =
     run_exchange c.args.self.now.corner.items c.args.self.now.swaps.items c.args.t.now c.args.l.now (record { enter = c.args.enter; leave = c.args.leave }) c.requires.least.leaving c.requires.run
     (omega (arith, c.place-enters.ensures.value, c.place-enters.ensures.small)) (omega (arith, c.place-leaves.ensures.value, c.place-leaves.ensures.small)) c.requires.negative c.requires.least.leaves c.requires.least.falls in
-    c.stop.ensures.stop c.args.t.now.problem
+    λ budget less.
+    c.stop.ensures.stop c.args.t.now.problem budget
     (λ q e.
-    subst (λ (xs : List Swap). IsPathTo c.args.t.now.problem (record { dual = false; corner = c.args.self.now.corner.items; swaps = xs }) q) (sym pushed)
-    (run_unfit c.args.self.now.corner.items c.args.self.now.swaps.items c.args.t.now c.args.l.now (record { enter = c.args.enter; leave = c.args.leave }) c.requires.least.leaving c.in-Err.stop c.requires.run known c.requires.negative c.requires.required c.requires.least.least c.in-Err.ensures.stop q e))
+    subst (λ (xs : List Swap). IsPathTo c.args.t.now.problem budget (record { dual = false; corner = c.args.self.now.corner.items; swaps = xs }) q) (sym pushed)
+    (run_stop c.args.self.now.corner.items c.args.self.now.swaps.items c.args.t.now c.args.l.now (record { enter = c.args.enter; leave = c.args.leave }) c.requires.least.leaving c.in-Err.stop budget c.requires.run known c.requires.negative c.requires.required c.requires.least.least c.in-Err.ensures.stop less q e))

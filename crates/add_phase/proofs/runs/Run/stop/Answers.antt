@@ -5,6 +5,6 @@ use Rattle.add_phase.specs.Runs.{IsPathTo}
 use Rattle.add_phase.proofs.runs.Run.stop.Goals as goal
 
 pub returns-in-Ok-clause-stop : goal.returns-in-Ok-clause-stop
-returns-in-Ok-clause-stop c p path budget =
+returns-in-Ok-clause-stop c p budget path =
     let named : c.args.stop ≡ UnfitAt c.in-UnfitAt.quantity = search rules in
-    subst (λ (q : Path). IsPathTo p q c.in-UnfitAt.quantity) (sym c.in-Ok.ensures) (path c.in-UnfitAt.quantity named)
+    subst (λ (q : Path). IsPathTo p budget q c.in-UnfitAt.quantity) (sym c.in-Ok.ensures) (path c.in-UnfitAt.quantity named)
