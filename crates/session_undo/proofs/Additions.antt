@@ -15,9 +15,10 @@ use Rattle.view_tree.specs.Views.{LiveView, ViewTree, IsTree}
 use Rattle.constraint_compile.specs.Meaning.{MetricList}
 use Rattle.constraint_compile.specs.Compiled.{CompiledLine, AreRowsNow}
 use Rattle.layout_engine.specs.Layouts.{Layout, AreBest, stays_at, zeros, with_added, with_rows}
-use Rattle.session_undo.specs.declared.window.WindowSize.{WindowSize}
-use Rattle.session_undo.specs.Scene.{Scene, view_rows, size_rows}
+use Rattle.session_undo.specs.Items.{view_rows, size_rows}
+use Rattle.session_undo.specs.Scene.{State}
 use Rattle.session_undo.specs.Machine.{IsCrowded}
+use Rattle.session_undo.specs.Kept.{AreWithin}
 use Rattle.session_undo.specs.Attributes.{view_attributes, attributes_of, HasOnly, IsNextLine, IsGrown, IsCounted}
 use Rattle.session_undo.proofs.Lists.{pairs-nil, pairs-cons, four-rising, all-unmapped}
 use Rattle.session_undo.proofs.Attributes.{attributes-below, attribute-count, view-new, none-new, contains-left, contains-top, contains-width, contains-height, window-among}
@@ -49,8 +50,8 @@ view-may views next id more is each =
     (one-only (attributes_of views ++ view_attributes id) (once (4 * id + 3)) (Contains-append_right (attributes_of views) (view_attributes id) (4 * id + 3) (contains-width id)))
     (one-only (attributes_of views ++ view_attributes id) (once (4 * id + 4)) (Contains-append_right (attributes_of views) (view_attributes id) (4 * id + 4) (contains-height id))))
 
-size-may : (t : ViewTree) (next : ℕ) (size : Option WindowSize) (more : List Row) → IsTree t → more ≡ size_rows next size → All IsRow more → MayBeAdded (attributes_of t.views) next more
-size-may t next size more tree is each =
+size-may : (t : ViewTree) (next : ℕ) (w h : Fraction) (more : List Row) → IsTree t → more ≡ size_rows next w h → All IsRow more → MayBeAdded (attributes_of t.views) next more
+size-may t next w h more tree is each =
     subst (MayBeAdded (attributes_of t.views) next) (sym is)
     (two-may (attributes_of t.views) next _ _ (subst (All IsRow) is each) refl refl
     (one-only (attributes_of t.views) (once 3) (window-among t.views 3 tree.root (contains-width 0)))
@@ -75,11 +76,11 @@ pub line-whole : (views : List LiveView) (next : ℕ) (l : Layout) (line : Compi
     → length l.problem.rows + length more ≤ 2000 → IsWhole (with_added l [] more)
 line-whole views next l line ms more is counted fits are each room = rows-whole views next l more is counted (line-may views next line ms more fits are each) room
 
-pub size-whole : (t : ViewTree) (next : ℕ) (l : Layout) (size : Option WindowSize) (more : List Row) → IsTree t → IsSettled l.problem l.values → IsCounted t.views next l.problem → more ≡ size_rows next size → All IsRow more
+pub size-whole : (t : ViewTree) (next : ℕ) (l : Layout) (w h : Fraction) (more : List Row) → IsTree t → IsSettled l.problem l.values → IsCounted t.views next l.problem → more ≡ size_rows next w h → All IsRow more
     → length l.problem.rows + 2 ≤ 2000 → IsWhole (with_added l [] more)
-size-whole t next l size more tree is counted are each room =
+size-whole t next l w h more tree is counted are each room =
     let two : length more ≡ 2 = ap length are in
-    rows-whole t.views next l more is counted (size-may t next size more tree are each) (omega (arith, room, two))
+    rows-whole t.views next l more is counted (size-may t next w h more tree are each) (omega (arith, room, two))
 
 -- the same rows
 pub same-whole : (l : Layout) → IsWhole (with_rows l l.problem.rows) → IsWhole (with_added l [] [])
@@ -139,12 +140,12 @@ counted-view views new_views next id l more p same counted grown are room is =
     counted-added views new_views next (next + 2) l (view_attributes id) more p same counted grown.attributes
     (subst (All (λ (r : Row). r.id < next + 2)) (sym are) (All-from_recursion (λ (r : Row). r.id < next + 2) (view_rows next id) (omega arith, (omega arith, tt)))) (omega arith) (omega (arith, room, two)) is
 
-pub counted-size : (views : List LiveView) (next : ℕ) (l : Layout) (size : Option WindowSize) (more : List Row) (p : Problem) → map (λ v. v.0) l.values ≡ map (λ s. s.attr) l.problem.stays → IsCounted views next l.problem
-    → more ≡ size_rows next size → length l.problem.rows + 2 ≤ 2000 → p ≡ with_added l [] more → IsCounted views (next + 2) p
-counted-size views next l size more p same counted are room is =
+pub counted-size : (views : List LiveView) (next : ℕ) (l : Layout) (w h : Fraction) (more : List Row) (p : Problem) → map (λ v. v.0) l.values ≡ map (λ s. s.attr) l.problem.stays → IsCounted views next l.problem
+    → more ≡ size_rows next w h → length l.problem.rows + 2 ≤ 2000 → p ≡ with_added l [] more → IsCounted views (next + 2) p
+counted-size views next l w h more p same counted are room is =
     let two : length more ≡ 2 = ap length are in
     counted-added views views next (next + 2) l [] more p same counted (sym (append-nil (attributes_of views)))
-    (subst (All (λ (r : Row). r.id < next + 2)) (sym are) (All-from_recursion (λ (r : Row). r.id < next + 2) (size_rows next size) (omega arith, (omega arith, tt)))) (omega arith) (omega (arith, room, two)) is
+    (subst (All (λ (r : Row). r.id < next + 2)) (sym are) (All-from_recursion (λ (r : Row). r.id < next + 2) (size_rows next w h) (omega arith, (omega arith, tt)))) (omega arith) (omega (arith, room, two)) is
 
 pub counted-line : (views : List LiveView) (next : ℕ) (l : Layout) (line : CompiledLine) (ms : MetricList) (more : List Row) (p : Problem) → map (λ v. v.0) l.values ≡ map (λ s. s.attr) l.problem.stays → IsCounted views next l.problem
     → IsNextLine views next line → AreRowsNow ms line.rows more → length l.problem.rows + length more ≤ 2000 → p ≡ with_added l [] more → IsCounted views (next + length more) p
@@ -165,9 +166,16 @@ counted-renewed views next l rows p same counted shapes is =
 
 -- ---- room
 
-pub room-fits : (scene : Scene) (n : ℕ) → (IsCrowded scene n → ⊥) → length scene.rows + n ≤ 2000
-room-fits scene n room = elim (cases_lt 2000 (length scene.rows + n)) [
+pub room-fits : (s : State) (n : ℕ) → AreWithin s.limits → (IsCrowded s n → ⊥) → length s.scene.rows + n ≤ 2000
+room-fits s n within room = elim (cases_lt s.limits.rows (length s.scene.rows + n)) [
   | inl more ↦ absurd (room (inl more))
+  | inr few ↦ omega (arith, few, within.rows)
+]
+
+-- where so many rows have room their numbers are small
+pub room-numbers : (s : State) (n : ℕ) → (IsCrowded s n → ⊥) → s.scene.next_row + n ≤ 2 ^ 31
+room-numbers s n room = elim (cases_lt (2 ^ 31) (s.scene.next_row + n)) [
+  | inl more ↦ absurd (room (inr more))
   | inr few ↦ few
 ]
 

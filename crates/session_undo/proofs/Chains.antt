@@ -1,6 +1,7 @@
 -- The steps of commands, whose earlier causes don't hold.
-use Rattle.std.proofs.Common.{◌≡◌, ℕ, ◌<◌, ◌≤◌, Bool, true, false, cond, nat_eq, is_some, List, [], ◌∷◌, length, Some, None, IsSome, refl, sym, ap, ◌∙◌, subst, arith, inl, inr, true≢false, eq-eqb}
-use Rattle.std.specs.Prelude.{IfOk, IfErr}
+use Rattle.std.proofs.Common.{◌≡◌, ℕ, ◌<◌, ◌≤◌, Bool, true, false, cond, nat_eq, ◌⊎◌, ◌^◌, is_some, List, [], ◌∷◌, length, Some, None, IsSome, refl, sym, ap, ◌∙◌, subst, arith, inl, inr, true≢false, eq-eqb}
+use Rattle.std.specs.Prelude.{IfOk, IfErr, nat_le, ◌||◌}
+use Rattle.std.proofs.lemmas.Grind.{common_steps}
 use Rattle.std.specs.declared.option.Option.{Option}
 use Rattle.std.specs.declared.result.Result.{Result}
 use Rattle.std.specs.declared.result.Result.TheVariants.{Ok, Err}
@@ -14,16 +15,17 @@ use Rattle.name_tables.specs.declared.stops.LimitWord.{LimitWord}
 use Rattle.name_tables.specs.declared.stops.LimitWord.TheVariants as word
 use Rattle.view_tree.specs.Views.{LiveView, ViewTree, view_of, view_named, IsOnLevel}
 use Rattle.view_tree.specs.Views as tree
-use Rattle.view_tree.specs.Stops.{IsNewView, is_full}
+use Rattle.view_tree.specs.Stops.{IsNewView, PassesLimit, is_full}
 use Rattle.view_tree.proofs.ViewLemmas.{IsOnLevel-unique}
 use Rattle.constraint_compile.specs.Meaning.{MetricList}
 use Rattle.constraint_compile.specs.declared.stops.CompileStop.TheVariants as stop
 use Rattle.session_undo.specs.declared.reply.Refusal.{Refusal}
-use Rattle.session_undo.specs.Replies.{Reply, Limit, MayRefuse}
-use Rattle.session_undo.specs.Scene.{Scene, State, AreDraftRows, with_window, metrics_with}
-use Rattle.session_undo.specs.Machine.{Unless, Solves, IsTaken, IsDeep, IsCrowded, AreNear, AreTooMany, SolvesFree, AddsView, ViewStep, MetricStep, WindowStep, UnlessFar}
-use Rattle.session_undo.specs.Adding.{view_draft, metrics_draft}
-use Rattle.session_undo.specs.Kept.{MayLackRows}
+use Rattle.session_undo.specs.Replies.{Reply, Unknown, Taken, Limit, MayRefuse}
+use Rattle.session_undo.specs.Scene.{Scene, State, AreDraftRows, with_view, with_window, metrics_with}
+use Rattle.session_undo.specs.Machine.{Unless, IsTaken, IsDeep, IsCrowded, AreNear, AreTooMany, AddsView, TriedView, TriedMetric, TriedWindow, UnlessFar, HasAllViews}
+use Rattle.session_undo.specs.Items.{has_size}
+use Rattle.session_undo.specs.Adding.{NoEnd, IsFreeView, IsFreeMetric, view_draft, metrics_draft}
+use Rattle.session_undo.specs.Kept.{AreWithin, MayLackRows}
 use Rattle.session_undo.proofs.ItemRows.{rows-small}
 use Rattle.session_undo.proofs.Steps.{refuses}
 
@@ -91,97 +93,223 @@ unfound f g None None e h = refl
 unfound f g None (Some y) e h = absurd (none-some (g y) e)
 unfound f g (Some x) o e h = absurd (true≢false (sym h))
 
-abbrev pub AtRoom : State → List ℕ → List ℕ → Reply → State → Type 0
-AtRoom old name parent = Unless (IsCrowded old.scene 2) (Limit word.Rows) old (AddsView old name parent)
+-- ---- the causes against a view
 
--- what holds of a view that may be made, but for the limit of rows
-pub record MayBeView (old : State) (name parent : List ℕ) (t new : ViewTree) (above id : ℕ) : Type 0 where
-  pub same : t ≡ old.scene.tree
-  pub found : Some above ≡ option_map (λ v. v.id) (view_named old.scene.tree.views parent)
-  pub no_metric : is_some (value_of old.scene.metrics name) ≡ false
-  pub fresh : IsNewView t name above
-  pub new_is : new ≡ tree.with_view t name above
-  pub id_is : id ≡ t.next
+module _ (old : State) (name parent : List ℕ) (End : Scene → Reply → State → Type 0) where
+  pub view-unknown : view_named old.scene.tree.views parent ≡ None → TriedView old name parent End (Unknown parent) old
+  view-unknown none = inl (none, refl, refl)
 
-pub view-passed : (old : State) (name parent : List ℕ) (t new_tree : ViewTree) (above id : ℕ) → MayBeView old name parent t new_tree above id → (reply : Reply) (new : State) → AtRoom old name parent reply new → ViewStep old name parent reply new
-view-passed old name parent t new_tree above id may reply new h =
-    let tr = old.scene.tree in
-    let fresh : IsNewView tr name above = subst (λ (u : ViewTree). IsNewView u name above) may.same may.fresh in
-    let v = view_of_name (view_named tr.views parent) above may.found in
-    let on = subst (λ (n : ℕ). (level : ℕ) × IsOnLevel tr.views n level × (level < 32)) (sym v.2) fresh.high in
-    inr (
-      not-none (view_named tr.views parent) v.0 v.1,
+  -- there is such a view
+  abbrev pub IsFound : Type 0
+  IsFound = view_named old.scene.tree.views parent ≡ None → ⊥
+
+  pub view-taken : IsFound → IsTaken old.scene name → TriedView old name parent End (Taken name) old
+  view-taken found taken = inr (found, inl (taken, refl, refl))
+
+  pub view-long : IsFound → (IsTaken old.scene name → ⊥) → 64 < length name → TriedView old name parent End (Limit word.Name) old
+  view-long found free long = inr (found, inr (free, inl (long, refl, refl)))
+
+  pub view-many : IsFound → (IsTaken old.scene name → ⊥) → length name ≤ 64 → HasAllViews old → TriedView old name parent End (Limit word.Views) old
+  view-many found free short many = inr (found, inr (free, inr ((λ long. omega (arith, short, long)), inl (many, refl, refl))))
+
+  pub view-deep : IsFound → (IsTaken old.scene name → ⊥) → length name ≤ 64 → (HasAllViews old → ⊥) → IsDeep old.scene.tree parent → TriedView old name parent End (Limit word.Depth) old
+  view-deep found free short few deep = inr (found, inr (free, inr ((λ long. omega (arith, short, long)), inr (few, inl (deep, refl, refl)))))
+
+  pub view-crowded : IsFound → (IsTaken old.scene name → ⊥) → length name ≤ 64 → (HasAllViews old → ⊥) → (IsDeep old.scene.tree parent → ⊥) → IsCrowded old 2 → TriedView old name parent End (Limit word.Rows) old
+  view-crowded found free short few high crowded = inr (found, inr (free, inr ((λ long. omega (arith, short, long)), inr (few, inr (high, inl (crowded, refl, refl))))))
+
+  pub view-passed : (t : ViewTree) (id : ℕ) (reply : Reply) (new : State) → IsFreeView old name parent t id → End (view_draft old.scene t id) reply new → TriedView old name parent End reply new
+  view-passed t id reply new is end =
       inr (
-        not-taken old.scene name fresh.free (none-is (value_of old.scene.metrics name) may.no_metric),
-        inr ((λ long. omega (arith, fresh.short, long)), inr (not-both (is_full tr) fresh.room, inr (not-deep tr parent v.0 on.0 v.1 on.1 on.2, h))),
-      ),
-    )
+        not-none (view_named old.scene.tree.views parent) is.above is.found,
+        inr (
+          is.free,
+          inr (
+            (λ long. omega (arith, is.short, long)),
+            inr (
+              is.room,
+              inr (
+                is.high,
+                inr (
+                  is.rows,
+                  (
+                    is.above,
+                    is.found,
+                    subst (λ (u : ViewTree). End (view_draft old.scene u old.scene.tree.next) reply new) is.tree_is (subst (λ (n : ℕ). End (view_draft old.scene t n) reply new) is.id_is end),
+                  ),
+                ),
+              ),
+            ),
+          ),
+        ),
+      )
 
-pub view-crowded : (old : State) (name parent : List ℕ) → IsCrowded old.scene 2 → AtRoom old name parent (Limit word.Rows) old
-view-crowded old name parent crowded = inl (crowded, refl, refl)
+  -- a cause stays one for whatever end
+  pub view-causes : (reply : Reply) (new : State) → TriedView old name parent NoEnd reply new → TriedView old name parent End reply new
+  view-causes reply new (inl h) = inl h
+  view-causes reply new (inr (a, inl h)) = inr (a, inl h)
+  view-causes reply new (inr (a, inr (b, inl h))) = inr (a, inr (b, inl h))
+  view-causes reply new (inr (a, inr (b, inr (c, inl h)))) = inr (a, inr (b, inr (c, inl h)))
+  view-causes reply new (inr (a, inr (b, inr (c, inr (d, inl h))))) = inr (a, inr (b, inr (c, inr (d, inl h))))
+  view-causes reply new (inr (a, inr (b, inr (c, inr (d, inr (e, inl h)))))) = inr (a, inr (b, inr (c, inr (d, inr (e, inl h)))))
+  view-causes reply new (inr (a, inr (b, inr (c, inr (d, inr (e, inr (f, (above, named, never)))))))) = absurd never
 
-pub view-room : (old : State) (name parent : List ℕ) (t new_tree : ViewTree) (above id : ℕ) → MayBeView old name parent t new_tree above id → (IsCrowded old.scene 2 → ⊥) → (reply : Reply) (new : State)
-    → SolvesFree (view_draft old.scene new_tree id) old reply new → AtRoom old name parent reply new
-view-room old name parent t new_tree above id may room reply new solves =
-    let tr = old.scene.tree in
-    let v = view_of_name (view_named tr.views parent) above may.found in
-    let tree_is : new_tree ≡ tree.with_view tr name v.0.id = may.new_is ∙ ap (λ (u : ViewTree). tree.with_view u name above) may.same ∙ ap (λ (n : ℕ). tree.with_view tr name n) (sym v.2) in
-    let id_is : id ≡ tr.next = may.id_is ∙ ap (λ (u : ViewTree). u.next) may.same in
-    inr (
-      room,
-      (
-        v.0,
-        v.1,
-        subst (λ (u : ViewTree). SolvesFree (view_draft old.scene u tr.next) old reply new) tree_is (subst (λ (n : ℕ). SolvesFree (view_draft old.scene new_tree n) old reply new) id_is solves),
-      ),
-    )
+-- ---- what the tree says of a view that is to be made
+
+room : (t : ViewTree) → is_full t ≡ false → (length t.views < 200) × (t.next < 2 ^ 29)
+room t h = grind (arith, common_steps, h)
+
+or-cases : (a b : Bool) → (a || b) ≡ true → (a ≡ true) ⊎ (b ≡ true)
+or-cases true b h = inl refl
+or-cases false b h = inr h
+
+full : (t : ViewTree) → is_full t ≡ true → (200 ≤ length t.views) ⊎ (2 ^ 29 ≤ t.next)
+full t h = elim (or-cases (nat_le 200 (length t.views)) (nat_le (2 ^ 29) t.next) h) [
+  | inl many ↦ inl (grind (arith, common_steps, many))
+  | inr last ↦ inr (grind (arith, common_steps, last))
+]
+
+-- the tree has room for no fewer views than the session
+all-views : (s : State) → AreWithin s.limits → is_full s.scene.tree ≡ true → HasAllViews s
+all-views s within h = elim (full s.scene.tree h) [
+  | inl many ↦ inl (omega (arith, within.views, many))
+  | inr last ↦ inr last
+]
+
+few-views : (s : State) → length s.scene.tree.views < s.limits.views → is_full s.scene.tree ≡ false → HasAllViews s → ⊥
+few-views s less h (inl many) = omega (arith, less, many)
+few-views s less h (inr last) = omega (arith, (room s.scene.tree h).1, last)
+
+-- what is known of a view's name when the tree is asked
+pub record IsAsked (old : State) (name parent : List ℕ) (above : ℕ) : Type 0 where
+  pub found : Some above ≡ option_map (λ v. v.id) (view_named old.scene.tree.views parent)
+  pub free : IsTaken old.scene name → ⊥
+  pub short : length name ≤ 64
+  pub few : length old.scene.tree.views < old.limits.views
+  pub within : AreWithin old.limits
+
+asked-found : (old : State) (name parent : List ℕ) (above : ℕ) → IsAsked old name parent above → view_named old.scene.tree.views parent ≡ None → ⊥
+asked-found old name parent above asked =
+    let v = view_of_name (view_named old.scene.tree.views parent) above asked.found in
+    not-none (view_named old.scene.tree.views parent) v.0 v.1
+
+-- the tree's limit is the session's
+pub view-limited : (old : State) (name parent : List ℕ) (above : ℕ) (End : Scene → Reply → State → Type 0) (limit : LimitWord) → IsAsked old name parent above → PassesLimit old.scene.tree name above limit
+    → TriedView old name parent End (Limit limit) old
+view-limited old name parent above End word.Name asked h = absurd (omega (arith, asked.short, h))
+view-limited old name parent above End word.Views asked h =
+    view-many old name parent End (asked-found old name parent above asked) asked.free asked.short (all-views old asked.within h.1)
+view-limited old name parent above End word.Depth asked h =
+    let v = view_of_name (view_named old.scene.tree.views parent) above asked.found in
+    view-deep old name parent End (asked-found old name parent above asked) asked.free asked.short (few-views old asked.few h.1)
+    (v.0, h.2.0, v.1, subst (λ (n : ℕ). IsOnLevel old.scene.tree.views n h.2.0) (sym v.2) h.2.1, h.2.2)
+view-limited old name parent above End word.Line asked h = absurd h
+view-limited old name parent above End word.Metrics asked h = absurd h
+view-limited old name parent above End word.Lines asked h = absurd h
+view-limited old name parent above End word.Rows asked h = absurd h
+view-limited old name parent above End word.Terms asked h = absurd h
+view-limited old name parent above End word.Attributes asked h = absurd h
+view-limited old name parent above End word.Coefficient asked h = absurd h
+view-limited old name parent above End word.Constant asked h = absurd h
+view-limited old name parent above End word.Budget asked h = absurd h
+
+asked-high : (old : State) (name parent : List ℕ) (above : ℕ) → IsAsked old name parent above → IsNewView old.scene.tree name above → IsDeep old.scene.tree parent → ⊥
+asked-high old name parent above asked fresh =
+    let v = view_of_name (view_named old.scene.tree.views parent) above asked.found in
+    let on = subst (λ (n : ℕ). (level : ℕ) × IsOnLevel old.scene.tree.views n level × (level < 32)) (sym v.2) fresh.high in
+    not-deep old.scene.tree parent v.0 on.0 v.1 on.1 on.2
+
+pub view-full : (old : State) (name parent : List ℕ) (above : ℕ) (End : Scene → Reply → State → Type 0) → IsAsked old name parent above → IsNewView old.scene.tree name above → IsCrowded old 2
+    → TriedView old name parent End (Limit word.Rows) old
+view-full old name parent above End asked fresh crowded =
+    view-crowded old name parent End (asked-found old name parent above asked) asked.free asked.short (few-views old asked.few fresh.room) (asked-high old name parent above asked fresh) crowded
+
+pub view-free : (old : State) (name parent : List ℕ) (above id : ℕ) (new : ViewTree) → IsAsked old name parent above → IsNewView old.scene.tree name above → (IsCrowded old 2 → ⊥) → new ≡ tree.with_view old.scene.tree name above
+    → id ≡ old.scene.tree.next → IsFreeView old name parent new id
+view-free old name parent above id new asked fresh room new_is id_is =
+    let v = view_of_name (view_named old.scene.tree.views parent) above asked.found in
+    record {
+      above = v.0;
+      found = v.1;
+      free = asked.free;
+      short = asked.short;
+      room = few-views old asked.few fresh.room;
+      high = asked-high old name parent above asked fresh;
+      rows = room;
+      tree_is = new_is ∙ ap (λ (n : ℕ). tree.with_view old.scene.tree name n) (sym v.2);
+      id_is = id_is;
+    }
 
 -- ---- metrics
 
--- what holds of a metric that may be made or changed
-pub record MayBeMetric (old : State) (name : List ℕ) (value : Fraction) (new : MetricList) : Type 0 where
-  pub no_view : view_named old.scene.tree.views name ≡ None
+module _ (old : State) (name : List ℕ) (value : Fraction) (End : Scene → Reply → State → Type 0) where
+  pub metric-passed : (ms : MetricList) (rows : List Row) (reply : Reply) (new : State) → IsFreeMetric old name value ms rows → End (metrics_draft old.scene ms) reply new → TriedMetric old name value End reply new
+  metric-passed ms rows reply new is end =
+      inr (
+        is.free,
+        inr (
+          (λ long. omega (arith, is.short, long)),
+          inr (
+            is.room,
+            subst (λ (m : MetricList). UnlessFar old (metrics_draft old.scene m) (End (metrics_draft old.scene m)) reply new) is.new_is
+                (inr ((λ no. no (rows-small ms old.scene.held rows is.are_rows)), (rows, is.are_rows, inr ((λ far. far is.near), end)))),
+          ),
+        ),
+      )
+
+  pub metric-causes : (reply : Reply) (new : State) → TriedMetric old name value NoEnd reply new → TriedMetric old name value End reply new
+  metric-causes reply new (inl h) = inl h
+  metric-causes reply new (inr (a, inl h)) = inr (a, inl h)
+  metric-causes reply new (inr (a, inr (b, inl h))) = inr (a, inr (b, inl h))
+  metric-causes reply new (inr (a, inr (b, inr (c, inl h)))) = inr (a, inr (b, inr (c, inl h)))
+  metric-causes reply new (inr (a, inr (b, inr (c, inr (d, (rows, are, inl h)))))) = inr (a, inr (b, inr (c, inr (d, (rows, are, inl h)))))
+  metric-causes reply new (inr (a, inr (b, inr (c, inr (d, (rows, are, inr (e, never))))))) = absurd never
+
+-- what is known of a metric when its rows are made
+pub record IsNamed (old : State) (name : List ℕ) (value : Fraction) (ms : MetricList) : Type 0 where
+  pub free : view_named old.scene.tree.views name ≡ None
   pub short : length name ≤ 64
   pub room : AreTooMany old.scene.metrics name → ⊥
-  pub new_is : new ≡ metrics_with old.scene.metrics name value
+  pub new_is : ms ≡ metrics_with old.scene.metrics name value
 
-metric-passed : (old : State) (name : List ℕ) (value : Fraction) (ms : MetricList) → MayBeMetric old name value ms → (reply : Reply) (new : State)
-    → UnlessFar old (metrics_draft old.scene ms) (Solves (metrics_draft old.scene ms) old) reply new → MetricStep old name value reply new
-metric-passed old name value ms may reply new h =
+named-far : (old : State) (name : List ℕ) (value : Fraction) (ms : MetricList) (End : Scene → Reply → State → Type 0) → IsNamed old name value ms
+    → UnlessFar old (metrics_draft old.scene ms) (End (metrics_draft old.scene ms)) (Limit word.Constant) old → TriedMetric old name value End (Limit word.Constant) old
+named-far old name value ms End is h =
     inr (
-      not-some (view_named old.scene.tree.views name) may.no_view,
+      not-some (view_named old.scene.tree.views name) is.free,
       inr (
-        (λ long. omega (arith, may.short, long)),
-        inr (may.room, subst (λ (m : MetricList). UnlessFar old (metrics_draft old.scene m) (Solves (metrics_draft old.scene m) old) reply new) may.new_is h),
+        (λ long. omega (arith, is.short, long)),
+        inr (is.room, subst (λ (m : MetricList). UnlessFar old (metrics_draft old.scene m) (End (metrics_draft old.scene m)) (Limit word.Constant) old) is.new_is h),
       ),
     )
 
-pub metric-lacks : (old : State) (name : List ℕ) (value : Fraction) (ms : MetricList) (limit : LimitWord) → MayBeMetric old name value ms → MayLackRows ms old.scene.held (stop.Limit limit) → MetricStep old name value (Limit limit) old
-metric-lacks old name value ms word.Constant may lacks =
-    metric-passed old name value ms may (Limit word.Constant) old (inl ((λ rows are. lacks (rows-small ms old.scene.size old.scene.held rows are)), refl, refl))
-metric-lacks old name value ms word.Line may lacks = absurd lacks
-metric-lacks old name value ms word.Name may lacks = absurd lacks
-metric-lacks old name value ms word.Views may lacks = absurd lacks
-metric-lacks old name value ms word.Depth may lacks = absurd lacks
-metric-lacks old name value ms word.Metrics may lacks = absurd lacks
-metric-lacks old name value ms word.Lines may lacks = absurd lacks
-metric-lacks old name value ms word.Rows may lacks = absurd lacks
-metric-lacks old name value ms word.Terms may lacks = absurd lacks
-metric-lacks old name value ms word.Attributes may lacks = absurd lacks
-metric-lacks old name value ms word.Coefficient may lacks = absurd lacks
-metric-lacks old name value ms word.Budget may lacks = absurd lacks
+pub metric-lacks : (old : State) (name : List ℕ) (value : Fraction) (ms : MetricList) (End : Scene → Reply → State → Type 0) (limit : LimitWord) → IsNamed old name value ms → MayLackRows ms old.scene.held (stop.Limit limit)
+    → TriedMetric old name value End (Limit limit) old
+metric-lacks old name value ms End word.Constant is lacks = named-far old name value ms End is (inl (lacks, refl, refl))
+metric-lacks old name value ms End word.Line is lacks = absurd lacks
+metric-lacks old name value ms End word.Name is lacks = absurd lacks
+metric-lacks old name value ms End word.Views is lacks = absurd lacks
+metric-lacks old name value ms End word.Depth is lacks = absurd lacks
+metric-lacks old name value ms End word.Metrics is lacks = absurd lacks
+metric-lacks old name value ms End word.Lines is lacks = absurd lacks
+metric-lacks old name value ms End word.Rows is lacks = absurd lacks
+metric-lacks old name value ms End word.Terms is lacks = absurd lacks
+metric-lacks old name value ms End word.Attributes is lacks = absurd lacks
+metric-lacks old name value ms End word.Coefficient is lacks = absurd lacks
+metric-lacks old name value ms End word.Budget is lacks = absurd lacks
 
-pub metric-far : (old : State) (name : List ℕ) (value : Fraction) (ms : MetricList) (rows : List Row) → MayBeMetric old name value ms → AreDraftRows (metrics_draft old.scene ms) rows → (AreNear old.scene.rows rows → ⊥) → MetricStep old name value (Limit word.Constant) old
-metric-far old name value ms rows may are far = metric-passed old name value ms may (Limit word.Constant) old (inr (rows, are, inl (far, refl, refl)))
+pub metric-far : (old : State) (name : List ℕ) (value : Fraction) (ms : MetricList) (End : Scene → Reply → State → Type 0) (rows : List Row) → IsNamed old name value ms → AreDraftRows (metrics_draft old.scene ms) rows
+    → (AreNear old.scene.rows rows → ⊥) → TriedMetric old name value End (Limit word.Constant) old
+metric-far old name value ms End rows is are far =
+    named-far old name value ms End is (inr ((λ no. no (rows-small ms old.scene.held rows are)), (rows, are, inl (far, refl, refl))))
 
-pub metric-near : (old : State) (name : List ℕ) (value : Fraction) (ms : MetricList) (rows : List Row) → MayBeMetric old name value ms → AreDraftRows (metrics_draft old.scene ms) rows → AreNear old.scene.rows rows → (reply : Reply) (new : State)
-    → Solves (metrics_draft old.scene ms) old reply new → MetricStep old name value reply new
-metric-near old name value ms rows may are near reply new solves = metric-passed old name value ms may reply new (inr (rows, are, inr ((λ far. far near), solves)))
+pub metric-free : (old : State) (name : List ℕ) (value : Fraction) (ms : MetricList) (rows : List Row) → IsNamed old name value ms → AreDraftRows (metrics_draft old.scene ms) rows → AreNear old.scene.rows rows
+    → IsFreeMetric old name value ms rows
+metric-free old name value ms rows is are near =
+    record { free = not-some (view_named old.scene.tree.views name) is.free; short = is.short; room = is.room; new_is = is.new_is; are_rows = are; near = near }
 
 -- ---- the window
 
-pub window-some : (old : State) (w h : Fraction) → IsSome old.scene.size → (reply : Reply) (new : State) → Solves (with_window old.scene w h) old reply new → WindowStep old w h reply new
-window-some old w h some reply new solves = inr ((λ both. not-some old.scene.size both.0 some), solves)
-
-pub window-none : (old : State) (w h : Fraction) → (IsCrowded old.scene 2 → ⊥) → (reply : Reply) (new : State) → Solves (with_window old.scene w h) old reply new → WindowStep old w h reply new
-window-none old w h room reply new solves = inr ((λ both. room both.1), solves)
+pub window-passed : (old : State) (w h : Fraction) (End : Scene → Reply → State → Type 0) (reply : Reply) (new : State) → ((has_size old.scene.held ≡ false) × IsCrowded old 2 → ⊥) → End (with_window old.scene w h) reply new
+    → TriedWindow old w h End reply new
+window-passed old w h End reply new room end = inr (room, end)

@@ -9,9 +9,10 @@ use Rattle.problem_core.specs.Layout.{Row, Problem, Assignment, IsProblem, lines
 use Rattle.problem_core.proofs.WindowRows.{first-IsBest}
 use Rattle.view_tree.specs.Views.{ViewTree, window}
 use Rattle.layout_engine.specs.Layouts.{Layout, AreBest, stays_at}
-use Rattle.session_undo.specs.declared.item.Item.TheVariants.{OfWindow}
-use Rattle.session_undo.specs.Scene.{new_values, first_state}
-use Rattle.session_undo.specs.Kept.{IsItem, IsUnsized, IsKept, state_at}
+use Rattle.session_undo.specs.Items.{Item, OfWindow}
+use Rattle.session_undo.specs.Scene.{new_values, first_scene}
+use Rattle.session_undo.specs.Attributes.{IsCounted}
+use Rattle.session_undo.specs.Kept.{IsItem, IsKept, scene_at}
 use Rattle.session_undo.proofs.BestValues.{best-unique}
 
 zero-IsLowest : IsLowest zero_fraction
@@ -48,15 +49,15 @@ first-values l is best = best-unique first_problem first-IsProblem l.values (new
 abbrev pub first_tree : ViewTree
 first_tree = record { views = window ∷ []; next = 1 }
 
-pub first-is : (t : ViewTree) (l : Layout) → t ≡ first_tree → l.problem ≡ first_problem → AreBest l.problem l.values → state_at t [] None (OfWindow ∷ []) 5 l 100000 ≡ first_state
+pub first-is : (t : ViewTree) (l : Layout) → t ≡ first_tree → l.problem ≡ first_problem → AreBest l.problem l.values → scene_at t [] (OfWindow ∷ []) 5 l ≡ first_scene
 first-is t l t_is is best =
-    ap (λ (u : ViewTree). state_at u [] None (OfWindow ∷ []) 5 l 100000) t_is
-    ∙ ap₂ (λ (p : Problem) (vs : List (ℕ × Fraction)). state_at first_tree [] None (OfWindow ∷ []) 5 (record { problem = p; values = vs }) 100000) is (first-values l is best)
+    ap (λ (u : ViewTree). scene_at u [] (OfWindow ∷ []) 5 l) t_is
+    ∙ ap₂ (λ (p : Problem) (vs : List (ℕ × Fraction)). scene_at first_tree [] (OfWindow ∷ []) 5 (record { problem = p; values = vs })) is (first-values l is best)
 
-pub first-kept : (rows : List Row) → rows ≡ structural_rows → IsKept [] None (OfWindow ∷ []) 5 rows
-first-kept rows is = record {
-  are_rows = (structural_rows, [], is, refl, refl);
+pub first-kept : (t : ViewTree) (l : Layout) → l.problem ≡ first_problem → IsCounted t.views 5 l.problem → IsKept (scene_at t [] (OfWindow ∷ []) 5 l)
+first-kept t l is counted = record {
+  are_rows = (structural_rows, [], ap (λ (p : Problem). p.rows) is, refl, refl);
   each = All-from_recursion IsItem (OfWindow ∷ []) (tt, tt);
-  of_size = All-from_recursion IsUnsized (OfWindow ∷ []) (tt, tt);
   next = lit< tt;
+  counted = counted;
 }

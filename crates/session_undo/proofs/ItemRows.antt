@@ -1,12 +1,13 @@
 -- The rows of what is held.
-use Rattle.std.proofs.Common.{◌≡◌, ℕ, ◌+◌, ◌^◌, ◌<◌, List, [], ◌∷◌, ◌++◌, take, length, Some, None, Option, refl, sym, ap, ◌∙◌, subst, append_assoc, All}
+use Rattle.std.proofs.Common.{◌≡◌, ℕ, zero, suc, ◌+◌, ◌<◌, Bool, true, false, true≢false, arith, length-append, cond, List, [], ◌∷◌, ◌++◌, take, length, map, filter, Some, None, Option, refl, sym, ap, ap₂, ◌∙◌, subst, append_assoc, All}
 use Rattle.std.proofs.Math.ListN.{get_or}
-use Rattle.std.proofs.lemmas.List.{append-nil, take_more}
+use Rattle.std.proofs.lemmas.List.{append-nil, take_more, map-append}
 use Rattle.std.specs.List.{AllByRecursion as Each}
 use Rattle.std.proofs.lemmas.List.Elements.{recursion_from_All, All-from_recursion}
 use Rattle.std.specs.Prelude.{IfErr}
 use Rattle.std.specs.declared.result.Result.{Result}
 use Rattle.std.specs.declared.result.Result.TheVariants.{Ok, Err}
+use Rattle.frac_core.specs.Fraction.{Fraction}
 use Rattle.name_tables.specs.declared.stops.LimitWord.TheVariants as limit
 use Rattle.problem_core.specs.Layout.{Row}
 use Rattle.constraint_compile.specs.Compiled.{CompiledLine}
@@ -14,54 +15,75 @@ use Rattle.constraint_compile.specs.Stops.{IsConstantStop}
 use Rattle.constraint_compile.specs.declared.stops.CompileStop.{CompileStop}
 use Rattle.constraint_compile.specs.declared.stops.CompileStop.TheVariants as stop
 use Rattle.constraint_compile.specs.Meaning.{MetricList}
-use Rattle.session_undo.specs.declared.window.WindowSize.{WindowSize}
-use Rattle.session_undo.specs.declared.item.Item.{Item}
-use Rattle.session_undo.specs.declared.item.Item.TheVariants.{OfWindow, OfView, Sized, OfLine}
-use Rattle.session_undo.specs.Scene.{size_rows, AreItemRows, AreRows}
-use Rattle.session_undo.specs.Kept.{IsItem, IsSmallItem, IsUnsized, AreOfSize, IsKept, MayLackItemRows}
+use Rattle.session_undo.specs.declared.item.WindowSize.{WindowSize}
+use Rattle.session_undo.specs.declared.item.Item as declared
+use Rattle.session_undo.specs.Items.{Item, OfWindow, OfView, Sized, OfLine, AreItemRows, AreRows, IsSmallItem, sized, resized, is_line, line_count, is_size, has_size}
+use Rattle.session_undo.specs.Kept.{item_of, items_of, size_or, changed, all_changed, IsItem, MayLackItemRows, MayLackRows}
+use Rattle.session_undo.proofs.Lists.{all-unmapped}
+
+-- ---- items of the code
 
 -- with one item more
-pub rows-more : (ms : MetricList) (size : Option WindowSize) (held : List Item) (item : Item) (rows more : List Row) → AreRows ms size held rows → AreItemRows ms size item more
-    → AreRows ms size (held ++ item ∷ []) (rows ++ more)
-rows-more ms size [] item rows more are new = (more, [], ap (λ (r : List Row). r ++ more) are ∙ sym (append-nil more), new, refl)
-rows-more ms size (x ∷ held) item rows more (front, back, is, first, rest) new =
-    (front, back ++ more, ap (λ (r : List Row). r ++ more) is ∙ append_assoc front back more, first, rows-more ms size held item back more rest new)
+pub items-more : (items new : List declared.Item) (item : declared.Item) → new ≡ items ++ item ∷ [] → items_of new ≡ items_of items ++ item_of item ∷ []
+items-more items new item is = ap items_of is ∙ map-append item_of items (item ∷ [])
+
+-- no other size
+changed-none : (item : Item) → changed None item ≡ item
+changed-none OfWindow = refl
+changed-none (OfView first id) = refl
+changed-none (Sized first width height) = refl
+changed-none (OfLine group line) = refl
+
+pub all-unchanged : (held : List Item) → all_changed None held ≡ held
+all-unchanged [] = refl
+all-unchanged (item ∷ held) = ap₂ (λ (x : Item) (xs : List Item). x ∷ xs) (changed-none item) (all-unchanged held)
+
+changed-some : (size : WindowSize) (item : Item) → changed (Some size) item ≡ sized size.width size.height item
+changed-some size OfWindow = refl
+changed-some size (OfView first id) = refl
+changed-some size (Sized first width height) = refl
+changed-some size (OfLine group line) = refl
+
+pub all-resized : (size : WindowSize) (held : List Item) → all_changed (Some size) held ≡ resized size.width size.height held
+all-resized size [] = refl
+all-resized size (item ∷ held) = ap₂ (λ (x : Item) (xs : List Item). x ∷ xs) (changed-some size item) (all-resized size held)
+
+-- ---- rows
+
+-- with one item more
+pub rows-more : (ms : MetricList) (held : List Item) (item : Item) (rows more : List Row) → AreRows ms held rows → AreItemRows ms item more → AreRows ms (held ++ item ∷ []) (rows ++ more)
+rows-more ms [] item rows more are new = (more, [], ap (λ (r : List Row). r ++ more) are ∙ sym (append-nil more), new, refl)
+rows-more ms (x ∷ held) item rows more (front, back, is, first, rest) new =
+    (front, back ++ more, ap (λ (r : List Row). r ++ more) is ∙ append_assoc front back more, first, rows-more ms held item back more rest new)
+
+taken-more : (other : Option WindowSize) (items : List declared.Item) (i : ℕ) (item : declared.Item) → i < length items → item ≡ get_or items i item
+    → all_changed other (items_of (take (i + 1) items)) ≡ all_changed other (items_of (take i items)) ++ changed other (item_of item) ∷ []
+taken-more other items i item within read =
+    ap (λ (xs : List declared.Item). all_changed other (items_of xs)) (take_more items i item within ∙ ap (λ (x : declared.Item). take i items ++ x ∷ []) (sym read))
+    ∙ ap (all_changed other) (map-append item_of (take i items) (item ∷ []))
+    ∙ map-append (changed other) (items_of (take i items)) (item_of item ∷ [])
 
 -- with the next item of a list
-pub rows-next : (ms : MetricList) (size : Option WindowSize) (items : List Item) (i : ℕ) (item : Item) (rows more new : List Row) → i < length items → AreRows ms size (take i items) rows
-    → item ≡ get_or items i item → AreItemRows ms size item more → new ≡ rows ++ more → AreRows ms size (take (i + 1) items) new
-rows-next ms size items i item rows more new within are read next is =
-    subst (λ (xs : List Item). AreRows ms size xs new) (sym (take_more items i item within))
-    (subst (λ (r : List Row). AreRows ms size (take i items ++ get_or items i item ∷ []) r) (sym is)
-    (subst (λ (x : Item). AreRows ms size (take i items ++ x ∷ []) (rows ++ more)) read (rows-more ms size (take i items) item rows more are next)))
-
--- an item without constants of the window has the same rows for whatever size
-same-item : (ms : MetricList) (a b : Option WindowSize) (item : Item) (rows : List Row) → IsUnsized item → AreItemRows ms a item rows → AreItemRows ms b item rows
-same-item ms a b OfWindow rows h are = are
-same-item ms a b (OfView first id) rows h are = are
-same-item ms a b (Sized first) rows h are = absurd h
-same-item ms a b (OfLine group line) rows h are = are
-
-same-each : (ms : MetricList) (a b : Option WindowSize) (items : List Item) (rows : List Row) → Each IsUnsized items → AreRows ms a items rows → AreRows ms b items rows
-same-each ms a b [] rows h are = are
-same-each ms a b (x ∷ items) rows h (front, back, is, first, rest) = (front, back, is, same-item ms a b x front h.0 first, same-each ms a b items back h.1 rest)
-
-pub same-rows : (ms : MetricList) (a b : Option WindowSize) (items : List Item) (rows : List Row) → All IsUnsized items → AreRows ms a items rows → AreRows ms b items rows
-same-rows ms a b items rows h are = same-each ms a b items rows (recursion_from_All IsUnsized items h) are
+pub rows-next : (ms : MetricList) (other : Option WindowSize) (items : List declared.Item) (i : ℕ) (item : declared.Item) (rows more new : List Row) → i < length items → AreRows ms (all_changed other (items_of (take i items))) rows
+    → item ≡ get_or items i item → AreItemRows ms (changed other (item_of item)) more → new ≡ rows ++ more → AreRows ms (all_changed other (items_of (take (i + 1) items))) new
+rows-next ms other items i item rows more new within are read next is =
+    subst (λ (xs : List Item). AreRows ms xs new) (sym (taken-more other items i item within read))
+    (subst (λ (r : List Row). AreRows ms (all_changed other (items_of (take i items)) ++ changed other (item_of item) ∷ []) r) (sym is)
+    (rows-more ms (all_changed other (items_of (take i items))) (changed other (item_of item)) rows more are next))
 
 -- what has rows is small
-item-small : (ms : MetricList) (size : Option WindowSize) (item : Item) (rows : List Row) → AreItemRows ms size item rows → IsSmallItem ms item
-item-small ms size OfWindow rows are = tt
-item-small ms size (OfView first id) rows are = tt
-item-small ms size (Sized first) rows are = tt
-item-small ms size (OfLine group line) rows are = are.small
+item-small : (ms : MetricList) (item : Item) (rows : List Row) → AreItemRows ms item rows → IsSmallItem ms item
+item-small ms OfWindow rows are = tt
+item-small ms (OfView first id) rows are = tt
+item-small ms (Sized first width height) rows are = tt
+item-small ms (OfLine group line) rows are = are.small
 
-each-small : (ms : MetricList) (size : Option WindowSize) (items : List Item) (rows : List Row) → AreRows ms size items rows → Each (IsSmallItem ms) items
-each-small ms size [] rows are = tt
-each-small ms size (x ∷ items) rows (front, back, is, first, rest) = (item-small ms size x front first, each-small ms size items back rest)
+each-small : (ms : MetricList) (items : List Item) (rows : List Row) → AreRows ms items rows → Each (IsSmallItem ms) items
+each-small ms [] rows are = tt
+each-small ms (x ∷ items) rows (front, back, is, first, rest) = (item-small ms x front first, each-small ms items back rest)
 
-pub rows-small : (ms : MetricList) (size : Option WindowSize) (items : List Item) (rows : List Row) → AreRows ms size items rows → All (IsSmallItem ms) items
-rows-small ms size items rows are = All-from_recursion (IsSmallItem ms) items (each-small ms size items rows are)
+pub rows-small : (ms : MetricList) (items : List Item) (rows : List Row) → AreRows ms items rows → All (IsSmallItem ms) items
+rows-small ms items rows are = All-from_recursion (IsSmallItem ms) items (each-small ms items rows are)
 
 -- what stops the rows of a line stops those of its item
 lacks : (ms : MetricList) (group : List ℕ) (line : CompiledLine) (s : CompileStop) → IsConstantStop ms line.rows s → MayLackItemRows ms (OfLine group line) s
@@ -85,38 +107,106 @@ pub line-lacks : {T : Type 0} (ms : MetricList) (group : List ℕ) (line : Compi
 line-lacks ms group line (Ok x) h = h
 line-lacks ms group line (Err s) h = lacks ms group line s h
 
--- ---- what a session keeps
+-- ---- numbers
 
 each-more : (P : Item → Type 0) (held : List Item) (item : Item) → Each P held → P item → Each P (held ++ item ∷ [])
 each-more P [] item h k = (k, tt)
 each-more P (x ∷ held) item h k = (h.0, each-more P held item h.1 k)
 
-all-more : (P : Item → Type 0) (held : List Item) (item : Item) → All P held → P item → All P (held ++ item ∷ [])
+pub all-more : (P : Item → Type 0) (held : List Item) (item : Item) → All P held → P item → All P (held ++ item ∷ [])
 all-more P held item h k = All-from_recursion P (held ++ item ∷ []) (each-more P held item (recursion_from_All P held h) k)
 
-of-size-more : (size : Option WindowSize) (held : List Item) (item : Item) → AreOfSize size held → IsUnsized item → AreOfSize size (held ++ item ∷ [])
-of-size-more None held item h k = all-more IsUnsized held item h k
-of-size-more (Some size) held item h k = tt
+sized-IsItem : (w h : Fraction) (item : Item) → IsItem item → IsItem (sized w h item)
+sized-IsItem w h OfWindow is = is
+sized-IsItem w h (OfView first id) is = is
+sized-IsItem w h (Sized first width height) is = is
+sized-IsItem w h (OfLine group line) is = is
 
-pub kept-more : (ms : MetricList) (size : Option WindowSize) (held : List Item) (item : Item) (next new_next : ℕ) (rows more : List Row) → IsKept ms size held next rows → AreItemRows ms size item more → IsItem item → IsUnsized item → 0 < new_next
-    → IsKept ms size (held ++ item ∷ []) new_next (rows ++ more)
-kept-more ms size held item next new_next rows more kept are is un above = record {
-  are_rows = rows-more ms size held item rows more kept.are_rows are;
-  each = all-more IsItem held item kept.each is;
-  of_size = of-size-more size held item kept.of_size un;
-  next = above;
-}
+each-resized : (w h : Fraction) (held : List Item) → Each IsItem held → Each IsItem (resized w h held)
+each-resized w h [] each = tt
+each-resized w h (item ∷ held) each = (sized-IsItem w h item each.0, each-resized w h held each.1)
 
--- the window's first constants
-pub kept-sized : (ms : MetricList) (size : WindowSize) (held : List Item) (next new_next : ℕ) (rows more : List Row) → IsKept ms None held next rows → more ≡ size_rows next (Some size) → (0 < next) × (next < 2 ^ 31) → 0 < new_next
-    → IsKept ms (Some size) (held ++ Sized next ∷ []) new_next (rows ++ more)
-kept-sized ms size held next new_next rows more kept are is above = record {
-  are_rows = rows-more ms (Some size) held (Sized next) rows more (same-rows ms None (Some size) held rows kept.of_size kept.are_rows) are;
-  each = all-more IsItem held (Sized next) kept.each is;
-  of_size = tt;
-  next = above;
-}
+pub all-resized-IsItem : (w h : Fraction) (held : List Item) → All IsItem held → All IsItem (resized w h held)
+all-resized-IsItem w h held all = All-from_recursion IsItem (resized w h held) (each-resized w h held (recursion_from_All IsItem held all))
 
-pub kept-anew : (ms new_ms : MetricList) (size new_size : Option WindowSize) (held : List Item) (next : ℕ) (rows new_rows : List Row) → IsKept ms size held next rows → AreRows new_ms new_size held new_rows → AreOfSize new_size held
-    → IsKept new_ms new_size held next new_rows
-kept-anew ms new_ms size new_size held next rows new_rows kept are of_size = record { are_rows = are; each = kept.each; of_size = of_size; next = kept.next }
+-- ---- how many, and whether one is there
+
+pub filter-more : (f : Item → Bool) (held : List Item) (item : Item) → filter f (held ++ item ∷ []) ≡ filter f held ++ cond (f item) (item ∷ []) []
+filter-more f [] item = last (f item)
+  where
+    last : (b : Bool) → cond b (item ∷ []) [] ≡ cond b (item ∷ []) []
+    last b = refl
+filter-more f (x ∷ held) item = elim (f x) as (λ b. cond b (x ∷ filter f (held ++ item ∷ [])) (filter f (held ++ item ∷ [])) ≡ cond b (x ∷ filter f held) (filter f held) ++ cond (f item) (item ∷ []) []) [
+  | true ↦ ap (λ (xs : List Item). x ∷ xs) (filter-more f held item)
+  | false ↦ filter-more f held item
+]
+
+-- ---- counts along a list
+
+line-more : (items : List declared.Item) (i : ℕ) (item : declared.Item) → i < length items → item ≡ get_or items i item → items_of (take (i + 1) items) ≡ items_of (take i items) ++ item_of item ∷ []
+line-more items i item within read =
+    ap items_of (take_more items i item within ∙ ap (λ (x : declared.Item). take i items ++ x ∷ []) (sym read)) ∙ map-append item_of (take i items) (item ∷ [])
+
+last-count : (b : Bool) (item : Item) → length (cond b (item ∷ []) []) ≡ cond b 1 0
+last-count true item = refl
+last-count false item = refl
+
+pub count-more : (items : List declared.Item) (i : ℕ) (item : declared.Item) → i < length items → item ≡ get_or items i item
+    → line_count (items_of (take (i + 1) items)) ≡ line_count (items_of (take i items)) + cond (is_line (item_of item)) 1 0
+count-more items i item within read =
+    ap line_count (line-more items i item within read) ∙ ap length (filter-more is_line (items_of (take i items)) (item_of item))
+    ∙ length-append (filter is_line (items_of (take i items))) (cond (is_line (item_of item)) (item_of item ∷ []) [])
+    ∙ ap (λ (n : ℕ). line_count (items_of (take i items)) + n) (last-count (is_line (item_of item)) (item_of item))
+
+size-last : (held : List Item) (item : Item) → has_size held ≡ false → has_size (held ++ item ∷ []) ≡ is_size item
+size-last [] item none = last (is_size item)
+  where
+    last : (b : Bool) → cond b true false ≡ b
+    last true = refl
+    last false = refl
+size-last (x ∷ held) item none = elim (is_size x) as (λ b. cond b true (has_size held) ≡ false → cond b true (has_size (held ++ item ∷ [])) ≡ is_size item) [
+  | true ↦ λ h. absurd (true≢false h)
+  | false ↦ λ h. size-last held item h
+] none
+
+pub size-more : (items : List declared.Item) (i : ℕ) (item : declared.Item) → i < length items → item ≡ get_or items i item → has_size (items_of (take i items)) ≡ false
+    → has_size (items_of (take (i + 1) items)) ≡ is_size (item_of item)
+size-more items i item within read none = ap has_size (line-more items i item within read) ∙ size-last (items_of (take i items)) (item_of item) none
+
+pub size-found : (held more : List Item) (item : Item) → is_size item ≡ true → has_size (held ++ (item ∷ more)) ≡ true
+size-found [] more item is = rw is refl
+size-found (x ∷ held) more item is = elim (is_size x) as (λ b. cond b true (has_size (held ++ (item ∷ more))) ≡ true) [
+  | true ↦ refl
+  | false ↦ size-found held more item is
+]
+
+-- an item of the list is one
+pub size-at : (items : List declared.Item) (i : ℕ) (item : declared.Item) → i < length items → item ≡ get_or items i item → is_size (item_of item) ≡ true → has_size (items_of items) ≡ true
+size-at [] i item within read is = absurd (omega (arith, within))
+size-at (x ∷ items) zero item within read is = rw (sym (ap (λ (y : declared.Item). is_size (item_of y)) read) ∙ is) refl
+size-at (x ∷ items) (suc i) item within read is = elim (is_size (item_of x)) as (λ b. cond b true (has_size (items_of items)) ≡ true) [
+  | true ↦ refl
+  | false ↦ size-at items i item (omega (arith, within)) read is
+]
+
+-- ---- what lacks rows
+
+small-at : (ms : MetricList) (items : List declared.Item) (i : ℕ) (item : declared.Item) → i < length items → item ≡ get_or items i item → All (IsSmallItem ms) (items_of items) → IsSmallItem ms (item_of item)
+small-at ms items i item within read small = subst (λ (x : declared.Item). IsSmallItem ms (item_of x)) (sym read) (all-unmapped item_of (IsSmallItem ms) items small i item within)
+
+pub lack-among : (ms : MetricList) (items : List declared.Item) (i : ℕ) (item : declared.Item) → i < length items → item ≡ get_or items i item → (s : CompileStop) → MayLackItemRows ms (item_of item) s → MayLackRows ms (items_of items) s
+lack-among ms items i item within read (stop.Limit limit.Constant) h = λ small. h (small-at ms items i item within read small)
+lack-among ms items i item within read (stop.Limit limit.Line) h = h
+lack-among ms items i item within read (stop.Limit limit.Name) h = h
+lack-among ms items i item within read (stop.Limit limit.Views) h = h
+lack-among ms items i item within read (stop.Limit limit.Depth) h = h
+lack-among ms items i item within read (stop.Limit limit.Metrics) h = h
+lack-among ms items i item within read (stop.Limit limit.Lines) h = h
+lack-among ms items i item within read (stop.Limit limit.Rows) h = h
+lack-among ms items i item within read (stop.Limit limit.Terms) h = h
+lack-among ms items i item within read (stop.Limit limit.Attributes) h = h
+lack-among ms items i item within read (stop.Limit limit.Coefficient) h = h
+lack-among ms items i item within read (stop.Limit limit.Budget) h = h
+lack-among ms items i item within read stop.OutOfMemory h = h
+lack-among ms items i item within read (stop.Unknown name) h = h
+lack-among ms items i item within read (stop.Kind word) h = h

@@ -4,9 +4,11 @@ pub mod BestValues
 pub mod Chains
 pub mod First
 pub mod FormTerms
+pub mod Halves
 pub mod ItemRows
 pub mod LineStops
 pub mod Lists
+pub mod Moves
 pub mod Nears
 pub mod NewViews
 pub mod NextLines

@@ -20,10 +20,11 @@ use Rattle.constraint_compile.specs.declared.stops.CompileStop.{CompileStop}
 use Rattle.constraint_compile.specs.declared.stops.CompileStop.TheVariants as stop
 use Rattle.constraint_compile.proofs.FormatCauses.{steps_same, compiled_count, compiled_refused, refused_once}
 use Rattle.session_undo.specs.Replies.{Reply}
-use Rattle.session_undo.specs.Scene.{State}
-use Rattle.session_undo.specs.Machine.{ConstrainStep, FormatStep}
-use Rattle.session_undo.specs.Adding.{AddStep, StopStep}
-use Rattle.session_undo.proofs.Steps.{Excludes, NoStop, stop-step, add-step}
+use Rattle.problem_core.specs.Layout.{Row}
+use Rattle.session_undo.specs.Scene.{Scene, State, with_line}
+use Rattle.session_undo.specs.Machine.{TriedConstraint, TriedFormat}
+use Rattle.session_undo.specs.Adding.{AddStop, StopStep, NoEnd, IsFreeLine}
+use Rattle.session_undo.proofs.Steps.{Excludes, NoStop, stop-step, add-stop, add-passed, line-causes}
 
 -- stops of different kinds are different
 abbrev tag : CompileStop → ℕ
@@ -76,16 +77,25 @@ line-none views metrics l n c is = record {
   limit = λ limit h. not-past views metrics l n c limit is h;
 }
 
-pub constrain-added : (old : State) (group : List ℕ) (l : Linear) (c : CompiledLine) → IsCompiled old.scene.tree.views old.scene.metrics l old.scene.next_row c → (reply : Reply) (new : State) → AddStep old group c reply new
-    → ConstrainStep old group l reply new
-constrain-added old group l c is reply new step =
-    add-step old group 1 (MayStop old.scene.tree.views old.scene.metrics l old.scene.next_row) (IsCompiled old.scene.tree.views old.scene.metrics l old.scene.next_row) c reply new
-    (line-none old.scene.tree.views old.scene.metrics l old.scene.next_row c is) is (ap length is.row.1) step
+module _ (old : State) (group : List ℕ) (l : Linear) (End : Scene → Reply → State → Type 0) where
+  abbrev LineMay : CompileStop → Type 0
+  LineMay = MayStop old.scene.tree.views old.scene.metrics l old.scene.next_row
 
-pub constrain-stopped : (old : State) (group : List ℕ) (l : Linear) (s : CompileStop) → MayStop old.scene.tree.views old.scene.metrics l old.scene.next_row s → (reply : Reply) → StopStep old group 1 s reply old → ConstrainStep old group l reply old
-constrain-stopped old group l s may reply step =
-    stop-step old group 1 (MayStop old.scene.tree.views old.scene.metrics l old.scene.next_row) (IsCompiled old.scene.tree.views old.scene.metrics l old.scene.next_row) s reply old
-    (line-excludes old.scene.tree.views old.scene.metrics l old.scene.next_row) may step
+  abbrev LineIs : CompiledLine → Type 0
+  LineIs = IsCompiled old.scene.tree.views old.scene.metrics l old.scene.next_row
+
+  pub constraint-passed : (c : CompiledLine) (kept : List ℕ) (rows : List Row) (reply : Reply) (new : State) → LineIs c → IsFreeLine old group kept c rows → End (with_line old.scene kept c) reply new → TriedConstraint old group l End reply new
+  constraint-passed c kept rows reply new is free end =
+      add-passed old group LineMay LineIs End 1 c kept rows reply new (line-none old.scene.tree.views old.scene.metrics l old.scene.next_row c is) is (ap length is.row.1) free end
+
+  pub constraint-full : (c : CompiledLine) (reply : Reply) (new : State) → LineIs c → AddStop old group c reply new → TriedConstraint old group l End reply new
+  constraint-full c reply new is step = add-stop old group LineMay LineIs End 1 c reply new (line-none old.scene.tree.views old.scene.metrics l old.scene.next_row c is) (ap length is.row.1) step
+
+  pub constraint-stopped : (s : CompileStop) (reply : Reply) (new : State) → LineMay s → StopStep old group 1 s reply new → TriedConstraint old group l End reply new
+  constraint-stopped s reply new may step = stop-step old group LineMay LineIs End 1 s reply new (line-excludes old.scene.tree.views old.scene.metrics l old.scene.next_row) may step
+
+  pub constraint-causes : (reply : Reply) (new : State) → TriedConstraint old group l NoEnd reply new → TriedConstraint old group l End reply new
+  constraint-causes reply new h = line-causes old group 1 LineMay LineIs End reply new h
 
 -- ---- formats
 
@@ -108,14 +118,29 @@ module _ (views : List LiveView) (metrics : MetricList) (f : FormatMeaning) (ali
     limit = λ w h. apart (stop.Limit w) stop.OutOfMemory 2 3 refl refl (λ e. omega (arith, e)) (compiled_refused views metrics f align first c (stop.Limit w) is h);
   }
 
-pub format-added : (old : State) (group : List ℕ) (align : Option Align) (f : FormatMeaning) (c : CompiledLine) → IsCompiledFormat old.scene.tree.views old.scene.metrics f align old.scene.next_row c → (reply : Reply) (new : State) → AddStep old group c reply new
-    → FormatStep old group align f reply new
-format-added old group align f c is reply new step =
-    add-step old group (row_count old.scene.tree.views (parts f align)) (MayStopFormat old.scene.tree.views old.scene.metrics f align old.scene.next_row) (IsCompiledFormat old.scene.tree.views old.scene.metrics f align old.scene.next_row) c reply new
-    (format-none old.scene.tree.views old.scene.metrics f align old.scene.next_row c is) is (compiled_count old.scene.tree.views old.scene.metrics f align old.scene.next_row c is) step
+module _ (old : State) (group : List ℕ) (align : Option Align) (f : FormatMeaning) (End : Scene → Reply → State → Type 0) where
+  abbrev FormatMay : CompileStop → Type 0
+  FormatMay = MayStopFormat old.scene.tree.views old.scene.metrics f align old.scene.next_row
 
-pub format-stopped : (old : State) (group : List ℕ) (align : Option Align) (f : FormatMeaning) (count : ℕ) (s : CompileStop) → count ≡ row_count old.scene.tree.views (parts f align) → MayStopFormat old.scene.tree.views old.scene.metrics f align old.scene.next_row s
-    → (reply : Reply) → StopStep old group count s reply old → FormatStep old group align f reply old
-format-stopped old group align f count s count_is may reply step =
-    stop-step old group (row_count old.scene.tree.views (parts f align)) (MayStopFormat old.scene.tree.views old.scene.metrics f align old.scene.next_row) (IsCompiledFormat old.scene.tree.views old.scene.metrics f align old.scene.next_row) s reply old
-    (format-excludes old.scene.tree.views old.scene.metrics f align old.scene.next_row) may (subst (λ (n : ℕ). StopStep old group n s reply old) count_is step)
+  abbrev FormatIs : CompiledLine → Type 0
+  FormatIs = IsCompiledFormat old.scene.tree.views old.scene.metrics f align old.scene.next_row
+
+  abbrev count : ℕ
+  count = row_count old.scene.tree.views (parts f align)
+
+  pub format-passed : (c : CompiledLine) (kept : List ℕ) (rows : List Row) (reply : Reply) (new : State) → FormatIs c → IsFreeLine old group kept c rows → End (with_line old.scene kept c) reply new → TriedFormat old group align f End reply new
+  format-passed c kept rows reply new is free end =
+      add-passed old group FormatMay FormatIs End count c kept rows reply new (format-none old.scene.tree.views old.scene.metrics f align old.scene.next_row c is) is
+      (compiled_count old.scene.tree.views old.scene.metrics f align old.scene.next_row c is) free end
+
+  pub format-full : (c : CompiledLine) (reply : Reply) (new : State) → FormatIs c → AddStop old group c reply new → TriedFormat old group align f End reply new
+  format-full c reply new is step =
+      add-stop old group FormatMay FormatIs End count c reply new (format-none old.scene.tree.views old.scene.metrics f align old.scene.next_row c is)
+      (compiled_count old.scene.tree.views old.scene.metrics f align old.scene.next_row c is) step
+
+  pub format-stopped : (n : ℕ) (s : CompileStop) (reply : Reply) (new : State) → n ≡ row_count old.scene.tree.views (parts f align) → FormatMay s → StopStep old group n s reply new → TriedFormat old group align f End reply new
+  format-stopped n s reply new n_is may step =
+      stop-step old group FormatMay FormatIs End count s reply new (format-excludes old.scene.tree.views old.scene.metrics f align old.scene.next_row) may (subst (λ (m : ℕ). StopStep old group m s reply new) n_is step)
+
+  pub format-causes : (reply : Reply) (new : State) → TriedFormat old group align f NoEnd reply new → TriedFormat old group align f End reply new
+  format-causes reply new h = line-causes old group count FormatMay FormatIs End reply new h

@@ -9,7 +9,7 @@ use Rattle.problem_core.specs.Layout.{Row, Problem, Assignment, IsCovered, Satis
 use Rattle.problem_core.specs.Window.{zero_fraction}
 use Rattle.problem_core.proofs.Agreed.{AgreeAt, gap-agree, error-agree, agree-row}
 use Rattle.problem_core.proofs.WindowRows.{at_least_zero}
-use Rattle.session_undo.specs.Scene.{view_rows}
+use Rattle.session_undo.specs.Items.{view_rows}
 
 -- x, but 0 at the attributes w and h
 abbrev cleared : Assignment → ℕ → ℕ → Assignment

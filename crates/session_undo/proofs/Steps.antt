@@ -1,5 +1,5 @@
 -- What the changes of a session come to.
-use Rattle.std.proofs.Common.{◌≡◌, ℕ, List, length, refl, subst, inl, inr}
+use Rattle.std.proofs.Common.{◌≡◌, ℕ, List, length, refl, ap, subst, inl, inr}
 use Rattle.name_tables.specs.declared.stops.LimitWord.{LimitWord}
 use Rattle.name_tables.specs.declared.stops.LimitWord.TheVariants as word
 use Rattle.constraint_compile.specs.declared.stops.KindWord.{KindWord}
@@ -9,13 +9,16 @@ use Rattle.constraint_compile.specs.Compiled.{CompiledLine}
 use Rattle.problem_core.specs.Layout.{Row}
 use Rattle.cert_core.specs.declared.stops.RunStop.{RunStop}
 use Rattle.cert_core.specs.declared.stops.RunStop.TheVariants as run
-use Rattle.layout_engine.specs.Stops.{IsStopOf}
+use Rattle.cert_core.specs.Paths.{Path}
 use Rattle.session_undo.specs.declared.reply.Refusal.{Refusal}
 use Rattle.session_undo.specs.declared.reply.Refusal.TheVariants as refusal
-use Rattle.session_undo.specs.Replies.{Reply, Limit, Kind, MayRefuse}
-use Rattle.session_undo.specs.Scene.{Scene, State, AreDraftRows, with_line}
-use Rattle.session_undo.specs.Machine.{Unless, UnlessAny, Keeps, Solves, LineStep, AddsLine, IsCrowded}
-use Rattle.session_undo.specs.Adding.{refusal_of, UnlessFull, AddStep, StopStep, IsGroupLimit, IsGroupFree, IsLineLimit, IsLineFree}
+use Rattle.std.specs.Prelude.{IfOk, IfErr, OnErr}
+use Rattle.std.specs.declared.result.Result.{Result}
+use Rattle.std.specs.declared.result.Result.TheVariants.{Ok, Err}
+use Rattle.session_undo.specs.Replies.{Reply, Done, Limit, Kind, MayRefuse, accepted}
+use Rattle.session_undo.specs.Scene.{Scene, State, with_line}
+use Rattle.session_undo.specs.Machine.{Unless, UnlessAny, Keeps, IsSolved, Solves, SolvesFree, TriedLine, AddsLine, IsCrowded}
+use Rattle.session_undo.specs.Adding.{refusal_of, answer_of, StopsAt, IsNoConflict, NoEnd, UnlessFull, AddStop, StopStep, IsGroupLimit, IsGroupFree, IsLineLimit, IsLineFree, IsFreeLine}
 
 -- what refuses for a narrower relation refuses for a wider one
 pub refuses : (F G : Reply → Type 0) (r : Refusal) → ((reply : Reply) → F reply → G reply) → MayRefuse F r → MayRefuse G r
@@ -29,13 +32,51 @@ refuses F G (refusal.Overflow at) to h = to _ h
 refuses F G (refusal.Spent path) to h = to _ h
 refuses F G refusal.OutOfMemory to h = h
 
+-- the engine's end is the step's
+run-accepts : (draft : Scene) (old : State) (path : Path) (scene : Scene) → IsSolved draft old.budget path scene → SolvesFree old draft Done (record old { scene = scene })
+run-accepts draft old path scene solved = inl (record { done = refl; path = path; solved = solved; kept = refl })
+
+run-solves : (draft : Scene) (old : State) (path : Path) (scene : Scene) → IsSolved draft old.budget path scene → Solves old draft Done (record old { scene = scene })
+run-solves draft old path scene solved = inr (run-accepts draft old path scene solved)
+
 -- what stops the engine on a draft's problem refuses the draft
-pub stop-refuses : (draft : Scene) (old : State) (rows : List Row) (stop : RunStop) → AreDraftRows draft rows → IsStopOf (record { rows = rows; stays = draft.stays }) old.budget stop
-    → MayRefuse (λ reply. Solves draft old reply old) (refusal_of stop)
-stop-refuses draft old rows (run.Conflict by) are is = inr (inl (by, rows, are, is.0, (refl, refl)))
-stop-refuses draft old rows (run.Unfit at) are is = inr (inr (inl (record { path = at.path; quantity = at.quantity; rows = rows; are = are; cut = is; refused = (refl, refl) })))
-stop-refuses draft old rows (run.Spent path) are is = inr (inr (inr (record { path = path; rows = rows; are = are; spent = is; refused = (refl, refl) })))
-stop-refuses draft old rows run.OutOfMemory are is = tt
+free-refuses : (draft : Scene) (old : State) (stop : RunStop) → StopsAt old.scene draft old.budget stop → IsNoConflict stop → MayRefuse (λ reply. SolvesFree old draft reply old) (refusal_of stop)
+free-refuses draft old (run.Conflict by) (rows, are, (before, known, is)) free = absurd free
+free-refuses draft old (run.Unfit at) (rows, are, (before, known, is)) free =
+    inr (inl (record { path = at.path; quantity = at.quantity; rows = rows; are = are; before = before; known = known; cut = is; refused = (refl, refl) }))
+free-refuses draft old (run.Spent path) (rows, are, (before, known, is)) free = inr (inr (record { path = path; rows = rows; are = are; spent = is; refused = (refl, refl) }))
+free-refuses draft old run.OutOfMemory is free = tt
+
+stop-refuses : (draft : Scene) (old : State) (stop : RunStop) → StopsAt old.scene draft old.budget stop → MayRefuse (λ reply. Solves old draft reply old) (refusal_of stop)
+stop-refuses draft old (run.Conflict by) (rows, are, (before, known, is)) = inl (record { by = by; rows = rows; are = are; shown = is.0; refused = (refl, refl) })
+stop-refuses draft old (run.Unfit at) (rows, are, (before, known, is)) =
+    inr (inr (inl (record { path = at.path; quantity = at.quantity; rows = rows; are = are; before = before; known = known; cut = is; refused = (refl, refl) })))
+stop-refuses draft old (run.Spent path) (rows, are, (before, known, is)) = inr (inr (inr (record { path = path; rows = rows; are = are; spent = is; refused = (refl, refl) })))
+stop-refuses draft old run.OutOfMemory is = tt
+
+-- ---- the answer to a run
+
+module _ (draft : Scene) (old : State) (scene : Scene) where
+  pub free-accepted : (end : Result Path RunStop) → IfOk end (λ path. IsSolved draft old.budget path scene) → IfOk (answer_of end) (λ reply. SolvesFree old draft (accepted reply) (record old { scene = scene }))
+  free-accepted (Ok path) solved = run-accepts draft old path scene solved
+  free-accepted (Err stop) solved = tt
+
+  pub free-refused : (end : Result Path RunStop) → IfErr end (StopsAt old.scene draft old.budget) → IfErr end IsNoConflict → IfErr (answer_of end) (MayRefuse (λ reply. SolvesFree old draft reply old))
+  free-refused (Ok path) stops free = tt
+  free-refused (Err stop) stops free = free-refuses draft old stop stops free
+
+  pub run-accepted : (end : Result Path RunStop) → IfOk end (λ path. IsSolved draft old.budget path scene) → IfOk (answer_of end) (λ reply. Solves old draft (accepted reply) (record old { scene = scene }))
+  run-accepted (Ok path) solved = run-solves draft old path scene solved
+  run-accepted (Err stop) solved = tt
+
+  pub run-refused : (end : Result Path RunStop) → IfErr end (StopsAt old.scene draft old.budget) → IfErr (answer_of end) (MayRefuse (λ reply. Solves old draft reply old))
+  run-refused (Ok path) stops = tt
+  run-refused (Err stop) stops = stop-refuses draft old stop stops
+
+-- a scene that is as before makes the session so
+pub answer-same : (old : State) (scene : Scene) (end : Result Path RunStop) → OnErr end (scene ≡ old.scene) → OnErr (answer_of end) (record old { scene = scene } ≡ old)
+answer-same old scene (Ok path) same = tt
+answer-same old scene (Err stop) same = ap (λ (s : Scene). record old { scene = s }) same
 
 -- the stops of a compiler exclude each other
 pub record Excludes (May : CompileStop → Type 0) : Type 0 where
@@ -59,67 +100,93 @@ full-map old group F G reply new to (inl h) = inl h
 full-map old group F G reply new to (inr (a, inl h)) = inr (a, inl h)
 full-map old group F G reply new to (inr (a, inr (b, h))) = inr (a, inr (b, to h))
 
+unless-any-map : {A : Type 0} (IsCause : A → Type 0) (refusal : A → Reply) (old : State) (F G : Reply → State → Type 0) (reply : Reply) (new : State) → (F reply new → G reply new) → UnlessAny IsCause refusal old F reply new
+    → UnlessAny IsCause refusal old G reply new
+unless-any-map IsCause refusal old F G reply new to (inl h) = inl h
+unless-any-map IsCause refusal old F G reply new to (inr h) = inr (h.0, to h.1)
+
 -- the causes that are left where nothing is unknown and the group has room
-abbrev AtLimit : State → List ℕ → (CompileStop → Type 0) → (CompiledLine → Type 0) → Reply → State → Type 0
-AtLimit old group May Is = UnlessAny (λ limit. May (stop.Limit limit)) Limit old (AddsLine old group Is)
+module _ (old : State) (group : List ℕ) (May : CompileStop → Type 0) (Is : CompiledLine → Type 0) (End : Scene → Reply → State → Type 0) where
+  abbrev AtLimit : Reply → State → Type 0
+  AtLimit = UnlessAny (λ limit. May (stop.Limit limit)) Limit old (AddsLine old group Is End)
 
-abbrev AtRows : State → List ℕ → ℕ → (CompileStop → Type 0) → (CompiledLine → Type 0) → Reply → State → Type 0
-AtRows old group count May Is = Unless (IsCrowded old.scene count) (Limit word.Rows) old (AtLimit old group May Is)
+  abbrev AtRows : ℕ → Reply → State → Type 0
+  AtRows count = Unless (IsCrowded old count) (Limit word.Rows) old AtLimit
 
-abbrev AtKind : State → List ℕ → ℕ → (CompileStop → Type 0) → (CompiledLine → Type 0) → Reply → State → Type 0
-AtKind old group count May Is = UnlessAny (λ wrong. May (stop.Kind wrong)) Kind old (AtRows old group count May Is)
+  abbrev AtKind : ℕ → Reply → State → Type 0
+  AtKind count = UnlessAny (λ wrong. May (stop.Kind wrong)) Kind old (AtRows count)
 
-limit-after : (old : State) (group : List ℕ) (May : CompileStop → Type 0) (Is : CompiledLine → Type 0) (limit : LimitWord) (reply : Reply) (new : State) → May (stop.Limit limit) → Keeps (Limit limit) old reply new → AtLimit old group May Is reply new
-limit-after old group May Is limit reply new may keeps = inl (limit, may, keeps.0, keeps.1)
+  limit-after : (limit : LimitWord) (reply : Reply) (new : State) → May (stop.Limit limit) → Keeps (Limit limit) old reply new → AtLimit reply new
+  limit-after limit reply new may keeps = inl (limit, may, keeps.0, keeps.1)
 
-kind-after : (old : State) (group : List ℕ) (count : ℕ) (May : CompileStop → Type 0) (Is : CompiledLine → Type 0) (wrong : KindWord) (reply : Reply) (new : State) → May (stop.Kind wrong) → Keeps (Kind wrong) old reply new → AtKind old group count May Is reply new
-kind-after old group count May Is wrong reply new may keeps = inl (wrong, may, keeps.0, keeps.1)
+  kind-after : (count : ℕ) (wrong : KindWord) (reply : Reply) (new : State) → May (stop.Kind wrong) → Keeps (Kind wrong) old reply new → AtKind count reply new
+  kind-after count wrong reply new may keeps = inl (wrong, may, keeps.0, keeps.1)
 
-rows-after : (old : State) (group : List ℕ) (count : ℕ) (May : CompileStop → Type 0) (Is : CompiledLine → Type 0) (limit : LimitWord) (reply : Reply) (new : State) → Excludes May → May (stop.Limit limit)
-    → Unless (IsCrowded old.scene count) (Limit word.Rows) old (Keeps (Limit limit) old) reply new → AtKind old group count May Is reply new
-rows-after old group count May Is limit reply new ex may h =
-    inr (
-      (λ kind k. ex.wrong kind limit k may),
-      unless-map (IsCrowded old.scene count) (Limit word.Rows) old (Keeps (Limit limit) old) (AtLimit old group May Is) reply new (limit-after old group May Is limit reply new may) h,
-    )
+  rows-after : (count : ℕ) (limit : LimitWord) (reply : Reply) (new : State) → Excludes May → May (stop.Limit limit) → Unless (IsCrowded old count) (Limit word.Rows) old (Keeps (Limit limit) old) reply new → AtKind count reply new
+  rows-after count limit reply new ex may h =
+      inr (
+        (λ kind k. ex.wrong kind limit k may),
+        unless-map (IsCrowded old count) (Limit word.Rows) old (Keeps (Limit limit) old) AtLimit reply new (limit-after limit reply new may) h,
+      )
 
-line-after : (old : State) (group : List ℕ) (May : CompileStop → Type 0) (Is : CompiledLine → Type 0) (line : CompiledLine) (reply : Reply) (new : State) → NoStop May → Is line → Solves (with_line old.scene group line) old reply new → AtLimit old group May Is reply new
-line-after old group May Is line reply new none is solves = inr (none.limit, (line, is, solves))
+  -- a line that stops the compiler
+  pub stop-step : (count : ℕ) (s : CompileStop) (reply : Reply) (new : State) → Excludes May → May s → StopStep old group count s reply new → TriedLine old group count May Is End reply new
+  stop-step count (stop.Unknown name) reply new ex may step = inl (name, may, step.0, step.1)
+  stop-step count (stop.Kind wrong) reply new ex may step =
+      inr (
+        (λ name u. ex.kind name wrong u may),
+        full-map old group (Keeps (Kind wrong) old) (AtKind count) reply new (kind-after count wrong reply new may) step,
+      )
+  stop-step count (stop.Limit limit) reply new ex may step =
+      inr (
+        (λ name u. ex.limit name limit u may),
+        full-map old group (Unless (IsCrowded old count) (Limit word.Rows) old (Keeps (Limit limit) old)) (AtKind count) reply new (rows-after count limit reply new ex may) step,
+      )
+  stop-step count stop.OutOfMemory reply new ex may step = absurd step
 
-added-after : (old : State) (group : List ℕ) (count : ℕ) (May : CompileStop → Type 0) (Is : CompiledLine → Type 0) (line : CompiledLine) (reply : Reply) (new : State) → NoStop May → Is line → length line.rows ≡ count
-    → Unless (IsCrowded old.scene (length line.rows)) (Limit word.Rows) old (Solves (with_line old.scene group line) old) reply new → AtKind old group count May Is reply new
-added-after old group count May Is line reply new none is long h =
-    inr (
-      none.kind,
-      subst (λ (n : ℕ). AtRows old group n May Is reply new) long
-          (unless-map (IsCrowded old.scene (length line.rows)) (Limit word.Rows) old (Solves (with_line old.scene group line) old) (AtLimit old group May Is) reply new (line-after old group May Is line reply new none is) h),
-    )
+  -- a line that is compiled, and for whose rows there is no room
+  pub add-stop : (count : ℕ) (line : CompiledLine) (reply : Reply) (new : State) → NoStop May → length line.rows ≡ count → AddStop old group line reply new → TriedLine old group count May Is End reply new
+  add-stop count line reply new none long step =
+      inr (
+        none.unknown,
+        full-map old group (Unless (IsCrowded old (length line.rows)) (Limit word.Rows) old (λ r n. ⊥)) (AtKind count) reply new
+            (λ h. inr (
+              none.kind,
+              subst (λ (n : ℕ). AtRows n reply new) long (unless-map (IsCrowded old (length line.rows)) (Limit word.Rows) old (λ r n. ⊥) AtLimit reply new (λ never. absurd never) h),
+            )) step,
+      )
 
--- a line that stops the compiler
-pub stop-step : (old : State) (group : List ℕ) (count : ℕ) (May : CompileStop → Type 0) (Is : CompiledLine → Type 0) (s : CompileStop) (reply : Reply) (new : State) → Excludes May → May s → StopStep old group count s reply new
-    → LineStep old group count May Is reply new
-stop-step old group count May Is (stop.Unknown name) reply new ex may step = inl (name, may, step.0, step.1)
-stop-step old group count May Is (stop.Kind wrong) reply new ex may step =
-    inr (
-      (λ name u. ex.kind name wrong u may),
-      full-map old group (Keeps (Kind wrong) old) (AtKind old group count May Is) reply new (kind-after old group count May Is wrong reply new may) step,
-    )
-stop-step old group count May Is (stop.Limit limit) reply new ex may step =
-    inr (
-      (λ name u. ex.limit name limit u may),
-      full-map old group (Unless (IsCrowded old.scene count) (Limit word.Rows) old (Keeps (Limit limit) old)) (AtKind old group count May Is) reply new (rows-after old group count May Is limit reply new ex may) step,
-    )
-stop-step old group count May Is stop.OutOfMemory reply new ex may step = absurd step
+  -- a line that is compiled, and for which there is room
+  pub add-passed : (count : ℕ) (line : CompiledLine) (kept : List ℕ) (rows : List Row) (reply : Reply) (new : State) → NoStop May → Is line → length line.rows ≡ count → IsFreeLine old group kept line rows
+      → End (with_line old.scene kept line) reply new → TriedLine old group count May Is End reply new
+  add-passed count line kept rows reply new none is long free end =
+      inr (
+        none.unknown,
+        inr (
+          free.free.0.0,
+          inr (
+            free.free.0.1,
+            inr (
+              none.kind,
+              inr (
+                subst (λ (n : ℕ). IsCrowded old n → ⊥) long free.free.1,
+                inr (none.limit, (line, is, subst (λ (name : List ℕ). End (with_line old.scene name line) reply new) free.name end)),
+              ),
+            ),
+          ),
+        ),
+      )
 
--- a line that is compiled
-pub add-step : (old : State) (group : List ℕ) (count : ℕ) (May : CompileStop → Type 0) (Is : CompiledLine → Type 0) (line : CompiledLine) (reply : Reply) (new : State) → NoStop May → Is line → length line.rows ≡ count → AddStep old group line reply new
-    → LineStep old group count May Is reply new
-add-step old group count May Is line reply new none is long step =
-    inr (
-      none.unknown,
-      full-map old group (Unless (IsCrowded old.scene (length line.rows)) (Limit word.Rows) old (Solves (with_line old.scene group line) old)) (AtKind old group count May Is) reply new
-          (added-after old group count May Is line reply new none is long) step,
-    )
+-- a cause stays one for whatever end
+pub line-causes : (old : State) (group : List ℕ) (count : ℕ) (May : CompileStop → Type 0) (Is : CompiledLine → Type 0) (End : Scene → Reply → State → Type 0) (reply : Reply) (new : State) → TriedLine old group count May Is NoEnd reply new
+    → TriedLine old group count May Is End reply new
+line-causes old group count May Is End reply new (inl h) = inl h
+line-causes old group count May Is End reply new (inr (a, inl h)) = inr (a, inl h)
+line-causes old group count May Is End reply new (inr (a, inr (b, inl h))) = inr (a, inr (b, inl h))
+line-causes old group count May Is End reply new (inr (a, inr (b, inr (c, inl h)))) = inr (a, inr (b, inr (c, inl h)))
+line-causes old group count May Is End reply new (inr (a, inr (b, inr (c, inr (d, inl h))))) = inr (a, inr (b, inr (c, inr (d, inl h))))
+line-causes old group count May Is End reply new (inr (a, inr (b, inr (c, inr (d, inr (e, inl h)))))) = inr (a, inr (b, inr (c, inr (d, inr (e, inl h)))))
+line-causes old group count May Is End reply new (inr (a, inr (b, inr (c, inr (d, inr (e, inr (f, (line, is, never)))))))) = absurd never
 
 -- ---- limits
 
@@ -130,16 +197,16 @@ pub free : (old : State) (group : List ℕ) (F : Reply → State → Type 0) (re
 free old group F reply new is h = inr (is.0, inr (is.1, h))
 
 pub line-limited : (old : State) (group : List ℕ) (count : ℕ) (limit : LimitWord) (F : Reply → State → Type 0) → IsLineLimit old group count limit
-    → UnlessFull old group (Unless (IsCrowded old.scene count) (Limit word.Rows) old F) (Limit limit) old
+    → UnlessFull old group (Unless (IsCrowded old count) (Limit word.Rows) old F) (Limit limit) old
 line-limited old group count limit F h =
-    full-map old group (Unless (IsCrowded old.scene count) (Limit word.Rows) old (λ reply new. ⊥)) (Unless (IsCrowded old.scene count) (Limit word.Rows) old F) (Limit limit) old
-    (unless-map (IsCrowded old.scene count) (Limit word.Rows) old (λ reply new. ⊥) F (Limit limit) old (λ never. absurd never)) h
+    full-map old group (Unless (IsCrowded old count) (Limit word.Rows) old (λ reply new. ⊥)) (Unless (IsCrowded old count) (Limit word.Rows) old F) (Limit limit) old
+    (unless-map (IsCrowded old count) (Limit word.Rows) old (λ reply new. ⊥) F (Limit limit) old (λ never. absurd never)) h
 
 pub line-free : (old : State) (group : List ℕ) (count : ℕ) (F : Reply → State → Type 0) (reply : Reply) (new : State) → IsLineFree old group count → F reply new
-    → UnlessFull old group (Unless (IsCrowded old.scene count) (Limit word.Rows) old F) reply new
+    → UnlessFull old group (Unless (IsCrowded old count) (Limit word.Rows) old F) reply new
 line-free old group count F reply new is h = inr (is.0.0, inr (is.0.1, inr (is.1, h)))
 
-pub crowded-limit : (old : State) (group : List ℕ) (count : ℕ) → IsGroupFree old group → IsCrowded old.scene count → IsLineLimit old group count word.Rows
+pub crowded-limit : (old : State) (group : List ℕ) (count : ℕ) → IsGroupFree old group → IsCrowded old count → IsLineLimit old group count word.Rows
 crowded-limit old group count is crowded = inr (is.0, inr (is.1, inl (crowded, refl, refl)))
 
 pub stop-kind-limited : (old : State) (group : List ℕ) (count : ℕ) (wrong : KindWord) (limit : LimitWord) → IsGroupLimit old group limit → StopStep old group count (stop.Kind wrong) (Limit limit) old
@@ -154,8 +221,5 @@ stop-limit-limited old group count passed limit h = line-limited old group count
 pub stop-limit : (old : State) (group : List ℕ) (count : ℕ) (passed : LimitWord) → IsLineFree old group count → StopStep old group count (stop.Limit passed) (Limit passed) old
 stop-limit old group count passed is = line-free old group count (Keeps (Limit passed) old) (Limit passed) old is (refl, refl)
 
-pub add-limited : (old : State) (group : List ℕ) (line : CompiledLine) (count : ℕ) (limit : LimitWord) → count ≡ length line.rows → IsLineLimit old group count limit → AddStep old group line (Limit limit) old
-add-limited old group line count limit is h = line-limited old group (length line.rows) limit (Solves (with_line old.scene group line) old) (subst (λ (n : ℕ). IsLineLimit old group n limit) is h)
-
-pub add-free : (old : State) (group : List ℕ) (line : CompiledLine) (count : ℕ) → count ≡ length line.rows → IsLineFree old group count → (reply : Reply) (new : State) → Solves (with_line old.scene group line) old reply new → AddStep old group line reply new
-add-free old group line count is h reply new solves = line-free old group (length line.rows) (Solves (with_line old.scene group line) old) reply new (subst (λ (n : ℕ). IsLineFree old group n) is h) solves
+pub add-limited : (old : State) (group : List ℕ) (line : CompiledLine) (count : ℕ) (limit : LimitWord) → count ≡ length line.rows → IsLineLimit old group count limit → AddStop old group line (Limit limit) old
+add-limited old group line count limit is h = subst (λ (n : ℕ). IsLineLimit old group n limit) is h

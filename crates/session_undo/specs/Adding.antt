@@ -1,21 +1,33 @@
 -- Parts of the steps.
-use Rattle.std.specs.Prelude.{ℕ, ◌+◌, ◌<◌, ◌≤◌, List, [], ◌∷◌, ◌++◌, length}
+use Rattle.std.specs.Prelude.{◌≡◌, ◌⊎◌, ℕ, ◌+◌, ◌<◌, ◌≤◌, Bool, true, false, List, [], ◌∷◌, ◌++◌, length, Some, None, IsSome, All}
 use Rattle.name_tables.specs.declared.stops.LimitWord.{LimitWord}
-use Rattle.view_tree.specs.Views.{ViewTree}
-use Rattle.constraint_compile.specs.Meaning.{MetricList}
-use Rattle.layout_engine.specs.Layouts.{stays_at}
-use Rattle.session_undo.specs.declared.item.Item.TheVariants.{OfView}
 use Rattle.name_tables.specs.declared.stops.LimitWord.TheVariants as word
-use Rattle.constraint_compile.specs.Compiled.{CompiledLine}
+use Rattle.view_tree.specs.Views.{ViewTree, LiveView, view_named}
+use Rattle.view_tree.specs.Views as tree
+use Rattle.frac_core.specs.Fraction.{Fraction}
+use Rattle.problem_core.specs.Layout.{Row}
+use Rattle.constraint_compile.specs.Meaning.{MetricList}
+use Rattle.constraint_compile.specs.Compiled.{CompiledLine, AreRowsNow}
 use Rattle.constraint_compile.specs.declared.stops.CompileStop.{CompileStop}
 use Rattle.constraint_compile.specs.declared.stops.CompileStop.TheVariants as stop
 use Rattle.cert_core.specs.declared.stops.RunStop.{RunStop}
 use Rattle.cert_core.specs.declared.stops.RunStop.TheVariants as run
+use Rattle.layout_engine.specs.Layouts.{Layout, with_rows}
+use Rattle.layout_engine.specs.Stops.{IsStopOf}
+use Rattle.std.specs.declared.result.Result.{Result}
+use Rattle.std.specs.declared.result.Result.TheVariants.{Ok, Err}
+use Rattle.cert_core.specs.Paths.{Path}
+use Rattle.session_undo.specs.declared.reply.Reply as answer
+use Rattle.session_undo.specs.declared.reply.Reply.TheVariants as good
 use Rattle.session_undo.specs.declared.reply.Refusal.{Refusal}
 use Rattle.session_undo.specs.declared.reply.Refusal.TheVariants as refusal
+use Rattle.session_undo.specs.Attributes.{IsNextLine}
+use Rattle.session_undo.specs.Items.{OfView}
 use Rattle.session_undo.specs.Replies.{Reply, Unknown, Limit, Kind}
-use Rattle.session_undo.specs.Scene.{Scene, State, with_line, new_values}
-use Rattle.session_undo.specs.Machine.{Unless, Keeps, Solves, IsCrowded, line_count}
+use Rattle.session_undo.specs.Scene.{Scene, State, with_metric, moved, new_stays, draft_problem, AreDraftRows, metrics_with}
+use Rattle.session_undo.specs.Machine.{AreBefore, Unless, Keeps, IsCrowded, HasAllLines, IsTaken, IsDeep, AreNear, AreTooMany, HasAllViews}
+
+-- ---- stops
 
 -- the refusal for what stops an engine
 abbrev pub refusal_of : RunStop → Refusal
@@ -24,23 +36,40 @@ refusal_of (run.Unfit at) = refusal.Overflow at
 refusal_of (run.Spent path) = refusal.Spent path
 refusal_of run.OutOfMemory = refusal.OutOfMemory
 
--- the limits of groups that a further line may pass
-abbrev pub UnlessFull : State → List ℕ → (Reply → State → Type 0) → Reply → State → Type 0
-UnlessFull old group F = Unless (64 < length group) (Limit word.Name) old (Unless (2000 ≤ line_count old.scene.held) (Limit word.Lines) old F)
+-- the answer to what a run comes to
+abbrev pub answer_of : Result Path RunStop → Result answer.Reply Refusal
+answer_of (Ok path) = Ok good.Done
+answer_of (Err stop) = Err (refusal_of stop)
 
--- the first of these limits that it passes, and that it passes none
-abbrev pub IsGroupLimit : State → List ℕ → LimitWord → Type 0
-IsGroupLimit old group limit = UnlessFull old group (λ reply new. ⊥) (Limit limit) old
+-- why the engine of the scene stops at the draft's rows
+abbrev pub StopsOver : Scene → Scene → ℕ → RunStop → Type 0
+StopsOver scene draft budget stop =
+    (rows : List Row) × AreDraftRows draft rows
+    × ((before : List Row) × AreBefore scene draft before × IsStopOf before (draft_problem draft rows) budget stop)
 
-abbrev pub IsGroupFree : State → List ℕ → Type 0
-IsGroupFree old group = (64 < length group → ⊥) × (2000 ≤ line_count old.scene.held → ⊥)
+-- why an engine that takes these rows stops: they are those that it has, or all of them join anew
+abbrev pub StopsAnew : Layout → List Row → ℕ → RunStop → Type 0
+StopsAnew l rows budget stop = (before : List Row) × ((before ≡ l.problem.rows) ⊎ (before ≡ []))
+    × IsStopOf before (with_rows l rows) budget stop
 
--- the same with the limit of rows
-abbrev pub IsLineLimit : State → List ℕ → ℕ → LimitWord → Type 0
-IsLineLimit old group count limit = UnlessFull old group (Unless (IsCrowded old.scene count) (Limit word.Rows) old (λ reply new. ⊥)) (Limit limit) old
+-- the same where memory may be wanting
+abbrev pub StopsAt : Scene → Scene → ℕ → RunStop → Type 0
+StopsAt scene draft budget (run.Conflict by) = StopsOver scene draft budget (run.Conflict by)
+StopsAt scene draft budget (run.Unfit at) = StopsOver scene draft budget (run.Unfit at)
+StopsAt scene draft budget (run.Spent path) = StopsOver scene draft budget (run.Spent path)
+StopsAt scene draft budget run.OutOfMemory = Unit {0}
 
-abbrev pub IsLineFree : State → List ℕ → ℕ → Type 0
-IsLineFree old group count = IsGroupFree old group × (IsCrowded old.scene count → ⊥)
+abbrev pub IsNoConflict : RunStop → Type 0
+IsNoConflict (run.Conflict by) = ⊥
+IsNoConflict (run.Unfit at) = Unit {0}
+IsNoConflict (run.Spent path) = Unit {0}
+IsNoConflict run.OutOfMemory = Unit {0}
+
+-- no draft comes to its end
+abbrev pub NoEnd : Scene → Reply → State → Type 0
+NoEnd draft reply new = ⊥
+
+-- ---- drafts
 
 -- with this tree, of which the view of this number is new
 abbrev pub view_draft : Scene → ViewTree → ℕ → Scene
@@ -48,19 +77,73 @@ view_draft old tree id = record old {
   tree = tree;
   held = old.held ++ OfView old.next_row id ∷ [];
   next_row = old.next_row + 2;
-  stays = stays_at (old.values ++ new_values id);
+  stays = moved old.stays old.values ++ new_stays id;
 }
 
 abbrev pub metrics_draft : Scene → MetricList → Scene
-metrics_draft old metrics = record old { metrics = metrics; stays = stays_at old.values }
+metrics_draft old metrics = record old { metrics = metrics; stays = moved old.stays old.values }
 
--- the step with a line that is compiled
-abbrev pub AddStep : State → List ℕ → CompiledLine → Reply → State → Type 0
-AddStep old group line = UnlessFull old group (Unless (IsCrowded old.scene (length line.rows)) (Limit word.Rows) old (Solves (with_line old.scene group line) old))
+-- ---- no cause is there
 
--- the step with a line of so many rows that stops the compiler
+-- the view may be made, and this is the tree with it
+pub record IsFreeView (old : State) (name parent : List ℕ) (new : ViewTree) (id : ℕ) : Type 0 where
+  pub above : LiveView
+  pub found : view_named old.scene.tree.views parent ≡ Some above
+  pub free : IsTaken old.scene name → ⊥
+  pub short : length name ≤ 64
+  pub room : HasAllViews old → ⊥
+  pub high : IsDeep old.scene.tree parent → ⊥
+  pub rows : IsCrowded old 2 → ⊥
+  pub tree_is : new ≡ tree.with_view old.scene.tree name above.id
+  pub id_is : id ≡ old.scene.tree.next
+
+-- the metric may be made or changed, and these are the metrics with it, and the rows for them
+pub record IsFreeMetric (old : State) (name : List ℕ) (value : Fraction) (new : MetricList) (rows : List Row) : Type 0 where
+  pub free : IsSome (view_named old.scene.tree.views name) → ⊥
+  pub short : length name ≤ 64
+  pub room : AreTooMany old.scene.metrics name → ⊥
+  pub new_is : new ≡ metrics_with old.scene.metrics name value
+  pub are_rows : AreDraftRows (metrics_draft old.scene new) rows
+  pub near : AreNear old.scene.rows rows
+
+-- ---- lines of groups
+
+-- the limits of groups that a further line may pass
+abbrev pub UnlessFull : State → List ℕ → (Reply → State → Type 0) → Reply → State → Type 0
+UnlessFull old group F =
+    Unless (64 < length group) (Limit word.Name) old (Unless (HasAllLines old) (Limit word.Lines) old F)
+
+-- the first of these limits that it passes, and that it passes none
+abbrev pub IsGroupLimit : State → List ℕ → LimitWord → Type 0
+IsGroupLimit old group limit = UnlessFull old group (λ reply new. ⊥) (Limit limit) old
+
+abbrev pub IsGroupFree : State → List ℕ → Type 0
+IsGroupFree old group = (64 < length group → ⊥) × (HasAllLines old → ⊥)
+
+-- the same with the limit of rows
+abbrev pub IsLineLimit : State → List ℕ → ℕ → LimitWord → Type 0
+IsLineLimit old group count limit =
+    UnlessFull old group (Unless (IsCrowded old count) (Limit word.Rows) old (λ reply new. ⊥)) (Limit limit) old
+
+abbrev pub IsLineFree : State → List ℕ → ℕ → Type 0
+IsLineFree old group count = IsGroupFree old group × (IsCrowded old count → ⊥)
+
+-- the line of this group, whose name is kept, has these rows, for which there is room
+pub record IsFreeLine (old : State) (group kept : List ℕ) (line : CompiledLine) (rows : List Row) : Type 0 where
+  pub name : kept ≡ group
+  pub are_rows : AreRowsNow old.scene.metrics line.rows rows
+  pub next : IsNextLine old.scene.tree.views old.scene.next_row line
+  pub free : IsLineFree old group (length line.rows)
+
+-- a line of so many rows that stops the compiler
 abbrev pub StopStep : State → List ℕ → ℕ → CompileStop → Reply → State → Type 0
 StopStep old group count (stop.Unknown name) = Keeps (Unknown name) old
 StopStep old group count (stop.Kind wrong) = UnlessFull old group (Keeps (Kind wrong) old)
-StopStep old group count (stop.Limit limit) = UnlessFull old group (Unless (IsCrowded old.scene count) (Limit word.Rows) old (Keeps (Limit limit) old))
+StopStep old group count (stop.Limit limit) =
+    UnlessFull old group (Unless (IsCrowded old count) (Limit word.Rows) old (Keeps (Limit limit) old))
 StopStep old group count stop.OutOfMemory = λ reply new. ⊥
+
+-- a line whose rows have no room
+abbrev pub AddStop : State → List ℕ → CompiledLine → Reply → State → Type 0
+AddStop old group line =
+    UnlessFull old group (Unless (IsCrowded old (length line.rows)) (Limit word.Rows) old (λ reply new. ⊥))

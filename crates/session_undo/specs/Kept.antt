@@ -1,31 +1,49 @@
--- What a session keeps.
-use Rattle.std.specs.Prelude.{⊤, ℕ, ◌^◌, ◌<◌, List, All, Option, Some, None}
+-- What a scene keeps, and of which parts it is made.
+use Rattle.std.specs.Prelude.{⊤, ℕ, ◌^◌, ◌<◌, ◌≤◌, List, [], map, All, Option, Some, None}
 use Rattle.name_tables.specs.declared.stops.LimitWord.TheVariants as limit
-use Rattle.problem_core.specs.Layout.{Row}
 use Rattle.constraint_compile.specs.Meaning.{MetricList}
-use Rattle.constraint_compile.specs.Compiled.{AreSmallForms}
 use Rattle.constraint_compile.specs.declared.stops.CompileStop.{CompileStop}
 use Rattle.constraint_compile.specs.declared.stops.CompileStop.TheVariants.{Unknown, Kind, Limit, OutOfMemory}
-use Rattle.session_undo.specs.declared.window.WindowSize.{WindowSize}
-use Rattle.session_undo.specs.declared.item.Item.{Item}
-use Rattle.session_undo.specs.declared.item.Item.TheVariants.{OfWindow, OfView, Sized, OfLine}
 use Rattle.view_tree.specs.Views.{ViewTree}
 use Rattle.layout_engine.specs.Layouts.{Layout}
-use Rattle.session_undo.specs.Scene.{AreRows, State}
+use Rattle.session_undo.specs.declared.item.Item as declared
+use Rattle.session_undo.specs.declared.item.WindowSize.{WindowSize}
+use Rattle.session_undo.specs.declared.item.Item.TheVariants as kind
+use Rattle.session_undo.specs.declared.limits.Limits as declared_limits
+use Rattle.session_undo.specs.Items.{Item, OfWindow, OfView, Sized, OfLine, AreRows, IsSmallItem, sized}
+use Rattle.session_undo.specs.Scene.{Scene, Limits, State, problem_of}
+use Rattle.session_undo.specs.Attributes.{IsCounted}
+
+-- ---- items
+
+abbrev pub item_of : declared.Item → Item
+item_of kind.OfWindow = OfWindow
+item_of (kind.OfView first id) = OfView first id
+item_of (kind.Sized first width height) = Sized first width height
+item_of (kind.OfLine group line) = OfLine group line
+
+abbrev pub items_of : List declared.Item → List Item
+items_of items = map item_of items
 
 -- the numbers of its rows and of its attributes are above 0 and at most 2^31
 abbrev pub IsItem : Item → Type 0
 IsItem OfWindow = Unit {0}
 IsItem (OfView first id) = ((0 < first) × (first < 2 ^ 31)) × (id < 2 ^ 29)
-IsItem (Sized first) = (0 < first) × (first < 2 ^ 31)
+IsItem (Sized first width height) = (0 < first) × (first < 2 ^ 31)
 IsItem (OfLine group line) = Unit {0}
 
--- after each term of each row its constant is small
-abbrev pub IsSmallItem : MetricList → Item → Type 0
-IsSmallItem metrics OfWindow = Unit {0}
-IsSmallItem metrics (OfView first id) = Unit {0}
-IsSmallItem metrics (Sized first) = Unit {0}
-IsSmallItem metrics (OfLine group line) = AreSmallForms metrics line.rows
+-- the constants of a size, which are others where they are to be
+abbrev pub size_or : WindowSize → Option WindowSize → WindowSize
+size_or size None = size
+size_or size (Some other) = other
+
+-- an item, with another size where there is to be one
+abbrev pub changed : Option WindowSize → Item → Item
+changed None item = item
+changed (Some size) item = sized size.width size.height item
+
+abbrev pub all_changed : Option WindowSize → List Item → List Item
+all_changed other held = map (changed other) held
 
 -- why an item has no rows: a constant isn't small
 abbrev pub MayLackItemRows : MetricList → Item → CompileStop → Type 0
@@ -43,28 +61,35 @@ MayLackRows metrics items OutOfMemory = ⊤
 MayLackRows metrics items (Unknown name) = ⊥
 MayLackRows metrics items (Kind word) = ⊥
 
--- the session of these parts
-abbrev pub state_at : ViewTree → MetricList → Option WindowSize → List Item → ℕ → Layout → ℕ → State
-state_at tree metrics size held next_row layout budget = record {
-  scene = record { tree = tree; metrics = metrics; size = size; held = held; next_row = next_row; rows = layout.problem.rows; stays = layout.problem.stays; values = layout.values };
-  budget = budget;
+-- ---- scenes
+
+-- the scene of these parts
+abbrev pub scene_at : ViewTree → MetricList → List Item → ℕ → Layout → Scene
+scene_at tree metrics held next_row layout = record {
+  tree = tree;
+  metrics = metrics;
+  held = held;
+  next_row = next_row;
+  rows = layout.problem.rows;
+  stays = layout.problem.stays;
+  values = layout.values;
 }
 
--- it is no item of a size
-abbrev pub IsUnsized : Item → Type 0
-IsUnsized OfWindow = Unit {0}
-IsUnsized (OfView first id) = Unit {0}
-IsUnsized (Sized first) = ⊥
-IsUnsized (OfLine group line) = Unit {0}
+-- the rows are those of what is held
+pub record IsKept (scene : Scene) : Type 0 where
+  pub are_rows : AreRows scene.metrics scene.held scene.rows
+  pub each : All IsItem scene.held
+  pub next : 0 < scene.next_row
+  pub counted : IsCounted scene.tree.views scene.next_row (problem_of scene)
 
--- a window without constants has no item of a size
-abbrev pub AreOfSize : Option WindowSize → List Item → Type 0
-AreOfSize None items = All IsUnsized items
-AreOfSize (Some size) items = Unit {0}
+abbrev pub limits_of : declared_limits.Limits → Limits
+limits_of l = record { views = l.views; lines = l.lines; rows = l.rows; earlier = l.earlier }
 
--- the engine's rows are those of what is held
-pub record IsKept (metrics : MetricList) (size : Option WindowSize) (items : List Item) (next_row : ℕ) (rows : List Row) : Type 0 where
-  pub are_rows : AreRows metrics size items rows
-  pub each : All IsItem items
-  pub of_size : AreOfSize size items
-  pub next : 0 < next_row
+-- no more views and rows than a problem has room for
+pub record AreWithin (limits : Limits) : Type 0 where
+  pub views : limits.views ≤ 200
+  pub rows : limits.rows ≤ 2000
+
+-- the session of this scene, with none before it
+abbrev pub session_at : Scene → ℕ → declared_limits.Limits → State
+session_at scene budget limits = record { scene = scene; earlier = []; budget = budget; limits = limits_of limits }

@@ -1,19 +1,18 @@
 -- The step of a session: what a command leads to.
-use Rattle.std.specs.Prelude.{◌≡◌, ℕ, ◌+◌, ◌^◌, ◌<◌, ◌≤◌, ◌⊎◌, List, length, codes, Option, Some, None, IsSome, Bool, true, false, filter, slice_index_or}
+use Rattle.std.specs.Prelude.{◌≡◌, ℕ, ◌+◌, ◌^◌, ◌<◌, ◌≤◌, ◌⊎◌, List, [], length, codes, Option, Some, None, IsSome, false, slice_index_or, All}
 use Rattle.frac_core.specs.Fraction.{Fraction}
 use Rattle.name_tables.specs.Names.{names_of, place_of, value_of}
 use Rattle.name_tables.specs.declared.stops.LimitWord.TheVariants as word
 use Rattle.view_tree.specs.Views.{LiveView, ViewTree, IsOnLevel, view_named}
-use Rattle.view_tree.specs.Stops.{is_full}
-use Rattle.problem_core.specs.declared.parts.RowName.TheVariants.{Held}
 use Rattle.problem_core.specs.declared.stops.Quantity.{Quantity}
 use Rattle.problem_core.specs.Layout.{Row, Problem}
-use Rattle.problem_core.specs.Certificates.{IsRefutation}
 use Rattle.cert_core.specs.declared.by.By.{By}
-use Rattle.cert_core.specs.Claims.{times_of}
 use Rattle.cert_core.specs.Paths.{Path}
+use Rattle.cert_core.specs.Stops.{IsShownConflict}
 use Rattle.vfl_text.specs.Formats.{FormatMeaning}
-use Rattle.layout_engine.specs.Stops.{IsCut, IsSpent}
+use Rattle.problem_core.specs.Paths.{last_marks}
+use Rattle.layout_engine.specs.Layouts.{GivesAt, StandsAtStays}
+use Rattle.layout_engine.specs.Stops.{IsCut, IsLawful, IsSpent}
 use Rattle.script_text.specs.declared.words.Align.{Align}
 use Rattle.script_text.specs.Meaning.{Meaning, Linear}
 use Rattle.script_text.specs.Meaning as mean
@@ -26,10 +25,9 @@ use Rattle.constraint_compile.specs.FormatStops.{row_count}
 use Rattle.constraint_compile.specs.FormatRows.{IsCompiledFormat, MayStopFormat}
 use Rattle.constraint_compile.specs.declared.stops.CompileStop.{CompileStop}
 use Rattle.constraint_compile.specs.declared.stops.CompileStop.TheVariants as stop
-use Rattle.session_undo.specs.declared.item.Item.{Item}
-use Rattle.session_undo.specs.declared.item.Item.TheVariants.{OfWindow, OfView, Sized, OfLine}
-use Rattle.session_undo.specs.Scene.{Scene, State, with_view, with_metric, with_window, with_line, AreDraftRows, Becomes}
-use Rattle.session_undo.specs.Replies.{Reply, Nothing, Done, Frames, Rows, Unknown, Taken, Limit, Kind, Conflict, Overflow, Spent}
+use Rattle.session_undo.specs.Items.{IsSmallItem, line_count, has_size}
+use Rattle.session_undo.specs.Scene.{Scene, State, with_view, with_metric, with_window, with_line, problem_of, draft_problem, AreDraftRows, Becomes}
+use Rattle.session_undo.specs.Replies.{Reply, Done, Nothing, Frames, Rows, Unknown, Taken, Limit, Kind, Conflict, Overflow, Spent}
 
 -- where the fact holds, this refusal and no change; otherwise as F says
 abbrev pub Unless : Type 0 → Reply → State → (Reply → State → Type 0) → Reply → State → Type 0
@@ -37,7 +35,8 @@ Unless Fact refusal old F reply new = (Fact × (reply ≡ refusal) × (new ≡ o
 
 -- where there is such a cause, its refusal and no change; otherwise as F says
 abbrev pub UnlessAny : {A : Type 0} → (A → Type 0) → (A → Reply) → State → (Reply → State → Type 0) → Reply → State → Type 0
-UnlessAny {A = A} IsCause refusal old F reply new = ((a : A) × IsCause a × (reply ≡ refusal a) × (new ≡ old)) ⊎ (((a : A) → IsCause a → ⊥) × F reply new)
+UnlessAny {A = A} IsCause refusal old F reply new =
+    ((a : A) × IsCause a × (reply ≡ refusal a) × (new ≡ old)) ⊎ (((a : A) → IsCause a → ⊥) × F reply new)
 
 -- the reply asks for no change
 abbrev pub Keeps : Reply → State → Reply → State → Type 0
@@ -45,26 +44,48 @@ Keeps answer old reply new = (reply ≡ answer) × (new ≡ old)
 
 -- ---- solving
 
--- the command is accepted, and changes the scene to this draft with its rows and the best values
-abbrev pub Accepts : Scene → State → Reply → State → Type 0
-Accepts draft old reply new = (reply ≡ Done) × Becomes draft new.scene × (new ≡ record old { scene = new.scene })
+-- a lawful path over the problem leads from a corner at the stays' targets to one at these values, by no more
+-- exchanges than these
+pub record IsRun (p : Problem) (budget : ℕ) (path : Path) (values : List (ℕ × Fraction)) : Type 0 where
+  pub begins : StandsAtStays p path.corner
+  pub lawful : IsLawful p path
+  pub ends : GivesAt p (last_marks path.corner path.swaps) values
+  pub few : length path.swaps ≤ budget
 
--- these rows, with the draft's stays
-abbrev pub problem_of : Scene → List Row → Problem
-problem_of draft rows = record { rows = rows; stays = draft.stays }
+-- the scene is this draft with its rows and the best values, to which a path within the budget leads
+pub record IsSolved (draft : Scene) (budget : ℕ) (path : Path) (new : Scene) : Type 0 where
+  pub becomes : Becomes draft new
+  pub run : IsRun (problem_of new) budget path new.values
+
+-- the command is accepted, and the scene is this draft solved
+pub record Accepts (draft : Scene) (old : State) (reply : Reply) (new : State) : Type 0 where
+  pub done : reply ≡ Done
+  pub path : Path
+  pub solved : IsSolved draft old.budget path new.scene
+  pub kept : new ≡ record old { scene = new.scene }
 
 -- the required rows of the draft have no solution, as multipliers of them show
-abbrev pub Conflicts : Scene → State → Reply → State → Type 0
-Conflicts draft old reply new = (by : List By) × (rows : List Row) × AreDraftRows draft rows
-    × IsRefutation (problem_of draft rows) (λ id. times_of by (Held id)) × Keeps (Conflict by) old reply new
+pub record Conflicts (draft : Scene) (old : State) (reply : Reply) (new : State) : Type 0 where
+  pub by : List By
+  pub rows : List Row
+  pub are : AreDraftRows draft rows
+  pub shown : IsShownConflict (draft_problem draft rows) by
+  pub refused : Keeps (Conflict by) old reply new
 
--- a quantity doesn't fit at the end of a path over the draft's rows
+-- the rows that are there before the draft's join: those of the scene, or none where the draft holds nothing more,
+-- so that constants alone may change and all rows join anew
+abbrev pub AreBefore : Scene → Scene → List Row → Type 0
+AreBefore scene draft before = (before ≡ scene.rows) ⊎ ((before ≡ []) × (length draft.held ≡ length scene.held))
+
+-- a quantity doesn't fit at the end of a path over the draft's rows, within the budget
 pub record Overflows (draft : Scene) (old : State) (reply : Reply) (new : State) : Type 0 where
   pub path : Path
   pub quantity : Quantity
   pub rows : List Row
   pub are : AreDraftRows draft rows
-  pub cut : IsCut (problem_of draft rows) path quantity
+  pub before : List Row
+  pub known : AreBefore old.scene draft before
+  pub cut : IsCut before (draft_problem draft rows) old.budget path quantity
   pub refused : Keeps (Overflow path quantity) old reply new
 
 -- a path has just the budget's exchanges
@@ -72,16 +93,17 @@ pub record Spends (draft : Scene) (old : State) (reply : Reply) (new : State) : 
   pub path : Path
   pub rows : List Row
   pub are : AreDraftRows draft rows
-  pub spent : IsSpent (problem_of draft rows) old.budget path
+  pub spent : IsSpent (draft_problem draft rows) old.budget path
   pub refused : Keeps (Spent path) old reply new
 
 -- the draft, whose required rows have a solution, is solved, or there is no change
-abbrev pub SolvesFree : Scene → State → Reply → State → Type 0
-SolvesFree draft old reply new = Accepts draft old reply new ⊎ Overflows draft old reply new ⊎ Spends draft old reply new
+abbrev pub SolvesFree : State → Scene → Reply → State → Type 0
+SolvesFree old draft reply new =
+    Accepts draft old reply new ⊎ Overflows draft old reply new ⊎ Spends draft old reply new
 
 -- the draft is solved, or there is no change
-abbrev pub Solves : Scene → State → Reply → State → Type 0
-Solves draft old reply new = Accepts draft old reply new ⊎ Conflicts draft old reply new ⊎ Overflows draft old reply new ⊎ Spends draft old reply new
+abbrev pub Solves : State → Scene → Reply → State → Type 0
+Solves old draft reply new = Conflicts draft old reply new ⊎ SolvesFree old draft reply new
 
 -- ---- limits and names
 
@@ -89,27 +111,27 @@ Solves draft old reply new = Accepts draft old reply new ⊎ Conflicts draft old
 abbrev pub IsTaken : Scene → List ℕ → Type 0
 IsTaken scene name = IsSome (view_named scene.tree.views name) ⊎ IsSome (value_of scene.metrics name)
 
+-- there are as many views as there may be, or no number is left
+abbrev pub HasAllViews : State → Type 0
+HasAllViews s = (s.limits.views ≤ length s.scene.tree.views) ⊎ (2 ^ 29 ≤ s.scene.tree.next)
+
 -- a view in this one would be below the last level
 abbrev pub IsDeep : ViewTree → List ℕ → Type 0
-IsDeep tree parent = (above : LiveView) × (level : ℕ) × (view_named tree.views parent ≡ Some above) × IsOnLevel tree.views above.id level × (32 ≤ level)
+IsDeep tree parent =
+    (above : LiveView) × (level : ℕ) × (view_named tree.views parent ≡ Some above)
+    × IsOnLevel tree.views above.id level × (32 ≤ level)
 
 -- so many more rows would be too many, or one would have too great a number
-abbrev pub IsCrowded : Scene → ℕ → Type 0
-IsCrowded scene count = (2000 < length scene.rows + count) ⊎ (2 ^ 31 < scene.next_row + count)
+abbrev pub IsCrowded : State → ℕ → Type 0
+IsCrowded s count = (s.limits.rows < length s.scene.rows + count) ⊎ (2 ^ 31 < s.scene.next_row + count)
+
+-- there are as many lines of groups as there may be
+abbrev pub HasAllLines : State → Type 0
+HasAllLines s = s.limits.lines ≤ line_count s.scene.held
 
 -- a metric of this name would be one too many
 abbrev pub AreTooMany : MetricList → List ℕ → Type 0
 AreTooMany metrics name = (place_of (names_of metrics) name ≡ None) × (500 ≤ length metrics)
-
--- how many lines of groups are held
-abbrev pub is_line : Item → Bool
-is_line OfWindow = false
-is_line (OfView first id) = false
-is_line (Sized first) = false
-is_line (OfLine group line) = true
-
-abbrev pub line_count : List Item → ℕ
-line_count held = length (filter is_line held)
 
 -- the second constant less the first fits
 abbrev pub IsNear : Row → Row → Type 0
@@ -120,71 +142,85 @@ pub record AreNear (before after : List Row) : Type 0 where
   pub long : length after ≡ length before
   pub each : (i : ℕ) (b a : Row) → i < length before → IsNear (slice_index_or before i b) (slice_index_or after i a)
 
--- where the draft has no rows, since a constant isn't small after some term, or rows of which a constant moves too far, this
--- limit; otherwise as F says
+-- after each term each constant of what the draft holds is small
+abbrev pub AreSmall : Scene → Type 0
+AreSmall draft = All (IsSmallItem draft.metrics) draft.held
+
+-- the draft has these rows, and F holds
+abbrev pub WithRows : Scene → (List Row → Reply → State → Type 0) → Reply → State → Type 0
+WithRows draft F reply new = (rows : List Row) × AreDraftRows draft rows × F rows reply new
+
+-- where a constant isn't small after some term, or moves too far, this limit; otherwise as F says
 abbrev pub UnlessFar : State → Scene → (Reply → State → Type 0) → Reply → State → Type 0
-UnlessFar old draft F reply new =
-    (((rows : List Row) → AreDraftRows draft rows → ⊥) × (reply ≡ Limit word.Constant) × (new ≡ old))
-    ⊎ ((rows : List Row) × AreDraftRows draft rows × Unless (AreNear old.scene.rows rows → ⊥) (Limit word.Constant) old F reply new)
+UnlessFar old draft F =
+    Unless (AreSmall draft → ⊥) (Limit word.Constant) old
+    (WithRows draft (λ rows. Unless (AreNear old.scene.rows rows → ⊥) (Limit word.Constant) old F))
 
 -- where no view is named, the window is meant
 abbrev pub parent_name : Option (List ℕ) → List ℕ
 parent_name None = codes "window"
 parent_name (Some name) = name
 
+-- ---- The causes against each command, in the order in which they are tried. Where none of them is there, `End` says
+-- what comes of the draft.
+
 -- ---- views, metrics, the window
 
--- a new view changes no row that is held, so it is in no conflict
-abbrev pub AddsView : State → List ℕ → List ℕ → Reply → State → Type 0
-AddsView old name parent reply new = (above : LiveView) × (view_named old.scene.tree.views parent ≡ Some above) × SolvesFree (with_view old.scene name above.id) old reply new
+abbrev pub AddsView : State → List ℕ → List ℕ → (Scene → Reply → State → Type 0) → Reply → State → Type 0
+AddsView old name parent End reply new =
+    (above : LiveView) × (view_named old.scene.tree.views parent ≡ Some above)
+    × End (with_view old.scene name above.id) reply new
 
--- the causes against a view, in the order in which they are tried
-abbrev pub ViewStep : State → List ℕ → List ℕ → Reply → State → Type 0
-ViewStep old name parent =
+abbrev pub TriedView : State → List ℕ → List ℕ → (Scene → Reply → State → Type 0) → Reply → State → Type 0
+TriedView old name parent End =
     Unless (view_named old.scene.tree.views parent ≡ None) (Unknown parent) old
     (Unless (IsTaken old.scene name) (Taken name) old
     (Unless (64 < length name) (Limit word.Name) old
-    (Unless (is_full old.scene.tree ≡ true) (Limit word.Views) old
+    (Unless (HasAllViews old) (Limit word.Views) old
     (Unless (IsDeep old.scene.tree parent) (Limit word.Depth) old
-    (Unless (IsCrowded old.scene 2) (Limit word.Rows) old
-    (AddsView old name parent))))))
+    (Unless (IsCrowded old 2) (Limit word.Rows) old
+    (AddsView old name parent End))))))
 
-abbrev pub MetricStep : State → List ℕ → Fraction → Reply → State → Type 0
-MetricStep old name value =
+abbrev pub TriedMetric : State → List ℕ → Fraction → (Scene → Reply → State → Type 0) → Reply → State → Type 0
+TriedMetric old name value End =
     Unless (IsSome (view_named old.scene.tree.views name)) (Taken name) old
     (Unless (64 < length name) (Limit word.Name) old
     (Unless (AreTooMany old.scene.metrics name) (Limit word.Metrics) old
     (UnlessFar old (with_metric old.scene name value)
-    (Solves (with_metric old.scene name value) old))))
+    (End (with_metric old.scene name value)))))
 
-abbrev pub WindowStep : State → Fraction → Fraction → Reply → State → Type 0
-WindowStep old width height =
-    Unless ((old.scene.size ≡ None) × IsCrowded old.scene 2) (Limit word.Rows) old
-    (Solves (with_window old.scene width height) old)
+abbrev pub TriedWindow : State → Fraction → Fraction → (Scene → Reply → State → Type 0) → Reply → State → Type 0
+TriedWindow old width height End =
+    Unless ((has_size old.scene.held ≡ false) × IsCrowded old 2) (Limit word.Rows) old
+    (End (with_window old.scene width height))
 
 -- ---- lines of groups
 
-abbrev pub AddsLine : State → List ℕ → (CompiledLine → Type 0) → Reply → State → Type 0
-AddsLine old group Is reply new = (line : CompiledLine) × Is line × Solves (with_line old.scene group line) old reply new
+abbrev pub AddsLine : State → List ℕ → (CompiledLine → Type 0) → (Scene → Reply → State → Type 0) → Reply → State → Type 0
+AddsLine old group Is End reply new =
+    (line : CompiledLine) × Is line × End (with_line old.scene group line) reply new
 
--- The causes against a line of so many rows, in the order in which they are tried. It may stop the compiler so, and is so compiled.
-abbrev pub LineStep : State → List ℕ → ℕ → (CompileStop → Type 0) → (CompiledLine → Type 0) → Reply → State → Type 0
-LineStep old group count May Is =
+-- a line of so many rows, which may stop the compiler so, and is so compiled
+abbrev pub TriedLine : State → List ℕ → ℕ → (CompileStop → Type 0) → (CompiledLine → Type 0) → (Scene → Reply → State → Type 0) → Reply → State → Type 0
+TriedLine old group count May Is End =
     UnlessAny (λ name. May (stop.Unknown name)) Unknown old
     (Unless (64 < length group) (Limit word.Name) old
-    (Unless (2000 ≤ line_count old.scene.held) (Limit word.Lines) old
+    (Unless (HasAllLines old) (Limit word.Lines) old
     (UnlessAny (λ wrong. May (stop.Kind wrong)) Kind old
-    (Unless (IsCrowded old.scene count) (Limit word.Rows) old
+    (Unless (IsCrowded old count) (Limit word.Rows) old
     (UnlessAny (λ limit. May (stop.Limit limit)) Limit old
-    (AddsLine old group Is))))))
+    (AddsLine old group Is End))))))
 
-abbrev pub ConstrainStep : State → List ℕ → Linear → Reply → State → Type 0
-ConstrainStep old group line =
-    LineStep old group 1 (MayStop old.scene.tree.views old.scene.metrics line old.scene.next_row) (IsCompiled old.scene.tree.views old.scene.metrics line old.scene.next_row)
+abbrev pub TriedConstraint : State → List ℕ → Linear → (Scene → Reply → State → Type 0) → Reply → State → Type 0
+TriedConstraint old group line =
+    TriedLine old group 1
+    (MayStop old.scene.tree.views old.scene.metrics line old.scene.next_row)
+    (IsCompiled old.scene.tree.views old.scene.metrics line old.scene.next_row)
 
-abbrev pub FormatStep : State → List ℕ → Option Align → FormatMeaning → Reply → State → Type 0
-FormatStep old group align format =
-    LineStep old group (row_count old.scene.tree.views (parts format align)) (MayStopFormat old.scene.tree.views old.scene.metrics format align old.scene.next_row)
+abbrev pub TriedFormat : State → List ℕ → Option Align → FormatMeaning → (Scene → Reply → State → Type 0) → Reply → State → Type 0
+TriedFormat old group align format =
+    TriedLine old group (row_count old.scene.tree.views (parts format align))
+    (MayStopFormat old.scene.tree.views old.scene.metrics format align old.scene.next_row)
     (IsCompiledFormat old.scene.tree.views old.scene.metrics format align old.scene.next_row)
 
 -- ---- commands
@@ -194,14 +230,30 @@ BudgetStep old exchanges =
     Unless ((exchanges ≡ 0) ⊎ (10 ^ 18 < exchanges)) (Limit word.Budget) old
     (λ reply new. (reply ≡ Done) × (new ≡ record old { budget = exchanges }))
 
+-- a command that has a draft has no cause against it and ends so; one that has none does what it says
+abbrev pub Tried : State → Meaning → (Scene → Reply → State → Type 0) → Reply → State → Type 0
+Tried old mean.Nothing End = Keeps Nothing old
+Tried old (mean.View name parent) End = TriedView old name (parent_name parent) End
+Tried old (mean.Metric name value) End = TriedMetric old name value End
+Tried old (mean.Window width height) End = TriedWindow old width height End
+Tried old (mean.Constrain group line) End = TriedConstraint old group line End
+Tried old (mean.Vfl group align format) End = TriedFormat old group align format End
+Tried old (mean.Budget exchanges) End = BudgetStep old exchanges
+Tried old mean.Frames End = Keeps Frames old
+Tried old mean.Rows End = Keeps Rows old
+
+-- a draft is solved; that of a new view, which changes no row that is held, is in no conflict
+abbrev pub Ends : State → Meaning → Scene → Reply → State → Type 0
+Ends old (mean.View name parent) = SolvesFree old
+Ends old mean.Nothing = Solves old
+Ends old (mean.Metric name value) = Solves old
+Ends old (mean.Window width height) = Solves old
+Ends old (mean.Constrain group line) = Solves old
+Ends old (mean.Vfl group align format) = Solves old
+Ends old (mean.Budget exchanges) = Solves old
+Ends old mean.Frames = Solves old
+Ends old mean.Rows = Solves old
+
 -- what a line that says this leads to
 abbrev pub MeaningStep : State → Meaning → Reply → State → Type 0
-MeaningStep old mean.Nothing reply new = Keeps Nothing old reply new
-MeaningStep old (mean.View name parent) reply new = ViewStep old name (parent_name parent) reply new
-MeaningStep old (mean.Metric name value) reply new = MetricStep old name value reply new
-MeaningStep old (mean.Window width height) reply new = WindowStep old width height reply new
-MeaningStep old (mean.Constrain group line) reply new = ConstrainStep old group line reply new
-MeaningStep old (mean.Vfl group align format) reply new = FormatStep old group align format reply new
-MeaningStep old (mean.Budget exchanges) reply new = BudgetStep old exchanges reply new
-MeaningStep old mean.Frames reply new = Keeps Frames old reply new
-MeaningStep old mean.Rows reply new = Keeps Rows old reply new
+MeaningStep old m = Tried old m (Ends old m)

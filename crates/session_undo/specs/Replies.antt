@@ -1,5 +1,7 @@
 -- Replies to the lines of a script.
 use Rattle.std.specs.Prelude.{ℕ, Bool, true, false, List, ⊤}
+use Rattle.std.specs.declared.result.Result.{Result}
+use Rattle.std.specs.declared.result.Result.TheVariants.{Ok, Err}
 use Rattle.problem_core.specs.declared.stops.Quantity.{Quantity}
 use Rattle.name_tables.specs.declared.stops.LimitWord.{LimitWord}
 use Rattle.constraint_compile.specs.declared.stops.KindWord.{KindWord}
@@ -71,3 +73,16 @@ IsTold F (refusal.Conflict by) = F (Conflict by)
 IsTold F (refusal.Overflow at) = F (Overflow at.path at.quantity)
 IsTold F (refusal.Spent path) = F (Spent path)
 IsTold F refusal.OutOfMemory = ⊥
+
+-- F holds of the reply that is told of what a command led to; none is told of want of memory
+abbrev pub Tells : (Reply → Type 0) → Result answer.Reply Refusal → Type 0
+Tells F (Ok reply) = F (accepted reply)
+Tells F (Err refusal) = IsTold F refusal
+
+-- the command has made a change
+abbrev pub IsChange : Result answer.Reply Refusal → Type 0
+IsChange (Ok good.Silent) = ⊥
+IsChange (Ok good.Done) = ⊤
+IsChange (Ok good.Frames) = ⊥
+IsChange (Ok good.Rows) = ⊥
+IsChange (Err refusal) = ⊥

@@ -1,74 +1,60 @@
 -- The scene: what a script has said so far, the rows that this stands for, and the values that it has led to.
-use Rattle.std.specs.Prelude.{◌≡◌, ℕ, ◌+◌, ◌*◌, List, [], ◌∷◌, ◌++◌, length, cond, is_some, Option, Some, None}
+use Rattle.std.specs.Prelude.{◌≡◌, ℕ, ◌+◌, ◌*◌, Bool, true, false, List, [], ◌∷◌, ◌++◌, length, cond, is_some, map, All}
 use Rattle.frac_core.specs.Fraction.{Fraction}
 use Rattle.name_tables.specs.Names.{names_of, place_of, with_value}
-use Rattle.problem_core.specs.declared.parts.Rel.TheVariants.{Eq, Ge}
 use Rattle.problem_core.specs.declared.parts.Stay.{Stay}
+use Rattle.problem_core.specs.Gaps.{value_of}
 use Rattle.problem_core.specs.Layout.{Row, Problem}
-use Rattle.problem_core.specs.Window.{required_row, structural_rows, zero_fraction}
+use Rattle.problem_core.specs.Window.{structural_rows, zero_fraction}
 use Rattle.view_tree.specs.Views.{ViewTree, window}
 use Rattle.view_tree.specs.Views as tree
 use Rattle.constraint_compile.specs.Meaning.{MetricList}
-use Rattle.constraint_compile.specs.Compiled.{CompiledLine, AreRowsNow}
+use Rattle.constraint_compile.specs.Compiled.{CompiledLine}
 use Rattle.layout_engine.specs.Layouts.{AreBest, stays_at}
-use Rattle.session_undo.specs.declared.window.WindowSize.{WindowSize}
-use Rattle.session_undo.specs.declared.item.Item.{Item}
-use Rattle.session_undo.specs.declared.item.Item.TheVariants.{OfWindow, OfView, Sized, OfLine}
+use Rattle.session_undo.specs.Items.{Item, OfWindow, OfView, Sized, OfLine, AreRows, has_size, resized}
 
--- the views, the metrics in order of definition, the window's constants where it has them, what is held in order of acceptance,
--- the number that the next row takes, the rows by rising number, the stays, and the values by their attributes' numbers
+-- the views, the metrics in order of definition, what is held in order of acceptance, the number that the next row
+-- takes, the rows by rising number, the stays, and the values by their attributes' numbers
 pub record Scene : Type 0 where
   pub tree : ViewTree
   pub metrics : MetricList
-  pub size : Option WindowSize
   pub held : List Item
   pub next_row : ℕ
   pub rows : List Row
   pub stays : List Stay
   pub values : List (ℕ × Fraction)
 
--- a scene, and how many exchanges each run may make
+-- how many views, lines of groups, rows and earlier scenes there may be
+pub record Limits : Type 0 where
+  pub views : ℕ
+  pub lines : ℕ
+  pub rows : ℕ
+  pub earlier : ℕ
+
+-- the scene, those before it, the latest first, how many exchanges each run may make, and the limits
 pub record State : Type 0 where
   pub scene : Scene
+  pub earlier : List Scene
   pub budget : ℕ
+  pub limits : Limits
 
 abbrev pub problem_of : Scene → Problem
 problem_of scene = record { rows = scene.rows; stays = scene.stays }
 
--- ---- the rows of what is held
-
-abbrev pub width_of : Option WindowSize → Fraction
-width_of None = zero_fraction
-width_of (Some size) = size.width
-
-abbrev pub height_of : Option WindowSize → Fraction
-height_of None = zero_fraction
-height_of (Some size) = size.height
-
--- the view v has the attributes 4v + 1 to 4v + 4: left, top, width and height
-abbrev pub view_rows : ℕ → ℕ → List Row
-view_rows first id = required_row first (4 * id + 3) Ge zero_fraction ∷ required_row (first + 1) (4 * id + 4) Ge zero_fraction ∷ []
-
-abbrev pub size_rows : ℕ → Option WindowSize → List Row
-size_rows first size = required_row first 3 Eq (width_of size) ∷ required_row (first + 1) 4 Eq (height_of size) ∷ []
-
--- the rows of an item, for these metrics and this size
-abbrev pub AreItemRows : MetricList → Option WindowSize → Item → List Row → Type 0
-AreItemRows metrics size OfWindow rows = rows ≡ structural_rows
-AreItemRows metrics size (OfView first id) rows = rows ≡ view_rows first id
-AreItemRows metrics size (Sized first) rows = rows ≡ size_rows first size
-AreItemRows metrics size (OfLine group line) rows = AreRowsNow metrics line.rows rows
-
--- the rows of some items, one item's after the other's
-abbrev pub AreRows : MetricList → Option WindowSize → List Item → List Row → Type 0
-AreRows metrics size [] rows = rows ≡ []
-AreRows metrics size (item ∷ more) rows = (front : List Row) × (back : List Row) × (rows ≡ front ++ back) × AreItemRows metrics size item front × AreRows metrics size more back
-
 -- ---- changes
+
+-- stays of the same attributes, at their values
+abbrev pub moved : List Stay → List (ℕ × Fraction) → List Stay
+moved stays values = map (λ s. record { attr = s.attr; target = value_of values s.attr }) stays
 
 -- the four attributes of a view, at 0
 abbrev pub new_values : ℕ → List (ℕ × Fraction)
-new_values id = (4 * id + 1, zero_fraction) ∷ (4 * id + 2, zero_fraction) ∷ (4 * id + 3, zero_fraction) ∷ (4 * id + 4, zero_fraction) ∷ []
+new_values id =
+    (4 * id + 1, zero_fraction) ∷ (4 * id + 2, zero_fraction) ∷ (4 * id + 3, zero_fraction)
+    ∷ (4 * id + 4, zero_fraction) ∷ []
+
+abbrev pub new_stays : ℕ → List Stay
+new_stays id = stays_at (new_values id)
 
 -- In each draft that follows the stays have moved to the values before. Its rows and values are still those before.
 
@@ -78,31 +64,32 @@ with_view old name parent = record old {
   tree = tree.with_view old.tree name parent;
   held = old.held ++ OfView old.next_row old.tree.next ∷ [];
   next_row = old.next_row + 2;
-  stays = stays_at (old.values ++ new_values old.tree.next);
+  stays = moved old.stays old.values ++ new_stays old.tree.next;
 }
 
 -- the metrics, of which the one of this name has this value
 abbrev pub metrics_with : MetricList → List ℕ → Fraction → MetricList
-metrics_with metrics name value = cond (is_some (place_of (names_of metrics) name)) (with_value metrics name value) (metrics ++ (name, value) ∷ [])
+metrics_with metrics name value =
+    cond (is_some (place_of (names_of metrics) name)) (with_value metrics name value) (metrics ++ (name, value) ∷ [])
 
 abbrev pub with_metric : Scene → List ℕ → Fraction → Scene
-with_metric old name value = record old { metrics = metrics_with old.metrics name value; stays = stays_at old.values }
+with_metric old name value =
+    record old { metrics = metrics_with old.metrics name value; stays = moved old.stays old.values }
 
--- a window without constants takes two rows
-abbrev pub held_with_window : Option WindowSize → ℕ → List Item → List Item
-held_with_window None n held = held ++ Sized n ∷ []
-held_with_window (Some size) n held = held
+-- a window without a size takes two rows; else its size alone is another
+abbrev pub held_with_size : Bool → ℕ → Fraction → Fraction → List Item → List Item
+held_with_size false n width height held = held ++ Sized n width height ∷ []
+held_with_size true n width height held = resized width height held
 
-abbrev pub next_with_window : Option WindowSize → ℕ → ℕ
-next_with_window None n = n + 2
-next_with_window (Some size) n = n
+abbrev pub next_with_size : Bool → ℕ → ℕ
+next_with_size false n = n + 2
+next_with_size true n = n
 
 abbrev pub with_window : Scene → Fraction → Fraction → Scene
 with_window old width height = record old {
-  size = Some (record { width = width; height = height });
-  held = held_with_window old.size old.next_row old.held;
-  next_row = next_with_window old.size old.next_row;
-  stays = stays_at old.values;
+  held = held_with_size (has_size old.held) old.next_row width height old.held;
+  next_row = next_with_size (has_size old.held) old.next_row;
+  stays = moved old.stays old.values;
 }
 
 -- with a line of a group more
@@ -110,12 +97,15 @@ abbrev pub with_line : Scene → List ℕ → CompiledLine → Scene
 with_line old group line = record old {
   held = old.held ++ OfLine group line ∷ [];
   next_row = old.next_row + length line.rows;
-  stays = stays_at old.values;
+  stays = moved old.stays old.values;
 }
 
--- the rows that a draft stands for
+-- the rows that a draft stands for, and the problem of these rows
 abbrev pub AreDraftRows : Scene → List Row → Type 0
-AreDraftRows draft rows = AreRows draft.metrics draft.size draft.held rows
+AreDraftRows draft rows = AreRows draft.metrics draft.held rows
+
+abbrev pub draft_problem : Scene → List Row → Problem
+draft_problem draft rows = record { rows = rows; stays = draft.stays }
 
 -- all but the rows and the values is as drafted, the rows are those of what is held, and the values are the best
 pub record Becomes (draft new : Scene) : Type 0 where
@@ -123,20 +113,30 @@ pub record Becomes (draft new : Scene) : Type 0 where
   pub rows : AreDraftRows draft new.rows
   pub best : AreBest (problem_of new) new.values
 
+-- the values are the best for the rows and stays
+abbrev pub IsBestScene : Scene → Type 0
+IsBestScene scene = AreBest (problem_of scene) scene.values
+
+-- so are those of the scene, and of all that are kept
+abbrev pub IsBestState : State → Type 0
+IsBestState s = IsBestScene s.scene × All IsBestScene s.earlier
+
 -- ---- the first scene
 
--- the window alone, with its four rows, no constants, and every value 0
+-- the window alone, with its four rows, no size, and every value 0
 abbrev pub first_scene : Scene
 first_scene = record {
   tree = record { views = window ∷ []; next = 1 };
   metrics = [];
-  size = None;
   held = OfWindow ∷ [];
   next_row = 5;
   rows = structural_rows;
-  stays = stays_at (new_values 0);
+  stays = new_stays 0;
   values = new_values 0;
 }
 
+abbrev pub first_limits : Limits
+first_limits = record { views = 200; lines = 2000; rows = 2000; earlier = 32 }
+
 abbrev pub first_state : State
-first_state = record { scene = first_scene; budget = 100000 }
+first_state = record { scene = first_scene; earlier = []; budget = 100000; limits = first_limits }

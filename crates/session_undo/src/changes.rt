@@ -1,10 +1,9 @@
 // Parts of the changes of a session.
 ghost use Rattle.std.specs.Prelude.{◌≡◌, true, false, IfOk, OnErr};
-ghost use Rattle.session_undo.specs.Machine.{AreTooMany, AreNear, IsNear, line_count, parent_name};
+ghost use Rattle.session_undo.specs.Machine.{AreTooMany, AreNear, IsNear, parent_name};
 ghost use Rattle.script_text.specs.View.{name_view};
 ghost use Rattle.session_undo.specs.Scene.{metrics_with};
 
-use crate::item::Item;
 use frac_core::{Frac, OutOfMemory};
 use name_tables::{Metrics, NameStop};
 use problem_core::Row;
@@ -52,16 +51,6 @@ pub fn are_near(before: &[Row], after: &[Row]) -> bool
         }
     }
     true
-}
-
-/// How many of the items are lines of groups.
-pub fn line_count(items: &[Item]) -> usize
-    ensures { result ≡ line_count items.now }
-{
-    items
-        .iter()
-        .filter(|item| matches!(item, Item::OfLine { .. }))
-        .count()
 }
 
 /// The name of the view that a new one is to stand in: the window where none is named.

@@ -1,5 +1,10 @@
 // What is held, apart from its rows.
+ghost use Rattle.std.specs.Prelude.{◌≡◌};
+ghost use Rattle.session_undo.specs.Items.{is_line, is_size, line_count, has_size, sized, resized};
+ghost use Rattle.session_undo.specs.Kept.{item_of, items_of};
+
 use constraint_compile::Compiled;
+use frac_core::Frac;
 use name_tables::OwnedName;
 
 /// What a session holds rows for. A view is named by its number, the window's being 0.
@@ -8,9 +13,85 @@ pub enum Item {
     /// The window: its left and top are 0, its width and height at least 0.
     OfWindow,
     /// A view: its width and height are at least 0. Its two rows have the numbers from `first` on.
-    OfView { first: u32, id: u32 },
-    /// The window's size: its width and height are as given. Its two rows have the numbers from `first` on.
-    Sized { first: u32 },
+    OfView {
+        first: u32,
+        id: u32,
+    },
+    /// The window's size. Its two rows have the numbers from `first` on.
+    Sized {
+        first: u32,
+        width: Frac,
+        height: Frac,
+    },
     /// A line of a group.
-    OfLine { group: OwnedName, line: Compiled },
+    OfLine {
+        group: OwnedName,
+        line: Compiled,
+    },
+}
+
+/// The constants of the window's rows.
+#[derive(Clone, Copy, Debug, PartialEq, Eq)]
+pub struct WindowSize {
+    pub width: Frac,
+    pub height: Frac,
+}
+
+fn is_line(item: &Item) -> bool
+    ensures { result ≡ is_line (item_of item.now) }
+{
+    matches!(item, Item::OfLine { .. })
+}
+
+fn is_size(item: &Item) -> bool
+    ensures { result ≡ is_size (item_of item.now) }
+{
+    matches!(item, Item::Sized { .. })
+}
+
+/// How many of the items are lines of groups.
+pub fn line_count(items: &[Item]) -> usize
+    ensures { result ≡ line_count (items_of items.now) }
+{
+    let mut count = 0;
+    for item in items {
+        if is_line(item) {
+            count += 1;
+        }
+    }
+    count
+}
+
+/// Whether the window's size is held.
+pub fn has_size(items: &[Item]) -> bool
+    ensures { result ≡ has_size (items_of items.now) }
+{
+    for item in items {
+        if is_size(item) {
+            return true;
+        }
+    }
+    false
+}
+
+// Gives the item these constants, where it is the window's size.
+fn resize(item: &mut Item, size: &WindowSize)
+    ensures { item_of item.new ≡ sized size.now.width size.now.height (item_of item.old) }
+{
+    match item {
+        Item::Sized { width, height, .. } => {
+            *width = size.width;
+            *height = size.height;
+        }
+        Item::OfWindow | Item::OfView { .. } | Item::OfLine { .. } => (),
+    }
+}
+
+/// Gives the window these constants in place of those that it has.
+pub fn resize_all(items: &mut [Item], size: &WindowSize)
+    ensures { items_of items.new ≡ resized size.now.width size.now.height (items_of items.old) }
+{
+    for place in 0..items.len() {
+        resize(&mut items[place], size);
+    }
 }

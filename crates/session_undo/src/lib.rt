@@ -6,14 +6,16 @@
 
 mod changes;
 mod item;
+mod limits;
 mod renewal;
 mod reply;
 mod rows;
+mod scene;
 mod session;
 mod showing;
-mod window;
 
-pub use item::Item;
+pub use item::{Item, WindowSize};
+pub use limits::Limits;
 pub use reply::{Refusal, Reply};
+pub use scene::Scene;
 pub use session::Session;
-pub use window::WindowSize;

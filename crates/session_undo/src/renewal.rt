@@ -1,10 +1,12 @@
 // The engine's rows, taken anew.
-ghost use Rattle.std.specs.Prelude.{◌≡◌, true, IfOk, IfErr, OnErr};
-ghost use Rattle.problem_core.specs.Kept.{IsWhole};
-ghost use Rattle.layout_engine.specs.Layouts.{with_rows};
+ghost use Rattle.std.specs.Prelude.{◌≡◌, ◌++◌, [], true, IfOk, IfErr, OnOk, OnErr};
+ghost use Rattle.problem_core.specs.Kept.{IsWhole, AreRising};
+ghost use Rattle.layout_engine.specs.Layouts.{with_added, with_rows, zeros};
 ghost use Rattle.layout_engine.specs.Stops.{IsStopOf};
+ghost use Rattle.session_undo.specs.Adding.{StopsAnew};
+ghost use Rattle.session_undo.specs.Machine.{IsRun};
 
-use cert_core::RunStop;
+use cert_core::{Path, RunStop};
 use layout_engine::Engine;
 use problem_core::{Row, Term};
 
@@ -71,33 +73,66 @@ fn are_same(a: &[Row], b: &[Row]) -> bool
     true
 }
 
-// Goes on from the kept corner with the rows that are there.
-fn run_on(engine: &mut Engine, budget: u64) -> Result<(), RunStop>
-    requires { IsWhole (with_rows engine.old engine.old.problem.rows) }
-    ensures done { IfOk result (λ _. engine.new.problem ≡ with_rows engine.old engine.old.problem.rows) }
-    ensures stop { IfErr result (IsStopOf (with_rows engine.old engine.old.problem.rows) budget) }
+/// Takes more attributes and rows, with the stays at the present values, and goes on to the best values by this path.
+pub fn take_more(
+    engine: &mut Engine,
+    attrs: &[u32],
+    rows: &[Row],
+    budget: u64,
+) -> Result<Path, RunStop>
+    requires whole { IsWhole (with_added engine.old attrs.now rows.now) }
+    requires rising { AreRising (engine.old.values ++ zeros attrs.now) }
+    ensures done { OnOk result (engine.new.problem ≡ with_added engine.old attrs.now rows.now) }
+    ensures run { IfOk result (λ path. IsRun engine.new.problem budget path engine.new.values) }
+    ensures stop { IfErr result (IsStopOf engine.old.problem.rows (with_added engine.old attrs.now rows.now) budget) }
     ensures same { OnErr result (engine.new ≡ engine.old) }
 {
-    engine.show_layout();
-    match engine.add(&[], &[], budget) {
-        Ok(_) => Ok(()),
+    match engine.add(attrs, rows, budget) {
+        Ok(path) => Ok(path),
         Err(stop) => Err(stop),
     }
 }
 
-/// Takes these rows in place of the held ones, with the stays at the present values, and goes on to the best values. Where no row
-/// changes, the path begins at the corner that was kept.
-pub fn take_rows(engine: &mut Engine, rows: &[Row], budget: u64) -> Result<(), RunStop>
+// Goes on from the kept corner with the rows that are there.
+fn run_on(engine: &mut Engine, budget: u64) -> Result<Path, RunStop>
+    requires { IsWhole (with_rows engine.old engine.old.problem.rows) }
+    ensures done { OnOk result (engine.new.problem ≡ with_rows engine.old engine.old.problem.rows) }
+    ensures run { IfOk result (λ path. IsRun engine.new.problem budget path engine.new.values) }
+    ensures stop { IfErr result (IsStopOf engine.old.problem.rows (with_rows engine.old engine.old.problem.rows) budget) }
+    ensures same { OnErr result (engine.new ≡ engine.old) }
+{
+    engine.show_layout();
+    match take_more(engine, &[], &[], budget) {
+        Ok(path) => Ok(path),
+        Err(stop) => Err(stop),
+    }
+}
+
+// Takes these rows in place of the held ones.
+fn renew(engine: &mut Engine, rows: &[Row], budget: u64) -> Result<Path, RunStop>
     requires { IsWhole (with_rows engine.old rows.now) }
-    ensures done { IfOk result (λ _. engine.new.problem ≡ with_rows engine.old rows.now) }
-    ensures stop { IfErr result (IsStopOf (with_rows engine.old rows.now) budget) }
+    ensures done { OnOk result (engine.new.problem ≡ with_rows engine.old rows.now) }
+    ensures run { IfOk result (λ path. IsRun engine.new.problem budget path engine.new.values) }
+    ensures stop { IfErr result (IsStopOf [] (with_rows engine.old rows.now) budget) }
+    ensures same { OnErr result (engine.new ≡ engine.old) }
+{
+    match engine.renew(rows, budget) {
+        Ok(path) => Ok(path),
+        Err(stop) => Err(stop),
+    }
+}
+
+/// Takes these rows in place of the held ones, with the stays at the present values, and goes on to the best values by this path.
+/// Where no row changes, it begins at the corner that was kept.
+pub fn take_rows(engine: &mut Engine, rows: &[Row], budget: u64) -> Result<Path, RunStop>
+    requires { IsWhole (with_rows engine.old rows.now) }
+    ensures done { OnOk result (engine.new.problem ≡ with_rows engine.old rows.now) }
+    ensures run { IfOk result (λ path. IsRun engine.new.problem budget path engine.new.values) }
+    ensures stop { IfErr result (StopsAnew engine.old rows.now budget) }
     ensures same { OnErr result (engine.new ≡ engine.old) }
 {
     if are_same(engine.problem().rows(), rows) {
         return run_on(engine, budget);
     }
-    match engine.renew(rows, budget) {
-        Ok(_) => Ok(()),
-        Err(stop) => Err(stop),
-    }
+    renew(engine, rows, budget)
 }

@@ -1,6 +1,6 @@
 // Replies and refusals.
 ghost use Rattle.std.specs.Prelude.{◌≡◌};
-ghost use Rattle.session_undo.specs.Adding.{refusal_of};
+ghost use Rattle.session_undo.specs.Adding.{refusal_of, answer_of};
 
 use cert_core::{Conflict, Path, RunStop, UnfitPath};
 use constraint_compile::KindWord;
@@ -9,7 +9,7 @@ use name_tables::{LimitWord, OwnedName};
 use std::alloc::AllocError;
 
 /// The reply to an accepted line.
-#[derive(Clone, Copy, Debug, PartialEq, Eq)]
+#[derive(Debug, Drop)]
 pub enum Reply {
     /// None, to a blank line or a comment.
     Silent,
@@ -66,8 +66,8 @@ impl From<AllocError> for Refusal {
     }
 }
 
-/// The refusal for what stops the engine.
-pub fn refusal_of(stop: RunStop) -> Refusal
+// The refusal for what stops the engine.
+fn refusal_of(stop: RunStop) -> Refusal
     ensures { result ≡ refusal_of stop }
 {
     match stop {
@@ -75,5 +75,15 @@ pub fn refusal_of(stop: RunStop) -> Refusal
         RunStop::Unfit(at) => Refusal::Overflow(at),
         RunStop::Spent(path) => Refusal::Spent(path),
         RunStop::OutOfMemory => Refusal::OutOfMemory,
+    }
+}
+
+/// The answer to what a run comes to.
+pub fn answer_of(end: Result<Path, RunStop>) -> Result<Reply, Refusal>
+    ensures { result ≡ answer_of end }
+{
+    match end {
+        Ok(_) => Ok(Reply::Done),
+        Err(stop) => Err(refusal_of(stop)),
     }
 }

@@ -3,12 +3,11 @@ ghost use Rattle.std.specs.Prelude.{◌≡◌, ◌++◌, ◌∷◌, ◌<◌, ◌
 ghost use Rattle.problem_core.specs.declared.parts.Rel.TheVariants as rel;
 ghost use Rattle.problem_core.specs.Kept.{IsNumber};
 ghost use Rattle.problem_core.specs.Window.{required_row, structural_rows};
-ghost use Rattle.session_undo.specs.Scene.{view_rows, size_rows, width_of, height_of, AreItemRows, AreRows};
-ghost use Rattle.session_undo.specs.Kept.{IsItem, IsSmallItem, MayLackRows, MayLackItemRows};
+ghost use Rattle.session_undo.specs.Items.{view_rows, size_rows, AreItemRows, AreRows, IsSmallItem, resized};
+ghost use Rattle.session_undo.specs.Kept.{item_of, items_of, size_or, changed, all_changed, IsItem, MayLackRows, MayLackItemRows};
 ghost use Rattle.constraint_compile.specs.Compiled.{AreRowsNow, AreSmallForms};
 
-use crate::item::Item;
-use crate::window::WindowSize;
+use crate::item::{Item, WindowSize};
 use constraint_compile::{CompileStop, Compiled};
 use frac_core::{Frac, OutOfMemory};
 use name_tables::Metrics;
@@ -67,71 +66,73 @@ pub fn view_rows(alloc: Global, first: u32, id: u32) -> Result<Vec<Row>, OutOfMe
     pair(alloc, width, height)
 }
 
-fn width_of(size: &Option<WindowSize>) -> Frac
-    ensures { result ≡ width_of size.now }
-{
-    match size {
-        Some(size) => size.width,
-        None => Frac::zero(),
-    }
-}
-
-fn height_of(size: &Option<WindowSize>) -> Frac
-    ensures { result ≡ height_of size.now }
-{
-    match size {
-        Some(size) => size.height,
-        None => Frac::zero(),
-    }
-}
-
 /// The rows of the window's size.
-pub fn size_rows(
-    alloc: Global,
-    first: u32,
-    size: &Option<WindowSize>,
-) -> Result<Vec<Row>, OutOfMemory>
+pub fn size_rows(alloc: Global, first: u32, size: &WindowSize) -> Result<Vec<Row>, OutOfMemory>
     requires first { (0 < first) × (first < 2 ^ 31) }
-    ensures { IfOk result (λ rows. rows.items ≡ size_rows first size.now) }
+    ensures { IfOk result (λ rows. rows.items ≡ size_rows first size.now.width size.now.height) }
 {
-    let width = required(alloc, first, 3, Rel::Eq, width_of(size))?;
-    let height = required(alloc, first + 1, 4, Rel::Eq, height_of(size))?;
+    let width = required(alloc, first, 3, Rel::Eq, size.width)?;
+    let height = required(alloc, first + 1, 4, Rel::Eq, size.height)?;
     pair(alloc, width, height)
 }
 
-// The rows of an item, for these metrics and this size.
+// The constants of a size, which are others where they are to be.
+fn size_or<'a>(size: &'a WindowSize, other: &'a Option<WindowSize>) -> &'a WindowSize
+    ensures { result.now ≡ size_or size.now other.now }
+{
+    match other {
+        Some(other) => other,
+        None => size,
+    }
+}
+
+// The rows of an item, for these metrics, and with this size where there is to be another.
 fn item_rows(
     alloc: Global,
     item: &Item,
     metrics: &Metrics,
-    size: &Option<WindowSize>,
+    other: &Option<WindowSize>,
 ) -> Result<Vec<Row>, CompileStop>
-    requires { IsItem item.now }
-    ensures rows { IfOk result (λ rows. AreItemRows metrics.now size.now item.now rows.items) }
-    ensures stop { IfErr result (MayLackItemRows metrics.now item.now) }
+    requires { IsItem (item_of item.now) }
+    ensures rows { IfOk result (λ rows. AreItemRows metrics.now (changed other.now (item_of item.now)) rows.items) }
+    ensures stop { IfErr result (MayLackItemRows metrics.now (item_of item.now)) }
 {
     match item {
         Item::OfWindow => Ok(window_rows(alloc)?),
         Item::OfView { first, id } => Ok(view_rows(alloc, *first, *id)?),
-        Item::Sized { first } => Ok(size_rows(alloc, *first, size)?),
+        Item::Sized {
+            first,
+            width,
+            height,
+        } => {
+            let size = WindowSize {
+                width: *width,
+                height: *height,
+            };
+            Ok(size_rows(alloc, *first, size_or(&size, other))?)
+        }
         Item::OfLine { line, .. } => line.rows_now(alloc, metrics),
     }
 }
 
-/// The rows of all items, for these metrics and this size. It stops at `Limit(Constant)` where a constant isn't small after some term.
+/// The rows of all items, for these metrics, and with this size where there is to be another. It stops at `Limit(Constant)` where
+/// a constant isn't small after some term.
 pub fn rows_of(
     alloc: Global,
     items: &[Item],
     metrics: &Metrics,
-    size: &Option<WindowSize>,
+    other: &Option<WindowSize>,
 ) -> Result<Vec<Row>, CompileStop>
-    requires { All IsItem items.now }
-    ensures rows { IfOk result (λ rows. AreRows metrics.now size.now items.now rows.items) }
-    ensures stop { IfErr result (MayLackRows metrics.now items.now) }
+    requires { All IsItem (items_of items.now) }
+    ensures rows { IfOk result (λ rows. AreRows metrics.now (all_changed other.now (items_of items.now)) rows.items) }
+    ensures stop { IfErr result (MayLackRows metrics.now (items_of items.now)) }
 {
     let mut rows = Vec::new(alloc);
     for item in items {
-        let mut more = item_rows(alloc, item, metrics, size)?;
+        let mut more = match item_rows(alloc, item, metrics, other) {
+            Ok(more) => more,
+            Err(stop) => return Err(stop),
+        };
         if rows.append(&mut more).is_err() {
             return Err(CompileStop::OutOfMemory);
         }
@@ -139,18 +140,19 @@ pub fn rows_of(
     Ok(rows)
 }
 
-/// The rows of all items, whose constants are small for these metrics after each term.
-pub fn small_rows_of(
+/// The rows of all items with this size, whose constants are small for these metrics after each term.
+pub fn resized_rows(
     alloc: Global,
     items: &[Item],
     metrics: &Metrics,
-    size: &Option<WindowSize>,
+    size: &WindowSize,
 ) -> Result<Vec<Row>, OutOfMemory>
-    requires items { All IsItem items.now }
-    requires small { All (IsSmallItem metrics.now) items.now }
-    ensures { IfOk result (λ rows. AreRows metrics.now size.now items.now rows.items) }
+    requires items { All IsItem (items_of items.now) }
+    requires small { All (IsSmallItem metrics.now) (items_of items.now) }
+    ensures { IfOk result (λ rows. AreRows metrics.now (resized size.now.width size.now.height (items_of items.now)) rows.items) }
 {
-    match rows_of(alloc, items, metrics, size) {
+    let other = Some(*size);
+    match rows_of(alloc, items, metrics, &other) {
         Ok(rows) => Ok(rows),
         Err(CompileStop::OutOfMemory) => Err(OutOfMemory),
         Err(CompileStop::Unknown(_) | CompileStop::Kind(_) | CompileStop::Limit(_)) => {

@@ -1,60 +1,48 @@
-use Rattle.std.proofs.Common.{refl, sym, subst}
-use Rattle.name_tables.specs.Names.{value_of}
-use Rattle.name_tables.specs.declared.stops.LimitWord.TheVariants as word
-use Rattle.view_tree.specs.Stops.{MayStop}
-use Rattle.view_tree.specs.declared.stops.TreeStop.TheVariants.{Unknown}
-use Rattle.session_undo.specs.Scene.{State}
-use Rattle.session_undo.specs.Replies.{Reply, Limit, accepted}
+use Rattle.std.proofs.Common.{◌+◌, ◌≤◌, ◌^◌, arith}
+use Rattle.session_undo.specs.Replies.{Reply, accepted}
 use Rattle.session_undo.specs.declared.reply.Reply as answer
-use Rattle.session_undo.specs.Machine.{SolvesFree, ViewStep}
-use Rattle.session_undo.specs.Adding.{view_draft}
-use Rattle.session_undo.specs.Kept.{state_at}
-use Rattle.session_undo.proofs.Chains.{found-live, no-value, MayBeView, view-passed, view-crowded, view-room, ok-map, err-map}
-use Rattle.view_tree.specs.Views.{ViewTree, IsTree}
-use Rattle.session_undo.specs.Attributes.{IsGrown}
+use Rattle.session_undo.specs.Machine.{TriedView, SolvesFree}
+use Rattle.session_undo.specs.Adding.{NoEnd, view_draft}
+use Rattle.session_undo.specs.Kept.{session_at}
+use Rattle.session_undo.proofs.Steps.{refuses, free-accepted, free-refused, answer-same}
+use Rattle.session_undo.proofs.Chains.{view-causes, view-passed, ok-map, err-map}
 use Rattle.session_undo.proofs.Attributes.{grown}
+use Rattle.session_undo.proofs.Additions.{room-fits, room-numbers}
 use Rattle.session_undo.proofs.session.Session.add_view.Goals as goal
 
-pub unreachable-requires : goal.unreachable-requires
-unreachable-requires c =
-    let stop : MayStop c.in_ok-tree.tree c.args.name.now c.in-Some.above.0 (Unknown c.in-Err-Unknown.field-0-0) = rw c.in-Err-Unknown.field-0-is at c.in-Err-Unknown.ensures.refused in
-    found-live c.self.inside.tree.views c.args.parent.now c.in-Some.above.0 c.in-Some.ensures (rw c.in_ok-tree.ensures at stop.1)
-
-pub returns-then-is_crowded-clause-refused : goal.returns-then-is_crowded-clause-refused
-returns-then-is_crowded-clause-refused c =
-    let inside : MayBeView (state_at c.self.inside.tree c.self.inside.metrics c.self.inside.size c.self.inside.items.items c.self.inside.next_row c.self.inside.engine c.self.inside.budget) c.args.name.now c.args.parent.now c.in_ok-tree.tree c.add.new.self c.in-Some.above.0 c.in-Ok.id.0 =
-    record { same = c.in_ok-tree.ensures; found = c.in-Some.ensures; no_metric = no-value c.get.result (value_of c.self.inside.metrics c.args.name.now) c.get.ensures c.if-is_some.ensures; fresh = c.in-Ok.ensures.new; new_is = c.in-Ok.ensures.added; id_is = c.in-Ok.ensures.id } in
-    let may : MayBeView c.args.self.now c.args.name.now c.args.parent.now c.in_ok-tree.tree c.add.new.self c.in-Some.above.0 c.in-Ok.id.0 =
-    subst (λ (s : State). MayBeView s c.args.name.now c.args.parent.now c.in_ok-tree.tree c.add.new.self c.in-Some.above.0 c.in-Ok.id.0) c.self.view_is inside in
-    view-passed c.args.self.now c.args.name.now c.args.parent.now c.in_ok-tree.tree c.add.new.self c.in-Some.above.0 c.in-Ok.id.0 may (Limit word.Rows) c.args.self.now
-    (view-crowded c.args.self.now c.args.name.now c.args.parent.now (c.if-is_crowded.ensures.yes refl))
+pub returns-in-Err-clause-refused : goal.returns-in-Err-clause-refused
+returns-in-Err-clause-refused c =
+    refuses (λ (reply : Reply). TriedView c.args.self.now c.args.name.now c.args.parent.now NoEnd reply c.args.self.now) (λ (reply : Reply). TriedView c.args.self.now c.args.name.now c.args.parent.now (SolvesFree c.args.self.now) reply c.args.self.now)
+    c.in-Err.refusal (λ reply h. view-causes c.args.self.now c.args.name.now c.args.parent.now (SolvesFree c.args.self.now) reply c.args.self.now h) c.in-Err.ensures.refused
 
 pub returns-clause-accepted : goal.returns-clause-accepted
 returns-clause-accepted c =
-    let inside : MayBeView (state_at c.self.inside.tree c.self.inside.metrics c.self.inside.size c.self.inside.items.items c.self.inside.next_row c.self.inside.engine c.self.inside.budget) c.args.name.now c.args.parent.now c.in_ok-tree.tree c.add.new.self c.in-Some.above.0 c.in-Ok.id.0 =
-    record { same = c.in_ok-tree.ensures; found = c.in-Some.ensures; no_metric = no-value c.get.result (value_of c.self.inside.metrics c.args.name.now) c.get.ensures c.if-is_some.ensures; fresh = c.in-Ok.ensures.new; new_is = c.in-Ok.ensures.added; id_is = c.in-Ok.ensures.id } in
-    let may : MayBeView c.args.self.now c.args.name.now c.args.parent.now c.in_ok-tree.tree c.add.new.self c.in-Some.above.0 c.in-Ok.id.0 =
-    subst (λ (s : State). MayBeView s c.args.name.now c.args.parent.now c.in_ok-tree.tree c.add.new.self c.in-Some.above.0 c.in-Ok.id.0) c.self.view_is inside in
-    ok-map (λ (reply : answer.Reply). SolvesFree (view_draft c.args.self.now.scene c.add.new.self c.in-Ok.id.0) c.args.self.now (accepted reply) c.solve_view.new.self)
-    (λ (reply : answer.Reply). ViewStep c.args.self.now c.args.name.now c.args.parent.now (accepted reply) c.solve_view.new.self) c.solve_view.result
-    (λ reply solves. view-passed c.args.self.now c.args.name.now c.args.parent.now c.in_ok-tree.tree c.add.new.self c.in-Some.above.0 c.in-Ok.id.0 may (accepted reply) c.solve_view.new.self
-    (view-room c.args.self.now c.args.name.now c.args.parent.now c.in_ok-tree.tree c.add.new.self c.in-Some.above.0 c.in-Ok.id.0 may (c.if-is_crowded.ensures.no refl) (accepted reply) c.solve_view.new.self solves))
-    c.solve_view.ensures.accepted
+    let old = (session_at c.self.inside.scene c.self.inside.budget c.self.inside.limits) in
+    rw (c.answer_of.ensures, ← c.self.view_is)
+    (ok-map (λ (reply : answer.Reply). SolvesFree old (view_draft old.scene c.in-Ok.new.tree c.in-Ok.new.id) (accepted reply) (record old { scene = c.take_view-end.new.self }))
+    (λ (reply : answer.Reply). TriedView old c.args.name.now c.args.parent.now (SolvesFree old) (accepted reply) (record old { scene = c.take_view-end.new.self })) _
+    (λ reply end. view-passed old c.args.name.now c.args.parent.now (SolvesFree old) c.in-Ok.new.tree c.in-Ok.new.id (accepted reply) (record old { scene = c.take_view-end.new.self }) (rw (← c.self.view_is) at c.in-Ok.ensures.made) end)
+    (free-accepted (view_draft old.scene c.in-Ok.new.tree c.in-Ok.new.id) old c.take_view-end.new.self c.take_view-end.result c.take_view-end.ensures.solved))
 
 pub returns-clause-refused : goal.returns-clause-refused
 returns-clause-refused c =
-    let inside : MayBeView (state_at c.self.inside.tree c.self.inside.metrics c.self.inside.size c.self.inside.items.items c.self.inside.next_row c.self.inside.engine c.self.inside.budget) c.args.name.now c.args.parent.now c.in_ok-tree.tree c.add.new.self c.in-Some.above.0 c.in-Ok.id.0 =
-    record { same = c.in_ok-tree.ensures; found = c.in-Some.ensures; no_metric = no-value c.get.result (value_of c.self.inside.metrics c.args.name.now) c.get.ensures c.if-is_some.ensures; fresh = c.in-Ok.ensures.new; new_is = c.in-Ok.ensures.added; id_is = c.in-Ok.ensures.id } in
-    let may : MayBeView c.args.self.now c.args.name.now c.args.parent.now c.in_ok-tree.tree c.add.new.self c.in-Some.above.0 c.in-Ok.id.0 =
-    subst (λ (s : State). MayBeView s c.args.name.now c.args.parent.now c.in_ok-tree.tree c.add.new.self c.in-Some.above.0 c.in-Ok.id.0) c.self.view_is inside in
-    err-map (λ (reply : Reply). SolvesFree (view_draft c.args.self.now.scene c.add.new.self c.in-Ok.id.0) c.args.self.now reply c.args.self.now)
-    (λ (reply : Reply). ViewStep c.args.self.now c.args.name.now c.args.parent.now reply c.args.self.now) c.solve_view.result
-    (λ reply solves. view-passed c.args.self.now c.args.name.now c.args.parent.now c.in_ok-tree.tree c.add.new.self c.in-Some.above.0 c.in-Ok.id.0 may reply c.args.self.now
-    (view-room c.args.self.now c.args.name.now c.args.parent.now c.in_ok-tree.tree c.add.new.self c.in-Some.above.0 c.in-Ok.id.0 may (c.if-is_crowded.ensures.no refl) reply c.args.self.now solves))
-    c.solve_view.ensures.refused
+    let old = (session_at c.self.inside.scene c.self.inside.budget c.self.inside.limits) in
+    rw (c.answer_of.ensures, ← c.self.view_is)
+    (err-map (λ (reply : Reply). SolvesFree old (view_draft old.scene c.in-Ok.new.tree c.in-Ok.new.id) reply old) (λ (reply : Reply). TriedView old c.args.name.now c.args.parent.now (SolvesFree old) reply old) _
+    (λ reply end. view-passed old c.args.name.now c.args.parent.now (SolvesFree old) c.in-Ok.new.tree c.in-Ok.new.id reply old (rw (← c.self.view_is) at c.in-Ok.ensures.made) end)
+    (free-refused (view_draft old.scene c.in-Ok.new.tree c.in-Ok.new.id) old c.take_view-end.new.self c.take_view-end.result c.take_view-end.ensures.stop c.take_view-end.ensures.free))
 
-pub solve_view-requires-clause-grown : goal.solve_view-requires-clause-grown
-solve_view-requires-clause-grown c =
-    subst (λ (s : State). IsGrown s.scene.tree.views c.add.new.self.views c.in-Ok.id.0) c.self.view_is
-    (subst (λ (t : ViewTree). IsGrown t.views c.add.new.self.views c.in-Ok.id.0) c.in_ok-tree.ensures
-    (grown c.in_ok-tree.tree c.add.new.self c.args.name.now c.in-Some.above.0 c.in-Ok.id.0 (subst IsTree (sym c.in_ok-tree.ensures) c.len-before.ensures.tree) c.len-after.ensures.tree c.in-Ok.ensures.added c.in-Ok.ensures.id))
+pub returns-clause-same : goal.returns-clause-same
+returns-clause-same c = rw (c.answer_of.ensures, ← c.self.view_is) (answer-same (session_at c.self.inside.scene c.self.inside.budget c.self.inside.limits) c.take_view-end.new.self c.take_view-end.result c.take_view-end.ensures.same)
+
+pub take_view-end-requires : goal.take_view-end-requires
+take_view-end-requires c =
+    let old = (session_at c.self.inside.scene c.self.inside.budget c.self.inside.limits) in
+    let made = rw (← c.self.view_is) at c.in-Ok.ensures.made in
+    let fits : old.scene.next_row + 2 ≤ 2 ^ 31 = room-numbers old 2 made.rows in
+    record {
+      id = c.in-Ok.ensures.small;
+      grown = grown c.self.inside.scene.tree c.in-Ok.new.tree c.args.name.now made.above.id c.in-Ok.new.id (rw c.tree.ensures at c.len-before.ensures.tree) c.len-after.ensures.tree made.tree_is made.id_is;
+      room = room-fits old 2 c.self.invariant made.rows;
+      number = omega (arith, fits);
+    }

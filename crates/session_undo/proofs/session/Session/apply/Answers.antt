@@ -2,13 +2,13 @@ use Rattle.std.proofs.Common.{List, ℕ, subst}
 use Rattle.std.specs.Prelude.{IfErr}
 use Rattle.script_text.specs.View.{name_view}
 use Rattle.session_undo.specs.Replies.{Reply, MayRefuse}
-use Rattle.session_undo.specs.Machine.{ViewStep, parent_name}
+use Rattle.session_undo.specs.Machine.{TriedView, SolvesFree, parent_name}
 use Rattle.session_undo.proofs.session.Session.apply.Goals as goal
 
 pub returns-in-View-clause-refused : goal.returns-in-View-clause-refused
 returns-in-View-clause-refused c =
-    let step : IfErr c.add_view.result (MayRefuse (λ (reply : Reply). ViewStep c.args.self.now c.in-View.name.now (parent_name (name_view c.in-View.parent)) reply c.args.self.now)) =
-    subst (λ (p : List ℕ). IfErr c.add_view.result (MayRefuse (λ (reply : Reply). ViewStep c.args.self.now c.in-View.name.now p reply c.args.self.now))) c.parent_or_window.ensures c.add_view.ensures.refused in
+    let step : IfErr c.add_view.result (MayRefuse (λ (reply : Reply). TriedView c.args.self.now c.in-View.name.now (parent_name (name_view c.in-View.parent)) (SolvesFree c.args.self.now) reply c.args.self.now)) =
+    subst (λ (p : List ℕ). IfErr c.add_view.result (MayRefuse (λ (reply : Reply). TriedView c.args.self.now c.in-View.name.now p (SolvesFree c.args.self.now) reply c.args.self.now))) c.parent_or_window.ensures c.add_view.ensures.refused in
     rw c.in-View.is step
 
 pub returns-in-Constrain-clause-accepted : goal.returns-in-Constrain-clause-accepted

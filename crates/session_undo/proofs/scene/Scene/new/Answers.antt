@@ -1,20 +1,22 @@
 use Rattle.std.proofs.Common.{◌≡◌, ◌++◌, ◌∷◌, [], ◌∙◌, List, ap}
 use Rattle.problem_core.specs.Layout.{Problem}
-use Rattle.session_undo.specs.declared.item.Item.{Item}
-use Rattle.session_undo.specs.declared.item.Item.TheVariants.{OfWindow}
+use Rattle.session_undo.specs.Items.{OfWindow}
+use Rattle.session_undo.specs.Kept.{items_of}
+use Rattle.session_undo.specs.declared.item.Item as declared
+use Rattle.session_undo.specs.declared.item.Item.TheVariants as kind
 use Rattle.session_undo.proofs.First.{first_problem, first-is, first-kept}
 use Rattle.session_undo.proofs.Additions.{first-whole, first-rising, first-counted}
-use Rattle.session_undo.proofs.session.Session.new.Goals as goal
+use Rattle.session_undo.proofs.scene.Scene.new.Goals as goal
 
 pub invariant_of-result : goal.invariant_of-result
 invariant_of-result c =
-    let items : c.push.new.self.items ≡ OfWindow ∷ [] = c.in_ok-push.ensures.items ∙ ap (λ (is : List Item). is ++ OfWindow ∷ []) c.new-items.ensures.items in
+    let items : c.push.new.self.items ≡ kind.OfWindow ∷ [] = c.in_ok-push.ensures.items ∙ ap (λ (is : List declared.Item). is ++ kind.OfWindow ∷ []) c.new-items.ensures.items in
     let problem : c.add.new.self.problem ≡ first_problem = rw (c.deref-2.ensures.value, c.in_ok-rows.ensures, c.in_ok-engine.ensures) at c.in-Ok.ensures.done in
-    rw (c.in_ok-new-2.ensures, items) (first-kept c.add.new.self.problem.rows (ap (λ (p : Problem). p.rows) problem), first-counted c.in_ok-new.field-0 c.add.new.self.problem c.in_ok-new.ensures problem)
+    rw (c.in_ok-new-2.ensures, items) (first-kept c.in_ok-new.field-0 c.add.new.self problem (first-counted c.in_ok-new.field-0 c.add.new.self.problem c.in_ok-new.ensures problem))
 
 pub returns : goal.returns
 returns c =
-    let items : c.push.new.self.items ≡ OfWindow ∷ [] = c.in_ok-push.ensures.items ∙ ap (λ (is : List Item). is ++ OfWindow ∷ []) c.new-items.ensures.items in
+    let items : c.push.new.self.items ≡ kind.OfWindow ∷ [] = c.in_ok-push.ensures.items ∙ ap (λ (is : List declared.Item). is ++ kind.OfWindow ∷ []) c.new-items.ensures.items in
     let problem : c.add.new.self.problem ≡ first_problem = rw (c.deref-2.ensures.value, c.in_ok-rows.ensures, c.in_ok-engine.ensures) at c.in-Ok.ensures.done in
     rw (c.in_ok-new-2.ensures, items) (first-is c.in_ok-new.field-0 c.add.new.self c.in_ok-new.ensures problem c.problem-best.ensures.best)
 

@@ -1,0 +1,52 @@
+-- Stays that move to the values of their attributes.
+use Rattle.std.proofs.Common.{◌≡◌, ℕ, suc, ◌<◌, ◌*◌, Bool, cond, nat_eq, List, [], ◌∷◌, ◌++◌, map, refl, sym, ap, ap₂, ◌∙◌, subst, arith, All, eq-eqb, ne_eqb}
+use Rattle.std.specs.List.{AllByRecursion as Each}
+use Rattle.std.proofs.lemmas.List.{append-nil, map-append}
+use Rattle.std.proofs.lemmas.List.Elements.{recursion_from_All, All-map}
+use Rattle.frac_core.specs.Fraction.{Fraction}
+use Rattle.problem_core.specs.declared.parts.Stay.{Stay}
+use Rattle.problem_core.specs.Gaps.{value_of}
+use Rattle.problem_core.specs.Kept.{AreRising}
+use Rattle.layout_engine.specs.Layouts.{stays_at, zeros}
+use Rattle.session_undo.specs.Scene.{moved, new_stays, new_values}
+use Rattle.session_undo.proofs.Lists.{all-unmapped, pairs-tail}
+
+abbrev at : ℕ × Fraction → ℕ
+at v = v.0
+
+abbrev stay : ℕ → Fraction → Stay
+stay attr target = record { attr = attr; target = target }
+
+-- a value of an attribute without a stay moves none
+unmoved : (v : ℕ × Fraction) (values : List (ℕ × Fraction)) (stays : List Stay) → Each (λ s. v.0 < s.attr) stays → moved stays (v ∷ values) ≡ moved stays values
+unmoved v values [] apart = refl
+unmoved v values (s ∷ stays) apart =
+    ap₂ (λ (f : Fraction) (ss : List Stay). stay s.attr f ∷ ss)
+    (ap (λ (b : Bool). cond b v.1 (value_of values s.attr)) (ne_eqb v.0 s.attr (λ e. omega (arith, apart.0, e))))
+    (unmoved v values stays apart.1)
+
+-- the stays of a list of values that rise move to these values
+pub moved-is : (stays : List Stay) (values : List (ℕ × Fraction)) → map at values ≡ map (λ s. s.attr) stays → AreRising values → moved stays values ≡ stays_at values
+moved-is [] [] same rising = refl
+moved-is [] (v ∷ values) same rising = cc
+moved-is (s ∷ stays) [] same rising = cc
+moved-is (s ∷ stays) (v ∷ values) same rising =
+    let head : v.0 ≡ s.attr = cc in
+    let tail : map at values ≡ map (λ s. s.attr) stays = cc in
+    let later : All (λ u. v.0 < u.0) values = first-before v values rising in
+    let apart : All (λ t. v.0 < t.attr) stays = all-unmapped (λ (t : Stay). t.attr) (λ a. v.0 < a) stays (subst (All (λ a. v.0 < a)) tail (All-map (λ a. v.0 < a) at values later)) in
+    ap₂ (λ (t : Stay) (ss : List Stay). t ∷ ss)
+    (ap₂ stay (sym head) (ap (λ (b : Bool). cond b v.1 (value_of values s.attr)) (eq-eqb v.0 s.attr head)))
+    (unmoved v values stays (recursion_from_All (λ (t : Stay). v.0 < t.attr) stays apart) ∙ moved-is stays values tail (pairs-tail (λ (u w : ℕ × Fraction). u.0 < w.0) v values rising))
+  where
+    first-before : (v : ℕ × Fraction) (values : List (ℕ × Fraction)) → AreRising (v ∷ values) → All (λ u. v.0 < u.0) values
+    first-before v values h k d within = h 0 (suc k) d (omega arith) (omega (arith, within))
+
+-- no attribute is new
+pub moved-still : (stays : List Stay) (values : List (ℕ × Fraction)) → map at values ≡ map (λ s. s.attr) stays → AreRising values → moved stays values ≡ stays_at (values ++ zeros [])
+moved-still stays values same rising = moved-is stays values same rising ∙ ap stays_at (sym (append-nil values))
+
+-- the attributes of a view are new
+pub moved-more : (stays : List Stay) (values : List (ℕ × Fraction)) (id : ℕ) → map at values ≡ map (λ s. s.attr) stays → AreRising values → moved stays values ++ new_stays id ≡ stays_at (values ++ new_values id)
+moved-more stays values id same rising =
+    ap (λ (ss : List Stay). ss ++ new_stays id) (moved-is stays values same rising) ∙ sym (map-append (λ (v : ℕ × Fraction). stay v.0 v.1) values (new_values id))

@@ -1,0 +1,44 @@
+use Rattle.std.proofs.Common.{◌≡◌, subst, sym}
+use Rattle.constraint_compile.specs.Compiled.{CompiledLine}
+use Rattle.script_text.specs.View.{linear_view}
+use Rattle.constraint_compile.specs.Stops.{IsCompiled, MayStop}
+use Rattle.session_undo.proofs.SmallLines.{line-small}
+use Rattle.session_undo.proofs.NextLines.{constrain-next, read-above}
+use Rattle.session_undo.specs.Scene.{State}
+use Rattle.session_undo.specs.Replies.{Reply}
+use Rattle.session_undo.specs.Machine.{TriedConstraint}
+use Rattle.session_undo.specs.Adding.{AddStop, StopStep, NoEnd}
+use Rattle.session_undo.proofs.Steps.{refuses}
+use Rattle.session_undo.proofs.Chains.{ok-map, err-map}
+use Rattle.session_undo.proofs.LineStops.{constraint-full, constraint-stopped}
+use Rattle.session_undo.proofs.session.Session.new_constraint.Goals as goal
+
+pub returns-in-Ok-clause-is : goal.returns-in-Ok-clause-is
+returns-in-Ok-clause-is c =
+    let is : IsCompiled c.args.self.now.scene.tree.views c.args.self.now.scene.metrics (linear_view c.args.line.now) c.args.self.now.scene.next_row c.in-Ok.compiled =
+    subst (λ (s : State). IsCompiled s.scene.tree.views s.scene.metrics (linear_view c.args.line.now) s.scene.next_row c.in-Ok.compiled) c.self.view_is (rw (c.tree-tree.ensures, c.metrics-metrics.ensures, c.next_row.ensures.value) at c.in-Ok.ensures.compiled) in
+    ok-map (λ new. new.line ≡ c.in-Ok.compiled) (λ new. IsCompiled c.args.self.now.scene.tree.views c.args.self.now.scene.metrics (linear_view c.args.line.now) c.args.self.now.scene.next_row new.line) c.with_rows.result (λ new same. subst (λ (l : CompiledLine). IsCompiled c.args.self.now.scene.tree.views c.args.self.now.scene.metrics (linear_view c.args.line.now) c.args.self.now.scene.next_row l) (sym same) is) c.with_rows.ensures.line
+
+pub returns-in-Ok-clause-refused : goal.returns-in-Ok-clause-refused
+returns-in-Ok-clause-refused c =
+    let is : IsCompiled c.args.self.now.scene.tree.views c.args.self.now.scene.metrics (linear_view c.args.line.now) c.args.self.now.scene.next_row c.in-Ok.compiled =
+    subst (λ (s : State). IsCompiled s.scene.tree.views s.scene.metrics (linear_view c.args.line.now) s.scene.next_row c.in-Ok.compiled) c.self.view_is (rw (c.tree-tree.ensures, c.metrics-metrics.ensures, c.next_row.ensures.value) at c.in-Ok.ensures.compiled) in
+    err-map (λ (reply : Reply). AddStop c.args.self.now c.args.group.now c.in-Ok.compiled reply c.args.self.now) (λ (reply : Reply). TriedConstraint c.args.self.now c.args.group.now (linear_view c.args.line.now) NoEnd reply c.args.self.now) c.with_rows.result
+    (λ reply step. constraint-full c.args.self.now c.args.group.now (linear_view c.args.line.now) NoEnd c.in-Ok.compiled reply c.args.self.now is step) c.with_rows.ensures.refused
+
+pub with_rows-requires : goal.with_rows-requires
+with_rows-requires c =
+    let is : IsCompiled c.args.self.now.scene.tree.views c.args.self.now.scene.metrics (linear_view c.args.line.now) c.args.self.now.scene.next_row c.in-Ok.compiled =
+    subst (λ (s : State). IsCompiled s.scene.tree.views s.scene.metrics (linear_view c.args.line.now) s.scene.next_row c.in-Ok.compiled) c.self.view_is (rw (c.tree-tree.ensures, c.metrics-metrics.ensures, c.next_row.ensures.value) at c.in-Ok.ensures.compiled) in
+    record {
+      small = line-small c.args.self.now.scene.tree.views c.args.self.now.scene.metrics (linear_view c.args.line.now) c.args.self.now.scene.next_row c.in-Ok.compiled is;
+      next = constrain-next c.args.self.now.scene.tree.views c.args.self.now.scene.metrics (linear_view c.args.line.now) c.args.self.now.scene.next_row c.in-Ok.compiled is
+          (read-above c.args.line.now (rw c.deref.ensures.value at c.show_terms.ensures) (rw c.deref-2.ensures.value at c.show_terms-2.ensures));
+    }
+
+pub returns-in-Err-clause-refused : goal.returns-in-Err-clause-refused
+returns-in-Err-clause-refused c =
+    let may : MayStop c.args.self.now.scene.tree.views c.args.self.now.scene.metrics (linear_view c.args.line.now) c.args.self.now.scene.next_row c.in-Err.stop =
+    subst (λ (s : State). MayStop s.scene.tree.views s.scene.metrics (linear_view c.args.line.now) s.scene.next_row c.in-Err.stop) c.self.view_is (rw (c.tree-tree.ensures, c.metrics-metrics.ensures, c.next_row.ensures.value) at c.in-Err.ensures.stop) in
+    refuses (λ (reply : Reply). StopStep c.args.self.now c.args.group.now 1 c.in-Err.stop reply c.args.self.now) (λ (reply : Reply). TriedConstraint c.args.self.now c.args.group.now (linear_view c.args.line.now) NoEnd reply c.args.self.now) c.line_refusal.result
+    (λ reply step. constraint-stopped c.args.self.now c.args.group.now (linear_view c.args.line.now) NoEnd c.in-Err.stop reply c.args.self.now may step) c.line_refusal.ensures

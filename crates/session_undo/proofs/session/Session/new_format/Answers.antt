@@ -1,0 +1,47 @@
+use Rattle.std.proofs.Common.{◌≡◌, subst, sym}
+use Rattle.constraint_compile.specs.Compiled.{CompiledLine}
+use Rattle.vfl_text.specs.View.{meaning}
+use Rattle.constraint_compile.specs.FormatParts.{parts}
+use Rattle.constraint_compile.specs.FormatStops.{row_count}
+use Rattle.constraint_compile.specs.FormatRows.{IsCompiledFormat, MayStopFormat}
+use Rattle.session_undo.proofs.SmallLines.{format-small}
+use Rattle.session_undo.proofs.NextLines.{format-next}
+use Rattle.session_undo.specs.Scene.{State}
+use Rattle.session_undo.specs.Replies.{Reply}
+use Rattle.session_undo.specs.Machine.{TriedFormat}
+use Rattle.session_undo.specs.Adding.{AddStop, StopStep, NoEnd}
+use Rattle.session_undo.proofs.Steps.{refuses}
+use Rattle.session_undo.proofs.Chains.{ok-map, err-map}
+use Rattle.session_undo.proofs.LineStops.{format-full, format-stopped}
+use Rattle.session_undo.proofs.session.Session.new_format.Goals as goal
+
+pub returns-in-Ok-clause-is : goal.returns-in-Ok-clause-is
+returns-in-Ok-clause-is c =
+    let is : IsCompiledFormat c.args.self.now.scene.tree.views c.args.self.now.scene.metrics (meaning c.args.format.now) c.args.align c.args.self.now.scene.next_row c.in-Ok.compiled =
+    subst (λ (s : State). IsCompiledFormat s.scene.tree.views s.scene.metrics (meaning c.args.format.now) c.args.align s.scene.next_row c.in-Ok.compiled) c.self.view_is (rw (c.tree-tree.ensures, c.metrics-metrics.ensures, c.next_row.ensures.value) at c.in-Ok.ensures.compiled) in
+    ok-map (λ new. new.line ≡ c.in-Ok.compiled) (λ new. IsCompiledFormat c.args.self.now.scene.tree.views c.args.self.now.scene.metrics (meaning c.args.format.now) c.args.align c.args.self.now.scene.next_row new.line) c.with_rows.result (λ new same. subst (λ (l : CompiledLine). IsCompiledFormat c.args.self.now.scene.tree.views c.args.self.now.scene.metrics (meaning c.args.format.now) c.args.align c.args.self.now.scene.next_row l) (sym same) is) c.with_rows.ensures.line
+
+pub returns-in-Ok-clause-refused : goal.returns-in-Ok-clause-refused
+returns-in-Ok-clause-refused c =
+    let is : IsCompiledFormat c.args.self.now.scene.tree.views c.args.self.now.scene.metrics (meaning c.args.format.now) c.args.align c.args.self.now.scene.next_row c.in-Ok.compiled =
+    subst (λ (s : State). IsCompiledFormat s.scene.tree.views s.scene.metrics (meaning c.args.format.now) c.args.align s.scene.next_row c.in-Ok.compiled) c.self.view_is (rw (c.tree-tree.ensures, c.metrics-metrics.ensures, c.next_row.ensures.value) at c.in-Ok.ensures.compiled) in
+    err-map (λ (reply : Reply). AddStop c.args.self.now c.args.group.now c.in-Ok.compiled reply c.args.self.now) (λ (reply : Reply). TriedFormat c.args.self.now c.args.group.now c.args.align (meaning c.args.format.now) NoEnd reply c.args.self.now) c.with_rows.result
+    (λ reply step. format-full c.args.self.now c.args.group.now c.args.align (meaning c.args.format.now) NoEnd c.in-Ok.compiled reply c.args.self.now is step) c.with_rows.ensures.refused
+
+pub with_rows-requires : goal.with_rows-requires
+with_rows-requires c =
+    let is : IsCompiledFormat c.args.self.now.scene.tree.views c.args.self.now.scene.metrics (meaning c.args.format.now) c.args.align c.args.self.now.scene.next_row c.in-Ok.compiled =
+    subst (λ (s : State). IsCompiledFormat s.scene.tree.views s.scene.metrics (meaning c.args.format.now) c.args.align s.scene.next_row c.in-Ok.compiled) c.self.view_is (rw (c.tree-tree.ensures, c.metrics-metrics.ensures, c.next_row.ensures.value) at c.in-Ok.ensures.compiled) in
+    record {
+      small = format-small c.args.self.now.scene.tree.views c.args.self.now.scene.metrics (meaning c.args.format.now) c.args.align c.args.self.now.scene.next_row c.in-Ok.compiled is;
+      next = format-next c.args.self.now.scene.tree.views c.args.self.now.scene.metrics (meaning c.args.format.now) c.args.align c.args.self.now.scene.next_row c.in-Ok.compiled is;
+    }
+
+pub returns-in_ok-count-in-Err-clause-refused : goal.returns-in_ok-count-in-Err-clause-refused
+returns-in_ok-count-in-Err-clause-refused c =
+    let may : MayStopFormat c.args.self.now.scene.tree.views c.args.self.now.scene.metrics (meaning c.args.format.now) c.args.align c.args.self.now.scene.next_row c.in-Err.stop =
+    subst (λ (s : State). MayStopFormat s.scene.tree.views s.scene.metrics (meaning c.args.format.now) c.args.align s.scene.next_row c.in-Err.stop) c.self.view_is (rw (c.tree-tree.ensures, c.metrics-metrics.ensures, c.next_row.ensures.value) at c.in-Err.ensures.stop) in
+    let count : c.in_ok-count-in-Err.count ≡ row_count c.args.self.now.scene.tree.views (parts (meaning c.args.format.now) c.args.align) =
+    subst (λ (s : State). c.in_ok-count-in-Err.count ≡ row_count s.scene.tree.views (parts (meaning c.args.format.now) c.args.align)) c.self.view_is (rw c.tree-tree.ensures at c.in_ok-count-in-Err.ensures) in
+    refuses (λ (reply : Reply). StopStep c.args.self.now c.args.group.now c.in_ok-count-in-Err.count c.in-Err.stop reply c.args.self.now) (λ (reply : Reply). TriedFormat c.args.self.now c.args.group.now c.args.align (meaning c.args.format.now) NoEnd reply c.args.self.now) c.line_refusal.result
+    (λ reply step. format-stopped c.args.self.now c.args.group.now c.args.align (meaning c.args.format.now) NoEnd c.in_ok-count-in-Err.count c.in-Err.stop reply c.args.self.now count may step) c.line_refusal.ensures

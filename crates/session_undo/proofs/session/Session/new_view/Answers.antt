@@ -1,0 +1,49 @@
+use Rattle.std.proofs.Common.{◌≡◌, None, IsSome, inl, refl, sym, subst}
+use Rattle.view_tree.specs.Views.{ViewTree, view_of}
+use Rattle.view_tree.specs.Stops.{MayStop, IsNewView}
+use Rattle.view_tree.specs.declared.stops.TreeStop.TheVariants.{Unknown, Taken}
+use Rattle.session_undo.specs.Scene.{State}
+use Rattle.session_undo.specs.Machine.{IsTaken}
+use Rattle.session_undo.specs.Kept.{session_at}
+use Rattle.session_undo.specs.Adding.{NoEnd}
+use Rattle.session_undo.proofs.Chains.{IsAsked, found-live, view-limited, view-full, view-free}
+use Rattle.session_undo.proofs.session.Session.new_view.Goals as goal
+
+pub unreachable-requires : goal.unreachable-requires
+unreachable-requires c =
+    let old = (session_at c.self.inside.scene c.self.inside.budget c.self.inside.limits) in
+    let stop : MayStop c.in_ok-tree.tree c.args.name.now c.in-Some.above.0 (Taken c.in-Err-Taken.field-0-0) = rw c.in-Err-Taken.field-0-is at c.in-Err-Taken.ensures.refused in
+    let free : IsTaken old.scene c.args.name.now → ⊥ = rw (← c.self.view_is) at (c.if-is_taken.ensures.no refl) in
+    free (inl (rw (c.in_ok-tree.ensures, c.tree-views.ensures) at stop.2))
+
+pub unreachable-requires-in-Err-Unknown : goal.unreachable-requires-in-Err-Unknown
+unreachable-requires-in-Err-Unknown c =
+    let stop : MayStop c.in_ok-tree.tree c.args.name.now c.in-Some.above.0 (Unknown c.in-Err-Unknown.field-0-0) = rw c.in-Err-Unknown.field-0-is at c.in-Err-Unknown.ensures.refused in
+    found-live c.self.inside.scene.tree.views c.args.parent.now c.in-Some.above.0 (rw c.tree-views.ensures at c.in-Some.ensures) (rw (c.in_ok-tree.ensures, c.tree-views.ensures) at stop.1)
+
+pub returns-then-is_crowded-clause-refused : goal.returns-then-is_crowded-clause-refused
+returns-then-is_crowded-clause-refused c =
+    let old = (session_at c.self.inside.scene c.self.inside.budget c.self.inside.limits) in
+    let asked : IsAsked old c.args.name.now c.args.parent.now c.in-Some.above.0 = record {
+      found = rw c.tree-views.ensures at c.in-Some.ensures;
+      free = rw (← c.self.view_is) at (c.if-is_taken.ensures.no refl);
+      short = c.if-name-gt-NAME_LIMIT.false;
+      few = rw (← c.self.view_is) at (c.if-has_all_views.ensures.no refl);
+      within = c.self.invariant;
+    } in
+    rw (← c.self.view_is)
+    (view-full old c.args.name.now c.args.parent.now c.in-Some.above.0 NoEnd asked (rw (c.in_ok-tree.ensures, c.tree-views.ensures) at c.in-Ok.ensures.new) (rw (← c.self.view_is) at (c.if-is_crowded.ensures.yes refl)))
+
+pub returns-clause-made : goal.returns-clause-made
+returns-clause-made c =
+    let old = (session_at c.self.inside.scene c.self.inside.budget c.self.inside.limits) in
+    let asked : IsAsked old c.args.name.now c.args.parent.now c.in-Some.above.0 = record {
+      found = rw c.tree-views.ensures at c.in-Some.ensures;
+      free = rw (← c.self.view_is) at (c.if-is_taken.ensures.no refl);
+      short = c.if-name-gt-NAME_LIMIT.false;
+      few = rw (← c.self.view_is) at (c.if-has_all_views.ensures.no refl);
+      within = c.self.invariant;
+    } in
+    rw (← c.self.view_is)
+    (view-free old c.args.name.now c.args.parent.now c.in-Some.above.0 c.in-Ok.id.0 c.add.new.self asked (rw (c.in_ok-tree.ensures, c.tree-views.ensures) at c.in-Ok.ensures.new) (rw (← c.self.view_is) at (c.if-is_crowded.ensures.no refl))
+    (rw (c.in_ok-tree.ensures, c.tree-views.ensures) at c.in-Ok.ensures.added) (rw (c.in_ok-tree.ensures, c.tree-views.ensures) at c.in-Ok.ensures.id))

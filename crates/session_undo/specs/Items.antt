@@ -1,0 +1,81 @@
+-- What is held, and the rows that it stands for.
+use Rattle.std.specs.Prelude.{◌≡◌, ℕ, ◌+◌, ◌*◌, Bool, true, false, cond, List, [], ◌∷◌, ◌++◌, length, filter, map, All}
+use Rattle.frac_core.specs.Fraction.{Fraction}
+use Rattle.problem_core.specs.declared.parts.Rel.TheVariants.{Eq, Ge}
+use Rattle.problem_core.specs.Layout.{Row}
+use Rattle.problem_core.specs.Window.{required_row, structural_rows, zero_fraction}
+use Rattle.constraint_compile.specs.Meaning.{MetricList}
+use Rattle.constraint_compile.specs.Compiled.{CompiledLine, AreRowsNow, AreSmallForms}
+
+-- the window, whose left and top are 0 and whose width and height are at least 0; a view, whose width and height
+-- are at least 0, with the number of its first row and its own; the window's width and height, with the number of
+-- their first row; a line of a group, with the group's name
+pub data Item : Type 0 where
+  OfWindow : Item
+  OfView : ℕ → ℕ → Item
+  Sized : ℕ → Fraction → Fraction → Item
+  OfLine : List ℕ → CompiledLine → Item
+
+-- ---- rows
+
+-- the view v has the attributes 4v + 1 to 4v + 4: left, top, width and height
+abbrev pub view_rows : ℕ → ℕ → List Row
+view_rows first id =
+    required_row first (4 * id + 3) Ge zero_fraction ∷ required_row (first + 1) (4 * id + 4) Ge zero_fraction ∷ []
+
+abbrev pub size_rows : ℕ → Fraction → Fraction → List Row
+size_rows first width height = required_row first 3 Eq width ∷ required_row (first + 1) 4 Eq height ∷ []
+
+-- the rows of an item, for these metrics
+abbrev pub AreItemRows : MetricList → Item → List Row → Type 0
+AreItemRows metrics OfWindow rows = rows ≡ structural_rows
+AreItemRows metrics (OfView first id) rows = rows ≡ view_rows first id
+AreItemRows metrics (Sized first width height) rows = rows ≡ size_rows first width height
+AreItemRows metrics (OfLine group line) rows = AreRowsNow metrics line.rows rows
+
+-- the rows of some items, one item's after the other's
+abbrev pub AreRows : MetricList → List Item → List Row → Type 0
+AreRows metrics [] rows = rows ≡ []
+AreRows metrics (item ∷ more) rows =
+    (front : List Row) × (back : List Row) × (rows ≡ front ++ back) × AreItemRows metrics item front
+    × AreRows metrics more back
+
+-- after each term of each row its constant is small
+abbrev pub IsSmallItem : MetricList → Item → Type 0
+IsSmallItem metrics OfWindow = Unit {0}
+IsSmallItem metrics (OfView first id) = Unit {0}
+IsSmallItem metrics (Sized first width height) = Unit {0}
+IsSmallItem metrics (OfLine group line) = AreSmallForms metrics line.rows
+
+-- ---- kinds
+
+abbrev pub is_line : Item → Bool
+is_line OfWindow = false
+is_line (OfView first id) = false
+is_line (Sized first width height) = false
+is_line (OfLine group line) = true
+
+-- how many lines of groups are held
+abbrev pub line_count : List Item → ℕ
+line_count held = length (filter is_line held)
+
+abbrev pub is_size : Item → Bool
+is_size OfWindow = false
+is_size (OfView first id) = false
+is_size (Sized first width height) = true
+is_size (OfLine group line) = false
+
+-- the window's size is held
+abbrev pub has_size : List Item → Bool
+has_size [] = false
+has_size (item ∷ more) = cond (is_size item) true (has_size more)
+
+-- the item with these constants, where it is the window's size
+abbrev pub sized : Fraction → Fraction → Item → Item
+sized width height OfWindow = OfWindow
+sized width height (OfView first id) = OfView first id
+sized width height (Sized first w h) = Sized first width height
+sized width height (OfLine group line) = OfLine group line
+
+abbrev pub resized : Fraction → Fraction → List Item → List Item
+resized width height held = map (sized width height) held

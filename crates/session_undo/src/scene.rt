@@ -1,0 +1,280 @@
+// The scene: what a script has said so far, and the engine that solves it.
+ghost use Rattle.std.specs.Prelude.{◌≡◌, ◌<◌, ◌≤◌, ◌^◌, ◌+◌, true, false, length, vec_len, vec_capacity, IfOk, IfErr, OnOk, OnErr};
+
+use crate::item::{Item, WindowSize, has_size, line_count, resize_all};
+use crate::renewal::{take_more, take_rows};
+use crate::rows::{resized_rows, rows_of, size_rows, view_rows, window_rows};
+use crate::showing::show_rows;
+use cert_core::{Path, RunStop};
+use constraint_compile::{CompileStop, Compiled};
+use frac_core::OutOfMemory;
+use layout_engine::Engine;
+use name_tables::{Metrics, OwnedName};
+use problem_core::Row;
+use std::alloc::Global;
+use std::marker::Model;
+use view_tree::Tree;
+
+/// The views, the metrics, what is held, and the engine with the rows of it and the best values.
+#[derive(Drop)]
+pub struct Scene {
+    tree: Tree,
+    metrics: Metrics,
+    items: Vec<Item>,
+    next_row: u32,
+    engine: Engine,
+    alloc: Global,
+}
+
+impl Model for Scene {
+    ghost use Rattle.session_undo.specs.Scene as scene;
+    ghost use Rattle.session_undo.specs.Kept.{IsKept, items_of, scene_at};
+
+    ghost Value = { scene.Scene };
+
+    ghost view = { λ s. scene_at s.tree s.metrics (items_of s.items.items) s.next_row s.engine };
+
+    ghost invariant = { λ s. IsKept (scene_at s.tree s.metrics (items_of s.items.items) s.next_row s.engine) };
+}
+
+/// How many exchanges the first run may make.
+const FIRST_RUN: u64 = 100_000;
+
+// Room for one item more.
+fn make_room(items: &mut Vec<Item>) -> Result<(), OutOfMemory>
+    ensures items { items.new.items ≡ items.old.items }
+    ensures room { OnOk result (vec_len items.new < vec_capacity items.new) }
+{
+    items.reserve(1)?;
+    Ok(())
+}
+
+impl Scene {
+    ghost use Rattle.view_tree.specs.Views.{IsTree};
+    ghost use Rattle.constraint_compile.specs.Compiled.{AreRowsNow};
+    ghost use Rattle.session_undo.specs.Attributes.{IsNextLine, IsGrown};
+    ghost use Rattle.session_undo.specs.Items.{AreRows, IsSmallItem, has_size, line_count};
+    ghost use Rattle.session_undo.specs.Kept.{MayLackRows, items_of};
+    ghost use Rattle.session_undo.specs.Scene.{first_scene, with_line, with_window, AreDraftRows};
+    ghost use Rattle.session_undo.specs.Machine.{IsSolved};
+    ghost use Rattle.session_undo.specs.Adding.{StopsAt, IsNoConflict, view_draft, metrics_draft};
+
+    /// The window alone.
+    pub fn new(alloc: Global) -> Result<Scene, OutOfMemory>
+        ensures { IfOk result (λ scene. scene ≡ first_scene) }
+    {
+        let mut items = Vec::new(alloc);
+        items.push(Item::OfWindow)?;
+        let mut engine = Engine::new(alloc)?;
+        let rows = window_rows(alloc)?;
+        show_rows(&rows);
+        // The first run needs no exchange, and all numbers fit, so it is memory that is wanting.
+        let Ok(_path) = engine.add(&[1, 2, 3, 4], &rows, FIRST_RUN) else {
+            return Err(OutOfMemory);
+        };
+        let _best = engine.problem();
+        Ok(Scene {
+            tree: Tree::new(alloc)?,
+            metrics: Metrics::new(alloc)?,
+            items,
+            next_row: 5,
+            engine,
+            alloc,
+        })
+    }
+
+    /// The views.
+    pub fn tree(&self) -> &Tree
+        ensures { result.now ≡ self.now.tree }
+    {
+        &self.tree
+    }
+
+    /// The metrics, in order of definition.
+    pub fn metrics(&self) -> &Metrics
+        ensures { result.now ≡ self.now.metrics }
+    {
+        &self.metrics
+    }
+
+    /// The number that the next row takes.
+    pub fn next_row(&self) -> u32
+        ensures value { result ≡ self.now.next_row }
+        ensures above { 0 < result }
+    {
+        self.next_row
+    }
+
+    /// The engine: the problem of the rows of all that is held, and its best values.
+    pub fn engine(&self) -> &Engine
+        ensures rows { result.now.problem.rows ≡ self.now.rows }
+        ensures stays { result.now.problem.stays ≡ self.now.stays }
+        ensures values { result.now.values ≡ self.now.values }
+    {
+        &self.engine
+    }
+
+    /// How many lines of groups are held.
+    pub fn line_count(&self) -> usize
+        ensures { result ≡ line_count self.now.held }
+    {
+        line_count(&self.items)
+    }
+
+    /// Whether the window's size is held.
+    pub fn has_size(&self) -> bool
+        ensures { result ≡ has_size self.now.held }
+    {
+        has_size(&self.items)
+    }
+
+    /// The rows of what is held, for these metrics. It stops at `Limit(Constant)` where a constant isn't small after some term.
+    pub fn rows_for(&self, metrics: &Metrics) -> Result<Vec<Row>, CompileStop>
+        ensures rows { IfOk result (λ rows. AreRows metrics.now self.now.held rows.items) }
+        ensures stop { IfErr result (MayLackRows metrics.now self.now.held) }
+    {
+        rows_of(self.alloc, &self.items, metrics, &None)
+    }
+
+    /// Takes this tree, in which the view of this number is new.
+    pub fn take_view(&mut self, tree: Tree, id: u32, budget: u64) -> Result<Path, RunStop>
+        requires id { id < 2 ^ 29 }
+        requires grown { IsGrown self.old.tree.views tree.views id }
+        requires room { length self.old.rows + 2 ≤ 2000 }
+        requires number { self.old.next_row < 2 ^ 31 }
+        ensures solved { IfOk result (λ path. IsSolved (view_draft self.old tree id) budget path self.new) }
+        ensures stop { IfErr result (StopsAt self.old (view_draft self.old tree id) budget) }
+        ensures free { IfErr result IsNoConflict }
+        ensures same { OnErr result (self.new ≡ self.old) }
+    {
+        self.engine.show_layout();
+        let first = self.next_row;
+        let rows = view_rows(self.alloc, first, id)?;
+        show_rows(&rows);
+        let attrs = [4 * id + 1, 4 * id + 2, 4 * id + 3, 4 * id + 4];
+        make_room(&mut self.items)?;
+        let path = match take_more(&mut self.engine, &attrs, &rows, budget) {
+            Ok(path) => path,
+            Err(stop) => return Err(stop),
+        };
+        let _best = self.engine.problem();
+        self.items.push_reserved(Item::OfView { first, id });
+        self.next_row = first + 2;
+        self.tree = tree;
+        Ok(path)
+    }
+
+    /// Takes these metrics, for which these are the rows.
+    pub fn take_metrics(
+        &mut self,
+        metrics: Metrics,
+        rows: &[Row],
+        budget: u64,
+    ) -> Result<Path, RunStop>
+        requires { AreRows metrics self.old.held rows.now }
+        ensures solved { IfOk result (λ path. IsSolved (metrics_draft self.old metrics) budget path self.new) }
+        ensures stop { IfErr result (StopsAt self.old (metrics_draft self.old metrics) budget) }
+        ensures same { OnErr result (self.new ≡ self.old) }
+    {
+        self.engine.show_layout();
+        show_rows(rows);
+        let path = match take_rows(&mut self.engine, rows, budget) {
+            Ok(path) => path,
+            Err(stop) => return Err(stop),
+        };
+        let _best = self.engine.problem();
+        self.metrics = metrics;
+        Ok(path)
+    }
+
+    // The window has a size for the first time, which takes two rows.
+    fn size_first(&mut self, size: &WindowSize, budget: u64) -> Result<Path, RunStop>
+        requires none { has_size self.old.held ≡ false }
+        requires room { length self.old.rows + 2 ≤ 2000 }
+        requires number { self.old.next_row < 2 ^ 31 }
+        ensures solved { IfOk result (λ path. IsSolved (with_window self.old size.now.width size.now.height) budget path self.new) }
+        ensures stop { IfErr result (StopsAt self.old (with_window self.old size.now.width size.now.height) budget) }
+        ensures same { OnErr result (self.new ≡ self.old) }
+    {
+        let first = self.next_row;
+        let rows = size_rows(self.alloc, first, size)?;
+        show_rows(&rows);
+        make_room(&mut self.items)?;
+        self.engine.show_layout();
+        let _count = self.tree.len();
+        let path = match take_more(&mut self.engine, &[], &rows, budget) {
+            Ok(path) => path,
+            Err(stop) => return Err(stop),
+        };
+        let _best = self.engine.problem();
+        self.items.push_reserved(Item::Sized {
+            first,
+            width: size.width,
+            height: size.height,
+        });
+        self.next_row = first + 2;
+        Ok(path)
+    }
+
+    // The window has another size.
+    fn size_again(&mut self, size: &WindowSize, budget: u64) -> Result<Path, RunStop>
+        requires some { has_size self.old.held ≡ true }
+        ensures solved { IfOk result (λ path. IsSolved (with_window self.old size.now.width size.now.height) budget path self.new) }
+        ensures stop { IfErr result (StopsAt self.old (with_window self.old size.now.width size.now.height) budget) }
+        ensures same { OnErr result (self.new ≡ self.old) }
+    {
+        let rows = resized_rows(self.alloc, &self.items, &self.metrics, size)?;
+        self.engine.show_layout();
+        show_rows(&rows);
+        let path = match take_rows(&mut self.engine, &rows, budget) {
+            Ok(path) => path,
+            Err(stop) => return Err(stop),
+        };
+        let _best = self.engine.problem();
+        resize_all(&mut self.items, size);
+        Ok(path)
+    }
+
+    /// Takes this size of the window. The first takes two rows, for which there is to be room.
+    pub fn take_size(&mut self, size: &WindowSize, budget: u64) -> Result<Path, RunStop>
+        requires room { has_size self.old.held ≡ false → length self.old.rows + 2 ≤ 2000 }
+        requires number { has_size self.old.held ≡ false → self.old.next_row < 2 ^ 31 }
+        ensures solved { IfOk result (λ path. IsSolved (with_window self.old size.now.width size.now.height) budget path self.new) }
+        ensures stop { IfErr result (StopsAt self.old (with_window self.old size.now.width size.now.height) budget) }
+        ensures same { OnErr result (self.new ≡ self.old) }
+    {
+        if has_size(&self.items) {
+            return self.size_again(size, budget);
+        }
+        self.size_first(size, budget)
+    }
+
+    /// Takes a line more of this group, whose rows these are.
+    pub fn take_line(
+        &mut self,
+        group: OwnedName,
+        line: Compiled,
+        rows: &[Row],
+        budget: u64,
+    ) -> Result<Path, RunStop>
+        requires rows { AreRowsNow self.old.metrics line.rows rows.now }
+        requires next { IsNextLine self.old.tree.views self.old.next_row line }
+        requires room { length self.old.rows + length rows.now ≤ 2000 }
+        requires number { self.old.next_row + length rows.now ≤ 2 ^ 31 }
+        ensures solved { IfOk result (λ path. IsSolved (with_line self.old group line) budget path self.new) }
+        ensures stop { IfErr result (StopsAt self.old (with_line self.old group line) budget) }
+        ensures same { OnErr result (self.new ≡ self.old) }
+    {
+        make_room(&mut self.items)?;
+        self.engine.show_layout();
+        show_rows(rows);
+        let path = match take_more(&mut self.engine, &[], rows, budget) {
+            Ok(path) => path,
+            Err(stop) => return Err(stop),
+        };
+        let _best = self.engine.problem();
+        self.items.push_reserved(Item::OfLine { group, line });
+        self.next_row += rows.len() as u32;
+        Ok(path)
+    }
+}
