@@ -1,5 +1,5 @@
--- A run leads from best values to best values.
-use Rattle.std.proofs.Common.{◌≡◌, ℕ, Bool, List, [], ◌∷◌, Option, sym, subst, inl, inr}
+-- What a line changes, and that a run leads from best values to best values.
+use Rattle.std.proofs.Common.{◌≡◌, ℕ, Bool, List, [], ◌∷◌, Option, sym, subst, inl, inr, ◌⊎◌}
 use Rattle.frac_core.specs.Fraction.{Fraction}
 use Rattle.script_text.specs.Meaning.{Meaning}
 use Rattle.script_text.specs.Meaning as mean
@@ -9,83 +9,88 @@ use Rattle.constraint_compile.specs.FormatParts.{parts}
 use Rattle.constraint_compile.specs.FormatStops.{row_count}
 use Rattle.constraint_compile.specs.FormatRows.{IsCompiledFormat, MayStopFormat}
 use Rattle.constraint_compile.specs.declared.stops.CompileStop.{CompileStop}
-use Rattle.layout_engine.specs.Layouts.{AreBest}
-use Rattle.session_undo.specs.Scene.{Scene, State, problem_of}
-use Rattle.session_undo.specs.Replies.{Reply}
-use Rattle.session_undo.specs.Machine.{Solves, SolvesFree, UnlessFar, MeaningStep, ViewStep, MetricStep, WindowStep, LineStep, BudgetStep, parent_name, ConstrainStep, FormatStep}
+use Rattle.session_undo.specs.Scene.{Scene, State, IsBestScene, IsBestState}
+use Rattle.session_undo.specs.Replies.{Reply, Done}
+use Rattle.session_undo.specs.Machine.{Accepts, Solves, SolvesFree, MeaningStep, TriedView, TriedMetric, TriedWindow, TriedLine, BudgetStep, parent_name}
 use Rattle.layout_cli.specs.Machine.{GrammarStep, Step, Run}
-
-abbrev IsBestState : State → Type 0
-IsBestState s = AreBest (problem_of s.scene) s.scene.values
 
 kept : (old new : State) → IsBestState old → new ≡ old → IsBestState new
 kept old new best is = subst IsBestState (sym is) best
 
-solves-AreBest : (draft : Scene) (old : State) (reply : Reply) (new : State) → IsBestState old → Solves draft old reply new → IsBestState new
-solves-AreBest draft old reply new best (inl (done, to, is)) = to.best
-solves-AreBest draft old reply new best (inr (inl (by, rows, are, shows, keeps))) = kept old new best keeps.1
-solves-AreBest draft old reply new best (inr (inr (inl over))) = kept old new best over.refused.1
-solves-AreBest draft old reply new best (inr (inr (inr spent))) = kept old new best spent.refused.1
+-- a line that changes something is answered `Done`, and leads from best values to best values
+abbrev pub MayChange : State → Reply → State → Type 0
+MayChange old reply new = (new ≡ old) ⊎ ((reply ≡ Done) × (IsBestState old → IsBestState new))
 
-solves-free-AreBest : (draft : Scene) (old : State) (reply : Reply) (new : State) → IsBestState old → SolvesFree draft old reply new → IsBestState new
-solves-free-AreBest draft old reply new best (inl (done, to, is)) = to.best
-solves-free-AreBest draft old reply new best (inr (inl over)) = kept old new best over.refused.1
-solves-free-AreBest draft old reply new best (inr (inr spent)) = kept old new best spent.refused.1
+accepts-change : (draft : Scene) (old : State) (reply : Reply) (new : State) → Accepts draft old reply new → MayChange old reply new
+accepts-change draft old reply new accepts = inr (accepts.done, λ best. subst IsBestState (sym accepts.kept) (accepts.solved.becomes.best, best.1))
 
-view-AreBest : (old : State) (name parent : List ℕ) (reply : Reply) (new : State) → IsBestState old → ViewStep old name parent reply new → IsBestState new
-view-AreBest old name parent reply new best (inl x) = kept old new best x.2
-view-AreBest old name parent reply new best (inr (a, inl x)) = kept old new best x.2
-view-AreBest old name parent reply new best (inr (a, inr (b, inl x))) = kept old new best x.2
-view-AreBest old name parent reply new best (inr (a, inr (b, inr (c, inl x)))) = kept old new best x.2
-view-AreBest old name parent reply new best (inr (a, inr (b, inr (c, inr (d, inl x))))) = kept old new best x.2
-view-AreBest old name parent reply new best (inr (a, inr (b, inr (c, inr (d, inr (e, inl x)))))) = kept old new best x.2
-view-AreBest old name parent reply new best (inr (a, inr (b, inr (c, inr (d, inr (e, inr (f, (above, named, solves)))))))) = solves-free-AreBest _ old reply new best solves
+solves-free-change : (old : State) (draft : Scene) (reply : Reply) (new : State) → SolvesFree old draft reply new → MayChange old reply new
+solves-free-change old draft reply new (inl accepts) = accepts-change draft old reply new accepts
+solves-free-change old draft reply new (inr (inl over)) = inl over.refused.1
+solves-free-change old draft reply new (inr (inr spent)) = inl spent.refused.1
 
-metric-AreBest : (old : State) (name : List ℕ) (value : Fraction) (reply : Reply) (new : State) → IsBestState old → MetricStep old name value reply new → IsBestState new
-metric-AreBest old name value reply new best (inl x) = kept old new best x.2
-metric-AreBest old name value reply new best (inr (a, inl x)) = kept old new best x.2
-metric-AreBest old name value reply new best (inr (a, inr (b, inl x))) = kept old new best x.2
-metric-AreBest old name value reply new best (inr (a, inr (b, inr (c, inl x)))) = kept old new best x.2
-metric-AreBest old name value reply new best (inr (a, inr (b, inr (c, inr (rows, are, inl x))))) = kept old new best x.2
-metric-AreBest old name value reply new best (inr (a, inr (b, inr (c, inr (rows, are, inr (d, solves)))))) = solves-AreBest _ old reply new best solves
+solves-change : (old : State) (draft : Scene) (reply : Reply) (new : State) → Solves old draft reply new → MayChange old reply new
+solves-change old draft reply new (inl conflict) = inl conflict.refused.1
+solves-change old draft reply new (inr free) = solves-free-change old draft reply new free
 
-window-AreBest : (old : State) (w h : Fraction) (reply : Reply) (new : State) → IsBestState old → WindowStep old w h reply new → IsBestState new
-window-AreBest old w h reply new best (inl x) = kept old new best x.2
-window-AreBest old w h reply new best (inr (a, solves)) = solves-AreBest _ old reply new best solves
+view-change : (old : State) (name parent : List ℕ) (reply : Reply) (new : State) → TriedView old name parent (SolvesFree old) reply new → MayChange old reply new
+view-change old name parent reply new (inl x) = inl x.2
+view-change old name parent reply new (inr (a, inl x)) = inl x.2
+view-change old name parent reply new (inr (a, inr (b, inl x))) = inl x.2
+view-change old name parent reply new (inr (a, inr (b, inr (c, inl x)))) = inl x.2
+view-change old name parent reply new (inr (a, inr (b, inr (c, inr (d, inl x))))) = inl x.2
+view-change old name parent reply new (inr (a, inr (b, inr (c, inr (d, inr (e, inl x)))))) = inl x.2
+view-change old name parent reply new (inr (a, inr (b, inr (c, inr (d, inr (e, inr (f, (above, named, solves)))))))) = solves-free-change old _ reply new solves
 
-line-AreBest : (old : State) (group : List ℕ) (count : ℕ) (May : CompileStop → Type 0) (Is : CompiledLine → Type 0) (reply : Reply) (new : State) → IsBestState old → LineStep old group count May Is reply new → IsBestState new
-line-AreBest old group count May Is reply new best (inl x) = kept old new best x.3
-line-AreBest old group count May Is reply new best (inr (a, inl x)) = kept old new best x.2
-line-AreBest old group count May Is reply new best (inr (a, inr (b, inl x))) = kept old new best x.2
-line-AreBest old group count May Is reply new best (inr (a, inr (b, inr (c, inl x)))) = kept old new best x.3
-line-AreBest old group count May Is reply new best (inr (a, inr (b, inr (c, inr (d, inl x))))) = kept old new best x.2
-line-AreBest old group count May Is reply new best (inr (a, inr (b, inr (c, inr (d, inr (e, inl x)))))) = kept old new best x.3
-line-AreBest old group count May Is reply new best (inr (a, inr (b, inr (c, inr (d, inr (e, inr (f, (line, is, solves)))))))) = solves-AreBest _ old reply new best solves
+metric-change : (old : State) (name : List ℕ) (value : Fraction) (reply : Reply) (new : State) → TriedMetric old name value (Solves old) reply new → MayChange old reply new
+metric-change old name value reply new (inl x) = inl x.2
+metric-change old name value reply new (inr (a, inl x)) = inl x.2
+metric-change old name value reply new (inr (a, inr (b, inl x))) = inl x.2
+metric-change old name value reply new (inr (a, inr (b, inr (c, inl x)))) = inl x.2
+metric-change old name value reply new (inr (a, inr (b, inr (c, inr (d, (rows, are, inl x)))))) = inl x.2
+metric-change old name value reply new (inr (a, inr (b, inr (c, inr (d, (rows, are, inr (e, solves))))))) = solves-change old _ reply new solves
 
-budget-AreBest : (old : State) (n : ℕ) (reply : Reply) (new : State) → IsBestState old → BudgetStep old n reply new → IsBestState new
-budget-AreBest old n reply new best (inl x) = kept old new best x.2
-budget-AreBest old n reply new best (inr (a, (done, is))) = subst IsBestState (sym is) best
+window-change : (old : State) (w h : Fraction) (reply : Reply) (new : State) → TriedWindow old w h (Solves old) reply new → MayChange old reply new
+window-change old w h reply new (inl x) = inl x.2
+window-change old w h reply new (inr (a, solves)) = solves-change old _ reply new solves
 
-meaning-AreBest : (old : State) (m : Meaning) (reply : Reply) (new : State) → IsBestState old → MeaningStep old m reply new → IsBestState new
-meaning-AreBest old mean.Nothing reply new best step = kept old new best step.1
-meaning-AreBest old (mean.View name parent) reply new best step = view-AreBest old name (parent_name parent) reply new best step
-meaning-AreBest old (mean.Metric name value) reply new best step = metric-AreBest old name value reply new best step
-meaning-AreBest old (mean.Window w h) reply new best step = window-AreBest old w h reply new best step
-meaning-AreBest old (mean.Constrain group line) reply new best step = line-AreBest old group 1 (MayStop old.scene.tree.views old.scene.metrics line old.scene.next_row) (IsCompiled old.scene.tree.views old.scene.metrics line old.scene.next_row) reply new best step
-meaning-AreBest old (mean.Vfl group align format) reply new best step = line-AreBest old group (row_count old.scene.tree.views (parts format align)) (MayStopFormat old.scene.tree.views old.scene.metrics format align old.scene.next_row) (IsCompiledFormat old.scene.tree.views old.scene.metrics format align old.scene.next_row) reply new best step
-meaning-AreBest old (mean.Budget n) reply new best step = budget-AreBest old n reply new best step
-meaning-AreBest old mean.Frames reply new best step = kept old new best step.1
-meaning-AreBest old mean.Rows reply new best step = kept old new best step.1
+line-change : (old : State) (group : List ℕ) (count : ℕ) (May : CompileStop → Type 0) (Is : CompiledLine → Type 0) (reply : Reply) (new : State) → TriedLine old group count May Is (Solves old) reply new → MayChange old reply new
+line-change old group count May Is reply new (inl x) = inl x.3
+line-change old group count May Is reply new (inr (a, inl x)) = inl x.2
+line-change old group count May Is reply new (inr (a, inr (b, inl x))) = inl x.2
+line-change old group count May Is reply new (inr (a, inr (b, inr (c, inl x)))) = inl x.3
+line-change old group count May Is reply new (inr (a, inr (b, inr (c, inr (d, inl x))))) = inl x.2
+line-change old group count May Is reply new (inr (a, inr (b, inr (c, inr (d, inr (e, inl x)))))) = inl x.3
+line-change old group count May Is reply new (inr (a, inr (b, inr (c, inr (d, inr (e, inr (f, (line, is, solves)))))))) = solves-change old _ reply new solves
 
-grammar-AreBest : (old : State) (line : List ℕ) (reply : Reply) (new : State) → IsBestState old → GrammarStep old line reply new → IsBestState new
-grammar-AreBest old line reply new best (inl (at, leaves, keeps)) = kept old new best keeps.1
-grammar-AreBest old line reply new best (inr (m, reads, step)) = meaning-AreBest old m reply new best step
+budget-change : (old : State) (n : ℕ) (reply : Reply) (new : State) → BudgetStep old n reply new → MayChange old reply new
+budget-change old n reply new (inl x) = inl x.2
+budget-change old n reply new (inr (a, (done, is))) = inr (done, λ best. subst IsBestState (sym is) best)
 
-pub step-AreBest : (old : State) (line : List ℕ) (reply : Reply) (new : State) → IsBestState old → Step old line reply new → IsBestState new
-step-AreBest old line reply new best (inl x) = kept old new best x.2
-step-AreBest old line reply new best (inr (short, step)) = grammar-AreBest old line reply new best step
+meaning-change : (old : State) (m : Meaning) (reply : Reply) (new : State) → MeaningStep old m reply new → MayChange old reply new
+meaning-change old mean.Nothing reply new step = inl step.1
+meaning-change old (mean.View name parent) reply new step = view-change old name (parent_name parent) reply new step
+meaning-change old (mean.Metric name value) reply new step = metric-change old name value reply new step
+meaning-change old (mean.Window w h) reply new step = window-change old w h reply new step
+meaning-change old (mean.Constrain group line) reply new step = line-change old group 1 (MayStop old.scene.tree.views old.scene.metrics line old.scene.next_row) (IsCompiled old.scene.tree.views old.scene.metrics line old.scene.next_row) reply new step
+meaning-change old (mean.Vfl group align format) reply new step = line-change old group (row_count old.scene.tree.views (parts format align)) (MayStopFormat old.scene.tree.views old.scene.metrics format align old.scene.next_row) (IsCompiledFormat old.scene.tree.views old.scene.metrics format align old.scene.next_row) reply new step
+meaning-change old (mean.Budget n) reply new step = budget-change old n reply new step
+meaning-change old mean.Frames reply new step = inl step.1
+meaning-change old mean.Rows reply new step = inl step.1
+
+grammar-change : (old : State) (line : List ℕ) (reply : Reply) (new : State) → GrammarStep old line reply new → MayChange old reply new
+grammar-change old line reply new (inl (at, leaves, keeps)) = inl keeps.1
+grammar-change old line reply new (inr (m, reads, step)) = meaning-change old m reply new step
+
+pub step-change : (old : State) (line : List ℕ) (reply : Reply) (new : State) → Step old line reply new → MayChange old reply new
+step-change old line reply new (inl x) = inl x.2
+step-change old line reply new (inr (short, step)) = grammar-change old line reply new step
+
+changed-AreBest : (old : State) (reply : Reply) (new : State) → IsBestState old → MayChange old reply new → IsBestState new
+changed-AreBest old reply new best (inl same) = kept old new best same
+changed-AreBest old reply new best (inr (done, to)) = to best
 
 pub run-AreBest : (old new : State) (lines : List (List ℕ)) (text : List ℕ) (good : Bool) → IsBestState old → Run old lines text good new → IsBestState new
 run-AreBest old new [] text good best run = kept old new best run.2
 run-AreBest old new (line ∷ more) text good best (reply, mid, rest, rest_good, step, text_is, good_is, run) =
-    run-AreBest mid new more rest rest_good (step-AreBest old line reply mid best step) run
+    run-AreBest mid new more rest rest_good (changed-AreBest old reply mid best (step-change old line reply mid step)) run

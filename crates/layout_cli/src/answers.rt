@@ -6,8 +6,7 @@ ghost use Rattle.session_undo.specs.Replies.{accepted, is_accepted, MayRefuse};
 ghost use Rattle.session_undo.specs.Replies as reply;
 
 use crate::output::Output;
-use crate::refusals::push_refusal;
-use crate::replies::push_reply;
+use crate::replies::reply_text;
 use frac_core::OutOfMemory;
 use name_tables::LimitWord;
 use script_text::{LineStop, read_line};
@@ -17,6 +16,9 @@ use std::alloc::Global;
 
 /// The greatest length of a line, its end not counted.
 const LINE_LIMIT: usize = 4096;
+
+/// The length of the reply to a change.
+const OK_LENGTH: usize = 3;
 
 // Does what a line says.
 fn step(alloc: Global, session: &mut Session, line: &[u8]) -> Result<Reply, Refusal>
@@ -28,26 +30,23 @@ fn step(alloc: Global, session: &mut Session, line: &[u8]) -> Result<Reply, Refu
         return Err(Refusal::Limit(LimitWord::Line));
     }
     match read_line(alloc, line) {
-        Ok(command) => session.apply(&command),
+        Ok(command) => session.apply(command),
         Err(LineStop::SyntaxAt(at)) => Err(Refusal::Syntax(at)),
         Err(LineStop::OutOfMemory) => Err(Refusal::OutOfMemory),
     }
 }
 
-// Does what a line says, appends the reply, and says whether it is no refusal.
+// Does what a line says, appends the reply, and says whether it is no refusal. The room for `ok` is there before a change is made.
 fn answer(session: &mut Session, line: &[u8], out: &mut Vec<u8>) -> Result<bool, OutOfMemory>
-    ensures { IfOk result (λ good. (answer : reply.Reply) × Step session.old line.now answer session.new
+    ensures told { IfOk result (λ good. (answer : reply.Reply) × Step session.old line.now answer session.new
         × (out.new.items ≡ out.old.items ++ text_of session.new.scene answer) × (good ≡ is_accepted answer)) }
+    ensures same { OnErr result (session.new ≡ session.old) }
 {
-    match step(*out.allocator(), session, line) {
-        Ok(reply) => {
-            push_reply(session, reply, out)?;
-            Ok(true)
-        }
-        Err(refusal) => {
-            push_refusal(&refusal, out)?;
-            Ok(false)
-        }
+    out.reserve(OK_LENGTH)?;
+    let reply = step(*out.allocator(), session, line);
+    match reply_text(session, &reply, out) {
+        Ok(()) => Ok(reply.is_ok()),
+        Err(stop) => Err(stop),
     }
 }
 

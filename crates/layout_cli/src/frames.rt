@@ -54,6 +54,7 @@ fn zero() -> Frac
 fn value_of(engine: &Engine, attr: u32) -> Frac
     ensures { result ≡ value_of engine.now.values attr }
 {
+    engine.show_layout();
     match engine.value(attr) {
         Some(value) => value,
         None => zero(),

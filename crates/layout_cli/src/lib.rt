@@ -20,6 +20,7 @@ mod replies;
 pub use laws::{best_values_are_unique, first_values_are_best, runs_lead_to_best_values};
 pub use mode::{CHECK_LIMIT, INPUT_LIMIT};
 pub use program::{Status, run};
+pub use replies::reply_text;
 
 #[cfg(test)]
 mod script_tests;

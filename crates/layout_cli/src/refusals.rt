@@ -99,7 +99,7 @@ fn push_spent(out: &mut Vec<u8>, path: &Path) -> Result<(), OutOfMemory>
     push_path(out, path)
 }
 
-/// Appends the text of a refusal. What isn't told ends the run.
+/// Appends the text of a refusal. None is told of want of memory.
 pub fn push_refusal(refusal: &Refusal, out: &mut Vec<u8>) -> Result<(), OutOfMemory>
     ensures { IfOk result (λ _. IsTold (λ reply. out.new.items ≡ out.old.items ++ refusal_text reply) refusal.now) }
 {

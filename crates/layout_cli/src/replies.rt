@@ -1,16 +1,19 @@
 // The text of replies to accepted lines.
-ghost use Rattle.std.specs.Prelude.{◌≡◌, ◌++◌, IfOk, codes, string_bytes};
+ghost use Rattle.std.specs.Prelude.{◌≡◌, ◌≤◌, ◌+◌, ◌++◌, IfOk, OnOk, IsOk, codes, string_bytes, vec_len, vec_capacity};
 ghost use Rattle.layout_cli.specs.Replies.{text_of, frames_text, rows_text, names_of, text_of_each, line_of};
-ghost use Rattle.session_undo.specs.Replies.{accepted};
+ghost use Rattle.session_undo.specs.Replies.{accepted, IsChange, Tells};
+ghost use Rattle.session_undo.specs.declared.reply.Reply.TheVariants.{Done};
 
 use crate::frames::push_frames;
 use crate::names::put_names;
+use crate::refusals::push_refusal;
 use claim_text::problem_text;
 use frac_core::OutOfMemory;
-use session_undo::{Reply, Session};
+use session_undo::{Refusal, Reply, Session};
 
 fn push_ok(out: &mut Vec<u8>) -> Result<(), OutOfMemory>
-    ensures { IfOk result (λ _. out.new.items ≡ out.old.items ++ line_of (codes "ok")) }
+    ensures text { IfOk result (λ _. out.new.items ≡ out.old.items ++ line_of (codes "ok")) }
+    ensures room { vec_len out.old + 3 ≤ vec_capacity out.old → IsOk result }
 {
     out.extend_from_slice(b"ok\n")?;
     Ok(())
@@ -20,7 +23,7 @@ fn push_names(session: &Session, out: &mut Vec<u8>) -> Result<(), OutOfMemory>
     ensures { IfOk result (λ _. out.new.items ≡ out.old.items ++ text_of_each names_of session.now.scene.tree.views) }
 {
     let mut text = String::new(*out.allocator());
-    put_names(&mut text, session.tree())?;
+    put_names(&mut text, session.state().tree())?;
     out.extend_from_slice(text.as_bytes())?;
     Ok(())
 }
@@ -28,7 +31,7 @@ fn push_names(session: &Session, out: &mut Vec<u8>) -> Result<(), OutOfMemory>
 fn show_frames(session: &Session, out: &mut Vec<u8>) -> Result<(), OutOfMemory>
     ensures { IfOk result (λ _. out.new.items ≡ out.old.items ++ frames_text session.now.scene) }
 {
-    push_frames(out, session.tree(), session.engine())?;
+    push_frames(out, session.state().tree(), session.engine())?;
     push_ok(out)
 }
 
@@ -40,14 +43,31 @@ fn show_rows(session: &Session, out: &mut Vec<u8>) -> Result<(), OutOfMemory>
     push_ok(out)
 }
 
-/// Appends the text of the reply to an accepted line.
-pub fn push_reply(session: &Session, reply: Reply, out: &mut Vec<u8>) -> Result<(), OutOfMemory>
-    ensures { IfOk result (λ _. out.new.items ≡ out.old.items ++ text_of session.now.scene (accepted reply)) }
+// Appends the text of the reply to an accepted line.
+fn push_reply(session: &Session, reply: &Reply, out: &mut Vec<u8>) -> Result<(), OutOfMemory>
+    ensures text { IfOk result (λ _. out.new.items ≡ out.old.items ++ text_of session.now.scene (accepted reply.now)) }
+    ensures room { reply.now ≡ Done → vec_len out.old + 3 ≤ vec_capacity out.old → IsOk result }
 {
     match reply {
         Reply::Silent => Ok(()),
         Reply::Done => push_ok(out),
         Reply::Frames => show_frames(session, out),
         Reply::Rows => show_rows(session, out),
+    }
+}
+
+/// Appends the lines of the reply to a command of the session; there are none for want of memory. Where a change was made, three
+/// bytes of room are enough.
+pub fn reply_text(
+    session: &Session,
+    reply: &Result<Reply, Refusal>,
+    out: &mut Vec<u8>,
+) -> Result<(), OutOfMemory>
+    ensures text { OnOk result (Tells (λ told. out.new.items ≡ out.old.items ++ text_of session.now.scene told) reply.now) }
+    ensures room { IsChange reply.now → vec_len out.old + 3 ≤ vec_capacity out.old → IsOk result }
+{
+    match reply {
+        Ok(reply) => push_reply(session, reply, out),
+        Err(refusal) => push_refusal(refusal, out),
     }
 }

@@ -140,3 +140,64 @@ fn numbers_that_do_not_fit_are_told(rt: HostRuntime) -> Result<(), Fail> {
     assert!(rt; !path.is_empty());
     Ok(())
 }
+
+// Two lefts must move, and one exchange moves one attribute here.
+#[test]
+fn used_up_exchanges_are_told(rt: HostRuntime) -> Result<(), Fail> {
+    let script = b"view a\nview b\nwindow 300 100\nbudget 1\nvfl g H:|-8-[a]-8-[b]-8-|\nframes\n";
+    let got = answer_to(&rt, "run", script)?;
+    assert_eq!(rt; got.status, Status::Refused);
+    let frames = "frame window 0 0 300 100\nframe a 0 0 0 0\nframe b 0 0 0 0\nok\n";
+    let path = between(
+        &got,
+        "ok\nok\nok\nok\nrefused 8 spent\npath primal\n",
+        frames,
+    )?;
+    let mut swaps: usize = 0;
+    for line in span_text::lines(path) {
+        if line.bytes.starts_with(b"swap ") {
+            swaps = swaps.saturating_add(1);
+        }
+    }
+    assert_eq!(rt; swaps, 1);
+    Ok(())
+}
+
+const FRONT: &str = "view a\nview b\nwindow 300 100\nvfl g H:|-8-[a]-8-[b]-8-|\n";
+
+// What the word `check` says of the conflict that a line makes. The problem is what `rows` prints with the line at the priority
+// 999, which is raised to 1000.
+fn verdict_on(rt: &HostRuntime, line: &str) -> Result<Answer, Fail> {
+    let alloc = rt.alloc();
+    let mut script = String::new(alloc);
+    write!(script, "{FRONT}constrain h {line} @999\nrows\n")?;
+    let soft = answer_to(rt, "run", script.as_bytes())?;
+    let mut script = String::new(alloc);
+    write!(script, "{FRONT}constrain h {line}\n")?;
+    let hard = answer_to(rt, "run", script.as_bytes())?;
+    let shown = between(&hard, "ok\nok\nok\nok\nrefused 6 ", "")?;
+    let rows = between(&soft, "ok\nok\nok\nok\nok\n", "ok\n")?;
+    let rows = String::from_utf8_lossy(alloc, rows)?;
+    let mut text = rows
+        .as_str()
+        .replace(alloc, " 999 ", " 1000 ")?
+        .into_bytes();
+    text.extend_from_slice(shown)?;
+    answer_to(rt, "check", &text)
+}
+
+#[test]
+fn conflicts_of_many_rows_are_shown(rt: HostRuntime) -> Result<(), Fail> {
+    for by in 1..4 {
+        for more in 0..3 {
+            let mut line = String::new(rt.alloc());
+            write!(
+                line,
+                "{by}*a.width + {by}*b.width >= {by}*window.width + {more}"
+            )?;
+            let verdict = verdict_on(&rt, &line)?;
+            assert!(rt; verdict.bytes.as_slice() == b"yes\n".as_slice(), "{line}");
+        }
+    }
+    Ok(())
+}
