@@ -231,7 +231,7 @@ stay-value d k u o one a =
     let e : (pos d *ℤ pos 1) *ℤ a ≡ pos d *ℤ a = ap (λ (z : ℤ). z *ℤ a) (let h : pos d *ℤ pos 1 ≡ pos d = omega (arith, ints) in h) in
     omega (arith, ints, b, c, e, mul-add_left (pos d) (u -ℤ o) a, mul-sub_left (pos d) u o)
 
-stay-holds : (n : ℕ) (s : Stay) (y : ℕ → ℤ) → value_at y (equation (line_of_stay n s)) ≡ pos 0 → pos s.target.den *ℤ ((y (place_of (StayOf s.attr) Under) -ℤ y (place_of (StayOf s.attr) Over)) +ℤ y (attr_column s.attr)) ≡ s.target.num *ℤ y one_column
+pub stay-holds : (n : ℕ) (s : Stay) (y : ℕ → ℤ) → value_at y (equation (line_of_stay n s)) ≡ pos 0 → pos s.target.den *ℤ ((y (place_of (StayOf s.attr) Under) -ℤ y (place_of (StayOf s.attr) Over)) +ℤ y (attr_column s.attr)) ≡ s.target.num *ℤ y one_column
 stay-holds n s y h =
     same (pos s.target.den *ℤ ((y (place_of (StayOf s.attr) Under) -ℤ y (place_of (StayOf s.attr) Over)) +ℤ y (attr_column s.attr))) (s.target.num *ℤ y one_column)
     (sym (stay-value s.target.den s.target.num (y (place_of (StayOf s.attr) Under)) (y (place_of (StayOf s.attr) Over)) (y one_column) (y (attr_column s.attr))) ∙ h)
@@ -415,6 +415,32 @@ unsettled-stands p at new x y whole g above unit m sx sy = (
       (subst (λ (ms : List Mark). Each (λ mk. (IsIn (place mk) at → ⊥) → y.num (place mk) ≡ pos 0) ms) (same-marks x.num p new m) (recursion_from_All (λ mk. (IsIn (place mk) at → ⊥) → y.num (place mk) ≡ pos 0) (marks_of (lines (with_stays new p))) sy.1)))),
 )
 
+settled-stands : (p : Problem) (at : List Mark) (new : List Stay) (whole : IsWhole p) (corner : IsCorner p at) → AreMoved corner.point.num p.stays new → StandsAt (with_stays new p) at (settled-point p whole corner.point)
+unfolding settled-point
+settled-stands p at new whole corner m = (
+  settled-solves p new corner.point.num whole m corner.stands.0,
+  subst (λ (ms : List Mark). All (λ mk. (IsIn (place mk) at → ⊥) → settled p.stays corner.point.num (place mk) ≡ pos 0) ms) (sym (same-marks corner.point.num p new m))
+      (All-from_recursion (λ mk. (IsIn (place mk) at → ⊥) → settled p.stays corner.point.num (place mk) ≡ pos 0) (marks_of (lines p))
+      (each-impl (λ mk. (IsIn (place mk) at → ⊥) → corner.point.num (place mk) ≡ pos 0) _ (marks_of (lines p)) (λ mk k out. none-part p.stays corner.point.num (place mk) (k out)) (recursion_from_All (λ mk. (IsIn (place mk) at → ⊥) → corner.point.num (place mk) ≡ pos 0) (marks_of (lines p)) corner.stands.1))),
+)
+
+-- where the stays have moved, the rows' marks stand as before
+pub stood_points : (p : Problem) (at : List Mark) (new : List Stay) → IsWhole p → IsCorner p at → HaveStood p at new
+    → (x : Point) × StandsAt p at x × ((y : Point) × StandsAt (with_stays new p) at y × (y.num one_column ≡ x.num one_column)
+    × ((id : ℕ) (side : Side) → y.num (place_of (Held id) side) ≡ x.num (place_of (Held id) side)))
+unfolding settled-point
+stood_points p at new whole corner h =
+    let m = stood p at new corner h in (
+      corner.point,
+      corner.stands,
+      (
+        settled-point p whole corner.point,
+        settled-stands p at new whole corner m,
+        settled-same p.stays corner.point.num one_column (one-part p corner.point.num whole),
+        (λ id side. settled-same p.stays corner.point.num (place_of (Held id) side) (part-none p.stays corner.point.num (place_of (Held id) side) (no-held p.stays id side))),
+      ),
+    )
+
 pub stood_corner : (p : Problem) (at : List Mark) (new : List Stay) → IsWhole p → IsCorner p at → HaveStood p at new → IsCorner (with_stays new p) at
 unfolding settled-point unsettled-point
 stood_corner p at new whole corner h =
@@ -431,12 +457,7 @@ stood_corner p at new whole corner h =
           (each-impl (λ mk. Contains (map place (marks_of (lines p))) (place mk)) _ at (λ mk is. subst (λ (ms : List Mark). Contains (map place ms) (place mk)) (sym marks) is) (recursion_from_All (λ mk. Contains (map place (marks_of (lines p))) (place mk)) at corner.marks));
       apart = corner.apart;
       point = settled-point p whole corner.point;
-      stands = (
-        settled-solves p new corner.point.num whole m corner.stands.0,
-        subst (λ (ms : List Mark). All (λ mk. (IsIn (place mk) at → ⊥) → settled p.stays corner.point.num (place mk) ≡ pos 0) ms) (sym marks)
-            (All-from_recursion (λ mk. (IsIn (place mk) at → ⊥) → settled p.stays corner.point.num (place mk) ≡ pos 0) (marks_of (lines p))
-            (each-impl (λ mk. (IsIn (place mk) at → ⊥) → corner.point.num (place mk) ≡ pos 0) _ (marks_of (lines p)) (λ mk k out. none-part p.stays corner.point.num (place mk) (k out)) (recursion_from_All (λ mk. (IsIn (place mk) at → ⊥) → corner.point.num (place mk) ≡ pos 0) (marks_of (lines p)) corner.stands.1))),
-      );
+      stands = settled-stands p at new whole corner m;
       marks_fixed = λ y stands.
           subst (λ (ms : List Mark). All (λ mk. Agree (place mk) (settled-point p whole corner.point) y) ms) (sym marks)
           (All-from_recursion (λ mk. Agree (place mk) (settled-point p whole corner.point) y) (marks_of (lines p))

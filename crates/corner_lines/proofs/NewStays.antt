@@ -1,12 +1,13 @@
 -- A corner is a corner of the problem with one attribute more, whose stay is outside.
-use Rattle.std.proofs.Common.{◌≡◌, ◌≢◌, ◌∙◌, ℕ, suc, ◌+◌, ◌<◌, ◌++◌, Bool, cond, nat_eq, List, [], ◌∷◌, map, ℤ, pos, negsuc, ◌+ℤ◌, ◌-ℤ◌, ◌*ℤ◌, neg_ℤ, ◌<ℤ◌, unsigned_abs, refl, sym, ap, ap₂, subst, arith, All, Contains, inl, inr, ◌⊎◌, eq-eqb, ne_eqb}
+use Rattle.std.proofs.Common.{◌≡◌, ◌≢◌, ◌∙◌, ℕ, suc, ◌+◌, ◌<◌, ◌++◌, Bool, cond, nat_eq, List, [], ◌∷◌, map, ℤ, pos, negsuc, ◌+ℤ◌, ◌-ℤ◌, ◌*ℤ◌, ◌<ℤ◌, unsigned_abs, refl, sym, ap, ap₂, subst, arith, All, Contains, eq-eqb, ne_eqb}
 use Rattle.std.specs.Int.{◌∣◌}
 use Rattle.std.specs.List.{AllByRecursion as Each}
 use Rattle.std.proofs.Math.Nat.{eq-one_of_dvd-one}
-use Rattle.std.proofs.lemmas.Bool.{cases_eq}
 use Rattle.std.proofs.lemmas.List.Elements.{recursion_from_All, All-from_recursion}
+use lib.IntN.{*ℤ_comm}
 use borrow.Author.Differences.{ints}
-use Rattle.frac_core.proofs.Integers.{mul-zero_ℤ, zero-mul_ℤ, zero-add_ℤ}
+use Rattle.frac_core.proofs.Integers.{mul-zero_ℤ, mul_assoc_ℤ, mul_left_comm_ℤ, mul_positive, zero-mul_ℤ, zero-add_ℤ}
+use Rattle.frac_core.specs.Fraction.{Fraction}
 use Rattle.problem_core.specs.declared.parts.Mark.{Mark}
 use Rattle.problem_core.specs.declared.parts.RowName.{RowName}
 use Rattle.problem_core.specs.declared.parts.RowName.TheVariants.{Held, Stay as StayOf}
@@ -18,7 +19,7 @@ use Rattle.problem_core.specs.Kept.{IsNumber, IsWhole}
 use Rattle.problem_core.specs.Layout.{HasStay, IsCovered, Line, Problem, Row, line_of_row, line_of_stay, lines, stay_lines, sum_of, value_at}
 use Rattle.problem_core.specs.Corners.{Agree, IsCorner, IsIn, Point, Solves, StandsAt, attr_column, equation, marks_of, one_column, place, place_of}
 use Rattle.problem_core.specs.Rays.{HasRays, IsRay}
-use Rattle.problem_core.proofs.Forms.{each-both, each-impl, sum-zero}
+use Rattle.problem_core.proofs.Forms.{each-both, each-impl, sum-zero, value-scaled}
 use Rattle.problem_core.proofs.Tableaus.{unit_at}
 use Rattle.corner_laws.proofs.ColumnsStay.{each_marks}
 use Rattle.corner_laws.proofs.Counting.{cond_other, cond_same, sides_apart}
@@ -28,6 +29,7 @@ use Rattle.corner_laws.proofs.ZeroColumns.{each-joined, here-in}
 use Rattle.corner_lines.specs.LineEquations.{IsLineEquation, IsOutsideLine, deviation, sign_of}
 use Rattle.corner_lines.specs.Joins.{new_stay, with_attr}
 use Rattle.corner_lines.proofs.MarkForms.{same-name}
+use Rattle.corner_lines.proofs.MovedStays.{stay-holds, stay-solves}
 
 -- ---- the lines with the stay
 
@@ -47,11 +49,11 @@ rows_put : (P : Line → Type 0) (rows : List Row) (level : ℕ) (stays : List S
 rows_put P [] level stays s h here = stays_put P level stays s h here
 rows_put P (r ∷ rows) level stays s h here = (h.0, rows_put P rows level stays s h.1 here)
 
-pub attr_drop : (P : Line → Type 0) (p : Problem) (attr : ℕ) → Each P (lines (with_attr attr p)) → Each P (lines p) × ((n : ℕ) × P (line_of_stay n (new_stay attr)))
-attr_drop P p attr h = rows_drop P p.rows 1001 p.stays (new_stay attr) h
+pub attr_drop : (P : Line → Type 0) (p : Problem) (attr : ℕ) (target : Fraction) → Each P (lines (with_attr attr target p)) → Each P (lines p) × ((n : ℕ) × P (line_of_stay n (new_stay attr target)))
+attr_drop P p attr target h = rows_drop P p.rows 1001 p.stays (new_stay attr target) h
 
-pub attr_put : (P : Line → Type 0) (p : Problem) (attr : ℕ) → Each P (lines p) → ((n : ℕ) → P (line_of_stay n (new_stay attr))) → Each P (lines (with_attr attr p))
-attr_put P p attr h here = rows_put P p.rows 1001 p.stays (new_stay attr) h here
+pub attr_put : (P : Line → Type 0) (p : Problem) (attr : ℕ) (target : Fraction) → Each P (lines p) → ((n : ℕ) → P (line_of_stay n (new_stay attr target))) → Each P (lines (with_attr attr target p))
+attr_put P p attr target h here = rows_put P p.rows 1001 p.stays (new_stay attr target) h here
 
 stays-sum : (F : RowName → ℤ) (level : ℕ) (stays : List Stay) (s : Stay) → sum_of (λ l. F l.name) (stay_lines level (stays ++ (s ∷ []))) ≡ F (StayOf s.attr) +ℤ sum_of (λ l. F l.name) (stay_lines level stays)
 stays-sum F level [] s = refl
@@ -69,10 +71,11 @@ rows-sum F (r ∷ rows) level stays s = ap (λ (z : ℤ). F (Held r.id) +ℤ z) 
 
 -- ---- the attribute is new
 
-record IsNewAttr (p : Problem) (attr : ℕ) : Type 0 where
+record IsNewAttr (p : Problem) (attr : ℕ) (target : Fraction) : Type 0 where
   whole : IsWhole p
   number : IsNumber attr
   fresh : HasStay p.stays attr → ⊥
+  above : 0 < target.den
 
 held-stay : (a b : ℕ) → Held a ≢ StayOf b
 held-stay a b e = cc
@@ -107,8 +110,8 @@ row-others (r ∷ rows) stays attr fresh h = (
   row-others rows stays attr fresh h.1,
 )
 
-all-others : (p : Problem) (attr : ℕ) → IsNewAttr p attr → Each (IsOther attr) (lines p)
-all-others p attr new =
+all-others : (p : Problem) (attr : ℕ) (target : Fraction) → IsNewAttr p attr target → Each (IsOther attr) (lines p)
+all-others p attr target new =
     each-impl (λ l. ((l.name ≢ StayOf attr) × Each (λ e. e.attr ≢ attr) l.form) × IsSmallLine l) (IsOther attr) (lines p)
     (λ l h. record { name = h.0.0; form = h.0.1; small = h.1 })
     (each-both _ _ (lines p)
@@ -117,39 +120,39 @@ all-others p attr new =
     (stay-others 1001 p.stays attr (stays-other p.stays attr new.fresh)))
     (lines_small p new.whole))
 
-fresh-place : (p : Problem) (attr c : ℕ) (side : Side) → IsNewAttr p attr → Contains (map place (marks_of (lines p))) c → c ≢ place_of (StayOf attr) side
-fresh-place p attr c side new is =
+fresh-place : (p : Problem) (attr : ℕ) (target : Fraction) (c : ℕ) (side : Side) → IsNewAttr p attr target → Contains (map place (marks_of (lines p))) c → c ≢ place_of (StayOf attr) side
+fresh-place p attr target c side new is =
     contains_each (λ v. v ≢ place_of (StayOf attr) side) (marks_of (lines p)) c
     (each_marks (λ v. v ≢ place_of (StayOf attr) side) (lines p)
-    (each-impl (IsOther attr) _ (lines p) (λ l o e. o.name (same-name l.name (StayOf attr) Under side e)) (all-others p attr new))
-    (each-impl (IsOther attr) _ (lines p) (λ l o e. o.name (same-name l.name (StayOf attr) Over side e)) (all-others p attr new))) is
+    (each-impl (IsOther attr) _ (lines p) (λ l o e. o.name (same-name l.name (StayOf attr) Under side e)) (all-others p attr target new))
+    (each-impl (IsOther attr) _ (lines p) (λ l o e. o.name (same-name l.name (StayOf attr) Over side e)) (all-others p attr target new))) is
 
 small-mark : (p : Problem) (c : ℕ) → IsWhole p → Contains (map place (marks_of (lines p))) c → c < 17179869184
 small-mark p c whole is =
     contains_each (λ v. v < 17179869184) (marks_of (lines p)) c
     (each_marks (λ v. v < 17179869184) (lines p) (each-impl IsSmallLine _ (lines p) (λ l s. s.under) (lines_small p whole)) (each-impl IsSmallLine _ (lines p) (λ l s. s.over) (lines_small p whole))) is
 
-mark-grows : (p : Problem) (attr c : ℕ) → Contains (map place (marks_of (lines p))) c → Contains (map place (marks_of (lines (with_attr attr p)))) c
-mark-grows p attr c is =
-    let here = (attr_drop (λ l. Contains (map place (marks_of (lines (with_attr attr p)))) (place_of l.name Under) × Contains (map place (marks_of (lines (with_attr attr p)))) (place_of l.name Over)) p attr (here-in (lines (with_attr attr p)))).0 in
-    contains_each (λ v. Contains (map place (marks_of (lines (with_attr attr p)))) v) (marks_of (lines p)) c
-    (each_marks (λ v. Contains (map place (marks_of (lines (with_attr attr p)))) v) (lines p)
-    (each-impl (λ l. Contains (map place (marks_of (lines (with_attr attr p)))) (place_of l.name Under) × Contains (map place (marks_of (lines (with_attr attr p)))) (place_of l.name Over)) _ (lines p) (λ l h. h.0) here)
-    (each-impl (λ l. Contains (map place (marks_of (lines (with_attr attr p)))) (place_of l.name Under) × Contains (map place (marks_of (lines (with_attr attr p)))) (place_of l.name Over)) _ (lines p) (λ l h. h.1) here)) is
+mark-grows : (p : Problem) (attr : ℕ) (target : Fraction) (c : ℕ) → Contains (map place (marks_of (lines p))) c → Contains (map place (marks_of (lines (with_attr attr target p)))) c
+mark-grows p attr target c is =
+    let here = (attr_drop (λ l. Contains (map place (marks_of (lines (with_attr attr target p)))) (place_of l.name Under) × Contains (map place (marks_of (lines (with_attr attr target p)))) (place_of l.name Over)) p attr target (here-in (lines (with_attr attr target p)))).0 in
+    contains_each (λ v. Contains (map place (marks_of (lines (with_attr attr target p)))) v) (marks_of (lines p)) c
+    (each_marks (λ v. Contains (map place (marks_of (lines (with_attr attr target p)))) v) (lines p)
+    (each-impl (λ l. Contains (map place (marks_of (lines (with_attr attr target p)))) (place_of l.name Under) × Contains (map place (marks_of (lines (with_attr attr target p)))) (place_of l.name Over)) _ (lines p) (λ l h. h.0) here)
+    (each-impl (λ l. Contains (map place (marks_of (lines (with_attr attr target p)))) (place_of l.name Under) × Contains (map place (marks_of (lines (with_attr attr target p)))) (place_of l.name Over)) _ (lines p) (λ l h. h.1) here)) is
 
-stay-mark : (p : Problem) (attr : ℕ) (side : Side) → Contains (map place (marks_of (lines (with_attr attr p)))) (place_of (StayOf attr) side)
-stay-mark p attr Under = (attr_drop (λ l. Contains (map place (marks_of (lines (with_attr attr p)))) (place_of l.name Under) × Contains (map place (marks_of (lines (with_attr attr p)))) (place_of l.name Over)) p attr (here-in (lines (with_attr attr p)))).1.1.0
-stay-mark p attr Over = (attr_drop (λ l. Contains (map place (marks_of (lines (with_attr attr p)))) (place_of l.name Under) × Contains (map place (marks_of (lines (with_attr attr p)))) (place_of l.name Over)) p attr (here-in (lines (with_attr attr p)))).1.1.1
+stay-mark : (p : Problem) (attr : ℕ) (target : Fraction) (side : Side) → Contains (map place (marks_of (lines (with_attr attr target p)))) (place_of (StayOf attr) side)
+stay-mark p attr target Under = (attr_drop (λ l. Contains (map place (marks_of (lines (with_attr attr target p)))) (place_of l.name Under) × Contains (map place (marks_of (lines (with_attr attr target p)))) (place_of l.name Over)) p attr target (here-in (lines (with_attr attr target p)))).1.1.0
+stay-mark p attr target Over = (attr_drop (λ l. Contains (map place (marks_of (lines (with_attr attr target p)))) (place_of l.name Under) × Contains (map place (marks_of (lines (with_attr attr target p)))) (place_of l.name Over)) p attr target (here-in (lines (with_attr attr target p)))).1.1.1
 
-each-mark : (P : ℕ → Type 0) (p : Problem) (attr : ℕ) → ((c : ℕ) → Contains (map place (marks_of (lines p))) c → P c) → P (place_of (StayOf attr) Under) → P (place_of (StayOf attr) Over) → Each (λ m. P (place m)) (marks_of (lines (with_attr attr p)))
-each-mark P p attr old under over =
-    each_marks P (lines (with_attr attr p))
-    (attr_put (λ l. P (place_of l.name Under)) p attr (each-impl (λ l. Contains (map place (marks_of (lines p))) (place_of l.name Under) × Contains (map place (marks_of (lines p))) (place_of l.name Over)) _ (lines p) (λ l h. old (place_of l.name Under) h.0) (here-in (lines p))) (λ n. under))
-    (attr_put (λ l. P (place_of l.name Over)) p attr (each-impl (λ l. Contains (map place (marks_of (lines p))) (place_of l.name Under) × Contains (map place (marks_of (lines p))) (place_of l.name Over)) _ (lines p) (λ l h. old (place_of l.name Over) h.1) (here-in (lines p))) (λ n. over))
+each-mark : (P : ℕ → Type 0) (p : Problem) (attr : ℕ) (target : Fraction) → ((c : ℕ) → Contains (map place (marks_of (lines p))) c → P c) → P (place_of (StayOf attr) Under) → P (place_of (StayOf attr) Over) → Each (λ m. P (place m)) (marks_of (lines (with_attr attr target p)))
+each-mark P p attr target old under over =
+    each_marks P (lines (with_attr attr target p))
+    (attr_put (λ l. P (place_of l.name Under)) p attr target (each-impl (λ l. Contains (map place (marks_of (lines p))) (place_of l.name Under) × Contains (map place (marks_of (lines p))) (place_of l.name Over)) _ (lines p) (λ l h. old (place_of l.name Under) h.0) (here-in (lines p))) (λ n. under))
+    (attr_put (λ l. P (place_of l.name Over)) p attr target (each-impl (λ l. Contains (map place (marks_of (lines p))) (place_of l.name Under) × Contains (map place (marks_of (lines p))) (place_of l.name Over)) _ (lines p) (λ l h. old (place_of l.name Over) h.1) (here-in (lines p))) (λ n. over))
 
-stay-out : (p : Problem) (at : List Mark) (attr : ℕ) (side : Side) → IsNewAttr p attr → IsCorner p at → IsIn (place_of (StayOf attr) side) at → ⊥
-stay-out p at attr side new corner i =
-    fresh-place p attr (place_of (StayOf attr) side) side new (contains_each (λ c. Contains (map place (marks_of (lines p))) c) at (place_of (StayOf attr) side) (recursion_from_All (λ m. Contains (map place (marks_of (lines p))) (place m)) at corner.marks) i) refl
+stay-out : (p : Problem) (at : List Mark) (attr : ℕ) (target : Fraction) (side : Side) → IsNewAttr p attr target → IsCorner p at → IsIn (place_of (StayOf attr) side) at → ⊥
+stay-out p at attr target side new corner i =
+    fresh-place p attr target (place_of (StayOf attr) side) side new (contains_each (λ c. Contains (map place (marks_of (lines p))) c) at (place_of (StayOf attr) side) (recursion_from_All (λ m. Contains (map place (marks_of (lines p))) (place m)) at corner.marks) i) refl
 
 -- ---- what an old line's equation speaks of
 
@@ -166,87 +169,86 @@ old-columns P attr l number o h = (
     attrs [] ne = tt
     attrs (e ∷ form) ne = (h (attr_column e.attr) (λ q. absurd (omega (arith, number.1, q))) (λ q. absurd (omega (arith, number.1, q))) (λ q. ne.0 (omega (arith, q))), attrs form ne.1)
 
--- the stay's own equation
-stay-parts : (u o one a : ℤ) → a ≡ o -ℤ u → pos 1 *ℤ u +ℤ (neg_ℤ (pos 1) *ℤ o +ℤ (neg_ℤ (pos 0) *ℤ one +ℤ ((pos 1 *ℤ pos 1) *ℤ a +ℤ pos 0))) ≡ pos 0
-stay-parts u o one a e = omega (arith, ints, e)
+-- the stay's own equation, where its marks and its attribute are so far apart
+stay-moves : (target : Fraction) (u o one a : ℤ) → a ≡ o -ℤ u → one ≡ pos 0 → pos target.den *ℤ ((u -ℤ o) +ℤ a) ≡ target.num *ℤ one
+stay-moves target u o one a e f =
+    let none : (u -ℤ o) +ℤ a ≡ pos 0 = omega (arith, ints, e) in
+    ap (λ (z : ℤ). pos target.den *ℤ z) none ∙ mul-zero_ℤ (pos target.den) ∙ sym (ap (λ (z : ℤ). target.num *ℤ z) f ∙ mul-zero_ℤ target.num)
 
-stay-attr : (u o one a : ℤ) → pos 1 *ℤ u +ℤ (neg_ℤ (pos 1) *ℤ o +ℤ (neg_ℤ (pos 0) *ℤ one +ℤ ((pos 1 *ℤ pos 1) *ℤ a +ℤ pos 0))) ≡ pos 0 → a ≡ o -ℤ u
-stay-attr u o one a e = omega (arith, ints, e)
-
--- where the stay stands, its attribute is its deviation
-pub attr-deviation : (p : Problem) (attr : ℕ) (n : ℕ → ℤ) → All (λ l. value_at n (equation l) ≡ pos 0) (lines (with_attr attr p)) → n (attr_column attr) ≡ deviation (StayOf attr) n
-attr-deviation p attr n h =
-    stay-attr (n (place_of (StayOf attr) Under)) (n (place_of (StayOf attr) Over)) (n one_column) (n (attr_column attr))
-    ((attr_drop (λ l. value_at n (equation l) ≡ pos 0) p attr (recursion_from_All (λ l. value_at n (equation l) ≡ pos 0) (lines (with_attr attr p)) h)).1.1)
+-- the attribute is so far from the target as its stay deviates
+pub attr-deviation : (p : Problem) (attr : ℕ) (target : Fraction) (n : ℕ → ℤ) → All (λ l. value_at n (equation l) ≡ pos 0) (lines (with_attr attr target p)) → pos target.den *ℤ ((n (place_of (StayOf attr) Under) -ℤ n (place_of (StayOf attr) Over)) +ℤ n (attr_column attr)) ≡ target.num *ℤ n one_column
+attr-deviation p attr target n h =
+    let last = (attr_drop (λ l. value_at n (equation l) ≡ pos 0) p attr target (recursion_from_All (λ l. value_at n (equation l) ≡ pos 0) (lines (with_attr attr target p)) h)).1 in
+    stay-holds last.0 (new_stay attr target) n last.1
 
 -- ---- points and rays with the attribute
 
--- the attribute and its stay's marks are 0
-abbrev cleared : ℕ → (ℕ → ℤ) → ℕ → ℤ
-cleared attr n v = cond (nat_eq v (place_of (StayOf attr) Under)) (pos 0) (cond (nat_eq v (place_of (StayOf attr) Over)) (pos 0) (cond (nat_eq v (attr_column attr)) (pos 0) (n v)))
+-- the attribute is at its stay's target, whose marks are 0
+abbrev cleared : ℕ → Fraction → (ℕ → ℤ) → ℕ → ℤ
+cleared attr target n v = cond (nat_eq v (place_of (StayOf attr) Under)) (pos 0) (cond (nat_eq v (place_of (StayOf attr) Over)) (pos 0) (cond (nat_eq v (attr_column attr)) (target.num *ℤ n one_column) (pos target.den *ℤ n v)))
 
-cleared-other : (attr : ℕ) (n : ℕ → ℤ) (v : ℕ) → v ≢ place_of (StayOf attr) Under → v ≢ place_of (StayOf attr) Over → v ≢ attr_column attr → cleared attr n v ≡ n v
-cleared-other attr n v a b c =
-    ap (λ (t : Bool). cond t (pos 0) (cond (nat_eq v (place_of (StayOf attr) Over)) (pos 0) (cond (nat_eq v (attr_column attr)) (pos 0) (n v)))) (ne_eqb v (place_of (StayOf attr) Under) a)
-    ∙ ap (λ (t : Bool). cond t (pos 0) (cond (nat_eq v (attr_column attr)) (pos 0) (n v))) (ne_eqb v (place_of (StayOf attr) Over) b)
-    ∙ ap (λ (t : Bool). cond t (pos 0) (n v)) (ne_eqb v (attr_column attr) c)
+cleared-other : (attr : ℕ) (target : Fraction) (n : ℕ → ℤ) (v : ℕ) → v ≢ place_of (StayOf attr) Under → v ≢ place_of (StayOf attr) Over → v ≢ attr_column attr → cleared attr target n v ≡ pos target.den *ℤ n v
+cleared-other attr target n v a b c =
+    ap (λ (t : Bool). cond t (pos 0) (cond (nat_eq v (place_of (StayOf attr) Over)) (pos 0) (cond (nat_eq v (attr_column attr)) (target.num *ℤ n one_column) (pos target.den *ℤ n v)))) (ne_eqb v (place_of (StayOf attr) Under) a)
+    ∙ ap (λ (t : Bool). cond t (pos 0) (cond (nat_eq v (attr_column attr)) (target.num *ℤ n one_column) (pos target.den *ℤ n v))) (ne_eqb v (place_of (StayOf attr) Over) b)
+    ∙ ap (λ (t : Bool). cond t (target.num *ℤ n one_column) (pos target.den *ℤ n v)) (ne_eqb v (attr_column attr) c)
 
-cleared-none : (attr : ℕ) (n : ℕ → ℤ) (v : ℕ) → (v ≡ place_of (StayOf attr) Under) ⊎ ((v ≡ place_of (StayOf attr) Over) ⊎ (v ≡ attr_column attr)) → cleared attr n v ≡ pos 0
-cleared-none attr n v h =
-    elim (cases_eq v (place_of (StayOf attr) Under)) [
-      | inl e ↦ ap (λ (t : Bool). cond t (pos 0) (cond (nat_eq v (place_of (StayOf attr) Over)) (pos 0) (cond (nat_eq v (attr_column attr)) (pos 0) (n v)))) (eq-eqb v (place_of (StayOf attr) Under) e)
-      | inr a ↦
-          ap (λ (t : Bool). cond t (pos 0) (cond (nat_eq v (place_of (StayOf attr) Over)) (pos 0) (cond (nat_eq v (attr_column attr)) (pos 0) (n v)))) (ne_eqb v (place_of (StayOf attr) Under) a)
-          ∙ elim (cases_eq v (place_of (StayOf attr) Over)) [
-            | inl e ↦ ap (λ (t : Bool). cond t (pos 0) (cond (nat_eq v (attr_column attr)) (pos 0) (n v))) (eq-eqb v (place_of (StayOf attr) Over) e)
-            | inr b ↦
-                ap (λ (t : Bool). cond t (pos 0) (cond (nat_eq v (attr_column attr)) (pos 0) (n v))) (ne_eqb v (place_of (StayOf attr) Over) b)
-                ∙ ap (λ (t : Bool). cond t (pos 0) (n v)) (eq-eqb v (attr_column attr) (last a b h))
-          ]
-    ]
-  where
-    last : (v ≢ place_of (StayOf attr) Under) → (v ≢ place_of (StayOf attr) Over) → (v ≡ place_of (StayOf attr) Under) ⊎ ((v ≡ place_of (StayOf attr) Over) ⊎ (v ≡ attr_column attr)) → v ≡ attr_column attr
-    last a b (inl e) = absurd (a e)
-    last a b (inr (inl e)) = absurd (b e)
-    last a b (inr (inr e)) = e
+cleared-under : (attr : ℕ) (target : Fraction) (n : ℕ → ℤ) → cleared attr target n (place_of (StayOf attr) Under) ≡ pos 0
+cleared-under attr target n = ap (λ (t : Bool). cond t (pos 0) (cond (nat_eq (place_of (StayOf attr) Under) (place_of (StayOf attr) Over)) (pos 0) (cond (nat_eq (place_of (StayOf attr) Under) (attr_column attr)) (target.num *ℤ n one_column) (pos target.den *ℤ n (place_of (StayOf attr) Under))))) (eq-eqb (place_of (StayOf attr) Under) (place_of (StayOf attr) Under) refl)
 
-cleared-one : (attr : ℕ) (n : ℕ → ℤ) → IsNumber attr → cleared attr n one_column ≡ n one_column
-cleared-one attr n number = cleared-other attr n one_column (λ e. absurd (omega (arith, number.1, e))) (λ e. absurd (omega (arith, number.1, e))) (λ e. absurd (omega (arith, number.1, e)))
+cleared-over : (attr : ℕ) (target : Fraction) (n : ℕ → ℤ) → cleared attr target n (place_of (StayOf attr) Over) ≡ pos 0
+cleared-over attr target n =
+    ap (λ (t : Bool). cond t (pos 0) (cond (nat_eq (place_of (StayOf attr) Over) (place_of (StayOf attr) Over)) (pos 0) (cond (nat_eq (place_of (StayOf attr) Over) (attr_column attr)) (target.num *ℤ n one_column) (pos target.den *ℤ n (place_of (StayOf attr) Over))))) (ne_eqb (place_of (StayOf attr) Over) (place_of (StayOf attr) Under) (λ e. absurd (omega (arith, e))))
+    ∙ ap (λ (t : Bool). cond t (pos 0) (cond (nat_eq (place_of (StayOf attr) Over) (attr_column attr)) (target.num *ℤ n one_column) (pos target.den *ℤ n (place_of (StayOf attr) Over)))) (eq-eqb (place_of (StayOf attr) Over) (place_of (StayOf attr) Over) refl)
 
-cleared-mark : (p : Problem) (attr : ℕ) (n : ℕ → ℤ) (c : ℕ) → IsNewAttr p attr → Contains (map place (marks_of (lines p))) c → cleared attr n c ≡ n c
-cleared-mark p attr n c new is =
+cleared-attr : (attr : ℕ) (target : Fraction) (n : ℕ → ℤ) → IsNumber attr → cleared attr target n (attr_column attr) ≡ target.num *ℤ n one_column
+cleared-attr attr target n number =
+    ap (λ (t : Bool). cond t (pos 0) (cond (nat_eq (attr_column attr) (place_of (StayOf attr) Over)) (pos 0) (cond (nat_eq (attr_column attr) (attr_column attr)) (target.num *ℤ n one_column) (pos target.den *ℤ n (attr_column attr))))) (ne_eqb (attr_column attr) (place_of (StayOf attr) Under) (λ e. absurd (omega (arith, number.1, e))))
+    ∙ ap (λ (t : Bool). cond t (pos 0) (cond (nat_eq (attr_column attr) (attr_column attr)) (target.num *ℤ n one_column) (pos target.den *ℤ n (attr_column attr)))) (ne_eqb (attr_column attr) (place_of (StayOf attr) Over) (λ e. absurd (omega (arith, number.1, e))))
+    ∙ ap (λ (t : Bool). cond t (target.num *ℤ n one_column) (pos target.den *ℤ n (attr_column attr))) (eq-eqb (attr_column attr) (attr_column attr) refl)
+
+cleared-one : (attr : ℕ) (target : Fraction) (n : ℕ → ℤ) → IsNumber attr → cleared attr target n one_column ≡ pos target.den *ℤ n one_column
+cleared-one attr target n number = cleared-other attr target n one_column (λ e. absurd (omega (arith, number.1, e))) (λ e. absurd (omega (arith, number.1, e))) (λ e. absurd (omega (arith, number.1, e)))
+
+cleared-mark : (p : Problem) (attr : ℕ) (target : Fraction) (n : ℕ → ℤ) (c : ℕ) → IsNewAttr p attr target → Contains (map place (marks_of (lines p))) c → cleared attr target n c ≡ pos target.den *ℤ n c
+cleared-mark p attr target n c new is =
     let below = small-mark p c new.whole is in
-    cleared-other attr n c (fresh-place p attr c Under new is) (fresh-place p attr c Over new is) (λ e. absurd (omega (arith, below, e)))
+    cleared-other attr target n c (fresh-place p attr target c Under new is) (fresh-place p attr target c Over new is) (λ e. absurd (omega (arith, below, e)))
 
-cleared-solves : (p : Problem) (attr : ℕ) (n : ℕ → ℤ) → IsNewAttr p attr → All (λ l. value_at n (equation l) ≡ pos 0) (lines p) → All (λ l. value_at (cleared attr n) (equation l) ≡ pos 0) (lines (with_attr attr p))
-cleared-solves p attr n new h =
-    All-from_recursion (λ l. value_at (cleared attr n) (equation l) ≡ pos 0) (lines (with_attr attr p))
-    (attr_put (λ l. value_at (cleared attr n) (equation l) ≡ pos 0) p attr
+-- a mark that was 0 is so
+cleared-still : (p : Problem) (attr : ℕ) (target : Fraction) (n : ℕ → ℤ) (c : ℕ) → IsNewAttr p attr target → Contains (map place (marks_of (lines p))) c → n c ≡ pos 0 → cleared attr target n c ≡ pos 0
+cleared-still p attr target n c new is none = cleared-mark p attr target n c new is ∙ ap (λ (z : ℤ). pos target.den *ℤ z) none ∙ mul-zero_ℤ (pos target.den)
+
+cleared-solves : (p : Problem) (attr : ℕ) (target : Fraction) (n : ℕ → ℤ) → IsNewAttr p attr target → All (λ l. value_at n (equation l) ≡ pos 0) (lines p) → All (λ l. value_at (cleared attr target n) (equation l) ≡ pos 0) (lines (with_attr attr target p))
+cleared-solves p attr target n new h =
+    All-from_recursion (λ l. value_at (cleared attr target n) (equation l) ≡ pos 0) (lines (with_attr attr target p))
+    (attr_put (λ l. value_at (cleared attr target n) (equation l) ≡ pos 0) p attr target
     (each-impl (λ l. (value_at n (equation l) ≡ pos 0) × IsOther attr l) _ (lines p)
     (λ l k.
-    sum-each (λ e. e.by *ℤ cleared attr n e.attr) (λ e. e.by *ℤ n e.attr) (equation l)
-    (each-impl (λ e. cleared attr n e.attr ≡ n e.attr) _ (equation l) (λ e q. ap (λ (z : ℤ). e.by *ℤ z) q) (old-columns (λ v. cleared attr n v ≡ n v) attr l new.number k.1 (λ v a b c. cleared-other attr n v a b c)))
-    ∙ k.0)
-    (each-both _ _ (lines p) (recursion_from_All (λ l. value_at n (equation l) ≡ pos 0) (lines p) h) (all-others p attr new)))
-    (λ level. stay-parts (cleared attr n (place_of (StayOf attr) Under)) (cleared attr n (place_of (StayOf attr) Over)) (cleared attr n one_column) (cleared attr n (attr_column attr))
-    (nothing (cleared attr n (place_of (StayOf attr) Under)) (cleared attr n (place_of (StayOf attr) Over)) (cleared attr n (attr_column attr)) (cleared-none attr n (place_of (StayOf attr) Under) (inl refl)) (cleared-none attr n (place_of (StayOf attr) Over) (inr (inl refl))) (cleared-none attr n (attr_column attr) (inr (inr refl))))))
+    sum-each (λ e. e.by *ℤ cleared attr target n e.attr) (λ e. e.by *ℤ (pos target.den *ℤ n e.attr)) (equation l)
+    (each-impl (λ e. cleared attr target n e.attr ≡ pos target.den *ℤ n e.attr) _ (equation l) (λ e q. ap (λ (z : ℤ). e.by *ℤ z) q) (old-columns (λ v. cleared attr target n v ≡ pos target.den *ℤ n v) attr l new.number k.1 (λ v a b c. cleared-other attr target n v a b c)))
+    ∙ value-scaled (pos target.den) n (equation l) ∙ ap (λ (z : ℤ). pos target.den *ℤ z) k.0 ∙ mul-zero_ℤ (pos target.den))
+    (each-both _ _ (lines p) (recursion_from_All (λ l. value_at n (equation l) ≡ pos 0) (lines p) h) (all-others p attr target new)))
+    (λ level. stay-solves level (new_stay attr target) (cleared attr target n)
+    (at-target target.den target.num (n one_column) (cleared attr target n (place_of (StayOf attr) Under)) (cleared attr target n (place_of (StayOf attr) Over)) (cleared attr target n (attr_column attr)) (cleared attr target n one_column)
+    (cleared-under attr target n) (cleared-over attr target n) (cleared-attr attr target n new.number) (cleared-one attr target n new.number))))
   where
-    nothing : (u o a : ℤ) → u ≡ pos 0 → o ≡ pos 0 → a ≡ pos 0 → a ≡ o -ℤ u
-    nothing u o a e f g = omega (arith, ints, e, f, g)
+    at-target : (d : ℕ) (k y1 u o a w : ℤ) → u ≡ pos 0 → o ≡ pos 0 → a ≡ k *ℤ y1 → w ≡ pos d *ℤ y1 → pos d *ℤ ((u -ℤ o) +ℤ a) ≡ k *ℤ w
+    at-target d k y1 u o a w e f g h = ap (λ (z : ℤ). pos d *ℤ z) (let i : (u -ℤ o) +ℤ a ≡ k *ℤ y1 = omega (arith, ints, e, f, g) in i) ∙ mul_left_comm_ℤ (pos d) k y1 ∙ ap (λ (z : ℤ). k *ℤ z) (sym h)
 
-without-attr : (p : Problem) (attr : ℕ) (x : Point) → Solves (with_attr attr p) x → Solves p x
-without-attr p attr x h = All-from_recursion (λ l. value_at x.num (equation l) ≡ pos 0) (lines p) ((attr_drop (λ l. value_at x.num (equation l) ≡ pos 0) p attr (recursion_from_All (λ l. value_at x.num (equation l) ≡ pos 0) (lines (with_attr attr p)) h)).0)
+without-attr : (p : Problem) (attr : ℕ) (target : Fraction) (x : Point) → Solves (with_attr attr target p) x → Solves p x
+without-attr p attr target x h = All-from_recursion (λ l. value_at x.num (equation l) ≡ pos 0) (lines p) ((attr_drop (λ l. value_at x.num (equation l) ≡ pos 0) p attr target (recursion_from_All (λ l. value_at x.num (equation l) ≡ pos 0) (lines (with_attr attr target p)) h)).0)
 
-old-ray : (p : Problem) (at : List Mark) (attr c : ℕ) (n : ℕ → ℤ) → IsNewAttr p attr → Contains (map place (marks_of (lines p))) c → IsRay p at c n → IsRay (with_attr attr p) at c (cleared attr n)
-old-ray p at attr c n new is ray = record {
-  holds = cleared-solves p attr n new ray.holds;
-  still = cleared-one attr n new.number ∙ ray.still;
-  here = subst (λ (z : ℤ). pos 0 <ℤ z) (sym (cleared-mark p attr n c new is)) ray.here;
-  other = All-from_recursion (λ m. (IsIn (place m) at → ⊥) → place m ≢ c → cleared attr n (place m) ≡ pos 0) (marks_of (lines (with_attr attr p)))
-      (each-mark (λ v. (IsIn v at → ⊥) → v ≢ c → cleared attr n v ≡ pos 0) p attr
-      (λ v mark out ne. cleared-mark p attr n v new mark ∙ contains_each (λ u. (IsIn u at → ⊥) → u ≢ c → n u ≡ pos 0) (marks_of (lines p)) v (recursion_from_All (λ m. (IsIn (place m) at → ⊥) → place m ≢ c → n (place m) ≡ pos 0) (marks_of (lines p)) ray.other) mark out ne)
-      (λ out ne. cleared-none attr n (place_of (StayOf attr) Under) (inl refl))
-      (λ out ne. cleared-none attr n (place_of (StayOf attr) Over) (inr (inl refl))));
+old-ray : (p : Problem) (at : List Mark) (attr : ℕ) (target : Fraction) (c : ℕ) (n : ℕ → ℤ) → IsNewAttr p attr target → Contains (map place (marks_of (lines p))) c → IsRay p at c n → IsRay (with_attr attr target p) at c (cleared attr target n)
+old-ray p at attr target c n new is ray = record {
+  holds = cleared-solves p attr target n new ray.holds;
+  still = cleared-one attr target n new.number ∙ ap (λ (z : ℤ). pos target.den *ℤ z) ray.still ∙ mul-zero_ℤ (pos target.den);
+  here = subst (λ (z : ℤ). pos 0 <ℤ z) (sym (cleared-mark p attr target n c new is)) (mul_positive target.den (n c) new.above ray.here);
+  other = All-from_recursion (λ m. (IsIn (place m) at → ⊥) → place m ≢ c → cleared attr target n (place m) ≡ pos 0) (marks_of (lines (with_attr attr target p)))
+      (each-mark (λ v. (IsIn v at → ⊥) → v ≢ c → cleared attr target n v ≡ pos 0) p attr target
+      (λ v mark out ne. cleared-still p attr target n v new mark (contains_each (λ u. (IsIn u at → ⊥) → u ≢ c → n u ≡ pos 0) (marks_of (lines p)) v (recursion_from_All (λ m. (IsIn (place m) at → ⊥) → place m ≢ c → n (place m) ≡ pos 0) (marks_of (lines p)) ray.other) mark out ne))
+      (λ out ne. cleared-under attr target n)
+      (λ out ne. cleared-over attr target n));
 }
 
 -- the stay's mark grows, and its attribute with it
@@ -286,20 +288,28 @@ grows-stay attr Over number =
     let u = grows-none attr Over (place_of (StayOf attr) Under) (λ e. sides_apart (StayOf attr) (StayOf attr) (sym e)) (λ e. absurd (omega (arith, number.1, e))) in
     a ∙ sym (ap₂ ◌-ℤ◌ (grows-here attr Over number) u)
 
-new-ray : (p : Problem) (at : List Mark) (attr : ℕ) (side : Side) → IsNewAttr p attr → IsRay (with_attr attr p) at (place_of (StayOf attr) side) (attr_grows attr side)
-new-ray p at attr side new = record {
-  holds = All-from_recursion (λ l. value_at (attr_grows attr side) (equation l) ≡ pos 0) (lines (with_attr attr p))
-      (attr_put (λ l. value_at (attr_grows attr side) (equation l) ≡ pos 0) p attr
+one-still : (attr : ℕ) (side : Side) → IsNumber attr → attr_grows attr side one_column ≡ pos 0
+one-still attr side number = grows-none attr side one_column (far side) (λ e. absurd (let n = number.1 in omega (arith, n, e)))
+  where
+    far : (side : Side) → one_column ≢ place_of (StayOf attr) side
+    far Under e = absurd (let n = number.1 in omega (arith, n, e))
+    far Over e = absurd (let n = number.1 in omega (arith, n, e))
+
+new-ray : (p : Problem) (at : List Mark) (attr : ℕ) (target : Fraction) (side : Side) → IsNewAttr p attr target → IsRay (with_attr attr target p) at (place_of (StayOf attr) side) (attr_grows attr side)
+new-ray p at attr target side new = record {
+  holds = All-from_recursion (λ l. value_at (attr_grows attr side) (equation l) ≡ pos 0) (lines (with_attr attr target p))
+      (attr_put (λ l. value_at (attr_grows attr side) (equation l) ≡ pos 0) p attr target
       (each-impl (IsOther attr) _ (lines p)
       (λ l o. sum-zero (λ e. e.by *ℤ attr_grows attr side e.attr) (equation l)
       (each-impl (λ e. attr_grows attr side e.attr ≡ pos 0) _ (equation l) (λ e q. ap (λ (z : ℤ). e.by *ℤ z) q ∙ mul-zero_ℤ e.by)
       (old-columns (λ v. attr_grows attr side v ≡ pos 0) attr l new.number o (λ v a b c. grows-none attr side v (far side v a b) c))))
-      (all-others p attr new))
-      (λ level. stay-parts (attr_grows attr side (place_of (StayOf attr) Under)) (attr_grows attr side (place_of (StayOf attr) Over)) (attr_grows attr side one_column) (attr_grows attr side (attr_column attr)) (grows-stay attr side new.number)));
-  still = grows-none attr side one_column (one-far side) (λ e. absurd (let n = new.number.1 in omega (arith, n, e)));
+      (all-others p attr target new))
+      (λ level. stay-solves level (new_stay attr target) (attr_grows attr side)
+      (stay-moves target (attr_grows attr side (place_of (StayOf attr) Under)) (attr_grows attr side (place_of (StayOf attr) Over)) (attr_grows attr side one_column) (attr_grows attr side (attr_column attr)) (grows-stay attr side new.number) (one-still attr side new.number))));
+  still = one-still attr side new.number;
   here = one-above (attr_grows attr side (place_of (StayOf attr) side)) (grows-here attr side new.number);
-  other = All-from_recursion (λ m. (IsIn (place m) at → ⊥) → place m ≢ place_of (StayOf attr) side → attr_grows attr side (place m) ≡ pos 0) (marks_of (lines (with_attr attr p)))
-      (each-mark (λ v. (IsIn v at → ⊥) → v ≢ place_of (StayOf attr) side → attr_grows attr side v ≡ pos 0) p attr
+  other = All-from_recursion (λ m. (IsIn (place m) at → ⊥) → place m ≢ place_of (StayOf attr) side → attr_grows attr side (place m) ≡ pos 0) (marks_of (lines (with_attr attr target p)))
+      (each-mark (λ v. (IsIn v at → ⊥) → v ≢ place_of (StayOf attr) side → attr_grows attr side v ≡ pos 0) p attr target
       (λ v is out ne. grows-none attr side v ne (λ e. absurd (let b = small-mark p v new.whole is in omega (arith, b, e))))
       (λ out ne. grows-none attr side (place_of (StayOf attr) Under) ne (λ e. absurd (let n = new.number.1 in omega (arith, n, e))))
       (λ out ne. grows-none attr side (place_of (StayOf attr) Over) ne (λ e. absurd (let n = new.number.1 in omega (arith, n, e)))));
@@ -309,120 +319,124 @@ new-ray p at attr side new = record {
     far Under v a b = a
     far Over v a b = b
 
-    one-far : (side : Side) → one_column ≢ place_of (StayOf attr) side
-    one-far Under e = absurd (let n = new.number.1 in omega (arith, n, e))
-    one-far Over e = absurd (let n = new.number.1 in omega (arith, n, e))
-
-pub attr_rays : (p : Problem) (at : List Mark) (attr : ℕ) → IsWhole p → IsNumber attr → (HasStay p.stays attr → ⊥) → HasRays p at → HasRays (with_attr attr p) at
-attr_rays p at attr whole number fresh rays c is =
-    let new : IsNewAttr p attr = record { whole = whole; number = number; fresh = fresh } in
-    contains_each (λ v. (IsIn v at → ⊥) → (ray : ℕ → ℤ) × IsRay (with_attr attr p) at v ray) (marks_of (lines (with_attr attr p))) c
-    (each-mark (λ v. (IsIn v at → ⊥) → (ray : ℕ → ℤ) × IsRay (with_attr attr p) at v ray) p attr
-    (λ v mark out. let n = rays v mark out in (cleared attr n.0, old-ray p at attr v n.0 new mark n.1))
-    (λ out. (attr_grows attr Under, new-ray p at attr Under new))
-    (λ out. (attr_grows attr Over, new-ray p at attr Over new))) is
+pub attr_rays : (p : Problem) (at : List Mark) (attr : ℕ) (target : Fraction) → IsWhole p → IsNumber attr → (HasStay p.stays attr → ⊥) → 0 < target.den → HasRays p at → HasRays (with_attr attr target p) at
+attr_rays p at attr target whole number fresh above rays c is =
+    let new : IsNewAttr p attr target = record { whole = whole; number = number; fresh = fresh; above = above } in
+    contains_each (λ v. (IsIn v at → ⊥) → (ray : ℕ → ℤ) × IsRay (with_attr attr target p) at v ray) (marks_of (lines (with_attr attr target p))) c
+    (each-mark (λ v. (IsIn v at → ⊥) → (ray : ℕ → ℤ) × IsRay (with_attr attr target p) at v ray) p attr target
+    (λ v mark out. let n = rays v mark out in (cleared attr target n.0, old-ray p at attr target v n.0 new mark n.1))
+    (λ out. (attr_grows attr Under, new-ray p at attr target Under new))
+    (λ out. (attr_grows attr Over, new-ray p at attr target Over new))) is
 
 -- ---- the corner
 
-same-agree : (u x w a y b : ℤ) → u ≡ x → w ≡ a → x *ℤ b ≡ y *ℤ a → u *ℤ b ≡ y *ℤ w
-same-agree u x w a y b e f h = ap (λ (z : ℤ). z *ℤ b) e ∙ h ∙ ap (λ (z : ℤ). y *ℤ z) (sym f)
+same-agree : (d : ℕ) (u x w a y b : ℤ) → u ≡ pos d *ℤ x → w ≡ pos d *ℤ a → x *ℤ b ≡ y *ℤ a → u *ℤ b ≡ y *ℤ w
+same-agree d u x w a y b e f h =
+    ap (λ (z : ℤ). z *ℤ b) e ∙ mul_assoc_ℤ (pos d) x b ∙ ap (λ (z : ℤ). pos d *ℤ z) h ∙ mul_left_comm_ℤ (pos d) y a ∙ ap (λ (z : ℤ). y *ℤ z) (sym f)
+
+-- the attribute is at the target where its stay stands
+target-agree : (d : ℕ) (k x1 y1 a c w u o : ℤ) → c ≡ k *ℤ x1 → w ≡ pos d *ℤ x1 → u ≡ pos 0 → o ≡ pos 0 → pos d *ℤ ((u -ℤ o) +ℤ a) ≡ k *ℤ y1 → c *ℤ y1 ≡ a *ℤ w
+target-agree d k x1 y1 a c w u o e f g h q =
+    let i : a ≡ (u -ℤ o) +ℤ a = omega (arith, ints, g, h) in
+    let da : pos d *ℤ a ≡ k *ℤ y1 = ap (λ (z : ℤ). pos d *ℤ z) i ∙ q in
+    ap (λ (z : ℤ). z *ℤ y1) (e ∙ *ℤ_comm k x1) ∙ mul_assoc_ℤ x1 k y1 ∙ ap (λ (z : ℤ). x1 *ℤ z) (sym da ∙ *ℤ_comm (pos d) a) ∙ mul_left_comm_ℤ x1 a (pos d) ∙ ap (λ (z : ℤ). a *ℤ z) (*ℤ_comm x1 (pos d) ∙ sym f)
 
 both-none : (x y a b : ℤ) → x ≡ pos 0 → y ≡ pos 0 → x *ℤ a ≡ y *ℤ b
 both-none x y a b e f = ap (λ (z : ℤ). z *ℤ a) e ∙ zero-mul_ℤ a ∙ sym (ap (λ (z : ℤ). z *ℤ b) f ∙ zero-mul_ℤ b)
 
-stands-before : (p : Problem) (at : List Mark) (attr : ℕ) (y : Point) → StandsAt (with_attr attr p) at y → StandsAt p at y
-stands-before p at attr y stands = (
-  without-attr p attr y stands.0,
+stands-before : (p : Problem) (at : List Mark) (attr : ℕ) (target : Fraction) (y : Point) → StandsAt (with_attr attr target p) at y → StandsAt p at y
+stands-before p at attr target y stands = (
+  without-attr p attr target y stands.0,
   All-from_recursion (λ m. (IsIn (place m) at → ⊥) → y.num (place m) ≡ pos 0) (marks_of (lines p))
       (each_marks (λ c. (IsIn c at → ⊥) → y.num c ≡ pos 0) (lines p)
-      (each-impl (λ l. Contains (map place (marks_of (lines p))) (place_of l.name Under) × Contains (map place (marks_of (lines p))) (place_of l.name Over)) _ (lines p) (λ l h out. nothing_outside (with_attr attr p) at y (place_of l.name Under) stands (mark-grows p attr (place_of l.name Under) h.0) out) (here-in (lines p)))
-      (each-impl (λ l. Contains (map place (marks_of (lines p))) (place_of l.name Under) × Contains (map place (marks_of (lines p))) (place_of l.name Over)) _ (lines p) (λ l h out. nothing_outside (with_attr attr p) at y (place_of l.name Over) stands (mark-grows p attr (place_of l.name Over) h.1) out) (here-in (lines p)))),
+      (each-impl (λ l. Contains (map place (marks_of (lines p))) (place_of l.name Under) × Contains (map place (marks_of (lines p))) (place_of l.name Over)) _ (lines p) (λ l h out. nothing_outside (with_attr attr target p) at y (place_of l.name Under) stands (mark-grows p attr target (place_of l.name Under) h.0) out) (here-in (lines p)))
+      (each-impl (λ l. Contains (map place (marks_of (lines p))) (place_of l.name Under) × Contains (map place (marks_of (lines p))) (place_of l.name Over)) _ (lines p) (λ l h out. nothing_outside (with_attr attr target p) at y (place_of l.name Over) stands (mark-grows p attr target (place_of l.name Over) h.1) out) (here-in (lines p)))),
 )
 
-unfoldable cleared-point : (attr : ℕ) → IsNumber attr → Point → Point
-cleared-point attr number x = record { num = cleared attr x.num; positive = subst (λ (z : ℤ). pos 0 <ℤ z) (sym (cleared-one attr x.num number)) x.positive }
+unfoldable cleared-point : (attr : ℕ) (target : Fraction) → IsNumber attr → 0 < target.den → Point → Point
+cleared-point attr target number above x = record { num = cleared attr target x.num; positive = subst (λ (z : ℤ). pos 0 <ℤ z) (sym (cleared-one attr target x.num number)) (mul_positive target.den (x.num one_column) above x.positive) }
 
-each-stay : (P : ℕ → Type 0) (stays : List Stay) (attr : ℕ) → Each (λ (s : Stay). P (attr_column s.attr)) stays → P (attr_column attr) → Each (λ (s : Stay). P (attr_column s.attr)) (stays ++ (new_stay attr ∷ []))
-each-stay P [] attr h here = (here, tt)
-each-stay P (s ∷ stays) attr h here = (h.0, each-stay P stays attr h.1 here)
+each-stay : (P : ℕ → Type 0) (stays : List Stay) (attr : ℕ) (target : Fraction) → Each (λ (s : Stay). P (attr_column s.attr)) stays → P (attr_column attr) → Each (λ (s : Stay). P (attr_column s.attr)) (stays ++ (new_stay attr target ∷ []))
+each-stay P [] attr target h here = (here, tt)
+each-stay P (s ∷ stays) attr target h here = (h.0, each-stay P stays attr target h.1 here)
 
-zero-gap : (u o : ℤ) → u ≡ pos 0 → o ≡ pos 0 → o -ℤ u ≡ pos 0
-zero-gap u o e f = ap₂ ◌-ℤ◌ f e
-
-pub attr_corner : (p : Problem) (at : List Mark) (attr : ℕ) → IsWhole p → IsNumber attr → (HasStay p.stays attr → ⊥) → IsCorner p at → IsCorner (with_attr attr p) at
+pub attr_corner : (p : Problem) (at : List Mark) (attr : ℕ) (target : Fraction) → IsWhole p → IsNumber attr → (HasStay p.stays attr → ⊥) → 0 < target.den → IsCorner p at → IsCorner (with_attr attr target p) at
 unfolding cleared-point
-attr_corner p at attr whole number fresh corner =
-    let new : IsNewAttr p attr = record { whole = whole; number = number; fresh = fresh } in
+attr_corner p at attr target whole number fresh above corner =
+    let new : IsNewAttr p attr target = record { whole = whole; number = number; fresh = fresh; above = above } in
     let x : ℕ → ℤ = corner.point.num in
-    let gone : (y : Point) → StandsAt (with_attr attr p) at y → (side : Side) → y.num (place_of (StayOf attr) side) ≡ pos 0 = λ y stands side.
-    nothing_outside (with_attr attr p) at y (place_of (StayOf attr) side) stands (stay-mark p attr side) (stay-out p at attr side new corner) in
+    let gone : (y : Point) → StandsAt (with_attr attr target p) at y → (side : Side) → y.num (place_of (StayOf attr) side) ≡ pos 0 = λ y stands side.
+    nothing_outside (with_attr attr target p) at y (place_of (StayOf attr) side) stands (stay-mark p attr target side) (stay-out p at attr target side new corner) in
     record {
       count = corner.count;
-      marks = All-from_recursion (λ m. Contains (map place (marks_of (lines (with_attr attr p)))) (place m)) at
-          (each-impl (λ m. Contains (map place (marks_of (lines p))) (place m)) _ at (λ m is. mark-grows p attr (place m) is) (recursion_from_All (λ m. Contains (map place (marks_of (lines p))) (place m)) at corner.marks));
+      marks = All-from_recursion (λ m. Contains (map place (marks_of (lines (with_attr attr target p)))) (place m)) at
+          (each-impl (λ m. Contains (map place (marks_of (lines p))) (place m)) _ at (λ m is. mark-grows p attr target (place m) is) (recursion_from_All (λ m. Contains (map place (marks_of (lines p))) (place m)) at corner.marks));
       apart = corner.apart;
-      point = cleared-point attr number corner.point;
+      point = cleared-point attr target number above corner.point;
       stands = (
-        cleared-solves p attr corner.point.num new corner.stands.0,
-        All-from_recursion (λ m. (IsIn (place m) at → ⊥) → cleared attr corner.point.num (place m) ≡ pos 0) (marks_of (lines (with_attr attr p)))
-            (each-mark (λ c. (IsIn c at → ⊥) → cleared attr corner.point.num c ≡ pos 0) p attr
-            (λ c is out. cleared-mark p attr corner.point.num c new is ∙ nothing_outside p at corner.point c corner.stands is out)
-            (λ out. cleared-none attr corner.point.num (place_of (StayOf attr) Under) (inl refl))
-            (λ out. cleared-none attr corner.point.num (place_of (StayOf attr) Over) (inr (inl refl)))),
+        cleared-solves p attr target corner.point.num new corner.stands.0,
+        All-from_recursion (λ m. (IsIn (place m) at → ⊥) → cleared attr target corner.point.num (place m) ≡ pos 0) (marks_of (lines (with_attr attr target p)))
+            (each-mark (λ c. (IsIn c at → ⊥) → cleared attr target corner.point.num c ≡ pos 0) p attr target
+            (λ c is out. cleared-still p attr target corner.point.num c new is (nothing_outside p at corner.point c corner.stands is out))
+            (λ out. cleared-under attr target corner.point.num)
+            (λ out. cleared-over attr target corner.point.num)),
       );
       marks_fixed = λ y stands.
-          All-from_recursion (λ m. Agree (place m) (cleared-point attr number corner.point) y) (marks_of (lines (with_attr attr p)))
-          (each-mark (λ c. Agree c (cleared-point attr number corner.point) y) p attr
-          (λ c is. same-agree (cleared attr x c) (x c) (cleared attr x one_column) (x one_column) (y.num c) (y.num one_column) (cleared-mark p attr x c new is) (cleared-one attr x number)
-          (contains_each (λ v. Agree v corner.point y) (marks_of (lines p)) c (recursion_from_All (λ m. Agree (place m) corner.point y) (marks_of (lines p)) (corner.marks_fixed y (stands-before p at attr y stands))) is))
-          (both-none (cleared attr x (place_of (StayOf attr) Under)) (y.num (place_of (StayOf attr) Under)) (y.num one_column) (cleared attr x one_column) (cleared-none attr x (place_of (StayOf attr) Under) (inl refl)) (gone y stands Under))
-          (both-none (cleared attr x (place_of (StayOf attr) Over)) (y.num (place_of (StayOf attr) Over)) (y.num one_column) (cleared attr x one_column) (cleared-none attr x (place_of (StayOf attr) Over) (inr (inl refl))) (gone y stands Over)));
+          All-from_recursion (λ m. Agree (place m) (cleared-point attr target number above corner.point) y) (marks_of (lines (with_attr attr target p)))
+          (each-mark (λ c. Agree c (cleared-point attr target number above corner.point) y) p attr target
+          (λ c is. same-agree target.den (cleared attr target x c) (x c) (cleared attr target x one_column) (x one_column) (y.num c) (y.num one_column) (cleared-mark p attr target x c new is) (cleared-one attr target x number)
+          (contains_each (λ v. Agree v corner.point y) (marks_of (lines p)) c (recursion_from_All (λ m. Agree (place m) corner.point y) (marks_of (lines p)) (corner.marks_fixed y (stands-before p at attr target y stands))) is))
+          (both-none (cleared attr target x (place_of (StayOf attr) Under)) (y.num (place_of (StayOf attr) Under)) (y.num one_column) (cleared attr target x one_column) (cleared-under attr target x) (gone y stands Under))
+          (both-none (cleared attr target x (place_of (StayOf attr) Over)) (y.num (place_of (StayOf attr) Over)) (y.num one_column) (cleared attr target x one_column) (cleared-over attr target x) (gone y stands Over)));
       attrs_fixed = λ y stands.
-          All-from_recursion (λ s. Agree (attr_column s.attr) (cleared-point attr number corner.point) y) (p.stays ++ (new_stay attr ∷ []))
-          (each-stay (λ c. Agree c (cleared-point attr number corner.point) y) p.stays attr
+          All-from_recursion (λ s. Agree (attr_column s.attr) (cleared-point attr target number above corner.point) y) (p.stays ++ (new_stay attr target ∷ []))
+          (each-stay (λ c. Agree c (cleared-point attr target number above corner.point) y) p.stays attr target
           (each-impl (λ s. (s.attr ≢ attr) × Agree (attr_column s.attr) corner.point y) _ p.stays
-          (λ s h. same-agree (cleared attr x (attr_column s.attr)) (x (attr_column s.attr)) (cleared attr x one_column) (x one_column) (y.num (attr_column s.attr)) (y.num one_column)
-          (cleared-other attr x (attr_column s.attr) (λ e. absurd (omega (arith, number.1, e))) (λ e. absurd (omega (arith, number.1, e))) (λ e. h.0 (omega (arith, e)))) (cleared-one attr x number) h.1)
-          (each-both _ _ p.stays (stays-other p.stays attr fresh) (recursion_from_All (λ s. Agree (attr_column s.attr) corner.point y) p.stays (corner.attrs_fixed y (stands-before p at attr y stands)))))
-          (both-none (cleared attr x (attr_column attr)) (y.num (attr_column attr)) (y.num one_column) (cleared attr x one_column) (cleared-none attr x (attr_column attr) (inr (inr refl)))
-          (attr-deviation p attr y.num stands.0 ∙ zero-gap (y.num (place_of (StayOf attr) Under)) (y.num (place_of (StayOf attr) Over)) (gone y stands Under) (gone y stands Over))));
+          (λ s h. same-agree target.den (cleared attr target x (attr_column s.attr)) (x (attr_column s.attr)) (cleared attr target x one_column) (x one_column) (y.num (attr_column s.attr)) (y.num one_column)
+          (cleared-other attr target x (attr_column s.attr) (λ e. absurd (omega (arith, number.1, e))) (λ e. absurd (omega (arith, number.1, e))) (λ e. h.0 (omega (arith, e)))) (cleared-one attr target x number) h.1)
+          (each-both _ _ p.stays (stays-other p.stays attr fresh) (recursion_from_All (λ s. Agree (attr_column s.attr) corner.point y) p.stays (corner.attrs_fixed y (stands-before p at attr target y stands)))))
+          (target-agree target.den target.num (x one_column) (y.num one_column) (y.num (attr_column attr)) (cleared attr target x (attr_column attr)) (cleared attr target x one_column) (y.num (place_of (StayOf attr) Under)) (y.num (place_of (StayOf attr) Over))
+          (cleared-attr attr target x number) (cleared-one attr target x number) (gone y stands Under) (gone y stands Over) (attr-deviation p attr target y.num stands.0)));
     }
 
 -- ---- equations
 
 -- what was written without the attribute is so with it
-pub old_line : (p : Problem) (at : List Mark) (attr : ℕ) (quantity : (ℕ → ℤ) → ℤ) (own : ℕ) (by : RowName → ℤ) (num : ℤ) (den : ℕ) → IsLineEquation p at quantity own by num den → by (StayOf attr) ≡ pos 0 → IsLineEquation (with_attr attr p) at quantity own by num den
-old_line p at attr quantity own by num den e none = record {
+pub old_line : (p : Problem) (at : List Mark) (attr : ℕ) (target : Fraction) (quantity : (ℕ → ℤ) → ℤ) (own : ℕ) (by : RowName → ℤ) (num : ℤ) (den : ℕ) → IsLineEquation p at quantity own by num den → by (StayOf attr) ≡ pos 0 → IsLineEquation (with_attr attr target p) at quantity own by num den
+old_line p at attr target quantity own by num den e none = record {
   own_positive = e.own_positive;
   den_positive = e.den_positive;
-  outside = All-from_recursion (λ l. by l.name ≢ pos 0 → IsOutsideLine at l.name) (lines (with_attr attr p))
-      (attr_put (λ l. by l.name ≢ pos 0 → IsOutsideLine at l.name) p attr (recursion_from_All (λ l. by l.name ≢ pos 0 → IsOutsideLine at l.name) (lines p) e.outside) (λ n some. absurd (some none)));
+  outside = All-from_recursion (λ l. by l.name ≢ pos 0 → IsOutsideLine at l.name) (lines (with_attr attr target p))
+      (attr_put (λ l. by l.name ≢ pos 0 → IsOutsideLine at l.name) p attr target (recursion_from_All (λ l. by l.name ≢ pos 0 → IsOutsideLine at l.name) (lines p) e.outside) (λ n some. absurd (some none)));
   holds = λ x solves.
       ap (λ (z : ℤ). pos den *ℤ (pos own *ℤ quantity x.num -ℤ z))
-      (rows-sum (λ n. by n *ℤ deviation n x.num) p.rows 1001 p.stays (new_stay attr)
+      (rows-sum (λ n. by n *ℤ deviation n x.num) p.rows 1001 p.stays (new_stay attr target)
       ∙ ap (λ (z : ℤ). z +ℤ sum_of (λ l. by l.name *ℤ deviation l.name x.num) (lines p)) (ap (λ (z : ℤ). z *ℤ deviation (StayOf attr) x.num) none ∙ zero-mul_ℤ (deviation (StayOf attr) x.num))
       ∙ zero-add_ℤ (sum_of (λ l. by l.name *ℤ deviation l.name x.num) (lines p)))
-      ∙ e.holds x (without-attr p attr x solves);
-  lowest = λ k d all. e.lowest k d (All-from_recursion (λ l. k ∣ unsigned_abs (by l.name)) (lines p) ((attr_drop (λ l. k ∣ unsigned_abs (by l.name)) p attr (recursion_from_All (λ l. k ∣ unsigned_abs (by l.name)) (lines (with_attr attr p)) all)).0));
+      ∙ e.holds x (without-attr p attr target x solves);
+  lowest = λ k d all. e.lowest k d (All-from_recursion (λ l. k ∣ unsigned_abs (by l.name)) (lines p) ((attr_drop (λ l. k ∣ unsigned_abs (by l.name)) p attr target (recursion_from_All (λ l. k ∣ unsigned_abs (by l.name)) (lines (with_attr attr target p)) all)).0));
 }
 
-own-parts : (a d s o : ℤ) → a ≡ d → s ≡ pos 1 *ℤ d → pos 1 *ℤ (pos 1 *ℤ a -ℤ s) ≡ pos 1 *ℤ (pos 0 *ℤ o)
-own-parts a d s o e f = omega (arith, ints, e, f)
+own-parts : (d : ℕ) (k a u o s one : ℤ) → pos d *ℤ ((u -ℤ o) +ℤ a) ≡ k *ℤ one → s ≡ pos 1 *ℤ (o -ℤ u) → pos d *ℤ (pos 1 *ℤ a -ℤ s) ≡ pos 1 *ℤ (k *ℤ one)
+own-parts d k a u o s one e f =
+    let g : pos 1 *ℤ a -ℤ s ≡ (u -ℤ o) +ℤ a = omega (arith, ints, f) in
+    let h : k *ℤ one ≡ pos 1 *ℤ (k *ℤ one) = omega (arith, ints) in
+    ap (λ (z : ℤ). pos d *ℤ z) g ∙ e ∙ h
 
--- the attribute is its stay's deviation
-pub attr_line : (p : Problem) (at : List Mark) (attr : ℕ) (by : RowName → ℤ) → IsWhole p → IsNumber attr → (HasStay p.stays attr → ⊥) → IsCorner p at → by (StayOf attr) ≡ pos 1 → All (λ l. by l.name ≡ pos 0) (lines p) → IsLineEquation (with_attr attr p) at (λ x. x (attr_column attr)) 1 by (pos 0) 1
-attr_line p at attr by whole number fresh corner one none =
-    let new : IsNewAttr p attr = record { whole = whole; number = number; fresh = fresh } in
+-- the attribute is its stay's target and deviation
+pub attr_line : (p : Problem) (at : List Mark) (attr : ℕ) (target : Fraction) (by : RowName → ℤ) → IsWhole p → IsNumber attr → (HasStay p.stays attr → ⊥) → 0 < target.den → IsCorner p at → by (StayOf attr) ≡ pos 1 → All (λ l. by l.name ≡ pos 0) (lines p) → IsLineEquation (with_attr attr target p) at (λ x. x (attr_column attr)) 1 by target.num target.den
+attr_line p at attr target by whole number fresh above corner one none =
+    let new : IsNewAttr p attr target = record { whole = whole; number = number; fresh = fresh; above = above } in
     let each = recursion_from_All (λ l. by l.name ≡ pos 0) (lines p) none in
     record {
       own_positive = omega arith;
-      den_positive = omega arith;
-      outside = All-from_recursion (λ l. by l.name ≢ pos 0 → IsOutsideLine at l.name) (lines (with_attr attr p))
-          (attr_put (λ l. by l.name ≢ pos 0 → IsOutsideLine at l.name) p attr (each-impl (λ l. by l.name ≡ pos 0) (λ l. by l.name ≢ pos 0 → IsOutsideLine at l.name) (lines p) (λ l e some. absurd (some e)) each)
-          (λ n some. record { under = stay-out p at attr Under new corner; over = stay-out p at attr Over new corner }));
+      den_positive = above;
+      outside = All-from_recursion (λ l. by l.name ≢ pos 0 → IsOutsideLine at l.name) (lines (with_attr attr target p))
+          (attr_put (λ l. by l.name ≢ pos 0 → IsOutsideLine at l.name) p attr target (each-impl (λ l. by l.name ≡ pos 0) (λ l. by l.name ≢ pos 0 → IsOutsideLine at l.name) (lines p) (λ l e some. absurd (some e)) each)
+          (λ n some. record { under = stay-out p at attr target Under new corner; over = stay-out p at attr target Over new corner }));
       holds = λ x solves.
-          own-parts (x.num (attr_column attr)) (deviation (StayOf attr) x.num) (sum_of (λ l. by l.name *ℤ deviation l.name x.num) (lines (with_attr attr p))) (x.num one_column) (attr-deviation p attr x.num solves)
-          (rows-sum (λ n. by n *ℤ deviation n x.num) p.rows 1001 p.stays (new_stay attr)
+          own-parts target.den target.num (x.num (attr_column attr)) (x.num (place_of (StayOf attr) Under)) (x.num (place_of (StayOf attr) Over)) (sum_of (λ l. by l.name *ℤ deviation l.name x.num) (lines (with_attr attr target p))) (x.num one_column) (attr-deviation p attr target x.num solves)
+          (rows-sum (λ n. by n *ℤ deviation n x.num) p.rows 1001 p.stays (new_stay attr target)
           ∙ ap₂ ◌+ℤ◌ (ap (λ (z : ℤ). z *ℤ deviation (StayOf attr) x.num) one)
           (sum-zero (λ l. by l.name *ℤ deviation l.name x.num) (lines p) (each-impl (λ l. by l.name ≡ pos 0) _ (lines p) (λ l e. ap (λ (z : ℤ). z *ℤ deviation l.name x.num) e ∙ zero-mul_ℤ (deviation l.name x.num)) each))
           ∙ (let o : pos 1 *ℤ deviation (StayOf attr) x.num +ℤ pos 0 ≡ pos 1 *ℤ deviation (StayOf attr) x.num = omega (arith, ints) in o));

@@ -208,7 +208,7 @@ one-reduced level attr l Under h e = let a = stay-number level attr 1 l Under h 
 one-reduced level attr l Over h e = let a = stay-number level attr 1 l Over h e in let c : pos 0 -ℤ inside_number Over level 1 1 l ≡ pos 1 = omega (arith, ints, a) in subst IsFitting (sym (over-as level 1 1 (pos 0) l ∙ c)) (omega arith)
 
 -- it costs nothing
-no-cost : (p : Problem) (at : List Mark) (level attr : ℕ) → IsWhole p → IsCorner p at → IsStayLevel p level attr → IsOutsideLine at (StayOf attr) → IsCostAt p at level (record { num = pos 0; den = 1 })
+pub no-cost : (p : Problem) (at : List Mark) (level attr : ℕ) → IsWhole p → IsCorner p at → IsStayLevel p level attr → IsOutsideLine at (StayOf attr) → IsCostAt p at level (record { num = pos 0; den = 1 })
 no-cost p at level attr whole corner is out = (
   corner.point,
   corner.stands,

@@ -8,7 +8,6 @@ use Rattle.problem_core.specs.declared.parts.RowName.TheVariants.{Held, Stay as 
 use Rattle.problem_core.specs.declared.parts.Term.{Term}
 use Rattle.problem_core.specs.declared.parts.Stay.{Stay}
 use Rattle.problem_core.specs.Layout.{Line, Problem, Row, lines}
-use Rattle.problem_core.specs.Window.{zero_fraction}
 use Rattle.problem_core.specs.Corners.{attr_column, place}
 use Rattle.problem_core.specs.Begins.{BeginsWith}
 use Rattle.problem_core.specs.Unfit.{HasNoWriting, IsUnfitTerms, first_terms, over_mark, under_mark}
@@ -96,24 +95,24 @@ IsLastToldUnfit p at r = HasNoWriting (with_row r p) (over_joined r at) (λ x. x
 
 -- ---- an attribute joins
 
--- its stay is at 0, and is the last one
-abbrev pub new_stay : ℕ → Stay
-new_stay attr = record { attr = attr; target = zero_fraction }
+-- its stay is the last one
+abbrev pub new_stay : ℕ → Fraction → Stay
+new_stay attr target = record { attr = attr; target = target }
 
-abbrev pub with_attr : ℕ → Problem → Problem
-with_attr attr p = record { rows = p.rows; stays = p.stays ++ (new_stay attr ∷ []) }
+abbrev pub with_attr : ℕ → Fraction → Problem → Problem
+with_attr attr target p = record { rows = p.rows; stays = p.stays ++ (new_stay attr target ∷ []) }
 
 -- what was written without the attribute is so with it
-abbrev pub HoldWithAttr : Problem → List Mark → ℕ → Type 0
-HoldWithAttr p at attr = (quantity : (ℕ → ℤ) → ℤ) (own : ℕ) (by : RowName → ℤ) (num : ℤ) (den : ℕ)
+abbrev pub HoldWithAttr : Problem → List Mark → ℕ → Fraction → Type 0
+HoldWithAttr p at attr target = (quantity : (ℕ → ℤ) → ℤ) (own : ℕ) (by : RowName → ℤ) (num : ℤ) (den : ℕ)
     → IsLineEquation p at quantity own by num den → by (StayOf attr) ≡ pos 0
-    → IsLineEquation (with_attr attr p) at quantity own by num den
+    → IsLineEquation (with_attr attr target p) at quantity own by num den
 
--- the attribute is its stay's deviation
-abbrev pub IsOwnDeviation : Problem → List Mark → ℕ → Type 0
-IsOwnDeviation p at attr = (by : RowName → ℤ) → by (StayOf attr) ≡ pos 1
+-- the attribute is its stay's target and deviation
+abbrev pub IsOwnDeviation : Problem → List Mark → ℕ → Fraction → Type 0
+IsOwnDeviation p at attr target = (by : RowName → ℤ) → by (StayOf attr) ≡ pos 1
     → All (λ l. by l.name ≡ pos 0) (lines p)
-    → IsLineEquation (with_attr attr p) at (λ x. x (attr_column attr)) 1 by (pos 0) 1
+    → IsLineEquation (with_attr attr target p) at (λ x. x (attr_column attr)) 1 by target.num target.den
 
 -- ---- stays move to the present values
 

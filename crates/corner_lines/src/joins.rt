@@ -1,5 +1,6 @@
 // The laws of a row that joins, each the contract of a function that does nothing.
-ghost use Rattle.std.specs.Prelude.{◌≡◌, [], ℕ, List};
+ghost use Rattle.std.specs.Prelude.{◌≡◌, ◌<◌, [], ℕ, List};
+ghost use Rattle.frac_core.specs.Fraction.{Fraction};
 ghost use Rattle.problem_core.specs.Layout.{HasStay, Problem, Row};
 ghost use Rattle.problem_core.specs.Kept.{IsNumber, IsWhole};
 ghost use Rattle.problem_core.specs.Corners.{IsCorner, attr_column, exchanged};
@@ -86,25 +87,27 @@ pub fn joined_under_keeps_equations()
 
 /// A corner is one of the problem with a new attribute, whose stay is outside.
 pub fn attr_joins_corner()
-    ensures { (p : Problem) (at : List Mark) (attr : ℕ) → IsWhole p → IsNumber attr
-        → (HasStay p.stays attr → ⊥) → IsCorner p at → IsCorner (with_attr attr p) at }
+    ensures { (p : Problem) (at : List Mark) (attr : ℕ) (target : Fraction) → IsWhole p → IsNumber attr
+        → (HasStay p.stays attr → ⊥) → 0 < target.den → IsCorner p at
+        → IsCorner (with_attr attr target p) at }
 {}
 
 /// Each outside mark can grow alone there too.
 pub fn attr_joins_rays()
-    ensures { (p : Problem) (at : List Mark) (attr : ℕ) → IsWhole p → IsNumber attr
-        → (HasStay p.stays attr → ⊥) → HasRays p at → HasRays (with_attr attr p) at }
+    ensures { (p : Problem) (at : List Mark) (attr : ℕ) (target : Fraction) → IsWhole p → IsNumber attr
+        → (HasStay p.stays attr → ⊥) → 0 < target.den → HasRays p at
+        → HasRays (with_attr attr target p) at }
 {}
 
 /// All equations hold there in which the new stay doesn't stand.
 pub fn equations_hold_with_attr()
-    ensures { (p : Problem) (at : List Mark) (attr : ℕ) → HoldWithAttr p at attr }
+    ensures { (p : Problem) (at : List Mark) (attr : ℕ) (target : Fraction) → HoldWithAttr p at attr target }
 {}
 
-/// The new attribute is its stay's deviation.
+/// The new attribute is its stay's target and deviation.
 pub fn attr_is_own_deviation()
-    ensures { (p : Problem) (at : List Mark) (attr : ℕ) → IsWhole p → IsNumber attr
-        → (HasStay p.stays attr → ⊥) → IsCorner p at → IsOwnDeviation p at attr }
+    ensures { (p : Problem) (at : List Mark) (attr : ℕ) (target : Fraction) → IsWhole p → IsNumber attr
+        → (HasStay p.stays attr → ⊥) → 0 < target.den → IsCorner p at → IsOwnDeviation p at attr target }
 {}
 
 /// Where the stays move to the values at a corner, it stays one.
