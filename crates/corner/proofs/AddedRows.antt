@@ -1,0 +1,277 @@
+-- Rows that have joined a corner and its levels.
+use Rattle.std.proofs.Common.{◌≡◌, ◌≢◌, ◌∙◌, inl, inr, ℕ, zero, suc, ◌+◌, ◌-◌, ◌<◌, ◌≤◌, ◌++◌, Bool, true, false, cond, nat_eq, List, [], ◌∷◌, map, length, refl, sym, ap, ap₂, subst, arith, rules, All, AllPairs, Any, Contains, get_or, slice_index_or, eq-eqb, pos}
+use Rattle.std.specs.List.{AllByRecursion as Each, AllZip, filter}
+use Rattle.std.proofs.lemmas.Bool.{cases_lt}
+use Rattle.std.proofs.lemmas.List.{get_or_append_left, get_or_past}
+use Rattle.std.proofs.lemmas.List.Elements.{All-from_recursion, recursion_from_All}
+use Rattle.row_core.specs.Rows.{IsKeptRow}
+use Rattle.indexed_rows.proofs.Indexing.{none_kept, number_at_column}
+use Rattle.cert_core.specs.declared.stops.RunStop.{RunStop}
+use Rattle.cert_core.specs.declared.stops.RunStop.TheVariants.{Conflict, Unfit, Spent, OutOfMemory}
+use Rattle.problem_core.specs.declared.parts.Mark.{Mark}
+use Rattle.problem_core.specs.declared.parts.Stay.{Stay}
+use Rattle.problem_core.specs.declared.parts.Rel.TheVariants.{Eq}
+use Rattle.problem_core.specs.declared.parts.RowName.TheVariants.{Held}
+use Rattle.problem_core.specs.declared.parts.Level.TheVariants.{Priority as PriorityLevel}
+use Rattle.problem_core.specs.declared.stops.Quantity.TheVariants.{Rows}
+use Rattle.problem_core.specs.Layout.{Problem, Row}
+use Rattle.problem_core.specs.Kept.{IsRow}
+use Rattle.problem_core.specs.Begins.{BeginsWith, IsJoined}
+use Rattle.problem_core.specs.Corners.{ArePairwiseDifferent, NoNegativeValue, IsCorner, IsIn, Point, place}
+use Rattle.problem_core.specs.Unfit.{IsNewAt, IsUnfitRows, over_mark}
+use Rattle.problem_core.specs.Paths.{IsPath}
+use Rattle.corner_laws.specs.Lifts.{HasOneIn}
+use Rattle.corner_laws.proofs.Counting.{head_pairs, tail_pairs}
+use Rattle.corner_lines.specs.LevelJoins.{level_count}
+use Rattle.corner.specs.declared.table.Owner.TheVariants.{Level as LevelSlot}
+use Rattle.corner.specs.declared.table.Priority.{Priority}
+use Rattle.corner.specs.declared.table.Slot.{Slot}
+use Rattle.corner.specs.declared.table.Table.{Table}
+use Rattle.corner.specs.Changes.{IsAddStop, with_rows}
+use Rattle.corner.specs.Views.{in_order}
+use Rattle.corner.specs.Histories.{AreAlike, lists_before}
+use Rattle.corner.specs.Invariants.{IsConsistent, IsEarlier, names_of, seen_of}
+use Rattle.corner.specs.Tables.{Lists, line_slot, lists_of, marks_at, problem_of, row_at, slot_at, standing_at}
+use Rattle.corner.specs.Kept.{IsKept, IsSlot}
+use Rattle.corner.specs.Parts.{IsPartlyKept}
+use Rattle.corner.specs.RowJoins.{ArePushed}
+use Rattle.corner.specs.CostJoins.{AreAllJoined, AreToJoin, IsCostsStop}
+use Rattle.problem_core.specs.declared.parts.Rel.{Rel}
+use Rattle.problem_core.specs.Layout.{line_of_row, lines, stay_lines}
+use Rattle.corner_laws.proofs.WrittenValues.{contains_each}
+use Rattle.corner.specs.declared.table.Owner.{Owner}
+use Rattle.corner.specs.declared.table.Owner.TheVariants.{Attr as AttrSlot, Line as LineSlot}
+use Rattle.corner.specs.Invariants.{name_of, view_of}
+use Rattle.corner.specs.Joining.{slot_of_row}
+use Rattle.corner.specs.JoinedLists.{AreRowsListed}
+use Rattle.corner.specs.Kept.{AreSlots, IsLineSlot, IsOwned}
+use Rattle.corner.specs.LevelNumbers.{side_share}
+use Rattle.corner.specs.Views.{IsNamed}
+use Rattle.corner.specs.CostJoins.{IsLineListed}
+use Rattle.corner.proofs.AttrLevels.{stay_named}
+use Rattle.corner.proofs.SlotFacts.{any_is}
+use Rattle.corner.proofs.MarkFacts.{inside_stands}
+use Rattle.corner.proofs.ReadFacts.{is_some}
+use Rattle.corner.proofs.PartFacts.{kept_part}
+use Rattle.corner.proofs.CostLines.{row_among}
+use Rattle.corner.proofs.JoinedCandidates.{joined_candidates}
+use Rattle.corner.proofs.KeptFacts.{marks_ordered}
+use Rattle.corner.proofs.MarkingFacts.{marks_inside}
+use Rattle.corner.proofs.RowPaths.{append_more, append_none, problem_so_far}
+
+-- ---- the rows to join
+
+one-in : (rows : List Row) (news at : List Mark) (x : Point) → AllZip (IsJoined x) rows news → Each (λ m. IsIn (place m) at) news → Each (HasOneIn at) rows
+one-in [] [] at x z h = tt
+one-in [] (m ∷ news) at x z h = absurd z
+one-in (r ∷ rows) [] at x z h = absurd z
+one-in (r ∷ rows) (m ∷ news) at x z h = (by-mark z.0, one-in rows news at x z.1 h.1)
+  where
+    by-mark : IsJoined x r m → HasOneIn at r
+    by-mark (inl (e, up)) = inr (subst (λ (n : Mark). IsIn (place n) at) e h.0)
+    by-mark (inr (e, up)) = inl (subst (λ (n : Mark). IsIn (place n) at) e h.0)
+
+each-part : (P : Mark → Type 0) (xs ys zs : List Mark) → Each P (xs ++ (ys ++ zs)) → Each P ys
+each-part P (x ∷ xs) ys zs h = each-part P xs ys zs h.1
+each-part P [] [] zs h = tt
+each-part P [] (y ∷ ys) zs h = (h.0, each-part P [] ys zs h.1)
+
+pub begins_one_in : (p : Problem) (kept : List Mark) (rows : List Row) (at : List Mark) → BeginsWith p kept rows [] at → All (HasOneIn at) rows
+begins_one_in p kept rows at b =
+    All-from_recursion (HasOneIn at) rows
+    (one-in rows b.news at b.point b.each
+    (each-part (λ m. IsIn (place m) at) kept b.news (map (λ (r : Row). over_mark r.id) []) (recursion_from_All (λ m. IsIn (place m) at) (kept ++ (b.news ++ map (λ (r : Row). over_mark r.id) [])) b.marks.1)))
+
+pub pushed_to_join : (t u : Lists) (rows : List Row) → IsKept t → ArePushed rows t u → BeginsWith (problem_of u) (marks_at t) rows [] (marks_at u) → AreToJoin u t.rows rows
+pushed_to_join t u rows kept pushed begins = record {
+  rows = pushed.rows;
+  counts = λ k lt. ap (λ (xs : List Priority). (slice_index_or xs k (record { unit = pos 1; rows = 0 })).rows) pushed.priorities ∙ (kept.levels k lt).rows;
+  inside = begins_one_in (problem_of u) (marks_at t) rows (marks_at u) begins;
+}
+
+-- ---- a stop
+
+filter-two : (p : Row → Bool) (xs ys : List Row) → filter p (xs ++ ys) ≡ filter p xs ++ filter p ys
+filter-two p [] ys = refl
+filter-two p (x ∷ xs) ys = either (p x) x (filter p (xs ++ ys)) (filter p xs) (filter p ys) (filter-two p xs ys)
+  where
+    either : (b : Bool) (x : Row) (all some rest : List Row) → all ≡ some ++ rest → cond b (x ∷ all) all ≡ cond b (x ∷ some) some ++ rest
+    either true x all some rest e = ap (λ (ys : List Row). x ∷ ys) e
+    either false x all some rest e = e
+
+-- the row is the first of its level past these
+pub new-at : (k : ℕ) (old before : List Row) (r : Row) (rest : List Row) (j : ℕ) → k ≡ 1000 - r.rank → j ≡ level_count k before + 1 → All (λ (s : Row). s.id ≢ r.id) old → IsNewAt old j (filter (λ s. nat_eq (1000 - s.rank) k) (before ++ (r ∷ rest)))
+new-at k old before r rest j e c new = (
+  filter (λ s. nat_eq (1000 - s.rank) k) before,
+  r,
+  filter (λ s. nat_eq (1000 - s.rank) k) rest,
+  filter-two (λ s. nat_eq (1000 - s.rank) k) before (r ∷ rest)
+      ∙ ap (λ (b : Bool). filter (λ s. nat_eq (1000 - s.rank) k) before ++ cond b (r ∷ filter (λ s. nat_eq (1000 - s.rank) k) rest) (filter (λ s. nat_eq (1000 - s.rank) k) rest)) (eq-eqb (1000 - r.rank) k (sym e)),
+  sym c,
+  new,
+)
+
+pick : (P : Row → Type 0) (xs : List Row) (r : Row) (ys : List Row) → Each P (xs ++ (r ∷ ys)) → P r
+pick P [] r ys h = h.0
+pick P (x ∷ xs) r ys h = pick P xs r ys h.1
+
+left-of : (P : Row → Type 0) (xs ys : List Row) → Each P (xs ++ ys) → Each P xs
+left-of P [] ys h = tt
+left-of P (x ∷ xs) ys h = (h.0, left-of P xs ys h.1)
+
+before-ids : (xs : List Row) (r : Row) (ys : List Row) → AllPairs (λ r s. r.id < s.id) (xs ++ (r ∷ ys)) → Each (λ (s : Row). s.id ≢ r.id) xs
+before-ids [] r ys h = tt
+before-ids (x ∷ xs) r ys h = (
+  (λ e. let less = pick (λ (s : Row). x.id < s.id) xs r ys (recursion_from_All (λ (s : Row). x.id < s.id) (xs ++ (r ∷ ys)) (head_pairs (λ (a b : Row). a.id < b.id) x (xs ++ (r ∷ ys)) h)) in omega (arith, less, e)),
+  before-ids xs r ys (tail_pairs (λ (a b : Row). a.id < b.id) x (xs ++ (r ∷ ys)) h),
+)
+
+-- a path of no exchange
+no-swaps : (p : Problem) (at : List Mark) → IsCorner p at → NoNegativeValue p at → IsPath false p at []
+no-swaps p at corner values = record { corner = corner; apart = alone at; lawful = values }
+  where
+    alone : (at : List Mark) → ArePairwiseDifferent (at ∷ [])
+    alone at = search rules
+
+shown : (t mid : Lists) (rows done : List Row) (r : Row) (rest : List Row) (j : ℕ) → ArePushed rows t mid → BeginsWith (problem_of mid) (marks_at t) rows [] (marks_at mid) → IsPartlyKept mid → NoNegativeValue (problem_of mid) (marks_at mid) → rows ≡ done ++ (r ∷ rest)
+    → j ≡ level_count (1000 - r.rank) (t.rows ++ done) + 1 → IsUnfitRows (problem_of mid) (marks_at mid) (PriorityLevel r.rank) j
+    → IsAddStop (seen_of t) rows (Unfit (record { path = record { dual = false; corner = marks_at mid; swaps = [] }; quantity = Rows (PriorityLevel r.rank) j }))
+shown t mid rows done r rest j pushed begins kept values parts count unfit =
+    let p : Problem = with_rows (problem_of t) rows in
+    let same : problem_of mid ≡ with_rows (problem_of t) rows = problem_so_far rows t mid pushed in
+    let all : mid.rows ≡ (t.rows ++ done) ++ (r ∷ rest) = pushed.rows ∙ ap (λ (xs : List Row). t.rows ++ xs) parts ∙ sym (append_more t.rows done (r ∷ rest)) in
+    let new : All (λ (s : Row). s.id ≢ r.id) t.rows = All-from_recursion (λ (s : Row). s.id ≢ r.id) t.rows
+    (left-of (λ (s : Row). s.id ≢ r.id) t.rows done (before-ids (t.rows ++ done) r rest (subst (λ (xs : List Row). AllPairs (λ r s. r.id < s.id) xs) all kept.whole.rising))) in
+    let is_new : IsNewAt t.rows j (filter (λ s. nat_eq (1000 - s.rank) (1000 - r.rank)) mid.rows) =
+    subst (λ (xs : List Row). IsNewAt t.rows j (filter (λ s. nat_eq (1000 - s.rank) (1000 - r.rank)) xs)) (sym all) (new-at (1000 - r.rank) t.rows (t.rows ++ done) r rest j refl count new) in
+    let rank : r.rank ≤ 1000 = (subst (λ (xs : List Row). Each IsRow xs → IsRow r) (sym all) (pick IsRow (t.rows ++ done) r rest) (recursion_from_All IsRow mid.rows kept.whole.rows)).rank in (
+      tt,
+      (
+        refl,
+        omega arith,
+        (
+          refl,
+          (rows, append_none rows, subst (λ (q : Problem). BeginsWith q (marks_at t) rows [] (marks_at mid)) same begins, subst (λ (q : Problem). marks_at mid ≡ in_order q (marks_at mid)) same (marks_ordered mid)),
+          subst (λ (q : Problem). IsPath false q (marks_at mid) []) same (no-swaps (problem_of mid) (marks_at mid) kept.corner values),
+          (
+            subst (λ (q : Problem). IsUnfitRows q (marks_at mid) (PriorityLevel r.rank) j) same unfit,
+            (1000 - r.rank, omega (arith, rank), subst (λ (q : Problem). IsNewAt t.rows j (filter (λ s. nat_eq (1000 - s.rank) (1000 - r.rank)) q.rows)) same is_new),
+          ),
+        ),
+      ),
+    )
+
+pub costs_add_stop : (t mid : Lists) (rows : List Row) (stop : RunStop) → ArePushed rows t mid → BeginsWith (problem_of mid) (marks_at t) rows [] (marks_at mid) → IsPartlyKept mid → NoNegativeValue (problem_of mid) (marks_at mid)
+    → IsCostsStop mid t.rows rows stop → IsAddStop (seen_of t) rows stop
+costs_add_stop t mid rows (Conflict by) pushed begins kept values h = absurd h
+costs_add_stop t mid rows (Spent path) pushed begins kept values h = absurd h
+costs_add_stop t mid rows OutOfMemory pushed begins kept values h = tt
+costs_add_stop t mid rows (Unfit at) pushed begins kept values (path, (done, r, rest, parts, (j, quantity, count, unfit))) =
+    subst (λ x. IsAddStop (seen_of t) rows (Unfit (record { path = x; quantity = at.quantity }))) (sym (path ∙ ap (λ (ms : List Mark). record { dual = false; corner = ms; swaps = [] }) (marks_inside mid)))
+    (subst (λ x. IsAddStop (seen_of t) rows (Unfit (record { path = record { dual = false; corner = marks_at mid; swaps = [] }; quantity = x }))) (sym quantity)
+    (shown t mid rows done r rest j pushed begins kept values parts count unfit))
+
+-- ---- all that is kept
+
+split-at : (xs : List Row) (i : ℕ) (x : Row) → i < length xs → (before : List Row) × (after : List Row) × (xs ≡ before ++ (get_or xs i x ∷ after))
+split-at [] i x lt = absurd (omega (arith, lt))
+split-at (s ∷ xs) zero x lt = ([], xs, refl)
+split-at (s ∷ xs) (suc i) x lt = let h = split-at xs i x (omega (arith, lt)) in (s ∷ h.0, h.1, ap (λ (ys : List Row). s ∷ ys) h.2)
+
+-- the line of one of the new rows
+new-line : (u : Lists) (old rows : List Row) (i : ℕ) (x : Row) → u.rows ≡ old ++ rows → i < length rows → Any (λ l. l ≡ line_of_row (get_or rows i x)) (lines (problem_of u))
+new-line u old rows i x e lt =
+    let s = split-at rows i x lt in
+    subst (λ (all : List Row). Any (λ l. l ≡ line_of_row (get_or rows i x)) (map line_of_row all ++ stay_lines 1001 u.stays))
+    (sym (e ∙ ap (λ (xs : List Row). old ++ xs) s.2 ∙ sym (append_more old s.0 (get_or rows i x ∷ s.1)))) (row_among (old ++ s.0) (get_or rows i x) s.1 (stay_lines 1001 u.stays))
+
+part-row : (t : Lists) (w : ℕ) → IsKept t → IsKeptRow (row_at t w)
+part-row t w kept = elim (cases_lt w (length t.matrix)) [
+  | inl lt ↦ kept.matrix w [] lt
+  | inr past ↦ subst IsKeptRow (sym (get_or_past t.matrix w [] past)) none_kept
+]
+
+rows-listed : (u : Lists) (old rows : List Row) (new : List ℕ) → IsKept u → u.rows ≡ old ++ rows → All (λ r. IsLineListed u new (line_slot u (Held r.id))) rows → AreRowsListed u rows new
+rows-listed u old rows new kept e h i x lt =
+    let r : Row = get_or rows i x in
+    let slot : IsLineSlot u (line_of_row (get_or rows i x)) = any_is (IsLineSlot u) (λ l. l ≡ line_of_row (get_or rows i x)) (lines (problem_of u)) kept.slots.lines (new-line u old rows i x e lt) (λ l s q. subst (IsLineSlot u) q s) in
+    elim (h i x lt) [
+      | inl free ↦ inl (λ side inside. ap (λ (q : Rel). side_share q side 1) (sym slot.rel)
+          ∙ free side (is_some (standing_at u (line_slot u (Held (get_or rows i x).id))).side side (inside_stands u (record { row = Held (get_or rows i x).id; side = side }) inside)) 1)
+      | inr has ↦ inr (λ c some ne. has c (kept.outside (line_slot u (Held (get_or rows i x).id)) c some ne).0.0 ne ((number_at_column c (row_at u (line_slot u (Held (get_or rows i x).id))) (part-row u (line_slot u (Held (get_or rows i x).id)) kept)).0 some))
+    ]
+
+first-marks : (P : Mark → Type 0) (xs ys : List Mark) → Each P (xs ++ ys) → Each P xs
+first-marks P [] ys h = tt
+first-marks P (x ∷ xs) ys h = (h.0, first-marks P xs ys h.1)
+
+stay-inside : (p : Problem) (kept : List Mark) (rows : List Row) (at : List Mark) → BeginsWith p kept rows [] at → (c : ℕ) → IsIn c kept → IsIn c at
+stay-inside p kept rows at b c i =
+    contains_each (λ d. IsIn d at) kept c
+    (first-marks (λ m. IsIn (place m) at) kept (b.news ++ map (λ (r : Row). over_mark r.id) []) (recursion_from_All (λ m. IsIn (place m) at) (kept ++ (b.news ++ map (λ (r : Row). over_mark r.id) [])) b.marks.1)) i
+
+owner-named : (u : Lists) (w : ℕ) (o : Owner) → IsOwned u w o → IsNamed (problem_of u) (name_of o)
+owner-named u w LevelSlot h = absurd h
+owner-named u w (AttrSlot attr) h = stay_named (problem_of u) attr h.0
+owner-named u w (LineSlot name) h = h.0
+
+names-named : (u : Lists) (ws : List ℕ) → AreSlots u → Each (IsSlot u) ws → Each (IsNamed (problem_of u)) (names_of u ws)
+names-named u [] slots h = tt
+names-named u (w ∷ ws) slots h = (owner-named u w (slot_at u w).owner (slots.owners w h.0), names-named u ws slots h.1)
+
+each-contained : (P : ℕ → Type 0) (ws : List ℕ) → ((w : ℕ) → Contains ws w → P w) → Each P ws
+each-contained P [] f = tt
+each-contained P (w ∷ ws) f = (f w (0, omega arith, refl), each-contained P ws (λ v i. f v (suc i.0, omega (arith, i.1), i.2)))
+
+contained : (P : ℕ → Type 0) (ws : List ℕ) (w : ℕ) → Each P ws → Contains ws w → P w
+contained P [] w h (k, lt, e) = absurd (omega (arith, lt))
+contained P (v ∷ ws) w h (zero, lt, e) = subst P e h.0
+contained P (v ∷ ws) w h (suc k, lt, e) = contained P ws w h.1 (k, omega (arith, lt), e)
+
+pub added_consistent : (t u : Table) (rows : List Row) (old new : List ℕ) → IsConsistent t old → AreAlike u → lists_before u ≡ lists_before t → AreAllJoined rows (lists_of t) old (lists_of u) new → IsConsistent u new
+added_consistent t u rows old new c alike before h =
+    let a : Lists = lists_of t in
+    let b : Lists = lists_of u in
+    let slots : u.slots.items ≡ t.slots.items ++ map slot_of_row rows = h.joined.slots ∙ h.pushed.slots in
+    let all : u.rows.items ≡ t.rows.items ++ rows = h.joined.rows_same ∙ h.pushed.rows in
+    let problem : problem_of (lists_of u) ≡ with_rows (problem_of (lists_of t)) rows = ap₂ (λ (xs : List Row) (ys : List Stay). record { rows = xs; stays = ys }) all (h.joined.stays ∙ h.pushed.stays) in
+    let longer : length t.slots.items ≤ length u.slots.items = subst (λ (xs : List Slot). length t.slots.items ≤ length xs) (sym slots) (longer-than t.slots.items (map slot_of_row rows)) in
+    let was : Each (IsSlot (lists_of t)) old = recursion_from_All (IsSlot (lists_of t)) old c.slots in
+    let each : Each (IsSlot (lists_of u)) new = each-contained (IsSlot (lists_of u)) new
+    (λ w i. elim (h.joined.others w i) [
+      | inl j ↦ let s = contained (IsSlot (lists_of t)) old w was j in (s.0, omega (arith, s.1, longer))
+      | inr s ↦ (s.0, subst (λ (xs : List Slot). w < length xs) (sym h.joined.slots) s.1)
+    ]) in
+    record {
+      alike = alike;
+      before = subst (All IsEarlier) (sym before) c.before;
+      kept = h.kept;
+      slots = All-from_recursion (IsSlot (lists_of u)) new each;
+      named = All-from_recursion (IsNamed (problem_of (lists_of u))) (names_of (lists_of u) new) (names-named (lists_of u) new h.kept.slots each);
+      candidates = joined_candidates (lists_of t) (lists_of u) rows old new (kept_part (lists_of u) h.kept) problem
+          (λ w i. ap (λ (xs : List Slot). slice_index_or xs w (record { owner = LevelSlot; home = 0; weight = pos 1; scale = pos 1; rel = Eq })) slots
+          ∙ get_or_append_left t.slots.items (map slot_of_row rows) (record { owner = LevelSlot; home = 0; weight = pos 1; scale = pos 1; rel = Eq }) w (contained (IsSlot (lists_of t)) old w was i).1)
+          (λ d i. subst (λ (at : List Mark). IsIn d at) (sym h.joined.marks) (stay-inside (problem_of h.mid) (marks_at (lists_of t)) rows (marks_at h.mid) h.begins d i))
+          (subst (λ (at : List Mark). All (HasOneIn at) rows) (sym h.joined.marks) (begins_one_in (problem_of h.mid) (marks_at (lists_of t)) rows (marks_at h.mid) h.begins))
+          h.joined.keeps
+          (rows-listed (lists_of u) t.rows.items rows new h.kept all h.joined.listed)
+          c.candidates;
+    }
+  where
+    longer-than : (xs ys : List Slot) → length xs ≤ length (xs ++ ys)
+    longer-than [] ys = let n : ℕ = length ys in omega arith
+    longer-than (x ∷ xs) ys = let k = longer-than xs ys in omega (arith, k)
+
+pub added_problem : (t u : Lists) (rows : List Row) (old new : List ℕ) → AreAllJoined rows t old u new → problem_of u ≡ with_rows (problem_of t) rows
+added_problem t u rows old new h = ap₂ (λ (xs : List Row) (ys : List Stay). record { rows = xs; stays = ys }) (h.joined.rows_same ∙ h.pushed.rows) (h.joined.stays ∙ h.pushed.stays)
+
+pub added_begins : (t u : Lists) (rows : List Row) (old new : List ℕ) → AreAllJoined rows t old u new → BeginsWith (problem_of u) (marks_at t) rows [] (marks_at u)
+added_begins t u rows old new h =
+    subst (λ (at : List Mark). BeginsWith (problem_of u) (marks_at t) rows [] at) (sym h.joined.marks)
+    (subst (λ (p : Problem). BeginsWith p (marks_at t) rows [] (marks_at h.mid)) (sym (ap₂ (λ (xs : List Row) (ys : List Stay). record { rows = xs; stays = ys }) h.joined.rows_same h.joined.stays)) h.begins)
+
+pub seen_stop : (t : Table) (listed : List ℕ) (rows : List Row) (stop : RunStop) → IsAddStop (seen_of (lists_of t)) rows stop → IsAddStop (view_of t listed) rows stop
+seen_stop t listed rows (Conflict by) h = h
+seen_stop t listed rows (Spent path) h = h
+seen_stop t listed rows (Unfit at) h = h
+seen_stop t listed rows OutOfMemory h = h

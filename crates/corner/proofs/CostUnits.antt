@@ -1,0 +1,210 @@
+-- Units of levels' costs, and their common multiples.
+use Rattle.std.proofs.Common.{◌≡◌, ◌∙◌, ℕ, zero, suc, ◌*◌, ◌/◌, ◌<◌, ◌≤◌, ◌^◌, arith, refl, sym, ap, ap₂, subst, ℤ, pos, negsuc, ◌+ℤ◌, ◌-ℤ◌, ◌*ℤ◌, ◌<ℤ◌, neg_ℤ, unsigned_abs, w64, SFits}
+use Rattle.std.specs.Prelude.{FitsSigned}
+use Rattle.std.specs.Int.{◌∣◌, IsGcd, w128}
+use Rattle.std.proofs.lemmas.Int.{fits_signed_from_abs}
+use Rattle.std.proofs.Math.IntN.{*ℤ_comm}
+use Rattle.std.proofs.Math.Nat.{div-le_self, dvd-mul_left, dvd-mul_right, mul-div_cancel'}
+use lib.Signed.{quot_z}
+use borrow.Author.Differences.{ints}
+use Rattle.std.proofs.lemmas.Nat.Gcd.{IsGcd-swap}
+use Rattle.frac_core.proofs.Gauss.{Reduces, gauss, reduces}
+use Rattle.frac_core.specs.Fraction.{IsFitting}
+use Rattle.frac_core.specs.declared.frac.TheConstants.{PART_BOUND}
+use Rattle.frac_core.proofs.Integers.{diff-add, diff-mul, diff-neg, diff-pos, diff_eq, neg-pos, on_1, on_3}
+use Rattle.row_core.specs.declared.entry.Factors.{Factors}
+use Rattle.corner_laws.proofs.Equal.{cancel-left}
+use Rattle.corner_lines.specs.LevelJoins.{IsLeastMultiple}
+use Rattle.corner.specs.declared.table.Slot.{Slot}
+use Rattle.corner.specs.LevelNumbers.{IsCounted}
+use Rattle.corner.specs.CostJoins.{AreShareFactors, AreUnitFactors, IsLeastUnit, IsRise, IsUnfitRise}
+use Rattle.corner.proofs.CommonDivisors.{positive_small, size_above}
+
+pub quotient : (a d : ℤ) → pos 0 <ℤ a → pos 0 <ℤ d → quot_z a d ≡ pos (unsigned_abs a / unsigned_abs d)
+quotient (pos a) (pos d) h k = refl
+quotient (pos a) (negsuc d) h k = absurd k.lt
+quotient (negsuc a) d h k = absurd h.lt
+
+pub quotient_fits : (a d : ℤ) → FitsSigned w64 a → pos 0 <ℤ a → FitsSigned w64 (pos (unsigned_abs a / unsigned_abs d))
+quotient_fits a d fits h =
+    let few = positive_small a fits h in
+    let le = div-le_self (unsigned_abs a) (unsigned_abs d) in
+    fits_signed_from_abs w64 (pos (unsigned_abs a / unsigned_abs d)) (omega (arith, few, le))
+
+-- the part of a number above 0 is above 0
+pub part_above : (a b g : ℕ) → IsGcd a b g → 0 < a → 0 < a / g
+part_above a b g d h = above (a / g) g (mul-div_cancel' g d.0)
+  where
+    above : (x g : ℕ) → g * x ≡ a → 0 < x
+    above zero g e = absurd (omega (arith, e, h))
+    above (suc x) g e = omega arith
+
+pub quotient_above : (a d : ℤ) (b : ℕ) → IsGcd (unsigned_abs a) b (unsigned_abs d) → pos 0 <ℤ a → pos 0 <ℤ pos (unsigned_abs a / unsigned_abs d)
+quotient_above a d b is h = let up = part_above (unsigned_abs a) b (unsigned_abs d) is (size_above a h) in omega (arith, ints, up)
+
+-- ---- the least common multiple
+
+regrouped : (p g q : ℕ) → p * (q * g) ≡ q * (p * g)
+regrouped p g q = omega arith
+
+moved : (p u y g n : ℕ) → (u * g) * y ≡ n → g * (u * y) ≡ n
+moved p u y g n e = omega (arith, e)
+
+with_left : (p g y : ℕ) → g * (p * y) ≡ (p * g) * y
+with_left p g y = omega arith
+
+at_last : (p z u n : ℕ) → u * (p * z) ≡ n → (p * u) * z ≡ n
+at_last p z u n e = omega (arith, e)
+
+pub least_multiple : (part unit g : ℕ) → IsGcd part unit g → 0 < part → 0 < unit → IsLeastMultiple unit part (part / g * unit)
+least_multiple part unit g is up above =
+    let r : Reduces part unit g = reduces part unit g above is in
+    let p : ℕ = part / g in
+    let u : ℕ = unit / g in
+    record {
+      above = product_above (part / g) unit (part_above part unit g is up) above;
+      left = dvd-mul_left unit (part / g);
+      right = subst (λ (n : ℕ). part ∣ n) (whole (part / g) (unit / g) r.num_is r.den_is) (dvd-mul_left part (unit / g));
+      least = λ n left right.
+          let e : unit * (n / unit) ≡ n = mul-div_cancel' unit left in
+          let d : part * (n / part) ≡ n = mul-div_cancel' part right in
+          let same : (part / g) * (n / part) ≡ (unit / g) * (n / unit) =
+          cancel-left g ((part / g) * (n / part)) ((unit / g) * (n / unit)) r.g_above
+          (with_left (part / g) g (n / part) ∙ ap (λ (k : ℕ). k * (n / part)) r.num_is ∙ d ∙ sym e ∙ sym (with_left (unit / g) g (n / unit) ∙ ap (λ (k : ℕ). k * (n / unit)) r.den_is)) in
+          let f : (part / g) ∣ (n / unit) = gauss (unit / g) (part / g) (n / unit) (IsGcd-swap (part / g) (unit / g) 1 r.apart) (subst (λ (k : ℕ). (part / g) ∣ k) same (dvd-mul_right (part / g) (n / part))) in
+          let z : (part / g) * (n / unit / (part / g)) ≡ n / unit = mul-div_cancel' (part / g) f in
+          subst (λ (k : ℕ). (part / g * unit) ∣ k) (at_last (part / g) (n / unit / (part / g)) unit n (ap (λ (k : ℕ). unit * k) z ∙ e)) (dvd-mul_right (part / g * unit) (n / unit / (part / g)));
+    }
+  where
+    product_above : (a b : ℕ) → 0 < a → 0 < b → 0 < a * b
+    product_above zero b h k = absurd (omega (arith, h))
+    product_above (suc a) b h k = omega (arith, k)
+
+    whole : (p u : ℕ) → p * g ≡ part → u * g ≡ unit → u * part ≡ p * unit
+    whole p u e f = ap (λ (k : ℕ). u * k) (sym e) ∙ regrouped u g p ∙ ap (λ (k : ℕ). p * k) f
+
+-- ---- what the code finds
+
+pub record IsRisen (slot : Slot) (unit d part g times next : ℤ) : Type 0 where
+  pub divides : IsGcd (unsigned_abs slot.scale) (unsigned_abs slot.weight) (unsigned_abs d)
+  pub part_is : part ≡ pos (unsigned_abs slot.scale / unsigned_abs d)
+  pub shares : IsGcd (unsigned_abs part) (unsigned_abs unit) (unsigned_abs g)
+  pub times_is : times ≡ pos (unsigned_abs part / unsigned_abs g)
+  pub next_is : next ≡ unit *ℤ times
+
+pub scale_above : (slot : Slot) (unit : ℤ) → IsCounted slot unit → pos 0 <ℤ slot.scale
+scale_above slot unit c = let e = c.scale_is in let h = c.scale_positive in omega (arith, ints, e, h)
+
+part-up : (slot : Slot) (unit d part g times next : ℤ) → IsRisen slot unit d part g times next → IsCounted slot unit → 0 < unsigned_abs part
+part-up slot unit d part g times next r c = subst (λ (z : ℤ). 0 < unsigned_abs z) (sym r.part_is) (part_above (unsigned_abs slot.scale) (unsigned_abs slot.weight) (unsigned_abs d) r.divides c.scale_positive)
+
+least-of : (slot : Slot) (unit d part g times next : ℤ) → IsRisen slot unit d part g times next → IsCounted slot unit → pos 0 <ℤ unit → IsLeastUnit slot unit (unsigned_abs part / unsigned_abs g * unsigned_abs unit)
+least-of slot unit d part g times next r c above = record {
+  divisor = unsigned_abs d;
+  divides = r.divides;
+  least = subst (λ (n : ℕ). IsLeastMultiple (unsigned_abs unit) n (unsigned_abs part / unsigned_abs g * unsigned_abs unit)) (ap unsigned_abs r.part_is)
+      (least_multiple (unsigned_abs part) (unsigned_abs unit) (unsigned_abs g) r.shares (part-up slot unit d part g times next r c) (size_above unit above));
+}
+
+product-is : (unit times : ℤ) (t : ℕ) → unit ≡ pos (unsigned_abs unit) → times ≡ pos t → unit *ℤ times ≡ pos (t * unsigned_abs unit)
+product-is unit times t e f = (rw f (rw e (omega (arith, ints))))
+
+at-least : (t u b : ℕ) → 0 < u → t * u < b → t < b
+at-least t zero b h k = absurd (omega (arith, h))
+at-least t (suc u) b h k = omega (arith, k)
+
+pub rise_of : (slot : Slot) (unit d part g times next : ℤ) → IsRisen slot unit d part g times next → IsCounted slot unit → pos 0 <ℤ unit → unsigned_abs next < PART_BOUND → IsRise slot unit (record { unit = next; times = times })
+rise_of slot unit d part g times next r c above small =
+    let t : ℕ = unsigned_abs part / unsigned_abs g in
+    let e : next ≡ pos (unsigned_abs part / unsigned_abs g * unsigned_abs unit) = r.next_is ∙ product-is unit times (unsigned_abs part / unsigned_abs g) c.unit_is r.times_is in
+    record {
+      times = unsigned_abs part / unsigned_abs g;
+      times_is = r.times_is;
+      above = part_above (unsigned_abs part) (unsigned_abs unit) (unsigned_abs g) r.shares (part-up slot unit d part g times next r c);
+      unit_is = e;
+      least = least-of slot unit d part g times next r c above;
+      times_fits = subst (λ (z : ℤ). IsFitting z) (sym r.times_is) (at-least (unsigned_abs part / unsigned_abs g) (unsigned_abs unit) PART_BOUND (size_above unit above) (subst (λ (z : ℤ). unsigned_abs z < PART_BOUND) e small));
+      fits = small;
+    }
+
+pub unfit_rise : (slot : Slot) (unit d part g times next : ℤ) → IsRisen slot unit d part g times next → IsCounted slot unit → pos 0 <ℤ unit → PART_BOUND ≤ unsigned_abs next → IsUnfitRise slot unit
+unfit_rise slot unit d part g times next r c above large =
+    let e : next ≡ pos (unsigned_abs part / unsigned_abs g * unsigned_abs unit) = r.next_is ∙ product-is unit times (unsigned_abs part / unsigned_abs g) c.unit_is r.times_is in
+    record {
+      times = unsigned_abs part / unsigned_abs g;
+      above = part_above (unsigned_abs part) (unsigned_abs unit) (unsigned_abs g) r.shares (part-up slot unit d part g times next r c);
+      least = least-of slot unit d part g times next r c above;
+      unfit = subst (λ (z : ℤ). PART_BOUND ≤ unsigned_abs z) e large;
+    }
+
+-- ---- factors of rows
+
+ruleset ring = (diff-add, diff-mul, diff-neg, diff-pos, neg-pos)
+
+crossed : (a k d : ℕ) (z : ℤ) → (pos a *ℤ z) *ℤ pos (d * k) ≡ (pos (d * a) *ℤ z) *ℤ pos k
+crossed a k d = on_1 (λ z. (pos a *ℤ z) *ℤ pos (d * k) ≡ (pos (d * a) *ℤ z) *ℤ pos k) (λ c c'. simp ring (diff_eq _ _ _ _ (omega arith)))
+
+positive_is : (z : ℤ) → pos 0 <ℤ z → z ≡ pos (unsigned_abs z)
+positive_is (pos n) h = refl
+positive_is (negsuc n) h = absurd h.lt
+
+parts-cross : (own line count : ℤ) (d : ℕ) → pos 0 <ℤ own → pos 0 <ℤ line → IsGcd (unsigned_abs own) (unsigned_abs line) d → (pos (unsigned_abs own / d) *ℤ count) *ℤ line ≡ (own *ℤ count) *ℤ pos (unsigned_abs line / d)
+parts-cross own line count d up above is =
+    let e : line ≡ pos (d * (unsigned_abs line / d)) = positive_is line above ∙ ap pos (sym (mul-div_cancel' d is.1)) in
+    let f : pos (d * (unsigned_abs own / d)) ≡ own = ap pos (mul-div_cancel' d is.0) ∙ sym (positive_is own up) in
+    ap (λ (z : ℤ). (pos (unsigned_abs own / d) *ℤ count) *ℤ z) e
+    ∙ crossed (unsigned_abs own / d) (unsigned_abs line / d) d count
+    ∙ ap (λ (z : ℤ). (z *ℤ count) *ℤ pos (unsigned_abs line / d)) f
+
+pub share_factors : (own line count times : ℤ) (by : Factors) (d a b : ℤ) → pos 0 <ℤ own → pos 0 <ℤ line → IsGcd (unsigned_abs own) (unsigned_abs line) (unsigned_abs d)
+    → a ≡ pos (unsigned_abs line / unsigned_abs d) → b ≡ pos (unsigned_abs own / unsigned_abs d) → by.k ≡ a *ℤ times → by.n ≡ b *ℤ count → AreShareFactors own line count times by
+share_factors own line count times by d a b up above is e f k n = record {
+  k = unsigned_abs line / unsigned_abs d;
+  above = part_above (unsigned_abs line) (unsigned_abs own) (unsigned_abs d) (IsGcd-swap (unsigned_abs own) (unsigned_abs line) (unsigned_abs d) is) (size_above line above);
+  k_is = k ∙ ap (λ (z : ℤ). z *ℤ times) e;
+  same = ap (λ (z : ℤ). z *ℤ line) (n ∙ ap (λ (z : ℤ). z *ℤ count) f) ∙ parts-cross own line count (unsigned_abs d) up above is;
+}
+
+times-one : (z : ℤ) → z *ℤ pos 1 ≡ z
+times-one z = omega (arith, ints)
+
+minus-plus : (k own : ℤ) (a : ℤ) → k *ℤ own +ℤ (a +ℤ neg_ℤ (own *ℤ k)) ≡ a
+minus-plus = on_3 (λ k own a. k *ℤ own +ℤ (a +ℤ neg_ℤ (own *ℤ k)) ≡ a) (λ b b' c c' e e'. simp ring (diff_eq _ _ _ _ (omega arith)))
+
+sub-neg : (a b : ℤ) → a -ℤ b ≡ a +ℤ neg_ℤ b
+sub-neg a b = omega (arith, ints)
+
+pub unit_factors : (own times : ℤ) (by : Factors) (d k a p : ℤ) → pos 0 <ℤ own → pos 0 <ℤ times → IsGcd (unsigned_abs own) (unsigned_abs times) (unsigned_abs d)
+    → k ≡ pos (unsigned_abs times / unsigned_abs d) → a ≡ pos (unsigned_abs own / unsigned_abs d) → p ≡ own *ℤ k → by.k ≡ k → by.n ≡ a -ℤ p → AreUnitFactors own times by
+unit_factors own times by d k a p up above is e f g bk bn =
+    let n : ℕ = unsigned_abs times / unsigned_abs d in
+    let left : pos (unsigned_abs times / unsigned_abs d) *ℤ own +ℤ by.n ≡ a =
+    ap (λ (z : ℤ). z *ℤ own +ℤ by.n) (sym e) ∙ ap (λ (z : ℤ). k *ℤ own +ℤ z) (bn ∙ sub-neg a p ∙ ap (λ (z : ℤ). a +ℤ neg_ℤ z) g) ∙ minus-plus k own a in
+    record {
+      k = unsigned_abs times / unsigned_abs d;
+      above = part_above (unsigned_abs times) (unsigned_abs own) (unsigned_abs d) (IsGcd-swap (unsigned_abs own) (unsigned_abs times) (unsigned_abs d) is) (size_above times above);
+      k_is = bk ∙ e;
+      same = ap (λ (z : ℤ). z *ℤ times) (left ∙ f) ∙ (sym (times-one (pos (unsigned_abs own / unsigned_abs d) *ℤ times)) ∙ one-cross own times (unsigned_abs d) up above is);
+    }
+  where
+    one-cross : (own times : ℤ) (d : ℕ) → pos 0 <ℤ own → pos 0 <ℤ times → IsGcd (unsigned_abs own) (unsigned_abs times) d → (pos (unsigned_abs own / d) *ℤ times) *ℤ pos 1 ≡ pos (unsigned_abs times / d) *ℤ own
+    one-cross own times d up above is =
+        times-one (pos (unsigned_abs own / d) *ℤ times) ∙ ap (λ (z : ℤ). z *ℤ times) (sym (times-one (pos (unsigned_abs own / d))))
+        ∙ parts-cross own times (pos 1) d up above is ∙ ap (λ (z : ℤ). z *ℤ pos (unsigned_abs times / d)) (times-one own) ∙ *ℤ_comm own (pos (unsigned_abs times / d))
+
+pub difference_sfits : (a p : ℤ) → unsigned_abs a < 2 ^ 63 → unsigned_abs p < 2 ^ 84 → SFits w128 (a -ℤ p)
+difference_sfits a p h k = omega (arith, ints, h, k)
+
+fitting-size : (z : ℤ) → IsFitting z → unsigned_abs z < 2 ^ 63
+fitting-size z h = omega (arith, h)
+
+pub unit_small : (own k a p : ℤ) (n : ℕ) → a ≡ pos n → IsFitting a → pos 0 <ℤ own → pos 0 <ℤ k → p ≡ own *ℤ k → unsigned_abs p < 2 ^ 84 → unsigned_abs (a -ℤ p) < 2 ^ 84
+unit_small own k a p n e small up above f less =
+    let g : p ≡ pos (unsigned_abs own * unsigned_abs k) = f ∙ ap₂ ◌*ℤ◌ (positive_is own up) (positive_is k above) in
+    between a p n (unsigned_abs own * unsigned_abs k) e g small less
+  where
+    between : (a p : ℤ) (n m : ℕ) → a ≡ pos n → p ≡ pos m → IsFitting a → unsigned_abs p < 2 ^ 84 → unsigned_abs (a -ℤ p) < 2 ^ 84
+    between a p n m e g small less = omega (arith, ints, e, g, small, less)
+
+pub unit_sfits : (a p : ℤ) → IsFitting a → unsigned_abs p < 2 ^ 84 → SFits w128 (a -ℤ p)
+unit_sfits a p h k = difference_sfits a p (fitting-size a h) k

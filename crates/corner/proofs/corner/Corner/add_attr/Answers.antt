@@ -1,0 +1,25 @@
+use Rattle.std.proofs.Common.{◌∙◌, ◌<◌, ap, length, subst, sym}
+use Rattle.problem_core.specs.Layout.{HasStay}
+use Rattle.corner.specs.Views.{CornerView}
+use Rattle.corner.specs.Tables.{lists_of}
+use Rattle.corner.proofs.AttrLevels.{attr_marks}
+use Rattle.corner.proofs.CornerAttrs.{attr_consistent, attr_names}
+use Rattle.corner.proofs.corner.Corner.add_attr.Goals as goal
+
+pub invariant_of-self : goal.invariant_of-self
+invariant_of-self c =
+    attr_consistent c.self.inside.table c.push_attr.new.table c.args.attr c.args.target c.self.inside.listed c.self.invariant c.push_attr.ensures.past c.requires.number c.push_attr.ensures.value
+    (subst (λ (v : CornerView). HasStay v.problem.stays c.args.attr → ⊥) (sym c.self.view_is) c.requires.fresh)
+    (subst (λ (v : CornerView). length v.problem.stays < 4096) (sym c.self.view_is) c.requires.room) c.in-Ok.ensures.lists
+
+pub returns-in-Ok-clause-marks : goal.returns-in-Ok-clause-marks
+returns-in-Ok-clause-marks c =
+    attr_marks (lists_of c.self.inside.table) (lists_of c.push_attr.new.table) c.args.attr c.args.target c.self.invariant.kept c.requires.number c.push_attr.ensures.value
+    (subst (λ (v : CornerView). HasStay v.problem.stays c.args.attr → ⊥) (sym c.self.view_is) c.requires.fresh)
+    (subst (λ (v : CornerView). length v.problem.stays < 4096) (sym c.self.view_is) c.requires.room) c.in-Ok.ensures.lists
+    ∙ ap (λ (v : CornerView). v.marks) c.self.view_is
+
+pub returns-in-Ok-clause-candidates : goal.returns-in-Ok-clause-candidates
+returns-in-Ok-clause-candidates c =
+    attr_names (lists_of c.self.inside.table) (lists_of c.push_attr.new.table) c.args.attr c.args.target c.self.inside.listed c.self.invariant.kept c.self.invariant.named c.in-Ok.ensures.lists
+    ∙ ap (λ (v : CornerView). v.candidates) c.self.view_is

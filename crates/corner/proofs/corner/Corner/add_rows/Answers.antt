@@ -1,0 +1,17 @@
+use Rattle.std.proofs.Common.{subst, sym}
+use Rattle.problem_core.specs.Corners.{NoNegativeValue}
+use Rattle.corner.specs.Changes.{IsAddStop}
+use Rattle.corner.specs.Views.{CornerView}
+use Rattle.corner.proofs.AddedRows.{added_consistent, seen_stop}
+use Rattle.corner.proofs.corner.Corner.add_rows.Goals as goal
+
+pub join_all-requires-clause-values : goal.join_all-requires-clause-values
+join_all-requires-clause-values c = subst (λ (v : CornerView). NoNegativeValue v.problem v.marks) (sym c.self.view_is) c.requires.values
+
+pub invariant_of-self : goal.invariant_of-self
+invariant_of-self c =
+    added_consistent c.self.inside.table c.join_all.new.table c.args.rows.now c.self.inside.listed c.join_all.new.listed c.self.invariant (c.join_all.ensures.alike c.self.invariant.alike) c.join_all.ensures.before c.in-Ok.ensures.joined
+
+pub returns-in-Err-clause-stop : goal.returns-in-Err-clause-stop
+returns-in-Err-clause-stop c =
+    subst (λ (v : CornerView). IsAddStop v c.args.rows.now c.in-Err.stop) c.self.view_is (seen_stop c.self.inside.table c.self.inside.listed c.args.rows.now c.in-Err.stop c.in-Err.ensures.stop)

@@ -1,0 +1,5 @@
+use Rattle.corner.proofs.CornerFacts.{back_kept}
+use Rattle.corner.proofs.corner.Corner.back.Goals as goal
+
+pub invariant_of-self : goal.invariant_of-self
+invariant_of-self c = back_kept c.self.inside.table c.back.new.table c.clear.new.self c.back.ensures.alike c.self.invariant.before c.back.ensures.before c.clear.ensures

@@ -1,0 +1,15 @@
+use Rattle.std.proofs.Common.{◌≡◌, ◌-◌, length, map, take, subst}
+use Rattle.corner.proofs.CornerFacts.{forget_before, forget_kept}
+use Rattle.corner.specs.Views.{CornerView}
+use Rattle.corner.specs.Histories.{lists_before}
+use Rattle.corner.specs.Tables.{scene_at}
+use Rattle.corner.proofs.corner.Corner.forget.Goals as goal
+
+pub invariant_of-self : goal.invariant_of-self
+invariant_of-self c =
+    forget_kept c.self.inside.table c.forget.new.table c.self.inside.listed (length c.self.inside.table.rows.before - 1) c.self.invariant c.forget.ensures.alike c.forget.ensures.now c.forget.ensures.before
+
+pub returns-clause-before : goal.returns-clause-before
+returns-clause-before c =
+    subst (λ (v : CornerView). map scene_at (lists_before c.forget.new.table) ≡ take (length v.before - 1) v.before) c.self.view_is
+    (forget_before c.self.inside.table c.forget.new.table c.self.invariant.alike c.forget.ensures.before)

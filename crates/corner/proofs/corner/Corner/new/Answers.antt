@@ -1,0 +1,9 @@
+use Rattle.std.proofs.Common.{◌∙◌, ap}
+use Rattle.corner.specs.Invariants.{view_of}
+use Rattle.corner.proofs.NewCorners.{new_view}
+use Rattle.corner.proofs.corner.Corner.new.Goals as goal
+
+pub returns : goal.returns
+returns c =
+    ap (λ l. view_of c.in_ok-table.table l) c.new-listed.ensures
+    ∙ new_view c.in_ok-table.table c.in_ok-table.ensures.past c.in_ok-table.ensures.rows c.in_ok-table.ensures.stays c.in_ok-table.ensures.slots

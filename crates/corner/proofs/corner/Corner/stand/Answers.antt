@@ -1,0 +1,26 @@
+use Rattle.std.proofs.Common.{◌∙◌, ap, subst}
+use Rattle.corner.specs.Changes.{HasStood}
+use Rattle.corner.specs.Views.{CornerView}
+use Rattle.corner.specs.Tables.{lists_of}
+use Rattle.corner.specs.Invariants.{view_of}
+use Rattle.corner.proofs.StoodTables.{has_stood, stood_consistent, stood_names, stood_same_marks}
+use Rattle.corner.proofs.corner.Corner.stand.Goals as goal
+
+pub invariant_of-self : goal.invariant_of-self
+invariant_of-self c =
+    stood_consistent c.self.inside.table c.stand_stays.new.table c.self.inside.listed c.self.invariant c.stand_stays.ensures.past c.in-Ok.ensures.lists
+
+pub returns-in-Ok-clause-stood : goal.returns-in-Ok-clause-stood
+returns-in-Ok-clause-stood c =
+    subst (λ (v : CornerView). HasStood v (view_of c.stand_stays.new.table c.self.inside.listed)) c.self.view_is
+    (has_stood c.self.inside.table c.stand_stays.new.table c.self.inside.listed c.self.inside.listed c.self.invariant.kept c.in-Ok.ensures.lists)
+
+pub returns-in-Ok-clause-marks : goal.returns-in-Ok-clause-marks
+returns-in-Ok-clause-marks c =
+    stood_same_marks (lists_of c.self.inside.table) (lists_of c.stand_stays.new.table) c.in-Ok.ensures.lists
+    ∙ ap (λ (v : CornerView). v.marks) c.self.view_is
+
+pub returns-in-Ok-clause-candidates : goal.returns-in-Ok-clause-candidates
+returns-in-Ok-clause-candidates c =
+    stood_names (lists_of c.self.inside.table) (lists_of c.stand_stays.new.table) c.self.inside.listed c.in-Ok.ensures.lists
+    ∙ ap (λ (v : CornerView). v.candidates) c.self.view_is

@@ -1,0 +1,20 @@
+use Rattle.std.proofs.Common.{rules, SFits, w64, ◌*ℤ◌, pos, sym, subst}
+use Rattle.std.proofs.lemmas.Int.{to_z-of_z}
+use Rattle.frac_core.specs.Fraction.{IsFitting}
+use Rattle.problem_core.specs.declared.stops.TableStop.{TableStop}
+use Rattle.corner.specs.Changes.{IsUnfitStop}
+use Rattle.corner.specs.Exchanges.{marks_after}
+use Rattle.corner.specs.Tables.{lists_of, problem_of}
+use Rattle.corner.proofs.PivotFacts.{enter_within, entering_large}
+use Rattle.corner.proofs.exchange.pivot_with.Goals as goal
+
+pub check_stay-requires-clause-within : goal.check_stay-requires-clause-within
+check_stay-requires-clause-within c = enter_within (lists_of c.args.table.now) c.args.pair c.requires.pair.0 c.requires.kept.slots c.requires.pair.1
+
+pub returns-in-Err-clause-stop : goal.returns-in-Err-clause-stop
+returns-in-Err-clause-stop c = λ s are.
+    let fits : SFits w64 c.args.by = search rules in
+    let large : IsFitting (pos 2 *ℤ c.args.by) → ⊥ = simp to_z-of_z at c.in-Err.ensures.unfit in
+    let h = entering_large (lists_of c.args.table.now) c.args.pair s c.args.value c.requires.kept are (c.requires.entering s are) c.requires.lowest c.in-Err.ensures.stay
+    (λ f. large (subst (λ z. IsFitting (pos 2 *ℤ z)) (sym c.requires.by) f)) in
+    subst (λ (e : TableStop). IsUnfitStop (problem_of (lists_of c.args.table.now)) (marks_after (lists_of c.args.table.now) s) e) (sym (c.in-Err.ensures.stop h.0 h.1)) h.2

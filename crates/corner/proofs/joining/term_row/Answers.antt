@@ -1,0 +1,30 @@
+use Rattle.std.proofs.Common.{◌∙◌, inl, inr, refl, sym, subst}
+use Rattle.problem_core.specs.declared.stops.TableStop.{TableStop}
+use Rattle.row_core.specs.declared.entry.RowStop.TheVariants.{Unfit}
+use Rattle.problem_core.specs.Unfit.{first_terms}
+use Rattle.corner.specs.Parts.{IsTermsStop}
+use Rattle.corner.specs.Tables.{lists_of}
+use Rattle.corner.proofs.LineSlots.{err_of}
+use Rattle.corner.proofs.PivotFacts.{err_all}
+use Rattle.corner.proofs.RowTerms.{own_above, row_unfit, stop_of, terms_covered, terms_fit}
+use Rattle.corner.proofs.joining.term_row.Goals as goal
+
+pub more_row-requires-clause-attr : goal.more_row-requires-clause-attr
+more_row-requires-clause-attr c = terms_covered (lists_of c.args.table.now) c.args.row.now c.args.i _ c.terms.result.now c.terms.ensures c.requires.whole c.requires.within
+
+pub more_row-requires-clause-by : goal.more_row-requires-clause-by
+more_row-requires-clause-by c = terms_fit (lists_of c.args.table.now) c.args.row.now c.args.i _ c.terms.result.now c.terms.ensures c.requires.whole c.requires.within
+
+pub more_row-requires-clause-own : goal.more_row-requires-clause-own
+more_row-requires-clause-own c = own_above (lists_of c.args.table.now) c.args.row.now (first_terms c.args.row.now c.args.i) c.args.sum.now c.args.at c.requires.at c.requires.sum
+
+pub returns-clause-stop : goal.returns-clause-stop
+returns-clause-stop c =
+    err_all c.named_row.result _ (IsTermsStop (lists_of c.args.table.now) c.args.row.now)
+    (λ stop h. elim h [
+      | inl e ↦ subst (λ (x : TableStop). IsTermsStop (lists_of c.args.table.now) c.args.row.now x) (sym e) tt
+      | inr (e, made) ↦ stop_of (lists_of c.args.table.now) c.args.row.now stop _ _ _ (e ∙ c.terms_stop-stop.ensures) c.id.ensures refl
+          (row_unfit (lists_of c.args.table.now) c.args.row.now c.args.i _ c.args.sum.now c.args.at c.terms.result.now c.requires.kept c.requires.whole c.requires.within c.requires.sum c.requires.at c.terms.ensures
+          (err_of c.more_row.result Unfit _ made c.more_row.ensures.unfit refl))
+    ])
+    c.named_row.ensures.err

@@ -1,0 +1,92 @@
+-- What the changes of a corner answer.
+use Rattle.std.specs.Prelude.{◌≡◌, ℕ, false, List, [], ◌∷◌, ◌++◌, map, All}
+use Rattle.problem_core.specs.declared.parts.Mark.{Mark}
+use Rattle.problem_core.specs.declared.parts.Side.{Side}
+use Rattle.problem_core.specs.declared.parts.RowName.{RowName}
+use Rattle.problem_core.specs.declared.stops.Quantity.{Quantity}
+use Rattle.problem_core.specs.declared.stops.Quantity.TheVariants.{Plain, Terms, Rows, Shifts}
+use Rattle.problem_core.specs.declared.stops.TableStop.{TableStop}
+use Rattle.problem_core.specs.declared.stops.TableStop.TheVariants.{UnfitAt, OutOfMemory as NoMemory}
+use Rattle.problem_core.specs.Layout.{Row, Problem}
+use Rattle.frac_core.specs.Fraction.{Fraction}
+use Rattle.problem_core.specs.Corners.{HasNegativeColumn, attr_column}
+use Rattle.problem_core.specs.Begins.{BeginsWith}
+use Rattle.problem_core.specs.Unfit.{IsUnfitWhat}
+use Rattle.cert_core.specs.Stops.{IsStopOf}
+use Rattle.cert_core.specs.declared.stops.RunStop.{RunStop}
+use Rattle.cert_core.specs.declared.stops.RunStop.TheVariants.{Conflict, Unfit, Spent, OutOfMemory}
+use Rattle.corner.specs.Views.{CornerView, HasValueAt, Scene, in_order}
+use Rattle.corner.specs.Tables.{Lists, marks_over}
+
+-- want of memory, or a quantity of the problem that does not fit at these marks
+abbrev pub IsUnfitStop : Problem → List Mark → TableStop → Type 0
+IsUnfitStop p marks (UnfitAt (Plain what)) = IsUnfitWhat p marks what
+IsUnfitStop p marks (UnfitAt (Terms mark j)) = ⊥
+IsUnfitStop p marks (UnfitAt (Rows level j)) = ⊥
+IsUnfitStop p marks (UnfitAt (Shifts what j)) = ⊥
+IsUnfitStop p marks NoMemory = Unit {0}
+
+abbrev pub scene_of : CornerView → Scene
+scene_of v = record { problem = v.problem; marks = v.marks }
+
+-- the scene is that of the newest mark again
+pub record IsRewound (old new : CornerView) : Type 0 where
+  pub before : new.before ≡ old.before
+  pub scene : (rest : List Scene) × (old.before ≡ scene_of new ∷ rest)
+  pub candidates : new.candidates ≡ []
+
+-- the same corner, but after want of memory that of the newest mark
+abbrev pub IsAsBefore : CornerView → CornerView → TableStop → Type 0
+IsAsBefore old new (UnfitAt quantity) = new ≡ old
+IsAsBefore old new NoMemory = IsRewound old new
+
+-- of the rows that join: sums of their terms, or of a level's rows, and no others
+abbrev pub IsPartial : Quantity → Type 0
+IsPartial (Plain what) = ⊥
+IsPartial (Terms mark j) = Unit {0}
+IsPartial (Rows level j) = Unit {0}
+IsPartial (Shifts what j) = ⊥
+
+-- some of the new rows have joined the kept marks with their marks that are not negative, and the rest are
+-- over
+abbrev pub FromAdded : Problem → List Mark → List Row → List Row → List Mark → Type 0
+FromAdded p kept rows rest at = (joined : List Row) × (joined ++ rest ≡ rows)
+    × BeginsWith p kept joined rest at
+    × (at ≡ in_order p at)
+
+abbrev pub with_rows : Problem → List Row → Problem
+with_rows p rows = record { rows = p.rows ++ rows; stays = p.stays }
+
+-- want of memory, or a sum of a new row's terms or of a level's new rows that does not fit, with the path to
+-- it
+abbrev pub IsAddStop : CornerView → List Row → RunStop → Type 0
+IsAddStop old rows (Conflict by) = ⊥
+IsAddStop old rows (Spent path) = ⊥
+IsAddStop old rows (Unfit at) = IsPartial at.quantity
+    × IsStopOf false (with_rows old.problem rows) old.problem.rows
+    (FromAdded (with_rows old.problem rows) old.marks rows) 0 (Unfit at)
+IsAddStop old rows OutOfMemory = Unit {0}
+
+-- the quantity, with the path to where these rows are still to join
+abbrev pub IsPathStop : Lists → List Row → TableStop → RunStop → Type 0
+IsPathStop t rest stop (Conflict by) = ⊥
+IsPathStop t rest stop (Spent path) = ⊥
+IsPathStop t rest stop (Unfit at) = (stop ≡ UnfitAt at.quantity)
+    × (at.path ≡ record { dual = false; corner = marks_over t rest; swaps = [] })
+IsPathStop t rest stop OutOfMemory = Unit {0}
+
+abbrev pub with_attr : Problem → ℕ → Fraction → Problem
+with_attr p attr target = record {
+  rows = p.rows;
+  stays = p.stays ++ (record { attr = attr; target = target } ∷ []);
+}
+
+-- the problems have the same rows and attributes, and the new one's stays stand at the old one's values
+pub record HasStood (old new : CornerView) : Type 0 where
+  pub rows : new.problem.rows ≡ old.problem.rows
+  pub attrs : map (λ s. s.attr) new.problem.stays ≡ map (λ s. s.attr) old.problem.stays
+  pub targets : All (λ s. HasValueAt old.problem old.marks (attr_column s.attr) s.target) new.problem.stays
+
+-- neither mark of the line has a negative column
+abbrev pub HasNoNegative : Problem → List Mark → RowName → Type 0
+HasNoNegative p at name = (side : Side) → HasNegativeColumn p at (record { row = name; side = side }) → ⊥

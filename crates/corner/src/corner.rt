@@ -1,0 +1,467 @@
+// A problem and one of its corners.
+ghost use Rattle.std.specs.Prelude.{◌≡◌, ◌≢◌, ◌<◌, ◌≤◌, ◌↔◌, ◌-◌, ◌+◌, ◌++◌, ℕ, List, [], ◌∷◌, pos, length};
+ghost use Rattle.std.specs.Prelude.{take, true, All, AllPairs, Any, Contains, IfOk, IfErr, IfSome, IfNone};
+ghost use Rattle.std.specs.Prelude.{OnErr, OnOk, slice_get, Some};
+ghost use Rattle.problem_core.specs.Layout.{HasStay};
+ghost use Rattle.problem_core.specs.Kept.{IsWhole, IsNumber};
+ghost use Rattle.problem_core.specs.Corners as corners;
+ghost use Rattle.problem_core.specs.Corners.{IsExchange, IsIn, NoNegativeValue, SameMarks, attr_column};
+ghost use Rattle.problem_core.specs.Corners.{Swap, exchanged};
+ghost use Rattle.problem_core.specs.declared.stops.TableStop.TheVariants.{OutOfMemory as NoMemory};
+ghost use Rattle.problem_core.specs.Begins.{BeginsWith};
+ghost use Rattle.problem_core.specs.Levels.{IsCostAt, IsLevelAt};
+ghost use Rattle.problem_core.specs.declared.parts.Level as level_type;
+ghost use Rattle.problem_core.specs.declared.parts.RowName as row_type;
+ghost use Rattle.problem_core.specs.declared.parts.Side.TheVariants.{Over};
+ghost use Rattle.problem_core.specs.declared.stops.What as what_type;
+ghost use Rattle.problem_core.specs.declared.stops.What.TheVariants.{Mark as MarkOf};
+ghost use Rattle.version_list.specs.declared.TheConstants.{MOST};
+ghost use Rattle.corner.specs.Views.{AreCandidates, AreMovers, HasNoFront, HasNumbers, HasValueAt};
+ghost use Rattle.corner.specs.Views.{IsCoefficientOf, IsFrontOf, IsInUse};
+ghost use Rattle.corner.specs.Views.{IsKeptCorner, IsLevelOf, IsMarkOf, IsNamed, IsOutside, IsReducedAt};
+ghost use Rattle.corner.specs.Views.{IsScaleOf, IsSettled};
+ghost use Rattle.corner.specs.Views.{IsStronger, IsWritten, MovesWith};
+ghost use Rattle.corner.specs.Changes.{HasNoNegative, HasStood, IsAddStop, IsAsBefore, IsRewound};
+ghost use Rattle.corner.specs.Changes.{IsUnfitStop, scene_of};
+ghost use Rattle.corner.specs.Changes.{with_attr, with_rows};
+ghost use Rattle.corner.specs.NextLists.{AreMarksBy, AreMarksTurned};
+ghost use Rattle.corner.specs.Exchanges.{IsPair, IsPairStop};
+ghost use Rattle.corner.specs.TurnedLevels.{IsTurn, IsTurnStop};
+ghost use Rattle.corner.specs.Tables.{Lists, lists_of, problem_of};
+ghost use Rattle.corner.specs.Histories.{AreAlike, lists_before};
+ghost use Rattle.corner.specs.Invariants.{IsConsistent, IsEarlier, view_of};
+
+use crate::exchange::{exchange_of, put_exchange};
+use crate::joining::{join_all, push_attr, stand_stays};
+use crate::levels::{Front, Pair, cost_at, front_of, reduced_at, scale_at, times_at, used};
+use crate::listing::Listed;
+use crate::marking::marks_with;
+use crate::slots::{level_slot, line_slot, name_at};
+use crate::table::{Table, back, forget, mark, new_table, rewind};
+use crate::turning::{put_turn, turn_of};
+use crate::writings::{attr_value, coefficient, denominator, is_inside, mark_value, mover, movers};
+use cert_core::RunStop;
+use frac_core::{Frac, OutOfMemory};
+use problem_core::{Level, Mark, Row, RowName, Side, Stay, TableStop, What};
+use std::alloc::Global;
+use std::marker::Model;
+
+/// A problem and the marks inside at one of its corners, with earlier ones. How they are kept is not seen:
+/// all that can be asked follows from these two.
+#[derive(Drop)]
+pub struct Corner {
+    table: Table,
+    listed: Listed,
+}
+
+// Takes back what was done since the newest mark, at which no line is listed.
+fn take_back(table: &mut Table, listed: &mut Listed)
+    requires alike { AreAlike table.old }
+    requires marked { 0 < length table.old.rows.before }
+    requires earlier { All IsEarlier (lists_before table.old) }
+    ensures consistent { IsConsistent table.new listed.new }
+    ensures before { lists_before table.new ≡ lists_before table.old }
+    ensures now { (rest : List Lists) × (lists_before table.old ≡ lists_of table.new ∷ rest) }
+    ensures listed { listed.new ≡ [] }
+{
+    listed.clear();
+    rewind(table);
+}
+
+// Takes back what was done since the newest mark, for want of memory.
+fn rewound(table: &mut Table, listed: &mut Listed) -> TableStop
+    requires alike { AreAlike table.old }
+    requires marked { 0 < length table.old.rows.before }
+    requires earlier { All IsEarlier (lists_before table.old) }
+    ensures consistent { IsConsistent table.new listed.new }
+    ensures before { lists_before table.new ≡ lists_before table.old }
+    ensures stop { result ≡ NoMemory }
+    ensures rewound { IsRewound (view_of table.old listed.old) (view_of table.new listed.new) }
+{
+    take_back(table, listed);
+    TableStop::OutOfMemory
+}
+
+// Exchanges an outside line's mark for an inside line's.
+fn exchange_lines(table: &mut Table, listed: &mut Listed, pair: Pair) -> Result<(), TableStop>
+    requires consistent { IsConsistent table.old listed.old }
+    requires marked { 0 < length table.old.rows.before }
+    requires pair { (s : Swap) × IsPair (lists_of table.old) pair s }
+    ensures consistent { IsConsistent table.new listed.new }
+    ensures before { lists_before table.new ≡ lists_before table.old }
+    ensures problem { OnOk result (problem_of (lists_of table.new) ≡ problem_of (lists_of table.old)) }
+    ensures marks { OnOk result (AreMarksBy (lists_of table.old) pair (lists_of table.new)) }
+    ensures stop { IfErr result (IsPairStop (lists_of table.old) pair) }
+    ensures same { IfErr result (IsAsBefore (view_of table.old listed.old) (view_of table.new listed.new)) }
+{
+    match exchange_of(table, pair) {
+        Ok(made) => match put_exchange(table, listed, made) {
+            Ok(()) => Ok(()),
+            Err(OutOfMemory) => Err(rewound(table, listed)),
+        },
+        Err(TableStop::OutOfMemory) => Err(rewound(table, listed)),
+        Err(TableStop::UnfitAt(quantity)) => Err(TableStop::UnfitAt(quantity)),
+    }
+}
+
+// Takes a line's other mark inside.
+fn turn_line(table: &mut Table, listed: &mut Listed, line: u32, side: Side) -> Result<(), TableStop>
+    requires consistent { IsConsistent table.old listed.old }
+    requires marked { 0 < length table.old.rows.before }
+    requires turn { (s : Swap) × IsTurn (lists_of table.old) line side s }
+    ensures consistent { IsConsistent table.new listed.new }
+    ensures before { lists_before table.new ≡ lists_before table.old }
+    ensures problem { OnOk result (problem_of (lists_of table.new) ≡ problem_of (lists_of table.old)) }
+    ensures marks { OnOk result (AreMarksTurned (lists_of table.old) line side (lists_of table.new)) }
+    ensures stop { IfErr result (IsTurnStop (lists_of table.old) line side) }
+    ensures same { IfErr result (IsAsBefore (view_of table.old listed.old) (view_of table.new listed.new)) }
+{
+    match turn_of(table, line, side) {
+        Ok(change) => match put_turn(table, listed, line, side, change) {
+            Ok(()) => Ok(()),
+            Err(OutOfMemory) => Err(rewound(table, listed)),
+        },
+        Err(TableStop::OutOfMemory) => Err(rewound(table, listed)),
+        Err(TableStop::UnfitAt(quantity)) => Err(TableStop::UnfitAt(quantity)),
+    }
+}
+
+// Whether both are marks of one line.
+fn are_of_line(a: Mark, b: Mark) -> bool
+    ensures { (result ≡ true) ↔ (a.row ≡ b.row) }
+{
+    a.row == b.row
+}
+
+impl Model for Corner {
+    ghost use Rattle.corner.specs.Views.{CornerView};
+    ghost use Rattle.corner.specs.Invariants.{IsConsistent, view_of};
+
+    ghost Value = { CornerView };
+
+    ghost view = { λ c. view_of c.table c.listed };
+
+    ghost invariant = { λ c. IsConsistent c.table c.listed };
+}
+
+impl Corner {
+    /// The corner of no attribute and no row.
+    pub fn new(alloc: Global) -> Result<Corner, OutOfMemory>
+        ensures { IfOk result (λ c. c ≡ record {
+          problem = record { rows = []; stays = [] };
+          marks = [];
+          before = [];
+          candidates = [];
+          order = [];
+        }) }
+    {
+        let table = new_table(alloc)?;
+        let listed = Listed::new(alloc);
+        Ok(Corner { table, listed })
+    }
+
+    /// Shows what each corner keeps.
+    pub fn show_corner(&self)
+        ensures kept { IsKeptCorner self.now.problem self.now.marks }
+        ensures candidates { AreCandidates self.now.problem self.now.marks self.now.candidates }
+        ensures named { All (IsNamed self.now.problem) self.now.candidates }
+        ensures before { All IsSettled self.now.before }
+    {
+        let _ = &self.table;
+    }
+
+    /// The rows, by rising number.
+    pub fn rows(&self) -> &[Row]
+        ensures { result.now ≡ self.now.problem.rows }
+    {
+        self.table.rows.as_slice()
+    }
+
+    /// The stays, strongest first.
+    pub fn stays(&self) -> &[Stay]
+        ensures { result.now ≡ self.now.problem.stays }
+    {
+        self.table.stays.as_slice()
+    }
+
+    /// The marks inside, by row number with the stays last.
+    pub fn marks(&self) -> Result<Vec<Mark>, OutOfMemory>
+        ensures { IfOk result (λ marks. marks.items ≡ self.now.marks) }
+    {
+        marks_with(&self.table, &[])
+    }
+
+    /// Whether the mark is inside.
+    pub fn is_inside(&self, mark: Mark) -> bool
+        requires mark { IsMarkOf self.now.problem mark }
+        ensures { (result ≡ true) ↔ IsIn (corners.place mark) self.now.marks }
+    {
+        is_inside(&self.table, mark)
+    }
+
+    /// The value of a mark, which is 0 outside.
+    pub fn value(&self, mark: Mark) -> Frac
+        requires mark { IsMarkOf self.now.problem mark }
+        ensures { HasValueAt self.now.problem self.now.marks (corners.place mark) result }
+    {
+        mark_value(&self.table, mark)
+    }
+
+    /// The value of an attribute.
+    pub fn attr_value(&self, attr: u32) -> Frac
+        requires attr { HasStay self.now.problem.stays attr }
+        ensures { HasValueAt self.now.problem self.now.marks (attr_column attr) result }
+    {
+        attr_value(&self.table, attr)
+    }
+
+    /// How many attributes and inside marks move where the outside mark grows alone.
+    pub fn movers(&self, mark: Mark) -> usize
+        requires outside { IsOutside self.now.problem self.now.marks mark }
+        ensures { (whats : List what_type.What) × AreMovers self.now mark whats × (length whats ≡ result) }
+    {
+        movers(&self.table, mark)
+    }
+
+    /// One of the attributes and inside marks that move where the outside mark grows alone.
+    pub fn mover(&self, mark: Mark, i: usize) -> What
+        requires outside { IsOutside self.now.problem self.now.marks mark }
+        requires within { (whats : List what_type.What) × AreMovers self.now mark whats × (i < length whats) }
+        ensures { (whats : List what_type.What) → AreMovers self.now mark whats
+            → slice_get whats i ≡ Some result }
+    {
+        mover(&self.table, mark, i)
+    }
+
+    /// The coefficient of an outside mark in the writing of an attribute or an inside mark.
+    pub fn coefficient(&self, what: What, mark: Mark) -> i64
+        requires what { IsWritten self.now.problem self.now.marks what }
+        requires outside { IsOutside self.now.problem self.now.marks mark }
+        ensures { IsCoefficientOf self.now.problem self.now.marks what mark result }
+    {
+        coefficient(&self.table, what, mark)
+    }
+
+    /// The scale of the writing of an attribute or an inside mark.
+    pub fn denominator(&self, what: What) -> i64
+        requires what { IsWritten self.now.problem self.now.marks what }
+        ensures { IsScaleOf self.now.problem self.now.marks what result }
+    {
+        denominator(&self.table, what)
+    }
+
+    /// The reduced cost of a mark at a level, which is 0 inside.
+    pub fn reduced(&self, level: Level, mark: Mark) -> i64
+        requires level { IsLevelOf self.now.problem level }
+        requires mark { IsMarkOf self.now.problem mark }
+        ensures { IsReducedAt self.now.problem self.now.marks level mark result }
+    {
+        reduced_at(&self.table, level_slot(&self.table, level), mark)
+    }
+
+    /// The first level at which the mark's reduced cost is not 0, with this cost.
+    pub fn front(&self, mark: Mark) -> Option<Front>
+        requires mark { IsMarkOf self.now.problem mark }
+        ensures some { IfSome result (IsFrontOf self.now.problem self.now.marks mark) }
+        ensures none { IfNone result (HasNoFront self.now.problem self.now.marks mark) }
+    {
+        front_of(&self.table, mark)
+    }
+
+    /// The multiplier of a row or stay at a level.
+    pub fn multiplier(&self, level: Level, row: RowName) -> i64
+        requires level { IsLevelOf self.now.problem level }
+        requires row { IsNamed self.now.problem row }
+        ensures { HasNumbers self.now.problem self.now.marks level
+            (λ scale times reduced. result ≡ times row) }
+    {
+        let line = line_slot(&self.table, row);
+        times_at(&self.table, level_slot(&self.table, level), line)
+    }
+
+    /// The scale of a level.
+    pub fn scale(&self, level: Level) -> i64
+        requires level { IsLevelOf self.now.problem level }
+        ensures { HasNumbers self.now.problem self.now.marks level
+            (λ scale times reduced. result ≡ pos scale) }
+    {
+        scale_at(&self.table, level_slot(&self.table, level))
+    }
+
+    /// The cost of a level.
+    pub fn cost(&self, level: Level) -> Frac
+        requires level { IsLevelOf self.now.problem level }
+        ensures { (k : ℕ) → IsLevelAt self.now.problem level k
+            → IsCostAt self.now.problem self.now.marks k result }
+    {
+        cost_at(&self.table, level_slot(&self.table, level))
+    }
+
+    /// The levels at which a row or a stay stands, strongest first.
+    pub fn levels(&self) -> Result<Vec<Level>, OutOfMemory>
+        ensures used { IfOk result (λ levels. All (IsInUse self.now.problem) levels.items) }
+        ensures all { IfOk result (λ levels. (level : level_type.Level) → IsInUse self.now.problem level
+            → Contains levels.items level) }
+        ensures order { IfOk result (λ levels. AllPairs (IsStronger self.now.problem) levels.items) }
+    {
+        let mut out = Vec::new(self.table.alloc);
+        used(&self.table, &mut out)?;
+        Ok(out)
+    }
+
+    /// How many lines are listed as those that may have a negative column.
+    pub fn candidates(&self) -> usize
+        ensures { result ≡ length self.now.candidates }
+    {
+        self.listed.len()
+    }
+
+    /// One of the listed lines.
+    pub fn candidate(&self, i: usize) -> RowName
+        requires { i < length self.now.candidates }
+        ensures { slice_get self.now.candidates i ≡ Some result }
+    {
+        name_at(&self.table, self.listed.slot(i))
+    }
+
+    /// Takes a line off the list, neither of whose marks has a negative column.
+    pub fn unlist(&mut self, i: usize)
+        requires within { i < length self.old.candidates }
+        requires settled { (name : row_type.RowName) → slice_get self.old.candidates i ≡ Some name
+            → HasNoNegative self.old.problem self.old.marks name }
+        ensures scene { scene_of self.new ≡ scene_of self.old }
+        ensures before { self.new.before ≡ self.old.before }
+        ensures shorter { length self.new.candidates + 1 ≡ length self.old.candidates }
+    {
+        self.listed.remove(i);
+    }
+
+    /// Exchanges an outside mark for an inside one that moves with it.
+    ///
+    /// `UnfitAt` names what does not fit at the new corner, and the corner is as before. After want of memory
+    /// it is that of the newest mark.
+    pub fn swap(&mut self, enter: Mark, leave: Mark) -> Result<(), TableStop>
+        requires marked { 0 < length self.old.before }
+        requires enter { IsOutside self.old.problem self.old.marks enter }
+        requires leave { IsIn (corners.place leave) self.old.marks }
+        requires moves { MovesWith self.old.problem self.old.marks enter (MarkOf leave) }
+        ensures problem { IfOk result (λ _. self.new.problem ≡ self.old.problem) }
+        ensures marks { IfOk result (λ _. SameMarks self.new.marks
+            (exchanged (record { enter = enter; leave = leave }) self.old.marks)) }
+        ensures before { self.new.before ≡ self.old.before }
+        ensures exchange { IsExchange self.old.problem self.old.marks
+            (record { enter = enter; leave = leave }) }
+        ensures stop { IfErr result (IsUnfitStop self.old.problem
+            (exchanged (record { enter = enter; leave = leave }) self.old.marks)) }
+        ensures same { IfErr result (IsAsBefore self.old self.new) }
+    {
+        let line = line_slot(&self.table, enter.row);
+        if are_of_line(enter, leave) {
+            return turn_line(&mut self.table, &mut self.listed, line, enter.side);
+        }
+        let pair = Pair {
+            enter: line,
+            side: enter.side,
+            leave: line_slot(&self.table, leave.row),
+        };
+        exchange_lines(&mut self.table, &mut self.listed, pair)
+    }
+
+    /// Adds an attribute that stands at this value, with its stay as the last one. After want of memory the
+    /// corner is that of the newest mark.
+    pub fn add_attr(&mut self, attr: u32, target: Frac) -> Result<(), OutOfMemory>
+        requires marked { 0 < length self.old.before }
+        requires number { IsNumber attr }
+        requires fresh { HasStay self.old.problem.stays attr → ⊥ }
+        requires room { length self.old.problem.stays < 4096 }
+        ensures problem { IfOk result (λ _. self.new.problem ≡ with_attr self.old.problem attr target) }
+        ensures marks { IfOk result (λ _. self.new.marks ≡ self.old.marks) }
+        ensures before { self.new.before ≡ self.old.before }
+        ensures candidates { IfOk result (λ _. self.new.candidates ≡ self.old.candidates) }
+        ensures same { OnErr result (IsRewound self.old self.new) }
+    {
+        match push_attr(&mut self.table, attr, target) {
+            Ok(()) => Ok(()),
+            Err(OutOfMemory) => {
+                take_back(&mut self.table, &mut self.listed);
+                Err(OutOfMemory)
+            }
+        }
+    }
+
+    /// Adds rows, each with its mark that is not negative, over at 0. First all rows join, then the levels'
+    /// costs.
+    ///
+    /// `Unfit` names a sum of a row's terms, where it and the rows after it are over, or of a level's rows,
+    /// where all rows have joined. It answers no other stop but want of memory. After a stop the corner is
+    /// that of the newest mark.
+    pub fn add_rows(&mut self, rows: &[Row]) -> Result<(), RunStop>
+        requires marked { 0 < length self.old.before }
+        requires whole { IsWhole (with_rows self.old.problem rows.now) }
+        requires values { NoNegativeValue self.old.problem self.old.marks }
+        ensures problem { IfOk result (λ _. self.new.problem ≡ with_rows self.old.problem rows.now) }
+        ensures marks { IfOk result
+            (λ _. BeginsWith self.new.problem self.old.marks rows.now [] self.new.marks) }
+        ensures before { self.new.before ≡ self.old.before }
+        ensures stop { IfErr result (IsAddStop self.old rows.now) }
+        ensures same { OnErr result (IsRewound self.old self.new) }
+    {
+        match join_all(&mut self.table, &mut self.listed, rows) {
+            Ok(()) => Ok(()),
+            Err(stop) => {
+                take_back(&mut self.table, &mut self.listed);
+                Err(stop)
+            }
+        }
+    }
+
+    /// Gives the stays the attributes' values as targets. No attribute's value changes. After want of memory
+    /// the corner is that of the newest mark.
+    pub fn stand(&mut self) -> Result<(), OutOfMemory>
+        requires marked { 0 < length self.old.before }
+        ensures stood { IfOk result (λ _. HasStood self.old self.new) }
+        ensures marks { IfOk result (λ _. self.new.marks ≡ self.old.marks) }
+        ensures before { self.new.before ≡ self.old.before }
+        ensures candidates { IfOk result (λ _. self.new.candidates ≡ self.old.candidates) }
+        ensures same { OnErr result (IsRewound self.old self.new) }
+    {
+        match stand_stays(&mut self.table) {
+            Ok(()) => Ok(()),
+            Err(OutOfMemory) => {
+                take_back(&mut self.table, &mut self.listed);
+                Err(OutOfMemory)
+            }
+        }
+    }
+
+    /// Makes the corner of now, at which no line is listed, the newest of the earlier ones. The oldest is
+    /// forgotten where there are too many.
+    pub fn mark(&mut self)
+        requires { self.old.candidates ≡ [] }
+        ensures scene { scene_of self.new ≡ scene_of self.old }
+        ensures before { self.new.before ≡ take MOST (scene_of self.old ∷ self.old.before) }
+        ensures candidates { self.new.candidates ≡ [] }
+    {
+        mark(&mut self.table);
+    }
+
+    /// Goes back to the newest of the earlier corners.
+    pub fn back(&mut self)
+        requires { 0 < length self.old.before }
+        ensures scene { self.old.before ≡ scene_of self.new ∷ self.new.before }
+        ensures candidates { self.new.candidates ≡ [] }
+    {
+        self.listed.clear();
+        back(&mut self.table);
+    }
+
+    /// Forgets the oldest of the earlier corners.
+    pub fn forget(&mut self)
+        requires { 0 < length self.old.before }
+        ensures scene { scene_of self.new ≡ scene_of self.old }
+        ensures before { self.new.before ≡ take (length self.old.before - 1) self.old.before }
+        ensures candidates { self.new.candidates ≡ self.old.candidates }
+    {
+        forget(&mut self.table);
+    }
+}

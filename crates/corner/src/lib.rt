@@ -1,0 +1,58 @@
+//! A layout problem at one of its corners, kept as rows of whole numbers that an exchange changes in place.
+//!
+//! A [`Corner`] is a problem with the marks inside at a corner: as many marks as rows, which the outside
+//! ones fix. It answers what stands there: the values of attributes and marks, the writing of each by the
+//! outside marks ([`Corner::movers`], [`Corner::coefficient`], [`Corner::denominator`]), and what each
+//! level costs and what it would cost to let a mark grow ([`Corner::front`], [`Corner::reduced`],
+//! [`Corner::multiplier`]). [`Corner::swap`] goes to a neighbouring corner, [`Corner::add_attr`] and
+//! [`Corner::add_rows`] to that of a larger problem, and [`Corner::stand`] makes the values the targets of
+//! the stays.
+//!
+//! [`Corner::mark`] keeps the corner of now as an earlier one, and [`Corner::back`] returns to the newest
+//! of these. Neither wants memory. Where memory is wanting, or new rows do not fit, the corner is that of
+//! the newest mark again, with no line listed; where a swap does not fit, all is as before.
+//!
+//! A contract sees a `CornerView`: the problem, the marks inside in order, the scenes of the earlier marks,
+//! the lines that are listed as those that may have a negative column, and the attributes and lines in the
+//! order in which they came. All else follows from the problem and the marks. What each corner keeps
+//! ([`Corner::show_corner`]): the problem is whole, the marks are a corner's, each outside mark can grow
+//! alone, each quantity has a writing that fits, and each outside mark with a negative column is listed.
+//!
+//! ```
+//! let mut corner = Corner::new(alloc)?;
+//! corner.mark();
+//! corner.add_attr(1, Frac::zero())?;            // at 0, which its stay asks for
+//! corner.add_rows(&rows)?;                      // a row 7: attribute 1 is 30
+//! corner.marks()?;                              // the under mark of row 7: the attribute is 30 too small
+//! let enter = Mark { row: RowName::Stay(1), side: Side::Over };
+//! let leave = Mark { row: RowName::Held(7), side: Side::Under };
+//! corner.swap(enter, leave)?;
+//! corner.attr_value(1);                         // 30
+//! corner.back();                                // no attribute and no row
+//! ```
+//!
+//! What the type keeps (`IsConsistent`): each attribute, line and priority level has a slot, which is a row
+//! and a column of one sparse matrix. The row and the value of an attribute or an inside line are its
+//! equation by the outside lines in lowest terms, and those of a level are its cost; so are those at each
+//! earlier mark.
+//!
+//! To read: `table` has the lists, each with its earlier versions; `slots` finds in them by name;
+//! `writings` and `levels` read what is written of attributes, marks and costs; `listing` lists lines;
+//! `marking` names the marks inside; `fitting` tells what fits; `turning` and `exchange` go to the next
+//! corner, `joining` to that of a larger problem; and `corner` is what callers use.
+#![tactic(auto)]
+
+mod corner;
+mod exchange;
+mod fitting;
+mod joining;
+mod levels;
+mod listing;
+mod marking;
+mod slots;
+mod table;
+mod turning;
+mod writings;
+
+pub use corner::Corner;
+pub use levels::Front;
