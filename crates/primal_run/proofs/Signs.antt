@@ -1,0 +1,109 @@
+-- The signs of columns, by the reduced costs of all levels.
+use Rattle.std.proofs.Common.{◌≡◌, ◌∙◌, ℕ, suc, ◌*◌, ◌<◌, List, ℤ, pos, negsuc, ◌+ℤ◌, ◌-ℤ◌, ◌*ℤ◌, ◌≤ℤ◌, ◌<ℤ◌, sym, ap, subst, arith}
+use Rattle.std.specs.List.{AllByRecursion as Each}
+use Rattle.std.proofs.lemmas.List.Elements.{recursion_from_All}
+use borrow.Author.Differences.{ints}
+use Rattle.frac_core.proofs.Integers.{mul-sub_left, mul-add_left, mul_left_comm_ℤ, mul-zero_ℤ, mul_positive, mul_not_negative, zero_from_mul}
+use Rattle.problem_core.specs.declared.parts.Mark.{Mark}
+use Rattle.problem_core.specs.declared.parts.Side.{Side}
+use Rattle.problem_core.specs.declared.parts.Side.TheVariants.{Under, Over}
+use Rattle.problem_core.specs.Layout.{Line, Problem, lines}
+use Rattle.problem_core.specs.Kept.{IsWhole}
+use Rattle.problem_core.specs.Certificates.{IsLexNonnegative, Multipliers, over_weight, under_weight, weight_at}
+use Rattle.problem_core.specs.Corners.{AreMultipliersAt, HasNegativeColumn, IsLexNegative, NoNegativeColumn, column, place, place_of}
+use Rattle.problem_core.specs.Rays.{HasRays}
+use Rattle.problem_core.proofs.Wholes.{whole-IsProblem}
+use Rattle.problem_core.proofs.Forms.{each-impl}
+use Rattle.corner_laws.specs.RunLaws.{AreReduced}
+use Rattle.corner_laws.proofs.ColumnsStay.{columns-of, sums-AreMultipliersAt, together}
+use Rattle.corner_laws.proofs.ColumnSigns.{pick}
+use Rattle.corner_laws.proofs.DualChoice.{has-sum}
+use Rattle.corner_laws.proofs.Unique.{multipliers_same}
+
+-- ---- by two lists of multipliers
+
+multiple-under : (k s t w : ℕ) (y z : ℤ) → pos s *ℤ z ≡ pos t *ℤ y → pos s *ℤ (pos (t * w) -ℤ pos k *ℤ z) ≡ pos t *ℤ (pos (s * w) -ℤ pos k *ℤ y)
+multiple-under k s t w y z e =
+    let a : pos s *ℤ (pos (t * w) -ℤ pos k *ℤ z) ≡ pos s *ℤ pos (t * w) -ℤ pos s *ℤ (pos k *ℤ z) = mul-sub_left (pos s) (pos (t * w)) (pos k *ℤ z) in
+    let b : pos t *ℤ (pos (s * w) -ℤ pos k *ℤ y) ≡ pos t *ℤ pos (s * w) -ℤ pos t *ℤ (pos k *ℤ y) = mul-sub_left (pos t) (pos (s * w)) (pos k *ℤ y) in
+    let c : pos s *ℤ (pos k *ℤ z) ≡ pos t *ℤ (pos k *ℤ y) = mul_left_comm_ℤ (pos s) (pos k) z ∙ ap (λ (x : ℤ). pos k *ℤ x) e ∙ mul_left_comm_ℤ (pos k) (pos t) y in
+    let d : pos s *ℤ pos (t * w) ≡ pos t *ℤ pos (s * w) = ap pos (omega arith) in
+    omega (arith, ints, a, b, c, d)
+
+multiple-over : (k s t w : ℕ) (y z : ℤ) → pos s *ℤ z ≡ pos t *ℤ y → pos s *ℤ (pos (t * w) +ℤ pos k *ℤ z) ≡ pos t *ℤ (pos (s * w) +ℤ pos k *ℤ y)
+multiple-over k s t w y z e =
+    let a : pos s *ℤ (pos (t * w) +ℤ pos k *ℤ z) ≡ pos s *ℤ pos (t * w) +ℤ pos s *ℤ (pos k *ℤ z) = mul-add_left (pos s) (pos (t * w)) (pos k *ℤ z) in
+    let b : pos t *ℤ (pos (s * w) +ℤ pos k *ℤ y) ≡ pos t *ℤ pos (s * w) +ℤ pos t *ℤ (pos k *ℤ y) = mul-add_left (pos t) (pos (s * w)) (pos k *ℤ y) in
+    let c : pos s *ℤ (pos k *ℤ z) ≡ pos t *ℤ (pos k *ℤ y) = mul_left_comm_ℤ (pos s) (pos k) z ∙ ap (λ (x : ℤ). pos k *ℤ x) e ∙ mul_left_comm_ℤ (pos k) (pos t) y in
+    let d : pos s *ℤ pos (t * w) ≡ pos t *ℤ pos (s * w) = ap pos (omega arith) in
+    omega (arith, ints, a, b, c, d)
+
+columns-multiple : (m n : Multipliers) (side : Side) (l : Line) (level : ℕ) → pos (m.scale level) *ℤ n.times level l.name ≡ pos (n.scale level) *ℤ m.times level l.name → pos (m.scale level) *ℤ column n side l level ≡ pos (n.scale level) *ℤ column m side l level
+columns-multiple m n Under l level e = multiple-under l.scale (m.scale level) (n.scale level) (under_weight l.rel (weight_at l level)) (m.times level l.name) (n.times level l.name) e
+columns-multiple m n Over l level e = multiple-over l.scale (m.scale level) (n.scale level) (over_weight l.rel (weight_at l level)) (m.times level l.name) (n.times level l.name) e
+
+-- the columns by two lists of multipliers are proportional
+pub columns_alike : (p : Problem) (at : List Mark) (m n : Multipliers) (side : Side) (level : ℕ) → IsWhole p → HasRays p at → AreMultipliersAt p at m → AreMultipliersAt p at n
+    → Each (λ l. pos (m.scale level) *ℤ column n side l level ≡ pos (n.scale level) *ℤ column m side l level) (lines p)
+columns_alike p at m n side level whole rays a b =
+    each-impl (λ l. pos (m.scale level) *ℤ n.times level l.name ≡ pos (n.scale level) *ℤ m.times level l.name) _ (lines p) (λ l e. columns-multiple m n side l level e)
+    (recursion_from_All _ (lines p) (multipliers_same p at m n level whole rays a b))
+
+-- ---- signs of multiples
+
+pub none_from : (s t : ℕ) (a b : ℤ) → 0 < s → pos s *ℤ b ≡ pos t *ℤ a → a ≡ pos 0 → b ≡ pos 0
+none_from s t a b above e h = zero_from_mul s b above (e ∙ ap (λ (z : ℤ). pos t *ℤ z) h ∙ mul-zero_ℤ (pos t))
+
+pub low_from : (s t : ℕ) (a b : ℤ) → 0 < t → pos s *ℤ b ≡ pos t *ℤ a → a <ℤ pos 0 → b <ℤ pos 0
+low_from s t a (negsuc b) above e h = omega (arith, ints)
+low_from s t (pos a) (pos b) above e h = absurd (omega (arith, ints, h))
+low_from s t (negsuc a) (pos b) above e h =
+    let up : pos 0 <ℤ (pos t *ℤ pos (suc a)) = mul_positive t (pos (suc a)) above (omega (arith, ints)) in
+    let turned : pos t *ℤ (pos 0 -ℤ pos (suc a)) ≡ pos t *ℤ pos 0 -ℤ pos t *ℤ pos (suc a) = mul-sub_left (pos t) (pos 0) (pos (suc a)) in
+    let none = mul-zero_ℤ (pos t) in
+    let not : pos 0 ≤ℤ (pos s *ℤ pos b) = mul_not_negative s (pos b) (omega (arith, ints)) in
+    absurd (omega (arith, ints, up, turned, none, not, e))
+
+-- ---- the line of a mark
+
+-- the column of a mark's line is its reduced cost, times the line's scale
+pub mark_column : (p : Problem) (at : List Mark) (reduced : ℕ → ℕ → ℤ) → AreReduced p at reduced → (m : Multipliers) × AreMultipliersAt p at m
+    × ((side : Side) → Each (λ l. (level : ℕ) → pos l.scale *ℤ reduced level (place_of l.name side) ≡ column m side l level) (lines p))
+mark_column p at reduced levels =
+    let sums = λ (k : ℕ). has-sum p at k (reduced k) (levels k) in (
+      together (λ k. (sums k).0) (λ k. (sums k).1),
+      sums-AreMultipliersAt p at (λ k. (sums k).0) (λ k. (sums k).1) reduced (λ k. (sums k).2),
+      λ side. recursion_from_All _ (lines p) (columns-of p at (λ k. (sums k).0) (λ k. (sums k).1) reduced (λ k. (sums k).2) side),
+    )
+
+-- a mark with a negative column has reduced costs of which the first that isn't 0 is below 0
+pub reduced_by_negative : (p : Problem) (at : List Mark) (reduced : ℕ → ℕ → ℤ) (m : Mark) → IsWhole p → HasRays p at → AreReduced p at reduced → HasNegativeColumn p at m → IsLexNegative (λ level. reduced level (place m))
+reduced_by_negative p at reduced m whole rays levels (n, is, (k, x, within, found, (e, (level, before, low)))) =
+    let own = mark_column p at reduced levels in
+    let alike : (j : ℕ) → pos (n.scale j) *ℤ column own.0 m.side x j ≡ pos (own.0.scale j) *ℤ column n m.side x j =
+    λ j. pick (λ l. pos (n.scale j) *ℤ column own.0 m.side l j ≡ pos (own.0.scale j) *ℤ column n m.side l j) (lines p) k x (columns_alike p at n own.0 m.side j whole rays is own.1) within found in
+    let scaled : (j : ℕ) → pos x.scale *ℤ reduced j (place_of x.name m.side) ≡ column own.0 m.side x j =
+    λ j. pick (λ l. (i : ℕ) → pos l.scale *ℤ reduced i (place_of l.name m.side) ≡ column own.0 m.side l i) (lines p) k x (own.2 m.side) within found j in
+    let above : 0 < x.scale = (pick (λ l. (0 < l.scale) × (0 < l.den)) (lines p) k x (recursion_from_All _ (lines p) (whole-IsProblem p whole)) within found).0 in
+    let none : (j : ℕ) → j < level → reduced j (place_of x.name m.side) ≡ pos 0 =
+    λ j less. zero_from_mul x.scale (reduced j (place_of x.name m.side)) above (scaled j ∙ none_from (n.scale j) (own.0.scale j) (column n m.side x j) (column own.0 m.side x j) (is.scales j) (alike j) (before j less)) in
+    let down : column own.0 m.side x level <ℤ pos 0 = low_from (n.scale level) (own.0.scale level) (column n m.side x level) (column own.0 m.side x level) (own.1.scales level) (alike level) low in
+    let under : reduced level (place_of x.name m.side) <ℤ pos 0 = low_from x.scale 1 (column own.0 m.side x level) (reduced level (place_of x.name m.side)) (omega arith) (scaled level ∙ one (column own.0 m.side x level)) down in (
+      level,
+      (λ j less. ap (λ (v : ℕ). reduced j v) (sym e) ∙ none j less),
+      subst (λ (v : ℕ). reduced level v <ℤ pos 0) e under,
+    )
+  where
+    one : (z : ℤ) → z ≡ pos 1 *ℤ z
+    one z = omega (arith, ints)
+
+-- a column that is negative is none by any multipliers
+pub not_both_signs : (p : Problem) (at : List Mark) (m : Mark) → IsWhole p → HasRays p at → NoNegativeColumn p at → HasNegativeColumn p at m → ⊥
+not_both_signs p at m whole rays (q, other, up) (n, is, (k, x, within, found, (e, (level, before, low)))) =
+    let alike : (j : ℕ) → pos (n.scale j) *ℤ column q m.side x j ≡ pos (q.scale j) *ℤ column n m.side x j =
+    λ j. pick (λ l. pos (n.scale j) *ℤ column q m.side l j ≡ pos (q.scale j) *ℤ column n m.side l j) (lines p) k x (columns_alike p at n q m.side j whole rays is other) within found in
+    let down : column q m.side x level <ℤ pos 0 = low_from (n.scale level) (q.scale level) (column n m.side x level) (column q m.side x level) (other.scales level) (alike level) low in
+    let not : pos 0 ≤ℤ column q m.side x level =
+    pick (λ l. IsLexNonnegative (column q m.side l)) (lines p) k x (recursion_from_All _ (lines p) (up m.side)) within found level
+    (λ j less. none_from (n.scale j) (q.scale j) (column n m.side x j) (column q m.side x j) (is.scales j) (alike j) (before j less)) in
+    omega (arith, ints, down, not)

@@ -1,0 +1,12 @@
+use Rattle.problem_core.specs.declared.parts.Side.TheVariants.{Under, Over}
+use Rattle.primal_run.proofs.Marks.{mark_is, no_negative}
+use Rattle.primal_run.proofs.entering.negative_of.Goals as goal
+
+pub negative_front-requires : goal.negative_front-requires
+negative_front-requires c = mark_is c.args.c.now.problem c.mark_at-under.result c.args.row Under c.mark_at-under.ensures c.requires
+
+pub negative_front-requires-in-None : goal.negative_front-requires-in-None
+negative_front-requires-in-None c = mark_is c.args.c.now.problem c.mark_at-over.result c.args.row Over c.mark_at-over.ensures c.requires
+
+pub returns-in-None-negative_front-clause-none : goal.returns-in-None-negative_front-clause-none
+returns-in-None-negative_front-clause-none c = no_negative c.args.c.now.problem c.args.c.now.marks c.args.row c.mark_at-under.result c.mark_at-over.result c.mark_at-under.ensures c.mark_at-over.ensures c.in-None.ensures.none c.in-None-negative_front.ensures.none

@@ -1,0 +1,55 @@
+use Rattle.std.proofs.Common.{List, take, subst, Some, arith}
+use Rattle.std.specs.declared.option.Option.{Option}
+use Rattle.std.specs.Prelude.{None}
+use Rattle.std.proofs.lemmas.List.{take_all}
+use Rattle.problem_core.specs.declared.stops.What.{What}
+use Rattle.problem_core.specs.Corners.{place}
+use Rattle.corner.specs.Views.{MovesWith}
+use Rattle.primal_run.specs.Leaving.{IsFirstOf, IsRatioOrNone}
+use Rattle.primal_run.specs.declared.ties.Ratio.{Ratio}
+use Rattle.primal_run.proofs.Leaves.{first_leaves, moves_with, none_leaves, took_next}
+use Rattle.primal_run.proofs.Marks.{got_holds}
+use Rattle.primal_run.proofs.leaving.leaving.Goals as goal
+
+pub mover-requires-clause-within : goal.mover-requires-clause-within
+mover-requires-clause-within c =
+    let m = c.movers-count.ensures in
+    let within = c.loop-i-test.true in
+    let same = m.2 in
+    (m.0, m.1, omega (arith, within, same))
+
+pub next_first-found-requires-clause-moves : goal.next_first-found-requires-clause-moves
+next_first-found-requires-clause-moves c =
+    let m = c.movers-count.ensures in
+    got_holds (MovesWith c.args.c.now.problem c.args.c.now.marks c.args.enter) m.0 c.loop-i.i c.mover.result m.1.move (c.mover.ensures m.0 m.1)
+
+pub loop-i-preserved : goal.loop-i-preserved
+loop-i-preserved c = record {
+  ratio = c.next_first-found.ensures.ratio;
+  first = λ whats are.
+      subst (λ (xs : List What). IsFirstOf c.args.c.now.problem c.args.c.now.marks (place c.args.enter) c.args.first.now xs c.next_first-found.result) (took_next whats c.loop-i.i c.mover.result (c.mover.ensures whats are))
+      (c.next_first-found.ensures.first (take c.loop-i.i whats) (c.loop-i.invariant.first whats are));
+}
+
+pub unreachable-requires : goal.unreachable-requires
+unreachable-requires c =
+    let m = c.movers-count.ensures in
+    let same = m.2 in
+    let over = c.loop-i-test.false in
+    none_leaves c.args.c.now c.args.enter c.args.first.now m.0 c.show_corner.ensures.kept c.requires.enter m.1
+    (subst (λ (xs : List What). IsFirstOf c.args.c.now.problem c.args.c.now.marks (place c.args.enter) c.args.first.now xs None) (take_all c.loop-i.i m.0 (omega (arith, same, over)))
+    (subst (λ (f : Option Ratio). IsFirstOf c.args.c.now.problem c.args.c.now.marks (place c.args.enter) c.args.first.now (take c.loop-i.i m.0) f) c.in-None.is (c.loop-i.invariant.first m.0 m.1)))
+
+pub returns-clause-moves : goal.returns-clause-moves
+returns-clause-moves c =
+    moves_with c.args.c.now.problem c.args.c.now.marks c.args.enter c.in-Some.ratio c.show_corner.ensures.kept c.requires.enter.outside
+    (subst (IsRatioOrNone c.args.c.now.problem c.args.c.now.marks (place c.args.enter)) c.in-Some.is c.loop-i.invariant.ratio)
+
+pub returns-clause-first : goal.returns-clause-first
+returns-clause-first c =
+    let m = c.movers-count.ensures in
+    let same = m.2 in
+    let over = c.loop-i-test.false in
+    first_leaves c.args.c.now c.args.enter c.args.first.now m.0 c.in-Some.ratio c.show_corner.ensures.kept m.1
+    (subst (λ (xs : List What). IsFirstOf c.args.c.now.problem c.args.c.now.marks (place c.args.enter) c.args.first.now xs (Some c.in-Some.ratio)) (take_all c.loop-i.i m.0 (omega (arith, same, over)))
+    (subst (λ (f : Option Ratio). IsFirstOf c.args.c.now.problem c.args.c.now.marks (place c.args.enter) c.args.first.now (take c.loop-i.i m.0) f) c.in-Some.is (c.loop-i.invariant.first m.0 m.1)))

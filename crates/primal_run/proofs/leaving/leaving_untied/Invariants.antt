@@ -1,0 +1,13 @@
+use Rattle.std.proofs.Common.{List, take}
+use Rattle.problem_core.specs.declared.parts.Mark.{Mark}
+use Rattle.problem_core.specs.declared.stops.What.{What}
+use Rattle.problem_core.specs.Corners.{place}
+use Rattle.corner.specs.Views.{AreMovers}
+use Rattle.primal_run.specs.Leaving.{IsFirstOf, IsRatioOrNone}
+use Rattle.primal_run.proofs.leaving.leaving_untied.Given as goal
+
+abbrev pub invariant-loop-i : goal.invariant-loop-i
+invariant-loop-i l = record {
+  ratio : IsRatioOrNone l.c.problem l.c.marks (place l.enter) l.found;
+  first : (first : List Mark) (whats : List What) → AreMovers l.c l.enter whats → IsFirstOf l.c.problem l.c.marks (place l.enter) first (take l.i whats) l.found;
+}

@@ -1,0 +1,6 @@
+use Rattle.corner.specs.Views.{IsNamed}
+use Rattle.primal_run.proofs.Marks.{got_holds}
+use Rattle.primal_run.proofs.required.next_lowest.Goals as goal
+
+pub lower_of-requires : goal.lower_of-requires
+lower_of-requires c = got_holds (IsNamed c.args.c.now.problem) c.args.c.now.candidates c.args.i c.candidate.result c.show_corner.ensures.named c.candidate.ensures

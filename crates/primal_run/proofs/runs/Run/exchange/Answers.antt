@@ -1,0 +1,40 @@
+use Rattle.std.proofs.Common.{rules, false, ◌≡◌, ℕ, List, [], ◌∷◌, ◌++◌, ◌<◌, sym, subst, length}
+use Rattle.problem_core.specs.Layout.{Problem}
+use Rattle.problem_core.specs.declared.stops.TableStop.TheVariants.{UnfitAt}
+use Rattle.problem_core.specs.Corners.{Swap, exchanged}
+use Rattle.problem_core.specs.Paths.{IsPath, last_marks}
+use Rattle.cert_core.specs.Stops.{IsStopOf}
+use Rattle.corner.specs.Views.{CornerView, in_order}
+use Rattle.corner.specs.Changes.{IsUnfitStop}
+use Rattle.primal_run.specs.Runs.{FromHere}
+use Rattle.primal_run.specs.Steps.{HasRun, IsRunOf}
+use Rattle.primal_run.proofs.RunFacts.{last_same, path_more, run_more, same_back, unfit_same}
+use Rattle.primal_run.proofs.runs.Run.exchange.Goals as goal
+
+pub returns-in-Ok-push-clause-run : goal.returns-in-Ok-push-clause-run
+returns-in-Ok-push-clause-run c = λ first run.
+    let s : Swap = record { enter = c.args.enter; leave = c.in-Ok.leave } in
+    let pushed : c.push.new.self.items ≡ c.args.self.now.swaps.items ++ s ∷ [] = search rules in
+    record {
+      swapped = subst (λ (p : Problem). HasRun p first c.push.new.self.items c.swap.new.self.marks) (sym c.in-Ok-swap.ensures.problem)
+          (subst (λ (xs : List Swap). HasRun c.args.c.now.problem first xs c.swap.new.self.marks) (sym pushed)
+          (run_more c.args.c.now.problem first c.args.c.now.marks c.swap.new.self.marks c.args.self.now.swaps.items s run.swapped c.requires.enter c.in-Ok.ensures.inside (c.in-Ok.ensures.first first run) c.in-Ok-swap.ensures.marks));
+      ordered = subst (λ (p : Problem). first ≡ in_order p first) (sym c.in-Ok-swap.ensures.problem) run.ordered;
+      known = (c.in-Ok.ensures.run first run).known;
+    }
+
+pub returns-in-Err-UnfitAt-clause-stop : goal.returns-in-Err-UnfitAt-clause-stop
+returns-in-Err-UnfitAt-clause-stop c = λ first run budget short.
+    let s : Swap = record { enter = c.args.enter; leave = c.in-Ok.leave } in
+    let same : c.swap.new.self ≡ c.args.c.now = search rules in
+    let told : IsRunOf c.args.c.now.problem first c.leaving_mark.new.self c.args.c.now.marks → IsPath false c.args.c.now.problem first (c.leaving_mark.new.self.swaps.items ++ s ∷ []) → IsUnfitStop c.args.c.now.problem (last_marks first (c.leaving_mark.new.self.swaps.items ++ s ∷ [])) (UnfitAt c.in-Err-UnfitAt.quantity) → (most : ℕ) → length c.leaving_mark.new.self.swaps.items < most → IsStopOf false c.args.c.now.problem c.args.c.now.problem.rows (FromHere first) most c.unfit.result =
+    subst (λ (v : CornerView). IsRunOf v.problem first c.leaving_mark.new.self v.marks → IsPath false v.problem first (c.leaving_mark.new.self.swaps.items ++ s ∷ []) → IsUnfitStop v.problem (last_marks first (c.leaving_mark.new.self.swaps.items ++ s ∷ [])) (UnfitAt c.in-Err-UnfitAt.quantity) → (most : ℕ) → length c.leaving_mark.new.self.swaps.items < most → IsStopOf false v.problem v.problem.rows (FromHere first) most c.unfit.result) same (c.unfit.ensures first) in
+    let more : c.leaving_mark.new.self.swaps.items ≡ c.args.self.now.swaps.items = c.leaving_mark.ensures.swaps in
+    told (c.in-Ok.ensures.run first run)
+    (subst (λ (xs : List Swap). IsPath false c.args.c.now.problem first (xs ++ s ∷ [])) (sym more)
+    (path_more c.args.c.now.problem first c.args.c.now.marks c.args.self.now.swaps.items s run.swapped c.requires.enter c.in-Ok.ensures.inside (c.in-Ok.ensures.first first run)))
+    (subst (λ (xs : List Swap). IsUnfitStop c.args.c.now.problem (last_marks first (xs ++ s ∷ [])) (UnfitAt c.in-Err-UnfitAt.quantity)) (sym more)
+    (unfit_same c.args.c.now.problem (exchanged s c.args.c.now.marks) (last_marks first (c.args.self.now.swaps.items ++ s ∷ [])) (UnfitAt c.in-Err-UnfitAt.quantity)
+    (same_back (last_marks first (c.args.self.now.swaps.items ++ s ∷ [])) (exchanged s c.args.c.now.marks) (last_same c.args.c.now.problem first c.args.c.now.marks c.args.self.now.swaps.items s run.swapped c.in-Ok.ensures.inside))
+    (search rules)))
+    budget (subst (λ (xs : List Swap). length xs < budget) (sym more) short)

@@ -1,0 +1,184 @@
+// The mark with a negative column that enters.
+ghost use Rattle.std.specs.Prelude.{◌≡◌, ◌⊎◌, ◌<◌, ◌-◌, ◌<ℤ◌, ◌≤ℤ◌, [], pos, length, true};
+ghost use Rattle.std.specs.Prelude.{false, IfSome, IfNone, Some, None};
+ghost use Rattle.problem_core.specs.Corners.{HasNegativeColumn};
+ghost use Rattle.corner.specs.Views.{IsFrontOf, IsMarkOf, IsNamed};
+ghost use Rattle.corner.specs.Changes.{HasNoNegative};
+ghost use Rattle.primal_run.specs.Entering.{IsChoice, IsNegative};
+
+use corner::{Corner, Front};
+use problem_core::{Level, Mark, RowName, Side};
+
+/// An outside mark, and the level at which its column is negative, with its reduced cost there.
+#[derive(Clone, Copy, Debug)]
+pub(crate) struct Choice {
+    pub mark: Mark,
+    pub front: Front,
+}
+
+/// Whether the number is below 0.
+pub(crate) fn is_below(z: i64) -> bool
+    ensures yes { result ≡ true → z <ℤ pos 0 }
+    ensures no { result ≡ false → pos 0 ≤ℤ z }
+{
+    z < 0
+}
+
+/// The mark's front, where its column is negative.
+fn negative_front(c: &Corner, mark: Mark) -> Option<Front>
+    requires { IsMarkOf c.now.problem mark }
+    ensures some { IfSome result (λ _. IsNegative c.now.problem c.now.marks mark) }
+    ensures front { IfSome result (IsFrontOf c.now.problem c.now.marks mark) }
+    ensures below { IfSome result (λ front. front.reduced <ℤ pos 0) }
+    ensures none { IfNone result (HasNegativeColumn c.now.problem c.now.marks mark → ⊥) }
+{
+    c.show_corner();
+    match c.front(mark) {
+        Some(front) => {
+            if is_below(front.reduced) {
+                Some(front)
+            } else {
+                None
+            }
+        }
+        None => None,
+    }
+}
+
+/// The mark of a line on a side.
+pub(crate) fn mark_at(row: RowName, side: Side) -> Mark
+    ensures { result ≡ record { row = row; side = side } }
+{
+    Mark { row, side }
+}
+
+/// The mark of the line whose column is negative.
+fn negative_of(c: &Corner, row: RowName) -> Option<Choice>
+    requires { IsNamed c.now.problem row }
+    ensures some { IfSome result (IsChoice c.now.problem c.now.marks) }
+    ensures none { IfNone result (HasNoNegative c.now.problem c.now.marks row) }
+{
+    let (under, over) = (mark_at(row, Side::Under), mark_at(row, Side::Over));
+    match negative_front(c, under) {
+        Some(front) => Some(Choice { mark: under, front }),
+        None => match negative_front(c, over) {
+            Some(front) => Some(Choice { mark: over, front }),
+            None => None,
+        },
+    }
+}
+
+/// The rank of a row.
+fn rank_of(c: &Corner, id: u32) -> u16 {
+    let rows = c.rows();
+    let at = rows.partition_point(|row| row.id() < id);
+    match rows.get(at) {
+        Some(row) => row.rank(),
+        None => 0,
+    }
+}
+
+/// Whether the first row is weaker: of the lower rank, and of equal ones the later one.
+fn is_lower(c: &Corner, a: u32, b: u32) -> bool {
+    let (first, second) = (rank_of(c, a), rank_of(c, b));
+    first < second || first == second && a > b
+}
+
+/// Whether the first line is weaker.
+pub(crate) fn is_weaker(c: &Corner, a: RowName, b: RowName) -> bool {
+    match (a, b) {
+        (RowName::Held(x), RowName::Held(y)) => is_lower(c, x, y),
+        (RowName::Stay(x), RowName::Stay(y)) => x > y,
+        (RowName::Stay(_), RowName::Held(_)) => true,
+        (RowName::Held(_), RowName::Stay(_)) => false,
+    }
+}
+
+/// Whether the first level is stronger.
+fn is_stronger(a: Level, b: Level) -> bool {
+    match (a, b) {
+        (Level::Priority(x), Level::Priority(y)) => x > y,
+        (Level::Stay(x), Level::Stay(y)) => x < y,
+        (Level::Priority(_), Level::Stay(_)) => true,
+        (Level::Stay(_), Level::Priority(_)) => false,
+    }
+}
+
+/// Whether the first one enters before the other: the stronger level first, there the lower reduced cost, and
+/// of equal ones the weaker line.
+fn enters_before(c: &Corner, a: Choice, b: Choice) -> bool {
+    if a.front.level == b.front.level {
+        a.front.reduced < b.front.reduced
+            || a.front.reduced == b.front.reduced && is_weaker(c, a.mark.row, b.mark.row)
+    } else {
+        is_stronger(a.front.level, b.front.level)
+    }
+}
+
+/// The one of the two that enters before the other.
+fn better(c: &Corner, choice: Choice, found: Option<Choice>) -> Choice
+    ensures { (result ≡ choice) ⊎ (found ≡ Some result) }
+{
+    match found {
+        Some(other) => {
+            if enters_before(c, choice, other) {
+                choice
+            } else {
+                other
+            }
+        }
+        None => choice,
+    }
+}
+
+/// What is found so far, and the place of the next candidate.
+#[derive(Drop)]
+struct Seen {
+    found: Option<Choice>,
+    next: usize,
+}
+
+/// Looks at a candidate, and unlists it where neither of its marks has a negative column.
+fn see(c: &mut Corner, found: Option<Choice>, i: usize) -> Seen
+    requires within { i < length c.old.candidates }
+    requires found { IfSome found (IsChoice c.old.problem c.old.marks) }
+    ensures problem { c.new.problem ≡ c.old.problem }
+    ensures marks { c.new.marks ≡ c.old.marks }
+    ensures before { c.new.before ≡ c.old.before }
+    ensures found { IfSome result.found (IsChoice c.old.problem c.old.marks) }
+    ensures none { IfNone result.found ((found ≡ None) × (result.next ≡ i)) }
+    ensures nearer { length c.new.candidates - result.next < length c.old.candidates - i }
+{
+    c.show_corner();
+    let _count = c.candidates();
+    let row = c.candidate(i);
+    match negative_of(c, row) {
+        Some(choice) => Seen {
+            found: Some(better(c, choice, found)),
+            next: i + 1,
+        },
+        None => {
+            c.unlist(i);
+            Seen { found, next: i }
+        }
+    }
+}
+
+/// The mark that enters: of the strongest level at which a column is negative. Lines without one are
+/// unlisted.
+pub(crate) fn pick(c: &mut Corner) -> Option<Choice>
+    ensures problem { c.new.problem ≡ c.old.problem }
+    ensures marks { c.new.marks ≡ c.old.marks }
+    ensures before { c.new.before ≡ c.old.before }
+    ensures some { IfSome result (IsChoice c.old.problem c.old.marks) }
+    ensures none { IfNone result (c.new.candidates ≡ []) }
+{
+    let mut found = None;
+    let mut i = 0;
+    while i < c.candidates() {
+        let seen = see(c, found, i);
+        found = seen.found;
+        i = seen.next;
+    }
+    found
+}

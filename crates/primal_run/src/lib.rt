@@ -1,0 +1,44 @@
+//! The primal run: exchanges from a corner without negative values to one without negative columns.
+//!
+//! [`settle`] is the simplex method for levels of costs. An outside mark with a negative column enters:
+//! where it grows, the first level whose cost moves becomes cheaper. The inside mark that comes to 0 first
+//! leaves, so no value becomes negative. While the required rows cost, a mark enters that makes them
+//! cheaper; where none does, the multipliers of their level show that they have no solution.
+//!
+//! ```
+//! corner.mark();
+//! corner.add_attr(1, Frac::zero())?;            // at 0, which its stay asks for
+//! corner.add_rows(&rows)?;                      // a row 7: attribute 1 is 30
+//! settle(alloc, &mut corner, 1_000)?;           // the stay's over mark for the under mark of row 7
+//! corner.attr_value(1);                         // 30
+//! ```
+//!
+//! After `Ok` no value and no column is negative, and the required rows cost nothing (`IsBestEnd`), so the
+//! values are best. The problem and the earlier corners are as before, no line is listed, and a lawful
+//! path of at most as many exchanges as the budget leads from the corner before to this one (`IsRun`).
+//! After `Err` the stop shows why the run ends (`IsStopOf`): by multipliers that refute the required rows,
+//! without a common factor; by a path to a corner at which a quantity does not fit; by a path of as many
+//! exchanges as the budget to a corner that is no end; or by want of memory.
+//!
+//! What holds before each exchange (`IsRunOf`): the first corner had no negative value, and in each
+//! exchange so far that mark left which was the first to come to 0, where the marks of the first corner
+//! decide between equal ones. By that rule no corner comes twice. Which mark with a negative column enters
+//! is free: it is one of the strongest level, there of the lowest reduced cost, and of equal ones that of
+//! the weakest line, since then what a stronger line asks for need not be put right again.
+//!
+//! To read: `entering` finds the mark that enters, `required` does so where the required rows cost; `ties`
+//! tells which of two marks comes to 0 first, `leaving` which of all; `runs` keeps the exchanges so far, and
+//! `begins` finds the marks of the first corner from these; `conflicts` divides the multipliers by their
+//! common factor; and `settling` is the run.
+#![tactic(auto)]
+
+mod begins;
+mod conflicts;
+mod entering;
+mod leaving;
+mod required;
+mod runs;
+mod settling;
+mod ties;
+
+pub use settling::settle;

@@ -1,0 +1,160 @@
+// The mark that enters where the required rows cost.
+ghost use Rattle.std.specs.Prelude.{◌≡◌, ◌⊎◌, ◌<◌, ℤ, pos, ◌<ℤ◌, ◌≤ℤ◌};
+ghost use Rattle.std.specs.Prelude.{true, false, length, IfSome, IfNone};
+ghost use Rattle.std.specs.Prelude.{slice_get, Some, None};
+ghost use Rattle.problem_core.specs.declared.parts.Level.TheVariants.{Priority};
+ghost use Rattle.problem_core.specs.declared.parts.RowName.{RowName as RowNameOf};
+ghost use Rattle.problem_core.specs.Levels.{CostsAbove};
+ghost use Rattle.problem_core.specs.Paths.{NoNegativeRequired};
+ghost use Rattle.corner.specs.Views.{IsMarkOf, IsNamed, IsReducedAt};
+ghost use Rattle.primal_run.specs.Entering.{HasNoRequired, IsChoice, IsRequired};
+
+use crate::entering::{Choice, is_below, is_weaker, mark_at};
+use corner::Corner;
+use problem_core::{Level, Mark, RowName, Side};
+
+/// The level of the required rows.
+pub(crate) fn required_level() -> Level
+    ensures { result ≡ Priority 1000 }
+{
+    Level::Priority(1000)
+}
+
+/// Whether it is the level of the required rows.
+fn is_required_level(level: Level) -> bool
+    ensures { result ≡ true → level ≡ Priority 1000 }
+{
+    match level {
+        Level::Priority(rank) => rank == 1000,
+        Level::Stay(_) => false,
+    }
+}
+
+/// The mark of a choice, where its column is negative at the level of the required rows.
+pub(crate) fn required_of(c: &Corner, found: Option<Choice>) -> Option<Mark>
+    requires { IfSome found (IsChoice c.now.problem c.now.marks) }
+    ensures { IfSome result (IsRequired c.now.problem c.now.marks) }
+{
+    c.show_corner();
+    match found {
+        Some(choice) => {
+            if is_required_level(choice.front.level) {
+                Some(choice.mark)
+            } else {
+                None
+            }
+        }
+        None => None,
+    }
+}
+
+/// Whether the number is above 0.
+fn is_above(z: i64) -> bool
+    ensures yes { result ≡ true → pos 0 <ℤ z }
+    ensures no { result ≡ false → z ≤ℤ pos 0 }
+{
+    z > 0
+}
+
+/// Whether the required rows cost.
+pub(crate) fn is_costly(c: &Corner) -> bool
+    ensures yes { result ≡ true → CostsAbove c.now.problem c.now.marks 0 }
+    ensures no { result ≡ false → CostsAbove c.now.problem c.now.marks 0 → ⊥ }
+{
+    c.show_corner();
+    is_above(c.cost(required_level()).num())
+}
+
+/// A mark and its reduced cost at the level of the required rows.
+#[derive(Clone, Copy, Debug)]
+struct Lower {
+    mark: Mark,
+    reduced: i64,
+}
+
+/// The mark's reduced cost at the level of the required rows.
+fn reduced_of(c: &Corner, mark: Mark) -> i64
+    requires { IsMarkOf c.now.problem mark }
+    ensures { IsReducedAt c.now.problem c.now.marks (Priority 1000) mark result }
+{
+    c.reduced(required_level(), mark)
+}
+
+/// The mark with its reduced cost, where this is below 0.
+fn lower_at(c: &Corner, mark: Mark) -> Option<Lower>
+    requires { IsMarkOf c.now.problem mark }
+    ensures some { IfSome result (λ f. IsRequired c.now.problem c.now.marks f.mark) }
+    ensures none { IfNone result ((z : ℤ) × IsReducedAt c.now.problem c.now.marks (Priority 1000) mark z
+        × (pos 0 ≤ℤ z)) }
+{
+    c.show_corner();
+    let reduced = reduced_of(c, mark);
+    if is_below(reduced) {
+        Some(Lower { mark, reduced })
+    } else {
+        None
+    }
+}
+
+/// The mark of the line whose reduced cost is below 0.
+fn lower_of(c: &Corner, row: RowName) -> Option<Lower>
+    requires { IsNamed c.now.problem row }
+    ensures some { IfSome result (λ f. IsRequired c.now.problem c.now.marks f.mark) }
+    ensures none { IfNone result (HasNoRequired c.now.problem c.now.marks row) }
+{
+    match lower_at(c, mark_at(row, Side::Under)) {
+        Some(lower) => Some(lower),
+        None => lower_at(c, mark_at(row, Side::Over)),
+    }
+}
+
+/// The lower one, and of equal ones that of the weaker line.
+fn lowest(c: &Corner, lower: Lower, found: Option<Lower>) -> Lower
+    ensures { (result ≡ lower) ⊎ (found ≡ Some result) }
+{
+    match found {
+        Some(other) => {
+            if lower.reduced < other.reduced
+                || lower.reduced == other.reduced && is_weaker(c, lower.mark.row, other.mark.row)
+            {
+                lower
+            } else {
+                other
+            }
+        }
+        None => lower,
+    }
+}
+
+/// What is found where one more candidate is looked at.
+fn next_lowest(c: &Corner, found: Option<Lower>, i: usize) -> Option<Lower>
+    requires within { i < length c.now.candidates }
+    requires found { IfSome found (λ f. IsRequired c.now.problem c.now.marks f.mark) }
+    ensures some { IfSome result (λ f. IsRequired c.now.problem c.now.marks f.mark) }
+    ensures none { IfNone result ((found ≡ None)
+        × ((name : RowNameOf) × (slice_get c.now.candidates i ≡ Some name)
+        × HasNoRequired c.now.problem c.now.marks name)) }
+{
+    c.show_corner();
+    match lower_of(c, c.candidate(i)) {
+        Some(lower) => Some(lowest(c, lower, found)),
+        None => found,
+    }
+}
+
+/// The mark with the lowest reduced cost at the level of the required rows, if one is below 0.
+pub(crate) fn required_pick(c: &Corner) -> Option<Mark>
+    ensures some { IfSome result (IsRequired c.now.problem c.now.marks) }
+    ensures none { IfNone result (NoNegativeRequired c.now.problem c.now.marks) }
+{
+    c.show_corner();
+    let count = c.candidates();
+    let mut found = None;
+    for i in 0..count {
+        found = next_lowest(c, found, i);
+    }
+    match found {
+        Some(lower) => Some(lower.mark),
+        None => None,
+    }
+}

@@ -1,0 +1,186 @@
+// How much of an entering mark takes an inside mark's value to 0, and which of two marks falls first.
+ghost use Rattle.std.specs.Prelude.{◌≡◌, ◌≤◌, ◌^◌, ◌*ℤ◌, neg_ℤ, pos, true, false, map};
+ghost use Rattle.std.specs.Prelude.{All, List, unsigned_abs, IfOk, IfSome, IfNone};
+ghost use Rattle.std.specs.Ordering.{int_cmp};
+ghost use Rattle.problem_core.specs.Corners as corners;
+ghost use Rattle.problem_core.specs.Corners.{IsIn};
+ghost use Rattle.problem_core.specs.Layout.{coefficient};
+ghost use Rattle.corner_laws.specs.Runs.{BreaksTie, Writes, Writing, count_at};
+ghost use Rattle.problem_core.specs.declared.parts.Mark.{Mark as MarkOfLine};
+ghost use Rattle.problem_core.specs.declared.stops.What.TheVariants.{Mark as MarkOf};
+ghost use Rattle.corner.specs.Views.{IsMarkOf, IsOutside, IsScaleOf};
+ghost use Rattle.primal_run.specs.Leaving.{IsEarlier, IsRatioAt, NeverFalls};
+
+use crate::entering::is_below;
+use corner::Corner;
+use frac_core::cmp_wide;
+use problem_core::{Mark, What};
+use std::cmp::Ordering;
+
+/// An inside mark, its coefficient of an entering one, and how much of that takes its value to 0: `above`
+/// over `below`.
+#[derive(Clone, Copy, Debug)]
+pub(crate) struct Ratio {
+    pub mark: Mark,
+    pub by: i64,
+    pub above: i128,
+    pub below: i128,
+}
+
+/// The product of two numbers.
+fn product(x: i64, y: i64) -> i128
+    ensures value { result ≡ x *ℤ y }
+    ensures small { unsigned_abs result ≤ 2 ^ 126 }
+{
+    i128::from(x) * i128::from(y)
+}
+
+/// The number with the other sign.
+fn opposite(z: i128) -> i128
+    requires { unsigned_abs z ≤ 2 ^ 126 }
+    ensures { result ≡ neg_ℤ z }
+{
+    -z
+}
+
+/// The coefficient of an outside mark in an inside one's writing.
+fn number(c: &Corner, m: Mark, enter: Mark) -> i64
+    requires inside { IsIn (corners.place m) c.now.marks }
+    requires outside { IsOutside c.now.problem c.now.marks enter }
+    ensures { (w : Writing) → Writes c.now.problem c.now.marks (corners.place m) w
+        → result ≡ coefficient (corners.place enter) w.form }
+{
+    c.show_corner();
+    c.coefficient(What::Mark(m), enter)
+}
+
+/// The scale of an inside mark's writing.
+fn scale(c: &Corner, m: Mark) -> i64
+    requires inside { IsIn (corners.place m) c.now.marks }
+    ensures is { IsScaleOf c.now.problem c.now.marks (MarkOf m) result }
+    ensures of { (w : Writing) → Writes c.now.problem c.now.marks (corners.place m) w
+        → result ≡ pos w.scale }
+{
+    c.show_corner();
+    c.denominator(What::Mark(m))
+}
+
+/// The ratio at which an inside mark's value falls to 0 where another one enters, if it falls.
+pub(crate) fn ratio_of(c: &Corner, m: Mark, enter: Mark) -> Option<Ratio>
+    requires inside { IsIn (corners.place m) c.now.marks }
+    requires outside { IsOutside c.now.problem c.now.marks enter }
+    ensures some { IfSome result
+        (λ r. (r.mark ≡ m) × IsRatioAt c.now.problem c.now.marks (corners.place enter) r) }
+    ensures none { IfNone result (NeverFalls c.now.problem c.now.marks (corners.place enter) m) }
+{
+    c.show_corner();
+    let by = number(c, m, enter);
+    if !is_below(by) {
+        return None;
+    }
+    let value = c.value(m);
+    Some(Ratio {
+        mark: m,
+        by,
+        above: product(value.num(), scale(c, m)),
+        below: opposite(product(value.den(), by)),
+    })
+}
+
+/// What an inside mark counts at a mark of the run's first corner, times a number.
+fn count(c: &Corner, m: Mark, f: Mark, by: i64) -> i128
+    requires inside { IsIn (corners.place m) c.now.marks }
+    requires first { IsMarkOf c.now.problem f }
+    ensures { (w : Writing) → Writes c.now.problem c.now.marks (corners.place m) w
+        → result ≡ count_at (corners.place m) w (corners.place f) *ℤ by }
+{
+    c.show_corner();
+    if m == f {
+        return product(scale(c, m), by);
+    }
+    if c.is_inside(f) {
+        return 0;
+    }
+    opposite(product(number(c, m, f), by))
+}
+
+/// The order of what two inside marks count at a mark of the run's first corner, each over its coefficient.
+fn count_order(c: &Corner, a: Ratio, b: Ratio, f: Mark) -> Ordering
+    requires a { IsIn (corners.place a.mark) c.now.marks }
+    requires b { IsIn (corners.place b.mark) c.now.marks }
+    requires first { IsMarkOf c.now.problem f }
+    ensures { (v w : Writing) → Writes c.now.problem c.now.marks (corners.place a.mark) v
+        → Writes c.now.problem c.now.marks (corners.place b.mark) w
+        → result ≡ int_cmp (count_at (corners.place b.mark) w (corners.place f) *ℤ a.by)
+        (count_at (corners.place a.mark) v (corners.place f) *ℤ b.by) }
+{
+    count(c, b.mark, f, a.by).cmp(&count(c, a.mark, f, b.by))
+}
+
+/// Whether the first of two marks that come to 0 together leaves, by what they count at the marks of the
+/// run's first corner.
+fn breaks_tie(c: &Corner, a: Ratio, b: Ratio, enter: Mark, first: &[Mark]) -> bool
+    requires a { IsRatioAt c.now.problem c.now.marks (corners.place enter) a }
+    requires b { IsRatioAt c.now.problem c.now.marks (corners.place enter) b }
+    requires first { All (IsMarkOf c.now.problem) first.now }
+    ensures yes { result ≡ true → (v w : Writing)
+        → Writes c.now.problem c.now.marks (corners.place a.mark) v
+        → Writes c.now.problem c.now.marks (corners.place b.mark) w
+        → BreaksTie (corners.place enter) (corners.place a.mark) v (corners.place b.mark) w
+        (map corners.place first.now) }
+    ensures no { result ≡ false → (v w : Writing)
+        → Writes c.now.problem c.now.marks (corners.place a.mark) v
+        → Writes c.now.problem c.now.marks (corners.place b.mark) w
+        → BreaksTie (corners.place enter) (corners.place b.mark) w (corners.place a.mark) v
+        (map corners.place first.now) }
+{
+    c.show_corner();
+    for f in first {
+        match count_order(c, a, b, *f) {
+            Ordering::Less => return true,
+            Ordering::Greater => return false,
+            Ordering::Equal => {}
+        }
+    }
+    false
+}
+
+/// Two ratios are equal, so that the marks of the run's first corner decide.
+#[derive(Clone, Copy, Debug)]
+pub(crate) struct Tied;
+
+/// The smaller one of two ratios.
+pub(crate) fn smaller(c: &Corner, a: Ratio, b: Ratio, enter: Mark) -> Result<Ratio, Tied>
+    requires a { IsRatioAt c.now.problem c.now.marks (corners.place enter) a }
+    requires b { IsRatioAt c.now.problem c.now.marks (corners.place enter) b }
+    ensures { IfOk result (λ best. (first : List MarkOfLine)
+        → IsEarlier c.now.problem c.now.marks (corners.place enter) first a b best) }
+{
+    c.show_corner();
+    match cmp_wide(a.above, a.below, b.above, b.below) {
+        Ordering::Less => Ok(a),
+        Ordering::Greater => Ok(b),
+        Ordering::Equal => Err(Tied),
+    }
+}
+
+/// The ratio of the mark that leaves, of two: the smaller one, and of equal ones that which breaks the tie.
+pub(crate) fn earlier(c: &Corner, a: Ratio, b: Ratio, enter: Mark, first: &[Mark]) -> Ratio
+    requires a { IsRatioAt c.now.problem c.now.marks (corners.place enter) a }
+    requires b { IsRatioAt c.now.problem c.now.marks (corners.place enter) b }
+    requires first { All (IsMarkOf c.now.problem) first.now }
+    ensures { IsEarlier c.now.problem c.now.marks (corners.place enter) first.now a b result }
+{
+    c.show_corner();
+    match cmp_wide(a.above, a.below, b.above, b.below) {
+        Ordering::Less => a,
+        Ordering::Greater => b,
+        Ordering::Equal => {
+            if breaks_tie(c, a, b, enter, first) {
+                a
+            } else {
+                b
+            }
+        }
+    }
+}
