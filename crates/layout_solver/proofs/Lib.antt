@@ -1,0 +1,10 @@
+pub mod Beginnings
+pub mod Values
+pub mod Moved
+pub mod MovedProblems
+pub mod Rooms
+pub mod Copies
+pub mod Solved
+pub mod Changes
+pub mod Renewals
+pub mod Attributes

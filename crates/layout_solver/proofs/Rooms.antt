@@ -1,0 +1,89 @@
+-- That attributes may come.
+use Rattle.std.proofs.Common.{◌≡◌, ◌≢◌, ◌∙◌, ℕ, zero, suc, ◌<◌, ◌≤◌, ◌++◌, List, [], ◌∷◌, length, map, get_or, refl, sym, ap, subst, arith, AllPairs, append_assoc, length-append}
+use Rattle.std.specs.List.{AllByRecursion as Each}
+use Rattle.std.proofs.lemmas.List.Elements.{recursion_from_All}
+use Rattle.frac_core.specs.Fraction.{Fraction}
+use Rattle.problem_core.specs.declared.parts.Stay.{Stay}
+use Rattle.problem_core.specs.Layout.{Problem, Row}
+use Rattle.problem_core.specs.Kept.{AreRising, IsNumber, IsStay, IsWhole}
+use Rattle.problem_core.proofs.Forms.{each-impl}
+use Rattle.layout_solver.specs.Layouts.{stays_at, zeros}
+use Rattle.layout_solver.specs.Starts.{CanTake, attrs_of}
+use Rattle.layout_solver.proofs.Beginnings.{across, each_rest}
+use Rattle.layout_solver.proofs.Moved.{each_mapped}
+
+-- ---- lists with what holds of each two of their items
+
+get_or-mapped : {X Y : Type 0} (f : X → Y) (xs : List X) (i : ℕ) (d : X) (e : Y) → i < length xs → get_or (map f xs) i e ≡ f (get_or xs i d)
+get_or-mapped f [] i d e within = absurd (omega (arith, within))
+get_or-mapped f (x ∷ xs) zero d e within = refl
+get_or-mapped f (x ∷ xs) (suc i) d e within = get_or-mapped f xs i d e (omega (arith, within))
+
+length-mapped : {X Y : Type 0} (f : X → Y) (xs : List X) → length (map f xs) ≡ length xs
+length-mapped f [] = refl
+length-mapped f (x ∷ xs) = ap suc (length-mapped f xs)
+
+pub pairs-mapped : {X Y : Type 0} (f : X → Y) (R : Y → Y → Type 0) (xs : List X) → AllPairs (λ x y. R (f x) (f y)) xs → AllPairs R (map f xs)
+pairs-mapped f R [] h = λ i j d lt within. absurd (omega (arith, within))
+pairs-mapped {X} {Y} f R (x ∷ xs) h = λ i j d lt within.
+    let inside : j < length (x ∷ xs) = omega (arith, within, length-mapped f (x ∷ xs)) in
+    subst (λ (a : Y). R a (get_or (map f (x ∷ xs)) j d)) (sym (get_or-mapped f (x ∷ xs) i x d (omega (arith, lt, inside))))
+    (subst (λ (b : Y). R (f (get_or (x ∷ xs) i x)) b) (sym (get_or-mapped f (x ∷ xs) j x d inside)) (h i j x lt inside))
+
+pub mapped-pairs : {X Y : Type 0} (f : X → Y) (R : Y → Y → Type 0) (xs : List X) → AllPairs R (map f xs) → AllPairs (λ x y. R (f x) (f y)) xs
+mapped-pairs {X} {Y} f R xs h = λ i j d lt within.
+    subst (λ (a : Y). R a (f (get_or xs j d))) (get_or-mapped f xs i d (f d) (omega (arith, lt, within)))
+    (subst (λ (b : Y). R (get_or (map f xs) i (f d)) b) (get_or-mapped f xs j d (f d) within) (h i j (f d) lt (omega (arith, within, length-mapped f xs))))
+
+-- ---- room
+
+room : (held new : List ℕ) → Each IsNumber new → AllPairs (λ a b. a ≢ b) (held ++ new) → length (held ++ new) ≤ 4096 → CanTake held new
+room held [] numbers apart long = tt
+room held (a ∷ new) numbers apart long = (
+  numbers.0,
+  each-impl (λ (h : ℕ). Each (λ (b : ℕ). h ≢ b) (a ∷ new)) _ held (λ h k. k.0) (across (λ (b c : ℕ). b ≢ c) held (a ∷ new) apart),
+  omega (arith, long, length-append held (a ∷ new)),
+  room (held ++ (a ∷ [])) new numbers.1 (subst (AllPairs (λ (b c : ℕ). b ≢ c)) (sym (append_assoc held (a ∷ []) new)) apart)
+      (subst (λ (ns : List ℕ). length ns ≤ 4096) (sym (append_assoc held (a ∷ []) new)) long),
+)
+
+-- where the numbers of a whole problem's attributes are these, the new ones may come
+whole-room : (p : Problem) (held new : List ℕ) → IsWhole p → attrs_of p ≡ held ++ new → CanTake held new
+whole-room p held new whole e =
+    room held new
+    (each_rest IsNumber held new (subst (Each IsNumber) e (each_mapped (λ (s : Stay). s.attr) IsNumber p.stays (each-impl IsStay _ p.stays (λ s k. k.attr) (recursion_from_All IsStay p.stays whole.stays)))))
+    (subst (AllPairs (λ (a b : ℕ). a ≢ b)) e (pairs-mapped (λ (s : Stay). s.attr) (λ (a b : ℕ). a ≢ b) p.stays whole.apart))
+    (subst (λ (ns : List ℕ). length ns ≤ 4096) e (subst (λ (n : ℕ). n ≤ 4096) (sym (length-mapped (λ (s : Stay). s.attr) p.stays)) whole.stay_count))
+
+pub all_room : (p : Problem) → IsWhole p → CanTake [] (attrs_of p)
+all_room p whole = whole-room p [] (attrs_of p) whole refl
+
+numbers-of : (values : List (ℕ × Fraction)) (attrs : List ℕ) → map (λ (s : Stay). s.attr) (stays_at (values ++ zeros attrs)) ≡ map (λ v. v.0) values ++ attrs
+numbers-of [] [] = refl
+numbers-of [] (a ∷ attrs) = ap (λ (ns : List ℕ). a ∷ ns) (numbers-of [] attrs)
+numbers-of (v ∷ values) attrs = ap (λ (ns : List ℕ). v.0 ∷ ns) (numbers-of values attrs)
+
+pub added_room : (held : List ℕ) (values : List (ℕ × Fraction)) (attrs : List ℕ) (rows : List Row) → map (λ v. v.0) values ≡ held → IsWhole (record { rows = rows; stays = stays_at (values ++ zeros attrs) }) → CanTake held attrs
+added_room held values attrs rows e whole =
+    whole-room (record { rows = rows; stays = stays_at (values ++ zeros attrs) }) held attrs whole (numbers-of values attrs ∙ ap (λ (ns : List ℕ). ns ++ attrs) e)
+
+-- ---- values that rise
+
+firsts-of : (values : List (ℕ × Fraction)) (attrs : List ℕ) → map (λ v. v.0) (values ++ zeros attrs) ≡ map (λ v. v.0) values ++ attrs
+firsts-of [] [] = refl
+firsts-of [] (a ∷ attrs) = ap (λ (ns : List ℕ). a ∷ ns) (firsts-of [] attrs)
+firsts-of (v ∷ values) attrs = ap (λ (ns : List ℕ). v.0 ∷ ns) (firsts-of values attrs)
+
+pub same_rising : (u v : List (ℕ × Fraction)) → map (λ w. w.0) u ≡ map (λ w. w.0) v → AreRising v → AreRising u
+same_rising u v e h =
+    mapped-pairs (λ (w : ℕ × Fraction). w.0) (λ (a b : ℕ). a < b) u
+    (subst (AllPairs (λ (a b : ℕ). a < b)) (sym e) (pairs-mapped (λ (w : ℕ × Fraction). w.0) (λ (a b : ℕ). a < b) v h))
+
+-- the values of a problem whose stays are at these values rise with them
+pub stays_rising : (values new : List (ℕ × Fraction)) (p : Problem) → p.stays ≡ stays_at values → map (λ v. v.0) new ≡ attrs_of p → AreRising values → AreRising new
+stays_rising values new p e is h =
+    same_rising new values (is ∙ ap (map (λ (s : Stay). s.attr)) e ∙ firsts values) h
+  where
+    firsts : (vs : List (ℕ × Fraction)) → map (λ (s : Stay). s.attr) (stays_at vs) ≡ map (λ v. v.0) vs
+    firsts [] = refl
+    firsts (v ∷ vs) = ap (λ (ns : List ℕ). v.0 ∷ ns) (firsts vs)

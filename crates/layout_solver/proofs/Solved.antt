@@ -1,0 +1,85 @@
+-- What an engine keeps.
+use Rattle.std.proofs.Common.{◌≡◌, ◌∙◌, ℕ, ◌++◌, List, [], ◌∷◌, map, refl, sym, ap, ap₂, subst, arith, pos}
+use Rattle.std.proofs.Math.Logic.{∥∥₁_elim}
+use Rattle.std.specs.Coded.{Coded-set}
+use Rattle.frac_core.specs.Fraction.{Fraction}
+use Rattle.problem_core.specs.Layout.{Problem, Row}
+use Rattle.problem_core.specs.Kept.{AreRising}
+use Rattle.problem_core.specs.Corners.{IsCorner}
+use Rattle.corner.specs.Views.{CornerView, IsKeptCorner}
+use Rattle.primal_run.specs.Runs.{IsBestEnd}
+use Rattle.layout_solver.specs.Layouts.{stays_at, zeros}
+use Rattle.layout_solver.specs.Engines.{AreItsValues, IsSolved, layout_of}
+use Rattle.layout_solver.specs.Starts.{IsMoved, attrs_of}
+use Rattle.layout_solver.specs.ValuesUnique.{values_are_one, values_code}
+use Rattle.layout_solver.proofs.MovedProblems.{its_values}
+use Rattle.layout_solver.proofs.Rooms.{stays_rising}
+use Rattle.layout_solver.proofs.Values.{best_there, values_exist, values_fit}
+
+-- the values that a corner is said to have are its values
+pub these_values : (c : CornerView) → IsCorner c.problem c.marks → (v : List (ℕ × Fraction)) → ∥ AreItsValues c v ∥₁ → AreItsValues c v
+these_values c corner v h =
+    let w = values_exist c corner in
+    subst (AreItsValues c) (sym (∥∥₁_elim h (Coded-set values_code v w.0) (λ t. values_are_one c v w.0 t w.1))) w.1
+
+-- a best end of which no line is listed
+pub solved_end : (c : CornerView) (v : List (ℕ × Fraction)) → IsKeptCorner c.problem c.marks → IsBestEnd c.problem c.marks → AreItsValues c v → AreRising v → c.before ≡ [] → c.candidates ≡ [] → IsSolved c v
+solved_end c v kept end values rising first listed = record {
+  kept = record { best = best_there c v values kept.whole end; fit = values_fit c v values kept; rising = rising; corner = kept; values = values.stand; end = end };
+  first = first;
+  listed = listed;
+}
+
+-- the values of a solved corner
+pub solved_values : (c : CornerView) (v : List (ℕ × Fraction)) → IsSolved c v → AreItsValues c v
+solved_values c v s = record { corner = s.kept.corner.corner; attributes = s.kept.best.attributes; lowest = s.kept.best.lowest; stand = s.kept.values }
+
+-- ---- the corner of nothing
+
+none-corner : CornerView
+none-corner = record { problem = record { rows = []; stays = [] }; marks = []; before = []; candidates = []; order = [] }
+
+no-pairs : AreRising []
+no-pairs = λ i j d lt within. absurd (omega (arith, within))
+
+none-end : IsBestEnd (record { rows = []; stays = [] }) []
+none-end = record {
+  values = (record { num = λ v. pos 1; positive = omega arith }, ((λ k d within. absurd (omega (arith, within))), (λ k d within. absurd (omega (arith, within)))), λ k d within. absurd (omega (arith, within)));
+  columns = (record { scale = λ k. 1; times = λ k name. pos 0 }, record { scales = λ k. omega arith; cancel = λ k v. refl; inside_zero = λ side k d within. absurd (omega (arith, within)) }, λ side k d within. absurd (omega (arith, within)));
+  required = λ h. absurd h.2.lt;
+}
+
+values-none : (v : List (ℕ × Fraction)) → map (λ w. w.0) v ≡ [] → AreRising v
+values-none [] e = no-pairs
+values-none (w ∷ v) e = cc
+
+no-values : (v : List (ℕ × Fraction)) → map (λ w. w.0) v ≡ [] → v ≡ []
+no-values [] e = refl
+no-values (w ∷ v) e = cc
+
+-- the corner of nothing has the layout of nothing
+pub none_layout : (c : CornerView) (v : List (ℕ × Fraction)) → c ≡ record { problem = record { rows = []; stays = [] }; marks = []; before = []; candidates = []; order = [] } → IsKeptCorner c.problem c.marks → ∥ AreItsValues c v ∥₁
+    → layout_of c v ≡ record { problem = record { rows = []; stays = [] }; values = []; corner = [] }
+none_layout c v e kept h =
+    let values = these_values c kept.corner v h in
+    let none : v ≡ [] = no-values v (values.attributes ∙ ap (λ (d : CornerView). map (λ s. s.attr) d.problem.stays) e) in
+    ap₂ (λ (d : CornerView) (w : List (ℕ × Fraction)). layout_of d w) e none
+
+pub none_solved : (c : CornerView) (v : List (ℕ × Fraction)) → c ≡ record { problem = record { rows = []; stays = [] }; marks = []; before = []; candidates = []; order = [] } → IsKeptCorner c.problem c.marks → ∥ AreItsValues c v ∥₁ → IsSolved c v
+none_solved c v e kept h =
+    let values = these_values c kept.corner v h in
+    solved_end c v kept (subst (λ (d : CornerView). IsBestEnd d.problem d.marks) (sym e) none-end) values
+    (values-none v (values.attributes ∙ ap (λ (d : CornerView). map (λ s. s.attr) d.problem.stays) e))
+    (ap (λ (d : CornerView). d.before) e) (ap (λ (d : CornerView). d.candidates) e)
+
+-- ---- after a change
+
+-- the problem has the stays of the new problem
+pub changed_rising : (p q : Problem) (rows : List Row) (values new : List (ℕ × Fraction)) → p ≡ record { rows = rows; stays = stays_at values } → map (λ v. v.0) new ≡ attrs_of p → AreRising values → AreRising new
+changed_rising p q rows values new e is h = stays_rising values new p (ap (λ (r : Problem). r.stays) e) is h
+
+-- the moved problem is that of the layout
+pub moved_is : (c : CornerView) (v : List (ℕ × Fraction)) (attrs : List ℕ) (rows : List Row) (p : Problem) → IsSolved c v → IsMoved c attrs rows p → p ≡ record { rows = rows; stays = stays_at (v ++ zeros attrs) }
+moved_is c v attrs rows p s m =
+    m.is ∙ ap (λ (vs : List (ℕ × Fraction)). record { rows = rows; stays = stays_at (vs ++ zeros attrs) })
+    (values_are_one c m.values v (its_values c attrs rows p s.kept.corner.corner m) (solved_values c v s))

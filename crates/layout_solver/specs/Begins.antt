@@ -1,0 +1,37 @@
+-- Where the path of a change begins, and where it ends.
+use Rattle.std.specs.Prelude.{ℕ, false, List, []}
+use Rattle.frac_core.specs.Fraction.{Fraction}
+use Rattle.problem_core.specs.declared.parts.Mark.{Mark}
+use Rattle.problem_core.specs.Layout.{Row, Problem}
+use Rattle.cert_core.specs.Paths.{Path}
+use Rattle.cert_core.specs.Stops.{IsStopOf}
+use Rattle.cert_core.specs.declared.stops.RunStop.{RunStop}
+use Rattle.corner.specs.Changes.{FromAdded}
+use Rattle.primal_run.specs.Runs.{IsBestEnd, IsRun}
+use Rattle.layout_solver.specs.Layouts.{GivesAt}
+
+-- the marks are an end, at which the attributes have these values
+pub record IsReached (p : Problem) (at : List Mark) (values : List (ℕ × Fraction)) : Type 0 where
+  pub end : IsBestEnd p at
+  pub gives : GivesAt p at values
+
+-- the rows that are there before, those that join, and the marks inside at the corner that was kept
+pub record Start : Type 0 where
+  pub before : List Row
+  pub joining : List Row
+  pub kept : List Mark
+
+-- a run from there, within the budget, to these marks
+abbrev pub IsRunTo : Start → Problem → ℕ → List Mark → Path → Type 0
+IsRunTo s p budget last path = IsRun false p (FromAdded p s.kept s.joining []) budget last path
+
+-- a run from there, within the budget, to an end with these values
+pub record IsRunFrom (s : Start) (p : Problem) (budget : ℕ) (path : Path) (values : List (ℕ × Fraction))
+    : Type 0 where
+  pub last : List Mark
+  pub run : IsRunTo s p budget last path
+  pub reached : IsReached p last values
+
+-- why a run from there stops
+abbrev pub IsStopFrom : Start → Problem → ℕ → RunStop → Type 0
+IsStopFrom s p budget stop = IsStopOf false p s.before (FromAdded p s.kept s.joining) budget stop

@@ -1,0 +1,65 @@
+-- A layout: a problem with its best values, and what it becomes.
+use Rattle.std.specs.Prelude.{◌≡◌, ℕ, List, ◌++◌, map, All}
+use Rattle.frac_core.specs.Fraction.{Fraction, IsKept, IsLowest}
+use Rattle.problem_core.specs.declared.parts.Stay.{Stay}
+use Rattle.problem_core.specs.declared.parts.Mark.{Mark}
+use Rattle.problem_core.specs.Layout.{Row, Problem, Assignment, IsBest, Gives}
+use Rattle.problem_core.specs.Kept.{AreRising}
+use Rattle.problem_core.specs.Window.{zero_fraction}
+use Rattle.problem_core.specs.Corners.{Point, StandsAt, assignment_at, attr_column}
+use Rattle.corner.specs.Views.{HasValueAt, IsKeptCorner}
+use Rattle.primal_run.specs.Runs.{IsBestEnd}
+
+-- The fractions in lowest terms are the values that a best assignment gives the stays' attributes. No other
+-- list is.
+pub record AreBest (problem : Problem) (values : List (ℕ × Fraction)) : Type 0 where
+  pub attributes : map (λ v. v.0) values ≡ map (λ s. s.attr) problem.stays
+  pub lowest : All (λ v. IsLowest v.1) values
+  pub best : (x : Assignment) × IsBest problem x × Gives values x
+
+-- the problem, its best values, and the marks inside at the corner where they stand
+pub record Layout : Type 0 where
+  pub problem : Problem
+  pub values : List (ℕ × Fraction)
+  pub corner : List Mark
+
+-- at the corner the attributes have these values
+abbrev pub AreValuesAt : Problem → List Mark → List (ℕ × Fraction) → Type 0
+AreValuesAt p at values = All (λ v. HasValueAt p at (attr_column v.0) v.1) values
+
+-- what each layout keeps: the values are best, and stand at a corner without negative values and columns,
+-- at which the required rows cost nothing
+pub record IsKeptLayout (l : Layout) : Type 0 where
+  pub best : AreBest l.problem l.values
+  pub fit : All (λ v. IsKept v.1) l.values
+  pub rising : AreRising l.values
+  pub corner : IsKeptCorner l.problem l.corner
+  pub values : AreValuesAt l.problem l.corner l.values
+  pub end : IsBestEnd l.problem l.corner
+
+-- a stay for each attribute, at its value
+abbrev pub stays_at : List (ℕ × Fraction) → List Stay
+stays_at values = map (λ v. record { attr = v.0; target = v.1 }) values
+
+-- the attributes at 0
+abbrev pub zeros : List ℕ → List (ℕ × Fraction)
+zeros attrs = map (λ a. (a, zero_fraction)) attrs
+
+-- In both that follow the stays have moved to the values before.
+
+-- with more attributes and more rows
+abbrev pub with_added : Layout → List ℕ → List Row → Problem
+with_added old attrs rows = record {
+  rows = old.problem.rows ++ rows;
+  stays = stays_at (old.values ++ zeros attrs);
+}
+
+-- with other rows
+abbrev pub with_rows : Layout → List Row → Problem
+with_rows old rows = record { rows = rows; stays = stays_at old.values }
+
+-- ---- the ends of paths
+
+-- at the corner the attributes have these values
+abbrev pub GivesAt : Problem → List Mark → List (ℕ × Fraction) → Type 0
+GivesAt p corner values = (x : Point) × StandsAt p corner x × Gives values (assignment_at x)

@@ -1,0 +1,6 @@
+pub mod Layouts
+pub mod Engines
+pub mod OneFraction
+pub mod ValuesUnique
+pub mod Starts
+pub mod Begins

@@ -1,0 +1,25 @@
+-- The problem that a run begins with.
+use Rattle.std.specs.Prelude.{◌≡◌, ◌≢◌, ℕ, ◌<◌, List, [], ◌∷◌, ◌++◌, length, map, All}
+use Rattle.std.specs.List.{AllByRecursion as Each}
+use Rattle.frac_core.specs.Fraction.{Fraction, IsLowest}
+use Rattle.problem_core.specs.Layout.{Problem, Row}
+use Rattle.problem_core.specs.Kept.{IsNumber}
+use Rattle.corner.specs.Views.{CornerView}
+use Rattle.layout_solver.specs.Layouts.{AreValuesAt, stays_at, zeros}
+
+-- beside the attributes that are held there is room for these, none of which is one of them
+abbrev pub CanTake : List ℕ → List ℕ → Type 0
+CanTake held [] = Unit {0}
+CanTake held (a ∷ attrs) =
+    IsNumber a × Each (λ h. h ≢ a) held × (length held < 4096) × CanTake (held ++ (a ∷ [])) attrs
+
+abbrev pub attrs_of : Problem → List ℕ
+attrs_of p = map (λ s. s.attr) p.stays
+
+-- the problem has these rows, the corner's attributes at their values there, and more of them at 0
+pub record IsMoved (from : CornerView) (attrs : List ℕ) (rows : List Row) (p : Problem) : Type 0 where
+  pub values : List (ℕ × Fraction)
+  pub attributes : map (λ v. v.0) values ≡ attrs_of from.problem
+  pub lowest : All (λ v. IsLowest v.1) values
+  pub stand : AreValuesAt from.problem from.marks values
+  pub is : p ≡ record { rows = rows; stays = stays_at (values ++ zeros attrs) }

@@ -1,0 +1,154 @@
+// The ways of a corner to the best one of another problem.
+ghost use Rattle.std.specs.Prelude.{◌≡◌, ◌<◌, ◌++◌, [], length, false, IfOk, IfErr};
+ghost use Rattle.problem_core.specs.Layout as layout;
+ghost use Rattle.problem_core.specs.Kept.{IsWhole};
+ghost use Rattle.problem_core.specs.Corners.{NoNegativeValue};
+ghost use Rattle.cert_core.specs.Paths as paths;
+ghost use Rattle.cert_core.specs.Stops.{IsStopOf};
+ghost use Rattle.corner.specs.Changes.{FromAdded, with_rows as with_more};
+ghost use Rattle.primal_run.specs.Runs.{IsBestEnd, IsRun};
+ghost use Rattle.layout_solver.specs.Layouts.{stays_at, zeros};
+ghost use Rattle.layout_solver.specs.Starts.{CanTake, IsMoved, attrs_of};
+
+use cert_core::RunStop;
+use corner::Corner;
+use frac_core::{Frac, OutOfMemory};
+use primal_run::settle;
+use problem_core::Row;
+use std::alloc::Global;
+
+/// Adds attributes at 0.
+fn add_attrs(c: &mut Corner, attrs: &[u32]) -> Result<(), OutOfMemory>
+    requires marked { 0 < length c.old.before }
+    requires room { CanTake (attrs_of c.old.problem) attrs.now }
+    ensures problem { IfOk result (λ _. c.new.problem ≡ record {
+      rows = c.old.problem.rows;
+      stays = c.old.problem.stays ++ stays_at (zeros attrs.now);
+    }) }
+    ensures marks { IfOk result (λ _. c.new.marks ≡ c.old.marks) }
+    ensures before { c.new.before ≡ c.old.before }
+    ensures candidates { IfOk result (λ _. c.new.candidates ≡ c.old.candidates) }
+{
+    for attr in attrs {
+        c.add_attr(*attr, Frac::zero())?;
+    }
+    Ok(())
+}
+
+/// Adds attributes at their values at another corner.
+fn copy_attrs(c: &mut Corner, from: &Corner) -> Result<(), OutOfMemory>
+    requires marked { 0 < length c.old.before }
+    requires none { c.old.problem ≡ record { rows = []; stays = [] } }
+    ensures copied { IfOk result (λ _. IsMoved from.now [] [] c.new.problem) }
+    ensures marks { IfOk result (λ _. c.new.marks ≡ c.old.marks) }
+    ensures before { c.new.before ≡ c.old.before }
+    ensures candidates { IfOk result (λ _. c.new.candidates ≡ c.old.candidates) }
+{
+    from.show_corner();
+    let stays = from.stays();
+    for stay in stays {
+        let value = from.attr_value(stay.attr);
+        let _ = value.num();
+        c.add_attr(stay.attr, value)?;
+    }
+    Ok(())
+}
+
+/// Adds rows, and goes on to the best corner.
+fn join(alloc: Global, c: &mut Corner, rows: &[Row], budget: u64) -> Result<(), RunStop>
+    requires marked { 0 < length c.old.before }
+    requires whole { IsWhole (with_more c.old.problem rows.now) }
+    requires values { NoNegativeValue c.old.problem c.old.marks }
+    ensures problem { IfOk result (λ _. c.new.problem ≡ with_more c.old.problem rows.now) }
+    ensures before { c.new.before ≡ c.old.before }
+    ensures end { IfOk result (λ _. IsBestEnd c.new.problem c.new.marks) }
+    ensures listed { IfOk result (λ _. c.new.candidates ≡ []) }
+    ensures path { IfOk result (λ _. (path : paths.Path) × IsRun false (with_more c.old.problem rows.now)
+        (FromAdded (with_more c.old.problem rows.now) c.old.marks rows.now []) budget c.new.marks path) }
+    ensures stop { IfErr result (IsStopOf false (with_more c.old.problem rows.now) c.old.problem.rows
+        (FromAdded (with_more c.old.problem rows.now) c.old.marks rows.now) budget) }
+{
+    c.show_corner();
+    match c.add_rows(rows) {
+        Ok(()) => {
+            c.show_corner();
+            settle(alloc, c, budget)
+        }
+        Err(stop) => Err(stop),
+    }
+}
+
+/// Moves the stays to the present values, and adds attributes at 0.
+fn widen(c: &mut Corner, attrs: &[u32]) -> Result<(), OutOfMemory>
+    requires marked { 0 < length c.old.before }
+    requires room { CanTake (attrs_of c.old.problem) attrs.now }
+    ensures moved { IfOk result (λ _. IsMoved c.old attrs.now c.old.problem.rows c.new.problem) }
+    ensures marks { IfOk result (λ _. c.new.marks ≡ c.old.marks) }
+    ensures before { c.new.before ≡ c.old.before }
+{
+    c.stand()?;
+    c.show_corner();
+    add_attrs(c, attrs)
+}
+
+/// Moves the stays to the present values, adds attributes at 0 and rows, and goes on to the best corner.
+pub(crate) fn extend(
+    alloc: Global,
+    c: &mut Corner,
+    attrs: &[u32],
+    rows: &[Row],
+    budget: u64,
+) -> Result<(), RunStop>
+    requires marked { 0 < length c.old.before }
+    requires room { CanTake (attrs_of c.old.problem) attrs.now }
+    requires values { NoNegativeValue c.old.problem c.old.marks }
+    requires whole { (p : layout.Problem) → IsMoved c.old attrs.now (c.old.problem.rows ++ rows.now) p
+        → IsWhole p }
+    ensures before { c.new.before ≡ c.old.before }
+    ensures problem { IfOk result
+        (λ _. IsMoved c.old attrs.now (c.old.problem.rows ++ rows.now) c.new.problem) }
+    ensures end { IfOk result (λ _. IsBestEnd c.new.problem c.new.marks) }
+    ensures listed { IfOk result (λ _. c.new.candidates ≡ []) }
+    ensures path { IfOk result (λ _. (p : layout.Problem)
+        → IsMoved c.old attrs.now (c.old.problem.rows ++ rows.now) p
+        → (path : paths.Path) × IsRun false p (FromAdded p c.old.marks rows.now []) budget c.new.marks path) }
+    ensures stop { IfErr result (λ stop. (p : layout.Problem)
+        → IsMoved c.old attrs.now (c.old.problem.rows ++ rows.now) p
+        → IsStopOf false p c.old.problem.rows (FromAdded p c.old.marks rows.now) budget stop) }
+{
+    c.show_corner();
+    widen(c, attrs)?;
+    c.show_corner();
+    join(alloc, c, rows, budget)
+}
+
+/// The best corner of these rows, with a stay for each attribute at its value at another corner.
+pub(crate) fn begin(
+    alloc: Global,
+    from: &Corner,
+    rows: &[Row],
+    budget: u64,
+) -> Result<Corner, RunStop>
+    requires whole { (p : layout.Problem) → IsMoved from.now [] rows.now p → IsWhole p }
+    ensures before { IfOk result (λ c. c.before ≡ []) }
+    ensures problem { IfOk result (λ c. IsMoved from.now [] rows.now c.problem) }
+    ensures end { IfOk result (λ c. IsBestEnd c.problem c.marks) }
+    ensures listed { IfOk result (λ c. c.candidates ≡ []) }
+    ensures path { IfOk result (λ c. (path : paths.Path)
+        × IsRun false c.problem (FromAdded c.problem [] rows.now []) budget c.marks path) }
+    ensures stop { IfErr result (λ stop. (p : layout.Problem) → IsMoved from.now [] rows.now p
+        → IsStopOf false p [] (FromAdded p [] rows.now) budget stop) }
+{
+    from.show_corner();
+    let mut c = Corner::new(alloc)?;
+    c.mark();
+    copy_attrs(&mut c, from)?;
+    c.show_corner();
+    match join(alloc, &mut c, rows, budget) {
+        Ok(()) => {
+            c.forget();
+            Ok(c)
+        }
+        Err(stop) => Err(stop),
+    }
+}

@@ -1,0 +1,159 @@
+// The engine.
+ghost use Rattle.std.specs.Prelude.{◌≡◌, ◌++◌, [], false, All, Any, IfOk, IfErr, IfSome, IfNone, OnErr};
+ghost use Rattle.frac_core.specs.Fraction.{IsKept};
+ghost use Rattle.problem_core.specs.Layout.{HasStay};
+ghost use Rattle.problem_core.specs.Kept.{IsWhole, AreRising};
+ghost use Rattle.cert_core.specs.Paths as paths;
+ghost use Rattle.cert_core.specs.Stops.{IsStopOf};
+ghost use Rattle.corner.specs.Changes.{FromAdded};
+ghost use Rattle.primal_run.specs.Runs.{IsRun};
+ghost use Rattle.layout_solver.specs.Layouts.{AreBest, IsKeptLayout, with_added, with_rows, zeros};
+ghost use Rattle.layout_solver.specs.Engines.{HasValues};
+ghost use Rattle.layout_solver.specs.ValuesUnique.{one_list};
+
+use crate::changing::{begin, extend};
+use crate::reading::has_stay;
+use cert_core::RunStop;
+use corner::Corner;
+use frac_core::{Frac, OutOfMemory};
+use problem_core::{Row, Stay};
+use std::alloc::Global;
+use std::marker::Model;
+
+/// A problem with its best values, and the corner at which they stand.
+#[derive(Drop)]
+pub struct Engine {
+    corner: Corner,
+    alloc: Global,
+    ghost values: { HasValues corner } by { one_list corner },
+}
+
+impl Model for Engine {
+    ghost use Rattle.layout_solver.specs.Layouts.{Layout};
+    ghost use Rattle.layout_solver.specs.Engines.{IsSolved, layout_of};
+
+    ghost Value = { Layout };
+
+    ghost view = { λ e. layout_of e.corner e.values.0 };
+
+    ghost invariant = { λ e. IsSolved e.corner e.values.0 };
+}
+
+impl Engine {
+    /// The engine of no attribute and no row.
+    pub fn new(alloc: Global) -> Result<Engine, OutOfMemory>
+        ensures { IfOk result (λ e. e ≡ record {
+          problem = record { rows = []; stays = [] };
+          values = [];
+          corner = [];
+        }) }
+    {
+        let corner = Corner::new(alloc)?;
+        corner.show_corner();
+        Ok(Engine { corner, alloc })
+    }
+
+    /// Shows what each engine keeps.
+    pub fn show_layout(&self)
+        ensures layout { IsKeptLayout self.now }
+        ensures whole { IsWhole self.now.problem }
+        ensures best { AreBest self.now.problem self.now.values }
+        ensures kept { All (λ v. IsKept v.1) self.now.values }
+        ensures rising { AreRising self.now.values }
+    {
+        let _ = &self.corner;
+    }
+
+    /// Adds attributes at 0 and rows, with the stays at the present values, and goes on to the best values.
+    /// The path begins at the corner that was kept, with the mark of each new row that is not negative.
+    ///
+    /// `Conflict`: the required rows have no solution, as the multipliers show. `Unfit`: a quantity does not
+    /// fit at the last corner of the path. `Spent`: the path has as many exchanges as the budget. After each
+    /// stop the engine is as before.
+    pub fn add(&mut self, attrs: &[u32], rows: &[Row], budget: u64) -> Result<(), RunStop>
+        requires whole { IsWhole (with_added self.old attrs.now rows.now) }
+        requires rising { AreRising (self.old.values ++ zeros attrs.now) }
+        ensures done { IfOk result (λ _. self.new.problem ≡ with_added self.old attrs.now rows.now) }
+        ensures path { IfOk result (λ _. (path : paths.Path)
+            × IsRun false (with_added self.old attrs.now rows.now)
+            (FromAdded (with_added self.old attrs.now rows.now) self.old.corner rows.now [])
+            budget self.new.corner path) }
+        ensures stop { IfErr result (IsStopOf false (with_added self.old attrs.now rows.now)
+            self.old.problem.rows
+            (FromAdded (with_added self.old attrs.now rows.now) self.old.corner rows.now) budget) }
+        ensures same { OnErr result (self.new ≡ self.old) }
+    {
+        self.corner.mark();
+        match extend(self.alloc, &mut self.corner, attrs, rows, budget) {
+            Ok(()) => {
+                self.corner.show_corner();
+                self.corner.forget();
+                Ok(())
+            }
+            Err(stop) => {
+                self.corner.back();
+                Err(stop)
+            }
+        }
+    }
+
+    /// Takes these rows in place of the held ones, with the stays at the present values, and goes on to the
+    /// best values. The path begins at the corner at which all attributes stand at the present values, with
+    /// the mark of each row that is not negative.
+    ///
+    /// The stops are those of `add`.
+    pub fn renew(&mut self, rows: &[Row], budget: u64) -> Result<(), RunStop>
+        requires whole { IsWhole (with_rows self.old rows.now) }
+        ensures done { IfOk result (λ _. self.new.problem ≡ with_rows self.old rows.now) }
+        ensures path { IfOk result (λ _. (path : paths.Path) × IsRun false (with_rows self.old rows.now)
+            (FromAdded (with_rows self.old rows.now) [] rows.now []) budget self.new.corner path) }
+        ensures stop { IfErr result (IsStopOf false (with_rows self.old rows.now) []
+            (FromAdded (with_rows self.old rows.now) [] rows.now) budget) }
+        ensures same { OnErr result (self.new ≡ self.old) }
+    {
+        match begin(self.alloc, &self.corner, rows, budget) {
+            Ok(corner) => {
+                corner.show_corner();
+                self.corner = corner;
+                Ok(())
+            }
+            Err(stop) => Err(stop),
+        }
+    }
+
+    /// The rows, by rising number.
+    pub fn rows(&self) -> &[Row]
+        ensures { result.now ≡ self.now.problem.rows }
+    {
+        self.corner.rows()
+    }
+
+    /// The stays, strongest first.
+    pub fn stays(&self) -> &[Stay]
+        ensures { result.now ≡ self.now.problem.stays }
+    {
+        self.corner.stays()
+    }
+
+    /// The attribute's value.
+    pub fn value(&self, attr: u32) -> Option<Frac>
+        ensures some { IfSome result (λ f. Any (λ v. (v.0 ≡ attr) × (v.1 ≡ f)) self.now.values) }
+        ensures none { IfNone result (HasStay self.now.problem.stays attr → ⊥) }
+    {
+        if has_stay(self.corner.stays(), attr) {
+            Some(self.value_at(attr))
+        } else {
+            None
+        }
+    }
+
+    /// The value of an attribute, which has a stay.
+    pub fn value_at(&self, attr: u32) -> Frac
+        requires { HasStay self.now.problem.stays attr }
+        ensures { Any (λ v. (v.0 ≡ attr) × (v.1 ≡ result)) self.now.values }
+    {
+        let value = self.corner.attr_value(attr);
+        let _ = value.num();
+        value
+    }
+}

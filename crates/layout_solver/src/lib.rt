@@ -1,0 +1,41 @@
+//! The engine: a layout problem and its best values, changed step by step.
+//!
+//! An [`Engine`] is a problem, its best values, and the corner at which these stand. [`Engine::add`] takes
+//! more attributes and rows, and [`Engine::renew`] other rows in place of the held ones. Each first moves
+//! the stays to the present values, so that the attributes stay where they are as far as the rows let them,
+//! and then exchanges marks until the values are best. A change that is refused leaves the engine as it
+//! was.
+//!
+//! A contract sees a `Layout`: the problem, the values by attribute, and the marks inside. The values are not
+//! stored. The corner fixes them ([`Engine::value`] reads them there), and a ghost field names them.
+//!
+//! | Clause | Says |
+//! |---|---|
+//! | `show_layout`: `best` | the values are those of a best assignment; no other list is |
+//! | `done` | after `Ok`, the problem is the one that was asked for |
+//! | `path` | after `Ok`, a lawful path within the budget leads from the kept corner to the engine's corner |
+//! | `stop` | a conflict has multipliers that show it, and any other stop a lawful path to where it stopped |
+//! | `same` | after a stop or want of memory, the engine is as before |
+//! | `some`, `none` | the value of an attribute with a stay, and of no other |
+//!
+//! ```
+//! let mut engine = Engine::new(alloc)?;
+//! engine.add(&[1], &rows, 1000)?;             // a row 7: attribute 1 is 30
+//! engine.value(1);                            // 30
+//! engine.value(2);                            // None
+//! engine.renew(&others, 1000)?;               // a row 7: attribute 1 is at least 20
+//! engine.value(1);                            // 30 still
+//! engine.add(&[], &more, 1000)                // a row 8: attribute 1 is at most 10, which is refused:
+//!                                             // the multipliers 1 and -1 of the rows 7 and 8 show it
+//! engine.value(1);                            // 30
+//! ```
+//!
+//! To read: `changing` has the ways of a corner to the best one of another problem, and `engine` is what
+//! callers use.
+#![tactic(auto)]
+
+mod changing;
+mod engine;
+mod reading;
+
+pub use engine::Engine;
