@@ -28,7 +28,7 @@ pub use claim_reader::read_claim;
 pub use claim_writer::cert_text;
 pub use cut::{CheckInput, cut_input};
 pub use problem_reader::read_problem;
-pub use problem_writer::problem_text;
+pub use problem_writer::{problem_text, rows_text};
 pub use stops::ReadStop;
 
 #[cfg(test)]

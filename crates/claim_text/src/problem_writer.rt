@@ -26,13 +26,24 @@ fn put_stays(text: &mut String, stays: &[Stay]) -> Result<(), OutOfMemory>
 }
 
 // The text of a problem, apart.
-fn text_of(alloc: Global, p: &Problem) -> Result<String, OutOfMemory>
-    ensures { IfOk result (λ text. string_bytes text ≡ problem_text p.now) }
+fn text_of(alloc: Global, rows: &[Row], stays: &[Stay]) -> Result<String, OutOfMemory>
+    ensures { IfOk result (λ text.
+        string_bytes text ≡ problem_text (record { rows = rows.now; stays = stays.now })) }
 {
     let mut text = String::new(alloc);
-    put_rows(&mut text, p.rows())?;
-    put_stays(&mut text, p.stays())?;
+    put_rows(&mut text, rows)?;
+    put_stays(&mut text, stays)?;
     Ok(text)
+}
+
+/// Appends the lines of the rows and then those of the stays. After want of memory nothing was appended.
+pub fn rows_text(rows: &[Row], stays: &[Stay], out: &mut Vec<u8>) -> Result<(), OutOfMemory>
+    ensures written { IfOk result (λ _.
+        out.new.items ≡ out.old.items ++ problem_text (record { rows = rows.now; stays = stays.now })) }
+    ensures unchanged { OnErr result (out.new.items ≡ out.old.items) }
+{
+    let text = text_of(*out.allocator(), rows, stays)?;
+    Ok(out.extend_from_slice(text.as_bytes())?)
 }
 
 /// Appends the lines of the rows and then those of the stays. After want of memory nothing was appended.
@@ -40,6 +51,5 @@ pub fn problem_text(p: &Problem, out: &mut Vec<u8>) -> Result<(), OutOfMemory>
     ensures written { IfOk result (λ _. out.new.items ≡ out.old.items ++ problem_text p.now) }
     ensures unchanged { OnErr result (out.new.items ≡ out.old.items) }
 {
-    let text = text_of(*out.allocator(), p)?;
-    Ok(out.extend_from_slice(text.as_bytes())?)
+    rows_text(p.rows(), p.stays(), out)
 }

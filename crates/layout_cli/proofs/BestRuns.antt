@@ -1,5 +1,5 @@
 -- What a line changes, and that a run leads from best values to best values.
-use Rattle.std.proofs.Common.{◌≡◌, ℕ, Bool, List, [], ◌∷◌, Option, sym, subst, inl, inr, ◌⊎◌}
+use Rattle.std.proofs.Common.{◌≡◌, ℕ, Bool, List, [], ◌∷◌, sym, subst, inl, inr, ◌⊎◌}
 use Rattle.frac_core.specs.Fraction.{Fraction}
 use Rattle.script_text.specs.Meaning.{Meaning}
 use Rattle.script_text.specs.Meaning as mean
@@ -9,7 +9,7 @@ use Rattle.constraint_compile.specs.FormatParts.{parts}
 use Rattle.constraint_compile.specs.FormatStops.{row_count}
 use Rattle.constraint_compile.specs.FormatRows.{IsCompiledFormat, MayStopFormat}
 use Rattle.constraint_compile.specs.declared.stops.CompileStop.{CompileStop}
-use Rattle.session_undo.specs.Scene.{Scene, State, IsBestScene, IsBestState}
+use Rattle.session_undo.specs.Scene.{Scene, State, IsBestState}
 use Rattle.session_undo.specs.Replies.{Reply, Done}
 use Rattle.session_undo.specs.Machine.{Accepts, Solves, SolvesFree, MeaningStep, TriedView, TriedMetric, TriedWindow, TriedLine, BudgetStep, parent_name}
 use Rattle.layout_cli.specs.Machine.{GrammarStep, Step, Run}

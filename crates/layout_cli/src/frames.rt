@@ -1,12 +1,10 @@
-// Frames of views, and their text.
-ghost use Rattle.std.specs.Prelude.{◌≡◌, ◌++◌, ◌+◌, ◌*◌, ◌<◌, ◌^◌, IfOk};
+// The text of frames.
+ghost use Rattle.std.specs.Prelude.{◌≡◌, ◌++◌, ◌∷◌, [], IfOk, Some, slice_get};
+ghost use Rattle.view_tree.specs.Views.{LiveView};
 ghost use Rattle.layout_cli.specs.Replies.{value_text, frame_line, frame_of, text_of_each};
-ghost use Rattle.problem_core.specs.Gaps.{value_of};
-ghost use Rattle.problem_core.specs.Window.{zero_fraction};
 
 use frac_core::{Frac, OutOfMemory, Wide, write_frac};
-use layout_engine::Engine;
-use view_tree::Tree;
+use session_undo::Scene;
 
 // Left, top, width and height of a view, in window coordinates.
 #[derive(Clone, Copy, Debug, PartialEq, Eq)]
@@ -32,7 +30,8 @@ fn push_value(out: &mut Vec<u8>, value: Frac) -> Result<(), OutOfMemory>
 // Appends the line that shows a frame.
 #[tactic(auto, unfolding(crate::specs::Replies::frame_line))]
 fn push_frame(out: &mut Vec<u8>, name: &str, frame: &Frame) -> Result<(), OutOfMemory>
-    ensures { IfOk result (λ _. out.new.items ≡ out.old.items ++ frame_line name.now frame.now.left frame.now.top frame.now.width frame.now.height) }
+    ensures { IfOk result (λ _. out.new.items ≡ out.old.items
+        ++ frame_line name.now frame.now.left frame.now.top frame.now.width frame.now.height) }
 {
     out.extend_from_slice(b"frame ")?;
     out.extend_from_slice(name.as_bytes())?;
@@ -44,49 +43,40 @@ fn push_frame(out: &mut Vec<u8>, name: &str, frame: &Frame) -> Result<(), OutOfM
     Ok(())
 }
 
-fn zero() -> Frac
-    ensures { result ≡ zero_fraction }
+// The parts of a frame by their names.
+fn named(frame: &[Frac; 4]) -> Frame
+    ensures { frame.now ≡ result.left ∷ result.top ∷ result.width ∷ result.height ∷ [] }
 {
-    Frac::zero()
-}
-
-// The value of an attribute, which has one.
-fn value_of(engine: &Engine, attr: u32) -> Frac
-    ensures { result ≡ value_of engine.now.values attr }
-{
-    engine.show_layout();
-    match engine.value(attr) {
-        Some(value) => value,
-        None => zero(),
-    }
-}
-
-// The frame of a view.
-fn frame_of(engine: &Engine, id: u32) -> Frame
-    requires { id < 2 ^ 29 }
-    ensures left { result.left ≡ value_of engine.now.values (4 * id + 1) }
-    ensures top { result.top ≡ value_of engine.now.values (4 * id + 2) }
-    ensures width { result.width ≡ value_of engine.now.values (4 * id + 3) }
-    ensures height { result.height ≡ value_of engine.now.values (4 * id + 4) }
-{
-    let first = 4 * id + 1;
+    let [left, top, width, height] = *frame;
     Frame {
-        left: value_of(engine, first),
-        top: value_of(engine, first + 1),
-        width: value_of(engine, first + 2),
-        height: value_of(engine, first + 3),
+        left,
+        top,
+        width,
+        height,
     }
+}
+
+// Appends the line that shows the frame of the view at a place.
+fn push_at(out: &mut Vec<u8>, scene: &Scene, place: usize) -> Result<(), OutOfMemory>
+    ensures { IfOk result (λ _. (v : LiveView) → slice_get scene.now.tree.views place ≡ Some v
+        → out.new.items ≡ out.old.items ++ frame_of scene.now.values v) }
+{
+    let Some(view) = scene.tree().at(place) else {
+        return Ok(());
+    };
+    let Some(frame) = scene.frame_at(place) else {
+        return Ok(());
+    };
+    push_frame(out, view.name, &named(&frame))
 }
 
 /// Appends the frames of all views.
-pub fn push_frames(out: &mut Vec<u8>, tree: &Tree, engine: &Engine) -> Result<(), OutOfMemory>
-    ensures { IfOk result (λ _. out.new.items ≡ out.old.items ++ text_of_each (frame_of engine.now.values) tree.now.views) }
+pub fn push_frames(out: &mut Vec<u8>, scene: &Scene) -> Result<(), OutOfMemory>
+    ensures { IfOk result (λ _.
+        out.new.items ≡ out.old.items ++ text_of_each (frame_of scene.now.values) scene.now.tree.views) }
 {
-    for place in 0..tree.len() {
-        match tree.at(place) {
-            Some(view) => push_frame(out, view.name, &frame_of(engine, view.id.0))?,
-            None => (),
-        }
+    for place in 0..scene.tree().len() {
+        push_at(out, scene, place)?;
     }
     Ok(())
 }

@@ -2,7 +2,7 @@
 ghost use Rattle.std.specs.Prelude.{◌≡◌, ℕ, Bool, List};
 ghost use Rattle.frac_core.specs.Fraction.{Fraction};
 ghost use Rattle.problem_core.specs.Layout.{Problem, IsProblem};
-ghost use Rattle.layout_engine.specs.Layouts.{AreBest};
+ghost use Rattle.layout_solver.specs.Layouts.{AreBest};
 ghost use Rattle.session_undo.specs.Scene.{State, first_state, IsBestState};
 ghost use Rattle.layout_cli.specs.Machine.{Run};
 

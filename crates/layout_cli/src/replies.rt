@@ -7,7 +7,7 @@ ghost use Rattle.session_undo.specs.declared.reply.Reply.TheVariants.{Done};
 use crate::frames::push_frames;
 use crate::names::put_names;
 use crate::refusals::push_refusal;
-use claim_text::problem_text;
+use claim_text::rows_text;
 use frac_core::OutOfMemory;
 use session_undo::{Refusal, Reply, Session};
 
@@ -31,7 +31,7 @@ fn push_names(session: &Session, out: &mut Vec<u8>) -> Result<(), OutOfMemory>
 fn show_frames(session: &Session, out: &mut Vec<u8>) -> Result<(), OutOfMemory>
     ensures { IfOk result (λ _. out.new.items ≡ out.old.items ++ frames_text session.now.scene) }
 {
-    push_frames(out, session.state().tree(), session.engine())?;
+    push_frames(out, session.state())?;
     push_ok(out)
 }
 
@@ -39,7 +39,7 @@ fn show_rows(session: &Session, out: &mut Vec<u8>) -> Result<(), OutOfMemory>
     ensures { IfOk result (λ _. out.new.items ≡ out.old.items ++ rows_text session.now.scene) }
 {
     push_names(session, out)?;
-    problem_text(session.engine().problem(), out)?;
+    rows_text(session.engine().rows(), session.engine().stays(), out)?;
     push_ok(out)
 }
 

@@ -1,10 +1,10 @@
 -- What a session hands its engine makes a problem, and the session counts on.
-use Rattle.std.proofs.Common.{◌≡◌, ℕ, ◌+◌, ◌*◌, ◌^◌, ◌<◌, ◌≤◌, List, [], ◌∷◌, ◌++◌, length, map, length-append, Option, refl, sym, ap, subst, ◌∙◌, arith, inl, inr, All, lit<, pos}
+use Rattle.std.proofs.Common.{◌≡◌, ℕ, ◌+◌, ◌*◌, ◌^◌, ◌<◌, ◌≤◌, List, [], ◌∷◌, ◌++◌, length, map, length-append, refl, sym, ap, subst, ◌∙◌, arith, inl, inr, All, lit<, pos}
 use Rattle.std.specs.List.{Contains}
 use Rattle.std.proofs.lemmas.Bool.{cases_lt}
 use Rattle.std.proofs.lemmas.List.{append-nil, length-map}
 use Rattle.std.proofs.lemmas.List.Elements.{All-from_recursion, All-append, All-weaker, All-map, Contains-append_right}
-use Rattle.frac_core.specs.Fraction.{Fraction, IsKept}
+use Rattle.frac_core.specs.Fraction.{Fraction}
 use Rattle.problem_core.specs.declared.parts.Rel.TheVariants.{Eq, Ge}
 use Rattle.problem_core.specs.declared.parts.Stay.{Stay}
 use Rattle.problem_core.specs.declared.parts.Term.{Term}
@@ -14,7 +14,7 @@ use Rattle.problem_core.specs.Window.{required_row, structural_rows, zero_fracti
 use Rattle.view_tree.specs.Views.{LiveView, ViewTree, IsTree}
 use Rattle.constraint_compile.specs.Meaning.{MetricList}
 use Rattle.constraint_compile.specs.Compiled.{CompiledLine, AreRowsNow}
-use Rattle.layout_engine.specs.Layouts.{Layout, AreBest, stays_at, zeros, with_added, with_rows}
+use Rattle.layout_solver.specs.Layouts.{Layout, stays_at, zeros, with_added, with_rows}
 use Rattle.session_undo.specs.Items.{view_rows, size_rows}
 use Rattle.session_undo.specs.Scene.{State}
 use Rattle.session_undo.specs.Machine.{IsCrowded}
@@ -58,9 +58,6 @@ size-may t next w h more tree is each =
     (one-only (attributes_of t.views) (once 4) (window-among t.views 4 tree.root (contains-height 0))))
 
 -- ---- problems
-
-pub settled : (l : Layout) → IsWhole l.problem → AreBest l.problem l.values → All (λ v. IsKept v.1) l.values → AreRising l.values → IsSettled l.problem l.values
-settled l whole best kept rising = record { whole = whole; attributes = best.attributes; kept = kept; rising = rising }
 
 -- rows of the old attributes
 rows-whole : (views : List LiveView) (next : ℕ) (l : Layout) (more : List Row) → IsSettled l.problem l.values → IsCounted views next l.problem → MayBeAdded (attributes_of views) next more → length l.problem.rows + length more ≤ 2000
@@ -191,7 +188,7 @@ first-may each = record {
 }
 
 abbrev pub empty : Layout
-empty = record { problem = record { rows = []; stays = [] }; values = [] }
+empty = record { problem = record { rows = []; stays = [] }; values = []; corner = [] }
 
 empty-settled : IsSettled empty.problem empty.values
 empty-settled = record {

@@ -21,8 +21,8 @@ use Rattle.constraint_compile.specs.Meaning.{MetricList}
 use Rattle.constraint_compile.specs.declared.stops.CompileStop.TheVariants as stop
 use Rattle.session_undo.specs.declared.reply.Refusal.{Refusal}
 use Rattle.session_undo.specs.Replies.{Reply, Unknown, Taken, Limit, MayRefuse}
-use Rattle.session_undo.specs.Scene.{Scene, State, AreDraftRows, with_view, with_window, metrics_with}
-use Rattle.session_undo.specs.Machine.{Unless, IsTaken, IsDeep, IsCrowded, AreNear, AreTooMany, AddsView, TriedView, TriedMetric, TriedWindow, UnlessFar, HasAllViews}
+use Rattle.session_undo.specs.Scene.{Scene, State, AreDraftRows, with_window, metrics_with}
+use Rattle.session_undo.specs.Machine.{IsTaken, IsDeep, IsCrowded, AreNear, AreTooMany, TriedView, TriedMetric, TriedWindow, UnlessFar, HasAllViews}
 use Rattle.session_undo.specs.Items.{has_size}
 use Rattle.session_undo.specs.Adding.{NoEnd, IsFreeView, IsFreeMetric, view_draft, metrics_draft}
 use Rattle.session_undo.specs.Kept.{AreWithin, MayLackRows}

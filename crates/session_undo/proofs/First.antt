@@ -1,15 +1,15 @@
 -- The first session.
-use Rattle.std.proofs.Common.{◌≡◌, ℕ, List, [], ◌∷◌, None, refl, ap, ap₂, ◌∙◌, subst, lit<, pos, ◌<◌}
+use Rattle.std.proofs.Common.{◌≡◌, ℕ, List, [], ◌∷◌, refl, ap, ap₂, ◌∙◌, subst, lit<, pos, ◌<◌}
 use Rattle.std.specs.Prelude.{◌*ℤ◌}
 use Rattle.std.proofs.lemmas.List.Elements.{All-from_recursion}
 use Rattle.std.proofs.Math.Nat.{one-dvd}
 use Rattle.frac_core.specs.Fraction.{Fraction, IsLowest}
 use Rattle.problem_core.specs.Window.{zero_fraction, structural_rows}
-use Rattle.problem_core.specs.Layout.{Row, Problem, Assignment, IsProblem, lines}
+use Rattle.problem_core.specs.Layout.{Problem, Assignment, IsProblem, lines}
 use Rattle.problem_core.proofs.WindowRows.{first-IsBest}
 use Rattle.view_tree.specs.Views.{ViewTree, window}
-use Rattle.layout_engine.specs.Layouts.{Layout, AreBest, stays_at}
-use Rattle.session_undo.specs.Items.{Item, OfWindow}
+use Rattle.layout_solver.specs.Layouts.{Layout, AreBest, stays_at}
+use Rattle.session_undo.specs.Items.{OfWindow}
 use Rattle.session_undo.specs.Scene.{new_values, first_scene}
 use Rattle.session_undo.specs.Attributes.{IsCounted}
 use Rattle.session_undo.specs.Kept.{IsItem, IsKept, scene_at}
@@ -52,7 +52,7 @@ first_tree = record { views = window ∷ []; next = 1 }
 pub first-is : (t : ViewTree) (l : Layout) → t ≡ first_tree → l.problem ≡ first_problem → AreBest l.problem l.values → scene_at t [] (OfWindow ∷ []) 5 l ≡ first_scene
 first-is t l t_is is best =
     ap (λ (u : ViewTree). scene_at u [] (OfWindow ∷ []) 5 l) t_is
-    ∙ ap₂ (λ (p : Problem) (vs : List (ℕ × Fraction)). scene_at first_tree [] (OfWindow ∷ []) 5 (record { problem = p; values = vs })) is (first-values l is best)
+    ∙ ap₂ (λ (p : Problem) (vs : List (ℕ × Fraction)). scene_at first_tree [] (OfWindow ∷ []) 5 (record l { problem = p; values = vs })) is (first-values l is best)
 
 pub first-kept : (t : ViewTree) (l : Layout) → l.problem ≡ first_problem → IsCounted t.views 5 l.problem → IsKept (scene_at t [] (OfWindow ∷ []) 5 l)
 first-kept t l is counted = record {

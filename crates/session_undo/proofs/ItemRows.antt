@@ -1,5 +1,5 @@
 -- The rows of what is held.
-use Rattle.std.proofs.Common.{◌≡◌, ℕ, zero, suc, ◌+◌, ◌<◌, Bool, true, false, true≢false, arith, length-append, cond, List, [], ◌∷◌, ◌++◌, take, length, map, filter, Some, None, Option, refl, sym, ap, ap₂, ◌∙◌, subst, append_assoc, All}
+use Rattle.std.proofs.Common.{◌≡◌, ℕ, zero, suc, ◌+◌, ◌<◌, Bool, true, false, true≢false, arith, length-append, cond, List, [], ◌∷◌, ◌++◌, take, length, filter, Some, None, Option, refl, sym, ap, ap₂, ◌∙◌, subst, append_assoc, All}
 use Rattle.std.proofs.Math.ListN.{get_or}
 use Rattle.std.proofs.lemmas.List.{append-nil, take_more, map-append}
 use Rattle.std.specs.List.{AllByRecursion as Each}
@@ -18,7 +18,7 @@ use Rattle.constraint_compile.specs.Meaning.{MetricList}
 use Rattle.session_undo.specs.declared.item.WindowSize.{WindowSize}
 use Rattle.session_undo.specs.declared.item.Item as declared
 use Rattle.session_undo.specs.Items.{Item, OfWindow, OfView, Sized, OfLine, AreItemRows, AreRows, IsSmallItem, sized, resized, is_line, line_count, is_size, has_size}
-use Rattle.session_undo.specs.Kept.{item_of, items_of, size_or, changed, all_changed, IsItem, MayLackItemRows, MayLackRows}
+use Rattle.session_undo.specs.Kept.{item_of, items_of, changed, all_changed, IsItem, MayLackItemRows, MayLackRows}
 use Rattle.session_undo.proofs.Lists.{all-unmapped}
 
 -- ---- items of the code

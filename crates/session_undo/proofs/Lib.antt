@@ -14,6 +14,8 @@ pub mod NewViews
 pub mod NextLines
 pub mod NextRows
 pub mod OneFraction
+pub mod Places
+pub mod Reached
 pub mod SameRow
 pub mod SameShapes
 pub mod SmallLines

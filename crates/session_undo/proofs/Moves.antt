@@ -1,5 +1,5 @@
 -- Stays that move to the values of their attributes.
-use Rattle.std.proofs.Common.{◌≡◌, ℕ, suc, ◌<◌, ◌*◌, Bool, cond, nat_eq, List, [], ◌∷◌, ◌++◌, map, refl, sym, ap, ap₂, ◌∙◌, subst, arith, All, eq-eqb, ne_eqb}
+use Rattle.std.proofs.Common.{◌≡◌, ℕ, suc, ◌<◌, Bool, cond, List, [], ◌∷◌, ◌++◌, map, refl, sym, ap, ap₂, ◌∙◌, subst, arith, All, eq-eqb, ne_eqb}
 use Rattle.std.specs.List.{AllByRecursion as Each}
 use Rattle.std.proofs.lemmas.List.{append-nil, map-append}
 use Rattle.std.proofs.lemmas.List.Elements.{recursion_from_All, All-map}
@@ -7,7 +7,7 @@ use Rattle.frac_core.specs.Fraction.{Fraction}
 use Rattle.problem_core.specs.declared.parts.Stay.{Stay}
 use Rattle.problem_core.specs.Gaps.{value_of}
 use Rattle.problem_core.specs.Kept.{AreRising}
-use Rattle.layout_engine.specs.Layouts.{stays_at, zeros}
+use Rattle.layout_solver.specs.Layouts.{stays_at, zeros}
 use Rattle.session_undo.specs.Scene.{moved, new_stays, new_values}
 use Rattle.session_undo.proofs.Lists.{all-unmapped, pairs-tail}
 

@@ -33,49 +33,58 @@ refuses F G (refusal.Spent path) to h = to _ h
 refuses F G refusal.OutOfMemory to h = h
 
 -- the engine's end is the step's
-run-accepts : (draft : Scene) (old : State) (path : Path) (scene : Scene) → IsSolved draft old.budget path scene → SolvesFree old draft Done (record old { scene = scene })
-run-accepts draft old path scene solved = inl (record { done = refl; path = path; solved = solved; kept = refl })
+abbrev Solved : Scene → State → Scene → Type 0
+Solved draft old scene = (path : Path) × IsSolved old.scene draft old.budget path scene
 
-run-solves : (draft : Scene) (old : State) (path : Path) (scene : Scene) → IsSolved draft old.budget path scene → Solves old draft Done (record old { scene = scene })
-run-solves draft old path scene solved = inr (run-accepts draft old path scene solved)
+run-accepts : (draft : Scene) (old : State) (scene : Scene) → Solved draft old scene → SolvesFree old draft Done (record old { scene = scene })
+run-accepts draft old scene solved = inl (record { done = refl; path = solved.0; solved = solved.1; kept = refl })
+
+run-solves : (draft : Scene) (old : State) (scene : Scene) → Solved draft old scene → Solves old draft Done (record old { scene = scene })
+run-solves draft old scene solved = inr (run-accepts draft old scene solved)
 
 -- what stops the engine on a draft's problem refuses the draft
-free-refuses : (draft : Scene) (old : State) (stop : RunStop) → StopsAt old.scene draft old.budget stop → IsNoConflict stop → MayRefuse (λ reply. SolvesFree old draft reply old) (refusal_of stop)
-free-refuses draft old (run.Conflict by) (rows, are, (before, known, is)) free = absurd free
-free-refuses draft old (run.Unfit at) (rows, are, (before, known, is)) free =
-    inr (inl (record { path = at.path; quantity = at.quantity; rows = rows; are = are; before = before; known = known; cut = is; refused = (refl, refl) }))
-free-refuses draft old (run.Spent path) (rows, are, (before, known, is)) free = inr (inr (record { path = path; rows = rows; are = are; spent = is; refused = (refl, refl) }))
-free-refuses draft old run.OutOfMemory is free = tt
+free-refuses : (draft : Scene) (old : State) (stop : RunStop) → StopsAt old.scene draft old.budget stop → IsNoConflict stop
+    → MayRefuse (λ reply. SolvesFree old draft reply old) (refusal_of stop)
+free-refuses draft old (run.Conflict by) stopped free = absurd free
+free-refuses draft old (run.Unfit at) stopped free = inr (inl (record { at = at; stopped = stopped; refused = (refl, refl) }))
+free-refuses draft old (run.Spent path) stopped free = inr (inr (record { path = path; stopped = stopped; refused = (refl, refl) }))
+free-refuses draft old run.OutOfMemory stopped free = tt
 
-stop-refuses : (draft : Scene) (old : State) (stop : RunStop) → StopsAt old.scene draft old.budget stop → MayRefuse (λ reply. Solves old draft reply old) (refusal_of stop)
-stop-refuses draft old (run.Conflict by) (rows, are, (before, known, is)) = inl (record { by = by; rows = rows; are = are; shown = is.0; refused = (refl, refl) })
-stop-refuses draft old (run.Unfit at) (rows, are, (before, known, is)) =
-    inr (inr (inl (record { path = at.path; quantity = at.quantity; rows = rows; are = are; before = before; known = known; cut = is; refused = (refl, refl) })))
-stop-refuses draft old (run.Spent path) (rows, are, (before, known, is)) = inr (inr (inr (record { path = path; rows = rows; are = are; spent = is; refused = (refl, refl) })))
-stop-refuses draft old run.OutOfMemory is = tt
+stop-refuses : (draft : Scene) (old : State) (stop : RunStop) → StopsAt old.scene draft old.budget stop
+    → MayRefuse (λ reply. Solves old draft reply old) (refusal_of stop)
+stop-refuses draft old (run.Conflict by) stopped =
+    inl (record { by = by; rows = stopped.rows; are = stopped.are; shown = stopped.stops; refused = (refl, refl) })
+stop-refuses draft old (run.Unfit at) stopped = inr (inr (inl (record { at = at; stopped = stopped; refused = (refl, refl) })))
+stop-refuses draft old (run.Spent path) stopped = inr (inr (inr (record { path = path; stopped = stopped; refused = (refl, refl) })))
+stop-refuses draft old run.OutOfMemory stopped = tt
 
 -- ---- the answer to a run
 
 module _ (draft : Scene) (old : State) (scene : Scene) where
-  pub free-accepted : (end : Result Path RunStop) → IfOk end (λ path. IsSolved draft old.budget path scene) → IfOk (answer_of end) (λ reply. SolvesFree old draft (accepted reply) (record old { scene = scene }))
-  free-accepted (Ok path) solved = run-accepts draft old path scene solved
+  pub free-accepted : (end : Result (Unit {0}) RunStop) → IfOk end (λ done. Solved draft old scene)
+      → IfOk (answer_of end) (λ reply. SolvesFree old draft (accepted reply) (record old { scene = scene }))
+  free-accepted (Ok done) solved = run-accepts draft old scene solved
   free-accepted (Err stop) solved = tt
 
-  pub free-refused : (end : Result Path RunStop) → IfErr end (StopsAt old.scene draft old.budget) → IfErr end IsNoConflict → IfErr (answer_of end) (MayRefuse (λ reply. SolvesFree old draft reply old))
-  free-refused (Ok path) stops free = tt
+  pub free-refused : (end : Result (Unit {0}) RunStop) → IfErr end (StopsAt old.scene draft old.budget) → IfErr end IsNoConflict
+      → IfErr (answer_of end) (MayRefuse (λ reply. SolvesFree old draft reply old))
+  free-refused (Ok done) stops free = tt
   free-refused (Err stop) stops free = free-refuses draft old stop stops free
 
-  pub run-accepted : (end : Result Path RunStop) → IfOk end (λ path. IsSolved draft old.budget path scene) → IfOk (answer_of end) (λ reply. Solves old draft (accepted reply) (record old { scene = scene }))
-  run-accepted (Ok path) solved = run-solves draft old path scene solved
+  pub run-accepted : (end : Result (Unit {0}) RunStop) → IfOk end (λ done. Solved draft old scene)
+      → IfOk (answer_of end) (λ reply. Solves old draft (accepted reply) (record old { scene = scene }))
+  run-accepted (Ok done) solved = run-solves draft old scene solved
   run-accepted (Err stop) solved = tt
 
-  pub run-refused : (end : Result Path RunStop) → IfErr end (StopsAt old.scene draft old.budget) → IfErr (answer_of end) (MayRefuse (λ reply. Solves old draft reply old))
-  run-refused (Ok path) stops = tt
+  pub run-refused : (end : Result (Unit {0}) RunStop) → IfErr end (StopsAt old.scene draft old.budget)
+      → IfErr (answer_of end) (MayRefuse (λ reply. Solves old draft reply old))
+  run-refused (Ok done) stops = tt
   run-refused (Err stop) stops = stop-refuses draft old stop stops
 
 -- a scene that is as before makes the session so
-pub answer-same : (old : State) (scene : Scene) (end : Result Path RunStop) → OnErr end (scene ≡ old.scene) → OnErr (answer_of end) (record old { scene = scene } ≡ old)
-answer-same old scene (Ok path) same = tt
+pub answer-same : (old : State) (scene : Scene) (end : Result (Unit {0}) RunStop) → OnErr end (scene ≡ old.scene)
+    → OnErr (answer_of end) (record old { scene = scene } ≡ old)
+answer-same old scene (Ok done) same = tt
 answer-same old scene (Err stop) same = ap (λ (s : Scene). record old { scene = s }) same
 
 -- the stops of a compiler exclude each other

@@ -10,7 +10,7 @@ use Rattle.problem_core.specs.declared.parts.Term.{Term}
 use Rattle.problem_core.specs.Layout.{Row, Problem, HasStay, IsCovered}
 use Rattle.problem_core.specs.Kept.{IsNumber, IsRow, IsStay, IsWhole, AreRising}
 use Rattle.problem_core.specs.Window.{zero_fraction}
-use Rattle.layout_engine.specs.Layouts.{stays_at, zeros}
+use Rattle.layout_solver.specs.Layouts.{stays_at, zeros}
 use Rattle.session_undo.specs.Attributes.{HasOnly}
 use Rattle.session_undo.proofs.Lists.{pairs-map, pairs-unmapped, all-unmapped, rising-append}
 

@@ -1,5 +1,5 @@
 -- Parts of the steps.
-use Rattle.std.specs.Prelude.{◌≡◌, ◌⊎◌, ℕ, ◌+◌, ◌<◌, ◌≤◌, Bool, true, false, List, [], ◌∷◌, ◌++◌, length, Some, None, IsSome, All}
+use Rattle.std.specs.Prelude.{◌≡◌, ◌⊎◌, ℕ, ◌+◌, ◌<◌, ◌≤◌, List, [], ◌∷◌, ◌++◌, length, Some, IsSome}
 use Rattle.name_tables.specs.declared.stops.LimitWord.{LimitWord}
 use Rattle.name_tables.specs.declared.stops.LimitWord.TheVariants as word
 use Rattle.view_tree.specs.Views.{ViewTree, LiveView, view_named}
@@ -12,11 +12,10 @@ use Rattle.constraint_compile.specs.declared.stops.CompileStop.{CompileStop}
 use Rattle.constraint_compile.specs.declared.stops.CompileStop.TheVariants as stop
 use Rattle.cert_core.specs.declared.stops.RunStop.{RunStop}
 use Rattle.cert_core.specs.declared.stops.RunStop.TheVariants as run
-use Rattle.layout_engine.specs.Layouts.{Layout, with_rows}
-use Rattle.layout_engine.specs.Stops.{IsStopOf}
+use Rattle.layout_solver.specs.Layouts.{Layout, with_rows}
+use Rattle.layout_solver.specs.Begins.{Start, IsStopFrom}
 use Rattle.std.specs.declared.result.Result.{Result}
 use Rattle.std.specs.declared.result.Result.TheVariants.{Ok, Err}
-use Rattle.cert_core.specs.Paths.{Path}
 use Rattle.session_undo.specs.declared.reply.Reply as answer
 use Rattle.session_undo.specs.declared.reply.Reply.TheVariants as good
 use Rattle.session_undo.specs.declared.reply.Refusal.{Refusal}
@@ -24,8 +23,9 @@ use Rattle.session_undo.specs.declared.reply.Refusal.TheVariants as refusal
 use Rattle.session_undo.specs.Attributes.{IsNextLine}
 use Rattle.session_undo.specs.Items.{OfView}
 use Rattle.session_undo.specs.Replies.{Reply, Unknown, Limit, Kind}
-use Rattle.session_undo.specs.Scene.{Scene, State, with_metric, moved, new_stays, draft_problem, AreDraftRows, metrics_with}
-use Rattle.session_undo.specs.Machine.{AreBefore, Unless, Keeps, IsCrowded, HasAllLines, IsTaken, IsDeep, AreNear, AreTooMany, HasAllViews}
+use Rattle.session_undo.specs.Scene.{Scene, State, moved, new_stays, AreDraftRows, metrics_with}
+use Rattle.session_undo.specs.Machine.{IsStopped, Unless, Keeps, IsCrowded, HasAllLines, IsTaken, IsDeep}
+use Rattle.session_undo.specs.Machine.{AreNear, AreTooMany, HasAllViews}
 
 -- ---- stops
 
@@ -37,26 +37,31 @@ refusal_of (run.Spent path) = refusal.Spent path
 refusal_of run.OutOfMemory = refusal.OutOfMemory
 
 -- the answer to what a run comes to
-abbrev pub answer_of : Result Path RunStop → Result answer.Reply Refusal
-answer_of (Ok path) = Ok good.Done
+abbrev pub answer_of : Result (Unit {0}) RunStop → Result answer.Reply Refusal
+answer_of (Ok done) = Ok good.Done
 answer_of (Err stop) = Err (refusal_of stop)
 
--- why the engine of the scene stops at the draft's rows
-abbrev pub StopsOver : Scene → Scene → ℕ → RunStop → Type 0
-StopsOver scene draft budget stop =
-    (rows : List Row) × AreDraftRows draft rows
-    × ((before : List Row) × AreBefore scene draft before × IsStopOf before (draft_problem draft rows) budget stop)
+-- where an engine begins that takes more rows: at the corner that it kept
+abbrev pub from_corner : Layout → List Row → Start
+from_corner l rows = record { before = l.problem.rows; joining = rows; kept = l.corner }
 
--- why an engine that takes these rows stops: they are those that it has, or all of them join anew
+-- where one begins that takes all its rows anew
+abbrev pub from_none : List Row → Start
+from_none rows = record { before = []; joining = rows; kept = [] }
+
+-- where one may begin that takes these rows: they are those that it has, or all of them join anew
+abbrev pub MayBegin : Layout → List Row → Start → Type 0
+MayBegin l rows s = ((rows ≡ l.problem.rows) × (s ≡ from_corner l [])) ⊎ (s ≡ from_none rows)
+
+-- why one stops that takes these rows
 abbrev pub StopsAnew : Layout → List Row → ℕ → RunStop → Type 0
-StopsAnew l rows budget stop = (before : List Row) × ((before ≡ l.problem.rows) ⊎ (before ≡ []))
-    × IsStopOf before (with_rows l rows) budget stop
+StopsAnew l rows budget stop = (s : Start) × MayBegin l rows s × IsStopFrom s (with_rows l rows) budget stop
 
--- the same where memory may be wanting
+-- why the run from the scene to the draft stops, where memory may be wanting
 abbrev pub StopsAt : Scene → Scene → ℕ → RunStop → Type 0
-StopsAt scene draft budget (run.Conflict by) = StopsOver scene draft budget (run.Conflict by)
-StopsAt scene draft budget (run.Unfit at) = StopsOver scene draft budget (run.Unfit at)
-StopsAt scene draft budget (run.Spent path) = StopsOver scene draft budget (run.Spent path)
+StopsAt scene draft budget (run.Conflict by) = IsStopped scene draft budget (run.Conflict by)
+StopsAt scene draft budget (run.Unfit at) = IsStopped scene draft budget (run.Unfit at)
+StopsAt scene draft budget (run.Spent path) = IsStopped scene draft budget (run.Spent path)
 StopsAt scene draft budget run.OutOfMemory = Unit {0}
 
 abbrev pub IsNoConflict : RunStop → Type 0

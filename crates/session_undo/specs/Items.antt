@@ -1,5 +1,5 @@
 -- What is held, and the rows that it stands for.
-use Rattle.std.specs.Prelude.{◌≡◌, ℕ, ◌+◌, ◌*◌, Bool, true, false, cond, List, [], ◌∷◌, ◌++◌, length, filter, map, All}
+use Rattle.std.specs.Prelude.{◌≡◌, ℕ, ◌+◌, ◌*◌, Bool, true, false, cond, List, [], ◌∷◌, ◌++◌, length, filter, map}
 use Rattle.frac_core.specs.Fraction.{Fraction}
 use Rattle.problem_core.specs.declared.parts.Rel.TheVariants.{Eq, Ge}
 use Rattle.problem_core.specs.Layout.{Row}

@@ -5,7 +5,7 @@ use Rattle.constraint_compile.specs.Meaning.{MetricList}
 use Rattle.constraint_compile.specs.declared.stops.CompileStop.{CompileStop}
 use Rattle.constraint_compile.specs.declared.stops.CompileStop.TheVariants.{Unknown, Kind, Limit, OutOfMemory}
 use Rattle.view_tree.specs.Views.{ViewTree}
-use Rattle.layout_engine.specs.Layouts.{Layout}
+use Rattle.layout_solver.specs.Layouts.{Layout}
 use Rattle.session_undo.specs.declared.item.Item as declared
 use Rattle.session_undo.specs.declared.item.WindowSize.{WindowSize}
 use Rattle.session_undo.specs.declared.item.Item.TheVariants as kind

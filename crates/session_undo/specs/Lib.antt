@@ -1,5 +1,6 @@
 pub mod Adding
 pub mod Attributes
+pub mod Frames
 pub mod Items
 pub mod Kept
 pub mod Machine

@@ -1,18 +1,19 @@
 -- The step of a session: what a command leads to.
-use Rattle.std.specs.Prelude.{◌≡◌, ℕ, ◌+◌, ◌^◌, ◌<◌, ◌≤◌, ◌⊎◌, List, [], length, codes, Option, Some, None, IsSome, false, slice_index_or, All}
+use Rattle.std.specs.Prelude.{◌≡◌, ℕ, ◌+◌, ◌^◌, ◌<◌, ◌≤◌, ◌⊎◌, List, [], ◌++◌, length, codes, Option, Some}
+use Rattle.std.specs.Prelude.{None, IsSome, false, slice_index_or, All}
 use Rattle.frac_core.specs.Fraction.{Fraction}
 use Rattle.name_tables.specs.Names.{names_of, place_of, value_of}
 use Rattle.name_tables.specs.declared.stops.LimitWord.TheVariants as word
 use Rattle.view_tree.specs.Views.{LiveView, ViewTree, IsOnLevel, view_named}
-use Rattle.problem_core.specs.declared.stops.Quantity.{Quantity}
-use Rattle.problem_core.specs.Layout.{Row, Problem}
+use Rattle.problem_core.specs.Layout.{Row}
 use Rattle.cert_core.specs.declared.by.By.{By}
 use Rattle.cert_core.specs.Paths.{Path}
 use Rattle.cert_core.specs.Stops.{IsShownConflict}
+use Rattle.cert_core.specs.declared.stops.UnfitPath.{UnfitPath}
+use Rattle.cert_core.specs.declared.stops.RunStop.{RunStop}
+use Rattle.cert_core.specs.declared.stops.RunStop.TheVariants as run
 use Rattle.vfl_text.specs.Formats.{FormatMeaning}
-use Rattle.problem_core.specs.Paths.{last_marks}
-use Rattle.layout_engine.specs.Layouts.{GivesAt, StandsAtStays}
-use Rattle.layout_engine.specs.Stops.{IsCut, IsLawful, IsSpent}
+use Rattle.layout_solver.specs.Begins.{Start, IsReached, IsRunFrom, IsStopFrom}
 use Rattle.script_text.specs.declared.words.Align.{Align}
 use Rattle.script_text.specs.Meaning.{Meaning, Linear}
 use Rattle.script_text.specs.Meaning as mean
@@ -26,8 +27,10 @@ use Rattle.constraint_compile.specs.FormatRows.{IsCompiledFormat, MayStopFormat}
 use Rattle.constraint_compile.specs.declared.stops.CompileStop.{CompileStop}
 use Rattle.constraint_compile.specs.declared.stops.CompileStop.TheVariants as stop
 use Rattle.session_undo.specs.Items.{IsSmallItem, line_count, has_size}
-use Rattle.session_undo.specs.Scene.{Scene, State, with_view, with_metric, with_window, with_line, problem_of, draft_problem, AreDraftRows, Becomes}
-use Rattle.session_undo.specs.Replies.{Reply, Done, Nothing, Frames, Rows, Unknown, Taken, Limit, Kind, Conflict, Overflow, Spent}
+use Rattle.session_undo.specs.Scene.{Scene, State, with_view, with_metric, with_window, with_line, problem_of}
+use Rattle.session_undo.specs.Scene.{draft_problem, AreDraftRows, Becomes}
+use Rattle.session_undo.specs.Replies.{Reply, Done, Nothing, Frames, Rows, Unknown, Taken, Limit, Kind}
+use Rattle.session_undo.specs.Replies.{Conflict, Overflow, Spent}
 
 -- where the fact holds, this refusal and no change; otherwise as F says
 abbrev pub Unless : Type 0 → Reply → State → (Reply → State → Type 0) → Reply → State → Type 0
@@ -44,24 +47,44 @@ Keeps answer old reply new = (reply ≡ answer) × (new ≡ old)
 
 -- ---- solving
 
--- a lawful path over the problem leads from a corner at the stays' targets to one at these values, by no more
--- exchanges than these
-pub record IsRun (p : Problem) (budget : ℕ) (path : Path) (values : List (ℕ × Fraction)) : Type 0 where
-  pub begins : StandsAtStays p path.corner
-  pub lawful : IsLawful p path
-  pub ends : GivesAt p (last_marks path.corner path.swaps) values
-  pub few : length path.swaps ≤ budget
+-- the scene's rows are there before, and the marks are those of a corner that was kept for its values
+pub record IsKeptStart (scene : Scene) (s : Start) : Type 0 where
+  pub before : s.before ≡ scene.rows
+  pub kept : IsReached (problem_of scene) s.kept scene.values
 
--- the scene is this draft with its rows and the best values, to which a path within the budget leads
-pub record IsSolved (draft : Scene) (budget : ℕ) (path : Path) (new : Scene) : Type 0 where
+-- no row is there before, and no corner was kept; the draft holds no more than the scene, so that constants
+-- alone may have changed
+pub record IsNewStart (scene draft : Scene) (s : Start) : Type 0 where
+  pub before : s.before ≡ []
+  pub kept : s.kept ≡ []
+  pub held : length draft.held ≡ length scene.held
+
+-- where the path from a scene to a draft begins, of which these are the rows: those before and those that
+-- join
+pub record IsStart (scene draft : Scene) (rows : List Row) (s : Start) : Type 0 where
+  pub parts : rows ≡ s.before ++ s.joining
+  pub from : IsKeptStart scene s ⊎ IsNewStart scene draft s
+
+-- the new scene is this draft with its rows and the best values, to which a path within the budget leads
+pub record IsSolved (scene draft : Scene) (budget : ℕ) (path : Path) (new : Scene) : Type 0 where
   pub becomes : Becomes draft new
-  pub run : IsRun (problem_of new) budget path new.values
+  pub start : Start
+  pub begins : IsStart scene draft new.rows start
+  pub run : IsRunFrom start (problem_of new) budget path new.values
+
+-- the run to the draft stops so
+pub record IsStopped (scene draft : Scene) (budget : ℕ) (stop : RunStop) : Type 0 where
+  pub rows : List Row
+  pub are : AreDraftRows draft rows
+  pub start : Start
+  pub begins : IsStart scene draft rows start
+  pub stops : IsStopFrom start (draft_problem draft rows) budget stop
 
 -- the command is accepted, and the scene is this draft solved
 pub record Accepts (draft : Scene) (old : State) (reply : Reply) (new : State) : Type 0 where
   pub done : reply ≡ Done
   pub path : Path
-  pub solved : IsSolved draft old.budget path new.scene
+  pub solved : IsSolved old.scene draft old.budget path new.scene
   pub kept : new ≡ record old { scene = new.scene }
 
 -- the required rows of the draft have no solution, as multipliers of them show
@@ -72,28 +95,16 @@ pub record Conflicts (draft : Scene) (old : State) (reply : Reply) (new : State)
   pub shown : IsShownConflict (draft_problem draft rows) by
   pub refused : Keeps (Conflict by) old reply new
 
--- the rows that are there before the draft's join: those of the scene, or none where the draft holds nothing more,
--- so that constants alone may change and all rows join anew
-abbrev pub AreBefore : Scene → Scene → List Row → Type 0
-AreBefore scene draft before = (before ≡ scene.rows) ⊎ ((before ≡ []) × (length draft.held ≡ length scene.held))
-
 -- a quantity doesn't fit at the end of a path over the draft's rows, within the budget
 pub record Overflows (draft : Scene) (old : State) (reply : Reply) (new : State) : Type 0 where
-  pub path : Path
-  pub quantity : Quantity
-  pub rows : List Row
-  pub are : AreDraftRows draft rows
-  pub before : List Row
-  pub known : AreBefore old.scene draft before
-  pub cut : IsCut before (draft_problem draft rows) old.budget path quantity
-  pub refused : Keeps (Overflow path quantity) old reply new
+  pub at : UnfitPath
+  pub stopped : IsStopped old.scene draft old.budget (run.Unfit at)
+  pub refused : Keeps (Overflow at.path at.quantity) old reply new
 
--- a path has just the budget's exchanges
+-- a path over the draft's rows has just the budget's exchanges, and its last corner is no end
 pub record Spends (draft : Scene) (old : State) (reply : Reply) (new : State) : Type 0 where
   pub path : Path
-  pub rows : List Row
-  pub are : AreDraftRows draft rows
-  pub spent : IsSpent (draft_problem draft rows) old.budget path
+  pub stopped : IsStopped old.scene draft old.budget (run.Spent path)
   pub refused : Keeps (Spent path) old reply new
 
 -- the draft, whose required rows have a solution, is solved, or there is no change

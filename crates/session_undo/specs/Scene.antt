@@ -10,7 +10,7 @@ use Rattle.view_tree.specs.Views.{ViewTree, window}
 use Rattle.view_tree.specs.Views as tree
 use Rattle.constraint_compile.specs.Meaning.{MetricList}
 use Rattle.constraint_compile.specs.Compiled.{CompiledLine}
-use Rattle.layout_engine.specs.Layouts.{AreBest, stays_at}
+use Rattle.layout_solver.specs.Layouts.{AreBest, stays_at}
 use Rattle.session_undo.specs.Items.{Item, OfWindow, OfView, Sized, OfLine, AreRows, has_size, resized}
 
 -- the views, the metrics in order of definition, what is held in order of acceptance, the number that the next row

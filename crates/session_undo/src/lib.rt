@@ -5,6 +5,7 @@
 #![tactic(auto)]
 
 mod changes;
+mod frames;
 mod item;
 mod limits;
 mod renewal;

@@ -79,11 +79,11 @@ fn refusal_of(stop: RunStop) -> Refusal
 }
 
 /// The answer to what a run comes to.
-pub fn answer_of(end: Result<Path, RunStop>) -> Result<Reply, Refusal>
+pub fn answer_of(end: Result<(), RunStop>) -> Result<Reply, Refusal>
     ensures { result ≡ answer_of end }
 {
     match end {
-        Ok(_) => Ok(Reply::Done),
+        Ok(()) => Ok(Reply::Done),
         Err(stop) => Err(refusal_of(stop)),
     }
 }

@@ -1,19 +1,21 @@
 // The scene: what a script has said so far, and the engine that solves it.
-ghost use Rattle.std.specs.Prelude.{◌≡◌, ◌<◌, ◌≤◌, ◌^◌, ◌+◌, true, false, length, vec_len, vec_capacity, IfOk, IfErr, OnOk, OnErr};
+ghost use Rattle.std.specs.Prelude.{◌≡◌, ◌<◌, ◌≤◌, ◌^◌, ◌+◌, true, false, length, vec_len, vec_capacity};
+ghost use Rattle.std.specs.Prelude.{None, slice_get, IfOk, IfErr, IfSome, IfNone, OnOk, OnErr};
 
+use crate::frames::{frame_of, place_of};
 use crate::item::{Item, WindowSize, has_size, line_count, resize_all};
 use crate::renewal::{take_more, take_rows};
 use crate::rows::{resized_rows, rows_of, size_rows, view_rows, window_rows};
 use crate::showing::show_rows;
-use cert_core::{Path, RunStop};
+use cert_core::RunStop;
 use constraint_compile::{CompileStop, Compiled};
-use frac_core::OutOfMemory;
-use layout_engine::Engine;
+use frac_core::{Frac, OutOfMemory};
+use layout_solver::Engine;
 use name_tables::{Metrics, OwnedName};
 use problem_core::Row;
 use std::alloc::Global;
 use std::marker::Model;
-use view_tree::Tree;
+use view_tree::{Tree, ViewId};
 
 /// The views, the metrics, what is held, and the engine with the rows of it and the best values.
 #[derive(Drop)]
@@ -50,9 +52,11 @@ fn make_room(items: &mut Vec<Item>) -> Result<(), OutOfMemory>
 }
 
 impl Scene {
-    ghost use Rattle.view_tree.specs.Views.{IsTree};
+    ghost use Rattle.view_tree.specs.Views.{IsTree, view_of};
+    ghost use Rattle.cert_core.specs.Paths as paths;
     ghost use Rattle.constraint_compile.specs.Compiled.{AreRowsNow};
     ghost use Rattle.session_undo.specs.Attributes.{IsNextLine, IsGrown};
+    ghost use Rattle.session_undo.specs.Frames.{IsFrameAt, IsFrameOf};
     ghost use Rattle.session_undo.specs.Items.{AreRows, IsSmallItem, has_size, line_count};
     ghost use Rattle.session_undo.specs.Kept.{MayLackRows, items_of};
     ghost use Rattle.session_undo.specs.Scene.{first_scene, with_line, with_window, AreDraftRows};
@@ -69,10 +73,10 @@ impl Scene {
         let rows = window_rows(alloc)?;
         show_rows(&rows);
         // The first run needs no exchange, and all numbers fit, so it is memory that is wanting.
-        let Ok(_path) = engine.add(&[1, 2, 3, 4], &rows, FIRST_RUN) else {
+        let Ok(()) = engine.add(&[1, 2, 3, 4], &rows, FIRST_RUN) else {
             return Err(OutOfMemory);
         };
-        let _best = engine.problem();
+        engine.show_layout();
         Ok(Scene {
             tree: Tree::new(alloc)?,
             metrics: Metrics::new(alloc)?,
@@ -114,6 +118,31 @@ impl Scene {
         &self.engine
     }
 
+    /// Left, top, width and height of the view at a place, counted from 0 in order of creation. There is none
+    /// exactly past the end.
+    pub fn frame_at(&self, place: usize) -> Option<[Frac; 4]>
+        ensures some { IfSome result (IsFrameAt self.now place) }
+        ensures none { IfNone result (slice_get self.now.tree.views place ≡ None) }
+    {
+        let _count = self.tree.len();
+        match self.tree.at(place) {
+            Some(view) => Some(frame_of(&self.engine, view.id.0)),
+            None => None,
+        }
+    }
+
+    /// Left, top, width and height of a view, in window coordinates. There is none exactly where no view has
+    /// the number.
+    pub fn frame(&self, view: ViewId) -> Option<[Frac; 4]>
+        ensures some { IfSome result (IsFrameOf self.now view.0) }
+        ensures none { IfNone result (view_of self.now.tree.views view.0 ≡ None) }
+    {
+        match place_of(&self.tree, view) {
+            Some(place) => self.frame_at(place),
+            None => None,
+        }
+    }
+
     /// How many lines of groups are held.
     pub fn line_count(&self) -> usize
         ensures { result ≡ line_count self.now.held }
@@ -128,7 +157,8 @@ impl Scene {
         has_size(&self.items)
     }
 
-    /// The rows of what is held, for these metrics. It stops at `Limit(Constant)` where a constant isn't small after some term.
+    /// The rows of what is held, for these metrics. It stops at `Limit(Constant)` where a constant isn't small after
+    /// some term.
     pub fn rows_for(&self, metrics: &Metrics) -> Result<Vec<Row>, CompileStop>
         ensures rows { IfOk result (λ rows. AreRows metrics.now self.now.held rows.items) }
         ensures stop { IfErr result (MayLackRows metrics.now self.now.held) }
@@ -137,12 +167,13 @@ impl Scene {
     }
 
     /// Takes this tree, in which the view of this number is new.
-    pub fn take_view(&mut self, tree: Tree, id: u32, budget: u64) -> Result<Path, RunStop>
+    pub fn take_view(&mut self, tree: Tree, id: u32, budget: u64) -> Result<(), RunStop>
         requires id { id < 2 ^ 29 }
         requires grown { IsGrown self.old.tree.views tree.views id }
         requires room { length self.old.rows + 2 ≤ 2000 }
         requires number { self.old.next_row < 2 ^ 31 }
-        ensures solved { IfOk result (λ path. IsSolved (view_draft self.old tree id) budget path self.new) }
+        ensures solved { IfOk result (λ _. (path : paths.Path)
+            × IsSolved self.old (view_draft self.old tree id) budget path self.new) }
         ensures stop { IfErr result (StopsAt self.old (view_draft self.old tree id) budget) }
         ensures free { IfErr result IsNoConflict }
         ensures same { OnErr result (self.new ≡ self.old) }
@@ -153,15 +184,15 @@ impl Scene {
         show_rows(&rows);
         let attrs = [4 * id + 1, 4 * id + 2, 4 * id + 3, 4 * id + 4];
         make_room(&mut self.items)?;
-        let path = match take_more(&mut self.engine, &attrs, &rows, budget) {
-            Ok(path) => path,
+        match take_more(&mut self.engine, &attrs, &rows, budget) {
+            Ok(()) => (),
             Err(stop) => return Err(stop),
-        };
-        let _best = self.engine.problem();
+        }
+        self.engine.show_layout();
         self.items.push_reserved(Item::OfView { first, id });
         self.next_row = first + 2;
         self.tree = tree;
-        Ok(path)
+        Ok(())
     }
 
     /// Takes these metrics, for which these are the rows.
@@ -170,30 +201,33 @@ impl Scene {
         metrics: Metrics,
         rows: &[Row],
         budget: u64,
-    ) -> Result<Path, RunStop>
+    ) -> Result<(), RunStop>
         requires { AreRows metrics self.old.held rows.now }
-        ensures solved { IfOk result (λ path. IsSolved (metrics_draft self.old metrics) budget path self.new) }
+        ensures solved { IfOk result (λ _. (path : paths.Path)
+            × IsSolved self.old (metrics_draft self.old metrics) budget path self.new) }
         ensures stop { IfErr result (StopsAt self.old (metrics_draft self.old metrics) budget) }
         ensures same { OnErr result (self.new ≡ self.old) }
     {
         self.engine.show_layout();
         show_rows(rows);
-        let path = match take_rows(&mut self.engine, rows, budget) {
-            Ok(path) => path,
+        match take_rows(&mut self.engine, rows, budget) {
+            Ok(()) => (),
             Err(stop) => return Err(stop),
-        };
-        let _best = self.engine.problem();
+        }
+        self.engine.show_layout();
         self.metrics = metrics;
-        Ok(path)
+        Ok(())
     }
 
     // The window has a size for the first time, which takes two rows.
-    fn size_first(&mut self, size: &WindowSize, budget: u64) -> Result<Path, RunStop>
+    fn size_first(&mut self, size: &WindowSize, budget: u64) -> Result<(), RunStop>
         requires none { has_size self.old.held ≡ false }
         requires room { length self.old.rows + 2 ≤ 2000 }
         requires number { self.old.next_row < 2 ^ 31 }
-        ensures solved { IfOk result (λ path. IsSolved (with_window self.old size.now.width size.now.height) budget path self.new) }
-        ensures stop { IfErr result (StopsAt self.old (with_window self.old size.now.width size.now.height) budget) }
+        ensures solved { IfOk result (λ _. (path : paths.Path)
+            × IsSolved self.old (with_window self.old size.now.width size.now.height) budget path self.new) }
+        ensures stop { IfErr result
+            (StopsAt self.old (with_window self.old size.now.width size.now.height) budget) }
         ensures same { OnErr result (self.new ≡ self.old) }
     {
         let first = self.next_row;
@@ -202,45 +236,49 @@ impl Scene {
         make_room(&mut self.items)?;
         self.engine.show_layout();
         let _count = self.tree.len();
-        let path = match take_more(&mut self.engine, &[], &rows, budget) {
-            Ok(path) => path,
+        match take_more(&mut self.engine, &[], &rows, budget) {
+            Ok(()) => (),
             Err(stop) => return Err(stop),
-        };
-        let _best = self.engine.problem();
+        }
+        self.engine.show_layout();
         self.items.push_reserved(Item::Sized {
             first,
             width: size.width,
             height: size.height,
         });
         self.next_row = first + 2;
-        Ok(path)
+        Ok(())
     }
 
     // The window has another size.
-    fn size_again(&mut self, size: &WindowSize, budget: u64) -> Result<Path, RunStop>
+    fn size_again(&mut self, size: &WindowSize, budget: u64) -> Result<(), RunStop>
         requires some { has_size self.old.held ≡ true }
-        ensures solved { IfOk result (λ path. IsSolved (with_window self.old size.now.width size.now.height) budget path self.new) }
-        ensures stop { IfErr result (StopsAt self.old (with_window self.old size.now.width size.now.height) budget) }
+        ensures solved { IfOk result (λ _. (path : paths.Path)
+            × IsSolved self.old (with_window self.old size.now.width size.now.height) budget path self.new) }
+        ensures stop { IfErr result
+            (StopsAt self.old (with_window self.old size.now.width size.now.height) budget) }
         ensures same { OnErr result (self.new ≡ self.old) }
     {
         let rows = resized_rows(self.alloc, &self.items, &self.metrics, size)?;
         self.engine.show_layout();
         show_rows(&rows);
-        let path = match take_rows(&mut self.engine, &rows, budget) {
-            Ok(path) => path,
+        match take_rows(&mut self.engine, &rows, budget) {
+            Ok(()) => (),
             Err(stop) => return Err(stop),
-        };
-        let _best = self.engine.problem();
+        }
+        self.engine.show_layout();
         resize_all(&mut self.items, size);
-        Ok(path)
+        Ok(())
     }
 
     /// Takes this size of the window. The first takes two rows, for which there is to be room.
-    pub fn take_size(&mut self, size: &WindowSize, budget: u64) -> Result<Path, RunStop>
+    pub fn take_size(&mut self, size: &WindowSize, budget: u64) -> Result<(), RunStop>
         requires room { has_size self.old.held ≡ false → length self.old.rows + 2 ≤ 2000 }
         requires number { has_size self.old.held ≡ false → self.old.next_row < 2 ^ 31 }
-        ensures solved { IfOk result (λ path. IsSolved (with_window self.old size.now.width size.now.height) budget path self.new) }
-        ensures stop { IfErr result (StopsAt self.old (with_window self.old size.now.width size.now.height) budget) }
+        ensures solved { IfOk result (λ _. (path : paths.Path)
+            × IsSolved self.old (with_window self.old size.now.width size.now.height) budget path self.new) }
+        ensures stop { IfErr result
+            (StopsAt self.old (with_window self.old size.now.width size.now.height) budget) }
         ensures same { OnErr result (self.new ≡ self.old) }
     {
         if has_size(&self.items) {
@@ -256,25 +294,26 @@ impl Scene {
         line: Compiled,
         rows: &[Row],
         budget: u64,
-    ) -> Result<Path, RunStop>
+    ) -> Result<(), RunStop>
         requires rows { AreRowsNow self.old.metrics line.rows rows.now }
         requires next { IsNextLine self.old.tree.views self.old.next_row line }
         requires room { length self.old.rows + length rows.now ≤ 2000 }
         requires number { self.old.next_row + length rows.now ≤ 2 ^ 31 }
-        ensures solved { IfOk result (λ path. IsSolved (with_line self.old group line) budget path self.new) }
+        ensures solved { IfOk result (λ _. (path : paths.Path)
+            × IsSolved self.old (with_line self.old group line) budget path self.new) }
         ensures stop { IfErr result (StopsAt self.old (with_line self.old group line) budget) }
         ensures same { OnErr result (self.new ≡ self.old) }
     {
         make_room(&mut self.items)?;
         self.engine.show_layout();
         show_rows(rows);
-        let path = match take_more(&mut self.engine, &[], rows, budget) {
-            Ok(path) => path,
+        match take_more(&mut self.engine, &[], rows, budget) {
+            Ok(()) => (),
             Err(stop) => return Err(stop),
-        };
-        let _best = self.engine.problem();
+        }
+        self.engine.show_layout();
         self.items.push_reserved(Item::OfLine { group, line });
         self.next_row += rows.len() as u32;
-        Ok(path)
+        Ok(())
     }
 }

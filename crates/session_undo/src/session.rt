@@ -1,5 +1,6 @@
 // The session, and what each command does to it.
-ghost use Rattle.std.specs.Prelude.{◌≡◌, ◌<◌, ◌≤◌, ◌^◌, ◌+◌, ◌++◌, ◌⊎◌, true, false, length, None, IsSome, IfOk, IfErr, IfSome, IfNone, OnErr};
+ghost use Rattle.std.specs.Prelude.{◌≡◌, ◌<◌, ◌≤◌, ◌^◌, ◌+◌, ◌++◌, ◌⊎◌, true, false, length, None, IsSome};
+ghost use Rattle.std.specs.Prelude.{IfOk, IfErr, IfSome, IfNone, OnErr};
 
 use crate::changes::{are_near, parent_or_window, put_metric};
 use crate::item::WindowSize;
@@ -10,14 +11,14 @@ use crate::scene::Scene;
 use crate::showing::show_terms;
 use constraint_compile::{CompileStop, Compiled, compile_format, compile_line, format_row_count};
 use frac_core::{Frac, OutOfMemory};
-use layout_engine::Engine;
+use layout_solver::Engine;
 use name_tables::{LimitWord, Metrics, NAME_LIMIT, OwnedName};
 use problem_core::Row;
 use script_text::{Align, Command, Linear};
 use std::alloc::Global;
 use std::marker::Model;
 use vfl_text::Format;
-use view_tree::{Tree, TreeStop};
+use view_tree::{Tree, TreeStop, ViewId};
 
 /// How many exchanges a run may make at the start.
 const FIRST_BUDGET: u64 = 100_000;
@@ -73,10 +74,12 @@ struct NewLine {
 impl Session {
     ghost use Rattle.script_text.specs.View.{view, linear_view};
     ghost use Rattle.vfl_text.specs.View.{meaning};
+    ghost use Rattle.view_tree.specs.Views.{view_of};
     ghost use Rattle.constraint_compile.specs.Compiled.{AreRowsNow, AreSmallForms};
     ghost use Rattle.constraint_compile.specs.Stops.{IsCompiled};
     ghost use Rattle.constraint_compile.specs.FormatRows.{IsCompiledFormat};
     ghost use Rattle.session_undo.specs.Attributes.{IsNextLine};
+    ghost use Rattle.session_undo.specs.Frames.{IsFrameOf};
     ghost use Rattle.session_undo.specs.Scene.{first_state, with_line, with_window, with_metric};
     ghost use Rattle.session_undo.specs.Replies.{accepted, MayRefuse};
     ghost use Rattle.session_undo.specs.Items.{has_size};
@@ -100,7 +103,7 @@ impl Session {
         ensures yes { result ≡ true → IsCrowded self.now count }
         ensures no { result ≡ false → IsCrowded self.now count → ⊥ }
     {
-        let held = self.scene.engine().problem().rows().len();
+        let held = self.scene.engine().rows().len();
         if count > self.limits.rows || held > self.limits.rows - count {
             return true;
         }
@@ -198,7 +201,7 @@ impl Session {
             Err(CompileStop::OutOfMemory) => return Err(Refusal::OutOfMemory),
             Err(CompileStop::Unknown(_) | CompileStop::Kind(_)) => unreachable!(),
         };
-        if !are_near(self.scene.engine().problem().rows(), &rows) {
+        if !are_near(self.scene.engine().rows(), &rows) {
             return Err(Refusal::Limit(LimitWord::Constant));
         }
         Ok(NewMetrics { metrics, rows })
@@ -429,6 +432,15 @@ impl Session {
         ensures { result.now ≡ self.now.scene }
     {
         &self.scene
+    }
+
+    /// Left, top, width and height of a view, in window coordinates. There is none exactly where no view has
+    /// the number.
+    pub fn frame(&self, view: ViewId) -> Option<[Frac; 4]>
+        ensures some { IfSome result (IsFrameOf self.now.scene view.0) }
+        ensures none { IfNone result (view_of self.now.scene.tree.views view.0 ≡ None) }
+    {
+        self.scene.frame(view)
     }
 
     /// The engine: the problem of the rows of all that is held, and its best values.

@@ -5,5 +5,5 @@ use Rattle.claim_text.proofs.problem_writer.text_of.Goals as goal
 
 pub returns : goal.returns
 returns c =
-    problem_text_is (string_bytes c.put_rows.new.text) (string_bytes c.put_stays.new.text) (map row_line c.args.p.now.rows) (map stay_line c.args.p.now.stays)
-    (rw (c.new-text.ensures.bytes, c.rows.ensures) at c.in_ok-put_rows.ensures) (rw c.stays.ensures at c.in_ok-put_stays.ensures)
+    problem_text_is (string_bytes c.put_rows.new.text) (string_bytes c.put_stays.new.text) (map row_line c.args.rows.now) (map stay_line c.args.stays.now)
+    (rw c.new-text.ensures.bytes at c.in_ok-put_rows.ensures) c.in_ok-put_stays.ensures

@@ -1,10 +1,10 @@
-use Rattle.std.proofs.Common.{◌≡◌, ◌≤◌, ◌++◌, take, length, string_bytes}
+use Rattle.std.proofs.Common.{◌≡◌, ◌≤◌, ◌++◌, take, length}
 use Rattle.layout_cli.specs.Replies.{text_of_each, frame_of}
 use Rattle.layout_cli.proofs.frames.push_frames.Given as goal
 
 abbrev pub invariant-loop-place : goal.invariant-loop-place
 invariant-loop-place l = record {
   within : l.place ≤ l.place-end;
-  is_end : l.place-end ≡ length l.tree.views;
-  text : l.out.items ≡ l.fn.out.items ++ text_of_each (frame_of l.engine.values) (take l.place l.tree.views);
+  is_end : l.place-end ≡ length l.scene.tree.views;
+  text : l.out.items ≡ l.fn.out.items ++ text_of_each (frame_of l.scene.values) (take l.place l.scene.tree.views);
 }

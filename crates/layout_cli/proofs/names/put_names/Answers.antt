@@ -1,5 +1,4 @@
-use Rattle.std.proofs.Common.{◌≡◌, ◌++◌, map, take, length, arith, string_bytes, sym, ap, ◌∙◌}
-use Rattle.std.proofs.lemmas.List.{take_all}
+use Rattle.std.proofs.Common.{arith, string_bytes, sym}
 use Rattle.layout_cli.specs.Replies.{names_of}
 use Rattle.layout_cli.proofs.EachView.{text_more, some_view}
 use Rattle.layout_cli.proofs.names.put_names.Goals.{in-Some+in_ok-put_names_of-in-Some, in-None}

@@ -1,4 +1,4 @@
-use Rattle.std.proofs.Common.{◌≡◌, ◌∙◌, true, false, sym, refl, rules}
+use Rattle.std.proofs.Common.{◌≡◌, ◌∙◌, true, false, sym, rules}
 use Rattle.session_undo.specs.Items.{is_size}
 use Rattle.session_undo.specs.Kept.{item_of}
 use Rattle.session_undo.proofs.ItemRows.{size-more, size-at}

@@ -5,18 +5,19 @@ use Rattle.session_undo.specs.Kept.{items_of}
 use Rattle.session_undo.specs.Scene.{Scene}
 use Rattle.session_undo.proofs.ItemRows.{items-more}
 use Rattle.session_undo.proofs.Solved.{first-stops, first-solved, first-kept}
-use Rattle.session_undo.proofs.Additions.{settled, size-whole, still-rising, counted-size}
+use Rattle.session_undo.proofs.Reached.{settled}
+use Rattle.session_undo.proofs.Additions.{size-whole, still-rising, counted-size}
 use Rattle.session_undo.proofs.scene.Scene.size_first.Goals as goal
 
 pub returns-in-Err-clause-stop : goal.returns-in-Err-clause-stop
 returns-in-Err-clause-stop c =
     rw (← c.self.view_is)
-    (first-stops c.self.inside.tree c.self.inside.metrics (items_of c.self.inside.items.items) c.self.inside.next_row c.self.inside.engine c.self.invariant (settled c.self.inside.engine c.show_layout.ensures.whole c.show_layout.ensures.best c.show_layout.ensures.kept c.show_layout.ensures.rising)
+    (first-stops c.self.inside.tree c.self.inside.metrics (items_of c.self.inside.items.items) c.self.inside.next_row c.self.inside.engine c.self.invariant c.show_layout.ensures.layout
     c.args.size.now.width c.args.size.now.height c.in_ok-rows.rows.items c.args.budget c.in-Err.stop (rw (← c.self.view_is) at c.requires.none) c.in_ok-rows.ensures (rw c.deref-2.ensures.value at c.in-Err.ensures.stop))
 
 pub invariant_of-self-2 : goal.invariant_of-self-2
 invariant_of-self-2 c =
-    first-kept c.self.inside.tree c.self.inside.metrics (items_of c.self.inside.items.items) c.self.inside.next_row c.self.inside.engine c.self.invariant (settled c.self.inside.engine c.show_layout.ensures.whole c.show_layout.ensures.best c.show_layout.ensures.kept c.show_layout.ensures.rising)
+    first-kept c.self.inside.tree c.self.inside.metrics (items_of c.self.inside.items.items) c.self.inside.next_row c.self.inside.engine c.self.invariant c.show_layout.ensures.layout
     (items_of c.push_reserved.new.self.items) c.take_more.new.engine c.args.size.now.width c.args.size.now.height c.in_ok-rows.rows.items c.in_ok-rows.ensures (subst (λ (s : Scene). s.next_row < 2 ^ 31) (sym c.self.view_is) c.requires.number) (rw c.deref-2.ensures.value at c.in-Ok.ensures.done)
     (items-more c.self.inside.items.items c.push_reserved.new.self.items (kind.Sized c.self.inside.next_row c.args.size.now.width c.args.size.now.height) (c.push_reserved.ensures.items ∙ ap (λ (is : List declared.Item). is ++ (kind.Sized c.self.inside.next_row c.args.size.now.width c.args.size.now.height) ∷ []) c.in_ok-make_room.ensures.items))
     (counted-size c.self.inside.tree.views c.self.inside.next_row c.self.inside.engine c.args.size.now.width c.args.size.now.height c.in_ok-rows.rows.items c.take_more.new.engine.problem c.show_layout.ensures.best.attributes c.self.invariant.counted
@@ -25,15 +26,15 @@ invariant_of-self-2 c =
 pub returns-clause-solved : goal.returns-clause-solved
 returns-clause-solved c =
     rw (← c.self.view_is)
-    (first-solved c.self.inside.tree c.self.inside.metrics (items_of c.self.inside.items.items) c.self.inside.next_row c.self.inside.engine c.self.invariant (settled c.self.inside.engine c.show_layout.ensures.whole c.show_layout.ensures.best c.show_layout.ensures.kept c.show_layout.ensures.rising)
-    (items_of c.push_reserved.new.self.items) c.take_more.new.engine c.args.size.now.width c.args.size.now.height c.in_ok-rows.rows.items c.args.budget c.in-Ok.path (rw (← c.self.view_is) at c.requires.none) c.in_ok-rows.ensures (rw c.deref-2.ensures.value at c.in-Ok.ensures.done) c.problem-best.ensures.best c.in-Ok.ensures.run
+    (first-solved c.self.inside.tree c.self.inside.metrics (items_of c.self.inside.items.items) c.self.inside.next_row c.self.inside.engine c.self.invariant c.show_layout.ensures.layout
+    (items_of c.push_reserved.new.self.items) c.take_more.new.engine c.args.size.now.width c.args.size.now.height c.in_ok-rows.rows.items c.args.budget (rw (← c.self.view_is) at c.requires.none) c.in_ok-rows.ensures (rw c.deref-2.ensures.value at c.in-Ok.ensures.done) c.show_layout-2.ensures.best (rw c.deref-2.ensures.value at c.in-Ok.ensures.run)
     (items-more c.self.inside.items.items c.push_reserved.new.self.items (kind.Sized c.self.inside.next_row c.args.size.now.width c.args.size.now.height) (c.push_reserved.ensures.items ∙ ap (λ (is : List declared.Item). is ++ (kind.Sized c.self.inside.next_row c.args.size.now.width c.args.size.now.height) ∷ []) c.in_ok-make_room.ensures.items)))
 
 pub take_more-requires : goal.take_more-requires
 take_more-requires c =
     rw c.deref-2.ensures.value
     (record {
-      whole = size-whole c.self.inside.tree c.self.inside.next_row c.self.inside.engine c.args.size.now.width c.args.size.now.height c.in_ok-rows.rows.items c.len-count.ensures.tree (settled c.self.inside.engine c.show_layout.ensures.whole c.show_layout.ensures.best c.show_layout.ensures.kept c.show_layout.ensures.rising) c.self.invariant.counted
+      whole = size-whole c.self.inside.tree c.self.inside.next_row c.self.inside.engine c.args.size.now.width c.args.size.now.height c.in_ok-rows.rows.items c.len-count.ensures.tree (settled c.self.inside.engine c.show_layout.ensures.layout) c.self.invariant.counted
           c.in_ok-rows.ensures (rw c.deref.ensures.value at c.show_rows.ensures) (subst (λ (s : Scene). length s.rows + 2 ≤ 2000) (sym c.self.view_is) c.requires.room);
       rising = still-rising c.self.inside.engine c.show_layout.ensures.rising;
     })

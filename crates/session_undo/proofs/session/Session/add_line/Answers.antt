@@ -1,4 +1,4 @@
-use Rattle.std.proofs.Common.{◌+◌, ◌≤◌, ◌^◌, arith, ℕ, length, subst, sym}
+use Rattle.std.proofs.Common.{ℕ, length, subst, sym}
 use Rattle.session_undo.specs.Machine.{IsCrowded}
 use Rattle.session_undo.specs.Scene.{with_line}
 use Rattle.session_undo.specs.Kept.{session_at}

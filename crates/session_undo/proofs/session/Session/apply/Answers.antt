@@ -1,9 +1,16 @@
 use Rattle.std.proofs.Common.{List, ℕ, subst}
-use Rattle.std.specs.Prelude.{IfErr}
+use Rattle.std.specs.Prelude.{IfOk, IfErr}
 use Rattle.script_text.specs.View.{name_view}
-use Rattle.session_undo.specs.Replies.{Reply, MayRefuse}
+use Rattle.session_undo.specs.declared.reply.Reply as answer
+use Rattle.session_undo.specs.Replies.{Reply, MayRefuse, accepted}
 use Rattle.session_undo.specs.Machine.{TriedView, SolvesFree, parent_name}
 use Rattle.session_undo.proofs.session.Session.apply.Goals as goal
+
+pub returns-in-View-clause-accepted : goal.returns-in-View-clause-accepted
+returns-in-View-clause-accepted c =
+    let step : IfOk c.add_view.result (λ (reply : answer.Reply). TriedView c.args.self.now c.in-View.name.now (parent_name (name_view c.in-View.parent)) (SolvesFree c.args.self.now) (accepted reply) c.add_view.new.self) =
+    subst (λ (p : List ℕ). IfOk c.add_view.result (λ (reply : answer.Reply). TriedView c.args.self.now c.in-View.name.now p (SolvesFree c.args.self.now) (accepted reply) c.add_view.new.self)) c.parent_or_window.ensures c.add_view.ensures.accepted in
+    rw c.in-View.is step
 
 pub returns-in-View-clause-refused : goal.returns-in-View-clause-refused
 returns-in-View-clause-refused c =
@@ -22,3 +29,9 @@ returns-in-Metric-clause-refused c = rw c.in-Metric.is c.set_metric.ensures.refu
 
 pub returns-in-Vfl-clause-refused : goal.returns-in-Vfl-clause-refused
 returns-in-Vfl-clause-refused c = rw c.in-Vfl.is c.add_format.ensures.refused
+
+pub returns-in-Metric-clause-accepted : goal.returns-in-Metric-clause-accepted
+returns-in-Metric-clause-accepted c = rw c.in-Metric.is c.set_metric.ensures.accepted
+
+pub returns-in-Vfl-clause-accepted : goal.returns-in-Vfl-clause-accepted
+returns-in-Vfl-clause-accepted c = rw c.in-Vfl.is c.add_format.ensures.accepted

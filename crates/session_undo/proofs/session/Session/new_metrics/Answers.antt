@@ -1,6 +1,5 @@
-use Rattle.std.proofs.Common.{◌≡◌, true, refl, rules}
+use Rattle.std.proofs.Common.{◌≡◌, true, rules}
 use Rattle.view_tree.specs.Views.{view_named}
-use Rattle.session_undo.specs.Items.{AreRows}
 use Rattle.session_undo.specs.Machine.{AreNear}
 use Rattle.session_undo.specs.Adding.{NoEnd}
 use Rattle.session_undo.specs.Kept.{session_at}

@@ -1,12 +1,10 @@
-use Rattle.std.proofs.Common.{◌≡◌, None, IsSome, inl, refl, sym, subst}
-use Rattle.view_tree.specs.Views.{ViewTree, view_of}
-use Rattle.view_tree.specs.Stops.{MayStop, IsNewView}
+use Rattle.std.proofs.Common.{inl, refl}
+use Rattle.view_tree.specs.Stops.{MayStop}
 use Rattle.view_tree.specs.declared.stops.TreeStop.TheVariants.{Unknown, Taken}
-use Rattle.session_undo.specs.Scene.{State}
 use Rattle.session_undo.specs.Machine.{IsTaken}
 use Rattle.session_undo.specs.Kept.{session_at}
 use Rattle.session_undo.specs.Adding.{NoEnd}
-use Rattle.session_undo.proofs.Chains.{IsAsked, found-live, view-limited, view-full, view-free}
+use Rattle.session_undo.proofs.Chains.{IsAsked, found-live, view-full, view-free}
 use Rattle.session_undo.proofs.session.Session.new_view.Goals as goal
 
 pub unreachable-requires : goal.unreachable-requires
