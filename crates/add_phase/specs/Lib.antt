@@ -1,6 +1,0 @@
-pub mod Unfit
-pub mod Runs
-pub mod Shares
-pub mod Ratios
-pub mod Steps
-pub mod InsideMarks

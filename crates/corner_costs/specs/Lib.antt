@@ -1,2 +1,0 @@
-pub mod Corners
-pub mod Changes

@@ -1,9 +1,0 @@
-pub mod Written
-pub mod Tables
-pub mod Exchanges
-pub mod Joining
-pub mod Dropping
-pub mod Moving
-pub mod Columns
-pub mod Indexes
-pub mod Views
