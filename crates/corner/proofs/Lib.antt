@@ -13,6 +13,7 @@ pub mod KeptFacts
 pub mod MarkingFacts
 pub mod MoverFacts
 pub mod MovedFacts
+pub mod EntryFacts
 pub mod LevelNumberFacts
 pub mod LevelRowFacts
 pub mod LevelReadFacts
@@ -34,6 +35,12 @@ pub mod StoodLevels
 pub mod StoodColumns
 pub mod StoodKept
 pub mod StoodTables
+pub mod ShiftLines
+pub mod ShiftCosts
+pub mod ShiftGrowths
+pub mod ShiftValues
+pub mod ShiftKept
+pub mod ShiftTables
 pub mod AttrRows
 pub mod AttrJoins
 pub mod AttrLevels
@@ -84,3 +91,7 @@ pub mod LevelCosts
 pub mod LevelTurns
 pub mod TurnedChanges
 pub mod JoinedCandidates
+pub mod GrownSlots
+pub mod GrownLists
+pub mod GrownInside
+pub mod GrownRows

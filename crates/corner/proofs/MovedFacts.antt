@@ -120,7 +120,7 @@ by_sides Under Over y h = omega (arith, ints, h)
 by_sides Over Under y h = omega (arith, ints, h)
 by_sides Over Over y h = omega (arith, ints, h)
 
-no_entry : (side : Side) (what : What) (y : ℤ) → neg_ℤ (y *ℤ (sign_of side *ℤ sign_of_what what)) ≡ pos 0 → y ≡ pos 0
+pub no_entry : (side : Side) (what : What) (y : ℤ) → neg_ℤ (y *ℤ (sign_of side *ℤ sign_of_what what)) ≡ pos 0 → y ≡ pos 0
 no_entry side (AttrOf attr) y h = by_sides side Over y h
 no_entry side (MarkOf m) y h = by_sides side m.side y h
 no_entry side (LevelOf level) y h = by_sides side Over y h
@@ -237,14 +237,14 @@ other_inside : (t : Lists) (m : Mark) (s : Side) → IsKept t → IsOutside (pro
 other_inside t m s kept out e =
     is_other m.side s (λ same. out.1 (stands_inside t m out.0 (subst (λ (o : Option Side). is_side o m.side ≡ true) (ap (λ (r : Side). Some r) same ∙ sym e) (side_itself m.side))))
 
-none_some : (o : Option Side) (s : Side) → o ≡ None → o ≡ Some s → ⊥
+pub none_some : (o : Option Side) (s : Side) → o ≡ None → o ≡ Some s → ⊥
 none_some o s e f = no_side s o e (subst (λ (p : Option Side). is_side p s ≡ true) (sym f) (side_itself s))
 
 only_one : (c w : ℕ) → Contains (c ∷ []) w → c ≡ w
 only_one c w (zero, lt, e) = e
 only_one c w (suc k, lt, e) = absurd (omega (arith, lt))
 
-not_zero : (own : ℕ) → 0 < own → pos own ≢ pos 0
+pub not_zero : (own : ℕ) → 0 < own → pos own ≢ pos 0
 not_zero own above e = let h : own ≡ 0 = ap unsigned_abs e in omega (arith, h, above)
 
 nothing_else : (t : Lists) (m : Mark) (s : Side) (what : What) → IsKept t → IsOutside (problem_of t) (marks_at t) m → (standing_at t (line_slot t m.row)).side ≡ Some s

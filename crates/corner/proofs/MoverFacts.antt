@@ -48,7 +48,7 @@ has_where p at m what z corner (c, column, (scale, form, value, writing, same)) 
 
 -- ---- one list of them
 
-filter_has : {X : Type 0} (p : X → Bool) (xs : List X) (x : X) → Contains xs x → p x ≡ true → Contains (filter p xs) x
+pub filter_has : {X : Type 0} (p : X → Bool) (xs : List X) (x : X) → Contains xs x → p x ≡ true → Contains (filter p xs) x
 filter_has p [] x (k, within, is) e = absurd (omega (arith, within))
 filter_has p (y ∷ xs) x (zero, within, is) e = subst (λ (b : Bool). Contains (cond b (y ∷ filter p xs) (filter p xs)) x) (sym (ap p is ∙ e)) (0, omega arith, is)
 filter_has p (y ∷ xs) x (suc k, within, is) e = behind (p y) (filter_has p xs x (k, omega (arith, within), is) e)
@@ -64,7 +64,7 @@ passed v m us ws k l move all a b o has e =
     All-contains (λ q. l q ≡ true) (filter l v.order) o (filter_passes l v.order)
     (subst (λ os. Contains os o) b (subst (λ q. Contains (map owner_of ws) q) i.is (to_map owner_of ws i.of (all i.of (All-contains (MovesWith v.problem v.marks m) us i.of move i.has)))))
 
-both_ways : (a b : Bool) → (a ≡ true → b ≡ true) → (b ≡ true → a ≡ true) → a ≡ b
+pub both_ways : (a b : Bool) → (a ≡ true → b ≡ true) → (b ≡ true → a ≡ true) → a ≡ b
 both_ways true true f g = refl
 both_ways true false f g = sym (f refl)
 both_ways false true f g = g refl
@@ -74,7 +74,7 @@ abbrev first_or : {X : Type 0} → X → List X → X
 first_or d [] = d
 first_or d (x ∷ xs) = x
 
-by_images : {X Y : Type 0} (f : X → Y) (M : X → Type 0) (xs ys : List X) → ((a b : X) → M a → M b → f a ≡ f b → a ≡ b) → Each M xs → Each M ys → map f xs ≡ map f ys → xs ≡ ys
+pub by_images : {X Y : Type 0} (f : X → Y) (M : X → Type 0) (xs ys : List X) → ((a b : X) → M a → M b → f a ≡ f b → a ≡ b) → Each M xs → Each M ys → map f xs ≡ map f ys → xs ≡ ys
 by_images f M [] [] one h k e = refl
 by_images f M [] (y ∷ ys) one h k e = let n : 0 ≡ suc (length (map f ys)) = ap length e in absurd (omega (arith, n))
 by_images f M (x ∷ xs) [] one h k e = let n : suc (length (map f xs)) ≡ 0 = ap length e in absurd (omega (arith, n))

@@ -8,7 +8,7 @@ use Rattle.problem_core.specs.Certificates.{Multipliers}
 use Rattle.problem_core.specs.Corners.{AreMultipliersAt, HasNegativeColumn, IsIn, IsLexNegative, column, place, place_of}
 use Rattle.corner.proofs.StoodLines.{AreSeenAlike, any_seen, each_seen, sum_seen}
 
-multipliers_seen : (p q : Problem) (at : List Mark) (m : Multipliers) → AreSeenAlike p q → AreMultipliersAt p at m → AreMultipliersAt q at m
+pub multipliers_seen : (p q : Problem) (at : List Mark) (m : Multipliers) → AreSeenAlike p q → AreMultipliersAt p at m → AreMultipliersAt q at m
 multipliers_seen p q at m same are = record {
   scales = are.scales;
   cancel = λ level v. sym (sum_seen (λ l. m.times level l.name *ℤ coefficient v l.form) p q same) ∙ are.cancel level v;

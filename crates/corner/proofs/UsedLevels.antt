@@ -1,6 +1,6 @@
 -- The levels in use, strongest first.
 use Rattle.std.proofs.Common.{◌≡◌, ◌≢◌, ◌∙◌, ℕ, zero, suc, ◌+◌, ◌-◌, ◌<◌, ◌≤◌, ◌++◌, cond, nat_eq, Bool, List, [], ◌∷◌, map, filter, length, refl, sym, ap, subst, arith, inl, inr, All, AllPairs, Any, Contains, ne_eqb, eq-eqb, slice_index_or}
-use Rattle.std.proofs.lemmas.Bool.{cases_eq}
+use Rattle.std.proofs.lemmas.Bool.{cases_eq, cases_lt}
 use Rattle.std.proofs.lemmas.List.Elements.{All-push, Contains-append_left, Contains-push}
 use Rattle.std.proofs.lemmas.List.Quantifiers.{all_pairs_push}
 use Rattle.problem_core.specs.declared.parts.RowName.TheVariants.{Stay as StayOf}
@@ -13,8 +13,8 @@ use Rattle.corner.specs.declared.table.TheConstants.{LEVELS}
 use Rattle.corner.specs.Tables.{Lists, level_slot, priority_at, problem_of}
 use Rattle.corner.specs.Kept.{IsKept}
 use Rattle.corner.specs.Views.{IsInUse, IsStronger}
-use Rattle.corner.proofs.LevelReadFacts.{same_level}
-use Rattle.corner.proofs.LevelUseFacts.{later-any, past-rows, same-attr, some-row, tail-level, used_level}
+use Rattle.corner.proofs.LevelReadFacts.{same_level, same_slot}
+use Rattle.corner.proofs.LevelUseFacts.{later-any, past-rows, same-attr, slots_in_order, some-row, tail-level, used_level}
 use Rattle.corner.proofs.NewTables.{less_or}
 use Rattle.corner.proofs.SlotFacts.{any_impl}
 
@@ -163,3 +163,22 @@ all_used t n levels le h a use-of =
     let is = used_level (problem_of t) a use-of in
     let within = number-within t a is.0 is.1 in
     h.all a is.0 is.1 use-of (omega (arith, within, le))
+
+-- ---- which of two is stronger
+
+pub stronger_slot : (t : Lists) (a b : Level) (j k : ℕ) → IsKept t → IsLevelAt (problem_of t) a j → IsLevelAt (problem_of t) b k → level_slot t a < level_slot t b → j < k
+stronger_slot t a b j k kept x y less =
+    elim (cases_lt j k) [
+      | inl before ↦ before
+      | inr after ↦ elim (cases_eq j k) [
+        | inl e ↦ let same : level_slot t a ≡ level_slot t b = same_slot t (level_slot t a) (level_slot t b) j k kept (a, x, refl) (b, y, refl) e in absurd (omega (arith, same, less))
+        | inr ne ↦ let back : level_slot t b < level_slot t a = slots_in_order t b a k j kept y x (omega (arith, after, ne)) in absurd (omega (arith, back, less))
+      ]
+    ]
+
+pub weaker_slot : (t : Lists) (a b : Level) (j k : ℕ) → IsKept t → IsLevelAt (problem_of t) a j → IsLevelAt (problem_of t) b k → level_slot t b ≤ level_slot t a → k ≤ j
+weaker_slot t a b j k kept x y le =
+    elim (cases_lt j k) [
+      | inl before ↦ let less = slots_in_order t a b j k kept x y before in absurd (omega (arith, le, less))
+      | inr after ↦ after
+    ]

@@ -1,6 +1,7 @@
 -- How a row that has joined the corner joins the cost of its level.
 use Rattle.std.specs.Prelude.{◌≡◌, ◌≢◌, ◌⊎◌, ℕ, ◌+◌, ◌-◌, ◌*◌, ◌/◌, ◌<◌, ◌≤◌, cond, nat_eq, List, [], ◌∷◌}
-use Rattle.std.specs.Prelude.{◌++◌, false, slice_set, ℤ, pos, ◌+ℤ◌, ◌*ℤ◌, unsigned_abs, All, Any, Contains, Some}
+use Rattle.std.specs.Prelude.{◌++◌, false, slice_set, ℤ, pos, ◌+ℤ◌, ◌*ℤ◌, unsigned_abs, All, Any, Contains}
+use Rattle.std.specs.Prelude.{Some}
 use Rattle.std.specs.Int.{IsGcd}
 use Rattle.frac_core.specs.Fraction as fractions
 use Rattle.frac_core.specs.Fraction.{Fraction, IsFitting}

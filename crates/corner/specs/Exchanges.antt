@@ -1,10 +1,12 @@
 -- What an exchange of two lines makes of the lists.
-use Rattle.std.specs.Prelude.{◌≡◌, ◌≢◌, ◌⊎◌, ℕ, ◌*◌, ◌<◌, ◌≤◌, cond, nat_eq, List, [], ◌∷◌, length, ℤ, pos, negsuc, neg_ℤ, ◌*ℤ◌, unsigned_abs, slice_set, All, Any, Contains, Some, None}
+use Rattle.std.specs.Prelude.{◌≡◌, ◌≢◌, ◌⊎◌, ℕ, ◌*◌, ◌<◌, ◌≤◌, cond, nat_eq, List, [], ◌∷◌, length, ℤ, pos}
+use Rattle.std.specs.Prelude.{negsuc, neg_ℤ, ◌*ℤ◌, unsigned_abs, slice_set, All, Any, Contains, Some, None}
 use Rattle.std.specs.declared.option.Option.{Option}
 use Rattle.frac_core.specs.Fraction.{Fraction, IsFitting, IsLowest, IsRatio, sum_den, sum_num}
 use Rattle.row_core.specs.Rows.{Term, coefficient, combination}
 use Rattle.problem_core.specs.declared.stops.What.{What}
-use Rattle.problem_core.specs.declared.stops.What.TheVariants.{Attr as AttrOf, Mark as MarkOf, Level as LevelOf}
+use Rattle.problem_core.specs.declared.stops.What.TheVariants.{Attr as AttrOf, Mark as MarkOf}
+use Rattle.problem_core.specs.declared.stops.What.TheVariants.{Level as LevelOf}
 use Rattle.indexed_rows.specs.Matrices.{IsBelow}
 use Rattle.problem_core.specs.declared.parts.RowName.{RowName}
 use Rattle.problem_core.specs.declared.parts.RowName.TheVariants.{Stay as StayOf}
@@ -27,10 +29,12 @@ use Rattle.corner.specs.declared.exchange.Exchange.{Exchange}
 use Rattle.corner.specs.declared.exchange.Pivot.{Pivot}
 use Rattle.corner.specs.declared.levels.Pair.{Pair}
 use Rattle.corner.specs.declared.table.Owner.{Owner}
-use Rattle.corner.specs.declared.table.Owner.TheVariants.{Level as LevelSlot, Attr as AttrSlot, Line as LineSlot}
+use Rattle.corner.specs.declared.table.Owner.TheVariants.{Level as LevelSlot, Attr as AttrSlot}
+use Rattle.corner.specs.declared.table.Owner.TheVariants.{Line as LineSlot}
 use Rattle.corner.specs.declared.table.Standing.{Standing}
 use Rattle.corner.specs.declared.table.TheConstants.{LEVELS}
-use Rattle.corner.specs.Tables.{Lists, entry, line_slot, marks_at, priority_at, problem_of, row_at, sign_of_what, slot_at, standing_at}
+use Rattle.corner.specs.Tables.{Lists, entry, line_slot, marks_at, priority_at, problem_of, row_at}
+use Rattle.corner.specs.Tables.{sign_of_what, slot_at, standing_at}
 use Rattle.corner.specs.Kept.{IsSlot, IsStayOwner}
 use Rattle.corner.specs.Views.{IsNamed}
 
@@ -167,7 +171,8 @@ abbrev pub IsPairStop : Lists → Pair → TableStop → Type 0
 IsPairStop t pair stop = (s : Swap) → IsPair t pair s → IsUnfitStop (problem_of t) (marks_after t s) stop
 
 abbrev pub IsPivotStop : Lists → Pivot → TableStop → Type 0
-IsPivotStop t pivot stop = (s : Swap) → IsPivotAt t pivot s → IsUnfitStop (problem_of t) (marks_after t s) stop
+IsPivotStop t pivot stop = (s : Swap) → IsPivotAt t pivot s
+    → IsUnfitStop (problem_of t) (marks_after t s) stop
 
 abbrev pub IsEnteringValue : Lists → Pair → Fraction → Type 0
 IsEnteringValue t pair value = (s : Swap) → IsPair t pair s → IsEntering t pair s value
@@ -306,7 +311,8 @@ turned_lists t line side (Some change) = with_change (turned_line t line side) c
 
 -- each slot in whose row the entering line stands, but the leaving line's, has its change
 abbrev pub ArePut : Lists → Pair → List Change → Type 0
-ArePut t pair changes = (w : ℕ) → w ≢ pair.leave → entry t w pair.enter ≢ pos 0 → Any (λ change. change.at ≡ w) changes
+ArePut t pair changes = (w : ℕ) → w ≢ pair.leave → entry t w pair.enter ≢ pos 0
+    → Any (λ change. change.at ≡ w) changes
 
 -- neither line counts or stands at the slots without a change
 abbrev pub IsRestUntouched : Lists → Pivot → List Change → Type 0

@@ -58,11 +58,3 @@ pub record HasSameHistory (old new : Table) : Type 0 where
   pub attr_slots : new.attr_slots.before ≡ old.attr_slots.before
   pub row_slots : new.row_slots.before ≡ old.row_slots.before
   pub priorities : new.priorities.before ≡ old.priorities.before
-
--- but for slots, standings and rows of numbers the lists of now are the same
-pub record HasSameOthers (old new : Table) : Type 0 where
-  pub rows : new.rows ≡ old.rows
-  pub stays : new.stays ≡ old.stays
-  pub attr_slots : new.attr_slots ≡ old.attr_slots
-  pub row_slots : new.row_slots ≡ old.row_slots
-  pub priorities : new.priorities ≡ old.priorities

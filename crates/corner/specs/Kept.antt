@@ -1,5 +1,6 @@
 -- What the lists of a corner keep.
-use Rattle.std.specs.Prelude.{◌≡◌, ◌≢◌, ◌⊎◌, ℕ, ◌^◌, ◌-◌, ◌*◌, ◌<◌, ◌≤◌, ◌+◌, cond, nat_eq, [], filter, length}
+use Rattle.std.specs.Prelude.{◌≡◌, ◌≢◌, ◌⊎◌, ℕ, ◌^◌, ◌-◌, ◌*◌, ◌<◌, ◌≤◌, ◌+◌, cond, nat_eq, [], filter}
+use Rattle.std.specs.Prelude.{length}
 use Rattle.std.specs.Prelude.{ℤ, pos, ◌*ℤ◌, All, Any, AllPairs, Some, None}
 use Rattle.std.specs.declared.option.Option.{Option}
 use Rattle.frac_core.specs.Fraction.{Fraction, IsFitting}

@@ -19,3 +19,5 @@ pub mod RowJoins
 pub mod RowSums
 pub mod CostJoins
 pub mod JoinedLists
+pub mod Shifting
+pub mod Entries

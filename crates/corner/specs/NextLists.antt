@@ -20,7 +20,8 @@ use Rattle.corner.specs.declared.exchange.Exchange.{Exchange}
 use Rattle.corner.specs.declared.levels.Pair.{Pair}
 use Rattle.corner.specs.declared.table.Standing.{Standing}
 use Rattle.corner.specs.declared.table.TheConstants.{LEVELS}
-use Rattle.corner.specs.Tables.{Lists, attr_slot, line_slot, marks_at, number, priority_at, problem_of, row_at}
+use Rattle.corner.specs.Tables.{Lists, attr_slot, line_slot, marks_at, number, priority_at, problem_of}
+use Rattle.corner.specs.Tables.{row_at}
 use Rattle.corner.specs.Tables.{standing_at}
 use Rattle.corner.specs.Kept.{AreOutside, AreSlots, HasStayRoom, level_own, row_count}
 use Rattle.corner.specs.Exchanges.{IsEquationBy, IsPair, marks_after}

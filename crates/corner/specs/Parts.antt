@@ -95,13 +95,6 @@ IsNextRow t r = (before : List Row) × (after : List Row) × (t.rows ≡ before 
     × ((priority_at t (1000 - r.rank)).rows
     ≡ length (filter (λ s. nat_eq (1000 - s.rank) (1000 - r.rank)) before))
 
--- the level has one row more, and the others are as they were
-pub record IsWithLevel (level : ℕ) (old new : Lists) : Type 0 where
-  pub problem : problem_of new ≡ problem_of old
-  pub marks : marks_at new ≡ marks_at old
-  pub here : (priority_at new level).rows ≡ (priority_at old level).rows + 1
-  pub others : (k : ℕ) → k ≢ level → priority_at new k ≡ priority_at old k
-
 -- want of memory, or the cost of the level's first rows, of which this is the last, that does not fit
 abbrev pub IsRowsStop : Lists → Row → TableStop → Type 0
 IsRowsStop t r (UnfitAt (Plain what)) = ⊥

@@ -1,6 +1,7 @@
 // A problem and one of its corners.
 ghost use Rattle.std.specs.Prelude.{◌≡◌, ◌≢◌, ◌<◌, ◌≤◌, ◌↔◌, ◌-◌, ◌+◌, ◌++◌, ℕ, List, [], ◌∷◌, pos, length};
-ghost use Rattle.std.specs.Prelude.{take, true, All, AllPairs, Any, Contains, IfOk, IfErr, IfSome, IfNone};
+ghost use Rattle.std.specs.Prelude.{false, take, true, All, AllPairs, Any, Contains, IfOk, IfErr, IfSome};
+ghost use Rattle.std.specs.Prelude.{IfNone};
 ghost use Rattle.std.specs.Prelude.{OnErr, OnOk, slice_get, Some};
 ghost use Rattle.problem_core.specs.Layout.{HasStay};
 ghost use Rattle.problem_core.specs.Kept.{IsWhole, IsNumber};
@@ -16,7 +17,9 @@ ghost use Rattle.problem_core.specs.declared.parts.Side.TheVariants.{Over};
 ghost use Rattle.problem_core.specs.declared.stops.What as what_type;
 ghost use Rattle.problem_core.specs.declared.stops.What.TheVariants.{Mark as MarkOf};
 ghost use Rattle.version_list.specs.declared.TheConstants.{MOST};
-ghost use Rattle.corner.specs.Views.{AreCandidates, AreMovers, HasNoFront, HasNumbers, HasValueAt};
+ghost use Rattle.corner.specs.Views.{AreCandidates, AreMovers, HasNoFront, HasNumbers};
+ghost use Rattle.corner.specs.Entries.{AreEntries};
+ghost use Rattle.corner.specs.Views.{HasValueAt};
 ghost use Rattle.corner.specs.Views.{IsCoefficientOf, IsFrontOf, IsInUse};
 ghost use Rattle.corner.specs.Views.{IsKeptCorner, IsLevelOf, IsMarkOf, IsNamed, IsOutside, IsReducedAt};
 ghost use Rattle.corner.specs.Views.{IsScaleOf, IsSettled};
@@ -24,6 +27,8 @@ ghost use Rattle.corner.specs.Views.{IsStronger, IsWritten, MovesWith};
 ghost use Rattle.corner.specs.Changes.{HasNoNegative, HasStood, IsAddStop, IsAsBefore, IsRewound};
 ghost use Rattle.corner.specs.Changes.{IsUnfitStop, scene_of};
 ghost use Rattle.corner.specs.Changes.{with_attr, with_rows};
+ghost use Rattle.corner.specs.Shifting.{IsNear};
+ghost use Rattle.corner_lines.specs.Shifts.{with_constant};
 ghost use Rattle.corner.specs.NextLists.{AreMarksBy, AreMarksTurned};
 ghost use Rattle.corner.specs.Exchanges.{IsPair, IsPairStop};
 ghost use Rattle.corner.specs.TurnedLevels.{IsTurn, IsTurnStop};
@@ -33,13 +38,19 @@ ghost use Rattle.corner.specs.Invariants.{IsConsistent, IsEarlier, view_of};
 
 use crate::exchange::{exchange_of, put_exchange};
 use crate::joining::{join_all, push_attr, stand_stays};
-use crate::levels::{Front, Pair, cost_at, front_of, reduced_at, scale_at, times_at, used};
+use crate::levels::{
+    Front, Pair, cost_at, front_of, is_stronger, reduced_at, scale_at, times_at, used,
+};
 use crate::listing::Listed;
 use crate::marking::marks_with;
+use crate::shifting::shift_row;
 use crate::slots::{level_slot, line_slot, name_at};
 use crate::table::{Table, back, forget, mark, new_table, rewind};
 use crate::turning::{put_turn, turn_of};
-use crate::writings::{attr_value, coefficient, denominator, is_inside, mark_value, mover, movers};
+use crate::writings::{
+    attr_value, coefficient, denominator, entries_in, entry_in, is_inside, mark_value, mover,
+    movers,
+};
 use cert_core::RunStop;
 use frac_core::{Frac, OutOfMemory};
 use problem_core::{Level, Mark, Row, RowName, Side, Stay, TableStop, What};
@@ -233,6 +244,25 @@ impl Corner {
         mover(&self.table, mark, i)
     }
 
+    /// How many outside lines have a number in the writing of the inside mark.
+    pub fn entries(&self, mark: Mark) -> usize
+        requires inside { IsIn (corners.place mark) self.now.marks }
+        ensures { (names : List row_type.RowName) × AreEntries self.now mark names × (length names ≡ result) }
+    {
+        entries_in(&self.table, mark)
+    }
+
+    /// One of the outside lines that have a number in the writing of the inside mark.
+    pub fn entry(&self, mark: Mark, i: usize) -> RowName
+        requires inside { IsIn (corners.place mark) self.now.marks }
+        requires within { (names : List row_type.RowName) × AreEntries self.now mark names
+            × (i < length names) }
+        ensures { (names : List row_type.RowName) → AreEntries self.now mark names
+            → slice_get names i ≡ Some result }
+    {
+        entry_in(&self.table, mark, i)
+    }
+
     /// The coefficient of an outside mark in the writing of an attribute or an inside mark.
     pub fn coefficient(&self, what: What, mark: Mark) -> i64
         requires what { IsWritten self.now.problem self.now.marks what }
@@ -307,6 +337,17 @@ impl Corner {
         let mut out = Vec::new(self.table.alloc);
         used(&self.table, &mut out)?;
         Ok(out)
+    }
+
+    /// Whether the first level is stronger.
+    pub fn is_stronger(&self, a: Level, b: Level) -> bool
+        requires a { IsLevelOf self.now.problem a }
+        requires b { IsLevelOf self.now.problem b }
+        ensures yes { result ≡ true → IsStronger self.now.problem a b }
+        ensures no { result ≡ false → (j k : ℕ) → IsLevelAt self.now.problem a j
+            → IsLevelAt self.now.problem b k → k ≤ j }
+    {
+        is_stronger(&self.table, a, b)
     }
 
     /// How many lines are listed as those that may have a negative column.
@@ -415,6 +456,31 @@ impl Corner {
         }
     }
 
+    /// Gives a row this constant, whose difference from the row's own fits. The marks inside stay, and values
+    /// may turn negative.
+    ///
+    /// `UnfitAt` names a quantity that does not fit where the row has the new constant. After a stop the
+    /// corner is that of the newest mark.
+    pub fn shift(&mut self, id: u32, to: Frac) -> Result<(), TableStop>
+        requires marked { 0 < length self.old.before }
+        requires near { IsNear self.old.problem id to }
+        ensures problem { IfOk result (λ _. self.new.problem ≡ with_constant id to self.old.problem) }
+        ensures marks { IfOk result (λ _. self.new.marks ≡ self.old.marks) }
+        ensures before { self.new.before ≡ self.old.before }
+        ensures candidates { IfOk result (λ _. self.new.candidates ≡ self.old.candidates) }
+        ensures stop { IfErr result
+            (IsUnfitStop (with_constant id to self.old.problem) self.old.marks) }
+        ensures same { OnErr result (IsRewound self.old self.new) }
+    {
+        match shift_row(&mut self.table, id, to) {
+            Ok(()) => Ok(()),
+            Err(stop) => {
+                take_back(&mut self.table, &mut self.listed);
+                Err(stop)
+            }
+        }
+    }
+
     /// Gives the stays the attributes' values as targets. No attribute's value changes. After want of memory
     /// the corner is that of the newest mark.
     pub fn stand(&mut self) -> Result<(), OutOfMemory>
@@ -453,6 +519,14 @@ impl Corner {
     {
         self.listed.clear();
         back(&mut self.table);
+    }
+
+    /// Takes back what was done since the newest of the earlier corners, which stays.
+    pub fn rewind(&mut self)
+        requires { 0 < length self.old.before }
+        ensures { IsRewound self.old self.new }
+    {
+        take_back(&mut self.table, &mut self.listed);
     }
 
     /// Forgets the oldest of the earlier corners.

@@ -1,6 +1,7 @@
 // Exchanges of an outside line for an inside one.
 ghost use Rattle.std.specs.Prelude.{◌≡◌, ◌≢◌, ◌⊎◌, ◌<◌, ◌≤◌, ◌*ℤ◌, ◌<ℤ◌, neg_ℤ, ℕ, pos};
-ghost use Rattle.std.specs.Prelude.{true, length, false, unsigned_abs, IfOk, IfErr, OnOk, OnErr, Ok, Err, All};
+ghost use Rattle.std.specs.Prelude.{true, length, false, unsigned_abs, IfOk, IfErr, OnOk, OnErr, Ok, Err};
+ghost use Rattle.std.specs.Prelude.{All};
 ghost use Rattle.frac_core.specs.Fraction as fraction;
 ghost use Rattle.frac_core.specs.Fraction.{IsFitting, IsRatio, IsUnfitRatio, sum_den, sum_num};
 ghost use Rattle.problem_core.specs.Corners.{Swap};
@@ -116,8 +117,8 @@ fn signed(by: i64, number: i64) -> i64
     if by < 0 { -number } else { number }
 }
 
-// The number times two signs.
-fn with_signs(number: i64, a: i64, b: i64) -> i64
+/// The number times two signs.
+pub(crate) fn with_signs(number: i64, a: i64, b: i64) -> i64
     requires number { IsFitting number }
     requires a { IsSign a }
     requires b { IsSign b }
@@ -127,8 +128,8 @@ fn with_signs(number: i64, a: i64, b: i64) -> i64
     if a == b { number } else { -number }
 }
 
-// The number with the other sign.
-fn opposite(number: i64) -> i64
+/// The number with the other sign.
+pub(crate) fn opposite(number: i64) -> i64
     requires { IsFitting number }
     ensures value { result ≡ neg_ℤ number }
     ensures fits { IsFitting result }
@@ -658,7 +659,7 @@ fn put_row(table: &mut Table, at: u32, row: IntRow) -> Result<(), OutOfMemory>
 }
 
 // Puts a value in place of a slot's, where it is another.
-fn put_value(table: &mut Table, at: u32, value: Frac) -> Result<(), OutOfMemory>
+pub(crate) fn put_value(table: &mut Table, at: u32, value: Frac) -> Result<(), OutOfMemory>
     requires slots { AreSlots (lists_of table.old) }
     requires within { at < length table.old.slots.items }
     ensures ok { OnOk result (lists_of table.new ≡ with_value (lists_of table.old) at value) }

@@ -1,20 +1,24 @@
 // What is read of the writings of the levels' costs.
-ghost use Rattle.std.specs.Prelude.{◌≡◌, ◌*ℤ◌, ◌<◌, length, All, AllPairs, Contains, IfSome, IfNone, OnOk, ℕ, [], None, true, ◌↔◌};
+ghost use Rattle.std.specs.Prelude.{◌≡◌, ◌*ℤ◌, ◌<◌, ◌≤◌, length, All, AllPairs, Contains, IfSome, IfNone};
+ghost use Rattle.std.specs.Prelude.{OnOk};
+ghost use Rattle.std.specs.Prelude.{ℕ, [], None, true, false, ◌↔◌};
 ghost use Rattle.frac_core.specs.Fraction.{IsFitting};
 ghost use Rattle.problem_core.specs.declared.parts.Level as level_type;
-ghost use Rattle.problem_core.specs.Levels.{IsCostAt};
+ghost use Rattle.problem_core.specs.Levels.{IsCostAt, IsLevelAt};
 ghost use Rattle.corner_lines.specs.LineEquations.{sign_of};
 ghost use Rattle.corner.specs.Fitting as fitting;
 ghost use Rattle.corner.specs.LevelNumbers as numbers;
-ghost use Rattle.corner.specs.LevelNumbers.{IsCost, IsLevelSlot, IsLinesSlot, HasReducedAt, IsFirstInColumn, IsFirstSlot, IsLevelThere, IsNoneInColumn, IsSlotOfLevel, IsSlotOfLine, own_at, unit_at};
+ghost use Rattle.corner.specs.LevelNumbers.{IsCost, IsLevelSlot, IsLinesSlot, HasReducedAt};
+ghost use Rattle.corner.specs.LevelNumbers.{IsFirstInColumn, IsFirstSlot, IsLevelThere, IsNoneInColumn};
+ghost use Rattle.corner.specs.LevelNumbers.{IsSlotOfLevel, IsSlotOfLine, own_at, unit_at};
 ghost use Rattle.corner.specs.Kept.{AreSlots, HasCost, IsKept};
 ghost use Rattle.corner.specs.Tables as tables;
 ghost use Rattle.corner.specs.Tables.{lists_of, marks_at, problem_of};
-ghost use Rattle.corner.specs.Views.{HasNoFront, IsFrontOf, IsInUse, IsMarkOf, IsStronger};
+ghost use Rattle.corner.specs.Views.{HasNoFront, IsFrontOf, IsInUse, IsLevelOf, IsMarkOf, IsStronger};
 
 use crate::slots::{
-    cost_share, is_level, is_stay, level_of, line_slot, own_of, own_of_level, priority_at, side_at,
-    slot_at, unit_of, value_at,
+    cost_share, is_level, is_stay, level_of, level_slot, line_slot, own_of, own_of_level,
+    priority_at, side_at, slot_at, unit_of, value_at,
 };
 use crate::table::{LEVELS, Slot, Standing, Table};
 use frac_core::Frac;
@@ -40,7 +44,8 @@ pub(crate) fn scale_at(table: &Table, l: u32) -> i64
 pub(crate) fn cost_at(table: &Table, l: u32) -> Frac
     requires kept { IsKept (lists_of table.now) }
     requires level { IsLevelSlot (lists_of table.now) l }
-    ensures { (k : ℕ) → IsSlotOfLevel (lists_of table.now) l k → IsCostAt (problem_of (lists_of table.now)) (marks_at (lists_of table.now)) k result }
+    ensures { (k : ℕ) → IsSlotOfLevel (lists_of table.now) l k
+        → IsCostAt (problem_of (lists_of table.now)) (marks_at (lists_of table.now)) k result }
 {
     value_at(table, l)
 }
@@ -139,7 +144,8 @@ pub(crate) fn reduced_at(table: &Table, l: u32, mark: Mark) -> i64
     requires kept { IsKept (lists_of table.now) }
     requires level { IsLevelSlot (lists_of table.now) l }
     requires mark { IsMarkOf (problem_of (lists_of table.now)) mark }
-    ensures { result ≡ numbers.reduced_at (lists_of table.now) l (tables.line_slot (lists_of table.now) mark.row) mark.side }
+    ensures { result ≡ numbers.reduced_at (lists_of table.now) l
+        (tables.line_slot (lists_of table.now) mark.row) mark.side }
 {
     reduced_of(table, l, line_slot(table, mark.row), mark.side)
 }
@@ -217,14 +223,28 @@ fn first_slot(table: &Table, line: u32, side: Side) -> Option<u32>
 pub(crate) fn front_of(table: &Table, mark: Mark) -> Option<Front>
     requires kept { IsKept (lists_of table.now) }
     requires mark { IsMarkOf (problem_of (lists_of table.now)) mark }
-    ensures some { IfSome result (IsFrontOf (problem_of (lists_of table.now)) (marks_at (lists_of table.now)) mark) }
-    ensures none { IfNone result (HasNoFront (problem_of (lists_of table.now)) (marks_at (lists_of table.now)) mark) }
+    ensures some { IfSome result
+        (IsFrontOf (problem_of (lists_of table.now)) (marks_at (lists_of table.now)) mark) }
+    ensures none { IfNone result
+        (HasNoFront (problem_of (lists_of table.now)) (marks_at (lists_of table.now)) mark) }
 {
     let line = line_slot(table, mark.row);
     let Some(l) = first_slot(table, line, mark.side) else {
         return None;
     };
     Some(front_at(table, l, reduced_of(table, l, line, mark.side)))
+}
+
+/// Whether the first level is stronger.
+pub(crate) fn is_stronger(table: &Table, a: Level, b: Level) -> bool
+    requires kept { IsKept (lists_of table.now) }
+    requires a { IsLevelOf (problem_of (lists_of table.now)) a }
+    requires b { IsLevelOf (problem_of (lists_of table.now)) b }
+    ensures yes { result ≡ true → IsStronger (problem_of (lists_of table.now)) a b }
+    ensures no { result ≡ false → (j k : ℕ) → IsLevelAt (problem_of (lists_of table.now)) a j
+        → IsLevelAt (problem_of (lists_of table.now)) b k → k ≤ j }
+{
+    level_slot(table, a) < level_slot(table, b)
 }
 
 /// An exchange by slots: a line enters with a side, and a line leaves.
@@ -255,7 +275,8 @@ pub(crate) fn used(table: &Table, out: &mut Vec<Level>) -> Result<(), frac_core:
     requires kept { IsKept (lists_of table.now) }
     requires empty { out.old.items ≡ [] }
     ensures used { OnOk result (All (IsInUse (problem_of (lists_of table.now))) out.new.items) }
-    ensures all { OnOk result ((level : level_type.Level) → IsInUse (problem_of (lists_of table.now)) level → Contains out.new.items level) }
+    ensures all { OnOk result ((level : level_type.Level)
+        → IsInUse (problem_of (lists_of table.now)) level → Contains out.new.items level) }
     ensures order { OnOk result (AllPairs (IsStronger (problem_of (lists_of table.now))) out.new.items) }
 {
     for level in 0..LEVELS {

@@ -39,7 +39,8 @@
 //! To read: `table` has the lists, each with its earlier versions; `slots` finds in them by name;
 //! `writings` and `levels` read what is written of attributes, marks and costs; `listing` lists lines;
 //! `marking` names the marks inside; `fitting` tells what fits; `turning` and `exchange` go to the next
-//! corner, `joining` to that of a larger problem; and `corner` is what callers use.
+//! corner, `joining` to that of a larger problem, `shifting` to that with another constant; and `corner` is
+//! what callers use.
 #![tactic(auto)]
 
 mod corner;
@@ -49,6 +50,7 @@ mod joining;
 mod levels;
 mod listing;
 mod marking;
+mod shifting;
 mod slots;
 mod table;
 mod turning;

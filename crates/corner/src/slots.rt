@@ -146,7 +146,9 @@ pub(crate) fn level_of(table: &Table, w: u32) -> Level
     requires within { w < length table.now.slots.items }
     requires home { HasCost (lists_of table.now) w }
     ensures slot { tables.level_slot (lists_of table.now) result ≡ w }
-    ensures stay { (attr : ℕ) → (tables.slot_at (lists_of table.now) w).owner ≡ owner_type.Line (row_names.Stay attr) → result ≡ level_names.Stay attr }
+    ensures stay { (attr : ℕ)
+        → (tables.slot_at (lists_of table.now) w).owner ≡ owner_type.Line (row_names.Stay attr)
+        → result ≡ level_names.Stay attr }
     ensures priority { w < LEVELS → result ≡ level_names.Priority (1000 - w) }
 {
     match slot_at(table, w).owner {
@@ -159,8 +161,11 @@ pub(crate) fn level_of(table: &Table, w: u32) -> Level
 pub(crate) fn what_at(table: &Table, w: u32, side: Side) -> What
     requires slots { AreSlots (lists_of table.now) }
     requires within { w < length table.now.slots.items }
-    ensures attr { (attr : ℕ) → (tables.slot_at (lists_of table.now) w).owner ≡ owner_type.Attr attr → result ≡ what_type.Attr attr }
-    ensures line { (name : row_type.RowName) → (tables.slot_at (lists_of table.now) w).owner ≡ owner_type.Line name → result ≡ what_type.Mark (record { row = name; side = side }) }
+    ensures attr { (attr : ℕ) → (tables.slot_at (lists_of table.now) w).owner ≡ owner_type.Attr attr
+        → result ≡ what_type.Attr attr }
+    ensures line { (name : row_type.RowName)
+        → (tables.slot_at (lists_of table.now) w).owner ≡ owner_type.Line name
+        → result ≡ what_type.Mark (record { row = name; side = side }) }
 {
     match slot_at(table, w).owner {
         Owner::Level => What::Level(level_of(table, w)),
@@ -191,7 +196,8 @@ pub(crate) fn value_at(table: &Table, w: u32) -> Frac
 pub(crate) fn side_in(table: &Table, w: u32) -> Side
     requires slots { AreSlots (lists_of table.now) }
     requires within { w < length table.now.slots.items }
-    ensures { (side : side_type.Side) → (tables.standing_at (lists_of table.now) w).side ≡ Some side → result ≡ side }
+    ensures { (side : side_type.Side) → (tables.standing_at (lists_of table.now) w).side ≡ Some side
+        → result ≡ side }
 {
     side_at(table, w).unwrap_or(Side::Over)
 }
@@ -239,7 +245,8 @@ pub(crate) fn share(slot: Slot, unit: i64) -> i64
 /// The unit of the level of a line.
 pub(crate) fn unit_of(table: &Table, slot: Slot) -> i64
     requires slots { AreSlots (lists_of table.now) }
-    ensures priority { slot.home < LEVELS → result ≡ (tables.priority_at (lists_of table.now) slot.home).unit }
+    ensures priority { slot.home < LEVELS
+        → result ≡ (tables.priority_at (lists_of table.now) slot.home).unit }
     ensures stay { LEVELS ≤ slot.home → result ≡ pos 1 }
     ensures level { result ≡ unit_at (lists_of table.now) slot.home }
 {

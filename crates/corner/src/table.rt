@@ -14,7 +14,8 @@ use row_core::IntRow;
 use std::alloc::Global;
 use version_list::VersionList;
 
-/// The first slots are those of the priority levels, by number; those from here on are in the order in which they came.
+/// The first slots are those of the priority levels, by number; those from here on are in the order in
+/// which they came.
 pub(crate) const LEVELS: u32 = 1001;
 
 /// The slot of a number that has none.
@@ -28,7 +29,8 @@ pub(crate) enum Owner {
     Line(RowName),
 }
 
-/// What does not change of a slot. The home is the slot of a line's level, a stay's own; only lines have the rest.
+/// What does not change of a slot. The home is the slot of a line's level, a stay's own; only lines have
+/// the rest.
 #[derive(Clone, Copy, Debug, PartialEq, Eq)]
 pub(crate) struct Slot {
     pub owner: Owner,
@@ -167,7 +169,8 @@ pub(crate) fn forget(table: &mut Table)
     requires marked { 0 < length table.old.rows.before }
     ensures alike { AreAlike table.new }
     ensures now { lists_of table.new ≡ lists_of table.old }
-    ensures before { lists_before table.new ≡ take (length table.old.rows.before - 1) (lists_before table.old) }
+    ensures before { lists_before table.new
+        ≡ take (length table.old.rows.before - 1) (lists_before table.old) }
 {
     table.rows.forget();
     table.stays.forget();

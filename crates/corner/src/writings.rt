@@ -1,27 +1,38 @@
 // What is read of the writings of attributes and inside marks.
-ghost use Rattle.std.specs.Prelude.{◌≡◌, ◌↔◌, ◌*ℤ◌, ◌<◌, ◌≤◌, ℕ, List, neg_ℤ, length, slice_get};
+ghost use Rattle.std.specs.Prelude.{◌≡◌, ◌↔◌, ◌*ℤ◌, ◌+◌, ◌^◌, ◌<◌, ◌≤◌, ℕ, List, neg_ℤ, length};
+ghost use Rattle.std.specs.Prelude.{slice_get};
+ghost use Rattle.row_core.specs.Rows.{IsRising};
+ghost use Rattle.indexed_rows.specs.Lists.{HasColumn};
+ghost use Rattle.indexed_rows.specs.Matrices.{IsBelow};
 ghost use Rattle.std.specs.Prelude.{slice_index_or, true, All, AllPairs, Some};
 ghost use Rattle.corner.specs.declared.table.TheConstants.{LEVELS};
 ghost use Rattle.problem_core.specs.declared.stops.What as what_type;
+ghost use Rattle.problem_core.specs.declared.parts.RowName as row_type;
 ghost use Rattle.frac_core.specs.Fraction.{IsFitting};
 ghost use Rattle.problem_core.specs.Layout.{HasStay};
 ghost use Rattle.problem_core.specs.Corners as corners;
 ghost use Rattle.problem_core.specs.Corners.{attr_column, IsIn};
 ghost use Rattle.corner_lines.specs.LineEquations.{sign_of};
 ghost use Rattle.corner.specs.Tables as tables;
-ghost use Rattle.corner.specs.Tables.{AreMoved, IsOfLine, IsSign, entry, lists_of, marks_at, problem_of};
+ghost use Rattle.corner.specs.Tables.{AreMoved, IsOfLine, IsSign, entry, lists_of, marks_at};
+ghost use Rattle.corner.specs.Entries.{columns_but};
+ghost use Rattle.corner.specs.Tables.{problem_of};
 ghost use Rattle.corner.specs.Tables.{sign_of_what};
 ghost use Rattle.corner.specs.Kept.{AreSlots, IsKept};
 ghost use Rattle.corner.specs.Invariants.{seen_of};
-ghost use Rattle.corner.specs.Views.{AreMovers, HasValueAt, IsMarkOf, IsNamed, IsOutside, IsWritten};
+ghost use Rattle.corner.specs.Views.{AreMovers, HasValueAt, IsMarkOf, IsNamed, IsOutside};
+ghost use Rattle.corner.specs.Entries.{AreEntries};
+ghost use Rattle.corner.specs.Views.{IsWritten};
 ghost use Rattle.corner.specs.Views.{IsCoefficientOf, IsScaleOf};
 
 use crate::slots::{
-    attr_slot, line_slot, other, own_of, side_at, side_in, sign, value_at, what_at, what_slot,
+    attr_slot, line_slot, name_at, other, own_of, side_at, side_in, sign, value_at, what_at,
+    what_slot,
 };
 use crate::table::{LEVELS, Table};
 use frac_core::Frac;
 use problem_core::{Mark, RowName, Side, What};
+use row_core::Entry;
 
 // Whether this is the side.
 fn is_side(side: Option<Side>, at: Side) -> bool
@@ -135,6 +146,45 @@ pub(crate) fn mover(table: &Table, mark: Mark, i: usize) -> What
     }
     let w = nth(moved(table, line), i);
     what_at(table, w, side_in(table, w))
+}
+
+// The column of one of the entries but that of w.
+fn column_but(entries: &[Entry], w: u32, i: usize) -> u32
+    requires within { i + 1 < length entries.now }
+    requires rising { IsRising entries.now }
+    requires has { HasColumn w entries.now }
+    requires below { IsBelow (2 ^ 32) entries.now }
+    ensures { result ≡ slice_index_or (columns_but w entries.now) i 0 }
+{
+    let (at, next) = (entries[i], entries[i + 1]);
+    if at.col.0 < u64::from(w) {
+        at.col.0 as u32
+    } else {
+        next.col.0 as u32
+    }
+}
+
+/// How many outside lines have a number in the row of an inside mark's line.
+pub(crate) fn entries_in(table: &Table, mark: Mark) -> usize
+    requires kept { IsKept (lists_of table.now) }
+    requires inside { IsIn (corners.place mark) (marks_at (lists_of table.now)) }
+    ensures { (names : List row_type.RowName) × AreEntries (seen_of (lists_of table.now)) mark names
+        × (length names ≡ result) }
+{
+    table.matrix.row(line_slot(table, mark.row)).entries().len() - 1
+}
+
+/// One of the outside lines that have a number in the row of an inside mark's line.
+pub(crate) fn entry_in(table: &Table, mark: Mark, i: usize) -> RowName
+    requires kept { IsKept (lists_of table.now) }
+    requires inside { IsIn (corners.place mark) (marks_at (lists_of table.now)) }
+    requires within { (names : List row_type.RowName) × AreEntries (seen_of (lists_of table.now)) mark names
+        × (i < length names) }
+    ensures { (names : List row_type.RowName) → AreEntries (seen_of (lists_of table.now)) mark names
+        → slice_get names i ≡ Some result }
+{
+    let w = line_slot(table, mark.row);
+    name_at(table, column_but(table.matrix.row(w).entries(), w, i))
 }
 
 /// The sign of a mark, 1 of an attribute.
