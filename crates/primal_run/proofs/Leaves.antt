@@ -1,7 +1,6 @@
 -- The mark that leaves.
 use Rattle.std.proofs.Common.{◌≡◌, ◌≢◌, ◌∙◌, inl, inr, ℕ, zero, suc, ◌+◌, ◌<◌, List, [], ◌∷◌, ◌++◌, map, take, slice_get, ℤ, pos, negsuc, ◌*ℤ◌, ◌≤ℤ◌, ◌<ℤ◌, neg_ℤ, refl, ap, subst, arith, Contains}
 use Rattle.std.specs.Prelude.{Some, None}
-use Rattle.std.specs.List.{AllByRecursion as Each}
 use Rattle.std.proofs.lemmas.List.Elements.{All-from_recursion}
 use borrow.Author.Differences.{ints}
 use Rattle.frac_core.proofs.Integers.{mul-zero_ℤ, mul_positive, mul_not_negative}
@@ -22,12 +21,9 @@ use Rattle.corner.specs.Views.{AreMovers, CornerView, IsKeptCorner, IsOutside, M
 use Rattle.primal_run.specs.declared.ties.Ratio.{Ratio}
 use Rattle.primal_run.specs.Entering.{MayEnter}
 use Rattle.primal_run.specs.Leaving.{IsFirstOf, IsRatioAt, NeverFalls}
-use Rattle.primal_run.proofs.Fronts.{up_or_down}
-use Rattle.primal_run.proofs.Marks.{contained, in_mark}
-
-in-list : (ms : List Mark) → Each (λ m. IsIn (place m) ms) ms
-in-list [] = tt
-in-list (m ∷ ms) = ((0, omega arith, refl), each-impl (λ n. IsIn (place n) ms) (λ n. IsIn (place n) (m ∷ ms)) ms (λ n i. (suc i.0, (let within = i.1 in omega (arith, within)), i.2)) (in-list ms))
+use Rattle.corner_ends.proofs.Fronts.{up_or_down}
+use Rattle.corner_ends.proofs.MarkOrders.{in_list}
+use Rattle.corner_ends.proofs.Marks.{contained, in_mark}
 
 -- one item more
 pub took_next : {X : Type 0} (xs : List X) (i : ℕ) (x : X) → slice_get xs i ≡ Some x → take i xs ++ x ∷ [] ≡ take (i + 1) xs
@@ -102,7 +98,7 @@ first_leaves v enter first whats r kept are h = record {
       (λ m i down.
       let f = falling v.problem v.marks enter m ray kept is i down in
       (f.w, f.writes, contained (λ x. (n : Mark) → x ≡ MarkOf n → (w : Writing) → Writes v.problem v.marks (place n) w → coefficient (place enter) w.form <ℤ pos 0 → (a b : Writing) → Writes v.problem v.marks (place r.mark) a → Writes v.problem v.marks (place n) b → FallsFirst (map place first) (place enter) (place r.mark) a (place n) b) whats (MarkOf m) h.1 (moved v enter whats ray m are is i down) m refl f.w f.writes f.low h.0.w f.w h.0.writes f.writes))
-      (in-list v.marks));
+      (in_list v.marks));
 }
 
 pub none_leaves : (v : CornerView) (enter : Mark) (first : List Mark) (whats : List What) → IsKeptCorner v.problem v.marks → MayEnter v.problem v.marks enter → AreMovers v enter whats → IsFirstOf v.problem v.marks (place enter) first whats None → ⊥
@@ -117,4 +113,4 @@ none_leaves v enter first whats kept may are h =
           let f = falling v.problem v.marks enter m ray.0 kept ray.1 i down in
           absurd (contained (λ x. (n : Mark) → x ≡ MarkOf n → NeverFalls v.problem v.marks (place enter) n) whats (MarkOf m) h (moved v enter whats ray.0 m are ray.1 i down) m refl f.w f.writes f.low)
     ])
-    (in-list v.marks)))
+    (in_list v.marks)))

@@ -1,11 +1,4 @@
-pub mod Signs
-pub mod Fronts
-pub mod Marks
 pub mod FirstLevel
 pub mod Counts
 pub mod Leaves
 pub mod RunFacts
-pub mod SharedTimes
-pub mod ShownTimes
-pub mod RequiredTimes
-pub mod FirstMarks

@@ -8,14 +8,10 @@ use Rattle.problem_core.specs.Layout.{Problem}
 use Rattle.problem_core.specs.Corners.{HasNegativeColumn}
 use Rattle.problem_core.specs.Paths.{IsEndOf}
 use Rattle.corner.specs.Views.{IsFrontOf, IsOutside, IsReducedAt}
+use Rattle.corner_ends.specs.Columns.{IsNegative}
 use Rattle.primal_run.specs.declared.entering.Choice.{Choice}
 
--- the mark is outside, and its column is negative
-pub record IsNegative (p : Problem) (at : List Mark) (m : Mark) : Type 0 where
-  pub outside : IsOutside p at m
-  pub column : HasNegativeColumn p at m
-
--- the same, where its front is known
+-- the mark is outside, its column is negative, and its front is known
 pub record IsChoice (p : Problem) (at : List Mark) (f : Choice) : Type 0 where
   pub negative : IsNegative p at f.mark
   pub front : IsFrontOf p at f.mark f.front

@@ -1,12 +1,14 @@
 // The mark with a negative column that enters.
-ghost use Rattle.std.specs.Prelude.{◌≡◌, ◌⊎◌, ◌<◌, ◌-◌, ◌<ℤ◌, ◌≤ℤ◌, [], pos, length, true};
+ghost use Rattle.std.specs.Prelude.{◌≡◌, ◌⊎◌, ◌<◌, ◌-◌, ◌<ℤ◌, [], pos, length, true};
 ghost use Rattle.std.specs.Prelude.{false, IfSome, IfNone, Some, None};
 ghost use Rattle.problem_core.specs.Corners.{HasNegativeColumn};
 ghost use Rattle.corner.specs.Views.{IsFrontOf, IsMarkOf, IsNamed};
 ghost use Rattle.corner.specs.Changes.{HasNoNegative};
-ghost use Rattle.primal_run.specs.Entering.{IsChoice, IsNegative};
+ghost use Rattle.corner_ends.specs.Columns.{IsNegative};
+ghost use Rattle.primal_run.specs.Entering.{IsChoice};
 
 use corner::{Corner, Front};
+use corner_ends::is_below;
 use problem_core::{Level, Mark, RowName, Side};
 
 /// An outside mark, and the level at which its column is negative, with its reduced cost there.
@@ -14,14 +16,6 @@ use problem_core::{Level, Mark, RowName, Side};
 pub(crate) struct Choice {
     pub mark: Mark,
     pub front: Front,
-}
-
-/// Whether the number is below 0.
-pub(crate) fn is_below(z: i64) -> bool
-    ensures yes { result ≡ true → z <ℤ pos 0 }
-    ensures no { result ≡ false → pos 0 ≤ℤ z }
-{
-    z < 0
 }
 
 /// The mark's front, where its column is negative.

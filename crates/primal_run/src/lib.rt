@@ -27,13 +27,10 @@
 //! the weakest line, since then what a stronger line asks for need not be put right again.
 //!
 //! To read: `entering` finds the mark that enters, `required` does so where the required rows cost; `ties`
-//! tells which of two marks comes to 0 first, `leaving` which of all; `runs` keeps the exchanges so far, and
-//! `begins` finds the marks of the first corner from these; `conflicts` divides the multipliers by their
-//! common factor; and `settling` is the run.
+//! tells which of two marks comes to 0 first, `leaving` which of all; `runs` keeps the exchanges so far; and
+//! `settling` is the run. What it shares with the dual run is in `corner_ends`.
 #![tactic(auto)]
 
-mod begins;
-mod conflicts;
 mod entering;
 mod leaving;
 mod required;

@@ -1,24 +1,17 @@
 // The mark that enters where the required rows cost.
-ghost use Rattle.std.specs.Prelude.{◌≡◌, ◌⊎◌, ◌<◌, ℤ, pos, ◌<ℤ◌, ◌≤ℤ◌};
+ghost use Rattle.std.specs.Prelude.{◌≡◌, ◌⊎◌, ◌<◌, ℤ, pos, ◌≤ℤ◌};
 ghost use Rattle.std.specs.Prelude.{true, false, length, IfSome, IfNone};
 ghost use Rattle.std.specs.Prelude.{slice_get, Some, None};
 ghost use Rattle.problem_core.specs.declared.parts.Level.TheVariants.{Priority};
 ghost use Rattle.problem_core.specs.declared.parts.RowName.{RowName as RowNameOf};
-ghost use Rattle.problem_core.specs.Levels.{CostsAbove};
 ghost use Rattle.problem_core.specs.Paths.{NoNegativeRequired};
 ghost use Rattle.corner.specs.Views.{IsMarkOf, IsNamed, IsReducedAt};
 ghost use Rattle.primal_run.specs.Entering.{HasNoRequired, IsChoice, IsRequired};
 
-use crate::entering::{Choice, is_below, is_weaker, mark_at};
+use crate::entering::{Choice, is_weaker, mark_at};
 use corner::Corner;
+use corner_ends::{is_below, required_level};
 use problem_core::{Level, Mark, RowName, Side};
-
-/// The level of the required rows.
-pub(crate) fn required_level() -> Level
-    ensures { result ≡ Priority 1000 }
-{
-    Level::Priority(1000)
-}
 
 /// Whether it is the level of the required rows.
 fn is_required_level(level: Level) -> bool
@@ -46,23 +39,6 @@ pub(crate) fn required_of(c: &Corner, found: Option<Choice>) -> Option<Mark>
         }
         None => None,
     }
-}
-
-/// Whether the number is above 0.
-fn is_above(z: i64) -> bool
-    ensures yes { result ≡ true → pos 0 <ℤ z }
-    ensures no { result ≡ false → z ≤ℤ pos 0 }
-{
-    z > 0
-}
-
-/// Whether the required rows cost.
-pub(crate) fn is_costly(c: &Corner) -> bool
-    ensures yes { result ≡ true → CostsAbove c.now.problem c.now.marks 0 }
-    ensures no { result ≡ false → CostsAbove c.now.problem c.now.marks 0 → ⊥ }
-{
-    c.show_corner();
-    is_above(c.cost(required_level()).num())
 }
 
 /// A mark and its reduced cost at the level of the required rows.

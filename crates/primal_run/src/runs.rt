@@ -11,14 +11,14 @@ ghost use Rattle.problem_core.specs.declared.stops.TableStop.TheVariants.{UnfitA
 ghost use Rattle.cert_core.specs.Stops.{IsStopOf};
 ghost use Rattle.corner.specs.Views.{MovesWith};
 ghost use Rattle.corner.specs.Changes.{IsUnfitStop};
+ghost use Rattle.corner_ends.specs.Runs.{FromHere};
 ghost use Rattle.primal_run.specs.Entering.{MayEnter};
-ghost use Rattle.primal_run.specs.Runs.{FromHere};
 ghost use Rattle.primal_run.specs.Steps.{IsRunOf};
 
-use crate::begins::first_marks;
 use crate::leaving::{leaving, leaving_untied};
 use cert_core::{Path, RunStop, Swap, UnfitPath};
 use corner::Corner;
+use corner_ends::first_marks;
 use frac_core::OutOfMemory;
 use problem_core::{Mark, Quantity, TableStop};
 use std::alloc::Global;
@@ -56,6 +56,15 @@ impl Run {
         self.swaps.len() as u64 >= budget
     }
 
+    /// The marks of the first corner.
+    fn first_corner(&self, c: &Corner) -> Result<Vec<Mark>, OutOfMemory>
+        ensures { IfOk result (λ marks. (first : List MarkOfLine)
+            → IsRunOf c.now.problem first self.now c.now.marks → marks.items ≡ first) }
+    {
+        let marks = first_marks(self.alloc, c, &self.swaps)?;
+        Ok(marks)
+    }
+
     /// Lists the marks of the first corner.
     fn find_corner(&mut self, c: &Corner) -> Result<(), OutOfMemory>
         ensures swaps { self.new.swaps.items ≡ self.old.swaps.items }
@@ -66,7 +75,7 @@ impl Run {
             → IsRunOf c.now.problem first self.new c.now.marks) }
     {
         if !self.is_known {
-            self.corner = first_marks(self.alloc, c, &self.swaps)?;
+            self.corner = self.first_corner(c)?;
             self.is_known = true;
         }
         Ok(())

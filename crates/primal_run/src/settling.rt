@@ -5,16 +5,17 @@ ghost use Rattle.problem_core.specs.Corners.{NoNegativeColumn, NoNegativeValue};
 ghost use Rattle.problem_core.specs.Levels.{CostsAbove};
 ghost use Rattle.cert_core.specs.Paths as paths;
 ghost use Rattle.cert_core.specs.Stops.{IsStopOf};
-ghost use Rattle.primal_run.specs.Shares.{IsConflictStop};
-ghost use Rattle.primal_run.specs.Entering.{IsChoice, IsNegative, MayEnter};
-ghost use Rattle.primal_run.specs.Runs.{FromHere, IsBestEnd, IsRun};
+ghost use Rattle.corner_ends.specs.Columns.{IsNegative};
+ghost use Rattle.corner_ends.specs.Runs.{FromHere, IsBestEnd, IsRun};
+ghost use Rattle.corner_ends.specs.Shares.{IsConflictStop};
+ghost use Rattle.primal_run.specs.Entering.{IsChoice, MayEnter};
 
-use crate::conflicts::conflict_stop;
 use crate::entering::{Choice, pick};
-use crate::required::{is_costly, required_of, required_pick};
+use crate::required::{required_of, required_pick};
 use crate::runs::Run;
 use cert_core::RunStop;
 use corner::Corner;
+use corner_ends::{conflict_stop, is_costly};
 use problem_core::Mark;
 use std::alloc::Global;
 

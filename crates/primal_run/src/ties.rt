@@ -4,15 +4,14 @@ ghost use Rattle.std.specs.Prelude.{All, List, unsigned_abs, IfOk, IfSome, IfNon
 ghost use Rattle.std.specs.Ordering.{int_cmp};
 ghost use Rattle.problem_core.specs.Corners as corners;
 ghost use Rattle.problem_core.specs.Corners.{IsIn};
-ghost use Rattle.problem_core.specs.Layout.{coefficient};
 ghost use Rattle.corner_laws.specs.Runs.{BreaksTie, Writes, Writing, count_at};
 ghost use Rattle.problem_core.specs.declared.parts.Mark.{Mark as MarkOfLine};
 ghost use Rattle.problem_core.specs.declared.stops.What.TheVariants.{Mark as MarkOf};
 ghost use Rattle.corner.specs.Views.{IsMarkOf, IsOutside, IsScaleOf};
 ghost use Rattle.primal_run.specs.Leaving.{IsEarlier, IsRatioAt, NeverFalls};
 
-use crate::entering::is_below;
 use corner::Corner;
+use corner_ends::{coefficient_of, is_below, product};
 use frac_core::cmp_wide;
 use problem_core::{Mark, What};
 use std::cmp::Ordering;
@@ -27,31 +26,12 @@ pub(crate) struct Ratio {
     pub below: i128,
 }
 
-/// The product of two numbers.
-fn product(x: i64, y: i64) -> i128
-    ensures value { result ≡ x *ℤ y }
-    ensures small { unsigned_abs result ≤ 2 ^ 126 }
-{
-    i128::from(x) * i128::from(y)
-}
-
 /// The number with the other sign.
 fn opposite(z: i128) -> i128
     requires { unsigned_abs z ≤ 2 ^ 126 }
     ensures { result ≡ neg_ℤ z }
 {
     -z
-}
-
-/// The coefficient of an outside mark in an inside one's writing.
-fn number(c: &Corner, m: Mark, enter: Mark) -> i64
-    requires inside { IsIn (corners.place m) c.now.marks }
-    requires outside { IsOutside c.now.problem c.now.marks enter }
-    ensures { (w : Writing) → Writes c.now.problem c.now.marks (corners.place m) w
-        → result ≡ coefficient (corners.place enter) w.form }
-{
-    c.show_corner();
-    c.coefficient(What::Mark(m), enter)
 }
 
 /// The scale of an inside mark's writing.
@@ -74,7 +54,7 @@ pub(crate) fn ratio_of(c: &Corner, m: Mark, enter: Mark) -> Option<Ratio>
     ensures none { IfNone result (NeverFalls c.now.problem c.now.marks (corners.place enter) m) }
 {
     c.show_corner();
-    let by = number(c, m, enter);
+    let by = coefficient_of(c, m, enter);
     if !is_below(by) {
         return None;
     }
@@ -101,7 +81,7 @@ fn count(c: &Corner, m: Mark, f: Mark, by: i64) -> i128
     if c.is_inside(f) {
         return 0;
     }
-    opposite(product(number(c, m, f), by))
+    opposite(product(coefficient_of(c, m, f), by))
 }
 
 /// The order of what two inside marks count at a mark of the run's first corner, each over its coefficient.

@@ -1,7 +1,7 @@
 use Rattle.std.proofs.Common.{rules, SFits}
 use Rattle.std.specs.Int.{w64}
 use Rattle.std.proofs.lemmas.Int.{to_z-of_z}
-use Rattle.primal_run.proofs.Fronts.{front_above, front_below, no_front}
+use Rattle.corner_ends.proofs.Fronts.{front_above, front_below, no_front}
 use Rattle.primal_run.proofs.entering.negative_front.Goals as goal
 
 pub returns-then-is_below-clause-some : goal.returns-then-is_below-clause-some

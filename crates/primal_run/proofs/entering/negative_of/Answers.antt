@@ -1,5 +1,5 @@
 use Rattle.problem_core.specs.declared.parts.Side.TheVariants.{Under, Over}
-use Rattle.primal_run.proofs.Marks.{mark_is, no_negative}
+use Rattle.corner_ends.proofs.Marks.{mark_is, no_negative}
 use Rattle.primal_run.proofs.entering.negative_of.Goals as goal
 
 pub negative_front-requires : goal.negative_front-requires

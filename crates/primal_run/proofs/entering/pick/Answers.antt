@@ -1,5 +1,5 @@
 use Rattle.std.proofs.Common.{◌≡◌, ◌∙◌, subst, sym}
-use Rattle.primal_run.proofs.Marks.{none_more, some_maps}
+use Rattle.corner_ends.proofs.Marks.{none_more, some_maps}
 use Rattle.primal_run.specs.Entering.{IsChoice}
 use Rattle.primal_run.proofs.entering.pick.Goals as goal
 

@@ -1,7 +1,7 @@
 use Rattle.std.proofs.Common.{subst, slice_get}
 use Rattle.corner.specs.Views.{IsNamed}
 use Rattle.corner.specs.Changes.{HasNoNegative}
-use Rattle.primal_run.proofs.Marks.{got_holds, same_got}
+use Rattle.corner_ends.proofs.Marks.{got_holds, same_got}
 use Rattle.primal_run.proofs.entering.see.Goals as goal
 
 pub negative_of-requires : goal.negative_of-requires

@@ -8,7 +8,7 @@ use Rattle.corner.specs.Views.{MovesWith}
 use Rattle.primal_run.specs.Leaving.{IsFirstOf, IsRatioOrNone}
 use Rattle.primal_run.specs.declared.ties.Ratio.{Ratio}
 use Rattle.primal_run.proofs.Leaves.{first_leaves, moves_with, none_leaves, took_next}
-use Rattle.primal_run.proofs.Marks.{got_holds}
+use Rattle.corner_ends.proofs.Marks.{got_holds}
 use Rattle.primal_run.proofs.leaving.leaving.Goals as goal
 
 pub mover-requires-clause-within : goal.mover-requires-clause-within

@@ -1,5 +1,5 @@
 use Rattle.corner.specs.Views.{IsNamed}
-use Rattle.primal_run.proofs.Marks.{got_holds}
+use Rattle.corner_ends.proofs.Marks.{got_holds}
 use Rattle.primal_run.proofs.required.next_lowest.Goals as goal
 
 pub lower_of-requires : goal.lower_of-requires

@@ -1,6 +1,6 @@
 use Rattle.primal_run.specs.Entering.{IsChoice}
 use Rattle.primal_run.proofs.FirstLevel.{choice_required}
-use Rattle.primal_run.proofs.Marks.{some_here}
+use Rattle.corner_ends.proofs.Marks.{some_here}
 use Rattle.primal_run.proofs.required.required_of.Goals as goal
 
 pub returns-then-is_required_level : goal.returns-then-is_required_level

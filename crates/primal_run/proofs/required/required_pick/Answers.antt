@@ -1,7 +1,7 @@
 use Rattle.std.proofs.Common.{rules, ◌+◌, All, take, slice_get, ◌≡◌, Some}
 use Rattle.problem_core.specs.declared.parts.RowName.{RowName}
 use Rattle.primal_run.specs.Entering.{HasNoRequired}
-use Rattle.primal_run.proofs.Marks.{none_here, none_more, took_all, took_more}
+use Rattle.corner_ends.proofs.Marks.{none_here, none_more, took_all, took_more}
 use Rattle.primal_run.proofs.FirstLevel.{none_required}
 use Rattle.primal_run.proofs.required.required_pick.Goals as goal
 

@@ -5,9 +5,10 @@ use Rattle.problem_core.specs.declared.parts.RowName.{RowName}
 use Rattle.problem_core.specs.Corners.{NoNegativeColumn}
 use Rattle.problem_core.specs.Levels.{CostsAbove}
 use Rattle.corner.specs.Views.{AreCandidates}
-use Rattle.primal_run.specs.Entering.{IsNegative, MayEnter}
+use Rattle.corner_ends.specs.Columns.{IsNegative}
+use Rattle.primal_run.specs.Entering.{MayEnter}
 use Rattle.primal_run.proofs.FirstLevel.{negative_enters, none_listed}
-use Rattle.primal_run.proofs.Marks.{none_follows, some_maps}
+use Rattle.corner_ends.proofs.Marks.{none_follows, some_maps}
 use Rattle.primal_run.proofs.settling.entering.Goals as goal
 
 pub required_entering-requires-clause-costs : goal.required_entering-requires-clause-costs

@@ -1,8 +1,9 @@
-use Rattle.std.proofs.Common.{rules, ◌∙◌, ◌<◌, length, arith, refl}
+use Rattle.std.proofs.Common.{rules, false, ◌∙◌, ◌<◌, length, arith, refl}
 use Rattle.problem_core.specs.Corners.{NoNegativeColumn}
 use Rattle.problem_core.specs.Levels.{CostsAbove}
-use Rattle.primal_run.proofs.Marks.{none_here}
-use Rattle.primal_run.proofs.RunFacts.{best_end, run_made, run_values, stop_moved}
+use Rattle.corner_ends.proofs.Marks.{none_here}
+use Rattle.corner_ends.proofs.RunEnds.{best_end, run_made, stop_moved}
+use Rattle.primal_run.proofs.RunFacts.{run_lawful, run_values}
 use Rattle.primal_run.proofs.settling.run_on.Goals as goal
 
 pub exchange-requires-clause-run : goal.exchange-requires-clause-run
@@ -11,7 +12,7 @@ exchange-requires-clause-run c = (c.args.c.now.marks, c.loop-alloc.invariant.run
 pub returns-in-Err-clause-stop : goal.returns-in-Err-clause-stop
 returns-in-Err-clause-stop c =
     let short : length c.loop-alloc.run.swaps.items < c.args.budget = search rules in
-    stop_moved c.loop-alloc.c.problem c.args.c.now.problem c.args.c.now.marks c.args.c.now.marks c.args.budget c.in-Err.stop c.loop-alloc.invariant.problem refl (c.in-Err.ensures.stop c.args.c.now.marks c.loop-alloc.invariant.run c.args.budget short)
+    stop_moved false c.loop-alloc.c.problem c.args.c.now.problem c.args.c.now.marks c.args.c.now.marks c.args.budget c.in-Err.stop c.loop-alloc.invariant.problem refl (c.in-Err.ensures.stop c.args.c.now.marks c.loop-alloc.invariant.run c.args.budget short)
 
 pub returns-in-Ok-None-clause-end : goal.returns-in-Ok-None-clause-end
 returns-in-Ok-None-clause-end c =
@@ -25,5 +26,6 @@ returns-in-Ok-None-clause-path c =
     let short : length c.loop-alloc.run.swaps.items < c.args.budget = search rules in
     let more = c.in_default.ensures.more in
     let run = c.in_default.ensures.run c.args.c.now.marks c.loop-alloc.invariant.run in
-    run_made c.exchange.new.c.problem c.args.c.now.problem c.args.c.now.marks c.args.c.now.marks c.exchange.new.c.marks c.entering.new.c.marks c.exchange.new.self.swaps.items c.args.budget run.swapped
+    run_made false c.exchange.new.c.problem c.args.c.now.problem c.args.c.now.marks c.args.c.now.marks c.exchange.new.c.marks c.entering.new.c.marks c.exchange.new.self.swaps.items c.args.budget
+    (run_lawful c.exchange.new.c.problem c.args.c.now.marks c.exchange.new.c.marks c.exchange.new.self.swaps.items run.swapped) run.swapped.here
     (c.in_default.ensures.problem ∙ c.loop-alloc.invariant.problem) refl c.entering.ensures.marks (omega (arith, short, more))

@@ -4,9 +4,11 @@ use Rattle.problem_core.specs.declared.parts.Mark.{Mark}
 use Rattle.problem_core.specs.Corners.{NoNegativeColumn, NoNegativeValue}
 use Rattle.problem_core.specs.Levels.{CostsAbove}
 use Rattle.cert_core.specs.Paths.{Path}
-use Rattle.primal_run.specs.Runs.{IsRun}
-use Rattle.primal_run.proofs.Marks.{none_here}
-use Rattle.primal_run.proofs.RunFacts.{best_end, run_begins, run_made}
+use Rattle.corner_ends.specs.Runs.{IsRun}
+use Rattle.corner_ends.proofs.Marks.{none_here}
+use Rattle.corner_ends.proofs.MarkOrders.{same_self}
+use Rattle.corner_ends.proofs.RunEnds.{best_end, run_made}
+use Rattle.primal_run.proofs.RunFacts.{run_begins, run_lawful}
 use Rattle.primal_run.proofs.settling.settle.Goals as goal
 
 pub returns-in-Ok-None-clause-end : goal.returns-in-Ok-None-clause-end
@@ -17,7 +19,8 @@ returns-in-Ok-None-clause-end c =
 
 pub returns-in-Ok-None-clause-path : goal.returns-in-Ok-None-clause-path
 returns-in-Ok-None-clause-path c =
-    run_made c.args.c.now.problem c.args.c.now.problem c.args.c.now.marks c.args.c.now.marks c.args.c.now.marks c.entering.new.c.marks [] c.args.budget (run_begins c.args.c.now.problem c.args.c.now.marks c.show_corner.ensures.kept c.requires.values) refl refl c.entering.ensures.marks (omega arith)
+    let begun = run_begins c.args.c.now.problem c.args.c.now.marks c.show_corner.ensures.kept c.requires.values in
+    run_made false c.args.c.now.problem c.args.c.now.problem c.args.c.now.marks c.args.c.now.marks c.args.c.now.marks c.entering.new.c.marks [] c.args.budget (run_lawful c.args.c.now.problem c.args.c.now.marks c.args.c.now.marks [] begun) (same_self c.args.c.now.marks) refl refl c.entering.ensures.marks (omega arith)
 
 pub run_on-requires-clause-values : goal.run_on-requires-clause-values
 run_on-requires-clause-values c =

@@ -2,7 +2,7 @@ use Rattle.std.proofs.Common.{rules, SFits, ◌≡◌, ◌∙◌, ◌*ℤ◌, ap
 use Rattle.std.specs.Int.{w64, w128}
 use Rattle.std.proofs.lemmas.Int.{to_z-of_z}
 use Rattle.problem_core.specs.Corners.{IsIn, place}
-use Rattle.primal_run.proofs.Marks.{one_mark}
+use Rattle.corner_ends.proofs.Marks.{one_mark}
 use Rattle.primal_run.proofs.Counts.{count_inside, count_outside, count_self}
 use Rattle.primal_run.proofs.ties.count.Goals as goal
 
@@ -22,10 +22,10 @@ returns-then-is_inside c = λ w h.
 
 pub returns : goal.returns
 returns c = λ w h.
-    let fits : SFits w64 c.number.result = search rules in
+    let fits : SFits w64 c.coefficient_of.result = search rules in
     let some : SFits w128 c.product-2.result = search rules in
     let all : SFits w128 c.opposite.result = search rules in
     let other : c.args.m ≡ c.args.f → ⊥ = search rules in
     let e = simp (to_z-of_z, c.ranges.by) at c.product-2.ensures.value in
     let o = simp to_z-of_z at c.opposite.ensures in
-    to_z-of_z w128 c.opposite.result all ∙ count_outside c.args.c.now.problem c.args.c.now.marks c.args.m c.args.f c.number.result c.args.by c.opposite.result c.product-2.result w (λ q. other (one_mark c.args.m c.args.f q)) (c.number.ensures w h) (e ∙ ap (λ z. z *ℤ c.args.by) (to_z-of_z w64 c.number.result fits)) o
+    to_z-of_z w128 c.opposite.result all ∙ count_outside c.args.c.now.problem c.args.c.now.marks c.args.m c.args.f c.coefficient_of.result c.args.by c.opposite.result c.product-2.result w (λ q. other (one_mark c.args.m c.args.f q)) (c.coefficient_of.ensures w h) (e ∙ ap (λ z. z *ℤ c.args.by) (to_z-of_z w64 c.coefficient_of.result fits)) o

@@ -1,7 +1,7 @@
 use Rattle.std.proofs.Common.{rules, SFits, refl, ap, ◌∙◌, ◌*ℤ◌, neg_ℤ}
 use Rattle.std.specs.Int.{w64, w128}
 use Rattle.std.proofs.lemmas.Int.{to_z-of_z}
-use Rattle.primal_run.proofs.Marks.{in_mark}
+use Rattle.corner_ends.proofs.Marks.{in_mark}
 use Rattle.primal_run.proofs.Counts.{ratio_made}
 use Rattle.primal_run.proofs.ties.ratio_of.Goals as goal
 
@@ -10,7 +10,7 @@ value-value-requires c = record { mark = in_mark c.args.c.now.problem c.args.c.n
 
 pub returns-clause-some : goal.returns-clause-some
 returns-clause-some c =
-    let by-fits : SFits w64 c.number-by.result = search rules in
+    let by-fits : SFits w64 c.coefficient_of-by.result = search rules in
     let num-fits : SFits w64 c.num.result = search rules in
     let scale-fits : SFits w64 c.scale.result = search rules in
     let den-fits : SFits w64 c.den.result = search rules in
@@ -22,5 +22,5 @@ returns-clause-some c =
     let b = simp to_z-of_z at c.product-2.ensures.value in
     let d = simp to_z-of_z at c.opposite.ensures in
     simp to_z-of_z
-    (ratio_made c.args.c.now.problem c.args.c.now.marks c.args.enter c.args.m (record { mark = c.args.m; by = c.number-by.result; above = c.product.result; below = c.opposite.result }) c.value-value.result c.number-by.result c.scale.result c.product.result c.opposite.result c.den.result
-    c.show_corner.ensures.kept c.requires.inside c.den.ensures.kept.lowest.above c.value-value.ensures c.scale.ensures.is c.number-by.ensures (low c.if-not-is_below.false) (a ∙ ap (λ z. z *ℤ c.scale.result) c.num.ensures.value) c.den.ensures.value (d ∙ ap neg_ℤ b) refl)
+    (ratio_made c.args.c.now.problem c.args.c.now.marks c.args.enter c.args.m (record { mark = c.args.m; by = c.coefficient_of-by.result; above = c.product.result; below = c.opposite.result }) c.value-value.result c.coefficient_of-by.result c.scale.result c.product.result c.opposite.result c.den.result
+    c.show_corner.ensures.kept c.requires.inside c.den.ensures.kept.lowest.above c.value-value.ensures c.scale.ensures.is c.coefficient_of-by.ensures (low c.if-not-is_below.false) (a ∙ ap (λ z. z *ℤ c.scale.result) c.num.ensures.value) c.den.ensures.value (d ∙ ap neg_ℤ b) refl)

@@ -1,7 +1,7 @@
 use Rattle.std.proofs.Common.{rules, SFits}
 use Rattle.std.specs.Int.{w64}
 use Rattle.std.proofs.lemmas.Int.{to_z-of_z}
-use Rattle.primal_run.proofs.Counts.{scale_is}
+use Rattle.corner_ends.proofs.ReadNumbers.{scale_is}
 use Rattle.primal_run.proofs.ties.scale.Goals as goal
 
 pub returns-clause-of : goal.returns-clause-of

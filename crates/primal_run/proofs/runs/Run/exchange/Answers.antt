@@ -6,9 +6,10 @@ use Rattle.problem_core.specs.Paths.{IsPath, last_marks}
 use Rattle.cert_core.specs.Stops.{IsStopOf}
 use Rattle.corner.specs.Views.{CornerView, in_order}
 use Rattle.corner.specs.Changes.{IsUnfitStop}
-use Rattle.primal_run.specs.Runs.{FromHere}
+use Rattle.corner_ends.specs.Runs.{FromHere}
 use Rattle.primal_run.specs.Steps.{HasRun, IsRunOf}
-use Rattle.primal_run.proofs.RunFacts.{last_same, path_more, run_more, same_back, unfit_same}
+use Rattle.corner_ends.proofs.MarkOrders.{last_same, same_back, unfit_same}
+use Rattle.primal_run.proofs.RunFacts.{path_more, run_more}
 use Rattle.primal_run.proofs.runs.Run.exchange.Goals as goal
 
 pub returns-in-Ok-push-clause-run : goal.returns-in-Ok-push-clause-run
@@ -35,6 +36,6 @@ returns-in-Err-UnfitAt-clause-stop c = λ first run budget short.
     (path_more c.args.c.now.problem first c.args.c.now.marks c.args.self.now.swaps.items s run.swapped c.requires.enter c.in-Ok.ensures.inside (c.in-Ok.ensures.first first run)))
     (subst (λ (xs : List Swap). IsUnfitStop c.args.c.now.problem (last_marks first (xs ++ s ∷ [])) (UnfitAt c.in-Err-UnfitAt.quantity)) (sym more)
     (unfit_same c.args.c.now.problem (exchanged s c.args.c.now.marks) (last_marks first (c.args.self.now.swaps.items ++ s ∷ [])) (UnfitAt c.in-Err-UnfitAt.quantity)
-    (same_back (last_marks first (c.args.self.now.swaps.items ++ s ∷ [])) (exchanged s c.args.c.now.marks) (last_same c.args.c.now.problem first c.args.c.now.marks c.args.self.now.swaps.items s run.swapped c.in-Ok.ensures.inside))
+    (same_back (last_marks first (c.args.self.now.swaps.items ++ s ∷ [])) (exchanged s c.args.c.now.marks) (last_same first c.args.c.now.marks c.args.self.now.swaps.items s run.swapped.here c.in-Ok.ensures.inside))
     (search rules)))
     budget (subst (λ (xs : List Swap). length xs < budget) (sym more) short)

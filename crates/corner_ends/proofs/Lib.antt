@@ -1,0 +1,11 @@
+pub mod Signs
+pub mod Fronts
+pub mod Marks
+pub mod ReadNumbers
+pub mod RequiredCosts
+pub mod MarkOrders
+pub mod RunEnds
+pub mod SharedTimes
+pub mod ShownTimes
+pub mod RequiredTimes
+pub mod FirstMarks

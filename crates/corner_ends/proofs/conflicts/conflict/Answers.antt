@@ -1,0 +1,21 @@
+use Rattle.std.proofs.Common.{◌≡◌, ◌∙◌, List, sym, subst}
+use Rattle.cert_core.specs.declared.by.By.{By}
+use Rattle.cert_core.specs.Claims.{AreBys}
+use Rattle.cert_core.specs.Stops.{IsShownConflict}
+use Rattle.corner_ends.proofs.RequiredTimes.{ok_implies, required_refuted, times_exist}
+use Rattle.corner_ends.proofs.ShownTimes.{shown_conflict}
+use Rattle.corner_ends.proofs.conflicts.conflict.Goals as goal
+
+pub returns : goal.returns
+returns c =
+    let t = required_refuted c.args.c.now.problem c.args.c.now.marks c.show_corner.ensures.kept c.requires.above c.requires.columns in
+    let h = c.in_ok-by.ensures t.0 t.1 in
+    ok_implies c.of.result (λ (by : List By). by ≡ c.deref.result.now) (IsShownConflict c.args.c.now.problem)
+    (λ by e. subst (IsShownConflict c.args.c.now.problem) (sym (e ∙ c.deref.ensures.value))
+    (shown_conflict c.args.c.now.problem t.0 h.0 c.in_ok-by.by.items t.2 h.1 h.2 h.3))
+    c.of.ensures
+
+pub of-requires : goal.of-requires
+of-requires c =
+    let t = times_exist c.args.c.now.problem c.args.c.now.marks c.show_corner.ensures.kept in
+    subst AreBys (sym c.deref.ensures.value) (c.in_ok-by.ensures t.0 t.1).3.kept

@@ -1,0 +1,5 @@
+pub mod Runs
+pub mod Shares
+pub mod Columns
+pub mod Among
+pub mod Begins

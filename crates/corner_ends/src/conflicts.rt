@@ -1,0 +1,196 @@
+// The conflict that the multipliers of the required level show.
+ghost use Rattle.std.specs.Prelude.{◌≡◌, ◌≢◌, ◌⊎◌, ℕ, ℤ, ◌<◌, ◌^◌, ◌/◌, neg_ℤ, ◌++◌, ◌∷◌, [], ◌*ℤ◌};
+ghost use Rattle.std.specs.Prelude.{pos, true, false, List, Any, All};
+ghost use Rattle.std.specs.Prelude.{IfOk, unsigned_abs};
+ghost use Rattle.std.specs.Int.{◌∣◌};
+ghost use Rattle.frac_core.specs.Fraction.{IsFitting};
+ghost use Rattle.problem_core.specs.Layout as layout;
+ghost use Rattle.problem_core.specs.Levels.{CostsAbove};
+ghost use Rattle.problem_core.specs.Paths.{NoNegativeRequired};
+ghost use Rattle.cert_core.specs.Stops.{IsShownConflict};
+ghost use Rattle.corner_ends.specs.Shares.{AreRequiredTimes, AreShares, IsConflictStop, IsDivisor};
+ghost use Rattle.corner_ends.specs.Shares.{IsGreatest};
+
+use crate::costs::{is_below, required_level};
+use cert_core::{By, Conflict, RunStop};
+use corner::Corner;
+use frac_core::{OutOfMemory, gcd};
+use problem_core::{Row, RowName};
+use std::alloc::Global;
+
+/// The multiplier of a row at the level of the required rows.
+fn multiplier(c: &Corner, row: &Row) -> i64
+    requires { Any (λ r. r.id ≡ row.now.id) c.now.problem.rows }
+    ensures value { (y : ℕ → ℤ) → AreRequiredTimes c.now.problem c.now.marks y → result ≡ y row.now.id }
+    ensures fits { IsFitting result }
+{
+    c.show_corner();
+    c.multiplier(required_level(), RowName::Held(row.id()))
+}
+
+/// The greatest factor that the number shares with a factor.
+fn shared(factor: u128, times: i64) -> u128
+    requires times { IsFitting times }
+    requires small { factor < 2 ^ 42 }
+    ensures small { result < 2 ^ 42 }
+    ensures factor { result ∣ factor }
+    ensures times { result ∣ unsigned_abs times }
+    ensures greatest { (k : ℕ) → k ∣ factor → k ∣ unsigned_abs times → k ∣ result }
+{
+    if is_zero(times) {
+        factor
+    } else {
+        gcd(factor, size_of(times))
+    }
+}
+
+/// The greatest factor that a row's multiplier shares with a factor, where the row is required.
+fn shared_by(factor: u128, c: &Corner, row: &Row) -> u128
+    requires row { Any (λ r. r.id ≡ row.now.id) c.now.problem.rows }
+    requires small { factor < 2 ^ 42 }
+    ensures small { result < 2 ^ 42 }
+    ensures factor { result ∣ factor }
+    ensures times { (y : ℕ → ℤ) → AreRequiredTimes c.now.problem c.now.marks y
+        → IsDivisor result y row.now }
+    ensures greatest { (y : ℕ → ℤ) → AreRequiredTimes c.now.problem c.now.marks y → (k : ℕ) → k ∣ factor
+        → IsDivisor k y row.now → k ∣ result }
+{
+    if row.rank() == 1000 {
+        shared(factor, multiplier(c, row))
+    } else {
+        factor
+    }
+}
+
+/// The greatest common factor of the multipliers, 1 where there are none.
+fn common_factor(c: &Corner) -> u128
+    ensures above { 0 < result }
+    ensures small { result < 2 ^ 42 }
+    ensures divides { (y : ℕ → ℤ) → AreRequiredTimes c.now.problem c.now.marks y
+        → All (IsDivisor result y) c.now.problem.rows }
+    ensures greatest { (y : ℕ → ℤ) → AreRequiredTimes c.now.problem c.now.marks y
+        → All (IsDivisor 0 y) c.now.problem.rows
+        ⊎ IsGreatest result y c.now.problem.rows }
+{
+    let mut factor = 0;
+    for row in c.rows() {
+        factor = shared_by(factor, c, row);
+    }
+    if factor == 0 { 1 } else { factor }
+}
+
+/// The size of a number divided by a factor.
+fn size_share(times: i64, factor: u128) -> i64
+    requires above { 0 < factor }
+    requires fits { IsFitting times }
+    ensures value { result ≡ pos (unsigned_abs times / factor) }
+    ensures fits { IsFitting result }
+{
+    (u128::from(times.unsigned_abs()) / factor) as i64
+}
+
+/// The number with the other sign.
+fn opposite(z: i64) -> i64
+    requires { IsFitting z }
+    ensures value { result ≡ neg_ℤ z }
+    ensures fits { IsFitting result }
+{
+    -z
+}
+
+/// Whether the number is 0.
+fn is_zero(z: i64) -> bool
+    ensures yes { result ≡ true → z ≡ pos 0 }
+    ensures no { result ≡ false → z ≢ pos 0 }
+{
+    z == 0
+}
+
+/// The size of a number, in 128 bits.
+fn size_of(z: i64) -> u128
+    ensures { result ≡ unsigned_abs z }
+{
+    u128::from(z.unsigned_abs())
+}
+
+/// The number divided by a factor of it.
+fn share(times: i64, factor: u128) -> i64
+    requires above { 0 < factor }
+    requires fits { IsFitting times }
+    requires divides { factor ∣ unsigned_abs times }
+    ensures value { pos factor *ℤ result ≡ times }
+    ensures fits { IsFitting result }
+{
+    let size = size_share(times, factor);
+    if is_below(times) {
+        opposite(size)
+    } else {
+        size
+    }
+}
+
+/// Appends the row's share of its multiplier, where the row is required and this is not 0.
+fn push_share(out: &mut Vec<By>, c: &Corner, row: &Row, factor: u128) -> Result<(), OutOfMemory>
+    requires row { Any (λ r. r.id ≡ row.now.id) c.now.problem.rows }
+    requires above { 0 < factor }
+    requires divides { (y : ℕ → ℤ) → AreRequiredTimes c.now.problem c.now.marks y
+        → IsDivisor factor y row.now }
+    ensures { IfOk result (λ _. (y : ℕ → ℤ) → AreRequiredTimes c.now.problem c.now.marks y
+        → (rows : List layout.Row) → All (λ r. r.id < row.now.id) rows
+        → AreShares y factor rows out.old.items
+        → AreShares y factor (rows ++ row.now ∷ []) out.new.items) }
+{
+    c.show_corner();
+    if row.rank() == 1000 {
+        let times = share(multiplier(c, row), factor);
+        if !is_zero(times) {
+            out.push(By {
+                row: RowName::Held(row.id()),
+                times,
+            })?;
+        }
+    }
+    Ok(())
+}
+
+/// The multipliers of the required rows without a common factor.
+fn shares(alloc: Global, c: &Corner) -> Result<Vec<By>, OutOfMemory>
+    ensures { IfOk result (λ out. (y : ℕ → ℤ) → AreRequiredTimes c.now.problem c.now.marks y
+        → (g : ℕ) × (0 < g)
+        × (All (IsDivisor 0 y) c.now.problem.rows ⊎ IsGreatest g y c.now.problem.rows)
+        × AreShares y g c.now.problem.rows out.items) }
+{
+    c.show_corner();
+    let factor = common_factor(c);
+    let mut out = Vec::new(alloc);
+    for row in c.rows() {
+        push_share(&mut out, c, row, factor)?;
+    }
+    Ok(out)
+}
+
+/// The conflict that the multipliers of the required level show.
+fn conflict(alloc: Global, c: &Corner) -> Result<Conflict, OutOfMemory>
+    requires above { CostsAbove c.now.problem c.now.marks 0 }
+    requires columns { NoNegativeRequired c.now.problem c.now.marks }
+    ensures { IfOk result (IsShownConflict c.now.problem) }
+{
+    c.show_corner();
+    let by = shares(alloc, c)?;
+    Conflict::of(alloc, &by)
+}
+
+/// The stop at which the multipliers of the required level refute the required rows.
+///
+/// The rows that it names come by rising number, none of them times 0, and the multipliers have no common
+/// factor. That rows without a solution always have such multipliers is Farkas's lemma.
+pub fn conflict_stop(alloc: Global, c: &Corner) -> RunStop
+    requires above { CostsAbove c.now.problem c.now.marks 0 }
+    requires columns { NoNegativeRequired c.now.problem c.now.marks }
+    ensures { IsConflictStop c.now.problem result }
+{
+    match conflict(alloc, c) {
+        Ok(by) => RunStop::Conflict(by),
+        Err(_) => RunStop::OutOfMemory,
+    }
+}

@@ -1,0 +1,29 @@
+// Numbers that both runs read and compare.
+ghost use Rattle.std.specs.Prelude.{◌≡◌, ◌≤◌, ◌^◌, ◌*ℤ◌, unsigned_abs};
+ghost use Rattle.problem_core.specs.Corners as corners;
+ghost use Rattle.problem_core.specs.Corners.{IsIn};
+ghost use Rattle.problem_core.specs.Layout.{coefficient};
+ghost use Rattle.corner_laws.specs.Runs.{Writes, Writing};
+ghost use Rattle.corner.specs.Views.{IsOutside};
+
+use corner::Corner;
+use problem_core::{Mark, What};
+
+/// The coefficient of an outside mark in an inside one's writing.
+pub fn coefficient_of(c: &Corner, m: Mark, enter: Mark) -> i64
+    requires inside { IsIn (corners.place m) c.now.marks }
+    requires outside { IsOutside c.now.problem c.now.marks enter }
+    ensures { (w : Writing) → Writes c.now.problem c.now.marks (corners.place m) w
+        → result ≡ coefficient (corners.place enter) w.form }
+{
+    c.show_corner();
+    c.coefficient(What::Mark(m), enter)
+}
+
+/// The product of two numbers, in 128 bits.
+pub fn product(x: i64, y: i64) -> i128
+    ensures value { result ≡ x *ℤ y }
+    ensures small { unsigned_abs result ≤ 2 ^ 126 }
+{
+    i128::from(x) * i128::from(y)
+}

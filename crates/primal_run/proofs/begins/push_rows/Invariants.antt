@@ -1,9 +1,0 @@
-use Rattle.std.proofs.Common.{◌≡◌, ◌++◌, List, map, take}
-use Rattle.problem_core.specs.declared.parts.Mark.{Mark}
-use Rattle.problem_core.specs.declared.parts.RowName.TheVariants.{Held}
-use Rattle.primal_run.specs.Among.{lines_among}
-use Rattle.primal_run.specs.Steps.{HasRun}
-use Rattle.primal_run.proofs.begins.push_rows.Given as goal
-
-abbrev pub invariant-loop-row : goal.invariant-loop-row
-invariant-loop-row l = (first : List Mark) → HasRun l.c.problem first l.swaps l.c.marks → l.out.items ≡ l.fn.out.items ++ lines_among first (map (λ r. Held r.id) (take l.row-index l.c.problem.rows))

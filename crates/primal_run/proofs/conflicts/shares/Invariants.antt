@@ -1,6 +1,0 @@
-use Rattle.std.proofs.Common.{ℕ, ℤ, take}
-use Rattle.primal_run.specs.Shares.{AreRequiredTimes, AreShares}
-use Rattle.primal_run.proofs.conflicts.shares.Given as goal
-
-abbrev pub invariant-loop-row : goal.invariant-loop-row
-invariant-loop-row l = (y : ℕ → ℤ) → AreRequiredTimes l.c.problem l.c.marks y → AreShares y l.factor (take l.row-index l.c.problem.rows) l.out.items
