@@ -1,0 +1,117 @@
+-- Which of two columns over their numbers is the lesser, by their fronts.
+use Rattle.std.proofs.Common.{◌≡◌, ◌≢◌, ◌∙◌, inl, inr, refl, ℕ, zero, suc, ◌<◌, ◌≤◌, List, ℤ, pos, negsuc, ◌*ℤ◌, ◌-ℤ◌, ◌≤ℤ◌, ◌<ℤ◌, sym, ap, subst, arith}
+use borrow.Author.Differences.{ints}
+use Rattle.frac_core.proofs.Integers.{mul-zero_ℤ, mul_positive}
+use Rattle.problem_core.specs.declared.parts.Mark.{Mark}
+use Rattle.problem_core.specs.Layout.{Problem, lines}
+use Rattle.problem_core.specs.Certificates.{IsLexNonnegative}
+use Rattle.problem_core.specs.Corners.{NoNegativeColumn, place}
+use Rattle.problem_core.specs.Levels.{IsLevelAt}
+use Rattle.corner_laws.proofs.ColumnSigns.{negative_by_reduced}
+use Rattle.corner.specs.declared.levels.Front.{Front}
+use Rattle.corner.specs.Views.{HasNoFront, IsFrontOf, IsKeptCorner, IsMarkOf, IsStronger}
+use Rattle.corner_ends.specs.Columns.{Reduced}
+use Rattle.corner_ends.proofs.Fronts.{front_below, level_named, level_one, reduced_there, some_line, up_or_down}
+use Rattle.corner_ends.proofs.Signs.{not_both_signs}
+use Rattle.dual_run.specs.declared.ratios.Choice.{Choice}
+use Rattle.dual_run.specs.Entering.{IsNoGreater, IsPositive}
+use Rattle.dual_run.proofs.Lesser.{lex_at, lex_same, lex_times}
+use Rattle.dual_run.proofs.Orders.{both-zero, cost_there}
+
+not-none : (z : ℤ) → pos 0 ≤ℤ z → z ≢ pos 0 → pos 0 <ℤ z
+not-none (negsuc n) up some = absurd (omega (arith, ints, up))
+not-none (pos zero) up some = absurd (some refl)
+not-none (pos (suc n)) up some = omega (arith, ints)
+
+-- no column is negative, so fronts are above 0
+pub front_up : (p : Problem) (at : List Mark) (m : Mark) (f : Front) → IsKeptCorner p at → NoNegativeColumn p at → IsMarkOf p m → IsFrontOf p at m f → pos 0 <ℤ f.reduced
+front_up p at m f kept columns mark front =
+    elim (up_or_down f.reduced) [
+      | inl up ↦ not-none f.reduced up front.nonzero
+      | inr low ↦ absurd (not_both_signs p at m kept.whole kept.rays columns (front_below p at m f kept mark front low).column)
+    ]
+
+-- before its front a mark costs nothing
+pub none_before : (p : Problem) (at : List Mark) (r : Reduced p at) (m : Mark) (f : Front) (k j : ℕ) → IsKeptCorner p at → IsMarkOf p m → IsFrontOf p at m f → IsLevelAt p f.level k → j < k → r.costs j (place m) ≡ pos 0
+none_before p at r m f k j kept mark front here less =
+    elim (some_line (lines p) j) [
+      | inl used ↦
+          let named = level_named p j kept.whole used in
+          reduced_there p at r named.0 j m (pos 0) kept.whole kept.rays mark used named.1
+          (front.first named.0 (used.0, used.1, used.2, used.3, subst (λ (n : ℕ). IsLevelAt p named.0 n) (sym used.4) named.1)
+          (λ a b first second.
+          let x : a ≡ j = level_one p named.0 a j kept.whole first named.1 in
+          let y : b ≡ k = level_one p f.level b k kept.whole second here in
+          omega (arith, x, y, less)))
+      | inr none ↦ r.unused j none (place m)
+    ]
+
+pub none_at : (p : Problem) (at : List Mark) (r : Reduced p at) (m : Mark) (j : ℕ) → IsKeptCorner p at → IsMarkOf p m → HasNoFront p at m → r.costs j (place m) ≡ pos 0
+none_at p at r m j kept mark none_there =
+    elim (some_line (lines p) j) [
+      | inl used ↦
+          let named = level_named p j kept.whole used in
+          reduced_there p at r named.0 j m (pos 0) kept.whole kept.rays mark used named.1
+          (none_there named.0 (used.0, used.1, used.2, used.3, subst (λ (n : ℕ). IsLevelAt p named.0 n) (sym used.4) named.1))
+      | inr none ↦ r.unused j none (place m)
+    ]
+
+up-less : (a b x y : ℤ) → pos 0 <ℤ a → pos 0 <ℤ x → y ≡ pos 0 → pos 0 <ℤ (a *ℤ x -ℤ b *ℤ y)
+up-less (negsuc a) b x y up above e = absurd (omega (arith, ints, up))
+up-less (pos a) b x y up above e =
+    let one : pos 0 <ℤ (pos a *ℤ x) = mul_positive a x (omega (arith, ints, up)) above in
+    let two : b *ℤ y ≡ pos 0 = ap (λ (z : ℤ). b *ℤ z) e ∙ mul-zero_ℤ b in
+    omega (arith, ints, one, two)
+
+-- the weaker front is the lesser
+pub weaker_front : (p : Problem) (at : List Mark) (a b : Choice) (f g : Front) → IsKeptCorner p at → NoNegativeColumn p at → IsPositive p a → IsPositive p b → IsFrontOf p at a.mark f → IsFrontOf p at b.mark g → IsStronger p g.level f.level → IsNoGreater p at a b
+weaker_front p at a b f g kept columns x y front other stronger r =
+    let j = front.reduced.0 in
+    let k = other.reduced.0 in
+    let less : k < j = stronger k j other.reduced.1 front.reduced.1 in
+    lex_at (λ i. a.by *ℤ r.costs i (place b.mark) -ℤ b.by *ℤ r.costs i (place a.mark)) k
+    (λ i before. both-zero a.by b.by (r.costs i (place b.mark)) (r.costs i (place a.mark)) (none_before p at r b.mark g k i kept y.mark other other.reduced.1 before) (none_before p at r a.mark f j i kept x.mark front front.reduced.1 (omega (arith, before, less))))
+    (up-less a.by b.by (r.costs k (place b.mark)) (r.costs k (place a.mark)) x.above
+    (subst (λ (z : ℤ). pos 0 <ℤ z) (sym (cost_there p at g.level b.mark g.reduced kept other.used y.mark other.reduced r k other.reduced.1)) (front_up p at b.mark g kept columns y.mark other))
+    (none_before p at r a.mark f j k kept x.mark front front.reduced.1 less))
+
+above-by : (a b x y u v : ℤ) → u ≡ x → v ≡ y → (b *ℤ x) <ℤ (a *ℤ y) → pos 0 <ℤ (a *ℤ v -ℤ b *ℤ u)
+above-by a b x y u v e f less =
+    let one : b *ℤ u ≡ b *ℤ x = ap (λ (z : ℤ). b *ℤ z) e in
+    let two : a *ℤ v ≡ a *ℤ y = ap (λ (z : ℤ). a *ℤ z) f in
+    omega (arith, ints, one, two, less)
+
+same-number : (j k : ℕ) → j ≤ k → k ≤ j → j ≡ k
+same-number j k a b = omega (arith, a, b)
+
+-- of fronts at one level the lesser ratio is the lesser
+pub lesser_ratio : (p : Problem) (at : List Mark) (a b : Choice) (f g : Front) → IsKeptCorner p at → IsPositive p a → IsPositive p b → IsFrontOf p at a.mark f → IsFrontOf p at b.mark g
+    → ((j k : ℕ) → IsLevelAt p f.level j → IsLevelAt p g.level k → k ≤ j) → ((j k : ℕ) → IsLevelAt p g.level j → IsLevelAt p f.level k → k ≤ j) → (b.by *ℤ f.reduced) <ℤ (a.by *ℤ g.reduced) → IsNoGreater p at a b
+lesser_ratio p at a b f g kept x y front other first second less r =
+    let j = front.reduced.0 in
+    let k = other.reduced.0 in
+    let same : j ≡ k = same-number j k (second k j other.reduced.1 front.reduced.1) (first j k front.reduced.1 other.reduced.1) in
+    let here : IsLevelAt p f.level k = subst (IsLevelAt p f.level) same front.reduced.1 in
+    lex_at (λ i. a.by *ℤ r.costs i (place b.mark) -ℤ b.by *ℤ r.costs i (place a.mark)) k
+    (λ i before. both-zero a.by b.by (r.costs i (place b.mark)) (r.costs i (place a.mark)) (none_before p at r b.mark g k i kept y.mark other other.reduced.1 before) (none_before p at r a.mark f k i kept x.mark front here before))
+    (above-by a.by b.by f.reduced g.reduced (r.costs k (place a.mark)) (r.costs k (place b.mark))
+    (cost_there p at f.level a.mark f.reduced kept front.used x.mark front.reduced r k here) (cost_there p at g.level b.mark g.reduced kept other.used y.mark other.reduced r k other.reduced.1) less)
+
+column-up : (p : Problem) (at : List Mark) (r : Reduced p at) (m : Mark) → IsKeptCorner p at → NoNegativeColumn p at → IsMarkOf p m → IsLexNonnegative (λ i. r.costs i (place m))
+column-up p at r m kept columns mark k none =
+    elim (up_or_down (r.costs k (place m))) [
+      | inl up ↦ up
+      | inr low ↦ absurd (not_both_signs p at m kept.whole kept.rays columns (negative_by_reduced p at r.costs m kept.whole r.are mark (k, none, low)))
+    ]
+
+less-none : (a b x y : ℤ) → y ≡ pos 0 → a *ℤ x -ℤ b *ℤ y ≡ a *ℤ x
+less-none a b x y e =
+    let two : b *ℤ y ≡ pos 0 = ap (λ (z : ℤ). b *ℤ z) e ∙ mul-zero_ℤ b in
+    omega (arith, ints, two)
+
+-- a column without a front is the least
+pub no_front_lesser : (p : Problem) (at : List Mark) (a b : Choice) → IsKeptCorner p at → NoNegativeColumn p at → IsPositive p a → IsPositive p b → HasNoFront p at a.mark → IsNoGreater p at a b
+no_front_lesser p at a b kept columns x y none r =
+    lex_same (λ i. a.by *ℤ r.costs i (place b.mark) -ℤ b.by *ℤ r.costs i (place a.mark)) (λ i. a.by *ℤ r.costs i (place b.mark))
+    (λ i. less-none a.by b.by (r.costs i (place b.mark)) (r.costs i (place a.mark)) (none_at p at r a.mark i kept x.mark none))
+    (lex_times a.by (λ i. r.costs i (place b.mark)) x.above (column-up p at r b.mark kept columns y.mark))

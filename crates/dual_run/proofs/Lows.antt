@@ -1,0 +1,154 @@
+-- Marks whose values are negative.
+use Rattle.std.proofs.Common.{◌≡◌, ◌∙◌, ◌⊎◌, inl, inr, ℕ, zero, suc, ◌<◌, ◌++◌, List, [], ◌∷◌, ℤ, pos, negsuc, ◌*ℤ◌, ◌≤ℤ◌, ◌<ℤ◌, refl, sym, ap, subst, arith, All, Contains}
+use Rattle.std.specs.List.{AllByRecursion as Each}
+use Rattle.std.proofs.lemmas.Bool.{cases_Bool}
+use Rattle.std.proofs.lemmas.List.Elements.{recursion_from_All, All-from_recursion}
+use borrow.Author.Differences.{ints}
+use lib.IntN.{*ℤ_comm}
+use Rattle.frac_core.specs.Fraction.{Fraction}
+use Rattle.frac_core.proofs.Integers.{mul_not_negative}
+use Rattle.problem_core.specs.declared.parts.Mark.{Mark}
+use Rattle.problem_core.specs.declared.parts.Side.TheVariants.{Under, Over}
+use Rattle.problem_core.specs.declared.parts.RowName.{RowName}
+use Rattle.problem_core.specs.Layout.{Problem, lines}
+use Rattle.problem_core.specs.Corners.{HasNegativeValue, IsIn, NoNegativeColumn, NoNegativeValue, Point, StandsAt, marks_of, one_column, place}
+use Rattle.problem_core.specs.Levels.{CostsAbove}
+use Rattle.problem_core.specs.Paths.{NoNegativeRequired}
+use Rattle.problem_core.proofs.CornerFacts.{is_place}
+use Rattle.problem_core.proofs.Forms.{each-impl}
+use Rattle.corner_laws.proofs.ColumnSigns.{mark_line}
+use Rattle.corner_laws.proofs.Counting.{IsIn-from_is_place}
+use Rattle.corner_laws.proofs.LowestForms.{marks_are_fixed}
+use Rattle.corner_laws.proofs.WrittenValues.{contains_each}
+use Rattle.corner_laws.proofs.ZeroColumns.{not-in}
+use Rattle.corner.specs.Views.{HasValueAt, IsKeptCorner, IsMarkOf, IsNamed}
+use Rattle.corner_ends.proofs.Fronts.{up_or_down}
+use Rattle.corner_ends.proofs.Marks.{in_mark, one_mark}
+use Rattle.corner_ends.proofs.Signs.{low_from}
+use Rattle.dual_run.specs.Leaving.{AreLowLines, HasNoLow, IsLow, MayLeave}
+
+-- ---- signs
+
+times-one : (z : ℤ) → pos 1 *ℤ z ≡ z
+times-one z = omega (arith, ints)
+
+down-times : (a o : ℤ) → a <ℤ pos 0 → pos 0 <ℤ o → (a *ℤ o) <ℤ pos 0
+down-times a (negsuc n) low up = absurd (omega (arith, ints, up))
+down-times a (pos n) low up = low_from 1 n a (a *ℤ pos n) (omega (arith, ints, up)) (times-one (a *ℤ pos n) ∙ *ℤ_comm a (pos n)) low
+
+up-times : (a o : ℤ) → pos 0 ≤ℤ a → pos 0 <ℤ o → pos 0 ≤ℤ (a *ℤ o)
+up-times a (negsuc n) up over = absurd (omega (arith, ints, over))
+up-times a (pos n) up over = subst (λ (z : ℤ). pos 0 ≤ℤ z) (*ℤ_comm (pos n) a) (mul_not_negative n a up)
+
+-- where a*x = b*y, and x and y are above 0
+pub same_sign : (a b x y : ℤ) → pos 0 <ℤ x → pos 0 <ℤ y → a *ℤ x ≡ b *ℤ y → a <ℤ pos 0 → b <ℤ pos 0
+same_sign a (negsuc b) x y ux uy e low = omega (arith, ints)
+same_sign a (pos b) x y ux uy e low =
+    let one : (a *ℤ x) <ℤ pos 0 = down-times a x low ux in
+    let two : pos 0 ≤ℤ (pos b *ℤ y) = up-times (pos b) y (omega (arith, ints)) uy in
+    absurd (omega (arith, ints, one, two, e))
+
+-- ---- one mark
+
+-- the value is negative at each point of the corner
+pub low_everywhere : (p : Problem) (at : List Mark) (m : Mark) (x : Point) → IsKeptCorner p at → IsMarkOf p m → StandsAt p at x → HasNegativeValue p at m → x.num (place m) <ℤ pos 0
+low_everywhere p at m x kept mark here (y, there, low) =
+    same_sign (y.num (place m)) (x.num (place m)) (x.num one_column) (y.num one_column) x.positive y.positive (marks_are_fixed p at (place m) kept.corner mark y x there here) low
+
+inside-low : (p : Problem) (at : List Mark) (m : Mark) (x : Point) → IsMarkOf p m → StandsAt p at x → x.num (place m) <ℤ pos 0 → IsIn (place m) at
+inside-low p at m x mark here low =
+    elim (cases_Bool (is_place at (place m))) [
+      | inl i ↦ IsIn-from_is_place (place m) at i
+      | inr o ↦
+          let none : x.num (place m) ≡ pos 0 = contains_each (λ c. (IsIn c at → ⊥) → x.num c ≡ pos 0) (marks_of (lines p)) (place m) (recursion_from_All (λ n. (IsIn (place n) at → ⊥) → x.num (place n) ≡ pos 0) (marks_of (lines p)) here.1) mark (not-in at (place m) o) in
+          absurd (omega (arith, ints, none, low))
+    ]
+
+den-up : (d : ℕ) → 0 < d → pos 0 <ℤ pos d
+den-up d h = omega (arith, ints, h)
+
+pub low_value : (p : Problem) (at : List Mark) (m : Mark) (f : Fraction) → IsMarkOf p m → 0 < f.den → HasValueAt p at (place m) f → f.num <ℤ pos 0 → IsLow p at m
+low_value p at m f mark den (x, here, e) low =
+    let down : x.num (place m) <ℤ pos 0 = same_sign f.num (x.num (place m)) (x.num one_column) (pos f.den) x.positive (den-up f.den den) (sym e) low in
+    record { inside = inside-low p at m x mark here down; value = (x, here, down) }
+
+pub no_low_value : (p : Problem) (at : List Mark) (m : Mark) (f : Fraction) → IsKeptCorner p at → IsMarkOf p m → 0 < f.den → HasValueAt p at (place m) f → pos 0 ≤ℤ f.num → HasNegativeValue p at m → ⊥
+no_low_value p at m f kept mark den (x, here, e) up value =
+    let down : x.num (place m) <ℤ pos 0 = low_everywhere p at m x kept mark here value in
+    let low : f.num <ℤ pos 0 = same_sign (x.num (place m)) f.num (pos f.den) (x.num one_column) (den-up f.den den) x.positive e down in
+    omega (arith, ints, up, low)
+
+each-in : (ms : List Mark) → Each (λ m. IsIn (place m) ms) ms
+each-in [] = tt
+each-in (m ∷ ms) = ((0, omega arith, refl), each-impl (λ n. IsIn (place n) ms) (λ n. IsIn (place n) (m ∷ ms)) ms (λ n i. (suc i.0, (let within = i.1 in omega (arith, within)), i.2)) (each-in ms))
+
+each-first : (P : RowName → Type 0) (xs ys : List RowName) → Each P (xs ++ ys) → Each P xs
+each-first P [] ys h = tt
+each-first P (x ∷ xs) ys h = (h.0, each-first P xs ys h.1)
+
+last-or : (xs : List RowName) (x y : RowName) → Contains (xs ++ x ∷ []) y → Contains xs y ⊎ (x ≡ y)
+last-or [] x y (zero, within, is) = inr is
+last-or [] x y (suc k, within, is) = absurd (omega (arith, within))
+last-or (z ∷ xs) x y (zero, within, is) = inl (0, omega arith, is)
+last-or (z ∷ xs) x y (suc k, within, is) = elim (last-or xs x y (k, omega (arith, within), is)) [
+  | inl h ↦ inl (suc h.0, (let less = h.1 in omega (arith, less)), h.2)
+  | inr e ↦ inr e
+]
+
+pub none_low : (p : Problem) (at : List Mark) (name : RowName) (under over : Mark) → under ≡ record { row = name; side = Under } → over ≡ record { row = name; side = Over } → (HasNegativeValue p at under → ⊥) → (HasNegativeValue p at over → ⊥) → HasNoLow p at name
+none_low p at name under over e f a b Under h = a (subst (HasNegativeValue p at) (sym e) h)
+none_low p at name under over e f a b Over h = b (subst (HasNegativeValue p at) (sym f) h)
+
+-- ---- the listed lines
+
+pub mark_named : (p : Problem) (m : Mark) → IsMarkOf p m → IsNamed p m.row
+mark_named p m mark =
+    let found = mark_line (lines p) (place m) mark in
+    let same : record { row = found.2.name; side = found.0 } ≡ m = sym (one_mark m (record { row = found.2.name; side = found.0 }) found.5) in
+    (found.1, found.2, found.3, found.4, ap (λ (n : Mark). n.row) same)
+
+-- where no line is listed no value is negative
+pub no_low_left : (p : Problem) (at : List Mark) (names : List RowName) → IsKeptCorner p at → names ≡ [] → AreLowLines p at names → NoNegativeValue p at
+no_low_left p at names kept none lows = (
+  kept.corner.point,
+  kept.corner.stands,
+  All-from_recursion (λ m. pos 0 ≤ℤ kept.corner.point.num (place m)) at
+      (each-impl (λ m. IsIn (place m) at) (λ m. pos 0 ≤ℤ kept.corner.point.num (place m)) at
+      (λ m inside. elim (up_or_down (kept.corner.point.num (place m))) [
+        | inl up ↦ up
+        | inr low ↦
+            absurd (nothing m.row (subst (λ (xs : List RowName). Contains xs m.row) none (lows.low m (record { inside = inside; value = (kept.corner.point, kept.corner.stands, low) }))))
+      ])
+      (each-in at)),
+)
+  where
+    nothing : (name : RowName) → Contains [] name → ⊥
+    nothing name (k, within, is) = omega (arith, within)
+
+-- the last one has no negative value
+pub shorter : (p : Problem) (at : List Mark) (names rest : List RowName) (name : RowName) → names ≡ rest ++ name ∷ [] → HasNoLow p at name → AreLowLines p at names → AreLowLines p at rest
+shorter p at names rest name e none lows = record {
+  named = All-from_recursion (IsNamed p) rest (each-first (IsNamed p) rest (name ∷ []) (recursion_from_All (IsNamed p) (rest ++ name ∷ []) (subst (All (IsNamed p)) e lows.named)));
+  low = λ m low. elim (last-or rest name m.row (subst (λ (xs : List RowName). Contains xs m.row) e (lows.low m low))) [
+    | inl in-rest ↦ in-rest
+    | inr here ↦ absurd (none m.side (subst (λ (n : RowName). HasNegativeValue p at (record { row = n; side = m.side })) (sym here) low.value))
+  ];
+}
+
+pub may_leave : (p : Problem) (at : List Mark) (m : Mark) → IsKeptCorner p at → (CostsAbove p at 0 → ⊥) → IsLow p at m → MayLeave p at m
+may_leave p at m kept free low = record {
+  no_end = λ end. elim end [
+    | inl (y, there, ups) ↦
+        let up : pos 0 ≤ℤ y.num (place m) = contains_each (λ c. pos 0 ≤ℤ y.num c) at (place m) (recursion_from_All (λ n. pos 0 ≤ℤ y.num (place n)) at ups) low.inside in
+        let down : y.num (place m) <ℤ pos 0 = low_everywhere p at m y kept (in_mark p at m kept low.inside) there low.value in
+        omega (arith, ints, up, down)
+    | inr costs ↦ free costs
+  ];
+  low = low;
+}
+
+nothing-before : (k : ℕ) → k < 0 → ⊥
+nothing-before k h = omega (arith, h)
+
+pub none_required : (p : Problem) (at : List Mark) → NoNegativeColumn p at → NoNegativeRequired p at
+none_required p at (m, is, up) = (m, is, λ side i d within. up side i d within 0 (λ k less. absurd (nothing-before k less)))

@@ -1,0 +1,221 @@
+-- Marks that keep the sign of their value where others move.
+use Rattle.std.proofs.Common.{◌≡◌, ◌≢◌, ◌∙◌, ◌⊎◌, inl, inr, ℕ, zero, suc, ◌<◌, ◌++◌, List, [], ◌∷◌, map, ℤ, pos, negsuc, ◌*ℤ◌, ◌<ℤ◌, refl, sym, ap, subst, arith, All, Contains}
+use Rattle.std.proofs.lemmas.Bool.{cases_eq}
+use Rattle.std.proofs.lemmas.List.Elements.{recursion_from_All, All-from_recursion, All-push, Contains-append_left, Contains-push}
+use borrow.Author.Differences.{ints}
+use lib.IntN.{*ℤ_comm}
+use Rattle.frac_core.specs.Fraction.{Fraction}
+use Rattle.frac_core.proofs.Integers.{mul-zero_ℤ, mul_positive}
+use Rattle.problem_core.specs.declared.parts.Mark.{Mark}
+use Rattle.problem_core.specs.declared.parts.RowName.{RowName}
+use Rattle.problem_core.specs.declared.parts.RowName.TheVariants.{Held}
+use Rattle.problem_core.specs.declared.parts.Side.TheVariants.{Over}
+use Rattle.problem_core.specs.declared.stops.What.TheVariants.{Mark as MarkOf}
+use Rattle.problem_core.specs.Layout.{Problem, coefficient, lines}
+use Rattle.problem_core.specs.Corners.{HasNegativeValue, IsIn, Point, SameMarks, StandsAt, Swap, exchanged, marks_of, one_column, place, place_of}
+use Rattle.problem_core.proofs.Forms.{each-impl}
+use Rattle.corner_laws.specs.Runs.{Writes, Writing}
+use Rattle.corner_laws.proofs.Exchanged.{exchanged_in}
+use Rattle.corner_laws.proofs.LowestForms.{column_has_writing}
+use Rattle.corner_laws.proofs.RunPaths.{contains_in}
+use Rattle.corner_laws.proofs.WrittenValues.{value_there}
+use Rattle.corner_lines.specs.Shifts.{IsShift, with_constant}
+use Rattle.corner_lines.proofs.Shifted.{raised, raised-other, same-marks, shift-small, unshift-solves}
+use Rattle.corner.proofs.MoverFacts.{moves_where}
+use Rattle.corner.specs.Views.{IsKeptCorner, IsNamed, MovesWith}
+use Rattle.corner_ends.proofs.Signs.{low_from}
+use Rattle.corner_ends.proofs.Marks.{in_mark, named_mark, one_mark}
+use Rattle.dual_run.specs.Leaving.{AreLowLines, IsLow, ListsMovers, ListsShifted}
+use Rattle.dual_run.proofs.Lows.{mark_named, same_sign}
+
+-- ---- one mark
+
+-- the form has no mark that is inside at the other marks
+abbrev IsApart : Problem → List Mark → Writing → Type 0
+IsApart p more w = (v : ℕ) → coefficient v w.form ≢ pos 0 → Contains (map place (marks_of (lines p))) v × (IsIn v more → ⊥)
+
+writes_more : (p : Problem) (at more : List Mark) (n : Mark) (w : Writing) → Writes p at (place n) w → IsApart p more w → Writes p more (place n) w
+writes_more p at more n w writes apart = record {
+  scale_positive = writes.scale_positive;
+  den_positive = writes.den_positive;
+  outside = apart;
+  holds = writes.holds;
+  lowest = writes.lowest;
+}
+
+den-up : (d : ℕ) → 0 < d → pos 0 <ℤ pos d
+den-up d h = omega (arith, ints, h)
+
+-- a value that is negative where none of the form's marks moves is negative at the corner
+still_low : (p : Problem) (at more : List Mark) (n : Mark) (w : Writing) (y : Point) → IsKeptCorner p at → Writes p at (place n) w → IsApart p more w → StandsAt p more y → y.num (place n) <ℤ pos 0 → HasNegativeValue p at n
+still_low p at more n w y kept writes apart stands low =
+    let x = kept.corner.point in
+    let there : pos w.den *ℤ y.num (place n) ≡ w.num *ℤ y.num one_column = value_there p more (λ z. z (place n)) w.scale w.form w.num w.den y (writes_more p at more n w writes apart) stands in
+    let here : pos w.den *ℤ x.num (place n) ≡ w.num *ℤ x.num one_column = value_there p at (λ z. z (place n)) w.scale w.form w.num w.den x writes kept.corner.stands in
+    let down : w.num <ℤ pos 0 = same_sign (y.num (place n)) w.num (pos w.den) (y.num one_column) (den-up w.den writes.den_positive) y.positive (*ℤ_comm (y.num (place n)) (pos w.den) ∙ there) low in
+    (x, kept.corner.stands, same_sign w.num (x.num (place n)) (x.num one_column) (pos w.den) x.positive (den-up w.den writes.den_positive) (sym here ∙ *ℤ_comm (pos w.den) (x.num (place n))) down)
+
+none_or : (A : Type 0) (z : ℤ) → (z ≢ pos 0 → A) → (z ≡ pos 0) ⊎ A
+none_or A (pos zero) h = inl refl
+none_or A (pos (suc k)) h = inr (h (λ e. absurd (omega (arith, ints, e))))
+none_or A (negsuc k) h = inr (h (λ e. absurd (omega (arith, ints, e))))
+
+-- the mark's number is 0, or it is outside and the inside mark moves with it
+still_or_moves : (p : Problem) (at : List Mark) (m n : Mark) (w : Writing) → IsKeptCorner p at → IsIn (place n) at → Writes p at (place n) w → (coefficient (place m) w.form ≡ pos 0) ⊎ ((IsIn (place m) at → ⊥) × MovesWith p at m (MarkOf n))
+still_or_moves p at m n w kept inside writes =
+    none_or ((IsIn (place m) at → ⊥) × MovesWith p at m (MarkOf n)) (coefficient (place m) w.form)
+    (λ some. let out = writes.outside (place m) some in (
+      out.1,
+      moves_where p at m (MarkOf n) (coefficient (place m) w.form) kept.corner kept.rays out (place n, (inside, refl), (w.scale, w.form, record { num = w.num; den = w.den }, writes, refl)) some,
+    ))
+
+record HasForm (p : Problem) (at : List Mark) (n : Mark) : Type 0 where
+  pub w : Writing
+  pub writes : Writes p at (place n) w
+
+form_of : (p : Problem) (at : List Mark) (n : Mark) → IsKeptCorner p at → IsIn (place n) at → HasForm p at n
+form_of p at n kept inside =
+    let w = column_has_writing p at (place n) kept.corner kept.rays (inl (in_mark p at n kept inside)) in
+    record { w = record { scale = w.0; form = w.1; num = w.2; den = w.3 }; writes = w.4 }
+
+-- ---- after an exchange
+
+after_apart : (p : Problem) (at new : List Mark) (s : Swap) (w : Writing) (c : ℕ) → Writes p at c w → SameMarks new (exchanged s at) → coefficient (place s.enter) w.form ≡ pos 0 → IsApart p new w
+after_apart p at new s w c writes same none v some =
+    let out = writes.outside v some in (
+      out.0,
+      λ i. elim (exchanged_in s at v (contains_in new (exchanged s at) v same.0 i)) [
+        | inl e ↦ some (subst (λ (u : ℕ). coefficient u w.form ≡ pos 0) (sym e) none)
+        | inr old ↦ out.1 old.0
+      ],
+    )
+
+low_after : (p : Problem) (at new : List Mark) (s : Swap) (n : Mark) (old now : List RowName) → IsKeptCorner p at → SameMarks new (exchanged s at) → AreLowLines p at old → ListsMovers p at s.enter old now → Contains now s.enter.row → IsLow p new n → Contains now n.row
+low_after p at new s n old now kept same lows lists own low =
+    elim (exchanged_in s at (place n) (contains_in new (exchanged s at) (place n) same.0 low.inside)) [
+      | inl e ↦ subst (λ (m : Mark). Contains now m.row) (one_mark s.enter n e) own
+      | inr before ↦
+          let f = form_of p at n kept before.0 in
+          elim (still_or_moves p at s.enter n f.w kept before.0 f.writes) [
+            | inl none ↦
+                lists.keeps n.row (lows.low n (record {
+                  inside = before.0;
+                  value = (let h = low.value in still_low p at new n f.w h.0 kept f.writes (after_apart p at new s f.w (place n) f.writes same none) h.1 h.2);
+                }))
+            | inr moves ↦ lists.has n moves.1
+          ]
+    ]
+
+pub lows_after : (p q : Problem) (at new : List Mark) (s : Swap) (old now : List RowName) → IsKeptCorner p at → q ≡ p → SameMarks new (exchanged s at) → AreLowLines p at old → ListsMovers p at s.enter old now → Contains now s.enter.row → AreLowLines q new now
+lows_after p q at new s old now kept e same lows lists own =
+    subst (λ (k : Problem). AreLowLines k new now) (sym e) (record {
+      named = lists.named lows.named;
+      low = λ m low. low_after p at new s m old now kept same lows lists own low;
+    })
+
+-- ---- after a change of a constant
+
+-- the point with the row's over mark moved solves the problem with the old constant
+record IsUnshifted (p : Problem) (at : List Mark) (id : ℕ) (y : Point) : Type 0 where
+  pub point : Point
+  pub stands : StandsAt p (record { row = Held id; side = Over } ∷ at) point
+  pub low : (v : ℕ) → v ≢ place_of (Held id) Over → y.num v <ℤ pos 0 → point.num v <ℤ pos 0
+
+times-one : (z : ℤ) → pos 1 *ℤ z ≡ z
+times-one z = omega (arith, ints)
+
+low-times : (d : ℕ) (z : ℤ) → 0 < d → z <ℤ pos 0 → (pos d *ℤ z) <ℤ pos 0
+low-times d z above low = low_from 1 d z (pos d *ℤ z) above (times-one (pos d *ℤ z)) low
+
+later-in : (m : Mark) (ms : List Mark) (c : ℕ) → IsIn c ms → IsIn c (m ∷ ms)
+later-in m ms c (k, within, is) = (suc k, omega (arith, within), is)
+
+unshifted : (p : Problem) (at : List Mark) (id : ℕ) (from to more : Fraction) (y : Point) → IsKeptCorner p at → IsShift p id from to more → StandsAt (with_constant id to p) at y → IsUnshifted p at id y
+unshifted p at id from to more y kept s stands =
+    let small = shift-small p id from to more kept.whole s in
+    let c = place_of (Held id) Over in
+    let other : one_column ≢ c = λ e. absurd (omega (arith, small, e)) in
+    let e = more.num *ℤ y.num one_column in
+    record {
+      point = record {
+        num = raised more.den e c y.num;
+        positive = subst (λ (z : ℤ). pos 0 <ℤ z) (sym (raised-other more.den e c y.num one_column other)) (mul_positive more.den (y.num one_column) s.more_positive y.positive);
+      };
+      stands = (
+        unshift-solves p id from to more y.num small s stands.0,
+        All-from_recursion (λ m. (IsIn (place m) (record { row = Held id; side = Over } ∷ at) → ⊥) → raised more.den e c y.num (place m) ≡ pos 0) (marks_of (lines p))
+            (each-impl (λ m. (IsIn (place m) at → ⊥) → y.num (place m) ≡ pos 0) _ (marks_of (lines p))
+            (λ m h out.
+            raised-other more.den e c y.num (place m) (λ q. out (0, omega arith, sym q))
+            ∙ ap (λ (z : ℤ). pos more.den *ℤ z) (h (λ i. out (later-in (record { row = Held id; side = Over }) at (place m) i)))
+            ∙ mul-zero_ℤ (pos more.den))
+            (recursion_from_All (λ m. (IsIn (place m) at → ⊥) → y.num (place m) ≡ pos 0) (marks_of (lines p))
+            (subst (All (λ m. (IsIn (place m) at → ⊥) → y.num (place m) ≡ pos 0)) (same-marks id to p) stands.1))),
+      );
+      low = λ v ne low. subst (λ (z : ℤ). z <ℤ pos 0) (sym (raised-other more.den e c y.num v ne)) (low-times more.den (y.num v) s.more_positive low);
+    }
+
+over_apart : (p : Problem) (at : List Mark) (id : ℕ) (w : Writing) (c : ℕ) → Writes p at c w → coefficient (place_of (Held id) Over) w.form ≡ pos 0 → IsApart p (record { row = Held id; side = Over } ∷ at) w
+over_apart p at id w c writes none v some =
+    let out = writes.outside v some in (
+      out.0,
+      λ i. elim (first-or i) [
+        | inl e ↦ some (subst (λ (u : ℕ). coefficient u w.form ≡ pos 0) e none)
+        | inr old ↦ out.1 old
+      ],
+    )
+  where
+    first-or : IsIn v (record { row = Held id; side = Over } ∷ at) → (place_of (Held id) Over ≡ v) ⊎ IsIn v at
+    first-or (zero, within, is) = inl is
+    first-or (suc k, within, is) = inr (k, omega (arith, within), is)
+
+named_shifted : (p : Problem) (id : ℕ) (to : Fraction) (name : RowName) → IsNamed p name → IsNamed (with_constant id to p) name
+named_shifted p id to name named =
+    mark_named (with_constant id to p) (record { row = name; side = Over })
+    (subst (λ (ms : List Mark). Contains (map place ms) (place_of name Over)) (sym (same-marks id to p)) (named_mark p name Over named))
+
+low_shifted : (p : Problem) (at : List Mark) (id : ℕ) (from to more : Fraction) (n : Mark) (old now : List RowName) → IsKeptCorner p at → IsShift p id from to more → AreLowLines p at old → ListsShifted p at id old now → IsLow (with_constant id to p) at n → Contains now n.row
+low_shifted p at id from to more n old now kept s lows lists low =
+    elim (cases_eq (place n) (place_of (Held id) Over)) [
+      | inl e ↦
+          subst (λ (m : Mark). Contains now m.row) (sym (one_mark n (record { row = Held id; side = Over }) (sym e)))
+          (lists.own (subst (λ (c : ℕ). IsIn c at) e low.inside))
+      | inr ne ↦
+          let f = form_of p at n kept low.inside in
+          elim (still_or_moves p at (record { row = Held id; side = Over }) n f.w kept low.inside f.writes) [
+            | inl none ↦
+                let h = low.value in
+                let z = unshifted p at id from to more h.0 kept s h.1 in
+                lists.keeps n.row (lows.low n (record {
+                  inside = low.inside;
+                  value = still_low p at (record { row = Held id; side = Over } ∷ at) n f.w z.point kept f.writes (over_apart p at id f.w (place n) f.writes none) z.stands (z.low (place n) ne h.2);
+                }))
+            | inr moves ↦ lists.has moves.0 n moves.1
+          ]
+    ]
+
+pub lows_shifted : (p q : Problem) (at new : List Mark) (id : ℕ) (from to more : Fraction) (old now : List RowName) → IsKeptCorner p at → IsShift p id from to more → q ≡ with_constant id to p → new ≡ at → ListsShifted p at id old now → AreLowLines p at old → AreLowLines q new now
+lows_shifted p q at new id from to more old now kept s e f lists lows =
+    subst (λ (k : Problem). AreLowLines k new now) (sym e) (subst (λ (ms : List Mark). AreLowLines (with_constant id to p) ms now) (sym f) (record {
+      named = λ i d within. named_shifted p id to _ (lists.named lows.named i d within);
+      low = λ m low. low_shifted p at id from to more m old now kept s lows lists low;
+    }))
+
+-- ---- what is listed before it
+
+pub own_shifted : (p : Problem) (at : List Mark) (id : ℕ) (old new : List RowName) → IsIn (place_of (Held id) Over) at → IsNamed p (Held id) → new ≡ old ++ Held id ∷ [] → ListsShifted p at id old new
+own_shifted p at id old new inside named e =
+    subst (ListsShifted p at id old) (sym e) (record {
+      keeps = λ name h. Contains-append_left old (Held id ∷ []) name h;
+      named = λ all. All-push (IsNamed p) old (Held id) all named;
+      own = λ i. Contains-push old (Held id);
+      has = λ out m moves. absurd (out inside);
+    })
+
+pub movers_shifted : (p : Problem) (at : List Mark) (id : ℕ) (old new : List RowName) → (IsIn (place_of (Held id) Over) at → ⊥) → ListsMovers p at (record { row = Held id; side = Over }) old new → ListsShifted p at id old new
+movers_shifted p at id old new out h = record {
+  keeps = h.keeps;
+  named = h.named;
+  own = λ i. absurd (out i);
+  has = λ o m moves. h.has m moves;
+}

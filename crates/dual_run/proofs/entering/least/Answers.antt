@@ -1,0 +1,36 @@
+use Rattle.std.proofs.Common.{arith}
+use Rattle.dual_run.proofs.Choices.{all_entries, entry_outside, first_more, line_through}
+use Rattle.dual_run.proofs.entering.least.Goals as goal
+
+pub loop-i-init : goal.loop-i-init
+loop-i-init c = record {
+  choice = c.own_choice-found.ensures.choice;
+  own = c.own_choice-found.ensures.line;
+  least = λ names are k name less got. absurd (omega (arith, less));
+}
+
+pub entry-requires-clause-within : goal.entry-requires-clause-within
+entry-requires-clause-within c =
+    let m = c.entries-count.ensures in
+    let within = c.loop-i-test.true in
+    let same = m.2 in
+    (m.0, m.1, omega (arith, within, same))
+
+pub better_of-requires-clause-row : goal.better_of-requires-clause-row
+better_of-requires-clause-row c =
+    let m = c.entries-count.ensures in
+    entry_outside c.args.c.now c.args.leave m.0 c.loop-i.i c.entry.result m.1 (c.entry.ensures m.0 m.1)
+
+pub loop-i-preserved : goal.loop-i-preserved
+loop-i-preserved c = record {
+  choice = c.in_ok-best.ensures.choice;
+  own = line_through c.args.c.now.problem c.args.c.now.marks c.args.leave c.in_ok-best.best c.loop-i.found c.args.leave.row c.in_ok-best.ensures.choice c.loop-i.invariant.choice c.in_ok-best.ensures.found c.loop-i.invariant.own;
+  least = first_more c.args.c.now c.args.leave c.in_ok-best.best c.loop-i.found c.loop-i.i c.entry.result c.in_ok-best.ensures.choice c.loop-i.invariant.choice c.in_ok-best.ensures.found c.entry.ensures c.in_ok-best.ensures.line c.loop-i.invariant.least;
+}
+
+pub returns-clause-least : goal.returns-clause-least
+returns-clause-least c =
+    let m = c.entries-count.ensures in
+    let same = m.2 in
+    let over = c.loop-i-test.false in
+    all_entries c.args.c.now c.args.leave c.loop-i.found m.0 c.loop-i.i m.1 (omega (arith, same, over)) c.loop-i.invariant.least

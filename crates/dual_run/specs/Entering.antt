@@ -1,0 +1,59 @@
+-- Which mark has the least column over its number.
+use Rattle.std.specs.Prelude.{◌≡◌, ℕ, List, ℤ, pos, ◌*ℤ◌, ◌-ℤ◌, ◌<ℤ◌, All, AllPairs, Contains}
+use Rattle.problem_core.specs.declared.parts.Mark.{Mark}
+use Rattle.problem_core.specs.declared.parts.Level.{Level}
+use Rattle.problem_core.specs.declared.parts.RowName.{RowName}
+use Rattle.problem_core.specs.declared.parts.Side.{Side}
+use Rattle.problem_core.specs.Layout.{Problem, coefficient}
+use Rattle.problem_core.specs.Certificates.{IsLexNonnegative}
+use Rattle.problem_core.specs.Corners.{place}
+use Rattle.corner_laws.specs.Runs.{Writes, Writing}
+use Rattle.corner.specs.Views.{IsInUse, IsMarkOf, IsOutside, IsStronger}
+use Rattle.corner.specs.Entries.{HasEntry}
+use Rattle.corner_ends.specs.Columns.{Reduced}
+use Rattle.dual_run.specs.declared.ratios.Choice.{Choice}
+
+-- the levels at which lines stand, strongest first
+pub record AreLevels (p : Problem) (levels : List Level) : Type 0 where
+  pub used : All (IsInUse p) levels
+  pub all : (level : Level) → IsInUse p level → Contains levels level
+  pub in_order : AllPairs (IsStronger p) levels
+
+-- a mark of the problem, with a number above 0
+pub record IsPositive (p : Problem) (f : Choice) : Type 0 where
+  pub mark : IsMarkOf p f.mark
+  pub above : pos 0 <ℤ f.by
+
+-- the mark is outside, and the leaving one grows with it by this number
+pub record IsChoice (p : Problem) (at : List Mark) (leave : Mark) (f : Choice) : Type 0 where
+  pub outside : IsOutside p at f.mark
+  pub above : pos 0 <ℤ f.by
+  pub by : (w : Writing) → Writes p at (place leave) w → f.by ≡ coefficient (place f.mark) w.form
+
+-- the leaving mark doesn't grow with this one
+abbrev pub NeverGrows : Problem → List Mark → Mark → Mark → Type 0
+NeverGrows p at leave m = (w : Writing) → Writes p at (place leave) w
+    → pos 0 <ℤ coefficient (place m) w.form → ⊥
+
+-- the column of c over `by` is no greater than that of d over `other`
+abbrev pub IsLesser : (ℕ → ℕ → ℤ) → ℕ → ℤ → ℕ → ℤ → Type 0
+IsLesser costs c by d other = IsLexNonnegative (λ level. by *ℤ costs level d -ℤ other *ℤ costs level c)
+
+-- the first one's column over its number is no greater
+abbrev pub IsNoGreater : Problem → List Mark → Choice → Choice → Type 0
+IsNoGreater p at a b = (r : Reduced p at) → IsLesser r.costs (place a.mark) a.by (place b.mark) b.by
+
+-- nor than that of this mark, if the leaving one grows with it
+abbrev pub IsBeforeMark : Problem → List Mark → Mark → Choice → Mark → Type 0
+IsBeforeMark p at leave f m = (w : Writing) → Writes p at (place leave) w
+    → pos 0 <ℤ coefficient (place m) w.form
+    → (r : Reduced p at) → IsLesser r.costs (place f.mark) f.by (place m) (coefficient (place m) w.form)
+
+-- nor than those of the line's marks
+abbrev pub IsBeforeLine : Problem → List Mark → Mark → Choice → RowName → Type 0
+IsBeforeLine p at leave f name = (side : Side)
+    → IsBeforeMark p at leave f (record { row = name; side = side })
+
+-- nor than those of the lines that have a number in the leaving mark's writing
+abbrev pub IsBeforeEntries : Problem → List Mark → Mark → Choice → Type 0
+IsBeforeEntries p at leave f = (name : RowName) → HasEntry p at leave name → IsBeforeLine p at leave f name

@@ -1,0 +1,43 @@
+//! The dual run: exchanges from a corner without negative columns to one without negative values.
+//!
+//! [`restore`] goes to the best values again after constants have changed. A mark with a negative value
+//! leaves. Of the outside marks with which it grows that one enters whose column over its number is the
+//! least, level by level, so no column becomes negative. With the leaving mark the other one of its line
+//grows, so
+//! there always is one. Where the required rows cost, the multipliers of their level show that they have no
+//! solution.
+//!
+//! ```
+//! corner.mark();
+//! let mut low = Vec::new(alloc);                        // no value is negative
+//! shift(&mut corner, &mut low, 7, Frac::of(40, 1)?)?;   // row 7: attribute 1 is 40, and was 30
+//! restore(alloc, &mut corner, low, 1_000)?;             // the other mark of row 7 or of a stay enters
+//! corner.attr_value(1);                                 // 40
+//! ```
+//!
+//! After `Ok` no value and no column is negative, and the required rows cost nothing (`IsBestEnd`), so the
+//! values are best. The problem and the earlier corners are as before, no line is listed, and a lawful dual
+//! path of at most as many exchanges as the budget leads from the corner before to this one (`IsRun`). After
+//! `Err` the stop shows why the run ends (`IsStopOf`).
+//!
+//! What holds before each exchange (`IsRunOf`): the first corner had no negative column, and in each exchange
+//! so far the mark with the least column over its number entered. So the vector of costs rises, and no corner
+//! comes twice. And each mark with a negative value is of a line on the list (`AreLowLines`): [`shift`] lists
+//! the lines whose values a new constant changes, an exchange those of the marks that move with the entering
+//! one.
+//!
+//! To read: `leaving` finds a mark with a negative value and lists lines, `shifts` lists those of a new
+//! constant; `ratios` tells which of two columns over their numbers is the lesser, `entering` which of all
+//! that have a number in the leaving mark's row; `runs` keeps the exchanges so far; and `restoring` is the
+//! run.
+#![tactic(auto)]
+
+mod entering;
+mod leaving;
+mod ratios;
+mod restoring;
+mod runs;
+mod shifts;
+
+pub use restoring::restore;
+pub use shifts::shift;

@@ -1,0 +1,123 @@
+// Which of two columns over their numbers is the lesser.
+ghost use Rattle.std.specs.Prelude.{◌≡◌, ℕ, pos, ◌*ℤ◌, ◌<ℤ◌, true, false, IfOk};
+ghost use Rattle.std.specs.Ordering.{int_cmp};
+ghost use Rattle.std.specs.declared.cmp.Ordering.TheVariants.{Less as IsLess, Greater as IsGreater};
+ghost use Rattle.problem_core.specs.Corners as corners;
+ghost use Rattle.problem_core.specs.Corners.{NoNegativeColumn};
+ghost use Rattle.problem_core.specs.Levels.{IsLevelAt};
+ghost use Rattle.corner.specs.Views.{IsFrontOf, IsInUse, IsMarkOf};
+ghost use Rattle.corner_ends.specs.Columns.{Reduced};
+ghost use Rattle.dual_run.specs.Entering.{AreLevels, IsNoGreater, IsPositive};
+
+use corner::{Corner, Front};
+use corner_ends::product;
+use frac_core::OutOfMemory;
+use problem_core::{Level, Mark};
+use std::cmp::Ordering;
+
+/// An outside mark, and its number in the leaving mark's writing.
+#[derive(Clone, Copy, Debug)]
+pub(crate) struct Choice {
+    pub mark: Mark,
+    pub by: i64,
+}
+
+/// The order of two marks' reduced costs at a level, each over its number.
+fn order_at(c: &Corner, level: Level, a: Choice, b: Choice) -> Ordering
+    requires used { IsInUse c.now.problem level }
+    requires a { IsMarkOf c.now.problem a.mark }
+    requires b { IsMarkOf c.now.problem b.mark }
+    ensures { (r : Reduced c.now.problem c.now.marks) (k : ℕ) → IsLevelAt c.now.problem level k
+        → result ≡ int_cmp (b.by *ℤ r.costs k (corners.place a.mark))
+        (a.by *ℤ r.costs k (corners.place b.mark)) }
+{
+    c.show_corner();
+    let first = product(b.by, c.reduced(level, a.mark));
+    first.cmp(&product(a.by, c.reduced(level, b.mark)))
+}
+
+/// Whether the first column over its number is no greater than the second, by these levels; if not, the
+/// second is no greater than the first.
+fn is_before_at(c: &Corner, levels: &[Level], a: Choice, b: Choice) -> bool
+    requires levels { AreLevels c.now.problem levels.now }
+    requires a { IsMarkOf c.now.problem a.mark }
+    requires b { IsMarkOf c.now.problem b.mark }
+    ensures yes { result ≡ true → IsNoGreater c.now.problem c.now.marks a b }
+    ensures no { result ≡ false → IsNoGreater c.now.problem c.now.marks b a }
+{
+    c.show_corner();
+    for level in levels {
+        match order_at(c, *level, a, b) {
+            Ordering::Less => return true,
+            Ordering::Greater => return false,
+            Ordering::Equal => {}
+        }
+    }
+    true
+}
+
+/// The order of two fronts at one level, each over its number.
+fn ratio_order(a: Choice, f: Front, b: Choice, g: Front) -> Ordering
+    ensures { result ≡ int_cmp (b.by *ℤ f.reduced) (a.by *ℤ g.reduced) }
+{
+    let first = product(b.by, f.reduced);
+    first.cmp(&product(a.by, g.reduced))
+}
+
+/// The order of two columns over their numbers by their fronts: the weaker front is the lesser, and of fronts
+/// at one level that with the lesser ratio. Equal where levels behind them decide.
+fn front_order(c: &Corner, a: Choice, f: Front, b: Choice, g: Front) -> Ordering
+    requires columns { NoNegativeColumn c.now.problem c.now.marks }
+    requires a { IsPositive c.now.problem a }
+    requires b { IsPositive c.now.problem b }
+    requires f { IsFrontOf c.now.problem c.now.marks a.mark f }
+    requires g { IsFrontOf c.now.problem c.now.marks b.mark g }
+    ensures less { result ≡ IsLess → IsNoGreater c.now.problem c.now.marks a b }
+    ensures greater { result ≡ IsGreater → IsNoGreater c.now.problem c.now.marks b a }
+{
+    c.show_corner();
+    if c.is_stronger(f.level, g.level) {
+        return Ordering::Greater;
+    }
+    if c.is_stronger(g.level, f.level) {
+        return Ordering::Less;
+    }
+    ratio_order(a, f, b, g)
+}
+
+/// The order of two columns over their numbers, Equal where levels behind their fronts decide.
+fn order(c: &Corner, a: Choice, b: Choice) -> Ordering
+    requires columns { NoNegativeColumn c.now.problem c.now.marks }
+    requires a { IsPositive c.now.problem a }
+    requires b { IsPositive c.now.problem b }
+    ensures less { result ≡ IsLess → IsNoGreater c.now.problem c.now.marks a b }
+    ensures greater { result ≡ IsGreater → IsNoGreater c.now.problem c.now.marks b a }
+{
+    c.show_corner();
+    match c.front(a.mark) {
+        None => Ordering::Less,
+        Some(f) => match c.front(b.mark) {
+            None => Ordering::Greater,
+            Some(g) => front_order(c, a, f, b, g),
+        },
+    }
+}
+
+/// Whether the first column over its number is no greater than the second; if not, the second is no greater
+/// than the first. The levels are listed only where the fronts are equal.
+pub(crate) fn is_before(c: &Corner, a: Choice, b: Choice) -> Result<bool, OutOfMemory>
+    requires columns { NoNegativeColumn c.now.problem c.now.marks }
+    requires a { IsPositive c.now.problem a }
+    requires b { IsPositive c.now.problem b }
+    ensures yes { IfOk result (λ yes. yes ≡ true → IsNoGreater c.now.problem c.now.marks a b) }
+    ensures no { IfOk result (λ yes. yes ≡ false → IsNoGreater c.now.problem c.now.marks b a) }
+{
+    match order(c, a, b) {
+        Ordering::Less => Ok(true),
+        Ordering::Greater => Ok(false),
+        Ordering::Equal => {
+            let levels = c.levels()?;
+            Ok(is_before_at(c, &levels, a, b))
+        }
+    }
+}

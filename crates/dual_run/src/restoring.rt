@@ -1,0 +1,91 @@
+// The run to a corner without negative values.
+ghost use Rattle.std.specs.Prelude.{◌≡◌, ◌<◌, [], length, true, IfOk, IfErr};
+ghost use Rattle.std.specs.Prelude.{IfSome, IfNone};
+ghost use Rattle.problem_core.specs.Corners.{NoNegativeColumn, NoNegativeValue};
+ghost use Rattle.problem_core.specs.Levels.{CostsAbove};
+ghost use Rattle.cert_core.specs.Paths as paths;
+ghost use Rattle.cert_core.specs.Stops.{IsStopOf};
+ghost use Rattle.corner.specs.Changes.{scene_of};
+ghost use Rattle.corner_ends.specs.Runs.{FromHere, IsBestEnd, IsRun};
+ghost use Rattle.corner_ends.specs.Shares.{IsConflictStop};
+ghost use Rattle.dual_run.specs.Leaving.{AreLowLines, MayLeave};
+
+use crate::leaving::leaving;
+use crate::runs::Run;
+use cert_core::RunStop;
+use corner::Corner;
+use corner_ends::{conflict_stop, is_costly};
+use problem_core::{Mark, RowName};
+use std::alloc::Global;
+
+/// The mark that leaves next, and None at the end of the run.
+fn next(alloc: Global, c: &Corner, low: &mut Vec<RowName>) -> Result<Option<Mark>, RunStop>
+    requires columns { NoNegativeColumn c.now.problem c.now.marks }
+    requires low { AreLowLines c.now.problem c.now.marks low.old.items }
+    ensures low { AreLowLines c.now.problem c.now.marks low.new.items }
+    ensures leaves { IfOk result (λ found. IfSome found (MayLeave c.now.problem c.now.marks)) }
+    ensures values { IfOk result (λ found. IfNone found (NoNegativeValue c.now.problem c.now.marks)) }
+    ensures costs { IfOk result (λ found. IfNone found (CostsAbove c.now.problem c.now.marks 0 → ⊥)) }
+    ensures stop { IfErr result (IsConflictStop c.now.problem) }
+{
+    c.show_corner();
+    if is_costly(c) {
+        return Err(conflict_stop(alloc, c));
+    }
+    Ok(leaving(c, low))
+}
+
+/// Takes all lines off the list, where no column is negative.
+fn unlist_all(c: &mut Corner)
+    requires { NoNegativeColumn c.old.problem c.old.marks }
+    ensures scene { scene_of c.new ≡ scene_of c.old }
+    ensures before { c.new.before ≡ c.old.before }
+    ensures listed { c.new.candidates ≡ [] }
+{
+    c.show_corner();
+    while c.candidates() > 0 {
+        let last = c.candidates() - 1;
+        c.unlist(last);
+    }
+}
+
+/// Exchanges marks until no value is negative. No column is negative on the way, and no corner comes twice.
+///
+/// `Conflict`: the required rows have no solution, as the multipliers show. `Unfit`: a quantity does not fit
+/// at the path's last corner. `Spent`: the path has as many exchanges as the budget, and its last corner is
+/// no end. After a stop the caller goes back to the corner's newest mark. Only the given lines and those
+/// whose values change on the way are looked at for negative values. The dual simplex method is Lemke's.
+pub fn restore(alloc: Global, c: &mut Corner, low: Vec<RowName>, budget: u64) -> Result<(), RunStop>
+    requires marked { 0 < length c.old.before }
+    requires columns { NoNegativeColumn c.old.problem c.old.marks }
+    requires low { AreLowLines c.old.problem c.old.marks low.items }
+    ensures problem { IfOk result (λ _. c.new.problem ≡ c.old.problem) }
+    ensures before { c.new.before ≡ c.old.before }
+    ensures end { IfOk result (λ _. IsBestEnd c.new.problem c.new.marks) }
+    ensures listed { IfOk result (λ _. c.new.candidates ≡ []) }
+    ensures path { IfOk result (λ _. (path : paths.Path)
+        × IsRun true c.old.problem (λ at. at ≡ c.old.marks) budget c.new.marks path) }
+    ensures stop { IfErr result
+        (IsStopOf true c.old.problem c.old.problem.rows (FromHere c.old.marks) budget) }
+{
+    c.show_corner();
+    let mut run = Run::of(alloc, c);
+    let mut low = low;
+    loop {
+        match next(alloc, c, &mut low) {
+            Ok(Some(leave)) => {
+                if run.is_spent(budget) {
+                    return Err(run.spent(c, leave));
+                }
+                if let Err(stop) = run.exchange(c, leave, &mut low) {
+                    return Err(stop);
+                }
+            }
+            Ok(None) => {
+                unlist_all(c);
+                return Ok(());
+            }
+            Err(stop) => return Err(stop),
+        }
+    }
+}
