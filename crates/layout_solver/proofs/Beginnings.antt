@@ -32,7 +32,7 @@ use Rattle.corner_laws.proofs.WrittenValues.{contains_each, nothing_outside}
 use Rattle.corner_laws.proofs.ZeroColumns.{each-joined, here-in}
 use Rattle.corner.specs.Views.{CornerView, IsKeptCorner, in_order}
 use Rattle.corner.specs.Changes.{FromAdded, IsAddStop, with_rows}
-use Rattle.primal_run.specs.Runs.{FromHere, IsRun}
+use Rattle.corner_ends.specs.Runs.{FromHere, IsRun}
 
 -- ---- lists of rows
 

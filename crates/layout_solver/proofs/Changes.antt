@@ -1,20 +1,22 @@
 -- An engine's corner from its mark to the change or back.
-use Rattle.std.proofs.Common.{◌≡◌, ◌∙◌, ℕ, ◌-◌, ◌++◌, false, List, [], ◌∷◌, length, take, sym, ap, ap₂, subst, arith}
+use Rattle.std.proofs.Common.{◌≡◌, ◌∙◌, ℕ, ◌-◌, ◌++◌, true, false, List, [], ◌∷◌, length, take, sym, ap, ap₂, subst, arith, append-nil}
 use Rattle.std.proofs.lemmas.List.{take_all}
 use Rattle.version_list.specs.declared.TheConstants.{MOST}
 use Rattle.frac_core.specs.Fraction.{Fraction}
 use Rattle.problem_core.specs.declared.parts.Mark.{Mark}
 use Rattle.problem_core.specs.Layout.{Problem, Row}
 use Rattle.problem_core.specs.Kept.{AreRising, IsWhole}
-use Rattle.problem_core.specs.Corners.{IsCorner, NoNegativeValue}
+use Rattle.problem_core.specs.Corners.{IsCorner, NoNegativeColumn, NoNegativeValue}
 use Rattle.cert_core.specs.Paths.{Path}
 use Rattle.cert_core.specs.Stops.{IsStopOf}
 use Rattle.cert_core.specs.declared.stops.RunStop.{RunStop}
 use Rattle.corner.specs.Views.{CornerView, IsKeptCorner, Scene}
 use Rattle.corner.specs.Changes.{FromAdded, scene_of}
-use Rattle.primal_run.specs.Runs.{IsBestEnd, IsRun}
+use Rattle.corner_ends.specs.Runs.{FromHere, IsBestEnd, IsRun}
+use Rattle.layout_solver.specs.declared.engine.Change.{Change}
 use Rattle.layout_solver.specs.Layouts.{AreValuesAt, IsKeptLayout, Layout, stays_at, with_added, zeros}
 use Rattle.layout_solver.specs.Engines.{AreItsValues, HasValues, IsSolved, layout_of}
+use Rattle.layout_solver.specs.Shifts.{CanShift, IsAtMark, shifted, with_shifts}
 use Rattle.layout_solver.specs.Starts.{CanTake, IsMoved, attrs_of}
 use Rattle.layout_solver.specs.ValuesUnique.{values_are_one}
 use Rattle.layout_solver.proofs.Rooms.{added_room}
@@ -106,15 +108,56 @@ module _ (c mid : CornerView) (v : List (ℕ × Fraction)) (l : Layout) (m : IsM
   pub marked_whole : (attrs : List ℕ) (rows : List Row) → IsWhole (with_added l attrs rows) → (p : Problem) → IsMoved mid attrs (mid.problem.rows ++ rows) p → IsWhole p
   marked_whole attrs rows whole p h = subst IsWhole (sym (marked_is attrs rows p h)) whole
 
+  -- ---- where constants change
+
+  pub marked_newest : IsAtMark mid
+  marked_newest = (scene_of c, [], one-before, ap (λ (s : Scene). s.marks) m.scene)
+
+  pub marked_columns : NoNegativeColumn mid.problem mid.marks
+  marked_columns = subst (λ (s : Scene). NoNegativeColumn s.problem s.marks) (sym m.scene) m.solved.kept.end.columns
+
+  pub marked_near : (to : List Change) → CanShift l.problem to → CanShift mid.problem to
+  marked_near to near = subst (λ (p : Problem). CanShift p to) (sym (ap (λ (s : Scene). s.problem) m.scene ∙ ap (λ (k : Layout). k.problem) m.view)) near
+
+  shifted-made : (to : List Change) → with_shifts l to ≡ record { rows = shifted to mid.problem.rows; stays = stays_at (l.values ++ zeros []) }
+  shifted-made to =
+      ap (λ (rs : List Row). record { rows = shifted to rs; stays = stays_at l.values }) (sym same-rows)
+      ∙ ap (λ (vs : List (ℕ × Fraction)). record { rows = shifted to mid.problem.rows; stays = stays_at vs }) (sym (append-nil l.values))
+
+  shifted-moved : (to : List Change) → IsMoved mid [] (shifted to mid.problem.rows) (with_shifts l to)
+  shifted-moved to = with-problem [] (shifted to mid.problem.rows) (with_shifts l to) (shifted-made to)
+
+  pub shifted_is : (to : List Change) (p : Problem) → IsMoved mid [] (shifted to mid.problem.rows) p → p ≡ with_shifts l to
+  shifted_is to p h = stays-are [] (shifted to mid.problem.rows) p h ∙ sym (shifted-made to)
+
+  pub shifted_rising : AreRising (l.values ++ zeros [])
+  shifted_rising = subst AreRising (ap (λ (k : Layout). k.values) m.view ∙ sym (append-nil l.values)) m.solved.kept.rising
+
+  pub shifted_path : (to : List Change) (budget : ℕ) (end new : CornerView) → scene_of new ≡ scene_of end
+      → ((p : Problem) → IsMoved mid [] (shifted to mid.problem.rows) p → (path : Path) × IsRun true p (FromHere mid.marks []) budget end.marks path)
+      → (path : Path) × IsRun true (with_shifts l to) (FromHere l.corner []) budget new.marks path
+  shifted_path to budget end new scene run =
+      subst (λ (ms : List Mark). (path : Path) × IsRun true (with_shifts l to) (FromHere l.corner []) budget ms path) (sym (ap (λ (s : Scene). s.marks) scene))
+      (subst (λ (ms : List Mark). (path : Path) × IsRun true (with_shifts l to) (FromHere ms []) budget end.marks path) same-marks
+      (run (with_shifts l to) (shifted-moved to)))
+
+  pub shifted_stop : (to : List Change) (budget : ℕ) (stop : RunStop)
+      → ((p : Problem) → IsMoved mid [] (shifted to mid.problem.rows) p → IsStopOf true p mid.problem.rows (FromHere mid.marks) budget stop)
+      → IsStopOf true (with_shifts l to) l.problem.rows (FromHere l.corner) budget stop
+  shifted_stop to budget stop h =
+      subst (λ (rs : List Row). IsStopOf true (with_shifts l to) rs (FromHere l.corner) budget stop) same-rows
+      (subst (λ (ms : List Mark). IsStopOf true (with_shifts l to) mid.problem.rows (FromHere ms) budget stop) same-marks
+      (h (with_shifts l to) (shifted-moved to)))
+
   -- ---- the change is kept
 
-  pub changed_solved : (attrs : List ℕ) (rows : List Row) (end new : CornerView) (w : List (ℕ × Fraction)) → AreRising (l.values ++ zeros attrs) → IsMoved mid attrs (mid.problem.rows ++ rows) end.problem → IsBestEnd end.problem end.marks → end.candidates ≡ [] → end.before ≡ mid.before
+  pub changed_solved : (attrs : List ℕ) (base : List Row) (end new : CornerView) (w : List (ℕ × Fraction)) → AreRising (l.values ++ zeros attrs) → IsMoved mid attrs base end.problem → IsBestEnd end.problem end.marks → end.candidates ≡ [] → end.before ≡ mid.before
       → scene_of new ≡ scene_of end → new.before ≡ take (length end.before - 1) end.before → new.candidates ≡ end.candidates → IsKeptCorner end.problem end.marks → ∥ AreItsValues new w ∥₁ → IsSolved new w
-  changed_solved attrs rows end new w rising moved best listed before scene forgot still kept_end h =
+  changed_solved attrs base end new w rising moved best listed before scene forgot still kept_end h =
       let kept = same_kept end new scene kept_end in
       let values = these_values new kept.corner w h in
       solved_end new w kept (subst (λ (s : Scene). IsBestEnd s.problem s.marks) (sym scene) best) values
-      (changed_rising new.problem new.problem (l.problem.rows ++ rows) (l.values ++ zeros attrs) w (ap (λ (s : Scene). s.problem) scene ∙ marked_is attrs rows end.problem moved) values.attributes rising)
+      (changed_rising new.problem new.problem base (l.values ++ zeros attrs) w (ap (λ (s : Scene). s.problem) scene ∙ stays-are attrs base end.problem moved) values.attributes rising)
       (forgot-first (scene_of c) end.before new.before (before ∙ one-before) forgot)
       (still ∙ listed)
 

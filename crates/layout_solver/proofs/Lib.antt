@@ -3,8 +3,10 @@ pub mod Values
 pub mod Moved
 pub mod MovedProblems
 pub mod Rooms
-pub mod Copies
 pub mod Solved
 pub mod Changes
-pub mod Renewals
 pub mod Attributes
+pub mod Constants
+pub mod ConstantReads
+pub mod ShiftedProblems
+pub mod Alterations

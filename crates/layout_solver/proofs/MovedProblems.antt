@@ -15,7 +15,7 @@ use Rattle.cert_core.specs.Stops.{IsStopOf}
 use Rattle.cert_core.specs.declared.stops.RunStop.{RunStop}
 use Rattle.corner.specs.Views.{CornerView, HasValueAt, IsKeptCorner}
 use Rattle.corner.specs.Changes.{FromAdded, HasStood, with_rows}
-use Rattle.primal_run.specs.Runs.{IsRun}
+use Rattle.corner_ends.specs.Runs.{IsRun}
 use Rattle.layout_solver.specs.Layouts.{stays_at, zeros}
 use Rattle.layout_solver.specs.Engines.{AreItsValues}
 use Rattle.layout_solver.specs.Starts.{CanTake, IsMoved}
@@ -79,10 +79,6 @@ moved_up old attrs p kept m whole up =
     (record { whole = kept.whole; attributes = m.attributes; each = whole.stays; apart = whole.apart; rows = ap (λ (q : Problem). q.rows) m.is; stays = ap (λ (q : Problem). q.stays) m.is })
     (λ x stands. numbers_here old m.values x (its_values old attrs old.problem.rows p kept.corner m) stands) up
 
--- at a corner without rows there is no mark
-pub nothing_up : (p : Problem) (at : List Mark) → at ≡ [] → IsCorner p at → NoNegativeValue p at
-nothing_up p at none corner = (corner.point, corner.stands, λ k d within. absurd (omega (arith, within, ap (λ (ms : List Mark). length ms) none)))
-
 -- ---- room
 
 pub no_stay : (stays : List Stay) (a : ℕ) → Each (λ (n : ℕ). n ≢ a) (map (λ (s : Stay). s.attr) stays) → HasStay stays a → ⊥
@@ -96,9 +92,6 @@ next_room held attrs i d within h = subst (CanTake held) (drop_more attrs i d wi
 -- ---- the answers of a run over the moved problem
 
 module _ (from mid : CornerView) (attrs : List ℕ) (base : List Row) (kept : List Mark) (corner : IsCorner from.problem from.marks) (moved : IsMoved from attrs base mid.problem) (marks : mid.marks ≡ kept) (rows : List Row) (budget : ℕ) where
-  pub moved_problem : (q : Problem) → q ≡ with_rows mid.problem rows → IsMoved from attrs (base ++ rows) q
-  moved_problem q e = subst (IsMoved from attrs (base ++ rows)) (sym e) (with_more from attrs base rows mid.problem moved)
-
   same-problem : (p : Problem) → IsMoved from attrs (base ++ rows) p → with_rows mid.problem rows ≡ p
   same-problem p m = one_problem from attrs (base ++ rows) (with_rows mid.problem rows) p corner (with_more from attrs base rows mid.problem moved) m
 

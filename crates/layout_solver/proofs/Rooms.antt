@@ -55,9 +55,6 @@ whole-room p held new whole e =
     (subst (AllPairs (λ (a b : ℕ). a ≢ b)) e (pairs-mapped (λ (s : Stay). s.attr) (λ (a b : ℕ). a ≢ b) p.stays whole.apart))
     (subst (λ (ns : List ℕ). length ns ≤ 4096) e (subst (λ (n : ℕ). n ≤ 4096) (sym (length-mapped (λ (s : Stay). s.attr) p.stays)) whole.stay_count))
 
-pub all_room : (p : Problem) → IsWhole p → CanTake [] (attrs_of p)
-all_room p whole = whole-room p [] (attrs_of p) whole refl
-
 numbers-of : (values : List (ℕ × Fraction)) (attrs : List ℕ) → map (λ (s : Stay). s.attr) (stays_at (values ++ zeros attrs)) ≡ map (λ v. v.0) values ++ attrs
 numbers-of [] [] = refl
 numbers-of [] (a ∷ attrs) = ap (λ (ns : List ℕ). a ∷ ns) (numbers-of [] attrs)

@@ -7,7 +7,7 @@ use Rattle.problem_core.specs.Layout.{Problem, Row}
 use Rattle.problem_core.specs.Kept.{AreRising}
 use Rattle.problem_core.specs.Corners.{IsCorner}
 use Rattle.corner.specs.Views.{CornerView, IsKeptCorner}
-use Rattle.primal_run.specs.Runs.{IsBestEnd}
+use Rattle.corner_ends.specs.Runs.{IsBestEnd}
 use Rattle.layout_solver.specs.Layouts.{stays_at, zeros}
 use Rattle.layout_solver.specs.Engines.{AreItsValues, IsSolved, layout_of}
 use Rattle.layout_solver.specs.Starts.{IsMoved, attrs_of}

@@ -26,7 +26,7 @@ use Rattle.corner_laws.proofs.Rays.{above-zero}
 use Rattle.corner_laws.proofs.WrittenValues.{value_there}
 use Rattle.corner_laws.specs.Equations.{AreLowest}
 use Rattle.corner.specs.Views.{CornerView, HasValueAt, IsKeptCorner}
-use Rattle.primal_run.specs.Runs.{IsBestEnd}
+use Rattle.corner_ends.specs.Runs.{IsBestEnd}
 use Rattle.layout_solver.specs.Layouts.{AreBest}
 use Rattle.layout_solver.specs.Engines.{AreItsValues}
 use Rattle.layout_solver.specs.ValuesUnique.{IsFixed, fixed_attrs, one_number}

@@ -1,5 +1,5 @@
 -- Where the path of a change begins, and where it ends.
-use Rattle.std.specs.Prelude.{ℕ, false, List, []}
+use Rattle.std.specs.Prelude.{ℕ, Bool, true, false, List, []}
 use Rattle.frac_core.specs.Fraction.{Fraction}
 use Rattle.problem_core.specs.declared.parts.Mark.{Mark}
 use Rattle.problem_core.specs.Layout.{Row, Problem}
@@ -7,7 +7,7 @@ use Rattle.cert_core.specs.Paths.{Path}
 use Rattle.cert_core.specs.Stops.{IsStopOf}
 use Rattle.cert_core.specs.declared.stops.RunStop.{RunStop}
 use Rattle.corner.specs.Changes.{FromAdded}
-use Rattle.primal_run.specs.Runs.{IsBestEnd, IsRun}
+use Rattle.corner_ends.specs.Runs.{FromHere, IsBestEnd, IsRun}
 use Rattle.layout_solver.specs.Layouts.{GivesAt}
 
 -- the marks are an end, at which the attributes have these values
@@ -15,15 +15,23 @@ pub record IsReached (p : Problem) (at : List Mark) (values : List (ℕ × Fract
   pub end : IsBestEnd p at
   pub gives : GivesAt p at values
 
--- the rows that are there before, those that join, and the marks inside at the corner that was kept
+-- whether constants change, rather than rows join; the rows that are there before, those that join, and the
+-- marks inside at the corner that was kept
 pub record Start : Type 0 where
+  pub dual : Bool
   pub before : List Row
   pub joining : List Row
   pub kept : List Mark
 
+-- where a path to the problem may begin while these rows are still to join: at the corner that was kept where
+-- constants change, else with the mark of each row that joins
+abbrev pub FromStart : Bool → List Mark → List Row → Problem → List Row → List Mark → Type 0
+FromStart true kept joining p = FromHere kept
+FromStart false kept joining p = FromAdded p kept joining
+
 -- a run from there, within the budget, to these marks
 abbrev pub IsRunTo : Start → Problem → ℕ → List Mark → Path → Type 0
-IsRunTo s p budget last path = IsRun false p (FromAdded p s.kept s.joining []) budget last path
+IsRunTo s p budget last path = IsRun s.dual p (FromStart s.dual s.kept s.joining p []) budget last path
 
 -- a run from there, within the budget, to an end with these values
 pub record IsRunFrom (s : Start) (p : Problem) (budget : ℕ) (path : Path) (values : List (ℕ × Fraction))
@@ -34,4 +42,4 @@ pub record IsRunFrom (s : Start) (p : Problem) (budget : ℕ) (path : Path) (val
 
 -- why a run from there stops
 abbrev pub IsStopFrom : Start → Problem → ℕ → RunStop → Type 0
-IsStopFrom s p budget stop = IsStopOf false p s.before (FromAdded p s.kept s.joining) budget stop
+IsStopFrom s p budget stop = IsStopOf s.dual p s.before (FromStart s.dual s.kept s.joining p) budget stop

@@ -8,7 +8,7 @@ use Rattle.problem_core.specs.Kept.{AreRising}
 use Rattle.problem_core.specs.Window.{zero_fraction}
 use Rattle.problem_core.specs.Corners.{Point, StandsAt, assignment_at, attr_column}
 use Rattle.corner.specs.Views.{HasValueAt, IsKeptCorner}
-use Rattle.primal_run.specs.Runs.{IsBestEnd}
+use Rattle.corner_ends.specs.Runs.{IsBestEnd}
 
 -- The fractions in lowest terms are the values that a best assignment gives the stays' attributes. No other
 -- list is.
@@ -45,18 +45,12 @@ stays_at values = map (λ v. record { attr = v.0; target = v.1 }) values
 abbrev pub zeros : List ℕ → List (ℕ × Fraction)
 zeros attrs = map (λ a. (a, zero_fraction)) attrs
 
--- In both that follow the stays have moved to the values before.
-
--- with more attributes and more rows
+-- with more attributes and more rows, and the stays moved to the values before
 abbrev pub with_added : Layout → List ℕ → List Row → Problem
 with_added old attrs rows = record {
   rows = old.problem.rows ++ rows;
   stays = stays_at (old.values ++ zeros attrs);
 }
-
--- with other rows
-abbrev pub with_rows : Layout → List Row → Problem
-with_rows old rows = record { rows = rows; stays = stays_at old.values }
 
 -- ---- the ends of paths
 

@@ -4,3 +4,4 @@ pub mod OneFraction
 pub mod ValuesUnique
 pub mod Starts
 pub mod Begins
+pub mod Shifts

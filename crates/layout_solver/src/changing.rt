@@ -1,4 +1,4 @@
-// The ways of a corner to the best one of another problem.
+// The way of a corner to the best one of a problem with more attributes and rows.
 ghost use Rattle.std.specs.Prelude.{◌≡◌, ◌<◌, ◌++◌, [], length, false, IfOk, IfErr};
 ghost use Rattle.problem_core.specs.Layout as layout;
 ghost use Rattle.problem_core.specs.Kept.{IsWhole};
@@ -6,7 +6,7 @@ ghost use Rattle.problem_core.specs.Corners.{NoNegativeValue};
 ghost use Rattle.cert_core.specs.Paths as paths;
 ghost use Rattle.cert_core.specs.Stops.{IsStopOf};
 ghost use Rattle.corner.specs.Changes.{FromAdded, with_rows as with_more};
-ghost use Rattle.primal_run.specs.Runs.{IsBestEnd, IsRun};
+ghost use Rattle.corner_ends.specs.Runs.{IsBestEnd, IsRun};
 ghost use Rattle.layout_solver.specs.Layouts.{stays_at, zeros};
 ghost use Rattle.layout_solver.specs.Starts.{CanTake, IsMoved, attrs_of};
 
@@ -31,25 +31,6 @@ fn add_attrs(c: &mut Corner, attrs: &[u32]) -> Result<(), OutOfMemory>
 {
     for attr in attrs {
         c.add_attr(*attr, Frac::zero())?;
-    }
-    Ok(())
-}
-
-/// Adds attributes at their values at another corner.
-fn copy_attrs(c: &mut Corner, from: &Corner) -> Result<(), OutOfMemory>
-    requires marked { 0 < length c.old.before }
-    requires none { c.old.problem ≡ record { rows = []; stays = [] } }
-    ensures copied { IfOk result (λ _. IsMoved from.now [] [] c.new.problem) }
-    ensures marks { IfOk result (λ _. c.new.marks ≡ c.old.marks) }
-    ensures before { c.new.before ≡ c.old.before }
-    ensures candidates { IfOk result (λ _. c.new.candidates ≡ c.old.candidates) }
-{
-    from.show_corner();
-    let stays = from.stays();
-    for stay in stays {
-        let value = from.attr_value(stay.attr);
-        let _ = value.num();
-        c.add_attr(stay.attr, value)?;
     }
     Ok(())
 }
@@ -120,35 +101,4 @@ pub(crate) fn extend(
     widen(c, attrs)?;
     c.show_corner();
     join(alloc, c, rows, budget)
-}
-
-/// The best corner of these rows, with a stay for each attribute at its value at another corner.
-pub(crate) fn begin(
-    alloc: Global,
-    from: &Corner,
-    rows: &[Row],
-    budget: u64,
-) -> Result<Corner, RunStop>
-    requires whole { (p : layout.Problem) → IsMoved from.now [] rows.now p → IsWhole p }
-    ensures before { IfOk result (λ c. c.before ≡ []) }
-    ensures problem { IfOk result (λ c. IsMoved from.now [] rows.now c.problem) }
-    ensures end { IfOk result (λ c. IsBestEnd c.problem c.marks) }
-    ensures listed { IfOk result (λ c. c.candidates ≡ []) }
-    ensures path { IfOk result (λ c. (path : paths.Path)
-        × IsRun false c.problem (FromAdded c.problem [] rows.now []) budget c.marks path) }
-    ensures stop { IfErr result (λ stop. (p : layout.Problem) → IsMoved from.now [] rows.now p
-        → IsStopOf false p [] (FromAdded p [] rows.now) budget stop) }
-{
-    from.show_corner();
-    let mut c = Corner::new(alloc)?;
-    c.mark();
-    copy_attrs(&mut c, from)?;
-    c.show_corner();
-    match join(alloc, &mut c, rows, budget) {
-        Ok(()) => {
-            c.forget();
-            Ok(c)
-        }
-        Err(stop) => Err(stop),
-    }
 }

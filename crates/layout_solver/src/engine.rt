@@ -1,24 +1,34 @@
 // The engine.
-ghost use Rattle.std.specs.Prelude.{◌≡◌, ◌++◌, [], false, All, Any, IfOk, IfErr, IfSome, IfNone, OnErr};
+ghost use Rattle.std.specs.Prelude.{◌≡◌, ◌<◌, ◌++◌, [], true, false, All, AllPairs, Any};
+ghost use Rattle.std.specs.Prelude.{IfOk, IfErr, IfSome, IfNone, OnErr};
 ghost use Rattle.frac_core.specs.Fraction.{IsKept};
 ghost use Rattle.problem_core.specs.Layout.{HasStay};
 ghost use Rattle.problem_core.specs.Kept.{IsWhole, AreRising};
 ghost use Rattle.cert_core.specs.Paths as paths;
 ghost use Rattle.cert_core.specs.Stops.{IsStopOf};
 ghost use Rattle.corner.specs.Changes.{FromAdded};
-ghost use Rattle.primal_run.specs.Runs.{IsRun};
-ghost use Rattle.layout_solver.specs.Layouts.{AreBest, IsKeptLayout, with_added, with_rows, zeros};
+ghost use Rattle.corner_ends.specs.Runs.{FromHere, IsRun};
+ghost use Rattle.layout_solver.specs.Layouts.{AreBest, IsKeptLayout, with_added, zeros};
+ghost use Rattle.layout_solver.specs.Shifts.{CanShift, with_shifts};
 ghost use Rattle.layout_solver.specs.Engines.{HasValues};
 ghost use Rattle.layout_solver.specs.ValuesUnique.{one_list};
 
-use crate::changing::{begin, extend};
+use crate::changing::extend;
 use crate::reading::has_stay;
+use crate::shifting::alter;
 use cert_core::RunStop;
 use corner::Corner;
 use frac_core::{Frac, OutOfMemory};
 use problem_core::{Row, Stay};
 use std::alloc::Global;
 use std::marker::Model;
+
+/// A row's new constant.
+#[derive(Clone, Copy, Debug, PartialEq, Eq)]
+pub struct Change {
+    pub row: u32,
+    pub constant: Frac,
+}
 
 /// A problem with its best values, and the corner at which they stand.
 #[derive(Drop)]
@@ -97,27 +107,33 @@ impl Engine {
         }
     }
 
-    /// Takes these rows in place of the held ones, with the stays at the present values, and goes on to the
-    /// best values. The path begins at the corner at which all attributes stand at the present values, with
-    /// the mark of each row that is not negative.
+    /// Gives rows other constants, with the stays at the present values, and goes on to the best values. The
+    /// rows come by rising number, and what each constant is above the row's own fits. The path begins at the
+    /// corner that was kept.
     ///
     /// The stops are those of `add`.
-    pub fn renew(&mut self, rows: &[Row], budget: u64) -> Result<(), RunStop>
-        requires whole { IsWhole (with_rows self.old rows.now) }
-        ensures done { IfOk result (λ _. self.new.problem ≡ with_rows self.old rows.now) }
-        ensures path { IfOk result (λ _. (path : paths.Path) × IsRun false (with_rows self.old rows.now)
-            (FromAdded (with_rows self.old rows.now) [] rows.now []) budget self.new.corner path) }
-        ensures stop { IfErr result (IsStopOf false (with_rows self.old rows.now) []
-            (FromAdded (with_rows self.old rows.now) [] rows.now) budget) }
+    pub fn shift(&mut self, to: &[Change], budget: u64) -> Result<(), RunStop>
+        requires held { CanShift self.old.problem to.now }
+        requires rising { AllPairs (λ a b. a.row < b.row) to.now }
+        ensures done { IfOk result (λ _. self.new.problem ≡ with_shifts self.old to.now) }
+        ensures path { IfOk result (λ _. (path : paths.Path)
+            × IsRun true (with_shifts self.old to.now) (FromHere self.old.corner []) budget self.new.corner
+            path) }
+        ensures stop { IfErr result (IsStopOf true (with_shifts self.old to.now) self.old.problem.rows
+            (FromHere self.old.corner) budget) }
         ensures same { OnErr result (self.new ≡ self.old) }
     {
-        match begin(self.alloc, &self.corner, rows, budget) {
-            Ok(corner) => {
-                corner.show_corner();
-                self.corner = corner;
+        self.corner.mark();
+        match alter(self.alloc, &mut self.corner, to, budget) {
+            Ok(()) => {
+                self.corner.show_corner();
+                self.corner.forget();
                 Ok(())
             }
-            Err(stop) => Err(stop),
+            Err(stop) => {
+                self.corner.back();
+                Err(stop)
+            }
         }
     }
 

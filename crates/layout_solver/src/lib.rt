@@ -1,10 +1,10 @@
 //! The engine: a layout problem and its best values, changed step by step.
 //!
 //! An [`Engine`] is a problem, its best values, and the corner at which these stand. [`Engine::add`] takes
-//! more attributes and rows, and [`Engine::renew`] other rows in place of the held ones. Each first moves
-//! the stays to the present values, so that the attributes stay where they are as far as the rows let them,
-//! and then exchanges marks until the values are best. A change that is refused leaves the engine as it
-//! was.
+//! more attributes and rows, and [`Engine::shift`] gives rows other constants. Each first moves the stays to
+//! the present values, so that the attributes stay where they are as far as the rows let them, and then
+//! exchanges marks until the values are best: after `add` no value is negative on the way, after `shift` no
+//! column is. A change that is refused leaves the engine as it was.
 //!
 //! A contract sees a `Layout`: the problem, the values by attribute, and the marks inside. The values are not
 //! stored. The corner fixes them ([`Engine::value`] reads them there), and a ghost field names them.
@@ -20,22 +20,24 @@
 //!
 //! ```
 //! let mut engine = Engine::new(alloc)?;
-//! engine.add(&[1], &rows, 1000)?;             // a row 7: attribute 1 is 30
-//! engine.value(1);                            // 30
+//! engine.add(&[1], &rows, 1000)?;             // a row 7: attribute 1 is at least 20
+//! engine.value(1);                            // 20
 //! engine.value(2);                            // None
-//! engine.renew(&others, 1000)?;               // a row 7: attribute 1 is at least 20
-//! engine.value(1);                            // 30 still
+//! let constant = Frac::of(30, 1)?;
+//! engine.shift(&[Change { row: 7, constant }], 1000)?; // row 7: attribute 1 is at least 30
+//! engine.value(1);                            // 30
 //! engine.add(&[], &more, 1000)                // a row 8: attribute 1 is at most 10, which is refused:
 //!                                             // the multipliers 1 and -1 of the rows 7 and 8 show it
 //! engine.value(1);                            // 30
 //! ```
 //!
-//! To read: `changing` has the ways of a corner to the best one of another problem, and `engine` is what
-//! callers use.
+//! To read: `changing` and `shifting` have the ways of a corner to the best one of another problem, with more
+//! rows or with other constants, and `engine` is what callers use.
 #![tactic(auto)]
 
 mod changing;
 mod engine;
 mod reading;
+mod shifting;
 
-pub use engine::Engine;
+pub use engine::{Change, Engine};

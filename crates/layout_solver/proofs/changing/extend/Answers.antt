@@ -5,7 +5,7 @@ use Rattle.problem_core.specs.Corners.{NoNegativeValue}
 use Rattle.cert_core.specs.Paths.{Path}
 use Rattle.cert_core.specs.Stops.{IsStopOf}
 use Rattle.corner.specs.Changes.{FromAdded, with_rows}
-use Rattle.primal_run.specs.Runs.{IsRun}
+use Rattle.corner_ends.specs.Runs.{IsRun}
 use Rattle.layout_solver.specs.Starts.{IsMoved}
 use Rattle.layout_solver.proofs.MovedProblems.{moved_path, moved_stop, moved_up, with_more}
 use Rattle.layout_solver.proofs.changing.extend.Goals as goal

@@ -3,7 +3,7 @@ use Rattle.std.proofs.lemmas.Result.{IfErr-weaker, IfOk-weaker}
 use Rattle.cert_core.specs.Paths.{Path}
 use Rattle.cert_core.specs.Stops.{IsStopOf}
 use Rattle.corner.specs.Changes.{FromAdded, with_rows}
-use Rattle.primal_run.specs.Runs.{FromHere, IsRun}
+use Rattle.corner_ends.specs.Runs.{FromHere, IsRun}
 use Rattle.layout_solver.proofs.Beginnings.{HasJoined, path_there, stop_there, values_there}
 use Rattle.layout_solver.proofs.changing.join.Goals as goal
 

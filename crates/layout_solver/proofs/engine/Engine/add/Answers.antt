@@ -1,4 +1,4 @@
-use Rattle.std.proofs.Common.{rules, ◌∙◌, ap}
+use Rattle.std.proofs.Common.{rules, ◌++◌, ◌∙◌, ap}
 use Rattle.corner.specs.Views.{Scene}
 use Rattle.layout_solver.proofs.Changes.{changed_path, changed_solved, marked_is, marked_room, marked_values, marked_whole, refused_same, refused_solved, refused_stop, refused_values, same_kept, some_values}
 use Rattle.layout_solver.proofs.engine.Engine.add.Goals as goal
@@ -24,7 +24,7 @@ invariant_of-self-inside c = (some_values c.forget.new.self (same_kept c.extend.
 pub invariant_of-self : goal.invariant_of-self
 invariant_of-self c =
     changed_solved c.self.inside.corner c.mark.new.self c.self.inside.values.0 c.args.self.now
-    (record { solved = c.self.invariant; view = c.self.view_is; scene = c.mark.ensures.scene; before = c.mark.ensures.before }) c.args.attrs.now c.args.rows.now c.extend.new.c c.forget.new.self _
+    (record { solved = c.self.invariant; view = c.self.view_is; scene = c.mark.ensures.scene; before = c.mark.ensures.before }) c.args.attrs.now (c.mark.new.self.problem.rows ++ c.args.rows.now) c.extend.new.c c.forget.new.self _
     c.requires.rising c.in-Ok.ensures.problem c.in-Ok.ensures.end c.in-Ok.ensures.listed c.in-Ok.ensures.before c.forget.ensures.scene c.forget.ensures.before c.forget.ensures.candidates c.show_corner.ensures.kept (search rules)
 
 pub invariant_of-self-inside-in-Err : goal.invariant_of-self-inside-in-Err

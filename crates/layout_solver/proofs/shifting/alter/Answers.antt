@@ -1,0 +1,54 @@
+use Rattle.std.proofs.Common.{◌≡◌, [], ◌∙◌, true}
+use Rattle.std.proofs.lemmas.Result.{IfErr-weaker, IfOk-weaker}
+use Rattle.problem_core.specs.Layout.{Problem}
+use Rattle.cert_core.specs.Paths.{Path}
+use Rattle.cert_core.specs.Stops.{IsStopOf}
+use Rattle.corner_ends.specs.Runs.{FromHere, IsRun}
+use Rattle.layout_solver.specs.Shifts.{shifted}
+use Rattle.layout_solver.specs.Starts.{IsMoved}
+use Rattle.layout_solver.proofs.Alterations.{altered, altered_stop, restored_path, restored_stop, stood_low}
+use Rattle.layout_solver.proofs.ShiftedProblems.{columns_stood, columns_there, near_rows, still_newest}
+use Rattle.layout_solver.proofs.shifting.alter.Goals as goal
+
+pub shift_all-requires-clause-newest : goal.shift_all-requires-clause-newest
+shift_all-requires-clause-newest c = still_newest c.args.c.now c.stand.new.self c.in_ok-stand.ensures.before c.in_ok-stand.ensures.marks c.requires.newest
+
+pub shift_all-requires-clause-columns : goal.shift_all-requires-clause-columns
+shift_all-requires-clause-columns c = columns_stood c.args.c.now c.stand.new.self c.in_ok-stand.ensures.stood c.in_ok-stand.ensures.marks c.requires.columns
+
+pub shift_all-requires-clause-near : goal.shift_all-requires-clause-near
+shift_all-requires-clause-near c = near_rows c.args.to.now c.args.c.now.problem c.stand.new.self.problem c.in_ok-stand.ensures.stood.rows c.requires.near
+
+pub shift_all-requires-clause-low : goal.shift_all-requires-clause-low
+shift_all-requires-clause-low c =
+    rw c.new-low.ensures.items
+    (stood_low c.args.c.now c.stand.new.self c.args.to.now c.show_corner.ensures.kept.corner c.in_ok-stand.ensures.stood c.show_corner-2.ensures.kept.whole c.in_ok-stand.ensures.marks c.show_corner.ensures.kept c.show_corner-2.ensures.kept c.requires.values)
+
+pub restore-requires-clause-columns : goal.restore-requires-clause-columns
+restore-requires-clause-columns c =
+    columns_there c.stand.new.self c.shift_all.new.c c.args.to.now c.in-Ok.ensures.problem c.in-Ok.ensures.marks
+    (columns_stood c.args.c.now c.stand.new.self c.in_ok-stand.ensures.stood c.in_ok-stand.ensures.marks c.requires.columns)
+
+pub returns-in-Ok-clause-problem : goal.returns-in-Ok-clause-problem
+returns-in-Ok-clause-problem c =
+    IfOk-weaker c.restore.result (λ _. c.restore.new.c.problem ≡ c.shift_all.new.c.problem) (λ _. IsMoved c.args.c.now [] (shifted c.args.to.now c.args.c.now.problem.rows) c.restore.new.c.problem)
+    (λ _ e. altered c.args.c.now c.stand.new.self c.args.to.now c.show_corner.ensures.kept.corner c.in_ok-stand.ensures.stood c.show_corner-2.ensures.kept.whole c.in_ok-stand.ensures.marks c.restore.new.c.problem (e ∙ c.in-Ok.ensures.problem))
+    c.restore.ensures.problem
+
+pub returns-in-Ok-clause-path : goal.returns-in-Ok-clause-path
+returns-in-Ok-clause-path c =
+    IfOk-weaker c.restore.result (λ _. (path : Path) × IsRun true c.shift_all.new.c.problem (λ at. at ≡ c.shift_all.new.c.marks) c.args.budget c.restore.new.c.marks path)
+    (λ _. (p : Problem) → IsMoved c.args.c.now [] (shifted c.args.to.now c.args.c.now.problem.rows) p → (path : Path) × IsRun true p (FromHere c.args.c.now.marks []) c.args.budget c.restore.new.c.marks path)
+    (λ _ run. restored_path c.args.c.now c.stand.new.self c.args.to.now c.show_corner.ensures.kept.corner c.in_ok-stand.ensures.stood c.show_corner-2.ensures.kept.whole c.in_ok-stand.ensures.marks c.shift_all.new.c c.in-Ok.ensures.problem c.in-Ok.ensures.marks c.args.budget c.restore.new.c.marks run)
+    c.restore.ensures.path
+
+pub returns-in-Ok-clause-stop : goal.returns-in-Ok-clause-stop
+returns-in-Ok-clause-stop c =
+    IfErr-weaker c.restore.result (IsStopOf true c.shift_all.new.c.problem c.shift_all.new.c.problem.rows (FromHere c.shift_all.new.c.marks) c.args.budget)
+    (λ stop. (p : Problem) → IsMoved c.args.c.now [] (shifted c.args.to.now c.args.c.now.problem.rows) p → IsStopOf true p c.args.c.now.problem.rows (FromHere c.args.c.now.marks) c.args.budget stop)
+    (λ stop h. restored_stop c.args.c.now c.stand.new.self c.args.to.now c.show_corner.ensures.kept.corner c.in_ok-stand.ensures.stood c.show_corner-2.ensures.kept.whole c.in_ok-stand.ensures.marks c.shift_all.new.c c.in-Ok.ensures.problem c.in-Ok.ensures.marks c.args.budget stop h)
+    c.restore.ensures.stop
+
+pub returns-in-Err-clause-stop : goal.returns-in-Err-clause-stop
+returns-in-Err-clause-stop c =
+    altered_stop c.args.c.now c.stand.new.self c.args.to.now c.show_corner.ensures.kept.corner c.in_ok-stand.ensures.stood c.show_corner-2.ensures.kept.whole c.in_ok-stand.ensures.marks c.args.budget c.in-Err.stop c.in-Err.ensures.stop

@@ -1,0 +1,51 @@
+use Rattle.std.proofs.Common.{◌+◌, ◌≡◌, ◌≢◌, ◌≤◌, ◌∙◌, List, All, arith, refl, rules, subst}
+use Rattle.problem_core.specs.declared.parts.Mark.{Mark}
+use Rattle.problem_core.specs.declared.stops.TableStop.TheVariants.{UnfitAt}
+use Rattle.problem_core.specs.Layout.{Row}
+use Rattle.corner_lines.specs.Shifts.{with_constant}
+use Rattle.corner.specs.Changes.{IsUnfitStop}
+use Rattle.layout_solver.specs.Shifts.{with_constants}
+use Rattle.layout_solver.proofs.ShiftedProblems.{few_shifted, next_shifted, next_skipped, next_unfit, none_shifted, rewound_marks, shifted_path, unfit_stop}
+use Rattle.layout_solver.proofs.shifting.shift_all.Goals as goal
+
+pub loop-change-init : goal.loop-change-init
+loop-change-init c = record { shifted = none_shifted c.args.c.now.problem c.args.to.now c.requires.near; low = c.requires.low; marks = refl; before = refl; candidates = refl }
+
+pub loop-change-preserved-then-eq : goal.loop-change-preserved-then-eq
+loop-change-preserved-then-eq c =
+    let same : c.constant_of.result ≡ c.change-item.result.constant = search rules in record {
+      shifted = next_skipped c.args.c.now.problem c.loop-change.c.problem c.args.to.now c.loop-change.change-index c.loop-change.changed c.change-item.result c.loop-change-test.true c.change-item.is c.loop-change.invariant.shifted c.constant_of.result
+          (subst (λ (rs : List Row). All (λ (r : Row). r.id ≡ c.change-item.result.row → r.constant ≡ c.constant_of.result) rs) c.rows.ensures c.constant_of.ensures) same;
+      low = c.loop-change.invariant.low;
+      marks = c.loop-change.invariant.marks;
+      before = c.loop-change.invariant.before;
+      candidates = c.loop-change.invariant.candidates;
+    }
+
+pub overflow_add-changed : goal.overflow_add-changed
+overflow_add-changed c =
+    let few : c.loop-change.changed ≤ 4096 = few_shifted c.args.c.now.problem c.loop-change.c.problem c.args.to.now c.loop-change.change-index c.loop-change.changed c.show_corner.ensures.kept.whole c.loop-change.invariant.shifted in
+    omega (arith, few)
+
+pub returns-in-Err-UnfitAt-clause-stop : goal.returns-in-Err-UnfitAt-clause-stop
+returns-in-Err-UnfitAt-clause-stop c =
+    let other : c.constant_of.result ≢ c.change-item.result.constant = search rules in
+    unfit_stop (with_constants c.args.to.now c.args.c.now.problem) (with_constant c.change-item.result.row c.change-item.result.constant c.loop-change.c.problem) c.args.c.now.problem.rows c.shift.new.c.marks c.args.c.now.marks c.in-Err-UnfitAt.quantity (c.loop-change.changed + 1) c.shifts_stop.result
+    (rw c.in-Err-UnfitAt.field-0-is at c.shifts_stop.ensures)
+    (rewound_marks c.args.c.now c.loop-change.c c.shift.new.c c.requires.newest c.loop-change.invariant.before c.in-Err-UnfitAt.ensures.same)
+    (subst (λ (ms : List Mark). IsUnfitStop (with_constant c.change-item.result.row c.change-item.result.constant c.loop-change.c.problem) ms (UnfitAt c.in-Err-UnfitAt.quantity)) c.loop-change.invariant.marks
+    (rw c.in-Err-UnfitAt.field-0-is at c.in-Err-UnfitAt.ensures.stop))
+    (λ what unfit. next_unfit c.args.c.now.problem c.loop-change.c.problem c.args.to.now c.loop-change.change-index c.loop-change.changed c.change-item.result c.loop-change-test.true c.change-item.is c.loop-change.invariant.shifted c.requires.rising c.show_corner.ensures.kept.whole.rising c.constant_of.result
+    (subst (λ (rs : List Row). All (λ (r : Row). r.id ≡ c.change-item.result.row → r.constant ≡ c.constant_of.result) rs) c.rows.ensures c.constant_of.ensures) other c.args.c.now.marks what unfit)
+    (shifted_path c.args.c.now.problem c.args.to.now c.args.c.now.marks c.show_corner.ensures.kept c.requires.columns c.requires.near c.show_constants.ensures)
+
+pub loop-change-preserved : goal.loop-change-preserved
+loop-change-preserved c =
+    let other : c.constant_of.result ≢ c.change-item.result.constant = search rules in record {
+      shifted = next_shifted c.args.c.now.problem c.loop-change.c.problem c.args.to.now c.loop-change.change-index c.loop-change.changed c.change-item.result c.loop-change-test.true c.change-item.is c.loop-change.invariant.shifted c.requires.rising c.show_corner.ensures.kept.whole.rising c.constant_of.result
+          (subst (λ (rs : List Row). All (λ (r : Row). r.id ≡ c.change-item.result.row → r.constant ≡ c.constant_of.result) rs) c.rows.ensures c.constant_of.ensures) other c.shift.new.c.problem c.in-Ok.ensures.problem;
+      low = c.in-Ok.ensures.low c.loop-change.invariant.low;
+      marks = c.in-Ok.ensures.marks ∙ c.loop-change.invariant.marks;
+      before = c.in-Ok.ensures.before ∙ c.loop-change.invariant.before;
+      candidates = c.in-Ok.ensures.candidates ∙ c.loop-change.invariant.candidates;
+    }

@@ -1,0 +1,148 @@
+// The way of a corner to the best one of a problem with other constants.
+ghost use Rattle.std.specs.Prelude.{◌≡◌, ◌<◌, ℕ, List, [], length, true, All, AllPairs, Any, IfOk, IfErr};
+ghost use Rattle.frac_core.specs.Fraction.{IsKept};
+ghost use Rattle.problem_core.specs.Layout as layout;
+ghost use Rattle.problem_core.specs.Corners.{NoNegativeColumn, NoNegativeValue};
+ghost use Rattle.problem_core.specs.Paths.{IsPath};
+ghost use Rattle.problem_core.specs.Unfit.{IsUnfit};
+ghost use Rattle.problem_core.specs.declared.stops.What as what_type;
+ghost use Rattle.problem_core.specs.declared.stops.Quantity.TheVariants.{Plain, Shifts};
+ghost use Rattle.cert_core.specs.Paths as paths;
+ghost use Rattle.cert_core.specs.Stops.{IsPlain, IsStopOf};
+ghost use Rattle.corner_ends.specs.Runs.{FromHere, IsBestEnd, IsRun};
+ghost use Rattle.dual_run.specs.Leaving.{AreLowLines};
+ghost use Rattle.layout_solver.specs.Shifts.{CanShift, IsAtMark, shifted, with_constants};
+ghost use Rattle.layout_solver.specs.Starts.{IsMoved};
+
+use crate::engine::Change;
+use cert_core::{Path, RunStop, UnfitPath};
+use corner::Corner;
+use dual_run::{restore, shift};
+use frac_core::{Frac, OutOfMemory};
+use problem_core::{Quantity, Row, RowName, TableStop};
+use std::alloc::Global;
+
+/// The constant of a row.
+fn constant_of(rows: &[Row], id: u32) -> Frac
+    requires held { Any (λ r. r.id ≡ id) rows.now }
+    requires rising { AllPairs (λ r s. r.id < s.id) rows.now }
+    ensures { All (λ r. r.id ≡ id → r.constant ≡ result) rows.now }
+{
+    let at = rows.partition_point(|row| row.id() < id);
+    rows[at].constant()
+}
+
+/// Shows that each constant fits.
+fn show_constants(to: &[Change])
+    ensures { All (λ t. IsKept t.constant) to.now }
+{
+    for change in to {
+        let _ = change.constant.num();
+    }
+}
+
+/// The path of no exchange at the corner.
+fn path_here(alloc: Global, c: &Corner) -> Result<Path, OutOfMemory>
+    ensures { IfOk result (λ path. path ≡ record { dual = true; corner = c.now.marks; swaps = [] }) }
+{
+    Path::of(alloc, true, &c.marks()?, &[])
+}
+
+/// The stop where a quantity does not fit once so many constants have changed.
+fn shifts_stop(alloc: Global, c: &Corner, quantity: Quantity, changed: u32) -> RunStop
+    requires { IsPlain quantity }
+    ensures { (p : layout.Problem) (old : List layout.Row) (what : what_type.What) → quantity ≡ Plain what
+        → IsPath true p c.now.marks [] → IsUnfit p old c.now.marks (Shifts what changed)
+        → (budget : ℕ) → IsStopOf true p old (FromHere c.now.marks) budget result }
+{
+    let Quantity::Plain(what) = quantity else {
+        unreachable!()
+    };
+    match path_here(alloc, c) {
+        Ok(path) => RunStop::Unfit(UnfitPath {
+            path,
+            quantity: Quantity::Shifts {
+                what,
+                first: changed,
+            },
+        }),
+        Err(OutOfMemory) => RunStop::OutOfMemory,
+    }
+}
+
+/// Gives rows other constants, one by one, and lists the lines whose values change. A constant that a row has
+/// already is no change.
+fn shift_all(
+    alloc: Global,
+    c: &mut Corner,
+    low: &mut Vec<RowName>,
+    to: &[Change],
+) -> Result<(), RunStop>
+    requires marked { 0 < length c.old.before }
+    requires newest { IsAtMark c.old }
+    requires columns { NoNegativeColumn c.old.problem c.old.marks }
+    requires near { CanShift c.old.problem to.now }
+    requires rising { AllPairs (λ a b. a.row < b.row) to.now }
+    requires low { AreLowLines c.old.problem c.old.marks low.old.items }
+    ensures problem { IfOk result (λ _. c.new.problem ≡ with_constants to.now c.old.problem) }
+    ensures marks { IfOk result (λ _. c.new.marks ≡ c.old.marks) }
+    ensures before { c.new.before ≡ c.old.before }
+    ensures candidates { IfOk result (λ _. c.new.candidates ≡ c.old.candidates) }
+    ensures low { IfOk result (λ _. AreLowLines c.new.problem c.new.marks low.new.items) }
+    ensures stop { IfErr result (λ stop. (budget : ℕ) → IsStopOf true (with_constants to.now c.old.problem)
+        c.old.problem.rows (FromHere c.old.marks) budget stop) }
+{
+    c.show_corner();
+    let mut changed = 0;
+    for change in to {
+        c.show_corner();
+        if constant_of(c.rows(), change.row) == change.constant {
+            continue;
+        }
+        changed += 1;
+        match shift(c, low, change.row, change.constant) {
+            Ok(()) => (),
+            Err(TableStop::UnfitAt(quantity)) => {
+                show_constants(to);
+                return Err(shifts_stop(alloc, c, quantity, changed));
+            }
+            Err(TableStop::OutOfMemory) => return Err(RunStop::OutOfMemory),
+        }
+    }
+    Ok(())
+}
+
+/// Moves the stays to the present values, gives rows other constants, and goes on to the best corner.
+pub(crate) fn alter(
+    alloc: Global,
+    c: &mut Corner,
+    to: &[Change],
+    budget: u64,
+) -> Result<(), RunStop>
+    requires marked { 0 < length c.old.before }
+    requires newest { IsAtMark c.old }
+    requires values { NoNegativeValue c.old.problem c.old.marks }
+    requires columns { NoNegativeColumn c.old.problem c.old.marks }
+    requires near { CanShift c.old.problem to.now }
+    requires rising { AllPairs (λ a b. a.row < b.row) to.now }
+    ensures before { c.new.before ≡ c.old.before }
+    ensures problem { IfOk result
+        (λ _. IsMoved c.old [] (shifted to.now c.old.problem.rows) c.new.problem) }
+    ensures end { IfOk result (λ _. IsBestEnd c.new.problem c.new.marks) }
+    ensures listed { IfOk result (λ _. c.new.candidates ≡ []) }
+    ensures path { IfOk result (λ _. (p : layout.Problem)
+        → IsMoved c.old [] (shifted to.now c.old.problem.rows) p
+        → (path : paths.Path) × IsRun true p (FromHere c.old.marks []) budget c.new.marks path) }
+    ensures stop { IfErr result (λ stop. (p : layout.Problem)
+        → IsMoved c.old [] (shifted to.now c.old.problem.rows) p
+        → IsStopOf true p c.old.problem.rows (FromHere c.old.marks) budget stop) }
+{
+    c.show_corner();
+    c.stand()?;
+    c.show_corner();
+    let mut low = Vec::new(alloc);
+    match shift_all(alloc, c, &mut low, to) {
+        Ok(()) => restore(alloc, c, low, budget),
+        Err(stop) => Err(stop),
+    }
+}
