@@ -52,7 +52,8 @@ metric-change old name value reply new (inr (a, inr (b, inr (c, inr (d, (rows, a
 
 window-change : (old : State) (w h : Fraction) (reply : Reply) (new : State) → TriedWindow old w h (Solves old) reply new → MayChange old reply new
 window-change old w h reply new (inl x) = inl x.2
-window-change old w h reply new (inr (a, solves)) = solves-change old _ reply new solves
+window-change old w h reply new (inr (a, inl x)) = inl x.2
+window-change old w h reply new (inr (a, inr (b, solves))) = solves-change old _ reply new solves
 
 line-change : (old : State) (group : List ℕ) (count : ℕ) (May : CompileStop → Type 0) (Is : CompiledLine → Type 0) (reply : Reply) (new : State) → TriedLine old group count May Is (Solves old) reply new → MayChange old reply new
 line-change old group count May Is reply new (inl x) = inl x.3

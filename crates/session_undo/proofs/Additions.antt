@@ -14,7 +14,9 @@ use Rattle.problem_core.specs.Window.{required_row, structural_rows, zero_fracti
 use Rattle.view_tree.specs.Views.{LiveView, ViewTree, IsTree}
 use Rattle.constraint_compile.specs.Meaning.{MetricList}
 use Rattle.constraint_compile.specs.Compiled.{CompiledLine, AreRowsNow}
-use Rattle.layout_solver.specs.Layouts.{Layout, stays_at, zeros, with_added, with_rows}
+use Rattle.layout_solver.specs.declared.engine.Change.{Change}
+use Rattle.layout_solver.specs.Layouts.{Layout, stays_at, zeros, with_added}
+use Rattle.layout_solver.specs.Shifts.{shifted, with_shifts}
 use Rattle.session_undo.specs.Items.{view_rows, size_rows}
 use Rattle.session_undo.specs.Scene.{State}
 use Rattle.session_undo.specs.Machine.{IsCrowded}
@@ -22,7 +24,9 @@ use Rattle.session_undo.specs.Kept.{AreWithin}
 use Rattle.session_undo.specs.Attributes.{view_attributes, attributes_of, HasOnly, IsNextLine, IsGrown, IsCounted}
 use Rattle.session_undo.proofs.Lists.{pairs-nil, pairs-cons, four-rising, all-unmapped}
 use Rattle.session_undo.proofs.Attributes.{attributes-below, attribute-count, view-new, none-new, contains-left, contains-top, contains-width, contains-height, window-among}
-use Rattle.session_undo.proofs.Wholes.{IsSettled, MayBeAdded, added-rising, added-whole, renewed-whole, settled-numbers, attributes-joined, shape}
+use Rattle.session_undo.proofs.Wholes.{IsSettled, MayBeAdded, added-rising, added-whole, settled-numbers, attributes-joined, shape}
+use Rattle.session_undo.proofs.AlikeRows.{alike-shapes}
+use Rattle.session_undo.proofs.ShiftedRows.{shifted-alike}
 use Rattle.session_undo.proofs.First.{first_problem, first_tree}
 use Rattle.session_undo.proofs.NextRows.{line-may, line-below}
 
@@ -79,12 +83,6 @@ size-whole t next l w h more tree is counted are each room =
     let two : length more ≡ 2 = ap length are in
     rows-whole t.views next l more is counted (size-may t next w h more tree are each) (omega (arith, room, two))
 
--- the same rows
-pub same-whole : (l : Layout) → IsWhole (with_rows l l.problem.rows) → IsWhole (with_added l [] [])
-same-whole l h =
-    subst (λ (rows : List Row). IsWhole (record { rows = rows; stays = stays_at (l.values ++ zeros []) })) (sym (append-nil l.problem.rows))
-    (subst (λ (vs : List (ℕ × Fraction)). IsWhole (record { rows = l.problem.rows; stays = stays_at vs })) (sym (append-nil l.values)) h)
-
 pub view-whole : (views new_views : List LiveView) (next id : ℕ) (l : Layout) (more : List Row) → IsSettled l.problem l.values → IsCounted views next l.problem → IsGrown views new_views id → id < 2 ^ 29 → more ≡ view_rows next id → All IsRow more
     → length l.problem.rows + 2 ≤ 2000 → IsWhole (with_added l (view_attributes id) more)
 view-whole views new_views next id l more is counted grown small are each room =
@@ -111,9 +109,6 @@ view-rising views new_views next id l is counted grown small =
 -- there is none more
 pub still-rising : (l : Layout) → AreRising l.values → AreRising (l.values ++ zeros [])
 still-rising l rising = subst AreRising (sym (append-nil l.values)) rising
-
-pub renewed : (l : Layout) (rows : List Row) → IsSettled l.problem l.values → All IsRow rows → map shape rows ≡ map shape l.problem.rows → IsWhole (with_rows l rows)
-renewed l rows is each same = renewed-whole l.problem l.values rows is each same
 
 -- ---- counts
 
@@ -149,13 +144,15 @@ pub counted-line : (views : List LiveView) (next : ℕ) (l : Layout) (line : Com
 counted-line views next l line ms more p same counted fits are room is =
     counted-added views views next (next + length more) l [] more p same counted (sym (append-nil (attributes_of views))) (line-below views next line ms more fits are) (omega arith) room is
 
-pub counted-renewed : (views : List LiveView) (next : ℕ) (l : Layout) (rows : List Row) (p : Problem) → map (λ v. v.0) l.values ≡ map (λ s. s.attr) l.problem.stays → IsCounted views next l.problem
-    → map shape rows ≡ map shape l.problem.rows → p ≡ with_rows l rows → IsCounted views next p
-counted-renewed views next l rows p same counted shapes is =
+-- other constants change no number
+pub counted-shifted : (views : List LiveView) (next : ℕ) (l : Layout) (to : List Change) (p : Problem) → map (λ v. v.0) l.values ≡ map (λ s. s.attr) l.problem.stays → IsCounted views next l.problem
+    → p ≡ with_shifts l to → IsCounted views next p
+counted-shifted views next l to p same counted is =
+    let shapes : map shape (shifted to l.problem.rows) ≡ map shape l.problem.rows = alike-shapes (shifted to l.problem.rows) l.problem.rows (shifted-alike to l.problem.rows) in
     subst (IsCounted views next) (sym is) (record {
       stays = stays-at l.values ∙ same ∙ counted.stays;
-      below = all-unmapped shape (λ s. s.0 < next) rows (subst (All (λ (s : ℕ × List Term). s.0 < next)) (sym shapes) (mapped l.problem.rows counted.below));
-      few = (let long : length rows ≡ length l.problem.rows = sym (length-map rows shape) ∙ ap length shapes ∙ length-map l.problem.rows shape in omega (arith, counted.few, long));
+      below = all-unmapped shape (λ s. s.0 < next) (shifted to l.problem.rows) (subst (All (λ (s : ℕ × List Term). s.0 < next)) (sym shapes) (mapped l.problem.rows counted.below));
+      few = (let long : length (shifted to l.problem.rows) ≡ length l.problem.rows = sym (length-map (shifted to l.problem.rows) shape) ∙ ap length shapes ∙ length-map l.problem.rows shape in omega (arith, counted.few, long));
     })
   where
     mapped : (rows : List Row) → All (λ r. r.id < next) rows → All (λ (s : ℕ × List Term). s.0 < next) (map shape rows)

@@ -22,7 +22,7 @@ use Rattle.constraint_compile.specs.declared.stops.CompileStop.TheVariants as st
 use Rattle.session_undo.specs.declared.reply.Refusal.{Refusal}
 use Rattle.session_undo.specs.Replies.{Reply, Unknown, Taken, Limit, MayRefuse}
 use Rattle.session_undo.specs.Scene.{Scene, State, AreDraftRows, with_window, metrics_with}
-use Rattle.session_undo.specs.Machine.{IsTaken, IsDeep, IsCrowded, AreNear, AreTooMany, TriedView, TriedMetric, TriedWindow, UnlessFar, HasAllViews}
+use Rattle.session_undo.specs.Machine.{IsTaken, IsDeep, IsCrowded, IsFarSize, AreNear, AreTooMany, TriedView, TriedMetric, TriedWindow, UnlessFar, HasAllViews}
 use Rattle.session_undo.specs.Items.{has_size}
 use Rattle.session_undo.specs.Adding.{NoEnd, IsFreeView, IsFreeMetric, view_draft, metrics_draft}
 use Rattle.session_undo.specs.Kept.{AreWithin, MayLackRows}
@@ -310,6 +310,9 @@ metric-free old name value ms rows is are near =
 
 -- ---- the window
 
-pub window-passed : (old : State) (w h : Fraction) (End : Scene → Reply → State → Type 0) (reply : Reply) (new : State) → ((has_size old.scene.held ≡ false) × IsCrowded old 2 → ⊥) → End (with_window old.scene w h) reply new
-    → TriedWindow old w h End reply new
-window-passed old w h End reply new room end = inr (room, end)
+module _ (old : State) (w h : Fraction) (End : Scene → Reply → State → Type 0) (room : (has_size old.scene.held ≡ false) × IsCrowded old 2 → ⊥) where
+  pub window-far : IsFarSize old.scene.held w h → TriedWindow old w h End (Limit word.Constant) old
+  window-far far = inr (room, inl (far, refl, refl))
+
+  pub window-passed : (reply : Reply) (new : State) → (IsFarSize old.scene.held w h → ⊥) → End (with_window old.scene w h) reply new → TriedWindow old w h End reply new
+  window-passed reply new near end = inr (room, inr (near, end))

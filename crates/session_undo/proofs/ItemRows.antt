@@ -1,5 +1,5 @@
 -- The rows of what is held.
-use Rattle.std.proofs.Common.{◌≡◌, ℕ, zero, suc, ◌+◌, ◌<◌, Bool, true, false, true≢false, arith, length-append, cond, List, [], ◌∷◌, ◌++◌, take, length, filter, Some, None, Option, refl, sym, ap, ap₂, ◌∙◌, subst, append_assoc, All}
+use Rattle.std.proofs.Common.{◌≡◌, ℕ, zero, suc, ◌+◌, ◌<◌, Bool, true, false, true≢false, arith, length-append, cond, List, [], ◌∷◌, ◌++◌, take, length, filter, refl, sym, ap, ◌∙◌, subst, append_assoc, All}
 use Rattle.std.proofs.Math.ListN.{get_or}
 use Rattle.std.proofs.lemmas.List.{append-nil, take_more, map-append}
 use Rattle.std.specs.List.{AllByRecursion as Each}
@@ -15,10 +15,9 @@ use Rattle.constraint_compile.specs.Stops.{IsConstantStop}
 use Rattle.constraint_compile.specs.declared.stops.CompileStop.{CompileStop}
 use Rattle.constraint_compile.specs.declared.stops.CompileStop.TheVariants as stop
 use Rattle.constraint_compile.specs.Meaning.{MetricList}
-use Rattle.session_undo.specs.declared.item.WindowSize.{WindowSize}
 use Rattle.session_undo.specs.declared.item.Item as declared
 use Rattle.session_undo.specs.Items.{Item, OfWindow, OfView, Sized, OfLine, AreItemRows, AreRows, IsSmallItem, sized, resized, is_line, line_count, is_size, has_size}
-use Rattle.session_undo.specs.Kept.{item_of, items_of, changed, all_changed, IsItem, MayLackItemRows, MayLackRows}
+use Rattle.session_undo.specs.Kept.{item_of, items_of, IsItem, MayLackItemRows, MayLackRows}
 use Rattle.session_undo.proofs.Lists.{all-unmapped}
 
 -- ---- items of the code
@@ -27,26 +26,10 @@ use Rattle.session_undo.proofs.Lists.{all-unmapped}
 pub items-more : (items new : List declared.Item) (item : declared.Item) → new ≡ items ++ item ∷ [] → items_of new ≡ items_of items ++ item_of item ∷ []
 items-more items new item is = ap items_of is ∙ map-append item_of items (item ∷ [])
 
--- no other size
-changed-none : (item : Item) → changed None item ≡ item
-changed-none OfWindow = refl
-changed-none (OfView first id) = refl
-changed-none (Sized first width height) = refl
-changed-none (OfLine group line) = refl
-
-pub all-unchanged : (held : List Item) → all_changed None held ≡ held
-all-unchanged [] = refl
-all-unchanged (item ∷ held) = ap₂ (λ (x : Item) (xs : List Item). x ∷ xs) (changed-none item) (all-unchanged held)
-
-changed-some : (size : WindowSize) (item : Item) → changed (Some size) item ≡ sized size.width size.height item
-changed-some size OfWindow = refl
-changed-some size (OfView first id) = refl
-changed-some size (Sized first width height) = refl
-changed-some size (OfLine group line) = refl
-
-pub all-resized : (size : WindowSize) (held : List Item) → all_changed (Some size) held ≡ resized size.width size.height held
-all-resized size [] = refl
-all-resized size (item ∷ held) = ap₂ (λ (x : Item) (xs : List Item). x ∷ xs) (changed-some size item) (all-resized size held)
+-- one item further along a list
+line-more : (items : List declared.Item) (i : ℕ) (item : declared.Item) → i < length items → item ≡ get_or items i item → items_of (take (i + 1) items) ≡ items_of (take i items) ++ item_of item ∷ []
+line-more items i item within read =
+    ap items_of (take_more items i item within ∙ ap (λ (x : declared.Item). take i items ++ x ∷ []) (sym read)) ∙ map-append item_of (take i items) (item ∷ [])
 
 -- ---- rows
 
@@ -56,20 +39,12 @@ rows-more ms [] item rows more are new = (more, [], ap (λ (r : List Row). r ++ 
 rows-more ms (x ∷ held) item rows more (front, back, is, first, rest) new =
     (front, back ++ more, ap (λ (r : List Row). r ++ more) is ∙ append_assoc front back more, first, rows-more ms held item back more rest new)
 
-taken-more : (other : Option WindowSize) (items : List declared.Item) (i : ℕ) (item : declared.Item) → i < length items → item ≡ get_or items i item
-    → all_changed other (items_of (take (i + 1) items)) ≡ all_changed other (items_of (take i items)) ++ changed other (item_of item) ∷ []
-taken-more other items i item within read =
-    ap (λ (xs : List declared.Item). all_changed other (items_of xs)) (take_more items i item within ∙ ap (λ (x : declared.Item). take i items ++ x ∷ []) (sym read))
-    ∙ ap (all_changed other) (map-append item_of (take i items) (item ∷ []))
-    ∙ map-append (changed other) (items_of (take i items)) (item_of item ∷ [])
-
 -- with the next item of a list
-pub rows-next : (ms : MetricList) (other : Option WindowSize) (items : List declared.Item) (i : ℕ) (item : declared.Item) (rows more new : List Row) → i < length items → AreRows ms (all_changed other (items_of (take i items))) rows
-    → item ≡ get_or items i item → AreItemRows ms (changed other (item_of item)) more → new ≡ rows ++ more → AreRows ms (all_changed other (items_of (take (i + 1) items))) new
-rows-next ms other items i item rows more new within are read next is =
-    subst (λ (xs : List Item). AreRows ms xs new) (sym (taken-more other items i item within read))
-    (subst (λ (r : List Row). AreRows ms (all_changed other (items_of (take i items)) ++ changed other (item_of item) ∷ []) r) (sym is)
-    (rows-more ms (all_changed other (items_of (take i items))) (changed other (item_of item)) rows more are next))
+pub rows-next : (ms : MetricList) (items : List declared.Item) (i : ℕ) (item : declared.Item) (rows more new : List Row) → i < length items → AreRows ms (items_of (take i items)) rows
+    → item ≡ get_or items i item → AreItemRows ms (item_of item) more → new ≡ rows ++ more → AreRows ms (items_of (take (i + 1) items)) new
+rows-next ms items i item rows more new within are read next is =
+    subst (λ (xs : List Item). AreRows ms xs new) (sym (line-more items i item within read))
+    (subst (AreRows ms (items_of (take i items) ++ item_of item ∷ [])) (sym is) (rows-more ms (items_of (take i items)) (item_of item) rows more are next))
 
 -- what has rows is small
 item-small : (ms : MetricList) (item : Item) (rows : List Row) → AreItemRows ms item rows → IsSmallItem ms item
@@ -124,7 +99,10 @@ sized-IsItem w h (OfLine group line) is = is
 
 each-resized : (w h : Fraction) (held : List Item) → Each IsItem held → Each IsItem (resized w h held)
 each-resized w h [] each = tt
-each-resized w h (item ∷ held) each = (sized-IsItem w h item each.0, each-resized w h held each.1)
+each-resized w h (item ∷ held) each = elim (is_size item) as (λ b. Each IsItem (cond b (sized w h item ∷ held) (item ∷ resized w h held))) [
+  | true ↦ (sized-IsItem w h item each.0, each.1)
+  | false ↦ (each.0, each-resized w h held each.1)
+]
 
 pub all-resized-IsItem : (w h : Fraction) (held : List Item) → All IsItem held → All IsItem (resized w h held)
 all-resized-IsItem w h held all = All-from_recursion IsItem (resized w h held) (each-resized w h held (recursion_from_All IsItem held all))
@@ -142,10 +120,6 @@ filter-more f (x ∷ held) item = elim (f x) as (λ b. cond b (x ∷ filter f (h
 ]
 
 -- ---- counts along a list
-
-line-more : (items : List declared.Item) (i : ℕ) (item : declared.Item) → i < length items → item ≡ get_or items i item → items_of (take (i + 1) items) ≡ items_of (take i items) ++ item_of item ∷ []
-line-more items i item within read =
-    ap items_of (take_more items i item within ∙ ap (λ (x : declared.Item). take i items ++ x ∷ []) (sym read)) ∙ map-append item_of (take i items) (item ∷ [])
 
 last-count : (b : Bool) (item : Item) → length (cond b (item ∷ []) []) ≡ cond b 1 0
 last-count true item = refl

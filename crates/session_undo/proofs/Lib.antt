@@ -1,10 +1,11 @@
 pub mod Additions
+pub mod AlikeRows
 pub mod Attributes
 pub mod BestValues
 pub mod Chains
+pub mod ConstantChanges
 pub mod First
 pub mod FormTerms
-pub mod Halves
 pub mod ItemRows
 pub mod LineStops
 pub mod Lists
@@ -16,8 +17,9 @@ pub mod NextRows
 pub mod OneFraction
 pub mod Places
 pub mod Reached
+pub mod Resized
 pub mod SameRow
-pub mod SameShapes
+pub mod ShiftedRows
 pub mod SmallLines
 pub mod Solved
 pub mod Steps

@@ -1,8 +1,8 @@
 -- Lists whose keys rise, and what holds along a map.
-use Rattle.std.proofs.Common.{◌≡◌, ℕ, zero, suc, ◌<◌, ◌≤◌, List, [], ◌∷◌, ◌++◌, map, get_or, subst, arith, ◌⊎◌, inl, inr, All, AllPairs}
+use Rattle.std.proofs.Common.{◌≡◌, ◌∙◌, ℕ, zero, suc, ◌<◌, ◌≤◌, List, [], ◌∷◌, ◌++◌, take, length, map, get_or, refl, sym, ap, subst, arith, ◌⊎◌, inl, inr, All, AllPairs}
 use Rattle.std.specs.List.{Contains}
 use Rattle.std.proofs.lemmas.Bool.{cases_eq}
-use Rattle.std.proofs.lemmas.List.{length-map, get_or-map}
+use Rattle.std.proofs.lemmas.List.{length-map, get_or-map, get_or_default}
 use Rattle.std.proofs.lemmas.List.Elements.{All-from_recursion, All-append, All-head, All-tail, All-weaker, All-map}
 
 -- ---- pairs
@@ -76,3 +76,18 @@ contains-or (x ∷ xs) v = elim (cases_eq x v) [
     further : Contains xs v ⊎ (Contains xs v → ⊥) → (x ≡ v → ⊥) → Contains (x ∷ xs) v ⊎ (Contains (x ∷ xs) v → ⊥)
     further (inl h) other = inl (contains-cons x xs v h)
     further (inr none) other = inr (no other none)
+
+-- ---- what a loan of a list writes back
+
+take-front : {A : Type 0} (xs ys : List A) → take (length xs) (xs ++ ys) ≡ xs
+take-front [] ys = refl
+take-front (x ∷ xs) ys = ap (λ (zs : List _). x ∷ zs) (take-front xs ys)
+
+pub written-back : {A : Type 0} (new ys : List A) (len : ℕ) → length new ≡ len → take len (new ++ ys) ≡ new
+written-back new ys len e = ap (λ (n : ℕ). take n (new ++ ys)) (sym e) ∙ take-front new ys
+
+-- ---- reads
+
+-- a list has one element at a place
+pub one-read : {X : Type 0} (xs : List X) (i : ℕ) (x y : X) → i < length xs → x ≡ get_or xs i x → y ≡ get_or xs i y → x ≡ y
+one-read xs i x y within x_is y_is = x_is ∙ get_or_default xs i x y within ∙ sym y_is

@@ -1,5 +1,6 @@
 -- Parts of the steps.
-use Rattle.std.specs.Prelude.{◌≡◌, ◌⊎◌, ℕ, ◌+◌, ◌<◌, ◌≤◌, List, [], ◌∷◌, ◌++◌, length, Some, IsSome}
+use Rattle.std.specs.Prelude.{◌≡◌, ◌⊎◌, ℕ, ◌+◌, ◌<◌, ◌≤◌, true, false, List, [], ◌∷◌, ◌++◌, length, Some}
+use Rattle.std.specs.Prelude.{IsSome}
 use Rattle.name_tables.specs.declared.stops.LimitWord.{LimitWord}
 use Rattle.name_tables.specs.declared.stops.LimitWord.TheVariants as word
 use Rattle.view_tree.specs.Views.{ViewTree, LiveView, view_named}
@@ -12,7 +13,7 @@ use Rattle.constraint_compile.specs.declared.stops.CompileStop.{CompileStop}
 use Rattle.constraint_compile.specs.declared.stops.CompileStop.TheVariants as stop
 use Rattle.cert_core.specs.declared.stops.RunStop.{RunStop}
 use Rattle.cert_core.specs.declared.stops.RunStop.TheVariants as run
-use Rattle.layout_solver.specs.Layouts.{Layout, with_rows}
+use Rattle.layout_solver.specs.Layouts.{Layout}
 use Rattle.layout_solver.specs.Begins.{Start, IsStopFrom}
 use Rattle.std.specs.declared.result.Result.{Result}
 use Rattle.std.specs.declared.result.Result.TheVariants.{Ok, Err}
@@ -41,21 +42,13 @@ abbrev pub answer_of : Result (Unit {0}) RunStop → Result answer.Reply Refusal
 answer_of (Ok done) = Ok good.Done
 answer_of (Err stop) = Err (refusal_of stop)
 
--- where an engine begins that takes more rows: at the corner that it kept
+-- where an engine begins that takes more rows
 abbrev pub from_corner : Layout → List Row → Start
-from_corner l rows = record { before = l.problem.rows; joining = rows; kept = l.corner }
+from_corner l rows = record { dual = false; before = l.problem.rows; joining = rows; kept = l.corner }
 
--- where one begins that takes all its rows anew
-abbrev pub from_none : List Row → Start
-from_none rows = record { before = []; joining = rows; kept = [] }
-
--- where one may begin that takes these rows: they are those that it has, or all of them join anew
-abbrev pub MayBegin : Layout → List Row → Start → Type 0
-MayBegin l rows s = ((rows ≡ l.problem.rows) × (s ≡ from_corner l [])) ⊎ (s ≡ from_none rows)
-
--- why one stops that takes these rows
-abbrev pub StopsAnew : Layout → List Row → ℕ → RunStop → Type 0
-StopsAnew l rows budget stop = (s : Start) × MayBegin l rows s × IsStopFrom s (with_rows l rows) budget stop
+-- where one begins whose rows get other constants
+abbrev pub from_shifts : Layout → Start
+from_shifts l = record { dual = true; before = l.problem.rows; joining = []; kept = l.corner }
 
 -- why the run from the scene to the draft stops, where memory may be wanting
 abbrev pub StopsAt : Scene → Scene → ℕ → RunStop → Type 0
@@ -103,7 +96,8 @@ pub record IsFreeView (old : State) (name parent : List ℕ) (new : ViewTree) (i
   pub id_is : id ≡ old.scene.tree.next
 
 -- the metric may be made or changed, and these are the metrics with it, and the rows for them
-pub record IsFreeMetric (old : State) (name : List ℕ) (value : Fraction) (new : MetricList) (rows : List Row) : Type 0 where
+pub record IsFreeMetric (old : State) (name : List ℕ) (value : Fraction) (new : MetricList)
+    (rows : List Row) : Type 0 where
   pub free : IsSome (view_named old.scene.tree.views name) → ⊥
   pub short : length name ≤ 64
   pub room : AreTooMany old.scene.metrics name → ⊥
@@ -128,13 +122,15 @@ IsGroupFree old group = (64 < length group → ⊥) × (HasAllLines old → ⊥)
 -- the same with the limit of rows
 abbrev pub IsLineLimit : State → List ℕ → ℕ → LimitWord → Type 0
 IsLineLimit old group count limit =
-    UnlessFull old group (Unless (IsCrowded old count) (Limit word.Rows) old (λ reply new. ⊥)) (Limit limit) old
+    UnlessFull old group (Unless (IsCrowded old count) (Limit word.Rows) old (λ reply new. ⊥))
+    (Limit limit) old
 
 abbrev pub IsLineFree : State → List ℕ → ℕ → Type 0
 IsLineFree old group count = IsGroupFree old group × (IsCrowded old count → ⊥)
 
 -- the line of this group, whose name is kept, has these rows, for which there is room
-pub record IsFreeLine (old : State) (group kept : List ℕ) (line : CompiledLine) (rows : List Row) : Type 0 where
+pub record IsFreeLine (old : State) (group kept : List ℕ) (line : CompiledLine)
+    (rows : List Row) : Type 0 where
   pub name : kept ≡ group
   pub are_rows : AreRowsNow old.scene.metrics line.rows rows
   pub next : IsNextLine old.scene.tree.views old.scene.next_row line

@@ -1,5 +1,6 @@
 -- What is held, and the rows that it stands for.
-use Rattle.std.specs.Prelude.{◌≡◌, ℕ, ◌+◌, ◌*◌, Bool, true, false, cond, List, [], ◌∷◌, ◌++◌, length, filter, map}
+use Rattle.std.specs.Prelude.{◌≡◌, ℕ, ◌+◌, ◌*◌, Bool, true, false, cond, List, [], ◌∷◌, ◌++◌, length, filter}
+use Rattle.std.specs.Prelude.{Option, Some, None}
 use Rattle.frac_core.specs.Fraction.{Fraction}
 use Rattle.problem_core.specs.declared.parts.Rel.TheVariants.{Eq, Ge}
 use Rattle.problem_core.specs.Layout.{Row}
@@ -21,7 +22,8 @@ pub data Item : Type 0 where
 -- the view v has the attributes 4v + 1 to 4v + 4: left, top, width and height
 abbrev pub view_rows : ℕ → ℕ → List Row
 view_rows first id =
-    required_row first (4 * id + 3) Ge zero_fraction ∷ required_row (first + 1) (4 * id + 4) Ge zero_fraction ∷ []
+    required_row first (4 * id + 3) Ge zero_fraction
+    ∷ required_row (first + 1) (4 * id + 4) Ge zero_fraction ∷ []
 
 abbrev pub size_rows : ℕ → Fraction → Fraction → List Row
 size_rows first width height = required_row first 3 Eq width ∷ required_row (first + 1) 4 Eq height ∷ []
@@ -77,5 +79,38 @@ sized width height (OfView first id) = OfView first id
 sized width height (Sized first w h) = Sized first width height
 sized width height (OfLine group line) = OfLine group line
 
+-- the first size is this one
 abbrev pub resized : Fraction → Fraction → List Item → List Item
-resized width height held = map (sized width height) held
+resized width height [] = []
+resized width height (item ∷ more) =
+    cond (is_size item) (sized width height item ∷ more) (item ∷ resized width height more)
+
+-- the number of the first row of the window's size, and its constants
+pub record Size : Type 0 where
+  pub first : ℕ
+  pub width : Fraction
+  pub height : Fraction
+
+abbrev pub own_size : Item → Option Size
+own_size OfWindow = None
+own_size (OfView first id) = None
+own_size (Sized first width height) = Some (record { first = first; width = width; height = height })
+own_size (OfLine group line) = None
+
+-- the window's size, where one is held
+abbrev pub size_of : List Item → Option Size
+size_of [] = None
+size_of (item ∷ more) = cond (is_size item) (own_size item) (size_of more)
+
+-- ---- constants
+
+abbrev pub without_constant : Row → Row
+without_constant r = record {
+  id = r.id;
+  rank = r.rank;
+  weight = r.weight;
+  rel = r.rel;
+  scale = r.scale;
+  constant = zero_fraction;
+  terms = r.terms;
+}

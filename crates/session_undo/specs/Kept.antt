@@ -1,5 +1,5 @@
 -- What a scene keeps, and of which parts it is made.
-use Rattle.std.specs.Prelude.{⊤, ℕ, ◌^◌, ◌<◌, ◌≤◌, List, [], map, All, Option, Some, None}
+use Rattle.std.specs.Prelude.{⊤, ℕ, ◌^◌, ◌<◌, ◌≤◌, List, [], map, All}
 use Rattle.name_tables.specs.declared.stops.LimitWord.TheVariants as limit
 use Rattle.constraint_compile.specs.Meaning.{MetricList}
 use Rattle.constraint_compile.specs.declared.stops.CompileStop.{CompileStop}
@@ -7,10 +7,10 @@ use Rattle.constraint_compile.specs.declared.stops.CompileStop.TheVariants.{Unkn
 use Rattle.view_tree.specs.Views.{ViewTree}
 use Rattle.layout_solver.specs.Layouts.{Layout}
 use Rattle.session_undo.specs.declared.item.Item as declared
-use Rattle.session_undo.specs.declared.item.WindowSize.{WindowSize}
+use Rattle.session_undo.specs.declared.item.HeldSize.{HeldSize}
 use Rattle.session_undo.specs.declared.item.Item.TheVariants as kind
 use Rattle.session_undo.specs.declared.limits.Limits as declared_limits
-use Rattle.session_undo.specs.Items.{Item, OfWindow, OfView, Sized, OfLine, AreRows, IsSmallItem, sized}
+use Rattle.session_undo.specs.Items.{Item, Size, OfWindow, OfView, Sized, OfLine, AreRows, IsSmallItem}
 use Rattle.session_undo.specs.Scene.{Scene, Limits, State, problem_of}
 use Rattle.session_undo.specs.Attributes.{IsCounted}
 
@@ -25,25 +25,15 @@ item_of (kind.OfLine group line) = OfLine group line
 abbrev pub items_of : List declared.Item → List Item
 items_of items = map item_of items
 
+abbrev pub size_in : HeldSize → Size
+size_in s = record { first = s.first; width = s.size.width; height = s.size.height }
+
 -- the numbers of its rows and of its attributes are above 0 and at most 2^31
 abbrev pub IsItem : Item → Type 0
 IsItem OfWindow = Unit {0}
 IsItem (OfView first id) = ((0 < first) × (first < 2 ^ 31)) × (id < 2 ^ 29)
 IsItem (Sized first width height) = (0 < first) × (first < 2 ^ 31)
 IsItem (OfLine group line) = Unit {0}
-
--- the constants of a size, which are others where they are to be
-abbrev pub size_or : WindowSize → Option WindowSize → WindowSize
-size_or size None = size
-size_or size (Some other) = other
-
--- an item, with another size where there is to be one
-abbrev pub changed : Option WindowSize → Item → Item
-changed None item = item
-changed (Some size) item = sized size.width size.height item
-
-abbrev pub all_changed : Option WindowSize → List Item → List Item
-all_changed other held = map (changed other) held
 
 -- why an item has no rows: a constant isn't small
 abbrev pub MayLackItemRows : MetricList → Item → CompileStop → Type 0
@@ -92,4 +82,9 @@ pub record AreWithin (limits : Limits) : Type 0 where
 
 -- the session of this scene, with none before it
 abbrev pub session_at : Scene → ℕ → declared_limits.Limits → State
-session_at scene budget limits = record { scene = scene; earlier = []; budget = budget; limits = limits_of limits }
+session_at scene budget limits = record {
+  scene = scene;
+  earlier = [];
+  budget = budget;
+  limits = limits_of limits;
+}

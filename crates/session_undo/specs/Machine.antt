@@ -1,6 +1,6 @@
 -- The step of a session: what a command leads to.
 use Rattle.std.specs.Prelude.{◌≡◌, ℕ, ◌+◌, ◌^◌, ◌<◌, ◌≤◌, ◌⊎◌, List, [], ◌++◌, length, codes, Option, Some}
-use Rattle.std.specs.Prelude.{None, IsSome, false, slice_index_or, All}
+use Rattle.std.specs.Prelude.{None, IsSome, true, false, map, slice_index_or, All}
 use Rattle.frac_core.specs.Fraction.{Fraction}
 use Rattle.name_tables.specs.Names.{names_of, place_of, value_of}
 use Rattle.name_tables.specs.declared.stops.LimitWord.TheVariants as word
@@ -26,7 +26,7 @@ use Rattle.constraint_compile.specs.FormatStops.{row_count}
 use Rattle.constraint_compile.specs.FormatRows.{IsCompiledFormat, MayStopFormat}
 use Rattle.constraint_compile.specs.declared.stops.CompileStop.{CompileStop}
 use Rattle.constraint_compile.specs.declared.stops.CompileStop.TheVariants as stop
-use Rattle.session_undo.specs.Items.{IsSmallItem, line_count, has_size}
+use Rattle.session_undo.specs.Items.{IsSmallItem, Item, Size, line_count, has_size, size_of, without_constant}
 use Rattle.session_undo.specs.Scene.{Scene, State, with_view, with_metric, with_window, with_line, problem_of}
 use Rattle.session_undo.specs.Scene.{draft_problem, AreDraftRows, Becomes}
 use Rattle.session_undo.specs.Replies.{Reply, Done, Nothing, Frames, Rows, Unknown, Taken, Limit, Kind}
@@ -37,7 +37,8 @@ abbrev pub Unless : Type 0 → Reply → State → (Reply → State → Type 0) 
 Unless Fact refusal old F reply new = (Fact × (reply ≡ refusal) × (new ≡ old)) ⊎ ((Fact → ⊥) × F reply new)
 
 -- where there is such a cause, its refusal and no change; otherwise as F says
-abbrev pub UnlessAny : {A : Type 0} → (A → Type 0) → (A → Reply) → State → (Reply → State → Type 0) → Reply → State → Type 0
+abbrev pub UnlessAny : {A : Type 0} → (A → Type 0) → (A → Reply) → State → (Reply → State → Type 0)
+    → Reply → State → Type 0
 UnlessAny {A = A} IsCause refusal old F reply new =
     ((a : A) × IsCause a × (reply ≡ refusal a) × (new ≡ old)) ⊎ (((a : A) → IsCause a → ⊥) × F reply new)
 
@@ -47,29 +48,29 @@ Keeps answer old reply new = (reply ≡ answer) × (new ≡ old)
 
 -- ---- solving
 
--- the scene's rows are there before, and the marks are those of a corner that was kept for its values
-pub record IsKeptStart (scene : Scene) (s : Start) : Type 0 where
+-- rows join those before
+pub record IsJoining (rows : List Row) (s : Start) : Type 0 where
+  pub primal : s.dual ≡ false
+  pub parts : rows ≡ s.before ++ s.joining
+
+-- no row joins, and the rows are those before but for their constants
+pub record IsShifting (rows : List Row) (s : Start) : Type 0 where
+  pub dual : s.dual ≡ true
+  pub none : s.joining ≡ []
+  pub alike : map without_constant rows ≡ map without_constant s.before
+
+-- where the path from a scene to a draft begins, of which these are the rows: at a corner that was kept for
+-- the scene's values, with the scene's rows
+pub record IsStart (scene : Scene) (rows : List Row) (s : Start) : Type 0 where
   pub before : s.before ≡ scene.rows
   pub kept : IsReached (problem_of scene) s.kept scene.values
-
--- no row is there before, and no corner was kept; the draft holds no more than the scene, so that constants
--- alone may have changed
-pub record IsNewStart (scene draft : Scene) (s : Start) : Type 0 where
-  pub before : s.before ≡ []
-  pub kept : s.kept ≡ []
-  pub held : length draft.held ≡ length scene.held
-
--- where the path from a scene to a draft begins, of which these are the rows: those before and those that
--- join
-pub record IsStart (scene draft : Scene) (rows : List Row) (s : Start) : Type 0 where
-  pub parts : rows ≡ s.before ++ s.joining
-  pub from : IsKeptStart scene s ⊎ IsNewStart scene draft s
+  pub way : IsJoining rows s ⊎ IsShifting rows s
 
 -- the new scene is this draft with its rows and the best values, to which a path within the budget leads
 pub record IsSolved (scene draft : Scene) (budget : ℕ) (path : Path) (new : Scene) : Type 0 where
   pub becomes : Becomes draft new
   pub start : Start
-  pub begins : IsStart scene draft new.rows start
+  pub begins : IsStart scene new.rows start
   pub run : IsRunFrom start (problem_of new) budget path new.values
 
 -- the run to the draft stops so
@@ -77,7 +78,7 @@ pub record IsStopped (scene draft : Scene) (budget : ℕ) (stop : RunStop) : Typ
   pub rows : List Row
   pub are : AreDraftRows draft rows
   pub start : Start
-  pub begins : IsStart scene draft rows start
+  pub begins : IsStart scene rows start
   pub stops : IsStopFrom start (draft_problem draft rows) budget stop
 
 -- the command is accepted, and the scene is this draft solved
@@ -151,7 +152,8 @@ IsNear before after = IsFittingSum (plus after.constant (negated before.constant
 -- no constant moves too far
 pub record AreNear (before after : List Row) : Type 0 where
   pub long : length after ≡ length before
-  pub each : (i : ℕ) (b a : Row) → i < length before → IsNear (slice_index_or before i b) (slice_index_or after i a)
+  pub each : (i : ℕ) (b a : Row) → i < length before
+      → IsNear (slice_index_or before i b) (slice_index_or after i a)
 
 -- after each term each constant of what the draft holds is small
 abbrev pub AreSmall : Scene → Type 0
@@ -166,6 +168,11 @@ abbrev pub UnlessFar : State → Scene → (Reply → State → Type 0) → Repl
 UnlessFar old draft F =
     Unless (AreSmall draft → ⊥) (Limit word.Constant) old
     (WithRows draft (λ rows. Unless (AreNear old.scene.rows rows → ⊥) (Limit word.Constant) old F))
+
+-- the window has a size, and its width or its height moves too far
+abbrev pub IsFarSize : List Item → Fraction → Fraction → Type 0
+IsFarSize held width height = (size : Size) × (size_of held ≡ Some size)
+    × (IsFittingSum (plus width (negated size.width)) × IsFittingSum (plus height (negated size.height)) → ⊥)
 
 -- where no view is named, the window is meant
 abbrev pub parent_name : Option (List ℕ) → List ℕ
@@ -200,19 +207,23 @@ TriedMetric old name value End =
     (UnlessFar old (with_metric old.scene name value)
     (End (with_metric old.scene name value)))))
 
-abbrev pub TriedWindow : State → Fraction → Fraction → (Scene → Reply → State → Type 0) → Reply → State → Type 0
+abbrev pub TriedWindow : State → Fraction → Fraction → (Scene → Reply → State → Type 0) → Reply → State
+    → Type 0
 TriedWindow old width height End =
     Unless ((has_size old.scene.held ≡ false) × IsCrowded old 2) (Limit word.Rows) old
-    (End (with_window old.scene width height))
+    (Unless (IsFarSize old.scene.held width height) (Limit word.Constant) old
+    (End (with_window old.scene width height)))
 
 -- ---- lines of groups
 
-abbrev pub AddsLine : State → List ℕ → (CompiledLine → Type 0) → (Scene → Reply → State → Type 0) → Reply → State → Type 0
+abbrev pub AddsLine : State → List ℕ → (CompiledLine → Type 0) → (Scene → Reply → State → Type 0) → Reply
+    → State → Type 0
 AddsLine old group Is End reply new =
     (line : CompiledLine) × Is line × End (with_line old.scene group line) reply new
 
 -- a line of so many rows, which may stop the compiler so, and is so compiled
-abbrev pub TriedLine : State → List ℕ → ℕ → (CompileStop → Type 0) → (CompiledLine → Type 0) → (Scene → Reply → State → Type 0) → Reply → State → Type 0
+abbrev pub TriedLine : State → List ℕ → ℕ → (CompileStop → Type 0) → (CompiledLine → Type 0)
+    → (Scene → Reply → State → Type 0) → Reply → State → Type 0
 TriedLine old group count May Is End =
     UnlessAny (λ name. May (stop.Unknown name)) Unknown old
     (Unless (64 < length group) (Limit word.Name) old
@@ -222,13 +233,15 @@ TriedLine old group count May Is End =
     (UnlessAny (λ limit. May (stop.Limit limit)) Limit old
     (AddsLine old group Is End))))))
 
-abbrev pub TriedConstraint : State → List ℕ → Linear → (Scene → Reply → State → Type 0) → Reply → State → Type 0
+abbrev pub TriedConstraint : State → List ℕ → Linear → (Scene → Reply → State → Type 0) → Reply → State
+    → Type 0
 TriedConstraint old group line =
     TriedLine old group 1
     (MayStop old.scene.tree.views old.scene.metrics line old.scene.next_row)
     (IsCompiled old.scene.tree.views old.scene.metrics line old.scene.next_row)
 
-abbrev pub TriedFormat : State → List ℕ → Option Align → FormatMeaning → (Scene → Reply → State → Type 0) → Reply → State → Type 0
+abbrev pub TriedFormat : State → List ℕ → Option Align → FormatMeaning → (Scene → Reply → State → Type 0)
+    → Reply → State → Type 0
 TriedFormat old group align format =
     TriedLine old group (row_count old.scene.tree.views (parts format align))
     (MayStopFormat old.scene.tree.views old.scene.metrics format align old.scene.next_row)

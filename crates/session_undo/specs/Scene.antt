@@ -1,5 +1,6 @@
 -- The scene: what a script has said so far, the rows that this stands for, and the values that it has led to.
-use Rattle.std.specs.Prelude.{◌≡◌, ℕ, ◌+◌, ◌*◌, Bool, true, false, List, [], ◌∷◌, ◌++◌, length, cond, is_some, map, All}
+use Rattle.std.specs.Prelude.{◌≡◌, ℕ, ◌+◌, ◌*◌, Bool, true, false, List, [], ◌∷◌, ◌++◌, length, cond}
+use Rattle.std.specs.Prelude.{is_some, map, All}
 use Rattle.frac_core.specs.Fraction.{Fraction}
 use Rattle.name_tables.specs.Names.{names_of, place_of, with_value}
 use Rattle.problem_core.specs.declared.parts.Stay.{Stay}
@@ -70,7 +71,8 @@ with_view old name parent = record old {
 -- the metrics, of which the one of this name has this value
 abbrev pub metrics_with : MetricList → List ℕ → Fraction → MetricList
 metrics_with metrics name value =
-    cond (is_some (place_of (names_of metrics) name)) (with_value metrics name value) (metrics ++ (name, value) ∷ [])
+    cond (is_some (place_of (names_of metrics) name)) (with_value metrics name value)
+    (metrics ++ (name, value) ∷ [])
 
 abbrev pub with_metric : Scene → List ℕ → Fraction → Scene
 with_metric old name value =

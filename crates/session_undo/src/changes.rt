@@ -1,17 +1,23 @@
 // Parts of the changes of a session.
 ghost use Rattle.std.specs.Prelude.{◌≡◌, true, false, IfOk, OnErr};
+ghost use Rattle.constraint_compile.specs.Compiled.{IsFittingSum};
+ghost use Rattle.constraint_compile.specs.Fractions.{plus, negated};
 ghost use Rattle.session_undo.specs.Machine.{AreTooMany, AreNear, IsNear, parent_name};
 ghost use Rattle.script_text.specs.View.{name_view};
 ghost use Rattle.session_undo.specs.Scene.{metrics_with};
 
+use crate::item::WindowSize;
 use frac_core::{Frac, OutOfMemory};
 use name_tables::{Metrics, NameStop};
 use problem_core::Row;
 
 /// Gives a metric a value, and says whether there was room for it.
 pub fn put_metric(metrics: &mut Metrics, name: &str, value: Frac) -> Result<bool, OutOfMemory>
-    ensures made { IfOk result (λ made. made ≡ true → (metrics.new ≡ metrics_with metrics.old name.now value) × (AreTooMany metrics.old name.now → ⊥)) }
-    ensures full { IfOk result (λ made. made ≡ false → (metrics.new ≡ metrics.old) × AreTooMany metrics.old name.now) }
+    ensures made { IfOk result
+        (λ made. made ≡ true → (metrics.new ≡ metrics_with metrics.old name.now value)
+        × (AreTooMany metrics.old name.now → ⊥)) }
+    ensures full { IfOk result
+        (λ made. made ≡ false → (metrics.new ≡ metrics.old) × AreTooMany metrics.old name.now) }
     ensures unchanged { OnErr result (metrics.new ≡ metrics.old) }
 {
     match metrics.change(name, value) {
@@ -27,14 +33,32 @@ pub fn put_metric(metrics: &mut Metrics, name: &str, value: Frac) -> Result<bool
 }
 
 // Whether the second constant less the first fits.
+fn fits_after(from: Frac, to: Frac) -> bool
+    ensures yes { result ≡ true → IsFittingSum (plus to (negated from)) }
+    ensures no { result ≡ false → IsFittingSum (plus to (negated from)) → ⊥ }
+{
+    match Frac::mul_add(to, -1, 1, from) {
+        Ok(_) => true,
+        Err(_) => false,
+    }
+}
+
+/// Whether the second size less the first fits.
+pub fn is_near_size(from: &WindowSize, to: &WindowSize) -> bool
+    ensures yes { result ≡ true → IsFittingSum (plus to.now.width (negated from.now.width))
+        × IsFittingSum (plus to.now.height (negated from.now.height)) }
+    ensures no { result ≡ false → IsFittingSum (plus to.now.width (negated from.now.width))
+        × IsFittingSum (plus to.now.height (negated from.now.height)) → ⊥ }
+{
+    fits_after(from.width, to.width) && fits_after(from.height, to.height)
+}
+
+// Whether the row's constant moves by what fits.
 fn is_near(before: &Row, after: &Row) -> bool
     ensures yes { result ≡ true → IsNear before.now after.now }
     ensures no { result ≡ false → IsNear before.now after.now → ⊥ }
 {
-    match Frac::mul_add(after.constant(), -1, 1, before.constant()) {
-        Ok(_) => true,
-        Err(_) => false,
-    }
+    fits_after(before.constant(), after.constant())
 }
 
 /// Whether no constant moves too far.

@@ -1,7 +1,8 @@
 // What is held, apart from its rows.
-ghost use Rattle.std.specs.Prelude.{◌≡◌};
-ghost use Rattle.session_undo.specs.Items.{is_line, is_size, line_count, has_size, sized, resized};
-ghost use Rattle.session_undo.specs.Kept.{item_of, items_of};
+ghost use Rattle.std.specs.Prelude.{◌≡◌, Some, None, IfSome, IfNone};
+ghost use Rattle.session_undo.specs.Items.{is_line, is_size, line_count, has_size, own_size, size_of};
+ghost use Rattle.session_undo.specs.Items.{sized, resized};
+ghost use Rattle.session_undo.specs.Kept.{item_of, items_of, size_in};
 
 use constraint_compile::Compiled;
 use frac_core::Frac;
@@ -37,6 +38,13 @@ pub struct WindowSize {
     pub height: Frac,
 }
 
+/// The window's size as it is held, with the number of the first of its two rows.
+#[derive(Clone, Copy, Debug, PartialEq, Eq)]
+pub struct HeldSize {
+    pub first: u32,
+    pub size: WindowSize,
+}
+
 fn is_line(item: &Item) -> bool
     ensures { result ≡ is_line (item_of item.now) }
 {
@@ -60,6 +68,40 @@ pub fn line_count(items: &[Item]) -> usize
         }
     }
     count
+}
+
+// The window's size, where the item is it.
+fn own_size(item: &Item) -> Option<HeldSize>
+    ensures some { IfSome result (λ s. own_size (item_of item.now) ≡ Some (size_in s)) }
+    ensures none { IfNone result (own_size (item_of item.now) ≡ None) }
+{
+    match item {
+        Item::Sized {
+            first,
+            width,
+            height,
+        } => Some(HeldSize {
+            first: *first,
+            size: WindowSize {
+                width: *width,
+                height: *height,
+            },
+        }),
+        Item::OfWindow | Item::OfView { .. } | Item::OfLine { .. } => None,
+    }
+}
+
+/// The window's size, where one is held.
+pub fn size_of(items: &[Item]) -> Option<HeldSize>
+    ensures some { IfSome result (λ s. size_of (items_of items.now) ≡ Some (size_in s)) }
+    ensures none { IfNone result (size_of (items_of items.now) ≡ None) }
+{
+    for item in items {
+        if is_size(item) {
+            return own_size(item);
+        }
+    }
+    None
 }
 
 /// Whether the window's size is held.
@@ -88,10 +130,13 @@ fn resize(item: &mut Item, size: &WindowSize)
 }
 
 /// Gives the window these constants in place of those that it has.
-pub fn resize_all(items: &mut [Item], size: &WindowSize)
+pub fn resize_first(items: &mut [Item], size: &WindowSize)
     ensures { items_of items.new ≡ resized size.now.width size.now.height (items_of items.old) }
 {
     for place in 0..items.len() {
-        resize(&mut items[place], size);
+        if is_size(&items[place]) {
+            resize(&mut items[place], size);
+            return;
+        }
     }
 }

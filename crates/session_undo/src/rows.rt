@@ -3,8 +3,8 @@ ghost use Rattle.std.specs.Prelude.{◌≡◌, ◌++◌, ◌∷◌, ◌<◌, ◌
 ghost use Rattle.problem_core.specs.declared.parts.Rel.TheVariants as rel;
 ghost use Rattle.problem_core.specs.Kept.{IsNumber};
 ghost use Rattle.problem_core.specs.Window.{required_row, structural_rows};
-ghost use Rattle.session_undo.specs.Items.{view_rows, size_rows, AreItemRows, AreRows, IsSmallItem, resized};
-ghost use Rattle.session_undo.specs.Kept.{item_of, items_of, size_or, changed, all_changed, IsItem, MayLackRows, MayLackItemRows};
+ghost use Rattle.session_undo.specs.Items.{view_rows, size_rows, AreItemRows, AreRows};
+ghost use Rattle.session_undo.specs.Kept.{item_of, items_of, IsItem, MayLackRows, MayLackItemRows};
 ghost use Rattle.constraint_compile.specs.Compiled.{AreRowsNow, AreSmallForms};
 
 use crate::item::{Item, WindowSize};
@@ -76,25 +76,10 @@ pub fn size_rows(alloc: Global, first: u32, size: &WindowSize) -> Result<Vec<Row
     pair(alloc, width, height)
 }
 
-// The constants of a size, which are others where they are to be.
-fn size_or<'a>(size: &'a WindowSize, other: &'a Option<WindowSize>) -> &'a WindowSize
-    ensures { result.now ≡ size_or size.now other.now }
-{
-    match other {
-        Some(other) => other,
-        None => size,
-    }
-}
-
-// The rows of an item, for these metrics, and with this size where there is to be another.
-fn item_rows(
-    alloc: Global,
-    item: &Item,
-    metrics: &Metrics,
-    other: &Option<WindowSize>,
-) -> Result<Vec<Row>, CompileStop>
+// The rows of an item, for these metrics.
+fn item_rows(alloc: Global, item: &Item, metrics: &Metrics) -> Result<Vec<Row>, CompileStop>
     requires { IsItem (item_of item.now) }
-    ensures rows { IfOk result (λ rows. AreItemRows metrics.now (changed other.now (item_of item.now)) rows.items) }
+    ensures rows { IfOk result (λ rows. AreItemRows metrics.now (item_of item.now) rows.items) }
     ensures stop { IfErr result (MayLackItemRows metrics.now (item_of item.now)) }
 {
     match item {
@@ -109,27 +94,22 @@ fn item_rows(
                 width: *width,
                 height: *height,
             };
-            Ok(size_rows(alloc, *first, size_or(&size, other))?)
+            Ok(size_rows(alloc, *first, &size)?)
         }
         Item::OfLine { line, .. } => line.rows_now(alloc, metrics),
     }
 }
 
-/// The rows of all items, for these metrics, and with this size where there is to be another. It stops at `Limit(Constant)` where
-/// a constant isn't small after some term.
-pub fn rows_of(
-    alloc: Global,
-    items: &[Item],
-    metrics: &Metrics,
-    other: &Option<WindowSize>,
-) -> Result<Vec<Row>, CompileStop>
+/// The rows of all items, for these metrics. It stops at `Limit(Constant)` where a constant isn't small after
+/// some term.
+pub fn rows_of(alloc: Global, items: &[Item], metrics: &Metrics) -> Result<Vec<Row>, CompileStop>
     requires { All IsItem (items_of items.now) }
-    ensures rows { IfOk result (λ rows. AreRows metrics.now (all_changed other.now (items_of items.now)) rows.items) }
+    ensures rows { IfOk result (λ rows. AreRows metrics.now (items_of items.now) rows.items) }
     ensures stop { IfErr result (MayLackRows metrics.now (items_of items.now)) }
 {
     let mut rows = Vec::new(alloc);
     for item in items {
-        let mut more = match item_rows(alloc, item, metrics, other) {
+        let mut more = match item_rows(alloc, item, metrics) {
             Ok(more) => more,
             Err(stop) => return Err(stop),
         };
@@ -138,27 +118,6 @@ pub fn rows_of(
         }
     }
     Ok(rows)
-}
-
-/// The rows of all items with this size, whose constants are small for these metrics after each term.
-pub fn resized_rows(
-    alloc: Global,
-    items: &[Item],
-    metrics: &Metrics,
-    size: &WindowSize,
-) -> Result<Vec<Row>, OutOfMemory>
-    requires items { All IsItem (items_of items.now) }
-    requires small { All (IsSmallItem metrics.now) (items_of items.now) }
-    ensures { IfOk result (λ rows. AreRows metrics.now (resized size.now.width size.now.height (items_of items.now)) rows.items) }
-{
-    let other = Some(*size);
-    match rows_of(alloc, items, metrics, &other) {
-        Ok(rows) => Ok(rows),
-        Err(CompileStop::OutOfMemory) => Err(OutOfMemory),
-        Err(CompileStop::Unknown(_) | CompileStop::Kind(_) | CompileStop::Limit(_)) => {
-            unreachable!()
-        }
-    }
 }
 
 /// The rows of a line, whose constants are small for these metrics after each term.

@@ -1,16 +1,17 @@
 // The scene: what a script has said so far, and the engine that solves it.
 ghost use Rattle.std.specs.Prelude.{◌≡◌, ◌<◌, ◌≤◌, ◌^◌, ◌+◌, true, false, length, vec_len, vec_capacity};
-ghost use Rattle.std.specs.Prelude.{None, slice_get, IfOk, IfErr, IfSome, IfNone, OnOk, OnErr};
+ghost use Rattle.std.specs.Prelude.{Some, None, slice_get, IfOk, IfErr, IfSome, IfNone, OnOk, OnErr};
 
+use crate::changes::is_near_size;
 use crate::frames::{frame_of, place_of};
-use crate::item::{Item, WindowSize, has_size, line_count, resize_all};
-use crate::renewal::{take_more, take_rows};
-use crate::rows::{resized_rows, rows_of, size_rows, view_rows, window_rows};
+use crate::item::{HeldSize, Item, WindowSize, has_size, line_count, resize_first, size_of};
+use crate::renewal::{changed_constants, take_constants, take_more};
+use crate::rows::{rows_of, size_rows, view_rows, window_rows};
 use crate::showing::show_rows;
 use cert_core::RunStop;
 use constraint_compile::{CompileStop, Compiled};
 use frac_core::{Frac, OutOfMemory};
-use layout_solver::Engine;
+use layout_solver::{Change, Engine};
 use name_tables::{Metrics, OwnedName};
 use problem_core::Row;
 use std::alloc::Global;
@@ -36,7 +37,8 @@ impl Model for Scene {
 
     ghost view = { λ s. scene_at s.tree s.metrics (items_of s.items.items) s.next_row s.engine };
 
-    ghost invariant = { λ s. IsKept (scene_at s.tree s.metrics (items_of s.items.items) s.next_row s.engine) };
+    ghost invariant = { λ s. IsKept
+        (scene_at s.tree s.metrics (items_of s.items.items) s.next_row s.engine) };
 }
 
 /// How many exchanges the first run may make.
@@ -57,10 +59,10 @@ impl Scene {
     ghost use Rattle.constraint_compile.specs.Compiled.{AreRowsNow};
     ghost use Rattle.session_undo.specs.Attributes.{IsNextLine, IsGrown};
     ghost use Rattle.session_undo.specs.Frames.{IsFrameAt, IsFrameOf};
-    ghost use Rattle.session_undo.specs.Items.{AreRows, IsSmallItem, has_size, line_count};
-    ghost use Rattle.session_undo.specs.Kept.{MayLackRows, items_of};
+    ghost use Rattle.session_undo.specs.Items.{AreRows, has_size, line_count, size_of};
+    ghost use Rattle.session_undo.specs.Kept.{MayLackRows, items_of, size_in};
     ghost use Rattle.session_undo.specs.Scene.{first_scene, with_line, with_window, AreDraftRows};
-    ghost use Rattle.session_undo.specs.Machine.{IsSolved};
+    ghost use Rattle.session_undo.specs.Machine.{AreNear, IsFarSize, IsSolved};
     ghost use Rattle.session_undo.specs.Adding.{StopsAt, IsNoConflict, view_draft, metrics_draft};
 
     /// The window alone.
@@ -163,7 +165,7 @@ impl Scene {
         ensures rows { IfOk result (λ rows. AreRows metrics.now self.now.held rows.items) }
         ensures stop { IfErr result (MayLackRows metrics.now self.now.held) }
     {
-        rows_of(self.alloc, &self.items, metrics, &None)
+        rows_of(self.alloc, &self.items, metrics)
     }
 
     /// Takes this tree, in which the view of this number is new.
@@ -202,15 +204,16 @@ impl Scene {
         rows: &[Row],
         budget: u64,
     ) -> Result<(), RunStop>
-        requires { AreRows metrics self.old.held rows.now }
+        requires rows { AreRows metrics self.old.held rows.now }
+        requires near { AreNear self.old.rows rows.now }
         ensures solved { IfOk result (λ _. (path : paths.Path)
             × IsSolved self.old (metrics_draft self.old metrics) budget path self.new) }
         ensures stop { IfErr result (StopsAt self.old (metrics_draft self.old metrics) budget) }
         ensures same { OnErr result (self.new ≡ self.old) }
     {
         self.engine.show_layout();
-        show_rows(rows);
-        match take_rows(&mut self.engine, rows, budget) {
+        let to = changed_constants(self.alloc, self.engine.rows(), rows)?;
+        match take_constants(&mut self.engine, &to, budget) {
             Ok(()) => (),
             Err(stop) => return Err(stop),
         }
@@ -250,24 +253,45 @@ impl Scene {
         Ok(())
     }
 
-    // The window has another size.
-    fn size_again(&mut self, size: &WindowSize, budget: u64) -> Result<(), RunStop>
-        requires some { has_size self.old.held ≡ true }
+    /// Whether the window has a size, and this one is too far from it.
+    pub fn is_far(&self, size: &WindowSize) -> bool
+        ensures yes { result ≡ true → IsFarSize self.now.held size.now.width size.now.height }
+        ensures no { result ≡ false → IsFarSize self.now.held size.now.width size.now.height → ⊥ }
+    {
+        match size_of(&self.items) {
+            Some(held) => !is_near_size(&held.size, size),
+            None => false,
+        }
+    }
+
+    // The window has another size than this.
+    fn size_again(&mut self, held: HeldSize, size: &WindowSize, budget: u64) -> Result<(), RunStop>
+        requires some { size_of self.old.held ≡ Some (size_in held) }
+        requires near { IsFarSize self.old.held size.now.width size.now.height → ⊥ }
         ensures solved { IfOk result (λ _. (path : paths.Path)
             × IsSolved self.old (with_window self.old size.now.width size.now.height) budget path self.new) }
         ensures stop { IfErr result
             (StopsAt self.old (with_window self.old size.now.width size.now.height) budget) }
         ensures same { OnErr result (self.new ≡ self.old) }
     {
-        let rows = resized_rows(self.alloc, &self.items, &self.metrics, size)?;
         self.engine.show_layout();
-        show_rows(&rows);
-        match take_rows(&mut self.engine, &rows, budget) {
+        let _dens = (size.width.den(), size.height.den());
+        let to = [
+            Change {
+                row: held.first,
+                constant: size.width,
+            },
+            Change {
+                row: held.first + 1,
+                constant: size.height,
+            },
+        ];
+        match take_constants(&mut self.engine, &to, budget) {
             Ok(()) => (),
             Err(stop) => return Err(stop),
         }
         self.engine.show_layout();
-        resize_all(&mut self.items, size);
+        resize_first(&mut self.items, size);
         Ok(())
     }
 
@@ -275,16 +299,17 @@ impl Scene {
     pub fn take_size(&mut self, size: &WindowSize, budget: u64) -> Result<(), RunStop>
         requires room { has_size self.old.held ≡ false → length self.old.rows + 2 ≤ 2000 }
         requires number { has_size self.old.held ≡ false → self.old.next_row < 2 ^ 31 }
+        requires near { IsFarSize self.old.held size.now.width size.now.height → ⊥ }
         ensures solved { IfOk result (λ _. (path : paths.Path)
             × IsSolved self.old (with_window self.old size.now.width size.now.height) budget path self.new) }
         ensures stop { IfErr result
             (StopsAt self.old (with_window self.old size.now.width size.now.height) budget) }
         ensures same { OnErr result (self.new ≡ self.old) }
     {
-        if has_size(&self.items) {
-            return self.size_again(size, budget);
+        match size_of(&self.items) {
+            Some(held) => self.size_again(held, size, budget),
+            None => self.size_first(size, budget),
         }
-        self.size_first(size, budget)
     }
 
     /// Takes a line more of this group, whose rows these are.

@@ -83,8 +83,12 @@ impl Session {
     ghost use Rattle.session_undo.specs.Scene.{first_state, with_line, with_window, with_metric};
     ghost use Rattle.session_undo.specs.Replies.{accepted, MayRefuse};
     ghost use Rattle.session_undo.specs.Items.{has_size};
-    ghost use Rattle.session_undo.specs.Machine.{IsTaken, TriedView, TriedMetric, TriedWindow, TriedConstraint, TriedFormat, BudgetStep, MeaningStep, IsCrowded, Solves, SolvesFree};
-    ghost use Rattle.session_undo.specs.Adding.{AddStop, StopStep, NoEnd, IsFreeView, IsFreeMetric, IsFreeLine, IsGroupLimit, IsGroupFree, IsLineLimit, IsLineFree};
+    ghost use Rattle.session_undo.specs.Machine.{IsTaken, TriedView, TriedMetric, TriedWindow};
+    ghost use Rattle.session_undo.specs.Machine.{TriedConstraint, TriedFormat, BudgetStep, MeaningStep};
+    ghost use Rattle.session_undo.specs.Machine.{IsCrowded, Solves, SolvesFree};
+    ghost use Rattle.session_undo.specs.Adding.{AddStop, StopStep, NoEnd, IsFreeView, IsFreeMetric};
+    ghost use Rattle.session_undo.specs.Adding.{IsFreeLine, IsGroupLimit, IsGroupFree, IsLineLimit};
+    ghost use Rattle.session_undo.specs.Adding.{IsLineFree};
 
     /// The window alone, and a budget of 100,000 exchanges.
     pub fn new(alloc: Global) -> Result<Session, OutOfMemory>
@@ -133,7 +137,8 @@ impl Session {
     fn new_view(&self, name: &str, parent: &str) -> Result<NewView, Refusal>
         ensures made { IfOk result (λ new. IsFreeView self.now name.now parent.now new.tree new.id) }
         ensures small { IfOk result (λ new. new.id < 2 ^ 29) }
-        ensures refused { IfErr result (MayRefuse (λ reply. TriedView self.now name.now parent.now NoEnd reply self.now)) }
+        ensures refused { IfErr result
+            (MayRefuse (λ reply. TriedView self.now name.now parent.now NoEnd reply self.now)) }
     {
         let views = self.scene.tree();
         let Some(above) = views.find(parent) else {
@@ -166,8 +171,12 @@ impl Session {
 
     // A new view in the one of the name `parent`.
     fn add_view(&mut self, name: &str, parent: &str) -> Result<Reply, Refusal>
-        ensures accepted { IfOk result (λ reply. TriedView self.old name.now parent.now (SolvesFree self.old) (accepted reply) self.new) }
-        ensures refused { IfErr result (MayRefuse (λ reply. TriedView self.old name.now parent.now (SolvesFree self.old) reply self.old)) }
+        ensures accepted { IfOk result
+            (λ reply. TriedView self.old name.now parent.now (SolvesFree self.old)
+            (accepted reply) self.new) }
+        ensures refused { IfErr result
+            (MayRefuse (λ reply. TriedView self.old name.now parent.now (SolvesFree self.old)
+            reply self.old)) }
         ensures same { OnErr result (self.new ≡ self.old) }
     {
         let new = match self.new_view(name, parent) {
@@ -183,7 +192,8 @@ impl Session {
     // The metrics of which this one is new or has another value, with the rows for them.
     fn new_metrics(&self, name: &str, value: Frac) -> Result<NewMetrics, Refusal>
         ensures made { IfOk result (λ new. IsFreeMetric self.now name.now value new.metrics new.rows.items) }
-        ensures refused { IfErr result (MayRefuse (λ reply. TriedMetric self.now name.now value NoEnd reply self.now)) }
+        ensures refused { IfErr result
+            (MayRefuse (λ reply. TriedMetric self.now name.now value NoEnd reply self.now)) }
     {
         if self.scene.tree().find(name).is_some() {
             return Err(Refusal::Taken(OwnedName::of(self.alloc, name.as_bytes())?));
@@ -209,8 +219,10 @@ impl Session {
 
     // A metric is made, or has another value.
     fn set_metric(&mut self, name: &str, value: Frac) -> Result<Reply, Refusal>
-        ensures accepted { IfOk result (λ reply. TriedMetric self.old name.now value (Solves self.old) (accepted reply) self.new) }
-        ensures refused { IfErr result (MayRefuse (λ reply. TriedMetric self.old name.now value (Solves self.old) reply self.old)) }
+        ensures accepted { IfOk result
+            (λ reply. TriedMetric self.old name.now value (Solves self.old) (accepted reply) self.new) }
+        ensures refused { IfErr result
+            (MayRefuse (λ reply. TriedMetric self.old name.now value (Solves self.old) reply self.old)) }
         ensures same { OnErr result (self.new ≡ self.old) }
     {
         let new = match self.new_metrics(name, value) {
@@ -223,16 +235,20 @@ impl Session {
 
     // The window has these constants.
     fn resize(&mut self, width: Frac, height: Frac) -> Result<Reply, Refusal>
-        ensures accepted { IfOk result (λ reply. TriedWindow self.old width height (Solves self.old) (accepted reply) self.new) }
-        ensures refused { IfErr result (MayRefuse (λ reply. TriedWindow self.old width height (Solves self.old) reply self.old)) }
+        ensures accepted { IfOk result
+            (λ reply. TriedWindow self.old width height (Solves self.old) (accepted reply) self.new) }
+        ensures refused { IfErr result
+            (MayRefuse (λ reply. TriedWindow self.old width height (Solves self.old) reply self.old)) }
         ensures same { OnErr result (self.new ≡ self.old) }
     {
         if self.has_no_room_for_size() {
             return Err(Refusal::Limit(LimitWord::Rows));
         }
-        let end = self
-            .scene
-            .take_size(&WindowSize { width, height }, self.budget);
+        let size = WindowSize { width, height };
+        if self.scene.is_far(&size) {
+            return Err(Refusal::Limit(LimitWord::Constant));
+        }
+        let end = self.scene.take_size(&size, self.budget);
         answer_of(end)
     }
 
@@ -291,8 +307,12 @@ impl Session {
     // The group has a line more.
     fn add_line(&mut self, new: NewLine) -> Result<Reply, Refusal>
         requires { IsFreeLine self.old new.group new.group new.line new.rows.items }
-        ensures accepted { IfOk result (λ reply. Solves self.old (with_line self.old.scene new.group new.line) (accepted reply) self.new) }
-        ensures refused { IfErr result (MayRefuse (λ reply. Solves self.old (with_line self.old.scene new.group new.line) reply self.old)) }
+        ensures accepted { IfOk result
+            (λ reply. Solves self.old (with_line self.old.scene new.group new.line)
+            (accepted reply) self.new) }
+        ensures refused { IfErr result
+            (MayRefuse (λ reply. Solves self.old (with_line self.old.scene new.group new.line)
+            reply self.old)) }
         ensures same { OnErr result (self.new ≡ self.old) }
     {
         let end = self
@@ -321,9 +341,13 @@ impl Session {
 
     // The line that a linear constraint makes.
     fn new_constraint(&self, group: &str, line: &Linear<'_>) -> Result<NewLine, Refusal>
-        ensures is { IfOk result (λ new. IsCompiled self.now.scene.tree.views self.now.scene.metrics (linear_view line.now) self.now.scene.next_row new.line) }
+        ensures is { IfOk result
+            (λ new. IsCompiled self.now.scene.tree.views self.now.scene.metrics
+            (linear_view line.now) self.now.scene.next_row new.line) }
         ensures made { IfOk result (λ new. IsFreeLine self.now group.now new.group new.line new.rows.items) }
-        ensures refused { IfErr result (MayRefuse (λ reply. TriedConstraint self.now group.now (linear_view line.now) NoEnd reply self.now)) }
+        ensures refused { IfErr result
+            (MayRefuse (λ reply. TriedConstraint self.now group.now (linear_view line.now) NoEnd
+            reply self.now)) }
     {
         show_terms(&line.left);
         show_terms(&line.right);
@@ -336,8 +360,12 @@ impl Session {
 
     // A linear constraint joins its group.
     fn constrain(&mut self, group: &str, line: &Linear<'_>) -> Result<Reply, Refusal>
-        ensures accepted { IfOk result (λ reply. TriedConstraint self.old group.now (linear_view line.now) (Solves self.old) (accepted reply) self.new) }
-        ensures refused { IfErr result (MayRefuse (λ reply. TriedConstraint self.old group.now (linear_view line.now) (Solves self.old) reply self.old)) }
+        ensures accepted { IfOk result
+            (λ reply. TriedConstraint self.old group.now (linear_view line.now) (Solves self.old)
+            (accepted reply) self.new) }
+        ensures refused { IfErr result
+            (MayRefuse (λ reply. TriedConstraint self.old group.now (linear_view line.now) (Solves self.old)
+            reply self.old)) }
         ensures same { OnErr result (self.new ≡ self.old) }
     {
         match self.new_constraint(group, line) {
@@ -353,9 +381,13 @@ impl Session {
         align: Option<Align>,
         format: &Format<'_>,
     ) -> Result<NewLine, Refusal>
-        ensures is { IfOk result (λ new. IsCompiledFormat self.now.scene.tree.views self.now.scene.metrics (meaning format.now) align self.now.scene.next_row new.line) }
+        ensures is { IfOk result
+            (λ new. IsCompiledFormat self.now.scene.tree.views self.now.scene.metrics
+            (meaning format.now) align self.now.scene.next_row new.line) }
         ensures made { IfOk result (λ new. IsFreeLine self.now group.now new.group new.line new.rows.items) }
-        ensures refused { IfErr result (MayRefuse (λ reply. TriedFormat self.now group.now align (meaning format.now) NoEnd reply self.now)) }
+        ensures refused { IfErr result
+            (MayRefuse (λ reply. TriedFormat self.now group.now align (meaning format.now) NoEnd
+            reply self.now)) }
     {
         let (tree, metrics) = (self.scene.tree(), self.scene.metrics());
         match compile_format(
@@ -381,8 +413,12 @@ impl Session {
         align: Option<Align>,
         format: &Format<'_>,
     ) -> Result<Reply, Refusal>
-        ensures accepted { IfOk result (λ reply. TriedFormat self.old group.now align (meaning format.now) (Solves self.old) (accepted reply) self.new) }
-        ensures refused { IfErr result (MayRefuse (λ reply. TriedFormat self.old group.now align (meaning format.now) (Solves self.old) reply self.old)) }
+        ensures accepted { IfOk result
+            (λ reply. TriedFormat self.old group.now align (meaning format.now) (Solves self.old)
+            (accepted reply) self.new) }
+        ensures refused { IfErr result
+            (MayRefuse (λ reply. TriedFormat self.old group.now align (meaning format.now) (Solves self.old)
+            reply self.old)) }
         ensures same { OnErr result (self.new ≡ self.old) }
     {
         match self.new_format(group, align, format) {
@@ -406,8 +442,10 @@ impl Session {
 
     /// Does what a command says: the step of the machine. After a refusal all is as before.
     pub fn apply(&mut self, command: Command<'_>) -> Result<Reply, Refusal>
-        ensures accepted { IfOk result (λ reply. MeaningStep self.old (view command.entry) (accepted reply) self.new) }
-        ensures refused { IfErr result (MayRefuse (λ reply. MeaningStep self.old (view command.entry) reply self.old)) }
+        ensures accepted { IfOk result
+            (λ reply. MeaningStep self.old (view command.entry) (accepted reply) self.new) }
+        ensures refused { IfErr result
+            (MayRefuse (λ reply. MeaningStep self.old (view command.entry) reply self.old)) }
         ensures same { OnErr result (self.new ≡ self.old) }
     {
         match command {

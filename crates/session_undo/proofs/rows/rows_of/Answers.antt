@@ -8,7 +8,7 @@ use Rattle.session_undo.proofs.rows.rows_of.Goals as goal
 pub loop-item-preserved : goal.loop-item-preserved
 loop-item-preserved c =
     let is : c.append.new.self.items ≡ c.loop-item.rows.items ++ c.in-Ok.more.items = search rules in
-    rows-next c.args.metrics.now c.args.other.now c.args.items.now c.loop-item.item-index c.item-item.result c.loop-item.rows.items c.in-Ok.more.items c.append.new.self.items c.loop-item-test.true c.loop-item.invariant c.item-item.is c.in-Ok.ensures.rows is
+    rows-next c.args.metrics.now c.args.items.now c.loop-item.item-index c.item-item.result c.loop-item.rows.items c.in-Ok.more.items c.append.new.self.items c.loop-item-test.true c.loop-item.invariant c.item-item.is c.in-Ok.ensures.rows is
 
 pub item_rows-requires : goal.item_rows-requires
 item_rows-requires c =

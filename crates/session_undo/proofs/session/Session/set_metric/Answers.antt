@@ -35,4 +35,4 @@ returns-clause-same c = rw (c.answer_of.ensures, ← c.self.view_is) (answer-sam
 pub take_metrics-end-requires : goal.take_metrics-end-requires
 take_metrics-end-requires c =
     let made = rw (← c.self.view_is) at c.in-Ok.ensures.made in
-    rw c.deref.ensures.value made.are_rows
+    rw c.deref.ensures.value (record { rows = made.are_rows; near = made.near })
