@@ -2,6 +2,7 @@
 
     python3 bench/scripts.py chain SEED VIEWS     a chain of so many views under a window that is made smaller at the end
     python3 bench/scripts.py resize TIMES         the login form of examples/, then so many windows of two sizes in turn
+    python3 bench/scripts.py frames TIMES         the same with `frames` after each window
 
 A chain has for each view a format with an optional width, for each two neighbours a format that stacks them and an optional
 constraint between their widths. Its numbers come from a linear congruence, so that the same words give the same script.
@@ -41,13 +42,14 @@ def chain(seed, views):
     yield "frames"
 
 
-def resize(times):
+def resize(times, after):
     examples = os.path.join(os.path.dirname(os.path.abspath(__file__)), "..", "examples")
     with open(os.path.join(examples, "login.script"), encoding="utf-8") as script:
         for line in script:
             yield line.rstrip("\n")
     for i in range(times):
         yield "window 320 480" if i % 2 == 0 else "window 375 667"
+        yield from after
     yield "frames"
 
 
@@ -56,7 +58,9 @@ def main(words):
         case ["chain", seed, views]:
             lines = chain(int(seed), int(views))
         case ["resize", times]:
-            lines = resize(int(times))
+            lines = resize(int(times), [])
+        case ["frames", times]:
+            lines = resize(int(times), ["frames"])
         case _:
             sys.exit(__doc__)
     sys.stdout.writelines(line + "\n" for line in lines)

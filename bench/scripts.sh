@@ -43,4 +43,5 @@ PYTHON
 for views in 12 24 60 120; do
     measure "$views views" chain 1 "$views"
 done
-measure "login form, 1,000 windows" resize 1000
+measure "login form, 10,000 windows" resize 10000
+measure "login form, 10,000 windows with frames" frames 10000
