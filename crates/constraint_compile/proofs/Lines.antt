@@ -1,9 +1,10 @@
 -- The row of a line, put together.
-use Rattle.std.proofs.Common.{◌≡◌, ℕ, zero, suc, ◌+◌, ◌<◌, ◌≤◌, ◌^◌, List, [], ◌∷◌, ◌++◌, length, map, take, take_all, get_or, pos, refl, sym, subst, ap, ◌∙◌, arith}
+use Rattle.std.proofs.Common.{◌≡◌, ℕ, Bool, true, false, ◌||◌, zero, suc, ◌+◌, ◌<◌, ◌≤◌, ◌^◌, List, [], ◌∷◌, ◌++◌, length, map, take, take_all, get_or, pos, refl, sym, subst, ap, ◌∙◌, arith}
 use Rattle.std.proofs.lemmas.List.{take_more, map_push, get_or_default, get_or-map, length-map}
 use Rattle.frac_core.specs.Fraction.{Fraction}
 use Rattle.problem_core.specs.declared.parts.Term.{Term as RowTerm}
-use Rattle.script_text.specs.Meaning.{Term}
+use Rattle.script_text.specs.Meaning.{Operand, Term}
+use Rattle.script_text.specs.Meaning as meant
 use Rattle.script_text.specs.View.{term_view, terms_view}
 use Rattle.script_text.specs.declared.command.ExprTerm.{ExprTerm}
 use Rattle.view_tree.specs.Views.{LiveView}
@@ -13,7 +14,7 @@ use Rattle.constraint_compile.specs.Meaning.{sum_at}
 use Rattle.constraint_compile.specs.Sums.{first_sum, AreScales, AreTerms}
 use Rattle.constraint_compile.specs.Compiled as compiled
 use Rattle.constraint_compile.specs.Compiled.{last_scale}
-use Rattle.constraint_compile.specs.Keeps.{part_view, step_view, steps_view, metric_name, AreScalesKept}
+use Rattle.constraint_compile.specs.Keeps.{part_view, step_view, steps_view, metric_in, metric_name, is_metric, any_names_metric, HaveNames, AreScalesKept}
 use Rattle.constraint_compile.specs.Stops.{AreSteps, IsSumRow}
 use Rattle.constraint_compile.specs.declared.steps.Step.{Step}
 use Rattle.constraint_compile.specs.declared.steps.Part.TheVariants as part
@@ -25,12 +26,36 @@ name_at terms i t within is =
     get_or-map metric_name (terms_view terms) i (term_view t) [] (omega (arith, within, length-map terms term_view))
     ∙ ap metric_name (get_or-map term_view terms i t (term_view t) within ∙ sym (ap term_view is))
 
+-- ---- names
+
+not_metric : (of : Operand) → is_metric of ≡ false → metric_in of ≡ []
+not_metric (meant.Attr name word) none = refl
+not_metric (meant.Metric name) none = absurd cc
+not_metric meant.One none = refl
+
+neither : (a b : Bool) → (a || b) ≡ false → (a ≡ false) × (b ≡ false)
+neither true b none = absurd cc
+neither false b none = (refl, none)
+
+no_name : (terms : List Term) (i : ℕ) → any_names_metric terms ≡ false → get_or (map metric_name terms) i [] ≡ []
+no_name [] i none = refl
+no_name (t ∷ terms) zero none = not_metric t.of (neither (is_metric t.of) (any_names_metric terms) none).0
+no_name (t ∷ terms) (suc i) none = no_name terms i (neither (is_metric t.of) (any_names_metric terms) none).1
+
+pub no_names : (terms : List Term) → any_names_metric terms ≡ false → HaveNames [] terms
+no_names terms none = record { at = λ i. sym (no_name terms i none) }
+
+pub all_names : (terms : List Term) (names : List (List ℕ)) → names ≡ map metric_name terms → HaveNames names terms
+all_names terms names same = record { at = λ i. ap (λ (ns : List (List ℕ)). get_or ns i []) same }
+
+-- ---- steps
+
 pub parts_more : (terms : List ExprTerm) (steps : List Step) (i : ℕ) (t : ExprTerm) (s : Step) → i < length terms → t ≡ get_or terms i t
     → ((names : List (List ℕ)) → get_or names i [] ≡ metric_name (term_view t) → part_view names s.part ≡ meaning.part (term_view t))
-    → ((names : List (List ℕ)) → names ≡ map metric_name (terms_view terms) → map (λ (u : compiled.Step). u.part) (steps_view names steps) ≡ map meaning.part (terms_view (take i terms)))
-    → (names : List (List ℕ)) → names ≡ map metric_name (terms_view terms) → map (λ (u : compiled.Step). u.part) (steps_view names (steps ++ s ∷ [])) ≡ map meaning.part (terms_view (take (i + 1) terms))
+    → ((names : List (List ℕ)) → HaveNames names (terms_view terms) → map (λ (u : compiled.Step). u.part) (steps_view names steps) ≡ map meaning.part (terms_view (take i terms)))
+    → (names : List (List ℕ)) → HaveNames names (terms_view terms) → map (λ (u : compiled.Step). u.part) (steps_view names (steps ++ s ∷ [])) ≡ map meaning.part (terms_view (take (i + 1) terms))
 parts_more terms steps i t s within is here before names same =
-    let named : get_or names i [] ≡ metric_name (term_view t) = ap (λ (ns : List (List ℕ)). get_or ns i []) same ∙ name_at terms i t within is in
+    let named : get_or names i [] ≡ metric_name (term_view t) = same.at i ∙ name_at terms i t within is in
     let left : map (λ (u : compiled.Step). u.part) (steps_view names (steps ++ s ∷ [])) ≡ map (λ (u : compiled.Step). u.part) (steps_view names steps) ++ part_view names s.part ∷ [] =
     ap (map (λ (u : compiled.Step). u.part)) (map_push (step_view names) steps s) ∙ map_push (λ (u : compiled.Step). u.part) (steps_view names steps) (step_view names s) in
     let right : map meaning.part (terms_view (take (i + 1) terms)) ≡ map meaning.part (terms_view (take i terms)) ++ meaning.part (term_view t) ∷ [] =

@@ -1,5 +1,6 @@
 -- What a compiled line keeps.
-use Rattle.std.specs.Prelude.{ℕ, ◌<◌, ◌≤◌, ◌^◌, List, [], map, length, slice_index_or, All, AllPairs}
+use Rattle.std.specs.Prelude.{◌≡◌, ℕ, ◌<◌, ◌≤◌, ◌^◌, Bool, true, false, List, [], map, length, slice_index_or, All, AllPairs}
+use Rattle.std.specs.List.{list_any}
 use Rattle.problem_core.specs.Kept.{IsTerm}
 use Rattle.script_text.specs.Meaning as mean
 use Rattle.constraint_compile.specs.Meaning as meaning
@@ -31,3 +32,15 @@ metric_in mean.One = []
 
 abbrev pub metric_name : mean.Term → List ℕ
 metric_name t = metric_in t.of
+
+abbrev pub is_metric : mean.Operand → Bool
+is_metric (mean.Attr name word) = false
+is_metric (mean.Metric name) = true
+is_metric mean.One = false
+
+abbrev pub any_names_metric : List mean.Term → Bool
+any_names_metric terms = list_any (λ t. is_metric t.of) terms
+
+-- the metric that a term names stands at its place
+pub record HaveNames (names : List (List ℕ)) (terms : List mean.Term) : Type 0 where
+  pub at : (i : ℕ) → slice_index_or names i [] ≡ slice_index_or (map metric_name terms) i []

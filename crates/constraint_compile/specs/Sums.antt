@@ -64,6 +64,12 @@ pub record AreDivided (wide : List ℤ) (divisor : ℤ) (numbers : List ℤ) : T
   pub each : (i : ℕ) → i < length wide → divisor *ℤ number_at numbers i ≡ number_at wide i
   pub small : All (λ z. unsigned_abs z ≤ 2 ^ 30) numbers
 
+-- the numbers over 1 with the share added, none of which is past 2^30
+pub record AreWhole (attrs : List ℕ) (numbers : List ℤ) (s : Share) (next : List ℤ) : Type 0 where
+  pub long : length next ≡ length attrs
+  pub each : (i : ℕ) → i < length attrs → pos 2 *ℤ number_at next i ≡ with_share_number (number_at numbers i) 1 s (attr_at attrs i)
+  pub small : All (λ z. unsigned_abs z ≤ 2 ^ 30) next
+
 -- one of the numbers divided is past 2^30
 pub record IsPast (wide : List ℤ) (divisor : ℤ) : Type 0 where
   pub place : ℕ

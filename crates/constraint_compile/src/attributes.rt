@@ -139,6 +139,35 @@ fn include(attrs: &mut Vec<u32>, attr: u32) -> Result<(), OutOfMemory>
     Ok(())
 }
 
+// Puts the attribute of a part among the others, unless the part is 0.
+fn include_part(attrs: &mut Vec<u32>, part: Term) -> Result<(), OutOfMemory>
+    requires rising { AllPairs (λ a b. a < b) attrs.old.items }
+    requires numbers { All IsNumber attrs.old.items }
+    requires number { IsNumber part.attr }
+    ensures rising { OnOk result (AllPairs (λ a b. a < b) attrs.new.items) }
+    ensures numbers { OnOk result (All IsNumber attrs.new.items) }
+    ensures off { OnOk result ((v : ℕ) → IsOff attrs.new.items v → IsOff attrs.old.items v × ((part.attr ≡ v) → part.by ≡ pos 0)) }
+{
+    if part.by == 0 {
+        return Ok(());
+    }
+    include(attrs, part.attr)
+}
+
+// Puts the attributes of a share among the others.
+fn include_share(attrs: &mut Vec<u32>, share: &Share) -> Result<(), OutOfMemory>
+    requires rising { AllPairs (λ a b. a < b) attrs.old.items }
+    requires numbers { All IsNumber attrs.old.items }
+    requires halves { AreHalves share.now.of }
+    ensures rising { OnOk result (AllPairs (λ a b. a < b) attrs.new.items) }
+    ensures numbers { OnOk result (All IsNumber attrs.new.items) }
+    ensures off { OnOk result ((v : ℕ) → IsOff attrs.new.items v → IsOff attrs.old.items v × ((share_fraction share.now v).num ≡ pos 0)) }
+{
+    include_part(attrs, share.of.edge)?;
+    include_part(attrs, share.of.size)?;
+    Ok(())
+}
+
 // Puts the attributes of a term among the others.
 fn include_term(attrs: &mut Vec<u32>, tree: &Tree, term: &ExprTerm<'_>) -> Result<(), OutOfMemory>
     requires rising { AllPairs (λ a b. a < b) attrs.old.items }
@@ -148,8 +177,7 @@ fn include_term(attrs: &mut Vec<u32>, tree: &Tree, term: &ExprTerm<'_>) -> Resul
     ensures off { OnOk result ((v : ℕ) → IsOff attrs.new.items v → IsOff attrs.old.items v × ((share tree.now.views v (term_view term.now)).num ≡ pos 0)) }
 {
     if let Some(share) = share_of(tree, term) {
-        include(attrs, share.of.edge.attr)?;
-        include(attrs, share.of.size.attr)?;
+        include_share(attrs, &share)?;
     }
     Ok(())
 }

@@ -21,6 +21,9 @@ use std::slice;
 use vfl_text::Pred;
 use view_tree::{Tree, View, ViewId};
 
+// A row asked for has at most two ends and what stands between them.
+const TERM_COUNT: usize = 3;
+
 // The number of this size with its sign.
 fn signed(is_negative: bool, size: u32) -> i128
     ensures { result ≡ (if is_negative then neg_ℤ (pos size) else pos size) }
@@ -145,8 +148,9 @@ pub(crate) fn terms_of<'a>(
 ) -> Result<Vec<ExprTerm<'a>>, OutOfMemory>
     ensures { IfOk result (λ terms. terms_view terms.items ≡ meaning.terms_of (lines.line_of tree.now.views (span_view span.now) (pred_meaning pred.now))) }
 {
+    let mut terms = Vec::with_capacity(alloc, TERM_COUNT)?;
     let plus = end_term(tree, span.plus);
-    let mut terms = Vec::from_slice(alloc, slice::from_ref(&plus))?;
+    terms.extend_from_slice(slice::from_ref(&plus))?;
     if let Some(end) = span.minus {
         let minus = subtracted(&end_term(tree, end));
         terms.extend_from_slice(slice::from_ref(&minus))?;

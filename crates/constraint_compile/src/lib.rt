@@ -35,8 +35,3 @@ pub use format_laws::{
 pub use line::compile_line;
 pub use rows::constants_now;
 pub use stops::{CompileStop, KindWord};
-
-#[cfg(test)]
-mod format_tests;
-#[cfg(test)]
-mod tests;

@@ -1,5 +1,5 @@
 // Which coefficients of a sum are not 0, whatever their size.
-ghost use Rattle.std.specs.Prelude.{◌≡◌, ◌≢◌, ◌≤◌, ◌<◌, ◌+◌, ◌*◌, ◌^◌, ◌+ℤ◌, ◌*ℤ◌, ◌<ℤ◌, ℕ, pos, unsigned_abs, true, false, length, map, IsTrue, IfOk, OnOk, All, AllPairs};
+ghost use Rattle.std.specs.Prelude.{◌≡◌, ◌≢◌, ◌≤◌, ◌<◌, ◌+◌, ◌*◌, ◌^◌, ◌+ℤ◌, ◌*ℤ◌, ℕ, pos, unsigned_abs, true, false, length, map, IsTrue, IfOk, OnOk, All, AllPairs};
 ghost use Rattle.script_text.specs.View.{term_view, terms_view};
 ghost use Rattle.constraint_compile.specs.Fractions.{total};
 ghost use Rattle.constraint_compile.specs.Meaning.{share, sum_at};
@@ -8,7 +8,7 @@ ghost use Rattle.constraint_compile.specs.Sums.{HasTooMany};
 ghost use Rattle.constraint_compile.specs.Pieces.{piece_value, IsPiece, AreDoubled, HasFound};
 
 use crate::attributes::share_of;
-use crate::sums::{double_den, halves};
+use crate::sums::{double_den, halves, split, times_halves};
 use frac_core::OutOfMemory;
 use script_text::ExprTerm;
 use std::alloc::Global;
@@ -21,39 +21,10 @@ pub(crate) struct Piece {
     pub den: i64,
 }
 
-// A quotient and its rest.
-#[derive(Clone, Copy, Debug)]
-struct Divided {
-    whole: i64,
-    rest: i64,
-}
-
 // Each of at most 64 terms has a denominator below 2^43. So a sum that isn't 0 is past 64 in size after this many doublings.
 const ROUNDS: u32 = 2760;
 
 const ATTRIBUTE_LIMIT: usize = 32;
-
-fn split(num: i64, den: i64) -> Divided
-    requires num { unsigned_abs num < 2 ^ 45 }
-    requires den { pos 0 <ℤ den }
-    ensures value { result.whole *ℤ den +ℤ result.rest ≡ num }
-    ensures rest { unsigned_abs result.rest < unsigned_abs den }
-    ensures whole { unsigned_abs result.whole ≤ unsigned_abs num }
-{
-    Divided {
-        whole: num / den,
-        rest: num % den,
-    }
-}
-
-fn times_halves(num: i64, halves: i64) -> i64
-    requires num { unsigned_abs num < 2 ^ 42 }
-    requires halves { unsigned_abs halves ≤ 4 }
-    ensures value { result ≡ num *ℤ halves }
-    ensures small { unsigned_abs result < 2 ^ 44 }
-{
-    num * halves
-}
 
 // What a term has of an attribute.
 fn piece_of(tree: &Tree, term: &ExprTerm<'_>, attr: u32) -> Piece

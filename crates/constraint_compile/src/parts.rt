@@ -1,10 +1,11 @@
 // The parts of a line that a row keeps.
 ghost use Rattle.std.specs.Prelude.{◌≡◌, ℕ, ◌≤◌, ◌++◌, List, [], length, map, slice_index_or, IfOk, OnOk};
 ghost use Rattle.std.specs.String.{string_bytes};
-ghost use Rattle.script_text.specs.View.{term_view, terms_view};
+ghost use Rattle.script_text.specs.View.{operand_view, term_view, terms_view};
 ghost use Rattle.constraint_compile.specs.Meaning as meaning;
 ghost use Rattle.constraint_compile.specs.Meaning.{views_in};
-ghost use Rattle.constraint_compile.specs.Keeps.{part_view, steps_view, step_view, metric_name};
+ghost use Rattle.constraint_compile.specs.Keeps as keeps;
+ghost use Rattle.constraint_compile.specs.Keeps.{part_view, steps_view, step_view, metric_name, HaveNames};
 
 use crate::steps::{Part, Step};
 use frac_core::OutOfMemory;
@@ -22,17 +23,49 @@ fn metric_of(alloc: Global, term: &ExprTerm<'_>) -> Result<String, OutOfMemory>
     }
 }
 
-/// For each term the metric that it names, or an empty name.
-pub(crate) fn metric_names(
-    alloc: Global,
-    terms: &[ExprTerm<'_>],
-) -> Result<Vec<String>, OutOfMemory>
+fn is_metric(of: &Operand<'_>) -> bool
+    ensures { result ≡ keeps.is_metric (operand_view of.now) }
+{
+    match *of {
+        Operand::Metric { name: _ } => true,
+        Operand::Attr { view: _, word: _ } => false,
+        Operand::One => false,
+    }
+}
+
+fn any_names_metric(terms: &[ExprTerm<'_>]) -> bool
+    ensures { result ≡ keeps.any_names_metric (terms_view terms.now) }
+{
+    for term in terms {
+        if is_metric(&term.of) {
+            return true;
+        }
+    }
+    false
+}
+
+// For each term the metric that it names, or an empty name.
+fn all_names(alloc: Global, terms: &[ExprTerm<'_>]) -> Result<Vec<String>, OutOfMemory>
     ensures { IfOk result (λ names. map string_bytes names.items ≡ map metric_name (terms_view terms.now)) }
 {
     let mut names = Vec::with_capacity(alloc, terms.len())?;
     for term in terms {
         names.push(metric_of(alloc, term)?)?;
     }
+    Ok(names)
+}
+
+/// At the place of each term the metric that it names. Most lines name none, and for these there is no list.
+pub(crate) fn metric_names(
+    alloc: Global,
+    terms: &[ExprTerm<'_>],
+) -> Result<Vec<String>, OutOfMemory>
+    ensures { IfOk result (λ names. HaveNames (map string_bytes names.items) (terms_view terms.now)) }
+{
+    if !any_names_metric(terms) {
+        return Ok(Vec::new(alloc));
+    }
+    let names = all_names(alloc, terms)?;
     Ok(names)
 }
 
@@ -58,7 +91,7 @@ pub(crate) fn steps_of(
     requires few { length terms.now ≤ 64 }
     ensures long { IfOk result (λ steps. length steps.items ≡ length terms.now) }
     ensures scales { IfOk result (λ steps. map (λ s. s.scale) steps.items ≡ scales.now) }
-    ensures parts { IfOk result (λ steps. (names : List (List ℕ)) → names ≡ map metric_name (terms_view terms.now) → map (λ s. s.part) (steps_view names steps.items) ≡ map meaning.part (terms_view terms.now)) }
+    ensures parts { IfOk result (λ steps. (names : List (List ℕ)) → HaveNames names (terms_view terms.now) → map (λ s. s.part) (steps_view names steps.items) ≡ map meaning.part (terms_view terms.now)) }
 {
     let mut steps = Vec::with_capacity(alloc, terms.len())?;
     for place in 0..terms.len() {

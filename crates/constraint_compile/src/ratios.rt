@@ -9,6 +9,9 @@ use frac_core::{Frac, gcd};
 
 const PRODUCT_MOST: u128 = (1 << 112) - 1;
 
+// Two sizes below this have a product of at most that.
+const SHORT: u128 = 1 << 56;
+
 /// Both parts of a constant are below this in size.
 const CONSTANT_LIMIT: i64 = 1 << 40;
 
@@ -19,16 +22,35 @@ pub(crate) struct Ratio {
     pub den: i128,
 }
 
+// The greatest common divisor, which a denominator of 1 tells at once.
+fn divisor_of(size: u128, whole: u128) -> u128
+    ensures { IsGcd size whole result }
+{
+    if whole == 1 { 1 } else { gcd(size, whole) }
+}
+
 /// The ratio of two numbers, divided by their greatest common divisor.
 pub(crate) fn reduced(p: i128, q: i128) -> Ratio
     requires { pos 0 <ℤ q }
     ensures { IsReduced p q result.num result.den }
 {
-    let divisor = gcd(p.unsigned_abs(), q.unsigned_abs()) as i128;
+    let divisor = divisor_of(p.unsigned_abs(), q.unsigned_abs()) as i128;
     Ratio {
         num: quotient(p, divisor),
         den: quotient(q, divisor),
     }
+}
+
+// Whether the product of two sizes is below 2^112, which most need no division for.
+fn is_bounded(x: u128, y: u128) -> bool
+    requires { 0 < y }
+    ensures yes { IsTrue result → x * y < 2 ^ 112 }
+    ensures no { result ≡ false → 2 ^ 112 ≤ x * y }
+{
+    if x < SHORT && y < SHORT {
+        return true;
+    }
+    x <= PRODUCT_MOST / y
 }
 
 // The product, where it is below 2^112 in size.
@@ -38,7 +60,7 @@ fn bounded(x: i128, y: i128) -> Option<i128>
     ensures small { IfSome result (λ z. unsigned_abs z < 2 ^ 112) }
     ensures large { IfNone result (2 ^ 112 ≤ unsigned_abs x * unsigned_abs y) }
 {
-    if x.unsigned_abs() > PRODUCT_MOST / y.unsigned_abs() {
+    if !is_bounded(x.unsigned_abs(), y.unsigned_abs()) {
         return None;
     }
     Some(x * y)

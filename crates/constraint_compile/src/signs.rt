@@ -47,7 +47,8 @@ pub(crate) fn signed_terms<'a>(
 ) -> Result<Vec<ExprTerm<'a>>, OutOfMemory>
     ensures { IfOk result (λ terms. terms_view terms.items ≡ terms_of (linear_view line.now)) }
 {
-    let mut terms = Vec::from_slice(alloc, &line.left)?;
+    let mut terms = Vec::with_capacity(alloc, line.left.len() + line.right.len())?;
+    terms.extend_from_slice(&line.left)?;
     subtract(&mut terms, &line.right)?;
     Ok(terms)
 }

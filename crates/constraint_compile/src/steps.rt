@@ -1,5 +1,5 @@
 // The constant of a row, as a sum of numbers and of multiples of metrics.
-ghost use Rattle.std.specs.Prelude.{◌≡◌, ℕ, ◌<◌, ◌<ℤ◌, ◌≤◌, ◌*ℤ◌, ◌^◌, [], pos, neg_ℤ, map, slice_index_or, IfSome, IfNone, unsigned_abs};
+ghost use Rattle.std.specs.Prelude.{◌≡◌, ℕ, ◌<◌, ◌<ℤ◌, ◌≤◌, ◌*ℤ◌, ◌^◌, [], pos, neg_ℤ, map, slice_index_or, IfSome, IfNone, IsTrue, unsigned_abs};
 ghost use Rattle.frac_core.specs.Fraction.{Fraction};
 ghost use Rattle.std.specs.String.{string_bytes};
 ghost use Rattle.constraint_compile.specs.Fractions.{plus, times, IsConstant, IsSmallConstant};
@@ -7,6 +7,7 @@ ghost use Rattle.constraint_compile.specs.Quotients.{IsReduced};
 ghost use Rattle.constraint_compile.specs.Meaning.{part_value};
 ghost use Rattle.constraint_compile.specs.Compiled.{AreSmallSteps, step_sum, last_scale};
 ghost use Rattle.constraint_compile.specs.Keeps.{AreScalesKept, part_view, steps_view};
+ghost use Rattle.constraint_compile.specs.declared.steps.Part.TheVariants.{Nothing};
 ghost use Rattle.name_tables.specs.Names.{value_of};
 
 use crate::ratios::{Ratio, common, reduced, small_of};
@@ -139,6 +140,13 @@ fn moved(before: Progress, scale: u32, value: Ratio) -> Option<Frac>
     small_of(sum)
 }
 
+// Whether a step adds nothing, at the scale of the one before it.
+fn is_still(scale: u32, step: &Step) -> bool
+    ensures { IsTrue result → (step.now.scale ≡ scale) × (step.now.part ≡ Nothing) }
+{
+    step.scale == scale && matches!(step.part, Part::Nothing)
+}
+
 // The constant after a step.
 fn after(metrics: &Metrics, names: &[String], before: Progress, step: &Step) -> Option<Progress>
     requires before { (0 < before.scale) × (before.scale ≤ 2 ^ 30) }
@@ -151,6 +159,9 @@ fn after(metrics: &Metrics, names: &[String], before: Progress, step: &Step) -> 
     ensures none { IfNone result ((e : Fraction) → 0 < e.den → IsConstant before.scale e before.constant → IsSmallConstant step.now.scale (plus e (part_value metrics.now (part_view (map string_bytes names.now) step.now.part))) → ⊥) }
     ensures above { 0 < (part_value metrics.now (part_view (map string_bytes names.now) step.now.part)).den }
 {
+    if is_still(before.scale, step) {
+        return Some(before);
+    }
     let value = part_ratio(metrics, names, step.part);
     let Some(constant) = moved(before, step.scale, value) else {
         return None;

@@ -1,11 +1,11 @@
 // Sums of terms, over a common scale.
-ghost use Rattle.std.specs.Prelude.{◌≡◌, ℕ, ◌<◌, ◌≤◌, ◌*◌, ◌^◌, ◌*ℤ◌, ◌<ℤ◌, pos, length, if◌then◌else◌, ◌==◌, All, AllPairs, IfOk, IfSome, IfNone, unsigned_abs};
+ghost use Rattle.std.specs.Prelude.{◌≡◌, ℕ, ◌<◌, ◌≤◌, ◌*◌, ◌^◌, ◌+ℤ◌, ◌*ℤ◌, ◌<ℤ◌, pos, length, if◌then◌else◌, ◌==◌, All, AllPairs, IfOk, IfSome, IfNone, unsigned_abs};
 ghost use Prim.Native.Nat.{◌∣◌};
 ghost use Rattle.frac_core.specs.Fraction.{Fraction};
 ghost use Rattle.problem_core.specs.Layout.{coefficient};
 ghost use Rattle.constraint_compile.specs.Fractions.{AreSmall};
 ghost use Rattle.constraint_compile.specs.Shares.{form, AreHalves};
-ghost use Rattle.constraint_compile.specs.Sums.{AreKept, IsSum, IsCovered, IsDivisor, AreDivided, IsPast, attr_at, number_at, with_share, with_share_number};
+ghost use Rattle.constraint_compile.specs.Sums.{AreKept, IsSum, IsCovered, IsDivisor, AreDivided, IsPast, AreWhole, attr_at, number_at, with_share, with_share_number};
 
 use crate::attributes::{Doubled, Share};
 use crate::wide::{product, quotient, total};
@@ -38,6 +38,35 @@ pub(crate) fn halves(of: &Doubled, attr: u32) -> i64
     ensures small { unsigned_abs result ≤ 4 }
 {
     at(of.edge, attr) + at(of.size, attr)
+}
+
+// A quotient and its rest.
+#[derive(Clone, Copy, Debug)]
+pub(crate) struct Division {
+    pub whole: i64,
+    pub rest: i64,
+}
+
+pub(crate) fn split(num: i64, den: i64) -> Division
+    requires num { unsigned_abs num < 2 ^ 45 }
+    requires den { pos 0 <ℤ den }
+    ensures value { result.whole *ℤ den +ℤ result.rest ≡ num }
+    ensures rest { unsigned_abs result.rest < unsigned_abs den }
+    ensures whole { unsigned_abs result.whole ≤ unsigned_abs num }
+{
+    Division {
+        whole: num / den,
+        rest: num % den,
+    }
+}
+
+pub(crate) fn times_halves(num: i64, halves: i64) -> i64
+    requires num { unsigned_abs num < 2 ^ 42 }
+    requires halves { unsigned_abs halves ≤ 4 }
+    ensures value { result ≡ num *ℤ halves }
+    ensures small { unsigned_abs result < 2 ^ 44 }
+{
+    num * halves
 }
 
 // So many halves over the scale.
@@ -142,8 +171,80 @@ fn whole_of(scale: u32, f: Frac) -> u128
     u128::from(scale) * (f.den() as u128 * 2)
 }
 
-/// The sum with a share more, unless the scale or a number would be past the limit.
-pub(crate) fn added(
+// Half of a number, where that is whole.
+fn half(number: i64) -> Option<i64>
+    requires { unsigned_abs number < 2 ^ 44 }
+    ensures value { IfSome result (λ h. h *ℤ pos 2 ≡ number) }
+    ensures small { IfSome result (λ h. unsigned_abs h < 2 ^ 44) }
+{
+    let parts = split(number, 2);
+    if parts.rest != 0 {
+        return None;
+    }
+    Some(parts.whole)
+}
+
+// The number over 1 with the share added, where that is whole and within the limit.
+fn whole_more(number: i64, share: &Share, attr: u32) -> Option<i64>
+    requires number { unsigned_abs number ≤ 2 ^ 30 }
+    requires halves { AreHalves share.now.of }
+    requires den { share.now.by.den ≡ 1 }
+    ensures value { IfSome result (λ z. pos 2 *ℤ z ≡ with_share_number number 1 share.now attr) }
+    ensures small { IfSome result (λ z. unsigned_abs z ≤ 2 ^ 30) }
+{
+    let Some(more) = half(times_halves(share.by.num(), halves(&share.of, attr))) else {
+        return None;
+    };
+    let next = number + more;
+    if next.unsigned_abs() > u64::from(COEFFICIENT_LIMIT) {
+        return None;
+    }
+    Some(next)
+}
+
+// The numbers over 1 with the share added, where each is whole and within the limit.
+fn whole_numbers(
+    alloc: Global,
+    attrs: &[u32],
+    numbers: &[i64],
+    share: &Share,
+) -> Result<Option<Vec<i64>>, OutOfMemory>
+    requires kept { AreKept attrs.now 1 numbers.now }
+    requires halves { AreHalves share.now.of }
+    requires den { share.now.by.den ≡ 1 }
+    ensures { IfOk result (λ o. IfSome o (λ next. AreWhole attrs.now numbers.now share.now next.items)) }
+{
+    let mut out = Vec::with_capacity(alloc, attrs.len())?;
+    for place in 0..attrs.len() {
+        match whole_more(numbers[place], share, attrs[place]) {
+            Some(next) => out.push(next)?,
+            None => return Ok(None),
+        }
+    }
+    Ok(Some(out))
+}
+
+// The numbers with the share added, where the scale is 1 and stays so: most sums need no other.
+fn unscaled(
+    alloc: Global,
+    attrs: &[u32],
+    sum: &Sum,
+    share: &Share,
+) -> Result<Option<Vec<i64>>, OutOfMemory>
+    requires kept { AreKept attrs.now sum.now.scale sum.now.numbers.items }
+    requires halves { AreHalves share.now.of }
+    ensures scale { IfOk result (λ o. IfSome o (λ _. (sum.now.scale ≡ 1) × (share.now.by.den ≡ 1))) }
+    ensures whole { IfOk result (λ o. IfSome o (λ next. AreWhole attrs.now sum.now.numbers.items share.now next.items)) }
+{
+    if sum.scale == 1 && share.by.den() == 1 {
+        whole_numbers(alloc, attrs, &sum.numbers, share)
+    } else {
+        Ok(None)
+    }
+}
+
+// The sum with a share more over its least scale, unless that or a number would be past the limit.
+fn rescaled(
     alloc: Global,
     attrs: &[u32],
     sum: &Sum,
@@ -168,5 +269,24 @@ pub(crate) fn added(
             numbers,
         })),
         None => Ok(None),
+    }
+}
+
+/// The sum with a share more, unless the scale or a number would be past the limit.
+pub(crate) fn added(
+    alloc: Global,
+    attrs: &[u32],
+    sum: &Sum,
+    share: &Share,
+) -> Result<Option<Sum>, OutOfMemory>
+    requires kept { AreKept attrs.now sum.now.scale sum.now.numbers.items }
+    requires halves { AreHalves share.now.of }
+    ensures kept { IfOk result (λ o. IfSome o (λ next. AreKept attrs.now next.scale next.numbers.items)) }
+    ensures sum { IfOk result (λ o. IfSome o (λ next. (b : ℕ → Fraction) → IsSum b attrs.now sum.now.scale sum.now.numbers.items → IsCovered attrs.now share.now → IsSum (with_share b share.now) attrs.now next.scale next.numbers.items)) }
+    ensures past { IfOk result (λ o. IfNone o ((b : ℕ → Fraction) → IsSum b attrs.now sum.now.scale sum.now.numbers.items → IsCovered attrs.now share.now → AreSmall (with_share b share.now) → ⊥)) }
+{
+    match unscaled(alloc, attrs, sum, share)? {
+        Some(numbers) => Ok(Some(Sum { scale: 1, numbers })),
+        None => rescaled(alloc, attrs, sum, share),
     }
 }

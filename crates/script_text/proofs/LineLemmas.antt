@@ -10,10 +10,8 @@ use Rattle.span_text.proofs.TokensLemmas.{end_lives, tail_lives, name_lives, num
 use Rattle.span_text.proofs.Offsets.{answers_ok, answers_err, stops_leaves}
 use Rattle.script_text.specs.Meaning.{Meaning}
 use Rattle.script_text.specs.Meaning as mean
-use Rattle.script_text.specs.Grammar.{decimal, Arguments, Any, Line, all_words, stage_words, words_of}
+use Rattle.script_text.specs.Grammar.{decimal, Arguments, Any, Line, all_words}
 use Rattle.script_text.specs.LineReading.{is_hash, is_any, arguments_at, command_at, content_at, line_at}
-use Rattle.script_text.specs.declared.words.Table.{Table}
-use Rattle.script_text.specs.declared.words.Table.TheVariants as table
 use Rattle.script_text.specs.declared.words.Keyword.{Keyword}
 use Rattle.script_text.specs.declared.words.Keyword.TheVariants as key
 use Rattle.script_text.proofs.Tables.{IsTable, table_answers}
@@ -27,17 +25,9 @@ pub record AreCommands (words : List (List ℕ × Keyword)) : Type 0 where
   pub inside : table_inside is_any words ≡ true
   pub no_hash : table_apart is_hash words ≡ true
 
-pub all_commands : AreCommands all_words
+all_commands : AreCommands all_words
 unfolding all_words
 all_commands = record { table = record { full = refl; free = refl; bytes = refl }; inside = refl; no_hash = refl }
-
-pub stage_commands : AreCommands stage_words
-unfolding stage_words
-stage_commands = record { table = record { full = refl; free = refl; bytes = refl }; inside = refl; no_hash = refl }
-
-table_commands : (t : Table) → AreCommands (words_of t)
-table_commands table.All = all_commands
-table_commands table.Stage = stage_commands
 
 arguments_lives : (k : Keyword) → Lives is_space (Arguments k)
 arguments_lives key.View = name_lives is_space refl (λ n. right_lives is_space (Word (codes "in") (Name (λ p. End (mean.View n (Some p))))) (end_lives is_space (mean.View n None)))
@@ -89,25 +79,25 @@ module _ (words : List (List ℕ × Keyword)) (are : AreCommands words) where
       (right_lives is_space (Lit (codes "#") (Any mean.Nothing)) content_lives) s (λ t i. content_answers t)
 
 -- what a reader's answer says of the line, by its case
-pub line_ok : (t : Table) (s : List ℕ) (v : Meaning) → line_at (words_of t) s ≡ Ok v → Line (words_of t) s v × ((w : Meaning) → Line (words_of t) s w → w ≡ v)
-line_ok t s v e = answers_ok (Line (words_of t)) s (line_at (words_of t) s) v (line_answers (words_of t) (table_commands t) s) e
+pub line_ok : (s : List ℕ) (v : Meaning) → line_at all_words s ≡ Ok v → Line all_words s v × ((w : Meaning) → Line all_words s w → w ≡ v)
+line_ok s v e = answers_ok (Line all_words) s (line_at all_words s) v (line_answers all_words all_commands s) e
 
-pub line_err : (t : Table) (s : List ℕ) (m : ℕ) → line_at (words_of t) s ≡ Err m → Stops (Line (words_of t)) s m
-line_err t s m e = answers_err (Line (words_of t)) s (line_at (words_of t) s) m (line_answers (words_of t) (table_commands t) s) e
+pub line_err : (s : List ℕ) (m : ℕ) → line_at all_words s ≡ Err m → Stops (Line all_words) s m
+line_err s m e = answers_err (Line all_words) s (line_at all_words s) m (line_answers all_words all_commands s) e
 
-pub one_reading : (t : Table) (s : List ℕ) (v w : Meaning) → Line (words_of t) s v → Line (words_of t) s w → v ≡ w
-one_reading t s v w h i = one_reading_by (line_at (words_of t) s) (line_answers (words_of t) (table_commands t) s)
+pub one_reading : (s : List ℕ) (v w : Meaning) → Line all_words s v → Line all_words s w → v ≡ w
+one_reading s v w h i = one_reading_by (line_at all_words s) (line_answers all_words all_commands s)
   where
-    one_reading_by : (r : Result Meaning ℕ) → Answers (Line (words_of t)) s r → v ≡ w
+    one_reading_by : (r : Result Meaning ℕ) → Answers (Line all_words) s r → v ≡ w
     one_reading_by (Ok x) a = a.1 v h ∙ sym (a.1 w i)
     one_reading_by (Err m) a = absurd (a.outside v h)
 
-pub one_offset : (t : Table) (s : List ℕ) (m n : ℕ) → LeavesAt (Line (words_of t)) s m → LeavesAt (Line (words_of t)) s n → m ≡ n
-one_offset t s m n h i = omega (arith, h.longest n i.within i.begins, i.longest m h.within h.begins)
+pub one_offset : (s : List ℕ) (m n : ℕ) → LeavesAt (Line all_words) s m → LeavesAt (Line all_words) s n → m ≡ n
+one_offset s m n h i = omega (arith, h.longest n i.within i.begins, i.longest m h.within h.begins)
 
-pub reads_or_leaves : (t : Table) (s : List ℕ) → ((m : Meaning) × Line (words_of t) s m) ⊎ ((at : ℕ) × LeavesAt (Line (words_of t)) s at)
-reads_or_leaves t s = reads_or_leaves_by (line_at (words_of t) s) (line_answers (words_of t) (table_commands t) s)
+pub reads_or_leaves : (s : List ℕ) → ((m : Meaning) × Line all_words s m) ⊎ ((at : ℕ) × LeavesAt (Line all_words) s at)
+reads_or_leaves s = reads_or_leaves_by (line_at all_words s) (line_answers all_words all_commands s)
   where
-    reads_or_leaves_by : (r : Result Meaning ℕ) → Answers (Line (words_of t)) s r → ((m : Meaning) × Line (words_of t) s m) ⊎ ((at : ℕ) × LeavesAt (Line (words_of t)) s at)
+    reads_or_leaves_by : (r : Result Meaning ℕ) → Answers (Line all_words) s r → ((m : Meaning) × Line all_words s m) ⊎ ((at : ℕ) × LeavesAt (Line all_words) s at)
     reads_or_leaves_by (Ok x) a = inl (x, a.0)
-    reads_or_leaves_by (Err m) a = inr (length s - m, stops_leaves (Line (words_of t)) s m a)
+    reads_or_leaves_by (Err m) a = inr (length s - m, stops_leaves (Line all_words) s m a)

@@ -12,8 +12,6 @@ use Rattle.script_text.specs.Meaning.{Operand, Term, Linear, Meaning}
 use Rattle.script_text.specs.Meaning as mean
 use Rattle.script_text.specs.declared.words.Keyword.{Keyword}
 use Rattle.script_text.specs.declared.words.Keyword.TheVariants as key
-use Rattle.script_text.specs.declared.words.Table.{Table}
-use Rattle.script_text.specs.declared.words.Table.TheVariants as table
 use Rattle.script_text.specs.declared.words.Align.{Align}
 use Rattle.script_text.specs.declared.words.Align.TheVariants as align
 use Rattle.script_text.specs.declared.words.AttrWord.{AttrWord}
@@ -21,17 +19,9 @@ use Rattle.script_text.specs.declared.words.AttrWord.TheVariants as attr
 use Rattle.problem_core.specs.declared.parts.Rel.TheVariants as rel
 use Rattle.problem_core.specs.declared.parts.Rel as parts
 
--- the first words of the lines that are read
+-- the first words of lines
 unfoldable pub all_words : List (List ℕ × Keyword)
 all_words = (codes "view", key.View) ∷ (codes "metric", key.Metric) ∷ (codes "window", key.Window) ∷ (codes "vfl", key.Vfl) ∷ (codes "constrain", key.Constrain) ∷ (codes "budget", key.Budget) ∷ (codes "frames", key.Frames) ∷ (codes "rows", key.Rows) ∷ []
-
--- the first words of the lines that a run takes in this stage
-unfoldable pub stage_words : List (List ℕ × Keyword)
-stage_words = (codes "view", key.View) ∷ (codes "metric", key.Metric) ∷ (codes "window", key.Window) ∷ (codes "frames", key.Frames) ∷ (codes "rows", key.Rows) ∷ []
-
-abbrev pub words_of : Table → List (List ℕ × Keyword)
-words_of table.All = all_words
-words_of table.Stage = stage_words
 
 unfoldable pub alignments : List (List ℕ × Align)
 alignments = (codes "left", align.Left) ∷ (codes "right", align.Right) ∷ (codes "top", align.Top) ∷ (codes "bottom", align.Bottom) ∷ (codes "centerX", align.CenterX) ∷ (codes "centerY", align.CenterY) ∷ []

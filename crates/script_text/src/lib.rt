@@ -37,8 +37,5 @@ mod words;
 
 pub use command::{Command, ExprTerm, LineStop, Linear, Operand};
 pub use laws::{line_reads_or_leaves, offset_is_unique, reading_is_unique};
-pub use lines::{read_line, read_line_in_stage};
+pub use lines::read_line;
 pub use words::{Align, AttrWord};
-
-#[cfg(test)]
-mod tests;

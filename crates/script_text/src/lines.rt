@@ -2,7 +2,7 @@
 ghost use Rattle.std.specs.Prelude.{◌≡◌, IfOk};
 ghost use Rattle.span_text.specs.GivesOrMemory.{GivesOrMemory};
 ghost use Rattle.span_text.specs.Language.{LeavesAt};
-ghost use Rattle.script_text.specs.Grammar.{Line, all_words, stage_words, words_of};
+ghost use Rattle.script_text.specs.Grammar.{Line, all_words};
 ghost use Rattle.script_text.specs.Meaning.{Meaning};
 ghost use Rattle.script_text.specs.Meaning as mean;
 ghost use Rattle.script_text.specs.LineReading.{view_at, metric_at, window_at, budget_at, bare_at, arguments_at, command_at, content_at, line_at};
@@ -13,7 +13,7 @@ use crate::command::{Command, LineStop};
 use crate::constraint::constrain;
 use crate::formats::vfl;
 use crate::fractions::signed_number;
-use crate::words::{Keyword, Table, first_word};
+use crate::words::{Keyword, first_word};
 use span_text::{PartStop, names, numbers, pieces};
 use std::alloc::Global;
 
@@ -114,18 +114,18 @@ fn arguments(alloc: Global, keyword: Keyword, text: &[u8]) -> Result<Command<'_>
 }
 
 #[tactic(auto, unfolding(crate::specs::LineReading::command_at))]
-fn command(alloc: Global, table: Table, text: &[u8]) -> Result<Command<'_>, PartStop>
-    ensures { GivesOrMemory view result (command_at (words_of table) text.now) }
+fn command(alloc: Global, text: &[u8]) -> Result<Command<'_>, PartStop>
+    ensures { GivesOrMemory view result (command_at all_words text.now) }
 {
-    let (word, text) = first_word(table, text)?;
+    let (word, text) = first_word(text)?;
     let text = names::tail(text)?;
     arguments(alloc, word, text)
 }
 
 // A line behind the spaces in front of it.
 #[tactic(auto, unfolding(crate::specs::LineReading::content_at))]
-fn content(alloc: Global, table: Table, text: &[u8]) -> Result<Command<'_>, PartStop>
-    ensures { GivesOrMemory view result (content_at (words_of table) text.now) }
+fn content(alloc: Global, text: &[u8]) -> Result<Command<'_>, PartStop>
+    ensures { GivesOrMemory view result (content_at all_words text.now) }
 {
     if pieces::begins(text, b'#') {
         pieces::literal(b"#", text)?;
@@ -134,31 +134,18 @@ fn content(alloc: Global, table: Table, text: &[u8]) -> Result<Command<'_>, Part
     if text.is_empty() {
         blank_line(text)
     } else {
-        command(alloc, table, text)
+        command(alloc, text)
     }
 }
 
 #[tactic(auto, unfolding(crate::specs::LineReading::line_at))]
-fn line_with(alloc: Global, table: Table, line: &[u8]) -> Result<Command<'_>, PartStop>
-    ensures { GivesOrMemory view result (line_at (words_of table) line.now) }
+fn any_line(alloc: Global, line: &[u8]) -> Result<Command<'_>, PartStop>
+    ensures { GivesOrMemory view result (line_at all_words line.now) }
 {
-    content(alloc, table, pieces::skip(line))
+    content(alloc, pieces::skip(line))
 }
 
-// The reading of a line by the grammar whose first words are the table's.
-fn read_with(alloc: Global, table: Table, line: &[u8]) -> Result<Command<'_>, LineStop>
-    ensures sound { IfOk result (λ command. Line (words_of table) line.now (view command)) }
-    ensures one { (m : Meaning) → Line (words_of table) line.now m → IfOk result (λ command. view command ≡ m) }
-    ensures offset { OnSyntax result (LeavesAt (Line (words_of table)) line.now) }
-{
-    match line_with(alloc, table, line) {
-        Ok(command) => Ok(command),
-        Err(PartStop::Left(left)) => Err(LineStop::SyntaxAt(line.len() - left)),
-        Err(PartStop::OutOfMemory) => Err(LineStop::OutOfMemory),
-    }
-}
-
-/// The one reading of a line by the grammar of all commands. A line of the grammar is never refused as syntax; for any
+/// The one reading of a line by the grammar of lines. A line of the grammar is never refused as syntax; for any
 /// other the refusal has the length of its longest prefix that is a prefix of some line of the grammar. The line's
 /// bytes need not be a text.
 pub fn read_line(alloc: Global, line: &[u8]) -> Result<Command<'_>, LineStop>
@@ -166,15 +153,9 @@ pub fn read_line(alloc: Global, line: &[u8]) -> Result<Command<'_>, LineStop>
     ensures one { (m : Meaning) → Line all_words line.now m → IfOk result (λ command. view command ≡ m) }
     ensures offset { OnSyntax result (LeavesAt (Line all_words) line.now) }
 {
-    read_with(alloc, Table::All, line)
-}
-
-/// The same by the grammar of the commands that a run takes in this stage, which are those but `vfl`, `constrain`
-/// and `budget`.
-pub fn read_line_in_stage(alloc: Global, line: &[u8]) -> Result<Command<'_>, LineStop>
-    ensures sound { IfOk result (λ command. Line stage_words line.now (view command)) }
-    ensures one { (m : Meaning) → Line stage_words line.now m → IfOk result (λ command. view command ≡ m) }
-    ensures offset { OnSyntax result (LeavesAt (Line stage_words) line.now) }
-{
-    read_with(alloc, Table::Stage, line)
+    match any_line(alloc, line) {
+        Ok(command) => Ok(command),
+        Err(PartStop::Left(left)) => Err(LineStop::SyntaxAt(line.len() - left)),
+        Err(PartStop::OutOfMemory) => Err(LineStop::OutOfMemory),
+    }
 }

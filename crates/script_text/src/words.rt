@@ -3,7 +3,7 @@
 ghost use Rattle.std.specs.Prelude.{◌≡◌};
 ghost use Rattle.span_text.specs.Gives.{Gives};
 ghost use Rattle.span_text.specs.Reading.{tried};
-ghost use Rattle.script_text.specs.Grammar.{all_words, stage_words, words_of, alignments, attributes, relations};
+ghost use Rattle.script_text.specs.Grammar.{all_words, alignments, attributes, relations};
 
 use problem_core::Rel;
 use span_text::pieces::or_else;
@@ -32,15 +32,6 @@ pub enum Align {
     CenterY,
 }
 
-/// Which first words the grammar has.
-#[derive(Clone, Copy, Debug, PartialEq, Eq)]
-pub enum Table {
-    /// Those of all commands that are read.
-    All,
-    /// Those of the commands that a run takes in this stage.
-    Stage,
-}
-
 /// The attributes of a view that an expression may name.
 #[derive(Clone, Copy, Debug, PartialEq, Eq)]
 pub enum AttrWord {
@@ -57,7 +48,7 @@ pub enum AttrWord {
 }
 
 // The first word of a line and the text at once behind it.
-fn any_keyword(text: &[u8]) -> Result<(Keyword, &[u8]), usize>
+pub fn first_word(text: &[u8]) -> Result<(Keyword, &[u8]), usize>
     ensures { Gives (λ p. (p.0, p.1.now)) result (tried all_words text.now) }
 {
     let found = or_else(b"rows", Keyword::Rows, text, Err(text.len()));
@@ -68,27 +59,6 @@ fn any_keyword(text: &[u8]) -> Result<(Keyword, &[u8]), usize>
     let found = or_else(b"window", Keyword::Window, text, found);
     let found = or_else(b"metric", Keyword::Metric, text, found);
     or_else(b"view", Keyword::View, text, found)
-}
-
-// The same for the first words of this stage.
-fn stage_keyword(text: &[u8]) -> Result<(Keyword, &[u8]), usize>
-    ensures { Gives (λ p. (p.0, p.1.now)) result (tried stage_words text.now) }
-{
-    let found = or_else(b"rows", Keyword::Rows, text, Err(text.len()));
-    let found = or_else(b"frames", Keyword::Frames, text, found);
-    let found = or_else(b"window", Keyword::Window, text, found);
-    let found = or_else(b"metric", Keyword::Metric, text, found);
-    or_else(b"view", Keyword::View, text, found)
-}
-
-// A first word of the table and the text at once behind it.
-pub fn first_word(table: Table, text: &[u8]) -> Result<(Keyword, &[u8]), usize>
-    ensures { Gives (λ p. (p.0, p.1.now)) result (tried (words_of table) text.now) }
-{
-    match table {
-        Table::All => any_keyword(text),
-        Table::Stage => stage_keyword(text),
-    }
 }
 
 // The attribute's word and the text at once behind it.

@@ -37,41 +37,41 @@ made p q x y g above gcd num den =
 pub overflow_cast-divisor : goal.overflow_cast-divisor
 overflow_cast-divisor c =
     let whole : c.unsigned_abs-2.result ≡ unsigned_abs c.args.q = simp (to_z-of_z, c.ranges.q) at c.unsigned_abs-2.ensures.value in
-    omega (arith, small c.args.q c.unsigned_abs-2.result c.gcd-divisor.result c.requires c.ranges.q whole c.gcd-divisor.ensures.1)
+    omega (arith, small c.args.q c.unsigned_abs-2.result c.divisor_of-divisor.result c.requires c.ranges.q whole c.divisor_of-divisor.ensures.1)
 
 pub quotient-requires-clause-above : goal.quotient-requires-clause-above
 quotient-requires-clause-above c =
     let whole : c.unsigned_abs-2.result ≡ unsigned_abs c.args.q = simp (to_z-of_z, c.ranges.q) at c.unsigned_abs-2.ensures.value in
-    let some : 0 < c.gcd-divisor.result = (reduces c.unsigned_abs.result c.unsigned_abs-2.result c.gcd-divisor.result (some_size c.args.q c.unsigned_abs-2.result c.requires whole) c.gcd-divisor.ensures).g_above in
-    rw (cast c.gcd-divisor.result (small c.args.q c.unsigned_abs-2.result c.gcd-divisor.result c.requires c.ranges.q whole c.gcd-divisor.ensures.1)) (omega (arith, ints, some))
+    let some : 0 < c.divisor_of-divisor.result = (reduces c.unsigned_abs.result c.unsigned_abs-2.result c.divisor_of-divisor.result (some_size c.args.q c.unsigned_abs-2.result c.requires whole) c.divisor_of-divisor.ensures).g_above in
+    rw (cast c.divisor_of-divisor.result (small c.args.q c.unsigned_abs-2.result c.divisor_of-divisor.result c.requires c.ranges.q whole c.divisor_of-divisor.ensures.1)) (omega (arith, ints, some))
 
 pub quotient-requires-2-clause-above : goal.quotient-requires-2-clause-above
 quotient-requires-2-clause-above c =
     let whole : c.unsigned_abs-2.result ≡ unsigned_abs c.args.q = simp (to_z-of_z, c.ranges.q) at c.unsigned_abs-2.ensures.value in
-    let some : 0 < c.gcd-divisor.result = (reduces c.unsigned_abs.result c.unsigned_abs-2.result c.gcd-divisor.result (some_size c.args.q c.unsigned_abs-2.result c.requires whole) c.gcd-divisor.ensures).g_above in
-    rw (cast c.gcd-divisor.result (small c.args.q c.unsigned_abs-2.result c.gcd-divisor.result c.requires c.ranges.q whole c.gcd-divisor.ensures.1)) (omega (arith, ints, some))
+    let some : 0 < c.divisor_of-divisor.result = (reduces c.unsigned_abs.result c.unsigned_abs-2.result c.divisor_of-divisor.result (some_size c.args.q c.unsigned_abs-2.result c.requires whole) c.divisor_of-divisor.ensures).g_above in
+    rw (cast c.divisor_of-divisor.result (small c.args.q c.unsigned_abs-2.result c.divisor_of-divisor.result c.requires c.ranges.q whole c.divisor_of-divisor.ensures.1)) (omega (arith, ints, some))
 
 pub quotient-requires-clause-divides : goal.quotient-requires-clause-divides
 quotient-requires-clause-divides c =
     let size : c.unsigned_abs.result ≡ unsigned_abs c.args.p = simp (to_z-of_z, c.ranges.p) at c.unsigned_abs.ensures.value in
     let whole : c.unsigned_abs-2.result ≡ unsigned_abs c.args.q = simp (to_z-of_z, c.ranges.q) at c.unsigned_abs-2.ensures.value in
-    let is_cast : to_z w128 c.gcd-divisor.result ≡ pos c.gcd-divisor.result = cast c.gcd-divisor.result (small c.args.q c.unsigned_abs-2.result c.gcd-divisor.result c.requires c.ranges.q whole c.gcd-divisor.ensures.1) in
-    rw is_cast (simp (to_z-of_z, c.ranges.p) (subst (λ (n : ℕ). c.gcd-divisor.result ∣ n) size c.gcd-divisor.ensures.0))
+    let is_cast : to_z w128 c.divisor_of-divisor.result ≡ pos c.divisor_of-divisor.result = cast c.divisor_of-divisor.result (small c.args.q c.unsigned_abs-2.result c.divisor_of-divisor.result c.requires c.ranges.q whole c.divisor_of-divisor.ensures.1) in
+    rw is_cast (simp (to_z-of_z, c.ranges.p) (subst (λ (n : ℕ). c.divisor_of-divisor.result ∣ n) size c.divisor_of-divisor.ensures.0))
 
 pub quotient-requires-2-clause-divides : goal.quotient-requires-2-clause-divides
 quotient-requires-2-clause-divides c =
     let whole : c.unsigned_abs-2.result ≡ unsigned_abs c.args.q = simp (to_z-of_z, c.ranges.q) at c.unsigned_abs-2.ensures.value in
-    let is_cast : to_z w128 c.gcd-divisor.result ≡ pos c.gcd-divisor.result = cast c.gcd-divisor.result (small c.args.q c.unsigned_abs-2.result c.gcd-divisor.result c.requires c.ranges.q whole c.gcd-divisor.ensures.1) in
-    rw is_cast (simp (to_z-of_z, c.ranges.q) (subst (λ (n : ℕ). c.gcd-divisor.result ∣ n) whole c.gcd-divisor.ensures.1))
+    let is_cast : to_z w128 c.divisor_of-divisor.result ≡ pos c.divisor_of-divisor.result = cast c.divisor_of-divisor.result (small c.args.q c.unsigned_abs-2.result c.divisor_of-divisor.result c.requires c.ranges.q whole c.divisor_of-divisor.ensures.1) in
+    rw is_cast (simp (to_z-of_z, c.ranges.q) (subst (λ (n : ℕ). c.divisor_of-divisor.result ∣ n) whole c.divisor_of-divisor.ensures.1))
 
 pub returns : goal.returns
 returns c =
     let size : c.unsigned_abs.result ≡ unsigned_abs c.args.p = simp (to_z-of_z, c.ranges.p) at c.unsigned_abs.ensures.value in
     let whole : c.unsigned_abs-2.result ≡ unsigned_abs c.args.q = simp (to_z-of_z, c.ranges.q) at c.unsigned_abs-2.ensures.value in
-    let is_cast : to_z w128 c.gcd-divisor.result ≡ pos c.gcd-divisor.result = cast c.gcd-divisor.result (small c.args.q c.unsigned_abs-2.result c.gcd-divisor.result c.requires c.ranges.q whole c.gcd-divisor.ensures.1) in
+    let is_cast : to_z w128 c.divisor_of-divisor.result ≡ pos c.divisor_of-divisor.result = cast c.divisor_of-divisor.result (small c.args.q c.unsigned_abs-2.result c.divisor_of-divisor.result c.requires c.ranges.q whole c.divisor_of-divisor.ensures.1) in
     let x_fits : SFits w128 c.quotient.result = record { sfits = c.quotient.type_inv } in
     let y_fits : SFits w128 c.quotient-2.result = record { sfits = c.quotient-2.type_inv } in
-    let gcd : IsGcd (unsigned_abs c.args.p) (unsigned_abs c.args.q) c.gcd-divisor.result = rw (size, whole) at c.gcd-divisor.ensures in
-    let num : pos c.gcd-divisor.result *ℤ c.quotient.result ≡ c.args.p = rw is_cast at (simp (to_z-of_z, c.ranges.p) at c.quotient.ensures) in
-    let den : pos c.gcd-divisor.result *ℤ c.quotient-2.result ≡ c.args.q = rw is_cast at (simp (to_z-of_z, c.ranges.q) at c.quotient-2.ensures) in
-    simp (to_z-of_z, x_fits, y_fits) (made c.args.p c.args.q c.quotient.result c.quotient-2.result c.gcd-divisor.result c.requires gcd num den)
+    let gcd : IsGcd (unsigned_abs c.args.p) (unsigned_abs c.args.q) c.divisor_of-divisor.result = rw (size, whole) at c.divisor_of-divisor.ensures in
+    let num : pos c.divisor_of-divisor.result *ℤ c.quotient.result ≡ c.args.p = rw is_cast at (simp (to_z-of_z, c.ranges.p) at c.quotient.ensures) in
+    let den : pos c.divisor_of-divisor.result *ℤ c.quotient-2.result ≡ c.args.q = rw is_cast at (simp (to_z-of_z, c.ranges.q) at c.quotient-2.ensures) in
+    simp (to_z-of_z, x_fits, y_fits) (made c.args.p c.args.q c.quotient.result c.quotient-2.result c.divisor_of-divisor.result c.requires gcd num den)

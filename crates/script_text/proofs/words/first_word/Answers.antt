@@ -1,6 +1,6 @@
 use Rattle.std.proofs.Common.{refl}
 use Rattle.script_text.specs.Grammar.{all_words}
-use Rattle.script_text.proofs.words.any_keyword.Goals as goal
+use Rattle.script_text.proofs.words.first_word.Goals as goal
 
 pub returns : goal.returns
 unfolding all_words

@@ -2,7 +2,7 @@ use Rattle.std.proofs.Common.{◌≡◌, ◌*ℤ◌, ◌<◌, ◌^◌, ℤ, ℕ,
 use Rattle.std.specs.Int.{w64}
 use Rattle.std.proofs.lemmas.Int.{to_z-of_z, fits_signed_mul, unsigned_abs-mul}
 use Rattle.std.proofs.Math.Nat.{mul-le-mul}
-use Rattle.constraint_compile.proofs.nonzero.times_halves.Goals as goal
+use Rattle.constraint_compile.proofs.sums.times_halves.Goals as goal
 
 fits : (x y : ℤ) → unsigned_abs x < 2 ^ 42 → unsigned_abs y ≤ 4 → SFits w64 (x *ℤ y)
 fits x y h k = fits_signed_mul w64 x y 4398046511103 4 (omega (arith, h)) k (omega arith)
