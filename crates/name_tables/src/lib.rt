@@ -12,6 +12,3 @@ pub use name_map::{NameMap, Named};
 pub use names::Names;
 pub use owned_name::OwnedName;
 pub use stops::{LimitWord, NAME_LIMIT, NameStop};
-
-#[cfg(test)]
-mod tests;

@@ -1,5 +1,6 @@
 // Values under distinct names.
-ghost use Rattle.std.specs.Prelude.{◌≡◌, ◌<◌, ◌++◌, ◌∷◌, [], None, IfOk, IfSome, OnErr, OnOk, length, slice_get};
+ghost use Rattle.std.specs.Prelude.{◌≡◌, ◌<◌, ◌++◌, ◌∷◌, [], None, length, slice_get, take};
+ghost use Rattle.std.specs.Prelude.{IfOk, IfSome, OnErr, OnOk};
 ghost use Rattle.std.specs.Option.{option_map};
 ghost use Rattle.name_tables.specs.Names.{AreClones, AreDistinct, names_of, place_of, value_of, values_of, with_value};
 
@@ -101,6 +102,13 @@ impl<V: Copy> NameMap<V> {
         let key = String::from_str(*self.table.allocator(), name)?;
         self.table.insert(key, value)?;
         Ok(())
+    }
+
+    /// Keeps the first names, so many as `len`, with what stands under them. It takes no memory.
+    pub fn truncate(&mut self, len: usize)
+        ensures { self.new ≡ take len self.old }
+    {
+        self.table.truncate(len);
     }
 
     /// The same names over clones of the values.

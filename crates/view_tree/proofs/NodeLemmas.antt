@@ -1,21 +1,22 @@
 -- What is kept under the names, seen as a tree.
-use Rattle.std.proofs.Common.{◌≡◌, ℕ, ◌+◌, Bool, true, false, cond, not, List, [], ◌∷◌, ◌++◌, Option, None, Some, All, IfNone, IfSome, codes, find, get_or, is_some, length, map, nat_eq, position, slice_get, refl, sym, ap, subst, ◌∙◌, ◌<◌, ◌≤◌, arith, add-one}
+use Rattle.std.proofs.Common.{◌≡◌, ℕ, ◌+◌, Bool, true, false, cond, not, List, [], ◌∷◌, ◌++◌, Option, None, Some, All, IfNone, IfSome, codes, find, get_or, is_some, length, map, nat_eq, position, slice_get, refl, sym, ap, subst, ◌∙◌, ◌<◌, ◌≤◌, ◌-◌, arith, add-one, take, length-append}
 use Rattle.std.proofs.lemmas.Bool.{eqb-true}
 use Rattle.std.proofs.lemmas.Grind.{common_steps}
-use Rattle.std.proofs.lemmas.List.{map-append}
+use Rattle.std.proofs.lemmas.List.{map-append, length-map, take-map}
 use Rattle.std.proofs.lemmas.List.Folds.{find_at}
-use Rattle.std.proofs.lemmas.List.Elements.{All-from_recursion, All-push, recursion_from_All}
+use Rattle.std.proofs.lemmas.List.Elements.{All-from_recursion, All-push, All-take, recursion_from_All}
 use Rattle.std.proofs.lemmas.List.Quantifiers.{position-Some}
 use Rattle.std.proofs.lemmas.Option.{none-some, slice_get-get_or, slice_get_past}
+use Rattle.std.proofs.Math.Seq.{take-append_seam}
 use Rattle.std.specs.List.{AllByRecursion, position_or_len}
 use Rattle.std.specs.Map.{lookup, values_of}
 use Rattle.std.specs.Option.{option_map}
 use Rattle.std.specs.Str.{bytes_eq}
 use Rattle.name_tables.specs.Names.{names_of, place_of}
 use Rattle.view_tree.specs.Nodes.{AreKept, live_view, tree_of}
-use Rattle.view_tree.specs.Views.{IsOnLevel, IsTree, LiveView, view_named, view_of, window, with_view}
+use Rattle.view_tree.specs.Views.{IsOnLevel, IsTree, LiveView, ViewTree, view_named, view_of, window, with_view}
 use Rattle.view_tree.specs.Stops.{IsNewView}
-use Rattle.view_tree.proofs.ViewLemmas.{IsOnLevel-append, IsOnLevel-push, IsTree-window, IsTree-with_view}
+use Rattle.view_tree.proofs.ViewLemmas.{IsOnLevel-append, IsOnLevel-unique, IsOnLevel-push, IsTree-window, IsTree-with_view}
 use Rattle.view_tree.specs.declared.tree.Node.{Node}
 
 -- ---- searches
@@ -132,3 +133,56 @@ pub unnamed : (name : List ℕ) (es : List (List ℕ × Node)) → view_named (m
 unnamed name es none =
     let past : length es ≤ position_or_len (bytes_eq name) (names_of es) = first_past name es none in
     grind (arith, common_steps, past)
+
+-- ---- the last entry less
+
+-- each view has the level that it had
+levels-back : (views : List LiveView) (v : LiveView) (es : List (List ℕ × Node)) → AllByRecursion (λ w. (level : ℕ) × IsOnLevel views w.id level × (level ≤ 32)) (map live_view es)
+    → AllByRecursion (λ e. IsOnLevel (views ++ v ∷ []) e.1.id.0 e.1.level) es → AllByRecursion (λ e. IsOnLevel views e.1.id.0 e.1.level) es
+levels-back views v [] h g = tt
+levels-back views v (e ∷ es) h g = (
+  subst (IsOnLevel views e.1.id.0)
+      (IsOnLevel-unique (views ++ v ∷ []) e.1.id.0 h.0.0 e.1.level (IsOnLevel-append views (v ∷ []) e.1.id.0 h.0.0 h.0.1) g.0) h.0.1,
+  levels-back views v es h.1 g.1,
+)
+
+module _ (es : List (List ℕ × Node)) (next : ℕ) (t : ViewTree) (name : List ℕ) (parent : ℕ) (is : tree_of es next ≡ with_view t name parent) where
+  abbrev added_view : LiveView
+  added_view = record { id = t.next; name = name; parent = Some parent }
+
+  views_are : map live_view es ≡ t.views ++ added_view ∷ []
+  views_are = ap (λ (u : ViewTree). u.views) is
+
+  count : length es ≡ length t.views + 1
+  count = sym (length-map es live_view) ∙ ap length views_are ∙ length-append t.views (added_view ∷ [])
+
+  views-back : map live_view (take (length es - 1) es) ≡ t.views
+  views-back =
+      let fewer : length es - 1 ≡ length t.views = omega (arith, count) in
+      sym (take-map live_view (length es - 1) es) ∙ ap (take (length es - 1)) views_are ∙ ap (λ n. take n (t.views ++ added_view ∷ [])) fewer ∙ take-append_seam t.views (added_view ∷ [])
+
+  next-back : next - 1 ≡ t.next
+  next-back =
+      let more : next ≡ t.next + 1 = ap (λ (u : ViewTree). u.next) is in
+      omega (arith, more)
+
+  pub tree_of-back : tree_of (take (length es - 1) es) (next - 1) ≡ t
+  tree_of-back = λ i. record { views = views-back i; next = next-back i }
+
+  pub AreKept-back : IsTree t → AreKept es next → AreKept (take (length es - 1) es) (next - 1)
+  AreKept-back whole kept =
+      let left : List (List ℕ × Node) = take (length es - 1) es in
+      let levels : All (λ w. (level : ℕ) × IsOnLevel t.views w.id level × (level ≤ 32)) (map live_view left) =
+      subst (All (λ w. (level : ℕ) × IsOnLevel t.views w.id level × (level ≤ 32))) (sym views-back) whole.levels in
+      let were : All (λ e. IsOnLevel (t.views ++ added_view ∷ []) e.1.id.0 e.1.level) left =
+      All-take (λ e. IsOnLevel (t.views ++ added_view ∷ []) e.1.id.0 e.1.level) (length es - 1) es
+      (subst (λ (views : List LiveView). All (λ e. IsOnLevel views e.1.id.0 e.1.level) es) views_are kept.levels) in
+      let are : All (λ e. IsOnLevel t.views e.1.id.0 e.1.level) left =
+      All-from_recursion (λ e. IsOnLevel t.views e.1.id.0 e.1.level) left
+      (levels-back t.views added_view left
+      (recursion_from_All (λ w. (level : ℕ) × IsOnLevel t.views w.id level × (level ≤ 32)) (map live_view left) levels)
+      (recursion_from_All (λ e. IsOnLevel (t.views ++ added_view ∷ []) e.1.id.0 e.1.level) left were)) in
+      record {
+        tree = subst IsTree (sym tree_of-back) whole;
+        levels = subst (λ (views : List LiveView). All (λ e. IsOnLevel views e.1.id.0 e.1.level) left) (sym views-back) are;
+      }

@@ -54,3 +54,11 @@ pub record IsTree (t : ViewTree) : Type 0 where
 -- the tree with one view more
 abbrev pub with_view : ViewTree → List ℕ → ℕ → ViewTree
 with_view t name parent = record { views = t.views ++ record { id = t.next; name = name; parent = Some parent } ∷ []; next = t.next + 1 }
+
+-- the last view was added to a tree
+pub record IsAdded (t : ViewTree) : Type 0 where
+  pub before : ViewTree
+  pub name : List ℕ
+  pub parent : ℕ
+  pub whole : IsTree before
+  pub is : t ≡ with_view before name parent

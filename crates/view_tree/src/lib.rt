@@ -10,6 +10,3 @@ pub use laws::level_is_unique;
 pub use stops::TreeStop;
 pub use tree::{DEPTH_LIMIT, ID_LIMIT, Tree, VIEW_LIMIT};
 pub use view::{View, ViewId};
-
-#[cfg(test)]
-mod tests;

@@ -1,7 +1,9 @@
 // The live views.
-ghost use Rattle.std.specs.Prelude.{◌≡◌, ◌≤◌, ◌++◌, ◌∷◌, [], None, ℕ, ◌+◌, ◌==◌, find, position, IfOk, IfSome, OnErr, OnOk, IfErr, IfNone, is_some, length, slice_get};
+ghost use Rattle.std.specs.Prelude.{◌≡◌, ◌≤◌, ◌<◌, ◌^◌, ◌+◌, ◌==◌, ℕ, List, [], ◌∷◌, ◌++◌, None, find, position};
+ghost use Rattle.std.specs.Prelude.{IfOk, IfSome, OnErr, OnOk, IfErr, IfNone, is_some, length, slice_get};
 ghost use Rattle.std.specs.Option.{option_map, option_and_then};
-ghost use Rattle.view_tree.specs.Views.{IsTree, IsOnLevel, HasParent, view_of, view_named, with_view, window};
+ghost use Rattle.view_tree.specs.Views.{ViewTree, IsTree, IsOnLevel, HasParent, IsAdded};
+ghost use Rattle.view_tree.specs.Views.{view_of, view_named, with_view, window};
 ghost use Rattle.view_tree.specs.Stops.{IsNewView, MayStop, is_full};
 
 use crate::stops::TreeStop;
@@ -182,6 +184,29 @@ impl Tree {
         self.table.add(name, node)?;
         self.next += 1;
         Ok(id)
+    }
+
+    /// The number that a new view of this name below this parent would take.
+    ///
+    /// It stops where `add` would be refused, at the same cause.
+    pub fn id_below(&self, name: &str, parent: ViewId) -> Result<ViewId, TreeStop>
+        ensures id { IfOk result (λ id. id.0 ≡ self.now.next) }
+        ensures small { IfOk result (λ id. id.0 < 2 ^ 29) }
+        ensures new { OnOk result (IsNewView self.now name.now parent.0) }
+        ensures refused { IfErr result (MayStop self.now name.now parent.0) }
+    {
+        self.level_below(name, parent)?;
+        Ok(ViewId(self.next))
+    }
+
+    /// Takes out the view that was added last. It takes no memory, and its number is free again.
+    pub fn take_back(&mut self)
+        requires { IsAdded self.old }
+        ensures { (before : ViewTree) (name : List ℕ) (parent : ℕ)
+            → self.old ≡ with_view before name parent → self.new ≡ before }
+    {
+        self.table.truncate(self.table.len() - 1);
+        self.next -= 1;
     }
 
     /// The same tree.
