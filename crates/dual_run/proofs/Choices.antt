@@ -1,5 +1,5 @@
 -- The marks with which the leaving one grows, and the least of their columns over their numbers.
-use Rattle.std.proofs.Common.{◌≡◌, ◌≢◌, ◌∙◌, ◌⊎◌, inl, inr, ℕ, ◌+◌, ◌<◌, ◌≤◌, List, length, slice_get, Some, ℤ, pos, ◌*ℤ◌, ◌-ℤ◌, ◌≤ℤ◌, ◌<ℤ◌, refl, sym, ap, subst, arith}
+use Rattle.std.proofs.Common.{◌≡◌, ◌≢◌, ◌∙◌, inl, inr, ℕ, ◌+◌, ◌<◌, ◌≤◌, List, length, slice_get, Some, ℤ, pos, ◌*ℤ◌, ◌-ℤ◌, ◌≤ℤ◌, ◌<ℤ◌, refl, sym, ap, subst, arith}
 use borrow.Author.Differences.{ints}
 use Rattle.std.proofs.lemmas.Bool.{cases_eq}
 use Rattle.std.proofs.lemmas.List.Elements.{All-from_recursion}
@@ -8,7 +8,7 @@ use Rattle.problem_core.specs.declared.parts.Mark.{Mark}
 use Rattle.problem_core.specs.declared.parts.Term.{Term}
 use Rattle.problem_core.specs.declared.parts.RowName.{RowName}
 use Rattle.problem_core.specs.declared.parts.Side.{Side}
-use Rattle.problem_core.specs.declared.parts.Side.TheVariants.{Under, Over}
+use Rattle.problem_core.specs.declared.parts.Side.TheVariants.{Under}
 use Rattle.problem_core.specs.declared.stops.What.TheVariants.{Mark as MarkOf}
 use Rattle.problem_core.specs.Layout.{Line, Problem, coefficient, lines}
 use Rattle.problem_core.specs.Corners.{IsIn, IsWritingOf, place, place_of}
@@ -26,7 +26,7 @@ use Rattle.dual_run.specs.declared.ratios.Choice.{Choice}
 use Rattle.dual_run.specs.Entering.{IsBeforeEntries, IsBeforeLine, IsBeforeMark, IsChoice, IsLesser, IsNoGreater, IsPositive}
 use Rattle.dual_run.specs.Leaving.{MayLeave}
 use Rattle.dual_run.proofs.Lesser.{lesser_self, lesser_through}
-use Rattle.dual_run.proofs.Lows.{mark_named}
+use Rattle.dual_run.proofs.Lows.{mark_named, same_or_other}
 use Rattle.dual_run.proofs.Orders.{contains_got}
 
 -- ---- one writing
@@ -76,23 +76,13 @@ before_through p at leave a b m x y h g w writes up r = lesser_through r.costs (
 up-not : (z : ℤ) → pos 0 <ℤ z → z ≢ pos 0
 up-not z up e = omega (arith, ints, up, e)
 
-pub before_line : (p : Problem) (at : List Mark) (leave : Mark) (f : Choice) (name : RowName) → IsBeforeMark p at leave f (record { row = name; side = Under }) → IsBeforeMark p at leave f (record { row = name; side = Over }) → IsBeforeLine p at leave f name
-before_line p at leave f name under over Under = under
-before_line p at leave f name under over Over = over
-
 pub line_through : (p : Problem) (at : List Mark) (leave : Mark) (a b : Choice) (name : RowName) → IsChoice p at leave a → IsChoice p at leave b → IsNoGreater p at a b → IsBeforeLine p at leave b name → IsBeforeLine p at leave a name
 line_through p at leave a b name x y h before side = before_through p at leave a b (record { row = name; side = side }) x y h (before side)
-
-same-or-other : (a b : Side) → (b ≡ a) ⊎ (b ≡ other_side a)
-same-or-other Under Under = inl refl
-same-or-other Under Over = inr refl
-same-or-other Over Under = inr refl
-same-or-other Over Over = inl refl
 
 -- the leaving mark doesn't grow with itself, and the other mark of its line is the choice
 pub own_before : (p : Problem) (at : List Mark) (leave : Mark) (f : Choice) → IsIn (place leave) at → IsChoice p at leave f → f.mark ≡ other_mark leave → IsBeforeLine p at leave f leave.row
 own_before p at leave f inside choice e side =
-    elim (same-or-other leave.side side) [
+    elim (same_or_other leave.side side) [
       | inl s ↦
           λ w writes up r.
           let low : pos 0 <ℤ coefficient (place leave) w.form = subst (λ (d : Side). pos 0 <ℤ coefficient (place_of leave.row d) w.form) s up in

@@ -56,7 +56,7 @@ none_at p at r m j kept mark none_there =
       | inr none ↦ r.unused j none (place m)
     ]
 
-up-less : (a b x y : ℤ) → pos 0 <ℤ a → pos 0 <ℤ x → y ≡ pos 0 → pos 0 <ℤ (a *ℤ x -ℤ b *ℤ y)
+pub up-less : (a b x y : ℤ) → pos 0 <ℤ a → pos 0 <ℤ x → y ≡ pos 0 → pos 0 <ℤ (a *ℤ x -ℤ b *ℤ y)
 up-less (negsuc a) b x y up above e = absurd (omega (arith, ints, up))
 up-less (pos a) b x y up above e =
     let one : pos 0 <ℤ (pos a *ℤ x) = mul_positive a x (omega (arith, ints, up)) above in
@@ -97,7 +97,7 @@ lesser_ratio p at a b f g kept x y front other first second less r =
     (above-by a.by b.by f.reduced g.reduced (r.costs k (place a.mark)) (r.costs k (place b.mark))
     (cost_there p at f.level a.mark f.reduced kept front.used x.mark front.reduced r k here) (cost_there p at g.level b.mark g.reduced kept other.used y.mark other.reduced r k other.reduced.1) less)
 
-column-up : (p : Problem) (at : List Mark) (r : Reduced p at) (m : Mark) → IsKeptCorner p at → NoNegativeColumn p at → IsMarkOf p m → IsLexNonnegative (λ i. r.costs i (place m))
+pub column-up : (p : Problem) (at : List Mark) (r : Reduced p at) (m : Mark) → IsKeptCorner p at → NoNegativeColumn p at → IsMarkOf p m → IsLexNonnegative (λ i. r.costs i (place m))
 column-up p at r m kept columns mark k none =
     elim (up_or_down (r.costs k (place m))) [
       | inl up ↦ up

@@ -5,4 +5,5 @@ pub mod FrontOrders
 pub mod Names
 pub mod Moved
 pub mod Choices
+pub mod Turns
 pub mod RunFacts

@@ -8,6 +8,7 @@ use lib.IntN.{*ℤ_comm}
 use Rattle.frac_core.specs.Fraction.{Fraction}
 use Rattle.frac_core.proofs.Integers.{mul_not_negative}
 use Rattle.problem_core.specs.declared.parts.Mark.{Mark}
+use Rattle.problem_core.specs.declared.parts.Side.{Side}
 use Rattle.problem_core.specs.declared.parts.Side.TheVariants.{Under, Over}
 use Rattle.problem_core.specs.declared.parts.RowName.{RowName}
 use Rattle.problem_core.specs.Layout.{Problem, lines}
@@ -16,14 +17,16 @@ use Rattle.problem_core.specs.Levels.{CostsAbove}
 use Rattle.problem_core.specs.Paths.{NoNegativeRequired}
 use Rattle.problem_core.proofs.CornerFacts.{is_place}
 use Rattle.problem_core.proofs.Forms.{each-impl}
+use Rattle.corner_laws.specs.Runs.{other_mark, other_side}
 use Rattle.corner_laws.proofs.ColumnSigns.{mark_line}
 use Rattle.corner_laws.proofs.Counting.{IsIn-from_is_place}
-use Rattle.corner_laws.proofs.LowestForms.{marks_are_fixed}
+use Rattle.corner_laws.proofs.DualRuns.{other_mark_grows}
+use Rattle.corner_laws.proofs.LowestForms.{column_has_writing, marks_are_fixed}
 use Rattle.corner_laws.proofs.WrittenValues.{contains_each}
 use Rattle.corner_laws.proofs.ZeroColumns.{not-in}
 use Rattle.corner.specs.Views.{HasValueAt, IsKeptCorner, IsMarkOf, IsNamed}
 use Rattle.corner_ends.proofs.Fronts.{up_or_down}
-use Rattle.corner_ends.proofs.Marks.{in_mark, one_mark}
+use Rattle.corner_ends.proofs.Marks.{in_mark, named_mark, one_mark}
 use Rattle.corner_ends.proofs.Signs.{low_from}
 use Rattle.dual_run.specs.Leaving.{AreLowLines, HasNoLow, IsLow, MayLeave}
 
@@ -95,9 +98,26 @@ last-or (z ∷ xs) x y (suc k, within, is) = elim (last-or xs x y (k, omega (ari
   | inr e ↦ inr e
 ]
 
-pub none_low : (p : Problem) (at : List Mark) (name : RowName) (under over : Mark) → under ≡ record { row = name; side = Under } → over ≡ record { row = name; side = Over } → (HasNegativeValue p at under → ⊥) → (HasNegativeValue p at over → ⊥) → HasNoLow p at name
-none_low p at name under over e f a b Under h = a (subst (HasNegativeValue p at) (sym e) h)
-none_low p at name under over e f a b Over h = b (subst (HasNegativeValue p at) (sym f) h)
+pub same_or_other : (a b : Side) → (b ≡ a) ⊎ (b ≡ other_side a)
+same_or_other Under Under = inl refl
+same_or_other Under Over = inr refl
+same_or_other Over Under = inr refl
+same_or_other Over Over = inl refl
+
+-- neither the mark nor the other one of its line has a negative value
+pub none_low : (p : Problem) (at : List Mark) (name : RowName) (m : Mark) → m.row ≡ name → (HasNegativeValue p at m → ⊥) → (HasNegativeValue p at (other_mark m) → ⊥) → HasNoLow p at name
+none_low p at name m e a b side h =
+    let here : HasNegativeValue p at (record { row = m.row; side = side }) = subst (λ (n : RowName). HasNegativeValue p at (record { row = n; side = side })) (sym e) h in
+    elim (same_or_other m.side side) [
+      | inl s ↦ a (subst (λ (d : Side). HasNegativeValue p at (record { row = m.row; side = d })) s here)
+      | inr o ↦ b (subst (λ (d : Side). HasNegativeValue p at (record { row = m.row; side = d })) o here)
+    ]
+
+pub named_at : (p : Problem) (name : RowName) (m : Mark) → m.row ≡ name → IsNamed p name → IsMarkOf p m
+named_at p name m e named = named_mark p m.row m.side (subst (IsNamed p) (sym e) named)
+
+pub outside_not_low : (p : Problem) (at : List Mark) (m : Mark) → IsMarkOf p m → (IsIn (place m) at → ⊥) → HasNegativeValue p at m → ⊥
+outside_not_low p at m mark out (x, stands, low) = out (inside-low p at m x mark stands low)
 
 -- ---- the listed lines
 
@@ -106,6 +126,13 @@ mark_named p m mark =
     let found = mark_line (lines p) (place m) mark in
     let same : record { row = found.2.name; side = found.0 } ≡ m = sym (one_mark m (record { row = found.2.name; side = found.0 }) found.5) in
     (found.1, found.2, found.3, found.4, ap (λ (n : Mark). n.row) same)
+
+-- a line has one inside mark at most
+pub other_not_low : (p : Problem) (at : List Mark) (m : Mark) → IsKeptCorner p at → IsIn (place m) at → HasNegativeValue p at (other_mark m) → ⊥
+other_not_low p at m kept inside =
+    let t = column_has_writing p at (place m) kept.corner kept.rays (inl (in_mark p at m kept inside)) in
+    outside_not_low p at (other_mark m) (named_mark p m.row (other_side m.side) (mark_named p m (in_mark p at m kept inside)))
+    (other_mark_grows p at m (record { scale = t.0; form = t.1; num = t.2; den = t.3 }) kept.whole kept.corner inside t.4).0
 
 -- where no line is listed no value is negative
 pub no_low_left : (p : Problem) (at : List Mark) (names : List RowName) → IsKeptCorner p at → names ≡ [] → AreLowLines p at names → NoNegativeValue p at

@@ -9,12 +9,13 @@ use Rattle.frac_core.proofs.Integers.{mul-zero_ℤ, mul_positive}
 use Rattle.problem_core.specs.declared.parts.Mark.{Mark}
 use Rattle.problem_core.specs.declared.parts.RowName.{RowName}
 use Rattle.problem_core.specs.declared.parts.RowName.TheVariants.{Held}
-use Rattle.problem_core.specs.declared.parts.Side.TheVariants.{Over}
+use Rattle.problem_core.specs.declared.parts.Side.{Side}
+use Rattle.problem_core.specs.declared.parts.Side.TheVariants.{Under, Over}
 use Rattle.problem_core.specs.declared.stops.What.TheVariants.{Mark as MarkOf}
 use Rattle.problem_core.specs.Layout.{Problem, coefficient, lines}
 use Rattle.problem_core.specs.Corners.{HasNegativeValue, IsIn, Point, SameMarks, StandsAt, Swap, exchanged, marks_of, one_column, place, place_of}
 use Rattle.problem_core.proofs.Forms.{each-impl}
-use Rattle.corner_laws.specs.Runs.{Writes, Writing}
+use Rattle.corner_laws.specs.Runs.{Writes, Writing, other_mark, other_side}
 use Rattle.corner_laws.proofs.Exchanged.{exchanged_in}
 use Rattle.corner_laws.proofs.LowestForms.{column_has_writing}
 use Rattle.corner_laws.proofs.RunPaths.{contains_in}
@@ -22,11 +23,12 @@ use Rattle.corner_laws.proofs.WrittenValues.{value_there}
 use Rattle.corner_lines.specs.Shifts.{IsShift, with_constant}
 use Rattle.corner_lines.proofs.Shifted.{raised, raised-other, same-marks, shift-small, unshift-solves}
 use Rattle.corner.proofs.MoverFacts.{moves_where}
-use Rattle.corner.specs.Views.{IsKeptCorner, IsNamed, MovesWith}
+use Rattle.corner.specs.Views.{IsKeptCorner, IsNamed, IsOutside, MovesWith}
 use Rattle.corner_ends.proofs.Signs.{low_from}
 use Rattle.corner_ends.proofs.Marks.{in_mark, named_mark, one_mark}
 use Rattle.dual_run.specs.Leaving.{AreLowLines, IsLow, ListsMovers, ListsShifted}
-use Rattle.dual_run.proofs.Lows.{mark_named, same_sign}
+use Rattle.dual_run.proofs.Lows.{mark_named, same_or_other, same_sign}
+use Rattle.dual_run.proofs.Turns.{opposite_numbers}
 
 -- ---- one mark
 
@@ -112,6 +114,60 @@ lows_after p q at new s old now kept e same lows lists own =
       named = lists.named lows.named;
       low = λ m low. low_after p at new s m old now kept same lows lists own low;
     })
+
+-- ---- after a turn
+
+none-other : (p : Problem) (at : List Mark) (c : ℕ) (name : RowName) (side : Side) (w : Writing) → IsKeptCorner p at → IsNamed p name → ((d : Side) → place_of name d ≢ c) → Writes p at c w → coefficient (place_of name side) w.form ≡ pos 0 → coefficient (place_of name (other_side side)) w.form ≡ pos 0
+none-other p at c name Under w kept named apart writes none =
+    let e = opposite_numbers p at c name w kept named apart writes in
+    omega (arith, ints, e, none)
+none-other p at c name Over w kept named apart writes none =
+    let e = opposite_numbers p at c name w kept named apart writes in
+    omega (arith, ints, e, none)
+
+none-inside : (p : Problem) (at : List Mark) (c : ℕ) (m : Mark) (w : Writing) → IsIn (place m) at → Writes p at c w → coefficient (place m) w.form ≡ pos 0
+none-inside p at c m w inside writes = elim (none_or ⊥ (coefficient (place m) w.form) (λ some. (writes.outside (place m) some).1 inside)) [
+  | inl e ↦ e
+  | inr never ↦ absurd never
+]
+
+-- no other line's mark moves with the other mark of an inside one's line
+none_turned : (p : Problem) (at : List Mark) (s : Swap) (n : Mark) (w : Writing) → IsKeptCorner p at → IsIn (place n) at → place n ≢ place s.leave → IsIn (place s.leave) at → IsOutside p at s.enter → s.enter.row ≡ s.leave.row → Writes p at (place n) w → coefficient (place s.enter) w.form ≡ pos 0
+none_turned p at s n w kept inside other leaves out e writes =
+    elim (same_or_other s.leave.side s.enter.side) [
+      | inl same ↦ absurd (out.1 (subst (λ (m : Mark). IsIn (place m) at) (sym (is-mark s.enter s.leave e same)) leaves))
+      | inr turned ↦
+          let is : s.enter ≡ other_mark s.leave = is-mark s.enter (other_mark s.leave) e turned in
+          subst (λ (m : Mark). coefficient (place m) w.form ≡ pos 0) (sym is)
+          (none-other p at (place n) s.leave.row s.leave.side w kept (subst (IsNamed p) e (mark_named p s.enter out.0)) (apart is) writes (none-inside p at (place n) s.leave w leaves writes))
+    ]
+  where
+    is-mark : (a b : Mark) → a.row ≡ b.row → a.side ≡ b.side → a ≡ b
+    is-mark a b f g = subst (λ (r : RowName). a ≡ record { row = r; side = b.side }) f (subst (λ (d : Side). a ≡ record { row = a.row; side = d }) g refl)
+
+    apart : s.enter ≡ other_mark s.leave → (d : Side) → place_of s.leave.row d ≢ place n
+    apart is d f = elim (same_or_other s.leave.side d) [
+      | inl g ↦ other (sym f ∙ ap (λ (k : Side). place_of s.leave.row k) g)
+      | inr g ↦ out.1 (subst (λ (c : ℕ). IsIn c at) (sym f ∙ ap (λ (k : Side). place_of s.leave.row k) g ∙ ap place (sym is)) inside)
+    ]
+
+low_turned : (p : Problem) (at new : List Mark) (s : Swap) (n : Mark) (low : List RowName) → IsKeptCorner p at → SameMarks new (exchanged s at) → AreLowLines p at low → IsLow p at s.leave → IsOutside p at s.enter → s.enter.row ≡ s.leave.row → IsLow p new n → Contains low n.row
+low_turned p at new s n low kept same lows leave out e here =
+    elim (exchanged_in s at (place n) (contains_in new (exchanged s at) (place n) same.0 here.inside)) [
+      | inl is ↦ subst (λ (m : Mark). Contains low m.row) (one_mark s.enter n is) (subst (Contains low) (sym e) (lows.low s.leave leave))
+      | inr before ↦
+          let f = form_of p at n kept before.0 in
+          lows.low n (record {
+            inside = before.0;
+            value = (let h = here.value in still_low p at new n f.w h.0 kept f.writes (after_apart p at new s f.w (place n) f.writes same (none_turned p at s n f.w kept before.0 before.1 leave.inside out e f.writes)) h.1 h.2);
+          })
+    ]
+
+pub lows_turned : (p : Problem) (at new : List Mark) (s : Swap) (low : List RowName) → IsKeptCorner p at → SameMarks new (exchanged s at) → AreLowLines p at low → IsLow p at s.leave → IsOutside p at s.enter → s.enter.row ≡ s.leave.row → AreLowLines p new low
+lows_turned p at new s low kept same lows leave out e = record {
+  named = lows.named;
+  low = λ m here. low_turned p at new s m low kept same lows leave out e here;
+}
 
 -- ---- after a change of a constant
 

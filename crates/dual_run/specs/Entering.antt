@@ -1,5 +1,6 @@
 -- Which mark has the least column over its number.
-use Rattle.std.specs.Prelude.{◌≡◌, ℕ, List, ℤ, pos, ◌*ℤ◌, ◌-ℤ◌, ◌<ℤ◌, All, AllPairs, Contains}
+use Rattle.std.specs.Prelude.{◌≡◌, ℕ, List, ℤ, pos, ◌*ℤ◌, ◌-ℤ◌, ◌≤ℤ◌, ◌<ℤ◌, All, AllPairs, Contains}
+use Rattle.std.specs.Prelude.{IfSome, IfNone}
 use Rattle.problem_core.specs.declared.parts.Mark.{Mark}
 use Rattle.problem_core.specs.declared.parts.Level.{Level}
 use Rattle.problem_core.specs.declared.parts.RowName.{RowName}
@@ -8,10 +9,11 @@ use Rattle.problem_core.specs.Layout.{Problem, coefficient}
 use Rattle.problem_core.specs.Certificates.{IsLexNonnegative}
 use Rattle.problem_core.specs.Corners.{place}
 use Rattle.corner_laws.specs.Runs.{Writes, Writing}
-use Rattle.corner.specs.Views.{IsInUse, IsMarkOf, IsOutside, IsStronger}
+use Rattle.corner.specs.Views.{HasNoFront, IsFrontOf, IsInUse, IsMarkOf, IsOutside, IsStronger}
 use Rattle.corner.specs.Entries.{HasEntry}
 use Rattle.corner_ends.specs.Columns.{Reduced}
 use Rattle.dual_run.specs.declared.ratios.Choice.{Choice}
+use Rattle.dual_run.specs.declared.ratios.Found.{Found}
 
 -- the levels at which lines stand, strongest first
 pub record AreLevels (p : Problem) (levels : List Level) : Type 0 where
@@ -29,6 +31,16 @@ pub record IsChoice (p : Problem) (at : List Mark) (leave : Mark) (f : Choice) :
   pub outside : IsOutside p at f.mark
   pub above : pos 0 <ℤ f.by
   pub by : (w : Writing) → Writes p at (place leave) w → f.by ≡ coefficient (place f.mark) w.form
+
+-- the front is that of the choice's mark
+pub record HasFront (p : Problem) (at : List Mark) (f : Found) : Type 0 where
+  pub some : IfSome f.front (IsFrontOf p at f.choice.mark)
+  pub none : IfNone f.front (HasNoFront p at f.choice.mark)
+
+-- it is a choice with its mark's front
+pub record IsFound (p : Problem) (at : List Mark) (leave : Mark) (f : Found) : Type 0 where
+  pub choice : IsChoice p at leave f.choice
+  pub front : HasFront p at f
 
 -- the leaving mark doesn't grow with this one
 abbrev pub NeverGrows : Problem → List Mark → Mark → Mark → Type 0
@@ -57,3 +69,23 @@ IsBeforeLine p at leave f name = (side : Side)
 -- nor than those of the lines that have a number in the leaving mark's writing
 abbrev pub IsBeforeEntries : Problem → List Mark → Mark → Choice → Type 0
 IsBeforeEntries p at leave f = (name : RowName) → HasEntry p at leave name → IsBeforeLine p at leave f name
+
+-- ---- what the required rows decide
+
+-- the mark costs at their level
+abbrev pub IsDear : Problem → List Mark → Mark → Type 0
+IsDear p at m = (r : Reduced p at) → pos 0 <ℤ r.costs 0 (place m)
+
+-- it doesn't
+abbrev pub IsFree : Problem → List Mark → Mark → Type 0
+IsFree p at m = (r : Reduced p at) → r.costs 0 (place m) ≤ℤ pos 0
+
+-- it does, if the leaving mark grows with it
+abbrev pub IsDearMark : Problem → List Mark → Mark → Mark → Type 0
+IsDearMark p at leave m = (w : Writing) → Writes p at (place leave) w
+    → pos 0 <ℤ coefficient (place m) w.form → IsDear p at m
+
+-- so do those of all lines that have a number in the leaving mark's writing
+abbrev pub AreDear : Problem → List Mark → Mark → Type 0
+AreDear p at leave = (name : RowName) → HasEntry p at leave name
+    → (side : Side) → IsDearMark p at leave (record { row = name; side = side })

@@ -9,7 +9,7 @@ use Rattle.problem_core.specs.declared.stops.What.{What}
 use Rattle.problem_core.specs.declared.stops.What.TheVariants.{Attr as AttrOf, Mark as MarkOf}
 use Rattle.problem_core.specs.declared.stops.What.TheVariants.{Level as LevelOf}
 use Rattle.problem_core.specs.Layout.{Problem}
-use Rattle.problem_core.specs.Corners.{HasNegativeValue, IsIn, place}
+use Rattle.problem_core.specs.Corners.{HasNegativeValue, IsIn, SameMarks, Swap, exchanged, place}
 use Rattle.problem_core.specs.Paths.{IsEndOf}
 use Rattle.corner.specs.Views.{IsNamed, MovesWith}
 
@@ -52,3 +52,8 @@ pub record ListsShifted (p : Problem) (at : List Mark) (id : ℕ) (old new : Lis
   pub own : IsIn (place (record { row = Held id; side = Over })) at → Contains new (Held id)
   pub has : (IsIn (place (record { row = Held id; side = Over })) at → ⊥) → (m : Mark)
       → MovesWith p at (record { row = Held id; side = Over }) (MarkOf m) → Contains new m.row
+
+-- after the exchange too each inside mark with a negative value is of a listed line
+abbrev pub KeepsLow : Problem → List Mark → Swap → List RowName → List RowName → Type 0
+KeepsLow p at s old new = AreLowLines p at old
+    → (later : List Mark) → SameMarks later (exchanged s at) → AreLowLines p later new

@@ -1,34 +1,21 @@
 // The outside mark that enters: the ratio test of the dual simplex method.
-ghost use Rattle.std.specs.Prelude.{◌≡◌, ◌≢◌, IfOk, IfSome, IfNone};
+ghost use Rattle.std.specs.Prelude.{◌≡◌, ◌≢◌, true, false, IfOk, IfSome, IfNone};
 ghost use Rattle.problem_core.specs.Corners as corners;
 ghost use Rattle.problem_core.specs.Corners.{IsIn, NoNegativeColumn};
 ghost use Rattle.problem_core.specs.declared.stops.What.TheVariants.{Mark as MarkOf};
 ghost use Rattle.corner_laws.specs.Runs.{IsDualSwap, other_mark};
-ghost use Rattle.corner.specs.Views.{IsOutside, MovesWith};
+ghost use Rattle.corner.specs.Views.{IsMarkOf, IsOutside, MovesWith};
 ghost use Rattle.corner.specs.Entries.{AreBothOutside};
-ghost use Rattle.dual_run.specs.Entering.{IsBeforeEntries, IsBeforeLine, IsBeforeMark, IsChoice};
-ghost use Rattle.dual_run.specs.Entering.{IsNoGreater, NeverGrows};
+ghost use Rattle.dual_run.specs.Entering.{AreDear, IsBeforeEntries, IsBeforeLine, IsBeforeMark, IsChoice};
+ghost use Rattle.dual_run.specs.Entering.{IsDear, IsFound, IsFree, IsNoGreater, NeverGrows};
 ghost use Rattle.dual_run.specs.Leaving.{MayLeave};
 
-use crate::ratios::{Choice, is_before};
+use crate::leaving::other;
+use crate::ratios::{Choice, Found, is_before};
 use corner::Corner;
-use corner_ends::{coefficient_of, is_above};
+use corner_ends::{coefficient_of, is_above, required_level};
 use frac_core::OutOfMemory;
 use problem_core::{Mark, RowName, Side, What};
-
-/// The same line's mark on the other side.
-fn other(mark: Mark) -> Mark
-    ensures { result ≡ other_mark mark }
-{
-    let side = match mark.side {
-        Side::Under => Side::Over,
-        Side::Over => Side::Under,
-    };
-    Mark {
-        row: mark.row,
-        side,
-    }
-}
 
 /// The other mark of the leaving one's line, which grows as much.
 fn own_choice(c: &Corner, leave: Mark) -> Choice
@@ -59,58 +46,85 @@ fn choice_at(c: &Corner, leave: Mark, mark: Mark) -> Option<Choice>
     }
 }
 
+/// The choice with its mark's front.
+fn found_at(c: &Corner, leave: Mark, choice: Choice) -> Found
+    requires { IsChoice c.now.problem c.now.marks leave choice }
+    ensures found { IsFound c.now.problem c.now.marks leave result }
+    ensures choice { result.choice ≡ choice }
+{
+    Found {
+        choice,
+        front: c.front(choice.mark),
+    }
+}
+
 /// The one of the two with the lesser column over its number.
-fn lesser(c: &Corner, leave: Mark, a: Choice, b: Choice) -> Result<Choice, OutOfMemory>
+fn lesser(c: &Corner, leave: Mark, a: Found, b: Found) -> Result<Found, OutOfMemory>
     requires columns { NoNegativeColumn c.now.problem c.now.marks }
-    requires a { IsChoice c.now.problem c.now.marks leave a }
-    requires b { IsChoice c.now.problem c.now.marks leave b }
-    ensures choice { IfOk result (IsChoice c.now.problem c.now.marks leave) }
-    ensures a { IfOk result (λ best. IsNoGreater c.now.problem c.now.marks best a) }
-    ensures b { IfOk result (λ best. IsNoGreater c.now.problem c.now.marks best b) }
+    requires a { IsFound c.now.problem c.now.marks leave a }
+    requires b { IsFound c.now.problem c.now.marks leave b }
+    ensures found { IfOk result (IsFound c.now.problem c.now.marks leave) }
+    ensures a { IfOk result (λ best. IsNoGreater c.now.problem c.now.marks best.choice a.choice) }
+    ensures b { IfOk result (λ best. IsNoGreater c.now.problem c.now.marks best.choice b.choice) }
 {
     let before = is_before(c, a, b)?;
     Ok(if before { a } else { b })
 }
 
 /// The one with the lesser column over its number, of what is found and a mark.
-fn better(c: &Corner, leave: Mark, found: Choice, mark: Mark) -> Result<Choice, OutOfMemory>
+fn better(c: &Corner, leave: Mark, found: Found, mark: Mark) -> Result<Found, OutOfMemory>
     requires columns { NoNegativeColumn c.now.problem c.now.marks }
     requires leave { IsIn (corners.place leave) c.now.marks }
-    requires found { IsChoice c.now.problem c.now.marks leave found }
+    requires found { IsFound c.now.problem c.now.marks leave found }
     requires mark { IsOutside c.now.problem c.now.marks mark }
-    ensures choice { IfOk result (IsChoice c.now.problem c.now.marks leave) }
-    ensures found { IfOk result (λ best. IsNoGreater c.now.problem c.now.marks best found) }
-    ensures mark { IfOk result (λ best. IsBeforeMark c.now.problem c.now.marks leave best mark) }
+    ensures found { IfOk result (IsFound c.now.problem c.now.marks leave) }
+    ensures least { IfOk result
+        (λ best. IsNoGreater c.now.problem c.now.marks best.choice found.choice) }
+    ensures mark { IfOk result (λ best. IsBeforeMark c.now.problem c.now.marks leave best.choice mark) }
 {
     match choice_at(c, leave, mark) {
         Some(next) => {
-            let best = lesser(c, leave, found, next)?;
+            let best = lesser(c, leave, found, found_at(c, leave, next))?;
             Ok(best)
         }
         None => Ok(found),
     }
 }
 
-/// The one with the least column over its number, of what is found and the marks of an outside line.
-fn better_of(c: &Corner, leave: Mark, found: Choice, row: RowName) -> Result<Choice, OutOfMemory>
-    requires columns { NoNegativeColumn c.now.problem c.now.marks }
+/// The mark of an outside line with which the leaving one may grow: with the other one it does not.
+fn growing(c: &Corner, leave: Mark, row: RowName) -> Mark
     requires leave { IsIn (corners.place leave) c.now.marks }
-    requires found { IsChoice c.now.problem c.now.marks leave found }
     requires row { AreBothOutside c.now.problem c.now.marks row }
-    ensures choice { IfOk result (IsChoice c.now.problem c.now.marks leave) }
-    ensures found { IfOk result (λ best. IsNoGreater c.now.problem c.now.marks best found) }
-    ensures line { IfOk result (λ best. IsBeforeLine c.now.problem c.now.marks leave best row) }
+    requires other { row ≢ leave.row }
+    ensures row { result.row ≡ row }
+    ensures other { NeverGrows c.now.problem c.now.marks leave (other_mark result) }
 {
+    c.show_corner();
     let under = Mark {
         row,
         side: Side::Under,
     };
-    let over = Mark {
-        row,
-        side: Side::Over,
-    };
-    let first = better(c, leave, found, under)?;
-    let best = better(c, leave, first, over)?;
+    if is_above(coefficient_of(c, leave, under)) {
+        under
+    } else {
+        other(under)
+    }
+}
+
+/// The one with the least column over its number, of what is found and the marks of an outside line.
+fn better_of(c: &Corner, leave: Mark, found: Found, row: RowName) -> Result<Found, OutOfMemory>
+    requires columns { NoNegativeColumn c.now.problem c.now.marks }
+    requires leave { IsIn (corners.place leave) c.now.marks }
+    requires found { IsFound c.now.problem c.now.marks leave found }
+    requires row { AreBothOutside c.now.problem c.now.marks row }
+    requires other { row ≢ leave.row }
+    ensures found { IfOk result (IsFound c.now.problem c.now.marks leave) }
+    ensures least { IfOk result
+        (λ best. IsNoGreater c.now.problem c.now.marks best.choice found.choice) }
+    ensures line { IfOk result (λ best. IsBeforeLine c.now.problem c.now.marks leave best.choice row) }
+{
+    let mark = growing(c, leave, row);
+    let best = better(c, leave, found, mark)?;
     Ok(best)
 }
 
@@ -125,15 +139,56 @@ fn least(c: &Corner, leave: Mark) -> Result<Choice, OutOfMemory>
 {
     c.show_corner();
     let count = c.entries(leave);
-    let mut found = own_choice(c, leave);
+    let mut found = found_at(c, leave, own_choice(c, leave));
     for i in 0..count {
         let best = better_of(c, leave, found, c.entry(leave, i))?;
         found = best;
     }
-    Ok(found)
+    Ok(found.choice)
 }
 
-/// The mark that enters.
+/// Whether a mark costs at the level of the required rows.
+fn is_dear(c: &Corner, mark: Mark) -> bool
+    requires { IsMarkOf c.now.problem mark }
+    ensures yes { result ≡ true → IsDear c.now.problem c.now.marks mark }
+    ensures no { result ≡ false → IsFree c.now.problem c.now.marks mark }
+{
+    c.show_corner();
+    is_above(c.reduced(required_level(), mark))
+}
+
+/// Whether all outside marks of other lines with which the leaving one grows cost at the level of the
+/// required rows.
+fn are_dear(c: &Corner, leave: Mark) -> bool
+    requires { IsIn (corners.place leave) c.now.marks }
+    ensures { result ≡ true → AreDear c.now.problem c.now.marks leave }
+{
+    c.show_corner();
+    let count = c.entries(leave);
+    for i in 0..count {
+        if !is_dear(c, growing(c, leave, c.entry(leave, i))) {
+            return false;
+        }
+    }
+    true
+}
+
+/// Whether of all marks with which the leaving one grows its line's other mark alone costs nothing at the
+/// level of the required rows.
+fn turns(c: &Corner, leave: Mark, own: Mark) -> bool
+    requires leave { IsIn (corners.place leave) c.now.marks }
+    requires own { IsMarkOf c.now.problem own }
+    ensures free { result ≡ true → IsFree c.now.problem c.now.marks own }
+    ensures dear { result ≡ true → AreDear c.now.problem c.now.marks leave }
+{
+    if is_dear(c, own) {
+        false
+    } else {
+        are_dear(c, leave)
+    }
+}
+
+/// The mark that enters. Mostly it is the leaving one's other mark, as the required rows alone decide.
 pub(crate) fn entering(c: &Corner, leave: Mark) -> Result<Mark, OutOfMemory>
     requires columns { NoNegativeColumn c.now.problem c.now.marks }
     requires leave { MayLeave c.now.problem c.now.marks leave }
@@ -143,6 +198,10 @@ pub(crate) fn entering(c: &Corner, leave: Mark) -> Result<Mark, OutOfMemory>
         (record { enter = m; leave = leave })) }
 {
     c.show_corner();
+    let own = other(leave);
+    if turns(c, leave, own) {
+        return Ok(own);
+    }
     let best = least(c, leave)?;
     Ok(best.mark)
 }

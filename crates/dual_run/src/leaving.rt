@@ -1,13 +1,28 @@
 // The inside mark that leaves, of the lines whose values may be negative.
-ghost use Rattle.std.specs.Prelude.{◌≡◌, IfSome, IfNone, OnOk, Contains, true, false};
+ghost use Rattle.std.specs.Prelude.{◌≡◌, IfSome, IfNone, OnOk, true, false};
 ghost use Rattle.problem_core.specs.Corners.{HasNegativeValue, NoNegativeValue};
+ghost use Rattle.corner_laws.specs.Runs.{other_mark};
 ghost use Rattle.corner.specs.Views.{IsMarkOf, IsNamed, IsOutside};
-ghost use Rattle.dual_run.specs.Leaving.{AreLowLines, HasNoLow, IsLow, ListsMovers, listed};
+ghost use Rattle.dual_run.specs.Leaving.{AreLowLines, HasNoLow, IsLow, KeepsLow, ListsMovers, listed};
 
 use corner::Corner;
 use corner_ends::is_below;
 use frac_core::OutOfMemory;
 use problem_core::{Mark, RowName, Side, What};
+
+/// The same line's mark on the other side.
+pub(crate) fn other(mark: Mark) -> Mark
+    ensures { result ≡ other_mark mark }
+{
+    let side = match mark.side {
+        Side::Under => Side::Over,
+        Side::Over => Side::Under,
+    };
+    Mark {
+        row: mark.row,
+        side,
+    }
+}
 
 /// Whether the mark's value is negative.
 fn is_low(c: &Corner, mark: Mark) -> bool
@@ -19,24 +34,32 @@ fn is_low(c: &Corner, mark: Mark) -> bool
     is_below(c.value(mark).num())
 }
 
+/// The mark of the line that is inside, or its over mark: the other one has no negative value.
+fn standing(c: &Corner, row: RowName) -> Mark
+    requires { IsNamed c.now.problem row }
+    ensures row { result.row ≡ row }
+    ensures other { HasNegativeValue c.now.problem c.now.marks (other_mark result) → ⊥ }
+{
+    c.show_corner();
+    let under = Mark {
+        row,
+        side: Side::Under,
+    };
+    if c.is_inside(under) {
+        under
+    } else {
+        other(under)
+    }
+}
+
 /// The mark of the line whose value is negative.
 fn low_of(c: &Corner, row: RowName) -> Option<Mark>
     requires { IsNamed c.now.problem row }
     ensures some { IfSome result (IsLow c.now.problem c.now.marks) }
     ensures none { IfNone result (HasNoLow c.now.problem c.now.marks row) }
 {
-    let under = Mark {
-        row,
-        side: Side::Under,
-    };
-    let over = Mark {
-        row,
-        side: Side::Over,
-    };
-    if is_low(c, under) {
-        return Some(under);
-    }
-    if is_low(c, over) { Some(over) } else { None }
+    let mark = standing(c, row);
+    if is_low(c, mark) { Some(mark) } else { None }
 }
 
 /// A mark with a negative value. Lines without one are taken off the list, whose last one is looked at first.
@@ -74,20 +97,31 @@ pub(crate) fn list_movers(c: &Corner, low: &mut Vec<RowName>, mark: Mark) -> Res
 {
     c.show_corner();
     let count = c.movers(mark);
+    low.reserve(count)?;
     for i in 0..count {
         list_what(low, c.mover(mark, i))?;
     }
     Ok(())
 }
 
-/// Lists the lines whose values change where an outside mark enters: its own, and those of the inside marks
-/// that move with it.
-pub(crate) fn list_swap(c: &Corner, low: &mut Vec<RowName>, enter: Mark) -> Result<(), OutOfMemory>
-    requires { IsOutside c.now.problem c.now.marks enter }
-    ensures movers { OnOk result
-        (ListsMovers c.now.problem c.now.marks enter low.old.items low.new.items) }
-    ensures own { OnOk result (Contains low.new.items enter.row) }
+/// Lists the lines whose values change where the one mark enters for the other, whose line is listed: that of
+/// the entering one, and those of the inside marks that move with it. Where both are of one line no other
+/// value changes.
+pub(crate) fn list_swap(
+    c: &Corner,
+    low: &mut Vec<RowName>,
+    enter: Mark,
+    leave: Mark,
+) -> Result<(), OutOfMemory>
+    requires enter { IsOutside c.now.problem c.now.marks enter }
+    requires leave { IsLow c.now.problem c.now.marks leave }
+    ensures { OnOk result (KeepsLow c.now.problem c.now.marks (record { enter = enter; leave = leave })
+        low.old.items low.new.items) }
 {
+    c.show_corner();
+    if enter.row == leave.row {
+        return Ok(());
+    }
     list_movers(c, low, enter)?;
     low.push(enter.row)?;
     Ok(())

@@ -7,7 +7,7 @@ ghost use Rattle.problem_core.specs.Corners.{NoNegativeColumn};
 ghost use Rattle.problem_core.specs.Levels.{IsLevelAt};
 ghost use Rattle.corner.specs.Views.{IsFrontOf, IsInUse, IsMarkOf};
 ghost use Rattle.corner_ends.specs.Columns.{Reduced};
-ghost use Rattle.dual_run.specs.Entering.{AreLevels, IsNoGreater, IsPositive};
+ghost use Rattle.dual_run.specs.Entering.{AreLevels, HasFront, IsNoGreater, IsPositive};
 
 use corner::{Corner, Front};
 use corner_ends::product;
@@ -20,6 +20,13 @@ use std::cmp::Ordering;
 pub(crate) struct Choice {
     pub mark: Mark,
     pub by: i64,
+}
+
+/// A choice with the front of its mark, None where this costs nothing.
+#[derive(Clone, Copy, Debug)]
+pub(crate) struct Found {
+    pub choice: Choice,
+    pub front: Option<Front>,
 }
 
 /// The order of two marks' reduced costs at a level, each over its number.
@@ -86,38 +93,44 @@ fn front_order(c: &Corner, a: Choice, f: Front, b: Choice, g: Front) -> Ordering
 }
 
 /// The order of two columns over their numbers, Equal where levels behind their fronts decide.
-fn order(c: &Corner, a: Choice, b: Choice) -> Ordering
+fn order(c: &Corner, a: Found, b: Found) -> Ordering
     requires columns { NoNegativeColumn c.now.problem c.now.marks }
-    requires a { IsPositive c.now.problem a }
-    requires b { IsPositive c.now.problem b }
-    ensures less { result ≡ IsLess → IsNoGreater c.now.problem c.now.marks a b }
-    ensures greater { result ≡ IsGreater → IsNoGreater c.now.problem c.now.marks b a }
+    requires a { IsPositive c.now.problem a.choice }
+    requires b { IsPositive c.now.problem b.choice }
+    requires f { HasFront c.now.problem c.now.marks a }
+    requires g { HasFront c.now.problem c.now.marks b }
+    ensures less { result ≡ IsLess → IsNoGreater c.now.problem c.now.marks a.choice b.choice }
+    ensures greater { result ≡ IsGreater → IsNoGreater c.now.problem c.now.marks b.choice a.choice }
 {
     c.show_corner();
-    match c.front(a.mark) {
+    match a.front {
         None => Ordering::Less,
-        Some(f) => match c.front(b.mark) {
+        Some(f) => match b.front {
             None => Ordering::Greater,
-            Some(g) => front_order(c, a, f, b, g),
+            Some(g) => front_order(c, a.choice, f, b.choice, g),
         },
     }
 }
 
 /// Whether the first column over its number is no greater than the second; if not, the second is no greater
 /// than the first. The levels are listed only where the fronts are equal.
-pub(crate) fn is_before(c: &Corner, a: Choice, b: Choice) -> Result<bool, OutOfMemory>
+pub(crate) fn is_before(c: &Corner, a: Found, b: Found) -> Result<bool, OutOfMemory>
     requires columns { NoNegativeColumn c.now.problem c.now.marks }
-    requires a { IsPositive c.now.problem a }
-    requires b { IsPositive c.now.problem b }
-    ensures yes { IfOk result (λ yes. yes ≡ true → IsNoGreater c.now.problem c.now.marks a b) }
-    ensures no { IfOk result (λ yes. yes ≡ false → IsNoGreater c.now.problem c.now.marks b a) }
+    requires a { IsPositive c.now.problem a.choice }
+    requires b { IsPositive c.now.problem b.choice }
+    requires f { HasFront c.now.problem c.now.marks a }
+    requires g { HasFront c.now.problem c.now.marks b }
+    ensures yes { IfOk result
+        (λ yes. yes ≡ true → IsNoGreater c.now.problem c.now.marks a.choice b.choice) }
+    ensures no { IfOk result
+        (λ yes. yes ≡ false → IsNoGreater c.now.problem c.now.marks b.choice a.choice) }
 {
     match order(c, a, b) {
         Ordering::Less => Ok(true),
         Ordering::Greater => Ok(false),
         Ordering::Equal => {
             let levels = c.levels()?;
-            Ok(is_before_at(c, &levels, a, b))
+            Ok(is_before_at(c, &levels, a.choice, b.choice))
         }
     }
 }

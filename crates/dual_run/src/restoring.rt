@@ -69,7 +69,9 @@ pub fn restore(alloc: Global, c: &mut Corner, low: Vec<RowName>, budget: u64) ->
         (IsStopOf true c.old.problem c.old.problem.rows (FromHere c.old.marks) budget) }
 {
     c.show_corner();
-    let mut run = Run::of(alloc, c);
+    let Ok(mut run) = Run::of(alloc, c, low.len()) else {
+        return Err(RunStop::OutOfMemory);
+    };
     let mut low = low;
     loop {
         match next(alloc, c, &mut low) {

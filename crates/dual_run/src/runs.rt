@@ -28,17 +28,15 @@ pub(crate) struct Run {
 }
 
 impl Run {
-    /// The run of no exchange from the corner.
-    pub fn of(alloc: Global, c: &Corner) -> Run
+    /// The run of no exchange from the corner, with room for so many.
+    pub fn of(alloc: Global, c: &Corner, room: usize) -> Result<Run, OutOfMemory>
         requires { NoNegativeColumn c.now.problem c.now.marks }
-        ensures none { result.swaps.items ≡ [] }
-        ensures run { IsRunOf c.now.problem c.now.marks result c.now.marks }
+        ensures none { IfOk result (λ run. run.swaps.items ≡ []) }
+        ensures run { IfOk result (λ run. IsRunOf c.now.problem c.now.marks run c.now.marks) }
     {
         c.show_corner();
-        Run {
-            alloc,
-            swaps: Vec::new(alloc),
-        }
+        let swaps = Vec::with_capacity(alloc, room)?;
+        Ok(Run { alloc, swaps })
     }
 
     /// Whether it has as many exchanges as the budget.
@@ -139,7 +137,7 @@ impl Run {
         let Ok(enter) = entering(c, leave) else {
             return Err(RunStop::OutOfMemory);
         };
-        let Ok(()) = list_swap(c, low, enter) else {
+        let Ok(()) = list_swap(c, low, enter, leave) else {
             return Err(RunStop::OutOfMemory);
         };
         match c.swap(enter, leave) {

@@ -1,9 +1,11 @@
-use Rattle.std.proofs.Common.{arith}
-use Rattle.dual_run.proofs.Names.{all_first, none_first, one_first}
+use Rattle.std.proofs.Common.{rules, ◌≡◌, arith, subst, sym}
+use Rattle.dual_run.proofs.Names.{ListsFirst, all_first, none_first, one_first}
 use Rattle.dual_run.proofs.leaving.list_movers.Goals as goal
 
 pub loop-i-init : goal.loop-i-init
-loop-i-init c = none_first c.args.c.now c.args.mark c.args.low.now.items
+loop-i-init c =
+    let same : c.reserve.new.self.items ≡ c.args.low.now.items = search rules in
+    subst (ListsFirst c.args.c.now c.args.mark 0 c.args.low.now.items) (sym same) (none_first c.args.c.now c.args.mark c.args.low.now.items)
 
 pub mover-requires-clause-within : goal.mover-requires-clause-within
 mover-requires-clause-within c =

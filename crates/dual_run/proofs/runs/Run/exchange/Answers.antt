@@ -8,8 +8,8 @@ use Rattle.corner.specs.Views.{CornerView, in_order}
 use Rattle.corner.specs.Changes.{IsUnfitStop}
 use Rattle.corner_ends.specs.Runs.{FromHere}
 use Rattle.corner_ends.proofs.MarkOrders.{last_same, same_back, unfit_same}
+use Rattle.dual_run.specs.Leaving.{AreLowLines}
 use Rattle.dual_run.specs.Steps.{HasRun, IsRunOf}
-use Rattle.dual_run.proofs.Moved.{lows_after}
 use Rattle.dual_run.proofs.RunFacts.{path_more, run_more}
 use Rattle.dual_run.proofs.runs.Run.exchange.Goals as goal
 
@@ -26,8 +26,8 @@ returns-in-Ok-push-clause-run c = λ first run.
 
 pub returns-in-Ok-push-clause-low : goal.returns-in-Ok-push-clause-low
 returns-in-Ok-push-clause-low c =
-    lows_after c.args.c.now.problem c.swap.new.self.problem c.args.c.now.marks c.swap.new.self.marks (record { enter = c.in-Ok.enter; leave = c.args.leave }) c.args.low.now.items c.list_swap.new.low.items
-    c.show_corner.ensures.kept c.in-Ok-swap.ensures.problem c.in-Ok-swap.ensures.marks c.requires.low c.in-Ok-list_swap.ensures.movers c.in-Ok-list_swap.ensures.own
+    subst (λ (p : Problem). AreLowLines p c.swap.new.self.marks c.list_swap.new.low.items) (sym c.in-Ok-swap.ensures.problem)
+    (c.in-Ok-list_swap.ensures c.requires.low c.swap.new.self.marks c.in-Ok-swap.ensures.marks)
 
 pub returns-in-Err-UnfitAt-clause-stop : goal.returns-in-Err-UnfitAt-clause-stop
 returns-in-Err-UnfitAt-clause-stop c = λ first run budget short.
