@@ -6,4 +6,5 @@ pub mod ClaimLines
 pub mod ClaimTexts
 pub mod Cut
 pub mod CutLines
+pub mod PathTexts
 pub mod Seen

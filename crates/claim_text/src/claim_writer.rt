@@ -11,7 +11,7 @@ use frac_core::{Frac, OutOfMemory};
 use problem_core::{Level, RowName, Values};
 use std::alloc::Global;
 
-fn put_row_name(text: &mut String, row: RowName) -> Result<(), OutOfMemory>
+pub(crate) fn put_row_name(text: &mut String, row: RowName) -> Result<(), OutOfMemory>
     ensures { IfOk result (λ _. string_bytes text.new ≡ string_bytes text.old ++ row_word row) }
 {
     match row {
@@ -21,7 +21,7 @@ fn put_row_name(text: &mut String, row: RowName) -> Result<(), OutOfMemory>
     Ok(())
 }
 
-fn put_level_name(text: &mut String, level: Level) -> Result<(), OutOfMemory>
+pub(crate) fn put_level_name(text: &mut String, level: Level) -> Result<(), OutOfMemory>
     ensures { IfOk result (λ _. string_bytes text.new ≡ string_bytes text.old ++ level_word level) }
 {
     match level {
@@ -111,16 +111,42 @@ fn put_conflict(text: &mut String, conflict: &Conflict) -> Result<(), OutOfMemor
     put_bys(text, conflict.by())
 }
 
-// The text of a claim, apart.
-fn text_of(alloc: Global, claim: &Claim) -> Result<String, OutOfMemory>
-    ensures { IfOk result (λ text. string_bytes text ≡ claim_text claim.now) }
+// The text of a conflict, apart.
+fn conflict_apart(alloc: Global, conflict: &Conflict) -> Result<String, OutOfMemory>
+    ensures { IfOk result (λ text. string_bytes text ≡ text_of_lines (conflict_lines conflict.now)) }
 {
     let mut text = String::new(alloc);
-    match claim {
-        Claim::IsBest { values, best } => put_best(&mut text, values, best)?,
-        Claim::IsConflict(conflict) => put_conflict(&mut text, conflict)?,
-    }
+    put_conflict(&mut text, conflict)?;
     Ok(text)
+}
+
+// The text of values with a certificate, apart.
+fn best_apart(alloc: Global, values: &Values, best: &Best) -> Result<String, OutOfMemory>
+    ensures { IfOk result (λ text. string_bytes text ≡ text_of_lines (best_lines values.now best.now)) }
+{
+    let mut text = String::new(alloc);
+    put_best(&mut text, values, best)?;
+    Ok(text)
+}
+
+/// Appends the lines of a conflict. After want of memory nothing was appended.
+pub fn conflict_text(conflict: &Conflict, out: &mut Vec<u8>) -> Result<(), OutOfMemory>
+    ensures written { IfOk result
+        (λ _. out.new.items ≡ out.old.items ++ text_of_lines (conflict_lines conflict.now)) }
+    ensures unchanged { OnErr result (out.new.items ≡ out.old.items) }
+{
+    let text = conflict_apart(*out.allocator(), conflict)?;
+    Ok(out.extend_from_slice(text.as_bytes())?)
+}
+
+// Appends the lines of values with a certificate.
+fn best_text(values: &Values, best: &Best, out: &mut Vec<u8>) -> Result<(), OutOfMemory>
+    ensures written { IfOk result
+        (λ _. out.new.items ≡ out.old.items ++ text_of_lines (best_lines values.now best.now)) }
+    ensures unchanged { OnErr result (out.new.items ≡ out.old.items) }
+{
+    let text = best_apart(*out.allocator(), values, best)?;
+    Ok(out.extend_from_slice(text.as_bytes())?)
 }
 
 /// Appends the lines of a claim. After want of memory nothing was appended.
@@ -128,6 +154,8 @@ pub fn cert_text(claim: &Claim, out: &mut Vec<u8>) -> Result<(), OutOfMemory>
     ensures written { IfOk result (λ _. out.new.items ≡ out.old.items ++ claim_text claim.now) }
     ensures unchanged { OnErr result (out.new.items ≡ out.old.items) }
 {
-    let text = text_of(*out.allocator(), claim)?;
-    Ok(out.extend_from_slice(text.as_bytes())?)
+    match claim {
+        Claim::IsBest { values, best } => best_text(values, best, out),
+        Claim::IsConflict(conflict) => conflict_text(conflict, out),
+    }
 }

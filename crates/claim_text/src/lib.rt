@@ -1,4 +1,4 @@
-//! Problems and claims as text, and their readers.
+//! Problems, claims and paths as text, and readers of problems and claims.
 #![tactic(auto)]
 
 mod attributes;
@@ -14,6 +14,7 @@ mod fields;
 mod items;
 mod line_writers;
 mod numbers;
+mod path_writer;
 mod problem_reader;
 mod problem_writer;
 mod row_lines;
@@ -25,11 +26,9 @@ mod words;
 
 pub use claim::Claim;
 pub use claim_reader::read_claim;
-pub use claim_writer::cert_text;
+pub use claim_writer::{cert_text, conflict_text};
 pub use cut::{CheckInput, cut_input};
+pub use path_writer::{path_text, unfit_text};
 pub use problem_reader::read_problem;
 pub use problem_writer::{problem_text, rows_text};
 pub use stops::ReadStop;
-
-#[cfg(test)]
-mod tests;
