@@ -1,6 +1,7 @@
 -- The attributes of views.
-use Rattle.std.proofs.Common.{◌≡◌, ℕ, ◌+◌, ◌*◌, ◌^◌, ◌<◌, ◌≤◌, List, [], ◌∷◌, ◌++◌, length, map, append_assoc, Some, refl, sym, ap, subst, ◌∙◌, arith, All}
+use Rattle.std.proofs.Common.{◌≡◌, ℕ, ◌+◌, ◌*◌, ◌^◌, ◌<◌, ◌≤◌, List, [], ◌∷◌, ◌++◌, length, map, append_assoc, Some, refl, sym, ap, subst, ◌∙◌, arith, All, inl, inr, length-append}
 use Rattle.std.specs.List.{Contains, slice_get, AllByRecursion as Each}
+use Rattle.std.proofs.lemmas.Bool.{cases_lt}
 use Rattle.std.proofs.lemmas.List.{append-nil}
 use Rattle.std.proofs.lemmas.Option.{none-some, same_Some}
 use Rattle.std.proofs.lemmas.List.Elements.{recursion_from_All, All-from_recursion, All-weaker, Contains-append_left}
@@ -9,6 +10,9 @@ use Rattle.problem_core.specs.Kept.{IsNumber}
 use Rattle.view_tree.specs.Views.{LiveView, ViewTree, IsTree, window}
 use Rattle.view_tree.specs.Views as tree
 use Rattle.session_undo.specs.Attributes.{view_attributes, attributes_of, IsGrown}
+use Rattle.session_undo.specs.Kept.{AreWithin}
+use Rattle.session_undo.specs.Machine.{HasAllViews}
+use Rattle.session_undo.specs.Scene.{State}
 use Rattle.session_undo.proofs.Lists.{pairs-nil, four-rising, all-unmapped}
 use Rattle.session_undo.proofs.Wholes.{MayBeNew}
 
@@ -23,6 +27,17 @@ grown t new name parent id is new_is added id_is = record {
   attributes = ap (λ (u : ViewTree). attributes_of u.views) added ∙ attributes-more t.views (record { id = t.next; name = name; parent = Some parent }) ∙ ap (λ (n : ℕ). attributes_of t.views ++ view_attributes n) (sym id_is);
   above = subst (λ (n : ℕ). All (λ v. v.id < n) t.views) (sym id_is) is.below;
   few = new_is.few;
+}
+
+-- a view that the session has room for
+pub grown-within : (s : State) (name : List ℕ) (above id : ℕ) → AreWithin s.limits → IsTree s.scene.tree → (HasAllViews s → ⊥) → id ≡ s.scene.tree.next → IsGrown s.scene.tree.views (tree.with_view s.scene.tree name above).views id
+grown-within s name above id within is room id_is = record {
+  attributes = attributes-more s.scene.tree.views (record { id = s.scene.tree.next; name = name; parent = Some above }) ∙ ap (λ (n : ℕ). attributes_of s.scene.tree.views ++ view_attributes n) (sym id_is);
+  above = subst (λ (n : ℕ). All (λ v. v.id < n) s.scene.tree.views) (sym id_is) is.below;
+  few = elim (cases_lt (length s.scene.tree.views) s.limits.views) [
+    | inl less ↦ omega (arith, less, within.views, length-append s.scene.tree.views (record { id = s.scene.tree.next; name = name; parent = Some above } ∷ []))
+    | inr many ↦ absurd (room (inl many))
+  ];
 }
 
 -- ---- how great they are

@@ -316,3 +316,9 @@ module _ (old : State) (w h : Fraction) (End : Scene → Reply → State → Typ
 
   pub window-passed : (reply : Reply) (new : State) → (IsFarSize old.scene.held w h → ⊥) → End (with_window old.scene w h) reply new → TriedWindow old w h End reply new
   window-passed reply new near end = inr (room, inr (near, end))
+
+-- a cause stays one for whatever end
+pub window-causes : (old : State) (w h : Fraction) (End : Scene → Reply → State → Type 0) (reply : Reply) (new : State) → TriedWindow old w h NoEnd reply new → TriedWindow old w h End reply new
+window-causes old w h End reply new (inl x) = inl x
+window-causes old w h End reply new (inr (a, inl x)) = inr (a, inl x)
+window-causes old w h End reply new (inr (a, inr (b, never))) = absurd never

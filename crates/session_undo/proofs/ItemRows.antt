@@ -1,7 +1,8 @@
 -- The rows of what is held.
-use Rattle.std.proofs.Common.{◌≡◌, ℕ, zero, suc, ◌+◌, ◌<◌, Bool, true, false, true≢false, arith, length-append, cond, List, [], ◌∷◌, ◌++◌, take, length, filter, refl, sym, ap, ◌∙◌, subst, append_assoc, All}
+use Rattle.std.proofs.Common.{◌≡◌, ℕ, zero, suc, ◌+◌, ◌<◌, ◌≤◌, Bool, true, false, true≢false, arith, length-append, cond, List, [], ◌∷◌, ◌++◌, take, length, filter, refl, sym, ap, ◌∙◌, subst, append_assoc, All}
 use Rattle.std.proofs.Math.ListN.{get_or}
-use Rattle.std.proofs.lemmas.List.{append-nil, take_more, map-append}
+use Rattle.std.proofs.lemmas.List.{append-nil, length-map, take_more, map-append}
+use Rattle.std.proofs.lemmas.List.Sums.{count_by-le-length, length-filter}
 use Rattle.std.specs.List.{AllByRecursion as Each}
 use Rattle.std.proofs.lemmas.List.Elements.{recursion_from_All, All-from_recursion}
 use Rattle.std.specs.Prelude.{IfErr}
@@ -131,6 +132,9 @@ count-more items i item within read =
     ap line_count (line-more items i item within read) ∙ ap length (filter-more is_line (items_of (take i items)) (item_of item))
     ∙ length-append (filter is_line (items_of (take i items))) (cond (is_line (item_of item)) (item_of item ∷ []) [])
     ∙ ap (λ (n : ℕ). line_count (items_of (take i items)) + n) (last-count (is_line (item_of item)) (item_of item))
+
+pub few-lines : (items : List declared.Item) → line_count (items_of items) ≤ length items
+few-lines items = omega (arith, length-filter is_line (items_of items), count_by-le-length is_line (items_of items), length-map items item_of)
 
 size-last : (held : List Item) (item : Item) → has_size held ≡ false → has_size (held ++ item ∷ []) ≡ is_size item
 size-last [] item none = last (is_size item)

@@ -1,12 +1,13 @@
 -- Stays that move to the values of their attributes.
-use Rattle.std.proofs.Common.{◌≡◌, ℕ, suc, ◌<◌, Bool, cond, List, [], ◌∷◌, ◌++◌, map, refl, sym, ap, ap₂, ◌∙◌, subst, arith, All, eq-eqb, ne_eqb}
+use Rattle.std.proofs.Common.{◌≡◌, ℕ, suc, ◌+◌, ◌<◌, Bool, cond, List, [], ◌∷◌, ◌++◌, map, length, take, get_or, refl, sym, ap, ap₂, ◌∙◌, subst, arith, All, eq-eqb, ne_eqb}
 use Rattle.std.specs.List.{AllByRecursion as Each}
-use Rattle.std.proofs.lemmas.List.{append-nil, map-append}
+use Rattle.std.proofs.lemmas.List.{append-nil, map-append, map_more}
 use Rattle.std.proofs.lemmas.List.Elements.{recursion_from_All, All-map}
 use Rattle.frac_core.specs.Fraction.{Fraction}
 use Rattle.problem_core.specs.declared.parts.Stay.{Stay}
 use Rattle.problem_core.specs.Gaps.{value_of}
 use Rattle.problem_core.specs.Kept.{AreRising}
+use Rattle.problem_core.specs.Window.{zero_fraction}
 use Rattle.layout_solver.specs.Layouts.{stays_at, zeros}
 use Rattle.session_undo.specs.Scene.{moved, new_stays, new_values}
 use Rattle.session_undo.proofs.Lists.{all-unmapped, pairs-tail}
@@ -14,7 +15,7 @@ use Rattle.session_undo.proofs.Lists.{all-unmapped, pairs-tail}
 abbrev at : ℕ × Fraction → ℕ
 at v = v.0
 
-abbrev stay : ℕ → Fraction → Stay
+abbrev pub stay : ℕ → Fraction → Stay
 stay attr target = record { attr = attr; target = target }
 
 -- a value of an attribute without a stay moves none
@@ -50,3 +51,22 @@ moved-still stays values same rising = moved-is stays values same rising ∙ ap 
 pub moved-more : (stays : List Stay) (values : List (ℕ × Fraction)) (id : ℕ) → map at values ≡ map (λ s. s.attr) stays → AreRising values → moved stays values ++ new_stays id ≡ stays_at (values ++ new_values id)
 moved-more stays values id same rising =
     ap (λ (ss : List Stay). ss ++ new_stays id) (moved-is stays values same rising) ∙ sym (map-append (λ (v : ℕ × Fraction). stay v.0 v.1) values (new_values id))
+
+-- some attributes are new
+pub moved-added : (stays : List Stay) (values : List (ℕ × Fraction)) (attrs : List ℕ) → map at values ≡ map (λ s. s.attr) stays → AreRising values → moved stays values ++ stays_at (zeros attrs) ≡ stays_at (values ++ zeros attrs)
+moved-added stays values attrs same rising =
+    ap (λ (ss : List Stay). ss ++ stays_at (zeros attrs)) (moved-is stays values same rising) ∙ sym (map-append (λ (v : ℕ × Fraction). stay v.0 v.1) values (zeros attrs))
+
+-- the stay at the next place moves
+pub moved-next : (stays : List Stay) (values : List (ℕ × Fraction)) (i : ℕ) (s : Stay) → i < length stays → s ≡ get_or stays i s
+    → moved (take (i + 1) stays) values ≡ moved (take i stays) values ++ stay s.attr (value_of values s.attr) ∷ []
+moved-next stays values i s within is =
+    map_more (λ (t : Stay). stay t.attr (value_of values t.attr)) stays i s within
+    ∙ ap (λ (t : Stay). moved (take i stays) values ++ stay t.attr (value_of values t.attr) ∷ []) (sym is)
+
+-- the next attribute is new
+pub zeros-next : (attrs : List ℕ) (i d : ℕ) → i < length attrs
+    → stays_at (zeros (take (i + 1) attrs)) ≡ stays_at (zeros (take i attrs)) ++ stay (get_or attrs i d) zero_fraction ∷ []
+zeros-next attrs i d within =
+    ap stays_at (map_more (λ (n : ℕ). (n, zero_fraction)) attrs i d within)
+    ∙ map-append (λ (v : ℕ × Fraction). stay v.0 v.1) (zeros (take i attrs)) ((get_or attrs i d, zero_fraction) ∷ [])

@@ -20,7 +20,7 @@ use Rattle.layout_solver.specs.Layouts.{Layout, AreBest, IsKeptLayout, stays_at,
 use Rattle.layout_solver.specs.Shifts.{shifted, with_shifts}
 use Rattle.session_undo.specs.Items.{Item, Size, OfView, Sized, OfLine, AreRows, view_rows, size_rows, has_size, resized, size_of, without_constant}
 use Rattle.session_undo.specs.Scene.{Scene, moved, AreDraftRows, with_line, with_window}
-use Rattle.session_undo.specs.Machine.{IsSolved, IsStart, IsStopped}
+use Rattle.session_undo.specs.Machine.{IsProblemOf, IsSolved, IsStart, IsStopped}
 use Rattle.session_undo.specs.Adding.{StopsAt, IsNoConflict, from_corner, from_shifts, view_draft, metrics_draft}
 use Rattle.session_undo.specs.Attributes.{IsCounted}
 use Rattle.session_undo.specs.Kept.{IsItem, IsKept, scene_at}
@@ -266,6 +266,42 @@ module _ (tree : ViewTree) (ms : MetricList) (held : List Item) (next : ℕ) (l 
   pub metric-kept : (new_ms : MetricList) (new : Layout) (to : List Change) (rows : List Row) → AreRows new_ms held rows → shifted to l.problem.rows ≡ rows → new.problem ≡ with_shifts l to → IsCounted tree.views next new.problem
       → IsKept (scene_at tree new_ms held next new)
   metric-kept new_ms new to rows are shifts done counted = record { are_rows = metric-are new_ms new to rows are shifts done; each = kept.each; next = kept.next; counted = counted }
+
+  -- ---- what a command would solve
+
+  pub view-posed : (new_tree : ViewTree) (id : ℕ) (more : List Row) (p : Problem) → more ≡ view_rows next id → p ≡ with_added l (attrs_of id) more
+      → IsProblemOf (view_draft (scene_at tree ms held next l) new_tree id) p
+  view-posed new_tree id more p more_is made = (
+    subst (AreRows ms (held ++ OfView next id ∷ [])) (sym (rows_is p (with_added l (attrs_of id) more) made)) (rows-more ms held (OfView next id) l.problem.rows more kept.are_rows more_is),
+    stays_is p (with_added l (attrs_of id) more) made ∙ sym (moved-more l.problem.stays l.values id is.attributes is.rising),
+  )
+
+  pub line-posed : (group : List ℕ) (line : CompiledLine) (more : List Row) (p : Problem) → AreRowsNow ms line.rows more → p ≡ with_added l [] more → IsProblemOf (with_line (scene_at tree ms held next l) group line) p
+  line-posed group line more p are made = (
+    subst (AreRows ms (held ++ OfLine group line ∷ [])) (sym (rows_is p (with_added l [] more) made)) (rows-more ms held (OfLine group line) l.problem.rows more kept.are_rows are),
+    stays_is p (with_added l [] more) made ∙ sym still,
+  )
+
+  pub first-posed : (w h : Fraction) (more : List Row) (p : Problem) → has_size held ≡ false → more ≡ size_rows next w h → p ≡ with_added l [] more → IsProblemOf (with_window (scene_at tree ms held next l) w h) p
+  first-posed w h more p none are made =
+      subst (λ (d : Scene). IsProblemOf d p) (sym (first-draft-is w h none)) (
+        subst (AreRows ms (held ++ Sized next w h ∷ [])) (sym (rows_is p (with_added l [] more) made)) (rows-more ms held (Sized next w h) l.problem.rows more kept.are_rows are),
+        stays_is p (with_added l [] more) made ∙ sym still,
+      )
+
+  abbrev At : List Row → Problem
+  At rows = record { rows = rows; stays = stays_at l.values }
+
+  pub again-posed : (w h : Fraction) (size : Size) (rows : List Row) (p : Problem) → size_of held ≡ Some size → rows ≡ shifted (to_size size.first w h) l.problem.rows → p ≡ At rows
+      → IsProblemOf (with_window (scene_at tree ms held next l) w h) p
+  again-posed w h size rows p some shifts made =
+      subst (λ (d : Scene). IsProblemOf d p) (sym (again-draft-is w h (some-held held size some))) (
+        subst (AreRows ms (resized w h held)) (sym (rows_is p (At rows) made ∙ shifts)) (again-rows w h size some),
+        stays_is p (At rows) made ∙ sym moves,
+      )
+
+  pub metric-posed : (rows : List Row) (p : Problem) → p ≡ At rows → p.stays ≡ moved l.problem.stays l.values
+  metric-posed rows p made = stays_is p (At rows) made ∙ sym moves
 
 -- ---- a new view is in no conflict
 

@@ -28,8 +28,8 @@ refuses F G (refusal.Taken name) to h = to _ h
 refuses F G (refusal.Limit word) to h = to _ h
 refuses F G (refusal.Kind word) to h = to _ h
 refuses F G (refusal.Conflict by) to h = to _ h
-refuses F G (refusal.Overflow at) to h = to _ h
-refuses F G (refusal.Spent path) to h = to _ h
+refuses F G (refusal.Overflow place at) to h = to _ h
+refuses F G (refusal.Spent place path) to h = to _ h
 refuses F G refusal.OutOfMemory to h = h
 
 -- the engine's end is the step's

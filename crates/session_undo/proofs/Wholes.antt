@@ -12,7 +12,7 @@ use Rattle.problem_core.specs.Kept.{IsNumber, IsRow, IsStay, IsWhole, AreRising}
 use Rattle.problem_core.specs.Window.{zero_fraction}
 use Rattle.layout_solver.specs.Layouts.{stays_at, zeros}
 use Rattle.session_undo.specs.Attributes.{HasOnly}
-use Rattle.session_undo.proofs.Lists.{pairs-map, all-unmapped, rising-append}
+use Rattle.session_undo.proofs.Lists.{pairs-map, pairs-unmapped, all-unmapped, rising-append}
 
 abbrev at : ℕ × Fraction → ℕ
 at v = v.0
@@ -134,3 +134,24 @@ added-whole p values attrs more n m is taken fresh below may rows_fit stays_fit 
 -- the number and the terms of a row
 abbrev pub shape : Row → ℕ × List Term
 shape r = (r.id, r.terms)
+
+-- ---- other rows
+
+-- rows of the same numbers and terms
+pub renewed-whole : (p : Problem) (values : List (ℕ × Fraction)) (rows : List Row) → IsSettled p values → All IsRow rows → map shape rows ≡ map shape p.rows → IsWhole (record { rows = rows; stays = stays_at values })
+renewed-whole p values rows is each same =
+    let attrs = map (λ s. s.attr) p.stays in
+    let only : All (HasOnly (map (λ s. s.attr) p.stays)) rows =
+    all-unmapped shape (λ (s : ℕ × List Term). All (λ t. Contains (map (λ s. s.attr) p.stays) t.attr) s.1) rows
+    (subst (All (λ (s : ℕ × List Term). All (λ t. Contains (map (λ s. s.attr) p.stays) t.attr) s.1)) (sym same)
+    (All-map (λ (s : ℕ × List Term). All (λ t. Contains (map (λ s. s.attr) p.stays) t.attr) s.1) shape p.rows (only-stays p.stays p.rows is.whole.covered))) in
+    whole-of rows values (record {
+      each = each;
+      rising = pairs-unmapped shape (λ (s t : ℕ × List Term). s.0 < t.0) rows (subst (AllPairs (λ (s t : ℕ × List Term). s.0 < t.0)) (sym same) (pairs-map shape (λ (s t : ℕ × List Term). s.0 < t.0) p.rows is.whole.rising));
+      only = subst (λ (ns : List ℕ). All (HasOnly ns) rows) (sym is.attributes) only;
+      row_count = (let long : length rows ≡ length p.rows = sym (length-map rows shape) ∙ ap length same ∙ length-map p.rows shape in omega (arith, is.whole.row_count, long));
+      numbers = settled-numbers p values is;
+      apart = is.rising;
+      kept = is.kept;
+      stay_count = omega (arith, is.whole.stay_count, settled-count p values is);
+    })

@@ -13,28 +13,30 @@ use Rattle.constraint_compile.specs.declared.stops.CompileStop.{CompileStop}
 use Rattle.constraint_compile.specs.declared.stops.CompileStop.TheVariants as stop
 use Rattle.cert_core.specs.declared.stops.RunStop.{RunStop}
 use Rattle.cert_core.specs.declared.stops.RunStop.TheVariants as run
+use Rattle.layout_solver.specs.declared.engine.Change.{Change}
 use Rattle.layout_solver.specs.Layouts.{Layout}
 use Rattle.layout_solver.specs.Begins.{Start, IsStopFrom}
 use Rattle.std.specs.declared.result.Result.{Result}
 use Rattle.std.specs.declared.result.Result.TheVariants.{Ok, Err}
 use Rattle.session_undo.specs.declared.reply.Reply as answer
 use Rattle.session_undo.specs.declared.reply.Reply.TheVariants as good
+use Rattle.session_undo.specs.declared.reply.StopPlace.TheVariants.{Step}
 use Rattle.session_undo.specs.declared.reply.Refusal.{Refusal}
 use Rattle.session_undo.specs.declared.reply.Refusal.TheVariants as refusal
 use Rattle.session_undo.specs.Attributes.{IsNextLine}
-use Rattle.session_undo.specs.Items.{OfView}
+use Rattle.session_undo.specs.Items.{OfView, has_size}
 use Rattle.session_undo.specs.Replies.{Reply, Unknown, Limit, Kind}
 use Rattle.session_undo.specs.Scene.{Scene, State, moved, new_stays, AreDraftRows, metrics_with}
 use Rattle.session_undo.specs.Machine.{IsStopped, Unless, Keeps, IsCrowded, HasAllLines, IsTaken, IsDeep}
-use Rattle.session_undo.specs.Machine.{AreNear, AreTooMany, HasAllViews}
+use Rattle.session_undo.specs.Machine.{AreNear, AreTooMany, HasAllViews, IsFarSize}
 
 -- ---- stops
 
 -- the refusal for what stops an engine
 abbrev pub refusal_of : RunStop → Refusal
 refusal_of (run.Conflict by) = refusal.Conflict by
-refusal_of (run.Unfit at) = refusal.Overflow at
-refusal_of (run.Spent path) = refusal.Spent path
+refusal_of (run.Unfit at) = refusal.Overflow Step at
+refusal_of (run.Spent path) = refusal.Spent Step path
 refusal_of run.OutOfMemory = refusal.OutOfMemory
 
 -- the answer to what a run comes to
@@ -67,6 +69,10 @@ IsNoConflict run.OutOfMemory = Unit {0}
 abbrev pub NoEnd : Scene → Reply → State → Type 0
 NoEnd draft reply new = ⊥
 
+-- no command without a draft does
+abbrev pub NoOther : Reply → State → Reply → State → Type 0
+NoOther answer next reply new = ⊥
+
 -- ---- drafts
 
 -- with this tree, of which the view of this number is new
@@ -80,6 +86,11 @@ view_draft old tree id = record old {
 
 abbrev pub metrics_draft : Scene → MetricList → Scene
 metrics_draft old metrics = record old { metrics = metrics; stays = moved old.stays old.values }
+
+-- the constants of the two rows of the window's size, of which the first has this number
+abbrev pub size_changes : ℕ → Fraction → Fraction → List Change
+size_changes first width height =
+    (record { row = first; constant = width }) ∷ (record { row = first + 1; constant = height }) ∷ []
 
 -- ---- no cause is there
 
@@ -104,6 +115,11 @@ pub record IsFreeMetric (old : State) (name : List ℕ) (value : Fraction) (new 
   pub new_is : new ≡ metrics_with old.scene.metrics name value
   pub are_rows : AreDraftRows (metrics_draft old.scene new) rows
   pub near : AreNear old.scene.rows rows
+
+-- there is room for this size of the window
+pub record IsFreeSize (old : State) (width height : Fraction) : Type 0 where
+  pub room : (has_size old.scene.held ≡ false) × IsCrowded old 2 → ⊥
+  pub near : IsFarSize old.scene.held width height → ⊥
 
 -- ---- lines of groups
 

@@ -104,13 +104,17 @@ size_of (item ∷ more) = cond (is_size item) (own_size item) (size_of more)
 
 -- ---- constants
 
-abbrev pub without_constant : Row → Row
-without_constant r = record {
+-- the row at this constant
+abbrev pub at_constant : Fraction → Row → Row
+at_constant constant r = record {
   id = r.id;
   rank = r.rank;
   weight = r.weight;
   rel = r.rel;
   scale = r.scale;
-  constant = zero_fraction;
+  constant = constant;
   terms = r.terms;
 }
+
+abbrev pub without_constant : Row → Row
+without_constant r = at_constant zero_fraction r

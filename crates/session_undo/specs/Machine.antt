@@ -5,7 +5,7 @@ use Rattle.frac_core.specs.Fraction.{Fraction}
 use Rattle.name_tables.specs.Names.{names_of, place_of, value_of}
 use Rattle.name_tables.specs.declared.stops.LimitWord.TheVariants as word
 use Rattle.view_tree.specs.Views.{LiveView, ViewTree, IsOnLevel, view_named}
-use Rattle.problem_core.specs.Layout.{Row}
+use Rattle.problem_core.specs.Layout.{Row, Problem}
 use Rattle.cert_core.specs.declared.by.By.{By}
 use Rattle.cert_core.specs.Paths.{Path}
 use Rattle.cert_core.specs.Stops.{IsShownConflict}
@@ -26,6 +26,7 @@ use Rattle.constraint_compile.specs.FormatStops.{row_count}
 use Rattle.constraint_compile.specs.FormatRows.{IsCompiledFormat, MayStopFormat}
 use Rattle.constraint_compile.specs.declared.stops.CompileStop.{CompileStop}
 use Rattle.constraint_compile.specs.declared.stops.CompileStop.TheVariants as stop
+use Rattle.session_undo.specs.declared.reply.StopPlace.TheVariants.{Step}
 use Rattle.session_undo.specs.Items.{IsSmallItem, Item, Size, line_count, has_size, size_of, without_constant}
 use Rattle.session_undo.specs.Scene.{Scene, State, with_view, with_metric, with_window, with_line, problem_of}
 use Rattle.session_undo.specs.Scene.{draft_problem, AreDraftRows, Becomes}
@@ -100,13 +101,13 @@ pub record Conflicts (draft : Scene) (old : State) (reply : Reply) (new : State)
 pub record Overflows (draft : Scene) (old : State) (reply : Reply) (new : State) : Type 0 where
   pub at : UnfitPath
   pub stopped : IsStopped old.scene draft old.budget (run.Unfit at)
-  pub refused : Keeps (Overflow at.path at.quantity) old reply new
+  pub refused : Keeps (Overflow Step at.path at.quantity) old reply new
 
 -- a path over the draft's rows has just the budget's exchanges, and its last corner is no end
 pub record Spends (draft : Scene) (old : State) (reply : Reply) (new : State) : Type 0 where
   pub path : Path
   pub stopped : IsStopped old.scene draft old.budget (run.Spent path)
-  pub refused : Keeps (Spent path) old reply new
+  pub refused : Keeps (Spent Step path) old reply new
 
 -- the draft, whose required rows have a solution, is solved, or there is no change
 abbrev pub SolvesFree : State → Scene → Reply → State → Type 0
@@ -180,7 +181,7 @@ parent_name None = codes "window"
 parent_name (Some name) = name
 
 -- ---- The causes against each command, in the order in which they are tried. Where none of them is there, `End` says
--- what comes of the draft.
+-- what comes of the draft; of a command that has none, `Other` says what comes of its answer and the session after.
 
 -- ---- views, metrics, the window
 
@@ -249,22 +250,24 @@ TriedFormat old group align format =
 
 -- ---- commands
 
-abbrev pub BudgetStep : State → ℕ → Reply → State → Type 0
-BudgetStep old exchanges =
+abbrev pub TriedBudget : State → ℕ → (Reply → State → Reply → State → Type 0) → Reply → State → Type 0
+TriedBudget old exchanges Other =
     Unless ((exchanges ≡ 0) ⊎ (10 ^ 18 < exchanges)) (Limit word.Budget) old
-    (λ reply new. (reply ≡ Done) × (new ≡ record old { budget = exchanges }))
+    (Other Done (record old { budget = exchanges }))
 
--- a command that has a draft has no cause against it and ends so; one that has none does what it says
-abbrev pub Tried : State → Meaning → (Scene → Reply → State → Type 0) → Reply → State → Type 0
-Tried old mean.Nothing End = Keeps Nothing old
-Tried old (mean.View name parent) End = TriedView old name (parent_name parent) End
-Tried old (mean.Metric name value) End = TriedMetric old name value End
-Tried old (mean.Window width height) End = TriedWindow old width height End
-Tried old (mean.Constrain group line) End = TriedConstraint old group line End
-Tried old (mean.Vfl group align format) End = TriedFormat old group align format End
-Tried old (mean.Budget exchanges) End = BudgetStep old exchanges
-Tried old mean.Frames End = Keeps Frames old
-Tried old mean.Rows End = Keeps Rows old
+abbrev pub Tried : State → Meaning → (Scene → Reply → State → Type 0)
+    → (Reply → State → Reply → State → Type 0) → Reply → State → Type 0
+Tried old mean.Nothing End Other = Other Nothing old
+Tried old (mean.View name parent) End Other = TriedView old name (parent_name parent) End
+Tried old (mean.Metric name value) End Other = TriedMetric old name value End
+Tried old (mean.Window width height) End Other = TriedWindow old width height End
+Tried old (mean.Constrain group line) End Other = TriedConstraint old group line End
+Tried old (mean.Vfl group align format) End Other = TriedFormat old group align format End
+Tried old (mean.Budget exchanges) End Other = TriedBudget old exchanges Other
+Tried old mean.Frames End Other = Other Frames old
+Tried old mean.Rows End Other = Other Rows old
+
+-- ---- what a line leads to
 
 -- a draft is solved; that of a new view, which changes no row that is held, is in no conflict
 abbrev pub Ends : State → Meaning → Scene → Reply → State → Type 0
@@ -280,4 +283,23 @@ Ends old mean.Rows = Solves old
 
 -- what a line that says this leads to
 abbrev pub MeaningStep : State → Meaning → Reply → State → Type 0
-MeaningStep old m = Tried old m (Ends old m)
+MeaningStep old m = Tried old m (Ends old m) Keeps
+
+-- ---- what a command would solve
+
+-- the rows of the draft, and its stays
+abbrev pub IsProblemOf : Scene → Problem → Type 0
+IsProblemOf draft p = AreDraftRows draft p.rows × (p.stays ≡ draft.stays)
+
+-- the problem is that of the draft
+abbrev pub PosesDraft : Problem → Scene → Reply → State → Type 0
+PosesDraft p draft reply new = IsProblemOf draft p
+
+-- the problem is that of the scene
+abbrev pub PosesScene : State → Problem → Reply → State → Reply → State → Type 0
+PosesScene old p answer next reply new = p ≡ problem_of old.scene
+
+-- no cause is against the command, and this is the problem of its draft; of a command that has none it is the
+-- scene's (a cause would make the reply a refusal, and `Done` is none)
+abbrev pub Poses : State → Meaning → Problem → Type 0
+Poses old m p = Tried old m (PosesDraft p) (PosesScene old p) Done old

@@ -1,5 +1,5 @@
 -- Replies to the lines of a script.
-use Rattle.std.specs.Prelude.{ℕ, Bool, true, false, List, ⊤}
+use Rattle.std.specs.Prelude.{ℕ, Bool, true, false, List, ⊤, IfOk, IfErr}
 use Rattle.std.specs.declared.result.Result.{Result}
 use Rattle.std.specs.declared.result.Result.TheVariants.{Ok, Err}
 use Rattle.problem_core.specs.declared.stops.Quantity.{Quantity}
@@ -7,14 +7,17 @@ use Rattle.name_tables.specs.declared.stops.LimitWord.{LimitWord}
 use Rattle.constraint_compile.specs.declared.stops.KindWord.{KindWord}
 use Rattle.cert_core.specs.declared.by.By.{By}
 use Rattle.cert_core.specs.Paths.{Path}
+use Rattle.session_undo.specs.Scene.{State}
 use Rattle.session_undo.specs.declared.reply.Reply as answer
 use Rattle.session_undo.specs.declared.reply.Reply.TheVariants as good
+use Rattle.session_undo.specs.declared.reply.StopPlace.{StopPlace}
 use Rattle.session_undo.specs.declared.reply.Refusal.{Refusal}
 use Rattle.session_undo.specs.declared.reply.Refusal.TheVariants as refusal
 
 -- `Nothing` to a blank line or a comment, `Done` to a change, `Frames` and `Rows` to questions, and the refusals: where the
--- line leaves the grammar, the unknown or taken name, the limit, the wrong use, the multipliers of the required rows, the path
--- with the quantity that doesn't fit at its end, the path that uses up the exchanges
+-- line leaves the grammar, the unknown or taken name, the limit, the wrong use, the multipliers of the required
+-- rows; and, each with what had stopped, the path with the quantity that doesn't fit at its end, and the path that
+-- uses up the exchanges
 pub data Reply : Type 0 where
   Nothing : Reply
   Done : Reply
@@ -26,8 +29,8 @@ pub data Reply : Type 0 where
   Limit : LimitWord → Reply
   Kind : KindWord → Reply
   Conflict : List By → Reply
-  Overflow : Path → Quantity → Reply
-  Spent : Path → Reply
+  Overflow : StopPlace → Path → Quantity → Reply
+  Spent : StopPlace → Path → Reply
 
 -- whether it is no refusal
 abbrev pub is_accepted : Reply → Bool
@@ -41,8 +44,8 @@ is_accepted (Taken name) = false
 is_accepted (Limit word) = false
 is_accepted (Kind word) = false
 is_accepted (Conflict by) = false
-is_accepted (Overflow path quantity) = false
-is_accepted (Spent path) = false
+is_accepted (Overflow place path quantity) = false
+is_accepted (Spent place path) = false
 
 abbrev pub accepted : answer.Reply → Reply
 accepted good.Silent = Nothing
@@ -58,9 +61,17 @@ MayRefuse F (refusal.Taken name) = F (Taken name)
 MayRefuse F (refusal.Limit word) = F (Limit word)
 MayRefuse F (refusal.Kind word) = F (Kind word)
 MayRefuse F (refusal.Conflict by) = F (Conflict by)
-MayRefuse F (refusal.Overflow at) = F (Overflow at.path at.quantity)
-MayRefuse F (refusal.Spent path) = F (Spent path)
+MayRefuse F (refusal.Overflow place at) = F (Overflow place at.path at.quantity)
+MayRefuse F (refusal.Spent place path) = F (Spent place path)
 MayRefuse F refusal.OutOfMemory = ⊤
+
+-- where the command is accepted, the step leads to its reply and the session after
+abbrev pub Accepting : (Reply → State → Type 0) → State → Result answer.Reply Refusal → Type 0
+Accepting Step new result = IfOk result (λ reply. Step (accepted reply) new)
+
+-- where the command is refused, the step allows this, in the session that is as before
+abbrev pub Refusing : {T : Type 0} → (Reply → State → Type 0) → State → Result T Refusal → Type 0
+Refusing Step old result = IfErr result (MayRefuse (λ reply. Step reply old))
 
 -- the refusal is one that is told, and F holds of its reply
 abbrev pub IsTold : (Reply → Type 0) → Refusal → Type 0
@@ -70,8 +81,8 @@ IsTold F (refusal.Taken name) = F (Taken name)
 IsTold F (refusal.Limit word) = F (Limit word)
 IsTold F (refusal.Kind word) = F (Kind word)
 IsTold F (refusal.Conflict by) = F (Conflict by)
-IsTold F (refusal.Overflow at) = F (Overflow at.path at.quantity)
-IsTold F (refusal.Spent path) = F (Spent path)
+IsTold F (refusal.Overflow place at) = F (Overflow place at.path at.quantity)
+IsTold F (refusal.Spent place path) = F (Spent place path)
 IsTold F refusal.OutOfMemory = ⊥
 
 -- F holds of the reply that is told of what a command led to; none is told of want of memory

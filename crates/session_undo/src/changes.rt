@@ -1,13 +1,15 @@
 // Parts of the changes of a session.
-ghost use Rattle.std.specs.Prelude.{◌≡◌, true, false, IfOk, OnErr};
+ghost use Rattle.std.specs.Prelude.{◌≡◌, ◌<◌, ◌^◌, true, false, IfOk, OnErr};
 ghost use Rattle.constraint_compile.specs.Compiled.{IsFittingSum};
 ghost use Rattle.constraint_compile.specs.Fractions.{plus, negated};
+ghost use Rattle.session_undo.specs.Adding.{size_changes};
 ghost use Rattle.session_undo.specs.Machine.{AreTooMany, AreNear, IsNear, parent_name};
 ghost use Rattle.script_text.specs.View.{name_view};
 ghost use Rattle.session_undo.specs.Scene.{metrics_with};
 
 use crate::item::WindowSize;
 use frac_core::{Frac, OutOfMemory};
+use layout_solver::Change;
 use name_tables::{Metrics, NameStop};
 use problem_core::Row;
 
@@ -51,6 +53,23 @@ pub fn is_near_size(from: &WindowSize, to: &WindowSize) -> bool
         × IsFittingSum (plus to.now.height (negated from.now.height)) → ⊥ }
 {
     fits_after(from.width, to.width) && fits_after(from.height, to.height)
+}
+
+/// The constants of the two rows of the window's size, of which the first has this number.
+pub fn size_changes(first: u32, size: &WindowSize) -> [Change; 2]
+    requires { first < 2 ^ 31 }
+    ensures { result ≡ size_changes first size.now.width size.now.height }
+{
+    [
+        Change {
+            row: first,
+            constant: size.width,
+        },
+        Change {
+            row: first + 1,
+            constant: size.height,
+        },
+    ]
 }
 
 // Whether the row's constant moves by what fits.

@@ -38,8 +38,8 @@ fn is_at(tree: &Tree, place: usize, view: ViewId) -> bool
     }
 }
 
-// The value of an attribute, which has a stay.
-fn value_of(engine: &Engine, attr: u32) -> Frac
+/// The value of an attribute, which has a stay.
+pub fn value_of(engine: &Engine, attr: u32) -> Frac
     requires { HasStay engine.now.problem.stays attr }
     ensures { result ≡ value_of engine.now.values attr }
 {

@@ -5,18 +5,19 @@
 #![tactic(auto)]
 
 mod changes;
+mod drafts;
 mod frames;
 mod item;
 mod limits;
-mod renewal;
 mod reply;
 mod rows;
 mod scene;
 mod session;
 mod showing;
+mod solving;
 
 pub use item::{Item, WindowSize};
 pub use limits::Limits;
-pub use reply::{Refusal, Reply};
+pub use reply::{Refusal, Reply, StopPlace};
 pub use scene::Scene;
 pub use session::Session;

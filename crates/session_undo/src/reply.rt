@@ -21,6 +21,13 @@ pub enum Reply {
     Rows,
 }
 
+/// What had to stop where a quantity doesn't fit or the exchanges are used up.
+#[derive(Clone, Copy, Debug, PartialEq, Eq)]
+pub enum StopPlace {
+    /// The run over the command's own problem.
+    Step,
+}
+
 /// Why a line is refused. Then all is as before.
 #[derive(Debug, Drop)]
 pub enum Refusal {
@@ -37,9 +44,9 @@ pub enum Refusal {
     /// The required rows have no solution, as these multipliers show.
     Conflict(Conflict),
     /// A quantity doesn't fit at the end of this path.
-    Overflow(UnfitPath),
+    Overflow { place: StopPlace, at: UnfitPath },
     /// The exchanges are used up.
-    Spent(Path),
+    Spent { place: StopPlace, path: Path },
     /// Memory is wanting. This ends a run.
     OutOfMemory,
 }
@@ -72,8 +79,14 @@ fn refusal_of(stop: RunStop) -> Refusal
 {
     match stop {
         RunStop::Conflict(by) => Refusal::Conflict(by),
-        RunStop::Unfit(at) => Refusal::Overflow(at),
-        RunStop::Spent(path) => Refusal::Spent(path),
+        RunStop::Unfit(at) => Refusal::Overflow {
+            place: StopPlace::Step,
+            at,
+        },
+        RunStop::Spent(path) => Refusal::Spent {
+            place: StopPlace::Step,
+            path,
+        },
         RunStop::OutOfMemory => Refusal::OutOfMemory,
     }
 }

@@ -1,19 +1,23 @@
 // The scene: what a script has said so far, and the engine that solves it.
 ghost use Rattle.std.specs.Prelude.{◌≡◌, ◌<◌, ◌≤◌, ◌^◌, ◌+◌, true, false, length, vec_len, vec_capacity};
 ghost use Rattle.std.specs.Prelude.{Some, None, slice_get, IfOk, IfErr, IfSome, IfNone, OnOk, OnErr};
+ghost use Rattle.view_tree.specs.Views.{IsTree, with_view};
+ghost use Rattle.view_tree.specs.Stops.{IsNewView};
+ghost use Rattle.session_undo.specs.Attributes.{IsGrown};
 
-use crate::changes::is_near_size;
+use crate::changes::{is_near_size, size_changes};
+use crate::drafts::{as_held, rows_after, with_more, with_rows};
 use crate::frames::{frame_of, place_of};
 use crate::item::{HeldSize, Item, WindowSize, has_size, line_count, resize_first, size_of};
-use crate::renewal::{changed_constants, take_constants, take_more};
 use crate::rows::{rows_of, size_rows, view_rows, window_rows};
 use crate::showing::show_rows;
+use crate::solving::{changed_constants, take_constants, take_more};
 use cert_core::RunStop;
 use constraint_compile::{CompileStop, Compiled};
 use frac_core::{Frac, OutOfMemory};
-use layout_solver::{Change, Engine};
+use layout_solver::Engine;
 use name_tables::{Metrics, OwnedName};
-use problem_core::Row;
+use problem_core::{Problem, Row};
 use std::alloc::Global;
 use std::marker::Model;
 use view_tree::{Tree, ViewId};
@@ -53,16 +57,36 @@ fn make_room(items: &mut Vec<Item>) -> Result<(), OutOfMemory>
     Ok(())
 }
 
+// Adds a view that may be added.
+fn add_to_tree(tree: &mut Tree, name: &str, above: ViewId) -> Result<(), OutOfMemory>
+    requires { IsNewView tree.old name.now above.0 }
+    ensures added { OnOk result (tree.new ≡ with_view tree.old name.now above.0) }
+    ensures grown { OnOk result (IsGrown tree.old.views tree.new.views tree.old.next) }
+    ensures whole { OnOk result (IsTree tree.old) }
+    ensures same { OnErr result (tree.new ≡ tree.old) }
+{
+    let _before = tree.len();
+    // The view is new, so it is memory that is wanting.
+    let Ok(_) = tree.add(name, above) else {
+        return Err(OutOfMemory);
+    };
+    let _after = tree.len();
+    Ok(())
+}
+
 impl Scene {
-    ghost use Rattle.view_tree.specs.Views.{IsTree, view_of};
+    ghost use Rattle.std.specs.Prelude.{ℕ, List};
+    ghost use Rattle.view_tree.specs.Views.{LiveView, ViewTree, view_of};
+    ghost use Rattle.constraint_compile.specs.Meaning.{MetricList};
     ghost use Rattle.cert_core.specs.Paths as paths;
     ghost use Rattle.constraint_compile.specs.Compiled.{AreRowsNow};
-    ghost use Rattle.session_undo.specs.Attributes.{IsNextLine, IsGrown};
+    ghost use Rattle.session_undo.specs.Attributes.{IsNextLine};
     ghost use Rattle.session_undo.specs.Frames.{IsFrameAt, IsFrameOf};
     ghost use Rattle.session_undo.specs.Items.{AreRows, has_size, line_count, size_of};
     ghost use Rattle.session_undo.specs.Kept.{MayLackRows, items_of, size_in};
     ghost use Rattle.session_undo.specs.Scene.{first_scene, with_line, with_window, AreDraftRows};
-    ghost use Rattle.session_undo.specs.Machine.{AreNear, IsFarSize, IsSolved};
+    ghost use Rattle.session_undo.specs.Scene.{moved, problem_of};
+    ghost use Rattle.session_undo.specs.Machine.{AreNear, IsFarSize, IsProblemOf, IsSolved};
     ghost use Rattle.session_undo.specs.Adding.{StopsAt, IsNoConflict, view_draft, metrics_draft};
 
     /// The window alone.
@@ -145,11 +169,16 @@ impl Scene {
         }
     }
 
-    /// How many lines of groups are held.
-    pub fn line_count(&self) -> usize
-        ensures { result ≡ line_count self.now.held }
+    /// Whether at least so many lines of groups are held.
+    pub fn has_lines(&self, count: usize) -> bool
+        ensures yes { result ≡ true → count ≤ line_count self.now.held }
+        ensures no { result ≡ false → line_count self.now.held < count }
     {
-        line_count(&self.items)
+        // Each line is an item, so with fewer items the lines need no counting.
+        if self.items.len() < count {
+            return false;
+        }
+        line_count(&self.items) >= count
     }
 
     /// Whether the window's size is held.
@@ -168,32 +197,130 @@ impl Scene {
         rows_of(self.alloc, &self.items, metrics)
     }
 
-    /// Takes this tree, in which the view of this number is new.
-    pub fn take_view(&mut self, tree: Tree, id: u32, budget: u64) -> Result<(), RunStop>
+    /// The problem of the rows of all that is held.
+    pub fn problem(&self) -> Result<Problem, OutOfMemory>
+        ensures { IfOk result (λ p. p ≡ problem_of self.now) }
+    {
+        as_held(self.alloc, &self.engine)
+    }
+
+    /// The problem with a view more, of this number.
+    pub fn view_problem(&self, id: u32) -> Result<Problem, OutOfMemory>
         requires id { id < 2 ^ 29 }
-        requires grown { IsGrown self.old.tree.views tree.views id }
+        requires grown { (views : List LiveView) × IsGrown self.now.tree.views views id }
+        requires room { length self.now.rows + 2 ≤ 2000 }
+        requires number { self.now.next_row < 2 ^ 31 }
+        ensures { IfOk result (λ p. (tree : ViewTree) → IsProblemOf (view_draft self.now tree id) p) }
+    {
+        self.engine.show_layout();
+        let rows = view_rows(self.alloc, self.next_row, id)?;
+        show_rows(&rows);
+        let attrs = [4 * id + 1, 4 * id + 2, 4 * id + 3, 4 * id + 4];
+        with_more(self.alloc, &self.engine, &attrs, rows)
+    }
+
+    /// The problem of these rows, which are those of what is held for other metrics.
+    pub fn metrics_problem(&self, rows: Vec<Row>) -> Result<Problem, OutOfMemory>
+        requires { (metrics : MetricList) × AreRows metrics self.now.held rows.items }
+        ensures rows { IfOk result (λ p. p.rows ≡ rows.items) }
+        ensures stays { IfOk result (λ p. p.stays ≡ moved self.now.stays self.now.values) }
+    {
+        self.engine.show_layout();
+        show_rows(&rows);
+        with_rows(self.alloc, &self.engine, rows)
+    }
+
+    // The problem where the window has a size for the first time.
+    fn first_size_problem(&self, size: &WindowSize) -> Result<Problem, OutOfMemory>
+        requires none { has_size self.now.held ≡ false }
+        requires room { length self.now.rows + 2 ≤ 2000 }
+        requires number { self.now.next_row < 2 ^ 31 }
+        ensures { IfOk result (IsProblemOf (with_window self.now size.now.width size.now.height)) }
+    {
+        self.engine.show_layout();
+        let _count = self.tree.len();
+        let rows = size_rows(self.alloc, self.next_row, size)?;
+        show_rows(&rows);
+        with_more(self.alloc, &self.engine, &[], rows)
+    }
+
+    // The problem where the window has another size than this.
+    fn other_size_problem(&self, held: HeldSize, size: &WindowSize) -> Result<Problem, OutOfMemory>
+        requires { size_of self.now.held ≡ Some (size_in held) }
+        ensures { IfOk result (IsProblemOf (with_window self.now size.now.width size.now.height)) }
+    {
+        self.engine.show_layout();
+        let rows = rows_after(
+            self.alloc,
+            self.engine.rows(),
+            &size_changes(held.first, size),
+        )?;
+        show_rows(&rows);
+        with_rows(self.alloc, &self.engine, rows)
+    }
+
+    /// The problem with this size of the window. The first takes two rows, for which there is to be room.
+    pub fn size_problem(&self, size: &WindowSize) -> Result<Problem, OutOfMemory>
+        requires room { has_size self.now.held ≡ false → length self.now.rows + 2 ≤ 2000 }
+        requires number { has_size self.now.held ≡ false → self.now.next_row < 2 ^ 31 }
+        ensures { IfOk result (IsProblemOf (with_window self.now size.now.width size.now.height)) }
+    {
+        match size_of(&self.items) {
+            Some(held) => self.other_size_problem(held, size),
+            None => self.first_size_problem(size),
+        }
+    }
+
+    /// The problem with a line more, whose rows these are.
+    pub fn line_problem(&self, line: &Compiled, rows: Vec<Row>) -> Result<Problem, OutOfMemory>
+        requires rows { AreRowsNow self.now.metrics line.now.rows rows.items }
+        requires next { IsNextLine self.now.tree.views self.now.next_row line.now }
+        requires room { length self.now.rows + length rows.items ≤ 2000 }
+        ensures { IfOk result (λ p. (group : List ℕ) → IsProblemOf (with_line self.now group line.now) p) }
+    {
+        self.engine.show_layout();
+        show_rows(&rows);
+        with_more(self.alloc, &self.engine, &[], rows)
+    }
+
+    /// Takes a new view of this name below the view `above`. Its number `id` is the next one.
+    pub fn take_view(
+        &mut self,
+        name: &str,
+        above: ViewId,
+        id: ViewId,
+        budget: u64,
+    ) -> Result<(), RunStop>
+        requires new { IsNewView self.old.tree name.now above.0 }
+        requires id { id.0 ≡ self.old.tree.next }
+        requires small { id.0 < 2 ^ 29 }
         requires room { length self.old.rows + 2 ≤ 2000 }
         requires number { self.old.next_row < 2 ^ 31 }
         ensures solved { IfOk result (λ _. (path : paths.Path)
-            × IsSolved self.old (view_draft self.old tree id) budget path self.new) }
-        ensures stop { IfErr result (StopsAt self.old (view_draft self.old tree id) budget) }
+            × IsSolved self.old (view_draft self.old (with_view self.old.tree name.now above.0) id.0)
+            budget path self.new) }
+        ensures stop { IfErr result
+            (StopsAt self.old (view_draft self.old (with_view self.old.tree name.now above.0) id.0) budget) }
         ensures free { IfErr result IsNoConflict }
         ensures same { OnErr result (self.new ≡ self.old) }
     {
         self.engine.show_layout();
         let first = self.next_row;
-        let rows = view_rows(self.alloc, first, id)?;
+        let rows = view_rows(self.alloc, first, id.0)?;
         show_rows(&rows);
-        let attrs = [4 * id + 1, 4 * id + 2, 4 * id + 3, 4 * id + 4];
+        let attrs = [4 * id.0 + 1, 4 * id.0 + 2, 4 * id.0 + 3, 4 * id.0 + 4];
         make_room(&mut self.items)?;
+        add_to_tree(&mut self.tree, name, above)?;
         match take_more(&mut self.engine, &attrs, &rows, budget) {
             Ok(()) => (),
-            Err(stop) => return Err(stop),
+            Err(stop) => {
+                self.tree.take_back();
+                return Err(stop);
+            }
         }
         self.engine.show_layout();
-        self.items.push_reserved(Item::OfView { first, id });
+        self.items.push_reserved(Item::OfView { first, id: id.0 });
         self.next_row = first + 2;
-        self.tree = tree;
         Ok(())
     }
 
@@ -276,16 +403,7 @@ impl Scene {
     {
         self.engine.show_layout();
         let _dens = (size.width.den(), size.height.den());
-        let to = [
-            Change {
-                row: held.first,
-                constant: size.width,
-            },
-            Change {
-                row: held.first + 1,
-                constant: size.height,
-            },
-        ];
+        let to = size_changes(held.first, size);
         match take_constants(&mut self.engine, &to, budget) {
             Ok(()) => (),
             Err(stop) => return Err(stop),

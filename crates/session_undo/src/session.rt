@@ -13,12 +13,12 @@ use constraint_compile::{CompileStop, Compiled, compile_format, compile_line, fo
 use frac_core::{Frac, OutOfMemory};
 use layout_solver::Engine;
 use name_tables::{LimitWord, Metrics, NAME_LIMIT, OwnedName};
-use problem_core::Row;
+use problem_core::{Problem, Row};
 use script_text::{Align, Command, Linear};
 use std::alloc::Global;
 use std::marker::Model;
 use vfl_text::Format;
-use view_tree::{Tree, TreeStop, ViewId};
+use view_tree::{TreeStop, ViewId};
 
 /// How many exchanges a run may make at the start.
 const FIRST_BUDGET: u64 = 100_000;
@@ -28,6 +28,14 @@ const BUDGET_LIMIT: u64 = 1_000_000_000_000_000_000;
 
 /// Each row's number is below this.
 const NUMBER_LIMIT: u64 = 1 << 31;
+
+// Whether a run may not be allowed so many exchanges.
+fn is_no_budget(exchanges: u64) -> bool
+    ensures yes { result ≡ true → (exchanges ≡ 0) ⊎ (10 ^ 18 < exchanges) }
+    ensures no { result ≡ false → (exchanges ≡ 0) ⊎ (10 ^ 18 < exchanges) → ⊥ }
+{
+    exchanges == 0 || exchanges > BUDGET_LIMIT
+}
 
 /// A scene, how many exchanges each run may make, and how much may be held.
 #[derive(Drop)]
@@ -49,11 +57,11 @@ impl Model for Session {
     ghost invariant = { λ s. AreWithin (limits_of s.limits) };
 }
 
-/// A tree in which the view of this number is new.
-#[derive(Drop)]
+/// The number of a view that may be added, and that of the one it is in.
+#[derive(Clone, Copy)]
 struct NewView {
-    tree: Tree,
-    id: u32,
+    above: ViewId,
+    id: ViewId,
 }
 
 /// Metrics of which one is new or changed, and the rows of what is held for them.
@@ -74,21 +82,23 @@ struct NewLine {
 impl Session {
     ghost use Rattle.script_text.specs.View.{view, linear_view};
     ghost use Rattle.vfl_text.specs.View.{meaning};
-    ghost use Rattle.view_tree.specs.Views.{view_of};
+    ghost use Rattle.view_tree.specs.Views.{view_of, with_view};
+    ghost use Rattle.view_tree.specs.Stops.{IsNewView};
     ghost use Rattle.constraint_compile.specs.Compiled.{AreRowsNow, AreSmallForms};
     ghost use Rattle.constraint_compile.specs.Stops.{IsCompiled};
     ghost use Rattle.constraint_compile.specs.FormatRows.{IsCompiledFormat};
     ghost use Rattle.session_undo.specs.Attributes.{IsNextLine};
     ghost use Rattle.session_undo.specs.Frames.{IsFrameOf};
     ghost use Rattle.session_undo.specs.Scene.{first_state, with_line, with_window, with_metric};
-    ghost use Rattle.session_undo.specs.Replies.{accepted, MayRefuse};
+    ghost use Rattle.session_undo.specs.Replies.{MayRefuse, Accepting, Refusing, Done, Limit};
     ghost use Rattle.session_undo.specs.Items.{has_size};
     ghost use Rattle.session_undo.specs.Machine.{IsTaken, TriedView, TriedMetric, TriedWindow};
-    ghost use Rattle.session_undo.specs.Machine.{TriedConstraint, TriedFormat, BudgetStep, MeaningStep};
-    ghost use Rattle.session_undo.specs.Machine.{IsCrowded, Solves, SolvesFree};
-    ghost use Rattle.session_undo.specs.Adding.{AddStop, StopStep, NoEnd, IsFreeView, IsFreeMetric};
+    ghost use Rattle.session_undo.specs.Machine.{TriedConstraint, TriedFormat, TriedBudget, Tried};
+    ghost use Rattle.session_undo.specs.Machine.{MeaningStep, Poses, PosesDraft, PosesScene, IsProblemOf};
+    ghost use Rattle.session_undo.specs.Machine.{IsCrowded, Keeps, Solves, SolvesFree};
+    ghost use Rattle.session_undo.specs.Adding.{AddStop, StopStep, NoEnd, NoOther, IsFreeView, IsFreeMetric};
     ghost use Rattle.session_undo.specs.Adding.{IsFreeLine, IsGroupLimit, IsGroupFree, IsLineLimit};
-    ghost use Rattle.session_undo.specs.Adding.{IsLineFree};
+    ghost use Rattle.session_undo.specs.Adding.{IsLineFree, IsFreeSize};
 
     /// The window alone, and a budget of 100,000 exchanges.
     pub fn new(alloc: Global) -> Result<Session, OutOfMemory>
@@ -133,10 +143,12 @@ impl Session {
         self.scene.tree().len() >= self.limits.views
     }
 
-    // The tree with a new view in the one of the name `parent`.
+    // The numbers for a new view in the one of the name `parent`.
     fn new_view(&self, name: &str, parent: &str) -> Result<NewView, Refusal>
-        ensures made { IfOk result (λ new. IsFreeView self.now name.now parent.now new.tree new.id) }
-        ensures small { IfOk result (λ new. new.id < 2 ^ 29) }
+        ensures made { IfOk result (λ new. IsFreeView self.now name.now parent.now
+            (with_view self.now.scene.tree name.now new.above.0) new.id.0) }
+        ensures new { IfOk result (λ new. IsNewView self.now.scene.tree name.now new.above.0) }
+        ensures small { IfOk result (λ new. new.id.0 < 2 ^ 29) }
         ensures refused { IfErr result
             (MayRefuse (λ reply. TriedView self.now name.now parent.now NoEnd reply self.now)) }
     {
@@ -153,9 +165,8 @@ impl Session {
         if self.has_all_views() {
             return Err(Refusal::Limit(LimitWord::Views));
         }
-        let mut tree = views.copy()?;
-        let id = match tree.add(name, above) {
-            Ok(id) => id.0,
+        let id = match views.id_below(name, above) {
+            Ok(id) => id,
             Err(TreeStop::Limit(word)) => return Err(Refusal::Limit(word)),
             Err(TreeStop::OutOfMemory) => return Err(Refusal::OutOfMemory),
             Err(TreeStop::Taken(_)) => unreachable!(),
@@ -165,35 +176,29 @@ impl Session {
         if self.is_crowded(2) {
             return Err(Refusal::Limit(LimitWord::Rows));
         }
-        let _after = tree.len();
-        Ok(NewView { tree, id })
+        Ok(NewView { above, id })
     }
 
     // A new view in the one of the name `parent`.
     fn add_view(&mut self, name: &str, parent: &str) -> Result<Reply, Refusal>
-        ensures accepted { IfOk result
-            (λ reply. TriedView self.old name.now parent.now (SolvesFree self.old)
-            (accepted reply) self.new) }
-        ensures refused { IfErr result
-            (MayRefuse (λ reply. TriedView self.old name.now parent.now (SolvesFree self.old)
-            reply self.old)) }
+        ensures accepted { Accepting
+            (TriedView self.old name.now parent.now (SolvesFree self.old)) self.new result }
+        ensures refused { Refusing
+            (TriedView self.old name.now parent.now (SolvesFree self.old)) self.old result }
         ensures same { OnErr result (self.new ≡ self.old) }
     {
         let new = match self.new_view(name, parent) {
             Ok(new) => new,
             Err(refusal) => return Err(refusal),
         };
-        let _before = self.scene.tree().len();
-        let _after = new.tree.len();
-        let end = self.scene.take_view(new.tree, new.id, self.budget);
+        let end = self.scene.take_view(name, new.above, new.id, self.budget);
         answer_of(end)
     }
 
     // The metrics of which this one is new or has another value, with the rows for them.
     fn new_metrics(&self, name: &str, value: Frac) -> Result<NewMetrics, Refusal>
         ensures made { IfOk result (λ new. IsFreeMetric self.now name.now value new.metrics new.rows.items) }
-        ensures refused { IfErr result
-            (MayRefuse (λ reply. TriedMetric self.now name.now value NoEnd reply self.now)) }
+        ensures refused { Refusing (TriedMetric self.now name.now value NoEnd) self.now result }
     {
         if self.scene.tree().find(name).is_some() {
             return Err(Refusal::Taken(OwnedName::of(self.alloc, name.as_bytes())?));
@@ -219,10 +224,8 @@ impl Session {
 
     // A metric is made, or has another value.
     fn set_metric(&mut self, name: &str, value: Frac) -> Result<Reply, Refusal>
-        ensures accepted { IfOk result
-            (λ reply. TriedMetric self.old name.now value (Solves self.old) (accepted reply) self.new) }
-        ensures refused { IfErr result
-            (MayRefuse (λ reply. TriedMetric self.old name.now value (Solves self.old) reply self.old)) }
+        ensures accepted { Accepting (TriedMetric self.old name.now value (Solves self.old)) self.new result }
+        ensures refused { Refusing (TriedMetric self.old name.now value (Solves self.old)) self.old result }
         ensures same { OnErr result (self.new ≡ self.old) }
     {
         let new = match self.new_metrics(name, value) {
@@ -233,20 +236,32 @@ impl Session {
         answer_of(end)
     }
 
-    // The window has these constants.
-    fn resize(&mut self, width: Frac, height: Frac) -> Result<Reply, Refusal>
-        ensures accepted { IfOk result
-            (λ reply. TriedWindow self.old width height (Solves self.old) (accepted reply) self.new) }
-        ensures refused { IfErr result
-            (MayRefuse (λ reply. TriedWindow self.old width height (Solves self.old) reply self.old)) }
-        ensures same { OnErr result (self.new ≡ self.old) }
+    // The limit that this size of the window would pass.
+    fn size_limit(&self, size: &WindowSize) -> Option<LimitWord>
+        ensures full { IfSome result
+            (λ word. TriedWindow self.now size.now.width size.now.height NoEnd (Limit word) self.now) }
+        ensures free { IfNone result (IsFreeSize self.now size.now.width size.now.height) }
     {
         if self.has_no_room_for_size() {
-            return Err(Refusal::Limit(LimitWord::Rows));
+            return Some(LimitWord::Rows);
         }
+        if self.scene.is_far(size) {
+            return Some(LimitWord::Constant);
+        }
+        None
+    }
+
+    // The window has these constants.
+    fn resize(&mut self, width: Frac, height: Frac) -> Result<Reply, Refusal>
+        ensures accepted { Accepting
+            (TriedWindow self.old width height (Solves self.old)) self.new result }
+        ensures refused { Refusing
+            (TriedWindow self.old width height (Solves self.old)) self.old result }
+        ensures same { OnErr result (self.new ≡ self.old) }
+    {
         let size = WindowSize { width, height };
-        if self.scene.is_far(&size) {
-            return Err(Refusal::Limit(LimitWord::Constant));
+        if let Some(word) = self.size_limit(&size) {
+            return Err(Refusal::Limit(word));
         }
         let end = self.scene.take_size(&size, self.budget);
         answer_of(end)
@@ -268,7 +283,7 @@ impl Session {
         if group.len() > NAME_LIMIT {
             return Some(LimitWord::Name);
         }
-        if self.scene.line_count() >= self.limits.lines {
+        if self.scene.has_lines(self.limits.lines) {
             return Some(LimitWord::Lines);
         }
         None
@@ -294,7 +309,7 @@ impl Session {
         requires next { IsNextLine self.now.scene.tree.views self.now.scene.next_row line }
         ensures line { IfOk result (λ new. new.line ≡ line) }
         ensures made { IfOk result (λ new. IsFreeLine self.now group.now new.group new.line new.rows.items) }
-        ensures refused { IfErr result (MayRefuse (λ reply. AddStop self.now group.now line reply self.now)) }
+        ensures refused { Refusing (AddStop self.now group.now line) self.now result }
     {
         let rows = small_line_rows(self.alloc, &line, self.scene.metrics())?;
         if let Some(word) = self.limit_before(group, rows.len()) {
@@ -307,12 +322,10 @@ impl Session {
     // The group has a line more.
     fn add_line(&mut self, new: NewLine) -> Result<Reply, Refusal>
         requires { IsFreeLine self.old new.group new.group new.line new.rows.items }
-        ensures accepted { IfOk result
-            (λ reply. Solves self.old (with_line self.old.scene new.group new.line)
-            (accepted reply) self.new) }
-        ensures refused { IfErr result
-            (MayRefuse (λ reply. Solves self.old (with_line self.old.scene new.group new.line)
-            reply self.old)) }
+        ensures accepted { Accepting
+            (Solves self.old (with_line self.old.scene new.group new.line)) self.new result }
+        ensures refused { Refusing
+            (Solves self.old (with_line self.old.scene new.group new.line)) self.old result }
         ensures same { OnErr result (self.new ≡ self.old) }
     {
         let end = self
@@ -345,9 +358,8 @@ impl Session {
             (λ new. IsCompiled self.now.scene.tree.views self.now.scene.metrics
             (linear_view line.now) self.now.scene.next_row new.line) }
         ensures made { IfOk result (λ new. IsFreeLine self.now group.now new.group new.line new.rows.items) }
-        ensures refused { IfErr result
-            (MayRefuse (λ reply. TriedConstraint self.now group.now (linear_view line.now) NoEnd
-            reply self.now)) }
+        ensures refused { Refusing
+            (TriedConstraint self.now group.now (linear_view line.now) NoEnd) self.now result }
     {
         show_terms(&line.left);
         show_terms(&line.right);
@@ -360,12 +372,10 @@ impl Session {
 
     // A linear constraint joins its group.
     fn constrain(&mut self, group: &str, line: &Linear<'_>) -> Result<Reply, Refusal>
-        ensures accepted { IfOk result
-            (λ reply. TriedConstraint self.old group.now (linear_view line.now) (Solves self.old)
-            (accepted reply) self.new) }
-        ensures refused { IfErr result
-            (MayRefuse (λ reply. TriedConstraint self.old group.now (linear_view line.now) (Solves self.old)
-            reply self.old)) }
+        ensures accepted { Accepting
+            (TriedConstraint self.old group.now (linear_view line.now) (Solves self.old)) self.new result }
+        ensures refused { Refusing
+            (TriedConstraint self.old group.now (linear_view line.now) (Solves self.old)) self.old result }
         ensures same { OnErr result (self.new ≡ self.old) }
     {
         match self.new_constraint(group, line) {
@@ -385,9 +395,8 @@ impl Session {
             (λ new. IsCompiledFormat self.now.scene.tree.views self.now.scene.metrics
             (meaning format.now) align self.now.scene.next_row new.line) }
         ensures made { IfOk result (λ new. IsFreeLine self.now group.now new.group new.line new.rows.items) }
-        ensures refused { IfErr result
-            (MayRefuse (λ reply. TriedFormat self.now group.now align (meaning format.now) NoEnd
-            reply self.now)) }
+        ensures refused { Refusing
+            (TriedFormat self.now group.now align (meaning format.now) NoEnd) self.now result }
     {
         let (tree, metrics) = (self.scene.tree(), self.scene.metrics());
         match compile_format(
@@ -413,12 +422,10 @@ impl Session {
         align: Option<Align>,
         format: &Format<'_>,
     ) -> Result<Reply, Refusal>
-        ensures accepted { IfOk result
-            (λ reply. TriedFormat self.old group.now align (meaning format.now) (Solves self.old)
-            (accepted reply) self.new) }
-        ensures refused { IfErr result
-            (MayRefuse (λ reply. TriedFormat self.old group.now align (meaning format.now) (Solves self.old)
-            reply self.old)) }
+        ensures accepted { Accepting
+            (TriedFormat self.old group.now align (meaning format.now) (Solves self.old)) self.new result }
+        ensures refused { Refusing
+            (TriedFormat self.old group.now align (meaning format.now) (Solves self.old)) self.old result }
         ensures same { OnErr result (self.new ≡ self.old) }
     {
         match self.new_format(group, align, format) {
@@ -429,23 +436,137 @@ impl Session {
 
     // Each run may make so many exchanges.
     fn set_budget(&mut self, exchanges: u64) -> Result<Reply, Refusal>
-        ensures accepted { IfOk result (λ reply. BudgetStep self.old exchanges (accepted reply) self.new) }
-        ensures refused { IfErr result (MayRefuse (λ reply. BudgetStep self.old exchanges reply self.old)) }
+        ensures accepted { Accepting (TriedBudget self.old exchanges Keeps) self.new result }
+        ensures refused { Refusing (TriedBudget self.old exchanges Keeps) self.old result }
         ensures same { OnErr result (self.new ≡ self.old) }
     {
-        if exchanges == 0 || exchanges > BUDGET_LIMIT {
+        if is_no_budget(exchanges) {
             return Err(Refusal::Limit(LimitWord::Budget));
         }
         self.budget = exchanges;
         Ok(Reply::Done)
     }
 
+    // The problem with a new view in the one of the name `parent`.
+    fn view_problem(&self, name: &str, parent: &str) -> Result<Problem, Refusal>
+        ensures posed { IfOk result
+            (λ p. TriedView self.now name.now parent.now (PosesDraft p) Done self.now) }
+        ensures refused { Refusing (TriedView self.now name.now parent.now NoEnd) self.now result }
+    {
+        let new = match self.new_view(name, parent) {
+            Ok(new) => new,
+            Err(refusal) => return Err(refusal),
+        };
+        let _before = self.scene.tree().len();
+        Ok(self.scene.view_problem(new.id.0)?)
+    }
+
+    // The problem with a metric that is new or has another value.
+    fn metric_problem(&self, name: &str, value: Frac) -> Result<Problem, Refusal>
+        ensures posed { IfOk result (λ p. TriedMetric self.now name.now value (PosesDraft p) Done self.now) }
+        ensures refused { Refusing (TriedMetric self.now name.now value NoEnd) self.now result }
+    {
+        let new = match self.new_metrics(name, value) {
+            Ok(new) => new,
+            Err(refusal) => return Err(refusal),
+        };
+        Ok(self.scene.metrics_problem(new.rows)?)
+    }
+
+    // The problem with this size of the window.
+    fn size_problem(&self, size: &WindowSize) -> Result<Problem, Refusal>
+        ensures posed { IfOk result
+            (λ p. TriedWindow self.now size.now.width size.now.height (PosesDraft p) Done self.now) }
+        ensures refused { Refusing
+            (TriedWindow self.now size.now.width size.now.height NoEnd) self.now result }
+    {
+        if let Some(word) = self.size_limit(size) {
+            return Err(Refusal::Limit(word));
+        }
+        Ok(self.scene.size_problem(size)?)
+    }
+
+    // The problem with a line more.
+    fn line_problem(&self, new: NewLine) -> Result<Problem, OutOfMemory>
+        requires { IsFreeLine self.now new.group new.group new.line new.rows.items }
+        ensures { IfOk result (IsProblemOf (with_line self.now.scene new.group new.line)) }
+    {
+        let NewLine { line, rows, .. } = new;
+        self.scene.line_problem(&line, rows)
+    }
+
+    // The problem with a linear constraint more.
+    fn constraint_problem(&self, group: &str, line: &Linear<'_>) -> Result<Problem, Refusal>
+        ensures posed { IfOk result
+            (λ p. TriedConstraint self.now group.now (linear_view line.now) (PosesDraft p) Done self.now) }
+        ensures refused { Refusing
+            (TriedConstraint self.now group.now (linear_view line.now) NoEnd) self.now result }
+    {
+        match self.new_constraint(group, line) {
+            Ok(new) => Ok(self.line_problem(new)?),
+            Err(refusal) => Err(refusal),
+        }
+    }
+
+    // The problem with a format more.
+    fn format_problem(
+        &self,
+        group: &str,
+        align: Option<Align>,
+        format: &Format<'_>,
+    ) -> Result<Problem, Refusal>
+        ensures posed { IfOk result
+            (λ p. TriedFormat self.now group.now align (meaning format.now) (PosesDraft p) Done self.now) }
+        ensures refused { Refusing
+            (TriedFormat self.now group.now align (meaning format.now) NoEnd) self.now result }
+    {
+        match self.new_format(group, align, format) {
+            Ok(new) => Ok(self.line_problem(new)?),
+            Err(refusal) => Err(refusal),
+        }
+    }
+
+    // The scene's problem, where so many exchanges may be allowed.
+    fn budget_problem(&self, exchanges: u64) -> Result<Problem, Refusal>
+        ensures posed { IfOk result
+            (λ p. TriedBudget self.now exchanges (PosesScene self.now p) Done self.now) }
+        ensures refused { Refusing (TriedBudget self.now exchanges NoOther) self.now result }
+    {
+        if is_no_budget(exchanges) {
+            return Err(Refusal::Limit(LimitWord::Budget));
+        }
+        Ok(self.scene.problem()?)
+    }
+
+    /// The problem that a command would solve, with the stays at the present values; of a command that solves
+    /// nothing it is the scene's. It is refused by the causes, in their order, by which `apply` refuses the
+    /// command before it solves. It makes the problem, which nothing holds, from copies of the rows.
+    pub fn step_problem(&self, command: &Command<'_>) -> Result<Problem, Refusal>
+        ensures posed { IfOk result (Poses self.now (view command.now)) }
+        ensures refused { Refusing (Tried self.now (view command.now) NoEnd NoOther) self.now result }
+    {
+        match command {
+            Command::View { name, parent } => self.view_problem(name, parent_or_window(*parent)),
+            Command::Metric { name, value } => self.metric_problem(name, *value),
+            Command::Window { width, height } => self.size_problem(&WindowSize {
+                width: *width,
+                height: *height,
+            }),
+            Command::Constrain { group, line } => self.constraint_problem(group, line),
+            Command::Vfl {
+                group,
+                align,
+                format,
+            } => self.format_problem(group, *align, format),
+            Command::Budget { exchanges } => self.budget_problem(*exchanges),
+            Command::Nothing | Command::Frames | Command::Rows => Ok(self.scene.problem()?),
+        }
+    }
+
     /// Does what a command says: the step of the machine. After a refusal all is as before.
     pub fn apply(&mut self, command: Command<'_>) -> Result<Reply, Refusal>
-        ensures accepted { IfOk result
-            (λ reply. MeaningStep self.old (view command.entry) (accepted reply) self.new) }
-        ensures refused { IfErr result
-            (MayRefuse (λ reply. MeaningStep self.old (view command.entry) reply self.old)) }
+        ensures accepted { Accepting (MeaningStep self.old (view command.entry)) self.new result }
+        ensures refused { Refusing (MeaningStep self.old (view command.entry)) self.old result }
         ensures same { OnErr result (self.new ≡ self.old) }
     {
         match command {

@@ -1,4 +1,5 @@
 use Rattle.std.proofs.Common.{◌+◌, ◌≤◌, ◌^◌, arith}
+use Rattle.view_tree.specs.Views.{with_view}
 use Rattle.session_undo.specs.Replies.{Reply, accepted}
 use Rattle.session_undo.specs.declared.reply.Reply as answer
 use Rattle.session_undo.specs.Machine.{TriedView, SolvesFree}
@@ -6,7 +7,6 @@ use Rattle.session_undo.specs.Adding.{NoEnd, view_draft}
 use Rattle.session_undo.specs.Kept.{session_at}
 use Rattle.session_undo.proofs.Steps.{refuses, free-accepted, free-refused, answer-same}
 use Rattle.session_undo.proofs.Chains.{view-causes, view-passed, ok-map, err-map}
-use Rattle.session_undo.proofs.Attributes.{grown}
 use Rattle.session_undo.proofs.Additions.{room-fits, room-numbers}
 use Rattle.session_undo.proofs.session.Session.add_view.Goals as goal
 
@@ -19,18 +19,18 @@ pub returns-clause-accepted : goal.returns-clause-accepted
 returns-clause-accepted c =
     let old = (session_at c.self.inside.scene c.self.inside.budget c.self.inside.limits) in
     rw (c.answer_of.ensures, ← c.self.view_is)
-    (ok-map (λ (reply : answer.Reply). SolvesFree old (view_draft old.scene c.in-Ok.new.tree c.in-Ok.new.id) (accepted reply) (record old { scene = c.take_view-end.new.self }))
+    (ok-map (λ (reply : answer.Reply). SolvesFree old (view_draft old.scene (with_view old.scene.tree c.args.name.now c.in-Ok.new.above.0) c.in-Ok.new.id.0) (accepted reply) (record old { scene = c.take_view-end.new.self }))
     (λ (reply : answer.Reply). TriedView old c.args.name.now c.args.parent.now (SolvesFree old) (accepted reply) (record old { scene = c.take_view-end.new.self })) _
-    (λ reply end. view-passed old c.args.name.now c.args.parent.now (SolvesFree old) c.in-Ok.new.tree c.in-Ok.new.id (accepted reply) (record old { scene = c.take_view-end.new.self }) (rw (← c.self.view_is) at c.in-Ok.ensures.made) end)
-    (free-accepted (view_draft old.scene c.in-Ok.new.tree c.in-Ok.new.id) old c.take_view-end.new.self c.take_view-end.result c.take_view-end.ensures.solved))
+    (λ reply end. view-passed old c.args.name.now c.args.parent.now (SolvesFree old) (with_view old.scene.tree c.args.name.now c.in-Ok.new.above.0) c.in-Ok.new.id.0 (accepted reply) (record old { scene = c.take_view-end.new.self }) (rw (← c.self.view_is) at c.in-Ok.ensures.made) end)
+    (free-accepted (view_draft old.scene (with_view old.scene.tree c.args.name.now c.in-Ok.new.above.0) c.in-Ok.new.id.0) old c.take_view-end.new.self c.take_view-end.result c.take_view-end.ensures.solved))
 
 pub returns-clause-refused : goal.returns-clause-refused
 returns-clause-refused c =
     let old = (session_at c.self.inside.scene c.self.inside.budget c.self.inside.limits) in
     rw (c.answer_of.ensures, ← c.self.view_is)
-    (err-map (λ (reply : Reply). SolvesFree old (view_draft old.scene c.in-Ok.new.tree c.in-Ok.new.id) reply old) (λ (reply : Reply). TriedView old c.args.name.now c.args.parent.now (SolvesFree old) reply old) _
-    (λ reply end. view-passed old c.args.name.now c.args.parent.now (SolvesFree old) c.in-Ok.new.tree c.in-Ok.new.id reply old (rw (← c.self.view_is) at c.in-Ok.ensures.made) end)
-    (free-refused (view_draft old.scene c.in-Ok.new.tree c.in-Ok.new.id) old c.take_view-end.new.self c.take_view-end.result c.take_view-end.ensures.stop c.take_view-end.ensures.free))
+    (err-map (λ (reply : Reply). SolvesFree old (view_draft old.scene (with_view old.scene.tree c.args.name.now c.in-Ok.new.above.0) c.in-Ok.new.id.0) reply old) (λ (reply : Reply). TriedView old c.args.name.now c.args.parent.now (SolvesFree old) reply old) _
+    (λ reply end. view-passed old c.args.name.now c.args.parent.now (SolvesFree old) (with_view old.scene.tree c.args.name.now c.in-Ok.new.above.0) c.in-Ok.new.id.0 reply old (rw (← c.self.view_is) at c.in-Ok.ensures.made) end)
+    (free-refused (view_draft old.scene (with_view old.scene.tree c.args.name.now c.in-Ok.new.above.0) c.in-Ok.new.id.0) old c.take_view-end.new.self c.take_view-end.result c.take_view-end.ensures.stop c.take_view-end.ensures.free))
 
 pub returns-clause-same : goal.returns-clause-same
 returns-clause-same c = rw (c.answer_of.ensures, ← c.self.view_is) (answer-same (session_at c.self.inside.scene c.self.inside.budget c.self.inside.limits) c.take_view-end.new.self c.take_view-end.result c.take_view-end.ensures.same)
@@ -41,8 +41,9 @@ take_view-end-requires c =
     let made = rw (← c.self.view_is) at c.in-Ok.ensures.made in
     let fits : old.scene.next_row + 2 ≤ 2 ^ 31 = room-numbers old 2 made.rows in
     record {
-      id = c.in-Ok.ensures.small;
-      grown = grown c.self.inside.scene.tree c.in-Ok.new.tree c.args.name.now made.above.id c.in-Ok.new.id (rw c.tree.ensures at c.len-before.ensures.tree) c.len-after.ensures.tree made.tree_is made.id_is;
+      new = rw (← c.self.view_is) at c.in-Ok.ensures.new;
+      id = made.id_is;
+      small = c.in-Ok.ensures.small;
       room = room-fits old 2 c.self.invariant made.rows;
       number = omega (arith, fits);
     }

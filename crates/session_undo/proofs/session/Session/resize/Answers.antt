@@ -1,35 +1,35 @@
-use Rattle.std.proofs.Common.{◌+◌, ◌≤◌, ◌^◌, arith, refl}
-use Rattle.session_undo.specs.Replies.{Reply, accepted}
+use Rattle.std.proofs.Common.{◌+◌, ◌≤◌, ◌^◌, arith}
+use Rattle.session_undo.specs.Replies.{Reply, accepted, Limit}
 use Rattle.session_undo.specs.declared.reply.Reply as answer
 use Rattle.session_undo.specs.Machine.{TriedWindow, Solves}
 use Rattle.session_undo.specs.Scene.{with_window}
 use Rattle.session_undo.specs.Kept.{session_at}
 use Rattle.session_undo.proofs.Steps.{run-accepted, run-refused, answer-same}
-use Rattle.session_undo.proofs.Chains.{window-far, window-passed, ok-map, err-map}
+use Rattle.session_undo.proofs.Chains.{window-causes, window-passed, ok-map, err-map}
 use Rattle.session_undo.proofs.Additions.{room-fits, room-numbers}
 use Rattle.session_undo.proofs.session.Session.resize.Goals as goal
 
-pub returns-then-is_far-clause-refused : goal.returns-then-is_far-clause-refused
-returns-then-is_far-clause-refused c =
-    let old = (session_at c.self.inside.scene c.self.inside.budget c.self.inside.limits) in
-    rw (← c.self.view_is)
-    (window-far old c.args.width c.args.height (Solves old) (rw (← c.self.view_is) at (c.if-has_no_room_for_size.ensures.no refl)) (c.if-is_far.ensures.yes refl))
+pub returns-in-Some-clause-refused : goal.returns-in-Some-clause-refused
+returns-in-Some-clause-refused c =
+    window-causes c.args.self.now c.args.width c.args.height (Solves c.args.self.now) (Limit c.in-Some.word) c.args.self.now c.in-Some.ensures.full
 
 pub returns-clause-accepted : goal.returns-clause-accepted
 returns-clause-accepted c =
     let old = (session_at c.self.inside.scene c.self.inside.budget c.self.inside.limits) in
+    let free = rw (← c.self.view_is) at c.in_default.ensures.free in
     rw (c.answer_of.ensures, ← c.self.view_is)
     (ok-map (λ (reply : answer.Reply). Solves old (with_window old.scene c.args.width c.args.height) (accepted reply) (record old { scene = c.take_size-end.new.self }))
     (λ (reply : answer.Reply). TriedWindow old c.args.width c.args.height (Solves old) (accepted reply) (record old { scene = c.take_size-end.new.self })) _
-    (λ reply end. window-passed old c.args.width c.args.height (Solves old) (rw (← c.self.view_is) at (c.if-has_no_room_for_size.ensures.no refl)) (accepted reply) (record old { scene = c.take_size-end.new.self }) (c.if-is_far.ensures.no refl) end)
+    (λ reply end. window-passed old c.args.width c.args.height (Solves old) free.room (accepted reply) (record old { scene = c.take_size-end.new.self }) free.near end)
     (run-accepted (with_window old.scene c.args.width c.args.height) old c.take_size-end.new.self c.take_size-end.result c.take_size-end.ensures.solved))
 
 pub returns-clause-refused : goal.returns-clause-refused
 returns-clause-refused c =
     let old = (session_at c.self.inside.scene c.self.inside.budget c.self.inside.limits) in
+    let free = rw (← c.self.view_is) at c.in_default.ensures.free in
     rw (c.answer_of.ensures, ← c.self.view_is)
     (err-map (λ (reply : Reply). Solves old (with_window old.scene c.args.width c.args.height) reply old) (λ (reply : Reply). TriedWindow old c.args.width c.args.height (Solves old) reply old) _
-    (λ reply end. window-passed old c.args.width c.args.height (Solves old) (rw (← c.self.view_is) at (c.if-has_no_room_for_size.ensures.no refl)) reply old (c.if-is_far.ensures.no refl) end)
+    (λ reply end. window-passed old c.args.width c.args.height (Solves old) free.room reply old free.near end)
     (run-refused (with_window old.scene c.args.width c.args.height) old c.take_size-end.new.self c.take_size-end.result c.take_size-end.ensures.stop))
 
 pub returns-clause-same : goal.returns-clause-same
@@ -38,9 +38,9 @@ returns-clause-same c = rw (c.answer_of.ensures, ← c.self.view_is) (answer-sam
 pub take_size-end-requires : goal.take_size-end-requires
 take_size-end-requires c =
     let old = (session_at c.self.inside.scene c.self.inside.budget c.self.inside.limits) in
-    let room = rw (← c.self.view_is) at (c.if-has_no_room_for_size.ensures.no refl) in
+    let free = rw (← c.self.view_is) at c.in_default.ensures.free in
     record {
-      room = λ none. room-fits old 2 c.self.invariant (λ crowded. room (none, crowded));
-      near = c.if-is_far.ensures.no refl;
-      number = λ none. (let fits : old.scene.next_row + 2 ≤ 2 ^ 31 = room-numbers old 2 (λ crowded. room (none, crowded)) in omega (arith, fits));
+      room = λ none. room-fits old 2 c.self.invariant (λ crowded. free.room (none, crowded));
+      near = free.near;
+      number = λ none. (let fits : old.scene.next_row + 2 ≤ 2 ^ 31 = room-numbers old 2 (λ crowded. free.room (none, crowded)) in omega (arith, fits));
     }

@@ -1,7 +1,7 @@
 use Rattle.std.proofs.Common.{◌≡◌, ◌++◌, ◌∷◌, [], ◌<◌, length, refl, arith, rules}
 use Rattle.session_undo.proofs.ConstantChanges.{all-changes, change, changes-can, changes-rising, changes-rows, next-more, next-same}
-use Rattle.session_undo.proofs.renewal.changed_constants.Goals.{then-ne+in_ok-push, else-ne}
-use Rattle.session_undo.proofs.renewal.changed_constants.Goals as goal
+use Rattle.session_undo.proofs.solving.changed_constants.Goals.{then-ne+in_ok-push, else-ne}
+use Rattle.session_undo.proofs.solving.changed_constants.Goals as goal
 
 pub loop-place-preserved : goal.loop-place-preserved
 loop-place-preserved c =

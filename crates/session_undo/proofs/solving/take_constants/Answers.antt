@@ -1,6 +1,6 @@
 use Rattle.session_undo.specs.Adding.{from_shifts}
 use Rattle.session_undo.proofs.Reached.{run-to}
-use Rattle.session_undo.proofs.renewal.take_constants.Goals as goal
+use Rattle.session_undo.proofs.solving.take_constants.Goals as goal
 
 pub returns-in-Ok-clause-run : goal.returns-in-Ok-clause-run
 returns-in-Ok-clause-run c =

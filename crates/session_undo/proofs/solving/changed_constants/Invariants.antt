@@ -1,6 +1,6 @@
 use Rattle.std.proofs.Common.{◌≡◌, ◌≤◌, take, length}
 use Rattle.session_undo.proofs.ConstantChanges.{AreChanges}
-use Rattle.session_undo.proofs.renewal.changed_constants.Given as goal
+use Rattle.session_undo.proofs.solving.changed_constants.Given as goal
 
 abbrev pub invariant-loop-place : goal.invariant-loop-place
 invariant-loop-place l = record {

@@ -1,6 +1,6 @@
 use Rattle.session_undo.specs.Adding.{from_corner}
 use Rattle.session_undo.proofs.Reached.{run-to}
-use Rattle.session_undo.proofs.renewal.take_more.Goals as goal
+use Rattle.session_undo.proofs.solving.take_more.Goals as goal
 
 pub returns-in-Ok-clause-run : goal.returns-in-Ok-clause-run
 returns-in-Ok-clause-run c =

@@ -1,0 +1,18 @@
+use Rattle.session_undo.specs.Replies.{Done}
+use Rattle.session_undo.specs.Machine.{PosesDraft}
+use Rattle.session_undo.specs.Kept.{session_at}
+use Rattle.session_undo.proofs.Chains.{metric-passed}
+use Rattle.session_undo.proofs.session.Session.metric_problem.Goals as goal
+
+pub returns-clause-posed : goal.returns-clause-posed
+returns-clause-posed c =
+    let old = (session_at c.self.inside.scene c.self.inside.budget c.self.inside.limits) in
+    let free = rw (← c.self.view_is) at c.in-Ok.ensures.made in
+    rw (← c.self.view_is)
+    (metric-passed old c.args.name.now c.args.value (PosesDraft c.in_ok-metrics_problem.field-0) c.in-Ok.new.metrics c.in-Ok.new.rows.items Done old free
+    (rw (← c.in_ok-metrics_problem.ensures.rows) at free.are_rows, c.in_ok-metrics_problem.ensures.stays))
+
+pub metrics_problem-requires : goal.metrics_problem-requires
+metrics_problem-requires c =
+    let free = rw (← c.self.view_is) at c.in-Ok.ensures.made in
+    (c.in-Ok.new.metrics, free.are_rows)
