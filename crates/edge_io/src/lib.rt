@@ -13,6 +13,3 @@ pub use memory::{MemorySink, MemorySource};
 pub use put::put_all;
 pub use standard::{StdSink, StdSource};
 pub use traits::{Failed, Sink, Source};
-
-#[cfg(test)]
-mod tests;

@@ -1,6 +1,7 @@
 // Rows and refusals as text.
 use constraint_compile::{CompileStop, KindWord};
 use frac_core::{Frac, OutOfMemory};
+use name_tables::LimitWord;
 use problem_core::{Rel, Row};
 
 fn relation(rel: Rel) -> &'static str {
@@ -51,6 +52,17 @@ fn kind(word: KindWord) -> &'static str {
     }
 }
 
+fn limit(word: LimitWord) -> &'static str {
+    match word {
+        LimitWord::Rows => "rows",
+        LimitWord::Terms => "terms",
+        LimitWord::Attributes => "attributes",
+        LimitWord::Coefficient => "coefficient",
+        LimitWord::Constant => "constant",
+        _ => "of another line",
+    }
+}
+
 /// Appends the line of a refusal.
 pub fn put_stop(out: &mut String, stop: &CompileStop) -> Result<(), OutOfMemory> {
     match stop {
@@ -62,7 +74,10 @@ pub fn put_stop(out: &mut String, stop: &CompileStop) -> Result<(), OutOfMemory>
             let word = kind(*word);
             writeln!(out, "kind {word}")?;
         }
-        CompileStop::Limit(_) => writeln!(out, "limit")?,
+        CompileStop::Limit(word) => {
+            let word = limit(*word);
+            writeln!(out, "limit {word}")?;
+        }
         CompileStop::OutOfMemory => return Err(OutOfMemory),
     }
     Ok(())

@@ -11,7 +11,7 @@ use Rattle.constraint_compile.specs.FormatRows.{IsCompiledFormat, MayStopFormat}
 use Rattle.constraint_compile.specs.declared.stops.CompileStop.{CompileStop}
 use Rattle.session_undo.specs.Scene.{Scene, State, IsBestState}
 use Rattle.session_undo.specs.Replies.{Reply, Done}
-use Rattle.session_undo.specs.Machine.{Accepts, Solves, SolvesFree, MeaningStep, TriedView, TriedMetric, TriedWindow, TriedLine, BudgetStep, parent_name}
+use Rattle.session_undo.specs.Machine.{Accepts, Solves, SolvesFree, MeaningStep, TriedView, TriedMetric, TriedWindow, TriedLine, TriedBudget, Keeps, parent_name}
 use Rattle.layout_cli.specs.Machine.{GrammarStep, Step, Run}
 
 kept : (old new : State) → IsBestState old → new ≡ old → IsBestState new
@@ -64,7 +64,7 @@ line-change old group count May Is reply new (inr (a, inr (b, inr (c, inr (d, in
 line-change old group count May Is reply new (inr (a, inr (b, inr (c, inr (d, inr (e, inl x)))))) = inl x.3
 line-change old group count May Is reply new (inr (a, inr (b, inr (c, inr (d, inr (e, inr (f, (line, is, solves)))))))) = solves-change old _ reply new solves
 
-budget-change : (old : State) (n : ℕ) (reply : Reply) (new : State) → BudgetStep old n reply new → MayChange old reply new
+budget-change : (old : State) (n : ℕ) (reply : Reply) (new : State) → TriedBudget old n Keeps reply new → MayChange old reply new
 budget-change old n reply new (inl x) = inl x.2
 budget-change old n reply new (inr (a, (done, is))) = inr (done, λ best. subst IsBestState (sym is) best)
 

@@ -3,3 +3,4 @@ pub mod EachView
 pub mod Runs
 pub mod Texts
 pub mod Told
+pub mod Printed

@@ -27,8 +27,8 @@ told F old out scene (refusal.Taken name) may is = (Taken name, may, is, refl)
 told F old out scene (refusal.Limit word) may is = (Limit word, may, is, refl)
 told F old out scene (refusal.Kind word) may is = (Kind word, may, is, refl)
 told F old out scene (refusal.Conflict by) may is = (Conflict by, may, is, refl)
-told F old out scene (refusal.Overflow at) may is = (Overflow at.path at.quantity, may, is, refl)
-told F old out scene (refusal.Spent path) may is = (Spent path, may, is, refl)
+told F old out scene (refusal.Overflow place at) may is = (Overflow place at.path at.quantity, may, is, refl)
+told F old out scene (refusal.Spent place path) may is = (Spent place path, may, is, refl)
 told F old out scene refusal.OutOfMemory may is = absurd is
 
 -- the reply that is given is one that F allows, and its text is appended
@@ -52,8 +52,8 @@ told-text old out scene (refusal.Taken name) is = is
 told-text old out scene (refusal.Limit word) is = is
 told-text old out scene (refusal.Kind word) is = is
 told-text old out scene (refusal.Conflict by) is = is
-told-text old out scene (refusal.Overflow at) is = is
-told-text old out scene (refusal.Spent path) is = is
+told-text old out scene (refusal.Overflow place at) is = is
+told-text old out scene (refusal.Spent place path) is = is
 told-text old out scene refusal.OutOfMemory is = is
 
 pub text-told : (old out : List ℕ) (scene : Scene) (r : Refusal) → IsTold (Adds old out) r → IsTold (λ reply. out ≡ old ++ text_of scene reply) r
@@ -63,8 +63,8 @@ text-told old out scene (refusal.Taken name) is = is
 text-told old out scene (refusal.Limit word) is = is
 text-told old out scene (refusal.Kind word) is = is
 text-told old out scene (refusal.Conflict by) is = is
-text-told old out scene (refusal.Overflow at) is = is
-text-told old out scene (refusal.Spent path) is = is
+text-told old out scene (refusal.Overflow place at) is = is
+text-told old out scene (refusal.Spent place path) is = is
 text-told old out scene refusal.OutOfMemory is = is
 
 -- what the line leads to, told by its text

@@ -14,9 +14,11 @@ use Rattle.cert_core.specs.Paths.{Path}
 use Rattle.claim_text.specs.Lines.{problem_text}
 use Rattle.claim_text.specs.ClaimLines.{claim_text}
 use Rattle.claim_text.specs.declared.claim.Claim.TheVariants.{IsConflict}
+use Rattle.claim_text.specs.PathTexts.{path_text, unfit_text}
+use Rattle.session_undo.specs.declared.reply.StopPlace.{StopPlace}
+use Rattle.session_undo.specs.declared.reply.StopPlace.TheVariants.{Step}
 use Rattle.session_undo.specs.Scene.{Scene, problem_of}
 use Rattle.session_undo.specs.Replies.{Reply, Nothing, Done, Frames, Rows, Outside, Unknown, Taken, Limit, Kind, Conflict, Overflow, Spent}
-use Rattle.layout_cli.specs.PathTexts.{path_text, unfit_text}
 
 abbrev pub limit_text : LimitWord → List ℕ
 limit_text word.Line = codes "line"
@@ -80,11 +82,16 @@ rows_text scene = text_of_each names_of scene.tree.views ++ (problem_text (probl
 abbrev pub conflict_text : List By → List ℕ
 conflict_text by = codes "refused 6 " ++ claim_text (IsConflict by)
 
-abbrev pub overflow_text : Path → Quantity → List ℕ
-overflow_text path quantity = line_of (codes "refused 7 overflow") ++ (path_text path ++ unfit_text quantity)
+-- what stands before the path: no line where the command's own run stops
+abbrev pub place_text : StopPlace → List ℕ
+place_text Step = []
 
-abbrev pub spent_text : Path → List ℕ
-spent_text path = line_of (codes "refused 8 spent") ++ path_text path
+abbrev pub overflow_text : StopPlace → Path → Quantity → List ℕ
+overflow_text place path quantity =
+    line_of (codes "refused 7 overflow") ++ (place_text place ++ (path_text path ++ unfit_text quantity))
+
+abbrev pub spent_text : StopPlace → Path → List ℕ
+spent_text place path = line_of (codes "refused 8 spent") ++ (place_text place ++ path_text path)
 
 abbrev pub refusal_text : Reply → List ℕ
 refusal_text Nothing = []
@@ -97,8 +104,8 @@ refusal_text (Taken name) = codes "refused 3 taken " ++ (name ++ 10 ∷ [])
 refusal_text (Limit word) = codes "refused 4 limit " ++ (limit_text word ++ 10 ∷ [])
 refusal_text (Kind word) = codes "refused 5 kind " ++ (kind_text word ++ 10 ∷ [])
 refusal_text (Conflict by) = conflict_text by
-refusal_text (Overflow path quantity) = overflow_text path quantity
-refusal_text (Spent path) = spent_text path
+refusal_text (Overflow place path quantity) = overflow_text place path quantity
+refusal_text (Spent place path) = spent_text place path
 
 -- the text of a reply, of which the scene is the one after the line
 abbrev pub text_of : Scene → Reply → List ℕ

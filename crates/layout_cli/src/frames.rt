@@ -8,11 +8,11 @@ use session_undo::Scene;
 
 // Left, top, width and height of a view, in window coordinates.
 #[derive(Clone, Copy, Debug, PartialEq, Eq)]
-struct Frame {
-    left: Frac,
-    top: Frac,
-    width: Frac,
-    height: Frac,
+pub(crate) struct Frame {
+    pub left: Frac,
+    pub top: Frac,
+    pub width: Frac,
+    pub height: Frac,
 }
 
 // Appends a space and a value.
@@ -44,7 +44,7 @@ fn push_frame(out: &mut Vec<u8>, name: &str, frame: &Frame) -> Result<(), OutOfM
 }
 
 // The parts of a frame by their names.
-fn named(frame: &[Frac; 4]) -> Frame
+pub(crate) fn named(frame: &[Frac; 4]) -> Frame
     ensures { frame.now ≡ result.left ∷ result.top ∷ result.width ∷ result.height ∷ [] }
 {
     let [left, top, width, height] = *frame;

@@ -12,17 +12,13 @@ mod laws;
 mod mode;
 mod names;
 mod output;
-mod path_lines;
+mod printing;
 mod program;
 mod refusals;
 mod replies;
 
 pub use laws::{best_values_are_unique, first_values_are_best, runs_lead_to_best_values};
 pub use mode::{CHECK_LIMIT, INPUT_LIMIT};
+pub use printing::print_frames;
 pub use program::{Status, run};
 pub use replies::reply_text;
-
-#[cfg(test)]
-mod script_tests;
-#[cfg(test)]
-mod tests;

@@ -1,16 +1,15 @@
 // The text of refusals.
 ghost use Rattle.std.specs.Prelude.{◌≡◌, ◌++◌, ◌∷◌, [], IfOk, codes, decimal};
 ghost use Rattle.session_undo.specs.Replies.{IsTold};
-ghost use Rattle.layout_cli.specs.Replies.{limit_text, kind_text, refusal_text, conflict_text, overflow_text, spent_text};
-ghost use Rattle.layout_cli.specs.PathTexts.{path_text};
+ghost use Rattle.layout_cli.specs.Replies.{limit_text, kind_text, refusal_text, conflict_text};
+ghost use Rattle.layout_cli.specs.Replies.{overflow_text, place_text, spent_text};
 
-use crate::path_lines::{put_path, put_quantity};
 use cert_core::{Conflict, Path, UnfitPath};
-use claim_text::{Claim, cert_text};
+use claim_text::{conflict_text, path_text, unfit_text};
 use constraint_compile::KindWord;
 use frac_core::OutOfMemory;
 use name_tables::LimitWord;
-use session_undo::Refusal;
+use session_undo::{Refusal, StopPlace};
 
 fn limit_text(word: LimitWord) -> &'static str
     ensures { result.now ≡ limit_text word }
@@ -67,36 +66,36 @@ fn push_outside(out: &mut Vec<u8>, at: usize) -> Result<(), OutOfMemory>
 fn push_conflict(out: &mut Vec<u8>, conflict: &Conflict) -> Result<(), OutOfMemory>
     ensures { IfOk result (λ _. out.new.items ≡ out.old.items ++ conflict_text conflict.now) }
 {
-    let same = Conflict::of(*out.allocator(), conflict.by())?;
     out.extend_from_slice(b"refused 6 ")?;
-    cert_text(&Claim::IsConflict(same), out)
+    conflict_text(conflict, out)
 }
 
-fn push_overflow(out: &mut Vec<u8>, at: &UnfitPath) -> Result<(), OutOfMemory>
-    ensures { IfOk result (λ _. out.new.items ≡ out.old.items ++ overflow_text at.now.path at.now.quantity) }
+// Appends what stands before the path of a stop.
+fn push_place(out: &mut Vec<u8>, place: StopPlace) -> Result<(), OutOfMemory>
+    ensures { IfOk result (λ _. out.new.items ≡ out.old.items ++ place_text place) }
 {
-    let mut text = String::new(*out.allocator());
-    put_path(&mut text, &at.path)?;
-    put_quantity(&mut text, at.quantity)?;
+    let text: &[u8] = match place {
+        StopPlace::Step => b"",
+    };
+    out.extend_from_slice(text)?;
+    Ok(())
+}
+
+fn push_overflow(out: &mut Vec<u8>, place: StopPlace, at: &UnfitPath) -> Result<(), OutOfMemory>
+    ensures { IfOk result
+        (λ _. out.new.items ≡ out.old.items ++ overflow_text place at.now.path at.now.quantity) }
+{
     out.extend_from_slice(b"refused 7 overflow\n")?;
-    out.extend_from_slice(text.as_bytes())?;
-    Ok(())
+    push_place(out, place)?;
+    unfit_text(at, out)
 }
 
-fn push_path(out: &mut Vec<u8>, path: &Path) -> Result<(), OutOfMemory>
-    ensures { IfOk result (λ _. out.new.items ≡ out.old.items ++ path_text path.now) }
-{
-    let mut text = String::new(*out.allocator());
-    put_path(&mut text, path)?;
-    out.extend_from_slice(text.as_bytes())?;
-    Ok(())
-}
-
-fn push_spent(out: &mut Vec<u8>, path: &Path) -> Result<(), OutOfMemory>
-    ensures { IfOk result (λ _. out.new.items ≡ out.old.items ++ spent_text path.now) }
+fn push_spent(out: &mut Vec<u8>, place: StopPlace, path: &Path) -> Result<(), OutOfMemory>
+    ensures { IfOk result (λ _. out.new.items ≡ out.old.items ++ spent_text place path.now) }
 {
     out.extend_from_slice(b"refused 8 spent\n")?;
-    push_path(out, path)
+    push_place(out, place)?;
+    path_text(path, out)
 }
 
 /// Appends the text of a refusal. None is told of want of memory.
@@ -110,8 +109,8 @@ pub fn push_refusal(refusal: &Refusal, out: &mut Vec<u8>) -> Result<(), OutOfMem
         Refusal::Limit(word) => push_line(out, b"refused 4 limit ", limit_text(*word).as_bytes()),
         Refusal::Kind(word) => push_line(out, b"refused 5 kind ", kind_text(*word).as_bytes()),
         Refusal::Conflict(conflict) => push_conflict(out, conflict),
-        Refusal::Overflow(at) => push_overflow(out, at),
-        Refusal::Spent(path) => push_spent(out, path),
+        Refusal::Overflow { place, at } => push_overflow(out, *place, at),
+        Refusal::Spent { place, path } => push_spent(out, *place, path),
         Refusal::OutOfMemory => Err(OutOfMemory),
     }
 }

@@ -21,6 +21,3 @@ pub use object::Object;
 pub use stop::PartStop;
 pub use token::{Token, Tokens};
 pub use word::first_word;
-
-#[cfg(test)]
-mod tests;

@@ -12,6 +12,3 @@ pub use chain::read_bytes;
 pub use parts::{Axis, Format, Gap, Item, Pred};
 pub use preds::relation;
 pub use text::{FormatStop, read, write};
-
-#[cfg(test)]
-mod tests;

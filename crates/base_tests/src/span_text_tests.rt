@@ -1,6 +1,6 @@
 //! Texts and places worked out by hand.
 
-use crate::{PartStop, lines, names, numbers, pieces, tokens};
+use span_text::{PartStop, lines, names, numbers, pieces, tokens};
 use std::test::Fail;
 
 #[test]

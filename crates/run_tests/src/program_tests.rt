@@ -1,7 +1,7 @@
 ghost use Rattle.std.specs.Prelude.{Some};
 
-use crate::{CHECK_LIMIT, INPUT_LIMIT, Status, run};
 use edge_io::{Failed, MemorySink, MemorySource, Sink, Source, StdSink, StdSource};
+use layout_cli::{CHECK_LIMIT, INPUT_LIMIT, Status, run};
 use std::io::Cursor;
 use std::test::Fail;
 
@@ -252,6 +252,21 @@ fn inputs_have_a_limit(rt: HostRuntime) -> Result<(), Fail> {
         let mut source = Counted { inner, pulls: 0 };
         expect_run(&rt, &mut source, 10, b"", status)?;
         assert!(rt; source.pulls <= INPUT_LIMIT + 1);
+    }
+    Ok(())
+}
+
+#[test]
+fn no_pull_follows_the_end(rt: HostRuntime) -> Result<(), Fail> {
+    let alloc = rt.alloc();
+    for (word, pulls) in [("run", 8), ("check", 8), ("runs", 0)] {
+        let sizes = vec![in alloc; 1; 9]?;
+        let inner = MemorySource::new(b"frames\n".to_vec(alloc)?, sizes, Vec::new(alloc));
+        let mut source = Counted { inner, pulls: 0 };
+        let words = words_of(&rt, &[word])?;
+        let mut sink = MemorySink::new(alloc, 100, Vec::new(alloc))?;
+        let _status = run(alloc, &words, &mut source, &mut sink);
+        assert_eq!(rt; source.pulls, pulls, "{word}");
     }
     Ok(())
 }

@@ -1,6 +1,6 @@
 ghost use Rattle.std.specs.Prelude.{◌≡◌, IfOk};
 
-use crate::{Failed, MemorySink, MemorySource, Sink, Source, StdSink, StdSource, put_all};
+use edge_io::{Failed, MemorySink, MemorySource, Sink, Source, StdSink, StdSource, put_all};
 use std::io;
 use std::io::{Cursor, ErrorKind, Read, Write};
 use std::test::Fail;

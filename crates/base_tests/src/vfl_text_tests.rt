@@ -1,8 +1,8 @@
 //! Formats with their texts, and places worked out by hand.
 
-use crate::{Format, FormatStop, Gap, read, write};
 use std::alloc::Global;
 use std::test::Fail;
+use vfl_text::{Format, FormatStop, Gap, read, write};
 
 // Whether the text is read, and its format written as the other one.
 fn becomes(alloc: Global, text: &str, canonical: &str) -> Option<bool> {

@@ -1,0 +1,99 @@
+-- Text that has gone to a sink in part.
+use Rattle.std.proofs.Common.{◌≡◌, ◌∙◌, ℕ, zero, suc, ◌+◌, ◌<◌, ◌≤◌, List, [], ◌∷◌, ◌++◌, length, take, drop, take_all, Some, None, refl, sym, ap, subst, arith, append_assoc, length-append, add-one}
+use Rattle.std.specs.declared.option.Option.{Option}
+use Rattle.std.specs.declared.result.Result.{Result}
+use Rattle.std.specs.declared.result.Result.TheVariants.{Ok, Err}
+use Rattle.std.specs.Prelude.{slice_get, OnOk, OnErr}
+use Rattle.std.specs.Io.KnownBytes.{Appends}
+use Rattle.std.proofs.lemmas.List.{append-nil, take-append-le}
+use Rattle.std.proofs.Math.Seq.{take-append-add}
+use Rattle.edge_io.proofs.Moves.{appends_both}
+use Rattle.frac_core.specs.Fraction.{Fraction}
+use Rattle.view_tree.specs.Views.{LiveView}
+use Rattle.layout_cli.specs.Replies.{text_of_each, frame_of}
+use Rattle.layout_cli.specs.Printing.{HasFront, frame_line_of}
+
+-- nothing was put
+pub appends_none : (a : Option (List ℕ)) → Appends a a []
+appends_none None = tt
+appends_none (Some x) = sym (append-nil x)
+
+-- a front of the first text is a front of both
+pub front_first : (a b : Option (List ℕ)) (this rest : List ℕ) → HasFront a b this → HasFront a b (this ++ rest)
+front_first a b this rest front =
+    (front.0, omega (arith, length-append this rest, front.1), subst (Appends a b) (sym (take-append-le front.0 this rest front.1)) front.2)
+
+-- all of the first text and then a front of the next are a front of both
+pub front_then : (a b c : Option (List ℕ)) (this rest : List ℕ) → Appends a b this → HasFront b c rest → HasFront a c (this ++ rest)
+front_then a b c this rest put front = (
+  length this + front.0,
+  omega (arith, length-append this rest, front.1),
+  subst (Appends a c) (sym (take-append-add this rest front.0)) (appends_both a b c this (take front.0 rest) put front.2),
+)
+
+-- ---- results
+
+-- what holds anyway holds at an error
+pub for_err : {T E P : Type 0} (r : Result T E) → P → OnErr r P
+for_err (Ok x) p = tt
+for_err (Err e) p = p
+
+-- all of the first text, and then what a result says of the rest
+pub ok_then : {T E : Type 0} (r : Result T E) (a b c : Option (List ℕ)) (this rest whole : List ℕ) → whole ≡ this ++ rest
+    → Appends a b this → OnOk r (Appends b c rest) → OnOk r (Appends a c whole)
+ok_then (Ok x) a b c this rest whole is put more = subst (Appends a c) (sym is) (appends_both a b c this rest put more)
+ok_then (Err e) a b c this rest whole is put more = tt
+
+pub err_then : {T E : Type 0} (r : Result T E) (a b c : Option (List ℕ)) (this rest whole : List ℕ) → whole ≡ this ++ rest
+    → Appends a b this → OnErr r (HasFront b c rest) → OnErr r (HasFront a c whole)
+err_then (Ok x) a b c this rest whole is put more = tt
+err_then (Err e) a b c this rest whole is put more = subst (HasFront a c) (sym is) (front_then a b c this rest put more)
+
+-- the same text in other words
+pub front_as : (a b : Option (List ℕ)) (this that : List ℕ) → this ≡ that → HasFront a b this → HasFront a b that
+front_as a b this that is front = subst (HasFront a b) is front
+
+pub ok_as : {T E : Type 0} (r : Result T E) (a b : Option (List ℕ)) (this that : List ℕ) → this ≡ that → OnOk r (Appends a b this) → OnOk r (Appends a b that)
+ok_as r a b this that is put = subst (λ (t : List ℕ). OnOk r (Appends a b t)) is put
+
+pub err_as : {T E : Type 0} (r : Result T E) (a b : Option (List ℕ)) (this that : List ℕ) → this ≡ that → OnErr r (HasFront a b this) → OnErr r (HasFront a b that)
+err_as r a b this that is front = subst (λ (t : List ℕ). OnErr r (HasFront a b t)) is front
+
+-- ---- views
+
+-- the lines of the views before a place, the line there, and those behind it
+pub each_split : (values : List (ℕ × Fraction)) (views : List LiveView) (i : ℕ) → i < length views
+    → text_of_each (frame_of values) views ≡ text_of_each (frame_of values) (take i views) ++ (frame_line_of values (slice_get views i) ++ text_of_each (frame_of values) (drop (suc i) views))
+each_split values [] i within = absurd (omega (arith, within))
+each_split values (v ∷ views) zero within = refl
+each_split values (v ∷ views) (suc i) within =
+    ap (λ (t : List ℕ). frame_of values v ++ t) (each_split values views i (omega (arith, within)))
+    ∙ sym (append_assoc (frame_of values v) (text_of_each (frame_of values) (take i views)) (frame_line_of values (slice_get views i) ++ text_of_each (frame_of values) (drop (suc i) views)))
+
+each_suc : (values : List (ℕ × Fraction)) (views : List LiveView) (i : ℕ) → i < length views
+    → text_of_each (frame_of values) (take (suc i) views) ≡ text_of_each (frame_of values) (take i views) ++ frame_line_of values (slice_get views i)
+each_suc values [] i within = absurd (omega (arith, within))
+each_suc values (v ∷ views) zero within = append-nil (frame_of values v)
+each_suc values (v ∷ views) (suc i) within =
+    ap (λ (t : List ℕ). frame_of values v ++ t) (each_suc values views i (omega (arith, within)))
+    ∙ sym (append_assoc (frame_of values v) (text_of_each (frame_of values) (take i views)) (frame_line_of values (slice_get views i)))
+
+-- the lines before the next place
+pub each_more : (values : List (ℕ × Fraction)) (views : List LiveView) (i : ℕ) → i < length views
+    → text_of_each (frame_of values) (take (i + 1) views) ≡ text_of_each (frame_of values) (take i views) ++ frame_line_of values (slice_get views i)
+each_more values views i within = ap (λ (n : ℕ). text_of_each (frame_of values) (take n views)) (add-one i) ∙ each_suc values views i within
+
+-- a front of the line at a place, after the lines before it, is a front of the whole
+pub front_at : (a b c : Option (List ℕ)) (values : List (ℕ × Fraction)) (views : List LiveView) (i : ℕ) (last : List ℕ) → i < length views
+    → Appends a b (text_of_each (frame_of values) (take i views)) → HasFront b c (frame_line_of values (slice_get views i))
+    → HasFront a c (text_of_each (frame_of values) views ++ last)
+front_at a b c values views i last within put front =
+    let before : List ℕ = text_of_each (frame_of values) (take i views) in
+    let this : List ℕ = frame_line_of values (slice_get views i) in
+    let behind : List ℕ = text_of_each (frame_of values) (drop (suc i) views) in
+    front_first a c (text_of_each (frame_of values) views) last
+    (subst (HasFront a c) (sym (each_split values views i within)) (front_then a b c before (this ++ behind) put (front_first b c this behind front)))
+
+-- all lines, once the place is at the end
+pub each_all : (values : List (ℕ × Fraction)) (views : List LiveView) (i : ℕ) → length views ≤ i → text_of_each (frame_of values) (take i views) ≡ text_of_each (frame_of values) views
+each_all values views i within = ap (text_of_each (frame_of values)) (take_all i views within)
