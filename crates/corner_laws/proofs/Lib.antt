@@ -51,4 +51,3 @@ pub mod LevelSmall
 pub mod StayLevels
 pub mod UnitExamples
 pub mod RatioExamples
-pub mod OwnCostExamples

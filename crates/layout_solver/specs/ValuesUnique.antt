@@ -15,7 +15,7 @@ use Rattle.problem_core.specs.Corners.{Agree, IsCorner, Point, StandsAt, attr_co
 use Rattle.corner_laws.proofs.Rays.{above-zero}
 use Rattle.corner.specs.Views.{CornerView, HasValueAt}
 use Rattle.layout_solver.specs.Engines.{AreItsValues, HasValues}
-use Rattle.layout_solver.specs.OneFraction.{one_value, same_fraction}
+use Rattle.frac_core.proofs.OneFraction.{one_value, same_fraction}
 
 -- ---- one value
 

@@ -11,4 +11,3 @@ pub mod Unfit
 pub mod Paths
 pub mod Begins
 pub mod Rays
-pub mod OwnCosts

@@ -8,7 +8,7 @@ use Rattle.problem_core.specs.declared.parts.Stay.{Stay}
 use Rattle.problem_core.specs.Layout.{Problem, Assignment, IsProblem}
 use Rattle.problem_core.proofs.Midpoints.{best-AreSame}
 use Rattle.layout_solver.specs.Layouts.{AreBest}
-use Rattle.session_undo.proofs.OneFraction.{same_fraction, one_value}
+use Rattle.frac_core.proofs.OneFraction.{same_fraction, one_value}
 
 abbrev pair : ℕ → Fraction → ℕ × Fraction
 pair n f = (n, f)

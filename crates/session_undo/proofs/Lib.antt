@@ -14,7 +14,6 @@ pub mod Nears
 pub mod NewViews
 pub mod NextLines
 pub mod NextRows
-pub mod OneFraction
 pub mod Places
 pub mod Reached
 pub mod Resized
