@@ -2,18 +2,19 @@
 //!
 //! [`VersionList::mark`] keeps the elements of now as an earlier version, and [`VersionList::back`] returns
 //! to the newest of these. Neither copies the list: from a mark on, an element that another takes the place
-//! of moves into the mark's log, once for each place, and going back moves it to its place again. No call
-//! takes an element out, so the list is at least as long as each earlier version, and going back truncates it
-//! and needs no memory.
+//! of moves into the mark's log, once for each place until an element leaves, and so does an element that
+//! leaves. Going back truncates the list to what the mark had and moves them to their places again. It needs
+//! no memory, since the list keeps what it had when it was as long.
 //!
 //! A contract sees a list as its `items` and, the newest first, the items of the versions `before`.
 //!
 //! | Call | Time |
 //! |---|---|
 //! | `put`, `push` | constant, beside what a growing `Vec` moves |
+//! | `remove` | a move of each element behind the place |
 //! | `edit` | a clone of the element where it was not written since the mark, and else constant |
 //! | `mark`, `forget` | constant, beside dropping the log of the version that is forgotten |
-//! | `back` | what was put and pushed since the mark |
+//! | `back` | what was put, pushed and removed since the mark |
 //!
 //! ```
 //! let mut names = VersionList::new(alloc)?;
@@ -21,6 +22,7 @@
 //! names.mark();
 //! names.put(0, "b")?;
 //! names.push("c")?;   // now "b", "c"
+//! names.remove(0)?;   // now "c"
 //! names.back();       // now "a"
 //! ```
 #![tactic(auto)]
@@ -28,11 +30,12 @@
 ghost use Rattle.std.specs.Borrow.{sem};
 ghost use Rattle.std.specs.Prelude.{◌≡◌, ◌+◌, ◌-◌, ◌<◌, ◌≤◌, ◌==◌, [], ◌∷◌, ◌++◌, length, take, IfOk, OnOk};
 ghost use Rattle.std.specs.Prelude.{OnErr, slice_get, slice_set, slice_index_or};
+ghost use Rattle.std.specs.List.{remove};
 
 mod log;
 
 use frac_core::OutOfMemory;
-use log::{Log, empty_log, is_kept, own, replace_at, restore};
+use log::{Log, empty_log, is_kept, is_past, own, replace_at, restore, take_out};
 use std::alloc::Global;
 use std::collections::VecDeque;
 use std::marker::Model;
@@ -53,6 +56,7 @@ pub struct VersionList<T> {
 
 impl<T> Model for VersionList<T> {
     ghost use Rattle.std.specs.VecDeque.{deque_capacity};
+    ghost use Rattle.std.specs.Prelude.{min, vec_capacity};
     ghost use Rattle.version_list.specs.Versions.{Versions, versions_code};
 
     ghost Value = { Versions T };
@@ -63,7 +67,8 @@ impl<T> Model for VersionList<T> {
 
     ghost view = { λ s. record { items = s.items.items; before = versions s.items.items s.logs.items } };
 
-    ghost invariant = { λ s. IsSound s.items.items s.slots.items s.logs.items (deque_capacity s.logs) };
+    ghost invariant = { λ s. IsSound s.items.items s.slots.items s.logs.items (deque_capacity s.logs)
+        (min (vec_capacity s.items) (vec_capacity s.slots)) };
 }
 
 impl<T> VersionList<T> {
@@ -152,6 +157,27 @@ impl<T: Drop> VersionList<T> {
         Ok(())
     }
 
+    /// Takes an element out. After want of memory the list is as before.
+    pub fn remove(&mut self, i: usize) -> Result<(), OutOfMemory>
+        requires { i < length self.old.items }
+        ensures ok { OnOk result (self.new.items ≡ remove self.old.items i) }
+        ensures before { self.new.before ≡ self.old.before }
+        ensures err { OnErr result (self.new ≡ self.old) }
+    {
+        if is_past(&self.logs, i) {
+            self.items.remove(i);
+            self.slots.remove(i);
+            return Ok(());
+        }
+        take_out(
+            &mut self.logs[0],
+            &mut self.items,
+            &mut self.slots,
+            i,
+            self.alloc,
+        )
+    }
+
     /// Makes the elements of now the newest earlier version, and forgets the oldest where there are too many.
     pub fn mark(&mut self)
         ensures items { self.new.items ≡ self.old.items }
@@ -162,11 +188,10 @@ impl<T: Drop> VersionList<T> {
         self.logs.push_front_reserved(log);
     }
 
-    /// Goes back to the newest earlier version, which is never the longer one.
+    /// Goes back to the newest earlier version.
     pub fn back(&mut self)
         requires { 0 < length self.old.before }
         ensures version { self.old.before ≡ self.new.items ∷ self.new.before }
-        ensures no_longer { length self.new.items ≤ length self.old.items }
     {
         if let Some(log) = self.logs.pop_front() {
             restore(log, &mut self.items, &mut self.slots);

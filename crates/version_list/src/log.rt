@@ -1,10 +1,13 @@
-//! The log of one mark: how long the list was, and the elements that others took the place of since.
-ghost use Rattle.std.specs.Prelude.{◌≡◌, ◌-◌, ◌<◌, ◌≤◌, List, [], length, take, slice_set, slice_index};
-ghost use Rattle.std.specs.Prelude.{IsTrue, ◌↔◌, false, OnErr, OnOk};
+//! The log of one mark: how many of the elements of then are left, and those that others took the place of
+//! since, or that left.
+ghost use Rattle.std.specs.Prelude.{◌≡◌, ◌+◌, ◌-◌, ◌<◌, ◌≤◌, ℕ, List, [], length, take, slice_set};
+ghost use Rattle.std.specs.Prelude.{slice_index};
+ghost use Rattle.std.specs.Prelude.{IsTrue, ◌↔◌, false, All, OnErr, OnOk, vec_capacity};
+ghost use Rattle.std.specs.List.{insert, remove};
 ghost use Rattle.std.specs.VecDeque.{deque_len, deque_capacity};
 ghost use Rattle.version_list.specs.Versions.{IsOwn};
-ghost use Rattle.version_list.specs.Undo.{items_at, slots_at, versions, AreLogsOf, HasAt, IsLogOf};
-ghost use Rattle.version_list.specs.Undo.{IsAsMarked};
+ghost use Rattle.version_list.specs.Undo.{undo, items_at, slots_at, versions, AreLogsOf, HasAt, IsLogOf};
+ghost use Rattle.version_list.specs.Undo.{IsAsMarked, IsMarked};
 
 use crate::MOST;
 use frac_core::OutOfMemory;
@@ -14,13 +17,23 @@ use std::mem;
 
 #[derive(Drop)]
 pub struct Log<T> {
-    // How long the list was at the mark.
+    // How many of the elements of now have a place that the mark had, too: the first ones.
     pub len: usize,
-    // The element that a place had at the mark, for each place below `len` that was written since, once.
+    // The element that a place had at the mark, or when an element last left, for each place below `len` that
+    // was written since, once.
     pub replaced: Vec<Replaced<T>>,
+    // The elements that left since the mark, the last one last.
+    pub removed: Vec<Removed<T>>,
 }
 
-/// An element that another took the place of, and what the place's slot was.
+/// An element that left, and what was replaced before since the mark, or since the element before it left.
+#[derive(Drop)]
+pub struct Removed<T> {
+    pub element: Replaced<T>,
+    pub earlier: Vec<Replaced<T>>,
+}
+
+/// An element that gave up its place, and what the place's slot was.
 #[derive(Drop)]
 pub struct Replaced<T> {
     pub at: usize,
@@ -69,8 +82,11 @@ pub fn replace_at<T: Drop>(
     ensures kept { OnOk result ((other : T)
         → items_at log.new (slice_set items.old.items at other) ≡ items_at log.old items.old.items) }
     ensures slots { slots_at log.new slots.new.items ≡ slots_at log.old slots.old.items }
+    ensures items_len { length items.new.items ≡ length items.old.items }
     ensures lengths { length slots.new.items ≡ length slots.old.items }
     ensures log { IsLogOf slots.old.items log.old → IsLogOf slots.new.items log.new }
+    ensures items_room { vec_capacity items.new ≡ vec_capacity items.old }
+    ensures slots_room { vec_capacity slots.new ≡ vec_capacity slots.old }
 {
     log.replaced.reserve(1)?;
     let replaced = Replaced {
@@ -101,7 +117,10 @@ pub fn own<T: Clone + Drop>(
         → versions (slice_set items.old.items at other) logs.new.items
         ≡ versions items.old.items logs.old.items) }
     ensures logs { AreLogsOf slots.new.items logs.new.items }
+    ensures items_len { length items.new.items ≡ length items.old.items }
     ensures lengths { length slots.new.items ≡ length slots.old.items }
+    ensures items_room { vec_capacity items.new ≡ vec_capacity items.old }
+    ensures slots_room { vec_capacity slots.new ≡ vec_capacity slots.old }
     ensures len { deque_len logs.new ≡ deque_len logs.old }
     ensures capacity { deque_capacity logs.new ≡ deque_capacity logs.old }
 {
@@ -116,32 +135,126 @@ pub fn own<T: Clone + Drop>(
 pub fn empty_log<T: Drop>(logs: &mut VecDeque<Log<T>>, alloc: Global) -> Log<T>
     requires { deque_len logs.old ≤ MOST }
     ensures empty { result.replaced.items ≡ [] }
+    ensures whole { result.removed.items ≡ [] }
     ensures rest { logs.new.items ≡ take (MOST - 1) logs.old.items }
     ensures capacity { deque_capacity logs.new ≡ deque_capacity logs.old }
 {
     if logs.len() == MOST {
         if let Some(mut oldest) = logs.pop_back() {
             oldest.replaced.clear();
+            oldest.removed.clear();
             return oldest;
         }
     }
     Log {
         len: 0,
         replaced: Vec::new(alloc),
+        removed: Vec::new(alloc),
     }
 }
 
-// Gives back the elements that the log has, the last one first, and drops those past its length.
-pub fn restore<T: Drop>(mut log: Log<T>, items: &mut Vec<T>, slots: &mut Vec<usize>)
+// Whether a place came after the newest mark.
+pub fn is_past<T>(logs: &VecDeque<Log<T>>, at: usize) -> bool
+    ensures items { IsTrue result → (items : List T)
+        → versions (remove items at) logs.now.items ≡ versions items logs.now.items }
+    ensures slots { IsTrue result → (slots : List ℕ) → at < length slots
+        → AreLogsOf slots logs.now.items → AreLogsOf (remove slots at) logs.now.items }
+    ensures not_past { result ≡ false → IsMarked logs.now.items at }
+{
+    match logs.front() {
+        Some(log) => log.len <= at,
+        None => true,
+    }
+}
+
+// Takes the element at a place out, and puts it into the log.
+pub fn take_out<T: Drop>(
+    log: &mut Log<T>,
+    items: &mut Vec<T>,
+    slots: &mut Vec<usize>,
+    at: usize,
+    alloc: Global,
+) -> Result<(), OutOfMemory>
+    requires item { at < length items.old.items }
+    requires lengths { length slots.old.items ≡ length items.old.items }
+    requires marked { at < log.old.len }
+    ensures ok { OnOk result (items.new.items ≡ remove items.old.items at) }
+    ensures err { OnErr result (items.new.items ≡ items.old.items) }
+    ensures items { items_at log.new items.new.items ≡ items_at log.old items.old.items }
+    ensures slots { slots_at log.new slots.new.items ≡ slots_at log.old slots.old.items }
+    ensures lengths { length slots.new.items ≡ length items.new.items }
+    ensures log { IsLogOf slots.old.items log.old → IsLogOf slots.new.items log.new }
+    ensures items_room { vec_capacity items.new ≡ vec_capacity items.old }
+    ensures slots_room { vec_capacity slots.new ≡ vec_capacity slots.old }
+{
+    log.removed.reserve(1)?;
+    let element = Replaced {
+        at,
+        slot: slots.remove(at),
+        value: items.remove(at),
+    };
+    let earlier = mem::replace(&mut log.replaced, Vec::new(alloc));
+    log.removed.push_reserved(Removed { element, earlier });
+    log.len -= 1;
+    Ok(())
+}
+
+// Gives back the elements that the log has, the last one first, and drops those that came after the mark.
+pub fn restore<T: Drop>(log: Log<T>, items: &mut Vec<T>, slots: &mut Vec<usize>)
     requires log { IsLogOf slots.old.items log }
     requires lengths { length slots.old.items ≡ length items.old.items }
+    requires items_room { log.len + length log.removed.items ≤ vec_capacity items.old }
+    requires slots_room { log.len + length log.removed.items ≤ vec_capacity slots.old }
     ensures items { items.new.items ≡ items_at log items.old.items }
     ensures slots { slots.new.items ≡ slots_at log slots.old.items }
+    ensures items_kept { vec_capacity items.new ≡ vec_capacity items.old }
+    ensures slots_kept { vec_capacity slots.new ≡ vec_capacity slots.old }
 {
-    items.truncate(log.len);
-    slots.truncate(log.len);
-    while let Some(replaced) = log.replaced.pop() {
-        slots[replaced.at] = replaced.slot;
-        items[replaced.at] = replaced.value;
+    let Log {
+        len,
+        replaced,
+        mut removed,
+    } = log;
+    items.truncate(len);
+    slots.truncate(len);
+    give_back(replaced, items, slots);
+    while let Some(last) = removed.pop() {
+        put_back(last, items, slots);
+    }
+}
+
+// Puts an element where it left, and gives back what was replaced before.
+fn put_back<T: Drop>(removed: Removed<T>, items: &mut Vec<T>, slots: &mut Vec<usize>)
+    requires place { removed.element.at ≤ length items.old.items }
+    requires places { All (λ r. r.at ≤ length items.old.items) removed.earlier.items }
+    requires lengths { length slots.old.items ≡ length items.old.items }
+    requires items_room { length items.old.items < vec_capacity items.old }
+    requires slots_room { length slots.old.items < vec_capacity slots.old }
+    ensures items { items.new.items ≡ undo (λ r. r.value) removed.earlier.items
+        (insert items.old.items removed.element.at removed.element.value) }
+    ensures slots { slots.new.items ≡ undo (λ r. r.slot) removed.earlier.items
+        (insert slots.old.items removed.element.at removed.element.slot) }
+    ensures items_kept { vec_capacity items.new ≡ vec_capacity items.old }
+    ensures slots_kept { vec_capacity slots.new ≡ vec_capacity slots.old }
+{
+    let Removed { element, earlier } = removed;
+    let Replaced { at, slot, value } = element;
+    let _placed = items.insert(at, value);
+    let _found = slots.insert(at, slot);
+    give_back(earlier, items, slots);
+}
+
+// Gives back what was replaced, the last one first.
+fn give_back<T: Drop>(mut replaced: Vec<Replaced<T>>, items: &mut Vec<T>, slots: &mut Vec<usize>)
+    requires places { All (λ r. r.at < length items.old.items) replaced.items }
+    requires lengths { length slots.old.items ≡ length items.old.items }
+    ensures items { items.new.items ≡ undo (λ r. r.value) replaced.items items.old.items }
+    ensures slots { slots.new.items ≡ undo (λ r. r.slot) replaced.items slots.old.items }
+    ensures items_kept { vec_capacity items.new ≡ vec_capacity items.old }
+    ensures slots_kept { vec_capacity slots.new ≡ vec_capacity slots.old }
+{
+    while let Some(last) = replaced.pop() {
+        slots[last.at] = last.slot;
+        items[last.at] = last.value;
     }
 }
