@@ -1,5 +1,5 @@
 -- Entries whose keys are texts, seen as entries whose keys are the texts' bytes.
-use Rattle.std.proofs.Common.{◌≡◌, ◌≢◌, ℕ, ◌+◌, ◌≤◌, Bool, true, false, cond, not, List, [], ◌∷◌, ◌++◌, map, length, position, None, Some, AllPairs, refl, ap, ◌∙◌, if◌then◌else◌, arith}
+use Rattle.std.proofs.Common.{◌≡◌, ◌≢◌, ℕ, zero, suc, ◌+◌, ◌≤◌, Bool, true, false, cond, not, List, [], ◌∷◌, ◌++◌, map, length, position, remove, None, Some, AllPairs, refl, ap, ◌∙◌, if◌then◌else◌, arith}
 use Rattle.std.proofs.lemmas.Grind.{common_steps}
 use Rattle.std.proofs.lemmas.List.{length-map}
 use Rattle.std.proofs.lemmas.Map.Made.{AllPairs-from_IsDistinct}
@@ -85,3 +85,10 @@ module _ {K X : Type 0} (bytes : K → List ℕ) where
   -- keys that differ have names that differ
   pub AllPairs-seen : (es : List (K × X)) → IsDistinct (λ a b. bytes_eq (bytes a) (bytes b)) (keys_of es) → AllPairs (λ a b. a ≢ b) (keys_of (map seen es))
   AllPairs-seen es h = AllPairs-from_IsDistinct bytes_eq-Decides (keys_of (map seen es)) (distinct-seen es h)
+
+-- the names of what is left where an entry goes
+pub names-remove : {V : Type 0} (es : List (List ℕ × V)) (i : ℕ) → keys_of (remove es i) ≡ remove (keys_of es) i
+names-remove [] zero = refl
+names-remove [] (suc i) = refl
+names-remove (e ∷ es) zero = refl
+names-remove (e ∷ es) (suc i) = ap (λ names. e.0 ∷ names) (names-remove es i)

@@ -1,5 +1,6 @@
 -- Lists of distinct names, each a list of bytes, and what stands under them.
-use Rattle.std.specs.Prelude.{◌≡◌, ◌≢◌, ◌<◌, ℕ, List, Option, None, IsSome, length, position, AllPairs}
+use Rattle.std.specs.Prelude.{◌≡◌, ◌≢◌, ◌<◌, ℕ, List, Option, None, Some, IsSome, length, remove, position}
+use Rattle.std.specs.Prelude.{AllPairs}
 use Rattle.std.specs.List.{AllZip}
 use Rattle.std.specs.Map.{keys_of, lookup, set_value}
 use Rattle.std.specs.Map as map
@@ -32,6 +33,12 @@ MayRefuse limit names name Taken = IsSome (place_of names name)
 MayRefuse limit names name Full = (place_of names name ≡ None) × (length names ≡ limit)
 MayRefuse limit names name Unknown = ⊥
 MayRefuse limit names name OutOfMemory = IsNew limit names name
+
+-- the name has left its place, and those after it have closed up
+abbrev pub IsWithout : NameList → List ℕ → NameList → Type 0
+IsWithout old name new =
+    (place : ℕ) × (place_of old.names name ≡ Some place)
+    × (new ≡ record old { names = remove old.names place })
 
 -- ---- values under names
 

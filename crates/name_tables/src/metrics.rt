@@ -1,7 +1,9 @@
 // Numbers under names.
-ghost use Rattle.std.specs.Prelude.{◌≡◌, ◌≤◌, ◌++◌, ◌∷◌, [], None, IfOk, IsSome, OnErr, OnOk, IfErr, length, slice_get};
+ghost use Rattle.std.specs.Prelude.{◌≡◌, ◌≤◌, ◌++◌, ◌∷◌, [], None, IfOk, IsSome, OnErr, OnOk, IfErr, length};
+ghost use Rattle.std.specs.Prelude.{slice_get};
 ghost use Rattle.std.specs.Option.{option_map};
-ghost use Rattle.name_tables.specs.Names.{names_of, place_of, value_of, with_value, AreDistinct, IsNew, MayRefuse};
+ghost use Rattle.name_tables.specs.Names.{names_of, place_of, value_of, with_value, AreDistinct, IsNew};
+ghost use Rattle.name_tables.specs.Names.{MayRefuse};
 
 use crate::name_map::{NameMap, Named};
 use crate::stops::NameStop;
@@ -65,7 +67,8 @@ impl Metrics {
 
     /// Defines a metric, which goes to the end.
     ///
-    /// `Taken` where there is a metric of that name, otherwise `Full` where there are 500. After a refusal all is as before.
+    /// `Taken` where there is a metric of that name, otherwise `Full` where there are 500. After a refusal
+    /// all is as before.
     pub fn define(&mut self, name: &str, value: Frac) -> Result<(), NameStop>
         ensures new { OnOk result (IsNew METRIC_LIMIT (names_of self.old) name.now) }
         ensures added { OnOk result (self.new ≡ self.old ++ (name.now, value) ∷ []) }
@@ -88,7 +91,8 @@ impl Metrics {
     pub fn change(&mut self, name: &str, value: Frac) -> Result<(), NameStop>
         ensures known { OnOk result (IsSome (place_of (names_of self.old) name.now)) }
         ensures changed { OnOk result (self.new ≡ with_value self.old name.now value) }
-        ensures unknown { IfErr result (λ stop. (stop ≡ NameStop.Unknown) × (place_of (names_of self.old) name.now ≡ None)) }
+        ensures unknown { IfErr result (λ stop. (stop ≡ NameStop.Unknown)
+            × (place_of (names_of self.old) name.now ≡ None)) }
         ensures unchanged { OnErr result (self.new ≡ self.old) }
     {
         if self.table.find(name).is_none() {

@@ -1,8 +1,9 @@
 // Values under distinct names.
-ghost use Rattle.std.specs.Prelude.{◌≡◌, ◌<◌, ◌++◌, ◌∷◌, [], None, length, slice_get, take};
+ghost use Rattle.std.specs.Prelude.{◌≡◌, ◌<◌, ◌++◌, ◌∷◌, [], None, length, remove, slice_get, take};
 ghost use Rattle.std.specs.Prelude.{IfOk, IfSome, OnErr, OnOk};
 ghost use Rattle.std.specs.Option.{option_map};
-ghost use Rattle.name_tables.specs.Names.{AreClones, AreDistinct, names_of, place_of, value_of, values_of, with_value};
+ghost use Rattle.name_tables.specs.Names.{AreClones, AreDistinct, names_of, place_of, value_of, values_of};
+ghost use Rattle.name_tables.specs.Names.{with_value};
 
 use frac_core::OutOfMemory;
 use indexmap::IndexMap;
@@ -41,6 +42,11 @@ impl<V: Copy> NameMap<V> {
         NameMap {
             table: IndexMap::new(alloc),
         }
+    }
+
+    /// Where the table takes its memory.
+    pub fn allocator(&self) -> Global {
+        *self.table.allocator()
     }
 
     /// How many names there are.
@@ -109,6 +115,14 @@ impl<V: Copy> NameMap<V> {
         ensures { self.new ≡ take len self.old }
     {
         self.table.truncate(len);
+    }
+
+    /// Takes out the name at a place, with what stands under it. Those after it close up. Past the end
+    /// nothing changes. It takes no memory.
+    pub fn remove(&mut self, place: usize)
+        ensures { self.new ≡ remove self.old place }
+    {
+        self.table.shift_remove_index(place);
     }
 
     /// The same names over clones of the values.

@@ -1,7 +1,8 @@
 // A list of distinct names.
-ghost use Rattle.std.specs.Prelude.{◌≡◌, ◌≤◌, ◌++◌, ◌∷◌, [], IfOk, OnErr, OnOk, IfErr, length, slice_get};
+ghost use Rattle.std.specs.Prelude.{◌≡◌, ◌≤◌, ◌++◌, ◌∷◌, [], None, IfOk, OnErr, OnOk, IfErr, length};
+ghost use Rattle.std.specs.Prelude.{slice_get};
 ghost use Rattle.std.specs.Option.{option_map};
-ghost use Rattle.name_tables.specs.Names.{place_of, AreDistinct, IsNew, MayRefuse};
+ghost use Rattle.name_tables.specs.Names.{place_of, AreDistinct, IsNew, IsWithout, MayRefuse};
 
 use crate::name_map::NameMap;
 use crate::stops::NameStop;
@@ -67,7 +68,8 @@ impl Names {
 
     /// Adds a name at the end, and answers its place.
     ///
-    /// `Taken` where the name is there, otherwise `Full` where there are `limit` names. After a refusal all is as before.
+    /// `Taken` where the name is there, otherwise `Full` where there are `limit` names. After a refusal all
+    /// is as before.
     pub fn add(&mut self, name: &str) -> Result<u32, NameStop>
         ensures place { IfOk result (λ place. place ≡ length self.old.names) }
         ensures new { OnOk result (IsNew self.old.limit self.old.names name.now) }
@@ -84,6 +86,24 @@ impl Names {
         }
         self.table.add(name, ())?;
         Ok(place as u32)
+    }
+
+    /// Takes a name out, and takes no memory. The names after it close up.
+    ///
+    /// `Unknown` where the name isn't there. Then all is as before.
+    pub fn remove(&mut self, name: &str) -> Result<(), NameStop>
+        ensures removed { OnOk result (IsWithout self.old name.now self.new) }
+        ensures unknown { IfErr result
+            (λ stop. (stop ≡ NameStop.Unknown) × (place_of self.old.names name.now ≡ None)) }
+        ensures unchanged { OnErr result (self.new ≡ self.old) }
+    {
+        match self.table.find(name) {
+            Some(place) => {
+                self.table.remove(place);
+                Ok(())
+            }
+            None => Err(NameStop::Unknown),
+        }
     }
 
     /// A list of the same names under the same limit.

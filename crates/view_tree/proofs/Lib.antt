@@ -1,2 +1,3 @@
+pub mod DropLemmas
 pub mod NodeLemmas
 pub mod ViewLemmas

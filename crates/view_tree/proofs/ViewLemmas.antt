@@ -1,5 +1,6 @@
 -- A tree with one view more is a tree.
-use Rattle.std.proofs.Common.{suc, unwrap_or, ◌≡◌, ◌≢◌, ℕ, ◌+◌, ◌<◌, ◌≤◌, ◌^◌, Bool, true, false, cond, List, [], ◌∷◌, ◌++◌, Option, None, Some, All, length, map, nat_eq, slice_get, refl, sym, ap, subst, ◌∙◌, true≢false, arith, length-append, lit≤}
+use Rattle.std.proofs.Common.{suc, unwrap_or, ◌≡◌, ◌≢◌, ℕ, ◌+◌, ◌<◌, ◌≤◌, ◌^◌, Bool, true, false, cond, List, [], ◌∷◌, ◌++◌, Option, None, Some, All, IsSome, length, map, nat_eq, slice_get, refl, sym, ap, subst, ◌∙◌, true≢false, arith, length-append, lit≤}
+use Rattle.std.proofs.lemmas.Bool.{eqb-true}
 use Rattle.std.proofs.lemmas.Grind.{common_steps}
 use Rattle.std.proofs.lemmas.List.{map-append}
 use Rattle.std.proofs.lemmas.List.Elements.{All-push, All-from_recursion, recursion_from_All}
@@ -101,6 +102,15 @@ first_stays (w ∷ views) more v h = h
 room : (t : ViewTree) → is_full t ≡ false → (length t.views < 200) × (t.next < 2 ^ 29)
 room t h = grind (arith, common_steps, h)
 
+-- a live view has a number below the next one
+lower : (next id : ℕ) (views : List LiveView) → AllByRecursion (λ v. v.id < next) views → IsSome (view_of views id) → id < next
+lower next id [] h live = absurd (true≢false (sym live))
+lower next id (v ∷ views) h live = by (nat_eq v.id id) refl live (lower next id views h.1)
+  where
+    by : (b : Bool) → nat_eq v.id id ≡ b → IsSome (cond b (Some v) (view_of views id)) → (IsSome (view_of views id) → id < next) → id < next
+    by true same some rest = subst (λ n. n < next) (eqb-true v.id id same) h.0
+    by false other some rest = rest some
+
 pub IsTree-with_view : (t : ViewTree) (name : List ℕ) (parent : ℕ) → IsTree t → IsNewView t name parent → IsTree (with_view t name parent)
 IsTree-with_view t name parent h new =
     let v : LiveView = record { id = t.next; name = name; parent = Some parent } in
@@ -116,6 +126,8 @@ IsTree-with_view t name parent h new =
       levels = All-push (λ w. (level : ℕ) × IsOnLevel (t.views ++ v ∷ []) w.id level × (level ≤ 32)) t.views v
           (λ k d l. ((h.levels k d l).0, IsOnLevel-append t.views (v ∷ []) _ _ (h.levels k d l).1, (h.levels k d l).2))
           (new.high.0 + 1, IsOnLevel-push t.views v parent new.high.0 refl h.below new.high.1, omega (arith, new.high.2));
+      older = All-push (λ w. (p : ℕ) → w.parent ≡ Some p → p < w.id) t.views v h.older
+          (λ p is. subst (λ n. n < t.next) (ap (λ o. unwrap_or o 0) is) (lower t.next parent t.views (recursion_from_All (λ w. w.id < t.next) t.views h.below) new.live));
     }
 
 pub IsTree-window : IsTree (record { views = window ∷ []; next = 1 })
@@ -128,4 +140,5 @@ IsTree-window = record {
   short = All-from_recursion (λ (v : LiveView). length v.name ≤ 64) (window ∷ []) (lit≤ tt, tt);
   names = λ i j d l m. absurd (omega (arith, l, m));
   levels = All-from_recursion (λ (v : LiveView). (level : ℕ) × IsOnLevel (window ∷ []) v.id level × (level ≤ 32)) (window ∷ []) ((1, record { above = []; chain = refl; count = refl }, omega arith), tt);
+  older = All-from_recursion (λ (v : LiveView). (p : ℕ) → v.parent ≡ Some p → p < v.id) (window ∷ []) ((λ p is. absurd (none-some p is)), tt);
 }

@@ -1,3 +1,4 @@
+pub mod Drops
 pub mod Nodes
 pub mod Stops
 pub mod Views

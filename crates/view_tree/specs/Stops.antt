@@ -1,5 +1,6 @@
 -- When a new view is refused.
-use Rattle.std.specs.Prelude.{◌≡◌, ◌<◌, ◌≤◌, ◌^◌, ◌||◌, ℕ, Bool, true, false, List, None, IsSome, length, nat_le}
+use Rattle.std.specs.Prelude.{◌≡◌, ◌<◌, ◌≤◌, ◌^◌, ◌||◌, ℕ, Bool, true, false, List, None, IsSome, length}
+use Rattle.std.specs.Prelude.{nat_le}
 use Rattle.name_tables.specs.declared.stops.LimitWord.{LimitWord}
 use Rattle.name_tables.specs.declared.stops.LimitWord.TheVariants.{Name, Views, Depth}
 use Rattle.view_tree.specs.Views.{ViewTree, IsOnLevel, view_named, view_of}
@@ -22,13 +23,16 @@ pub record IsNewView (t : ViewTree) (name : List ℕ) (parent : ℕ) : Type 0 wh
 abbrev pub PassesLimit : ViewTree → List ℕ → ℕ → LimitWord → Type 0
 PassesLimit t name parent Name = 64 < length name
 PassesLimit t name parent Views = (length name ≤ 64) × (is_full t ≡ true)
-PassesLimit t name parent Depth = (length name ≤ 64) × (is_full t ≡ false) × ((level : ℕ) × IsOnLevel t.views parent level × (32 ≤ level))
+PassesLimit t name parent Depth = (length name ≤ 64) × (is_full t ≡ false)
+    × ((level : ℕ) × IsOnLevel t.views parent level × (32 ≤ level))
 PassesLimit t name parent _ = ⊥
 
 -- when a view that is to be added may be refused
 abbrev pub MayStop : ViewTree → List ℕ → ℕ → TreeStop → Type 0
 MayStop t name parent (Unknown held) = (held ≡ None) × (view_of t.views parent ≡ None)
-MayStop t name parent (Taken held) = (held ≡ None) × IsSome (view_of t.views parent) × IsSome (view_named t.views name)
-MayStop t name parent (Limit word) = IsSome (view_of t.views parent) × (view_named t.views name ≡ None) × PassesLimit t name parent word
+MayStop t name parent (Taken held) = (held ≡ None) × IsSome (view_of t.views parent)
+    × IsSome (view_named t.views name)
+MayStop t name parent (Limit word) = IsSome (view_of t.views parent) × (view_named t.views name ≡ None)
+    × PassesLimit t name parent word
 MayStop t name parent OutOfMemory = IsNewView t name parent
 MayStop t name parent _ = ⊥

@@ -1,5 +1,6 @@
 -- The tree of views.
-use Rattle.std.specs.Prelude.{◌≡◌, ◌<◌, ◌≤◌, ◌+◌, ◌^◌, ℕ, List, [], ◌∷◌, ◌++◌, Option, None, Some, All, AllPairs, codes, find, length, map, nat_eq, slice_get}
+use Rattle.std.specs.Prelude.{◌≡◌, ◌<◌, ◌≤◌, ◌+◌, ◌^◌, ℕ, List, [], ◌∷◌, ◌++◌, Option, None, Some, All}
+use Rattle.std.specs.Prelude.{AllPairs, codes, find, length, map, nat_eq, slice_get}
 use Rattle.std.specs.Option.{option_map}
 use Rattle.std.specs.Str.{bytes_eq}
 use Rattle.name_tables.specs.Names.{AreDistinct}
@@ -50,10 +51,15 @@ pub record IsTree (t : ViewTree) : Type 0 where
   pub short : All (λ v. length v.name ≤ 64) t.views
   pub names : AreDistinct (map (λ v. v.name) t.views)
   pub levels : All (λ v. (level : ℕ) × IsOnLevel t.views v.id level × (level ≤ 32)) t.views
+  pub older : All (λ v. (parent : ℕ) → v.parent ≡ Some parent → parent < v.id) t.views
 
 -- the tree with one view more
 abbrev pub with_view : ViewTree → List ℕ → ℕ → ViewTree
-with_view t name parent = record { views = t.views ++ record { id = t.next; name = name; parent = Some parent } ∷ []; next = t.next + 1 }
+with_view t name parent = record {
+  views = t.views
+      ++ record { id = t.next; name = name; parent = Some parent } ∷ [];
+  next = t.next + 1;
+}
 
 -- the last view was added to a tree
 pub record IsAdded (t : ViewTree) : Type 0 where

@@ -4,5 +4,6 @@ ghost use Rattle.view_tree.specs.Views.{IsOnLevel, LiveView};
 
 /// A view has one level at most.
 pub fn level_is_unique()
-    ensures { (views : List LiveView) → (id one other : ℕ) → IsOnLevel views id one → IsOnLevel views id other → one ≡ other }
+    ensures { (views : List LiveView) → (id one other : ℕ) → IsOnLevel views id one → IsOnLevel views id other
+        → one ≡ other }
 {}

@@ -1,10 +1,12 @@
 // The live views.
-ghost use Rattle.std.specs.Prelude.{◌≡◌, ◌≤◌, ◌<◌, ◌^◌, ◌+◌, ◌==◌, ℕ, List, [], ◌∷◌, ◌++◌, None, find, position};
+ghost use Rattle.std.specs.Prelude.{◌≡◌, ◌≢◌, ◌≤◌, ◌<◌, ◌^◌, ◌+◌, ◌==◌, ℕ, List, [], ◌∷◌, ◌++◌, None, false};
+ghost use Rattle.std.specs.Prelude.{filter, find, not, position};
 ghost use Rattle.std.specs.Prelude.{IfOk, IfSome, OnErr, OnOk, IfErr, IfNone, is_some, length, slice_get};
-ghost use Rattle.std.specs.Option.{option_map, option_and_then};
+ghost use Rattle.std.specs.Option.{option_map, option_map_or, option_and_then};
 ghost use Rattle.view_tree.specs.Views.{ViewTree, IsTree, IsOnLevel, HasParent, IsAdded};
 ghost use Rattle.view_tree.specs.Views.{view_of, view_named, with_view, window};
 ghost use Rattle.view_tree.specs.Stops.{IsNewView, MayStop, is_full};
+ghost use Rattle.view_tree.specs.Drops.{AreGoing, IsDropped, MayStay, goes, is_among, without};
 
 use crate::stops::TreeStop;
 use crate::view::{View, ViewId};
@@ -44,6 +46,43 @@ fn node_of(nodes: &[Node], id: u32) -> Option<Node>
     match place_of_number(nodes, id) {
         Some(place) => Some(nodes[place]),
         None => None,
+    }
+}
+
+// Whether the view is the root, or its parent is one of these.
+fn goes(root: u32, gone: &[u32], id: ViewId, parent: Option<ViewId>) -> bool
+    ensures { (name : List ℕ) → result
+        ≡ goes root gone.now (record { id = id.0; name = name; parent = option_map (λ p. p.0) parent }) }
+{
+    if id.0 == root {
+        return true;
+    }
+    match parent {
+        Some(above) => gone.contains(&above.0),
+        None => false,
+    }
+}
+
+// Whether the node at a place has one of these numbers.
+fn is_gone(table: &NameMap<Node>, place: usize, gone: &[u32]) -> bool
+    ensures { result ≡ option_map_or (λ e. is_among gone.now e.1.id.0) (slice_get table.now place) false }
+{
+    match table.at(place) {
+        Some(entry) => gone.contains(&entry.value.id.0),
+        None => false,
+    }
+}
+
+// Takes out the nodes of these numbers, the last first.
+fn drop_nodes(table: &mut NameMap<Node>, gone: &[u32])
+    ensures { table.new ≡ filter (λ e. not (is_among gone.now e.1.id.0)) table.old }
+{
+    let mut place = table.len();
+    while place > 0 {
+        place -= 1;
+        if is_gone(table, place, gone) {
+            table.remove(place);
+        }
     }
 }
 
@@ -90,7 +129,8 @@ impl Tree {
 
     /// The view of a name.
     pub fn find(&self, name: &str) -> Option<ViewId>
-        ensures { option_map (λ id. id.0) result ≡ option_map (λ v. v.id) (view_named self.now.views name.now) }
+        ensures { option_map (λ id. id.0) result ≡ option_map (λ v.
+            v.id) (view_named self.now.views name.now) }
     {
         let node = self.table.get(name)?;
         Some(node.id)
@@ -114,7 +154,8 @@ impl Tree {
 
     /// The parent of a view: none for the window, and none where the view isn't live.
     pub fn parent(&self, id: ViewId) -> Option<ViewId>
-        ensures { option_map (λ p. p.0) result ≡ option_and_then (λ v. v.parent) (view_of self.now.views id.0) }
+        ensures { option_map (λ p. p.0) result ≡ option_and_then (λ v.
+            v.parent) (view_of self.now.views id.0) }
     {
         let node = self.node(id)?;
         node.parent
@@ -122,7 +163,12 @@ impl Tree {
 
     /// The view at a place, counted from 0 in order of creation. There is none exactly past the end.
     pub fn at(&self, place: usize) -> Option<View<'_>>
-        ensures { option_map (λ v. record { id = v.id.0; name = v.name.now; parent = option_map (λ p. p.0) v.parent }) result ≡ slice_get self.now.views place }
+        ensures { option_map (λ v. record {
+          id = v.id.0;
+          name = v.name.now;
+          parent = option_map (λ p.
+              p.0) v.parent;
+        }) result ≡ slice_get self.now.views place }
     {
         let entry = self.table.at(place)?;
         Some(View {
@@ -134,7 +180,8 @@ impl Tree {
 
     // The level of a new view below this parent, or the first cause that there is against it.
     fn level_below(&self, name: &str, parent: ViewId) -> Result<u32, TreeStop>
-        ensures level { IfOk result (λ level. (above : ℕ) × IsOnLevel self.now.views parent.0 above × (level ≡ above + 1)) }
+        ensures level { IfOk result (λ level. (above : ℕ) × IsOnLevel self.now.views parent.0 above
+            × (level ≡ above + 1)) }
         ensures low { IfOk result (λ level. level ≤ 32) }
         ensures new { OnOk result (IsNewView self.now name.now parent.0) }
         ensures refused { IfErr result (MayStop self.now name.now parent.0) }
@@ -164,9 +211,9 @@ impl Tree {
 
     /// Adds a view below a parent, and answers its number, which is the next one.
     ///
-    /// `Unknown` where the parent isn't live, otherwise `Taken` where a live view has the name, otherwise the first limit that
-    /// would be passed: `Name` at more than 64 bytes, `Views` at 200 live views or at the number 2^29, `Depth` at more than 32
-    /// levels. After a refusal all is as before.
+    /// `Unknown` where the parent isn't live, otherwise `Taken` where a live view has the name, otherwise the
+    /// first limit that would be passed: `Name` at more than 64 bytes, `Views` at 200 live views or at the
+    /// number 2^29, `Depth` at more than 32 levels. After a refusal all is as before.
     pub fn add(&mut self, name: &str, parent: ViewId) -> Result<ViewId, TreeStop>
         ensures id { IfOk result (λ id. id.0 ≡ self.old.next) }
         ensures new { OnOk result (IsNewView self.old name.now parent.0) }
@@ -207,6 +254,53 @@ impl Tree {
     {
         self.table.truncate(self.table.len() - 1);
         self.next -= 1;
+    }
+
+    /// The numbers of a view and of all below it, in order of creation. There is none where the view isn't
+    /// live.
+    pub fn subtree(&self, root: ViewId) -> Result<Vec<u32>, OutOfMemory>
+        ensures going { IfOk result (λ gone. AreGoing self.now.views root.0 gone.items) }
+        ensures few { IfOk result (λ gone. length gone.items ≤ length self.now.views) }
+    {
+        let mut gone = Vec::new(self.table.allocator());
+        for place in 0..self.len() {
+            let Some(view) = self.at(place) else {
+                unreachable!()
+            };
+            if goes(root.0, &gone, view.id, view.parent) {
+                gone.push(view.id.0)?;
+            }
+        }
+        Ok(gone)
+    }
+
+    /// Takes out the views of these numbers, which are a view and all below it. It takes no memory.
+    pub fn drop_views(&mut self, gone: &[u32])
+        requires { (root : ℕ) × (root ≢ 0) × AreGoing self.old.views root gone.now }
+        ensures { self.new ≡ without self.old gone.now }
+    {
+        drop_nodes(&mut self.table, gone);
+    }
+
+    /// Takes a view out with all below it, and answers how many they were. Their numbers aren't used again.
+    ///
+    /// `Shape` for the window, otherwise `Unknown` where the view isn't live. After a refusal all is as
+    /// before.
+    pub fn drop_subtree(&mut self, id: ViewId) -> Result<u32, TreeStop>
+        ensures dropped { IfOk result (IsDropped self.old id.0 self.new) }
+        ensures refused { IfErr result (MayStay self.old id.0) }
+        ensures unchanged { OnErr result (self.new ≡ self.old) }
+    {
+        if id.0 == 0 {
+            return Err(TreeStop::Shape);
+        }
+        if self.node(id).is_none() {
+            return Err(TreeStop::Unknown(None));
+        }
+        let gone = self.subtree(id)?;
+        self.len();
+        self.drop_views(&gone);
+        Ok(gone.len() as u32)
     }
 
     /// The same tree.
