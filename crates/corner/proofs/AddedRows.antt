@@ -11,6 +11,7 @@ use Rattle.cert_core.specs.declared.stops.RunStop.TheVariants.{Conflict, Unfit, 
 use Rattle.problem_core.specs.declared.parts.Mark.{Mark}
 use Rattle.problem_core.specs.declared.parts.Stay.{Stay}
 use Rattle.problem_core.specs.declared.parts.Rel.TheVariants.{Eq}
+use Rattle.problem_core.specs.declared.parts.RowName.{RowName}
 use Rattle.problem_core.specs.declared.parts.RowName.TheVariants.{Held}
 use Rattle.problem_core.specs.declared.parts.Level.TheVariants.{Priority as PriorityLevel}
 use Rattle.problem_core.specs.declared.stops.Quantity.TheVariants.{Rows}
@@ -37,7 +38,7 @@ use Rattle.corner.specs.Parts.{IsPartlyKept}
 use Rattle.corner.specs.RowJoins.{ArePushed}
 use Rattle.corner.specs.CostJoins.{AreAllJoined, AreToJoin, IsCostsStop}
 use Rattle.problem_core.specs.declared.parts.Rel.{Rel}
-use Rattle.problem_core.specs.Layout.{line_of_row, lines, stay_lines}
+use Rattle.problem_core.specs.Layout.{Line, line_of_row, lines, stay_lines}
 use Rattle.corner_laws.proofs.WrittenValues.{contains_each}
 use Rattle.corner.specs.declared.table.Owner.{Owner}
 use Rattle.corner.specs.declared.table.Owner.TheVariants.{Attr as AttrSlot, Line as LineSlot}
@@ -48,7 +49,9 @@ use Rattle.corner.specs.Kept.{AreSlots, IsLineSlot, IsOwned}
 use Rattle.corner.specs.LevelNumbers.{side_share}
 use Rattle.corner.specs.Views.{IsNamed}
 use Rattle.corner.specs.CostJoins.{IsLineListed}
-use Rattle.corner.proofs.AttrLevels.{stay_named}
+use Rattle.corner.proofs.AttrJoins.{nowhere}
+use Rattle.corner.proofs.FreeSlots.{line_named}
+use Rattle.corner.proofs.NextConsistent.{were_listed}
 use Rattle.corner.proofs.SlotFacts.{any_is}
 use Rattle.corner.proofs.MarkFacts.{inside_stands}
 use Rattle.corner.proofs.ReadFacts.{is_some}
@@ -210,14 +213,9 @@ stay-inside p kept rows at b c i =
     contains_each (λ d. IsIn d at) kept c
     (first-marks (λ m. IsIn (place m) at) kept (b.news ++ map (λ (r : Row). over_mark r.id) []) (recursion_from_All (λ m. IsIn (place m) at) (kept ++ (b.news ++ map (λ (r : Row). over_mark r.id) [])) b.marks.1)) i
 
-owner-named : (u : Lists) (w : ℕ) (o : Owner) → IsOwned u w o → IsNamed (problem_of u) (name_of o)
-owner-named u w LevelSlot h = absurd h
-owner-named u w (AttrSlot attr) h = stay_named (problem_of u) attr h.0
-owner-named u w (LineSlot name) h = h.0
-
-names-named : (u : Lists) (ws : List ℕ) → AreSlots u → Each (IsSlot u) ws → Each (IsNamed (problem_of u)) (names_of u ws)
-names-named u [] slots h = tt
-names-named u (w ∷ ws) slots h = (owner-named u w (slot_at u w).owner (slots.owners w h.0), names-named u ws slots h.1)
+names-named : (u : Lists) (ws : List ℕ) → Each (λ w. IsNamed (problem_of u) (name_of (slot_at u w).owner)) ws → Each (IsNamed (problem_of u)) (names_of u ws)
+names-named u [] h = tt
+names-named u (w ∷ ws) h = (h.0, names-named u ws h.1)
 
 each-contained : (P : ℕ → Type 0) (ws : List ℕ) → ((w : ℕ) → Contains ws w → P w) → Each P ws
 each-contained P [] f = tt
@@ -240,17 +238,24 @@ added_consistent t u rows old new c alike before h =
     let each : Each (IsSlot (lists_of u)) new = each-contained (IsSlot (lists_of u)) new
     (λ w i. elim (h.joined.others w i) [
       | inl j ↦ let s = contained (IsSlot (lists_of t)) old w was j in (s.0, omega (arith, s.1, longer))
-      | inr s ↦ (s.0, subst (λ (xs : List Slot). w < length xs) (sym h.joined.slots) s.1)
+      | inr s ↦ (s.0.0, subst (λ (xs : List Slot). w < length xs) (sym h.joined.slots) s.0.1)
+    ]) in
+    let old_slot : (w : ℕ) → Contains old w → slot_at (lists_of u) w ≡ slot_at (lists_of t) w = λ w i. ap (λ (xs : List Slot). slice_index_or xs w nowhere) slots
+    ∙ get_or_append_left t.slots.items (map slot_of_row rows) nowhere w (contained (IsSlot (lists_of t)) old w was i).1 in
+    let names : Each (λ w. IsNamed (problem_of (lists_of u)) (name_of (slot_at (lists_of u) w).owner)) new = each-contained (λ w. IsNamed (problem_of (lists_of u)) (name_of (slot_at (lists_of u) w).owner)) new
+    (λ w i. elim (h.joined.others w i) [
+      | inl j ↦ subst (λ (x : Slot). IsNamed (problem_of (lists_of u)) (name_of x.owner)) (sym (old_slot w j))
+          (subst (λ (p : Problem). IsNamed p (name_of (slot_at (lists_of t) w).owner)) (sym problem) (all_named (problem_of (lists_of t)) rows (name_of (slot_at (lists_of t) w).owner) (were_listed (lists_of t) old c.slots c.named w j).1))
+      | inr s ↦ line_named (lists_of u) w s.1.0 h.kept.slots (ap (λ (xs : List Slot). (slice_index_or xs w nowhere).owner) h.joined.slots ∙ s.1.1)
     ]) in
     record {
       alike = alike;
       before = subst (All IsEarlier) (sym before) c.before;
       kept = h.kept;
       slots = All-from_recursion (IsSlot (lists_of u)) new each;
-      named = All-from_recursion (IsNamed (problem_of (lists_of u))) (names_of (lists_of u) new) (names-named (lists_of u) new h.kept.slots each);
+      named = All-from_recursion (IsNamed (problem_of (lists_of u))) (names_of (lists_of u) new) (names-named (lists_of u) new names);
       candidates = joined_candidates (lists_of t) (lists_of u) rows old new (kept_part (lists_of u) h.kept) problem
-          (λ w i. ap (λ (xs : List Slot). slice_index_or xs w (record { owner = LevelSlot; home = 0; weight = pos 1; scale = pos 1; rel = Eq })) slots
-          ∙ get_or_append_left t.slots.items (map slot_of_row rows) (record { owner = LevelSlot; home = 0; weight = pos 1; scale = pos 1; rel = Eq }) w (contained (IsSlot (lists_of t)) old w was i).1)
+          old_slot
           (λ d i. subst (λ (at : List Mark). IsIn d at) (sym h.joined.marks) (stay-inside (problem_of h.mid) (marks_at (lists_of t)) rows (marks_at h.mid) h.begins d i))
           (subst (λ (at : List Mark). All (HasOneIn at) rows) (sym h.joined.marks) (begins_one_in (problem_of h.mid) (marks_at (lists_of t)) rows (marks_at h.mid) h.begins))
           h.joined.keeps
@@ -258,6 +263,15 @@ added_consistent t u rows old new c alike before h =
           c.candidates;
     }
   where
+    any_more : (P : Line → Type 0) (xs ys : List Row) (ls : List Line) → Any P (map line_of_row xs ++ ls) → Any P (map line_of_row (xs ++ ys) ++ ls)
+    any_more P [] [] ls h = h
+    any_more P [] (y ∷ ys) ls h = let i = any_more P [] ys ls h in (suc i.0, i.1, omega (arith, i.2), i.3, i.4)
+    any_more P (x ∷ xs) ys ls (zero, d, lt, e, h) = (0, d, omega arith, e, h)
+    any_more P (x ∷ xs) ys ls (suc k, d, lt, e, h) = let i = any_more P xs ys ls (k, d, omega (arith, lt), e, h) in (suc i.0, i.1, omega (arith, i.2), i.3, i.4)
+
+    all_named : (p : Problem) (more : List Row) (name : RowName) → IsNamed p name → IsNamed (with_rows p more) name
+    all_named p more name h = any_more (λ l. l.name ≡ name) p.rows more (stay_lines 1001 p.stays) h
+
     longer-than : (xs ys : List Slot) → length xs ≤ length (xs ++ ys)
     longer-than [] ys = let n : ℕ = length ys in omega arith
     longer-than (x ∷ xs) ys = let k = longer-than xs ys in omega (arith, k)

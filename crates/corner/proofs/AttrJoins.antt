@@ -1,5 +1,5 @@
 -- What the lists keep when an attribute joins.
-use Rattle.std.proofs.Common.{◌≡◌, ◌≢◌, ◌∙◌, ◌⊎◌, ℕ, zero, suc, ◌+◌, ◌<◌, ◌≤◌, ◌++◌, Bool, true, false, cond, nat_eq, List, [], ◌∷◌, map, filter, length, refl, sym, ap, ap₂, subst, arith, inl, inr, ℤ, pos, negsuc, neg_ℤ, ◌+ℤ◌, ◌*ℤ◌, ◌-ℤ◌, ne_eqb, eq-eqb, slice_index_or, unsigned_abs, All, AllPairs, Any, Some, None}
+use Rattle.std.proofs.Common.{◌≡◌, ◌≢◌, ◌∙◌, ◌⊎◌, ℕ, zero, suc, ◌+◌, ◌^◌, ◌<◌, ◌≤◌, ◌++◌, Bool, true, false, cond, nat_eq, List, [], ◌∷◌, map, filter, length, refl, sym, ap, ap₂, subst, arith, inl, inr, ℤ, pos, negsuc, neg_ℤ, ◌+ℤ◌, ◌*ℤ◌, ◌-ℤ◌, ne_eqb, eq-eqb, slice_index_or, unsigned_abs, All, AllPairs, Any, Some, None}
 use Rattle.std.proofs.lemmas.List.{get_or_push, get_or_past, get_or_default, length_push}
 use Rattle.std.proofs.lemmas.List.Elements.{All-push, filter-append}
 use Rattle.std.proofs.lemmas.List.Quantifiers.{all_pairs_push}
@@ -74,6 +74,7 @@ pub record IsJoin (t : Lists) (attr : ℕ) (target : Fraction) (m : List (List T
   pub value : IsKeptFraction target
   pub fresh : HasStay t.stays attr → ⊥
   pub few : length t.stays < 4096
+  pub room : length t.slots + 2 < 2 ^ 32
   pub count : length m ≡ length t.matrix + 2
   pub own : IsStayForm (length t.slots) (slice_index_or m (length t.slots) [])
   pub own_kept : IsKeptRow (slice_index_or m (length t.slots) [])
@@ -82,7 +83,7 @@ pub record IsJoin (t : Lists) (attr : ℕ) (target : Fraction) (m : List (List T
 
 -- ---- slots
 
-pub nowhere : Slot
+abbrev pub nowhere : Slot
 nowhere = record { owner = LevelSlot; home = 0; weight = pos 1; scale = pos 1; rel = Eq }
 
 pub old_slot : (t : Lists) (attr : ℕ) (target : Fraction) (m : List (List Term)) (a : List ℕ) (w : ℕ) → w < length t.slots → slot_at (joined t attr target m a) w ≡ slot_at t w
@@ -268,13 +269,15 @@ slots_joined t attr target m a j =
     let s = j.kept.slots in
     let n = count_two t.slots (slot_of_attr attr (length t.slots)) (slot_of_stay attr (length t.slots + 1)) in
     let v = count_two t.standings (at_value target) at_zero in
-    let c = length_push t.stays (new_stay attr target) in
     record {
       standings = omega (arith, n, v, s.standings);
       matrix = omega (arith, n, j.count, s.matrix);
       levels = omega (arith, n, s.levels);
-      room = omega (arith, n, s.count, j.kept.whole.row_count, j.kept.whole.stay_count);
-      count = omega (arith, n, c, s.count);
+      room = All-push (λ (x : Stay). attr_slot (joined t attr target m a) x.attr + 1 < 2 ^ 32) t.stays (new_stay attr target)
+          (λ k x lt.
+          let e = old_attr t attr target m a (slice_index_or t.stays k x).attr j (own_stay t.stays k x lt) in
+          let few = s.room k x lt in
+          omega (arith, e, few)) (omega (arith, j.attrs.here, j.room));
       priorities = s.priorities;
       attrs = All-push (λ (x : Stay). IsAttrSlot (joined t attr target m a) x.attr) t.stays (new_stay attr target)
           (λ k x lt. attr_slot_kept t attr target m a (slice_index_or t.stays k x).attr j (own_stay t.stays k x lt) (s.attrs k x lt)) (new_attr_slot t attr target m a j);

@@ -1,7 +1,12 @@
 -- What the levels keep when an attribute joins, and all of it.
 use Rattle.std.proofs.Common.{◌≡◌, ◌≢◌, ◌∙◌, ℕ, zero, suc, ◌+◌, ◌*◌, ◌/◌, ◌<◌, ◌++◌, Bool, cond, nat_eq, List, [], ◌∷◌, map, length, refl, sym, ap, ap₂, subst, arith, inl, inr, ℤ, pos, neg_ℤ, ◌+ℤ◌, ◌*ℤ◌, ◌-ℤ◌, ne_eqb, slice_index_or, All, Any}
 use Rattle.std.proofs.lemmas.List.{get_or_default, get_or_push, get_or_past, length_push, length-append}
+use Rattle.std.proofs.lemmas.Bool.{cases_lt}
 use Rattle.std.proofs.lemmas.Bool.Decides.{eqb_tells}
+use Rattle.corner.proofs.AttrJoins.{attr_place, count_two, old_slot}
+use Rattle.corner.specs.declared.table.Owner.{Owner}
+use Rattle.corner.specs.Tables.{slot_at}
+use Rattle.corner.specs.declared.table.Owner.TheVariants.{Level as LevelSlot, Attr as AttrSlot, Line as LineSlot}
 use Rattle.std.proofs.lemmas.List.Elements.{All-push}
 use Rattle.std.proofs.Math.ListN.{get_or-append}
 use Rattle.frac_core.proofs.Integers.{mul-zero_ℤ, zero-mul_ℤ}
@@ -37,8 +42,8 @@ use Rattle.corner.specs.declared.table.Standing.{Standing}
 use Rattle.corner.specs.declared.table.TheConstants.{LEVELS}
 use Rattle.corner.specs.Views.{IsNamed}
 use Rattle.corner.specs.Tables.{Lists, entry, line_slot, marks_at, number, priority_at, problem_of, row_at, standing_at, stands_in}
-use Rattle.corner.specs.Kept.{HasLevelNumbers, HasStayRoom, IsAttrRow, IsKept, IsLevelKept, IsLineRow}
-use Rattle.corner.specs.Joining.{IsWithAttr, at_value, at_zero}
+use Rattle.corner.specs.Kept.{AreStored, HasLevelNumbers, HasStayRoom, IsAttrRow, IsKept, IsLevelKept, IsLineRow}
+use Rattle.corner.specs.Joining.{IsWithAttr, at_value, at_zero, slot_of_attr, slot_of_stay}
 use Rattle.corner.proofs.KeptFacts.{row_kept, zero_kept}
 use Rattle.corner.proofs.MarkFacts.{inside_stands, not_both}
 use Rattle.corner.proofs.SlotFacts.{named_slot, named_stay}
@@ -233,6 +238,28 @@ rows_joined t attr target m a j i d lt = subst IsKeptRow (get_or_default m i [] 
   | inr (e, other) ↦ subst IsKeptRow (sym (j.others i other)) (row_kept t i j.kept)
 ])
 
+stored_joined : (t : Lists) (attr : ℕ) (target : Fraction) (m : List (List Term)) (a : List ℕ) → IsJoin t attr target m a → AreStored (joined t attr target m a)
+stored_joined t attr target m a j =
+    let n = count_two t.slots (slot_of_attr attr (length t.slots)) (slot_of_stay attr (length t.slots + 1)) in
+    record {
+      few = omega (arith, n, j.room);
+      empty = λ w high free. elim (eqb_tells w (length t.slots)) [
+        | inl (e, same) ↦ absurd (of_attr attr (sym (ap (λ (x : Slot). x.owner) (ap (slot_at (joined t attr target m a)) same ∙ attr_place t attr target m a)) ∙ free))
+        | inr (e, other) ↦ j.others w other ∙ elim (cases_lt w (length t.slots)) [
+          | inl lt ↦ j.kept.stored.empty w high (sym (ap (λ (x : Slot). x.owner) (old_slot t attr target m a w lt)) ∙ free)
+          | inr past ↦ get_or_past t.matrix w [] (omega (arith, past, j.kept.slots.matrix))
+        ]
+      ];
+    }
+  where
+    is_attr : Owner → Type 0
+    is_attr LevelSlot = ⊥
+    is_attr (AttrSlot b) = Unit {0}
+    is_attr (LineSlot name) = ⊥
+
+    of_attr : (b : ℕ) → AttrSlot b ≡ LevelSlot → ⊥
+    of_attr b e = subst is_attr e tt
+
 pub kept_joined : (t : Lists) (attr : ℕ) (target : Fraction) (m : List (List Term)) (a : List ℕ) → IsJoin t attr target m a → IsKept (joined t attr target m a)
 kept_joined t attr target m a j =
     let p : Problem = problem_of t in
@@ -243,6 +270,7 @@ kept_joined t attr target m a j =
       corner = subst (IsCorner (with_attr attr target p)) ms (attr_corner p (marks_at t) attr target k.whole j.is_number j.fresh j.value.lowest.above k.corner);
       rays = subst (HasRays (with_attr attr target p)) ms (attr_rays p (marks_at t) attr target k.whole j.is_number j.fresh j.value.lowest.above k.rays);
       slots = slots_joined t attr target m a j;
+      stored = stored_joined t attr target m a j;
       matrix = rows_joined t attr target m a j;
       values = All-push (λ (s : Standing). fractions.IsKept s.value) (t.standings ++ (at_value target ∷ [])) at_zero
           (All-push (λ (s : Standing). fractions.IsKept s.value) t.standings (at_value target) k.values j.value) zero_kept;
@@ -275,6 +303,7 @@ join_of t u attr target kept is_number value fresh few h = record {
   value = value;
   fresh = fresh;
   few = few;
+  room = h.room;
   count = h.count;
   own = h.own;
   own_kept = h.own_kept;

@@ -121,10 +121,10 @@ balanced scale g side w d x e =
     omega (arith, ints, a, b, c)
 
 -- the factor takes the leaving mark's column away
-abbrev factor_of : Side → Side → Line → Multipliers → ℕ → ℤ
+abbrev pub factor_of : Side → Side → Line → Multipliers → ℕ → ℤ
 factor_of side w l m level = turned side (turned w (column m side l level))
 
-leaving-column : (side w : Side) (g : ℕ) (by : RowName → ℤ) (m : Multipliers) (l : Line) (level : ℕ) → pos g ≡ sign_of w *ℤ neg_ℤ (by l.name) → column (returned (l.scale * g) (factor_of side w l m) by m) side l level ≡ pos 0
+pub leaving-column : (side w : Side) (g : ℕ) (by : RowName → ℤ) (m : Multipliers) (l : Line) (level : ℕ) → pos g ≡ sign_of w *ℤ neg_ℤ (by l.name) → column (returned (l.scale * g) (factor_of side w l m) by m) side l level ≡ pos 0
 leaving-column side w g by m l level e = returned-column (l.scale * g) (factor_of side w l m) by m side l level ∙ balanced l.scale g side w (column m side l level) (by l.name) e
 
 -- the line of the leaving mark, and the way of its number

@@ -100,7 +100,7 @@ zero_row [] rest all none h = none h
 zero_row (r ∷ rows) rest all none (zero, y, lt, e, h) = above_zero r.id (all zero r (omega arith)).number.0 (ap held_number (ap (λ (l : Line). l.name) e ∙ h))
 zero_row (r ∷ rows) rest all none (suc k, y, lt, e, h) = zero_row rows rest (λ i x within. all (suc i) x (omega (arith, within))) none (k, y, omega (arith, lt), e, h)
 
-not_zero : (p : Problem) → IsWhole p → IsNamed p (Held 0) → ⊥
+pub not_zero : (p : Problem) → IsWhole p → IsNamed p (Held 0) → ⊥
 not_zero p whole h = zero_row p.rows (stay_lines 1001 p.stays) whole.rows (λ i. no_stay 1001 p.stays i) h
 
 -- a slot whose name is a line's is one of the lists'

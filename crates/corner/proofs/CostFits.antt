@@ -44,7 +44,7 @@ stands-side t name side named = (
   (λ e. stands_inside t (record { row = name; side = side }) (named_mark t (record { row = name; side = side }) named) (side-stands t (record { row = name; side = side }) e)),
 )
 
-sides : (t : Lists) (line : ℕ) (side : Side) → (standing_at t line).side ≡ Some side → AreSidesAfter t (record { enter = line; side = side; leave = line }) (marks_at t)
+pub sides : (t : Lists) (line : ℕ) (side : Side) → (standing_at t line).side ≡ Some side → AreSidesAfter t (record { enter = line; side = side; leave = line }) (marks_at t)
 sides t line side e i x lt s =
     subst (λ (o : Option Side). IsIn (place_of (get_or (lines (problem_of t)) i x).name s) (marks_at t) ↔ (o ≡ Some s)) (sym (same-sides t line side (line_slot t (get_or (lines (problem_of t)) i x).name) e))
     (stands-side t (get_or (lines (problem_of t)) i x).name s (own_name (lines (problem_of t)) i x lt))

@@ -72,7 +72,6 @@ cost-slots t l row value unit h = record {
   matrix = length-set t.matrix l row ∙ h.matrix;
   levels = h.levels;
   room = h.room;
-  count = h.count;
   priorities = length-set t.priorities l (record { unit = unit; rows = (priority_at t l).rows + 1 }) ∙ h.priorities;
   attrs = λ i d within. record { slot = (h.attrs i d within).slot; owner = (h.attrs i d within).owner };
   lines = λ i d within. record {
@@ -247,6 +246,10 @@ cost_kept t line unit change kept lt few c =
       corner = subst (λ (at : List Mark). IsCorner (problem_of t) at) marks kept.corner;
       rays = subst (λ (at : List Mark). HasRays (problem_of t) at) marks kept.rays;
       slots = cost-slots t (home_at t line) change.row change.value unit kept.slots;
+      stored = record {
+        few = kept.stored.few;
+        empty = λ w high free. cost_row t (home_at t line) change.row change.value unit w (λ e. omega (arith, lt, high, e)) ∙ kept.stored.empty w high free;
+      };
       matrix = All-set IsKeptRow t.matrix (home_at t line) change.row c.row_kept kept.matrix;
       values = All-set (λ (s : Standing). fractions.IsKept s.value) t.standings (home_at t line) (record { side = (standing_at t (home_at t line)).side; value = change.value }) c.value_kept kept.values;
       attrs = λ i x within. cost-attr t (home_at t line) change.row change.value unit (get_or t.stays i x).attr kept.slots lt (kept.slots.attrs i x within).slot.0 (kept.attrs i x within);

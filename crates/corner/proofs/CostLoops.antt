@@ -34,7 +34,10 @@ use Rattle.corner_lines.specs.LevelJoins.{level_count}
 use Rattle.corner.specs.declared.table.Priority.{Priority}
 use Rattle.corner.specs.declared.table.TheConstants.{LEVELS}
 use Rattle.corner.specs.Tables.{Lists, line_slot, marks_at, marks_over, priority_at, problem_of, row_at, standing_at}
+use Rattle.corner.specs.declared.table.Owner.TheVariants.{Line as LineSlot}
+use Rattle.problem_core.specs.declared.parts.RowName.{RowName}
 use Rattle.corner.specs.Kept.{IsKept}
+use Rattle.corner.proofs.AttrJoins.{nowhere}
 use Rattle.corner.specs.Parts.{IsPartlyKept}
 use Rattle.corner.specs.CostJoins.{AreCostsJoined, AreToJoin, IsCostJoined, IsCostsStop, IsJoining, IsLineListed, IsLineStop, IsNextListed, home_at, with_cost}
 use Rattle.corner.proofs.MarkingFacts.{marks_inside}
@@ -164,7 +167,9 @@ one_joined done t0 t u listed0 old new r kept after j c listed high_done up h =
           (subst (λ (f : RowName → ℕ). IsLineListed u new (f (Held r.id))) (sym same) listed.listed);
       others = λ d i. elim (listed.others d i) [
         | inl before ↦ h.others d before
-        | inr (high, ne, has) ↦ inr (subst (λ (xs : List Slot). (LEVELS ≤ d) × (d < length xs)) (slots ∙ h.slots) (after.outside (line_slot t (Held r.id)) d ((number_at_column d (row_at u (line_slot t (Held r.id))) (part_row u (line_slot t (Held r.id)) after)).1 has) ne).0)
+        | inr (high, ne, has) ↦
+            let out = after.outside (line_slot t (Held r.id)) d ((number_at_column d (row_at u (line_slot t (Held r.id))) (part_row u (line_slot t (Held r.id)) after)).1 has) ne in
+            inr (subst (λ (xs : List Slot). ((LEVELS ≤ d) × (d < length xs)) × ((name : RowName) × ((slice_index_or xs d nowhere).owner ≡ LineSlot name))) (slots ∙ h.slots) (out.0, out.2))
       ];
     }
 

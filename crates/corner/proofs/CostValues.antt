@@ -33,13 +33,13 @@ same-product side n m v z e =
 abbrev signed_value : Side → Fraction → Fraction
 signed_value side f = record { num = sign_of side *ℤ f.num; den = f.den }
 
-ratio-same : (side : Side) (cost value f : Fraction) (n m unit : ℤ) (u : ℕ) → n *ℤ sign_of side ≡ m → unit ≡ pos u → IsRatio f (sum_num cost n unit value) (sum_den cost unit value)
+pub ratio-same : (side : Side) (cost value f : Fraction) (n m unit : ℤ) (u : ℕ) → n *ℤ sign_of side ≡ m → unit ≡ pos u → IsRatio f (sum_num cost n unit value) (sum_den cost unit value)
     → IsRatio f (sum_num cost m (pos u) (record { num = sign_of side *ℤ value.num; den = value.den })) (sum_den cost (pos u) (record { num = sign_of side *ℤ value.num; den = value.den }))
 ratio-same side cost value f n m unit u e d h =
     subst (λ (x : ℤ). f.num *ℤ sum_den cost (pos u) value ≡ (cost.num *ℤ (pos u *ℤ pos value.den) +ℤ x) *ℤ pos f.den) (sym (same-product side n m value.num (pos cost.den) e))
     (subst (λ (x : ℤ). f.num *ℤ sum_den cost x value ≡ sum_num cost n x value *ℤ pos f.den) d h)
 
-ratio-back : (side : Side) (cost value f : Fraction) (n m unit : ℤ) (u : ℕ) → n *ℤ sign_of side ≡ m → unit ≡ pos u
+pub ratio-back : (side : Side) (cost value f : Fraction) (n m unit : ℤ) (u : ℕ) → n *ℤ sign_of side ≡ m → unit ≡ pos u
     → IsRatio f (sum_num cost m (pos u) (record { num = sign_of side *ℤ value.num; den = value.den })) (sum_den cost (pos u) (record { num = sign_of side *ℤ value.num; den = value.den })) → IsRatio f (sum_num cost n unit value) (sum_den cost unit value)
 ratio-back side cost value f n m unit u e d h =
     subst (λ (x : ℤ). f.num *ℤ sum_den cost x value ≡ sum_num cost n x value *ℤ pos f.den) (sym d)

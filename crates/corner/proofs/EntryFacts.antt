@@ -33,6 +33,7 @@ use Rattle.corner.proofs.WritingFacts.{in_mark, line_owner, lines_apart, other_w
 use Rattle.corner.proofs.MoverFacts.{both_ways, by_images, filter_has, moves_where}
 use Rattle.std.proofs.lemmas.List.Elements.{filter_passes}
 use Rattle.corner.proofs.KeptFacts.{filter_same}
+use Rattle.corner.proofs.FreeSlots.{free_line}
 use Rattle.corner.proofs.MovedFacts.{has_at, is_among, moves_entry, no_entry, none_some, not_zero, slot_of, slots_in_order}
 
 -- ---- the columns of a row but one
@@ -270,7 +271,8 @@ entries_are t m kept inside =
       in_order = (
         λ o. is_among ws (slot_of t o),
         images_same (line_at t) (λ (n : RowName). LineSlot n) (λ w. (slot_at t w).owner) ws (λ w c. let h = entry_slot t m w kept inside c in ap (λ (n : RowName). LineSlot n) (line_is t w h.name h.owner) ∙ sym h.owner)
-            ∙ slots_in_order t ws kept.slots (rise_but (slot_in t m) (row_in t m) (row_kept t m kept inside).lowest.rising) (λ w c. (entry_slot t m w kept inside c).slot),
+            ∙ slots_in_order t ws kept.slots (rise_but (slot_in t m) (row_in t m) (row_kept t m kept inside).lowest.rising) (λ w c. (entry_slot t m w kept inside c).slot)
+            (λ w c e. let s = entry_slot t m w kept inside c in free_line s.name (sym s.owner ∙ e)),
       );
     }
 

@@ -21,16 +21,17 @@ use Rattle.corner.specs.declared.exchange.Change.{Change}
 use Rattle.corner.specs.declared.exchange.Exchange.{Exchange}
 use Rattle.corner.specs.declared.levels.Pair.{Pair}
 use Rattle.corner.specs.declared.table.Owner.{Owner}
-use Rattle.corner.specs.declared.table.Owner.TheVariants.{Attr as AttrSlot, Line as LineSlot}
+use Rattle.corner.specs.declared.table.Owner.TheVariants.{Level as LevelSlot, Attr as AttrSlot, Line as LineSlot}
 use Rattle.corner.specs.declared.table.Slot.{Slot}
 use Rattle.corner.specs.declared.table.Standing.{Standing}
 use Rattle.corner.specs.declared.table.TheConstants.{LEVELS}
 use Rattle.corner.specs.Views.{IsNamed}
 use Rattle.corner.specs.Tables.{Lists, attr_slot, entry, line_slot, marks_at, number, problem_of, row_at, slot_at, standing_at}
-use Rattle.corner.specs.Kept.{AreSlots, IsAttrSlot, IsEquationAt, IsKept, IsLineRow, IsSlot}
+use Rattle.corner.specs.Kept.{AreSlots, AreStored, IsAttrSlot, IsEquationAt, IsKept, IsLineRow, IsSlot}
 use Rattle.corner.specs.Exchanges.{IsChangeOf, IsEquationBy, IsExchangeOf, IsOwnerRow, IsPair, cleared, exchanged_lists, filled, marks_after, with_change, with_changes}
 use Rattle.corner.specs.NextLists.{IsLineBy, over}
 use Rattle.corner.proofs.SlotFacts.{any_is, named_slot}
+use Rattle.corner.proofs.FreeSlots.{free_line}
 use Rattle.corner.proofs.ReadFacts.{attr_equation}
 use Rattle.corner.proofs.WritingFacts.{attr_apart, attr_owner, line_owner, lines_apart, number_is}
 use Rattle.corner.proofs.PairFacts.{slots_apart}
@@ -199,6 +200,22 @@ attr_next t v m made s attr n has =
           subst (λ (x : Standing). IsEquationBy t (marks_after t s) q w (row_at u w) x.value.num x.value.den) (sym st)
           (subst (λ (r : List Term). IsEquationBy t (marks_after t s) q w r (standing_at t w).value.num (standing_at t w).value.den) (sym row) e)
     ]
+
+-- a slot of nothing still has no row
+pub stored_next : (t : Lists) (v : List Standing) (m : List (List Term)) (made : Exchange) (s : Swap) → IsNext t v m made s → AreStored (over t v m)
+stored_next t v m made s n = record {
+  few = n.kept.stored.few;
+  empty = λ w high free. elim (cases_eq w made.pair.enter) [
+    | inl e ↦ absurd (free_line s.enter.row (sym (line_owner t s.enter.row n.kept.slots n.is.pair.enters) ∙ ap (λ c. (slot_at t c).owner) (n.is.pair.enter_slot ∙ sym e) ∙ free))
+    | inr ne ↦ elim (cases_eq w made.pair.leave) [
+      | inl e ↦ ap (row_at (over t v m)) e ∙ n.at.leave_row
+      | inr nl ↦ elim (n.at.others w ne nl) [
+        | inl (c, p, here, row, side, value) ↦ absurd (owner-here t (marks_after t s) c w LevelSlot here free (p.row_is.1 (subst (λ k. LEVELS ≤ k) (sym here) high)).0)
+        | inr (none, row, st) ↦ row ∙ n.kept.stored.empty w high free
+      ]
+    ]
+  ];
+}
 
 pub line_is : (t : Lists) (at : List Mark) (name : RowName) (w : ℕ) (row next : List Term) (side : Option Side) (value : Fraction) (st : Standing) → next ≡ row → st ≡ record { side = side; value = value } → IsLineBy t at name w row side value → IsLineBy t at name w next st.side st.value
 line_is t at name w row next side value st e f h =

@@ -21,7 +21,7 @@ use Rattle.corner.proofs.KeptFacts.{zero_kept}
 use Rattle.corner.proofs.NextFacts.{kept_by, over_slots}
 use Rattle.corner.proofs.PairFacts.{pair_exchange, pair_rays}
 use Rattle.corner.proofs.PutFacts.{changes_keep, changes_slots, cleared_slots}
-use Rattle.corner.proofs.ExchangedFacts.{AreExchanged, IsNext, attr_next, exchanged_at, exchanged_over, line_next}
+use Rattle.corner.proofs.ExchangedFacts.{AreExchanged, IsNext, attr_next, exchanged_at, exchanged_over, line_next, stored_next}
 use Rattle.corner.proofs.ExchangedMarks.{exchanged_marks, exchanged_outside, exchanged_room}
 use Rattle.corner.proofs.ExchangedLevels.{exchanged_levels}
 
@@ -66,6 +66,7 @@ next-kept t v m made s n vs ms rows values = record {
   corner = (pair_exchange t made.pair s n.kept n.is.pair).corner;
   rays = pair_rays t made.pair s n.kept n.is.pair;
   slots = over_slots t v m n.kept.slots vs ms;
+  stored = stored_next t v m made s n;
   matrix = rows;
   values = values;
   attrs = λ i x lt. attr_next t v m made s (slice_index_or t.stays i x).attr n (own_stay t.stays i x lt);

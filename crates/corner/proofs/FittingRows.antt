@@ -229,14 +229,14 @@ pub record IsDraftThere (t : Lists) (draft : Draft) (row : List Term) (at : List
   pub kept : IsKeptRow row
   pub draft_at : IsDraftAt t draft row at unit own
 
-line-fits : (t : Lists) (draft : Draft) (row : List Term) (at : List Mark) (unit own : ℕ) (l : Line) → IsDraftThere t draft row at unit own → IsSeen t draft at l → IsFittingLine t draft row (line_slot t l.name) → IsFitLine t draft row at unit own l
+pub line-fits : (t : Lists) (draft : Draft) (row : List Term) (at : List Mark) (unit own : ℕ) (l : Line) → IsDraftThere t draft row at unit own → IsSeen t draft at l → IsFittingLine t draft row (line_slot t l.name) → IsFitLine t draft row at unit own l
 line-fits t draft row at unit own l d seen h e =
     to_fit at unit draft.level own (row_number t draft.level row l.name) l (side_after t draft.pair (line_slot t l.name)) seen.stands
     (same-costs (slot_at t (line_slot t l.name)).rel l.rel (side_after t draft.pair (line_slot t l.name)) (line_size t draft row (line_slot t l.name)) (size_at unit draft.level own l)
     (neg_ℤ (coefficient (line_slot t l.name) row)) (row_number t draft.level row l.name) seen.slot.rel
     (size-is t draft row unit own l seen.slot d.draft_at.unit_is d.draft_at.own_is e) (sym (number-is t draft.level row l.name d.low seen.slot.slot.0)) h)
 
-fits-line : (t : Lists) (draft : Draft) (row : List Term) (at : List Mark) (unit own : ℕ) (l : Line) → IsDraftThere t draft row at unit own → IsSeen t draft at l → l.level ≡ draft.level → IsFitLine t draft row at unit own l → IsFittingLine t draft row (line_slot t l.name)
+pub fits-line : (t : Lists) (draft : Draft) (row : List Term) (at : List Mark) (unit own : ℕ) (l : Line) → IsDraftThere t draft row at unit own → IsSeen t draft at l → l.level ≡ draft.level → IsFitLine t draft row at unit own l → IsFittingLine t draft row (line_slot t l.name)
 fits-line t draft row at unit own l d seen e h =
     same-costs l.rel (slot_at t (line_slot t l.name)).rel (side_after t draft.pair (line_slot t l.name)) (size_at unit draft.level own l) (line_size t draft row (line_slot t l.name))
     (row_number t draft.level row l.name) (neg_ℤ (coefficient (line_slot t l.name) row)) (sym seen.slot.rel)
@@ -306,7 +306,7 @@ pub stays_above : (base : ℕ) (stays : List Stay) → 1001 ≤ base → Each (�
 stays_above base [] h = tt
 stays_above base (s ∷ stays) h = (h, stays_above (base + 1) stays (omega (arith, h)))
 
-seen-lines : (t : Lists) (draft : Draft) (row : List Term) (at : List Mark) (unit own : ℕ) → IsDraftThere t draft row at unit own → Each (λ r. IsSeen t draft at (line_of_row r)) t.rows
+pub seen-lines : (t : Lists) (draft : Draft) (row : List Term) (at : List Mark) (unit own : ℕ) → IsDraftThere t draft row at unit own → Each (λ r. IsSeen t draft at (line_of_row r)) t.rows
 seen-lines t draft row at unit own d =
     let all : All (IsSeen t draft at) (lines (problem_of t)) = λ i w within. record { slot = d.slots.lines i w within; stands = d.draft_at.sides i w within } in
     of-rows (IsSeen t draft at) t.rows (each-first (IsSeen t draft at) (map line_of_row t.rows) (stay_lines 1001 t.stays) (recursion_from_All (IsSeen t draft at) (lines (problem_of t)) all))
@@ -382,7 +382,7 @@ either-small : (b : Bool) (z : ℤ) → unsigned_abs z < small_number → unsign
 either-small true z h = omega arith
 either-small false z h = h
 
-small-numbers : (t : Lists) (w : ℕ) (row : List Term) (name : RowName) → IsKeptRow row → All (λ e. unsigned_abs e.by < small_number) row → unsigned_abs (row_number t w row name) < small_number
+pub small-numbers : (t : Lists) (w : ℕ) (row : List Term) (name : RowName) → IsKeptRow row → All (λ e. unsigned_abs e.by < small_number) row → unsigned_abs (row_number t w row name) < small_number
 small-numbers t w row name kept all =
     either-small (nat_eq (line_slot t name) w) (neg_ℤ (coefficient (line_slot t name) row))
     (neg-small (coefficient (line_slot t name) row) (of_coefficients (λ (z : ℤ). unsigned_abs z < small_number) (omega arith) row kept.lowest.rising all (line_slot t name)))

@@ -24,6 +24,7 @@ use Rattle.corner.proofs.KeptFacts.{entry_fits}
 use Rattle.corner.proofs.LevelCosts.{minus_sign, scale_above, scale_fits}
 use Rattle.corner.proofs.LevelReadFacts.{fitting_cost}
 use Rattle.corner.proofs.LevelWords.{product_is}
+use Rattle.corner.proofs.FreeSlots.{not_free}
 use Rattle.corner.proofs.LineSlots.{stands_apart}
 use Rattle.corner.proofs.ReadFacts.{attr_equation}
 use Rattle.corner.proofs.AttrRows.{below_or}
@@ -151,12 +152,12 @@ line-own t w name side kept owner inside =
     let q : IsLineRow t name (Some side) = subst (λ (i : Option Side). IsLineRow t name i) there row in
     subst (λ (c : ℕ). pos 0 <ℤ entry t c c) owned.1 (above q.0 (entry t (line_slot t name) (line_slot t name)) q.1 q.2.own_positive)
 
-owner-grows : (t : Lists) (w : ℕ) (o : Owner) (i : Option Side) → IsKept t → IsSlot t w → IsNoOutside t w → IsOwned t w o → (slot_at t w).owner ≡ o → (standing_at t w).side ≡ i → CanGrow t w
-owner-grows t w LevelSlot i kept slot apart owned owner inside = absurd owned
-owner-grows t w (AttrSlot attr) i kept slot apart owned owner inside =
+owner-grows : (t : Lists) (w : ℕ) (o : Owner) (i : Option Side) → IsKept t → IsSlot t w → IsNoOutside t w → ((slot_at t w).owner ≡ LevelSlot → ⊥) → IsOwned t w o → (slot_at t w).owner ≡ o → (standing_at t w).side ≡ i → CanGrow t w
+owner-grows t w LevelSlot i kept slot apart some owned owner inside = absurd (some owner)
+owner-grows t w (AttrSlot attr) i kept slot apart some owned owner inside =
     slot-grows t w (AttrOf attr) kept slot.0 (attr-own t w attr kept owned.0 owned.1) (subst (λ (o : Owner). IsWhat o (standing_at t w).side (AttrOf attr)) (sym owner) refl)
-owner-grows t w (LineSlot name) None kept slot apart owned owner inside = absurd (apart (slot, inside, (name, owner)))
-owner-grows t w (LineSlot name) (Some side) kept slot apart owned owner inside =
+owner-grows t w (LineSlot name) None kept slot apart some owned owner inside = absurd (apart (slot, inside, (name, owner)))
+owner-grows t w (LineSlot name) (Some side) kept slot apart some owned owner inside =
     slot-grows t w (MarkOf (record { row = name; side = side })) kept slot.0 (line-own t w name side kept owner inside)
     (mark_found t w name side (MarkOf (record { row = name; side = side })) owner inside refl)
 
@@ -165,5 +166,5 @@ pub can_grow : (t : Lists) (w c : ℕ) → IsKept t → w < length t.slots → e
 can_grow t w c kept within some =
     elim (below_or w LEVELS) [
       | inl low ↦ level-grows t w kept low
-      | inr high ↦ owner-grows t w (slot_at t w).owner (standing_at t w).side kept (high, within) (stands_apart t w c kept some) (kept.slots.owners w (high, within)) refl refl
+      | inr high ↦ owner-grows t w (slot_at t w).owner (standing_at t w).side kept (high, within) (stands_apart t w c kept some) (not_free t w c kept.stored high some) (kept.slots.owners w (high, within)) refl refl
     ]

@@ -32,6 +32,7 @@ use Rattle.corner.specs.declared.table.TheConstants.{LEVELS}
 use Rattle.corner.specs.Tables.{Lists, attr_slot, entry, line_slot, marks_at, number, problem_of, row_at, sign_of_what, slot_at, standing_at}
 use Rattle.corner.specs.Kept.{IsEquationAt, IsKept, IsLineRow, IsOwned, IsSlot, IsStayOwner}
 use Rattle.corner.specs.Views.{IsNamed}
+use Rattle.corner.proofs.FreeSlots.{not_free}
 use Rattle.corner.specs.Exchanges.{AreOutsideAfter, IsChangeOf, IsEntering, IsEquationBy, IsOutsideAfter, IsOutsideSlot, IsOwnerRow, IsPair, IsWhat, IsWhatAt, marks_after, moved, moved_by, row_number, IsPivotAt, IsValueAfter, signed}
 use Rattle.corner.proofs.SlotFacts.{any_is, named_slot}
 use Rattle.corner.proofs.MarkFacts.{same_mark, stands_inside}
@@ -151,14 +152,14 @@ pub what_there : (t : Lists) (w c : ℕ) (what : What) (side : Side) → IsKept 
     → ((name : RowName) → (slot_at t w).owner ≡ LineSlot name → what ≡ MarkOf (record { row = name; side = side }))
     → IsWhatAt t w what
 what_there t w c what side kept slot some inside attr line =
-    there (slot_at t w).owner (standing_at t w).side (kept.slots.owners w slot) refl refl (stands_apart t w c kept some) inside attr line
+    there (slot_at t w).owner (standing_at t w).side (not_free t w c kept.stored slot.0 some) refl refl (stands_apart t w c kept some) inside attr line
   where
-    there : (o : Owner) (i : Option Side) → IsOwned t w o → (slot_at t w).owner ≡ o → (standing_at t w).side ≡ i → IsNoOutside t w
+    there : (o : Owner) (i : Option Side) → ((slot_at t w).owner ≡ LevelSlot → ⊥) → (slot_at t w).owner ≡ o → (standing_at t w).side ≡ i → IsNoOutside t w
         → ((r : Side) → (standing_at t w).side ≡ Some r → side ≡ r)
         → ((attr : ℕ) → (slot_at t w).owner ≡ AttrSlot attr → what ≡ AttrOf attr)
         → ((name : RowName) → (slot_at t w).owner ≡ LineSlot name → what ≡ MarkOf (record { row = name; side = side }))
         → IsWhat o i what
-    there LevelSlot i owned owner e apart inside attr line = absurd owned
+    there LevelSlot i owned owner e apart inside attr line = absurd (owned owner)
     there (AttrSlot a) i owned owner e apart inside attr line = attr a owner
     there (LineSlot name) None owned owner e apart inside attr line = absurd (apart (slot, e, (name, owner)))
     there (LineSlot name) (Some r) owned owner e apart inside attr line = line name owner ∙ ap (λ (d : Side). MarkOf (record { row = name; side = d })) (inside r e)

@@ -32,7 +32,8 @@ use Rattle.corner.proofs.ReadFacts.{inside_equation, is_some, mark_named, named_
 use Rattle.corner.proofs.WritingFacts.{attr_apart, attr_owner, in_mark, is_other, line_owner, lines_apart, other_what, own_what}
 use Rattle.corner.proofs.ListFacts.{all_from, from_map, further, get_mapped, to_map}
 use Rattle.corner.proofs.CornerFacts.{map_length}
-use Rattle.corner.proofs.MoverFacts.{AreAt, has_where, in_slots, moves_where, one_list}
+use Rattle.corner.proofs.FreeSlots.{free_line, not_free}
+use Rattle.corner.proofs.MoverFacts.{AreAt, has_where, in_slots, moves_where, none_false, one_list}
 
 -- ---- what the slots are of
 
@@ -53,15 +54,10 @@ side_of (Some side) = side
 abbrev pub thing : Lists → ℕ → What
 thing t w = what_of (slot_at t w).owner (side_of (standing_at t w).side)
 
-pub owned_slot : (t : Lists) (w : ℕ) (o : Owner) → IsOwned t w o → slot_of t o ≡ w
-owned_slot t w LevelSlot h = absurd h
-owned_slot t w (AttrSlot attr) h = h.1
-owned_slot t w (LineSlot name) h = h.1
-
-same_owner : (t : Lists) (w : ℕ) (o : Owner) (side : Side) → IsOwned t w o → owner_of (what_of o side) ≡ o
-same_owner t w LevelSlot side h = absurd h
-same_owner t w (AttrSlot attr) side h = refl
-same_owner t w (LineSlot name) side h = refl
+same_owner : (o : Owner) (side : Side) → owner_of (what_of o side) ≡ o
+same_owner LevelSlot side = refl
+same_owner (AttrSlot attr) side = refl
+same_owner (LineSlot name) side = refl
 
 side_itself : (s : Side) → is_side (Some s) s ≡ true
 side_itself Under = refl
@@ -85,10 +81,10 @@ row_of_line t name kept named =
     any_is (λ l. IsLineRow t l.name (standing_at t (line_slot t l.name)).side) (λ l. l.name ≡ name) (lines (problem_of t)) kept.lines named
     (λ l h e. subst (λ (n : RowName). IsLineRow t n (standing_at t (line_slot t n)).side) e h)
 
-thing_is : (t : Lists) (w c : ℕ) (o : Owner) → IsKept t → IsOwned t w o → entry t w c ≢ pos 0 → IsThing t w (what_of o (side_of (standing_at t w).side))
-thing_is t w c LevelSlot kept h some = absurd h
-thing_is t w c (AttrSlot attr) kept h some = record { written = (attr_column attr, (h.0, refl)); slot = h.1 }
-thing_is t w c (LineSlot name) kept h some =
+thing_is : (t : Lists) (w c : ℕ) (o : Owner) → IsKept t → LEVELS ≤ w → (slot_at t w).owner ≡ o → IsOwned t w o → entry t w c ≢ pos 0 → IsThing t w (what_of o (side_of (standing_at t w).side))
+thing_is t w c LevelSlot kept high e h some = absurd (not_free t w c kept.stored high some e)
+thing_is t w c (AttrSlot attr) kept high e h some = record { written = (attr_column attr, (h.0, refl)); slot = h.1 }
+thing_is t w c (LineSlot name) kept high e h some =
     let i : IsIn (place_of name (side_of (standing_at t (line_slot t name)).side)) (marks_at t) =
     line_in t name c (standing_at t (line_slot t name)).side h.0 refl (row_of_line t name kept h.0) (subst (λ n. entry t n c ≢ pos 0) (sym h.1) some) in
     let j : IsIn (place_of name (side_of (standing_at t w).side)) (marks_at t) = subst (λ n. IsIn (place_of name (side_of (standing_at t n).side)) (marks_at t)) h.1 i in
@@ -188,19 +184,30 @@ dropped_at f (suc n) (x ∷ xs) k d e lt =
     let more : suc (n + k) ≡ suc n + k = omega arith in
     subst (λ j. slice_index_or (map f (drop n xs)) k d ≡ f (slice_index_or (x ∷ xs) j e)) more (dropped_at f n xs k d e lt)
 
-slots_at : (t : Lists) → AreSlots t → AreAt (λ w. (slot_at t w).owner) (slot_of t) (order_of t) LEVELS
-slots_at t h = record {
+-- slots of something
+abbrev AreOfSome : Lists → List ℕ → Type 0
+AreOfSome t ws = (w : ℕ) → Contains ws w → (slot_at t w).owner ≡ LevelSlot → ⊥
+
+owner_among : (t : Lists) (ws : List ℕ) (w : ℕ) (o : Owner) → (slot_at t w).owner ≡ o → IsOwned t w o → ((v : ℕ) → Contains ws v → IsSlot t v) → AreOfSome t ws → is_among ws (slot_of t o) ≡ is_among ws w
+owner_among t ws w LevelSlot e h within some =
+    none_false (is_among ws 0) (λ k. let s = within 0 (among_has ws 0 k) in absurd (omega (arith, s.0)))
+    ∙ sym (none_false (is_among ws w) (λ k. some w (among_has ws w k) e))
+owner_among t ws w (AttrSlot attr) e h within some = ap (is_among ws) h.1
+owner_among t ws w (LineSlot name) e h within some = ap (is_among ws) h.1
+
+slots_at : (t : Lists) (ws : List ℕ) → AreSlots t → ((v : ℕ) → Contains ws v → IsSlot t v) → AreOfSome t ws → AreAt (λ w. (slot_at t w).owner) (is_among ws) (λ o. is_among ws (slot_of t o)) (order_of t) LEVELS
+slots_at t ws h of some = record {
   slot = λ k lt.
       let within = dropped_length (λ (s : Slot). s.owner) LEVELS t.slots k lt in
-      owned_slot t (LEVELS + k) (slot_at t (LEVELS + k)).owner (h.owners (LEVELS + k) (omega arith, within));
+      owner_among t ws (LEVELS + k) (slot_at t (LEVELS + k)).owner refl (h.owners (LEVELS + k) (omega arith, within)) of some;
   at = λ k d lt. dropped_at (λ (s : Slot). s.owner) LEVELS t.slots k d _ lt;
 }
 
-pub slots_in_order : (t : Lists) (ws : List ℕ) → AreSlots t → AllPairs (λ v w. v < w) ws → ((w : ℕ) → Contains ws w → IsSlot t w)
+pub slots_in_order : (t : Lists) (ws : List ℕ) → AreSlots t → AllPairs (λ v w. v < w) ws → ((w : ℕ) → Contains ws w → IsSlot t w) → AreOfSome t ws
     → map (λ w. (slot_at t w).owner) ws ≡ filter (λ o. is_among ws (slot_of t o)) (order_of t)
-slots_in_order t ws h rising within =
-    in_slots (is_among ws) (λ w. (slot_at t w).owner) (slot_of t) (order_of t) LEVELS ws rising
-    (λ w c. let s = within w c in (s.0, dropped_room (λ (s : Slot). s.owner) LEVELS t.slots w s.0 s.1)) (slots_at t h)
+slots_in_order t ws h rising within some =
+    in_slots (is_among ws) (λ w. (slot_at t w).owner) (λ o. is_among ws (slot_of t o)) (order_of t) LEVELS ws rising
+    (λ w c. let s = within w c in (s.0, dropped_room (λ (s : Slot). s.owner) LEVELS t.slots w s.0 s.1)) (slots_at t ws h within some)
     (λ w le e. among_has ws w e) (λ w c. has_among ws w c)
 
 maps_same : {X Y Z : Type 0} (f : X → Y) (g : Y → Z) (h : X → Z) (xs : List X) → ((x : X) → Contains xs x → g (f x) ≡ h x) → map g (map f xs) ≡ map h xs
@@ -218,7 +225,7 @@ moved_are t m ws kept out none moved within =
           let i = from_map (thing t) ws what c in
           let s = slot i.of i.has in
           let some = ((moved.exact i.of).0 i.has).1 in
-          let is = thing_is t i.of (line_slot t m.row) (slot_at t i.of).owner kept (kept.slots.owners i.of s) some in
+          let is = thing_is t i.of (line_slot t m.row) (slot_at t i.of).owner kept s.0 refl (kept.slots.owners i.of s) some in
           subst (MovesWith (problem_of t) (marks_at t) m) i.is (thing_moves t m (thing t i.of) kept out none is.written (subst (λ w. entry t w (line_slot t m.row) ≢ pos 0) (sym is.slot) some)));
       all = λ what moves.
           let at = thing_at t what kept (moves.0, moves.1) in
@@ -226,8 +233,8 @@ moved_are t m ws kept out none moved within =
           subst (λ w. Contains (map (thing t) ws) w) at.1 (to_map (thing t) ws (what_slot t what) ((moved.exact (what_slot t what)).1 (at.0.0, some)));
       in_order = (
         λ o. is_among ws (slot_of t o),
-        maps_same (thing t) owner_of (λ w. (slot_at t w).owner) ws (λ w c. same_owner t w (slot_at t w).owner (side_of (standing_at t w).side) (kept.slots.owners w (slot w c)))
-            ∙ slots_in_order t ws kept.slots moved.rising slot,
+        maps_same (thing t) owner_of (λ w. (slot_at t w).owner) ws (λ w c. same_owner (slot_at t w).owner (side_of (standing_at t w).side))
+            ∙ slots_in_order t ws kept.slots moved.rising slot (λ w c. let k = (moved.exact w).0 c in not_free t w (line_slot t m.row) kept.stored k.0 k.1),
       );
     }
 
@@ -298,7 +305,8 @@ turned_are t m s kept out e =
       in_order = (
         λ o. is_among (line_slot t m.row ∷ []) (slot_of t o),
         ap (λ (o : Owner). o ∷ []) (sym (line_owner t m.row kept.slots named))
-            ∙ slots_in_order t (line_slot t m.row ∷ []) kept.slots (λ i j d less lt. absurd (omega (arith, less, lt))) (λ w c. subst (λ n. IsSlot t n) (only_one (line_slot t m.row) w c) (named_slot t m.row kept.slots named)),
+            ∙ slots_in_order t (line_slot t m.row ∷ []) kept.slots (λ i j d less lt. absurd (omega (arith, less, lt))) (λ w c. subst (λ n. IsSlot t n) (only_one (line_slot t m.row) w c) (named_slot t m.row kept.slots named))
+            (λ w c e. free_line m.row (sym (line_owner t m.row kept.slots named) ∙ ap (λ n. (slot_at t n).owner) (only_one (line_slot t m.row) w c) ∙ e)),
       );
     })
 
@@ -313,15 +321,15 @@ pub one_owner : (t : Lists) (m : Mark) → IsKept t → (a b : What) → MovesWi
 one_owner t m kept a b h k e =
     sym (thing_at t a kept (h.0, h.1)).1 ∙ ap (thing t) (slot_same t a (h.0, h.1) ∙ ap (slot_of t) e ∙ sym (slot_same t b (k.0, k.1))) ∙ (thing_at t b kept (k.0, k.1)).1
 
-pub what_is : (t : Lists) (w c : ℕ) (o : Owner) (side : Side) (what : What) → IsKept t → (slot_at t w).owner ≡ o → IsOwned t w o → entry t w c ≢ pos 0
+pub what_is : (t : Lists) (w c : ℕ) (o : Owner) (side : Side) (what : What) → IsKept t → LEVELS ≤ w → (slot_at t w).owner ≡ o → IsOwned t w o → entry t w c ≢ pos 0
     → ((attr : ℕ) → (slot_at t w).owner ≡ AttrSlot attr → what ≡ AttrOf attr)
     → ((name : RowName) → (slot_at t w).owner ≡ LineSlot name → what ≡ MarkOf (record { row = name; side = side }))
     → ((s : Side) → (standing_at t w).side ≡ Some s → side ≡ s) → what ≡ what_of o (side_of (standing_at t w).side)
-what_is t w c LevelSlot side what kept e h some of_attr of_line of_side = absurd h
-what_is t w c (AttrSlot attr) side what kept e h some of_attr of_line of_side = of_attr attr e
-what_is t w c (LineSlot name) side what kept e h some of_attr of_line of_side =
+what_is t w c LevelSlot side what kept high e h some of_attr of_line of_side = absurd (not_free t w c kept.stored high some e)
+what_is t w c (AttrSlot attr) side what kept high e h some of_attr of_line of_side = of_attr attr e
+what_is t w c (LineSlot name) side what kept high e h some of_attr of_line of_side =
     let m : Mark = record { row = name; side = side_of (standing_at t w).side } in
-    let i : IsIn (place m) (marks_at t) = (thing_is t w c (LineSlot name) kept h some).written.1.0 in
+    let i : IsIn (place m) (marks_at t) = (thing_is t w c (LineSlot name) kept high e h some).written.1.0 in
     let s : (standing_at t (line_slot t name)).side ≡ Some m.side = is_some (standing_at t (line_slot t name)).side m.side (inside_stands t m i) in
     of_line name e ∙ ap (λ (d : Side). MarkOf (record { row = name; side = d })) (of_side m.side (ap (λ n. (standing_at t n).side) (sym h.1) ∙ s))
 
@@ -372,5 +380,5 @@ pub nth_thing : (t : Lists) (m : Mark) (ws : List ℕ) (i : ℕ) (side : Side) (
     → ((s : Side) → (standing_at t (slice_index_or ws i 0)).side ≡ Some s → side ≡ s) → what ≡ thing t (slice_index_or ws i 0)
 nth_thing t m ws i side what kept moved within lt of_attr of_line of_side =
     let h = (moved.exact (slice_index_or ws i 0)).0 (has_at ws i lt) in
-    what_is t (slice_index_or ws i 0) (line_slot t m.row) (slot_at t (slice_index_or ws i 0)).owner side what kept refl
+    what_is t (slice_index_or ws i 0) (line_slot t m.row) (slot_at t (slice_index_or ws i 0)).owner side what kept h.0 refl
     (kept.slots.owners (slice_index_or ws i 0) (h.0, subst (λ n. slice_index_or ws i 0 < n) kept.slots.matrix (below_all ws i (length t.matrix) within lt))) h.1 of_attr of_line of_side

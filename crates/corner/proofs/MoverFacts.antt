@@ -103,55 +103,55 @@ behind : (w : ℕ) (ws : List ℕ) (v : ℕ) → Contains (w ∷ ws) v → (w �
 behind w ws v (zero, lt, x) never = absurd (never x)
 behind w ws v (suc k, lt, x) never = (k, omega (arith, lt), x)
 
-none_false : (b : Bool) → (b ≡ true → ⊥) → b ≡ false
+pub none_false : (b : Bool) → (b ≡ true → ⊥) → b ≡ false
 none_false true h = absurd (h refl)
 none_false false h = refl
 
--- a slot and an owner for each, from a first slot on
-pub record AreAt (g : ℕ → Owner) (s : Owner → ℕ) (os : List Owner) (base : ℕ) : Type 0 where
-  pub slot : (k : ℕ) → k < length os → s (g (base + k)) ≡ base + k
+-- an owner for each slot from a first one on, which passes where the slot does
+pub record AreAt (g : ℕ → Owner) (p : ℕ → Bool) (q : Owner → Bool) (os : List Owner) (base : ℕ) : Type 0 where
+  pub slot : (k : ℕ) → k < length os → q (g (base + k)) ≡ p (base + k)
   pub at : (k : ℕ) (d : Owner) → k < length os → slice_index_or os k d ≡ g (base + k)
 
-at_next : (g : ℕ → Owner) (s : Owner → ℕ) (o : Owner) (os : List Owner) (base : ℕ) → AreAt g s (o ∷ os) base → AreAt g s os (base + 1)
-at_next g s o os base h = record {
-  slot = λ k lt. subst (λ n. s (g n) ≡ n) (more base k) (h.slot (suc k) (omega (arith, lt)));
+at_next : (g : ℕ → Owner) (p : ℕ → Bool) (q : Owner → Bool) (o : Owner) (os : List Owner) (base : ℕ) → AreAt g p q (o ∷ os) base → AreAt g p q os (base + 1)
+at_next g p q o os base h = record {
+  slot = λ k lt. subst (λ n. q (g n) ≡ p n) (more base k) (h.slot (suc k) (omega (arith, lt)));
   at = λ k d lt. h.at (suc k) d (omega (arith, lt)) ∙ ap g (more base k);
 }
   where
     more : (base k : ℕ) → base + suc k ≡ (base + 1) + k
     more base k = omega arith
 
-first_is : (g : ℕ → Owner) (s : Owner → ℕ) (o : Owner) (os : List Owner) (base : ℕ) → AreAt g s (o ∷ os) base → (o ≡ g base) × (s o ≡ base)
-first_is g s o os base h =
+first_is : (g : ℕ → Owner) (p : ℕ → Bool) (q : Owner → Bool) (o : Owner) (os : List Owner) (base : ℕ) → AreAt g p q (o ∷ os) base → (o ≡ g base) × (q o ≡ p base)
+first_is g p q o os base h =
     let more : base + 0 ≡ base = omega arith in
     let is : o ≡ g base = h.at 0 o (omega arith) ∙ ap g more in
-    (is, ap s is ∙ subst (λ n. s (g n) ≡ n) more (h.slot 0 (omega arith)))
+    (is, ap q is ∙ subst (λ n. q (g n) ≡ p n) more (h.slot 0 (omega arith)))
 
--- the owners of rising slots are those of the list whose slots are among them
-pub in_slots : (p : ℕ → Bool) (g : ℕ → Owner) (s : Owner → ℕ) (os : List Owner) (base : ℕ) (ws : List ℕ) → AllPairs (λ v w. v < w) ws
-    → ((w : ℕ) → Contains ws w → (base ≤ w) × (w < base + length os)) → AreAt g s os base
-    → ((w : ℕ) → base ≤ w → p w ≡ true → Contains ws w) → ((w : ℕ) → Contains ws w → p w ≡ true) → map g ws ≡ filter (λ o. p (s o)) os
-in_slots p g s [] base [] rising within at has is = refl
-in_slots p g s [] base (w ∷ ws) rising within at has is = let h = within w (0, omega arith, refl) in absurd (omega (arith, h.0, h.1))
-in_slots p g s (o ∷ os) base [] rising within at has is =
-    let f = first_is g s o os base at in
-    in_slots p g s os (base + 1) [] rising (λ w c. absurd (omega (arith, c.1))) (at_next g s o os base at) (λ w le e. has w (omega (arith, le)) e) is
-    ∙ sym (ap (λ (b : Bool). cond b (o ∷ filter (λ o. p (s o)) os) (filter (λ o. p (s o)) os)) (ap p f.1 ∙ none_false (p base) (λ e. let c = has base (omega arith) e in absurd (omega (arith, c.1)))))
-in_slots p g s (o ∷ os) base (w ∷ ws) rising within at has is =
-    let f = first_is g s o os base at in
+-- the owners of rising slots are those of the list that pass
+pub in_slots : (p : ℕ → Bool) (g : ℕ → Owner) (q : Owner → Bool) (os : List Owner) (base : ℕ) (ws : List ℕ) → AllPairs (λ v w. v < w) ws
+    → ((w : ℕ) → Contains ws w → (base ≤ w) × (w < base + length os)) → AreAt g p q os base
+    → ((w : ℕ) → base ≤ w → p w ≡ true → Contains ws w) → ((w : ℕ) → Contains ws w → p w ≡ true) → map g ws ≡ filter q os
+in_slots p g q [] base [] rising within at has is = refl
+in_slots p g q [] base (w ∷ ws) rising within at has is = let h = within w (0, omega arith, refl) in absurd (omega (arith, h.0, h.1))
+in_slots p g q (o ∷ os) base [] rising within at has is =
+    let f = first_is g p q o os base at in
+    in_slots p g q os (base + 1) [] rising (λ w c. absurd (omega (arith, c.1))) (at_next g p q o os base at) (λ w le e. has w (omega (arith, le)) e) is
+    ∙ sym (ap (λ (b : Bool). cond b (o ∷ filter q os) (filter q os)) (f.1 ∙ none_false (p base) (λ e. let c = has base (omega arith) e in absurd (omega (arith, c.1)))))
+in_slots p g q (o ∷ os) base (w ∷ ws) rising within at has is =
+    let f = first_is g p q o os base at in
     elim (cases_eq w base) [
       | inl e ↦
           ap₂ (λ u us. u ∷ us) (ap g e ∙ sym f.0)
-          (in_slots p g s os (base + 1) ws (pairs-rest (λ v w. v < w) w ws rising)
-          (λ v c. let h = within v (further w ws v c) in let less = All-contains (λ u. w < u) ws v (pairs-first (λ v w. v < w) w ws rising) c in (omega (arith, less, e), omega (arith, h.1))) (at_next g s o os base at)
+          (in_slots p g q os (base + 1) ws (pairs-rest (λ v w. v < w) w ws rising)
+          (λ v c. let h = within v (further w ws v c) in let less = All-contains (λ u. w < u) ws v (pairs-first (λ v w. v < w) w ws rising) c in (omega (arith, less, e), omega (arith, h.1))) (at_next g p q o os base at)
           (λ v le t. behind w ws v (has v (omega (arith, le)) t) (λ x. let y : v ≡ base = sym x ∙ e in absurd (omega (arith, y, le)))) (λ v c. is v (further w ws v c)))
-          ∙ sym (ap (λ (b : Bool). cond b (o ∷ filter (λ o. p (s o)) os) (filter (λ o. p (s o)) os)) (ap p f.1 ∙ ap p (sym e) ∙ is w (0, omega arith, refl)))
+          ∙ sym (ap (λ (b : Bool). cond b (o ∷ filter q os) (filter q os)) (f.1 ∙ ap p (sym e) ∙ is w (0, omega arith, refl)))
       | inr ne ↦
           let none : Contains (w ∷ ws) base → ⊥ = λ c.
           let le = (within w (0, omega arith, refl)).0 in
           let less = All-contains (λ u. w < u) ws base (pairs-first (λ v w. v < w) w ws rising) (behind w ws base c ne) in absurd (omega (arith, le, less)) in
-          in_slots p g s os (base + 1) (w ∷ ws) rising (λ v c. let h = within v c in (above (w ∷ ws) base v none c h.0, omega (arith, h.1))) (at_next g s o os base at) (λ v le e. has v (omega (arith, le)) e) is
-          ∙ sym (ap (λ (b : Bool). cond b (o ∷ filter (λ o. p (s o)) os) (filter (λ o. p (s o)) os)) (ap p f.1 ∙ none_false (p base) (λ e. none (has base (omega arith) e))))
+          in_slots p g q os (base + 1) (w ∷ ws) rising (λ v c. let h = within v c in (above (w ∷ ws) base v none c h.0, omega (arith, h.1))) (at_next g p q o os base at) (λ v le e. has v (omega (arith, le)) e) is
+          ∙ sym (ap (λ (b : Bool). cond b (o ∷ filter q os) (filter q os)) (f.1 ∙ none_false (p base) (λ e. none (has base (omega arith) e))))
     ]
 
 -- ---- columns

@@ -193,8 +193,7 @@ bare_slots n t e h = record {
   standings = h.standings ∙ sym h.slots;
   matrix = h.matrix ∙ sym h.slots;
   levels = omega (arith, e, h.slots);
-  room = omega (arith, e, h.slots);
-  count = h.slots ∙ e;
+  room = λ k x lt. absurd (omega (arith, lt));
   priorities = h.priorities ∙ e;
   attrs = λ k x lt. absurd (omega (arith, lt));
   lines = λ k x lt. absurd (omega (arith, lt));
@@ -210,6 +209,7 @@ bare_kept n t e h = record {
   corner = nothing_corner;
   rays = λ c i out. absurd (omega (arith, i.2));
   slots = bare_slots n t e h;
+  stored = record { few = omega (arith, e, h.slots); empty = λ w high free. h.row w };
   matrix = λ k x lt. subst IsKeptRow (sym (get_or_default t.matrix k x [] lt ∙ h.row k)) none_kept;
   values = λ k x lt. subst (λ (s : Standing). fractions.IsKept s.value) (sym (get_or_default t.standings k x none_standing lt ∙ h.standing k)) zero_kept;
   attrs = λ k x lt. absurd (omega (arith, lt));

@@ -12,25 +12,28 @@ use Rattle.problem_core.specs.Corners.{IsExchange, IsIn, SameMarks, Swap, place}
 use Rattle.corner_lines.specs.LineEquations.{other_side}
 use Rattle.corner.specs.declared.exchange.Change.{Change}
 use Rattle.corner.specs.declared.exchange.Exchange.{Exchange}
-use Rattle.corner.specs.declared.table.Owner.{Owner}
-use Rattle.corner.specs.declared.table.Owner.TheVariants.{Level as LevelSlot, Attr as AttrSlot, Line as LineSlot}
 use Rattle.corner.specs.declared.table.Slot.{Slot}
 use Rattle.corner.specs.declared.table.Table.{Table}
 use Rattle.corner.specs.declared.table.TheConstants.{LEVELS}
 use Rattle.corner.specs.Views.{AreCandidates, IsNamed, IsOutside, MovesWith}
 use Rattle.corner.specs.Tables.{IsListedOf, Lists, entry, line_slot, lists_of, marks_at, problem_of, row_at, scene_at, slot_at, standing_at}
-use Rattle.corner.specs.Kept.{AreSlots, IsKept, IsOwned, IsSlot}
+use Rattle.corner.specs.Kept.{AreSlots, IsKept, IsSlot}
 use Rattle.corner.specs.Histories.{AreAlike, lists_before}
 use Rattle.corner.specs.Invariants.{IsConsistent, IsEarlier, name_of, names_of}
-use Rattle.corner.specs.Exchanges.{AreListedAfter, IsExchangeOf, IsPair, exchanged_lists, marks_after, turned_lists}
+use Rattle.std.proofs.Common.{slice_index_or, Contains}
+use Rattle.problem_core.specs.Layout.{Problem}
+use Rattle.corner.specs.Exchanges.{AreListedAfter, IsExchangeOf, IsOutsideAfter, IsOutsideSlot, IsPair, exchanged_lists, marks_after, turned_lists}
+use Rattle.corner.proofs.AttrJoins.{nowhere}
+use Rattle.corner.proofs.FreeSlots.{line_named}
+use Rattle.corner.proofs.SlotFacts.{named_slot}
+use Rattle.corner.proofs.WritingFacts.{line_owner}
 use Rattle.corner.specs.TurnedLevels.{IsTurn}
 use Rattle.corner.proofs.HistoryFacts.{sided}
 use Rattle.corner.proofs.CornerFacts.{map_length}
 use Rattle.corner.proofs.CornerAttrs.{marked_rows}
 use Rattle.corner.proofs.MarkFacts.{inside_stands}
 use Rattle.corner.proofs.ReadFacts.{is_some, mark_named}
-use Rattle.corner.proofs.ListFacts.{all_from, from_map}
-use Rattle.corner.proofs.AttrLevels.{stay_named}
+use Rattle.corner.proofs.ListFacts.{all_from, from_map, to_map}
 use Rattle.corner.proofs.WritingFacts.{in_mark, lines_apart}
 use Rattle.corner.proofs.KeptFacts.{row_kept}
 use Rattle.corner.proofs.MovedFacts.{moves_entry}
@@ -38,20 +41,27 @@ use Rattle.corner.proofs.PairFacts.{pair_exchange}
 use Rattle.corner.proofs.CandidatesAfter.{exchanged_candidates, turned_candidates}
 use Rattle.corner.proofs.ExchangedFacts.{exchanged_over}
 use Rattle.corner.proofs.TurnedFacts.{turn_exchange, turn_leaves, turn_named, turned_over}
-use Rattle.corner.proofs.ListedFacts.{after_slot}
 
 -- ---- names
 
-slot-named : (t : Lists) (w : ℕ) (o : Owner) → IsOwned t w o → IsNamed (problem_of t) (name_of o)
-slot-named t w LevelSlot h = absurd h
-slot-named t w (AttrSlot attr) h = stay_named (problem_of t) attr h.0
-slot-named t w (LineSlot name) h = h.0
+-- the slot can be listed: it is of something that the problem has
+abbrev pub CanBeListed : Lists → ℕ → Type 0
+CanBeListed t w = IsSlot t w × IsNamed (problem_of t) (name_of (slot_at t w).owner)
 
-names_named : (t : Lists) (ws : List ℕ) → AreSlots t → All (IsSlot t) ws → All (IsNamed (problem_of t)) (names_of t ws)
-names_named t ws slots h =
+names_named : (t : Lists) (ws : List ℕ) → All (CanBeListed t) ws → All (IsNamed (problem_of t)) (names_of t ws)
+names_named t ws h =
     all_from (IsNamed (problem_of t)) (names_of t ws) (λ name c.
     let i = from_map (λ w. name_of (slot_at t w).owner) ws name c in
-    subst (IsNamed (problem_of t)) i.is (slot-named t i.of (slot_at t i.of).owner (slots.owners i.of (All-contains (IsSlot t) ws i.of h i.has))))
+    subst (IsNamed (problem_of t)) i.is (All-contains (CanBeListed t) ws i.of h i.has).1)
+
+pub were_listed : (t : Lists) (ws : List ℕ) → All (IsSlot t) ws → All (IsNamed (problem_of t)) (names_of t ws) → (w : ℕ) → Contains ws w → CanBeListed t w
+were_listed t ws slots named w has = (
+  All-contains (IsSlot t) ws w slots has,
+  All-contains (IsNamed (problem_of t)) (names_of t ws) (name_of (slot_at t w).owner) named (to_map (λ w. name_of (slot_at t w).owner) ws w has),
+)
+
+pub outside_listed : (t : Lists) (w : ℕ) → AreSlots t → IsOutsideSlot t w → CanBeListed t w
+outside_listed t w slots out = (out.0, line_named t w out.2.0 slots out.2.1)
 
 -- lists with the same slots and the same problem
 pub record AreSeenAlike (t u : Lists) : Type 0 where
@@ -65,17 +75,18 @@ turned_alike : (t : Lists) (line : ℕ) (side : Side) (change : Option Change) �
 turned_alike t line side change = record { problem = ap problem_of (turned_over t line side change); slots = ap (λ (x : Lists). x.slots) (turned_over t line side change) }
 
 pub next_consistent : (old new : Table) (listed next : List ℕ) → IsConsistent old listed → AreAlike new → lists_before new ≡ lists_before old → AreSeenAlike (lists_of old) (lists_of new) → IsKept (lists_of new)
-    → All (IsSlot (lists_of old)) next → AreCandidates (problem_of (lists_of new)) (marks_at (lists_of new)) (names_of (lists_of new) next) → IsConsistent new next
+    → All (CanBeListed (lists_of old)) next → AreCandidates (problem_of (lists_of new)) (marks_at (lists_of new)) (names_of (lists_of new) next) → IsConsistent new next
 next_consistent old new listed next k alike before same kept slots candidates =
     let t : Lists = lists_of old in
     let u : Lists = lists_of new in
-    let there : All (IsSlot u) next = subst (λ (xs : List Slot). All (λ w. (LEVELS ≤ w) × (w < length xs)) next) (sym same.slots) slots in
+    let can : All (CanBeListed u) next = subst (λ (xs : List Slot). All (λ w. ((LEVELS ≤ w) × (w < length xs)) × IsNamed (problem_of u) (name_of (slice_index_or xs w nowhere).owner)) next) (sym same.slots)
+    (subst (λ (p : Problem). All (λ w. IsSlot t w × IsNamed p (name_of (slot_at t w).owner)) next) (sym same.problem) slots) in
     record {
       alike = alike;
       before = subst (All IsEarlier) (sym before) k.before;
       kept = kept;
-      slots = there;
-      named = names_named u next kept.slots there;
+      slots = all_from (IsSlot u) next (λ w has. (All-contains (CanBeListed u) next w can has).0);
+      named = names_named u next can;
       candidates = candidates;
     }
 
@@ -84,11 +95,16 @@ next_consistent old new listed next k alike before same kept slots candidates =
 pub exchanged_seen : (t u : Lists) (made : Exchange) → u ≡ exchanged_lists t made → AreSeenAlike t u
 exchanged_seen t u made same = subst (AreSeenAlike t) (sym same) (exchanged_alike t made)
 
-pub exchanged_slots : (t : Lists) (made : Exchange) (s : Swap) (old new : List ℕ) → AreSlots t → IsExchangeOf t made s → AreListedAfter t made old new → All (IsSlot t) old → All (IsSlot t) new
+after-listed : (t : Lists) (made : Exchange) (s : Swap) (w : ℕ) → AreSlots t → IsExchangeOf t made s → IsOutsideAfter t made.pair w → CanBeListed t w
+after-listed t made s w slots h (inl e) =
+    subst (CanBeListed t) (h.pair.leave_slot ∙ sym e) (named_slot t s.leave.row slots h.pair.leaves, line_named t (line_slot t s.leave.row) s.leave.row slots (line_owner t s.leave.row slots h.pair.leaves))
+after-listed t made s w slots h (inr (ne, out)) = outside_listed t w slots out
+
+pub exchanged_slots : (t : Lists) (made : Exchange) (s : Swap) (old new : List ℕ) → AreSlots t → IsExchangeOf t made s → AreListedAfter t made old new → ((w : ℕ) → Contains old w → CanBeListed t w) → All (CanBeListed t) new
 exchanged_slots t made s old new slots h listed all =
-    all_from (IsSlot t) new (λ w c. elim (listed.others w c) [
-      | inl o ↦ All-contains (IsSlot t) old w all o
-      | inr after ↦ after_slot t made s w slots h after
+    all_from (CanBeListed t) new (λ w c. elim (listed.others w c) [
+      | inl o ↦ all w o
+      | inr after ↦ after-listed t made s w slots h after
     ])
 
 pub exchanged_consistent : (old new : Table) (made : Exchange) (s : Swap) (listed next : List ℕ) → IsConsistent old listed → IsExchangeOf (lists_of old) made s → AreAlike new → lists_before new ≡ lists_before old
@@ -96,7 +112,7 @@ pub exchanged_consistent : (old new : Table) (made : Exchange) (s : Swap) (liste
 exchanged_consistent old new made s listed next k h alike before same kept marks after =
     let t : Lists = lists_of old in
     let seen = exchanged_seen t (lists_of new) made same in
-    next_consistent old new listed next k alike before seen kept (exchanged_slots t made s listed next k.kept.slots h after k.slots)
+    next_consistent old new listed next k alike before seen kept (exchanged_slots t made s listed next k.kept.slots h after (were_listed t listed k.slots k.named))
     (exchanged_candidates t (lists_of new) made s listed next k.kept h seen.problem seen.slots marks after k.candidates)
 
 -- ---- after a turn
@@ -104,11 +120,11 @@ exchanged_consistent old new made s listed next k h alike before same kept marks
 pub turned_seen : (t u : Lists) (line : ℕ) (side : Side) (change : Option Change) → u ≡ turned_lists t line side change → AreSeenAlike t u
 turned_seen t u line side change same = subst (AreSeenAlike t) (sym same) (turned_alike t line side change)
 
-turned-slots : (t : Lists) (line : ℕ) (old new : List ℕ) → IsKept t → IsListedOf line (row_at t line) old new → All (IsSlot t) old → All (IsSlot t) new
+turned-slots : (t : Lists) (line : ℕ) (old new : List ℕ) → IsKept t → IsListedOf line (row_at t line) old new → ((w : ℕ) → Contains old w → CanBeListed t w) → All (CanBeListed t) new
 turned-slots t line old new kept listed all =
-    all_from (IsSlot t) new (λ w c. elim (listed.others w c) [
-      | inl o ↦ All-contains (IsSlot t) old w all o
-      | inr (le, ne, has) ↦ (kept.outside line w ((number_at_column w (row_at t line) (row_kept t line kept)).1 has) ne).0
+    all_from (CanBeListed t) new (λ w c. elim (listed.others w c) [
+      | inl o ↦ all w o
+      | inr (le, ne, has) ↦ outside_listed t w kept.slots (kept.outside line w ((number_at_column w (row_at t line) (row_kept t line kept)).1 has) ne)
     ])
 
 pub turned_consistent : (old new : Table) (line : ℕ) (side : Side) (s : Swap) (change : Option Change) (listed next : List ℕ) → IsConsistent old listed → IsTurn (lists_of old) line side s → AreAlike new → lists_before new ≡ lists_before old
@@ -116,7 +132,7 @@ pub turned_consistent : (old new : Table) (line : ℕ) (side : Side) (s : Swap) 
 turned_consistent old new line side s change listed next k h alike before same kept marks after =
     let t : Lists = lists_of old in
     let seen = turned_seen t (lists_of new) line side change same in
-    next_consistent old new listed next k alike before seen kept (turned-slots t line listed next k.kept after k.slots)
+    next_consistent old new listed next k alike before seen kept (turned-slots t line listed next k.kept after (were_listed t listed k.slots k.named))
     (turned_candidates t (lists_of new) s line listed next k.kept (turn_named t line side s h) (turn_leaves t line side s h) h.inside h.row seen.problem seen.slots marks after.keeps
     (λ c some ne. after.has c (k.kept.outside line c some ne).0.0 ne ((number_at_column c (row_at t line) (row_kept t line k.kept)).0 some)) k.candidates)
 

@@ -112,6 +112,7 @@ kept_by t at h = record {
   corner = same_corner (problem_of t) at (marks_at t) h.marks (marks_apart t h.whole) h.corner;
   rays = same_rays (problem_of t) at (marks_at t) h.marks h.rays;
   slots = h.slots;
+  stored = h.stored;
   matrix = h.matrix;
   values = h.values;
   attrs = λ i x lt. equation-here t at (λ y. y (attr_column (slice_index_or t.stays i x).attr)) (attr_slot t (slice_index_or t.stays i x).attr)
@@ -130,7 +131,6 @@ over_slots t v m h vs ms = record {
   matrix = ms;
   levels = h.levels;
   room = h.room;
-  count = h.count;
   priorities = h.priorities;
   attrs = λ i d within. record { slot = (h.attrs i d within).slot; owner = (h.attrs i d within).owner };
   lines = λ i d within. record {

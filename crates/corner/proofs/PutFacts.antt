@@ -19,7 +19,6 @@ standing_slots t w standing h = record {
   matrix = h.matrix;
   levels = h.levels;
   room = h.room;
-  count = h.count;
   priorities = h.priorities;
   attrs = λ i d within. record { slot = (h.attrs i d within).slot; owner = (h.attrs i d within).owner };
   lines = λ i d within. record {
@@ -42,7 +41,6 @@ row_slots t w row h = record {
   matrix = length-set t.matrix w row ∙ h.matrix;
   levels = h.levels;
   room = h.room;
-  count = h.count;
   priorities = h.priorities;
   attrs = λ i d within. record { slot = (h.attrs i d within).slot; owner = (h.attrs i d within).owner };
   lines = λ i d within. record {

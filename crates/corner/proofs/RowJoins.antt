@@ -1,5 +1,5 @@
 -- All that the lists keep where a row has been pushed.
-use Rattle.std.proofs.Common.{◌≡◌, ◌∙◌, ℕ, zero, suc, ◌<◌, ◌++◌, List, [], ◌∷◌, refl, sym, ap, subst, arith, inl, inr, ℤ, pos, negsuc, ◌*ℤ◌, ◌<ℤ◌, ◌≤ℤ◌, slice_index_or, All, Some, None}
+use Rattle.std.proofs.Common.{◌≡◌, ◌∙◌, ℕ, zero, suc, ◌+◌, ◌^◌, ◌≤◌, length, ◌<◌, ◌++◌, List, [], ◌∷◌, refl, sym, ap, subst, arith, inl, inr, ℤ, pos, negsuc, ◌*ℤ◌, ◌<ℤ◌, ◌≤ℤ◌, slice_index_or, All, Some, None}
 use Rattle.std.proofs.lemmas.List.Elements.{All-cons, All-push}
 use lib.IntN.{*ℤ_comm}
 use borrow.Author.Differences.{ints}
@@ -25,7 +25,12 @@ use Rattle.corner.specs.declared.table.Priority.{Priority}
 use Rattle.corner.specs.declared.table.Slot.{Slot}
 use Rattle.corner.specs.declared.table.Standing.{Standing}
 use Rattle.corner.specs.Tables.{Lists, line_slot, marks_at, problem_of, standing_at}
-use Rattle.corner.specs.Kept.{HasStayRoom, IsLineRow}
+use Rattle.corner.specs.declared.table.Owner.TheVariants.{Level as LevelSlot}
+use Rattle.corner.specs.Kept.{AreStored, HasStayRoom, IsLineRow}
+use Rattle.corner.specs.Tables.{slot_at}
+use Rattle.std.proofs.lemmas.Bool.{cases_lt}
+use Rattle.std.proofs.lemmas.List.{get_or_past}
+use Rattle.corner.proofs.FreeSlots.{free_line}
 use Rattle.corner.specs.Parts.{IsPartlyKept, IsWithRow}
 use Rattle.corner.specs.Joining.{slot_of_row}
 use Rattle.corner.specs.RowJoins.{IsPlaced, IsPushed, IsStandingOf}
@@ -37,7 +42,7 @@ use Rattle.corner.proofs.AttrJoins.{own_name, own_stay}
 use Rattle.corner.proofs.Opposites.{opposite_fits, opposite_lowest}
 use Rattle.corner.proofs.AttrLevels.{stay_named}
 use Rattle.corner.proofs.SlotFacts.{named_slot}
-use Rattle.corner.proofs.RowPlaces.{IsPush, last_of, marks_pushed, old_row, put_line, slots_pushed, next}
+use Rattle.corner.proofs.RowPlaces.{IsPush, last_of, marks_pushed, old_row, old_slot, put_line, row_place, slots_pushed, next}
 use Rattle.corner.proofs.RowKept.{IsSideOf, corner_pushed, new_kept_line, old_attr_row, old_kept_line, outside_pushed, rays_pushed, row_equation, side_of}
 use Rattle.corner.proofs.RowLevels.{level_pushed}
 
@@ -46,12 +51,30 @@ room_pushed t r v o a s j has room =
     let slot = named_slot t (StayOf s.attr) j.kept.slots (stay_named (problem_of t) s.attr has) in
     subst (λ (z : ℤ). IsFitting (pos 2 *ℤ z)) (sym (ap (coefficient (line_slot t (StayOf s.attr))) (old_row t r v o a (line_slot t (StayOf s.attr)) j.kept.slots slot.1))) room
 
-pub kept_pushed : (t : Lists) (r : Row) (v : Standing) (o : List Term) (a : List ℕ) (s : Side) (sum : Sum) → IsPush t r a → IsSideOf sum.value v s → o ≡ sum.row → IsSumRow t r (deviation (Held r.id)) sum → IsKeptRow o → fractions.IsKept v.value → IsPartlyKept (with_pushed r v o a t)
-kept_pushed t r v o a s sum j is own h row value = record {
+stored_pushed : (t : Lists) (r : Row) (v : Standing) (o : List Term) (a : List ℕ) → IsPush t r a → length t.slots + 2 < 2 ^ 32 → AreStored (with_pushed r v o a t)
+stored_pushed t r v o a j room =
+    let n = length_push t.slots (slot_of_row r) in
+    record {
+      few = omega (arith, n, room);
+      empty = λ w high free. elim (cases_lt w (length t.slots)) [
+        | inl lt ↦ old_row t r v o a w j.kept.slots lt ∙ j.kept.stored.empty w high (sym (ap (λ (x : Slot). x.owner) (old_slot t r v o a w lt)) ∙ free)
+        | inr past ↦ elim (cases_lt (length t.slots) w) [
+          | inl more ↦ get_or_past (t.matrix ++ (o ∷ [])) w [] (let k = length_push t.matrix o in omega (arith, k, more, j.kept.slots.matrix))
+          | inr here ↦ absurd (free_line (Held r.id) (sym (ap (λ (x : Slot). x.owner) (ap (slot_at (with_pushed r v o a t)) (same w (length t.slots) past here) ∙ row_place t r v o a)) ∙ free))
+        ]
+      ];
+    }
+  where
+    same : (w n : ℕ) → n ≤ w → w ≤ n → w ≡ n
+    same w n le ge = omega (arith, le, ge)
+
+pub kept_pushed : (t : Lists) (r : Row) (v : Standing) (o : List Term) (a : List ℕ) (s : Side) (sum : Sum) → IsPush t r a → length t.slots + 2 < 2 ^ 32 → IsSideOf sum.value v s → o ≡ sum.row → IsSumRow t r (deviation (Held r.id)) sum → IsKeptRow o → fractions.IsKept v.value → IsPartlyKept (with_pushed r v o a t)
+kept_pushed t r v o a s sum j few is own h row value = record {
   whole = j.whole;
   corner = corner_pushed t r v o a s j is.side;
   rays = rays_pushed t r v o a s j is.side;
   slots = slots_pushed t r v o a (next t r a j);
+  stored = stored_pushed t r v o a j few;
   matrix = All-push IsKeptRow t.matrix o j.kept.matrix row;
   values = All-push (λ (x : Standing). fractions.IsKept x.value) t.standings v j.kept.values value;
   attrs = λ i x lt. old_attr_row t r v o a s (slice_index_or t.stays i x).attr j is.side (j.kept.slots.attrs i x lt) (j.kept.attrs i x lt);
@@ -147,7 +170,7 @@ pub row_kept_part : (t u : Lists) (r : Row) (sum : Sum) → IsPartlyKept t → I
 row_kept_part t u r sum kept whole h row value (p, st, own) =
     let side = side_of sum.value p.standing st in
     subst IsPartlyKept (sym (pushed_is t u r p))
-    (kept_pushed t r p.standing p.own u.row_slots side.0 sum (push_of t u r kept whole p) side.1 own h (subst IsKeptRow (sym own) row) (standing_kept sum.value p.standing st value))
+    (kept_pushed t r p.standing p.own u.row_slots side.0 sum (push_of t u r kept whole p) p.room side.1 own h (subst IsKeptRow (sym own) row) (standing_kept sum.value p.standing st value))
 
 pub row_joins : (t u : Lists) (r : Row) (sum : Sum) → IsPartlyKept t → IsWhole (with_row r (problem_of t)) → IsSumRow t r (deviation (Held r.id)) sum → fractions.IsKept sum.value → IsPlaced r sum t u → IsWithRow r t u
 row_joins t u r sum kept whole h value (p, st, own) =

@@ -180,13 +180,11 @@ slots_pushed t r v o a j =
     let n = length_push t.slots (slot_of_row r) in
     let standings = length_push t.standings v in
     let matrix = length_push t.matrix o in
-    let rows = length_push t.rows r in
     record {
       standings = omega (arith, n, standings, s.standings);
       matrix = omega (arith, n, matrix, s.matrix);
       levels = omega (arith, n, s.levels);
-      room = omega (arith, n, rows, s.count, j.whole.row_count, j.whole.stay_count);
-      count = omega (arith, n, rows, s.count);
+      room = s.room;
       priorities = s.priorities;
       attrs = λ k x lt. attr_slot_kept t r v o a (slice_index_or t.stays k x).attr (s.attrs k x lt);
       lines = put_line (IsLineSlot (with_pushed r v o a t)) (problem_of t) r

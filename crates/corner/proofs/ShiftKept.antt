@@ -65,7 +65,6 @@ shift_slots t id to standings slots count = record {
   matrix = slots.matrix;
   levels = slots.levels;
   room = slots.room;
-  count = let n = shift_count id to t.rows in let all = slots.count in omega (arith, n, all);
   priorities = slots.priorities;
   attrs = λ i s lt. let is = slots.attrs i s lt in record { slot = is.slot; owner = is.owner };
   lines = after;
@@ -160,6 +159,7 @@ shift_kept t id from to more standings h s =
       corner = subst (IsCorner q) marks (after_corner p (marks_at t) id from to more (shift_here t id from to more h));
       rays = subst (HasRays q) marks (shift_rays p (marks_at t) id from to more h.shift h.kept.rays);
       slots = shift_slots t id to standings h.kept.slots s.count;
+      stored = record { few = h.kept.stored.few; empty = h.kept.stored.empty };
       matrix = h.kept.matrix;
       values = s.values;
       attrs = λ i x lt. attr_shifted t id (slice_index_or t.stays i x).attr from to more standings h s (own_stay t.stays i x lt);

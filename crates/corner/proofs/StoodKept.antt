@@ -1,5 +1,5 @@
 -- What the lists keep where the stays have moved to the attributes' values.
-use Rattle.std.proofs.Common.{◌≡◌, ◌∙◌, ℕ, ◌*◌, ◌<◌, List, filter, length, refl, sym, ap, subst, arith, inl, inr, ℤ, pos, ◌+ℤ◌, ◌*ℤ◌, ◌-ℤ◌, neg_ℤ, slice_index_or, unsigned_abs, All, Some, None}
+use Rattle.std.proofs.Common.{◌≡◌, ◌∙◌, ℕ, ◌+◌, ◌^◌, ◌*◌, ◌<◌, List, filter, length, refl, sym, ap, subst, arith, inl, inr, ℤ, pos, ◌+ℤ◌, ◌*ℤ◌, ◌-ℤ◌, neg_ℤ, slice_index_or, unsigned_abs, All, Some, None}
 use Rattle.std.specs.declared.option.Option.{Option}
 use Rattle.std.specs.Int.{◌∣◌}
 use Rattle.std.proofs.lemmas.List.{get_or_default}
@@ -102,8 +102,9 @@ first_slots n t stays standings slots h = record {
   standings = h.standing_count ∙ slots.standings;
   matrix = slots.matrix;
   levels = slots.levels;
-  room = slots.room;
-  count = omega (arith, h.stay_count, slots.count);
+  room = λ i s lt.
+      let within : i < length t.stays = omega (arith, lt, h.stay_count) in
+      subst (λ (a : ℕ). attr_slot t a + 1 < 2 ^ 32) (sym (attr_same n t stays standings h i s within)) (slots.room i s within);
   priorities = slots.priorities;
   attrs = λ i s lt.
       let within : i < length t.stays = omega (arith, lt, h.stay_count) in
@@ -348,6 +349,7 @@ stood_kept t stays standings kept h =
       corner = subst (IsCorner q) ms (stood_corner p (marks_at t) stays kept.whole kept.corner stood);
       rays = subst (HasRays q) ms (stood_rays p (marks_at t) stays kept.whole kept.corner stood kept.rays);
       slots = first_slots (length t.stays) t stays standings kept.slots h;
+      stored = record { few = kept.stored.few; empty = kept.stored.empty };
       matrix = kept.matrix;
       values = h.values;
       attrs = λ i s lt.

@@ -475,6 +475,7 @@ next-kept t v m line side s n vs ms rows values = record {
   corner = (turn_exchange t line side s n.kept n.is).corner;
   rays = turn_rays t line side s n.kept n.is;
   slots = over_slots t v m n.kept.slots vs ms;
+  stored = record { few = n.kept.stored.few; empty = λ w high free. n.at.rows w high ∙ n.kept.stored.empty w high free };
   matrix = rows;
   values = values;
   attrs = λ i x lt. attr-next t v m line side s (slice_index_or t.stays i x).attr n (own_stay t.stays i x lt);

@@ -27,7 +27,7 @@ use Rattle.corner.specs.declared.table.TheConstants.{LEVELS}
 use Rattle.corner.specs.Tables.{Lists, entry, line_slot, marks_at, priority_at, problem_of, row_at}
 use Rattle.corner.specs.Tables.{marks_over, slot_at, standing_at}
 use Rattle.problem_core.specs.Begins.{BeginsWith}
-use Rattle.corner.specs.Kept.{IsKept, IsSlot}
+use Rattle.corner.specs.Kept.{IsKept, IsLineAt}
 use Rattle.corner.specs.RowJoins.{ArePushed}
 use Rattle.indexed_rows.specs.Lists.{HasColumn}
 use Rattle.cert_core.specs.declared.stops.RunStop.{RunStop}
@@ -245,7 +245,7 @@ pub record AreCostsJoined (rows : List Row) (t : Lists) (old : List ℕ) (u : Li
     pub sides : (w : ℕ) → (standing_at u w).side ≡ (standing_at t w).side
     pub keeps : (c : ℕ) → Contains old c → Contains new c
     pub listed : All (λ r. IsLineListed u new (line_slot u (Held r.id))) rows
-    pub others : (c : ℕ) → Contains new c → Contains old c ⊎ IsSlot t c
+    pub others : (c : ℕ) → Contains new c → Contains old c ⊎ IsLineAt t c
 
 -- want of memory, or the path to where all rows have joined, with the cost of the first rows of a level up
 -- to one of these

@@ -1,6 +1,6 @@
 -- How attributes and rows join the lists of a corner.
 use Rattle.std.specs.Prelude.{◌≡◌, ◌≢◌, ℕ, zero, suc, ◌+◌, ◌-◌, cond, nat_eq, List, [], ◌∷◌, ◌++◌, length}
-use Rattle.std.specs.Prelude.{slice_index_or, pos, negsuc, None}
+use Rattle.std.specs.Prelude.{◌^◌, ◌<◌, slice_index_or, pos, negsuc, None}
 use Rattle.frac_core.specs.Fraction.{Fraction}
 use Rattle.row_core.specs.Rows.{IsKeptRow, Term, coefficient}
 use Rattle.problem_core.specs.Layout.{Row}
@@ -114,6 +114,7 @@ slot_of_row r = record {
 
 -- with a new attribute in the next slot, at its target, and its stay behind it, at 0
 pub record IsWithAttr (attr : ℕ) (target : Fraction) (old new : Lists) : Type 0 where
+  pub room : length old.slots + 2 < 2 ^ 32
   pub rows : new.rows ≡ old.rows
   pub stays : new.stays ≡ old.stays ++ (new_stay attr target ∷ [])
   pub slots : new.slots ≡ (old.slots ++ (slot_of_attr attr (length old.slots) ∷ []))

@@ -52,20 +52,19 @@ pub record IsAttrSlot (t : Lists) (attr : ℕ) : Type 0 where
   pub slot : IsSlot t (attr_slot t attr)
   pub owner : (slot_at t (attr_slot t attr)).owner ≡ AttrSlot attr
 
--- what the slot says is of the problem, and is at the slot
+-- what the slot says is of the problem, and is at the slot; a slot past the levels' may be of nothing
 abbrev pub IsOwned : Lists → ℕ → Owner → Type 0
-IsOwned t w LevelSlot = ⊥
+IsOwned t w LevelSlot = Unit {0}
 IsOwned t w (AttrSlot attr) = HasStay t.stays attr × (attr_slot t attr ≡ w)
 IsOwned t w (LineSlot name) = Any (λ l. l.name ≡ name) (lines (problem_of t)) × (line_slot t name ≡ w)
 
--- each attribute, stay and row has a slot, and each slot past the levels' is one of theirs; the stays' come
--- in order
+-- each attribute, stay and row has a slot, and each slot past the levels' is one of theirs or of nothing; the
+-- stays' come in order, and another slot may follow each
 pub record AreSlots (t : Lists) : Type 0 where
   pub standings : length t.standings ≡ length t.slots
   pub matrix : length t.matrix ≡ length t.slots
   pub levels : LEVELS ≤ length t.slots
-  pub room : length t.slots < 2 ^ 32
-  pub count : length t.slots ≡ LEVELS + (length t.rows + 2 * length t.stays)
+  pub room : All (λ s. attr_slot t s.attr + 1 < 2 ^ 32) t.stays
   pub priorities : length t.priorities ≡ LEVELS
   pub attrs : All (λ s. IsAttrSlot t s.attr) t.stays
   pub lines : All (IsLineSlot t) (lines (problem_of t))
@@ -73,6 +72,15 @@ pub record AreSlots (t : Lists) : Type 0 where
   pub level_owners : (w : ℕ) → w < LEVELS → (slot_at t w).owner ≡ LevelSlot
   pub level_homes : (w : ℕ) → w < LEVELS → (slot_at t w).home ≡ w
   pub stays_rise : AllPairs (λ s r. attr_slot t s.attr < attr_slot t r.attr) t.stays
+
+-- the slot is a line's
+abbrev pub IsLineAt : Lists → ℕ → Type 0
+IsLineAt t w = IsSlot t w × ((name : RowName) × ((slot_at t w).owner ≡ LineSlot name))
+
+-- there are not too many slots, and those of nothing have no row
+pub record AreStored (t : Lists) : Type 0 where
+  pub few : length t.slots < 2 ^ 32
+  pub empty : (w : ℕ) → LEVELS ≤ w → (slot_at t w).owner ≡ LevelSlot → row_at t w ≡ []
 
 abbrev pub IsStayOwner : Owner → Type 0
 IsStayOwner LevelSlot = ⊥
@@ -161,6 +169,7 @@ pub record IsKept (t : Lists) : Type 0 where
   pub corner : IsCorner (problem_of t) (marks_at t)
   pub rays : HasRays (problem_of t) (marks_at t)
   pub slots : AreSlots t
+  pub stored : AreStored t
   pub matrix : All IsKeptRow t.matrix
   pub values : All (λ s. fractions.IsKept s.value) t.standings
   pub attrs : All (λ s. IsAttrRow t s.attr) t.stays

@@ -21,3 +21,5 @@ pub mod CostJoins
 pub mod JoinedLists
 pub mod Shifting
 pub mod Entries
+pub mod Leaving
+pub mod Dropping

@@ -25,3 +25,9 @@ pub record IsWithout (line : ℕ) (old new : List ℕ) : Type 0 where
   pub shorter : length new + 1 ≡ length old
   pub keeps : (w : ℕ) → w ≢ line → Contains old w → Contains new w
   pub others : (w : ℕ) → Contains new w → Contains old w
+
+-- without each entry of this slot
+pub record HasLeft (line : ℕ) (old new : List ℕ) : Type 0 where
+  pub gone : Contains new line → ⊥
+  pub keeps : (w : ℕ) → w ≢ line → Contains old w → Contains new w
+  pub others : (w : ℕ) → Contains new w → Contains old w

@@ -23,7 +23,7 @@ use Rattle.corner.specs.declared.table.TheConstants.{LEVELS}
 use Rattle.corner.specs.Tables.{Lists, attr_slot, line_slot, marks_at, number, priority_at, problem_of}
 use Rattle.corner.specs.Tables.{row_at}
 use Rattle.corner.specs.Tables.{standing_at}
-use Rattle.corner.specs.Kept.{AreOutside, AreSlots, HasStayRoom, level_own, row_count}
+use Rattle.corner.specs.Kept.{AreOutside, AreSlots, AreStored, HasStayRoom, level_own, row_count}
 use Rattle.corner.specs.Exchanges.{IsEquationBy, IsPair, marks_after}
 use Rattle.corner.specs.TurnedLevels.{IsTurn}
 
@@ -81,6 +81,7 @@ pub record IsKeptBy (t : Lists) (at : List Mark) : Type 0 where
   pub corner : IsCorner (problem_of t) at
   pub rays : HasRays (problem_of t) at
   pub slots : AreSlots t
+  pub stored : AreStored t
   pub matrix : All IsKeptRow t.matrix
   pub values : All (λ s. fractions.IsKept s.value) t.standings
   pub attrs : All (λ s. IsEquationBy t at (λ x. x (attr_column s.attr)) (attr_slot t s.attr)

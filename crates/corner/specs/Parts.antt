@@ -22,7 +22,8 @@ use Rattle.corner_lines.specs.LineEquations.{IsOutsideLine}
 use Rattle.corner.specs.declared.table.TheConstants.{LEVELS}
 use Rattle.corner.specs.Tables.{Lists, line_slot, marks_at, number, priority_at, problem_of, row_at}
 use Rattle.corner.specs.Tables.{standing_at}
-use Rattle.corner.specs.Kept.{AreOutside, AreSlots, HasStayRoom, IsAttrRow, IsLineRow, level_own, row_count}
+use Rattle.corner.specs.Kept.{AreOutside, AreSlots, AreStored, HasStayRoom, IsAttrRow, IsLineRow, level_own}
+use Rattle.corner.specs.Kept.{row_count}
 
 -- ---- levels whose last rows have not joined their costs
 
@@ -58,6 +59,7 @@ pub record IsPartlyKept (t : Lists) : Type 0 where
   pub corner : IsCorner (problem_of t) (marks_at t)
   pub rays : HasRays (problem_of t) (marks_at t)
   pub slots : AreSlots t
+  pub stored : AreStored t
   pub matrix : All IsKeptRow t.matrix
   pub values : All (λ s. fractions.IsKept s.value) t.standings
   pub attrs : All (λ s. IsAttrRow t s.attr) t.stays

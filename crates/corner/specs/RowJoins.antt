@@ -1,5 +1,6 @@
 -- How rows join the lists of a corner as lines.
-use Rattle.std.specs.Prelude.{◌≡◌, ◌⊎◌, ℕ, ◌<◌, List, [], ◌∷◌, ◌++◌, length, map, pos, ◌<ℤ◌, ◌≤ℤ◌, Some}
+use Rattle.std.specs.Prelude.{◌≡◌, ◌⊎◌, ℕ, ◌+◌, ◌^◌, ◌<◌, List, [], ◌∷◌, ◌++◌, length, map, pos, ◌<ℤ◌}
+use Rattle.std.specs.Prelude.{◌≤ℤ◌, Some}
 use Rattle.frac_core.specs.Fraction.{Fraction}
 use Rattle.row_core.specs.Rows.{Term}
 use Rattle.problem_core.specs.declared.parts.RowName.{RowName}
@@ -18,6 +19,7 @@ use Rattle.corner.specs.Views.{IsNamed}
 pub record IsPushed (r : Row) (old new : Lists) : Type 0 where
   pub standing : Standing
   pub own : List Term
+  pub room : length old.slots + 2 < 2 ^ 32
   pub rows : new.rows ≡ old.rows ++ (r ∷ [])
   pub stays : new.stays ≡ old.stays
   pub slots : new.slots ≡ old.slots ++ (slot_of_row r ∷ [])

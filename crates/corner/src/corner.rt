@@ -9,7 +9,9 @@ ghost use Rattle.problem_core.specs.Corners as corners;
 ghost use Rattle.problem_core.specs.Corners.{IsExchange, IsIn, NoNegativeValue, SameMarks, attr_column};
 ghost use Rattle.problem_core.specs.Corners.{Swap, exchanged};
 ghost use Rattle.problem_core.specs.declared.stops.TableStop.TheVariants.{OutOfMemory as NoMemory};
-ghost use Rattle.problem_core.specs.Begins.{BeginsWith};
+ghost use Rattle.problem_core.specs.Begins.{BeginsWith, without_marks};
+ghost use Rattle.problem_core.specs.Layout as layout;
+ghost use Rattle.problem_core.specs.declared.parts.RowName.TheVariants as row_names;
 ghost use Rattle.problem_core.specs.Levels.{IsCostAt, IsLevelAt};
 ghost use Rattle.problem_core.specs.declared.parts.Level as level_type;
 ghost use Rattle.problem_core.specs.declared.parts.RowName as row_type;
@@ -28,23 +30,28 @@ ghost use Rattle.corner.specs.Changes.{HasNoNegative, HasStood, IsAddStop, IsAsB
 ghost use Rattle.corner.specs.Changes.{IsUnfitStop, scene_of};
 ghost use Rattle.corner.specs.Changes.{with_attr, with_rows};
 ghost use Rattle.corner.specs.Shifting.{IsNear};
+ghost use Rattle.corner_lines.specs.Removals.{IsFree, without_attr, without_row};
 ghost use Rattle.corner_lines.specs.Shifts.{with_constant};
 ghost use Rattle.corner.specs.NextLists.{AreMarksBy, AreMarksTurned};
 ghost use Rattle.corner.specs.Exchanges.{IsPair, IsPairStop};
 ghost use Rattle.corner.specs.TurnedLevels.{IsTurn, IsTurnStop};
-ghost use Rattle.corner.specs.Tables.{Lists, lists_of, problem_of};
+ghost use Rattle.corner.specs.Dropping.{AreLeftListed, dropped};
+ghost use Rattle.corner.specs.Leaving.{IsLeaver, IsLevelLeft, marks_left, problem_left};
+ghost use Rattle.corner.specs.Tables.{Lists, lists_of, marks_at, problem_of};
 ghost use Rattle.corner.specs.Histories.{AreAlike, lists_before};
 ghost use Rattle.corner.specs.Invariants.{IsConsistent, IsEarlier, view_of};
 
+use crate::dropping::{drop_line, drop_stay, list_left};
 use crate::exchange::{exchange_of, put_exchange};
 use crate::joining::{join_all, push_attr, stand_stays};
+use crate::leaving::{Leaver, Left, leaver_of, left_level};
 use crate::levels::{
     Front, Pair, cost_at, front_of, is_stronger, reduced_at, scale_at, times_at, used,
 };
 use crate::listing::Listed;
 use crate::marking::marks_with;
 use crate::shifting::shift_row;
-use crate::slots::{level_slot, line_slot, name_at};
+use crate::slots::{attr_slot, level_slot, line_slot, name_at};
 use crate::table::{Table, back, forget, mark, new_table, rewind};
 use crate::turning::{put_turn, turn_of};
 use crate::writings::{
@@ -135,6 +142,66 @@ fn turn_line(table: &mut Table, listed: &mut Listed, line: u32, side: Side) -> R
         Err(TableStop::OutOfMemory) => Err(rewound(table, listed)),
         Err(TableStop::UnfitAt(quantity)) => Err(TableStop::UnfitAt(quantity)),
     }
+}
+
+// Takes a row out of whose level this is left.
+fn put_left(
+    table: &mut Table,
+    listed: &mut Listed,
+    leaver: Leaver,
+    left: Left,
+) -> Result<(), OutOfMemory>
+    requires consistent { IsConsistent table.old listed.old }
+    requires leaver { (r : layout.Row) × IsLeaver (lists_of table.old) r leaver }
+    requires left { IsLevelLeft (lists_of table.old) leaver left }
+    ensures lists { OnOk result (lists_of table.new ≡ dropped (lists_of table.old) leaver left) }
+    ensures listed { OnOk result
+        (AreLeftListed (lists_of table.old) leaver.line listed.old listed.new) }
+    ensures before { lists_before table.new ≡ lists_before table.old }
+    ensures alike { AreAlike table.new }
+{
+    list_left(table, leaver.line, listed)?;
+    drop_line(table, leaver, left)
+}
+
+// Takes a row out whose mark is inside.
+fn take_row(table: &mut Table, listed: &mut Listed, leaver: Leaver) -> Result<(), TableStop>
+    requires consistent { IsConsistent table.old listed.old }
+    requires marked { 0 < length table.old.rows.before }
+    requires leaver { (r : layout.Row) × IsLeaver (lists_of table.old) r leaver }
+    ensures consistent { IsConsistent table.new listed.new }
+    ensures before { lists_before table.new ≡ lists_before table.old }
+    ensures problem { OnOk result
+        (problem_of (lists_of table.new) ≡ problem_left (lists_of table.old) leaver) }
+    ensures marks { OnOk result (marks_at (lists_of table.new) ≡ marks_left (lists_of table.old) leaver) }
+    ensures stop { IfErr result (IsUnfitStop (problem_left (lists_of table.old) leaver)
+        (marks_left (lists_of table.old) leaver)) }
+    ensures same { IfErr result (IsAsBefore (view_of table.old listed.old) (view_of table.new listed.new)) }
+{
+    match left_level(table, leaver) {
+        Ok(left) => match put_left(table, listed, leaver, left) {
+            Ok(()) => Ok(()),
+            Err(OutOfMemory) => Err(rewound(table, listed)),
+        },
+        Err(TableStop::OutOfMemory) => Err(rewound(table, listed)),
+        Err(TableStop::UnfitAt(quantity)) => Err(TableStop::UnfitAt(quantity)),
+    }
+}
+
+// Takes an attribute out that no row names, and its stay.
+fn take_attr(table: &mut Table, listed: &mut Listed, attr: u32) -> Result<(), OutOfMemory>
+    requires consistent { IsConsistent table.old listed.old }
+    requires free { IsFree (problem_of (lists_of table.old)) attr }
+    ensures consistent { OnOk result (IsConsistent table.new listed.new) }
+    ensures problem { OnOk result (problem_of (lists_of table.new)
+        ≡ without_attr attr (problem_of (lists_of table.old))) }
+    ensures marks { OnOk result (marks_at (lists_of table.new) ≡ marks_at (lists_of table.old)) }
+    ensures before { lists_before table.new ≡ lists_before table.old }
+    ensures alike { AreAlike table.new }
+{
+    listed.leave(attr_slot(table, attr));
+    listed.leave(line_slot(table, RowName::Stay(attr)));
+    drop_stay(table, attr)
 }
 
 // Whether both are marks of one line.
@@ -477,6 +544,43 @@ impl Corner {
             Err(stop) => {
                 take_back(&mut self.table, &mut self.listed);
                 Err(stop)
+            }
+        }
+    }
+
+    /// Takes a row out whose mark is inside. The lines of its writing are listed if its mark costs.
+    ///
+    /// `UnfitAt` names what does not fit without the row, and the corner is as before. After want of memory
+    /// it is that of the newest mark.
+    pub fn drop_row(&mut self, id: u32) -> Result<(), TableStop>
+        requires marked { 0 < length self.old.before }
+        requires inside { Any (λ m. m.row ≡ row_names.Held id) self.old.marks }
+        ensures problem { IfOk result (λ _. self.new.problem ≡ without_row id self.old.problem) }
+        ensures marks { IfOk result (λ _. self.new.marks ≡ without_marks (id ∷ []) self.old.marks) }
+        ensures before { self.new.before ≡ self.old.before }
+        ensures stop { IfErr result (IsUnfitStop (without_row id self.old.problem)
+            (without_marks (id ∷ []) self.old.marks)) }
+        ensures same { IfErr result (IsAsBefore self.old self.new) }
+    {
+        let leaver = leaver_of(&self.table, id);
+        take_row(&mut self.table, &mut self.listed, leaver)
+    }
+
+    /// Takes an attribute out that no row names, and its stay, which is outside. After want of memory the
+    /// corner is that of the newest mark.
+    pub fn drop_attr(&mut self, attr: u32) -> Result<(), OutOfMemory>
+        requires marked { 0 < length self.old.before }
+        requires free { IsFree self.old.problem attr }
+        ensures problem { IfOk result (λ _. self.new.problem ≡ without_attr attr self.old.problem) }
+        ensures marks { IfOk result (λ _. self.new.marks ≡ self.old.marks) }
+        ensures before { self.new.before ≡ self.old.before }
+        ensures same { OnErr result (IsRewound self.old self.new) }
+    {
+        match take_attr(&mut self.table, &mut self.listed, attr) {
+            Ok(()) => Ok(()),
+            Err(OutOfMemory) => {
+                take_back(&mut self.table, &mut self.listed);
+                Err(OutOfMemory)
             }
         }
     }

@@ -31,16 +31,18 @@ pub(crate) struct Draft {
     pub rows: u32,
 }
 
-// A scale below it, and multipliers below half the bound, leave room for each reduced cost.
-const SMALL_SCALE: i128 = 1 << 30;
+/// A scale below it, and multipliers below half the bound, leave room for each reduced cost.
+pub(crate) const SMALL_SCALE: i128 = 1 << 30;
 
-fn is_fitting(x: i128) -> bool
+/// Whether the number fits.
+pub(crate) fn is_fitting(x: i128) -> bool
     ensures { (result ≡ true) ↔ IsFitting x }
 {
     x.unsigned_abs() < PART_BOUND
 }
 
-fn scale_of(draft: Draft, row: &IntRow) -> i128
+/// The scale of the level.
+pub(crate) fn scale_of(draft: Draft, row: &IntRow) -> i128
     requires { IsFitting draft.unit }
     ensures value { result ≡ coefficient draft.level row.now *ℤ draft.unit }
     ensures kept { IsKeptRow row.now }
@@ -49,7 +51,8 @@ fn scale_of(draft: Draft, row: &IntRow) -> i128
     i128::from(own) * i128::from(draft.unit)
 }
 
-fn are_small(entries: &[Entry]) -> bool
+/// Whether the numbers are below half the bound.
+pub(crate) fn are_small(entries: &[Entry]) -> bool
     ensures { result ≡ true → All (λ t. unsigned_abs t.by < small_number) entries.now }
 {
     entries
@@ -114,8 +117,8 @@ fn line_at(table: &Table, draft: Draft, row: &IntRow, at: u32) -> Line
     }
 }
 
-// Whether both reduced costs of a line of the level fit.
-fn does_line_fit(table: &Table, draft: Draft, row: &IntRow, at: u32) -> bool
+/// Whether both reduced costs of a line of the level fit.
+pub(crate) fn does_line_fit(table: &Table, draft: Draft, row: &IntRow, at: u32) -> bool
     requires slots { AreSlots (lists_of table.now) }
     requires within { at < length table.now.slots.items }
     requires counted { IsCounted (tables.slot_at (lists_of table.now) at) draft.unit }
@@ -127,8 +130,8 @@ fn does_line_fit(table: &Table, draft: Draft, row: &IntRow, at: u32) -> bool
     do_costs_fit(line, number)
 }
 
-// The level of a row, by its slot.
-fn level_at(row: &Row) -> u32
+/// The level of a row, by its slot.
+pub(crate) fn level_at(row: &Row) -> u32
     requires { IsRow row.now }
     ensures { result ≡ 1000 - row.now.rank }
 {

@@ -57,7 +57,7 @@ use crate::slots::{
     attr_slot, costs, line_slot, own_of, priority_at, put_number, share, side_at, side_in, sign,
     slot_at, value_at,
 };
-use crate::table::{Owner, Priority, Slot, Standing, Table, push_slot};
+use crate::table::{Owner, Priority, Slot, Standing, Table, next_slot, push_slot};
 use crate::turning::negated;
 use cert_core::RunStop;
 use frac_core::{Frac, OutOfMemory, PART_BOUND, gcd};
@@ -116,7 +116,7 @@ fn place_attr(table: &mut Table, attr: u32, target: Frac) -> Result<(), OutOfMem
     ensures past { HasSameHistory table.old table.new }
     ensures lists { OnOk result (IsWithAttr attr target (lists_of table.old) (lists_of table.new)) }
 {
-    let at = table.slots.len() as u32;
+    let at = next_slot(table)?;
     push_attr_slots(table, attr, target, at)?;
     let row = attr_row(table.alloc, at)?;
     table.matrix.put(at, row)?;
@@ -147,8 +147,8 @@ struct Sum {
     value: Frac,
 }
 
-// The greatest common divisor of a number above 0 and another.
-fn common(a: i64, b: i64) -> i64
+/// The greatest common divisor of a number above 0 and another.
+pub(crate) fn common(a: i64, b: i64) -> i64
     requires { pos 0 <ℤ a }
     ensures above { pos 0 <ℤ result }
     ensures divisor { IsGcd (unsigned_abs a) (unsigned_abs b) (unsigned_abs result) }
@@ -345,7 +345,7 @@ fn place_row(table: &mut Table, row: &Row, sum: Sum) -> Result<(), OutOfMemory>
     ensures past { HasSameHistory table.old table.new }
     ensures lists { OnOk result (IsPlaced row.now sum (lists_of table.old) (lists_of table.new)) }
 {
-    let at = table.slots.len() as u32;
+    let at = next_slot(table)?;
     let standing = standing_of(sum.value);
     push_slot(table, slot_of(row), standing.side, standing.value, sum.row)?;
     put_number(&mut table.row_slots, row.id(), at)?;
@@ -368,8 +368,8 @@ pub(crate) fn push_row(table: &mut Table, row: &Row) -> Result<(), TableStop>
     Ok(())
 }
 
-// The number over one of its divisors, both above 0.
-fn over(a: i64, divisor: i64) -> i64
+/// The number over one of its divisors, both above 0.
+pub(crate) fn over(a: i64, divisor: i64) -> i64
     requires a { pos 0 <ℤ a }
     requires divisor { pos 0 <ℤ divisor }
     ensures value { result ≡ pos (unsigned_abs a / unsigned_abs divisor) }
@@ -378,7 +378,8 @@ fn over(a: i64, divisor: i64) -> i64
     a / divisor
 }
 
-fn product(a: i64, b: i64) -> i128
+/// The product, which takes more room.
+pub(crate) fn product(a: i64, b: i64) -> i128
     ensures value { result ≡ a *ℤ b }
     ensures factor { IsFitting a → IsFitting b → IsFactor result }
 {
@@ -387,13 +388,13 @@ fn product(a: i64, b: i64) -> i128
 
 /// How the unit of a level's cost rises for a line: the new one, and how many times the old one it is.
 #[derive(Clone, Copy)]
-struct Rise {
-    unit: i64,
-    times: i64,
+pub(crate) struct Rise {
+    pub unit: i64,
+    pub times: i64,
 }
 
-// The least unit in which the line's share is whole too.
-fn risen(unit: i64, slot: Slot) -> Option<Rise>
+/// The least unit in which the line's share is whole too.
+pub(crate) fn risen(unit: i64, slot: Slot) -> Option<Rise>
     requires counted { IsCounted slot unit }
     requires above { pos 0 <ℤ unit }
     ensures some { IfSome result (IsRise slot unit) }
@@ -708,8 +709,8 @@ fn put_cost(table: &mut Table, change: Change, unit: i64) -> Result<(), OutOfMem
     table.priorities.put(at as usize, Priority { unit, rows })
 }
 
-// Whether the inside mark of a line costs.
-fn costs_at(table: &Table, line: u32) -> bool
+/// Whether the inside mark of a line costs.
+pub(crate) fn costs_at(table: &Table, line: u32) -> bool
     requires slots { AreSlots (lists_of table.now) }
     requires within { line < length table.now.slots.items }
     ensures { result ≡ false → IsFreeLine (lists_of table.now) line }

@@ -5,8 +5,8 @@
 //! outside marks ([`Corner::movers`], [`Corner::coefficient`], [`Corner::denominator`]), and what each
 //! level costs and what it would cost to let a mark grow ([`Corner::front`], [`Corner::reduced`],
 //! [`Corner::multiplier`]). [`Corner::swap`] goes to a neighbouring corner, [`Corner::add_attr`] and
-//! [`Corner::add_rows`] to that of a larger problem, and [`Corner::stand`] makes the values the targets of
-//! the stays.
+//! [`Corner::add_rows`] to that of a larger problem, [`Corner::drop_row`] and [`Corner::drop_attr`] to that
+//! of a smaller one, and [`Corner::stand`] makes the values the targets of the stays.
 //!
 //! [`Corner::mark`] keeps the corner of now as an earlier one, and [`Corner::back`] returns to the newest
 //! of these. Neither wants memory. Where memory is wanting, or new rows do not fit, the corner is that of
@@ -32,21 +32,24 @@
 //! ```
 //!
 //! What the type keeps (`IsConsistent`): each attribute, line and priority level has a slot, which is a row
-//! and a column of one sparse matrix. The row and the value of an attribute or an inside line are its
-//! equation by the outside lines in lowest terms, and those of a level are its cost; so are those at each
-//! earlier mark.
+//! and a column of one sparse matrix; what is taken out leaves a slot of nothing. The row and the value of an
+//! attribute or an inside line are its equation by the outside lines in lowest terms, and those of a level
+//! are its cost; so are those at each earlier mark.
 //!
 //! To read: `table` has the lists, each with its earlier versions; `slots` finds in them by name;
 //! `writings` and `levels` read what is written of attributes, marks and costs; `listing` lists lines;
 //! `marking` names the marks inside; `fitting` tells what fits; `turning` and `exchange` go to the next
-//! corner, `joining` to that of a larger problem, `shifting` to that with another constant; and `corner` is
-//! what callers use.
+//! corner, `joining` to that of a larger problem, `leaving`, `freeing` and `dropping` to that of a
+//! smaller one, `shifting` to that with another constant; and `corner` is what callers use.
 #![tactic(auto)]
 
 mod corner;
+mod dropping;
 mod exchange;
 mod fitting;
+mod freeing;
 mod joining;
+mod leaving;
 mod levels;
 mod listing;
 mod marking;

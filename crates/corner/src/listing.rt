@@ -1,7 +1,7 @@
 // The lines that may have a negative column.
-ghost use Rattle.std.specs.Prelude.{◌≡◌, ◌+◌, ◌<◌, ℕ, [], length, Contains, IfSome, OnOk, slice_get};
+ghost use Rattle.std.specs.Prelude.{◌≡◌, ◌+◌, ◌<◌, ℕ, [], length, Contains, IfSome, IfNone, OnOk, slice_get};
 ghost use Rattle.std.specs.Prelude.{slice_index_or};
-ghost use Rattle.corner.specs.Listing.{IsListed, IsWithout};
+ghost use Rattle.corner.specs.Listing.{HasLeft, IsListed, IsWithout};
 
 use frac_core::OutOfMemory;
 use std::alloc::Global;
@@ -73,6 +73,29 @@ impl Listed {
     {
         let line = self.lines.swap_remove(i);
         self.flags[line as usize] = false;
+    }
+
+    /// Where the line is listed.
+    fn place_of(&self, line: u32) -> Option<usize>
+        ensures some { IfSome result (λ i. i < length self.now) }
+        ensures is { IfSome result (λ i. slice_index_or self.now i 0 ≡ line) }
+        ensures none { IfNone result (Contains self.now line → ⊥) }
+    {
+        for i in 0..self.lines.len() {
+            if self.lines[i] == line {
+                return Some(i);
+            }
+        }
+        None
+    }
+
+    /// Takes a line off, if it is listed.
+    pub(crate) fn leave(&mut self, line: u32)
+        ensures { HasLeft line self.old self.new }
+    {
+        while let Some(i) = self.place_of(line) {
+            self.remove(i);
+        }
     }
 
     /// Takes all lines off.

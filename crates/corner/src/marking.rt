@@ -4,7 +4,7 @@ ghost use Rattle.problem_core.specs.Unfit.{over_mark};
 ghost use Rattle.corner.specs.Tables.{IsListedOf, inside_of, lists_of, marks_over, problem_of, row_at};
 ghost use Rattle.corner.specs.Tables.{row_names, stay_names};
 ghost use Rattle.corner.specs.Listing.{IsListedBut};
-ghost use Rattle.corner.specs.Kept.{AreSlots};
+ghost use Rattle.corner.specs.Kept.{AreSlots, AreStored};
 ghost use Rattle.corner.specs.Views.{IsNamed};
 ghost use Rattle.corner.specs.Changes.{IsPathStop};
 
@@ -114,6 +114,7 @@ fn list_line(w: u32, line: u32, listed: &mut Listed) -> Result<(), OutOfMemory>
 /// Lists the outside lines that stand in the row of a slot.
 pub(crate) fn list_row(table: &Table, w: u32, listed: &mut Listed) -> Result<(), OutOfMemory>
     requires slots { AreSlots (lists_of table.now) }
+    requires stored { AreStored (lists_of table.now) }
     requires within { w < length table.now.matrix.rows }
     ensures { OnOk result (IsListedOf w (row_at (lists_of table.now) w) listed.old listed.new) }
 {

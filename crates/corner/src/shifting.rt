@@ -32,7 +32,7 @@ use problem_core::{Quantity, Row, RowName, Side, TableStop, What};
 use std::alloc::Global;
 
 /// The place of a row among the rows.
-fn row_place(table: &Table, id: u32) -> usize
+pub(crate) fn row_place(table: &Table, id: u32) -> usize
     requires kept { IsKept (lists_of table.now) }
     requires held { Any (λ r. r.id ≡ id) table.now.rows.items }
     ensures within { result < length table.now.rows.items }

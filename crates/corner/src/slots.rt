@@ -157,7 +157,7 @@ pub(crate) fn level_of(table: &Table, w: u32) -> Level
     }
 }
 
-/// What a slot is of, with this side of a line.
+/// What an attribute's or a line's slot is of, with this side of a line.
 pub(crate) fn what_at(table: &Table, w: u32, side: Side) -> What
     requires slots { AreSlots (lists_of table.now) }
     requires within { w < length table.now.slots.items }
@@ -168,7 +168,7 @@ pub(crate) fn what_at(table: &Table, w: u32, side: Side) -> What
         → result ≡ what_type.Mark (record { row = name; side = side }) }
 {
     match slot_at(table, w).owner {
-        Owner::Level => What::Level(level_of(table, w)),
+        Owner::Level => What::Level(Level::Priority(1000)),
         Owner::Attr(attr) => What::Attr(attr),
         Owner::Line(row) => What::Mark(Mark { row, side }),
     }

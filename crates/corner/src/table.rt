@@ -21,7 +21,10 @@ pub(crate) const LEVELS: u32 = 1001;
 /// The slot of a number that has none.
 pub(crate) const ABSENT: u32 = 0;
 
-/// What a slot is of.
+/// More slots than these are want of memory.
+const MOST_SLOTS: usize = 1 << 31;
+
+/// What a slot is of. `Level` past those of the levels is of nothing: what it was of was taken out.
 #[derive(Clone, Copy, Debug, PartialEq, Eq)]
 pub(crate) enum Owner {
     Level,
@@ -127,6 +130,18 @@ pub(crate) fn push_slot(
     table.slots.push(slot)?;
     table.standings.push(Standing { side, value })?;
     table.matrix.push(row)
+}
+
+/// The number of the next slot, unless there are too many.
+pub(crate) fn next_slot(table: &Table) -> Result<u32, OutOfMemory>
+    ensures next { IfOk result (λ at. at ≡ length table.now.slots.items) }
+    ensures room { IfOk result (λ at. at + 2 < 2 ^ 32) }
+{
+    let at = table.slots.len();
+    if at >= MOST_SLOTS {
+        return Err(OutOfMemory);
+    }
+    Ok(at as u32)
 }
 
 /// Makes the lists of now their newest earlier versions.

@@ -1,3 +1,4 @@
+use Rattle.corner.specs.Kept.{AreStored}
 use Rattle.std.proofs.Common.{◌<◌, Result, Ok, Err, OnOk, length, sym, subst}
 use Rattle.problem_core.specs.Corners.{SameMarks}
 use Rattle.corner.specs.Kept.{AreSlots, IsKept}
@@ -48,3 +49,8 @@ returns-clause-listed c =
     (λ all. listed_after (lists_of c.args.table.now) c.args.made c.requires.made.0 c.args.listed.now c.push.new.self c.list_row.new.listed c.requires.kept c.requires.made.1 h c.in_ok-push.ensures
     (subst (λ (t : Lists). IsListedOf c.args.made.pair.enter (row_at t c.args.made.pair.enter) c.push.new.self c.list_row.new.listed) c.in_ok-put_lists.ensures.ok all))
     c.list_row.ensures
+
+pub list_row-requires-clause-stored : goal.list_row-requires-clause-stored
+list_row-requires-clause-stored c =
+    let h : AreKeptChanges c.args.made = c.show_exchange.ensures in
+    subst AreStored (sym c.in_ok-put_lists.ensures.ok) (exchanged_kept (lists_of c.args.table.now) c.args.made c.requires.made.0 c.requires.kept c.requires.made.1 h).stored

@@ -8,6 +8,9 @@ use Rattle.corner.proofs.joining.join_next.Goals as goal
 pub list_row-requires-clause-slots : goal.list_row-requires-clause-slots
 list_row-requires-clause-slots c = (cost_joined_kept (lists_of c.args.table.now) (lists_of c.join_cost.new.table) c.requires.joins.0 c.args.line c.requires.kept c.requires.joins.1 c.in-Ok-true.ensures.joined).slots
 
+pub list_row-requires-clause-stored : goal.list_row-requires-clause-stored
+list_row-requires-clause-stored c = (cost_joined_kept (lists_of c.args.table.now) (lists_of c.join_cost.new.table) c.requires.joins.0 c.args.line c.requires.kept c.requires.joins.1 c.in-Ok-true.ensures.joined).stored
+
 pub returns-in_err-list_row-in-Ok-true-clause-stop : goal.returns-in_err-list_row-in-Ok-true-clause-stop
 returns-in_err-list_row-in-Ok-true-clause-stop c = passed_on c.from_residual.result OutOfMemory (IsLineStop (lists_of c.args.table.now) c.args.line) c.from_residual.ensures.1 tt
 

@@ -15,6 +15,6 @@ push_slot-requires-clause-columns c =
 pub returns-clause-lists : goal.returns-clause-lists
 returns-clause-lists c =
     on_ok c.push.result _ _
-    (λ more. placed c.args.row.now c.args.sum (lists_of c.args.table.now) (lists_of c.push_slot.new.table) c.slot_of.result c.standing_of-standing.result c.id.result c.len-at.result c.in_ok-copy_of.field-0 c.put_number.new.slots.items c.push.new.self.items
-    c.in_ok-push_slot.ensures.lists c.slot_of.ensures c.standing_of-standing.ensures c.in_ok-put_number.ensures.numbered c.id.ensures c.len-at.ensures c.in_ok-copy_of.ensures more)
+    (λ more. placed c.args.row.now c.args.sum (lists_of c.args.table.now) (lists_of c.push_slot.new.table) c.slot_of.result c.standing_of-standing.result c.id.result c.in_ok-at.at c.in_ok-copy_of.field-0 c.put_number.new.slots.items c.push.new.self.items
+    c.in_ok-at.ensures.room c.in_ok-push_slot.ensures.lists c.slot_of.ensures c.standing_of-standing.ensures c.in_ok-put_number.ensures.numbered c.id.ensures c.in_ok-at.ensures.next c.in_ok-copy_of.ensures more)
     c.push.ensures.ok

@@ -1,8 +1,8 @@
-use Rattle.std.proofs.Common.{◌+◌, ◌<◌, length, arith, subst, sym}
-use Rattle.problem_core.specs.declared.parts.RowName.TheVariants.{Stay as StayOf}
-use Rattle.corner.specs.Tables.{lists_of, problem_of}
+use Rattle.std.proofs.Common.{◌≡◌, ℕ, ◌+◌, ◌^◌, ◌<◌, arith, subst}
+use Rattle.problem_core.specs.declared.parts.Stay.{Stay}
+use Rattle.corner.specs.Tables.{attr_slot, lists_of, problem_of}
 use Rattle.corner.specs.Views.{IsNamed}
-use Rattle.corner.proofs.SlotFacts.{named_slot, named_stay}
+use Rattle.corner.proofs.SlotFacts.{any_is, named_stay}
 use Rattle.corner.proofs.slots.line_slot.Goals as goal
 
 pub attr_slot-requires-clause-attr : goal.attr_slot-requires-clause-attr
@@ -10,6 +10,8 @@ attr_slot-requires-clause-attr c = named_stay (problem_of (lists_of c.args.table
 
 pub overflow_add-result : goal.overflow_add-result
 overflow_add-result c =
-    let s = named_slot (lists_of c.args.table.now) (StayOf c.in-Stay.attr) c.requires.slots (subst (IsNamed (problem_of (lists_of c.args.table.now))) c.in-Stay.is c.requires.row) in
-    let within : c.attr_slot.result + 1 < length c.args.table.now.slots.items = subst (λ n. n + 1 < length c.args.table.now.slots.items) (sym c.attr_slot.ensures.value) s.1 in
-    omega (arith, within, c.requires.slots.room)
+    let has = named_stay (problem_of (lists_of c.args.table.now)) c.in-Stay.attr (subst (IsNamed (problem_of (lists_of c.args.table.now))) c.in-Stay.is c.requires.row) in
+    let few : attr_slot (lists_of c.args.table.now) c.in-Stay.attr + 1 < 2 ^ 32 =
+    any_is (λ (s : Stay). attr_slot (lists_of c.args.table.now) s.attr + 1 < 2 ^ 32) (λ (s : Stay). s.attr ≡ c.in-Stay.attr) c.args.table.now.stays.items c.requires.slots.room has
+    (λ s h e. subst (λ (a : ℕ). attr_slot (lists_of c.args.table.now) a + 1 < 2 ^ 32) e h) in
+    omega (arith, few, c.attr_slot.ensures.value)

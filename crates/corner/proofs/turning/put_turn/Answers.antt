@@ -1,3 +1,4 @@
+use Rattle.corner.specs.Kept.{AreStored}
 use Rattle.std.proofs.Common.{◌<◌, ◌∙◌, Result, Ok, Err, OnOk, length, sym, subst, List}
 use Rattle.row_core.specs.Rows.{Term}
 use Rattle.problem_core.specs.Corners.{SameMarks}
@@ -49,3 +50,7 @@ returns-clause-listed c =
     (λ all. subst (λ (r : List Term). IsListedOf c.args.line r c.args.listed.now c.list_row.new.listed) (turned_row (lists_of c.args.table.now) c.args.line c.args.side c.requires.turn.0 c.args.change c.requires.kept.slots c.requires.turn.1 c.requires.change)
     (subst (λ (t : Lists). IsListedOf c.args.line (row_at t c.args.line) c.args.listed.now c.list_row.new.listed) c.in_ok-put_turned.ensures.ok all))
     c.list_row.ensures
+
+pub list_row-requires-clause-stored : goal.list_row-requires-clause-stored
+list_row-requires-clause-stored c =
+    subst AreStored (sym c.in_ok-put_turned.ensures.ok) (turned_kept (lists_of c.args.table.now) c.args.line c.args.side c.requires.turn.0 c.args.change c.requires.kept c.requires.turn.1 c.requires.change).stored
