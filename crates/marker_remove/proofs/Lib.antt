@@ -1,0 +1,3 @@
+pub mod StayMoves
+pub mod ZeroSwaps
+pub mod FreedPaths
