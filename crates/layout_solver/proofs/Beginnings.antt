@@ -212,7 +212,7 @@ run_added p kept mid last rows budget from (path, run) = (
   },
 )
 
-unfit-added : (p : Problem) (old : List Row) (Begins : List Row → List Mark → Type 0) (mid : List Mark) (path : Path) (quantity : Quantity) → Begins [] mid → IsUnfitPath false p p.rows (FromHere mid) path quantity → IsUnfitPath false p old Begins path quantity
+pub unfit-added : (p : Problem) (old : List Row) (Begins : List Row → List Mark → Type 0) (mid : List Mark) (path : Path) (quantity : Quantity) → Begins [] mid → IsUnfitPath false p p.rows (FromHere mid) path quantity → IsUnfitPath false p old Begins path quantity
 unfit-added p old Begins mid path (Plain what) from (begins, lawful, unfit) = (subst (Begins []) (sym begins.1) from, lawful, unfit)
 unfit-added p old Begins mid path (Terms mark j) from (dual, none, corner, begins, unfit) = absurd (plain_alone p path.corner (Terms mark j) unfit)
 unfit-added p old Begins mid path (Rows level j) from (none, begins, lawful, unfit) = absurd (plain_alone p path.corner (Rows level j) unfit)

@@ -149,6 +149,17 @@ module _ (c mid : CornerView) (v : List (ℕ × Fraction)) (l : Layout) (m : IsM
       (subst (λ (ms : List Mark). IsStopOf true (with_shifts l to) mid.problem.rows (FromHere ms) budget stop) same-marks
       (h (with_shifts l to) (shifted-moved to)))
 
+  -- ---- where rows leave
+
+  pub there_marks : mid.marks ≡ l.corner
+  there_marks = same-marks
+
+  pub still_moved : IsMoved mid [] mid.problem.rows (record { rows = l.problem.rows; stays = stays_at l.values })
+  still_moved = shifted-moved []
+
+  pub forgotten_last : (end new : CornerView) → end.before ≡ mid.before → new.before ≡ take (length end.before - 1) end.before → new.before ≡ []
+  forgotten_last end new before forgot = forgot-first (scene_of c) end.before new.before (before ∙ one-before) forgot
+
   -- ---- the change is kept
 
   pub changed_solved : (attrs : List ℕ) (base : List Row) (end new : CornerView) (w : List (ℕ × Fraction)) → AreRising (l.values ++ zeros attrs) → IsMoved mid attrs base end.problem → IsBestEnd end.problem end.marks → end.candidates ≡ [] → end.before ≡ mid.before

@@ -10,3 +10,9 @@ pub mod Constants
 pub mod ConstantReads
 pub mod ShiftedProblems
 pub mod Alterations
+pub mod LeftMarks
+pub mod LeftPaths
+pub mod LeftRows
+pub mod LeftStops
+pub mod LeftEnds
+pub mod LeftChanges

@@ -1,7 +1,7 @@
 pub mod Layouts
 pub mod Engines
-pub mod OneFraction
 pub mod ValuesUnique
 pub mod Starts
 pub mod Begins
 pub mod Shifts
+pub mod Removals

@@ -10,11 +10,13 @@ ghost use Rattle.corner.specs.Changes.{FromAdded};
 ghost use Rattle.corner_ends.specs.Runs.{FromHere, IsRun};
 ghost use Rattle.layout_solver.specs.Layouts.{AreBest, IsKeptLayout, with_added, zeros};
 ghost use Rattle.layout_solver.specs.Shifts.{CanShift, with_shifts};
+ghost use Rattle.layout_solver.specs.Removals.{CanLeave, HasRemoved, IsRemoveStop, stood, with_removed};
 ghost use Rattle.layout_solver.specs.Engines.{HasValues};
 ghost use Rattle.layout_solver.specs.ValuesUnique.{one_list};
 
 use crate::changing::extend;
 use crate::reading::has_stay;
+use crate::removing::{RemoveStop, shrink};
 use crate::shifting::alter;
 use cert_core::RunStop;
 use corner::Corner;
@@ -125,6 +127,38 @@ impl Engine {
     {
         self.corner.mark();
         match alter(self.alloc, &mut self.corner, to, budget) {
+            Ok(()) => {
+                self.corner.show_corner();
+                self.corner.forget();
+                Ok(())
+            }
+            Err(stop) => {
+                self.corner.back();
+                Err(stop)
+            }
+        }
+    }
+
+    /// Takes rows and attributes out, with the stays at the present values, and goes on to the best values.
+    /// The rows leave in this order, and each that names a leaving attribute is one of them. The path begins
+    /// at the corner that was kept, where exchanges that change no value bring a mark of each leaving row in,
+    /// and these marks are taken out.
+    ///
+    /// There is no conflict. `Unfit`: a quantity does not fit, while the rows in `still` are held, or at the
+    /// last corner of the path. `Spent`: the path has as many exchanges as the budget. After each stop the
+    /// engine is as before.
+    pub fn remove(&mut self, rows: &[u32], attrs: &[u32], budget: u64) -> Result<(), RemoveStop>
+        requires leave { CanLeave (record { rows = rows.now; attrs = attrs.now }) self.old.problem }
+        ensures done { IfOk result
+            (λ _. self.new.problem ≡ with_removed self.old (record { rows = rows.now; attrs = attrs.now })) }
+        ensures path { IfOk result (λ _. HasRemoved (stood self.old) self.old.corner
+            (record { rows = rows.now; attrs = attrs.now }) budget self.new.corner) }
+        ensures stop { IfErr result (IsRemoveStop (stood self.old) self.old.corner
+            (record { rows = rows.now; attrs = attrs.now }) budget) }
+        ensures same { OnErr result (self.new ≡ self.old) }
+    {
+        self.corner.mark();
+        match shrink(self.alloc, &mut self.corner, rows, attrs, budget) {
             Ok(()) => {
                 self.corner.show_corner();
                 self.corner.forget();

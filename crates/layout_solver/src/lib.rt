@@ -1,10 +1,10 @@
 //! The engine: a layout problem and its best values, changed step by step.
 //!
 //! An [`Engine`] is a problem, its best values, and the corner at which these stand. [`Engine::add`] takes
-//! more attributes and rows, and [`Engine::shift`] gives rows other constants. Each first moves the stays to
-//! the present values, so that the attributes stay where they are as far as the rows let them, and then
-//! exchanges marks until the values are best: after `add` no value is negative on the way, after `shift` no
-//! column is. A change that is refused leaves the engine as it was.
+//! more attributes and rows, [`Engine::remove`] takes some out, and [`Engine::shift`] gives rows other
+//! constants. Each first moves the stays to the present values, so that the attributes stay where they are as
+//! far as the rows let them, and then exchanges marks until the values are best: after `shift` no column is
+//! negative on the way, else no value is. A change that is refused leaves the engine as it was.
 //!
 //! A contract sees a `Layout`: the problem, the values by attribute, and the marks inside. The values are not
 //! stored. The corner fixes them ([`Engine::value`] reads them there), and a ghost field names them.
@@ -14,7 +14,7 @@
 //! | `show_layout`: `best` | the values are those of a best assignment; no other list is |
 //! | `done` | after `Ok`, the problem is the one that was asked for |
 //! | `path` | after `Ok`, a lawful path within the budget leads from the kept corner to the engine's corner |
-//! | `stop` | a conflict has multipliers that show it, and any other stop a lawful path to where it stopped |
+//! | `stop` | a conflict has multipliers that show it, which `remove` never has; any other stop has a lawful path |
 //! | `same` | after a stop or want of memory, the engine is as before |
 //! | `some`, `none` | the value of an attribute with a stay, and of no other |
 //!
@@ -29,15 +29,19 @@
 //! engine.add(&[], &more, 1000)                // a row 8: attribute 1 is at most 10, which is refused:
 //!                                             // the multipliers 1 and -1 of the rows 7 and 8 show it
 //! engine.value(1);                            // 30
+//! engine.remove(&[7], &[], 1000)?;            // attribute 1 is free, and stays where it is
+//! engine.value(1);                            // 30
 //! ```
 //!
-//! To read: `changing` and `shifting` have the ways of a corner to the best one of another problem, with more
-//! rows or with other constants, and `engine` is what callers use.
+//! To read: `changing`, `removing` and `shifting` have the ways of a corner to the best one of another
+//! problem, with more rows, with fewer, or with other constants, and `engine` is what callers use.
 #![tactic(auto)]
 
 mod changing;
 mod engine;
 mod reading;
+mod removing;
 mod shifting;
 
 pub use engine::{Change, Engine};
+pub use removing::RemoveStop;

@@ -1,0 +1,304 @@
+// The way of a corner to the best one of a problem with fewer rows and attributes.
+ghost use Rattle.std.specs.Prelude.{◌≡◌, ◌≢◌, ◌<◌, ◌+◌, ◌++◌, ℕ, List, [], ◌∷◌, take, length, false, get_or};
+ghost use Rattle.std.specs.Prelude.{All, AllPairs, Any, Contains, IfOk, IfErr};
+ghost use Rattle.problem_core.specs.Layout as layout;
+ghost use Rattle.problem_core.specs.Layout.{HasStay};
+ghost use Rattle.problem_core.specs.Begins.{without_marks};
+ghost use Rattle.problem_core.specs.Corners.{NoNegativeValue};
+ghost use Rattle.problem_core.specs.declared.parts.Mark.{Mark as MarkOfLine};
+ghost use Rattle.cert_core.specs.Paths as paths;
+ghost use Rattle.cert_core.specs.Stops.{IsStopOf};
+ghost use Rattle.corner_ends.specs.Runs.{IsBestEnd, IsRun};
+ghost use Rattle.corner.specs.Views.{IsKeptCorner};
+ghost use Rattle.marker_remove.specs.Freed.{DoStand, HasMarkIn};
+ghost use Rattle.layout_solver.specs.Removals.{CanLeave, HasRemoved, HaveGone, IsEndStop, IsRemoveStop};
+ghost use Rattle.layout_solver.specs.Removals.{IsStillStop, IsUnfitOf, without, without_attrs};
+ghost use Rattle.layout_solver.specs.Starts.{IsMoved};
+
+use cert_core::{Path, RunStop, UnfitPath};
+use corner::Corner;
+use frac_core::OutOfMemory;
+use marker_remove::free_row;
+use primal_run::settle;
+use problem_core::{Mark, RowName, TableStop};
+use std::alloc::Global;
+
+/// What ends a removal.
+#[derive(Debug, Drop)]
+pub enum RemoveStop {
+    /// A quantity does not fit while these leaving rows, by number, are still held.
+    Unfit { still: Vec<u32>, at: UnfitPath },
+    /// The exchanges are used up.
+    Spent(Path),
+    OutOfMemory,
+}
+
+/// The stop while these rows are still held.
+fn held_stop(alloc: Global, still: &[u32], at: UnfitPath) -> RemoveStop
+    ensures { IsUnfitOf still.now at result }
+{
+    match Vec::from_slice(alloc, still) {
+        Ok(still) => RemoveStop::Unfit { still, at },
+        Err(_) => RemoveStop::OutOfMemory,
+    }
+}
+
+/// Puts the mark behind the others, if it is none of a row's.
+fn push_other(out: &mut Vec<Mark>, mark: Mark, id: u32) -> Result<(), OutOfMemory>
+    ensures { IfOk result
+        (λ _. out.new.items ≡ out.old.items ++ without_marks (id ∷ []) (mark ∷ [])) }
+{
+    if mark.row != RowName::Held(id) {
+        out.push(mark)?;
+    }
+    Ok(())
+}
+
+/// The marks inside but that of a row.
+fn marks_without(alloc: Global, c: &Corner, id: u32) -> Result<Vec<Mark>, OutOfMemory>
+    ensures { IfOk result (λ marks. marks.items ≡ without_marks (id ∷ []) c.now.marks) }
+{
+    let inside = c.marks()?;
+    let mut out = Vec::new(alloc);
+    for mark in &inside {
+        push_other(&mut out, *mark, id)?;
+    }
+    Ok(out)
+}
+
+/// The path of no exchange at the corner without a row.
+fn path_without(alloc: Global, c: &Corner, id: u32) -> Result<Path, OutOfMemory>
+    ensures { IfOk result (λ path. path ≡ record {
+      dual = false;
+      corner = without_marks (id ∷ []) c.now.marks;
+      swaps = [];
+    }) }
+{
+    Path::of(alloc, false, &marks_without(alloc, c, id)?, &[])
+}
+
+/// Brings a mark of the next leaving row in.
+fn free_next(alloc: Global, c: &mut Corner, rows: &[u32], gone: usize) -> Result<(), RemoveStop>
+    requires marked { 0 < length c.old.before }
+    requires within { gone < length rows.now }
+    requires held { Any (λ r. r.id ≡ get_or rows.now gone 0) c.old.problem.rows }
+    requires values { NoNegativeValue c.old.problem c.old.marks }
+    requires standing { DoStand c.old.problem c.old.marks }
+    ensures before { c.new.before ≡ c.old.before }
+    ensures inside { IfOk result (λ _. HasMarkIn c.new.marks (get_or rows.now gone 0)) }
+    ensures freed { IfOk result (λ _. (p : layout.Problem) (kept : List MarkOfLine) → IsKeptCorner p kept
+        → AllPairs (λ a b. a ≢ b) rows.now
+        → HaveGone p kept (take gone rows.now) (take gone rows.now) c.old
+        → HaveGone p kept (take (gone + 1) rows.now) (take gone rows.now) c.new) }
+    ensures stop { IfErr result (λ stop. (p : layout.Problem) (kept : List MarkOfLine) → IsKeptCorner p kept
+        → AllPairs (λ a b. a ≢ b) rows.now
+        → HaveGone p kept (take gone rows.now) (take gone rows.now) c.old
+        → IsStillStop p kept rows.now stop) }
+{
+    c.show_corner();
+    match free_row(alloc, c, rows[gone]) {
+        Ok(_) => Ok(()),
+        Err(RunStop::Unfit(at)) => Err(held_stop(alloc, &rows[gone..], at)),
+        Err(_) => Err(RemoveStop::OutOfMemory),
+    }
+}
+
+/// Takes the next leaving row out, of which a mark is inside.
+fn drop_next(alloc: Global, c: &mut Corner, rows: &[u32], gone: usize) -> Result<(), RemoveStop>
+    requires marked { 0 < length c.old.before }
+    requires within { gone < length rows.now }
+    requires inside { HasMarkIn c.old.marks (get_or rows.now gone 0) }
+    ensures before { c.new.before ≡ c.old.before }
+    ensures gone { IfOk result (λ _. (p : layout.Problem) (kept : List MarkOfLine)
+        → HaveGone p kept (take (gone + 1) rows.now) (take gone rows.now) c.old
+        → HaveGone p kept (take (gone + 1) rows.now) (take (gone + 1) rows.now) c.new) }
+    ensures stop { IfErr result (λ stop. (p : layout.Problem) (kept : List MarkOfLine)
+        → HaveGone p kept (take (gone + 1) rows.now) (take gone rows.now) c.old
+        → IsStillStop p kept rows.now stop) }
+{
+    c.show_corner();
+    let id = rows[gone];
+    match c.drop_row(id) {
+        Ok(()) => Ok(()),
+        Err(TableStop::UnfitAt(quantity)) => match path_without(alloc, c, id) {
+            Ok(path) => Err(held_stop(alloc, &rows[gone + 1..], UnfitPath { path, quantity })),
+            Err(OutOfMemory) => Err(RemoveStop::OutOfMemory),
+        },
+        Err(TableStop::OutOfMemory) => Err(RemoveStop::OutOfMemory),
+    }
+}
+
+/// Takes the next leaving row out.
+fn take_next(alloc: Global, c: &mut Corner, rows: &[u32], gone: usize) -> Result<(), RemoveStop>
+    requires marked { 0 < length c.old.before }
+    requires within { gone < length rows.now }
+    requires held { Any (λ r. r.id ≡ get_or rows.now gone 0) c.old.problem.rows }
+    requires values { NoNegativeValue c.old.problem c.old.marks }
+    requires standing { DoStand c.old.problem c.old.marks }
+    ensures before { c.new.before ≡ c.old.before }
+    ensures gone { IfOk result (λ _. (p : layout.Problem) (kept : List MarkOfLine) → IsKeptCorner p kept
+        → AllPairs (λ a b. a ≢ b) rows.now
+        → HaveGone p kept (take gone rows.now) (take gone rows.now) c.old
+        → HaveGone p kept (take (gone + 1) rows.now) (take (gone + 1) rows.now) c.new) }
+    ensures stop { IfErr result (λ stop. (p : layout.Problem) (kept : List MarkOfLine) → IsKeptCorner p kept
+        → AllPairs (λ a b. a ≢ b) rows.now
+        → HaveGone p kept (take gone rows.now) (take gone rows.now) c.old
+        → IsStillStop p kept rows.now stop) }
+{
+    match free_next(alloc, c, rows, gone) {
+        Ok(()) => drop_next(alloc, c, rows, gone),
+        Err(stop) => Err(stop),
+    }
+}
+
+/// Takes rows out, one by one.
+fn drop_rows(alloc: Global, c: &mut Corner, rows: &[u32]) -> Result<(), RemoveStop>
+    requires marked { 0 < length c.old.before }
+    requires held { All (λ id. Any (λ r. r.id ≡ id) c.old.problem.rows) rows.now }
+    requires apart { AllPairs (λ a b. a ≢ b) rows.now }
+    requires values { NoNegativeValue c.old.problem c.old.marks }
+    requires standing { DoStand c.old.problem c.old.marks }
+    ensures before { c.new.before ≡ c.old.before }
+    ensures gone { IfOk result (λ _. HaveGone c.old.problem c.old.marks rows.now rows.now c.new) }
+    ensures stop { IfErr result (IsStillStop c.old.problem c.old.marks rows.now) }
+{
+    c.show_corner();
+    for gone in 0..rows.len() {
+        if let Err(stop) = take_next(alloc, c, rows, gone) {
+            return Err(stop);
+        }
+    }
+    Ok(())
+}
+
+/// Takes attributes out that no row names.
+fn drop_attrs(c: &mut Corner, attrs: &[u32]) -> Result<(), OutOfMemory>
+    requires marked { 0 < length c.old.before }
+    requires held { All (HasStay c.old.problem.stays) attrs.now }
+    requires apart { AllPairs (λ a b. a ≢ b) attrs.now }
+    requires free { All (λ r. All (λ t. Contains attrs.now t.attr → ⊥) r.terms) c.old.problem.rows }
+    ensures problem { IfOk result (λ _. c.new.problem ≡ without_attrs attrs.now c.old.problem) }
+    ensures marks { IfOk result (λ _. c.new.marks ≡ c.old.marks) }
+    ensures before { c.new.before ≡ c.old.before }
+{
+    for attr in attrs {
+        c.drop_attr(*attr)?;
+    }
+    Ok(())
+}
+
+/// Goes on to the best corner, where the required rows have a solution.
+fn settle_left(alloc: Global, c: &mut Corner, budget: u64) -> Result<(), RemoveStop>
+    requires marked { 0 < length c.old.before }
+    requires values { NoNegativeValue c.old.problem c.old.marks }
+    requires satisfied { (x : layout.Assignment) × layout.Satisfies c.old.problem x }
+    ensures problem { IfOk result (λ _. c.new.problem ≡ c.old.problem) }
+    ensures before { c.new.before ≡ c.old.before }
+    ensures end { IfOk result (λ _. IsBestEnd c.new.problem c.new.marks) }
+    ensures listed { IfOk result (λ _. c.new.candidates ≡ []) }
+    ensures path { IfOk result (λ _. (path : paths.Path)
+        × IsRun false c.old.problem (λ at. at ≡ c.old.marks) budget c.new.marks path) }
+    ensures stop { IfErr result (IsEndStop c.old.problem c.old.marks budget) }
+{
+    c.show_corner();
+    match settle(alloc, c, budget) {
+        Ok(()) => Ok(()),
+        Err(RunStop::Unfit(at)) => Err(RemoveStop::Unfit {
+            still: Vec::new(alloc),
+            at,
+        }),
+        Err(RunStop::Spent(path)) => Err(RemoveStop::Spent(path)),
+        Err(RunStop::Conflict(_)) => unreachable!(),
+        Err(RunStop::OutOfMemory) => Err(RemoveStop::OutOfMemory),
+    }
+}
+
+/// Takes attributes out, and goes on to the best corner.
+fn leave_attrs(alloc: Global, c: &mut Corner, attrs: &[u32], budget: u64) -> Result<(), RemoveStop>
+    requires marked { 0 < length c.old.before }
+    requires held { All (HasStay c.old.problem.stays) attrs.now }
+    requires apart { AllPairs (λ a b. a ≢ b) attrs.now }
+    requires free { All (λ r. All (λ t. Contains attrs.now t.attr → ⊥) r.terms) c.old.problem.rows }
+    requires values { NoNegativeValue c.old.problem c.old.marks }
+    requires satisfied { (x : layout.Assignment) × layout.Satisfies c.old.problem x }
+    ensures before { c.new.before ≡ c.old.before }
+    ensures problem { IfOk result (λ _. c.new.problem ≡ without_attrs attrs.now c.old.problem) }
+    ensures end { IfOk result (λ _. IsBestEnd c.new.problem c.new.marks) }
+    ensures listed { IfOk result (λ _. c.new.candidates ≡ []) }
+    ensures path { IfOk result (λ _. (p : layout.Problem) (kept : List MarkOfLine) (rows : List ℕ)
+        → HaveGone p kept rows rows c.old
+        → HasRemoved p kept (record { rows = rows; attrs = attrs.now }) budget c.new.marks) }
+    ensures stop { IfErr result (λ stop. (p : layout.Problem) (kept : List MarkOfLine) (rows : List ℕ)
+        → HaveGone p kept rows rows c.old
+        → IsRemoveStop p kept (record { rows = rows; attrs = attrs.now }) budget stop) }
+{
+    match drop_attrs(c, attrs) {
+        Ok(()) => {
+            c.show_corner();
+            settle_left(alloc, c, budget)
+        }
+        Err(OutOfMemory) => Err(RemoveStop::OutOfMemory),
+    }
+}
+
+/// Takes rows and attributes out where the stays stand at the present values, and goes on to the best
+/// corner.
+fn take_out(
+    alloc: Global,
+    c: &mut Corner,
+    rows: &[u32],
+    attrs: &[u32],
+    budget: u64,
+) -> Result<(), RemoveStop>
+    requires marked { 0 < length c.old.before }
+    requires leave { CanLeave (record { rows = rows.now; attrs = attrs.now }) c.old.problem }
+    requires values { NoNegativeValue c.old.problem c.old.marks }
+    requires standing { DoStand c.old.problem c.old.marks }
+    requires satisfied { (x : layout.Assignment) × layout.Satisfies c.old.problem x }
+    ensures before { c.new.before ≡ c.old.before }
+    ensures problem { IfOk result
+        (λ _. c.new.problem ≡ without (record { rows = rows.now; attrs = attrs.now }) c.old.problem) }
+    ensures end { IfOk result (λ _. IsBestEnd c.new.problem c.new.marks) }
+    ensures listed { IfOk result (λ _. c.new.candidates ≡ []) }
+    ensures path { IfOk result (λ _. HasRemoved c.old.problem c.old.marks
+        (record { rows = rows.now; attrs = attrs.now }) budget c.new.marks) }
+    ensures stop { IfErr result (IsRemoveStop c.old.problem c.old.marks
+        (record { rows = rows.now; attrs = attrs.now }) budget) }
+{
+    match drop_rows(alloc, c, rows) {
+        Ok(()) => leave_attrs(alloc, c, attrs, budget),
+        Err(stop) => Err(stop),
+    }
+}
+
+/// Moves the stays to the present values, takes rows and attributes out, and goes on to the best corner.
+pub(crate) fn shrink(
+    alloc: Global,
+    c: &mut Corner,
+    rows: &[u32],
+    attrs: &[u32],
+    budget: u64,
+) -> Result<(), RemoveStop>
+    requires marked { 0 < length c.old.before }
+    requires values { NoNegativeValue c.old.problem c.old.marks }
+    requires leave { CanLeave (record { rows = rows.now; attrs = attrs.now }) c.old.problem }
+    requires satisfied { (x : layout.Assignment) × layout.Satisfies c.old.problem x }
+    ensures before { c.new.before ≡ c.old.before }
+    ensures end { IfOk result (λ _. IsBestEnd c.new.problem c.new.marks) }
+    ensures listed { IfOk result (λ _. c.new.candidates ≡ []) }
+    ensures problem { IfOk result (λ _. (p : layout.Problem) → IsMoved c.old [] c.old.problem.rows p
+        → c.new.problem ≡ without (record { rows = rows.now; attrs = attrs.now }) p) }
+    ensures path { IfOk result (λ _. (p : layout.Problem) → IsMoved c.old [] c.old.problem.rows p
+        → HasRemoved p c.old.marks (record { rows = rows.now; attrs = attrs.now }) budget c.new.marks) }
+    ensures stop { IfErr result (λ stop. (p : layout.Problem) → IsMoved c.old [] c.old.problem.rows p
+        → IsRemoveStop p c.old.marks (record { rows = rows.now; attrs = attrs.now }) budget stop) }
+{
+    c.show_corner();
+    match c.stand() {
+        Ok(()) => {
+            c.show_corner();
+            take_out(alloc, c, rows, attrs, budget)
+        }
+        Err(OutOfMemory) => Err(RemoveStop::OutOfMemory),
+    }
+}
