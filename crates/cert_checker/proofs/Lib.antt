@@ -17,3 +17,4 @@ pub mod Unseen
 pub mod Wholes
 pub mod Certified
 pub mod Givens
+pub mod PathClauses

@@ -6,6 +6,7 @@ mod fronts;
 mod judging;
 mod laws;
 mod leveled;
+mod path_laws;
 mod places;
 mod refuting;
 mod sums;
@@ -14,5 +15,6 @@ mod verdict;
 
 pub use judging::check_best;
 pub use laws::values_are_given;
+pub use path_laws::path_is_its_clauses;
 pub use refuting::check_conflict;
 pub use verdict::Verdict;
