@@ -8,7 +8,8 @@ use Rattle.problem_core.specs.declared.parts.Rel.{Rel}
 use Rattle.problem_core.specs.declared.parts.Rel.TheVariants.{Eq, Le, Ge}
 use Rattle.problem_core.specs.declared.parts.Level.{Level}
 use Rattle.problem_core.specs.declared.parts.Level.TheVariants.{Priority, Stay as StayLevel}
-use Rattle.problem_core.specs.Layout.{Row, Line, Problem, Assignment, Gives, Satisfies, HasStay, coefficient, sum_of, lines, gap}
+use Rattle.problem_core.specs.Layout.{Row, Line, Problem, Assignment, Gives, Satisfies, HasStay, coefficient}
+use Rattle.problem_core.specs.Layout.{sum_of, lines, gap}
 use Rattle.problem_core.specs.Certificates.{Multipliers, IsLexNonnegative, under, over}
 use Rattle.problem_core.specs.Gaps.{HasValue, HasRoom}
 use Rattle.cert_core.specs.Claims.{BestLevel, multipliers_of}
@@ -33,14 +34,16 @@ pub record Balances (p : Problem) (levels : List BestLevel) : Type 0 where
   pub scales : All (λ l. pos 0 <ℤ l.scale) levels
   pub levels_held : All (λ l. HasLevel p l.level) levels
   pub rows_held : All (λ l. All (λ b. Contains (names p) b.row) l.by) levels
-  pub cancel : (k v : ℕ) → sum_of (λ l. (multipliers_of p levels).times k l.name *ℤ coefficient v l.form) (lines p) ≡ pos 0
+  pub cancel : (k v : ℕ) → sum_of (λ l. (multipliers_of p levels).times k l.name
+      *ℤ coefficient v l.form) (lines p) ≡ pos 0
 
 abbrev pub IsNotNegative : Multipliers → Line → Type 0
 IsNotNegative m l = IsLexNonnegative (under m l) × IsLexNonnegative (over m l)
 
 -- the column of the side that the number's sign uses is all 0
 abbrev pub IsFree : (ℕ → ℤ) → (ℕ → ℤ) → ℤ → Type 0
-IsFree below above z = (z <ℤ pos 0 → (level : ℕ) → below level ≡ pos 0) × (pos 0 <ℤ z → (level : ℕ) → above level ≡ pos 0)
+IsFree below above z = (z <ℤ pos 0 → (level : ℕ) → below level ≡ pos 0)
+    × (pos 0 <ℤ z → (level : ℕ) → above level ≡ pos 0)
 
 -- every column is lexicographically not negative
 pub record AreNotNegative (p : Problem) (m : Multipliers) : Type 0 where
@@ -79,7 +82,9 @@ is_met Le sign = is_le sign
 abbrev pub EachGiven : List (ℕ × Fraction) → (Assignment → Type 0) → Type 0
 EachGiven values P = (x : Assignment) → Gives values x → P x
 
--- clause 1 is that the values are those of the stays; then comes the test of room; 2 is that the required rows hold, 3 that the levels balance, 4 that no column is negative, and 5 that the columns of used sides are 0
+-- clause 1 is that the values are those of the stays; then comes the test of room; 2 is that the required
+-- rows hold, 3 that the levels balance, 4 that no column is negative, and 5 that the columns of used sides
+-- are 0
 abbrev pub IsBestVerdict : Problem → List (ℕ × Fraction) → List BestLevel → Verdict → Type 0
 IsBestVerdict p values levels Yes =
     AreOfStays p values
@@ -91,7 +96,12 @@ IsBestVerdict p values levels Yes =
 IsBestVerdict p values levels (NoRoom n) = AreOfStays p values × IsFirstRowWithoutRoom p values n
 IsBestVerdict p values levels (No clause) =
     ((clause ≡ 1) × (AreOfStays p values → ⊥))
-    ⊎ ((clause ≡ 2) × AreOfStays p values × HaveRoom p.rows values × EachGiven values (λ x. Satisfies p x → ⊥))
-    ⊎ ((clause ≡ 3) × AreOfStays p values × HaveRoom p.rows values × EachGiven values (Satisfies p) × (Balances p levels → ⊥))
-    ⊎ ((clause ≡ 4) × AreOfStays p values × HaveRoom p.rows values × EachGiven values (Satisfies p) × Balances p levels × (AreNotNegative p (multipliers_of p levels) → ⊥))
-    ⊎ ((clause ≡ 5) × AreOfStays p values × HaveRoom p.rows values × EachGiven values (Satisfies p) × Balances p levels × AreNotNegative p (multipliers_of p levels) × EachGiven values (λ x. AreFree p (multipliers_of p levels) x → ⊥))
+    ⊎ ((clause ≡ 2) × AreOfStays p values × HaveRoom p.rows values
+    × EachGiven values (λ x. Satisfies p x → ⊥))
+    ⊎ ((clause ≡ 3) × AreOfStays p values × HaveRoom p.rows values × EachGiven values (Satisfies p)
+    × (Balances p levels → ⊥))
+    ⊎ ((clause ≡ 4) × AreOfStays p values × HaveRoom p.rows values × EachGiven values (Satisfies p)
+    × Balances p levels × (AreNotNegative p (multipliers_of p levels) → ⊥))
+    ⊎ ((clause ≡ 5) × AreOfStays p values × HaveRoom p.rows values × EachGiven values (Satisfies p)
+    × Balances p levels × AreNotNegative p (multipliers_of p levels)
+    × EachGiven values (λ x. AreFree p (multipliers_of p levels) x → ⊥))

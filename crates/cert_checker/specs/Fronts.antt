@@ -1,5 +1,7 @@
 -- The first number of a column that is not 0.
-use Rattle.std.specs.Prelude.{◌≡◌, ℕ, ◌*◌, ◌<◌, ◌≤◌, ◌^◌, Bool, true, false, ◌&&◌, cond, nat_eq, List, length, ℤ, pos, ◌-ℤ◌, ◌+ℤ◌, ◌*ℤ◌, ◌<ℤ◌, nat_abs, unsigned_abs, Option, Some, None, All, slice_index_or}
+use Rattle.std.specs.Prelude.{◌≡◌, ℕ, ◌*◌, ◌<◌, ◌≤◌, ◌^◌, Bool, true, false, ◌&&◌, cond, nat_eq, List, length}
+use Rattle.std.specs.Prelude.{ℤ, pos, ◌-ℤ◌, ◌+ℤ◌, ◌*ℤ◌, ◌<ℤ◌, nat_abs, unsigned_abs, Option, Some, None, All}
+use Rattle.std.specs.Prelude.{slice_index_or}
 use Rattle.std.specs.List.{HoldsAt, list_any}
 use Rattle.std.specs.declared.cmp.Ordering.{Ordering}
 use Rattle.std.specs.declared.cmp.Ordering.TheVariants.{Less, Equal, Greater}
@@ -29,10 +31,13 @@ abbrev pub weight_of_side : Rel → Side → ℕ → ℕ
 weight_of_side rel Under weight = under_weight rel weight
 weight_of_side rel Over weight = over_weight rel weight
 
--- the reduced cost of a side at a level, from the line's facts, the level's scale and the line's multiplier there
+-- the reduced cost of a side at a level, from the line's facts, the level's scale and the line's multiplier
+-- there
 abbrev pub reduced : Facts → Side → ℕ → ℕ → ℤ → ℤ
-reduced facts Under level scale times = pos (scale * under_weight facts.rel (cond (nat_eq facts.own level) facts.weight 0)) -ℤ facts.scale *ℤ times
-reduced facts Over level scale times = pos (scale * over_weight facts.rel (cond (nat_eq facts.own level) facts.weight 0)) +ℤ facts.scale *ℤ times
+reduced facts Under level scale times = pos (scale
+    * under_weight facts.rel (cond (nat_eq facts.own level) facts.weight 0)) -ℤ facts.scale *ℤ times
+reduced facts Over level scale times = pos (scale * over_weight facts.rel
+    (cond (nat_eq facts.own level) facts.weight 0)) +ℤ facts.scale *ℤ times
 
 -- the facts are those of the line at the place
 pub record AreFacts (p : Problem) (at : ℕ) (facts : Facts) : Type 0 where
@@ -52,10 +57,13 @@ pub record HasFronts (f g : ℕ → ℤ) (seen : ℕ → Bool) (own : ℕ) (side
 -- the fronts of all lines
 pub record AreFronts (p : Problem) (m : Multipliers) (seen : ℕ → ℕ → Bool) (sides : List Sides) : Type 0 where
   pub count : length sides ≡ line_count p
-  pub each : (at : ℕ) (l : Line) (s : Sides) → at < line_count p → HasFronts (under m (slice_index_or (lines p) at l)) (over m (slice_index_or (lines p) at l)) (seen at) (slice_index_or (lines p) at l).level (slice_index_or sides at s)
+  pub each : (at : ℕ) (l : Line) (s : Sides) → at < line_count p
+      → HasFronts (under m (slice_index_or (lines p) at l)) (over m (slice_index_or (lines p) at l)) (seen at)
+      (slice_index_or (lines p) at l).level (slice_index_or sides at s)
 
 -- the multipliers at the level are those that are written for it
-pub record AreOfLevel (p : Problem) (m : Multipliers) (level : ℕ) (scale : ℤ) (ws : List Weighted) : Type 0 where
+pub record AreOfLevel (p : Problem) (m : Multipliers) (level : ℕ) (scale : ℤ)
+    (ws : List Weighted) : Type 0 where
   pub is_scale : m.scale level ≡ nat_abs scale
   pub are_times : All (λ w. m.times level (name_at p w.at) ≡ w.times) ws
 
@@ -108,7 +116,8 @@ pub record AreKnown (p : Problem) (m : Multipliers) (seen : ℕ → ℕ → Bool
 
 -- the fronts of the line at a place
 abbrev pub HasFrontsAt : Problem → Multipliers → (ℕ → ℕ → Bool) → ℕ → Sides → Type 0
-HasFrontsAt p m seen at sides = HoldsAt (λ l. HasFronts (under m l) (over m l) (seen at) l.level sides) (lines p) at
+HasFrontsAt p m seen at sides = HoldsAt (λ l. HasFronts (under m l) (over m l) (seen at) l.level sides)
+    (lines p) at
 
 abbrev pub HasColumnFronts : Multipliers → Line → Sides → Type 0
 HasColumnFronts m l sides = IsColumnFront (under m l) sides.under × IsColumnFront (over m l) sides.over

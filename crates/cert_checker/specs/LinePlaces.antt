@@ -12,7 +12,8 @@ use Rattle.cert_checker.specs.LineSums.{line_count}
 
 -- each number that stands in the list is found at one of its places
 abbrev pub IsIndex : List ℕ → BTreeMap ℕ ℕ → Type 0
-IsIndex numbers places = (q : ℕ) → MatchOption (get nat_cmp places q) (Contains numbers q → ⊥) (λ k. (k < length numbers) × (slice_index_or numbers k 0 ≡ q))
+IsIndex numbers places = (q : ℕ) → MatchOption (get nat_cmp places q) (Contains numbers q
+    → ⊥) (λ k. (k < length numbers) × (slice_index_or numbers k 0 ≡ q))
 
 pub record ArePlaces (p : Problem) (places : Places) : Type 0 where
   pub rows : IsIndex (map (λ r. r.id) p.rows) places.rows

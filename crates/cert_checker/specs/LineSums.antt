@@ -1,5 +1,6 @@
 -- Sums of rows by attribute.
-use Rattle.std.specs.Prelude.{◌≡◌, ◌≢◌, ◌+ℤ◌, ℕ, ◌+◌, ◌^◌, ◌≤◌, List, [], map, length, ℤ, pos, unwrap_or, slice_index_or, unsigned_abs}
+use Rattle.std.specs.Prelude.{◌≡◌, ◌≢◌, ◌+ℤ◌, ℕ, ◌+◌, ◌^◌, ◌≤◌, List, [], map, length, ℤ, pos, unwrap_or}
+use Rattle.std.specs.Prelude.{slice_index_or, unsigned_abs}
 use Rattle.std.specs.Ordering.{nat_cmp}
 use Rattle.std.specs.BTreeMap.{BTreeMap, get}
 use Rattle.problem_core.specs.declared.parts.Term.{Term}

@@ -1,5 +1,6 @@
 -- The clauses of a conflict, and the checker's verdict on one.
-use Rattle.std.specs.Prelude.{◌≡◌, ◌≢◌, ◌⊎◌, ℕ, ◌+◌, ◌<◌, ◌^◌, ◌/◌, List, [], take, length, pos, ◌*ℤ◌, ◌<ℤ◌, All}
+use Rattle.std.specs.Prelude.{◌≡◌, ◌≢◌, ◌⊎◌, ℕ, ◌+◌, ◌<◌, ◌^◌, ◌/◌, List, [], take, length, pos, ◌*ℤ◌, ◌<ℤ◌}
+use Rattle.std.specs.Prelude.{All}
 use Rattle.std.specs.Int.{◌∣◌}
 use Rattle.std.specs.List.{Any, HoldsAt}
 use Rattle.problem_core.specs.declared.parts.RowName.{RowName}
@@ -27,13 +28,15 @@ abbrev pub AreSigned : Problem → List By → Type 0
 AreSigned p bys = All (λ r. HasSign r.rel (times_of bys (Held r.id))) (required p)
 
 abbrev pub IsAboveZero : Problem → List By → Type 0
-IsAboveZero p bys = pos 0 <ℤ sum_of (λ r. times_of bys (Held r.id) *ℤ (r.constant.num *ℤ pos (product_of (λ s. s.constant.den) (required p) / r.constant.den))) (required p)
+IsAboveZero p bys = pos 0 <ℤ sum_of (λ r. times_of bys (Held r.id)
+    *ℤ (r.constant.num *ℤ pos (product_of (λ s. s.constant.den) (required p) / r.constant.den))) (required p)
 
 -- ---- room
 
 -- the constants of the named rows have a common denominator below 2^30
 abbrev pub HasRoom : Problem → List By → Type 0
-HasRoom p bys = (d : ℕ) × (0 < d) × (d < 2 ^ 30) × All (λ b. All (λ r. b.row ≡ Held r.id → r.constant.den ∣ d) p.rows) bys
+HasRoom p bys = (d : ℕ) × (0 < d) × (d < 2 ^ 30) × All (λ b.
+    All (λ r. b.row ≡ Held r.id → r.constant.den ∣ d) p.rows) bys
 
 -- the row n is the first with which the rows named so far have none
 abbrev pub IsFirstWithoutRoom : Problem → List By → ℕ → Type 0
@@ -46,7 +49,8 @@ IsFirstWithoutRoom p bys n =
 
 -- ---- the verdict
 
--- clause 6 is that the rows cancel, 7 that their signs are allowed, and 8, after the test of room, that the constants' sum is above 0
+-- clause 6 is that the rows cancel, 7 that their signs are allowed, and 8, after the test of room, that the
+-- constants' sum is above 0
 abbrev pub IsConflictVerdict : Problem → List By → Verdict → Type 0
 IsConflictVerdict p bys Yes = Cancels p bys × AreSigned p bys × HasRoom p bys × IsAboveZero p bys
 IsConflictVerdict p bys (NoRoom n) = Cancels p bys × AreSigned p bys × IsFirstWithoutRoom p bys n

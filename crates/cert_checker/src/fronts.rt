@@ -1,9 +1,12 @@
 // The first number of each column that is not 0.
-ghost use Rattle.std.specs.Prelude.{◌≡◌, ℕ, ◌<◌, ◌≤◌, ◌^◌, Bool, false, ◌||◌, ◌&&◌, cond, nat_eq, IfOk, length, All, ℤ, pos, ◌<ℤ◌, nat_abs, unsigned_abs};
+ghost use Rattle.std.specs.Prelude.{◌≡◌, ℕ, ◌<◌, ◌≤◌, ◌^◌, Bool, false, ◌||◌, ◌&&◌, cond, nat_eq, IfOk};
+ghost use Rattle.std.specs.Prelude.{length, All, ℤ, pos, ◌<ℤ◌, nat_abs, unsigned_abs};
 ghost use Rattle.frac_core.specs.Fraction.{IsFitting};
 ghost use Rattle.problem_core.specs.Certificates.{Multipliers};
 ghost use Rattle.cert_checker.specs.LineSums.{line_count};
-ghost use Rattle.cert_checker.specs.Fronts.{AreFacts, AreFronts, AreOfLevel, HasFronts, HasOwnNumber, IsBlank, IsFront, IsReady, names_line, seen_by, reduced as reduced_cost, weight_of_side};
+ghost use Rattle.cert_checker.specs.Fronts.{AreFacts, AreFronts, AreOfLevel, HasFronts, HasOwnNumber};
+ghost use Rattle.cert_checker.specs.Fronts.{IsBlank, IsFront, IsReady, names_line, seen_by};
+ghost use Rattle.cert_checker.specs.Fronts.{reduced as reduced_cost, weight_of_side};
 
 use crate::arithmetic::{difference, product, total};
 use crate::leveled::PlacedLevel;
@@ -38,7 +41,8 @@ pub(crate) struct Sides {
 
 /// The front of a column when one more of its numbers is seen.
 fn keep(front: Option<Front>, level: usize, number: i128) -> Option<Front>
-    ensures { (f : ℕ → ℤ) (seen : ℕ → Bool) → f level ≡ number → IsFront f seen front → IsFront f (λ k. seen k || nat_eq k level) result }
+    ensures { (f : ℕ → ℤ) (seen : ℕ → Bool) → f level ≡ number → IsFront f seen front
+        → IsFront f (λ k. seen k || nat_eq k level) result }
 {
     if number == 0 {
         return front;
@@ -124,8 +128,11 @@ fn enter(sides: Sides, facts: &Facts, level: usize, scale: i64, times: i64) -> S
     requires above { pos 0 <ℤ scale }
     requires scale { IsFitting scale }
     requires times { IsFitting times }
-    ensures { (f g : ℕ → ℤ) (seen : ℕ → Bool) → f level ≡ reduced_cost facts.now Side.Under level (nat_abs scale) times → g level ≡ reduced_cost facts.now Side.Over level (nat_abs scale) times
-        → HasFronts f g seen facts.now.own sides → HasFronts f g (λ k. seen k || nat_eq k level) facts.now.own result }
+    ensures { (f g : ℕ → ℤ) (seen : ℕ → Bool) → f level
+        ≡ reduced_cost facts.now Side.Under level (nat_abs scale) times
+        → g level ≡ reduced_cost facts.now Side.Over level (nat_abs scale) times
+        → HasFronts f g seen facts.now.own sides → HasFronts f g (λ k. seen k
+        || nat_eq k level) facts.now.own result }
 {
     Sides {
         under: keep(
@@ -148,7 +155,8 @@ fn enter_lines(p: &Problem, level: usize, scale: i64, weighted: &[Weighted], sid
     requires below { All (λ w. (w.at < line_count p.now) × IsFitting w.times) weighted.now }
     requires fits { IsFitting scale }
     requires above { pos 0 <ℤ scale }
-    ensures { (m : Multipliers) (seen : ℕ → ℕ → Bool) → AreOfLevel p.now m level scale weighted.now → AreFronts p.now m seen sides.old
+    ensures { (m : Multipliers) (seen : ℕ → ℕ → Bool) → AreOfLevel p.now m level scale weighted.now
+        → AreFronts p.now m seen sides.old
         → AreFronts p.now m (λ at k. seen at k || (names_line at weighted.now && nat_eq k level)) sides.new }
 {
     for line in weighted {
@@ -180,7 +188,8 @@ fn enter_levels(p: &Problem, placed: &[PlacedLevel], sides: &mut [Sides])
     requires placed { All (IsReady p.now) placed.now }
     requires count { length sides.old ≡ line_count p.now }
     requires blank { All IsBlank sides.old }
-    ensures { (m : Multipliers) → All (λ q. AreOfLevel p.now m q.level q.scale q.weighted.items) placed.now → AreFronts p.now m (seen_by placed.now) sides.new }
+    ensures { (m : Multipliers) → All (λ q. AreOfLevel p.now m q.level q.scale q.weighted.items) placed.now
+        → AreFronts p.now m (seen_by placed.now) sides.new }
 {
     for q in placed {
         enter_lines(p, q.level, q.scale, &q.weighted, sides);
@@ -195,7 +204,9 @@ pub(crate) fn fronts(
 ) -> Result<Vec<Sides>, OutOfMemory>
     requires { All (IsReady p.now) placed.now }
     ensures count { IfOk result (λ v. length v.items ≡ line_count p.now) }
-    ensures fronts { IfOk result (λ v. (m : Multipliers) → All (λ q. AreOfLevel p.now m q.level q.scale q.weighted.items) placed.now → AreFronts p.now m (seen_by placed.now) v.items) }
+    ensures fronts { IfOk result (λ v. (m : Multipliers)
+        → All (λ q. AreOfLevel p.now m q.level q.scale q.weighted.items) placed.now
+        → AreFronts p.now m (seen_by placed.now) v.items) }
 {
     let mut sides = start(alloc, p)?;
     enter_levels(p, placed, &mut sides);
@@ -204,7 +215,8 @@ pub(crate) fn fronts(
 
 /// The front of a column when the line's own level is seen, where its number is above 0.
 fn keep_above(front: Option<Front>, level: usize) -> Option<Front>
-    ensures { (f : ℕ → ℤ) (seen : ℕ → Bool) → pos 0 <ℤ f level → IsFront f seen front → IsFront f (λ k. seen k || nat_eq k level) result }
+    ensures { (f : ℕ → ℤ) (seen : ℕ → Bool) → pos 0 <ℤ f level → IsFront f seen front
+        → IsFront f (λ k. seen k || nat_eq k level) result }
 {
     match front {
         None => Some(Front {
@@ -231,7 +243,9 @@ pub(crate) fn whole_front(
     facts: &Facts,
     side: Side,
 ) -> Option<Front>
-    ensures { (f : ℕ → ℤ) (seen : ℕ → Bool) → named ≡ seen facts.now.own → (seen facts.now.own ≡ false → HasOwnNumber f facts.now side) → IsFront f seen front → IsFront f (λ k. seen k || nat_eq k facts.now.own) result }
+    ensures { (f : ℕ → ℤ) (seen : ℕ → Bool) → named ≡ seen facts.now.own
+        → (seen facts.now.own ≡ false → HasOwnNumber f facts.now side) → IsFront f seen front
+        → IsFront f (λ k. seen k || nat_eq k facts.now.own) result }
 {
     if named {
         return front;

@@ -7,8 +7,11 @@ ghost use Rattle.problem_core.specs.Certificates.{IsCertificate, Multipliers};
 ghost use Rattle.problem_core.specs.Gaps.{HasRoom, HasValue, value_of};
 ghost use Rattle.cert_core.specs.Claims.{multipliers_of};
 ghost use Rattle.cert_checker.specs.LineSums.{line_count};
-ghost use Rattle.cert_checker.specs.Certifying.{AreFree, AreNotNegative, AreOfStays, EachGiven, HaveRoom, IsBestVerdict, IsNotNegative};
-ghost use Rattle.cert_checker.specs.Fronts.{AreFronts, AreKnown, HasColumnFronts, HasFrontsAt, is_below as has_negative, is_free as has_free, is_zero as has_none};
+ghost use Rattle.cert_checker.specs.Certifying.{AreFree, AreNotNegative, AreOfStays, EachGiven, HaveRoom};
+ghost use Rattle.cert_checker.specs.Certifying.{IsBestVerdict, IsNotNegative};
+ghost use Rattle.cert_checker.specs.Fronts.{AreFronts, AreKnown, HasColumnFronts, HasFrontsAt};
+ghost use Rattle.cert_checker.specs.Fronts.{is_below as has_negative, is_free as has_free};
+ghost use Rattle.cert_checker.specs.Fronts.{is_zero as has_none};
 
 use crate::fronts::{Front, Sides, facts_of, fronts, whole_front};
 use crate::leveled::place_levels;
@@ -24,7 +27,8 @@ use std::cmp::Ordering;
 /// The fronts of the whole columns of the line at a place.
 fn whole(p: &Problem, at: usize, sides: Sides) -> Sides
     requires { at < line_count p.now }
-    ensures { (m : Multipliers) (seen : ℕ → ℕ → Bool) → AreKnown p.now m seen → HasFrontsAt p.now m seen at sides → HoldsAt (λ l. HasColumnFronts m l result) (lines p.now) at }
+    ensures { (m : Multipliers) (seen : ℕ → ℕ → Bool) → AreKnown p.now m seen
+        → HasFrontsAt p.now m seen at sides → HoldsAt (λ l. HasColumnFronts m l result) (lines p.now) at }
 {
     let facts = facts_of(p, at);
     Sides {
@@ -47,7 +51,9 @@ fn is_below(front: Option<Front>) -> bool
 /// Whether the columns of the line at a place are not negative.
 fn is_not_negative(p: &Problem, at: usize, sides: Sides) -> bool
     requires { at < line_count p.now }
-    ensures { (m : Multipliers) (seen : ℕ → ℕ → Bool) → AreKnown p.now m seen → HasFrontsAt p.now m seen at sides → HoldsAt (λ l. IsTrue result ↔ IsNotNegative m l) (lines p.now) at }
+    ensures { (m : Multipliers) (seen : ℕ → ℕ → Bool) → AreKnown p.now m seen
+        → HasFrontsAt p.now m seen at sides → HoldsAt (λ l. IsTrue result
+        ↔ IsNotNegative m l) (lines p.now) at }
 {
     let whole = whole(p, at, sides);
     if is_below(whole.under) {
@@ -59,7 +65,8 @@ fn is_not_negative(p: &Problem, at: usize, sides: Sides) -> bool
 /// Whether no column is negative.
 fn are_not_negative(p: &Problem, sides: &[Sides]) -> bool
     requires { length sides.now ≡ line_count p.now }
-    ensures { (m : Multipliers) (seen : ℕ → ℕ → Bool) → AreKnown p.now m seen → AreFronts p.now m seen sides.now → IsTrue result ↔ AreNotNegative p.now m }
+    ensures { (m : Multipliers) (seen : ℕ → ℕ → Bool) → AreKnown p.now m seen
+        → AreFronts p.now m seen sides.now → IsTrue result ↔ AreNotNegative p.now m }
 {
     for (at, line) in sides.iter().enumerate() {
         if !is_not_negative(p, at, *line) {
@@ -84,7 +91,8 @@ fn value(values: &Values, attr: u32) -> Frac
 /// The order of the value of the stay's attribute and its target.
 fn stay_sign(stay: &Stay, values: &Values) -> Ordering
     requires { HasValue values.now stay.now.attr }
-    ensures { (level : ℕ) (x : Assignment) → Gives values.now x → result ≡ int_cmp (gap x (line_of_stay level stay.now)) (pos 0) }
+    ensures { (level : ℕ) (x : Assignment) → Gives values.now x
+        → result ≡ int_cmp (gap x (line_of_stay level stay.now)) (pos 0) }
 {
     let value = value(values, stay.attr);
     let _ = value.den();
@@ -96,7 +104,8 @@ fn line_sign(p: &Problem, at: usize, values: &Values) -> Ordering
     requires at { at < line_count p.now }
     requires values { AreOfStays p.now values.now }
     requires room { HaveRoom p.now.rows values.now }
-    ensures { (x : Assignment) → Gives values.now x → HoldsAt (λ l. result ≡ int_cmp (gap x l) (pos 0)) (lines p.now) at }
+    ensures { (x : Assignment) → Gives values.now x
+        → HoldsAt (λ l. result ≡ int_cmp (gap x l) (pos 0)) (lines p.now) at }
 {
     p.show_whole();
     let rows = p.rows();
@@ -132,7 +141,8 @@ fn are_free(p: &Problem, values: &Values, sides: &[Sides]) -> bool
     requires values { AreOfStays p.now values.now }
     requires room { HaveRoom p.now.rows values.now }
     requires count { length sides.now ≡ line_count p.now }
-    ensures { (m : Multipliers) (seen : ℕ → ℕ → Bool) (x : Assignment) → AreKnown p.now m seen → AreFronts p.now m seen sides.now → Gives values.now x → IsTrue result ↔ AreFree p.now m x }
+    ensures { (m : Multipliers) (seen : ℕ → ℕ → Bool) (x : Assignment) → AreKnown p.now m seen
+        → AreFronts p.now m seen sides.now → Gives values.now x → IsTrue result ↔ AreFree p.now m x }
 {
     for (at, line) in sides.iter().enumerate() {
         if !is_free(whole(p, at, *line), line_sign(p, at, values)) {
@@ -167,11 +177,12 @@ fn judge(alloc: Global, p: &Problem, values: &Values, best: &Best) -> Result<Ver
 
 /// Checks that the multipliers show the values to be best.
 ///
-/// `No(1)`: an attribute with a stay has no value, or one without a stay has one. `NoRoom`, tried next, has the first row
-/// whose attributes' values have no common denominator below 2^62, or one of them times it is not below 2^62 in size.
-/// `No(2)`: a required row doesn't hold. `No(3)`: a scale is not above 0, a row or a level is not the problem's, or at some
-/// level the lines do not cancel at each attribute. `No(4)`: the first number of some column that is not 0 is below 0.
-/// `No(5)`: the column of a side that the values use is not all 0.
+/// `No(1)`: an attribute with a stay has no value, or one without a stay has one. `NoRoom`, tried next, has
+/// the first row whose attributes' values have no common denominator below 2^62, or one of them times it is
+/// not below 2^62 in size. `No(2)`: a required row doesn't hold. `No(3)`: a scale is not above 0, a row or a
+/// level is not the problem's, or at some level the lines do not cancel at each attribute. `No(4)`: the first
+/// number of some column that is not 0 is below 0. `No(5)`: the column of a side that the values use is not
+/// all 0.
 pub fn check_best(
     alloc: Global,
     p: &Problem,
@@ -179,7 +190,8 @@ pub fn check_best(
     best: &Best,
 ) -> Result<Verdict, OutOfMemory>
     ensures verdict { IfOk result (IsBestVerdict p.now values.now best.now) }
-    ensures certified { IfOk result (λ v. v ≡ Verdict.Yes → EachGiven values.now (λ x. IsCertificate p.now x (multipliers_of p.now best.now))) }
+    ensures certified { IfOk result (λ v. v ≡ Verdict.Yes
+        → EachGiven values.now (λ x. IsCertificate p.now x (multipliers_of p.now best.now))) }
     ensures best { IfOk result (λ v. v ≡ Verdict.Yes → EachGiven values.now (IsBest p.now)) }
 {
     p.show_whole();

@@ -1,5 +1,6 @@
 // The levels of a certificate, with the places of their lines.
-ghost use Rattle.std.specs.Prelude.{◌≡◌, ℕ, ◌<◌, ◌≤◌, ◌+◌, ◌↔◌, length, pos, ◌<ℤ◌, ◌*ℤ◌, All, IsTrue, IfOk, IfSome, IfNone};
+ghost use Rattle.std.specs.Prelude.{◌≡◌, ℕ, ◌<◌, ◌≤◌, ◌+◌, ◌↔◌, length, pos, ◌<ℤ◌, ◌*ℤ◌, All, IsTrue, IfOk};
+ghost use Rattle.std.specs.Prelude.{IfSome, IfNone};
 ghost use Rattle.problem_core.specs.Layout.{coefficient, sum_of};
 ghost use Rattle.cert_core.specs.Claims.{AreBys, AreLevels, IsLevel, IsPlace, level_at};
 ghost use Rattle.cert_checker.specs.Certifying.{Balances, HasLevel};
@@ -39,7 +40,8 @@ fn level_place(p: &Problem, places: &Places, level: Level) -> Option<usize>
     }
 }
 
-/// A level with its place, if its scale is above 0, the problem has it and what it names, and its lines cancel.
+/// A level with its place, if its scale is above 0, the problem has it and what it names, and its lines
+/// cancel.
 fn place_level(
     alloc: Global,
     p: &Problem,

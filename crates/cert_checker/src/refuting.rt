@@ -1,5 +1,6 @@
 // The check of a conflict's multipliers.
-ghost use Rattle.std.specs.Prelude.{◌≡◌, ℕ, ◌<◌, ◌≤◌, ◌^◌, ◌/◌, ◌↔◌, pos, ◌*ℤ◌, length, All, IsTrue, IfOk, IfErr, unsigned_abs};
+ghost use Rattle.std.specs.Prelude.{◌≡◌, ℕ, ◌<◌, ◌≤◌, ◌^◌, ◌/◌, ◌↔◌, pos, ◌*ℤ◌, length, All, IsTrue, IfOk};
+ghost use Rattle.std.specs.Prelude.{IfErr, unsigned_abs};
 ghost use Rattle.problem_core.specs.Common.{IsLeastCommon};
 ghost use Rattle.frac_core.specs.Fraction.{IsFitting};
 ghost use Rattle.problem_core.specs.declared.parts.RowName.TheVariants.{Held};
@@ -7,7 +8,8 @@ ghost use Rattle.problem_core.specs.Layout.{IsInConflict, sum_of};
 ghost use Rattle.problem_core.specs.Certificates.{HasSign, IsRefutation};
 ghost use Rattle.cert_core.specs.Claims.{AreBys, times_of};
 ghost use Rattle.cert_checker.specs.LinePlaces.{AreWeighed};
-ghost use Rattle.cert_checker.specs.Refuting.{Cancels, HasRoom, IsAboveZero, IsConflictVerdict, IsFirstWithoutRoom};
+ghost use Rattle.cert_checker.specs.Refuting.{Cancels, HasRoom, IsAboveZero, IsConflictVerdict};
+ghost use Rattle.cert_checker.specs.Refuting.{IsFirstWithoutRoom};
 ghost use Rattle.cert_checker.specs.LineSums.{line_count};
 ghost use Rattle.cert_checker.specs.Required.{IsRequiredAt, IsSigned, Reaches, denominators, den_at, num_at};
 
@@ -60,7 +62,8 @@ fn denominator(p: &Problem, at: usize) -> u128
     row.constant().den() as u128
 }
 
-/// The least common denominator of the rows' constants, or the number of the first row with which it reaches 2^30.
+/// The least common denominator of the rows' constants, or the number of the first row with which it reaches
+/// 2^30.
 fn common_denominator(p: &Problem, weighted: &[Weighted]) -> Result<u128, u32>
     requires { All (λ w. IsRequiredAt p.now w.at) weighted.now }
     ensures room { IfOk result (λ d. d < 2 ^ 30) }
@@ -103,7 +106,8 @@ fn constants(p: &Problem, weighted: &[Weighted], common: u128) -> i128
     requires rows { All (λ w. IsRequiredAt p.now w.at × IsFitting w.times) weighted.now }
     requires count { length weighted.now ≤ 4096 }
     requires room { common < 2 ^ 30 }
-    ensures { result ≡ sum_of (λ w. w.times *ℤ (num_at p.now w.at *ℤ pos (common / den_at p.now w.at))) weighted.now }
+    ensures { result ≡ sum_of (λ w. w.times *ℤ (num_at p.now w.at
+        *ℤ pos (common / den_at p.now w.at))) weighted.now }
 {
     let mut sum = 0;
     for line in weighted {
@@ -178,13 +182,14 @@ fn judge(
 
 /// Checks that the multipliers show a conflict.
 ///
-/// `No(6)`: there is none, one is not of a required row, or the rows do not cancel at each attribute. `No(7)`: a
-/// multiplier is below 0 at a `>=` or above 0 at a `<=`. `No(8)`: the sum of the constants is not above 0. Before
-/// that clause, `NoRoom` has the first row with which the constants of the rows named so far have no common
-/// denominator below 2^30.
+/// `No(6)`: there is none, one is not of a required row, or the rows do not cancel at each attribute.
+/// `No(7)`: a multiplier is below 0 at a `>=` or above 0 at a `<=`. `No(8)`: the sum of the constants is not
+/// above 0. Before that clause, `NoRoom` has the first row with which the constants of the rows named so far
+/// have no common denominator below 2^30.
 pub fn check_conflict(alloc: Global, p: &Problem, c: &Conflict) -> Result<Verdict, OutOfMemory>
     ensures verdict { IfOk result (IsConflictVerdict p.now c.now) }
-    ensures refutes { IfOk result (λ v. v ≡ Verdict.Yes → IsRefutation p.now (λ id. times_of c.now (Held id))) }
+    ensures refutes { IfOk result (λ v. v ≡ Verdict.Yes
+        → IsRefutation p.now (λ id. times_of c.now (Held id))) }
     ensures conflict { IfOk result (λ v. v ≡ Verdict.Yes → IsInConflict p.now) }
 {
     p.show_whole();

@@ -1,5 +1,6 @@
 // Sums of rows, each times its multiplier, by attribute.
-ghost use Rattle.std.specs.Prelude.{◌≡◌, ℕ, ◌+◌, ◌*◌, ◌^◌, ◌<◌, ◌≤◌, ◌↔◌, length, ℤ, pos, ◌+ℤ◌, ◌*ℤ◌, All, IsTrue, IfOk, OnOk, unsigned_abs};
+ghost use Rattle.std.specs.Prelude.{◌≡◌, ℕ, ◌+◌, ◌*◌, ◌^◌, ◌<◌, ◌≤◌, ◌↔◌, length, ℤ, pos, ◌+ℤ◌, ◌*ℤ◌, All};
+ghost use Rattle.std.specs.Prelude.{IsTrue, IfOk, OnOk, unsigned_abs};
 ghost use Rattle.std.specs.Ordering.{nat_cmp};
 ghost use Rattle.std.specs.BTreeMap.{IsOrdered, values};
 ghost use Rattle.frac_core.specs.Fraction.{IsFitting};
@@ -37,8 +38,10 @@ fn add_terms(sums: &mut BTreeMap<u32, i128>, terms: &[Term], times: i64) -> Resu
     requires terms { All IsSmall terms.now }
     requires count { length terms.now ≤ 32 }
     requires room { (v : ℕ) → unsigned_abs (sum_at sums.old v) < 2 ^ 110 }
-    ensures sums { OnOk result ((v : ℕ) → sum_at sums.new v ≡ sum_at sums.old v +ℤ times *ℤ coefficient v terms.now) }
-    ensures room { OnOk result ((v : ℕ) → unsigned_abs (sum_at sums.new v) ≤ unsigned_abs (sum_at sums.old v) + 2 ^ 89) }
+    ensures sums { OnOk result ((v : ℕ) → sum_at sums.new v
+        ≡ sum_at sums.old v +ℤ times *ℤ coefficient v terms.now) }
+    ensures room { OnOk result ((v : ℕ) → unsigned_abs (sum_at sums.new v)
+        ≤ unsigned_abs (sum_at sums.old v) + 2 ^ 89) }
 {
     for term in terms {
         add(sums, term.attr, product(times, term.by))?;
@@ -56,8 +59,10 @@ fn add_line(
     requires at { at < line_count p.now }
     requires times { IsFitting times }
     requires room { (v : ℕ) → unsigned_abs (sum_at sums.old v) < 2 ^ 110 }
-    ensures sums { OnOk result ((v : ℕ) → sum_at sums.new v ≡ sum_at sums.old v +ℤ times *ℤ coefficient v (form_at p.now at)) }
-    ensures room { OnOk result ((v : ℕ) → unsigned_abs (sum_at sums.new v) ≤ unsigned_abs (sum_at sums.old v) + 2 ^ 89) }
+    ensures sums { OnOk result ((v : ℕ) → sum_at sums.new v
+        ≡ sum_at sums.old v +ℤ times *ℤ coefficient v (form_at p.now at)) }
+    ensures room { OnOk result ((v : ℕ) → unsigned_abs (sum_at sums.new v)
+        ≤ unsigned_abs (sum_at sums.old v) + 2 ^ 89) }
 {
     p.show_whole();
     let rows = p.rows();
@@ -88,7 +93,8 @@ fn are_zero(sums: &BTreeMap<u32, i128>) -> bool
 pub(crate) fn cancel(alloc: Global, p: &Problem, weighted: &[Weighted]) -> Result<bool, OutOfMemory>
     requires weighted { All (λ w. (w.at < line_count p.now) × IsFitting w.times) weighted.now }
     requires count { length weighted.now ≤ 8192 }
-    ensures { IfOk result (λ yes. IsTrue yes ↔ ((v : ℕ) → sum_of (λ w. w.times *ℤ coefficient v (form_at p.now w.at)) weighted.now ≡ pos 0)) }
+    ensures { IfOk result (λ yes. IsTrue yes ↔ ((v : ℕ)
+        → sum_of (λ w. w.times *ℤ coefficient v (form_at p.now w.at)) weighted.now ≡ pos 0)) }
 {
     let mut sums = BTreeMap::new(alloc);
     for line in weighted {

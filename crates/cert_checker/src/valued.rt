@@ -94,7 +94,8 @@ fn is_met(rel: Rel, sign: Ordering) -> bool
 fn holds(row: &Row, values: &Values) -> bool
     requires values { All (λ t. HasValue values.now t.attr) row.now.terms }
     requires room { HasRoom row.now values.now }
-    ensures { (x : Assignment) → Gives values.now x → IsTrue result ↔ (row.now.rank ≡ 1000 → error x (line_of_row row.now) ≡ 0) }
+    ensures { (x : Assignment) → Gives values.now x
+        → IsTrue result ↔ (row.now.rank ≡ 1000 → error x (line_of_row row.now) ≡ 0) }
 {
     if row.rank() != 1000 {
         return true;

@@ -89,7 +89,8 @@ impl Best {
     pub fn push(&mut self, level: Level, scale: i64, by: &[By]) -> Result<(), OutOfMemory>
         requires level { IsLevel (record { level = level; scale = scale; by = by.now }) }
         requires fresh { All (λ l. l.level ≢ level) self.old }
-        ensures done { IfOk result (λ _. self.new ≡ self.old ++ record { level = level; scale = scale; by = by.now } ∷ []) }
+        ensures done { IfOk result (λ _. self.new ≡ self.old
+            ++ record { level = level; scale = scale; by = by.now } ∷ []) }
         ensures unchanged { OnErr result (self.new ≡ self.old) }
     {
         let next = BestLevel {

@@ -1,4 +1,5 @@
-//! Claims on layout problems: multipliers that show a conflict, certificates of what is best, and paths between corners.
+//! Claims on layout problems: multipliers that show a conflict, certificates of what is best, and paths
+//! between corners.
 #![tactic(auto)]
 
 mod best;

@@ -13,7 +13,8 @@ pub struct UnfitPath {
     pub quantity: Quantity,
 }
 
-/// What ends a run: the required rows are in conflict, a quantity does not fit, the exchanges are used up, or memory is wanting.
+/// What ends a run: the required rows are in conflict, a quantity does not fit, the exchanges are used up, or
+/// memory is wanting.
 #[derive(Debug, Drop)]
 pub enum RunStop {
     Conflict(Conflict),

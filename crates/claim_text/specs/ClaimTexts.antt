@@ -8,7 +8,8 @@ use Rattle.problem_core.specs.declared.parts.Level.TheVariants.{Priority, Stay a
 use Rattle.cert_core.specs.declared.by.By.{By}
 use Rattle.cert_core.specs.Claims.{BestLevel}
 use Rattle.claim_text.specs.declared.claim_lines.ClaimLine.{ClaimLine}
-use Rattle.claim_text.specs.declared.claim_lines.ClaimLine.TheVariants.{OfValue, OfBest, OfConflict, OfLevel, OfBy}
+use Rattle.claim_text.specs.declared.claim_lines.ClaimLine.TheVariants.{OfValue, OfBest, OfConflict, OfLevel}
+use Rattle.claim_text.specs.declared.claim_lines.ClaimLine.TheVariants.{OfBy}
 use Rattle.claim_text.specs.declared.claim_draft.Stage.{Stage}
 use Rattle.claim_text.specs.declared.claim_draft.Stage.TheVariants.{Values, Levels, Bys, Conflict}
 use Rattle.claim_text.specs.declared.claim.Claim.{Claim}
@@ -16,7 +17,8 @@ use Rattle.claim_text.specs.declared.claim.Claim.TheVariants.{IsBest, IsConflict
 use Rattle.claim_text.specs.declared.stops.ReadStop.{ReadStop}
 use Rattle.claim_text.specs.declared.stops.ReadStop.TheVariants.{BadLine, OutOfMemory}
 use Rattle.claim_text.specs.Words.{words}
-use Rattle.claim_text.specs.ClaimLines.{value_words, level_words, by_words, best_words, conflict_words, IsValue, IsLevelLine, IsLevelName, IsBy}
+use Rattle.claim_text.specs.ClaimLines.{value_words, level_words, by_words, best_words, conflict_words}
+use Rattle.claim_text.specs.ClaimLines.{IsValue, IsLevelLine, IsLevelName, IsBy}
 
 -- what a line says by itself
 abbrev pub Says : List ℕ → ClaimLine → Type 0
@@ -44,7 +46,8 @@ IsLevelBefore (StayLevel a) (StayLevel b) = a ≢ b
 
 -- ---- reading line by line
 
--- what was read: values, levels that have ended, and the multipliers of the level that is open or of a conflict
+-- what was read: values, levels that have ended, and the multipliers of the level that is open or of a
+-- conflict
 pub record Draft : Type 0 where
   pub stage : Stage
   pub values : List (ℕ × Fraction)
@@ -78,15 +81,38 @@ abbrev pub MayFollow : Draft → ClaimLine → Type 0
 MayFollow old (OfValue v) = (old.stage ≡ Values) × All (λ u. u.0 < v.0) old.values
 MayFollow old OfBest = old.stage ≡ Values
 MayFollow old OfConflict = (old.stage ≡ Values) × (old.values ≡ [])
-MayFollow old (OfLevel l) = HasLevels old.stage × All (λ k. IsLevelBefore k.level l.level) (closed old.stage old.levels old.bys)
+MayFollow old (OfLevel l) = HasLevels old.stage × All (λ k.
+    IsLevelBefore k.level l.level) (closed old.stage old.levels old.bys)
 MayFollow old (OfBy b) = HasBys old.stage × All (λ k. IsRowBefore k.row b.row) old.bys
 
 abbrev pub with_line : Draft → ClaimLine → Draft
-with_line old (OfValue v) = record { stage = old.stage; values = old.values ++ v ∷ []; levels = old.levels; bys = old.bys }
+with_line old (OfValue v) = record {
+  stage = old.stage;
+  values = old.values
+      ++ v ∷ [];
+  levels = old.levels;
+  bys = old.bys;
+}
 with_line old OfBest = record { stage = Levels; values = old.values; levels = old.levels; bys = old.bys }
-with_line old OfConflict = record { stage = Conflict; values = old.values; levels = old.levels; bys = old.bys }
-with_line old (OfLevel l) = record { stage = Bys l; values = old.values; levels = closed old.stage old.levels old.bys; bys = [] }
-with_line old (OfBy b) = record { stage = old.stage; values = old.values; levels = old.levels; bys = old.bys ++ b ∷ [] }
+with_line old OfConflict = record {
+  stage = Conflict;
+  values = old.values;
+  levels = old.levels;
+  bys = old.bys;
+}
+with_line old (OfLevel l) = record {
+  stage = Bys l;
+  values = old.values;
+  levels = closed old.stage old.levels old.bys;
+  bys = [];
+}
+with_line old (OfBy b) = record {
+  stage = old.stage;
+  values = old.values;
+  levels = old.levels;
+  bys = old.bys
+      ++ b ∷ [];
+}
 
 pub record Step (old : Draft) (line : List ℕ) (new : Draft) : Type 0 where
   pub item : ClaimLine

@@ -19,7 +19,8 @@ ok_line = codes "ok"
 
 -- the lines of a claim, without an ending line `ok`
 abbrev pub IsWithoutOk : List (List ℕ) → List (List ℕ) → Type 0
-IsWithoutOk written claim = (written ≡ claim ++ ok_line ∷ []) ⊎ ((written ≡ claim) × ((front : List (List ℕ)) → claim ≡ front ++ ok_line ∷ [] → ⊥))
+IsWithoutOk written claim = (written ≡ claim ++ ok_line ∷ [])
+    ⊎ ((written ≡ claim) × ((front : List (List ℕ)) → claim ≡ front ++ ok_line ∷ [] → ⊥))
 
 -- The lines before the first with which a claim may begin are the problem's, and the others the claim's.
 pub record IsCut (all problem claim : List (List ℕ)) : Type 0 where

@@ -12,7 +12,8 @@ pub record IsLineLength (text : List ℕ) (n : ℕ) : Type 0 where
   pub some : 0 < n
   pub within : n ≤ length text
   pub whole : IsWhole (take n text) ⊎ (n ≡ length text)
-  pub here : (line : List ℕ) (more : List (List ℕ)) → lines text ≡ line ∷ more → (lines (take n text) ≡ line ∷ []) × (lines (drop n text) ≡ more)
+  pub here : (line : List ℕ) (more : List (List ℕ)) → lines text ≡ line ∷ more
+      → (lines (take n text) ≡ line ∷ []) × (lines (drop n text) ≡ more)
 
 -- the last line begins at this place
 pub record IsLastStart (text : List ℕ) (at : ℕ) : Type 0 where

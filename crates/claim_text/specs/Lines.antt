@@ -1,5 +1,6 @@
 -- The words of the lines of problems.
-use Rattle.std.specs.Prelude.{ℕ, ◌<◌, ◌≤◌, ◌^◌, List, [], ◌∷◌, ◌++◌, length, map, All, AllPairs, codes, decimal}
+use Rattle.std.specs.Prelude.{ℕ, ◌<◌, ◌≤◌, ◌^◌, List, [], ◌∷◌, ◌++◌, length, map, All, AllPairs, codes}
+use Rattle.std.specs.Prelude.{decimal}
 use Rattle.std.specs.Fmt.{signed_decimal}
 use Rattle.frac_core.specs.Fraction.{IsKept}
 use Rattle.frac_core.specs.Text.{fraction_text}
@@ -23,7 +24,8 @@ term_word t = decimal t.attr ++ 58 ∷ signed_decimal t.by
 
 -- `row ID RANK WEIGHT REL SCALE CONSTANT`, and a word for each term
 abbrev pub row_words : Row → List (List ℕ)
-row_words r = codes "row" ∷ decimal r.id ∷ decimal r.rank ∷ decimal r.weight ∷ rel_word r.rel ∷ decimal r.scale ∷ fraction_text r.constant ∷ map term_word r.terms
+row_words r = codes "row" ∷ decimal r.id ∷ decimal r.rank ∷ decimal r.weight ∷ rel_word r.rel
+    ∷ decimal r.scale ∷ fraction_text r.constant ∷ map term_word r.terms
 
 -- `stay ATTR TARGET`
 abbrev pub stay_words : Stay → List (List ℕ)
@@ -31,7 +33,8 @@ stay_words s = codes "stay" ∷ decimal s.attr ∷ fraction_text s.target ∷ []
 
 -- the words of a row before its terms
 abbrev pub head_words : Head → List (List ℕ)
-head_words h = codes "row" ∷ decimal h.id ∷ decimal h.rank ∷ decimal h.weight ∷ rel_word h.rel ∷ decimal h.scale ∷ fraction_text h.constant ∷ []
+head_words h = codes "row" ∷ decimal h.id ∷ decimal h.rank ∷ decimal h.weight ∷ rel_word h.rel
+    ∷ decimal h.scale ∷ fraction_text h.constant ∷ []
 
 pub record IsHead (h : Head) : Type 0 where
   pub number : IsNumber h.id
@@ -50,7 +53,15 @@ pub record AreTerms (terms : List Term) : Type 0 where
 
 -- the row of these parts
 abbrev pub row_from : Head → List Term → Row
-row_from h terms = record { id = h.id; rank = h.rank; weight = h.weight; rel = h.rel; scale = h.scale; constant = h.constant; terms = terms }
+row_from h terms = record {
+  id = h.id;
+  rank = h.rank;
+  weight = h.weight;
+  rel = h.rel;
+  scale = h.scale;
+  constant = h.constant;
+  terms = terms;
+}
 
 -- ---- texts
 
@@ -76,4 +87,6 @@ spaced (w ∷ ws) = 32 ∷ w ++ spaced ws
 
 -- what stands before the terms of a row's line
 abbrev pub head_line : Row → List ℕ
-head_line r = codes "row " ++ (decimal r.id ++ (32 ∷ (decimal r.rank ++ (32 ∷ (decimal r.weight ++ (32 ∷ (rel_word r.rel ++ (32 ∷ (decimal r.scale ++ (32 ∷ fraction_text r.constant))))))))))
+head_line r = codes "row " ++ (decimal r.id ++ (32
+    ∷ (decimal r.rank ++ (32 ∷ (decimal r.weight ++ (32
+    ∷ (rel_word r.rel ++ (32 ∷ (decimal r.scale ++ (32 ∷ fraction_text r.constant))))))))))

@@ -51,7 +51,8 @@ pub record Step (HasStay : ℕ → Type 0) (old : Problem) (line : List ℕ) (ne
 
 abbrev pub ReadFrom : (ℕ → Type 0) → Problem → List (List ℕ) → Problem → Type 0
 ReadFrom HasStay old [] new = new ≡ old
-ReadFrom HasStay old (line ∷ more) new = (mid : Problem) × Step HasStay old line mid × ReadFrom HasStay mid more new
+ReadFrom HasStay old (line ∷ more) new = (mid : Problem) × Step HasStay old line mid
+    × ReadFrom HasStay mid more new
 
 abbrev pub nothing_read : Problem
 nothing_read = record { rows = []; stays = [] }

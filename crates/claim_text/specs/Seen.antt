@@ -11,7 +11,8 @@ use Rattle.claim_text.specs.ClaimTexts.{Draft, closed, IsRowBefore, IsLevelBefor
 
 -- a stay of the attribute may stand behind all of these exactly where the attribute is no key
 abbrev pub AreKeys : {A : Type 0} → (A → ℕ → Type 0) → List A → BTreeMap ℕ ℕ → Type 0
-AreKeys MayPrecede xs keys = (attr : ℕ) → MatchOption (get nat_cmp keys attr) (All (λ x. MayPrecede x attr) xs) (λ _. All (λ x. MayPrecede x attr) xs → ⊥)
+AreKeys MayPrecede xs keys = (attr : ℕ) → MatchOption (get nat_cmp keys attr)
+    (All (λ x. MayPrecede x attr) xs) (λ _. All (λ x. MayPrecede x attr) xs → ⊥)
 
 abbrev pub AreRowKeys : List RowName → BTreeMap ℕ ℕ → Type 0
 AreRowKeys rows keys = AreKeys (λ row attr. IsRowBefore row (StayRow attr)) rows keys

@@ -45,7 +45,8 @@ impl Attributes {
 
 // Adds the attribute of a line that is a stay.
 fn add_attribute(attrs: &mut Vec<u32>, line: &[u8]) -> Result<(), OutOfMemory>
-    ensures { IfOk result (λ _. (before : List (List ℕ)) → AreStayAttributes before attrs.old.items → AreStayAttributes (before ++ line.now ∷ []) attrs.new.items) }
+    ensures { IfOk result (λ _. (before : List (List ℕ)) → AreStayAttributes before attrs.old.items
+        → AreStayAttributes (before ++ line.now ∷ []) attrs.new.items) }
 {
     match read_stay(line) {
         Some(stay) => Ok(attrs.push(stay.attr)?),

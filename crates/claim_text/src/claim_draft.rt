@@ -1,5 +1,6 @@
 // A claim while it is read.
-ghost use Rattle.std.specs.Prelude.{◌≡◌, ◌<◌, ◌++◌, ◌∷◌, [], ℕ, All, AllPairs, IfOk, IfSome, IfNone, IsTrue, ◌↔◌, true, false, List, map};
+ghost use Rattle.std.specs.Prelude.{◌≡◌, ◌<◌, ◌++◌, ◌∷◌, [], ℕ, All, AllPairs, IfOk, IfSome, IfNone, IsTrue};
+ghost use Rattle.std.specs.Prelude.{◌↔◌, true, false, List, map};
 ghost use Rattle.frac_core.specs.Fraction.{Fraction};
 ghost use Rattle.problem_core.specs.Kept.{AreRising};
 ghost use Rattle.problem_core.specs.declared.parts.RowName.{RowName};
@@ -55,7 +56,8 @@ impl Model for ClaimDraft {
 
     ghost Value = { claims.Draft };
 
-    ghost view = { λ d. record { stage = d.stage; values = d.values.items; levels = d.levels.items; bys = d.bys.items } };
+    ghost view = { λ d.
+        record { stage = d.stage; values = d.values.items; levels = d.levels.items; bys = d.bys.items } };
 }
 
 // Whether the attribute is above those of all these values.
@@ -141,7 +143,8 @@ fn level_of(line: &LevelLine) -> Level
 // The last level.
 fn last_of(levels: &[EndedLevel]) -> Option<Level>
     ensures none { IfNone result (levels.now ≡ []) }
-    ensures some { IfSome result (λ last. (front : List Level) × (map (λ l. l.level) levels.now ≡ front ++ last ∷ [])) }
+    ensures some { IfSome result (λ last. (front : List Level)
+        × (map (λ l. l.level) levels.now ≡ front ++ last ∷ [])) }
 {
     if levels.is_empty() {
         return None;
@@ -167,7 +170,8 @@ impl ClaimDraft {
     ghost use Rattle.claim_text.specs.ClaimTexts as claims;
     ghost use Rattle.problem_core.specs.declared.parts.Level as level;
     ghost use Rattle.claim_text.specs.Seen.{AreRowKeys, AreLevelKeys, AreSeen, levels_of, rows_of};
-    ghost use Rattle.claim_text.specs.ClaimTexts.{nothing_read, closed, HasLevels, HasBys, IsRowBefore, IsLevelBefore, MayFollow, with_line, Step, Ends, IsDraft};
+    ghost use Rattle.claim_text.specs.ClaimTexts.{nothing_read, closed, HasLevels, HasBys, IsRowBefore};
+    ghost use Rattle.claim_text.specs.ClaimTexts.{IsLevelBefore, MayFollow, with_line, Step, Ends, IsDraft};
 
     pub(crate) fn new(alloc: Global) -> ClaimDraft
         ensures { result ≡ nothing_read }
@@ -223,7 +227,8 @@ impl ClaimDraft {
     // The last level, which is the open one where one is.
     fn last_level(&self) -> Option<Level>
         ensures none { IfNone result (levels_of self.now ≡ []) }
-        ensures some { IfSome result (λ last. (front : List level.Level) × (levels_of self.now ≡ front ++ last ∷ [])) }
+        ensures some { IfSome result (λ last. (front : List level.Level)
+            × (levels_of self.now ≡ front ++ last ∷ [])) }
     {
         match self.stage {
             Stage::Bys(open) => Some(level_of(&open)),
@@ -233,9 +238,11 @@ impl ClaimDraft {
 
     // Whether the level may stand behind all, whose stays are the keys.
     fn levels_are_before(&self, keys: &BTreeMap<u32, u32>, level: Level) -> bool
-        requires order { AllPairs (λ k l. IsLevelBefore k.level l.level) (closed self.now.stage self.now.levels self.now.bys) }
+        requires order { AllPairs (λ k l. IsLevelBefore k.level l.level)
+            (closed self.now.stage self.now.levels self.now.bys) }
         requires keys { AreLevelKeys (levels_of self.now) keys.now }
-        ensures { IsTrue result ↔ All (λ l. IsLevelBefore l.level level) (closed self.now.stage self.now.levels self.now.bys) }
+        ensures { IsTrue result ↔ All (λ l. IsLevelBefore l.level level)
+            (closed self.now.stage self.now.levels self.now.bys) }
     {
         if let Level::Stay(attr) = level {
             return !keys.contains_key(&attr);
@@ -247,9 +254,11 @@ impl ClaimDraft {
     }
 
     fn level_may_follow(&self, keys: &BTreeMap<u32, u32>, level: Level) -> bool
-        requires order { AllPairs (λ k l. IsLevelBefore k.level l.level) (closed self.now.stage self.now.levels self.now.bys) }
+        requires order { AllPairs (λ k l. IsLevelBefore k.level l.level)
+            (closed self.now.stage self.now.levels self.now.bys) }
         requires keys { AreLevelKeys (levels_of self.now) keys.now }
-        ensures { IsTrue result ↔ (HasLevels self.now.stage × All (λ l. IsLevelBefore l.level level) (closed self.now.stage self.now.levels self.now.bys)) }
+        ensures { IsTrue result ↔ (HasLevels self.now.stage
+            × All (λ l. IsLevelBefore l.level level) (closed self.now.stage self.now.levels self.now.bys)) }
     {
         self.has_levels() && self.levels_are_before(keys, level)
     }
@@ -270,7 +279,12 @@ impl ClaimDraft {
 
     // Ends the level that is open.
     pub(crate) fn close(&mut self, alloc: Global) -> Result<(), OutOfMemory>
-        ensures { IfOk result (λ _. self.new ≡ record { stage = self.old.stage; values = self.old.values; levels = closed self.old.stage self.old.levels self.old.bys; bys = [] }) }
+        ensures { IfOk result (λ _. self.new ≡ record {
+          stage = self.old.stage;
+          values = self.old.values;
+          levels = closed self.old.stage self.old.levels self.old.bys;
+          bys = [];
+        }) }
     {
         let by = mem::replace(&mut self.bys, Vec::new(alloc));
         if let Stage::Bys(open) = self.stage {
@@ -310,7 +324,8 @@ impl ClaimDraft {
         requires seen { AreSeen self.old seen.old }
         ensures seen { IfOk result (λ good. good ≡ true → AreSeen self.new seen.new) }
         ensures taken { IfOk result (λ good. good ≡ true → Step self.old line.now self.new) }
-        ensures refused { IfOk result (λ good. good ≡ false → (new : claims.Draft) → Step self.old line.now new → ⊥) }
+        ensures refused { IfOk result (λ good. good ≡ false → (new : claims.Draft)
+            → Step self.old line.now new → ⊥) }
     {
         let Some(item) = read_claim_line(line) else {
             return Ok(false);

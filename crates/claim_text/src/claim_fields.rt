@@ -1,5 +1,6 @@
 // The words of claims: whole numbers, rows and levels.
-ghost use Rattle.std.specs.Prelude.{◌≡◌, ◌≢◌, pos, ◌<◌, ◌≤◌, ◌^◌, ◌∷◌, ℕ, ℤ, List, IfSome, IfNone, unsigned_abs};
+ghost use Rattle.std.specs.Prelude.{◌≡◌, ◌≢◌, pos, ◌<◌, ◌≤◌, ◌^◌, ◌∷◌, ℕ, ℤ, List, IfSome, IfNone};
+ghost use Rattle.std.specs.Prelude.{unsigned_abs};
 ghost use Rattle.std.specs.Fmt.{signed_decimal};
 ghost use Rattle.problem_core.specs.declared.parts.RowName.{RowName};
 ghost use Rattle.problem_core.specs.declared.parts.Level.{Level};
@@ -56,7 +57,8 @@ fn level_name(word: &[u8]) -> Option<Level>
 pub(crate) fn next_integer(words: &mut Words, most: u64) -> Option<i64>
     requires { most < 2 ^ 62 }
     ensures some { IfSome result (λ z. (unsigned_abs z ≤ most) × (words.old ≡ signed_decimal z ∷ words.new)) }
-    ensures none { IfNone result ((z : ℤ) (more : List (List ℕ)) → unsigned_abs z ≤ most → words.old ≡ signed_decimal z ∷ more → ⊥) }
+    ensures none { IfNone result ((z : ℤ) (more : List (List ℕ)) → unsigned_abs z ≤ most
+        → words.old ≡ signed_decimal z ∷ more → ⊥) }
 {
     let Some(word) = words.next() else {
         return None;
@@ -66,7 +68,8 @@ pub(crate) fn next_integer(words: &mut Words, most: u64) -> Option<i64>
 
 pub(crate) fn next_row_name(words: &mut Words) -> Option<RowName>
     ensures some { IfSome result (λ r. IsRowName r × (words.old ≡ row_word r ∷ words.new)) }
-    ensures none { IfNone result ((r : RowName) (more : List (List ℕ)) → IsRowName r → words.old ≡ row_word r ∷ more → ⊥) }
+    ensures none { IfNone result ((r : RowName) (more : List (List ℕ)) → IsRowName r
+        → words.old ≡ row_word r ∷ more → ⊥) }
 {
     let Some(word) = words.next() else {
         return None;
@@ -76,7 +79,8 @@ pub(crate) fn next_row_name(words: &mut Words) -> Option<RowName>
 
 pub(crate) fn next_level_name(words: &mut Words) -> Option<Level>
     ensures some { IfSome result (λ l. IsLevelName l × (words.old ≡ level_word l ∷ words.new)) }
-    ensures none { IfNone result ((l : Level) (more : List (List ℕ)) → IsLevelName l → words.old ≡ level_word l ∷ more → ⊥) }
+    ensures none { IfNone result ((l : Level) (more : List (List ℕ)) → IsLevelName l
+        → words.old ≡ level_word l ∷ more → ⊥) }
 {
     let Some(word) = words.next() else {
         return None;
@@ -87,8 +91,10 @@ pub(crate) fn next_level_name(words: &mut Words) -> Option<Level>
 /// A whole number of this size at most, other than 0.
 pub(crate) fn next_nonzero(words: &mut Words, most: u64) -> Option<i64>
     requires { most < 2 ^ 50 }
-    ensures some { IfSome result (λ z. (unsigned_abs z ≤ most) × (z ≢ pos 0) × (words.old ≡ signed_decimal z ∷ words.new)) }
-    ensures none { IfNone result ((z : ℤ) (more : List (List ℕ)) → unsigned_abs z ≤ most → z ≢ pos 0 → words.old ≡ signed_decimal z ∷ more → ⊥) }
+    ensures some { IfSome result (λ z. (unsigned_abs z ≤ most) × (z ≢ pos 0)
+        × (words.old ≡ signed_decimal z ∷ words.new)) }
+    ensures none { IfNone result ((z : ℤ) (more : List (List ℕ)) → unsigned_abs z ≤ most → z ≢ pos 0
+        → words.old ≡ signed_decimal z ∷ more → ⊥) }
 {
     let Some(number) = next_integer(words, most) else {
         return None;

@@ -46,7 +46,8 @@ pub fn read_claim(alloc: Global, text: &[u8]) -> Result<Claim, ReadStop>
     ensures read { IfOk result (Reads (lines text.now)) }
     ensures stop { IfErr result (StopsAt (lines text.now)) }
     // What was written is read.
-    ensures written { (c : claim.Claim) → IsWritten c → text.now ≡ claim_text c → MatchResult result (λ d. d ≡ c) (λ stop. stop ≡ ReadStop.OutOfMemory) }
+    ensures written { (c : claim.Claim) → IsWritten c → text.now ≡ claim_text c
+        → MatchResult result (λ d. d ≡ c) (λ stop. stop ≡ ReadStop.OutOfMemory) }
 {
     let mut found = read_lines(alloc, text)?;
     match found.draft.finish(alloc)? {

@@ -1,6 +1,7 @@
 // The text of claims.
 ghost use Rattle.std.specs.Prelude.{◌≡◌, ◌++◌, ◌∷◌, [], IfOk, OnErr, string_bytes, map};
-ghost use Rattle.claim_text.specs.ClaimLines.{row_word, level_word, value_line, level_line, by_line, level_lines, lines_of_levels, best_lines, conflict_lines};
+ghost use Rattle.claim_text.specs.ClaimLines.{row_word, level_word, value_line, level_line, by_line};
+ghost use Rattle.claim_text.specs.ClaimLines.{level_lines, lines_of_levels, best_lines, conflict_lines};
 ghost use Rattle.claim_text.specs.Lines.{text_of_lines};
 ghost use Rattle.claim_text.specs.ClaimLines.{claim_text};
 
@@ -32,7 +33,8 @@ pub(crate) fn put_level_name(text: &mut String, level: Level) -> Result<(), OutO
 }
 
 fn put_value(text: &mut String, pair: &(u32, Frac)) -> Result<(), OutOfMemory>
-    ensures { IfOk result (λ _. string_bytes text.new ≡ string_bytes text.old ++ (value_line pair.now ++ 10 ∷ [])) }
+    ensures { IfOk result (λ _. string_bytes text.new
+        ≡ string_bytes text.old ++ (value_line pair.now ++ 10 ∷ [])) }
 {
     let attr = pair.0;
     let value = pair.1;
@@ -43,7 +45,8 @@ fn put_value(text: &mut String, pair: &(u32, Frac)) -> Result<(), OutOfMemory>
 }
 
 fn put_by(text: &mut String, by: &By) -> Result<(), OutOfMemory>
-    ensures { IfOk result (λ _. string_bytes text.new ≡ string_bytes text.old ++ (by_line by.now ++ 10 ∷ [])) }
+    ensures { IfOk result (λ _. string_bytes text.new
+        ≡ string_bytes text.old ++ (by_line by.now ++ 10 ∷ [])) }
 {
     let times = by.times;
     write!(text, "by {times} row ")?;
@@ -53,7 +56,8 @@ fn put_by(text: &mut String, by: &By) -> Result<(), OutOfMemory>
 }
 
 fn put_level(text: &mut String, level: Level, scale: i64) -> Result<(), OutOfMemory>
-    ensures { IfOk result (λ _. string_bytes text.new ≡ string_bytes text.old ++ (level_line (record { level = level; scale = scale }) ++ 10 ∷ [])) }
+    ensures { IfOk result (λ _. string_bytes text.new
+        ≡ string_bytes text.old ++ (level_line (record { level = level; scale = scale }) ++ 10 ∷ [])) }
 {
     write!(text, "level ")?;
     put_level_name(text, level)?;
@@ -62,7 +66,8 @@ fn put_level(text: &mut String, level: Level, scale: i64) -> Result<(), OutOfMem
 }
 
 fn put_bys(text: &mut String, bys: &[By]) -> Result<(), OutOfMemory>
-    ensures { IfOk result (λ _. string_bytes text.new ≡ string_bytes text.old ++ text_of_lines (map by_line bys.now)) }
+    ensures { IfOk result (λ _. string_bytes text.new
+        ≡ string_bytes text.old ++ text_of_lines (map by_line bys.now)) }
 {
     for by in bys {
         put_by(text, by)?;
@@ -71,7 +76,8 @@ fn put_bys(text: &mut String, bys: &[By]) -> Result<(), OutOfMemory>
 }
 
 fn put_values(text: &mut String, values: &[(u32, Frac)]) -> Result<(), OutOfMemory>
-    ensures { IfOk result (λ _. string_bytes text.new ≡ string_bytes text.old ++ text_of_lines (map value_line values.now)) }
+    ensures { IfOk result (λ _. string_bytes text.new
+        ≡ string_bytes text.old ++ text_of_lines (map value_line values.now)) }
 {
     for pair in values {
         put_value(text, pair)?;
@@ -81,14 +87,16 @@ fn put_values(text: &mut String, values: &[(u32, Frac)]) -> Result<(), OutOfMemo
 
 // The line of a level, and those of its multipliers.
 fn put_whole_level(text: &mut String, level: &BestLevel) -> Result<(), OutOfMemory>
-    ensures { IfOk result (λ _. string_bytes text.new ≡ string_bytes text.old ++ text_of_lines (level_lines level.now)) }
+    ensures { IfOk result (λ _. string_bytes text.new
+        ≡ string_bytes text.old ++ text_of_lines (level_lines level.now)) }
 {
     put_level(text, level.level(), level.scale())?;
     put_bys(text, level.by())
 }
 
 fn put_levels(text: &mut String, levels: &[BestLevel]) -> Result<(), OutOfMemory>
-    ensures { IfOk result (λ _. string_bytes text.new ≡ string_bytes text.old ++ text_of_lines (lines_of_levels levels.now)) }
+    ensures { IfOk result (λ _. string_bytes text.new
+        ≡ string_bytes text.old ++ text_of_lines (lines_of_levels levels.now)) }
 {
     for level in levels {
         put_whole_level(text, level)?;
@@ -97,7 +105,8 @@ fn put_levels(text: &mut String, levels: &[BestLevel]) -> Result<(), OutOfMemory
 }
 
 fn put_best(text: &mut String, values: &Values, best: &Best) -> Result<(), OutOfMemory>
-    ensures { IfOk result (λ _. string_bytes text.new ≡ string_bytes text.old ++ text_of_lines (best_lines values.now best.now)) }
+    ensures { IfOk result (λ _. string_bytes text.new
+        ≡ string_bytes text.old ++ text_of_lines (best_lines values.now best.now)) }
 {
     put_values(text, values.pairs())?;
     writeln!(text, "best")?;
@@ -105,7 +114,8 @@ fn put_best(text: &mut String, values: &Values, best: &Best) -> Result<(), OutOf
 }
 
 fn put_conflict(text: &mut String, conflict: &Conflict) -> Result<(), OutOfMemory>
-    ensures { IfOk result (λ _. string_bytes text.new ≡ string_bytes text.old ++ text_of_lines (conflict_lines conflict.now)) }
+    ensures { IfOk result (λ _. string_bytes text.new
+        ≡ string_bytes text.old ++ text_of_lines (conflict_lines conflict.now)) }
 {
     writeln!(text, "conflict")?;
     put_bys(text, conflict.by())

@@ -1,5 +1,6 @@
 // The cut of the input of a check into a problem and a claim.
-ghost use Rattle.std.specs.Prelude.{◌≡◌, ◌<◌, ◌≤◌, ◌^◌, ◌++◌, ◌∷◌, [], All, List, ℕ, length, take, drop, codes, IsTrue, ◌↔◌, MatchOption};
+ghost use Rattle.std.specs.Prelude.{◌≡◌, ◌<◌, ◌≤◌, ◌^◌, ◌++◌, ◌∷◌, [], All, List, ℕ, length, take, drop};
+ghost use Rattle.std.specs.Prelude.{codes, IsTrue, ◌↔◌, MatchOption};
 ghost use Rattle.std.specs.Str.Lines.{lines};
 ghost use Rattle.span_text.specs.Words.{words_of};
 ghost use Rattle.claim_text.specs.Cut.{IsClaimWord, BeginsClaim, IsClaimStart, IsWithoutOk, IsCut, ok_line};
@@ -37,7 +38,8 @@ fn begins_claim(line: &[u8]) -> bool
 
 // The first line of a text, if it has one.
 fn first_line(text: &[u8]) -> Option<&[u8]>
-    ensures { MatchOption result (lines text.now ≡ []) (λ line. (more : List (List ℕ)) × (lines text.now ≡ line.now ∷ more)) }
+    ensures { MatchOption result (lines text.now ≡ []) (λ line. (more : List (List ℕ))
+        × (lines text.now ≡ line.now ∷ more)) }
 {
     match lines(text).next() {
         Some(line) => Some(line.bytes),
@@ -123,8 +125,8 @@ fn without_ok(text: &[u8]) -> &[u8]
     }
 }
 
-/// Cuts the input of a check: the problem is what stands before the first line whose first word is `value`, `best`,
-/// `conflict` or `path`, and the claim is the rest without an ending line `ok`.
+/// Cuts the input of a check: the problem is what stands before the first line whose first word is `value`,
+/// `best`, `conflict` or `path`, and the claim is the rest without an ending line `ok`.
 pub fn cut_input(input: &[u8]) -> CheckInput<'_>
     requires { length input.now < 2 ^ 31 }
     ensures cut { IsCut (lines input.now) (lines result.problem.now) (lines result.claim.now) }

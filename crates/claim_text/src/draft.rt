@@ -1,5 +1,6 @@
 // A problem while it is read.
-ghost use Rattle.std.specs.Prelude.{◌≡◌, ◌≢◌, ◌<◌, [], ℕ, All, IfOk, IfErr, IsTrue, ◌↔◌, Contains, true, false, length};
+ghost use Rattle.std.specs.Prelude.{◌≡◌, ◌≢◌, ◌<◌, [], ℕ, All, IfOk, IfErr, IsTrue, ◌↔◌, Contains, true};
+ghost use Rattle.std.specs.Prelude.{false, length};
 ghost use Rattle.problem_core.specs.Layout as layout;
 ghost use Rattle.problem_core.specs.Kept.{IsWhole};
 ghost use Rattle.claim_text.specs.declared.items.Item as item;
@@ -53,7 +54,8 @@ fn are_covered(covered: &Attributes, terms: &[Term]) -> bool
 }
 
 impl Draft {
-    ghost use Rattle.claim_text.specs.Problems.{nothing_read, Step, MayFollow, RowMayFollow, StayMayFollow, with_item};
+    ghost use Rattle.claim_text.specs.Problems.{nothing_read, Step, MayFollow, RowMayFollow, StayMayFollow};
+    ghost use Rattle.claim_text.specs.Problems.{with_item};
 
     pub(crate) fn new(alloc: Global) -> Draft
         ensures { result ≡ nothing_read }
@@ -124,8 +126,10 @@ impl Draft {
         covered: &Attributes,
         line: &[u8],
     ) -> Result<bool, OutOfMemory>
-        ensures taken { IfOk result (λ good. good ≡ true → Step (λ a. Contains covered.now a) self.old line.now self.new) }
-        ensures refused { IfOk result (λ good. good ≡ false → (new : layout.Problem) → Step (λ a. Contains covered.now a) self.old line.now new → ⊥) }
+        ensures taken { IfOk result (λ good. good ≡ true
+            → Step (λ a. Contains covered.now a) self.old line.now self.new) }
+        ensures refused { IfOk result (λ good. good ≡ false → (new : layout.Problem)
+            → Step (λ a. Contains covered.now a) self.old line.now new → ⊥) }
     {
         let Some(item) = read_item(alloc, line)? else {
             return Ok(false);

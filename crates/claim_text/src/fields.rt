@@ -14,7 +14,8 @@ use problem_core::Rel;
 pub(crate) fn next_number(words: &mut Words, least: u64, most: u64) -> Option<u64>
     requires { most < 10 ^ 19 }
     ensures some { IfSome result (λ n. (least ≤ n) × (n ≤ most) × (words.old ≡ decimal n ∷ words.new)) }
-    ensures none { IfNone result ((n : ℕ) (more : List (List ℕ)) → least ≤ n → n ≤ most → words.old ≡ decimal n ∷ more → ⊥) }
+    ensures none { IfNone result ((n : ℕ) (more : List (List ℕ)) → least ≤ n → n ≤ most
+        → words.old ≡ decimal n ∷ more → ⊥) }
 {
     let Some(word) = words.next() else {
         return None;
@@ -24,7 +25,8 @@ pub(crate) fn next_number(words: &mut Words, least: u64, most: u64) -> Option<u6
 
 pub(crate) fn next_fraction(words: &mut Words) -> Option<Frac>
     ensures some { IfSome result (λ f. IsKept f × (words.old ≡ fraction_text f ∷ words.new)) }
-    ensures none { IfNone result ((f : Fraction) (more : List (List ℕ)) → IsKept f → words.old ≡ fraction_text f ∷ more → ⊥) }
+    ensures none { IfNone result ((f : Fraction) (more : List (List ℕ)) → IsKept f
+        → words.old ≡ fraction_text f ∷ more → ⊥) }
 {
     let Some(word) = words.next() else {
         return None;

@@ -39,7 +39,8 @@ fn put_term(text: &mut String, term: &Term) -> Result<(), OutOfMemory>
 }
 
 fn put_terms(text: &mut String, terms: &[Term]) -> Result<(), OutOfMemory>
-    ensures { IfOk result (λ _. string_bytes text.new ≡ string_bytes text.old ++ spaced (map term_word terms.now)) }
+    ensures { IfOk result (λ _. string_bytes text.new
+        ≡ string_bytes text.old ++ spaced (map term_word terms.now)) }
 {
     for term in terms {
         put_term(text, term)?;
@@ -61,7 +62,8 @@ fn put_head(text: &mut String, row: &Row) -> Result<(), OutOfMemory>
 }
 
 pub(crate) fn put_row(text: &mut String, row: &Row) -> Result<(), OutOfMemory>
-    ensures { IfOk result (λ _. string_bytes text.new ≡ string_bytes text.old ++ (row_line row.now ++ 10 ∷ [])) }
+    ensures { IfOk result (λ _. string_bytes text.new
+        ≡ string_bytes text.old ++ (row_line row.now ++ 10 ∷ [])) }
 {
     put_head(text, row)?;
     put_terms(text, row.terms())?;
@@ -70,7 +72,8 @@ pub(crate) fn put_row(text: &mut String, row: &Row) -> Result<(), OutOfMemory>
 }
 
 pub(crate) fn put_stay(text: &mut String, stay: &Stay) -> Result<(), OutOfMemory>
-    ensures { IfOk result (λ _. string_bytes text.new ≡ string_bytes text.old ++ (stay_line stay.now ++ 10 ∷ [])) }
+    ensures { IfOk result (λ _. string_bytes text.new
+        ≡ string_bytes text.old ++ (stay_line stay.now ++ 10 ∷ [])) }
 {
     let attr = stay.attr;
     write!(text, "stay {attr} ")?;

@@ -1,5 +1,6 @@
 // Numbers as they are written: without leading zeros, a sign only below 0, fractions in lowest terms.
-ghost use Rattle.std.specs.Prelude.{◌≡◌, ℕ, ℤ, ◌<◌, ◌≤◌, ◌^◌, ◌==◌, IfSome, IfNone, All, length, decimal, unsigned_abs, IsTrue, ◌↔◌, slice_index, List, ◌∷◌, pos};
+ghost use Rattle.std.specs.Prelude.{◌≡◌, ℕ, ℤ, ◌<◌, ◌≤◌, ◌^◌, ◌==◌, IfSome, IfNone, All, length, decimal};
+ghost use Rattle.std.specs.Prelude.{unsigned_abs, IsTrue, ◌↔◌, slice_index, List, ◌∷◌, pos};
 ghost use Rattle.std.specs.Char.{IsAsciiDigit};
 ghost use Rattle.std.specs.Str.Parse.{digits_value};
 ghost use Rattle.std.specs.Fmt.{signed_decimal};
@@ -116,7 +117,8 @@ fn lowest(num: i64, den: u64) -> Option<Frac>
 // The fraction that this word is over 1.
 fn whole(word: &[u8]) -> Option<Frac>
     ensures some { IfSome result (λ f. IsKept f × (f.den ≡ 1) × (word.now ≡ signed_decimal f.num)) }
-    ensures none { IfNone result ((f : Fraction) → IsKept f → f.den ≡ 1 → word.now ≡ signed_decimal f.num → ⊥) }
+    ensures none { IfNone result ((f : Fraction) → IsKept f → f.den ≡ 1 → word.now ≡ signed_decimal f.num
+        → ⊥) }
 {
     let Some(num) = integer(word, FITTING) else {
         return None;
@@ -126,8 +128,10 @@ fn whole(word: &[u8]) -> Option<Frac>
 
 // The fraction of these two words, the second of which isn't 1.
 fn quotient(above: &[u8], below: &[u8]) -> Option<Frac>
-    ensures some { IfSome result (λ f. IsKept f × (2 ≤ f.den) × (above.now ≡ signed_decimal f.num) × (below.now ≡ decimal f.den)) }
-    ensures none { IfNone result ((f : Fraction) → IsKept f → 2 ≤ f.den → above.now ≡ signed_decimal f.num → below.now ≡ decimal f.den → ⊥) }
+    ensures some { IfSome result (λ f. IsKept f × (2 ≤ f.den) × (above.now ≡ signed_decimal f.num)
+        × (below.now ≡ decimal f.den)) }
+    ensures none { IfNone result ((f : Fraction) → IsKept f → 2 ≤ f.den → above.now ≡ signed_decimal f.num
+        → below.now ≡ decimal f.den → ⊥) }
 {
     let Some(num) = integer(above, FITTING) else {
         return None;

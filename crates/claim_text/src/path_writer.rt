@@ -31,7 +31,8 @@ fn put_in(text: &mut String, mark: Mark) -> Result<(), OutOfMemory>
 }
 
 fn put_swap(text: &mut String, swap: Swap) -> Result<(), OutOfMemory>
-    ensures { IfOk result (λ _. string_bytes text.new ≡ string_bytes text.old ++ (swap_line swap ++ 10 ∷ [])) }
+    ensures { IfOk result (λ _. string_bytes text.new
+        ≡ string_bytes text.old ++ (swap_line swap ++ 10 ∷ [])) }
 {
     write!(text, "swap ")?;
     put_mark(text, swap.enter)?;
@@ -42,7 +43,8 @@ fn put_swap(text: &mut String, swap: Swap) -> Result<(), OutOfMemory>
 }
 
 fn put_corner(text: &mut String, marks: &[Mark]) -> Result<(), OutOfMemory>
-    ensures { IfOk result (λ _. string_bytes text.new ≡ string_bytes text.old ++ text_of_lines (map in_line marks.now)) }
+    ensures { IfOk result (λ _. string_bytes text.new
+        ≡ string_bytes text.old ++ text_of_lines (map in_line marks.now)) }
 {
     for mark in marks {
         put_in(text, *mark)?;
@@ -51,7 +53,8 @@ fn put_corner(text: &mut String, marks: &[Mark]) -> Result<(), OutOfMemory>
 }
 
 fn put_swaps(text: &mut String, swaps: &[Swap]) -> Result<(), OutOfMemory>
-    ensures { IfOk result (λ _. string_bytes text.new ≡ string_bytes text.old ++ text_of_lines (map swap_line swaps.now)) }
+    ensures { IfOk result (λ _. string_bytes text.new
+        ≡ string_bytes text.old ++ text_of_lines (map swap_line swaps.now)) }
 {
     for swap in swaps {
         put_swap(text, *swap)?;

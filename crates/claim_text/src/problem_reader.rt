@@ -40,7 +40,8 @@ pub fn read_problem(alloc: Global, text: &[u8]) -> Result<Problem, ReadStop>
     ensures read { IfOk result (Reads (lines text.now)) }
     ensures stop { IfErr result (StopsAt (lines text.now)) }
     // What was written is read.
-    ensures written { (p : layout.Problem) → IsWhole p → length p.rows ≤ 2001 → length p.stays ≤ 800 → text.now ≡ problem_text p
+    ensures written { (p : layout.Problem) → IsWhole p → length p.rows ≤ 2001 → length p.stays ≤ 800
+        → text.now ≡ problem_text p
         → MatchResult result (λ q. q ≡ p) (λ stop. stop ≡ ReadStop.OutOfMemory) }
 {
     let covered = stay_attributes(alloc, text)?;

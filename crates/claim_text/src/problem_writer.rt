@@ -8,7 +8,8 @@ use problem_core::{Problem, Row, Stay};
 use std::alloc::Global;
 
 fn put_rows(text: &mut String, rows: &[Row]) -> Result<(), OutOfMemory>
-    ensures { IfOk result (λ _. string_bytes text.new ≡ string_bytes text.old ++ text_of_lines (map row_line rows.now)) }
+    ensures { IfOk result (λ _. string_bytes text.new
+        ≡ string_bytes text.old ++ text_of_lines (map row_line rows.now)) }
 {
     for row in rows {
         put_row(text, row)?;
@@ -17,7 +18,8 @@ fn put_rows(text: &mut String, rows: &[Row]) -> Result<(), OutOfMemory>
 }
 
 fn put_stays(text: &mut String, stays: &[Stay]) -> Result<(), OutOfMemory>
-    ensures { IfOk result (λ _. string_bytes text.new ≡ string_bytes text.old ++ text_of_lines (map stay_line stays.now)) }
+    ensures { IfOk result (λ _. string_bytes text.new
+        ≡ string_bytes text.old ++ text_of_lines (map stay_line stays.now)) }
 {
     for stay in stays {
         put_stay(text, stay)?;

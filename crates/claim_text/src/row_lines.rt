@@ -26,7 +26,8 @@ struct Head {
 
 fn read_head(words: &mut Words) -> Option<Head>
     ensures some { IfSome result (λ h. IsHead h × (words.old ≡ head_words h ++ words.new)) }
-    ensures none { IfNone result ((h : Head) (more : List (List ℕ)) → IsHead h → words.old ≡ head_words h ++ more → ⊥) }
+    ensures none { IfNone result ((h : Head) (more : List (List ℕ)) → IsHead h
+        → words.old ≡ head_words h ++ more → ⊥) }
 {
     if !next_is(words, b"row") {
         return None;
@@ -68,7 +69,8 @@ fn make_row(alloc: Global, head: Head, terms: &[Term]) -> Result<Row, OutOfMemor
 /// The row that a line says.
 pub(crate) fn read_row(alloc: Global, line: &[u8]) -> Result<Option<Row>, OutOfMemory>
     ensures some { IfOk result (λ found. IfSome found (λ r. IsRow r × (words line.now ≡ row_words r))) }
-    ensures none { IfOk result (λ found. IfNone found ((r : layout.Row) → IsRow r → words line.now ≡ row_words r → ⊥)) }
+    ensures none { IfOk result (λ found. IfNone found ((r : layout.Row) → IsRow r
+        → words line.now ≡ row_words r → ⊥)) }
 {
     let mut words = Words::of(line);
     let Some(head) = read_head(&mut words) else {

@@ -26,7 +26,8 @@ fn no_keys(alloc: Global) -> BTreeMap<u32, u32>
 }
 
 fn note_row(keys: &mut BTreeMap<u32, u32>, row: RowName) -> Result<(), OutOfMemory>
-    ensures { IfOk result (λ _. (rows : List RowName) → AreRowKeys rows keys.old → AreRowKeys (rows ++ row ∷ []) keys.new) }
+    ensures { IfOk result (λ _. (rows : List RowName) → AreRowKeys rows keys.old
+        → AreRowKeys (rows ++ row ∷ []) keys.new) }
 {
     match row {
         RowName::Held(_) => Ok(()),
@@ -38,7 +39,8 @@ fn note_row(keys: &mut BTreeMap<u32, u32>, row: RowName) -> Result<(), OutOfMemo
 }
 
 fn note_level(keys: &mut BTreeMap<u32, u32>, level: Level) -> Result<(), OutOfMemory>
-    ensures { IfOk result (λ _. (levels : List Level) → AreLevelKeys levels keys.old → AreLevelKeys (levels ++ level ∷ []) keys.new) }
+    ensures { IfOk result (λ _. (levels : List Level) → AreLevelKeys levels keys.old
+        → AreLevelKeys (levels ++ level ∷ []) keys.new) }
 {
     match level {
         Level::Priority(_) => Ok(()),
@@ -64,7 +66,8 @@ impl Seen {
 
     /// Adds the stay that a line names.
     pub(crate) fn note(&mut self, alloc: Global, line: &ClaimLine) -> Result<(), OutOfMemory>
-        ensures { IfOk result (λ _. (d : Draft) → MayFollow d line.now → AreSeen d self.old → AreSeen (with_line d line.now) self.new) }
+        ensures { IfOk result (λ _. (d : Draft) → MayFollow d line.now → AreSeen d self.old
+            → AreSeen (with_line d line.now) self.new) }
     {
         match line {
             ClaimLine::OfValue(_) | ClaimLine::OfBest | ClaimLine::OfConflict => Ok(()),

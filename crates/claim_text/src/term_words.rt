@@ -1,5 +1,6 @@
 // The words of the terms of a row.
-ghost use Rattle.std.specs.Prelude.{◌≡◌, ℕ, ◌<◌, ◌≤◌, ◌++◌, ◌∷◌, [], All, List, IfOk, IfSome, IfNone, IsTrue, ◌↔◌, decimal, map};
+ghost use Rattle.std.specs.Prelude.{◌≡◌, ℕ, ◌<◌, ◌≤◌, ◌++◌, ◌∷◌, [], All, List, IfOk, IfSome, IfNone, IsTrue};
+ghost use Rattle.std.specs.Prelude.{◌↔◌, decimal, map};
 ghost use Rattle.std.specs.Fmt.{signed_decimal};
 ghost use Rattle.problem_core.specs.Kept.{IsTerm};
 ghost use Rattle.problem_core.specs.declared.parts.Term.{Term};
@@ -13,8 +14,10 @@ use std::alloc::Global;
 
 // The term of an attribute and a coefficient.
 fn product(attr: &[u8], by: &[u8]) -> Option<Term>
-    ensures some { IfSome result (λ t. IsTerm t × (attr.now ≡ decimal t.attr) × (by.now ≡ signed_decimal t.by)) }
-    ensures none { IfNone result ((t : Term) → IsTerm t → attr.now ≡ decimal t.attr → by.now ≡ signed_decimal t.by → ⊥) }
+    ensures some { IfSome result (λ t. IsTerm t × (attr.now ≡ decimal t.attr)
+        × (by.now ≡ signed_decimal t.by)) }
+    ensures none { IfNone result ((t : Term) → IsTerm t → attr.now ≡ decimal t.attr
+        → by.now ≡ signed_decimal t.by → ⊥) }
 {
     let Some(attr) = natural(attr, 1, 1 << 31) else {
         return None;
@@ -71,8 +74,10 @@ fn next_term(terms: &[Term], word: &[u8]) -> Option<Term>
 
 // The terms that the words say.
 pub(crate) fn read_terms(alloc: Global, words: &mut Words) -> Result<Option<Vec<Term>>, OutOfMemory>
-    ensures some { IfOk result (λ found. IfSome found (λ v. AreTerms v.items × (words.old ≡ map term_word v.items))) }
-    ensures none { IfOk result (λ found. IfNone found ((ts : List Term) → AreTerms ts → words.old ≡ map term_word ts → ⊥)) }
+    ensures some { IfOk result (λ found. IfSome found (λ v. AreTerms v.items
+        × (words.old ≡ map term_word v.items))) }
+    ensures none { IfOk result (λ found. IfNone found ((ts : List Term) → AreTerms ts
+        → words.old ≡ map term_word ts → ⊥)) }
 {
     let mut terms = Vec::new(alloc);
     while let Some(word) = words.next() {

@@ -1,5 +1,6 @@
 // The words of a line, cut at each single space.
-ghost use Rattle.std.specs.Prelude.{◌≡◌, ◌<◌, ◌≤◌, ◌==◌, ◌∷◌, ◌++◌, [], All, List, ℕ, false, length, take, slice_index, MatchOption};
+ghost use Rattle.std.specs.Prelude.{◌≡◌, ◌<◌, ◌≤◌, ◌==◌, ◌∷◌, ◌++◌, [], All, List, ℕ, false, length, take};
+ghost use Rattle.std.specs.Prelude.{slice_index, MatchOption};
 ghost use Rattle.claim_text.specs.Words.{parts, words};
 
 use std::marker::Model;
@@ -22,7 +23,8 @@ fn end_of_part(text: &[u8], end: u8) -> usize
 
 // The part of a text before the first such byte.
 pub(crate) fn first_part(text: &[u8], end: u8) -> Cut<'_>
-    ensures text { MatchOption result.rest (text.now ≡ result.part.now) (λ rest. text.now ≡ result.part.now ++ end ∷ rest.now) }
+    ensures text { MatchOption result.rest (text.now ≡ result.part.now) (λ rest. text.now
+        ≡ result.part.now ++ end ∷ rest.now) }
     ensures free { All (λ b. (b == end) ≡ false) result.part.now }
     ensures parts { MatchOption result.rest (parts end text.now ≡ result.part.now ∷ [])
         (λ rest. parts end text.now ≡ result.part.now ∷ parts end rest.now) }
@@ -65,7 +67,8 @@ impl<'a> Words<'a> {
     }
 
     pub(crate) fn next(&mut self) -> Option<&'a [u8]>
-        ensures { MatchOption result ((self.old ≡ []) × (self.new ≡ [])) (λ word. self.old ≡ word.now ∷ self.new) }
+        ensures { MatchOption result ((self.old ≡ [])
+            × (self.new ≡ [])) (λ word. self.old ≡ word.now ∷ self.new) }
     {
         let Some(text) = self.rest else {
             return None;

@@ -1,5 +1,6 @@
 -- Compiled lines: rows whose constants are sums of numbers and of multiples of metrics.
-use Rattle.std.specs.Prelude.{◌≡◌, ℕ, ◌+◌, ◌*◌, ◌<◌, ◌≤◌, ◌^◌, List, [], ◌∷◌, length, map, take, slice_index_or, All, AllPairs, ℤ, pos, ◌*ℤ◌}
+use Rattle.std.specs.Prelude.{◌≡◌, ℕ, ◌+◌, ◌*◌, ◌<◌, ◌≤◌, ◌^◌, List, [], ◌∷◌, length, map, take}
+use Rattle.std.specs.Prelude.{slice_index_or, All, AllPairs, ℤ, pos, ◌*ℤ◌}
 use Rattle.frac_core.specs.Fraction.{Fraction, IsLowest, Fits, IsKept}
 use Rattle.problem_core.specs.declared.parts.Rel.{Rel}
 use Rattle.problem_core.specs.declared.parts.Term.{Term}
@@ -53,7 +54,8 @@ IsSmallAfter metrics steps i s = IsSmallConstant s.scale (step_sum metrics (take
 
 -- after each step the constant is small
 abbrev pub AreSmallSteps : MetricList → List Step → Type 0
-AreSmallSteps metrics steps = (i : ℕ) (d : Step) → i < length steps → IsSmallAfter metrics steps i (slice_index_or steps i d)
+AreSmallSteps metrics steps = (i : ℕ) (d : Step) → i < length steps
+    → IsSmallAfter metrics steps i (slice_index_or steps i d)
 
 -- the row for these metrics
 pub record IsRowNow (metrics : MetricList) (form : RowForm) (row : Row) : Type 0 where
@@ -72,11 +74,15 @@ AreSmallForms metrics forms = All (λ f. AreSmallSteps metrics f.steps) forms
 -- the rows for these metrics, in order
 pub record AreRowsNow (metrics : MetricList) (forms : List RowForm) (rows : List Row) : Type 0 where
   pub long : length rows ≡ length forms
-  pub each : (i : ℕ) (f : RowForm) (r : Row) → i < length forms → IsRowNow metrics (slice_index_or forms i f) (slice_index_or rows i r)
+  pub each : (i : ℕ) (f : RowForm) (r : Row) → i < length forms
+      → IsRowNow metrics (slice_index_or forms i f) (slice_index_or rows i r)
   pub small : AreSmallForms metrics forms
 
 -- the rows' constants for these metrics, in order
-pub record AreConstantsNow (metrics : MetricList) (forms : List RowForm) (constants : List Fraction) : Type 0 where
+pub record AreConstantsNow (metrics : MetricList) (forms : List RowForm)
+    (constants : List Fraction) : Type 0 where
   pub long : length constants ≡ length forms
-  pub each : (i : ℕ) (f : RowForm) (c : Fraction) → i < length forms → IsConstant (last_scale (slice_index_or forms i f).steps) (step_sum metrics (slice_index_or forms i f).steps) (slice_index_or constants i c)
+  pub each : (i : ℕ) (f : RowForm) (c : Fraction) → i < length forms
+      → IsConstant (last_scale (slice_index_or forms i f).steps)
+      (step_sum metrics (slice_index_or forms i f).steps) (slice_index_or constants i c)
   pub small : AreSmallForms metrics forms

@@ -15,7 +15,8 @@ use Rattle.constraint_compile.specs.declared.stops.CompileStop.TheVariants.{Unkn
 -- the rows of the lines, or the first limit that they pass, if it isn't the first of all
 abbrev pub IsFound : List LiveView → MetricList → List Linear → ℕ → List RowForm → Option LimitWord → Type 0
 IsFound views metrics lines first rows None = AreRowsOf views metrics lines first rows
-IsFound views metrics lines first rows (Some limit.Coefficient) = PassesFirst views metrics lines limit.Coefficient
+IsFound views metrics lines first rows
+    (Some limit.Coefficient) = PassesFirst views metrics lines limit.Coefficient
 IsFound views metrics lines first rows (Some limit.Constant) = PassesFirst views metrics lines limit.Constant
 IsFound views metrics lines first rows (Some _) = ⊥
 

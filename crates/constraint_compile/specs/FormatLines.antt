@@ -1,5 +1,6 @@
 -- Each row of a format is the row of a linear line.
-use Rattle.std.specs.Prelude.{ℕ, ◌+◌, pos, negsuc, ℤ, false, true, List, [], ◌∷◌, ◌++◌, Bool, Option, None, Some, is_some, if◌then◌else◌, map}
+use Rattle.std.specs.Prelude.{ℕ, ◌+◌, pos, negsuc, ℤ, false, true, List, [], ◌∷◌, ◌++◌, Bool, Option, None}
+use Rattle.std.specs.Prelude.{Some, is_some, if◌then◌else◌, map}
 use Rattle.std.specs.Option.{option_map, option_and_then, option_to_list}
 use Rattle.frac_core.specs.Fraction.{Fraction}
 use Rattle.span_text.specs.Objects as object
@@ -42,10 +43,15 @@ abbrev pub number : ℤ → Fraction
 number (pos n) = decimal false n
 number (negsuc n) = decimal true (n + 1)
 
--- what the object stands for: the same attribute of another view where it names one, otherwise a number or a metric
+-- what the object stands for: the same attribute of another view where it names one, otherwise a number or a
+-- metric
 abbrev pub object_term : List LiveView → AttrWord → Meant → Term
 object_term views w (object.Number z) = record { by = number z; of = mean.One }
-object_term views w (object.Name name) = record { by = decimal false 1000; of = (if is_some (view_named views name) then mean.Attr name w else mean.Metric name) }
+object_term views w (object.Name name) = record {
+  by = decimal false 1000;
+  of = (if is_some
+      (view_named views name) then mean.Attr name w else mean.Metric name);
+}
 
 -- the first end is so related to the second one, if there is one, with the object added
 abbrev pub line_of : List LiveView → Span → PredMeaning → Linear

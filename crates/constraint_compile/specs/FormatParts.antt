@@ -4,7 +4,8 @@ use Rattle.problem_core.specs.declared.parts.Rel.TheVariants as rel
 use Rattle.span_text.specs.Objects as object
 use Rattle.vfl_text.specs.declared.parts.Axis.{Axis}
 use Rattle.vfl_text.specs.declared.parts.Axis.TheVariants as axis
-use Rattle.vfl_text.specs.Formats.{PredMeaning, GapMeaning, Flush, Standard, Given, ItemMeaning, FormatMeaning}
+use Rattle.vfl_text.specs.Formats.{PredMeaning, GapMeaning, Flush, Standard, Given, ItemMeaning}
+use Rattle.vfl_text.specs.Formats.{FormatMeaning}
 use Rattle.script_text.specs.declared.words.Align.{Align}
 use Rattle.script_text.specs.declared.words.Align.TheVariants as align
 use Rattle.script_text.specs.declared.words.AttrWord.{AttrWord}
@@ -91,7 +92,8 @@ item_parts a i = View i.name ∷ asks (size a i.name) i.sizes
 abbrev pub chain_parts : Axis → List ℕ → List GapMeaning → List ItemMeaning → List Part
 chain_parts a before [] is = []
 chain_parts a before (g ∷ gs) [] = []
-chain_parts a before (g ∷ gs) (i ∷ is) = gap_parts (between a before i.name) 8000 g ++ (item_parts a i ++ chain_parts a i.name gs is)
+chain_parts a before (g ∷ gs) (i ∷ is) = gap_parts (between a before i.name) 8000 g
+    ++ (item_parts a i ++ chain_parts a i.name gs is)
 
 abbrev pub front_parts : Axis → List ℕ → Option GapMeaning → List Part
 front_parts a name None = []

@@ -1,5 +1,6 @@
 -- What is wrong with a format, for a list of views and a list of metrics.
-use Rattle.std.specs.Prelude.{⊤, ◌≡◌, ℕ, ◌+◌, ◌<◌, ◌^◌, List, [], ◌∷◌, Option, None, Some, is_some, is_none, Bool, true, false, ◌&&◌, ◌||◌}
+use Rattle.std.specs.Prelude.{⊤, ◌≡◌, ℕ, ◌+◌, ◌<◌, ◌^◌, List, [], ◌∷◌, Option, None, Some, is_some, is_none}
+use Rattle.std.specs.Prelude.{Bool, true, false, ◌&&◌, ◌||◌}
 use Rattle.std.specs.List.{list_any}
 use Rattle.std.specs.Option.{option_or, option_map, option_and_then}
 use Rattle.span_text.specs.Objects as object
@@ -17,7 +18,8 @@ use Rattle.constraint_compile.specs.FormatParts.{Span, Part, View, Bar, Asks}
 
 -- the name in the object or the priority that is no view's and no metric's
 abbrev pub unknown_pred : List LiveView → MetricList → PredMeaning → Option (List ℕ)
-unknown_pred views metrics p = option_or (unknown_object views metrics (Some p.object)) (unknown_object views metrics p.priority)
+unknown_pred views metrics p = option_or (unknown_object views metrics (Some p.object))
+    (unknown_object views metrics p.priority)
 
 abbrev pub unknown_part : List LiveView → MetricList → Part → Option (List ℕ)
 unknown_part views metrics (View name) = unless (is_some (view_named views name)) name
@@ -27,7 +29,8 @@ unknown_part views metrics (Asks span pred) = unknown_pred views metrics pred
 -- the first such name
 abbrev pub unknown_parts : List LiveView → MetricList → List Part → Option (List ℕ)
 unknown_parts views metrics [] = None
-unknown_parts views metrics (p ∷ ps) = option_or (unknown_part views metrics p) (unknown_parts views metrics ps)
+unknown_parts views metrics (p ∷ ps) = option_or (unknown_part views metrics p)
+    (unknown_parts views metrics ps)
 
 -- ---- wrong uses
 
@@ -48,7 +51,8 @@ is_along a (Some w) = runs_along a w
 
 -- the parent of the view of this name
 abbrev pub parent_of : List LiveView → List ℕ → Option ℕ
-parent_of views name = option_and_then (λ id. option_and_then (λ v. v.parent) (view_of views id)) (option_map (λ v. v.id) (view_named views name))
+parent_of views name = option_and_then (λ id. option_and_then (λ v. v.parent) (view_of views id))
+    (option_map (λ v. v.id) (view_named views name))
 
 -- the parent's bar stands where there is no parent
 abbrev pub lacks_parent : List LiveView → Part → Bool

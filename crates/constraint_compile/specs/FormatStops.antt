@@ -8,7 +8,8 @@ use Rattle.view_tree.specs.Views.{LiveView}
 use Rattle.constraint_compile.specs.Meaning.{MetricList}
 use Rattle.constraint_compile.specs.FormatParts.{Part}
 use Rattle.constraint_compile.specs.FormatLines.{lines_of}
-use Rattle.constraint_compile.specs.FormatRefusals.{unknown_parts, is_along, lacks_parent, has_view_space, HaveRanks}
+use Rattle.constraint_compile.specs.FormatRefusals.{unknown_parts, is_along, lacks_parent, has_view_space}
+use Rattle.constraint_compile.specs.FormatRefusals.{HaveRanks}
 use Rattle.constraint_compile.specs.declared.stops.CompileStop.{CompileStop}
 use Rattle.constraint_compile.specs.declared.stops.CompileStop.TheVariants.{Unknown, Kind, Limit, OutOfMemory}
 use Rattle.constraint_compile.specs.declared.stops.KindWord.{KindWord}
@@ -24,7 +25,8 @@ pub record IsPastNumbers (first count : ℕ) : Type 0 where
   pub past : 2 ^ 31 < first + count
 
 -- each name is known, and no use is wrong
-pub record IsUsableFormat (views : List LiveView) (metrics : MetricList) (axis : Axis) (align : Option Align) (parts : List Part) : Type 0 where
+pub record IsUsableFormat (views : List LiveView) (metrics : MetricList) (axis : Axis) (align : Option Align)
+    (parts : List Part) : Type 0 where
   pub known : unknown_parts views metrics parts ≡ None
   pub across : is_along axis align ≡ false
   pub parents : list_any (lacks_parent views) parts ≡ false
@@ -34,9 +36,13 @@ pub record IsUsableFormat (views : List LiveView) (metrics : MetricList) (axis :
 -- the first wrong use
 abbrev pub IsWrongFormat : List LiveView → MetricList → Axis → Option Align → List Part → KindWord → Type 0
 IsWrongFormat views metrics axis align parts kind.Align = is_along axis align ≡ true
-IsWrongFormat views metrics axis align parts kind.Parent = (is_along axis align ≡ false) × (list_any (lacks_parent views) parts ≡ true)
-IsWrongFormat views metrics axis align parts kind.Object = (is_along axis align ≡ false) × (list_any (lacks_parent views) parts ≡ false) × (list_any (has_view_space views) parts ≡ true)
-IsWrongFormat views metrics axis align parts kind.Priority = (is_along axis align ≡ false) × (list_any (lacks_parent views) parts ≡ false) × (list_any (has_view_space views) parts ≡ false) × (HaveRanks views metrics parts → ⊥)
+IsWrongFormat views metrics axis align parts kind.Parent = (is_along axis align ≡ false)
+    × (list_any (lacks_parent views) parts ≡ true)
+IsWrongFormat views metrics axis align parts kind.Object = (is_along axis align ≡ false)
+    × (list_any (lacks_parent views) parts ≡ false) × (list_any (has_view_space views) parts ≡ true)
+IsWrongFormat views metrics axis align parts kind.Priority = (is_along axis align ≡ false)
+    × (list_any (lacks_parent views) parts ≡ false) × (list_any (has_view_space views) parts ≡ false)
+    × (HaveRanks views metrics parts → ⊥)
 IsWrongFormat views metrics axis align parts _ = ⊥
 
 -- when a name may be refused
@@ -47,8 +53,13 @@ MayBeUnknown views metrics parts (Kind word) = ⊥
 MayBeUnknown views metrics parts (Limit word) = ⊥
 
 -- when a format may be refused, numbered from the first number
-abbrev pub MayStopBefore : List LiveView → MetricList → Axis → Option Align → List Part → ℕ → CompileStop → Type 0
-MayStopBefore views metrics axis align parts first (Unknown name) = unknown_parts views metrics parts ≡ Some name
-MayStopBefore views metrics axis align parts first (Kind word) = (unknown_parts views metrics parts ≡ None) × IsWrongFormat views metrics axis align parts word
-MayStopBefore views metrics axis align parts first (Limit word) = IsUsableFormat views metrics axis align parts × (word ≡ limit.Rows) × IsPastNumbers first (row_count views parts)
+abbrev pub MayStopBefore : List LiveView → MetricList → Axis → Option Align → List Part → ℕ → CompileStop
+    → Type 0
+MayStopBefore views metrics axis align parts first (Unknown name) = unknown_parts views metrics parts
+    ≡ Some name
+MayStopBefore views metrics axis align parts first (Kind word) = (unknown_parts views metrics parts ≡ None)
+    × IsWrongFormat views metrics axis align parts word
+MayStopBefore views metrics axis align parts first
+    (Limit word) = IsUsableFormat views metrics axis align parts × (word ≡ limit.Rows)
+    × IsPastNumbers first (row_count views parts)
 MayStopBefore views metrics axis align parts first OutOfMemory = ⊤

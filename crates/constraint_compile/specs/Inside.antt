@@ -8,7 +8,14 @@ use Rattle.constraint_compile.specs.Keeps.{steps_view, AreScalesKept}
 use Rattle.constraint_compile.specs.declared.compiled.RowForm.{RowForm}
 
 abbrev pub form_view : RowForm → compiled.RowForm
-form_view r = record { id = r.id; rank = r.rank; weight = r.weight; rel = r.rel; terms = r.terms.items; steps = steps_view (map string_bytes r.names.items) r.steps.items }
+form_view r = record {
+  id = r.id;
+  rank = r.rank;
+  weight = r.weight;
+  rel = r.rel;
+  terms = r.terms.items;
+  steps = steps_view (map string_bytes r.names.items) r.steps.items;
+}
 
 abbrev pub line_of : List RowForm → List ViewId → compiled.CompiledLine
 line_of rows views = record { rows = map form_view rows; views = map (λ v. v.0) views }

@@ -1,5 +1,6 @@
 -- What a compiled line keeps.
-use Rattle.std.specs.Prelude.{◌≡◌, ℕ, ◌<◌, ◌≤◌, ◌^◌, Bool, true, false, List, [], map, length, slice_index_or, All, AllPairs}
+use Rattle.std.specs.Prelude.{◌≡◌, ℕ, ◌<◌, ◌≤◌, ◌^◌, Bool, true, false, List, [], map, length, slice_index_or}
+use Rattle.std.specs.Prelude.{All, AllPairs}
 use Rattle.std.specs.List.{list_any}
 use Rattle.problem_core.specs.Kept.{IsTerm}
 use Rattle.script_text.specs.Meaning as mean

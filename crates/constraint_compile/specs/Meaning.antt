@@ -1,5 +1,7 @@
 -- What a linear line means, for a list of views and a list of metrics.
-use Rattle.std.specs.Prelude.{◌≡◌, ◌≢◌, ℕ, ◌+◌, ◌*◌, ◌<◌, ◌≤◌, List, [], ◌∷◌, ◌++◌, map, take, length, Option, Some, None, is_some, Bool, true, false, ◌||◌, ℤ, pos, ◌*ℤ◌, unwrap_or, All, AllPairs, IsSome}
+use Rattle.std.specs.Prelude.{◌≡◌, ◌≢◌, ℕ, ◌+◌, ◌*◌, ◌<◌, ◌≤◌, List, [], ◌∷◌, ◌++◌, map, take, length, Option}
+use Rattle.std.specs.Prelude.{Some, None, is_some, Bool, true, false, ◌||◌, ℤ, pos, ◌*ℤ◌, unwrap_or, All}
+use Rattle.std.specs.Prelude.{AllPairs, IsSome}
 use Rattle.std.specs.List.{Any, list_any}
 use Rattle.std.specs.Option.{option_or, option_map, option_to_list}
 use Rattle.frac_core.specs.Fraction.{Fraction}
@@ -23,12 +25,15 @@ MetricList = List (List ℕ × Fraction)
 
 -- so many times the edge, and so many times the size, of a view along one direction
 abbrev pub horizontal : ℕ → ℕ → ℕ → List Term
-horizontal view edge size = record { attr = 4 * view + 1; by = pos edge } ∷ record { attr = 4 * view + 3; by = pos size } ∷ []
+horizontal view edge size = record { attr = 4 * view + 1; by = pos edge }
+    ∷ record { attr = 4 * view + 3; by = pos size } ∷ []
 
 abbrev pub vertical : ℕ → ℕ → ℕ → List Term
-vertical view edge size = record { attr = 4 * view + 2; by = pos edge } ∷ record { attr = 4 * view + 4; by = pos size } ∷ []
+vertical view edge size = record { attr = 4 * view + 2; by = pos edge }
+    ∷ record { attr = 4 * view + 4; by = pos size } ∷ []
 
--- twice an attribute of a view, by the attributes that are kept: those of the view v are 4v+1 (left), 4v+2 (top), 4v+3 (width), 4v+4 (height)
+-- twice an attribute of a view, by the attributes that are kept: those of the view v are 4v+1 (left), 4v+2
+-- (top), 4v+3 (width), 4v+4 (height)
 abbrev pub doubled : ℕ → AttrWord → List Term
 doubled view word.Left = horizontal view 2 0
 doubled view word.Leading = horizontal view 2 0
@@ -53,7 +58,11 @@ terms_of l = l.left ++ map minus l.right
 
 abbrev pub share_in : Option LiveView → Fraction → AttrWord → ℕ → Fraction
 share_in None by word v = zero_fraction
-share_in (Some view) by word v = record { num = by.num *ℤ coefficient v (doubled view.id word); den = by.den * 2 }
+share_in (Some view) by word v = record {
+  num = by.num *ℤ coefficient v (doubled view.id word);
+  den = by.den
+      * 2;
+}
 
 -- how often so many times an operand has the attribute v
 abbrev pub share_of : List LiveView → ℕ → Fraction → Operand → Fraction
@@ -121,11 +130,13 @@ unknown_object views metrics None = None
 -- the first such name among the terms
 abbrev pub unknown_among : List LiveView → MetricList → List mean.Term → Option (List ℕ)
 unknown_among views metrics [] = None
-unknown_among views metrics (t ∷ ts) = option_or (unknown_in views metrics t.of) (unknown_among views metrics ts)
+unknown_among views metrics (t ∷ ts) = option_or (unknown_in views metrics t.of)
+    (unknown_among views metrics ts)
 
 -- the first such name in the line
 abbrev pub first_unknown : List LiveView → MetricList → Linear → Option (List ℕ)
-first_unknown views metrics l = option_or (unknown_among views metrics (terms_of l)) (unknown_object views metrics l.priority)
+first_unknown views metrics l = option_or (unknown_among views metrics (terms_of l))
+    (unknown_object views metrics l.priority)
 
 -- a view stands for a number
 abbrev pub is_view_number : List LiveView → Operand → Bool
@@ -144,7 +155,8 @@ IsInThousand r = (0 < r) × (r ≤ 1000)
 abbrev pub IsRank : List LiveView → MetricList → Option Meant → ℕ → Type 0
 IsRank views metrics None r = r ≡ 1000
 IsRank views metrics (Some (object.Number z)) r = (z ≡ pos (r * 1000)) × IsInThousand r
-IsRank views metrics (Some (object.Name name)) r = (view_named views name ≡ None) × (value_of metrics name ≡ Some (record { num = pos r; den = 1 })) × IsInThousand r
+IsRank views metrics (Some (object.Name name)) r = (view_named views name ≡ None)
+    × (value_of metrics name ≡ Some (record { num = pos r; den = 1 })) × IsInThousand r
 
 -- the number of the view that an operand names
 abbrev pub view_in : List LiveView → Operand → List ℕ

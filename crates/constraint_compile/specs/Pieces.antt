@@ -1,5 +1,6 @@
 -- Fractions that need not be in lowest terms, as the code keeps them, and their sums doubled.
-use Rattle.std.specs.Prelude.{◌≡◌, ◌≢◌, ℕ, AllPairs, ◌*◌, ◌<◌, ◌≤◌, ◌^◌, List, length, ℤ, pos, ◌+ℤ◌, ◌*ℤ◌, ◌<ℤ◌, unsigned_abs, All}
+use Rattle.std.specs.Prelude.{◌≡◌, ◌≢◌, ℕ, AllPairs, ◌*◌, ◌<◌, ◌≤◌, ◌^◌, List, length, ℤ, pos, ◌+ℤ◌, ◌*ℤ◌}
+use Rattle.std.specs.Prelude.{◌<ℤ◌, unsigned_abs, All}
 use Rattle.frac_core.specs.Fraction.{Fraction}
 use Rattle.constraint_compile.specs.Fractions.{total}
 use Rattle.constraint_compile.specs.Shares.{IsOff}
@@ -14,12 +15,14 @@ pub record IsPiece (p : Piece) : Type 0 where
   pub above : pos 0 <ℤ p.den
   pub den : unsigned_abs p.den ≤ 2 ^ 43
 
--- twice the sum of the pieces is the whole number and the sum of the rests, each of which is less than 1 in size
+-- twice the sum of the pieces is the whole number and the sum of the rests, each of which is less than 1 in
+-- size
 pub record AreDoubled (pieces : List Piece) (whole : ℤ) (rests : List Piece) : Type 0 where
   pub long : length rests ≡ length pieces
   pub kept : All IsPiece rests
   pub den : (total piece_value rests).den ≡ (total piece_value pieces).den
-  pub value : whole *ℤ pos (total piece_value pieces).den +ℤ (total piece_value rests).num ≡ pos 2 *ℤ (total piece_value pieces).num
+  pub value : whole *ℤ pos (total piece_value pieces).den +ℤ (total piece_value rests).num
+      ≡ pos 2 *ℤ (total piece_value pieces).num
   pub low : unsigned_abs (total piece_value rests).num ≤ length pieces * (total piece_value pieces).den
   pub small : unsigned_abs whole ≤ length pieces * 2 ^ 45
 

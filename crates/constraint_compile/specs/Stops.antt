@@ -1,14 +1,17 @@
 -- When a line isn't compiled.
-use Rattle.std.specs.Prelude.{◌≡◌, ◌≢◌, ℕ, ◌+◌, ◌<◌, ◌≤◌, ◌^◌, Bool, true, false, List, [], ◌∷◌, length, map, take, Option, None, Some, slice_index_or, ⊤}
+use Rattle.std.specs.Prelude.{◌≡◌, ◌≢◌, ℕ, ◌+◌, ◌<◌, ◌≤◌, ◌^◌, Bool, true, false, List, [], ◌∷◌, length, map}
+use Rattle.std.specs.Prelude.{take, Option, None, Some, slice_index_or, ⊤}
 use Rattle.std.specs.List.{Any}
 use Rattle.name_tables.specs.declared.stops.LimitWord.{LimitWord}
 use Rattle.name_tables.specs.declared.stops.LimitWord.TheVariants as limit
 use Rattle.view_tree.specs.Views.{LiveView}
 use Rattle.script_text.specs.Meaning.{Term, Linear}
 use Rattle.constraint_compile.specs.Fractions.{IsScale, AreSmall}
-use Rattle.constraint_compile.specs.Meaning.{MetricList, part, terms_of, sum_at, first_unknown, has_view_number, IsRank, IsInThousand, views_in}
+use Rattle.constraint_compile.specs.Meaning.{MetricList, part, terms_of, sum_at, first_unknown}
+use Rattle.constraint_compile.specs.Meaning.{has_view_number, IsRank, IsInThousand, views_in}
 use Rattle.constraint_compile.specs.Sums.{first_sum, HasTooMany, AreTerms}
-use Rattle.constraint_compile.specs.Compiled.{Step, RowForm, CompiledLine, AreSmallSteps, AreSmallForms, last_scale}
+use Rattle.constraint_compile.specs.Compiled.{Step, RowForm, CompiledLine, AreSmallSteps, AreSmallForms}
+use Rattle.constraint_compile.specs.Compiled.{last_scale}
 use Rattle.constraint_compile.specs.declared.stops.CompileStop.{CompileStop}
 use Rattle.constraint_compile.specs.declared.stops.CompileStop.TheVariants.{Unknown, Kind, Limit, OutOfMemory}
 use Rattle.constraint_compile.specs.declared.stops.KindWord.{KindWord}
@@ -24,8 +27,10 @@ HasRank views metrics l = (rank : ℕ) × IsRank views metrics l.priority rank
 -- the first wrong use of the line
 abbrev pub IsWrongUse : List LiveView → MetricList → Linear → KindWord → Type 0
 IsWrongUse views metrics l kind.Object = has_view_number views (terms_of l) ≡ true
-IsWrongUse views metrics l kind.Priority = (has_view_number views (terms_of l) ≡ false) × (HasRank views metrics l → ⊥)
-IsWrongUse views metrics l kind.Weight = (has_view_number views (terms_of l) ≡ false) × HasRank views metrics l × (IsInThousand l.weight → ⊥)
+IsWrongUse views metrics l kind.Priority = (has_view_number views (terms_of l) ≡ false)
+    × (HasRank views metrics l → ⊥)
+IsWrongUse views metrics l kind.Weight = (has_view_number views (terms_of l) ≡ false)
+    × HasRank views metrics l × (IsInThousand l.weight → ⊥)
 IsWrongUse views metrics l _ = ⊥
 
 -- no use in the line is wrong
@@ -42,7 +47,8 @@ AreSmallSums views terms = (i : ℕ) → i < length terms → AreSmall (first_su
 -- the steps are those of the terms: the scale after each, and what each adds to the constant
 pub record AreSteps (views : List LiveView) (terms : List Term) (steps : List Step) : Type 0 where
   pub long : length steps ≡ length terms
-  pub scales : (i : ℕ) (d : Step) → i < length terms → IsScale (first_sum views terms (i + 1)) (slice_index_or steps i d).scale
+  pub scales : (i : ℕ) (d : Step) → i < length terms
+      → IsScale (first_sum views terms (i + 1)) (slice_index_or steps i d).scale
   pub parts : map (λ s. s.part) steps ≡ map part terms
 
 -- the row of a sum of terms: its scale, its coefficients, and the steps of its constant
@@ -53,7 +59,8 @@ pub record IsSumRow (views : List LiveView) (summed : List Term) (row : RowForm)
   pub steps : AreSteps views summed row.steps
 
 -- the row of a line: its number, rank, weight and relation, and the row of the sum of its terms
-pub record IsRowOf (views : List LiveView) (metrics : MetricList) (l : Linear) (number : ℕ) (row : RowForm) : Type 0 where
+pub record IsRowOf (views : List LiveView) (metrics : MetricList) (l : Linear) (number : ℕ)
+    (row : RowForm) : Type 0 where
   pub id : row.id ≡ number
   pub rank : IsRank views metrics l.priority row.rank
   pub weight : row.weight ≡ l.weight
@@ -61,24 +68,29 @@ pub record IsRowOf (views : List LiveView) (metrics : MetricList) (l : Linear) (
   pub sum : IsSumRow views (terms_of l) row
 
 -- the terms pass no limit of a row whose constant has these steps
-pub record IsWithinLimits (views : List LiveView) (metrics : MetricList) (terms : List Term) (steps : List Step) : Type 0 where
+pub record IsWithinLimits (views : List LiveView) (metrics : MetricList) (terms : List Term)
+    (steps : List Step) : Type 0 where
   pub few : HasTooMany (sum_at views terms) → ⊥
   pub small : AreSmallSums views terms
   pub constants : AreSmallSteps metrics steps
 
 -- a line within all limits, and what it is compiled to
-pub record IsCompiled (views : List LiveView) (metrics : MetricList) (l : Linear) (number : ℕ) (c : CompiledLine) : Type 0 where
+pub record IsCompiled (views : List LiveView) (metrics : MetricList) (l : Linear) (number : ℕ)
+    (c : CompiledLine) : Type 0 where
   pub usable : IsUsable views metrics l
   pub numbers : number < 2 ^ 31
   pub count : length (terms_of l) ≤ 64
-  pub row : (r : RowForm) × (c.rows ≡ r ∷ []) × IsRowOf views metrics l number r × IsWithinLimits views metrics (terms_of l) r.steps
+  pub row : (r : RowForm) × (c.rows ≡ r ∷ []) × IsRowOf views metrics l number r
+      × IsWithinLimits views metrics (terms_of l) r.steps
   pub views_named : c.views ≡ views_in views (terms_of l)
 
 -- the first limit of a row that the terms pass
 abbrev pub PassesRowLimit : List LiveView → MetricList → List Term → LimitWord → Type 0
 PassesRowLimit views metrics terms limit.Attributes = HasTooMany (sum_at views terms)
-PassesRowLimit views metrics terms limit.Coefficient = (HasTooMany (sum_at views terms) → ⊥) × (AreSmallSums views terms → ⊥)
-PassesRowLimit views metrics terms limit.Constant = (HasTooMany (sum_at views terms) → ⊥) × AreSmallSums views terms
+PassesRowLimit views metrics terms limit.Coefficient = (HasTooMany (sum_at views terms) → ⊥)
+    × (AreSmallSums views terms → ⊥)
+PassesRowLimit views metrics terms limit.Constant = (HasTooMany (sum_at views terms) → ⊥)
+    × AreSmallSums views terms
     × ((steps : List Step) × AreSteps views terms steps × (AreSmallSteps metrics steps → ⊥))
 PassesRowLimit views metrics terms _ = ⊥
 
@@ -86,13 +98,15 @@ PassesRowLimit views metrics terms _ = ⊥
 abbrev pub PassesLimit : List LiveView → MetricList → Linear → ℕ → LimitWord → Type 0
 PassesLimit views metrics l number limit.Rows = 2 ^ 31 ≤ number
 PassesLimit views metrics l number limit.Terms = (number < 2 ^ 31) × (64 < length (terms_of l))
-PassesLimit views metrics l number word = (number < 2 ^ 31) × (length (terms_of l) ≤ 64) × PassesRowLimit views metrics (terms_of l) word
+PassesLimit views metrics l number word = (number < 2 ^ 31) × (length (terms_of l) ≤ 64)
+    × PassesRowLimit views metrics (terms_of l) word
 
 -- when a line may be refused
 abbrev pub MayStop : List LiveView → MetricList → Linear → ℕ → CompileStop → Type 0
 MayStop views metrics l number (Unknown name) = first_unknown views metrics l ≡ Some name
 MayStop views metrics l number (Kind word) = AreKnown views metrics l × IsWrongUse views metrics l word
-MayStop views metrics l number (Limit word) = IsUsable views metrics l × PassesLimit views metrics l number word
+MayStop views metrics l number (Limit word) = IsUsable views metrics l
+    × PassesLimit views metrics l number word
 MayStop views metrics l number OutOfMemory = ⊤
 
 -- why terms have no row

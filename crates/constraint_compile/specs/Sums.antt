@@ -1,5 +1,6 @@
 -- Sums of terms as the code keeps them: whole numbers by attribute, over a common scale.
-use Rattle.std.specs.Prelude.{◌≡◌, ◌≢◌, ℕ, ◌+◌, ◌*◌, ◌<◌, ◌≤◌, ◌^◌, List, length, take, slice_index_or, ℤ, pos, ◌+ℤ◌, ◌*ℤ◌, unsigned_abs, All, AllPairs}
+use Rattle.std.specs.Prelude.{◌≡◌, ◌≢◌, ℕ, ◌+◌, ◌*◌, ◌<◌, ◌≤◌, ◌^◌, List, length, take, slice_index_or, ℤ}
+use Rattle.std.specs.Prelude.{pos, ◌+ℤ◌, ◌*ℤ◌, unsigned_abs, All, AllPairs}
 use Prim.Native.Nat.{◌∣◌}
 use Rattle.frac_core.specs.Fraction.{Fraction}
 use Rattle.problem_core.specs.declared.parts.Term.{Term as RowTerm}
@@ -52,7 +53,8 @@ with_share_number z k s v = z *ℤ pos (s.by.den * 2) +ℤ s.by.num *ℤ (pos k 
 abbrev pub IsCovered : List ℕ → Share → Type 0
 IsCovered attrs s = (v : ℕ) → IsOff attrs v → (share_fraction s v).num ≡ pos 0
 
--- a common divisor of the whole number and the others, of which each other one is a divisor, also of multiples
+-- a common divisor of the whole number and the others, of which each other one is a divisor, also of
+-- multiples
 pub record IsDivisor (whole : ℕ) (numbers : List ℤ) (divisor : ℕ) : Type 0 where
   pub of_whole : divisor ∣ whole
   pub of_each : All (λ z. divisor ∣ unsigned_abs z) numbers
@@ -67,7 +69,8 @@ pub record AreDivided (wide : List ℤ) (divisor : ℤ) (numbers : List ℤ) : T
 -- the numbers over 1 with the share added, none of which is past 2^30
 pub record AreWhole (attrs : List ℕ) (numbers : List ℤ) (s : Share) (next : List ℤ) : Type 0 where
   pub long : length next ≡ length attrs
-  pub each : (i : ℕ) → i < length attrs → pos 2 *ℤ number_at next i ≡ with_share_number (number_at numbers i) 1 s (attr_at attrs i)
+  pub each : (i : ℕ) → i < length attrs → pos 2 *ℤ number_at next i
+      ≡ with_share_number (number_at numbers i) 1 s (attr_at attrs i)
   pub small : All (λ z. unsigned_abs z ≤ 2 ^ 30) next
 
 -- one of the numbers divided is past 2^30

@@ -1,5 +1,6 @@
 // The attributes that terms have.
-ghost use Rattle.std.specs.Prelude.{◌≡◌, ◌≢◌, ℕ, ◌<◌, ◌≤◌, ◌^◌, [], ◌∷◌, pos, false, length, slice_index_or, All, AllPairs, IsTrue, IfOk, IfSome, IfNone, OnOk};
+ghost use Rattle.std.specs.Prelude.{◌≡◌, ◌≢◌, ℕ, ◌<◌, ◌≤◌, ◌^◌, [], ◌∷◌, pos, false, length, slice_index_or};
+ghost use Rattle.std.specs.Prelude.{All, AllPairs, IsTrue, IfOk, IfSome, IfNone, OnOk};
 ghost use Rattle.std.specs.Option.{option_map};
 ghost use Rattle.script_text.specs.View.{term_view, terms_view};
 ghost use Rattle.view_tree.specs.Views.{view_named};
@@ -80,7 +81,8 @@ fn twice(view: ViewId, word: AttrWord) -> Doubled
 
 // The number of a view.
 fn number_of(tree: &Tree, name: &str) -> Option<ViewId>
-    ensures id { option_map (λ id. id.0) result ≡ option_map (λ v. v.id) (view_named tree.now.views name.now) }
+    ensures id { option_map (λ id. id.0) result ≡ option_map (λ v.
+        v.id) (view_named tree.now.views name.now) }
     ensures within { IfSome result (λ id. id.0 < 2 ^ 29) }
 {
     let _count = tree.len();
@@ -89,7 +91,8 @@ fn number_of(tree: &Tree, name: &str) -> Option<ViewId>
 
 /// What a term has of the attributes of views.
 pub(crate) fn share_of(tree: &Tree, term: &ExprTerm<'_>) -> Option<Share>
-    ensures some { IfSome result (λ s. (v : ℕ) → share tree.now.views v (term_view term.now) ≡ share_fraction s v) }
+    ensures some { IfSome result (λ s. (v : ℕ) → share tree.now.views v (term_view term.now)
+        ≡ share_fraction s v) }
     ensures halves { IfSome result (λ s. AreHalves s.of) }
     ensures none { IfNone result ((v : ℕ) → share tree.now.views v (term_view term.now) ≡ zero_fraction) }
 {
@@ -116,8 +119,10 @@ fn place_of(attrs: &[u32], attr: u32) -> usize
 }
 
 fn stands_at(attrs: &[u32], place: usize, attr: u32) -> bool
-    ensures yes { IsTrue result → (place < length attrs.now) × ((d : ℕ) → slice_index_or attrs.now place d ≡ attr) }
-    ensures no { result ≡ false → (d : ℕ) → place < length attrs.now → slice_index_or attrs.now place d ≢ attr }
+    ensures yes { IsTrue result → (place < length attrs.now)
+        × ((d : ℕ) → slice_index_or attrs.now place d ≡ attr) }
+    ensures no { result ≡ false → (d : ℕ) → place < length attrs.now
+        → slice_index_or attrs.now place d ≢ attr }
 {
     place < attrs.len() && attrs[place] == attr
 }
@@ -146,7 +151,8 @@ fn include_part(attrs: &mut Vec<u32>, part: Term) -> Result<(), OutOfMemory>
     requires number { IsNumber part.attr }
     ensures rising { OnOk result (AllPairs (λ a b. a < b) attrs.new.items) }
     ensures numbers { OnOk result (All IsNumber attrs.new.items) }
-    ensures off { OnOk result ((v : ℕ) → IsOff attrs.new.items v → IsOff attrs.old.items v × ((part.attr ≡ v) → part.by ≡ pos 0)) }
+    ensures off { OnOk result ((v : ℕ) → IsOff attrs.new.items v
+        → IsOff attrs.old.items v × ((part.attr ≡ v) → part.by ≡ pos 0)) }
 {
     if part.by == 0 {
         return Ok(());
@@ -161,7 +167,8 @@ fn include_share(attrs: &mut Vec<u32>, share: &Share) -> Result<(), OutOfMemory>
     requires halves { AreHalves share.now.of }
     ensures rising { OnOk result (AllPairs (λ a b. a < b) attrs.new.items) }
     ensures numbers { OnOk result (All IsNumber attrs.new.items) }
-    ensures off { OnOk result ((v : ℕ) → IsOff attrs.new.items v → IsOff attrs.old.items v × ((share_fraction share.now v).num ≡ pos 0)) }
+    ensures off { OnOk result ((v : ℕ) → IsOff attrs.new.items v
+        → IsOff attrs.old.items v × ((share_fraction share.now v).num ≡ pos 0)) }
 {
     include_part(attrs, share.of.edge)?;
     include_part(attrs, share.of.size)?;
@@ -174,7 +181,8 @@ fn include_term(attrs: &mut Vec<u32>, tree: &Tree, term: &ExprTerm<'_>) -> Resul
     requires numbers { All IsNumber attrs.old.items }
     ensures rising { OnOk result (AllPairs (λ a b. a < b) attrs.new.items) }
     ensures numbers { OnOk result (All IsNumber attrs.new.items) }
-    ensures off { OnOk result ((v : ℕ) → IsOff attrs.new.items v → IsOff attrs.old.items v × ((share tree.now.views v (term_view term.now)).num ≡ pos 0)) }
+    ensures off { OnOk result ((v : ℕ) → IsOff attrs.new.items v
+        → IsOff attrs.old.items v × ((share tree.now.views v (term_view term.now)).num ≡ pos 0)) }
 {
     if let Some(share) = share_of(tree, term) {
         include_share(attrs, &share)?;
@@ -190,7 +198,8 @@ pub(crate) fn attributes(
 ) -> Result<Vec<u32>, OutOfMemory>
     ensures rising { IfOk result (λ attrs. AllPairs (λ a b. a < b) attrs.items) }
     ensures numbers { IfOk result (λ attrs. All IsNumber attrs.items) }
-    ensures off { IfOk result (λ attrs. (v : ℕ) → IsOff attrs.items v → All (λ t. (share tree.now.views v (term_view t)).num ≡ pos 0) terms.now) }
+    ensures off { IfOk result (λ attrs. (v : ℕ) → IsOff attrs.items v
+        → All (λ t. (share tree.now.views v (term_view t)).num ≡ pos 0) terms.now) }
 {
     let mut attrs = Vec::new(alloc);
     for term in terms {

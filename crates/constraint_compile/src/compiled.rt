@@ -23,8 +23,8 @@ pub(crate) struct RowForm {
     pub steps: Vec<Step>,
 }
 
-/// The rows of a line, each with its constant as a sum of numbers and of multiples of metrics, and the views that the
-/// line's text names.
+/// The rows of a line, each with its constant as a sum of numbers and of multiples of metrics, and the views
+/// that the line's text names.
 #[derive(Drop)]
 pub struct Compiled {
     rows: Vec<RowForm>,

@@ -31,12 +31,12 @@ pub fn format_row_count(
     Ok(row_count(tree, &parts))
 }
 
-/// The rows of a visual format and the views that its text names. The rows are numbered from the first number, in the
-/// order of the text, those of the alignment last.
+/// The rows of a visual format and the views that its text names. The rows are numbered from the first
+/// number, in the order of the text, those of the alignment last.
 ///
-/// It stops at the first unknown name of the text, and else at the first wrong use in the order `Align`, `Parent`, `Object`,
-/// `Priority`, and else at the first limit that is passed: `Rows`, where a row's number would be 2^31 or more, then
-/// `Attributes`, `Coefficient` and `Constant`, each over all rows.
+/// It stops at the first unknown name of the text, and else at the first wrong use in the order `Align`,
+/// `Parent`, `Object`, `Priority`, and else at the first limit that is passed: `Rows`, where a row's number
+/// would be 2^31 or more, then `Attributes`, `Coefficient` and `Constant`, each over all rows.
 pub fn compile_format(
     alloc: Global,
     tree: &Tree,
@@ -46,7 +46,8 @@ pub fn compile_format(
     first: u32,
 ) -> Result<Compiled, CompileStop>
     requires first { 0 < first }
-    ensures compiled { IfOk result (IsCompiledFormat tree.now.views metrics.now (meaning format.now) align first) }
+    ensures compiled { IfOk result (IsCompiledFormat tree.now.views metrics.now
+        (meaning format.now) align first) }
     ensures stop { IfErr result (MayStopFormat tree.now.views metrics.now (meaning format.now) align first) }
 {
     let parts = parts_of(alloc, format, align)?;

@@ -1,5 +1,6 @@
 // What is wrong with a format.
-ghost use Rattle.std.specs.Prelude.{◌≡◌, ℕ, Some, None, is_some, is_none, ◌&&◌, false, IsTrue, IfSome, IfNone};
+ghost use Rattle.std.specs.Prelude.{◌≡◌, ℕ, Some, None, is_some, is_none, ◌&&◌, false, IsTrue, IfSome};
+ghost use Rattle.std.specs.Prelude.{IfNone};
 ghost use Rattle.std.specs.Option.{option_map};
 ghost use Rattle.std.specs.List.{list_any};
 ghost use Rattle.span_text.specs.Objects.{meant};
@@ -19,7 +20,8 @@ use vfl_text::{Axis, Pred};
 use view_tree::{Tree, ViewId};
 
 fn unknown_view<'a>(tree: &Tree, name: &'a str) -> Option<&'a str>
-    ensures { option_map (λ n. n.now) result ≡ unless (is_some (view_named tree.now.views name.now)) name.now }
+    ensures { option_map (λ n. n.now) result ≡ unless
+        (is_some (view_named tree.now.views name.now)) name.now }
 {
     if is_view(tree, name) {
         None
@@ -29,7 +31,8 @@ fn unknown_view<'a>(tree: &Tree, name: &'a str) -> Option<&'a str>
 }
 
 fn unknown_pred<'a>(tree: &Tree, metrics: &Metrics, pred: &Pred<'a>) -> Option<&'a str>
-    ensures { option_map (λ n. n.now) result ≡ refusals.unknown_pred tree.now.views metrics.now (pred_meaning pred.now) }
+    ensures { option_map (λ n. n.now) result ≡ refusals.unknown_pred tree.now.views metrics.now
+        (pred_meaning pred.now) }
 {
     let object = Some(pred.object);
     match unknown_priority(tree, metrics, &object) {
@@ -39,7 +42,8 @@ fn unknown_pred<'a>(tree: &Tree, metrics: &Metrics, pred: &Pred<'a>) -> Option<&
 }
 
 fn unknown_part<'a>(tree: &Tree, metrics: &Metrics, part: &Part<'a>) -> Option<&'a str>
-    ensures { option_map (λ n. n.now) result ≡ refusals.unknown_part tree.now.views metrics.now (part_view part.now) }
+    ensures { option_map (λ n. n.now) result ≡ refusals.unknown_part tree.now.views metrics.now
+        (part_view part.now) }
 {
     match part {
         Part::View { name } => unknown_view(tree, name),
@@ -54,7 +58,8 @@ pub(crate) fn unknown_among<'a>(
     metrics: &Metrics,
     parts: &[Part<'a>],
 ) -> Option<&'a str>
-    ensures { option_map (λ n. n.now) result ≡ refusals.unknown_parts tree.now.views metrics.now (parts_view parts.now) }
+    ensures { option_map (λ n. n.now) result ≡ refusals.unknown_parts tree.now.views metrics.now
+        (parts_view parts.now) }
 {
     for part in parts {
         if let Some(name) = unknown_part(tree, metrics, part) {

@@ -1,5 +1,6 @@
 // The linear lines whose rows are those of a format.
-ghost use Rattle.std.specs.Prelude.{◌≡◌, ◌++◌, false, IfOk, OnOk, IfSome, IfNone, Some, find, drop, nat_eq, ◌+◌, ◌<◌, length, slice_get, pos, neg_ℤ, if◌then◌else◌};
+ghost use Rattle.std.specs.Prelude.{◌≡◌, ◌++◌, false, IfOk, OnOk, IfSome, IfNone, Some, find, drop, nat_eq};
+ghost use Rattle.std.specs.Prelude.{◌+◌, ◌<◌, length, slice_get, pos, neg_ℤ, if◌then◌else◌};
 ghost use Rattle.std.specs.Option.{option_map};
 ghost use Rattle.span_text.specs.Objects.{meant};
 ghost use Rattle.vfl_text.specs.View.{pred_meaning};
@@ -7,7 +8,8 @@ ghost use Rattle.script_text.specs.Grammar as grammar;
 ghost use Rattle.script_text.specs.View.{term_view, terms_view};
 ghost use Rattle.constraint_compile.specs.Meaning as meaning;
 ghost use Rattle.constraint_compile.specs.FormatLines as lines;
-ghost use Rattle.constraint_compile.specs.FormatViews.{end_view, minus_view, span_view, part_view, parts_view};
+ghost use Rattle.constraint_compile.specs.FormatViews.{end_view, minus_view, span_view, part_view};
+ghost use Rattle.constraint_compile.specs.FormatViews.{parts_view};
 
 use crate::format_checks::parent_of;
 use crate::format_parts::{End, Owner, Part, Span};
@@ -61,7 +63,8 @@ fn one() -> Frac
 // The view at a place.
 fn view_at(tree: &Tree, place: usize) -> View<'_>
     requires { place < length tree.now.views }
-    ensures { slice_get tree.now.views place ≡ Some (record { id = result.id.0; name = result.name.now; parent = option_map (λ p. p.0) result.parent }) }
+    ensures { slice_get tree.now.views place ≡ Some
+        (record { id = result.id.0; name = result.name.now; parent = option_map (λ p. p.0) result.parent }) }
 {
     match tree.at(place) {
         Some(view) => view,
@@ -72,8 +75,10 @@ fn view_at(tree: &Tree, place: usize) -> View<'_>
 // The name of the view at a place, if it has this number.
 fn name_at(tree: &Tree, id: ViewId, place: usize) -> Option<&str>
     requires { place < length tree.now.views }
-    ensures some { IfSome result (λ name. option_map (λ v. v.name) (find (λ v. nat_eq v.id id.0) (drop place tree.now.views)) ≡ Some name.now) }
-    ensures none { IfNone result (find (λ v. nat_eq v.id id.0) (drop place tree.now.views) ≡ find (λ v. nat_eq v.id id.0) (drop (place + 1) tree.now.views)) }
+    ensures some { IfSome result (λ name. option_map (λ v.
+        v.name) (find (λ v. nat_eq v.id id.0) (drop place tree.now.views)) ≡ Some name.now) }
+    ensures none { IfNone result (find (λ v. nat_eq v.id id.0) (drop place tree.now.views)
+        ≡ find (λ v. nat_eq v.id id.0) (drop (place + 1) tree.now.views)) }
 {
     let view = view_at(tree, place);
     if view.id.0 == id.0 {
@@ -146,7 +151,8 @@ pub(crate) fn terms_of<'a>(
     span: &Span<'a>,
     pred: &Pred<'a>,
 ) -> Result<Vec<ExprTerm<'a>>, OutOfMemory>
-    ensures { IfOk result (λ terms. terms_view terms.items ≡ meaning.terms_of (lines.line_of tree.now.views (span_view span.now) (pred_meaning pred.now))) }
+    ensures { IfOk result (λ terms. terms_view terms.items
+        ≡ meaning.terms_of (lines.line_of tree.now.views (span_view span.now) (pred_meaning pred.now))) }
 {
     let mut terms = Vec::with_capacity(alloc, TERM_COUNT)?;
     let plus = end_term(tree, span.plus);
@@ -162,7 +168,8 @@ pub(crate) fn terms_of<'a>(
 
 // The views that a part names.
 fn push_views(out: &mut Vec<ViewId>, tree: &Tree, part: &Part<'_>) -> Result<(), OutOfMemory>
-    ensures { OnOk result (lines.numbers out.new.items ≡ lines.numbers out.old.items ++ lines.part_views tree.now.views (part_view part.now)) }
+    ensures { OnOk result (lines.numbers out.new.items
+        ≡ lines.numbers out.old.items ++ lines.part_views tree.now.views (part_view part.now)) }
 {
     let id = match part {
         Part::View { name } => tree.find(name),
@@ -190,7 +197,8 @@ pub(crate) fn views_of(
     tree: &Tree,
     parts: &[Part<'_>],
 ) -> Result<Vec<ViewId>, OutOfMemory>
-    ensures { IfOk result (λ ids. lines.numbers ids.items ≡ lines.parts_views tree.now.views (parts_view parts.now)) }
+    ensures { IfOk result (λ ids. lines.numbers ids.items
+        ≡ lines.parts_views tree.now.views (parts_view parts.now)) }
 {
     let mut ids = Vec::new(alloc);
     for part in parts {

@@ -1,6 +1,7 @@
 // The parts of a format, in the order of its text. After an error nothing is said of what was appended.
 ghost use Rattle.std.specs.Prelude.{◌≡◌, ◌++◌, ◌∷◌, [], ◌≤◌, ◌<◌, ◌^◌, IfOk, OnOk, length};
-ghost use Rattle.vfl_text.specs.View.{pred_meaning, pred_meanings, gap_meaning, gap_meanings, end_meaning, item_meaning, item_meanings, meaning};
+ghost use Rattle.vfl_text.specs.View.{pred_meaning, pred_meanings, gap_meaning, gap_meanings, end_meaning};
+ghost use Rattle.vfl_text.specs.View.{item_meaning, item_meanings, meaning};
 ghost use Rattle.constraint_compile.specs.FormatParts as parts;
 ghost use Rattle.constraint_compile.specs.FormatViews.{span_view, part_view, parts_view};
 
@@ -37,7 +38,8 @@ fn push_exactly<'a>(
     span: Span<'a>,
     thousandths: u16,
 ) -> Result<(), OutOfMemory>
-    ensures { OnOk result (parts_view out.new.items ≡ parts_view out.old.items ++ parts.Asks (span_view span.entry) (parts.exactly thousandths) ∷ []) }
+    ensures { OnOk result (parts_view out.new.items
+        ≡ parts_view out.old.items ++ parts.Asks (span_view span.entry) (parts.exactly thousandths) ∷ []) }
 {
     let pred = exactly(thousandths);
     out.push(Part::Asks { span, pred })?;
@@ -49,7 +51,8 @@ fn push_preds<'a>(
     span: Span<'a>,
     preds: &[Pred<'a>],
 ) -> Result<(), OutOfMemory>
-    ensures { OnOk result (parts_view out.new.items ≡ parts_view out.old.items ++ parts.asks (span_view span.entry) (pred_meanings preds.now)) }
+    ensures { OnOk result (parts_view out.new.items
+        ≡ parts_view out.old.items ++ parts.asks (span_view span.entry) (pred_meanings preds.now)) }
 {
     for pred in preds {
         out.push(Part::Asks { span, pred: *pred })?;
@@ -63,7 +66,8 @@ fn push_gap<'a>(
     usual: u16,
     gap: &Gap<'a>,
 ) -> Result<(), OutOfMemory>
-    ensures { OnOk result (parts_view out.new.items ≡ parts_view out.old.items ++ parts.gap_parts (span_view span.entry) usual (gap_meaning gap.now)) }
+    ensures { OnOk result (parts_view out.new.items
+        ≡ parts_view out.old.items ++ parts.gap_parts (span_view span.entry) usual (gap_meaning gap.now)) }
 {
     match gap {
         Gap::Flush => push_exactly(out, span, 0),
@@ -73,7 +77,8 @@ fn push_gap<'a>(
 }
 
 fn push_item<'a>(out: &mut Vec<Part<'a>>, axis: Axis, item: &Item<'a>) -> Result<(), OutOfMemory>
-    ensures { OnOk result (parts_view out.new.items ≡ parts_view out.old.items ++ parts.item_parts axis (item_meaning item.now)) }
+    ensures { OnOk result (parts_view out.new.items
+        ≡ parts_view out.old.items ++ parts.item_parts axis (item_meaning item.now)) }
 {
     out.push(Part::View { name: item.name })?;
     push_preds(out, size(axis, item.name), item.sizes())
@@ -88,7 +93,9 @@ fn push_chain<'a>(
     items: &[Item<'a>],
 ) -> Result<&'a str, OutOfMemory>
     requires { length gaps.now ≡ length items.now }
-    ensures parts { OnOk result (parts_view out.new.items ≡ parts_view out.old.items ++ parts.chain_parts axis first.now (gap_meanings gaps.now) (item_meanings items.now)) }
+    ensures parts { OnOk result (parts_view out.new.items
+        ≡ parts_view out.old.items ++ parts.chain_parts axis first.now (gap_meanings gaps.now)
+        (item_meanings items.now)) }
     ensures last { IfOk result (λ name. name.now ≡ parts.last_name first.now (item_meanings items.now)) }
 {
     let mut before = first;
@@ -107,7 +114,8 @@ fn push_front<'a>(
     view: &'a str,
     gap: &Option<Gap<'a>>,
 ) -> Result<(), OutOfMemory>
-    ensures { OnOk result (parts_view out.new.items ≡ parts_view out.old.items ++ parts.front_parts axis view.now (end_meaning gap.now)) }
+    ensures { OnOk result (parts_view out.new.items
+        ≡ parts_view out.old.items ++ parts.front_parts axis view.now (end_meaning gap.now)) }
 {
     if let Some(gap) = gap {
         out.push(Part::Bar { view })?;
@@ -122,7 +130,8 @@ fn push_back<'a>(
     view: &'a str,
     gap: &Option<Gap<'a>>,
 ) -> Result<(), OutOfMemory>
-    ensures { OnOk result (parts_view out.new.items ≡ parts_view out.old.items ++ parts.back_parts axis view.now (end_meaning gap.now)) }
+    ensures { OnOk result (parts_view out.new.items
+        ≡ parts_view out.old.items ++ parts.back_parts axis view.now (end_meaning gap.now)) }
 {
     if let Some(gap) = gap {
         out.push(Part::Bar { view })?;
@@ -137,7 +146,8 @@ fn push_level<'a>(
     first: &'a str,
     items: &[Item<'a>],
 ) -> Result<(), OutOfMemory>
-    ensures { OnOk result (parts_view out.new.items ≡ parts_view out.old.items ++ parts.level_parts word first.now (item_meanings items.now)) }
+    ensures { OnOk result (parts_view out.new.items
+        ≡ parts_view out.old.items ++ parts.level_parts word first.now (item_meanings items.now)) }
 {
     let mut before = first;
     for item in items {
@@ -153,7 +163,8 @@ fn push_align<'a>(
     first: &'a str,
     items: &[Item<'a>],
 ) -> Result<(), OutOfMemory>
-    ensures { OnOk result (parts_view out.new.items ≡ parts_view out.old.items ++ parts.align_parts align first.now (item_meanings items.now)) }
+    ensures { OnOk result (parts_view out.new.items
+        ≡ parts_view out.old.items ++ parts.align_parts align first.now (item_meanings items.now)) }
 {
     match align {
         Some(align) => push_level(out, aligned_word(align), first, items),

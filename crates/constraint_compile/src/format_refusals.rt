@@ -1,9 +1,11 @@
 // Why a format is refused, before its rows are made.
-ghost use Rattle.std.specs.Prelude.{◌≡◌, ◌≤◌, ◌+◌, ◌∷◌, ℕ, List, false, true, None, Some, IsTrue, IfErr, OnOk};
+ghost use Rattle.std.specs.Prelude.{◌≡◌, ◌≤◌, ◌+◌, ◌∷◌, ℕ, List, false, true, None, Some, IsTrue, IfErr};
+ghost use Rattle.std.specs.Prelude.{OnOk};
 ghost use Rattle.std.specs.Option.{option_map};
 ghost use Rattle.constraint_compile.specs.FormatRefusals.{unknown_parts, HaveRanks};
 ghost use Rattle.constraint_compile.specs.FormatStops as stops;
-ghost use Rattle.constraint_compile.specs.FormatStops.{IsPastNumbers, IsUsableFormat, IsWrongFormat, MayStopBefore};
+ghost use Rattle.constraint_compile.specs.FormatStops.{IsPastNumbers, IsUsableFormat, IsWrongFormat};
+ghost use Rattle.constraint_compile.specs.FormatStops.{MayStopBefore};
 ghost use Rattle.constraint_compile.specs.FormatViews.{part_view, parts_view};
 ghost use Rattle.constraint_compile.specs.FormatParts.{Part as FormatPart};
 
@@ -23,7 +25,8 @@ pub const NUMBER_LIMIT: u32 = 1 << 31;
 
 // One for a row that is asked for.
 fn rows_in(tree: &Tree, part: &Part<'_>) -> usize
-    ensures count { (parts : List FormatPart) → stops.row_count tree.now.views (part_view part.now ∷ parts) ≡ result + stops.row_count tree.now.views parts }
+    ensures count { (parts : List FormatPart) → stops.row_count tree.now.views (part_view part.now ∷ parts)
+        ≡ result + stops.row_count tree.now.views parts }
     ensures small { result ≤ 1 }
 {
     let _count = tree.len();
@@ -77,7 +80,8 @@ fn used(
     align: Option<Align>,
     parts: &[Part<'_>],
 ) -> Result<(), KindWord>
-    ensures ok { OnOk result (unknown_parts tree.now.views metrics.now (parts_view parts.now) ≡ None → IsUsableFormat tree.now.views metrics.now axis align (parts_view parts.now)) }
+    ensures ok { OnOk result (unknown_parts tree.now.views metrics.now (parts_view parts.now) ≡ None
+        → IsUsableFormat tree.now.views metrics.now axis align (parts_view parts.now)) }
     ensures stop { IfErr result (IsWrongFormat tree.now.views metrics.now axis align (parts_view parts.now)) }
 {
     if is_along(axis, align) {
@@ -105,9 +109,12 @@ pub(crate) fn checked(
     parts: &[Part<'_>],
     first: u32,
 ) -> Result<(), CompileStop>
-    ensures usable { OnOk result (IsUsableFormat tree.now.views metrics.now axis align (parts_view parts.now)) }
-    ensures numbers { OnOk result (IsPastNumbers first (stops.row_count tree.now.views (parts_view parts.now)) → ⊥) }
-    ensures stop { IfErr result (MayStopBefore tree.now.views metrics.now axis align (parts_view parts.now) first) }
+    ensures usable { OnOk result (IsUsableFormat tree.now.views metrics.now axis align
+        (parts_view parts.now)) }
+    ensures numbers { OnOk result (IsPastNumbers first (stops.row_count tree.now.views (parts_view parts.now))
+        → ⊥) }
+    ensures stop { IfErr result (MayStopBefore tree.now.views metrics.now axis align
+        (parts_view parts.now) first) }
 {
     known(alloc, tree, metrics, parts)?;
     if let Err(word) = used(tree, metrics, axis, align, parts) {

@@ -1,5 +1,6 @@
 // The rows of a format, one after the other.
-ghost use Rattle.std.specs.Prelude.{◌≡◌, ℕ, ◌<◌, ◌≤◌, ◌+◌, ◌^◌, ◌++◌, ◌∷◌, [], List, map, length, IfOk, OnOk, IfErr};
+ghost use Rattle.std.specs.Prelude.{◌≡◌, ℕ, ◌<◌, ◌≤◌, ◌+◌, ◌^◌, ◌++◌, ◌∷◌, [], List, map, length, IfOk, OnOk};
+ghost use Rattle.std.specs.Prelude.{IfErr};
 ghost use Rattle.script_text.specs.Meaning.{Linear};
 ghost use Rattle.vfl_text.specs.View.{pred_meaning};
 ghost use Rattle.constraint_compile.specs.Meaning as meaning;
@@ -59,8 +60,10 @@ fn row_of(
     requires rank { (r : ℕ) × IsRank tree.now.views metrics.now (pred_meaning pred.now).priority r }
     requires number { (0 < id) × (id < 2 ^ 31) }
     ensures form { IfOk result IsForm }
-    ensures row { IfOk result (λ r. IsRowWithin tree.now.views metrics.now (line_of tree.now.views (span_view span.now) (pred_meaning pred.now)) id (form_view r)) }
-    ensures stop { IfErr result (IsRowStop tree.now.views metrics.now (meaning.terms_of (line_of tree.now.views (span_view span.now) (pred_meaning pred.now)))) }
+    ensures row { IfOk result (λ r. IsRowWithin tree.now.views metrics.now
+        (line_of tree.now.views (span_view span.now) (pred_meaning pred.now)) id (form_view r)) }
+    ensures stop { IfErr result (IsRowStop tree.now.views metrics.now
+        (meaning.terms_of (line_of tree.now.views (span_view span.now) (pred_meaning pred.now)))) }
 {
     let terms = terms_of(alloc, tree, span, pred)?;
     let head = Head {
@@ -115,8 +118,13 @@ fn add_row(
     requires number { (0 < id) × (id < 2 ^ 31) }
     requires forms { AreForms found.old.rows.items }
     ensures forms { OnOk result (AreForms found.new.rows.items) }
-    ensures found { OnOk result ((lines : List Linear) (first : ℕ) → id ≡ first + length lines → IsFound tree.now.views metrics.now lines first (map form_view found.old.rows.items) found.old.limit → IsFound tree.now.views metrics.now (lines ++ line_of tree.now.views (span_view span.now) (pred_meaning pred.now) ∷ []) first (map form_view found.new.rows.items) found.new.limit) }
-    ensures stop { IfErr result (EndsRows tree.now.views metrics.now (line_of tree.now.views (span_view span.now) (pred_meaning pred.now) ∷ [])) }
+    ensures found { OnOk result ((lines : List Linear) (first : ℕ) → id ≡ first + length lines
+        → IsFound tree.now.views metrics.now lines first (map form_view found.old.rows.items) found.old.limit
+        → IsFound tree.now.views metrics.now (lines
+        ++ line_of tree.now.views (span_view span.now) (pred_meaning pred.now)
+        ∷ []) first (map form_view found.new.rows.items) found.new.limit) }
+    ensures stop { IfErr result (EndsRows tree.now.views metrics.now
+        (line_of tree.now.views (span_view span.now) (pred_meaning pred.now) ∷ [])) }
 {
     match row_of(alloc, tree, metrics, span, pred, id) {
         Ok(row) => push_row(&mut found.rows, row),
@@ -139,8 +147,13 @@ fn add_part(
     requires forms { AreForms found.old.rows.items }
     ensures next { IfOk result (λ next. next ≡ number + row_count tree.now.views (part_view part.now ∷ [])) }
     ensures forms { OnOk result (AreForms found.new.rows.items) }
-    ensures found { OnOk result ((lines : List Linear) (first : ℕ) → number ≡ first + length lines → IsFound tree.now.views metrics.now lines first (map form_view found.old.rows.items) found.old.limit → IsFound tree.now.views metrics.now (lines ++ lines_of tree.now.views (part_view part.now ∷ [])) first (map form_view found.new.rows.items) found.new.limit) }
-    ensures stop { IfErr result (EndsRows tree.now.views metrics.now (lines_of tree.now.views (part_view part.now ∷ []))) }
+    ensures found { OnOk result ((lines : List Linear) (first : ℕ) → number ≡ first + length lines
+        → IsFound tree.now.views metrics.now lines first (map form_view found.old.rows.items) found.old.limit
+        → IsFound tree.now.views metrics.now (lines
+        ++ lines_of tree.now.views (part_view part.now ∷ [])) first
+        (map form_view found.new.rows.items) found.new.limit) }
+    ensures stop { IfErr result (EndsRows tree.now.views metrics.now
+        (lines_of tree.now.views (part_view part.now ∷ []))) }
 {
     match part {
         Part::View { name: _ } => Ok(number),
@@ -164,8 +177,10 @@ pub(crate) fn rows_of(
     requires first { 0 < first }
     requires numbers { IsPastNumbers first (row_count tree.now.views (parts_view parts.now)) → ⊥ }
     ensures forms { IfOk result (λ rows. AreForms rows.items) }
-    ensures rows { IfOk result (λ rows. AreRowsOf tree.now.views metrics.now (lines_of tree.now.views (parts_view parts.now)) first (map form_view rows.items)) }
-    ensures stop { IfErr result (HaveNoRows tree.now.views metrics.now (lines_of tree.now.views (parts_view parts.now))) }
+    ensures rows { IfOk result (λ rows. AreRowsOf tree.now.views metrics.now
+        (lines_of tree.now.views (parts_view parts.now)) first (map form_view rows.items)) }
+    ensures stop { IfErr result (HaveNoRows tree.now.views metrics.now
+        (lines_of tree.now.views (parts_view parts.now))) }
 {
     let mut found = Found {
         rows: Vec::new(alloc),

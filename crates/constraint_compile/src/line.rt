@@ -1,9 +1,12 @@
 // The row of a linear line.
-ghost use Rattle.std.specs.Prelude.{◌≡◌, ◌≤◌, ◌<◌, ◌^◌, ◌∷◌, [], ℕ, List, false, true, None, length, map, IfOk, OnOk, IfErr, IfSome, IfNone};
+ghost use Rattle.std.specs.Prelude.{◌≡◌, ◌≤◌, ◌<◌, ◌^◌, ◌∷◌, [], ℕ, List, false, true, None, length, map};
+ghost use Rattle.std.specs.Prelude.{IfOk, OnOk, IfErr, IfSome, IfNone};
 ghost use Rattle.view_tree.specs.Views.{LiveView};
 ghost use Rattle.script_text.specs.View.{terms_view, linear_view, object_view};
-ghost use Rattle.constraint_compile.specs.Meaning.{MetricList, terms_of, views_in, IsRank, IsInThousand, has_view_number};
-ghost use Rattle.constraint_compile.specs.Stops.{AreKnown, IsUsable, IsWrongUse, IsCompiled, MayStop, PassesLimit};
+ghost use Rattle.constraint_compile.specs.Meaning.{MetricList, terms_of, views_in, IsRank, IsInThousand};
+ghost use Rattle.constraint_compile.specs.Meaning.{has_view_number};
+ghost use Rattle.constraint_compile.specs.Stops.{AreKnown, IsUsable, IsWrongUse, IsCompiled, MayStop};
+ghost use Rattle.constraint_compile.specs.Stops.{PassesLimit};
 ghost use Rattle.constraint_compile.specs.Inside.{form_view, IsForm};
 
 use crate::compiled::{Compiled, RowForm};
@@ -32,7 +35,8 @@ fn known(
 ) -> Result<(), CompileStop>
     requires { terms_view terms.now ≡ terms_of (linear_view line.now) }
     ensures ok { OnOk result (AreKnown tree.now.views metrics.now (linear_view line.now)) }
-    ensures stop { IfErr result (λ e. (number : ℕ) → MayStop tree.now.views metrics.now (linear_view line.now) number e) }
+    ensures stop { IfErr result (λ e. (number : ℕ)
+        → MayStop tree.now.views metrics.now (linear_view line.now) number e) }
 {
     if let Some(name) = unknown_term(tree, metrics, terms) {
         return Err(CompileStop::Unknown(OwnedName::of(alloc, name.as_bytes())?));
@@ -71,7 +75,8 @@ fn strength_of(
 ) -> Result<Strength, KindWord>
     requires { terms_view terms.now ≡ terms_of (linear_view line.now) }
     ensures numbers { OnOk result (has_view_number tree.now.views (terms_of (linear_view line.now)) ≡ false) }
-    ensures rank { IfOk result (λ s. IsRank tree.now.views metrics.now (object_view line.now.priority) s.rank) }
+    ensures rank { IfOk result (λ s. IsRank tree.now.views metrics.now
+        (object_view line.now.priority) s.rank) }
     ensures weight { IfOk result (λ s. (s.weight ≡ line.now.weight) × IsInThousand line.now.weight) }
     ensures stop { IfErr result (IsWrongUse tree.now.views metrics.now (linear_view line.now)) }
 {
@@ -90,8 +95,10 @@ fn strength_of(
 // The limits of the row's number and of the count of terms.
 fn within_limits(id: u32, terms: &[ExprTerm<'_>], line: &Linear<'_>) -> Result<(), LimitWord>
     requires { terms_view terms.now ≡ terms_of (linear_view line.now) }
-    ensures ok { OnOk result ((id < 2 ^ 31) × (length terms.now ≤ 64) × (length (terms_of (linear_view line.now)) ≤ 64)) }
-    ensures stop { IfErr result (λ word. (views : List LiveView) (metrics : MetricList) → PassesLimit views metrics (linear_view line.now) id word) }
+    ensures ok { OnOk result ((id < 2 ^ 31) × (length terms.now ≤ 64)
+        × (length (terms_of (linear_view line.now)) ≤ 64)) }
+    ensures stop { IfErr result (λ word. (views : List LiveView) (metrics : MetricList)
+        → PassesLimit views metrics (linear_view line.now) id word) }
 {
     let _rel = line.rel;
     if id >= NUMBER_LIMIT {
@@ -122,12 +129,14 @@ fn with_views(
 
 /// The row of a linear line, with this number, and the views that the line names.
 ///
-/// Every term of the left side is added and every term of the right side subtracted. `Unknown` with the first name of the line
-/// that must be a view's or a metric's and isn't. Otherwise `Kind` with the first wrong use: `Object` where a view stands for a
-/// number, `Priority` where the priority is no whole number from 1 to 1000, `Weight` where the weight is outside 1 to 1000.
-/// Otherwise `Limit` with the first limit that is passed: `Rows` where the number isn't below 2^31, `Terms` at more than 64
-/// terms, `Attributes` at more than 32 attributes with coefficients that aren't 0, `Coefficient` where after some term the scale
-/// or a coefficient is past 2^30 in size, `Constant` where after some term a part of the constant isn't below 2^40 in size.
+/// Every term of the left side is added and every term of the right side subtracted. `Unknown` with the first
+/// name of the line that must be a view's or a metric's and isn't. Otherwise `Kind` with the first wrong use:
+/// `Object` where a view stands for a number, `Priority` where the priority is no whole number from 1 to
+/// 1000, `Weight` where the weight is outside 1 to 1000. Otherwise `Limit` with the first limit that is
+/// passed: `Rows` where the number isn't below 2^31, `Terms` at more than 64 terms, `Attributes` at more than
+/// 32 attributes with coefficients that aren't 0, `Coefficient` where after some term the scale or a
+/// coefficient is past 2^30 in size, `Constant` where after some term a part of the constant isn't below 2^40
+/// in size.
 pub fn compile_line(
     alloc: Global,
     tree: &Tree,

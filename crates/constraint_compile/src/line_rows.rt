@@ -1,5 +1,6 @@
 // The row of a sum of terms.
-ghost use Rattle.std.specs.Prelude.{◌≡◌, ◌≤◌, ◌<◌, ◌^◌, ℕ, List, false, length, map, IsTrue, IfOk, OnOk, IfErr};
+ghost use Rattle.std.specs.Prelude.{◌≡◌, ◌≤◌, ◌<◌, ◌^◌, ℕ, List, false, length, map, IsTrue, IfOk, OnOk};
+ghost use Rattle.std.specs.Prelude.{IfErr};
 ghost use Rattle.std.specs.String.{string_bytes};
 ghost use Rattle.script_text.specs.View.{terms_view};
 ghost use Rattle.constraint_compile.specs.Fractions.{IsScale};
@@ -49,11 +50,14 @@ fn coefficients_of(
     terms: &[ExprTerm<'_>],
 ) -> Result<Coefficients, CompileStop>
     requires few { length terms.now ≤ 64 }
-    ensures terms { IfOk result (λ c. (k : ℕ) → IsScale (sum_at tree.now.views (terms_view terms.now)) k → AreTerms (sum_at tree.now.views (terms_view terms.now)) k c.terms.items) }
+    ensures terms { IfOk result (λ c. (k : ℕ) → IsScale (sum_at tree.now.views (terms_view terms.now)) k
+        → AreTerms (sum_at tree.now.views (terms_view terms.now)) k c.terms.items) }
     ensures few { IfOk result (λ c. length c.terms.items ≤ 32) }
     ensures some { OnOk result (HasTooMany (sum_at tree.now.views (terms_view terms.now)) → ⊥) }
-    ensures scales { IfOk result (λ c. AreScales tree.now.views (terms_view terms.now) (length terms.now) c.scales.items) }
-    ensures stop { IfErr result (λ e. (metrics : MetricList) → IsRowStop tree.now.views metrics (terms_view terms.now) e) }
+    ensures scales { IfOk result (λ c. AreScales tree.now.views (terms_view terms.now)
+        (length terms.now) c.scales.items) }
+    ensures stop { IfErr result (λ e. (metrics : MetricList)
+        → IsRowStop tree.now.views metrics (terms_view terms.now) e) }
 {
     let attrs = attributes(alloc, tree, terms)?;
     if has_too_many(alloc, tree, &attrs, terms)? {
@@ -83,8 +87,12 @@ fn named_steps(
 ) -> Result<NamedSteps, OutOfMemory>
     requires few { length terms.now ≤ 64 }
     requires long { length scales.now ≡ length terms.now }
-    ensures kept { IfOk result (λ n. (views : List LiveView) → AreScales views (terms_view terms.now) (length terms.now) scales.now → AreScalesKept n.steps.items) }
-    ensures steps { IfOk result (λ n. (views : List LiveView) → AreScales views (terms_view terms.now) (length terms.now) scales.now → AreSteps views (terms_view terms.now) (steps_view (map string_bytes n.names.items) n.steps.items)) }
+    ensures kept { IfOk result (λ n. (views : List LiveView)
+        → AreScales views (terms_view terms.now) (length terms.now) scales.now
+        → AreScalesKept n.steps.items) }
+    ensures steps { IfOk result (λ n. (views : List LiveView)
+        → AreScales views (terms_view terms.now) (length terms.now) scales.now
+        → AreSteps views (terms_view terms.now) (steps_view (map string_bytes n.names.items) n.steps.items)) }
 {
     let names = metric_names(alloc, terms)?;
     let steps = steps_of(alloc, terms, scales)?;
@@ -94,8 +102,10 @@ fn named_steps(
 // Whether the constant is small after each step.
 fn is_constant_small(metrics: &Metrics, named: &NamedSteps) -> bool
     requires { AreScalesKept named.now.steps.items }
-    ensures yes { IsTrue result → AreSmallSteps metrics.now (steps_view (map string_bytes named.now.names.items) named.now.steps.items) }
-    ensures no { result ≡ false → AreSmallSteps metrics.now (steps_view (map string_bytes named.now.names.items) named.now.steps.items) → ⊥ }
+    ensures yes { IsTrue result → AreSmallSteps metrics.now
+        (steps_view (map string_bytes named.now.names.items) named.now.steps.items) }
+    ensures no { result ≡ false → AreSmallSteps metrics.now
+        (steps_view (map string_bytes named.now.names.items) named.now.steps.items) → ⊥ }
 {
     match constant_after(metrics, &named.names, &named.steps) {
         Some(_) => true,
@@ -103,8 +113,8 @@ fn is_constant_small(metrics: &Metrics, named: &NamedSteps) -> bool
     }
 }
 
-/// The row of terms that are all brought to the left side. A limit of a row that they pass is named by the first in the order
-/// attributes, coefficient, constant.
+/// The row of terms that are all brought to the left side. A limit of a row that they pass is named by the
+/// first in the order attributes, coefficient, constant.
 pub(crate) fn row_of_terms(
     alloc: Global,
     tree: &Tree,
@@ -117,9 +127,11 @@ pub(crate) fn row_of_terms(
     requires rank { head.rank ≤ 1000 }
     requires weight { (0 < head.weight) × (head.weight ≤ 1000) }
     ensures form { IfOk result IsForm }
-    ensures head { IfOk result (λ r. (r.id ≡ head.id) × (r.rank ≡ head.rank) × (r.weight ≡ head.weight) × (r.rel ≡ head.rel)) }
+    ensures head { IfOk result (λ r. (r.id ≡ head.id) × (r.rank ≡ head.rank) × (r.weight ≡ head.weight)
+        × (r.rel ≡ head.rel)) }
     ensures row { IfOk result (λ r. IsSumRow tree.now.views (terms_view terms.now) (form_view r)) }
-    ensures within { IfOk result (λ r. IsWithinLimits tree.now.views metrics.now (terms_view terms.now) (form_view r).steps) }
+    ensures within { IfOk result (λ r. IsWithinLimits tree.now.views metrics.now (terms_view terms.now)
+        (form_view r).steps) }
     ensures stop { IfErr result (IsRowStop tree.now.views metrics.now (terms_view terms.now)) }
 {
     let sum = match coefficients_of(alloc, tree, terms) {

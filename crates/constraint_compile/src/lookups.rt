@@ -4,7 +4,8 @@ ghost use Rattle.std.specs.Option.{option_map};
 ghost use Rattle.script_text.specs.View.{operand_view, terms_view, object_view};
 ghost use Rattle.view_tree.specs.Views.{view_named};
 ghost use Rattle.constraint_compile.specs.Meaning as meaning;
-ghost use Rattle.constraint_compile.specs.Meaning.{unknown_in, unknown_object, unknown_among, has_view_number, IsRank, IsInThousand};
+ghost use Rattle.constraint_compile.specs.Meaning.{unknown_in, unknown_object, unknown_among};
+ghost use Rattle.constraint_compile.specs.Meaning.{has_view_number, IsRank, IsInThousand};
 
 use frac_core::Frac;
 use name_tables::Metrics;
@@ -26,7 +27,8 @@ fn is_named(tree: &Tree, metrics: &Metrics, name: &str) -> bool
 
 // The name in an operand that must be a view's or a metric's, and isn't.
 fn unknown_operand<'a>(tree: &Tree, metrics: &Metrics, of: &Operand<'a>) -> Option<&'a str>
-    ensures { option_map (λ name. name.now) result ≡ unknown_in tree.now.views metrics.now (operand_view of.now) }
+    ensures { option_map (λ name. name.now) result
+        ≡ unknown_in tree.now.views metrics.now (operand_view of.now) }
 {
     match *of {
         Operand::Attr { view, word: _ } => {
@@ -53,7 +55,8 @@ pub(crate) fn unknown_priority<'a>(
     metrics: &Metrics,
     priority: &Option<Object<'a>>,
 ) -> Option<&'a str>
-    ensures { option_map (λ name. name.now) result ≡ unknown_object tree.now.views metrics.now (object_view priority.now) }
+    ensures { option_map (λ name. name.now) result
+        ≡ unknown_object tree.now.views metrics.now (object_view priority.now) }
 {
     match *priority {
         Some(Object::Name { text }) => {
@@ -74,7 +77,8 @@ pub(crate) fn unknown_term<'a>(
     metrics: &Metrics,
     terms: &[ExprTerm<'a>],
 ) -> Option<&'a str>
-    ensures { option_map (λ name. name.now) result ≡ unknown_among tree.now.views metrics.now (terms_view terms.now) }
+    ensures { option_map (λ name. name.now) result
+        ≡ unknown_among tree.now.views metrics.now (terms_view terms.now) }
 {
     for term in terms {
         if let Some(name) = unknown_operand(tree, metrics, &term.of) {
@@ -137,7 +141,8 @@ fn rank_of_fraction(f: Frac) -> Option<u16>
 // The same where the metric is there.
 fn rank_of_metric(value: Option<Frac>) -> Option<u16>
     ensures some { IfSome result (λ r. (value ≡ Some (record { num = pos r; den = 1 })) × IsInThousand r) }
-    ensures none { IfNone result ((r : ℕ) → value ≡ Some (record { num = pos r; den = 1 }) → IsInThousand r → ⊥) }
+    ensures none { IfNone result ((r : ℕ) → value ≡ Some (record { num = pos r; den = 1 }) → IsInThousand r
+        → ⊥) }
 {
     match value {
         Some(f) => rank_of_fraction(f),
@@ -148,7 +153,8 @@ fn rank_of_metric(value: Option<Frac>) -> Option<u16>
 /// The rank that a priority stands for, where it stands for one.
 pub(crate) fn rank(tree: &Tree, metrics: &Metrics, priority: &Option<Object<'_>>) -> Option<u16>
     ensures some { IfSome result (IsRank tree.now.views metrics.now (object_view priority.now)) }
-    ensures none { IfNone result ((r : ℕ) → IsRank tree.now.views metrics.now (object_view priority.now) r → ⊥) }
+    ensures none { IfNone result ((r : ℕ) → IsRank tree.now.views metrics.now (object_view priority.now) r
+        → ⊥) }
 {
     match *priority {
         None => Some(1000),

@@ -1,5 +1,6 @@
 // Which coefficients of a sum are not 0, whatever their size.
-ghost use Rattle.std.specs.Prelude.{◌≡◌, ◌≢◌, ◌≤◌, ◌<◌, ◌+◌, ◌*◌, ◌^◌, ◌+ℤ◌, ◌*ℤ◌, ℕ, pos, unsigned_abs, true, false, length, map, IsTrue, IfOk, OnOk, All, AllPairs};
+ghost use Rattle.std.specs.Prelude.{◌≡◌, ◌≢◌, ◌≤◌, ◌<◌, ◌+◌, ◌*◌, ◌^◌, ◌+ℤ◌, ◌*ℤ◌, ℕ, pos, unsigned_abs};
+ghost use Rattle.std.specs.Prelude.{true, false, length, map, IsTrue, IfOk, OnOk, All, AllPairs};
 ghost use Rattle.script_text.specs.View.{term_view, terms_view};
 ghost use Rattle.constraint_compile.specs.Fractions.{total};
 ghost use Rattle.constraint_compile.specs.Meaning.{share, sum_at};
@@ -21,7 +22,8 @@ pub(crate) struct Piece {
     pub den: i64,
 }
 
-// Each of at most 64 terms has a denominator below 2^43. So a sum that isn't 0 is past 64 in size after this many doublings.
+// Each of at most 64 terms has a denominator below 2^43. So a sum that isn't 0 is past 64 in size after this
+// many doublings.
 const ROUNDS: u32 = 2760;
 
 const ATTRIBUTE_LIMIT: usize = 32;
@@ -46,7 +48,8 @@ fn pieces_of(
     terms: &[ExprTerm<'_>],
     attr: u32,
 ) -> Result<Vec<Piece>, OutOfMemory>
-    ensures total { IfOk result (λ pieces. total piece_value pieces.items ≡ sum_at tree.now.views (terms_view terms.now) attr) }
+    ensures total { IfOk result (λ pieces. total piece_value pieces.items
+        ≡ sum_at tree.now.views (terms_view terms.now) attr) }
     ensures long { IfOk result (λ pieces. length pieces.items ≡ length terms.now) }
     ensures kept { IfOk result (λ pieces. All IsPiece pieces.items) }
 {
@@ -147,8 +150,10 @@ fn is_absent(
     attr: u32,
 ) -> Result<bool, OutOfMemory>
     requires few { length terms.now ≤ 64 }
-    ensures yes { IfOk result (λ absent. IsTrue absent → (sum_at tree.now.views (terms_view terms.now) attr).num ≡ pos 0) }
-    ensures no { IfOk result (λ absent. absent ≡ false → (sum_at tree.now.views (terms_view terms.now) attr).num ≢ pos 0) }
+    ensures yes { IfOk result (λ absent. IsTrue absent
+        → (sum_at tree.now.views (terms_view terms.now) attr).num ≡ pos 0) }
+    ensures no { IfOk result (λ absent. absent ≡ false
+        → (sum_at tree.now.views (terms_view terms.now) attr).num ≢ pos 0) }
 {
     let pieces = pieces_of(alloc, tree, terms, attr)?;
     is_zero(alloc, pieces)
@@ -167,7 +172,8 @@ fn keep(
     requires rising { AllPairs (λ a b. a < b) attrs.now }
     requires place { place < length attrs.now }
     requires found { HasFound (sum_at tree.now.views (terms_view terms.now)) attrs.now place found.old.items }
-    ensures { OnOk result (HasFound (sum_at tree.now.views (terms_view terms.now)) attrs.now (place + 1) found.new.items) }
+    ensures { OnOk result (HasFound (sum_at tree.now.views (terms_view terms.now)) attrs.now (place
+        + 1) found.new.items) }
 {
     let attr = attrs[place];
     if is_absent(alloc, tree, terms, attr)? {
@@ -186,7 +192,8 @@ fn nonzero(
 ) -> Result<Vec<u32>, OutOfMemory>
     requires few { length terms.now ≤ 64 }
     requires rising { AllPairs (λ a b. a < b) attrs.now }
-    ensures { IfOk result (λ found. HasFound (sum_at tree.now.views (terms_view terms.now)) attrs.now (length attrs.now) found.items) }
+    ensures { IfOk result (λ found. HasFound (sum_at tree.now.views (terms_view terms.now)) attrs.now
+        (length attrs.now) found.items) }
 {
     let mut found = Vec::new(alloc);
     for place in 0..attrs.len() {
@@ -211,9 +218,12 @@ pub(crate) fn has_too_many(
 ) -> Result<bool, OutOfMemory>
     requires few { length terms.now ≤ 64 }
     requires rising { AllPairs (λ a b. a < b) attrs.now }
-    requires off { (v : ℕ) → IsOff attrs.now v → All (λ t. (share tree.now.views v (term_view t)).num ≡ pos 0) terms.now }
-    ensures yes { IfOk result (λ many. IsTrue many → HasTooMany (sum_at tree.now.views (terms_view terms.now))) }
-    ensures no { IfOk result (λ many. many ≡ false → HasTooMany (sum_at tree.now.views (terms_view terms.now)) → ⊥) }
+    requires off { (v : ℕ) → IsOff attrs.now v → All (λ t. (share tree.now.views v (term_view t)).num
+        ≡ pos 0) terms.now }
+    ensures yes { IfOk result (λ many. IsTrue many
+        → HasTooMany (sum_at tree.now.views (terms_view terms.now))) }
+    ensures no { IfOk result (λ many. many ≡ false → HasTooMany (sum_at tree.now.views (terms_view terms.now))
+        → ⊥) }
 {
     if !may_be_many(attrs) {
         return Ok(false);

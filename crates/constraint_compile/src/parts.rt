@@ -71,7 +71,8 @@ pub(crate) fn metric_names(
 
 // What the term at a place adds to the constant.
 fn part_at(term: &ExprTerm<'_>, place: u32) -> Part
-    ensures { (names : List (List ℕ)) → slice_index_or names place [] ≡ metric_name (term_view term.now) → part_view names result ≡ meaning.part (term_view term.now) }
+    ensures { (names : List (List ℕ)) → slice_index_or names place [] ≡ metric_name (term_view term.now)
+        → part_view names result ≡ meaning.part (term_view term.now) }
 {
     let by = term.by;
     match term.of {
@@ -91,7 +92,8 @@ pub(crate) fn steps_of(
     requires few { length terms.now ≤ 64 }
     ensures long { IfOk result (λ steps. length steps.items ≡ length terms.now) }
     ensures scales { IfOk result (λ steps. map (λ s. s.scale) steps.items ≡ scales.now) }
-    ensures parts { IfOk result (λ steps. (names : List (List ℕ)) → HaveNames names (terms_view terms.now) → map (λ s. s.part) (steps_view names steps.items) ≡ map meaning.part (terms_view terms.now)) }
+    ensures parts { IfOk result (λ steps. (names : List (List ℕ)) → HaveNames names (terms_view terms.now)
+        → map (λ s. s.part) (steps_view names steps.items) ≡ map meaning.part (terms_view terms.now)) }
 {
     let mut steps = Vec::with_capacity(alloc, terms.len())?;
     for place in 0..terms.len() {
@@ -106,7 +108,8 @@ pub(crate) fn steps_of(
 
 // Appends the number of the view that the term names.
 fn add_view(views: &mut Vec<ViewId>, tree: &Tree, term: &ExprTerm<'_>) -> Result<(), OutOfMemory>
-    ensures { OnOk result (map (λ v. v.0) views.new.items ≡ map (λ v. v.0) views.old.items ++ meaning.view_in tree.now.views (term_view term.now).of) }
+    ensures { OnOk result (map (λ v. v.0) views.new.items
+        ≡ map (λ v. v.0) views.old.items ++ meaning.view_in tree.now.views (term_view term.now).of) }
 {
     if let Operand::Attr { view, word: _ } = term.of {
         if let Some(id) = tree.find(view) {
@@ -122,7 +125,8 @@ pub(crate) fn views_of(
     tree: &Tree,
     terms: &[ExprTerm<'_>],
 ) -> Result<Vec<ViewId>, OutOfMemory>
-    ensures { IfOk result (λ views. map (λ v. v.0) views.items ≡ views_in tree.now.views (terms_view terms.now)) }
+    ensures { IfOk result (λ views. map (λ v. v.0) views.items
+        ≡ views_in tree.now.views (terms_view terms.now)) }
 {
     let mut views = Vec::new(alloc);
     for term in terms {

@@ -1,5 +1,6 @@
 // Sums of quotients in 128 bits.
-ghost use Rattle.std.specs.Prelude.{◌≡◌, ℕ, ◌<◌, ◌≤◌, ◌*◌, ◌^◌, ◌+ℤ◌, ◌*ℤ◌, ◌<ℤ◌, pos, false, IsTrue, IfSome, IfNone, unsigned_abs};
+ghost use Rattle.std.specs.Prelude.{◌≡◌, ℕ, ◌<◌, ◌≤◌, ◌*◌, ◌^◌, ◌+ℤ◌, ◌*ℤ◌, ◌<ℤ◌, pos, false, IsTrue, IfSome};
+ghost use Rattle.std.specs.Prelude.{IfNone, unsigned_abs};
 ghost use Rattle.std.specs.Int.{IsGcd};
 ghost use Rattle.frac_core.specs.Fraction.{Fraction, IsLowest, IsRatio};
 ghost use Rattle.constraint_compile.specs.Quotients.{IsDivided, IsReduced};
@@ -74,7 +75,8 @@ pub(crate) fn common(a: i128, b: i128, x: i128, y: i128) -> Option<Ratio>
     requires y_above { pos 0 <ℤ y }
     requires apart { IsGcd (unsigned_abs x) (unsigned_abs y) 1 }
     ensures some { IfSome result (λ r. IsDivided (a *ℤ y +ℤ x *ℤ b) (b *ℤ y) r.num r.den) }
-    ensures none { IfNone result ((f : Fraction) → IsLowest f → IsRatio f (a *ℤ y +ℤ x *ℤ b) (b *ℤ y) → unsigned_abs f.num < 2 ^ 40 → f.den < 2 ^ 40 → ⊥) }
+    ensures none { IfNone result ((f : Fraction) → IsLowest f → IsRatio f (a *ℤ y +ℤ x *ℤ b) (b *ℤ y)
+        → unsigned_abs f.num < 2 ^ 40 → f.den < 2 ^ 40 → ⊥) }
 {
     let shares = reduced(b, y);
     let Some(left) = bounded(a, shares.den) else {
@@ -105,7 +107,8 @@ pub(crate) fn small_of(r: Ratio) -> Option<Frac>
     ensures value { IfSome result (λ f. IsRatio f r.num r.den) }
     ensures lowest { IfSome result IsLowest }
     ensures small { IfSome result (λ f. (unsigned_abs f.num < 2 ^ 40) × (f.den < 2 ^ 40)) }
-    ensures none { IfNone result ((f : Fraction) → IsLowest f → IsRatio f r.num r.den → unsigned_abs f.num < 2 ^ 40 → f.den < 2 ^ 40 → ⊥) }
+    ensures none { IfNone result ((f : Fraction) → IsLowest f → IsRatio f r.num r.den
+        → unsigned_abs f.num < 2 ^ 40 → f.den < 2 ^ 40 → ⊥) }
 {
     match Frac::of(r.num, r.den) {
         Ok(f) if is_small(f) => Some(f),

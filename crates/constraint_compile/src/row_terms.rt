@@ -31,8 +31,10 @@ pub(crate) fn row_terms(alloc: Global, attrs: &[u32], sum: &Sum) -> Result<Vec<T
     requires kept { AreKept attrs.now sum.now.scale sum.now.numbers.items }
     requires rising { AllPairs (λ a b. a < b) attrs.now }
     requires numbers { All IsNumber attrs.now }
-    ensures terms { IfOk result (λ terms. (b : ℕ → Fraction) → IsSum b attrs.now sum.now.scale sum.now.numbers.items → AreTerms b sum.now.scale terms.items) }
-    ensures many { IfOk result (λ terms. (b : ℕ → Fraction) → IsSum b attrs.now sum.now.scale sum.now.numbers.items → 32 < length terms.items → HasTooMany b) }
+    ensures terms { IfOk result (λ terms. (b : ℕ → Fraction)
+        → IsSum b attrs.now sum.now.scale sum.now.numbers.items → AreTerms b sum.now.scale terms.items) }
+    ensures many { IfOk result (λ terms. (b : ℕ → Fraction)
+        → IsSum b attrs.now sum.now.scale sum.now.numbers.items → 32 < length terms.items → HasTooMany b) }
 {
     let mut out = Vec::with_capacity(alloc, attrs.len())?;
     for place in 0..attrs.len() {

@@ -1,8 +1,10 @@
 // The rows of compiled lines for given metrics.
-ghost use Rattle.std.specs.Prelude.{◌≡◌, ◌≤◌, ◌<◌, ◌^◌, ℕ, List, length, map, IfOk, IfErr, IfSome, IfNone, OnSome};
+ghost use Rattle.std.specs.Prelude.{◌≡◌, ◌≤◌, ◌<◌, ◌^◌, ℕ, List, length, map, IfOk, IfErr, IfSome, IfNone};
+ghost use Rattle.std.specs.Prelude.{OnSome};
 ghost use Rattle.frac_core.specs.Fraction.{IsKept};
 ghost use Rattle.constraint_compile.specs.Fractions.{IsConstant};
-ghost use Rattle.constraint_compile.specs.Compiled.{AreSmallSteps, AreSmallForms, AreRowsNow, AreConstantsNow, IsRowNow, step_sum, last_scale};
+ghost use Rattle.constraint_compile.specs.Compiled.{AreSmallSteps, AreSmallForms, AreRowsNow};
+ghost use Rattle.constraint_compile.specs.Compiled.{AreConstantsNow, IsRowNow, step_sum, last_scale};
 ghost use Rattle.constraint_compile.specs.Inside.{form_view, IsForm, AreForms};
 ghost use Rattle.constraint_compile.specs.Keeps.{AreScalesKept, steps_view};
 ghost use Rattle.constraint_compile.specs.Stops.{IsConstantStop};
@@ -32,7 +34,10 @@ fn scale_of(steps: &[Step]) -> u32
 fn with_constant(alloc: Global, form: &RowForm, constant: Frac) -> Result<Row, OutOfMemory>
     requires { IsForm form.now }
     ensures kept { IsKept constant }
-    ensures row { IfOk result (λ r. (r.id ≡ form.now.id) × (r.rank ≡ form.now.rank) × (r.weight ≡ form.now.weight) × (r.rel ≡ form.now.rel) × (r.scale ≡ last_scale (form_view form.now).steps) × (r.terms ≡ form.now.terms.items) × (r.constant ≡ constant)) }
+    ensures row { IfOk result (λ r. (r.id ≡ form.now.id) × (r.rank ≡ form.now.rank)
+        × (r.weight ≡ form.now.weight) × (r.rel ≡ form.now.rel)
+        × (r.scale ≡ last_scale (form_view form.now).steps) × (r.terms ≡ form.now.terms.items)
+        × (r.constant ≡ constant)) }
 {
     let _den = constant.den();
     let scale = i64::from(scale_of(&form.steps));
@@ -51,7 +56,8 @@ fn with_constant(alloc: Global, form: &RowForm, constant: Frac) -> Result<Row, O
 // The row's constant for these metrics, unless it is past the limit after a step.
 fn constant_now(form: &RowForm, metrics: &Metrics) -> Option<Frac>
     requires { IsForm form.now }
-    ensures constant { IfSome result (IsConstant (last_scale (form_view form.now).steps) (step_sum metrics.now (form_view form.now).steps)) }
+    ensures constant { IfSome result (IsConstant (last_scale (form_view form.now).steps)
+        (step_sum metrics.now (form_view form.now).steps)) }
     ensures small { OnSome result (AreSmallSteps metrics.now (form_view form.now).steps) }
     ensures none { IfNone result (AreSmallSteps metrics.now (form_view form.now).steps → ⊥) }
 {
@@ -76,7 +82,8 @@ fn rows_of(
     metrics: &Metrics,
 ) -> Result<Option<Vec<Row>>, OutOfMemory>
     requires { AreForms forms.now }
-    ensures rows { IfOk result (λ o. IfSome o (λ rows. AreRowsNow metrics.now (map form_view forms.now) rows.items)) }
+    ensures rows { IfOk result (λ o. IfSome o (λ rows.
+        AreRowsNow metrics.now (map form_view forms.now) rows.items)) }
     ensures none { IfOk result (λ o. IfNone o (AreSmallForms metrics.now (map form_view forms.now) → ⊥)) }
 {
     let mut rows = Vec::with_capacity(alloc, forms.len())?;
@@ -95,7 +102,8 @@ fn constants_of(
     metrics: &Metrics,
 ) -> Result<Option<Vec<Frac>>, OutOfMemory>
     requires { AreForms forms.now }
-    ensures constants { IfOk result (λ o. IfSome o (λ constants. AreConstantsNow metrics.now (map form_view forms.now) constants.items)) }
+    ensures constants { IfOk result (λ o. IfSome o (λ constants.
+        AreConstantsNow metrics.now (map form_view forms.now) constants.items)) }
     ensures none { IfOk result (λ o. IfNone o (AreSmallForms metrics.now (map form_view forms.now) → ⊥)) }
 {
     let mut constants = Vec::with_capacity(alloc, forms.len())?;
@@ -108,8 +116,8 @@ fn constants_of(
     Ok(Some(constants))
 }
 
-/// The constant of each row of a line for these metrics. `Limit(Constant)` where a part of the constant of some row isn't below
-/// 2^40 in size after some term. A metric that isn't there counts as 0.
+/// The constant of each row of a line for these metrics. `Limit(Constant)` where a part of the constant of
+/// some row isn't below 2^40 in size after some term. A metric that isn't there counts as 0.
 pub fn constants_now(
     alloc: Global,
     c: &Compiled,

@@ -31,8 +31,14 @@ fn with_more(
 ) -> Result<Option<Sum>, OutOfMemory>
     requires kept { AreKept attrs.now sum.scale sum.numbers.items }
     ensures kept { IfOk result (λ o. IfSome o (λ next. AreKept attrs.now next.scale next.numbers.items)) }
-    ensures sum { IfOk result (λ o. IfSome o (λ next. (b : ℕ → Fraction) → IsSum b attrs.now sum.scale sum.numbers.items → ((v : ℕ) → IsOff attrs.now v → (share tree.now.views v (term_view term.now)).num ≡ pos 0) → IsSum (with_term tree.now.views b (term_view term.now)) attrs.now next.scale next.numbers.items)) }
-    ensures past { IfOk result (λ o. IfNone o ((b : ℕ → Fraction) → IsSum b attrs.now sum.scale sum.numbers.items → ((v : ℕ) → IsOff attrs.now v → (share tree.now.views v (term_view term.now)).num ≡ pos 0) → AreSmall (with_term tree.now.views b (term_view term.now)) → ⊥)) }
+    ensures sum { IfOk result (λ o. IfSome o (λ next. (b : ℕ → Fraction)
+        → IsSum b attrs.now sum.scale sum.numbers.items
+        → ((v : ℕ) → IsOff attrs.now v → (share tree.now.views v (term_view term.now)).num ≡ pos 0)
+        → IsSum (with_term tree.now.views b (term_view term.now)) attrs.now next.scale next.numbers.items)) }
+    ensures past { IfOk result (λ o. IfNone o ((b : ℕ → Fraction)
+        → IsSum b attrs.now sum.scale sum.numbers.items
+        → ((v : ℕ) → IsOff attrs.now v → (share tree.now.views v (term_view term.now)).num ≡ pos 0)
+        → AreSmall (with_term tree.now.views b (term_view term.now)) → ⊥)) }
 {
     let Some(share) = share_of(tree, term) else {
         return Ok(Some(sum));
@@ -55,18 +61,23 @@ fn no_sum(alloc: Global, attrs: &[u32]) -> Result<Sum, OutOfMemory>
     Ok(Sum { scale: 1, numbers })
 }
 
-/// The sum of the terms and the scale after each, unless the scale or a coefficient is past the limit after one of them.
+/// The sum of the terms and the scale after each, unless the scale or a coefficient is past the limit after
+/// one of them.
 pub(crate) fn scales_of(
     alloc: Global,
     tree: &Tree,
     attrs: &[u32],
     terms: &[ExprTerm<'_>],
 ) -> Result<Option<Scaled>, OutOfMemory>
-    requires off { (v : ℕ) → IsOff attrs.now v → All (λ t. (share tree.now.views v (term_view t)).num ≡ pos 0) terms.now }
+    requires off { (v : ℕ) → IsOff attrs.now v → All (λ t. (share tree.now.views v (term_view t)).num
+        ≡ pos 0) terms.now }
     ensures kept { IfOk result (λ o. IfSome o (λ s. AreKept attrs.now s.sum.scale s.sum.numbers.items)) }
-    ensures sum { IfOk result (λ o. IfSome o (λ s. IsSum (sum_at tree.now.views (terms_view terms.now)) attrs.now s.sum.scale s.sum.numbers.items)) }
-    ensures scales { IfOk result (λ o. IfSome o (λ s. AreScales tree.now.views (terms_view terms.now) (length terms.now) s.scales.items)) }
-    ensures past { IfOk result (λ o. IfNone o (((i : ℕ) → i < length terms.now → AreSmall (first_sum tree.now.views (terms_view terms.now) (i + 1))) → ⊥)) }
+    ensures sum { IfOk result (λ o. IfSome o (λ s.
+        IsSum (sum_at tree.now.views (terms_view terms.now)) attrs.now s.sum.scale s.sum.numbers.items)) }
+    ensures scales { IfOk result (λ o. IfSome o (λ s.
+        AreScales tree.now.views (terms_view terms.now) (length terms.now) s.scales.items)) }
+    ensures past { IfOk result (λ o. IfNone o (((i : ℕ) → i < length terms.now
+        → AreSmall (first_sum tree.now.views (terms_view terms.now) (i + 1))) → ⊥)) }
 {
     let mut sum = no_sum(alloc, attrs)?;
     let mut scales = Vec::with_capacity(alloc, terms.len())?;

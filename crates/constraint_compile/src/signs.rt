@@ -31,7 +31,8 @@ pub(crate) fn subtracted<'a>(term: &ExprTerm<'a>) -> ExprTerm<'a>
 
 // Adds each of the terms with the other sign.
 fn subtract<'a>(out: &mut Vec<ExprTerm<'a>>, terms: &[ExprTerm<'a>]) -> Result<(), OutOfMemory>
-    ensures { IfOk result (λ _. terms_view out.new.items ≡ terms_view out.old.items ++ map minus (terms_view terms.now)) }
+    ensures { IfOk result (λ _. terms_view out.new.items
+        ≡ terms_view out.old.items ++ map minus (terms_view terms.now)) }
 {
     for term in terms {
         let other = subtracted(term);

@@ -1,5 +1,6 @@
 // The constant of a row, as a sum of numbers and of multiples of metrics.
-ghost use Rattle.std.specs.Prelude.{◌≡◌, ℕ, ◌<◌, ◌<ℤ◌, ◌≤◌, ◌*ℤ◌, ◌^◌, [], pos, neg_ℤ, map, slice_index_or, IfSome, IfNone, IsTrue, unsigned_abs};
+ghost use Rattle.std.specs.Prelude.{◌≡◌, ℕ, ◌<◌, ◌<ℤ◌, ◌≤◌, ◌*ℤ◌, ◌^◌, [], pos, neg_ℤ, map, slice_index_or};
+ghost use Rattle.std.specs.Prelude.{IfSome, IfNone, IsTrue, unsigned_abs};
 ghost use Rattle.frac_core.specs.Fraction.{Fraction};
 ghost use Rattle.std.specs.String.{string_bytes};
 ghost use Rattle.constraint_compile.specs.Fractions.{plus, times, IsConstant, IsSmallConstant};
@@ -15,7 +16,8 @@ use crate::wide::product;
 use frac_core::Frac;
 use name_tables::Metrics;
 
-/// What a term adds to the constant: nothing, a number, or a multiple of the metric whose name stands at a place.
+/// What a term adds to the constant: nothing, a number, or a multiple of the metric whose name stands at a
+/// place.
 #[derive(Clone, Copy, Debug)]
 pub(crate) enum Part {
     Nothing,
@@ -69,7 +71,8 @@ fn times(by: Frac, value: Frac) -> Ratio
 // What a part adds to the sum.
 fn part_ratio(metrics: &Metrics, names: &[String], part: Part) -> Ratio
     ensures num { result.num ≡ (part_value metrics.now (part_view (map string_bytes names.now) part)).num }
-    ensures den { result.den ≡ pos (part_value metrics.now (part_view (map string_bytes names.now) part)).den }
+    ensures den { result.den ≡ pos (part_value metrics.now
+        (part_view (map string_bytes names.now) part)).den }
     ensures small { unsigned_abs result.num < 2 ^ 88 }
     ensures above { 0 < (part_value metrics.now (part_view (map string_bytes names.now) part)).den }
 {
@@ -127,9 +130,11 @@ fn moved(before: Progress, scale: u32, value: Ratio) -> Option<Frac>
     requires scale { (0 < scale) × (scale ≤ 2 ^ 30) }
     requires small { unsigned_abs value.num < 2 ^ 88 }
     requires above { pos 0 <ℤ value.den }
-    ensures constant { IfSome result (λ f. (e p : Fraction) → 0 < e.den → value.num ≡ p.num → value.den ≡ pos p.den → IsConstant before.scale e before.constant → IsConstant scale (plus e p) f) }
+    ensures constant { IfSome result (λ f. (e p : Fraction) → 0 < e.den → value.num ≡ p.num
+        → value.den ≡ pos p.den → IsConstant before.scale e before.constant → IsConstant scale (plus e p) f) }
     ensures small { IfSome result (λ f. (unsigned_abs f.num < 2 ^ 40) × (f.den < 2 ^ 40)) }
-    ensures none { IfNone result ((e p : Fraction) → 0 < e.den → value.num ≡ p.num → value.den ≡ pos p.den → IsConstant before.scale e before.constant → IsSmallConstant scale (plus e p) → ⊥) }
+    ensures none { IfNone result ((e p : Fraction) → 0 < e.den → value.num ≡ p.num → value.den ≡ pos p.den
+        → IsConstant before.scale e before.constant → IsSmallConstant scale (plus e p) → ⊥) }
 {
     let change = change(scale, value);
     let num = scaled(scale, before.constant.num());
@@ -154,9 +159,14 @@ fn after(metrics: &Metrics, names: &[String], before: Progress, step: &Step) -> 
     requires den_small { before.constant.den < 2 ^ 40 }
     requires scale { (0 < step.now.scale) × (step.now.scale ≤ 2 ^ 30) }
     ensures scale { IfSome result (λ p. p.scale ≡ step.now.scale) }
-    ensures constant { IfSome result (λ p. (e : Fraction) → 0 < e.den → IsConstant before.scale e before.constant → IsConstant step.now.scale (plus e (part_value metrics.now (part_view (map string_bytes names.now) step.now.part))) p.constant) }
+    ensures constant { IfSome result (λ p. (e : Fraction) → 0 < e.den
+        → IsConstant before.scale e before.constant
+        → IsConstant step.now.scale (plus e (part_value metrics.now
+        (part_view (map string_bytes names.now) step.now.part))) p.constant) }
     ensures small { IfSome result (λ p. (unsigned_abs p.constant.num < 2 ^ 40) × (p.constant.den < 2 ^ 40)) }
-    ensures none { IfNone result ((e : Fraction) → 0 < e.den → IsConstant before.scale e before.constant → IsSmallConstant step.now.scale (plus e (part_value metrics.now (part_view (map string_bytes names.now) step.now.part))) → ⊥) }
+    ensures none { IfNone result ((e : Fraction) → 0 < e.den → IsConstant before.scale e before.constant
+        → IsSmallConstant step.now.scale (plus e (part_value metrics.now
+        (part_view (map string_bytes names.now) step.now.part))) → ⊥) }
     ensures above { 0 < (part_value metrics.now (part_view (map string_bytes names.now) step.now.part)).den }
 {
     if is_still(before.scale, step) {
@@ -175,9 +185,13 @@ fn after(metrics: &Metrics, names: &[String], before: Progress, step: &Step) -> 
 /// The constant after all steps, unless it is past the limit after one of them.
 pub(crate) fn constant_after(metrics: &Metrics, names: &[String], steps: &[Step]) -> Option<Frac>
     requires scales { AreScalesKept steps.now }
-    ensures constant { IfSome result (IsConstant (last_scale (steps_view (map string_bytes names.now) steps.now)) (step_sum metrics.now (steps_view (map string_bytes names.now) steps.now))) }
-    ensures small { IfSome result (λ c. AreSmallSteps metrics.now (steps_view (map string_bytes names.now) steps.now)) }
-    ensures none { IfNone result (AreSmallSteps metrics.now (steps_view (map string_bytes names.now) steps.now) → ⊥) }
+    ensures constant { IfSome result (IsConstant (last_scale
+        (steps_view (map string_bytes names.now) steps.now))
+        (step_sum metrics.now (steps_view (map string_bytes names.now) steps.now))) }
+    ensures small { IfSome result (λ c. AreSmallSteps metrics.now
+        (steps_view (map string_bytes names.now) steps.now)) }
+    ensures none { IfNone result (AreSmallSteps metrics.now
+        (steps_view (map string_bytes names.now) steps.now) → ⊥) }
 {
     let mut now = Progress {
         scale: 1,

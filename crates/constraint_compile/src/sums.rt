@@ -1,11 +1,13 @@
 // Sums of terms, over a common scale.
-ghost use Rattle.std.specs.Prelude.{◌≡◌, ℕ, ◌<◌, ◌≤◌, ◌*◌, ◌^◌, ◌+ℤ◌, ◌*ℤ◌, ◌<ℤ◌, pos, length, if◌then◌else◌, ◌==◌, All, AllPairs, IfOk, IfSome, IfNone, unsigned_abs};
+ghost use Rattle.std.specs.Prelude.{◌≡◌, ℕ, ◌<◌, ◌≤◌, ◌*◌, ◌^◌, ◌+ℤ◌, ◌*ℤ◌, ◌<ℤ◌, pos, length, if◌then◌else◌};
+ghost use Rattle.std.specs.Prelude.{◌==◌, All, AllPairs, IfOk, IfSome, IfNone, unsigned_abs};
 ghost use Prim.Native.Nat.{◌∣◌};
 ghost use Rattle.frac_core.specs.Fraction.{Fraction};
 ghost use Rattle.problem_core.specs.Layout.{coefficient};
 ghost use Rattle.constraint_compile.specs.Fractions.{AreSmall};
 ghost use Rattle.constraint_compile.specs.Shares.{form, AreHalves};
-ghost use Rattle.constraint_compile.specs.Sums.{AreKept, IsSum, IsCovered, IsDivisor, AreDivided, IsPast, AreWhole, attr_at, number_at, with_share, with_share_number};
+ghost use Rattle.constraint_compile.specs.Sums.{AreKept, IsSum, IsCovered, IsDivisor, AreDivided, IsPast};
+ghost use Rattle.constraint_compile.specs.Sums.{AreWhole, attr_at, number_at, with_share, with_share_number};
 
 use crate::attributes::{Doubled, Share};
 use crate::wide::{product, quotient, total};
@@ -106,7 +108,9 @@ fn widened(alloc: Global, attrs: &[u32], sum: &Sum, share: &Share) -> Result<Vec
     requires kept { AreKept attrs.now sum.now.scale sum.now.numbers.items }
     requires halves { AreHalves share.now.of }
     ensures long { IfOk result (λ wide. length wide.items ≡ length attrs.now) }
-    ensures each { IfOk result (λ wide. (i : ℕ) → i < length attrs.now → number_at wide.items i ≡ with_share_number (number_at sum.now.numbers.items i) sum.now.scale share.now (attr_at attrs.now i)) }
+    ensures each { IfOk result (λ wide. (i : ℕ) → i < length attrs.now
+        → number_at wide.items i ≡ with_share_number
+        (number_at sum.now.numbers.items i) sum.now.scale share.now (attr_at attrs.now i)) }
 {
     let mut wide = Vec::with_capacity(alloc, attrs.len())?;
     for place in 0..attrs.len() {
@@ -234,7 +238,8 @@ fn unscaled(
     requires kept { AreKept attrs.now sum.now.scale sum.now.numbers.items }
     requires halves { AreHalves share.now.of }
     ensures scale { IfOk result (λ o. IfSome o (λ _. (sum.now.scale ≡ 1) × (share.now.by.den ≡ 1))) }
-    ensures whole { IfOk result (λ o. IfSome o (λ next. AreWhole attrs.now sum.now.numbers.items share.now next.items)) }
+    ensures whole { IfOk result (λ o. IfSome o (λ next.
+        AreWhole attrs.now sum.now.numbers.items share.now next.items)) }
 {
     if sum.scale == 1 && share.by.den() == 1 {
         whole_numbers(alloc, attrs, &sum.numbers, share)
@@ -253,8 +258,12 @@ fn rescaled(
     requires kept { AreKept attrs.now sum.now.scale sum.now.numbers.items }
     requires halves { AreHalves share.now.of }
     ensures kept { IfOk result (λ o. IfSome o (λ next. AreKept attrs.now next.scale next.numbers.items)) }
-    ensures sum { IfOk result (λ o. IfSome o (λ next. (b : ℕ → Fraction) → IsSum b attrs.now sum.now.scale sum.now.numbers.items → IsCovered attrs.now share.now → IsSum (with_share b share.now) attrs.now next.scale next.numbers.items)) }
-    ensures past { IfOk result (λ o. IfNone o ((b : ℕ → Fraction) → IsSum b attrs.now sum.now.scale sum.now.numbers.items → IsCovered attrs.now share.now → AreSmall (with_share b share.now) → ⊥)) }
+    ensures sum { IfOk result (λ o. IfSome o (λ next. (b : ℕ → Fraction)
+        → IsSum b attrs.now sum.now.scale sum.now.numbers.items → IsCovered attrs.now share.now
+        → IsSum (with_share b share.now) attrs.now next.scale next.numbers.items)) }
+    ensures past { IfOk result (λ o. IfNone o ((b : ℕ → Fraction)
+        → IsSum b attrs.now sum.now.scale sum.now.numbers.items → IsCovered attrs.now share.now
+        → AreSmall (with_share b share.now) → ⊥)) }
 {
     let wide = widened(alloc, attrs, sum, share)?;
     let whole = whole_of(sum.scale, share.by);
@@ -282,8 +291,12 @@ pub(crate) fn added(
     requires kept { AreKept attrs.now sum.now.scale sum.now.numbers.items }
     requires halves { AreHalves share.now.of }
     ensures kept { IfOk result (λ o. IfSome o (λ next. AreKept attrs.now next.scale next.numbers.items)) }
-    ensures sum { IfOk result (λ o. IfSome o (λ next. (b : ℕ → Fraction) → IsSum b attrs.now sum.now.scale sum.now.numbers.items → IsCovered attrs.now share.now → IsSum (with_share b share.now) attrs.now next.scale next.numbers.items)) }
-    ensures past { IfOk result (λ o. IfNone o ((b : ℕ → Fraction) → IsSum b attrs.now sum.now.scale sum.now.numbers.items → IsCovered attrs.now share.now → AreSmall (with_share b share.now) → ⊥)) }
+    ensures sum { IfOk result (λ o. IfSome o (λ next. (b : ℕ → Fraction)
+        → IsSum b attrs.now sum.now.scale sum.now.numbers.items → IsCovered attrs.now share.now
+        → IsSum (with_share b share.now) attrs.now next.scale next.numbers.items)) }
+    ensures past { IfOk result (λ o. IfNone o ((b : ℕ → Fraction)
+        → IsSum b attrs.now sum.now.scale sum.now.numbers.items → IsCovered attrs.now share.now
+        → AreSmall (with_share b share.now) → ⊥)) }
 {
     match unscaled(alloc, attrs, sum, share)? {
         Some(numbers) => Ok(Some(Sum { scale: 1, numbers })),

@@ -1,5 +1,6 @@
 -- What the objects in memory hold, and what decides their answers.
-use Rattle.std.specs.Prelude.{◌≡◌, ◌↔◌, ℕ, ◌-◌, ◌+◌, ◌^◌, ◌≤◌, ◌⊎◌, ◌==◌, List, min, slice_index, if◌then◌else◌, length, Result, IfOk, IsErr, Contains}
+use Rattle.std.specs.Prelude.{◌≡◌, ◌↔◌, ℕ, ◌-◌, ◌+◌, ◌^◌, ◌≤◌, ◌⊎◌, ◌==◌, List, min, slice_index}
+use Rattle.std.specs.Prelude.{if◌then◌else◌, length, Result, IfOk, IsErr, Contains}
 
 -- a source in memory: what is left, the greatest sizes, the calls that fail, and the next call's number
 pub record MemoryInput : Type 0 where
@@ -25,7 +26,8 @@ size_of sizes call = if slice_index sizes call == 0 then 2 ^ 64 - 1 else slice_i
 abbrev pub next_call : ℕ → ℕ
 next_call call = min (call + 1) (2 ^ 64 - 1)
 
--- A pull fails exactly where its call is listed, and else takes the most that it may. The call counts, and the lists stay.
+-- A pull fails exactly where its call is listed, and else takes the most that it may. The call counts, and
+-- the lists stay.
 pub record PullsMost {E : Type 0} (old new : MemoryInput) (room : ℕ) (result : Result ℕ E) : Type 0 where
   pub fails : IsErr result ↔ Contains old.fails old.call
   pub most : IfOk result (λ n. n ≡ min (min (size_of old.sizes old.call) room) (length old.left))
@@ -33,7 +35,8 @@ pub record PullsMost {E : Type 0} (old new : MemoryInput) (room : ℕ) (result :
   pub same_sizes : new.sizes ≡ old.sizes
   pub same_fails : new.fails ≡ old.fails
 
--- A put fails exactly where its call is listed or the sink is full, and else takes the most that it may. The call counts, and room and list stay.
+-- A put fails exactly where its call is listed or the sink is full, and else takes the most that it may. The
+-- call counts, and room and list stay.
 pub record PutsMost {E : Type 0} (old new : MemoryOutput) (size : ℕ) (result : Result ℕ E) : Type 0 where
   pub fails : IsErr result ↔ ((old.room ≤ length old.held) ⊎ Contains old.fails old.call)
   pub most : IfOk result (λ n. n ≡ min (old.room - length old.held) size)

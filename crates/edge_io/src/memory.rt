@@ -12,7 +12,8 @@ use std::marker::Model;
 
 /// Bytes in memory as a source, for tests: the greatest size of each call and the calls that fail are given.
 ///
-/// A contract sees it as the bytes that are left, those two lists, the number of the next call, and the count of faults.
+/// A contract sees it as the bytes that are left, those two lists, the number of the next call, and the count
+/// of faults.
 #[derive(Drop)]
 pub struct MemorySource {
     bytes: Vec<u8>,
@@ -29,7 +30,13 @@ impl Model for MemorySource {
 
     ghost Value = { MemoryInput };
 
-    ghost view = { λ s. record { left = drop s.at s.bytes.items; sizes = s.sizes.items; fails = s.fails.items; call = s.calls; faults = s.faults } };
+    ghost view = { λ s. record {
+      left = drop s.at s.bytes.items;
+      sizes = s.sizes.items;
+      fails = s.fails.items;
+      call = s.calls;
+      faults = s.faults;
+    } };
 
     ghost invariant = { λ s. s.at ≤ vec_len s.bytes };
 }
@@ -46,10 +53,11 @@ fn size_of_call(sizes: &[usize], call: u64) -> usize
 }
 
 impl MemorySource {
-    /// A source of these bytes, whose calls are counted from 0. The call number k takes at most `sizes[k]` bytes, where
-    /// that is there and not 0, and fails where `fails` has k.
+    /// A source of these bytes, whose calls are counted from 0. The call number k takes at most `sizes[k]`
+    /// bytes, where that is there and not 0, and fails where `fails` has k.
     pub fn new(bytes: Vec<u8>, sizes: Vec<usize>, fails: Vec<u64>) -> Self
-        ensures { result ≡ record { left = bytes.items; sizes = sizes.items; fails = fails.items; call = 0; faults = 0 } }
+        ensures { result
+            ≡ record { left = bytes.items; sizes = sizes.items; fails = fails.items; call = 0; faults = 0 } }
     {
         MemorySource {
             bytes,
@@ -67,7 +75,8 @@ impl Source for MemorySource {
 
     ghost faults = { λ s. s.faults };
 
-    /// Takes as many bytes as the size of the call, the bytes left and `buf` allow. It fails only in a call that is listed.
+    /// Takes as many bytes as the size of the call, the bytes left and `buf` allow. It fails only in a call
+    /// that is listed.
     fn pull(&mut self, buf: &mut [u8]) -> Result<usize, Failed>
         requires { 0 < length buf.old }
         ensures bound { ReadsAtMost result buf.new }
@@ -92,8 +101,8 @@ impl Source for MemorySource {
 
 /// Room in memory as a sink, for tests: the room and the calls that fail are given.
 ///
-/// A contract sees it as the bytes that it holds, its room, that list, the number of the next call, and the count of
-/// faults.
+/// A contract sees it as the bytes that it holds, its room, that list, the number of the next call, and the
+/// count of faults.
 #[derive(Drop)]
 pub struct MemorySink {
     bytes: Vec<u8>,
@@ -109,16 +118,23 @@ impl Model for MemorySink {
 
     ghost Value = { MemoryOutput };
 
-    ghost view = { λ s. record { held = s.bytes.items; room = s.room; fails = s.fails.items; call = s.calls; faults = s.faults } };
+    ghost view = { λ s. record {
+      held = s.bytes.items;
+      room = s.room;
+      fails = s.fails.items;
+      call = s.calls;
+      faults = s.faults;
+    } };
 
     ghost invariant = { λ s. (vec_len s.bytes ≤ s.room) × (s.room ≤ vec_capacity s.bytes) };
 }
 
 impl MemorySink {
-    /// An empty sink with room for so many bytes, whose calls are counted from 0. The call number k fails where `fails`
-    /// has k, and each call fails while the sink is full.
+    /// An empty sink with room for so many bytes, whose calls are counted from 0. The call number k fails
+    /// where `fails` has k, and each call fails while the sink is full.
     pub fn new(alloc: Global, room: usize, fails: Vec<u64>) -> Result<Self, OutOfMemory>
-        ensures { IfOk result (λ s. s ≡ record { held = []; room = room; fails = fails.items; call = 0; faults = 0 }) }
+        ensures { IfOk result (λ s. s
+            ≡ record { held = []; room = room; fails = fails.items; call = 0; faults = 0 }) }
     {
         Ok(MemorySink {
             bytes: Vec::with_capacity(alloc, room)?,
@@ -142,7 +158,8 @@ impl Sink for MemorySink {
 
     ghost faults = { λ s. s.faults };
 
-    /// Appends as much of `piece` as there is room for. It fails only in a call that is listed, and while it is full.
+    /// Appends as much of `piece` as there is room for. It fails only in a call that is listed, and while it
+    /// is full.
     fn put(&mut self, piece: &[u8]) -> Result<usize, Failed>
         requires { 0 < length piece.now }
         ensures bound { IfOk result (λ n. (0 < n) × (n ≤ length piece.now)) }

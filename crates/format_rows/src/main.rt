@@ -3,9 +3,11 @@
 //! A line of the input is one of these:
 //!
 //! - `from N`: all begins anew, and the rows of each line that follows are numbered from N;
-//! - `on from N`: all begins anew, and the rows that follow are numbered from N on, one line's after the other's;
+//! - `on from N`: all begins anew, and the rows that follow are numbered from N on, one line's after the
+//!   other's;
 //! - `view ..` and `metric ..`, as in a script;
-//! - `format` with an alignment, where there is one, and a format, or `line` and a line of a script: its rows are printed.
+//! - `format` with an alignment, where there is one, and a format, or `line` and a line of a script: its rows
+//!   are printed.
 #![tactic(auto)]
 
 mod printing;

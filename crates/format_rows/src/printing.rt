@@ -106,7 +106,8 @@ fn put_command(
     }
 }
 
-// What a line of a script leads to. Of a line that isn't read the offset is told without what was put before it.
+// What a line of a script leads to. Of a line that isn't read the offset is told without what was put before
+// it.
 fn put_line(
     alloc: Global,
     out: &mut String,

@@ -17,7 +17,8 @@ fn put(out: &mut [u8], at: usize, piece: &[u8]) -> usize
     end
 }
 
-/// Writes the fraction as `p/q`, or as `p` where q is 1, into the first bytes of `out`; the answer is the text's length.
+/// Writes the fraction as `p/q`, or as `p` where q is 1, into the first bytes of `out`; the answer is the
+/// text's length.
 pub fn write_frac(f: Wide, out: &mut [u8; 82]) -> usize
     ensures length { result ≡ length (fraction_text f) }
     ensures text { take result out.new ≡ fraction_text f }

@@ -1,7 +1,8 @@
 -- What the program's exit status says.
 use Rattle.std.specs.Prelude.{ℕ}
 use Rattle.layout_cli.specs.declared.program.Status.{Status}
-use Rattle.layout_cli.specs.declared.program.Status.TheVariants.{Done, Refused, Usage, ReadFault, WriteFault, OutOfMemory, TooLong}
+use Rattle.layout_cli.specs.declared.program.Status.TheVariants.{Done, Refused, Usage, ReadFault, WriteFault}
+use Rattle.layout_cli.specs.declared.program.Status.TheVariants.{OutOfMemory, TooLong}
 
 abbrev pub exit_code : Status → ℕ
 exit_code Done = 0

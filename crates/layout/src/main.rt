@@ -26,7 +26,8 @@ fn exit_status(status: Status) -> u8
     }
 }
 
-// The words after the program's name. Words that are no text are none, and so other words than those of a run.
+// The words after the program's name. Words that are no text are none, and so other words than those of a
+// run.
 fn words_of(rt: &(impl Env + AllocGlobal)) -> Result<Vec<String>, OutOfMemory> {
     let mut words = Vec::new(rt.alloc());
     match env::args(rt) {

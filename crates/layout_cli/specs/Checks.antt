@@ -1,5 +1,6 @@
 -- What the check of an input answers, and its text.
-use Rattle.std.specs.Prelude.{◌≡◌, ◌⊎◌, ℕ, ◌+◌, Bool, true, false, List, [], ◌∷◌, ◌++◌, length, codes, decimal}
+use Rattle.std.specs.Prelude.{◌≡◌, ◌⊎◌, ℕ, ◌+◌, Bool, true, false, List, [], ◌∷◌, ◌++◌, length, codes}
+use Rattle.std.specs.Prelude.{decimal}
 use Rattle.std.specs.Str.Lines.{lines}
 use Rattle.problem_core.specs.Layout.{Problem}
 use Rattle.cert_checker.specs.declared.verdict.Verdict.{Verdict}
@@ -30,12 +31,14 @@ pub record IsJudged (all : List (List ℕ)) (v : Verdict) : Type 0 where
   pub claims : claim.Reads after c
   pub verdict : IsVerdictOn p c v
 
--- the n-th line, counted from 1, is the first outside the form: one of the problem's, or one of the claim's where the problem is in the form
+-- the n-th line, counted from 1, is the first outside the form: one of the problem's, or one of the claim's
+-- where the problem is in the form
 pub record IsBad (all : List (List ℕ)) (n : ℕ) : Type 0 where
   pub before : List (List ℕ)
   pub after : List (List ℕ)
   pub cut : IsCut all before after
-  pub bad : problem.StopsAt before (BadLine n) ⊎ ((p : Problem) × problem.Reads before p × (m : ℕ) × claim.StopsAt after (BadLine m) × (n ≡ length before + m))
+  pub bad : problem.StopsAt before (BadLine n) ⊎ ((p : Problem) × problem.Reads before p × (m : ℕ)
+      × claim.StopsAt after (BadLine m) × (n ≡ length before + m))
 
 abbrev pub IsAnswerTo : List (List ℕ) → Answer → Type 0
 IsAnswerTo all (Judged v) = IsJudged all v
@@ -55,4 +58,5 @@ is_yes (Bad n) = false
 
 -- The text is the one line that the check of the input answers, which is `yes` or not.
 abbrev pub IsCheckOf : List ℕ → List ℕ → Bool → Type 0
-IsCheckOf input text good = (answer : Answer) × IsAnswerTo (lines input) answer × (text ≡ answer_text answer) × (good ≡ is_yes answer)
+IsCheckOf input text good = (answer : Answer) × IsAnswerTo (lines input) answer × (text ≡ answer_text answer)
+    × (good ≡ is_yes answer)

@@ -24,7 +24,8 @@ Step old line = Unless (4096 < length line) (Limit word.Line) old (GrammarStep o
 abbrev pub Run : State → List (List ℕ) → List ℕ → Bool → State → Type 0
 Run old [] text good new = (text ≡ []) × (good ≡ true) × (new ≡ old)
 Run old (line ∷ more) text good new = (reply : Reply) × (mid : State) × (rest : List ℕ) × (rest_good : Bool)
-    × Step old line reply mid × (text ≡ text_of mid.scene reply ++ rest) × (good ≡ (is_accepted reply && rest_good)) × Run mid more rest rest_good new
+    × Step old line reply mid × (text ≡ text_of mid.scene reply ++ rest)
+    × (good ≡ (is_accepted reply && rest_good)) × Run mid more rest rest_good new
 
 -- The text is a run of the lines of the script, from the first session.
 abbrev pub IsRunOf : List ℕ → List ℕ → Bool → Type 0

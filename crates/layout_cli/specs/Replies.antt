@@ -18,7 +18,8 @@ use Rattle.claim_text.specs.PathTexts.{path_text, unfit_text}
 use Rattle.session_undo.specs.declared.reply.StopPlace.{StopPlace}
 use Rattle.session_undo.specs.declared.reply.StopPlace.TheVariants.{Step}
 use Rattle.session_undo.specs.Scene.{Scene, problem_of}
-use Rattle.session_undo.specs.Replies.{Reply, Nothing, Done, Frames, Rows, Outside, Unknown, Taken, Limit, Kind, Conflict, Overflow, Spent}
+use Rattle.session_undo.specs.Replies.{Reply, Nothing, Done, Frames, Rows, Outside, Unknown, Taken, Limit}
+use Rattle.session_undo.specs.Replies.{Kind, Conflict, Overflow, Spent}
 
 abbrev pub limit_text : LimitWord → List ℕ
 limit_text word.Line = codes "line"
@@ -50,10 +51,12 @@ value_text f = 32 ∷ fraction_text f
 
 -- the name of a view, and its left, top, width and height
 unfoldable pub frame_line : List ℕ → Fraction → Fraction → Fraction → Fraction → List ℕ
-frame_line name left top width height = codes "frame " ++ (name ++ (value_text left ++ (value_text top ++ (value_text width ++ (value_text height ++ 10 ∷ [])))))
+frame_line name left top width height = codes "frame "
+    ++ (name ++ (value_text left ++ (value_text top ++ (value_text width ++ (value_text height ++ 10 ∷ [])))))
 
 abbrev pub frame_of : List (ℕ × Fraction) → LiveView → List ℕ
-frame_of values v = frame_line v.name (value_of values (4 * v.id + 1)) (value_of values (4 * v.id + 2)) (value_of values (4 * v.id + 3)) (value_of values (4 * v.id + 4))
+frame_of values v = frame_line v.name (value_of values (4 * v.id + 1)) (value_of values (4 * v.id + 2))
+    (value_of values (4 * v.id + 3)) (value_of values (4 * v.id + 4))
 
 -- `# ID NAME.ATTR`
 unfoldable pub name_line : ℕ → List ℕ → List ℕ → List ℕ
@@ -76,7 +79,8 @@ abbrev pub frames_text : Scene → List ℕ
 frames_text scene = text_of_each (frame_of scene.values) scene.tree.views ++ line_of (codes "ok")
 
 abbrev pub rows_text : Scene → List ℕ
-rows_text scene = text_of_each names_of scene.tree.views ++ (problem_text (problem_of scene) ++ line_of (codes "ok"))
+rows_text scene = text_of_each names_of scene.tree.views
+    ++ (problem_text (problem_of scene) ++ line_of (codes "ok"))
 
 -- the multipliers, each on a line `by TIMES row ID`
 abbrev pub conflict_text : List By → List ℕ

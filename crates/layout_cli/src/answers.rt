@@ -36,7 +36,8 @@ fn step(alloc: Global, session: &mut Session, line: &[u8]) -> Result<Reply, Refu
     }
 }
 
-// Does what a line says, appends the reply, and says whether it is no refusal. The room for `ok` is there before a change is made.
+// Does what a line says, appends the reply, and says whether it is no refusal. The room for `ok` is there
+// before a change is made.
 fn answer(session: &mut Session, line: &[u8], out: &mut Vec<u8>) -> Result<bool, OutOfMemory>
     ensures told { IfOk result (λ good. (answer : reply.Reply) × Step session.old line.now answer session.new
         × (out.new.items ≡ out.old.items ++ text_of session.new.scene answer) × (good ≡ is_accepted answer)) }

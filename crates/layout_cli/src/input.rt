@@ -38,7 +38,8 @@ pub fn read_all<S: Source>(
     ensures bytes { IfOk result (λ v. IfSome (S.left source.old) (λ bs. v.items ≡ bs)) }
     ensures short { IfOk result (λ v. vec_len v ≤ limit) }
     ensures fault { IsErrOf result InputStop.Fault → Rose (S.faults source.old) (S.faults source.new) }
-    ensures too_long { IsErrOf result InputStop.TooLong → IfSome (S.left source.old) (λ bs. limit < length bs) }
+    ensures too_long { IsErrOf result InputStop.TooLong
+        → IfSome (S.left source.old) (λ bs. limit < length bs) }
 {
     let mut input = Vec::new(alloc);
     let mut piece = [0; PIECE];

@@ -1,7 +1,9 @@
-//! The program's run: a script of lines in, their replies out; or a problem and a claim in, and the checker's verdict out.
+//! The program's run: a script of lines in, their replies out; or a problem and a claim in, and the checker's
+//! verdict out.
 //!
-//! A script makes views, metrics and constraints, changes the size of the window, and asks for the frames of the views and
-//! for the rows. The values that a frame shows are those of the assignment that is best for the rows held.
+//! A script makes views, metrics and constraints, changes the size of the window, and asks for the frames of
+//! the views and for the rows. The values that a frame shows are those of the assignment that is best for the
+//! rows held.
 #![tactic(auto)]
 
 mod answers;

@@ -7,7 +7,8 @@ use view_tree::Tree;
 
 #[tactic(auto, unfolding(crate::specs::Replies::name_line))]
 fn put_name(text: &mut String, attr: u64, name: &str, word: &str) -> Result<(), OutOfMemory>
-    ensures { IfOk result (λ _. string_bytes text.new ≡ string_bytes text.old ++ name_line attr name.now word.now) }
+    ensures { IfOk result (λ _. string_bytes text.new
+        ≡ string_bytes text.old ++ name_line attr name.now word.now) }
 {
     writeln!(text, "# {attr} {name}.{word}")?;
     Ok(())
@@ -15,7 +16,8 @@ fn put_name(text: &mut String, attr: u64, name: &str, word: &str) -> Result<(), 
 
 // The names of a view's attributes.
 fn put_names_of(text: &mut String, id: u32, name: &str) -> Result<(), OutOfMemory>
-    ensures { IfOk result (λ _. string_bytes text.new ≡ string_bytes text.old ++ names_of (record { id = id; name = name.now; parent = None })) }
+    ensures { IfOk result (λ _. string_bytes text.new
+        ≡ string_bytes text.old ++ names_of (record { id = id; name = name.now; parent = None })) }
 {
     let first = 4 * u64::from(id) + 1;
     put_name(text, first, name, "left")?;
@@ -26,7 +28,8 @@ fn put_names_of(text: &mut String, id: u32, name: &str) -> Result<(), OutOfMemor
 
 /// Appends the names of the attributes of all views.
 pub fn put_names(text: &mut String, tree: &Tree) -> Result<(), OutOfMemory>
-    ensures { IfOk result (λ _. string_bytes text.new ≡ string_bytes text.old ++ text_of_each names_of tree.now.views) }
+    ensures { IfOk result (λ _. string_bytes text.new
+        ≡ string_bytes text.old ++ text_of_each names_of tree.now.views) }
 {
     for place in 0..tree.len() {
         match tree.at(place) {

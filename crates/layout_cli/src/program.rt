@@ -1,5 +1,6 @@
 // The program's run, over any source and sink.
-ghost use Rattle.std.specs.Prelude.{◌≡◌, ◌⊎◌, ◌<◌, ◌≤◌, ◌^◌, ℕ, List, [], true, false, length, IfSome, IfOk, take, Bool};
+ghost use Rattle.std.specs.Prelude.{◌≡◌, ◌⊎◌, ◌<◌, ◌≤◌, ◌^◌, ℕ, List, [], true, false, length, IfSome, IfOk};
+ghost use Rattle.std.specs.Prelude.{take, Bool};
 ghost use Rattle.std.specs.Io.KnownBytes.{Appends};
 ghost use Rattle.edge_io.specs.Cause.{Rose};
 ghost use Rattle.layout_cli.specs.Outputs.{IsOutputOf};
@@ -45,10 +46,12 @@ fn output_of(alloc: Global, mode: Mode, input: &[u8]) -> Result<Output, OutOfMem
     }
 }
 
-/// Reads an input to its end and writes what the mode answers: the replies to the lines of a script, or the checker's
-/// verdict on a problem and a claim. `words` are the program's words after its name, and name the mode.
+/// Reads an input to its end and writes what the mode answers: the replies to the lines of a script, or the
+/// checker's verdict on a problem and a claim. `words` are the program's words after its name, and name the
+/// mode.
 ///
-/// Nothing is written before the whole input has been read. The first event that ends the run decides the status.
+/// Nothing is written before the whole input has been read. The first event that ends the run decides the
+/// status.
 pub fn run<S: Source, K: Sink>(
     alloc: Global,
     words: &[String],
@@ -56,10 +59,14 @@ pub fn run<S: Source, K: Sink>(
     sink: &mut K,
 ) -> Status
     // The whole input was read, and what was written is what the mode that the words name answers it.
-    ensures done { result ≡ Status.Done → IfSome (S.left source.old) (λ input. (mode : Mode) × AreWordsOf words.now mode × (length input ≤ limit_of mode)
-        × ((text : List ℕ) × IsOutputOf mode input text true × Appends (K.held sink.old) (K.held sink.new) text)) }
-    ensures refused { result ≡ Status.Refused → IfSome (S.left source.old) (λ input. (mode : Mode) × AreWordsOf words.now mode × (length input ≤ limit_of mode)
-        × ((text : List ℕ) × IsOutputOf mode input text false × Appends (K.held sink.old) (K.held sink.new) text)) }
+    ensures done { result ≡ Status.Done → IfSome (S.left source.old) (λ input. (mode : Mode)
+        × AreWordsOf words.now mode × (length input ≤ limit_of mode)
+        × ((text : List ℕ) × IsOutputOf mode input text true
+        × Appends (K.held sink.old) (K.held sink.new) text)) }
+    ensures refused { result ≡ Status.Refused → IfSome (S.left source.old) (λ input. (mode : Mode)
+        × AreWordsOf words.now mode × (length input ≤ limit_of mode)
+        × ((text : List ℕ) × IsOutputOf mode input text false
+        × Appends (K.held sink.old) (K.held sink.new) text)) }
 
     // Other words get the usage line, unless the sink fails.
     ensures usage { result ≡ Status.Usage → Appends (K.held sink.old) (K.held sink.new) usage_line }
@@ -70,14 +77,16 @@ pub fn run<S: Source, K: Sink>(
     ensures read_fault { result ≡ Status.ReadFault → Rose (S.faults source.old) (S.faults source.new) }
     ensures after_read_fault { result ≡ Status.ReadFault → Appends (K.held sink.old) (K.held sink.new) [] }
     ensures write_fault { result ≡ Status.WriteFault → Rose (K.faults sink.old) (K.faults sink.new) }
-    ensures after_write_fault { result ≡ Status.WriteFault → (mode : Mode) → AreWordsOf words.now mode → IfSome (S.left source.old) (λ input.
+    ensures after_write_fault { result ≡ Status.WriteFault → (mode : Mode) → AreWordsOf words.now mode
+        → IfSome (S.left source.old) (λ input.
         (length input ≤ limit_of mode) × ((text : List ℕ) × (good : Bool) × (n : ℕ)
         × IsOutputOf mode input text good × Appends (K.held sink.old) (K.held sink.new) (take n text))) }
     ensures usage_fault { result ≡ Status.WriteFault → AreOther words.now
         → (n : ℕ) × Appends (K.held sink.old) (K.held sink.new) (take n usage_line) }
 
     // The source gave more than the limit.
-    ensures too_long { result ≡ Status.TooLong → IfSome (S.left source.old) (λ input. (mode : Mode) × AreWordsOf words.now mode × (limit_of mode < length input)) }
+    ensures too_long { result ≡ Status.TooLong → IfSome (S.left source.old) (λ input. (mode : Mode)
+        × AreWordsOf words.now mode × (limit_of mode < length input)) }
     ensures after_too_long { result ≡ Status.TooLong → Appends (K.held sink.old) (K.held sink.new) [] }
     ensures out_of_memory { result ≡ Status.OutOfMemory → Appends (K.held sink.old) (K.held sink.new) [] }
 {

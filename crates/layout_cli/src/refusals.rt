@@ -56,7 +56,8 @@ pub fn push_line(out: &mut Vec<u8>, front: &[u8], word: &[u8]) -> Result<(), Out
 }
 
 fn push_outside(out: &mut Vec<u8>, at: usize) -> Result<(), OutOfMemory>
-    ensures { IfOk result (λ _. out.new.items ≡ out.old.items ++ (codes "refused 1 syntax " ++ (decimal at ++ 10 ∷ []))) }
+    ensures { IfOk result (λ _. out.new.items ≡ out.old.items
+        ++ (codes "refused 1 syntax " ++ (decimal at ++ 10 ∷ []))) }
 {
     let mut word = String::new(*out.allocator());
     write!(word, "{at}")?;
@@ -100,7 +101,8 @@ fn push_spent(out: &mut Vec<u8>, place: StopPlace, path: &Path) -> Result<(), Ou
 
 /// Appends the text of a refusal. None is told of want of memory.
 pub fn push_refusal(refusal: &Refusal, out: &mut Vec<u8>) -> Result<(), OutOfMemory>
-    ensures { IfOk result (λ _. IsTold (λ reply. out.new.items ≡ out.old.items ++ refusal_text reply) refusal.now) }
+    ensures { IfOk result (λ _. IsTold (λ reply. out.new.items
+        ≡ out.old.items ++ refusal_text reply) refusal.now) }
 {
     match refusal {
         Refusal::Syntax(at) => push_outside(out, *at),

@@ -1,5 +1,6 @@
 // The text of replies to accepted lines.
-ghost use Rattle.std.specs.Prelude.{◌≡◌, ◌≤◌, ◌+◌, ◌++◌, IfOk, OnOk, IsOk, codes, string_bytes, vec_len, vec_capacity};
+ghost use Rattle.std.specs.Prelude.{◌≡◌, ◌≤◌, ◌+◌, ◌++◌, IfOk, OnOk, IsOk, codes, string_bytes, vec_len};
+ghost use Rattle.std.specs.Prelude.{vec_capacity};
 ghost use Rattle.layout_cli.specs.Replies.{text_of, frames_text, rows_text, names_of, text_of_each, line_of};
 ghost use Rattle.session_undo.specs.Replies.{accepted, IsChange, Tells};
 ghost use Rattle.session_undo.specs.declared.reply.Reply.TheVariants.{Done};
@@ -20,7 +21,8 @@ fn push_ok(out: &mut Vec<u8>) -> Result<(), OutOfMemory>
 }
 
 fn push_names(session: &Session, out: &mut Vec<u8>) -> Result<(), OutOfMemory>
-    ensures { IfOk result (λ _. out.new.items ≡ out.old.items ++ text_of_each names_of session.now.scene.tree.views) }
+    ensures { IfOk result (λ _. out.new.items ≡ out.old.items
+        ++ text_of_each names_of session.now.scene.tree.views) }
 {
     let mut text = String::new(*out.allocator());
     put_names(&mut text, session.state().tree())?;
@@ -45,7 +47,8 @@ fn show_rows(session: &Session, out: &mut Vec<u8>) -> Result<(), OutOfMemory>
 
 // Appends the text of the reply to an accepted line.
 fn push_reply(session: &Session, reply: &Reply, out: &mut Vec<u8>) -> Result<(), OutOfMemory>
-    ensures text { IfOk result (λ _. out.new.items ≡ out.old.items ++ text_of session.now.scene (accepted reply.now)) }
+    ensures text { IfOk result (λ _. out.new.items
+        ≡ out.old.items ++ text_of session.now.scene (accepted reply.now)) }
     ensures room { reply.now ≡ Done → vec_len out.old + 3 ≤ vec_capacity out.old → IsOk result }
 {
     match reply {
@@ -56,14 +59,15 @@ fn push_reply(session: &Session, reply: &Reply, out: &mut Vec<u8>) -> Result<(),
     }
 }
 
-/// Appends the lines of the reply to a command of the session; there are none for want of memory. Where a change was made, three
-/// bytes of room are enough.
+/// Appends the lines of the reply to a command of the session; there are none for want of memory. Where a
+/// change was made, three bytes of room are enough.
 pub fn reply_text(
     session: &Session,
     reply: &Result<Reply, Refusal>,
     out: &mut Vec<u8>,
 ) -> Result<(), OutOfMemory>
-    ensures text { OnOk result (Tells (λ told. out.new.items ≡ out.old.items ++ text_of session.now.scene told) reply.now) }
+    ensures text { OnOk result (Tells (λ told. out.new.items
+        ≡ out.old.items ++ text_of session.now.scene told) reply.now) }
     ensures room { IsChange reply.now → vec_len out.old + 3 ≤ vec_capacity out.old → IsOk result }
 {
     match reply {

@@ -1,10 +1,12 @@
 // The sign of a row's gap.
-ghost use Rattle.std.specs.Prelude.{◌≡◌, ℕ, ◌<◌, ◌≤◌, ◌^◌, ◌+◌, ◌+ℤ◌, ◌*ℤ◌, pos, length, map, All, IfOk, OnOk, OnErr, unsigned_abs};
+ghost use Rattle.std.specs.Prelude.{◌≡◌, ℕ, ◌<◌, ◌≤◌, ◌^◌, ◌+◌, ◌+ℤ◌, ◌*ℤ◌, pos, length, map, All, IfOk};
+ghost use Rattle.std.specs.Prelude.{OnOk, OnErr, unsigned_abs};
 ghost use Rattle.std.specs.Int.{◌∣◌};
 ghost use Rattle.std.specs.Ordering.{int_cmp};
 ghost use Rattle.problem_core.specs.Common.{IsLeastCommon};
 ghost use Rattle.problem_core.specs.Layout.{Assignment, Gives, gap, line_of_row};
-ghost use Rattle.problem_core.specs.Gaps.{HasRoom, HasRoomOver, HasValue, scaled_sum, times_common, value_dens, value_of};
+ghost use Rattle.problem_core.specs.Gaps.{HasRoom, HasRoomOver, HasValue, scaled_sum, times_common};
+ghost use Rattle.problem_core.specs.Gaps.{value_dens, value_of};
 
 use crate::common::least_common;
 use crate::parts::Term;
@@ -43,7 +45,8 @@ fn denominator(value: &Frac) -> u128
 fn common_denominator(terms: &[Term], values: &Values) -> Result<u128, NoRoom>
     ensures room { IfOk result (λ d. d < 2 ^ 62) }
     ensures least { IfOk result (IsLeastCommon (value_dens values.now terms.now)) }
-    ensures none { OnErr result ((d : ℕ) × (2 ^ 62 ≤ d) × ((m : ℕ) → 0 < m → All (λ t. (value_of values.now t.attr).den ∣ m) terms.now → d ≤ m)) }
+    ensures none { OnErr result ((d : ℕ) × (2 ^ 62 ≤ d)
+        × ((m : ℕ) → 0 < m → All (λ t. (value_of values.now t.attr).den ∣ m) terms.now → d ≤ m)) }
 {
     let mut common = 1;
     for term in terms {
@@ -94,8 +97,10 @@ fn sum_over(terms: &[Term], values: &Values, common: u128) -> Result<i128, NoRoo
     requires count { length terms.now ≤ 32 }
     requires room { common < 2 ^ 62 }
     ensures sum { IfOk result (λ s. s ≡ scaled_sum values.now common terms.now) }
-    ensures room { OnOk result (All (λ t. unsigned_abs (times_common (value_of values.now t.attr) common) < 2 ^ 62) terms.now) }
-    ensures none { OnErr result (All (λ t. unsigned_abs (times_common (value_of values.now t.attr) common) < 2 ^ 62) terms.now → ⊥) }
+    ensures room { OnOk result (All (λ t. unsigned_abs (times_common (value_of values.now t.attr) common)
+        < 2 ^ 62) terms.now) }
+    ensures none { OnErr result (All (λ t. unsigned_abs (times_common (value_of values.now t.attr) common)
+        < 2 ^ 62) terms.now → ⊥) }
 {
     let mut sum = 0;
     for term in terms {
@@ -117,11 +122,12 @@ fn compare(sum: i128, common: u128, constant: &Frac) -> Ordering
 
 /// The order of the row's gap and 0.
 ///
-/// `NoRoom`: the values of the row's attributes have no common denominator below 2^62, or a value times it is not
-/// below 2^62 in size.
+/// `NoRoom`: the values of the row's attributes have no common denominator below 2^62, or a value times it is
+/// not below 2^62 in size.
 pub fn gap_sign(row: &Row, values: &Values) -> Result<Ordering, NoRoom>
     requires { All (λ t. HasValue values.now t.attr) row.now.terms }
-    ensures sign { IfOk result (λ o. (x : Assignment) → Gives values.now x → o ≡ int_cmp (gap x (line_of_row row.now)) (pos 0)) }
+    ensures sign { IfOk result (λ o. (x : Assignment) → Gives values.now x
+        → o ≡ int_cmp (gap x (line_of_row row.now)) (pos 0)) }
     ensures room { OnOk result (HasRoom row.now values.now) }
     ensures none { OnErr result (HasRoom row.now values.now → ⊥) }
 {

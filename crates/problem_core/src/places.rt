@@ -5,8 +5,8 @@ ghost use Rattle.problem_core.specs.Corners.{place_of, side_number};
 
 use crate::parts::{Mark, RowName, Side};
 
-/// The column of a mark: 4 times the number of its row or its stay, plus 0 for a held row's under mark, 1 for its over mark, 2 for a
-/// stay's under mark and 3 for its over mark.
+/// The column of a mark: 4 times the number of its row or its stay, plus 0 for a held row's under mark, 1 for
+/// its over mark, 2 for a stay's under mark and 3 for its over mark.
 pub fn place(m: Mark) -> u64
     ensures value { result ≡ corners.place m }
     ensures small { result < 2 ^ 34 }

@@ -51,8 +51,24 @@ impl Row {
         terms: &[Term],
     ) -> Result<Row, OutOfMemory>
         requires scale { pos 0 <ℤ scale }
-        requires row { IsRow (record { id = id; rank = rank; weight = weight; rel = rel; scale = nat_abs scale; constant = constant; terms = terms.now }) }
-        ensures { IfOk result (λ r. r ≡ record { id = id; rank = rank; weight = weight; rel = rel; scale = nat_abs scale; constant = constant; terms = terms.now }) }
+        requires row { IsRow (record {
+          id = id;
+          rank = rank;
+          weight = weight;
+          rel = rel;
+          scale = nat_abs scale;
+          constant = constant;
+          terms = terms.now;
+        }) }
+        ensures { IfOk result (λ r. r ≡ record {
+          id = id;
+          rank = rank;
+          weight = weight;
+          rel = rel;
+          scale = nat_abs scale;
+          constant = constant;
+          terms = terms.now;
+        }) }
     {
         Ok(Row {
             id,

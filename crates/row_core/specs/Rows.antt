@@ -1,5 +1,6 @@
 -- Rows of whole numbers by column: a row says that the sum of by*col is 0.
-use Rattle.std.specs.Prelude.{◌≡◌, ◌≢◌, ℕ, ◌<◌, cond, nat_eq, List, [], ◌∷◌, length, ℤ, pos, ◌+ℤ◌, ◌*ℤ◌, unsigned_abs, All, AllPairs}
+use Rattle.std.specs.Prelude.{◌≡◌, ◌≢◌, ℕ, ◌<◌, cond, nat_eq, List, [], ◌∷◌, length, ℤ, pos, ◌+ℤ◌, ◌*ℤ◌}
+use Rattle.std.specs.Prelude.{unsigned_abs, All, AllPairs}
 use Prim.Native.Nat.{◌∣◌}
 use Rattle.frac_core.specs.Fraction.{IsFitting}
 

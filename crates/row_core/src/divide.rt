@@ -1,9 +1,11 @@
 // The division of a sum's numbers by their greatest common divisor.
-ghost use Rattle.std.specs.Prelude.{◌≡◌, ℕ, ℤ, ◌*◌, ◌<◌, ◌≤◌, ◌^◌, ◌*ℤ◌, ◌<ℤ◌, pos, unsigned_abs, IfOk, IfErr, IfSome, IfNone};
+ghost use Rattle.std.specs.Prelude.{◌≡◌, ℕ, ℤ, ◌*◌, ◌<◌, ◌≤◌, ◌^◌, ◌*ℤ◌, ◌<ℤ◌, pos, unsigned_abs, IfOk};
+ghost use Rattle.std.specs.Prelude.{IfErr, IfSome, IfNone};
 ghost use Prim.Native.Nat.{◌∣◌};
 ghost use Rattle.frac_core.specs.Fraction.{IsFitting};
 ghost use Rattle.row_core.specs.Rows.{IsRising, IsKeptRow, IsReduced, IsUnfit};
-ghost use Rattle.row_core.specs.Walks.{HasSmallProducts, IsNarrowSum, DividesWhole, IsDivisor, IsPushed, IsTooLarge, whole};
+ghost use Rattle.row_core.specs.Walks.{HasSmallProducts, IsNarrowSum, DividesWhole, IsDivisor, IsPushed};
+ghost use Rattle.row_core.specs.Walks.{IsTooLarge, whole};
 ghost use Rattle.row_core.specs.declared.entry.RowStop.TheVariants.{Unfit};
 
 use crate::entry::{Col, Entry, RowStop};

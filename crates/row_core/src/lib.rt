@@ -3,9 +3,9 @@
 //!
 //! `combine(alloc, &r, &p, 2, -3)` is the row 2*r - 3*p divided by its common divisor, or `Unfit`.
 //!
-//! To read: `entry` (columns and entries), `row` (rows and their combinations), `walk` (the columns of two rows
-//! from the lowest up), `divide` (the division of a sum by its divisor), `changes` (the columns by which two rows
-//! differ).
+//! To read: `entry` (columns and entries), `row` (rows and their combinations), `walk` (the columns of two
+//! rows from the lowest up), `divide` (the division of a sum by its divisor), `changes` (the columns by which
+//! two rows differ).
 //!
 //! Invariant: the columns of a row rise, its numbers are not 0, fit, and have no common divisor but 1.
 #![tactic(auto)]

@@ -1,8 +1,10 @@
 // Rows in lowest terms.
-ghost use Rattle.std.specs.Prelude.{◌≡◌, ℕ, ℤ, List, IfOk, IfErr, IfSome, IfNone, IsTrue, ◌↔◌, ◌<◌, ◌≢◌, pos, neg_ℤ, [], ◌∷◌, length, All};
+ghost use Rattle.std.specs.Prelude.{◌≡◌, ℕ, ℤ, List, IfOk, IfErr, IfSome, IfNone, IsTrue, ◌↔◌, ◌<◌, ◌≢◌, pos};
+ghost use Rattle.std.specs.Prelude.{neg_ℤ, [], ◌∷◌, length, All};
 ghost use Rattle.std.specs.List.{HoldsAt};
 ghost use Rattle.frac_core.specs.Fraction.{IsFitting};
-ghost use Rattle.row_core.specs.Rows.{IsRising, AllFit, IsKeptRow, IsReduced, IsUnfit, coefficient, combination};
+ghost use Rattle.row_core.specs.Rows.{IsRising, AllFit, IsKeptRow, IsReduced, IsUnfit, coefficient};
+ghost use Rattle.row_core.specs.Rows.{combination};
 ghost use Rattle.row_core.specs.Combinations.{IsFactor, combination_but};
 ghost use Rattle.row_core.specs.Walks.{HasSmallProducts, IsNarrowSum, whole};
 ghost use Rattle.row_core.specs.declared.entry.RowStop.TheVariants.{Unfit};

@@ -1,9 +1,12 @@
 // The columns of two rows, from the lowest up.
-ghost use Rattle.std.specs.Prelude.{◌≡◌, ℕ, ℤ, Bool, true, false, ◌&&◌, nat_eq, ◌+◌, ◌-◌, ◌<◌, ◌≤◌, ◌^◌, ◌*ℤ◌, ◌+ℤ◌, pos, unsigned_abs, length, IfSome, IfNone, ◌⊎◌};
+ghost use Rattle.std.specs.Prelude.{◌≡◌, ℕ, ℤ, Bool, true, false, ◌&&◌, nat_eq, ◌+◌, ◌-◌, ◌<◌, ◌≤◌, ◌^◌};
+ghost use Rattle.std.specs.Prelude.{◌*ℤ◌, ◌+ℤ◌, pos, unsigned_abs, length, IfSome, IfNone, ◌⊎◌};
 ghost use Rattle.frac_core.specs.Fraction.{IsFitting};
 ghost use Rattle.row_core.specs.Rows.{IsRising, AllFit, coefficient};
 ghost use Rattle.row_core.specs.Combinations.{IsFactor};
-ghost use Rattle.row_core.specs.Walks.{IsSmallProduct, IsFactorOf, HasSmallProducts, HasNext, alone, IsRowRead, IsSumRead, IsReading, IsNarrow, IsNarrowSum, IsRead, IsEnd, column_at, whole_of};
+ghost use Rattle.row_core.specs.Walks.{IsSmallProduct, IsFactorOf, HasSmallProducts, HasNext, alone};
+ghost use Rattle.row_core.specs.Walks.{IsRowRead, IsSumRead, IsReading, IsNarrow, IsNarrowSum, IsRead, IsEnd};
+ghost use Rattle.row_core.specs.Walks.{column_at, whole_of};
 
 use crate::entry::{Col, Entry, Factors, Patch};
 

@@ -21,13 +21,20 @@ use Rattle.problem_core.specs.declared.parts.Rel as parts
 
 -- the first words of lines
 unfoldable pub all_words : List (List ℕ × Keyword)
-all_words = (codes "view", key.View) ∷ (codes "metric", key.Metric) ∷ (codes "window", key.Window) ∷ (codes "vfl", key.Vfl) ∷ (codes "constrain", key.Constrain) ∷ (codes "budget", key.Budget) ∷ (codes "frames", key.Frames) ∷ (codes "rows", key.Rows) ∷ []
+all_words = (codes "view", key.View) ∷ (codes "metric", key.Metric) ∷ (codes "window", key.Window)
+    ∷ (codes "vfl", key.Vfl) ∷ (codes "constrain", key.Constrain) ∷ (codes "budget", key.Budget)
+    ∷ (codes "frames", key.Frames) ∷ (codes "rows", key.Rows) ∷ []
 
 unfoldable pub alignments : List (List ℕ × Align)
-alignments = (codes "left", align.Left) ∷ (codes "right", align.Right) ∷ (codes "top", align.Top) ∷ (codes "bottom", align.Bottom) ∷ (codes "centerX", align.CenterX) ∷ (codes "centerY", align.CenterY) ∷ []
+alignments = (codes "left", align.Left) ∷ (codes "right", align.Right) ∷ (codes "top", align.Top)
+    ∷ (codes "bottom", align.Bottom) ∷ (codes "centerX", align.CenterX) ∷ (codes "centerY", align.CenterY)
+    ∷ []
 
 unfoldable pub attributes : List (List ℕ × AttrWord)
-attributes = (codes "left", attr.Left) ∷ (codes "top", attr.Top) ∷ (codes "width", attr.Width) ∷ (codes "height", attr.Height) ∷ (codes "right", attr.Right) ∷ (codes "bottom", attr.Bottom) ∷ (codes "centerX", attr.CenterX) ∷ (codes "centerY", attr.CenterY) ∷ (codes "leading", attr.Leading) ∷ (codes "trailing", attr.Trailing) ∷ []
+attributes = (codes "left", attr.Left) ∷ (codes "top", attr.Top) ∷ (codes "width", attr.Width)
+    ∷ (codes "height", attr.Height) ∷ (codes "right", attr.Right) ∷ (codes "bottom", attr.Bottom)
+    ∷ (codes "centerX", attr.CenterX) ∷ (codes "centerY", attr.CenterY) ∷ (codes "leading", attr.Leading)
+    ∷ (codes "trailing", attr.Trailing) ∷ []
 
 unfoldable pub relations : List (List ℕ × parts.Rel)
 relations = (codes "==", rel.Eq) ∷ (codes "<=", rel.Le) ∷ (codes ">=", rel.Ge) ∷ []
@@ -49,28 +56,33 @@ times by of = record { by = by; of = of }
 -- a multiplied variable, a variable, or a number
 abbrev pub TermText : {A : Type 0} → Bool → (Term → Rel A) → Rel A
 TermText is_negative F = Or (Variable (λ o. F (times (lowest is_negative 1 1) o)))
-    (Or (Number (λ n. Or (Sign 42 (Variable (λ o. F (times (decimal is_negative n) o)))) (F (times (decimal is_negative n) mean.One))))
+    (Or (Number (λ n. Or (Sign 42 (Variable (λ o. F (times (decimal is_negative n) o))))
+    (F (times (decimal is_negative n) mean.One))))
     (Ratio (λ p q. Sign 42 (Variable (λ o. F (times (lowest is_negative p q) o))))))
 
 -- behind some terms
 abbrev pub Behind : {A : Type 0} → (List Term → Rel A) → (List Term → Rel A) → List Term → Rel A
-Behind F G terms = Or (Sign 43 (TermText false (λ t. G (terms ++ t ∷ [])))) (Or (Sign 45 (TermText true (λ t. G (terms ++ t ∷ [])))) (F terms))
+Behind F G terms = Or (Sign 43 (TermText false (λ t. G (terms ++ t ∷ []))))
+    (Or (Sign 45 (TermText true (λ t. G (terms ++ t ∷ [])))) (F terms))
 
 -- terms with + and - between them, and perhaps - in front
 abbrev pub Expression : {A : Type 0} → (List Term → Rel A) → Rel A
-Expression F = Or (Sign 45 (TermText true (λ t. Loop (Behind F) (t ∷ [])))) (TermText false (λ t. Loop (Behind F) (t ∷ [])))
+Expression F = Or (Sign 45 (TermText true (λ t. Loop (Behind F) (t ∷ []))))
+    (TermText false (λ t. Loop (Behind F) (t ∷ [])))
 
 abbrev pub Relation : {A : Type 0} → (parts.Rel → Rel A) → Rel A
 Relation F = Words relations (λ r. Gap (F r))
 
 abbrev pub Priority : {A : Type 0} → (Option Meant → Rel A) → Rel A
-Priority F = Or (Sign 64 (Or (Name (λ n. F (Some (object.Name n)))) (Number (λ n. F (Some (object.Number (pos n))))))) (F None)
+Priority F = Or (Sign 64 (Or (Name (λ n. F (Some (object.Name n))))
+    (Number (λ n. F (Some (object.Number (pos n))))))) (F None)
 
 abbrev pub Weight : {A : Type 0} → (ℕ → Rel A) → Rel A
 Weight F = Or (Word (codes "weight") (Whole (λ n. F n))) (F 1)
 
 abbrev pub LinearText : (Linear → Rel Meaning) → Rel Meaning
-LinearText F = Expression (λ l. Relation (λ r. Expression (λ e. Priority (λ p. Weight (λ w. F (record { left = l; rel = r; right = e; priority = p; weight = w }))))))
+LinearText F = Expression (λ l. Relation (λ r. Expression (λ e.
+    Priority (λ p. Weight (λ w. F (record { left = l; rel = r; right = e; priority = p; weight = w }))))))
 
 -- a text of F, whose value is made of F's value
 abbrev pub Made : {M A : Type 0} → (M → A) → Rel M → Rel A
@@ -82,10 +94,13 @@ FormatLine n a = Made (mean.Vfl n a) FormatText
 
 -- what follows the first word
 abbrev pub Arguments : Keyword → Rel Meaning
-Arguments key.View = Name (λ n. Or (Word (codes "in") (Name (λ p. End (mean.View n (Some p))))) (End (mean.View n None)))
-Arguments key.Metric = Name (λ n. Or (Sign 45 (Number (λ v. End (mean.Metric n (decimal true v))))) (Number (λ v. End (mean.Metric n (decimal false v)))))
+Arguments key.View = Name (λ n. Or (Word (codes "in") (Name (λ p. End (mean.View n (Some p)))))
+    (End (mean.View n None)))
+Arguments key.Metric = Name (λ n. Or (Sign 45 (Number (λ v. End (mean.Metric n (decimal true v)))))
+    (Number (λ v. End (mean.Metric n (decimal false v)))))
 Arguments key.Window = Number (λ w. Number (λ h. End (mean.Window (decimal false w) (decimal false h))))
-Arguments key.Vfl = Name (λ n. Or (Word (codes "align") (Words alignments (λ a. Tail (FormatLine n (Some a))))) (FormatLine n None))
+Arguments key.Vfl = Name (λ n. Or (Word (codes "align")
+    (Words alignments (λ a. Tail (FormatLine n (Some a))))) (FormatLine n None))
 Arguments key.Constrain = Name (λ n. LinearText (λ l. End (mean.Constrain n l)))
 Arguments key.Budget = Whole (λ n. End (mean.Budget n))
 Arguments key.Frames = End mean.Frames
@@ -97,4 +112,5 @@ Any a s v = v ≡ a
 
 -- a line whose first word is one of these: a comment, a command, or a blank line
 unfoldable pub Line : List (List ℕ × Keyword) → Rel Meaning
-Line words = Gap (Or (Lit (codes "#") (Any mean.Nothing)) (Or (Words words (λ k. Tail (Arguments k))) (End mean.Nothing)))
+Line words = Gap (Or (Lit (codes "#") (Any mean.Nothing))
+    (Or (Words words (λ k. Tail (Arguments k))) (End mean.Nothing)))

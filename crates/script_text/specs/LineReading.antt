@@ -1,8 +1,10 @@
 -- Reading a line from left to right.
-use Rattle.std.specs.Prelude.{ℕ, Bool, true, false, List, [], ◌∷◌, ◌++◌, Option, Some, None, Result, Ok, codes, pos, ◌==◌, if◌then◌else◌}
+use Rattle.std.specs.Prelude.{ℕ, Bool, true, false, List, [], ◌∷◌, ◌++◌, Option, Some, None, Result, Ok}
+use Rattle.std.specs.Prelude.{codes, pos, ◌==◌, if◌then◌else◌}
 use Rattle.span_text.specs.Reading.{◌>>=◌, lit_at, starts, tried, end_at}
 use Rattle.span_text.specs.Classes.{is_letter}
-use Rattle.span_text.specs.Tokens.{is_point, skip, tail_at, word_at, sign_at, name_at, raw_name_at, number_at, whole_at}
+use Rattle.span_text.specs.Tokens.{is_point, skip, tail_at, word_at, sign_at, name_at, raw_name_at, number_at}
+use Rattle.span_text.specs.Tokens.{whole_at}
 use Rattle.span_text.specs.Loops.{loop_at}
 use Rattle.span_text.specs.Multiples.{multiple_at}
 use Rattle.span_text.specs.declared.multiples.Multiple.{Multiple}
@@ -128,11 +130,13 @@ next_at s = if starts is_plus s
     then sign_at 43 s >>= term_at false >>= some_term
     else (if starts is_minus s then sign_at 45 s >>= term_at true >>= some_term else Ok None)
 
-abbrev pub go_on : (List Term → List ℕ → Result (List Term × List ℕ) ℕ) → List Term → List ℕ → Option (Term × List ℕ) → Result (List Term × List ℕ) ℕ
+abbrev pub go_on : (List Term → List ℕ → Result (List Term × List ℕ) ℕ) → List Term → List ℕ
+    → Option (Term × List ℕ) → Result (List Term × List ℕ) ℕ
 go_on g terms s None = Ok (terms, s)
 go_on g terms s (Some t) = g (terms ++ t.0 ∷ []) t.1
 
-unfoldable pub behind_at : (List Term → List ℕ → Result (List Term × List ℕ) ℕ) → List Term → List ℕ → Result (List Term × List ℕ) ℕ
+unfoldable pub behind_at : (List Term → List ℕ → Result (List Term × List ℕ) ℕ) → List Term → List ℕ
+    → Result (List Term × List ℕ) ℕ
 behind_at g terms s = next_at s >>= go_on g terms s
 
 unfoldable pub first_at : List ℕ → Result (Term × List ℕ) ℕ
@@ -166,7 +170,8 @@ abbrev pub with_weight : List Term → Rel → List Term → Option Meant → �
 with_weight l r e p w = Ok (record { left = l; rel = r; right = e; priority = p; weight = w.0 }, w.1)
 
 -- behind the priority, behind the right side, behind the relation, behind the left side
-unfoldable pub behind_priority_at : List Term → Rel → List Term → Option Meant → List ℕ → Result (Linear × List ℕ) ℕ
+unfoldable pub behind_priority_at : List Term → Rel → List Term → Option Meant → List ℕ
+    → Result (Linear × List ℕ) ℕ
 behind_priority_at l r e p s = weight_at s >>= with_weight l r e p
 
 unfoldable pub behind_right_at : List Term → Rel → List Term → List ℕ → Result (Linear × List ℕ) ℕ

@@ -25,8 +25,8 @@ pub struct ExprTerm<'a> {
     pub of: Operand<'a>,
 }
 
-/// A linear constraint. The terms of both sides stand in the order in which they were written; where no weight was
-/// written, the weight is 1.
+/// A linear constraint. The terms of both sides stand in the order in which they were written; where no
+/// weight was written, the weight is 1.
 #[derive(Debug, Drop)]
 pub struct Linear<'a> {
     pub left: Vec<ExprTerm<'a>>,
@@ -90,8 +90,8 @@ pub enum Command<'a> {
 /// Why a line was not read.
 #[derive(Clone, Copy, Debug, PartialEq, Eq)]
 pub enum LineStop {
-    /// The line is outside the grammar; its longest prefix that is a prefix of some line of the grammar has this
-    /// length.
+    /// The line is outside the grammar; its longest prefix that is a prefix of some line of the grammar has
+    /// this length.
     SyntaxAt(usize),
     OutOfMemory,
 }

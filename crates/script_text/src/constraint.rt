@@ -2,7 +2,8 @@
 ghost use Rattle.std.specs.Prelude.{◌≡◌, ◌<◌, ◌^◌, IfOk};
 ghost use Rattle.span_text.specs.Gives.{Gives};
 ghost use Rattle.span_text.specs.GivesOrMemory.{GivesOrMemory};
-ghost use Rattle.script_text.specs.LineReading.{relation_at, object_at, priority_at, weight_at, linear_at, constrain_at};
+ghost use Rattle.script_text.specs.LineReading.{relation_at, object_at, priority_at, weight_at, linear_at};
+ghost use Rattle.script_text.specs.LineReading.{constrain_at};
 ghost use Rattle.script_text.specs.View.{object_view, linear_view, view};
 
 use crate::command::{Command, Linear};

@@ -11,10 +11,12 @@ pub fn reading_is_unique()
 
 /// A line leaves the grammar at one place at most.
 pub fn offset_is_unique()
-    ensures { (line : List ℕ) (m n : ℕ) → LeavesAt (Line all_words) line m → LeavesAt (Line all_words) line n → m ≡ n }
+    ensures { (line : List ℕ) (m n : ℕ) → LeavesAt (Line all_words) line m → LeavesAt (Line all_words) line n
+        → m ≡ n }
 {}
 
 /// A line has a reading, or it leaves the grammar somewhere.
 pub fn line_reads_or_leaves()
-    ensures { (line : List ℕ) → ((m : Meaning) × Line all_words line m) ⊎ ((at : ℕ) × LeavesAt (Line all_words) line at) }
+    ensures { (line : List ℕ) → ((m : Meaning) × Line all_words line m)
+        ⊎ ((at : ℕ) × LeavesAt (Line all_words) line at) }
 {}

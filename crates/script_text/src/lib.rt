@@ -1,7 +1,7 @@
 //! The lines of a script and their readings.
 //!
-//! A line is blank, a comment (`#` and any bytes), or one of these commands, in which `?` stands behind what may be
-//! left out:
+//! A line is blank, a comment (`#` and any bytes), or one of these commands, in which `?` stands behind what
+//! may be left out:
 //!
 //! ```text
 //! view NAME (in NAME)?
@@ -14,15 +14,16 @@
 //! rows
 //! ```
 //!
-//! An expression is a sum of terms with `+` and `-` between them and perhaps `-` in front. A term is a number, or a
-//! variable with perhaps `NUMBER *` or `RATIO *` in front; a variable is `NAME.ATTRIBUTE` or the name of a metric. A
-//! relation is `==`, `<=` or `>=`, and a priority is a name or a number. An alignment is `left`, `right`, `top`,
-//! `bottom`, `centerX` or `centerY`.
+//! An expression is a sum of terms with `+` and `-` between them and perhaps `-` in front. A term is a
+//! number, or a variable with perhaps `NUMBER *` or `RATIO *` in front; a variable is `NAME.ATTRIBUTE` or the
+//! name of a metric. A relation is `==`, `<=` or `>=`, and a priority is a name or a number. An alignment is
+//! `left`, `right`, `top`, `bottom`, `centerX` or `centerY`.
 //!
-//! A name is a letter or `_` and then letters, digits and `_`. A number has 1 to 6 digits and perhaps a point and 1 to
-//! 3 digits; a whole number has 1 to 19 digits; a ratio is two whole numbers of 1 to 4 digits, the second not 0, with
-//! `/` between them. Each is as long as it can be and has no space inside, as has `NAME.ATTRIBUTE`. Spaces and tabs
-//! may stand between all others, and must where a letter, a digit or `_` would follow another.
+//! A name is a letter or `_` and then letters, digits and `_`. A number has 1 to 6 digits and perhaps a point
+//! and 1 to 3 digits; a whole number has 1 to 19 digits; a ratio is two whole numbers of 1 to 4 digits, the
+//! second not 0, with `/` between them. Each is as long as it can be and has no space inside, as has
+//! `NAME.ATTRIBUTE`. Spaces and tabs may stand between all others, and must where a letter, a digit or `_`
+//! would follow another.
 #![tactic(auto)]
 
 mod command;

@@ -5,7 +5,8 @@ ghost use Rattle.span_text.specs.Language.{LeavesAt};
 ghost use Rattle.script_text.specs.Grammar.{Line, all_words};
 ghost use Rattle.script_text.specs.Meaning.{Meaning};
 ghost use Rattle.script_text.specs.Meaning as mean;
-ghost use Rattle.script_text.specs.LineReading.{view_at, metric_at, window_at, budget_at, bare_at, arguments_at, command_at, content_at, line_at};
+ghost use Rattle.script_text.specs.LineReading.{view_at, metric_at, window_at, budget_at, bare_at};
+ghost use Rattle.script_text.specs.LineReading.{arguments_at, command_at, content_at, line_at};
 ghost use Rattle.script_text.specs.Stops.{OnSyntax};
 ghost use Rattle.script_text.specs.View.{view};
 
@@ -145,9 +146,9 @@ fn any_line(alloc: Global, line: &[u8]) -> Result<Command<'_>, PartStop>
     content(alloc, pieces::skip(line))
 }
 
-/// The one reading of a line by the grammar of lines. A line of the grammar is never refused as syntax; for any
-/// other the refusal has the length of its longest prefix that is a prefix of some line of the grammar. The line's
-/// bytes need not be a text.
+/// The one reading of a line by the grammar of lines. A line of the grammar is never refused as syntax; for
+/// any other the refusal has the length of its longest prefix that is a prefix of some line of the grammar.
+/// The line's bytes need not be a text.
 pub fn read_line(alloc: Global, line: &[u8]) -> Result<Command<'_>, LineStop>
     ensures sound { IfOk result (λ command. Line all_words line.now (view command)) }
     ensures one { (m : Meaning) → Line all_words line.now m → IfOk result (λ command. view command ≡ m) }

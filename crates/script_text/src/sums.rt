@@ -27,7 +27,8 @@ fn sum_from<'a>(
     first: &ExprTerm<'a>,
     text: &'a [u8],
 ) -> Result<(Vec<ExprTerm<'a>>, &'a [u8]), PartStop>
-    ensures { GivesOrMemory (λ p. (terms_view p.0.items, p.1.now)) result (loop_at behind_at (term_view first.now ∷ []) text.now) }
+    ensures { GivesOrMemory (λ p. (terms_view p.0.items, p.1.now)) result
+        (loop_at behind_at (term_view first.now ∷ []) text.now) }
 {
     let mut terms = Vec::new(alloc);
     append(&mut terms, first)?;

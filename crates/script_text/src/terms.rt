@@ -4,7 +4,8 @@ ghost use Rattle.span_text.specs.Gives.{Gives};
 ghost use Rattle.span_text.specs.Reading.{tried};
 ghost use Rattle.span_text.specs.Multiples.{IsSmall};
 ghost use Rattle.script_text.specs.Grammar.{attributes};
-ghost use Rattle.script_text.specs.LineReading.{attribute_at, variable_at, product_at, multiplied_at, term_at, next_at, first_at};
+ghost use Rattle.script_text.specs.LineReading.{attribute_at, variable_at, product_at, multiplied_at};
+ghost use Rattle.script_text.specs.LineReading.{term_at, next_at, first_at};
 ghost use Rattle.script_text.specs.View.{operand_view, term_view, next_view};
 
 use crate::command::{ExprTerm, Operand};
@@ -57,7 +58,8 @@ fn multiplied(
 ) -> Result<(ExprTerm<'_>, &[u8]), usize>
     requires { IsSmall multiple }
     ensures within { IfOk result (λ p. length p.1.now ≤ length text.now) }
-    ensures gives { Gives (λ p. (term_view p.0, p.1.now)) result (multiplied_at is_negative multiple text.now) }
+    ensures gives { Gives (λ p. (term_view p.0, p.1.now)) result
+        (multiplied_at is_negative multiple text.now) }
 {
     match multiple {
         Multiple::Number { thousandths } => {

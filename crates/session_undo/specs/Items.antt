@@ -8,9 +8,9 @@ use Rattle.problem_core.specs.Window.{required_row, structural_rows, zero_fracti
 use Rattle.constraint_compile.specs.Meaning.{MetricList}
 use Rattle.constraint_compile.specs.Compiled.{CompiledLine, AreRowsNow, AreSmallForms}
 
--- the window, whose left and top are 0 and whose width and height are at least 0; a view, whose width and height
--- are at least 0, with the number of its first row and its own; the window's width and height, with the number of
--- their first row; a line of a group, with the group's name
+-- the window, whose left and top are 0 and whose width and height are at least 0; a view, whose width and
+-- height are at least 0, with the number of its first row and its own; the window's width and height, with
+-- the number of their first row; a line of a group, with the group's name
 pub data Item : Type 0 where
   OfWindow : Item
   OfView : ℕ → ℕ → Item

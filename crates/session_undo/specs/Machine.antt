@@ -180,8 +180,9 @@ abbrev pub parent_name : Option (List ℕ) → List ℕ
 parent_name None = codes "window"
 parent_name (Some name) = name
 
--- ---- The causes against each command, in the order in which they are tried. Where none of them is there, `End` says
--- what comes of the draft; of a command that has none, `Other` says what comes of its answer and the session after.
+-- ---- The causes against each command, in the order in which they are tried. Where none of them is there,
+-- `End` says what comes of the draft; of a command that has none, `Other` says what comes of its answer and
+-- the session after.
 
 -- ---- views, metrics, the window
 

@@ -14,10 +14,10 @@ use Rattle.session_undo.specs.declared.reply.StopPlace.{StopPlace}
 use Rattle.session_undo.specs.declared.reply.Refusal.{Refusal}
 use Rattle.session_undo.specs.declared.reply.Refusal.TheVariants as refusal
 
--- `Nothing` to a blank line or a comment, `Done` to a change, `Frames` and `Rows` to questions, and the refusals: where the
--- line leaves the grammar, the unknown or taken name, the limit, the wrong use, the multipliers of the required
--- rows; and, each with what had stopped, the path with the quantity that doesn't fit at its end, and the path that
--- uses up the exchanges
+-- `Nothing` to a blank line or a comment, `Done` to a change, `Frames` and `Rows` to questions, and the
+-- refusals: where the line leaves the grammar, the unknown or taken name, the limit, the wrong use, the
+-- multipliers of the required rows; and, each with what had stopped, the path with the quantity that doesn't
+-- fit at its end, and the path that uses up the exchanges
 pub data Reply : Type 0 where
   Nothing : Reply
   Done : Reply

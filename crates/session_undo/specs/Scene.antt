@@ -14,8 +14,8 @@ use Rattle.constraint_compile.specs.Compiled.{CompiledLine}
 use Rattle.layout_solver.specs.Layouts.{AreBest, stays_at}
 use Rattle.session_undo.specs.Items.{Item, OfWindow, OfView, Sized, OfLine, AreRows, has_size, resized}
 
--- the views, the metrics in order of definition, what is held in order of acceptance, the number that the next row
--- takes, the rows by rising number, the stays, and the values by their attributes' numbers
+-- the views, the metrics in order of definition, what is held in order of acceptance, the number that the
+-- next row takes, the rows by rising number, the stays, and the values by their attributes' numbers
 pub record Scene : Type 0 where
   pub tree : ViewTree
   pub metrics : MetricList
@@ -57,7 +57,8 @@ new_values id =
 abbrev pub new_stays : ℕ → List Stay
 new_stays id = stays_at (new_values id)
 
--- In each draft that follows the stays have moved to the values before. Its rows and values are still those before.
+-- In each draft that follows the stays have moved to the values before. Its rows and values are still those
+-- before.
 
 -- with a view more, and its two rows
 abbrev pub with_view : Scene → List ℕ → ℕ → Scene
@@ -109,7 +110,8 @@ AreDraftRows draft rows = AreRows draft.metrics draft.held rows
 abbrev pub draft_problem : Scene → List Row → Problem
 draft_problem draft rows = record { rows = rows; stays = draft.stays }
 
--- all but the rows and the values is as drafted, the rows are those of what is held, and the values are the best
+-- all but the rows and the values is as drafted, the rows are those of what is held, and the values are the
+-- best
 pub record Becomes (draft new : Scene) : Type 0 where
   pub same : new ≡ record draft { rows = new.rows; values = new.values }
   pub rows : AreDraftRows draft new.rows

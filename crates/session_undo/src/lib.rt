@@ -1,7 +1,7 @@
 //! The session of a script: what is held, and what each command does to it.
 //!
-//! A session keeps the views, the metrics, the window's size and the held lines, and an engine with the rows that they
-//! stand for and the values that are best for these. A command that is refused changes nothing.
+//! A session keeps the views, the metrics, the window's size and the held lines, and an engine with the rows
+//! that they stand for and the values that are best for these. A command that is refused changes nothing.
 #![tactic(auto)]
 
 mod changes;

@@ -188,8 +188,8 @@ impl Scene {
         has_size(&self.items)
     }
 
-    /// The rows of what is held, for these metrics. It stops at `Limit(Constant)` where a constant isn't small after
-    /// some term.
+    /// The rows of what is held, for these metrics. It stops at `Limit(Constant)` where a constant isn't
+    /// small after some term.
     pub fn rows_for(&self, metrics: &Metrics) -> Result<Vec<Row>, CompileStop>
         ensures rows { IfOk result (λ rows. AreRows metrics.now self.now.held rows.items) }
         ensures stop { IfErr result (MayLackRows metrics.now self.now.held) }

@@ -1,6 +1,7 @@
--- Where a line is cut into tokens: the longest runs of letters, digits and _, the relations ==, <= and >=, and other
--- characters one by one. Between them stand spaces alone.
-use Rattle.std.specs.Prelude.{◌≡◌, ℕ, Bool, true, false, ◌==◌, ◌&&◌, ◌||◌, ◌<◌, List, [], ◌∷◌, ◌++◌, length, ◌⊎◌, encode_utf8}
+-- Where a line is cut into tokens: the longest runs of letters, digits and _, the relations ==, <= and >=,
+-- and other characters one by one. Between them stand spaces alone.
+use Rattle.std.specs.Prelude.{◌≡◌, ℕ, Bool, true, false, ◌==◌, ◌&&◌, ◌||◌, ◌<◌, List, [], ◌∷◌, ◌++◌, length}
+use Rattle.std.specs.Prelude.{◌⊎◌, encode_utf8}
 use Rattle.span_text.specs.Language.{AllIn, NotStart}
 use Rattle.span_text.specs.Classes.{is_space, is_word}
 

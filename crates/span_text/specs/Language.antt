@@ -1,6 +1,7 @@
 -- Languages with values: which whole texts have which reading.
 use Rattle.span_text.specs.Classes.{is_byte}
-use Rattle.std.specs.Prelude.{◌≡◌, ℕ, ◌≤◌, Bool, true, false, ◌&&◌, List, [], ◌∷◌, ◌++◌, length, take, Result, Ok, Err, ◌⊎◌}
+use Rattle.std.specs.Prelude.{◌≡◌, ℕ, ◌≤◌, Bool, true, false, ◌&&◌, List, [], ◌∷◌, ◌++◌, length, take, Result}
+use Rattle.std.specs.Prelude.{Ok, Err, ◌⊎◌}
 
 abbrev pub Rel : Type 0 → Type 1
 Rel A = List ℕ → A → Type 0
@@ -50,7 +51,8 @@ Or F G s v = F s v ⊎ G s v
 
 -- the same with at most n bytes
 abbrev pub Few : {A : Type 0} → (ℕ → Bool) → ℕ → (List ℕ → Rel A) → Rel A
-Few c n F s v = (x : List ℕ) × (t : List ℕ) × (s ≡ x ++ t) × AllIn c x × (length x ≤ n) × NotStart c t × F x t v
+Few c n F s v = (x : List ℕ) × (t : List ℕ) × (s ≡ x ++ t) × AllIn c x × (length x ≤ n) × NotStart c t
+    × F x t v
 
 -- one of these words, each with its meaning, and then a text of F at that meaning
 abbrev pub Words : {K A : Type 0} → List (List ℕ × K) → (K → Rel A) → Rel A

@@ -10,9 +10,11 @@ Rounds B (suc n) x s v = B (Rounds B n) x s v
 abbrev pub Loop : {S A : Type 0} → ((S → Rel A) → S → Rel A) → S → Rel A
 Loop B x s v = (n : ℕ) × Rounds B n x s v
 
-unfoldable pub rounds_at : {S V : Type 0} → ((S → List ℕ → Result V ℕ) → S → List ℕ → Result V ℕ) → ℕ → S → List ℕ → Result V ℕ
+unfoldable pub rounds_at : {S V : Type 0} → ((S → List ℕ → Result V ℕ) → S → List ℕ → Result V ℕ) → ℕ → S
+    → List ℕ → Result V ℕ
 rounds_at b zero x s = Err (length s)
 rounds_at b (suc n) x s = b (rounds_at b n) x s
 
-unfoldable pub loop_at : {S V : Type 0} → ((S → List ℕ → Result V ℕ) → S → List ℕ → Result V ℕ) → S → List ℕ → Result V ℕ
+unfoldable pub loop_at : {S V : Type 0} → ((S → List ℕ → Result V ℕ) → S → List ℕ → Result V ℕ) → S → List ℕ
+    → Result V ℕ
 loop_at b x s = rounds_at b (suc (length s)) x s

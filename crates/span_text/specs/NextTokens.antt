@@ -21,4 +21,5 @@ pub record IsNextToken (line text : List ℕ) (token : Token) (rest : List ℕ) 
 -- the next token, or none where spaces alone are left
 pub record NextToken (old : Tokens) (result : Option Token) (new : Tokens) : Type 0 where
   pub same_line : new.line.now ≡ old.line.now
-  pub next : MatchOption result (AllIn is_space old.rest.now) (λ token. IsNextToken old.line.now old.rest.now token new.rest.now)
+  pub next : MatchOption result (AllIn is_space old.rest.now) (λ token.
+      IsNextToken old.line.now old.rest.now token new.rest.now)

@@ -1,5 +1,6 @@
 -- Tokens with the spaces behind them, and their readers.
-use Rattle.std.specs.Prelude.{ℕ, ◌+◌, ◌-◌, ◌*◌, ◌^◌, ◌==◌, Bool, List, [], ◌∷◌, length, Result, Ok, if◌then◌else◌}
+use Rattle.std.specs.Prelude.{ℕ, ◌+◌, ◌-◌, ◌*◌, ◌^◌, ◌==◌, Bool, List, [], ◌∷◌, length, Result, Ok}
+use Rattle.std.specs.Prelude.{if◌then◌else◌}
 use Rattle.span_text.specs.Language.{Rel, Lit, One, Run, Few, Not, Or}
 use Rattle.span_text.specs.Classes.{is_space, is_digit, is_letter, is_word}
 use Rattle.span_text.specs.Digits.{digits, Nonzero, nonzero_at}

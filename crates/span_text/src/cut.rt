@@ -18,8 +18,8 @@ pub fn lines<'a>(script: &'a [u8]) -> Lines<'a>
     }
 }
 
-/// The tokens in order: the longest runs of letters, digits and `_`, the relations `==`, `<=` and `>=`, and other
-/// characters one by one. Between them stand spaces alone.
+/// The tokens in order: the longest runs of letters, digits and `_`, the relations `==`, `<=` and `>=`, and
+/// other characters one by one. Between them stand spaces alone.
 pub fn tokens<'a>(line: &'a str) -> Tokens<'a>
     ensures line { result.line.now ≡ line.now }
     ensures rest { result.rest.now ≡ line.now }

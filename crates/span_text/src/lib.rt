@@ -1,5 +1,5 @@
-//! The lines of a script, the words of a line, and the readers that the grammars of formats and lines are made of.
-//! Each text that is handed out is a slice of the text that was given.
+//! The lines of a script, the words of a line, and the readers that the grammars of formats and lines are
+//! made of. Each text that is handed out is a slice of the text that was given.
 #![tactic(auto)]
 
 mod classes;

@@ -42,7 +42,8 @@ fn ratio_end(text: &[u8], above: u32) -> Result<(u32, &[u8]), usize>
     Ok((below, rest))
 }
 
-/// A number or a ratio, and the text behind it. A number is less than a million; a ratio's parts are less than 10,000.
+/// A number or a ratio, and the text behind it. A number is less than a million; a ratio's parts are less
+/// than 10,000.
 #[tactic(auto, unfolding(crate::specs::Multiples::multiple_at))]
 pub fn number_or_ratio(text: &[u8]) -> Result<(Multiple, &[u8]), usize>
     ensures shorter { IfOk result (λ x. length x.1.now < length text.now) }

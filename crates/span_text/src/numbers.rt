@@ -3,7 +3,8 @@
 ghost use Rattle.std.specs.Prelude.{◌≡◌, ◌+◌, ◌^◌, ◌<◌, ◌≤◌, ◌*◌, ◌-◌, IfOk, length};
 ghost use Rattle.span_text.specs.Gives.{Gives};
 ghost use Rattle.span_text.specs.Digits.{nonzero_at};
-ghost use Rattle.span_text.specs.Tokens.{valued_at, decimals_at, no_decimals_at, number_at, whole_at, below_at, ratio_at};
+ghost use Rattle.span_text.specs.Tokens.{valued_at, decimals_at, no_decimals_at, number_at, whole_at};
+ghost use Rattle.span_text.specs.Tokens.{below_at, ratio_at};
 
 use crate::{classes, names, pieces};
 

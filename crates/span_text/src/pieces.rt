@@ -1,5 +1,5 @@
-//! The smallest readers. Each takes a text and gives what follows the piece that was read. An error is the count of
-//! the bytes that are left where no text of the grammar goes on.
+//! The smallest readers. Each takes a text and gives what follows the piece that was read. An error is the
+//! count of the bytes that are left where no text of the grammar goes on.
 
 ghost use Rattle.std.specs.Prelude.{◌≡◌, ◌≤◌, ◌==◌, length, ℕ, List, Result, IfOk};
 ghost use Rattle.span_text.specs.Gives.{Gives};
@@ -32,15 +32,16 @@ pub fn literal<'a>(word: &[u8], text: &'a [u8]) -> Result<&'a [u8], usize>
     Ok(rest)
 }
 
-/// The word's meaning and the text behind it, if the text begins with the word. Otherwise the answer of the other
-/// words, or of two errors the one that came further.
+/// The word's meaning and the text behind it, if the text begins with the word. Otherwise the answer of the
+/// other words, or of two errors the one that came further.
 pub fn or_else<'a, K: Copy>(
     word: &[u8],
     meaning: K,
     text: &'a [u8],
     other: Result<(K, &'a [u8]), usize>,
 ) -> Result<(K, &'a [u8]), usize>
-    ensures { (r : Result (K × List ℕ) ℕ) → Gives (λ p. (p.0, p.1.now)) other.entry r → Gives (λ p. (p.0, p.1.now)) result (either (read_word word.now meaning text.now) r) }
+    ensures { (r : Result (K × List ℕ) ℕ) → Gives (λ p. (p.0, p.1.now)) other.entry r
+        → Gives (λ p. (p.0, p.1.now)) result (either (read_word word.now meaning text.now) r) }
 {
     match literal(word, text) {
         Ok(rest) => Ok((meaning, rest)),

@@ -9,7 +9,8 @@ use Rattle.span_text.specs.Objects as object
 use Rattle.span_text.specs.Objects.{Meant}
 use Rattle.vfl_text.specs.declared.parts.Axis.{Axis}
 use Rattle.vfl_text.specs.declared.parts.Axis.TheVariants as axis
-use Rattle.vfl_text.specs.Formats.{PredMeaning, GapMeaning, Flush, Standard, Given, ItemMeaning, FormatMeaning}
+use Rattle.vfl_text.specs.Formats.{PredMeaning, GapMeaning, Flush, Standard, Given, ItemMeaning}
+use Rattle.vfl_text.specs.Formats.{FormatMeaning}
 
 abbrev pub relations : List (List ℕ × relation.Rel)
 relations = (codes "==", rel.Eq) ∷ (codes "<=", rel.Le) ∷ (codes ">=", rel.Ge) ∷ []
@@ -41,7 +42,8 @@ abbrev pub Pred : {A : Type 0} → (PredMeaning → Rel A) → Rel A
 Pred F = Or (Words relations (λ r. Gap (Ruled r F))) (Ruled rel.Eq F)
 
 -- a predicate, and "," and the next one or ")"
-abbrev pub PredRound : {A : Type 0} → (List PredMeaning → Rel A) → (List PredMeaning → Rel A) → List PredMeaning → Rel A
+abbrev pub PredRound : {A : Type 0} → (List PredMeaning → Rel A) → (List PredMeaning → Rel A)
+    → List PredMeaning → Rel A
 PredRound F G ps = Pred (λ p. Or (Sign 44 (G (ps ++ p ∷ []))) (Sign 41 (F (ps ++ p ∷ []))))
 
 -- predicates in parentheses
@@ -60,16 +62,30 @@ single o = pred rel.Eq o None ∷ []
 
 -- behind the first "-" of a connection
 abbrev pub Spaced : {A : Type 0} → (GapMeaning → Rel A) → Rel A
-Spaced F = Or (Preds (λ ps. Sign 45 (F (Given ps)))) (Or (Value (λ o. Sign 45 (F (Given (single o))))) (F Standard))
+Spaced F = Or (Preds (λ ps. Sign 45 (F (Given ps))))
+    (Or (Value (λ o. Sign 45 (F (Given (single o))))) (F Standard))
 
 abbrev pub Connection : {A : Type 0} → (GapMeaning → Rel A) → Rel A
 Connection F = Or (Sign 45 (Spaced F)) (F Flush)
 
 abbrev pub with_item : FormatMeaning → GapMeaning → ItemMeaning → FormatMeaning
-with_item f g i = record { axis = f.axis; from_parent = f.from_parent; items = f.items ++ i ∷ []; gaps = f.gaps ++ g ∷ []; to_parent = f.to_parent }
+with_item f g i = record {
+  axis = f.axis;
+  from_parent = f.from_parent;
+  items = f.items
+      ++ i ∷ [];
+  gaps = f.gaps ++ g ∷ [];
+  to_parent = f.to_parent;
+}
 
 abbrev pub with_end : FormatMeaning → GapMeaning → FormatMeaning
-with_end f g = record { axis = f.axis; from_parent = f.from_parent; items = f.items; gaps = f.gaps; to_parent = Some g }
+with_end f g = record {
+  axis = f.axis;
+  from_parent = f.from_parent;
+  items = f.items;
+  gaps = f.gaps;
+  to_parent = Some g;
+}
 
 -- behind a connection: the next view, or the parent and the end
 abbrev pub Next : (FormatMeaning → Rel FormatMeaning) → FormatMeaning → GapMeaning → Rel FormatMeaning

@@ -1,5 +1,7 @@
--- Reading a format from left to right. An error is the count of the bytes that are left where no format goes on.
-use Rattle.std.specs.Prelude.{ℕ, pos, neg_ℤ, Bool, ◌==◌, ◌||◌, List, [], ◌∷◌, ◌++◌, Option, Some, None, Result, Ok, if◌then◌else◌}
+-- Reading a format from left to right. An error is the count of the bytes that are left where no format goes
+-- on.
+use Rattle.std.specs.Prelude.{ℕ, pos, neg_ℤ, Bool, ◌==◌, ◌||◌, List, [], ◌∷◌, ◌++◌, Option, Some, None}
+use Rattle.std.specs.Prelude.{Result, Ok, if◌then◌else◌}
 use Rattle.problem_core.specs.declared.parts.Rel as relation
 use Rattle.problem_core.specs.declared.parts.Rel.TheVariants as rel
 use Rattle.span_text.specs.Classes.{is_letter, is_word}
@@ -10,7 +12,8 @@ use Rattle.span_text.specs.Objects as object
 use Rattle.span_text.specs.Objects.{Meant}
 use Rattle.vfl_text.specs.declared.parts.Axis.{Axis}
 use Rattle.vfl_text.specs.declared.parts.Axis.TheVariants as axis
-use Rattle.vfl_text.specs.Formats.{PredMeaning, GapMeaning, Flush, Standard, Given, ItemMeaning, FormatMeaning}
+use Rattle.vfl_text.specs.Formats.{PredMeaning, GapMeaning, Flush, Standard, Given, ItemMeaning}
+use Rattle.vfl_text.specs.Formats.{FormatMeaning}
 use Rattle.vfl_text.specs.Grammar.{relations, axes, pred, item, single, with_item, with_end, started}
 
 abbrev pub is_minus : ℕ → Bool
@@ -71,16 +74,20 @@ abbrev pub with_priority : relation.Rel → Meant → Meant × List ℕ → Resu
 with_priority r o p = Ok (pred r o (Some p.0), p.1)
 
 unfoldable pub priority_at : relation.Rel → Meant → List ℕ → Result (PredMeaning × List ℕ) ℕ
-priority_at r o s = if starts is_at s then sign_at 64 s >>= (λ t. value_at t >>= with_priority r o) else with_rest (pred r o None) s
+priority_at r o s = if starts is_at s then sign_at 64 s >>= (λ t. value_at t >>= with_priority r o)
+    else with_rest (pred r o None) s
 
 unfoldable pub ruled_at : relation.Rel → List ℕ → Result (PredMeaning × List ℕ) ℕ
 ruled_at r s = object_at s >>= (λ o. priority_at r o.0 o.1)
 
 unfoldable pub pred_at : List ℕ → Result (PredMeaning × List ℕ) ℕ
-pred_at s = if starts is_compare s then tried relations s >>= (λ r. ruled_at r.0 (skip r.1)) else ruled_at rel.Eq s
+pred_at s = if starts is_compare s then tried relations s >>= (λ r. ruled_at r.0 (skip r.1))
+    else ruled_at rel.Eq s
 
-unfoldable pub pred_round_at : (List PredMeaning → List ℕ → Result (List PredMeaning × List ℕ) ℕ) → List PredMeaning → List ℕ → Result (List PredMeaning × List ℕ) ℕ
-pred_round_at g ps s = pred_at s >>= (λ p. if starts is_comma p.1 then sign_at 44 p.1 >>= g (ps ++ p.0 ∷ []) else sign_at 41 p.1 >>= with_rest (ps ++ p.0 ∷ []))
+unfoldable pub pred_round_at : (List PredMeaning → List ℕ → Result (List PredMeaning × List ℕ) ℕ)
+    → List PredMeaning → List ℕ → Result (List PredMeaning × List ℕ) ℕ
+pred_round_at g ps s = pred_at s >>= (λ p. if starts is_comma p.1 then sign_at 44 p.1 >>= g (ps ++ p.0 ∷ [])
+    else sign_at 41 p.1 >>= with_rest (ps ++ p.0 ∷ []))
 
 unfoldable pub preds_at : List ℕ → Result (List PredMeaning × List ℕ) ℕ
 preds_at s = sign_at 40 s >>= loop_at pred_round_at []
@@ -93,7 +100,8 @@ item_at s = sign_at 91 s >>= (λ s. name_at s >>= (λ n. if starts is_list n.1
 unfoldable pub spaced_at : List ℕ → Result (GapMeaning × List ℕ) ℕ
 spaced_at s = if starts is_list s
     then preds_at s >>= (λ p. sign_at 45 p.1 >>= with_rest (Given p.0))
-    else (if starts is_word s then value_at s >>= (λ o. sign_at 45 o.1 >>= with_rest (Given (single o.0))) else with_rest Standard s)
+    else (if starts is_word s then value_at s >>= (λ o. sign_at 45 o.1 >>= with_rest (Given (single o.0)))
+    else with_rest Standard s)
 
 unfoldable pub gap_at : List ℕ → Result (GapMeaning × List ℕ) ℕ
 gap_at s = if starts is_minus s then sign_at 45 s >>= spaced_at else with_rest Flush s
@@ -101,22 +109,28 @@ gap_at s = if starts is_minus s then sign_at 45 s >>= spaced_at else with_rest F
 abbrev pub parent_at : FormatMeaning → GapMeaning → List ℕ → Result FormatMeaning ℕ
 parent_at f g s = sign_at 124 s >>= (λ t. end_at t >>= (λ _. Ok (with_end f g)))
 
-unfoldable pub next_at : (FormatMeaning → List ℕ → Result FormatMeaning ℕ) → FormatMeaning → GapMeaning → List ℕ → Result FormatMeaning ℕ
+unfoldable pub next_at : (FormatMeaning → List ℕ → Result FormatMeaning ℕ) → FormatMeaning → GapMeaning
+    → List ℕ → Result FormatMeaning ℕ
 next_at k f g s = if starts is_view s
     then item_at s >>= (λ i. k (with_item f g i.0) i.1)
     else parent_at f g s
 
-unfoldable pub round_at : (FormatMeaning → List ℕ → Result FormatMeaning ℕ) → FormatMeaning → List ℕ → Result FormatMeaning ℕ
-round_at k f s = if starts is_more s then gap_at s >>= (λ g. next_at k f g.0 g.1) else end_at s >>= (λ _. Ok f)
+unfoldable pub round_at : (FormatMeaning → List ℕ → Result FormatMeaning ℕ) → FormatMeaning → List ℕ
+    → Result FormatMeaning ℕ
+round_at k f s = if starts is_more s then gap_at s >>= (λ g. next_at k f g.0 g.1)
+    else end_at s >>= (λ _. Ok f)
 
 unfoldable pub orientation_at : List ℕ → Result (Axis × List ℕ) ℕ
-orientation_at s = if starts is_axis s then tried axes s >>= (λ a. sign_at 58 (skip a.1) >>= with_rest a.0) else with_rest axis.H s
+orientation_at s = if starts is_axis s then tried axes s >>= (λ a. sign_at 58 (skip a.1) >>= with_rest a.0)
+    else with_rest axis.H s
 
 abbrev pub from_gap : GapMeaning × List ℕ → Result (Option GapMeaning × List ℕ) ℕ
 from_gap g = Ok (Some g.0, g.1)
 
 unfoldable pub from_parent_at : List ℕ → Result (Option GapMeaning × List ℕ) ℕ
-from_parent_at s = if starts is_bar s then sign_at 124 s >>= (λ t. gap_at t >>= from_gap) else with_rest None s
+from_parent_at s = if starts is_bar s then sign_at 124 s >>= (λ t. gap_at t >>= from_gap)
+    else with_rest None s
 
 unfoldable pub format_at : List ℕ → Result FormatMeaning ℕ
-format_at s = orientation_at (skip s) >>= (λ a. from_parent_at a.1 >>= (λ g. item_at g.1 >>= (λ i. loop_at round_at (started a.0 g.0 i.0) i.1)))
+format_at s = orientation_at (skip s) >>= (λ a. from_parent_at a.1
+    >>= (λ g. item_at g.1 >>= (λ i. loop_at round_at (started a.0 g.0 i.0) i.1)))

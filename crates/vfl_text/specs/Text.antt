@@ -1,13 +1,16 @@
--- The canonical text of a format: the direction always written, no space, each relation written inside parentheses, and
--- no parentheses where one predicate of the relation == without a priority stands for a space that isn't below 0.
-use Rattle.std.specs.Prelude.{ℕ, ℤ, pos, negsuc, suc, ◌+◌, ◌/◌, ◌%◌, ◌==◌, ◌&&◌, Bool, true, false, List, [], ◌∷◌, ◌++◌, Option, Some, None, codes, decimal, if◌then◌else◌}
+-- The canonical text of a format: the direction always written, no space, each relation written inside
+-- parentheses, and no parentheses where one predicate of the relation == without a priority stands for a
+-- space that isn't below 0.
+use Rattle.std.specs.Prelude.{ℕ, ℤ, pos, negsuc, suc, ◌+◌, ◌/◌, ◌%◌, ◌==◌, ◌&&◌, Bool, true, false, List, []}
+use Rattle.std.specs.Prelude.{◌∷◌, ◌++◌, Option, Some, None, codes, decimal, if◌then◌else◌}
 use Rattle.problem_core.specs.declared.parts.Rel as relation
 use Rattle.problem_core.specs.declared.parts.Rel.TheVariants as rel
 use Rattle.span_text.specs.Objects as object
 use Rattle.span_text.specs.Objects.{Meant}
 use Rattle.vfl_text.specs.declared.parts.Axis.{Axis}
 use Rattle.vfl_text.specs.declared.parts.Axis.TheVariants as axis
-use Rattle.vfl_text.specs.Formats.{PredMeaning, GapMeaning, Flush, Standard, Given, ItemMeaning, FormatMeaning}
+use Rattle.vfl_text.specs.Formats.{PredMeaning, GapMeaning, Flush, Standard, Given, ItemMeaning}
+use Rattle.vfl_text.specs.Formats.{FormatMeaning}
 
 -- thousandths below 1000 as decimals, the fewest there can be
 unfoldable pub decimals_text : ℕ → List ℕ
@@ -110,4 +113,5 @@ views_text gs [] = []
 views_text gs (i ∷ is) = item_text i ++ chain_text gs is
 
 unfoldable pub format_text : FormatMeaning → List ℕ
-format_text f = axis_text f.axis ++ (from_text f.from_parent ++ (views_text f.gaps f.items ++ to_text f.to_parent))
+format_text f = axis_text f.axis ++ (from_text f.from_parent
+    ++ (views_text f.gaps f.items ++ to_text f.to_parent))

@@ -7,7 +7,8 @@ use Rattle.vfl_text.specs.declared.parts.Gap.{Gap}
 use Rattle.vfl_text.specs.declared.parts.Gap.TheVariants as gap
 use Rattle.vfl_text.specs.declared.parts.Item.{Item}
 use Rattle.vfl_text.specs.declared.parts.Format.{Format}
-use Rattle.vfl_text.specs.Formats.{PredMeaning, GapMeaning, Flush, Standard, Given, ItemMeaning, FormatMeaning}
+use Rattle.vfl_text.specs.Formats.{PredMeaning, GapMeaning, Flush, Standard, Given, ItemMeaning}
+use Rattle.vfl_text.specs.Formats.{FormatMeaning}
 
 abbrev pub priority_meaning : Option Object → Option Meant
 priority_meaning None = None

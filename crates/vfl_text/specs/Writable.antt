@@ -1,11 +1,13 @@
--- Which formats have a text: names are names, numbers are those that the grammar can write, and each space that is given
--- has a predicate.
-use Rattle.std.specs.Prelude.{◌≡◌, ℕ, pos, negsuc, suc, ◌+◌, ◌<◌, ◌^◌, true, List, [], ◌∷◌, length, Option, Some, None}
+-- Which formats have a text: names are names, numbers are those that the grammar can write, and each space
+-- that is given has a predicate.
+use Rattle.std.specs.Prelude.{◌≡◌, ℕ, pos, negsuc, suc, ◌+◌, ◌<◌, ◌^◌, true, List, [], ◌∷◌, length, Option}
+use Rattle.std.specs.Prelude.{Some, None}
 use Rattle.span_text.specs.Classes.{is_letter, is_word}
 use Rattle.span_text.specs.Language.{AllIn}
 use Rattle.span_text.specs.Objects as object
 use Rattle.span_text.specs.Objects.{Meant}
-use Rattle.vfl_text.specs.Formats.{PredMeaning, GapMeaning, Flush, Standard, Given, ItemMeaning, FormatMeaning}
+use Rattle.vfl_text.specs.Formats.{PredMeaning, GapMeaning, Flush, Standard, Given, ItemMeaning}
+use Rattle.vfl_text.specs.Formats.{FormatMeaning}
 
 -- a letter or _, and then letters, digits and _
 abbrev pub IsName : List ℕ → Type 0

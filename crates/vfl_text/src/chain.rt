@@ -6,7 +6,8 @@ ghost use Rattle.span_text.specs.Loops.{loop_at};
 ghost use Rattle.span_text.specs.Reading.{starts, tried};
 ghost use Rattle.span_text.specs.declared.stop.PartStop.TheVariants as stop;
 ghost use Rattle.vfl_text.specs.Grammar.{axes, started, with_item};
-ghost use Rattle.vfl_text.specs.Reading.{is_axis, is_more, orientation_at, from_parent_at, parent_at, round_at, format_at};
+ghost use Rattle.vfl_text.specs.Reading.{is_axis, is_more, orientation_at, from_parent_at, parent_at};
+ghost use Rattle.vfl_text.specs.Reading.{round_at, format_at};
 ghost use Rattle.vfl_text.specs.View.{meaning, gap_meaning, end_meaning, item_meaning};
 
 use crate::parts::{Axis, Format, Gap, Item};
@@ -66,7 +67,8 @@ fn from_parent(alloc: Global, text: &[u8]) -> Result<(Option<Gap<'_>>, &[u8]), P
 
 // The format with this connection to the parent at its end, which the text must be.
 fn to_parent<'a>(format: Format<'a>, gap: Gap<'a>, text: &[u8]) -> Result<Format<'a>, PartStop>
-    ensures { GivesOrMemory meaning result (parent_at (meaning format.entry) (gap_meaning gap.entry) text.now) }
+    ensures { GivesOrMemory meaning result (parent_at (meaning format.entry)
+        (gap_meaning gap.entry) text.now) }
 {
     let rest = names::sign(b'|', text)?;
     pieces::end(rest)?;
@@ -82,7 +84,8 @@ fn begun<'a>(
     from_parent: Option<Gap<'a>>,
     item: Item<'a>,
 ) -> Result<Format<'a>, PartStop>
-    ensures ok { IfOk result (λ f. meaning f ≡ started axis (end_meaning from_parent.entry) (item_meaning item.entry)) }
+    ensures ok { IfOk result (λ f. meaning f ≡ started axis (end_meaning from_parent.entry)
+        (item_meaning item.entry)) }
     ensures err { IfErr result (λ e. e ≡ stop.OutOfMemory) }
 {
     let mut items = Vec::new(alloc);
@@ -98,7 +101,8 @@ fn begun<'a>(
 
 // The format with one more view.
 fn joined<'a>(format: Format<'a>, gap: Gap<'a>, item: Item<'a>) -> Result<Format<'a>, PartStop>
-    ensures ok { IfOk result (λ f. meaning f ≡ with_item (meaning format.entry) (gap_meaning gap.entry) (item_meaning item.entry)) }
+    ensures ok { IfOk result (λ f. meaning f ≡ with_item (meaning format.entry) (gap_meaning gap.entry)
+        (item_meaning item.entry)) }
     ensures grows { IfOk result (λ f. length f.items.items ≡ length format.entry.items.items + 1) }
     ensures err { IfErr result (λ e. e ≡ stop.OutOfMemory) }
 {
@@ -139,8 +143,8 @@ fn chain<'a>(alloc: Global, first: Format<'a>, text: &'a [u8]) -> Result<Format<
     Ok(format)
 }
 
-/// The one format that the whole text means, where the text may have any bytes. The error counts the bytes that are left
-/// where no format goes on.
+/// The one format that the whole text means, where the text may have any bytes. The error counts the bytes
+/// that are left where no format goes on.
 #[tactic(auto, unfolding(crate::specs::Reading::format_at))]
 pub fn read_bytes(alloc: Global, text: &[u8]) -> Result<Format<'_>, PartStop>
     ensures { GivesOrMemory meaning result (format_at text.now) }

@@ -6,7 +6,8 @@ ghost use Rattle.span_text.specs.Objects.{meant};
 ghost use Rattle.span_text.specs.Loops.{loop_at};
 ghost use Rattle.span_text.specs.Reading.{tried, starts};
 ghost use Rattle.vfl_text.specs.Grammar.{relations};
-ghost use Rattle.vfl_text.specs.Reading.{value_at, object_at, priority_at, ruled_at, pred_at, pred_round_at, preds_at, is_compare};
+ghost use Rattle.vfl_text.specs.Reading.{value_at, object_at, priority_at, ruled_at, pred_at, pred_round_at};
+ghost use Rattle.vfl_text.specs.Reading.{preds_at, is_compare};
 ghost use Rattle.vfl_text.specs.View.{pred_meaning, pred_meanings, priority_meaning};
 
 use crate::parts::Pred;
@@ -69,7 +70,8 @@ fn with_priority<'a>(
     text: &'a [u8],
 ) -> Result<(Pred<'a>, &'a [u8]), usize>
     ensures within { IfOk result (λ p. length p.1.now ≤ length text.now) }
-    ensures gives { Gives (λ p. (pred_meaning p.0, p.1.now)) result (priority_at rel (meant object.entry) text.now) }
+    ensures gives { Gives (λ p. (pred_meaning p.0, p.1.now)) result
+        (priority_at rel (meant object.entry) text.now) }
 {
     if pieces::begins(text, b'@') {
         let rest = names::sign(b'@', text)?;
@@ -140,7 +142,8 @@ fn predicate(text: &[u8]) -> Result<(Pred<'_>, &[u8]), usize>
 // Predicates up to the end of their list, and the text behind it.
 fn predicates_from(alloc: Global, text: &[u8]) -> Result<(Vec<Pred<'_>>, &[u8]), PartStop>
     ensures shorter { IfOk result (λ p. length p.1.now < length text.now) }
-    ensures gives { GivesOrMemory (λ p. (pred_meanings p.0.items, p.1.now)) result (loop_at pred_round_at [] text.now) }
+    ensures gives { GivesOrMemory (λ p. (pred_meanings p.0.items, p.1.now)) result
+        (loop_at pred_round_at [] text.now) }
 {
     let mut preds = Vec::new(alloc);
     let mut rest = text;

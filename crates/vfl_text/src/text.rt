@@ -26,7 +26,8 @@ pub enum FormatStop {
 /// The one format that the text means. The names in it are slices of the text.
 pub fn read<'a>(alloc: Global, text: &'a str) -> Result<Format<'a>, FormatStop>
     ensures sound { IfOk result (λ f. FormatText text.now (meaning f)) }
-    ensures complete { (m : FormatMeaning) → FormatText text.now m → MatchResult result (λ f. meaning f ≡ m) (λ e. e ≡ stop.OutOfMemory) }
+    ensures complete { (m : FormatMeaning) → FormatText text.now m
+        → MatchResult result (λ f. meaning f ≡ m) (λ e. e ≡ stop.OutOfMemory) }
     ensures writable { IfOk result (λ f. IsWritable (meaning f)) }
     ensures stops { IfErr result (IsStopOf text.now) }
 {
@@ -37,13 +38,15 @@ pub fn read<'a>(alloc: Global, text: &'a str) -> Result<Format<'a>, FormatStop>
     }
 }
 
-/// Appends the format's canonical text: with the direction, without a space, with a relation in front of each predicate
-/// in parentheses, and without parentheses where a connection has one plain number or name. Where memory is wanting
-/// nothing was appended. Of a format that was read, reading that text gives the same format again.
+/// Appends the format's canonical text: with the direction, without a space, with a relation in front of each
+/// predicate in parentheses, and without parentheses where a connection has one plain number or name. Where
+/// memory is wanting nothing was appended. Of a format that was read, reading that text gives the same format
+/// again.
 pub fn write(alloc: Global, format: &Format<'_>, out: &mut Vec<u8>) -> Result<(), OutOfMemory>
     ensures written { OnOk result (out.new.items ≡ out.old.items ++ format_text (meaning format.now)) }
     ensures unchanged { OnErr result (out.new.items ≡ out.old.items) }
-    ensures reads_back { OnOk result (IsWritable (meaning format.now) → FormatText (format_text (meaning format.now)) (meaning format.now)) }
+    ensures reads_back { OnOk result (IsWritable (meaning format.now)
+        → FormatText (format_text (meaning format.now)) (meaning format.now)) }
 {
     let mut text = Vec::new(alloc);
     write_format(format, &mut text)?;

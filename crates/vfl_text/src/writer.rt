@@ -1,8 +1,12 @@
 // The canonical text of a format. What is written is put behind a text; after an error nothing is said of it.
 ghost use Rattle.std.specs.Prelude.{◌≡◌, ◌<◌, ◌+◌, ◌++◌, ◌∷◌, OnOk, length, drop};
 ghost use Rattle.span_text.specs.Objects.{meant};
-ghost use Rattle.vfl_text.specs.Text.{decimals_text, number_text, object_text, relation_text, priority_text, pred_text, more_text, preds_text, list_text, sizes_text, item_text, is_plain, is_simple, given_text, gap_text, axis_text, from_text, to_text, chain_text, views_text, format_text};
-ghost use Rattle.vfl_text.specs.View.{pred_meaning, pred_meanings, priority_meaning, item_meaning, item_meanings, gap_meaning, gap_meanings, end_meaning, meaning};
+ghost use Rattle.vfl_text.specs.Text.{decimals_text, number_text, object_text, relation_text, priority_text};
+ghost use Rattle.vfl_text.specs.Text.{pred_text, more_text, preds_text, list_text, sizes_text, item_text};
+ghost use Rattle.vfl_text.specs.Text.{is_plain, is_simple, given_text, gap_text, axis_text, from_text};
+ghost use Rattle.vfl_text.specs.Text.{to_text, chain_text, views_text, format_text};
+ghost use Rattle.vfl_text.specs.View.{pred_meaning, pred_meanings, priority_meaning, item_meaning};
+ghost use Rattle.vfl_text.specs.View.{item_meanings, gap_meaning, gap_meanings, end_meaning, meaning};
 
 use crate::parts::{Axis, Format, Gap, Item, Pred};
 use frac_core::OutOfMemory;
@@ -78,7 +82,8 @@ fn write_relation(rel: Rel, text: &mut Vec<u8>) -> Result<(), OutOfMemory>
 }
 
 fn write_priority(priority: Option<Object<'_>>, text: &mut Vec<u8>) -> Result<(), OutOfMemory>
-    ensures { OnOk result (text.new.items ≡ text.old.items ++ priority_text (priority_meaning priority.entry)) }
+    ensures { OnOk result (text.new.items ≡ text.old.items
+        ++ priority_text (priority_meaning priority.entry)) }
 {
     if let Some(object) = priority {
         text.push(b'@')?;
@@ -222,7 +227,8 @@ fn write_to_parent(gap: &Option<Gap<'_>>, text: &mut Vec<u8>) -> Result<(), OutO
 // The views behind the first one.
 fn write_chain(gaps: &[Gap<'_>], items: &[Item<'_>], text: &mut Vec<u8>) -> Result<(), OutOfMemory>
     requires { length gaps.now ≡ length items.now }
-    ensures { OnOk result (text.new.items ≡ text.old.items ++ chain_text (gap_meanings gaps.now) (item_meanings items.now)) }
+    ensures { OnOk result (text.new.items ≡ text.old.items
+        ++ chain_text (gap_meanings gaps.now) (item_meanings items.now)) }
 {
     for (i, gap) in gaps.iter().enumerate() {
         write_gap(gap, text)?;
@@ -232,7 +238,8 @@ fn write_chain(gaps: &[Gap<'_>], items: &[Item<'_>], text: &mut Vec<u8>) -> Resu
 }
 
 fn write_views(format: &Format<'_>, text: &mut Vec<u8>) -> Result<(), OutOfMemory>
-    ensures { OnOk result (text.new.items ≡ text.old.items ++ views_text (gap_meanings format.now.gaps.items) (item_meanings format.now.items.items)) }
+    ensures { OnOk result (text.new.items ≡ text.old.items
+        ++ views_text (gap_meanings format.now.gaps.items) (item_meanings format.now.items.items)) }
 {
     match format.items.as_slice() {
         [first, others @ ..] => {
