@@ -1,0 +1,37 @@
+//! Prints what the calls on names, metrics, views, sources and sinks answer, in the order of stored lines.
+//!
+//! A heading says what begins anew, and each line below it is a call:
+//!
+//! - `= names LIMIT`, `= metrics`, `= views`: the calls of these; `copy` goes on with a copy, `count` counts;
+//! - `= source TEXT FAILS SIZE..`, `= std source TEXT`, `= broken source`: `N` pulls at most so many bytes;
+//! - `= sink ROOM FAILS`, `= std sink ROOM`, `= broken sink`: `put TEXT`, `all TEXT` until all is put;
+//! - `= own names`: each line as a name of its own.
+//!
+//! FAILS is the number of the call that fails, counted from 0, or another word where none does.
+#![tactic(auto)]
+
+mod broken;
+mod cases;
+mod sinks;
+mod sources;
+mod tables;
+mod views;
+
+use crate::cases::printed;
+use std::io;
+use std::io::Write;
+use std::process::ExitCode;
+
+fn main(rt: HostRuntime) -> ExitCode {
+    let Ok(text) = io::read_to_string(rt.alloc(), rt.reader()) else {
+        return ExitCode::from(3);
+    };
+    let Ok(out) = printed(rt.alloc(), &text) else {
+        return ExitCode::from(5);
+    };
+    let mut sink = io::writer(&rt);
+    if write!(sink, "{out}").is_err() {
+        return ExitCode::from(4);
+    }
+    ExitCode::SUCCESS
+}

@@ -1,0 +1,89 @@
+// Pulls from sources in memory, of std, and of a broken stream.
+use crate::broken::Broken;
+use edge_io::{Failed, MemorySource, Source, StdSource};
+use frac_core::OutOfMemory;
+use std::alloc::Global;
+use std::io::Cursor;
+
+// The pull alone: nothing here needs another clause of it than how much it gives at most.
+fn count_pulled<S: Source>(source: &mut S, piece: &mut [u8]) -> Result<usize, Failed> {
+    if piece.is_empty() {
+        return Ok(0);
+    }
+    source.pull(piece)
+}
+
+// Appends how many bytes a pull gave, and the bytes that then stand in front.
+fn put_pulled(
+    out: &mut String,
+    piece: &[u8],
+    pulled: Result<usize, Failed>,
+) -> Result<(), OutOfMemory> {
+    match pulled {
+        Ok(count) => {
+            let bytes = piece.get(..count).unwrap_or(piece);
+            let text = std::str::from_utf8(bytes).unwrap_or("");
+            Ok(writeln!(out, "{count} {text}")?)
+        }
+        Err(Failed) => Ok(writeln!(out, "failed")?),
+    }
+}
+
+// Appends what a pull for each line gives.
+fn put_pulls<S: Source>(
+    alloc: Global,
+    out: &mut String,
+    source: &mut S,
+    calls: &str,
+) -> Result<(), OutOfMemory> {
+    for call in calls.lines() {
+        let mut piece = vec![in alloc; b'-'; call.parse::<usize>().unwrap_or(1)]?;
+        let pulled = count_pulled(source, &mut piece);
+        put_pulled(out, &piece, pulled)?;
+    }
+    Ok(())
+}
+
+/// Appends what pulls from a source in memory give.
+pub fn put_source(
+    alloc: Global,
+    out: &mut String,
+    words: &str,
+    calls: &str,
+) -> Result<(), OutOfMemory> {
+    let (text, rest) = words.split_once(" ").unwrap_or((words, ""));
+    let (fail, rest) = rest.split_once(" ").unwrap_or((rest, ""));
+    let mut sizes = Vec::new(alloc);
+    for size in rest.split_whitespace() {
+        sizes.push(size.parse::<usize>().unwrap_or(0))?;
+    }
+    let fails = fails_of(alloc, fail)?;
+    let mut source = MemorySource::new(text.as_bytes().to_vec(alloc)?, sizes, fails);
+    put_pulls(alloc, out, &mut source, calls)
+}
+
+/// The list of the call that fails, if the word is a number.
+pub fn fails_of(alloc: Global, word: &str) -> Result<Vec<u64>, OutOfMemory> {
+    let mut fails = Vec::new(alloc);
+    if let Ok(call) = word.parse::<u64>() {
+        fails.push(call)?;
+    }
+    Ok(fails)
+}
+
+/// Appends what pulls from a reader of std give.
+pub fn put_std_source(
+    alloc: Global,
+    out: &mut String,
+    text: &str,
+    calls: &str,
+) -> Result<(), OutOfMemory> {
+    let mut source = StdSource::new(Cursor::new(text.as_bytes()));
+    put_pulls(alloc, out, &mut source, calls)
+}
+
+/// Appends what pulls from a stream give that fails after one byte.
+pub fn put_broken_source(alloc: Global, out: &mut String, calls: &str) -> Result<(), OutOfMemory> {
+    let mut source = StdSource::new(Broken { is_used: false });
+    put_pulls(alloc, out, &mut source, calls)
+}

@@ -1,0 +1,157 @@
+// Lines of a script: their readings, part by part.
+use crate::formats::put_written;
+use frac_core::{Frac, OutOfMemory};
+use problem_core::Rel;
+use script_text::{Align, AttrWord, Command, ExprTerm, LineStop, Linear, Operand, read_line};
+use span_text::Object;
+use std::alloc::Global;
+
+fn align_name(align: Align) -> &'static str {
+    match align {
+        Align::Left => "left",
+        Align::Right => "right",
+        Align::Top => "top",
+        Align::Bottom => "bottom",
+        Align::CenterX => "centerX",
+        Align::CenterY => "centerY",
+    }
+}
+
+fn attribute(word: AttrWord) -> &'static str {
+    match word {
+        AttrWord::Left => "left",
+        AttrWord::Top => "top",
+        AttrWord::Width => "width",
+        AttrWord::Height => "height",
+        AttrWord::Right => "right",
+        AttrWord::Bottom => "bottom",
+        AttrWord::CenterX => "centerX",
+        AttrWord::CenterY => "centerY",
+        AttrWord::Leading => "leading",
+        AttrWord::Trailing => "trailing",
+    }
+}
+
+fn relation(rel: Rel) -> &'static str {
+    match rel {
+        Rel::Eq => "==",
+        Rel::Le => "<=",
+        Rel::Ge => ">=",
+    }
+}
+
+fn put_fraction(out: &mut String, f: Frac) -> Result<(), OutOfMemory> {
+    let num = f.num();
+    let den = f.den();
+    Ok(write!(out, " {num}/{den}")?)
+}
+
+fn put_term(out: &mut String, term: &ExprTerm<'_>) -> Result<(), OutOfMemory> {
+    put_fraction(out, term.by)?;
+    match term.of {
+        Operand::Attr { view, word } => {
+            let word = attribute(word);
+            Ok(write!(out, " of {view}.{word}")?)
+        }
+        Operand::Metric { name } => Ok(write!(out, " of {name}")?),
+        Operand::One => Ok(()),
+    }
+}
+
+fn put_terms(out: &mut String, terms: &[ExprTerm<'_>]) -> Result<(), OutOfMemory> {
+    for term in terms {
+        put_term(out, term)?;
+    }
+    Ok(())
+}
+
+fn put_priority(out: &mut String, priority: Option<Object<'_>>) -> Result<(), OutOfMemory> {
+    match priority {
+        None => Ok(()),
+        Some(Object::Name { text }) => Ok(write!(out, " @ {text}")?),
+        Some(Object::Number { thousandths }) => Ok(write!(out, " @ {thousandths}/1000")?),
+    }
+}
+
+fn put_linear(out: &mut String, line: &Linear<'_>) -> Result<(), OutOfMemory> {
+    put_terms(out, line.left())?;
+    let rel = relation(line.rel);
+    write!(out, " {rel}")?;
+    put_terms(out, line.right())?;
+    put_priority(out, line.priority)?;
+    let weight = line.weight;
+    Ok(writeln!(out, " weight {weight}")?)
+}
+
+fn put_view(out: &mut String, name: &str, parent: Option<&str>) -> Result<(), OutOfMemory> {
+    match parent {
+        Some(parent) => Ok(writeln!(out, "view {name} in {parent}")?),
+        None => Ok(writeln!(out, "view {name}")?),
+    }
+}
+
+fn put_align(out: &mut String, align: Option<Align>) -> Result<(), OutOfMemory> {
+    match align {
+        Some(align) => {
+            let name = align_name(align);
+            Ok(write!(out, "align {name} ")?)
+        }
+        None => Ok(()),
+    }
+}
+
+// Appends two numbers behind a word.
+fn put_numbers(out: &mut String, word: &str, one: Frac, two: Frac) -> Result<(), OutOfMemory> {
+    write!(out, "{word}")?;
+    put_fraction(out, one)?;
+    put_fraction(out, two)?;
+    Ok(writeln!(out)?)
+}
+
+fn put_metric(out: &mut String, name: &str, value: Frac) -> Result<(), OutOfMemory> {
+    write!(out, "metric {name}")?;
+    put_fraction(out, value)?;
+    Ok(writeln!(out)?)
+}
+
+// Appends the reading of a line of a group.
+fn put_group(alloc: Global, out: &mut String, command: &Command<'_>) -> Result<(), OutOfMemory> {
+    match command {
+        Command::Vfl {
+            group,
+            align,
+            format,
+        } => {
+            write!(out, "vfl {group} ")?;
+            put_align(out, *align)?;
+            put_written(alloc, out, format)
+        }
+        Command::Constrain { group, line } => {
+            write!(out, "constrain {group}")?;
+            put_linear(out, line)
+        }
+        _ => Ok(()),
+    }
+}
+
+fn put_command(alloc: Global, out: &mut String, command: &Command<'_>) -> Result<(), OutOfMemory> {
+    match command {
+        Command::Nothing => Ok(writeln!(out, "nothing")?),
+        Command::View { name, parent } => put_view(out, name, *parent),
+        Command::Metric { name, value } => put_metric(out, name, *value),
+        Command::Window { width, height } => put_numbers(out, "window", *width, *height),
+        Command::Budget { exchanges } => Ok(writeln!(out, "budget {exchanges}")?),
+        Command::Frames => Ok(writeln!(out, "frames")?),
+        Command::Rows => Ok(writeln!(out, "rows")?),
+        _ => put_group(alloc, out, command),
+    }
+}
+
+/// Appends the reading of a line of a script, or where it leaves the grammar.
+pub fn put_line(alloc: Global, out: &mut String, line: &[u8]) -> Result<(), OutOfMemory> {
+    match read_line(alloc, line) {
+        Ok(command) => put_command(alloc, out, &command),
+        Err(LineStop::SyntaxAt(at)) => Ok(writeln!(out, "syntax {at}")?),
+        Err(LineStop::OutOfMemory) => Err(OutOfMemory),
+    }
+}

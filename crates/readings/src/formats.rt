@@ -1,0 +1,64 @@
+// Formats: their own text and the counts of their parts.
+use case_text::put_text;
+use frac_core::OutOfMemory;
+use std::alloc::Global;
+use vfl_text::{Format, FormatStop, Gap, read, write};
+
+/// Appends the canonical text of a format.
+pub fn put_written(
+    alloc: Global,
+    out: &mut String,
+    format: &Format<'_>,
+) -> Result<(), OutOfMemory> {
+    let mut text = Vec::new(alloc);
+    write(alloc, format, &mut text)?;
+    text.push(b'\n')?;
+    put_text(out, &text)
+}
+
+fn text_of(bytes: &[u8]) -> &str {
+    std::str::from_utf8(bytes).unwrap_or("")
+}
+
+fn put_stop(out: &mut String, stop: FormatStop) -> Result<(), OutOfMemory> {
+    match stop {
+        FormatStop::SyntaxAt(at) => Ok(writeln!(out, "syntax {at}")?),
+        FormatStop::OutOfMemory => Err(OutOfMemory),
+    }
+}
+
+/// Appends a format as it is written canonically, or where the text leaves the grammar.
+pub fn put_format(alloc: Global, out: &mut String, text: &[u8]) -> Result<(), OutOfMemory> {
+    match read(alloc, text_of(text)) {
+        Ok(format) => put_written(alloc, out, &format),
+        Err(stop) => put_stop(out, stop),
+    }
+}
+
+fn count_of(gap: &Gap<'_>) -> usize {
+    match gap {
+        Gap::Given(preds) => preds.len(),
+        _ => 0,
+    }
+}
+
+// Appends how many predicates each view and each connection between views has.
+fn put_parts(out: &mut String, format: &Format<'_>) -> Result<(), OutOfMemory> {
+    for item in format.items() {
+        let (name, count) = (item.name, item.sizes().len());
+        writeln!(out, "{name} with {count}")?;
+    }
+    for gap in format.gaps() {
+        let count = count_of(gap);
+        writeln!(out, "between with {count}")?;
+    }
+    Ok(())
+}
+
+/// Appends how many predicates the parts of a format have.
+pub fn put_counts(alloc: Global, out: &mut String, text: &[u8]) -> Result<(), OutOfMemory> {
+    match read(alloc, text_of(text)) {
+        Ok(format) => put_parts(out, &format),
+        Err(stop) => put_stop(out, stop),
+    }
+}
