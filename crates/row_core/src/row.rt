@@ -86,6 +86,34 @@ fn combined(alloc: Global, r: &[Entry], p: &[Entry], sum: Sum) -> Result<IntRow,
     Ok(IntRow { entries })
 }
 
+// Of so many entries at most the column is sought one by one.
+const FEW: usize = 8;
+
+// The place of the column, sought by halves.
+fn place_by_halves(entries: &[Entry], col: Col) -> Option<usize>
+    requires { IsRising entries.now }
+    ensures within { IfSome result (λ i. i < length entries.now) }
+    ensures found { IfSome result (HoldsAt (λ t. t.col ≡ col.0) entries.now) }
+    ensures absent { IfNone result (All (λ t. t.col ≢ col.0) entries.now) }
+{
+    entries.binary_search_by_key(&col.0, |e| e.col.0).ok()
+}
+
+// The place of the column, sought one by one.
+fn place_in_turn(entries: &[Entry], col: Col) -> Option<usize>
+    ensures within { IfSome result (λ i. i < length entries.now) }
+    ensures found { IfSome result (HoldsAt (λ t. t.col ≡ col.0) entries.now) }
+    ensures absent { IfNone result (All (λ t. t.col ≢ col.0) entries.now) }
+{
+    for i in 0..entries.len() {
+        let e = entries[i];
+        if e.col.0 == col.0 {
+            return Some(i);
+        }
+    }
+    None
+}
+
 // The place of the column.
 fn place_of(entries: &[Entry], col: Col) -> Option<usize>
     requires { IsRising entries.now }
@@ -93,7 +121,11 @@ fn place_of(entries: &[Entry], col: Col) -> Option<usize>
     ensures found { IfSome result (HoldsAt (λ t. t.col ≡ col.0) entries.now) }
     ensures absent { IfNone result (All (λ t. t.col ≢ col.0) entries.now) }
 {
-    entries.binary_search_by_key(&col.0, |e| e.col.0).ok()
+    if entries.len() <= FEW {
+        place_in_turn(entries, col)
+    } else {
+        place_by_halves(entries, col)
+    }
 }
 
 // The number at the column, or 0.

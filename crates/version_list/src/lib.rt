@@ -51,6 +51,8 @@ pub struct VersionList<T> {
     slots: Vec<usize>,
     // The newest first.
     logs: VecDeque<Log<T>>,
+    // One that was forgotten, whose memory the next one takes.
+    spare: Option<Log<T>>,
     alloc: Global,
 }
 
@@ -81,6 +83,7 @@ impl<T> VersionList<T> {
             items: Vec::new(alloc),
             slots: Vec::new(alloc),
             logs,
+            spare: None,
             alloc,
         })
     }
@@ -183,7 +186,7 @@ impl<T: Drop> VersionList<T> {
         ensures items { self.new.items ≡ self.old.items }
         ensures before { self.new.before ≡ take MOST (self.old.items ∷ self.old.before) }
     {
-        let mut log = empty_log(&mut self.logs, self.alloc);
+        let mut log = empty_log(&mut self.logs, &mut self.spare, self.alloc);
         log.len = self.items.len();
         self.logs.push_front_reserved(log);
     }
@@ -218,7 +221,7 @@ impl<T: Drop> VersionList<T> {
         ensures items { self.new.items ≡ self.old.items }
         ensures before { self.new.before ≡ take (length self.old.before - 1) self.old.before }
     {
-        self.logs.pop_back();
+        self.spare = self.logs.pop_back();
     }
 }
 

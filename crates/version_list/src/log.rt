@@ -131,20 +131,34 @@ pub fn own<T: Clone + Drop>(
     replace_at(&mut logs[0], items, slots, at, copy)
 }
 
-// An empty log: the oldest with its memory, where there are as many as may be.
-pub fn empty_log<T: Drop>(logs: &mut VecDeque<Log<T>>, alloc: Global) -> Log<T>
+// A log whose memory the next one may take: the oldest, where there are as many as may be, or the spare one.
+fn old_log<T: Drop>(logs: &mut VecDeque<Log<T>>, spare: &mut Option<Log<T>>) -> Option<Log<T>>
+    requires { deque_len logs.old ≤ MOST }
+    ensures rest { logs.new.items ≡ take (MOST - 1) logs.old.items }
+    ensures capacity { deque_capacity logs.new ≡ deque_capacity logs.old }
+{
+    if logs.len() == MOST {
+        return logs.pop_back();
+    }
+    mem::replace(spare, None)
+}
+
+// An empty log, with memory that there is.
+pub fn empty_log<T: Drop>(
+    logs: &mut VecDeque<Log<T>>,
+    spare: &mut Option<Log<T>>,
+    alloc: Global,
+) -> Log<T>
     requires { deque_len logs.old ≤ MOST }
     ensures empty { result.replaced.items ≡ [] }
     ensures whole { result.removed.items ≡ [] }
     ensures rest { logs.new.items ≡ take (MOST - 1) logs.old.items }
     ensures capacity { deque_capacity logs.new ≡ deque_capacity logs.old }
 {
-    if logs.len() == MOST {
-        if let Some(mut oldest) = logs.pop_back() {
-            oldest.replaced.clear();
-            oldest.removed.clear();
-            return oldest;
-        }
+    if let Some(mut log) = old_log(logs, spare) {
+        log.replaced.clear();
+        log.removed.clear();
+        return log;
     }
     Log {
         len: 0,

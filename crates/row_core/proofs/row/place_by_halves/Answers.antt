@@ -2,7 +2,7 @@ use Rattle.std.proofs.Common.{rules}
 use Rattle.std.proofs.lemmas.List.Sorted.{answers_always}
 use Rattle.row_core.specs.Rows.{Term}
 use Rattle.row_core.proofs.Places.{searched}
-use Rattle.row_core.proofs.row.place_of.Goals as goal
+use Rattle.row_core.proofs.row.place_by_halves.Goals as goal
 
 -- the closure gives an entry's column
 pub returns : goal.returns
