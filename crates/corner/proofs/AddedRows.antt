@@ -10,7 +10,6 @@ use Rattle.cert_core.specs.declared.stops.RunStop.{RunStop}
 use Rattle.cert_core.specs.declared.stops.RunStop.TheVariants.{Conflict, Unfit, Spent, OutOfMemory}
 use Rattle.problem_core.specs.declared.parts.Mark.{Mark}
 use Rattle.problem_core.specs.declared.parts.Stay.{Stay}
-use Rattle.problem_core.specs.declared.parts.Rel.TheVariants.{Eq}
 use Rattle.problem_core.specs.declared.parts.RowName.{RowName}
 use Rattle.problem_core.specs.declared.parts.RowName.TheVariants.{Held}
 use Rattle.problem_core.specs.declared.parts.Level.TheVariants.{Priority as PriorityLevel}
@@ -24,7 +23,6 @@ use Rattle.problem_core.specs.Paths.{IsPath}
 use Rattle.corner_laws.specs.Lifts.{HasOneIn}
 use Rattle.corner_laws.proofs.Counting.{head_pairs, tail_pairs}
 use Rattle.corner_lines.specs.LevelJoins.{level_count}
-use Rattle.corner.specs.declared.table.Owner.TheVariants.{Level as LevelSlot}
 use Rattle.corner.specs.declared.table.Priority.{Priority}
 use Rattle.corner.specs.declared.table.Slot.{Slot}
 use Rattle.corner.specs.declared.table.Table.{Table}
@@ -40,12 +38,10 @@ use Rattle.corner.specs.CostJoins.{AreAllJoined, AreToJoin, IsCostsStop}
 use Rattle.problem_core.specs.declared.parts.Rel.{Rel}
 use Rattle.problem_core.specs.Layout.{Line, line_of_row, lines, stay_lines}
 use Rattle.corner_laws.proofs.WrittenValues.{contains_each}
-use Rattle.corner.specs.declared.table.Owner.{Owner}
-use Rattle.corner.specs.declared.table.Owner.TheVariants.{Attr as AttrSlot, Line as LineSlot}
 use Rattle.corner.specs.Invariants.{name_of, view_of}
 use Rattle.corner.specs.Joining.{slot_of_row}
 use Rattle.corner.specs.JoinedLists.{AreRowsListed}
-use Rattle.corner.specs.Kept.{AreSlots, IsLineSlot, IsOwned}
+use Rattle.corner.specs.Kept.{IsLineSlot}
 use Rattle.corner.specs.LevelNumbers.{side_share}
 use Rattle.corner.specs.Views.{IsNamed}
 use Rattle.corner.specs.CostJoins.{IsLineListed}

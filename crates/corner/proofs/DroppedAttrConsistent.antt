@@ -1,10 +1,9 @@
 -- A corner whose lists are those without an attribute is consistent.
-use Rattle.std.proofs.Common.{◌≡◌, ◌≢◌, ◌∙◌, ℕ, ◌+◌, ◌<◌, ◌≤◌, List, length, refl, sym, ap, subst, arith, All, Contains}
-use Rattle.std.proofs.lemmas.List.Elements.{All-contains}
+use Rattle.std.proofs.Common.{◌≡◌, ◌≢◌, ◌∙◌, ℕ, ◌+◌, List, sym, ap, subst, arith, All, Contains}
 use Rattle.problem_core.specs.declared.parts.Mark.{Mark}
 use Rattle.problem_core.specs.declared.parts.RowName.{RowName}
 use Rattle.problem_core.specs.declared.parts.RowName.TheVariants.{Held, Stay as StayOf}
-use Rattle.problem_core.specs.Corners.{HasNegativeColumn, IsIn, place}
+use Rattle.problem_core.specs.Corners.{HasNegativeColumn}
 use Rattle.problem_core.specs.Layout.{Problem, lines}
 use Rattle.corner_lines.specs.Removals.{IsFree, without_attr}
 use Rattle.corner.specs.declared.table.Owner.{Owner}
@@ -22,7 +21,7 @@ use Rattle.corner.proofs.AttrLevels.{stay_named}
 use Rattle.corner.proofs.DroppedAttrCandidates.{attr_left_negative}
 use Rattle.corner.proofs.DroppedAttrKept.{IsApart, IsAttrDrop, attr_drop, attr_drop_kept, attr_drop_marks, attr_slot_same, count, left-lines, named-attr-left}
 use Rattle.corner.proofs.ListFacts.{all_from, from_map, to_map}
-use Rattle.corner.proofs.NextConsistent.{CanBeListed, were_listed}
+use Rattle.corner.proofs.NextConsistent.{were_listed}
 use Rattle.corner.proofs.ReadFacts.{mark_named, named_in}
 use Rattle.corner.proofs.SlotFacts.{any_is}
 use Rattle.corner.proofs.WritingFacts.{attr_owner, line_owner}

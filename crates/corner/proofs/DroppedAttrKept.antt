@@ -1,5 +1,5 @@
 -- What the lists keep where an attribute that no row names is taken out.
-use Rattle.std.proofs.Common.{◌≡◌, ◌≢◌, ◌∙◌, ℕ, zero, suc, ◌+◌, ◌-◌, ◌*◌, ◌^◌, ◌<◌, ◌≤◌, ◌++◌, Bool, true, false, cond, nat_eq, List, [], ◌∷◌, map, length, length-set, slice_set, refl, sym, ap, ap₂, subst, arith, inl, inr, ℤ, pos, ◌*ℤ◌, ◌+ℤ◌, ◌-ℤ◌, neg_ℤ, ne_eqb, eq-eqb, slice_index_or, All, AllPairs, Any, Some, None}
+use Rattle.std.proofs.Common.{◌≡◌, ◌≢◌, ◌∙◌, ℕ, zero, suc, ◌+◌, ◌*◌, ◌^◌, ◌<◌, ◌≤◌, ◌++◌, Bool, true, false, cond, nat_eq, List, [], ◌∷◌, map, length, length-set, slice_set, refl, sym, ap, ap₂, subst, arith, inl, inr, ℤ, pos, ◌*ℤ◌, ◌+ℤ◌, ◌-ℤ◌, neg_ℤ, ne_eqb, eq-eqb, slice_index_or, All, Any, Some, None}
 use Rattle.std.specs.declared.option.Option.{Option}
 use Rattle.std.specs.List.{AllByRecursion as Each, filter}
 use Rattle.std.proofs.lemmas.Bool.{cases_eq, cases_lt}
@@ -18,9 +18,8 @@ use Rattle.problem_core.specs.declared.parts.RowName.TheVariants.{Held, Stay as 
 use Rattle.problem_core.specs.declared.parts.Side.{Side}
 use Rattle.problem_core.specs.declared.parts.Side.TheVariants.{Under, Over}
 use Rattle.problem_core.specs.declared.parts.Stay.{Stay}
-use Rattle.problem_core.specs.declared.parts.Term as parts
 use Rattle.problem_core.specs.Kept.{IsStay, IsWhole}
-use Rattle.problem_core.specs.Layout.{HasStay, IsCovered, Line, Problem, Row, line_of_row, line_of_stay, lines, stay_lines}
+use Rattle.problem_core.specs.Layout.{HasStay, Line, Problem, Row, line_of_row, line_of_stay, lines, stay_lines}
 use Rattle.problem_core.specs.Window.{zero_fraction}
 use Rattle.problem_core.specs.Corners.{IsCorner, IsIn, attr_column, marks_of, place_of}
 use Rattle.problem_core.specs.Levels.{IsCostAt}
@@ -29,7 +28,6 @@ use Rattle.problem_core.proofs.Forms.{each-impl}
 use Rattle.std.proofs.lemmas.List.{get_or_past}
 use Rattle.corner_laws.specs.Units.{IsLevelRow, over_share, under_share}
 use Rattle.corner_laws.proofs.LevelSizes.{no-over, no-under}
-use Rattle.corner_laws.proofs.LinePlaces.{pairs-first, pairs-rest}
 use Rattle.corner_lines.specs.LineEquations.{IsLineEquation, IsOutsideLine, deviation, sign_of}
 use Rattle.corner_lines.specs.Removals.{IsFree, without_attr}
 use Rattle.corner_lines.proofs.DroppedAttr.{attr_left_attr, attr_left_corner, attr_left_inside, attr_left_rays, attr_none, line_none, stay-out}
@@ -46,13 +44,11 @@ use Rattle.corner.specs.Views.{IsNamed}
 use Rattle.corner.proofs.AttrJoins.{own_name, own_stay, zero_kept}
 use Rattle.corner.proofs.AttrLevels.{stay_named}
 use Rattle.corner.proofs.DroppedAttrLevels.{attr_left_cost, attr_left_level, attr_left_unit, attr_level_none}
-use Rattle.corner.proofs.LevelSwaps.{decide_zero}
 use Rattle.corner.proofs.MarkFacts.{stands_inside}
-use Rattle.corner.proofs.MovedFacts.{none_some}
 use Rattle.corner.proofs.PairFacts.{named_mark}
 use Rattle.corner.proofs.ReadFacts.{attr_equation}
 use Rattle.corner.proofs.SlotFacts.{any_is, named_slot}
-use Rattle.corner.proofs.WritingFacts.{attr_apart, attr_owner, line_owner, lines_apart}
+use Rattle.corner.proofs.WritingFacts.{attr_apart, attr_owner, lines_apart}
 
 -- ---- stays without one
 

@@ -1,6 +1,6 @@
 -- A mark whose column is negative once a row is taken out had a negative column before, where the row's inside mark costs nothing or the
 -- mark's line doesn't stand in the row.
-use Rattle.std.proofs.Common.{◌≡◌, ◌≢◌, ◌∙◌, ◌⊎◌, inl, inr, ℕ, zero, suc, ◌+◌, ◌*◌, ◌<◌, ◌++◌, Bool, true, false, cond, nat_eq, List, [], ◌∷◌, map, filter, refl, sym, ap, ap₂, subst, arith, ℤ, pos, neg_ℤ, ◌+ℤ◌, ◌-ℤ◌, ◌*ℤ◌, ◌<ℤ◌, eq-eqb, ne_eqb, All, Any}
+use Rattle.std.proofs.Common.{◌≡◌, ◌≢◌, ◌∙◌, ◌⊎◌, inl, inr, ℕ, zero, suc, ◌*◌, ◌<◌, ◌++◌, Bool, true, false, cond, nat_eq, List, [], ◌∷◌, map, filter, refl, sym, ap, subst, arith, ℤ, pos, neg_ℤ, ◌+ℤ◌, ◌-ℤ◌, ◌*ℤ◌, ◌<ℤ◌, eq-eqb, ne_eqb, All, Any}
 use Rattle.std.specs.List.{AllByRecursion as Each}
 use Rattle.std.proofs.lemmas.Bool.{cases_eq}
 use Rattle.std.proofs.lemmas.List.Elements.{All-from_recursion, recursion_from_All}
@@ -16,14 +16,11 @@ use Rattle.problem_core.specs.declared.parts.Side.TheVariants.{Under, Over}
 use Rattle.problem_core.specs.Begins.{without_marks}
 use Rattle.problem_core.specs.Layout.{IsProblem, Line, Problem, Row, line_of_row, lines, stay_lines, sum_of}
 use Rattle.problem_core.specs.Layout as layout
-use Rattle.problem_core.specs.Kept.{IsWhole}
 use Rattle.problem_core.specs.Certificates.{Multipliers, over_weight, under_weight, weight_at}
 use Rattle.problem_core.specs.Corners.{AreMultipliersAt, HasNegativeColumn, IsIn, IsLexNegative, column, place, place_of}
 use Rattle.problem_core.proofs.Forms.{each-both, each-impl}
-use Rattle.problem_core.proofs.Wholes.{whole-IsProblem}
 use Rattle.corner_laws.proofs.LinePlaces.{sum-each}
 use Rattle.corner_lines.specs.LevelRows.{IsPivot}
-use Rattle.corner_lines.specs.LineEquations.{sign_of}
 use Rattle.corner_lines.specs.Removals.{without_row}
 use Rattle.corner_lines.proofs.LevelExchanges.{by-sides}
 use Rattle.corner_lines.proofs.LineSums.{both-cancel}

@@ -1,5 +1,5 @@
 -- A corner whose lists are those without a row is consistent.
-use Rattle.std.proofs.Common.{◌≡◌, ◌≢◌, ◌∙◌, ◌⊎◌, ℕ, ◌<◌, ◌≤◌, List, [], ◌∷◌, length, refl, sym, ap, subst, arith, inl, inr, ℤ, pos, ◌*ℤ◌, ◌++◌, zero, suc, ◌+◌, map, nat_eq, All, Any, Contains, Some, None}
+use Rattle.std.proofs.Common.{◌≡◌, ◌≢◌, ◌∙◌, ◌⊎◌, ℕ, ◌<◌, List, [], ◌∷◌, refl, sym, ap, subst, arith, inl, inr, ℤ, pos, ◌*ℤ◌, ◌++◌, zero, suc, map, nat_eq, All, Any, Contains, Some, None}
 use Rattle.std.specs.declared.option.Option.{Option}
 use Rattle.std.specs.List.{AllByRecursion as Each}
 use Rattle.std.proofs.lemmas.List.Elements.{recursion_from_All}
@@ -23,7 +23,6 @@ use Rattle.corner.specs.declared.table.Owner.{Owner}
 use Rattle.corner.specs.declared.table.Owner.TheVariants.{Level as LevelSlot, Attr as AttrSlot, Line as LineSlot}
 use Rattle.corner.specs.declared.table.Slot.{Slot}
 use Rattle.corner.specs.declared.table.Table.{Table}
-use Rattle.corner.specs.declared.table.TheConstants.{LEVELS}
 use Rattle.corner.specs.CostJoins.{IsFreeLine}
 use Rattle.corner.specs.Dropping.{AreLeftListed, dropped}
 use Rattle.corner.specs.Histories.{AreAlike, lists_before}
@@ -34,7 +33,7 @@ use Rattle.corner.specs.Leaving.{IsLeaver, marks_left, problem_left}
 use Rattle.corner.specs.LevelNumbers.{side_share}
 use Rattle.corner.specs.Tables.{Lists, entry, line_slot, lists_of, marks_at, number, problem_of, row_at, slot_at, standing_at}
 use Rattle.corner.specs.Views.{AreCandidates, IsNamed, IsOutside}
-use Rattle.corner.proofs.CandidatesAfter.{listed_name, other-line, row-none}
+use Rattle.corner.proofs.CandidatesAfter.{other-line, row-none}
 use Rattle.corner.proofs.CornerAttrs.{not_zero}
 use Rattle.corner.proofs.DroppedCandidates.{left_negative}
 use Rattle.corner.proofs.DroppedKept.{IsDrop, IsGoing, drop-slot-count, drop_kept, drop_marks, drop_slot_same, left-named, named-left, one-row}
@@ -43,7 +42,6 @@ use Rattle.corner.proofs.MarkFacts.{inside_stands}
 use Rattle.corner.proofs.KeptFacts.{row_kept}
 use Rattle.corner.proofs.LevelSwaps.{decide_zero}
 use Rattle.corner.proofs.ListFacts.{all_from, from_map, to_map}
-use Rattle.corner.proofs.MovedFacts.{none_some}
 use Rattle.corner.proofs.NextConsistent.{CanBeListed, outside_listed, were_listed}
 use Rattle.corner.proofs.ReadFacts.{is_some, mark_named, named_in}
 use Rattle.corner.proofs.RowEquations.{line-owned}

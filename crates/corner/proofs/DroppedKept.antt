@@ -1,5 +1,5 @@
 -- What the lists keep where a row is taken out.
-use Rattle.std.proofs.Common.{◌≡◌, ◌≢◌, ◌∙◌, ℕ, zero, suc, ◌+◌, ◌-◌, ◌*◌, ◌^◌, ◌<◌, ◌≤◌, ◌++◌, Bool, true, false, cond, nat_eq, List, [], ◌∷◌, map, length, length-set, slice_set, refl, sym, ap, ap₂, subst, arith, inl, inr, ℤ, pos, ◌*ℤ◌, ◌+ℤ◌, ◌-ℤ◌, neg_ℤ, ne_eqb, eq-eqb, slice_index_or, All, AllPairs, Any, Some, None}
+use Rattle.std.proofs.Common.{◌≡◌, ◌≢◌, ◌∙◌, ℕ, zero, suc, ◌-◌, ◌*◌, ◌^◌, ◌<◌, ◌≤◌, ◌++◌, Bool, true, false, cond, nat_eq, List, [], ◌∷◌, map, length, length-set, slice_set, refl, sym, ap, ap₂, subst, arith, inl, inr, ℤ, pos, ◌*ℤ◌, ◌+ℤ◌, ◌-ℤ◌, neg_ℤ, ne_eqb, eq-eqb, slice_index_or, All, AllPairs, Any, Some, None}
 use Rattle.std.specs.declared.option.Option.{Option}
 use Rattle.std.specs.List.{AllByRecursion as Each, filter}
 use Rattle.std.proofs.lemmas.Bool.{cases_eq, cases_lt}
@@ -27,7 +27,6 @@ use Rattle.problem_core.proofs.Forms.{each-impl}
 use Rattle.corner_laws.specs.Units.{IsLevelRow, over_share, under_share}
 use Rattle.corner_lines.specs.LevelJoins.{level_count}
 use Rattle.corner_lines.specs.LineEquations.{IsLineEquation, IsOutsideLine, deviation, sign_of}
-use Rattle.corner_lines.specs.Removals.{without_row}
 use Rattle.corner_lines.proofs.Dropped.{attr_without, deviation_without, left_corner, left_line, left_rays}
 use Rattle.corner.specs.declared.leaving.Leaver.{Leaver}
 use Rattle.corner.specs.declared.leaving.Left.{Left}
@@ -52,7 +51,7 @@ use Rattle.corner.proofs.MarkFacts.{stands_inside}
 use Rattle.corner.proofs.MovedFacts.{none_some}
 use Rattle.corner.proofs.PairFacts.{named_mark, side-stands}
 use Rattle.corner.proofs.SlotFacts.{any_impl, any_is, named_slot}
-use Rattle.corner.proofs.WritingFacts.{attr_apart, attr_owner, line_owner, lines_apart}
+use Rattle.corner.proofs.WritingFacts.{attr_apart, lines_apart}
 
 -- ---- the row that goes
 

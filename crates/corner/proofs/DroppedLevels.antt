@@ -1,5 +1,5 @@
 -- A level at which a row counts nothing, where the row is taken out and had a mark inside.
-use Rattle.std.proofs.Common.{◌≡◌, ◌≢◌, ◌∙◌, ℕ, zero, suc, ◌+◌, ◌*◌, ◌/◌, ◌<◌, ◌++◌, Bool, true, false, cond, nat_eq, List, [], ◌∷◌, filter, map, ℤ, pos, ◌+ℤ◌, ◌*ℤ◌, neg_ℤ, unsigned_abs, ne_eqb, eq-eqb, refl, sym, ap, ap₂, subst, arith, inl, inr, All, Any}
+use Rattle.std.proofs.Common.{◌≡◌, ◌≢◌, ◌∙◌, ℕ, zero, suc, ◌*◌, ◌/◌, ◌<◌, ◌++◌, Bool, true, false, cond, nat_eq, List, [], ◌∷◌, filter, map, ℤ, pos, ◌+ℤ◌, ◌*ℤ◌, neg_ℤ, unsigned_abs, ne_eqb, eq-eqb, refl, sym, ap, ap₂, subst, arith, inl, inr, All, Any}
 use Rattle.std.specs.Int.{◌∣◌}
 use Rattle.std.specs.List.{AllByRecursion as Each}
 use Rattle.std.proofs.lemmas.Bool.{cases_eq}
@@ -26,7 +26,6 @@ use Rattle.corner_laws.specs.Units.{IsLevelRow, IsLevelUnit, over_share, under_s
 use Rattle.corner_laws.proofs.Gaps.{shares}
 use Rattle.corner_laws.proofs.LevelSizes.{over-zero, under-zero}
 use Rattle.corner_laws.proofs.LinePlaces.{sum-each}
-use Rattle.corner_lines.specs.LineEquations.{IsOutsideLine}
 use Rattle.corner_lines.specs.LevelRows.{inside_number}
 use Rattle.corner_lines.specs.Removals.{without_row}
 use Rattle.corner_lines.proofs.LevelJoins.{free-number}

@@ -1,5 +1,5 @@
 -- The rows without one, and the stays without one, by place and by number.
-use Rattle.std.proofs.Common.{◌≡◌, ◌≢◌, ◌∙◌, ℕ, zero, suc, ◌<◌, Bool, true, false, cond, nat_eq, List, [], ◌∷◌, ne_eqb, eq-eqb, length, slice_index_or, refl, sym, ap, subst, arith, AllPairs}
+use Rattle.std.proofs.Common.{◌≡◌, ◌≢◌, ◌∙◌, ℕ, zero, suc, ◌<◌, Bool, true, false, cond, nat_eq, List, [], ◌∷◌, ne_eqb, eq-eqb, length, slice_index_or, refl, sym, ap, arith, AllPairs}
 use Rattle.std.specs.List.{AllByRecursion as Each, filter, remove}
 use Rattle.std.proofs.lemmas.List.Elements.{recursion_from_All}
 use Rattle.problem_core.proofs.Forms.{each-impl}

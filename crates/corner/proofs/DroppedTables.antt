@@ -1,5 +1,5 @@
 -- What the functions that take a row or an attribute out find.
-use Rattle.std.proofs.Common.{◌≡◌, ◌≢◌, ◌∙◌, ℕ, zero, suc, ◌+◌, ◌-◌, ◌<◌, ◌≤◌, ◌++◌, List, [], ◌∷◌, map, length, length-set, get_or, refl, sym, ap, subst, arith, inl, inr, slice_index_or, All, AllPairs, Any, Contains, None}
+use Rattle.std.proofs.Common.{◌≡◌, ◌≢◌, ◌∙◌, ℕ, zero, suc, ◌+◌, ◌<◌, ◌++◌, List, [], ◌∷◌, map, length, length-set, get_or, refl, sym, ap, subst, arith, inl, inr, slice_index_or, AllPairs, Any, None}
 use Rattle.std.specs.List.{filter, remove}
 use Rattle.std.proofs.lemmas.Bool.{cases_eq}
 use Rattle.row_core.proofs.Places.{coefficient_at}
@@ -10,7 +10,7 @@ use Rattle.problem_core.specs.declared.parts.RowName.TheVariants.{Held, Stay as 
 use Rattle.problem_core.specs.declared.parts.Side.{Side}
 use Rattle.problem_core.specs.declared.parts.Side.TheVariants.{Under, Over}
 use Rattle.problem_core.specs.declared.parts.Stay.{Stay}
-use Rattle.problem_core.specs.Layout.{HasStay, Line, Row, line_of_row, lines, stay_lines}
+use Rattle.problem_core.specs.Layout.{Line, Row, line_of_row, stay_lines}
 use Rattle.problem_core.specs.Corners.{IsIn, place, place_of}
 use Rattle.corner_laws.specs.Lifts.{HasOneIn}
 use Rattle.corner.specs.declared.leaving.Leaver.{Leaver}
@@ -20,7 +20,7 @@ use Rattle.corner.specs.CostJoins.{IsFreeLine}
 use Rattle.corner.specs.Dropping.{AreLeftListed, dropped, dropped_attr, freed, no_slot, with_left}
 use Rattle.corner.specs.Kept.{IsKept}
 use Rattle.corner.specs.Listing.{HasLeft}
-use Rattle.corner.specs.Leaving.{IsLeaver, IsLevelLeft, problem_left}
+use Rattle.corner.specs.Leaving.{IsLeaver, IsLevelLeft}
 use Rattle.corner.specs.Tables.{IsListedOf, Lists, attr_slot, marks_at, problem_of, row_at, standing_at}
 use Rattle.problem_core.specs.Window.{zero_fraction}
 use Rattle.corner.specs.Views.{IsNamed}

@@ -189,7 +189,7 @@ pub record IsEntrySlot (t : Lists) (m : Mark) (c : ℕ) : Type 0 where
   pub none : (standing_at t c).side ≡ None
   pub some : entry t (slot_in t m) c ≢ pos 0
 
-owned_named : (t : Lists) (c : ℕ) (name : RowName) → IsKept t → IsSlot t c → (slot_at t c).owner ≡ LineSlot name → IsNamed (problem_of t) name × (line_slot t name ≡ c)
+pub owned_named : (t : Lists) (c : ℕ) (name : RowName) → IsKept t → IsSlot t c → (slot_at t c).owner ≡ LineSlot name → IsNamed (problem_of t) name × (line_slot t name ≡ c)
 owned_named t c name kept slot e = subst (IsOwned t c) e (kept.slots.owners c slot)
 
 pub entry_slot : (t : Lists) (m : Mark) (c : ℕ) → IsKept t → IsIn (place m) (marks_at t) → Contains (columns_but (slot_in t m) (row_in t m)) c → IsEntrySlot t m c
@@ -208,7 +208,7 @@ entry_slot t m c kept inside has =
       some = some;
     }
 
-entry_outside : (t : Lists) (m : Mark) (c : ℕ) (h : IsEntrySlot t m c) → (side : Side) → IsOutside (problem_of t) (marks_at t) (record { row = h.name; side = side })
+pub entry_outside : (t : Lists) (m : Mark) (c : ℕ) (h : IsEntrySlot t m c) → (side : Side) → IsOutside (problem_of t) (marks_at t) (record { row = h.name; side = side })
 entry_outside t m c h side = (
   named_in (problem_of t) h.name side h.named,
   λ i. none_some (standing_at t (line_slot t h.name)).side side (ap (λ w. (standing_at t w).side) h.slot_is ∙ h.none)
@@ -232,7 +232,7 @@ slot_entry t m c kept inside h =
       nonzero = λ e. h.some (subst (λ w. entry t (slot_in t m) w ≡ pos 0) h.slot_is (no_entry Under (MarkOf m) (entry t (slot_in t m) (line_slot t h.name)) e));
     }
 
-entry_named : (t : Lists) (m : Mark) (name : RowName) → HasEntry (problem_of t) (marks_at t) m name → IsNamed (problem_of t) name
+pub entry_named : (t : Lists) (m : Mark) (name : RowName) → HasEntry (problem_of t) (marks_at t) m name → IsNamed (problem_of t) name
 entry_named t m name h = mark_named (problem_of t) (record { row = name; side = h.side }) h.outside.0
 
 pub entry_there : (t : Lists) (m : Mark) (name : RowName) → IsKept t → IsIn (place m) (marks_at t) → HasEntry (problem_of t) (marks_at t) m name → Contains (columns_but (slot_in t m) (row_in t m)) (line_slot t name)

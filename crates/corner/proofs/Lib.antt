@@ -113,3 +113,6 @@ pub mod DroppedAttrCandidates
 pub mod DroppedAttrKept
 pub mod DroppedAttrConsistent
 pub mod LeavingEnds
+pub mod GrowingFacts
+pub mod LowLines
+pub mod WholeSums

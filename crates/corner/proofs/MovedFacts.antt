@@ -260,7 +260,7 @@ nothing_else t m s what kept out e apart ne moves =
     let h = kept.outside (what_slot t what) (line_slot t m.row) (moves_entry t m what kept out apart moves) ne in
     none_some (standing_at t (line_slot t m.row)).side s h.1 e
 
-only_other : (t : Lists) (m : Mark) (s : Side) (what : What) → IsKept t → IsOutside (problem_of t) (marks_at t) m → (standing_at t (line_slot t m.row)).side ≡ Some s
+pub only_other : (t : Lists) (m : Mark) (s : Side) (what : What) → IsKept t → IsOutside (problem_of t) (marks_at t) m → (standing_at t (line_slot t m.row)).side ≡ Some s
     → MovesWith (problem_of t) (marks_at t) m what → MarkOf (record { row = m.row; side = s }) ≡ what
 only_other t m s (AttrOf attr) kept out e moves =
     absurd (nothing_else t m s (AttrOf attr) kept out e (λ h. h) (attr_apart t attr m.row kept.slots moves.1.0 (mark_named (problem_of t) m out.0)) moves)

@@ -25,7 +25,6 @@ use Rattle.corner.specs.declared.table.Priority.{Priority}
 use Rattle.corner.specs.declared.table.Slot.{Slot}
 use Rattle.corner.specs.declared.table.Standing.{Standing}
 use Rattle.corner.specs.Tables.{Lists, line_slot, marks_at, problem_of, standing_at}
-use Rattle.corner.specs.declared.table.Owner.TheVariants.{Level as LevelSlot}
 use Rattle.corner.specs.Kept.{AreStored, HasStayRoom, IsLineRow}
 use Rattle.corner.specs.Tables.{slot_at}
 use Rattle.std.proofs.lemmas.Bool.{cases_lt}

@@ -1,5 +1,5 @@
 -- What the lists keep where a row's constant has changed.
-use Rattle.std.proofs.Common.{◌≡◌, ◌∙◌, ℕ, suc, ◌-◌, ◌*◌, ◌<◌, Bool, true, false, cond, nat_eq, List, [], ◌∷◌, filter, length, map, refl, sym, ap, subst, arith, All, slice_index_or}
+use Rattle.std.proofs.Common.{◌≡◌, ◌∙◌, ℕ, suc, ◌-◌, ◌*◌, ◌<◌, Bool, true, false, cond, nat_eq, List, [], ◌∷◌, filter, length, map, refl, sym, ap, subst, All, slice_index_or}
 use Rattle.frac_core.specs.Fraction.{Fraction}
 use Rattle.problem_core.specs.declared.parts.Mark.{Mark}
 use Rattle.problem_core.specs.declared.parts.RowName.{RowName}
@@ -24,7 +24,7 @@ use Rattle.corner.proofs.AttrJoins.{own_name, own_stay}
 use Rattle.corner.proofs.KeptFacts.{value_kept}
 use Rattle.corner.proofs.ShiftCosts.{after_corner, shifted_cost}
 use Rattle.corner.proofs.ShiftGrowths.{IsShiftOf, level_grown, shift_here}
-use Rattle.corner.proofs.ShiftLines.{fitting_seen, reduced_seen, row_seen_alike, shift_count, shift_named, shift_seen, shift_whole, unit_seen}
+use Rattle.corner.proofs.ShiftLines.{fitting_seen, reduced_seen, row_seen_alike, shift_named, shift_seen, shift_whole, unit_seen}
 use Rattle.corner.proofs.ShiftValues.{attr_shifted, line_shifted, shift_marks_at}
 use Rattle.corner.proofs.StoodLines.{AreSeenAlike, each_seen}
 

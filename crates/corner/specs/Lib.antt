@@ -21,5 +21,7 @@ pub mod CostJoins
 pub mod JoinedLists
 pub mod Shifting
 pub mod Entries
+pub mod Lows
+pub mod Growing
 pub mod Leaving
 pub mod Dropping

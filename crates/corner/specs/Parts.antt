@@ -1,5 +1,5 @@
 -- What the lists of a corner keep while rows that have joined it join the costs of their levels.
-use Rattle.std.specs.Prelude.{◌≡◌, ◌≢◌, ℕ, ◌+◌, ◌-◌, ◌*◌, ◌<◌, ◌≤◌, ◌++◌, nat_eq, List, [], ◌∷◌}
+use Rattle.std.specs.Prelude.{◌≡◌, ℕ, ◌+◌, ◌-◌, ◌*◌, ◌<◌, ◌≤◌, ◌++◌, nat_eq, List, [], ◌∷◌}
 use Rattle.std.specs.Prelude.{filter, length, ℤ, pos, All}
 use Rattle.frac_core.specs.Fraction as fractions
 use Rattle.row_core.specs.Rows.{IsKeptRow}

@@ -21,6 +21,8 @@ ghost use Rattle.problem_core.specs.declared.stops.What.TheVariants.{Mark as Mar
 ghost use Rattle.version_list.specs.declared.TheConstants.{MOST};
 ghost use Rattle.corner.specs.Views.{AreCandidates, AreMovers, HasNoFront, HasNumbers};
 ghost use Rattle.corner.specs.Entries.{AreEntries};
+ghost use Rattle.corner.specs.Growing.{AreGrowersDear};
+ghost use Rattle.corner.specs.Lows.{ListsLow};
 ghost use Rattle.corner.specs.Views.{HasValueAt};
 ghost use Rattle.corner.specs.Views.{IsCoefficientOf, IsFrontOf, IsInUse};
 ghost use Rattle.corner.specs.Views.{IsKeptCorner, IsLevelOf, IsMarkOf, IsNamed, IsOutside, IsReducedAt};
@@ -43,12 +45,14 @@ ghost use Rattle.corner.specs.Invariants.{IsConsistent, IsEarlier, view_of};
 
 use crate::dropping::{drop_line, drop_stay, list_left};
 use crate::exchange::{exchange_of, put_exchange};
+use crate::growing::are_growers_dear;
 use crate::joining::{join_all, push_attr, stand_stays};
 use crate::leaving::{Leaver, Left, leaver_of, left_level};
 use crate::levels::{
     Front, Pair, cost_at, front_of, is_stronger, reduced_at, scale_at, times_at, used,
 };
 use crate::listing::Listed;
+use crate::lows::list_low;
 use crate::marking::marks_with;
 use crate::shifting::shift_row;
 use crate::slots::{attr_slot, level_slot, line_slot, name_at};
@@ -328,6 +332,26 @@ impl Corner {
             → slice_get names i ≡ Some result }
     {
         entry_in(&self.table, mark, i)
+    }
+
+    /// Whether all outside marks of other rows and stays with which the inside one grows have a reduced cost
+    /// above 0 at the level.
+    pub fn are_growers_dear(&self, mark: Mark, level: Level) -> bool
+        requires inside { IsIn (corners.place mark) self.now.marks }
+        requires level { IsLevelOf self.now.problem level }
+        ensures { result ≡ true → AreGrowersDear self.now.problem self.now.marks mark level }
+    {
+        are_growers_dear(&self.table, mark, level)
+    }
+
+    /// Lists the row or stay if its inside mark has a negative value; where it has none inside, those whose
+    /// inside marks move with its marks and have negative values.
+    pub fn list_low(&self, row: RowName, low: &mut Vec<RowName>) -> Result<(), OutOfMemory>
+        requires { IsNamed self.now.problem row }
+        ensures { OnOk result
+            (ListsLow self.now.problem self.now.marks row low.old.items low.new.items) }
+    {
+        list_low(&self.table, row, low)
     }
 
     /// The coefficient of an outside mark in the writing of an attribute or an inside mark.

@@ -37,6 +37,7 @@ use crate::slots::{
     cost_share, is_level, is_stay, level_of, own_of, own_of_level, priority_at, side_at, side_in,
     sign, slot_at, unit_of, value_at, what_at,
 };
+use crate::sums::sum;
 use crate::table::{Standing, Table};
 use crate::writings::what_sign;
 use frac_core::{Frac, OutOfMemory, PART_BOUND};
@@ -102,8 +103,8 @@ pub(crate) fn named_sum(
     if is_nothing(n, t) {
         return Ok(a);
     }
-    match Frac::mul_add(a, n, d, t) {
-        Ok(sum) => Ok(sum),
+    match sum(a, n, d, t) {
+        Ok(value) => Ok(value),
         Err(frac_core::Unfit) => Err(stop),
     }
 }

@@ -124,7 +124,7 @@ pub(crate) fn times_at(table: &Table, l: u32, line: u32) -> i64
 }
 
 /// The reduced cost of the mark of a line's slot at the level at a slot.
-fn reduced_of(table: &Table, l: u32, line: u32, side: Side) -> i64
+pub(crate) fn reduced_of(table: &Table, l: u32, line: u32, side: Side) -> i64
     requires kept { IsKept (lists_of table.now) }
     requires level { IsLevelSlot (lists_of table.now) l }
     requires line { IsSlotOfLine (lists_of table.now) line }

@@ -23,6 +23,7 @@ use crate::marking::list_row;
 use crate::slots::{
     cost_share, is_level, level_of, own_of, own_of_level, priority_at, sign, slot_at, value_at,
 };
+use crate::sums::sum;
 use crate::table::{Standing, Table};
 use frac_core::{Frac, OutOfMemory, Unfit};
 use problem_core::{Quantity, Side, TableStop, What};
@@ -157,7 +158,7 @@ pub(crate) fn turn_of(table: &Table, line: u32, side: Side) -> Result<Option<Cha
 pub(crate) fn negated(f: Frac) -> Frac
     ensures { result ≡ exchanges.opposite f }
 {
-    match Frac::mul_add(Frac::zero(), -1, 1, f) {
+    match sum(Frac::zero(), -1, 1, f) {
         Ok(f) => f,
         Err(Unfit) => f,
     }

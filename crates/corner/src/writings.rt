@@ -96,8 +96,8 @@ fn level_count(column: &[u32]) -> usize
     column.partition_point(|w| *w < LEVELS)
 }
 
-// The slots of attributes and lines in whose rows a line stands.
-fn moved(table: &Table, line: u32) -> &[u32]
+/// The slots of attributes and lines in whose rows a line stands.
+pub(crate) fn moved(table: &Table, line: u32) -> &[u32]
     requires { line < length table.now.matrix.rows }
     ensures moved { AreMoved (lists_of table.now) line result.now }
     ensures slots { All (λ w. w < length table.now.matrix.rows) result.now }
@@ -106,8 +106,8 @@ fn moved(table: &Table, line: u32) -> &[u32]
     &column[level_count(column)..]
 }
 
-// One of the slots.
-fn nth(slots: &[u32], i: usize) -> u32
+/// One of the slots.
+pub(crate) fn nth(slots: &[u32], i: usize) -> u32
     requires { i < length slots.now }
     ensures { result ≡ slice_index_or slots.now i 0 }
 {

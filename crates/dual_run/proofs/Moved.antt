@@ -1,7 +1,7 @@
 -- Marks that keep the sign of their value where others move.
-use Rattle.std.proofs.Common.{◌≡◌, ◌≢◌, ◌∙◌, ◌⊎◌, inl, inr, ℕ, zero, suc, ◌<◌, ◌++◌, List, [], ◌∷◌, map, ℤ, pos, negsuc, ◌*ℤ◌, ◌<ℤ◌, refl, sym, ap, subst, arith, All, Contains}
+use Rattle.std.proofs.Common.{cond, ne_eqb, ◌≡◌, ◌≢◌, ◌∙◌, ◌⊎◌, inl, inr, ℕ, zero, suc, ◌<◌, List, [], ◌∷◌, map, ℤ, pos, negsuc, ◌*ℤ◌, ◌<ℤ◌, refl, sym, ap, subst, arith, All, Contains}
 use Rattle.std.proofs.lemmas.Bool.{cases_eq}
-use Rattle.std.proofs.lemmas.List.Elements.{recursion_from_All, All-from_recursion, All-push, Contains-append_left, Contains-push}
+use Rattle.std.proofs.lemmas.List.Elements.{recursion_from_All, All-from_recursion}
 use borrow.Author.Differences.{ints}
 use lib.IntN.{*ℤ_comm}
 use Rattle.frac_core.specs.Fraction.{Fraction}
@@ -21,13 +21,14 @@ use Rattle.corner_laws.proofs.LowestForms.{column_has_writing}
 use Rattle.corner_laws.proofs.RunPaths.{contains_in}
 use Rattle.corner_laws.proofs.WrittenValues.{value_there}
 use Rattle.corner_lines.specs.Shifts.{IsShift, with_constant}
-use Rattle.corner_lines.proofs.Shifted.{raised, raised-other, same-marks, shift-small, unshift-solves}
+use Rattle.corner_lines.proofs.Shifted.{raised, raised-other, same-marks, shift-small, shift_direction, unshift-solves}
 use Rattle.corner.proofs.MoverFacts.{moves_where}
 use Rattle.corner.specs.Views.{IsKeptCorner, IsNamed, IsOutside, MovesWith}
+use Rattle.corner.specs.Lows.{IsListedIfLow, ListsLow}
 use Rattle.corner_ends.proofs.Signs.{low_from}
 use Rattle.corner_ends.proofs.Marks.{in_mark, named_mark, one_mark}
-use Rattle.dual_run.specs.Leaving.{AreLowLines, IsLow, ListsMovers, ListsShifted}
-use Rattle.dual_run.proofs.Lows.{mark_named, same_or_other, same_sign}
+use Rattle.dual_run.specs.Leaving.{AreLowLines, IsLow, ListsSwapped}
+use Rattle.dual_run.proofs.Lows.{mark_named, no_low_value, same_or_other, same_sign}
 use Rattle.dual_run.proofs.Turns.{opposite_numbers}
 
 -- ---- one mark
@@ -92,28 +93,52 @@ after_apart p at new s w c writes same none v some =
       ],
     )
 
-low_after : (p : Problem) (at new : List Mark) (s : Swap) (n : Mark) (old now : List RowName) → IsKeptCorner p at → SameMarks new (exchanged s at) → AreLowLines p at old → ListsMovers p at s.enter old now → Contains now s.enter.row → IsLow p new n → Contains now n.row
-low_after p at new s n old now kept same lows lists own low =
+in_exchanged : (s : Swap) (at : List Mark) (c : ℕ) → IsIn c at → c ≢ place s.leave → IsIn c (exchanged s at)
+in_exchanged s [] c (k, within, is) ne = absurd (omega (arith, within))
+in_exchanged s (m ∷ ms) c (zero, within, is) ne = (0, omega arith, ap (λ b. place (cond b s.enter m)) (ne_eqb (place m) (place s.leave) (λ e. ne (sym is ∙ e))) ∙ is)
+in_exchanged s (m ∷ ms) c (suc k, within, is) ne = let r = in_exchanged s ms c (k, omega (arith, within), is) ne in (suc r.0, (let less = r.1 in omega (arith, less)), r.2)
+
+-- the form of an inside mark after it has none that was inside before
+before_apart : (p : Problem) (at new : List Mark) (s : Swap) (w : Writing) (c : ℕ) → Writes p new c w → SameMarks new (exchanged s at) → coefficient (place s.leave) w.form ≡ pos 0 → IsApart p at w
+before_apart p at new s w c writes same none v some =
+    let out = writes.outside v some in (
+      out.0,
+      λ i. elim (cases_eq v (place s.leave)) [
+        | inl e ↦ some (subst (λ (u : ℕ). coefficient u w.form ≡ pos 0) (sym e) none)
+        | inr ne ↦ out.1 (contains_in (exchanged s at) new v same.1 (in_exchanged s at v i ne))
+      ],
+    )
+
+-- a listed line's mark is one whose value is negative
+listed_low : (p : Problem) (at : List Mark) (names : List RowName) (m : Mark) → IsKeptCorner p at → IsLow p at m → IsListedIfLow p at names m → Contains names m.row
+listed_low p at names m kept low (inl c) = c
+listed_low p at names m kept low (inr (f, den, value, up)) = absurd (no_low_value p at m f kept (in_mark p at m kept low.inside) den value up low.value)
+
+left_outside : (p : Problem) (at new : List Mark) (s : Swap) → IsKeptCorner p at → SameMarks new (exchanged s at) → IsIn (place s.leave) at → (IsIn (place s.enter) at → ⊥) → IsOutside p new s.leave
+left_outside p at new s kept same leaves enters = (
+  in_mark p at s.leave kept leaves,
+  λ i. elim (exchanged_in s at (place s.leave) (contains_in new (exchanged s at) (place s.leave) same.0 i)) [
+    | inl e ↦ enters (subst (λ (c : ℕ). IsIn c at) e leaves)
+    | inr old ↦ old.1 refl
+  ],
+)
+
+low_after : (p : Problem) (at new : List Mark) (s : Swap) (n : Mark) (old mid now : List RowName) → IsKeptCorner p at → IsKeptCorner p new → SameMarks new (exchanged s at) → IsIn (place s.leave) at → (IsIn (place s.enter) at → ⊥)
+    → AreLowLines p at old → ListsLow p new s.enter.row old mid → ListsLow p new s.leave.row mid now → IsLow p new n → Contains now n.row
+low_after p at new s n old mid now kept kept-new same leaves enters lows entering leaving low =
     elim (exchanged_in s at (place n) (contains_in new (exchanged s at) (place n) same.0 low.inside)) [
-      | inl e ↦ subst (λ (m : Mark). Contains now m.row) (one_mark s.enter n e) own
+      | inl e ↦ leaving.keeps n.row (listed_low p new mid n kept-new low (entering.own n (ap (λ (m : Mark). m.row) (sym (one_mark s.enter n e))) low.inside))
       | inr before ↦
-          let f = form_of p at n kept before.0 in
-          elim (still_or_moves p at s.enter n f.w kept before.0 f.writes) [
+          let f = form_of p new n kept-new low.inside in
+          elim (still_or_moves p new s.leave n f.w kept-new low.inside f.writes) [
             | inl none ↦
-                lists.keeps n.row (lows.low n (record {
+                leaving.keeps n.row (entering.keeps n.row (lows.low n (record {
                   inside = before.0;
-                  value = (let h = low.value in still_low p at new n f.w h.0 kept f.writes (after_apart p at new s f.w (place n) f.writes same none) h.1 h.2);
-                }))
-            | inr moves ↦ lists.has n moves.1
+                  value = (let h = low.value in still_low p at new n f.w h.0 kept (writes_more p new at n f.w f.writes (before_apart p at new s f.w (place n) f.writes same none)) (λ v some. f.writes.outside v some) h.1 h.2);
+                })))
+            | inr moves ↦ listed_low p new now n kept-new low (leaving.moved s.leave.side (left_outside p at new s kept same leaves enters) n moves.1)
           ]
     ]
-
-pub lows_after : (p q : Problem) (at new : List Mark) (s : Swap) (old now : List RowName) → IsKeptCorner p at → q ≡ p → SameMarks new (exchanged s at) → AreLowLines p at old → ListsMovers p at s.enter old now → Contains now s.enter.row → AreLowLines q new now
-lows_after p q at new s old now kept e same lows lists own =
-    subst (λ (k : Problem). AreLowLines k new now) (sym e) (record {
-      named = lists.named lows.named;
-      low = λ m low. low_after p at new s m old now kept same lows lists own low;
-    })
 
 -- ---- after a turn
 
@@ -163,11 +188,24 @@ low_turned p at new s n low kept same lows leave out e here =
           })
     ]
 
-pub lows_turned : (p : Problem) (at new : List Mark) (s : Swap) (low : List RowName) → IsKeptCorner p at → SameMarks new (exchanged s at) → AreLowLines p at low → IsLow p at s.leave → IsOutside p at s.enter → s.enter.row ≡ s.leave.row → AreLowLines p new low
+lows_turned : (p : Problem) (at new : List Mark) (s : Swap) (low : List RowName) → IsKeptCorner p at → SameMarks new (exchanged s at) → AreLowLines p at low → IsLow p at s.leave → IsOutside p at s.enter → s.enter.row ≡ s.leave.row → AreLowLines p new low
 lows_turned p at new s low kept same lows leave out e = record {
   named = lows.named;
   low = λ m here. low_turned p at new s m low kept same lows leave out e here;
 }
+
+-- ---- after an exchange or a turn
+
+pub lows_swapped : (p q : Problem) (at new : List Mark) (s : Swap) (old now : List RowName) → IsKeptCorner p at → IsKeptCorner q new → q ≡ p → SameMarks new (exchanged s at) → AreLowLines p at old → IsLow p at s.leave → IsOutside p at s.enter → ListsSwapped q new s.enter.row s.leave.row old now → AreLowLines q new now
+lows_swapped p q at new s old now kept kept-new e same lows leave enter lists =
+    subst (λ (k : Problem). IsKeptCorner k new → ListsSwapped k new s.enter.row s.leave.row old now → AreLowLines k new now) (sym e) here kept-new lists
+  where
+    here : IsKeptCorner p new → ListsSwapped p new s.enter.row s.leave.row old now → AreLowLines p new now
+    here k (inl (row, is)) = subst (AreLowLines p new) (sym is) (lows_turned p at new s old kept same lows leave enter row)
+    here k (inr (mid, entering, leaving)) = record {
+      named = leaving.named (entering.named lows.named);
+      low = λ m low. low_after p at new s m old mid now kept k same leave.inside enter.1 lows entering leaving low;
+    }
 
 -- ---- after a change of a constant
 
@@ -225,53 +263,59 @@ over_apart p at id w c writes none v some =
     first-or (zero, within, is) = inl is
     first-or (suc k, within, is) = inr (k, omega (arith, within), is)
 
-named_shifted : (p : Problem) (id : ℕ) (to : Fraction) (name : RowName) → IsNamed p name → IsNamed (with_constant id to p) name
+pub named_shifted : (p : Problem) (id : ℕ) (to : Fraction) (name : RowName) → IsNamed p name → IsNamed (with_constant id to p) name
 named_shifted p id to name named =
     mark_named (with_constant id to p) (record { row = name; side = Over })
     (subst (λ (ms : List Mark). Contains (map place ms) (place_of name Over)) (sym (same-marks id to p)) (named_mark p name Over named))
 
-low_shifted : (p : Problem) (at : List Mark) (id : ℕ) (from to more : Fraction) (n : Mark) (old now : List RowName) → IsKeptCorner p at → IsShift p id from to more → AreLowLines p at old → ListsShifted p at id old now → IsLow (with_constant id to p) at n → Contains now n.row
-low_shifted p at id from to more n old now kept s lows lists low =
-    elim (cases_eq (place n) (place_of (Held id) Over)) [
-      | inl e ↦
-          subst (λ (m : Mark). Contains now m.row) (sym (one_mark n (record { row = Held id; side = Over }) (sym e)))
-          (lists.own (subst (λ (c : ℕ). IsIn c at) e low.inside))
+-- what moves with a mark does so whatever the constant
+moves_shifted : (p : Problem) (at : List Mark) (id : ℕ) (from to more : Fraction) (m n : Mark) → IsShift p id from to more → MovesWith p at m (MarkOf n) → MovesWith (with_constant id to p) at m (MarkOf n)
+moves_shifted p at id from to more m n s (c, column, (ray, is, some)) = (
+  c,
+  column,
+  (
+    ray,
+    record {
+      holds = shift_direction p id from to more ray s is.still is.holds;
+      still = is.still;
+      here = is.here;
+      other = subst (All (λ k. (IsIn (place k) at → ⊥) → place k ≢ place m → ray (place k) ≡ pos 0)) (sym (same-marks id to p)) is.other;
+    },
+    some,
+  ),
+)
+
+low_shifted : (p : Problem) (at : List Mark) (id : ℕ) (from to more : Fraction) (n : Mark) (old now : List RowName) → IsKeptCorner p at → IsKeptCorner (with_constant id to p) at → IsNamed p (Held id) → IsShift p id from to more → AreLowLines p at old → ListsLow (with_constant id to p) at (Held id) old now → IsLow (with_constant id to p) at n → Contains now n.row
+low_shifted p at id from to more n old now kept kept-new held s lows lists low =
+    let over : Mark = record { row = Held id; side = Over } in
+    elim (cases_eq (place n) (place over)) [
+      | inl e ↦ listed_low (with_constant id to p) at now n kept-new low (lists.own n (ap (λ (m : Mark). m.row) (one_mark n over (sym e))) low.inside)
       | inr ne ↦
           let f = form_of p at n kept low.inside in
-          elim (still_or_moves p at (record { row = Held id; side = Over }) n f.w kept low.inside f.writes) [
+          elim (still_or_moves p at over n f.w kept low.inside f.writes) [
             | inl none ↦
                 let h = low.value in
                 let z = unshifted p at id from to more h.0 kept s h.1 in
                 lists.keeps n.row (lows.low n (record {
                   inside = low.inside;
-                  value = still_low p at (record { row = Held id; side = Over } ∷ at) n f.w z.point kept f.writes (over_apart p at id f.w (place n) f.writes none) z.stands (z.low (place n) ne h.2);
+                  value = still_low p at (over ∷ at) n f.w z.point kept f.writes (over_apart p at id f.w (place n) f.writes none) z.stands (z.low (place n) ne h.2);
                 }))
-            | inr moves ↦ lists.has moves.0 n moves.1
+            | inr moves ↦
+                listed_low (with_constant id to p) at now n kept-new low
+                (lists.moved Over (named_mark (with_constant id to p) (Held id) Over (named_shifted p id to (Held id) held), moves.0) n (moves_shifted p at id from to more over n s moves.1))
           ]
     ]
 
-pub lows_shifted : (p q : Problem) (at new : List Mark) (id : ℕ) (from to more : Fraction) (old now : List RowName) → IsKeptCorner p at → IsShift p id from to more → q ≡ with_constant id to p → new ≡ at → ListsShifted p at id old now → AreLowLines p at old → AreLowLines q new now
-lows_shifted p q at new id from to more old now kept s e f lists lows =
-    subst (λ (k : Problem). AreLowLines k new now) (sym e) (subst (λ (ms : List Mark). AreLowLines (with_constant id to p) ms now) (sym f) (record {
-      named = λ i d within. named_shifted p id to _ (lists.named lows.named i d within);
-      low = λ m low. low_shifted p at id from to more m old now kept s lows lists low;
-    }))
+pub lows_shifted : (p q : Problem) (at new : List Mark) (id : ℕ) (from to more : Fraction) (old now : List RowName) → IsKeptCorner p at → IsKeptCorner q new → IsNamed p (Held id) → IsShift p id from to more → q ≡ with_constant id to p → new ≡ at → ListsLow q new (Held id) old now → AreLowLines p at old → AreLowLines q new now
+lows_shifted p q at new id from to more old now kept kept-new held s e f lists lows = moved_back e f kept-new lists
+  where
+    here : IsKeptCorner (with_constant id to p) at → ListsLow (with_constant id to p) at (Held id) old now → AreLowLines (with_constant id to p) at now
+    here k l = record {
+      named = l.named (λ i d within. named_shifted p id to _ (lows.named i d within));
+      low = λ m low. low_shifted p at id from to more m old now kept k held s lows l low;
+    }
 
--- ---- what is listed before it
-
-pub own_shifted : (p : Problem) (at : List Mark) (id : ℕ) (old new : List RowName) → IsIn (place_of (Held id) Over) at → IsNamed p (Held id) → new ≡ old ++ Held id ∷ [] → ListsShifted p at id old new
-own_shifted p at id old new inside named e =
-    subst (ListsShifted p at id old) (sym e) (record {
-      keeps = λ name h. Contains-append_left old (Held id ∷ []) name h;
-      named = λ all. All-push (IsNamed p) old (Held id) all named;
-      own = λ i. Contains-push old (Held id);
-      has = λ out m moves. absurd (out inside);
-    })
-
-pub movers_shifted : (p : Problem) (at : List Mark) (id : ℕ) (old new : List RowName) → (IsIn (place_of (Held id) Over) at → ⊥) → ListsMovers p at (record { row = Held id; side = Over }) old new → ListsShifted p at id old new
-movers_shifted p at id old new out h = record {
-  keeps = h.keeps;
-  named = h.named;
-  own = λ i. absurd (out i);
-  has = λ o m moves. h.has m moves;
-}
+    moved_back : q ≡ with_constant id to p → new ≡ at → IsKeptCorner q new → ListsLow q new (Held id) old now → AreLowLines q new now
+    moved_back e f =
+        subst (λ (k : Problem). IsKeptCorner k new → ListsLow k new (Held id) old now → AreLowLines k new now) (sym e)
+        (subst (λ (ms : List Mark). IsKeptCorner (with_constant id to p) ms → ListsLow (with_constant id to p) ms (Held id) old now → AreLowLines (with_constant id to p) ms now) (sym f) here)

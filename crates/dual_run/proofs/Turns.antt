@@ -1,5 +1,5 @@
 -- The mark of a line with which the leaving one grows, and what the required rows decide.
-use Rattle.std.proofs.Common.{◌≡◌, ◌≢◌, ◌∙◌, inl, inr, ℕ, ◌+◌, ◌<◌, ◌≤◌, List, length, slice_get, Some, ℤ, pos, neg_ℤ, ◌*ℤ◌, ◌-ℤ◌, ◌≤ℤ◌, ◌<ℤ◌, refl, sym, ap, subst, arith, All}
+use Rattle.std.proofs.Common.{◌≡◌, ◌≢◌, ◌∙◌, inl, inr, ℕ, ◌<◌, List, slice_get, Some, ℤ, pos, neg_ℤ, ◌*ℤ◌, ◌-ℤ◌, ◌≤ℤ◌, ◌<ℤ◌, refl, sym, ap, subst, arith, All}
 use Rattle.std.proofs.lemmas.List.Elements.{recursion_from_All}
 use Rattle.std.proofs.Math.Nat.{eq-one_of_dvd-one}
 use borrow.Author.Differences.{ints}
@@ -8,14 +8,15 @@ use Rattle.problem_core.specs.declared.parts.Mark.{Mark}
 use Rattle.problem_core.specs.declared.parts.RowName.{RowName}
 use Rattle.problem_core.specs.declared.parts.Side.{Side}
 use Rattle.problem_core.specs.declared.parts.Side.TheVariants.{Under, Over}
+use Rattle.problem_core.specs.declared.parts.Level.{Level}
 use Rattle.problem_core.specs.declared.parts.Level.TheVariants.{Priority}
 use Rattle.problem_core.specs.declared.stops.What.TheVariants.{Mark as MarkOf}
 use Rattle.problem_core.specs.Layout.{Line, Problem, coefficient, lines}
 use Rattle.problem_core.specs.Kept.{IsWhole}
-use Rattle.problem_core.specs.Corners.{NoNegativeColumn, place, place_of}
+use Rattle.problem_core.specs.Corners.{IsIn, NoNegativeColumn, place, place_of}
 use Rattle.problem_core.specs.Levels.{IsLevelWriting}
 use Rattle.problem_core.proofs.Tableaus.{unit_at}
-use Rattle.corner_laws.specs.Runs.{IsDualSwap, Writes, Writing, other_mark}
+use Rattle.corner_laws.specs.Runs.{IsDualSwap, Writes, Writing, other_mark, other_side}
 use Rattle.corner_laws.proofs.ColumnSigns.{mark_line, pick}
 use Rattle.corner_laws.proofs.Counting.{IsSmall, cond_other}
 use Rattle.corner_laws.proofs.Directions.{entries-opposite}
@@ -25,9 +26,11 @@ use Rattle.corner_laws.proofs.LowestForms.{column_has_writing}
 use Rattle.corner_lines.proofs.LineWritings.{all-small}
 use Rattle.corner.specs.Views.{CornerView, IsKeptCorner, IsMarkOf, IsNamed, IsOutside, IsReducedAt, MovesWith}
 use Rattle.corner.specs.Entries.{AreBothOutside, AreEntries, HasEntry}
+use Rattle.corner.specs.Growing.{AreGrowersDear, GrowsWith}
 use Rattle.corner_ends.specs.Columns.{Reduced}
-use Rattle.corner_ends.proofs.Fronts.{any_there, order, reduced_there, some_line}
-use Rattle.corner_ends.proofs.Marks.{got_holds, in_mark, one_mark, same_got}
+use Rattle.corner_ends.proofs.Fronts.{any_there, reduced_there, some_line}
+use Rattle.corner_ends.proofs.Marks.{got_holds, in_mark, named_mark, one_mark}
+use Rattle.corner_ends.proofs.ReadNumbers.{coefficient_is}
 use Rattle.dual_run.specs.declared.ratios.Choice.{Choice}
 use Rattle.dual_run.specs.Entering.{AreDear, IsBeforeLine, IsBeforeMark, IsChoice, IsDear, IsDearMark, IsFree, NeverGrows}
 use Rattle.dual_run.specs.Leaving.{MayLeave}
@@ -35,7 +38,6 @@ use Rattle.dual_run.proofs.Choices.{choice_moves, choice_swaps, own_before, own_
 use Rattle.dual_run.proofs.FrontOrders.{column-up, up-less}
 use Rattle.dual_run.proofs.Lesser.{lex_at}
 use Rattle.dual_run.proofs.Lows.{mark_named, same_or_other}
-use Rattle.dual_run.proofs.Orders.{contains_got}
 
 -- ---- the two marks of a line
 
@@ -168,24 +170,26 @@ turn_of p at leave enter kept columns may e =
           (λ name entry side. free_before p at leave f (record { row = name; side = side }) kept columns choice free (dear name entry side));
     })
 
--- ---- one line more of the row
+-- ---- the lines of the row
 
--- the first ones of the lines in the row cost there
-abbrev pub AreDearFirst : CornerView → Mark → ℕ → Type 0
-AreDearFirst v leave i = (names : List RowName) → AreEntries v leave names → (k : ℕ) (name : RowName) → k < i → slice_get names k ≡ Some name → (side : Side) → IsDearMark v.problem v.marks leave (record { row = name; side = side })
+-- where the inside mark grows with the one mark of another line it doesn't with the other
+grower_other : (p : Problem) (at : List Mark) (leave m : Mark) → IsKeptCorner p at → IsIn (place leave) at → IsMarkOf p m → m.row ≢ leave.row → GrowsWith p at leave m → NeverGrows p at leave (other_mark m)
+grower_other p at leave m kept inside mark other (number, is, above) w writes up =
+    up-opposite number (coefficient (place m) w.form) (coefficient (place (other_mark m)) w.form) above (coefficient_is p at leave m number w kept is writes)
+    (other_opposite m.side (opposite_numbers p at (place leave) m.row w kept (mark_named p m mark) (λ side. apart_from leave m.row side other) writes)) up
+  where
+    other_opposite : (side : Side) → coefficient (place_of m.row Over) w.form ≡ neg_ℤ (coefficient (place_of m.row Under) w.form) → coefficient (place_of m.row (other_side side)) w.form ≡ neg_ℤ (coefficient (place_of m.row side) w.form)
+    other_opposite Under e = e
+    other_opposite Over e = omega (arith, ints, e)
 
-pub dear_more : (v : CornerView) (leave : Mark) (i : ℕ) (row : RowName) → ((names : List RowName) → AreEntries v leave names → slice_get names i ≡ Some row) → ((side : Side) → IsDearMark v.problem v.marks leave (record { row = row; side = side })) → AreDearFirst v leave i → AreDearFirst v leave (i + 1)
-dear_more v leave i row there here before names are k name less got =
-    elim (order k i) [
-      | inl earlier ↦ before names are k name earlier got
-      | inr (inl same) ↦ subst (λ (n : RowName). (side : Side) → IsDearMark v.problem v.marks leave (record { row = n; side = side })) (same_got (slice_get names i) row name (there names are) (subst (λ (n : ℕ). slice_get names n ≡ Some name) same got)) here
-      | inr (inr more) ↦ absurd (omega (arith, less, more))
-    ]
-
-pub all_dear : (v : CornerView) (leave : Mark) (names : List RowName) (i : ℕ) → AreEntries v leave names → length names ≤ i → AreDearFirst v leave i → AreDear v.problem v.marks leave
-all_dear v leave names i are over before name entry =
-    let got = contains_got names name (are.all name entry) in
-    before names are got.0 name (let less = got.1 in omega (arith, less, over)) got.2
+-- where the inside mark grows with marks alone that cost
+pub growers_dear : (p : Problem) (at : List Mark) (leave : Mark) (level : Level) → IsKeptCorner p at → IsIn (place leave) at → level ≡ Priority 1000 → AreGrowersDear p at leave level → AreDear p at leave
+growers_dear p at leave level kept inside e dear name entry side =
+    let d = dear name entry in
+    let m : Mark = record { row = name; side = d.side } in
+    let mark : IsMarkOf p m = named_mark p name d.side (mark_named p (record { row = name; side = entry.side }) entry.outside.0) in
+    dear_grown p at leave name m refl (grower_other p at leave m kept inside mark entry.other d.grows)
+    (dear_cost p at m d.cost kept mark (subst (λ (l : Level). IsReducedAt p at l m d.cost) e d.reduced) d.above) side
 
 pub entry_other : (v : CornerView) (leave : Mark) (names : List RowName) (i : ℕ) (row : RowName) → AreEntries v leave names → slice_get names i ≡ Some row → row ≢ leave.row
 entry_other v leave names i row are got = (got_holds (HasEntry v.problem v.marks leave) names i row are.have got).other

@@ -164,13 +164,7 @@ fn are_dear(c: &Corner, leave: Mark) -> bool
     ensures { result ≡ true → AreDear c.now.problem c.now.marks leave }
 {
     c.show_corner();
-    let count = c.entries(leave);
-    for i in 0..count {
-        if !is_dear(c, growing(c, leave, c.entry(leave, i))) {
-            return false;
-        }
-    }
-    true
+    c.are_growers_dear(leave, required_level())
 }
 
 /// Whether of all marks with which the leaving one grows its line's other mark alone costs nothing at the

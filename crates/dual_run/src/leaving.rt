@@ -2,8 +2,8 @@
 ghost use Rattle.std.specs.Prelude.{◌≡◌, IfSome, IfNone, OnOk, true, false};
 ghost use Rattle.problem_core.specs.Corners.{HasNegativeValue, NoNegativeValue};
 ghost use Rattle.corner_laws.specs.Runs.{other_mark};
-ghost use Rattle.corner.specs.Views.{IsMarkOf, IsNamed, IsOutside};
-ghost use Rattle.dual_run.specs.Leaving.{AreLowLines, HasNoLow, IsLow, KeepsLow, ListsMovers, listed};
+ghost use Rattle.corner.specs.Views.{IsMarkOf, IsNamed};
+ghost use Rattle.dual_run.specs.Leaving.{AreLowLines, HasNoLow, IsLow, ListsSwapped};
 
 use corner::Corner;
 use corner_ends::is_below;
@@ -80,49 +80,23 @@ pub(crate) fn leaving(c: &Corner, low: &mut Vec<RowName>) -> Option<Mark>
     None
 }
 
-/// Lists the line of a mark.
-fn list_what(low: &mut Vec<RowName>, what: What) -> Result<(), OutOfMemory>
-    ensures { OnOk result (low.new.items ≡ listed what low.old.items) }
-{
-    if let What::Mark(mark) = what {
-        low.push(mark.row)?;
-    }
-    Ok(())
-}
-
-/// Lists the lines of all inside marks that move with an outside one.
-pub(crate) fn list_movers(c: &Corner, low: &mut Vec<RowName>, mark: Mark) -> Result<(), OutOfMemory>
-    requires { IsOutside c.now.problem c.now.marks mark }
-    ensures { OnOk result (ListsMovers c.now.problem c.now.marks mark low.old.items low.new.items) }
-{
-    c.show_corner();
-    let count = c.movers(mark);
-    low.reserve(count)?;
-    for i in 0..count {
-        list_what(low, c.mover(mark, i))?;
-    }
-    Ok(())
-}
-
-/// Lists the lines whose values change where the one mark enters for the other, whose line is listed: that of
-/// the entering one, and those of the inside marks that move with it. Where both are of one line no other
-/// value changes.
-pub(crate) fn list_swap(
+/// Lists the lines whose values are negative after the one mark has entered for the other: the entering
+/// one's, and those of the inside marks that move with the leaving one. Where both are of one line no other
+/// value has changed.
+pub(crate) fn list_swapped(
     c: &Corner,
     low: &mut Vec<RowName>,
-    enter: Mark,
-    leave: Mark,
+    enter: RowName,
+    leave: RowName,
 ) -> Result<(), OutOfMemory>
-    requires enter { IsOutside c.now.problem c.now.marks enter }
-    requires leave { IsLow c.now.problem c.now.marks leave }
-    ensures { OnOk result (KeepsLow c.now.problem c.now.marks (record { enter = enter; leave = leave })
-        low.old.items low.new.items) }
+    requires enter { IsNamed c.now.problem enter }
+    requires leave { IsNamed c.now.problem leave }
+    ensures { OnOk result (ListsSwapped c.now.problem c.now.marks enter leave low.old.items low.new.items) }
 {
-    c.show_corner();
-    if enter.row == leave.row {
+    if enter == leave {
         return Ok(());
     }
-    list_movers(c, low, enter)?;
-    low.push(enter.row)?;
+    c.list_low(enter, low)?;
+    c.list_low(leave, low)?;
     Ok(())
 }

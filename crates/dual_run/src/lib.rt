@@ -22,9 +22,9 @@
 //!
 //! What holds before each exchange (`IsRunOf`): the first corner had no negative column, and in each exchange
 //! so far the mark with the least column over its number entered. So the vector of costs rises, and no corner
-//! comes twice. And each mark with a negative value is of a line on the list (`AreLowLines`): [`shift`] lists
-//! the lines whose values a new constant changes, an exchange those of the marks that move with the entering
-//! one.
+//! comes twice. And each mark with a negative value is of a line on the list (`AreLowLines`): of the lines
+//! whose values a new constant changes [`shift`] lists those at which they are negative with it, and so does
+//! an exchange.
 //!
 //! To read: `leaving` finds a mark with a negative value and lists lines, `shifts` lists those of a new
 //! constant; `ratios` tells which of two columns over their numbers is the lesser, `entering` which of all

@@ -12,7 +12,7 @@ ghost use Rattle.dual_run.specs.Leaving.{AreLowLines, MayLeave};
 ghost use Rattle.dual_run.specs.Steps.{IsRunOf};
 
 use crate::entering::entering;
-use crate::leaving::list_swap;
+use crate::leaving::list_swapped;
 use cert_core::{Path, RunStop, Swap, UnfitPath};
 use corner::Corner;
 use corner_ends::first_marks;
@@ -109,7 +109,7 @@ impl Run {
     }
 
     /// Exchanges a mark that may leave for that with the least column over its number, and lists the lines
-    /// whose values change.
+    /// whose values are negative after it.
     pub fn exchange(
         &mut self,
         c: &mut Corner,
@@ -137,14 +137,17 @@ impl Run {
         let Ok(enter) = entering(c, leave) else {
             return Err(RunStop::OutOfMemory);
         };
-        let Ok(()) = list_swap(c, low, enter, leave) else {
-            return Err(RunStop::OutOfMemory);
-        };
         match c.swap(enter, leave) {
-            Ok(()) => match self.swaps.push(Swap { enter, leave }) {
-                Ok(()) => Ok(()),
-                Err(_) => Err(RunStop::OutOfMemory),
-            },
+            Ok(()) => {
+                c.show_corner();
+                let Ok(()) = list_swapped(c, low, enter.row, leave.row) else {
+                    return Err(RunStop::OutOfMemory);
+                };
+                match self.swaps.push(Swap { enter, leave }) {
+                    Ok(()) => Ok(()),
+                    Err(_) => Err(RunStop::OutOfMemory),
+                }
+            }
             Err(TableStop::UnfitAt(quantity)) => {
                 Err(self.unfit(c, Swap { enter, leave }, quantity))
             }

@@ -1,37 +1,17 @@
-// The change of a row's constant, with the lines whose values it changes.
+// The change of a row's constant, with the lines whose values are negative with it.
 ghost use Rattle.std.specs.Prelude.{◌≡◌, ◌<◌, length, IfOk, IfErr, OnOk, OnErr};
 ghost use Rattle.problem_core.specs.declared.parts.RowName.TheVariants.{Held};
 ghost use Rattle.corner_lines.specs.Shifts.{with_constant};
 ghost use Rattle.corner.specs.Changes.{IsRewound, IsUnfitStop};
 ghost use Rattle.corner.specs.Shifting.{IsNear};
 ghost use Rattle.corner.specs.Views.{IsNamed};
-ghost use Rattle.dual_run.specs.Leaving.{AreLowLines, ListsShifted};
+ghost use Rattle.dual_run.specs.Leaving.{AreLowLines};
 
-use crate::leaving::list_movers;
 use corner::Corner;
 use frac_core::{Frac, OutOfMemory};
-use problem_core::{Mark, RowName, Side, TableStop};
+use problem_core::{RowName, TableStop};
 
-/// Lists the lines whose values change with the row's constant: its own where its over mark is inside, else
-/// those of the inside marks that move with this mark.
-fn list_shifted(c: &Corner, low: &mut Vec<RowName>, id: u32) -> Result<(), OutOfMemory>
-    requires { IsNamed c.now.problem (Held id) }
-    ensures { OnOk result (ListsShifted c.now.problem c.now.marks id low.old.items low.new.items) }
-{
-    c.show_corner();
-    let over = Mark {
-        row: RowName::Held(id),
-        side: Side::Over,
-    };
-    if c.is_inside(over) {
-        low.push(over.row)?;
-        return Ok(());
-    }
-    list_movers(c, low, over)?;
-    Ok(())
-}
-
-/// Gives a row this constant, as `Corner::shift` does, and lists the lines whose values change.
+/// Gives a row this constant, as `Corner::shift` does, and lists the lines whose values are negative with it.
 pub fn shift(c: &mut Corner, low: &mut Vec<RowName>, id: u32, to: Frac) -> Result<(), TableStop>
     requires marked { 0 < length c.old.before }
     requires near { IsNear c.old.problem id to }
@@ -45,14 +25,17 @@ pub fn shift(c: &mut Corner, low: &mut Vec<RowName>, id: u32, to: Frac) -> Resul
     ensures same { OnErr result (IsRewound c.old c.new) }
 {
     c.show_corner();
-    match list_shifted(c, low, id) {
-        Ok(()) => match c.shift(id, to) {
-            Ok(()) => Ok(()),
-            Err(stop) => Err(stop),
-        },
-        Err(_) => {
-            c.rewind();
-            Err(TableStop::OutOfMemory)
+    match c.shift(id, to) {
+        Ok(()) => {
+            c.show_corner();
+            match c.list_low(RowName::Held(id), low) {
+                Ok(()) => Ok(()),
+                Err(OutOfMemory) => {
+                    c.rewind();
+                    Err(TableStop::OutOfMemory)
+                }
+            }
         }
+        Err(stop) => Err(stop),
     }
 }

@@ -1,7 +1,6 @@
 use Rattle.std.proofs.Common.{ap, subst}
 use Rattle.corner.specs.Listing.{HasLeft}
-use Rattle.corner.specs.Tables.{attr_slot, line_slot, lists_of, problem_of}
-use Rattle.problem_core.specs.declared.parts.RowName.TheVariants.{Stay as StayOf}
+use Rattle.corner.specs.Tables.{lists_of, problem_of}
 use Rattle.corner.proofs.AttrLevels.{stay_named}
 use Rattle.corner.proofs.DroppedAttrConsistent.{attr_drop_consistent, attr_dropped_marks, attr_left_listed}
 use Rattle.corner.proofs.RowPlaced.{on_ok}

@@ -1,6 +1,6 @@
-use Rattle.std.proofs.Common.{◌∙◌, ◌<◌, length, ap, arith, subst, sym, ℕ}
+use Rattle.std.proofs.Common.{◌∙◌, ◌<◌, length, ap, arith, subst, sym}
 use Rattle.corner.specs.Tables.{Lists, lists_of}
-use Rattle.corner.proofs.DroppedKept.{IsGoing, going}
+use Rattle.corner.proofs.DroppedKept.{going}
 use Rattle.corner.proofs.DroppedTables.{leaver_low, left_below, left_rows, left_standings, line_dropped}
 use Rattle.corner.proofs.RowPlaced.{on_ok}
 use Rattle.corner.proofs.dropping.drop_line.Goals as goal

@@ -1,8 +1,7 @@
-use Rattle.std.proofs.Common.{◌∙◌, ◌<◌, length, ap, arith, subst, sym}
+use Rattle.std.proofs.Common.{◌∙◌, length, ap, arith}
 use Rattle.corner.specs.Dropping.{freed}
 use Rattle.corner.specs.Tables.{Lists, lists_of, problem_of}
 use Rattle.corner.proofs.AttrLevels.{stay_named}
-use Rattle.corner.proofs.DroppedAttrKept.{attr_drop}
 use Rattle.corner.proofs.DroppedTables.{freed_rows, freed_slots, freed_standings, stay_dropped}
 use Rattle.corner.proofs.RowPlaced.{on_ok}
 use Rattle.corner.proofs.dropping.drop_stay.Goals as goal

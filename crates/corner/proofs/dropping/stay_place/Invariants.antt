@@ -1,4 +1,4 @@
-use Rattle.std.proofs.Common.{◌≡◌, ◌≢◌, ℕ, ◌<◌, slice_index_or}
+use Rattle.std.proofs.Common.{◌≢◌, ℕ, ◌<◌, slice_index_or}
 use Rattle.problem_core.specs.declared.parts.Stay.{Stay}
 use Rattle.corner.proofs.dropping.stay_place.Given as goal
 

@@ -1,13 +1,19 @@
-use Rattle.std.proofs.Common.{refl}
+use Rattle.std.proofs.Common.{refl, sym, subst}
+use Rattle.problem_core.specs.declared.parts.RowName.TheVariants.{Held}
+use Rattle.problem_core.specs.Layout.{Problem}
+use Rattle.corner.specs.Views.{IsNamed}
 use Rattle.corner_ends.proofs.RequiredTimes.{row_named}
-use Rattle.dual_run.proofs.Moved.{lows_shifted}
+use Rattle.dual_run.proofs.Moved.{lows_shifted, named_shifted}
 use Rattle.dual_run.proofs.shifts.shift.Goals as goal
 
-pub list_shifted-requires : goal.list_shifted-requires
-list_shifted-requires c = let near = c.requires.near in row_named c.args.c.now.problem c.args.id c.args.id near.2.held refl
-
-pub returns-in-Ok-shift-clause-low : goal.returns-in-Ok-shift-clause-low
-returns-in-Ok-shift-clause-low c = λ lows.
+pub list_low-requires : goal.list_low-requires
+list_low-requires c =
     let near = c.requires.near in
-    lows_shifted c.args.c.now.problem c.shift.new.self.problem c.args.c.now.marks c.shift.new.self.marks c.args.id near.0 c.args.to near.1 c.args.low.now.items c.list_shifted.new.low.items
-    c.show_corner.ensures.kept near.2 c.in-Ok-shift.ensures.problem c.in-Ok-shift.ensures.marks c.in-Ok.ensures lows
+    subst (λ (p : Problem). IsNamed p (Held c.args.id)) (sym c.in-Ok.ensures.problem)
+    (named_shifted c.args.c.now.problem c.args.id c.args.to (Held c.args.id) (row_named c.args.c.now.problem c.args.id c.args.id near.2.held refl))
+
+pub returns-in-Ok-list_low-clause-low : goal.returns-in-Ok-list_low-clause-low
+returns-in-Ok-list_low-clause-low c = λ lows.
+    let near = c.requires.near in
+    lows_shifted c.args.c.now.problem c.shift.new.self.problem c.args.c.now.marks c.shift.new.self.marks c.args.id near.0 c.args.to near.1 c.args.low.now.items c.list_low.new.low.items
+    c.show_corner.ensures.kept c.show_corner-in-Ok.ensures.kept (row_named c.args.c.now.problem c.args.id c.args.id near.2.held refl) near.2 c.in-Ok.ensures.problem c.in-Ok.ensures.marks c.in-Ok-list_low.ensures lows

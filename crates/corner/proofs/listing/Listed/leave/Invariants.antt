@@ -1,4 +1,4 @@
-use Rattle.std.proofs.Common.{◌≡◌, ◌≢◌, ℕ, length, Contains}
+use Rattle.std.proofs.Common.{◌≢◌, ℕ, length, Contains}
 use Rattle.corner.proofs.listing.Listed.leave.Given as goal
 
 abbrev pub invariant-loop-i : goal.invariant-loop-i

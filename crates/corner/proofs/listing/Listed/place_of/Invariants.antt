@@ -1,4 +1,4 @@
-use Rattle.std.proofs.Common.{◌≡◌, ◌≢◌, ℕ, ◌<◌, slice_index_or}
+use Rattle.std.proofs.Common.{◌≢◌, ℕ, ◌<◌, slice_index_or}
 use Rattle.corner.proofs.listing.Listed.place_of.Given as goal
 
 abbrev pub invariant-loop-i : goal.invariant-loop-i

@@ -4,12 +4,14 @@ use Rattle.problem_core.specs.declared.stops.TableStop.TheVariants.{UnfitAt}
 use Rattle.problem_core.specs.Corners.{Swap, exchanged}
 use Rattle.problem_core.specs.Paths.{IsPath, last_marks}
 use Rattle.cert_core.specs.Stops.{IsStopOf}
-use Rattle.corner.specs.Views.{CornerView, in_order}
+use Rattle.corner.specs.Views.{CornerView, IsNamed, in_order}
 use Rattle.corner.specs.Changes.{IsUnfitStop}
 use Rattle.corner_ends.specs.Runs.{FromHere}
+use Rattle.corner_ends.proofs.Marks.{in_mark}
 use Rattle.corner_ends.proofs.MarkOrders.{last_same, same_back, unfit_same}
-use Rattle.dual_run.specs.Leaving.{AreLowLines}
 use Rattle.dual_run.specs.Steps.{HasRun, IsRunOf}
+use Rattle.dual_run.proofs.Lows.{mark_named}
+use Rattle.dual_run.proofs.Moved.{lows_swapped}
 use Rattle.dual_run.proofs.RunFacts.{path_more, run_more}
 use Rattle.dual_run.proofs.runs.Run.exchange.Goals as goal
 
@@ -24,10 +26,18 @@ returns-in-Ok-push-clause-run c = λ first run.
       ordered = subst (λ (p : Problem). first ≡ in_order p first) (sym c.in-Ok-swap.ensures.problem) run.ordered;
     }
 
+pub list_swapped-requires-clause-enter : goal.list_swapped-requires-clause-enter
+list_swapped-requires-clause-enter c = subst (λ (p : Problem). IsNamed p c.in-Ok.enter.row) (sym c.in-Ok-swap.ensures.problem) (mark_named c.args.c.now.problem c.in-Ok.enter c.in-Ok.ensures.outside.0)
+
+pub list_swapped-requires-clause-leave : goal.list_swapped-requires-clause-leave
+list_swapped-requires-clause-leave c =
+    subst (λ (p : Problem). IsNamed p c.args.leave.row) (sym c.in-Ok-swap.ensures.problem)
+    (mark_named c.args.c.now.problem c.args.leave (in_mark c.args.c.now.problem c.args.c.now.marks c.args.leave c.show_corner.ensures.kept c.requires.leave.low.inside))
+
 pub returns-in-Ok-push-clause-low : goal.returns-in-Ok-push-clause-low
 returns-in-Ok-push-clause-low c =
-    subst (λ (p : Problem). AreLowLines p c.swap.new.self.marks c.list_swap.new.low.items) (sym c.in-Ok-swap.ensures.problem)
-    (c.in-Ok-list_swap.ensures c.requires.low c.swap.new.self.marks c.in-Ok-swap.ensures.marks)
+    lows_swapped c.args.c.now.problem c.swap.new.self.problem c.args.c.now.marks c.swap.new.self.marks (record { enter = c.in-Ok.enter; leave = c.args.leave }) c.args.low.now.items c.list_swapped.new.low.items
+    c.show_corner.ensures.kept c.show_corner-in-Ok-swap.ensures.kept c.in-Ok-swap.ensures.problem c.in-Ok-swap.ensures.marks c.requires.low c.requires.leave.low c.in-Ok.ensures.outside c.in-Ok-list_swapped.ensures
 
 pub returns-in-Err-UnfitAt-clause-stop : goal.returns-in-Err-UnfitAt-clause-stop
 returns-in-Err-UnfitAt-clause-stop c = λ first run budget short.
