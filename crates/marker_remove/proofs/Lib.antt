@@ -1,3 +1,4 @@
 pub mod StayMoves
 pub mod ZeroSwaps
 pub mod FreedPaths
+pub mod Instances

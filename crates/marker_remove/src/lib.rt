@@ -11,10 +11,13 @@
 //! corner.drop_row(7)?;
 //! ```
 //!
-//! To read: `leaving` finds the stay's mark, and `freeing` exchanges it.
+//! To read: `leaving` finds the stay's mark, and `freeing` exchanges it. `laws` has a row that cannot
+//! leave, and what is no such stop.
 #![tactic(auto)]
 
 mod freeing;
+mod laws;
 mod leaving;
 
 pub use freeing::{free_row, is_free};
+pub use laws::some_rows_cannot_leave;
