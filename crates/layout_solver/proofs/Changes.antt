@@ -4,7 +4,8 @@ use Rattle.std.proofs.lemmas.List.{take_all}
 use Rattle.version_list.specs.declared.TheConstants.{MOST}
 use Rattle.frac_core.specs.Fraction.{Fraction}
 use Rattle.problem_core.specs.declared.parts.Mark.{Mark}
-use Rattle.problem_core.specs.Layout.{Problem, Row}
+use Rattle.problem_core.specs.declared.parts.Stay.{Stay}
+use Rattle.problem_core.specs.Layout.{HasStay, Problem, Row}
 use Rattle.problem_core.specs.Kept.{AreRising, IsWhole}
 use Rattle.problem_core.specs.Corners.{IsCorner, NoNegativeColumn, NoNegativeValue}
 use Rattle.cert_core.specs.Paths.{Path}
@@ -74,6 +75,9 @@ module _ (c mid : CornerView) (v : List (ℕ × Fraction)) (l : Layout) (m : IsM
 
   pub marked_values : NoNegativeValue mid.problem mid.marks
   marked_values = subst (λ (s : Scene). NoNegativeValue s.problem s.marks) (sym m.scene) m.solved.kept.end.values
+
+  pub marked_stay : (attr : ℕ) → HasStay l.problem.stays attr → HasStay mid.problem.stays attr
+  marked_stay attr h = subst (λ (ss : List Stay). HasStay ss attr) (sym (ap (λ (s : Scene). s.problem.stays) m.scene ∙ ap (λ (k : Layout). k.problem.stays) m.view)) h
 
   with-problem : (attrs : List ℕ) (base : List Row) (p : Problem) → p ≡ record { rows = base; stays = stays_at (l.values ++ zeros attrs) } → IsMoved mid attrs base p
   with-problem attrs base p e = record {

@@ -16,3 +16,6 @@ pub mod LeftRows
 pub mod LeftStops
 pub mod LeftEnds
 pub mod LeftChanges
+pub mod Instances
+pub mod Shown
+pub mod BestValues

@@ -1,5 +1,5 @@
 -- A layout: a problem with its best values, and what it becomes.
-use Rattle.std.specs.Prelude.{◌≡◌, ℕ, List, ◌++◌, map, All}
+use Rattle.std.specs.Prelude.{◌≡◌, ℕ, List, [], ◌∷◌, ◌++◌, map, All}
 use Rattle.frac_core.specs.Fraction.{Fraction, IsKept, IsLowest}
 use Rattle.problem_core.specs.declared.parts.Stay.{Stay}
 use Rattle.problem_core.specs.declared.parts.Mark.{Mark}
@@ -51,6 +51,10 @@ with_added old attrs rows = record {
   rows = old.problem.rows ++ rows;
   stays = stays_at (old.values ++ zeros attrs);
 }
+
+-- a best assignment gives the attribute this value
+abbrev pub IsBestValue : Problem → ℕ → Fraction → Type 0
+IsBestValue p attr f = (x : Assignment) × IsBest p x × Gives ((attr, f) ∷ []) x
 
 -- ---- the ends of paths
 

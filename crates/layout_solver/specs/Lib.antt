@@ -5,3 +5,4 @@ pub mod Starts
 pub mod Begins
 pub mod Shifts
 pub mod Removals
+pub mod Instances

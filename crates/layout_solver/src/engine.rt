@@ -1,27 +1,35 @@
 // The engine.
-ghost use Rattle.std.specs.Prelude.{◌≡◌, ◌<◌, ◌++◌, [], true, false, All, AllPairs, Any};
+ghost use Rattle.std.specs.Prelude.{◌≡◌, ◌<◌, ◌++◌, ℕ, [], true, false, All, AllPairs, Any};
 ghost use Rattle.std.specs.Prelude.{IfOk, IfErr, IfSome, IfNone, OnErr};
 ghost use Rattle.frac_core.specs.Fraction.{IsKept};
-ghost use Rattle.problem_core.specs.Layout.{HasStay};
+ghost use Rattle.problem_core.specs.Layout.{HasStay, line_of_row};
+ghost use Rattle.problem_core.specs.Levels.{IsLevelAt};
+ghost use Rattle.problem_core.specs.Window.{zero_fraction};
 ghost use Rattle.problem_core.specs.Kept.{IsWhole, AreRising};
 ghost use Rattle.cert_core.specs.Paths as paths;
 ghost use Rattle.cert_core.specs.Stops.{IsStopOf};
+ghost use Rattle.cert_checker.specs.Certifying.{EachGiven};
+ghost use Rattle.certificates.specs.Accepted.{IsCertified};
+ghost use Rattle.certificates.specs.Errors.{IsErrorAt, IsLevelCost};
+ghost use Rattle.certificates.specs.OwnLevels.{IsOwnBest};
 ghost use Rattle.corner.specs.Changes.{FromAdded};
 ghost use Rattle.corner_ends.specs.Runs.{FromHere, IsRun};
-ghost use Rattle.layout_solver.specs.Layouts.{AreBest, IsKeptLayout, with_added, zeros};
+ghost use Rattle.layout_solver.specs.Layouts.{AreBest, IsBestValue, IsKeptLayout, with_added, zeros};
 ghost use Rattle.layout_solver.specs.Shifts.{CanShift, with_shifts};
 ghost use Rattle.layout_solver.specs.Removals.{CanLeave, HasRemoved, IsRemoveStop, stood, with_removed};
 ghost use Rattle.layout_solver.specs.Engines.{HasValues};
 ghost use Rattle.layout_solver.specs.ValuesUnique.{one_list};
 
 use crate::changing::extend;
-use crate::reading::has_stay;
+use crate::reading::{has_level, has_stay, row_of};
 use crate::removing::{RemoveStop, shrink};
 use crate::shifting::alter;
-use cert_core::RunStop;
+use crate::trying::tried;
+use cert_core::{Best, RunStop};
+use certificates::{certificate, error};
 use corner::Corner;
-use frac_core::{Frac, OutOfMemory};
-use problem_core::{Row, Stay};
+use frac_core::{Frac, OutOfMemory, Wide};
+use problem_core::{Level, Row, Stay};
 use std::alloc::Global;
 use std::marker::Model;
 
@@ -171,6 +179,23 @@ impl Engine {
         }
     }
 
+    /// The value that an attribute would have if rows joined. The engine is as before.
+    ///
+    /// The stops are those of `add`.
+    pub fn value_with(&mut self, rows: &[Row], attr: u32, budget: u64) -> Result<Frac, RunStop>
+        requires whole { IsWhole (with_added self.old [] rows.now) }
+        requires attr { HasStay self.old.problem.stays attr }
+        ensures value { IfOk result (IsBestValue (with_added self.old [] rows.now) attr) }
+        ensures stop { IfErr result (IsStopOf false (with_added self.old [] rows.now) self.old.problem.rows
+            (FromAdded (with_added self.old [] rows.now) self.old.corner rows.now) budget) }
+        ensures same { self.new ≡ self.old }
+    {
+        self.corner.mark();
+        let result = tried(self.alloc, &mut self.corner, rows, attr, budget);
+        self.corner.back();
+        result
+    }
+
     /// The rows, by rising number.
     pub fn rows(&self) -> &[Row]
         ensures { result.now ≡ self.now.problem.rows }
@@ -205,5 +230,38 @@ impl Engine {
         let value = self.corner.attr_value(attr);
         let _ = value.num();
         value
+    }
+
+    /// The multipliers that show the values to be best: those of the corner's levels, strongest first, each
+    /// level divided by the factor that its scale and multipliers share. A level whose multipliers are all 0
+    /// is left out. The checker says yes to them, or that it has no room for some row's values.
+    pub fn certificate(&self) -> Result<Best, OutOfMemory>
+        ensures own { IfOk result (IsOwnBest self.now.problem self.now.corner) }
+        ensures certified { IfOk result (IsCertified self.now.problem self.now.values) }
+    {
+        certificate(self.alloc, &self.corner)
+    }
+
+    /// The error of a held row, in points.
+    pub fn error(&self, row: u32) -> Option<Wide>
+        ensures some { IfSome result (λ e. Any (λ r. (r.id ≡ row)
+            × EachGiven self.now.values (λ x. IsErrorAt x (line_of_row r) e)) self.now.problem.rows) }
+        ensures none { IfNone result (Any (λ r. r.id ≡ row) self.now.problem.rows → ⊥) }
+    {
+        let held = row_of(self.corner.rows(), row)?;
+        Some(error(&self.corner, held))
+    }
+
+    /// The sum of the weighted errors at a level, 0 where the problem has no such level.
+    pub fn cost(&self, level: Level) -> Frac
+        ensures value { (k : ℕ) → IsLevelAt self.now.problem level k
+            → EachGiven self.now.values (λ x. IsLevelCost self.now.problem x k result) }
+        ensures none { ((k : ℕ) → IsLevelAt self.now.problem level k → ⊥) → result ≡ zero_fraction }
+    {
+        if has_level(self.corner.stays(), level) {
+            self.corner.cost(level)
+        } else {
+            Frac::zero()
+        }
     }
 }

@@ -34,14 +34,18 @@
 //! ```
 //!
 //! To read: `changing`, `removing` and `shifting` have the ways of a corner to the best one of another
-//! problem, with more rows, with fewer, or with other constants, and `engine` is what callers use.
+//! problem, with more rows, with fewer, or with other constants, and `engine` is what callers use. `laws` has
+//! small problems where a removal stops, and what is no such stop.
 #![tactic(auto)]
 
 mod changing;
 mod engine;
+mod laws;
 mod reading;
 mod removing;
 mod shifting;
+mod trying;
 
 pub use engine::{Change, Engine};
+pub use laws::{some_cannot_leave, some_removals_stop};
 pub use removing::RemoveStop;

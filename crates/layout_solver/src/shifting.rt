@@ -70,8 +70,8 @@ fn shifts_stop(alloc: Global, c: &Corner, quantity: Quantity, changed: u32) -> R
     }
 }
 
-/// Gives rows other constants, one by one, and lists the lines whose values change. A constant that a row has
-/// already is no change.
+/// Gives rows other constants, one by one, and lists the lines whose values are negative with them. A
+/// constant that a row has already is no change.
 fn shift_all(
     alloc: Global,
     c: &mut Corner,

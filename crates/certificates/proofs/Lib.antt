@@ -1,0 +1,9 @@
+pub mod MultiplierLists
+pub mod Factors
+pub mod Accepted
+pub mod Places
+pub mod Certified
+pub mod Numbers
+pub mod CornerLevels
+pub mod ErrorFacts
+pub mod SameValues

@@ -1,0 +1,4 @@
+pub mod Accepted
+pub mod Errors
+pub mod OwnLevels
+pub mod Reading

@@ -1,0 +1,27 @@
+//! The certificate that a corner is: where its values are best, its own multipliers show it.
+//!
+//! [`certificate`] reads a corner's levels, strongest first. At each it takes the multipliers of the level's
+//! cost and its scale, and divides them by the factor that they share; a level whose multipliers are all 0
+//! is left out. All these numbers fit, since the corner's do, so nothing but memory can be wanting.
+//!
+//! ```
+//! settle(alloc, &mut corner, budget)?;          // rows 7 and 8: attribute 7 is 100 @20, and 200 @30
+//! let best = certificate(alloc, &corner)?;      // at level 20 the scale 1, row 7 times -1 and row 8 once
+//! ```
+//!
+//! A corner's certificate is one in the sense of the checker ([`certified_is_accepted`]): it says yes, or
+//! that it has no room for some row's values. [`error`] reads what a row lacks.
+//!
+//! To read: `times` reads what is written of a level, `shares` divides by the common factor, and `levels`
+//! puts the levels together.
+#![tactic(auto)]
+
+mod errors;
+mod laws;
+mod levels;
+mod shares;
+mod times;
+
+pub use errors::error;
+pub use laws::certified_is_accepted;
+pub use levels::certificate;

@@ -1,0 +1,5 @@
+use Rattle.layout_solver.proofs.Instances.{some_cannot_leave}
+use Rattle.layout_solver.proofs.laws.some_cannot_leave.Goals as goal
+
+pub returns : goal.returns
+returns c = some_cannot_leave

@@ -1,0 +1,48 @@
+// What an attribute would be if rows joined.
+ghost use Rattle.std.specs.Prelude.{◌<◌, ◌≡◌, ◌++◌, [], length, false, IfOk, IfErr};
+ghost use Rattle.problem_core.specs.Layout as layout;
+ghost use Rattle.problem_core.specs.Layout.{HasStay};
+ghost use Rattle.problem_core.specs.Kept.{IsWhole};
+ghost use Rattle.problem_core.specs.Corners.{NoNegativeValue};
+ghost use Rattle.cert_core.specs.Stops.{IsStopOf};
+ghost use Rattle.corner.specs.Changes.{FromAdded};
+ghost use Rattle.layout_solver.specs.Layouts.{IsBestValue};
+ghost use Rattle.layout_solver.specs.Starts.{CanTake, IsMoved, attrs_of};
+
+use crate::changing::extend;
+use cert_core::RunStop;
+use corner::Corner;
+use frac_core::Frac;
+use problem_core::Row;
+use std::alloc::Global;
+
+/// Moves the stays to the present values, adds rows, and goes on to the best corner, where the attribute has
+/// this value.
+pub(crate) fn tried(
+    alloc: Global,
+    c: &mut Corner,
+    rows: &[Row],
+    attr: u32,
+    budget: u64,
+) -> Result<Frac, RunStop>
+    requires marked { 0 < length c.old.before }
+    requires room { CanTake (attrs_of c.old.problem) [] }
+    requires values { NoNegativeValue c.old.problem c.old.marks }
+    requires whole { (p : layout.Problem) → IsMoved c.old [] (c.old.problem.rows ++ rows.now) p → IsWhole p }
+    requires attr { HasStay c.old.problem.stays attr }
+    ensures before { c.new.before ≡ c.old.before }
+    ensures value { IfOk result (λ f. (p : layout.Problem)
+        → IsMoved c.old [] (c.old.problem.rows ++ rows.now) p → IsBestValue p attr f) }
+    ensures stop { IfErr result (λ stop. (p : layout.Problem)
+        → IsMoved c.old [] (c.old.problem.rows ++ rows.now) p
+        → IsStopOf false p c.old.problem.rows (FromAdded p c.old.marks rows.now) budget stop) }
+{
+    c.show_corner();
+    match extend(alloc, c, &[], rows, budget) {
+        Ok(()) => {
+            c.show_corner();
+            Ok(c.attr_value(attr))
+        }
+        Err(stop) => Err(stop),
+    }
+}
