@@ -137,52 +137,56 @@ unnamed name es none =
 -- ---- the last entry less
 
 -- each view has the level that it had
-levels-back : (views : List LiveView) (v : LiveView) (es : List (List ℕ × Node)) → AllByRecursion (λ w. (level : ℕ) × IsOnLevel views w.id level × (level ≤ 32)) (map live_view es)
-    → AllByRecursion (λ e. IsOnLevel (views ++ v ∷ []) e.1.id.0 e.1.level) es → AllByRecursion (λ e. IsOnLevel views e.1.id.0 e.1.level) es
-levels-back views v [] h g = tt
-levels-back views v (e ∷ es) h g = (
+levels-back : (views later : List LiveView) (es : List (List ℕ × Node)) → AllByRecursion (λ w. (level : ℕ) × IsOnLevel views w.id level × (level ≤ 32)) (map live_view es)
+    → AllByRecursion (λ e. IsOnLevel (views ++ later) e.1.id.0 e.1.level) es → AllByRecursion (λ e. IsOnLevel views e.1.id.0 e.1.level) es
+levels-back views later [] h g = tt
+levels-back views later (e ∷ es) h g = (
   subst (IsOnLevel views e.1.id.0)
-      (IsOnLevel-unique (views ++ v ∷ []) e.1.id.0 h.0.0 e.1.level (IsOnLevel-append views (v ∷ []) e.1.id.0 h.0.0 h.0.1) g.0) h.0.1,
-  levels-back views v es h.1 g.1,
+      (IsOnLevel-unique (views ++ later) e.1.id.0 h.0.0 e.1.level (IsOnLevel-append views later e.1.id.0 h.0.0 h.0.1) g.0) h.0.1,
+  levels-back views later es h.1 g.1,
 )
 
-module _ (es : List (List ℕ × Node)) (next : ℕ) (t : ViewTree) (name : List ℕ) (parent : ℕ) (is : tree_of es next ≡ with_view t name parent) where
-  abbrev added_view : LiveView
-  added_view = record { id = t.next; name = name; parent = Some parent }
+module _ (es : List (List ℕ × Node)) (next : ℕ) (t : ViewTree) (later : List LiveView) (count : ℕ) (is : tree_of es next ≡ record { views = t.views ++ later; next = t.next + count }) (counted : length later ≡ count) where
+  grown_views : map live_view es ≡ t.views ++ later
+  grown_views = ap (λ (u : ViewTree). u.views) is
 
-  views_are : map live_view es ≡ t.views ++ added_view ∷ []
-  views_are = ap (λ (u : ViewTree). u.views) is
+  grown_count : length es ≡ length t.views + count
+  grown_count = omega (arith, length-map es live_view, ap length grown_views, length-append t.views later, counted)
 
-  count : length es ≡ length t.views + 1
-  count = sym (length-map es live_view) ∙ ap length views_are ∙ length-append t.views (added_view ∷ [])
+  views-cut : map live_view (take (length es - count) es) ≡ t.views
+  views-cut =
+      let fewer : length es - count ≡ length t.views = omega (arith, grown_count) in
+      sym (take-map live_view (length es - count) es) ∙ ap (take (length es - count)) grown_views ∙ ap (λ n. take n (t.views ++ later)) fewer ∙ take-append_seam t.views later
 
-  views-back : map live_view (take (length es - 1) es) ≡ t.views
-  views-back =
-      let fewer : length es - 1 ≡ length t.views = omega (arith, count) in
-      sym (take-map live_view (length es - 1) es) ∙ ap (take (length es - 1)) views_are ∙ ap (λ n. take n (t.views ++ added_view ∷ [])) fewer ∙ take-append_seam t.views (added_view ∷ [])
-
-  next-back : next - 1 ≡ t.next
-  next-back =
-      let more : next ≡ t.next + 1 = ap (λ (u : ViewTree). u.next) is in
+  next-cut : next - count ≡ t.next
+  next-cut =
+      let more : next ≡ t.next + count = ap (λ (u : ViewTree). u.next) is in
       omega (arith, more)
 
-  pub tree_of-back : tree_of (take (length es - 1) es) (next - 1) ≡ t
-  tree_of-back = λ i. record { views = views-back i; next = next-back i }
+  pub tree_of-cut : tree_of (take (length es - count) es) (next - count) ≡ t
+  tree_of-cut = λ i. record { views = views-cut i; next = next-cut i }
 
-  pub AreKept-back : IsTree t → AreKept es next → AreKept (take (length es - 1) es) (next - 1)
-  AreKept-back whole kept =
-      let left : List (List ℕ × Node) = take (length es - 1) es in
+  pub AreKept-cut : IsTree t → AreKept es next → AreKept (take (length es - count) es) (next - count)
+  AreKept-cut whole kept =
+      let left : List (List ℕ × Node) = take (length es - count) es in
       let levels : All (λ w. (level : ℕ) × IsOnLevel t.views w.id level × (level ≤ 32)) (map live_view left) =
-      subst (All (λ w. (level : ℕ) × IsOnLevel t.views w.id level × (level ≤ 32))) (sym views-back) whole.levels in
-      let were : All (λ e. IsOnLevel (t.views ++ added_view ∷ []) e.1.id.0 e.1.level) left =
-      All-take (λ e. IsOnLevel (t.views ++ added_view ∷ []) e.1.id.0 e.1.level) (length es - 1) es
-      (subst (λ (views : List LiveView). All (λ e. IsOnLevel views e.1.id.0 e.1.level) es) views_are kept.levels) in
+      subst (All (λ w. (level : ℕ) × IsOnLevel t.views w.id level × (level ≤ 32))) (sym views-cut) whole.levels in
+      let were : All (λ e. IsOnLevel (t.views ++ later) e.1.id.0 e.1.level) left =
+      All-take (λ e. IsOnLevel (t.views ++ later) e.1.id.0 e.1.level) (length es - count) es
+      (subst (λ (views : List LiveView). All (λ e. IsOnLevel views e.1.id.0 e.1.level) es) grown_views kept.levels) in
       let are : All (λ e. IsOnLevel t.views e.1.id.0 e.1.level) left =
       All-from_recursion (λ e. IsOnLevel t.views e.1.id.0 e.1.level) left
-      (levels-back t.views added_view left
+      (levels-back t.views later left
       (recursion_from_All (λ w. (level : ℕ) × IsOnLevel t.views w.id level × (level ≤ 32)) (map live_view left) levels)
-      (recursion_from_All (λ e. IsOnLevel (t.views ++ added_view ∷ []) e.1.id.0 e.1.level) left were)) in
+      (recursion_from_All (λ e. IsOnLevel (t.views ++ later) e.1.id.0 e.1.level) left were)) in
       record {
-        tree = subst IsTree (sym tree_of-back) whole;
-        levels = subst (λ (views : List LiveView). All (λ e. IsOnLevel views e.1.id.0 e.1.level) left) (sym views-back) are;
+        tree = subst IsTree (sym tree_of-cut) whole;
+        levels = subst (λ (views : List LiveView). All (λ e. IsOnLevel views e.1.id.0 e.1.level) left) (sym views-cut) are;
       }
+
+module _ (es : List (List ℕ × Node)) (next : ℕ) (t : ViewTree) (name : List ℕ) (parent : ℕ) (is : tree_of es next ≡ with_view t name parent) where
+  pub tree_of-back : tree_of (take (length es - 1) es) (next - 1) ≡ t
+  tree_of-back = tree_of-cut es next t (record { id = t.next; name = name; parent = Some parent } ∷ []) 1 is refl
+
+  pub AreKept-back : IsTree t → AreKept es next → AreKept (take (length es - 1) es) (next - 1)
+  AreKept-back = AreKept-cut es next t (record { id = t.next; name = name; parent = Some parent } ∷ []) 1 is refl

@@ -1,9 +1,17 @@
 // What follows from the definitions alone.
-ghost use Rattle.std.specs.Prelude.{◌≡◌, ℕ, List};
+ghost use Rattle.std.specs.Prelude.{◌≡◌, ℕ, List, map};
+ghost use Rattle.std.specs.List.{range_with_len};
+ghost use Rattle.view_tree.specs.JsonTrees.{Branch, size, views_of};
 ghost use Rattle.view_tree.specs.Views.{IsOnLevel, LiveView};
 
 /// A view has one level at most.
 pub fn level_is_unique()
     ensures { (views : List LiveView) → (id one other : ℕ) → IsOnLevel views id one → IsOnLevel views id other
         → one ≡ other }
+{}
+
+/// The views of a branch are so many as its size, and their numbers go up one by one from the next one.
+pub fn numbers_rise()
+    ensures { (next parent : ℕ) (b : Branch) → map (λ v. v.id) (views_of next parent b)
+        ≡ range_with_len next (size b) }
 {}

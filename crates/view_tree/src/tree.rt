@@ -3,7 +3,8 @@ ghost use Rattle.std.specs.Prelude.{◌≡◌, ◌≢◌, ◌≤◌, ◌<◌, �
 ghost use Rattle.std.specs.Prelude.{filter, find, not, position};
 ghost use Rattle.std.specs.Prelude.{IfOk, IfSome, OnErr, OnOk, IfErr, IfNone, is_some, length, slice_get};
 ghost use Rattle.std.specs.Option.{option_map, option_map_or, option_and_then};
-ghost use Rattle.view_tree.specs.Views.{ViewTree, IsTree, IsOnLevel, HasParent, IsAdded};
+ghost use Rattle.view_tree.specs.Plans.{IsGrownBy};
+ghost use Rattle.view_tree.specs.Views.{LiveView, ViewTree, IsTree, IsOnLevel, HasParent, IsAdded};
 ghost use Rattle.view_tree.specs.Views.{view_of, view_named, with_view, window};
 ghost use Rattle.view_tree.specs.Stops.{IsNewView, MayStop, is_full};
 ghost use Rattle.view_tree.specs.Drops.{AreGoing, IsDropped, MayStay, goes, is_among, without};
@@ -136,6 +137,28 @@ impl Tree {
         Some(node.id)
     }
 
+    // Where the table takes its memory.
+    pub(crate) fn allocator(&self) -> Global {
+        self.table.allocator()
+    }
+
+    // The number that the next view takes.
+    pub(crate) fn next_number(&self) -> u32
+        ensures next { result ≡ self.now.next }
+        ensures within { self.now.next ≤ 2 ^ 29 }
+    {
+        self.next
+    }
+
+    // The level of a live view.
+    pub(crate) fn level(&self, id: ViewId) -> Option<u32>
+        ensures level { IfSome result (IsOnLevel self.now.views id.0) }
+        ensures dead { IfNone result (view_of self.now.views id.0 ≡ None) }
+    {
+        let node = self.node(id)?;
+        Some(node.level)
+    }
+
     // What is kept of a view, if it is live.
     fn node(&self, id: ViewId) -> Option<Node>
         ensures live { IfSome result (λ n. HasParent self.now.views id.0 (option_map (λ p. p.0) n.parent)) }
@@ -146,7 +169,7 @@ impl Tree {
     }
 
     // Whether a live view has the name.
-    fn has_name(&self, name: &str) -> bool
+    pub(crate) fn has_name(&self, name: &str) -> bool
         ensures { result ≡ is_some (view_named self.now.views name.now) }
     {
         self.table.get(name).is_some()
@@ -254,6 +277,18 @@ impl Tree {
     {
         self.table.truncate(self.table.len() - 1);
         self.next -= 1;
+    }
+
+    /// Takes out the views that were added last, so many as `count`. It takes no memory, and their numbers
+    /// are free again.
+    pub fn take_back_views(&mut self, count: usize)
+        requires { IsGrownBy self.old count }
+        ensures { (before : ViewTree) (views : List LiveView) → length views ≡ count
+            → self.old ≡ record { views = before.views ++ views; next = before.next + count }
+            → self.new ≡ before }
+    {
+        self.table.truncate(self.table.len() - count);
+        self.next -= count as u32;
     }
 
     /// The numbers of a view and of all below it, in order of creation. There is none where the view isn't

@@ -1,0 +1,202 @@
+// Views from JSON.
+ghost use Rattle.std.specs.Prelude.{◌≡◌, ◌<◌, ◌≤◌, ◌+◌, ℕ, [], IsSome, IfOk, IfSome, IfNone};
+ghost use Rattle.std.specs.Prelude.{IfErr, OnOk, OnErr, true, false, length, nat_lt};
+ghost use Rattle.std.specs.List.{list_any};
+ghost use Rattle.serde_json.specs.Data.{Data};
+ghost use Rattle.serde_json.specs.View.{view};
+ghost use Rattle.name_tables.specs.Names.{names_of};
+ghost use Rattle.view_tree.specs.JsonStops.{AreFree, IsFirstHeld, IsGrown, IsWithin, MayStayOut};
+ghost use Rattle.view_tree.specs.JsonStops.{PassesTreeLimit, has_room, is_held};
+ghost use Rattle.view_tree.specs.JsonTrees.{IsJson, JsonTree};
+ghost use Rattle.view_tree.specs.Plans.{AreNew, IsPlanOf, grown, names_of_plan, number_of, pairs_of};
+ghost use Rattle.view_tree.specs.Stops.{IsNewView};
+ghost use Rattle.view_tree.specs.Views.{IsOnLevel, IsTree, view_named, view_of, with_view};
+
+use crate::plan::{Plan, PlanStop, Planned, plan_of};
+use crate::stops::TreeStop;
+use crate::tree::{DEPTH_LIMIT, ID_LIMIT, Tree, VIEW_LIMIT};
+use crate::view::ViewId;
+use frac_core::OutOfMemory;
+use name_tables::{LimitWord, Metrics, NAME_LIMIT, NameMap, OwnedName};
+use serde_json::Value;
+use std::alloc::Global;
+
+// The value of a text, if it is JSON.
+fn value_of(alloc: Global, text: &[u8]) -> Result<Option<Value>, OutOfMemory>
+    ensures json { IfOk result (λ found. IfSome found (λ value. IsJson text.now (view value))) }
+    ensures none { IfOk result (λ found. IfNone found ((d : Data) → IsJson text.now d → ⊥)) }
+{
+    match Value::from_slice(alloc, text) {
+        Ok(value) => Ok(Some(value)),
+        Err(error) => if error.is_memory() {
+            Err(OutOfMemory)
+        } else {
+            Ok(None)
+        },
+    }
+}
+
+// Whether one of the names is longer than it may be.
+fn has_long(views: &[Planned<'_>]) -> bool
+    ensures { result ≡ list_any (λ planned. nat_lt 64 (length planned.name.now)) views.now }
+{
+    views.iter().any(|view| view.name.len() > NAME_LIMIT)
+}
+
+impl Tree {
+    // Whether so many views more may be live, and there are numbers for them.
+    fn has_room(&self, count: usize) -> bool
+        ensures room { result ≡ has_room self.now count }
+        ensures tree { IsTree self.now }
+    {
+        if count > VIEW_LIMIT - self.len() {
+            return false;
+        }
+        count <= (ID_LIMIT - self.next_number()) as usize
+    }
+
+    // Whether so many levels below the parent are too many.
+    fn is_deep(&self, parent: ViewId, levels: usize) -> bool
+        requires live { IsSome (view_of self.now.views parent.0) }
+        requires tree { IsTree self.now }
+        ensures yes { result ≡ true → (level : ℕ) × IsOnLevel self.now.views parent.0 level
+            × (32 < level + levels) }
+        ensures no { result ≡ false → (level : ℕ) × IsOnLevel self.now.views parent.0 level
+            × (level + levels ≤ 32) }
+    {
+        let Some(level) = self.level(parent) else {
+            unreachable!()
+        };
+        levels > (DEPTH_LIMIT - level) as usize
+    }
+
+    // The first limit that the plan would pass.
+    fn plan_limit(&self, plan: &Plan<'_>, parent: ViewId) -> Option<LimitWord>
+        requires { IsSome (view_of self.now.views parent.0) }
+        ensures passed { (tree : JsonTree) → IsPlanOf plan.now tree
+            → IfSome result (PassesTreeLimit self.now parent.0 tree.branch) }
+        ensures within { (tree : JsonTree) → IsPlanOf plan.now tree
+            → IfNone result (IsWithin self.now parent.0 tree.branch) }
+        ensures tree { IfNone result (IsTree self.now) }
+    {
+        if has_long(&plan.views) {
+            return Some(LimitWord::Name);
+        }
+        if !self.has_room(plan.views.len()) {
+            return Some(LimitWord::Views);
+        }
+        if self.is_deep(parent, plan.levels) {
+            return Some(LimitWord::Depth);
+        }
+        None
+    }
+
+    // Whether a live view has the name, or a metric, or a view before it in the plan.
+    fn is_held(&self, name: &str, metrics: &Metrics, before: &NameMap<()>) -> bool
+        ensures { result ≡ is_held self.now metrics.now (names_of before.now) name.now }
+    {
+        self.has_name(name) || metrics.get(name).is_some() || before.get(name).is_some()
+    }
+
+    // The first of the names that is held.
+    fn first_held<'v>(
+        &self,
+        views: &[Planned<'v>],
+        metrics: &Metrics,
+    ) -> Result<Option<&'v str>, OutOfMemory>
+        ensures free { IfOk result (λ found. IfNone found
+            (AreFree self.now metrics.now [] (names_of_plan views.now))) }
+        ensures held { IfOk result (λ found. IfSome found
+            (λ name. IsFirstHeld self.now metrics.now (names_of_plan views.now) name.now)) }
+    {
+        let mut before = NameMap::new(self.allocator());
+        for view in views {
+            if self.is_held(view.name, metrics, &before) {
+                return Ok(Some(view.name));
+            }
+            before.add(view.name, ())?;
+        }
+        Ok(None)
+    }
+
+    // Adds a view that may be added.
+    fn add_planned(&mut self, view: &Planned<'_>) -> Result<(), OutOfMemory>
+        requires live { IsSome (view_named self.old.views view.now.parent.now) }
+        requires new { IsNewView self.old view.now.name.now (number_of self.old view.now.parent.now) }
+        ensures added { OnOk result (self.new
+            ≡ with_view self.old view.now.name.now (number_of self.old view.now.parent.now)) }
+        ensures unchanged { OnErr result (self.new ≡ self.old) }
+    {
+        let Some(parent) = self.find(view.parent) else {
+            unreachable!()
+        };
+        match self.add(view.name, parent) {
+            Ok(_) => Ok(()),
+            Err(TreeStop::OutOfMemory) => Err(OutOfMemory),
+            Err(TreeStop::Syntax | TreeStop::Shape) => unreachable!(),
+            Err(TreeStop::Unknown(_)) => unreachable!(),
+            Err(TreeStop::Taken(_)) => unreachable!(),
+            Err(TreeStop::Limit(_)) => unreachable!(),
+        }
+    }
+
+    // Adds the views of a plan, all or none.
+    fn add_all(&mut self, views: &[Planned<'_>]) -> Result<(), OutOfMemory>
+        requires { AreNew self.old (pairs_of views.now) }
+        ensures grown { OnOk result (self.new ≡ grown self.old (pairs_of views.now)) }
+        ensures unchanged { OnErr result (self.new ≡ self.old) }
+    {
+        let len = self.len();
+        for view in views {
+            match self.add_planned(view) {
+                Ok(()) => (),
+                Err(stop) => {
+                    self.take_back_views(self.len() - len);
+                    return Err(stop);
+                }
+            }
+        }
+        Ok(())
+    }
+
+    /// Adds the views of a tree that is written as JSON, each before those in it, and answers how many they
+    /// are.
+    ///
+    /// A tree is an object with the member `name`, a name, and at most the members `children`, an array of
+    /// such objects, and, in the outermost object alone, `in`, the name of the view that the tree goes in,
+    /// which is the window where the member is left out. A member that stands twice means its last value.
+    /// The numbers of the views go up one by one from the next one.
+    ///
+    /// `Syntax` where the bytes aren't JSON, otherwise `Shape` where the value has another shape, otherwise
+    /// `Unknown` where no live view has the name under `in`, otherwise `Taken` with the first name that a
+    /// live view has, or a metric, or an earlier object of the tree, otherwise the first limit that would be
+    /// passed: `Name`, `Views` or `Depth`. After a refusal all is as before.
+    pub fn add_json(&mut self, json: &[u8], metrics: &Metrics) -> Result<u32, TreeStop>
+        ensures grown { IfOk result (IsGrown self.old metrics.now json.now self.new) }
+        ensures refused { IfErr result (MayStayOut self.old metrics.now json.now) }
+        ensures unchanged { OnErr result (self.new ≡ self.old) }
+    {
+        let alloc = self.allocator();
+        let Some(value) = value_of(alloc, json)? else {
+            return Err(TreeStop::Syntax);
+        };
+        let plan = match plan_of(alloc, &value) {
+            Ok(plan) => plan,
+            Err(PlanStop::Shape) => return Err(TreeStop::Shape),
+            Err(PlanStop::OutOfMemory) => return Err(TreeStop::OutOfMemory),
+        };
+        let Some(parent) = self.find(plan.place) else {
+            let name = OwnedName::of(alloc, plan.place.as_bytes())?;
+            return Err(TreeStop::Unknown(Some(name)));
+        };
+        if let Some(name) = self.first_held(&plan.views, metrics)? {
+            let name = OwnedName::of(alloc, name.as_bytes())?;
+            return Err(TreeStop::Taken(Some(name)));
+        }
+        if let Some(word) = self.plan_limit(&plan, parent) {
+            return Err(TreeStop::Limit(word));
+        }
+        self.add_all(&plan.views)?;
+        Ok(plan.views.len() as u32)
+    }
+}
