@@ -17,21 +17,6 @@ fn align_name(align: Align) -> &'static str {
     }
 }
 
-fn attribute(word: AttrWord) -> &'static str {
-    match word {
-        AttrWord::Left => "left",
-        AttrWord::Top => "top",
-        AttrWord::Width => "width",
-        AttrWord::Height => "height",
-        AttrWord::Right => "right",
-        AttrWord::Bottom => "bottom",
-        AttrWord::CenterX => "centerX",
-        AttrWord::CenterY => "centerY",
-        AttrWord::Leading => "leading",
-        AttrWord::Trailing => "trailing",
-    }
-}
-
 fn relation(rel: Rel) -> &'static str {
     match rel {
         Rel::Eq => "==",
@@ -50,7 +35,7 @@ fn put_term(out: &mut String, term: &ExprTerm<'_>) -> Result<(), OutOfMemory> {
     put_fraction(out, term.by)?;
     match term.of {
         Operand::Attr { view, word } => {
-            let word = attribute(word);
+            let word = word.text();
             Ok(write!(out, " of {view}.{word}")?)
         }
         Operand::Metric { name } => Ok(write!(out, " of {name}")?),
@@ -114,6 +99,25 @@ fn put_metric(out: &mut String, name: &str, value: Frac) -> Result<(), OutOfMemo
     Ok(writeln!(out)?)
 }
 
+fn put_suggestion(
+    out: &mut String,
+    view: &str,
+    word: AttrWord,
+    value: Frac,
+    priority: Option<Object<'_>>,
+) -> Result<(), OutOfMemory> {
+    let word = word.text();
+    write!(out, "suggest {view}.{word}")?;
+    put_fraction(out, value)?;
+    put_priority(out, priority)?;
+    Ok(writeln!(out)?)
+}
+
+fn put_release(out: &mut String, view: &str, word: AttrWord) -> Result<(), OutOfMemory> {
+    let word = word.text();
+    Ok(writeln!(out, "release {view}.{word}")?)
+}
+
 // Appends the reading of a line of a group.
 fn put_group(alloc: Global, out: &mut String, command: &Command<'_>) -> Result<(), OutOfMemory> {
     match command {
@@ -140,6 +144,15 @@ fn put_command(alloc: Global, out: &mut String, command: &Command<'_>) -> Result
         Command::View { name, parent } => put_view(out, name, *parent),
         Command::Metric { name, value } => put_metric(out, name, *value),
         Command::Window { width, height } => put_numbers(out, "window", *width, *height),
+        Command::Drop { name } => Ok(writeln!(out, "drop {name}")?),
+        Command::Remove { group } => Ok(writeln!(out, "remove {group}")?),
+        Command::Suggest {
+            view,
+            word,
+            value,
+            priority,
+        } => put_suggestion(out, view, *word, *value, *priority),
+        Command::Release { view, word } => put_release(out, view, *word),
         Command::Budget { exchanges } => Ok(writeln!(out, "budget {exchanges}")?),
         Command::Frames => Ok(writeln!(out, "frames")?),
         Command::Rows => Ok(writeln!(out, "rows")?),

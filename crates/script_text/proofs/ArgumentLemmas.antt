@@ -10,7 +10,7 @@ use Rattle.span_text.proofs.TokensLemmas.{end_lives, name_lives, number_lives, w
 use Rattle.script_text.specs.Grammar.{decimal, Arguments}
 use Rattle.script_text.specs.Meaning as mean
 use Rattle.script_text.specs.Meaning.{Meaning}
-use Rattle.script_text.specs.LineReading.{is_i, is_minus, view_at, metric_at, window_at, budget_at, bare_at}
+use Rattle.script_text.specs.LineReading.{is_i, is_minus, view_at, named_at, metric_at, window_at, budget_at, bare_at}
 use Rattle.script_text.specs.declared.words.Keyword.TheVariants as key
 
 pub bare_answers : (m : Meaning) (s : List ℕ) → Answers (End m) s (bare_at m s)
@@ -21,6 +21,10 @@ pub window_answers : (s : List ℕ) → Answers (Arguments key.Window) s (window
 unfolding window_at
 window_answers s = number_answers (λ w. Number (λ h. End (mean.Window (decimal false w) (decimal false h)))) _ (λ w. number_lives is_space refl (λ h. end_lives is_space (mean.Window (decimal false w) (decimal false h)))) s
     (λ w t i. number_answers (λ h. End (mean.Window (decimal false w) (decimal false h))) _ (λ h. end_lives is_space (mean.Window (decimal false w) (decimal false h))) t (λ h u j. end_answers (mean.Window (decimal false w) (decimal false h)) u))
+
+pub named_answers : (f : List ℕ → Meaning) (s : List ℕ) → Answers (Name (λ n. End (f n))) s (named_at f s)
+unfolding named_at
+named_answers f s = name_answers (λ n. End (f n)) _ (λ n. end_lives is_space (f n)) s (λ n t i. end_answers (f n) t)
 
 pub budget_answers : (s : List ℕ) → Answers (Arguments key.Budget) s (budget_at s)
 unfolding budget_at

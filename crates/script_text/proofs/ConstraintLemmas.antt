@@ -59,13 +59,13 @@ Named F = Name (λ n. F (Some (object.Name n)))
 abbrev Numbered : {A : Type 0} → (Option Meant → Rel A) → Rel A
 Numbered F = Number (λ n. F (Some (object.Number (pos n))))
 
-priority_lives : {A : Type 0} (F : Option Meant → Rel A) → Lives is_space (F None) → Lives is_space (Priority F)
+pub priority_lives : {A : Type 0} (F : Option Meant → Rel A) → Lives is_space (F None) → Lives is_space (Priority F)
 priority_lives F lives = right_lives is_space (Sign 64 (Or (Named F) (Numbered F))) lives
 
 priority_never : {A : Type 0} (d : ℕ → Bool) (F : Option Meant → Rel A) → d 64 ≡ false → Never d (F None) → Never d (Priority F)
 priority_never d F at never = or_never d (Sign 64 (Or (Named F) (Numbered F))) (F None) (lit_never _ d 64 [] at) never
 
-priority_answers : {A : Type 0} (F : Option Meant → Rel A) (k : Option Meant → List ℕ → Result A ℕ) → ((p : Option Meant) → Lives is_space (F p)) → Never is_at (F None) → ((p : Option Meant) (t : List ℕ) → Answers (F p) t (k p t))
+pub priority_answers : {A : Type 0} (F : Option Meant → Rel A) (k : Option Meant → List ℕ → Result A ℕ) → ((p : Option Meant) → Lives is_space (F p)) → Never is_at (F None) → ((p : Option Meant) (t : List ℕ) → Answers (F p) t (k p t))
     → (s : List ℕ) → Answers (Priority F) s (priority_at s >>= λ r. k r.0 r.1)
 unfolding priority_at object_at
 priority_answers F k lives never goes s = rw bind_cond (or_answers is_at (Sign 64 (Or (Named F) (Numbered F))) (F None) _ _

@@ -3,6 +3,7 @@ pub mod ConstraintLemmas
 pub mod FormatLemmas
 pub mod FractionLemmas
 pub mod LineLemmas
+pub mod SuggestionLemmas
 pub mod SumLemmas
 pub mod SumSteps
 pub mod Tables

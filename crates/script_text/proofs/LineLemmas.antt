@@ -15,9 +15,10 @@ use Rattle.script_text.specs.LineReading.{is_hash, is_any, arguments_at, command
 use Rattle.script_text.specs.declared.words.Keyword.{Keyword}
 use Rattle.script_text.specs.declared.words.Keyword.TheVariants as key
 use Rattle.script_text.proofs.Tables.{IsTable, table_answers}
-use Rattle.script_text.proofs.ArgumentLemmas.{bare_answers, window_answers, budget_answers, view_answers, metric_answers}
+use Rattle.script_text.proofs.ArgumentLemmas.{bare_answers, window_answers, budget_answers, named_answers, view_answers, metric_answers}
 use Rattle.script_text.proofs.FormatLemmas.{vfl_lives, vfl_answers}
 use Rattle.script_text.proofs.ConstraintLemmas.{linear_lives, constrain_answers}
+use Rattle.script_text.proofs.SuggestionLemmas.{suggest_lives, suggest_answers, release_lives, release_answers}
 
 -- a table of first words: each begins neither with a space nor with #
 pub record AreCommands (words : List (List ℕ × Keyword)) : Type 0 where
@@ -31,20 +32,28 @@ all_commands = record { table = record { full = refl; free = refl; bytes = refl 
 
 arguments_lives : (k : Keyword) → Lives is_space (Arguments k)
 arguments_lives key.View = name_lives is_space refl (λ n. right_lives is_space (Word (codes "in") (Name (λ p. End (mean.View n (Some p))))) (end_lives is_space (mean.View n None)))
+arguments_lives key.Drop = name_lives is_space refl (λ n. end_lives is_space (mean.Drop n))
 arguments_lives key.Metric = name_lives is_space refl (λ n. right_lives is_space (Sign 45 (Number (λ v. End (mean.Metric n (decimal true v))))) (number_lives is_space refl (λ v. end_lives is_space (mean.Metric n (decimal false v)))))
 arguments_lives key.Window = number_lives is_space refl (λ w. number_lives is_space refl (λ h. end_lives is_space (mean.Window (decimal false w) (decimal false h))))
 arguments_lives key.Vfl = vfl_lives
 arguments_lives key.Constrain = name_lives is_space refl linear_lives
+arguments_lives key.Remove = name_lives is_space refl (λ n. end_lives is_space (mean.Remove n))
+arguments_lives key.Suggest = suggest_lives
+arguments_lives key.Release = release_lives
 arguments_lives key.Budget = whole_lives is_space refl (λ n. end_lives is_space (mean.Budget n))
 arguments_lives key.Frames = end_lives is_space mean.Frames
 arguments_lives key.Rows = end_lives is_space mean.Rows
 
 arguments_answers : (k : Keyword) (s : List ℕ) → Answers (Arguments k) s (arguments_at k s)
 arguments_answers key.View s = view_answers s
+arguments_answers key.Drop s = named_answers mean.Drop s
 arguments_answers key.Metric s = metric_answers s
 arguments_answers key.Window s = window_answers s
 arguments_answers key.Vfl s = vfl_answers s
 arguments_answers key.Constrain s = constrain_answers s
+arguments_answers key.Remove s = named_answers mean.Remove s
+arguments_answers key.Suggest s = suggest_answers s
+arguments_answers key.Release s = release_answers s
 arguments_answers key.Budget s = budget_answers s
 arguments_answers key.Frames s = bare_answers mean.Frames s
 arguments_answers key.Rows s = bare_answers mean.Rows s

@@ -20,11 +20,11 @@ use Rattle.script_text.specs.Grammar.{attributes, decimal, times, Attribute, Var
 use Rattle.script_text.specs.LineReading.{is_star, attribute_at, variable_at, product_at, multiplied_at, term_at}
 use Rattle.script_text.proofs.Tables.{IsTable, table_answers}
 
-attributes_table : IsTable attributes
+pub attributes_table : IsTable attributes
 unfolding attributes
 attributes_table = record { full = refl; free = refl; bytes = refl }
 
-attributes_outside : table_outside is_space attributes ≡ true
+pub attributes_outside : table_outside is_space attributes ≡ true
 unfolding attributes
 attributes_outside = refl
 

@@ -21,9 +21,10 @@ use Rattle.problem_core.specs.declared.parts.Rel as parts
 
 -- the first words of lines
 unfoldable pub all_words : List (List ℕ × Keyword)
-all_words = (codes "view", key.View) ∷ (codes "metric", key.Metric) ∷ (codes "window", key.Window)
-    ∷ (codes "vfl", key.Vfl) ∷ (codes "constrain", key.Constrain) ∷ (codes "budget", key.Budget)
-    ∷ (codes "frames", key.Frames) ∷ (codes "rows", key.Rows) ∷ []
+all_words = (codes "view", key.View) ∷ (codes "drop", key.Drop) ∷ (codes "metric", key.Metric)
+    ∷ (codes "window", key.Window) ∷ (codes "vfl", key.Vfl) ∷ (codes "constrain", key.Constrain)
+    ∷ (codes "remove", key.Remove) ∷ (codes "suggest", key.Suggest) ∷ (codes "release", key.Release)
+    ∷ (codes "budget", key.Budget) ∷ (codes "frames", key.Frames) ∷ (codes "rows", key.Rows) ∷ []
 
 unfoldable pub alignments : List (List ℕ × Align)
 alignments = (codes "left", align.Left) ∷ (codes "right", align.Right) ∷ (codes "top", align.Top)
@@ -35,6 +36,19 @@ attributes = (codes "left", attr.Left) ∷ (codes "top", attr.Top) ∷ (codes "w
     ∷ (codes "height", attr.Height) ∷ (codes "right", attr.Right) ∷ (codes "bottom", attr.Bottom)
     ∷ (codes "centerX", attr.CenterX) ∷ (codes "centerY", attr.CenterY) ∷ (codes "leading", attr.Leading)
     ∷ (codes "trailing", attr.Trailing) ∷ []
+
+-- an attribute as it is written
+abbrev pub word_text : AttrWord → List ℕ
+word_text attr.Left = codes "left"
+word_text attr.Top = codes "top"
+word_text attr.Width = codes "width"
+word_text attr.Height = codes "height"
+word_text attr.Right = codes "right"
+word_text attr.Bottom = codes "bottom"
+word_text attr.CenterX = codes "centerX"
+word_text attr.CenterY = codes "centerY"
+word_text attr.Leading = codes "leading"
+word_text attr.Trailing = codes "trailing"
 
 unfoldable pub relations : List (List ℕ × parts.Rel)
 relations = (codes "==", rel.Eq) ∷ (codes "<=", rel.Le) ∷ (codes ">=", rel.Ge) ∷ []
@@ -84,6 +98,10 @@ abbrev pub LinearText : (Linear → Rel Meaning) → Rel Meaning
 LinearText F = Expression (λ l. Relation (λ r. Expression (λ e.
     Priority (λ p. Weight (λ w. F (record { left = l; rel = r; right = e; priority = p; weight = w }))))))
 
+-- a value, and perhaps a priority
+abbrev pub Suggestion : List ℕ → AttrWord → Bool → Rel Meaning
+Suggestion n w is_negative = Number (λ v. Priority (λ p. End (mean.Suggest n w (decimal is_negative v) p)))
+
 -- a text of F, whose value is made of F's value
 abbrev pub Made : {M A : Type 0} → (M → A) → Rel M → Rel A
 Made {M} f F s v = (m : M) × F s m × (v ≡ f m)
@@ -96,12 +114,16 @@ FormatLine n a = Made (mean.Vfl n a) FormatText
 abbrev pub Arguments : Keyword → Rel Meaning
 Arguments key.View = Name (λ n. Or (Word (codes "in") (Name (λ p. End (mean.View n (Some p)))))
     (End (mean.View n None)))
+Arguments key.Drop = Name (λ n. End (mean.Drop n))
 Arguments key.Metric = Name (λ n. Or (Sign 45 (Number (λ v. End (mean.Metric n (decimal true v)))))
     (Number (λ v. End (mean.Metric n (decimal false v)))))
 Arguments key.Window = Number (λ w. Number (λ h. End (mean.Window (decimal false w) (decimal false h))))
 Arguments key.Vfl = Name (λ n. Or (Word (codes "align")
     (Words alignments (λ a. Tail (FormatLine n (Some a))))) (FormatLine n None))
 Arguments key.Constrain = Name (λ n. LinearText (λ l. End (mean.Constrain n l)))
+Arguments key.Remove = Name (λ n. End (mean.Remove n))
+Arguments key.Suggest = Attribute (λ n w. Or (Sign 45 (Suggestion n w true)) (Suggestion n w false))
+Arguments key.Release = Attribute (λ n w. End (mean.Release n w))
 Arguments key.Budget = Whole (λ n. End (mean.Budget n))
 Arguments key.Frames = End mean.Frames
 Arguments key.Rows = End mean.Rows

@@ -19,6 +19,7 @@ use Rattle.script_text.specs.Meaning as mean
 use Rattle.script_text.specs.Grammar.{alignments, attributes, relations, decimal, times}
 use Rattle.problem_core.specs.declared.parts.Rel.{Rel}
 use Rattle.script_text.specs.declared.words.Align.{Align}
+use Rattle.script_text.specs.declared.words.AttrWord.{AttrWord}
 use Rattle.script_text.specs.declared.words.Keyword.{Keyword}
 use Rattle.script_text.specs.declared.words.Keyword.TheVariants as key
 
@@ -58,6 +59,13 @@ view_at s = do
       else (do
         _ ← end_at name.1
         Ok (mean.View name.0 None))
+
+-- a name and no more
+unfoldable pub named_at : (List ℕ → Meaning) → List ℕ → Result Meaning ℕ
+named_at f s = do
+  name ← name_at s
+  _ ← end_at name.1
+  Ok (f name.0)
 
 unfoldable pub metric_at : List ℕ → Result Meaning ℕ
 metric_at s = do
@@ -207,12 +215,47 @@ vfl_at s = do
         format_line_at group.0 (Some align.0) rest)
       else format_line_at group.0 None group.1
 
+-- a name, a point and an attribute
+unfoldable pub view_word_at : List ℕ → Result ((List ℕ × AttrWord) × List ℕ) ℕ
+view_word_at s = do
+  name ← raw_name_at s
+  rest ← lit_at (codes ".") name.1
+  word ← tried attributes rest
+  rest ← tail_at word.1
+  Ok ((name.0, word.0), rest)
+
+unfoldable pub suggestion_at : List ℕ → AttrWord → Bool → List ℕ → Result Meaning ℕ
+suggestion_at name word is_negative s = do
+  value ← number_at s
+  priority ← priority_at value.1
+  _ ← end_at priority.1
+  Ok (mean.Suggest name word (decimal is_negative value.0) priority.0)
+
+unfoldable pub suggest_at : List ℕ → Result Meaning ℕ
+suggest_at s = do
+  of ← view_word_at s
+  if starts is_minus of.1
+      then (do
+        rest ← sign_at 45 of.1
+        suggestion_at of.0.0 of.0.1 true rest)
+      else suggestion_at of.0.0 of.0.1 false of.1
+
+unfoldable pub release_at : List ℕ → Result Meaning ℕ
+release_at s = do
+  of ← view_word_at s
+  _ ← end_at of.1
+  Ok (mean.Release of.0.0 of.0.1)
+
 abbrev pub arguments_at : Keyword → List ℕ → Result Meaning ℕ
 arguments_at key.View s = view_at s
+arguments_at key.Drop s = named_at mean.Drop s
 arguments_at key.Metric s = metric_at s
 arguments_at key.Window s = window_at s
 arguments_at key.Vfl s = vfl_at s
 arguments_at key.Constrain s = constrain_at s
+arguments_at key.Remove s = named_at mean.Remove s
+arguments_at key.Suggest s = suggest_at s
+arguments_at key.Release s = release_at s
 arguments_at key.Budget s = budget_at s
 arguments_at key.Frames s = bare_at mean.Frames s
 arguments_at key.Rows s = bare_at mean.Rows s

@@ -28,10 +28,14 @@ pub record Linear : Type 0 where
 pub data Meaning : Type 0 where
   Nothing : Meaning
   View : List ℕ → Option (List ℕ) → Meaning
+  Drop : List ℕ → Meaning
   Metric : List ℕ → Fraction → Meaning
   Window : Fraction → Fraction → Meaning
   Vfl : List ℕ → Option Align → FormatMeaning → Meaning
   Constrain : List ℕ → Linear → Meaning
+  Remove : List ℕ → Meaning
+  Suggest : List ℕ → AttrWord → Fraction → Option Meant → Meaning
+  Release : List ℕ → AttrWord → Meaning
   Budget : ℕ → Meaning
   Frames : Meaning
   Rows : Meaning

@@ -47,10 +47,14 @@ name_view (Some t) = Some t.now
 abbrev pub view : Command → mean.Meaning
 view command.Nothing = mean.Nothing
 view (command.View name parent) = mean.View name.now (name_view parent)
+view (command.Drop name) = mean.Drop name.now
 view (command.Metric name value) = mean.Metric name.now value
 view (command.Window width height) = mean.Window width height
 view (command.Vfl group align format) = mean.Vfl group.now align (meaning format)
 view (command.Constrain group line) = mean.Constrain group.now (linear_view line)
+view (command.Remove group) = mean.Remove group.now
+view (command.Suggest name word value priority) = mean.Suggest name.now word value (object_view priority)
+view (command.Release name word) = mean.Release name.now word
 view (command.Budget exchanges) = mean.Budget exchanges
 view command.Frames = mean.Frames
 view command.Rows = mean.Rows

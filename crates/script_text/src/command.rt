@@ -62,6 +62,10 @@ pub enum Command<'a> {
         name: &'a str,
         parent: Option<&'a str>,
     },
+    /// A view that is to leave, with all below it.
+    Drop {
+        name: &'a str,
+    },
     Metric {
         name: &'a str,
         value: Frac,
@@ -79,6 +83,22 @@ pub enum Command<'a> {
     Constrain {
         group: &'a str,
         line: Linear<'a>,
+    },
+    /// A group whose lines are to leave.
+    Remove {
+        group: &'a str,
+    },
+    /// An attribute of the view of this name is to have this value, as far as its priority lets it.
+    Suggest {
+        view: &'a str,
+        word: AttrWord,
+        value: Frac,
+        priority: Option<Object<'a>>,
+    },
+    /// A suggestion that is to leave.
+    Release {
+        view: &'a str,
+        word: AttrWord,
     },
     Budget {
         exchanges: u64,

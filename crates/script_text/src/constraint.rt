@@ -36,8 +36,9 @@ fn object(text: &[u8]) -> Result<(Option<Object<'_>>, &[u8]), usize>
     }
 }
 
+// The priority, where one is written.
 #[tactic(auto, unfolding(crate::specs::LineReading::priority_at))]
-fn priority(text: &[u8]) -> Result<(Option<Object<'_>>, &[u8]), usize>
+pub fn priority(text: &[u8]) -> Result<(Option<Object<'_>>, &[u8]), usize>
     ensures { Gives (λ p. (object_view p.0, p.1.now)) result (priority_at text.now) }
 {
     if pieces::begins(text, b'@') {

@@ -5,10 +5,14 @@
 //!
 //! ```text
 //! view NAME (in NAME)?
+//! drop NAME
 //! metric NAME -? NUMBER
 //! window NUMBER NUMBER
 //! vfl NAME (align ALIGNMENT)? FORMAT
 //! constrain NAME EXPRESSION RELATION EXPRESSION (@ PRIORITY)? (weight WHOLE)?
+//! remove NAME
+//! suggest NAME.ATTRIBUTE -? NUMBER (@ PRIORITY)?
+//! release NAME.ATTRIBUTE
 //! budget WHOLE
 //! frames
 //! rows
@@ -32,6 +36,7 @@ mod formats;
 mod fractions;
 mod laws;
 mod lines;
+mod suggestions;
 mod sums;
 mod terms;
 mod words;

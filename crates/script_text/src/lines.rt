@@ -5,7 +5,7 @@ ghost use Rattle.span_text.specs.Language.{LeavesAt};
 ghost use Rattle.script_text.specs.Grammar.{Line, all_words};
 ghost use Rattle.script_text.specs.Meaning.{Meaning};
 ghost use Rattle.script_text.specs.Meaning as mean;
-ghost use Rattle.script_text.specs.LineReading.{view_at, metric_at, window_at, budget_at, bare_at};
+ghost use Rattle.script_text.specs.LineReading.{view_at, named_at, metric_at, window_at, budget_at, bare_at};
 ghost use Rattle.script_text.specs.LineReading.{arguments_at, command_at, content_at, line_at};
 ghost use Rattle.script_text.specs.Stops.{OnSyntax};
 ghost use Rattle.script_text.specs.View.{view};
@@ -14,6 +14,7 @@ use crate::command::{Command, LineStop};
 use crate::constraint::constrain;
 use crate::formats::vfl;
 use crate::fractions::signed_number;
+use crate::suggestions::{release, suggest};
 use crate::words::{Keyword, first_word};
 use span_text::{PartStop, names, numbers, pieces};
 use std::alloc::Global;
@@ -32,6 +33,24 @@ fn view_line(text: &[u8]) -> Result<Command<'_>, PartStop>
         pieces::end(text)?;
         Ok(Command::View { name, parent: None })
     }
+}
+
+#[tactic(auto, unfolding(crate::specs::LineReading::named_at))]
+fn drop_line(text: &[u8]) -> Result<Command<'_>, PartStop>
+    ensures { GivesOrMemory view result (named_at mean.Drop text.now) }
+{
+    let (name, text) = names::name(text)?;
+    pieces::end(text)?;
+    Ok(Command::Drop { name })
+}
+
+#[tactic(auto, unfolding(crate::specs::LineReading::named_at))]
+fn remove_line(text: &[u8]) -> Result<Command<'_>, PartStop>
+    ensures { GivesOrMemory view result (named_at mean.Remove text.now) }
+{
+    let (group, text) = names::name(text)?;
+    pieces::end(text)?;
+    Ok(Command::Remove { group })
 }
 
 #[tactic(auto, unfolding(crate::specs::LineReading::metric_at))]
@@ -104,10 +123,14 @@ fn arguments(alloc: Global, keyword: Keyword, text: &[u8]) -> Result<Command<'_>
 {
     match keyword {
         Keyword::View => view_line(text),
+        Keyword::Drop => drop_line(text),
         Keyword::Metric => metric_line(text),
         Keyword::Window => window_line(text),
         Keyword::Vfl => vfl(alloc, text),
         Keyword::Constrain => constrain(alloc, text),
+        Keyword::Remove => remove_line(text),
+        Keyword::Suggest => suggest(text),
+        Keyword::Release => release(text),
         Keyword::Budget => budget_line(text),
         Keyword::Frames => frames_line(text),
         Keyword::Rows => rows_line(text),

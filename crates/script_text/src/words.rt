@@ -3,7 +3,7 @@
 ghost use Rattle.std.specs.Prelude.{◌≡◌};
 ghost use Rattle.span_text.specs.Gives.{Gives};
 ghost use Rattle.span_text.specs.Reading.{tried};
-ghost use Rattle.script_text.specs.Grammar.{all_words, alignments, attributes, relations};
+ghost use Rattle.script_text.specs.Grammar.{all_words, alignments, attributes, relations, word_text};
 
 use problem_core::Rel;
 use span_text::pieces::or_else;
@@ -12,10 +12,14 @@ use span_text::pieces::or_else;
 #[derive(Clone, Copy, Debug, PartialEq, Eq)]
 pub enum Keyword {
     View,
+    Drop,
     Metric,
     Window,
     Vfl,
     Constrain,
+    Remove,
+    Suggest,
+    Release,
     Budget,
     Frames,
     Rows,
@@ -47,6 +51,26 @@ pub enum AttrWord {
     Trailing,
 }
 
+impl AttrWord {
+    /// The word as it is written.
+    pub fn text(self) -> &'static str
+        ensures { result.now ≡ word_text self }
+    {
+        match self {
+            AttrWord::Left => "left",
+            AttrWord::Top => "top",
+            AttrWord::Width => "width",
+            AttrWord::Height => "height",
+            AttrWord::Right => "right",
+            AttrWord::Bottom => "bottom",
+            AttrWord::CenterX => "centerX",
+            AttrWord::CenterY => "centerY",
+            AttrWord::Leading => "leading",
+            AttrWord::Trailing => "trailing",
+        }
+    }
+}
+
 // The first word of a line and the text at once behind it.
 pub fn first_word(text: &[u8]) -> Result<(Keyword, &[u8]), usize>
     ensures { Gives (λ p. (p.0, p.1.now)) result (tried all_words text.now) }
@@ -54,10 +78,14 @@ pub fn first_word(text: &[u8]) -> Result<(Keyword, &[u8]), usize>
     let found = or_else(b"rows", Keyword::Rows, text, Err(text.len()));
     let found = or_else(b"frames", Keyword::Frames, text, found);
     let found = or_else(b"budget", Keyword::Budget, text, found);
+    let found = or_else(b"release", Keyword::Release, text, found);
+    let found = or_else(b"suggest", Keyword::Suggest, text, found);
+    let found = or_else(b"remove", Keyword::Remove, text, found);
     let found = or_else(b"constrain", Keyword::Constrain, text, found);
     let found = or_else(b"vfl", Keyword::Vfl, text, found);
     let found = or_else(b"window", Keyword::Window, text, found);
     let found = or_else(b"metric", Keyword::Metric, text, found);
+    let found = or_else(b"drop", Keyword::Drop, text, found);
     or_else(b"view", Keyword::View, text, found)
 }
 
