@@ -16,5 +16,6 @@ pub mod Numbered
 pub mod Quotients
 pub mod RowTerms
 pub mod Shifts
+pub mod SuggestedConstants
 pub mod Totals
 pub mod Wholes

@@ -14,4 +14,5 @@ pub mod Pieces
 pub mod Quotients
 pub mod Shares
 pub mod Stops
+pub mod Suggestions
 pub mod Sums

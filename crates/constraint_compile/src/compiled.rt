@@ -1,5 +1,5 @@
 // Compiled lines.
-ghost use Rattle.std.specs.Prelude.{◌≡◌, map, nat_eq, IfOk};
+ghost use Rattle.std.specs.Prelude.{◌≡◌, ◌++◌, map, nat_eq, IfOk};
 ghost use Rattle.std.specs.List.{list_any};
 ghost use Rattle.std.specs.String.{string_bytes};
 ghost use Rattle.constraint_compile.specs.Inside.{form_view, line_of, IsForm, AreForms};
@@ -64,6 +64,17 @@ impl Compiled {
         ensures { result ≡ list_any (λ v. nat_eq v view.0) self.now.views }
     {
         has_view(&self.views, view)
+    }
+
+    /// Appends the numbers of the rows.
+    pub fn push_numbers(&self, numbers: &mut Vec<u32>) -> Result<(), OutOfMemory>
+        ensures { IfOk result (λ _. numbers.new.items ≡ numbers.old.items ++ map (λ f. f.id) self.now.rows) }
+    {
+        let forms = self.forms();
+        for form in forms {
+            numbers.push(form.id)?;
+        }
+        Ok(())
     }
 
     /// The same rows and views.

@@ -24,6 +24,7 @@ mod scales;
 mod signs;
 mod steps;
 mod stops;
+mod suggestion;
 mod sums;
 mod wide;
 
@@ -35,3 +36,4 @@ pub use format_laws::{
 pub use line::compile_line;
 pub use rows::constants_now;
 pub use stops::{CompileStop, KindWord};
+pub use suggestion::{Suggestion, suggested_constant, suggested_rank};

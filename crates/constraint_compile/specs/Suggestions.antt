@@ -1,0 +1,80 @@
+-- The row of a suggestion: that an attribute of a view has a value.
+use Rattle.std.specs.Prelude.{◌≡◌, ℕ, ◌+◌, ◌*◌, ◌<◌, ◌≤◌, ◌^◌, List, [], ◌∷◌, Option, Some, None, pos, ⊤}
+use Rattle.problem_core.specs.declared.parts.Rel.TheVariants.{Eq}
+use Rattle.problem_core.specs.declared.parts.Term.{Term}
+use Rattle.problem_core.specs.Layout.{Row}
+use Rattle.span_text.specs.Objects.{Meant}
+use Rattle.span_text.specs.Objects as object
+use Rattle.script_text.specs.declared.words.AttrWord.{AttrWord}
+use Rattle.script_text.specs.declared.words.AttrWord.TheVariants as word
+use Rattle.view_tree.specs.Views.{LiveView}
+use Rattle.constraint_compile.specs.Meaning.{MetricList, IsRank, unknown_object}
+use Rattle.constraint_compile.specs.declared.stops.CompileStop.{CompileStop}
+use Rattle.constraint_compile.specs.declared.stops.CompileStop.TheVariants.{Unknown, Kind, Limit, OutOfMemory}
+use Rattle.constraint_compile.specs.declared.stops.KindWord.TheVariants as kind
+use Rattle.constraint_compile.specs.declared.suggestion.Suggestion.{Suggestion}
+
+abbrev pub one_term : ℕ → ℕ → Term
+one_term attr by = record { attr = attr; by = pos by }
+
+-- the number that makes the attribute's halves whole
+abbrev pub scale_of : AttrWord → ℕ
+scale_of word.Left = 1
+scale_of word.Top = 1
+scale_of word.Width = 1
+scale_of word.Height = 1
+scale_of word.Right = 1
+scale_of word.Bottom = 1
+scale_of word.CenterX = 2
+scale_of word.CenterY = 2
+scale_of word.Leading = 1
+scale_of word.Trailing = 1
+
+-- so many times the attribute of the view v, by those that are kept: 4v + 1 to 4v + 4 are its left, top,
+-- width and height
+abbrev pub suggested_terms : ℕ → AttrWord → List Term
+suggested_terms v word.Left = one_term (4 * v + 1) 1 ∷ []
+suggested_terms v word.Top = one_term (4 * v + 2) 1 ∷ []
+suggested_terms v word.Width = one_term (4 * v + 3) 1 ∷ []
+suggested_terms v word.Height = one_term (4 * v + 4) 1 ∷ []
+suggested_terms v word.Right = one_term (4 * v + 1) 1 ∷ one_term (4 * v + 3) 1 ∷ []
+suggested_terms v word.Bottom = one_term (4 * v + 2) 1 ∷ one_term (4 * v + 4) 1 ∷ []
+suggested_terms v word.CenterX = one_term (4 * v + 1) 2 ∷ one_term (4 * v + 3) 1 ∷ []
+suggested_terms v word.CenterY = one_term (4 * v + 2) 2 ∷ one_term (4 * v + 4) 1 ∷ []
+suggested_terms v word.Leading = one_term (4 * v + 1) 1 ∷ []
+suggested_terms v word.Trailing = one_term (4 * v + 1) 1 ∷ one_term (4 * v + 3) 1 ∷ []
+
+-- the row with these terms
+abbrev pub with_terms : Suggestion → List Term → Row
+with_terms s terms = record {
+  id = s.row;
+  rank = s.rank;
+  weight = 1;
+  rel = Eq;
+  scale = scale_of s.word;
+  constant = s.constant;
+  terms = terms;
+}
+
+abbrev pub suggested_row : Suggestion → Row
+suggested_row s = with_terms s (suggested_terms s.view s.word)
+
+-- the numbers are those of a row and of a view
+pub record IsSuggestion (s : Suggestion) : Type 0 where
+  pub row : (0 < s.row) × (s.row < 2 ^ 31)
+  pub rank : s.rank ≤ 1000
+  pub view : s.view < 2 ^ 29
+
+-- where none is written, the priority is 750
+abbrev pub suggested_priority : Option Meant → Option Meant
+suggested_priority None = Some (object.Number (pos 750000))
+suggested_priority (Some priority) = Some priority
+
+-- why a priority stands for no rank
+abbrev pub MayLackRank : List LiveView → MetricList → Option Meant → CompileStop → Type 0
+MayLackRank views metrics priority (Unknown name) = unknown_object views metrics priority ≡ Some name
+MayLackRank views metrics priority (Kind kind.Priority) =
+    (unknown_object views metrics priority ≡ None) × ((rank : ℕ) → IsRank views metrics priority rank → ⊥)
+MayLackRank views metrics priority (Kind _) = ⊥
+MayLackRank views metrics priority (Limit limit) = ⊥
+MayLackRank views metrics priority OutOfMemory = ⊤

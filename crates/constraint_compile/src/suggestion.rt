@@ -1,0 +1,176 @@
+// The row of a suggestion: that an attribute of a view has a value.
+ghost use Rattle.std.specs.Prelude.{◌≡◌, ◌<◌, ◌≤◌, ◌*ℤ◌, pos, ◌∷◌, [], length, None, All, AllPairs};
+ghost use Rattle.std.specs.Prelude.{IfOk, IfErr, OnOk, IfSome, IfNone, OnSome};
+ghost use Rattle.frac_core.specs.Fraction.{IsFitting};
+ghost use Rattle.problem_core.specs.Kept.{IsNumber, IsTerm};
+ghost use Rattle.script_text.specs.View.{object_view};
+ghost use Rattle.constraint_compile.specs.Fractions.{negated, IsConstant, IsSmallConstant};
+ghost use Rattle.constraint_compile.specs.Meaning.{IsRank, unknown_object};
+ghost use Rattle.constraint_compile.specs.Suggestions.{one_term, scale_of, suggested_row, suggested_priority};
+ghost use Rattle.constraint_compile.specs.Suggestions.{with_terms, IsSuggestion, MayLackRank};
+
+use crate::lookups::{rank, unknown_priority};
+use crate::ratios::{Ratio, small_of};
+use crate::stops::{CompileStop, KindWord};
+use frac_core::{Frac, OutOfMemory};
+use name_tables::{Metrics, OwnedName};
+use problem_core::{Rel, Row, Term};
+use script_text::AttrWord;
+use span_text::Object;
+use std::alloc::Global;
+use view_tree::Tree;
+
+/// That an attribute of a view has a value: the number and the rank of the row, the view's number, the
+/// attribute as it is written, and the row's constant.
+#[derive(Clone, Copy, Debug)]
+pub struct Suggestion {
+    pub row: u32,
+    pub rank: u16,
+    pub view: u32,
+    pub word: AttrWord,
+    pub constant: Frac,
+}
+
+/// The priority, in thousandths, where none is written.
+const USUAL: i32 = 750_000;
+
+// The number that makes the attribute's halves whole.
+fn scale_of(word: AttrWord) -> u8
+    ensures value { result ≡ scale_of word }
+    ensures few { result ≤ 2 }
+    ensures above { 0 < result }
+{
+    match word {
+        AttrWord::CenterX | AttrWord::CenterY => 2,
+        AttrWord::Left | AttrWord::Top | AttrWord::Width | AttrWord::Height => 1,
+        AttrWord::Right | AttrWord::Bottom | AttrWord::Leading | AttrWord::Trailing => 1,
+    }
+}
+
+// So many times an attribute.
+fn times(attr: u32, by: u8) -> Term
+    ensures { result ≡ one_term attr by }
+{
+    Term {
+        attr,
+        by: i64::from(by),
+    }
+}
+
+// The numerator times the attribute's scale.
+fn scaled(word: AttrWord, num: i64) -> i128
+    requires { IsFitting num }
+    ensures { result ≡ pos (scale_of word) *ℤ num }
+{
+    i128::from(scale_of(word)) * i128::from(num)
+}
+
+/// The constant of the row of a suggestion of this value, where both of its parts are below 2^40 in size.
+pub fn suggested_constant(word: AttrWord, value: Frac) -> Option<Frac>
+    ensures constant { IfSome result (IsConstant (scale_of word) (negated value)) }
+    ensures small { OnSome result (IsSmallConstant (scale_of word) (negated value)) }
+    ensures none { IfNone result (IsSmallConstant (scale_of word) (negated value) → ⊥) }
+{
+    let num = scaled(word, value.num());
+    let den = i128::from(value.den());
+    small_of(Ratio { num, den })
+}
+
+// The priority, which is 750 where none is written.
+fn or_usual(priority: Option<Object<'_>>) -> Option<Object<'_>>
+    ensures { object_view result ≡ suggested_priority (object_view priority.entry) }
+{
+    match priority {
+        Some(priority) => Some(priority),
+        None => Some(Object::Number { thousandths: USUAL }),
+    }
+}
+
+/// The rank that a suggestion's priority stands for: 750 where none is written. `Unknown` with its name,
+/// where that is neither a view's nor a metric's; `Kind(Priority)` where it is no whole number from 1 to 1000.
+pub fn suggested_rank(
+    alloc: Global,
+    tree: &Tree,
+    metrics: &Metrics,
+    priority: Option<Object<'_>>,
+) -> Result<u16, CompileStop>
+    ensures rank { IfOk result (IsRank tree.now.views metrics.now
+        (suggested_priority (object_view priority.entry))) }
+    ensures known { OnOk result (unknown_object tree.now.views metrics.now
+        (suggested_priority (object_view priority.entry)) ≡ None) }
+    ensures stop { IfErr result (MayLackRank tree.now.views metrics.now
+        (suggested_priority (object_view priority.entry))) }
+{
+    let priority = or_usual(priority);
+    if let Some(name) = unknown_priority(tree, metrics, &priority) {
+        return Err(CompileStop::Unknown(OwnedName::of(alloc, name.as_bytes())?));
+    }
+    match rank(tree, metrics, &priority) {
+        Some(rank) => Ok(rank),
+        None => Err(CompileStop::Kind(KindWord::Priority)),
+    }
+}
+
+impl Suggestion {
+    // The row with these terms.
+    fn with_terms(&self, alloc: Global, terms: &[Term]) -> Result<Row, OutOfMemory>
+        requires kept { IsSuggestion self.now }
+        requires terms { All IsTerm terms.now }
+        requires rising { AllPairs (λ s t. s.attr < t.attr) terms.now }
+        requires few { length terms.now ≤ 2 }
+        ensures { IfOk result (λ row. row ≡ with_terms self.now terms.now) }
+    {
+        let _den = self.constant.den();
+        let scale = i64::from(scale_of(self.word));
+        Row::of(
+            alloc,
+            self.row,
+            self.rank,
+            1,
+            Rel::Eq,
+            scale,
+            self.constant,
+            terms,
+        )
+    }
+
+    // The row of one attribute, once.
+    fn single(&self, alloc: Global, attr: u32) -> Result<Row, OutOfMemory>
+        requires kept { IsSuggestion self.now }
+        requires attr { IsNumber attr }
+        ensures { IfOk result (λ row. row ≡ with_terms self.now (one_term attr 1 ∷ [])) }
+    {
+        self.with_terms(alloc, &[times(attr, 1)])
+    }
+
+    // The row of so many times an edge, and a size.
+    fn pair(&self, alloc: Global, edge: u32, by: u8, size: u32) -> Result<Row, OutOfMemory>
+        requires kept { IsSuggestion self.now }
+        requires edge { IsNumber edge }
+        requires by { (0 < by) × (by ≤ 2) }
+        requires size { IsNumber size }
+        requires rising { edge < size }
+        ensures { IfOk result (λ row. row ≡ with_terms self.now (one_term edge by ∷ one_term size 1 ∷ [])) }
+    {
+        self.with_terms(alloc, &[times(edge, by), times(size, 1)])
+    }
+
+    /// The row.
+    pub fn row(&self, alloc: Global) -> Result<Row, OutOfMemory>
+        requires { IsSuggestion self.now }
+        ensures { IfOk result (λ row. row ≡ suggested_row self.now) }
+    {
+        let (left, top) = (4 * self.view + 1, 4 * self.view + 2);
+        let (width, height) = (4 * self.view + 3, 4 * self.view + 4);
+        match self.word {
+            AttrWord::Left | AttrWord::Leading => self.single(alloc, left),
+            AttrWord::Top => self.single(alloc, top),
+            AttrWord::Width => self.single(alloc, width),
+            AttrWord::Height => self.single(alloc, height),
+            AttrWord::Right | AttrWord::Trailing => self.pair(alloc, left, 1, width),
+            AttrWord::Bottom => self.pair(alloc, top, 1, height),
+            AttrWord::CenterX => self.pair(alloc, left, 2, width),
+            AttrWord::CenterY => self.pair(alloc, top, 2, height),
+        }
+    }
+}
