@@ -64,7 +64,7 @@ size-may t next w h more tree is each =
 -- ---- problems
 
 -- rows of the old attributes
-rows-whole : (views : List LiveView) (next : ℕ) (l : Layout) (more : List Row) → IsSettled l.problem l.values → IsCounted views next l.problem → MayBeAdded (attributes_of views) next more → length l.problem.rows + length more ≤ 2000
+pub rows-whole : (views : List LiveView) (next : ℕ) (l : Layout) (more : List Row) → IsSettled l.problem l.values → IsCounted views next l.problem → MayBeAdded (attributes_of views) next more → length l.problem.rows + length more ≤ 2000
     → IsWhole (with_added l [] more)
 rows-whole views next l more is counted may room =
     added-whole l.problem l.values [] more next (2 ^ 31 + 1) is

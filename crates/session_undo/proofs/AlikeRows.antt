@@ -6,7 +6,7 @@ use Rattle.problem_core.specs.Layout.{Row}
 use Rattle.problem_core.specs.Window.{zero_fraction}
 use Rattle.constraint_compile.specs.Meaning.{MetricList}
 use Rattle.constraint_compile.specs.Compiled.{RowForm, IsRowNow, last_scale}
-use Rattle.session_undo.specs.Items.{Item, OfWindow, OfView, Sized, OfLine, AreItemRows, AreRows, without_constant}
+use Rattle.session_undo.specs.Items.{Item, OfWindow, OfView, Sized, OfLine, Suggested, AreItemRows, AreRows, without_constant}
 use Rattle.session_undo.proofs.SameRow.{same-row}
 use Rattle.session_undo.proofs.Wholes.{shape}
 
@@ -31,6 +31,7 @@ alike-item a b OfWindow xs ys one two = ap (map without_constant) (one ∙ sym t
 alike-item a b (OfView first id) xs ys one two = ap (map without_constant) (one ∙ sym two)
 alike-item a b (Sized first width height) xs ys one two = ap (map without_constant) (one ∙ sym two)
 alike-item a b (OfLine group line) xs ys one two = rows-now a line.rows xs one.long one.each ∙ sym (rows-now b line.rows ys two.long two.each)
+alike-item a b (Suggested s) xs ys one two = ap (map without_constant) (one ∙ sym two)
 
 pub alike-rows : (a b : MetricList) (items : List Item) (xs ys : List Row) → AreRows a items xs → AreRows b items ys → map without_constant xs ≡ map without_constant ys
 alike-rows a b [] xs ys one two = ap (map without_constant) (one ∙ sym two)

@@ -12,7 +12,7 @@ use Rattle.layout_solver.specs.Layouts.{Layout, AreBest, stays_at}
 use Rattle.session_undo.specs.Items.{OfWindow}
 use Rattle.session_undo.specs.Scene.{new_values, first_scene}
 use Rattle.session_undo.specs.Attributes.{IsCounted}
-use Rattle.session_undo.specs.Kept.{IsItem, IsKept, scene_at}
+use Rattle.session_undo.specs.Kept.{IsItem, IsKept, scene_at, IsNamed}
 use Rattle.session_undo.proofs.BestValues.{best-unique}
 
 zero-IsLowest : IsLowest zero_fraction
@@ -58,6 +58,7 @@ pub first-kept : (t : ViewTree) (l : Layout) → l.problem ≡ first_problem →
 first-kept t l is counted = record {
   are_rows = (structural_rows, [], ap (λ (p : Problem). p.rows) is, refl, refl);
   each = All-from_recursion IsItem (OfWindow ∷ []) (tt, tt);
+  named = All-from_recursion (IsNamed t.views) (OfWindow ∷ []) (tt, tt);
   next = lit< tt;
   counted = counted;
 }

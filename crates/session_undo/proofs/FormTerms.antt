@@ -22,11 +22,11 @@ use Rattle.session_undo.proofs.Attributes.{contains-left, contains-top, contains
 
 -- ---- a view has only its own attributes
 
-without : (a b v : ℕ) (e s : ℤ) → (a ≡ v → ⊥) → (b ≡ v → ⊥) → coefficient v (record { attr = a; by = e } ∷ record { attr = b; by = s } ∷ []) ≡ pos 0
+pub without : (a b v : ℕ) (e s : ℤ) → (a ≡ v → ⊥) → (b ≡ v → ⊥) → coefficient v (record { attr = a; by = e } ∷ record { attr = b; by = s } ∷ []) ≡ pos 0
 without a b v e s first second = rw (ne_eqb a v first, ne_eqb b v second) refl
 
 -- v is none of the view's attributes
-abbrev IsElsewhere : ℕ → ℕ → Type 0
+abbrev pub IsElsewhere : ℕ → ℕ → Type 0
 IsElsewhere id v = Contains (view_attributes id) v → ⊥
 
 sideways : (id v e s : ℕ) → IsElsewhere id v → coefficient v (horizontal id e s) ≡ pos 0
@@ -49,7 +49,7 @@ no-coefficient id v word.Height off = upright id v 0 2 off
 
 -- ---- views that are found by their names
 
-found-among : (views : List LiveView) (name : List ℕ) (w : LiveView) (v : ℕ) → view_named views name ≡ Some w → Contains (view_attributes w.id) v → Contains (attributes_of views) v
+pub found-among : (views : List LiveView) (name : List ℕ) (w : LiveView) (v : ℕ) → view_named views name ≡ Some w → Contains (view_attributes w.id) v → Contains (attributes_of views) v
 found-among [] name w v found inside = absurd (none-some w found)
 found-among (u ∷ views) name w v found inside =
     elim (bytes_eq name u.name) as (λ b. cond b (Some u) (view_named views name) ≡ Some w → Contains (attributes_of (u ∷ views)) v) [
@@ -59,7 +59,7 @@ found-among (u ∷ views) name w v found inside =
 
 -- ---- shares
 
-no-share-in : (o : Option LiveView) (by : Fraction) (w : AttrWord) (v : ℕ) → ((u : LiveView) → o ≡ Some u → IsElsewhere u.id v) → (share_in o by w v).num ≡ pos 0
+pub no-share-in : (o : Option LiveView) (by : Fraction) (w : AttrWord) (v : ℕ) → ((u : LiveView) → o ≡ Some u → IsElsewhere u.id v) → (share_in o by w v).num ≡ pos 0
 no-share-in None by w v off = refl
 no-share-in (Some u) by w v off = ap (λ (z : ℤ). by.num *ℤ z) (no-coefficient u.id v w (off u refl)) ∙ mul-zero_ℤ by.num
 
@@ -68,7 +68,7 @@ no-share views v by (mean.Attr name w) off = no-share-in (view_named views name)
 no-share views v by (mean.Metric name) off = refl
 no-share views v by mean.One off = refl
 
-zeros : (d e : ℕ) (x y : ℤ) → x ≡ pos 0 → y ≡ pos 0 → x *ℤ pos e +ℤ y *ℤ pos d ≡ pos 0
+pub zeros : (d e : ℕ) (x y : ℤ) → x ≡ pos 0 → y ≡ pos 0 → x *ℤ pos e +ℤ y *ℤ pos d ≡ pos 0
 zeros d e x y h k = rw (h, k) (let z : pos 0 *ℤ pos e +ℤ pos 0 *ℤ pos d ≡ pos 0 = omega (arith, ints) in z)
 
 no-sum : (views : List LiveView) (v : ℕ) (terms : List mean.Term) → (Contains (attributes_of views) v → ⊥) → (sum_at views terms v).num ≡ pos 0
@@ -89,7 +89,7 @@ share-above views v by (mean.Attr name w) above = share-in-above (view_named vie
 share-above views v by (mean.Metric name) above = omega arith
 share-above views v by mean.One above = omega arith
 
-sum-above : (views : List LiveView) (v : ℕ) (terms : List mean.Term) → Each HasDenominator terms → 0 < (sum_at views terms v).den
+pub sum-above : (views : List LiveView) (v : ℕ) (terms : List mean.Term) → Each HasDenominator terms → 0 < (sum_at views terms v).den
 sum-above views v [] all = omega arith
 sum-above views v (t ∷ terms) all = mul-pos (share-above views v t.by t.of all.0) (sum-above views v terms all.1)
 

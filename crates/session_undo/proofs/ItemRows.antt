@@ -1,5 +1,5 @@
 -- The rows of what is held.
-use Rattle.std.proofs.Common.{◌≡◌, ℕ, zero, suc, ◌+◌, ◌<◌, ◌≤◌, Bool, true, false, true≢false, arith, length-append, cond, List, [], ◌∷◌, ◌++◌, take, length, filter, refl, sym, ap, ◌∙◌, subst, append_assoc, All}
+use Rattle.std.proofs.Common.{◌≡◌, inl, inr, Some, ℕ, zero, suc, ◌+◌, ◌<◌, ◌≤◌, Bool, true, false, true≢false, arith, length-append, cond, List, [], ◌∷◌, ◌++◌, take, length, filter, refl, sym, ap, ◌∙◌, subst, append_assoc, All}
 use Rattle.std.proofs.Math.ListN.{get_or}
 use Rattle.std.proofs.lemmas.List.{append-nil, length-map, take_more, map-append}
 use Rattle.std.proofs.lemmas.List.Sums.{count_by-le-length, length-filter}
@@ -17,8 +17,11 @@ use Rattle.constraint_compile.specs.declared.stops.CompileStop.{CompileStop}
 use Rattle.constraint_compile.specs.declared.stops.CompileStop.TheVariants as stop
 use Rattle.constraint_compile.specs.Meaning.{MetricList}
 use Rattle.session_undo.specs.declared.item.Item as declared
-use Rattle.session_undo.specs.Items.{Item, OfWindow, OfView, Sized, OfLine, AreItemRows, AreRows, IsSmallItem, sized, resized, is_line, line_count, is_size, has_size}
-use Rattle.session_undo.specs.Kept.{item_of, items_of, IsItem, MayLackItemRows, MayLackRows}
+use Rattle.session_undo.specs.Items.{Item, OfWindow, OfView, Sized, OfLine, Suggested, AreItemRows, AreRows, IsSmallItem, sized, resized, is_line, line_count, is_size, has_size}
+use Rattle.session_undo.specs.Kept.{item_of, items_of, IsItem, IsNamed, MayLackItemRows, MayLackRows}
+use Rattle.session_undo.specs.Attributes.{IsClose}
+use Rattle.view_tree.specs.Views.{LiveView}
+use Rattle.view_tree.proofs.ViewLemmas.{HasParent-append}
 use Rattle.session_undo.proofs.Lists.{all-unmapped}
 
 -- ---- items of the code
@@ -53,6 +56,7 @@ item-small ms OfWindow rows are = tt
 item-small ms (OfView first id) rows are = tt
 item-small ms (Sized first width height) rows are = tt
 item-small ms (OfLine group line) rows are = are.small
+item-small ms (Suggested s) rows are = tt
 
 each-small : (ms : MetricList) (items : List Item) (rows : List Row) → AreRows ms items rows → Each (IsSmallItem ms) items
 each-small ms [] rows are = tt
@@ -97,6 +101,7 @@ sized-IsItem w h OfWindow is = is
 sized-IsItem w h (OfView first id) is = is
 sized-IsItem w h (Sized first width height) is = is
 sized-IsItem w h (OfLine group line) is = is
+sized-IsItem w h (Suggested s) is = is
 
 each-resized : (w h : Fraction) (held : List Item) → Each IsItem held → Each IsItem (resized w h held)
 each-resized w h [] each = tt
@@ -107,6 +112,40 @@ each-resized w h (item ∷ held) each = elim (is_size item) as (λ b. Each IsIte
 
 pub all-resized-IsItem : (w h : Fraction) (held : List Item) → All IsItem held → All IsItem (resized w h held)
 all-resized-IsItem w h held all = All-from_recursion IsItem (resized w h held) (each-resized w h held (recursion_from_All IsItem held all))
+
+-- a size has no names
+module _ (views : List LiveView) where
+  sized-IsNamed : (w h : Fraction) (item : Item) → IsNamed views item → IsNamed views (sized w h item)
+  sized-IsNamed w h OfWindow is = is
+  sized-IsNamed w h (OfView first id) is = is
+  sized-IsNamed w h (Sized first width height) is = is
+  sized-IsNamed w h (OfLine group line) is = is
+  sized-IsNamed w h (Suggested s) is = is
+
+  each-named : (w h : Fraction) (held : List Item) → Each (IsNamed views) held → Each (IsNamed views) (resized w h held)
+  each-named w h [] each = tt
+  each-named w h (item ∷ held) each = elim (is_size item) as (λ b. Each (IsNamed views) (cond b (sized w h item ∷ held) (item ∷ resized w h held))) [
+    | true ↦ (sized-IsNamed w h item each.0, each.1)
+    | false ↦ (each.0, each-named w h held each.1)
+  ]
+
+  pub all-resized-IsNamed : (w h : Fraction) (held : List Item) → All (IsNamed views) held → All (IsNamed views) (resized w h held)
+  all-resized-IsNamed w h held all = All-from_recursion (IsNamed views) (resized w h held) (each-named w h held (recursion_from_All (IsNamed views) held all))
+
+-- views that come leave what is named
+child-append : (views more : List LiveView) (named : List ℕ) (id : ℕ) → IsClose views named id → IsClose (views ++ more) named id
+child-append views more named id (inl here) = inl here
+child-append views more named id (inr (child, known, has)) = inr (child, known, HasParent-append views more child (Some id) has)
+
+named-append : (views more : List LiveView) (item : Item) → IsNamed views item → IsNamed (views ++ more) item
+named-append views more OfWindow is = is
+named-append views more (OfView first id) is = is
+named-append views more (Sized first width height) is = is
+named-append views more (OfLine group line) is = λ k d within j e inside. (let owner = is k d within j e inside in (owner.0, child-append views more line.views owner.0 owner.1, owner.2))
+named-append views more (Suggested s) is = is
+
+pub all-named-append : (views more : List LiveView) (held : List Item) → All (IsNamed views) held → All (IsNamed (views ++ more)) held
+all-named-append views more held all k d within = named-append views more (get_or held k d) (all k d within)
 
 -- ---- how many, and whether one is there
 

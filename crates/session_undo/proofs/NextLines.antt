@@ -19,7 +19,8 @@ use Rattle.constraint_compile.specs.Stops.{IsCompiled}
 use Rattle.constraint_compile.specs.FormatParts.{End, Span, Part, View, Bar, Asks, parts}
 use Rattle.constraint_compile.specs.FormatLines.{line_of, lines_of, minus_terms, object_term, number}
 use Rattle.constraint_compile.specs.FormatRows.{AreRowsOf, IsCompiledFormat}
-use Rattle.session_undo.specs.Attributes.{attributes_of, AreNumberedFrom, IsNextLine}
+use Rattle.session_undo.specs.Attributes.{attributes_of, AreNumberedFrom, AreOwned, IsNextLine}
+use Rattle.session_undo.proofs.Owners.{constrain-owned}
 use Rattle.session_undo.proofs.FormTerms.{HasDenominator, terms-among}
 
 -- ---- linear lines
@@ -33,6 +34,7 @@ constrain-next views ms l number c is above =
     record {
       numbers = subst (AreNumberedFrom number) (sym row.1) (row.2.id, tt);
       attributes = subst (All (IsAmong views)) (sym row.1) (All-from_recursion (IsAmong views) (row.0 ∷ []) (terms-among views (terms_of l) row.0 above row.2.sum, tt));
+      owned = constrain-owned views ms l number c is above;
     }
 
 -- the terms of a line as it is read
@@ -62,7 +64,7 @@ end-above views w o (Some e) = (decimal-above false 1000, (object-above views w 
 line-above : (views : List LiveView) (s : Span) (p : PredMeaning) → All HasDenominator (terms_of (line_of views s p))
 line-above views s p = All-from_recursion HasDenominator (terms_of (line_of views s p)) (decimal-above false 1000, end-above views s.plus.word p.object s.minus)
 
-lines-above : (views : List LiveView) (ps : List Part) → Each (λ l. All HasDenominator (terms_of l)) (lines_of views ps)
+pub lines-above : (views : List LiveView) (ps : List Part) → Each (λ l. All HasDenominator (terms_of l)) (lines_of views ps)
 lines-above views [] = tt
 lines-above views (View name ∷ ps) = lines-above views ps
 lines-above views (Bar name ∷ ps) = lines-above views ps
@@ -80,8 +82,9 @@ rows-among views ms [] n (r ∷ rows) above are = absurd are
 rows-among views ms (l ∷ lines) n [] above are = absurd are
 rows-among views ms (l ∷ lines) n (r ∷ rows) above are = (terms-among views (terms_of l) r above.0 are.0.is_row.sum, rows-among views ms lines (n + 1) rows above.1 are.1)
 
-pub format-next : (views : List LiveView) (ms : MetricList) (f : FormatMeaning) (align : Option Align) (first : ℕ) (c : CompiledLine) → IsCompiledFormat views ms f align first c → IsNextLine views first c
-format-next views ms f align first c is = record {
+pub format-next : (views : List LiveView) (ms : MetricList) (f : FormatMeaning) (align : Option Align) (first : ℕ) (c : CompiledLine) → AreOwned views c → IsCompiledFormat views ms f align first c → IsNextLine views first c
+format-next views ms f align first c owned is = record {
+  owned = owned;
   numbers = rows-numbered views ms (lines_of views (parts f align)) first c.rows is.rows;
   attributes = All-from_recursion (IsAmong views) c.rows (rows-among views ms (lines_of views (parts f align)) first c.rows (lines-above views (parts f align)) is.rows);
 }

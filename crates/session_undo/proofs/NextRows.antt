@@ -52,7 +52,7 @@ shapes-now ms (f ∷ forms) (r ∷ rows) long each =
     (shapes-now ms forms rows (omega (arith, long)) (λ i g q within. each (suc i) g q (omega (arith, within))))
 
 -- what holds of the shapes of the forms holds of those of the rows
-each-now : (P : ℕ × List Term → Type 0) (ms : MetricList) (forms : List RowForm) (rows : List Row) → AreRowsNow ms forms rows → All (λ f. P (form_shape f)) forms → All (λ r. P (shape r)) rows
+pub each-now : (P : ℕ × List Term → Type 0) (ms : MetricList) (forms : List RowForm) (rows : List Row) → AreRowsNow ms forms rows → All (λ f. P (form_shape f)) forms → All (λ r. P (shape r)) rows
 each-now P ms forms rows are h = all-unmapped shape P rows (subst (All P) (sym (shapes-now ms forms rows are.long are.each)) (All-map P form_shape forms h))
 
 pub line-may : (views : List LiveView) (next : ℕ) (line : CompiledLine) (ms : MetricList) (rows : List Row) → IsNextLine views next line → AreRowsNow ms line.rows rows → All IsRow rows → MayBeAdded (attributes_of views) next rows

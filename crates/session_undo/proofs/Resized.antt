@@ -16,7 +16,7 @@ use Rattle.constraint_compile.specs.Fractions.{plus, negated}
 use Rattle.layout_solver.specs.declared.engine.Change.{Change}
 use Rattle.layout_solver.specs.Shifts.{CanShift, shifted}
 use Rattle.session_undo.specs.declared.item.Item as declared
-use Rattle.session_undo.specs.Items.{Item, Size, OfWindow, OfView, Sized, OfLine, AreRows, size_rows, is_size, has_size, sized, resized, own_size, size_of}
+use Rattle.session_undo.specs.Items.{Item, Size, OfWindow, OfView, Sized, OfLine, Suggested, AreRows, size_rows, is_size, has_size, sized, resized, own_size, size_of}
 use Rattle.session_undo.specs.Kept.{IsItem, item_of, items_of}
 use Rattle.session_undo.specs.Machine.{IsFarSize}
 use Rattle.session_undo.proofs.ConstantChanges.{change}
@@ -72,6 +72,7 @@ none-held (OfWindow ∷ held) none = none-held held none
 none-held (OfView first id ∷ held) none = none-held held none
 none-held (Sized first w h ∷ held) none = absurd (none-some _ (sym none))
 none-held (OfLine group line ∷ held) none = none-held held none
+none-held (Suggested s ∷ held) none = none-held held none
 
 pub some-held : (held : List Item) (s : Size) → size_of held ≡ Some s → has_size held ≡ true
 some-held [] s some = absurd (none-some s some)
@@ -79,6 +80,7 @@ some-held (OfWindow ∷ held) s some = some-held held s some
 some-held (OfView first id ∷ held) s some = some-held held s some
 some-held (Sized first w h ∷ held) s some = refl
 some-held (OfLine group line ∷ held) s some = some-held held s some
+some-held (Suggested own ∷ held) s some = some-held held s some
 
 -- ---- its number
 
@@ -90,6 +92,7 @@ first-number (Sized first w h ∷ held) s each some =
     let same : record { first = first; width = w; height = h } ≡ s = same_Some (record { first = first; width = w; height = h }) s some in
     subst (λ (t : Size). (0 < t.first) × (t.first < 2 ^ 31)) same each.0
 first-number (OfLine group line ∷ held) s each some = first-number held s each.1 some
+first-number (Suggested own ∷ held) s each some = first-number held s each.1 some
 
 pub size-number : (held : List Item) (s : Size) → All IsItem held → size_of held ≡ Some s → (0 < s.first) × (s.first < 2 ^ 31)
 size-number held s each some = first-number held s (recursion_from_All IsItem held each) some
@@ -124,6 +127,9 @@ around ms (Sized n x y ∷ held) rows w h s (front, back, is, first, rest) some 
     let same : record { first = n; width = x; height = y } ≡ s = same_Some (record { first = n; width = x; height = y }) s some in
     subst (λ (t : Size). AreAround ms (Sized n x y ∷ held) rows w h t) same (size-here ms held rows front back w h (record { first = n; width = x; height = y }) is first rest)
 around ms (OfLine group line ∷ held) rows w h s (front, back, is, first, rest) some =
+    let r = around ms held back w h s rest some in
+    record { pre = front ++ r.pre; post = r.post; before = is ∙ ap (λ (b : List Row). front ++ b) r.before ∙ sym (append_assoc front r.pre _); after = (front, r.pre ++ (size_rows s.first w h ++ r.post), append_assoc front r.pre _, first, r.after) }
+around ms (Suggested own ∷ held) rows w h s (front, back, is, first, rest) some =
     let r = around ms held back w h s rest some in
     record { pre = front ++ r.pre; post = r.post; before = is ∙ ap (λ (b : List Row). front ++ b) r.before ∙ sym (append_assoc front r.pre _); after = (front, r.pre ++ (size_rows s.first w h ++ r.post), append_assoc front r.pre _, first, r.after) }
 

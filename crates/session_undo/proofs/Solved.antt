@@ -22,9 +22,9 @@ use Rattle.session_undo.specs.Items.{Item, Size, OfView, Sized, OfLine, AreRows,
 use Rattle.session_undo.specs.Scene.{Scene, moved, AreDraftRows, with_line, with_window}
 use Rattle.session_undo.specs.Machine.{IsProblemOf, IsSolved, IsStart, IsStopped}
 use Rattle.session_undo.specs.Adding.{StopsAt, IsNoConflict, from_corner, from_shifts, view_draft, metrics_draft}
-use Rattle.session_undo.specs.Attributes.{IsCounted}
-use Rattle.session_undo.specs.Kept.{IsItem, IsKept, scene_at}
-use Rattle.session_undo.proofs.ItemRows.{rows-more, all-more, all-resized-IsItem}
+use Rattle.session_undo.specs.Attributes.{AreOwned, IsCounted}
+use Rattle.session_undo.specs.Kept.{IsItem, IsKept, IsNamed, scene_at}
+use Rattle.session_undo.proofs.ItemRows.{rows-more, all-more, all-resized-IsItem, all-resized-IsNamed}
 use Rattle.session_undo.proofs.Moves.{moved-is, moved-still, moved-more}
 use Rattle.session_undo.proofs.NewViews.{view-possible}
 use Rattle.session_undo.proofs.Reached.{reached, settled}
@@ -36,7 +36,7 @@ abbrev parts : Scene → List Item → ℕ → Layout → Scene
 parts draft held next l = record draft { held = held; next_row = next; rows = l.problem.rows; stays = l.problem.stays; values = l.values }
 
 -- the draft with the engine's rows and values
-solved-at : (scene draft : Scene) (held : List Item) (next : ℕ) (l : Layout) (start : Start) (budget : ℕ)
+pub solved-at : (scene draft : Scene) (held : List Item) (next : ℕ) (l : Layout) (start : Start) (budget : ℕ)
     → held ≡ draft.held → next ≡ draft.next_row → l.problem.stays ≡ draft.stays → AreDraftRows draft l.problem.rows
     → AreBest l.problem l.values → IsStart scene l.problem.rows start
     → (path : Path) × IsRunFrom start l.problem budget path l.values
@@ -56,10 +56,10 @@ solved-at scene draft held next l start budget held_is next_is stays_is are best
   },
 )
 
-rows_is : (p q : Problem) → p ≡ q → p.rows ≡ q.rows
+pub rows_is : (p q : Problem) → p ≡ q → p.rows ≡ q.rows
 rows_is p q e = ap (λ (r : Problem). r.rows) e
 
-stays_is : (p q : Problem) → p ≡ q → p.stays ≡ q.stays
+pub stays_is : (p q : Problem) → p ≡ q → p.stays ≡ q.stays
 stays_is p q e = ap (λ (r : Problem). r.stays) e
 
 -- what stops the engine stops the draft
@@ -69,7 +69,7 @@ over-stops scene draft budget (run.Unfit at) h = h
 over-stops scene draft budget (run.Spent path) h = h
 over-stops scene draft budget run.OutOfMemory h = tt
 
-stops-at : (scene draft : Scene) (rows : List Row) (start : Start) (stays : List Stay) (budget : ℕ) (s : RunStop)
+pub stops-at : (scene draft : Scene) (rows : List Row) (start : Start) (stays : List Stay) (budget : ℕ) (s : RunStop)
     → AreDraftRows draft rows → draft.stays ≡ stays → IsStart scene rows start
     → IsStopFrom start (record { rows = rows; stays = stays }) budget s → StopsAt scene draft budget s
 stops-at scene draft rows start stays budget s are is begins stops =
@@ -87,18 +87,18 @@ abbrev pub attrs_of : ℕ → List ℕ
 attrs_of id = (4 * id + 1) ∷ (4 * id + 2) ∷ (4 * id + 3) ∷ (4 * id + 4) ∷ []
 
 module _ (tree : ViewTree) (ms : MetricList) (held : List Item) (next : ℕ) (l : Layout) (kept : IsKept (scene_at tree ms held next l)) (sound : IsKeptLayout l) where
-  is : IsSettled l.problem l.values
+  pub is : IsSettled l.problem l.values
   is = settled l sound
 
-  still : moved l.problem.stays l.values ≡ stays_at (l.values ++ zeros [])
+  pub still : moved l.problem.stays l.values ≡ stays_at (l.values ++ zeros [])
   still = moved-still l.problem.stays l.values is.attributes is.rising
 
   -- more rows join at the kept corner
-  kept-start : (rows more : List Row) → rows ≡ l.problem.rows ++ more → IsStart (scene_at tree ms held next l) rows (from_corner l more)
+  pub kept-start : (rows more : List Row) → rows ≡ l.problem.rows ++ more → IsStart (scene_at tree ms held next l) rows (from_corner l more)
   kept-start rows more e = record { before = refl; kept = reached l sound; way = inl (record { primal = refl; parts = e }) }
 
   -- constants change at the kept corner
-  shift-start : (rows : List Row) (to : List Change) → rows ≡ shifted to l.problem.rows → IsStart (scene_at tree ms held next l) rows (from_shifts l)
+  pub shift-start : (rows : List Row) (to : List Change) → rows ≡ shifted to l.problem.rows → IsStart (scene_at tree ms held next l) rows (from_shifts l)
   shift-start rows to e = record { before = refl; kept = reached l sound; way = inr (record { dual = refl; none = refl; alike = ap (map without_constant) e ∙ shifted-alike to l.problem.rows }) }
 
   abbrev Run : List Row → Layout → ℕ → Type 0
@@ -110,10 +110,10 @@ module _ (tree : ViewTree) (ms : MetricList) (held : List Item) (next : ℕ) (l 
   abbrev Solved : Scene → ℕ → Scene → Type 0
   Solved draft budget new = (path : Path) × IsSolved (scene_at tree ms held next l) draft budget path new
 
-  moves : moved l.problem.stays l.values ≡ stays_at l.values
+  pub moves : moved l.problem.stays l.values ≡ stays_at l.values
   moves = moved-is l.problem.stays l.values is.attributes is.rising
 
-  shift-stops : (draft : Scene) (to : List Change) (budget : ℕ) (s : RunStop) → AreDraftRows draft (shifted to l.problem.rows) → draft.stays ≡ stays_at l.values → IsStopFrom (from_shifts l) (with_shifts l to) budget s
+  pub shift-stops : (draft : Scene) (to : List Change) (budget : ℕ) (s : RunStop) → AreDraftRows draft (shifted to l.problem.rows) → draft.stays ≡ stays_at l.values → IsStopFrom (from_shifts l) (with_shifts l to) budget s
       → StopsAt (scene_at tree ms held next l) draft budget s
   shift-stops draft to budget s are same stops =
       stops-at (scene_at tree ms held next l) draft (shifted to l.problem.rows) (from_shifts l) (stays_at l.values) budget s are same (shift-start (shifted to l.problem.rows) to refl) stops
@@ -135,13 +135,14 @@ module _ (tree : ViewTree) (ms : MetricList) (held : List Item) (next : ℕ) (l 
       (subst (AreRows ms (held ++ OfView next id ∷ [])) (sym (rows_is new.problem (with_added l (attrs_of id) more) done)) (rows-more ms held (OfView next id) l.problem.rows more kept.are_rows more_is))
       best (kept-start new.problem.rows more (rows_is new.problem (with_added l (attrs_of id) more) done)) runs
 
-  pub view-kept : (new_tree : ViewTree) (items : List Item) (new : Layout) (id : ℕ) (more : List Row) → more ≡ view_rows next id → id < 2 ^ 29 → next < 2 ^ 31 → new.problem ≡ with_added l (attrs_of id) more
+  pub view-kept : (new_tree : ViewTree) (items : List Item) (new : Layout) (id : ℕ) (more : List Row) → All (IsNamed new_tree.views) held → more ≡ view_rows next id → id < 2 ^ 29 → next < 2 ^ 31 → new.problem ≡ with_added l (attrs_of id) more
       → items ≡ held ++ OfView next id ∷ [] → IsCounted new_tree.views (next + 2) new.problem → IsKept (scene_at new_tree ms items (next + 2) new)
-  view-kept new_tree items new id more more_is small below done items_is counted =
+  view-kept new_tree items new id more named more_is small below done items_is counted =
       subst (λ (hs : List Item). IsKept (scene_at new_tree ms hs (next + 2) new)) (sym items_is)
       (record {
         are_rows = subst (AreRows ms (held ++ OfView next id ∷ [])) (sym (rows_is new.problem (with_added l (attrs_of id) more) done)) (rows-more ms held (OfView next id) l.problem.rows more kept.are_rows more_is);
         each = all-more IsItem held (OfView next id) kept.each ((kept.next, below), small);
+        named = all-more (IsNamed new_tree.views) held (OfView next id) named tt;
         next = omega (arith, kept.next);
         counted = counted;
       })
@@ -164,13 +165,14 @@ module _ (tree : ViewTree) (ms : MetricList) (held : List Item) (next : ℕ) (l 
       (subst (AreRows ms (held ++ OfLine group line ∷ [])) (sym (rows_is new.problem (with_added l [] more) done)) (rows-more ms held (OfLine group line) l.problem.rows more kept.are_rows are))
       best (kept-start new.problem.rows more (rows_is new.problem (with_added l [] more) done)) runs
 
-  pub line-kept : (items : List Item) (now : ℕ) (new : Layout) (group : List ℕ) (line : CompiledLine) (more : List Row) → AreRowsNow ms line.rows more → new.problem ≡ with_added l [] more
+  pub line-kept : (items : List Item) (now : ℕ) (new : Layout) (group : List ℕ) (line : CompiledLine) (more : List Row) → AreOwned tree.views line → AreRowsNow ms line.rows more → new.problem ≡ with_added l [] more
       → items ≡ held ++ OfLine group line ∷ [] → next ≤ now → IsCounted tree.views now new.problem → IsKept (scene_at tree ms items now new)
-  line-kept items now new group line more are done items_is up counted =
+  line-kept items now new group line more owned are done items_is up counted =
       subst (λ (hs : List Item). IsKept (scene_at tree ms hs now new)) (sym items_is)
       (record {
         are_rows = subst (AreRows ms (held ++ OfLine group line ∷ [])) (sym (rows_is new.problem (with_added l [] more) done)) (rows-more ms held (OfLine group line) l.problem.rows more kept.are_rows are);
         each = all-more IsItem held (OfLine group line) kept.each tt;
+        named = all-more (IsNamed tree.views) held (OfLine group line) kept.named owned;
         next = omega (arith, kept.next, up);
         counted = counted;
       })
@@ -205,6 +207,7 @@ module _ (tree : ViewTree) (ms : MetricList) (held : List Item) (next : ℕ) (l 
       (record {
         are_rows = subst (AreRows ms (held ++ Sized next w h ∷ [])) (sym (rows_is new.problem (with_added l [] more) done)) (rows-more ms held (Sized next w h) l.problem.rows more kept.are_rows are);
         each = all-more IsItem held (Sized next w h) kept.each (kept.next, below);
+        named = all-more (IsNamed tree.views) held (Sized next w h) kept.named tt;
         next = omega (arith, kept.next);
         counted = counted;
       })
@@ -243,7 +246,7 @@ module _ (tree : ViewTree) (ms : MetricList) (held : List Item) (next : ℕ) (l 
       → IsCounted tree.views next new.problem → IsKept (scene_at tree ms items next new)
   again-kept items new w h size some done items_is counted =
       subst (λ (hs : List Item). IsKept (scene_at tree ms hs next new)) (sym items_is)
-      (record { are_rows = again-are new w h size some done; each = all-resized-IsItem w h held kept.each; next = kept.next; counted = counted })
+      (record { are_rows = again-are new w h size some done; each = all-resized-IsItem w h held kept.each; named = all-resized-IsNamed tree.views w h held kept.named; next = kept.next; counted = counted })
 
   -- ---- metrics
 
@@ -265,7 +268,7 @@ module _ (tree : ViewTree) (ms : MetricList) (held : List Item) (next : ℕ) (l 
 
   pub metric-kept : (new_ms : MetricList) (new : Layout) (to : List Change) (rows : List Row) → AreRows new_ms held rows → shifted to l.problem.rows ≡ rows → new.problem ≡ with_shifts l to → IsCounted tree.views next new.problem
       → IsKept (scene_at tree new_ms held next new)
-  metric-kept new_ms new to rows are shifts done counted = record { are_rows = metric-are new_ms new to rows are shifts done; each = kept.each; next = kept.next; counted = counted }
+  metric-kept new_ms new to rows are shifts done counted = record { are_rows = metric-are new_ms new to rows are shifts done; each = kept.each; named = kept.named; next = kept.next; counted = counted }
 
   -- ---- what a command would solve
 

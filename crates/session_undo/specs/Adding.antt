@@ -1,48 +1,87 @@
 -- Parts of the steps.
-use Rattle.std.specs.Prelude.{◌≡◌, ◌⊎◌, ℕ, ◌+◌, ◌<◌, ◌≤◌, true, false, List, [], ◌∷◌, ◌++◌, length, Some}
-use Rattle.std.specs.Prelude.{IsSome}
+use Rattle.std.specs.Prelude.{◌≡◌, ◌≢◌, ℕ, ◌+◌, ◌<◌, ◌≤◌, true, false, List, [], ◌∷◌, ◌++◌, length, Some}
+use Rattle.std.specs.Prelude.{IsSome, Option, None}
+use Rattle.span_text.specs.Objects.{Meant}
+use Rattle.script_text.specs.declared.words.AttrWord.{AttrWord}
 use Rattle.name_tables.specs.declared.stops.LimitWord.{LimitWord}
 use Rattle.name_tables.specs.declared.stops.LimitWord.TheVariants as word
 use Rattle.view_tree.specs.Views.{ViewTree, LiveView, view_named}
 use Rattle.view_tree.specs.Views as tree
+use Rattle.view_tree.specs.Drops.{AreGoing}
 use Rattle.frac_core.specs.Fraction.{Fraction}
 use Rattle.problem_core.specs.Layout.{Row}
-use Rattle.constraint_compile.specs.Meaning.{MetricList}
-use Rattle.constraint_compile.specs.Compiled.{CompiledLine, AreRowsNow}
+use Rattle.constraint_compile.specs.Meaning.{MetricList, IsRank, unknown_object}
+use Rattle.constraint_compile.specs.Compiled.{CompiledLine, AreRowsNow, IsFittingSum}
+use Rattle.constraint_compile.specs.Fractions.{plus, negated, IsConstant, IsSmallConstant}
+use Rattle.constraint_compile.specs.Suggestions.{scale_of, suggested_priority}
+use Rattle.constraint_compile.specs.declared.suggestion.Suggestion.{Suggestion}
+use Rattle.session_undo.specs.declared.suggesting.NewSuggestion.{NewSuggestion}
+use Rattle.session_undo.specs.declared.suggesting.NewSuggestion.TheVariants as new
 use Rattle.constraint_compile.specs.declared.stops.CompileStop.{CompileStop}
 use Rattle.constraint_compile.specs.declared.stops.CompileStop.TheVariants as stop
 use Rattle.cert_core.specs.declared.stops.RunStop.{RunStop}
 use Rattle.cert_core.specs.declared.stops.RunStop.TheVariants as run
 use Rattle.layout_solver.specs.declared.engine.Change.{Change}
 use Rattle.layout_solver.specs.Layouts.{Layout}
-use Rattle.layout_solver.specs.Begins.{Start, IsStopFrom}
+use Rattle.layout_solver.specs.Begins.{Start, IsReached}
+use Rattle.layout_solver.specs.Removals.{HasRemoved, Leaving, stood}
+use Rattle.problem_core.specs.declared.parts.Mark.{Mark}
 use Rattle.std.specs.declared.result.Result.{Result}
 use Rattle.std.specs.declared.result.Result.TheVariants.{Ok, Err}
 use Rattle.session_undo.specs.declared.reply.Reply as answer
 use Rattle.session_undo.specs.declared.reply.Reply.TheVariants as good
-use Rattle.session_undo.specs.declared.reply.StopPlace.TheVariants.{Step}
+use Rattle.session_undo.specs.declared.reply.StopPlace.{StopPlace}
+use Rattle.session_undo.specs.declared.reply.StopPlace.TheVariants as place
+use Rattle.layout_solver.specs.declared.removing.RemoveStop.{RemoveStop}
+use Rattle.layout_solver.specs.declared.removing.RemoveStop.TheVariants as removal
 use Rattle.session_undo.specs.declared.reply.Refusal.{Refusal}
 use Rattle.session_undo.specs.declared.reply.Refusal.TheVariants as refusal
 use Rattle.session_undo.specs.Attributes.{IsNextLine}
-use Rattle.session_undo.specs.Items.{OfView, has_size}
-use Rattle.session_undo.specs.Replies.{Reply, Unknown, Limit, Kind}
+use Rattle.session_undo.specs.Items.{OfView, has_size, suggestion_of}
+use Rattle.session_undo.specs.Replies.{Reply, Unknown, Limit, Kind, place_of}
 use Rattle.session_undo.specs.Scene.{Scene, State, moved, new_stays, AreDraftRows, metrics_with}
-use Rattle.session_undo.specs.Machine.{IsStopped, Unless, Keeps, IsCrowded, HasAllLines, IsTaken, IsDeep}
-use Rattle.session_undo.specs.Machine.{AreNear, AreTooMany, HasAllViews, IsFarSize}
+use Rattle.session_undo.specs.Machine.{CannotLeave, still_place, IsStopped, Unless, Keeps, IsCrowded}
+use Rattle.session_undo.specs.Machine.{HasAllLines, IsTaken, IsDeep}
+use Rattle.session_undo.specs.Machine.{AreNear, AreTooMany, HasAllViews, IsFarSize, Suggests, UnlessRankless}
 
 -- ---- stops
 
 -- the refusal for what stops an engine
 abbrev pub refusal_of : RunStop → Refusal
 refusal_of (run.Conflict by) = refusal.Conflict by
-refusal_of (run.Unfit at) = refusal.Overflow Step at
-refusal_of (run.Spent path) = refusal.Spent Step path
+refusal_of (run.Unfit at) = refusal.Overflow place.Step at
+refusal_of (run.Spent path) = refusal.Spent place.Step path
 refusal_of run.OutOfMemory = refusal.OutOfMemory
 
 -- the answer to what a run comes to
 abbrev pub answer_of : Result (Unit {0}) RunStop → Result answer.Reply Refusal
 answer_of (Ok done) = Ok good.Done
 answer_of (Err stop) = Err (refusal_of stop)
+
+-- the refusal tells what stops a removal
+abbrev pub TellsStop : RemoveStop → Refusal → Type 0
+TellsStop (removal.Unfit still at) told =
+    (where_ : StopPlace) × (place_of where_ ≡ still_place still.items) × (told ≡ refusal.Overflow where_ at)
+TellsStop (removal.Spent path) told = told ≡ refusal.Spent place.Step path
+TellsStop removal.OutOfMemory told = told ≡ refusal.OutOfMemory
+
+-- the answer to what a removal comes to
+abbrev pub IsLeftAnswer : Result (Unit {0}) RemoveStop → Result answer.Reply Refusal → Type 0
+IsLeftAnswer (Ok done) told = told ≡ Ok good.Done
+IsLeftAnswer (Err stop) told = (refused : Refusal) × (told ≡ Err refused) × TellsStop stop refused
+
+-- these have left the problem, and a run within the budget has led to the values
+pub record HasRun (old new : Layout) (l : Leaving) (budget : ℕ) : Type 0 where
+  pub last : List Mark
+  pub run : HasRemoved (stood old) old.corner l budget last
+  pub reached : IsReached new.problem last new.values
+
+-- why the scene can't become the draft, where memory may be wanting
+abbrev pub LeaveStopsAt : Scene → Scene → ℕ → RemoveStop → Type 0
+LeaveStopsAt scene draft budget (removal.Unfit still at) =
+    CannotLeave scene draft budget (removal.Unfit still at)
+LeaveStopsAt scene draft budget (removal.Spent path) = CannotLeave scene draft budget (removal.Spent path)
+LeaveStopsAt scene draft budget removal.OutOfMemory = Unit {0}
 
 -- where an engine begins that takes more rows
 abbrev pub from_corner : Layout → List Row → Start
@@ -120,6 +159,93 @@ pub record IsFreeMetric (old : State) (name : List ℕ) (value : Fraction) (new 
 pub record IsFreeSize (old : State) (width height : Fraction) : Type 0 where
   pub room : (has_size old.scene.held ≡ false) × IsCrowded old 2 → ⊥
   pub near : IsFarSize old.scene.held width height → ⊥
+
+-- the view of this name is not the window, and these go with it
+pub record IsGoing (scene : Scene) (name gone : List ℕ) : Type 0 where
+  pub root : LiveView
+  pub found : view_named scene.tree.views name ≡ Some root
+  pub below : root.id ≢ 0
+  pub are : AreGoing scene.tree.views root.id gone
+
+-- ---- suggestions
+
+-- the suggestion's row has the next number, and its view is there
+pub record IsNextSuggestion (scene : Scene) (s : Suggestion) : Type 0 where
+  pub row : s.row ≡ scene.next_row
+  pub rank : s.rank ≤ 1000
+  pub name : List ℕ
+  pub view : LiveView
+  pub found : view_named scene.tree.views name ≡ Some view
+  pub same : s.view ≡ view.id
+
+-- it is held, and no constant moves too far
+pub record IsNearSuggestion (scene : Scene) (s : Suggestion) : Type 0 where
+  pub before : Suggestion
+  pub found : suggestion_of s.view s.word scene.held ≡ Some before
+  pub row : s.row ≡ before.row
+  pub near : IsFittingSum (plus s.constant (negated before.constant))
+
+-- the view of this name is there, the priority's name is known, and this is its rank
+pub record IsRanked (old : State) (name : List ℕ) (priority : Option Meant) (view : LiveView)
+    (rank : ℕ) : Type 0 where
+  pub found : view_named old.scene.tree.views name ≡ Some view
+  pub known : unknown_object old.scene.tree.views old.scene.metrics (suggested_priority priority) ≡ None
+  pub is : IsRank old.scene.tree.views old.scene.metrics (suggested_priority priority) rank
+
+-- the suggestion is for this attribute of this view, and its row's constant is that for this value
+pub record IsSuggestionOf (view : ℕ) (attr : AttrWord) (value : Fraction) (s : Suggestion) : Type 0 where
+  pub view_is : s.view ≡ view
+  pub word : s.word ≡ attr
+  pub constant : IsConstant (scale_of attr) (negated value) s.constant
+  pub small : IsSmallConstant (scale_of attr) (negated value)
+
+-- the first suggestion of an attribute may be held
+pub record IsFirstSuggestion (old : State) (name : List ℕ) (attr : AttrWord) (value : Fraction)
+    (priority : Option Meant) (s : Suggestion) : Type 0 where
+  pub view : LiveView
+  pub ranked : IsRanked old name priority view s.rank
+  pub none : suggestion_of view.id attr old.scene.held ≡ None
+  pub room : IsCrowded old 1 → ⊥
+  pub is : IsSuggestionOf view.id attr value s
+  pub row : s.row ≡ old.scene.next_row
+
+-- one that is held may have another constant
+pub record IsLaterSuggestion (old : State) (name : List ℕ) (attr : AttrWord) (value : Fraction)
+    (priority : Option Meant) (s : Suggestion) : Type 0 where
+  pub view : LiveView
+  pub rank : ℕ
+  pub ranked : IsRanked old name priority view rank
+  pub before : Suggestion
+  pub some : suggestion_of view.id attr old.scene.held ≡ Some before
+  pub plain : IsSome priority → ⊥
+  pub is : IsSuggestionOf view.id attr value s
+  pub row : s.row ≡ before.row
+  pub near : IsFittingSum (plus s.constant (negated before.constant))
+
+-- either of them
+abbrev pub IsFreeSuggestion : State → List ℕ → AttrWord → Fraction → Option Meant → NewSuggestion → Type 0
+IsFreeSuggestion old name attr value priority (new.First s) = IsFirstSuggestion old name attr value priority s
+IsFreeSuggestion old name attr value priority (new.Again s) = IsLaterSuggestion old name attr value priority s
+
+-- either of them, whatever the name of the view of this number
+abbrev pub IsSuggestionFor : State → ℕ → AttrWord → Fraction → Option Meant → NewSuggestion → Type 0
+IsSuggestionFor old view attr value priority suggestion =
+    (name : List ℕ) (v : LiveView) → view_named old.scene.tree.views name ≡ Some v → v.id ≡ view
+    → IsFreeSuggestion old name attr value priority suggestion
+
+-- why neither may be held
+abbrev pub SuggestStep : State → ℕ → AttrWord → Fraction → Option Meant → Reply → State → Type 0
+SuggestStep old view attr value priority =
+    UnlessRankless old (suggested_priority priority) (λ reply new.
+    (rank : ℕ) × IsRank old.scene.tree.views old.scene.metrics (suggested_priority priority) rank
+    × Suggests old view attr value priority rank (suggestion_of view attr old.scene.held) NoEnd reply new)
+
+-- the view of this name, of which this suggestion is held
+pub record IsHeldSuggestion (scene : Scene) (name : List ℕ) (attr : AttrWord) (id : ℕ) : Type 0 where
+  pub view : LiveView
+  pub found : view_named scene.tree.views name ≡ Some view
+  pub same : id ≡ view.id
+  pub held : suggestion_of view.id attr scene.held ≡ None → ⊥
 
 -- ---- lines of groups
 

@@ -1,8 +1,8 @@
 -- The attributes of views, and what makes the rows and stays of a session a problem.
-use Rattle.std.specs.Prelude.{◌≡◌, ℕ, ◌+◌, ◌*◌, ◌<◌, ◌≤◌, List, [], ◌∷◌, ◌++◌, length, map, All}
+use Rattle.std.specs.Prelude.{◌≡◌, ◌⊎◌, Some, ℕ, ◌+◌, ◌*◌, ◌<◌, ◌≤◌, List, [], ◌∷◌, ◌++◌, length, map, All}
 use Rattle.std.specs.List.{Contains}
 use Rattle.problem_core.specs.Layout.{Row, Problem}
-use Rattle.view_tree.specs.Views.{LiveView}
+use Rattle.view_tree.specs.Views.{LiveView, HasParent}
 use Rattle.constraint_compile.specs.Compiled.{RowForm, CompiledLine}
 
 -- left, top, width and height of a view
@@ -18,15 +18,29 @@ attributes_of (v ∷ views) = view_attributes v.id ++ attributes_of views
 abbrev pub HasOnly : List ℕ → Row → Type 0
 HasOnly attrs r = All (λ t. Contains attrs t.attr) r.terms
 
+-- the line's text names the view, or one whose parent it is
+abbrev pub IsClose : List LiveView → List ℕ → ℕ → Type 0
+IsClose views named id =
+    Contains named id ⊎ ((child : ℕ) × Contains named child × HasParent views child (Some id))
+
+-- the attribute is that of such a view
+abbrev pub HasOwner : List LiveView → List ℕ → ℕ → Type 0
+HasOwner views named attr = (id : ℕ) × IsClose views named id × Contains (view_attributes id) attr
+
+abbrev pub AreOwned : List LiveView → CompiledLine → Type 0
+AreOwned views line = All (λ f. All (λ t. HasOwner views line.views t.attr) f.terms) line.rows
+
 -- each row's number is the one before it and 1 more, from this number on
 abbrev pub AreNumberedFrom : ℕ → List RowForm → Type 0
 AreNumberedFrom n [] = Unit {0}
 AreNumberedFrom n (f ∷ forms) = (f.id ≡ n) × AreNumberedFrom (n + 1) forms
 
--- a line whose rows are numbered from this number on, and have attributes of these views alone
+-- a line whose rows are numbered from this number on, and have attributes of these views alone, each of one
+-- that is close to those that the line's text names
 pub record IsNextLine (views : List LiveView) (next : ℕ) (line : CompiledLine) : Type 0 where
   pub numbers : AreNumberedFrom next line.rows
   pub attributes : All (λ f. All (λ t. Contains (attributes_of views) t.attr) f.terms) line.rows
+  pub owned : AreOwned views line
 
 -- there is one view more, whose number is above all others
 pub record IsGrown (old new : List LiveView) (id : ℕ) : Type 0 where

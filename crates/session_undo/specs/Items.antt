@@ -1,21 +1,26 @@
 -- What is held, and the rows that it stands for.
 use Rattle.std.specs.Prelude.{◌≡◌, ℕ, ◌+◌, ◌*◌, Bool, true, false, cond, List, [], ◌∷◌, ◌++◌, length, filter}
-use Rattle.std.specs.Prelude.{Option, Some, None}
+use Rattle.std.specs.Prelude.{Option, Some, None, ◌&&◌, nat_eq}
 use Rattle.frac_core.specs.Fraction.{Fraction}
 use Rattle.problem_core.specs.declared.parts.Rel.TheVariants.{Eq, Ge}
 use Rattle.problem_core.specs.Layout.{Row}
 use Rattle.problem_core.specs.Window.{required_row, structural_rows, zero_fraction}
 use Rattle.constraint_compile.specs.Meaning.{MetricList}
+use Rattle.script_text.specs.declared.words.AttrWord.{AttrWord}
+use Rattle.script_text.specs.declared.words.AttrWord.TheVariants as attr
 use Rattle.constraint_compile.specs.Compiled.{CompiledLine, AreRowsNow, AreSmallForms}
+use Rattle.constraint_compile.specs.Suggestions.{suggested_row}
+use Rattle.constraint_compile.specs.declared.suggestion.Suggestion.{Suggestion}
 
 -- the window, whose left and top are 0 and whose width and height are at least 0; a view, whose width and
 -- height are at least 0, with the number of its first row and its own; the window's width and height, with
--- the number of their first row; a line of a group, with the group's name
+-- the number of their first row; a line of a group, with the group's name; a suggestion
 pub data Item : Type 0 where
   OfWindow : Item
   OfView : ℕ → ℕ → Item
   Sized : ℕ → Fraction → Fraction → Item
   OfLine : List ℕ → CompiledLine → Item
+  Suggested : Suggestion → Item
 
 -- ---- rows
 
@@ -34,6 +39,7 @@ AreItemRows metrics OfWindow rows = rows ≡ structural_rows
 AreItemRows metrics (OfView first id) rows = rows ≡ view_rows first id
 AreItemRows metrics (Sized first width height) rows = rows ≡ size_rows first width height
 AreItemRows metrics (OfLine group line) rows = AreRowsNow metrics line.rows rows
+AreItemRows metrics (Suggested s) rows = rows ≡ suggested_row s ∷ []
 
 -- the rows of some items, one item's after the other's
 abbrev pub AreRows : MetricList → List Item → List Row → Type 0
@@ -48,6 +54,7 @@ IsSmallItem metrics OfWindow = Unit {0}
 IsSmallItem metrics (OfView first id) = Unit {0}
 IsSmallItem metrics (Sized first width height) = Unit {0}
 IsSmallItem metrics (OfLine group line) = AreSmallForms metrics line.rows
+IsSmallItem metrics (Suggested s) = Unit {0}
 
 -- ---- kinds
 
@@ -56,6 +63,7 @@ is_line OfWindow = false
 is_line (OfView first id) = false
 is_line (Sized first width height) = false
 is_line (OfLine group line) = true
+is_line (Suggested s) = false
 
 -- how many lines of groups are held
 abbrev pub line_count : List Item → ℕ
@@ -66,6 +74,7 @@ is_size OfWindow = false
 is_size (OfView first id) = false
 is_size (Sized first width height) = true
 is_size (OfLine group line) = false
+is_size (Suggested s) = false
 
 -- the window's size is held
 abbrev pub has_size : List Item → Bool
@@ -78,6 +87,7 @@ sized width height OfWindow = OfWindow
 sized width height (OfView first id) = OfView first id
 sized width height (Sized first w h) = Sized first width height
 sized width height (OfLine group line) = OfLine group line
+sized width height (Suggested s) = Suggested s
 
 -- the first size is this one
 abbrev pub resized : Fraction → Fraction → List Item → List Item
@@ -96,11 +106,62 @@ own_size OfWindow = None
 own_size (OfView first id) = None
 own_size (Sized first width height) = Some (record { first = first; width = width; height = height })
 own_size (OfLine group line) = None
+own_size (Suggested s) = None
 
 -- the window's size, where one is held
 abbrev pub size_of : List Item → Option Size
 size_of [] = None
 size_of (item ∷ more) = cond (is_size item) (own_size item) (size_of more)
+
+-- ---- suggestions
+
+abbrev pub word_number : AttrWord → ℕ
+word_number attr.Left = 0
+word_number attr.Top = 1
+word_number attr.Width = 2
+word_number attr.Height = 3
+word_number attr.Right = 4
+word_number attr.Bottom = 5
+word_number attr.CenterX = 6
+word_number attr.CenterY = 7
+word_number attr.Leading = 8
+word_number attr.Trailing = 9
+
+-- the item is the suggestion of this attribute, as it is written, of the view of this number
+abbrev pub is_suggestion : ℕ → AttrWord → Item → Bool
+is_suggestion view word OfWindow = false
+is_suggestion view word (OfView first id) = false
+is_suggestion view word (Sized first width height) = false
+is_suggestion view word (OfLine group line) = false
+is_suggestion view word (Suggested s) = nat_eq s.view view && nat_eq (word_number s.word) (word_number word)
+
+abbrev pub own_suggestion : Item → Option Suggestion
+own_suggestion OfWindow = None
+own_suggestion (OfView first id) = None
+own_suggestion (Sized first width height) = None
+own_suggestion (OfLine group line) = None
+own_suggestion (Suggested s) = Some s
+
+-- that suggestion, where one is held
+abbrev pub suggestion_of : ℕ → AttrWord → List Item → Option Suggestion
+suggestion_of view word [] = None
+suggestion_of view word (item ∷ more) =
+    cond (is_suggestion view word item) (own_suggestion item) (suggestion_of view word more)
+
+-- the item with this constant, where it is a suggestion
+abbrev pub with_constant : Fraction → Item → Item
+with_constant constant OfWindow = OfWindow
+with_constant constant (OfView first id) = OfView first id
+with_constant constant (Sized first width height) = Sized first width height
+with_constant constant (OfLine group line) = OfLine group line
+with_constant constant (Suggested s) = Suggested (record s { constant = constant })
+
+-- the first suggestion of this attribute has this constant
+abbrev pub suggested_again : ℕ → AttrWord → Fraction → List Item → List Item
+suggested_again view word constant [] = []
+suggested_again view word constant (item ∷ more) =
+    cond (is_suggestion view word item) (with_constant constant item ∷ more)
+    (item ∷ suggested_again view word constant more)
 
 -- ---- constants
 

@@ -4,15 +4,17 @@ use Rattle.name_tables.specs.declared.stops.LimitWord.TheVariants as limit
 use Rattle.constraint_compile.specs.Meaning.{MetricList}
 use Rattle.constraint_compile.specs.declared.stops.CompileStop.{CompileStop}
 use Rattle.constraint_compile.specs.declared.stops.CompileStop.TheVariants.{Unknown, Kind, Limit, OutOfMemory}
-use Rattle.view_tree.specs.Views.{ViewTree}
+use Rattle.view_tree.specs.Views.{LiveView, ViewTree}
 use Rattle.layout_solver.specs.Layouts.{Layout}
 use Rattle.session_undo.specs.declared.item.Item as declared
 use Rattle.session_undo.specs.declared.item.HeldSize.{HeldSize}
 use Rattle.session_undo.specs.declared.item.Item.TheVariants as kind
 use Rattle.session_undo.specs.declared.limits.Limits as declared_limits
-use Rattle.session_undo.specs.Items.{Item, Size, OfWindow, OfView, Sized, OfLine, AreRows, IsSmallItem}
+use Rattle.constraint_compile.specs.Suggestions.{IsSuggestion}
+use Rattle.session_undo.specs.Items.{Item, Size, OfWindow, OfView, Sized, OfLine, Suggested, AreRows}
+use Rattle.session_undo.specs.Items.{IsSmallItem}
 use Rattle.session_undo.specs.Scene.{Scene, Limits, State, problem_of}
-use Rattle.session_undo.specs.Attributes.{IsCounted}
+use Rattle.session_undo.specs.Attributes.{AreOwned, IsCounted}
 
 -- ---- items
 
@@ -21,6 +23,7 @@ item_of kind.OfWindow = OfWindow
 item_of (kind.OfView first id) = OfView first id
 item_of (kind.Sized first width height) = Sized first width height
 item_of (kind.OfLine group line) = OfLine group line
+item_of (kind.Suggested s) = Suggested s
 
 abbrev pub items_of : List declared.Item → List Item
 items_of items = map item_of items
@@ -34,6 +37,15 @@ IsItem OfWindow = Unit {0}
 IsItem (OfView first id) = ((0 < first) × (first < 2 ^ 31)) × (id < 2 ^ 29)
 IsItem (Sized first width height) = (0 < first) × (first < 2 ^ 31)
 IsItem (OfLine group line) = Unit {0}
+IsItem (Suggested s) = IsSuggestion s
+
+-- the attributes of a line's rows are those of views that its text names, or of their parents
+abbrev pub IsNamed : List LiveView → Item → Type 0
+IsNamed views OfWindow = Unit {0}
+IsNamed views (OfView first id) = Unit {0}
+IsNamed views (Sized first width height) = Unit {0}
+IsNamed views (OfLine group line) = AreOwned views line
+IsNamed views (Suggested s) = Unit {0}
 
 -- why an item has no rows: a constant isn't small
 abbrev pub MayLackItemRows : MetricList → Item → CompileStop → Type 0
@@ -69,6 +81,7 @@ scene_at tree metrics held next_row layout = record {
 pub record IsKept (scene : Scene) : Type 0 where
   pub are_rows : AreRows scene.metrics scene.held scene.rows
   pub each : All IsItem scene.held
+  pub named : All (IsNamed scene.tree.views) scene.held
   pub next : 0 < scene.next_row
   pub counted : IsCounted scene.tree.views scene.next_row (problem_of scene)
 

@@ -3,6 +3,7 @@ pub mod Attributes
 pub mod Frames
 pub mod Items
 pub mod Kept
+pub mod Leaving
 pub mod Machine
 pub mod Replies
 pub mod Scene

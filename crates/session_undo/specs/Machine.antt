@@ -1,6 +1,8 @@
 -- The step of a session: what a command leads to.
-use Rattle.std.specs.Prelude.{◌≡◌, ℕ, ◌+◌, ◌^◌, ◌<◌, ◌≤◌, ◌⊎◌, List, [], ◌++◌, length, codes, Option, Some}
-use Rattle.std.specs.Prelude.{None, IsSome, true, false, map, slice_index_or, All}
+use Rattle.std.specs.Prelude.{◌≡◌, ℕ, ◌+◌, ◌^◌, ◌<◌, ◌≤◌, ◌⊎◌, List, [], ◌∷◌, ◌++◌, length, codes, Option}
+use Rattle.std.specs.Prelude.{Some, None, IsSome, true, false, map, slice_index_or, All, AllPairs}
+use Rattle.std.specs.List.{list_any}
+use Rattle.std.specs.Option.{option_map}
 use Rattle.frac_core.specs.Fraction.{Fraction}
 use Rattle.name_tables.specs.Names.{names_of, place_of, value_of}
 use Rattle.name_tables.specs.declared.stops.LimitWord.TheVariants as word
@@ -13,25 +15,38 @@ use Rattle.cert_core.specs.declared.stops.UnfitPath.{UnfitPath}
 use Rattle.cert_core.specs.declared.stops.RunStop.{RunStop}
 use Rattle.cert_core.specs.declared.stops.RunStop.TheVariants as run
 use Rattle.vfl_text.specs.Formats.{FormatMeaning}
+use Rattle.problem_core.specs.declared.parts.Mark.{Mark}
+use Rattle.view_tree.specs.Drops.{AreGoing}
+use Rattle.layout_solver.specs.Removals.{CanLeave, HasRemoved, IsRemoveStop, Leaving, without}
+use Rattle.layout_solver.specs.declared.removing.RemoveStop.{RemoveStop}
+use Rattle.layout_solver.specs.declared.removing.RemoveStop.TheVariants as removal
+use Rattle.constraint_compile.specs.declared.stops.KindWord.TheVariants as kind
 use Rattle.layout_solver.specs.Begins.{Start, IsReached, IsRunFrom, IsStopFrom}
+use Rattle.span_text.specs.Objects.{Meant}
+use Rattle.script_text.specs.Grammar.{word_text}
 use Rattle.script_text.specs.declared.words.Align.{Align}
+use Rattle.script_text.specs.declared.words.AttrWord.{AttrWord}
 use Rattle.script_text.specs.Meaning.{Meaning, Linear}
 use Rattle.script_text.specs.Meaning as mean
-use Rattle.constraint_compile.specs.Meaning.{MetricList}
+use Rattle.constraint_compile.specs.Meaning.{MetricList, IsRank, unknown_object}
+use Rattle.constraint_compile.specs.Suggestions.{scale_of, suggested_priority}
+use Rattle.constraint_compile.specs.declared.suggestion.Suggestion.{Suggestion}
 use Rattle.constraint_compile.specs.Compiled.{CompiledLine, IsFittingSum}
-use Rattle.constraint_compile.specs.Fractions.{plus, negated}
+use Rattle.constraint_compile.specs.Fractions.{plus, negated, IsConstant, IsSmallConstant}
 use Rattle.constraint_compile.specs.Stops.{IsCompiled, MayStop}
 use Rattle.constraint_compile.specs.FormatParts.{parts}
 use Rattle.constraint_compile.specs.FormatStops.{row_count}
 use Rattle.constraint_compile.specs.FormatRows.{IsCompiledFormat, MayStopFormat}
 use Rattle.constraint_compile.specs.declared.stops.CompileStop.{CompileStop}
 use Rattle.constraint_compile.specs.declared.stops.CompileStop.TheVariants as stop
-use Rattle.session_undo.specs.declared.reply.StopPlace.TheVariants.{Step}
 use Rattle.session_undo.specs.Items.{IsSmallItem, Item, Size, line_count, has_size, size_of, without_constant}
+use Rattle.session_undo.specs.Items.{suggestion_of}
 use Rattle.session_undo.specs.Scene.{Scene, State, with_view, with_metric, with_window, with_line, problem_of}
-use Rattle.session_undo.specs.Scene.{draft_problem, AreDraftRows, Becomes}
+use Rattle.session_undo.specs.Scene.{with_suggestion, with_suggested, draft_problem, AreDraftRows, Becomes}
 use Rattle.session_undo.specs.Replies.{Reply, Done, Nothing, Frames, Rows, Unknown, Taken, Limit, Kind}
-use Rattle.session_undo.specs.Replies.{Conflict, Overflow, Spent}
+use Rattle.session_undo.specs.Replies.{Conflict, Overflow, Spent, Place, Step, Still}
+use Rattle.session_undo.specs.Leaving.{is_in_group, stood_of, without_group, without_suggestion}
+use Rattle.session_undo.specs.Leaving.{without_views}
 
 -- where the fact holds, this refusal and no change; otherwise as F says
 abbrev pub Unless : Type 0 → Reply → State → (Reply → State → Type 0) → Reply → State → Type 0
@@ -117,6 +132,70 @@ SolvesFree old draft reply new =
 -- the draft is solved, or there is no change
 abbrev pub Solves : State → Scene → Reply → State → Type 0
 Solves old draft reply new = Conflicts draft old reply new ⊎ SolvesFree old draft reply new
+
+-- ---- leaving
+
+-- these leave the scene's problem for that of the draft, of which these are the rows; the marks are a corner
+-- that was kept for the scene's values
+pub record IsLeaving (scene draft : Scene) (rows : List Row) (kept : List Mark) (l : Leaving) : Type 0 where
+  pub reached : IsReached (problem_of scene) kept scene.values
+  pub can : CanLeave l (stood_of scene)
+  pub rising : AllPairs (λ a b. a < b) l.rows
+  pub left : draft_problem draft rows ≡ without l (stood_of scene)
+
+-- the new scene is this draft with its rows and the best values, to which a path within the budget leads from
+-- where the rows have left
+pub record HasLeft (scene draft : Scene) (budget : ℕ) (new : Scene) : Type 0 where
+  pub becomes : Becomes draft new
+  pub kept : List Mark
+  pub leaving : Leaving
+  pub leaves : IsLeaving scene draft new.rows kept leaving
+  pub last : List Mark
+  pub run : HasRemoved (stood_of scene) kept leaving budget last
+  pub reached : IsReached (problem_of new) last new.values
+
+-- the removal stops so
+pub record CannotLeave (scene draft : Scene) (budget : ℕ) (stop : RemoveStop) : Type 0 where
+  pub rows : List Row
+  pub are : AreDraftRows draft rows
+  pub kept : List Mark
+  pub leaving : Leaving
+  pub leaves : IsLeaving scene draft rows kept leaving
+  pub stops : IsRemoveStop (stood_of scene) kept leaving budget stop
+
+-- the command is accepted, and the scene is this draft once the rest has left
+pub record Leaves (draft : Scene) (old : State) (reply : Reply) (new : State) : Type 0 where
+  pub done : reply ≡ Done
+  pub left : HasLeft old.scene draft old.budget new.scene
+  pub kept : new ≡ record old { scene = new.scene }
+
+-- where rows are still held they are told
+abbrev pub still_place : List ℕ → Place
+still_place [] = Step
+still_place (id ∷ ids) = Still (id ∷ ids)
+
+-- the reply to such a stop
+abbrev pub TellsStill : State → RemoveStop → Reply → State → Type 0
+TellsStill old (removal.Unfit still at) = Keeps (Overflow (still_place still.items) at.path at.quantity) old
+TellsStill old (removal.Spent path) = λ reply new. ⊥
+TellsStill old removal.OutOfMemory = λ reply new. ⊥
+
+-- a quantity doesn't fit on the way, or at the end of a path within the budget
+pub record StillOverflows (draft : Scene) (old : State) (reply : Reply) (new : State) : Type 0 where
+  pub stop : RemoveStop
+  pub stopped : CannotLeave old.scene draft old.budget stop
+  pub told : TellsStill old stop reply new
+
+-- a path from where the rows have left has just the budget's exchanges, and its last corner is no end
+pub record LeftSpends (draft : Scene) (old : State) (reply : Reply) (new : State) : Type 0 where
+  pub path : Path
+  pub stopped : CannotLeave old.scene draft old.budget (removal.Spent path)
+  pub refused : Keeps (Spent Step path) old reply new
+
+-- the rest of the scene is solved, or there is no change
+abbrev pub LeavesFree : State → Scene → Reply → State → Type 0
+LeavesFree old draft reply new =
+    Leaves draft old reply new ⊎ StillOverflows draft old reply new ⊎ LeftSpends draft old reply new
 
 -- ---- limits and names
 
@@ -249,6 +328,92 @@ TriedFormat old group align format =
     (MayStopFormat old.scene.tree.views old.scene.metrics format align old.scene.next_row)
     (IsCompiledFormat old.scene.tree.views old.scene.metrics format align old.scene.next_row)
 
+-- ---- suggestions
+
+-- where a part of the row's constant for this value isn't small, this limit; otherwise as F says of it
+abbrev pub UnlessLarge : State → AttrWord → Fraction → (Fraction → Reply → State → Type 0) → Reply → State
+    → Type 0
+UnlessLarge old attr value F =
+    Unless (IsSmallConstant (scale_of attr) (negated value) → ⊥) (Limit word.Constant) old
+    (λ reply new. (c : Fraction) × IsConstant (scale_of attr) (negated value) c × F c reply new)
+
+-- the first suggestion of an attribute takes a row; a later one, which has no priority, is another constant
+-- of that row
+abbrev pub Suggests : State → ℕ → AttrWord → Fraction → Option Meant → ℕ → Option Suggestion
+    → (Scene → Reply → State → Type 0) → Reply → State → Type 0
+Suggests old view attr value priority rank None End =
+    Unless (IsCrowded old 1) (Limit word.Rows) old
+    (UnlessLarge old attr value (λ c. End (with_suggestion old.scene (record {
+      row = old.scene.next_row;
+      rank = rank;
+      view = view;
+      word = attr;
+      constant = c;
+    }))))
+Suggests old view attr value priority rank (Some held) End =
+    Unless (IsSome priority) (Kind kind.Suggested) old
+    (UnlessLarge old attr value (λ c.
+    Unless (IsFittingSum (plus c (negated held.constant)) → ⊥) (Limit word.Constant) old
+    (End (with_suggested old.scene view attr c))))
+
+-- where the priority stands for no rank, why; otherwise as F says
+abbrev pub UnlessRankless : State → Option Meant → (Reply → State → Type 0) → Reply → State → Type 0
+UnlessRankless old priority F =
+    UnlessAny (λ name. unknown_object old.scene.tree.views old.scene.metrics priority ≡ Some name) Unknown old
+    (Unless ((rank : ℕ) → IsRank old.scene.tree.views old.scene.metrics priority rank → ⊥)
+    (Kind kind.Priority) old F)
+
+-- the view of this name, and the rank that the priority stands for
+abbrev pub SuggestsFor : State → List ℕ → AttrWord → Fraction → Option Meant
+    → (Scene → Reply → State → Type 0) → Reply → State → Type 0
+SuggestsFor old name attr value priority End reply new =
+    (view : LiveView) × (view_named old.scene.tree.views name ≡ Some view)
+    × (rank : ℕ) × IsRank old.scene.tree.views old.scene.metrics (suggested_priority priority) rank
+    × Suggests old view.id attr value priority rank (suggestion_of view.id attr old.scene.held) End reply new
+
+abbrev pub TriedSuggest : State → List ℕ → AttrWord → Fraction → Option Meant
+    → (Scene → Reply → State → Type 0) → Reply → State → Type 0
+TriedSuggest old name attr value priority End =
+    Unless (view_named old.scene.tree.views name ≡ None) (Unknown name) old
+    (UnlessRankless old (suggested_priority priority) (SuggestsFor old name attr value priority End))
+
+-- ---- what leaves
+
+-- the view, a point and the attribute
+abbrev pub suggestion_name : List ℕ → AttrWord → List ℕ
+suggestion_name name attr = name ++ (46 ∷ word_text attr)
+
+abbrev pub ReleasesOf : State → List ℕ → AttrWord → (Scene → Reply → State → Type 0) → Reply → State → Type 0
+ReleasesOf old name attr End reply new =
+    (view : LiveView) × (view_named old.scene.tree.views name ≡ Some view)
+    × Unless (suggestion_of view.id attr old.scene.held ≡ None) (Unknown (suggestion_name name attr)) old
+    (End (without_suggestion old.scene view.id attr)) reply new
+
+abbrev pub TriedRelease : State → List ℕ → AttrWord → (Scene → Reply → State → Type 0) → Reply → State
+    → Type 0
+TriedRelease old name attr End =
+    Unless (view_named old.scene.tree.views name ≡ None) (Unknown name) old (ReleasesOf old name attr End)
+
+abbrev pub TriedRemove : State → List ℕ → (Scene → Reply → State → Type 0) → Reply → State → Type 0
+TriedRemove old group End =
+    Unless (list_any (is_in_group group) old.scene.held ≡ false) (Unknown group) old
+    (End (without_group old.scene group))
+
+-- the view of this name is the window
+abbrev pub IsOfWindow : Scene → List ℕ → Type 0
+IsOfWindow scene name = option_map (λ v. v.id) (view_named scene.tree.views name) ≡ Some 0
+
+abbrev pub DropsView : State → List ℕ → (Scene → Reply → State → Type 0) → Reply → State → Type 0
+DropsView old name End reply new =
+    (root : LiveView) × (gone : List ℕ) × (view_named old.scene.tree.views name ≡ Some root)
+    × AreGoing old.scene.tree.views root.id gone × End (without_views old.scene gone) reply new
+
+abbrev pub TriedDrop : State → List ℕ → (Scene → Reply → State → Type 0) → Reply → State → Type 0
+TriedDrop old name End =
+    Unless (view_named old.scene.tree.views name ≡ None) (Unknown name) old
+    (Unless (IsOfWindow old.scene name) (Kind kind.Window) old
+    (DropsView old name End))
+
 -- ---- commands
 
 abbrev pub TriedBudget : State → ℕ → (Reply → State → Reply → State → Type 0) → Reply → State → Type 0
@@ -260,24 +425,33 @@ abbrev pub Tried : State → Meaning → (Scene → Reply → State → Type 0)
     → (Reply → State → Reply → State → Type 0) → Reply → State → Type 0
 Tried old mean.Nothing End Other = Other Nothing old
 Tried old (mean.View name parent) End Other = TriedView old name (parent_name parent) End
+Tried old (mean.Drop name) End Other = TriedDrop old name End
 Tried old (mean.Metric name value) End Other = TriedMetric old name value End
 Tried old (mean.Window width height) End Other = TriedWindow old width height End
 Tried old (mean.Constrain group line) End Other = TriedConstraint old group line End
 Tried old (mean.Vfl group align format) End Other = TriedFormat old group align format End
+Tried old (mean.Remove group) End Other = TriedRemove old group End
+Tried old (mean.Suggest name attr value priority) End Other = TriedSuggest old name attr value priority End
+Tried old (mean.Release name attr) End Other = TriedRelease old name attr End
 Tried old (mean.Budget exchanges) End Other = TriedBudget old exchanges Other
 Tried old mean.Frames End Other = Other Frames old
 Tried old mean.Rows End Other = Other Rows old
 
 -- ---- what a line leads to
 
--- a draft is solved; that of a new view, which changes no row that is held, is in no conflict
+-- a draft is solved; that of a new view, which changes no row that is held, and one from which rows have left
+-- are in no conflict
 abbrev pub Ends : State → Meaning → Scene → Reply → State → Type 0
 Ends old (mean.View name parent) = SolvesFree old
+Ends old (mean.Drop name) = LeavesFree old
+Ends old (mean.Remove group) = LeavesFree old
+Ends old (mean.Release name attr) = LeavesFree old
 Ends old mean.Nothing = Solves old
 Ends old (mean.Metric name value) = Solves old
 Ends old (mean.Window width height) = Solves old
 Ends old (mean.Constrain group line) = Solves old
 Ends old (mean.Vfl group align format) = Solves old
+Ends old (mean.Suggest name attr value priority) = Solves old
 Ends old (mean.Budget exchanges) = Solves old
 Ends old mean.Frames = Solves old
 Ends old mean.Rows = Solves old

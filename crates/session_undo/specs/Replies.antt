@@ -11,8 +11,19 @@ use Rattle.session_undo.specs.Scene.{State}
 use Rattle.session_undo.specs.declared.reply.Reply as answer
 use Rattle.session_undo.specs.declared.reply.Reply.TheVariants as good
 use Rattle.session_undo.specs.declared.reply.StopPlace.{StopPlace}
+use Rattle.session_undo.specs.declared.reply.StopPlace.TheVariants as place
 use Rattle.session_undo.specs.declared.reply.Refusal.{Refusal}
 use Rattle.session_undo.specs.declared.reply.Refusal.TheVariants as refusal
+
+-- what had stopped: the run over the command's own problem, or that of a removal while these rows were still
+-- held
+pub data Place : Type 0 where
+  Step : Place
+  Still : List ℕ → Place
+
+abbrev pub place_of : StopPlace → Place
+place_of place.Step = Step
+place_of (place.Still ids) = Still ids.items
 
 -- `Nothing` to a blank line or a comment, `Done` to a change, `Frames` and `Rows` to questions, and the
 -- refusals: where the line leaves the grammar, the unknown or taken name, the limit, the wrong use, the
@@ -29,8 +40,8 @@ pub data Reply : Type 0 where
   Limit : LimitWord → Reply
   Kind : KindWord → Reply
   Conflict : List By → Reply
-  Overflow : StopPlace → Path → Quantity → Reply
-  Spent : StopPlace → Path → Reply
+  Overflow : Place → Path → Quantity → Reply
+  Spent : Place → Path → Reply
 
 -- whether it is no refusal
 abbrev pub is_accepted : Reply → Bool
@@ -61,17 +72,17 @@ MayRefuse F (refusal.Taken name) = F (Taken name)
 MayRefuse F (refusal.Limit word) = F (Limit word)
 MayRefuse F (refusal.Kind word) = F (Kind word)
 MayRefuse F (refusal.Conflict by) = F (Conflict by)
-MayRefuse F (refusal.Overflow place at) = F (Overflow place at.path at.quantity)
-MayRefuse F (refusal.Spent place path) = F (Spent place path)
+MayRefuse F (refusal.Overflow place at) = F (Overflow (place_of place) at.path at.quantity)
+MayRefuse F (refusal.Spent place path) = F (Spent (place_of place) path)
 MayRefuse F refusal.OutOfMemory = ⊤
 
 -- where the command is accepted, the step leads to its reply and the session after
 abbrev pub Accepting : (Reply → State → Type 0) → State → Result answer.Reply Refusal → Type 0
-Accepting Step new result = IfOk result (λ reply. Step (accepted reply) new)
+Accepting Allows new result = IfOk result (λ reply. Allows (accepted reply) new)
 
 -- where the command is refused, the step allows this, in the session that is as before
 abbrev pub Refusing : {T : Type 0} → (Reply → State → Type 0) → State → Result T Refusal → Type 0
-Refusing Step old result = IfErr result (MayRefuse (λ reply. Step reply old))
+Refusing Allows old result = IfErr result (MayRefuse (λ reply. Allows reply old))
 
 -- the refusal is one that is told, and F holds of its reply
 abbrev pub IsTold : (Reply → Type 0) → Refusal → Type 0
@@ -81,8 +92,8 @@ IsTold F (refusal.Taken name) = F (Taken name)
 IsTold F (refusal.Limit word) = F (Limit word)
 IsTold F (refusal.Kind word) = F (Kind word)
 IsTold F (refusal.Conflict by) = F (Conflict by)
-IsTold F (refusal.Overflow place at) = F (Overflow place at.path at.quantity)
-IsTold F (refusal.Spent place path) = F (Spent place path)
+IsTold F (refusal.Overflow place at) = F (Overflow (place_of place) at.path at.quantity)
+IsTold F (refusal.Spent place path) = F (Spent (place_of place) path)
 IsTold F refusal.OutOfMemory = ⊥
 
 -- F holds of the reply that is told of what a command led to; none is told of want of memory

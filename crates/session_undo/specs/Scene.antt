@@ -12,7 +12,10 @@ use Rattle.view_tree.specs.Views as tree
 use Rattle.constraint_compile.specs.Meaning.{MetricList}
 use Rattle.constraint_compile.specs.Compiled.{CompiledLine}
 use Rattle.layout_solver.specs.Layouts.{AreBest, stays_at}
-use Rattle.session_undo.specs.Items.{Item, OfWindow, OfView, Sized, OfLine, AreRows, has_size, resized}
+use Rattle.script_text.specs.declared.words.AttrWord.{AttrWord}
+use Rattle.constraint_compile.specs.declared.suggestion.Suggestion.{Suggestion}
+use Rattle.session_undo.specs.Items.{Item, OfWindow, OfView, Sized, OfLine, Suggested, AreRows, has_size}
+use Rattle.session_undo.specs.Items.{resized, suggested_again}
 
 -- the views, the metrics in order of definition, what is held in order of acceptance, the number that the
 -- next row takes, the rows by rising number, the stays, and the values by their attributes' numbers
@@ -100,6 +103,21 @@ abbrev pub with_line : Scene → List ℕ → CompiledLine → Scene
 with_line old group line = record old {
   held = old.held ++ OfLine group line ∷ [];
   next_row = old.next_row + length line.rows;
+  stays = moved old.stays old.values;
+}
+
+-- with a suggestion more, whose row takes the next number
+abbrev pub with_suggestion : Scene → Suggestion → Scene
+with_suggestion old s = record old {
+  held = old.held ++ Suggested s ∷ [];
+  next_row = old.next_row + 1;
+  stays = moved old.stays old.values;
+}
+
+-- with another constant in the row of a suggestion
+abbrev pub with_suggested : Scene → ℕ → AttrWord → Fraction → Scene
+with_suggested old view word constant = record old {
+  held = suggested_again view word constant old.held;
   stays = moved old.stays old.values;
 }
 

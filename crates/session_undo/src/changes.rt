@@ -34,8 +34,8 @@ pub fn put_metric(metrics: &mut Metrics, name: &str, value: Frac) -> Result<bool
     }
 }
 
-// Whether the second constant less the first fits.
-fn fits_after(from: Frac, to: Frac) -> bool
+/// Whether the second constant less the first fits.
+pub fn fits_after(from: Frac, to: Frac) -> bool
     ensures yes { result ≡ true → IsFittingSum (plus to (negated from)) }
     ensures no { result ≡ false → IsFittingSum (plus to (negated from)) → ⊥ }
 {

@@ -1,9 +1,12 @@
 // The problems of drafts that no engine has taken.
-ghost use Rattle.std.specs.Prelude.{◌≡◌, ◌++◌, ◌∷◌, [], IfOk};
+ghost use Rattle.std.specs.Prelude.{◌≡◌, ◌++◌, ◌∷◌, [], IfOk, filter, not};
 ghost use Rattle.problem_core.specs.Kept.{IsWhole};
 ghost use Rattle.layout_solver.specs.Layouts.{stays_at, with_added, zeros};
+ghost use Rattle.layout_solver.specs.Removals.{CanLeave, with_removed};
 ghost use Rattle.layout_solver.specs.Shifts.{shifted};
+ghost use Rattle.view_tree.specs.Drops.{is_among};
 ghost use Rattle.session_undo.specs.Items.{at_constant};
+ghost use Rattle.session_undo.specs.Leaving.{other_stays};
 ghost use Rattle.session_undo.specs.Scene.{moved};
 
 use crate::frames::value_of;
@@ -76,6 +79,49 @@ pub fn with_rows(alloc: Global, engine: &Engine, rows: Vec<Row>) -> Result<Probl
     engine.show_layout();
     let stays = moved_stays(alloc, engine)?;
     Ok(Problem::of(rows, stays))
+}
+
+// Copies of the rows that have none of these numbers.
+fn other_rows(alloc: Global, rows: &[Row], gone: &[u32]) -> Result<Vec<Row>, OutOfMemory>
+    ensures { IfOk result (λ left. left.items ≡ filter (λ r. not (is_among gone.now r.id)) rows.now) }
+{
+    let mut left = Vec::new(alloc);
+    for row in rows {
+        if !gone.contains(&row.id()) {
+            left.push(with_constant(alloc, row, row.constant())?)?;
+        }
+    }
+    Ok(left)
+}
+
+// The stays of other attributes than these.
+fn other_stays(alloc: Global, stays: &[Stay], gone: &[u32]) -> Result<Vec<Stay>, OutOfMemory>
+    ensures { IfOk result (λ left. left.items ≡ other_stays gone.now stays.now) }
+{
+    let mut left = Vec::new(alloc);
+    for stay in stays {
+        if !gone.contains(&stay.attr) {
+            left.push(*stay)?;
+        }
+    }
+    Ok(left)
+}
+
+/// The problem without these rows and attributes, the stays at the present values.
+pub fn with_less(
+    alloc: Global,
+    engine: &Engine,
+    rows: &[u32],
+    attrs: &[u32],
+) -> Result<Problem, OutOfMemory>
+    requires { CanLeave (record { rows = rows.now; attrs = attrs.now }) engine.now.problem }
+    ensures { IfOk result (λ p. p ≡ with_removed engine.now (record { rows = rows.now; attrs = attrs.now })) }
+{
+    engine.show_layout();
+    let stays = moved_stays(alloc, engine)?;
+    let left = other_stays(alloc, &stays, attrs)?;
+    let rows = other_rows(alloc, engine.rows(), rows)?;
+    Ok(Problem::of(rows, left))
 }
 
 // The constant of the row after the change, before which it is this one.

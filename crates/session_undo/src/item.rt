@@ -4,7 +4,7 @@ ghost use Rattle.session_undo.specs.Items.{is_line, is_size, line_count, has_siz
 ghost use Rattle.session_undo.specs.Items.{sized, resized};
 ghost use Rattle.session_undo.specs.Kept.{item_of, items_of, size_in};
 
-use constraint_compile::Compiled;
+use constraint_compile::{Compiled, Suggestion};
 use frac_core::Frac;
 use name_tables::OwnedName;
 
@@ -29,6 +29,8 @@ pub enum Item {
         group: OwnedName,
         line: Compiled,
     },
+    /// That an attribute of a view has a value.
+    Suggested(Suggestion),
 }
 
 /// The constants of the window's rows.
@@ -87,7 +89,7 @@ fn own_size(item: &Item) -> Option<HeldSize>
                 height: *height,
             },
         }),
-        Item::OfWindow | Item::OfView { .. } | Item::OfLine { .. } => None,
+        Item::OfWindow | Item::OfView { .. } | Item::OfLine { .. } | Item::Suggested(_) => None,
     }
 }
 
@@ -125,7 +127,7 @@ fn resize(item: &mut Item, size: &WindowSize)
             *width = size.width;
             *height = size.height;
         }
-        Item::OfWindow | Item::OfView { .. } | Item::OfLine { .. } => (),
+        Item::OfWindow | Item::OfView { .. } | Item::OfLine { .. } | Item::Suggested(_) => (),
     }
 }
 

@@ -8,6 +8,7 @@ mod changes;
 mod drafts;
 mod frames;
 mod item;
+mod leaving;
 mod limits;
 mod reply;
 mod rows;
@@ -15,6 +16,7 @@ mod scene;
 mod session;
 mod showing;
 mod solving;
+mod suggesting;
 
 pub use item::{Item, WindowSize};
 pub use limits::Limits;

@@ -1,10 +1,11 @@
 // Replies and refusals.
 ghost use Rattle.std.specs.Prelude.{◌≡◌};
-ghost use Rattle.session_undo.specs.Adding.{refusal_of, answer_of};
+ghost use Rattle.session_undo.specs.Adding.{refusal_of, answer_of, IsLeftAnswer, TellsStop};
 
 use cert_core::{Conflict, Path, RunStop, UnfitPath};
 use constraint_compile::KindWord;
 use frac_core::OutOfMemory;
+use layout_solver::RemoveStop;
 use name_tables::{LimitWord, OwnedName};
 use std::alloc::AllocError;
 
@@ -22,10 +23,12 @@ pub enum Reply {
 }
 
 /// What had to stop where a quantity doesn't fit or the exchanges are used up.
-#[derive(Clone, Copy, Debug, PartialEq, Eq)]
+#[derive(Debug, Drop)]
 pub enum StopPlace {
     /// The run over the command's own problem.
     Step,
+    /// The removal, while these leaving rows were still held.
+    Still(Vec<u32>),
 }
 
 /// Why a line is refused. Then all is as before.
@@ -98,5 +101,36 @@ pub fn answer_of(end: Result<(), RunStop>) -> Result<Reply, Refusal>
     match end {
         Ok(()) => Ok(Reply::Done),
         Err(stop) => Err(refusal_of(stop)),
+    }
+}
+
+// The refusal for what stops a removal.
+fn removal_refusal(stop: RemoveStop) -> Refusal
+    ensures { TellsStop stop result }
+{
+    match stop {
+        RemoveStop::Unfit { still, at } => {
+            let place = if still.is_empty() {
+                StopPlace::Step
+            } else {
+                StopPlace::Still(still)
+            };
+            Refusal::Overflow { place, at }
+        }
+        RemoveStop::Spent(path) => Refusal::Spent {
+            place: StopPlace::Step,
+            path,
+        },
+        RemoveStop::OutOfMemory => Refusal::OutOfMemory,
+    }
+}
+
+/// The answer to what a removal comes to.
+pub fn left_answer(end: Result<(), RemoveStop>) -> Result<Reply, Refusal>
+    ensures { IsLeftAnswer end result }
+{
+    match end {
+        Ok(()) => Ok(Reply::Done),
+        Err(stop) => Err(removal_refusal(stop)),
     }
 }

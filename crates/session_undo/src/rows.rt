@@ -6,9 +6,10 @@ ghost use Rattle.problem_core.specs.Window.{required_row, structural_rows};
 ghost use Rattle.session_undo.specs.Items.{view_rows, size_rows, AreItemRows, AreRows};
 ghost use Rattle.session_undo.specs.Kept.{item_of, items_of, IsItem, MayLackRows, MayLackItemRows};
 ghost use Rattle.constraint_compile.specs.Compiled.{AreRowsNow, AreSmallForms};
+ghost use Rattle.constraint_compile.specs.Suggestions.{suggested_row, IsSuggestion};
 
 use crate::item::{Item, WindowSize};
-use constraint_compile::{CompileStop, Compiled};
+use constraint_compile::{CompileStop, Compiled, Suggestion};
 use frac_core::{Frac, OutOfMemory};
 use name_tables::Metrics;
 use problem_core::{Rel, Row, Term};
@@ -76,6 +77,16 @@ pub fn size_rows(alloc: Global, first: u32, size: &WindowSize) -> Result<Vec<Row
     pair(alloc, width, height)
 }
 
+/// The row of a suggestion, in a list.
+pub fn suggestion_rows(alloc: Global, suggestion: &Suggestion) -> Result<Vec<Row>, OutOfMemory>
+    requires { IsSuggestion suggestion.now }
+    ensures { IfOk result (λ rows. rows.items ≡ suggested_row suggestion.now ∷ []) }
+{
+    let mut rows = Vec::new(alloc);
+    rows.push(suggestion.row(alloc)?)?;
+    Ok(rows)
+}
+
 // The rows of an item, for these metrics.
 fn item_rows(alloc: Global, item: &Item, metrics: &Metrics) -> Result<Vec<Row>, CompileStop>
     requires { IsItem (item_of item.now) }
@@ -97,6 +108,7 @@ fn item_rows(alloc: Global, item: &Item, metrics: &Metrics) -> Result<Vec<Row>, 
             Ok(size_rows(alloc, *first, &size)?)
         }
         Item::OfLine { line, .. } => line.rows_now(alloc, metrics),
+        Item::Suggested(suggestion) => Ok(suggestion_rows(alloc, suggestion)?),
     }
 }
 

@@ -1,23 +1,29 @@
 // The scene: what a script has said so far, and the engine that solves it.
-ghost use Rattle.std.specs.Prelude.{◌≡◌, ◌<◌, ◌≤◌, ◌^◌, ◌+◌, true, false, length, vec_len, vec_capacity};
+ghost use Rattle.std.specs.Prelude.{◌≡◌, ◌<◌, ◌≤◌, ◌^◌, ◌+◌, ◌≢◌, true, false, length, vec_len, vec_capacity};
+ghost use Rattle.std.specs.List.{list_any};
 ghost use Rattle.std.specs.Prelude.{Some, None, slice_get, IfOk, IfErr, IfSome, IfNone, OnOk, OnErr};
 ghost use Rattle.view_tree.specs.Views.{IsTree, with_view};
 ghost use Rattle.view_tree.specs.Stops.{IsNewView};
 ghost use Rattle.session_undo.specs.Attributes.{IsGrown};
 
 use crate::changes::{is_near_size, size_changes};
-use crate::drafts::{as_held, rows_after, with_more, with_rows};
+use crate::drafts::{as_held, rows_after, with_less, with_more, with_rows};
 use crate::frames::{frame_of, place_of};
 use crate::item::{HeldSize, Item, WindowSize, has_size, line_count, resize_first, size_of};
-use crate::rows::{rows_of, size_rows, view_rows, window_rows};
+use crate::leaving::{
+    attributes_in, drop_group, drop_views, group_numbers, has_group, view_numbers,
+};
+use crate::rows::{rows_of, size_rows, suggestion_rows, view_rows, window_rows};
 use crate::showing::show_rows;
-use crate::solving::{changed_constants, take_constants, take_more};
+use crate::solving::{changed_constants, take_constants, take_more, take_out};
+use crate::suggesting::{drop_suggestion, suggest_again, suggestion_numbers, suggestion_of};
 use cert_core::RunStop;
-use constraint_compile::{CompileStop, Compiled};
+use constraint_compile::{CompileStop, Compiled, Suggestion};
 use frac_core::{Frac, OutOfMemory};
-use layout_solver::Engine;
+use layout_solver::{Change, Engine, RemoveStop};
 use name_tables::{Metrics, OwnedName};
 use problem_core::{Problem, Row};
+use script_text::AttrWord;
 use std::alloc::Global;
 use std::marker::Model;
 use view_tree::{Tree, ViewId};
@@ -86,8 +92,15 @@ impl Scene {
     ghost use Rattle.session_undo.specs.Kept.{MayLackRows, items_of, size_in};
     ghost use Rattle.session_undo.specs.Scene.{first_scene, with_line, with_window, AreDraftRows};
     ghost use Rattle.session_undo.specs.Scene.{moved, problem_of};
-    ghost use Rattle.session_undo.specs.Machine.{AreNear, IsFarSize, IsProblemOf, IsSolved};
-    ghost use Rattle.session_undo.specs.Adding.{StopsAt, IsNoConflict, view_draft, metrics_draft};
+    ghost use Rattle.session_undo.specs.Machine.{AreNear, HasLeft, IsFarSize, IsProblemOf, IsSolved};
+    ghost use Rattle.view_tree.specs.Drops.{AreGoing};
+    ghost use Rattle.session_undo.specs.Leaving.{is_in_group, without_group, without_views};
+    ghost use Rattle.session_undo.specs.Adding.{LeaveStopsAt, StopsAt, IsNoConflict};
+    ghost use Rattle.session_undo.specs.Adding.{metrics_draft, view_draft};
+    ghost use Rattle.session_undo.specs.Adding.{IsNextSuggestion, IsNearSuggestion};
+    ghost use Rattle.session_undo.specs.Items.{suggestion_of};
+    ghost use Rattle.session_undo.specs.Leaving.{without_suggestion};
+    ghost use Rattle.session_undo.specs.Scene.{with_suggestion, with_suggested};
 
     /// The window alone.
     pub fn new(alloc: Global) -> Result<Scene, OutOfMemory>
@@ -283,6 +296,78 @@ impl Scene {
         with_more(self.alloc, &self.engine, &[], rows)
     }
 
+    /// Whether a line of this group is held.
+    pub fn has_group(&self, name: &[u8]) -> bool
+        ensures { result ≡ list_any (is_in_group name.now) self.now.held }
+    {
+        has_group(&self.items, name)
+    }
+
+    /// The problem without the lines of a group.
+    pub fn group_problem(&self, name: &[u8]) -> Result<Problem, OutOfMemory>
+        ensures { IfOk result (IsProblemOf (without_group self.now name.now)) }
+    {
+        self.engine.show_layout();
+        let rows = group_numbers(self.alloc, &self.items, name)?;
+        with_less(self.alloc, &self.engine, &rows, &[])
+    }
+
+    /// The problem without these views, which are a view and all below it.
+    pub fn left_problem(&self, gone: &[u32]) -> Result<Problem, OutOfMemory>
+        requires { (root : ℕ) × (root ≢ 0) × AreGoing self.now.tree.views root gone.now }
+        ensures { IfOk result (IsProblemOf (without_views self.now gone.now)) }
+    {
+        self.engine.show_layout();
+        let _count = self.tree.len();
+        let rows = view_numbers(self.alloc, &self.items, gone)?;
+        let attrs = attributes_in(self.alloc, gone)?;
+        with_less(self.alloc, &self.engine, &rows, &attrs)
+    }
+
+    /// Takes the lines of a group out.
+    pub fn take_group_out(&mut self, name: &[u8], budget: u64) -> Result<(), RemoveStop>
+        ensures left { IfOk result (λ _. HasLeft self.old (without_group self.old name.now) budget self.new) }
+        ensures stop { IfErr result (LeaveStopsAt self.old (without_group self.old name.now) budget) }
+        ensures same { OnErr result (self.new ≡ self.old) }
+    {
+        self.engine.show_layout();
+        let Ok(rows) = group_numbers(self.alloc, &self.items, name) else {
+            return Err(RemoveStop::OutOfMemory);
+        };
+        match take_out(&mut self.engine, &rows, &[], budget) {
+            Ok(()) => (),
+            Err(stop) => return Err(stop),
+        }
+        self.engine.show_layout();
+        drop_group(&mut self.items, name);
+        Ok(())
+    }
+
+    /// Takes these views out, which are a view and all below it, with the lines that name one of them.
+    pub fn take_views_out(&mut self, gone: &[u32], budget: u64) -> Result<(), RemoveStop>
+        requires { (root : ℕ) × (root ≢ 0) × AreGoing self.old.tree.views root gone.now }
+        ensures left { IfOk result (λ _. HasLeft self.old (without_views self.old gone.now) budget self.new) }
+        ensures stop { IfErr result (LeaveStopsAt self.old (without_views self.old gone.now) budget) }
+        ensures same { OnErr result (self.new ≡ self.old) }
+    {
+        self.engine.show_layout();
+        let _count = self.tree.len();
+        let Ok(rows) = view_numbers(self.alloc, &self.items, gone) else {
+            return Err(RemoveStop::OutOfMemory);
+        };
+        let Ok(attrs) = attributes_in(self.alloc, gone) else {
+            return Err(RemoveStop::OutOfMemory);
+        };
+        match take_out(&mut self.engine, &rows, &attrs, budget) {
+            Ok(()) => (),
+            Err(stop) => return Err(stop),
+        }
+        self.engine.show_layout();
+        drop_views(&mut self.items, gone);
+        self.tree.drop_views(gone);
+        Ok(())
+    }
+
     /// Takes a new view of this name below the view `above`. Its number `id` is the next one.
     pub fn take_view(
         &mut self,
@@ -457,6 +542,127 @@ impl Scene {
         self.engine.show_layout();
         self.items.push_reserved(Item::OfLine { group, line });
         self.next_row += rows.len() as u32;
+        Ok(())
+    }
+
+    /// The suggestion of this attribute of the view, where one is held.
+    pub fn suggestion(&self, view: ViewId, word: AttrWord) -> Option<Suggestion>
+        ensures { result ≡ suggestion_of view.0 word self.now.held }
+    {
+        suggestion_of(&self.items, view.0, word)
+    }
+
+    /// The problem with a suggestion more, for whose row there is to be room.
+    pub fn suggestion_problem(&self, new: &Suggestion) -> Result<Problem, OutOfMemory>
+        requires next { IsNextSuggestion self.now new.now }
+        requires room { length self.now.rows + 1 ≤ 2000 }
+        requires number { self.now.next_row < 2 ^ 31 }
+        ensures { IfOk result (IsProblemOf (with_suggestion self.now new.now)) }
+    {
+        self.engine.show_layout();
+        let _count = self.tree.len();
+        let rows = suggestion_rows(self.alloc, new)?;
+        show_rows(&rows);
+        with_more(self.alloc, &self.engine, &[], rows)
+    }
+
+    /// The problem with another constant in the row of a suggestion that is held.
+    pub fn suggested_problem(&self, again: &Suggestion) -> Result<Problem, OutOfMemory>
+        requires { IsNearSuggestion self.now again.now }
+        ensures { IfOk result (IsProblemOf
+            (with_suggested self.now again.now.view again.now.word again.now.constant)) }
+    {
+        self.engine.show_layout();
+        let to = [Change {
+            row: again.row,
+            constant: again.constant,
+        }];
+        let rows = rows_after(self.alloc, self.engine.rows(), &to)?;
+        show_rows(&rows);
+        with_rows(self.alloc, &self.engine, rows)
+    }
+
+    /// The problem without the suggestion of this attribute of the view.
+    pub fn release_problem(&self, view: ViewId, word: AttrWord) -> Result<Problem, OutOfMemory>
+        ensures { IfOk result (IsProblemOf (without_suggestion self.now view.0 word)) }
+    {
+        self.engine.show_layout();
+        let rows = suggestion_numbers(self.alloc, &self.items, view.0, word)?;
+        with_less(self.alloc, &self.engine, &rows, &[])
+    }
+
+    /// Takes a suggestion more, for whose row there is to be room.
+    pub fn take_suggestion(&mut self, new: Suggestion, budget: u64) -> Result<(), RunStop>
+        requires next { IsNextSuggestion self.old new }
+        requires room { length self.old.rows + 1 ≤ 2000 }
+        requires number { self.old.next_row < 2 ^ 31 }
+        ensures solved { IfOk result (λ _. (path : paths.Path)
+            × IsSolved self.old (with_suggestion self.old new) budget path self.new) }
+        ensures stop { IfErr result (StopsAt self.old (with_suggestion self.old new) budget) }
+        ensures same { OnErr result (self.new ≡ self.old) }
+    {
+        let _count = self.tree.len();
+        let rows = suggestion_rows(self.alloc, &new)?;
+        show_rows(&rows);
+        make_room(&mut self.items)?;
+        self.engine.show_layout();
+        match take_more(&mut self.engine, &[], &rows, budget) {
+            Ok(()) => (),
+            Err(stop) => return Err(stop),
+        }
+        self.engine.show_layout();
+        self.items.push_reserved(Item::Suggested(new));
+        self.next_row += 1;
+        Ok(())
+    }
+
+    /// Takes another constant in the row of a suggestion that is held.
+    pub fn take_suggested(&mut self, again: Suggestion, budget: u64) -> Result<(), RunStop>
+        requires { IsNearSuggestion self.old again }
+        ensures solved { IfOk result (λ _. (path : paths.Path)
+            × IsSolved self.old (with_suggested self.old again.view again.word again.constant)
+            budget path self.new) }
+        ensures stop { IfErr result
+            (StopsAt self.old (with_suggested self.old again.view again.word again.constant) budget) }
+        ensures same { OnErr result (self.new ≡ self.old) }
+    {
+        self.engine.show_layout();
+        let _den = again.constant.den();
+        let to = [Change {
+            row: again.row,
+            constant: again.constant,
+        }];
+        match take_constants(&mut self.engine, &to, budget) {
+            Ok(()) => (),
+            Err(stop) => return Err(stop),
+        }
+        self.engine.show_layout();
+        suggest_again(&mut self.items, again.view, again.word, again.constant);
+        Ok(())
+    }
+
+    /// Takes the suggestion of this attribute of the view out.
+    pub fn take_suggestion_out(
+        &mut self,
+        view: ViewId,
+        word: AttrWord,
+        budget: u64,
+    ) -> Result<(), RemoveStop>
+        ensures left { IfOk result
+            (λ _. HasLeft self.old (without_suggestion self.old view.0 word) budget self.new) }
+        ensures stop { IfErr result (LeaveStopsAt self.old (without_suggestion self.old view.0 word) budget) }
+        ensures same { OnErr result (self.new ≡ self.old) }
+    {
+        self.engine.show_layout();
+        let Ok(numbers) = suggestion_numbers(self.alloc, &self.items, view.0, word) else {
+            return Err(RemoveStop::OutOfMemory);
+        };
+        match take_out(&mut self.engine, &numbers, &[], budget) {
+            Ok(()) => (),
+            Err(stop) => return Err(stop),
+        }
+        self.engine.show_layout();
+        drop_suggestion(&mut self.items, view.0, word);
         Ok(())
     }
 }

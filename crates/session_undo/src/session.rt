@@ -1,20 +1,25 @@
 // The session, and what each command does to it.
 ghost use Rattle.std.specs.Prelude.{◌≡◌, ◌<◌, ◌≤◌, ◌^◌, ◌+◌, ◌++◌, ◌⊎◌, true, false, length, None, IsSome};
-ghost use Rattle.std.specs.Prelude.{IfOk, IfErr, IfSome, IfNone, OnErr};
+ghost use Rattle.std.specs.Prelude.{Option, Some, ℕ, IfOk, IfErr, IfSome, IfNone, OnOk, OnErr};
 
-use crate::changes::{are_near, parent_or_window, put_metric};
+use crate::changes::{are_near, fits_after, parent_or_window, put_metric};
 use crate::item::WindowSize;
 use crate::limits::{FIRST_LIMITS, Limits};
-use crate::reply::{Refusal, Reply, answer_of};
+use crate::reply::{Refusal, Reply, answer_of, left_answer};
 use crate::rows::small_line_rows;
 use crate::scene::Scene;
 use crate::showing::show_terms;
-use constraint_compile::{CompileStop, Compiled, compile_format, compile_line, format_row_count};
+use crate::suggesting::{NewSuggestion, suggestion_name};
+use constraint_compile::{
+    CompileStop, Compiled, KindWord, Suggestion, compile_format, compile_line, format_row_count,
+    suggested_constant, suggested_rank,
+};
 use frac_core::{Frac, OutOfMemory};
 use layout_solver::Engine;
 use name_tables::{LimitWord, Metrics, NAME_LIMIT, OwnedName};
 use problem_core::{Problem, Row};
-use script_text::{Align, Command, Linear};
+use script_text::{Align, AttrWord, Command, Linear};
+use span_text::Object;
 use std::alloc::Global;
 use std::marker::Model;
 use vfl_text::Format;
@@ -90,15 +95,26 @@ impl Session {
     ghost use Rattle.session_undo.specs.Attributes.{IsNextLine};
     ghost use Rattle.session_undo.specs.Frames.{IsFrameOf};
     ghost use Rattle.session_undo.specs.Scene.{first_state, with_line, with_window, with_metric};
+    ghost use Rattle.session_undo.specs.Scene.{with_suggestion, with_suggested};
     ghost use Rattle.session_undo.specs.Replies.{MayRefuse, Accepting, Refusing, Done, Limit};
     ghost use Rattle.session_undo.specs.Items.{has_size};
     ghost use Rattle.session_undo.specs.Machine.{IsTaken, TriedView, TriedMetric, TriedWindow};
     ghost use Rattle.session_undo.specs.Machine.{TriedConstraint, TriedFormat, TriedBudget, Tried};
     ghost use Rattle.session_undo.specs.Machine.{MeaningStep, Poses, PosesDraft, PosesScene, IsProblemOf};
-    ghost use Rattle.session_undo.specs.Machine.{IsCrowded, Keeps, Solves, SolvesFree};
+    ghost use Rattle.session_undo.specs.Machine.{IsCrowded, Keeps, LeavesFree, Solves, SolvesFree};
+    ghost use Rattle.session_undo.specs.Machine.{TriedDrop, TriedRelease, TriedRemove, TriedSuggest};
+    ghost use Rattle.session_undo.specs.Machine.{Suggests, UnlessRankless};
+    ghost use Rattle.session_undo.specs.Adding.{IsFreeSuggestion, IsHeldSuggestion, IsNearSuggestion};
+    ghost use Rattle.session_undo.specs.Adding.{IsNextSuggestion, IsSuggestionFor, IsSuggestionOf, SuggestStep};
+    ghost use Rattle.constraint_compile.specs.Compiled.{IsFittingSum};
+    ghost use Rattle.constraint_compile.specs.Fractions.{negated, plus};
+    ghost use Rattle.constraint_compile.specs.Meaning.{IsRank, unknown_object};
+    ghost use Rattle.constraint_compile.specs.Suggestions.{suggested_priority};
+    ghost use Rattle.script_text.specs.View.{object_view};
+    ghost use Rattle.span_text.specs.Objects.{Meant};
     ghost use Rattle.session_undo.specs.Adding.{AddStop, StopStep, NoEnd, NoOther, IsFreeView, IsFreeMetric};
     ghost use Rattle.session_undo.specs.Adding.{IsFreeLine, IsGroupLimit, IsGroupFree, IsLineLimit};
-    ghost use Rattle.session_undo.specs.Adding.{IsLineFree, IsFreeSize};
+    ghost use Rattle.session_undo.specs.Adding.{IsLineFree, IsFreeSize, IsGoing};
 
     /// The window alone, and a budget of 100,000 exchanges.
     pub fn new(alloc: Global) -> Result<Session, OutOfMemory>
@@ -399,6 +415,7 @@ impl Session {
             (TriedFormat self.now group.now align (meaning format.now) NoEnd) self.now result }
     {
         let (tree, metrics) = (self.scene.tree(), self.scene.metrics());
+        let _count = tree.len();
         match compile_format(
             self.alloc,
             tree,
@@ -432,6 +449,251 @@ impl Session {
             Ok(new) => self.add_line(new),
             Err(refusal) => Err(refusal),
         }
+    }
+
+    // The views that go with the view of this name.
+    fn going(&self, name: &str) -> Result<Vec<u32>, Refusal>
+        ensures going { IfOk result (λ gone. IsGoing self.now.scene name.now gone.items) }
+        ensures refused { Refusing (TriedDrop self.now name.now NoEnd) self.now result }
+    {
+        let views = self.scene.tree();
+        let Some(root) = views.find(name) else {
+            return Err(Refusal::Unknown(OwnedName::of(self.alloc, name.as_bytes())?));
+        };
+        if root.0 == 0 {
+            return Err(Refusal::Kind(KindWord::Window));
+        }
+        Ok(views.subtree(root)?)
+    }
+
+    // The view of this name leaves, with all below it.
+    fn drop_view(&mut self, name: &str) -> Result<Reply, Refusal>
+        ensures accepted { Accepting (TriedDrop self.old name.now (LeavesFree self.old)) self.new result }
+        ensures refused { Refusing (TriedDrop self.old name.now (LeavesFree self.old)) self.old result }
+        ensures same { OnErr result (self.new ≡ self.old) }
+    {
+        let gone = match self.going(name) {
+            Ok(gone) => gone,
+            Err(refusal) => return Err(refusal),
+        };
+        let end = self.scene.take_views_out(&gone, self.budget);
+        left_answer(end)
+    }
+
+    // The lines of the group leave.
+    fn remove_group(&mut self, group: &str) -> Result<Reply, Refusal>
+        ensures accepted { Accepting (TriedRemove self.old group.now (LeavesFree self.old)) self.new result }
+        ensures refused { Refusing (TriedRemove self.old group.now (LeavesFree self.old)) self.old result }
+        ensures same { OnErr result (self.new ≡ self.old) }
+    {
+        if !self.scene.has_group(group.as_bytes()) {
+            return Err(Refusal::Unknown(OwnedName::of(self.alloc, group.as_bytes())?));
+        }
+        let end = self.scene.take_group_out(group.as_bytes(), self.budget);
+        left_answer(end)
+    }
+
+    // The rank that a suggestion's priority stands for.
+    fn rank_of(&self, priority: Option<Object<'_>>) -> Result<u16, Refusal>
+        ensures rank { IfOk result (IsRank self.now.scene.tree.views self.now.scene.metrics
+            (suggested_priority (object_view priority.entry))) }
+        ensures known { OnOk result (unknown_object self.now.scene.tree.views self.now.scene.metrics
+            (suggested_priority (object_view priority.entry)) ≡ None) }
+        ensures refused { Refusing (UnlessRankless self.now (suggested_priority (object_view priority.entry))
+            (λ reply new. ⊥)) self.now result }
+    {
+        let (tree, metrics) = (self.scene.tree(), self.scene.metrics());
+        match suggested_rank(self.alloc, tree, metrics, priority) {
+            Ok(rank) => Ok(rank),
+            Err(CompileStop::Unknown(name)) => Err(Refusal::Unknown(name)),
+            Err(CompileStop::Kind(word)) => Err(Refusal::Kind(word)),
+            Err(CompileStop::OutOfMemory) => Err(Refusal::OutOfMemory),
+            Err(CompileStop::Limit(_)) => unreachable!(),
+        }
+    }
+
+    // The first suggestion of an attribute of the view.
+    fn first_suggestion(
+        &self,
+        view: ViewId,
+        rank: u16,
+        word: AttrWord,
+        value: Frac,
+    ) -> Result<Suggestion, LimitWord>
+        ensures made { IfOk result (IsSuggestionOf view.0 word value) }
+        ensures row { IfOk result (λ s. (s.row ≡ self.now.scene.next_row) × (s.rank ≡ rank)) }
+        ensures room { OnOk result (IsCrowded self.now 1 → ⊥) }
+        ensures stop { IfErr result (λ limit. (priority : Option Meant)
+            → Suggests self.now view.0 word value priority rank None NoEnd (Limit limit) self.now) }
+    {
+        if self.is_crowded(1) {
+            return Err(LimitWord::Rows);
+        }
+        let Some(constant) = suggested_constant(word, value) else {
+            return Err(LimitWord::Constant);
+        };
+        Ok(Suggestion {
+            row: self.scene.next_row(),
+            rank,
+            view: view.0,
+            word,
+            constant,
+        })
+    }
+
+    // A suggestion that is held, with another constant.
+    fn later_suggestion(
+        &self,
+        held: &Suggestion,
+        view: ViewId,
+        word: AttrWord,
+        value: Frac,
+    ) -> Result<Suggestion, LimitWord>
+        ensures made { IfOk result (IsSuggestionOf view.0 word value) }
+        ensures row { IfOk result (λ s. s.row ≡ held.now.row) }
+        ensures near { IfOk result (λ s. IsFittingSum (plus s.constant (negated held.now.constant))) }
+        ensures stop { IfErr result (λ limit. (rank : ℕ)
+            → Suggests self.now view.0 word value None rank (Some held.now) NoEnd (Limit limit) self.now) }
+    {
+        let Some(constant) = suggested_constant(word, value) else {
+            return Err(LimitWord::Constant);
+        };
+        if !fits_after(held.constant, constant) {
+            return Err(LimitWord::Constant);
+        }
+        Ok(Suggestion {
+            row: held.row,
+            rank: held.rank,
+            view: view.0,
+            word,
+            constant,
+        })
+    }
+
+    // What a suggestion comes to, for an attribute of the view.
+    fn suggestion_for(
+        &self,
+        view: ViewId,
+        word: AttrWord,
+        value: Frac,
+        priority: Option<Object<'_>>,
+    ) -> Result<NewSuggestion, Refusal>
+        ensures made { IfOk result (IsSuggestionFor self.now view.0 word value (object_view priority.entry)) }
+        ensures refused { Refusing
+            (SuggestStep self.now view.0 word value (object_view priority.entry)) self.now result }
+    {
+        let rank = match self.rank_of(priority) {
+            Ok(rank) => rank,
+            Err(refusal) => return Err(refusal),
+        };
+        let Some(held) = self.scene.suggestion(view, word) else {
+            return match self.first_suggestion(view, rank, word, value) {
+                Ok(new) => Ok(NewSuggestion::First(new)),
+                Err(limit) => Err(Refusal::Limit(limit)),
+            };
+        };
+        if priority.is_some() {
+            return Err(Refusal::Kind(KindWord::Suggested));
+        }
+        match self.later_suggestion(&held, view, word, value) {
+            Ok(again) => Ok(NewSuggestion::Again(again)),
+            Err(limit) => Err(Refusal::Limit(limit)),
+        }
+    }
+
+    // What a suggestion comes to, for an attribute of the view of this name.
+    fn new_suggestion(
+        &self,
+        name: &str,
+        word: AttrWord,
+        value: Frac,
+        priority: Option<Object<'_>>,
+    ) -> Result<NewSuggestion, Refusal>
+        ensures made { IfOk result
+            (IsFreeSuggestion self.now name.now word value (object_view priority.entry)) }
+        ensures refused { Refusing
+            (TriedSuggest self.now name.now word value (object_view priority.entry) NoEnd) self.now result }
+    {
+        let Some(view) = self.scene.tree().find(name) else {
+            return Err(Refusal::Unknown(OwnedName::of(self.alloc, name.as_bytes())?));
+        };
+        self.suggestion_for(view, word, value, priority)
+    }
+
+    // The first suggestion of an attribute joins.
+    fn suggest_first(&mut self, new: Suggestion) -> Result<Reply, Refusal>
+        requires next { IsNextSuggestion self.old.scene new }
+        requires room { IsCrowded self.old 1 → ⊥ }
+        ensures accepted { Accepting (Solves self.old (with_suggestion self.old.scene new)) self.new result }
+        ensures refused { Refusing (Solves self.old (with_suggestion self.old.scene new)) self.old result }
+        ensures same { OnErr result (self.new ≡ self.old) }
+    {
+        let end = self.scene.take_suggestion(new, self.budget);
+        answer_of(end)
+    }
+
+    // A suggestion that is held has another constant.
+    fn suggest_later(&mut self, again: Suggestion) -> Result<Reply, Refusal>
+        requires { IsNearSuggestion self.old.scene again }
+        ensures accepted { Accepting (Solves self.old
+            (with_suggested self.old.scene again.view again.word again.constant)) self.new result }
+        ensures refused { Refusing (Solves self.old
+            (with_suggested self.old.scene again.view again.word again.constant)) self.old result }
+        ensures same { OnErr result (self.new ≡ self.old) }
+    {
+        let end = self.scene.take_suggested(again, self.budget);
+        answer_of(end)
+    }
+
+    // An attribute of the view of this name is to have a value.
+    fn suggest(
+        &mut self,
+        name: &str,
+        word: AttrWord,
+        value: Frac,
+        priority: Option<Object<'_>>,
+    ) -> Result<Reply, Refusal>
+        ensures accepted { Accepting (TriedSuggest self.old name.now word value (object_view priority.entry)
+            (Solves self.old)) self.new result }
+        ensures refused { Refusing (TriedSuggest self.old name.now word value (object_view priority.entry)
+            (Solves self.old)) self.old result }
+        ensures same { OnErr result (self.new ≡ self.old) }
+    {
+        match self.new_suggestion(name, word, value, priority) {
+            Ok(NewSuggestion::First(new)) => self.suggest_first(new),
+            Ok(NewSuggestion::Again(again)) => self.suggest_later(again),
+            Err(refusal) => Err(refusal),
+        }
+    }
+
+    // The view of this name, of which this suggestion is held.
+    fn suggested(&self, name: &str, word: AttrWord) -> Result<ViewId, Refusal>
+        ensures held { IfOk result (λ id. IsHeldSuggestion self.now.scene name.now word id.0) }
+        ensures refused { Refusing (TriedRelease self.now name.now word NoEnd) self.now result }
+    {
+        let Some(view) = self.scene.tree().find(name) else {
+            return Err(Refusal::Unknown(OwnedName::of(self.alloc, name.as_bytes())?));
+        };
+        if self.scene.suggestion(view, word).is_none() {
+            return Err(Refusal::Unknown(suggestion_name(self.alloc, name, word)?));
+        }
+        Ok(view)
+    }
+
+    // The suggestion leaves.
+    fn release(&mut self, name: &str, word: AttrWord) -> Result<Reply, Refusal>
+        ensures accepted { Accepting
+            (TriedRelease self.old name.now word (LeavesFree self.old)) self.new result }
+        ensures refused { Refusing
+            (TriedRelease self.old name.now word (LeavesFree self.old)) self.old result }
+        ensures same { OnErr result (self.new ≡ self.old) }
+    {
+        let view = match self.suggested(name, word) {
+            Ok(view) => view,
+            Err(refusal) => return Err(refusal),
+        };
+        let end = self.scene.take_suggestion_out(view, word, self.budget);
+        left_answer(end)
     }
 
     // Each run may make so many exchanges.
@@ -526,6 +788,62 @@ impl Session {
         }
     }
 
+    // The problem without the view of this name and all below it.
+    fn drop_problem(&self, name: &str) -> Result<Problem, Refusal>
+        ensures posed { IfOk result (λ p. TriedDrop self.now name.now (PosesDraft p) Done self.now) }
+        ensures refused { Refusing (TriedDrop self.now name.now NoEnd) self.now result }
+    {
+        let gone = match self.going(name) {
+            Ok(gone) => gone,
+            Err(refusal) => return Err(refusal),
+        };
+        Ok(self.scene.left_problem(&gone)?)
+    }
+
+    // The problem without the lines of the group.
+    fn remove_problem(&self, group: &str) -> Result<Problem, Refusal>
+        ensures posed { IfOk result (λ p. TriedRemove self.now group.now (PosesDraft p) Done self.now) }
+        ensures refused { Refusing (TriedRemove self.now group.now NoEnd) self.now result }
+    {
+        if !self.scene.has_group(group.as_bytes()) {
+            return Err(Refusal::Unknown(OwnedName::of(self.alloc, group.as_bytes())?));
+        }
+        Ok(self.scene.group_problem(group.as_bytes())?)
+    }
+
+    // The problem with this suggestion.
+    fn suggest_problem(
+        &self,
+        name: &str,
+        word: AttrWord,
+        value: Frac,
+        priority: Option<Object<'_>>,
+    ) -> Result<Problem, Refusal>
+        ensures posed { IfOk result
+            (λ p. TriedSuggest self.now name.now word value (object_view priority.entry) (PosesDraft p)
+            Done self.now) }
+        ensures refused { Refusing
+            (TriedSuggest self.now name.now word value (object_view priority.entry) NoEnd) self.now result }
+    {
+        match self.new_suggestion(name, word, value, priority) {
+            Ok(NewSuggestion::First(new)) => Ok(self.scene.suggestion_problem(&new)?),
+            Ok(NewSuggestion::Again(again)) => Ok(self.scene.suggested_problem(&again)?),
+            Err(refusal) => Err(refusal),
+        }
+    }
+
+    // The problem without this suggestion.
+    fn release_problem(&self, name: &str, word: AttrWord) -> Result<Problem, Refusal>
+        ensures posed { IfOk result (λ p. TriedRelease self.now name.now word (PosesDraft p) Done self.now) }
+        ensures refused { Refusing (TriedRelease self.now name.now word NoEnd) self.now result }
+    {
+        let view = match self.suggested(name, word) {
+            Ok(view) => view,
+            Err(refusal) => return Err(refusal),
+        };
+        Ok(self.scene.release_problem(view, word)?)
+    }
+
     // The scene's problem, where so many exchanges may be allowed.
     fn budget_problem(&self, exchanges: u64) -> Result<Problem, Refusal>
         ensures posed { IfOk result
@@ -547,6 +865,15 @@ impl Session {
     {
         match command {
             Command::View { name, parent } => self.view_problem(name, parent_or_window(*parent)),
+            Command::Drop { name } => self.drop_problem(name),
+            Command::Remove { group } => self.remove_problem(group),
+            Command::Suggest {
+                view,
+                word,
+                value,
+                priority,
+            } => self.suggest_problem(view, *word, *value, *priority),
+            Command::Release { view, word } => self.release_problem(view, *word),
             Command::Metric { name, value } => self.metric_problem(name, *value),
             Command::Window { width, height } => self.size_problem(&WindowSize {
                 width: *width,
@@ -572,6 +899,15 @@ impl Session {
         match command {
             Command::Nothing => Ok(Reply::Silent),
             Command::View { name, parent } => self.add_view(name, parent_or_window(parent)),
+            Command::Drop { name } => self.drop_view(name),
+            Command::Remove { group } => self.remove_group(group),
+            Command::Suggest {
+                view,
+                word,
+                value,
+                priority,
+            } => self.suggest(view, word, value, priority),
+            Command::Release { view, word } => self.release(view, word),
             Command::Metric { name, value } => self.set_metric(name, value),
             Command::Window { width, height } => self.resize(width, height),
             Command::Constrain { group, line } => self.constrain(group, &line),

@@ -5,15 +5,16 @@ ghost use Rattle.problem_core.specs.Kept.{IsWhole, AreRising};
 ghost use Rattle.cert_core.specs.Paths as paths;
 ghost use Rattle.layout_solver.specs.Begins.{IsRunFrom, IsStopFrom};
 ghost use Rattle.layout_solver.specs.Layouts.{with_added, zeros};
+ghost use Rattle.layout_solver.specs.Removals.{CanLeave, IsRemoveStop, stood, with_removed};
 ghost use Rattle.layout_solver.specs.Shifts.{CanShift, shifted, with_shifts};
-ghost use Rattle.session_undo.specs.Adding.{from_corner, from_shifts};
+ghost use Rattle.session_undo.specs.Adding.{from_corner, from_shifts, HasRun};
 ghost use Rattle.session_undo.specs.Items.{without_constant};
 ghost use Rattle.session_undo.specs.Machine.{AreNear};
 
 use crate::showing::show_rows;
 use cert_core::RunStop;
 use frac_core::OutOfMemory;
-use layout_solver::{Change, Engine};
+use layout_solver::{Change, Engine, RemoveStop};
 use problem_core::Row;
 use std::alloc::Global;
 
@@ -53,6 +54,31 @@ pub fn take_constants(engine: &mut Engine, to: &[Change], budget: u64) -> Result
     ensures same { OnErr result (engine.new ≡ engine.old) }
 {
     match engine.shift(to, budget) {
+        Ok(()) => {
+            engine.show_layout();
+            Ok(())
+        }
+        Err(stop) => Err(stop),
+    }
+}
+
+/// Takes rows and attributes out, with the stays at the present values, and goes on to the best values.
+pub fn take_out(
+    engine: &mut Engine,
+    rows: &[u32],
+    attrs: &[u32],
+    budget: u64,
+) -> Result<(), RemoveStop>
+    requires leave { CanLeave (record { rows = rows.now; attrs = attrs.now }) engine.old.problem }
+    ensures done { OnOk result
+        (engine.new.problem ≡ with_removed engine.old (record { rows = rows.now; attrs = attrs.now })) }
+    ensures run { IfOk result (λ _. HasRun engine.old engine.new
+        (record { rows = rows.now; attrs = attrs.now }) budget) }
+    ensures stop { IfErr result (IsRemoveStop (stood engine.old) engine.old.corner
+        (record { rows = rows.now; attrs = attrs.now }) budget) }
+    ensures same { OnErr result (engine.new ≡ engine.old) }
+{
+    match engine.remove(rows, attrs, budget) {
         Ok(()) => {
             engine.show_layout();
             Ok(())

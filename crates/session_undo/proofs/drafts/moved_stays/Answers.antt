@@ -1,4 +1,4 @@
-use Rattle.std.proofs.Common.{◌≡◌, ◌∙◌, ◌++◌, ◌∷◌, [], List, ap, sym, refl}
+use Rattle.std.proofs.Common.{◌∙◌, ◌++◌, ◌∷◌, [], List, ap, sym, refl}
 use Rattle.problem_core.specs.declared.parts.Stay.{Stay}
 use Rattle.session_undo.proofs.Moves.{stay, moved-next}
 use Rattle.session_undo.proofs.drafts.moved_stays.Goals as goal

@@ -1,4 +1,4 @@
-use Rattle.std.proofs.Common.{◌≡◌, ◌∙◌, ◌++◌, ◌∷◌, [], List, ap, sym}
+use Rattle.std.proofs.Common.{◌∙◌, ◌++◌, ◌∷◌, [], ap, sym}
 use Rattle.problem_core.specs.Layout.{Row}
 use Rattle.session_undo.specs.Items.{at_constant}
 use Rattle.session_undo.proofs.ShiftedRows.{shifted-next, shifted-none}

@@ -1,5 +1,5 @@
-use Rattle.std.proofs.Common.{◌≡◌, ◌∙◌, List, map, ap, sym}
-use Rattle.problem_core.specs.Layout.{Row, Problem}
+use Rattle.std.proofs.Common.{◌≡◌, ◌∙◌, map, ap}
+use Rattle.problem_core.specs.Layout.{Problem}
 use Rattle.layout_solver.specs.Layouts.{stays_at}
 use Rattle.layout_solver.specs.Shifts.{shifted}
 use Rattle.session_undo.specs.Items.{without_constant}

@@ -1,4 +1,4 @@
-use Rattle.std.proofs.Common.{◌∙◌, ◌<◌, ◌^◌, ap, drop, length, subst, sym}
+use Rattle.std.proofs.Common.{◌∙◌, ap, drop, length, subst, sym}
 use Rattle.session_undo.specs.Machine.{IsFarSize}
 use Rattle.session_undo.specs.Scene.{Scene}
 use Rattle.session_undo.specs.Kept.{items_of, size_in}

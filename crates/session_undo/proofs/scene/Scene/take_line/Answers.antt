@@ -18,7 +18,7 @@ returns-in-Err-clause-stop c =
 pub invariant_of-self-2 : goal.invariant_of-self-2
 invariant_of-self-2 c =
     line-kept c.self.inside.tree c.self.inside.metrics (items_of c.self.inside.items.items) c.self.inside.next_row c.self.inside.engine c.self.invariant c.show_layout.ensures.layout
-    (items_of c.push_reserved.new.self.items) (c.self.inside.next_row + length c.args.rows.now) c.take_more.new.engine c.args.group c.args.line c.args.rows.now (rw (← c.self.view_is) at c.requires.rows) c.in-Ok.ensures.done
+    (items_of c.push_reserved.new.self.items) (c.self.inside.next_row + length c.args.rows.now) c.take_more.new.engine c.args.group c.args.line c.args.rows.now (subst (λ (s : Scene). IsNextLine s.tree.views s.next_row c.args.line) (sym c.self.view_is) c.requires.next).owned (rw (← c.self.view_is) at c.requires.rows) c.in-Ok.ensures.done
     (items-more c.self.inside.items.items c.push_reserved.new.self.items (kind.OfLine c.args.group c.args.line) (c.push_reserved.ensures.items ∙ ap (λ (is : List declared.Item). is ++ (kind.OfLine c.args.group c.args.line) ∷ []) c.in_ok-make_room.ensures.items)) (omega arith)
     (counted-line c.self.inside.tree.views c.self.inside.next_row c.self.inside.engine c.args.line c.self.inside.metrics c.args.rows.now c.take_more.new.engine.problem c.show_layout.ensures.best.attributes c.self.invariant.counted
     (subst (λ (s : Scene). IsNextLine s.tree.views s.next_row c.args.line) (sym c.self.view_is) c.requires.next) (rw (← c.self.view_is) at c.requires.rows) (subst (λ (s : Scene). length s.rows + length c.args.rows.now ≤ 2000) (sym c.self.view_is) c.requires.room) c.in-Ok.ensures.done)

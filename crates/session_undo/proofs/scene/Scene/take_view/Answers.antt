@@ -6,7 +6,7 @@ use Rattle.session_undo.specs.declared.item.Item as declared
 use Rattle.session_undo.specs.declared.item.Item.TheVariants as kind
 use Rattle.session_undo.specs.Kept.{items_of}
 use Rattle.session_undo.specs.Scene.{Scene}
-use Rattle.session_undo.proofs.ItemRows.{items-more}
+use Rattle.session_undo.proofs.ItemRows.{all-named-append, items-more}
 use Rattle.session_undo.proofs.Solved.{view-stops, view-free, view-solved, view-kept}
 use Rattle.session_undo.proofs.Attributes.{stays-below}
 use Rattle.session_undo.proofs.Reached.{settled}
@@ -40,7 +40,7 @@ invariant_of-self-2 c =
     (subst (λ (s : Scene). c.args.id.0 ≡ s.tree.next) (sym c.self.view_is) c.requires.id) c.in_ok-add_to_tree.ensures.grown in
     rw c.in_ok-add_to_tree.ensures.added
     (view-kept c.self.inside.tree c.self.inside.metrics (items_of c.self.inside.items.items) c.self.inside.next_row c.self.inside.engine c.self.invariant c.show_layout.ensures.layout
-    (with_view c.self.inside.tree c.args.name.now c.args.above.0) (items_of c.push_reserved.new.self.items) c.take_more.new.engine c.args.id.0 c.in_ok-rows.rows.items c.in_ok-rows.ensures c.requires.small (subst (λ (s : Scene). s.next_row < 2 ^ 31) (sym c.self.view_is) c.requires.number) (rw c.deref-2.ensures.value at c.in-Ok.ensures.done)
+    (with_view c.self.inside.tree c.args.name.now c.args.above.0) (items_of c.push_reserved.new.self.items) c.take_more.new.engine c.args.id.0 c.in_ok-rows.rows.items (all-named-append c.self.inside.tree.views _ (items_of c.self.inside.items.items) c.self.invariant.named) c.in_ok-rows.ensures c.requires.small (subst (λ (s : Scene). s.next_row < 2 ^ 31) (sym c.self.view_is) c.requires.number) (rw c.deref-2.ensures.value at c.in-Ok.ensures.done)
     (items-more c.self.inside.items.items c.push_reserved.new.self.items (kind.OfView c.self.inside.next_row c.args.id.0) (c.push_reserved.ensures.items ∙ ap (λ (is : List declared.Item). is ++ (kind.OfView c.self.inside.next_row c.args.id.0) ∷ []) c.in_ok-make_room.ensures.items))
     (counted-view c.self.inside.tree.views (with_view c.self.inside.tree c.args.name.now c.args.above.0).views c.self.inside.next_row c.args.id.0 c.self.inside.engine c.in_ok-rows.rows.items c.take_more.new.engine.problem c.show_layout.ensures.best.attributes c.self.invariant.counted
     grow c.in_ok-rows.ensures (subst (λ (s : Scene). length s.rows + 2 ≤ 2000) (sym c.self.view_is) c.requires.room) (rw c.deref-2.ensures.value at c.in-Ok.ensures.done)))

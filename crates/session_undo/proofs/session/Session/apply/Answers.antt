@@ -35,3 +35,27 @@ returns-in-Metric-clause-accepted c = rw c.in-Metric.is c.set_metric.ensures.acc
 
 pub returns-in-Vfl-clause-accepted : goal.returns-in-Vfl-clause-accepted
 returns-in-Vfl-clause-accepted c = rw c.in-Vfl.is c.add_format.ensures.accepted
+
+pub returns-in-Drop-clause-accepted : goal.returns-in-Drop-clause-accepted
+returns-in-Drop-clause-accepted c = rw c.in-Drop.is c.drop_view.ensures.accepted
+
+pub returns-in-Drop-clause-refused : goal.returns-in-Drop-clause-refused
+returns-in-Drop-clause-refused c = rw c.in-Drop.is c.drop_view.ensures.refused
+
+pub returns-in-Remove-clause-accepted : goal.returns-in-Remove-clause-accepted
+returns-in-Remove-clause-accepted c = rw c.in-Remove.is c.remove_group.ensures.accepted
+
+pub returns-in-Remove-clause-refused : goal.returns-in-Remove-clause-refused
+returns-in-Remove-clause-refused c = rw c.in-Remove.is c.remove_group.ensures.refused
+
+pub returns-in-Suggest-clause-accepted : goal.returns-in-Suggest-clause-accepted
+returns-in-Suggest-clause-accepted c = rw c.in-Suggest.is c.suggest.ensures.accepted
+
+pub returns-in-Suggest-clause-refused : goal.returns-in-Suggest-clause-refused
+returns-in-Suggest-clause-refused c = rw c.in-Suggest.is c.suggest.ensures.refused
+
+pub returns-in-Release-clause-accepted : goal.returns-in-Release-clause-accepted
+returns-in-Release-clause-accepted c = rw c.in-Release.is c.release.ensures.accepted
+
+pub returns-in-Release-clause-refused : goal.returns-in-Release-clause-refused
+returns-in-Release-clause-refused c = rw c.in-Release.is c.release.ensures.refused

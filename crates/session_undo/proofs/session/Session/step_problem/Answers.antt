@@ -39,3 +39,27 @@ returns-in-Vfl-clause-refused c = rw c.in-Vfl.is c.format_problem.ensures.refuse
 
 pub returns-in-Window-clause-posed : goal.returns-in-Window-clause-posed
 returns-in-Window-clause-posed c = rw c.in-Window.is c.size_problem.ensures.posed
+
+pub returns-in-Drop-clause-posed : goal.returns-in-Drop-clause-posed
+returns-in-Drop-clause-posed c = rw c.in-Drop.is c.drop_problem.ensures.posed
+
+pub returns-in-Drop-clause-refused : goal.returns-in-Drop-clause-refused
+returns-in-Drop-clause-refused c = rw c.in-Drop.is c.drop_problem.ensures.refused
+
+pub returns-in-Remove-clause-posed : goal.returns-in-Remove-clause-posed
+returns-in-Remove-clause-posed c = rw c.in-Remove.is c.remove_problem.ensures.posed
+
+pub returns-in-Remove-clause-refused : goal.returns-in-Remove-clause-refused
+returns-in-Remove-clause-refused c = rw c.in-Remove.is c.remove_problem.ensures.refused
+
+pub returns-in-Suggest-clause-posed : goal.returns-in-Suggest-clause-posed
+returns-in-Suggest-clause-posed c = rw c.in-Suggest.is c.suggest_problem.ensures.posed
+
+pub returns-in-Suggest-clause-refused : goal.returns-in-Suggest-clause-refused
+returns-in-Suggest-clause-refused c = rw c.in-Suggest.is c.suggest_problem.ensures.refused
+
+pub returns-in-Release-clause-posed : goal.returns-in-Release-clause-posed
+returns-in-Release-clause-posed c = rw c.in-Release.is c.release_problem.ensures.posed
+
+pub returns-in-Release-clause-refused : goal.returns-in-Release-clause-refused
+returns-in-Release-clause-refused c = rw c.in-Release.is c.release_problem.ensures.refused

@@ -1,0 +1,23 @@
+use Rattle.std.proofs.Common.{◌≡◌, []}
+use Rattle.problem_core.specs.Layout.{Problem}
+use Rattle.layout_solver.specs.Removals.{with_removed}
+use Rattle.session_undo.specs.Machine.{IsProblemOf}
+use Rattle.session_undo.specs.Items.{is_suggestion}
+use Rattle.session_undo.specs.Leaving.{numbers_of, without_suggestion}
+use Rattle.session_undo.specs.Kept.{items_of, scene_at}
+use Rattle.session_undo.proofs.LeavingScenes.{group-can, group-poses}
+use Rattle.session_undo.proofs.Chains.{ok-map}
+use Rattle.session_undo.proofs.scene.Scene.release_problem.Goals as goal
+
+pub with_less-requires : goal.with_less-requires
+with_less-requires c =
+    rw (c.deref-2.ensures.value, c.in_ok-rows.ensures, c.deref.ensures.value)
+    (group-can c.self.inside.tree c.self.inside.metrics (items_of c.self.inside.items.items) c.self.inside.next_row c.self.inside.engine c.self.invariant c.show_layout.ensures.layout (is_suggestion c.args.view.0 c.args.word))
+
+pub returns : goal.returns
+returns c =
+    rw (← c.self.view_is)
+    (ok-map (λ (p : Problem). p ≡ with_removed c.self.inside.engine (record { rows = numbers_of (is_suggestion c.args.view.0 c.args.word) (items_of c.self.inside.items.items); attrs = [] }))
+    (λ (p : Problem). IsProblemOf (without_suggestion (scene_at c.self.inside.tree c.self.inside.metrics (items_of c.self.inside.items.items) c.self.inside.next_row c.self.inside.engine) c.args.view.0 c.args.word) p) c.with_less.result
+    (λ p made. group-poses c.self.inside.tree c.self.inside.metrics (items_of c.self.inside.items.items) c.self.inside.next_row c.self.inside.engine c.self.invariant c.show_layout.ensures.layout (is_suggestion c.args.view.0 c.args.word) p made)
+    (rw (c.deref-2.ensures.value, c.in_ok-rows.ensures, c.deref.ensures.value) at c.with_less.ensures))

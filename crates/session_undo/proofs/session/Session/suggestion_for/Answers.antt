@@ -1,0 +1,25 @@
+use Rattle.std.proofs.Common.{◌≡◌, Option, Some, None, false, is_some, sym, subst, rules}
+use Rattle.span_text.specs.Objects.{Meant}
+use Rattle.script_text.specs.View.{object_view}
+use Rattle.session_undo.specs.Items.{suggestion_of}
+use Rattle.session_undo.specs.Adding.{NoEnd}
+use Rattle.session_undo.specs.Machine.{Suggests}
+use Rattle.session_undo.specs.Replies.{Limit}
+use Rattle.session_undo.proofs.SuggestionSteps.{held-step, no-priority, ranked-step}
+use Rattle.session_undo.proofs.session.Session.suggestion_for.Goals as goal
+
+pub returns-in-Err-first_suggestion-clause-refused : goal.returns-in-Err-first_suggestion-clause-refused
+returns-in-Err-first_suggestion-clause-refused c =
+    let none : suggestion_of c.args.view.0 c.args.word c.args.self.now.scene.held ≡ None = search rules in
+    ranked-step c.args.self.now c.args.view.0 c.args.word c.args.value (object_view c.args.priority) c.in-Ok.rank (Limit c.in-Err-first_suggestion.limit) c.args.self.now c.in-Ok.ensures.known c.in-Ok.ensures.rank
+    (held-step c.args.self.now c.args.view.0 c.in-Ok.rank c.args.word c.args.value (object_view c.args.priority) None (Limit c.in-Err-first_suggestion.limit) c.args.self.now none (c.in-Err-first_suggestion.ensures.stop (object_view c.args.priority)))
+
+pub returns-in-Err-later_suggestion-clause-refused : goal.returns-in-Err-later_suggestion-clause-refused
+returns-in-Err-later_suggestion-clause-refused c =
+    let some : suggestion_of c.args.view.0 c.args.word c.args.self.now.scene.held ≡ Some c.in-Some.held = search rules in
+    let no : is_some c.args.priority ≡ false = search rules in
+    let step : Suggests c.args.self.now c.args.view.0 c.args.word c.args.value (object_view c.args.priority) c.in-Ok.rank (Some c.in-Some.held) NoEnd (Limit c.in-Err-later_suggestion.limit) c.args.self.now =
+    subst (λ (p : Option Meant). Suggests c.args.self.now c.args.view.0 c.args.word c.args.value p c.in-Ok.rank (Some c.in-Some.held) NoEnd (Limit c.in-Err-later_suggestion.limit) c.args.self.now) (sym (no-priority c.args.priority no))
+    (c.in-Err-later_suggestion.ensures.stop c.in-Ok.rank) in
+    ranked-step c.args.self.now c.args.view.0 c.args.word c.args.value (object_view c.args.priority) c.in-Ok.rank (Limit c.in-Err-later_suggestion.limit) c.args.self.now c.in-Ok.ensures.known c.in-Ok.ensures.rank
+    (held-step c.args.self.now c.args.view.0 c.in-Ok.rank c.args.word c.args.value (object_view c.args.priority) (Some c.in-Some.held) (Limit c.in-Err-later_suggestion.limit) c.args.self.now some step)

@@ -1,0 +1,85 @@
+-- What leaves a scene: a group of lines, a suggestion, or a view with all below it.
+use Rattle.std.specs.Prelude.{ℕ, ◌+◌, Bool, false, cond, not, List, [], ◌∷◌, ◌++◌, filter, map, nat_eq}
+use Rattle.std.specs.List.{list_any}
+use Rattle.std.specs.Str.{bytes_eq}
+use Rattle.problem_core.specs.declared.parts.Stay.{Stay}
+use Rattle.problem_core.specs.Layout.{Problem}
+use Rattle.view_tree.specs.Drops.{is_among}
+use Rattle.view_tree.specs.Drops as tree
+use Rattle.session_undo.specs.Attributes.{view_attributes}
+use Rattle.script_text.specs.declared.words.AttrWord.{AttrWord}
+use Rattle.session_undo.specs.Items.{Item, OfWindow, OfView, Sized, OfLine, Suggested, is_suggestion}
+use Rattle.session_undo.specs.Scene.{Scene, moved}
+
+-- ---- items
+
+-- the item is a line of this group
+abbrev pub is_in_group : List ℕ → Item → Bool
+is_in_group group OfWindow = false
+is_in_group group (OfView first id) = false
+is_in_group group (Sized first width height) = false
+is_in_group group (OfLine name line) = bytes_eq group name
+is_in_group group (Suggested s) = false
+
+-- the item is one of these views, a line whose text names one of them, or a suggestion for one of them
+abbrev pub goes_with : List ℕ → Item → Bool
+goes_with gone OfWindow = false
+goes_with gone (OfView first id) = is_among gone id
+goes_with gone (Sized first width height) = false
+goes_with gone (OfLine name line) = list_any (λ id. list_any (λ v. nat_eq v id) line.views) gone
+goes_with gone (Suggested s) = is_among gone s.view
+
+-- what stays of what is held
+abbrev pub staying : (Item → Bool) → List Item → List Item
+staying goes held = filter (λ item. not (goes item)) held
+
+-- ---- numbers of rows and of attributes
+
+abbrev pub item_numbers : Item → List ℕ
+item_numbers OfWindow = 1 ∷ 2 ∷ 3 ∷ 4 ∷ []
+item_numbers (OfView first id) = first ∷ (first + 1) ∷ []
+item_numbers (Sized first width height) = first ∷ (first + 1) ∷ []
+item_numbers (OfLine name line) = map (λ f. f.id) line.rows
+item_numbers (Suggested s) = s.row ∷ []
+
+-- the numbers of the rows of what goes, in order
+abbrev pub numbers_of : (Item → Bool) → List Item → List ℕ
+numbers_of goes [] = []
+numbers_of goes (item ∷ more) = cond (goes item) (item_numbers item) [] ++ numbers_of goes more
+
+-- the attributes of these views, in order
+abbrev pub attributes_in : List ℕ → List ℕ
+attributes_in [] = []
+attributes_in (id ∷ more) = view_attributes id ++ attributes_in more
+
+-- the stays of other attributes
+abbrev pub other_stays : List ℕ → List Stay → List Stay
+other_stays attrs stays = filter (λ s. not (is_among attrs s.attr)) stays
+
+-- ---- drafts
+
+-- the problem of the scene, with the stays moved to the values
+abbrev pub stood_of : Scene → Problem
+stood_of scene = record { rows = scene.rows; stays = moved scene.stays scene.values }
+
+-- without the lines of the group
+abbrev pub without_group : Scene → List ℕ → Scene
+without_group old group = record old {
+  held = staying (is_in_group group) old.held;
+  stays = moved old.stays old.values;
+}
+
+-- without the suggestion of this attribute
+abbrev pub without_suggestion : Scene → ℕ → AttrWord → Scene
+without_suggestion old view word = record old {
+  held = staying (is_suggestion view word) old.held;
+  stays = moved old.stays old.values;
+}
+
+-- without these views, their rows, stays and suggestions, and the lines that name one of them
+abbrev pub without_views : Scene → List ℕ → Scene
+without_views old gone = record old {
+  tree = tree.without old.tree gone;
+  held = staying (goes_with gone) old.held;
+  stays = other_stays (attributes_in gone) (moved old.stays old.values);
+}
