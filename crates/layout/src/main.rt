@@ -1,4 +1,4 @@
-//! Reads a script from the standard input and writes the replies to the standard output.
+//! Does what its words ask for, over the standard input and output.
 #![tactic(auto)]
 
 ghost use Rattle.std.specs.Prelude.{◌≡◌};

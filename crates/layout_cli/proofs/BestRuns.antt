@@ -1,5 +1,9 @@
 -- What a line changes, and that a run leads from best values to best values.
-use Rattle.std.proofs.Common.{◌≡◌, ℕ, Bool, List, [], ◌∷◌, sym, subst, inl, inr, ◌⊎◌}
+use Rattle.std.proofs.Common.{◌≡◌, ℕ, Bool, List, [], ◌∷◌, Option, Some, None, sym, subst, inl, inr, ◌⊎◌}
+use Rattle.span_text.specs.Objects.{Meant}
+use Rattle.script_text.specs.declared.words.AttrWord.{AttrWord}
+use Rattle.constraint_compile.specs.declared.suggestion.Suggestion.{Suggestion}
+use Rattle.session_undo.specs.Items.{suggestion_of}
 use Rattle.frac_core.specs.Fraction.{Fraction}
 use Rattle.script_text.specs.Meaning.{Meaning}
 use Rattle.script_text.specs.Meaning as mean
@@ -11,7 +15,9 @@ use Rattle.constraint_compile.specs.FormatRows.{IsCompiledFormat, MayStopFormat}
 use Rattle.constraint_compile.specs.declared.stops.CompileStop.{CompileStop}
 use Rattle.session_undo.specs.Scene.{Scene, State, IsBestState}
 use Rattle.session_undo.specs.Replies.{Reply, Done}
-use Rattle.session_undo.specs.Machine.{Accepts, Solves, SolvesFree, MeaningStep, TriedView, TriedMetric, TriedWindow, TriedLine, TriedBudget, Keeps, parent_name}
+use Rattle.layout_solver.specs.declared.removing.RemoveStop.{RemoveStop}
+use Rattle.layout_solver.specs.declared.removing.RemoveStop.TheVariants as removal
+use Rattle.session_undo.specs.Machine.{Accepts, LeavesFree, Solves, SolvesFree, Suggests, TellsStill, TriedDrop, TriedRelease, TriedRemove, TriedSuggest, MeaningStep, TriedView, TriedMetric, TriedWindow, TriedLine, TriedBudget, Keeps, parent_name}
 use Rattle.layout_cli.specs.Machine.{GrammarStep, Step, Run}
 
 kept : (old new : State) → IsBestState old → new ≡ old → IsBestState new
@@ -32,6 +38,47 @@ solves-free-change old draft reply new (inr (inr spent)) = inl spent.refused.1
 solves-change : (old : State) (draft : Scene) (reply : Reply) (new : State) → Solves old draft reply new → MayChange old reply new
 solves-change old draft reply new (inl conflict) = inl conflict.refused.1
 solves-change old draft reply new (inr free) = solves-free-change old draft reply new free
+
+-- a removal that is told to have stopped changes nothing
+still-kept : (old : State) (stop : RemoveStop) (reply : Reply) (new : State) → TellsStill old stop reply new → new ≡ old
+still-kept old (removal.Unfit still at) reply new told = told.1
+still-kept old (removal.Spent path) reply new told = absurd told
+still-kept old removal.OutOfMemory reply new told = absurd told
+
+leaves-change : (old : State) (draft : Scene) (reply : Reply) (new : State) → LeavesFree old draft reply new → MayChange old reply new
+leaves-change old draft reply new (inl leaves) = inr (leaves.done, λ best. subst IsBestState (sym leaves.kept) (leaves.left.becomes.best, best.1))
+leaves-change old draft reply new (inr (inl over)) = inl (still-kept old over.stop reply new over.told)
+leaves-change old draft reply new (inr (inr spent)) = inl spent.refused.1
+
+drop-change : (old : State) (name : List ℕ) (reply : Reply) (new : State) → TriedDrop old name (LeavesFree old) reply new → MayChange old reply new
+drop-change old name reply new (inl x) = inl x.2
+drop-change old name reply new (inr (a, inl x)) = inl x.2
+drop-change old name reply new (inr (a, inr (b, (root, gone, found, are, leaves)))) = leaves-change old _ reply new leaves
+
+remove-change : (old : State) (group : List ℕ) (reply : Reply) (new : State) → TriedRemove old group (LeavesFree old) reply new → MayChange old reply new
+remove-change old group reply new (inl x) = inl x.2
+remove-change old group reply new (inr (a, leaves)) = leaves-change old _ reply new leaves
+
+suggests-change : (old : State) (view : ℕ) (attr : AttrWord) (value : Fraction) (priority : Option Meant) (rank : ℕ) (held : Option Suggestion) (reply : Reply) (new : State) → Suggests old view attr value priority rank held (Solves old) reply new → MayChange old reply new
+suggests-change old view attr value priority rank None reply new (inl x) = inl x.2
+suggests-change old view attr value priority rank None reply new (inr (a, inl x)) = inl x.2
+suggests-change old view attr value priority rank None reply new (inr (a, inr (b, (c, is, solves)))) = solves-change old _ reply new solves
+suggests-change old view attr value priority rank (Some s) reply new (inl x) = inl x.2
+suggests-change old view attr value priority rank (Some s) reply new (inr (a, inl x)) = inl x.2
+suggests-change old view attr value priority rank (Some s) reply new (inr (a, inr (b, (c, is, inl x)))) = inl x.2
+suggests-change old view attr value priority rank (Some s) reply new (inr (a, inr (b, (c, is, inr (d, solves))))) = solves-change old _ reply new solves
+
+suggest-change : (old : State) (name : List ℕ) (attr : AttrWord) (value : Fraction) (priority : Option Meant) (reply : Reply) (new : State) → TriedSuggest old name attr value priority (Solves old) reply new → MayChange old reply new
+suggest-change old name attr value priority reply new (inl x) = inl x.2
+suggest-change old name attr value priority reply new (inr (a, inl x)) = inl x.3
+suggest-change old name attr value priority reply new (inr (a, inr (b, inl x))) = inl x.2
+suggest-change old name attr value priority reply new (inr (a, inr (b, inr (c, (view, named, rank, is, step))))) =
+    suggests-change old view.id attr value priority rank (suggestion_of view.id attr old.scene.held) reply new step
+
+release-change : (old : State) (name : List ℕ) (attr : AttrWord) (reply : Reply) (new : State) → TriedRelease old name attr (LeavesFree old) reply new → MayChange old reply new
+release-change old name attr reply new (inl x) = inl x.2
+release-change old name attr reply new (inr (a, (view, named, inl x))) = inl x.2
+release-change old name attr reply new (inr (a, (view, named, inr (b, leaves)))) = leaves-change old _ reply new leaves
 
 view-change : (old : State) (name parent : List ℕ) (reply : Reply) (new : State) → TriedView old name parent (SolvesFree old) reply new → MayChange old reply new
 view-change old name parent reply new (inl x) = inl x.2
@@ -71,6 +118,10 @@ budget-change old n reply new (inr (a, (done, is))) = inr (done, λ best. subst 
 meaning-change : (old : State) (m : Meaning) (reply : Reply) (new : State) → MeaningStep old m reply new → MayChange old reply new
 meaning-change old mean.Nothing reply new step = inl step.1
 meaning-change old (mean.View name parent) reply new step = view-change old name (parent_name parent) reply new step
+meaning-change old (mean.Drop name) reply new step = drop-change old name reply new step
+meaning-change old (mean.Remove group) reply new step = remove-change old group reply new step
+meaning-change old (mean.Suggest name attr value priority) reply new step = suggest-change old name attr value priority reply new step
+meaning-change old (mean.Release name attr) reply new step = release-change old name attr reply new step
 meaning-change old (mean.Metric name value) reply new step = metric-change old name value reply new step
 meaning-change old (mean.Window w h) reply new step = window-change old w h reply new step
 meaning-change old (mean.Constrain group line) reply new step = line-change old group 1 (MayStop old.scene.tree.views old.scene.metrics line old.scene.next_row) (IsCompiled old.scene.tree.views old.scene.metrics line old.scene.next_row) reply new step

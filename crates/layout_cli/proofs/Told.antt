@@ -12,7 +12,7 @@ use Rattle.session_undo.specs.Machine.{MeaningStep}
 use Rattle.script_text.specs.Meaning.{Meaning}
 use Rattle.script_text.specs.Grammar.{Line, all_words}
 use Rattle.layout_cli.specs.Machine.{Step}
-use Rattle.session_undo.specs.Replies.{Reply, MayRefuse, IsTold, Tells, IsChange, accepted, is_accepted, Nothing, Done, Frames, Rows, Outside, Unknown, Taken, Limit, Kind, Conflict, Overflow, Spent}
+use Rattle.session_undo.specs.Replies.{Reply, MayRefuse, IsTold, Tells, IsChange, accepted, is_accepted, Nothing, Done, Frames, Rows, Outside, Unknown, Taken, Limit, Kind, Conflict, Overflow, Spent, place_of}
 use Rattle.layout_cli.specs.Replies.{refusal_text, text_of}
 use Rattle.layout_cli.proofs.BestRuns.{step-change, MayChange}
 
@@ -27,8 +27,8 @@ told F old out scene (refusal.Taken name) may is = (Taken name, may, is, refl)
 told F old out scene (refusal.Limit word) may is = (Limit word, may, is, refl)
 told F old out scene (refusal.Kind word) may is = (Kind word, may, is, refl)
 told F old out scene (refusal.Conflict by) may is = (Conflict by, may, is, refl)
-told F old out scene (refusal.Overflow place at) may is = (Overflow place at.path at.quantity, may, is, refl)
-told F old out scene (refusal.Spent place path) may is = (Spent place path, may, is, refl)
+told F old out scene (refusal.Overflow place at) may is = (Overflow (place_of place) at.path at.quantity, may, is, refl)
+told F old out scene (refusal.Spent place path) may is = (Spent (place_of place) path, may, is, refl)
 told F old out scene refusal.OutOfMemory may is = absurd is
 
 -- the reply that is given is one that F allows, and its text is appended

@@ -4,3 +4,4 @@ pub mod Words
 pub mod Checks
 pub mod Outputs
 pub mod Printing
+pub mod Making

@@ -15,11 +15,9 @@ use Rattle.claim_text.specs.Lines.{problem_text}
 use Rattle.claim_text.specs.ClaimLines.{claim_text}
 use Rattle.claim_text.specs.declared.claim.Claim.TheVariants.{IsConflict}
 use Rattle.claim_text.specs.PathTexts.{path_text, unfit_text}
-use Rattle.session_undo.specs.declared.reply.StopPlace.{StopPlace}
-use Rattle.session_undo.specs.declared.reply.StopPlace.TheVariants.{Step}
 use Rattle.session_undo.specs.Scene.{Scene, problem_of}
 use Rattle.session_undo.specs.Replies.{Reply, Nothing, Done, Frames, Rows, Outside, Unknown, Taken, Limit}
-use Rattle.session_undo.specs.Replies.{Kind, Conflict, Overflow, Spent}
+use Rattle.session_undo.specs.Replies.{Kind, Conflict, Overflow, Spent, Place, Step, Still}
 
 abbrev pub limit_text : LimitWord → List ℕ
 limit_text word.Line = codes "line"
@@ -86,15 +84,25 @@ rows_text scene = text_of_each names_of scene.tree.views
 abbrev pub conflict_text : List By → List ℕ
 conflict_text by = codes "refused 6 " ++ claim_text (IsConflict by)
 
--- what stands before the path: no line where the command's own run stops
-abbrev pub place_text : StopPlace → List ℕ
-place_text Step = []
+-- `still ID`
+abbrev pub still_line : ℕ → List ℕ
+still_line id = codes "still " ++ (decimal id ++ 10 ∷ [])
 
-abbrev pub overflow_text : StopPlace → Path → Quantity → List ℕ
+-- one line for each row that is still held
+abbrev pub still_text : List ℕ → List ℕ
+still_text [] = []
+still_text (id ∷ ids) = still_line id ++ still_text ids
+
+-- what stands before the path: no line where the command's own run stops
+abbrev pub place_text : Place → List ℕ
+place_text Step = []
+place_text (Still ids) = still_text ids
+
+abbrev pub overflow_text : Place → Path → Quantity → List ℕ
 overflow_text place path quantity =
     line_of (codes "refused 7 overflow") ++ (place_text place ++ (path_text path ++ unfit_text quantity))
 
-abbrev pub spent_text : StopPlace → Path → List ℕ
+abbrev pub spent_text : Place → Path → List ℕ
 spent_text place path = line_of (codes "refused 8 spent") ++ (place_text place ++ path_text path)
 
 abbrev pub refusal_text : Reply → List ℕ

@@ -20,8 +20,8 @@ const LINE_LIMIT: usize = 4096;
 /// The length of the reply to a change.
 const OK_LENGTH: usize = 3;
 
-// Does what a line says.
-fn step(alloc: Global, session: &mut Session, line: &[u8]) -> Result<Reply, Refusal>
+/// Does what a line says.
+pub(crate) fn step(alloc: Global, session: &mut Session, line: &[u8]) -> Result<Reply, Refusal>
     ensures accepted { IfOk result (λ reply. Step session.old line.now (accepted reply) session.new) }
     ensures refused { IfErr result (MayRefuse (λ reply. Step session.old line.now reply session.old)) }
     ensures same { OnErr result (session.new ≡ session.old) }

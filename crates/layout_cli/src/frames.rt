@@ -1,5 +1,5 @@
 // The text of frames.
-ghost use Rattle.std.specs.Prelude.{◌≡◌, ◌++◌, ◌∷◌, [], IfOk, Some, slice_get};
+ghost use Rattle.std.specs.Prelude.{◌≡◌, ◌++◌, ◌∷◌, [], IfOk, Some, None, slice_get};
 ghost use Rattle.view_tree.specs.Views.{LiveView};
 ghost use Rattle.layout_cli.specs.Replies.{value_text, frame_line, frame_of, text_of_each};
 
@@ -56,10 +56,12 @@ pub(crate) fn named(frame: &[Frac; 4]) -> Frame
     }
 }
 
-// Appends the line that shows the frame of the view at a place.
-fn push_at(out: &mut Vec<u8>, scene: &Scene, place: usize) -> Result<(), OutOfMemory>
-    ensures { IfOk result (λ _. (v : LiveView) → slice_get scene.now.tree.views place ≡ Some v
+/// Appends the line that shows the frame of the view at a place, if a view is there.
+pub(crate) fn push_at(out: &mut Vec<u8>, scene: &Scene, place: usize) -> Result<(), OutOfMemory>
+    ensures line { IfOk result (λ _. (v : LiveView) → slice_get scene.now.tree.views place ≡ Some v
         → out.new.items ≡ out.old.items ++ frame_of scene.now.values v) }
+    ensures none { IfOk result (λ _. slice_get scene.now.tree.views place ≡ None
+        → out.new.items ≡ out.old.items) }
 {
     let Some(view) = scene.tree().at(place) else {
         return Ok(());

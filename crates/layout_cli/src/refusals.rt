@@ -1,8 +1,8 @@
 // The text of refusals.
 ghost use Rattle.std.specs.Prelude.{◌≡◌, ◌++◌, ◌∷◌, [], IfOk, codes, decimal};
-ghost use Rattle.session_undo.specs.Replies.{IsTold};
+ghost use Rattle.session_undo.specs.Replies.{IsTold, place_of};
 ghost use Rattle.layout_cli.specs.Replies.{limit_text, kind_text, refusal_text, conflict_text};
-ghost use Rattle.layout_cli.specs.Replies.{overflow_text, place_text, spent_text};
+ghost use Rattle.layout_cli.specs.Replies.{overflow_text, place_text, spent_text, still_line, still_text};
 
 use cert_core::{Conflict, Path, UnfitPath};
 use claim_text::{conflict_text, path_text, unfit_text};
@@ -71,28 +71,47 @@ fn push_conflict(out: &mut Vec<u8>, conflict: &Conflict) -> Result<(), OutOfMemo
     conflict_text(conflict, out)
 }
 
-// Appends what stands before the path of a stop.
-fn push_place(out: &mut Vec<u8>, place: StopPlace) -> Result<(), OutOfMemory>
-    ensures { IfOk result (λ _. out.new.items ≡ out.old.items ++ place_text place) }
+// Appends the line of a row that is still held.
+fn push_still(out: &mut Vec<u8>, id: u32) -> Result<(), OutOfMemory>
+    ensures { IfOk result (λ _. out.new.items ≡ out.old.items ++ still_line id) }
 {
-    let text: &[u8] = match place {
-        StopPlace::Step => b"",
-    };
-    out.extend_from_slice(text)?;
+    let mut word = String::new(*out.allocator());
+    write!(word, "{id}")?;
+    push_line(out, b"still ", word.as_bytes())
+}
+
+// Appends the lines of the rows that are still held.
+fn push_stills(out: &mut Vec<u8>, ids: &[u32]) -> Result<(), OutOfMemory>
+    ensures { IfOk result (λ _. out.new.items ≡ out.old.items ++ still_text ids.now) }
+{
+    for id in ids {
+        push_still(out, *id)?;
+    }
     Ok(())
 }
 
-fn push_overflow(out: &mut Vec<u8>, place: StopPlace, at: &UnfitPath) -> Result<(), OutOfMemory>
+// Appends what stands before the path of a stop.
+fn push_place(out: &mut Vec<u8>, place: &StopPlace) -> Result<(), OutOfMemory>
+    ensures { IfOk result (λ _. out.new.items ≡ out.old.items ++ place_text (place_of place.now)) }
+{
+    match place {
+        StopPlace::Step => Ok(()),
+        StopPlace::Still(ids) => push_stills(out, ids),
+    }
+}
+
+fn push_overflow(out: &mut Vec<u8>, place: &StopPlace, at: &UnfitPath) -> Result<(), OutOfMemory>
     ensures { IfOk result
-        (λ _. out.new.items ≡ out.old.items ++ overflow_text place at.now.path at.now.quantity) }
+        (λ _. out.new.items
+        ≡ out.old.items ++ overflow_text (place_of place.now) at.now.path at.now.quantity) }
 {
     out.extend_from_slice(b"refused 7 overflow\n")?;
     push_place(out, place)?;
     unfit_text(at, out)
 }
 
-fn push_spent(out: &mut Vec<u8>, place: StopPlace, path: &Path) -> Result<(), OutOfMemory>
-    ensures { IfOk result (λ _. out.new.items ≡ out.old.items ++ spent_text place path.now) }
+fn push_spent(out: &mut Vec<u8>, place: &StopPlace, path: &Path) -> Result<(), OutOfMemory>
+    ensures { IfOk result (λ _. out.new.items ≡ out.old.items ++ spent_text (place_of place.now) path.now) }
 {
     out.extend_from_slice(b"refused 8 spent\n")?;
     push_place(out, place)?;
@@ -111,8 +130,8 @@ pub fn push_refusal(refusal: &Refusal, out: &mut Vec<u8>) -> Result<(), OutOfMem
         Refusal::Limit(word) => push_line(out, b"refused 4 limit ", limit_text(*word).as_bytes()),
         Refusal::Kind(word) => push_line(out, b"refused 5 kind ", kind_text(*word).as_bytes()),
         Refusal::Conflict(conflict) => push_conflict(out, conflict),
-        Refusal::Overflow { place, at } => push_overflow(out, *place, at),
-        Refusal::Spent { place, path } => push_spent(out, *place, path),
+        Refusal::Overflow { place, at } => push_overflow(out, place, at),
+        Refusal::Spent { place, path } => push_spent(out, place, path),
         Refusal::OutOfMemory => Err(OutOfMemory),
     }
 }

@@ -11,5 +11,5 @@ loop-place-preserved c =
       within = omega (arith, c.loop-place-test.true);
       is_end = c.loop-place.invariant.is_end;
       text = text_more (frame_of c.args.scene.now.values) views c.loop-place.place there.0 c.args.out.now.items c.loop-place.out.items c.push_at.new.out.items
-          there.1 c.loop-place.invariant.text (c.in_ok-push_at.ensures there.0 there.1);
+          there.1 c.loop-place.invariant.text (c.in_ok-push_at.ensures.line there.0 there.1);
     }

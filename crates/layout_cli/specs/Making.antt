@@ -1,0 +1,36 @@
+-- What is written of a run of the script that is made.
+use Rattle.std.specs.Prelude.{◌≡◌, ℕ, ◌+◌, ◌-◌, ◌==◌, Bool, List, [], ◌∷◌, ◌++◌, length, codes, decimal, cond}
+use Rattle.std.specs.Str.Lines.{lines}
+use Rattle.make_script.specs.Script.{script}
+use Rattle.session_undo.specs.Scene.{Scene, State, first_state}
+use Rattle.session_undo.specs.Replies.{Reply, is_accepted}
+use Rattle.layout_cli.specs.Machine.{Step}
+use Rattle.layout_cli.specs.Printing.{line_at}
+
+-- a refusal counts 1
+abbrev pub refusal_count : Reply → ℕ
+refusal_count reply = cond (is_accepted reply) 0 1
+
+-- From the old session the lines may get replies, one after the other, of which so many are refusals; the
+-- last session.
+abbrev pub Refuses : State → List (List ℕ) → ℕ → State → Type 0
+Refuses old [] refused new = (refused ≡ 0) × (new ≡ old)
+Refuses old (line ∷ more) refused new = (reply : Reply) × (mid : State) × (rest : ℕ) × Step old line reply mid
+    × (refused ≡ refusal_count reply + rest) × Refuses mid more rest new
+
+-- how many lines there were, how many were refused, and how many rows are held
+unfoldable pub summary_line : ℕ → ℕ → ℕ → List ℕ
+summary_line lines refused rows = codes "made lines " ++ (decimal lines ++ (codes " refused "
+    ++ (decimal refused ++ (codes " rows " ++ (decimal rows ++ 10 ∷ [])))))
+
+-- the line of the frame of the last view
+abbrev pub last_line : Scene → List ℕ
+last_line scene = line_at scene (length scene.tree.views - 1)
+
+-- The text sums up a run of the script that is drawn from the seed for so many views, and shows the last
+-- view's frame at its end; it is good where no line was refused.
+abbrev pub IsMade : ℕ → ℕ → List ℕ → Bool → Type 0
+IsMade seed views text good = (refused : ℕ) × (last : State)
+    × Refuses first_state (lines (script seed views)) refused last
+    × (text ≡ summary_line (length (lines (script seed views))) refused (length last.scene.rows)
+    ++ last_line last.scene) × (good ≡ (refused == 0))

@@ -1,0 +1,104 @@
+// The script that is made, and what a run of it comes to.
+ghost use Rattle.std.specs.Prelude.{◌≡◌, ◌<◌, ◌≤◌, ◌^◌, ◌++◌, IfOk, IsTrue, length, string_bytes};
+ghost use Rattle.std.specs.Str.Lines.{lines as lines_in};
+ghost use Rattle.make_script.specs.Script.{script};
+ghost use Rattle.session_undo.specs.Scene.{first_state};
+ghost use Rattle.session_undo.specs.Replies as reply;
+ghost use Rattle.layout_cli.specs.Machine.{Step};
+ghost use Rattle.layout_cli.specs.Making.{IsMade, Refuses, last_line, refusal_count, summary_line};
+
+use crate::answers::step;
+use crate::frames::push_at;
+use crate::output::Output;
+use frac_core::OutOfMemory;
+use make_script::make_script;
+use session_undo::{Refusal, Session};
+use span_text::lines;
+use std::alloc::Global;
+
+// What the lines of a script led to.
+#[derive(Drop)]
+struct Answered {
+    session: Session,
+    lines: u64,
+    refused: u64,
+}
+
+// Whether a reply tells of the refusal: none tells of want of memory.
+fn is_told(refusal: &Refusal) -> bool
+    ensures { IsTrue result → refusal.now ≡ Refusal.OutOfMemory → ⊥ }
+{
+    !matches!(refusal, Refusal::OutOfMemory)
+}
+
+// Does what a line says, and counts its refusal where it is refused.
+fn count_refusal(alloc: Global, session: &mut Session, line: &[u8]) -> Result<u64, OutOfMemory>
+    ensures count { IfOk result (λ count. (answer : reply.Reply)
+        × Step session.old line.now answer session.new × (count ≡ refusal_count answer)) }
+    ensures small { IfOk result (λ count. count ≤ 1) }
+{
+    match step(alloc, session, line) {
+        Ok(_) => Ok(0),
+        Err(refusal) if is_told(&refusal) => Ok(1),
+        Err(_) => Err(OutOfMemory),
+    }
+}
+
+// Answers the lines of a script, and counts them and those that are refused.
+fn answer_lines(alloc: Global, script: &[u8]) -> Result<Answered, OutOfMemory>
+    requires { length script.now < 2 ^ 63 }
+    ensures count { IfOk result (λ end. end.lines ≡ length (lines_in script.now)) }
+    ensures run { IfOk result (λ end. Refuses first_state (lines_in script.now) end.refused end.session) }
+{
+    let mut session = Session::new(alloc)?;
+    let mut count = 0;
+    let mut refused = 0;
+    for line in lines(script) {
+        count += 1;
+        refused += count_refusal(alloc, &mut session, line.bytes)?;
+    }
+    Ok(Answered {
+        session,
+        lines: count,
+        refused,
+    })
+}
+
+// Appends the line that sums up.
+#[tactic(auto, unfolding(crate::specs::Making::summary_line))]
+fn put_summary(text: &mut String, lines: u64, refused: u64, rows: u64) -> Result<(), OutOfMemory>
+    ensures { IfOk result (λ _.
+        string_bytes text.new ≡ string_bytes text.old ++ summary_line lines refused rows) }
+{
+    writeln!(text, "made lines {lines} refused {refused} rows {rows}")?;
+    Ok(())
+}
+
+// The two lines of what was answered.
+fn text_of(alloc: Global, end: &Answered) -> Result<Vec<u8>, OutOfMemory>
+    ensures { IfOk result (λ text. text.items
+        ≡ summary_line end.now.lines end.now.refused (length end.now.session.scene.rows)
+        ++ last_line end.now.session.scene) }
+{
+    let rows = end.session.engine().rows().len() as u64;
+    let mut summary = String::new(alloc);
+    put_summary(&mut summary, end.lines, end.refused, rows)?;
+    let mut text = summary.as_bytes().to_vec(alloc)?;
+    let scene = end.session.state();
+    push_at(&mut text, scene, scene.tree().len().saturating_sub(1))?;
+    Ok(text)
+}
+
+/// What a run of the script comes to that is drawn from a seed for a number of views: how many lines it has,
+/// how many of them are refused, how many rows are held at its end, and the frame of the last view.
+pub fn make_and_run(alloc: Global, seed: u64, views: u32) -> Result<Output, OutOfMemory>
+    ensures { IfOk result (λ output. IsMade seed views output.text.items output.is_good) }
+{
+    let mut script = Vec::new(alloc);
+    make_script(seed, views, &mut script)?;
+    let end = answer_lines(alloc, &script)?;
+    Ok(Output {
+        text: text_of(alloc, &end)?,
+        is_good: end.refused == 0,
+    })
+}
