@@ -1,0 +1,5 @@
+use Rattle.path_checker.proofs.CarriedSums.{carried_is_equation}
+use Rattle.path_checker.proofs.laws.carried_is_equation.Goals as goal
+
+pub returns : goal.returns
+returns c = carried_is_equation
