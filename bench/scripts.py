@@ -1,8 +1,12 @@
 """Writes a script for the program `layout` to standard output.
 
     python3 bench/scripts.py chain SEED VIEWS     a chain of so many views under a window that is made smaller at the end
+    python3 bench/scripts.py made SEED VIEWS      the script that `layout make SEED VIEWS` runs
     python3 bench/scripts.py resize TIMES         the login form of examples/, then so many windows of two sizes in turn
     python3 bench/scripts.py frames TIMES         the same with `frames` after each window
+    python3 bench/scripts.py row VIEWS WHAT       a chain, and behind it nothing (`none`), one row more (`add`), or one row that
+                                                  joins and leaves again (`remove`)
+    python3 bench/scripts.py drag TIMES           the login form, then so many suggestions of one width, and its release
 
 A chain has for each view a format with an optional width, for each two neighbours a format that stacks them and an optional
 constraint between their widths. Its numbers come from a linear congruence, so that the same words give the same script.
@@ -25,8 +29,7 @@ def draws(seed):
     return draw
 
 
-def chain(seed, views):
-    draw = draws(seed)
+def chain(draw, views):
     yield "window 1000 1000"
     for i in range(1, views + 1):
         yield f"view v{i}"
@@ -39,7 +42,14 @@ def chain(seed, views):
         more, priority = draw(20), 100 + draw(800)
         yield f"constrain e{i} v{i}.width >= v{i - 1}.width + {more} @{priority}"
     yield "window 800 600"
-    yield "frames"
+
+
+def made(seed, views):
+    draw = draws(seed)
+    yield from chain(draw, views)
+    for i in range(1, views + 1):
+        yield f"suggest v{i}.width {50 + draw(100)}"
+    yield "undo"
 
 
 def resize(times, after):
@@ -53,14 +63,37 @@ def resize(times, after):
     yield "frames"
 
 
+def row(views, what):
+    yield from chain(draws(1), views)
+    if what in ("add", "remove"):
+        yield f"constrain extra v{views // 2}.width == 77 @950"
+    if what == "remove":
+        yield "remove extra"
+    yield "frames"
+
+
+def drag(times):
+    yield from resize(0, [])
+    for i in range(times):
+        yield f"suggest cancel.width {100 + i % 50}"
+    yield "release cancel.width"
+    yield "frames"
+
+
 def main(words):
     match words:
         case ["chain", seed, views]:
-            lines = chain(int(seed), int(views))
+            lines = [*chain(draws(int(seed)), int(views)), "frames"]
+        case ["made", seed, views]:
+            lines = made(int(seed), int(views))
         case ["resize", times]:
             lines = resize(int(times), [])
         case ["frames", times]:
             lines = resize(int(times), ["frames"])
+        case ["row", views, ("none" | "add" | "remove") as what]:
+            lines = row(int(views), what)
+        case ["drag", times]:
+            lines = drag(int(times))
         case _:
             sys.exit(__doc__)
     sys.stdout.writelines(line + "\n" for line in lines)

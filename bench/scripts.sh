@@ -43,5 +43,9 @@ PYTHON
 for views in 12 24 60 120; do
     measure "$views views" chain 1 "$views"
 done
+for what in none add remove; do
+    measure "60 views, one row: $what" row 60 "$what"
+done
+measure "login form, 10,000 suggestions" drag 10000
 measure "login form, 10,000 windows" resize 10000
 measure "login form, 10,000 windows with frames" frames 10000
