@@ -1,6 +1,6 @@
 // What rows lack at a corner.
 ghost use Rattle.std.specs.Prelude.{◌≡◌, ◌≤◌, ◌^◌, pos, ◌*ℤ◌, ◌<ℤ◌, unsigned_abs, Any};
-ghost use Rattle.frac_core.specs.Fraction.{IsKept, IsRatio};
+ghost use Rattle.frac_core.specs.Fraction.{IsKept, IsLowest, IsRatio};
 ghost use Rattle.problem_core.specs.declared.parts.RowName.TheVariants as row_names;
 ghost use Rattle.problem_core.specs.Corners.{NoNegativeValue, Point, StandsAt, assignment_at};
 ghost use Rattle.problem_core.specs.Layout.{line_of_row};
@@ -40,6 +40,7 @@ fn over_scale(f: Frac, scale: i64) -> Wide
     requires above { pos 0 <ℤ scale }
     requires small { unsigned_abs scale ≤ 2 ^ 30 }
     ensures value { IsRatio result f.num (scale *ℤ pos f.den) }
+    ensures lowest { IsLowest result }
     ensures kept { IsKept f }
 {
     Wide::of(i128::from(f.num()), product(scale, f.den()))
@@ -49,8 +50,9 @@ fn over_scale(f: Frac, scale: i64) -> Wide
 pub fn error(c: &Corner, row: &Row) -> Wide
     requires held { Any (λ r. r ≡ row.now) c.now.problem.rows }
     requires values { NoNegativeValue c.now.problem c.now.marks }
-    ensures { (x : Point) → StandsAt c.now.problem c.now.marks x
+    ensures error { (x : Point) → StandsAt c.now.problem c.now.marks x
         → IsErrorAt (assignment_at x) (line_of_row row.now) result }
+    ensures lowest { IsLowest result }
 {
     c.show_corner();
     let under = c.value(mark_of(row, Side::Under));

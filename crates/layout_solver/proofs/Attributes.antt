@@ -9,7 +9,7 @@ use Rattle.problem_core.specs.Corners.{attr_column}
 use Rattle.problem_core.proofs.Forms.{each-both, each-impl}
 use Rattle.corner.specs.Views.{CornerView, HasValueAt}
 use Rattle.layout_solver.specs.Layouts.{Layout}
-use Rattle.layout_solver.specs.Engines.{IsSolved, layout_of}
+use Rattle.layout_solver.specs.Engines.{IsSolved, layout_of, HaveValues}
 use Rattle.layout_solver.specs.ValuesUnique.{IsFixed, one_number}
 use Rattle.layout_solver.proofs.Values.{fixed_at}
 
@@ -31,8 +31,8 @@ find attr f (s ∷ stays) (v ∷ values) e (suc k, t, within, is, h) same =
     let tail : map (λ v. v.0) values ≡ map (λ s. s.attr) stays = cc in
     later attr f v values (find attr f stays values tail (k, t, omega (arith, within), is, h) same.1)
 
-pub found : (c : CornerView) (v : List (ℕ × Fraction)) (l : Layout) (attr : ℕ) (f : Fraction) → IsSolved c v → layout_of c v ≡ l → IsLowest f → HasStay c.problem.stays attr → HasValueAt c.problem c.marks (attr_column attr) f → Any (λ w. (w.0 ≡ attr) × (w.1 ≡ f)) l.values
-found c v l attr f s view low has value =
+pub found : (c : CornerView) (v : List (ℕ × Fraction)) (past : HaveValues c.before) (l : Layout) (attr : ℕ) (f : Fraction) → IsSolved c v past → layout_of c v past ≡ l → IsLowest f → HasStay c.problem.stays attr → HasValueAt c.problem c.marks (attr_column attr) f → Any (λ w. (w.0 ≡ attr) × (w.1 ≡ f)) l.values
+found c v past l attr f s view low has value =
     subst (λ (k : Layout). Any (IsOf attr f) k.values) view
     (find attr f c.problem.stays v s.kept.best.attributes has
     (each-impl (λ w. IsFixed c.problem c.marks s.kept.corner.corner.point (attr_column w.0) × (IsLowest w.1 × HasValueAt c.problem c.marks (attr_column w.0) w.1)) (λ w. w.0 ≡ attr → w.1 ≡ f) v

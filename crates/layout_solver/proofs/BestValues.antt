@@ -1,5 +1,5 @@
 -- The value of an attribute at a best corner.
-use Rattle.std.proofs.Common.{◌≡◌, ◌∙◌, ℕ, zero, suc, List, [], ◌∷◌, ◌++◌, map, length, ℤ, pos, negsuc, ◌*ℤ◌, ◌<ℤ◌, nat_abs, refl, sym, ap, subst, arith, All, append-nil}
+use Rattle.std.proofs.Common.{◌≡◌, ◌∙◌, ℕ, zero, suc, List, [], ◌∷◌, ◌++◌, map, ℤ, pos, negsuc, ◌*ℤ◌, ◌<ℤ◌, nat_abs, refl, sym, ap, arith, append-nil}
 use Rattle.std.proofs.lemmas.List.Elements.{All-from_recursion}
 use Rattle.frac_core.specs.Fraction.{Fraction}
 use Rattle.problem_core.specs.declared.parts.Mark.{Mark}
@@ -13,7 +13,7 @@ use Rattle.corner.specs.Views.{CornerView, HasValueAt}
 use Rattle.corner_ends.specs.Runs.{IsBestEnd}
 use Rattle.certificates.proofs.ErrorFacts.{turned_value}
 use Rattle.layout_solver.specs.Layouts.{IsBestValue, stays_at, zeros}
-use Rattle.layout_solver.specs.Starts.{IsMoved, attrs_of}
+use Rattle.layout_solver.specs.Starts.{IsMoved}
 
 abs-same : (z : ℤ) → pos 0 <ℤ z → pos (nat_abs z) ≡ z
 abs-same (pos n) h = refl

@@ -1,5 +1,5 @@
 -- An engine's corner from its mark to the change or back.
-use Rattle.std.proofs.Common.{◌≡◌, ◌∙◌, ℕ, ◌-◌, ◌++◌, true, false, List, [], ◌∷◌, length, take, sym, ap, ap₂, subst, arith, append-nil}
+use Rattle.std.proofs.Common.{◌≡◌, ◌∙◌, ℕ, ◌-◌, ◌<◌, ◌++◌, true, false, List, [], ◌∷◌, length, take, sym, ap, ap₂, subst, arith, append-nil, All}
 use Rattle.std.proofs.lemmas.List.{take_all}
 use Rattle.version_list.specs.declared.TheConstants.{MOST}
 use Rattle.frac_core.specs.Fraction.{Fraction}
@@ -7,7 +7,7 @@ use Rattle.problem_core.specs.declared.parts.Mark.{Mark}
 use Rattle.problem_core.specs.declared.parts.Stay.{Stay}
 use Rattle.problem_core.specs.Layout.{HasStay, Problem, Row}
 use Rattle.problem_core.specs.Kept.{AreRising, IsWhole}
-use Rattle.problem_core.specs.Corners.{IsCorner, NoNegativeColumn, NoNegativeValue}
+use Rattle.problem_core.specs.Corners.{NoNegativeColumn, NoNegativeValue}
 use Rattle.cert_core.specs.Paths.{Path}
 use Rattle.cert_core.specs.Stops.{IsStopOf}
 use Rattle.cert_core.specs.declared.stops.RunStop.{RunStop}
@@ -15,33 +15,24 @@ use Rattle.corner.specs.Views.{CornerView, IsKeptCorner, Scene}
 use Rattle.corner.specs.Changes.{FromAdded, scene_of}
 use Rattle.corner_ends.specs.Runs.{FromHere, IsBestEnd, IsRun}
 use Rattle.layout_solver.specs.declared.engine.Change.{Change}
-use Rattle.layout_solver.specs.Layouts.{AreValuesAt, IsKeptLayout, Layout, stays_at, with_added, zeros}
-use Rattle.layout_solver.specs.Engines.{AreItsValues, HasValues, IsSolved, layout_of}
+use Rattle.layout_solver.specs.Layouts.{AreValuesAt, IsKeptSolution, Layout, Solution, solution_of, stays_at, with_added, zeros}
+use Rattle.layout_solver.specs.Engines.{AreItsValues, HasValues, HaveValues, IsSolved, layout_of, solution_at, solutions_at}
 use Rattle.layout_solver.specs.Shifts.{CanShift, IsAtMark, shifted, with_shifts}
 use Rattle.layout_solver.specs.Starts.{CanTake, IsMoved, attrs_of}
 use Rattle.layout_solver.specs.ValuesUnique.{values_are_one}
+use Rattle.layout_solver.proofs.Earlier.{earlier_length, forgot_kept, kept_cons, same_solutions}
 use Rattle.layout_solver.proofs.Rooms.{added_room}
 use Rattle.layout_solver.proofs.Solved.{changed_rising, moved_is, solved_end, solved_values, these_values}
 use Rattle.layout_solver.proofs.Values.{values_exist}
 
-pub some_values : (c : CornerView) → IsKeptCorner c.problem c.marks → HasValues c
+pub some_values : (c : CornerView) → IsKeptCorner c.problem c.marks → HasValues (scene_of c)
 some_values c kept = let w = values_exist c kept.corner in (w.0, ∣ w.1 ∣₁)
-
-pub same_kept : (old new : CornerView) → scene_of new ≡ scene_of old → IsKeptCorner old.problem old.marks → IsKeptCorner new.problem new.marks
-same_kept old new scene kept = subst (λ (s : Scene). IsKeptCorner s.problem s.marks) (sym scene) kept
 
 -- ---- earlier corners
 
--- the one earlier corner
-marked-first : (s : Scene) (old : List Scene) → old ≡ [] → take MOST (s ∷ old) ≡ s ∷ []
-marked-first s old none = ap (λ (ss : List Scene). take MOST (s ∷ ss)) none ∙ take_all MOST (s ∷ []) (omega arith)
-
-forgot-first : (s : Scene) (old new : List Scene) → old ≡ s ∷ [] → new ≡ take (length old - 1) old → new ≡ []
-forgot-first s old new one e = e ∙ ap (λ (ss : List Scene). take (length ss - 1) ss) one
-
--- after a mark and a change that keeps the earlier corners the mark is forgotten
-pub forgotten : (s : Scene) (first marked last new : List Scene) → first ≡ [] → marked ≡ take MOST (s ∷ first) → last ≡ marked → new ≡ take (length last - 1) last → new ≡ []
-forgotten s first marked last new none mark same gone = forgot-first s last new (same ∙ mark ∙ marked-first s first none) gone
+-- there is room for one more
+marked-before : (s : Scene) (old : List Scene) (n : ℕ) → length old ≡ n → n < MOST → take MOST (s ∷ old) ≡ s ∷ old
+marked-before s old n e room = take_all MOST (s ∷ old) (omega (arith, e, room))
 
 head-of : (s t : Scene) (ss ts : List Scene) → s ∷ ss ≡ t ∷ ts → s ≡ t
 head-of s t ss ts e = cc
@@ -49,18 +40,48 @@ head-of s t ss ts e = cc
 tail-of : (s t : Scene) (ss ts : List Scene) → s ∷ ss ≡ t ∷ ts → ss ≡ ts
 tail-of s t ss ts e = cc
 
+-- ---- the oldest is forgotten
+
+module _ (c : CornerView) (v : List (ℕ × Fraction)) (past : HaveValues c.before) (l : Layout) (solved : IsSolved c v past) (view : layout_of c v past ≡ l) (new : CornerView) (scene : scene_of new ≡ scene_of c) where
+  its-same : AreItsValues (scene_of new) v
+  its-same = subst (λ (s : Scene). AreItsValues s v) (sym scene) (solved_values c v past solved)
+
+  pub forgot_values : HasValues (scene_of new)
+  forgot_values = (v, ∣ its-same ∣₁)
+
+  one-same : (w : List (ℕ × Fraction)) → ∥ AreItsValues (scene_of new) w ∥₁ → w ≡ v
+  one-same w h = values_are_one (scene_of new) w v (these_values new its-same.corner w h) its-same
+
+  one-solution : (w : List (ℕ × Fraction)) → ∥ AreItsValues (scene_of new) w ∥₁ → solution_at (scene_of new) w ≡ solution_at (scene_of c) v
+  one-solution w h = ap₂ solution_at scene (one-same w h)
+
+  pub forgot_same : (w : List (ℕ × Fraction)) → ∥ AreItsValues (scene_of new) w ∥₁ → solution_at (scene_of new) w ≡ solution_of l
+  forgot_same w h = one-solution w h ∙ ap solution_of view
+
+  pub forgot_solved : new.before ≡ take (length c.before - 1) c.before → new.candidates ≡ c.candidates → (w : List (ℕ × Fraction)) (rest : HaveValues new.before) → ∥ AreItsValues (scene_of new) w ∥₁ → IsSolved new w rest
+  forgot_solved before still w rest h = record {
+    kept = subst IsKeptSolution (sym (one-solution w h)) solved.kept;
+    earlier = forgot_kept c v past l solved view new scene before rest;
+    listed = still ∙ solved.listed;
+  }
+
 -- ---- after the mark
 
--- a solved corner with its layout, and the same corner with itself as the one earlier corner
-pub record IsMarked (c mid : CornerView) (v : List (ℕ × Fraction)) (l : Layout) : Type 0 where
-  pub solved : IsSolved c v
-  pub view : layout_of c v ≡ l
+-- a solved corner with its layout, and the same corner with itself as the latest of the earlier ones
+pub record IsMarked (c mid : CornerView) (v : List (ℕ × Fraction)) (past : HaveValues c.before) (l : Layout) : Type 0 where
+  pub solved : IsSolved c v past
+  pub view : layout_of c v past ≡ l
   pub scene : scene_of mid ≡ scene_of c
   pub before : mid.before ≡ take MOST (scene_of c ∷ c.before)
+  pub room : length l.earlier < MOST
 
-module _ (c mid : CornerView) (v : List (ℕ × Fraction)) (l : Layout) (m : IsMarked c mid v l) where
-  one-before : mid.before ≡ scene_of c ∷ []
-  one-before = m.before ∙ marked-first (scene_of c) c.before m.solved.first
+module _ (c mid : CornerView) (v : List (ℕ × Fraction)) (past : HaveValues c.before) (l : Layout) (m : IsMarked c mid v past l) where
+  -- the latest is the corner of now
+  latest-before : mid.before ≡ scene_of c ∷ c.before
+  latest-before = m.before ∙ marked-before (scene_of c) c.before (length l.earlier) (earlier_length c v past l m.solved m.view) m.room
+
+  latest-have : HaveValues (scene_of c ∷ c.before)
+  latest-have = ((v, ∣ solved_values c v past m.solved ∣₁), past)
 
   same-rows : mid.problem.rows ≡ l.problem.rows
   same-rows = ap (λ (s : Scene). s.problem.rows) m.scene ∙ ap (λ (k : Layout). k.problem.rows) m.view
@@ -98,7 +119,7 @@ module _ (c mid : CornerView) (v : List (ℕ × Fraction)) (l : Layout) (m : IsM
   }
 
   stays-are : (attrs : List ℕ) (base : List Row) (p : Problem) → IsMoved mid attrs base p → p ≡ record { rows = base; stays = stays_at (l.values ++ zeros attrs) }
-  stays-are attrs base p h = moved_is c v attrs base p m.solved (there attrs base p h) ∙ ap (λ (k : Layout). record { rows = base; stays = stays_at (k.values ++ zeros attrs) }) m.view
+  stays-are attrs base p h = moved_is c v past attrs base p m.solved (there attrs base p h) ∙ ap (λ (k : Layout). record { rows = base; stays = stays_at (k.values ++ zeros attrs) }) m.view
 
   pub marked_moved : (attrs : List ℕ) (rows : List Row) → IsMoved mid attrs (mid.problem.rows ++ rows) (with_added l attrs rows)
   marked_moved attrs rows =
@@ -115,7 +136,7 @@ module _ (c mid : CornerView) (v : List (ℕ × Fraction)) (l : Layout) (m : IsM
   -- ---- where constants change
 
   pub marked_newest : IsAtMark mid
-  marked_newest = (scene_of c, [], one-before, ap (λ (s : Scene). s.marks) m.scene)
+  marked_newest = (scene_of c, c.before, latest-before, ap (λ (s : Scene). s.marks) m.scene)
 
   pub marked_columns : NoNegativeColumn mid.problem mid.marks
   marked_columns = subst (λ (s : Scene). NoNegativeColumn s.problem s.marks) (sym m.scene) m.solved.kept.end.columns
@@ -137,13 +158,12 @@ module _ (c mid : CornerView) (v : List (ℕ × Fraction)) (l : Layout) (m : IsM
   pub shifted_rising : AreRising (l.values ++ zeros [])
   shifted_rising = subst AreRising (ap (λ (k : Layout). k.values) m.view ∙ sym (append-nil l.values)) m.solved.kept.rising
 
-  pub shifted_path : (to : List Change) (budget : ℕ) (end new : CornerView) → scene_of new ≡ scene_of end
-      → ((p : Problem) → IsMoved mid [] (shifted to mid.problem.rows) p → (path : Path) × IsRun true p (FromHere mid.marks []) budget end.marks path)
-      → (path : Path) × IsRun true (with_shifts l to) (FromHere l.corner []) budget new.marks path
-  shifted_path to budget end new scene run =
-      subst (λ (ms : List Mark). (path : Path) × IsRun true (with_shifts l to) (FromHere l.corner []) budget ms path) (sym (ap (λ (s : Scene). s.marks) scene))
-      (subst (λ (ms : List Mark). (path : Path) × IsRun true (with_shifts l to) (FromHere ms []) budget end.marks path) same-marks
-      (run (with_shifts l to) (shifted-moved to)))
+  pub shifted_path : (to : List Change) (budget : ℕ) (last : List Mark)
+      → ((p : Problem) → IsMoved mid [] (shifted to mid.problem.rows) p → (path : Path) × IsRun true p (FromHere mid.marks []) budget last path)
+      → (path : Path) × IsRun true (with_shifts l to) (FromHere l.corner []) budget last path
+  shifted_path to budget last run =
+      subst (λ (ms : List Mark). (path : Path) × IsRun true (with_shifts l to) (FromHere ms []) budget last path) same-marks
+      (run (with_shifts l to) (shifted-moved to))
 
   pub shifted_stop : (to : List Change) (budget : ℕ) (stop : RunStop)
       → ((p : Problem) → IsMoved mid [] (shifted to mid.problem.rows) p → IsStopOf true p mid.problem.rows (FromHere mid.marks) budget stop)
@@ -161,28 +181,38 @@ module _ (c mid : CornerView) (v : List (ℕ × Fraction)) (l : Layout) (m : IsM
   pub still_moved : IsMoved mid [] mid.problem.rows (record { rows = l.problem.rows; stays = stays_at l.values })
   still_moved = shifted-moved []
 
-  pub forgotten_last : (end new : CornerView) → end.before ≡ mid.before → new.before ≡ take (length end.before - 1) end.before → new.before ≡ []
-  forgotten_last end new before forgot = forgot-first (scene_of c) end.before new.before (before ∙ one-before) forgot
-
   -- ---- the change is kept
 
-  pub changed_solved : (attrs : List ℕ) (base : List Row) (end new : CornerView) (w : List (ℕ × Fraction)) → AreRising (l.values ++ zeros attrs) → IsMoved mid attrs base end.problem → IsBestEnd end.problem end.marks → end.candidates ≡ [] → end.before ≡ mid.before
-      → scene_of new ≡ scene_of end → new.before ≡ take (length end.before - 1) end.before → new.candidates ≡ end.candidates → IsKeptCorner end.problem end.marks → ∥ AreItsValues new w ∥₁ → IsSolved new w
-  changed_solved attrs base end new w rising moved best listed before scene forgot still kept_end h =
-      let kept = same_kept end new scene kept_end in
-      let values = these_values new kept.corner w h in
-      solved_end new w kept (subst (λ (s : Scene). IsBestEnd s.problem s.marks) (sym scene) best) values
-      (changed_rising new.problem new.problem base (l.values ++ zeros attrs) w (ap (λ (s : Scene). s.problem) scene ∙ stays-are attrs base end.problem moved) values.attributes rising)
-      (forgot-first (scene_of c) end.before new.before (before ∙ one-before) forgot)
-      (still ∙ listed)
+  module _ (end : CornerView) (before : end.before ≡ mid.before) where
+    pub changed_before : HaveValues end.before
+    changed_before = subst HaveValues (sym (before ∙ latest-before)) latest-have
 
-  pub changed_path : (attrs : List ℕ) (rows : List Row) (budget : ℕ) (end new : CornerView) → scene_of new ≡ scene_of end
-      → ((p : Problem) → IsMoved mid attrs (mid.problem.rows ++ rows) p → (path : Path) × IsRun false p (FromAdded p mid.marks rows []) budget end.marks path)
-      → (path : Path) × IsRun false (with_added l attrs rows) (FromAdded (with_added l attrs rows) l.corner rows []) budget new.marks path
-  changed_path attrs rows budget end new scene run =
-      subst (λ (ms : List Mark). (path : Path) × IsRun false (with_added l attrs rows) (FromAdded (with_added l attrs rows) l.corner rows []) budget ms path) (sym (ap (λ (s : Scene). s.marks) scene))
-      (subst (λ (ms : List Mark). (path : Path) × IsRun false (with_added l attrs rows) (FromAdded (with_added l attrs rows) ms rows []) budget end.marks path) same-marks
-      (run (with_added l attrs rows) (marked_moved attrs rows)))
+    changed-same : (rest : HaveValues end.before) → solutions_at end.before rest ≡ solution_at (scene_of c) v ∷ solutions_at c.before past
+    unfolding latest-have
+    changed-same rest = same_solutions end.before (scene_of c ∷ c.before) rest latest-have (before ∙ latest-before)
+
+    pub changed_earlier : (rest : HaveValues end.before) → solutions_at end.before rest ≡ solution_of l ∷ l.earlier
+    changed_earlier rest = changed-same rest ∙ ap (λ (k : Layout). solution_of k ∷ k.earlier) m.view
+
+    pub changed_kept : (rest : HaveValues end.before) → All IsKeptSolution (solutions_at end.before rest)
+    changed_kept rest =
+        subst (All IsKeptSolution) (sym (changed-same rest))
+        (kept_cons (solution_at (scene_of c) v) (solutions_at c.before past) m.solved.kept m.solved.earlier)
+
+    pub changed_solved : (attrs : List ℕ) (base : List Row) (w : List (ℕ × Fraction)) (rest : HaveValues end.before) → AreRising (l.values ++ zeros attrs) → IsMoved mid attrs base end.problem → IsBestEnd end.problem end.marks → end.candidates ≡ []
+        → IsKeptCorner end.problem end.marks → ∥ AreItsValues (scene_of end) w ∥₁ → IsSolved end w rest
+    changed_solved attrs base w rest rising moved best listed kept h =
+        let values = these_values end kept.corner w h in
+        solved_end end w rest kept best values
+        (changed_rising end.problem end.problem base (l.values ++ zeros attrs) w (stays-are attrs base end.problem moved) values.attributes rising)
+        (changed_kept rest) listed
+
+  pub changed_path : (attrs : List ℕ) (rows : List Row) (budget : ℕ) (last : List Mark)
+      → ((p : Problem) → IsMoved mid attrs (mid.problem.rows ++ rows) p → (path : Path) × IsRun false p (FromAdded p mid.marks rows []) budget last path)
+      → (path : Path) × IsRun false (with_added l attrs rows) (FromAdded (with_added l attrs rows) l.corner rows []) budget last path
+  changed_path attrs rows budget last run =
+      subst (λ (ms : List Mark). (path : Path) × IsRun false (with_added l attrs rows) (FromAdded (with_added l attrs rows) ms rows []) budget last path) same-marks
+      (run (with_added l attrs rows) (marked_moved attrs rows))
 
   -- ---- there is no change
 
@@ -195,36 +225,41 @@ module _ (c mid : CornerView) (v : List (ℕ × Fraction)) (l : Layout) (m : IsM
       (h (with_added l attrs rows) (marked_moved attrs rows)))
 
   module _ (end new : CornerView) (before : end.before ≡ mid.before) (back : end.before ≡ scene_of new ∷ new.before) where
-    back-first : scene_of new ∷ new.before ≡ scene_of c ∷ []
-    back-first = sym back ∙ before ∙ one-before
+    back-latest : scene_of new ∷ new.before ≡ scene_of c ∷ c.before
+    back-latest = sym back ∙ before ∙ latest-before
 
     same-scene : scene_of new ≡ scene_of c
-    same-scene = head-of (scene_of new) (scene_of c) new.before [] back-first
+    same-scene = head-of (scene_of new) (scene_of c) new.before c.before back-latest
 
-    its-values : AreItsValues new v
-    its-values =
-        let values = solved_values c v m.solved in record {
-          corner = subst (λ (s : Scene). IsCorner s.problem s.marks) (sym same-scene) values.corner;
-          attributes = values.attributes ∙ ap (λ (s : Scene). attrs_of s.problem) (sym same-scene);
-          lowest = values.lowest;
-          stand = subst (λ (s : Scene). AreValuesAt s.problem s.marks v) (sym same-scene) values.stand;
-        }
+    same-before : new.before ≡ c.before
+    same-before = tail-of (scene_of new) (scene_of c) new.before c.before back-latest
 
-    pub refused_values : HasValues new
+    its-values : AreItsValues (scene_of new) v
+    its-values = subst (λ (s : Scene). AreItsValues s v) (sym same-scene) (solved_values c v past m.solved)
+
+    pub refused_values : HasValues (scene_of new)
     refused_values = (v, ∣ its-values ∣₁)
 
-    same-values : (w : List (ℕ × Fraction)) → ∥ AreItsValues new w ∥₁ → w ≡ v
-    same-values w h = values_are_one new w v (these_values new its-values.corner w h) its-values
+    pub refused_before : HaveValues new.before
+    refused_before = subst HaveValues (sym same-before) past
 
-    pub refused_solved : (w : List (ℕ × Fraction)) → ∥ AreItsValues new w ∥₁ → new.candidates ≡ [] → IsSolved new w
-    refused_solved w h listed =
-        subst (IsSolved new) (sym (same-values w h))
-        (record {
-          kept = subst (λ (s : Scene). IsKeptLayout (record { problem = s.problem; values = v; corner = s.marks })) (sym same-scene) m.solved.kept;
-          first = tail-of (scene_of new) (scene_of c) new.before [] back-first;
-          listed = listed;
-        })
+    module _ (w : List (ℕ × Fraction)) (rest : HaveValues new.before) (h : ∥ AreItsValues (scene_of new) w ∥₁) where
+      same-values : w ≡ v
+      same-values = values_are_one (scene_of new) w v (these_values new its-values.corner w h) its-values
 
-    pub refused_same : (w : List (ℕ × Fraction)) → ∥ AreItsValues new w ∥₁ → layout_of new w ≡ l
-    refused_same w h =
-        ap₂ (λ (s : Scene) (u : List (ℕ × Fraction)). record { problem = s.problem; values = u; corner = s.marks }) same-scene (same-values w h) ∙ m.view
+      same-past : solutions_at new.before rest ≡ solutions_at c.before past
+      same-past = same_solutions new.before c.before rest past same-before
+
+      pub refused_solved : new.candidates ≡ [] → IsSolved new w rest
+      refused_solved listed = record {
+        kept = subst (λ (u : List (ℕ × Fraction)). IsKeptSolution (solution_at (scene_of new) u)) (sym same-values)
+            (subst (λ (s : Scene). IsKeptSolution (solution_at s v)) (sym same-scene) m.solved.kept);
+        earlier = subst (All IsKeptSolution) (sym same-past) m.solved.earlier;
+        listed = listed;
+      }
+
+      pub refused_same : layout_of new w rest ≡ l
+      refused_same =
+          ap (λ (es : List Solution). record { problem = new.problem; values = w; corner = new.marks; earlier = es }) same-past
+          ∙ ap₂ (λ (s : Scene) (u : List (ℕ × Fraction)). record { problem = s.problem; values = u; corner = s.marks; earlier = solutions_at c.before past }) same-scene same-values
+          ∙ m.view

@@ -1,5 +1,5 @@
 -- An engine's corner from its mark to a removal or back.
-use Rattle.std.proofs.Common.{◌≡◌, ◌∙◌, ℕ, zero, suc, ◌-◌, ◌<◌, cond, nat_eq, true, false, List, [], ◌∷◌, length, map, take, get_or, refl, sym, ap, subst, arith, All, AllPairs, Any, Contains}
+use Rattle.std.proofs.Common.{◌≡◌, ◌∙◌, ℕ, zero, suc, ◌<◌, cond, nat_eq, true, false, List, [], ◌∷◌, map, get_or, refl, sym, ap, subst, arith, All, AllPairs, Any, Contains}
 use Rattle.std.specs.List.{AllByRecursion as Each}
 use Rattle.std.proofs.lemmas.List.Elements.{All-from_recursion}
 use Rattle.std.proofs.lemmas.List.Kept.{AllPairs-filter}
@@ -16,11 +16,11 @@ use Rattle.corner_lines.specs.Removals.{without_attr}
 use Rattle.marker_remove.specs.Freed.{DoStand}
 use Rattle.layout_solver.specs.declared.removing.RemoveStop.{RemoveStop}
 use Rattle.layout_solver.specs.Layouts.{Layout}
-use Rattle.layout_solver.specs.Engines.{AreItsValues, IsSolved}
+use Rattle.layout_solver.specs.Engines.{AreItsValues, HaveValues, IsSolved}
 use Rattle.layout_solver.specs.Removals.{CanLeave, HasRemoved, IsRemoveStop, Leaving, stood, with_removed, without, without_attrs, without_rows}
 use Rattle.layout_solver.specs.Starts.{IsMoved, attrs_of}
 use Rattle.layout_solver.proofs.Alterations.{stood_problem}
-use Rattle.layout_solver.proofs.Changes.{IsMarked, forgotten_last, same_kept, still_moved, there_marks}
+use Rattle.layout_solver.proofs.Changes.{IsMarked, changed_kept, still_moved, there_marks}
 use Rattle.layout_solver.proofs.LeftRows.{stays_same}
 use Rattle.layout_solver.proofs.Moved.{IsAtTarget, moved_stands}
 use Rattle.layout_solver.proofs.MovedProblems.{its_values, moved_up, one_problem}
@@ -103,7 +103,7 @@ left-rising l old new rising is =
 
 -- ---- after the mark
 
-module _ (c mid : CornerView) (v : List (ℕ × Fraction)) (l : Layout) (m : IsMarked c mid v l) (what : Leaving) where
+module _ (c mid : CornerView) (v : List (ℕ × Fraction)) (past : HaveValues c.before) (l : Layout) (m : IsMarked c mid v past l) (what : Leaving) where
   same-problem : mid.problem ≡ l.problem
   same-problem = ap (λ (s : Scene). s.problem) m.scene ∙ ap (λ (k : Layout). k.problem) m.view
 
@@ -115,23 +115,20 @@ module _ (c mid : CornerView) (v : List (ℕ × Fraction)) (l : Layout) (m : IsM
       let best = m.solved.kept.best.best in
       (best.0, subst (λ (s : Scene). Satisfies s.problem best.0) (sym m.scene) best.1.0)
 
-  pub removed_is : (end new : CornerView) → scene_of new ≡ scene_of end → ((p : Problem) → IsMoved mid [] mid.problem.rows p → end.problem ≡ without what p) → new.problem ≡ with_removed l what
-  removed_is end new scene h = ap (λ (s : Scene). s.problem) scene ∙ h (stood l) (still_moved c mid v l m)
+  pub removed_is : (q : Problem) → ((p : Problem) → IsMoved mid [] mid.problem.rows p → q ≡ without what p) → q ≡ with_removed l what
+  removed_is q h = h (stood l) (still_moved c mid v past l m)
 
-  pub removed_path : (budget : ℕ) (end new : CornerView) → scene_of new ≡ scene_of end → ((p : Problem) → IsMoved mid [] mid.problem.rows p → HasRemoved p mid.marks what budget end.marks) → HasRemoved (stood l) l.corner what budget new.marks
-  removed_path budget end new scene run =
-      subst (λ (ms : List Mark). HasRemoved (stood l) l.corner what budget ms) (sym (ap (λ (s : Scene). s.marks) scene))
-      (subst (λ (ms : List Mark). HasRemoved (stood l) ms what budget end.marks) (there_marks c mid v l m) (run (stood l) (still_moved c mid v l m)))
+  pub removed_path : (budget : ℕ) (last : List Mark) → ((p : Problem) → IsMoved mid [] mid.problem.rows p → HasRemoved p mid.marks what budget last) → HasRemoved (stood l) l.corner what budget last
+  removed_path budget last run =
+      subst (λ (ms : List Mark). HasRemoved (stood l) ms what budget last) (there_marks c mid v past l m) (run (stood l) (still_moved c mid v past l m))
 
   pub removed_stop : (budget : ℕ) (stop : RemoveStop) → ((p : Problem) → IsMoved mid [] mid.problem.rows p → IsRemoveStop p mid.marks what budget stop) → IsRemoveStop (stood l) l.corner what budget stop
-  removed_stop budget stop h = subst (λ (ms : List Mark). IsRemoveStop (stood l) ms what budget stop) (there_marks c mid v l m) (h (stood l) (still_moved c mid v l m))
+  removed_stop budget stop h = subst (λ (ms : List Mark). IsRemoveStop (stood l) ms what budget stop) (there_marks c mid v past l m) (h (stood l) (still_moved c mid v past l m))
 
-  pub removed_solved : (end new : CornerView) (w : List (ℕ × Fraction)) → ((p : Problem) → IsMoved mid [] mid.problem.rows p → end.problem ≡ without what p) → IsBestEnd end.problem end.marks → end.candidates ≡ [] → end.before ≡ mid.before
-      → scene_of new ≡ scene_of end → new.before ≡ take (length end.before - 1) end.before → new.candidates ≡ end.candidates → IsKeptCorner end.problem end.marks → ∥ AreItsValues new w ∥₁ → IsSolved new w
-  removed_solved end new w moved best listed before scene forgot still kept_end h =
-      let kept = same_kept end new scene kept_end in
-      let values = these_values new kept.corner w h in
-      solved_end new w kept (subst (λ (s : Scene). IsBestEnd s.problem s.marks) (sym scene) best) values
-      (left-rising what l w (subst (λ (k : Layout). AreRising k.values) m.view m.solved.kept.rising) (values.attributes ∙ ap attrs_of (removed_is end new scene moved)))
-      (forgotten_last c mid v l m end new before forgot)
-      (still ∙ listed)
+  pub removed_solved : (end : CornerView) → end.before ≡ mid.before → (w : List (ℕ × Fraction)) (rest : HaveValues end.before) → ((p : Problem) → IsMoved mid [] mid.problem.rows p → end.problem ≡ without what p) → IsBestEnd end.problem end.marks → end.candidates ≡ []
+      → IsKeptCorner end.problem end.marks → ∥ AreItsValues (scene_of end) w ∥₁ → IsSolved end w rest
+  removed_solved end before w rest moved best listed kept h =
+      let values = these_values end kept.corner w h in
+      solved_end end w rest kept best values
+      (left-rising what l w (subst (λ (k : Layout). AreRising k.values) m.view m.solved.kept.rising) (values.attributes ∙ ap attrs_of (removed_is end.problem moved)))
+      (changed_kept c mid v past l m end before rest) listed

@@ -3,6 +3,7 @@ pub mod Values
 pub mod Moved
 pub mod MovedProblems
 pub mod Rooms
+pub mod Earlier
 pub mod Solved
 pub mod Changes
 pub mod Attributes

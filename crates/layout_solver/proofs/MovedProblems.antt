@@ -14,7 +14,7 @@ use Rattle.cert_core.specs.Paths.{Path}
 use Rattle.cert_core.specs.Stops.{IsStopOf}
 use Rattle.cert_core.specs.declared.stops.RunStop.{RunStop}
 use Rattle.corner.specs.Views.{CornerView, HasValueAt, IsKeptCorner}
-use Rattle.corner.specs.Changes.{FromAdded, HasStood, with_rows}
+use Rattle.corner.specs.Changes.{FromAdded, HasStood, with_rows, scene_of}
 use Rattle.corner_ends.specs.Runs.{IsRun}
 use Rattle.layout_solver.specs.Layouts.{stays_at, zeros}
 use Rattle.layout_solver.specs.Engines.{AreItsValues}
@@ -28,12 +28,12 @@ made rows ss = record { rows = rows; stays = ss }
 
 -- ---- there is one such problem
 
-pub its_values : (from : CornerView) (attrs : List ℕ) (rows : List Row) (p : Problem) → IsCorner from.problem from.marks → (m : IsMoved from attrs rows p) → AreItsValues from m.values
+pub its_values : (from : CornerView) (attrs : List ℕ) (rows : List Row) (p : Problem) → IsCorner from.problem from.marks → (m : IsMoved from attrs rows p) → AreItsValues (scene_of from) m.values
 its_values from attrs rows p corner m = record { corner = corner; attributes = m.attributes; lowest = m.lowest; stand = m.stand }
 
 pub one_problem : (from : CornerView) (attrs : List ℕ) (rows : List Row) (p q : Problem) → IsCorner from.problem from.marks → IsMoved from attrs rows p → IsMoved from attrs rows q → p ≡ q
 one_problem from attrs rows p q corner m n =
-    m.is ∙ ap (λ (vs : List (ℕ × Fraction)). made rows (stays_at (vs ++ zeros attrs))) (values_are_one from m.values n.values (its_values from attrs rows p corner m) (its_values from attrs rows q corner n)) ∙ sym n.is
+    m.is ∙ ap (λ (vs : List (ℕ × Fraction)). made rows (stays_at (vs ++ zeros attrs))) (values_are_one (scene_of from) m.values n.values (its_values from attrs rows p corner m) (its_values from attrs rows q corner n)) ∙ sym n.is
 
 -- with more rows
 pub with_more : (from : CornerView) (attrs : List ℕ) (rows more : List Row) (p : Problem) → IsMoved from attrs rows p → IsMoved from attrs (rows ++ more) (with_rows p more)

@@ -1,12 +1,11 @@
 -- What the corner of an engine shows of its values.
-use Rattle.std.proofs.Common.{◌≡◌, ◌∙◌, ℕ, ◌+◌, ◌-◌, ◌<◌, ◌≤◌, List, sym, ap, subst, arith, Any, IfOk}
+use Rattle.std.proofs.Common.{◌≡◌, ◌∙◌, ℕ, ◌-◌, ◌<◌, ◌≤◌, List, sym, ap, subst, arith, Any, IfOk}
 use Rattle.std.specs.declared.result.Result.{Result}
 use Rattle.std.specs.declared.result.Result.TheVariants.{Ok, Err}
-use Rattle.std.proofs.lemmas.List.Elements.{recursion_from_All}
 use Rattle.frac_core.specs.Fraction.{Fraction}
 use Rattle.problem_core.specs.declared.parts.Level.{Level}
 use Rattle.problem_core.specs.declared.parts.Level.TheVariants.{Priority, Stay as StayLevel}
-use Rattle.problem_core.specs.Layout.{AreSame, Assignment, Gives, HasStay, Problem, Row, common, line_of_row, lines}
+use Rattle.problem_core.specs.Layout.{AreSame, Assignment, Gives, HasStay, Problem, Row, line_of_row}
 use Rattle.problem_core.specs.Certificates.{IsCertificate}
 use Rattle.problem_core.specs.Corners.{Point, StandsAt, assignment_at}
 use Rattle.problem_core.specs.Kept.{IsRow}
@@ -21,7 +20,7 @@ use Rattle.certificates.proofs.ErrorFacts.{common_above, level_cost, row_kept}
 use Rattle.certificates.proofs.Places.{stay_level, stay_there}
 use Rattle.certificates.proofs.SameValues.{given_same, of_stays, same_certified, same_cost, same_error}
 use Rattle.layout_solver.specs.Layouts.{Layout}
-use Rattle.layout_solver.specs.Engines.{IsSolved, layout_of}
+use Rattle.layout_solver.specs.Engines.{IsSolved, layout_of, HaveValues}
 use Rattle.layout_solver.proofs.Solved.{solved_values}
 use Rattle.layout_solver.proofs.Values.{given_here, numbers_here}
 
@@ -33,12 +32,12 @@ pub ok_both : {A E : Type 0} (r : Result A E) (P Q R : A → Type 0) → ((x : A
 ok_both (Ok x) P Q R f h k = f x h k
 ok_both (Err e) P Q R f h k = h
 
-module _ (c : CornerView) (v : List (ℕ × Fraction)) (l : Layout) (s : IsSolved c v) (view : layout_of c v ≡ l) where
+module _ (c : CornerView) (v : List (ℕ × Fraction)) (past : HaveValues c.before) (l : Layout) (s : IsSolved c v past) (view : layout_of c v past ≡ l) where
   -- what gives the values agrees with the corner's point
   same : (x : Assignment) → Gives v x → AreSame c.problem x (assignment_at s.kept.corner.corner.point)
   same x gives =
       given_same c.problem v x (assignment_at s.kept.corner.corner.point) s.kept.best.attributes s.kept.best.lowest gives
-      (given_here s.kept.corner.corner.point v (numbers_here c v s.kept.corner.corner.point (solved_values c v s) s.kept.corner.corner.stands))
+      (given_here s.kept.corner.corner.point v (numbers_here c v s.kept.corner.corner.point (solved_values c v past s) s.kept.corner.corner.stands))
 
   pub shown_own : (levels : List BestLevel) → IsOwnBest c.problem c.marks levels → IsOwnBest l.problem l.corner levels
   shown_own levels h = subst (λ (k : Layout). IsOwnBest k.problem k.corner levels) view h

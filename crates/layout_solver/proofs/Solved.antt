@@ -1,42 +1,46 @@
 -- What an engine keeps.
-use Rattle.std.proofs.Common.{◌≡◌, ◌∙◌, ℕ, ◌++◌, List, [], ◌∷◌, map, refl, sym, ap, ap₂, subst, arith, pos}
+use Rattle.std.proofs.Common.{◌≡◌, ◌∙◌, ℕ, ◌++◌, List, [], ◌∷◌, map, refl, sym, ap, ap₂, subst, arith, pos, All}
 use Rattle.std.proofs.Math.Logic.{∥∥₁_elim}
+use Rattle.std.proofs.lemmas.List.Elements.{All-from_recursion}
 use Rattle.std.specs.Coded.{Coded-set}
 use Rattle.frac_core.specs.Fraction.{Fraction}
 use Rattle.problem_core.specs.Layout.{Problem, Row}
 use Rattle.problem_core.specs.Kept.{AreRising}
 use Rattle.problem_core.specs.Corners.{IsCorner}
-use Rattle.corner.specs.Views.{CornerView, IsKeptCorner}
+use Rattle.corner.specs.Views.{CornerView, IsKeptCorner, Scene}
+use Rattle.corner.specs.Changes.{scene_of}
 use Rattle.corner_ends.specs.Runs.{IsBestEnd}
-use Rattle.layout_solver.specs.Layouts.{stays_at, zeros}
-use Rattle.layout_solver.specs.Engines.{AreItsValues, IsSolved, layout_of}
+use Rattle.layout_solver.specs.Layouts.{IsKeptSolution, Solution, stays_at, zeros}
+use Rattle.layout_solver.specs.Engines.{AreItsValues, HaveValues, IsSolved, layout_of, solutions_at}
 use Rattle.layout_solver.specs.Starts.{IsMoved, attrs_of}
 use Rattle.layout_solver.specs.ValuesUnique.{values_are_one, values_code}
+use Rattle.layout_solver.proofs.Earlier.{same_solutions}
 use Rattle.layout_solver.proofs.MovedProblems.{its_values}
 use Rattle.layout_solver.proofs.Rooms.{stays_rising}
 use Rattle.layout_solver.proofs.Values.{best_there, values_exist, values_fit}
 
 -- the values that a corner is said to have are its values
-pub these_values : (c : CornerView) → IsCorner c.problem c.marks → (v : List (ℕ × Fraction)) → ∥ AreItsValues c v ∥₁ → AreItsValues c v
+pub these_values : (c : CornerView) → IsCorner c.problem c.marks → (v : List (ℕ × Fraction)) → ∥ AreItsValues (scene_of c) v ∥₁ → AreItsValues (scene_of c) v
 these_values c corner v h =
     let w = values_exist c corner in
-    subst (AreItsValues c) (sym (∥∥₁_elim h (Coded-set values_code v w.0) (λ t. values_are_one c v w.0 t w.1))) w.1
+    subst (AreItsValues (scene_of c)) (sym (∥∥₁_elim h (Coded-set values_code v w.0) (λ t. values_are_one (scene_of c) v w.0 t w.1))) w.1
 
 -- a best end of which no line is listed
-pub solved_end : (c : CornerView) (v : List (ℕ × Fraction)) → IsKeptCorner c.problem c.marks → IsBestEnd c.problem c.marks → AreItsValues c v → AreRising v → c.before ≡ [] → c.candidates ≡ [] → IsSolved c v
-solved_end c v kept end values rising first listed = record {
+pub solved_end : (c : CornerView) (v : List (ℕ × Fraction)) (past : HaveValues c.before) → IsKeptCorner c.problem c.marks → IsBestEnd c.problem c.marks → AreItsValues (scene_of c) v → AreRising v → All IsKeptSolution (solutions_at c.before past) → c.candidates ≡ []
+    → IsSolved c v past
+solved_end c v past kept end values rising earlier listed = record {
   kept = record { best = best_there c v values kept.whole end; fit = values_fit c v values kept; rising = rising; corner = kept; values = values.stand; end = end };
-  first = first;
+  earlier = earlier;
   listed = listed;
 }
 
 -- the values of a solved corner
-pub solved_values : (c : CornerView) (v : List (ℕ × Fraction)) → IsSolved c v → AreItsValues c v
-solved_values c v s = record { corner = s.kept.corner.corner; attributes = s.kept.best.attributes; lowest = s.kept.best.lowest; stand = s.kept.values }
+pub solved_values : (c : CornerView) (v : List (ℕ × Fraction)) (past : HaveValues c.before) → IsSolved c v past → AreItsValues (scene_of c) v
+solved_values c v past s = record { corner = s.kept.corner.corner; attributes = s.kept.best.attributes; lowest = s.kept.best.lowest; stand = s.kept.values }
 
 -- ---- the corner of nothing
 
-none-corner : CornerView
+abbrev none-corner : CornerView
 none-corner = record { problem = record { rows = []; stays = [] }; marks = []; before = []; candidates = []; order = [] }
 
 no-pairs : AreRising []
@@ -57,20 +61,33 @@ no-values : (v : List (ℕ × Fraction)) → map (λ w. w.0) v ≡ [] → v ≡ 
 no-values [] e = refl
 no-values (w ∷ v) e = cc
 
--- the corner of nothing has the layout of nothing
-pub none_layout : (c : CornerView) (v : List (ℕ × Fraction)) → c ≡ record { problem = record { rows = []; stays = [] }; marks = []; before = []; candidates = []; order = [] } → IsKeptCorner c.problem c.marks → ∥ AreItsValues c v ∥₁
-    → layout_of c v ≡ record { problem = record { rows = []; stays = [] }; values = []; corner = [] }
-none_layout c v e kept h =
-    let values = these_values c kept.corner v h in
-    let none : v ≡ [] = no-values v (values.attributes ∙ ap (λ (d : CornerView). map (λ s. s.attr) d.problem.stays) e) in
-    ap₂ (λ (d : CornerView) (w : List (ℕ × Fraction)). layout_of d w) e none
+none-earlier : (before : List Scene) (past : HaveValues before) → before ≡ [] → solutions_at before past ≡ []
+none-earlier before past e = same_solutions before [] past tt e
 
-pub none_solved : (c : CornerView) (v : List (ℕ × Fraction)) → c ≡ record { problem = record { rows = []; stays = [] }; marks = []; before = []; candidates = []; order = [] } → IsKeptCorner c.problem c.marks → ∥ AreItsValues c v ∥₁ → IsSolved c v
-none_solved c v e kept h =
-    let values = these_values c kept.corner v h in
-    solved_end c v kept (subst (λ (d : CornerView). IsBestEnd d.problem d.marks) (sym e) none-end) values
-    (values-none v (values.attributes ∙ ap (λ (d : CornerView). map (λ s. s.attr) d.problem.stays) e))
-    (ap (λ (d : CornerView). d.before) e) (ap (λ (d : CornerView). d.candidates) e)
+pub none_before : (c : CornerView) → c ≡ none-corner → HaveValues c.before
+none_before c e = subst (λ (d : CornerView). HaveValues d.before) (sym e) tt
+
+-- the corner of nothing has the layout of nothing
+module _ (c : CornerView) (v : List (ℕ × Fraction)) (past : HaveValues c.before) (e : c ≡ none-corner) (kept : IsKeptCorner c.problem c.marks) (are : ∥ AreItsValues (scene_of c) v ∥₁) where
+  none-values : AreItsValues (scene_of c) v
+  none-values = these_values c kept.corner v are
+
+  none-attributes : map (λ w. w.0) v ≡ []
+  none-attributes = none-values.attributes ∙ ap (λ (d : CornerView). map (λ s. s.attr) d.problem.stays) e
+
+  none-solutions : solutions_at c.before past ≡ []
+  none-solutions = none-earlier c.before past (ap (λ (d : CornerView). d.before) e)
+
+  pub none_layout : layout_of c v past ≡ record { problem = record { rows = []; stays = [] }; values = []; corner = []; earlier = [] }
+  none_layout =
+      ap (λ (es : List Solution). record { problem = c.problem; values = v; corner = c.marks; earlier = es }) none-solutions
+      ∙ ap₂ (λ (d : CornerView) (w : List (ℕ × Fraction)). record { problem = d.problem; values = w; corner = d.marks; earlier = [] }) e (no-values v none-attributes)
+
+  pub none_solved : IsSolved c v past
+  none_solved =
+      solved_end c v past kept (subst (λ (d : CornerView). IsBestEnd d.problem d.marks) (sym e) none-end) none-values (values-none v none-attributes)
+      (subst (All IsKeptSolution) (sym none-solutions) (All-from_recursion IsKeptSolution [] tt))
+      (ap (λ (d : CornerView). d.candidates) e)
 
 -- ---- after a change
 
@@ -79,7 +96,7 @@ pub changed_rising : (p q : Problem) (rows : List Row) (values new : List (ℕ �
 changed_rising p q rows values new e is h = stays_rising values new p (ap (λ (r : Problem). r.stays) e) is h
 
 -- the moved problem is that of the layout
-pub moved_is : (c : CornerView) (v : List (ℕ × Fraction)) (attrs : List ℕ) (rows : List Row) (p : Problem) → IsSolved c v → IsMoved c attrs rows p → p ≡ record { rows = rows; stays = stays_at (v ++ zeros attrs) }
-moved_is c v attrs rows p s m =
+pub moved_is : (c : CornerView) (v : List (ℕ × Fraction)) (past : HaveValues c.before) (attrs : List ℕ) (rows : List Row) (p : Problem) → IsSolved c v past → IsMoved c attrs rows p → p ≡ record { rows = rows; stays = stays_at (v ++ zeros attrs) }
+moved_is c v past attrs rows p s m =
     m.is ∙ ap (λ (vs : List (ℕ × Fraction)). record { rows = rows; stays = stays_at (vs ++ zeros attrs) })
-    (values_are_one c m.values v (its_values c attrs rows p s.kept.corner.corner m) (solved_values c v s))
+    (values_are_one (scene_of c) m.values v (its_values c attrs rows p s.kept.corner.corner m) (solved_values c v past s))

@@ -27,6 +27,7 @@ use Rattle.corner_laws.proofs.WrittenValues.{value_there}
 use Rattle.corner_laws.specs.Equations.{AreLowest}
 use Rattle.corner.specs.Views.{CornerView, HasValueAt, IsKeptCorner}
 use Rattle.corner_ends.specs.Runs.{IsBestEnd}
+use Rattle.corner.specs.Changes.{scene_of}
 use Rattle.layout_solver.specs.Layouts.{AreBest}
 use Rattle.layout_solver.specs.Engines.{AreItsValues}
 use Rattle.layout_solver.specs.ValuesUnique.{IsFixed, fixed_attrs, one_number}
@@ -88,7 +89,7 @@ values-of p at x stands (s ∷ stays) =
       },
     )
 
-pub values_exist : (c : CornerView) → IsCorner c.problem c.marks → (values : List (ℕ × Fraction)) × AreItsValues c values
+pub values_exist : (c : CornerView) → IsCorner c.problem c.marks → (values : List (ℕ × Fraction)) × AreItsValues (scene_of c) values
 values_exist c corner =
     let v = values-of c.problem c.marks corner.point corner.stands c.problem.stays in (
       v.0,
@@ -123,7 +124,7 @@ fixed_at p at corner values e = fixed-at p at corner.point p.stays values e (fix
 abbrev pub AreNumbers : Point → List (ℕ × Fraction) → Type 0
 AreNumbers x values = Each (λ v. x.num (attr_column v.0) *ℤ pos v.1.den ≡ v.1.num *ℤ x.num one_column) values
 
-pub numbers_here : (c : CornerView) (values : List (ℕ × Fraction)) (x : Point) → AreItsValues c values → StandsAt c.problem c.marks x → AreNumbers x values
+pub numbers_here : (c : CornerView) (values : List (ℕ × Fraction)) (x : Point) → AreItsValues (scene_of c) values → StandsAt c.problem c.marks x → AreNumbers x values
 numbers_here c values x h stands =
     each-impl (λ v. IsFixed c.problem c.marks h.corner.point (attr_column v.0) × HasValueAt c.problem c.marks (attr_column v.0) v.1) _ values
     (λ v k. number-here v.1 (h.corner.point.num (attr_column v.0)) (h.corner.point.num one_column) (x.num (attr_column v.0)) (x.num one_column) (k.1.0.num (attr_column v.0)) (k.1.0.num one_column) h.corner.point.positive k.1.0.positive
@@ -140,7 +141,7 @@ given_here x values h =
     (each-impl (λ v. x.num (attr_column v.0) *ℤ pos v.1.den ≡ v.1.num *ℤ x.num one_column) _ values (λ v e. e ∙ ap (λ (z : ℤ). v.1.num *ℤ z) (sym (same-size (x.num one_column) x.positive))) h)
 
 -- the values of an end are best
-pub best_there : (c : CornerView) (values : List (ℕ × Fraction)) → AreItsValues c values → IsWhole c.problem → IsBestEnd c.problem c.marks → AreBest c.problem values
+pub best_there : (c : CornerView) (values : List (ℕ × Fraction)) → AreItsValues (scene_of c) values → IsWhole c.problem → IsBestEnd c.problem c.marks → AreBest c.problem values
 best_there c values h whole end =
     let best = end_is_best c.problem c.marks whole end.values end.columns end.required in record {
       attributes = h.attributes;
@@ -186,7 +187,7 @@ of-attrs Q (s ∷ stays) (v ∷ values) e h =
     (subst Q (sym head) h.0, of-attrs Q stays values tail h.1)
 
 -- at a kept corner each value fits
-pub values_fit : (c : CornerView) (values : List (ℕ × Fraction)) → AreItsValues c values → IsKeptCorner c.problem c.marks → All (λ v. IsKept v.1) values
+pub values_fit : (c : CornerView) (values : List (ℕ × Fraction)) → AreItsValues (scene_of c) values → IsKeptCorner c.problem c.marks → All (λ v. IsKept v.1) values
 values_fit c values h kept =
     All-from_recursion (λ v. IsKept v.1) values
     (each-impl (λ v. (HasStay c.problem.stays v.0 × IsFixed c.problem c.marks kept.corner.point (attr_column v.0)) × (IsLowest v.1 × HasValueAt c.problem c.marks (attr_column v.0) v.1)) (λ v. IsKept v.1) values

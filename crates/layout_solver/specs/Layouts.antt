@@ -1,4 +1,4 @@
--- A layout: a problem with its best values, and what it becomes.
+-- A layout: a problem with its best values, those before it, and what it becomes.
 use Rattle.std.specs.Prelude.{◌≡◌, ℕ, List, [], ◌∷◌, ◌++◌, map, All}
 use Rattle.frac_core.specs.Fraction.{Fraction, IsKept, IsLowest}
 use Rattle.problem_core.specs.declared.parts.Stay.{Stay}
@@ -17,25 +17,38 @@ pub record AreBest (problem : Problem) (values : List (ℕ × Fraction)) : Type 
   pub lowest : All (λ v. IsLowest v.1) values
   pub best : (x : Assignment) × IsBest problem x × Gives values x
 
--- the problem, its best values, and the marks inside at the corner where they stand
+-- a problem, its best values, and the marks inside at the corner where they stand
+pub record Solution : Type 0 where
+  pub problem : Problem
+  pub values : List (ℕ × Fraction)
+  pub corner : List Mark
+
+-- the solution of now, and the earlier ones that one can go back to, the latest first
 pub record Layout : Type 0 where
   pub problem : Problem
   pub values : List (ℕ × Fraction)
   pub corner : List Mark
+  pub earlier : List Solution
+
+abbrev pub solution_of : Layout → Solution
+solution_of l = record { problem = l.problem; values = l.values; corner = l.corner }
 
 -- at the corner the attributes have these values
 abbrev pub AreValuesAt : Problem → List Mark → List (ℕ × Fraction) → Type 0
 AreValuesAt p at values = All (λ v. HasValueAt p at (attr_column v.0) v.1) values
 
--- what each layout keeps: the values are best, and stand at a corner without negative values and columns,
+-- what each solution keeps: the values are best, and stand at a corner without negative values and columns,
 -- at which the required rows cost nothing
-pub record IsKeptLayout (l : Layout) : Type 0 where
-  pub best : AreBest l.problem l.values
-  pub fit : All (λ v. IsKept v.1) l.values
-  pub rising : AreRising l.values
-  pub corner : IsKeptCorner l.problem l.corner
-  pub values : AreValuesAt l.problem l.corner l.values
-  pub end : IsBestEnd l.problem l.corner
+pub record IsKeptSolution (s : Solution) : Type 0 where
+  pub best : AreBest s.problem s.values
+  pub fit : All (λ v. IsKept v.1) s.values
+  pub rising : AreRising s.values
+  pub corner : IsKeptCorner s.problem s.corner
+  pub values : AreValuesAt s.problem s.corner s.values
+  pub end : IsBestEnd s.problem s.corner
+
+abbrev pub IsKeptLayout : Layout → Type 0
+IsKeptLayout l = IsKeptSolution (solution_of l)
 
 -- a stay for each attribute, at its value
 abbrev pub stays_at : List (ℕ × Fraction) → List Stay

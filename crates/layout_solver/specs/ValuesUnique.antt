@@ -13,8 +13,8 @@ use Rattle.problem_core.specs.declared.parts.Stay.{Stay}
 use Rattle.problem_core.specs.Layout.{Problem}
 use Rattle.problem_core.specs.Corners.{Agree, IsCorner, Point, StandsAt, attr_column, one_column}
 use Rattle.corner_laws.proofs.Rays.{above-zero}
-use Rattle.corner.specs.Views.{CornerView, HasValueAt}
-use Rattle.layout_solver.specs.Engines.{AreItsValues, HasValues}
+use Rattle.corner.specs.Views.{HasValueAt, Scene}
+use Rattle.layout_solver.specs.Engines.{AreItsValues, HasValues, HaveValues}
 use Rattle.frac_core.proofs.OneFraction.{one_value, same_fraction}
 
 -- ---- one value
@@ -90,7 +90,7 @@ pub fixed_attrs : (p : Problem) (at : List Mark) (corner : IsCorner p at)
 fixed_attrs p at corner = recursion_from_All (λ s. IsFixed p at corner.point (attr_column s.attr)) p.stays
     (λ k d within y stands. corner.attrs_fixed y stands k d within)
 
-pub values_are_one : (c : CornerView) (u v : List (ℕ × Fraction)) → AreItsValues c u → AreItsValues c v
+pub values_are_one : (c : Scene) (u v : List (ℕ × Fraction)) → AreItsValues c u → AreItsValues c v
     → u ≡ v
 values_are_one c u v a b =
     same-values c.problem c.marks a.corner.point c.problem.stays u v a.attributes b.attributes
@@ -108,17 +108,25 @@ fraction_code = code_by (ℤ × ℕ) (coded× coded_ℤ coded_ℕ) (λ f. (f.num
 abbrev pub values_code : Coded (List (ℕ × Fraction))
 values_code = coded_list (coded× coded_ℕ fraction_code)
 
-abbrev with_proof : (c : CornerView) (u : List (ℕ × Fraction)) → ∥ AreItsValues c u ∥₁ → HasValues c
+abbrev with_proof : (c : Scene) (u : List (ℕ × Fraction)) → ∥ AreItsValues c u ∥₁ → HasValues c
 with_proof c u s = (u, s)
 
-same-pair : (c : CornerView) (u v : List (ℕ × Fraction)) (s : ∥ AreItsValues c u ∥₁)
+same-pair : (c : Scene) (u v : List (ℕ × Fraction)) (s : ∥ AreItsValues c u ∥₁)
     (t : ∥ AreItsValues c v ∥₁) → u ≡ v → with_proof c u s ≡ with_proof c v t
 same-pair c u v s t e =
     subst (λ (w : List (ℕ × Fraction)). (r : ∥ AreItsValues c w ∥₁) → with_proof c u s ≡ with_proof c w r) e
     (λ r. ap (with_proof c u) (∥∥₁_prop s r)) t
 
-pub one_list : (c : CornerView) → IsProp (HasValues c)
+pub one_list : (c : Scene) → IsProp (HasValues c)
 one_list c a b =
     same-pair c a.0 b.0 a.1 b.1
     (∥∥₁_elim a.1 (Coded-set values_code a.0 b.0)
     (λ s. ∥∥₁_elim b.1 (Coded-set values_code a.0 b.0) (λ t. values_are_one c a.0 b.0 s t)))
+
+-- ---- the earlier corners' facts have one proof
+
+pub lists_are_one : (before : List Scene) → IsProp (HaveValues before)
+lists_are_one [] a b = refl
+lists_are_one (s ∷ before) a b =
+    ap₂ (λ (h : HasValues s) (rest : HaveValues before). (h, rest)) (one_list s a.0 b.0)
+    (lists_are_one before a.1 b.1)

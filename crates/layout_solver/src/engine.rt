@@ -1,7 +1,7 @@
 // The engine.
-ghost use Rattle.std.specs.Prelude.{◌≡◌, ◌<◌, ◌++◌, ℕ, [], true, false, All, AllPairs, Any};
-ghost use Rattle.std.specs.Prelude.{IfOk, IfErr, IfSome, IfNone, OnErr};
-ghost use Rattle.frac_core.specs.Fraction.{IsKept};
+ghost use Rattle.std.specs.Prelude.{◌≡◌, ◌<◌, ◌-◌, ◌++◌, ℕ, [], ◌∷◌, true, false, length, take};
+ghost use Rattle.std.specs.Prelude.{All, AllPairs, Any, IfOk, IfErr, IfSome, IfNone, OnErr};
+ghost use Rattle.frac_core.specs.Fraction.{IsKept, IsLowest};
 ghost use Rattle.problem_core.specs.Layout.{HasStay, line_of_row};
 ghost use Rattle.problem_core.specs.Levels.{IsLevelAt};
 ghost use Rattle.problem_core.specs.Window.{zero_fraction};
@@ -12,13 +12,15 @@ ghost use Rattle.cert_checker.specs.Certifying.{EachGiven};
 ghost use Rattle.certificates.specs.Accepted.{IsCertified};
 ghost use Rattle.certificates.specs.Errors.{IsErrorAt, IsLevelCost};
 ghost use Rattle.certificates.specs.OwnLevels.{IsOwnBest};
-ghost use Rattle.corner.specs.Changes.{FromAdded};
+ghost use Rattle.corner.specs.Changes.{FromAdded, scene_of};
 ghost use Rattle.corner_ends.specs.Runs.{FromHere, IsRun};
-ghost use Rattle.layout_solver.specs.Layouts.{AreBest, IsBestValue, IsKeptLayout, with_added, zeros};
+ghost use Rattle.version_list.specs.declared.TheConstants.{MOST};
+ghost use Rattle.layout_solver.specs.Layouts.{AreBest, IsBestValue, IsKeptLayout, IsKeptSolution};
+ghost use Rattle.layout_solver.specs.Layouts.{solution_of, with_added, zeros};
 ghost use Rattle.layout_solver.specs.Shifts.{CanShift, with_shifts};
 ghost use Rattle.layout_solver.specs.Removals.{CanLeave, HasRemoved, IsRemoveStop, stood, with_removed};
-ghost use Rattle.layout_solver.specs.Engines.{HasValues};
-ghost use Rattle.layout_solver.specs.ValuesUnique.{one_list};
+ghost use Rattle.layout_solver.specs.Engines.{HasValues, HaveValues};
+ghost use Rattle.layout_solver.specs.ValuesUnique.{lists_are_one, one_list};
 
 use crate::changing::extend;
 use crate::reading::{has_level, has_stay, row_of};
@@ -40,12 +42,13 @@ pub struct Change {
     pub constant: Frac,
 }
 
-/// A problem with its best values, and the corner at which they stand.
+/// A problem with its best values, and the corner at which they stand, with earlier ones.
 #[derive(Drop)]
 pub struct Engine {
     corner: Corner,
     alloc: Global,
-    ghost values: { HasValues corner } by { one_list corner },
+    ghost values: { HasValues (scene_of corner) } by { one_list (scene_of corner) },
+    ghost earlier: { HaveValues corner.before } by { lists_are_one corner.before },
 }
 
 impl Model for Engine {
@@ -54,9 +57,9 @@ impl Model for Engine {
 
     ghost Value = { Layout };
 
-    ghost view = { λ e. layout_of e.corner e.values.0 };
+    ghost view = { λ e. layout_of e.corner e.values.0 e.earlier };
 
-    ghost invariant = { λ e. IsSolved e.corner e.values.0 };
+    ghost invariant = { λ e. IsSolved e.corner e.values.0 e.earlier };
 }
 
 impl Engine {
@@ -66,6 +69,7 @@ impl Engine {
           problem = record { rows = []; stays = [] };
           values = [];
           corner = [];
+          earlier = [];
         }) }
     {
         let corner = Corner::new(alloc)?;
@@ -80,6 +84,7 @@ impl Engine {
         ensures best { AreBest self.now.problem self.now.values }
         ensures kept { All (λ v. IsKept v.1) self.now.values }
         ensures rising { AreRising self.now.values }
+        ensures earlier { All IsKeptSolution self.now.earlier }
     {
         let _ = &self.corner;
     }
@@ -91,6 +96,7 @@ impl Engine {
     /// fit at the last corner of the path. `Spent`: the path has as many exchanges as the budget. After each
     /// stop the engine is as before.
     pub fn add(&mut self, attrs: &[u32], rows: &[Row], budget: u64) -> Result<(), RunStop>
+        requires room { length self.old.earlier < MOST }
         requires whole { IsWhole (with_added self.old attrs.now rows.now) }
         requires rising { AreRising (self.old.values ++ zeros attrs.now) }
         ensures done { IfOk result (λ _. self.new.problem ≡ with_added self.old attrs.now rows.now) }
@@ -101,15 +107,14 @@ impl Engine {
         ensures stop { IfErr result (IsStopOf false (with_added self.old attrs.now rows.now)
             self.old.problem.rows
             (FromAdded (with_added self.old attrs.now rows.now) self.old.corner rows.now) budget) }
+        ensures earlier { IfOk result (λ _. self.new.earlier ≡ solution_of self.old ∷ self.old.earlier) }
         ensures same { OnErr result (self.new ≡ self.old) }
     {
         self.corner.mark();
-        match extend(self.alloc, &mut self.corner, attrs, rows, budget) {
-            Ok(()) => {
-                self.corner.show_corner();
-                self.corner.forget();
-                Ok(())
-            }
+        let result = extend(self.alloc, &mut self.corner, attrs, rows, budget);
+        self.corner.show_corner();
+        match result {
+            Ok(()) => Ok(()),
             Err(stop) => {
                 self.corner.back();
                 Err(stop)
@@ -123,6 +128,7 @@ impl Engine {
     ///
     /// The stops are those of `add`.
     pub fn shift(&mut self, to: &[Change], budget: u64) -> Result<(), RunStop>
+        requires room { length self.old.earlier < MOST }
         requires held { CanShift self.old.problem to.now }
         requires rising { AllPairs (λ a b. a.row < b.row) to.now }
         ensures done { IfOk result (λ _. self.new.problem ≡ with_shifts self.old to.now) }
@@ -131,15 +137,14 @@ impl Engine {
             path) }
         ensures stop { IfErr result (IsStopOf true (with_shifts self.old to.now) self.old.problem.rows
             (FromHere self.old.corner) budget) }
+        ensures earlier { IfOk result (λ _. self.new.earlier ≡ solution_of self.old ∷ self.old.earlier) }
         ensures same { OnErr result (self.new ≡ self.old) }
     {
         self.corner.mark();
-        match alter(self.alloc, &mut self.corner, to, budget) {
-            Ok(()) => {
-                self.corner.show_corner();
-                self.corner.forget();
-                Ok(())
-            }
+        let result = alter(self.alloc, &mut self.corner, to, budget);
+        self.corner.show_corner();
+        match result {
+            Ok(()) => Ok(()),
             Err(stop) => {
                 self.corner.back();
                 Err(stop)
@@ -156,6 +161,7 @@ impl Engine {
     /// last corner of the path. `Spent`: the path has as many exchanges as the budget. After each stop the
     /// engine is as before.
     pub fn remove(&mut self, rows: &[u32], attrs: &[u32], budget: u64) -> Result<(), RemoveStop>
+        requires room { length self.old.earlier < MOST }
         requires leave { CanLeave (record { rows = rows.now; attrs = attrs.now }) self.old.problem }
         ensures done { IfOk result
             (λ _. self.new.problem ≡ with_removed self.old (record { rows = rows.now; attrs = attrs.now })) }
@@ -163,15 +169,14 @@ impl Engine {
             (record { rows = rows.now; attrs = attrs.now }) budget self.new.corner) }
         ensures stop { IfErr result (IsRemoveStop (stood self.old) self.old.corner
             (record { rows = rows.now; attrs = attrs.now }) budget) }
+        ensures earlier { IfOk result (λ _. self.new.earlier ≡ solution_of self.old ∷ self.old.earlier) }
         ensures same { OnErr result (self.new ≡ self.old) }
     {
         self.corner.mark();
-        match shrink(self.alloc, &mut self.corner, rows, attrs, budget) {
-            Ok(()) => {
-                self.corner.show_corner();
-                self.corner.forget();
-                Ok(())
-            }
+        let result = shrink(self.alloc, &mut self.corner, rows, attrs, budget);
+        self.corner.show_corner();
+        match result {
+            Ok(()) => Ok(()),
             Err(stop) => {
                 self.corner.back();
                 Err(stop)
@@ -183,6 +188,7 @@ impl Engine {
     ///
     /// The stops are those of `add`.
     pub fn value_with(&mut self, rows: &[Row], attr: u32, budget: u64) -> Result<Frac, RunStop>
+        requires room { length self.old.earlier < MOST }
         requires whole { IsWhole (with_added self.old [] rows.now) }
         requires attr { HasStay self.old.problem.stays attr }
         ensures value { IfOk result (IsBestValue (with_added self.old [] rows.now) attr) }
@@ -194,6 +200,23 @@ impl Engine {
         let result = tried(self.alloc, &mut self.corner, rows, attr, budget);
         self.corner.back();
         result
+    }
+
+    /// Goes back to the latest of the earlier layouts. It needs no memory.
+    pub fn back(&mut self)
+        requires { 0 < length self.old.earlier }
+        ensures { self.old.earlier ≡ solution_of self.new ∷ self.new.earlier }
+    {
+        self.corner.back();
+    }
+
+    /// Forgets the oldest of the earlier layouts.
+    pub fn forget(&mut self)
+        requires { 0 < length self.old.earlier }
+        ensures solution { solution_of self.new ≡ solution_of self.old }
+        ensures earlier { self.new.earlier ≡ take (length self.old.earlier - 1) self.old.earlier }
+    {
+        self.corner.forget();
     }
 
     /// The rows, by rising number.
@@ -246,6 +269,7 @@ impl Engine {
     pub fn error(&self, row: u32) -> Option<Wide>
         ensures some { IfSome result (λ e. Any (λ r. (r.id ≡ row)
             × EachGiven self.now.values (λ x. IsErrorAt x (line_of_row r) e)) self.now.problem.rows) }
+        ensures lowest { IfSome result IsLowest }
         ensures none { IfNone result (Any (λ r. r.id ≡ row) self.now.problem.rows → ⊥) }
     {
         let held = row_of(self.corner.rows(), row)?;

@@ -1,13 +1,19 @@
-//! The engine: a layout problem and its best values, changed step by step.
+//! The engine: a layout problem and its best values, changed step by step, and back.
 //!
-//! An [`Engine`] is a problem, its best values, and the corner at which these stand. [`Engine::add`] takes
-//! more attributes and rows, [`Engine::remove`] takes some out, and [`Engine::shift`] gives rows other
-//! constants. Each first moves the stays to the present values, so that the attributes stay where they are as
-//! far as the rows let them, and then exchanges marks until the values are best: after `shift` no column is
-//! negative on the way, else no value is. A change that is refused leaves the engine as it was.
+//! An [`Engine`] is a problem, its best values, and the corner at which these stand, with earlier ones.
+//! [`Engine::add`] takes more attributes and rows, [`Engine::remove`] takes some out, and [`Engine::shift`]
+//! gives rows other constants. Each first moves the stays to the present values, so that the attributes stay
+//! where they are as far as the rows let them, and then exchanges marks until the values are best: after
+//! `shift` no column is negative on the way, else no value is. A change that is refused leaves the engine as
+//! it was.
 //!
-//! A contract sees a `Layout`: the problem, the values by attribute, and the marks inside. The values are not
-//! stored. The corner fixes them ([`Engine::value`] reads them there), and a ghost field names them.
+//! A change that is made leaves the layout before it among the earlier ones, of which there may be 33.
+//! [`Engine::back`] goes back to the latest of these, with no memory and no way to fail, and
+//! [`Engine::forget`] drops the oldest.
+//!
+//! A contract sees a `Layout`: the problem, the values by attribute, and the marks inside, with the same of
+//! each earlier one. The values are not stored. A corner fixes them ([`Engine::value`] reads them there), and
+//! ghost fields name them.
 //!
 //! | Clause | Says |
 //! |---|---|
@@ -15,6 +21,7 @@
 //! | `done` | after `Ok`, the problem is the one that was asked for |
 //! | `path` | after `Ok`, a lawful path within the budget leads from the kept corner to the engine's corner |
 //! | `stop` | a conflict has multipliers that show it, which `remove` never has; any other stop has a lawful path |
+//! | `earlier` | after `Ok`, the layout before is the latest of the earlier ones |
 //! | `same` | after a stop or want of memory, the engine is as before |
 //! | `some`, `none` | the value of an attribute with a stay, and of no other |
 //!
@@ -31,6 +38,9 @@
 //! engine.value(1);                            // 30
 //! engine.remove(&[7], &[], 1000)?;            // attribute 1 is free, and stays where it is
 //! engine.value(1);                            // 30
+//! engine.back();                              // the row 7 is back, at 30
+//! engine.back();                              // at 20
+//! engine.value(1);                            // 20
 //! ```
 //!
 //! To read: `changing`, `removing` and `shifting` have the ways of a corner to the best one of another

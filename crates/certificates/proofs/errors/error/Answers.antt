@@ -17,8 +17,8 @@ value-under-requires c = record { mark = row_mark c.args.c.now.problem c.args.ro
 pub value-over-requires : goal.value-over-requires
 value-over-requires c = record { mark = row_mark c.args.c.now.problem c.args.row.now c.mark_of-2.result Over c.requires.held c.mark_of-2.ensures }
 
-pub returns : goal.returns
-returns c =
+pub returns-clause-error : goal.returns-clause-error
+returns-clause-error c =
     let s : SFits w64 c.scale.result = search rules in
     let ratio = simp (to_z-of_z, s) at c.over_scale.ensures.value in
     row_error c.args.c.now.problem c.args.c.now.marks c.args.row.now c.value-under.result c.value-over.result c.lacking.result c.over_scale.result c.show_corner.ensures.kept.whole c.show_corner.ensures.kept.corner c.requires.values c.requires.held

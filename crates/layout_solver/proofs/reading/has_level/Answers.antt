@@ -1,4 +1,4 @@
-use Rattle.std.proofs.Common.{◌≡◌, ◌≤◌, List, sym, subst, arith}
+use Rattle.std.proofs.Common.{◌≤◌, List, sym, subst, arith}
 use Rattle.std.proofs.lemmas.Bool.Decides.{nat_tests}
 use Rattle.problem_core.specs.declared.parts.Level.{Level}
 use Rattle.problem_core.specs.declared.parts.Stay.{Stay}

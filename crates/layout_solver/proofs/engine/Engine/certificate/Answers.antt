@@ -10,11 +10,11 @@ use Rattle.layout_solver.proofs.engine.Engine.certificate.Goals as goal
 pub returns-clause-own : goal.returns-clause-own
 returns-clause-own c =
     ok_weaker c.certificate.result (IsOwnBest c.self.inside.corner.problem c.self.inside.corner.marks) (IsOwnBest c.args.self.now.problem c.args.self.now.corner)
-    (λ levels h. shown_own c.self.inside.corner c.self.inside.values.0 c.args.self.now c.self.invariant c.self.view_is levels h) c.certificate.ensures.own
+    (λ levels h. shown_own c.self.inside.corner c.self.inside.values.0 c.self.inside.earlier c.args.self.now c.self.invariant c.self.view_is levels h) c.certificate.ensures.own
 
 pub returns-clause-certified : goal.returns-clause-certified
 returns-clause-certified c =
     ok_both c.certificate.result (Balances c.self.inside.corner.problem)
     (λ best. (x : Point) → StandsAt c.self.inside.corner.problem c.self.inside.corner.marks x → IsCertificate c.self.inside.corner.problem (assignment_at x) (multipliers_of c.self.inside.corner.problem best))
     (IsCertified c.args.self.now.problem c.args.self.now.values)
-    (λ levels b h. shown_certified c.self.inside.corner c.self.inside.values.0 c.args.self.now c.self.invariant c.self.view_is levels b h) c.certificate.ensures.balanced c.certificate.ensures.certified
+    (λ levels b h. shown_certified c.self.inside.corner c.self.inside.values.0 c.self.inside.earlier c.args.self.now c.self.invariant c.self.view_is levels b h) c.certificate.ensures.balanced c.certificate.ensures.certified

@@ -5,7 +5,7 @@ use Rattle.layout_solver.proofs.Shown.{shown_cost}
 use Rattle.layout_solver.proofs.engine.Engine.cost.Goals as goal
 
 pub returns-then-has_level-clause-value : goal.returns-then-has_level-clause-value
-returns-then-has_level-clause-value c = shown_cost c.self.inside.corner c.self.inside.values.0 c.args.self.now c.self.invariant c.self.view_is c.args.level c.cost.result c.cost.ensures
+returns-then-has_level-clause-value c = shown_cost c.self.inside.corner c.self.inside.values.0 c.self.inside.earlier c.args.self.now c.self.invariant c.self.view_is c.args.level c.cost.result c.cost.ensures
 
 pub returns-then-has_level-clause-none : goal.returns-then-has_level-clause-none
 returns-then-has_level-clause-none c = λ none.
