@@ -153,9 +153,11 @@ fn put_command(alloc: Global, out: &mut String, command: &Command<'_>) -> Result
             priority,
         } => put_suggestion(out, view, *word, *value, *priority),
         Command::Release { view, word } => put_release(out, view, *word),
+        Command::Undo => Ok(writeln!(out, "undo")?),
         Command::Budget { exchanges } => Ok(writeln!(out, "budget {exchanges}")?),
         Command::Frames => Ok(writeln!(out, "frames")?),
         Command::Rows => Ok(writeln!(out, "rows")?),
+        Command::Certify => Ok(writeln!(out, "certify")?),
         _ => put_group(alloc, out, command),
     }
 }

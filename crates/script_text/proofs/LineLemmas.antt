@@ -40,9 +40,11 @@ arguments_lives key.Constrain = name_lives is_space refl linear_lives
 arguments_lives key.Remove = name_lives is_space refl (λ n. end_lives is_space (mean.Remove n))
 arguments_lives key.Suggest = suggest_lives
 arguments_lives key.Release = release_lives
+arguments_lives key.Undo = end_lives is_space mean.Undo
 arguments_lives key.Budget = whole_lives is_space refl (λ n. end_lives is_space (mean.Budget n))
 arguments_lives key.Frames = end_lives is_space mean.Frames
 arguments_lives key.Rows = end_lives is_space mean.Rows
+arguments_lives key.Certify = end_lives is_space mean.Certify
 
 arguments_answers : (k : Keyword) (s : List ℕ) → Answers (Arguments k) s (arguments_at k s)
 arguments_answers key.View s = view_answers s
@@ -54,9 +56,11 @@ arguments_answers key.Constrain s = constrain_answers s
 arguments_answers key.Remove s = named_answers mean.Remove s
 arguments_answers key.Suggest s = suggest_answers s
 arguments_answers key.Release s = release_answers s
+arguments_answers key.Undo s = bare_answers mean.Undo s
 arguments_answers key.Budget s = budget_answers s
 arguments_answers key.Frames s = bare_answers mean.Frames s
 arguments_answers key.Rows s = bare_answers mean.Rows s
+arguments_answers key.Certify s = bare_answers mean.Certify s
 
 any_answers : {A : Type 0} (a : A) (s : List ℕ) → Answers (Any a) s (Ok a)
 any_answers a s = (refl, λ w h. h)

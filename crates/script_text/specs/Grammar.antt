@@ -24,7 +24,8 @@ unfoldable pub all_words : List (List ℕ × Keyword)
 all_words = (codes "view", key.View) ∷ (codes "drop", key.Drop) ∷ (codes "metric", key.Metric)
     ∷ (codes "window", key.Window) ∷ (codes "vfl", key.Vfl) ∷ (codes "constrain", key.Constrain)
     ∷ (codes "remove", key.Remove) ∷ (codes "suggest", key.Suggest) ∷ (codes "release", key.Release)
-    ∷ (codes "budget", key.Budget) ∷ (codes "frames", key.Frames) ∷ (codes "rows", key.Rows) ∷ []
+    ∷ (codes "undo", key.Undo) ∷ (codes "budget", key.Budget) ∷ (codes "frames", key.Frames)
+    ∷ (codes "rows", key.Rows) ∷ (codes "certify", key.Certify) ∷ []
 
 unfoldable pub alignments : List (List ℕ × Align)
 alignments = (codes "left", align.Left) ∷ (codes "right", align.Right) ∷ (codes "top", align.Top)
@@ -124,9 +125,11 @@ Arguments key.Constrain = Name (λ n. LinearText (λ l. End (mean.Constrain n l)
 Arguments key.Remove = Name (λ n. End (mean.Remove n))
 Arguments key.Suggest = Attribute (λ n w. Or (Sign 45 (Suggestion n w true)) (Suggestion n w false))
 Arguments key.Release = Attribute (λ n w. End (mean.Release n w))
+Arguments key.Undo = End mean.Undo
 Arguments key.Budget = Whole (λ n. End (mean.Budget n))
 Arguments key.Frames = End mean.Frames
 Arguments key.Rows = End mean.Rows
+Arguments key.Certify = End mean.Certify
 
 -- whatever follows
 abbrev pub Any : {A : Type 0} → A → Rel A

@@ -256,9 +256,11 @@ arguments_at key.Constrain s = constrain_at s
 arguments_at key.Remove s = named_at mean.Remove s
 arguments_at key.Suggest s = suggest_at s
 arguments_at key.Release s = release_at s
+arguments_at key.Undo s = bare_at mean.Undo s
 arguments_at key.Budget s = budget_at s
 arguments_at key.Frames s = bare_at mean.Frames s
 arguments_at key.Rows s = bare_at mean.Rows s
+arguments_at key.Certify s = bare_at mean.Certify s
 
 abbrev pub is_any : ℕ → Bool
 is_any b = true

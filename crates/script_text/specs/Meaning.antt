@@ -36,6 +36,8 @@ pub data Meaning : Type 0 where
   Remove : List ℕ → Meaning
   Suggest : List ℕ → AttrWord → Fraction → Option Meant → Meaning
   Release : List ℕ → AttrWord → Meaning
+  Undo : Meaning
   Budget : ℕ → Meaning
   Frames : Meaning
   Rows : Meaning
+  Certify : Meaning

@@ -100,11 +100,15 @@ pub enum Command<'a> {
         view: &'a str,
         word: AttrWord,
     },
+    /// The scene before the latest change is to stand again.
+    Undo,
     Budget {
         exchanges: u64,
     },
     Frames,
     Rows,
+    /// The values and what shows that they are the best are to be told.
+    Certify,
 }
 
 /// Why a line was not read.

@@ -13,9 +13,11 @@
 //! remove NAME
 //! suggest NAME.ATTRIBUTE -? NUMBER (@ PRIORITY)?
 //! release NAME.ATTRIBUTE
+//! undo
 //! budget WHOLE
 //! frames
 //! rows
+//! certify
 //! ```
 //!
 //! An expression is a sum of terms with `+` and `-` between them and perhaps `-` in front. A term is a

@@ -94,6 +94,14 @@ fn budget_line(text: &[u8]) -> Result<Command<'_>, PartStop>
 }
 
 #[tactic(auto, unfolding(crate::specs::LineReading::bare_at))]
+fn undo_line(text: &[u8]) -> Result<Command<'_>, PartStop>
+    ensures { GivesOrMemory view result (bare_at mean.Undo text.now) }
+{
+    pieces::end(text)?;
+    Ok(Command::Undo)
+}
+
+#[tactic(auto, unfolding(crate::specs::LineReading::bare_at))]
 fn frames_line(text: &[u8]) -> Result<Command<'_>, PartStop>
     ensures { GivesOrMemory view result (bare_at mean.Frames text.now) }
 {
@@ -107,6 +115,14 @@ fn rows_line(text: &[u8]) -> Result<Command<'_>, PartStop>
 {
     pieces::end(text)?;
     Ok(Command::Rows)
+}
+
+#[tactic(auto, unfolding(crate::specs::LineReading::bare_at))]
+fn certify_line(text: &[u8]) -> Result<Command<'_>, PartStop>
+    ensures { GivesOrMemory view result (bare_at mean.Certify text.now) }
+{
+    pieces::end(text)?;
+    Ok(Command::Certify)
 }
 
 #[tactic(auto, unfolding(crate::specs::LineReading::bare_at))]
@@ -131,9 +147,11 @@ fn arguments(alloc: Global, keyword: Keyword, text: &[u8]) -> Result<Command<'_>
         Keyword::Remove => remove_line(text),
         Keyword::Suggest => suggest(text),
         Keyword::Release => release(text),
+        Keyword::Undo => undo_line(text),
         Keyword::Budget => budget_line(text),
         Keyword::Frames => frames_line(text),
         Keyword::Rows => rows_line(text),
+        Keyword::Certify => certify_line(text),
     }
 }
 

@@ -20,9 +20,11 @@ pub enum Keyword {
     Remove,
     Suggest,
     Release,
+    Undo,
     Budget,
     Frames,
     Rows,
+    Certify,
 }
 
 /// The edges and middles that an alignment may name.
@@ -75,9 +77,11 @@ impl AttrWord {
 pub fn first_word(text: &[u8]) -> Result<(Keyword, &[u8]), usize>
     ensures { Gives (λ p. (p.0, p.1.now)) result (tried all_words text.now) }
 {
-    let found = or_else(b"rows", Keyword::Rows, text, Err(text.len()));
+    let found = or_else(b"certify", Keyword::Certify, text, Err(text.len()));
+    let found = or_else(b"rows", Keyword::Rows, text, found);
     let found = or_else(b"frames", Keyword::Frames, text, found);
     let found = or_else(b"budget", Keyword::Budget, text, found);
+    let found = or_else(b"undo", Keyword::Undo, text, found);
     let found = or_else(b"release", Keyword::Release, text, found);
     let found = or_else(b"suggest", Keyword::Suggest, text, found);
     let found = or_else(b"remove", Keyword::Remove, text, found);
