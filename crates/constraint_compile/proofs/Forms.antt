@@ -20,7 +20,7 @@ pub any_number : (views : List ViewId) (n : ℕ) → list_any (λ (v : ViewId). 
 any_number [] n = refl
 any_number (v ∷ views) n = ap (λ (b : Bool). nat_eq v.0 n || b) (any_number views n)
 
-taken : (forms : List RowForm) (i : ℕ) (t : RowForm) → i < length forms → t ≡ get_or forms i t → map form_view (take (i + 1) forms) ≡ map form_view (take i forms) ++ form_view t ∷ []
+pub taken : (forms : List RowForm) (i : ℕ) (t : RowForm) → i < length forms → t ≡ get_or forms i t → map form_view (take (i + 1) forms) ≡ map form_view (take i forms) ++ form_view t ∷ []
 taken forms i t within is = ap (map form_view) (take_more forms i t within ∙ ap (λ (x : RowForm). take i forms ++ x ∷ []) (sym is)) ∙ map_push form_view (take i forms) t
 
 pub same_more : (forms same : List RowForm) (i : ℕ) (t x : RowForm) → i < length forms → t ≡ get_or forms i t → form_view x ≡ form_view t → map form_view same ≡ map form_view (take i forms) → map form_view (same ++ x ∷ []) ≡ map form_view (take (i + 1) forms)

@@ -11,6 +11,8 @@ pub mod Joint
 pub mod Lines
 pub mod Lists
 pub mod Lowest
+pub mod Named
+pub mod NamedInstances
 pub mod NoParts
 pub mod Numbered
 pub mod Quotients

@@ -10,6 +10,7 @@ pub mod Fractions
 pub mod Inside
 pub mod Keeps
 pub mod Meaning
+pub mod Naming
 pub mod Pieces
 pub mod Quotients
 pub mod Shares

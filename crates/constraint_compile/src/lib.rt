@@ -15,6 +15,7 @@ mod format_spans;
 mod line;
 mod line_rows;
 mod lookups;
+mod naming;
 mod nonzero;
 mod parts;
 mod ratios;
@@ -34,6 +35,7 @@ pub use format_laws::{
     compiled_formats_have_all_rows, compiled_formats_have_no_refusal, format_refusal_is_unique,
 };
 pub use line::compile_line;
+pub use naming::RowConstant;
 pub use rows::constants_now;
 pub use stops::{CompileStop, KindWord};
 pub use suggestion::{Suggestion, suggested_constant, suggested_rank};

@@ -53,8 +53,8 @@ fn with_constant(alloc: Global, form: &RowForm, constant: Frac) -> Result<Row, O
     )
 }
 
-// The row's constant for these metrics, unless it is past the limit after a step.
-fn constant_now(form: &RowForm, metrics: &Metrics) -> Option<Frac>
+/// The row's constant for these metrics, unless it is past the limit after a step.
+pub(crate) fn constant_now(form: &RowForm, metrics: &Metrics) -> Option<Frac>
     requires { IsForm form.now }
     ensures constant { IfSome result (IsConstant (last_scale (form_view form.now).steps)
         (step_sum metrics.now (form_view form.now).steps)) }

@@ -32,14 +32,21 @@ pub(crate) struct Step {
     pub part: Part,
 }
 
+/// The name that stands at a place, which is empty past the end.
+pub(crate) fn name_at(names: &[String], place: u32) -> &str
+    ensures { result.now ≡ slice_index_or (map string_bytes names.now) place [] }
+{
+    match names.get(place as usize) {
+        Some(name) => name.as_str(),
+        None => "",
+    }
+}
+
 // The value of the metric whose name stands at a place.
 fn metric_value(metrics: &Metrics, names: &[String], place: u32) -> Option<Frac>
     ensures { result ≡ value_of metrics.now (slice_index_or (map string_bytes names.now) place []) }
 {
-    match names.get(place as usize) {
-        Some(name) => metrics.get(name.as_str()),
-        None => metrics.get(""),
-    }
+    metrics.get(name_at(names, place))
 }
 
 // A number as a ratio.
