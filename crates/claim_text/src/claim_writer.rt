@@ -149,8 +149,8 @@ pub fn conflict_text(conflict: &Conflict, out: &mut Vec<u8>) -> Result<(), OutOf
     Ok(out.extend_from_slice(text.as_bytes())?)
 }
 
-// Appends the lines of values with a certificate.
-fn best_text(values: &Values, best: &Best, out: &mut Vec<u8>) -> Result<(), OutOfMemory>
+/// Appends the lines of values with a certificate. After want of memory nothing was appended.
+pub fn best_text(values: &Values, best: &Best, out: &mut Vec<u8>) -> Result<(), OutOfMemory>
     ensures written { IfOk result
         (λ _. out.new.items ≡ out.old.items ++ text_of_lines (best_lines values.now best.now)) }
     ensures unchanged { OnErr result (out.new.items ≡ out.old.items) }

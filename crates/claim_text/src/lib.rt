@@ -26,7 +26,7 @@ mod words;
 
 pub use claim::Claim;
 pub use claim_reader::read_claim;
-pub use claim_writer::{cert_text, conflict_text};
+pub use claim_writer::{best_text, cert_text, conflict_text};
 pub use cut::{CheckInput, cut_input};
 pub use path_writer::{path_text, unfit_text};
 pub use problem_reader::read_problem;
