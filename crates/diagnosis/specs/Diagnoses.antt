@@ -1,0 +1,29 @@
+-- What is found of a layout.
+use Rattle.std.specs.Prelude.{ℕ, ◌^◌, ◌<◌, List, length, All}
+use Rattle.frac_core.specs.Fraction.{Fraction}
+use Rattle.problem_core.specs.Layout.{Problem, Row}
+use Rattle.diagnosis.specs.Costs.{AreCosts}
+use Rattle.diagnosis.specs.Probes.{AreMoving}
+use Rattle.diagnosis.specs.Unmet.{AreUnmet}
+use Rattle.diagnosis.specs.declared.diagnosing.Diagnosis.{Diagnosis}
+
+-- priorities with their sums of weighted errors, rows with their errors, attributes with the values that they
+-- reach
+pub record Findings : Type 0 where
+  pub errors : List (ℕ × Fraction)
+  pub unmet : List (ℕ × Fraction)
+  pub moving : List (ℕ × Fraction)
+
+abbrev pub findings_of : Diagnosis → Findings
+findings_of d = record { errors = d.errors.items; unmet = d.unmet.items; moving = d.moving.items }
+
+-- they are all that the problem lacks and leaves open, where the attributes have these values
+pub record AreFindings (p : Problem) (values : List (ℕ × Fraction)) (f : Findings) : Type 0 where
+  pub errors : AreCosts p values 1 f.errors
+  pub unmet : AreUnmet p.rows values f.unmet
+  pub moving : AreMoving p values p.stays f.moving
+
+-- one row more has room among the rows, a number above theirs, and a rank below theirs
+pub record LeaveRoom (rows : List Row) : Type 0 where
+  pub few : length rows < 4096
+  pub each : All (λ r. (0 < r.rank) × (r.id < 2 ^ 31)) rows

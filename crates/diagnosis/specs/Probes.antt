@@ -1,0 +1,146 @@
+-- Probes: the row that is added, what is answered, and why a probe stops.
+use Rattle.std.specs.Prelude.{◌≡◌, ℕ, ◌^◌, ◌+◌, ◌<◌, Bool, true, false, List, [], ◌∷◌, length, ℤ, pos, ◌+ℤ◌}
+use Rattle.std.specs.Prelude.{◌≢◌, ◌-ℤ◌, ◌*ℤ◌, All, AllPairs}
+use Rattle.frac_core.specs.Fraction.{Fraction, IsKept, IsLowest, IsUnfitRatio}
+use Rattle.problem_core.specs.declared.parts.Rel.TheVariants.{Eq}
+use Rattle.problem_core.specs.declared.parts.Stay.{Stay}
+use Rattle.problem_core.specs.Layout.{HasStay, Problem, Row}
+use Rattle.problem_core.specs.Kept.{IsWhole}
+use Rattle.problem_core.specs.Gaps.{value_of}
+use Rattle.cert_core.specs.Stops.{IsStopOf}
+use Rattle.cert_core.specs.declared.stops.RunStop.{RunStop}
+use Rattle.cert_core.specs.declared.stops.RunStop.TheVariants as run
+use Rattle.version_list.specs.declared.TheConstants.{MOST}
+use Rattle.corner.specs.Changes.{FromAdded}
+use Rattle.layout_solver.specs.Layouts.{IsBestValue, Layout, with_added}
+use Rattle.diagnosis.specs.declared.probing.Answer.{Answer}
+use Rattle.diagnosis.specs.declared.probing.Answer.TheVariants.{Fixed, Moves}
+use Rattle.diagnosis.specs.declared.probing.DiagnoseStop.{DiagnoseStop}
+use Rattle.diagnosis.specs.declared.probing.DiagnoseStop.TheVariants.{Unfit, Spent, Target, OutOfMemory}
+use Rattle.diagnosis.specs.Ambiguity.{GoesAbove, IsAmbiguous, IsMove}
+
+-- the attribute is held, there is room for a row more, a number for it, and room for an earlier layout more,
+-- and no row has the rank of a probe
+pub record CanProbe (l : Layout) (attr : ℕ) : Type 0 where
+  pub held : HasStay l.problem.stays attr
+  pub few : length l.problem.rows < 4096
+  pub numbers : All (λ r. r.id < 2 ^ 31) l.problem.rows
+  pub ranks : All (λ r. 0 < r.rank) l.problem.rows
+  pub room : length l.earlier < MOST
+
+-- one more than the greatest number, or 1
+abbrev pub next_number : List Row → ℕ
+next_number [] = 1
+next_number (r ∷ []) = r.id + 1
+next_number (r ∷ (s ∷ rows)) = next_number (s ∷ rows)
+
+-- the row `attr == f` of rank 0
+abbrev pub probe_row : Layout → ℕ → Fraction → Row
+probe_row l attr f = record {
+  id = next_number l.problem.rows;
+  rank = 0;
+  weight = 1;
+  rel = Eq;
+  scale = 1;
+  constant = f;
+  terms = record { attr = attr; by = pos 1 } ∷ [];
+}
+
+-- the problem with the probe row
+abbrev pub with_probe : Layout → ℕ → Fraction → Problem
+with_probe l attr f = with_added l [] (probe_row l attr f ∷ [])
+
+-- v and 1, or v less 1, over v's denominator
+abbrev pub next_num : Bool → Fraction → ℤ
+next_num true v = v.num +ℤ pos v.den
+next_num false v = v.num -ℤ pos v.den
+
+-- f is v + 1, or v - 1
+abbrev pub IsBeside : Bool → Fraction → Fraction → Type 0
+IsBeside up v f = f.num *ℤ pos v.den ≡ next_num up v *ℤ pos f.den
+
+-- ---- answers
+
+-- no two loosely best assignments differ at the attribute; or two do, and it moves from v to f, which is in
+-- lowest terms
+abbrev pub IsAnswer : Problem → ℕ → Fraction → Answer → Type 0
+IsAnswer p attr v Fixed = IsAmbiguous p attr → ⊥
+IsAnswer p attr v (Moves f) = IsLowest f × IsAmbiguous p attr × IsMove p attr v f
+
+-- a run from the kept corner with the probe row stops so
+abbrev pub IsProbeStop : Layout → ℕ → Bool → ℕ → RunStop → Type 0
+IsProbeStop l attr up budget stop = (f : Fraction) × IsBeside up (value_of l.values attr) f × IsKept f
+    × IsStopOf false (with_probe l attr f) l.problem.rows
+    (FromAdded (with_probe l attr f) l.corner (probe_row l attr f ∷ [])) budget stop
+
+-- the attribute's best value with the row of such a probe
+abbrev pub IsTried : Layout → ℕ → Bool → Fraction → Type 0
+IsTried l attr up value = (f : Fraction) × IsBeside up (value_of l.values attr) f × IsKept f
+    × IsWhole (with_probe l attr f) × IsBestValue (with_probe l attr f) attr value
+
+-- ---- stops
+
+-- a run's stop that is no conflict
+abbrev pub NoConflict : RunStop → Type 0
+NoConflict (run.Conflict by) = ⊥
+NoConflict (run.Unfit at) = Unit {0}
+NoConflict (run.Spent path) = Unit {0}
+NoConflict run.OutOfMemory = Unit {0}
+
+-- a run's stop as a probe's
+abbrev pub turned : Bool → RunStop → DiagnoseStop
+turned up (run.Conflict by) = OutOfMemory
+turned up (run.Unfit at) = Unfit up at
+turned up (run.Spent path) = Spent up path
+turned up run.OutOfMemory = OutOfMemory
+
+-- a probe in this direction stops so
+abbrev pub IsStopped : Layout → ℕ → Bool → ℕ → DiagnoseStop → Type 0
+IsStopped l attr up budget (Unfit way at) = (way ≡ up) × IsProbeStop l attr up budget (run.Unfit at)
+IsStopped l attr up budget (Spent way path) = (way ≡ up) × IsProbeStop l attr up budget (run.Spent path)
+IsStopped l attr up budget (Target way) = (way ≡ up)
+    × IsUnfitRatio (next_num up (value_of l.values attr)) (pos (value_of l.values attr).den)
+IsStopped l attr up budget OutOfMemory = Unit {0}
+
+-- a probe down is made where nothing above is reached
+abbrev pub IsCalledFor : Layout → ℕ → Bool → Type 0
+IsCalledFor l attr up = up ≡ false → GoesAbove l.problem attr (value_of l.values attr) → ⊥
+
+-- a probe that is called for stops so
+abbrev pub IsDiagnoseStop : Layout → ℕ → ℕ → DiagnoseStop → Type 0
+IsDiagnoseStop l attr budget (Unfit up at) = IsCalledFor l attr up
+    × IsProbeStop l attr up budget (run.Unfit at)
+IsDiagnoseStop l attr budget (Spent up path) = IsCalledFor l attr up
+    × IsProbeStop l attr up budget (run.Spent path)
+IsDiagnoseStop l attr budget (Target up) = IsCalledFor l attr up
+    × IsUnfitRatio (next_num up (value_of l.values attr)) (pos (value_of l.values attr).den)
+IsDiagnoseStop l attr budget OutOfMemory = Unit {0}
+
+-- ---- all attributes
+
+-- each attribute with a stay can be probed
+abbrev pub CanProbeAll : Layout → Type 0
+CanProbeAll l = All (λ s. CanProbe l s.attr) l.problem.stays
+
+-- of the attributes of these stays, by number, each that is ambiguous, with the value to which it moves from
+-- its own; no other
+pub record AreMoving (p : Problem) (values : List (ℕ × Fraction)) (stays : List Stay)
+    (moving : List (ℕ × Fraction)) : Type 0 where
+  pub answers : All (λ m. IsAnswer p m.0 (value_of values m.0) (Moves m.1)) moving
+  pub among : All (λ m. HasStay stays m.0) moving
+  pub rising : AllPairs (λ m n. m.0 < n.0) moving
+  pub all : All (λ s. All (λ m. m.0 ≢ s.attr) moving → IsAmbiguous p s.attr → ⊥) stays
+
+-- what an answer adds to such a list
+abbrev pub listed : ℕ → Answer → List (ℕ × Fraction)
+listed attr Fixed = []
+listed attr (Moves f) = (attr, f) ∷ []
+
+-- a probe of this attribute, which is held, stops so; or memory is wanting
+abbrev pub IsStopAt : Layout → ℕ → ℕ × DiagnoseStop → Type 0
+IsStopAt l budget (attr, Unfit up at) = HasStay l.problem.stays attr
+    × IsDiagnoseStop l attr budget (Unfit up at)
+IsStopAt l budget (attr, Spent up path) = HasStay l.problem.stays attr
+    × IsDiagnoseStop l attr budget (Spent up path)
+IsStopAt l budget (attr, Target up) = HasStay l.problem.stays attr × IsDiagnoseStop l attr budget (Target up)
+IsStopAt l budget (attr, OutOfMemory) = Unit {0}

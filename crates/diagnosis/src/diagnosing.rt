@@ -1,0 +1,82 @@
+// All that is found of a layout.
+ghost use Rattle.std.specs.Prelude.{◌≡◌, ◌<◌, ◌^◌, true, false, length, IfOk, IfErr};
+ghost use Rattle.version_list.specs.declared.TheConstants.{MOST};
+ghost use Rattle.diagnosis.specs.Diagnoses.{AreFindings, LeaveRoom, findings_of};
+ghost use Rattle.diagnosis.specs.Probes.{CanProbeAll, IsStopAt};
+
+use crate::lacking::unmet;
+use crate::moving::all_ambiguous;
+use crate::priorities::costs;
+use crate::probing::DiagnoseStop;
+use frac_core::{Frac, Wide};
+use layout_solver::Engine;
+use problem_core::Row;
+use std::alloc::Global;
+
+/// What a layout lacks, and what it leaves open.
+#[derive(Debug, Drop)]
+pub struct Diagnosis {
+    /// The priorities below that of required rows at which the sum of the weighted errors is not 0, from the
+    /// greatest, with this sum.
+    pub errors: Vec<(u16, Frac)>,
+    /// The rows that are not required and do not hold, by number, with their errors.
+    pub unmet: Vec<(u32, Wide)>,
+    /// The attributes that move, by number, with the values that they reach.
+    pub moving: Vec<(u32, Frac)>,
+}
+
+/// The number of a probe's row is at most this.
+const NUMBER_LIMIT: u32 = 1 << 31;
+
+/// How many rows there may be.
+const ROW_LIMIT: usize = 4096;
+
+fn leave_room(rows: &[Row]) -> bool
+    ensures yes { result ≡ true → LeaveRoom rows.now }
+    ensures no { result ≡ false → LeaveRoom rows.now → ⊥ }
+{
+    rows.len() < ROW_LIMIT
+        && rows
+            .iter()
+            .all(|row| row.rank() > 0 && row.id() < NUMBER_LIMIT)
+}
+
+/// Whether each attribute can be probed: there is room for a row more, with a number above those of all rows
+/// and a rank below theirs.
+pub fn can_probe_all(e: &Engine) -> bool
+    requires { length e.now.earlier < MOST }
+    ensures yes { result ≡ true → CanProbeAll e.now }
+    ensures no { result ≡ false → LeaveRoom e.now.problem.rows → ⊥ }
+{
+    leave_room(e.rows())
+}
+
+/// All that a layout lacks and leaves open. The engine is as before.
+///
+/// A stop comes with the number of the attribute whose probe stopped, which is 0 where memory is wanting
+/// before the first probe.
+pub fn diagnose(
+    alloc: Global,
+    e: &mut Engine,
+    budget: u64,
+) -> Result<Diagnosis, (u32, DiagnoseStop)>
+    requires can { CanProbeAll e.old }
+    ensures found { IfOk result (λ d. AreFindings e.old.problem e.old.values (findings_of d)) }
+    ensures stop { IfErr result (IsStopAt e.old budget) }
+    ensures same { e.new ≡ e.old }
+{
+    let Ok(errors) = costs(alloc, e) else {
+        return Err((0, DiagnoseStop::OutOfMemory));
+    };
+    let Ok(unmet) = unmet(alloc, e) else {
+        return Err((0, DiagnoseStop::OutOfMemory));
+    };
+    match all_ambiguous(alloc, e, budget) {
+        Ok(moving) => Ok(Diagnosis {
+            errors,
+            unmet,
+            moving,
+        }),
+        Err(stop) => Err(stop),
+    }
+}

@@ -1,0 +1,26 @@
+//! What a layout leaves open, and which wishes it could not meet.
+//!
+//! Where the stays are left out, several assignments may be best. [`ambiguous`] tells whether they differ at
+//! an attribute, and how far they reach from its value, up to a point above, or else down to a point below.
+//! It asks by a probe: one more row, weaker than all others but the stays, that wishes the attribute at the
+//! next value. [`all_ambiguous`] asks for every attribute. [`unmet`] lists the rows that are not required and
+//! do not hold, each with what it lacks.
+//!
+//! ```
+//! ambiguous(alloc, &mut engine, 7, budget)?;    // Moves(1): attribute 7 is at 0, and nothing holds it there
+//! all_ambiguous(alloc, &mut engine, budget)?;   // (7, 1), and no other
+//! unmet(alloc, &engine)?;                       // row 7 lacks 100 points
+//! ```
+#![tactic(auto)]
+
+mod diagnosing;
+mod lacking;
+mod moving;
+mod priorities;
+mod probing;
+
+pub use diagnosing::{Diagnosis, can_probe_all, diagnose};
+pub use lacking::unmet;
+pub use moving::all_ambiguous;
+pub use priorities::costs;
+pub use probing::{Answer, DiagnoseStop, ambiguous};
