@@ -185,7 +185,7 @@ first-may each = record {
 }
 
 abbrev pub empty : Layout
-empty = record { problem = record { rows = []; stays = [] }; values = []; corner = [] }
+empty = record { problem = record { rows = []; stays = [] }; values = []; corner = []; earlier = [] }
 
 empty-settled : IsSettled empty.problem empty.values
 empty-settled = record {

@@ -19,13 +19,16 @@ use Rattle.view_tree.specs.Stops.{IsNewView, PassesLimit, is_full}
 use Rattle.view_tree.proofs.ViewLemmas.{IsOnLevel-unique}
 use Rattle.constraint_compile.specs.Meaning.{MetricList}
 use Rattle.constraint_compile.specs.declared.stops.CompileStop.TheVariants as stop
+use Rattle.layout_solver.specs.declared.engine.Change.{Change}
+use Rattle.layout_solver.specs.Shifts.{shifted}
 use Rattle.session_undo.specs.declared.reply.Refusal.{Refusal}
 use Rattle.session_undo.specs.Replies.{Reply, Unknown, Taken, Limit, MayRefuse}
 use Rattle.session_undo.specs.Scene.{Scene, State, AreDraftRows, with_window, metrics_with}
 use Rattle.session_undo.specs.Machine.{IsTaken, IsDeep, IsCrowded, IsFarSize, AreNear, AreTooMany, TriedView, TriedMetric, TriedWindow, UnlessFar, HasAllViews}
 use Rattle.session_undo.specs.Items.{has_size}
 use Rattle.session_undo.specs.Adding.{NoEnd, IsFreeView, IsFreeMetric, view_draft, metrics_draft}
-use Rattle.session_undo.specs.Kept.{AreWithin, MayLackRows}
+use Rattle.session_undo.specs.Kept.{AreWithin}
+use Rattle.session_undo.specs.Moving.{MayLackChanges}
 use Rattle.session_undo.proofs.ItemRows.{rows-small}
 use Rattle.session_undo.proofs.Steps.{refuses}
 
@@ -243,8 +246,8 @@ view-free old name parent above id new asked fresh room new_is id_is =
 -- ---- metrics
 
 module _ (old : State) (name : List ℕ) (value : Fraction) (End : Scene → Reply → State → Type 0) where
-  pub metric-passed : (ms : MetricList) (rows : List Row) (reply : Reply) (new : State) → IsFreeMetric old name value ms rows → End (metrics_draft old.scene ms) reply new → TriedMetric old name value End reply new
-  metric-passed ms rows reply new is end =
+  pub metric-passed : (ms : MetricList) (to : List Change) (reply : Reply) (new : State) → IsFreeMetric old name value ms to → End (metrics_draft old.scene ms) reply new → TriedMetric old name value End reply new
+  metric-passed ms to reply new is end =
       inr (
         is.free,
         inr (
@@ -252,7 +255,7 @@ module _ (old : State) (name : List ℕ) (value : Fraction) (End : Scene → Rep
           inr (
             is.room,
             subst (λ (m : MetricList). UnlessFar old (metrics_draft old.scene m) (End (metrics_draft old.scene m)) reply new) is.new_is
-                (inr ((λ no. no (rows-small ms old.scene.held rows is.are_rows)), (rows, is.are_rows, inr ((λ far. far is.near), end)))),
+                (inr ((λ no. no (rows-small ms old.scene.held (shifted to old.scene.rows) is.changes.rows)), (shifted to old.scene.rows, is.changes.rows, inr ((λ far. far is.changes.near), end)))),
           ),
         ),
       )
@@ -283,9 +286,15 @@ named-far old name value ms End is h =
       ),
     )
 
-pub metric-lacks : (old : State) (name : List ℕ) (value : Fraction) (ms : MetricList) (End : Scene → Reply → State → Type 0) (limit : LimitWord) → IsNamed old name value ms → MayLackRows ms old.scene.held (stop.Limit limit)
+metric-far : (old : State) (name : List ℕ) (value : Fraction) (ms : MetricList) (End : Scene → Reply → State → Type 0) (rows : List Row) → IsNamed old name value ms → AreDraftRows (metrics_draft old.scene ms) rows
+    → (AreNear old.scene.rows rows → ⊥) → TriedMetric old name value End (Limit word.Constant) old
+metric-far old name value ms End rows is are far =
+    named-far old name value ms End is (inr ((λ no. no (rows-small ms old.scene.held rows are)), (rows, are, inl (far, refl, refl))))
+
+pub metric-lacks : (old : State) (name : List ℕ) (value : Fraction) (ms : MetricList) (End : Scene → Reply → State → Type 0) (limit : LimitWord) → IsNamed old name value ms → MayLackChanges old.scene ms (stop.Limit limit)
     → TriedMetric old name value End (Limit limit) old
-metric-lacks old name value ms End word.Constant is lacks = named-far old name value ms End is (inl (lacks, refl, refl))
+metric-lacks old name value ms End word.Constant is (inl lacks) = named-far old name value ms End is (inl (lacks, refl, refl))
+metric-lacks old name value ms End word.Constant is (inr (rows, are, far)) = metric-far old name value ms End rows is are far
 metric-lacks old name value ms End word.Line is lacks = absurd lacks
 metric-lacks old name value ms End word.Name is lacks = absurd lacks
 metric-lacks old name value ms End word.Views is lacks = absurd lacks
@@ -297,16 +306,6 @@ metric-lacks old name value ms End word.Terms is lacks = absurd lacks
 metric-lacks old name value ms End word.Attributes is lacks = absurd lacks
 metric-lacks old name value ms End word.Coefficient is lacks = absurd lacks
 metric-lacks old name value ms End word.Budget is lacks = absurd lacks
-
-pub metric-far : (old : State) (name : List ℕ) (value : Fraction) (ms : MetricList) (End : Scene → Reply → State → Type 0) (rows : List Row) → IsNamed old name value ms → AreDraftRows (metrics_draft old.scene ms) rows
-    → (AreNear old.scene.rows rows → ⊥) → TriedMetric old name value End (Limit word.Constant) old
-metric-far old name value ms End rows is are far =
-    named-far old name value ms End is (inr ((λ no. no (rows-small ms old.scene.held rows are)), (rows, are, inl (far, refl, refl))))
-
-pub metric-free : (old : State) (name : List ℕ) (value : Fraction) (ms : MetricList) (rows : List Row) → IsNamed old name value ms → AreDraftRows (metrics_draft old.scene ms) rows → AreNear old.scene.rows rows
-    → IsFreeMetric old name value ms rows
-metric-free old name value ms rows is are near =
-    record { free = not-some (view_named old.scene.tree.views name) is.free; short = is.short; room = is.room; new_is = is.new_is; are_rows = are; near = near }
 
 -- ---- the window
 

@@ -1,11 +1,10 @@
--- The constants that differ between rows which are else alike.
-use Rattle.std.proofs.Common.{◌≡◌, ◌≢◌, ◌∙◌, ℕ, zero, suc, ◌+◌, ◌<◌, ◌≤◌, ◌⊎◌, inl, inr, List, [], ◌∷◌, ◌++◌, take, take_all, length, map, get_or, refl, sym, ap, ap₂, subst, arith, All, AllPairs}
+-- The constants of rows which are else alike.
+use Rattle.std.proofs.Common.{◌≡◌, ◌≢◌, ◌∙◌, ℕ, zero, suc, ◌<◌, ◌⊎◌, inl, inr, List, [], ◌∷◌, ◌++◌, length, map, get_or, refl, sym, ap, ap₂, subst, arith, All, AllPairs}
 use Rattle.std.specs.List.{AllByRecursion as Each}
-use Rattle.std.proofs.lemmas.List.{take_more, get_or_default}
+use Rattle.std.proofs.lemmas.List.{get_or_default}
 use Rattle.std.proofs.lemmas.List.Elements.{All-from_recursion}
 use Rattle.frac_core.specs.Fraction.{Fraction}
 use Rattle.problem_core.specs.Layout.{Row, Problem}
-use Rattle.problem_core.specs.Kept.{IsRow}
 use Rattle.corner.specs.Shifting.{IsNear}
 use Rattle.corner_lines.specs.Shifts.{has_constant}
 use Rattle.layout_solver.specs.declared.engine.Change.{Change}
@@ -18,7 +17,7 @@ use Rattle.session_undo.proofs.ShiftedRows.{can-shift, changed, near-at, same-ro
 abbrev pub change : ℕ → Fraction → Change
 change row constant = record { row = row; constant = constant }
 
--- one change for each row whose constant differs
+-- one change for each of some rows, among them those whose constants differ
 abbrev pub AreChanges : List Row → List Row → List Change → Type 0
 AreChanges [] [] to = to ≡ []
 AreChanges [] (a ∷ after) to = ⊥
@@ -27,44 +26,20 @@ AreChanges (b ∷ before) (a ∷ after) to =
     ((b.constant ≡ a.constant) × AreChanges before after to)
     ⊎ ((more : List Change) × (to ≡ change b.id a.constant ∷ more) × AreChanges before after more)
 
--- ---- with one row more
+pub changes-none : (rows : List Row) → AreChanges rows rows []
+changes-none [] = refl
+changes-none (r ∷ rows) = inl (refl, changes-none rows)
 
-changes-same : (xs ys : List Row) (b a : Row) (to : List Change) → AreChanges xs ys to → b.constant ≡ a.constant → AreChanges (xs ++ b ∷ []) (ys ++ a ∷ []) to
-changes-same [] [] b a to is same = inl (same, is)
-changes-same [] (x ∷ ys) b a to is same = absurd is
-changes-same (x ∷ xs) [] b a to is same = absurd is
-changes-same (x ∷ xs) (y ∷ ys) b a to (inl (e, is)) same = inl (e, changes-same xs ys b a to is same)
-changes-same (x ∷ xs) (y ∷ ys) b a to (inr (more, e, is)) same = inr (more, e, changes-same xs ys b a more is same)
-
-changes-more : (xs ys : List Row) (b a : Row) (to : List Change) → AreChanges xs ys to → AreChanges (xs ++ b ∷ []) (ys ++ a ∷ []) (to ++ change b.id a.constant ∷ [])
-changes-more [] [] b a to is = inr ([], ap (λ (cs : List Change). cs ++ change b.id a.constant ∷ []) is, refl)
-changes-more [] (x ∷ ys) b a to is = absurd is
-changes-more (x ∷ xs) [] b a to is = absurd is
-changes-more (x ∷ xs) (y ∷ ys) b a to (inl (e, is)) = inl (e, changes-more xs ys b a to is)
-changes-more (x ∷ xs) (y ∷ ys) b a to (inr (more, e, is)) =
-    inr (more ++ change b.id a.constant ∷ [], ap (λ (cs : List Change). cs ++ change b.id a.constant ∷ []) e, changes-more xs ys b a more is)
-
-module _ (xs ys : List Row) (i : ℕ) (b a : Row) (in_xs : i < length xs) (in_ys : i < length ys) (b_is : b ≡ get_or xs i b) (a_is : a ≡ get_or ys i a) (to : List Change) (is : AreChanges (take i xs) (take i ys) to) where
-  further : (cs : List Change) → AreChanges (take i xs ++ b ∷ []) (take i ys ++ a ∷ []) cs → AreChanges (take (i + 1) xs) (take (i + 1) ys) cs
-  further cs h =
-      subst (λ (rs : List Row). AreChanges rs (take (i + 1) ys) cs) (ap (λ (x : Row). take i xs ++ x ∷ []) b_is ∙ sym (take_more xs i b in_xs))
-      (subst (λ (rs : List Row). AreChanges (take i xs ++ b ∷ []) rs cs) (ap (λ (x : Row). take i ys ++ x ∷ []) a_is ∙ sym (take_more ys i a in_ys)) h)
-
-  pub next-same : b.constant ≡ a.constant → AreChanges (take (i + 1) xs) (take (i + 1) ys) to
-  next-same same = further to (changes-same (take i xs) (take i ys) b a to is same)
-
-  pub next-more : AreChanges (take (i + 1) xs) (take (i + 1) ys) (to ++ change b.id a.constant ∷ [])
-  next-more = further (to ++ change b.id a.constant ∷ []) (changes-more (take i xs) (take i ys) b a to is)
-
--- with all rows
-pub all-changes : (xs ys : List Row) (i : ℕ) (to : List Change) → length xs ≤ i → length ys ≡ length xs → AreChanges (take i xs) (take i ys) to → AreChanges xs ys to
-all-changes xs ys i to all long is =
-    subst (λ (rs : List Row). AreChanges rs ys to) (take_all i xs all)
-    (subst (λ (rs : List Row). AreChanges (take i xs) rs to) (take_all i ys (omega (arith, all, long))) is)
+pub changes-append : (xs ys us vs : List Row) (to more : List Change) → AreChanges xs ys to → AreChanges us vs more → AreChanges (xs ++ us) (ys ++ vs) (to ++ more)
+changes-append [] [] us vs to more is rest = subst (λ (cs : List Change). AreChanges us vs (cs ++ more)) (sym is) rest
+changes-append [] (y ∷ ys) us vs to more is rest = absurd is
+changes-append (x ∷ xs) [] us vs to more is rest = absurd is
+changes-append (x ∷ xs) (y ∷ ys) us vs to more (inl (e, is)) rest = inl (e, changes-append xs ys us vs to more is rest)
+changes-append (x ∷ xs) (y ∷ ys) us vs to more (inr (later, e, is)) rest = inr (later ++ more, ap (λ (cs : List Change). cs ++ more) e, changes-append xs ys us vs later more is rest)
 
 -- ---- what holds of each change
 
-each-change : (P : ℕ → Fraction → Type 0) (xs ys : List Row) (to : List Change) → AreChanges xs ys to → ((i : ℕ) (b a : Row) → i < length xs → P (get_or xs i b).id (get_or ys i a).constant) → Each (λ c. P c.row c.constant) to
+pub each-change : (P : ℕ → Fraction → Type 0) (xs ys : List Row) (to : List Change) → AreChanges xs ys to → ((i : ℕ) (b a : Row) → i < length xs → P (get_or xs i b).id (get_or ys i a).constant) → Each (λ c. P c.row c.constant) to
 each-change P [] [] to is h = subst (Each (λ (c : Change). P c.row c.constant)) (sym is) tt
 each-change P [] (a ∷ ys) to is h = absurd is
 each-change P (b ∷ xs) [] to is h = absurd is
@@ -125,7 +100,7 @@ changes-rows (b ∷ xs) (a ∷ ys) to (inr (more, e, is)) alike rising =
     ∙ ap (λ (rs : List Row). a ∷ rs) (changes-rows xs ys more is tail (pairs-tail (λ (r s : Row). r.id < s.id) b xs rising))
 
 -- the changes may be made
-pub changes-can : (p : Problem) (xs ys : List Row) (to : List Change) → p.rows ≡ xs → AreChanges xs ys to → AllPairs (λ r s. r.id < s.id) xs → AreNear xs ys → All IsRow xs → All IsRow ys → CanShift p to
+pub changes-can : (p : Problem) (xs ys : List Row) (to : List Change) → p.rows ≡ xs → AreChanges xs ys to → AllPairs (λ r s. r.id < s.id) xs → AreNear xs ys → All (λ r. 0 < r.constant.den) xs → All (λ r. 0 < r.constant.den) ys → CanShift p to
 changes-can p xs ys to rows_are is rising near each_b each_a =
     can-shift to p (each-change (IsNear p) xs ys to is each) (changes-rising xs ys to is rising)
   where
@@ -135,6 +110,6 @@ changes-can p xs ys to rows_are is rising near each_b each_a =
         (subst (AllPairs (λ (r s : Row). r.id < s.id)) (sym rows_are) rising)
         (let long : length p.rows ≡ length xs = ap length rows_are in omega (arith, within, long))
         (ap (λ (rs : List Row). get_or rs i (get_or xs i b)) rows_are ∙ get_or_default xs i (get_or xs i b) b within)
-        (each_b i b within).constant.lowest.above
-        (each_a i a (omega (arith, within, near.long))).constant.lowest.above
+        (each_b i b within)
+        (each_a i a (omega (arith, within, near.long)))
         (near.each i b a within)

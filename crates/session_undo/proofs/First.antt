@@ -1,5 +1,5 @@
 -- The first session.
-use Rattle.std.proofs.Common.{◌≡◌, ℕ, List, [], ◌∷◌, refl, ap, ap₂, ◌∙◌, subst, lit<, pos, ◌<◌}
+use Rattle.std.proofs.Common.{◌≡◌, ℕ, List, [], ◌∷◌, refl, ap, ap₂, ◌∙◌, subst, sym, lit<, pos, ◌<◌, ◌-◌, length, take, arith}
 use Rattle.std.specs.Prelude.{◌*ℤ◌}
 use Rattle.std.proofs.lemmas.List.Elements.{All-from_recursion}
 use Rattle.std.proofs.Math.Nat.{one-dvd}
@@ -8,11 +8,16 @@ use Rattle.problem_core.specs.Window.{zero_fraction, structural_rows}
 use Rattle.problem_core.specs.Layout.{Problem, Assignment, IsProblem, lines}
 use Rattle.problem_core.proofs.WindowRows.{first-IsBest}
 use Rattle.view_tree.specs.Views.{ViewTree, window}
-use Rattle.layout_solver.specs.Layouts.{Layout, AreBest, stays_at}
+use Rattle.constraint_compile.specs.Meaning.{MetricList}
+use Rattle.layout_solver.specs.Layouts.{Layout, Solution, AreBest, solution_of, stays_at}
 use Rattle.session_undo.specs.Items.{OfWindow}
-use Rattle.session_undo.specs.Scene.{new_values, first_scene}
+use Rattle.version_list.specs.Versions.{Versions}
+use Rattle.session_undo.specs.declared.item.Item as declared
+use Rattle.session_undo.specs.declared.item.Item.TheVariants as kind
+use Rattle.session_undo.specs.declared.past.Past.{Past}
+use Rattle.session_undo.specs.Scene.{Scene, new_values, first_scene}
 use Rattle.session_undo.specs.Attributes.{IsCounted}
-use Rattle.session_undo.specs.Kept.{IsItem, IsKept, scene_at, IsNamed}
+use Rattle.session_undo.specs.Kept.{AreAlike, IsItem, IsKept, IsKeptHistory, history_at, scene_at, IsNamed}
 use Rattle.session_undo.proofs.BestValues.{best-unique}
 
 zero-IsLowest : IsLowest zero_fraction
@@ -62,3 +67,34 @@ first-kept t l is counted = record {
   next = lit< tt;
   counted = counted;
 }
+
+-- ---- with no scene before it
+
+abbrev pub versions : List declared.Item → List (List declared.Item) → Versions declared.Item
+versions items before = record { items = items; before = before }
+
+abbrev pub first_items : Versions declared.Item
+first_items = record { items = kind.OfWindow ∷ []; before = [] }
+
+pub first-history : (t : ViewTree) (ms : MetricList) (items : Versions declared.Item) (l : Layout) (pasts : List Past) → t ≡ first_tree → ms ≡ [] → items ≡ first_items → l.problem ≡ first_problem → AreBest l.problem l.values
+    → history_at t ms items 5 l pasts ≡ record { scene = first_scene; earlier = [] }
+first-history t ms items l pasts t_is ms_is items_is is best =
+    ap (λ (m : MetricList). history_at t m items 5 l pasts) ms_is
+    ∙ ap (λ (v : Versions declared.Item). history_at t [] v 5 l pasts) items_is
+    ∙ ap (λ (s : Scene). record { scene = s; earlier = [] }) (first-is t l t_is is best)
+
+pub first-history-kept : (t : ViewTree) (ms : MetricList) (items : Versions declared.Item) (l : Layout) (pasts : List Past) → ms ≡ [] → items ≡ first_items → l.problem ≡ first_problem → IsCounted t.views 5 l.problem
+    → IsKeptHistory (history_at t ms items 5 l pasts)
+first-history-kept t ms items l pasts ms_is items_is is counted =
+    subst (λ (m : MetricList). IsKeptHistory (history_at t m items 5 l pasts)) (sym ms_is)
+    (subst (λ (v : Versions declared.Item). IsKeptHistory (history_at t [] v 5 l pasts)) (sym items_is)
+    (record { scene = first-kept t l is counted; earlier = All-from_recursion IsKept [] tt }))
+
+pub first-alike : (items : List (List declared.Item)) (solutions : List Solution) (pasts : List Past) → items ≡ [] → solutions ≡ [] → pasts ≡ [] → AreAlike items solutions pasts
+first-alike items solutions pasts no_items no_solutions no_pasts =
+    rw (no_items, no_solutions, no_pasts) (record { items = refl; solutions = refl; few = omega arith })
+
+-- the layout of no attribute is forgotten
+pub first-forgotten : (before : Layout) (run earlier : List Solution) → before.earlier ≡ [] → run ≡ solution_of before ∷ before.earlier → earlier ≡ take (length run - 1) run → earlier ≡ []
+first-forgotten before run earlier none run_is earlier_is =
+    earlier_is ∙ ap (λ (ss : List Solution). take (length ss - 1) ss) (run_is ∙ ap (λ (ss : List Solution). solution_of before ∷ ss) none)

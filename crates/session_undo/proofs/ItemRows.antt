@@ -1,28 +1,19 @@
 -- The rows of what is held.
-use Rattle.std.proofs.Common.{◌≡◌, inl, inr, Some, ℕ, zero, suc, ◌+◌, ◌<◌, ◌≤◌, Bool, true, false, true≢false, arith, length-append, cond, List, [], ◌∷◌, ◌++◌, take, length, filter, refl, sym, ap, ◌∙◌, subst, append_assoc, All}
+use Rattle.std.proofs.Common.{◌≡◌, inl, inr, Some, ℕ, zero, suc, ◌+◌, ◌<◌, ◌≤◌, Bool, true, false, true≢false, arith, length-append, cond, List, [], ◌∷◌, ◌++◌, take, length, filter, refl, sym, ap, ◌∙◌, append_assoc, All}
 use Rattle.std.proofs.Math.ListN.{get_or}
 use Rattle.std.proofs.lemmas.List.{append-nil, length-map, take_more, map-append}
 use Rattle.std.proofs.lemmas.List.Sums.{count_by-le-length, length-filter}
 use Rattle.std.specs.List.{AllByRecursion as Each}
 use Rattle.std.proofs.lemmas.List.Elements.{recursion_from_All, All-from_recursion}
-use Rattle.std.specs.Prelude.{IfErr}
-use Rattle.std.specs.declared.result.Result.{Result}
-use Rattle.std.specs.declared.result.Result.TheVariants.{Ok, Err}
 use Rattle.frac_core.specs.Fraction.{Fraction}
-use Rattle.name_tables.specs.declared.stops.LimitWord.TheVariants as limit
 use Rattle.problem_core.specs.Layout.{Row}
-use Rattle.constraint_compile.specs.Compiled.{CompiledLine}
-use Rattle.constraint_compile.specs.Stops.{IsConstantStop}
-use Rattle.constraint_compile.specs.declared.stops.CompileStop.{CompileStop}
-use Rattle.constraint_compile.specs.declared.stops.CompileStop.TheVariants as stop
 use Rattle.constraint_compile.specs.Meaning.{MetricList}
 use Rattle.session_undo.specs.declared.item.Item as declared
 use Rattle.session_undo.specs.Items.{Item, OfWindow, OfView, Sized, OfLine, Suggested, AreItemRows, AreRows, IsSmallItem, sized, resized, is_line, line_count, is_size, has_size}
-use Rattle.session_undo.specs.Kept.{item_of, items_of, IsItem, IsNamed, MayLackItemRows, MayLackRows}
+use Rattle.session_undo.specs.Kept.{item_of, items_of, IsItem, IsNamed}
 use Rattle.session_undo.specs.Attributes.{IsClose}
 use Rattle.view_tree.specs.Views.{LiveView}
 use Rattle.view_tree.proofs.ViewLemmas.{HasParent-append}
-use Rattle.session_undo.proofs.Lists.{all-unmapped}
 
 -- ---- items of the code
 
@@ -31,7 +22,7 @@ pub items-more : (items new : List declared.Item) (item : declared.Item) → new
 items-more items new item is = ap items_of is ∙ map-append item_of items (item ∷ [])
 
 -- one item further along a list
-line-more : (items : List declared.Item) (i : ℕ) (item : declared.Item) → i < length items → item ≡ get_or items i item → items_of (take (i + 1) items) ≡ items_of (take i items) ++ item_of item ∷ []
+pub line-more : (items : List declared.Item) (i : ℕ) (item : declared.Item) → i < length items → item ≡ get_or items i item → items_of (take (i + 1) items) ≡ items_of (take i items) ++ item_of item ∷ []
 line-more items i item within read =
     ap items_of (take_more items i item within ∙ ap (λ (x : declared.Item). take i items ++ x ∷ []) (sym read)) ∙ map-append item_of (take i items) (item ∷ [])
 
@@ -42,13 +33,6 @@ pub rows-more : (ms : MetricList) (held : List Item) (item : Item) (rows more : 
 rows-more ms [] item rows more are new = (more, [], ap (λ (r : List Row). r ++ more) are ∙ sym (append-nil more), new, refl)
 rows-more ms (x ∷ held) item rows more (front, back, is, first, rest) new =
     (front, back ++ more, ap (λ (r : List Row). r ++ more) is ∙ append_assoc front back more, first, rows-more ms held item back more rest new)
-
--- with the next item of a list
-pub rows-next : (ms : MetricList) (items : List declared.Item) (i : ℕ) (item : declared.Item) (rows more new : List Row) → i < length items → AreRows ms (items_of (take i items)) rows
-    → item ≡ get_or items i item → AreItemRows ms (item_of item) more → new ≡ rows ++ more → AreRows ms (items_of (take (i + 1) items)) new
-rows-next ms items i item rows more new within are read next is =
-    subst (λ (xs : List Item). AreRows ms xs new) (sym (line-more items i item within read))
-    (subst (AreRows ms (items_of (take i items) ++ item_of item ∷ [])) (sym is) (rows-more ms (items_of (take i items)) (item_of item) rows more are next))
 
 -- what has rows is small
 item-small : (ms : MetricList) (item : Item) (rows : List Row) → AreItemRows ms item rows → IsSmallItem ms item
@@ -64,28 +48,6 @@ each-small ms (x ∷ items) rows (front, back, is, first, rest) = (item-small ms
 
 pub rows-small : (ms : MetricList) (items : List Item) (rows : List Row) → AreRows ms items rows → All (IsSmallItem ms) items
 rows-small ms items rows are = All-from_recursion (IsSmallItem ms) items (each-small ms items rows are)
-
--- what stops the rows of a line stops those of its item
-lacks : (ms : MetricList) (group : List ℕ) (line : CompiledLine) (s : CompileStop) → IsConstantStop ms line.rows s → MayLackItemRows ms (OfLine group line) s
-lacks ms group line (stop.Limit limit.Constant) h = h
-lacks ms group line (stop.Limit limit.Line) h = h
-lacks ms group line (stop.Limit limit.Name) h = h
-lacks ms group line (stop.Limit limit.Views) h = h
-lacks ms group line (stop.Limit limit.Depth) h = h
-lacks ms group line (stop.Limit limit.Metrics) h = h
-lacks ms group line (stop.Limit limit.Lines) h = h
-lacks ms group line (stop.Limit limit.Rows) h = h
-lacks ms group line (stop.Limit limit.Terms) h = h
-lacks ms group line (stop.Limit limit.Attributes) h = h
-lacks ms group line (stop.Limit limit.Coefficient) h = h
-lacks ms group line (stop.Limit limit.Budget) h = h
-lacks ms group line stop.OutOfMemory h = h
-lacks ms group line (stop.Unknown name) h = h
-lacks ms group line (stop.Kind word) h = h
-
-pub line-lacks : {T : Type 0} (ms : MetricList) (group : List ℕ) (line : CompiledLine) (r : Result T CompileStop) → IfErr r (IsConstantStop ms line.rows) → IfErr r (MayLackItemRows ms (OfLine group line))
-line-lacks ms group line (Ok x) h = h
-line-lacks ms group line (Err s) h = lacks ms group line s h
 
 -- ---- numbers
 
@@ -205,25 +167,3 @@ size-at (x ∷ items) (suc i) item within read is = elim (is_size (item_of x)) a
   | true ↦ refl
   | false ↦ size-at items i item (omega (arith, within)) read is
 ]
-
--- ---- what lacks rows
-
-small-at : (ms : MetricList) (items : List declared.Item) (i : ℕ) (item : declared.Item) → i < length items → item ≡ get_or items i item → All (IsSmallItem ms) (items_of items) → IsSmallItem ms (item_of item)
-small-at ms items i item within read small = subst (λ (x : declared.Item). IsSmallItem ms (item_of x)) (sym read) (all-unmapped item_of (IsSmallItem ms) items small i item within)
-
-pub lack-among : (ms : MetricList) (items : List declared.Item) (i : ℕ) (item : declared.Item) → i < length items → item ≡ get_or items i item → (s : CompileStop) → MayLackItemRows ms (item_of item) s → MayLackRows ms (items_of items) s
-lack-among ms items i item within read (stop.Limit limit.Constant) h = λ small. h (small-at ms items i item within read small)
-lack-among ms items i item within read (stop.Limit limit.Line) h = h
-lack-among ms items i item within read (stop.Limit limit.Name) h = h
-lack-among ms items i item within read (stop.Limit limit.Views) h = h
-lack-among ms items i item within read (stop.Limit limit.Depth) h = h
-lack-among ms items i item within read (stop.Limit limit.Metrics) h = h
-lack-among ms items i item within read (stop.Limit limit.Lines) h = h
-lack-among ms items i item within read (stop.Limit limit.Rows) h = h
-lack-among ms items i item within read (stop.Limit limit.Terms) h = h
-lack-among ms items i item within read (stop.Limit limit.Attributes) h = h
-lack-among ms items i item within read (stop.Limit limit.Coefficient) h = h
-lack-among ms items i item within read (stop.Limit limit.Budget) h = h
-lack-among ms items i item within read stop.OutOfMemory h = h
-lack-among ms items i item within read (stop.Unknown name) h = h
-lack-among ms items i item within read (stop.Kind word) h = h

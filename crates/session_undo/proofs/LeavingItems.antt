@@ -1,8 +1,9 @@
 -- Items of the code that leave, one after the other.
-use Rattle.std.proofs.Common.{◌≡◌, ◌||◌, ℕ, zero, suc, ◌+◌, ◌<◌, Bool, true, false, cond, not, List, [], ◌∷◌, ◌++◌, filter, length, take, get_or, refl, sym, ap, ◌∙◌, append_assoc, true≢false, arith}
-use Rattle.std.proofs.lemmas.List.{append-nil, map-append, take_more}
+use Rattle.std.proofs.Common.{◌≡◌, ◌||◌, ℕ, zero, suc, ◌+◌, ◌<◌, ◌≤◌, Some, Bool, true, false, cond, not, List, [], ◌∷◌, ◌++◌, drop, filter, length, take, get_or, slice_get, refl, sym, ap, subst, ◌∙◌, append_assoc, true≢false, arith}
+use Rattle.std.proofs.lemmas.List.{append-nil, drop_all, map-append, take_all, take_more}
 use Rattle.std.proofs.lemmas.List.Elements.{filter_more}
-use Rattle.std.specs.List.{list_any}
+use Rattle.std.proofs.lemmas.Option.{same_Some}
+use Rattle.std.specs.List.{list_any, remove}
 use Rattle.session_undo.specs.declared.item.Item as declared
 use Rattle.session_undo.specs.Attributes.{view_attributes}
 use Rattle.session_undo.specs.Items.{Item}
@@ -68,7 +69,58 @@ module _ (goes : Item → Bool) where
   numbers-stay items i item old new within read before is same =
       same ∙ before ∙ sym (append-nil (numbers_of goes (items_of (take i items)))) ∙ ap (λ b. numbers_of goes (items_of (take i items)) ++ cond b (item_numbers (item_of item)) []) (sym is) ∙ sym (numbers-next items i item within read)
 
-  -- what `retain` leaves
+  -- ---- from the last item to the first
+
+  -- what stays, where the items from this place on were looked at
+  abbrev pub left_at : ℕ → List declared.Item → List declared.Item
+  left_at n items = take n items ++ filter (λ item. not (goes (item_of item))) (drop n items)
+
+  pub left-all : (items : List declared.Item) (n : ℕ) → n ≡ length items → items ≡ left_at n items
+  left-all items n all =
+      sym (ap (λ (ys : List declared.Item). take n items ++ filter (λ item. not (goes (item_of item))) ys) (drop_all n items (omega (arith, all)))
+      ∙ append-nil (take n items) ∙ take_all n items (omega (arith, all)))
+
+  read-is : (items rest : List declared.Item) (k : ℕ) (item : declared.Item) → k < length items → slice_get (take (suc k) items ++ rest) k ≡ Some item → drop k items ≡ item ∷ drop (suc k) items
+  read-is [] rest k item within read = absurd (omega (arith, within))
+  read-is (x ∷ items) rest zero item within read = ap (λ (y : declared.Item). y ∷ items) (same_Some x item read)
+  read-is (x ∷ items) rest (suc k) item within read = read-is items rest k item (omega (arith, within)) read
+
+  last-is : (items rest : List declared.Item) (k : ℕ) (item : declared.Item) → k < length items → slice_get (take (suc k) items ++ rest) k ≡ Some item → take (suc k) items ++ rest ≡ take k items ++ item ∷ rest
+  last-is [] rest k item within read = absurd (omega (arith, within))
+  last-is (x ∷ items) rest zero item within read = ap (λ (y : declared.Item). y ∷ rest) (same_Some x item read)
+  last-is (x ∷ items) rest (suc k) item within read = ap (λ (ys : List declared.Item). x ∷ ys) (last-is items rest k item (omega (arith, within)) read)
+
+  without-last : (items rest : List declared.Item) (k : ℕ) → k < length items → remove (take (suc k) items ++ rest) k ≡ take k items ++ rest
+  without-last [] rest k within = absurd (omega (arith, within))
+  without-last (x ∷ items) rest zero within = refl
+  without-last (x ∷ items) rest (suc k) within = ap (λ (ys : List declared.Item). x ∷ ys) (without-last items rest k (omega (arith, within)))
+
+  behind : (items : List declared.Item) (k : ℕ) (item : declared.Item) (b : Bool) → drop k items ≡ item ∷ drop (suc k) items → goes (item_of item) ≡ b
+      → filter (λ x. not (goes (item_of x))) (drop k items) ≡ cond (not b) (item ∷ filter (λ x. not (goes (item_of x))) (drop (suc k) items)) (filter (λ x. not (goes (item_of x))) (drop (suc k) items))
+  behind items k item b read is =
+      ap (filter (λ x. not (goes (item_of x)))) read
+      ∙ ap (λ (b : Bool). cond (not b) (item ∷ filter (λ x. not (goes (item_of x))) (drop (suc k) items)) (filter (λ x. not (goes (item_of x))) (drop (suc k) items))) is
+
+  pub left-go : (items now : List declared.Item) (n k : ℕ) (item : declared.Item) → n ≡ suc k → n ≤ length items → now ≡ left_at n items → slice_get now k ≡ Some item → goes (item_of item) ≡ true → remove now k ≡ left_at k items
+  left-go items now n k item next within before read is =
+      let within' : k < length items = omega (arith, within, next) in
+      let rest : List declared.Item = filter (λ x. not (goes (item_of x))) (drop (suc k) items) in
+      let before' : now ≡ take (suc k) items ++ rest = before ∙ ap (λ (m : ℕ). left_at m items) next in
+      let found : drop k items ≡ item ∷ drop (suc k) items = read-is items rest k item within' (subst (λ (ys : List declared.Item). slice_get ys k ≡ Some item) before' read) in
+      ap (λ (ys : List declared.Item). remove ys k) before'
+      ∙ without-last items rest k within'
+      ∙ ap (λ (ys : List declared.Item). take k items ++ ys) (sym (behind items k item true found is))
+
+  pub left-stay : (items now : List declared.Item) (n k : ℕ) (item : declared.Item) → n ≡ suc k → n ≤ length items → now ≡ left_at n items → slice_get now k ≡ Some item → goes (item_of item) ≡ false → now ≡ left_at k items
+  left-stay items now n k item next within before read is =
+      let within' : k < length items = omega (arith, within, next) in
+      let rest : List declared.Item = filter (λ x. not (goes (item_of x))) (drop (suc k) items) in
+      let before' : now ≡ take (suc k) items ++ rest = before ∙ ap (λ (m : ℕ). left_at m items) next in
+      let read' : slice_get (take (suc k) items ++ rest) k ≡ Some item = subst (λ (ys : List declared.Item). slice_get ys k ≡ Some item) before' read in
+      before'
+      ∙ last-is items rest k item within' read'
+      ∙ ap (λ (ys : List declared.Item). take k items ++ ys) (sym (behind items k item false (read-is items rest k item within' read') is))
+
   pub staying-is : (items : List declared.Item) → items_of (filter (λ item. not (goes (item_of item))) items) ≡ staying goes (items_of items)
   staying-is [] = refl
   staying-is (x ∷ items) = by (goes (item_of x)) (staying-is items)

@@ -1,27 +1,26 @@
 -- What removals come to for the session.
-use Rattle.std.proofs.Common.{◌≡◌, ◌≢◌, ◌⊎◌, ℕ, Bool, true, false, List, Option, Some, None, refl, sym, ap, subst, inl, inr, ◌∙◌, true≢false, arith}
-use Rattle.std.specs.Prelude.{IfOk, IfErr, OnErr}
+use Rattle.std.proofs.Common.{◌≡◌, ◌≢◌, ℕ, true, false, List, Option, Some, None, refl, sym, ap, subst, inl, inr, ◌∙◌, true≢false}
+use Rattle.std.specs.Prelude.{IfOk, IfErr, OnOk, OnErr}
 use Rattle.std.specs.List.{list_any}
 use Rattle.std.specs.Option.{option_map}
 use Rattle.std.specs.declared.result.Result.{Result}
 use Rattle.std.specs.declared.result.Result.TheVariants.{Ok, Err}
 use Rattle.std.proofs.lemmas.Option.{none-some}
-use Rattle.constraint_compile.specs.declared.stops.KindWord.TheVariants as kind
 use Rattle.layout_solver.specs.declared.removing.RemoveStop.{RemoveStop}
 use Rattle.layout_solver.specs.declared.removing.RemoveStop.TheVariants as removal
 use Rattle.view_tree.specs.Views.{LiveView, view_named}
 use Rattle.session_undo.specs.declared.reply.Reply as answer
 use Rattle.session_undo.specs.declared.reply.Refusal.{Refusal}
-use Rattle.session_undo.specs.declared.reply.Refusal.TheVariants as refusal
-use Rattle.session_undo.specs.Scene.{Scene, State}
+use Rattle.session_undo.specs.Scene.{History, Scene, State}
 use Rattle.session_undo.specs.Leaving.{is_in_group, without_group, without_views}
-use Rattle.session_undo.specs.Replies.{Reply, Unknown, Place, Overflow, Spent, Step, MayRefuse, accepted, place_of}
-use Rattle.session_undo.specs.Machine.{HasLeft, LeavesFree, TriedDrop, TriedRemove, still_place}
+use Rattle.session_undo.specs.Replies.{Reply, Unknown, Place, Overflow, MayRefuse, accepted}
+use Rattle.session_undo.specs.Machine.{HasLeft, LeavesFree, TriedDrop, TriedRemove}
 use Rattle.session_undo.specs.Adding.{IsGoing, IsLeftAnswer, LeaveStopsAt, NoEnd, TellsStop}
+use Rattle.session_undo.proofs.Steps.{IsKeptIn, after, history_in, kept-after}
 
 -- ---- the answer to a removal
 
-module _ (draft : Scene) (old : State) (scene : Scene) where
+module _ (draft : Scene) (old : State) (history : History) where
   abbrev Allowed : Reply → Type 0
   Allowed reply = LeavesFree old draft reply old
 
@@ -34,23 +33,24 @@ module _ (draft : Scene) (old : State) (scene : Scene) where
       subst (MayRefuse Allowed) (sym is) (inr (inr (record { path = path; stopped = stopped; refused = (refl, refl) })))
   tells-refuse removal.OutOfMemory refused is stopped = subst (MayRefuse Allowed) (sym is) tt
 
-  pub left-accepted : (end : Result (Unit {0}) RemoveStop) (told : Result answer.Reply Refusal) → IsLeftAnswer end told → IfOk end (λ done. HasLeft old.scene draft old.budget scene)
-      → IfOk told (λ reply. LeavesFree old draft (accepted reply) (record old { scene = scene }))
-  left-accepted (Ok done) told is left =
-      subst (λ (t : Result answer.Reply Refusal). IfOk t (λ reply. LeavesFree old draft (accepted reply) (record old { scene = scene }))) (sym is) (inl (record { done = refl; left = left; kept = refl }))
-  left-accepted (Err stop) told (refused, is, tells) left =
-      subst (λ (t : Result answer.Reply Refusal). IfOk t (λ reply. LeavesFree old draft (accepted reply) (record old { scene = scene }))) (sym is) tt
+  pub left-accepted : (end : Result (Unit {0}) RemoveStop) (told : Result answer.Reply Refusal) → IsLeftAnswer end told → IfOk end (λ done. HasLeft old.scene draft old.budget history.scene)
+      → OnOk end (IsKeptIn old history) → IfOk told (λ reply. LeavesFree old draft (accepted reply) (after old history))
+  left-accepted (Ok done) told is left kept =
+      subst (λ (t : Result answer.Reply Refusal). IfOk t (λ reply. LeavesFree old draft (accepted reply) (after old history))) (sym is)
+      (inl (record { done = refl; left = left; kept = kept-after old history kept }))
+  left-accepted (Err stop) told (refused, is, tells) left kept =
+      subst (λ (t : Result answer.Reply Refusal). IfOk t (λ reply. LeavesFree old draft (accepted reply) (after old history))) (sym is) tt
 
   pub left-refused : (end : Result (Unit {0}) RemoveStop) (told : Result answer.Reply Refusal) → IsLeftAnswer end told → IfErr end (LeaveStopsAt old.scene draft old.budget)
       → IfErr told (MayRefuse (λ reply. LeavesFree old draft reply old))
   left-refused (Ok done) told is stops = subst (λ (t : Result answer.Reply Refusal). IfErr t (MayRefuse Allowed)) (sym is) tt
   left-refused (Err stop) told (refused, is, tells) stops = subst (λ (t : Result answer.Reply Refusal). IfErr t (MayRefuse Allowed)) (sym is) (tells-refuse stop refused tells stops)
 
--- a scene that is as before makes the session so
-pub left-same : (old : State) (scene : Scene) (end : Result (Unit {0}) RemoveStop) (told : Result answer.Reply Refusal) → IsLeftAnswer end told → OnErr end (scene ≡ old.scene) → OnErr told (record old { scene = scene } ≡ old)
-left-same old scene (Ok done) told is same = subst (λ (t : Result answer.Reply Refusal). OnErr t (record old { scene = scene } ≡ old)) (sym is) tt
-left-same old scene (Err stop) told (refused, is, tells) same =
-    subst (λ (t : Result answer.Reply Refusal). OnErr t (record old { scene = scene } ≡ old)) (sym is) (ap (λ (s : Scene). record old { scene = s }) same)
+-- scenes that are as before make the session so
+pub left-same : (old : State) (history : History) (end : Result (Unit {0}) RemoveStop) (told : Result answer.Reply Refusal) → IsLeftAnswer end told → OnErr end (history ≡ history_in old) → OnErr told (after old history ≡ old)
+left-same old history (Ok done) told is same = subst (λ (t : Result answer.Reply Refusal). OnErr t (after old history ≡ old)) (sym is) tt
+left-same old history (Err stop) told (refused, is, tells) same =
+    subst (λ (t : Result answer.Reply Refusal). OnErr t (after old history ≡ old)) (sym is) (ap (λ (h : History). after old h) same)
 
 -- ---- no cause is there
 

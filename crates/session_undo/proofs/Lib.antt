@@ -7,6 +7,7 @@ pub mod ConstantChanges
 pub mod First
 pub mod FormTerms
 pub mod FormatOwners
+pub mod Histories
 pub mod ItemRows
 pub mod LeavingViews
 pub mod LeavingWhole
@@ -16,8 +17,13 @@ pub mod LeavingProblems
 pub mod LeavingRows
 pub mod LeavingScenes
 pub mod LeavingSteps
+pub mod KeptScenes
 pub mod Lists
+pub mod MetricChanges
+pub mod MovedRows
 pub mod Moves
+pub mod MovingInstances
+pub mod NearMoves
 pub mod Nears
 pub mod NewViews
 pub mod NextLines
@@ -26,6 +32,7 @@ pub mod Owners
 pub mod Places
 pub mod Reached
 pub mod Resized
+pub mod RowPlaces
 pub mod SameRow
 pub mod ShiftedRows
 pub mod SmallLines

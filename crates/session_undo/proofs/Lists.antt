@@ -1,5 +1,5 @@
 -- Lists whose keys rise, and what holds along a map.
-use Rattle.std.proofs.Common.{◌≡◌, ◌∙◌, ℕ, zero, suc, ◌<◌, ◌≤◌, List, [], ◌∷◌, ◌++◌, take, length, map, get_or, refl, sym, ap, subst, arith, ◌⊎◌, inl, inr, All, AllPairs}
+use Rattle.std.proofs.Common.{◌≡◌, ◌∙◌, ℕ, zero, suc, ◌<◌, ◌≤◌, List, [], ◌∷◌, ◌++◌, length, map, get_or, sym, subst, arith, ◌⊎◌, inl, inr, All, AllPairs}
 use Rattle.std.specs.List.{Contains}
 use Rattle.std.proofs.lemmas.Bool.{cases_eq}
 use Rattle.std.proofs.lemmas.List.{length-map, get_or-map, get_or_default}
@@ -76,15 +76,6 @@ contains-or (x ∷ xs) v = elim (cases_eq x v) [
     further : Contains xs v ⊎ (Contains xs v → ⊥) → (x ≡ v → ⊥) → Contains (x ∷ xs) v ⊎ (Contains (x ∷ xs) v → ⊥)
     further (inl h) other = inl (contains-cons x xs v h)
     further (inr none) other = inr (no other none)
-
--- ---- what a loan of a list writes back
-
-take-front : {A : Type 0} (xs ys : List A) → take (length xs) (xs ++ ys) ≡ xs
-take-front [] ys = refl
-take-front (x ∷ xs) ys = ap (λ (zs : List _). x ∷ zs) (take-front xs ys)
-
-pub written-back : {A : Type 0} (new ys : List A) (len : ℕ) → length new ≡ len → take len (new ++ ys) ≡ new
-written-back new ys len e = ap (λ (n : ℕ). take n (new ++ ys)) (sym e) ∙ take-front new ys
 
 -- ---- reads
 

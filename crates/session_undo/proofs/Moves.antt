@@ -1,7 +1,7 @@
 -- Stays that move to the values of their attributes.
-use Rattle.std.proofs.Common.{◌≡◌, ℕ, suc, ◌+◌, ◌<◌, Bool, cond, List, [], ◌∷◌, ◌++◌, map, length, take, get_or, refl, sym, ap, ap₂, ◌∙◌, subst, arith, All, eq-eqb, ne_eqb}
+use Rattle.std.proofs.Common.{◌≡◌, ℕ, suc, ◌+◌, ◌<◌, ◌≤◌, Bool, cond, List, [], ◌∷◌, ◌++◌, map, length, take, get_or, refl, sym, ap, ap₂, ◌∙◌, subst, arith, All, eq-eqb, ne_eqb}
 use Rattle.std.specs.List.{AllByRecursion as Each}
-use Rattle.std.proofs.lemmas.List.{append-nil, map-append, map_more}
+use Rattle.std.proofs.lemmas.List.{append-nil, map-append, map_more, take_all}
 use Rattle.std.proofs.lemmas.List.Elements.{recursion_from_All, All-map}
 use Rattle.frac_core.specs.Fraction.{Fraction}
 use Rattle.problem_core.specs.declared.parts.Stay.{Stay}
@@ -70,3 +70,40 @@ pub zeros-next : (attrs : List ℕ) (i d : ℕ) → i < length attrs
 zeros-next attrs i d within =
     ap stays_at (map_more (λ (n : ℕ). (n, zero_fraction)) attrs i d within)
     ∙ map-append (λ (v : ℕ × Fraction). stay v.0 v.1) (zeros (take i attrs)) ((get_or attrs i d, zero_fraction) ∷ [])
+
+-- ---- values
+
+-- the stays' attributes, with their values
+abbrev pub valued : List Stay → List (ℕ × Fraction) → List (ℕ × Fraction)
+valued stays values = map (λ s. (s.attr, value_of values s.attr)) stays
+
+abbrev pub pair : ℕ → Fraction → ℕ × Fraction
+pair n f = (n, f)
+
+pub valued-next : (stays : List Stay) (values : List (ℕ × Fraction)) (i : ℕ) (s : Stay) → i < length stays → s ≡ get_or stays i s
+    → valued (take (i + 1) stays) values ≡ valued (take i stays) values ++ pair s.attr (value_of values s.attr) ∷ []
+valued-next stays values i s within is =
+    map_more (λ (t : Stay). pair t.attr (value_of values t.attr)) stays i s within
+    ∙ ap (λ (t : Stay). valued (take i stays) values ++ pair t.attr (value_of values t.attr) ∷ []) (sym is)
+
+-- a stay as a pair
+abbrev targets : List Stay → List (ℕ × Fraction)
+targets stays = map (λ s. (s.attr, s.target)) stays
+
+targets-moved : (stays : List Stay) (values : List (ℕ × Fraction)) → targets (moved stays values) ≡ valued stays values
+targets-moved [] values = refl
+targets-moved (s ∷ stays) values = ap (λ (vs : List (ℕ × Fraction)). pair s.attr (value_of values s.attr) ∷ vs) (targets-moved stays values)
+
+targets-at : (values : List (ℕ × Fraction)) → targets (stays_at values) ≡ values
+targets-at [] = refl
+targets-at (v ∷ values) = ap (λ (vs : List (ℕ × Fraction)). v ∷ vs) (targets-at values)
+
+-- the values of the stays are all values
+valued-is : (stays : List Stay) (values : List (ℕ × Fraction)) → map at values ≡ map (λ s. s.attr) stays → AreRising values → valued stays values ≡ values
+valued-is stays values same rising = sym (targets-moved stays values) ∙ ap targets (moved-is stays values same rising) ∙ targets-at values
+
+-- all stays have had their turn
+pub valued-all : (stays held : List Stay) (values pairs : List (ℕ × Fraction)) (i : ℕ) → held ≡ stays → length held ≤ i → pairs ≡ valued (take i held) values
+    → map at values ≡ map (λ s. s.attr) stays → AreRising values → pairs ≡ values
+valued-all stays held values pairs i is past are same rising =
+    are ∙ ap (λ (ss : List Stay). valued ss values) (take_all i held past ∙ is) ∙ valued-is stays values same rising

@@ -1,5 +1,6 @@
 -- When one constant is near another.
-use Rattle.std.proofs.Common.{◌≡◌, ◌∙◌, ℕ, suc, ◌*◌, ◌<◌, true, false, ◌⊎◌, inl, inr, ap, sym, arith, ℤ, pos}
+use Rattle.std.proofs.Common.{◌≡◌, ◌∙◌, ℕ, suc, ◌*◌, ◌<◌, true, false, ◌⊎◌, inl, inr, ap, sym, subst, arith, lit<, ℤ, pos}
+use Rattle.std.proofs.Math.Nat.{one-dvd}
 use Rattle.std.specs.Prelude.{negsuc, neg_ℤ, ◌+ℤ◌, ◌*ℤ◌}
 use Rattle.std.specs.Int.RustNames.{unsigned_abs}
 use Rattle.std.proofs.lemmas.Bool.{cases_lt}
@@ -64,3 +65,12 @@ fits e above not_never =
   where
     same : (h : HasLowest e) (is : IsFittingSum e) → Fits h.sum
     same h is = rw (same_fraction h.sum is.sum h.lowest is.lowest (one-value h.sum is.sum e.num e.den above h.value is.value)) is.fits
+
+-- a constant less itself is 0
+pub still-near : (f g : Fraction) → f ≡ g → IsFittingSum (plus g (negated f))
+still-near f g same = subst (λ (h : Fraction). IsFittingSum (plus h (negated f))) same (record {
+  sum = record { num = pos 0; den = 1 };
+  lowest = record { above = lit< tt; coprime = (one-dvd 0, one-dvd 1, λ d a b. b) };
+  fits = record { num_fits = lit< tt; den_fits = lit< tt };
+  value = on_2 (λ x y. pos 0 *ℤ pos (f.den * f.den) ≡ (x *ℤ pos f.den +ℤ neg_ℤ x *ℤ pos f.den) *ℤ pos 1) (λ x x' y y'. simp (neg-pos, diff-pos, diff-neg, diff-mul, diff-add) (diff_eq _ _ _ _ (omega arith))) f.num f.num;
+})

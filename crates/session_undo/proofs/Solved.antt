@@ -250,25 +250,28 @@ module _ (tree : ViewTree) (ms : MetricList) (held : List Item) (next : ℕ) (l 
 
   -- ---- metrics
 
-  metric-are : (new_ms : MetricList) (new : Layout) (to : List Change) (rows : List Row) → AreRows new_ms held rows → shifted to l.problem.rows ≡ rows → new.problem ≡ with_shifts l to → AreRows new_ms held new.problem.rows
-  metric-are new_ms new to rows are shifts done =
-      subst (AreRows new_ms held) (sym (rows_is new.problem (with_shifts l to) done ∙ shifts)) are
+  module _ (new_ms : MetricList) (to : List Change) (are : AreRows new_ms held (shifted to l.problem.rows)) where
+    metric-are : (new : Layout) → new.problem ≡ with_shifts l to → AreRows new_ms held new.problem.rows
+    metric-are new done = subst (AreRows new_ms held) (sym (rows_is new.problem (with_shifts l to) done)) are
 
-  pub metric-stops : (new_ms : MetricList) (to : List Change) (rows : List Row) (budget : ℕ) (s : RunStop) → AreRows new_ms held rows → shifted to l.problem.rows ≡ rows → IsStopFrom (from_shifts l) (with_shifts l to) budget s
-      → StopsAt (scene_at tree ms held next l) (metrics_draft (scene_at tree ms held next l) new_ms) budget s
-  metric-stops new_ms to rows budget s are shifts stops =
-      shift-stops (metrics_draft (scene_at tree ms held next l) new_ms) to budget s (subst (AreRows new_ms held) (sym shifts) are) moves stops
+    pub metric-stops : (budget : ℕ) (s : RunStop) → IsStopFrom (from_shifts l) (with_shifts l to) budget s → StopsAt (scene_at tree ms held next l) (metrics_draft (scene_at tree ms held next l) new_ms) budget s
+    metric-stops budget s stops = shift-stops (metrics_draft (scene_at tree ms held next l) new_ms) to budget s are moves stops
 
-  pub metric-solved : (new_ms : MetricList) (new : Layout) (to : List Change) (rows : List Row) (budget : ℕ) → AreRows new_ms held rows → shifted to l.problem.rows ≡ rows → new.problem ≡ with_shifts l to
-      → AreBest new.problem new.values → RunShifts new budget → Solved (metrics_draft (scene_at tree ms held next l) new_ms) budget (scene_at tree new_ms held next new)
-  metric-solved new_ms new to rows budget are shifts done best runs =
-      solved-at (scene_at tree ms held next l) (metrics_draft (scene_at tree ms held next l) new_ms) held next new (from_shifts l) budget refl refl (stays_is new.problem (with_shifts l to) done ∙ sym moves)
-      (metric-are new_ms new to rows are shifts done) best
-      (shift-start new.problem.rows to (rows_is new.problem (with_shifts l to) done)) runs
+    pub metric-solved : (new : Layout) (budget : ℕ) → new.problem ≡ with_shifts l to → AreBest new.problem new.values → RunShifts new budget
+        → Solved (metrics_draft (scene_at tree ms held next l) new_ms) budget (scene_at tree new_ms held next new)
+    metric-solved new budget done best runs =
+        solved-at (scene_at tree ms held next l) (metrics_draft (scene_at tree ms held next l) new_ms) held next new (from_shifts l) budget refl refl (stays_is new.problem (with_shifts l to) done ∙ sym moves)
+        (metric-are new done) best
+        (shift-start new.problem.rows to (rows_is new.problem (with_shifts l to) done)) runs
 
-  pub metric-kept : (new_ms : MetricList) (new : Layout) (to : List Change) (rows : List Row) → AreRows new_ms held rows → shifted to l.problem.rows ≡ rows → new.problem ≡ with_shifts l to → IsCounted tree.views next new.problem
-      → IsKept (scene_at tree new_ms held next new)
-  metric-kept new_ms new to rows are shifts done counted = record { are_rows = metric-are new_ms new to rows are shifts done; each = kept.each; named = kept.named; next = kept.next; counted = counted }
+    pub metric-kept : (new : Layout) → new.problem ≡ with_shifts l to → IsCounted tree.views next new.problem → IsKept (scene_at tree new_ms held next new)
+    metric-kept new done counted = record { are_rows = metric-are new done; each = kept.each; named = kept.named; next = kept.next; counted = counted }
+
+    pub metric-posed : (rows : List Row) (p : Problem) → rows ≡ shifted to l.problem.rows → p ≡ record { rows = rows; stays = stays_at l.values } → IsProblemOf (metrics_draft (scene_at tree ms held next l) new_ms) p
+    metric-posed rows p shifts made = (
+      subst (AreRows new_ms held) (sym (rows_is p (record { rows = rows; stays = stays_at l.values }) made ∙ shifts)) are,
+      stays_is p (record { rows = rows; stays = stays_at l.values }) made ∙ sym moves,
+    )
 
   -- ---- what a command would solve
 
@@ -302,9 +305,6 @@ module _ (tree : ViewTree) (ms : MetricList) (held : List Item) (next : ℕ) (l 
         subst (AreRows ms (resized w h held)) (sym (rows_is p (At rows) made ∙ shifts)) (again-rows w h size some),
         stays_is p (At rows) made ∙ sym moves,
       )
-
-  pub metric-posed : (rows : List Row) (p : Problem) → p ≡ At rows → p.stays ≡ moved l.problem.stays l.values
-  metric-posed rows p made = stays_is p (At rows) made ∙ sym moves
 
 -- ---- a new view is in no conflict
 

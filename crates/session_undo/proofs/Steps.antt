@@ -1,5 +1,5 @@
 -- What the changes of a session come to.
-use Rattle.std.proofs.Common.{◌≡◌, ℕ, List, length, refl, ap, subst, inl, inr}
+use Rattle.std.proofs.Common.{◌≡◌, ℕ, ◌<◌, List, [], ◌∷◌, length, refl, sym, ap, ◌∙◌, subst, inl, inr, arith}
 use Rattle.name_tables.specs.declared.stops.LimitWord.{LimitWord}
 use Rattle.name_tables.specs.declared.stops.LimitWord.TheVariants as word
 use Rattle.constraint_compile.specs.declared.stops.KindWord.{KindWord}
@@ -12,12 +12,12 @@ use Rattle.cert_core.specs.declared.stops.RunStop.TheVariants as run
 use Rattle.cert_core.specs.Paths.{Path}
 use Rattle.session_undo.specs.declared.reply.Refusal.{Refusal}
 use Rattle.session_undo.specs.declared.reply.Refusal.TheVariants as refusal
-use Rattle.std.specs.Prelude.{IfOk, IfErr, OnErr}
+use Rattle.std.specs.Prelude.{IfOk, IfErr, OnOk, OnErr}
 use Rattle.std.specs.declared.result.Result.{Result}
 use Rattle.std.specs.declared.result.Result.TheVariants.{Ok, Err}
-use Rattle.session_undo.specs.Replies.{Reply, Done, Limit, Kind, MayRefuse, accepted}
-use Rattle.session_undo.specs.Scene.{Scene, State, with_line}
-use Rattle.session_undo.specs.Machine.{Unless, UnlessAny, Keeps, IsSolved, Solves, SolvesFree, TriedLine, AddsLine, IsCrowded}
+use Rattle.session_undo.specs.Replies.{Reply, Done, NoEarlier, Limit, Kind, MayRefuse, accepted}
+use Rattle.session_undo.specs.Scene.{History, Scene, State, with_earlier, with_line}
+use Rattle.session_undo.specs.Machine.{TriedUndo, Unless, UnlessAny, Keeps, IsSolved, Solves, SolvesFree, TriedLine, AddsLine, IsCrowded}
 use Rattle.session_undo.specs.Adding.{refusal_of, answer_of, StopsAt, IsNoConflict, NoEnd, UnlessFull, AddStop, StopStep, IsGroupLimit, IsGroupFree, IsLineLimit, IsLineFree, IsFreeLine}
 
 -- what refuses for a narrower relation refuses for a wider one
@@ -28,19 +28,32 @@ refuses F G (refusal.Taken name) to h = to _ h
 refuses F G (refusal.Limit word) to h = to _ h
 refuses F G (refusal.Kind word) to h = to _ h
 refuses F G (refusal.Conflict by) to h = to _ h
+refuses F G refusal.NoEarlier to h = to _ h
 refuses F G (refusal.Overflow place at) to h = to _ h
 refuses F G (refusal.Spent place path) to h = to _ h
 refuses F G refusal.OutOfMemory to h = h
+
+-- the session with this scene and those before it
+abbrev pub after : State → History → State
+after old history = record old { scene = history.scene; earlier = history.earlier }
+
+-- those of a session
+abbrev pub history_in : State → History
+history_in old = record { scene = old.scene; earlier = old.earlier }
+
+-- the scene before is the latest earlier one
+abbrev pub IsKeptIn : State → History → Type 0
+IsKeptIn old history = history.earlier ≡ with_earlier old.scene old.earlier
+
+pub kept-after : (old : State) (history : History) → IsKeptIn old history → after old history ≡ record old { scene = history.scene; earlier = with_earlier old.scene old.earlier }
+kept-after old history is = ap (λ (earlier : List Scene). record old { scene = history.scene; earlier = earlier }) is
 
 -- the engine's end is the step's
 abbrev Solved : Scene → State → Scene → Type 0
 Solved draft old scene = (path : Path) × IsSolved old.scene draft old.budget path scene
 
-run-accepts : (draft : Scene) (old : State) (scene : Scene) → Solved draft old scene → SolvesFree old draft Done (record old { scene = scene })
-run-accepts draft old scene solved = inl (record { done = refl; path = solved.0; solved = solved.1; kept = refl })
-
-run-solves : (draft : Scene) (old : State) (scene : Scene) → Solved draft old scene → Solves old draft Done (record old { scene = scene })
-run-solves draft old scene solved = inr (run-accepts draft old scene solved)
+run-accepts : (draft : Scene) (old : State) (history : History) → Solved draft old history.scene → IsKeptIn old history → SolvesFree old draft Done (after old history)
+run-accepts draft old history solved kept = inl (record { done = refl; path = solved.0; solved = solved.1; kept = kept-after old history kept })
 
 -- what stops the engine on a draft's problem refuses the draft
 free-refuses : (draft : Scene) (old : State) (stop : RunStop) → StopsAt old.scene draft old.budget stop → IsNoConflict stop
@@ -60,32 +73,50 @@ stop-refuses draft old run.OutOfMemory stopped = tt
 
 -- ---- the answer to a run
 
-module _ (draft : Scene) (old : State) (scene : Scene) where
-  pub free-accepted : (end : Result (Unit {0}) RunStop) → IfOk end (λ done. Solved draft old scene)
-      → IfOk (answer_of end) (λ reply. SolvesFree old draft (accepted reply) (record old { scene = scene }))
-  free-accepted (Ok done) solved = run-accepts draft old scene solved
-  free-accepted (Err stop) solved = tt
+module _ (draft : Scene) (old : State) (history : History) where
+  pub free-accepted : (end : Result (Unit {0}) RunStop) → IfOk end (λ done. Solved draft old history.scene) → OnOk end (IsKeptIn old history)
+      → IfOk (answer_of end) (λ reply. SolvesFree old draft (accepted reply) (after old history))
+  free-accepted (Ok done) solved kept = run-accepts draft old history solved kept
+  free-accepted (Err stop) solved kept = tt
 
   pub free-refused : (end : Result (Unit {0}) RunStop) → IfErr end (StopsAt old.scene draft old.budget) → IfErr end IsNoConflict
       → IfErr (answer_of end) (MayRefuse (λ reply. SolvesFree old draft reply old))
   free-refused (Ok done) stops free = tt
   free-refused (Err stop) stops free = free-refuses draft old stop stops free
 
-  pub run-accepted : (end : Result (Unit {0}) RunStop) → IfOk end (λ done. Solved draft old scene)
-      → IfOk (answer_of end) (λ reply. Solves old draft (accepted reply) (record old { scene = scene }))
-  run-accepted (Ok done) solved = run-solves draft old scene solved
-  run-accepted (Err stop) solved = tt
+  pub run-accepted : (end : Result (Unit {0}) RunStop) → IfOk end (λ done. Solved draft old history.scene) → OnOk end (IsKeptIn old history)
+      → IfOk (answer_of end) (λ reply. Solves old draft (accepted reply) (after old history))
+  run-accepted (Ok done) solved kept = inr (run-accepts draft old history solved kept)
+  run-accepted (Err stop) solved kept = tt
 
   pub run-refused : (end : Result (Unit {0}) RunStop) → IfErr end (StopsAt old.scene draft old.budget)
       → IfErr (answer_of end) (MayRefuse (λ reply. Solves old draft reply old))
   run-refused (Ok done) stops = tt
   run-refused (Err stop) stops = stop-refuses draft old stop stops
 
--- a scene that is as before makes the session so
-pub answer-same : (old : State) (scene : Scene) (end : Result (Unit {0}) RunStop) → OnErr end (scene ≡ old.scene)
-    → OnErr (answer_of end) (record old { scene = scene } ≡ old)
-answer-same old scene (Ok done) same = tt
-answer-same old scene (Err stop) same = ap (λ (s : Scene). record old { scene = s }) same
+-- scenes that are as before make the session so
+pub answer-same : (old : State) (history : History) (end : Result (Unit {0}) RunStop) → OnErr end (history ≡ history_in old)
+    → OnErr (answer_of end) (after old history ≡ old)
+answer-same old history (Ok done) same = tt
+answer-same old history (Err stop) same = ap (λ (h : History). after old h) same
+
+-- ---- taking back
+
+no-earlier : (s : Scene) (rest : List Scene) → s ∷ rest ≡ [] → ⊥
+no-earlier s rest is = absurd (omega (arith, ap (λ (scenes : List Scene). length scenes) is))
+
+-- the scene that comes back was the latest earlier one
+pub undo-takes : (old : State) (Other : Reply → State → Reply → State → Type 0) (history : History) (reply : Reply) (new : State) → old.earlier ≡ history.scene ∷ history.earlier
+    → Other Done (after old history) reply new → TriedUndo old Other reply new
+undo-takes old Other history reply new is other = inr ((λ none. no-earlier history.scene history.earlier (sym is ∙ none)), (history.scene, history.earlier, is, other))
+
+-- where there are earlier scenes one is the latest
+pub latest-earlier : (earlier : List Scene) → 0 < length earlier → (scene : Scene) × (rest : List Scene) × (earlier ≡ scene ∷ rest)
+latest-earlier [] some = absurd (omega (arith, some))
+latest-earlier (scene ∷ rest) some = (scene, rest, refl)
+
+pub undo-refused : (old : State) (Other : Reply → State → Reply → State → Type 0) → old.earlier ≡ [] → TriedUndo old Other NoEarlier old
+undo-refused old Other none = inl (none, refl, refl)
 
 -- the stops of a compiler exclude each other
 pub record Excludes (May : CompileStop → Type 0) : Type 0 where

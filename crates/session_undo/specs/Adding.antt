@@ -38,11 +38,12 @@ use Rattle.session_undo.specs.declared.reply.Refusal.{Refusal}
 use Rattle.session_undo.specs.declared.reply.Refusal.TheVariants as refusal
 use Rattle.session_undo.specs.Attributes.{IsNextLine}
 use Rattle.session_undo.specs.Items.{OfView, has_size, suggestion_of}
+use Rattle.session_undo.specs.Moving.{AreChangesFor}
 use Rattle.session_undo.specs.Replies.{Reply, Unknown, Limit, Kind, place_of}
-use Rattle.session_undo.specs.Scene.{Scene, State, moved, new_stays, AreDraftRows, metrics_with}
+use Rattle.session_undo.specs.Scene.{Scene, State, moved, new_stays, metrics_with}
 use Rattle.session_undo.specs.Machine.{CannotLeave, still_place, IsStopped, Unless, Keeps, IsCrowded}
 use Rattle.session_undo.specs.Machine.{HasAllLines, IsTaken, IsDeep}
-use Rattle.session_undo.specs.Machine.{AreNear, AreTooMany, HasAllViews, IsFarSize, Suggests, UnlessRankless}
+use Rattle.session_undo.specs.Machine.{AreTooMany, HasAllViews, IsFarSize, Suggests, UnlessRankless}
 
 -- ---- stops
 
@@ -145,15 +146,14 @@ pub record IsFreeView (old : State) (name parent : List ℕ) (new : ViewTree) (i
   pub tree_is : new ≡ tree.with_view old.scene.tree name above.id
   pub id_is : id ≡ old.scene.tree.next
 
--- the metric may be made or changed, and these are the metrics with it, and the rows for them
+-- the metric may be made or changed, and these are the metrics with it, and the changes for them
 pub record IsFreeMetric (old : State) (name : List ℕ) (value : Fraction) (new : MetricList)
-    (rows : List Row) : Type 0 where
+    (to : List Change) : Type 0 where
   pub free : IsSome (view_named old.scene.tree.views name) → ⊥
   pub short : length name ≤ 64
   pub room : AreTooMany old.scene.metrics name → ⊥
   pub new_is : new ≡ metrics_with old.scene.metrics name value
-  pub are_rows : AreDraftRows (metrics_draft old.scene new) rows
-  pub near : AreNear old.scene.rows rows
+  pub changes : AreChangesFor old.scene new to
 
 -- there is room for this size of the window
 pub record IsFreeSize (old : State) (width height : Fraction) : Type 0 where

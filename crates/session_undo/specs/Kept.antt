@@ -1,19 +1,23 @@
 -- What a scene keeps, and of which parts it is made.
-use Rattle.std.specs.Prelude.{⊤, ℕ, ◌^◌, ◌<◌, ◌≤◌, List, [], map, All}
-use Rattle.name_tables.specs.declared.stops.LimitWord.TheVariants as limit
+use Rattle.std.specs.Prelude.{◌≡◌, ℕ, ◌^◌, ◌<◌, ◌≤◌, List, [], ◌∷◌, map, All, length, Bool, Option, Some, None}
 use Rattle.constraint_compile.specs.Meaning.{MetricList}
-use Rattle.constraint_compile.specs.declared.stops.CompileStop.{CompileStop}
-use Rattle.constraint_compile.specs.declared.stops.CompileStop.TheVariants.{Unknown, Kind, Limit, OutOfMemory}
 use Rattle.view_tree.specs.Views.{LiveView, ViewTree}
-use Rattle.layout_solver.specs.Layouts.{Layout}
+use Rattle.problem_core.specs.Layout.{Problem}
+use Rattle.frac_core.specs.Fraction.{Fraction}
+use Rattle.version_list.specs.Versions.{Versions}
+use Rattle.layout_solver.specs.Layouts.{Layout, Solution}
+use Rattle.session_undo.specs.declared.leaving.Leaver.{Leaver}
+use Rattle.session_undo.specs.declared.leaving.Leaver.TheVariants as leaver
+use Rattle.session_undo.specs.declared.past.Past.{Past}
+use Rattle.session_undo.specs.Leaving.{goes_with, is_in_group}
+use Rattle.session_undo.specs.Items.{is_suggestion}
 use Rattle.session_undo.specs.declared.item.Item as declared
 use Rattle.session_undo.specs.declared.item.HeldSize.{HeldSize}
 use Rattle.session_undo.specs.declared.item.Item.TheVariants as kind
 use Rattle.session_undo.specs.declared.limits.Limits as declared_limits
 use Rattle.constraint_compile.specs.Suggestions.{IsSuggestion}
 use Rattle.session_undo.specs.Items.{Item, Size, OfWindow, OfView, Sized, OfLine, Suggested, AreRows}
-use Rattle.session_undo.specs.Items.{IsSmallItem}
-use Rattle.session_undo.specs.Scene.{Scene, Limits, State, problem_of}
+use Rattle.session_undo.specs.Scene.{EARLIER, History, Scene, Limits, State, problem_of}
 use Rattle.session_undo.specs.Attributes.{AreOwned, IsCounted}
 
 -- ---- items
@@ -47,34 +51,50 @@ IsNamed views (Sized first width height) = Unit {0}
 IsNamed views (OfLine group line) = AreOwned views line
 IsNamed views (Suggested s) = Unit {0}
 
--- why an item has no rows: a constant isn't small
-abbrev pub MayLackItemRows : MetricList → Item → CompileStop → Type 0
-MayLackItemRows metrics item (Limit limit.Constant) = IsSmallItem metrics item → ⊥
-MayLackItemRows metrics item (Limit _) = ⊥
-MayLackItemRows metrics item OutOfMemory = ⊤
-MayLackItemRows metrics item (Unknown name) = ⊥
-MayLackItemRows metrics item (Kind word) = ⊥
-
--- the same for one of some items
-abbrev pub MayLackRows : MetricList → List Item → CompileStop → Type 0
-MayLackRows metrics items (Limit limit.Constant) = All (IsSmallItem metrics) items → ⊥
-MayLackRows metrics items (Limit _) = ⊥
-MayLackRows metrics items OutOfMemory = ⊤
-MayLackRows metrics items (Unknown name) = ⊥
-MayLackRows metrics items (Kind word) = ⊥
+-- the item is one of those that leave
+abbrev pub is_leaving : Leaver → Item → Bool
+is_leaving (leaver.Group name) = is_in_group name.now
+is_leaving (leaver.Views gone) = goes_with gone.now
+is_leaving (leaver.Suggestion view word) = is_suggestion view word
 
 -- ---- scenes
 
 -- the scene of these parts
-abbrev pub scene_at : ViewTree → MetricList → List Item → ℕ → Layout → Scene
-scene_at tree metrics held next_row layout = record {
+abbrev pub scene_of : ViewTree → MetricList → List Item → ℕ → Problem → List (ℕ × Fraction) → Scene
+scene_of tree metrics held next_row problem values = record {
   tree = tree;
   metrics = metrics;
   held = held;
   next_row = next_row;
-  rows = layout.problem.rows;
-  stays = layout.problem.stays;
-  values = layout.values;
+  rows = problem.rows;
+  stays = problem.stays;
+  values = values;
+}
+
+abbrev pub scene_at : ViewTree → MetricList → List Item → ℕ → Layout → Scene
+scene_at tree metrics held next_row layout =
+    scene_of tree metrics held next_row layout.problem layout.values
+
+-- what an earlier scene has, if it isn't what the scene after it has
+abbrev pub own_or : {A : Type 0} → Option A → A → A
+own_or None after = after
+own_or (Some own) after = own
+
+-- the earlier scenes, the latest first: what each holds, its solution, and what of the rest is its own
+abbrev pub earlier_at : ViewTree → MetricList → List (List declared.Item) → List Solution → List Past
+    → List Scene
+earlier_at tree metrics [] solutions pasts = []
+earlier_at tree metrics (items ∷ rest) [] pasts = []
+earlier_at tree metrics (items ∷ rest) (s ∷ solutions) [] = []
+earlier_at tree metrics (items ∷ rest) (s ∷ solutions) (p ∷ pasts) =
+    scene_of (own_or p.tree tree) (own_or p.metrics metrics) (items_of items) p.next_row s.problem s.values
+    ∷ earlier_at (own_or p.tree tree) (own_or p.metrics metrics) rest solutions pasts
+
+-- the scene of these parts, with those before it
+abbrev pub history_at : ViewTree → MetricList → Versions declared.Item → ℕ → Layout → List Past → History
+history_at tree metrics items next_row layout pasts = record {
+  scene = scene_at tree metrics (items_of items.items) next_row layout;
+  earlier = earlier_at tree metrics items.before layout.earlier pasts;
 }
 
 -- the rows are those of what is held
@@ -85,19 +105,31 @@ pub record IsKept (scene : Scene) : Type 0 where
   pub next : 0 < scene.next_row
   pub counted : IsCounted scene.tree.views scene.next_row (problem_of scene)
 
+-- there are as many earlier versions of each part, and not too many
+pub record AreAlike (held : List (List declared.Item)) (solved : List Solution) (pasts : List Past)
+    : Type 0 where
+  pub items : length held ≡ length pasts
+  pub solutions : length solved ≡ length pasts
+  pub few : length pasts ≤ EARLIER
+
+-- what the scene and each earlier one keep
+pub record IsKeptHistory (history : History) : Type 0 where
+  pub scene : IsKept history.scene
+  pub earlier : All IsKept history.earlier
+
 abbrev pub limits_of : declared_limits.Limits → Limits
-limits_of l = record { views = l.views; lines = l.lines; rows = l.rows; earlier = l.earlier }
+limits_of l = record { views = l.views; lines = l.lines; rows = l.rows }
 
 -- no more views and rows than a problem has room for
 pub record AreWithin (limits : Limits) : Type 0 where
   pub views : limits.views ≤ 200
   pub rows : limits.rows ≤ 2000
 
--- the session of this scene, with none before it
-abbrev pub session_at : Scene → ℕ → declared_limits.Limits → State
-session_at scene budget limits = record {
-  scene = scene;
-  earlier = [];
+-- the session of this scene and those before it
+abbrev pub session_at : History → ℕ → declared_limits.Limits → State
+session_at history budget limits = record {
+  scene = history.scene;
+  earlier = history.earlier;
   budget = budget;
   limits = limits_of limits;
 }

@@ -5,5 +5,6 @@ pub mod Items
 pub mod Kept
 pub mod Leaving
 pub mod Machine
+pub mod Moving
 pub mod Replies
 pub mod Scene

@@ -9,7 +9,9 @@ use Rattle.name_tables.specs.declared.stops.LimitWord.TheVariants as word
 use Rattle.view_tree.specs.Views.{LiveView, ViewTree, IsOnLevel, view_named}
 use Rattle.problem_core.specs.Layout.{Row, Problem}
 use Rattle.cert_core.specs.declared.by.By.{By}
+use Rattle.cert_core.specs.Claims.{BestLevel}
 use Rattle.cert_core.specs.Paths.{Path}
+use Rattle.certificates.specs.Accepted.{IsCertified}
 use Rattle.cert_core.specs.Stops.{IsShownConflict}
 use Rattle.cert_core.specs.declared.stops.UnfitPath.{UnfitPath}
 use Rattle.cert_core.specs.declared.stops.RunStop.{RunStop}
@@ -42,9 +44,9 @@ use Rattle.constraint_compile.specs.declared.stops.CompileStop.TheVariants as st
 use Rattle.session_undo.specs.Items.{IsSmallItem, Item, Size, line_count, has_size, size_of, without_constant}
 use Rattle.session_undo.specs.Items.{suggestion_of}
 use Rattle.session_undo.specs.Scene.{Scene, State, with_view, with_metric, with_window, with_line, problem_of}
-use Rattle.session_undo.specs.Scene.{with_suggestion, with_suggested, draft_problem, AreDraftRows, Becomes}
+use Rattle.session_undo.specs.Scene.{with_earlier, with_suggestion, with_suggested, draft_problem, AreDraftRows, Becomes}
 use Rattle.session_undo.specs.Replies.{Reply, Done, Nothing, Frames, Rows, Unknown, Taken, Limit, Kind}
-use Rattle.session_undo.specs.Replies.{Conflict, Overflow, Spent, Place, Step, Still}
+use Rattle.session_undo.specs.Replies.{Certificate, NoEarlier, Conflict, Overflow, Spent, Place, Step, Still}
 use Rattle.session_undo.specs.Leaving.{is_in_group, stood_of, without_group, without_suggestion}
 use Rattle.session_undo.specs.Leaving.{without_views}
 
@@ -102,7 +104,7 @@ pub record Accepts (draft : Scene) (old : State) (reply : Reply) (new : State) :
   pub done : reply ≡ Done
   pub path : Path
   pub solved : IsSolved old.scene draft old.budget path new.scene
-  pub kept : new ≡ record old { scene = new.scene }
+  pub kept : new ≡ record old { scene = new.scene; earlier = with_earlier old.scene old.earlier }
 
 -- the required rows of the draft have no solution, as multipliers of them show
 pub record Conflicts (draft : Scene) (old : State) (reply : Reply) (new : State) : Type 0 where
@@ -167,7 +169,7 @@ pub record CannotLeave (scene draft : Scene) (budget : ℕ) (stop : RemoveStop) 
 pub record Leaves (draft : Scene) (old : State) (reply : Reply) (new : State) : Type 0 where
   pub done : reply ≡ Done
   pub left : HasLeft old.scene draft old.budget new.scene
-  pub kept : new ≡ record old { scene = new.scene }
+  pub kept : new ≡ record old { scene = new.scene; earlier = with_earlier old.scene old.earlier }
 
 -- where rows are still held they are told
 abbrev pub still_place : List ℕ → Place
@@ -421,6 +423,21 @@ TriedBudget old exchanges Other =
     Unless ((exchanges ≡ 0) ⊎ (10 ^ 18 < exchanges)) (Limit word.Budget) old
     (Other Done (record old { budget = exchanges }))
 
+-- the reply is a certificate of the scene's values
+abbrev pub Certifies : State → (Reply → State → Reply → State → Type 0) → Reply → State → Type 0
+Certifies old Other reply new =
+    (levels : List BestLevel) × IsCertified (problem_of old.scene) old.scene.values levels
+    × Other (Certificate levels) old reply new
+
+-- the latest earlier scene is the scene, and leaves the list
+abbrev pub TakesBack : State → (Reply → State → Reply → State → Type 0) → Reply → State → Type 0
+TakesBack old Other reply new =
+    (scene : Scene) × (earlier : List Scene) × (old.earlier ≡ scene ∷ earlier)
+    × Other Done (record old { scene = scene; earlier = earlier }) reply new
+
+abbrev pub TriedUndo : State → (Reply → State → Reply → State → Type 0) → Reply → State → Type 0
+TriedUndo old Other = Unless (old.earlier ≡ []) NoEarlier old (TakesBack old Other)
+
 abbrev pub Tried : State → Meaning → (Scene → Reply → State → Type 0)
     → (Reply → State → Reply → State → Type 0) → Reply → State → Type 0
 Tried old mean.Nothing End Other = Other Nothing old
@@ -433,9 +450,11 @@ Tried old (mean.Vfl group align format) End Other = TriedFormat old group align 
 Tried old (mean.Remove group) End Other = TriedRemove old group End
 Tried old (mean.Suggest name attr value priority) End Other = TriedSuggest old name attr value priority End
 Tried old (mean.Release name attr) End Other = TriedRelease old name attr End
+Tried old mean.Undo End Other = TriedUndo old Other
 Tried old (mean.Budget exchanges) End Other = TriedBudget old exchanges Other
 Tried old mean.Frames End Other = Other Frames old
 Tried old mean.Rows End Other = Other Rows old
+Tried old mean.Certify End Other = Certifies old Other
 
 -- ---- what a line leads to
 
@@ -452,9 +471,11 @@ Ends old (mean.Window width height) = Solves old
 Ends old (mean.Constrain group line) = Solves old
 Ends old (mean.Vfl group align format) = Solves old
 Ends old (mean.Suggest name attr value priority) = Solves old
+Ends old mean.Undo = Solves old
 Ends old (mean.Budget exchanges) = Solves old
 Ends old mean.Frames = Solves old
 Ends old mean.Rows = Solves old
+Ends old mean.Certify = Solves old
 
 -- what a line that says this leads to
 abbrev pub MeaningStep : State → Meaning → Reply → State → Type 0
@@ -475,6 +496,7 @@ abbrev pub PosesScene : State → Problem → Reply → State → Reply → Stat
 PosesScene old p answer next reply new = p ≡ problem_of old.scene
 
 -- no cause is against the command, and this is the problem of its draft; of a command that has none it is the
--- scene's (a cause would make the reply a refusal, and `Done` is none)
+-- scene's (a cause would make the reply a refusal, and `Done` is none; there is none against `certify`)
 abbrev pub Poses : State → Meaning → Problem → Type 0
+Poses old mean.Certify p = p ≡ problem_of old.scene
 Poses old m p = Tried old m (PosesDraft p) (PosesScene old p) Done old

@@ -6,6 +6,7 @@ use Rattle.problem_core.specs.declared.stops.Quantity.{Quantity}
 use Rattle.name_tables.specs.declared.stops.LimitWord.{LimitWord}
 use Rattle.constraint_compile.specs.declared.stops.KindWord.{KindWord}
 use Rattle.cert_core.specs.declared.by.By.{By}
+use Rattle.cert_core.specs.Claims.{BestLevel}
 use Rattle.cert_core.specs.Paths.{Path}
 use Rattle.session_undo.specs.Scene.{State}
 use Rattle.session_undo.specs.declared.reply.Reply as answer
@@ -25,21 +26,24 @@ abbrev pub place_of : StopPlace → Place
 place_of place.Step = Step
 place_of (place.Still ids) = Still ids.items
 
--- `Nothing` to a blank line or a comment, `Done` to a change, `Frames` and `Rows` to questions, and the
--- refusals: where the line leaves the grammar, the unknown or taken name, the limit, the wrong use, the
--- multipliers of the required rows; and, each with what had stopped, the path with the quantity that doesn't
--- fit at its end, and the path that uses up the exchanges
+-- `Nothing` to a blank line or a comment, `Done` to a change, `Frames`, `Rows` and `Certificate`, with the
+-- multipliers of each level, to questions, and the refusals: where the line leaves the grammar, the unknown or
+-- taken name, the limit, the wrong use, the multipliers of the required rows, that there is no earlier scene;
+-- and, each with what had stopped, the path with the quantity that doesn't fit at its end, and the path that
+-- uses up the exchanges
 pub data Reply : Type 0 where
   Nothing : Reply
   Done : Reply
   Frames : Reply
   Rows : Reply
+  Certificate : List BestLevel → Reply
   Outside : ℕ → Reply
   Unknown : List ℕ → Reply
   Taken : List ℕ → Reply
   Limit : LimitWord → Reply
   Kind : KindWord → Reply
   Conflict : List By → Reply
+  NoEarlier : Reply
   Overflow : Place → Path → Quantity → Reply
   Spent : Place → Path → Reply
 
@@ -49,12 +53,14 @@ is_accepted Nothing = true
 is_accepted Done = true
 is_accepted Frames = true
 is_accepted Rows = true
+is_accepted (Certificate levels) = true
 is_accepted (Outside at) = false
 is_accepted (Unknown name) = false
 is_accepted (Taken name) = false
 is_accepted (Limit word) = false
 is_accepted (Kind word) = false
 is_accepted (Conflict by) = false
+is_accepted NoEarlier = false
 is_accepted (Overflow place path quantity) = false
 is_accepted (Spent place path) = false
 
@@ -63,6 +69,7 @@ accepted good.Silent = Nothing
 accepted good.Done = Done
 accepted good.Frames = Frames
 accepted good.Rows = Rows
+accepted (good.Certificate levels) = Certificate levels
 
 -- the refusal is one that F allows, or what ends the run
 abbrev pub MayRefuse : (Reply → Type 0) → Refusal → Type 0
@@ -72,6 +79,7 @@ MayRefuse F (refusal.Taken name) = F (Taken name)
 MayRefuse F (refusal.Limit word) = F (Limit word)
 MayRefuse F (refusal.Kind word) = F (Kind word)
 MayRefuse F (refusal.Conflict by) = F (Conflict by)
+MayRefuse F refusal.NoEarlier = F NoEarlier
 MayRefuse F (refusal.Overflow place at) = F (Overflow (place_of place) at.path at.quantity)
 MayRefuse F (refusal.Spent place path) = F (Spent (place_of place) path)
 MayRefuse F refusal.OutOfMemory = ⊤
@@ -92,6 +100,7 @@ IsTold F (refusal.Taken name) = F (Taken name)
 IsTold F (refusal.Limit word) = F (Limit word)
 IsTold F (refusal.Kind word) = F (Kind word)
 IsTold F (refusal.Conflict by) = F (Conflict by)
+IsTold F refusal.NoEarlier = F NoEarlier
 IsTold F (refusal.Overflow place at) = F (Overflow (place_of place) at.path at.quantity)
 IsTold F (refusal.Spent place path) = F (Spent (place_of place) path)
 IsTold F refusal.OutOfMemory = ⊥
@@ -107,4 +116,5 @@ IsChange (Ok good.Silent) = ⊥
 IsChange (Ok good.Done) = ⊤
 IsChange (Ok good.Frames) = ⊥
 IsChange (Ok good.Rows) = ⊥
+IsChange (Ok (good.Certificate levels)) = ⊥
 IsChange (Err refusal) = ⊥

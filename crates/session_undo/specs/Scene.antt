@@ -1,5 +1,5 @@
 -- The scene: what a script has said so far, the rows that this stands for, and the values that it has led to.
-use Rattle.std.specs.Prelude.{◌≡◌, ℕ, ◌+◌, ◌*◌, Bool, true, false, List, [], ◌∷◌, ◌++◌, length, cond}
+use Rattle.std.specs.Prelude.{◌≡◌, ℕ, ◌+◌, ◌*◌, Bool, true, false, List, [], ◌∷◌, ◌++◌, length, cond, take}
 use Rattle.std.specs.Prelude.{is_some, map, All}
 use Rattle.frac_core.specs.Fraction.{Fraction}
 use Rattle.name_tables.specs.Names.{names_of, place_of, with_value}
@@ -28,12 +28,16 @@ pub record Scene : Type 0 where
   pub stays : List Stay
   pub values : List (ℕ × Fraction)
 
--- how many views, lines of groups, rows and earlier scenes there may be
+-- how many views, lines of groups and rows there may be
 pub record Limits : Type 0 where
   pub views : ℕ
   pub lines : ℕ
   pub rows : ℕ
-  pub earlier : ℕ
+
+-- a scene, and those before it, the latest first
+pub record History : Type 0 where
+  pub scene : Scene
+  pub earlier : List Scene
 
 -- the scene, those before it, the latest first, how many exchanges each run may make, and the limits
 pub record State : Type 0 where
@@ -41,6 +45,14 @@ pub record State : Type 0 where
   pub earlier : List Scene
   pub budget : ℕ
   pub limits : Limits
+
+-- how many earlier scenes are kept
+abbrev pub EARLIER : ℕ
+EARLIER = 32
+
+-- the earlier scenes, once there is another scene after this one: the oldest of too many is forgotten
+abbrev pub with_earlier : Scene → List Scene → List Scene
+with_earlier scene earlier = take EARLIER (scene ∷ earlier)
 
 abbrev pub problem_of : Scene → Problem
 problem_of scene = record { rows = scene.rows; stays = scene.stays }
@@ -158,7 +170,7 @@ first_scene = record {
 }
 
 abbrev pub first_limits : Limits
-first_limits = record { views = 200; lines = 2000; rows = 2000; earlier = 32 }
+first_limits = record { views = 200; lines = 2000; rows = 2000 }
 
 abbrev pub first_state : State
 first_state = record { scene = first_scene; earlier = []; budget = 100000; limits = first_limits }

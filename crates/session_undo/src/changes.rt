@@ -3,7 +3,7 @@ ghost use Rattle.std.specs.Prelude.{◌≡◌, ◌<◌, ◌^◌, true, false, If
 ghost use Rattle.constraint_compile.specs.Compiled.{IsFittingSum};
 ghost use Rattle.constraint_compile.specs.Fractions.{plus, negated};
 ghost use Rattle.session_undo.specs.Adding.{size_changes};
-ghost use Rattle.session_undo.specs.Machine.{AreTooMany, AreNear, IsNear, parent_name};
+ghost use Rattle.session_undo.specs.Machine.{AreTooMany, parent_name};
 ghost use Rattle.script_text.specs.View.{name_view};
 ghost use Rattle.session_undo.specs.Scene.{metrics_with};
 
@@ -11,7 +11,6 @@ use crate::item::WindowSize;
 use frac_core::{Frac, OutOfMemory};
 use layout_solver::Change;
 use name_tables::{Metrics, NameStop};
-use problem_core::Row;
 
 /// Gives a metric a value, and says whether there was room for it.
 pub fn put_metric(metrics: &mut Metrics, name: &str, value: Frac) -> Result<bool, OutOfMemory>
@@ -70,30 +69,6 @@ pub fn size_changes(first: u32, size: &WindowSize) -> [Change; 2]
             constant: size.height,
         },
     ]
-}
-
-// Whether the row's constant moves by what fits.
-fn is_near(before: &Row, after: &Row) -> bool
-    ensures yes { result ≡ true → IsNear before.now after.now }
-    ensures no { result ≡ false → IsNear before.now after.now → ⊥ }
-{
-    fits_after(before.constant(), after.constant())
-}
-
-/// Whether no constant moves too far.
-pub fn are_near(before: &[Row], after: &[Row]) -> bool
-    ensures yes { result ≡ true → AreNear before.now after.now }
-    ensures no { result ≡ false → AreNear before.now after.now → ⊥ }
-{
-    if after.len() != before.len() {
-        return false;
-    }
-    for place in 0..before.len() {
-        if !is_near(&before[place], &after[place]) {
-            return false;
-        }
-    }
-    true
 }
 
 /// The name of the view that a new one is to stand in: the window where none is named.

@@ -1,12 +1,16 @@
 // What is held, apart from its rows.
-ghost use Rattle.std.specs.Prelude.{◌≡◌, Some, None, IfSome, IfNone};
+ghost use Rattle.std.specs.Prelude.{◌≡◌, ◌∷◌, ◌≤◌, true, false, length, Some, None};
+ghost use Rattle.std.specs.Prelude.{IfSome, IfNone, OnSome, OnOk, OnErr};
 ghost use Rattle.session_undo.specs.Items.{is_line, is_size, line_count, has_size, own_size, size_of};
 ghost use Rattle.session_undo.specs.Items.{sized, resized};
 ghost use Rattle.session_undo.specs.Kept.{item_of, items_of, size_in};
+ghost use Rattle.session_undo.specs.Scene.{EARLIER};
 
+use crate::past::put_item;
 use constraint_compile::{Compiled, Suggestion};
-use frac_core::Frac;
+use frac_core::{Frac, OutOfMemory};
 use name_tables::OwnedName;
+use version_list::VersionList;
 
 /// What a session holds rows for. A view is named by its number, the window's being 0.
 #[derive(Drop)]
@@ -118,27 +122,37 @@ pub fn has_size(items: &[Item]) -> bool
     false
 }
 
-// Gives the item these constants, where it is the window's size.
-fn resize(item: &mut Item, size: &WindowSize)
-    ensures { item_of item.new ≡ sized size.now.width size.now.height (item_of item.old) }
+// The item with these constants, if it is the window's size.
+fn sized(item: &Item, size: &WindowSize) -> Option<Item>
+    ensures some { IfSome result
+        (λ new. item_of new ≡ sized size.now.width size.now.height (item_of item.now)) }
+    ensures own { OnSome result (is_size (item_of item.now) ≡ true) }
+    ensures none { IfNone result (is_size (item_of item.now) ≡ false) }
 {
     match item {
-        Item::Sized { width, height, .. } => {
-            *width = size.width;
-            *height = size.height;
-        }
-        Item::OfWindow | Item::OfView { .. } | Item::OfLine { .. } | Item::Suggested(_) => (),
+        Item::Sized { first, .. } => Some(Item::Sized {
+            first: *first,
+            width: size.width,
+            height: size.height,
+        }),
+        Item::OfWindow | Item::OfView { .. } | Item::OfLine { .. } | Item::Suggested(_) => None,
     }
 }
 
-/// Gives the window these constants in place of those that it has.
-pub fn resize_first(items: &mut [Item], size: &WindowSize)
-    ensures { items_of items.new ≡ resized size.now.width size.now.height (items_of items.old) }
+/// Gives the window these constants in place of those that it has. The items of before are the newest earlier
+/// version. After want of memory all is as before.
+pub fn resize_first(items: &mut VersionList<Item>, size: &WindowSize) -> Result<(), OutOfMemory>
+    requires { length items.old.before ≤ EARLIER }
+    ensures items { OnOk result
+        (items_of items.new.items ≡ resized size.now.width size.now.height (items_of items.old.items)) }
+    ensures before { OnOk result (items.new.before ≡ items.old.items ∷ items.old.before) }
+    ensures same { OnErr result (items.new ≡ items.old) }
 {
+    items.mark();
     for place in 0..items.len() {
-        if is_size(&items[place]) {
-            resize(&mut items[place], size);
-            return;
+        if let Some(new) = sized(items.get(place), size) {
+            return put_item(items, place, new);
         }
     }
+    Ok(())
 }

@@ -1,14 +1,20 @@
 // What leaves a scene: a group of lines, or a view with all below it.
-ghost use Rattle.std.specs.Prelude.{◌≡◌, ◌++◌, ◌<◌, ◌^◌, All, IfOk, nat_eq};
+ghost use Rattle.std.specs.Prelude.{◌≡◌, ◌∷◌, ◌++◌, ◌<◌, ◌≤◌, ◌^◌, length, All, IfOk, OnOk, OnErr, nat_eq};
 ghost use Rattle.std.specs.List.{list_any};
 ghost use Rattle.session_undo.specs.Kept.{item_of, items_of, IsItem};
+ghost use Rattle.session_undo.specs.Kept.{is_leaving};
 ghost use Rattle.session_undo.specs.Leaving.{attributes_in, goes_with, is_in_group, item_numbers, numbers_of};
 ghost use Rattle.session_undo.specs.Leaving.{staying};
+ghost use Rattle.session_undo.specs.Scene.{EARLIER};
 
 use crate::item::Item;
+use crate::past::remove_item;
+use crate::suggesting::is_suggestion;
 use constraint_compile::Compiled;
 use frac_core::OutOfMemory;
+use script_text::AttrWord;
 use std::alloc::Global;
+use version_list::VersionList;
 use view_tree::ViewId;
 
 /// Whether the item is a line of this group.
@@ -74,30 +80,41 @@ pub fn push_numbers(numbers: &mut Vec<u32>, item: &Item) -> Result<(), OutOfMemo
     Ok(())
 }
 
-/// The numbers of the rows of a group's lines.
-pub fn group_numbers(alloc: Global, items: &[Item], name: &[u8]) -> Result<Vec<u32>, OutOfMemory>
-    requires { All IsItem (items_of items.now) }
-    ensures { IfOk result
-        (λ numbers. numbers.items ≡ numbers_of (is_in_group name.now) (items_of items.now)) }
-{
-    let mut numbers = Vec::new(alloc);
-    for item in items {
-        if is_in_group(item, name) {
-            push_numbers(&mut numbers, item)?;
-        }
-    }
-    Ok(numbers)
+/// What leaves.
+#[derive(Clone, Copy, Debug)]
+pub enum Leaver<'a> {
+    /// The lines of a group.
+    Group(&'a [u8]),
+    /// Views, the lines that name one of them, and their suggestions.
+    Views(&'a [u32]),
+    /// The suggestion of an attribute of a view.
+    Suggestion(u32, AttrWord),
 }
 
-/// The numbers of the rows of these views, and of the lines that name one of them.
-pub fn view_numbers(alloc: Global, items: &[Item], gone: &[u32]) -> Result<Vec<u32>, OutOfMemory>
+// Whether the item is one of those that leave.
+fn is_leaving(item: &Item, leaver: Leaver<'_>) -> bool
+    ensures { result ≡ is_leaving leaver.entry (item_of item.now) }
+{
+    match leaver {
+        Leaver::Group(name) => is_in_group(item, name),
+        Leaver::Views(gone) => goes_with(item, gone),
+        Leaver::Suggestion(view, word) => is_suggestion(item, view, word),
+    }
+}
+
+/// The numbers of the rows that leave.
+pub fn leaving_numbers(
+    alloc: Global,
+    items: &[Item],
+    leaver: Leaver<'_>,
+) -> Result<Vec<u32>, OutOfMemory>
     requires { All IsItem (items_of items.now) }
     ensures { IfOk result
-        (λ numbers. numbers.items ≡ numbers_of (goes_with gone.now) (items_of items.now)) }
+        (λ numbers. numbers.items ≡ numbers_of (is_leaving leaver.entry) (items_of items.now)) }
 {
     let mut numbers = Vec::new(alloc);
     for item in items {
-        if goes_with(item, gone) {
+        if is_leaving(item, leaver) {
             push_numbers(&mut numbers, item)?;
         }
     }
@@ -116,16 +133,23 @@ pub fn attributes_in(alloc: Global, gone: &[u32]) -> Result<Vec<u32>, OutOfMemor
     Ok(attrs)
 }
 
-/// Takes out the lines of a group.
-pub fn drop_group(items: &mut Vec<Item>, name: &[u8])
-    ensures { items_of items.new.items ≡ staying (is_in_group name.now) (items_of items.old.items) }
+/// Takes out what leaves. The items of before are the newest earlier version. After want of memory all is as
+/// before.
+pub fn take_leaving_out(
+    items: &mut VersionList<Item>,
+    leaver: Leaver<'_>,
+) -> Result<(), OutOfMemory>
+    requires { length items.old.before ≤ EARLIER }
+    ensures items { OnOk result
+        (items_of items.new.items ≡ staying (is_leaving leaver.entry) (items_of items.old.items)) }
+    ensures before { OnOk result (items.new.before ≡ items.old.items ∷ items.old.before) }
+    ensures same { OnErr result (items.new ≡ items.old) }
 {
-    items.retain(|item| !is_in_group(item, name));
-}
-
-/// Takes out these views, and the lines that name one of them.
-pub fn drop_views(items: &mut Vec<Item>, gone: &[u32])
-    ensures { items_of items.new.items ≡ staying (goes_with gone.now) (items_of items.old.items) }
-{
-    items.retain(|item| !goes_with(item, gone));
+    items.mark();
+    for place in (0..items.len()).rev() {
+        if is_leaving(items.get(place), leaver) {
+            remove_item(items, place)?;
+        }
+    }
+    Ok(())
 }

@@ -2,7 +2,7 @@
 ghost use Rattle.std.specs.Prelude.{◌≡◌};
 ghost use Rattle.session_undo.specs.Adding.{refusal_of, answer_of, IsLeftAnswer, TellsStop};
 
-use cert_core::{Conflict, Path, RunStop, UnfitPath};
+use cert_core::{Best, Conflict, Path, RunStop, UnfitPath};
 use constraint_compile::KindWord;
 use frac_core::OutOfMemory;
 use layout_solver::RemoveStop;
@@ -20,7 +20,13 @@ pub enum Reply {
     Frames,
     /// The problem.
     Rows,
+    /// The problem, its values, and the multipliers that show them to be the best.
+    Certificate(Best),
 }
+
+/// There is no earlier scene.
+#[derive(Clone, Copy, Debug, PartialEq, Eq)]
+pub struct NoEarlier;
 
 /// What had to stop where a quantity doesn't fit or the exchanges are used up.
 #[derive(Debug, Drop)]
@@ -46,6 +52,8 @@ pub enum Refusal {
     Kind(KindWord),
     /// The required rows have no solution, as these multipliers show.
     Conflict(Conflict),
+    /// There is no earlier scene.
+    NoEarlier,
     /// A quantity doesn't fit at the end of this path.
     Overflow { place: StopPlace, at: UnfitPath },
     /// The exchanges are used up.

@@ -1,14 +1,13 @@
 // The rows of what is held.
-ghost use Rattle.std.specs.Prelude.{◌≡◌, ◌++◌, ◌∷◌, ◌<◌, ◌^◌, ◌*◌, ◌+◌, [], All, IfOk, IfErr};
+ghost use Rattle.std.specs.Prelude.{◌≡◌, ◌++◌, ◌∷◌, ◌<◌, ◌^◌, ◌*◌, ◌+◌, [], IfOk};
 ghost use Rattle.problem_core.specs.declared.parts.Rel.TheVariants as rel;
 ghost use Rattle.problem_core.specs.Kept.{IsNumber};
 ghost use Rattle.problem_core.specs.Window.{required_row, structural_rows};
-ghost use Rattle.session_undo.specs.Items.{view_rows, size_rows, AreItemRows, AreRows};
-ghost use Rattle.session_undo.specs.Kept.{item_of, items_of, IsItem, MayLackRows, MayLackItemRows};
+ghost use Rattle.session_undo.specs.Items.{view_rows, size_rows};
 ghost use Rattle.constraint_compile.specs.Compiled.{AreRowsNow, AreSmallForms};
 ghost use Rattle.constraint_compile.specs.Suggestions.{suggested_row, IsSuggestion};
 
-use crate::item::{Item, WindowSize};
+use crate::item::WindowSize;
 use constraint_compile::{CompileStop, Compiled, Suggestion};
 use frac_core::{Frac, OutOfMemory};
 use name_tables::Metrics;
@@ -84,51 +83,6 @@ pub fn suggestion_rows(alloc: Global, suggestion: &Suggestion) -> Result<Vec<Row
 {
     let mut rows = Vec::new(alloc);
     rows.push(suggestion.row(alloc)?)?;
-    Ok(rows)
-}
-
-// The rows of an item, for these metrics.
-fn item_rows(alloc: Global, item: &Item, metrics: &Metrics) -> Result<Vec<Row>, CompileStop>
-    requires { IsItem (item_of item.now) }
-    ensures rows { IfOk result (λ rows. AreItemRows metrics.now (item_of item.now) rows.items) }
-    ensures stop { IfErr result (MayLackItemRows metrics.now (item_of item.now)) }
-{
-    match item {
-        Item::OfWindow => Ok(window_rows(alloc)?),
-        Item::OfView { first, id } => Ok(view_rows(alloc, *first, *id)?),
-        Item::Sized {
-            first,
-            width,
-            height,
-        } => {
-            let size = WindowSize {
-                width: *width,
-                height: *height,
-            };
-            Ok(size_rows(alloc, *first, &size)?)
-        }
-        Item::OfLine { line, .. } => line.rows_now(alloc, metrics),
-        Item::Suggested(suggestion) => Ok(suggestion_rows(alloc, suggestion)?),
-    }
-}
-
-/// The rows of all items, for these metrics. It stops at `Limit(Constant)` where a constant isn't small after
-/// some term.
-pub fn rows_of(alloc: Global, items: &[Item], metrics: &Metrics) -> Result<Vec<Row>, CompileStop>
-    requires { All IsItem (items_of items.now) }
-    ensures rows { IfOk result (λ rows. AreRows metrics.now (items_of items.now) rows.items) }
-    ensures stop { IfErr result (MayLackRows metrics.now (items_of items.now)) }
-{
-    let mut rows = Vec::new(alloc);
-    for item in items {
-        let mut more = match item_rows(alloc, item, metrics) {
-            Ok(more) => more,
-            Err(stop) => return Err(stop),
-        };
-        if rows.append(&mut more).is_err() {
-            return Err(CompileStop::OutOfMemory);
-        }
-    }
     Ok(rows)
 }
 

@@ -2,10 +2,11 @@
 ghost use Rattle.std.specs.Prelude.{◌≡◌, ◌<◌, ◌≤◌, ◌^◌, ◌+◌, ◌++◌, ◌⊎◌, true, false, length, None, IsSome};
 ghost use Rattle.std.specs.Prelude.{Option, Some, ℕ, IfOk, IfErr, IfSome, IfNone, OnOk, OnErr};
 
-use crate::changes::{are_near, fits_after, parent_or_window, put_metric};
+use crate::certifying::values_of;
+use crate::changes::{fits_after, parent_or_window, put_metric};
 use crate::item::WindowSize;
 use crate::limits::{FIRST_LIMITS, Limits};
-use crate::reply::{Refusal, Reply, answer_of, left_answer};
+use crate::reply::{NoEarlier, Refusal, Reply, answer_of, left_answer};
 use crate::rows::small_line_rows;
 use crate::scene::Scene;
 use crate::showing::show_terms;
@@ -15,9 +16,9 @@ use constraint_compile::{
     suggested_constant, suggested_rank,
 };
 use frac_core::{Frac, OutOfMemory};
-use layout_solver::Engine;
+use layout_solver::{Change, Engine};
 use name_tables::{LimitWord, Metrics, NAME_LIMIT, OwnedName};
-use problem_core::{Problem, Row};
+use problem_core::{Problem, Row, Values};
 use script_text::{Align, AttrWord, Command, Linear};
 use span_text::Object;
 use std::alloc::Global;
@@ -69,11 +70,11 @@ struct NewView {
     id: ViewId,
 }
 
-/// Metrics of which one is new or changed, and the rows of what is held for them.
+/// Metrics of which one is new or changed, and the changes to the constants that name it.
 #[derive(Drop)]
 struct NewMetrics {
     metrics: Metrics,
-    rows: Vec<Row>,
+    to: Vec<Change>,
 }
 
 /// A line of a group that is to be held, and its rows.
@@ -97,13 +98,14 @@ impl Session {
     ghost use Rattle.session_undo.specs.Scene.{first_state, with_line, with_window, with_metric};
     ghost use Rattle.session_undo.specs.Scene.{with_suggestion, with_suggested};
     ghost use Rattle.session_undo.specs.Replies.{MayRefuse, Accepting, Refusing, Done, Limit};
+    ghost use Rattle.session_undo.specs.Replies as reply;
     ghost use Rattle.session_undo.specs.Items.{has_size};
     ghost use Rattle.session_undo.specs.Machine.{IsTaken, TriedView, TriedMetric, TriedWindow};
     ghost use Rattle.session_undo.specs.Machine.{TriedConstraint, TriedFormat, TriedBudget, Tried};
     ghost use Rattle.session_undo.specs.Machine.{MeaningStep, Poses, PosesDraft, PosesScene, IsProblemOf};
     ghost use Rattle.session_undo.specs.Machine.{IsCrowded, Keeps, LeavesFree, Solves, SolvesFree};
     ghost use Rattle.session_undo.specs.Machine.{TriedDrop, TriedRelease, TriedRemove, TriedSuggest};
-    ghost use Rattle.session_undo.specs.Machine.{Suggests, UnlessRankless};
+    ghost use Rattle.session_undo.specs.Machine.{Certifies, Suggests, TriedUndo, UnlessRankless};
     ghost use Rattle.session_undo.specs.Adding.{IsFreeSuggestion, IsHeldSuggestion, IsNearSuggestion};
     ghost use Rattle.session_undo.specs.Adding.{IsNextSuggestion, IsSuggestionFor, IsSuggestionOf, SuggestStep};
     ghost use Rattle.constraint_compile.specs.Compiled.{IsFittingSum};
@@ -211,9 +213,9 @@ impl Session {
         answer_of(end)
     }
 
-    // The metrics of which this one is new or has another value, with the rows for them.
+    // The metrics of which this one is new or has another value, with the changes for them.
     fn new_metrics(&self, name: &str, value: Frac) -> Result<NewMetrics, Refusal>
-        ensures made { IfOk result (λ new. IsFreeMetric self.now name.now value new.metrics new.rows.items) }
+        ensures made { IfOk result (λ new. IsFreeMetric self.now name.now value new.metrics new.to.items) }
         ensures refused { Refusing (TriedMetric self.now name.now value NoEnd) self.now result }
     {
         if self.scene.tree().find(name).is_some() {
@@ -226,16 +228,13 @@ impl Session {
         if !put_metric(&mut metrics, name, value)? {
             return Err(Refusal::Limit(LimitWord::Metrics));
         }
-        let rows = match self.scene.rows_for(&metrics) {
-            Ok(rows) => rows,
+        let to = match self.scene.changes_for(&metrics, name) {
+            Ok(to) => to,
             Err(CompileStop::Limit(word)) => return Err(Refusal::Limit(word)),
             Err(CompileStop::OutOfMemory) => return Err(Refusal::OutOfMemory),
             Err(CompileStop::Unknown(_) | CompileStop::Kind(_)) => unreachable!(),
         };
-        if !are_near(self.scene.engine().rows(), &rows) {
-            return Err(Refusal::Limit(LimitWord::Constant));
-        }
-        Ok(NewMetrics { metrics, rows })
+        Ok(NewMetrics { metrics, to })
     }
 
     // A metric is made, or has another value.
@@ -248,7 +247,7 @@ impl Session {
             Ok(new) => new,
             Err(refusal) => return Err(refusal),
         };
-        let end = self.scene.take_metrics(new.metrics, &new.rows, self.budget);
+        let end = self.scene.take_metrics(new.metrics, &new.to, self.budget);
         answer_of(end)
     }
 
@@ -696,6 +695,50 @@ impl Session {
         left_answer(end)
     }
 
+    // A certificate of the scene's values.
+    fn certify(&self) -> Result<Reply, Refusal>
+        ensures accepted { Accepting (Certifies self.now Keeps) self.now result }
+        ensures refused { Refusing (Certifies self.now Keeps) self.now result }
+    {
+        Ok(Reply::Certificate(self.scene.engine().certificate()?))
+    }
+
+    /// Takes the latest earlier scene back, which takes no memory. The budget is as before.
+    pub fn undo(&mut self) -> Result<(), NoEarlier>
+        ensures back { OnOk result (TriedUndo self.old Keeps Done self.new) }
+        ensures none { OnErr result (TriedUndo self.old Keeps reply.NoEarlier self.old) }
+        ensures same { OnErr result (self.new ≡ self.old) }
+    {
+        if !self.scene.has_earlier() {
+            return Err(NoEarlier);
+        }
+        self.scene.back();
+        Ok(())
+    }
+
+    // The answer to `undo`.
+    fn take_back(&mut self) -> Result<Reply, Refusal>
+        ensures accepted { Accepting (TriedUndo self.old Keeps) self.new result }
+        ensures refused { Refusing (TriedUndo self.old Keeps) self.old result }
+        ensures same { OnErr result (self.new ≡ self.old) }
+    {
+        match self.undo() {
+            Ok(()) => Ok(Reply::Done),
+            Err(NoEarlier) => Err(Refusal::NoEarlier),
+        }
+    }
+
+    // The scene's problem, where there is an earlier scene.
+    fn undo_problem(&self) -> Result<Problem, Refusal>
+        ensures posed { IfOk result (λ p. TriedUndo self.now (PosesScene self.now p) Done self.now) }
+        ensures refused { Refusing (TriedUndo self.now NoOther) self.now result }
+    {
+        if !self.scene.has_earlier() {
+            return Err(Refusal::NoEarlier);
+        }
+        Ok(self.scene.problem()?)
+    }
+
     // Each run may make so many exchanges.
     fn set_budget(&mut self, exchanges: u64) -> Result<Reply, Refusal>
         ensures accepted { Accepting (TriedBudget self.old exchanges Keeps) self.new result }
@@ -732,7 +775,7 @@ impl Session {
             Ok(new) => new,
             Err(refusal) => return Err(refusal),
         };
-        Ok(self.scene.metrics_problem(new.rows)?)
+        Ok(self.scene.metrics_problem(&new.to)?)
     }
 
     // The problem with this size of the window.
@@ -885,8 +928,11 @@ impl Session {
                 align,
                 format,
             } => self.format_problem(group, *align, format),
+            Command::Undo => self.undo_problem(),
             Command::Budget { exchanges } => self.budget_problem(*exchanges),
-            Command::Nothing | Command::Frames | Command::Rows => Ok(self.scene.problem()?),
+            Command::Nothing | Command::Frames | Command::Rows | Command::Certify => {
+                Ok(self.scene.problem()?)
+            },
         }
     }
 
@@ -916,15 +962,18 @@ impl Session {
                 align,
                 format,
             } => self.add_format(group, align, &format),
+            Command::Undo => self.take_back(),
             Command::Budget { exchanges } => self.set_budget(exchanges),
             Command::Frames => Ok(Reply::Frames),
             Command::Rows => Ok(Reply::Rows),
+            Command::Certify => self.certify(),
         }
     }
 
     /// The scene.
     pub fn state(&self) -> &Scene
-        ensures { result.now ≡ self.now.scene }
+        ensures scene { result.now.scene ≡ self.now.scene }
+        ensures earlier { result.now.earlier ≡ self.now.earlier }
     {
         &self.scene
     }
@@ -936,6 +985,13 @@ impl Session {
         ensures none { IfNone result (view_of self.now.scene.tree.views view.0 ≡ None) }
     {
         self.scene.frame(view)
+    }
+
+    /// The values of all attributes, by number.
+    pub fn values(&self) -> Result<Values, OutOfMemory>
+        ensures { IfOk result (λ values. values ≡ self.now.scene.values) }
+    {
+        values_of(self.alloc, self.scene.engine())
     }
 
     /// The engine: the problem of the rows of all that is held, and its best values.

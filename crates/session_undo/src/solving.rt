@@ -1,22 +1,17 @@
 // The engine's changes, as a scene tells them.
-ghost use Rattle.std.specs.Prelude.{◌≡◌, ◌<◌, ◌++◌, AllPairs, map, IfOk, IfErr, OnOk, OnErr};
-ghost use Rattle.problem_core.specs.Layout.{Problem};
+ghost use Rattle.std.specs.Prelude.{◌≡◌, ◌<◌, ◌∷◌, ◌++◌, length, AllPairs, IfOk, IfErr, OnOk, OnErr};
 ghost use Rattle.problem_core.specs.Kept.{IsWhole, AreRising};
 ghost use Rattle.cert_core.specs.Paths as paths;
 ghost use Rattle.layout_solver.specs.Begins.{IsRunFrom, IsStopFrom};
-ghost use Rattle.layout_solver.specs.Layouts.{with_added, zeros};
+ghost use Rattle.layout_solver.specs.Layouts.{solution_of, with_added, zeros};
 ghost use Rattle.layout_solver.specs.Removals.{CanLeave, IsRemoveStop, stood, with_removed};
-ghost use Rattle.layout_solver.specs.Shifts.{CanShift, shifted, with_shifts};
+ghost use Rattle.layout_solver.specs.Shifts.{CanShift, with_shifts};
+ghost use Rattle.version_list.specs.declared.TheConstants.{MOST};
 ghost use Rattle.session_undo.specs.Adding.{from_corner, from_shifts, HasRun};
-ghost use Rattle.session_undo.specs.Items.{without_constant};
-ghost use Rattle.session_undo.specs.Machine.{AreNear};
 
-use crate::showing::show_rows;
 use cert_core::RunStop;
-use frac_core::OutOfMemory;
 use layout_solver::{Change, Engine, RemoveStop};
 use problem_core::Row;
-use std::alloc::Global;
 
 /// Takes more attributes and rows, with the stays at the present values, and goes on to the best values.
 pub fn take_more(
@@ -25,6 +20,7 @@ pub fn take_more(
     rows: &[Row],
     budget: u64,
 ) -> Result<(), RunStop>
+    requires room { length engine.old.earlier < MOST }
     requires whole { IsWhole (with_added engine.old attrs.now rows.now) }
     requires rising { AreRising (engine.old.values ++ zeros attrs.now) }
     ensures done { OnOk result (engine.new.problem ≡ with_added engine.old attrs.now rows.now) }
@@ -32,6 +28,7 @@ pub fn take_more(
         × IsRunFrom (from_corner engine.old rows.now) engine.new.problem budget path engine.new.values) }
     ensures stop { IfErr result
         (IsStopFrom (from_corner engine.old rows.now) (with_added engine.old attrs.now rows.now) budget) }
+    ensures earlier { OnOk result (engine.new.earlier ≡ solution_of engine.old ∷ engine.old.earlier) }
     ensures same { OnErr result (engine.new ≡ engine.old) }
 {
     match engine.add(attrs, rows, budget) {
@@ -45,12 +42,14 @@ pub fn take_more(
 
 /// Gives rows other constants, with the stays at the present values, and goes on to the best values.
 pub fn take_constants(engine: &mut Engine, to: &[Change], budget: u64) -> Result<(), RunStop>
+    requires room { length engine.old.earlier < MOST }
     requires held { CanShift engine.old.problem to.now }
     requires rising { AllPairs (λ a b. a.row < b.row) to.now }
     ensures done { OnOk result (engine.new.problem ≡ with_shifts engine.old to.now) }
     ensures run { IfOk result (λ _. (path : paths.Path)
         × IsRunFrom (from_shifts engine.old) engine.new.problem budget path engine.new.values) }
     ensures stop { IfErr result (IsStopFrom (from_shifts engine.old) (with_shifts engine.old to.now) budget) }
+    ensures earlier { OnOk result (engine.new.earlier ≡ solution_of engine.old ∷ engine.old.earlier) }
     ensures same { OnErr result (engine.new ≡ engine.old) }
 {
     match engine.shift(to, budget) {
@@ -69,6 +68,7 @@ pub fn take_out(
     attrs: &[u32],
     budget: u64,
 ) -> Result<(), RemoveStop>
+    requires room { length engine.old.earlier < MOST }
     requires leave { CanLeave (record { rows = rows.now; attrs = attrs.now }) engine.old.problem }
     ensures done { OnOk result
         (engine.new.problem ≡ with_removed engine.old (record { rows = rows.now; attrs = attrs.now })) }
@@ -76,6 +76,7 @@ pub fn take_out(
         (record { rows = rows.now; attrs = attrs.now }) budget) }
     ensures stop { IfErr result (IsRemoveStop (stood engine.old) engine.old.corner
         (record { rows = rows.now; attrs = attrs.now }) budget) }
+    ensures earlier { OnOk result (engine.new.earlier ≡ solution_of engine.old ∷ engine.old.earlier) }
     ensures same { OnErr result (engine.new ≡ engine.old) }
 {
     match engine.remove(rows, attrs, budget) {
@@ -85,32 +86,4 @@ pub fn take_out(
         }
         Err(stop) => Err(stop),
     }
-}
-
-/// The constants that differ between rows which are else alike.
-pub fn changed_constants(
-    alloc: Global,
-    before: &[Row],
-    after: &[Row],
-) -> Result<Vec<Change>, OutOfMemory>
-    requires alike { map without_constant after.now ≡ map without_constant before.now }
-    requires near { AreNear before.now after.now }
-    requires rising { AllPairs (λ r s. r.id < s.id) before.now }
-    ensures rows { IfOk result (λ to. shifted to.items before.now ≡ after.now) }
-    ensures held { IfOk result (λ to. (p : Problem) → p.rows ≡ before.now → CanShift p to.items) }
-    ensures rising { IfOk result (λ to. AllPairs (λ a b. a.row < b.row) to.items) }
-{
-    show_rows(before);
-    show_rows(after);
-    let mut to = Vec::new(alloc);
-    for place in 0..before.len() {
-        let constant = after[place].constant();
-        if before[place].constant() != constant {
-            to.push(Change {
-                row: before[place].id(),
-                constant,
-            })?;
-        }
-    }
-    Ok(to)
 }

@@ -1,18 +1,20 @@
 // The suggestions among what is held.
-ghost use Rattle.std.specs.Prelude.{◌≡◌, All, IfOk};
+ghost use Rattle.std.specs.Prelude.{◌≡◌, ◌∷◌, ◌≤◌, true, false, length};
+ghost use Rattle.std.specs.Prelude.{IfOk, IfSome, IfNone, OnSome, OnOk, OnErr};
 ghost use Rattle.session_undo.specs.Items.{is_suggestion, own_suggestion, suggestion_of, with_constant};
 ghost use Rattle.session_undo.specs.Items.{suggested_again};
-ghost use Rattle.session_undo.specs.Kept.{item_of, items_of, IsItem};
-ghost use Rattle.session_undo.specs.Leaving.{numbers_of, staying};
+ghost use Rattle.session_undo.specs.Kept.{item_of, items_of};
+ghost use Rattle.session_undo.specs.Scene.{EARLIER};
 ghost use Rattle.session_undo.specs.Machine.{suggestion_name};
 
 use crate::item::Item;
-use crate::leaving::push_numbers;
+use crate::past::put_item;
 use constraint_compile::Suggestion;
-use frac_core::{Frac, OutOfMemory};
+use frac_core::OutOfMemory;
 use name_tables::OwnedName;
 use script_text::AttrWord;
 use std::alloc::Global;
+use version_list::VersionList;
 
 /// A suggestion that may be held.
 #[derive(Clone, Copy, Debug)]
@@ -23,8 +25,8 @@ pub enum NewSuggestion {
     Again(Suggestion),
 }
 
-// Whether the item is the suggestion of this attribute of the view.
-fn is_suggestion(item: &Item, view: u32, word: AttrWord) -> bool
+/// Whether the item is the suggestion of this attribute of the view.
+pub fn is_suggestion(item: &Item, view: u32, word: AttrWord) -> bool
     ensures { result ≡ is_suggestion view word (item_of item.now) }
 {
     match item {
@@ -54,53 +56,43 @@ pub fn suggestion_of(items: &[Item], view: u32, word: AttrWord) -> Option<Sugges
     None
 }
 
-// Gives the item this constant, where it is a suggestion.
-fn set_constant(item: &mut Item, constant: Frac)
-    ensures { item_of item.new ≡ with_constant constant (item_of item.old) }
+// The item with this constant, if it is the suggestion of this attribute of the view.
+fn suggested(item: &Item, again: &Suggestion) -> Option<Item>
+    ensures some { IfSome result (λ new. item_of new ≡ with_constant again.now.constant (item_of item.now)) }
+    ensures own { OnSome result (is_suggestion again.now.view again.now.word (item_of item.now) ≡ true) }
+    ensures none { IfNone result (is_suggestion again.now.view again.now.word (item_of item.now) ≡ false) }
 {
     match item {
-        Item::Suggested(held) => held.constant = constant,
-        Item::OfWindow | Item::OfView { .. } | Item::Sized { .. } | Item::OfLine { .. } => (),
+        Item::Suggested(held) if held.view == again.view && held.word == again.word => {
+            Some(Item::Suggested(Suggestion {
+                constant: again.constant,
+                ..*held
+            }))
+        }
+        Item::OfWindow
+        | Item::OfView { .. }
+        | Item::Sized { .. }
+        | Item::OfLine { .. }
+        | Item::Suggested(_) => None,
     }
 }
 
-/// Gives the suggestion of this attribute of the view another constant.
-pub fn suggest_again(items: &mut [Item], view: u32, word: AttrWord, constant: Frac)
-    ensures { items_of items.new ≡ suggested_again view word constant (items_of items.old) }
+/// Gives the suggestion of this attribute of the view another constant. The items of before are the newest
+/// earlier version. After want of memory all is as before.
+pub fn suggest_again(items: &mut VersionList<Item>, again: &Suggestion) -> Result<(), OutOfMemory>
+    requires { length items.old.before ≤ EARLIER }
+    ensures items { OnOk result (items_of items.new.items
+        ≡ suggested_again again.now.view again.now.word again.now.constant (items_of items.old.items)) }
+    ensures before { OnOk result (items.new.before ≡ items.old.items ∷ items.old.before) }
+    ensures same { OnErr result (items.new ≡ items.old) }
 {
+    items.mark();
     for place in 0..items.len() {
-        if is_suggestion(&items[place], view, word) {
-            set_constant(&mut items[place], constant);
-            return;
+        if let Some(new) = suggested(items.get(place), again) {
+            return put_item(items, place, new);
         }
     }
-}
-
-/// The numbers of the rows of the suggestions of this attribute of the view.
-pub fn suggestion_numbers(
-    alloc: Global,
-    items: &[Item],
-    view: u32,
-    word: AttrWord,
-) -> Result<Vec<u32>, OutOfMemory>
-    requires { All IsItem (items_of items.now) }
-    ensures { IfOk result
-        (λ numbers. numbers.items ≡ numbers_of (is_suggestion view word) (items_of items.now)) }
-{
-    let mut numbers = Vec::new(alloc);
-    for item in items {
-        if is_suggestion(item, view, word) {
-            push_numbers(&mut numbers, item)?;
-        }
-    }
-    Ok(numbers)
-}
-
-/// Takes out the suggestions of this attribute of the view.
-pub fn drop_suggestion(items: &mut Vec<Item>, view: u32, word: AttrWord)
-    ensures { items_of items.new.items ≡ staying (is_suggestion view word) (items_of items.old.items) }
-{
-    items.retain(|item| !is_suggestion(item, view, word));
+    Ok(())
 }
 
 /// The name of a suggestion: the view, a point and the attribute.

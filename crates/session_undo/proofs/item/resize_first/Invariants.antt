@@ -1,4 +1,4 @@
-use Rattle.std.proofs.Common.{◌≡◌, ◌≤◌, false, take, length}
+use Rattle.std.proofs.Common.{◌≡◌, ◌≤◌, ◌∷◌, false, take, length}
 use Rattle.session_undo.specs.Items.{has_size}
 use Rattle.session_undo.specs.Kept.{items_of}
 use Rattle.session_undo.proofs.item.resize_first.Given as goal
@@ -6,7 +6,8 @@ use Rattle.session_undo.proofs.item.resize_first.Given as goal
 abbrev pub invariant-loop-place : goal.invariant-loop-place
 invariant-loop-place l = record {
   within : l.place ≤ l.place-end;
-  is_end : l.place-end ≡ length l.items;
-  same : l.items ≡ l.fn.items;
-  none : has_size (items_of (take l.place l.items)) ≡ false;
+  is_end : l.place-end ≡ length l.items.items;
+  same : l.items.items ≡ l.fn.items.items;
+  before : l.items.before ≡ l.fn.items.items ∷ l.fn.items.before;
+  none : has_size (items_of (take l.place l.items.items)) ≡ false;
 }

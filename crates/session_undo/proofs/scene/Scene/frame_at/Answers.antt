@@ -7,7 +7,7 @@ frame_of-requires-clause-small c = view-small c.self.inside.tree c.args.place _ 
 
 pub frame_of-requires-clause-stays : goal.frame_of-requires-clause-stays
 frame_of-requires-clause-stays c =
-    view-stays c.self.inside.engine.problem.stays c.self.inside.tree.views c.args.place _ c.self.invariant.counted.stays (sym c.in-Some.ensures)
+    view-stays c.self.inside.engine.problem.stays c.self.inside.tree.views c.args.place _ c.self.invariant.0.scene.counted.stays (sym c.in-Some.ensures)
 
 pub returns-in-Some-clause-some : goal.returns-in-Some-clause-some
 returns-in-Some-clause-some c = rw (← c.self.view_is) (_, sym c.in-Some.ensures, c.frame_of.ensures)

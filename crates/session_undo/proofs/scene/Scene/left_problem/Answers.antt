@@ -11,8 +11,8 @@ use Rattle.session_undo.proofs.scene.Scene.left_problem.Goals as goal
 pub with_less-requires : goal.with_less-requires
 with_less-requires c =
     let going = rw (← c.self.view_is) at c.requires in
-    rw (c.deref-2.ensures.value, c.deref-3.ensures.value, c.in_ok-rows.ensures, c.in_ok-attrs.ensures, c.deref.ensures.value)
-    (views-can c.self.inside.tree c.self.inside.metrics (items_of c.self.inside.items.items) c.self.inside.next_row c.self.inside.engine c.self.invariant c.show_layout.ensures.layout c.len-count.ensures.tree going.0 c.args.gone.now going.1 going.2)
+    rw (c.deref.ensures.value, c.deref-2.ensures.value, c.in_ok-rows.ensures, c.in_ok-attrs.ensures, c.as_slice.ensures)
+    (views-can c.self.inside.tree c.self.inside.metrics (items_of c.self.inside.items.items) c.self.inside.next_row c.self.inside.engine c.self.invariant.0.scene c.show_layout.ensures.layout c.len-count.ensures.tree going.0 c.args.gone.now going.1 going.2)
 
 pub attributes_in-requires : goal.attributes_in-requires
 attributes_in-requires c =
@@ -25,5 +25,5 @@ returns c =
     rw (← c.self.view_is)
     (ok-map (λ (p : Problem). p ≡ with_removed c.self.inside.engine (record { rows = numbers_of (goes_with c.args.gone.now) (items_of c.self.inside.items.items); attrs = attributes_in c.args.gone.now }))
     (λ (p : Problem). IsProblemOf (without_views (scene_at c.self.inside.tree c.self.inside.metrics (items_of c.self.inside.items.items) c.self.inside.next_row c.self.inside.engine) c.args.gone.now) p) c.with_less.result
-    (λ p made. views-pose c.self.inside.tree c.self.inside.metrics (items_of c.self.inside.items.items) c.self.inside.next_row c.self.inside.engine c.self.invariant c.show_layout.ensures.layout c.len-count.ensures.tree going.0 c.args.gone.now going.1 going.2 p made)
-    (rw (c.deref-2.ensures.value, c.deref-3.ensures.value, c.in_ok-rows.ensures, c.in_ok-attrs.ensures, c.deref.ensures.value) at c.with_less.ensures))
+    (λ p made. views-pose c.self.inside.tree c.self.inside.metrics (items_of c.self.inside.items.items) c.self.inside.next_row c.self.inside.engine c.self.invariant.0.scene c.show_layout.ensures.layout c.len-count.ensures.tree going.0 c.args.gone.now going.1 going.2 p made)
+    (rw (c.deref.ensures.value, c.deref-2.ensures.value, c.in_ok-rows.ensures, c.in_ok-attrs.ensures, c.as_slice.ensures) at c.with_less.ensures))

@@ -17,7 +17,7 @@ use Rattle.session_undo.proofs.scene.Scene.other_size_problem.Goals as goal
 
 pub size_changes-requires : goal.size_changes-requires
 size_changes-requires c =
-    let number = size-number (items_of c.self.inside.items.items) (size_in c.args.held) c.self.invariant.each (rw (← c.self.view_is) at c.requires) in
+    let number = size-number (items_of c.self.inside.items.items) (size_in c.args.held) c.self.invariant.0.scene.each (rw (← c.self.view_is) at c.requires) in
     number.1
 
 pub with_rows-requires : goal.with_rows-requires
@@ -34,4 +34,4 @@ returns c =
     rw (← c.self.view_is)
     (ok-map (λ (p : Problem). p ≡ record { rows = c.in_ok-rows.rows.items; stays = stays_at c.self.inside.engine.values })
     (λ (p : Problem). IsProblemOf (with_window (scene_at c.self.inside.tree c.self.inside.metrics (items_of c.self.inside.items.items) c.self.inside.next_row c.self.inside.engine) c.args.size.now.width c.args.size.now.height) p) c.with_rows.result
-    (λ p made. again-posed c.self.inside.tree c.self.inside.metrics (items_of c.self.inside.items.items) c.self.inside.next_row c.self.inside.engine c.self.invariant c.show_layout.ensures.layout c.args.size.now.width c.args.size.now.height (size_in c.args.held) c.in_ok-rows.rows.items p (rw (← c.self.view_is) at c.requires) are made) c.with_rows.ensures)
+    (λ p made. again-posed c.self.inside.tree c.self.inside.metrics (items_of c.self.inside.items.items) c.self.inside.next_row c.self.inside.engine c.self.invariant.0.scene c.show_layout.ensures.layout c.args.size.now.width c.args.size.now.height (size_in c.args.held) c.in_ok-rows.rows.items p (rw (← c.self.view_is) at c.requires) are made) c.with_rows.ensures)

@@ -11,13 +11,13 @@ use Rattle.session_undo.proofs.scene.Scene.release_problem.Goals as goal
 
 pub with_less-requires : goal.with_less-requires
 with_less-requires c =
-    rw (c.deref-2.ensures.value, c.in_ok-rows.ensures, c.deref.ensures.value)
-    (group-can c.self.inside.tree c.self.inside.metrics (items_of c.self.inside.items.items) c.self.inside.next_row c.self.inside.engine c.self.invariant c.show_layout.ensures.layout (is_suggestion c.args.view.0 c.args.word))
+    rw (c.deref.ensures.value, c.in_ok-rows.ensures, c.as_slice.ensures)
+    (group-can c.self.inside.tree c.self.inside.metrics (items_of c.self.inside.items.items) c.self.inside.next_row c.self.inside.engine c.self.invariant.0.scene c.show_layout.ensures.layout (is_suggestion c.args.view.0 c.args.word))
 
 pub returns : goal.returns
 returns c =
     rw (← c.self.view_is)
     (ok-map (λ (p : Problem). p ≡ with_removed c.self.inside.engine (record { rows = numbers_of (is_suggestion c.args.view.0 c.args.word) (items_of c.self.inside.items.items); attrs = [] }))
     (λ (p : Problem). IsProblemOf (without_suggestion (scene_at c.self.inside.tree c.self.inside.metrics (items_of c.self.inside.items.items) c.self.inside.next_row c.self.inside.engine) c.args.view.0 c.args.word) p) c.with_less.result
-    (λ p made. group-poses c.self.inside.tree c.self.inside.metrics (items_of c.self.inside.items.items) c.self.inside.next_row c.self.inside.engine c.self.invariant c.show_layout.ensures.layout (is_suggestion c.args.view.0 c.args.word) p made)
-    (rw (c.deref-2.ensures.value, c.in_ok-rows.ensures, c.deref.ensures.value) at c.with_less.ensures))
+    (λ p made. group-poses c.self.inside.tree c.self.inside.metrics (items_of c.self.inside.items.items) c.self.inside.next_row c.self.inside.engine c.self.invariant.0.scene c.show_layout.ensures.layout (is_suggestion c.args.view.0 c.args.word) p made)
+    (rw (c.deref.ensures.value, c.in_ok-rows.ensures, c.as_slice.ensures) at c.with_less.ensures))

@@ -1,41 +1,81 @@
-use Rattle.std.proofs.Common.{◌∙◌, ap, drop, length, subst, sym}
-use Rattle.session_undo.specs.Machine.{IsFarSize}
-use Rattle.session_undo.specs.Scene.{Scene}
-use Rattle.session_undo.specs.Kept.{items_of, size_in}
-use Rattle.session_undo.proofs.Lists.{written-back}
+use Rattle.std.proofs.Common.{subst, sym, refl}
+use Rattle.session_undo.specs.Machine.{IsFarSize, IsSolved}
+use Rattle.session_undo.specs.Scene.{History, Scene, with_window}
+use Rattle.session_undo.specs.Kept.{items_of, size_in, IsKept, scene_at}
 use Rattle.session_undo.proofs.Solved.{again-stops, again-solved, again-kept}
 use Rattle.session_undo.proofs.Additions.{counted-shifted}
 use Rattle.session_undo.proofs.Resized.{can-resize, size-number, to_size}
+use Rattle.cert_core.specs.Paths.{Path}
+use Rattle.session_undo.proofs.Histories.{few-items, more-items, more-solutions, next-history, kept-earlier, refused-items, refused-same, unchanged-IsKept, unchanged-AreAlike}
+use Rattle.session_undo.proofs.KeptScenes.{kept-scene}
 use Rattle.session_undo.proofs.scene.Scene.size_again.Goals as goal
 
 pub returns-in-Err-clause-stop : goal.returns-in-Err-clause-stop
 returns-in-Err-clause-stop c =
     rw (← c.self.view_is)
-    (again-stops c.self.inside.tree c.self.inside.metrics (items_of c.self.inside.items.items) c.self.inside.next_row c.self.inside.engine c.self.invariant c.show_layout.ensures.layout
+    (again-stops c.self.inside.tree c.self.inside.metrics (items_of c.self.inside.items.items) c.self.inside.next_row c.self.inside.engine c.self.invariant.0.scene c.show_layout.ensures.layout
     c.args.size.now.width c.args.size.now.height (size_in c.args.held) c.args.budget c.in-Err.stop (rw (← c.self.view_is) at c.requires.some) (rw c.size_changes-to.ensures at c.in-Err.ensures.stop))
-
-pub invariant_of-self-2 : goal.invariant_of-self-2
-invariant_of-self-2 c =
-    let back = written-back c.resize_first.new.items (drop (length c.resize_first.new.items) c.self.inside.items.items) c.self.inside.items.len (c.resize_first.auto.items ∙ c.deref_mut.ensures.len) in
-    again-kept c.self.inside.tree c.self.inside.metrics (items_of c.self.inside.items.items) c.self.inside.next_row c.self.inside.engine c.self.invariant c.show_layout.ensures.layout
-    _ c.take_constants.new.engine c.args.size.now.width c.args.size.now.height (size_in c.args.held) (rw (← c.self.view_is) at c.requires.some) (rw c.size_changes-to.ensures at c.in-Ok.ensures.done) (ap items_of back ∙ (rw c.deref_mut.ensures.value at c.resize_first.ensures))
-    (counted-shifted c.self.inside.tree.views c.self.inside.next_row c.self.inside.engine (to_size c.args.held.first c.args.size.now.width c.args.size.now.height) c.take_constants.new.engine.problem c.show_layout.ensures.best.attributes c.self.invariant.counted (rw c.size_changes-to.ensures at c.in-Ok.ensures.done))
-
-pub returns-clause-solved : goal.returns-clause-solved
-returns-clause-solved c =
-    let back = written-back c.resize_first.new.items (drop (length c.resize_first.new.items) c.self.inside.items.items) c.self.inside.items.len (c.resize_first.auto.items ∙ c.deref_mut.ensures.len) in
-    rw (← c.self.view_is)
-    (again-solved c.self.inside.tree c.self.inside.metrics (items_of c.self.inside.items.items) c.self.inside.next_row c.self.inside.engine c.self.invariant c.show_layout.ensures.layout
-    _ c.take_constants.new.engine c.args.size.now.width c.args.size.now.height (size_in c.args.held) c.args.budget (rw (← c.self.view_is) at c.requires.some) (rw c.size_changes-to.ensures at c.in-Ok.ensures.done) c.show_layout-2.ensures.best c.in-Ok.ensures.run (ap items_of back ∙ (rw c.deref_mut.ensures.value at c.resize_first.ensures)))
 
 pub size_changes-to-requires : goal.size_changes-to-requires
 size_changes-to-requires c =
-    let number = size-number (items_of c.self.inside.items.items) (size_in c.args.held) c.self.invariant.each (rw (← c.self.view_is) at c.requires.some) in
+    let number = size-number (items_of c.self.inside.items.items) (size_in c.args.held) c.self.invariant.0.scene.each (rw (← c.self.view_is) at c.requires.some) in
     number.1
 
 pub take_constants-requires-clause-held : goal.take_constants-requires-clause-held
 take_constants-requires-clause-held c =
     rw c.size_changes-to.ensures
-    (can-resize c.self.inside.metrics (items_of c.self.inside.items.items) c.self.inside.engine.problem c.args.size.now.width c.args.size.now.height (size_in c.args.held) c.self.invariant.are_rows (rw (← c.self.view_is) at c.requires.some)
+    (can-resize c.self.inside.metrics (items_of c.self.inside.items.items) c.self.inside.engine.problem c.args.size.now.width c.args.size.now.height (size_in c.args.held) c.self.invariant.0.scene.are_rows (rw (← c.self.view_is) at c.requires.some)
     c.show_layout.ensures.whole (c.den.ensures.kept.lowest.above, c.den-2.ensures.kept.lowest.above)
-    (subst (λ (s : Scene). IsFarSize s.held c.args.size.now.width c.args.size.now.height → ⊥) (sym c.self.view_is) c.requires.near))
+    (subst (λ (h : History). IsFarSize h.scene.held c.args.size.now.width c.args.size.now.height → ⊥) (sym c.self.view_is) c.requires.near))
+
+pub invariant_of-self-2 : goal.invariant_of-self-2
+invariant_of-self-2 c = (
+  next-history c.self.inside.tree c.self.inside.tree c.self.inside.metrics c.self.inside.metrics c.self.inside.items c.self.inside.next_row c.self.inside.engine c.self.inside.pasts.items c.alike-past.result (rw c.alike-past.ensures refl) (rw c.alike-past.ensures refl) (rw c.alike-past.ensures refl)
+      c.keep.new.items c.self.inside.next_row c.keep.new.engine c.keep.new.pasts.items c.resize_first.new.items.before c.take_constants.new.engine.earlier
+      c.in_ok-resize_first.ensures.before c.in-Ok.ensures.earlier c.keep.ensures.items c.keep.ensures.solutions c.keep.ensures.pasts c.self.invariant.0
+      (subst IsKept (kept-scene c.self.inside.tree c.self.inside.metrics c.resize_first.new.items.items c.keep.new.items.items c.self.inside.next_row c.take_constants.new.engine c.keep.new.engine c.keep.ensures.now c.keep.ensures.solution)
+      (again-kept c.self.inside.tree c.self.inside.metrics (items_of c.self.inside.items.items) c.self.inside.next_row c.self.inside.engine c.self.invariant.0.scene c.show_layout.ensures.layout
+      (items_of c.resize_first.new.items.items) c.take_constants.new.engine c.args.size.now.width c.args.size.now.height (size_in c.args.held) (rw (← c.self.view_is) at c.requires.some) (rw c.size_changes-to.ensures at c.in-Ok.ensures.done) c.in_ok-resize_first.ensures.items
+      (counted-shifted c.self.inside.tree.views c.self.inside.next_row c.self.inside.engine (to_size c.args.held.first c.args.size.now.width c.args.size.now.height) c.take_constants.new.engine.problem c.show_layout.ensures.best.attributes c.self.invariant.0.scene.counted (rw c.size_changes-to.ensures at c.in-Ok.ensures.done)))),
+  c.keep.ensures.alike,
+  rw c.keep.ensures.capacity c.self.invariant.2,
+)
+
+pub returns-clause-earlier : goal.returns-clause-earlier
+returns-clause-earlier c =
+    rw (← c.self.view_is)
+    (kept-earlier c.self.inside.tree c.self.inside.tree c.self.inside.metrics c.self.inside.metrics c.self.inside.items c.self.inside.next_row c.self.inside.engine c.self.inside.pasts.items c.alike-past.result (rw c.alike-past.ensures refl) (rw c.alike-past.ensures refl) (rw c.alike-past.ensures refl)
+    c.resize_first.new.items.before c.keep.new.items.before c.take_constants.new.engine.earlier c.keep.new.engine.earlier c.keep.new.pasts.items
+    c.in_ok-resize_first.ensures.before c.in-Ok.ensures.earlier c.keep.ensures.items c.keep.ensures.solutions c.keep.ensures.pasts)
+
+pub keep-requires : goal.keep-requires
+keep-requires c = record {
+  few = c.self.invariant.1.few;
+  room = c.self.invariant.2;
+  items = more-items c.self.inside.items.before c.self.inside.engine.earlier c.self.inside.pasts.items c.self.invariant.1 c.resize_first.new.items.before c.self.inside.items.items c.in_ok-resize_first.ensures.before;
+  solutions = more-solutions c.self.inside.items.before c.self.inside.engine.earlier c.self.inside.pasts.items c.self.invariant.1 c.take_constants.new.engine.earlier _ c.in-Ok.ensures.earlier;
+}
+
+pub returns-clause-solved : goal.returns-clause-solved
+returns-clause-solved c =
+    rw (← c.self.view_is)
+    (subst (λ (s : Scene). (path : Path) × IsSolved (scene_at c.self.inside.tree c.self.inside.metrics (items_of c.self.inside.items.items) c.self.inside.next_row c.self.inside.engine) (with_window (scene_at c.self.inside.tree c.self.inside.metrics (items_of c.self.inside.items.items) c.self.inside.next_row c.self.inside.engine) c.args.size.now.width c.args.size.now.height) c.args.budget path s)
+    (kept-scene c.self.inside.tree c.self.inside.metrics c.resize_first.new.items.items c.keep.new.items.items c.self.inside.next_row c.take_constants.new.engine c.keep.new.engine c.keep.ensures.now c.keep.ensures.solution)
+    (again-solved c.self.inside.tree c.self.inside.metrics (items_of c.self.inside.items.items) c.self.inside.next_row c.self.inside.engine c.self.invariant.0.scene c.show_layout.ensures.layout
+    (items_of c.resize_first.new.items.items) c.take_constants.new.engine c.args.size.now.width c.args.size.now.height (size_in c.args.held) c.args.budget (rw (← c.self.view_is) at c.requires.some) (rw c.size_changes-to.ensures at c.in-Ok.ensures.done) c.show_layout-2.ensures.best c.in-Ok.ensures.run c.in_ok-resize_first.ensures.items))
+
+pub resize_first-requires : goal.resize_first-requires
+resize_first-requires c = few-items c.self.inside.items.before c.self.inside.engine.earlier c.self.inside.pasts.items c.self.invariant.1
+
+pub invariant_of-self-in-Err : goal.invariant_of-self-in-Err
+invariant_of-self-in-Err c =
+    let same = refused-items c.self.inside.items c.back.new.self c.resize_first.new.items.before c.in_ok-resize_first.ensures.before c.back.ensures.version in (
+      unchanged-IsKept c.self.inside.tree c.self.inside.metrics c.self.inside.items c.back.new.self c.self.inside.next_row c.self.inside.engine c.take_constants.new.engine c.self.inside.pasts.items same c.in-Err.ensures.same c.self.invariant.0,
+      unchanged-AreAlike c.self.inside.tree c.self.inside.metrics c.self.inside.items c.back.new.self c.self.inside.next_row c.self.inside.engine c.take_constants.new.engine c.self.inside.pasts.items same c.in-Err.ensures.same c.self.invariant.1,
+      c.self.invariant.2,
+    )
+
+pub returns-in-Err-clause-same : goal.returns-in-Err-clause-same
+returns-in-Err-clause-same c =
+    rw (← c.self.view_is)
+    (refused-same c.self.inside.tree c.self.inside.metrics c.self.inside.items c.back.new.self c.self.inside.next_row c.self.inside.engine c.take_constants.new.engine c.self.inside.pasts.items c.resize_first.new.items.before c.in_ok-resize_first.ensures.before c.back.ensures.version c.in-Err.ensures.same)

@@ -5,14 +5,14 @@ use Rattle.session_undo.proofs.Resized.{none-held}
 use Rattle.session_undo.proofs.scene.Scene.size_problem.Goals as goal
 
 pub first_size_problem-requires-clause-none : goal.first_size_problem-requires-clause-none
-first_size_problem-requires-clause-none c = rw (← c.self.view_is) (none-held (items_of c.self.inside.items.items) (rw c.deref.ensures.value at c.in-None.ensures.none))
+first_size_problem-requires-clause-none c = rw (← c.self.view_is) (none-held (items_of c.self.inside.items.items) (rw c.as_slice.ensures at c.in-None.ensures.none))
 
 pub first_size_problem-requires-clause-room : goal.first_size_problem-requires-clause-room
 first_size_problem-requires-clause-room c =
-    let none : has_size c.args.self.now.held ≡ false = rw (← c.self.view_is) (none-held (items_of c.self.inside.items.items) (rw c.deref.ensures.value at c.in-None.ensures.none)) in
+    let none : has_size c.args.self.now.scene.held ≡ false = rw (← c.self.view_is) (none-held (items_of c.self.inside.items.items) (rw c.as_slice.ensures at c.in-None.ensures.none)) in
     c.requires.room none
 
 pub first_size_problem-requires-clause-number : goal.first_size_problem-requires-clause-number
 first_size_problem-requires-clause-number c =
-    let none : has_size c.args.self.now.held ≡ false = rw (← c.self.view_is) (none-held (items_of c.self.inside.items.items) (rw c.deref.ensures.value at c.in-None.ensures.none)) in
+    let none : has_size c.args.self.now.scene.held ≡ false = rw (← c.self.view_is) (none-held (items_of c.self.inside.items.items) (rw c.as_slice.ensures at c.in-None.ensures.none)) in
     c.requires.number none

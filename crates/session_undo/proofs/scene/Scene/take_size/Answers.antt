@@ -5,14 +5,14 @@ use Rattle.session_undo.proofs.Resized.{none-held}
 use Rattle.session_undo.proofs.scene.Scene.take_size.Goals as goal
 
 pub size_first-requires-clause-none : goal.size_first-requires-clause-none
-size_first-requires-clause-none c = rw (← c.self.view_is) (none-held (items_of c.self.inside.items.items) (rw c.deref.ensures.value at c.in-None.ensures.none))
+size_first-requires-clause-none c = rw (← c.self.view_is) (none-held (items_of c.self.inside.items.items) (rw c.as_slice.ensures at c.in-None.ensures.none))
 
 pub size_first-requires-clause-room : goal.size_first-requires-clause-room
 size_first-requires-clause-room c =
-    let none : has_size c.args.self.now.held ≡ false = rw (← c.self.view_is) (none-held (items_of c.self.inside.items.items) (rw c.deref.ensures.value at c.in-None.ensures.none)) in
+    let none : has_size c.args.self.now.scene.held ≡ false = rw (← c.self.view_is) (none-held (items_of c.self.inside.items.items) (rw c.as_slice.ensures at c.in-None.ensures.none)) in
     c.requires.room none
 
 pub size_first-requires-clause-number : goal.size_first-requires-clause-number
 size_first-requires-clause-number c =
-    let none : has_size c.args.self.now.held ≡ false = rw (← c.self.view_is) (none-held (items_of c.self.inside.items.items) (rw c.deref.ensures.value at c.in-None.ensures.none)) in
+    let none : has_size c.args.self.now.scene.held ≡ false = rw (← c.self.view_is) (none-held (items_of c.self.inside.items.items) (rw c.as_slice.ensures at c.in-None.ensures.none)) in
     c.requires.number none

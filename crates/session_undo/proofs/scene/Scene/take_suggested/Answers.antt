@@ -1,45 +1,87 @@
-use Rattle.std.proofs.Common.{◌≡◌, ◌∙◌, ap, drop, length, subst, sym}
+use Rattle.std.proofs.Common.{◌≡◌, subst, sym, refl}
 use Rattle.layout_solver.specs.Shifts.{CanShift, with_shifts}
 use Rattle.layout_solver.specs.Begins.{IsStopFrom}
 use Rattle.session_undo.specs.Adding.{IsNearSuggestion, from_shifts}
-use Rattle.session_undo.specs.Scene.{Scene}
-use Rattle.session_undo.specs.Kept.{items_of, scene_at}
-use Rattle.session_undo.proofs.Lists.{written-back}
+use Rattle.session_undo.specs.Scene.{History, Scene, with_suggested}
+use Rattle.session_undo.specs.Kept.{items_of, scene_at, IsKept}
 use Rattle.session_undo.proofs.Additions.{counted-shifted}
 use Rattle.session_undo.proofs.SuggestionItems.{can-suggest, suggested-rising, to_suggested}
 use Rattle.session_undo.proofs.SuggestionScenes.{suggested-kept, suggested-solved, suggested-stops}
+use Rattle.session_undo.specs.Machine.{IsSolved}
+use Rattle.cert_core.specs.Paths.{Path}
+use Rattle.session_undo.proofs.Histories.{few-items, few-solutions, more-items, more-solutions, next-history, kept-earlier, refused-items, refused-same, unchanged-IsKept, unchanged-AreAlike}
+use Rattle.session_undo.proofs.KeptScenes.{kept-scene}
 use Rattle.session_undo.proofs.scene.Scene.take_suggested.Goals as goal
 
 pub returns-in-Err-clause-stop : goal.returns-in-Err-clause-stop
 returns-in-Err-clause-stop c =
-    let near : IsNearSuggestion (scene_at c.self.inside.tree c.self.inside.metrics (items_of c.self.inside.items.items) c.self.inside.next_row c.self.inside.engine) c.args.again = (subst (λ (s : Scene). IsNearSuggestion s c.args.again) (sym c.self.view_is) c.requires) in
+    let near : IsNearSuggestion (scene_at c.self.inside.tree c.self.inside.metrics (items_of c.self.inside.items.items) c.self.inside.next_row c.self.inside.engine) c.args.again = (subst (λ (h : History). IsNearSuggestion h.scene c.args.again) (sym c.self.view_is) c.requires) in
     rw (← c.self.view_is)
-    (suggested-stops c.self.inside.tree c.self.inside.metrics (items_of c.self.inside.items.items) c.self.inside.next_row c.self.inside.engine c.self.invariant c.show_layout.ensures.layout c.args.again.view c.args.again.word c.args.again.constant near.before near.found c.args.budget c.in-Err.stop
+    (suggested-stops c.self.inside.tree c.self.inside.metrics (items_of c.self.inside.items.items) c.self.inside.next_row c.self.inside.engine c.self.invariant.0.scene c.show_layout.ensures.layout c.args.again.view c.args.again.word c.args.again.constant near.before near.found c.args.budget c.in-Err.stop
     (subst (λ n. IsStopFrom (from_shifts c.self.inside.engine) (with_shifts c.self.inside.engine (to_suggested n c.args.again.constant)) c.args.budget c.in-Err.stop) near.row c.in-Err.ensures.stop))
-
-pub invariant_of-self-2 : goal.invariant_of-self-2
-invariant_of-self-2 c =
-    let near : IsNearSuggestion (scene_at c.self.inside.tree c.self.inside.metrics (items_of c.self.inside.items.items) c.self.inside.next_row c.self.inside.engine) c.args.again = (subst (λ (s : Scene). IsNearSuggestion s c.args.again) (sym c.self.view_is) c.requires) in
-    let back = written-back c.suggest_again.new.items (drop (length c.suggest_again.new.items) c.self.inside.items.items) c.self.inside.items.len (c.suggest_again.auto.items ∙ c.deref_mut.ensures.len) in
-    suggested-kept c.self.inside.tree c.self.inside.metrics (items_of c.self.inside.items.items) c.self.inside.next_row c.self.inside.engine c.self.invariant c.show_layout.ensures.layout c.args.again.view c.args.again.word c.args.again.constant near.before near.found
-    _ c.take_constants.new.engine (subst (λ n. c.take_constants.new.engine.problem ≡ with_shifts c.self.inside.engine (to_suggested n c.args.again.constant)) near.row c.in-Ok.ensures.done) (ap items_of back ∙ (rw c.deref_mut.ensures.value at c.suggest_again.ensures))
-    (counted-shifted c.self.inside.tree.views c.self.inside.next_row c.self.inside.engine (to_suggested c.args.again.row c.args.again.constant) c.take_constants.new.engine.problem c.show_layout.ensures.best.attributes c.self.invariant.counted c.in-Ok.ensures.done)
-
-pub returns-clause-solved : goal.returns-clause-solved
-returns-clause-solved c =
-    let near : IsNearSuggestion (scene_at c.self.inside.tree c.self.inside.metrics (items_of c.self.inside.items.items) c.self.inside.next_row c.self.inside.engine) c.args.again = (subst (λ (s : Scene). IsNearSuggestion s c.args.again) (sym c.self.view_is) c.requires) in
-    let back = written-back c.suggest_again.new.items (drop (length c.suggest_again.new.items) c.self.inside.items.items) c.self.inside.items.len (c.suggest_again.auto.items ∙ c.deref_mut.ensures.len) in
-    rw (← c.self.view_is)
-    (suggested-solved c.self.inside.tree c.self.inside.metrics (items_of c.self.inside.items.items) c.self.inside.next_row c.self.inside.engine c.self.invariant c.show_layout.ensures.layout c.args.again.view c.args.again.word c.args.again.constant near.before near.found
-    _ c.take_constants.new.engine c.args.budget (subst (λ n. c.take_constants.new.engine.problem ≡ with_shifts c.self.inside.engine (to_suggested n c.args.again.constant)) near.row c.in-Ok.ensures.done) c.show_layout-2.ensures.best c.in-Ok.ensures.run
-    (ap items_of back ∙ (rw c.deref_mut.ensures.value at c.suggest_again.ensures)))
 
 pub take_constants-requires : goal.take_constants-requires
 take_constants-requires c =
-    let near : IsNearSuggestion (scene_at c.self.inside.tree c.self.inside.metrics (items_of c.self.inside.items.items) c.self.inside.next_row c.self.inside.engine) c.args.again = (subst (λ (s : Scene). IsNearSuggestion s c.args.again) (sym c.self.view_is) c.requires) in
+    let near : IsNearSuggestion (scene_at c.self.inside.tree c.self.inside.metrics (items_of c.self.inside.items.items) c.self.inside.next_row c.self.inside.engine) c.args.again = (subst (λ (h : History). IsNearSuggestion h.scene c.args.again) (sym c.self.view_is) c.requires) in
     record {
+      room = few-solutions c.self.inside.items.before c.self.inside.engine.earlier c.self.inside.pasts.items c.self.invariant.1;
       held = subst (λ n. CanShift c.self.inside.engine.problem (to_suggested n c.args.again.constant)) (sym near.row)
-          (can-suggest c.args.again.view c.args.again.word c.self.inside.metrics (items_of c.self.inside.items.items) c.self.inside.engine.problem c.args.again.constant near.before c.self.invariant.are_rows near.found
+          (can-suggest c.args.again.view c.args.again.word c.self.inside.metrics (items_of c.self.inside.items.items) c.self.inside.engine.problem c.args.again.constant near.before c.self.invariant.0.scene.are_rows near.found
           c.show_layout.ensures.whole c.den-den.ensures.kept.lowest.above near.near);
       rising = suggested-rising c.args.again.row c.args.again.constant;
     }
+
+pub invariant_of-self-2 : goal.invariant_of-self-2
+invariant_of-self-2 c =
+    let near : IsNearSuggestion (scene_at c.self.inside.tree c.self.inside.metrics (items_of c.self.inside.items.items) c.self.inside.next_row c.self.inside.engine) c.args.again = (subst (λ (h : History). IsNearSuggestion h.scene c.args.again) (sym c.self.view_is) c.requires) in (
+      next-history c.self.inside.tree c.self.inside.tree c.self.inside.metrics c.self.inside.metrics c.self.inside.items c.self.inside.next_row c.self.inside.engine c.self.inside.pasts.items c.alike-past.result (rw c.alike-past.ensures refl) (rw c.alike-past.ensures refl) (rw c.alike-past.ensures refl)
+          c.keep.new.items c.self.inside.next_row c.keep.new.engine c.keep.new.pasts.items c.suggest_again.new.items.before c.take_constants.new.engine.earlier
+          c.in_ok-suggest_again.ensures.before c.in-Ok.ensures.earlier c.keep.ensures.items c.keep.ensures.solutions c.keep.ensures.pasts c.self.invariant.0
+          (subst IsKept (kept-scene c.self.inside.tree c.self.inside.metrics c.suggest_again.new.items.items c.keep.new.items.items c.self.inside.next_row c.take_constants.new.engine c.keep.new.engine c.keep.ensures.now c.keep.ensures.solution)
+          (suggested-kept c.self.inside.tree c.self.inside.metrics (items_of c.self.inside.items.items) c.self.inside.next_row c.self.inside.engine c.self.invariant.0.scene c.show_layout.ensures.layout c.args.again.view c.args.again.word c.args.again.constant near.before near.found
+          (items_of c.suggest_again.new.items.items) c.take_constants.new.engine (subst (λ n. c.take_constants.new.engine.problem ≡ with_shifts c.self.inside.engine (to_suggested n c.args.again.constant)) near.row c.in-Ok.ensures.done) c.in_ok-suggest_again.ensures.items
+          (counted-shifted c.self.inside.tree.views c.self.inside.next_row c.self.inside.engine (to_suggested c.args.again.row c.args.again.constant) c.take_constants.new.engine.problem c.show_layout.ensures.best.attributes c.self.invariant.0.scene.counted c.in-Ok.ensures.done))),
+      c.keep.ensures.alike,
+      rw c.keep.ensures.capacity c.self.invariant.2,
+    )
+
+pub returns-clause-earlier : goal.returns-clause-earlier
+returns-clause-earlier c =
+    rw (← c.self.view_is)
+    (kept-earlier c.self.inside.tree c.self.inside.tree c.self.inside.metrics c.self.inside.metrics c.self.inside.items c.self.inside.next_row c.self.inside.engine c.self.inside.pasts.items c.alike-past.result (rw c.alike-past.ensures refl) (rw c.alike-past.ensures refl) (rw c.alike-past.ensures refl)
+    c.suggest_again.new.items.before c.keep.new.items.before c.take_constants.new.engine.earlier c.keep.new.engine.earlier c.keep.new.pasts.items
+    c.in_ok-suggest_again.ensures.before c.in-Ok.ensures.earlier c.keep.ensures.items c.keep.ensures.solutions c.keep.ensures.pasts)
+
+pub keep-requires : goal.keep-requires
+keep-requires c = record {
+  few = c.self.invariant.1.few;
+  room = c.self.invariant.2;
+  items = more-items c.self.inside.items.before c.self.inside.engine.earlier c.self.inside.pasts.items c.self.invariant.1 c.suggest_again.new.items.before c.self.inside.items.items c.in_ok-suggest_again.ensures.before;
+  solutions = more-solutions c.self.inside.items.before c.self.inside.engine.earlier c.self.inside.pasts.items c.self.invariant.1 c.take_constants.new.engine.earlier _ c.in-Ok.ensures.earlier;
+}
+
+pub returns-clause-solved : goal.returns-clause-solved
+returns-clause-solved c =
+    let near : IsNearSuggestion (scene_at c.self.inside.tree c.self.inside.metrics (items_of c.self.inside.items.items) c.self.inside.next_row c.self.inside.engine) c.args.again = (subst (λ (h : History). IsNearSuggestion h.scene c.args.again) (sym c.self.view_is) c.requires) in
+    rw (← c.self.view_is)
+    (subst (λ (s : Scene). (path : Path) × IsSolved (scene_at c.self.inside.tree c.self.inside.metrics (items_of c.self.inside.items.items) c.self.inside.next_row c.self.inside.engine) (with_suggested (scene_at c.self.inside.tree c.self.inside.metrics (items_of c.self.inside.items.items) c.self.inside.next_row c.self.inside.engine) c.args.again.view c.args.again.word c.args.again.constant) c.args.budget path s)
+    (kept-scene c.self.inside.tree c.self.inside.metrics c.suggest_again.new.items.items c.keep.new.items.items c.self.inside.next_row c.take_constants.new.engine c.keep.new.engine c.keep.ensures.now c.keep.ensures.solution)
+    (suggested-solved c.self.inside.tree c.self.inside.metrics (items_of c.self.inside.items.items) c.self.inside.next_row c.self.inside.engine c.self.invariant.0.scene c.show_layout.ensures.layout c.args.again.view c.args.again.word c.args.again.constant near.before near.found
+    (items_of c.suggest_again.new.items.items) c.take_constants.new.engine c.args.budget (subst (λ n. c.take_constants.new.engine.problem ≡ with_shifts c.self.inside.engine (to_suggested n c.args.again.constant)) near.row c.in-Ok.ensures.done) c.show_layout-2.ensures.best c.in-Ok.ensures.run
+    c.in_ok-suggest_again.ensures.items))
+
+pub suggest_again-requires : goal.suggest_again-requires
+suggest_again-requires c = few-items c.self.inside.items.before c.self.inside.engine.earlier c.self.inside.pasts.items c.self.invariant.1
+
+pub invariant_of-self-in-Err : goal.invariant_of-self-in-Err
+invariant_of-self-in-Err c =
+    let same = refused-items c.self.inside.items c.back.new.self c.suggest_again.new.items.before c.in_ok-suggest_again.ensures.before c.back.ensures.version in (
+      unchanged-IsKept c.self.inside.tree c.self.inside.metrics c.self.inside.items c.back.new.self c.self.inside.next_row c.self.inside.engine c.take_constants.new.engine c.self.inside.pasts.items same c.in-Err.ensures.same c.self.invariant.0,
+      unchanged-AreAlike c.self.inside.tree c.self.inside.metrics c.self.inside.items c.back.new.self c.self.inside.next_row c.self.inside.engine c.take_constants.new.engine c.self.inside.pasts.items same c.in-Err.ensures.same c.self.invariant.1,
+      c.self.invariant.2,
+    )
+
+pub returns-in-Err-clause-same : goal.returns-in-Err-clause-same
+returns-in-Err-clause-same c =
+    rw (← c.self.view_is)
+    (refused-same c.self.inside.tree c.self.inside.metrics c.self.inside.items c.back.new.self c.self.inside.next_row c.self.inside.engine c.take_constants.new.engine c.self.inside.pasts.items c.suggest_again.new.items.before c.in_ok-suggest_again.ensures.before c.back.ensures.version c.in-Err.ensures.same)

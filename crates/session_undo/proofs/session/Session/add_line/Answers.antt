@@ -9,7 +9,7 @@ use Rattle.session_undo.proofs.session.Session.add_line.Goals as goal
 pub returns-clause-accepted : goal.returns-clause-accepted
 returns-clause-accepted c =
     let old = (session_at c.self.inside.scene c.self.inside.budget c.self.inside.limits) in
-    rw (c.answer_of.ensures, ← c.self.view_is) (run-accepted (with_line old.scene c.args.new.group c.args.new.line) old c.take_line-end.new.self c.take_line-end.result c.take_line-end.ensures.solved)
+    rw (c.answer_of.ensures, ← c.self.view_is) (run-accepted (with_line old.scene c.args.new.group c.args.new.line) old c.take_line-end.new.self c.take_line-end.result c.take_line-end.ensures.solved c.take_line-end.ensures.earlier)
 
 pub returns-clause-refused : goal.returns-clause-refused
 returns-clause-refused c =

@@ -5,7 +5,7 @@ use Rattle.session_undo.specs.declared.reply.Reply as answer
 use Rattle.session_undo.specs.Machine.{TriedView, SolvesFree}
 use Rattle.session_undo.specs.Adding.{NoEnd, view_draft}
 use Rattle.session_undo.specs.Kept.{session_at}
-use Rattle.session_undo.proofs.Steps.{refuses, free-accepted, free-refused, answer-same}
+use Rattle.session_undo.proofs.Steps.{refuses, free-accepted, free-refused, answer-same, after}
 use Rattle.session_undo.proofs.Chains.{view-causes, view-passed, ok-map, err-map}
 use Rattle.session_undo.proofs.Additions.{room-fits, room-numbers}
 use Rattle.session_undo.proofs.session.Session.add_view.Goals as goal
@@ -19,10 +19,10 @@ pub returns-clause-accepted : goal.returns-clause-accepted
 returns-clause-accepted c =
     let old = (session_at c.self.inside.scene c.self.inside.budget c.self.inside.limits) in
     rw (c.answer_of.ensures, ← c.self.view_is)
-    (ok-map (λ (reply : answer.Reply). SolvesFree old (view_draft old.scene (with_view old.scene.tree c.args.name.now c.in-Ok.new.above.0) c.in-Ok.new.id.0) (accepted reply) (record old { scene = c.take_view-end.new.self }))
-    (λ (reply : answer.Reply). TriedView old c.args.name.now c.args.parent.now (SolvesFree old) (accepted reply) (record old { scene = c.take_view-end.new.self })) _
-    (λ reply end. view-passed old c.args.name.now c.args.parent.now (SolvesFree old) (with_view old.scene.tree c.args.name.now c.in-Ok.new.above.0) c.in-Ok.new.id.0 (accepted reply) (record old { scene = c.take_view-end.new.self }) (rw (← c.self.view_is) at c.in-Ok.ensures.made) end)
-    (free-accepted (view_draft old.scene (with_view old.scene.tree c.args.name.now c.in-Ok.new.above.0) c.in-Ok.new.id.0) old c.take_view-end.new.self c.take_view-end.result c.take_view-end.ensures.solved))
+    (ok-map (λ (reply : answer.Reply). SolvesFree old (view_draft old.scene (with_view old.scene.tree c.args.name.now c.in-Ok.new.above.0) c.in-Ok.new.id.0) (accepted reply) (after old c.take_view-end.new.self))
+    (λ (reply : answer.Reply). TriedView old c.args.name.now c.args.parent.now (SolvesFree old) (accepted reply) (after old c.take_view-end.new.self)) _
+    (λ reply end. view-passed old c.args.name.now c.args.parent.now (SolvesFree old) (with_view old.scene.tree c.args.name.now c.in-Ok.new.above.0) c.in-Ok.new.id.0 (accepted reply) (after old c.take_view-end.new.self) (rw (← c.self.view_is) at c.in-Ok.ensures.made) end)
+    (free-accepted (view_draft old.scene (with_view old.scene.tree c.args.name.now c.in-Ok.new.above.0) c.in-Ok.new.id.0) old c.take_view-end.new.self c.take_view-end.result c.take_view-end.ensures.solved c.take_view-end.ensures.earlier))
 
 pub returns-clause-refused : goal.returns-clause-refused
 returns-clause-refused c =

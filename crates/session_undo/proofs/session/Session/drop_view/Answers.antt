@@ -4,7 +4,7 @@ use Rattle.session_undo.specs.Leaving.{without_views}
 use Rattle.session_undo.specs.Machine.{LeavesFree, TriedDrop}
 use Rattle.session_undo.specs.Adding.{NoEnd}
 use Rattle.session_undo.specs.Kept.{session_at}
-use Rattle.session_undo.proofs.Steps.{refuses}
+use Rattle.session_undo.proofs.Steps.{refuses, after}
 use Rattle.session_undo.proofs.Chains.{ok-map, err-map}
 use Rattle.session_undo.proofs.LeavingSteps.{dropped-causes, dropped-passed, left-accepted, left-refused, left-same}
 use Rattle.session_undo.proofs.session.Session.drop_view.Goals as goal
@@ -18,10 +18,10 @@ pub returns-clause-accepted : goal.returns-clause-accepted
 returns-clause-accepted c =
     let old = (session_at c.self.inside.scene c.self.inside.budget c.self.inside.limits) in
     rw (← c.self.view_is)
-    (ok-map (λ (reply : answer.Reply). LeavesFree old (without_views old.scene c.in-Ok.gone.items) (accepted reply) (record old { scene = c.take_views_out-end.new.self }))
-    (λ (reply : answer.Reply). TriedDrop old c.args.name.now (LeavesFree old) (accepted reply) (record old { scene = c.take_views_out-end.new.self })) _
-    (λ reply end. dropped-passed old c.args.name.now c.in-Ok.gone.items (LeavesFree old) (accepted reply) (record old { scene = c.take_views_out-end.new.self }) (rw (← c.self.view_is) at c.in-Ok.ensures.going) end)
-    (left-accepted (without_views old.scene c.in-Ok.gone.items) old c.take_views_out-end.new.self c.take_views_out-end.result c.left_answer.result c.left_answer.ensures (rw c.deref.ensures.value at c.take_views_out-end.ensures.left)))
+    (ok-map (λ (reply : answer.Reply). LeavesFree old (without_views old.scene c.in-Ok.gone.items) (accepted reply) (after old c.take_views_out-end.new.self))
+    (λ (reply : answer.Reply). TriedDrop old c.args.name.now (LeavesFree old) (accepted reply) (after old c.take_views_out-end.new.self)) _
+    (λ reply end. dropped-passed old c.args.name.now c.in-Ok.gone.items (LeavesFree old) (accepted reply) (after old c.take_views_out-end.new.self) (rw (← c.self.view_is) at c.in-Ok.ensures.going) end)
+    (left-accepted (without_views old.scene c.in-Ok.gone.items) old c.take_views_out-end.new.self c.take_views_out-end.result c.left_answer.result c.left_answer.ensures (rw c.deref.ensures.value at c.take_views_out-end.ensures.left) c.take_views_out-end.ensures.earlier))
 
 pub returns-clause-refused : goal.returns-clause-refused
 returns-clause-refused c =

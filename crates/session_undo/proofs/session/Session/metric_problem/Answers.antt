@@ -9,10 +9,5 @@ returns-clause-posed c =
     let old = (session_at c.self.inside.scene c.self.inside.budget c.self.inside.limits) in
     let free = rw (← c.self.view_is) at c.in-Ok.ensures.made in
     rw (← c.self.view_is)
-    (metric-passed old c.args.name.now c.args.value (PosesDraft c.in_ok-metrics_problem.field-0) c.in-Ok.new.metrics c.in-Ok.new.rows.items Done old free
-    (rw (← c.in_ok-metrics_problem.ensures.rows) at free.are_rows, c.in_ok-metrics_problem.ensures.stays))
-
-pub metrics_problem-requires : goal.metrics_problem-requires
-metrics_problem-requires c =
-    let free = rw (← c.self.view_is) at c.in-Ok.ensures.made in
-    (c.in-Ok.new.metrics, free.are_rows)
+    (metric-passed old c.args.name.now c.args.value (PosesDraft c.in_ok-metrics_problem.field-0) c.in-Ok.new.metrics c.in-Ok.new.to.items Done old free
+    ((rw c.deref.ensures.value at c.in_ok-metrics_problem.ensures) c.in-Ok.new.metrics free.changes))

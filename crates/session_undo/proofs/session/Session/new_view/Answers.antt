@@ -18,9 +18,9 @@ unreachable-requires c =
 
 pub unreachable-requires-in-Err-Unknown : goal.unreachable-requires-in-Err-Unknown
 unreachable-requires-in-Err-Unknown c =
-    let stop : MayStop c.self.inside.scene.tree c.args.name.now c.in-Some.above.0 (Unknown c.in-Err-Unknown.field-0-0) =
+    let stop : MayStop c.self.inside.scene.scene.tree c.args.name.now c.in-Some.above.0 (Unknown c.in-Err-Unknown.field-0-0) =
     rw (c.in-Err-Unknown.field-0-is, c.tree-views.ensures) at c.in-Err-Unknown.ensures.refused in
-    found-live c.self.inside.scene.tree.views c.args.parent.now c.in-Some.above.0 (rw c.tree-views.ensures at c.in-Some.ensures) stop.1
+    found-live c.self.inside.scene.scene.tree.views c.args.parent.now c.in-Some.above.0 (rw c.tree-views.ensures at c.in-Some.ensures) stop.1
 
 pub returns-then-is_crowded-clause-refused : goal.returns-then-is_crowded-clause-refused
 returns-then-is_crowded-clause-refused c =

@@ -4,7 +4,7 @@ use Rattle.session_undo.specs.Leaving.{without_suggestion}
 use Rattle.session_undo.specs.Machine.{LeavesFree, TriedRelease}
 use Rattle.session_undo.specs.Adding.{NoEnd}
 use Rattle.session_undo.specs.Kept.{session_at}
-use Rattle.session_undo.proofs.Steps.{refuses}
+use Rattle.session_undo.proofs.Steps.{refuses, after}
 use Rattle.session_undo.proofs.Chains.{ok-map, err-map}
 use Rattle.session_undo.proofs.LeavingSteps.{left-accepted, left-refused, left-same}
 use Rattle.session_undo.proofs.SuggestionSteps.{release-causes, release-passed}
@@ -19,10 +19,10 @@ pub returns-clause-accepted : goal.returns-clause-accepted
 returns-clause-accepted c =
     let old = (session_at c.self.inside.scene c.self.inside.budget c.self.inside.limits) in
     rw (← c.self.view_is)
-    (ok-map (λ (reply : answer.Reply). LeavesFree old (without_suggestion old.scene c.in-Ok.view.0 c.args.word) (accepted reply) (record old { scene = c.take_suggestion_out-end.new.self }))
-    (λ (reply : answer.Reply). TriedRelease old c.args.name.now c.args.word (LeavesFree old) (accepted reply) (record old { scene = c.take_suggestion_out-end.new.self })) _
-    (λ reply end. release-passed old c.args.name.now c.args.word c.in-Ok.view.0 (LeavesFree old) (accepted reply) (record old { scene = c.take_suggestion_out-end.new.self }) (rw (← c.self.view_is) at c.in-Ok.ensures.held) end)
-    (left-accepted (without_suggestion old.scene c.in-Ok.view.0 c.args.word) old c.take_suggestion_out-end.new.self c.take_suggestion_out-end.result c.left_answer.result c.left_answer.ensures c.take_suggestion_out-end.ensures.left))
+    (ok-map (λ (reply : answer.Reply). LeavesFree old (without_suggestion old.scene c.in-Ok.view.0 c.args.word) (accepted reply) (after old c.take_suggestion_out-end.new.self))
+    (λ (reply : answer.Reply). TriedRelease old c.args.name.now c.args.word (LeavesFree old) (accepted reply) (after old c.take_suggestion_out-end.new.self)) _
+    (λ reply end. release-passed old c.args.name.now c.args.word c.in-Ok.view.0 (LeavesFree old) (accepted reply) (after old c.take_suggestion_out-end.new.self) (rw (← c.self.view_is) at c.in-Ok.ensures.held) end)
+    (left-accepted (without_suggestion old.scene c.in-Ok.view.0 c.args.word) old c.take_suggestion_out-end.new.self c.take_suggestion_out-end.result c.left_answer.result c.left_answer.ensures c.take_suggestion_out-end.ensures.left c.take_suggestion_out-end.ensures.earlier))
 
 pub returns-clause-refused : goal.returns-clause-refused
 returns-clause-refused c =

@@ -4,7 +4,7 @@ use Rattle.session_undo.specs.declared.reply.Reply as answer
 use Rattle.session_undo.specs.Machine.{TriedWindow, Solves}
 use Rattle.session_undo.specs.Scene.{with_window}
 use Rattle.session_undo.specs.Kept.{session_at}
-use Rattle.session_undo.proofs.Steps.{run-accepted, run-refused, answer-same}
+use Rattle.session_undo.proofs.Steps.{run-accepted, run-refused, answer-same, after}
 use Rattle.session_undo.proofs.Chains.{window-causes, window-passed, ok-map, err-map}
 use Rattle.session_undo.proofs.Additions.{room-fits, room-numbers}
 use Rattle.session_undo.proofs.session.Session.resize.Goals as goal
@@ -18,10 +18,10 @@ returns-clause-accepted c =
     let old = (session_at c.self.inside.scene c.self.inside.budget c.self.inside.limits) in
     let free = rw (← c.self.view_is) at c.in_default.ensures.free in
     rw (c.answer_of.ensures, ← c.self.view_is)
-    (ok-map (λ (reply : answer.Reply). Solves old (with_window old.scene c.args.width c.args.height) (accepted reply) (record old { scene = c.take_size-end.new.self }))
-    (λ (reply : answer.Reply). TriedWindow old c.args.width c.args.height (Solves old) (accepted reply) (record old { scene = c.take_size-end.new.self })) _
-    (λ reply end. window-passed old c.args.width c.args.height (Solves old) free.room (accepted reply) (record old { scene = c.take_size-end.new.self }) free.near end)
-    (run-accepted (with_window old.scene c.args.width c.args.height) old c.take_size-end.new.self c.take_size-end.result c.take_size-end.ensures.solved))
+    (ok-map (λ (reply : answer.Reply). Solves old (with_window old.scene c.args.width c.args.height) (accepted reply) (after old c.take_size-end.new.self))
+    (λ (reply : answer.Reply). TriedWindow old c.args.width c.args.height (Solves old) (accepted reply) (after old c.take_size-end.new.self)) _
+    (λ reply end. window-passed old c.args.width c.args.height (Solves old) free.room (accepted reply) (after old c.take_size-end.new.self) free.near end)
+    (run-accepted (with_window old.scene c.args.width c.args.height) old c.take_size-end.new.self c.take_size-end.result c.take_size-end.ensures.solved c.take_size-end.ensures.earlier))
 
 pub returns-clause-refused : goal.returns-clause-refused
 returns-clause-refused c =

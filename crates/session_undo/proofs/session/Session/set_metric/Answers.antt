@@ -3,7 +3,7 @@ use Rattle.session_undo.specs.declared.reply.Reply as answer
 use Rattle.session_undo.specs.Machine.{TriedMetric, Solves}
 use Rattle.session_undo.specs.Adding.{NoEnd, metrics_draft}
 use Rattle.session_undo.specs.Kept.{session_at}
-use Rattle.session_undo.proofs.Steps.{refuses, run-accepted, run-refused, answer-same}
+use Rattle.session_undo.proofs.Steps.{refuses, run-accepted, run-refused, answer-same, after}
 use Rattle.session_undo.proofs.Chains.{metric-causes, metric-passed, ok-map, err-map}
 use Rattle.session_undo.proofs.session.Session.set_metric.Goals as goal
 
@@ -16,17 +16,17 @@ pub returns-clause-accepted : goal.returns-clause-accepted
 returns-clause-accepted c =
     let old = (session_at c.self.inside.scene c.self.inside.budget c.self.inside.limits) in
     rw (c.answer_of.ensures, ← c.self.view_is)
-    (ok-map (λ (reply : answer.Reply). Solves old (metrics_draft old.scene c.in-Ok.new.metrics) (accepted reply) (record old { scene = c.take_metrics-end.new.self }))
-    (λ (reply : answer.Reply). TriedMetric old c.args.name.now c.args.value (Solves old) (accepted reply) (record old { scene = c.take_metrics-end.new.self })) _
-    (λ reply end. metric-passed old c.args.name.now c.args.value (Solves old) c.in-Ok.new.metrics c.in-Ok.new.rows.items (accepted reply) (record old { scene = c.take_metrics-end.new.self }) (rw (← c.self.view_is) at c.in-Ok.ensures.made) end)
-    (run-accepted (metrics_draft old.scene c.in-Ok.new.metrics) old c.take_metrics-end.new.self c.take_metrics-end.result c.take_metrics-end.ensures.solved))
+    (ok-map (λ (reply : answer.Reply). Solves old (metrics_draft old.scene c.in-Ok.new.metrics) (accepted reply) (after old c.take_metrics-end.new.self))
+    (λ (reply : answer.Reply). TriedMetric old c.args.name.now c.args.value (Solves old) (accepted reply) (after old c.take_metrics-end.new.self)) _
+    (λ reply end. metric-passed old c.args.name.now c.args.value (Solves old) c.in-Ok.new.metrics c.in-Ok.new.to.items (accepted reply) (after old c.take_metrics-end.new.self) (rw (← c.self.view_is) at c.in-Ok.ensures.made) end)
+    (run-accepted (metrics_draft old.scene c.in-Ok.new.metrics) old c.take_metrics-end.new.self c.take_metrics-end.result c.take_metrics-end.ensures.solved c.take_metrics-end.ensures.earlier))
 
 pub returns-clause-refused : goal.returns-clause-refused
 returns-clause-refused c =
     let old = (session_at c.self.inside.scene c.self.inside.budget c.self.inside.limits) in
     rw (c.answer_of.ensures, ← c.self.view_is)
     (err-map (λ (reply : Reply). Solves old (metrics_draft old.scene c.in-Ok.new.metrics) reply old) (λ (reply : Reply). TriedMetric old c.args.name.now c.args.value (Solves old) reply old) _
-    (λ reply end. metric-passed old c.args.name.now c.args.value (Solves old) c.in-Ok.new.metrics c.in-Ok.new.rows.items reply old (rw (← c.self.view_is) at c.in-Ok.ensures.made) end)
+    (λ reply end. metric-passed old c.args.name.now c.args.value (Solves old) c.in-Ok.new.metrics c.in-Ok.new.to.items reply old (rw (← c.self.view_is) at c.in-Ok.ensures.made) end)
     (run-refused (metrics_draft old.scene c.in-Ok.new.metrics) old c.take_metrics-end.new.self c.take_metrics-end.result c.take_metrics-end.ensures.stop))
 
 pub returns-clause-same : goal.returns-clause-same
@@ -35,4 +35,4 @@ returns-clause-same c = rw (c.answer_of.ensures, ← c.self.view_is) (answer-sam
 pub take_metrics-end-requires : goal.take_metrics-end-requires
 take_metrics-end-requires c =
     let made = rw (← c.self.view_is) at c.in-Ok.ensures.made in
-    rw c.deref.ensures.value (record { rows = made.are_rows; near = made.near })
+    rw c.deref.ensures.value made.changes

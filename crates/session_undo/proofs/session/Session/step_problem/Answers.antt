@@ -1,5 +1,5 @@
 use Rattle.std.proofs.Common.{List, ℕ, subst}
-use Rattle.std.specs.Prelude.{IfOk, IfErr}
+use Rattle.std.specs.Prelude.{IfOk}
 use Rattle.problem_core.specs.Layout.{Problem}
 use Rattle.script_text.specs.View.{name_view}
 use Rattle.session_undo.specs.Replies.{Done, Refusing}

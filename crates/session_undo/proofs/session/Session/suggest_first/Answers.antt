@@ -9,7 +9,7 @@ use Rattle.session_undo.proofs.session.Session.suggest_first.Goals as goal
 pub returns-clause-accepted : goal.returns-clause-accepted
 returns-clause-accepted c =
     let old = (session_at c.self.inside.scene c.self.inside.budget c.self.inside.limits) in
-    rw (c.answer_of.ensures, ← c.self.view_is) (run-accepted (with_suggestion old.scene c.args.new) old c.take_suggestion-end.new.self c.take_suggestion-end.result c.take_suggestion-end.ensures.solved)
+    rw (c.answer_of.ensures, ← c.self.view_is) (run-accepted (with_suggestion old.scene c.args.new) old c.take_suggestion-end.new.self c.take_suggestion-end.result c.take_suggestion-end.ensures.solved c.take_suggestion-end.ensures.earlier)
 
 pub returns-clause-refused : goal.returns-clause-refused
 returns-clause-refused c =

@@ -6,7 +6,7 @@ use Rattle.session_undo.proofs.session.Session.suggest_later.Goals as goal
 pub returns-clause-accepted : goal.returns-clause-accepted
 returns-clause-accepted c =
     let old = (session_at c.self.inside.scene c.self.inside.budget c.self.inside.limits) in
-    rw (c.answer_of.ensures, ← c.self.view_is) (run-accepted (with_suggested old.scene c.args.again.view c.args.again.word c.args.again.constant) old c.take_suggested-end.new.self c.take_suggested-end.result c.take_suggested-end.ensures.solved)
+    rw (c.answer_of.ensures, ← c.self.view_is) (run-accepted (with_suggested old.scene c.args.again.view c.args.again.word c.args.again.constant) old c.take_suggested-end.new.self c.take_suggested-end.result c.take_suggested-end.ensures.solved c.take_suggested-end.ensures.earlier)
 
 pub returns-clause-refused : goal.returns-clause-refused
 returns-clause-refused c =

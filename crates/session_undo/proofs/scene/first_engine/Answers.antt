@@ -1,0 +1,27 @@
+use Rattle.std.proofs.Common.{◌∙◌, ◌<◌, ap, length, lit<, subst, sym, arith}
+use Rattle.version_list.specs.declared.TheConstants.{MOST}
+use Rattle.layout_solver.specs.Layouts.{Layout, Solution}
+use Rattle.session_undo.proofs.First.{first-forgotten}
+use Rattle.session_undo.proofs.Additions.{first-whole, first-rising}
+use Rattle.session_undo.proofs.scene.first_engine.Goals as goal
+
+pub add-requires : goal.add-requires
+add-requires c =
+    rw c.deref-2.ensures.value
+    (record {
+      room = subst (λ (l : Layout). length l.earlier < MOST) (sym c.in_ok-engine.ensures) (lit< tt);
+      whole = first-whole c.in_ok-engine.engine c.in_ok-rows.rows.items c.in_ok-engine.ensures c.in_ok-rows.ensures (rw c.deref.ensures.value at c.show_rows.ensures);
+      rising = first-rising c.in_ok-engine.engine c.in_ok-engine.ensures;
+    })
+
+pub forget-requires : goal.forget-requires
+forget-requires c = rw c.in-Ok.ensures.earlier (omega arith)
+
+pub returns-clause-problem : goal.returns-clause-problem
+returns-clause-problem c =
+    ap (λ (s : Solution). s.problem) c.forget.ensures.solution
+    ∙ (rw (c.deref-2.ensures.value, c.in_ok-rows.ensures, c.in_ok-engine.ensures) at c.in-Ok.ensures.done)
+
+pub returns-clause-earlier : goal.returns-clause-earlier
+returns-clause-earlier c =
+    first-forgotten c.in_ok-engine.engine c.add.new.self.earlier c.forget.new.self.earlier (ap (λ (l : Layout). l.earlier) c.in_ok-engine.ensures) c.in-Ok.ensures.earlier c.forget.ensures.earlier
