@@ -1,5 +1,7 @@
 -- What a line changes, and that a run leads from best values to best values.
 use Rattle.std.proofs.Common.{◌≡◌, ℕ, Bool, List, [], ◌∷◌, Option, Some, None, sym, subst, inl, inr, ◌⊎◌}
+use Rattle.std.specs.Prelude.{All}
+use Rattle.std.proofs.lemmas.List.Elements.{All-cons, All-head, All-tail, All-take}
 use Rattle.span_text.specs.Objects.{Meant}
 use Rattle.script_text.specs.declared.words.AttrWord.{AttrWord}
 use Rattle.constraint_compile.specs.declared.suggestion.Suggestion.{Suggestion}
@@ -13,11 +15,11 @@ use Rattle.constraint_compile.specs.FormatParts.{parts}
 use Rattle.constraint_compile.specs.FormatStops.{row_count}
 use Rattle.constraint_compile.specs.FormatRows.{IsCompiledFormat, MayStopFormat}
 use Rattle.constraint_compile.specs.declared.stops.CompileStop.{CompileStop}
-use Rattle.session_undo.specs.Scene.{Scene, State, IsBestState}
+use Rattle.session_undo.specs.Scene.{EARLIER, Scene, State, IsBestScene, IsBestState, with_earlier}
 use Rattle.session_undo.specs.Replies.{Reply, Done}
 use Rattle.layout_solver.specs.declared.removing.RemoveStop.{RemoveStop}
 use Rattle.layout_solver.specs.declared.removing.RemoveStop.TheVariants as removal
-use Rattle.session_undo.specs.Machine.{Accepts, LeavesFree, Solves, SolvesFree, Suggests, TellsStill, TriedDrop, TriedRelease, TriedRemove, TriedSuggest, MeaningStep, TriedView, TriedMetric, TriedWindow, TriedLine, TriedBudget, Keeps, parent_name}
+use Rattle.session_undo.specs.Machine.{Accepts, LeavesFree, Solves, SolvesFree, Suggests, TellsStill, TriedDrop, TriedRelease, TriedRemove, TriedSuggest, MeaningStep, TriedView, TriedMetric, TriedWindow, TriedLine, TriedBudget, TriedUndo, Keeps, parent_name}
 use Rattle.layout_cli.specs.Machine.{GrammarStep, Step, Run}
 
 kept : (old new : State) → IsBestState old → new ≡ old → IsBestState new
@@ -27,8 +29,12 @@ kept old new best is = subst IsBestState (sym is) best
 abbrev pub MayChange : State → Reply → State → Type 0
 MayChange old reply new = (new ≡ old) ⊎ ((reply ≡ Done) × (IsBestState old → IsBestState new))
 
+-- the scene before is a best one among the earlier
+best-kept : (old : State) → IsBestState old → All IsBestScene (with_earlier old.scene old.earlier)
+best-kept old best = All-take IsBestScene EARLIER (old.scene ∷ old.earlier) (All-cons IsBestScene old.scene old.earlier best.0 best.1)
+
 accepts-change : (draft : Scene) (old : State) (reply : Reply) (new : State) → Accepts draft old reply new → MayChange old reply new
-accepts-change draft old reply new accepts = inr (accepts.done, λ best. subst IsBestState (sym accepts.kept) (accepts.solved.becomes.best, best.1))
+accepts-change draft old reply new accepts = inr (accepts.done, λ best. subst IsBestState (sym accepts.kept) (accepts.solved.becomes.best, best-kept old best))
 
 solves-free-change : (old : State) (draft : Scene) (reply : Reply) (new : State) → SolvesFree old draft reply new → MayChange old reply new
 solves-free-change old draft reply new (inl accepts) = accepts-change draft old reply new accepts
@@ -46,7 +52,7 @@ still-kept old (removal.Spent path) reply new told = absurd told
 still-kept old removal.OutOfMemory reply new told = absurd told
 
 leaves-change : (old : State) (draft : Scene) (reply : Reply) (new : State) → LeavesFree old draft reply new → MayChange old reply new
-leaves-change old draft reply new (inl leaves) = inr (leaves.done, λ best. subst IsBestState (sym leaves.kept) (leaves.left.becomes.best, best.1))
+leaves-change old draft reply new (inl leaves) = inr (leaves.done, λ best. subst IsBestState (sym leaves.kept) (leaves.left.becomes.best, best-kept old best))
 leaves-change old draft reply new (inr (inl over)) = inl (still-kept old over.stop reply new over.told)
 leaves-change old draft reply new (inr (inr spent)) = inl spent.refused.1
 
@@ -115,6 +121,16 @@ budget-change : (old : State) (n : ℕ) (reply : Reply) (new : State) → TriedB
 budget-change old n reply new (inl x) = inl x.2
 budget-change old n reply new (inr (a, (done, is))) = inr (done, λ best. subst IsBestState (sym is) best)
 
+-- what is left when one of them comes back
+best-back : (old : State) (scene : Scene) (earlier : List Scene) → old.earlier ≡ scene ∷ earlier → IsBestState old → IsBestState (record old { scene = scene; earlier = earlier })
+best-back old scene earlier is best =
+    let all : All IsBestScene (scene ∷ earlier) = subst (λ (scenes : List Scene). All IsBestScene scenes) is best.1 in
+    (All-head IsBestScene scene earlier all, All-tail IsBestScene scene earlier all)
+
+undo-change : (old : State) (reply : Reply) (new : State) → TriedUndo old Keeps reply new → MayChange old reply new
+undo-change old reply new (inl x) = inl x.2
+undo-change old reply new (inr (a, (scene, earlier, is, (done, new_is)))) = inr (done, λ best. subst IsBestState (sym new_is) (best-back old scene earlier is best))
+
 meaning-change : (old : State) (m : Meaning) (reply : Reply) (new : State) → MeaningStep old m reply new → MayChange old reply new
 meaning-change old mean.Nothing reply new step = inl step.1
 meaning-change old (mean.View name parent) reply new step = view-change old name (parent_name parent) reply new step
@@ -126,9 +142,11 @@ meaning-change old (mean.Metric name value) reply new step = metric-change old n
 meaning-change old (mean.Window w h) reply new step = window-change old w h reply new step
 meaning-change old (mean.Constrain group line) reply new step = line-change old group 1 (MayStop old.scene.tree.views old.scene.metrics line old.scene.next_row) (IsCompiled old.scene.tree.views old.scene.metrics line old.scene.next_row) reply new step
 meaning-change old (mean.Vfl group align format) reply new step = line-change old group (row_count old.scene.tree.views (parts format align)) (MayStopFormat old.scene.tree.views old.scene.metrics format align old.scene.next_row) (IsCompiledFormat old.scene.tree.views old.scene.metrics format align old.scene.next_row) reply new step
+meaning-change old mean.Undo reply new step = undo-change old reply new step
 meaning-change old (mean.Budget n) reply new step = budget-change old n reply new step
 meaning-change old mean.Frames reply new step = inl step.1
 meaning-change old mean.Rows reply new step = inl step.1
+meaning-change old mean.Certify reply new (levels, certified, step) = inl step.1
 
 grammar-change : (old : State) (line : List ℕ) (reply : Reply) (new : State) → GrammarStep old line reply new → MayChange old reply new
 grammar-change old line reply new (inl (at, leaves, keeps)) = inl keeps.1

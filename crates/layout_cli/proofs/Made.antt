@@ -1,8 +1,10 @@
 -- The lines of a script that is made: how many, and how many are refused.
 use Rattle.std.proofs.Common.{◌≡◌, ◌∙◌, ◌++◌, ◌+◌, ◌==◌, ◌&&◌, ℕ, Bool, true, false, List, [], ◌∷◌, refl, sym, ap, subst, arith, ne_eqb}
-use Rattle.std.specs.Prelude.{cond}
+use Rattle.std.specs.Prelude.{cond, IfOk, IfErr, OnErr}
+use Rattle.std.specs.declared.result.Result.{Result}
+use Rattle.std.specs.declared.result.Result.TheVariants.{Ok, Err}
 use Rattle.session_undo.specs.Scene.{State}
-use Rattle.session_undo.specs.Replies.{Reply, MayRefuse, accepted, is_accepted, place_of, Outside, Unknown, Taken, Limit, Kind, Conflict, Overflow, Spent}
+use Rattle.session_undo.specs.Replies.{Reply, MayRefuse, accepted, is_accepted, place_of, Outside, Unknown, Taken, Limit, Kind, Conflict, NoEarlier, Overflow, Spent}
 use Rattle.session_undo.specs.declared.reply.Refusal.{Refusal}
 use Rattle.session_undo.specs.declared.reply.Refusal.TheVariants as refusal
 use Rattle.session_undo.specs.declared.reply.Reply as answer
@@ -19,6 +21,7 @@ accepted_count good.Silent = refl
 accepted_count good.Done = refl
 accepted_count good.Frames = refl
 accepted_count good.Rows = refl
+accepted_count (good.Certificate levels) = refl
 
 -- a refusal that is told is one that F allows, and counts 1
 refused_count : (F : Reply → Type 0) (r : Refusal) → (r ≡ refusal.OutOfMemory → ⊥) → MayRefuse F r → (reply : Reply) × F reply × (1 ≡ refusal_count reply)
@@ -28,15 +31,26 @@ refused_count F (refusal.Taken name) told may = (Taken name, may, refl)
 refused_count F (refusal.Limit word) told may = (Limit word, may, refl)
 refused_count F (refusal.Kind word) told may = (Kind word, may, refl)
 refused_count F (refusal.Conflict by) told may = (Conflict by, may, refl)
+refused_count F refusal.NoEarlier told may = (NoEarlier, may, refl)
 refused_count F (refusal.Overflow place at) told may = (Overflow (place_of place) at.path at.quantity, may, refl)
 refused_count F (refusal.Spent place path) told may = (Spent (place_of place) path, may, refl)
 refused_count F refusal.OutOfMemory told may = absurd (told refl)
 
-pub refused_step : (old new : State) (line : List ℕ) (r : Refusal) → (r ≡ refusal.OutOfMemory → ⊥) → MayRefuse (λ reply. Step old line reply old) r → new ≡ old
+refused_step : (old new : State) (line : List ℕ) (r : Refusal) → (r ≡ refusal.OutOfMemory → ⊥) → MayRefuse (λ reply. Step old line reply old) r → new ≡ old
     → (reply : Reply) × Step old line reply new × (1 ≡ refusal_count reply)
 refused_step old new line r told may same =
     let reply = refused_count (λ (reply : Reply). Step old line reply old) r told may in
     (reply.0, subst (λ (s : State). Step old line reply.0 s) (sym same) reply.1, reply.2)
+
+-- what a refusal counts, where it is told
+pub counted_refusal : {E : Type 0} (old new : State) (line : List ℕ) (r : Result answer.Reply Refusal) (refused : Refusal) → r ≡ Err refused → IfErr r (MayRefuse (λ reply. Step old line reply old)) → OnErr r (new ≡ old)
+    → (end : Result ℕ E) → IfOk end (λ count. refused ≡ refusal.OutOfMemory → ⊥) → IfOk end (λ count. count ≡ 1) → IfOk end (λ count. (reply : Reply) × Step old line reply new × (count ≡ refusal_count reply))
+counted_refusal old new line r refused is may same (Ok count) told one =
+    let allowed : MayRefuse (λ reply. Step old line reply old) refused = subst (λ (e : Result answer.Reply Refusal). IfErr e (MayRefuse (λ reply. Step old line reply old))) is may in
+    let kept : new ≡ old = subst (λ (e : Result answer.Reply Refusal). OnErr e (new ≡ old)) is same in
+    let step = refused_step old new line refused told allowed kept in
+    (step.0, step.1, one ∙ step.2)
+counted_refusal old new line r refused is may same (Err stop) told one = tt
 
 -- ---- all lines
 

@@ -12,7 +12,7 @@ use Rattle.session_undo.specs.Machine.{MeaningStep}
 use Rattle.script_text.specs.Meaning.{Meaning}
 use Rattle.script_text.specs.Grammar.{Line, all_words}
 use Rattle.layout_cli.specs.Machine.{Step}
-use Rattle.session_undo.specs.Replies.{Reply, MayRefuse, IsTold, Tells, IsChange, accepted, is_accepted, Nothing, Done, Frames, Rows, Outside, Unknown, Taken, Limit, Kind, Conflict, Overflow, Spent, place_of}
+use Rattle.session_undo.specs.Replies.{Reply, MayRefuse, IsTold, Tells, IsChange, accepted, is_accepted, Nothing, Done, Frames, Rows, Certificate, Outside, Unknown, Taken, Limit, Kind, Conflict, NoEarlier, Overflow, Spent, place_of}
 use Rattle.layout_cli.specs.Replies.{refusal_text, text_of}
 use Rattle.layout_cli.proofs.BestRuns.{step-change, MayChange}
 
@@ -27,6 +27,7 @@ told F old out scene (refusal.Taken name) may is = (Taken name, may, is, refl)
 told F old out scene (refusal.Limit word) may is = (Limit word, may, is, refl)
 told F old out scene (refusal.Kind word) may is = (Kind word, may, is, refl)
 told F old out scene (refusal.Conflict by) may is = (Conflict by, may, is, refl)
+told F old out scene refusal.NoEarlier may is = (NoEarlier, may, is, refl)
 told F old out scene (refusal.Overflow place at) may is = (Overflow (place_of place) at.path at.quantity, may, is, refl)
 told F old out scene (refusal.Spent place path) may is = (Spent (place_of place) path, may, is, refl)
 told F old out scene refusal.OutOfMemory may is = absurd is
@@ -37,6 +38,7 @@ given F old out scene good.Silent may is = (Nothing, may, is, refl)
 given F old out scene good.Done may is = (Done, may, is, refl)
 given F old out scene good.Frames may is = (Frames, may, is, refl)
 given F old out scene good.Rows may is = (Rows, may, is, refl)
+given F old out scene (good.Certificate levels) may is = (Certificate levels, may, is, refl)
 
 -- a line that is read does what it says
 pub step-read : (old : State) (line : List ℕ) (m : Meaning) → length line ≤ 4096 → Line all_words line m → (reply : Reply) (new : State) → MeaningStep old m reply new → Step old line reply new
@@ -52,6 +54,7 @@ told-text old out scene (refusal.Taken name) is = is
 told-text old out scene (refusal.Limit word) is = is
 told-text old out scene (refusal.Kind word) is = is
 told-text old out scene (refusal.Conflict by) is = is
+told-text old out scene refusal.NoEarlier is = is
 told-text old out scene (refusal.Overflow place at) is = is
 told-text old out scene (refusal.Spent place path) is = is
 told-text old out scene refusal.OutOfMemory is = is
@@ -63,6 +66,7 @@ text-told old out scene (refusal.Taken name) is = is
 text-told old out scene (refusal.Limit word) is = is
 text-told old out scene (refusal.Kind word) is = is
 text-told old out scene (refusal.Conflict by) is = is
+text-told old out scene refusal.NoEarlier is = is
 text-told old out scene (refusal.Overflow place at) is = is
 text-told old out scene (refusal.Spent place path) is = is
 text-told old out scene refusal.OutOfMemory is = is
@@ -89,6 +93,7 @@ unchanged old new line (Ok good.Silent) step same never = not-done old Nothing n
 unchanged old new line (Ok good.Done) step same never = absurd (never tt)
 unchanged old new line (Ok good.Frames) step same never = not-done old Frames new refl (step-change old line Frames new step)
 unchanged old new line (Ok good.Rows) step same never = not-done old Rows new refl (step-change old line Rows new step)
+unchanged old new line (Ok (good.Certificate levels)) step same never = not-done old (Certificate levels) new refl (step-change old line (Certificate levels) new step)
 unchanged old new line (Err stop) step same never = same
 
 -- the text of a refusal is that of its reply

@@ -10,14 +10,16 @@ use Rattle.constraint_compile.specs.declared.stops.KindWord.{KindWord}
 use Rattle.constraint_compile.specs.declared.stops.KindWord.TheVariants as kind
 use Rattle.view_tree.specs.Views.{LiveView}
 use Rattle.cert_core.specs.declared.by.By.{By}
+use Rattle.cert_core.specs.Claims.{BestLevel}
 use Rattle.cert_core.specs.Paths.{Path}
 use Rattle.claim_text.specs.Lines.{problem_text}
 use Rattle.claim_text.specs.ClaimLines.{claim_text}
-use Rattle.claim_text.specs.declared.claim.Claim.TheVariants.{IsConflict}
+use Rattle.claim_text.specs.declared.claim.Claim.TheVariants.{IsBest, IsConflict}
 use Rattle.claim_text.specs.PathTexts.{path_text, unfit_text}
 use Rattle.session_undo.specs.Scene.{Scene, problem_of}
 use Rattle.session_undo.specs.Replies.{Reply, Nothing, Done, Frames, Rows, Outside, Unknown, Taken, Limit}
-use Rattle.session_undo.specs.Replies.{Kind, Conflict, Overflow, Spent, Place, Step, Still}
+use Rattle.session_undo.specs.Replies.{Certificate, Kind, Conflict, NoEarlier, Overflow, Spent, Place, Step}
+use Rattle.session_undo.specs.Replies.{Still}
 
 abbrev pub limit_text : LimitWord → List ℕ
 limit_text word.Line = codes "line"
@@ -80,6 +82,12 @@ abbrev pub rows_text : Scene → List ℕ
 rows_text scene = text_of_each names_of scene.tree.views
     ++ (problem_text (problem_of scene) ++ line_of (codes "ok"))
 
+-- the lines of `rows`, the values, and the multipliers of each level
+abbrev pub certificate_text : Scene → List BestLevel → List ℕ
+certificate_text scene levels = text_of_each names_of scene.tree.views
+    ++ (problem_text (problem_of scene)
+    ++ (claim_text (IsBest scene.values levels) ++ line_of (codes "ok")))
+
 -- the multipliers, each on a line `by TIMES row ID`
 abbrev pub conflict_text : List By → List ℕ
 conflict_text by = codes "refused 6 " ++ claim_text (IsConflict by)
@@ -110,12 +118,14 @@ refusal_text Nothing = []
 refusal_text Done = []
 refusal_text Frames = []
 refusal_text Rows = []
+refusal_text (Certificate levels) = []
 refusal_text (Outside at) = codes "refused 1 syntax " ++ (decimal at ++ 10 ∷ [])
 refusal_text (Unknown name) = codes "refused 2 unknown " ++ (name ++ 10 ∷ [])
 refusal_text (Taken name) = codes "refused 3 taken " ++ (name ++ 10 ∷ [])
 refusal_text (Limit word) = codes "refused 4 limit " ++ (limit_text word ++ 10 ∷ [])
 refusal_text (Kind word) = codes "refused 5 kind " ++ (kind_text word ++ 10 ∷ [])
 refusal_text (Conflict by) = conflict_text by
+refusal_text NoEarlier = codes "refused 9 " ++ (codes "undo" ++ 10 ∷ [])
 refusal_text (Overflow place path quantity) = overflow_text place path quantity
 refusal_text (Spent place path) = spent_text place path
 
@@ -125,4 +135,5 @@ text_of scene Nothing = []
 text_of scene Done = line_of (codes "ok")
 text_of scene Frames = frames_text scene
 text_of scene Rows = rows_text scene
+text_of scene (Certificate levels) = certificate_text scene levels
 text_of scene refusal = refusal_text refusal

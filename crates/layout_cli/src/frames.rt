@@ -58,9 +58,9 @@ pub(crate) fn named(frame: &[Frac; 4]) -> Frame
 
 /// Appends the line that shows the frame of the view at a place, if a view is there.
 pub(crate) fn push_at(out: &mut Vec<u8>, scene: &Scene, place: usize) -> Result<(), OutOfMemory>
-    ensures line { IfOk result (λ _. (v : LiveView) → slice_get scene.now.tree.views place ≡ Some v
-        → out.new.items ≡ out.old.items ++ frame_of scene.now.values v) }
-    ensures none { IfOk result (λ _. slice_get scene.now.tree.views place ≡ None
+    ensures line { IfOk result (λ _. (v : LiveView) → slice_get scene.now.scene.tree.views place ≡ Some v
+        → out.new.items ≡ out.old.items ++ frame_of scene.now.scene.values v) }
+    ensures none { IfOk result (λ _. slice_get scene.now.scene.tree.views place ≡ None
         → out.new.items ≡ out.old.items) }
 {
     let Some(view) = scene.tree().at(place) else {
@@ -74,8 +74,8 @@ pub(crate) fn push_at(out: &mut Vec<u8>, scene: &Scene, place: usize) -> Result<
 
 /// Appends the frames of all views.
 pub fn push_frames(out: &mut Vec<u8>, scene: &Scene) -> Result<(), OutOfMemory>
-    ensures { IfOk result (λ _.
-        out.new.items ≡ out.old.items ++ text_of_each (frame_of scene.now.values) scene.now.tree.views) }
+    ensures { IfOk result (λ _. out.new.items
+        ≡ out.old.items ++ text_of_each (frame_of scene.now.scene.values) scene.now.scene.tree.views) }
 {
     for place in 0..scene.tree().len() {
         push_at(out, scene, place)?;

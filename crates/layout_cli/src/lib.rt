@@ -2,9 +2,9 @@
 //! verdict out; or a seed and a number of views in the words, and what a run of the script that is drawn from
 //! them comes to out.
 //!
-//! A script makes views, metrics and constraints, changes the size of the window, and asks for the frames of
-//! the views and for the rows. The values that a frame shows are those of the assignment that is best for the
-//! rows held.
+//! A script makes views, metrics and constraints, changes the size of the window, takes changes back, and asks
+//! for the frames of the views, for the rows, and for the multipliers that show the values to be best. The
+//! values that a frame shows are those of the assignment that is best for the rows held.
 #![tactic(auto)]
 
 mod answers;

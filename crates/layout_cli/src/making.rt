@@ -1,5 +1,5 @@
 // The script that is made, and what a run of it comes to.
-ghost use Rattle.std.specs.Prelude.{◌≡◌, ◌<◌, ◌≤◌, ◌^◌, ◌++◌, IfOk, IsTrue, length, string_bytes};
+ghost use Rattle.std.specs.Prelude.{◌≡◌, ◌<◌, ◌≤◌, ◌^◌, ◌++◌, IfOk, length, string_bytes};
 ghost use Rattle.std.specs.Str.Lines.{lines as lines_in};
 ghost use Rattle.make_script.specs.Script.{script};
 ghost use Rattle.session_undo.specs.Scene.{first_state};
@@ -24,11 +24,15 @@ struct Answered {
     refused: u64,
 }
 
-// Whether a reply tells of the refusal: none tells of want of memory.
-fn is_told(refusal: &Refusal) -> bool
-    ensures { IsTrue result → refusal.now ≡ Refusal.OutOfMemory → ⊥ }
+// Counts a refusal that is told: none tells of want of memory.
+fn told_count(refusal: &Refusal) -> Result<u64, OutOfMemory>
+    ensures told { IfOk result (λ _. refusal.now ≡ Refusal.OutOfMemory → ⊥) }
+    ensures one { IfOk result (λ count. count ≡ 1) }
 {
-    !matches!(refusal, Refusal::OutOfMemory)
+    match refusal {
+        Refusal::OutOfMemory => Err(OutOfMemory),
+        _ => Ok(1),
+    }
 }
 
 // Does what a line says, and counts its refusal where it is refused.
@@ -37,10 +41,10 @@ fn count_refusal(alloc: Global, session: &mut Session, line: &[u8]) -> Result<u6
         × Step session.old line.now answer session.new × (count ≡ refusal_count answer)) }
     ensures small { IfOk result (λ count. count ≤ 1) }
 {
-    match step(alloc, session, line) {
+    let reply = step(alloc, session, line);
+    match &reply {
         Ok(_) => Ok(0),
-        Err(refusal) if is_told(&refusal) => Ok(1),
-        Err(_) => Err(OutOfMemory),
+        Err(refusal) => told_count(refusal),
     }
 }
 

@@ -52,8 +52,8 @@ struct Shown<'a> {
 fn shown_at(scene: &Scene, place: usize) -> Option<Shown<'_>>
     ensures some { IfSome result (λ s.
         frame_line s.name.now s.frame.left s.frame.top s.frame.width s.frame.height
-        ≡ line_at scene.now place) }
-    ensures none { IfNone result ([] ≡ line_at scene.now place) }
+        ≡ line_at scene.now.scene place) }
+    ensures none { IfNone result ([] ≡ line_at scene.now.scene place) }
 {
     let view = scene.tree().at(place)?;
     let frame = scene.frame_at(place)?;
@@ -65,8 +65,9 @@ fn shown_at(scene: &Scene, place: usize) -> Option<Shown<'_>>
 
 // Puts the line that shows the frame of the view at a place, if a view is there.
 fn print_at<K: Sink>(sink: &mut K, scene: &Scene, place: usize) -> Result<(), Failed>
-    ensures ok { OnOk result (Appends (K.held sink.old) (K.held sink.new) (line_at scene.now place)) }
-    ensures err { OnErr result (HasFront (K.held sink.old) (K.held sink.new) (line_at scene.now place)) }
+    ensures ok { OnOk result (Appends (K.held sink.old) (K.held sink.new) (line_at scene.now.scene place)) }
+    ensures err { OnErr result
+        (HasFront (K.held sink.old) (K.held sink.new) (line_at scene.now.scene place)) }
     ensures cause { HasCause (K.faults sink.old) (K.faults sink.new) result }
 {
     match shown_at(scene, place) {

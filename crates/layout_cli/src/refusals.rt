@@ -130,6 +130,7 @@ pub fn push_refusal(refusal: &Refusal, out: &mut Vec<u8>) -> Result<(), OutOfMem
         Refusal::Limit(word) => push_line(out, b"refused 4 limit ", limit_text(*word).as_bytes()),
         Refusal::Kind(word) => push_line(out, b"refused 5 kind ", kind_text(*word).as_bytes()),
         Refusal::Conflict(conflict) => push_conflict(out, conflict),
+        Refusal::NoEarlier => push_line(out, b"refused 9 ", b"undo"),
         Refusal::Overflow { place, at } => push_overflow(out, place, at),
         Refusal::Spent { place, path } => push_spent(out, place, path),
         Refusal::OutOfMemory => Err(OutOfMemory),

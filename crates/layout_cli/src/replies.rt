@@ -2,13 +2,15 @@
 ghost use Rattle.std.specs.Prelude.{◌≡◌, ◌≤◌, ◌+◌, ◌++◌, IfOk, OnOk, IsOk, codes, string_bytes, vec_len};
 ghost use Rattle.std.specs.Prelude.{vec_capacity};
 ghost use Rattle.layout_cli.specs.Replies.{text_of, frames_text, rows_text, names_of, text_of_each, line_of};
+ghost use Rattle.layout_cli.specs.Replies.{certificate_text};
 ghost use Rattle.session_undo.specs.Replies.{accepted, IsChange, Tells};
 ghost use Rattle.session_undo.specs.declared.reply.Reply.TheVariants.{Done};
 
 use crate::frames::push_frames;
 use crate::names::put_names;
 use crate::refusals::push_refusal;
-use claim_text::rows_text;
+use cert_core::Best;
+use claim_text::{best_text, rows_text};
 use frac_core::OutOfMemory;
 use session_undo::{Refusal, Reply, Session};
 
@@ -45,6 +47,16 @@ fn show_rows(session: &Session, out: &mut Vec<u8>) -> Result<(), OutOfMemory>
     push_ok(out)
 }
 
+fn show_certificate(session: &Session, best: &Best, out: &mut Vec<u8>) -> Result<(), OutOfMemory>
+    ensures { IfOk result (λ _. out.new.items
+        ≡ out.old.items ++ certificate_text session.now.scene best.now) }
+{
+    push_names(session, out)?;
+    rows_text(session.engine().rows(), session.engine().stays(), out)?;
+    best_text(&session.values()?, best, out)?;
+    push_ok(out)
+}
+
 // Appends the text of the reply to an accepted line.
 fn push_reply(session: &Session, reply: &Reply, out: &mut Vec<u8>) -> Result<(), OutOfMemory>
     ensures text { IfOk result (λ _. out.new.items
@@ -56,6 +68,7 @@ fn push_reply(session: &Session, reply: &Reply, out: &mut Vec<u8>) -> Result<(),
         Reply::Done => push_ok(out),
         Reply::Frames => show_frames(session, out),
         Reply::Rows => show_rows(session, out),
+        Reply::Certificate(best) => show_certificate(session, best, out),
     }
 }
 

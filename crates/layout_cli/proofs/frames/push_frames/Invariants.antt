@@ -5,6 +5,6 @@ use Rattle.layout_cli.proofs.frames.push_frames.Given as goal
 abbrev pub invariant-loop-place : goal.invariant-loop-place
 invariant-loop-place l = record {
   within : l.place ≤ l.place-end;
-  is_end : l.place-end ≡ length l.scene.tree.views;
-  text : l.out.items ≡ l.fn.out.items ++ text_of_each (frame_of l.scene.values) (take l.place l.scene.tree.views);
+  is_end : l.place-end ≡ length l.scene.scene.tree.views;
+  text : l.out.items ≡ l.fn.out.items ++ text_of_each (frame_of l.scene.scene.values) (take l.place l.scene.scene.tree.views);
 }

@@ -6,7 +6,7 @@ use Rattle.layout_cli.proofs.printing.print_frames.Given as goal
 abbrev pub invariant-loop-place : goal.invariant-loop-place
 invariant-loop-place g l = record {
   within : l.place ≤ l.place-end;
-  is_end : l.place-end ≡ length l.scene.tree.views;
-  written : Appends (g.K.Sink.held l.fn.sink) (g.K.Sink.held l.sink) (text_of_each (frame_of l.scene.values) (take l.place l.scene.tree.views));
+  is_end : l.place-end ≡ length l.scene.scene.tree.views;
+  written : Appends (g.K.Sink.held l.fn.sink) (g.K.Sink.held l.sink) (text_of_each (frame_of l.scene.scene.values) (take l.place l.scene.scene.tree.views));
   later : g.K.Sink.faults l.fn.sink ≤ g.K.Sink.faults l.sink;
 }
