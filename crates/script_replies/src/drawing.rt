@@ -59,7 +59,7 @@ fn judged(
         return Ok(Some(Vec::new(alloc)));
     };
     let text = text_of(alloc, session, &reply)?;
-    verdict_on(alloc, &problem, &text)
+    verdict_on(alloc, &problem, &reply, &text)
 }
 
 // Appends the line where the verdict is another than yes, and says whether it is yes.

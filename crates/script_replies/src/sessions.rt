@@ -4,7 +4,7 @@
 //
 // - `problem LINE`: the problem that the line would solve;
 // - `judged LINE`: what the line is answered, how a path of its refusal stands to that problem, and what the
-//   word `check` says of a conflict;
+//   word `check` says of a conflict or a certificate;
 // - `print ROOM`: the frames, put into a sink with so much room;
 // - `draw SEED COUNT`: the same as `judged`, counted over so many drawn lines.
 use crate::drawing::put_drawn;
@@ -97,7 +97,7 @@ fn put_judged(
     let text = text_of(alloc, session, &reply)?;
     put_text(out, &text)?;
     put_stop(out, &problem, &reply)?;
-    match verdict_on(alloc, &problem, &text)? {
+    match verdict_on(alloc, &problem, &reply, &text)? {
         Some(verdict) => put_text(out, &verdict),
         None => Ok(()),
     }

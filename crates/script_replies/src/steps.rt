@@ -1,4 +1,4 @@
-// Steps of a session, and what the word `check` says of the conflicts that they end in.
+// Steps of a session, and what the word `check` says of the conflicts that they end in and of certificates.
 use crate::runs::verdict_of;
 use case_text::put_text;
 use claim_text::problem_text;
@@ -57,20 +57,22 @@ pub fn text_of_problem(alloc: Global, problem: &Problem) -> Result<Vec<u8>, OutO
     Ok(text)
 }
 
-/// What the word `check` says of the multipliers that a reply prints, where it prints any, beside the problem
-/// that its line would solve.
+/// What the word `check` says of the multipliers that a reply prints, where it prints any: of a certificate as
+/// it stands, of a conflict beside the problem that its line would solve.
 pub fn verdict_on(
     alloc: Global,
     problem: &Problem,
-    reply: &[u8],
+    reply: &Result<Reply, Refusal>,
+    text: &[u8],
 ) -> Result<Option<Vec<u8>>, OutOfMemory> {
-    match reply.strip_prefix(b"refused 6 ") {
-        Some(claim) => {
-            let mut text = text_of_problem(alloc, problem)?;
-            text.extend_from_slice(claim)?;
-            Ok(Some(verdict_of(alloc, text)?))
+    match reply {
+        Ok(Reply::Certificate(_)) => Ok(Some(verdict_of(alloc, text.to_vec(alloc)?)?)),
+        Err(Refusal::Conflict(_)) => {
+            let mut input = text_of_problem(alloc, problem)?;
+            input.extend_from_slice(text.strip_prefix(b"refused 6 ").unwrap_or(text))?;
+            Ok(Some(verdict_of(alloc, input)?))
         }
-        None => Ok(None),
+        _ => Ok(None),
     }
 }
 
