@@ -1,7 +1,7 @@
 -- A sum carried over an exchange.
-use Rattle.std.proofs.Common.{◌≡◌, ◌≢◌, ◌∙◌, ℕ, ◌*◌, ◌<◌, Bool, cond, List, get_or, length, ℤ, pos, ◌+ℤ◌, ◌*ℤ◌, neg_ℤ, unsigned_abs, refl, sym, ap, arith, eq-eqb, ne_eqb}
+use Rattle.std.proofs.Common.{◌≡◌, ◌≢◌, ◌∙◌, ℕ, ◌*◌, ◌<◌, Bool, cond, List, get_or, length, ℤ, pos, ◌+ℤ◌, ◌*ℤ◌, neg_ℤ, unsigned_abs, refl, sym, ap, arith, mul-pos, eq-eqb, ne_eqb}
 use Rattle.std.proofs.lemmas.List.Elements.{recursion_from_All}
-use Rattle.frac_core.specs.Fraction.{Fraction}
+use Rattle.frac_core.specs.Fraction.{Fraction, sum_num}
 use Rattle.std.proofs.Math.IntN.{*ℤ_comm}
 use Rattle.frac_core.proofs.Integers.{mul-opposite, mul-zero_ℤ}
 use Rattle.problem_core.specs.declared.parts.Side.{Side}
@@ -9,7 +9,9 @@ use Rattle.problem_core.specs.declared.parts.Side.TheVariants.{Under}
 use Rattle.problem_core.specs.declared.parts.RowName.{RowName}
 use Rattle.problem_core.specs.declared.parts.Mark.{Mark}
 use Rattle.problem_core.specs.Layout.{Problem, lines}
-use Rattle.problem_core.specs.Corners.{Swap, exchanged, place_of}
+use Rattle.problem_core.specs.Corners.{IsIn, Swap, exchanged, place, place_of}
+use Rattle.problem_core.specs.Kept.{IsWhole}
+use Rattle.corner_laws.specs.Laws.{IsMarkAt}
 use Rattle.corner_laws.proofs.Unique.{same-name}
 use Rattle.corner_lines.specs.LineEquations.{IsLineEquation, IsLineSum, deviation, sign_of}
 use Rattle.corner_lines.proofs.LineWritings.{Named, at-name, mark-named, none-inside}
@@ -47,6 +49,20 @@ exchanged_row p at s size by pivot out enters count is combined = record {
 
 pub line_sum : (p : Problem) (at : List Mark) (quantity : (ℕ → ℤ) → ℤ) (own : ℕ) (by : RowName → ℤ) (num : ℤ) (den : ℕ) → IsLineEquation p at quantity own by num den → IsLineSum p at quantity own by num den
 line_sum p at quantity own by num den e = record { own_positive = e.own_positive; den_positive = e.den_positive; outside = e.outside; holds = e.holds }
+
+parts_product : (a b c : ℕ) → pos (a * (b * c)) ≡ pos a *ℤ (pos b *ℤ pos c)
+parts_product a b c = refl
+
+pub carried_line_sum : (p : Problem) (at : List Mark) (s : Swap) (quantity : (ℕ → ℤ) → ℤ) (own size : ℕ) (by pivot out : List ℤ) (value enters : Fraction) → IsWhole p → IsMarkAt p (place s.enter) → IsIn (place s.leave) at → length by ≡ line_count p
+    → 0 < value.den → 0 < enters.den → 0 < own → IsLineSum p at quantity own (numbers_of (lines p) by) value.num value.den → IsPivotOf p at s size pivot enters
+    → IsCombined (pos size) by (numbers_of (lines p) by s.enter.row) pivot out
+    → IsLineSum p (exchanged s at) quantity (size * own) (numbers_of (lines p) out) (sum_num value (numbers_of (lines p) by s.enter.row) (pos own) enters) (value.den * (own * enters.den))
+carried_line_sum p at s quantity own size by pivot out value enters whole mark leaves count den enters_den some sum is combined =
+    carried p at s quantity whole mark leaves own (numbers_of (lines p) by) value size (without s.enter.row (numbers_of (lines p) pivot)) enters (numbers_of (lines p) out)
+    (sum_num value (numbers_of (lines p) by s.enter.row) (pos own) enters) (value.den * (own * enters.den)) sum
+    (line_sum p (exchanged s at) (deviation s.enter.row) size (without s.enter.row (numbers_of (lines p) pivot)) enters.num enters.den is.equation)
+    (exchanged_row p at s size by pivot out enters count is combined) (mul-pos den (mul-pos some enters_den))
+    (ap (λ (z : ℤ). sum_num value (numbers_of (lines p) by s.enter.row) (pos own) enters *ℤ z) (sym (parts_product value.den own enters.den)))
 
 pub carried_is_equation : CarriedIsEquation
 carried_is_equation p at s quantity own size by pivot out part low value enters next whole mark leaves count sum is combined are some den ratio =

@@ -1,5 +1,5 @@
 -- The entering line's equation, from the pivot.
-use Rattle.std.proofs.Common.{◌≡◌, ◌≢◌, ◌∙◌, ℕ, zero, suc, ◌+◌, ◌<◌, List, [], ◌∷◌, map, length, get_or, ℤ, pos, ◌-ℤ◌, ◌*ℤ◌, refl, sym, ap, arith, All, inl, inr}
+use Rattle.std.proofs.Common.{◌≡◌, ◌≢◌, ◌∙◌, ℕ, zero, suc, ◌<◌, List, [], ◌∷◌, map, length, get_or, ℤ, pos, ◌-ℤ◌, ◌*ℤ◌, refl, sym, ap, arith, All, inl, inr}
 use borrow.Author.Differences.{ints}
 use Rattle.std.proofs.lemmas.Bool.{cases_lt}
 use Rattle.std.proofs.lemmas.List.Elements.{All-from_recursion, recursion_from_All}
@@ -12,13 +12,13 @@ use Rattle.problem_core.specs.declared.parts.RowName.TheVariants.{Held}
 use Rattle.problem_core.specs.declared.parts.Mark.{Mark}
 use Rattle.problem_core.specs.Layout.{Line, Problem, lines, sum_of}
 use Rattle.problem_core.specs.Kept.{IsWhole}
-use Rattle.problem_core.specs.Corners.{exchanged, place_of}
+use Rattle.problem_core.specs.Corners.{Swap, exchanged, place_of}
 use Rattle.corner_laws.proofs.LinePlaces.{AllApart, AreApart, lines_apart, sum-each}
 use Rattle.corner_lines.specs.LineEquations.{IsLineSum, deviation}
 use Rattle.corner_lines.proofs.LineUnfits.{reduced_line}
 use Rattle.path_checker.specs.Numbers.{IsReplaced, number_at}
 use Rattle.path_checker.specs.Tables.{line_count, name_at, numbers_of}
-use Rattle.path_checker.specs.Carried.{EnteringIsEquation, without}
+use Rattle.path_checker.specs.Carried.{EnteringIsEquation, IsPivotOf, without}
 use Rattle.path_checker.proofs.NumbersOf.{number_here, number_later, reduced_numbers}
 use Rattle.path_checker.proofs.CarriedSums.{line_sum, without_here, without_other}
 
@@ -31,7 +31,7 @@ at_place (l ∷ ls) (z ∷ zs) zero d apart count within = number_here l ls z zs
 at_place (l ∷ ls) (z ∷ zs) (suc k) d apart count within =
     number_later l (get_or ls k d) ls z zs (All-from_recursion (AreApart l) ls apart.0 k d (omega (arith, within))) ∙ at_place ls zs k d apart.1 (omega (arith, count)) (omega (arith, within))
 
-name_apart : (ls : List Line) (k e : ℕ) (d : Line) → AllApart ls → k < e → e < length ls → (get_or ls k d).name ≢ (get_or ls e d).name
+pub name_apart : (ls : List Line) (k e : ℕ) (d : Line) → AllApart ls → k < e → e < length ls → (get_or ls k d).name ≢ (get_or ls e d).name
 name_apart [] k e d apart less within = absurd (omega (arith, within))
 name_apart (l ∷ ls) k zero d apart less within = absurd (omega (arith, less))
 name_apart (l ∷ ls) zero (suc e) d apart less within = λ same. (All-from_recursion (AreApart l) ls apart.0 e d (omega (arith, within))).under_under (ap (λ (n : RowName). place_of n Under) same)
@@ -80,10 +80,15 @@ replaced_numbers p e enter pivot out whole inside named count is k d within =
           ]
     ]
 
+pub entering_line_sum : (p : Problem) (at : List Mark) (s : Swap) (size e : ℕ) (pivot out : List ℤ) (enters : Fraction) → IsWhole p → e < line_count p → name_at p e ≡ s.enter.row → IsPivotOf p at s size pivot enters → IsReplaced (pos 1) pivot e (pos 0) out
+    → IsLineSum p (exchanged s at) (deviation s.enter.row) size (numbers_of (lines p) out) enters.num enters.den
+entering_line_sum p at s size e pivot out enters whole inside named is replaced =
+    sum_same p (exchanged s at) (deviation s.enter.row) size (without s.enter.row (numbers_of (lines p) pivot)) (numbers_of (lines p) out) enters.num enters.den
+    (replaced_numbers p e s.enter.row pivot out whole inside named is.count replaced)
+    (line_sum p (exchanged s at) (deviation s.enter.row) size (without s.enter.row (numbers_of (lines p) pivot)) enters.num enters.den is.equation)
+
 pub entering_is_equation : EnteringIsEquation
 entering_is_equation p at s size low e pivot out part enters whole inside named is replaced are some =
     reduced_line p (exchanged s at) (deviation s.enter.row) size (numbers_of (lines p) out) enters.num enters.den low (numbers_of (lines p) part) enters
-    (sum_same p (exchanged s at) (deviation s.enter.row) size (without s.enter.row (numbers_of (lines p) pivot)) (numbers_of (lines p) out) enters.num enters.den
-    (replaced_numbers p e s.enter.row pivot out whole inside named is.count replaced)
-    (line_sum p (exchanged s at) (deviation s.enter.row) size (without s.enter.row (numbers_of (lines p) pivot)) enters.num enters.den is.equation))
+    (entering_line_sum p at s size e pivot out enters whole inside named is replaced)
     (reduced_numbers p size low out part whole (replaced.count ∙ is.count) some are) is.equation.den_positive refl

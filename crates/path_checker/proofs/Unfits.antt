@@ -1,5 +1,5 @@
 -- Lists whose lowest terms do not fit.
-use Rattle.std.proofs.Common.{◌≡◌, ◌∙◌, ◌*◌, List, [], ◌∷◌, map, length, ℤ, pos, ◌*ℤ◌, unsigned_abs, refl, ap, ap₂, arith}
+use Rattle.std.proofs.Common.{◌≡◌, ◌∙◌, List, [], ◌∷◌, map, length, ℤ, pos, ◌*ℤ◌, unsigned_abs, refl, ap, ap₂, arith}
 use Rattle.std.specs.Int.{◌∣◌}
 use Rattle.std.specs.List.{AllByRecursion as Each}
 use Rattle.std.proofs.lemmas.List.Elements.{All-from_recursion, All-map, recursion_from_All}

@@ -2,3 +2,10 @@ pub mod Numbers
 pub mod Tables
 pub mod Carried
 pub mod CarriedLevels
+pub mod Pivots
+pub mod Route
+pub mod Room
+pub mod PathClauses
+pub mod Laws
+pub mod Sides
+pub mod Bringing

@@ -1,15 +1,25 @@
 // One exchange, from a corner whose numbers fit.
-ghost use Rattle.std.specs.Prelude.{◌≡◌, ◌≢◌, ◌<◌, ◌*ℤ◌, ◌<ℤ◌, pos, length, true, false};
-ghost use Rattle.std.specs.Prelude.{All, IfOk, IfErr, OnErr};
+ghost use Rattle.std.specs.Prelude.{◌≡◌, ◌≢◌, ◌<◌, ◌*ℤ◌, ◌<ℤ◌, ◌≤ℤ◌, pos, length, true, false};
+ghost use Rattle.std.specs.Prelude.{◌↔◌, All, IfOk, IfErr, IsTrue, List, OnErr};
 ghost use Rattle.frac_core.specs.Fraction.{IsFitting, IsKept, IsRatio, IsUnfitRatio, sum_den, sum_num};
 ghost use Rattle.problem_core.specs.Window.{zero_fraction};
+ghost use Rattle.problem_core.specs.Layout.{Problem};
+ghost use Rattle.problem_core.specs.Corners.{IsExchange, IsIn, place};
+ghost use Rattle.problem_core.specs.declared.parts.RowName.{RowName};
+ghost use Rattle.problem_core.specs.declared.parts.Mark.{Mark};
 ghost use Rattle.path_checker.specs.Numbers.{AreFitting, IsCombined, IsReplaced, number_at, way};
+ghost use Rattle.path_checker.specs.Tables.{AreLines, AreSized, IsSized, IsSizedLine, IsSumOf, IsThere};
+ghost use Rattle.path_checker.specs.Tables.{name_at, swap_of};
+ghost use Rattle.path_checker.specs.Pivots.{AreNextLines, AreUnfitNext, HasUnfit, IsEnteredBy, IsNextLine};
+ghost use Rattle.path_checker.specs.Pivots.{IsLeavingBy, IsPivotAt, IsSolvedFrom, IsUnfitNext, LeadTo};
+ghost use Rattle.path_checker.specs.Pivots.{LeadToUnfit, next_marks};
 ghost use Rattle.path_checker.specs.declared.stop.SumStop.TheVariants.{OutOfMemory};
+ghost use Rattle.path_checker.specs.declared.stop.SumStop.TheVariants as stops;
 
-use crate::numbers::{Wide, combined};
+use crate::numbers::{Lowest, Wide, combined, in_lowest_terms};
 use crate::spots::Step;
 use crate::stop::SumStop;
-use crate::table::Sum;
+use crate::table::{Inside, Sum, turn};
 use frac_core::{Frac, Unfit};
 use std::alloc::Global;
 
@@ -68,6 +78,86 @@ fn with_number(
         out.push(replaced(turned(*old, is_turned), place, at, number))?;
     }
     Ok(out)
+}
+
+/// Whether the marks make an exchange at the corner.
+pub fn is_exchange(lines: &[Option<Inside>], step: Step) -> bool
+    requires enter { step.enter.at < length lines.now }
+    requires leave { step.leave.at < length lines.now }
+    requires sized { AreSized lines.now }
+    ensures { (p : Problem) (at : List Mark) → IsThere p at → AreLines p at lines.now
+        → IsTrue result ↔ IsExchange p at (swap_of p step) }
+{
+    match &lines[step.leave.at] {
+        Some(inside) => inside.side == step.leave.side && may_enter(inside, step),
+        None => false,
+    }
+}
+
+// Whether the leaving line is inside with another mark than the entering one, or moves with its line.
+fn may_enter(inside: &Inside, step: Step) -> bool
+    requires enter { step.enter.at < length inside.now.sum.by.items }
+    ensures turn { step.enter.at ≡ step.leave.at → IsTrue result ↔ (step.enter.side ≢ inside.now.side) }
+    ensures other { step.enter.at ≢ step.leave.at
+        → IsTrue result ↔ (number_at inside.now.sum.by.items step.enter.at ≢ pos 0) }
+{
+    if step.enter.at == step.leave.at {
+        step.enter.side != inside.side
+    } else {
+        inside.sum.by[step.enter.at] != 0
+    }
+}
+
+/// The pivot of an exchange of two lines: the leaving line's equation, solved for the entering line.
+pub fn solving(alloc: Global, leaving: &Sum, step: Step) -> Result<Pivot, SumStop>
+    requires enter { step.enter.at < length leaving.now.by.items }
+    requires sized { IsSized (length leaving.now.by.items) leaving.now }
+    requires some { number_at leaving.now.by.items step.enter.at ≢ pos 0 }
+    ensures solved { IfOk result (IsSolvedFrom leaving.now step) }
+    ensures memory { IfErr result (λ stop. stop ≡ OutOfMemory) }
+{
+    let number = number_of(&leaving.by, step.enter.at);
+    let is_below = is_negative(number);
+    let own = turned(leaving.own, is_below);
+    let by = with_number(alloc, &leaving.by, !is_below, step.leave.at, own)?;
+    let size = turned(number, is_below);
+    let times = turned(own, true);
+    Ok(pivot_with(step, size, by, leaving.value, times))
+}
+
+// The number at a place.
+fn number_of(by: &[i64], at: usize) -> i64
+    requires { at < length by.now }
+    ensures { result ≡ number_at by.now at }
+{
+    by[at]
+}
+
+// Whether the number is below 0.
+fn is_negative(number: i64) -> bool
+    ensures below { result ≡ true → number <ℤ pos 0 }
+    ensures above { result ≡ false → pos 0 ≤ℤ number }
+{
+    number < 0
+}
+
+// The pivot of an exchange of two lines, with these parts.
+fn pivot_with(step: Step, size: i64, by: Vec<i64>, value: Frac, times: i64) -> Pivot
+    ensures step { result.step ≡ step }
+    ensures turn { result.is_turn ≡ false }
+    ensures size { result.size ≡ size }
+    ensures by { result.by.items ≡ by.items }
+    ensures value { result.value ≡ value }
+    ensures times { result.times ≡ times }
+{
+    Pivot {
+        step,
+        is_turn: false,
+        size,
+        by,
+        value,
+        times,
+    }
 }
 
 // The product of two fitting numbers.
@@ -156,4 +246,198 @@ pub fn entering_value(pivot: &Pivot) -> Result<Frac, Unfit>
         return Ok(pivot.value);
     }
     Frac::mul_add(Frac::zero(), pivot.times, pivot.size, pivot.value)
+}
+
+// Numbers and a value.
+fn sum_of(numbers: Lowest, value: Frac) -> Sum
+    ensures own { result.own ≡ numbers.own }
+    ensures by { result.by.items ≡ numbers.by.items }
+    ensures value { result.value ≡ value }
+{
+    Sum {
+        own: numbers.own,
+        by: numbers.by,
+        value,
+    }
+}
+
+/// The entering line's sum after an exchange of two lines, where its deviation's value is `enters`.
+pub fn entering_sum(alloc: Global, pivot: &Pivot, enters: Frac) -> Result<Sum, SumStop>
+    requires above { pos 0 <ℤ pivot.now.size }
+    requires fits { AreFitting pivot.now.size pivot.now.by.items }
+    ensures sized { IfOk result (IsSized (length pivot.now.by.items)) }
+    ensures sum { IfOk result (λ sum. (p : Problem) (at : List Mark) → IsPivotAt p at pivot.now
+        → IsEnteredBy pivot.now enters
+        → IsSumOf p (next_marks p pivot.now at) (name_at p pivot.now.step.enter.at) sum) }
+    ensures unfit { IfErr result (λ stop. stop ≡ stops.Unfit → (p : Problem) (at : List Mark)
+        → IsPivotAt p at pivot.now → IsEnteredBy pivot.now enters → HasUnfit p (next_marks p pivot.now at)) }
+{
+    let wide = entering(alloc, pivot)?;
+    let numbers = in_lowest_terms(alloc, &wide)?;
+    Ok(sum_of(numbers, enters))
+}
+
+/// An inside line's sum after an exchange of two lines.
+pub fn carried_sum(alloc: Global, pivot: &Pivot, sum: &Sum, enters: Frac) -> Result<Sum, SumStop>
+    requires above { pos 0 <ℤ pivot.now.size }
+    requires fits { AreFitting pivot.now.size pivot.now.by.items }
+    requires enter { pivot.now.step.enter.at < length pivot.now.by.items }
+    requires sized { IsSized (length pivot.now.by.items) sum.now }
+    ensures sized { IfOk result (IsSized (length pivot.now.by.items)) }
+    ensures sum { IfOk result (λ next. (p : Problem) (at : List Mark) (name : RowName)
+        → IsPivotAt p at pivot.now → IsEnteredBy pivot.now enters → IsSumOf p at name sum.now
+        → IsSumOf p (next_marks p pivot.now at) name next) }
+    ensures unfit { IfErr result (λ stop. stop ≡ stops.Unfit → (p : Problem) (at : List Mark) (mark : Mark)
+        → IsPivotAt p at pivot.now → IsEnteredBy pivot.now enters → IsSumOf p at mark.row sum.now
+        → IsIn (place mark) (next_marks p pivot.now at) → HasUnfit p (next_marks p pivot.now at)) }
+{
+    let wide = carried(alloc, pivot, sum)?;
+    let numbers = in_lowest_terms(alloc, &wide)?;
+    let number = number_of(&sum.by, pivot.step.enter.at);
+    let Ok(value) = Frac::mul_add(sum.value, number, sum.own, enters) else {
+        return Err(SumStop::Unfit);
+    };
+    Ok(sum_of(numbers, value))
+}
+
+// A line after an exchange of two lines.
+fn exchanged_line(
+    alloc: Global,
+    pivot: &Pivot,
+    old: &Option<Inside>,
+    at: usize,
+    enters: Frac,
+) -> Result<Option<Inside>, SumStop>
+    requires above { pos 0 <ℤ pivot.now.size }
+    requires fits { AreFitting pivot.now.size pivot.now.by.items }
+    requires enter { pivot.now.step.enter.at < length pivot.now.by.items }
+    requires sized { IsSizedLine (length pivot.now.by.items) old.now }
+    ensures sized { IfOk result (IsSizedLine (length pivot.now.by.items)) }
+    ensures line { IfOk result (IsNextLine pivot.now enters at old.now) }
+    ensures unfit { IfErr result (λ stop. stop ≡ stops.Unfit → IsUnfitNext pivot.now enters at old.now) }
+{
+    if at == pivot.step.enter.at {
+        let sum = entering_sum(alloc, pivot, enters)?;
+        let side = pivot.step.enter.side;
+        return Ok(Some(Inside { side, sum }));
+    }
+    if at == pivot.step.leave.at {
+        return Ok(None);
+    }
+    let Some(inside) = old else {
+        return Ok(None);
+    };
+    let next = carried_sum(alloc, pivot, &inside.sum, enters)?;
+    let side = inside.side;
+    Ok(Some(Inside { side, sum: next }))
+}
+
+/// The lines after an exchange of two lines, where the entering line's deviation has the value `enters`.
+pub fn exchanged_lines(
+    alloc: Global,
+    pivot: &Pivot,
+    lines: &[Option<Inside>],
+    enters: Frac,
+) -> Result<Vec<Option<Inside>>, SumStop>
+    requires above { pos 0 <ℤ pivot.now.size }
+    requires fits { AreFitting pivot.now.size pivot.now.by.items }
+    requires enter { pivot.now.step.enter.at < length pivot.now.by.items }
+    requires count { length pivot.now.by.items ≡ length lines.now }
+    requires sized { AreSized lines.now }
+    ensures sized { IfOk result (λ next. AreSized next.items) }
+    ensures count { IfOk result (λ next. length next.items ≡ length lines.now) }
+    ensures lines { IfOk result (λ next. AreNextLines pivot.now enters lines.now next.items) }
+    ensures unfit { IfErr result (λ stop. stop ≡ stops.Unfit → AreUnfitNext pivot.now enters lines.now) }
+{
+    let mut out = Vec::with_capacity(alloc, lines.len())?;
+    for (at, old) in lines.iter().enumerate() {
+        let line = exchanged_line(alloc, pivot, old, at, enters)?;
+        out.push(line)?;
+    }
+    Ok(out)
+}
+
+// Whether both marks are of one line.
+fn is_turn(step: Step) -> bool
+    ensures { IsTrue result ↔ (step.enter.at ≡ step.leave.at) }
+{
+    step.enter.at == step.leave.at
+}
+
+// Whether the number at the place is not 0.
+fn stands(by: &[i64], at: usize) -> bool
+    requires { at < length by.now }
+    ensures { IsTrue result ↔ (number_at by.now at ≢ pos 0) }
+{
+    by[at] != 0
+}
+
+// The lines after an exchange of two lines, where this is the leaving line's sum.
+fn solved_lines(
+    alloc: Global,
+    lines: &[Option<Inside>],
+    leaving: &Sum,
+    step: Step,
+) -> Result<Vec<Option<Inside>>, SumStop>
+    requires enter { step.enter.at < length lines.now }
+    requires sized { AreSized lines.now }
+    requires leaving { IsSized (length lines.now) leaving.now }
+    ensures sized { IfOk result (λ next. AreSized next.items) }
+    ensures count { IfOk result (λ next. length next.items ≡ length lines.now) }
+    ensures next { IfOk result (λ next. IsLeavingBy step lines.now leaving.now
+        → LeadTo step lines.now next.items) }
+    ensures unfit { IfErr result (λ stop. stop ≡ stops.Unfit → IsLeavingBy step lines.now leaving.now
+        → LeadToUnfit step lines.now) }
+{
+    if !stands(&leaving.by, step.enter.at) {
+        return Err(SumStop::Unfit);
+    }
+    let pivot = solving(alloc, leaving, step)?;
+    let Ok(enters) = entering_value(&pivot) else {
+        return Err(SumStop::Unfit);
+    };
+    exchanged_lines(alloc, &pivot, lines, enters)
+}
+
+// The lines after an exchange of two lines.
+fn solved_at(
+    alloc: Global,
+    lines: &[Option<Inside>],
+    step: Step,
+) -> Result<Vec<Option<Inside>>, SumStop>
+    requires enter { step.enter.at < length lines.now }
+    requires leave { step.leave.at < length lines.now }
+    requires sized { AreSized lines.now }
+    ensures sized { IfOk result (λ next. AreSized next.items) }
+    ensures count { IfOk result (λ next. length next.items ≡ length lines.now) }
+    ensures next { IfOk result (λ next. step.enter.at ≢ step.leave.at → LeadTo step lines.now next.items) }
+    ensures unfit { IfErr result (λ stop. stop ≡ stops.Unfit → step.enter.at ≢ step.leave.at
+        → LeadToUnfit step lines.now) }
+{
+    match &lines[step.leave.at] {
+        Some(inside) => solved_lines(alloc, lines, &inside.sum, step),
+        None => Err(SumStop::Unfit),
+    }
+}
+
+/// The lines after an exchange that can be made.
+pub fn after_exchange(
+    alloc: Global,
+    lines: Vec<Option<Inside>>,
+    step: Step,
+) -> Result<Vec<Option<Inside>>, SumStop>
+    requires enter { step.enter.at < length lines.items }
+    requires leave { step.leave.at < length lines.items }
+    requires sized { AreSized lines.items }
+    ensures sized { IfOk result (λ next. AreSized next.items) }
+    ensures count { IfOk result (λ next. length next.items ≡ length lines.items) }
+    ensures next { IfOk result (λ next. LeadTo step lines.items next.items) }
+    ensures unfit { IfErr result (λ stop. stop ≡ stops.Unfit → LeadToUnfit step lines.items) }
+{
+    if is_turn(step) {
+        let mut next = lines;
+        turn(&mut next, step);
+        return Ok(next);
+    }
+    solved_at(alloc, &lines, step)
 }

@@ -2,6 +2,11 @@
 ghost use Rattle.path_checker.specs.Carried.{CarriedIsEquation, EnteringIsEquation, LeavingIsPivot};
 ghost use Rattle.path_checker.specs.Carried.{UnfitListIsUnfit};
 ghost use Rattle.path_checker.specs.CarriedLevels.{CarriedLevelIsRow};
+ghost use Rattle.path_checker.specs.Pivots.{SolvedIsPivot};
+ghost use Rattle.path_checker.specs.Tables.{TurnedLinesAre};
+ghost use Rattle.path_checker.specs.Sides.{ApartBySides};
+ghost use Rattle.path_checker.specs.Laws.{BeginsThere, ExchangeNeedsNumber, NoneGivesWay, OneMarkOfLine};
+ghost use Rattle.path_checker.specs.Laws.{YesIsPath};
 
 /// The leaving line's numbers, solved for the entering line, are the pivot.
 pub fn leaving_is_pivot()
@@ -28,4 +33,45 @@ pub fn unfit_list_is_unfit()
 /// A level's numbers after an exchange, in lowest terms, are its row at the next corner.
 pub fn carried_level_is_row()
     ensures { CarriedLevelIsRow }
+{}
+
+/// The leaving line's equation, solved for the entering line, is the pivot of the exchange.
+pub fn solved_is_pivot()
+    ensures { SolvedIsPivot }
+{}
+
+/// Where the two marks of a line are exchanged, the equations are as before.
+pub fn turned_lines_are()
+    ensures { TurnedLinesAre }
+{}
+
+/// No corner of a path comes twice exactly where no marks by lines do.
+pub fn apart_by_sides()
+    ensures { ApartBySides }
+{}
+
+/// The over marks of the held rows are a corner.
+pub fn begins_there()
+    ensures { BeginsThere }
+{}
+
+/// An entering line that does not stand in the leaving line's equation makes no exchange.
+pub fn exchange_needs_number()
+    ensures { ExchangeNeedsNumber }
+{}
+
+/// Where no inside mark can give way to one of some marks, these are no corner.
+pub fn none_gives_way()
+    ensures { NoneGivesWay }
+{}
+
+/// Nor are marks among which there are both of a line.
+pub fn one_mark_of_line()
+    ensures { OneMarkOfLine }
+{}
+
+/// The clauses of a path and its quantity hold exactly where it is a path, and the quantity doesn't fit at
+/// its last corner.
+pub fn yes_is_path()
+    ensures { YesIsPath }
 {}

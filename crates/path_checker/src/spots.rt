@@ -1,6 +1,12 @@
 // Marks and exchanges by the places of their lines.
+ghost use Rattle.std.specs.Prelude.{◌≡◌, ◌≢◌, ◌<◌, ◌⊎◌, length, All, IfSome, IfNone, IfOk};
+ghost use Rattle.std.specs.List.{HoldsAt};
+ghost use Rattle.path_checker.specs.Tables.{IsSpotOf, names_of};
 
-use problem_core::Side;
+use cert_core::Swap;
+use frac_core::OutOfMemory;
+use problem_core::{Mark, Problem, RowName, Side};
+use std::alloc::Global;
 
 /// A mark, by the place of its line.
 #[derive(Clone, Copy, Debug, PartialEq, Eq)]
@@ -14,4 +20,49 @@ pub struct Spot {
 pub struct Step {
     pub enter: Spot,
     pub leave: Spot,
+}
+
+/// The names of a problem's lines, held rows before stays.
+pub fn names(alloc: Global, p: &Problem) -> Result<Vec<RowName>, OutOfMemory>
+    ensures { IfOk result (λ names. names.items ≡ names_of p.now) }
+{
+    let mut names = Vec::new(alloc);
+    for r in p.rows() {
+        names.push(RowName::Held(r.id()))?;
+    }
+    for s in p.stays() {
+        names.push(RowName::Stay(s.attr))?;
+    }
+    Ok(names)
+}
+
+// The place of the line with this name.
+fn find(names: &[RowName], name: RowName) -> Option<usize>
+    ensures within { IfSome result (λ k. k < length names.now) }
+    ensures found { IfSome result (HoldsAt (λ n. n ≡ name) names.now) }
+    ensures none { IfNone result (All (λ n. n ≢ name) names.now) }
+{
+    names.iter().position(|n| *n == name)
+}
+
+/// The place of the mark's line, unless no line has its name.
+pub fn spot_of(names: &[RowName], mark: Mark) -> Option<Spot>
+    ensures some { IfSome result (IsSpotOf names.now mark) }
+    ensures none { IfNone result (All (λ n. n ≢ mark.row) names.now) }
+{
+    let at = find(names, mark.row)?;
+    let side = mark.side;
+    Some(Spot { at, side })
+}
+
+/// An exchange by places, unless a mark is of no line.
+pub fn step_of(names: &[RowName], swap: Swap) -> Option<Step>
+    ensures enter { IfSome result (λ step. IsSpotOf names.now swap.enter step.enter) }
+    ensures leave { IfSome result (λ step. IsSpotOf names.now swap.leave step.leave) }
+    ensures none { IfNone result (All (λ n. n ≢ swap.enter.row) names.now
+        ⊎ All (λ n. n ≢ swap.leave.row) names.now) }
+{
+    let enter = spot_of(names, swap.enter)?;
+    let leave = spot_of(names, swap.leave)?;
+    Some(Step { enter, leave })
 }

@@ -1,8 +1,17 @@
 // What holds at a corner.
-ghost use Rattle.std.specs.Prelude.{◌≡◌, ◌↔◌, ◌*ℤ◌, ◌≤ℤ◌, ℤ, pos, IsTrue};
+ghost use Rattle.std.specs.Prelude.{◌≡◌, ◌↔◌, ◌*ℤ◌, ◌≤ℤ◌, ◌<◌, ◌≤◌, ◌⊎◌, ℕ, ℤ, pos, List};
+ghost use Rattle.std.specs.Prelude.{IsTrue, true, false};
 ghost use Rattle.std.specs.Ordering.{int_cmp};
+ghost use Rattle.problem_core.specs.Layout.{Problem};
+ghost use Rattle.problem_core.specs.Corners.{HasNegativeValue, IsIn, NoNegativeValue, place};
+ghost use Rattle.problem_core.specs.declared.parts.Mark.{Mark};
+ghost use Rattle.problem_core.specs.declared.parts.RowName.{RowName};
+ghost use Rattle.cert_core.specs.Stops.{AreNonnegativeBefore};
 ghost use Rattle.corner_lines.specs.LineEquations.{sign_of};
+ghost use Rattle.path_checker.specs.Tables.{AreJudged, AreLines, IsLineAt, IsThere, IsUp};
 
+use crate::table::Inside;
+use frac_core::Frac;
 use problem_core::Side;
 use std::cmp::Ordering;
 
@@ -14,4 +23,72 @@ pub fn is_on_side(sign: Ordering, side: Side) -> bool
         Side::Under => sign != Ordering::Greater,
         Side::Over => sign != Ordering::Less,
     }
+}
+
+/// Whether the value of the line's inside mark is not negative, where it has one.
+pub fn is_up(line: &Option<Inside>) -> bool
+    ensures { (p : Problem) (at : List Mark) (name : RowName) → IsThere p at → IsLineAt p at name line.now
+        → IsTrue result ↔ IsUp p at name }
+{
+    match line {
+        Some(inside) => is_on_side(sign(inside.sum.value), inside.side),
+        None => true,
+    }
+}
+
+/// Whether the value of this inside mark of the line is negative.
+pub fn is_down(line: &Option<Inside>) -> bool
+    ensures { (p : Problem) (at : List Mark) (mark : Mark) → IsThere p at → IsLineAt p at mark.row line.now
+        → IsIn (place mark) at → IsTrue result ↔ HasNegativeValue p at mark }
+{
+    !is_up(line)
+}
+
+// The sign of a fraction.
+fn sign(value: Frac) -> Ordering
+    ensures { result ≡ int_cmp value.num (pos 0) }
+{
+    value.num().cmp(&0)
+}
+
+/// Whether no value of an inside mark is negative.
+pub fn has_no_negative_value(lines: &[Option<Inside>]) -> bool
+    ensures { (p : Problem) (at : List Mark) → IsThere p at → AreLines p at lines.now
+        → IsTrue result ↔ NoNegativeValue p at }
+{
+    for line in lines {
+        if !is_up(line) {
+            return false;
+        }
+    }
+    true
+}
+
+// Whether a line is before the one place, or from the other on.
+fn is_judged(at: usize, judged: usize, rows: usize) -> bool
+    ensures { IsTrue result ↔ ((at < judged) ⊎ (rows ≤ at)) }
+{
+    at < judged || at >= rows
+}
+
+// Whether the line's value is not negative, or not judged.
+fn is_fine(line: &Option<Inside>, judged: bool) -> bool
+    ensures free { judged ≡ false → result ≡ true }
+    ensures up { judged ≡ true → (p : Problem) (at : List Mark) (name : RowName) → IsThere p at
+        → IsLineAt p at name line.now → IsTrue result ↔ IsUp p at name }
+{
+    if judged { is_up(line) } else { true }
+}
+
+/// The same where the marks of the rows from a place on, of so many, are not judged.
+pub fn has_no_negative_before(lines: &[Option<Inside>], judged: usize, rows: usize) -> bool
+    ensures { (p : Problem) (at : List Mark) (id : ℕ) → IsThere p at → AreLines p at lines.now
+        → AreJudged p id judged rows → IsTrue result ↔ AreNonnegativeBefore p at id }
+{
+    for (at, line) in lines.iter().enumerate() {
+        if !is_fine(line, is_judged(at, judged, rows)) {
+            return false;
+        }
+    }
+    true
 }

@@ -1,0 +1,5 @@
+use Rattle.path_checker.proofs.FirstCorner.{begins_there}
+use Rattle.path_checker.proofs.laws.begins_there.Goals as goal
+
+pub returns : goal.returns
+returns c = begins_there

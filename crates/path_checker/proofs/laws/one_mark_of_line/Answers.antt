@@ -1,0 +1,5 @@
+use Rattle.path_checker.proofs.Bringing.{one_mark_of_line}
+use Rattle.path_checker.proofs.laws.one_mark_of_line.Goals as goal
+
+pub returns : goal.returns
+returns c = one_mark_of_line
