@@ -7,6 +7,7 @@
     python3 bench/scripts.py row VIEWS WHAT       a chain, and behind it nothing (`none`), one row more (`add`), or one row that
                                                   joins and leaves again (`remove`)
     python3 bench/scripts.py drag TIMES           the login form, then so many suggestions of one width, and its release
+    python3 bench/scripts.py metric VIEWS TIMES   a chain, two rows that name a metric, and then so many values of it in turn
 
 A chain has for each view a format with an optional width, for each two neighbours a format that stacks them and an optional
 constraint between their widths. Its numbers come from a linear congruence, so that the same words give the same script.
@@ -80,6 +81,16 @@ def drag(times):
     yield "frames"
 
 
+def metric(views, times):
+    yield from chain(draws(1), views)
+    yield "metric gap 8"
+    yield f"constrain gaps v{views // 2}.width == 3*gap @950"
+    yield f"constrain gaps v{views - 1}.width == 4*gap @950"
+    for i in range(times):
+        yield f"metric gap {9 + i % 20}"
+    yield "frames"
+
+
 def main(words):
     match words:
         case ["chain", seed, views]:
@@ -94,6 +105,8 @@ def main(words):
             lines = row(int(views), what)
         case ["drag", times]:
             lines = drag(int(times))
+        case ["metric", views, times]:
+            lines = metric(int(views), int(times))
         case _:
             sys.exit(__doc__)
     sys.stdout.writelines(line + "\n" for line in lines)

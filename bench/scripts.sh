@@ -47,5 +47,7 @@ for what in none add remove; do
     measure "60 views, one row: $what" row 60 "$what"
 done
 measure "login form, 10,000 suggestions" drag 10000
+measure "66 views, no metric again" metric 66 0
+measure "66 views, 1,000 values of a metric" metric 66 1000
 measure "login form, 10,000 windows" resize 10000
 measure "login form, 10,000 windows with frames" frames 10000
