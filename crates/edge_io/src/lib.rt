@@ -4,11 +4,13 @@
 //! a `Failed` comes only where the count rose, or stands at its last value, 2^64 - 1.
 #![tactic(auto)]
 
+mod feed;
 mod memory;
 mod put;
 mod standard;
 mod traits;
 
+pub use feed::{Feed, LINE_LIMIT, Piece};
 pub use memory::{MemorySink, MemorySource};
 pub use put::put_all;
 pub use standard::{StdSink, StdSource};
