@@ -1,20 +1,17 @@
 -- The sums of ever more terms.
-use Rattle.std.proofs.Common.{◌≡◌, ℕ, zero, suc, ◌+◌, ◌*◌, ◌<◌, ◌≤◌, ◌^◌, List, [], ◌∷◌, ◌++◌, length, length-append, take, get_or, All, ℤ, pos, ◌*ℤ◌, refl, sym, subst, ap, ◌∙◌, arith, ◌⊎◌, inl, inr}
+use Rattle.std.proofs.Common.{◌≡◌, ℕ, ◌+◌, ◌<◌, ◌≤◌, ◌^◌, List, [], ◌∷◌, ◌++◌, length, length-append, get_or, All, ℤ, pos, ◌*ℤ◌, refl, sym, subst, ap, ◌∙◌, arith, ◌⊎◌, inl, inr}
 use Rattle.std.specs.Prelude.{unsigned_abs}
 use borrow.Author.Differences.{ints}
 use Rattle.std.proofs.lemmas.List.Elements.{All-push}
 use Rattle.frac_core.specs.Fraction.{Fraction}
 use Rattle.frac_core.proofs.Integers.{cancel_mul, mul-zero_ℤ}
-use Rattle.script_text.specs.Meaning.{Term}
-use Rattle.script_text.specs.View.{term_view, terms_view}
-use Rattle.script_text.specs.declared.command.ExprTerm.{ExprTerm}
 use Rattle.std.proofs.Math.ListN.{get_or-map}
 use Rattle.std.proofs.lemmas.List.{length-map}
-use Rattle.view_tree.specs.Views.{LiveView}
 use Rattle.constraint_compile.specs.Fractions.{zero_fraction, plus, IsOver, IsScale, MakesWhole, AreSmall}
-use Rattle.constraint_compile.specs.Meaning.{share, sum_at}
+use Rattle.constraint_compile.specs.Addends.{Addend, addend_view, addends_view, first_of, with_addend}
+use Rattle.constraint_compile.specs.declared.addends.Addend as code
 use Rattle.constraint_compile.specs.Shares.{IsOff, share_fraction}
-use Rattle.constraint_compile.specs.Sums.{AreKept, HasOnly, IsSum, IsCovered, AreScales, attr_at, number_at, with_share, with_term, first_sum}
+use Rattle.constraint_compile.specs.Sums.{AreKept, IsSum, IsCovered, AreScales, attr_at, number_at, with_share}
 use Rattle.constraint_compile.specs.declared.attributes.Share.{Share}
 use Rattle.constraint_compile.proofs.Joint.{find_place}
 use Rattle.constraint_compile.proofs.Lists.{each_pushed_by, lt_or_eq}
@@ -72,17 +69,17 @@ zero_kept attrs numbers long zeros = record {
 
 -- ---- one term more
 
-pub same_share : (views : List LiveView) (b : ℕ → Fraction) (t : Term) (s : Share) → ((v : ℕ) → share views v t ≡ share_fraction s v) → AreSame (with_share b s) (with_term views b t)
-same_share views b t s same = λ v. ap (plus (b v)) (sym (same v))
+pub same_share : (b : ℕ → Fraction) (a : Addend) (s : Share) → ((v : ℕ) → a.share v ≡ share_fraction s v) → AreSame (with_share b s) (with_addend b a)
+same_share b a s same = λ v. ap (plus (b v)) (sym (same v))
 
-pub same_none : (views : List LiveView) (b : ℕ → Fraction) (t : Term) → ((v : ℕ) → share views v t ≡ zero_fraction) → AreSame b (with_term views b t)
-same_none views b t same = λ v. sym (ap (plus (b v)) (same v) ∙ plus-zero (b v))
+pub same_none : (b : ℕ → Fraction) (a : Addend) → ((v : ℕ) → a.share v ≡ zero_fraction) → AreSame b (with_addend b a)
+same_none b a same = λ v. sym (ap (plus (b v)) (same v) ∙ plus-zero (b v))
 
-pub covered_by : (views : List LiveView) (attrs : List ℕ) (t : Term) (s : Share) → ((v : ℕ) → share views v t ≡ share_fraction s v) → ((v : ℕ) → IsOff attrs v → (share views v t).num ≡ pos 0) → IsCovered attrs s
-covered_by views attrs t s same off = λ v is. subst (λ (f : Fraction). f.num ≡ pos 0) (same v) (off v is)
+pub covered_by : (attrs : List ℕ) (a : Addend) (s : Share) → ((v : ℕ) → a.share v ≡ share_fraction s v) → ((v : ℕ) → IsOff attrs v → (a.share v).num ≡ pos 0) → IsCovered attrs s
+covered_by attrs a s same off = λ v is. subst (λ (f : Fraction). f.num ≡ pos 0) (same v) (off v is)
 
-pub same_more : (views : List LiveView) (terms : List Term) (i : ℕ) (d : Term) → i < length terms → AreSame (with_term views (first_sum views terms i) (get_or terms i d)) (first_sum views terms (i + 1))
-same_more views terms i d within = λ v. sym (total_more (share views v) terms i d within)
+pub same_more : (added : List Addend) (i : ℕ) (d : Addend) → i < length added → AreSame (with_addend (first_of added i) (get_or added i d)) (first_of added (i + 1))
+same_more added i d within = λ v. sym (total_more (λ (a : Addend). a.share v) added i d within)
 
 -- ---- a sum is small
 
@@ -112,10 +109,10 @@ small_sum b attrs k numbers is kept = record {
         let none : z ≡ pos 0 = only_number k (b v).den (b v).num z (pos 0) (is.only.above v) over (rw (is.only.off v off) (zero_left (b v).den ∙ sym (mul-zero_ℤ (pos k)))) in
         rw none (omega arith)
 
-pub scales_more : (views : List LiveView) (terms : List Term) (attrs : List ℕ) (i : ℕ) (scales : List ℕ) (k : ℕ) (numbers : List ℤ) → AreScales views terms i scales → IsSum (first_sum views terms (i + 1)) attrs k numbers → AreKept attrs k numbers → AreScales views terms (i + 1) (scales ++ k ∷ [])
-scales_more views terms attrs i scales k numbers are is kept = record {
+pub scales_more : (added : List Addend) (attrs : List ℕ) (i : ℕ) (scales : List ℕ) (k : ℕ) (numbers : List ℤ) → AreScales added i scales → IsSum (first_of added (i + 1)) attrs k numbers → AreKept attrs k numbers → AreScales added (i + 1) (scales ++ k ∷ [])
+scales_more added attrs i scales k numbers are is kept = record {
   long = omega (arith, length-append scales (k ∷ []), are.long);
-  each = each_pushed_by (λ (j m : ℕ). IsScale (first_sum views terms (j + 1)) m) scales i k 0 are.long are.each is.is_scale;
+  each = each_pushed_by (λ (j m : ℕ). IsScale (first_of added (j + 1)) m) scales i k 0 are.long are.each is.is_scale;
   low = All-push (λ m. m ≤ 2 ^ 30) scales k are.low kept.small_scale;
   small = λ j within. small_at j (less_or_same j within);
 }
@@ -123,16 +120,16 @@ scales_more views terms attrs i scales k numbers are is kept = record {
     less_or_same : (j : ℕ) → j < i + 1 → (j < i) ⊎ (j ≡ i)
     less_or_same j h = lt_or_eq j i h
 
-    small_at : (j : ℕ) → (j < i) ⊎ (j ≡ i) → AreSmall (first_sum views terms (j + 1))
+    small_at : (j : ℕ) → (j < i) ⊎ (j ≡ i) → AreSmall (first_of added (j + 1))
     small_at j (inl less) = are.small j less
-    small_at j (inr same) = subst (λ (n : ℕ). AreSmall (first_sum views terms (n + 1))) (sym same) (small_sum (first_sum views terms (i + 1)) attrs k numbers is kept)
+    small_at j (inr same) = subst (λ (n : ℕ). AreSmall (first_of added (n + 1))) (sym same) (small_sum (first_of added (i + 1)) attrs k numbers is kept)
 
--- ---- terms as the code has them
+-- ---- addends as the code has them
 
-pub term_at : (terms : List ExprTerm) (i : ℕ) (t : ExprTerm) → t ≡ get_or terms i t → get_or (terms_view terms) i (term_view t) ≡ term_view t
-term_at terms i t is = get_or-map term_view terms i t ∙ sym (ap term_view is)
+pub addend_at : (added : List code.Addend) (i : ℕ) (a : code.Addend) → a ≡ get_or added i a → get_or (addends_view added) i (addend_view a) ≡ addend_view a
+addend_at added i a is = get_or-map addend_view added i a ∙ sym (ap addend_view is)
 
-pub same_term : (views : List LiveView) (terms : List ExprTerm) (i : ℕ) (t : ExprTerm) → i < length terms → t ≡ get_or terms i t → AreSame (with_term views (first_sum views (terms_view terms) i) (term_view t)) (first_sum views (terms_view terms) (i + 1))
-same_term views terms i t within is = λ v.
-    ap (λ (u : Term). plus (first_sum views (terms_view terms) i v) (share views v u)) (sym (term_at terms i t is))
-    ∙ same_more views (terms_view terms) i (term_view t) (omega (arith, within, length-map terms term_view)) v
+pub same_addend : (added : List code.Addend) (i : ℕ) (a : code.Addend) → i < length added → a ≡ get_or added i a → AreSame (with_addend (first_of (addends_view added) i) (addend_view a)) (first_of (addends_view added) (i + 1))
+same_addend added i a within is = λ v.
+    ap (λ (x : Addend). plus (first_of (addends_view added) i v) (x.share v)) (sym (addend_at added i a is))
+    ∙ same_more (addends_view added) i (addend_view a) (omega (arith, within, length-map added addend_view)) v

@@ -1,13 +1,12 @@
 -- Sums of fractions, and the constants that they make.
-use Rattle.std.proofs.Common.{◌≡◌, ℕ, zero, suc, ◌+◌, ◌*◌, ◌<◌, ◌≤◌, ◌^◌, List, [], ◌∷◌, ◌++◌, length, take, get_or, ℤ, pos, neg_ℤ, ◌+ℤ◌, ◌*ℤ◌, refl, sym, subst, ap, ap₂, ◌∙◌, arith, mul-pos, ◌⊎◌, inl, inr}
+use Rattle.std.proofs.Common.{◌≡◌, ℕ, ◌+◌, ◌<◌, ◌≤◌, ◌^◌, List, [], ◌∷◌, ◌++◌, length, take, get_or, ℤ, pos, neg_ℤ, ◌*ℤ◌, refl, sym, subst, ap, ◌∙◌, arith, mul-pos, ◌⊎◌, inl, inr}
 use Rattle.std.specs.Prelude.{unsigned_abs}
-use borrow.Author.Differences.{ints}
 use Rattle.std.proofs.lemmas.List.{take_more, get_or_default}
-use Rattle.frac_core.specs.Fraction.{Fraction, IsLowest, Fits, IsKept, IsRatio, sum_num, sum_den}
-use Rattle.frac_core.proofs.Integers.{on_1, on_2, diff, diff_eq, diff-add, diff-mul, diff-neg, diff-pos, neg-pos, cancel_mul, mul_assoc_ℤ}
-use Rattle.constraint_compile.specs.Fractions.{zero_fraction, plus, times, total, IsConstant, IsSmallConstant}
+use Rattle.frac_core.specs.Fraction.{Fraction, IsLowest}
+use Rattle.frac_core.proofs.Integers.{on_1, diff_eq, diff-add, diff-mul, diff-pos, cancel_mul}
+use Rattle.constraint_compile.specs.Fractions.{zero_fraction, plus, IsConstant, IsSmallConstant}
 use Rattle.constraint_compile.specs.Meaning.{MetricList, part_value}
-use Rattle.constraint_compile.specs.Compiled.{Step, IsValue, IsFittingSum, IsSmallAfter, AreSmallSteps, step_sum, last_scale}
+use Rattle.constraint_compile.specs.Compiled.{Step, IsSmallAfter, AreSmallSteps, step_sum, last_scale}
 use Rattle.constraint_compile.proofs.Lowest.{one_lowest}
 use Rattle.constraint_compile.proofs.Lists.{lt_or_eq}
 use Rattle.constraint_compile.proofs.Totals.{total_more}

@@ -1,5 +1,5 @@
 -- Sums of pieces, doubled again and again.
-use Rattle.std.proofs.Common.{◌≡◌, ◌≢◌, ℕ, zero, suc, ◌+◌, ◌*◌, ◌<◌, ◌≤◌, ◌^◌, List, [], ◌∷◌, ◌++◌, length, length-append, take, take_all, map, get_or, All, ℤ, pos, negsuc, neg_ℤ, ◌+ℤ◌, ◌*ℤ◌, ◌<ℤ◌, refl, sym, subst, ap, ap₂, ◌∙◌, arith, mul-pos}
+use Rattle.std.proofs.Common.{◌≡◌, ℕ, zero, suc, ◌+◌, ◌*◌, ◌<◌, ◌≤◌, ◌^◌, List, [], ◌∷◌, ◌++◌, length, length-append, take, take_all, map, get_or, All, ℤ, pos, negsuc, ◌+ℤ◌, ◌*ℤ◌, ◌<ℤ◌, refl, sym, subst, ap, ap₂, ◌∙◌, arith, mul-pos}
 use Rattle.std.specs.Prelude.{unsigned_abs}
 use borrow.Author.Differences.{ints}
 use Rattle.std.proofs.Math.Nat.{mul-le-mul}
@@ -10,9 +10,8 @@ use Rattle.std.proofs.lemmas.List.Elements.{All-push}
 use Rattle.std.proofs.lemmas.Int.{unsigned_abs-mul}
 use Rattle.frac_core.specs.Fraction.{Fraction}
 use Rattle.frac_core.proofs.Integers.{on_1, on_2, diff, diff_eq, diff-add, diff-mul, diff-pos, mul-zero_ℤ, mul_assoc_ℤ}
-use Rattle.script_text.specs.Meaning.{Term}
-use Rattle.script_text.specs.View.{term_view, terms_view}
-use Rattle.script_text.specs.declared.command.ExprTerm.{ExprTerm}
+use Rattle.constraint_compile.specs.Addends.{Addend, addend_view, addends_view}
+use Rattle.constraint_compile.specs.declared.addends.Addend as code
 use Rattle.constraint_compile.specs.Fractions.{plus, total}
 use Rattle.constraint_compile.specs.Pieces.{piece_value, IsPiece, AreDoubled}
 use Rattle.constraint_compile.specs.declared.nonzero.Piece.{Piece}
@@ -215,18 +214,18 @@ round_last pieces rests k w all few many round =
 pub round_small : (pieces rests next : List Piece) (k : ℕ) (w v : ℤ) → length pieces ≤ 64 → IsRound pieces k w rests → AreDoubled rests v next → unsigned_abs v ≤ 2 ^ 51
 round_small pieces rests next k w v few round are = omega (arith, are.small, few, round.long)
 
--- ---- the pieces of terms
+-- ---- the pieces of addends
 
-pub values_more : (h : Term → Fraction) (terms : List ExprTerm) (pieces : List Piece) (i : ℕ) (t : ExprTerm) (p : Piece) → i < length terms → t ≡ get_or terms i t → piece_value p ≡ h (term_view t)
-    → map piece_value pieces ≡ map h (terms_view (take i terms)) → map piece_value (pieces ++ p ∷ []) ≡ map h (terms_view (take (i + 1) terms))
-values_more h terms pieces i t p within is here before =
-    let right : map h (terms_view (take (i + 1) terms)) ≡ map h (terms_view (take i terms)) ++ h (term_view t) ∷ [] =
-    ap (λ (ts : List ExprTerm). map h (terms_view ts)) (take_more terms i t within ∙ ap (λ (x : ExprTerm). take i terms ++ x ∷ []) (sym is))
-    ∙ ap (map h) (map_push term_view (take i terms) t) ∙ map_push h (terms_view (take i terms)) (term_view t) in
-    map_push piece_value pieces p ∙ ap (λ (qs : List Fraction). qs ++ piece_value p ∷ []) before ∙ ap (λ (q : Fraction). map h (terms_view (take i terms)) ++ q ∷ []) here ∙ sym right
+pub values_more : (h : Addend → Fraction) (added : List code.Addend) (pieces : List Piece) (i : ℕ) (a : code.Addend) (p : Piece) → i < length added → a ≡ get_or added i a → piece_value p ≡ h (addend_view a)
+    → map piece_value pieces ≡ map h (addends_view (take i added)) → map piece_value (pieces ++ p ∷ []) ≡ map h (addends_view (take (i + 1) added))
+values_more h added pieces i a p within is here before =
+    let right : map h (addends_view (take (i + 1) added)) ≡ map h (addends_view (take i added)) ++ h (addend_view a) ∷ [] =
+    ap (λ (xs : List code.Addend). map h (addends_view xs)) (take_more added i a within ∙ ap (λ (x : code.Addend). take i added ++ x ∷ []) (sym is))
+    ∙ ap (map h) (map_push addend_view (take i added) a) ∙ map_push h (addends_view (take i added)) (addend_view a) in
+    map_push piece_value pieces p ∙ ap (λ (qs : List Fraction). qs ++ piece_value p ∷ []) before ∙ ap (λ (q : Fraction). map h (addends_view (take i added)) ++ q ∷ []) here ∙ sym right
 
-pub values_whole : (h : Term → Fraction) (terms : List ExprTerm) (pieces : List Piece) (i : ℕ) → length terms ≤ i → map piece_value pieces ≡ map h (terms_view (take i terms)) → map piece_value pieces ≡ map h (terms_view terms)
-values_whole h terms pieces i over is = is ∙ ap (λ (ts : List ExprTerm). map h (terms_view ts)) (take_all i terms over)
+pub values_whole : (h : Addend → Fraction) (added : List code.Addend) (pieces : List Piece) (i : ℕ) → length added ≤ i → map piece_value pieces ≡ map h (addends_view (take i added)) → map piece_value pieces ≡ map h (addends_view added)
+values_whole h added pieces i over is = is ∙ ap (λ (xs : List code.Addend). map h (addends_view xs)) (take_all i added over)
 
-pub same_length : (h : Term → Fraction) (terms : List ExprTerm) (pieces : List Piece) → map piece_value pieces ≡ map h (terms_view terms) → length pieces ≡ length terms
-same_length h terms pieces same = sym (length-map pieces piece_value) ∙ ap length same ∙ length-map (terms_view terms) h ∙ length-map terms term_view
+pub same_length : (h : Addend → Fraction) (added : List code.Addend) (pieces : List Piece) → map piece_value pieces ≡ map h (addends_view added) → length pieces ≡ length added
+same_length h added pieces same = sym (length-map pieces piece_value) ∙ ap length same ∙ length-map (addends_view added) h ∙ length-map added addend_view

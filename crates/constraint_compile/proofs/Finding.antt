@@ -1,5 +1,5 @@
 -- Looking for a view from a place on.
-use Rattle.std.proofs.Common.{◌≡◌, ℕ, ◌+◌, ◌<◌, List, [], ◌∷◌, length, drop, find, nat_eq, true, false, Option, Some, None, IfNone, sym, ap, refl, ◌∙◌, arith}
+use Rattle.std.proofs.Common.{◌≡◌, ℕ, ◌+◌, List, ◌∷◌, drop, find, nat_eq, true, false, Option, Some, ap, refl, ◌∙◌, arith}
 use Rattle.std.proofs.lemmas.Bool.Decides.{nat_tests}
 use Rattle.std.specs.List.{slice_get}
 use Rattle.std.specs.Option.{option_map}

@@ -1,5 +1,5 @@
 -- Causes of refusal exclude one another, and none comes where a format is compiled.
-use Rattle.std.proofs.Common.{◌≡◌, ℕ, ◌+◌, ◌<◌, List, [], ◌∷◌, length, get_or, map, All, Bool, true, false, Option, Some, None, refl, sym, ap, subst, ◌∙◌, arith}
+use Rattle.std.proofs.Common.{◌≡◌, ℕ, ◌+◌, List, [], ◌∷◌, length, get_or, All, Bool, true, false, Option, Some, None, refl, sym, ap, subst, ◌∙◌, arith}
 use Rattle.std.specs.List.{Any, list_any}
 use Rattle.std.proofs.lemmas.List.Elements.{All-nil, All-cons}
 use Rattle.std.proofs.lemmas.List.{same_lists, get_or-map}
@@ -21,7 +21,7 @@ use Rattle.constraint_compile.specs.Stops.{AreSteps}
 use Rattle.constraint_compile.specs.FormatParts.{Part, parts}
 use Rattle.constraint_compile.specs.FormatLines.{lines_of}
 use Rattle.constraint_compile.specs.FormatRefusals.{unknown_parts, is_along, lacks_parent, has_view_space}
-use Rattle.constraint_compile.specs.FormatStops.{row_count, IsPastNumbers, IsUsableFormat, IsWrongFormat}
+use Rattle.constraint_compile.specs.FormatStops.{row_count, IsUsableFormat, IsWrongFormat}
 use Rattle.constraint_compile.specs.FormatRows.{Passes, NonePass, PassesFirst, PassesInFormat, IsRowWithin, AreRowsOf, IsCompiledFormat, MayStopFormat}
 use Rattle.constraint_compile.specs.declared.stops.CompileStop.{CompileStop}
 use Rattle.constraint_compile.specs.declared.stops.CompileStop.TheVariants.{Unknown, Kind, Limit, OutOfMemory}

@@ -1,11 +1,9 @@
 -- The attributes that have coefficients.
-use Rattle.std.proofs.Common.{◌≡◌, ◌≢◌, ℕ, zero, suc, ◌+◌, ◌<◌, ◌≤◌, List, [], ◌∷◌, ◌++◌, length, length-append, get_or, All, AllPairs, pos, ℤ, ◌+ℤ◌, ◌*ℤ◌, refl, sym, subst, ap, ◌∙◌, arith, ◌⊎◌, inl, inr}
+use Rattle.std.proofs.Common.{◌≡◌, ℕ, zero, suc, ◌<◌, ◌≤◌, List, [], ◌∷◌, length, get_or, All, AllPairs, pos, ℤ, ◌+ℤ◌, ◌*ℤ◌, refl, sym, arith, ◌⊎◌, inl, inr}
 use Rattle.std.proofs.lemmas.Bool.{cases_eq}
 use borrow.Author.Differences.{ints}
-use Rattle.script_text.specs.Meaning.{Term}
-use Rattle.script_text.specs.View.{term_view, terms_view}
-use Rattle.script_text.specs.declared.command.ExprTerm.{ExprTerm}
-use Rattle.constraint_compile.specs.Fractions.{total}
+use Rattle.constraint_compile.specs.Addends.{addend_view, addends_view, sum_of}
+use Rattle.constraint_compile.specs.declared.addends.Addend.{Addend}
 use Rattle.frac_core.specs.Fraction.{Fraction}
 use Rattle.constraint_compile.specs.Shares.{IsOff}
 use Rattle.constraint_compile.specs.Sums.{HasTooMany, attr_at}
@@ -68,7 +66,7 @@ attrs_few b attrs rising off few many =
 zeros : (d e : ℕ) (x y : ℤ) → x ≡ pos 0 → y ≡ pos 0 → x *ℤ pos e +ℤ y *ℤ pos d ≡ pos 0
 zeros d e x y h k = rw (h, k) (let z : pos 0 *ℤ pos e +ℤ pos 0 *ℤ pos d ≡ pos 0 = omega (arith, ints) in z)
 
-pub zero_shares : (h : Term → Fraction) (terms : List ExprTerm) → All (λ t. (h (term_view t)).num ≡ pos 0) terms → (total h (terms_view terms)).num ≡ pos 0
-zero_shares h [] all = refl
-zero_shares h (t ∷ terms) all =
-    zeros (h (term_view t)).den (total h (terms_view terms)).den (h (term_view t)).num (total h (terms_view terms)).num (all zero t (omega arith)) (zero_shares h terms (λ k d less. all (suc k) d (omega (arith, less))))
+pub zero_shares : (v : ℕ) (added : List Addend) → All (λ a. ((addend_view a).share v).num ≡ pos 0) added → (sum_of (addends_view added) v).num ≡ pos 0
+zero_shares v [] all = refl
+zero_shares v (a ∷ added) all =
+    zeros ((addend_view a).share v).den (sum_of (addends_view added) v).den ((addend_view a).share v).num (sum_of (addends_view added) v).num (all zero a (omega arith)) (zero_shares v added (λ k d less. all (suc k) d (omega (arith, less))))

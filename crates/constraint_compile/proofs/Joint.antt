@@ -1,5 +1,5 @@
 -- A sum over its least scale, and the same with a share more.
-use Rattle.std.proofs.Common.{◌≡◌, ℕ, zero, suc, ◌+◌, ◌*◌, ◌/◌, ◌<◌, ◌≤◌, ◌^◌, List, [], ◌∷◌, length, get_or, All, ℤ, pos, negsuc, ◌+ℤ◌, ◌*ℤ◌, refl, sym, subst, ap, ap₂, ◌∙◌, arith, ◌⊎◌, inl, inr, mul-pos}
+use Rattle.std.proofs.Common.{◌≡◌, ℕ, zero, suc, ◌*◌, ◌/◌, ◌<◌, ◌≤◌, ◌^◌, List, [], ◌∷◌, length, get_or, ℤ, pos, ◌+ℤ◌, ◌*ℤ◌, sym, subst, ap, ap₂, ◌∙◌, arith, ◌⊎◌, inl, inr, mul-pos}
 use Prim.Native.Nat.{◌∣◌}
 use Rattle.std.specs.Prelude.{unsigned_abs}
 use borrow.Author.Differences.{ints}
@@ -8,9 +8,9 @@ use Rattle.std.proofs.lemmas.Int.{unsigned_abs-mul}
 use Rattle.std.proofs.lemmas.Nat.Gcd.{le_of_dvd}
 use Rattle.std.proofs.lemmas.List.{get_or_default}
 use Rattle.std.proofs.lemmas.List.Elements.{All-cons}
-use Rattle.std.proofs.Math.Nat.{dvd-mul_left, dvd-mul_right, dvd_of_mul-dvd-mul_right, div-mul_cancel, eq-zero_of_zero-dvd, mul-le-mul_left}
+use Rattle.std.proofs.Math.Nat.{dvd-mul_right, dvd_of_mul-dvd-mul_right, div-mul_cancel, eq-zero_of_zero-dvd, mul-le-mul_left}
 use Rattle.frac_core.specs.Fraction.{Fraction}
-use Rattle.frac_core.proofs.Integers.{cancel_mul, mul_assoc_ℤ, mul_left_comm_ℤ, on_2, diff, diff_eq, diff-add, diff-mul, diff-pos, mul-zero_ℤ, zero-mul_ℤ}
+use Rattle.frac_core.proofs.Integers.{cancel_mul, mul_assoc_ℤ, mul_left_comm_ℤ, on_2, diff_eq, diff-add, diff-mul, diff-pos, mul-zero_ℤ, zero-mul_ℤ}
 use Rattle.problem_core.specs.Layout.{coefficient}
 use Rattle.constraint_compile.specs.Fractions.{plus, IsOver, IsScale, MakesWhole, AreSmall}
 use Rattle.constraint_compile.specs.Shares.{IsOff, share_fraction, form}

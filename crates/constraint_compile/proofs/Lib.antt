@@ -1,3 +1,4 @@
+pub mod Added
 pub mod Beginnings
 pub mod Constants
 pub mod Divisors

@@ -1,16 +1,15 @@
 -- The row of a line, put together.
-use Rattle.std.proofs.Common.{◌≡◌, ℕ, Bool, true, false, ◌||◌, zero, suc, ◌+◌, ◌<◌, ◌≤◌, ◌^◌, List, [], ◌∷◌, ◌++◌, length, map, take, take_all, get_or, pos, refl, sym, subst, ap, ◌∙◌, arith}
-use Rattle.std.proofs.lemmas.List.{take_more, map_push, get_or_default, get_or-map, length-map}
+use Rattle.std.proofs.Common.{◌≡◌, ℕ, Bool, true, false, ◌||◌, zero, suc, ◌+◌, ◌<◌, ◌≤◌, ◌^◌, List, [], ◌∷◌, ◌++◌, length, map, take, take_all, get_or, refl, sym, subst, ap, ◌∙◌, arith}
+use Rattle.std.proofs.lemmas.List.{take_more, map_push, get_or-map, length-map}
 use Rattle.frac_core.specs.Fraction.{Fraction}
 use Rattle.problem_core.specs.declared.parts.Term.{Term as RowTerm}
-use Rattle.script_text.specs.Meaning.{Operand, Term}
-use Rattle.script_text.specs.Meaning as meant
-use Rattle.script_text.specs.View.{term_view, terms_view}
-use Rattle.script_text.specs.declared.command.ExprTerm.{ExprTerm}
+use Rattle.script_text.specs.Meaning.{Term}
 use Rattle.view_tree.specs.Views.{LiveView}
 use Rattle.constraint_compile.specs.Fractions.{IsScale}
 use Rattle.constraint_compile.specs.Meaning as meaning
 use Rattle.constraint_compile.specs.Meaning.{sum_at}
+use Rattle.constraint_compile.specs.Addends.{Addend, addend_view, addends, addends_view}
+use Rattle.constraint_compile.specs.declared.addends.Addend as code
 use Rattle.constraint_compile.specs.Sums.{first_sum, AreScales, AreTerms}
 use Rattle.constraint_compile.specs.Compiled as compiled
 use Rattle.constraint_compile.specs.Compiled.{last_scale}
@@ -18,62 +17,63 @@ use Rattle.constraint_compile.specs.Keeps.{part_view, step_view, steps_view, met
 use Rattle.constraint_compile.specs.Stops.{AreSteps, IsSumRow}
 use Rattle.constraint_compile.specs.declared.steps.Step.{Step}
 use Rattle.constraint_compile.specs.declared.steps.Part.TheVariants as part
+use Rattle.constraint_compile.proofs.Added.{part_of, first_same, parts_same, same_count}
 use Rattle.constraint_compile.proofs.Beginnings.{zero_sum}
 use Rattle.constraint_compile.proofs.Constants.{last_more}
 
-name_at : (terms : List ExprTerm) (i : ℕ) (t : ExprTerm) → i < length terms → t ≡ get_or terms i t → get_or (map metric_name (terms_view terms)) i [] ≡ metric_name (term_view t)
-name_at terms i t within is =
-    get_or-map metric_name (terms_view terms) i (term_view t) [] (omega (arith, within, length-map terms term_view))
-    ∙ ap metric_name (get_or-map term_view terms i t (term_view t) within ∙ sym (ap term_view is))
+name_at : (added : List code.Addend) (i : ℕ) (a : code.Addend) → i < length added → a ≡ get_or added i a → get_or (map metric_name (addends_view added)) i [] ≡ metric_name (addend_view a)
+name_at added i a within is =
+    get_or-map metric_name (addends_view added) i (addend_view a) [] (omega (arith, within, length-map added addend_view))
+    ∙ ap metric_name (get_or-map addend_view added i a (addend_view a) within ∙ sym (ap addend_view is))
 
 -- ---- names
 
-not_metric : (of : Operand) → is_metric of ≡ false → metric_in of ≡ []
-not_metric (meant.Attr name word) none = refl
-not_metric (meant.Metric name) none = absurd cc
-not_metric meant.One none = refl
+not_metric : (p : meaning.Part) → is_metric p ≡ false → metric_in p ≡ []
+not_metric meaning.Nothing none = refl
+not_metric (meaning.Number by) none = refl
+not_metric (meaning.Multiple by name) none = absurd cc
 
 neither : (a b : Bool) → (a || b) ≡ false → (a ≡ false) × (b ≡ false)
 neither true b none = absurd cc
 neither false b none = (refl, none)
 
-no_name : (terms : List Term) (i : ℕ) → any_names_metric terms ≡ false → get_or (map metric_name terms) i [] ≡ []
+no_name : (added : List Addend) (i : ℕ) → any_names_metric added ≡ false → get_or (map metric_name added) i [] ≡ []
 no_name [] i none = refl
-no_name (t ∷ terms) zero none = not_metric t.of (neither (is_metric t.of) (any_names_metric terms) none).0
-no_name (t ∷ terms) (suc i) none = no_name terms i (neither (is_metric t.of) (any_names_metric terms) none).1
+no_name (a ∷ added) zero none = not_metric a.part (neither (is_metric a.part) (any_names_metric added) none).0
+no_name (a ∷ added) (suc i) none = no_name added i (neither (is_metric a.part) (any_names_metric added) none).1
 
-pub no_names : (terms : List Term) → any_names_metric terms ≡ false → HaveNames [] terms
-no_names terms none = record { at = λ i. sym (no_name terms i none) }
+pub no_names : (added : List Addend) → any_names_metric added ≡ false → HaveNames [] added
+no_names added none = record { at = λ i. sym (no_name added i none) }
 
-pub all_names : (terms : List Term) (names : List (List ℕ)) → names ≡ map metric_name terms → HaveNames names terms
-all_names terms names same = record { at = λ i. ap (λ (ns : List (List ℕ)). get_or ns i []) same }
+pub all_names : (added : List Addend) (names : List (List ℕ)) → names ≡ map metric_name added → HaveNames names added
+all_names added names same = record { at = λ i. ap (λ (ns : List (List ℕ)). get_or ns i []) same }
 
 -- ---- steps
 
-pub parts_more : (terms : List ExprTerm) (steps : List Step) (i : ℕ) (t : ExprTerm) (s : Step) → i < length terms → t ≡ get_or terms i t
-    → ((names : List (List ℕ)) → get_or names i [] ≡ metric_name (term_view t) → part_view names s.part ≡ meaning.part (term_view t))
-    → ((names : List (List ℕ)) → HaveNames names (terms_view terms) → map (λ (u : compiled.Step). u.part) (steps_view names steps) ≡ map meaning.part (terms_view (take i terms)))
-    → (names : List (List ℕ)) → HaveNames names (terms_view terms) → map (λ (u : compiled.Step). u.part) (steps_view names (steps ++ s ∷ [])) ≡ map meaning.part (terms_view (take (i + 1) terms))
-parts_more terms steps i t s within is here before names same =
-    let named : get_or names i [] ≡ metric_name (term_view t) = same.at i ∙ name_at terms i t within is in
+pub parts_more : (added : List code.Addend) (steps : List Step) (i : ℕ) (a : code.Addend) (s : Step) → i < length added → a ≡ get_or added i a
+    → ((names : List (List ℕ)) → get_or names i [] ≡ metric_name (addend_view a) → part_view names s.part ≡ (addend_view a).part)
+    → ((names : List (List ℕ)) → HaveNames names (addends_view added) → map (λ (u : compiled.Step). u.part) (steps_view names steps) ≡ map part_of (addends_view (take i added)))
+    → (names : List (List ℕ)) → HaveNames names (addends_view added) → map (λ (u : compiled.Step). u.part) (steps_view names (steps ++ s ∷ [])) ≡ map part_of (addends_view (take (i + 1) added))
+parts_more added steps i a s within is here before names same =
+    let named : get_or names i [] ≡ metric_name (addend_view a) = same.at i ∙ name_at added i a within is in
     let left : map (λ (u : compiled.Step). u.part) (steps_view names (steps ++ s ∷ [])) ≡ map (λ (u : compiled.Step). u.part) (steps_view names steps) ++ part_view names s.part ∷ [] =
     ap (map (λ (u : compiled.Step). u.part)) (map_push (step_view names) steps s) ∙ map_push (λ (u : compiled.Step). u.part) (steps_view names steps) (step_view names s) in
-    let right : map meaning.part (terms_view (take (i + 1) terms)) ≡ map meaning.part (terms_view (take i terms)) ++ meaning.part (term_view t) ∷ [] =
-    ap (λ (ts : List ExprTerm). map meaning.part (terms_view ts)) (take_more terms i t within ∙ ap (λ (x : ExprTerm). take i terms ++ x ∷ []) (sym is))
-    ∙ ap (map meaning.part) (map_push term_view (take i terms) t) ∙ map_push meaning.part (terms_view (take i terms)) (term_view t) in
-    left ∙ ap (λ (ps : List meaning.Part). ps ++ part_view names s.part ∷ []) (before names same) ∙ ap (λ (p : meaning.Part). map meaning.part (terms_view (take i terms)) ++ p ∷ []) (here names named) ∙ sym right
+    let right : map part_of (addends_view (take (i + 1) added)) ≡ map part_of (addends_view (take i added)) ++ (addend_view a).part ∷ [] =
+    ap (λ (xs : List code.Addend). map part_of (addends_view xs)) (take_more added i a within ∙ ap (λ (x : code.Addend). take i added ++ x ∷ []) (sym is))
+    ∙ ap (map part_of) (map_push addend_view (take i added) a) ∙ map_push part_of (addends_view (take i added)) (addend_view a) in
+    left ∙ ap (λ (ps : List meaning.Part). ps ++ part_view names s.part ∷ []) (before names same) ∙ ap (λ (p : meaning.Part). map part_of (addends_view (take i added)) ++ p ∷ []) (here names named) ∙ sym right
 
 pub scales_more_steps : (scales : List ℕ) (steps : List Step) (i : ℕ) (s : Step) → i < length scales → s.scale ≡ get_or scales i 0 → map (λ (u : Step). u.scale) steps ≡ take i scales → map (λ (u : Step). u.scale) (steps ++ s ∷ []) ≡ take (i + 1) scales
 scales_more_steps scales steps i s within is before =
     map_push (λ (u : Step). u.scale) steps s ∙ ap (λ (ks : List ℕ). ks ++ s.scale ∷ []) before ∙ ap (λ (k : ℕ). take i scales ++ k ∷ []) is ∙ sym (take_more scales i 0 within)
 
 -- the steps of the code are those of the terms
-pub are_steps : (views : List LiveView) (terms : List Term) (names : List (List ℕ)) (steps : List Step) (scales : List ℕ) → AreScales views terms (length terms) scales → length steps ≡ length terms
-    → map (λ (s : Step). s.scale) steps ≡ scales → map (λ (s : compiled.Step). s.part) (steps_view names steps) ≡ map meaning.part terms → AreSteps views terms (steps_view names steps)
+pub are_steps : (views : List LiveView) (terms : List Term) (names : List (List ℕ)) (steps : List Step) (scales : List ℕ) → AreScales (addends views terms) (length terms) scales → length steps ≡ length terms
+    → map (λ (s : Step). s.scale) steps ≡ scales → map (λ (s : compiled.Step). s.part) (steps_view names steps) ≡ map part_of (addends views terms) → AreSteps views terms (steps_view names steps)
 are_steps views terms names steps scales are long same parts = record {
   long = length-map steps (step_view names) ∙ long;
-  scales = λ i d within. subst (λ (k : ℕ). IsScale (first_sum views terms (i + 1)) k) (sym (scale_at i d within)) (are.each i within);
-  parts = parts;
+  scales = λ i d within. subst (λ (k : ℕ). IsScale (first_sum views terms (i + 1)) k) (sym (scale_at i d within)) (subst (λ (b : ℕ → Fraction). IsScale b (get_or scales i 0)) (first_same views terms (i + 1)) (are.each i within));
+  parts = parts ∙ parts_same views terms;
 }
   where
     none : Step
@@ -103,14 +103,15 @@ last_is_scale views terms steps are = at (length terms) refl
         let last : last_scale steps ≡ (get_or steps n first).scale = ap last_scale (sym whole_steps) ∙ last_more steps n first (omega (arith, is, are.long)) in
         subst (λ (ts : List Term). IsScale (sum_at views ts) (last_scale steps)) whole (subst (λ (k : ℕ). IsScale (sum_at views (take (n + 1) terms)) k) (sym last) (are.scales n first (omega (arith, is))))
 
--- the code's steps are those of the code's terms
-pub code_steps : (views : List LiveView) (terms : List ExprTerm) (names : List (List ℕ)) (steps : List Step) (scales : List ℕ) → AreScales views (terms_view terms) (length terms) scales → length steps ≡ length terms
-    → map (λ (s : Step). s.scale) steps ≡ scales → map (λ (s : compiled.Step). s.part) (steps_view names steps) ≡ map meaning.part (terms_view terms) → AreSteps views (terms_view terms) (steps_view names steps)
-code_steps views terms names steps scales are long same parts =
-    are_steps views (terms_view terms) names steps scales (subst (λ (n : ℕ). AreScales views (terms_view terms) n scales) (sym (length-map terms term_view)) are) (long ∙ sym (length-map terms term_view)) same parts
+-- the code's steps are those of whatever terms its addends come from
+pub code_steps : (views : List LiveView) (terms : List Term) (added : List code.Addend) (names : List (List ℕ)) (steps : List Step) (scales : List ℕ) → addends_view added ≡ addends views terms → AreScales (addends_view added) (length added) scales → length steps ≡ length added
+    → map (λ (s : Step). s.scale) steps ≡ scales → map (λ (s : compiled.Step). s.part) (steps_view names steps) ≡ map part_of (addends_view added) → AreSteps views terms (steps_view names steps)
+code_steps views terms added names steps scales of are long same parts =
+    let count : length added ≡ length terms = same_count views terms added of in
+    are_steps views terms names steps scales (subst (λ (xs : List Addend). AreScales xs (length terms) scales) of (subst (λ (n : ℕ). AreScales (addends_view added) n scales) count are)) (long ∙ count) same (parts ∙ ap (map part_of) of)
 
-pub scales_kept : (views : List LiveView) (terms : List Term) (steps : List Step) (scales : List ℕ) (n : ℕ) → AreScales views terms n scales → map (λ (s : Step). s.scale) steps ≡ scales → AreScalesKept steps
-scales_kept views terms steps scales n are same k d within = (
+pub scales_kept : (added : List Addend) (steps : List Step) (scales : List ℕ) (n : ℕ) → AreScales added n scales → map (λ (s : Step). s.scale) steps ≡ scales → AreScalesKept steps
+scales_kept added steps scales n are same k d within = (
   subst (λ (m : ℕ). 0 < m) (sym here) (are.each k less).above,
   subst (λ (m : ℕ). m ≤ 2 ^ 30) (sym here) (are.low k 0 (omega (arith, less, are.long))),
 )

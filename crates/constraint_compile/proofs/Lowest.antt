@@ -1,9 +1,8 @@
 -- A value has one fraction in lowest terms.
-use Rattle.std.proofs.Common.{◌≡◌, ℕ, ◌*◌, ◌<◌, ℤ, pos, negsuc, neg_ℤ, ◌*ℤ◌, refl, sym, ap, ◌∙◌, arith}
-use Rattle.std.specs.Int.{IsGcd}
+use Rattle.std.proofs.Common.{◌≡◌, ℕ, ◌*◌, ℤ, pos, neg_ℤ, ◌*ℤ◌, refl, sym, ap, ◌∙◌, arith}
 use Rattle.std.specs.Int.RustNames.{unsigned_abs}
 use borrow.Author.Differences.{ints}
-use Rattle.frac_core.specs.Fraction.{Fraction, IsLowest, Fits, IsKept, IsRatio}
+use Rattle.frac_core.specs.Fraction.{Fraction, IsLowest, IsKept}
 use Rattle.frac_core.proofs.Gauss.{same_lowest}
 use Rattle.frac_core.proofs.Signs.{unsigned_abs-mul}
 use Rattle.frac_core.proofs.Integers.{cancel_mul}

@@ -1,12 +1,10 @@
 -- The rows that name a metric, and those that don't.
-use Rattle.std.proofs.Common.{◌≡◌, ◌∙◌, ◌||◌, ℕ, zero, suc, ◌+◌, ◌<◌, Bool, true, false, true≢false, cond, List, [], ◌∷◌, ◌++◌, length, take, map, filter, get_or, All, refl, sym, ap, ap₂, subst, arith}
+use Rattle.std.proofs.Common.{◌≡◌, ◌∙◌, ◌||◌, ℕ, zero, suc, ◌+◌, ◌<◌, Bool, true, false, true≢false, cond, List, [], ◌∷◌, ◌++◌, length, take, map, get_or, refl, sym, ap, ap₂, subst, arith}
 use Rattle.std.specs.List.{list_any, AllZip}
-use Rattle.std.specs.Str.{bytes_eq}
 use Rattle.std.proofs.lemmas.List.{append-nil}
 use Rattle.std.proofs.lemmas.List.Elements.{All-head, All-tail, filter-append}
 use Rattle.frac_core.specs.Fraction.{Fraction}
 use Rattle.problem_core.specs.Layout.{Row}
-use Rattle.name_tables.specs.Names.{value_of}
 use Rattle.constraint_compile.specs.Meaning.{Part, Nothing, Number, Multiple, MetricList, part_value, value_in}
 use Rattle.constraint_compile.specs.Fractions.{plus, IsConstant, IsSmallConstant}
 use Rattle.constraint_compile.specs.Compiled as compiled

@@ -1,5 +1,5 @@
 -- The rows of lines, with one line more.
-use Rattle.std.proofs.Common.{◌≡◌, ℕ, zero, suc, ◌+◌, ◌<◌, ◌≤◌, List, [], ◌∷◌, ◌++◌, length, take, drop, map, get_or, All, Option, Some, None, refl, sym, subst, ap, ◌∙◌, arith}
+use Rattle.std.proofs.Common.{◌≡◌, ℕ, suc, ◌+◌, ◌<◌, List, [], ◌∷◌, ◌++◌, length, take, drop, get_or, Option, Some, None, refl, sym, subst, ap, ◌∙◌, arith}
 use Rattle.std.specs.List.{Any}
 use Rattle.std.proofs.lemmas.Grind.{common_steps}
 use Rattle.std.proofs.lemmas.List.{take_more, drop_more, take-append-drop, map_push, map-append, length-append}
@@ -11,7 +11,7 @@ use Rattle.script_text.specs.Meaning.{Linear}
 use Rattle.view_tree.specs.Views.{LiveView}
 use Rattle.constraint_compile.specs.Meaning.{MetricList, terms_of}
 use Rattle.constraint_compile.specs.Compiled.{RowForm}
-use Rattle.constraint_compile.specs.Stops.{PassesRowLimit, IsRowStop}
+use Rattle.constraint_compile.specs.Stops.{IsRowStop}
 use Rattle.vfl_text.specs.Formats.{FormatMeaning}
 use Rattle.script_text.specs.declared.words.Align.{Align}
 use Rattle.constraint_compile.specs.declared.format_parts.Part as declared_part

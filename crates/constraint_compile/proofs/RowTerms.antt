@@ -1,20 +1,18 @@
 -- The terms of a row, one attribute after another.
-use Rattle.std.proofs.Common.{◌≡◌, ◌≢◌, ℕ, zero, suc, ◌+◌, ◌*◌, ◌<◌, ◌≤◌, ◌^◌, cond, nat_eq, true, false, List, [], ◌∷◌, ◌++◌, length, map, get_or, All, AllPairs, ℤ, pos, ◌+ℤ◌, ◌*ℤ◌, refl, sym, subst, ap, ◌∙◌, arith, ◌⊎◌, inl, inr, eq-eqb, ne_eqb}
-use Rattle.std.specs.Prelude.{unsigned_abs}
+use Rattle.std.proofs.Common.{◌≡◌, ℕ, zero, suc, ◌+◌, ◌<◌, ◌≤◌, cond, nat_eq, List, [], ◌∷◌, ◌++◌, length, map, get_or, All, AllPairs, ℤ, pos, ◌+ℤ◌, ◌*ℤ◌, refl, sym, subst, ap, ◌∙◌, arith, ◌⊎◌, inl, inr, eq-eqb, ne_eqb}
 use borrow.Author.Differences.{ints}
-use Rattle.std.proofs.lemmas.Bool.{cases_eq}
 use Rattle.std.proofs.lemmas.List.{get_or-map, length-map}
 use Rattle.std.proofs.lemmas.List.Elements.{All-push}
 use Rattle.std.proofs.lemmas.List.Quantifiers.{all_pairs_push}
 use Rattle.frac_core.specs.Fraction.{Fraction}
 use Rattle.frac_core.proofs.Integers.{mul-zero_ℤ, zero_from_mul}
 use Rattle.problem_core.specs.declared.parts.Term.{Term}
-use Rattle.problem_core.specs.Layout.{coefficient, sum_of}
-use Rattle.problem_core.specs.Kept.{IsTerm, IsNumber}
+use Rattle.problem_core.specs.Layout.{coefficient}
+use Rattle.problem_core.specs.Kept.{IsTerm}
 use Rattle.problem_core.proofs.Forms.{sum-append}
 use Rattle.constraint_compile.specs.Fractions.{IsOver}
 use Rattle.constraint_compile.specs.Shares.{IsOff}
-use Rattle.constraint_compile.specs.Sums.{AreKept, IsSum, HasFirst, AreTerms, HasTooMany, attr_at, number_at}
+use Rattle.constraint_compile.specs.Sums.{IsSum, HasFirst, AreTerms, HasTooMany, attr_at, number_at}
 use Rattle.constraint_compile.proofs.Joint.{find_place}
 use Rattle.constraint_compile.proofs.Lists.{lt_or_eq}
 

@@ -1,16 +1,16 @@
 -- The sum of two quotients over the parts of the denominators that they don't share.
-use Rattle.std.proofs.Common.{◌≡◌, ℕ, zero, suc, ◌+◌, ◌*◌, ◌/◌, ◌%◌, ◌<◌, ◌≤◌, ◌^◌, ℤ, pos, negsuc, neg_ℤ, ◌+ℤ◌, ◌-ℤ◌, ◌*ℤ◌, ◌<ℤ◌, refl, sym, subst, ap, ap₂, ◌∙◌, arith, mul-pos}
+use Rattle.std.proofs.Common.{◌≡◌, ℕ, ◌+◌, ◌*◌, ◌/◌, ◌%◌, ◌<◌, ◌≤◌, ◌^◌, ℤ, pos, neg_ℤ, ◌+ℤ◌, ◌-ℤ◌, ◌*ℤ◌, ◌<ℤ◌, sym, subst, ap, ap₂, ◌∙◌, arith, mul-pos}
 use Prim.Native.Nat.{◌∣◌}
 use Rattle.std.specs.Prelude.{unsigned_abs}
 use Rattle.std.specs.Int.{IsGcd}
 use borrow.Author.Differences.{ints}
 use Rattle.std.proofs.lemmas.Int.{unsigned_abs-mul}
 use Rattle.std.proofs.lemmas.Nat.Gcd.{le_of_dvd}
-use Rattle.std.proofs.Math.Nat.{div-mul-le_self, div-add-mod, dvd-mul_right, dvd_of_mul-dvd-mul_left, mul-le-mul, mul-le-mul_left, mul-le-mul_right, le_of_mul-le-mul_right}
+use Rattle.std.proofs.Math.Nat.{div-mul-le_self, div-add-mod, dvd-mul_right, dvd_of_mul-dvd-mul_left, mul-le-mul, mul-le-mul_right, le_of_mul-le-mul_right}
 use Rattle.frac_core.specs.Fraction.{Fraction, IsLowest, IsRatio}
 use Rattle.frac_core.proofs.Gauss.{gauss}
-use Rattle.frac_core.proofs.Integers.{on_2, diff, diff_eq, diff-add, diff-mul, diff-neg, diff-pos, neg-pos, cancel_mul, mul-sub_left, mul-add_left, mul_positive, mul_assoc_ℤ, mul_left_comm_ℤ, add-mul_right}
-use Rattle.constraint_compile.specs.Fractions.{plus, IsConstant, IsSmallConstant}
+use Rattle.frac_core.proofs.Integers.{on_2, diff_eq, diff-add, diff-mul, diff-neg, diff-pos, neg-pos, cancel_mul, mul-sub_left, mul-add_left, mul_positive, mul_assoc_ℤ, mul_left_comm_ℤ}
+use Rattle.constraint_compile.specs.Fractions.{plus, IsConstant}
 use Rattle.constraint_compile.proofs.Lowest.{one_lowest}
 use Rattle.constraint_compile.specs.Quotients.{IsDivided, IsReduced}
 

@@ -1,5 +1,5 @@
 -- Sums over 1 with a share more, where they stay whole.
-use Rattle.std.proofs.Common.{◌≡◌, ℕ, ◌+◌, ◌*◌, ◌/◌, ◌<◌, ◌≤◌, ◌^◌, List, length, map, get_or, All, ℤ, pos, ◌+ℤ◌, ◌*ℤ◌, refl, sym, subst, ap, ◌∙◌, arith}
+use Rattle.std.proofs.Common.{◌≡◌, ℕ, ◌*◌, ◌/◌, List, map, get_or, All, ℤ, pos, ◌+ℤ◌, ◌*ℤ◌, refl, sym, subst, ◌∙◌, arith}
 use Prim.Native.Nat.{◌∣◌}
 use Rattle.std.specs.Prelude.{unsigned_abs}
 use borrow.Author.Differences.{ints}
@@ -8,7 +8,7 @@ use Rattle.std.proofs.lemmas.List.{get_or_default, length-map}
 use Rattle.std.proofs.Math.ListN.{get_or-map}
 use Rattle.std.proofs.Math.Nat.{dvd-mul_right}
 use Rattle.frac_core.specs.Fraction.{Fraction}
-use Rattle.constraint_compile.specs.Sums.{AreKept, IsSum, IsCovered, IsDivisor, AreDivided, AreWhole, attr_at, number_at, with_share, with_share_number}
+use Rattle.constraint_compile.specs.Sums.{AreKept, IsSum, IsCovered, IsDivisor, AreDivided, AreWhole, number_at, with_share}
 use Rattle.constraint_compile.specs.declared.attributes.Share.{Share}
 use Rattle.constraint_compile.proofs.Joint.{IsStep, step_sum}
 

@@ -1,11 +1,10 @@
 -- Compiled lines: rows whose constants are sums of numbers and of multiples of metrics.
-use Rattle.std.specs.Prelude.{◌≡◌, ℕ, ◌+◌, ◌*◌, ◌<◌, ◌≤◌, ◌^◌, List, [], ◌∷◌, length, map, take}
-use Rattle.std.specs.Prelude.{slice_index_or, All, AllPairs, ℤ, pos, ◌*ℤ◌}
-use Rattle.frac_core.specs.Fraction.{Fraction, IsLowest, Fits, IsKept}
+use Rattle.std.specs.Prelude.{◌≡◌, ℕ, ◌+◌, ◌<◌, List, [], ◌∷◌, length, take}
+use Rattle.std.specs.Prelude.{slice_index_or, All, pos, ◌*ℤ◌}
+use Rattle.frac_core.specs.Fraction.{Fraction, IsLowest, Fits}
 use Rattle.problem_core.specs.declared.parts.Rel.{Rel}
 use Rattle.problem_core.specs.declared.parts.Term.{Term}
 use Rattle.problem_core.specs.Layout.{Row}
-use Rattle.problem_core.specs.Kept.{IsNumber, IsTerm}
 use Rattle.constraint_compile.specs.Fractions.{total, IsConstant, IsSmallConstant}
 use Rattle.constraint_compile.specs.Meaning.{Part, MetricList, part_value}
 

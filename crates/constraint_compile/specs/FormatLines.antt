@@ -1,7 +1,7 @@
 -- Each row of a format is the row of a linear line.
-use Rattle.std.specs.Prelude.{ℕ, ◌+◌, pos, negsuc, ℤ, false, true, List, [], ◌∷◌, ◌++◌, Bool, Option, None}
+use Rattle.std.specs.Prelude.{ℕ, ◌+◌, pos, negsuc, ℤ, false, true, List, [], ◌∷◌, ◌++◌, Option, None}
 use Rattle.std.specs.Prelude.{Some, is_some, if◌then◌else◌, map}
-use Rattle.std.specs.Option.{option_map, option_and_then, option_to_list}
+use Rattle.std.specs.Option.{option_map, option_to_list}
 use Rattle.frac_core.specs.Fraction.{Fraction}
 use Rattle.span_text.specs.Objects as object
 use Rattle.span_text.specs.Objects.{Meant}

@@ -1,7 +1,6 @@
 -- What is wrong with a format, for a list of views and a list of metrics.
-use Rattle.std.specs.Prelude.{⊤, ◌≡◌, ℕ, ◌+◌, ◌<◌, ◌^◌, List, [], ◌∷◌, Option, None, Some, is_some, is_none}
-use Rattle.std.specs.Prelude.{Bool, true, false, ◌&&◌, ◌||◌}
-use Rattle.std.specs.List.{list_any}
+use Rattle.std.specs.Prelude.{⊤, ℕ, List, [], ◌∷◌, Option, None, Some, is_some, is_none}
+use Rattle.std.specs.Prelude.{Bool, true, false, ◌&&◌}
 use Rattle.std.specs.Option.{option_or, option_map, option_and_then}
 use Rattle.span_text.specs.Objects as object
 use Rattle.span_text.specs.Objects.{Meant}
@@ -12,7 +11,7 @@ use Rattle.script_text.specs.declared.words.Align.{Align}
 use Rattle.script_text.specs.declared.words.Align.TheVariants as align
 use Rattle.view_tree.specs.Views.{LiveView, view_named, view_of}
 use Rattle.constraint_compile.specs.Meaning.{MetricList, unless, unknown_object, IsRank}
-use Rattle.constraint_compile.specs.FormatParts.{Span, Part, View, Bar, Asks}
+use Rattle.constraint_compile.specs.FormatParts.{Part, View, Bar, Asks}
 
 -- ---- unknown names
 

@@ -1,5 +1,5 @@
 -- What a compiled line is made of.
-use Rattle.std.specs.Prelude.{ℕ, ◌<◌, ◌≤◌, ◌^◌, List, map, length, All, AllPairs}
+use Rattle.std.specs.Prelude.{◌<◌, ◌≤◌, ◌^◌, List, map, length, All, AllPairs}
 use Rattle.std.specs.String.{string_bytes}
 use Rattle.problem_core.specs.Kept.{IsTerm}
 use Rattle.view_tree.specs.declared.view.ViewId.{ViewId}

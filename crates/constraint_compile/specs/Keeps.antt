@@ -1,10 +1,9 @@
 -- What a compiled line keeps.
-use Rattle.std.specs.Prelude.{◌≡◌, ℕ, ◌<◌, ◌≤◌, ◌^◌, Bool, true, false, List, [], map, length, slice_index_or}
-use Rattle.std.specs.Prelude.{All, AllPairs}
+use Rattle.std.specs.Prelude.{◌≡◌, ℕ, ◌<◌, ◌≤◌, ◌^◌, Bool, true, false, List, [], map, slice_index_or}
+use Rattle.std.specs.Prelude.{All}
 use Rattle.std.specs.List.{list_any}
-use Rattle.problem_core.specs.Kept.{IsTerm}
-use Rattle.script_text.specs.Meaning as mean
 use Rattle.constraint_compile.specs.Meaning as meaning
+use Rattle.constraint_compile.specs.Addends.{Addend}
 use Rattle.constraint_compile.specs.Compiled as compiled
 use Rattle.constraint_compile.specs.declared.steps.Part.{Part}
 use Rattle.constraint_compile.specs.declared.steps.Part.TheVariants as part
@@ -25,23 +24,23 @@ steps_view names steps = map (step_view names) steps
 abbrev pub AreScalesKept : List Step → Type 0
 AreScalesKept steps = All (λ s. (0 < s.scale) × (s.scale ≤ 2 ^ 30)) steps
 
--- the metric that an operand names, or no name
-abbrev pub metric_in : mean.Operand → List ℕ
-metric_in (mean.Attr name word) = []
-metric_in (mean.Metric name) = name
-metric_in mean.One = []
+-- the metric of which a multiple is added, or no name
+abbrev pub metric_in : meaning.Part → List ℕ
+metric_in meaning.Nothing = []
+metric_in (meaning.Number by) = []
+metric_in (meaning.Multiple by name) = name
 
-abbrev pub metric_name : mean.Term → List ℕ
-metric_name t = metric_in t.of
+abbrev pub metric_name : Addend → List ℕ
+metric_name a = metric_in a.part
 
-abbrev pub is_metric : mean.Operand → Bool
-is_metric (mean.Attr name word) = false
-is_metric (mean.Metric name) = true
-is_metric mean.One = false
+abbrev pub is_metric : meaning.Part → Bool
+is_metric meaning.Nothing = false
+is_metric (meaning.Number by) = false
+is_metric (meaning.Multiple by name) = true
 
-abbrev pub any_names_metric : List mean.Term → Bool
-any_names_metric terms = list_any (λ t. is_metric t.of) terms
+abbrev pub any_names_metric : List Addend → Bool
+any_names_metric added = list_any (λ a. is_metric a.part) added
 
--- the metric that a term names stands at its place
-pub record HaveNames (names : List (List ℕ)) (terms : List mean.Term) : Type 0 where
-  pub at : (i : ℕ) → slice_index_or names i [] ≡ slice_index_or (map metric_name terms) i []
+-- the metric of which an addend is a multiple stands at its place
+pub record HaveNames (names : List (List ℕ)) (added : List Addend) : Type 0 where
+  pub at : (i : ℕ) → slice_index_or names i [] ≡ slice_index_or (map metric_name added) i []

@@ -1,3 +1,4 @@
+pub mod Addends
 pub mod Compiled
 pub mod FormatFound
 pub mod FormatLines

@@ -1,8 +1,7 @@
 -- What a linear line means, for a list of views and a list of metrics.
-use Rattle.std.specs.Prelude.{◌≡◌, ◌≢◌, ℕ, ◌+◌, ◌*◌, ◌<◌, ◌≤◌, List, [], ◌∷◌, ◌++◌, map, take, length, Option}
-use Rattle.std.specs.Prelude.{Some, None, is_some, Bool, true, false, ◌||◌, ℤ, pos, ◌*ℤ◌, unwrap_or, All}
-use Rattle.std.specs.Prelude.{AllPairs, IsSome}
-use Rattle.std.specs.List.{Any, list_any}
+use Rattle.std.specs.Prelude.{◌≡◌, ℕ, ◌+◌, ◌*◌, ◌<◌, ◌≤◌, List, [], ◌∷◌, ◌++◌, map, Option}
+use Rattle.std.specs.Prelude.{Some, None, is_some, Bool, true, false, ◌||◌, pos, ◌*ℤ◌}
+use Rattle.std.specs.List.{list_any}
 use Rattle.std.specs.Option.{option_or, option_map, option_to_list}
 use Rattle.frac_core.specs.Fraction.{Fraction}
 use Rattle.problem_core.specs.declared.parts.Term.{Term}

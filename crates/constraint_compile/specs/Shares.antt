@@ -1,5 +1,5 @@
 -- What a term has of the attributes, as the code keeps it.
-use Rattle.std.specs.Prelude.{◌≡◌, ◌≢◌, ℕ, ◌*◌, ◌≤◌, List, [], ◌∷◌, pos, ◌*ℤ◌, unsigned_abs, All}
+use Rattle.std.specs.Prelude.{◌≢◌, ℕ, ◌*◌, ◌≤◌, List, [], ◌∷◌, ◌*ℤ◌, unsigned_abs, All}
 use Rattle.frac_core.specs.Fraction.{Fraction}
 use Rattle.problem_core.specs.declared.parts.Term.{Term}
 use Rattle.problem_core.specs.Layout.{coefficient}

@@ -1,13 +1,12 @@
 -- When a line isn't compiled.
-use Rattle.std.specs.Prelude.{◌≡◌, ◌≢◌, ℕ, ◌+◌, ◌<◌, ◌≤◌, ◌^◌, Bool, true, false, List, [], ◌∷◌, length, map}
-use Rattle.std.specs.Prelude.{take, Option, None, Some, slice_index_or, ⊤}
-use Rattle.std.specs.List.{Any}
+use Rattle.std.specs.Prelude.{◌≡◌, ℕ, ◌+◌, ◌<◌, ◌≤◌, ◌^◌, true, false, List, [], ◌∷◌, length, map}
+use Rattle.std.specs.Prelude.{None, Some, slice_index_or, ⊤}
 use Rattle.name_tables.specs.declared.stops.LimitWord.{LimitWord}
 use Rattle.name_tables.specs.declared.stops.LimitWord.TheVariants as limit
 use Rattle.view_tree.specs.Views.{LiveView}
 use Rattle.script_text.specs.Meaning.{Term, Linear}
 use Rattle.constraint_compile.specs.Fractions.{IsScale, AreSmall}
-use Rattle.constraint_compile.specs.Meaning.{MetricList, part, terms_of, sum_at, first_unknown}
+use Rattle.constraint_compile.specs.Meaning.{MetricList, part, terms_of, sum_at, first_unknown, unknown_among}
 use Rattle.constraint_compile.specs.Meaning.{has_view_number, IsRank, IsInThousand, views_in}
 use Rattle.constraint_compile.specs.Sums.{first_sum, HasTooMany, AreTerms}
 use Rattle.constraint_compile.specs.Compiled.{Step, RowForm, CompiledLine, AreSmallSteps, AreSmallForms}
@@ -108,6 +107,13 @@ MayStop views metrics l number (Kind word) = AreKnown views metrics l × IsWrong
 MayStop views metrics l number (Limit word) = IsUsable views metrics l
     × PassesLimit views metrics l number word
 MayStop views metrics l number OutOfMemory = ⊤
+
+-- when a name in terms may be refused
+abbrev pub IsUnknownTerm : List LiveView → MetricList → List Term → CompileStop → Type 0
+IsUnknownTerm views metrics terms (Unknown name) = unknown_among views metrics terms ≡ Some name
+IsUnknownTerm views metrics terms OutOfMemory = ⊤
+IsUnknownTerm views metrics terms (Kind word) = ⊥
+IsUnknownTerm views metrics terms (Limit word) = ⊥
 
 -- why terms have no row
 abbrev pub IsRowStop : List LiveView → MetricList → List Term → CompileStop → Type 0

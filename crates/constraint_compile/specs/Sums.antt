@@ -8,7 +8,8 @@ use Rattle.problem_core.specs.Kept.{IsTerm}
 use Rattle.problem_core.specs.Layout.{coefficient}
 use Rattle.view_tree.specs.Views.{LiveView}
 use Rattle.script_text.specs.Meaning.{Term}
-use Rattle.constraint_compile.specs.Meaning.{share, sum_at}
+use Rattle.constraint_compile.specs.Meaning.{sum_at}
+use Rattle.constraint_compile.specs.Addends.{Addend, first_of}
 use Rattle.constraint_compile.specs.Fractions.{plus, IsOver, IsScale, AreSmall}
 use Rattle.constraint_compile.specs.Shares.{IsOff, share_fraction, form}
 use Rattle.constraint_compile.specs.declared.attributes.Share.{Share}
@@ -79,20 +80,16 @@ pub record IsPast (wide : List ℤ) (divisor : ℤ) : Type 0 where
   pub within : place < length wide
   pub past : unsigned_abs divisor * 2 ^ 30 < unsigned_abs (number_at wide place)
 
--- the coefficients with a term more
-abbrev pub with_term : List LiveView → (ℕ → Fraction) → Term → ℕ → Fraction
-with_term views b t v = plus (b v) (share views v t)
-
 -- the coefficients of the first n terms
 abbrev pub first_sum : List LiveView → List Term → ℕ → ℕ → Fraction
 first_sum views terms n = sum_at views (take n terms)
 
--- after each of the terms the sum has this scale, and is small
-pub record AreScales (views : List LiveView) (terms : List Term) (n : ℕ) (scales : List ℕ) : Type 0 where
+-- after each of the first n the sum has this scale, and is small
+pub record AreScales (added : List Addend) (n : ℕ) (scales : List ℕ) : Type 0 where
   pub long : length scales ≡ n
-  pub each : (i : ℕ) → i < n → IsScale (first_sum views terms (i + 1)) (slice_index_or scales i 0)
+  pub each : (i : ℕ) → i < n → IsScale (first_of added (i + 1)) (slice_index_or scales i 0)
   pub low : All (λ k. k ≤ 2 ^ 30) scales
-  pub small : (i : ℕ) → i < n → AreSmall (first_sum views terms (i + 1))
+  pub small : (i : ℕ) → i < n → AreSmall (first_of added (i + 1))
 
 -- more than 32 attributes have coefficients that aren't 0
 pub record HasTooMany (b : ℕ → Fraction) : Type 0 where

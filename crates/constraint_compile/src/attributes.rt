@@ -1,18 +1,18 @@
 // The attributes that terms have.
-ghost use Rattle.std.specs.Prelude.{◌≡◌, ◌≢◌, ℕ, ◌<◌, ◌≤◌, ◌^◌, [], ◌∷◌, pos, false, length, slice_index_or};
-ghost use Rattle.std.specs.Prelude.{All, AllPairs, IsTrue, IfOk, IfSome, IfNone, OnOk};
+ghost use Rattle.std.specs.Prelude.{◌≡◌, ◌≢◌, ℕ, ◌<◌, ◌≤◌, ◌^◌, [], ◌∷◌, pos, ◌*◌, ◌*ℤ◌, false, length};
+ghost use Rattle.problem_core.specs.Layout.{coefficient};
+ghost use Rattle.std.specs.Prelude.{slice_index_or, All, AllPairs, IsTrue, IfOk, IfSome, OnOk};
 ghost use Rattle.std.specs.Option.{option_map};
-ghost use Rattle.script_text.specs.View.{term_view, terms_view};
 ghost use Rattle.view_tree.specs.Views.{view_named};
 ghost use Rattle.problem_core.specs.Kept.{IsNumber};
-ghost use Rattle.constraint_compile.specs.Fractions.{zero_fraction};
 ghost use Rattle.constraint_compile.specs.Meaning as meaning;
-ghost use Rattle.constraint_compile.specs.Meaning.{share};
+ghost use Rattle.constraint_compile.specs.Addends.{addend_view, IsKept};
 ghost use Rattle.constraint_compile.specs.Shares.{form, share_fraction, AreHalves, IsOff};
 
+use crate::addends::Addend;
 use frac_core::{Frac, OutOfMemory};
 use problem_core::Term;
-use script_text::{AttrWord, ExprTerm, Operand};
+use script_text::AttrWord;
 use std::alloc::Global;
 use view_tree::{Tree, ViewId};
 
@@ -79,8 +79,8 @@ fn twice(view: ViewId, word: AttrWord) -> Doubled
     }
 }
 
-// The number of a view.
-fn number_of(tree: &Tree, name: &str) -> Option<ViewId>
+/// The number of a view.
+pub(crate) fn number_of(tree: &Tree, name: &str) -> Option<ViewId>
     ensures id { option_map (λ id. id.0) result ≡ option_map (λ v.
         v.id) (view_named tree.now.views name.now) }
     ensures within { IfSome result (λ id. id.0 < 2 ^ 29) }
@@ -89,23 +89,16 @@ fn number_of(tree: &Tree, name: &str) -> Option<ViewId>
     tree.find(name)
 }
 
-/// What a term has of the attributes of views.
-pub(crate) fn share_of(tree: &Tree, term: &ExprTerm<'_>) -> Option<Share>
-    ensures some { IfSome result (λ s. (v : ℕ) → share tree.now.views v (term_view term.now)
-        ≡ share_fraction s v) }
-    ensures halves { IfSome result (λ s. AreHalves s.of) }
-    ensures none { IfNone result ((v : ℕ) → share tree.now.views v (term_view term.now) ≡ zero_fraction) }
+/// So many times an attribute of a view.
+pub(crate) fn share_at(by: Frac, view: ViewId, word: AttrWord) -> Share
+    requires { view.0 < 2 ^ 29 }
+    ensures share { (v : ℕ) → share_fraction result v
+        ≡ record { num = by.num *ℤ coefficient v (meaning.doubled view.0 word); den = by.den * 2 } }
+    ensures halves { AreHalves result.of }
 {
-    match term.of {
-        Operand::Attr { view, word } => {
-            let id = number_of(tree, view)?;
-            Some(Share {
-                by: term.by,
-                of: twice(id, word),
-            })
-        }
-        Operand::Metric { name: _ } => None,
-        Operand::One => None,
+    Share {
+        by,
+        of: twice(view, word),
     }
 }
 
@@ -175,35 +168,33 @@ fn include_share(attrs: &mut Vec<u32>, share: &Share) -> Result<(), OutOfMemory>
     Ok(())
 }
 
-// Puts the attributes of a term among the others.
-fn include_term(attrs: &mut Vec<u32>, tree: &Tree, term: &ExprTerm<'_>) -> Result<(), OutOfMemory>
+// Puts the attributes of an addend among the others.
+fn include_addend(attrs: &mut Vec<u32>, addend: &Addend<'_>) -> Result<(), OutOfMemory>
+    requires kept { IsKept addend.now }
     requires rising { AllPairs (λ a b. a < b) attrs.old.items }
     requires numbers { All IsNumber attrs.old.items }
     ensures rising { OnOk result (AllPairs (λ a b. a < b) attrs.new.items) }
     ensures numbers { OnOk result (All IsNumber attrs.new.items) }
     ensures off { OnOk result ((v : ℕ) → IsOff attrs.new.items v
-        → IsOff attrs.old.items v × ((share tree.now.views v (term_view term.now)).num ≡ pos 0)) }
+        → IsOff attrs.old.items v × (((addend_view addend.now).share v).num ≡ pos 0)) }
 {
-    if let Some(share) = share_of(tree, term) {
+    if let Some(share) = addend.share() {
         include_share(attrs, &share)?;
     }
     Ok(())
 }
 
-/// The attributes of the terms, each once, by rising number.
-pub(crate) fn attributes(
-    alloc: Global,
-    tree: &Tree,
-    terms: &[ExprTerm<'_>],
-) -> Result<Vec<u32>, OutOfMemory>
+/// The attributes of all addends, each once, by rising number.
+pub(crate) fn attributes(alloc: Global, added: &[Addend<'_>]) -> Result<Vec<u32>, OutOfMemory>
+    requires kept { All IsKept added.now }
     ensures rising { IfOk result (λ attrs. AllPairs (λ a b. a < b) attrs.items) }
     ensures numbers { IfOk result (λ attrs. All IsNumber attrs.items) }
     ensures off { IfOk result (λ attrs. (v : ℕ) → IsOff attrs.items v
-        → All (λ t. (share tree.now.views v (term_view t)).num ≡ pos 0) terms.now) }
+        → All (λ a. ((addend_view a).share v).num ≡ pos 0) added.now) }
 {
     let mut attrs = Vec::new(alloc);
-    for term in terms {
-        include_term(&mut attrs, tree, term)?;
+    for addend in added {
+        include_addend(&mut attrs, addend)?;
     }
     Ok(attrs)
 }

@@ -1,22 +1,24 @@
 // The linear lines whose rows are those of a format.
 ghost use Rattle.std.specs.Prelude.{◌≡◌, ◌++◌, false, IfOk, OnOk, IfSome, IfNone, Some, find, drop, nat_eq};
-ghost use Rattle.std.specs.Prelude.{◌+◌, ◌<◌, length, slice_get, pos, neg_ℤ, if◌then◌else◌};
+ghost use Rattle.std.specs.Prelude.{◌+◌, ◌<◌, All, length, slice_get, pos, neg_ℤ, if◌then◌else◌};
 ghost use Rattle.std.specs.Option.{option_map};
 ghost use Rattle.span_text.specs.Objects.{meant};
 ghost use Rattle.vfl_text.specs.View.{pred_meaning};
 ghost use Rattle.script_text.specs.Grammar as grammar;
-ghost use Rattle.script_text.specs.View.{term_view, terms_view};
+ghost use Rattle.script_text.specs.Meaning as mean;
+ghost use Rattle.constraint_compile.specs.Addends.{addend, addends, addend_view, addends_view, IsKept};
 ghost use Rattle.constraint_compile.specs.Meaning as meaning;
 ghost use Rattle.constraint_compile.specs.FormatLines as lines;
 ghost use Rattle.constraint_compile.specs.FormatViews.{end_view, minus_view, span_view, part_view};
 ghost use Rattle.constraint_compile.specs.FormatViews.{parts_view};
 
+use crate::addends::{Addend, attribute};
+use crate::attributes::{number_of, share_at};
 use crate::format_checks::parent_of;
 use crate::format_parts::{End, Owner, Part, Span};
-use crate::lookups::is_view;
-use crate::signs::subtracted;
+use crate::signs::negated;
 use frac_core::{Frac, OutOfMemory};
-use script_text::{AttrWord, ExprTerm, Operand};
+use script_text::AttrWord;
 use span_text::Object;
 use std::alloc::Global;
 use std::slice;
@@ -112,58 +114,57 @@ fn owner_name<'a>(tree: &'a Tree, owner: Owner, name: &'a str) -> &'a str
     }
 }
 
-fn end_term<'a>(tree: &'a Tree, end: End<'a>) -> ExprTerm<'a>
-    ensures { term_view result ≡ lines.end_term tree.now.views (end_view end.entry) }
+// So many times an attribute of an end.
+fn end_addend<'a>(tree: &Tree, by: Frac, end: End<'_>) -> Addend<'a>
+    ensures is { addend_view result ≡ addend tree.now.views (record {
+      by = by;
+      of = mean.Attr (lines.owner_name tree.now.views end.entry.owner end.entry.view.now) end.entry.word;
+    }) }
+    ensures kept { IsKept result }
 {
-    ExprTerm {
-        by: one(),
-        of: Operand::Attr {
-            view: owner_name(tree, end.owner, end.view),
-            word: end.word,
-        },
-    }
+    attribute(tree, by, owner_name(tree, end.owner, end.view), end.word)
 }
 
-fn object_term<'a>(tree: &Tree, word: AttrWord, object: Object<'a>) -> ExprTerm<'a>
-    ensures { term_view result ≡ lines.object_term tree.now.views word (meant object.entry) }
+// The object, subtracted: the same attribute of another view where it names one, otherwise a number or a
+// metric.
+fn object_addend<'a>(tree: &Tree, word: AttrWord, object: Object<'a>) -> Addend<'a>
+    ensures is { addend_view result ≡ addend tree.now.views
+        (meaning.minus (lines.object_term tree.now.views word (meant object.entry))) }
+    ensures kept { IsKept result }
 {
     match object {
-        Object::Number { thousandths } => ExprTerm {
-            by: number(thousandths),
-            of: Operand::One,
+        Object::Number { thousandths } => Addend::Number(negated(number(thousandths))),
+        Object::Name { text } => match number_of(tree, text) {
+            Some(view) => Addend::Attr(share_at(negated(one()), view, word)),
+            None => Addend::Multiple {
+                by: negated(one()),
+                name: text,
+            },
         },
-        Object::Name { text } => {
-            if is_view(tree, text) {
-                let of = Operand::Attr { view: text, word };
-                ExprTerm { by: one(), of }
-            } else {
-                let of = Operand::Metric { name: text };
-                ExprTerm { by: one(), of }
-            }
-        }
     }
 }
 
-/// The terms of the line whose row is asked for, all brought to the left side.
-pub(crate) fn terms_of<'a>(
+/// What the line whose row is asked for adds, brought to its left side.
+pub(crate) fn addends_of<'a>(
     alloc: Global,
-    tree: &'a Tree,
-    span: &Span<'a>,
+    tree: &Tree,
+    span: &Span<'_>,
     pred: &Pred<'a>,
-) -> Result<Vec<ExprTerm<'a>>, OutOfMemory>
-    ensures { IfOk result (λ terms. terms_view terms.items
-        ≡ meaning.terms_of (lines.line_of tree.now.views (span_view span.now) (pred_meaning pred.now))) }
+) -> Result<Vec<Addend<'a>>, OutOfMemory>
+    ensures are { IfOk result (λ added. addends_view added.items ≡ addends tree.now.views
+        (meaning.terms_of (lines.line_of tree.now.views (span_view span.now) (pred_meaning pred.now)))) }
+    ensures kept { IfOk result (λ added. All IsKept added.items) }
 {
-    let mut terms = Vec::with_capacity(alloc, TERM_COUNT)?;
-    let plus = end_term(tree, span.plus);
-    terms.extend_from_slice(slice::from_ref(&plus))?;
+    let mut added = Vec::with_capacity(alloc, TERM_COUNT)?;
+    let plus = end_addend(tree, one(), span.plus);
+    added.extend_from_slice(slice::from_ref(&plus))?;
     if let Some(end) = span.minus {
-        let minus = subtracted(&end_term(tree, end));
-        terms.extend_from_slice(slice::from_ref(&minus))?;
+        let minus = end_addend(tree, negated(one()), end);
+        added.extend_from_slice(slice::from_ref(&minus))?;
     }
-    let object = subtracted(&object_term(tree, span.plus.word, pred.object));
-    terms.extend_from_slice(slice::from_ref(&object))?;
-    Ok(terms)
+    let object = object_addend(tree, span.plus.word, pred.object);
+    added.extend_from_slice(slice::from_ref(&object))?;
+    Ok(added)
 }
 
 // The views that a part names.

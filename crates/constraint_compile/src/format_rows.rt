@@ -16,9 +16,9 @@ ghost use Rattle.constraint_compile.specs.FormatViews.{span_view, part_view, par
 ghost use Rattle.constraint_compile.specs.declared.stops.CompileStop.TheVariants.{OutOfMemory as NoMemory};
 
 use crate::compiled::RowForm;
-use crate::format_lines::terms_of;
+use crate::format_lines::addends_of;
 use crate::format_parts::{Part, Span};
-use crate::line_rows::{Head, row_of_terms};
+use crate::line_rows::{Head, row_of_addends};
 use crate::lookups::rank;
 use crate::stops::CompileStop;
 use name_tables::{LimitWord, Metrics};
@@ -65,14 +65,14 @@ fn row_of(
     ensures stop { IfErr result (IsRowStop tree.now.views metrics.now
         (meaning.terms_of (line_of tree.now.views (span_view span.now) (pred_meaning pred.now)))) }
 {
-    let terms = terms_of(alloc, tree, span, pred)?;
+    let added = addends_of(alloc, tree, span, pred)?;
     let head = Head {
         id,
         rank: rank_of(tree, metrics, pred),
         weight: WEIGHT,
         rel: pred.rel,
     };
-    row_of_terms(alloc, tree, metrics, &terms, head)
+    row_of_addends(alloc, metrics, &added, head)
 }
 
 // Appends a row.

@@ -1,6 +1,7 @@
 //! From the reading of a line to its rows.
 #![tactic(auto)]
 
+mod addends;
 mod attributes;
 mod compiled;
 mod format;
@@ -19,6 +20,7 @@ mod naming;
 mod nonzero;
 mod parts;
 mod ratios;
+mod resolved;
 mod row_terms;
 mod rows;
 mod scales;

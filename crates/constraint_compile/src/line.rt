@@ -1,49 +1,69 @@
 // The row of a linear line.
-ghost use Rattle.std.specs.Prelude.{◌≡◌, ◌≤◌, ◌<◌, ◌^◌, ◌∷◌, [], ℕ, List, false, true, None, length, map};
-ghost use Rattle.std.specs.Prelude.{IfOk, OnOk, IfErr, IfSome, IfNone};
+ghost use Rattle.std.specs.Prelude.{◌≡◌, ◌≤◌, ◌<◌, ◌^◌, ◌∷◌, [], ℕ, List, false, true, None, Some, All};
+ghost use Rattle.std.specs.Prelude.{length, IfOk, OnOk, IfErr, IfSome, IfNone};
 ghost use Rattle.view_tree.specs.Views.{LiveView};
 ghost use Rattle.script_text.specs.View.{terms_view, linear_view, object_view};
 ghost use Rattle.constraint_compile.specs.Meaning.{MetricList, terms_of, views_in, IsRank, IsInThousand};
 ghost use Rattle.constraint_compile.specs.Meaning.{has_view_number};
 ghost use Rattle.constraint_compile.specs.Stops.{AreKnown, IsUsable, IsWrongUse, IsCompiled, MayStop};
-ghost use Rattle.constraint_compile.specs.Stops.{PassesLimit};
+ghost use Rattle.constraint_compile.specs.Stops.{PassesLimit, HasRank};
+ghost use Rattle.constraint_compile.specs.Addends.{addends, addends_view, IsKept};
+ghost use Rattle.constraint_compile.specs.FormatLines.{numbers};
 ghost use Rattle.constraint_compile.specs.Inside.{form_view, IsForm};
 
 use crate::compiled::{Compiled, RowForm};
 use crate::format_refusals::NUMBER_LIMIT;
-use crate::line_rows::{Head, row_of_terms};
-use crate::lookups::{has_view_as_number, rank, unknown_priority, unknown_term};
-use crate::parts::views_of;
+use crate::line_rows::{Head, row_of_addends};
+use crate::resolved::{Resolved, resolve, resolve_rank};
 use crate::signs::signed_terms;
 use crate::stops::{CompileStop, KindWord};
 use frac_core::OutOfMemory;
 use name_tables::{LimitWord, Metrics, OwnedName};
 use script_text::{ExprTerm, Linear};
 use std::alloc::Global;
-use view_tree::Tree;
+use view_tree::{Tree, ViewId};
 
 /// How many terms a line may have.
 pub const TERM_LIMIT: usize = 64;
 
-// Each name must be that of a view or a metric.
-fn known(
+// What the names of a line stand for.
+#[derive(Drop, Debug)]
+struct Names<'a> {
+    terms: Resolved<'a>,
+    rank: Option<u16>,
+}
+
+// What the names stand for, each of which must be that of a view or a metric.
+fn names_of<'a>(
     alloc: Global,
     tree: &Tree,
     metrics: &Metrics,
-    terms: &[ExprTerm<'_>],
-    line: &Linear<'_>,
-) -> Result<(), CompileStop>
+    terms: &[ExprTerm<'a>],
+    line: &Linear<'a>,
+) -> Result<Names<'a>, CompileStop>
     requires { terms_view terms.now ≡ terms_of (linear_view line.now) }
-    ensures ok { OnOk result (AreKnown tree.now.views metrics.now (linear_view line.now)) }
+    ensures known { OnOk result (AreKnown tree.now.views metrics.now (linear_view line.now)) }
+    ensures added { IfOk result (λ n. addends_view n.terms.added.items
+        ≡ addends tree.now.views (terms_of (linear_view line.now))) }
+    ensures kept { IfOk result (λ n. All IsKept n.terms.added.items) }
+    ensures views { IfOk result (λ n. numbers n.terms.views.items
+        ≡ views_in tree.now.views (terms_of (linear_view line.now))) }
+    ensures number { IfOk result (λ n. n.terms.has_view_number
+        ≡ has_view_number tree.now.views (terms_of (linear_view line.now))) }
+    ensures some { IfOk result (λ n. IfSome n.rank (IsRank tree.now.views metrics.now
+        (object_view line.now.priority))) }
+    ensures none { IfOk result (λ n. IfNone n.rank (HasRank tree.now.views metrics.now
+        (linear_view line.now) → ⊥)) }
     ensures stop { IfErr result (λ e. (number : ℕ)
         → MayStop tree.now.views metrics.now (linear_view line.now) number e) }
 {
-    if let Some(name) = unknown_term(tree, metrics, terms) {
-        return Err(CompileStop::Unknown(OwnedName::of(alloc, name.as_bytes())?));
-    }
-    match unknown_priority(tree, metrics, &line.priority) {
-        Some(name) => Err(CompileStop::Unknown(OwnedName::of(alloc, name.as_bytes())?)),
-        None => Ok(()),
+    let terms = match resolve(alloc, tree, metrics, terms) {
+        Ok(terms) => terms,
+        Err(stop) => return Err(stop),
+    };
+    match resolve_rank(tree, metrics, &line.priority) {
+        Ok(rank) => Ok(Names { terms, rank }),
+        Err(name) => Err(CompileStop::Unknown(OwnedName::of(alloc, name.as_bytes())?)),
     }
 }
 
@@ -67,23 +87,21 @@ fn weight_of(weight: u64) -> Option<u16>
 }
 
 // The rank and the weight, unless a use is wrong.
-fn strength_of(
-    tree: &Tree,
-    metrics: &Metrics,
-    terms: &[ExprTerm<'_>],
-    line: &Linear<'_>,
-) -> Result<Strength, KindWord>
-    requires { terms_view terms.now ≡ terms_of (linear_view line.now) }
-    ensures numbers { OnOk result (has_view_number tree.now.views (terms_of (linear_view line.now)) ≡ false) }
-    ensures rank { IfOk result (λ s. IsRank tree.now.views metrics.now
-        (object_view line.now.priority) s.rank) }
+fn strength_of(names: &Names<'_>, line: &Linear<'_>) -> Result<Strength, KindWord>
+    ensures numbers { OnOk result (names.now.terms.has_view_number ≡ false) }
+    ensures rank { IfOk result (λ s. names.now.rank ≡ Some s.rank) }
     ensures weight { IfOk result (λ s. (s.weight ≡ line.now.weight) × IsInThousand line.now.weight) }
-    ensures stop { IfErr result (IsWrongUse tree.now.views metrics.now (linear_view line.now)) }
+    ensures stop { IfErr result (λ word. (views : List LiveView) (metrics : MetricList)
+        → names.now.terms.has_view_number ≡ has_view_number views (terms_of (linear_view line.now))
+        → IfSome names.now.rank (IsRank views metrics (object_view line.now.priority))
+        → IfNone names.now.rank (HasRank views metrics (linear_view line.now) → ⊥)
+        → IsWrongUse views metrics (linear_view line.now) word) }
 {
-    if has_view_as_number(tree, terms) {
+    let _rel = line.rel;
+    if names.terms.has_view_number {
         return Err(KindWord::Object);
     }
-    let Some(rank) = rank(tree, metrics, &line.priority) else {
+    let Some(rank) = names.rank else {
         return Err(KindWord::Priority);
     };
     match weight_of(line.weight) {
@@ -111,17 +129,11 @@ fn within_limits(id: u32, terms: &[ExprTerm<'_>], line: &Linear<'_>) -> Result<(
 }
 
 // One row, and the views that the terms name.
-fn with_views(
-    alloc: Global,
-    tree: &Tree,
-    terms: &[ExprTerm<'_>],
-    row: RowForm,
-) -> Result<Compiled, OutOfMemory>
+fn with_views(alloc: Global, views: Vec<ViewId>, row: RowForm) -> Result<Compiled, OutOfMemory>
     requires { IsForm row }
     ensures rows { IfOk result (λ c. c.rows ≡ form_view row ∷ []) }
-    ensures views { IfOk result (λ c. c.views ≡ views_in tree.now.views (terms_view terms.now)) }
+    ensures views { IfOk result (λ c. c.views ≡ numbers views.items) }
 {
-    let views = views_of(alloc, tree, terms)?;
     let mut rows = Vec::with_capacity(alloc, 1)?;
     rows.push(row)?;
     Ok(Compiled::of(rows, views))
@@ -149,10 +161,11 @@ pub fn compile_line(
     ensures stop { IfErr result (MayStop tree.now.views metrics.now (linear_view line.now) id) }
 {
     let terms = signed_terms(alloc, line)?;
-    if let Err(stop) = known(alloc, tree, metrics, &terms, line) {
-        return Err(stop);
-    }
-    let strength = match strength_of(tree, metrics, &terms, line) {
+    let names = match names_of(alloc, tree, metrics, &terms, line) {
+        Ok(names) => names,
+        Err(stop) => return Err(stop),
+    };
+    let strength = match strength_of(&names, line) {
         Ok(strength) => strength,
         Err(word) => return Err(CompileStop::Kind(word)),
     };
@@ -165,8 +178,9 @@ pub fn compile_line(
         weight: strength.weight,
         rel: line.rel,
     };
-    match row_of_terms(alloc, tree, metrics, &terms, head) {
-        Ok(row) => Ok(with_views(alloc, tree, &terms, row)?),
+    let resolved = names.terms;
+    match row_of_addends(alloc, metrics, &resolved.added, head) {
+        Ok(row) => Ok(with_views(alloc, resolved.views, row)?),
         Err(stop) => Err(stop),
     }
 }

@@ -1,10 +1,12 @@
 // The row of a sum of terms.
 ghost use Rattle.std.specs.Prelude.{◌≡◌, ◌≤◌, ◌<◌, ◌^◌, ℕ, List, false, length, map, IsTrue, IfOk, OnOk};
-ghost use Rattle.std.specs.Prelude.{IfErr};
+ghost use Rattle.std.specs.Prelude.{IfErr, All, AllPairs};
+ghost use Rattle.problem_core.specs.Kept.{IsTerm};
 ghost use Rattle.std.specs.String.{string_bytes};
-ghost use Rattle.script_text.specs.View.{terms_view};
+ghost use Rattle.script_text.specs.Meaning.{Term as Summand};
 ghost use Rattle.constraint_compile.specs.Fractions.{IsScale};
-ghost use Rattle.constraint_compile.specs.Meaning.{MetricList, sum_at};
+ghost use Rattle.constraint_compile.specs.Meaning.{MetricList};
+ghost use Rattle.constraint_compile.specs.Addends.{addends, addends_view, sum_of, IsKept};
 ghost use Rattle.constraint_compile.specs.Sums.{AreTerms, AreScales, HasTooMany};
 ghost use Rattle.constraint_compile.specs.Stops.{AreSteps, IsSumRow, IsWithinLimits, IsRowStop};
 ghost use Rattle.constraint_compile.specs.Compiled.{AreSmallSteps};
@@ -12,6 +14,7 @@ ghost use Rattle.constraint_compile.specs.Keeps.{AreScalesKept, steps_view};
 ghost use Rattle.view_tree.specs.Views.{LiveView};
 ghost use Rattle.constraint_compile.specs.Inside.{form_view, IsForm};
 
+use crate::addends::Addend;
 use crate::attributes::attributes;
 use crate::compiled::RowForm;
 use crate::nonzero::has_too_many;
@@ -23,9 +26,7 @@ use crate::stops::CompileStop;
 use frac_core::OutOfMemory;
 use name_tables::{LimitWord, Metrics};
 use problem_core::{Rel, Term};
-use script_text::ExprTerm;
 use std::alloc::Global;
-use view_tree::Tree;
 
 /// What a row has beside its terms.
 #[derive(Clone, Copy, Debug)]
@@ -44,26 +45,24 @@ struct Coefficients {
 }
 
 // The coefficients of the terms, unless there are too many or one is past its limit.
-fn coefficients_of(
-    alloc: Global,
-    tree: &Tree,
-    terms: &[ExprTerm<'_>],
-) -> Result<Coefficients, CompileStop>
-    requires few { length terms.now ≤ 64 }
-    ensures terms { IfOk result (λ c. (k : ℕ) → IsScale (sum_at tree.now.views (terms_view terms.now)) k
-        → AreTerms (sum_at tree.now.views (terms_view terms.now)) k c.terms.items) }
+fn coefficients_of(alloc: Global, added: &[Addend<'_>]) -> Result<Coefficients, CompileStop>
+    requires kept { All IsKept added.now }
+    requires few { length added.now ≤ 64 }
+    ensures terms { IfOk result (λ c. (k : ℕ) → IsScale (sum_of (addends_view added.now)) k
+        → AreTerms (sum_of (addends_view added.now)) k c.terms.items) }
+    ensures each { IfOk result (λ c. All IsTerm c.terms.items) }
+    ensures rising { IfOk result (λ c. AllPairs (λ s t. s.attr < t.attr) c.terms.items) }
     ensures few { IfOk result (λ c. length c.terms.items ≤ 32) }
-    ensures some { OnOk result (HasTooMany (sum_at tree.now.views (terms_view terms.now)) → ⊥) }
-    ensures scales { IfOk result (λ c. AreScales tree.now.views (terms_view terms.now)
-        (length terms.now) c.scales.items) }
-    ensures stop { IfErr result (λ e. (metrics : MetricList)
-        → IsRowStop tree.now.views metrics (terms_view terms.now) e) }
+    ensures some { OnOk result (HasTooMany (sum_of (addends_view added.now)) → ⊥) }
+    ensures scales { IfOk result (λ c. AreScales (addends_view added.now) (length added.now) c.scales.items) }
+    ensures stop { IfErr result (λ e. (views : List LiveView) (metrics : MetricList) (terms : List Summand)
+        → addends_view added.now ≡ addends views terms → IsRowStop views metrics terms e) }
 {
-    let attrs = attributes(alloc, tree, terms)?;
-    if has_too_many(alloc, tree, &attrs, terms)? {
+    let attrs = attributes(alloc, added)?;
+    if has_too_many(alloc, &attrs, added)? {
         return Err(CompileStop::Limit(LimitWord::Attributes));
     }
-    let Some(scaled) = scales_of(alloc, tree, &attrs, terms)? else {
+    let Some(scaled) = scales_of(alloc, &attrs, added)? else {
         return Err(CompileStop::Limit(LimitWord::Coefficient));
     };
     let terms = row_terms(alloc, &attrs, &scaled.sum)?;
@@ -82,20 +81,18 @@ struct NamedSteps {
 
 fn named_steps(
     alloc: Global,
-    terms: &[ExprTerm<'_>],
+    added: &[Addend<'_>],
     scales: &[u32],
 ) -> Result<NamedSteps, OutOfMemory>
-    requires few { length terms.now ≤ 64 }
-    requires long { length scales.now ≡ length terms.now }
-    ensures kept { IfOk result (λ n. (views : List LiveView)
-        → AreScales views (terms_view terms.now) (length terms.now) scales.now
-        → AreScalesKept n.steps.items) }
-    ensures steps { IfOk result (λ n. (views : List LiveView)
-        → AreScales views (terms_view terms.now) (length terms.now) scales.now
-        → AreSteps views (terms_view terms.now) (steps_view (map string_bytes n.names.items) n.steps.items)) }
+    requires few { length added.now ≤ 64 }
+    requires scales { AreScales (addends_view added.now) (length added.now) scales.now }
+    ensures kept { IfOk result (λ n. AreScalesKept n.steps.items) }
+    ensures steps { IfOk result (λ n. (views : List LiveView) (terms : List Summand)
+        → addends_view added.now ≡ addends views terms
+        → AreSteps views terms (steps_view (map string_bytes n.names.items) n.steps.items)) }
 {
-    let names = metric_names(alloc, terms)?;
-    let steps = steps_of(alloc, terms, scales)?;
+    let names = metric_names(alloc, added)?;
+    let steps = steps_of(alloc, added, scales)?;
     Ok(NamedSteps { names, steps })
 }
 
@@ -113,32 +110,35 @@ fn is_constant_small(metrics: &Metrics, named: &NamedSteps) -> bool
     }
 }
 
-/// The row of terms that are all brought to the left side. A limit of a row that they pass is named by the
-/// first in the order attributes, coefficient, constant.
-pub(crate) fn row_of_terms(
+/// The row of what is added on its left side, whatever the views and the terms from which that comes. A limit
+/// of a row that is passed is named by the first in the order attributes, coefficient, constant.
+pub(crate) fn row_of_addends(
     alloc: Global,
-    tree: &Tree,
     metrics: &Metrics,
-    terms: &[ExprTerm<'_>],
+    added: &[Addend<'_>],
     head: Head,
 ) -> Result<RowForm, CompileStop>
-    requires few { length terms.now ≤ 64 }
+    requires kept { All IsKept added.now }
+    requires few { length added.now ≤ 64 }
     requires number { (0 < head.id) × (head.id < 2 ^ 31) }
     requires rank { head.rank ≤ 1000 }
     requires weight { (0 < head.weight) × (head.weight ≤ 1000) }
     ensures form { IfOk result IsForm }
     ensures head { IfOk result (λ r. (r.id ≡ head.id) × (r.rank ≡ head.rank) × (r.weight ≡ head.weight)
         × (r.rel ≡ head.rel)) }
-    ensures row { IfOk result (λ r. IsSumRow tree.now.views (terms_view terms.now) (form_view r)) }
-    ensures within { IfOk result (λ r. IsWithinLimits tree.now.views metrics.now (terms_view terms.now)
-        (form_view r).steps) }
-    ensures stop { IfErr result (IsRowStop tree.now.views metrics.now (terms_view terms.now)) }
+    ensures row { IfOk result (λ r. (views : List LiveView) (terms : List Summand)
+        → addends_view added.now ≡ addends views terms → IsSumRow views terms (form_view r)) }
+    ensures within { IfOk result (λ r. (views : List LiveView) (terms : List Summand)
+        → addends_view added.now ≡ addends views terms
+        → IsWithinLimits views metrics.now terms (form_view r).steps) }
+    ensures stop { IfErr result (λ e. (views : List LiveView) (terms : List Summand)
+        → addends_view added.now ≡ addends views terms → IsRowStop views metrics.now terms e) }
 {
-    let sum = match coefficients_of(alloc, tree, terms) {
+    let sum = match coefficients_of(alloc, added) {
         Ok(sum) => sum,
         Err(stop) => return Err(stop),
     };
-    let named = named_steps(alloc, terms, &sum.scales)?;
+    let named = named_steps(alloc, added, &sum.scales)?;
     if !is_constant_small(metrics, &named) {
         return Err(CompileStop::Limit(LimitWord::Constant));
     }

@@ -1,15 +1,13 @@
-// What the names and the numbers of a line stand for.
+// What names and numbers stand for.
 ghost use Rattle.std.specs.Prelude.{◌≡◌, ℕ, ◌*◌, pos, Some, is_some, IfSome, IfNone};
 ghost use Rattle.std.specs.Option.{option_map};
-ghost use Rattle.script_text.specs.View.{operand_view, terms_view, object_view};
+ghost use Rattle.script_text.specs.View.{object_view};
 ghost use Rattle.view_tree.specs.Views.{view_named};
 ghost use Rattle.constraint_compile.specs.Meaning as meaning;
-ghost use Rattle.constraint_compile.specs.Meaning.{unknown_in, unknown_object, unknown_among};
-ghost use Rattle.constraint_compile.specs.Meaning.{has_view_number, IsRank, IsInThousand};
+ghost use Rattle.constraint_compile.specs.Meaning.{unknown_object, IsRank, IsInThousand};
 
 use frac_core::Frac;
 use name_tables::Metrics;
-use script_text::{ExprTerm, Operand};
 use span_text::Object;
 use view_tree::Tree;
 
@@ -25,31 +23,7 @@ fn is_named(tree: &Tree, metrics: &Metrics, name: &str) -> bool
     is_view(tree, name) || metrics.get(name).is_some()
 }
 
-// The name in an operand that must be a view's or a metric's, and isn't.
-fn unknown_operand<'a>(tree: &Tree, metrics: &Metrics, of: &Operand<'a>) -> Option<&'a str>
-    ensures { option_map (λ name. name.now) result
-        ≡ unknown_in tree.now.views metrics.now (operand_view of.now) }
-{
-    match *of {
-        Operand::Attr { view, word: _ } => {
-            if is_view(tree, view) {
-                None
-            } else {
-                Some(view)
-            }
-        }
-        Operand::Metric { name } => {
-            if is_named(tree, metrics, name) {
-                None
-            } else {
-                Some(name)
-            }
-        }
-        Operand::One => None,
-    }
-}
-
-/// The same for a priority.
+/// The name in a priority that must be a view's or a metric's, and isn't.
 pub(crate) fn unknown_priority<'a>(
     tree: &Tree,
     metrics: &Metrics,
@@ -71,47 +45,8 @@ pub(crate) fn unknown_priority<'a>(
     }
 }
 
-/// The first such name among terms.
-pub(crate) fn unknown_term<'a>(
-    tree: &Tree,
-    metrics: &Metrics,
-    terms: &[ExprTerm<'a>],
-) -> Option<&'a str>
-    ensures { option_map (λ name. name.now) result
-        ≡ unknown_among tree.now.views metrics.now (terms_view terms.now) }
-{
-    for term in terms {
-        if let Some(name) = unknown_operand(tree, metrics, &term.of) {
-            return Some(name);
-        }
-    }
-    None
-}
-
-fn is_view_number(tree: &Tree, of: &Operand<'_>) -> bool
-    ensures { result ≡ meaning.is_view_number tree.now.views (operand_view of.now) }
-{
-    match *of {
-        Operand::Metric { name } => is_view(tree, name),
-        Operand::Attr { view: _, word: _ } => false,
-        Operand::One => false,
-    }
-}
-
-/// Whether a view stands for a number in one of the terms.
-pub(crate) fn has_view_as_number(tree: &Tree, terms: &[ExprTerm<'_>]) -> bool
-    ensures { result ≡ has_view_number tree.now.views (terms_view terms.now) }
-{
-    for term in terms {
-        if is_view_number(tree, &term.of) {
-            return true;
-        }
-    }
-    false
-}
-
-// The whole number from 1 to 1000 that this number of thousandths is.
-fn rank_of_thousandths(thousandths: i32) -> Option<u16>
+/// The whole number from 1 to 1000 that this number of thousandths is.
+pub(crate) fn rank_of_thousandths(thousandths: i32) -> Option<u16>
     ensures some { IfSome result (λ r. (thousandths ≡ pos (r * 1000)) × IsInThousand r) }
     ensures none { IfNone result ((r : ℕ) → thousandths ≡ pos (r * 1000) → IsInThousand r → ⊥) }
 {
@@ -138,8 +73,8 @@ fn rank_of_fraction(f: Frac) -> Option<u16>
     }
 }
 
-// The same where the metric is there.
-fn rank_of_metric(value: Option<Frac>) -> Option<u16>
+/// The whole number from 1 to 1000 that the metric's value is, where the metric is there.
+pub(crate) fn rank_of_metric(value: Option<Frac>) -> Option<u16>
     ensures some { IfSome result (λ r. (value ≡ Some (record { num = pos r; den = 1 })) × IsInThousand r) }
     ensures none { IfNone result ((r : ℕ) → value ≡ Some (record { num = pos r; den = 1 }) → IsInThousand r
         → ⊥) }

@@ -1,19 +1,16 @@
 // Which coefficients of a sum are not 0, whatever their size.
 ghost use Rattle.std.specs.Prelude.{◌≡◌, ◌≢◌, ◌≤◌, ◌<◌, ◌+◌, ◌*◌, ◌^◌, ◌+ℤ◌, ◌*ℤ◌, ℕ, pos, unsigned_abs};
 ghost use Rattle.std.specs.Prelude.{true, false, length, map, IsTrue, IfOk, OnOk, All, AllPairs};
-ghost use Rattle.script_text.specs.View.{term_view, terms_view};
 ghost use Rattle.constraint_compile.specs.Fractions.{total};
-ghost use Rattle.constraint_compile.specs.Meaning.{share, sum_at};
+ghost use Rattle.constraint_compile.specs.Addends.{addend_view, addends_view, sum_of, IsKept};
 ghost use Rattle.constraint_compile.specs.Shares.{IsOff};
 ghost use Rattle.constraint_compile.specs.Sums.{HasTooMany};
 ghost use Rattle.constraint_compile.specs.Pieces.{piece_value, IsPiece, AreDoubled, HasFound};
 
-use crate::attributes::share_of;
+use crate::addends::Addend;
 use crate::sums::{double_den, halves, split, times_halves};
 use frac_core::OutOfMemory;
-use script_text::ExprTerm;
 use std::alloc::Global;
-use view_tree::Tree;
 
 /// A fraction that need not be in lowest terms.
 #[derive(Clone, Copy, Debug)]
@@ -28,12 +25,13 @@ const ROUNDS: u32 = 2760;
 
 const ATTRIBUTE_LIMIT: usize = 32;
 
-// What a term has of an attribute.
-fn piece_of(tree: &Tree, term: &ExprTerm<'_>, attr: u32) -> Piece
-    ensures value { piece_value result ≡ share tree.now.views attr (term_view term.now) }
+// What an addend has of an attribute.
+fn piece_of(addend: &Addend<'_>, attr: u32) -> Piece
+    requires { IsKept addend.now }
+    ensures value { piece_value result ≡ (addend_view addend.now).share attr }
     ensures kept { IsPiece result }
 {
-    match share_of(tree, term) {
+    match addend.share() {
         Some(share) => Piece {
             num: times_halves(share.by.num(), halves(&share.of, attr)),
             den: double_den(share.by),
@@ -42,20 +40,16 @@ fn piece_of(tree: &Tree, term: &ExprTerm<'_>, attr: u32) -> Piece
     }
 }
 
-fn pieces_of(
-    alloc: Global,
-    tree: &Tree,
-    terms: &[ExprTerm<'_>],
-    attr: u32,
-) -> Result<Vec<Piece>, OutOfMemory>
+fn pieces_of(alloc: Global, added: &[Addend<'_>], attr: u32) -> Result<Vec<Piece>, OutOfMemory>
+    requires { All IsKept added.now }
     ensures total { IfOk result (λ pieces. total piece_value pieces.items
-        ≡ sum_at tree.now.views (terms_view terms.now) attr) }
-    ensures long { IfOk result (λ pieces. length pieces.items ≡ length terms.now) }
+        ≡ sum_of (addends_view added.now) attr) }
+    ensures long { IfOk result (λ pieces. length pieces.items ≡ length added.now) }
     ensures kept { IfOk result (λ pieces. All IsPiece pieces.items) }
 {
-    let mut pieces = Vec::with_capacity(alloc, terms.len())?;
-    for term in terms {
-        pieces.push(piece_of(tree, term, attr))?;
+    let mut pieces = Vec::with_capacity(alloc, added.len())?;
+    for addend in added {
+        pieces.push(piece_of(addend, attr))?;
     }
     Ok(pieces)
 }
@@ -143,19 +137,15 @@ fn is_zero(alloc: Global, pieces: Vec<Piece>) -> Result<bool, OutOfMemory>
 }
 
 // Whether the coefficient of an attribute is 0.
-fn is_absent(
-    alloc: Global,
-    tree: &Tree,
-    terms: &[ExprTerm<'_>],
-    attr: u32,
-) -> Result<bool, OutOfMemory>
-    requires few { length terms.now ≤ 64 }
+fn is_absent(alloc: Global, added: &[Addend<'_>], attr: u32) -> Result<bool, OutOfMemory>
+    requires kept { All IsKept added.now }
+    requires few { length added.now ≤ 64 }
     ensures yes { IfOk result (λ absent. IsTrue absent
-        → (sum_at tree.now.views (terms_view terms.now) attr).num ≡ pos 0) }
+        → (sum_of (addends_view added.now) attr).num ≡ pos 0) }
     ensures no { IfOk result (λ absent. absent ≡ false
-        → (sum_at tree.now.views (terms_view terms.now) attr).num ≢ pos 0) }
+        → (sum_of (addends_view added.now) attr).num ≢ pos 0) }
 {
-    let pieces = pieces_of(alloc, tree, terms, attr)?;
+    let pieces = pieces_of(alloc, added, attr)?;
     is_zero(alloc, pieces)
 }
 
@@ -163,20 +153,20 @@ fn is_absent(
 fn keep(
     alloc: Global,
     found: &mut Vec<u32>,
-    tree: &Tree,
     attrs: &[u32],
-    terms: &[ExprTerm<'_>],
+    added: &[Addend<'_>],
     place: usize,
 ) -> Result<(), OutOfMemory>
-    requires few { length terms.now ≤ 64 }
+    requires kept { All IsKept added.now }
+    requires few { length added.now ≤ 64 }
     requires rising { AllPairs (λ a b. a < b) attrs.now }
     requires place { place < length attrs.now }
-    requires found { HasFound (sum_at tree.now.views (terms_view terms.now)) attrs.now place found.old.items }
-    ensures { OnOk result (HasFound (sum_at tree.now.views (terms_view terms.now)) attrs.now (place
+    requires found { HasFound (sum_of (addends_view added.now)) attrs.now place found.old.items }
+    ensures { OnOk result (HasFound (sum_of (addends_view added.now)) attrs.now (place
         + 1) found.new.items) }
 {
     let attr = attrs[place];
-    if is_absent(alloc, tree, terms, attr)? {
+    if is_absent(alloc, added, attr)? {
         return Ok(());
     }
     found.push(attr)?;
@@ -184,20 +174,16 @@ fn keep(
 }
 
 // The attributes whose coefficients aren't 0.
-fn nonzero(
-    alloc: Global,
-    tree: &Tree,
-    attrs: &[u32],
-    terms: &[ExprTerm<'_>],
-) -> Result<Vec<u32>, OutOfMemory>
-    requires few { length terms.now ≤ 64 }
+fn nonzero(alloc: Global, attrs: &[u32], added: &[Addend<'_>]) -> Result<Vec<u32>, OutOfMemory>
+    requires kept { All IsKept added.now }
+    requires few { length added.now ≤ 64 }
     requires rising { AllPairs (λ a b. a < b) attrs.now }
-    ensures { IfOk result (λ found. HasFound (sum_at tree.now.views (terms_view terms.now)) attrs.now
+    ensures { IfOk result (λ found. HasFound (sum_of (addends_view added.now)) attrs.now
         (length attrs.now) found.items) }
 {
     let mut found = Vec::new(alloc);
     for place in 0..attrs.len() {
-        keep(alloc, &mut found, tree, attrs, terms, place)?;
+        keep(alloc, &mut found, attrs, added, place)?;
     }
     Ok(found)
 }
@@ -209,25 +195,24 @@ fn may_be_many(attrs: &[u32]) -> bool
     attrs.len() > ATTRIBUTE_LIMIT
 }
 
-/// Whether more than 32 attributes have coefficients that aren't 0 in the sum of the terms.
+/// Whether more than 32 attributes have coefficients that aren't 0 in the sum.
 pub(crate) fn has_too_many(
     alloc: Global,
-    tree: &Tree,
     attrs: &[u32],
-    terms: &[ExprTerm<'_>],
+    added: &[Addend<'_>],
 ) -> Result<bool, OutOfMemory>
-    requires few { length terms.now ≤ 64 }
+    requires kept { All IsKept added.now }
+    requires few { length added.now ≤ 64 }
     requires rising { AllPairs (λ a b. a < b) attrs.now }
-    requires off { (v : ℕ) → IsOff attrs.now v → All (λ t. (share tree.now.views v (term_view t)).num
-        ≡ pos 0) terms.now }
+    requires off { (v : ℕ) → IsOff attrs.now v → All (λ a. ((addend_view a).share v).num ≡ pos 0) added.now }
     ensures yes { IfOk result (λ many. IsTrue many
-        → HasTooMany (sum_at tree.now.views (terms_view terms.now))) }
-    ensures no { IfOk result (λ many. many ≡ false → HasTooMany (sum_at tree.now.views (terms_view terms.now))
+        → HasTooMany (sum_of (addends_view added.now))) }
+    ensures no { IfOk result (λ many. many ≡ false → HasTooMany (sum_of (addends_view added.now))
         → ⊥) }
 {
     if !may_be_many(attrs) {
         return Ok(false);
     }
-    let found = nonzero(alloc, tree, attrs, terms)?;
+    let found = nonzero(alloc, attrs, added)?;
     Ok(found.len() > ATTRIBUTE_LIMIT)
 }

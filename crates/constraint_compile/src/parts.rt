@@ -1,136 +1,104 @@
-// The parts of a line that a row keeps.
-ghost use Rattle.std.specs.Prelude.{◌≡◌, ℕ, ◌≤◌, ◌++◌, List, [], length, map, slice_index_or, IfOk, OnOk};
+// What a row keeps of its addends.
+ghost use Rattle.std.specs.Prelude.{◌≡◌, ℕ, ◌≤◌, List, [], length, map, slice_index_or, IfOk};
 ghost use Rattle.std.specs.String.{string_bytes};
-ghost use Rattle.script_text.specs.View.{operand_view, term_view, terms_view};
-ghost use Rattle.constraint_compile.specs.Meaning as meaning;
-ghost use Rattle.constraint_compile.specs.Meaning.{views_in};
+ghost use Rattle.constraint_compile.specs.Addends.{addend_view, addends_view};
 ghost use Rattle.constraint_compile.specs.Keeps as keeps;
-ghost use Rattle.constraint_compile.specs.Keeps.{part_view, steps_view, step_view, metric_name, HaveNames};
+ghost use Rattle.constraint_compile.specs.Keeps.{part_view, steps_view, metric_name, HaveNames};
 
+use crate::addends::Addend;
 use crate::steps::{Part, Step};
 use frac_core::OutOfMemory;
-use script_text::{ExprTerm, Operand};
 use std::alloc::Global;
-use view_tree::{Tree, ViewId};
 
-fn metric_of(alloc: Global, term: &ExprTerm<'_>) -> Result<String, OutOfMemory>
-    ensures { IfOk result (λ name. string_bytes name ≡ metric_name (term_view term.now)) }
+fn metric_of(alloc: Global, addend: &Addend<'_>) -> Result<String, OutOfMemory>
+    ensures { IfOk result (λ name. string_bytes name ≡ metric_name (addend_view addend.now)) }
 {
-    match term.of {
-        Operand::Metric { name } => Ok(String::from_str(alloc, name)?),
-        Operand::Attr { view: _, word: _ } => Ok(String::new(alloc)),
-        Operand::One => Ok(String::new(alloc)),
+    match *addend {
+        Addend::Multiple { by: _, name } => Ok(String::from_str(alloc, name)?),
+        Addend::Attr(_) => Ok(String::new(alloc)),
+        Addend::Number(_) => Ok(String::new(alloc)),
+        Addend::Nothing => Ok(String::new(alloc)),
     }
 }
 
-fn is_metric(of: &Operand<'_>) -> bool
-    ensures { result ≡ keeps.is_metric (operand_view of.now) }
+fn is_metric(addend: &Addend<'_>) -> bool
+    ensures { result ≡ keeps.is_metric (addend_view addend.now).part }
 {
-    match *of {
-        Operand::Metric { name: _ } => true,
-        Operand::Attr { view: _, word: _ } => false,
-        Operand::One => false,
+    match *addend {
+        Addend::Multiple { by: _, name: _ } => true,
+        Addend::Attr(_) => false,
+        Addend::Number(_) => false,
+        Addend::Nothing => false,
     }
 }
 
-fn any_names_metric(terms: &[ExprTerm<'_>]) -> bool
-    ensures { result ≡ keeps.any_names_metric (terms_view terms.now) }
+fn any_names_metric(added: &[Addend<'_>]) -> bool
+    ensures { result ≡ keeps.any_names_metric (addends_view added.now) }
 {
-    for term in terms {
-        if is_metric(&term.of) {
+    for addend in added {
+        if is_metric(addend) {
             return true;
         }
     }
     false
 }
 
-// For each term the metric that it names, or an empty name.
-fn all_names(alloc: Global, terms: &[ExprTerm<'_>]) -> Result<Vec<String>, OutOfMemory>
-    ensures { IfOk result (λ names. map string_bytes names.items ≡ map metric_name (terms_view terms.now)) }
+// For each addend the metric of which it is a multiple, or an empty name.
+fn all_names(alloc: Global, added: &[Addend<'_>]) -> Result<Vec<String>, OutOfMemory>
+    ensures { IfOk result (λ names. map string_bytes names.items ≡ map metric_name (addends_view added.now)) }
 {
-    let mut names = Vec::with_capacity(alloc, terms.len())?;
-    for term in terms {
-        names.push(metric_of(alloc, term)?)?;
+    let mut names = Vec::with_capacity(alloc, added.len())?;
+    for addend in added {
+        names.push(metric_of(alloc, addend)?)?;
     }
     Ok(names)
 }
 
-/// At the place of each term the metric that it names. Most lines name none, and for these there is no list.
-pub(crate) fn metric_names(
-    alloc: Global,
-    terms: &[ExprTerm<'_>],
-) -> Result<Vec<String>, OutOfMemory>
-    ensures { IfOk result (λ names. HaveNames (map string_bytes names.items) (terms_view terms.now)) }
+/// At the place of each addend the metric of which it is a multiple. Most lines name none, and for these
+/// there is no list.
+pub(crate) fn metric_names(alloc: Global, added: &[Addend<'_>]) -> Result<Vec<String>, OutOfMemory>
+    ensures { IfOk result (λ names. HaveNames (map string_bytes names.items) (addends_view added.now)) }
 {
-    if !any_names_metric(terms) {
+    if !any_names_metric(added) {
         return Ok(Vec::new(alloc));
     }
-    let names = all_names(alloc, terms)?;
+    let names = all_names(alloc, added)?;
     Ok(names)
 }
 
-// What the term at a place adds to the constant.
-fn part_at(term: &ExprTerm<'_>, place: u32) -> Part
-    ensures { (names : List (List ℕ)) → slice_index_or names place [] ≡ metric_name (term_view term.now)
-        → part_view names result ≡ meaning.part (term_view term.now) }
+// What the addend at a place adds to the constant.
+fn part_at(addend: &Addend<'_>, place: u32) -> Part
+    ensures { (names : List (List ℕ)) → slice_index_or names place [] ≡ metric_name (addend_view addend.now)
+        → part_view names result ≡ (addend_view addend.now).part }
 {
-    let by = term.by;
-    match term.of {
-        Operand::Metric { name: _ } => Part::Multiple { by, place },
-        Operand::Attr { view: _, word: _ } => Part::Nothing,
-        Operand::One => Part::Number(by),
+    match *addend {
+        Addend::Multiple { by, name: _ } => Part::Multiple { by, place },
+        Addend::Attr(_) => Part::Nothing,
+        Addend::Number(by) => Part::Number(by),
+        Addend::Nothing => Part::Nothing,
     }
 }
 
-/// The scale after each term, and what the term adds to the constant.
+/// The scale after each addend, and what it adds to the constant.
 pub(crate) fn steps_of(
     alloc: Global,
-    terms: &[ExprTerm<'_>],
+    added: &[Addend<'_>],
     scales: &[u32],
 ) -> Result<Vec<Step>, OutOfMemory>
-    requires long { length scales.now ≡ length terms.now }
-    requires few { length terms.now ≤ 64 }
-    ensures long { IfOk result (λ steps. length steps.items ≡ length terms.now) }
+    requires long { length scales.now ≡ length added.now }
+    requires few { length added.now ≤ 64 }
+    ensures long { IfOk result (λ steps. length steps.items ≡ length added.now) }
     ensures scales { IfOk result (λ steps. map (λ s. s.scale) steps.items ≡ scales.now) }
-    ensures parts { IfOk result (λ steps. (names : List (List ℕ)) → HaveNames names (terms_view terms.now)
-        → map (λ s. s.part) (steps_view names steps.items) ≡ map meaning.part (terms_view terms.now)) }
+    ensures parts { IfOk result (λ steps. (names : List (List ℕ)) → HaveNames names (addends_view added.now)
+        → map (λ s. s.part) (steps_view names steps.items) ≡ map (λ a. a.part) (addends_view added.now)) }
 {
-    let mut steps = Vec::with_capacity(alloc, terms.len())?;
-    for place in 0..terms.len() {
+    let mut steps = Vec::with_capacity(alloc, added.len())?;
+    for place in 0..added.len() {
         let step = Step {
             scale: scales[place],
-            part: part_at(&terms[place], place as u32),
+            part: part_at(&added[place], place as u32),
         };
         steps.push(step)?;
     }
     Ok(steps)
-}
-
-// Appends the number of the view that the term names.
-fn add_view(views: &mut Vec<ViewId>, tree: &Tree, term: &ExprTerm<'_>) -> Result<(), OutOfMemory>
-    ensures { OnOk result (map (λ v. v.0) views.new.items
-        ≡ map (λ v. v.0) views.old.items ++ meaning.view_in tree.now.views (term_view term.now).of) }
-{
-    if let Operand::Attr { view, word: _ } = term.of {
-        if let Some(id) = tree.find(view) {
-            views.push(id)?;
-        }
-    }
-    Ok(())
-}
-
-/// The views that the terms name, in the order of the text.
-pub(crate) fn views_of(
-    alloc: Global,
-    tree: &Tree,
-    terms: &[ExprTerm<'_>],
-) -> Result<Vec<ViewId>, OutOfMemory>
-    ensures { IfOk result (λ views. map (λ v. v.0) views.items
-        ≡ views_in tree.now.views (terms_view terms.now)) }
-{
-    let mut views = Vec::new(alloc);
-    for term in terms {
-        add_view(&mut views, tree, term)?;
-    }
-    Ok(views)
 }

@@ -9,8 +9,8 @@ use script_text::{ExprTerm, Linear};
 use std::alloc::Global;
 use std::slice;
 
-// The fraction with the other sign.
-fn negated(f: Frac) -> Frac
+/// The fraction with the other sign.
+pub(crate) fn negated(f: Frac) -> Frac
     ensures { result ≡ fractions.negated f }
 {
     match Frac::of(-i128::from(f.num()), i128::from(f.den())) {
@@ -19,8 +19,8 @@ fn negated(f: Frac) -> Frac
     }
 }
 
-/// The term with the other sign.
-pub(crate) fn subtracted<'a>(term: &ExprTerm<'a>) -> ExprTerm<'a>
+// The term with the other sign.
+fn subtracted<'a>(term: &ExprTerm<'a>) -> ExprTerm<'a>
     ensures { term_view result ≡ minus (term_view term.now) }
 {
     ExprTerm {

@@ -38,9 +38,9 @@ pub enum CompileStop {
 
 impl From<OutOfMemory> for CompileStop {
     ghost use Rattle.std.specs.Prelude.{◌≡◌};
-    ghost use Rattle.constraint_compile.specs.declared.stops.CompileStop.TheVariants.{OutOfMemory as NoMemory};
+    ghost use Rattle.constraint_compile.specs.declared.stops.CompileStop.TheVariants as stop;
 
-    ghost from_gives = { λ _ stop. stop ≡ NoMemory };
+    ghost from_gives = { λ _ e. e ≡ stop.OutOfMemory };
 
     fn from(_: OutOfMemory) -> CompileStop {
         CompileStop::OutOfMemory

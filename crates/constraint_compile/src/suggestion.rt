@@ -9,8 +9,8 @@ ghost use Rattle.constraint_compile.specs.Meaning.{IsRank, unknown_object};
 ghost use Rattle.constraint_compile.specs.Suggestions.{one_term, scale_of, suggested_row, suggested_priority};
 ghost use Rattle.constraint_compile.specs.Suggestions.{with_terms, IsSuggestion, MayLackRank};
 
-use crate::lookups::{rank, unknown_priority};
 use crate::ratios::{Ratio, small_of};
+use crate::resolved::resolve_rank;
 use crate::stops::{CompileStop, KindWord};
 use frac_core::{Frac, OutOfMemory};
 use name_tables::{Metrics, OwnedName};
@@ -87,7 +87,8 @@ fn or_usual(priority: Option<Object<'_>>) -> Option<Object<'_>>
 }
 
 /// The rank that a suggestion's priority stands for: 750 where none is written. `Unknown` with its name,
-/// where that is neither a view's nor a metric's; `Kind(Priority)` where it is no whole number from 1 to 1000.
+/// where that is neither a view's nor a metric's; `Kind(Priority)` where it is no whole number from 1 to
+/// 1000.
 pub fn suggested_rank(
     alloc: Global,
     tree: &Tree,
@@ -102,12 +103,10 @@ pub fn suggested_rank(
         (suggested_priority (object_view priority.entry))) }
 {
     let priority = or_usual(priority);
-    if let Some(name) = unknown_priority(tree, metrics, &priority) {
-        return Err(CompileStop::Unknown(OwnedName::of(alloc, name.as_bytes())?));
-    }
-    match rank(tree, metrics, &priority) {
-        Some(rank) => Ok(rank),
-        None => Err(CompileStop::Kind(KindWord::Priority)),
+    match resolve_rank(tree, metrics, &priority) {
+        Ok(Some(rank)) => Ok(rank),
+        Ok(None) => Err(CompileStop::Kind(KindWord::Priority)),
+        Err(name) => Err(CompileStop::Unknown(OwnedName::of(alloc, name.as_bytes())?)),
     }
 }
 

@@ -1,6 +1,5 @@
-use Rattle.std.proofs.Common.{◌≡◌, ℕ, ◌<◌, ◌≤◌, length, get_or, arith, refl, All, AllPairs, List}
+use Rattle.std.proofs.Common.{◌≡◌, ℕ, ◌<◌, ◌≤◌, length, get_or, arith, refl}
 use Rattle.std.specs.List.{insert}
-use Rattle.constraint_compile.specs.Shares.{IsOff}
 use Rattle.constraint_compile.proofs.Insertion.{all_of_insert, rising_insert}
 use Rattle.constraint_compile.proofs.attributes.include.Goals as goal
 

@@ -1,4 +1,3 @@
-use Rattle.std.proofs.Common.{ℕ}
 use Rattle.constraint_compile.proofs.NoParts.{no_part}
 use Rattle.constraint_compile.proofs.attributes.include_share.Goals as goal
 

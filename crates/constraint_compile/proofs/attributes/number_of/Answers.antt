@@ -1,8 +1,7 @@
-use Rattle.std.proofs.Common.{◌≡◌, ℕ, ◌<◌, ◌≤◌, ◌^◌, zero, suc, List, [], ◌∷◌, Option, Some, None, IfSome, All, find, cond, Bool, true, false, length, arith, sym, ◌∙◌}
+use Rattle.std.proofs.Common.{◌≡◌, ◌<◌, ◌^◌, zero, suc, List, [], ◌∷◌, Option, Some, None, IfSome, All, find, cond, Bool, true, false, arith}
 use Rattle.std.specs.Option.{option_map}
 use Rattle.std.specs.Str.{bytes_eq}
-use Rattle.std.proofs.lemmas.List.Elements.{All-cons}
-use Rattle.view_tree.specs.Views.{LiveView, view_named, ViewTree, IsTree}
+use Rattle.view_tree.specs.Views.{LiveView, view_named, IsTree}
 use Rattle.view_tree.specs.declared.view.ViewId.{ViewId}
 use Rattle.constraint_compile.proofs.attributes.number_of.Goals as goal
 

@@ -1,6 +1,5 @@
-use Rattle.std.proofs.Common.{◌≡◌, ◌∙◌, map}
 use Rattle.std.proofs.lemmas.List.Elements.{All-push}
-use Rattle.constraint_compile.specs.Inside.{form_view, IsForm}
+use Rattle.constraint_compile.specs.Inside.{IsForm}
 use Rattle.constraint_compile.proofs.Forms.{same_more}
 use Rattle.constraint_compile.proofs.compiled.copy_forms.Goals as goal
 

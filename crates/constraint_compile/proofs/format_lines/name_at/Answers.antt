@@ -1,4 +1,3 @@
-use Rattle.std.proofs.Common.{◌≡◌, nat_eq, true, false, Some, rules}
 use Rattle.std.specs.Option.{option_map}
 use Rattle.constraint_compile.proofs.Finding.{find_here, find_next}
 use Rattle.constraint_compile.proofs.format_lines.name_at.Goals as goal

@@ -1,4 +1,4 @@
-use Rattle.std.proofs.Common.{◌≡◌, ℕ, ◌∷◌, [], List, map, ◌++◌, sym, ap, subst}
+use Rattle.std.proofs.Common.{◌≡◌, ◌∷◌, [], map, ◌++◌, sym, ap, subst}
 use Rattle.vfl_text.specs.View.{pred_meaning}
 use Rattle.constraint_compile.specs.Inside.{form_view}
 use Rattle.constraint_compile.specs.FormatParts.{Part, Asks}

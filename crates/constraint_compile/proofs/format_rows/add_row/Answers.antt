@@ -1,4 +1,4 @@
-use Rattle.std.proofs.Common.{◌≡◌, ℕ, ◌∷◌, [], List, map, ◌++◌, sym, ap, ◌∙◌, subst, All, Option}
+use Rattle.std.proofs.Common.{◌≡◌, ◌∷◌, [], List, map, ◌++◌, sym, ap, ◌∙◌, subst, All, Option}
 use Rattle.std.proofs.lemmas.List.{map_push}
 use Rattle.std.proofs.lemmas.List.Elements.{All-push}
 use Rattle.std.proofs.lemmas.Result.{on_ok_weaker}
@@ -6,7 +6,6 @@ use Rattle.name_tables.specs.declared.stops.LimitWord.{LimitWord}
 use Rattle.script_text.specs.Meaning.{Linear}
 use Rattle.vfl_text.specs.View.{pred_meaning}
 use Rattle.constraint_compile.specs.Compiled as compiled
-use Rattle.constraint_compile.specs.declared.compiled.RowForm.{RowForm}
 use Rattle.constraint_compile.specs.Inside.{form_view, IsForm}
 use Rattle.constraint_compile.specs.FormatFound.{IsFound}
 use Rattle.constraint_compile.specs.FormatLines.{line_of}

@@ -1,5 +1,4 @@
-use Rattle.std.proofs.Common.{rules, ◌≡◌, ℕ, ◌+◌, ◌∷◌, [], List, map, ◌++◌, take, take_all, drop, get_or, IfErr, Option, Some, sym, ap, subst, ◌∙◌, arith}
-use Rattle.std.proofs.lemmas.Result.{IfErr-weaker}
+use Rattle.std.proofs.Common.{rules, ◌≡◌, ℕ, ◌+◌, ◌∷◌, [], List, map, take, take_all, drop, get_or, Option, sym, ap, subst, ◌∙◌}
 use Rattle.script_text.specs.Meaning.{Linear}
 use Rattle.name_tables.specs.declared.stops.LimitWord.{LimitWord}
 use Rattle.constraint_compile.specs.declared.format_parts.Part.{Part}
@@ -8,7 +7,7 @@ use Rattle.constraint_compile.specs.Inside.{form_view}
 use Rattle.constraint_compile.specs.FormatLines.{lines_of}
 use Rattle.constraint_compile.specs.FormatViews.{part_view, parts_view}
 use Rattle.constraint_compile.specs.FormatStops.{row_count}
-use Rattle.constraint_compile.specs.FormatFound.{IsFound, EndsRows, HaveNoRows}
+use Rattle.constraint_compile.specs.FormatFound.{IsFound, HaveNoRows}
 use Rattle.constraint_compile.proofs.Numbered.{lines_more, count_rest, count_more, ranks_rest, next_numbers, step_number, step_left, step_above, part_ends_at, found_passes}
 use Rattle.constraint_compile.proofs.format_rows.rows_of.Goals as goal
 

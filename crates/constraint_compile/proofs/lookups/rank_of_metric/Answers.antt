@@ -1,4 +1,4 @@
-use Rattle.std.proofs.Common.{◌≡◌, ℕ, pos, Option, Some, None, IfNone, sym, ◌∙◌, rules}
+use Rattle.std.proofs.Common.{◌≡◌, ℕ, pos, Option, Some, None, IfNone, sym, ◌∙◌}
 use Rattle.frac_core.specs.Fraction.{Fraction}
 use Rattle.constraint_compile.specs.Meaning.{IsInThousand}
 use Rattle.constraint_compile.proofs.lookups.rank_of_metric.Goals as goal

@@ -1,4 +1,4 @@
-use Rattle.std.proofs.Common.{◌≡◌, ◌≤◌, ◌<◌, ◌+◌, ◌*◌, ◌^◌, ◌+ℤ◌, ◌++◌, ◌∷◌, [], ℕ, ℤ, take, length, get_or, SFits, arith, pos}
+use Rattle.std.proofs.Common.{◌+ℤ◌, take, SFits, arith, pos}
 use Rattle.std.specs.Int.{w64}
 use Rattle.std.proofs.lemmas.Int.{to_z-of_z, fits_signed_from_abs}
 use Rattle.constraint_compile.specs.Pieces.{AreDoubled}

@@ -1,11 +1,8 @@
-use Rattle.std.proofs.Common.{◌≡◌, ◌≤◌, ◌<◌, ◌^◌, ◌*◌, ◌+ℤ◌, ◌*ℤ◌, ◌<ℤ◌, ℤ, ℕ, pos, map, SFits, arith, unsigned_abs, refl}
+use Rattle.std.proofs.Common.{◌<◌, ◌*◌, ◌<ℤ◌, ℕ, pos, SFits, arith, refl}
 use Rattle.std.specs.Int.{w64}
 use borrow.Author.Differences.{ints}
 use Rattle.std.proofs.lemmas.Int.{to_z-of_z}
 use Rattle.frac_core.specs.Fraction.{IsKept}
-use Rattle.problem_core.specs.Layout.{coefficient}
-use Rattle.constraint_compile.specs.Shares.{form}
-use Rattle.constraint_compile.specs.Pieces.{piece_value, IsPiece}
 use Rattle.constraint_compile.proofs.nonzero.piece_of.Goals as goal
 
 above : (n : ℕ) → 0 < n → pos 0 <ℤ pos (n * 2)

@@ -1,11 +1,10 @@
 use Rattle.std.proofs.Common.{◌≡◌, map, take, All}
-use Rattle.script_text.specs.View.{terms_view}
-use Rattle.constraint_compile.specs.Meaning.{share}
+use Rattle.constraint_compile.specs.Addends.{addends_view}
 use Rattle.constraint_compile.specs.Pieces.{piece_value, IsPiece}
 use Rattle.constraint_compile.proofs.nonzero.pieces_of.Given as goal
 
-abbrev pub invariant-loop-term : goal.invariant-loop-term
-invariant-loop-term l = record {
-  values : map piece_value l.pieces.items ≡ map (share l.tree.views l.attr) (terms_view (take l.term-index l.terms));
+abbrev pub invariant-loop-addend : goal.invariant-loop-addend
+invariant-loop-addend l = record {
+  values : map piece_value l.pieces.items ≡ map (λ a. a.share l.attr) (addends_view (take l.addend-index l.added));
   kept : All IsPiece l.pieces.items;
 }

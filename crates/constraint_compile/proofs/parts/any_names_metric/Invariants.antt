@@ -1,7 +1,7 @@
 use Rattle.std.proofs.Common.{◌≡◌, drop}
-use Rattle.script_text.specs.View.{terms_view}
+use Rattle.constraint_compile.specs.Addends.{addends_view}
 use Rattle.constraint_compile.specs.Keeps.{any_names_metric}
 use Rattle.constraint_compile.proofs.parts.any_names_metric.Given as goal
 
-abbrev pub invariant-loop-term : goal.invariant-loop-term
-invariant-loop-term l = any_names_metric (terms_view (drop l.term-index l.terms)) ≡ any_names_metric (terms_view l.terms)
+abbrev pub invariant-loop-addend : goal.invariant-loop-addend
+invariant-loop-addend l = any_names_metric (addends_view (drop l.addend-index l.added)) ≡ any_names_metric (addends_view l.added)

@@ -1,4 +1,4 @@
-use Rattle.std.proofs.Common.{◌≡◌, ◌++◌, ◌∷◌, [], ◌+◌, length, length-append, get_or, refl, arith}
+use Rattle.std.proofs.Common.{◌≡◌, ◌++◌, ◌∷◌, [], length-append, get_or, refl, arith}
 use Rattle.constraint_compile.specs.declared.steps.Step.{Step}
 use Rattle.constraint_compile.proofs.Lines.{parts_more, scales_more_steps}
 use Rattle.constraint_compile.proofs.parts.steps_of.Goals as goal
@@ -10,5 +10,5 @@ loop-place-preserved c =
     rw items (record {
       long = omega (arith, length-append c.loop-place.steps.items (step ∷ []), c.loop-place.invariant.long);
       scales = scales_more_steps c.args.scales.now c.loop-place.steps.items c.loop-place.place step (omega (arith, c.loop-place-test.true, c.requires.long)) refl c.loop-place.invariant.scales;
-      parts = parts_more c.args.terms.now c.loop-place.steps.items c.loop-place.place c.index-terms-place.result step c.loop-place-test.true c.index-terms-place.is c.part_at.ensures c.loop-place.invariant.parts;
+      parts = parts_more c.args.added.now c.loop-place.steps.items c.loop-place.place c.index-added-place.result step c.loop-place-test.true c.index-added-place.is c.part_at.ensures c.loop-place.invariant.parts;
     })

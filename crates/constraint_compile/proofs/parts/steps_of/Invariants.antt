@@ -1,6 +1,5 @@
 use Rattle.std.proofs.Common.{◌≡◌, ℕ, List, map, take, length}
-use Rattle.script_text.specs.View.{terms_view}
-use Rattle.constraint_compile.specs.Meaning as meaning
+use Rattle.constraint_compile.specs.Addends.{addends_view}
 use Rattle.constraint_compile.specs.Keeps.{HaveNames, steps_view}
 use Rattle.constraint_compile.proofs.parts.steps_of.Given as goal
 
@@ -8,5 +7,5 @@ abbrev pub invariant-loop-place : goal.invariant-loop-place
 invariant-loop-place l = record {
   long : length l.steps.items ≡ l.place;
   scales : map (λ s. s.scale) l.steps.items ≡ take l.place l.scales;
-  parts : (names : List (List ℕ)) → HaveNames names (terms_view l.terms) → map (λ s. s.part) (steps_view names l.steps.items) ≡ map meaning.part (terms_view (take l.place l.terms));
+  parts : (names : List (List ℕ)) → HaveNames names (addends_view l.added) → map (λ s. s.part) (steps_view names l.steps.items) ≡ map (λ a. a.part) (addends_view (take l.place l.added));
 }

@@ -1,11 +1,10 @@
-use Rattle.std.proofs.Common.{◌≡◌, ℕ, ◌<◌, ◌≤◌, ◌*◌, ◌^◌, ℤ, pos, negsuc, ◌+ℤ◌, ◌*ℤ◌, ◌<ℤ◌, SFits, arith, unsigned_abs, sym, subst, ap, ap₂, ◌∙◌, to_z, rules}
+use Rattle.std.proofs.Common.{◌≡◌, ◌<◌, ◌≤◌, ◌*◌, ◌^◌, ℤ, ◌+ℤ◌, ◌*ℤ◌, SFits, arith, unsigned_abs, ap₂, rules}
 use Rattle.std.specs.Prelude.{FitsSigned}
-use Rattle.std.specs.Int.{w128, IsGcd}
+use Rattle.std.specs.Int.{w128}
 use borrow.Author.Differences.{ints}
-use Rattle.std.proofs.lemmas.Int.{to_z-of_z, unsigned_abs-mul, fits_signed_from_abs}
-use Rattle.frac_core.specs.Fraction.{Fraction, IsLowest, IsRatio}
+use Rattle.std.proofs.lemmas.Int.{to_z-of_z, fits_signed_from_abs}
 use Rattle.frac_core.proofs.Integers.{positive_from}
-use Rattle.constraint_compile.specs.Quotients.{IsDivided, IsReduced}
+use Rattle.constraint_compile.specs.Quotients.{IsReduced}
 use Rattle.constraint_compile.proofs.Shifts.{common_small, common_divided}
 use Rattle.constraint_compile.proofs.ratios.common.Goals as goal
 

@@ -1,4 +1,4 @@
-use Rattle.std.proofs.Common.{◌≡◌, ℕ, ◌<◌, ◌≤◌, ◌*◌, ◌/◌, ◌^◌, ℤ, pos, ◌*ℤ◌, ◌<ℤ◌, SFits, arith, unsigned_abs, sym, subst, ap, ◌∙◌, to_z}
+use Rattle.std.proofs.Common.{◌≡◌, ℕ, ◌<◌, ◌/◌, ◌^◌, ℤ, pos, ◌*ℤ◌, ◌<ℤ◌, SFits, arith, unsigned_abs, sym, subst, ap, ◌∙◌, to_z}
 use Prim.Native.Nat.{◌∣◌}
 use Rattle.std.specs.Prelude.{FitsSigned}
 use Rattle.std.specs.Int.{w128, IsGcd}

@@ -1,7 +1,7 @@
-use Rattle.std.proofs.Common.{◌≡◌, ℕ, ◌<◌, ◌≤◌, ◌*◌, ◌^◌, ℤ, pos, ◌*ℤ◌, ◌<ℤ◌, SFits, arith, refl, unsigned_abs, sym, ap, ◌∙◌, rules}
+use Rattle.std.proofs.Common.{◌≡◌, SFits, refl, rules}
 use Rattle.std.specs.Int.{w128}
 use Rattle.std.proofs.lemmas.Int.{to_z-of_z}
-use Rattle.frac_core.specs.Fraction.{Fraction, IsLowest, IsRatio, Fits}
+use Rattle.frac_core.specs.Fraction.{IsRatio}
 use Rattle.constraint_compile.proofs.Shifts.{same_value}
 use Rattle.constraint_compile.proofs.ratios.small_of.Goals as goal
 

@@ -1,4 +1,4 @@
-use Rattle.std.proofs.Common.{◌≡◌, arith}
+use Rattle.std.proofs.Common.{arith}
 use Rattle.constraint_compile.proofs.RowTerms.{no_terms, all_terms, too_many}
 use Rattle.constraint_compile.proofs.row_terms.row_terms.Goals as goal
 

@@ -1,5 +1,3 @@
-use Rattle.std.proofs.Common.{◌≡◌, map}
-use Rattle.constraint_compile.specs.Inside.{form_view}
 use Rattle.constraint_compile.proofs.Forms.{rows_more, form_small}
 use Rattle.constraint_compile.proofs.rows.rows_of.Goals as goal
 

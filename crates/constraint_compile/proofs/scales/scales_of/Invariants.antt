@@ -1,11 +1,10 @@
-use Rattle.std.proofs.Common.{◌≡◌, ℕ, ◌<◌, length}
-use Rattle.script_text.specs.View.{terms_view}
-use Rattle.constraint_compile.specs.Sums.{AreKept, IsSum, AreScales, first_sum}
+use Rattle.constraint_compile.specs.Addends.{addends_view, first_of}
+use Rattle.constraint_compile.specs.Sums.{AreKept, IsSum, AreScales}
 use Rattle.constraint_compile.proofs.scales.scales_of.Given as goal
 
-abbrev pub invariant-loop-term : goal.invariant-loop-term
-invariant-loop-term l = record {
+abbrev pub invariant-loop-addend : goal.invariant-loop-addend
+invariant-loop-addend l = record {
   kept : AreKept l.attrs l.sum.scale l.sum.numbers.items;
-  sum : IsSum (first_sum l.tree.views (terms_view l.terms) l.term-index) l.attrs l.sum.scale l.sum.numbers.items;
-  scales : AreScales l.tree.views (terms_view l.terms) l.term-index l.scales.items;
+  sum : IsSum (first_of (addends_view l.added) l.addend-index) l.attrs l.sum.scale l.sum.numbers.items;
+  scales : AreScales (addends_view l.added) l.addend-index l.scales.items;
 }

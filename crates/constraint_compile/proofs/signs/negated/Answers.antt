@@ -1,9 +1,8 @@
-use Rattle.std.proofs.Common.{◌≡◌, rules, SFits, pos, ◌*ℤ◌, ◌-ℤ◌, ◌<◌, ℤ, neg_ℤ, refl, sym, ap, ◌∙◌, arith}
+use Rattle.std.proofs.Common.{◌≡◌, SFits, pos, ◌*ℤ◌, ◌-ℤ◌, ℤ, neg_ℤ, sym, ap, ◌∙◌, arith}
 use Rattle.std.specs.Int.{w64, w128}
 use Rattle.std.proofs.lemmas.Int.{to_z-of_z, fits_signed_from_abs}
-use Rattle.std.specs.Int.RustNames.{unsigned_abs}
 use borrow.Author.Differences.{ints}
-use Rattle.frac_core.specs.Fraction.{Fraction, IsKept, IsRatio, IsFitting, IsLowest, Fits}
+use Rattle.frac_core.specs.Fraction.{IsKept, IsFitting}
 use Rattle.constraint_compile.specs.Fractions.{negated}
 use Rattle.constraint_compile.proofs.Lowest.{one_lowest, negated_kept}
 use Rattle.constraint_compile.proofs.signs.negated.Goals as goal

@@ -1,10 +1,7 @@
-use Rattle.std.proofs.Common.{◌≡◌, ◌<◌, ◌≤◌, ℕ, List, length, get_or, take_all, map, sym, subst, ap, ◌∙◌, ◌^◌, arith}
+use Rattle.std.proofs.Common.{◌≡◌, ◌<◌, ◌≤◌, ℕ, List, get_or, map, sym, subst, ap, ◌∙◌, ◌^◌, arith}
 use Rattle.std.specs.String.{string_bytes}
 use Rattle.std.proofs.Math.ListN.{get_or-map}
 use Rattle.std.proofs.lemmas.List.{length-map}
-use Rattle.constraint_compile.specs.Compiled as compiled
-use Rattle.constraint_compile.specs.Fractions.{zero_fraction, IsConstant}
-use Rattle.constraint_compile.specs.Compiled.{step_sum, last_scale}
 use Rattle.constraint_compile.specs.Keeps.{step_view, steps_view}
 use Rattle.constraint_compile.specs.declared.steps.Step.{Step}
 use Rattle.constraint_compile.proofs.Constants.{more_after, stops_after}

@@ -1,10 +1,10 @@
-use Rattle.std.proofs.Common.{◌≡◌, ℕ, ◌<◌, ◌≤◌, ◌*◌, ◌^◌, ℤ, pos, neg_ℤ, ◌+ℤ◌, ◌*ℤ◌, ◌<ℤ◌, SFits, arith, unsigned_abs, sym, ap, ◌∙◌, rules, refl}
+use Rattle.std.proofs.Common.{◌≡◌, ℕ, ◌<◌, ◌^◌, ℤ, pos, neg_ℤ, ◌+ℤ◌, ◌*ℤ◌, ◌<ℤ◌, SFits, arith, unsigned_abs, ap, ◌∙◌, rules}
 use Rattle.std.specs.Prelude.{Option, Some, None, IfSome, IfNone}
-use Rattle.std.specs.Int.{w64, w128, IsGcd}
+use Rattle.std.specs.Int.{w64, w128}
 use borrow.Author.Differences.{ints}
 use Rattle.std.proofs.lemmas.Int.{to_z-of_z}
 use Rattle.frac_core.specs.Fraction.{Fraction, IsLowest, IsRatio}
-use Rattle.constraint_compile.specs.Fractions.{plus, IsConstant, IsSmallConstant}
+use Rattle.constraint_compile.specs.Fractions.{IsConstant}
 use Rattle.constraint_compile.specs.Quotients.{IsDivided, IsReduced}
 use Rattle.constraint_compile.proofs.Shifts.{IsMove, moved_to, moved_from, whole_ratio, shared_ratio}
 use Rattle.constraint_compile.proofs.steps.moved.Goals as goal

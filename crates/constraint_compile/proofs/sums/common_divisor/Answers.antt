@@ -1,4 +1,4 @@
-use Rattle.std.proofs.Common.{◌≡◌, ℕ, ℤ, pos, get_or, SFits, rules, subst}
+use Rattle.std.proofs.Common.{◌≡◌, ℕ, pos, get_or, SFits, rules, subst}
 use Rattle.std.specs.Prelude.{unsigned_abs}
 use Rattle.std.specs.Int.{w128, IsGcd}
 use Rattle.std.proofs.lemmas.Int.{to_z-of_z}

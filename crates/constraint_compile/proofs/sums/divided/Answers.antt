@@ -1,6 +1,6 @@
-use Rattle.std.proofs.Common.{◌≡◌, ℕ, ◌<◌, ◌≤◌, ◌+◌, ◌^◌, ◌++◌, ◌∷◌, [], length, length-append, ℤ, pos, get_or, ◌*ℤ◌, SFits, rules, arith, All, unsigned_abs}
+use Rattle.std.proofs.Common.{◌≡◌, ℕ, ◌<◌, ◌≤◌, ◌^◌, ◌++◌, ◌∷◌, [], length-append, ℤ, pos, get_or, ◌*ℤ◌, SFits, rules, arith, unsigned_abs}
 use Rattle.std.specs.Int.{w64, w128}
-use Rattle.std.proofs.lemmas.Int.{to_z-of_z, fits_signed_from_abs}
+use Rattle.std.proofs.lemmas.Int.{to_z-of_z}
 use Rattle.std.proofs.lemmas.List.Elements.{All-push}
 use Rattle.constraint_compile.specs.Sums.{number_at}
 use Rattle.constraint_compile.proofs.Lists.{each_pushed_by}

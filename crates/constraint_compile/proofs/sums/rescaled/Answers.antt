@@ -1,11 +1,10 @@
-use Rattle.std.proofs.Common.{◌≡◌, ℕ, ◌<◌, ◌≤◌, ◌*◌, ◌/◌, ◌^◌, ◌<ℤ◌, length, ℤ, pos, get_or, arith, All, subst, to_z}
+use Rattle.std.proofs.Common.{◌≡◌, ℕ, ◌<◌, ◌/◌, ◌^◌, pos, arith, to_z}
 use Prim.Native.Nat.{◌∣◌}
-use Rattle.std.specs.Prelude.{unsigned_abs}
 use Rattle.std.specs.Int.{w128}
 use borrow.Author.Differences.{ints}
 use Rattle.std.proofs.lemmas.Nat.Gcd.{le_of_dvd}
 use Rattle.frac_core.specs.Fraction.{Fraction}
-use Rattle.constraint_compile.specs.Sums.{AreKept, IsSum, IsCovered, IsDivisor, AreDivided, IsPast, with_share}
+use Rattle.constraint_compile.specs.Sums.{IsSum, IsCovered, IsDivisor, AreDivided, IsPast}
 use Rattle.constraint_compile.proofs.Joint.{IsStep, divisor_above, step_sum, step_kept, past_scale, past_number}
 use Rattle.constraint_compile.proofs.sums.rescaled.Goals as goal
 

@@ -1,4 +1,4 @@
-use Rattle.std.proofs.Common.{◌≡◌, ◌*ℤ◌, ◌<◌, ◌^◌, ℤ, ℕ, ◌≤◌, ◌*◌, SFits, arith, unsigned_abs, refl}
+use Rattle.std.proofs.Common.{◌*ℤ◌, ◌<◌, ◌^◌, ℤ, ℕ, ◌≤◌, ◌*◌, SFits, arith, unsigned_abs}
 use Rattle.std.specs.Int.{w64}
 use Rattle.std.proofs.lemmas.Int.{to_z-of_z, fits_signed_mul, unsigned_abs-mul}
 use Rattle.std.proofs.Math.Nat.{mul-le-mul}

@@ -1,4 +1,4 @@
-use Rattle.std.proofs.Common.{◌≡◌, ◌∙◌, sym, nat_eq}
+use Rattle.std.proofs.Common.{◌∙◌}
 use Rattle.constraint_compile.proofs.Forms.{any_number}
 use Rattle.constraint_compile.proofs.compiled.Compiled.names_view.Goals as goal
 

@@ -1,6 +1,6 @@
-use Rattle.std.proofs.Common.{◌≡◌, ℕ, pos, sym, subst}
+use Rattle.std.proofs.Common.{◌≡◌, pos, sym, subst}
 use Rattle.frac_core.specs.Fraction.{Fraction}
-use Rattle.constraint_compile.proofs.attributes.include_term.Goals as goal
+use Rattle.constraint_compile.proofs.attributes.include_addend.Goals as goal
 
 pub returns-in_ok-include_share-clause-off : goal.returns-in_ok-include_share-clause-off
 returns-in_ok-include_share-clause-off c = λ v off.

@@ -1,0 +1,55 @@
+// What terms add to a row, with no name of a view left.
+ghost use Rattle.std.specs.Prelude.{◌≡◌, ℕ, IfSome, IfNone};
+ghost use Rattle.script_text.specs.Meaning as mean;
+ghost use Rattle.constraint_compile.specs.Fractions.{zero_fraction};
+ghost use Rattle.constraint_compile.specs.Shares.{share_fraction, AreHalves};
+ghost use Rattle.constraint_compile.specs.Addends.{addend, addend_view, IsKept};
+
+use crate::attributes::{Share, number_of, share_at};
+use frac_core::Frac;
+use script_text::AttrWord;
+use view_tree::Tree;
+
+/// What a term adds to a row.
+#[derive(Clone, Copy, Debug)]
+pub(crate) enum Addend<'a> {
+    /// So many times an attribute of a view.
+    Attr(Share),
+    /// A number.
+    Number(Frac),
+    /// So many times the metric of this name.
+    Multiple { by: Frac, name: &'a str },
+    /// Nothing, as an attribute of no view.
+    Nothing,
+}
+
+impl Addend<'_> {
+    /// What it has of the attributes of views.
+    pub(crate) fn share(&self) -> Option<Share>
+        requires { IsKept self.now }
+        ensures some { IfSome result (λ s. (v : ℕ) → (addend_view self.now).share v ≡ share_fraction s v) }
+        ensures halves { IfSome result (λ s. AreHalves s.of) }
+        ensures none { IfNone result ((v : ℕ) → (addend_view self.now).share v ≡ zero_fraction) }
+    {
+        match *self {
+            Addend::Attr(share) => Some(share),
+            Addend::Number(_) => None,
+            Addend::Multiple { by: _, name: _ } => None,
+            Addend::Nothing => None,
+        }
+    }
+}
+
+/// So many times an attribute of the view of this name.
+pub(crate) fn attribute<'a>(tree: &Tree, by: Frac, name: &str, word: AttrWord) -> Addend<'a>
+    ensures is { addend_view result ≡ addend tree.now.views (record {
+      by = by;
+      of = mean.Attr name.now word;
+    }) }
+    ensures kept { IsKept result }
+{
+    match number_of(tree, name) {
+        Some(view) => Addend::Attr(share_at(by, view, word)),
+        None => Addend::Nothing,
+    }
+}
