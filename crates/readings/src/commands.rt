@@ -1,5 +1,6 @@
 // Lines of a script: their readings, part by part.
 use crate::formats::put_written;
+use case_text::put_text;
 use frac_core::{Frac, OutOfMemory};
 use problem_core::Rel;
 use script_text::{Align, AttrWord, Command, ExprTerm, LineStop, Linear, Operand, read_line};
@@ -75,6 +76,12 @@ fn put_view(out: &mut String, name: &str, parent: Option<&str>) -> Result<(), Ou
     }
 }
 
+// Appends the text of a tree, whose end is marked where it has no line's end.
+fn put_tree(out: &mut String, text: &[u8], start: usize) -> Result<(), OutOfMemory> {
+    write!(out, "tree at {start}: ")?;
+    put_text(out, text)
+}
+
 fn put_align(out: &mut String, align: Option<Align>) -> Result<(), OutOfMemory> {
     match align {
         Some(align) => {
@@ -142,6 +149,7 @@ fn put_command(alloc: Global, out: &mut String, command: &Command<'_>) -> Result
     match command {
         Command::Nothing => Ok(writeln!(out, "nothing")?),
         Command::View { name, parent } => put_view(out, name, *parent),
+        Command::Tree { text, start } => put_tree(out, text, *start),
         Command::Metric { name, value } => put_metric(out, name, *value),
         Command::Window { width, height } => put_numbers(out, "window", *width, *height),
         Command::Drop { name } => Ok(writeln!(out, "drop {name}")?),
@@ -157,6 +165,7 @@ fn put_command(alloc: Global, out: &mut String, command: &Command<'_>) -> Result
         Command::Budget { exchanges } => Ok(writeln!(out, "budget {exchanges}")?),
         Command::Frames => Ok(writeln!(out, "frames")?),
         Command::Rows => Ok(writeln!(out, "rows")?),
+        Command::Diagnose => Ok(writeln!(out, "diagnose")?),
         Command::Certify => Ok(writeln!(out, "certify")?),
         _ => put_group(alloc, out, command),
     }

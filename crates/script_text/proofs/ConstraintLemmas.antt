@@ -162,6 +162,6 @@ module _ (n : List ℕ) where
   unfolding linear_at
   linear_answers s = rw bind_assoc (expression_answers (λ l. Relation (Right l)) (λ l t. behind_left_at l t >>= λ r. ended r.0 r.1) left_ends (λ l t. behind_left_answers l t) s)
 
-pub constrain_answers : (s : List ℕ) → Answers (Arguments key.Constrain) s (constrain_at s)
+pub constrain_answers : (len : ℕ) (s : List ℕ) → Answers (Arguments len key.Constrain) s (constrain_at s)
 unfolding constrain_at
-constrain_answers s = name_answers (λ n. LinearText (λ l. End (mean.Constrain n l))) (λ n t. linear_at t >>= λ r. ended n r.0 r.1) linear_lives s (λ n t i. linear_answers n t)
+constrain_answers len s = name_answers (λ n. LinearText (λ l. End (mean.Constrain n l))) (λ n t. linear_at t >>= λ r. ended n r.0 r.1) linear_lives s (λ n t i. linear_answers n t)

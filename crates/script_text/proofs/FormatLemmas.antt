@@ -89,12 +89,12 @@ aligned_answers n s = table_answers (λ a. Tail (FormatLine n (Some a))) (λ a t
 group_lives : (n : List ℕ) → Lives is_space (Or (Word (codes "align") (Aligned n)) (FormatLine n None))
 group_lives n = right_lives is_space (Word (codes "align") (Aligned n)) (format_line_lives n None)
 
-pub vfl_lives : Lives is_space (Arguments key.Vfl)
-vfl_lives = name_lives is_space refl group_lives
+pub vfl_lives : (len : ℕ) → Lives is_space (Arguments len key.Vfl)
+vfl_lives len = name_lives is_space refl group_lives
 
-pub vfl_answers : (s : List ℕ) → Answers (Arguments key.Vfl) s (vfl_at s)
+pub vfl_answers : (len : ℕ) (s : List ℕ) → Answers (Arguments len key.Vfl) s (vfl_at s)
 unfolding vfl_at
-vfl_answers s = name_answers (λ n. Or (Word (codes "align") (Aligned n)) (FormatLine n None))
+vfl_answers len s = name_answers (λ n. Or (Word (codes "align") (Aligned n)) (FormatLine n None))
     (λ n t. cond (starts is_a t) (word_at (codes "align") t >>= λ r. tried alignments r >>= λ a. tail_at a.1 >>= format_line_at n (Some a.0)) (format_line_at n None t)) group_lives s
     (λ n t i. or_answers is_a (Word (codes "align") (Aligned n)) (FormatLine n None) _ _
     (lit_only _ is_a 97 (108 ∷ 105 ∷ 103 ∷ 110 ∷ []) refl) (format_line_never n None) (begins (group_lives n)) t

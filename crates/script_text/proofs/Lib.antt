@@ -7,4 +7,5 @@ pub mod SuggestionLemmas
 pub mod SumLemmas
 pub mod SumSteps
 pub mod Tables
+pub mod TreeLemmas
 pub mod VariableLemmas

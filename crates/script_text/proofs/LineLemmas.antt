@@ -2,22 +2,23 @@
 use Rattle.std.proofs.Common.{◌≡◌, ℕ, true, false, List, [], length, Some, None, Result, Ok, Err, ◌⊎◌, inl, inr, ◌-◌, refl, sym, ◌∙◌, arith}
 use Rattle.std.specs.Prelude.{codes}
 use Rattle.span_text.specs.Language.{Rel, End, Lit, Or, Words, Stops, LeavesAt, Answers}
-use Rattle.span_text.specs.Classes.{is_space, is_word}
+use Rattle.span_text.specs.Classes.{is_space}
 use Rattle.span_text.specs.Reading.{◌>>=◌}
-use Rattle.span_text.specs.Tokens.{Tail, Word, Sign, Name, Number, tail_at}
+use Rattle.span_text.specs.Tokens.{Word, Sign, Name, Number, skip}
 use Rattle.span_text.proofs.PieceLemmas.{Lives, begins, lit_answers, or_answers}
-use Rattle.span_text.proofs.TokensLemmas.{end_lives, tail_lives, name_lives, number_lives, whole_lives, right_lives, gap_answers, tail_answers, lit_only, end_never, or_never, table_inside, table_apart, words_only, words_never}
+use Rattle.span_text.proofs.TokensLemmas.{end_lives, name_lives, number_lives, whole_lives, right_lives, gap_answers, lit_only, end_never, or_never, table_inside, table_apart, words_only, words_never}
 use Rattle.span_text.proofs.Offsets.{answers_ok, answers_err, stops_leaves}
 use Rattle.script_text.specs.Meaning.{Meaning}
 use Rattle.script_text.specs.Meaning as mean
-use Rattle.script_text.specs.Grammar.{decimal, Arguments, Any, Line, all_words}
-use Rattle.script_text.specs.LineReading.{is_hash, is_any, arguments_at, command_at, content_at, line_at}
+use Rattle.script_text.specs.Grammar.{decimal, is_any, Apart, Arguments, Any, LineOf, Line, all_words}
+use Rattle.script_text.specs.LineReading.{is_hash, apart_at, arguments_at, command_at, content_at, line_at}
 use Rattle.script_text.specs.declared.words.Keyword.{Keyword}
 use Rattle.script_text.specs.declared.words.Keyword.TheVariants as key
 use Rattle.script_text.proofs.Tables.{IsTable, table_answers}
 use Rattle.script_text.proofs.ArgumentLemmas.{bare_answers, window_answers, budget_answers, named_answers, view_answers, metric_answers}
 use Rattle.script_text.proofs.FormatLemmas.{vfl_lives, vfl_answers}
 use Rattle.script_text.proofs.ConstraintLemmas.{linear_lives, constrain_answers}
+use Rattle.script_text.proofs.TreeLemmas.{rest_lives, tree_answers, apart_lives, apart_answers, as_line}
 use Rattle.script_text.proofs.SuggestionLemmas.{suggest_lives, suggest_answers, release_lives, release_answers}
 
 -- a table of first words: each begins neither with a space nor with #
@@ -30,66 +31,73 @@ all_commands : AreCommands all_words
 unfolding all_words
 all_commands = record { table = record { full = refl; free = refl; bytes = refl }; inside = refl; no_hash = refl }
 
-arguments_lives : (k : Keyword) → Lives is_space (Arguments k)
-arguments_lives key.View = name_lives is_space refl (λ n. right_lives is_space (Word (codes "in") (Name (λ p. End (mean.View n (Some p))))) (end_lives is_space (mean.View n None)))
-arguments_lives key.Drop = name_lives is_space refl (λ n. end_lives is_space (mean.Drop n))
-arguments_lives key.Metric = name_lives is_space refl (λ n. right_lives is_space (Sign 45 (Number (λ v. End (mean.Metric n (decimal true v))))) (number_lives is_space refl (λ v. end_lives is_space (mean.Metric n (decimal false v)))))
-arguments_lives key.Window = number_lives is_space refl (λ w. number_lives is_space refl (λ h. end_lives is_space (mean.Window (decimal false w) (decimal false h))))
-arguments_lives key.Vfl = vfl_lives
-arguments_lives key.Constrain = name_lives is_space refl linear_lives
-arguments_lives key.Remove = name_lives is_space refl (λ n. end_lives is_space (mean.Remove n))
-arguments_lives key.Suggest = suggest_lives
-arguments_lives key.Release = release_lives
-arguments_lives key.Undo = end_lives is_space mean.Undo
-arguments_lives key.Budget = whole_lives is_space refl (λ n. end_lives is_space (mean.Budget n))
-arguments_lives key.Frames = end_lives is_space mean.Frames
-arguments_lives key.Rows = end_lives is_space mean.Rows
-arguments_lives key.Certify = end_lives is_space mean.Certify
+arguments_lives : (len : ℕ) (k : Keyword) → Lives is_space (Arguments len k)
+arguments_lives len key.View = name_lives is_space refl (λ n. right_lives is_space (Word (codes "in") (Name (λ p. End (mean.View n (Some p))))) (end_lives is_space (mean.View n None)))
+arguments_lives len key.Tree = rest_lives (λ t. mean.Tree t (len - length t))
+arguments_lives len key.Drop = name_lives is_space refl (λ n. end_lives is_space (mean.Drop n))
+arguments_lives len key.Metric = name_lives is_space refl (λ n. right_lives is_space (Sign 45 (Number (λ v. End (mean.Metric n (decimal true v))))) (number_lives is_space refl (λ v. end_lives is_space (mean.Metric n (decimal false v)))))
+arguments_lives len key.Window = number_lives is_space refl (λ w. number_lives is_space refl (λ h. end_lives is_space (mean.Window (decimal false w) (decimal false h))))
+arguments_lives len key.Vfl = vfl_lives len
+arguments_lives len key.Constrain = name_lives is_space refl linear_lives
+arguments_lives len key.Remove = name_lives is_space refl (λ n. end_lives is_space (mean.Remove n))
+arguments_lives len key.Suggest = suggest_lives len
+arguments_lives len key.Release = release_lives len
+arguments_lives len key.Undo = end_lives is_space mean.Undo
+arguments_lives len key.Budget = whole_lives is_space refl (λ n. end_lives is_space (mean.Budget n))
+arguments_lives len key.Frames = end_lives is_space mean.Frames
+arguments_lives len key.Rows = end_lives is_space mean.Rows
+arguments_lives len key.Diagnose = end_lives is_space mean.Diagnose
+arguments_lives len key.Certify = end_lives is_space mean.Certify
 
-arguments_answers : (k : Keyword) (s : List ℕ) → Answers (Arguments k) s (arguments_at k s)
-arguments_answers key.View s = view_answers s
-arguments_answers key.Drop s = named_answers mean.Drop s
-arguments_answers key.Metric s = metric_answers s
-arguments_answers key.Window s = window_answers s
-arguments_answers key.Vfl s = vfl_answers s
-arguments_answers key.Constrain s = constrain_answers s
-arguments_answers key.Remove s = named_answers mean.Remove s
-arguments_answers key.Suggest s = suggest_answers s
-arguments_answers key.Release s = release_answers s
-arguments_answers key.Undo s = bare_answers mean.Undo s
-arguments_answers key.Budget s = budget_answers s
-arguments_answers key.Frames s = bare_answers mean.Frames s
-arguments_answers key.Rows s = bare_answers mean.Rows s
-arguments_answers key.Certify s = bare_answers mean.Certify s
+arguments_answers : (len : ℕ) (k : Keyword) (s : List ℕ) → Answers (Arguments len k) s (arguments_at len k s)
+arguments_answers len key.View s = view_answers len s
+arguments_answers len key.Tree s = tree_answers len s
+arguments_answers len key.Drop s = named_answers mean.Drop s
+arguments_answers len key.Metric s = metric_answers len s
+arguments_answers len key.Window s = window_answers len s
+arguments_answers len key.Vfl s = vfl_answers len s
+arguments_answers len key.Constrain s = constrain_answers len s
+arguments_answers len key.Remove s = named_answers mean.Remove s
+arguments_answers len key.Suggest s = suggest_answers len s
+arguments_answers len key.Release s = release_answers len s
+arguments_answers len key.Undo s = bare_answers mean.Undo s
+arguments_answers len key.Budget s = budget_answers len s
+arguments_answers len key.Frames s = bare_answers mean.Frames s
+arguments_answers len key.Rows s = bare_answers mean.Rows s
+arguments_answers len key.Diagnose s = bare_answers mean.Diagnose s
+arguments_answers len key.Certify s = bare_answers mean.Certify s
 
 any_answers : {A : Type 0} (a : A) (s : List ℕ) → Answers (Any a) s (Ok a)
 any_answers a s = (refl, λ w h. h)
 
 module _ (words : List (List ℕ × Keyword)) (are : AreCommands words) where
-  abbrev Command : Rel Meaning
-  Command = Words words (λ k. Tail (Arguments k))
+  abbrev Command : ℕ → Rel Meaning
+  Command len = Words words (λ k. Apart (Arguments len k))
 
-  command_answers : (s : List ℕ) → Answers Command s (command_at words s)
+  command_answers : (len : ℕ) (s : List ℕ) → Answers (Command len) s (command_at words len s)
   unfolding command_at
-  command_answers s = table_answers (λ k. Tail (Arguments k)) (λ k t. tail_at t >>= arguments_at k) (λ k. begins (tail_lives is_word refl (arguments_lives k))) s
-      (λ k t h. tail_answers (Arguments k) (arguments_at k) (arguments_lives k) t (λ u i. arguments_answers k u)) words are.table
+  command_answers len s = table_answers (λ k. Apart (Arguments len k)) (λ k t. apart_at t >>= arguments_at len k) (λ k. begins (apart_lives (arguments_lives len k))) s
+      (λ k t h. apart_answers (Arguments len k) (arguments_at len k) (arguments_lives len k) t (λ u i. arguments_answers len k u)) words are.table
 
-  content_lives : Lives is_space (Or Command (End mean.Nothing))
-  content_lives = right_lives is_space Command (end_lives is_space mean.Nothing)
+  content_lives : (len : ℕ) → Lives is_space (Or (Command len) (End mean.Nothing))
+  content_lives len = right_lives is_space (Command len) (end_lives is_space mean.Nothing)
 
-  content_answers : (s : List ℕ) → Answers (Or (Lit (codes "#") (Any mean.Nothing)) (Or Command (End mean.Nothing))) s (content_at words s)
+  content_answers : (len : ℕ) (s : List ℕ) → Answers (Or (Lit (codes "#") (Any mean.Nothing)) (Or (Command len) (End mean.Nothing))) s (content_at words len s)
   unfolding content_at
-  content_answers s = or_answers is_hash (Lit (codes "#") (Any mean.Nothing)) (Or Command (End mean.Nothing)) _ _
-      (lit_only _ is_hash 35 [] refl) (or_never is_hash Command (End mean.Nothing) (words_never (λ k. Tail (Arguments k)) is_hash words are.no_hash) (end_never is_hash mean.Nothing))
-      (begins (right_lives is_space (Lit (codes "#") (Any mean.Nothing)) content_lives)) s
+  content_answers len s = or_answers is_hash (Lit (codes "#") (Any mean.Nothing)) (Or (Command len) (End mean.Nothing)) _ _
+      (lit_only _ is_hash 35 [] refl) (or_never is_hash (Command len) (End mean.Nothing) (words_never (λ k. Apart (Arguments len k)) is_hash words are.no_hash) (end_never is_hash mean.Nothing))
+      (begins (right_lives is_space (Lit (codes "#") (Any mean.Nothing)) (content_lives len))) s
       (lit_answers (Any mean.Nothing) (λ _. Ok mean.Nothing) ([], mean.Nothing, tt, refl) (codes "#") s refl (λ t h. any_answers mean.Nothing t))
-      (or_answers is_any Command (End mean.Nothing) _ _ (words_only (λ k. Tail (Arguments k)) is_any words are.inside) (end_never is_any mean.Nothing) (begins content_lives) s
-      (command_answers s) (bare_answers mean.Nothing s))
+      (or_answers is_any (Command len) (End mean.Nothing) _ _ (words_only (λ k. Apart (Arguments len k)) is_any words are.inside) (end_never is_any mean.Nothing) (begins (content_lives len)) s
+      (command_answers len s) (bare_answers mean.Nothing s))
+
+  of_answers : (len : ℕ) (s : List ℕ) → Answers (LineOf words len) s (content_at words len (skip s))
+  of_answers len s = gap_answers (Or (Lit (codes "#") (Any mean.Nothing)) (Or (Command len) (End mean.Nothing))) (content_at words len)
+      (right_lives is_space (Lit (codes "#") (Any mean.Nothing)) (content_lives len)) s (λ t i. content_answers len t)
 
   pub line_answers : (s : List ℕ) → Answers (Line words) s (line_at words s)
-  unfolding line_at Line
-  line_answers s = gap_answers (Or (Lit (codes "#") (Any mean.Nothing)) (Or Command (End mean.Nothing))) (content_at words)
-      (right_lives is_space (Lit (codes "#") (Any mean.Nothing)) content_lives) s (λ t i. content_answers t)
+  unfolding line_at
+  line_answers s = as_line words s (content_at words (length s) (skip s)) (of_answers (length s) s)
 
 -- what a reader's answer says of the line, by its case
 pub line_ok : (s : List ℕ) (v : Meaning) → line_at all_words s ≡ Ok v → Line all_words s v × ((w : Meaning) → Line all_words s w → w ≡ v)

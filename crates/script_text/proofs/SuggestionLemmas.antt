@@ -69,12 +69,12 @@ module _ (n : List ℕ) (w : AttrWord) where
       (sign_answers 45 (Suggestion n w true) (suggestion_at n w true) refl (suggestion_lives true) s (λ t h. suggestion_answers true t))
       (suggestion_answers false s)
 
-pub suggest_lives : Lives is_space (Arguments key.Suggest)
-suggest_lives = attribute_lives Either either_lives
+pub suggest_lives : (len : ℕ) → Lives is_space (Arguments len key.Suggest)
+suggest_lives len = attribute_lives Either either_lives
 
-pub suggest_answers : (s : List ℕ) → Answers (Arguments key.Suggest) s (suggest_at s)
+pub suggest_answers : (len : ℕ) (s : List ℕ) → Answers (Arguments len key.Suggest) s (suggest_at s)
 unfolding suggest_at
-suggest_answers s = view_word_answers Either either_lives (λ n w t. if starts is_minus t then (sign_at 45 t >>= suggestion_at n w true) else suggestion_at n w false t) s either_answers
+suggest_answers len s = view_word_answers Either either_lives (λ n w t. if starts is_minus t then (sign_at 45 t >>= suggestion_at n w true) else suggestion_at n w false t) s either_answers
 
 abbrev Released : List ℕ → AttrWord → Rel Meaning
 Released n w = End (mean.Release n w)
@@ -82,9 +82,9 @@ Released n w = End (mean.Release n w)
 released_lives : (n : List ℕ) (w : AttrWord) → Lives is_space (Released n w)
 released_lives n w = end_lives is_space (mean.Release n w)
 
-pub release_lives : Lives is_space (Arguments key.Release)
-release_lives = attribute_lives Released released_lives
+pub release_lives : (len : ℕ) → Lives is_space (Arguments len key.Release)
+release_lives len = attribute_lives Released released_lives
 
-pub release_answers : (s : List ℕ) → Answers (Arguments key.Release) s (release_at s)
+pub release_answers : (len : ℕ) (s : List ℕ) → Answers (Arguments len key.Release) s (release_at s)
 unfolding release_at
-release_answers s = view_word_answers Released released_lives (λ n w t. end_at t >>= λ _. Ok (mean.Release n w)) s (λ n w t. end_answers (mean.Release n w) t)
+release_answers len s = view_word_answers Released released_lives (λ n w t. end_at t >>= λ _. Ok (mean.Release n w)) s (λ n w t. end_answers (mean.Release n w) t)

@@ -1,6 +1,8 @@
 -- The lines of a script, by the cases of their grammar. What follows a construct is its last argument.
-use Rattle.std.specs.Prelude.{◌≡◌, ℕ, Bool, true, false, List, [], ◌∷◌, ◌++◌, Option, Some, None, codes, pos}
-use Rattle.span_text.specs.Language.{Rel, End, Lit, Or, Words}
+use Rattle.std.specs.Prelude.{◌≡◌, ℕ, ◌-◌, Bool, true, false, not, List, [], ◌∷◌, ◌++◌, length, Option, Some}
+use Rattle.std.specs.Prelude.{None, codes, pos}
+use Rattle.span_text.specs.Classes.{is_space}
+use Rattle.span_text.specs.Language.{Rel, End, Lit, One, Not, Or, Words}
 use Rattle.span_text.specs.Loops.{Loop}
 use Rattle.span_text.specs.Tokens.{Gap, Tail, Word, Sign, Name, RawName, Number, Whole, Ratio}
 use Rattle.span_text.specs.Objects.{Meant}
@@ -21,11 +23,12 @@ use Rattle.problem_core.specs.declared.parts.Rel as parts
 
 -- the first words of lines
 unfoldable pub all_words : List (List ℕ × Keyword)
-all_words = (codes "view", key.View) ∷ (codes "drop", key.Drop) ∷ (codes "metric", key.Metric)
-    ∷ (codes "window", key.Window) ∷ (codes "vfl", key.Vfl) ∷ (codes "constrain", key.Constrain)
-    ∷ (codes "remove", key.Remove) ∷ (codes "suggest", key.Suggest) ∷ (codes "release", key.Release)
-    ∷ (codes "undo", key.Undo) ∷ (codes "budget", key.Budget) ∷ (codes "frames", key.Frames)
-    ∷ (codes "rows", key.Rows) ∷ (codes "certify", key.Certify) ∷ []
+all_words = (codes "view", key.View) ∷ (codes "tree", key.Tree) ∷ (codes "drop", key.Drop)
+    ∷ (codes "metric", key.Metric) ∷ (codes "window", key.Window) ∷ (codes "vfl", key.Vfl)
+    ∷ (codes "constrain", key.Constrain) ∷ (codes "remove", key.Remove) ∷ (codes "suggest", key.Suggest)
+    ∷ (codes "release", key.Release) ∷ (codes "undo", key.Undo) ∷ (codes "budget", key.Budget)
+    ∷ (codes "frames", key.Frames) ∷ (codes "rows", key.Rows) ∷ (codes "diagnose", key.Diagnose)
+    ∷ (codes "certify", key.Certify) ∷ []
 
 unfoldable pub alignments : List (List ℕ × Align)
 alignments = (codes "left", align.Left) ∷ (codes "right", align.Right) ∷ (codes "top", align.Top)
@@ -111,31 +114,51 @@ Made {M} f F s v = (m : M) × F s m × (v ≡ f m)
 abbrev pub FormatLine : List ℕ → Option Align → Rel Meaning
 FormatLine n a = Made (mean.Vfl n a) FormatText
 
--- what follows the first word
-abbrev pub Arguments : Keyword → Rel Meaning
-Arguments key.View = Name (λ n. Or (Word (codes "in") (Name (λ p. End (mean.View n (Some p)))))
+abbrev pub is_any : ℕ → Bool
+is_any b = true
+
+-- all that follows, one byte at least
+abbrev pub Rest : {A : Type 0} → (List ℕ → A) → Rel A
+Rest f = One is_any (λ b t v. v ≡ f (b ∷ t))
+
+-- What follows the first word of a line of this length. The text of a tree runs to the line's end.
+abbrev pub Arguments : ℕ → Keyword → Rel Meaning
+Arguments len key.View = Name (λ n. Or (Word (codes "in") (Name (λ p. End (mean.View n (Some p)))))
     (End (mean.View n None)))
-Arguments key.Drop = Name (λ n. End (mean.Drop n))
-Arguments key.Metric = Name (λ n. Or (Sign 45 (Number (λ v. End (mean.Metric n (decimal true v)))))
+Arguments len key.Tree = Rest (λ t. mean.Tree t (len - length t))
+Arguments len key.Drop = Name (λ n. End (mean.Drop n))
+Arguments len key.Metric = Name (λ n. Or (Sign 45 (Number (λ v. End (mean.Metric n (decimal true v)))))
     (Number (λ v. End (mean.Metric n (decimal false v)))))
-Arguments key.Window = Number (λ w. Number (λ h. End (mean.Window (decimal false w) (decimal false h))))
-Arguments key.Vfl = Name (λ n. Or (Word (codes "align")
+Arguments len key.Window = Number (λ w. Number (λ h. End (mean.Window (decimal false w) (decimal false h))))
+Arguments len key.Vfl = Name (λ n. Or (Word (codes "align")
     (Words alignments (λ a. Tail (FormatLine n (Some a))))) (FormatLine n None))
-Arguments key.Constrain = Name (λ n. LinearText (λ l. End (mean.Constrain n l)))
-Arguments key.Remove = Name (λ n. End (mean.Remove n))
-Arguments key.Suggest = Attribute (λ n w. Or (Sign 45 (Suggestion n w true)) (Suggestion n w false))
-Arguments key.Release = Attribute (λ n w. End (mean.Release n w))
-Arguments key.Undo = End mean.Undo
-Arguments key.Budget = Whole (λ n. End (mean.Budget n))
-Arguments key.Frames = End mean.Frames
-Arguments key.Rows = End mean.Rows
-Arguments key.Certify = End mean.Certify
+Arguments len key.Constrain = Name (λ n. LinearText (λ l. End (mean.Constrain n l)))
+Arguments len key.Remove = Name (λ n. End (mean.Remove n))
+Arguments len key.Suggest = Attribute (λ n w. Or (Sign 45 (Suggestion n w true)) (Suggestion n w false))
+Arguments len key.Release = Attribute (λ n w. End (mean.Release n w))
+Arguments len key.Undo = End mean.Undo
+Arguments len key.Budget = Whole (λ n. End (mean.Budget n))
+Arguments len key.Frames = End mean.Frames
+Arguments len key.Rows = End mean.Rows
+Arguments len key.Diagnose = End mean.Diagnose
+Arguments len key.Certify = End mean.Certify
 
 -- whatever follows
 abbrev pub Any : {A : Type 0} → A → Rel A
 Any a s v = v ≡ a
 
--- a line whose first word is one of these: a comment, a command, or a blank line
+abbrev pub is_no_space : ℕ → Bool
+is_no_space b = not (is_space b)
+
+-- Behind the first word: where more follows, a space stands before it.
+abbrev pub Apart : {A : Type 0} → Rel A → Rel A
+Apart F = Not is_no_space (Gap F)
+
+-- a line of this length: a comment, a command whose first word is one of these, or a blank line
+abbrev pub LineOf : List (List ℕ × Keyword) → ℕ → Rel Meaning
+LineOf words len = Gap (Or (Lit (codes "#") (Any mean.Nothing))
+    (Or (Words words (λ k. Apart (Arguments len k))) (End mean.Nothing)))
+
+-- a line and what it means
 unfoldable pub Line : List (List ℕ × Keyword) → Rel Meaning
-Line words = Gap (Or (Lit (codes "#") (Any mean.Nothing))
-    (Or (Words words (λ k. Tail (Arguments k))) (End mean.Nothing)))
+Line words line = LineOf words (length line) line

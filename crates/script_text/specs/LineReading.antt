@@ -1,8 +1,8 @@
 -- Reading a line from left to right.
 use Rattle.std.specs.Prelude.{ℕ, Bool, true, false, List, [], ◌∷◌, ◌++◌, Option, Some, None, Result, Ok}
-use Rattle.std.specs.Prelude.{codes, pos, ◌==◌, if◌then◌else◌}
+use Rattle.std.specs.Prelude.{codes, pos, ◌==◌, ◌-◌, if◌then◌else◌, length, Err}
 use Rattle.span_text.specs.Reading.{◌>>=◌, lit_at, starts, tried, end_at}
-use Rattle.span_text.specs.Classes.{is_letter}
+use Rattle.span_text.specs.Classes.{is_letter, is_space}
 use Rattle.span_text.specs.Tokens.{is_point, skip, tail_at, word_at, sign_at, name_at, raw_name_at, number_at}
 use Rattle.span_text.specs.Tokens.{whole_at}
 use Rattle.span_text.specs.Loops.{loop_at}
@@ -16,7 +16,7 @@ use Rattle.vfl_text.specs.Reading.{format_at}
 use Rattle.script_text.specs.Fractions.{lowest}
 use Rattle.script_text.specs.Meaning.{Operand, Term, Linear, Meaning}
 use Rattle.script_text.specs.Meaning as mean
-use Rattle.script_text.specs.Grammar.{alignments, attributes, relations, decimal, times}
+use Rattle.script_text.specs.Grammar.{alignments, attributes, relations, decimal, times, is_any}
 use Rattle.problem_core.specs.declared.parts.Rel.{Rel}
 use Rattle.script_text.specs.declared.words.Align.{Align}
 use Rattle.script_text.specs.declared.words.AttrWord.{AttrWord}
@@ -59,6 +59,11 @@ view_at s = do
       else (do
         _ ← end_at name.1
         Ok (mean.View name.0 None))
+
+-- the text of a tree, which is the end of a line of this length
+unfoldable pub tree_at : ℕ → List ℕ → Result Meaning ℕ
+tree_at len [] = Err 0
+tree_at len (b ∷ s) = Ok (mean.Tree (b ∷ s) (len - length (b ∷ s)))
 
 -- a name and no more
 unfoldable pub named_at : (List ℕ → Meaning) → List ℕ → Result Meaning ℕ
@@ -246,37 +251,41 @@ release_at s = do
   _ ← end_at of.1
   Ok (mean.Release of.0.0 of.0.1)
 
-abbrev pub arguments_at : Keyword → List ℕ → Result Meaning ℕ
-arguments_at key.View s = view_at s
-arguments_at key.Drop s = named_at mean.Drop s
-arguments_at key.Metric s = metric_at s
-arguments_at key.Window s = window_at s
-arguments_at key.Vfl s = vfl_at s
-arguments_at key.Constrain s = constrain_at s
-arguments_at key.Remove s = named_at mean.Remove s
-arguments_at key.Suggest s = suggest_at s
-arguments_at key.Release s = release_at s
-arguments_at key.Undo s = bare_at mean.Undo s
-arguments_at key.Budget s = budget_at s
-arguments_at key.Frames s = bare_at mean.Frames s
-arguments_at key.Rows s = bare_at mean.Rows s
-arguments_at key.Certify s = bare_at mean.Certify s
+abbrev pub arguments_at : ℕ → Keyword → List ℕ → Result Meaning ℕ
+arguments_at len key.View s = view_at s
+arguments_at len key.Tree s = tree_at len s
+arguments_at len key.Drop s = named_at mean.Drop s
+arguments_at len key.Metric s = metric_at s
+arguments_at len key.Window s = window_at s
+arguments_at len key.Vfl s = vfl_at s
+arguments_at len key.Constrain s = constrain_at s
+arguments_at len key.Remove s = named_at mean.Remove s
+arguments_at len key.Suggest s = suggest_at s
+arguments_at len key.Release s = release_at s
+arguments_at len key.Undo s = bare_at mean.Undo s
+arguments_at len key.Budget s = budget_at s
+arguments_at len key.Frames s = bare_at mean.Frames s
+arguments_at len key.Rows s = bare_at mean.Rows s
+arguments_at len key.Diagnose s = bare_at mean.Diagnose s
+arguments_at len key.Certify s = bare_at mean.Certify s
 
-abbrev pub is_any : ℕ → Bool
-is_any b = true
+-- the text behind the first word and the spaces that follow it
+unfoldable pub apart_at : List ℕ → Result (List ℕ) ℕ
+apart_at [] = Ok []
+apart_at (b ∷ s) = if is_space b then Ok (skip (b ∷ s)) else Err (length (b ∷ s))
 
-unfoldable pub command_at : List (List ℕ × Keyword) → List ℕ → Result Meaning ℕ
-command_at words s = do
+unfoldable pub command_at : List (List ℕ × Keyword) → ℕ → List ℕ → Result Meaning ℕ
+command_at words len s = do
   word ← tried words s
-  rest ← tail_at word.1
-  arguments_at word.0 rest
+  rest ← apart_at word.1
+  arguments_at len word.0 rest
 
-unfoldable pub content_at : List (List ℕ × Keyword) → List ℕ → Result Meaning ℕ
-content_at words s = if starts is_hash s
+unfoldable pub content_at : List (List ℕ × Keyword) → ℕ → List ℕ → Result Meaning ℕ
+content_at words len s = if starts is_hash s
     then (do
       _ ← lit_at (codes "#") s
       Ok mean.Nothing)
-    else (if starts is_any s then command_at words s else bare_at mean.Nothing s)
+    else (if starts is_any s then command_at words len s else bare_at mean.Nothing s)
 
 unfoldable pub line_at : List (List ℕ × Keyword) → List ℕ → Result Meaning ℕ
-line_at words s = content_at words (skip s)
+line_at words s = content_at words (length s) (skip s)

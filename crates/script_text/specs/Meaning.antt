@@ -28,6 +28,8 @@ pub record Linear : Type 0 where
 pub data Meaning : Type 0 where
   Nothing : Meaning
   View : List ℕ → Option (List ℕ) → Meaning
+  -- the text of a tree, and where it begins in the line
+  Tree : List ℕ → ℕ → Meaning
   Drop : List ℕ → Meaning
   Metric : List ℕ → Fraction → Meaning
   Window : Fraction → Fraction → Meaning
@@ -40,4 +42,5 @@ pub data Meaning : Type 0 where
   Budget : ℕ → Meaning
   Frames : Meaning
   Rows : Meaning
+  Diagnose : Meaning
   Certify : Meaning

@@ -47,6 +47,7 @@ name_view (Some t) = Some t.now
 abbrev pub view : Command → mean.Meaning
 view command.Nothing = mean.Nothing
 view (command.View name parent) = mean.View name.now (name_view parent)
+view (command.Tree text start) = mean.Tree text.now start
 view (command.Drop name) = mean.Drop name.now
 view (command.Metric name value) = mean.Metric name.now value
 view (command.Window width height) = mean.Window width height
@@ -59,4 +60,5 @@ view command.Undo = mean.Undo
 view (command.Budget exchanges) = mean.Budget exchanges
 view command.Frames = mean.Frames
 view command.Rows = mean.Rows
+view command.Diagnose = mean.Diagnose
 view command.Certify = mean.Certify

@@ -62,6 +62,11 @@ pub enum Command<'a> {
         name: &'a str,
         parent: Option<&'a str>,
     },
+    /// A tree of views: its text, which isn't read, and the offset at which that begins in the line.
+    Tree {
+        text: &'a [u8],
+        start: usize,
+    },
     /// A view that is to leave, with all below it.
     Drop {
         name: &'a str,
@@ -107,6 +112,8 @@ pub enum Command<'a> {
     },
     Frames,
     Rows,
+    /// What the values leave unmet or undecided is to be told.
+    Diagnose,
     /// The values and what shows that they are the best are to be told.
     Certify,
 }

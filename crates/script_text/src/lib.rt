@@ -5,6 +5,7 @@
 //!
 //! ```text
 //! view NAME (in NAME)?
+//! tree TEXT
 //! drop NAME
 //! metric NAME -? NUMBER
 //! window NUMBER NUMBER
@@ -17,6 +18,7 @@
 //! budget WHOLE
 //! frames
 //! rows
+//! diagnose
 //! certify
 //! ```
 //!
@@ -29,7 +31,8 @@
 //! and 1 to 3 digits; a whole number has 1 to 19 digits; a ratio is two whole numbers of 1 to 4 digits, the
 //! second not 0, with `/` between them. Each is as long as it can be and has no space inside, as has
 //! `NAME.ATTRIBUTE`. Spaces and tabs may stand between all others, and must where a letter, a digit or `_`
-//! would follow another.
+//! would follow another, and behind the first word where more follows. The text of a tree begins at the first
+//! byte behind these and is all that follows, whatever its bytes; what it says isn't read here.
 #![tactic(auto)]
 
 mod command;

@@ -5,8 +5,10 @@ ghost use Rattle.span_text.specs.Language.{LeavesAt};
 ghost use Rattle.script_text.specs.Grammar.{Line, all_words};
 ghost use Rattle.script_text.specs.Meaning.{Meaning};
 ghost use Rattle.script_text.specs.Meaning as mean;
-ghost use Rattle.script_text.specs.LineReading.{view_at, named_at, metric_at, window_at, budget_at, bare_at};
-ghost use Rattle.script_text.specs.LineReading.{arguments_at, command_at, content_at, line_at};
+ghost use Rattle.script_text.specs.LineReading.{view_at, tree_at, named_at, metric_at, window_at, budget_at};
+ghost use Rattle.script_text.specs.LineReading.{bare_at, apart_at, arguments_at, command_at, content_at};
+ghost use Rattle.script_text.specs.LineReading.{line_at};
+ghost use Rattle.span_text.specs.Gives.{Gives};
 ghost use Rattle.script_text.specs.Stops.{OnSyntax};
 ghost use Rattle.script_text.specs.View.{view};
 
@@ -32,6 +34,20 @@ fn view_line(text: &[u8]) -> Result<Command<'_>, PartStop>
     } else {
         pieces::end(text)?;
         Ok(Command::View { name, parent: None })
+    }
+}
+
+// What follows the word `tree` in a line of this length.
+#[tactic(auto, unfolding(crate::specs::LineReading::tree_at))]
+fn tree_line(len: usize, text: &[u8]) -> Result<Command<'_>, PartStop>
+    ensures { GivesOrMemory view result (tree_at len text.now) }
+{
+    match text {
+        [_, ..] => {
+            let start = len.saturating_sub(text.len());
+            Ok(Command::Tree { text, start })
+        }
+        [] => Err(PartStop::Left(0)),
     }
 }
 
@@ -126,6 +142,14 @@ fn certify_line(text: &[u8]) -> Result<Command<'_>, PartStop>
 }
 
 #[tactic(auto, unfolding(crate::specs::LineReading::bare_at))]
+fn diagnose_line(text: &[u8]) -> Result<Command<'_>, PartStop>
+    ensures { GivesOrMemory view result (bare_at mean.Diagnose text.now) }
+{
+    pieces::end(text)?;
+    Ok(Command::Diagnose)
+}
+
+#[tactic(auto, unfolding(crate::specs::LineReading::bare_at))]
 fn blank_line(text: &[u8]) -> Result<Command<'_>, PartStop>
     ensures { GivesOrMemory view result (bare_at mean.Nothing text.now) }
 {
@@ -133,12 +157,18 @@ fn blank_line(text: &[u8]) -> Result<Command<'_>, PartStop>
     Ok(Command::Nothing)
 }
 
-// What follows the first word.
-fn arguments(alloc: Global, keyword: Keyword, text: &[u8]) -> Result<Command<'_>, PartStop>
-    ensures { GivesOrMemory view result (arguments_at keyword text.now) }
+// What follows the first word of a line of this length.
+fn arguments(
+    alloc: Global,
+    len: usize,
+    keyword: Keyword,
+    text: &[u8],
+) -> Result<Command<'_>, PartStop>
+    ensures { GivesOrMemory view result (arguments_at len keyword text.now) }
 {
     match keyword {
         Keyword::View => view_line(text),
+        Keyword::Tree => tree_line(len, text),
         Keyword::Drop => drop_line(text),
         Keyword::Metric => metric_line(text),
         Keyword::Window => window_line(text),
@@ -151,23 +181,35 @@ fn arguments(alloc: Global, keyword: Keyword, text: &[u8]) -> Result<Command<'_>
         Keyword::Budget => budget_line(text),
         Keyword::Frames => frames_line(text),
         Keyword::Rows => rows_line(text),
+        Keyword::Diagnose => diagnose_line(text),
         Keyword::Certify => certify_line(text),
     }
 }
 
-#[tactic(auto, unfolding(crate::specs::LineReading::command_at))]
-fn command(alloc: Global, text: &[u8]) -> Result<Command<'_>, PartStop>
-    ensures { GivesOrMemory view result (command_at all_words text.now) }
+// The text behind the first word and the spaces that follow it.
+#[tactic(auto, unfolding(crate::specs::LineReading::apart_at))]
+fn apart(text: &[u8]) -> Result<&[u8], usize>
+    ensures { Gives (λ t. t.now) result (apart_at text.now) }
 {
-    let (word, text) = first_word(text)?;
-    let text = names::tail(text)?;
-    arguments(alloc, word, text)
+    match text {
+        [b, ..] if *b != b' ' && *b != b'\t' => Err(text.len()),
+        _ => Ok(pieces::skip(text)),
+    }
 }
 
-// A line behind the spaces in front of it.
+#[tactic(auto, unfolding(crate::specs::LineReading::command_at))]
+fn command(alloc: Global, len: usize, text: &[u8]) -> Result<Command<'_>, PartStop>
+    ensures { GivesOrMemory view result (command_at all_words len text.now) }
+{
+    let (word, text) = first_word(text)?;
+    let text = apart(text)?;
+    arguments(alloc, len, word, text)
+}
+
+// A line of this length behind the spaces in front of it.
 #[tactic(auto, unfolding(crate::specs::LineReading::content_at))]
-fn content(alloc: Global, text: &[u8]) -> Result<Command<'_>, PartStop>
-    ensures { GivesOrMemory view result (content_at all_words text.now) }
+fn content(alloc: Global, len: usize, text: &[u8]) -> Result<Command<'_>, PartStop>
+    ensures { GivesOrMemory view result (content_at all_words len text.now) }
 {
     if pieces::begins(text, b'#') {
         pieces::literal(b"#", text)?;
@@ -176,7 +218,7 @@ fn content(alloc: Global, text: &[u8]) -> Result<Command<'_>, PartStop>
     if text.is_empty() {
         blank_line(text)
     } else {
-        command(alloc, text)
+        command(alloc, len, text)
     }
 }
 
@@ -184,7 +226,7 @@ fn content(alloc: Global, text: &[u8]) -> Result<Command<'_>, PartStop>
 fn any_line(alloc: Global, line: &[u8]) -> Result<Command<'_>, PartStop>
     ensures { GivesOrMemory view result (line_at all_words line.now) }
 {
-    content(alloc, pieces::skip(line))
+    content(alloc, line.len(), pieces::skip(line))
 }
 
 /// The one reading of a line by the grammar of lines. A line of the grammar is never refused as syntax; for

@@ -12,6 +12,7 @@ use span_text::pieces::or_else;
 #[derive(Clone, Copy, Debug, PartialEq, Eq)]
 pub enum Keyword {
     View,
+    Tree,
     Drop,
     Metric,
     Window,
@@ -24,6 +25,7 @@ pub enum Keyword {
     Budget,
     Frames,
     Rows,
+    Diagnose,
     Certify,
 }
 
@@ -78,6 +80,7 @@ pub fn first_word(text: &[u8]) -> Result<(Keyword, &[u8]), usize>
     ensures { Gives (λ p. (p.0, p.1.now)) result (tried all_words text.now) }
 {
     let found = or_else(b"certify", Keyword::Certify, text, Err(text.len()));
+    let found = or_else(b"diagnose", Keyword::Diagnose, text, found);
     let found = or_else(b"rows", Keyword::Rows, text, found);
     let found = or_else(b"frames", Keyword::Frames, text, found);
     let found = or_else(b"budget", Keyword::Budget, text, found);
@@ -90,6 +93,7 @@ pub fn first_word(text: &[u8]) -> Result<(Keyword, &[u8]), usize>
     let found = or_else(b"window", Keyword::Window, text, found);
     let found = or_else(b"metric", Keyword::Metric, text, found);
     let found = or_else(b"drop", Keyword::Drop, text, found);
+    let found = or_else(b"tree", Keyword::Tree, text, found);
     or_else(b"view", Keyword::View, text, found)
 }
 
