@@ -1,9 +1,9 @@
 -- What a session hands its engine makes a problem, and the session counts on.
-use Rattle.std.proofs.Common.{◌≡◌, ℕ, ◌+◌, ◌*◌, ◌^◌, ◌<◌, ◌≤◌, List, [], ◌∷◌, ◌++◌, length, map, length-append, refl, sym, ap, subst, ◌∙◌, arith, inl, inr, All, lit<, pos}
+use Rattle.std.proofs.Common.{◌≡◌, ℕ, ◌+◌, ◌^◌, ◌<◌, ◌≤◌, List, [], ◌∷◌, ◌++◌, length, map, length-append, refl, sym, ap, subst, ◌∙◌, arith, inl, inr, All, lit<, pos}
 use Rattle.std.specs.List.{Contains}
 use Rattle.std.proofs.lemmas.Bool.{cases_lt}
 use Rattle.std.proofs.lemmas.List.{append-nil, length-map}
-use Rattle.std.proofs.lemmas.List.Elements.{All-from_recursion, All-append, All-weaker, All-map, Contains-append_right}
+use Rattle.std.proofs.lemmas.List.Elements.{All-from_recursion, All-append, All-weaker, All-map}
 use Rattle.frac_core.specs.Fraction.{Fraction}
 use Rattle.problem_core.specs.declared.parts.Rel.TheVariants.{Eq, Ge}
 use Rattle.problem_core.specs.declared.parts.Stay.{Stay}
@@ -17,25 +17,26 @@ use Rattle.constraint_compile.specs.Compiled.{CompiledLine, AreRowsNow}
 use Rattle.layout_solver.specs.declared.engine.Change.{Change}
 use Rattle.layout_solver.specs.Layouts.{Layout, stays_at, zeros, with_added}
 use Rattle.layout_solver.specs.Shifts.{shifted, with_shifts}
-use Rattle.session_undo.specs.Items.{view_rows, size_rows}
+use Rattle.session_undo.specs.Items.{size_rows, without_constant}
 use Rattle.session_undo.specs.Scene.{State}
 use Rattle.session_undo.specs.Machine.{IsCrowded}
 use Rattle.session_undo.specs.Kept.{AreWithin}
-use Rattle.session_undo.specs.Attributes.{view_attributes, attributes_of, HasOnly, IsNextLine, IsGrown, IsCounted}
+use Rattle.session_undo.specs.Attributes.{view_attributes, attributes_of, HasOnly, IsNextLine, IsCounted}
 use Rattle.session_undo.proofs.Lists.{pairs-nil, pairs-cons, four-rising, all-unmapped}
-use Rattle.session_undo.proofs.Attributes.{attributes-below, attribute-count, view-new, none-new, contains-left, contains-top, contains-width, contains-height, window-among}
+use Rattle.session_undo.proofs.Attributes.{view-new, none-new, contains-left, contains-top, contains-width, contains-height, window-among}
 use Rattle.session_undo.proofs.Wholes.{IsSettled, MayBeAdded, added-rising, added-whole, settled-numbers, attributes-joined, shape}
 use Rattle.session_undo.proofs.AlikeRows.{alike-shapes}
 use Rattle.session_undo.proofs.ShiftedRows.{shifted-alike}
 use Rattle.session_undo.proofs.First.{first_problem, first_tree}
 use Rattle.session_undo.proofs.NextRows.{line-may, line-below}
+use Rattle.session_undo.proofs.Ranks.{HasRank, ranks-now, size-ranked}
 
 -- ---- required rows
 
-one-only : (attrs : List ℕ) (t : Term) → Contains attrs t.attr → All (λ s. Contains attrs s.attr) (t ∷ [])
+pub one-only : (attrs : List ℕ) (t : Term) → Contains attrs t.attr → All (λ s. Contains attrs s.attr) (t ∷ [])
 one-only attrs t inside = All-from_recursion (λ (s : Term). Contains attrs s.attr) (t ∷ []) (inside, tt)
 
-abbrev once : ℕ → Term
+abbrev pub once : ℕ → Term
 once attr = record { attr = attr; by = pos 1 }
 
 two-may : (attrs : List ℕ) (n : ℕ) (r s : Row) → All IsRow (r ∷ s ∷ []) → r.id ≡ n → s.id ≡ n + 1 → HasOnly attrs r → HasOnly attrs s → MayBeAdded attrs n (r ∷ s ∷ [])
@@ -46,13 +47,6 @@ two-may attrs n r s each first second only_r only_s = record {
   above = All-from_recursion (λ (x : Row). n ≤ x.id) (r ∷ s ∷ []) (omega (arith, first), (omega (arith, second), tt));
   only = All-from_recursion (HasOnly attrs) (r ∷ s ∷ []) (only_r, (only_s, tt));
 }
-
-view-may : (views : List LiveView) (next id : ℕ) (more : List Row) → more ≡ view_rows next id → All IsRow more → MayBeAdded (attributes_of views ++ view_attributes id) next more
-view-may views next id more is each =
-    subst (MayBeAdded (attributes_of views ++ view_attributes id) next) (sym is)
-    (two-may (attributes_of views ++ view_attributes id) next _ _ (subst (All IsRow) is each) refl refl
-    (one-only (attributes_of views ++ view_attributes id) (once (4 * id + 3)) (Contains-append_right (attributes_of views) (view_attributes id) (4 * id + 3) (contains-width id)))
-    (one-only (attributes_of views ++ view_attributes id) (once (4 * id + 4)) (Contains-append_right (attributes_of views) (view_attributes id) (4 * id + 4) (contains-height id))))
 
 size-may : (t : ViewTree) (next : ℕ) (w h : Fraction) (more : List Row) → IsTree t → more ≡ size_rows next w h → All IsRow more → MayBeAdded (attributes_of t.views) next more
 size-may t next w h more tree is each =
@@ -83,28 +77,7 @@ size-whole t next l w h more tree is counted are each room =
     let two : length more ≡ 2 = ap length are in
     rows-whole t.views next l more is counted (size-may t next w h more tree are each) (omega (arith, room, two))
 
-pub view-whole : (views new_views : List LiveView) (next id : ℕ) (l : Layout) (more : List Row) → IsSettled l.problem l.values → IsCounted views next l.problem → IsGrown views new_views id → id < 2 ^ 29 → more ≡ view_rows next id → All IsRow more
-    → length l.problem.rows + 2 ≤ 2000 → IsWhole (with_added l (view_attributes id) more)
-view-whole views new_views next id l more is counted grown small are each room =
-    let two : length more ≡ 2 = ap length are in
-    let stays : length l.problem.stays ≡ length (attributes_of views) = sym (length-map l.problem.stays (λ (s : Stay). s.attr)) ∙ ap length counted.stays in
-    let all : length (attributes_of new_views) ≡ length (attributes_of views) + 4 = ap length grown.attributes ∙ length-append (attributes_of views) (view_attributes id) in
-    let joined : map (λ (v : ℕ × Fraction). v.0) l.values ≡ attributes_of views = is.attributes ∙ counted.stays in
-    added-whole l.problem l.values (view_attributes id) more next (4 * id + 1) is
-    (all-unmapped (λ (v : ℕ × Fraction). v.0) (λ a. a < 4 * id + 1) l.values (subst (All (λ a. a < 4 * id + 1)) (sym joined) (attributes-below views id grown.above)))
-    (view-new id small) counted.below
-    (subst (λ (ns : List ℕ). MayBeAdded (ns ++ view_attributes id) next more) (sym counted.stays) (view-may views next id more are each))
-    (omega (arith, room, two)) (omega (arith, stays, all, attribute-count new_views, grown.few))
-
 -- ---- attributes that rise
-
--- those of a new view are above all others
-pub view-rising : (views new_views : List LiveView) (next id : ℕ) (l : Layout) → IsSettled l.problem l.values → IsCounted views next l.problem → IsGrown views new_views id → id < 2 ^ 29 → AreRising (l.values ++ zeros (view_attributes id))
-view-rising views new_views next id l is counted grown small =
-    let joined : map (λ (v : ℕ × Fraction). v.0) l.values ≡ attributes_of views = is.attributes ∙ counted.stays in
-    added-rising l.values (view_attributes id) (4 * id + 1) is.rising
-    (all-unmapped (λ (v : ℕ × Fraction). v.0) (λ a. a < 4 * id + 1) l.values (subst (All (λ a. a < 4 * id + 1)) (sym joined) (attributes-below views id grown.above)))
-    (view-new id small)
 
 -- there is none more
 pub still-rising : (l : Layout) → AreRising l.values → AreRising (l.values ++ zeros [])
@@ -117,32 +90,26 @@ stays-at [] = refl
 stays-at (v ∷ values) = ap (λ (ns : List ℕ). v.0 ∷ ns) (stays-at values)
 
 pub counted-added : (views new_views : List LiveView) (next now : ℕ) (l : Layout) (attrs : List ℕ) (more : List Row) (p : Problem) → map (λ v. v.0) l.values ≡ map (λ s. s.attr) l.problem.stays → IsCounted views next l.problem
-    → attributes_of new_views ≡ attributes_of views ++ attrs → All (λ r. r.id < now) more → next ≤ now → length l.problem.rows + length more ≤ 2000 → p ≡ with_added l attrs more → IsCounted new_views now p
-counted-added views new_views next now l attrs more p same counted grown below up room is =
+    → attributes_of new_views ≡ attributes_of views ++ attrs → All (λ r. r.id < now) more → All HasRank more → next ≤ now → length l.problem.rows + length more ≤ 2000 → p ≡ with_added l attrs more → IsCounted new_views now p
+counted-added views new_views next now l attrs more p same counted grown below ranks up room is =
     subst (IsCounted new_views now) (sym is) (record {
       stays = stays-at (l.values ++ zeros attrs) ∙ attributes-joined l.values attrs ∙ ap (λ (ns : List ℕ). ns ++ attrs) (same ∙ counted.stays) ∙ sym grown;
       below = All-append (λ (r : Row). r.id < now) l.problem.rows more (All-weaker (λ (r : Row). r.id < next) (λ (r : Row). r.id < now) (λ r h. omega (arith, h, up)) l.problem.rows counted.below) below;
+      ranks = All-append HasRank l.problem.rows more counted.ranks ranks;
       few = omega (arith, room, length-append l.problem.rows more);
     })
-
-pub counted-view : (views new_views : List LiveView) (next id : ℕ) (l : Layout) (more : List Row) (p : Problem) → map (λ v. v.0) l.values ≡ map (λ s. s.attr) l.problem.stays → IsCounted views next l.problem → IsGrown views new_views id
-    → more ≡ view_rows next id → length l.problem.rows + 2 ≤ 2000 → p ≡ with_added l (view_attributes id) more → IsCounted new_views (next + 2) p
-counted-view views new_views next id l more p same counted grown are room is =
-    let two : length more ≡ 2 = ap length are in
-    counted-added views new_views next (next + 2) l (view_attributes id) more p same counted grown.attributes
-    (subst (All (λ (r : Row). r.id < next + 2)) (sym are) (All-from_recursion (λ (r : Row). r.id < next + 2) (view_rows next id) (omega arith, (omega arith, tt)))) (omega arith) (omega (arith, room, two)) is
 
 pub counted-size : (views : List LiveView) (next : ℕ) (l : Layout) (w h : Fraction) (more : List Row) (p : Problem) → map (λ v. v.0) l.values ≡ map (λ s. s.attr) l.problem.stays → IsCounted views next l.problem
     → more ≡ size_rows next w h → length l.problem.rows + 2 ≤ 2000 → p ≡ with_added l [] more → IsCounted views (next + 2) p
 counted-size views next l w h more p same counted are room is =
     let two : length more ≡ 2 = ap length are in
     counted-added views views next (next + 2) l [] more p same counted (sym (append-nil (attributes_of views)))
-    (subst (All (λ (r : Row). r.id < next + 2)) (sym are) (All-from_recursion (λ (r : Row). r.id < next + 2) (size_rows next w h) (omega arith, (omega arith, tt)))) (omega arith) (omega (arith, room, two)) is
+    (subst (All (λ (r : Row). r.id < next + 2)) (sym are) (All-from_recursion (λ (r : Row). r.id < next + 2) (size_rows next w h) (omega arith, (omega arith, tt)))) (subst (All HasRank) (sym are) (size-ranked next w h)) (omega arith) (omega (arith, room, two)) is
 
 pub counted-line : (views : List LiveView) (next : ℕ) (l : Layout) (line : CompiledLine) (ms : MetricList) (more : List Row) (p : Problem) → map (λ v. v.0) l.values ≡ map (λ s. s.attr) l.problem.stays → IsCounted views next l.problem
     → IsNextLine views next line → AreRowsNow ms line.rows more → length l.problem.rows + length more ≤ 2000 → p ≡ with_added l [] more → IsCounted views (next + length more) p
 counted-line views next l line ms more p same counted fits are room is =
-    counted-added views views next (next + length more) l [] more p same counted (sym (append-nil (attributes_of views))) (line-below views next line ms more fits are) (omega arith) room is
+    counted-added views views next (next + length more) l [] more p same counted (sym (append-nil (attributes_of views))) (line-below views next line ms more fits are) (ranks-now ms line.rows more are fits.ranks) (omega arith) room is
 
 -- other constants change no number
 pub counted-shifted : (views : List LiveView) (next : ℕ) (l : Layout) (to : List Change) (p : Problem) → map (λ v. v.0) l.values ≡ map (λ s. s.attr) l.problem.stays → IsCounted views next l.problem
@@ -152,6 +119,7 @@ counted-shifted views next l to p same counted is =
     subst (IsCounted views next) (sym is) (record {
       stays = stays-at l.values ∙ same ∙ counted.stays;
       below = all-unmapped shape (λ s. s.0 < next) (shifted to l.problem.rows) (subst (All (λ (s : ℕ × List Term). s.0 < next)) (sym shapes) (mapped l.problem.rows counted.below));
+      ranks = all-unmapped without_constant HasRank (shifted to l.problem.rows) (subst (All HasRank) (sym (shifted-alike to l.problem.rows)) (All-map HasRank without_constant l.problem.rows counted.ranks));
       few = (let long : length (shifted to l.problem.rows) ≡ length l.problem.rows = sym (length-map (shifted to l.problem.rows) shape) ∙ ap length shapes ∙ length-map l.problem.rows shape in omega (arith, counted.few, long));
     })
   where
@@ -216,6 +184,7 @@ first-counted t p tree is =
     (subst (IsCounted first_tree.views 5) (sym is) (record {
       stays = refl;
       below = All-from_recursion (λ (r : Row). r.id < 5) structural_rows (lit< tt, (lit< tt, (lit< tt, (lit< tt, tt))));
+      ranks = All-from_recursion HasRank structural_rows (lit< tt, (lit< tt, (lit< tt, (lit< tt, tt))));
       few = omega arith;
     }))
 

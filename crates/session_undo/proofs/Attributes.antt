@@ -1,44 +1,73 @@
 -- The attributes of views.
-use Rattle.std.proofs.Common.{◌≡◌, ℕ, ◌+◌, ◌*◌, ◌^◌, ◌<◌, ◌≤◌, List, [], ◌∷◌, ◌++◌, length, map, append_assoc, Some, refl, sym, ap, subst, ◌∙◌, arith, All, inl, inr, length-append}
+use Rattle.std.proofs.Common.{◌≡◌, ℕ, zero, suc, ◌+◌, ◌*◌, ◌^◌, ◌<◌, ◌≤◌, List, [], ◌∷◌, ◌++◌, length, map, append_assoc, Some, refl, sym, ap, subst, ◌∙◌, arith, All}
 use Rattle.std.specs.List.{Contains, slice_get, AllByRecursion as Each}
-use Rattle.std.proofs.lemmas.Bool.{cases_lt}
-use Rattle.std.proofs.lemmas.List.{append-nil}
 use Rattle.std.proofs.lemmas.Option.{none-some, same_Some}
 use Rattle.std.proofs.lemmas.List.Elements.{recursion_from_All, All-from_recursion, All-weaker, Contains-append_left}
 use Rattle.problem_core.specs.declared.parts.Stay.{Stay}
 use Rattle.problem_core.specs.Kept.{IsNumber}
+use Rattle.view_tree.specs.JsonTrees.{Branch, branch, Branches, no_branches, more, size, size_in, views_of, views_in, with_branch}
 use Rattle.view_tree.specs.Views.{LiveView, ViewTree, IsTree, window}
 use Rattle.view_tree.specs.Views as tree
-use Rattle.session_undo.specs.Attributes.{view_attributes, attributes_of, IsGrown}
-use Rattle.session_undo.specs.Kept.{AreWithin}
-use Rattle.session_undo.specs.Machine.{HasAllViews}
-use Rattle.session_undo.specs.Scene.{State}
+use Rattle.session_undo.specs.Attributes.{view_attributes, attributes_of, attributes_from, IsGrown}
 use Rattle.session_undo.proofs.Lists.{pairs-nil, four-rising, all-unmapped}
 use Rattle.session_undo.proofs.Wholes.{MayBeNew}
 
--- ---- one view more
+-- ---- views that come
 
-attributes-more : (views : List LiveView) (v : LiveView) → attributes_of (views ++ v ∷ []) ≡ attributes_of views ++ view_attributes v.id
-attributes-more [] v = append-nil (view_attributes v.id)
-attributes-more (u ∷ views) v = ap (λ (ns : List ℕ). view_attributes u.id ++ ns) (attributes-more views v) ∙ sym (append_assoc (view_attributes u.id) (attributes_of views) (view_attributes v.id))
+pub attributes-more : (views new : List LiveView) → attributes_of (views ++ new) ≡ attributes_of views ++ attributes_of new
+attributes-more [] new = refl
+attributes-more (u ∷ views) new = ap (λ (ns : List ℕ). view_attributes u.id ++ ns) (attributes-more views new) ∙ sym (append_assoc (view_attributes u.id) (attributes_of views) (attributes_of new))
 
-pub grown : (t new : ViewTree) (name : List ℕ) (parent id : ℕ) → IsTree t → IsTree new → new ≡ tree.with_view t name parent → id ≡ t.next → IsGrown t.views new.views id
-grown t new name parent id is new_is added id_is = record {
-  attributes = ap (λ (u : ViewTree). attributes_of u.views) added ∙ attributes-more t.views (record { id = t.next; name = name; parent = Some parent }) ∙ ap (λ (n : ℕ). attributes_of t.views ++ view_attributes n) (sym id_is);
-  above = subst (λ (n : ℕ). All (λ v. v.id < n) t.views) (sym id_is) is.below;
+-- all attributes, once they have come
+pub grown-attributes : (old new : List LiveView) (id n : ℕ) → IsGrown old new id n → attributes_of new ≡ attributes_of old ++ attributes_from id n
+grown-attributes old new id n grown = ap attributes_of grown.are ∙ attributes-more old grown.more ∙ ap (λ (ns : List ℕ). attributes_of old ++ ns) grown.attributes
+
+from-append : (id m n : ℕ) → attributes_from id (m + n) ≡ attributes_from id m ++ attributes_from (id + m) n
+from-append id zero n =
+    let none_more : zero + n ≡ n = omega arith in
+    let same : id ≡ id + zero = omega arith in
+    ap (attributes_from id) none_more ∙ ap (λ (i : ℕ). attributes_from i n) same
+from-append id (suc m) n =
+    let one_more : suc m + n ≡ suc (m + n) = omega arith in
+    let next : id + 1 + m ≡ id + suc m = omega arith in
+    ap (attributes_from id) one_more
+    ∙ ap (λ (ns : List ℕ). view_attributes id ++ ns) (from-append (id + 1) m n ∙ ap (λ (i : ℕ). attributes_from (id + 1) m ++ attributes_from i n) next)
+    ∙ sym (append_assoc (view_attributes id) (attributes_from (id + 1) m) (attributes_from (id + suc m) n))
+
+-- the views of a branch
+mutual
+  pub attributes-branch : (next parent : ℕ) (b : Branch) → attributes_of (views_of next parent b) ≡ attributes_from next (size b)
+  attributes-branch next parent (branch name inner) = ap (λ (ns : List ℕ). view_attributes next ++ ns) (attributes-branches (next + 1) next inner)
+
+  attributes-branches : (next parent : ℕ) (bs : Branches) → attributes_of (views_in next parent bs) ≡ attributes_from next (size_in bs)
+  attributes-branches next parent no_branches = refl
+  attributes-branches next parent (more b bs) =
+      attributes-more (views_of next parent b) (views_in (next + size b) parent bs)
+      ∙ ap (λ (ns : List ℕ). ns ++ attributes_of (views_in (next + size b) parent bs)) (attributes-branch next parent b)
+      ∙ ap (λ (ns : List ℕ). attributes_from next (size b) ++ ns) (attributes-branches (next + size b) parent bs)
+      ∙ sym (from-append next (size b) (size_in bs))
+
+-- one view has come
+pub grown-view : (t new : ViewTree) (name : List ℕ) (parent id : ℕ) → IsTree t → IsTree new → new ≡ tree.with_view t name parent → id ≡ t.next → IsGrown t.views new.views id 1
+grown-view t new name parent id is new_is added id_is = subst (λ (n : ℕ). IsGrown t.views new.views n 1) (sym id_is) (record {
+  more = record { id = t.next; name = name; parent = Some parent } ∷ [];
+  are = ap (λ (u : ViewTree). u.views) added;
+  attributes = refl;
+  above = is.below;
   few = new_is.few;
-}
+  small = omega (arith, new_is.ids, ap (λ (u : ViewTree). u.next) added);
+})
 
--- a view that the session has room for
-pub grown-within : (s : State) (name : List ℕ) (above id : ℕ) → AreWithin s.limits → IsTree s.scene.tree → (HasAllViews s → ⊥) → id ≡ s.scene.tree.next → IsGrown s.scene.tree.views (tree.with_view s.scene.tree name above).views id
-grown-within s name above id within is room id_is = record {
-  attributes = attributes-more s.scene.tree.views (record { id = s.scene.tree.next; name = name; parent = Some above }) ∙ ap (λ (n : ℕ). attributes_of s.scene.tree.views ++ view_attributes n) (sym id_is);
-  above = subst (λ (n : ℕ). All (λ v. v.id < n) s.scene.tree.views) (sym id_is) is.below;
-  few = elim (cases_lt (length s.scene.tree.views) s.limits.views) [
-    | inl less ↦ omega (arith, less, within.views, length-append s.scene.tree.views (record { id = s.scene.tree.next; name = name; parent = Some above } ∷ []))
-    | inr many ↦ absurd (room (inl many))
-  ];
-}
+-- a branch has come
+pub grown-branch : (t new : ViewTree) (parent id n : ℕ) (b : Branch) → IsTree t → IsTree new → new ≡ with_branch t parent b → id ≡ t.next → n ≡ size b → IsGrown t.views new.views id n
+grown-branch t new parent id n b is new_is added id_is n_is = subst (λ (i : ℕ). IsGrown t.views new.views i n) (sym id_is) (subst (λ (k : ℕ). IsGrown t.views new.views t.next k) (sym n_is) (record {
+  more = views_of t.next parent b;
+  are = ap (λ (u : ViewTree). u.views) added;
+  attributes = attributes-branch t.next parent b;
+  above = is.below;
+  few = new_is.few;
+  small = omega (arith, new_is.ids, ap (λ (u : ViewTree). u.next) added);
+}))
 
 -- ---- how great they are
 
@@ -61,7 +90,7 @@ attribute-count (v ∷ views) = omega (arith, attribute-count views)
 
 -- ---- new ones
 
-four-numbers : (id : ℕ) → id < 2 ^ 29 → Each IsNumber (view_attributes id)
+pub four-numbers : (id : ℕ) → id < 2 ^ 29 → Each IsNumber (view_attributes id)
 four-numbers id h = ((omega arith, omega (arith, h)), ((omega arith, omega (arith, h)), ((omega arith, omega (arith, h)), ((omega arith, omega (arith, h)), tt))))
 
 pub view-new : (id : ℕ) → id < 2 ^ 29 → MayBeNew (4 * id + 1) (view_attributes id)

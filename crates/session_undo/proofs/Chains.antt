@@ -26,7 +26,7 @@ use Rattle.session_undo.specs.Replies.{Reply, Unknown, Taken, Limit, MayRefuse}
 use Rattle.session_undo.specs.Scene.{Scene, State, AreDraftRows, with_window, metrics_with}
 use Rattle.session_undo.specs.Machine.{IsTaken, IsDeep, IsCrowded, IsFarSize, AreNear, AreTooMany, TriedView, TriedMetric, TriedWindow, UnlessFar, HasAllViews}
 use Rattle.session_undo.specs.Items.{has_size}
-use Rattle.session_undo.specs.Adding.{NoEnd, IsFreeView, IsFreeMetric, view_draft, metrics_draft}
+use Rattle.session_undo.specs.Adding.{NoEnd, IsFreeView, IsFreeMetric, views_draft, metrics_draft}
 use Rattle.session_undo.specs.Kept.{AreWithin}
 use Rattle.session_undo.specs.Moving.{MayLackChanges}
 use Rattle.session_undo.proofs.ItemRows.{rows-small}
@@ -69,7 +69,7 @@ not-deep t parent above level is on high (w, l, w_is, on_2, deep) =
     let levels : l ≡ level = IsOnLevel-unique t.views above.id l level (subst (λ (u : LiveView). IsOnLevel t.views u.id l) same on_2) on in
     omega (arith, levels, high, deep)
 
-not-some : {X : Type 0} (o : Option X) → o ≡ None → IsSome o → ⊥
+pub not-some : {X : Type 0} (o : Option X) → o ≡ None → IsSome o → ⊥
 not-some None is some = true≢false (sym some)
 not-some (Some x) is some = absurd (none-some x (sym is))
 
@@ -80,7 +80,7 @@ not-taken : (scene : Scene) (name : List ℕ) → view_named scene.tree.views na
 not-taken scene name v m (inl some) = not-some (view_named scene.tree.views name) v some
 not-taken scene name v m (inr some) = not-some (value_of scene.metrics name) m some
 
-not-both : (b : Bool) → b ≡ false → b ≡ true → ⊥
+pub not-both : (b : Bool) → b ≡ false → b ≡ true → ⊥
 not-both true e f = true≢false e
 not-both false e f = true≢false (sym f)
 
@@ -121,7 +121,7 @@ module _ (old : State) (name parent : List ℕ) (End : Scene → Reply → State
   pub view-crowded : IsFound → (IsTaken old.scene name → ⊥) → length name ≤ 64 → (HasAllViews old → ⊥) → (IsDeep old.scene.tree parent → ⊥) → IsCrowded old 2 → TriedView old name parent End (Limit word.Rows) old
   view-crowded found free short few high crowded = inr (found, inr (free, inr ((λ long. omega (arith, short, long)), inr (few, inr (high, inl (crowded, refl, refl))))))
 
-  pub view-passed : (t : ViewTree) (id : ℕ) (reply : Reply) (new : State) → IsFreeView old name parent t id → End (view_draft old.scene t id) reply new → TriedView old name parent End reply new
+  pub view-passed : (t : ViewTree) (id : ℕ) (reply : Reply) (new : State) → IsFreeView old name parent t id → End (views_draft old.scene t id 1) reply new → TriedView old name parent End reply new
   view-passed t id reply new is end =
       inr (
         not-none (view_named old.scene.tree.views parent) is.above is.found,
@@ -138,7 +138,7 @@ module _ (old : State) (name parent : List ℕ) (End : Scene → Reply → State
                   (
                     is.above,
                     is.found,
-                    subst (λ (u : ViewTree). End (view_draft old.scene u old.scene.tree.next) reply new) is.tree_is (subst (λ (n : ℕ). End (view_draft old.scene t n) reply new) is.id_is end),
+                    subst (λ (u : ViewTree). End (views_draft old.scene u old.scene.tree.next 1) reply new) is.tree_is (subst (λ (n : ℕ). End (views_draft old.scene t n 1) reply new) is.id_is end),
                   ),
                 ),
               ),

@@ -65,6 +65,7 @@ first-kept t l is counted = record {
   each = All-from_recursion IsItem (OfWindow ∷ []) (tt, tt);
   named = All-from_recursion (IsNamed t.views) (OfWindow ∷ []) (tt, tt);
   next = lit< tt;
+  top = omega arith;
   counted = counted;
 }
 

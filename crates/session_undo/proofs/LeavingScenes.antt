@@ -25,6 +25,7 @@ use Rattle.session_undo.proofs.LeavingProblems.{apart-from-up, ids-up, no-stays-
 use Rattle.session_undo.proofs.LeavingRows.{agree, keeps, rows-stay, up-pairs}
 use Rattle.session_undo.proofs.LeavingViews.{attributes-up, gone-up, have-stays, left-attributes, names-none, rows-covered}
 use Rattle.session_undo.proofs.Moves.{moved-is}
+use Rattle.session_undo.proofs.Ranks.{HasRank}
 use Rattle.session_undo.proofs.Reached.{reached, settled}
 use Rattle.session_undo.proofs.Wholes.{IsSettled}
 
@@ -162,9 +163,11 @@ module _ (tree : ViewTree) (ms : MetricList) (held : List Item) (next : ℕ) (l 
             each = All-filter (λ item. not (goes item)) IsItem held kept.each;
             named = All-filter (λ item. not (goes item)) (IsNamed tree.views) held kept.named;
             next = kept.next;
+            top = kept.top;
             counted = record {
               stays = ap (map (λ (s : Stay). s.attr)) stays_are ∙ moved-attrs l.problem.stays l.values ∙ kept.counted.stays;
               below = subst (All (λ r. r.id < next)) (sym rows_are) (All-filter (keeps (numbers_of goes held)) (λ r. r.id < next) l.problem.rows kept.counted.below);
+              ranks = subst (All HasRank) (sym rows_are) (All-filter (keeps (numbers_of goes held)) HasRank l.problem.rows kept.counted.ranks);
               few = omega (arith, ap length rows_are, shorter (keeps (numbers_of goes held)) l.problem.rows, kept.counted.few);
             };
           })
@@ -288,9 +291,11 @@ module _ (tree : ViewTree) (ms : MetricList) (held : List Item) (next : ℕ) (l 
           each = All-filter (λ item. not (goes_with gone item)) IsItem held kept.each;
           named = all-named-left tree.views gone held kept.named;
           next = kept.next;
+          top = kept.top;
           counted = record {
             stays = ap (map (λ (s : Stay). s.attr)) new_stays ∙ left-attributes gone tree.views (moved l.problem.stays l.values) (moved-attrs l.problem.stays l.values ∙ kept.counted.stays);
             below = subst (All (λ r. r.id < next)) (sym new_rows) (All-filter (keeps (numbers_of (goes_with gone) held)) (λ r. r.id < next) l.problem.rows kept.counted.below);
+            ranks = subst (All HasRank) (sym new_rows) (All-filter (keeps (numbers_of (goes_with gone) held)) HasRank l.problem.rows kept.counted.ranks);
             few = omega (arith, ap length new_rows, shorter (keeps (numbers_of (goes_with gone) held)) l.problem.rows, kept.counted.few);
           };
         })

@@ -3,6 +3,7 @@ pub mod AlikeRows
 pub mod Attributes
 pub mod BestValues
 pub mod Chains
+pub mod ViewsCome
 pub mod ConstantChanges
 pub mod First
 pub mod FormTerms
@@ -30,6 +31,7 @@ pub mod NextLines
 pub mod NextRows
 pub mod Owners
 pub mod Places
+pub mod Ranks
 pub mod Reached
 pub mod Resized
 pub mod RowPlaces
@@ -42,4 +44,7 @@ pub mod SuggestionItems
 pub mod SuggestionScenes
 pub mod SuggestionSteps
 pub mod SuggestionTerms
+pub mod TreeChains
+pub mod TreeInstances
 pub mod Wholes
+pub mod Diagnosed

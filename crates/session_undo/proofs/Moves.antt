@@ -9,7 +9,7 @@ use Rattle.problem_core.specs.Gaps.{value_of}
 use Rattle.problem_core.specs.Kept.{AreRising}
 use Rattle.problem_core.specs.Window.{zero_fraction}
 use Rattle.layout_solver.specs.Layouts.{stays_at, zeros}
-use Rattle.session_undo.specs.Scene.{moved, new_stays, new_values}
+use Rattle.session_undo.specs.Scene.{moved}
 use Rattle.session_undo.proofs.Lists.{all-unmapped, pairs-tail}
 
 abbrev at : ℕ × Fraction → ℕ
@@ -46,11 +46,6 @@ moved-is (s ∷ stays) (v ∷ values) same rising =
 -- no attribute is new
 pub moved-still : (stays : List Stay) (values : List (ℕ × Fraction)) → map at values ≡ map (λ s. s.attr) stays → AreRising values → moved stays values ≡ stays_at (values ++ zeros [])
 moved-still stays values same rising = moved-is stays values same rising ∙ ap stays_at (sym (append-nil values))
-
--- the attributes of a view are new
-pub moved-more : (stays : List Stay) (values : List (ℕ × Fraction)) (id : ℕ) → map at values ≡ map (λ s. s.attr) stays → AreRising values → moved stays values ++ new_stays id ≡ stays_at (values ++ new_values id)
-moved-more stays values id same rising =
-    ap (λ (ss : List Stay). ss ++ new_stays id) (moved-is stays values same rising) ∙ sym (map-append (λ (v : ℕ × Fraction). stay v.0 v.1) values (new_values id))
 
 -- some attributes are new
 pub moved-added : (stays : List Stay) (values : List (ℕ × Fraction)) (attrs : List ℕ) → map at values ≡ map (λ s. s.attr) stays → AreRising values → moved stays values ++ stays_at (zeros attrs) ≡ stays_at (values ++ zeros attrs)

@@ -22,6 +22,7 @@ use Rattle.constraint_compile.specs.FormatRows.{AreRowsOf, IsCompiledFormat}
 use Rattle.session_undo.specs.Attributes.{attributes_of, AreNumberedFrom, AreOwned, IsNextLine}
 use Rattle.session_undo.proofs.Owners.{constrain-owned}
 use Rattle.session_undo.proofs.FormTerms.{HasDenominator, terms-among}
+use Rattle.session_undo.proofs.Ranks.{FormHasRank, rank-in-thousand, rows-ranked}
 
 -- ---- linear lines
 
@@ -33,6 +34,7 @@ constrain-next views ms l number c is above =
     let row = is.row in
     record {
       numbers = subst (AreNumberedFrom number) (sym row.1) (row.2.id, tt);
+      ranks = subst (All FormHasRank) (sym row.1) (All-from_recursion FormHasRank (row.0 ∷ []) ((rank-in-thousand views ms l.priority row.0.rank row.2.rank).0, tt));
       attributes = subst (All (IsAmong views)) (sym row.1) (All-from_recursion (IsAmong views) (row.0 ∷ []) (terms-among views (terms_of l) row.0 above row.2.sum, tt));
       owned = constrain-owned views ms l number c is above;
     }
@@ -85,6 +87,7 @@ rows-among views ms (l ∷ lines) n (r ∷ rows) above are = (terms-among views 
 pub format-next : (views : List LiveView) (ms : MetricList) (f : FormatMeaning) (align : Option Align) (first : ℕ) (c : CompiledLine) → AreOwned views c → IsCompiledFormat views ms f align first c → IsNextLine views first c
 format-next views ms f align first c owned is = record {
   owned = owned;
+  ranks = All-from_recursion FormHasRank c.rows (rows-ranked views ms (lines_of views (parts f align)) first c.rows is.rows);
   numbers = rows-numbered views ms (lines_of views (parts f align)) first c.rows is.rows;
   attributes = All-from_recursion (IsAmong views) c.rows (rows-among views ms (lines_of views (parts f align)) first c.rows (lines-above views (parts f align)) is.rows);
 }

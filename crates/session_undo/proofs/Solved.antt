@@ -1,5 +1,6 @@
 -- What the engine's answers come to.
 use Rattle.std.proofs.Common.{◌≡◌, ℕ, ◌+◌, ◌*◌, ◌^◌, ◌<◌, ◌≤◌, true, false, List, [], ◌∷◌, ◌++◌, length, map, Some, All, inl, inr, refl, sym, ap, ap₂, ◌∙◌, subst, arith}
+use Rattle.std.proofs.lemmas.List.Elements.{All-append}
 use Rattle.frac_core.specs.Fraction.{Fraction}
 use Rattle.problem_core.specs.declared.parts.Stay.{Stay}
 use Rattle.problem_core.specs.declared.parts.RowName.TheVariants.{Held}
@@ -18,15 +19,16 @@ use Rattle.layout_solver.specs.Begins.{Start, IsRunFrom, IsStopFrom}
 use Rattle.layout_solver.specs.declared.engine.Change.{Change}
 use Rattle.layout_solver.specs.Layouts.{Layout, AreBest, IsKeptLayout, stays_at, zeros, with_added}
 use Rattle.layout_solver.specs.Shifts.{shifted, with_shifts}
-use Rattle.session_undo.specs.Items.{Item, Size, OfView, Sized, OfLine, AreRows, view_rows, size_rows, has_size, resized, size_of, without_constant}
+use Rattle.session_undo.specs.Items.{Item, Size, Sized, OfLine, AreRows, rows_of_views, view_items, size_rows, has_size, resized, size_of, without_constant}
 use Rattle.session_undo.specs.Scene.{Scene, moved, AreDraftRows, with_line, with_window}
 use Rattle.session_undo.specs.Machine.{IsProblemOf, IsSolved, IsStart, IsStopped}
-use Rattle.session_undo.specs.Adding.{StopsAt, IsNoConflict, from_corner, from_shifts, view_draft, metrics_draft}
-use Rattle.session_undo.specs.Attributes.{AreOwned, IsCounted}
+use Rattle.session_undo.specs.Adding.{StopsAt, IsNoConflict, from_corner, from_shifts, views_draft, metrics_draft}
+use Rattle.session_undo.specs.Attributes.{AreOwned, IsCounted, attributes_from}
 use Rattle.session_undo.specs.Kept.{IsItem, IsKept, IsNamed, scene_at}
 use Rattle.session_undo.proofs.ItemRows.{rows-more, all-more, all-resized-IsItem, all-resized-IsNamed}
-use Rattle.session_undo.proofs.Moves.{moved-is, moved-still, moved-more}
-use Rattle.session_undo.proofs.NewViews.{view-possible}
+use Rattle.session_undo.proofs.ViewsCome.{all-items, all-names, rows-come, rows-join}
+use Rattle.session_undo.proofs.Moves.{moved-is, moved-still, moved-added}
+use Rattle.session_undo.proofs.NewViews.{views-possible}
 use Rattle.session_undo.proofs.Reached.{reached, settled}
 use Rattle.session_undo.proofs.Resized.{shifted-size, some-held, to_size}
 use Rattle.session_undo.proofs.ShiftedRows.{shifted-alike}
@@ -81,11 +83,6 @@ stops-at scene draft rows start stays budget s are is begins stops =
       stops = subst (λ (ss : List Stay). IsStopFrom start (record { rows = rows; stays = ss }) budget s) (sym is) stops;
     })
 
--- ---- a view
-
-abbrev pub attrs_of : ℕ → List ℕ
-attrs_of id = (4 * id + 1) ∷ (4 * id + 2) ∷ (4 * id + 3) ∷ (4 * id + 4) ∷ []
-
 module _ (tree : ViewTree) (ms : MetricList) (held : List Item) (next : ℕ) (l : Layout) (kept : IsKept (scene_at tree ms held next l)) (sound : IsKeptLayout l) where
   pub is : IsSettled l.problem l.values
   is = settled l sound
@@ -118,32 +115,39 @@ module _ (tree : ViewTree) (ms : MetricList) (held : List Item) (next : ℕ) (l 
   shift-stops draft to budget s are same stops =
       stops-at (scene_at tree ms held next l) draft (shifted to l.problem.rows) (from_shifts l) (stays_at l.values) budget s are same (shift-start (shifted to l.problem.rows) to refl) stops
 
-  pub view-stops : (new_tree : ViewTree) (id : ℕ) (more : List Row) (budget : ℕ) (s : RunStop) → more ≡ view_rows next id → IsStopFrom (from_corner l more) (with_added l (attrs_of id) more) budget s
-      → StopsAt (scene_at tree ms held next l) (view_draft (scene_at tree ms held next l) new_tree id) budget s
-  view-stops new_tree id more budget s more_is stops =
-      stops-at (scene_at tree ms held next l) (view_draft (scene_at tree ms held next l) new_tree id) (l.problem.rows ++ more) (from_corner l more) (stays_at (l.values ++ zeros (attrs_of id))) budget s
-      (rows-more ms held (OfView next id) l.problem.rows more kept.are_rows more_is)
-      (moved-more l.problem.stays l.values id is.attributes is.rising)
-      (kept-start (l.problem.rows ++ more) more refl) stops
+  -- ---- views
 
-  pub view-solved : (new_tree : ViewTree) (items : List Item) (new : Layout) (id : ℕ) (more : List Row) (budget : ℕ) → more ≡ view_rows next id → new.problem ≡ with_added l (attrs_of id) more → AreBest new.problem new.values
-      → Run more new budget → items ≡ held ++ OfView next id ∷ []
-      → Solved (view_draft (scene_at tree ms held next l) new_tree id) budget (scene_at new_tree ms items (next + 2) new)
-  view-solved new_tree items new id more budget more_is done best runs items_is =
-      solved-at (scene_at tree ms held next l) (view_draft (scene_at tree ms held next l) new_tree id) items (next + 2) new (from_corner l more) budget items_is refl
-      (stays_is new.problem (with_added l (attrs_of id) more) done ∙ sym (moved-more l.problem.stays l.values id is.attributes is.rising))
-      (subst (AreRows ms (held ++ OfView next id ∷ [])) (sym (rows_is new.problem (with_added l (attrs_of id) more) done)) (rows-more ms held (OfView next id) l.problem.rows more kept.are_rows more_is))
-      best (kept-start new.problem.rows more (rows_is new.problem (with_added l (attrs_of id) more) done)) runs
+  views-are : (id n : ℕ) (more : List Row) → more ≡ rows_of_views next id n → AreRows ms (held ++ view_items next id n) (l.problem.rows ++ more)
+  views-are id n more more_is = rows-join ms held (view_items next id n) l.problem.rows more kept.are_rows (subst (AreRows ms (view_items next id n)) (sym more_is) (rows-come ms next id n))
 
-  pub view-kept : (new_tree : ViewTree) (items : List Item) (new : Layout) (id : ℕ) (more : List Row) → All (IsNamed new_tree.views) held → more ≡ view_rows next id → id < 2 ^ 29 → next < 2 ^ 31 → new.problem ≡ with_added l (attrs_of id) more
-      → items ≡ held ++ OfView next id ∷ [] → IsCounted new_tree.views (next + 2) new.problem → IsKept (scene_at new_tree ms items (next + 2) new)
-  view-kept new_tree items new id more named more_is small below done items_is counted =
-      subst (λ (hs : List Item). IsKept (scene_at new_tree ms hs (next + 2) new)) (sym items_is)
+  views-move : (id n : ℕ) → moved l.problem.stays l.values ++ stays_at (zeros (attributes_from id n)) ≡ stays_at (l.values ++ zeros (attributes_from id n))
+  views-move id n = moved-added l.problem.stays l.values (attributes_from id n) is.attributes is.rising
+
+  pub views-stops : (new_tree : ViewTree) (id n : ℕ) (more : List Row) (budget : ℕ) (s : RunStop) → more ≡ rows_of_views next id n → IsStopFrom (from_corner l more) (with_added l (attributes_from id n) more) budget s
+      → StopsAt (scene_at tree ms held next l) (views_draft (scene_at tree ms held next l) new_tree id n) budget s
+  views-stops new_tree id n more budget s more_is stops =
+      stops-at (scene_at tree ms held next l) (views_draft (scene_at tree ms held next l) new_tree id n) (l.problem.rows ++ more) (from_corner l more) (stays_at (l.values ++ zeros (attributes_from id n))) budget s
+      (views-are id n more more_is) (views-move id n) (kept-start (l.problem.rows ++ more) more refl) stops
+
+  pub views-solved : (new_tree : ViewTree) (items : List Item) (new : Layout) (id n : ℕ) (more : List Row) (budget : ℕ) → more ≡ rows_of_views next id n → new.problem ≡ with_added l (attributes_from id n) more
+      → AreBest new.problem new.values → Run more new budget → items ≡ held ++ view_items next id n
+      → Solved (views_draft (scene_at tree ms held next l) new_tree id n) budget (scene_at new_tree ms items (next + 2 * n) new)
+  views-solved new_tree items new id n more budget more_is done best runs items_is =
+      solved-at (scene_at tree ms held next l) (views_draft (scene_at tree ms held next l) new_tree id n) items (next + 2 * n) new (from_corner l more) budget items_is refl
+      (stays_is new.problem (with_added l (attributes_from id n) more) done ∙ sym (views-move id n))
+      (subst (AreRows ms (held ++ view_items next id n)) (sym (rows_is new.problem (with_added l (attributes_from id n) more) done)) (views-are id n more more_is))
+      best (kept-start new.problem.rows more (rows_is new.problem (with_added l (attributes_from id n) more) done)) runs
+
+  pub views-kept : (new_tree : ViewTree) (items : List Item) (new : Layout) (id n : ℕ) (more : List Row) → All (IsNamed new_tree.views) held → more ≡ rows_of_views next id n → id + n ≤ 2 ^ 29 → next + 2 * n ≤ 2 ^ 31
+      → new.problem ≡ with_added l (attributes_from id n) more → items ≡ held ++ view_items next id n → IsCounted new_tree.views (next + 2 * n) new.problem → IsKept (scene_at new_tree ms items (next + 2 * n) new)
+  views-kept new_tree items new id n more named more_is small below done items_is counted =
+      subst (λ (hs : List Item). IsKept (scene_at new_tree ms hs (next + 2 * n) new)) (sym items_is)
       (record {
-        are_rows = subst (AreRows ms (held ++ OfView next id ∷ [])) (sym (rows_is new.problem (with_added l (attrs_of id) more) done)) (rows-more ms held (OfView next id) l.problem.rows more kept.are_rows more_is);
-        each = all-more IsItem held (OfView next id) kept.each ((kept.next, below), small);
-        named = all-more (IsNamed new_tree.views) held (OfView next id) named tt;
+        are_rows = subst (AreRows ms (held ++ view_items next id n)) (sym (rows_is new.problem (with_added l (attributes_from id n) more) done)) (views-are id n more more_is);
+        each = All-append IsItem held (view_items next id n) kept.each (all-items next id n kept.next below small);
+        named = All-append (IsNamed new_tree.views) held (view_items next id n) named (all-names new_tree.views next id n);
         next = omega (arith, kept.next);
+        top = below;
         counted = counted;
       })
 
@@ -166,14 +170,15 @@ module _ (tree : ViewTree) (ms : MetricList) (held : List Item) (next : ℕ) (l 
       best (kept-start new.problem.rows more (rows_is new.problem (with_added l [] more) done)) runs
 
   pub line-kept : (items : List Item) (now : ℕ) (new : Layout) (group : List ℕ) (line : CompiledLine) (more : List Row) → AreOwned tree.views line → AreRowsNow ms line.rows more → new.problem ≡ with_added l [] more
-      → items ≡ held ++ OfLine group line ∷ [] → next ≤ now → IsCounted tree.views now new.problem → IsKept (scene_at tree ms items now new)
-  line-kept items now new group line more owned are done items_is up counted =
+      → items ≡ held ++ OfLine group line ∷ [] → next ≤ now → now ≤ 2 ^ 31 → IsCounted tree.views now new.problem → IsKept (scene_at tree ms items now new)
+  line-kept items now new group line more owned are done items_is up small counted =
       subst (λ (hs : List Item). IsKept (scene_at tree ms hs now new)) (sym items_is)
       (record {
         are_rows = subst (AreRows ms (held ++ OfLine group line ∷ [])) (sym (rows_is new.problem (with_added l [] more) done)) (rows-more ms held (OfLine group line) l.problem.rows more kept.are_rows are);
         each = all-more IsItem held (OfLine group line) kept.each tt;
         named = all-more (IsNamed tree.views) held (OfLine group line) kept.named owned;
         next = omega (arith, kept.next, up);
+        top = small;
         counted = counted;
       })
 
@@ -200,15 +205,16 @@ module _ (tree : ViewTree) (ms : MetricList) (held : List Item) (next : ℕ) (l 
       (subst (AreRows ms (held ++ Sized next w h ∷ [])) (sym (rows_is new.problem (with_added l [] more) done)) (rows-more ms held (Sized next w h) l.problem.rows more kept.are_rows are))
       best (kept-start new.problem.rows more (rows_is new.problem (with_added l [] more) done)) runs)
 
-  pub first-kept : (items : List Item) (new : Layout) (w h : Fraction) (more : List Row) → more ≡ size_rows next w h → next < 2 ^ 31 → new.problem ≡ with_added l [] more
+  pub first-kept : (items : List Item) (new : Layout) (w h : Fraction) (more : List Row) → more ≡ size_rows next w h → next + 2 ≤ 2 ^ 31 → new.problem ≡ with_added l [] more
       → items ≡ held ++ Sized next w h ∷ [] → IsCounted tree.views (next + 2) new.problem → IsKept (scene_at tree ms items (next + 2) new)
   first-kept items new w h more are below done items_is counted =
       subst (λ (hs : List Item). IsKept (scene_at tree ms hs (next + 2) new)) (sym items_is)
       (record {
         are_rows = subst (AreRows ms (held ++ Sized next w h ∷ [])) (sym (rows_is new.problem (with_added l [] more) done)) (rows-more ms held (Sized next w h) l.problem.rows more kept.are_rows are);
-        each = all-more IsItem held (Sized next w h) kept.each (kept.next, below);
+        each = all-more IsItem held (Sized next w h) kept.each (kept.next, omega (arith, below));
         named = all-more (IsNamed tree.views) held (Sized next w h) kept.named tt;
         next = omega (arith, kept.next);
+        top = below;
         counted = counted;
       })
 
@@ -246,7 +252,7 @@ module _ (tree : ViewTree) (ms : MetricList) (held : List Item) (next : ℕ) (l 
       → IsCounted tree.views next new.problem → IsKept (scene_at tree ms items next new)
   again-kept items new w h size some done items_is counted =
       subst (λ (hs : List Item). IsKept (scene_at tree ms hs next new)) (sym items_is)
-      (record { are_rows = again-are new w h size some done; each = all-resized-IsItem w h held kept.each; named = all-resized-IsNamed tree.views w h held kept.named; next = kept.next; counted = counted })
+      (record { are_rows = again-are new w h size some done; each = all-resized-IsItem w h held kept.each; named = all-resized-IsNamed tree.views w h held kept.named; next = kept.next; top = kept.top; counted = counted })
 
   -- ---- metrics
 
@@ -265,7 +271,7 @@ module _ (tree : ViewTree) (ms : MetricList) (held : List Item) (next : ℕ) (l 
         (shift-start new.problem.rows to (rows_is new.problem (with_shifts l to) done)) runs
 
     pub metric-kept : (new : Layout) → new.problem ≡ with_shifts l to → IsCounted tree.views next new.problem → IsKept (scene_at tree new_ms held next new)
-    metric-kept new done counted = record { are_rows = metric-are new done; each = kept.each; named = kept.named; next = kept.next; counted = counted }
+    metric-kept new done counted = record { are_rows = metric-are new done; each = kept.each; named = kept.named; next = kept.next; top = kept.top; counted = counted }
 
     pub metric-posed : (rows : List Row) (p : Problem) → rows ≡ shifted to l.problem.rows → p ≡ record { rows = rows; stays = stays_at l.values } → IsProblemOf (metrics_draft (scene_at tree ms held next l) new_ms) p
     metric-posed rows p shifts made = (
@@ -275,11 +281,11 @@ module _ (tree : ViewTree) (ms : MetricList) (held : List Item) (next : ℕ) (l 
 
   -- ---- what a command would solve
 
-  pub view-posed : (new_tree : ViewTree) (id : ℕ) (more : List Row) (p : Problem) → more ≡ view_rows next id → p ≡ with_added l (attrs_of id) more
-      → IsProblemOf (view_draft (scene_at tree ms held next l) new_tree id) p
-  view-posed new_tree id more p more_is made = (
-    subst (AreRows ms (held ++ OfView next id ∷ [])) (sym (rows_is p (with_added l (attrs_of id) more) made)) (rows-more ms held (OfView next id) l.problem.rows more kept.are_rows more_is),
-    stays_is p (with_added l (attrs_of id) more) made ∙ sym (moved-more l.problem.stays l.values id is.attributes is.rising),
+  pub views-posed : (new_tree : ViewTree) (id n : ℕ) (more : List Row) (p : Problem) → more ≡ rows_of_views next id n → p ≡ with_added l (attributes_from id n) more
+      → IsProblemOf (views_draft (scene_at tree ms held next l) new_tree id n) p
+  views-posed new_tree id n more p more_is made = (
+    subst (AreRows ms (held ++ view_items next id n)) (sym (rows_is p (with_added l (attributes_from id n) more) made)) (views-are id n more more_is),
+    stays_is p (with_added l (attributes_from id n) more) made ∙ sym (views-move id n),
   )
 
   pub line-posed : (group : List ℕ) (line : CompiledLine) (more : List Row) (p : Problem) → AreRowsNow ms line.rows more → p ≡ with_added l [] more → IsProblemOf (with_line (scene_at tree ms held next l) group line) p
@@ -306,15 +312,15 @@ module _ (tree : ViewTree) (ms : MetricList) (held : List Item) (next : ℕ) (l 
         stays_is p (At rows) made ∙ sym moves,
       )
 
--- ---- a new view is in no conflict
+-- ---- views that come are in no conflict
 
-pub view-free : (l : Layout) (next id budget : ℕ) (more : List Row) (s : RunStop) → IsWhole l.problem → AreBest l.problem l.values
-    → IsWhole (with_added l (attrs_of id) more) → All (λ s. s.attr ≤ 4 * id) l.problem.stays → more ≡ view_rows next id
-    → IsStopFrom (from_corner l more) (with_added l (attrs_of id) more) budget s → IsNoConflict s
-view-free l next id budget more (run.Conflict by) whole best new_whole before more_is shown =
-    view-possible l.problem best.best.0 (stays_at (l.values ++ zeros (attrs_of id))) next id best.best.1.0 whole.covered before
-    (subst (λ (rs : List Row). IsInConflict (record { rows = l.problem.rows ++ rs; stays = stays_at (l.values ++ zeros (attrs_of id)) })) more_is
-    (refutation-IsInConflict (with_added l (attrs_of id) more) (whole-IsProblem (with_added l (attrs_of id) more) new_whole) (λ n. times_of by (Held n)) shown.refutes))
-view-free l next id budget more (run.Unfit at) whole best new_whole before more_is stops = tt
-view-free l next id budget more (run.Spent path) whole best new_whole before more_is stops = tt
-view-free l next id budget more run.OutOfMemory whole best new_whole before more_is stops = tt
+pub views-free : (l : Layout) (next id n budget : ℕ) (more : List Row) (s : RunStop) → IsWhole l.problem → AreBest l.problem l.values
+    → IsWhole (with_added l (attributes_from id n) more) → All (λ s. s.attr ≤ 4 * id) l.problem.stays → more ≡ rows_of_views next id n
+    → IsStopFrom (from_corner l more) (with_added l (attributes_from id n) more) budget s → IsNoConflict s
+views-free l next id n budget more (run.Conflict by) whole best new_whole before more_is shown =
+    views-possible l.problem best.best.0 (stays_at (l.values ++ zeros (attributes_from id n))) next id n best.best.1.0 whole.covered before
+    (subst (λ (rs : List Row). IsInConflict (record { rows = l.problem.rows ++ rs; stays = stays_at (l.values ++ zeros (attributes_from id n)) })) more_is
+    (refutation-IsInConflict (with_added l (attributes_from id n) more) (whole-IsProblem (with_added l (attributes_from id n) more) new_whole) (λ m. times_of by (Held m)) shown.refutes))
+views-free l next id n budget more (run.Unfit at) whole best new_whole before more_is stops = tt
+views-free l next id n budget more (run.Spent path) whole best new_whole before more_is stops = tt
+views-free l next id n budget more run.OutOfMemory whole best new_whole before more_is stops = tt

@@ -28,6 +28,7 @@ use Rattle.session_undo.proofs.ItemRows.{rows-more, all-more}
 use Rattle.session_undo.proofs.Solved.{solved-at, stops-at, rows_is, stays_is, is, still, kept-start, shift-start, moves, shift-stops}
 use Rattle.session_undo.proofs.SuggestionItems.{shifted-suggestion, to_suggested, all-again-IsItem, all-again-IsNamed}
 use Rattle.session_undo.proofs.SuggestionTerms.{suggestion-may}
+use Rattle.session_undo.proofs.Ranks.{HasRank}
 
 abbrev one : Suggestion → List Row
 one s = suggested_row s ∷ []
@@ -45,7 +46,7 @@ pub suggestion-own : (tree : ViewTree) (ms : MetricList) (held : List Item) (nex
     → IsNextSuggestion (scene_at tree ms held next l) s → next < 2 ^ 31 → IsSuggestion s
 suggestion-own tree ms held next l s kept whole new small = record {
   row = (omega (arith, new.row, kept.next), omega (arith, new.row, small));
-  rank = new.rank;
+  rank = new.rank.1;
   view = (let low : new.view.id < 2 ^ 29 = found-small tree.views new.name new.view (λ k d within. omega (arith, whole.below k d within, whole.ids)) new.found in omega (arith, low, new.same));
 }
 
@@ -60,11 +61,12 @@ suggestion-whole tree ms held next l s more kept sound new are each room =
     (omega (arith, room, count))
 
 pub suggestion-counted : (tree : ViewTree) (ms : MetricList) (held : List Item) (next : ℕ) (l : Layout) (s : Suggestion) (more : List Row) (p : Problem) → IsKept (scene_at tree ms held next l) → IsKeptLayout l
-    → s.row ≡ next → more ≡ suggested_row s ∷ [] → length l.problem.rows + 1 ≤ 2000 → p ≡ with_added l [] more → IsCounted tree.views (next + 1) p
-suggestion-counted tree ms held next l s more p kept sound row are room done =
+    → s.row ≡ next → 0 < s.rank → more ≡ suggested_row s ∷ [] → length l.problem.rows + 1 ≤ 2000 → p ≡ with_added l [] more → IsCounted tree.views (next + 1) p
+suggestion-counted tree ms held next l s more p kept sound row rank are room done =
     let count : length more ≡ 1 = ap length are in
     counted-added tree.views tree.views next (next + 1) l [] more p (is tree ms held next l kept sound).attributes kept.counted
     (sym (append-nil (attributes_of tree.views))) (subst (All (λ (r : Row). r.id < next + 1)) (sym are) (All-from_recursion (λ (r : Row). r.id < next + 1) (suggested_row s ∷ []) (omega (arith, row), tt)))
+    (subst (All HasRank) (sym are) (All-from_recursion HasRank (suggested_row s ∷ []) (rank, tt)))
     (omega arith) (omega (arith, room, count)) done
 
 module _ (tree : ViewTree) (ms : MetricList) (held : List Item) (next : ℕ) (l : Layout) (kept : IsKept (scene_at tree ms held next l)) (sound : IsKeptLayout l) where
@@ -101,15 +103,16 @@ module _ (tree : ViewTree) (ms : MetricList) (held : List Item) (next : ℕ) (l 
       (with-rows s more new.problem.rows are (rows_is new.problem (with_added l [] more) done))
       best (kept-start tree ms held next l kept sound new.problem.rows more (rows_is new.problem (with_added l [] more) done)) runs
 
-  pub suggestion-kept : (items : List Item) (new : Layout) (s : Suggestion) (more : List Row) → IsSuggestion s → more ≡ suggested_row s ∷ [] → new.problem ≡ with_added l [] more
+  pub suggestion-kept : (items : List Item) (new : Layout) (s : Suggestion) (more : List Row) → IsSuggestion s → next < 2 ^ 31 → more ≡ suggested_row s ∷ [] → new.problem ≡ with_added l [] more
       → items ≡ held ++ Suggested s ∷ [] → IsCounted tree.views (next + 1) new.problem → IsKept (scene_at tree ms items (next + 1) new)
-  suggestion-kept items new s more own are done items_is counted =
+  suggestion-kept items new s more own small are done items_is counted =
       subst (λ (hs : List Item). IsKept (scene_at tree ms hs (next + 1) new)) (sym items_is)
       (record {
         are_rows = with-rows s more new.problem.rows are (rows_is new.problem (with_added l [] more) done);
         each = all-more IsItem held (Suggested s) kept.each own;
         named = all-more (IsNamed tree.views) held (Suggested s) kept.named tt;
         next = omega (arith, kept.next);
+        top = omega (arith, small);
         counted = counted;
       })
 
@@ -150,6 +153,7 @@ module _ (tree : ViewTree) (ms : MetricList) (held : List Item) (next : ℕ) (l 
           each = all-again-IsItem view word c held kept.each;
           named = all-again-IsNamed view word tree.views c held kept.named;
           next = kept.next;
+          top = kept.top;
           counted = counted;
         })
 

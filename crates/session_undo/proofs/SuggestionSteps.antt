@@ -1,10 +1,9 @@
 -- What suggestions and releases come to for the session.
-use Rattle.std.proofs.Common.{◌≡◌, ℕ, ◌≤◌, false, true≢false, is_some, List, Option, arith, Some, None, refl, sym, ap, subst, inl, inr, ◌∙◌}
+use Rattle.std.proofs.Common.{◌≡◌, ℕ, false, true≢false, is_some, List, Option, Some, None, refl, sym, ap, subst, inl, inr, ◌∙◌}
 use Rattle.std.specs.Option.{option_map}
 use Rattle.std.proofs.lemmas.Option.{none-some, same_Some}
 use Rattle.frac_core.specs.Fraction.{Fraction}
 use Rattle.span_text.specs.Objects.{Meant}
-use Rattle.span_text.specs.Objects as object
 use Rattle.span_text.specs.declared.object.Object.{Object}
 use Rattle.script_text.specs.View.{object_view}
 use Rattle.script_text.specs.declared.words.AttrWord.{AttrWord}
@@ -18,6 +17,7 @@ use Rattle.session_undo.specs.Leaving.{without_suggestion}
 use Rattle.session_undo.specs.Replies.{Reply}
 use Rattle.session_undo.specs.Machine.{Suggests, TriedRelease, TriedSuggest, UnlessRankless}
 use Rattle.session_undo.specs.Adding.{IsFirstSuggestion, IsHeldSuggestion, IsLaterSuggestion, IsNearSuggestion, IsNextSuggestion, NoEnd, SuggestStep}
+use Rattle.session_undo.proofs.Ranks.{rank-in-thousand}
 
 -- ---- a cause stays one for whatever end
 
@@ -147,15 +147,10 @@ no-priority (Some o) is = absurd (true≢false is)
 
 -- ---- what the scene asks for
 
-rank-within : (views : List LiveView) (ms : MetricList) (priority : Option Meant) (rank : ℕ) → IsRank views ms priority rank → rank ≤ 1000
-rank-within views ms None rank is = omega (arith, is)
-rank-within views ms (Some (object.Number z)) rank is = is.1.1
-rank-within views ms (Some (object.Name name)) rank is = is.2.1
-
 pub first-next : (old : State) (name : List ℕ) (attr : AttrWord) (value : Fraction) (priority : Option Meant) (s : Suggestion) → IsFirstSuggestion old name attr value priority s → IsNextSuggestion old.scene s
 first-next old name attr value priority s first = record {
   row = first.row;
-  rank = rank-within old.scene.tree.views old.scene.metrics (suggested_priority priority) s.rank first.ranked.is;
+  rank = rank-in-thousand old.scene.tree.views old.scene.metrics (suggested_priority priority) s.rank first.ranked.is;
   name = name;
   view = first.view;
   found = first.ranked.found;

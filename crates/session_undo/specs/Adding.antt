@@ -1,5 +1,5 @@
 -- Parts of the steps.
-use Rattle.std.specs.Prelude.{◌≡◌, ◌≢◌, ℕ, ◌+◌, ◌<◌, ◌≤◌, true, false, List, [], ◌∷◌, ◌++◌, length, Some}
+use Rattle.std.specs.Prelude.{◌≡◌, ◌≢◌, ℕ, ◌+◌, ◌*◌, ◌<◌, ◌≤◌, true, false, List, [], ◌∷◌, ◌++◌, length, Some}
 use Rattle.std.specs.Prelude.{IsSome, Option, None}
 use Rattle.span_text.specs.Objects.{Meant}
 use Rattle.script_text.specs.declared.words.AttrWord.{AttrWord}
@@ -8,9 +8,11 @@ use Rattle.name_tables.specs.declared.stops.LimitWord.TheVariants as word
 use Rattle.view_tree.specs.Views.{ViewTree, LiveView, view_named}
 use Rattle.view_tree.specs.Views as tree
 use Rattle.view_tree.specs.Drops.{AreGoing}
+use Rattle.view_tree.specs.JsonTrees.{JsonTree, IsTreeText, names, size, with_branch}
+use Rattle.view_tree.specs.JsonStops.{AreFree, GoesIn, IsWithin}
 use Rattle.frac_core.specs.Fraction.{Fraction}
 use Rattle.problem_core.specs.Layout.{Row}
-use Rattle.constraint_compile.specs.Meaning.{MetricList, IsRank, unknown_object}
+use Rattle.constraint_compile.specs.Meaning.{MetricList, IsInThousand, IsRank, unknown_object}
 use Rattle.constraint_compile.specs.Compiled.{CompiledLine, AreRowsNow, IsFittingSum}
 use Rattle.constraint_compile.specs.Fractions.{plus, negated, IsConstant, IsSmallConstant}
 use Rattle.constraint_compile.specs.Suggestions.{scale_of, suggested_priority}
@@ -37,10 +39,10 @@ use Rattle.layout_solver.specs.declared.removing.RemoveStop.TheVariants as remov
 use Rattle.session_undo.specs.declared.reply.Refusal.{Refusal}
 use Rattle.session_undo.specs.declared.reply.Refusal.TheVariants as refusal
 use Rattle.session_undo.specs.Attributes.{IsNextLine}
-use Rattle.session_undo.specs.Items.{OfView, has_size, suggestion_of}
+use Rattle.session_undo.specs.Items.{has_size, suggestion_of, view_items}
 use Rattle.session_undo.specs.Moving.{AreChangesFor}
 use Rattle.session_undo.specs.Replies.{Reply, Unknown, Limit, Kind, place_of}
-use Rattle.session_undo.specs.Scene.{Scene, State, moved, new_stays, metrics_with}
+use Rattle.session_undo.specs.Scene.{Scene, State, moved, new_stays_from, metrics_with}
 use Rattle.session_undo.specs.Machine.{CannotLeave, still_place, IsStopped, Unless, Keeps, IsCrowded}
 use Rattle.session_undo.specs.Machine.{HasAllLines, IsTaken, IsDeep}
 use Rattle.session_undo.specs.Machine.{AreTooMany, HasAllViews, IsFarSize, Suggests, UnlessRankless}
@@ -115,13 +117,13 @@ NoOther answer next reply new = ⊥
 
 -- ---- drafts
 
--- with this tree, of which the view of this number is new
-abbrev pub view_draft : Scene → ViewTree → ℕ → Scene
-view_draft old tree id = record old {
+-- with this tree, of which so many views are new, the first of this number
+abbrev pub views_draft : Scene → ViewTree → ℕ → ℕ → Scene
+views_draft old tree id count = record old {
   tree = tree;
-  held = old.held ++ OfView old.next_row id ∷ [];
-  next_row = old.next_row + 2;
-  stays = moved old.stays old.values ++ new_stays id;
+  held = old.held ++ view_items old.next_row id count;
+  next_row = old.next_row + 2 * count;
+  stays = moved old.stays old.values ++ new_stays_from id count;
 }
 
 abbrev pub metrics_draft : Scene → MetricList → Scene
@@ -146,6 +148,19 @@ pub record IsFreeView (old : State) (name parent : List ℕ) (new : ViewTree) (i
   pub tree_is : new ≡ tree.with_view old.scene.tree name above.id
   pub id_is : id ≡ old.scene.tree.next
 
+-- the tree of this text may be added, and this is the tree with so many views more, the first of this number
+pub record IsFreeTree (old : State) (text : List ℕ) (new : ViewTree) (id count : ℕ) : Type 0 where
+  pub tree : JsonTree
+  pub parent : ℕ
+  pub read : IsTreeText text tree
+  pub goes : GoesIn old.scene.tree tree parent
+  pub free : AreFree old.scene.tree old.scene.metrics [] (names tree.branch)
+  pub within : IsWithin old.scene.tree parent tree.branch
+  pub rows : IsCrowded old (2 * size tree.branch) → ⊥
+  pub tree_is : new ≡ with_branch old.scene.tree parent tree.branch
+  pub id_is : id ≡ old.scene.tree.next
+  pub count_is : count ≡ size tree.branch
+
 -- the metric may be made or changed, and these are the metrics with it, and the changes for them
 pub record IsFreeMetric (old : State) (name : List ℕ) (value : Fraction) (new : MetricList)
     (to : List Change) : Type 0 where
@@ -169,10 +184,10 @@ pub record IsGoing (scene : Scene) (name gone : List ℕ) : Type 0 where
 
 -- ---- suggestions
 
--- the suggestion's row has the next number, and its view is there
+-- the suggestion's row has the next number, its rank is one that a priority stands for, and its view is there
 pub record IsNextSuggestion (scene : Scene) (s : Suggestion) : Type 0 where
   pub row : s.row ≡ scene.next_row
-  pub rank : s.rank ≤ 1000
+  pub rank : IsInThousand s.rank
   pub name : List ℕ
   pub view : LiveView
   pub found : view_named scene.tree.views name ≡ Some view

@@ -1,5 +1,5 @@
 -- The attributes of views, and what makes the rows and stays of a session a problem.
-use Rattle.std.specs.Prelude.{◌≡◌, ◌⊎◌, Some, ℕ, ◌+◌, ◌*◌, ◌<◌, ◌≤◌, List, [], ◌∷◌, ◌++◌, length, map, All}
+use Rattle.std.specs.Prelude.{◌≡◌, ◌⊎◌, Some, ℕ, zero, suc, ◌+◌, ◌*◌, ◌^◌, ◌<◌, ◌≤◌, List, [], ◌∷◌, ◌++◌, length, map, All}
 use Rattle.std.specs.List.{Contains}
 use Rattle.problem_core.specs.Layout.{Row, Problem}
 use Rattle.view_tree.specs.Views.{LiveView, HasParent}
@@ -13,6 +13,11 @@ view_attributes id = (4 * id + 1) ∷ (4 * id + 2) ∷ (4 * id + 3) ∷ (4 * id 
 abbrev pub attributes_of : List LiveView → List ℕ
 attributes_of [] = []
 attributes_of (v ∷ views) = view_attributes v.id ++ attributes_of views
+
+-- those of so many views, of which the first has this number: that of each later one is 1 more
+abbrev pub attributes_from : ℕ → ℕ → List ℕ
+attributes_from id zero = []
+attributes_from id (suc count) = view_attributes id ++ attributes_from (id + 1) count
 
 -- a row has these attributes alone
 abbrev pub HasOnly : List ℕ → Row → Type 0
@@ -35,21 +40,27 @@ abbrev pub AreNumberedFrom : ℕ → List RowForm → Type 0
 AreNumberedFrom n [] = Unit {0}
 AreNumberedFrom n (f ∷ forms) = (f.id ≡ n) × AreNumberedFrom (n + 1) forms
 
--- a line whose rows are numbered from this number on, and have attributes of these views alone, each of one
--- that is close to those that the line's text names
+-- a line whose rows are numbered from this number on, have ranks above 0, and have attributes of these views
+-- alone, each of one that is close to those that the line's text names
 pub record IsNextLine (views : List LiveView) (next : ℕ) (line : CompiledLine) : Type 0 where
   pub numbers : AreNumberedFrom next line.rows
+  pub ranks : All (λ f. 0 < f.rank) line.rows
   pub attributes : All (λ f. All (λ t. Contains (attributes_of views) t.attr) f.terms) line.rows
   pub owned : AreOwned views line
 
--- there is one view more, whose number is above all others
-pub record IsGrown (old new : List LiveView) (id : ℕ) : Type 0 where
-  pub attributes : attributes_of new ≡ attributes_of old ++ view_attributes id
+-- there are so many views more, whose numbers go up one by one from this one, and are above all others
+pub record IsGrown (old new : List LiveView) (id count : ℕ) : Type 0 where
+  pub more : List LiveView
+  pub are : new ≡ old ++ more
+  pub attributes : attributes_of more ≡ attributes_from id count
   pub above : All (λ v. v.id < id) old
   pub few : length new ≤ 200
+  pub small : id + count ≤ 2 ^ 29
 
 -- the stays are those of the views' attributes, and the rows, at most 2,000, have numbers below the next one
+-- and ranks above 0
 pub record IsCounted (views : List LiveView) (next_row : ℕ) (problem : Problem) : Type 0 where
   pub stays : map (λ s. s.attr) problem.stays ≡ attributes_of views
   pub below : All (λ r. r.id < next_row) problem.rows
+  pub ranks : All (λ r. 0 < r.rank) problem.rows
   pub few : length problem.rows ≤ 2000

@@ -1,5 +1,6 @@
 -- What is held, and the rows that it stands for.
-use Rattle.std.specs.Prelude.{◌≡◌, ℕ, ◌+◌, ◌*◌, Bool, true, false, cond, List, [], ◌∷◌, ◌++◌, length, filter}
+use Rattle.std.specs.Prelude.{◌≡◌, ℕ, zero, suc, ◌+◌, ◌*◌, Bool, true, false, cond}
+use Rattle.std.specs.Prelude.{List, [], ◌∷◌, ◌++◌, length, filter}
 use Rattle.std.specs.Prelude.{Option, Some, None, ◌&&◌, nat_eq}
 use Rattle.frac_core.specs.Fraction.{Fraction}
 use Rattle.problem_core.specs.declared.parts.Rel.TheVariants.{Eq, Ge}
@@ -29,6 +30,17 @@ abbrev pub view_rows : ℕ → ℕ → List Row
 view_rows first id =
     required_row first (4 * id + 3) Ge zero_fraction
     ∷ required_row (first + 1) (4 * id + 4) Ge zero_fraction ∷ []
+
+-- the rows of so many views, of which the first has these numbers of its first row and its own: those of each
+-- later one are 2 and 1 more
+abbrev pub rows_of_views : ℕ → ℕ → ℕ → List Row
+rows_of_views first id zero = []
+rows_of_views first id (suc count) = view_rows first id ++ rows_of_views (first + 2) (id + 1) count
+
+-- these views
+abbrev pub view_items : ℕ → ℕ → ℕ → List Item
+view_items first id zero = []
+view_items first id (suc count) = OfView first id ∷ view_items (first + 2) (id + 1) count
 
 abbrev pub size_rows : ℕ → Fraction → Fraction → List Row
 size_rows first width height = required_row first 3 Eq width ∷ required_row (first + 1) 4 Eq height ∷ []

@@ -97,12 +97,13 @@ history_at tree metrics items next_row layout pasts = record {
   earlier = earlier_at tree metrics items.before layout.earlier pasts;
 }
 
--- the rows are those of what is held
+-- the rows are those of what is held, and a row more would have a number that fits
 pub record IsKept (scene : Scene) : Type 0 where
   pub are_rows : AreRows scene.metrics scene.held scene.rows
   pub each : All IsItem scene.held
   pub named : All (IsNamed scene.tree.views) scene.held
   pub next : 0 < scene.next_row
+  pub top : scene.next_row ≤ 2 ^ 31
   pub counted : IsCounted scene.tree.views scene.next_row (problem_of scene)
 
 -- there are as many earlier versions of each part, and not too many
@@ -120,9 +121,9 @@ pub record IsKeptHistory (history : History) : Type 0 where
 abbrev pub limits_of : declared_limits.Limits → Limits
 limits_of l = record { views = l.views; lines = l.lines; rows = l.rows }
 
--- no more views and rows than a problem has room for
+-- as many views as a tree has room for, and no more rows than a problem has
 pub record AreWithin (limits : Limits) : Type 0 where
-  pub views : limits.views ≤ 200
+  pub views : limits.views ≡ 200
   pub rows : limits.rows ≤ 2000
 
 -- the session of this scene and those before it

@@ -1,10 +1,12 @@
 pub mod Adding
 pub mod Attributes
+pub mod Diagnosing
 pub mod Frames
 pub mod Items
 pub mod Kept
 pub mod Leaving
 pub mod Machine
 pub mod Moving
+pub mod Probed
 pub mod Replies
 pub mod Scene

@@ -1,11 +1,15 @@
 -- The step of a session: what a command leads to.
-use Rattle.std.specs.Prelude.{◌≡◌, ℕ, ◌+◌, ◌^◌, ◌<◌, ◌≤◌, ◌⊎◌, List, [], ◌∷◌, ◌++◌, length, codes, Option}
-use Rattle.std.specs.Prelude.{Some, None, IsSome, true, false, map, slice_index_or, All, AllPairs}
+use Rattle.std.specs.Prelude.{◌≡◌, ℕ, ◌+◌, ◌*◌, ◌^◌, ◌<◌, ◌≤◌, ◌⊎◌, List, [], ◌∷◌, ◌++◌, length, codes}
+use Rattle.std.specs.Prelude.{Option}
+use Rattle.std.specs.Prelude.{Some, None, IsSome, Bool, true, false, map, slice_index_or, All, AllPairs}
 use Rattle.std.specs.List.{list_any}
 use Rattle.std.specs.Option.{option_map}
 use Rattle.frac_core.specs.Fraction.{Fraction}
 use Rattle.name_tables.specs.Names.{names_of, place_of, value_of}
 use Rattle.name_tables.specs.declared.stops.LimitWord.TheVariants as word
+use Rattle.serde_json.specs.Data.{Data}
+use Rattle.view_tree.specs.JsonTrees.{Branch, IsJson, IsTreeText, JsonTree, names, size, tree_of}
+use Rattle.view_tree.specs.JsonStops.{GoesIn, IsFirstHeld, PassesTreeLimit}
 use Rattle.view_tree.specs.Views.{LiveView, ViewTree, IsOnLevel, view_named}
 use Rattle.problem_core.specs.Layout.{Row, Problem}
 use Rattle.cert_core.specs.declared.by.By.{By}
@@ -44,9 +48,15 @@ use Rattle.constraint_compile.specs.declared.stops.CompileStop.TheVariants as st
 use Rattle.session_undo.specs.Items.{IsSmallItem, Item, Size, line_count, has_size, size_of, without_constant}
 use Rattle.session_undo.specs.Items.{suggestion_of}
 use Rattle.session_undo.specs.Scene.{Scene, State, with_view, with_metric, with_window, with_line, problem_of}
-use Rattle.session_undo.specs.Scene.{with_earlier, with_suggestion, with_suggested, draft_problem, AreDraftRows, Becomes}
-use Rattle.session_undo.specs.Replies.{Reply, Done, Nothing, Frames, Rows, Unknown, Taken, Limit, Kind}
+use Rattle.session_undo.specs.Scene.{with_branch, with_earlier, with_suggestion}
+use Rattle.session_undo.specs.Scene.{with_suggested, draft_problem, AreDraftRows, Becomes}
+use Rattle.session_undo.specs.Replies.{Reply, Done, Nothing, Frames, Rows, Outside}
+use Rattle.session_undo.specs.Replies.{Unknown, Taken, Limit, Kind}
 use Rattle.session_undo.specs.Replies.{Certificate, NoEarlier, Conflict, Overflow, Spent, Place, Step, Still}
+use Rattle.session_undo.specs.Replies.{Diagnosed, NoTarget, Probe}
+use Rattle.diagnosis.specs.Diagnoses.{Findings}
+use Rattle.diagnosis.specs.declared.probing.DiagnoseStop.TheVariants as probed
+use Rattle.session_undo.specs.Diagnosing.{AreFindingsOf, IsProbedStop}
 use Rattle.session_undo.specs.Leaving.{is_in_group, stood_of, without_group, without_suggestion}
 use Rattle.session_undo.specs.Leaving.{without_views}
 
@@ -199,6 +209,42 @@ abbrev pub LeavesFree : State → Scene → Reply → State → Type 0
 LeavesFree old draft reply new =
     Leaves draft old reply new ⊎ StillOverflows draft old reply new ⊎ LeftSpends draft old reply new
 
+-- ---- what is found
+
+-- what is found of the scene is told
+pub record Finds (old : State) (reply : Reply) (new : State) : Type 0 where
+  pub findings : Findings
+  pub are : AreFindingsOf old.scene findings
+  pub told : Keeps (Diagnosed findings) old reply new
+
+-- in a probe a quantity doesn't fit at the end of a path within the budget
+pub record ProbeOverflows (old : State) (reply : Reply) (new : State) : Type 0 where
+  pub attr : ℕ
+  pub up : Bool
+  pub at : UnfitPath
+  pub stopped : IsProbedStop old.scene old.budget (attr, probed.Unfit up at)
+  pub refused : Keeps (Overflow (Probe attr up) at.path at.quantity) old reply new
+
+-- a probe's path has just the budget's exchanges, and its last corner is no end
+pub record ProbeSpends (old : State) (reply : Reply) (new : State) : Type 0 where
+  pub attr : ℕ
+  pub up : Bool
+  pub path : Path
+  pub stopped : IsProbedStop old.scene old.budget (attr, probed.Spent up path)
+  pub refused : Keeps (Spent (Probe attr up) path) old reply new
+
+-- the value that a probe wishes doesn't fit
+pub record LacksTarget (old : State) (reply : Reply) (new : State) : Type 0 where
+  pub attr : ℕ
+  pub up : Bool
+  pub stopped : IsProbedStop old.scene old.budget (attr, probed.Target up)
+  pub refused : Keeps (NoTarget attr up) old reply new
+
+-- what is found of the scene is told, or why a probe stops
+abbrev pub Diagnoses : State → Reply → State → Type 0
+Diagnoses old reply new =
+    Finds old reply new ⊎ ProbeOverflows old reply new ⊎ ProbeSpends old reply new ⊎ LacksTarget old reply new
+
 -- ---- limits and names
 
 -- a view or a metric has the name
@@ -281,6 +327,35 @@ TriedView old name parent End =
     (Unless (IsDeep old.scene.tree parent) (Limit word.Depth) old
     (Unless (IsCrowded old 2) (Limit word.Rows) old
     (AddsView old name parent End))))))
+
+-- the tree of JSON text has another shape
+abbrev pub IsMisshapen : List ℕ → Type 0
+IsMisshapen text = (d : Data) × IsJson text d × (tree_of d ≡ None)
+
+-- the branch, below this parent
+abbrev pub TriedBranch : State → ℕ → Branch → (Scene → Reply → State → Type 0) → Reply → State → Type 0
+TriedBranch old parent b End =
+    UnlessAny (PassesTreeLimit old.scene.tree parent b) Limit old
+    (Unless (IsCrowded old (2 * size b)) (Limit word.Rows) old
+    (End (with_branch old.scene parent b)))
+
+abbrev pub AddsBranch : State → JsonTree → (Scene → Reply → State → Type 0) → Reply → State → Type 0
+AddsBranch old tree End reply new =
+    (parent : ℕ) × GoesIn old.scene.tree tree parent × TriedBranch old parent tree.branch End reply new
+
+abbrev pub AddsTree : State → List ℕ → (Scene → Reply → State → Type 0) → Reply → State → Type 0
+AddsTree old text End reply new =
+    (tree : JsonTree) × IsTreeText text tree
+    × Unless (view_named old.scene.tree.views tree.place ≡ None) (Unknown tree.place) old
+    (UnlessAny (IsFirstHeld old.scene.tree old.scene.metrics (names tree.branch)) Taken old
+    (AddsBranch old tree End)) reply new
+
+-- the text begins at this offset of its line
+abbrev pub TriedTree : State → List ℕ → ℕ → (Scene → Reply → State → Type 0) → Reply → State → Type 0
+TriedTree old text start End =
+    Unless ((d : Data) → IsJson text d → ⊥) (Outside start) old
+    (Unless (IsMisshapen text) (Kind kind.Tree) old
+    (AddsTree old text End))
 
 abbrev pub TriedMetric : State → List ℕ → Fraction → (Scene → Reply → State → Type 0) → Reply → State → Type 0
 TriedMetric old name value End =
@@ -442,6 +517,7 @@ abbrev pub Tried : State → Meaning → (Scene → Reply → State → Type 0)
     → (Reply → State → Reply → State → Type 0) → Reply → State → Type 0
 Tried old mean.Nothing End Other = Other Nothing old
 Tried old (mean.View name parent) End Other = TriedView old name (parent_name parent) End
+Tried old (mean.Tree text start) End Other = TriedTree old text start End
 Tried old (mean.Drop name) End Other = TriedDrop old name End
 Tried old (mean.Metric name value) End Other = TriedMetric old name value End
 Tried old (mean.Window width height) End Other = TriedWindow old width height End
@@ -454,14 +530,16 @@ Tried old mean.Undo End Other = TriedUndo old Other
 Tried old (mean.Budget exchanges) End Other = TriedBudget old exchanges Other
 Tried old mean.Frames End Other = Other Frames old
 Tried old mean.Rows End Other = Other Rows old
+Tried old mean.Diagnose End Other = End old.scene
 Tried old mean.Certify End Other = Certifies old Other
 
 -- ---- what a line leads to
 
--- a draft is solved; that of a new view, which changes no row that is held, and one from which rows have left
+-- a draft is solved; that of new views, which change no row that is held, and one from which rows have left
 -- are in no conflict
 abbrev pub Ends : State → Meaning → Scene → Reply → State → Type 0
 Ends old (mean.View name parent) = SolvesFree old
+Ends old (mean.Tree text start) = SolvesFree old
 Ends old (mean.Drop name) = LeavesFree old
 Ends old (mean.Remove group) = LeavesFree old
 Ends old (mean.Release name attr) = LeavesFree old
@@ -475,6 +553,7 @@ Ends old mean.Undo = Solves old
 Ends old (mean.Budget exchanges) = Solves old
 Ends old mean.Frames = Solves old
 Ends old mean.Rows = Solves old
+Ends old mean.Diagnose = λ scene. Diagnoses old
 Ends old mean.Certify = Solves old
 
 -- what a line that says this leads to
@@ -496,7 +575,9 @@ abbrev pub PosesScene : State → Problem → Reply → State → Reply → Stat
 PosesScene old p answer next reply new = p ≡ problem_of old.scene
 
 -- no cause is against the command, and this is the problem of its draft; of a command that has none it is the
--- scene's (a cause would make the reply a refusal, and `Done` is none; there is none against `certify`)
+-- scene's (a cause would make the reply a refusal, and `Done` is none; there is none against `certify` and
+-- `diagnose`)
 abbrev pub Poses : State → Meaning → Problem → Type 0
 Poses old mean.Certify p = p ≡ problem_of old.scene
+Poses old mean.Diagnose p = p ≡ problem_of old.scene
 Poses old m p = Tried old m (PosesDraft p) (PosesScene old p) Done old

@@ -8,6 +8,7 @@ use Rattle.constraint_compile.specs.declared.stops.KindWord.{KindWord}
 use Rattle.cert_core.specs.declared.by.By.{By}
 use Rattle.cert_core.specs.Claims.{BestLevel}
 use Rattle.cert_core.specs.Paths.{Path}
+use Rattle.diagnosis.specs.Diagnoses.{Findings, findings_of}
 use Rattle.session_undo.specs.Scene.{State}
 use Rattle.session_undo.specs.declared.reply.Reply as answer
 use Rattle.session_undo.specs.declared.reply.Reply.TheVariants as good
@@ -17,26 +18,30 @@ use Rattle.session_undo.specs.declared.reply.Refusal.{Refusal}
 use Rattle.session_undo.specs.declared.reply.Refusal.TheVariants as refusal
 
 -- what had stopped: the run over the command's own problem, or that of a removal while these rows were still
--- held
+-- held, or a probe of this attribute, up or down
 pub data Place : Type 0 where
   Step : Place
   Still : List ℕ → Place
+  Probe : ℕ → Bool → Place
 
 abbrev pub place_of : StopPlace → Place
 place_of place.Step = Step
 place_of (place.Still ids) = Still ids.items
+place_of (place.Probe attr up) = Probe attr up
 
--- `Nothing` to a blank line or a comment, `Done` to a change, `Frames`, `Rows` and `Certificate`, with the
--- multipliers of each level, to questions, and the refusals: where the line leaves the grammar, the unknown or
--- taken name, the limit, the wrong use, the multipliers of the required rows, that there is no earlier scene;
--- and, each with what had stopped, the path with the quantity that doesn't fit at its end, and the path that
--- uses up the exchanges
+-- `Nothing` to a blank line or a comment, `Done` to a change, `Frames`, `Rows`, `Certificate`, with the
+-- multipliers of each level, and `Diagnosed`, with what is found of the scene, to questions, and the
+-- refusals: where the line leaves the grammar, the unknown or taken name, the limit, the wrong use, the
+-- multipliers of the required rows, that there is no earlier scene; and, each with what had stopped, the path
+-- with the quantity that doesn't fit at its end, and the path that uses up the exchanges; and the attribute
+-- of a probe whose wished value doesn't fit, up or down
 pub data Reply : Type 0 where
   Nothing : Reply
   Done : Reply
   Frames : Reply
   Rows : Reply
   Certificate : List BestLevel → Reply
+  Diagnosed : Findings → Reply
   Outside : ℕ → Reply
   Unknown : List ℕ → Reply
   Taken : List ℕ → Reply
@@ -46,6 +51,7 @@ pub data Reply : Type 0 where
   NoEarlier : Reply
   Overflow : Place → Path → Quantity → Reply
   Spent : Place → Path → Reply
+  NoTarget : ℕ → Bool → Reply
 
 -- whether it is no refusal
 abbrev pub is_accepted : Reply → Bool
@@ -54,6 +60,7 @@ is_accepted Done = true
 is_accepted Frames = true
 is_accepted Rows = true
 is_accepted (Certificate levels) = true
+is_accepted (Diagnosed findings) = true
 is_accepted (Outside at) = false
 is_accepted (Unknown name) = false
 is_accepted (Taken name) = false
@@ -63,6 +70,7 @@ is_accepted (Conflict by) = false
 is_accepted NoEarlier = false
 is_accepted (Overflow place path quantity) = false
 is_accepted (Spent place path) = false
+is_accepted (NoTarget attr up) = false
 
 abbrev pub accepted : answer.Reply → Reply
 accepted good.Silent = Nothing
@@ -70,6 +78,7 @@ accepted good.Done = Done
 accepted good.Frames = Frames
 accepted good.Rows = Rows
 accepted (good.Certificate levels) = Certificate levels
+accepted (good.Diagnosed d) = Diagnosed (findings_of d)
 
 -- the refusal is one that F allows, or what ends the run
 abbrev pub MayRefuse : (Reply → Type 0) → Refusal → Type 0
@@ -82,6 +91,7 @@ MayRefuse F (refusal.Conflict by) = F (Conflict by)
 MayRefuse F refusal.NoEarlier = F NoEarlier
 MayRefuse F (refusal.Overflow place at) = F (Overflow (place_of place) at.path at.quantity)
 MayRefuse F (refusal.Spent place path) = F (Spent (place_of place) path)
+MayRefuse F (refusal.NoTarget attr up) = F (NoTarget attr up)
 MayRefuse F refusal.OutOfMemory = ⊤
 
 -- where the command is accepted, the step leads to its reply and the session after
@@ -103,6 +113,7 @@ IsTold F (refusal.Conflict by) = F (Conflict by)
 IsTold F refusal.NoEarlier = F NoEarlier
 IsTold F (refusal.Overflow place at) = F (Overflow (place_of place) at.path at.quantity)
 IsTold F (refusal.Spent place path) = F (Spent (place_of place) path)
+IsTold F (refusal.NoTarget attr up) = F (NoTarget attr up)
 IsTold F refusal.OutOfMemory = ⊥
 
 -- F holds of the reply that is told of what a command led to; none is told of want of memory
@@ -117,4 +128,5 @@ IsChange (Ok good.Done) = ⊤
 IsChange (Ok good.Frames) = ⊥
 IsChange (Ok good.Rows) = ⊥
 IsChange (Ok (good.Certificate levels)) = ⊥
+IsChange (Ok (good.Diagnosed d)) = ⊥
 IsChange (Err refusal) = ⊥

@@ -9,13 +9,16 @@ use Rattle.problem_core.specs.Layout.{Row, Problem}
 use Rattle.problem_core.specs.Window.{structural_rows, zero_fraction}
 use Rattle.view_tree.specs.Views.{ViewTree, window}
 use Rattle.view_tree.specs.Views as tree
+use Rattle.view_tree.specs.JsonTrees.{Branch, size}
+use Rattle.view_tree.specs.JsonTrees as branches
 use Rattle.constraint_compile.specs.Meaning.{MetricList}
 use Rattle.constraint_compile.specs.Compiled.{CompiledLine}
-use Rattle.layout_solver.specs.Layouts.{AreBest, stays_at}
+use Rattle.layout_solver.specs.Layouts.{AreBest, stays_at, zeros}
 use Rattle.script_text.specs.declared.words.AttrWord.{AttrWord}
 use Rattle.constraint_compile.specs.declared.suggestion.Suggestion.{Suggestion}
 use Rattle.session_undo.specs.Items.{Item, OfWindow, OfView, Sized, OfLine, Suggested, AreRows, has_size}
-use Rattle.session_undo.specs.Items.{resized, suggested_again}
+use Rattle.session_undo.specs.Items.{resized, suggested_again, view_items}
+use Rattle.session_undo.specs.Attributes.{attributes_from}
 
 -- the views, the metrics in order of definition, what is held in order of acceptance, the number that the
 -- next row takes, the rows by rising number, the stays, and the values by their attributes' numbers
@@ -72,6 +75,10 @@ new_values id =
 abbrev pub new_stays : ℕ → List Stay
 new_stays id = stays_at (new_values id)
 
+-- those of so many views, of which the first has this number
+abbrev pub new_stays_from : ℕ → ℕ → List Stay
+new_stays_from id count = stays_at (zeros (attributes_from id count))
+
 -- In each draft that follows the stays have moved to the values before. Its rows and values are still those
 -- before.
 
@@ -82,6 +89,15 @@ with_view old name parent = record old {
   held = old.held ++ OfView old.next_row old.tree.next ∷ [];
   next_row = old.next_row + 2;
   stays = moved old.stays old.values ++ new_stays old.tree.next;
+}
+
+-- with the views of a branch more, each before those in it, and two rows of each
+abbrev pub with_branch : Scene → ℕ → Branch → Scene
+with_branch old parent b = record old {
+  tree = branches.with_branch old.tree parent b;
+  held = old.held ++ view_items old.next_row old.tree.next (size b);
+  next_row = old.next_row + 2 * size b;
+  stays = moved old.stays old.values ++ new_stays_from old.tree.next (size b);
 }
 
 -- the metrics, of which the one of this name has this value

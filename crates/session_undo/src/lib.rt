@@ -7,6 +7,7 @@
 
 mod certifying;
 mod changes;
+mod coming;
 mod drafts;
 mod frames;
 mod item;

@@ -1,9 +1,11 @@
 // Replies and refusals.
 ghost use Rattle.std.specs.Prelude.{◌≡◌};
 ghost use Rattle.session_undo.specs.Adding.{refusal_of, answer_of, IsLeftAnswer, TellsStop};
+ghost use Rattle.session_undo.specs.Probed.{probe_refusal};
 
 use cert_core::{Best, Conflict, Path, RunStop, UnfitPath};
 use constraint_compile::KindWord;
+use diagnosis::{DiagnoseStop, Diagnosis};
 use frac_core::OutOfMemory;
 use layout_solver::RemoveStop;
 use name_tables::{LimitWord, OwnedName};
@@ -22,6 +24,8 @@ pub enum Reply {
     Rows,
     /// The problem, its values, and the multipliers that show them to be the best.
     Certificate(Best),
+    /// What the layout lacks, and what it leaves open.
+    Diagnosed(Diagnosis),
 }
 
 /// There is no earlier scene.
@@ -35,6 +39,8 @@ pub enum StopPlace {
     Step,
     /// The removal, while these leaving rows were still held.
     Still(Vec<u32>),
+    /// The probe that wishes this attribute at the next value, above or below.
+    Probe { attr: u32, up: bool },
 }
 
 /// Why a line is refused. Then all is as before.
@@ -58,6 +64,8 @@ pub enum Refusal {
     Overflow { place: StopPlace, at: UnfitPath },
     /// The exchanges are used up.
     Spent { place: StopPlace, path: Path },
+    /// The value that a probe of this attribute would wish, above or below, doesn't fit.
+    NoTarget { attr: u32, up: bool },
     /// Memory is wanting. This ends a run.
     OutOfMemory,
 }
@@ -140,5 +148,23 @@ pub fn left_answer(end: Result<(), RemoveStop>) -> Result<Reply, Refusal>
     match end {
         Ok(()) => Ok(Reply::Done),
         Err(stop) => Err(removal_refusal(stop)),
+    }
+}
+
+/// The refusal for what stops the probe of an attribute.
+pub fn probe_refusal(attr: u32, stop: DiagnoseStop) -> Refusal
+    ensures { result ≡ probe_refusal attr stop }
+{
+    match stop {
+        DiagnoseStop::Unfit { up, at } => Refusal::Overflow {
+            place: StopPlace::Probe { attr, up },
+            at,
+        },
+        DiagnoseStop::Spent { up, path } => Refusal::Spent {
+            place: StopPlace::Probe { attr, up },
+            path,
+        },
+        DiagnoseStop::Target { up } => Refusal::NoTarget { attr, up },
+        DiagnoseStop::OutOfMemory => Refusal::OutOfMemory,
     }
 }

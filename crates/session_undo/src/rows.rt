@@ -1,9 +1,9 @@
 // The rows of what is held.
-ghost use Rattle.std.specs.Prelude.{◌≡◌, ◌++◌, ◌∷◌, ◌<◌, ◌^◌, ◌*◌, ◌+◌, [], IfOk};
+ghost use Rattle.std.specs.Prelude.{◌≡◌, ◌++◌, ◌∷◌, ◌<◌, ◌≤◌, ◌^◌, ◌*◌, ◌+◌, [], IfOk};
 ghost use Rattle.problem_core.specs.declared.parts.Rel.TheVariants as rel;
 ghost use Rattle.problem_core.specs.Kept.{IsNumber};
 ghost use Rattle.problem_core.specs.Window.{required_row, structural_rows};
-ghost use Rattle.session_undo.specs.Items.{view_rows, size_rows};
+ghost use Rattle.session_undo.specs.Items.{rows_of_views, size_rows};
 ghost use Rattle.constraint_compile.specs.Compiled.{AreRowsNow, AreSmallForms};
 ghost use Rattle.constraint_compile.specs.Suggestions.{suggested_row, IsSuggestion};
 
@@ -55,15 +55,27 @@ pub fn window_rows(alloc: Global) -> Result<Vec<Row>, OutOfMemory>
     Ok(rows)
 }
 
-/// The rows of a view.
-pub fn view_rows(alloc: Global, first: u32, id: u32) -> Result<Vec<Row>, OutOfMemory>
-    requires first { (0 < first) × (first < 2 ^ 31) }
-    requires id { id < 2 ^ 29 }
-    ensures { IfOk result (λ rows. rows.items ≡ view_rows first id) }
+/// The rows of so many views. The first has these numbers of its first row and its own.
+pub fn view_rows(alloc: Global, first: u32, id: u32, count: u32) -> Result<Vec<Row>, OutOfMemory>
+    requires first { 0 < first }
+    requires rows { first + 2 * count ≤ 2 ^ 31 }
+    requires ids { id + count ≤ 2 ^ 29 }
+    ensures { IfOk result (λ rows. rows.items ≡ rows_of_views first id count) }
 {
-    let width = required(alloc, first, 4 * id + 3, Rel::Ge, Frac::zero())?;
-    let height = required(alloc, first + 1, 4 * id + 4, Rel::Ge, Frac::zero())?;
-    pair(alloc, width, height)
+    let mut rows = Vec::new(alloc);
+    let mut row = first;
+    let mut next = id;
+    let mut left = count;
+    while left > 0 {
+        let width = required(alloc, row, 4 * next + 3, Rel::Ge, Frac::zero())?;
+        let height = required(alloc, row + 1, 4 * next + 4, Rel::Ge, Frac::zero())?;
+        rows.push(width)?;
+        rows.push(height)?;
+        row += 2;
+        next += 1;
+        left -= 1;
+    }
+    Ok(rows)
 }
 
 /// The rows of the window's size.

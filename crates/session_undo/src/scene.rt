@@ -1,9 +1,7 @@
 // The scene: what a script has said so far, and the engine that solves it.
-ghost use Rattle.std.specs.Prelude.{◌≡◌, ◌<◌, ◌≤◌, ◌^◌, ◌+◌, ◌≢◌, ◌∷◌, [], true, false, length};
+ghost use Rattle.std.specs.Prelude.{◌≡◌, ◌<◌, ◌≤◌, ◌^◌, ◌+◌, ◌*◌, ◌≢◌, ◌∷◌, [], true, false, length};
 ghost use Rattle.std.specs.List.{list_any};
 ghost use Rattle.std.specs.Prelude.{Some, None, slice_get, IfOk, IfErr, IfSome, IfNone, OnOk, OnErr};
-ghost use Rattle.view_tree.specs.Views.{IsTree, with_view};
-ghost use Rattle.view_tree.specs.Stops.{IsNewView};
 ghost use Rattle.session_undo.specs.Attributes.{IsGrown};
 ghost use Rattle.session_undo.specs.Kept.{own_or};
 ghost use Rattle.session_undo.specs.Scene.{new_stays};
@@ -12,6 +10,7 @@ ghost use Rattle.problem_core.specs.Window.{structural_rows};
 ghost use Rattle.layout_solver.specs.Layouts.{AreBest};
 
 use crate::changes::{is_near_size, size_changes};
+use crate::coming::{NewViews, attributes_from, push_views};
 use crate::drafts::{as_held, rows_after, with_less, with_more, with_rows};
 use crate::frames::{frame_of, place_of};
 use crate::item::{HeldSize, Item, WindowSize, has_size, line_count, resize_first, size_of};
@@ -24,6 +23,7 @@ use crate::solving::{take_constants, take_more, take_out};
 use crate::suggesting::{suggest_again, suggestion_of};
 use cert_core::RunStop;
 use constraint_compile::{CompileStop, Compiled, Suggestion};
+use diagnosis::{DiagnoseStop, Diagnosis, diagnose};
 use frac_core::{Frac, OutOfMemory};
 use layout_solver::{Change, Engine, RemoveStop};
 use name_tables::{LimitWord, Metrics, OwnedName};
@@ -97,23 +97,6 @@ fn first_engine(alloc: Global) -> Result<Engine, OutOfMemory>
     Ok(engine)
 }
 
-// The tree with a view more, which may be added.
-fn tree_with(tree: &Tree, name: &str, above: ViewId) -> Result<Tree, OutOfMemory>
-    requires { IsNewView tree.now name.now above.0 }
-    ensures added { IfOk result (λ new. new ≡ with_view tree.now name.now above.0) }
-    ensures grown { IfOk result (λ new. IsGrown tree.now.views new.views tree.now.next) }
-    ensures whole { IsTree tree.now }
-{
-    let _before = tree.len();
-    let mut new = tree.copy()?;
-    // The view is new, so it is memory that is wanting.
-    let Ok(_) = new.add(name, above) else {
-        return Err(OutOfMemory);
-    };
-    let _after = new.len();
-    Ok(new)
-}
-
 // Puts what an earlier scene has of its own in the place of what the scene after it has.
 fn put_own<T: Drop>(mut own: Option<T>, part: &mut T)
     ensures { part.new ≡ own_or own part.old }
@@ -125,7 +108,7 @@ fn put_own<T: Drop>(mut own: Option<T>, part: &mut T)
 
 impl Scene {
     ghost use Rattle.std.specs.Prelude.{ℕ, List};
-    ghost use Rattle.view_tree.specs.Views.{LiveView, ViewTree, view_of};
+    ghost use Rattle.view_tree.specs.Views.{view_of};
     ghost use Rattle.constraint_compile.specs.Meaning.{MetricList};
     ghost use Rattle.cert_core.specs.Paths as paths;
     ghost use Rattle.constraint_compile.specs.Compiled.{AreRowsNow};
@@ -141,10 +124,12 @@ impl Scene {
     ghost use Rattle.view_tree.specs.Drops.{AreGoing};
     ghost use Rattle.session_undo.specs.Leaving.{is_in_group, without_group, without_views};
     ghost use Rattle.session_undo.specs.Adding.{LeaveStopsAt, StopsAt, IsNoConflict};
-    ghost use Rattle.session_undo.specs.Adding.{metrics_draft, view_draft};
+    ghost use Rattle.session_undo.specs.Adding.{metrics_draft, views_draft};
     ghost use Rattle.session_undo.specs.Adding.{IsNextSuggestion, IsNearSuggestion};
     ghost use Rattle.session_undo.specs.Items.{suggestion_of};
     ghost use Rattle.session_undo.specs.Leaving.{without_suggestion};
+    ghost use Rattle.diagnosis.specs.Diagnoses.{findings_of};
+    ghost use Rattle.session_undo.specs.Diagnosing.{AreFindingsOf, IsProbedStop};
     ghost use Rattle.session_undo.specs.Scene.{with_suggestion, with_suggested};
 
     /// The window alone.
@@ -268,18 +253,18 @@ impl Scene {
         as_held(self.alloc, &self.engine)
     }
 
-    /// The problem with a view more, of this number.
-    pub fn view_problem(&self, id: u32) -> Result<Problem, OutOfMemory>
-        requires id { id < 2 ^ 29 }
-        requires grown { (views : List LiveView) × IsGrown self.now.scene.tree.views views id }
-        requires room { length self.now.scene.rows + 2 ≤ 2000 }
-        requires number { self.now.scene.next_row < 2 ^ 31 }
-        ensures { IfOk result (λ p. (tree : ViewTree) → IsProblemOf (view_draft self.now.scene tree id) p) }
+    /// The problem with views that come.
+    pub fn views_problem(&self, new: &NewViews) -> Result<Problem, OutOfMemory>
+        requires grown { IsGrown self.now.scene.tree.views new.now.tree.views new.now.first.0 new.now.count }
+        requires room { length self.now.scene.rows + 2 * new.now.count ≤ 2000 }
+        requires number { self.now.scene.next_row + 2 * new.now.count ≤ 2 ^ 31 }
+        ensures { IfOk result
+            (IsProblemOf (views_draft self.now.scene new.now.tree new.now.first.0 new.now.count)) }
     {
         self.engine.show_layout();
-        let rows = view_rows(self.alloc, self.next_row, id)?;
+        let rows = view_rows(self.alloc, self.next_row, new.first.0, new.count)?;
         show_rows(&rows);
-        let attrs = [4 * id + 1, 4 * id + 2, 4 * id + 3, 4 * id + 4];
+        let attrs = attributes_from(self.alloc, new.first.0, new.count)?;
         with_more(self.alloc, &self.engine, &attrs, rows)
     }
 
@@ -445,36 +430,26 @@ impl Scene {
         Ok(())
     }
 
-    /// Takes a new view of this name below the view `above`. Its number `id` is the next one.
-    pub fn take_view(
-        &mut self,
-        name: &str,
-        above: ViewId,
-        id: ViewId,
-        budget: u64,
-    ) -> Result<(), RunStop>
-        requires new { IsNewView self.old.scene.tree name.now above.0 }
-        requires id { id.0 ≡ self.old.scene.tree.next }
-        requires small { id.0 < 2 ^ 29 }
-        requires room { length self.old.scene.rows + 2 ≤ 2000 }
-        requires number { self.old.scene.next_row < 2 ^ 31 }
+    /// Takes views that come, in one step.
+    pub fn take_views(&mut self, new: NewViews, budget: u64) -> Result<(), RunStop>
+        requires grown { IsGrown self.old.scene.tree.views new.tree.views new.first.0 new.count }
+        requires room { length self.old.scene.rows + 2 * new.count ≤ 2000 }
+        requires number { self.old.scene.next_row + 2 * new.count ≤ 2 ^ 31 }
         ensures solved { IfOk result (λ _. (path : paths.Path)
-            × IsSolved self.old.scene
-            (view_draft self.old.scene (with_view self.old.scene.tree name.now above.0) id.0) budget path
+            × IsSolved self.old.scene (views_draft self.old.scene new.tree new.first.0 new.count) budget path
             self.new.scene) }
-        ensures stop { IfErr result (StopsAt self.old.scene
-            (view_draft self.old.scene (with_view self.old.scene.tree name.now above.0) id.0) budget) }
+        ensures stop { IfErr result
+            (StopsAt self.old.scene (views_draft self.old.scene new.tree new.first.0 new.count) budget) }
         ensures free { IfErr result IsNoConflict }
         ensures earlier { OnOk result (self.new.earlier ≡ with_earlier self.old.scene self.old.earlier) }
         ensures same { OnErr result (self.new ≡ self.old) }
     {
         self.engine.show_layout();
         let first = self.next_row;
-        let rows = view_rows(self.alloc, first, id.0)?;
+        let rows = view_rows(self.alloc, first, new.first.0, new.count)?;
         show_rows(&rows);
-        let attrs = [4 * id.0 + 1, 4 * id.0 + 2, 4 * id.0 + 3, 4 * id.0 + 4];
-        let tree = tree_with(&self.tree, name, above)?;
-        push_item(&mut self.items, Item::OfView { first, id: id.0 })?;
+        let attrs = attributes_from(self.alloc, new.first.0, new.count)?;
+        push_views(&mut self.items, first, new.first.0, new.count)?;
         match take_more(&mut self.engine, &attrs, &rows, budget) {
             Ok(()) => (),
             Err(stop) => {
@@ -483,8 +458,8 @@ impl Scene {
             }
         }
         self.engine.show_layout();
-        self.next_row = first + 2;
-        let past = Past::with_tree(mem::replace(&mut self.tree, tree), first);
+        self.next_row = first + 2 * new.count;
+        let past = Past::with_tree(mem::replace(&mut self.tree, new.tree), first);
         keep(&mut self.items, &mut self.engine, &mut self.pasts, past);
         Ok(())
     }
@@ -519,7 +494,7 @@ impl Scene {
     fn size_first(&mut self, size: &WindowSize, budget: u64) -> Result<(), RunStop>
         requires none { has_size self.old.scene.held ≡ false }
         requires room { length self.old.scene.rows + 2 ≤ 2000 }
-        requires number { self.old.scene.next_row < 2 ^ 31 }
+        requires number { self.old.scene.next_row + 2 ≤ 2 ^ 31 }
         ensures solved { IfOk result (λ _. (path : paths.Path)
             × IsSolved self.old.scene (with_window self.old.scene size.now.width size.now.height) budget path
             self.new.scene) }
@@ -596,7 +571,7 @@ impl Scene {
     /// Takes this size of the window. The first takes two rows, for which there is to be room.
     pub fn take_size(&mut self, size: &WindowSize, budget: u64) -> Result<(), RunStop>
         requires room { has_size self.old.scene.held ≡ false → length self.old.scene.rows + 2 ≤ 2000 }
-        requires number { has_size self.old.scene.held ≡ false → self.old.scene.next_row < 2 ^ 31 }
+        requires number { has_size self.old.scene.held ≡ false → self.old.scene.next_row + 2 ≤ 2 ^ 31 }
         requires near { IsFarSize self.old.scene.held size.now.width size.now.height → ⊥ }
         ensures solved { IfOk result (λ _. (path : paths.Path)
             × IsSolved self.old.scene (with_window self.old.scene size.now.width size.now.height) budget path
@@ -795,6 +770,17 @@ impl Scene {
         let past = Past::alike(self.next_row);
         keep(&mut self.items, &mut self.engine, &mut self.pasts, past);
         Ok(())
+    }
+
+    /// All that the layout lacks and leaves open. The scene is as before. A stop comes with the number of the
+    /// attribute whose probe stopped.
+    pub fn diagnose(&mut self, budget: u64) -> Result<Diagnosis, (u32, DiagnoseStop)>
+        ensures found { IfOk result (λ d. AreFindingsOf self.old.scene (findings_of d)) }
+        ensures stop { IfErr result (IsProbedStop self.old.scene budget) }
+        ensures same { self.new ≡ self.old }
+    {
+        self.engine.show_layout();
+        diagnose(self.alloc, &mut self.engine, budget)
     }
 
     /// Whether there is an earlier scene.

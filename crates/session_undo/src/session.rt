@@ -4,9 +4,10 @@ ghost use Rattle.std.specs.Prelude.{Option, Some, ℕ, IfOk, IfErr, IfSome, IfNo
 
 use crate::certifying::values_of;
 use crate::changes::{fits_after, parent_or_window, put_metric};
+use crate::coming::NewViews;
 use crate::item::WindowSize;
 use crate::limits::{FIRST_LIMITS, Limits};
-use crate::reply::{NoEarlier, Refusal, Reply, answer_of, left_answer};
+use crate::reply::{NoEarlier, Refusal, Reply, answer_of, left_answer, probe_refusal};
 use crate::rows::small_line_rows;
 use crate::scene::Scene;
 use crate::showing::show_terms;
@@ -63,13 +64,6 @@ impl Model for Session {
     ghost invariant = { λ s. AreWithin (limits_of s.limits) };
 }
 
-/// The number of a view that may be added, and that of the one it is in.
-#[derive(Clone, Copy)]
-struct NewView {
-    above: ViewId,
-    id: ViewId,
-}
-
 /// Metrics of which one is new or changed, and the changes to the constants that name it.
 #[derive(Drop)]
 struct NewMetrics {
@@ -88,33 +82,34 @@ struct NewLine {
 impl Session {
     ghost use Rattle.script_text.specs.View.{view, linear_view};
     ghost use Rattle.vfl_text.specs.View.{meaning};
-    ghost use Rattle.view_tree.specs.Views.{view_of, with_view};
-    ghost use Rattle.view_tree.specs.Stops.{IsNewView};
+    ghost use Rattle.view_tree.specs.Views.{view_of};
     ghost use Rattle.constraint_compile.specs.Compiled.{AreRowsNow, AreSmallForms};
     ghost use Rattle.constraint_compile.specs.Stops.{IsCompiled};
     ghost use Rattle.constraint_compile.specs.FormatRows.{IsCompiledFormat};
-    ghost use Rattle.session_undo.specs.Attributes.{IsNextLine};
+    ghost use Rattle.session_undo.specs.Attributes.{IsGrown, IsNextLine};
     ghost use Rattle.session_undo.specs.Frames.{IsFrameOf};
     ghost use Rattle.session_undo.specs.Scene.{first_state, with_line, with_window, with_metric};
     ghost use Rattle.session_undo.specs.Scene.{with_suggestion, with_suggested};
     ghost use Rattle.session_undo.specs.Replies.{MayRefuse, Accepting, Refusing, Done, Limit};
     ghost use Rattle.session_undo.specs.Replies as reply;
     ghost use Rattle.session_undo.specs.Items.{has_size};
-    ghost use Rattle.session_undo.specs.Machine.{IsTaken, TriedView, TriedMetric, TriedWindow};
+    ghost use Rattle.session_undo.specs.Machine.{IsTaken, TriedView, TriedTree, TriedMetric, TriedWindow};
     ghost use Rattle.session_undo.specs.Machine.{TriedConstraint, TriedFormat, TriedBudget, Tried};
     ghost use Rattle.session_undo.specs.Machine.{MeaningStep, Poses, PosesDraft, PosesScene, IsProblemOf};
     ghost use Rattle.session_undo.specs.Machine.{IsCrowded, Keeps, LeavesFree, Solves, SolvesFree};
     ghost use Rattle.session_undo.specs.Machine.{TriedDrop, TriedRelease, TriedRemove, TriedSuggest};
-    ghost use Rattle.session_undo.specs.Machine.{Certifies, Suggests, TriedUndo, UnlessRankless};
+    ghost use Rattle.session_undo.specs.Machine.{Certifies, Diagnoses, Suggests, TriedUndo, UnlessRankless};
     ghost use Rattle.session_undo.specs.Adding.{IsFreeSuggestion, IsHeldSuggestion, IsNearSuggestion};
-    ghost use Rattle.session_undo.specs.Adding.{IsNextSuggestion, IsSuggestionFor, IsSuggestionOf, SuggestStep};
+    ghost use Rattle.session_undo.specs.Adding.{IsNextSuggestion, IsSuggestionFor, IsSuggestionOf};
+    ghost use Rattle.session_undo.specs.Adding.{SuggestStep};
     ghost use Rattle.constraint_compile.specs.Compiled.{IsFittingSum};
     ghost use Rattle.constraint_compile.specs.Fractions.{negated, plus};
     ghost use Rattle.constraint_compile.specs.Meaning.{IsRank, unknown_object};
     ghost use Rattle.constraint_compile.specs.Suggestions.{suggested_priority};
     ghost use Rattle.script_text.specs.View.{object_view};
     ghost use Rattle.span_text.specs.Objects.{Meant};
-    ghost use Rattle.session_undo.specs.Adding.{AddStop, StopStep, NoEnd, NoOther, IsFreeView, IsFreeMetric};
+    ghost use Rattle.session_undo.specs.Adding.{AddStop, StopStep, NoEnd, NoOther};
+    ghost use Rattle.session_undo.specs.Adding.{IsFreeView, IsFreeTree, IsFreeMetric};
     ghost use Rattle.session_undo.specs.Adding.{IsFreeLine, IsGroupLimit, IsGroupFree, IsLineLimit};
     ghost use Rattle.session_undo.specs.Adding.{IsLineFree, IsFreeSize, IsGoing};
 
@@ -161,12 +156,12 @@ impl Session {
         self.scene.tree().len() >= self.limits.views
     }
 
-    // The numbers for a new view in the one of the name `parent`.
-    fn new_view(&self, name: &str, parent: &str) -> Result<NewView, Refusal>
-        ensures made { IfOk result (λ new. IsFreeView self.now name.now parent.now
-            (with_view self.now.scene.tree name.now new.above.0) new.id.0) }
-        ensures new { IfOk result (λ new. IsNewView self.now.scene.tree name.now new.above.0) }
-        ensures small { IfOk result (λ new. new.id.0 < 2 ^ 29) }
+    // The views with a new one in the one of the name `parent`.
+    fn new_view(&self, name: &str, parent: &str) -> Result<NewViews, Refusal>
+        ensures made { IfOk result (λ new. IsFreeView self.now name.now parent.now new.tree new.first.0) }
+        ensures one { IfOk result (λ new. new.count ≡ 1) }
+        ensures grown { IfOk result
+            (λ new. IsGrown self.now.scene.tree.views new.tree.views new.first.0 new.count) }
         ensures refused { IfErr result
             (MayRefuse (λ reply. TriedView self.now name.now parent.now NoEnd reply self.now)) }
     {
@@ -183,7 +178,9 @@ impl Session {
         if self.has_all_views() {
             return Err(Refusal::Limit(LimitWord::Views));
         }
-        let id = match views.id_below(name, above) {
+        let _before = views.len();
+        let mut tree = views.copy()?;
+        let first = match tree.add(name, above) {
             Ok(id) => id,
             Err(TreeStop::Limit(word)) => return Err(Refusal::Limit(word)),
             Err(TreeStop::OutOfMemory) => return Err(Refusal::OutOfMemory),
@@ -194,7 +191,45 @@ impl Session {
         if self.is_crowded(2) {
             return Err(Refusal::Limit(LimitWord::Rows));
         }
-        Ok(NewView { above, id })
+        let _after = tree.len();
+        Ok(NewViews {
+            tree,
+            first,
+            count: 1,
+        })
+    }
+
+    // The views with those of a tree, whose text begins at this offset of its line.
+    fn new_tree(&self, text: &[u8], start: usize) -> Result<NewViews, Refusal>
+        ensures made { IfOk result (λ new. IsFreeTree self.now text.now new.tree new.first.0 new.count) }
+        ensures grown { IfOk result
+            (λ new. IsGrown self.now.scene.tree.views new.tree.views new.first.0 new.count) }
+        ensures refused { Refusing (TriedTree self.now text.now start NoEnd) self.now result }
+    {
+        let views = self.scene.tree();
+        let before = views.len();
+        let mut tree = views.copy()?;
+        let count = match tree.add_json(text, self.scene.metrics()) {
+            Ok(count) => count,
+            Err(TreeStop::Syntax) => return Err(Refusal::Syntax(start)),
+            Err(TreeStop::Shape) => return Err(Refusal::Kind(KindWord::Tree)),
+            Err(TreeStop::Unknown(Some(name))) => return Err(Refusal::Unknown(name)),
+            Err(TreeStop::Taken(Some(name))) => return Err(Refusal::Taken(name)),
+            Err(TreeStop::Unknown(None)) => unreachable!(),
+            Err(TreeStop::Taken(None)) => unreachable!(),
+            Err(TreeStop::Limit(word)) => return Err(Refusal::Limit(word)),
+            Err(TreeStop::OutOfMemory) => return Err(Refusal::OutOfMemory),
+        };
+        let _after = tree.len();
+        if self.is_crowded(2 * count as usize) {
+            return Err(Refusal::Limit(LimitWord::Rows));
+        }
+        // The tree has at least one view.
+        let Some(first) = tree.at(before) else {
+            unreachable!()
+        };
+        let first = first.id;
+        Ok(NewViews { tree, first, count })
     }
 
     // A new view in the one of the name `parent`.
@@ -209,7 +244,23 @@ impl Session {
             Ok(new) => new,
             Err(refusal) => return Err(refusal),
         };
-        let end = self.scene.take_view(name, new.above, new.id, self.budget);
+        let end = self.scene.take_views(new, self.budget);
+        answer_of(end)
+    }
+
+    // The views of a tree, whose text begins at this offset of its line.
+    fn add_tree(&mut self, text: &[u8], start: usize) -> Result<Reply, Refusal>
+        ensures accepted { Accepting
+            (TriedTree self.old text.now start (SolvesFree self.old)) self.new result }
+        ensures refused { Refusing
+            (TriedTree self.old text.now start (SolvesFree self.old)) self.old result }
+        ensures same { OnErr result (self.new ≡ self.old) }
+    {
+        let new = match self.new_tree(text, start) {
+            Ok(new) => new,
+            Err(refusal) => return Err(refusal),
+        };
+        let end = self.scene.take_views(new, self.budget);
         answer_of(end)
     }
 
@@ -752,6 +803,18 @@ impl Session {
         Ok(Reply::Done)
     }
 
+    // What is found of the scene.
+    fn diagnose(&mut self) -> Result<Reply, Refusal>
+        ensures accepted { Accepting (Diagnoses self.old) self.new result }
+        ensures refused { Refusing (Diagnoses self.old) self.old result }
+        ensures same { self.new ≡ self.old }
+    {
+        match self.scene.diagnose(self.budget) {
+            Ok(found) => Ok(Reply::Diagnosed(found)),
+            Err((attr, stop)) => Err(probe_refusal(attr, stop)),
+        }
+    }
+
     // The problem with a new view in the one of the name `parent`.
     fn view_problem(&self, name: &str, parent: &str) -> Result<Problem, Refusal>
         ensures posed { IfOk result
@@ -762,8 +825,19 @@ impl Session {
             Ok(new) => new,
             Err(refusal) => return Err(refusal),
         };
-        let _before = self.scene.tree().len();
-        Ok(self.scene.view_problem(new.id.0)?)
+        Ok(self.scene.views_problem(&new)?)
+    }
+
+    // The problem with the views of a tree, whose text begins at this offset of its line.
+    fn tree_problem(&self, text: &[u8], start: usize) -> Result<Problem, Refusal>
+        ensures posed { IfOk result (λ p. TriedTree self.now text.now start (PosesDraft p) Done self.now) }
+        ensures refused { Refusing (TriedTree self.now text.now start NoEnd) self.now result }
+    {
+        let new = match self.new_tree(text, start) {
+            Ok(new) => new,
+            Err(refusal) => return Err(refusal),
+        };
+        Ok(self.scene.views_problem(&new)?)
     }
 
     // The problem with a metric that is new or has another value.
@@ -908,6 +982,7 @@ impl Session {
     {
         match command {
             Command::View { name, parent } => self.view_problem(name, parent_or_window(*parent)),
+            Command::Tree { text, start } => self.tree_problem(text, *start),
             Command::Drop { name } => self.drop_problem(name),
             Command::Remove { group } => self.remove_problem(group),
             Command::Suggest {
@@ -930,9 +1005,11 @@ impl Session {
             } => self.format_problem(group, *align, format),
             Command::Undo => self.undo_problem(),
             Command::Budget { exchanges } => self.budget_problem(*exchanges),
-            Command::Nothing | Command::Frames | Command::Rows | Command::Certify => {
-                Ok(self.scene.problem()?)
-            },
+            Command::Nothing
+            | Command::Frames
+            | Command::Rows
+            | Command::Diagnose
+            | Command::Certify => Ok(self.scene.problem()?),
         }
     }
 
@@ -945,6 +1022,7 @@ impl Session {
         match command {
             Command::Nothing => Ok(Reply::Silent),
             Command::View { name, parent } => self.add_view(name, parent_or_window(parent)),
+            Command::Tree { text, start } => self.add_tree(text, start),
             Command::Drop { name } => self.drop_view(name),
             Command::Remove { group } => self.remove_group(group),
             Command::Suggest {
@@ -967,6 +1045,7 @@ impl Session {
             Command::Frames => Ok(Reply::Frames),
             Command::Rows => Ok(Reply::Rows),
             Command::Certify => self.certify(),
+            Command::Diagnose => self.diagnose(),
         }
     }
 

@@ -1,4 +1,4 @@
-use Rattle.std.proofs.Common.{◌+◌, ◌≤◌, ◌<◌, ◌^◌, length, subst, sym, refl}
+use Rattle.std.proofs.Common.{◌+◌, ◌≤◌, ◌^◌, length, subst, sym, refl}
 use Rattle.session_undo.specs.declared.item.Item.TheVariants as kind
 use Rattle.session_undo.specs.Kept.{items_of, IsKept, scene_at}
 use Rattle.session_undo.specs.Scene.{History, Scene, with_window}
@@ -35,7 +35,7 @@ invariant_of-self-2 c = (
       c.in_ok-push_item.ensures.before c.in-Ok.ensures.earlier c.keep.ensures.items c.keep.ensures.solutions c.keep.ensures.pasts c.self.invariant.0
       (subst IsKept (kept-scene c.self.inside.tree c.self.inside.metrics c.push_item.new.items.items c.keep.new.items.items (c.self.inside.next_row + 2) c.take_more.new.engine c.keep.new.engine c.keep.ensures.now c.keep.ensures.solution)
       (first-kept c.self.inside.tree c.self.inside.metrics (items_of c.self.inside.items.items) c.self.inside.next_row c.self.inside.engine c.self.invariant.0.scene c.show_layout.ensures.layout
-      (items_of c.push_item.new.items.items) c.take_more.new.engine c.args.size.now.width c.args.size.now.height c.in_ok-rows.rows.items c.in_ok-rows.ensures (subst (λ (h : History). h.scene.next_row < 2 ^ 31) (sym c.self.view_is) c.requires.number) (rw c.deref-2.ensures.value at c.in-Ok.ensures.done)
+      (items_of c.push_item.new.items.items) c.take_more.new.engine c.args.size.now.width c.args.size.now.height c.in_ok-rows.rows.items c.in_ok-rows.ensures (subst (λ (h : History). h.scene.next_row + 2 ≤ 2 ^ 31) (sym c.self.view_is) c.requires.number) (rw c.deref-2.ensures.value at c.in-Ok.ensures.done)
       (items-more c.self.inside.items.items c.push_item.new.items.items (kind.Sized c.self.inside.next_row c.args.size.now.width c.args.size.now.height) c.in_ok-push_item.ensures.items)
       (counted-size c.self.inside.tree.views c.self.inside.next_row c.self.inside.engine c.args.size.now.width c.args.size.now.height c.in_ok-rows.rows.items c.take_more.new.engine.problem c.show_layout.ensures.best.attributes c.self.invariant.0.scene.counted
       c.in_ok-rows.ensures (subst (λ (h : History). length h.scene.rows + 2 ≤ 2000) (sym c.self.view_is) c.requires.room) (rw c.deref-2.ensures.value at c.in-Ok.ensures.done)))),

@@ -1,4 +1,4 @@
-use Rattle.std.proofs.Common.{◌+◌, ◌≤◌, length, subst, sym, ap, arith, ℕ, refl}
+use Rattle.std.proofs.Common.{◌+◌, ◌≤◌, ◌^◌, length, subst, sym, ap, arith, ℕ, refl}
 use Rattle.session_undo.specs.Attributes.{IsNextLine}
 use Rattle.session_undo.specs.declared.item.Item.TheVariants as kind
 use Rattle.session_undo.specs.Kept.{items_of, IsKept, scene_at}
@@ -34,7 +34,7 @@ invariant_of-self-2 c = (
       (subst IsKept (kept-scene c.self.inside.tree c.self.inside.metrics c.push_item.new.items.items c.keep.new.items.items (c.self.inside.next_row + length c.args.rows.now) c.take_more.new.engine c.keep.new.engine c.keep.ensures.now c.keep.ensures.solution)
       (line-kept c.self.inside.tree c.self.inside.metrics (items_of c.self.inside.items.items) c.self.inside.next_row c.self.inside.engine c.self.invariant.0.scene c.show_layout.ensures.layout
       (items_of c.push_item.new.items.items) (c.self.inside.next_row + length c.args.rows.now) c.take_more.new.engine c.args.group c.args.line c.args.rows.now (subst (λ (h : History). IsNextLine h.scene.tree.views h.scene.next_row c.args.line) (sym c.self.view_is) c.requires.next).owned (rw (← c.self.view_is) at c.requires.rows) c.in-Ok.ensures.done
-      (items-more c.self.inside.items.items c.push_item.new.items.items (kind.OfLine c.args.group c.args.line) c.in_ok-push_item.ensures.items) (omega arith)
+      (items-more c.self.inside.items.items c.push_item.new.items.items (kind.OfLine c.args.group c.args.line) c.in_ok-push_item.ensures.items) (omega arith) (subst (λ (h : History). h.scene.next_row + length c.args.rows.now ≤ 2 ^ 31) (sym c.self.view_is) c.requires.number)
       (counted-line c.self.inside.tree.views c.self.inside.next_row c.self.inside.engine c.args.line c.self.inside.metrics c.args.rows.now c.take_more.new.engine.problem c.show_layout.ensures.best.attributes c.self.invariant.0.scene.counted
       (subst (λ (h : History). IsNextLine h.scene.tree.views h.scene.next_row c.args.line) (sym c.self.view_is) c.requires.next) (rw (← c.self.view_is) at c.requires.rows) (subst (λ (h : History). length h.scene.rows + length c.args.rows.now ≤ 2000) (sym c.self.view_is) c.requires.room) c.in-Ok.ensures.done))),
   c.keep.ensures.alike,

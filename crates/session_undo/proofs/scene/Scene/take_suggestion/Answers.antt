@@ -38,9 +38,9 @@ invariant_of-self-2 c = (
       (subst IsKept (kept-scene c.self.inside.tree c.self.inside.metrics c.push_item.new.items.items c.keep.new.items.items (c.self.inside.next_row + 1) c.take_more.new.engine c.keep.new.engine c.keep.ensures.now c.keep.ensures.solution)
       (suggestion-kept c.self.inside.tree c.self.inside.metrics (items_of c.self.inside.items.items) c.self.inside.next_row c.self.inside.engine c.self.invariant.0.scene c.show_layout.ensures.layout
       (items_of c.push_item.new.items.items) c.take_more.new.engine c.args.new c.in_ok-rows.rows.items (suggestion-own c.self.inside.tree c.self.inside.metrics (items_of c.self.inside.items.items) c.self.inside.next_row c.self.inside.engine c.args.new c.self.invariant.0.scene c.len-count.ensures.tree (subst (λ (h : History). IsNextSuggestion h.scene c.args.new) (sym c.self.view_is) c.requires.next) (subst (λ (h : History). h.scene.next_row < 2 ^ 31) (sym c.self.view_is) c.requires.number))
-      c.in_ok-rows.ensures (rw c.deref-2.ensures.value at c.in-Ok.ensures.done) (items-more c.self.inside.items.items c.push_item.new.items.items (kind.Suggested c.args.new) c.in_ok-push_item.ensures.items)
+      (subst (λ (h : History). h.scene.next_row < 2 ^ 31) (sym c.self.view_is) c.requires.number) c.in_ok-rows.ensures (rw c.deref-2.ensures.value at c.in-Ok.ensures.done) (items-more c.self.inside.items.items c.push_item.new.items.items (kind.Suggested c.args.new) c.in_ok-push_item.ensures.items)
       (suggestion-counted c.self.inside.tree c.self.inside.metrics (items_of c.self.inside.items.items) c.self.inside.next_row c.self.inside.engine c.args.new c.in_ok-rows.rows.items c.take_more.new.engine.problem c.self.invariant.0.scene c.show_layout.ensures.layout
-      (subst (λ (h : History). IsNextSuggestion h.scene c.args.new) (sym c.self.view_is) c.requires.next).row c.in_ok-rows.ensures (subst (λ (h : History). length h.scene.rows + 1 ≤ 2000) (sym c.self.view_is) c.requires.room) (rw c.deref-2.ensures.value at c.in-Ok.ensures.done)))),
+      (subst (λ (h : History). IsNextSuggestion h.scene c.args.new) (sym c.self.view_is) c.requires.next).row (subst (λ (h : History). IsNextSuggestion h.scene c.args.new) (sym c.self.view_is) c.requires.next).rank.0 c.in_ok-rows.ensures (subst (λ (h : History). length h.scene.rows + 1 ≤ 2000) (sym c.self.view_is) c.requires.room) (rw c.deref-2.ensures.value at c.in-Ok.ensures.done)))),
   c.keep.ensures.alike,
   rw c.keep.ensures.capacity c.self.invariant.2,
 )

@@ -36,6 +36,12 @@ returns-in-Metric-clause-accepted c = rw c.in-Metric.is c.set_metric.ensures.acc
 pub returns-in-Vfl-clause-accepted : goal.returns-in-Vfl-clause-accepted
 returns-in-Vfl-clause-accepted c = rw c.in-Vfl.is c.add_format.ensures.accepted
 
+pub returns-in-Tree-clause-accepted : goal.returns-in-Tree-clause-accepted
+returns-in-Tree-clause-accepted c = rw c.in-Tree.is c.add_tree.ensures.accepted
+
+pub returns-in-Tree-clause-refused : goal.returns-in-Tree-clause-refused
+returns-in-Tree-clause-refused c = rw c.in-Tree.is c.add_tree.ensures.refused
+
 pub returns-in-Drop-clause-accepted : goal.returns-in-Drop-clause-accepted
 returns-in-Drop-clause-accepted c = rw c.in-Drop.is c.drop_view.ensures.accepted
 

@@ -1,10 +1,10 @@
 use Rattle.std.proofs.Common.{inl, refl}
 use Rattle.view_tree.specs.Stops.{MayStop}
-use Rattle.view_tree.specs.Views.{with_view}
 use Rattle.view_tree.specs.declared.stops.TreeStop.TheVariants.{Unknown, Taken}
 use Rattle.session_undo.specs.Machine.{IsTaken}
 use Rattle.session_undo.specs.Kept.{session_at}
 use Rattle.session_undo.specs.Adding.{NoEnd}
+use Rattle.session_undo.proofs.Attributes.{grown-view}
 use Rattle.session_undo.proofs.Chains.{IsAsked, found-live, view-full, view-free}
 use Rattle.session_undo.proofs.session.Session.new_view.Goals as goal
 
@@ -12,14 +12,14 @@ pub unreachable-requires : goal.unreachable-requires
 unreachable-requires c =
     let old = (session_at c.self.inside.scene c.self.inside.budget c.self.inside.limits) in
     let stop : MayStop old.scene.tree c.args.name.now c.in-Some.above.0 (Taken c.in-Err-Taken.field-0-0) =
-    rw (c.in-Err-Taken.field-0-is, c.tree-views.ensures) at c.in-Err-Taken.ensures.refused in
+    rw (c.in-Err-Taken.field-0-is, c.in_ok-tree.ensures, c.tree-views.ensures) at c.in-Err-Taken.ensures.refused in
     let free : IsTaken old.scene c.args.name.now → ⊥ = rw (← c.self.view_is) at (c.if-is_taken.ensures.no refl) in
     free (inl stop.2)
 
 pub unreachable-requires-in-Err-Unknown : goal.unreachable-requires-in-Err-Unknown
 unreachable-requires-in-Err-Unknown c =
     let stop : MayStop c.self.inside.scene.scene.tree c.args.name.now c.in-Some.above.0 (Unknown c.in-Err-Unknown.field-0-0) =
-    rw (c.in-Err-Unknown.field-0-is, c.tree-views.ensures) at c.in-Err-Unknown.ensures.refused in
+    rw (c.in-Err-Unknown.field-0-is, c.in_ok-tree.ensures, c.tree-views.ensures) at c.in-Err-Unknown.ensures.refused in
     found-live c.self.inside.scene.scene.tree.views c.args.parent.now c.in-Some.above.0 (rw c.tree-views.ensures at c.in-Some.ensures) stop.1
 
 pub returns-then-is_crowded-clause-refused : goal.returns-then-is_crowded-clause-refused
@@ -33,7 +33,7 @@ returns-then-is_crowded-clause-refused c =
       within = c.self.invariant;
     } in
     rw (← c.self.view_is)
-    (view-full old c.args.name.now c.args.parent.now c.in-Some.above.0 NoEnd asked (rw c.tree-views.ensures at c.in-Ok.ensures.new) (rw (← c.self.view_is) at (c.if-is_crowded.ensures.yes refl)))
+    (view-full old c.args.name.now c.args.parent.now c.in-Some.above.0 NoEnd asked (rw (c.in_ok-tree.ensures, c.tree-views.ensures) at c.in-Ok.ensures.new) (rw (← c.self.view_is) at (c.if-is_crowded.ensures.yes refl)))
 
 pub returns-clause-made : goal.returns-clause-made
 returns-clause-made c =
@@ -47,8 +47,11 @@ returns-clause-made c =
     } in
     rw (← c.self.view_is)
     (view-free old c.args.name.now c.args.parent.now c.in-Some.above.0 c.in-Ok.id.0
-    (with_view old.scene.tree c.args.name.now c.in-Some.above.0) asked (rw c.tree-views.ensures at c.in-Ok.ensures.new)
-    (rw (← c.self.view_is) at (c.if-is_crowded.ensures.no refl)) refl (rw c.tree-views.ensures at c.in-Ok.ensures.id))
+    c.add.new.self asked (rw (c.in_ok-tree.ensures, c.tree-views.ensures) at c.in-Ok.ensures.new)
+    (rw (← c.self.view_is) at (c.if-is_crowded.ensures.no refl)) (rw (c.in_ok-tree.ensures, c.tree-views.ensures) at c.in-Ok.ensures.added) (rw (c.in_ok-tree.ensures, c.tree-views.ensures) at c.in-Ok.ensures.id))
 
-pub returns-clause-new : goal.returns-clause-new
-returns-clause-new c = rw (← c.self.view_is) (rw c.tree-views.ensures at c.in-Ok.ensures.new)
+pub returns-clause-grown : goal.returns-clause-grown
+returns-clause-grown c =
+    rw (← c.self.view_is)
+    (grown-view c.self.inside.scene.scene.tree c.add.new.self c.args.name.now c.in-Some.above.0 c.in-Ok.id.0 (rw c.tree-views.ensures at c.len-before.ensures.tree) c.len-after.ensures.tree
+    (rw (c.in_ok-tree.ensures, c.tree-views.ensures) at c.in-Ok.ensures.added) (rw (c.in_ok-tree.ensures, c.tree-views.ensures) at c.in-Ok.ensures.id))

@@ -1,4 +1,3 @@
-use Rattle.std.proofs.Common.{◌+◌, ◌≤◌, ◌^◌, arith}
 use Rattle.session_undo.specs.Replies.{Reply, accepted, Limit}
 use Rattle.session_undo.specs.declared.reply.Reply as answer
 use Rattle.session_undo.specs.Machine.{TriedWindow, Solves}
@@ -42,5 +41,5 @@ take_size-end-requires c =
     record {
       room = λ none. room-fits old 2 c.self.invariant (λ crowded. free.room (none, crowded));
       near = free.near;
-      number = λ none. (let fits : old.scene.next_row + 2 ≤ 2 ^ 31 = room-numbers old 2 (λ crowded. free.room (none, crowded)) in omega (arith, fits));
+      number = λ none. room-numbers old 2 (λ crowded. free.room (none, crowded));
     }

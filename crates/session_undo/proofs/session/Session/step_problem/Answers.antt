@@ -40,6 +40,12 @@ returns-in-Vfl-clause-refused c = rw c.in-Vfl.is c.format_problem.ensures.refuse
 pub returns-in-Window-clause-posed : goal.returns-in-Window-clause-posed
 returns-in-Window-clause-posed c = rw c.in-Window.is c.size_problem.ensures.posed
 
+pub returns-in-Tree-clause-posed : goal.returns-in-Tree-clause-posed
+returns-in-Tree-clause-posed c = rw c.in-Tree.is c.tree_problem.ensures.posed
+
+pub returns-in-Tree-clause-refused : goal.returns-in-Tree-clause-refused
+returns-in-Tree-clause-refused c = rw c.in-Tree.is c.tree_problem.ensures.refused
+
 pub returns-in-Drop-clause-posed : goal.returns-in-Drop-clause-posed
 returns-in-Drop-clause-posed c = rw c.in-Drop.is c.drop_problem.ensures.posed
 

@@ -1,0 +1,54 @@
+-- What is found of a scene, from what is found of its layout.
+use Rattle.std.proofs.Common.{◌≡◌, ℕ, ◌^◌, ◌<◌, List, length, get_or, inl, inr, refl, arith}
+use Rattle.std.specs.Prelude.{IfOk, IfErr}
+use Rattle.std.specs.declared.result.Result.{Result}
+use Rattle.std.proofs.lemmas.List.{get_or_default}
+use Rattle.std.proofs.lemmas.List.Elements.{All-weaker}
+use Rattle.std.proofs.lemmas.Result.{IfErr-weaker}
+use Rattle.view_tree.specs.Views.{ViewTree}
+use Rattle.problem_core.specs.Layout.{Row}
+use Rattle.version_list.specs.declared.TheConstants.{MOST}
+use Rattle.constraint_compile.specs.Meaning.{MetricList}
+use Rattle.layout_solver.specs.Layouts.{IsKeptLayout, Layout}
+use Rattle.diagnosis.specs.Diagnoses.{AreFindings, findings_of}
+use Rattle.diagnosis.specs.Probes.{CanProbeAll, IsStopAt}
+use Rattle.diagnosis.specs.declared.diagnosing.Diagnosis.{Diagnosis}
+use Rattle.diagnosis.specs.declared.probing.DiagnoseStop.{DiagnoseStop}
+use Rattle.diagnosis.specs.declared.probing.DiagnoseStop.TheVariants as probed
+use Rattle.session_undo.specs.declared.reply.Reply.TheVariants as good
+use Rattle.session_undo.specs.Machine.{Diagnoses}
+use Rattle.session_undo.specs.Probed.{probe_refusal}
+use Rattle.session_undo.specs.Replies.{MayRefuse, accepted}
+use Rattle.session_undo.specs.Scene.{State}
+use Rattle.session_undo.specs.Diagnosing.{AreFindingsOf, IsProbedStop}
+use Rattle.session_undo.specs.Items.{Item}
+use Rattle.session_undo.specs.Kept.{IsKept, scene_at}
+use Rattle.session_undo.proofs.Reached.{reached}
+
+-- each attribute of a scene can be probed
+pub can-probe : (tree : ViewTree) (metrics : MetricList) (held : List Item) (next : ℕ) (l : Layout) → IsKept (scene_at tree metrics held next l) → length l.earlier < MOST → CanProbeAll l
+can-probe tree metrics held next l kept room k d within = record {
+  held = (k, get_or l.problem.stays k d, within, get_or_default l.problem.stays k (get_or l.problem.stays k d) d within, refl);
+  few = omega (arith, kept.counted.few);
+  numbers = All-weaker (λ (r : Row). r.id < next) (λ (r : Row). r.id < 2 ^ 31) (λ r h. omega (arith, h, kept.top)) l.problem.rows kept.counted.below;
+  ranks = kept.counted.ranks;
+  room = room;
+}
+
+module _ (tree : ViewTree) (metrics : MetricList) (held : List Item) (next : ℕ) (l : Layout) where
+  pub found-scene : (r : Result Diagnosis (ℕ × DiagnoseStop)) → IfOk r (λ d. AreFindings l.problem l.values (findings_of d)) → IfOk r (λ d. AreFindingsOf (scene_at tree metrics held next l) (findings_of d))
+  found-scene r h = h
+
+  pub stop-scene : (budget : ℕ) (r : Result Diagnosis (ℕ × DiagnoseStop)) → IsKeptLayout l → IfErr r (IsStopAt l budget) → IfErr r (IsProbedStop (scene_at tree metrics held next l) budget)
+  stop-scene budget r kept h = IfErr-weaker r (IsStopAt l budget) (IsProbedStop (scene_at tree metrics held next l) budget) (λ stop is. (l, record { problem = refl; values = refl; reached = reached l kept }, is)) h
+
+-- ---- what is answered
+
+pub found-answer : (old new : State) (d : Diagnosis) → AreFindingsOf old.scene (findings_of d) → new ≡ old → Diagnoses old (accepted (good.Diagnosed d)) new
+found-answer old new d are same = inl (record { findings = findings_of d; are = are; told = (refl, same) })
+
+pub stop-answer : (old : State) (attr : ℕ) (stop : DiagnoseStop) → IsProbedStop old.scene old.budget (attr, stop) → MayRefuse (λ reply. Diagnoses old reply old) (probe_refusal attr stop)
+stop-answer old attr (probed.Unfit up at) h = inr (inl (record { attr = attr; up = up; at = at; stopped = h; refused = (refl, refl) }))
+stop-answer old attr (probed.Spent up path) h = inr (inr (inl (record { attr = attr; up = up; path = path; stopped = h; refused = (refl, refl) })))
+stop-answer old attr (probed.Target up) h = inr (inr (inr (record { attr = attr; up = up; stopped = h; refused = (refl, refl) })))
+stop-answer old attr probed.OutOfMemory h = tt

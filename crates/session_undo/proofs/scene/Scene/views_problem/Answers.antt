@@ -1,0 +1,36 @@
+use Rattle.std.proofs.Common.{◌≡◌, ◌+◌, ◌*◌, ◌≤◌, ◌^◌, length, subst, sym}
+use Rattle.problem_core.specs.Layout.{Problem}
+use Rattle.layout_solver.specs.Layouts.{with_added}
+use Rattle.session_undo.specs.Attributes.{IsGrown, attributes_from}
+use Rattle.session_undo.specs.Scene.{History}
+use Rattle.session_undo.specs.Machine.{IsProblemOf}
+use Rattle.session_undo.specs.Adding.{views_draft}
+use Rattle.session_undo.specs.Kept.{items_of, scene_at}
+use Rattle.session_undo.proofs.Solved.{views-posed}
+use Rattle.session_undo.proofs.Reached.{settled}
+use Rattle.session_undo.proofs.ViewsCome.{views-whole}
+use Rattle.session_undo.proofs.Chains.{ok-map}
+use Rattle.session_undo.proofs.scene.Scene.views_problem.Goals as goal
+
+pub view_rows-requires : goal.view_rows-requires
+view_rows-requires c = record {
+  first = c.self.invariant.0.scene.next;
+  rows = subst (λ (h : History). h.scene.next_row + 2 * c.args.new.now.count ≤ 2 ^ 31) (sym c.self.view_is) c.requires.number;
+  ids = (subst (λ (h : History). IsGrown h.scene.tree.views c.args.new.now.tree.views c.args.new.now.first.0 c.args.new.now.count) (sym c.self.view_is) c.requires.grown).small;
+}
+
+pub attributes_from-requires : goal.attributes_from-requires
+attributes_from-requires c = (subst (λ (h : History). IsGrown h.scene.tree.views c.args.new.now.tree.views c.args.new.now.first.0 c.args.new.now.count) (sym c.self.view_is) c.requires.grown).small
+
+pub with_more-requires : goal.with_more-requires
+with_more-requires c =
+    rw (c.deref-2.ensures.value, c.in_ok-attrs.ensures)
+    (views-whole c.self.inside.tree.views c.args.new.now.tree.views c.self.inside.next_row c.args.new.now.first.0 c.args.new.now.count c.self.inside.engine (settled c.self.inside.engine c.show_layout.ensures.layout) c.self.invariant.0.scene.counted (subst (λ (h : History). IsGrown h.scene.tree.views c.args.new.now.tree.views c.args.new.now.first.0 c.args.new.now.count) (sym c.self.view_is) c.requires.grown)
+    c.in_ok-rows.rows.items c.in_ok-rows.ensures (rw c.deref.ensures.value at c.show_rows.ensures) (subst (λ (h : History). length h.scene.rows + 2 * c.args.new.now.count ≤ 2000) (sym c.self.view_is) c.requires.room))
+
+pub returns : goal.returns
+returns c =
+    rw (← c.self.view_is)
+    (ok-map (λ (p : Problem). p ≡ with_added c.self.inside.engine (attributes_from c.args.new.now.first.0 c.args.new.now.count) c.in_ok-rows.rows.items)
+    (IsProblemOf (views_draft (scene_at c.self.inside.tree c.self.inside.metrics (items_of c.self.inside.items.items) c.self.inside.next_row c.self.inside.engine) c.args.new.now.tree c.args.new.now.first.0 c.args.new.now.count)) c.with_more.result
+    (λ p made. views-posed c.self.inside.tree c.self.inside.metrics (items_of c.self.inside.items.items) c.self.inside.next_row c.self.inside.engine c.self.invariant.0.scene c.show_layout.ensures.layout c.args.new.now.tree c.args.new.now.first.0 c.args.new.now.count c.in_ok-rows.rows.items p c.in_ok-rows.ensures made) (rw (c.deref-2.ensures.value, c.in_ok-attrs.ensures) at c.with_more.ensures))

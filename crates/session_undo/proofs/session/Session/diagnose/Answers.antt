@@ -1,0 +1,25 @@
+use Rattle.std.proofs.Common.{ap}
+use Rattle.session_undo.specs.Kept.{session_at}
+use Rattle.session_undo.specs.Scene.{History}
+use Rattle.session_undo.proofs.Diagnosed.{found-answer, stop-answer}
+use Rattle.session_undo.proofs.Steps.{after}
+use Rattle.session_undo.proofs.session.Session.diagnose.Goals as goal
+use Rattle.session_undo.proofs.session.Session.diagnose.Goals.{in-Ok, in-Err}
+
+pub returns-clause-accepted : goal.returns-clause-accepted
+returns-clause-accepted c =
+    let old = (session_at c.self.inside.scene c.self.inside.budget c.self.inside.limits) in
+    elim c.match-diagnose.branch [
+      | in-Ok w ↦ rw (w.result-is, ← c.self.view_is)
+          (found-answer old (after old c.diagnose.new.self) w.in-Ok.found w.in-Ok.ensures.found (ap (λ (h : History). after old h) c.diagnose.ensures.same))
+      | in-Err w ↦ rw w.result-is tt
+    ]
+
+pub returns-clause-refused : goal.returns-clause-refused
+returns-clause-refused c =
+    let old = (session_at c.self.inside.scene c.self.inside.budget c.self.inside.limits) in
+    elim c.match-diagnose.branch [
+      | in-Ok w ↦ rw w.result-is tt
+      | in-Err w ↦ rw (w.result-is, w.probe_refusal.ensures, ← c.self.view_is)
+          (stop-answer old w.in-Err.attr w.in-Err.stop w.in-Err.ensures.stop)
+    ]
