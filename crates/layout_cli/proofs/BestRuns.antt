@@ -19,7 +19,7 @@ use Rattle.session_undo.specs.Scene.{EARLIER, Scene, State, IsBestScene, IsBestS
 use Rattle.session_undo.specs.Replies.{Reply, Done}
 use Rattle.layout_solver.specs.declared.removing.RemoveStop.{RemoveStop}
 use Rattle.layout_solver.specs.declared.removing.RemoveStop.TheVariants as removal
-use Rattle.session_undo.specs.Machine.{Accepts, LeavesFree, Solves, SolvesFree, Suggests, TellsStill, TriedDrop, TriedRelease, TriedRemove, TriedSuggest, MeaningStep, TriedView, TriedMetric, TriedWindow, TriedLine, TriedBudget, TriedUndo, Keeps, parent_name}
+use Rattle.session_undo.specs.Machine.{Diagnoses, Accepts, LeavesFree, Solves, SolvesFree, Suggests, TellsStill, TriedDrop, TriedRelease, TriedRemove, TriedSuggest, MeaningStep, TriedView, TriedTree, TriedMetric, TriedWindow, TriedLine, TriedBudget, TriedUndo, Keeps, parent_name}
 use Rattle.layout_cli.specs.Machine.{GrammarStep, Step, Run}
 
 kept : (old new : State) → IsBestState old → new ≡ old → IsBestState new
@@ -95,6 +95,15 @@ view-change old name parent reply new (inr (a, inr (b, inr (c, inr (d, inl x))))
 view-change old name parent reply new (inr (a, inr (b, inr (c, inr (d, inr (e, inl x)))))) = inl x.2
 view-change old name parent reply new (inr (a, inr (b, inr (c, inr (d, inr (e, inr (f, (above, named, solves)))))))) = solves-free-change old _ reply new solves
 
+tree-change : (old : State) (text : List ℕ) (start : ℕ) (reply : Reply) (new : State) → TriedTree old text start (SolvesFree old) reply new → MayChange old reply new
+tree-change old text start reply new (inl x) = inl x.2
+tree-change old text start reply new (inr (a, inl x)) = inl x.2
+tree-change old text start reply new (inr (a, inr (b, (tree, read, inl x)))) = inl x.2
+tree-change old text start reply new (inr (a, inr (b, (tree, read, inr (c, inl x))))) = inl x.3
+tree-change old text start reply new (inr (a, inr (b, (tree, read, inr (c, inr (d, (parent, goes, inl x))))))) = inl x.3
+tree-change old text start reply new (inr (a, inr (b, (tree, read, inr (c, inr (d, (parent, goes, inr (e, inl x)))))))) = inl x.2
+tree-change old text start reply new (inr (a, inr (b, (tree, read, inr (c, inr (d, (parent, goes, inr (e, inr (f, solves))))))))) = solves-free-change old _ reply new solves
+
 metric-change : (old : State) (name : List ℕ) (value : Fraction) (reply : Reply) (new : State) → TriedMetric old name value (Solves old) reply new → MayChange old reply new
 metric-change old name value reply new (inl x) = inl x.2
 metric-change old name value reply new (inr (a, inl x)) = inl x.2
@@ -131,9 +140,17 @@ undo-change : (old : State) (reply : Reply) (new : State) → TriedUndo old Keep
 undo-change old reply new (inl x) = inl x.2
 undo-change old reply new (inr (a, (scene, earlier, is, (done, new_is)))) = inr (done, λ best. subst IsBestState (sym new_is) (best-back old scene earlier is best))
 
+-- a diagnosis changes nothing
+diagnosed-same : (old : State) (reply : Reply) (new : State) → Diagnoses old reply new → new ≡ old
+diagnosed-same old reply new (inl found) = found.told.1
+diagnosed-same old reply new (inr (inl stop)) = stop.refused.1
+diagnosed-same old reply new (inr (inr (inl stop))) = stop.refused.1
+diagnosed-same old reply new (inr (inr (inr stop))) = stop.refused.1
+
 meaning-change : (old : State) (m : Meaning) (reply : Reply) (new : State) → MeaningStep old m reply new → MayChange old reply new
 meaning-change old mean.Nothing reply new step = inl step.1
 meaning-change old (mean.View name parent) reply new step = view-change old name (parent_name parent) reply new step
+meaning-change old (mean.Tree text start) reply new step = tree-change old text start reply new step
 meaning-change old (mean.Drop name) reply new step = drop-change old name reply new step
 meaning-change old (mean.Remove group) reply new step = remove-change old group reply new step
 meaning-change old (mean.Suggest name attr value priority) reply new step = suggest-change old name attr value priority reply new step
@@ -147,6 +164,7 @@ meaning-change old (mean.Budget n) reply new step = budget-change old n reply ne
 meaning-change old mean.Frames reply new step = inl step.1
 meaning-change old mean.Rows reply new step = inl step.1
 meaning-change old mean.Certify reply new (levels, certified, step) = inl step.1
+meaning-change old mean.Diagnose reply new step = inl (diagnosed-same old reply new step)
 
 grammar-change : (old : State) (line : List ℕ) (reply : Reply) (new : State) → GrammarStep old line reply new → MayChange old reply new
 grammar-change old line reply new (inl (at, leaves, keeps)) = inl keeps.1

@@ -6,3 +6,4 @@ pub mod Texts
 pub mod Told
 pub mod Printed
 pub mod Made
+pub mod FoundLines

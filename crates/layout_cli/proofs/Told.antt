@@ -12,15 +12,16 @@ use Rattle.session_undo.specs.Machine.{MeaningStep}
 use Rattle.script_text.specs.Meaning.{Meaning}
 use Rattle.script_text.specs.Grammar.{Line, all_words}
 use Rattle.layout_cli.specs.Machine.{Step}
-use Rattle.session_undo.specs.Replies.{Reply, MayRefuse, IsTold, Tells, IsChange, accepted, is_accepted, Nothing, Done, Frames, Rows, Certificate, Outside, Unknown, Taken, Limit, Kind, Conflict, NoEarlier, Overflow, Spent, place_of}
+use Rattle.session_undo.specs.Replies.{Reply, MayRefuse, IsTold, Tells, IsChange, accepted, is_accepted, Nothing, Done, Frames, Rows, Certificate, Outside, Unknown, Taken, Limit, Kind, Conflict, NoEarlier, Overflow, Spent, Diagnosed, NoTarget, place_of}
+use Rattle.diagnosis.specs.Diagnoses.{findings_of}
 use Rattle.layout_cli.specs.Replies.{refusal_text, text_of}
 use Rattle.layout_cli.proofs.BestRuns.{step-change, MayChange}
 
-abbrev pub Adds : List ℕ → List ℕ → Reply → Type 0
-Adds old out reply = out ≡ old ++ refusal_text reply
+abbrev pub Adds : Scene → List ℕ → List ℕ → Reply → Type 0
+Adds scene old out reply = out ≡ old ++ refusal_text scene.tree.views reply
 
 -- the reply that is told is one that F allows, and its text is appended
-pub told : (F : Reply → Type 0) (old out : List ℕ) (scene : Scene) (r : Refusal) → MayRefuse F r → IsTold (Adds old out) r → (reply : Reply) × F reply × (out ≡ old ++ text_of scene reply) × (false ≡ is_accepted reply)
+pub told : (F : Reply → Type 0) (old out : List ℕ) (scene : Scene) (r : Refusal) → MayRefuse F r → IsTold (Adds scene old out) r → (reply : Reply) × F reply × (out ≡ old ++ text_of scene reply) × (false ≡ is_accepted reply)
 told F old out scene (refusal.Syntax at) may is = (Outside at, may, is, refl)
 told F old out scene (refusal.Unknown name) may is = (Unknown name, may, is, refl)
 told F old out scene (refusal.Taken name) may is = (Taken name, may, is, refl)
@@ -30,6 +31,7 @@ told F old out scene (refusal.Conflict by) may is = (Conflict by, may, is, refl)
 told F old out scene refusal.NoEarlier may is = (NoEarlier, may, is, refl)
 told F old out scene (refusal.Overflow place at) may is = (Overflow (place_of place) at.path at.quantity, may, is, refl)
 told F old out scene (refusal.Spent place path) may is = (Spent (place_of place) path, may, is, refl)
+told F old out scene (refusal.NoTarget attr up) may is = (NoTarget attr up, may, is, refl)
 told F old out scene refusal.OutOfMemory may is = absurd is
 
 -- the reply that is given is one that F allows, and its text is appended
@@ -39,6 +41,7 @@ given F old out scene good.Done may is = (Done, may, is, refl)
 given F old out scene good.Frames may is = (Frames, may, is, refl)
 given F old out scene good.Rows may is = (Rows, may, is, refl)
 given F old out scene (good.Certificate levels) may is = (Certificate levels, may, is, refl)
+given F old out scene (good.Diagnosed d) may is = (Diagnosed (findings_of d), may, is, refl)
 
 -- a line that is read does what it says
 pub step-read : (old : State) (line : List ℕ) (m : Meaning) → length line ≤ 4096 → Line all_words line m → (reply : Reply) (new : State) → MeaningStep old m reply new → Step old line reply new
@@ -47,7 +50,7 @@ step-read old line m short reads reply new step = inr ((λ long. omega (arith, s
 -- ---- what a command led to
 
 -- the refusal is told by its own text
-told-text : (old out : List ℕ) (scene : Scene) (r : Refusal) → IsTold (λ reply. out ≡ old ++ text_of scene reply) r → IsTold (Adds old out) r
+told-text : (old out : List ℕ) (scene : Scene) (r : Refusal) → IsTold (λ reply. out ≡ old ++ text_of scene reply) r → IsTold (Adds scene old out) r
 told-text old out scene (refusal.Syntax at) is = is
 told-text old out scene (refusal.Unknown name) is = is
 told-text old out scene (refusal.Taken name) is = is
@@ -57,9 +60,10 @@ told-text old out scene (refusal.Conflict by) is = is
 told-text old out scene refusal.NoEarlier is = is
 told-text old out scene (refusal.Overflow place at) is = is
 told-text old out scene (refusal.Spent place path) is = is
+told-text old out scene (refusal.NoTarget attr up) is = is
 told-text old out scene refusal.OutOfMemory is = is
 
-pub text-told : (old out : List ℕ) (scene : Scene) (r : Refusal) → IsTold (Adds old out) r → IsTold (λ reply. out ≡ old ++ text_of scene reply) r
+pub text-told : (old out : List ℕ) (scene : Scene) (r : Refusal) → IsTold (Adds scene old out) r → IsTold (λ reply. out ≡ old ++ text_of scene reply) r
 text-told old out scene (refusal.Syntax at) is = is
 text-told old out scene (refusal.Unknown name) is = is
 text-told old out scene (refusal.Taken name) is = is
@@ -69,6 +73,7 @@ text-told old out scene (refusal.Conflict by) is = is
 text-told old out scene refusal.NoEarlier is = is
 text-told old out scene (refusal.Overflow place at) is = is
 text-told old out scene (refusal.Spent place path) is = is
+text-told old out scene (refusal.NoTarget attr up) is = is
 text-told old out scene refusal.OutOfMemory is = is
 
 -- what the line leads to, told by its text
@@ -94,9 +99,10 @@ unchanged old new line (Ok good.Done) step same never = absurd (never tt)
 unchanged old new line (Ok good.Frames) step same never = not-done old Frames new refl (step-change old line Frames new step)
 unchanged old new line (Ok good.Rows) step same never = not-done old Rows new refl (step-change old line Rows new step)
 unchanged old new line (Ok (good.Certificate levels)) step same never = not-done old (Certificate levels) new refl (step-change old line (Certificate levels) new step)
+unchanged old new line (Ok (good.Diagnosed d)) step same never = not-done old (Diagnosed (findings_of d)) new refl (step-change old line (Diagnosed (findings_of d)) new step)
 unchanged old new line (Err stop) step same never = same
 
 -- the text of a refusal is that of its reply
-pub refusal-tells : {E : Type 0} (old out : List ℕ) (scene : Scene) (refused : Refusal) (end : Result (Unit {0}) E) → IfOk end (λ done. IsTold (Adds old out) refused) → OnOk end (IsTold (λ reply. out ≡ old ++ text_of scene reply) refused)
+pub refusal-tells : {E : Type 0} (old out : List ℕ) (scene : Scene) (refused : Refusal) (end : Result (Unit {0}) E) → IfOk end (λ done. IsTold (Adds scene old out) refused) → OnOk end (IsTold (λ reply. out ≡ old ++ text_of scene reply) refused)
 refusal-tells old out scene refused (Ok done) h = text-told old out scene refused h
 refusal-tells old out scene refused (Err stop) h = tt

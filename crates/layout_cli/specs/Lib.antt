@@ -1,4 +1,5 @@
 pub mod Machine
+pub mod Found
 pub mod Replies
 pub mod Words
 pub mod Checks

@@ -1,5 +1,5 @@
 -- The text of replies.
-use Rattle.std.specs.Prelude.{ℕ, ◌+◌, ◌*◌, List, [], ◌∷◌, ◌++◌, codes, decimal}
+use Rattle.std.specs.Prelude.{ℕ, ◌+◌, ◌*◌, Bool, List, [], ◌∷◌, ◌++◌, codes, decimal}
 use Rattle.frac_core.specs.Fraction.{Fraction}
 use Rattle.frac_core.specs.Text.{fraction_text}
 use Rattle.problem_core.specs.Gaps.{value_of}
@@ -20,6 +20,9 @@ use Rattle.session_undo.specs.Scene.{Scene, problem_of}
 use Rattle.session_undo.specs.Replies.{Reply, Nothing, Done, Frames, Rows, Outside, Unknown, Taken, Limit}
 use Rattle.session_undo.specs.Replies.{Certificate, Kind, Conflict, NoEarlier, Overflow, Spent, Place, Step}
 use Rattle.session_undo.specs.Replies.{Still}
+use Rattle.session_undo.specs.Replies.{Diagnosed, NoTarget, Probe}
+use Rattle.diagnosis.specs.Diagnoses.{Findings}
+use Rattle.layout_cli.specs.Found.{findings_text, probe_line}
 
 abbrev pub limit_text : LimitWord → List ℕ
 limit_text word.Line = codes "line"
@@ -102,32 +105,44 @@ still_text [] = []
 still_text (id ∷ ids) = still_line id ++ still_text ids
 
 -- what stands before the path: no line where the command's own run stops
-abbrev pub place_text : Place → List ℕ
-place_text Step = []
-place_text (Still ids) = still_text ids
+abbrev pub place_text : List LiveView → Place → List ℕ
+place_text views Step = []
+place_text views (Still ids) = still_text ids
+place_text views (Probe attr up) = probe_line views attr up
 
-abbrev pub overflow_text : Place → Path → Quantity → List ℕ
-overflow_text place path quantity =
-    line_of (codes "refused 7 overflow") ++ (place_text place ++ (path_text path ++ unfit_text quantity))
+abbrev pub overflow_text : List LiveView → Place → Path → Quantity → List ℕ
+overflow_text views place path quantity = line_of (codes "refused 7 overflow")
+    ++ (place_text views place ++ (path_text path ++ unfit_text quantity))
 
-abbrev pub spent_text : Place → Path → List ℕ
-spent_text place path = line_of (codes "refused 8 spent") ++ (place_text place ++ path_text path)
+abbrev pub spent_text : List LiveView → Place → Path → List ℕ
+spent_text views place path = line_of (codes "refused 8 spent") ++ (place_text views place ++ path_text path)
 
-abbrev pub refusal_text : Reply → List ℕ
-refusal_text Nothing = []
-refusal_text Done = []
-refusal_text Frames = []
-refusal_text Rows = []
-refusal_text (Certificate levels) = []
-refusal_text (Outside at) = codes "refused 1 syntax " ++ (decimal at ++ 10 ∷ [])
-refusal_text (Unknown name) = codes "refused 2 unknown " ++ (name ++ 10 ∷ [])
-refusal_text (Taken name) = codes "refused 3 taken " ++ (name ++ 10 ∷ [])
-refusal_text (Limit word) = codes "refused 4 limit " ++ (limit_text word ++ 10 ∷ [])
-refusal_text (Kind word) = codes "refused 5 kind " ++ (kind_text word ++ 10 ∷ [])
-refusal_text (Conflict by) = conflict_text by
-refusal_text NoEarlier = codes "refused 9 " ++ (codes "undo" ++ 10 ∷ [])
-refusal_text (Overflow place path quantity) = overflow_text place path quantity
-refusal_text (Spent place path) = spent_text place path
+-- the wished value of a probe is what doesn't fit
+abbrev pub target_text : List LiveView → ℕ → Bool → List ℕ
+target_text views attr up = line_of (codes "refused 7 overflow")
+    ++ (probe_line views attr up ++ line_of (codes "unfit target"))
+
+abbrev pub diagnosis_text : Scene → Findings → List ℕ
+diagnosis_text scene findings = findings_text scene.tree.views findings ++ line_of (codes "ok")
+
+-- the text of a refusal, where these are the views
+abbrev pub refusal_text : List LiveView → Reply → List ℕ
+refusal_text views Nothing = []
+refusal_text views Done = []
+refusal_text views Frames = []
+refusal_text views Rows = []
+refusal_text views (Certificate levels) = []
+refusal_text views (Diagnosed findings) = []
+refusal_text views (Outside at) = codes "refused 1 syntax " ++ (decimal at ++ 10 ∷ [])
+refusal_text views (Unknown name) = codes "refused 2 unknown " ++ (name ++ 10 ∷ [])
+refusal_text views (Taken name) = codes "refused 3 taken " ++ (name ++ 10 ∷ [])
+refusal_text views (Limit word) = codes "refused 4 limit " ++ (limit_text word ++ 10 ∷ [])
+refusal_text views (Kind word) = codes "refused 5 kind " ++ (kind_text word ++ 10 ∷ [])
+refusal_text views (Conflict by) = conflict_text by
+refusal_text views NoEarlier = codes "refused 9 " ++ (codes "undo" ++ 10 ∷ [])
+refusal_text views (Overflow place path quantity) = overflow_text views place path quantity
+refusal_text views (Spent place path) = spent_text views place path
+refusal_text views (NoTarget attr up) = target_text views attr up
 
 -- the text of a reply, of which the scene is the one after the line
 abbrev pub text_of : Scene → Reply → List ℕ
@@ -136,4 +151,5 @@ text_of scene Done = line_of (codes "ok")
 text_of scene Frames = frames_text scene
 text_of scene Rows = rows_text scene
 text_of scene (Certificate levels) = certificate_text scene levels
-text_of scene refusal = refusal_text refusal
+text_of scene (Diagnosed findings) = diagnosis_text scene findings
+text_of scene refusal = refusal_text scene.tree.views refusal

@@ -9,6 +9,7 @@
 
 mod answers;
 mod checking;
+mod found;
 mod frames;
 mod input;
 mod laws;

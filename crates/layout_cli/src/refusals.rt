@@ -2,14 +2,16 @@
 ghost use Rattle.std.specs.Prelude.{◌≡◌, ◌++◌, ◌∷◌, [], IfOk, codes, decimal};
 ghost use Rattle.session_undo.specs.Replies.{IsTold, place_of};
 ghost use Rattle.layout_cli.specs.Replies.{limit_text, kind_text, refusal_text, conflict_text};
-ghost use Rattle.layout_cli.specs.Replies.{overflow_text, place_text, spent_text, still_line, still_text};
+ghost use Rattle.layout_cli.specs.Replies.{overflow_text, place_text, spent_text, still_line, still_text, target_text};
 
+use crate::found::push_probe;
 use cert_core::{Conflict, Path, UnfitPath};
 use claim_text::{conflict_text, path_text, unfit_text};
 use constraint_compile::KindWord;
 use frac_core::OutOfMemory;
 use name_tables::LimitWord;
 use session_undo::{Refusal, StopPlace};
+use view_tree::Tree;
 
 fn limit_text(word: LimitWord) -> &'static str
     ensures { result.now ≡ limit_text word }
@@ -91,37 +93,58 @@ fn push_stills(out: &mut Vec<u8>, ids: &[u32]) -> Result<(), OutOfMemory>
 }
 
 // Appends what stands before the path of a stop.
-fn push_place(out: &mut Vec<u8>, place: &StopPlace) -> Result<(), OutOfMemory>
-    ensures { IfOk result (λ _. out.new.items ≡ out.old.items ++ place_text (place_of place.now)) }
+fn push_place(out: &mut Vec<u8>, tree: &Tree, place: &StopPlace) -> Result<(), OutOfMemory>
+    ensures { IfOk result
+        (λ _. out.new.items ≡ out.old.items ++ place_text tree.now.views (place_of place.now)) }
 {
     match place {
         StopPlace::Step => Ok(()),
         StopPlace::Still(ids) => push_stills(out, ids),
+        StopPlace::Probe { attr, up } => push_probe(out, tree, *attr, *up),
     }
 }
 
-fn push_overflow(out: &mut Vec<u8>, place: &StopPlace, at: &UnfitPath) -> Result<(), OutOfMemory>
-    ensures { IfOk result
-        (λ _. out.new.items
-        ≡ out.old.items ++ overflow_text (place_of place.now) at.now.path at.now.quantity) }
+fn push_overflow(
+    out: &mut Vec<u8>,
+    tree: &Tree,
+    place: &StopPlace,
+    at: &UnfitPath,
+) -> Result<(), OutOfMemory>
+    ensures { IfOk result (λ _. out.new.items ≡ out.old.items
+        ++ overflow_text tree.now.views (place_of place.now) at.now.path at.now.quantity) }
 {
     out.extend_from_slice(b"refused 7 overflow\n")?;
-    push_place(out, place)?;
+    push_place(out, tree, place)?;
     unfit_text(at, out)
 }
 
-fn push_spent(out: &mut Vec<u8>, place: &StopPlace, path: &Path) -> Result<(), OutOfMemory>
-    ensures { IfOk result (λ _. out.new.items ≡ out.old.items ++ spent_text (place_of place.now) path.now) }
+fn push_spent(
+    out: &mut Vec<u8>,
+    tree: &Tree,
+    place: &StopPlace,
+    path: &Path,
+) -> Result<(), OutOfMemory>
+    ensures { IfOk result
+        (λ _. out.new.items ≡ out.old.items ++ spent_text tree.now.views (place_of place.now) path.now) }
 {
     out.extend_from_slice(b"refused 8 spent\n")?;
-    push_place(out, place)?;
+    push_place(out, tree, place)?;
     path_text(path, out)
 }
 
-/// Appends the text of a refusal. None is told of want of memory.
-pub fn push_refusal(refusal: &Refusal, out: &mut Vec<u8>) -> Result<(), OutOfMemory>
+fn push_target(out: &mut Vec<u8>, tree: &Tree, attr: u32, up: bool) -> Result<(), OutOfMemory>
+    ensures { IfOk result (λ _. out.new.items ≡ out.old.items ++ target_text tree.now.views attr up) }
+{
+    out.extend_from_slice(b"refused 7 overflow\n")?;
+    push_probe(out, tree, attr, up)?;
+    out.extend_from_slice(b"unfit target\n")?;
+    Ok(())
+}
+
+/// Appends the text of a refusal, where these are the views. None is told of want of memory.
+pub fn push_refusal(tree: &Tree, refusal: &Refusal, out: &mut Vec<u8>) -> Result<(), OutOfMemory>
     ensures { IfOk result (λ _. IsTold (λ reply. out.new.items
-        ≡ out.old.items ++ refusal_text reply) refusal.now) }
+        ≡ out.old.items ++ refusal_text tree.now.views reply) refusal.now) }
 {
     match refusal {
         Refusal::Syntax(at) => push_outside(out, *at),
@@ -131,8 +154,9 @@ pub fn push_refusal(refusal: &Refusal, out: &mut Vec<u8>) -> Result<(), OutOfMem
         Refusal::Kind(word) => push_line(out, b"refused 5 kind ", kind_text(*word).as_bytes()),
         Refusal::Conflict(conflict) => push_conflict(out, conflict),
         Refusal::NoEarlier => push_line(out, b"refused 9 ", b"undo"),
-        Refusal::Overflow { place, at } => push_overflow(out, place, at),
-        Refusal::Spent { place, path } => push_spent(out, place, path),
+        Refusal::Overflow { place, at } => push_overflow(out, tree, place, at),
+        Refusal::Spent { place, path } => push_spent(out, tree, place, path),
+        Refusal::NoTarget { attr, up } => push_target(out, tree, *attr, *up),
         Refusal::OutOfMemory => Err(OutOfMemory),
     }
 }

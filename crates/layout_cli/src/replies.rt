@@ -2,15 +2,18 @@
 ghost use Rattle.std.specs.Prelude.{◌≡◌, ◌≤◌, ◌+◌, ◌++◌, IfOk, OnOk, IsOk, codes, string_bytes, vec_len};
 ghost use Rattle.std.specs.Prelude.{vec_capacity};
 ghost use Rattle.layout_cli.specs.Replies.{text_of, frames_text, rows_text, names_of, text_of_each, line_of};
-ghost use Rattle.layout_cli.specs.Replies.{certificate_text};
+ghost use Rattle.layout_cli.specs.Replies.{certificate_text, diagnosis_text};
+ghost use Rattle.diagnosis.specs.Diagnoses.{findings_of};
 ghost use Rattle.session_undo.specs.Replies.{accepted, IsChange, Tells};
 ghost use Rattle.session_undo.specs.declared.reply.Reply.TheVariants.{Done};
 
+use crate::found::push_found;
 use crate::frames::push_frames;
 use crate::names::put_names;
 use crate::refusals::push_refusal;
 use cert_core::Best;
 use claim_text::{best_text, rows_text};
+use diagnosis::Diagnosis;
 use frac_core::OutOfMemory;
 use session_undo::{Refusal, Reply, Session};
 
@@ -57,6 +60,14 @@ fn show_certificate(session: &Session, best: &Best, out: &mut Vec<u8>) -> Result
     push_ok(out)
 }
 
+fn show_found(session: &Session, found: &Diagnosis, out: &mut Vec<u8>) -> Result<(), OutOfMemory>
+    ensures { IfOk result (λ _. out.new.items
+        ≡ out.old.items ++ diagnosis_text session.now.scene (findings_of found.now)) }
+{
+    push_found(out, session.state().tree(), found)?;
+    push_ok(out)
+}
+
 // Appends the text of the reply to an accepted line.
 fn push_reply(session: &Session, reply: &Reply, out: &mut Vec<u8>) -> Result<(), OutOfMemory>
     ensures text { IfOk result (λ _. out.new.items
@@ -69,6 +80,7 @@ fn push_reply(session: &Session, reply: &Reply, out: &mut Vec<u8>) -> Result<(),
         Reply::Frames => show_frames(session, out),
         Reply::Rows => show_rows(session, out),
         Reply::Certificate(best) => show_certificate(session, best, out),
+        Reply::Diagnosed(found) => show_found(session, found, out),
     }
 }
 
@@ -85,6 +97,6 @@ pub fn reply_text(
 {
     match reply {
         Ok(reply) => push_reply(session, reply, out),
-        Err(refusal) => push_refusal(refusal, out),
+        Err(refusal) => push_refusal(session.state().tree(), refusal, out),
     }
 }

@@ -1,0 +1,58 @@
+-- The text of what is found of a scene, and of the probe that stopped.
+use Rattle.std.specs.Prelude.{ℕ, ◌+◌, ◌*◌, Bool, true, false, cond, nat_eq, List, [], ◌∷◌, ◌++◌, codes, decimal, Option}
+use Rattle.std.specs.Prelude.{Some, None}
+use Rattle.frac_core.specs.Fraction.{Fraction}
+use Rattle.frac_core.specs.Text.{fraction_text}
+use Rattle.view_tree.specs.Views.{LiveView}
+use Rattle.diagnosis.specs.Diagnoses.{Findings}
+
+-- the word of an attribute, if it is one of the view of this number
+abbrev pub word_at : ℕ → ℕ → Option (List ℕ)
+word_at id attr =
+    cond (nat_eq attr (4 * id + 1)) (Some (codes "left"))
+    (cond (nat_eq attr (4 * id + 2)) (Some (codes "top"))
+    (cond (nat_eq attr (4 * id + 3)) (Some (codes "width"))
+    (cond (nat_eq attr (4 * id + 4)) (Some (codes "height")) None)))
+
+-- the view's name, a point and the word; where there is no word, the other name
+abbrev pub name_or : List ℕ → Option (List ℕ) → List ℕ → List ℕ
+name_or name None other = other
+name_or name (Some word) other = name ++ (46 ∷ word)
+
+-- the name of an attribute of one of these views
+abbrev pub attr_name : List LiveView → ℕ → List ℕ
+attr_name [] attr = []
+attr_name (v ∷ views) attr = name_or v.name (word_at v.id attr) (attr_name views attr)
+
+-- a word, a number or a name, and a value
+unfoldable pub found_line : List ℕ → List ℕ → Fraction → List ℕ
+found_line word name f = word ++ (name ++ (32 ∷ (fraction_text f ++ 10 ∷ [])))
+
+-- `error P SUM`
+abbrev pub error_line : ℕ × Fraction → List ℕ
+error_line e = found_line (codes "error ") (decimal e.0) e.1
+
+-- `unmet ID ERROR`
+abbrev pub unmet_line : ℕ × Fraction → List ℕ
+unmet_line e = found_line (codes "unmet ") (decimal e.0) e.1
+
+-- `ambiguous NAME.ATTR VALUE`
+abbrev pub moving_line : List LiveView → ℕ × Fraction → List ℕ
+moving_line views m = found_line (codes "ambiguous ") (attr_name views m.0) m.1
+
+-- the lines, one after the other
+abbrev pub line_of_each : (ℕ × Fraction → List ℕ) → List (ℕ × Fraction) → List ℕ
+line_of_each line [] = []
+line_of_each line (pair ∷ more) = line pair ++ line_of_each line more
+
+abbrev pub findings_text : List LiveView → Findings → List ℕ
+findings_text views f = line_of_each error_line f.errors
+    ++ (line_of_each unmet_line f.unmet ++ line_of_each (moving_line views) f.moving)
+
+abbrev pub way_text : Bool → List ℕ
+way_text true = codes " up"
+way_text false = codes " down"
+
+-- `probe NAME.ATTR up`, or `down`
+abbrev pub probe_line : List LiveView → ℕ → Bool → List ℕ
+probe_line views attr up = codes "probe " ++ (attr_name views attr ++ (way_text up ++ 10 ∷ []))
