@@ -1,0 +1,9 @@
+pub mod FirstBlocks
+pub mod FirstFits
+pub mod SteepUnfit
+pub mod LoneFits
+pub mod Drafts
+pub mod Resolved
+pub mod Lines
+pub mod FirstSession
+pub mod LoneSessions

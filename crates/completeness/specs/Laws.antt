@@ -1,0 +1,98 @@
+-- With room each line is answered.
+use Rattle.std.specs.Prelude.{◌≡◌, ◌≢◌, ◌⊎◌, ℕ, ◌^◌, ◌<◌, ◌≤◌, true, List, []}
+use Rattle.frac_core.specs.Fraction.{Fraction}
+use Rattle.problem_core.specs.Layout.{Assignment, IsInConflict, Problem, Satisfies}
+use Rattle.cert_core.specs.declared.by.By.{By}
+use Rattle.script_text.specs.Meaning.{Meaning}
+use Rattle.script_text.specs.Meaning as mean
+use Rattle.session_undo.specs.Adding.{NoEnd, NoOther}
+use Rattle.session_undo.specs.Machine.{Finds, IsProblemOf, LeftSpends, MeaningStep, Poses, ProbeSpends}
+use Rattle.session_undo.specs.Machine.{Spends, Tried}
+use Rattle.session_undo.specs.Replies.{Conflict, Done, Reply, is_accepted}
+use Rattle.session_undo.specs.Scene.{Scene, State, first_state}
+use Rattle.completeness.specs.Room.{HasRoomToProbe, HasRoomToStep, IsLarge, IsProbed, probe_problem}
+
+-- ---- changes
+
+-- a command that makes a change, other than `undo` and `budget`
+abbrev pub IsChanging : Meaning → Type 0
+IsChanging (mean.View name parent) = Unit {0}
+IsChanging (mean.Tree text start) = Unit {0}
+IsChanging (mean.Drop name) = Unit {0}
+IsChanging (mean.Metric name value) = Unit {0}
+IsChanging (mean.Window width height) = Unit {0}
+IsChanging (mean.Constrain group line) = Unit {0}
+IsChanging (mean.Vfl group align format) = Unit {0}
+IsChanging (mean.Remove group) = Unit {0}
+IsChanging (mean.Suggest name attr value priority) = Unit {0}
+IsChanging (mean.Release name attr) = Unit {0}
+IsChanging _ = ⊥
+
+-- the required rows have a solution, and the command is accepted
+abbrev pub IsAccepted : Problem → Reply → Type 0
+IsAccepted p reply = ((x : Assignment) × Satisfies p x) × (reply ≡ Done)
+
+-- that, or they have none, and it is refused for their conflict
+abbrev pub IsDecided : Problem → Reply → Type 0
+IsDecided p reply = IsAccepted p reply ⊎ (IsInConflict p × ((by : List By) × (reply ≡ Conflict by)))
+
+-- what a command comes to, where this is its problem: views that come, and what leaves, are in no conflict
+abbrev pub ComesTo : Meaning → Problem → Reply → Type 0
+ComesTo (mean.View name parent) = IsAccepted
+ComesTo (mean.Tree text start) = IsAccepted
+ComesTo (mean.Drop name) = IsAccepted
+ComesTo (mean.Remove group) = IsAccepted
+ComesTo (mean.Release name attr) = IsAccepted
+ComesTo _ = IsDecided
+
+-- a cause is against the command
+abbrev pub IsRefused : State → Meaning → Reply → State → Type 0
+IsRefused old m = Tried old m NoEnd NoOther
+
+-- where there is room for the command's problem, a cause is against it, or it is answered so
+abbrev pub ChangesAreAnswered : Type 0
+ChangesAreAnswered = (old : State) (m : Meaning) (reply : Reply) (new : State) → IsChanging m
+    → ((p : Problem) → Poses old m p → HasRoomToStep old m p) → MeaningStep old m reply new
+    → IsRefused old m reply new ⊎ ((p : Problem) × Poses old m p × ComesTo m p reply)
+
+-- ---- other commands
+
+-- with room for each probe what is found is told
+abbrev pub ProbesAreAnswered : Type 0
+ProbesAreAnswered = (old : State) (reply : Reply) (new : State) → HasRoomToProbe old
+    → MeaningStep old mean.Diagnose reply new → Finds old reply new
+
+-- a blank line or a comment, a question, `undo` with an earlier scene, a budget within its limits
+abbrev pub NeedsNoRoom : State → Meaning → Type 0
+NeedsNoRoom old mean.Nothing = Unit {0}
+NeedsNoRoom old mean.Undo = old.earlier ≢ []
+NeedsNoRoom old (mean.Budget exchanges) = (0 < exchanges) × (exchanges ≤ 10 ^ 18)
+NeedsNoRoom old mean.Frames = Unit {0}
+NeedsNoRoom old mean.Rows = Unit {0}
+NeedsNoRoom old mean.Certify = Unit {0}
+NeedsNoRoom old _ = ⊥
+
+-- these are accepted, whatever the numbers and the budget
+abbrev pub OthersAreAccepted : Type 0
+OthersAreAccepted = (old : State) (m : Meaning) (reply : Reply) (new : State) → NeedsNoRoom old m
+    → MeaningStep old m reply new → is_accepted reply ≡ true
+
+-- ---- budgets
+
+-- no run over a draft uses up a budget that is large for it, and no probe one that is large for the probe
+pub record LargeBudgetsAreNeverSpent : Type 0 where
+  pub drafts : (old : State) (draft : Scene) (reply : Reply) (new : State)
+      → ((p : Problem) → IsProblemOf draft p → IsLarge old.budget p)
+      → Spends draft old reply new ⊎ LeftSpends draft old reply new → ⊥
+  pub probes : (old : State) (reply : Reply) (new : State)
+      → ((attr : ℕ) (f : Fraction) → IsProbed old.scene attr f
+      → IsLarge old.budget (probe_problem old.scene attr f))
+      → ProbeSpends old reply new → ⊥
+
+-- ---- the first session
+
+-- a metric is accepted there, with the budget that is there, unless a cause is against it
+abbrev pub FirstMetricsAreAccepted : Type 0
+FirstMetricsAreAccepted = (name : List ℕ) (value : Fraction) (reply : Reply) (new : State)
+    → MeaningStep first_state (mean.Metric name value) reply new
+    → IsRefused first_state (mean.Metric name value) reply new ⊎ (reply ≡ Done)

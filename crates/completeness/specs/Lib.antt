@@ -1,0 +1,4 @@
+pub mod Examples
+pub mod States
+pub mod Room
+pub mod Laws

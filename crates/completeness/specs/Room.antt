@@ -1,0 +1,76 @@
+-- What room a step needs: numbers that fit, and a budget that is large.
+use Rattle.std.specs.Prelude.{◌≡◌, ℕ, ◌+◌, ◌^◌, ◌<◌, ◌≤◌, Bool, List, [], ◌++◌, length, pos, AllPairs}
+use Rattle.frac_core.specs.Fraction.{Fraction, IsKept, IsUnfitRatio}
+use Rattle.problem_core.specs.Gaps.{value_of}
+use Rattle.problem_core.specs.Kept.{IsWhole}
+use Rattle.problem_core.specs.Layout.{HasStay, Problem, Row}
+use Rattle.corner_laws.specs.Laws.{AllFit}
+use Rattle.layout_solver.specs.Layouts.{Layout}
+use Rattle.layout_solver.specs.Removals.{CanLeave, Leaving, without, without_rows}
+use Rattle.diagnosis.specs.Probes.{IsBeside, next_num, with_probe}
+use Rattle.script_text.specs.Meaning.{Meaning}
+use Rattle.script_text.specs.Meaning as mean
+use Rattle.session_undo.specs.Leaving.{stood_of}
+use Rattle.session_undo.specs.Scene.{Scene, State, problem_of}
+
+-- the problem is one that the types can hold, and the budget is at least 4^N, where N counts rows and stays
+pub record IsLarge (budget : ℕ) (p : Problem) : Type 0 where
+  pub whole : IsWhole p
+  pub exchanges : 4 ^ (length p.rows + length p.stays) ≤ budget
+
+-- besides, each quantity fits at each corner of the problem, where these are the rows before
+pub record HasRoom (before : List Row) (budget : ℕ) (p : Problem) : Type 0 where
+  pub large : IsLarge budget p
+  pub fits : AllFit p before
+
+-- ---- changes
+
+-- for whatever leaves the scene towards this problem: each quantity fits at each corner also once the first
+-- of the leaving rows have gone, while the others are still held
+abbrev pub FitsOnTheWay : Scene → Problem → Type 0
+FitsOnTheWay scene p = (l : Leaving) → CanLeave l (stood_of scene) → AllPairs (λ a b. a < b) l.rows
+    → p ≡ without l (stood_of scene)
+    → (gone still : List ℕ) → gone ++ still ≡ l.rows
+    → AllFit (without_rows gone (stood_of scene)) scene.rows
+
+-- a removal has room, also on the way
+abbrev pub HasRoomToLeave : State → Problem → Type 0
+HasRoomToLeave old p = HasRoom old.scene.rows old.budget p × FitsOnTheWay old.scene p
+
+-- there is room for a command, where this is its problem
+abbrev pub HasRoomToStep : State → Meaning → Problem → Type 0
+HasRoomToStep old (mean.Drop name) = HasRoomToLeave old
+HasRoomToStep old (mean.Remove group) = HasRoomToLeave old
+HasRoomToStep old (mean.Release name attr) = HasRoomToLeave old
+HasRoomToStep old _ = HasRoom old.scene.rows old.budget
+
+-- ---- probes
+
+-- the scene as a layout, of which probes see the problem and the values alone
+abbrev pub layout_in : Scene → Layout
+layout_in scene = record { problem = problem_of scene; values = scene.values; corner = []; earlier = [] }
+
+-- the scene's problem with the row of a probe that wishes this attribute at f
+abbrev pub probe_problem : Scene → ℕ → Fraction → Problem
+probe_problem scene attr f = with_probe (layout_in scene) attr f
+
+-- the attribute's value
+abbrev pub value_in : Scene → ℕ → Fraction
+value_in scene attr = value_of scene.values attr
+
+-- the attribute has a stay, and f is its value and 1, or less 1
+pub record IsProbed (scene : Scene) (attr : ℕ) (f : Fraction) : Type 0 where
+  pub stays : HasStay scene.stays attr
+  pub kept : IsKept f
+  pub up : Bool
+  pub beside : IsBeside up (value_in scene attr) f
+
+-- the value that a probe would wish doesn't fit
+abbrev pub LacksWish : Scene → ℕ → Bool → Type 0
+LacksWish scene attr up = IsUnfitRatio (next_num up (value_in scene attr)) (pos (value_in scene attr).den)
+
+-- for each attribute, above and below: the wished value fits, and the probe's problem has room
+pub record HasRoomToProbe (old : State) : Type 0 where
+  pub wishes : (attr : ℕ) (up : Bool) → HasStay old.scene.stays attr → LacksWish old.scene attr up → ⊥
+  pub rooms : (attr : ℕ) (f : Fraction) → IsProbed old.scene attr f
+      → HasRoom old.scene.rows old.budget (probe_problem old.scene attr f)

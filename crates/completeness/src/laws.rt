@@ -1,0 +1,64 @@
+// The laws of completeness, each the contract of a function that does nothing.
+ghost use Rattle.std.specs.Prelude.{List, []};
+ghost use Rattle.problem_core.specs.Layout.{Problem, Row};
+ghost use Rattle.corner_laws.specs.Laws.{AllFit};
+ghost use Rattle.script_text.specs.Meaning as mean;
+ghost use Rattle.session_undo.specs.Machine.{Poses};
+ghost use Rattle.session_undo.specs.Scene.{first_scene, problem_of};
+ghost use Rattle.completeness.specs.Examples.{bare, steep};
+ghost use Rattle.completeness.specs.States.{far_state, free_state, held_state};
+ghost use Rattle.completeness.specs.Room.{HasRoomToProbe, HasRoomToStep};
+ghost use Rattle.completeness.specs.Laws.{ChangesAreAnswered, FirstMetricsAreAccepted};
+ghost use Rattle.completeness.specs.Laws.{LargeBudgetsAreNeverSpent, OthersAreAccepted, ProbesAreAnswered};
+
+/// Where there is room for the problem of a command that makes a change, a cause is against it, or it is
+/// accepted where the required rows have a solution, and refused for their conflict where they have none.
+/// Views that come, and what leaves, are accepted.
+pub fn changes_are_answered()
+    ensures { ChangesAreAnswered }
+{}
+
+/// Where there is room for each probe, `diagnose` tells what is found.
+pub fn probes_are_answered()
+    ensures { ProbesAreAnswered }
+{}
+
+/// A comment, a question, `undo` with an earlier scene, and a budget within its limits are accepted, whatever
+/// the numbers and the budget are.
+pub fn others_are_accepted()
+    ensures { OthersAreAccepted }
+{}
+
+/// No run uses up a budget of at least 4^N, where N counts the rows and stays of its problem.
+pub fn large_budgets_are_never_spent()
+    ensures { LargeBudgetsAreNeverSpent }
+{}
+
+/// At each corner of the first scene's problem each quantity fits.
+pub fn first_scene_fits()
+    ensures { AllFit (problem_of first_scene) first_scene.rows }
+{}
+
+/// Where the height is 2^30 times a width that was 4096 before, some quantity doesn't fit at some corner.
+pub fn steep_problem_does_not_fit()
+    ensures { (before : List Row) → AllFit steep before → ⊥ }
+{}
+
+/// In the first session, with the budget that it has, a metric is accepted unless a cause is against it.
+pub fn first_metrics_are_accepted()
+    ensures { FirstMetricsAreAccepted }
+{}
+
+/// Where one attribute is 0 and has no row, its probes have room; where it has the greatest value that fits,
+/// they haven't.
+pub fn some_probes_have_room()
+    ensures has { HasRoomToProbe free_state }
+    ensures lacks { HasRoomToProbe far_state → ⊥ }
+{}
+
+/// Where one attribute has a row, by a line of a group, there is room for the group's removal.
+pub fn some_removals_have_room()
+    ensures has { (p : Problem) → Poses held_state (mean.Remove []) p
+        → HasRoomToStep held_state (mean.Remove []) p }
+    ensures some { Poses held_state (mean.Remove []) bare }
+{}

@@ -1,0 +1,13 @@
+//! What a line comes to where there is room: where no quantity fails to fit at any corner of its problem, and
+//! the budget is at least 4^N, with N rows and stays.
+//!
+//! Each law is the contract of a function that does nothing; its statement stands in `specs/`.
+#![tactic(auto)]
+
+mod laws;
+
+pub use laws::{
+    changes_are_answered, first_metrics_are_accepted, first_scene_fits,
+    large_budgets_are_never_spent, others_are_accepted, probes_are_answered, some_probes_have_room,
+    some_removals_have_room, steep_problem_does_not_fit,
+};
