@@ -21,3 +21,6 @@ pub mod LevelTexts
 pub mod CutPlaces
 pub mod ClaimRoundTrip
 pub mod SeenStays
+pub mod ClaimForms
+pub mod ProblemForms
+pub mod FormExamples

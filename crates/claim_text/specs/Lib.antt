@@ -8,3 +8,6 @@ pub mod Cut
 pub mod CutLines
 pub mod PathTexts
 pub mod Seen
+pub mod ClaimForms
+pub mod ProblemForms
+pub mod FormExamples

@@ -1,0 +1,5 @@
+use Rattle.claim_text.proofs.ProblemForms.{problems-are-the-form}
+use Rattle.claim_text.proofs.form_laws.problems_are_the_form.Goals as goal
+
+pub returns : goal.returns
+returns c = problems-are-the-form
