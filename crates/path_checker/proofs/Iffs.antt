@@ -3,10 +3,10 @@ use Rattle.std.proofs.Common.{◌≡◌, ◌≢◌, ◌↔◌, ℕ, ◌+◌, ◌
 use Rattle.std.proofs.lemmas.List.{get_or_append_left, get_or_push}
 use Rattle.std.proofs.lemmas.Bool.{cases_eq}
 
-yes : IsTrue true
+pub yes : IsTrue true
 yes = search rules
 
-never_true : IsTrue false → ⊥
+pub never_true : IsTrue false → ⊥
 never_true wrong = search rules
 
 pub never : {P : Type 0} (b : Bool) → b ≡ false → (P → ⊥) → IsTrue b ↔ P

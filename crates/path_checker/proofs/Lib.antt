@@ -18,7 +18,17 @@ pub mod TakenMarks
 pub mod GivingWay
 pub mod Iffs
 pub mod FirstCorner
+pub mod FirstLines
+pub mod WayLines
+pub mod WaySteps
+pub mod WayBegins
+pub mod Following
+pub mod Pigeons
+pub mod FirstClauses
 pub mod Walks
 pub mod Leading
 pub mod SideExamples
 pub mod WayExamples
+pub mod Instances
+pub mod Values
+pub mod ValueClauses

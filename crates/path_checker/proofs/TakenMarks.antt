@@ -4,7 +4,8 @@ use Rattle.std.specs.Prelude.{slice_index_or}
 use Rattle.std.specs.List.{AllByRecursion as Each}
 use Rattle.std.proofs.lemmas.Bool.{cases_eq}
 use Rattle.std.proofs.lemmas.List.{get_or-replicate, length-map, length-replicate}
-use Rattle.std.proofs.lemmas.List.Elements.{recursion_from_All}
+use Rattle.std.proofs.lemmas.List.Elements.{All-push, recursion_from_All}
+use Rattle.std.proofs.lemmas.List.Kept.{AllPairs-cons}
 use Rattle.problem_core.specs.declared.parts.Mark.{Mark}
 use Rattle.problem_core.specs.declared.parts.RowName.{RowName}
 use Rattle.problem_core.specs.declared.parts.RowName.TheVariants.{Held}
@@ -119,3 +120,17 @@ pub no_line : (p : Problem) (names : List RowName) (taken rest : List Mark) (mar
 no_line p names taken rest mark same none corner =
     let k : (k : ℕ) × (k < line_count p) × (name_at p k ≡ mark.row) = inside_place p (taken ++ mark ∷ rest) mark corner (mid_in taken mark rest) in
     none k.0 (Held 0) (omega (arith, k.1, ap (λ (z : List RowName). length z) same, length-map (lines p) (λ (l : Line). l.name))) (ap (λ (z : List RowName). slice_index_or z k.0 (Held 0)) same ∙ k.2)
+
+-- ---- one more is another one
+
+pub was_free : (p : Problem) (names : List RowName) (taken : List Mark) (mark : Mark) (spot : Spot) (sides : List (Option Side)) → names ≡ names_of p → IsSpotOf names mark spot → slice_index_or sides spot.at None ≡ None → AreSides p taken sides → IsIn (place mark) taken → ⊥
+was_free p names taken mark spot sides same is free are i =
+    let there : (spot.at < line_count p) × (name_at p spot.at ≡ mark.row) = spot_in p names mark spot same is in
+    none_some mark.side (sym free ∙ (are.each spot.at mark.side there.0).1 (subst (λ (n : RowName). IsIn (place_of n mark.side) taken) (sym there.1) i))
+
+pub apart_more : (taken : List Mark) (m : Mark) → AllPairs (λ a b. place a ≢ place b) taken → (IsIn (place m) taken → ⊥) → AllPairs (λ a b. place a ≢ place b) (taken ++ m ∷ [])
+apart_more [] m apart out = AllPairs-cons (λ a b. place a ≢ place b) m [] (λ k d within. absurd (omega (arith, within))) (λ i j d before within. absurd (omega (arith, before, within)))
+apart_more (x ∷ xs) m apart out =
+    AllPairs-cons (λ a b. place a ≢ place b) x (xs ++ m ∷ [])
+    (All-push (λ b. place x ≢ place b) xs m (head_pairs (λ (a b : Mark). place a ≢ place b) x xs apart) (λ e. out (0, omega arith, e)))
+    (apart_more xs m (tail_pairs (λ (a b : Mark). place a ≢ place b) x xs apart) (λ i. out (let j = i in (suc j.0, omega (arith, j.1), j.2))))

@@ -17,7 +17,7 @@ use Rattle.path_checker.proofs.SidesApart.{none_some}
 
 -- ---- the over mark of `x >= 5` alone, beside the stay
 
-abbrev over_alone : List (Option Side)
+abbrev pub over_alone : List (Option Side)
 over_alone = Some Over ∷ None ∷ []
 
 abbrev IsOver : Option Side → Type 0
@@ -35,7 +35,7 @@ each_line (suc zero) Under here = (λ e. absurd (none_some Under e), λ i. absur
 each_line (suc zero) Over here = (λ e. absurd (none_some Over e), λ i. absurd (alone-in over_row 7 (no 7 5 (inr (omega arith))) i))
 each_line (suc (suc k)) side here = absurd (omega (arith, here))
 
-over_is : AreSides (single 5) (over_row ∷ []) over_alone
+pub over_is : AreSides (single 5) (over_row ∷ []) over_alone
 over_is = record { count = refl; each = each_line }
 
 none_is_not : AreSides (single 5) (over_row ∷ []) (None ∷ None ∷ []) → ⊥

@@ -4,8 +4,12 @@ pub mod Carried
 pub mod CarriedLevels
 pub mod Pivots
 pub mod Route
+pub mod FirstLines
+pub mod Ways
 pub mod Room
 pub mod PathClauses
 pub mod Laws
 pub mod Sides
 pub mod Bringing
+pub mod Instances
+pub mod Values

@@ -7,6 +7,7 @@ ghost use Rattle.path_checker.specs.Tables.{TurnedLinesAre};
 ghost use Rattle.path_checker.specs.Sides.{ApartBySides};
 ghost use Rattle.path_checker.specs.Laws.{BeginsThere, ExchangeNeedsNumber, NoneGivesWay, OneMarkOfLine};
 ghost use Rattle.path_checker.specs.Laws.{YesIsPath};
+ghost use Rattle.path_checker.specs.Instances.{SomePathsHold};
 
 /// The leaving line's numbers, solved for the entering line, are the pivot.
 pub fn leaving_is_pivot()
@@ -74,4 +75,9 @@ pub fn one_mark_of_line()
 /// its last corner.
 pub fn yes_is_path()
     ensures { YesIsPath }
+{}
+
+/// The words of the first four clauses hold of some small paths, and fail of others.
+pub fn some_paths_hold()
+    ensures { SomePathsHold }
 {}

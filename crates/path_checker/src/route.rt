@@ -3,7 +3,8 @@ ghost use Rattle.std.specs.Prelude.{◌≡◌, ◌↔◌, ◌<◌, ◌++◌, [],
 ghost use Rattle.std.specs.Prelude.{false, All, Any, IfOk, IfSome, IfNone, IsTrue, Some, None};
 ghost use Rattle.problem_core.specs.Layout.{Problem};
 ghost use Rattle.problem_core.specs.Kept.{IsWhole};
-ghost use Rattle.problem_core.specs.Corners.{IsCorner};
+ghost use Rattle.problem_core.specs.Corners.{IsCorner, IsIn, place};
+ghost use Rattle.std.specs.Prelude.{◌≢◌, AllPairs};
 ghost use Rattle.problem_core.specs.declared.parts.Mark.{Mark};
 ghost use Rattle.path_checker.specs.Bringing.{IsBringing, MayGive, NoneGives, NothingBrings};
 ghost use Rattle.path_checker.specs.Sides.{ComesTwice, IsWithin, moved_sides, walk};
@@ -16,8 +17,8 @@ use frac_core::OutOfMemory;
 use problem_core::{Mark, RowName, Side};
 use std::alloc::Global;
 
-// The marks inside after an exchange.
-fn moved(sides: &mut [Option<Side>], step: Step)
+/// The marks inside after an exchange.
+pub fn moved(sides: &mut [Option<Side>], step: Step)
     requires { IsWithin (length sides.old) step }
     ensures sides { sides.new ≡ moved_sides step sides.old }
     ensures count { length sides.new ≡ length sides.old }
@@ -26,8 +27,8 @@ fn moved(sides: &mut [Option<Side>], step: Step)
     sides[step.enter.at] = Some(step.enter.side);
 }
 
-// Whether it is the same side.
-fn is_one(a: Option<Side>, b: Option<Side>) -> bool
+/// Whether it is the same side.
+pub fn is_one(a: Option<Side>, b: Option<Side>) -> bool
     ensures { IsTrue result ↔ (a ≡ b) }
 {
     a == b
@@ -106,6 +107,8 @@ fn take_mark(names: &[RowName], sides: &mut [Option<Side>], mark: Mark) -> bool
     ensures count { length sides.new ≡ length sides.old }
     ensures taken { result ≡ true → (p : Problem) (taken : List Mark) → IsWhole p → names.now ≡ names_of p
         → AreSides p taken sides.old → AreSides p (taken ++ mark ∷ []) sides.new }
+    ensures fresh { result ≡ true → (p : Problem) (taken : List Mark) → IsWhole p → names.now ≡ names_of p
+        → AreSides p taken sides.old → IsIn (place mark) taken → ⊥ }
     ensures refused { result ≡ false → (p : Problem) (taken rest : List Mark) → IsWhole p
         → names.now ≡ names_of p → AreSides p taken sides.old → IsCorner p (taken ++ mark ∷ rest) → ⊥ }
 {
@@ -127,6 +130,8 @@ pub fn sides_of(
 ) -> Result<Option<Vec<Option<Side>>>, OutOfMemory>
     ensures some { IfOk result (λ sides. IfSome sides (λ s. (p : Problem) → IsWhole p → names.now ≡ names_of p
         → AreSides p marks.now s.items)) }
+    ensures apart { IfOk result (λ sides. IfSome sides (λ _. (p : Problem) → IsWhole p
+        → names.now ≡ names_of p → AllPairs (λ m n. place m ≢ place n) marks.now)) }
     ensures none { IfOk result (λ sides. IfNone sides ((p : Problem) → IsWhole p → names.now ≡ names_of p
         → IsCorner p marks.now → ⊥)) }
 {

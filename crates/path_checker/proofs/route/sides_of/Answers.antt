@@ -1,8 +1,9 @@
-use Rattle.std.proofs.Common.{◌≡◌, ◌∙◌, ◌++◌, ◌+◌, List, Option, take, drop, length, ap, subst, sym}
+use Rattle.std.proofs.Common.{◌≡◌, ◌≢◌, ◌∙◌, AllPairs, ◌++◌, ◌+◌, List, Option, take, drop, length, ap, subst, sym}
 use Rattle.std.proofs.lemmas.List.{take_more}
 use Rattle.problem_core.specs.declared.parts.Side.{Side}
 use Rattle.problem_core.specs.declared.parts.Mark.{Mark}
-use Rattle.problem_core.specs.Corners.{IsCorner}
+use Rattle.problem_core.specs.Corners.{IsCorner, place}
+use Rattle.path_checker.proofs.TakenMarks.{apart_more}
 use Rattle.path_checker.specs.Tables.{AreSides}
 use Rattle.path_checker.proofs.Walks.{settled, split_there}
 use Rattle.path_checker.proofs.route.sides_of.Goals as goal
@@ -23,4 +24,9 @@ loop-mark-preserved c =
           subst (λ (ms : List Mark). AreSides p ms c.take_mark.new.sides) (sym (take_more c.args.marks.now c.loop-mark.mark-index _ c.loop-mark-test.true))
           (c.take_mark.ensures.taken c.if-not-take_mark.false p (take c.loop-mark.mark-index c.args.marks.now) whole same
           (subst (λ (s : List (Option Side)). AreSides p (take c.loop-mark.mark-index c.args.marks.now) s) (sym c.deref_mut.ensures.value) (c.loop-mark.invariant.taken p whole same)));
+      apart = λ p whole same.
+          subst (λ (ms : List Mark). AllPairs (λ m n. place m ≢ place n) ms) (sym (take_more c.args.marks.now c.loop-mark.mark-index _ c.loop-mark-test.true))
+          (apart_more (take c.loop-mark.mark-index c.args.marks.now) _ (c.loop-mark.invariant.apart p whole same)
+          (c.take_mark.ensures.fresh c.if-not-take_mark.false p (take c.loop-mark.mark-index c.args.marks.now) whole same
+          (subst (λ (s : List (Option Side)). AreSides p (take c.loop-mark.mark-index c.args.marks.now) s) (sym c.deref_mut.ensures.value) (c.loop-mark.invariant.taken p whole same))));
     })

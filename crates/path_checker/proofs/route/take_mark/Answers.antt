@@ -1,7 +1,7 @@
 use Rattle.std.proofs.Common.{◌≡◌, true, false, true≢false, Option, None, Some, is_some, rules, refl, sym}
 use Rattle.std.specs.Prelude.{slice_index_or}
 use Rattle.problem_core.specs.declared.parts.Side.{Side}
-use Rattle.path_checker.proofs.TakenMarks.{no_line, one_more_taken, taken_line}
+use Rattle.path_checker.proofs.TakenMarks.{no_line, one_more_taken, taken_line, was_free}
 use Rattle.path_checker.proofs.route.take_mark.Goals as goal
 
 some_of : (o : Option Side) → is_some o ≡ true → (side : Side) × (o ≡ Some side)
@@ -26,3 +26,8 @@ returns-clause-taken c =
     let free : is_some (slice_index_or c.args.sides.now c.in-Some.spot.at None) ≡ false = search rules in
     λ right p taken whole same are.
     one_more_taken p c.args.names.now taken c.args.mark c.in-Some.spot c.args.sides.now whole same c.in-Some.ensures.some (none_of (slice_index_or c.args.sides.now c.in-Some.spot.at None) free) are
+
+pub returns-clause-fresh : goal.returns-clause-fresh
+returns-clause-fresh c =
+    let free : is_some (slice_index_or c.args.sides.now c.in-Some.spot.at None) ≡ false = search rules in
+    λ right p taken whole same are i. was_free p c.args.names.now taken c.args.mark c.in-Some.spot c.args.sides.now same c.in-Some.ensures.some (none_of (slice_index_or c.args.sides.now c.in-Some.spot.at None) free) are i

@@ -1,0 +1,14 @@
+use Rattle.std.proofs.Common.{refl, pos, negsuc, subst}
+use Rattle.frac_core.specs.Fraction.{Fraction, IsRatio, IsUnfitRatio, sum_den, sum_num}
+use Rattle.path_checker.proofs.FirstLines.{row_sum, row_unfit}
+use Rattle.path_checker.proofs.first.first_sum.Goals as goal
+
+pub returns-in_default-clause-unfit : goal.returns-in_default-clause-unfit
+returns-in_default-clause-unfit c = λ same.
+    row_unfit c.args.p.now c.args.r.now c.in_ok-sum.sum.by.items c.in_ok-sum.sum.value c.show_whole.ensures c.requires c.show_row.ensures c.in_ok-sum.ensures.sum
+    (subst (λ (f : Fraction). IsUnfitRatio (sum_num c.in_ok-sum.sum.value (negsuc 0) (pos 1) f) (sum_den c.in_ok-sum.sum.value (pos 1) f)) c.constant.ensures c.in_default.ensures.unfit)
+
+pub returns-clause-sum : goal.returns-clause-sum
+returns-clause-sum c =
+    row_sum c.args.p.now c.args.r.now c.in_ok-sum.sum.by.items c.in_ok-sum.sum.value _ c.show_whole.ensures c.requires c.show_row.ensures c.in_ok-sum.ensures.sum refl refl c.in-Ok.ensures.lowest
+    (subst (λ (f : Fraction). IsRatio c.in-Ok.value (sum_num c.in_ok-sum.sum.value (negsuc 0) (pos 1) f) (sum_den c.in_ok-sum.sum.value (pos 1) f)) c.constant.ensures c.in-Ok.ensures.value)

@@ -1,0 +1,5 @@
+use Rattle.path_checker.specs.FirstLines.{AreFirstLines}
+use Rattle.path_checker.proofs.first.held_lines.Given as goal
+
+abbrev pub invariant-loop-r : goal.invariant-loop-r
+invariant-loop-r l = AreFirstLines l.p l.r-index l.out.items

@@ -1,0 +1,76 @@
+-- Small paths for the words of the first four clauses: x with its stay at 0, and one required row `x >= k`.
+use Rattle.std.specs.Prelude.{◌≡◌, false, List, [], ◌∷◌, None, Some}
+use Rattle.problem_core.specs.declared.parts.Side.TheVariants.{Under, Over}
+use Rattle.problem_core.specs.Corners.{Swap}
+use Rattle.cert_core.specs.Paths.{Path}
+use Rattle.corner_laws.specs.Examples.{over_row, over_stay, single, under_row}
+use Rattle.path_checker.specs.declared.spots.Step.{Step}
+use Rattle.path_checker.specs.declared.verdict.PathVerdict.TheVariants.{Yes, No}
+use Rattle.path_checker.specs.declared.way.Way.{Way}
+use Rattle.path_checker.specs.FirstLines.{HasUnfitFirst}
+use Rattle.path_checker.specs.Values.{IsValueVerdict}
+use Rattle.path_checker.specs.Ways.{AreFollowed, IsExchangeVerdict, IsWayAt}
+
+-- x goes to its bound
+abbrev pub to_bound : Swap
+to_bound = record { enter = over_stay; leave = under_row }
+
+-- and back
+abbrev pub from_bound : Swap
+from_bound = record { enter = under_row; leave = over_stay }
+
+-- these exchanges from where x stands at its stay
+abbrev pub going : List Swap → Path
+going swaps = record { dual = false; corner = under_row ∷ []; swaps = swaps }
+
+-- the same two by the places of the lines
+abbrev pub to_bound_step : Step
+to_bound_step = record { enter = record { at = 1; side = Over }; leave = record { at = 0; side = Under } }
+
+-- nothing is kept, and the row's over mark is inside
+pub record HasBegun (way : Way) : Type 0 where
+  pub step : way.kept.step ≡ None
+  pub count : way.kept.count ≡ 0
+  pub sides : way.sides.items ≡ Some Over ∷ None ∷ []
+
+-- whether all sums of first terms fit where the route begins
+pub record SomeFirstFit : Type 0 where
+  pub large : HasUnfitFirst (single 4398046511104)
+  pub small : HasUnfitFirst (single 5) → ⊥
+
+-- where the way is, and where it isn't
+pub record SomeWays : Type 0 where
+  pub begun : (way : Way) → HasBegun way → IsWayAt (single 5) (going []) [] (under_row ∷ []) way
+  pub not_there : (way : Way) → HasBegun way → IsWayAt (single 5) (going []) (under_row ∷ []) [] way → ⊥
+  pub followed : AreFollowed (single 5) (going (to_bound ∷ [])) (to_bound_step ∷ [])
+  pub one_is_left : AreFollowed (single 5) (going (to_bound ∷ [])) [] → ⊥
+  pub no_exchange : (steps : List Step) → AreFollowed (single 5) (going (from_bound ∷ [])) steps → ⊥
+
+-- a lawful path, one without a corner, one with a swap that is no exchange, and one that comes back
+pub record SomeVerdicts : Type 0 where
+  pub lawful : IsExchangeVerdict (single 5) (going (to_bound ∷ [])) Yes
+  pub no_mark : IsExchangeVerdict (single 5) (record { dual = false; corner = []; swaps = [] }) (No 9)
+  pub no_mark_not : IsExchangeVerdict (single 5) (record { dual = false; corner = []; swaps = [] }) Yes → ⊥
+  pub no_exchange : IsExchangeVerdict (single 5) (going (from_bound ∷ [])) (No 10)
+  pub no_exchange_not : IsExchangeVerdict (single 5) (going (from_bound ∷ [])) Yes → ⊥
+  pub back : IsExchangeVerdict (single 5) (going (to_bound ∷ from_bound ∷ [])) (No 11)
+  pub back_not : IsExchangeVerdict (single 5) (going (to_bound ∷ from_bound ∷ [])) Yes → ⊥
+  pub lawful_not : IsExchangeVerdict (single 5) (going (to_bound ∷ [])) (No 10) → ⊥
+
+-- where the row's over mark is inside, its value is below 0
+abbrev pub below_bound : Path
+below_bound = record { dual = false; corner = over_row ∷ []; swaps = [] }
+
+-- a path without a negative value, and one with one
+pub record SomeValues : Type 0 where
+  pub sound : IsValueVerdict (single 5) (going (to_bound ∷ [])) Yes
+  pub sound_not : IsValueVerdict (single 5) (going (to_bound ∷ [])) (No 12) → ⊥
+  pub negative : IsValueVerdict (single 5) below_bound (No 12)
+  pub negative_not : IsValueVerdict (single 5) below_bound Yes → ⊥
+
+-- the words of the first clauses hold in some small cases, and fail in others
+pub record SomePathsHold : Type 0 where
+  pub first : SomeFirstFit
+  pub ways : SomeWays
+  pub verdicts : SomeVerdicts
+  pub values : SomeValues

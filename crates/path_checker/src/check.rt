@@ -1,0 +1,108 @@
+// The first clauses of a path.
+ghost use Rattle.std.specs.Prelude.{◌≡◌, ◌≢◌, ◌<◌, ◌≤◌, ◌+◌, ◌^◌, false, length, AllPairs, IfOk, IfErr};
+ghost use Rattle.problem_core.specs.Corners.{place};
+ghost use Rattle.path_checker.specs.Tables.{AreSides, line_count, names_of};
+ghost use Rattle.path_checker.specs.Values.{IsValueVerdict};
+ghost use Rattle.path_checker.specs.Ways.{IsArrived, IsEnded, IsExchangeVerdict, IsMarkStop, IsUsableWay};
+
+use crate::route::{comes_twice, sides_of};
+use crate::spots::names;
+use crate::verdict::PathVerdict;
+use crate::walk::go_along;
+use crate::way::{Way, WayStop, follow, to_corner};
+use cert_core::Path;
+use frac_core::OutOfMemory;
+use problem_core::{Problem, RowName, Side};
+use std::alloc::Global;
+
+// The answer where a way ends early: this clause fails, or there is no room.
+fn ended(stop: WayStop, clause: u32) -> Result<PathVerdict, OutOfMemory>
+    ensures { IfOk result (IsEnded stop clause) }
+{
+    match stop {
+        WayStop::Fails => Ok(PathVerdict::No(clause)),
+        WayStop::NoRoom(count) => Ok(PathVerdict::NoRoom(count)),
+        WayStop::OutOfMemory => Err(OutOfMemory),
+    }
+}
+
+// The way to a path's first corner, where so many different marks are given as there are rows.
+fn arrive(
+    alloc: Global,
+    p: &Problem,
+    names: &[RowName],
+    path: &Path,
+    wanted: &[Option<Side>],
+) -> Result<Way, WayStop>
+    requires names { names.now ≡ names_of p.now }
+    requires wanted { AreSides p.now path.now.corner wanted.now }
+    requires count { length path.now.corner < 2 ^ 31 }
+    requires rows { length path.now.corner ≡ length p.now.rows }
+    requires apart { AllPairs (λ m n. place m ≢ place n) path.now.corner }
+    ensures usable { IfOk result (IsUsableWay (line_count p.now)) }
+    ensures count { IfOk result (λ way. way.kept.count ≤ length path.now.corner) }
+    ensures arrived { IfOk result (IsArrived p.now path.now) }
+    ensures stop { IfErr result (IsMarkStop p.now path.now) }
+{
+    to_corner(alloc, p, names, path, wanted)
+}
+
+/// The first three clauses of a path: its first marks are a corner, its swaps are exchanges, and no corner
+/// comes twice.
+pub fn check_exchanges(alloc: Global, p: &Problem, path: &Path) -> Result<PathVerdict, OutOfMemory>
+    requires { length path.now.corner + length path.now.swaps < 2 ^ 31 }
+    ensures { IfOk result (IsExchangeVerdict p.now path.now) }
+{
+    p.show_whole();
+    if path.corner().len() != p.rows().len() {
+        return Ok(PathVerdict::No(9));
+    }
+    let names = names(alloc, p)?;
+    let Some(wanted) = sides_of(alloc, &names, path.corner())? else {
+        return Ok(PathVerdict::No(9));
+    };
+    let way = match arrive(alloc, p, &names, path, &wanted) {
+        Ok(way) => way,
+        Err(stop) => return ended(stop, 9),
+    };
+    let steps = match follow(alloc, p, &names, path, way) {
+        Ok(steps) => steps,
+        Err(stop) => return ended(stop, 10),
+    };
+    if comes_twice(alloc, &wanted, &steps)? {
+        return Ok(PathVerdict::No(11));
+    }
+    Ok(PathVerdict::Yes)
+}
+
+/// The first four clauses of a primal path that is shown without a quantity: besides, no value is negative
+/// at any of its corners.
+pub fn check_values(alloc: Global, p: &Problem, path: &Path) -> Result<PathVerdict, OutOfMemory>
+    requires count { length path.now.corner + length path.now.swaps < 2 ^ 31 }
+    requires primal { path.now.dual ≡ false }
+    ensures { IfOk result (IsValueVerdict p.now path.now) }
+{
+    p.show_whole();
+    if path.corner().len() != p.rows().len() {
+        return Ok(PathVerdict::No(9));
+    }
+    let names = names(alloc, p)?;
+    let Some(wanted) = sides_of(alloc, &names, path.corner())? else {
+        return Ok(PathVerdict::No(9));
+    };
+    let way = match arrive(alloc, p, &names, path, &wanted) {
+        Ok(way) => way,
+        Err(stop) => return ended(stop, 9),
+    };
+    let along = match go_along(alloc, p, &names, path, way) {
+        Ok(along) => along,
+        Err(stop) => return ended(stop, 10),
+    };
+    if comes_twice(alloc, &wanted, &along.steps)? {
+        return Ok(PathVerdict::No(11));
+    }
+    if !along.is_up {
+        return Ok(PathVerdict::No(12));
+    }
+    Ok(PathVerdict::Yes)
+}

@@ -1,0 +1,144 @@
+// The lines of the corner where the route begins.
+ghost use Rattle.std.specs.Prelude.{◌≡◌, ◌≢◌, ◌≤◌, ◌<◌, ◌+◌, ◌^◌, ◌+ℤ◌, ℕ, pos, length, set, unsigned_abs};
+ghost use Rattle.std.specs.Prelude.{All, Any, IfOk, IfErr, IfSome, IfNone, get_or};
+ghost use Rattle.std.specs.List.{HoldsAt};
+ghost use Rattle.frac_core.specs.Fraction.{Fraction};
+ghost use Rattle.problem_core.specs.Kept.{IsTerm};
+ghost use Rattle.problem_core.specs.Layout.{Row};
+ghost use Rattle.problem_core.specs.declared.parts.RowName.TheVariants.{Held};
+ghost use Rattle.problem_core.specs.declared.parts.Term.{Term};
+ghost use Rattle.path_checker.specs.FirstLines.{HasUnfitTerms, IsOneTermMore, IsRowOf, IsTermTooMuch};
+ghost use Rattle.path_checker.specs.FirstLines.{AreFirstLines, HasUnfitFirst, IsTermsSum};
+ghost use Rattle.path_checker.specs.Numbers.{number_at};
+ghost use Rattle.path_checker.specs.Route.{over_marks};
+ghost use Rattle.path_checker.specs.Tables.{AreLines, AreSized, IsSized, IsSumOf, line_count};
+ghost use Rattle.path_checker.specs.declared.stop.SumStop.TheVariants.{OutOfMemory};
+ghost use Rattle.path_checker.specs.declared.stop.SumStop.TheVariants as stops;
+
+use crate::stop::SumStop;
+use crate::table::{Inside, Sum};
+use frac_core::Frac;
+use problem_core::{Problem, Row, Side, Stay, Term};
+use std::alloc::Global;
+
+// A sum of terms: its number for each line, and its value.
+#[derive(Debug, Drop)]
+struct Terms {
+    by: Vec<i64>,
+    value: Frac,
+}
+
+// The place of the attribute's stay among the stays.
+fn stay_of(stays: &[Stay], attr: u32) -> Option<usize>
+    ensures within { IfSome result (λ k. k < length stays.now) }
+    ensures found { IfSome result (HoldsAt (λ s. s.attr ≡ attr) stays.now) }
+    ensures none { IfNone result (All (λ s. s.attr ≢ attr) stays.now) }
+{
+    stays.iter().position(|s| s.attr == attr)
+}
+
+// The list with a number added at the place.
+fn raised(numbers: Vec<i64>, at: usize, number: i64) -> Vec<i64>
+    requires at { at < length numbers.items }
+    requires numbers { All (λ z. unsigned_abs z ≤ 2 ^ 40) numbers.items }
+    requires number { unsigned_abs number ≤ 2 ^ 30 }
+    ensures { result.items ≡ set numbers.items at (number_at numbers.items at +ℤ number) }
+{
+    let mut out = numbers;
+    out[at] += number;
+    out
+}
+
+// The sum with one term more, or that does not fit.
+fn with_term(p: &Problem, sum: Terms, term: Term) -> Result<Terms, SumStop>
+    requires count { length sum.by.items ≡ line_count p.now }
+    requires small { All (λ z. unsigned_abs z ≤ 2 ^ 40) sum.by.items }
+    requires term { IsTerm term }
+    ensures next { IfOk result (IsOneTermMore p.now term sum) }
+    ensures unfit { IfErr result (λ stop. stop ≡ stops.Unfit → IsTermTooMuch p.now term sum) }
+{
+    p.show_whole();
+    let Some(at) = stay_of(p.stays(), term.attr) else {
+        return Err(SumStop::Unfit);
+    };
+    let target = p.stays()[at].target;
+    let Ok(value) = Frac::mul_add(sum.value, term.by, 1, target) else {
+        return Err(SumStop::Unfit);
+    };
+    let by = raised(sum.by, p.rows().len() + at, term.by);
+    Ok(Terms { by, value })
+}
+
+// The number 0 for each line.
+fn zeros(alloc: Global, count: usize) -> Result<Vec<i64>, SumStop>
+    ensures count { IfOk result (λ out. length out.items ≡ count) }
+    ensures zeros { IfOk result (λ out. All (λ z. z ≡ pos 0) out.items) }
+    ensures memory { IfErr result (λ stop. stop ≡ OutOfMemory) }
+{
+    let mut out = Vec::with_capacity(alloc, count)?;
+    for _ in 0..count {
+        out.push(0)?;
+    }
+    Ok(out)
+}
+
+// The sum of a row's terms, or a sum of its first ones does not fit.
+fn terms_of(alloc: Global, p: &Problem, r: &Row) -> Result<Terms, SumStop>
+    requires { IsRowOf p.now r.now }
+    ensures sum { IfOk result (λ sum. IsTermsSum p.now r.now (length r.now.terms) sum.by.items sum.value) }
+    ensures unfit { IfErr result (λ stop. stop ≡ stops.Unfit → HasUnfitTerms p.now r.now) }
+{
+    r.show_row();
+    let value = Frac::zero();
+    let by = zeros(alloc, p.rows().len() + p.stays().len())?;
+    let mut sum = Terms { by, value };
+    for term in r.terms() {
+        sum = with_term(p, sum, *term)?;
+    }
+    Ok(sum)
+}
+
+/// A row's sum at the corner where the route begins, or one of its first terms there does not fit, or the
+/// whole sum less the constant.
+pub fn first_sum(alloc: Global, p: &Problem, r: &Row) -> Result<Sum, SumStop>
+    requires { IsRowOf p.now r.now }
+    ensures sum { IfOk result (IsSumOf p.now (over_marks p.now) (Held r.now.id)) }
+    ensures unfit { IfErr result (λ stop. stop ≡ stops.Unfit → HasUnfitTerms p.now r.now) }
+{
+    p.show_whole();
+    r.show_row();
+    let sum = terms_of(alloc, p, r)?;
+    let Ok(value) = Frac::mul_add(sum.value, -1, 1, r.constant()) else {
+        return Err(SumStop::Unfit);
+    };
+    let by = sum.by;
+    Ok(Sum { own: 1, by, value })
+}
+
+// The lines of the rows there.
+fn held_lines(alloc: Global, p: &Problem) -> Result<Vec<Option<Inside>>, SumStop>
+    ensures lines { IfOk result (λ out. AreFirstLines p.now (length p.now.rows) out.items) }
+    ensures unfit { IfErr result (λ stop. stop ≡ stops.Unfit → HasUnfitFirst p.now) }
+{
+    let mut out = Vec::new(alloc);
+    for r in p.rows() {
+        let sum = first_sum(alloc, p, r)?;
+        let side = Side::Over;
+        out.push(Some(Inside { side, sum }))?;
+    }
+    Ok(out)
+}
+
+/// The lines of the corner where the route begins, or a sum of some row's first terms does not fit there.
+pub fn first_lines(alloc: Global, p: &Problem) -> Result<Vec<Option<Inside>>, SumStop>
+    ensures sized { IfOk result (λ lines. AreSized lines.items) }
+    ensures count { IfOk result (λ lines. length lines.items ≡ line_count p.now) }
+    ensures lines { IfOk result (λ lines. AreLines p.now (over_marks p.now) lines.items) }
+    ensures unfit { IfErr result (λ stop. stop ≡ stops.Unfit → HasUnfitFirst p.now) }
+{
+    let mut out = held_lines(alloc, p)?;
+    for _ in 0..p.stays().len() {
+        out.push(None)?;
+    }
+    Ok(out)
+}
