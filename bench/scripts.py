@@ -6,7 +6,9 @@
     python3 bench/scripts.py frames TIMES         the same with `frames` after each window
     python3 bench/scripts.py row VIEWS WHAT       a chain, and behind it nothing (`none`), one row more (`add`), or one row that
                                                   joins and leaves again (`remove`)
+    python3 bench/scripts.py diagnose VIEWS       a chain, `frames` and `diagnose`
     python3 bench/scripts.py drag TIMES           the login form, then so many suggestions of one width, and its release
+    python3 bench/scripts.py changes SEED VIEWS   the script of `made` without the `undo` at its end
     python3 bench/scripts.py metric VIEWS TIMES   a chain, two rows that name a metric, and then so many values of it in turn
 
 A chain has for each view a format with an optional width, for each two neighbours a format that stacks them and an optional
@@ -45,11 +47,15 @@ def chain(draw, views):
     yield "window 800 600"
 
 
-def made(seed, views):
+def changes(seed, views):
     draw = draws(seed)
     yield from chain(draw, views)
     for i in range(1, views + 1):
         yield f"suggest v{i}.width {50 + draw(100)}"
+
+
+def made(seed, views):
+    yield from changes(seed, views)
     yield "undo"
 
 
@@ -71,6 +77,11 @@ def row(views, what):
     if what == "remove":
         yield "remove extra"
     yield "frames"
+
+
+def diagnose(views):
+    yield from row(views, "none")
+    yield "diagnose"
 
 
 def drag(times):
@@ -97,12 +108,16 @@ def main(words):
             lines = [*chain(draws(int(seed)), int(views)), "frames"]
         case ["made", seed, views]:
             lines = made(int(seed), int(views))
+        case ["changes", seed, views]:
+            lines = changes(int(seed), int(views))
         case ["resize", times]:
             lines = resize(int(times), [])
         case ["frames", times]:
             lines = resize(int(times), ["frames"])
         case ["row", views, ("none" | "add" | "remove") as what]:
             lines = row(int(views), what)
+        case ["diagnose", views]:
+            lines = diagnose(int(views))
         case ["drag", times]:
             lines = drag(int(times))
         case ["metric", views, times]:
