@@ -14,7 +14,7 @@ use Rattle.constraint_compile.specs.Addends.{Addend, addend_view, addends_view}
 use Rattle.constraint_compile.specs.declared.addends.Addend as code
 use Rattle.constraint_compile.specs.Fractions.{plus, total}
 use Rattle.constraint_compile.specs.Pieces.{piece_value, IsPiece, AreDoubled}
-use Rattle.constraint_compile.specs.declared.nonzero.Piece.{Piece}
+use Rattle.constraint_compile.specs.declared.line.nonzero.Piece.{Piece}
 use Rattle.constraint_compile.proofs.Totals.{total_pushed}
 
 -- ---- sums of equal values

@@ -1,9 +1,9 @@
 pub mod Added
+pub mod Asked
 pub mod Beginnings
 pub mod Constants
 pub mod Divisors
 pub mod Doubles
-pub mod Finding
 pub mod FormatCauses
 pub mod Forms
 pub mod Found
@@ -16,6 +16,7 @@ pub mod Named
 pub mod NamedInstances
 pub mod NoParts
 pub mod Numbered
+pub mod Parents
 pub mod Quotients
 pub mod RowTerms
 pub mod Shifts

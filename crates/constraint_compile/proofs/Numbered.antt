@@ -1,8 +1,8 @@
 -- The rows of lines, with one line more.
-use Rattle.std.proofs.Common.{◌≡◌, ℕ, suc, ◌+◌, ◌<◌, List, [], ◌∷◌, ◌++◌, length, take, drop, get_or, Option, Some, None, refl, sym, subst, ap, ◌∙◌, arith}
+use Rattle.std.proofs.Common.{◌≡◌, ℕ, zero, suc, ◌+◌, ◌<◌, List, [], ◌∷◌, ◌++◌, length, take, drop, get_or, Option, Some, None, refl, subst, ap, ◌∙◌, arith}
 use Rattle.std.specs.List.{Any}
 use Rattle.std.proofs.lemmas.Grind.{common_steps}
-use Rattle.std.proofs.lemmas.List.{take_more, drop_more, take-append-drop, map_push, map-append, length-append}
+use Rattle.std.proofs.lemmas.List.{take_more, drop_more, map_push}
 use Rattle.std.proofs.lemmas.List.Elements.{All-nil, All-cons, All-push}
 use Rattle.std.proofs.lemmas.List.Quantifiers.{Any-push}
 use Rattle.name_tables.specs.declared.stops.LimitWord.{LimitWord}
@@ -14,7 +14,7 @@ use Rattle.constraint_compile.specs.Compiled.{RowForm}
 use Rattle.constraint_compile.specs.Stops.{IsRowStop}
 use Rattle.vfl_text.specs.Formats.{FormatMeaning}
 use Rattle.script_text.specs.declared.words.Align.{Align}
-use Rattle.constraint_compile.specs.declared.format_parts.Part as declared_part
+use Rattle.constraint_compile.specs.declared.format.parts.Part as declared_part
 use Rattle.constraint_compile.specs.FormatViews.{part_view, parts_view}
 use Rattle.constraint_compile.specs.FormatRefusals.{HasRank, HaveRanks}
 use Rattle.constraint_compile.specs.FormatStops.{row_count, IsPastNumbers, IsUsableFormat}
@@ -198,63 +198,36 @@ lines_push views ps p = lines_append views ps (p ∷ [])
 any_within : {A : Type 0} (P : A → Type 0) (xs ys zs : List A) → Any P ys → Any P (xs ++ (ys ++ zs))
 any_within {A} P xs ys zs any = (length xs + any.0, any.1, grind (arith, common_steps, any.2), grind (arith, common_steps, any.2, any.3), any.4)
 
--- a part among others whose row passes the first limit of all
-pub part_ends : (views : List LiveView) (metrics : MetricList) (ps qs : List Part) (p : Part) (stop : CompileStop) → EndsRows views metrics (lines_of views (p ∷ [])) stop → HaveNoRows views metrics (lines_of views (ps ++ p ∷ qs)) stop
-part_ends views metrics ps qs p (Limit limit.Attributes) ends =
-    let whole : lines_of views (ps ++ p ∷ qs) ≡ lines_of views ps ++ (lines_of views (p ∷ []) ++ lines_of views qs) = lines_append views ps (p ∷ qs) ∙ ap (λ (ls : List Linear). lines_of views ps ++ ls) (lines_append views (p ∷ []) qs) in
-    subst (λ (ls : List Linear). Any (Passes views metrics limit.Attributes) ls) (sym whole) (any_within (Passes views metrics limit.Attributes) (lines_of views ps) (lines_of views (p ∷ [])) (lines_of views qs) ends)
-part_ends views metrics ps qs p (Limit limit.Coefficient) ends = absurd ends
-part_ends views metrics ps qs p (Limit limit.Constant) ends = absurd ends
-part_ends views metrics ps qs p (Limit limit.Line) ends = absurd ends
-part_ends views metrics ps qs p (Limit limit.Name) ends = absurd ends
-part_ends views metrics ps qs p (Limit limit.Views) ends = absurd ends
-part_ends views metrics ps qs p (Limit limit.Depth) ends = absurd ends
-part_ends views metrics ps qs p (Limit limit.Metrics) ends = absurd ends
-part_ends views metrics ps qs p (Limit limit.Lines) ends = absurd ends
-part_ends views metrics ps qs p (Limit limit.Rows) ends = absurd ends
-part_ends views metrics ps qs p (Limit limit.Terms) ends = absurd ends
-part_ends views metrics ps qs p (Limit limit.Budget) ends = absurd ends
-part_ends views metrics ps qs p OutOfMemory ends = tt
-part_ends views metrics ps qs p (Unknown name) ends = absurd ends
-part_ends views metrics ps qs p (Kind word) ends = absurd ends
+-- a line among others whose row passes the first limit of all
+pub line_ends : (views : List LiveView) (metrics : MetricList) (before behind : List Linear) (l : Linear) (stop : CompileStop) → EndsRows views metrics (l ∷ []) stop → HaveNoRows views metrics (before ++ l ∷ behind) stop
+line_ends views metrics before behind l (Limit limit.Attributes) ends = any_within (Passes views metrics limit.Attributes) before (l ∷ []) behind ends
+line_ends views metrics before behind l (Limit limit.Coefficient) ends = absurd ends
+line_ends views metrics before behind l (Limit limit.Constant) ends = absurd ends
+line_ends views metrics before behind l (Limit limit.Line) ends = absurd ends
+line_ends views metrics before behind l (Limit limit.Name) ends = absurd ends
+line_ends views metrics before behind l (Limit limit.Views) ends = absurd ends
+line_ends views metrics before behind l (Limit limit.Depth) ends = absurd ends
+line_ends views metrics before behind l (Limit limit.Metrics) ends = absurd ends
+line_ends views metrics before behind l (Limit limit.Lines) ends = absurd ends
+line_ends views metrics before behind l (Limit limit.Rows) ends = absurd ends
+line_ends views metrics before behind l (Limit limit.Terms) ends = absurd ends
+line_ends views metrics before behind l (Limit limit.Budget) ends = absurd ends
+line_ends views metrics before behind l OutOfMemory ends = tt
+line_ends views metrics before behind l (Unknown name) ends = absurd ends
+line_ends views metrics before behind l (Kind word) ends = absurd ends
 
 -- ---- over the parts of the code
 
 pub lines_more : (views : List LiveView) (ps : List declared_part.Part) (i : ℕ) (d : declared_part.Part) → i < length ps → lines_of views (parts_view (take (i + 1) ps)) ≡ lines_of views (parts_view (take i ps)) ++ lines_of views (part_view (get_or ps i d) ∷ [])
 lines_more views ps i d within = ap (λ (qs : List declared_part.Part). lines_of views (parts_view qs)) (take_more ps i d within) ∙ ap (lines_of views) (map_push part_view (take i ps) (get_or ps i d)) ∙ lines_append views (parts_view (take i ps)) (part_view (get_or ps i d) ∷ [])
 
-rest_at : (ps : List declared_part.Part) (i : ℕ) (d : declared_part.Part) → i < length ps → parts_view (drop i ps) ≡ part_view (get_or ps i d) ∷ parts_view (drop (i + 1) ps)
+pub rest_at : (ps : List declared_part.Part) (i : ℕ) (d : declared_part.Part) → i < length ps → parts_view (drop i ps) ≡ part_view (get_or ps i d) ∷ parts_view (drop (i + 1) ps)
 rest_at ps i d within = ap parts_view (drop_more ps i d within)
 
--- the rows that are left, with those of the next part
-pub count_rest : (views : List LiveView) (ps : List declared_part.Part) (i : ℕ) (d : declared_part.Part) → i < length ps → row_count views (parts_view (drop i ps)) ≡ row_count views (part_view (get_or ps i d) ∷ []) + row_count views (parts_view (drop (i + 1) ps))
-count_rest views ps i d within = ap (row_count views) (rest_at ps i d within) ∙ ap length (lines_append views (part_view (get_or ps i d) ∷ []) (parts_view (drop (i + 1) ps))) ∙ length-append (lines_of views (part_view (get_or ps i d) ∷ [])) (lines_of views (parts_view (drop (i + 1) ps)))
-
-pub count_more : (views : List LiveView) (ps : List declared_part.Part) (i : ℕ) (d : declared_part.Part) → i < length ps → row_count views (parts_view (take (i + 1) ps)) ≡ row_count views (parts_view (take i ps)) + row_count views (part_view (get_or ps i d) ∷ [])
-count_more views ps i d within = ap length (lines_more views ps i d within) ∙ length-append (lines_of views (parts_view (take i ps))) (lines_of views (part_view (get_or ps i d) ∷ []))
-
-pub ranks_rest : (views : List LiveView) (metrics : MetricList) (ps : List declared_part.Part) (i : ℕ) (d : declared_part.Part) → i < length ps → HaveRanks views metrics (parts_view (drop i ps)) → HasRank views metrics (part_view (get_or ps i d)) × HaveRanks views metrics (parts_view (drop (i + 1) ps))
-ranks_rest views metrics ps i d within ranks = subst (HaveRanks views metrics) (rest_at ps i d within) ranks
-
--- the numbers of the next part's rows
-pub next_numbers : (first number seen count left total : ℕ) → number ≡ first + seen → number + (count + left) ≡ first + total → (IsPastNumbers first total → ⊥) → IsPastNumbers number count → ⊥
-next_numbers first number seen count left total from whole never past = never (record { some = omega (arith, from, whole, past.some); past = omega (arith, from, whole, past.past) })
-
-pub step_number : (first number seen count after next : ℕ) → next ≡ number + count → number ≡ first + seen → after ≡ seen + count → next ≡ first + after
-step_number first number seen count after next is from more = omega (arith, is, from, more)
-
-pub step_left : (number count left rest whole next : ℕ) → next ≡ number + count → number + left ≡ whole → left ≡ count + rest → next + rest ≡ whole
-step_left number count left rest whole next is from more = omega (arith, is, from, more)
-
-pub step_above : (number count next : ℕ) → next ≡ number + count → 0 < number → 0 < next
-step_above number count next is above = omega (arith, is, above)
-
-whole_at : (ps : List declared_part.Part) (i : ℕ) (d : declared_part.Part) → i < length ps → parts_view ps ≡ parts_view (take i ps) ++ part_view (get_or ps i d) ∷ parts_view (drop (i + 1) ps)
-whole_at ps i d within = ap parts_view (sym (take-append-drop i ps)) ∙ map-append part_view (take i ps) (drop i ps) ∙ ap (λ (qs : List Part). parts_view (take i ps) ++ qs) (rest_at ps i d within)
-
--- a part among others whose row passes the first limit of all
-pub part_ends_at : (views : List LiveView) (metrics : MetricList) (ps : List declared_part.Part) (i : ℕ) (d : declared_part.Part) (stop : CompileStop) → i < length ps → EndsRows views metrics (lines_of views (part_view (get_or ps i d) ∷ [])) stop → HaveNoRows views metrics (lines_of views (parts_view ps)) stop
-part_ends_at views metrics ps i d stop within ends = subst (λ (qs : List Part). HaveNoRows views metrics (lines_of views qs) stop) (sym (whole_at ps i d within)) (part_ends views metrics (parts_view (take i ps)) (parts_view (drop (i + 1) ps)) (part_view (get_or ps i d)) stop ends)
+pub ranks_at : (views : List LiveView) (metrics : MetricList) (ps : List declared_part.Part) (i : ℕ) (d : declared_part.Part) → i < length ps → HaveRanks views metrics (parts_view ps) → HasRank views metrics (part_view (get_or ps i d))
+ranks_at views metrics (p ∷ ps) zero d within ranks = ranks.0
+ranks_at views metrics (p ∷ ps) (suc i) d within ranks = ranks_at views metrics ps i d (omega (arith, within)) ranks.1
+ranks_at views metrics [] i d within ranks = absurd (omega (arith, within))
 
 -- ---- formats
 

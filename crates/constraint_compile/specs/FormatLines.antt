@@ -12,8 +12,8 @@ use Rattle.script_text.specs.Meaning.{Term, Linear}
 use Rattle.script_text.specs.Meaning as mean
 use Rattle.view_tree.specs.Views.{LiveView, view_named, view_of}
 use Rattle.view_tree.specs.declared.view.ViewId.{ViewId}
-use Rattle.constraint_compile.specs.declared.format_parts.Owner.{Owner}
-use Rattle.constraint_compile.specs.declared.format_parts.Owner.TheVariants as owner
+use Rattle.constraint_compile.specs.declared.format.parts.Owner.{Owner}
+use Rattle.constraint_compile.specs.declared.format.parts.Owner.TheVariants as owner
 use Rattle.constraint_compile.specs.FormatParts.{End, Span, Part, View, Bar, Asks}
 use Rattle.constraint_compile.specs.FormatRefusals.{parent_of}
 

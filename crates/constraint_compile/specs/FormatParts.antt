@@ -10,8 +10,8 @@ use Rattle.script_text.specs.declared.words.Align.{Align}
 use Rattle.script_text.specs.declared.words.Align.TheVariants as align
 use Rattle.script_text.specs.declared.words.AttrWord.{AttrWord}
 use Rattle.script_text.specs.declared.words.AttrWord.TheVariants as word
-use Rattle.constraint_compile.specs.declared.format_parts.Owner.{Owner}
-use Rattle.constraint_compile.specs.declared.format_parts.Owner.TheVariants as owner
+use Rattle.constraint_compile.specs.declared.format.parts.Owner.{Owner}
+use Rattle.constraint_compile.specs.declared.format.parts.Owner.TheVariants as owner
 
 -- an attribute of the view of this name, or of that view's parent
 pub record End : Type 0 where

@@ -1,10 +1,10 @@
 -- The parts of a format without where their names lie in memory.
 use Rattle.std.specs.Prelude.{List, map, Option, Some, None}
 use Rattle.vfl_text.specs.View.{pred_meaning}
-use Rattle.constraint_compile.specs.declared.format_parts.End as declared_end
-use Rattle.constraint_compile.specs.declared.format_parts.Span as declared_span
-use Rattle.constraint_compile.specs.declared.format_parts.Part as declared_part
-use Rattle.constraint_compile.specs.declared.format_parts.Part.TheVariants as part
+use Rattle.constraint_compile.specs.declared.format.parts.End as declared_end
+use Rattle.constraint_compile.specs.declared.format.parts.Span as declared_span
+use Rattle.constraint_compile.specs.declared.format.parts.Part as declared_part
+use Rattle.constraint_compile.specs.declared.format.parts.Part.TheVariants as part
 use Rattle.constraint_compile.specs.FormatParts.{End, Span, Part, View, Bar, Asks}
 
 abbrev pub end_view : declared_end.End → End

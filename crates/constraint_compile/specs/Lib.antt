@@ -1,4 +1,5 @@
 pub mod Addends
+pub mod Asks
 pub mod Compiled
 pub mod FormatFound
 pub mod FormatLines

@@ -5,7 +5,7 @@ use Rattle.frac_core.specs.Fraction.{Fraction}
 use Rattle.constraint_compile.specs.Fractions.{total}
 use Rattle.constraint_compile.specs.Shares.{IsOff}
 use Rattle.constraint_compile.specs.Sums.{attr_at}
-use Rattle.constraint_compile.specs.declared.nonzero.Piece.{Piece}
+use Rattle.constraint_compile.specs.declared.line.nonzero.Piece.{Piece}
 
 abbrev pub piece_value : Piece → Fraction
 piece_value p = record { num = p.num; den = unsigned_abs p.den }

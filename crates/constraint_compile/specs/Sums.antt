@@ -54,6 +54,17 @@ with_share_number z k s v = z *ℤ pos (s.by.den * 2) +ℤ s.by.num *ℤ (pos k 
 abbrev pub IsCovered : List ℕ → Share → Type 0
 IsCovered attrs s = (v : ℕ) → IsOff attrs v → (share_fraction s v).num ≡ pos 0
 
+-- whatever coefficients the numbers over the scale are, the next numbers over the next scale are those with
+-- the share more
+abbrev pub IsSumWithShare : List ℕ → Share → ℕ → List ℤ → ℕ → List ℤ → Type 0
+IsSumWithShare attrs s scale numbers next_scale next = (b : ℕ → Fraction) → IsSum b attrs scale numbers
+    → IsCovered attrs s → IsSum (with_share b s) attrs next_scale next
+
+-- whatever coefficients the numbers over the scale are, those with the share more aren't small
+abbrev pub IsPastWithShare : List ℕ → Share → ℕ → List ℤ → Type 0
+IsPastWithShare attrs s scale numbers = (b : ℕ → Fraction) → IsSum b attrs scale numbers
+    → IsCovered attrs s → AreSmall (with_share b s) → ⊥
+
 -- a common divisor of the whole number and the others, of which each other one is a divisor, also of
 -- multiples
 pub record IsDivisor (whole : ℕ) (numbers : List ℤ) (divisor : ℕ) : Type 0 where

@@ -1,14 +1,11 @@
 // What terms add to a row, with no name of a view left.
 ghost use Rattle.std.specs.Prelude.{◌≡◌, ℕ, IfSome, IfNone};
-ghost use Rattle.script_text.specs.Meaning as mean;
 ghost use Rattle.constraint_compile.specs.Fractions.{zero_fraction};
 ghost use Rattle.constraint_compile.specs.Shares.{share_fraction, AreHalves};
-ghost use Rattle.constraint_compile.specs.Addends.{addend, addend_view, IsKept};
+ghost use Rattle.constraint_compile.specs.Addends.{addend_view, IsKept};
 
-use crate::attributes::{Share, number_of, share_at};
+use crate::attributes::Share;
 use frac_core::Frac;
-use script_text::AttrWord;
-use view_tree::Tree;
 
 /// What a term adds to a row.
 #[derive(Clone, Copy, Debug)]
@@ -37,19 +34,5 @@ impl Addend<'_> {
             Addend::Multiple { by: _, name: _ } => None,
             Addend::Nothing => None,
         }
-    }
-}
-
-/// So many times an attribute of the view of this name.
-pub(crate) fn attribute<'a>(tree: &Tree, by: Frac, name: &str, word: AttrWord) -> Addend<'a>
-    ensures is { addend_view result ≡ addend tree.now.views (record {
-      by = by;
-      of = mean.Attr name.now word;
-    }) }
-    ensures kept { IsKept result }
-{
-    match number_of(tree, name) {
-        Some(view) => Addend::Attr(share_at(by, view, word)),
-        None => Addend::Nothing,
     }
 }

@@ -11,6 +11,9 @@ use std::alloc::Global;
 use std::marker::Model;
 use view_tree::ViewId;
 
+/// Each row's number is below this.
+pub const NUMBER_LIMIT: u32 = 1 << 31;
+
 // A row without its constant. The steps name metrics by the places of their names.
 #[derive(Debug, Drop)]
 pub(crate) struct RowForm {

@@ -1,4 +1,14 @@
 // Visual formats, compiled.
+mod asks;
+mod checks;
+pub(crate) mod laws;
+mod lines;
+mod lists;
+mod parts;
+mod refusals;
+mod rows;
+mod spans;
+
 ghost use Rattle.std.specs.Prelude.{◌≡◌, ◌<◌, IfOk, IfErr};
 ghost use Rattle.vfl_text.specs.View.{meaning};
 ghost use Rattle.constraint_compile.specs.FormatParts as parts;
@@ -6,10 +16,9 @@ ghost use Rattle.constraint_compile.specs.FormatStops.{row_count};
 ghost use Rattle.constraint_compile.specs.FormatRows.{IsCompiledFormat, MayStopFormat};
 
 use crate::compiled::Compiled;
-use crate::format_lines::views_of;
-use crate::format_lists::parts_of;
-use crate::format_refusals::{checked, row_count};
-use crate::format_rows::rows_of;
+use crate::format::lists::parts_of;
+use crate::format::refusals::{checked, row_count};
+use crate::format::rows::rows_of;
 use crate::stops::CompileStop;
 use frac_core::OutOfMemory;
 use name_tables::Metrics;
@@ -51,8 +60,7 @@ pub fn compile_format(
     ensures stop { IfErr result (MayStopFormat tree.now.views metrics.now (meaning format.now) align first) }
 {
     let parts = parts_of(alloc, format, align)?;
-    checked(alloc, tree, metrics, format.axis, align, &parts, first)?;
-    let rows = rows_of(alloc, tree, metrics, &parts, first)?;
-    let views = views_of(alloc, tree, &parts)?;
-    Ok(Compiled::of(rows, views))
+    let asked = checked(alloc, tree, metrics, format.axis, align, &parts, first)?;
+    let rows = rows_of(alloc, metrics, &asked.rows, first)?;
+    Ok(Compiled::of(rows, asked.views))
 }

@@ -1,4 +1,12 @@
 // The row of a linear line.
+mod nonzero;
+mod parts;
+mod row_terms;
+pub(crate) mod rows;
+mod scales;
+pub(crate) mod signs;
+mod sums;
+
 ghost use Rattle.std.specs.Prelude.{◌≡◌, ◌≤◌, ◌<◌, ◌^◌, ◌∷◌, [], ℕ, List, false, true, None, Some, All};
 ghost use Rattle.std.specs.Prelude.{length, IfOk, OnOk, IfErr, IfSome, IfNone};
 ghost use Rattle.view_tree.specs.Views.{LiveView};
@@ -11,11 +19,10 @@ ghost use Rattle.constraint_compile.specs.Addends.{addends, addends_view, IsKept
 ghost use Rattle.constraint_compile.specs.FormatLines.{numbers};
 ghost use Rattle.constraint_compile.specs.Inside.{form_view, IsForm};
 
-use crate::compiled::{Compiled, RowForm};
-use crate::format_refusals::NUMBER_LIMIT;
-use crate::line_rows::{Head, row_of_addends};
+use crate::compiled::{Compiled, NUMBER_LIMIT, RowForm};
+use crate::line::rows::{Head, row_of_addends};
+use crate::line::signs::signed_terms;
 use crate::resolved::{Resolved, resolve, resolve_rank};
-use crate::signs::signed_terms;
 use crate::stops::{CompileStop, KindWord};
 use frac_core::OutOfMemory;
 use name_tables::{LimitWord, Metrics, OwnedName};

@@ -1,48 +1,15 @@
 // What names and numbers stand for.
 ghost use Rattle.std.specs.Prelude.{◌≡◌, ℕ, ◌*◌, pos, Some, is_some, IfSome, IfNone};
-ghost use Rattle.std.specs.Option.{option_map};
-ghost use Rattle.script_text.specs.View.{object_view};
 ghost use Rattle.view_tree.specs.Views.{view_named};
-ghost use Rattle.constraint_compile.specs.Meaning as meaning;
-ghost use Rattle.constraint_compile.specs.Meaning.{unknown_object, IsRank, IsInThousand};
+ghost use Rattle.constraint_compile.specs.Meaning.{IsInThousand};
 
 use frac_core::Frac;
-use name_tables::Metrics;
-use span_text::Object;
 use view_tree::Tree;
 
 pub(crate) fn is_view(tree: &Tree, name: &str) -> bool
     ensures { result ≡ is_some (view_named tree.now.views name.now) }
 {
     tree.find(name).is_some()
-}
-
-fn is_named(tree: &Tree, metrics: &Metrics, name: &str) -> bool
-    ensures { result ≡ meaning.is_named tree.now.views metrics.now name.now }
-{
-    is_view(tree, name) || metrics.get(name).is_some()
-}
-
-/// The name in a priority that must be a view's or a metric's, and isn't.
-pub(crate) fn unknown_priority<'a>(
-    tree: &Tree,
-    metrics: &Metrics,
-    priority: &Option<Object<'a>>,
-) -> Option<&'a str>
-    ensures { option_map (λ name. name.now) result
-        ≡ unknown_object tree.now.views metrics.now (object_view priority.now) }
-{
-    match *priority {
-        Some(Object::Name { text }) => {
-            if is_named(tree, metrics, text) {
-                None
-            } else {
-                Some(text)
-            }
-        }
-        Some(Object::Number { thousandths: _ }) => None,
-        None => None,
-    }
 }
 
 /// The whole number from 1 to 1000 that this number of thousandths is.
@@ -82,23 +49,5 @@ pub(crate) fn rank_of_metric(value: Option<Frac>) -> Option<u16>
     match value {
         Some(f) => rank_of_fraction(f),
         None => None,
-    }
-}
-
-/// The rank that a priority stands for, where it stands for one.
-pub(crate) fn rank(tree: &Tree, metrics: &Metrics, priority: &Option<Object<'_>>) -> Option<u16>
-    ensures some { IfSome result (IsRank tree.now.views metrics.now (object_view priority.now)) }
-    ensures none { IfNone result ((r : ℕ) → IsRank tree.now.views metrics.now (object_view priority.now) r
-        → ⊥) }
-{
-    match *priority {
-        None => Some(1000),
-        Some(Object::Number { thousandths }) => rank_of_thousandths(thousandths),
-        Some(Object::Name { text }) => {
-            if is_view(tree, text) {
-                return None;
-            }
-            rank_of_metric(metrics.get(text))
-        }
     }
 }

@@ -1,0 +1,10 @@
+use Rattle.std.proofs.Common.{◌≡◌, ◌+◌, ◌≤◌, drop}
+use Rattle.constraint_compile.specs.FormatStops.{row_count}
+use Rattle.constraint_compile.specs.FormatViews.{parts_view}
+use Rattle.constraint_compile.proofs.format.refusals.row_count.Given as goal
+
+abbrev pub invariant-loop-part : goal.invariant-loop-part
+invariant-loop-part l = record {
+  count : l.count + row_count l.tree.views (parts_view (drop l.part-index l.parts)) ≡ row_count l.tree.views (parts_view l.parts);
+  small : l.count ≤ l.part-index;
+}

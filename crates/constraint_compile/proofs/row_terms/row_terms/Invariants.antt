@@ -1,5 +1,0 @@
-use Rattle.constraint_compile.specs.Sums.{HasFirst}
-use Rattle.constraint_compile.proofs.row_terms.row_terms.Given as goal
-
-abbrev pub invariant-loop-place : goal.invariant-loop-place
-invariant-loop-place l = HasFirst l.attrs l.sum.numbers.items l.place l.out.items

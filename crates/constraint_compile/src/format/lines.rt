@@ -1,0 +1,109 @@
+// What the ends of the rows of a format add.
+ghost use Rattle.std.specs.Prelude.{◌≡◌, ◌<◌, ◌^◌, [], false, IfSome, IfNone, Some, pos, neg_ℤ};
+ghost use Rattle.std.specs.Prelude.{if◌then◌else◌};
+ghost use Rattle.std.specs.Option.{option_map};
+ghost use Rattle.script_text.specs.Grammar as grammar;
+ghost use Rattle.script_text.specs.Meaning as mean;
+ghost use Rattle.constraint_compile.specs.Addends.{addend, addend_view, IsKept};
+ghost use Rattle.constraint_compile.specs.Fractions as fractions;
+ghost use Rattle.constraint_compile.specs.FormatLines as lines;
+ghost use Rattle.constraint_compile.specs.FormatRefusals as refusals;
+ghost use Rattle.view_tree.specs.Views.{view_named};
+
+use crate::addends::Addend;
+use crate::attributes::{number_of, share_at};
+use crate::format::checks::parent_of;
+use crate::format::parts::{End, Owner};
+use crate::line::signs::negated;
+use frac_core::Frac;
+use view_tree::{Tree, ViewId};
+
+// The number of this size with its sign.
+fn signed(is_negative: bool, size: u32) -> i128
+    ensures { result ≡ (if is_negative then neg_ℤ (pos size) else pos size) }
+{
+    if is_negative {
+        -i128::from(size)
+    } else {
+        i128::from(size)
+    }
+}
+
+// So many thousandths, with a sign.
+fn decimal(is_negative: bool, size: u32) -> Frac
+    ensures { result ≡ grammar.decimal is_negative size }
+{
+    match Frac::of(signed(is_negative, size), 1000) {
+        Ok(fraction) => fraction,
+        Err(_) => unreachable!(),
+    }
+}
+
+// So many thousandths.
+fn number(thousandths: i32) -> Frac
+    ensures { result ≡ lines.number thousandths }
+{
+    decimal(thousandths < 0, thousandths.unsigned_abs())
+}
+
+/// What a number of thousandths subtracts.
+pub(crate) fn minus_number(thousandths: i32) -> Frac
+    ensures { result ≡ fractions.negated (lines.number thousandths) }
+{
+    negated(number(thousandths))
+}
+
+/// An attribute is added once.
+pub(crate) fn one() -> Frac
+    ensures { result ≡ grammar.decimal false 1000 }
+{
+    decimal(false, 1000)
+}
+
+/// An attribute is subtracted once.
+pub(crate) fn minus_one() -> Frac
+    ensures { result ≡ fractions.negated (grammar.decimal false 1000) }
+{
+    negated(one())
+}
+
+// The parent of the view of this name, which is found by its own name too.
+fn parent_at(tree: &Tree, name: &str) -> Option<ViewId>
+    ensures some { IfSome result (λ id. option_map (λ v. v.id) (view_named tree.now.views
+        (lines.name_of tree.now.views (refusals.parent_of tree.now.views name.now))) ≡ Some id.0) }
+    ensures within { IfSome result (λ id. id.0 < 2 ^ 29) }
+    ensures none { IfNone result (lines.name_of tree.now.views (refusals.parent_of tree.now.views name.now)
+        ≡ []) }
+{
+    let _count = tree.len();
+    parent_of(tree, name)
+}
+
+// The view whose attribute an end is.
+fn view_of(tree: &Tree, end: End<'_>) -> Option<ViewId>
+    ensures id { option_map (λ id. id.0) result ≡ option_map (λ v. v.id) (view_named tree.now.views
+        (lines.owner_name tree.now.views end.entry.owner end.entry.view.now)) }
+    ensures within { IfSome result (λ id. id.0 < 2 ^ 29) }
+{
+    match end.owner {
+        Owner::Itself => number_of(tree, end.view),
+        Owner::Parent => match parent_at(tree, end.view) {
+            Some(id) => Some(id),
+            None => number_of(tree, ""),
+        },
+    }
+}
+
+/// So many times an attribute of an end.
+pub(crate) fn end_addend<'a>(tree: &Tree, by: Frac, end: End<'_>) -> Addend<'a>
+    ensures is { addend_view result ≡ addend tree.now.views (record {
+      by = by;
+      of = mean.Attr (lines.owner_name tree.now.views end.entry.owner end.entry.view.now) end.entry.word;
+    }) }
+    ensures kept { IsKept result }
+{
+    match view_of(tree, end) {
+        Some(view) => Addend::Attr(share_at(by, view, end.word)),
+        None => Addend::Nothing,
+    }
+}

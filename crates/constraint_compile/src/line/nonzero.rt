@@ -1,0 +1,218 @@
+// Which coefficients of a sum are not 0, whatever their size.
+ghost use Rattle.std.specs.Prelude.{◌≡◌, ◌≢◌, ◌≤◌, ◌<◌, ◌+◌, ◌*◌, ◌^◌, ◌+ℤ◌, ◌*ℤ◌, ℕ, pos, unsigned_abs};
+ghost use Rattle.std.specs.Prelude.{true, false, length, map, IsTrue, IfOk, OnOk, All, AllPairs};
+ghost use Rattle.constraint_compile.specs.Fractions.{total};
+ghost use Rattle.constraint_compile.specs.Addends.{addend_view, addends_view, sum_of, IsKept};
+ghost use Rattle.constraint_compile.specs.Shares.{IsOff};
+ghost use Rattle.constraint_compile.specs.Sums.{HasTooMany};
+ghost use Rattle.constraint_compile.specs.Pieces.{piece_value, IsPiece, AreDoubled, HasFound};
+
+use crate::addends::Addend;
+use crate::line::sums::{double_den, halves, split, times_halves};
+use frac_core::OutOfMemory;
+use std::alloc::Global;
+
+/// A fraction that need not be in lowest terms.
+#[derive(Clone, Copy, Debug)]
+pub(crate) struct Piece {
+    pub num: i64,
+    pub den: i64,
+}
+
+// Each of at most 64 terms has a denominator below 2^43. So a sum that isn't 0 is past 64 in size after this
+// many doublings.
+const ROUNDS: u32 = 2760;
+
+const ATTRIBUTE_LIMIT: usize = 32;
+
+// What an addend has of an attribute.
+fn piece_of(addend: &Addend<'_>, attr: u32) -> Piece
+    requires { IsKept addend.now }
+    ensures value { piece_value result ≡ (addend_view addend.now).share attr }
+    ensures kept { IsPiece result }
+{
+    match addend.share() {
+        Some(share) => Piece {
+            num: times_halves(share.by.num(), halves(&share.of, attr)),
+            den: double_den(share.by),
+        },
+        None => Piece { num: 0, den: 1 },
+    }
+}
+
+fn pieces_of(alloc: Global, added: &[Addend<'_>], attr: u32) -> Result<Vec<Piece>, OutOfMemory>
+    requires { All IsKept added.now }
+    ensures total { IfOk result (λ pieces. total piece_value pieces.items
+        ≡ sum_of (addends_view added.now) attr) }
+    ensures long { IfOk result (λ pieces. length pieces.items ≡ length added.now) }
+    ensures kept { IfOk result (λ pieces. All IsPiece pieces.items) }
+{
+    let mut pieces = Vec::with_capacity(alloc, added.len())?;
+    for addend in added {
+        pieces.push(piece_of(addend, attr))?;
+    }
+    Ok(pieces)
+}
+
+// Twice a piece: a whole number, and a piece that is less than 1 in size.
+#[derive(Clone, Copy, Debug)]
+struct TwoPieces {
+    whole: i64,
+    rest: Piece,
+}
+
+fn twice(piece: Piece) -> TwoPieces
+    requires { IsPiece piece }
+    ensures value { result.whole *ℤ piece.den +ℤ result.rest.num ≡ pos 2 *ℤ piece.num }
+    ensures den { result.rest.den ≡ piece.den }
+    ensures kept { IsPiece result.rest }
+    ensures low { unsigned_abs result.rest.num ≤ unsigned_abs result.rest.den }
+    ensures small { unsigned_abs result.whole ≤ 2 ^ 45 }
+{
+    let parts = split(2 * piece.num, piece.den);
+    TwoPieces {
+        whole: parts.whole,
+        rest: Piece {
+            num: parts.rest,
+            den: piece.den,
+        },
+    }
+}
+
+// Twice a sum of pieces.
+#[derive(Drop, Debug)]
+struct Double {
+    whole: i64,
+    rests: Vec<Piece>,
+}
+
+fn doubled(alloc: Global, pieces: &[Piece]) -> Result<Double, OutOfMemory>
+    requires few { length pieces.now ≤ 64 }
+    requires kept { All IsPiece pieces.now }
+    ensures { IfOk result (λ d. AreDoubled pieces.now d.whole d.rests.items) }
+{
+    let mut whole = 0;
+    let mut rests = Vec::with_capacity(alloc, pieces.len())?;
+    for piece in pieces {
+        let next = twice(*piece);
+        whole += next.whole;
+        rests.push(next.rest)?;
+    }
+    Ok(Double { whole, rests })
+}
+
+fn twice_with(whole: i64, more: i64) -> i64
+    requires whole { unsigned_abs whole ≤ 64 }
+    requires more { unsigned_abs more ≤ 2 ^ 51 }
+    ensures { result ≡ pos 2 *ℤ whole +ℤ more }
+{
+    2 * whole + more
+}
+
+fn is_past(whole: i64) -> bool
+    ensures yes { IsTrue result → 64 < unsigned_abs whole }
+    ensures no { result ≡ false → unsigned_abs whole ≤ 64 }
+{
+    whole < -64 || whole > 64
+}
+
+// Whether a sum is 0: then its doubles are, and otherwise one of them is past 64 in size.
+fn is_zero(alloc: Global, pieces: Vec<Piece>) -> Result<bool, OutOfMemory>
+    requires few { length pieces.items ≤ 64 }
+    requires kept { All IsPiece pieces.items }
+    ensures yes { IfOk result (λ zero. IsTrue zero → (total piece_value pieces.items).num ≡ pos 0) }
+    ensures no { IfOk result (λ zero. zero ≡ false → (total piece_value pieces.items).num ≢ pos 0) }
+{
+    let mut whole = 0;
+    let mut rests = pieces;
+    for _round in 0..ROUNDS {
+        let next = doubled(alloc, &rests)?;
+        whole = twice_with(whole, next.whole);
+        rests = next.rests;
+        if is_past(whole) {
+            return Ok(false);
+        }
+    }
+    Ok(true)
+}
+
+// Whether the coefficient of an attribute is 0.
+fn is_absent(alloc: Global, added: &[Addend<'_>], attr: u32) -> Result<bool, OutOfMemory>
+    requires kept { All IsKept added.now }
+    requires few { length added.now ≤ 64 }
+    ensures yes { IfOk result (λ absent. IsTrue absent
+        → (sum_of (addends_view added.now) attr).num ≡ pos 0) }
+    ensures no { IfOk result (λ absent. absent ≡ false
+        → (sum_of (addends_view added.now) attr).num ≢ pos 0) }
+{
+    let pieces = pieces_of(alloc, added, attr)?;
+    is_zero(alloc, pieces)
+}
+
+// Appends the attribute at a place unless its coefficient is 0.
+fn keep(
+    alloc: Global,
+    found: &mut Vec<u32>,
+    attrs: &[u32],
+    added: &[Addend<'_>],
+    place: usize,
+) -> Result<(), OutOfMemory>
+    requires kept { All IsKept added.now }
+    requires few { length added.now ≤ 64 }
+    requires rising { AllPairs (λ a b. a < b) attrs.now }
+    requires place { place < length attrs.now }
+    requires found { HasFound (sum_of (addends_view added.now)) attrs.now place found.old.items }
+    ensures { OnOk result (HasFound (sum_of (addends_view added.now)) attrs.now (place
+        + 1) found.new.items) }
+{
+    let attr = attrs[place];
+    if is_absent(alloc, added, attr)? {
+        return Ok(());
+    }
+    found.push(attr)?;
+    Ok(())
+}
+
+// The attributes whose coefficients aren't 0.
+fn nonzero(alloc: Global, attrs: &[u32], added: &[Addend<'_>]) -> Result<Vec<u32>, OutOfMemory>
+    requires kept { All IsKept added.now }
+    requires few { length added.now ≤ 64 }
+    requires rising { AllPairs (λ a b. a < b) attrs.now }
+    ensures { IfOk result (λ found. HasFound (sum_of (addends_view added.now)) attrs.now
+        (length attrs.now) found.items) }
+{
+    let mut found = Vec::new(alloc);
+    for place in 0..attrs.len() {
+        keep(alloc, &mut found, attrs, added, place)?;
+    }
+    Ok(found)
+}
+
+// Where there are few attributes, few have coefficients.
+fn may_be_many(attrs: &[u32]) -> bool
+    ensures no { result ≡ false → length attrs.now ≤ 32 }
+{
+    attrs.len() > ATTRIBUTE_LIMIT
+}
+
+/// Whether more than 32 attributes have coefficients that aren't 0 in the sum.
+pub(crate) fn has_too_many(
+    alloc: Global,
+    attrs: &[u32],
+    added: &[Addend<'_>],
+) -> Result<bool, OutOfMemory>
+    requires kept { All IsKept added.now }
+    requires few { length added.now ≤ 64 }
+    requires rising { AllPairs (λ a b. a < b) attrs.now }
+    requires off { (v : ℕ) → IsOff attrs.now v → All (λ a. ((addend_view a).share v).num ≡ pos 0) added.now }
+    ensures yes { IfOk result (λ many. IsTrue many
+        → HasTooMany (sum_of (addends_view added.now))) }
+    ensures no { IfOk result (λ many. many ≡ false → HasTooMany (sum_of (addends_view added.now))
+        → ⊥) }
+{
+    if !may_be_many(attrs) {
+        return Ok(false);
+    }
+    let found = nonzero(alloc, attrs, added)?;
+    Ok(found.len() > ATTRIBUTE_LIMIT)
+}

@@ -1,0 +1,89 @@
+// The scales of ever longer sums.
+ghost use Rattle.std.specs.Prelude.{◌≡◌, ◌≤◌, ◌<◌, ◌+◌, ℕ, pos, length, All, IfOk, IfSome, IfNone};
+ghost use Rattle.frac_core.specs.Fraction.{Fraction};
+ghost use Rattle.constraint_compile.specs.Fractions.{AreSmall, zero_fraction};
+ghost use Rattle.constraint_compile.specs.Addends.{addend_view, addends_view, sum_of, first_of, with_addend};
+ghost use Rattle.constraint_compile.specs.Addends.{IsKept};
+ghost use Rattle.constraint_compile.specs.Shares.{IsOff};
+ghost use Rattle.constraint_compile.specs.Sums.{AreKept, IsSum, AreScales};
+
+use crate::addends::Addend;
+use crate::line::sums::{Sum, added};
+use frac_core::OutOfMemory;
+use std::alloc::Global;
+
+/// The sum of all addends, and the scale after each.
+#[derive(Drop, Debug)]
+pub(crate) struct Scaled {
+    pub sum: Sum,
+    pub scales: Vec<u32>,
+}
+
+// The sum with an addend more, unless the scale or a number would be past the limit.
+fn with_more(
+    alloc: Global,
+    attrs: &[u32],
+    sum: Sum,
+    addend: &Addend<'_>,
+) -> Result<Option<Sum>, OutOfMemory>
+    requires kept { AreKept attrs.now sum.scale sum.numbers.items }
+    requires addend { IsKept addend.now }
+    ensures kept { IfOk result (λ o. IfSome o (λ next. AreKept attrs.now next.scale next.numbers.items)) }
+    ensures sum { IfOk result (λ o. IfSome o (λ next. (b : ℕ → Fraction)
+        → IsSum b attrs.now sum.scale sum.numbers.items
+        → ((v : ℕ) → IsOff attrs.now v → ((addend_view addend.now).share v).num ≡ pos 0)
+        → IsSum (with_addend b (addend_view addend.now)) attrs.now next.scale next.numbers.items)) }
+    ensures past { IfOk result (λ o. IfNone o ((b : ℕ → Fraction)
+        → IsSum b attrs.now sum.scale sum.numbers.items
+        → ((v : ℕ) → IsOff attrs.now v → ((addend_view addend.now).share v).num ≡ pos 0)
+        → AreSmall (with_addend b (addend_view addend.now)) → ⊥)) }
+{
+    let Some(share) = addend.share() else {
+        return Ok(Some(sum));
+    };
+    match added(alloc, attrs, &sum, &share)? {
+        Some(next) => Ok(Some(next)),
+        None => Ok(None),
+    }
+}
+
+// The sum of nothing.
+fn no_sum(alloc: Global, attrs: &[u32]) -> Result<Sum, OutOfMemory>
+    ensures kept { IfOk result (λ sum. AreKept attrs.now sum.scale sum.numbers.items) }
+    ensures sum { IfOk result (λ sum. IsSum (λ v. zero_fraction) attrs.now sum.scale sum.numbers.items) }
+{
+    let mut numbers = Vec::with_capacity(alloc, attrs.len())?;
+    for _ in attrs {
+        numbers.push(0)?;
+    }
+    Ok(Sum { scale: 1, numbers })
+}
+
+/// The sum of the addends and the scale after each, unless the scale or a coefficient is past the limit after
+/// one of them.
+pub(crate) fn scales_of(
+    alloc: Global,
+    attrs: &[u32],
+    added: &[Addend<'_>],
+) -> Result<Option<Scaled>, OutOfMemory>
+    requires addends { All IsKept added.now }
+    requires off { (v : ℕ) → IsOff attrs.now v → All (λ a. ((addend_view a).share v).num ≡ pos 0) added.now }
+    ensures kept { IfOk result (λ o. IfSome o (λ s. AreKept attrs.now s.sum.scale s.sum.numbers.items)) }
+    ensures sum { IfOk result (λ o. IfSome o (λ s.
+        IsSum (sum_of (addends_view added.now)) attrs.now s.sum.scale s.sum.numbers.items)) }
+    ensures scales { IfOk result (λ o. IfSome o (λ s.
+        AreScales (addends_view added.now) (length added.now) s.scales.items)) }
+    ensures past { IfOk result (λ o. IfNone o (((i : ℕ) → i < length added.now
+        → AreSmall (first_of (addends_view added.now) (i + 1))) → ⊥)) }
+{
+    let mut sum = no_sum(alloc, attrs)?;
+    let mut scales = Vec::with_capacity(alloc, added.len())?;
+    for addend in added {
+        match with_more(alloc, attrs, sum, addend)? {
+            Some(next) => sum = next,
+            None => return Ok(None),
+        }
+        scales.push(sum.scale)?;
+    }
+    Ok(Some(Scaled { sum, scales }))
+}
