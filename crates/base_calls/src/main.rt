@@ -8,6 +8,15 @@
 //! - `= own names`: each line as a name of its own.
 //!
 //! FAILS is the number of the call that fails, counted from 0, or another word where none does.
+//!
+//! ```text
+//! = names 1               a table for one name
+//! add x                   Ok(0)
+//! add y                   Err(Full)
+//! ```
+//!
+//! In reading order: `cases` (the headings), `tables`, `views`, `sources`, `sinks`, `broken` (a stream that
+//! fails).
 #![tactic(auto)]
 
 mod broken;
@@ -18,20 +27,9 @@ mod tables;
 mod views;
 
 use crate::cases::printed;
-use std::io;
-use std::io::Write;
+use case_text::print_answers;
 use std::process::ExitCode;
 
 fn main(rt: HostRuntime) -> ExitCode {
-    let Ok(text) = io::read_to_string(rt.alloc(), rt.reader()) else {
-        return ExitCode::from(3);
-    };
-    let Ok(out) = printed(rt.alloc(), &text) else {
-        return ExitCode::from(5);
-    };
-    let mut sink = io::writer(&rt);
-    if write!(sink, "{out}").is_err() {
-        return ExitCode::from(4);
-    }
-    ExitCode::SUCCESS
+    print_answers(rt, printed)
 }

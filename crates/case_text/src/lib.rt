@@ -1,10 +1,23 @@
 //! The input of programs that try calls of the library over many cases, for their stored runs.
 //!
 //! A line that begins with `=` is a heading. Each other line is text, with its end, in which `\n`, `\r`,
-//! `\t`, `\\` and `\x` with two hexadecimal digits stand for one byte; a text line whose last byte is `\` has
-//! no end.
+//! `\t`, `\\` and `\x` with two hexadecimal digits stand for one byte; a text line whose last byte is `\`
+//! has no end.
+//!
+//! ```
+//! fn main(rt: HostRuntime) -> ExitCode {
+//!     print_answers(rt, printed)                // writes what `printed` makes of the standard input
+//! }
+//! ```
+//!
+//! In reading order: `escapes` (text lines, read and written), `program` (input, output and exit
+//! status), `relations` (texts that several of the programs print).
 #![tactic(auto)]
 
 mod escapes;
+mod program;
+mod relations;
 
 pub use escapes::{put_escaped, put_text};
+pub use program::print_answers;
+pub use relations::relation_text;

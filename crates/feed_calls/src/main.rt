@@ -4,6 +4,13 @@
 //! pull that fails, counted from 0, and the most bytes that are asked for at once. 0 is no greatest size, and
 //! `-` is no failing pull. BYTES is a list of numbers with commas between them, and `97*4096` is 4,096 times
 //! the byte 97.
+//!
+//! ```text
+//! 97,10 0 - 8192          `a` and its end, in pulls of any size, none of which fails
+//! ```
+//!
+//! In reading order: `case` (the lines of the input), `counted` (a source that counts its pulls), `feeding`
+//! (what a feed gives).
 #![tactic(auto)]
 
 mod case;
@@ -11,20 +18,9 @@ mod counted;
 mod feeding;
 
 use crate::case::printed;
-use std::io;
-use std::io::Write;
+use case_text::print_answers;
 use std::process::ExitCode;
 
 fn main(rt: HostRuntime) -> ExitCode {
-    let Ok(text) = io::read_to_string(rt.alloc(), rt.reader()) else {
-        return ExitCode::from(3);
-    };
-    let Ok(out) = printed(rt.alloc(), &text) else {
-        return ExitCode::from(5);
-    };
-    let mut sink = io::writer(&rt);
-    if write!(sink, "{out}").is_err() {
-        return ExitCode::from(4);
-    }
-    ExitCode::SUCCESS
+    print_answers(rt, printed)
 }

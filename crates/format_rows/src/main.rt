@@ -8,6 +8,15 @@
 //! - `view ..` and `metric ..`, as in a script;
 //! - `format` with an alignment, where there is one, and a format, or `line` and a line of a script: its rows
 //!   are printed.
+//!
+//! ```text
+//! from 33
+//! view button
+//! format [button(>=50)]                row 33 1000 1 >= 1 50 7:1
+//! ```
+//!
+//! In reading order: `printing` (the lines of the input), `setting` (views, metrics and numbers), `text`
+//! (rows and refusals).
 #![tactic(auto)]
 
 mod printing;
@@ -15,20 +24,9 @@ mod setting;
 mod text;
 
 use crate::printing::printed;
-use std::io;
-use std::io::Write;
+use case_text::print_answers;
 use std::process::ExitCode;
 
 fn main(rt: HostRuntime) -> ExitCode {
-    let Ok(text) = io::read_to_string(rt.alloc(), rt.reader()) else {
-        return ExitCode::from(3);
-    };
-    let Ok(out) = printed(rt.alloc(), &text) else {
-        return ExitCode::from(5);
-    };
-    let mut sink = io::writer(&rt);
-    if write!(sink, "{out}").is_err() {
-        return ExitCode::from(4);
-    }
-    ExitCode::SUCCESS
+    print_answers(rt, printed)
 }

@@ -1,16 +1,9 @@
 // Rows and refusals as text.
+use case_text::relation_text;
 use constraint_compile::{CompileStop, KindWord};
 use frac_core::{Frac, OutOfMemory};
 use name_tables::LimitWord;
-use problem_core::{Rel, Row};
-
-fn relation(rel: Rel) -> &'static str {
-    match rel {
-        Rel::Eq => "==",
-        Rel::Le => "<=",
-        Rel::Ge => ">=",
-    }
-}
+use problem_core::Row;
 
 fn put_fraction(out: &mut String, f: Frac) -> Result<(), OutOfMemory> {
     let num = f.num();
@@ -28,7 +21,7 @@ pub fn put_row(out: &mut String, row: &Row) -> Result<(), OutOfMemory> {
     let id = row.id();
     let rank = row.rank();
     let weight = row.weight();
-    let rel = relation(row.rel());
+    let rel = relation_text(row.rel());
     let scale = row.scale();
     write!(out, "row {id} {rank} {weight} {rel} {scale} ")?;
     put_fraction(out, row.constant())?;
