@@ -117,6 +117,12 @@ pub record IsNarrowSum (sum : Sum) : Type 0 where
   pub n : IsNarrow sum.n
   pub extra : unsigned_abs sum.extra < 2 ^ 61
 
+-- all numbers of the sum of these rows have 64 bits
+pub record HasNarrowProducts (sum : Sum) (r p : List Term) : Type 0 where
+  pub narrow : IsNarrowSum sum
+  pub left : All (λ t. IsFitting t.by) r
+  pub right : All (λ t. IsFitting t.by) p
+
 abbrev pub DividesWhole : ℕ → (ℕ → ℤ) → Type 0
 DividesWhole d whole = (c : ℕ) → d ∣ unsigned_abs (whole c)
 

@@ -4,12 +4,12 @@ ghost use Rattle.std.specs.Prelude.{IfErr, IfSome, IfNone};
 ghost use Prim.Native.Nat.{◌∣◌};
 ghost use Rattle.frac_core.specs.Fraction.{IsFitting};
 ghost use Rattle.row_core.specs.Rows.{IsRising, IsKeptRow, IsReduced, IsUnfit};
-ghost use Rattle.row_core.specs.Walks.{HasSmallProducts, IsNarrowSum, DividesWhole, IsDivisor, IsPushed};
+ghost use Rattle.row_core.specs.Walks.{HasSmallProducts, DividesWhole, IsDivisor, IsPushed};
 ghost use Rattle.row_core.specs.Walks.{IsTooLarge, whole};
 ghost use Rattle.row_core.specs.declared.entry.RowStop.TheVariants.{Unfit};
 
 use crate::entry::{Col, Entry, RowStop};
-use crate::walk::{Sum, next_narrow, next_wide, start};
+use crate::walk::{Sum, Wide, Width, start};
 use frac_core::{PART_BOUND, gcd};
 use std::alloc::Global;
 
@@ -24,7 +24,7 @@ fn common_divisor(r: &[Entry], p: &[Entry], sum: Sum) -> u128
 {
     let mut divisor = 0;
     let mut at = start(sum);
-    while let Some(read) = next_wide(r, p, sum, at) {
+    while let Some(read) = Wide::next(r, p, sum, at) {
         divisor = gcd(read.by.unsigned_abs(), divisor);
         if divisor == 1 {
             return 1;
@@ -90,7 +90,7 @@ fn keep(out: &mut Vec<Entry>, col: u64, by: i128, divisor: i128) -> Result<(), R
 }
 
 /// The sum's numbers divided by their divisor, unless a quotient does not fit.
-pub(crate) fn divided(
+pub(crate) fn divided<W: Width>(
     alloc: Global,
     r: &[Entry],
     p: &[Entry],
@@ -99,7 +99,7 @@ pub(crate) fn divided(
 ) -> Result<Vec<Entry>, RowStop>
     requires r_rising { IsRising r.now }
     requires p_rising { IsRising p.now }
-    requires products { HasSmallProducts sum r.now p.now }
+    requires holds { W.Holds sum r.now p.now }
     requires divisor { IsDivisor divisor (whole sum r.now p.now) }
     ensures value { IfOk result (λ out. IsReduced out.items (whole sum r.now p.now)) }
     ensures kept { IfOk result (λ out. IsKeptRow out.items) }
@@ -107,32 +107,7 @@ pub(crate) fn divided(
 {
     let mut out = Vec::with_capacity(alloc, r.len() + p.len())?;
     let mut at = start(sum);
-    while let Some(read) = next_wide(r, p, sum, at) {
-        keep(&mut out, read.col, read.by, divisor)?;
-        at = read.next;
-    }
-    Ok(out)
-}
-
-/// The same of a sum whose numbers have 64 bits.
-pub(crate) fn divided_narrow(
-    alloc: Global,
-    r: &[Entry],
-    p: &[Entry],
-    sum: Sum,
-    divisor: i128,
-) -> Result<Vec<Entry>, RowStop>
-    requires r_kept { IsKeptRow r.now }
-    requires p_kept { IsKeptRow p.now }
-    requires narrow { IsNarrowSum sum }
-    requires divisor { IsDivisor divisor (whole sum r.now p.now) }
-    ensures value { IfOk result (λ out. IsReduced out.items (whole sum r.now p.now)) }
-    ensures kept { IfOk result (λ out. IsKeptRow out.items) }
-    ensures unfit { IfErr result (λ stop. stop ≡ Unfit → IsUnfit (whole sum r.now p.now)) }
-{
-    let mut out = Vec::with_capacity(alloc, r.len() + p.len())?;
-    let mut at = start(sum);
-    while let Some(read) = next_narrow(r, p, sum, at) {
+    while let Some(read) = W::next(r, p, sum, at) {
         keep(&mut out, read.col, read.by, divisor)?;
         at = read.next;
     }

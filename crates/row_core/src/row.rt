@@ -9,9 +9,9 @@ ghost use Rattle.row_core.specs.Combinations.{IsFactor, combination_but};
 ghost use Rattle.row_core.specs.Walks.{HasSmallProducts, IsNarrowSum, whole};
 ghost use Rattle.row_core.specs.declared.entry.RowStop.TheVariants.{Unfit};
 
-use crate::divide::{divided, divided_narrow, divisor_of};
+use crate::divide::{divided, divisor_of};
 use crate::entry::{Col, Entry, Factors, Patch, RowStop};
-use crate::walk::{Sum, patched, plain};
+use crate::walk::{Narrow, Sum, Wide, Width, patched, plain};
 use frac_core::OutOfMemory;
 use std::alloc::Global;
 use std::marker::Model;
@@ -47,16 +47,17 @@ pub fn are_rising(entries: &[Entry]) -> bool
 }
 
 // The row in lowest terms with the coefficients of the sum.
-fn lowest(alloc: Global, r: &[Entry], p: &[Entry], sum: Sum) -> Result<IntRow, RowStop>
+fn lowest<W: Width>(alloc: Global, r: &[Entry], p: &[Entry], sum: Sum) -> Result<IntRow, RowStop>
     requires r_rising { IsRising r.now }
     requires p_rising { IsRising p.now }
     requires products { HasSmallProducts sum r.now p.now }
+    requires holds { W.Holds sum r.now p.now }
     ensures value { IfOk result (λ row. IsReduced row (whole sum r.now p.now)) }
     ensures kept { IfOk result IsKeptRow }
     ensures unfit { IfErr result (λ stop. stop ≡ Unfit → IsUnfit (whole sum r.now p.now)) }
 {
     let divisor = divisor_of(r, p, sum);
-    let entries = divided(alloc, r, p, sum, divisor)?;
+    let entries = divided::<W>(alloc, r, p, sum, divisor)?;
     Ok(IntRow { entries })
 }
 
@@ -78,12 +79,11 @@ fn combined(alloc: Global, r: &[Entry], p: &[Entry], sum: Sum) -> Result<IntRow,
     ensures kept { IfOk result IsKeptRow }
     ensures unfit { IfErr result (λ stop. stop ≡ Unfit → IsUnfit (whole sum r.now p.now)) }
 {
-    if !is_narrow(sum) {
-        return lowest(alloc, r, p, sum);
+    if is_narrow(sum) {
+        lowest::<Narrow>(alloc, r, p, sum)
+    } else {
+        lowest::<Wide>(alloc, r, p, sum)
     }
-    let divisor = divisor_of(r, p, sum);
-    let entries = divided_narrow(alloc, r, p, sum, divisor)?;
-    Ok(IntRow { entries })
 }
 
 // Of so many entries at most the column is sought one by one.
@@ -168,7 +168,7 @@ impl IntRow {
         ensures kept { IfOk result IsKeptRow }
         ensures unfit { IfErr result (λ stop. stop ≡ Unfit → IsUnfit (λ c. coefficient c entries.now)) }
     {
-        lowest(alloc, entries, &[], plain(Factors { k: 1, n: 0 }))
+        lowest::<Wide>(alloc, entries, &[], plain(Factors { k: 1, n: 0 }))
     }
 
     /// The number at a column, which is 0 where the row has none.

@@ -1,12 +1,12 @@
 // The columns of two rows, from the lowest up.
 ghost use Rattle.std.specs.Prelude.{◌≡◌, ℕ, ℤ, Bool, true, false, ◌&&◌, nat_eq, ◌+◌, ◌-◌, ◌<◌, ◌≤◌, ◌^◌};
-ghost use Rattle.std.specs.Prelude.{◌*ℤ◌, ◌+ℤ◌, pos, unsigned_abs, length, IfSome, IfNone, ◌⊎◌};
+ghost use Rattle.std.specs.Prelude.{◌*ℤ◌, ◌+ℤ◌, pos, unsigned_abs, List, length, IfSome, IfNone, ◌⊎◌};
 ghost use Rattle.frac_core.specs.Fraction.{IsFitting};
-ghost use Rattle.row_core.specs.Rows.{IsRising, AllFit, coefficient};
+ghost use Rattle.row_core.specs.Rows.{Term, IsRising, AllFit, coefficient};
 ghost use Rattle.row_core.specs.Combinations.{IsFactor};
 ghost use Rattle.row_core.specs.Walks.{IsSmallProduct, IsFactorOf, HasSmallProducts, HasNext, alone};
 ghost use Rattle.row_core.specs.Walks.{IsRowRead, IsSumRead, IsReading, IsNarrow, IsNarrowSum, IsRead, IsEnd};
-ghost use Rattle.row_core.specs.Walks.{column_at, whole_of};
+ghost use Rattle.row_core.specs.Walks.{HasNarrowProducts, column_at, whole_of};
 
 use crate::entry::{Col, Entry, Factors, Patch};
 
@@ -334,41 +334,52 @@ pub(crate) struct Reading {
     pub next: Place,
 }
 
-/// Reads the sum at the lowest column that has not been read, unless there is none.
-pub(crate) fn next_wide(r: &[Entry], p: &[Entry], sum: Sum, at: Place) -> Option<Reading>
-    requires r_rising { IsRising r.now }
-    requires p_rising { IsRising p.now }
-    requires products { HasSmallProducts sum r.now p.now }
-    requires left { at.left ≤ length r.now }
-    requires right { at.right ≤ length p.now }
-    ensures read { IfSome result (IsReading r.now p.now sum at) }
-    ensures small { IfSome result (λ x. unsigned_abs x.by < 2 ^ 127) }
-    ensures end { IfNone result (IsEnd r.now p.now at) }
-{
-    let read = next_of_both(r, p, sum, at)?;
-    Some(Reading {
-        col: read.col,
-        by: total(sum, read.left, read.right, read.col),
-        next: read.next,
-    })
+/// The width in which a sum's numbers are made.
+pub(crate) trait Width {
+    ghost use Rattle.row_core.specs.declared.walk.Sum.{Sum};
+
+    ghost Holds: { Sum → List Term → List Term → Type 0 };
+
+    /// Reads the sum at the lowest column that has not been read, unless there is none.
+    fn next(r: &[Entry], p: &[Entry], sum: Sum, at: Place) -> Option<Reading>
+        requires r_rising { IsRising r.now }
+        requires p_rising { IsRising p.now }
+        requires holds { Holds sum r.now p.now }
+        requires left { at.left ≤ length r.now }
+        requires right { at.right ≤ length p.now }
+        ensures read { IfSome result (IsReading r.now p.now sum at) }
+        ensures small { IfSome result (λ x. unsigned_abs x.by < 2 ^ 127) }
+        ensures end { IfNone result (IsEnd r.now p.now at) };
 }
 
-/// The same of a sum whose numbers have 64 bits.
-pub(crate) fn next_narrow(r: &[Entry], p: &[Entry], sum: Sum, at: Place) -> Option<Reading>
-    requires r_rising { IsRising r.now }
-    requires p_rising { IsRising p.now }
-    requires r_fits { AllFit r.now }
-    requires p_fits { AllFit p.now }
-    requires narrow { IsNarrowSum sum }
-    requires left { at.left ≤ length r.now }
-    requires right { at.right ≤ length p.now }
-    ensures read { IfSome result (IsReading r.now p.now sum at) }
-    ensures end { IfNone result (IsEnd r.now p.now at) }
-{
-    let read = next_of_both(r, p, sum, at)?;
-    Some(Reading {
-        col: read.col,
-        by: i128::from(narrow_total(sum, read.left, read.right, read.col)),
-        next: read.next,
-    })
+/// 128 bits, which hold the numbers of every sum.
+pub(crate) struct Wide;
+
+impl Width for Wide {
+    ghost Holds = { HasSmallProducts };
+
+    fn next(r: &[Entry], p: &[Entry], sum: Sum, at: Place) -> Option<Reading> {
+        let read = next_of_both(r, p, sum, at)?;
+        Some(Reading {
+            col: read.col,
+            by: total(sum, read.left, read.right, read.col),
+            next: read.next,
+        })
+    }
+}
+
+/// 64 bits, which are faster.
+pub(crate) struct Narrow;
+
+impl Width for Narrow {
+    ghost Holds = { HasNarrowProducts };
+
+    fn next(r: &[Entry], p: &[Entry], sum: Sum, at: Place) -> Option<Reading> {
+        let read = next_of_both(r, p, sum, at)?;
+        Some(Reading {
+            col: read.col,
+            by: i128::from(narrow_total(sum, read.left, read.right, read.col)),
+            next: read.next,
+        })
+    }
 }
