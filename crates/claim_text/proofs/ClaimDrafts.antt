@@ -2,10 +2,11 @@
 use Rattle.std.proofs.Common.{◌≡◌, ℕ, List, [], ◌∷◌, All, Bool, false, IsTrue, ◌↔◌}
 use Rattle.std.proofs.lemmas.Bool.{false≢true}
 use Rattle.problem_core.specs.declared.parts.Level.{Level}
-use Rattle.claim_text.specs.declared.claim_lines.LevelLine.{LevelLine}
-use Rattle.claim_text.specs.declared.claim_lines.ClaimLine.{ClaimLine}
-use Rattle.claim_text.specs.declared.claim_draft.Stage.TheVariants.{Bys}
-use Rattle.claim_text.specs.ClaimTexts.{Says, MayFollow, Draft, Step, closed, HasLevels, IsLevelBefore}
+use Rattle.claim_text.specs.declared.claim.lines.LevelLine.{LevelLine}
+use Rattle.claim_text.specs.declared.claim.lines.ClaimLine.{ClaimLine}
+use Rattle.claim_text.specs.declared.claim.draft.Stage.TheVariants.{Bys}
+use Rattle.claim_text.specs.ClaimTexts.{Says, MayFollow, Draft, Step, closed, HasLevels}
+use Rattle.claim_text.specs.Names.{IsLevelBefore}
 use Rattle.claim_text.proofs.Rising.{All-front}
 use Rattle.claim_text.proofs.SameClaims.{one_line}
 

@@ -8,17 +8,29 @@ use Rattle.std.specs.List.{join_with_byte}
 use Rattle.frac_core.specs.Fraction.{Fraction}
 use Rattle.cert_core.specs.declared.by.By.{By}
 use Rattle.cert_core.specs.Claims.{BestLevel}
-use Rattle.claim_text.specs.declared.claim_lines.ClaimLine.{ClaimLine}
-use Rattle.claim_text.specs.declared.claim_lines.ClaimLine.TheVariants.{OfValue, OfBest, OfConflict, OfLevel, OfBy}
-use Rattle.claim_text.specs.declared.claim_lines.LevelLine.{LevelLine}
-use Rattle.claim_text.specs.declared.claim_draft.Stage.{Stage}
-use Rattle.claim_text.specs.declared.claim_draft.Stage.TheVariants.{Values, Levels, Bys, Conflict}
+use Rattle.claim_text.specs.declared.claim.lines.ClaimLine.{ClaimLine}
+use Rattle.claim_text.specs.declared.claim.lines.ClaimLine.TheVariants.{OfValue, OfBest, OfConflict, OfLevel, OfBy, OfPath, OfPart}
+use Rattle.claim_text.specs.declared.claim.lines.LevelLine.{LevelLine}
+use Rattle.claim_text.specs.declared.claim.draft.Stage.{Stage}
+use Rattle.claim_text.specs.declared.claim.draft.Stage.TheVariants.{Values, Levels, Bys, Conflict, Path}
 use Rattle.claim_text.specs.declared.claim.Claim.{Claim}
-use Rattle.claim_text.specs.declared.claim.Claim.TheVariants.{IsBest, IsConflict}
+use Rattle.claim_text.specs.declared.claim.Claim.TheVariants.{IsBest, IsConflict, IsPath}
 use Rattle.claim_text.specs.declared.stops.ReadStop.TheVariants.{BadLine}
 use Rattle.claim_text.specs.Words.{line_of, words}
 use Rattle.claim_text.specs.ClaimLines.{IsValue, best_lines, best_words, by_line, conflict_words, level_line, lines_of_levels, value_line}
-use Rattle.claim_text.specs.ClaimTexts.{Draft, Ends, HasBys, HasLevels, IsBestWritten, IsDraft, IsLevelBefore, IsLevelRead, MayFollow, ReadFrom, Reads, Says, Step, StopsAt, closed, nothing_read, with_line}
+use Rattle.claim_text.specs.ClaimTexts.{Draft, Ends, HasBys, HasLevels, IsBestWritten, IsDraft, IsLevelRead, MayFollow, ReadFrom, Reads, Says, Step, StopsAt, closed, nothing_read, with_line}
+use Rattle.claim_text.specs.Names.{IsLevelBefore}
+use Rattle.std.proofs.Common.{Bool, Option, suc}
+use Rattle.std.specs.Str.Lines.{lines}
+use Rattle.std.proofs.lemmas.List.{length-map}
+use Rattle.problem_core.specs.declared.stops.Quantity.{Quantity}
+use Rattle.problem_core.specs.Corners.{Swap}
+use Rattle.claim_text.specs.declared.claim.path_lines.PathLine.{PathLine}
+use Rattle.claim_text.specs.declared.claim.path_lines.PathLine.TheVariants.{OfIn, OfSwap, OfUnfit}
+use Rattle.claim_text.specs.PathTexts.{kind_words, in_words, swap_words, unfit_words, in_line, swap_line, unfit_line, path_lines, unfit_lines}
+use Rattle.claim_text.specs.PathForms.{PathDraft, SaysPart, PartMayFollow, path_of, with_part}
+use Rattle.claim_text.specs.ClaimTexts.{HasNoMoreParts, IsStage, stage_with}
+use Rattle.claim_text.proofs.Readings.{lines_count}
 use Rattle.claim_text.proofs.ClaimReadings.{draft_nothing, draft_read, no_bad_line, one_reading, read_more}
 use Rattle.claim_text.proofs.ClaimRoundTrip.{reads_lines}
 use Rattle.claim_text.specs.ClaimForms.{AreLinesOf, ClaimsAreTheForm, IsFirstOutside, IsFront, LeavesForm}
@@ -30,12 +42,14 @@ stage_lines Values values levels bys = map value_line values
 stage_lines Levels values levels bys = best_lines values levels
 stage_lines (Bys l) values levels bys = best_lines values (levels ++ record { level = l.level; scale = l.scale; by = bys } ∷ [])
 stage_lines Conflict values levels bys = line_of conflict_words ∷ map by_line bys
+stage_lines (Path d) values levels bys = path_lines (path_of d) ++ unfit_lines d.unfit
 
 abbrev IsStart : Stage → List BestLevel → List By → Type 0
 IsStart Values levels bys = (levels ≡ []) × (bys ≡ [])
 IsStart Levels levels bys = Unit {0}
 IsStart (Bys l) levels bys = Unit {0}
 IsStart Conflict levels bys = Unit {0}
+IsStart (Path d) levels bys = Unit {0}
 
 -- the draft is what these lines say
 record Says-so (d : Draft) (ls : List (List ℕ)) : Type 0 where
@@ -68,6 +82,7 @@ has-levels Values values levels bys h = absurd h
 has-levels Levels values levels bys h = refl
 has-levels (Bys l) values levels bys h = refl
 has-levels Conflict values levels bys h = absurd h
+has-levels (Path d) values levels bys h = absurd h
 
 level-more : (values : List (ℕ × Fraction)) (levels : List BestLevel) (l : LevelLine) → best_lines values levels ++ level_line l ∷ [] ≡ best_lines values (levels ++ level_of l [] ∷ [])
 level-more values levels l = best-more values (lines_of_levels levels) (level_line l ∷ []) (lines_of_levels (levels ++ level_of l [] ∷ [])) (one-level levels l [])
@@ -81,12 +96,51 @@ by-more (Bys l) values levels bys b h =
     ∙ sym (append_assoc (lines_of_levels levels) (level_line l ∷ map by_line bys) (by_line b ∷ []))
     ∙ ap (λ (ls : List (List ℕ)). ls ++ by_line b ∷ []) (sym (one-level levels l bys)))
 by-more Conflict values levels bys b h = ap (λ (ls : List (List ℕ)). line_of conflict_words ∷ ls) (sym (map-append by_line bys (b ∷ [])))
+by-more (Path d) values levels bys b h = absurd h
 
 same-start : (s : Stage) (levels : List BestLevel) (bys more : List By) → HasBys s → IsStart s levels more
 same-start Values levels bys more h = absurd h
 same-start Levels levels bys more h = absurd h
 same-start (Bys l) levels bys more h = tt
 same-start Conflict levels bys more h = tt
+same-start (Path d) levels bys more h = absurd h
+
+-- ---- one part of a path more
+
+abbrev part-line : PathLine → List ℕ
+part-line (OfIn m) = in_line m
+part-line (OfSwap s) = swap_line s
+part-line (OfUnfit q) = unfit_line q
+
+part-is : (line : List ℕ) (part : PathLine) → SaysPart line part → line ≡ part-line part
+part-is line (OfIn m) says = line-is line (in_words m) says.1
+part-is line (OfSwap s) says = line-is line (swap_words s) says.1
+part-is line (OfUnfit q) says = line-is line (unfit_words q) says.1
+
+mark-more : (k m : List ℕ) (ms us : List (List ℕ)) → us ≡ ms ++ m ∷ [] → ((k ∷ ms ++ []) ++ []) ++ m ∷ [] ≡ (k ∷ us ++ []) ++ []
+mark-more k m ms us e =
+    ap (λ (ls : List (List ℕ)). ls ++ m ∷ []) (append-nil (k ∷ ms ++ [])) ∙ ap (λ (ls : List (List ℕ)). (k ∷ ls) ++ m ∷ []) (append-nil ms)
+    ∙ ap (λ (ls : List (List ℕ)). k ∷ ls) (sym e) ∙ ap (λ (ls : List (List ℕ)). k ∷ ls) (sym (append-nil us)) ∙ sym (append-nil (k ∷ us ++ []))
+
+swap-more : (k w : List ℕ) (ms ss us : List (List ℕ)) → us ≡ ss ++ w ∷ [] → ((k ∷ ms ++ ss) ++ []) ++ w ∷ [] ≡ (k ∷ ms ++ us) ++ []
+swap-more k w ms ss us e =
+    ap (λ (ls : List (List ℕ)). ls ++ w ∷ []) (append-nil (k ∷ ms ++ ss)) ∙ append_assoc (k ∷ ms) ss (w ∷ [])
+    ∙ ap (λ (ls : List (List ℕ)). k ∷ ms ++ ls) (sym e) ∙ sym (append-nil (k ∷ ms ++ us))
+
+path-more : (d : PathDraft) (part : PathLine) → PartMayFollow d part
+    → (path_lines (path_of d) ++ unfit_lines d.unfit) ++ part-line part ∷ [] ≡ path_lines (path_of (with_part d part)) ++ unfit_lines (with_part d part).unfit
+path-more d (OfIn m) may =
+    let k = line_of (kind_words d.dual) in
+    subst (λ (ss : List Swap). ((k ∷ map in_line d.corner ++ map swap_line ss) ++ unfit_lines d.unfit) ++ in_line m ∷ [] ≡ (k ∷ map in_line (d.corner ++ m ∷ []) ++ map swap_line ss) ++ unfit_lines d.unfit) (sym may.0)
+    (subst (λ (q : Option Quantity). ((k ∷ map in_line d.corner ++ []) ++ unfit_lines q) ++ in_line m ∷ [] ≡ (k ∷ map in_line (d.corner ++ m ∷ []) ++ []) ++ unfit_lines q) (sym may.1)
+    (mark-more k (in_line m) (map in_line d.corner) (map in_line (d.corner ++ m ∷ [])) (map-append in_line d.corner (m ∷ []))))
+path-more d (OfSwap s) may =
+    let k = line_of (kind_words d.dual) in
+    subst (λ (q : Option Quantity). ((k ∷ map in_line d.corner ++ map swap_line d.swaps) ++ unfit_lines q) ++ swap_line s ∷ [] ≡ (k ∷ map in_line d.corner ++ map swap_line (d.swaps ++ s ∷ [])) ++ unfit_lines q) (sym may)
+    (swap-more k (swap_line s) (map in_line d.corner) (map swap_line d.swaps) (map swap_line (d.swaps ++ s ∷ [])) (map-append swap_line d.swaps (s ∷ [])))
+path-more d (OfUnfit q) may =
+    subst (λ (u : Option Quantity). (path_lines (path_of d) ++ unfit_lines u) ++ unfit_line q ∷ [] ≡ path_lines (path_of d) ++ unfit_line q ∷ []) (sym may)
+    (ap (λ (ls : List (List ℕ)). ls ++ unfit_line q ∷ []) (append-nil (path_lines (path_of d))))
 
 -- ---- one line more
 
@@ -139,12 +193,29 @@ module _ (d : Draft) (ls : List (List ℕ)) (line : List ℕ) (h : Says-so d ls)
     start = same-start d.stage d.levels d.bys (d.bys ++ b ∷ []) has;
   }
 
+  of-path : (dual : Bool) → Says line (OfPath dual) → d.stage ≡ Values → d.values ≡ [] → Says-so (with_line d (OfPath dual)) (ls ++ line ∷ [])
+  of-path dual says stage none = record {
+    lines = then Values (line_of (kind_words dual)) stage (line-is line _ says) ∙ ap (λ (values : List (ℕ × Fraction)). map value_line values ++ line_of (kind_words dual) ∷ []) none;
+    values = h.values;
+    start = tt;
+  }
+
+  of-part : (part : PathLine) → Says line (OfPart part) → (p : PathDraft) → d.stage ≡ Path p → PartMayFollow p part → Says-so (with_line d (OfPart part)) (ls ++ line ∷ [])
+  of-part part says p stage may = record {
+    lines = then (Path p) (part-line part) stage (part-is line part says) ∙ path-more p part may
+        ∙ sym (ap (λ (s : Stage). at (stage_with s part)) stage);
+    values = h.values;
+    start = subst (λ (s : Stage). IsStart (stage_with s part) d.levels d.bys) (sym stage) tt;
+  }
+
   of-item : (item : ClaimLine) → Says line item → MayFollow d item → Says-so (with_line d item) (ls ++ line ∷ [])
   of-item (OfValue v) says may = of-value v says may.0
   of-item OfBest says may = of-best says may
   of-item OfConflict says may = of-conflict says may.0 may.1
   of-item (OfLevel l) says may = of-level l says may.0
   of-item (OfBy b) says may = of-by b says may.0
+  of-item (OfPath dual) says may = of-path dual says may.0 may.1
+  of-item (OfPart part) says may = of-part part says may.0 may.1 may.2
 
   of-step : (new : Draft) → Step d line new → Says-so new (ls ++ line ∷ [])
   of-step new step = subst (λ (n : Draft). Says-so n (ls ++ line ∷ [])) (sym step.is) (of-item step.item step.says step.may)
@@ -171,10 +242,14 @@ whole-best d all h is has = (written d all h is, h.lines ∙ has-levels d.stage 
 whole-conflict : (d : Draft) (all : List (List ℕ)) → Says-so d all → IsDraft d → d.stage ≡ Conflict → AreLinesOf all (IsConflict d.bys)
 whole-conflict d all h is stage = (is.bys, h.lines ∙ ap (λ (s : Stage). stage_lines s d.values d.levels d.bys) stage)
 
+whole-path : (d : Draft) (all : List (List ℕ)) → Says-so d all → IsDraft d → (p : PathDraft) → d.stage ≡ Path p → AreLinesOf all (IsPath (path_of p) p.unfit)
+whole-path d all h is p stage = (subst IsStage stage is.stage, h.lines ∙ ap (λ (s : Stage). stage_lines s d.values d.levels d.bys) stage)
+
 ended : (d : Draft) (all : List (List ℕ)) (c : Claim) → Says-so d all → IsDraft d → Ends d c → AreLinesOf all c
 ended d all (IsBest values best) h is (has, same, levels) =
     subst (AreLinesOf all) (ap₂ IsBest (sym same) (sym levels)) (whole-best d all h is has)
 ended d all (IsConflict bys) h is (stage, same) = subst (AreLinesOf all) (ap IsConflict (sym same)) (whole-conflict d all h is stage)
+ended d all (IsPath path unfit) h is (p, stage, same, quantity) = subst (AreLinesOf all) (ap₂ IsPath (sym same) (sym quantity)) (whole-path d all h is p stage)
 
 kept : (all : List (List ℕ)) (d : Draft) → ReadFrom nothing_read all d → IsDraft d
 kept all d read = draft_read all nothing_read d read draft_nothing
@@ -202,6 +277,7 @@ draft-front all d h is Values stage = (
 draft-front all d h is Levels stage = all-front all (best-of d) (whole-best d all h is (subst HasLevels (sym stage) tt))
 draft-front all d h is (Bys l) stage = all-front all (best-of d) (whole-best d all h is (subst HasLevels (sym stage) tt))
 draft-front all d h is Conflict stage = all-front all (IsConflict d.bys) (whole-conflict d all h is stage)
+draft-front all d h is (Path p) stage = all-front all (IsPath (path_of p) p.unfit) (whole-path d all h is p stage)
 
 read-front : (all : List (List ℕ)) (d : Draft) → ReadFrom nothing_read all d → IsFront all
 read-front all d read = draft-front all d (all-so all d read) (kept all d read) d.stage refl
@@ -230,6 +306,7 @@ bad-leaves before line d read bad front =
 open-none : (d : Draft) (c : Claim) → d.stage ≡ Values → Ends d c → ⊥
 open-none d (IsBest values best) stage (has, same, levels) = subst HasLevels stage has
 open-none d (IsConflict bys) stage (is, same) = let e : Conflict ≡ Values = sym is ∙ stage in subst HasBys e tt
+open-none d (IsPath path unfit) stage (p, is, same, quantity) = let e : Path p ≡ Values = sym is ∙ stage in cc
 
 early-leaves : (all : List (List ℕ)) (d : Draft) → ReadFrom nothing_read all d → d.stage ≡ Values → (c : Claim) → AreLinesOf all c → ⊥
 early-leaves all d read stage c are =
@@ -261,6 +338,7 @@ waits all d read none Values stage = stage
 waits all d read none Levels stage = absurd (none (best-of d) (whole-best d all (all-so all d read) (kept all d read) (subst HasLevels (sym stage) tt)))
 waits all d read none (Bys l) stage = absurd (none (best-of d) (whole-best d all (all-so all d read) (kept all d read) (subst HasLevels (sym stage) tt)))
 waits all d read none Conflict stage = absurd (none (IsConflict d.bys) (whole-conflict d all (all-so all d read) (kept all d read) stage))
+waits all d read none (Path p) stage = absurd (none (IsPath (path_of p) p.unfit) (whole-path d all (all-so all d read) (kept all d read) p stage))
 
 outside-at : (all before after : List (List ℕ)) (n : ℕ) → all ≡ before ++ after → n ≡ length before + 1 → IsFront before → LeavesForm before after → StopsAt all (BadLine n)
 outside-at all before [] n parts number front leaves =
@@ -344,3 +422,21 @@ claims-are-the-form = record {
   one = one-outside;
   apart = apart-outside;
 }
+
+-- ---- the parts of a path
+
+-- each part has a line of its own
+pub few-parts : (c : Claim) (text : List ℕ) → Reads (lines text) c → HasNoMoreParts c (length text)
+few-parts (IsBest values best) text read = tt
+few-parts (IsConflict bys) text read = tt
+few-parts (IsPath path unfit) text read =
+    let are = read-form (lines text) (IsPath path unfit) read in
+    let all : length (lines text) ≡ length (path_lines path ++ unfit_lines unfit) = ap length are.1 in
+    let two : length (path_lines path ++ unfit_lines unfit) ≡ length (path_lines path) + length (unfit_lines unfit) = length-append (path_lines path) (unfit_lines unfit) in
+    let one : length (path_lines path) ≡ length (map in_line path.corner) + length (map swap_line path.swaps) + 1 = parted (map in_line path.corner) (map swap_line path.swaps) in
+    let marks : length (map in_line path.corner) ≡ length path.corner = length-map path.corner in_line in
+    let swaps : length (map swap_line path.swaps) ≡ length path.swaps = length-map path.swaps swap_line in
+    omega (arith, all, two, one, marks, swaps, lines_count text)
+  where
+    parted : (ms ss : List (List ℕ)) → suc (length (ms ++ ss)) ≡ length ms + length ss + 1
+    parted ms ss = omega (arith, length-append ms ss)

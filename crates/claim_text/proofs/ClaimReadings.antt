@@ -11,12 +11,21 @@ use Rattle.problem_core.specs.declared.parts.Level.{Level}
 use Rattle.problem_core.specs.declared.parts.Level.TheVariants.{Priority, Stay as StayLevel}
 use Rattle.cert_core.specs.declared.by.By.{By}
 use Rattle.cert_core.specs.Claims.{BestLevel, AreBys, IsLevel, AreLevels, IsPlace}
-use Rattle.claim_text.specs.declared.claim_lines.ClaimLine.{ClaimLine}
-use Rattle.claim_text.specs.declared.claim_lines.ClaimLine.TheVariants.{OfValue, OfBest, OfConflict, OfLevel, OfBy}
-use Rattle.claim_text.specs.declared.claim_draft.Stage.{Stage}
-use Rattle.claim_text.specs.declared.claim_draft.Stage.TheVariants.{Values, Levels, Bys, Conflict}
-use Rattle.claim_text.specs.ClaimLines.{IsBy, IsLevelName}
-use Rattle.claim_text.specs.ClaimTexts.{Says, MayFollow, Draft, Step, ReadFrom, nothing_read, closed, with_line, AreRead, IsLevelRead, IsDraft, IsRowBefore, IsLevelBefore, IsFirstBad}
+use Rattle.claim_text.specs.declared.claim.lines.ClaimLine.{ClaimLine}
+use Rattle.claim_text.specs.declared.claim.lines.ClaimLine.TheVariants.{OfValue, OfBest, OfConflict, OfLevel, OfBy, OfPath, OfPart}
+use Rattle.claim_text.specs.declared.claim.draft.Stage.{Stage}
+use Rattle.claim_text.specs.declared.claim.draft.Stage.TheVariants.{Values, Levels, Bys, Conflict, Path}
+use Rattle.claim_text.specs.ClaimLines.{IsBy}
+use Rattle.claim_text.specs.Names.{IsLevelName}
+use Rattle.claim_text.specs.ClaimTexts.{Says, MayFollow, Draft, Step, ReadFrom, nothing_read, closed, with_line, AreRead, IsLevelRead, IsDraft, IsFirstBad}
+use Rattle.claim_text.specs.Names.{IsRowName, IsRowBefore, IsLevelBefore}
+use Rattle.std.proofs.Common.{Bool, None}
+use Rattle.problem_core.specs.declared.parts.Mark.{Mark}
+use Rattle.claim_text.specs.declared.claim.path_lines.PathLine.{PathLine}
+use Rattle.claim_text.specs.declared.claim.path_lines.PathLine.TheVariants.{OfIn, OfSwap, OfUnfit}
+use Rattle.claim_text.specs.PathTexts.{IsSwapName}
+use Rattle.claim_text.specs.PathForms.{PathDraft, SaysPart, PartMayFollow, IsPathWritten, path_begun, path_of, with_part}
+use Rattle.claim_text.specs.ClaimTexts.{IsStage}
 use Rattle.claim_text.proofs.LineLists.{line_here}
 use Rattle.claim_text.proofs.SameClaims.{one_line}
 use Rattle.claim_text.proofs.Rising.{All-front, AllPairs-front, All-last, All-at_end}
@@ -115,6 +124,7 @@ closed_levels (Bys l) levels bys b are more =
     All-push IsLevelRead levels (record { level = l.level; scale = l.scale; by = bys ++ b ∷ [] }) (All-front IsLevelRead levels (record { level = l.level; scale = l.scale; by = bys } ∷ []) are)
     (record { level = last.level; scale = last.scale; by = more })
 closed_levels Conflict levels bys b are more = are
+closed_levels (Path d) levels bys b are more = are
 
 closed_order : (stage : Stage) (levels : List BestLevel) (bys new : List By) → AllPairs (λ k l. IsLevelBefore k.level l.level) (closed stage levels bys) → AllPairs (λ k l. IsLevelBefore k.level l.level) (closed stage levels new)
 closed_order Values levels bys new are = are
@@ -124,6 +134,30 @@ closed_order (Bys l) levels bys new are =
     (AllPairs-front (λ (k : BestLevel) (m : BestLevel). IsLevelBefore k.level m.level) levels (record { level = l.level; scale = l.scale; by = bys } ∷ []) are)
     (All-last (λ (k : BestLevel) (m : BestLevel). IsLevelBefore k.level m.level) levels (record { level = l.level; scale = l.scale; by = bys }) are)
 closed_order Conflict levels bys new are = are
+closed_order (Path d) levels bys new are = are
+
+path_nothing : (dual : Bool) → IsPathWritten (path_of (path_begun dual)) None
+path_nothing dual = record {
+  marks = All-nil (λ (m : Mark). IsRowName m.row);
+  order = none_pairs (λ (m : Mark) (n : Mark). IsRowBefore m.row n.row);
+  swaps = All-nil IsSwapName;
+  quantity = tt;
+}
+
+path_part : (d : PathDraft) (line : List ℕ) (part : PathLine) → SaysPart line part → PartMayFollow d part → IsPathWritten (path_of d) d.unfit → IsPathWritten (path_of (with_part d part)) (with_part d part).unfit
+path_part d line (OfIn m) says may good = record {
+  marks = All-push (λ m. IsRowName m.row) d.corner m good.marks says.0;
+  order = all_pairs_push (λ m n. IsRowBefore m.row n.row) d.corner m good.order may.2;
+  swaps = good.swaps;
+  quantity = good.quantity;
+}
+path_part d line (OfSwap s) says may good = record {
+  marks = good.marks;
+  order = good.order;
+  swaps = All-push IsSwapName d.swaps s good.swaps says.0;
+  quantity = good.quantity;
+}
+path_part d line (OfUnfit q) says may good = record { marks = good.marks; order = good.order; swaps = good.swaps; quantity = says.0 }
 
 draft_line : (old : Draft) (line : List ℕ) (item : ClaimLine) → Says line item → MayFollow old item → IsDraft old → IsDraft (with_line old item)
 draft_line old line (OfValue v) says may good = record {
@@ -161,6 +195,20 @@ draft_line old line (OfBy b) says may good = record {
   level_order = closed_order old.stage old.levels old.bys (old.bys ++ b ∷ []) good.level_order;
   bys = by_read old.bys b good.bys says.0 may.1;
 }
+draft_line old line (OfPath dual) says may good = record {
+  stage = path_nothing dual;
+  values = good.values;
+  levels = subst (λ (s : Stage). All IsLevelRead (closed s old.levels old.bys)) may.0 good.levels;
+  level_order = subst (λ (s : Stage). AllPairs (λ k l. IsLevelBefore k.level l.level) (closed s old.levels old.bys)) may.0 good.level_order;
+  bys = good.bys;
+}
+draft_line old line (OfPart part) says (d, stage, may) good = rw stage (record {
+  stage = path_part d line part says may (subst IsStage stage good.stage);
+  values = good.values;
+  levels = subst (λ (s : Stage). All IsLevelRead (closed s old.levels old.bys)) stage good.levels;
+  level_order = subst (λ (s : Stage). AllPairs (λ k l. IsLevelBefore k.level l.level) (closed s old.levels old.bys)) stage good.level_order;
+  bys = good.bys;
+})
 
 pub draft_read : (xs : List (List ℕ)) (old new : Draft) → ReadFrom old xs new → IsDraft old → IsDraft new
 draft_read [] old new read good = rw read good

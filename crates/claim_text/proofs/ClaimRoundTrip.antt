@@ -13,19 +13,36 @@ use Rattle.problem_core.specs.declared.parts.Level.{Level}
 use Rattle.problem_core.specs.declared.parts.Level.TheVariants.{Priority, Stay as StayLevel}
 use Rattle.cert_core.specs.declared.by.By.{By}
 use Rattle.cert_core.specs.Claims.{BestLevel}
-use Rattle.claim_text.specs.declared.claim_lines.LevelLine.{LevelLine}
-use Rattle.claim_text.specs.declared.claim_lines.ClaimLine.TheVariants.{OfValue, OfBest, OfConflict, OfLevel, OfBy}
-use Rattle.claim_text.specs.declared.claim_draft.Stage.{Stage}
-use Rattle.claim_text.specs.declared.claim_draft.Stage.TheVariants.{Values, Levels, Bys, Conflict}
+use Rattle.claim_text.specs.declared.claim.lines.LevelLine.{LevelLine}
+use Rattle.claim_text.specs.declared.claim.lines.ClaimLine.TheVariants.{OfValue, OfBest, OfConflict, OfLevel, OfBy, OfPath, OfPart}
+use Rattle.claim_text.specs.declared.claim.draft.Stage.{Stage}
+use Rattle.claim_text.specs.declared.claim.draft.Stage.TheVariants.{Values, Levels, Bys, Conflict, Path}
 use Rattle.claim_text.specs.declared.claim.Claim.{Claim}
-use Rattle.claim_text.specs.declared.claim.Claim.TheVariants.{IsBest, IsConflict}
+use Rattle.claim_text.specs.declared.claim.Claim.TheVariants.{IsBest, IsConflict, IsPath}
 use Rattle.claim_text.specs.declared.stops.ReadStop.{ReadStop}
 use Rattle.claim_text.specs.declared.stops.ReadStop.TheVariants.{BadLine, OutOfMemory}
 use Rattle.claim_text.specs.Words.{line_of}
-use Rattle.claim_text.specs.ClaimLines.{row_word, level_word, value_words, level_words, by_words, best_words, conflict_words, value_line, level_line, by_line, lines_of_levels, claim_lines, claim_text, IsRowName, IsLevelName, IsValue, IsLevelLine, IsBy}
-use Rattle.claim_text.specs.ClaimTexts.{Draft, Step, ReadFrom, nothing_read, closed, HasLevels, HasBys, AreRead, IsLevelRead, IsRowBefore, IsLevelBefore, Ends, Reads, StopsAt, IsWritten, IsRead, LinesStopAt}
+use Rattle.claim_text.specs.ClaimLines.{value_words, level_words, by_words, best_words, conflict_words, value_line, level_line, by_line, lines_of_levels, claim_lines, claim_text, IsValue, IsLevelLine, IsBy}
+use Rattle.claim_text.specs.Names.{row_word, level_word, IsRowName, IsLevelName}
+use Rattle.claim_text.specs.ClaimTexts.{Draft, Step, ReadFrom, nothing_read, closed, HasLevels, HasBys, AreRead, IsLevelRead, Ends, Reads, StopsAt, IsWritten, IsRead, LinesStopAt}
+use Rattle.claim_text.specs.Names.{IsRowBefore, IsLevelBefore}
+use Rattle.std.proofs.Common.{Bool, true, false, Option, None, Some}
+use Rattle.problem_core.specs.declared.parts.Side.{Side}
+use Rattle.problem_core.specs.declared.parts.Side.TheVariants.{Under, Over}
+use Rattle.problem_core.specs.declared.parts.Mark.{Mark}
+use Rattle.problem_core.specs.declared.stops.What.{What}
+use Rattle.problem_core.specs.declared.stops.What.TheVariants as what
+use Rattle.problem_core.specs.declared.stops.Quantity.{Quantity}
+use Rattle.problem_core.specs.declared.stops.Quantity.TheVariants.{Plain, Terms, Rows, Shifts}
+use Rattle.problem_core.specs.Corners.{Swap}
+use Rattle.cert_core.specs.Paths.{Path as LawfulPath}
+use Rattle.claim_text.specs.declared.claim.path_lines.PathLine.{PathLine}
+use Rattle.claim_text.specs.declared.claim.path_lines.PathLine.TheVariants.{OfIn, OfSwap, OfUnfit}
+use Rattle.claim_text.specs.PathTexts.{side_word, mark_text, kind_words, in_words, swap_words, what_words, quantity_words, unfit_words, in_line, swap_line, unfit_line, unfit_lines, IsWhatName, IsCount, IsQuantityName, IsSwapName}
+use Rattle.claim_text.specs.PathForms.{PathDraft, SaysPart, PartMayFollow, IsPathWritten, IsQuantityWritten, path_begun, path_of, with_part}
+use Rattle.claim_text.specs.ClaimTexts.{IsBestWritten}
 use Rattle.claim_text.proofs.Rising.{All-front, AllPairs-front, All-last, All-at_end}
-use Rattle.claim_text.proofs.Visible.{IsVisible, decimal_visible, signed_visible, fraction_visible, words_of_line, line_bytes, lines_of_text}
+use Rattle.claim_text.proofs.Visible.{IsVisible, both, decimal_visible, signed_visible, fraction_visible, words_of_line, line_bytes, lines_of_text}
 use Rattle.claim_text.proofs.ClaimReadings.{read_two, one_reading, no_bad_line}
 
 -- ---- words are visible
@@ -84,6 +101,75 @@ best_visible = word (codes "best") [] best_word no_word
 
 conflict_visible : All IsVisible conflict_words
 conflict_visible = word (codes "conflict") [] conflict_word no_word
+
+-- ---- words of paths
+
+path_first : IsVisible (codes "path")
+path_first = visible 112 (codes "ath") (omega arith) (visible 97 (codes "th") (omega arith) (visible 116 (codes "h") (omega arith) (visible 104 [] (omega arith) no_byte)))
+
+dual_word : IsVisible (codes "dual")
+dual_word = visible 100 (codes "ual") (omega arith) (visible 117 (codes "al") (omega arith) (visible 97 (codes "l") (omega arith) (visible 108 [] (omega arith) no_byte)))
+
+primal_word : IsVisible (codes "primal")
+primal_word = visible 112 (codes "rimal") (omega arith) (visible 114 (codes "imal") (omega arith) (visible 105 (codes "mal") (omega arith) (visible 109 (codes "al") (omega arith) (visible 97 (codes "l") (omega arith) (visible 108 [] (omega arith) no_byte)))))
+
+in_first : IsVisible (codes "in")
+in_first = visible 105 (codes "n") (omega arith) (visible 110 [] (omega arith) no_byte)
+
+swap_first : IsVisible (codes "swap")
+swap_first = visible 115 (codes "wap") (omega arith) (visible 119 (codes "ap") (omega arith) (visible 97 (codes "p") (omega arith) (visible 112 [] (omega arith) no_byte)))
+
+unfit_first : IsVisible (codes "unfit")
+unfit_first = visible 117 (codes "nfit") (omega arith) (visible 110 (codes "fit") (omega arith) (visible 102 (codes "it") (omega arith) (visible 105 (codes "t") (omega arith) (visible 116 [] (omega arith) no_byte))))
+
+attr_is : IsVisible (codes "attr")
+attr_is = visible 97 (codes "ttr") (omega arith) (visible 116 (codes "tr") (omega arith) (visible 116 (codes "r") (omega arith) (visible 114 [] (omega arith) no_byte)))
+
+mark_is : IsVisible (codes "mark")
+mark_is = visible 109 (codes "ark") (omega arith) (visible 97 (codes "rk") (omega arith) (visible 114 (codes "k") (omega arith) (visible 107 [] (omega arith) no_byte)))
+
+terms_is : IsVisible (codes "terms")
+terms_is = visible 116 (codes "erms") (omega arith) (visible 101 (codes "rms") (omega arith) (visible 114 (codes "ms") (omega arith) (visible 109 (codes "s") (omega arith) (visible 115 [] (omega arith) no_byte))))
+
+rows_is : IsVisible (codes "rows")
+rows_is = visible 114 (codes "ows") (omega arith) (visible 111 (codes "ws") (omega arith) (visible 119 (codes "s") (omega arith) (visible 115 [] (omega arith) no_byte)))
+
+shifts_is : IsVisible (codes "shifts")
+shifts_is = visible 115 (codes "hifts") (omega arith) (visible 104 (codes "ifts") (omega arith) (visible 105 (codes "fts") (omega arith) (visible 102 (codes "ts") (omega arith) (visible 116 (codes "s") (omega arith) (visible 115 [] (omega arith) no_byte)))))
+
+mark_visible : (m : Mark) → IsRowName m.row → IsVisible (mark_text m)
+mark_visible m is = both (row_word m.row) (side_word m.side) (row_visible m.row is) (side_visible m.side)
+  where
+    side_visible : (s : Side) → IsVisible (side_word s)
+    side_visible Under = visible 45 [] (omega arith) no_byte
+    side_visible Over = visible 43 [] (omega arith) no_byte
+
+kind_visible : (dual : Bool) → All IsVisible (kind_words dual)
+kind_visible true = word (codes "path") (codes "dual" ∷ []) path_first (word (codes "dual") [] dual_word no_word)
+kind_visible false = word (codes "path") (codes "primal" ∷ []) path_first (word (codes "primal") [] primal_word no_word)
+
+in_visible : (m : Mark) → IsRowName m.row → All IsVisible (in_words m)
+in_visible m is = word (codes "in") (mark_text m ∷ []) in_first (word (mark_text m) [] (mark_visible m is) no_word)
+
+swap_visible : (s : Swap) → IsSwapName s → All IsVisible (swap_words s)
+swap_visible s is = word (codes "swap") (mark_text s.enter ∷ mark_text s.leave ∷ []) swap_first (word (mark_text s.enter) (mark_text s.leave ∷ []) (mark_visible s.enter is.enter) (word (mark_text s.leave) [] (mark_visible s.leave is.leave) no_word))
+
+what_visible : (w : What) → IsWhatName w → All IsVisible (what_words w)
+what_visible (what.Attr attr) is = word (codes "attr") (decimal attr ∷ []) attr_is (word (decimal attr) [] (decimal_visible attr (omega (arith, is.1))) no_word)
+what_visible (what.Mark m) is = word (codes "mark") (mark_text m ∷ []) mark_is (word (mark_text m) [] (mark_visible m is) no_word)
+what_visible (what.Level l) is = word (codes "level") (level_word l ∷ []) level_first (word (level_word l) [] (level_visible l is) no_word)
+
+count_visible : (part : List ℕ) (j : ℕ) → IsVisible part → IsCount j → All IsVisible (part ∷ decimal j ∷ [])
+count_visible part j is count = word part (decimal j ∷ []) is (word (decimal j) [] (decimal_visible j (omega (arith, count.1))) no_word)
+
+quantity_visible : (q : Quantity) → IsQuantityName q → All IsVisible (quantity_words q)
+quantity_visible (Plain w) is = what_visible w is
+quantity_visible (Terms m j) is = All-append IsVisible (what_words (what.Mark m)) (codes "terms" ∷ decimal j ∷ []) (what_visible (what.Mark m) is.0) (count_visible (codes "terms") j terms_is is.1)
+quantity_visible (Rows l j) is = All-append IsVisible (what_words (what.Level l)) (codes "rows" ∷ decimal j ∷ []) (what_visible (what.Level l) is.0) (count_visible (codes "rows") j rows_is is.1)
+quantity_visible (Shifts w j) is = All-append IsVisible (what_words w) (codes "shifts" ∷ decimal j ∷ []) (what_visible w is.0) (count_visible (codes "shifts") j shifts_is is.1)
+
+unfit_visible : (q : Quantity) → IsQuantityName q → All IsVisible (unfit_words q)
+unfit_visible q is = word (codes "unfit") (quantity_words q) unfit_first (quantity_visible q is)
 
 -- ---- steps
 
@@ -171,18 +257,90 @@ best_step values = record { item = OfBest; says = words_of_line _ _ best_visible
 conflict_step : Step nothing_read (line_of conflict_words) (record { stage = Conflict; values = []; levels = []; bys = [] })
 conflict_step = record { item = OfConflict; says = words_of_line _ _ conflict_visible; may = (refl, refl); is = refl }
 
-pub reads_lines : (c : Claim) → IsWritten c → Reads (claim_lines c) c
+reads_best : (values : List (ℕ × Fraction)) (best : List BestLevel) → IsBestWritten values best → Reads (claim_lines (IsBest values best)) (IsBest values best)
 unfolding values_from bys_from
-reads_lines (IsBest values best) is =
+reads_best values best is =
     let started : Draft = record { stage = Levels; values = values; levels = []; bys = [] } in
     let levels = read_levels started [] best tt refl is.levels is.level_order in (
       levels.0,
       read_two (map value_line values) (line_of best_words ∷ lines_of_levels best) nothing_read (values_from values) levels.0 (read_values [] values is.values is.rising) (started, best_step values, levels.1),
       (levels.2, sym levels.3, sym levels.4),
     )
-reads_lines (IsConflict bys) is =
+
+reads_conflict : (bys : List By) → AreRead bys → Reads (claim_lines (IsConflict bys)) (IsConflict bys)
+unfolding bys_from
+reads_conflict bys is =
     let started : Draft = record { stage = Conflict; values = []; levels = []; bys = [] } in
     (bys_from Conflict [] [] bys, (started, conflict_step, read_bys Conflict [] [] [] bys tt is), (refl, refl))
+
+-- ---- paths
+
+path_from : PathDraft → Draft
+path_from d = record { stage = Path d; values = []; levels = []; bys = [] }
+
+draft_from : Bool → List Mark → List Swap → Option Quantity → PathDraft
+draft_from dual corner swaps unfit = record { dual = dual; corner = corner; swaps = swaps; unfit = unfit }
+
+kind_step : (dual : Bool) → Step nothing_read (line_of (kind_words dual)) (path_from (path_begun dual))
+unfolding path_from
+kind_step dual = record { item = OfPath dual; says = words_of_line _ _ (kind_visible dual); may = (refl, refl); is = refl }
+
+part_step : (d : PathDraft) (part : PathLine) (line : List ℕ) → SaysPart line part → PartMayFollow d part → Step (path_from d) line (path_from (with_part d part))
+unfolding path_from
+part_step d part line says may = record { item = OfPart part; says = says; may = (d, refl, may); is = refl }
+
+read_marks : (dual : Bool) (done todo : List Mark) → All (λ m. IsRowName m.row) (done ++ todo) → AllPairs (λ m n. IsRowBefore m.row n.row) (done ++ todo)
+    → ReadFrom (path_from (draft_from dual done [] None)) (map in_line todo) (path_from (draft_from dual (done ++ todo) [] None))
+unfolding draft_from
+read_marks dual done [] are order = ap (λ (ms : List Mark). path_from (draft_from dual ms [] None)) (append-nil done)
+read_marks dual done (m ∷ todo) are order =
+    let joined : (done ++ m ∷ []) ++ todo ≡ done ++ m ∷ todo = append_assoc done (m ∷ []) todo in
+    let each : All (λ k. IsRowName k.row) ((done ++ m ∷ []) ++ todo) = rw joined are in
+    let rising : AllPairs (λ k l. IsRowBefore k.row l.row) ((done ++ m ∷ []) ++ todo) = rw joined order in
+    let front : AllPairs (λ k l. IsRowBefore k.row l.row) (done ++ m ∷ []) = AllPairs-front (λ (k : Mark) (l : Mark). IsRowBefore k.row l.row) (done ++ m ∷ []) todo rising in
+    let here : IsRowName m.row = All-at_end (λ (k : Mark). IsRowName k.row) done m (All-front (λ (k : Mark). IsRowName k.row) (done ++ m ∷ []) todo each) in
+    let before : All (λ k. IsRowBefore k.row m.row) done = All-last (λ (k : Mark) (l : Mark). IsRowBefore k.row l.row) done m front in
+    let rest = read_marks dual (done ++ m ∷ []) todo each rising in
+    (path_from (draft_from dual (done ++ m ∷ []) [] None), part_step (draft_from dual done [] None) (OfIn m) (in_line m) (here, words_of_line _ _ (in_visible m here)) (refl, refl, before), rw joined at rest)
+
+read_swaps : (dual : Bool) (corner : List Mark) (done todo : List Swap) → All IsSwapName (done ++ todo)
+    → ReadFrom (path_from (draft_from dual corner done None)) (map swap_line todo) (path_from (draft_from dual corner (done ++ todo) None))
+unfolding draft_from
+read_swaps dual corner done [] are = ap (λ (ss : List Swap). path_from (draft_from dual corner ss None)) (append-nil done)
+read_swaps dual corner done (s ∷ todo) are =
+    let joined : (done ++ s ∷ []) ++ todo ≡ done ++ s ∷ todo = append_assoc done (s ∷ []) todo in
+    let each : All IsSwapName ((done ++ s ∷ []) ++ todo) = rw joined are in
+    let here : IsSwapName s = All-at_end IsSwapName done s (All-front IsSwapName (done ++ s ∷ []) todo each) in
+    let rest = read_swaps dual corner (done ++ s ∷ []) todo each in
+    (path_from (draft_from dual corner (done ++ s ∷ []) None), part_step (draft_from dual corner done None) (OfSwap s) (swap_line s) (here, words_of_line _ _ (swap_visible s here)) refl, rw joined at rest)
+
+read_unfit : (dual : Bool) (corner : List Mark) (swaps : List Swap) (unfit : Option Quantity) → IsQuantityWritten unfit
+    → ReadFrom (path_from (draft_from dual corner swaps None)) (unfit_lines unfit) (path_from (draft_from dual corner swaps unfit))
+unfolding draft_from
+read_unfit dual corner swaps None is = refl
+read_unfit dual corner swaps (Some q) is =
+    (path_from (draft_from dual corner swaps (Some q)), part_step (draft_from dual corner swaps None) (OfUnfit q) (unfit_line q) (is, words_of_line _ _ (unfit_visible q is)) refl, refl)
+
+reads_path : (path : LawfulPath) (unfit : Option Quantity) → IsPathWritten path unfit → Reads (claim_lines (IsPath path unfit)) (IsPath path unfit)
+unfolding path_from draft_from
+reads_path path unfit is =
+    let read : PathDraft = draft_from path.dual path.corner path.swaps unfit in (
+      path_from read,
+      (
+        path_from (path_begun path.dual),
+        kind_step path.dual,
+        read_two (map in_line path.corner ++ map swap_line path.swaps) (unfit_lines unfit) (path_from (path_begun path.dual)) (path_from (draft_from path.dual path.corner path.swaps None)) (path_from read)
+            (read_two (map in_line path.corner) (map swap_line path.swaps) (path_from (path_begun path.dual)) (path_from (draft_from path.dual path.corner [] None)) (path_from (draft_from path.dual path.corner path.swaps None))
+            (read_marks path.dual [] path.corner is.marks is.order) (read_swaps path.dual path.corner [] path.swaps is.swaps))
+            (read_unfit path.dual path.corner path.swaps unfit is.quantity),
+      ),
+      (read, refl, refl, refl),
+    )
+
+pub reads_lines : (c : Claim) → IsWritten c → Reads (claim_lines c) c
+reads_lines (IsBest values best) is = reads_best values best is
+reads_lines (IsConflict bys) is = reads_conflict bys is
+reads_lines (IsPath path unfit) is = reads_path path unfit is
 
 -- ---- lines and texts
 
@@ -203,27 +361,49 @@ levels_clean (l ∷ more) are =
     clean (level_line head) (map by_line l.by ++ lines_of_levels more) (line_bytes (level_words head) (levels_visible head (record { level = here.level; scale = here.scale })))
     (All-append (λ line. All (λ b. 31 < b) line) (map by_line l.by) (lines_of_levels more) (bys_clean l.by here.by) (levels_clean more (All-tail IsLevelRead l more are)))
 
+unfit_clean : (unfit : Option Quantity) → IsQuantityWritten unfit → Clean (unfit_lines unfit)
+unfit_clean None is = All-nil (λ line. All (λ b. 31 < b) line)
+unfit_clean (Some q) is = clean (unfit_line q) [] (line_bytes (unfit_words q) (unfit_visible q is)) (All-nil (λ line. All (λ b. 31 < b) line))
+
 claim_clean : (c : Claim) → IsWritten c → Clean (claim_lines c)
 claim_clean (IsBest values best) is =
     All-append (λ line. All (λ b. 31 < b) line) (map value_line values) (line_of best_words ∷ lines_of_levels best)
     (All-map (λ line. All (λ b. 31 < b) line) value_line values (All-weaker IsValue (λ v. All (λ b. 31 < b) (value_line v)) (λ v is. line_bytes (value_words v) (values_visible v is)) values is.values))
     (clean (line_of best_words) (lines_of_levels best) (line_bytes best_words best_visible) (levels_clean best is.levels))
 claim_clean (IsConflict bys) is = clean (line_of conflict_words) (map by_line bys) (line_bytes conflict_words conflict_visible) (bys_clean bys is)
+claim_clean (IsPath path unfit) is =
+    clean (line_of (kind_words path.dual)) ((map in_line path.corner ++ map swap_line path.swaps) ++ unfit_lines unfit) (line_bytes (kind_words path.dual) (kind_visible path.dual))
+    (All-append (λ line. All (λ b. 31 < b) line) (map in_line path.corner ++ map swap_line path.swaps) (unfit_lines unfit)
+    (All-append (λ line. All (λ b. 31 < b) line) (map in_line path.corner) (map swap_line path.swaps)
+    (All-map (λ line. All (λ b. 31 < b) line) in_line path.corner (All-weaker (λ m. IsRowName m.row) (λ m. All (λ b. 31 < b) (in_line m)) (λ m is. line_bytes (in_words m) (in_visible m is)) path.corner is.marks))
+    (All-map (λ line. All (λ b. 31 < b) line) swap_line path.swaps (All-weaker IsSwapName (λ s. All (λ b. 31 < b) (swap_line s)) (λ s is. line_bytes (swap_words s) (swap_visible s is)) path.swaps is.swaps)))
+    (unfit_clean unfit is.quantity))
 
 pub reads_back : (c : Claim) → IsWritten c → Reads (lines (claim_text c)) c
 reads_back c is = rw (lines_of_text (claim_lines c) (claim_clean c is)) (reads_lines c is)
 
 -- ---- the reader's answers to what was written
 
+one_path : (d e : PathDraft) → Path d ≡ Path e → d ≡ e
+one_path d e same = cc
+
 ends_one : (last : Draft) (c d : Claim) → Ends last c → Ends last d → d ≡ c
 ends_one last (IsBest v b) (IsBest w e) of_c of_d = ap₂ IsBest (of_d.1 ∙ sym of_c.1) (of_d.2 ∙ sym of_c.2)
 ends_one last (IsBest v b) (IsConflict e) of_c of_d = absurd (subst HasLevels of_d.0 of_c.0)
+ends_one last (IsBest v b) (IsPath p q) of_c of_d = absurd (subst HasLevels of_d.1 of_c.0)
 ends_one last (IsConflict b) (IsBest w e) of_c of_d = absurd (subst HasLevels of_c.0 of_d.0)
 ends_one last (IsConflict b) (IsConflict e) of_c of_d = ap IsConflict (of_d.1 ∙ sym of_c.1)
+ends_one last (IsConflict b) (IsPath p q) of_c of_d = absurd (let same : Conflict ≡ Path of_d.0 = sym of_c.0 ∙ of_d.1 in subst HasBys same tt)
+ends_one last (IsPath p q) (IsBest w e) of_c of_d = absurd (subst HasLevels of_c.1 of_d.0)
+ends_one last (IsPath p q) (IsConflict e) of_c of_d = absurd (let same : Conflict ≡ Path of_c.0 = sym of_d.0 ∙ of_c.1 in subst HasBys same tt)
+ends_one last (IsPath p q) (IsPath r s) of_c of_d =
+    let same : of_d.0 ≡ of_c.0 = one_path of_d.0 of_c.0 (sym of_d.1 ∙ of_c.1) in
+    ap₂ IsPath (of_d.2 ∙ (ap path_of same ∙ sym of_c.2)) (of_d.3 ∙ (ap (λ (d : PathDraft). d.unfit) same ∙ sym of_c.3))
 
 never_open : (last : Draft) (c : Claim) → Ends last c → last.stage ≡ Values → ⊥
 never_open last (IsBest v b) ends waits = subst HasLevels waits ends.0
 never_open last (IsConflict b) ends waits = let same : Conflict ≡ Values = sym ends.0 ∙ waits in cc
+never_open last (IsPath p q) ends waits = let same : Path ends.0 ≡ Values = sym ends.1 ∙ waits in cc
 
 pub read_is : (c d : Claim) (text : List ℕ) → Reads (lines text) d → IsWritten c → text ≡ claim_text c → d ≡ c
 read_is c d text read is text_is =

@@ -2,11 +2,11 @@
 use Rattle.std.proofs.Common.{◌≡◌, ℕ, ◌<◌, List, [], ◌∷◌, ◌++◌, length, refl, sym, ap, arith, inl, inr, true, true≢false}
 use Rattle.std.proofs.lemmas.List.Elements.{recursion_from_All}
 use Rattle.span_text.specs.Words.{is_space}
-use Rattle.claim_text.specs.declared.items.Item.TheVariants.{Nothing, OfRow, OfStay}
+use Rattle.claim_text.specs.declared.problem.items.Item.TheVariants.{Nothing, OfRow, OfStay}
 use Rattle.claim_text.specs.Lines.{row_words, stay_words}
 use Rattle.claim_text.specs.Words.{words}
 use Rattle.claim_text.specs.Problems.{Says, nothing_read}
-use Rattle.claim_text.specs.declared.items.Item.{Item}
+use Rattle.claim_text.specs.declared.problem.items.Item.{Item}
 use Rattle.claim_text.specs.ClaimTexts.{ReadFrom}
 use Rattle.claim_text.specs.ClaimTexts as claims
 use Rattle.claim_text.specs.ProblemForms.{IsFirstOutsideProblem}

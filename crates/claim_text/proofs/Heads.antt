@@ -2,7 +2,7 @@
 use Rattle.std.proofs.Common.{◌≡◌, ◌++◌, map, refl, arith}
 use Rattle.problem_core.specs.Kept.{IsRow}
 use Rattle.problem_core.specs.Layout.{Row}
-use Rattle.claim_text.specs.declared.row_lines.Head.{Head}
+use Rattle.claim_text.specs.declared.problem.row_lines.Head.{Head}
 use Rattle.claim_text.specs.Lines.{head_words, row_words, term_word, IsHead}
 
 pub head_of : Row → Head

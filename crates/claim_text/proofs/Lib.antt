@@ -14,6 +14,7 @@ pub mod Texts
 pub mod Visible
 pub mod RoundTrip
 pub mod Names
+pub mod PathWords
 pub mod SameClaims
 pub mod ClaimDrafts
 pub mod ClaimReadings
@@ -24,3 +25,4 @@ pub mod SeenStays
 pub mod ClaimForms
 pub mod ProblemForms
 pub mod FormExamples
+pub mod PathExamples

@@ -6,8 +6,8 @@ use Rattle.problem_core.specs.declared.parts.RowName.{RowName}
 use Rattle.problem_core.specs.declared.parts.RowName.TheVariants.{Held, Stay as StayRow}
 use Rattle.problem_core.specs.declared.parts.Level.{Level}
 use Rattle.problem_core.specs.declared.parts.Level.TheVariants.{Priority, Stay as StayLevel}
-use Rattle.claim_text.specs.ClaimLines.{row_word, level_word, IsRowName, IsLevelName}
-use Rattle.claim_text.proofs.Digits.{decimal_digits, same_integer}
+use Rattle.claim_text.specs.Names.{row_word, level_word, IsRowName, IsLevelName}
+use Rattle.claim_text.proofs.Digits.{decimal_digits, same_integer, same_value}
 
 -- no digit is an `s`
 pub no_s : (n : ℕ) (ds : List ℕ) → n < 10 ^ 19 → decimal n ≡ 115 ∷ ds → ⊥
@@ -29,3 +29,16 @@ pub zero_alone : (all more next : List (List ℕ)) (most : ℕ) (y z : ℤ) → 
 zero_alone all more next most y z small zero size is other_size nonzero other =
     let same : signed_decimal z ≡ signed_decimal y = ap (λ (ws : List (List ℕ)). get_or ws 0 []) (sym other ∙ is) in
     nonzero (same_integer z y (omega arith) (omega arith) same ∙ zero)
+
+-- one row and one level at most has a word
+pub same_row_word : (a b : RowName) → IsRowName a → IsRowName b → row_word a ≡ row_word b → a ≡ b
+same_row_word (Held a) (Held b) is_a is_b same = ap Held (same_value a b (omega (arith, is_a.1)) (omega (arith, is_b.1)) same)
+same_row_word (Held a) (StayRow b) is_a is_b same = absurd (no_s a (decimal b) (omega (arith, is_a.1)) same)
+same_row_word (StayRow a) (Held b) is_a is_b same = absurd (no_s b (decimal a) (omega (arith, is_b.1)) (sym same))
+same_row_word (StayRow a) (StayRow b) is_a is_b same = let tails : decimal a ≡ decimal b = cc in ap StayRow (same_value a b (omega (arith, is_a.1)) (omega (arith, is_b.1)) tails)
+
+pub same_level_word : (a b : Level) → IsLevelName a → IsLevelName b → level_word a ≡ level_word b → a ≡ b
+same_level_word (Priority a) (Priority b) is_a is_b same = ap Priority (same_value a b (omega (arith, is_a)) (omega (arith, is_b)) same)
+same_level_word (Priority a) (StayLevel b) is_a is_b same = absurd (no_s a (decimal b) (omega (arith, is_a)) same)
+same_level_word (StayLevel a) (Priority b) is_a is_b same = absurd (no_s b (decimal a) (omega (arith, is_b)) (sym same))
+same_level_word (StayLevel a) (StayLevel b) is_a is_b same = let tails : decimal a ≡ decimal b = cc in ap StayLevel (same_value a b (omega (arith, is_a.1)) (omega (arith, is_b.1)) tails)

@@ -10,8 +10,8 @@ use Rattle.problem_core.specs.declared.parts.Stay.{Stay}
 use Rattle.problem_core.specs.declared.parts.Term.{Term}
 use Rattle.problem_core.specs.Kept.{IsRow, IsStay}
 use Rattle.problem_core.specs.Layout.{HasStay, IsCovered, Problem, Row}
-use Rattle.claim_text.specs.declared.items.Item.{Item}
-use Rattle.claim_text.specs.declared.items.Item.TheVariants.{Nothing, OfRow, OfStay}
+use Rattle.claim_text.specs.declared.problem.items.Item.{Item}
+use Rattle.claim_text.specs.declared.problem.items.Item.TheVariants.{Nothing, OfRow, OfStay}
 use Rattle.claim_text.specs.declared.stops.ReadStop.TheVariants.{BadLine}
 use Rattle.claim_text.specs.Words.{line_of, words}
 use Rattle.claim_text.specs.Lines.{row_line, row_words, stay_line, stay_words}

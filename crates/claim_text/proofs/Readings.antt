@@ -13,8 +13,8 @@ use Rattle.problem_core.specs.declared.parts.Stay.{Stay}
 use Rattle.problem_core.specs.declared.parts.Term.{Term}
 use Rattle.problem_core.specs.Kept.{IsRow, IsStay, IsWhole}
 use Rattle.problem_core.specs.Layout.{Row, Problem, HasStay as HasStayIn, IsCovered}
-use Rattle.claim_text.specs.declared.items.Item.{Item}
-use Rattle.claim_text.specs.declared.items.Item.TheVariants.{Nothing, OfRow, OfStay}
+use Rattle.claim_text.specs.declared.problem.items.Item.{Item}
+use Rattle.claim_text.specs.declared.problem.items.Item.TheVariants.{Nothing, OfRow, OfStay}
 use Rattle.claim_text.specs.Problems.{Says, MayFollow, with_item, Step, ReadFrom, Reads, nothing_read, HasStayLine, IsStayOf, AreStayAttributes, IsFirstBad}
 use Rattle.claim_text.proofs.Same.{one_item}
 use Rattle.claim_text.proofs.LineLists.{line_here, no_line_left}

@@ -3,7 +3,7 @@ use Rattle.std.proofs.Common.{◌≡◌, ℕ, ◌<◌, List, [], length, All, Bo
 use Rattle.std.proofs.lemmas.Bool.{false≢true}
 use Rattle.problem_core.specs.Layout.{Row, Problem}
 use Rattle.problem_core.specs.declared.parts.Term.{Term}
-use Rattle.claim_text.specs.declared.items.Item.{Item}
+use Rattle.claim_text.specs.declared.problem.items.Item.{Item}
 use Rattle.claim_text.specs.Problems.{Says, MayFollow, RowMayFollow, Step}
 use Rattle.claim_text.proofs.Same.{one_item}
 

@@ -8,7 +8,7 @@ use Rattle.problem_core.specs.declared.parts.Stay.{Stay}
 use Rattle.problem_core.specs.declared.parts.Term.{Term}
 use Rattle.problem_core.specs.Kept.{IsRow, IsStay, IsWhole}
 use Rattle.problem_core.specs.Layout.{Row, Problem, HasStay as HasStayIn, IsCovered}
-use Rattle.claim_text.specs.declared.items.Item.TheVariants.{OfRow, OfStay}
+use Rattle.claim_text.specs.declared.problem.items.Item.TheVariants.{OfRow, OfStay}
 use Rattle.claim_text.specs.Words.{words}
 use Rattle.claim_text.specs.Lines.{row_words, stay_words, row_line, stay_line, problem_text}
 use Rattle.claim_text.specs.Problems.{with_item, Step, ReadFrom, Reads, nothing_read, HasStayLine, IsFirstBad, StopsAt}

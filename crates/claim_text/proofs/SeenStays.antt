@@ -18,15 +18,21 @@ use Rattle.problem_core.specs.declared.parts.Level.{Level}
 use Rattle.problem_core.specs.declared.parts.Level.TheVariants.{Priority, Stay as StayLevel}
 use Rattle.cert_core.specs.declared.by.By.{By}
 use Rattle.cert_core.specs.Claims.{BestLevel}
-use Rattle.claim_text.specs.declared.claim_lines.LevelLine.{LevelLine}
-use Rattle.claim_text.specs.declared.claim_draft.Stage.{Stage}
-use Rattle.claim_text.specs.declared.claim_draft.Stage.TheVariants.{Values, Levels, Bys, Conflict}
-use Rattle.claim_text.specs.ClaimTexts.{Draft, closed, IsRowBefore, IsLevelBefore}
-use Rattle.claim_text.specs.declared.claim_lines.ClaimLine.{ClaimLine}
-use Rattle.claim_text.specs.declared.claim_lines.ClaimLine.TheVariants.{OfLevel}
-use Rattle.claim_text.specs.declared.seen.Seen.{Seen}
+use Rattle.claim_text.specs.declared.claim.lines.LevelLine.{LevelLine}
+use Rattle.claim_text.specs.declared.claim.draft.Stage.{Stage}
+use Rattle.claim_text.specs.declared.claim.draft.Stage.TheVariants.{Values, Levels, Bys, Conflict, Path}
+use Rattle.claim_text.specs.ClaimTexts.{Draft, closed}
+use Rattle.claim_text.specs.Names.{IsRowBefore, IsLevelBefore}
+use Rattle.claim_text.specs.declared.claim.lines.ClaimLine.{ClaimLine}
+use Rattle.claim_text.specs.declared.claim.lines.ClaimLine.TheVariants.{OfLevel, OfPart}
+use Rattle.claim_text.specs.declared.claim.path_lines.PathLine.TheVariants.{OfIn}
+use Rattle.claim_text.specs.declared.claim.path_lines.PathLine.{PathLine}
+use Rattle.claim_text.specs.PathForms.{PathDraft}
+use Rattle.problem_core.specs.declared.parts.Mark.{Mark}
+use Rattle.claim_text.specs.declared.claim.seen.Seen.{Seen}
 use Rattle.claim_text.specs.ClaimTexts.{MayFollow, with_line}
-use Rattle.claim_text.specs.Seen.{AreKeys, AreRowKeys, AreLevelKeys, AreSeen, levels_of}
+use Rattle.claim_text.specs.Seen.{AreKeys, AreRowKeys, AreLevelKeys, AreSeen, levels_of, marked_rows}
+use Rattle.claim_text.specs.ClaimTexts.{HasLevels, stage_with}
 use Rattle.claim_text.proofs.Rising.{All-front, All-at_end, All-last}
 
 -- ---- keys
@@ -104,17 +110,16 @@ priority_before (StayLevel a) (StayLevel b) rank h k = absurd k
 pub values_below : (values : List (ℕ × Fraction)) (attr : ℕ) (d : ℕ × Fraction) → AllPairs (λ u v. u.0 < v.0) values → (get_or values (length values - 1) d).0 < attr → All (λ v. v.0 < attr) values
 values_below values attr d rising last = last_all (λ u v. u.0 < v.0) (λ v. v.0 < attr) values d (λ u v l m. omega (arith, l, m)) rising last
 
-pub rows_before : (bys : List By) (row : RowName) (id : ℕ) (d : By) → row ≡ Held id → AllPairs (λ a b. IsRowBefore a.row b.row) bys → IsRowBefore (get_or bys (length bys - 1) d).row row → All (λ b. IsRowBefore b.row row) bys
-rows_before bys row id d e order last =
-    subst (λ (r : RowName). All (λ b. IsRowBefore b.row r) bys) (sym e)
-    (last_all (λ a b. IsRowBefore a.row b.row) (λ b. IsRowBefore b.row (Held id)) bys d (λ a b h k. held_before a.row b.row id h k) order (subst (IsRowBefore (get_or bys (length bys - 1) d).row) e last))
+pub rows_before : {A : Type 0} (f : A → RowName) (xs : List A) (row : RowName) (id : ℕ) (d : A) → row ≡ Held id → AllPairs (λ a b. IsRowBefore (f a) (f b)) xs → IsRowBefore (f (get_or xs (length xs - 1) d)) row → All (λ x. IsRowBefore (f x) row) xs
+rows_before f xs row id d e order last =
+    subst (λ (r : RowName). All (λ x. IsRowBefore (f x) r) xs) (sym e)
+    (last_all (λ a b. IsRowBefore (f a) (f b)) (λ b. IsRowBefore (f b) (Held id)) xs d (λ a b h k. held_before (f a) (f b) id h k) order (subst (IsRowBefore (f (get_or xs (length xs - 1) d))) e last))
 
-pub row_decided : (bys : List By) (keys : BTreeMap ℕ ℕ) (row : RowName) (attr : ℕ) (b : Bool) → row ≡ StayRow attr → AreRowKeys (map (λ b. b.row) bys) keys → b ≡ is_some (get nat_cmp keys attr) → IsTrue (not b) ↔ All (λ b. IsRowBefore b.row row) bys
-row_decided bys keys row attr b e are is =
-    let d : By = record { row = Held 0; times = pos 0 } in
-    let both = decided (All (λ r. IsRowBefore r (StayRow attr)) (map (λ (b : By). b.row) bys)) (get nat_cmp keys attr) b is (are attr) in (
-      λ h. subst (λ (r : RowName). All (λ b. IsRowBefore b.row r) bys) (sym e) (map_all (λ r. IsRowBefore r (StayRow attr)) (λ (b : By). b.row) bys (both.0 h)),
-      λ all. both.1 (all_map (λ r. IsRowBefore r (StayRow attr)) (λ (b : By). b.row) bys d (subst (λ (r : RowName). All (λ b. IsRowBefore b.row r) bys) e all)),
+pub row_decided : {A : Type 0} (f : A → RowName) (xs : List A) (d : A) (keys : BTreeMap ℕ ℕ) (row : RowName) (attr : ℕ) (b : Bool) → row ≡ StayRow attr → AreRowKeys (map f xs) keys → b ≡ is_some (get nat_cmp keys attr) → IsTrue (not b) ↔ All (λ x. IsRowBefore (f x) row) xs
+row_decided f xs d keys row attr b e are is =
+    let both = decided (All (λ r. IsRowBefore r (StayRow attr)) (map f xs)) (get nat_cmp keys attr) b is (are attr) in (
+      λ h. subst (λ (r : RowName). All (λ x. IsRowBefore (f x) r) xs) (sym e) (map_all (λ r. IsRowBefore r (StayRow attr)) f xs (both.0 h)),
+      λ all. both.1 (all_map (λ r. IsRowBefore r (StayRow attr)) f xs d (subst (λ (r : RowName). All (λ x. IsRowBefore (f x) r) xs) e all)),
     )
 
 no_level : BestLevel
@@ -163,6 +168,7 @@ closed_else Values levels bys n = refl
 closed_else Levels levels bys n = refl
 closed_else (Bys l) levels bys n = absurd (n l refl)
 closed_else Conflict levels bys n = refl
+closed_else (Path d) levels bys n = refl
 
 pub open_last : (levels : List BestLevel) (final : BestLevel) → map (λ l. l.level) (levels ++ final ∷ []) ≡ map (λ l. l.level) levels ++ final.level ∷ []
 open_last levels final = map-append (λ (l : BestLevel). l.level) levels (final ∷ [])
@@ -172,18 +178,55 @@ names_same Values levels bys more = refl
 names_same Levels levels bys more = refl
 names_same (Bys l) levels bys more = open_last levels (record { level = l.level; scale = l.scale; by = bys }) ∙ sym (open_last levels (record { level = l.level; scale = l.scale; by = more }))
 names_same Conflict levels bys more = refl
+names_same (Path d) levels bys more = refl
 
 -- ---- a level more
 
+-- where levels may come no mark was named
+no_marks : (s : Stage) → HasLevels s → marked_rows s ≡ []
+no_marks Values h = absurd h
+no_marks Levels h = refl
+no_marks (Bys l) h = refl
+no_marks Conflict h = absurd h
+no_marks (Path d) h = absurd h
+
 pub level_noted : {T E : Type 0} (r : Result T E) (item : ClaimLine) (l : LevelLine) (old : Seen) (rows levels : BTreeMap ℕ ℕ) → item ≡ OfLevel l → AreRowKeys [] rows
     → IfOk r (λ _. (ls : List Level) → AreLevelKeys ls old.levels → AreLevelKeys (ls ++ l.level ∷ []) levels)
-    → IfOk r (λ _. (d : Draft) → MayFollow d item → AreSeen d old → AreSeen (with_line d item) (record { rows = rows; levels = levels }))
+    → IfOk r (λ _. (d : Draft) → MayFollow d item → AreSeen d old → AreSeen (with_line d item) (record { rows = rows; levels = levels; marks = old.marks }))
 level_noted (Ok x) item l old rows levels is empty h = λ d may seen.
     let named : map (λ l. l.level) (closed d.stage d.levels d.bys ++ record { level = l.level; scale = l.scale; by = [] } ∷ []) ≡ levels_of d ++ l.level ∷ [] =
     open_last (closed d.stage d.levels d.bys) (record { level = l.level; scale = l.scale; by = [] }) in
-    subst (λ (i : ClaimLine). AreSeen (with_line d i) (record { rows = rows; levels = levels })) (sym is)
-    (record { rows = empty; levels = subst (λ (ls : List Level). AreLevelKeys ls levels) (sym named) (h (levels_of d) seen.levels) })
+    let has : HasLevels d.stage = (subst (λ (i : ClaimLine). MayFollow d i) is may).0 in
+    subst (λ (i : ClaimLine). AreSeen (with_line d i) (record { rows = rows; levels = levels; marks = old.marks })) (sym is)
+    (record {
+      rows = empty;
+      marks = subst (λ (rs : List RowName). AreRowKeys rs old.marks) (no_marks d.stage has) seen.marks;
+      levels = subst (λ (ls : List Level). AreLevelKeys ls levels) (sym named) (h (levels_of d) seen.levels);
+    })
 level_noted (Err e) item l old rows levels is empty h = h
+
+-- ---- a mark more
+
+mark_seen : (s : Stage) (p : PathDraft) (m : Mark) (d : Draft) (old : Seen) (keys : BTreeMap ℕ ℕ) → s ≡ Path p → (AreRowKeys (map (λ m. m.row) p.corner) old.marks → AreRowKeys (map (λ m. m.row) p.corner ++ m.row ∷ []) keys)
+    → AreSeen (record { stage = s; values = d.values; levels = d.levels; bys = d.bys }) old
+    → AreSeen (record { stage = stage_with s (OfIn m); values = d.values; levels = d.levels; bys = d.bys }) (record { rows = old.rows; levels = old.levels; marks = keys })
+mark_seen s p m d old keys is more =
+    subst (λ (t : Stage). AreSeen (record { stage = t; values = d.values; levels = d.levels; bys = d.bys }) old
+    → AreSeen (record { stage = stage_with t (OfIn m); values = d.values; levels = d.levels; bys = d.bys }) (record { rows = old.rows; levels = old.levels; marks = keys })) (sym is)
+    (λ seen. record {
+      rows = seen.rows;
+      levels = seen.levels;
+      marks = subst (λ (rs : List RowName). AreRowKeys rs keys) (sym (map-append (λ (k : Mark). k.row) p.corner (m ∷ []))) (more seen.marks);
+    })
+
+pub mark_noted : {T E : Type 0} (r : Result T E) (part : PathLine) (m : Mark) (old : Seen) (keys : BTreeMap ℕ ℕ) → part ≡ OfIn m
+    → IfOk r (λ _. (rows : List RowName) → AreRowKeys rows old.marks → AreRowKeys (rows ++ m.row ∷ []) keys)
+    → IfOk r (λ _. (d : Draft) → MayFollow d (OfPart part) → AreSeen d old → AreSeen (with_line d (OfPart part)) (record { rows = old.rows; levels = old.levels; marks = keys }))
+mark_noted (Ok x) part m old keys is h = λ d may seen.
+    let (p, stage, rest) = subst (λ (i : PathLine). MayFollow d (OfPart i)) is may in
+    subst (λ (i : PathLine). AreSeen (with_line d (OfPart i)) (record { rows = old.rows; levels = old.levels; marks = keys })) (sym is)
+    (mark_seen d.stage p m d old keys stage (h (map (λ (k : Mark). k.row) p.corner)) seen)
+mark_noted (Err e) part m old keys is h = h
 
 pub bys_last : (d : Draft) (l : LevelLine) (last : Level) → d.stage ≡ Bys l → last ≡ l.level → (front : List Level) × (levels_of d ≡ front ++ last ∷ [])
 bys_last d l last is named = (

@@ -44,3 +44,7 @@ put_in_three old one two three front back line one_is two_is three_is line_is = 
 
 pub problem_text_is : (one two : List ℕ) (rows stays : List (List ℕ)) → one ≡ text_of_lines rows → two ≡ one ++ text_of_lines stays → two ≡ text_of_lines (rows ++ stays)
 problem_text_is one two rows stays one_is two_is = two_is ∙ (ap (λ l. l ++ text_of_lines stays) one_is ∙ sym (text_of_lines-append rows stays))
+
+-- a line, and then two lists of lines
+pub three_parts : (old one two three line : List ℕ) (xs ys : List (List ℕ)) → one ≡ old ++ (line ++ 10 ∷ []) → two ≡ one ++ text_of_lines xs → three ≡ two ++ text_of_lines ys → three ≡ old ++ text_of_lines (line ∷ xs ++ ys)
+three_parts old one two three line xs ys one_is two_is three_is = rw (three_is, two_is, one_is, text_of_lines-append xs ys) (simp append_assoc)

@@ -1,30 +1,18 @@
--- The words of the lines of claims.
-use Rattle.std.specs.Prelude.{◌≢◌, ℕ, ◌≤◌, List, [], ◌∷◌, ◌++◌, map, codes, decimal, pos}
+-- The lines of claims, and their words.
+use Rattle.std.specs.Prelude.{◌≢◌, ℕ, List, [], ◌∷◌, ◌++◌, map, codes, decimal, pos}
 use Rattle.std.specs.Fmt.{signed_decimal}
 use Rattle.frac_core.specs.Fraction.{Fraction, IsKept, IsFitting}
 use Rattle.frac_core.specs.Text.{fraction_text}
-use Rattle.problem_core.specs.declared.parts.RowName.{RowName}
-use Rattle.problem_core.specs.declared.parts.RowName.TheVariants.{Held, Stay as StayRow}
-use Rattle.problem_core.specs.declared.parts.Level.{Level}
-use Rattle.problem_core.specs.declared.parts.Level.TheVariants.{Priority, Stay as StayLevel}
 use Rattle.problem_core.specs.Kept.{IsNumber}
 use Rattle.cert_core.specs.declared.by.By.{By}
 use Rattle.cert_core.specs.Claims.{BestLevel}
-use Rattle.claim_text.specs.declared.claim_lines.LevelLine.{LevelLine}
+use Rattle.claim_text.specs.declared.claim.lines.LevelLine.{LevelLine}
 use Rattle.claim_text.specs.declared.claim.Claim.{Claim}
-use Rattle.claim_text.specs.declared.claim.Claim.TheVariants.{IsBest, IsConflict}
+use Rattle.claim_text.specs.declared.claim.Claim.TheVariants.{IsBest, IsConflict, IsPath}
 use Rattle.claim_text.specs.Words.{line_of}
 use Rattle.claim_text.specs.Lines.{text_of_lines}
-
--- a row by its number, or the row of an attribute's stay behind an `s`
-abbrev pub row_word : RowName → List ℕ
-row_word (Held id) = decimal id
-row_word (StayRow attr) = 115 ∷ decimal attr
-
--- a priority, or the stay of an attribute behind an `s`
-abbrev pub level_word : Level → List ℕ
-level_word (Priority rank) = decimal rank
-level_word (StayLevel attr) = 115 ∷ decimal attr
+use Rattle.claim_text.specs.Names.{row_word, level_word, IsRowName, IsLevelName}
+use Rattle.claim_text.specs.PathTexts.{path_lines, unfit_lines}
 
 -- `value ATTR FRACTION`
 abbrev pub value_words : ℕ × Fraction → List (List ℕ)
@@ -45,14 +33,6 @@ abbrev pub by_words : By → List (List ℕ)
 by_words b = codes "by" ∷ signed_decimal b.times ∷ codes "row" ∷ row_word b.row ∷ []
 
 -- ---- what the parts are
-
-abbrev pub IsRowName : RowName → Type 0
-IsRowName (Held id) = IsNumber id
-IsRowName (StayRow attr) = IsNumber attr
-
-abbrev pub IsLevelName : Level → Type 0
-IsLevelName (Priority rank) = rank ≤ 1000
-IsLevelName (StayLevel attr) = IsNumber attr
 
 pub record IsValue (v : ℕ × Fraction) : Type 0 where
   pub attr : IsNumber v.0
@@ -95,6 +75,7 @@ conflict_lines bys = line_of conflict_words ∷ map by_line bys
 abbrev pub claim_lines : Claim → List (List ℕ)
 claim_lines (IsBest values best) = best_lines values best
 claim_lines (IsConflict bys) = conflict_lines bys
+claim_lines (IsPath path unfit) = path_lines path ++ unfit_lines unfit
 
 -- the lines of a claim, each ended by byte 10
 abbrev pub claim_text : Claim → List ℕ

@@ -1,24 +1,25 @@
 -- Which texts are claims, and where a text stops to be one.
-use Rattle.std.specs.Prelude.{◌≡◌, ◌≢◌, ℕ, ◌+◌, ◌<◌, ◌⊎◌, List, [], ◌∷◌, ◌++◌, length, All, AllPairs}
+use Rattle.std.specs.Prelude.{◌≡◌, ℕ, ◌+◌, ◌<◌, ◌≤◌, ◌⊎◌, List, [], ◌∷◌, ◌++◌, length, All, AllPairs}
 use Rattle.frac_core.specs.Fraction.{Fraction, IsFitting}
-use Rattle.problem_core.specs.declared.parts.RowName.{RowName}
-use Rattle.problem_core.specs.declared.parts.RowName.TheVariants.{Held, Stay as StayRow}
-use Rattle.problem_core.specs.declared.parts.Level.{Level}
-use Rattle.problem_core.specs.declared.parts.Level.TheVariants.{Priority, Stay as StayLevel}
 use Rattle.cert_core.specs.declared.by.By.{By}
 use Rattle.cert_core.specs.Claims.{BestLevel}
-use Rattle.claim_text.specs.declared.claim_lines.ClaimLine.{ClaimLine}
-use Rattle.claim_text.specs.declared.claim_lines.ClaimLine.TheVariants.{OfValue, OfBest, OfConflict, OfLevel}
-use Rattle.claim_text.specs.declared.claim_lines.ClaimLine.TheVariants.{OfBy}
-use Rattle.claim_text.specs.declared.claim_draft.Stage.{Stage}
-use Rattle.claim_text.specs.declared.claim_draft.Stage.TheVariants.{Values, Levels, Bys, Conflict}
+use Rattle.claim_text.specs.declared.claim.lines.ClaimLine.{ClaimLine}
+use Rattle.claim_text.specs.declared.claim.lines.ClaimLine.TheVariants.{OfValue, OfBest, OfConflict, OfLevel}
+use Rattle.claim_text.specs.declared.claim.lines.ClaimLine.TheVariants.{OfBy, OfPath, OfPart}
+use Rattle.claim_text.specs.declared.claim.draft.Stage.{Stage}
+use Rattle.claim_text.specs.declared.claim.draft.Stage.TheVariants.{Values, Levels, Bys, Conflict, Path}
 use Rattle.claim_text.specs.declared.claim.Claim.{Claim}
-use Rattle.claim_text.specs.declared.claim.Claim.TheVariants.{IsBest, IsConflict}
+use Rattle.claim_text.specs.declared.claim.Claim.TheVariants.{IsBest, IsConflict, IsPath}
 use Rattle.claim_text.specs.declared.stops.ReadStop.{ReadStop}
 use Rattle.claim_text.specs.declared.stops.ReadStop.TheVariants.{BadLine, OutOfMemory}
 use Rattle.claim_text.specs.Words.{words}
 use Rattle.claim_text.specs.ClaimLines.{value_words, level_words, by_words, best_words, conflict_words}
-use Rattle.claim_text.specs.ClaimLines.{IsValue, IsLevelLine, IsLevelName, IsBy}
+use Rattle.claim_text.specs.ClaimLines.{IsValue, IsLevelLine, IsBy}
+use Rattle.claim_text.specs.Names.{IsLevelName, IsRowBefore, IsLevelBefore}
+use Rattle.claim_text.specs.declared.claim.path_lines.PathLine.{PathLine}
+use Rattle.claim_text.specs.PathTexts.{kind_words}
+use Rattle.claim_text.specs.PathForms.{PathDraft, SaysPart, PartMayFollow, path_begun, with_part, path_of}
+use Rattle.claim_text.specs.PathForms.{IsPathWritten}
 
 -- what a line says by itself
 abbrev pub Says : List ℕ → ClaimLine → Type 0
@@ -27,27 +28,13 @@ Says line OfBest = words line ≡ best_words
 Says line OfConflict = words line ≡ conflict_words
 Says line (OfLevel l) = IsLevelLine l × (words line ≡ level_words l)
 Says line (OfBy b) = IsBy b × (words line ≡ by_words b)
-
--- ---- the order of rows and of levels
-
--- rows rise and come before the stays, which are different
-abbrev pub IsRowBefore : RowName → RowName → Type 0
-IsRowBefore (Held a) (Held b) = a < b
-IsRowBefore (Held a) (StayRow b) = Unit {0}
-IsRowBefore (StayRow a) (Held b) = ⊥
-IsRowBefore (StayRow a) (StayRow b) = a ≢ b
-
--- priorities fall and come before the stays, which are different
-abbrev pub IsLevelBefore : Level → Level → Type 0
-IsLevelBefore (Priority a) (Priority b) = b < a
-IsLevelBefore (Priority a) (StayLevel b) = Unit {0}
-IsLevelBefore (StayLevel a) (Priority b) = ⊥
-IsLevelBefore (StayLevel a) (StayLevel b) = a ≢ b
+Says line (OfPath dual) = words line ≡ kind_words dual
+Says line (OfPart part) = SaysPart line part
 
 -- ---- reading line by line
 
 -- what was read: values, levels that have ended, and the multipliers of the level that is open or of a
--- conflict
+-- conflict; a path stands in its stage
 pub record Draft : Type 0 where
   pub stage : Stage
   pub values : List (ℕ × Fraction)
@@ -63,18 +50,21 @@ closed Values levels bys = levels
 closed Levels levels bys = levels
 closed (Bys l) levels bys = levels ++ record { level = l.level; scale = l.scale; by = bys } ∷ []
 closed Conflict levels bys = levels
+closed (Path d) levels bys = levels
 
 abbrev pub HasLevels : Stage → Type 0
 HasLevels Values = ⊥
 HasLevels Levels = Unit {0}
 HasLevels (Bys l) = Unit {0}
 HasLevels Conflict = ⊥
+HasLevels (Path d) = ⊥
 
 abbrev pub HasBys : Stage → Type 0
 HasBys Values = ⊥
 HasBys Levels = ⊥
 HasBys (Bys l) = Unit {0}
 HasBys Conflict = Unit {0}
+HasBys (Path d) = ⊥
 
 -- a line that says this may follow what was read
 abbrev pub MayFollow : Draft → ClaimLine → Type 0
@@ -84,6 +74,16 @@ MayFollow old OfConflict = (old.stage ≡ Values) × (old.values ≡ [])
 MayFollow old (OfLevel l) = HasLevels old.stage × All (λ k.
     IsLevelBefore k.level l.level) (closed old.stage old.levels old.bys)
 MayFollow old (OfBy b) = HasBys old.stage × All (λ k. IsRowBefore k.row b.row) old.bys
+MayFollow old (OfPath dual) = (old.stage ≡ Values) × (old.values ≡ [])
+MayFollow old (OfPart part) = (d : PathDraft) × (old.stage ≡ Path d) × PartMayFollow d part
+
+-- the path with one part more
+abbrev pub stage_with : Stage → PathLine → Stage
+stage_with Values part = Values
+stage_with Levels part = Levels
+stage_with (Bys l) part = Bys l
+stage_with Conflict part = Conflict
+stage_with (Path d) part = Path (with_part d part)
 
 abbrev pub with_line : Draft → ClaimLine → Draft
 with_line old (OfValue v) = record {
@@ -113,6 +113,18 @@ with_line old (OfBy b) = record {
   bys = old.bys
       ++ b ∷ [];
 }
+with_line old (OfPath dual) = record {
+  stage = Path (path_begun dual);
+  values = old.values;
+  levels = old.levels;
+  bys = old.bys;
+}
+with_line old (OfPart part) = record {
+  stage = stage_with old.stage part;
+  values = old.values;
+  levels = old.levels;
+  bys = old.bys;
+}
 
 pub record Step (old : Draft) (line : List ℕ) (new : Draft) : Type 0 where
   pub item : ClaimLine
@@ -128,6 +140,8 @@ ReadFrom old (line ∷ more) new = (mid : Draft) × Step old line mid × ReadFro
 abbrev pub Ends : Draft → Claim → Type 0
 Ends d (IsBest values best) = HasLevels d.stage × (values ≡ d.values) × (best ≡ closed d.stage d.levels d.bys)
 Ends d (IsConflict bys) = (d.stage ≡ Conflict) × (bys ≡ d.bys)
+Ends d (IsPath path unfit) = (read : PathDraft) × (d.stage ≡ Path read) × (path ≡ path_of read)
+    × (unfit ≡ read.unfit)
 
 -- the lines say the claim
 abbrev pub Reads : List (List ℕ) → Claim → Type 0
@@ -144,7 +158,7 @@ pub record IsFirstBad (all : List (List ℕ)) (n : ℕ) : Type 0 where
   pub reads : ReadFrom nothing_read before so_far
   pub bad : (new : Draft) → Step so_far line new → ⊥
 
--- The text ends where `best` must still come, after all but the n-th line.
+-- The text ends before the line that says which claim it is, after all but the n-th line.
 pub record EndsEarly (all : List (List ℕ)) (n : ℕ) : Type 0 where
   pub number : n ≡ length all + 1
   pub so_far : Draft
@@ -183,6 +197,7 @@ IsStage Values = Unit {0}
 IsStage Levels = Unit {0}
 IsStage (Bys l) = IsLevelLine l
 IsStage Conflict = Unit {0}
+IsStage (Path d) = IsPathWritten (path_of d) d.unfit
 
 pub record IsDraft (d : Draft) : Type 0 where
   pub stage : IsStage d.stage
@@ -202,3 +217,10 @@ pub record IsBestWritten (pairs : List (ℕ × Fraction)) (best : List BestLevel
 abbrev pub IsWritten : Claim → Type 0
 IsWritten (IsBest values best) = IsBestWritten values best
 IsWritten (IsConflict bys) = AreRead bys
+IsWritten (IsPath path unfit) = IsPathWritten path unfit
+
+-- a path has no more marks and exchanges than this
+abbrev pub HasNoMoreParts : Claim → ℕ → Type 0
+HasNoMoreParts (IsBest values best) n = Unit {0}
+HasNoMoreParts (IsConflict bys) n = Unit {0}
+HasNoMoreParts (IsPath path unfit) n = length path.corner + length path.swaps ≤ n

@@ -2,12 +2,15 @@ pub mod Words
 pub mod Lines
 pub mod Problems
 pub mod Sets
+pub mod Names
+pub mod PathTexts
+pub mod PathForms
 pub mod ClaimLines
 pub mod ClaimTexts
 pub mod Cut
 pub mod CutLines
-pub mod PathTexts
 pub mod Seen
 pub mod ClaimForms
 pub mod ProblemForms
 pub mod FormExamples
+pub mod PathExamples

@@ -11,7 +11,7 @@ use Rattle.problem_core.specs.declared.parts.Stay.{Stay}
 use Rattle.problem_core.specs.Kept.{IsNumber, IsTerm}
 use Rattle.problem_core.specs.Layout.{Row, Problem}
 use Rattle.claim_text.specs.Words.{line_of}
-use Rattle.claim_text.specs.declared.row_lines.Head.{Head}
+use Rattle.claim_text.specs.declared.problem.row_lines.Head.{Head}
 
 abbrev pub rel_word : Rel → List ℕ
 rel_word Eq = codes "=="

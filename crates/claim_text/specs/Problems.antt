@@ -4,8 +4,8 @@ use Rattle.span_text.specs.Words.{is_space}
 use Rattle.problem_core.specs.declared.parts.Stay.{Stay}
 use Rattle.problem_core.specs.Kept.{IsRow, IsStay}
 use Rattle.problem_core.specs.Layout.{Row, Problem}
-use Rattle.claim_text.specs.declared.items.Item.{Item}
-use Rattle.claim_text.specs.declared.items.Item.TheVariants.{Nothing, OfRow, OfStay}
+use Rattle.claim_text.specs.declared.problem.items.Item.{Item}
+use Rattle.claim_text.specs.declared.problem.items.Item.TheVariants.{Nothing, OfRow, OfStay}
 use Rattle.claim_text.specs.declared.stops.ReadStop.{ReadStop}
 use Rattle.claim_text.specs.declared.stops.ReadStop.TheVariants.{BadLine, OutOfMemory}
 use Rattle.claim_text.specs.Words.{words}

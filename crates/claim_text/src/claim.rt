@@ -1,11 +1,23 @@
-// Claims on a problem.
-use cert_core::{Best, Conflict};
-use problem_core::Values;
+// Claims on a problem, and their text.
+mod draft;
+mod fields;
+mod lines;
+mod order;
+mod path_draft;
+mod path_lines;
+pub(crate) mod path_writer;
+pub(crate) mod reader;
+mod seen;
+pub(crate) mod writer;
 
-/// What is claimed of a problem: that values are best, with a certificate, or that its required rows are in
-/// conflict.
+use cert_core::{Best, Conflict, Path};
+use problem_core::{Quantity, Values};
+
+/// What is claimed of a problem: that values are best, with a certificate; that its required rows are in
+/// conflict; or that a path from corner to corner is lawful, and a quantity doesn't fit at its end.
 #[derive(Drop)]
 pub enum Claim {
     IsBest { values: Values, best: Best },
     IsConflict(Conflict),
+    IsPath { path: Path, unfit: Option<Quantity> },
 }

@@ -1,6 +1,7 @@
 // Laws of the readers, each the contract of a function that does nothing.
 ghost use Rattle.claim_text.specs.ClaimForms.{ClaimsAreTheForm};
 ghost use Rattle.claim_text.specs.FormExamples.{SomeAreOutside};
+ghost use Rattle.claim_text.specs.PathExamples.{SomePathsAreInside, SomePathsAreOutside};
 ghost use Rattle.claim_text.specs.ProblemForms.{ProblemsAreTheForm};
 
 /// The lines that `read_claim` reads as a claim are exactly that claim's lines, and the line at which it
@@ -15,7 +16,10 @@ pub fn problems_are_the_form()
     ensures { ProblemsAreTheForm }
 {}
 
-/// No line is no claim, for want of `best`, and is a problem; a line of another byte is none.
+/// No line is no claim, for want of `best`, and is a problem; a line of another byte is none. Some lines are
+/// paths, and each rule of their form puts some others outside.
 pub fn some_lines_are_outside()
-    ensures { SomeAreOutside }
+    ensures some { SomeAreOutside }
+    ensures inside { SomePathsAreInside }
+    ensures outside { SomePathsAreOutside }
 {}

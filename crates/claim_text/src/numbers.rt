@@ -9,7 +9,7 @@ ghost use Rattle.frac_core.specs.Text.{fraction_text};
 ghost use Rattle.claim_text.specs.Words.{AreDigits};
 
 use crate::words::first_part;
-use frac_core::Frac;
+use frac_core::{Frac, PART_BOUND};
 
 // The value of one to nineteen digits, leading zeros among them.
 fn digits(word: &[u8]) -> Option<u64>
@@ -93,8 +93,8 @@ pub(crate) fn integer(word: &[u8], most: u64) -> Option<i64>
     }
 }
 
-// The greatest size of a number that fits.
-const FITTING: u64 = (1 << 42) - 1;
+/// The greatest size of a number that fits.
+pub(crate) const FITTING: u64 = (PART_BOUND - 1) as u64;
 
 // The fraction with these parts, if they are in lowest terms.
 fn lowest(num: i64, den: u64) -> Option<Frac>

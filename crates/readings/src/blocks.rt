@@ -62,6 +62,7 @@ fn kind_of(claim: &Claim) -> &'static str {
     match claim {
         Claim::IsBest { .. } => "values and a certificate",
         Claim::IsConflict(_) => "a conflict",
+        Claim::IsPath { .. } => "a path",
     }
 }
 

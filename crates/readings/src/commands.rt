@@ -1,8 +1,7 @@
 // Lines of a script: their readings, part by part.
 use crate::formats::put_written;
-use case_text::put_text;
+use case_text::{put_text, relation_text};
 use frac_core::{Frac, OutOfMemory};
-use problem_core::Rel;
 use script_text::{Align, AttrWord, Command, ExprTerm, LineStop, Linear, Operand, read_line};
 use span_text::Object;
 use std::alloc::Global;
@@ -15,14 +14,6 @@ fn align_name(align: Align) -> &'static str {
         Align::Bottom => "bottom",
         Align::CenterX => "centerX",
         Align::CenterY => "centerY",
-    }
-}
-
-fn relation(rel: Rel) -> &'static str {
-    match rel {
-        Rel::Eq => "==",
-        Rel::Le => "<=",
-        Rel::Ge => ">=",
     }
 }
 
@@ -61,7 +52,7 @@ fn put_priority(out: &mut String, priority: Option<Object<'_>>) -> Result<(), Ou
 
 fn put_linear(out: &mut String, line: &Linear<'_>) -> Result<(), OutOfMemory> {
     put_terms(out, line.left())?;
-    let rel = relation(line.rel);
+    let rel = relation_text(line.rel);
     write!(out, " {rel}")?;
     put_terms(out, line.right())?;
     put_priority(out, line.priority)?;

@@ -2,6 +2,14 @@
 //!
 //! A heading `= KIND` says how the text lines below it are read: as one text for the kinds of `blocks`, and
 //! else each by itself, without its end.
+//!
+//! ```text
+//! = number                each line below is read as a number
+//! 8.                      left 0: all of it begins a number, and a digit is missing
+//! ```
+//!
+//! In reading order: `printing` (the headings), `parts` (of lines), `formats`, `commands` (lines of a
+//! script), `blocks` (whole texts).
 #![tactic(auto)]
 
 mod blocks;
@@ -11,20 +19,9 @@ mod parts;
 mod printing;
 
 use crate::printing::printed;
-use std::io;
-use std::io::Write;
+use case_text::print_answers;
 use std::process::ExitCode;
 
 fn main(rt: HostRuntime) -> ExitCode {
-    let Ok(text) = io::read_to_string(rt.alloc(), rt.reader()) else {
-        return ExitCode::from(3);
-    };
-    let Ok(out) = printed(rt.alloc(), &text) else {
-        return ExitCode::from(5);
-    };
-    let mut sink = io::writer(&rt);
-    if write!(sink, "{out}").is_err() {
-        return ExitCode::from(4);
-    }
-    ExitCode::SUCCESS
+    print_answers(rt, printed)
 }

@@ -1,0 +1,10 @@
+use Rattle.std.proofs.Common.{rules, ◌≡◌, ◌∷◌, drop, ap, sym, ◌∙◌, List, ℕ}
+use Rattle.std.specs.Prelude.{codes}
+use Rattle.claim_text.specs.Words.{words}
+use Rattle.claim_text.proofs.PathWords.{no_what}
+use Rattle.claim_text.proofs.claim.path_lines.read_unfit.Goals as goal
+
+pub returns-in-None-clause-none : goal.returns-in-None-clause-none
+returns-in-None-clause-none c = λ q is same.
+    let front : words c.args.line.now ≡ codes "unfit" ∷ c.in-Some.kind.now ∷ c.in-Some-next.name.now ∷ c.next-2.new.self = search rules in
+    no_what q c.in-Some.kind.now c.in-Some-next.name.now c.next-2.new.self is (ap (λ (ws : List (List ℕ)). drop 1 ws) (sym front ∙ same)) c.in-None.ensures.none

@@ -1,7 +1,0 @@
-use Rattle.std.proofs.Common.{ap, sym, ◌∙◌}
-use Rattle.claim_text.specs.ClaimTexts.{Draft}
-use Rattle.claim_text.proofs.SeenStays.{bys_last}
-use Rattle.claim_text.proofs.claim_draft.ClaimDraft.last_level.Goals as goal
-
-pub returns-in-Bys-clause-some : goal.returns-in-Bys-clause-some
-returns-in-Bys-clause-some c = bys_last c.args.self.now c.in-Bys.open c.level_of.result (sym (ap (λ (d : Draft). d.stage) c.self.view_is) ∙ c.in-Bys.is) c.level_of.ensures

@@ -1,0 +1,60 @@
+// The order in which rows and levels come.
+ghost use Rattle.std.specs.Prelude.{All, AllPairs, IsTrue, ◌↔◌, map};
+ghost use Rattle.claim_text.specs.Names.{IsRowBefore, IsLevelBefore};
+ghost use Rattle.claim_text.specs.Seen.{AreRowKeys};
+
+use cert_core::By;
+use problem_core::{Level, Mark, RowName};
+use std::collections::BTreeMap;
+
+fn is_row_before(a: RowName, b: RowName) -> bool
+    ensures { IsTrue result ↔ IsRowBefore a b }
+{
+    match (a, b) {
+        (RowName::Held(a), RowName::Held(b)) => a < b,
+        (RowName::Held(_), RowName::Stay(_)) => true,
+        (RowName::Stay(_), RowName::Held(_)) => false,
+        (RowName::Stay(a), RowName::Stay(b)) => a != b,
+    }
+}
+
+pub(crate) fn is_level_before(a: Level, b: Level) -> bool
+    ensures { IsTrue result ↔ IsLevelBefore a b }
+{
+    match (a, b) {
+        (Level::Priority(a), Level::Priority(b)) => b < a,
+        (Level::Priority(_), Level::Stay(_)) => true,
+        (Level::Stay(_), Level::Priority(_)) => false,
+        (Level::Stay(a), Level::Stay(b)) => a != b,
+    }
+}
+
+/// Whether the row may stand behind all these, whose stays are the keys.
+pub(crate) fn are_rows_before(keys: &BTreeMap<u32, u32>, bys: &[By], row: RowName) -> bool
+    requires order { AllPairs (λ a b. IsRowBefore a.row b.row) bys.now }
+    requires keys { AreRowKeys (map (λ b. b.row) bys.now) keys.now }
+    ensures { IsTrue result ↔ All (λ b. IsRowBefore b.row row) bys.now }
+{
+    if let RowName::Stay(attr) = row {
+        return !keys.contains_key(&attr);
+    }
+    if bys.is_empty() {
+        return true;
+    }
+    is_row_before(bys[bys.len() - 1].row, row)
+}
+
+/// Whether the row may stand behind those of all these marks, whose stays are the keys.
+pub(crate) fn are_marks_before(keys: &BTreeMap<u32, u32>, marks: &[Mark], row: RowName) -> bool
+    requires order { AllPairs (λ m n. IsRowBefore m.row n.row) marks.now }
+    requires keys { AreRowKeys (map (λ m. m.row) marks.now) keys.now }
+    ensures { IsTrue result ↔ All (λ m. IsRowBefore m.row row) marks.now }
+{
+    if let RowName::Stay(attr) = row {
+        return !keys.contains_key(&attr);
+    }
+    if marks.is_empty() {
+        return true;
+    }
+    is_row_before(marks[marks.len() - 1].row, row)
+}
