@@ -7,8 +7,11 @@ use Rattle.cert_checker.specs.declared.verdict.Verdict.{Verdict}
 use Rattle.cert_checker.specs.declared.verdict.Verdict.TheVariants.{Yes, No, NoRoom}
 use Rattle.cert_checker.specs.Certifying.{IsBestVerdict}
 use Rattle.cert_checker.specs.Refuting.{IsConflictVerdict}
+use Rattle.path_checker.specs.declared.verdict.PathVerdict.{PathVerdict}
+use Rattle.path_checker.specs.declared.verdict.PathVerdict.TheVariants as on_path
+use Rattle.path_checker.specs.PathClauses.{IsPathVerdict}
 use Rattle.claim_text.specs.declared.claim.Claim.{Claim}
-use Rattle.claim_text.specs.declared.claim.Claim.TheVariants.{IsBest, IsConflict}
+use Rattle.claim_text.specs.declared.claim.Claim.TheVariants.{IsBest, IsConflict, IsPath}
 use Rattle.claim_text.specs.declared.stops.ReadStop.TheVariants.{BadLine}
 use Rattle.claim_text.specs.Cut.{IsCut}
 use Rattle.claim_text.specs.Problems as problem
@@ -16,9 +19,16 @@ use Rattle.claim_text.specs.ClaimTexts as claim
 use Rattle.layout_cli.specs.declared.checking.Answer.{Answer}
 use Rattle.layout_cli.specs.declared.checking.Answer.TheVariants.{Judged, Bad}
 
+-- what is said of a path, as of other claims
+abbrev pub verdict_of : PathVerdict → Verdict
+verdict_of on_path.Yes = Yes
+verdict_of (on_path.No clause) = No clause
+verdict_of (on_path.NoRoom exchanges) = NoRoom exchanges
+
 abbrev pub IsVerdictOn : Problem → Claim → Verdict → Type 0
 IsVerdictOn p (IsBest values best) v = IsBestVerdict p values best v
 IsVerdictOn p (IsConflict bys) v = IsConflictVerdict p bys v
+IsVerdictOn p (IsPath path unfit) v = (w : PathVerdict) × IsPathVerdict p path unfit w × (v ≡ verdict_of w)
 
 -- the lines are those of a problem and of a claim, and this is the verdict on them
 pub record IsJudged (all : List (List ℕ)) (v : Verdict) : Type 0 where
@@ -47,13 +57,13 @@ IsAnswerTo all (Bad n) = IsBad all n
 abbrev pub answer_text : Answer → List ℕ
 answer_text (Judged Yes) = codes "yes" ++ 10 ∷ []
 answer_text (Judged (No clause)) = codes "no " ++ (decimal clause ++ 10 ∷ [])
-answer_text (Judged (NoRoom row)) = codes "no room " ++ (decimal row ++ 10 ∷ [])
+answer_text (Judged (NoRoom place)) = codes "no room " ++ (decimal place ++ 10 ∷ [])
 answer_text (Bad n) = codes "bad " ++ (decimal n ++ 10 ∷ [])
 
 abbrev pub is_yes : Answer → Bool
 is_yes (Judged Yes) = true
 is_yes (Judged (No clause)) = false
-is_yes (Judged (NoRoom row)) = false
+is_yes (Judged (NoRoom place)) = false
 is_yes (Bad n) = false
 
 -- The text is the one line that the check of the input answers, which is `yes` or not.

@@ -1,13 +1,17 @@
 // The check of a claim on a problem.
-ghost use Rattle.std.specs.Prelude.{◌≡◌, ◌<◌, ◌^◌, ◌++◌, ◌∷◌, [], IfOk, decimal, length};
+ghost use Rattle.std.specs.Prelude.{◌≡◌, ◌<◌, ◌-◌, ◌^◌, ◌++◌, ◌∷◌, [], IfOk, decimal, length};
 ghost use Rattle.std.specs.Str.Lines.{lines};
-ghost use Rattle.layout_cli.specs.Checks.{IsAnswerTo, IsCheckOf, IsVerdictOn, answer_text, is_yes};
+ghost use Rattle.claim_text.specs.ClaimTexts.{HasNoMoreParts};
+ghost use Rattle.layout_cli.specs.Checks.{IsAnswerTo, IsCheckOf, IsVerdictOn};
+ghost use Rattle.layout_cli.specs.Checks.{answer_text, is_yes, verdict_of};
 
 use crate::output::Output;
 use crate::refusals::push_line;
 use cert_checker::{Verdict, check_best, check_conflict};
 use claim_text::{Claim, ReadStop, cut_input, read_claim, read_problem};
 use frac_core::OutOfMemory;
+use path_checker::PathVerdict;
+use path_claims::check_path;
 use problem_core::Problem;
 use std::alloc::Global;
 
@@ -28,12 +32,25 @@ impl Answer {
     }
 }
 
+// What is said of a path, as of other claims.
+fn verdict_of(verdict: PathVerdict) -> Verdict
+    ensures { result ≡ verdict_of verdict }
+{
+    match verdict {
+        PathVerdict::Yes => Verdict::Yes,
+        PathVerdict::No(clause) => Verdict::No(clause),
+        PathVerdict::NoRoom(exchanges) => Verdict::NoRoom(exchanges),
+    }
+}
+
 fn verdict_on(alloc: Global, p: &Problem, claim: &Claim) -> Result<Verdict, OutOfMemory>
+    requires { HasNoMoreParts claim.now (2 ^ 31 - 1) }
     ensures { IfOk result (IsVerdictOn p.now claim.now) }
 {
     match claim {
         Claim::IsBest { values, best } => check_best(alloc, p, values, best),
         Claim::IsConflict(conflict) => check_conflict(alloc, p, conflict),
+        Claim::IsPath { path, unfit } => Ok(verdict_of(check_path(alloc, p, path, *unfit)?)),
     }
 }
 
@@ -75,7 +92,7 @@ fn answer_line(alloc: Global, answer: Answer) -> Result<Vec<u8>, OutOfMemory>
     match answer {
         Answer::Judged(Verdict::Yes) => Ok(b"yes\n".to_vec(alloc)?),
         Answer::Judged(Verdict::No(clause)) => number_line(alloc, b"no ", u64::from(clause)),
-        Answer::Judged(Verdict::NoRoom(row)) => number_line(alloc, b"no room ", u64::from(row)),
+        Answer::Judged(Verdict::NoRoom(place)) => number_line(alloc, b"no room ", u64::from(place)),
         Answer::Bad(line) => number_line(alloc, b"bad ", line),
     }
 }

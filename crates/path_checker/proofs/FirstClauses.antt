@@ -1,37 +1,18 @@
 -- The first three clauses of a path, from where a way ends.
-use Rattle.std.proofs.Common.{◌≢◌, List, length, map, refl, sym, subst, inl, inr, Option}
+use Rattle.std.proofs.Common.{List, map, refl, sym, subst, inl, inr, Option}
 use Rattle.problem_core.specs.declared.parts.Side.{Side}
 use Rattle.problem_core.specs.Layout.{Problem}
 use Rattle.problem_core.specs.Kept.{IsWhole}
 use Rattle.problem_core.specs.Begins.{AreExchanges}
-use Rattle.problem_core.specs.Corners.{ArePairwiseDifferent, IsCorner, Swap, corners}
+use Rattle.problem_core.specs.Corners.{ArePairwiseDifferent, Swap, corners}
 use Rattle.cert_core.specs.Paths.{Path}
 use Rattle.path_checker.specs.declared.spots.Step.{Step}
-use Rattle.path_checker.specs.declared.verdict.PathVerdict.{PathVerdict}
 use Rattle.path_checker.specs.declared.verdict.PathVerdict.TheVariants.{Yes, No}
 use Rattle.path_checker.specs.declared.way.Way.{Way}
-use Rattle.path_checker.specs.declared.way.WayStop.{WayStop}
-use Rattle.path_checker.specs.declared.way.WayStop.TheVariants.{Fails, NoRoom, OutOfMemory}
 use Rattle.path_checker.specs.Sides.{ComesTwice}
 use Rattle.path_checker.specs.Tables.{AreSides, swap_of}
-use Rattle.path_checker.specs.Ways.{AreFollowed, IsArrived, IsEnded, IsExchangeVerdict, IsMarkStop, IsSwapStop}
+use Rattle.path_checker.specs.Ways.{AreFollowed, IsArrived, IsExchangeVerdict}
 use Rattle.path_checker.proofs.SidesApart.{apart_by_sides}
-
-pub other_count : (p : Problem) (path : Path) → length path.corner ≢ length p.rows → IsExchangeVerdict p path (No 9)
-other_count p path ne unfit = inl (refl, λ corner. ne corner.count)
-
-pub no_corner : (p : Problem) (path : Path) → (IsCorner p path.corner → ⊥) → IsExchangeVerdict p path (No 9)
-no_corner p path none unfit = inl (refl, none)
-
-pub mark_ended : (p : Problem) (path : Path) (stop : WayStop) (v : PathVerdict) → IsMarkStop p path stop → IsEnded stop 9 v → IsExchangeVerdict p path v
-mark_ended p path Fails v stops ended = subst (IsExchangeVerdict p path) (sym ended) (no_corner p path stops)
-mark_ended p path (NoRoom n) v stops ended = subst (IsExchangeVerdict p path) (sym ended) stops
-mark_ended p path OutOfMemory v stops ended = absurd ended
-
-pub swap_ended : (p : Problem) (path : Path) (way : Way) (stop : WayStop) (v : PathVerdict) → IsArrived p path way → IsSwapStop p path stop → IsEnded stop 10 v → IsExchangeVerdict p path v
-swap_ended p path way Fails v arrived stops ended = subst (IsExchangeVerdict p path) (sym ended) (λ unfit. inr (inl (refl, arrived.corner, stops)))
-swap_ended p path way (NoRoom n) v arrived stops ended = subst (IsExchangeVerdict p path) (sym ended) stops
-swap_ended p path way OutOfMemory v arrived stops ended = absurd ended
 
 pub comes_again : (p : Problem) (path : Path) (way : Way) (sides : List (Option Side)) (steps : List Step) → IsWhole p → IsArrived p path way → AreSides p path.corner sides → AreFollowed p path steps → ComesTwice sides steps → IsExchangeVerdict p path (No 11)
 comes_again p path way sides steps whole arrived are followed twice unfit =

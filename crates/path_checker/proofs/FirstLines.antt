@@ -28,7 +28,7 @@ use Rattle.corner_lines.specs.LineEquations.{IsLineEquation, IsLineSum, IsOutsid
 use Rattle.corner_lines.specs.Joins.{AreAdded}
 use Rattle.corner_lines.proofs.JoinedLines.{added, goes_on, no_terms, past-terms, plain-terms, same-sum}
 use Rattle.corner_lines.proofs.LineUnfits.{line_sum, line_unfit, mark_unfit}
-use Rattle.path_checker.specs.FirstLines.{AreFirstLines, HasUnfitFirst, HasUnfitTerms, IsRowOf, IsTermsSum}
+use Rattle.path_checker.specs.FirstLines.{AreFirstLines, HasUnfitTerms, IsRowOf, IsTermsSum}
 use Rattle.path_checker.specs.Numbers.{number_at}
 use Rattle.path_checker.specs.Route.{over_marks}
 use Rattle.path_checker.specs.Tables.{AreLines, AreSized, IsLineAt, IsSized, IsSizedLine, IsSumOf, IsThere, line_count, name_at, numbers_of}
@@ -338,9 +338,6 @@ fits_from_small by n less small k d within = let s = small k d within in omega (
 at_row : (p : Problem) (r : Row) (P : Row → Type 0) → ((k : ℕ) → k < length p.rows → P (get_or p.rows k r)) → IsRowOf p r → P r
 at_row p r P each (k, s, within, is, same) = subst P (get_or_default p.rows k r s within ∙ is ∙ same) (each k within)
 
-row_of_index : (p : Problem) (r : Row) → IsRowOf p r → (k : ℕ) × (k < length p.rows) × (get_or p.rows k r ≡ r)
-row_of_index p r (k, s, within, is, same) = (k, within, get_or_default p.rows k r s within ∙ is ∙ same)
-
 last_sum : (p : Problem) (r : Row) (by : List ℤ) (value : Fraction) (num : ℤ) (den : ℕ) → IsWhole p → IsRowOf p r → IsTermsSum p r (length r.terms) by value → 0 < den
     → num *ℤ sum_den value (pos 1) r.constant ≡ sum_num value (negsuc 0) (pos 1) r.constant *ℤ pos den → IsLineSum p (over_marks p) (deviation (Held r.id)) 1 (numbers_of (lines p) by) num den
 last_sum p r by value num den whole held =
@@ -463,6 +460,3 @@ lines_sized p at kept lines k d within =
 
 pub row_here : (p : Problem) (rows : List Row) (k : ℕ) (r : Row) → rows ≡ p.rows → k < length p.rows → r ≡ get_or rows k r → IsRowOf p r
 row_here p rows k r same within is = (k, get_or p.rows k r, within, get_or_default p.rows k (get_or p.rows k r) r within, sym (is ∙ ap (λ (rs : List Row). get_or rs k r) same))
-
-pub unfit_here : (p : Problem) (r : Row) → IsRowOf p r → HasUnfitTerms p r → HasUnfitFirst p
-unfit_here p r (k, s, within, is, same) unfit = (k, s, within, is, subst (HasUnfitTerms p) (sym same) unfit)

@@ -1,5 +1,5 @@
 -- Along the swaps of a path, from its first corner.
-use Rattle.std.proofs.Common.{◌≡◌, ◌≢◌, ◌∙◌, ℕ, ◌+◌, ◌<◌, ◌≤◌, ◌++◌, List, [], ◌∷◌, length, map, take, drop, get_or, refl, sym, ap, ap₂, subst, arith, Option, None, Some, All, length-append, take_all, unsigned_abs, ◌⊎◌, inl, inr, false, true≢false, nat_eq, eq-eqb, ne_eqb}
+use Rattle.std.proofs.Common.{◌≡◌, ◌≢◌, ◌∙◌, ℕ, ◌+◌, ◌<◌, ◌++◌, List, [], ◌∷◌, length, map, take, drop, get_or, refl, sym, ap, ap₂, subst, arith, Option, None, Some, All, length-append, unsigned_abs, ◌⊎◌, inl, inr, false, true≢false, nat_eq, eq-eqb, ne_eqb}
 use Rattle.std.specs.Prelude.{slice_index_or}
 use Rattle.std.proofs.lemmas.Bool.{cases_eq}
 use Rattle.problem_core.specs.declared.parts.RowName.TheVariants.{Held}
@@ -32,7 +32,7 @@ use Rattle.path_checker.specs.Room.{CountsOnTheWay, HasNoRoom}
 use Rattle.path_checker.specs.Route.{IsRoute, IsWholeRoute, corner_after, over_marks}
 use Rattle.path_checker.specs.Sides.{IsWithin}
 use Rattle.path_checker.specs.Tables.{AreLines, AreSized, IsLineAt, IsSpotOf, IsThere, line_count, name_at, names_of, numbers_of, swap_of}
-use Rattle.path_checker.specs.Ways.{AreFollowed, AreNew, IsArrived, IsKept, IsStuckBy, IsSwapStop}
+use Rattle.path_checker.specs.Ways.{AreNew, IsArrived, IsKept, IsStuckBy, IsSwapStop}
 use Rattle.path_checker.proofs.WaySteps.{IsCounting, counting, counts_there, in_all, new_after, with_none}
 use Rattle.path_checker.proofs.Walks.{split_there}
 
@@ -161,11 +161,6 @@ followed_more p path way i count d lines next steps step is less swap_is within 
     map_more : {X Y : Type 0} (f : X → Y) (xs : List X) (x : X) → map f (xs ++ x ∷ []) ≡ map f xs ++ f x ∷ []
     map_more f [] x = refl
     map_more {Y = Y} f (y ∷ xs) x = ap (λ (zs : List Y). f y ∷ zs) (map_more f xs x)
-
-pub all_followed : (p : Problem) (path : Path) (way : Way) (i count : ℕ) (lines : List (Option Inside)) (steps : List Step) → IsFollowed p path way i lines steps count → length path.swaps ≤ i → AreFollowed p path steps
-all_followed p path way i count lines steps is done =
-    let all : take i path.swaps ≡ path.swaps = take_all i path.swaps done in
-    record { exchanges = subst (AreExchanges p path.corner) all is.exchanges; swaps = is.swaps ∙ all; within = is.within }
 
 -- ---- where it stops
 

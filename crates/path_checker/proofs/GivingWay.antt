@@ -17,7 +17,7 @@ use Rattle.path_checker.specs.declared.spots.Step.{Step}
 use Rattle.path_checker.specs.declared.table.Inside.{Inside}
 use Rattle.path_checker.specs.Tables.{AreSides, IsLineAt, IsThere, line_count, mark_of, name_at, swap_of}
 use Rattle.path_checker.specs.Route.{GivesWay, MayGiveWay}
-use Rattle.path_checker.proofs.Exchanging.{one_side, side_out}
+use Rattle.path_checker.proofs.Exchanging.{one_side}
 use Rattle.path_checker.proofs.Places.{any_line, name_there}
 use Rattle.path_checker.proofs.ValueSigns.{inside_place}
 
@@ -68,9 +68,6 @@ is_unwanted p wanted sides step are within not i = not ((are.each step.leave.at 
 -- another side of the line than that which is inside does not give way
 pub side_gives : (p : Problem) (wanted at : List Mark) (enter : Spot) (k : ℕ) (inside : Inside) (side : Side) → IsThere p at → IsLineAt p at (name_at p k) (Some inside) → MayGiveWay p wanted at (swap_of p (way_at p enter k side)) → inside.side ≡ side
 side_gives p wanted at enter k inside side there line may = one_side p at (name_at p k) inside.side side there line.0 may.exchange.leaves
-
-pub outside_stays_out : (p : Problem) (wanted at : List Mark) (enter : Spot) (k : ℕ) (side : Side) → IsLineAt p at (name_at p k) None → MayGiveWay p wanted at (swap_of p (way_at p enter k side)) → ⊥
-outside_stays_out p wanted at enter k side out may = side_out at (name_at p k) side out may.exchange.leaves
 
 -- none of the lines before gives way, so the one here is the first
 pub first_gives : (p : Problem) (wanted at : List Mark) (step : Step) → IsThere p at → step.leave.at < line_count p → MayGiveWay p wanted at (swap_of p step)

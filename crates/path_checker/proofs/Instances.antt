@@ -20,11 +20,10 @@ use Rattle.path_checker.specs.declared.verdict.PathVerdict.TheVariants.{No}
 use Rattle.path_checker.specs.declared.way.Way.{Way}
 use Rattle.path_checker.specs.FirstLines.{HasUnfitFirst}
 use Rattle.path_checker.specs.Instances.{HasBegun, below_bound, SomePathsHold, from_bound, going, to_bound, to_bound_step}
-use Rattle.path_checker.specs.PathClauses.{AreApart, AreSound}
+use Rattle.path_checker.specs.PathClauses.{AreApart, AreSound, IsPathVerdict}
 use Rattle.path_checker.specs.Route.{corner_after}
 use Rattle.path_checker.specs.Sides.{IsWithin}
 use Rattle.path_checker.specs.Tables.{name_at}
-use Rattle.path_checker.specs.Values.{IsValueVerdict}
 use Rattle.path_checker.specs.Ways.{AreFollowed, IsExchangeVerdict, IsWayAt}
 use Rattle.path_checker.proofs.WayBegins.{way_begins}
 use Rattle.path_checker.proofs.WayExamples.{over_is}
@@ -214,7 +213,7 @@ one_corner i j d less within = absurd (omega (arith, less, within))
 below_there : NoNegativeValue (single 5) (over_row ∷ []) → ⊥
 below_there values = no_primal_path [] (record { corner = over_corner; apart = one_corner; lawful = values })
 
-not_twelve : IsValueVerdict (single 5) (going (to_bound ∷ [])) (No 12) → ⊥
+not_twelve : IsPathVerdict (single 5) (going (to_bound ∷ [])) None (No 12) → ⊥
 not_twelve answer = elim answer [
   | inl h ↦ let e = h.0 in absurd (omega (arith, e))
   | inr (inl h) ↦ let e = h.0 in absurd (omega (arith, e))

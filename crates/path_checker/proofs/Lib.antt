@@ -30,5 +30,3 @@ pub mod Leading
 pub mod SideExamples
 pub mod WayExamples
 pub mod Instances
-pub mod Values
-pub mod ValueClauses

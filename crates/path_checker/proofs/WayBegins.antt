@@ -116,9 +116,6 @@ next_mark p path items names i d way sides enter same named within are spot is =
       way_is = subst (λ (ms : List Mark). IsWayAt p path (take i path.corner) ms way) (first_of_rest path.corner i d here) is;
     }
 
-pub mark_less : (p : Problem) (items : List Mark) (names : List RowName) (i : ℕ) (d : Mark) (enter : Spot) → names ≡ names_of p → IsSpotOf names (get_or items i d) enter → enter.at < line_count p
-mark_less p items names i d enter named spot = (spot_is p names (get_or items i d) enter named spot).0
-
 pub no_spot : (p : Problem) (path : Path) (items : List Mark) (names : List RowName) (i : ℕ) (d : Mark) → items ≡ path.corner → names ≡ names_of p → i < length items → All (λ n. n ≢ (get_or items i d).row) names → IsCorner p path.corner → ⊥
 no_spot p path items names i d same named within none corner =
     let here : i < length path.corner = subst (λ (ms : List Mark). i < length ms) same within in

@@ -10,8 +10,7 @@ use Rattle.path_checker.specs.declared.way.Kept.{Kept}
 use Rattle.path_checker.specs.Bringing.{IsBringing, NothingBrings}
 use Rattle.path_checker.specs.declared.spots.Step.{Step}
 use Rattle.path_checker.specs.declared.table.Inside.{Inside}
-use Rattle.path_checker.specs.FirstLines.{HasUnfitFirst}
-use Rattle.path_checker.specs.Pivots.{LeadTo, LeadToUnfit}
+use Rattle.path_checker.specs.Pivots.{LeadToUnfit}
 use Rattle.path_checker.specs.Route.{GivesWay, over_marks}
 use Rattle.path_checker.specs.Tables.{AreLines, AreSides, IsThere, line_count, swap_of}
 use Rattle.path_checker.specs.Sides.{IsWithin}
@@ -19,11 +18,6 @@ use Rattle.path_checker.specs.Ways.{IsBringStop, IsBrought, IsBroughtByNone, IsK
 use Rattle.path_checker.specs.declared.way.WayStop.{WayStop}
 use Rattle.path_checker.specs.declared.way.WayStop.TheVariants.{Fails, NoRoom, OutOfMemory}
 use Rattle.path_checker.proofs.FirstCorner.{begins_there}
-
-pub lines_after : (p : Problem) (step : Step) (o : Option Step) (kept next : List (Option Inside)) → o ≡ Some step → LeadTo step kept next → (at : List Mark) → IsKeptBy p at kept o → IsThere p at × AreLines p at next
-lines_after p step o kept next is leads at by =
-    let b = subst (IsKeptBy p at kept) is by in
-    subst (λ (ms : List Mark). IsThere p ms × AreLines p ms next) (sym b.next) (leads p b.before b.there b.lines_are b.exchange)
 
 pub stuck_after : (p : Problem) (step : Step) (o : Option Step) (kept : List (Option Inside)) → o ≡ Some step → LeadToUnfit step kept → (at : List Mark) → IsKeptBy p at kept o → IsStuckBy p at o
 stuck_after p step o kept is unfit at by =
@@ -33,9 +27,6 @@ stuck_after p step o kept is unfit at by =
 pub lines_first : (p : Problem) (o : Option Step) (kept next : List (Option Inside)) → o ≡ None → IsWhole p → AreLines p (over_marks p) next → (at : List Mark) → IsKeptBy p at kept o → IsThere p at × AreLines p at next
 lines_first p o kept next is whole lines at by =
     subst (λ (ms : List Mark). IsThere p ms × AreLines p ms next) (sym (subst (IsKeptBy p at kept) is by)) (begins_there p whole, lines)
-
-pub stuck_first : (p : Problem) (o : Option Step) (kept : List (Option Inside)) → o ≡ None → HasUnfitFirst p → (at : List Mark) → IsKeptBy p at kept o → IsStuckBy p at o
-stuck_first p o kept is unfit at by = subst (IsStuckBy p at) (sym is) unfit
 
 -- ---- one mark is brought in
 

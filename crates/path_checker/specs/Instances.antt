@@ -8,7 +8,7 @@ use Rattle.path_checker.specs.declared.spots.Step.{Step}
 use Rattle.path_checker.specs.declared.verdict.PathVerdict.TheVariants.{Yes, No}
 use Rattle.path_checker.specs.declared.way.Way.{Way}
 use Rattle.path_checker.specs.FirstLines.{HasUnfitFirst}
-use Rattle.path_checker.specs.Values.{IsValueVerdict}
+use Rattle.path_checker.specs.PathClauses.{HoldToSound, IsPathVerdict}
 use Rattle.path_checker.specs.Ways.{AreFollowed, IsExchangeVerdict, IsWayAt}
 
 -- x goes to its bound
@@ -63,10 +63,10 @@ below_bound = record { dual = false; corner = over_row ∷ []; swaps = [] }
 
 -- a path without a negative value, and one with one
 pub record SomeValues : Type 0 where
-  pub sound : IsValueVerdict (single 5) (going (to_bound ∷ [])) Yes
-  pub sound_not : IsValueVerdict (single 5) (going (to_bound ∷ [])) (No 12) → ⊥
-  pub negative : IsValueVerdict (single 5) below_bound (No 12)
-  pub negative_not : IsValueVerdict (single 5) below_bound Yes → ⊥
+  pub sound : HoldToSound (single 5) (going (to_bound ∷ [])) None
+  pub sound_not : IsPathVerdict (single 5) (going (to_bound ∷ [])) None (No 12) → ⊥
+  pub negative : IsPathVerdict (single 5) below_bound None (No 12)
+  pub negative_not : HoldToSound (single 5) below_bound None → ⊥
 
 -- the words of the first clauses hold in some small cases, and fail in others
 pub record SomePathsHold : Type 0 where

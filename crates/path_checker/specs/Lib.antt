@@ -12,4 +12,3 @@ pub mod Laws
 pub mod Sides
 pub mod Bringing
 pub mod Instances
-pub mod Values

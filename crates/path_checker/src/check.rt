@@ -1,14 +1,12 @@
 // The first clauses of a path.
-ghost use Rattle.std.specs.Prelude.{◌≡◌, ◌≢◌, ◌<◌, ◌≤◌, ◌+◌, ◌^◌, false, length, AllPairs, IfOk, IfErr};
+ghost use Rattle.std.specs.Prelude.{◌≡◌, ◌≢◌, ◌<◌, ◌≤◌, ◌+◌, ◌^◌, length, AllPairs, IfOk, IfErr};
 ghost use Rattle.problem_core.specs.Corners.{place};
 ghost use Rattle.path_checker.specs.Tables.{AreSides, line_count, names_of};
-ghost use Rattle.path_checker.specs.Values.{IsValueVerdict};
 ghost use Rattle.path_checker.specs.Ways.{IsArrived, IsEnded, IsExchangeVerdict, IsMarkStop, IsUsableWay};
 
 use crate::route::{comes_twice, sides_of};
 use crate::spots::names;
 use crate::verdict::PathVerdict;
-use crate::walk::go_along;
 use crate::way::{Way, WayStop, follow, to_corner};
 use cert_core::Path;
 use frac_core::OutOfMemory;
@@ -71,38 +69,6 @@ pub fn check_exchanges(alloc: Global, p: &Problem, path: &Path) -> Result<PathVe
     };
     if comes_twice(alloc, &wanted, &steps)? {
         return Ok(PathVerdict::No(11));
-    }
-    Ok(PathVerdict::Yes)
-}
-
-/// The first four clauses of a primal path that is shown without a quantity: besides, no value is negative
-/// at any of its corners.
-pub fn check_values(alloc: Global, p: &Problem, path: &Path) -> Result<PathVerdict, OutOfMemory>
-    requires count { length path.now.corner + length path.now.swaps < 2 ^ 31 }
-    requires primal { path.now.dual ≡ false }
-    ensures { IfOk result (IsValueVerdict p.now path.now) }
-{
-    p.show_whole();
-    if path.corner().len() != p.rows().len() {
-        return Ok(PathVerdict::No(9));
-    }
-    let names = names(alloc, p)?;
-    let Some(wanted) = sides_of(alloc, &names, path.corner())? else {
-        return Ok(PathVerdict::No(9));
-    };
-    let way = match arrive(alloc, p, &names, path, &wanted) {
-        Ok(way) => way,
-        Err(stop) => return ended(stop, 9),
-    };
-    let along = match go_along(alloc, p, &names, path, way) {
-        Ok(along) => along,
-        Err(stop) => return ended(stop, 10),
-    };
-    if comes_twice(alloc, &wanted, &along.steps)? {
-        return Ok(PathVerdict::No(11));
-    }
-    if !along.is_up {
-        return Ok(PathVerdict::No(12));
     }
     Ok(PathVerdict::Yes)
 }

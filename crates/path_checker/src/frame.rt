@@ -1,9 +1,8 @@
-// What a line costs, and where its level stands.
-ghost use Rattle.std.specs.Prelude.{◌≡◌, ◌≢◌, ◌<◌, pos, length, All, IfSome, IfNone};
-ghost use Rattle.std.specs.List.{HoldsAt};
+// What a line costs.
+ghost use Rattle.std.specs.Prelude.{◌≡◌, pos};
 ghost use Rattle.problem_core.specs.Certificates.{over_weight, under_weight};
 
-use problem_core::{Level, Rel};
+use problem_core::Rel;
 
 /// What a deviation below, and one above, costs.
 pub fn weights(rel: Rel, weight: u16) -> (i64, i64)
@@ -16,13 +15,4 @@ pub fn weights(rel: Rel, weight: u16) -> (i64, i64)
         Rel::Ge => (weight, 0),
         Rel::Le => (0, weight),
     }
-}
-
-/// The place of a level.
-pub fn level_at(levels: &[Level], level: Level) -> Option<usize>
-    ensures within { IfSome result (λ k. k < length levels.now) }
-    ensures found { IfSome result (HoldsAt (λ l. l ≡ level) levels.now) }
-    ensures none { IfNone result (All (λ l. l ≢ level) levels.now) }
-{
-    levels.iter().position(|l| *l == level)
 }

@@ -1,14 +1,13 @@
 // What holds at a corner.
-ghost use Rattle.std.specs.Prelude.{◌≡◌, ◌↔◌, ◌*ℤ◌, ◌≤ℤ◌, ◌<◌, ◌≤◌, ◌⊎◌, ℕ, ℤ, pos, List};
-ghost use Rattle.std.specs.Prelude.{IsTrue, true, false};
+ghost use Rattle.std.specs.Prelude.{◌≡◌, ◌↔◌, ◌*ℤ◌, ◌≤ℤ◌, ℤ, pos, List};
+ghost use Rattle.std.specs.Prelude.{IsTrue};
 ghost use Rattle.std.specs.Ordering.{int_cmp};
 ghost use Rattle.problem_core.specs.Layout.{Problem};
 ghost use Rattle.problem_core.specs.Corners.{HasNegativeValue, IsIn, NoNegativeValue, place};
 ghost use Rattle.problem_core.specs.declared.parts.Mark.{Mark};
 ghost use Rattle.problem_core.specs.declared.parts.RowName.{RowName};
-ghost use Rattle.cert_core.specs.Stops.{AreNonnegativeBefore};
 ghost use Rattle.corner_lines.specs.LineEquations.{sign_of};
-ghost use Rattle.path_checker.specs.Tables.{AreJudged, AreLines, IsLineAt, IsThere, IsUp};
+ghost use Rattle.path_checker.specs.Tables.{AreLines, IsLineAt, IsThere, IsUp};
 
 use crate::table::Inside;
 use frac_core::Frac;
@@ -58,35 +57,6 @@ pub fn has_no_negative_value(lines: &[Option<Inside>]) -> bool
 {
     for line in lines {
         if !is_up(line) {
-            return false;
-        }
-    }
-    true
-}
-
-// Whether a line is before the one place, or from the other on.
-fn is_judged(at: usize, judged: usize, rows: usize) -> bool
-    ensures { IsTrue result ↔ ((at < judged) ⊎ (rows ≤ at)) }
-{
-    at < judged || at >= rows
-}
-
-// Whether the line's value is not negative, or not judged.
-fn is_fine(line: &Option<Inside>, judged: bool) -> bool
-    ensures free { judged ≡ false → result ≡ true }
-    ensures up { judged ≡ true → (p : Problem) (at : List Mark) (name : RowName) → IsThere p at
-        → IsLineAt p at name line.now → IsTrue result ↔ IsUp p at name }
-{
-    if judged { is_up(line) } else { true }
-}
-
-/// The same where the marks of the rows from a place on, of so many, are not judged.
-pub fn has_no_negative_before(lines: &[Option<Inside>], judged: usize, rows: usize) -> bool
-    ensures { (p : Problem) (at : List Mark) (id : ℕ) → IsThere p at → AreLines p at lines.now
-        → AreJudged p id judged rows → IsTrue result ↔ AreNonnegativeBefore p at id }
-{
-    for (at, line) in lines.iter().enumerate() {
-        if !is_fine(line, is_judged(at, judged, rows)) {
             return false;
         }
     }

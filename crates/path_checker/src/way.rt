@@ -197,8 +197,8 @@ fn held_sides(alloc: Global, p: &Problem) -> Result<Vec<Option<Side>>, OutOfMemo
     Ok(out)
 }
 
-// Which mark of each line is inside where the route begins.
-fn first_sides(alloc: Global, p: &Problem) -> Result<Vec<Option<Side>>, OutOfMemory>
+/// Which mark of each line is inside where the route begins.
+pub fn first_sides(alloc: Global, p: &Problem) -> Result<Vec<Option<Side>>, OutOfMemory>
     ensures { IfOk result (λ out. AreFirstSides p.now (line_count p.now) out.items) }
 {
     let mut out = held_sides(alloc, p)?;

@@ -1,0 +1,79 @@
+-- The lines and levels of a corner of the route, from those of the corner before.
+use Rattle.std.proofs.Common.{◌≡◌, ◌∙◌, ℕ, List, [], ◌∷◌, length, sym, ap, subst, Option, None, Some, arith, inl, inr, Result, Err, IfErr}
+use Rattle.problem_core.specs.declared.parts.Mark.{Mark}
+use Rattle.problem_core.specs.declared.parts.Level.{Level}
+use Rattle.problem_core.specs.declared.stops.What.TheVariants.{Level as LevelOf}
+use Rattle.problem_core.specs.Layout.{Line, Problem, lines as lines_of}
+use Rattle.problem_core.specs.Kept.{IsWhole}
+use Rattle.problem_core.specs.Corners.{IsExchange, exchanged}
+use Rattle.path_checker.specs.declared.spots.Step.{Step}
+use Rattle.path_checker.specs.declared.table.Inside.{Inside}
+use Rattle.path_checker.specs.FirstLines.{HasUnfitFirst}
+use Rattle.path_checker.specs.Pivots.{HasUnfit, LeadTo, LeadToUnfit}
+use Rattle.path_checker.specs.Route.{over_marks}
+use Rattle.path_checker.specs.Tables.{AreLines, IsThere, line_count, swap_of}
+use Rattle.path_checker.proofs.FirstCorner.{begins_there}
+use Rattle.path_claims.specs.declared.frame.Frame.{Frame}
+use Rattle.path_claims.specs.declared.frame.LevelFacts.{LevelFacts}
+use Rattle.path_claims.specs.declared.frame.LineFacts.{LineFacts}
+use Rattle.path_claims.specs.declared.rows.RowsStop.{RowsStop}
+use Rattle.path_claims.specs.declared.rows.RowsStop.TheVariants.{Unfit, OutOfMemory}
+use Rattle.path_claims.specs.declared.stations.Table.{Table}
+use Rattle.path_claims.specs.declared.sums.LevelSum.{LevelSum}
+use Rattle.path_claims.specs.Frames.{AreFactsOf, IsFrame}
+use Rattle.path_claims.specs.Fits.{AllAttrsFit}
+use Rattle.path_claims.specs.Levels.{AreLevels, HasUnfitLevel}
+use Rattle.path_claims.specs.Rows.{AreKept, IsLevelsStop}
+use Rattle.path_claims.specs.Stations.{HasUnfitRows, IsStationBy, IsStuckAt, IsTableAt, LeadsToTable, LeadsToUnfitTable}
+
+facts_long : (levels : List LevelFacts) (ls : List Line) (facts : List LineFacts) → AreFactsOf levels ls facts → length facts ≡ length ls
+facts_long levels [] [] are = omega arith
+facts_long levels [] (f ∷ facts) are = absurd are
+facts_long levels (l ∷ ls) [] are = absurd are
+facts_long levels (l ∷ ls) (f ∷ facts) are = let h = facts_long levels ls facts are.1 in omega (arith, h)
+
+pub frame_long : (p : Problem) (frame : Frame) → IsFrame p frame → length frame.lines.items ≡ line_count p
+frame_long p frame is = facts_long frame.levels.items (lines_of p) frame.lines.items is.lines_are
+
+-- ---- where the route begins
+
+pub begins_kept : (p : Problem) (frame : Frame) (lines : List (Option Inside)) → IsFrame p frame → IsWhole p → AreLines p (over_marks p) lines → AreKept p (over_marks p) frame lines
+begins_kept p frame lines is whole are = record { frame_is = is; there = begins_there p whole; lines_are = are }
+
+pub rows_unfit : (p : Problem) (frame : Frame) (lines : List (Option Inside)) (level : Level) (j : ℕ) → AreKept p (over_marks p) frame lines → IsLevelsStop frame lines (Unfit level j) → HasUnfitRows p
+rows_unfit p frame lines level j kept stops = (level, j, (stops p (over_marks p) kept).unfit)
+
+-- ---- after an exchange
+
+pub leads_to_table : (p : Problem) (frame : Frame) (table next : Table) (step : Step) → LeadTo step table.lines.items next.lines.items
+    → ((at : List Mark) → IsThere p at → AreLines p at next.lines.items → AllAttrsFit p at)
+    → ((at : List Mark) → AreKept p at frame table.lines.items → AreLevels p at frame table.levels.items → IsExchange p at (swap_of p step) → AreLevels p (exchanged (swap_of p step) at) frame next.levels.items) → LeadsToTable p frame table step next
+leads_to_table p frame table next step leads fits levels at is ex =
+    let lines = leads p at is.kept.there is.kept.lines_are ex in
+    record { kept = record { frame_is = is.kept.frame_is; there = lines.0; lines_are = lines.1 }; levels = levels at is.kept is.levels ex; attrs = fits (exchanged (swap_of p step) at) lines.0 lines.1 }
+
+pub lines_lead_unfit : (p : Problem) (frame : Frame) (table : Table) (step : Step) → LeadToUnfit step table.lines.items → LeadsToUnfitTable p frame table step
+lines_lead_unfit p frame table step unfit at is ex = unfit p at is.kept.there is.kept.lines_are ex
+
+pub attrs_lead_unfit : (p : Problem) (frame : Frame) (table : Table) (step : Step) (next : List (Option Inside)) → LeadTo step table.lines.items next → ((at : List Mark) → IsThere p at → AreLines p at next → HasUnfit p at) → LeadsToUnfitTable p frame table step
+attrs_lead_unfit p frame table step next leads unfit at is ex =
+    let lines = leads p at is.kept.there is.kept.lines_are ex in
+    unfit (exchanged (swap_of p step) at) lines.0 lines.1
+
+pub levels_lead_unfit : (p : Problem) (frame : Frame) (table : Table) (step : Step) → ((at : List Mark) → AreKept p at frame table.lines.items → AreLevels p at frame table.levels.items → IsExchange p at (swap_of p step) → HasUnfitLevel p (exchanged (swap_of p step) at)) → LeadsToUnfitTable p frame table step
+levels_lead_unfit p frame table step unfit at is ex = let u = unfit at is.kept is.levels ex in (LevelOf u.0, u.1)
+
+-- ---- from what is kept
+
+pub table_comes : (p : Problem) (frame : Frame) (table next : Table) (o : Option Step) (step : Step) → o ≡ Some step → LeadsToTable p frame table step next → (at : List Mark) → IsStationBy p at frame table o → IsTableAt p at frame next
+table_comes p frame table next o step is leads at by =
+    let b = subst (IsStationBy p at frame table) is by in
+    subst (λ (ms : List Mark). IsTableAt p ms frame next) (sym b.next) (leads b.before b.table_is b.exchange)
+
+pub table_stuck : (p : Problem) (frame : Frame) (table : Table) (o : Option Step) (step : Step) → o ≡ Some step → LeadsToUnfitTable p frame table step → (at : List Mark) → IsStationBy p at frame table o → IsStuckAt p at o
+table_stuck p frame table o step is unfit at by =
+    let b = subst (IsStationBy p at frame table) is by in
+    subst (IsStuckAt p at) (sym is) (subst (λ (ms : List Mark). IsStuckAt p ms (Some step)) (sym b.next) (unfit b.before b.table_is b.exchange))
+
+pub table_begins : (p : Problem) (frame : Frame) (table next : Table) (o : Option Step) → o ≡ None → IsTableAt p (over_marks p) frame next → (at : List Mark) → IsStationBy p at frame table o → IsTableAt p at frame next
+table_begins p frame table next o is first at by = subst (λ (ms : List Mark). IsTableAt p ms frame next) (sym (subst (IsStationBy p at frame table) is by)) first

@@ -1,0 +1,31 @@
+use Rattle.std.proofs.Common.{◌≡◌, ◌∙◌, ◌+◌, ap, ap₂, List, length, sym, subst, rules, arith}
+use Rattle.problem_core.specs.declared.parts.Mark.{Mark}
+use Rattle.problem_core.specs.declared.parts.Stay.{Stay}
+use Rattle.problem_core.specs.Layout.{Row}
+use Rattle.path_checker.specs.Tables.{line_count}
+use Rattle.path_checker.proofs.FirstLines.{count_lines}
+use Rattle.path_checker.proofs.Leading.{ok_then}
+use Rattle.path_claims.specs.Fits.{IsFitAt}
+use Rattle.path_claims.specs.Turns.{IsTurnPivot}
+use Rattle.path_claims.proofs.SignsAfter.{same_next}
+use Rattle.path_claims.proofs.last.fit_after.Goals as goal
+
+pub returns-in-Ok : goal.returns-in-Ok
+returns-in-Ok c = ok_then c.quantity_fit.result (λ fit h at is.
+    let turn : IsTurnPivot c.args.p.now at c.in-Ok.pivot = c.in-Ok.ensures.pivot c.args.p.now at is.kept.there is.kept.lines_are is.exchange in
+    subst (λ (next : List Mark). IsFitAt c.args.p.now next c.args.named fit) (same_next c.args.p.now c.args.last c.in-Ok.pivot at c.in-Ok.ensures.step) (h at is turn)) c.quantity_fit.ensures
+
+pub returns-then-last-rows : goal.returns-then-last-rows
+returns-then-last-rows c = λ at is.
+    let rows : length c.rows.result.now ≡ length c.args.p.now.rows = ap (λ (rs : List Row). length rs) c.rows.ensures in
+    let stays : length c.stays.result.now ≡ length c.args.p.now.stays = ap (λ (ss : List Stay). length ss) c.stays.ensures in
+    absurd (omega (arith, c.if-last-rows.true, rows, stays, count_lines c.args.p.now, is.kept.lines_are.count))
+
+pub quantity_fit-requires-clause-count : goal.quantity_fit-requires-clause-count
+quantity_fit-requires-clause-count c =
+    let rows : length c.rows.result.now ≡ length c.args.p.now.rows = ap (λ (rs : List Row). length rs) c.rows.ensures in
+    let stays : length c.stays.result.now ≡ length c.args.p.now.stays = ap (λ (ss : List Stay). length ss) c.stays.ensures in
+    omega (arith, c.if-last-rows.false, rows, stays, count_lines c.args.p.now)
+
+pub returns-in-Err-Unfit : goal.returns-in-Err-Unfit
+returns-in-Err-Unfit c = λ at is. absurd (c.in-Err-Unfit.ensures.unfit c.in-Err-Unfit.field-0-is c.args.p.now at is.kept.there is.kept.lines_are is.exchange)

@@ -1,0 +1,30 @@
+use Rattle.std.proofs.Common.{◌∙◌, List, length, sym, ap, subst, Option}
+use Rattle.path_checker.specs.declared.table.Inside.{Inside}
+use Rattle.path_claims.specs.Levels.{AreSizedLevels}
+use Rattle.path_claims.specs.Rows.{AreKept}
+use Rattle.path_claims.proofs.FirstAttrs.{attrs_first}
+use Rattle.path_claims.proofs.StationTables.{begins_kept, frame_long}
+use Rattle.path_claims.proofs.stations.first_table.Goals as goal
+
+pub begun_levels-requires-clause-kept : goal.begun_levels-requires-clause-kept
+begun_levels-requires-clause-kept c =
+    subst (AreKept c.args.p.now _ c.args.frame.now) (sym c.deref.ensures.value) (begins_kept c.args.p.now c.args.frame.now c.in_ok-lines.lines.items c.requires.frame c.show_whole.ensures c.in_ok-lines.ensures.lines)
+
+pub begun_levels-requires-clause-count : goal.begun_levels-requires-clause-count
+begun_levels-requires-clause-count c =
+    ap (λ (zs : List (Option Inside)). length zs) c.deref.ensures.value ∙ c.in_ok-lines.ensures.count ∙ sym (frame_long c.args.p.now c.args.frame.now c.requires.frame)
+
+pub returns-clause-sized : goal.returns-clause-sized
+returns-clause-sized c = record {
+  lines = c.in_ok-lines.ensures.sized;
+  count = c.in_ok-lines.ensures.count ∙ sym (frame_long c.args.p.now c.args.frame.now c.requires.frame);
+  levels = subst (λ (zs : List (Option Inside)). AreSizedLevels (length zs) c.in_ok-levels.levels.items) c.deref.ensures.value c.in_ok-levels.ensures.sized;
+  level_count = c.in_ok-levels.ensures.count;
+}
+
+pub returns-clause-table : goal.returns-clause-table
+returns-clause-table c = record {
+  kept = begins_kept c.args.p.now c.args.frame.now c.in_ok-lines.lines.items c.requires.frame c.show_whole.ensures c.in_ok-lines.ensures.lines;
+  levels = c.in_ok-levels.ensures.levels;
+  attrs = attrs_first c.args.p.now c.show_whole.ensures;
+}

@@ -1,0 +1,11 @@
+use Rattle.std.proofs.Common.{◌≡◌, subst, refl}
+use Rattle.path_checker.specs.Pivots.{next_marks}
+use Rattle.path_claims.specs.Attrs.{IsAttrAfter}
+use Rattle.path_claims.proofs.terms.attr_of_term.Goals as goal
+
+pub returns-in-Ok-Some-clause-attr : goal.returns-in-Ok-Some-clause-attr
+returns-in-Ok-Some-clause-attr c = λ marks turn lines.
+    (subst (IsAttrAfter c.args.p.now (next_marks c.args.p.now c.args.pivot.now marks) c.args.attr) c.in-Ok-Some.field-0-is (c.in-Ok-Some.ensures.attr marks turn lines)).0
+
+pub returns-in-Err-Unfit-clause-stop : goal.returns-in-Err-Unfit-clause-stop
+returns-in-Err-Unfit-clause-stop c = λ marks turn lines attrs. (refl, c.in-Err-Unfit.ensures.unfit c.in-Err-Unfit.field-0-is marks turn lines attrs)

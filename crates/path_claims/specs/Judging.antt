@@ -1,0 +1,52 @@
+-- What is found on the route of a lawful claim's path, and the verdict by it.
+use Rattle.std.specs.Prelude.{◌≡◌, ◌↔◌, ℕ, Bool, true, false, IsTrue, List, [], ◌∷◌, Option, None, Some}
+use Rattle.problem_core.specs.declared.parts.Mark.{Mark}
+use Rattle.problem_core.specs.declared.stops.Quantity.{Quantity}
+use Rattle.problem_core.specs.Layout.{Problem}
+use Rattle.problem_core.specs.Corners.{Swap}
+use Rattle.problem_core.specs.Paths.{IsSound}
+use Rattle.cert_core.specs.Paths.{Path}
+use Rattle.cert_core.specs.Stops.{AreNonnegativeBefore}
+use Rattle.path_checker.specs.PathClauses.{DoesNotFit, HoldToApart, IsCalledFor, IsSoundPath}
+use Rattle.path_checker.specs.Room.{HasNoRoom}
+use Rattle.path_claims.specs.declared.along.Walked.{Walked}
+use Rattle.path_claims.specs.declared.journey.Claim.{Claim}
+use Rattle.path_claims.specs.declared.last.Fit.{Fit}
+use Rattle.path_claims.specs.declared.last.Fit.TheVariants.{Fits, Unfit, NoRoom}
+use Rattle.path_claims.specs.Journeys.{AreSoundAhead, IsOnRoute}
+use Rattle.path_claims.specs.Stations.{IsUsableStation}
+
+-- the last corner is come to, and all is known of the corners before it
+pub record IsWalked (claim : Claim) (walked : Walked) : Type 0 where
+  pub usable : IsUsableStation claim.frame.now walked.station
+  pub arrived : IsOnRoute claim.p.now claim.path.now claim.frame.now claim.path.now.swaps walked.station
+  pub sound : IsTrue walked.is_sound
+      ↔ AreSoundAhead claim.path.now.dual claim.p.now claim.path.now.corner claim.path.now.swaps
+  pub called : IsTrue walked.is_called_for ↔ IsCalledFor claim.p.now claim.path.now
+
+-- ---- the last corner
+
+-- the marks of this row, and of rows after it, are not judged: on a primal path without a swap alone
+abbrev pub unjudged_from : Bool → List Swap → Option ℕ → Option ℕ
+unjudged_from true swaps row = None
+unjudged_from false [] row = row
+unjudged_from false (s ∷ swaps) row = None
+
+-- what has to hold at the last corner, but for the rows that are not judged
+abbrev pub IsSoundFrom : Bool → Problem → List Mark → Option ℕ → Type 0
+IsSoundFrom dual p at None = IsSound dual p at
+IsSoundFrom dual p at (Some id) = AreNonnegativeBefore p at id
+
+-- how the quantity stands there, or where no quantity is shown
+abbrev pub IsFitFor : Problem → Path → Option Quantity → ℕ → Fit → Type 0
+IsFitFor p path unfit count Fits = DoesNotFit p path unfit → ⊥
+IsFitFor p path unfit count Unfit = DoesNotFit p path unfit
+IsFitFor p path unfit count NoRoom = HasNoRoom p path unfit count
+
+-- the clauses from 12 on
+pub record IsFound (p : Problem) (path : Path) (unfit : Option Quantity) (sound called : Bool) (fit : Fit)
+    (count : ℕ) : Type 0 where
+  pub apart : HoldToApart p path
+  pub sound_is : IsTrue sound ↔ IsSoundPath p path unfit
+  pub called_is : IsTrue called ↔ IsCalledFor p path
+  pub fit_is : IsFitFor p path unfit count fit

@@ -1,0 +1,67 @@
+// The corner where a route begins.
+ghost use Rattle.std.specs.Prelude.{◌≡◌, length, IfOk};
+ghost use Rattle.path_checker.specs.Route.{over_marks};
+ghost use Rattle.path_checker.specs.Tables.{AreLines, AreSized, line_count};
+ghost use Rattle.path_claims.specs.Begun.{IsBegun};
+ghost use Rattle.path_claims.specs.FirstSums.{AreMade};
+ghost use Rattle.path_claims.specs.Frames.{IsFrame, IsSizedFrame};
+
+use crate::firsts::row_lines;
+use crate::frame::Frame;
+use crate::rows::{RowsStop, first_levels};
+use crate::sums::LevelSum;
+use frac_core::OutOfMemory;
+use path_checker::Inside;
+use problem_core::{Problem, Quantity};
+use std::alloc::Global;
+
+/// The lines and the rows of levels where a route begins, or the lines before the first sum of a row's first
+/// terms or of a level's first rows that does not fit there.
+#[derive(Debug, Drop)]
+pub enum Begun {
+    Whole {
+        lines: Vec<Option<Inside>>,
+        levels: Vec<LevelSum>,
+    },
+    Until {
+        lines: Vec<Option<Inside>>,
+        unfit: Quantity,
+    },
+}
+
+// The lines of the rows, and then those of the stays.
+fn with_stays(lines: Vec<Option<Inside>>, p: &Problem) -> Result<Vec<Option<Inside>>, OutOfMemory>
+    requires { AreMade p.now (length p.now.rows) lines.items }
+    ensures sized { IfOk result (λ lines. AreSized lines.items) }
+    ensures count { IfOk result (λ lines. length lines.items ≡ line_count p.now) }
+    ensures lines { IfOk result (λ lines. AreLines p.now (over_marks p.now) lines.items) }
+{
+    let mut out = lines;
+    for _ in 0..p.stays().len() {
+        out.push(None)?;
+    }
+    Ok(out)
+}
+
+/// The corner where a route begins, as far as its sums fit.
+pub fn begin(alloc: Global, p: &Problem, frame: &Frame) -> Result<Begun, OutOfMemory>
+    requires frame { IsFrame p.now frame.now }
+    requires sized { IsSizedFrame frame.now }
+    ensures { IfOk result (IsBegun p.now frame.now) }
+{
+    p.show_whole();
+    let made = row_lines(alloc, p)?;
+    if let Some(unfit) = made.unfit {
+        let lines = made.lines;
+        return Ok(Begun::Until { lines, unfit });
+    }
+    let lines = with_stays(made.lines, p)?;
+    match first_levels(alloc, frame, &lines) {
+        Ok(levels) => Ok(Begun::Whole { lines, levels }),
+        Err(RowsStop::Unfit { level, first }) => {
+            let unfit = Quantity::Rows { level, first };
+            Ok(Begun::Until { lines, unfit })
+        }
+        Err(RowsStop::OutOfMemory) => Err(OutOfMemory),
+    }
+}

@@ -1,0 +1,238 @@
+// The check of a path.
+ghost use Rattle.std.specs.Prelude.{◌≡◌, ◌↔◌, ◌<◌, ◌+◌, ◌^◌, List, Option, IfOk, IsTrue, None, Some, length};
+ghost use Rattle.cert_core.specs.Paths.{Path};
+ghost use Rattle.problem_core.specs.Layout.{Problem};
+ghost use Rattle.problem_core.specs.declared.parts.Mark.{Mark};
+ghost use Rattle.problem_core.specs.declared.stops.Quantity.{Quantity};
+ghost use Rattle.path_checker.specs.PathClauses.{HoldToApart, IsPathVerdict, row_of_terms};
+ghost use Rattle.path_checker.specs.Tables.{AreJudged};
+ghost use Rattle.path_checker.specs.Ways.{IsEnded};
+ghost use Rattle.path_claims.specs.Fits.{IsLastAfter, IsSizedLast, marks_after};
+ghost use Rattle.path_claims.specs.Journeys.{IsClaim};
+ghost use Rattle.path_claims.specs.Judging.{IsFound, IsSoundFrom, IsWalked, unjudged_from};
+
+use crate::along::{Walked, is_sound_there, walk};
+use crate::frame::Frame;
+use crate::journey::{Claim, to_first};
+use crate::last::{Fit, Last, fit_after, has_no_negative_before_after, is_sound_after};
+use crate::start::check_at_start;
+use crate::stations::{table_now, told};
+use cert_core::Path;
+use frac_core::OutOfMemory;
+use path_checker::{PathVerdict, Step, WayStop, check_exchanges, names, sides_of};
+use problem_core::{Problem, Quantity, RowName};
+use std::alloc::Global;
+
+// The answer where the route ends early.
+fn ended(stop: WayStop) -> Result<PathVerdict, OutOfMemory>
+    ensures { IfOk result (IsEnded stop 9) }
+{
+    match stop {
+        WayStop::Fails => Ok(PathVerdict::No(9)),
+        WayStop::NoRoom(count) => Ok(PathVerdict::NoRoom(count)),
+        WayStop::OutOfMemory => Err(OutOfMemory),
+    }
+}
+
+// The first clause from 12 on that fails, or that there is no room.
+fn verdict(is_sound: bool, is_called_for: bool, fit: Fit, count: u32) -> PathVerdict
+    ensures { (p : Problem) (path : Path) (unfit : Option Quantity)
+        → IsFound p path unfit is_sound is_called_for fit count → IsPathVerdict p path unfit result }
+{
+    if !is_sound {
+        return PathVerdict::No(12);
+    }
+    if !is_called_for {
+        return PathVerdict::No(13);
+    }
+    match fit {
+        Fit::Fits => PathVerdict::No(14),
+        Fit::Unfit => PathVerdict::Yes,
+        Fit::NoRoom => PathVerdict::NoRoom(count),
+    }
+}
+
+// The row of a sum of first terms.
+fn row_of(named: Quantity) -> Option<u32>
+    ensures { result ≡ row_of_terms (Some named) }
+{
+    match named {
+        Quantity::Terms { mark, .. } => match mark.row {
+            RowName::Held(id) => Some(id),
+            RowName::Stay(_) => None,
+        },
+        _ => None,
+    }
+}
+
+// The row from which on marks are not judged at the path's last corner.
+fn unjudged_row(path: &Path, named: Quantity) -> Option<u32>
+    ensures { result ≡ unjudged_from path.now.dual path.now.swaps (row_of_terms (Some named)) }
+{
+    if path.dual() || !path.swaps().is_empty() {
+        return None;
+    }
+    row_of(named)
+}
+
+// How many of the rows, in order, have lesser numbers.
+fn rows_before(p: &Problem, id: u32) -> usize
+    ensures { AreJudged p.now id result (length p.now.rows) }
+{
+    p.show_whole();
+    let rows = p.rows();
+    for (at, r) in rows.iter().enumerate() {
+        if r.id() >= id {
+            return at;
+        }
+    }
+    rows.len()
+}
+
+// Whether what has to hold at the last corner does, where it is shown with this quantity.
+fn is_sound_last(
+    alloc: Global,
+    claim: Claim<'_>,
+    last: Last<'_>,
+    named: Quantity,
+) -> Result<bool, OutOfMemory>
+    requires { IsSizedLast last }
+    ensures { IfOk result (λ holds. (at : List Mark) → IsLastAfter claim.entry.p.now at last.entry
+        → IsTrue holds ↔ IsSoundFrom claim.entry.path.now.dual claim.entry.p.now
+        (marks_after claim.entry.p.now last.entry at)
+        (unjudged_from claim.entry.path.now.dual claim.entry.path.now.swaps (row_of_terms (Some named)))) }
+{
+    match unjudged_row(claim.path, named) {
+        Some(id) => {
+            let judged = rows_before(claim.p, id);
+            has_no_negative_before_after(alloc, last, judged, claim.p.rows().len())
+        }
+        None => is_sound_after(alloc, claim.path.dual(), last),
+    }
+}
+
+// The verdict by the last corner, which an exchange leads to, with a quantity.
+fn verdict_after(
+    alloc: Global,
+    claim: Claim<'_>,
+    walked: &Walked,
+    step: Step,
+    named: Quantity,
+) -> Result<PathVerdict, OutOfMemory>
+    requires claim { IsClaim claim }
+    requires walked { IsWalked claim walked.now }
+    requires step { walked.now.station.step ≡ Some step }
+    ensures { IfOk result (IsPathVerdict claim.entry.p.now claim.entry.path.now (Some named)) }
+{
+    let table = &walked.station.table;
+    let last = Last {
+        frame: claim.frame,
+        lines: &table.lines,
+        levels: &table.levels,
+        step,
+    };
+    let is_sound = is_sound_last(alloc, claim, last, named)?;
+    let fit = fit_after(alloc, claim.p, last, named)?;
+    let all_sound = walked.is_sound & is_sound;
+    Ok(verdict(all_sound, walked.is_called_for, fit, walked.station.count))
+}
+
+// The verdict by the last corner, where no quantity is shown.
+fn verdict_there(
+    alloc: Global,
+    claim: Claim<'_>,
+    walked: Walked,
+) -> Result<PathVerdict, OutOfMemory>
+    requires claim { IsClaim claim }
+    requires walked { IsWalked claim walked }
+    ensures { IfOk result (IsPathVerdict claim.entry.p.now claim.entry.path.now None) }
+{
+    let count = walked.station.count;
+    let is_called_for = walked.is_called_for;
+    let sound_ahead = walked.is_sound;
+    let table = match told(
+        table_now(alloc, claim.p, claim.frame, walked.station),
+        count,
+    ) {
+        Ok(table) => table,
+        Err(stop) => return ended(stop),
+    };
+    let all_sound = sound_ahead & is_sound_there(claim, &table);
+    Ok(verdict(all_sound, is_called_for, Fit::Unfit, count))
+}
+
+// The verdict on a path of whose clauses the first three hold.
+fn judged(
+    alloc: Global,
+    claim: Claim<'_>,
+    unfit: Option<Quantity>,
+) -> Result<PathVerdict, OutOfMemory>
+    requires { IsClaim claim }
+    ensures { IfOk result (IsPathVerdict claim.entry.p.now claim.entry.path.now unfit) }
+{
+    let station = match to_first(alloc, claim) {
+        Ok(station) => station,
+        Err(stop) => return ended(stop),
+    };
+    let walked = match walk(alloc, claim, station) {
+        Ok(walked) => walked,
+        Err(stop) => return ended(stop),
+    };
+    let Some(named) = unfit else {
+        return verdict_there(alloc, claim, walked);
+    };
+    match walked.station.step {
+        Some(step) => verdict_after(alloc, claim, &walked, step, named),
+        None => check_at_start(alloc, claim.p, claim.frame, claim.path, named),
+    }
+}
+
+// The same, from the problem and the path alone.
+fn check_rest(
+    alloc: Global,
+    p: &Problem,
+    path: &Path,
+    unfit: Option<Quantity>,
+) -> Result<PathVerdict, OutOfMemory>
+    requires count { length path.now.corner + length path.now.swaps < 2 ^ 31 }
+    requires apart { HoldToApart p.now path.now }
+    ensures { IfOk result (IsPathVerdict p.now path.now unfit) }
+{
+    p.show_whole();
+    let names = names(alloc, p)?;
+    let Some(wanted) = sides_of(alloc, &names, path.corner())? else {
+        unreachable!();
+    };
+    let frame = Frame::of(alloc, p)?;
+    let claim = Claim {
+        p,
+        frame: &frame,
+        path,
+        names: &names,
+        wanted: &wanted,
+    };
+    judged(alloc, claim, unfit)
+}
+
+/// The verdict on a path, shown with a quantity that does not fit at its last corner, or with none.
+///
+/// `No(9)`: the marks are no corner. `No(10)`: a swap is no exchange. `No(11)`: a corner comes twice.
+/// `No(12)`: on a primal path some value is negative, on a dual one some column; where a primal path without
+/// a swap is shown with a sum of first terms, the marks of its row and of rows after it are not judged.
+/// `No(13)`: a corner before the last is an end, or an exchange is not called for. `No(14)`: the quantity
+/// fits. `NoRoom`: after so many exchanges of the checker's own route a quantity that counts does not fit.
+pub fn check_path(
+    alloc: Global,
+    p: &Problem,
+    path: &Path,
+    unfit: Option<Quantity>,
+) -> Result<PathVerdict, OutOfMemory>
+    requires { length path.now.corner + length path.now.swaps < 2 ^ 31 }
+    ensures { IfOk result (IsPathVerdict p.now path.now unfit) }
+{
+    match check_exchanges(alloc, p, path)? {
+        PathVerdict::Yes => check_rest(alloc, p, path, unfit),
+        PathVerdict::No(clause) => Ok(PathVerdict::No(clause)),
+        PathVerdict::NoRoom(count) => Ok(PathVerdict::NoRoom(count)),
+    }
+}

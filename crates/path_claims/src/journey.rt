@@ -1,0 +1,138 @@
+// The checker's route to a path's first corner, with lines and levels.
+ghost use Rattle.std.specs.Prelude.{◌≡◌, ◌<◌, ◌≤◌, ◌+◌, ◌^◌, [], List, IfOk, IfErr, Some, length};
+ghost use Rattle.cert_core.specs.Paths.{Path};
+ghost use Rattle.path_checker.specs.Sides.{moved_sides};
+ghost use Rattle.path_checker.specs.Tables.{line_count};
+ghost use Rattle.path_checker.specs.Ways.{IsMarkStop};
+ghost use Rattle.path_checker.specs.declared.spots.Step.{Step};
+ghost use Rattle.path_claims.specs.declared.frame.Frame.{Frame};
+ghost use Rattle.path_claims.specs.Journeys.{Brings, BringsNone, HasOneMore, IsClaim, IsJourneyAt, IsOnRoute};
+ghost use Rattle.path_claims.specs.Journeys.{IsUsableJourney, StopsAt};
+ghost use Rattle.path_claims.specs.Stations.{IsUsableStation};
+
+use crate::frame::Frame;
+use crate::stations::{Station, Table, station_after, table_now, told};
+use cert_core::Path;
+use frac_core::OutOfMemory;
+use path_checker::{Spot, WayStop, bringing_in, first_sides, is_one, moved, spot_of};
+use problem_core::{Problem, RowName, Side};
+use std::alloc::Global;
+
+/// A path of a problem, with the problem's frame and its lines' names, and which mark of each line is inside
+/// at the path's first corner.
+#[derive(Clone, Copy)]
+pub struct Claim<'a> {
+    pub p: &'a Problem,
+    pub frame: &'a Frame,
+    pub path: &'a Path,
+    pub names: &'a [RowName],
+    pub wanted: &'a [Option<Side>],
+}
+
+/// A corner on the way to a path's first, and which mark of each line is inside there.
+#[derive(Debug, Drop)]
+pub struct Journey {
+    pub station: Station,
+    pub sides: Vec<Option<Side>>,
+}
+
+// The exchange that brings a mark of the path's first corner in, and what is kept of the corner after it.
+fn brought(
+    alloc: Global,
+    claim: Claim<'_>,
+    station: Station,
+    enter: Spot,
+) -> Result<Station, WayStop>
+    requires claim { IsClaim claim }
+    requires usable { IsUsableStation claim.frame.now station }
+    requires enter { enter.at < line_count claim.p.now }
+    requires count { station.count + 1 < 2 ^ 32 }
+    ensures usable { IfOk result (IsUsableStation claim.entry.frame.now) }
+    ensures count { IfOk result (λ next. next.count ≡ station.count + 1) }
+    ensures brought { IfOk result (Brings claim.entry enter station) }
+    ensures stop { IfErr result (BringsNone claim.entry enter station) }
+{
+    let count = station.count;
+    let table = told(table_now(alloc, claim.p, claim.frame, station), count)?;
+    let Some(step) = bringing_in(&table.lines, claim.wanted, enter) else {
+        return Err(WayStop::Fails);
+    };
+    Ok(station_after(table, step, count))
+}
+
+// The corner after an exchange, with which mark of each line is inside.
+fn journey_after(sides: Vec<Option<Side>>, station: Station, frame: &Frame) -> Journey
+    requires usable { IsUsableStation frame.now station }
+    requires sides { length sides.items ≡ length frame.now.lines.items }
+    ensures station { result.station ≡ station }
+    ensures sides { (step : Step) → station.step ≡ Some step
+        → result.sides.items ≡ moved_sides step sides.items }
+    ensures count { length result.sides.items ≡ length sides.items }
+{
+    let mut sides = sides;
+    if let Some(step) = station.step {
+        moved(&mut sides, step);
+    }
+    Journey { station, sides }
+}
+
+// The way on, where a mark of the path's first corner is inside, unless it was.
+fn with_mark(
+    alloc: Global,
+    claim: Claim<'_>,
+    journey: Journey,
+    enter: Spot,
+) -> Result<Journey, WayStop>
+    requires claim { IsClaim claim }
+    requires usable { IsUsableJourney claim.p.now claim.frame.now journey }
+    requires enter { enter.at < line_count claim.p.now }
+    requires count { journey.station.count + 1 < 2 ^ 32 }
+    ensures usable { IfOk result (IsUsableJourney claim.entry.p.now claim.entry.frame.now) }
+    ensures count { IfOk result (λ next. next.station.count ≤ journey.station.count + 1) }
+    ensures next { IfOk result (HasOneMore claim.entry journey enter) }
+    ensures stop { IfErr result (StopsAt claim.entry journey enter) }
+{
+    if is_one(journey.sides[enter.at], Some(enter.side)) {
+        return Ok(journey);
+    }
+    let sides = journey.sides;
+    let station = brought(alloc, claim, journey.station, enter)?;
+    Ok(journey_after(sides, station, claim.frame))
+}
+
+// Where the route begins.
+fn first_journey(alloc: Global, p: &Problem) -> Result<Journey, OutOfMemory>
+    ensures usable { IfOk result (λ journey. (frame : Frame) → IsUsableJourney p.now frame journey) }
+    ensures count { IfOk result (λ journey. journey.station.count ≡ 0) }
+    ensures journey { IfOk result (λ journey. (path : Path) (frame : Frame)
+        → IsJourneyAt p.now path frame [] path.corner journey) }
+{
+    p.show_whole();
+    let sides = first_sides(alloc, p)?;
+    let lines = Vec::new(alloc);
+    let levels = Vec::new(alloc);
+    let table = Table { lines, levels };
+    let step = None;
+    let count = 0;
+    let station = Station { table, step, count };
+    Ok(Journey { station, sides })
+}
+
+/// What is kept of the path's first corner, unless something that counts does not fit on the way there.
+pub fn to_first(alloc: Global, claim: Claim<'_>) -> Result<Station, WayStop>
+    requires { IsClaim claim }
+    ensures usable { IfOk result (IsUsableStation claim.entry.frame.now) }
+    ensures count { IfOk result (λ station. station.count ≤ length claim.entry.path.now.corner) }
+    ensures arrived { IfOk result (IsOnRoute claim.entry.p.now claim.entry.path.now
+        claim.entry.frame.now []) }
+    ensures stop { IfErr result (IsMarkStop claim.entry.p.now claim.entry.path.now) }
+{
+    let mut journey = first_journey(alloc, claim.p)?;
+    for mark in claim.path.corner() {
+        let Some(enter) = spot_of(claim.names, *mark) else {
+            return Err(WayStop::Fails);
+        };
+        journey = with_mark(alloc, claim, journey, enter)?;
+    }
+    Ok(journey.station)
+}

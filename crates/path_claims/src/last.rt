@@ -1,0 +1,149 @@
+// The corner after the last exchange of a path, at which not all has to fit.
+ghost use Rattle.std.specs.Prelude.{◌≡◌, ◌↔◌, ℕ, List, IfOk, IsTrue, length, false};
+ghost use Rattle.problem_core.specs.Layout.{Problem};
+ghost use Rattle.problem_core.specs.Paths.{IsSound};
+ghost use Rattle.problem_core.specs.declared.parts.Mark.{Mark};
+ghost use Rattle.cert_core.specs.Stops.{AreNonnegativeBefore};
+ghost use Rattle.problem_core.specs.declared.stops.Quantity.TheVariants as quantities;
+ghost use Rattle.path_checker.specs.Pivots.{next_marks};
+ghost use Rattle.path_checker.specs.Tables.{AreJudged, line_count};
+ghost use Rattle.path_claims.specs.Turns.{IsSizedPivot, IsTurnPivot};
+ghost use Rattle.path_claims.specs.Fits.{IsFitAt, IsLastAfter, IsSizedLast, marks_after};
+
+use crate::after::are_up_after;
+use crate::fits::{attr_fit, mark_fit};
+use crate::frame::Frame;
+use crate::rows_after::rows_fit;
+use crate::sums::LevelSum;
+use crate::sums_after::level_fit;
+use crate::terms::{FirstTerms, terms_fit};
+use crate::turns::Turn;
+use crate::{has_no_negative_column_after, pivot_of};
+use frac_core::OutOfMemory;
+use path_checker::{Inside, Pivot, Step, SumStop};
+use problem_core::{Problem, Quantity, What};
+use std::alloc::Global;
+
+/// How a quantity stands at a corner: it fits, it does not, or something that it is made of does not.
+#[derive(Clone, Copy, Debug, PartialEq, Eq)]
+pub enum Fit {
+    Fits,
+    Unfit,
+    NoRoom,
+}
+
+/// The corner after an exchange: the lines and the levels before it.
+#[derive(Clone, Copy, Debug)]
+pub struct Last<'a> {
+    pub frame: &'a Frame,
+    pub lines: &'a [Option<Inside>],
+    pub levels: &'a [LevelSum],
+    pub step: Step,
+}
+
+// How what is written stands after the exchange.
+fn what_fit(
+    alloc: Global,
+    p: &Problem,
+    last: Last<'_>,
+    pivot: &Pivot,
+    what: What,
+) -> Result<Fit, OutOfMemory>
+    requires last { IsSizedLast last }
+    requires count { length last.lines.now ≡ line_count p.now }
+    requires pivot { IsSizedPivot (length last.lines.now) pivot.now }
+    requires step { pivot.now.step ≡ last.step }
+    ensures { IfOk result (λ fit. (at : List Mark) → IsLastAfter p.now at last.entry
+        → IsTurnPivot p.now at pivot.now
+        → IsFitAt p.now (next_marks p.now pivot.now at) (quantities.Plain what) fit) }
+{
+    match what {
+        What::Attr(attr) => attr_fit(alloc, p, last.lines, pivot, attr),
+        What::Mark(mark) => mark_fit(alloc, p, last.lines, pivot, mark),
+        What::Level(level) => level_fit(alloc, p, last, level),
+    }
+}
+
+// How the quantity stands after the exchange with this pivot.
+fn quantity_fit(
+    alloc: Global,
+    p: &Problem,
+    last: Last<'_>,
+    pivot: &Pivot,
+    named: Quantity,
+) -> Result<Fit, OutOfMemory>
+    requires last { IsSizedLast last }
+    requires count { length last.lines.now ≡ line_count p.now }
+    requires pivot { IsSizedPivot (length last.lines.now) pivot.now }
+    requires step { pivot.now.step ≡ last.step }
+    ensures { IfOk result (λ fit. (at : List Mark) → IsLastAfter p.now at last.entry
+        → IsTurnPivot p.now at pivot.now → IsFitAt p.now (next_marks p.now pivot.now at) named fit) }
+{
+    match named {
+        Quantity::Plain(what) => what_fit(alloc, p, last, pivot, what),
+        Quantity::Shifts { what, .. } => what_fit(alloc, p, last, pivot, what),
+        Quantity::Terms { mark, first } => {
+            terms_fit(alloc, p, last.lines, pivot, FirstTerms { mark, first })
+        }
+        Quantity::Rows { level, first } => rows_fit(alloc, last, pivot, level, first),
+    }
+}
+
+/// How the quantity stands after the exchange.
+pub fn fit_after(
+    alloc: Global,
+    p: &Problem,
+    last: Last<'_>,
+    named: Quantity,
+) -> Result<Fit, OutOfMemory>
+    requires { IsSizedLast last }
+    ensures { IfOk result (λ fit. (at : List Mark) → IsLastAfter p.now at last.entry
+        → IsFitAt p.now (marks_after p.now last.entry at) named fit) }
+{
+    p.show_whole();
+    if last.lines.len() != p.rows().len() + p.stays().len() {
+        return Ok(Fit::Fits);
+    }
+    match pivot_of(alloc, last.lines, last.step) {
+        Ok(pivot) => quantity_fit(alloc, p, last, &pivot, named),
+        Err(SumStop::OutOfMemory) => Err(OutOfMemory),
+        Err(SumStop::Unfit) => Ok(Fit::Fits),
+    }
+}
+
+/// Whether what has to hold at each corner of a path holds after the exchange.
+pub fn is_sound_after(alloc: Global, dual: bool, last: Last<'_>) -> Result<bool, OutOfMemory>
+    requires { IsSizedLast last }
+    ensures { IfOk result (λ holds. (p : Problem) (at : List Mark) → IsLastAfter p at last.entry
+        → IsTrue holds ↔ IsSound dual p (marks_after p last.entry at)) }
+{
+    if dual {
+        let (lines, step) = (last.lines, last.step);
+        return has_no_negative_column_after(alloc, last.frame, Turn { lines, step }, last.levels);
+    }
+    match pivot_of(alloc, last.lines, last.step) {
+        Ok(pivot) => Ok(are_up_after(last.lines, &pivot, last.lines.len(), last.lines.len())),
+        Err(SumStop::OutOfMemory) => Err(OutOfMemory),
+        Err(SumStop::Unfit) => Ok(true),
+    }
+}
+
+/// Whether no value is negative after the exchange, where the marks of the rows from a place on, of so many,
+/// are not judged.
+pub fn has_no_negative_before_after(
+    alloc: Global,
+    last: Last<'_>,
+    judged: usize,
+    rows: usize,
+) -> Result<bool, OutOfMemory>
+    requires { IsSizedLast last }
+    ensures { IfOk result (λ holds. (p : Problem) (at : List Mark) (id : ℕ) → IsLastAfter p at last.entry
+        → AreJudged p id judged rows
+        → IsTrue holds ↔ AreNonnegativeBefore p (marks_after p last.entry at) id) }
+{
+    match pivot_of(alloc, last.lines, last.step) {
+        Ok(pivot) => Ok(are_up_after(last.lines, &pivot, judged, rows)),
+        Err(SumStop::OutOfMemory) => Err(OutOfMemory),
+        Err(SumStop::Unfit) => Ok(true),
+    }
+}

@@ -1,0 +1,71 @@
+// The place of a level among the levels of a problem.
+ghost use Rattle.std.specs.Prelude.{◌≡◌, ◌≢◌, ◌<◌, length, All, IfSome, IfNone};
+ghost use Rattle.std.specs.List.{HoldsAt};
+ghost use Rattle.problem_core.specs.Layout.{Problem};
+ghost use Rattle.problem_core.specs.Levels.{IsLevelAt};
+ghost use Rattle.problem_core.specs.declared.parts.Level.TheVariants as kinds;
+ghost use Rattle.path_claims.specs.Attrs.{IsEmptyLevel};
+ghost use Rattle.path_claims.specs.Frames.{IsFrame, IsSizedFrame, number_at};
+
+use crate::frame::{Frame, LevelFacts, LineFacts, REQUIRED};
+use problem_core::{Level, RowName};
+
+// The place of the level with this number.
+fn place_of_number(levels: &[LevelFacts], number: u32) -> Option<usize>
+    ensures within { IfSome result (λ k. k < length levels.now) }
+    ensures found { IfSome result (HoldsAt (λ f. f.number ≡ number) levels.now) }
+    ensures none { IfNone result (All (λ f. f.number ≢ number) levels.now) }
+{
+    levels.iter().position(|f| f.number == number)
+}
+
+// The place of the level of this rank.
+fn place_of_rank(frame: &Frame, rank: u16) -> Option<usize>
+    ensures within { IfSome result (λ k. k < length frame.now.levels.items) }
+    ensures found { IfSome result (λ k. (p : Problem) → IsFrame p frame.now
+        → IsLevelAt p (kinds.Priority rank) (number_at frame.now.levels.items k)) }
+    ensures none { IfNone result ((p : Problem) → IsFrame p frame.now
+        → IsEmptyLevel p (kinds.Priority rank)) }
+{
+    if rank > REQUIRED {
+        return None;
+    }
+    place_of_number(&frame.levels, u32::from(REQUIRED - rank))
+}
+
+// The place of the line with this name.
+fn line_named(lines: &[LineFacts], name: RowName) -> Option<usize>
+    ensures within { IfSome result (λ k. k < length lines.now) }
+    ensures found { IfSome result (HoldsAt (λ f. f.name ≡ name) lines.now) }
+    ensures none { IfNone result (All (λ f. f.name ≢ name) lines.now) }
+{
+    lines.iter().position(|f| f.name == name)
+}
+
+// The place of the level of the attribute's stay.
+fn level_of_stay(frame: &Frame, attr: u32) -> Option<usize>
+    requires { IsSizedFrame frame.now }
+    ensures within { IfSome result (λ k. k < length frame.now.levels.items) }
+    ensures found { IfSome result (λ k. (p : Problem) → IsFrame p frame.now
+        → IsLevelAt p (kinds.Stay attr) (number_at frame.now.levels.items k)) }
+    ensures none { IfNone result ((p : Problem) → IsFrame p frame.now → IsEmptyLevel p (kinds.Stay attr)) }
+{
+    let Some(i) = line_named(&frame.lines, RowName::Stay(attr)) else {
+        return None;
+    };
+    Some(frame.lines[i].level)
+}
+
+/// The place of the level, unless no line has it.
+pub(crate) fn place_of_level(frame: &Frame, level: Level) -> Option<usize>
+    requires { IsSizedFrame frame.now }
+    ensures within { IfSome result (λ k. k < length frame.now.levels.items) }
+    ensures found { IfSome result (λ k. (p : Problem) → IsFrame p frame.now
+        → IsLevelAt p level (number_at frame.now.levels.items k)) }
+    ensures none { IfNone result ((p : Problem) → IsFrame p frame.now → IsEmptyLevel p level) }
+{
+    match level {
+        Level::Priority(rank) => place_of_rank(frame, rank),
+        Level::Stay(attr) => level_of_stay(frame, attr),
+    }
+}

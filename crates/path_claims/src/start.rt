@@ -1,0 +1,129 @@
+// A path with a quantity that is the corner where the route begins.
+ghost use Rattle.std.specs.Prelude.{◌≡◌, ◌↔◌, ◌≤◌, ℕ, [], length, Option, Some, IfOk};
+ghost use Rattle.std.specs.Prelude.{IsTrue, true, false};
+ghost use Rattle.problem_core.specs.Layout.{Problem};
+ghost use Rattle.problem_core.specs.Corners.{IsCorner, SameMarks};
+ghost use Rattle.problem_core.specs.Kept.{IsWhole};
+ghost use Rattle.path_checker.specs.FirstLines.{AreFirstLines};
+ghost use Rattle.path_checker.specs.PathClauses.{AreSoundBefore, IsPathVerdict};
+ghost use Rattle.path_checker.specs.Route.{over_marks};
+ghost use Rattle.path_checker.specs.declared.verdict.PathVerdict.TheVariants.{No};
+ghost use Rattle.path_claims.specs.Begun.{IsBegunUntil, IsWholeBegun};
+ghost use Rattle.path_claims.specs.Frames.{IsFrame, IsSizedFrame};
+ghost use Rattle.path_claims.specs.Levels.{AreSizedLevels};
+ghost use Rattle.path_claims.specs.Orders.{IsJudgedTo};
+ghost use Rattle.path_claims.specs.Starts.{AreUpTo, IsAtStart};
+
+use crate::begins::{Begun, begin};
+use crate::columns::has_no_negative_column;
+use crate::frame::Frame;
+use crate::last::Fit;
+use crate::orders::{fit_before, judged_rows};
+use crate::sums::LevelSum;
+use cert_core::Path;
+use frac_core::OutOfMemory;
+use path_checker::{Inside, PathVerdict, is_up};
+use problem_core::{Problem, Quantity};
+use std::alloc::Global;
+
+// Whether no value of the inside marks of so many first lines is negative.
+fn are_up(lines: &[Option<Inside>], count: usize) -> bool
+    requires { count ≤ length lines.now }
+    ensures { (p : Problem) → IsWhole p → AreFirstLines p (length lines.now) lines.now
+        → IsTrue result ↔ AreUpTo p count }
+{
+    for at in 0..count {
+        if !is_up(&lines[at]) {
+            return false;
+        }
+    }
+    true
+}
+
+// Whether what has to hold at the corner does, where all is made, and so many rows are judged.
+fn is_sound_there(
+    dual: bool,
+    frame: &Frame,
+    lines: &[Option<Inside>],
+    levels: &[LevelSum],
+    judged: usize,
+) -> bool
+    requires frame { IsSizedFrame frame.now }
+    requires count { length lines.now ≡ length frame.now.lines.items }
+    requires levels { AreSizedLevels (length lines.now) levels.now }
+    requires level_count { length levels.now ≡ length frame.now.levels.items }
+    requires judged { judged ≤ length lines.now }
+    ensures { (p : Problem) (row : Option ℕ) → IsWhole p → IsWholeBegun p frame.now lines.now levels.now
+        → IsJudgedTo p row judged → IsTrue result ↔ AreSoundBefore dual p (over_marks p) [] row }
+{
+    if dual {
+        return has_no_negative_column(frame, lines, levels);
+    }
+    are_up(lines, judged)
+}
+
+// The verdict on a path that holds to all clauses but 12 and 14, where the quantity fits.
+fn verdict_of_fitting(is_sound: bool) -> PathVerdict
+    ensures { (is_sound ≡ true → result ≡ No 14) × (is_sound ≡ false → result ≡ No 12) }
+{
+    if is_sound {
+        PathVerdict::No(14)
+    } else {
+        PathVerdict::No(12)
+    }
+}
+
+// The verdict where a sum does not fit, and the lines before it are made.
+fn verdict_until(
+    p: &Problem,
+    path: &Path,
+    named: Quantity,
+    lines: &[Option<Inside>],
+    unfit: Quantity,
+) -> PathVerdict
+    requires begun { IsBegunUntil p.now lines.now unfit }
+    requires start { IsAtStart p.now path.now }
+    ensures { IsPathVerdict p.now path.now (Some named) result }
+{
+    p.show_whole();
+    if path.dual() {
+        return PathVerdict::NoRoom(0);
+    }
+    let fit = fit_before(p, named, unfit);
+    if fit == Fit::NoRoom {
+        return PathVerdict::NoRoom(0);
+    }
+    if !are_up(lines, judged_rows(p, named)) {
+        return PathVerdict::No(12);
+    }
+    if fit == Fit::Fits {
+        return PathVerdict::No(14);
+    }
+    PathVerdict::Yes
+}
+
+/// The verdict on a path without swaps whose marks are the over marks of the held rows.
+pub fn check_at_start(
+    alloc: Global,
+    p: &Problem,
+    frame: &Frame,
+    path: &Path,
+    named: Quantity,
+) -> Result<PathVerdict, OutOfMemory>
+    requires frame { IsFrame p.now frame.now }
+    requires sized { IsSizedFrame frame.now }
+    requires swaps { path.now.swaps ≡ [] }
+    requires corner { IsCorner p.now path.now.corner }
+    requires marks { SameMarks path.now.corner (over_marks p.now) }
+    ensures { IfOk result (IsPathVerdict p.now path.now (Some named)) }
+{
+    p.show_whole();
+    match begin(alloc, p, frame)? {
+        Begun::Whole { lines, levels } => {
+            let judged = judged_rows(p, named);
+            let is_sound = is_sound_there(path.dual(), frame, &lines, &levels, judged);
+            Ok(verdict_of_fitting(is_sound))
+        }
+        Begun::Until { lines, unfit } => Ok(verdict_until(p, path, named, &lines, unfit)),
+    }
+}

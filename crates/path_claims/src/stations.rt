@@ -1,0 +1,151 @@
+// The lines and levels of a corner of the route.
+ghost use Rattle.std.specs.Prelude.{◌≡◌, ◌≢◌, ◌<◌, ◌+◌, ◌^◌, List, IfOk, IfErr, Ok, Err, Some, length};
+ghost use Rattle.problem_core.specs.declared.parts.Mark.{Mark};
+ghost use Rattle.path_checker.specs.Route.{over_marks};
+ghost use Rattle.path_checker.specs.Sides.{IsWithin};
+ghost use Rattle.path_checker.specs.Tables.{AreSized};
+ghost use Rattle.path_checker.specs.declared.stop.SumStop.TheVariants as stops;
+ghost use Rattle.path_checker.specs.declared.way.WayStop.TheVariants as ways;
+ghost use Rattle.path_claims.specs.Frames.{IsFrame, IsSizedFrame};
+ghost use Rattle.path_claims.specs.Levels.{AreLevels, AreSizedLevels};
+ghost use Rattle.path_claims.specs.Rows.{AreKept};
+ghost use Rattle.path_claims.specs.Stations.{HasUnfitRows, HasUnfitSum, IsSizedTable, IsStation, IsStuckAt};
+ghost use Rattle.path_claims.specs.Stations.{IsTableAt, IsUsableStation, LeadsToTable, LeadsToUnfitTable};
+
+use crate::fits::attrs_fit;
+use crate::frame::Frame;
+use crate::rows::{RowsStop, first_levels};
+use crate::sums::LevelSum;
+use crate::turns::{Turn, next_levels};
+use path_checker::{Inside, Step, SumStop, WayStop, after_exchange, first_lines};
+use problem_core::Problem;
+use std::alloc::Global;
+
+/// The lines and the levels of a corner.
+#[derive(Debug, Drop)]
+pub struct Table {
+    pub lines: Vec<Option<Inside>>,
+    pub levels: Vec<LevelSum>,
+}
+
+/// What is kept of a corner of the route: the table of the one before and the exchange that leads here, or
+/// nothing of the one where it begins, and how many exchanges led here. Its own table is made once it is
+/// asked for.
+#[derive(Debug, Drop)]
+pub struct Station {
+    pub table: Table,
+    pub step: Option<Step>,
+    pub count: u32,
+}
+
+// The levels of the corner where the route begins, or a sum of first rows does not fit there.
+fn begun_levels(
+    alloc: Global,
+    p: &Problem,
+    frame: &Frame,
+    lines: &[Option<Inside>],
+) -> Result<Vec<LevelSum>, SumStop>
+    requires sized { IsSizedFrame frame.now }
+    requires lines { AreSized lines.now }
+    requires kept { AreKept p.now (over_marks p.now) frame.now lines.now }
+    requires count { length lines.now ≡ length frame.now.lines.items }
+    ensures sized { IfOk result (λ levels. AreSizedLevels (length lines.now) levels.items) }
+    ensures count { IfOk result (λ levels. length levels.items ≡ length frame.now.levels.items) }
+    ensures levels { IfOk result (λ levels. AreLevels p.now (over_marks p.now) frame.now levels.items) }
+    ensures unfit { IfErr result (λ stop. stop ≡ stops.Unfit → HasUnfitRows p.now) }
+{
+    match first_levels(alloc, frame, lines) {
+        Ok(levels) => Ok(levels),
+        Err(RowsStop::Unfit { .. }) => Err(SumStop::Unfit),
+        Err(RowsStop::OutOfMemory) => Err(SumStop::OutOfMemory),
+    }
+}
+
+/// The table of the corner where the route begins, or a sum of first terms or rows does not fit there.
+pub fn first_table(alloc: Global, p: &Problem, frame: &Frame) -> Result<Table, SumStop>
+    requires frame { IsFrame p.now frame.now }
+    requires sized { IsSizedFrame frame.now }
+    ensures sized { IfOk result (IsSizedTable frame.now) }
+    ensures table { IfOk result (IsTableAt p.now (over_marks p.now) frame.now) }
+    ensures unfit { IfErr result (λ stop. stop ≡ stops.Unfit → HasUnfitSum p.now) }
+{
+    p.show_whole();
+    let lines = first_lines(alloc, p)?;
+    let levels = begun_levels(alloc, p, frame, &lines)?;
+    Ok(Table { lines, levels })
+}
+
+/// The table after an exchange, or something does not fit there.
+pub fn table_after(
+    alloc: Global,
+    p: &Problem,
+    frame: &Frame,
+    table: Table,
+    step: Step,
+) -> Result<Table, SumStop>
+    requires frame { IsFrame p.now frame.now }
+    requires frame_sized { IsSizedFrame frame.now }
+    requires table { IsSizedTable frame.now table }
+    requires step { IsWithin (length table.lines.items) step }
+    ensures sized { IfOk result (IsSizedTable frame.now) }
+    ensures next { IfOk result (LeadsToTable p.now frame.now table step) }
+    ensures unfit { IfErr result (λ stop. stop ≡ stops.Unfit → LeadsToUnfitTable p.now frame.now table step) }
+{
+    let turn = Turn {
+        lines: &table.lines,
+        step,
+    };
+    let levels = next_levels(alloc, frame, turn, &table.levels)?;
+    let lines = after_exchange(alloc, table.lines, step)?;
+    if !attrs_fit(p, &lines) {
+        return Err(SumStop::Unfit);
+    }
+    Ok(Table { lines, levels })
+}
+
+/// The table of a corner of the route, or something that counts does not fit there.
+pub fn table_now(
+    alloc: Global,
+    p: &Problem,
+    frame: &Frame,
+    station: Station,
+) -> Result<Table, SumStop>
+    requires frame { IsFrame p.now frame.now }
+    requires sized { IsSizedFrame frame.now }
+    requires usable { IsUsableStation frame.now station }
+    ensures sized { IfOk result (IsSizedTable frame.now) }
+    ensures table { IfOk result (λ table. (at : List Mark) → IsStation p.now at frame.now station
+        → IsTableAt p.now at frame.now table) }
+    ensures unfit { IfErr result (λ stop. stop ≡ stops.Unfit → (at : List Mark)
+        → IsStation p.now at frame.now station → IsStuckAt p.now at station.step) }
+{
+    match station.step {
+        Some(step) => table_after(alloc, p, frame, station.table, step),
+        None => first_table(alloc, p, frame),
+    }
+}
+
+/// The table, or the stop after so many exchanges.
+pub fn told(table: Result<Table, SumStop>, count: u32) -> Result<Table, WayStop>
+    ensures ok { IfOk result (λ t. table ≡ Ok t) }
+    ensures stop { IfErr result (λ stop. stop ≢ ways.OutOfMemory
+        → (stop ≡ ways.NoRoom count) × (table ≡ Err stops.Unfit)) }
+{
+    match table {
+        Ok(table) => Ok(table),
+        Err(SumStop::Unfit) => Err(WayStop::NoRoom(count)),
+        Err(SumStop::OutOfMemory) => Err(WayStop::OutOfMemory),
+    }
+}
+
+/// What is kept of a corner with this table after an exchange.
+pub fn station_after(table: Table, step: Step, count: u32) -> Station
+    requires { count + 1 < 2 ^ 32 }
+    ensures table { result.table ≡ table }
+    ensures step { result.step ≡ Some step }
+    ensures count { result.count ≡ count + 1 }
+{
+    let step = Some(step);
+    let count = count + 1;
+    Station { table, step, count }
+}
