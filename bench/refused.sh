@@ -1,10 +1,13 @@
 #!/bin/sh
-# Refuses the program's first growth of memory, then in another run the second, and so on, over one script. Each run
-# must write a prefix of what it writes with ample memory, and end with the status 5.
+# Refuses the program's first growth of memory, then in another run the second, and so on, over a script. Each run must
+# write a prefix of what it writes with ample memory and end with the status 5, or write all of it and end as with ample
+# memory.
 # Usage: bench/refused.sh [PROGRAM [SCRIPT]]
 #
 # The program takes memory from the C library. A small library of C that is loaded before it, and which the compiler cc
-# makes, counts the growths and refuses one. Without SCRIPT two lines join, one leaves, and that is taken back.
+# makes, counts the growths and refuses one. Without SCRIPT there are three scripts: in the first two lines join, one
+# leaves, and that is taken back; the second has wishes that aren't met, a conflict, and `diagnose`; the third has
+# `certify`. The last line tells how many growths were refused in all.
 set -eu
 here=$(cd "$(dirname "$0")" && pwd)
 program=${1:-$here/../crates/layout/out/layout}
@@ -50,9 +53,9 @@ __attribute__((destructor)) static void told(void) {
 C
 
 if [ $# -ge 2 ]; then
-    cp "$2" "$work/script"
+    cp "$2" "$work/given.script"
 else
-    cat > "$work/script" <<'SCRIPT'
+    cat > "$work/1 leaving.script" <<'SCRIPT'
 view a
 constrain g a.width == 100 @500
 constrain h a.width == 200 @600
@@ -62,32 +65,63 @@ frames
 undo
 frames
 SCRIPT
+    cat > "$work/2 diagnosis.script" <<'SCRIPT'
+view a
+vfl g [a(100@20)]
+vfl h [a(200@30)]
+frames
+diagnose
+window 100 50
+constrain j a.width >= 60
+constrain k a.width <= 50
+diagnose
+SCRIPT
+    cat > "$work/3 certificate.script" <<'SCRIPT'
+view a
+view b
+constrain g a.left + b.left == 10
+frames
+certify
+SCRIPT
 fi
 
 python3 - "$program" "$work" <<'PYTHON'
-import os, subprocess, sys
+import glob, os, subprocess, sys
 
 program, work = sys.argv[1:]
 
 
-def run(refused, growths=""):
+def run(path, refused, growths=""):
     """What a run writes, and its status, where this growth is refused; 0 is none."""
     names = {"LD_PRELOAD": f"{work}/refuse.so", "REFUSED": str(refused), "GROWTHS": growths}
-    with open(f"{work}/script", "rb") as script:
+    with open(path, "rb") as script:
         env = {**os.environ, **names}
         done = subprocess.run([program, "run"], stdin=script, capture_output=True, env=env, check=False)
     return done.stdout, done.returncode
 
 
-whole, status = run(0, f"{work}/growths")
-with open(f"{work}/growths", encoding="ascii") as file:
-    count = int(file.read())
-bad = 0
-for i in range(1, count + 1):
-    out, ended = run(i)
-    if ended != 5 or not whole.startswith(out):
-        bad += 1
-        print(f"growth {i}: status {ended}, {len(out)} bytes, prefix {whole.startswith(out)}")
-print(f"{count} growths, whole run of {len(whole)} bytes with status {status}, {bad} runs that end otherwise")
-sys.exit(1 if bad or not count else 0)
+def refuse_each(path):
+    """Prints what came of a script, and gives how many growths there are, and how many runs end otherwise."""
+    name = os.path.basename(path).removesuffix(".script")
+    whole, status = run(path, 0, f"{work}/growths")
+    with open(f"{work}/growths", encoding="ascii") as file:
+        count = int(file.read())
+    bad = right = 0
+    for i in range(1, count + 1):
+        out, ended = run(path, i)
+        if (out, ended) == (whole, status):
+            right += 1
+        elif ended != 5 or not whole.startswith(out):
+            bad += 1
+            print(f"{name}, growth {i}: status {ended}, {len(out)} bytes, prefix {whole.startswith(out)}")
+    print(f"{name}: {count} growths, whole run of {len(whole)} bytes with status {status}, "
+          f"{right} runs as with ample memory, {bad} runs that end otherwise")
+    return count, bad
+
+
+results = [refuse_each(path) for path in sorted(glob.glob(f"{work}/*.script"))]
+growths = sum(count for count, _ in results)
+bad = sum(bad for _, bad in results)
+print(f"{growths} growths in all, {bad} runs that end otherwise")
+sys.exit(1 if bad or not all(count for count, _ in results) else 0)
 PYTHON

@@ -42,13 +42,13 @@ ends_or_not (x ∷ xs) = elim (eqb_tells x 10) [
   ]
 ]
 
-strip_keeps : (xs : List ℕ) → length xs ≤ length (strip_carriage_return xs) + 1
+pub strip_keeps : (xs : List ℕ) → length xs ≤ length (strip_carriage_return xs) + 1
 strip_keeps xs = elim (slice_index xs (length xs - 1) == 13) as (λ b. length xs ≤ length (cond b (take (length xs - 1) xs) xs) + 1) [
   | true ↦ omega (arith, length-take-le (length xs - 1) xs (omega arith))
   | false ↦ omega arith
 ]
 
-given_long : (line : List ℕ) → 4096 < length line → given_as line ≡ None
+pub given_long : (line : List ℕ) → 4096 < length line → given_as line ≡ None
 given_long line long =
     let over : nat_le (length line) 4096 ≡ false = grind (arith, nat_tests) in
     rw over refl

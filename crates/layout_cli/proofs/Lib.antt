@@ -1,9 +1,12 @@
 pub mod BestRuns
 pub mod EachView
-pub mod Runs
 pub mod Stills
 pub mod Texts
 pub mod Told
 pub mod Printed
 pub mod Made
 pub mod FoundLines
+pub mod Talks
+pub mod Answered
+pub mod Stops
+pub mod Ways

@@ -6,3 +6,5 @@ pub mod Checks
 pub mod Outputs
 pub mod Printing
 pub mod Making
+pub mod Talks
+pub mod Ends

@@ -28,5 +28,6 @@ Run old (line ∷ more) text good new = (reply : Reply) × (mid : State) × (res
     × (good ≡ (is_accepted reply && rest_good)) × Run mid more rest rest_good new
 
 -- The text is a run of the lines of the script, from the first session.
-abbrev pub IsRunOf : List ℕ → List ℕ → Bool → Type 0
-IsRunOf script text good = (last : State) × Run first_state (lines script) text good last
+pub record IsRunOf (script text : List ℕ) (good : Bool) : Type 0 where
+  pub last : State
+  pub run : Run first_state (lines script) text good last

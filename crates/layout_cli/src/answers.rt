@@ -1,24 +1,59 @@
-// The replies to the lines of a script.
-ghost use Rattle.std.specs.Prelude.{◌≡◌, ◌++◌, IfOk, IfErr, OnErr};
-ghost use Rattle.layout_cli.specs.Machine.{IsRunOf, Step};
+// The replies to lines.
+ghost use Rattle.std.specs.Prelude.{◌≡◌, ◌≤◌, [], IfOk, IfErr, IsErrOf, OnOk, OnErr, vec_capacity};
+ghost use Rattle.std.specs.Io.KnownBytes.{Appends};
+ghost use Rattle.edge_io.specs.Cause.{Rose};
+ghost use Rattle.layout_cli.specs.Machine.{Step};
+ghost use Rattle.layout_cli.specs.Printing.{HasFront};
 ghost use Rattle.layout_cli.specs.Replies.{text_of};
-ghost use Rattle.session_undo.specs.Replies.{accepted, is_accepted, MayRefuse};
+ghost use Rattle.layout_cli.specs.declared.answers.AnswerStop.TheVariants as stop;
+ghost use Rattle.session_undo.specs.Replies.{accepted, is_accepted, IsChange, MayRefuse, Tells};
 ghost use Rattle.session_undo.specs.Replies as reply;
+ghost use Rattle.session_undo.specs.Scene.{State};
 
-use crate::output::Output;
+use crate::printing::print_frames;
 use crate::replies::reply_text;
+use edge_io::{Failed, LINE_LIMIT, Sink, put_all};
 use frac_core::OutOfMemory;
 use name_tables::LimitWord;
 use script_text::{LineStop, read_line};
 use session_undo::{Refusal, Reply, Session};
-use span_text::lines;
-use std::alloc::Global;
-
-/// The greatest length of a line, its end not counted.
-const LINE_LIMIT: usize = 4096;
+use std::alloc::{AllocError, Global};
 
 /// The length of the reply to a change.
 const OK_LENGTH: usize = 3;
+
+/// Why a line has no whole reply.
+#[derive(Clone, Copy, Debug, PartialEq, Eq)]
+pub enum AnswerStop {
+    /// The sink failed.
+    Fault,
+    /// Memory was wanting.
+    OutOfMemory,
+}
+
+impl From<AllocError> for AnswerStop {
+    ghost from_gives = { λ _ e. e ≡ stop.OutOfMemory };
+
+    fn from(_: AllocError) -> Self {
+        AnswerStop::OutOfMemory
+    }
+}
+
+impl From<OutOfMemory> for AnswerStop {
+    ghost from_gives = { λ _ e. e ≡ stop.OutOfMemory };
+
+    fn from(_: OutOfMemory) -> Self {
+        AnswerStop::OutOfMemory
+    }
+}
+
+impl From<Failed> for AnswerStop {
+    ghost from_gives = { λ _ e. e ≡ stop.Fault };
+
+    fn from(_: Failed) -> Self {
+        AnswerStop::Fault
+    }
+}
 
 /// Does what a line says.
 pub(crate) fn step(alloc: Global, session: &mut Session, line: &[u8]) -> Result<Reply, Refusal>
@@ -36,30 +71,74 @@ pub(crate) fn step(alloc: Global, session: &mut Session, line: &[u8]) -> Result<
     }
 }
 
-// Does what a line says, appends the reply, and says whether it is no refusal. The room for `ok` is there
-// before a change is made.
-fn answer(session: &mut Session, line: &[u8], out: &mut Vec<u8>) -> Result<bool, OutOfMemory>
-    ensures told { IfOk result (λ good. (answer : reply.Reply) × Step session.old line.now answer session.new
-        × (out.new.items ≡ out.old.items ++ text_of session.new.scene answer) × (good ≡ is_accepted answer)) }
-    ensures same { OnErr result (session.new ≡ session.old) }
+/// Puts a reply, or a front of it. Frames go to the sink as they are; the text of another reply is made first.
+pub(crate) fn put_reply<K: Sink>(
+    session: &Session,
+    reply: &Result<Reply, Refusal>,
+    text: &mut Vec<u8>,
+    sink: &mut K,
+) -> Result<(), AnswerStop>
+    requires empty { text.old.items ≡ [] }
+    requires room { 3 ≤ vec_capacity text.old }
+    ensures put { OnOk result (Tells (λ told.
+        Appends (K.held sink.old) (K.held sink.new) (text_of session.now.scene told)) reply.now) }
+    ensures front { IsErrOf result AnswerStop.Fault → Tells (λ told.
+        HasFront (K.held sink.old) (K.held sink.new) (text_of session.now.scene told)) reply.now }
+    ensures fault { IsErrOf result AnswerStop.Fault → Rose (K.faults sink.old) (K.faults sink.new) }
+    ensures later { K.faults sink.old ≤ K.faults sink.new }
+    ensures unwritten { IsErrOf result AnswerStop.OutOfMemory → sink.new ≡ sink.old }
+    ensures unchanged { IsErrOf result AnswerStop.OutOfMemory → IsChange reply.now → ⊥ }
 {
-    out.reserve(OK_LENGTH)?;
-    let reply = step(*out.allocator(), session, line);
-    match reply_text(session, &reply, out) {
-        Ok(()) => Ok(reply.is_ok()),
-        Err(stop) => Err(stop),
+    if let Ok(Reply::Frames) = reply {
+        print_frames(session, sink)?;
+        return Ok(());
     }
+    reply_text(session, reply, text)?;
+    put_all(sink, text)?;
+    Ok(())
 }
 
-/// The replies to the lines of a script, and whether none is a refusal.
-pub fn answer_script(alloc: Global, script: &[u8]) -> Result<Output, OutOfMemory>
-    ensures { IfOk result (λ output. IsRunOf script.now output.text.items output.is_good) }
+/// Does what a line says, puts the reply, and says whether it is no refusal. The room for `ok` is there before
+/// a change is made.
+pub(crate) fn answer<K: Sink>(
+    session: &mut Session,
+    line: &[u8],
+    text: &mut Vec<u8>,
+    sink: &mut K,
+) -> Result<bool, AnswerStop>
+    ensures told { IfOk result (λ good. (answer : reply.Reply) × Step session.old line.now answer session.new
+        × Appends (K.held sink.old) (K.held sink.new) (text_of session.new.scene answer)
+        × (good ≡ is_accepted answer)) }
+    ensures front { IsErrOf result AnswerStop.Fault → (answer : reply.Reply) × (mid : State)
+        × Step session.old line.now answer mid
+        × HasFront (K.held sink.old) (K.held sink.new) (text_of mid.scene answer) }
+    ensures fault { IsErrOf result AnswerStop.Fault → Rose (K.faults sink.old) (K.faults sink.new) }
+    ensures later { K.faults sink.old ≤ K.faults sink.new }
+    ensures unwritten { IsErrOf result AnswerStop.OutOfMemory → sink.new ≡ sink.old }
+    ensures same { IsErrOf result AnswerStop.OutOfMemory → session.new ≡ session.old }
 {
-    let mut session = Session::new(alloc)?;
-    let mut text = Vec::new(alloc);
-    let mut is_good = true;
-    for line in lines(script) {
-        is_good &= answer(&mut session, line.bytes, &mut text)?;
-    }
-    Ok(Output { text, is_good })
+    text.clear();
+    text.reserve(OK_LENGTH)?;
+    let reply = step(*text.allocator(), session, line);
+    put_reply(session, &reply, text, sink)?;
+    Ok(reply.is_ok())
+}
+
+/// Puts the refusal of a line that is too long.
+pub(crate) fn refuse_long<K: Sink>(
+    session: &Session,
+    text: &mut Vec<u8>,
+    sink: &mut K,
+) -> Result<(), AnswerStop>
+    ensures put { OnOk result (Appends (K.held sink.old) (K.held sink.new)
+        (text_of session.now.scene (reply.Limit LimitWord.Line))) }
+    ensures front { IsErrOf result AnswerStop.Fault → HasFront (K.held sink.old) (K.held sink.new)
+        (text_of session.now.scene (reply.Limit LimitWord.Line)) }
+    ensures fault { IsErrOf result AnswerStop.Fault → Rose (K.faults sink.old) (K.faults sink.new) }
+    ensures later { K.faults sink.old ≤ K.faults sink.new }
+    ensures unwritten { IsErrOf result AnswerStop.OutOfMemory → sink.new ≡ sink.old }
+{
+    text.clear();
+    text.reserve(OK_LENGTH)?;
+    put_reply(session, &Err(Refusal::Limit(LimitWord::Line)), text, sink)
 }

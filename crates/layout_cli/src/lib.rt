@@ -1,10 +1,25 @@
 //! The program's run: a script of lines in, their replies out; a problem and a claim in, and the checker's
-//! verdict out; or a seed and a number of views in the words, and what a run of the script that is drawn from
-//! them comes to out.
+//! verdict out; or a seed and a number of views in the words, and what a run of the script that is drawn
+//! from them comes to out.
 //!
-//! A script makes views, metrics and constraints, changes the size of the window, takes changes back, and asks
-//! for the frames of the views, for the rows, and for the multipliers that show the values to be best. The
-//! values that a frame shows are those of the assignment that is best for the rows held.
+//! A script makes views, metrics and constraints, changes the size of the window, takes changes back, and
+//! asks for the frames of the views, for the rows, and for the multipliers that show the values to be best.
+//! The values that a frame shows are those of the assignment that is best for the rows held.
+//!
+//! ```
+//! // the word is `run`, the source has the lines `window 320 480` and `frames`
+//! run(alloc, &words, &mut source, &mut sink)    // Status::Done, and written is
+//!                                               // `ok`, `frame window 0 0 320 480`, `ok`
+//! ```
+//!
+//! Each line of a script is answered before the next one is read. The contract of [`run`] has a clause for
+//! each [`Status`]; where the word is `run`, what is written is exactly what the machine of `session_undo`
+//! replies to the lines that were read.
+//!
+//! In reading order: `program` ([`run`]), `mode` (what each mode reads). For `run`: `script` (the loop over
+//! the pulls), `talk` (a session that answers lines), `answers` (one line), `replies`, `refusals`, `frames`,
+//! `names`, `found` (what a scene lacks, and probes), `printing` (frames straight to a sink). For `check`:
+//! `input` (the whole input), `checking`. For `make`: `making`. `output`, `laws`.
 #![tactic(auto)]
 
 mod answers;
@@ -21,6 +36,8 @@ mod printing;
 mod program;
 mod refusals;
 mod replies;
+mod script;
+mod talk;
 
 pub use laws::{
     best_values_are_unique, counted_runs_are_runs, first_values_are_best, runs_lead_to_best_values,

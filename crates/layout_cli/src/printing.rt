@@ -1,5 +1,5 @@
 // Frames that go straight to a sink.
-ghost use Rattle.std.specs.Prelude.{◌≡◌, [], IfSome, IfNone, OnOk, OnErr};
+ghost use Rattle.std.specs.Prelude.{◌≡◌, ◌≤◌, ◌+◌, ◌++◌, [], length, take, IfSome, IfNone, OnOk, OnErr};
 ghost use Rattle.std.specs.Io.KnownBytes.{Appends};
 ghost use Rattle.edge_io.specs.Cause.{HasCause};
 ghost use Rattle.layout_cli.specs.Printing.{HasFront, line_at};
@@ -10,35 +10,62 @@ use edge_io::{Failed, Sink, put_all};
 use frac_core::{Frac, Wide, write_frac};
 use session_undo::{Scene, Session};
 
-// Puts a space and a value.
+// The room for the line of a frame: its words and spaces, a name, and four values.
+const LINE_ROOM: usize = 512;
+
+// Writes some bytes behind the first `at` bytes of a line, and says where they end.
+fn write_bytes(line: &mut [u8; LINE_ROOM], at: usize, bytes: &[u8]) -> usize
+    requires { at + length bytes.now ≤ 512 }
+    ensures end { result ≡ at + length bytes.now }
+    ensures text { take result line.new ≡ take at line.old ++ bytes.now }
+{
+    let end = at + bytes.len();
+    line[at..end].copy_from_slice(bytes);
+    end
+}
+
+// Writes a space and a value.
 #[tactic(auto, unfolding(crate::specs::Replies::value_text))]
-fn print_value<K: Sink>(sink: &mut K, value: Frac) -> Result<(), Failed>
-    ensures ok { OnOk result (Appends (K.held sink.old) (K.held sink.new) (value_text value)) }
-    ensures err { OnErr result (HasFront (K.held sink.old) (K.held sink.new) (value_text value)) }
-    ensures cause { HasCause (K.faults sink.old) (K.faults sink.new) result }
+fn write_value(line: &mut [u8; LINE_ROOM], at: usize, value: Frac) -> usize
+    requires { at + 83 ≤ 512 }
+    ensures within { result ≤ at + 83 }
+    ensures text { take result line.new ≡ take at line.old ++ value_text value }
 {
     let mut text = [0; 82];
     let end = write_frac(Wide::from(value), &mut text);
-    put_all(sink, b" ")?;
-    put_all(sink, &text[..end])
+    let at = write_bytes(line, at, b" ");
+    write_bytes(line, at, &text[..end])
+}
+
+// Writes the line that shows a frame, and says how long it is.
+#[tactic(auto, unfolding(crate::specs::Replies::frame_line))]
+fn write_frame(line: &mut [u8; LINE_ROOM], name: &[u8], frame: &Frame) -> usize
+    requires { length name.now ≤ 64 }
+    ensures within { result ≤ 512 }
+    ensures text { take result line.new
+        ≡ frame_line name.now frame.now.left frame.now.top frame.now.width frame.now.height }
+{
+    let at = write_bytes(line, 0, b"frame ");
+    let at = write_bytes(line, at, name);
+    let at = write_value(line, at, frame.left);
+    let at = write_value(line, at, frame.top);
+    let at = write_value(line, at, frame.width);
+    let at = write_value(line, at, frame.height);
+    write_bytes(line, at, b"\n")
 }
 
 // Puts the line that shows a frame.
-#[tactic(auto, unfolding(crate::specs::Replies::frame_line))]
 fn print_frame<K: Sink>(sink: &mut K, name: &[u8], frame: &Frame) -> Result<(), Failed>
+    requires { length name.now ≤ 64 }
     ensures ok { OnOk result (Appends (K.held sink.old) (K.held sink.new)
         (frame_line name.now frame.now.left frame.now.top frame.now.width frame.now.height)) }
     ensures err { OnErr result (HasFront (K.held sink.old) (K.held sink.new)
         (frame_line name.now frame.now.left frame.now.top frame.now.width frame.now.height)) }
     ensures cause { HasCause (K.faults sink.old) (K.faults sink.new) result }
 {
-    put_all(sink, b"frame ")?;
-    put_all(sink, name)?;
-    print_value(sink, frame.left)?;
-    print_value(sink, frame.top)?;
-    print_value(sink, frame.width)?;
-    print_value(sink, frame.height)?;
-    put_all(sink, b"\n")
+    let mut line = [0; LINE_ROOM];
+    let end = write_frame(&mut line, name, frame);
+    put_all(sink, &line[..end])
 }
 
 // A view's name and its frame.
@@ -54,7 +81,9 @@ fn shown_at(scene: &Scene, place: usize) -> Option<Shown<'_>>
         frame_line s.name.now s.frame.left s.frame.top s.frame.width s.frame.height
         ≡ line_at scene.now.scene place) }
     ensures none { IfNone result ([] ≡ line_at scene.now.scene place) }
+    ensures short { IfSome result (λ s. length s.name.now ≤ 64) }
 {
+    let _count = scene.tree().len();
     let view = scene.tree().at(place)?;
     let frame = scene.frame_at(place)?;
     Some(Shown {

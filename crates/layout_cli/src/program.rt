@@ -1,19 +1,22 @@
 // The program's run, over any source and sink.
-ghost use Rattle.std.specs.Prelude.{◌≡◌, ◌⊎◌, ◌<◌, ◌≤◌, ◌^◌, ℕ, List, [], true, false, length, IfSome, IfOk};
-ghost use Rattle.std.specs.Prelude.{take, Bool};
+ghost use Rattle.std.specs.Prelude.{◌≡◌, ◌⊎◌, ◌<◌, ◌≤◌, ℕ, List, Option, [], true, false, length, IfSome};
 ghost use Rattle.std.specs.Io.KnownBytes.{Appends};
 ghost use Rattle.edge_io.specs.Cause.{Rose};
+ghost use Rattle.layout_cli.specs.Ends.{AfterNoMemory, AfterReadFault, AfterTooLong, AfterWriteFault, IsEndOf};
 ghost use Rattle.layout_cli.specs.Outputs.{IsOutputOf};
+ghost use Rattle.layout_cli.specs.Printing.{HasFront};
 ghost use Rattle.layout_cli.specs.Words.{Pulls, input_of, limit_of, usage_line};
 ghost use Rattle.program_words.specs.Words.{AreOther, AreWordsOf};
 ghost use Rattle.program_words.specs.declared.mode.Mode.{Mode};
+ghost use Rattle.program_words.specs.declared.mode.Mode.TheVariants.{Run, Check, Make};
 
-use crate::answers::answer_script;
 use crate::checking::check_input;
-use crate::input::InputStop;
+use crate::input::{InputStop, read_all};
 use crate::making::make_and_run;
-use crate::mode::read_input;
+use crate::mode::CHECK_LIMIT;
 use crate::output::Output;
+use crate::script::ScriptStop;
+use crate::talk::talk_over;
 use edge_io::{Sink, Source, put_all};
 use frac_core::OutOfMemory;
 use program_words::{Mode, mode_of};
@@ -38,24 +41,11 @@ pub enum Status {
     TooLong,
 }
 
-// What a run in the mode writes for the input.
-fn output_of(alloc: Global, mode: Mode, input: &[u8]) -> Result<Output, OutOfMemory>
-    requires { length input.now < 2 ^ 31 }
-    ensures { IfOk result (λ output. IsOutputOf mode input.now output.text.items output.is_good) }
-{
-    match mode {
-        Mode::Run => answer_script(alloc, input),
-        Mode::Check => check_input(alloc, input),
-        Mode::Make { seed, views } => make_and_run(alloc, seed, views),
-    }
-}
-
-/// Reads an input to its end and writes what the mode answers: the replies to the lines of a script, or the
-/// checker's verdict on a problem and a claim; or pulls nothing, and writes what a run of the script comes to
-/// that is drawn from a seed. `words` are the program's words after its name, and name the mode.
+/// Answers each line of a script before it reads the next one; or reads a problem and a claim to their end and
+/// writes the checker's verdict; or pulls nothing, and writes what a run of the script comes to that is drawn
+/// from a seed. `words` are the program's words after its name, and name the mode.
 ///
-/// Nothing is written before the whole input has been read. The first event that ends the run decides the
-/// status.
+/// The first event that ends the run decides the status.
 pub fn run<S: Source, K: Sink>(
     alloc: Global,
     words: &[String],
@@ -81,37 +71,118 @@ pub fn run<S: Source, K: Sink>(
     // The source is as before, but for a mode that pulls from it.
     ensures unread { (source.new ≡ source.old) ⊎ ((mode : Mode) × AreWordsOf words.now mode × Pulls mode) }
 
-    // A fault has its cause, and only a front of the output was written.
+    // A fault has its cause. Exactly the replies to the whole lines that were read were written before the
+    // source failed, and a front of the output before the sink did.
     ensures read_fault { result ≡ Status.ReadFault → Rose (S.faults source.old) (S.faults source.new) }
-    ensures reading { result ≡ Status.ReadFault → (mode : Mode) × AreWordsOf words.now mode × Pulls mode }
-    ensures after_read_fault { result ≡ Status.ReadFault → Appends (K.held sink.old) (K.held sink.new) [] }
+    ensures after_read_fault { result ≡ Status.ReadFault → (mode : Mode) × AreWordsOf words.now mode
+        × Pulls mode × AfterReadFault mode
+        (S.left source.old) (S.left source.new) (K.held sink.old) (K.held sink.new) }
     ensures write_fault { result ≡ Status.WriteFault → Rose (K.faults sink.old) (K.faults sink.new) }
     ensures after_write_fault { result ≡ Status.WriteFault
-        → (AreOther words.now × ((n : ℕ) × Appends (K.held sink.old) (K.held sink.new) (take n usage_line)))
-        ⊎ ((mode : Mode) × AreWordsOf words.now mode × IfSome (input_of mode (S.left source.old)) (λ input.
-        (length input ≤ limit_of mode) × ((text : List ℕ) × (good : Bool) × (n : ℕ)
-        × IsOutputOf mode input text good × Appends (K.held sink.old) (K.held sink.new) (take n text)))) }
+        → (AreOther words.now × HasFront (K.held sink.old) (K.held sink.new) usage_line)
+        ⊎ ((mode : Mode) × AreWordsOf words.now mode × AfterWriteFault mode
+        (S.left source.old) (S.left source.new) (K.held sink.old) (K.held sink.new)) }
 
-    // The source gave more than the limit.
+    // The source gave more than the limit. Exactly the replies to the whole lines within it were written.
     ensures too_long { result ≡ Status.TooLong → (mode : Mode) × AreWordsOf words.now mode
         × IfSome (input_of mode (S.left source.old)) (λ input. limit_of mode < length input) }
-    ensures after_too_long { result ≡ Status.TooLong → Appends (K.held sink.old) (K.held sink.new) [] }
-    ensures out_of_memory { result ≡ Status.OutOfMemory → Appends (K.held sink.old) (K.held sink.new) [] }
+    ensures after_too_long { result ≡ Status.TooLong → (mode : Mode) × AreWordsOf words.now mode
+        × AfterTooLong mode (S.left source.old) (S.left source.new) (K.held sink.old) (K.held sink.new) }
+
+    // Exactly the replies to the lines before the one that wanted memory were written.
+    ensures out_of_memory { result ≡ Status.OutOfMemory → Appends (K.held sink.old) (K.held sink.new) []
+        ⊎ ((mode : Mode) × AreWordsOf words.now mode × AfterNoMemory mode
+        (S.left source.old) (S.left source.new) (K.held sink.old) (K.held sink.new)) }
 {
     let mode = match mode_of(alloc, words) {
         Ok(Some(mode)) => mode,
         Ok(None) => return put_usage(sink),
         Err(OutOfMemory) => return Status::OutOfMemory,
     };
-    let input = match read_input(alloc, source, mode) {
+    match mode {
+        Mode::Run => run_script(alloc, source, sink),
+        Mode::Check => run_check(alloc, source, sink),
+        Mode::Make { seed, views } => run_made(alloc, seed, views, sink),
+    }
+}
+
+// Answers a script line by line.
+fn run_script<S: Source, K: Sink>(alloc: Global, source: &mut S, sink: &mut K) -> Status
+    ensures { IsEndOf Run
+        (record {
+          left = S.left source.old;
+          held = K.held sink.old;
+          reads_failed = S.faults source.old;
+          writes_failed = K.faults sink.old;
+        })
+        (record {
+          left = S.left source.new;
+          held = K.held sink.new;
+          reads_failed = S.faults source.new;
+          writes_failed = K.faults sink.new;
+        }) result }
+{
+    match talk_over(alloc, source, sink) {
+        Ok(true) => Status::Done,
+        Ok(false) => Status::Refused,
+        Err(ScriptStop::ReadFault) => Status::ReadFault,
+        Err(ScriptStop::WriteFault) => Status::WriteFault,
+        Err(ScriptStop::TooLong) => Status::TooLong,
+        Err(ScriptStop::OutOfMemory) => Status::OutOfMemory,
+    }
+}
+
+// Reads a problem and a claim, and puts the checker's verdict.
+fn run_check<S: Source, K: Sink>(alloc: Global, source: &mut S, sink: &mut K) -> Status
+    ensures { IsEndOf Check
+        (record {
+          left = S.left source.old;
+          held = K.held sink.old;
+          reads_failed = S.faults source.old;
+          writes_failed = K.faults sink.old;
+        })
+        (record {
+          left = S.left source.new;
+          held = K.held sink.new;
+          reads_failed = S.faults source.new;
+          writes_failed = K.faults sink.new;
+        }) result }
+{
+    let input = match read_all(alloc, source, CHECK_LIMIT) {
         Ok(input) => input,
         Err(InputStop::Fault) => return Status::ReadFault,
         Err(InputStop::TooLong) => return Status::TooLong,
         Err(InputStop::OutOfMemory) => return Status::OutOfMemory,
     };
-    let Ok(output) = output_of(alloc, mode, &input) else {
-        return Status::OutOfMemory;
-    };
+    match check_input(alloc, &input) {
+        Ok(output) => put_output(&output, sink),
+        Err(OutOfMemory) => Status::OutOfMemory,
+    }
+}
+
+// Puts what a run of a script comes to that is drawn.
+fn run_made<K: Sink>(alloc: Global, seed: u64, views: u32, sink: &mut K) -> Status
+    ensures { (left : Option (List ℕ)) (failed : ℕ) → IsEndOf (Make seed views)
+        (record { left = left; held = K.held sink.old; reads_failed = failed; writes_failed = K.faults sink.old })
+        (record { left = left; held = K.held sink.new; reads_failed = failed; writes_failed = K.faults sink.new })
+        result }
+{
+    match make_and_run(alloc, seed, views) {
+        Ok(output) => put_output(&output, sink),
+        Err(OutOfMemory) => Status::OutOfMemory,
+    }
+}
+
+// Puts a whole output.
+fn put_output<K: Sink>(output: &Output, sink: &mut K) -> Status
+    ensures done { result ≡ Status.Done → (output.now.is_good ≡ true)
+        × Appends (K.held sink.old) (K.held sink.new) output.now.text.items }
+    ensures refused { result ≡ Status.Refused → (output.now.is_good ≡ false)
+        × Appends (K.held sink.old) (K.held sink.new) output.now.text.items }
+    ensures fault { result ≡ Status.WriteFault → Rose (K.faults sink.old) (K.faults sink.new)
+        × HasFront (K.held sink.old) (K.held sink.new) output.now.text.items }
+    ensures ends { (result ≡ Status.Done) ⊎ ((result ≡ Status.Refused) ⊎ (result ≡ Status.WriteFault)) }
+{
     if put_all(sink, &output.text).is_err() {
         return Status::WriteFault;
     }
@@ -127,8 +198,7 @@ fn put_usage<K: Sink>(sink: &mut K) -> Status
     ensures ends { (result ≡ Status.Usage) ⊎ (result ≡ Status.WriteFault) }
     ensures usage { result ≡ Status.Usage → Appends (K.held sink.old) (K.held sink.new) usage_line }
     ensures fault { result ≡ Status.WriteFault → Rose (K.faults sink.old) (K.faults sink.new) }
-    ensures front { result ≡ Status.WriteFault
-        → (n : ℕ) × Appends (K.held sink.old) (K.held sink.new) (take n usage_line) }
+    ensures front { result ≡ Status.WriteFault → HasFront (K.held sink.old) (K.held sink.new) usage_line }
 {
     match put_all(sink, b"usage: layout run | check | make SEED VIEWS\n") {
         Ok(()) => Status::Usage,

@@ -1,6 +1,7 @@
 // The cases of the input and what each leads to.
 use crate::runs::put_run;
 use crate::sessions::put_session;
+use crate::table::put_table;
 use case_text::put_escaped;
 use frac_core::OutOfMemory;
 use std::alloc::Global;
@@ -16,15 +17,15 @@ fn put_case(
         return Ok(());
     }
     writeln!(out, "{heading}")?;
-    if heading == "== session" {
-        put_session(alloc, out, text)
-    } else {
-        put_run(
+    match heading {
+        "== session" => put_session(alloc, out, text),
+        "== table" => put_table(alloc, out, text),
+        _ => put_run(
             alloc,
             out,
             heading.strip_prefix("=").unwrap_or(heading),
             text,
-        )
+        ),
     }
 }
 

@@ -4,12 +4,22 @@
 //! Below a heading `= WORDS` stands the input of a run with these words. Behind `;` the heading may say:
 //!
 //! - `times N`: the input is the text so many times;
+//! - `inner N`: what stands between two bytes `~` of the text stands in the input so many times;
 //! - `pulls N`: each pull takes at most so many bytes;
 //! - `fails N`: the pull number N fails, counted from 0;
 //! - `room N`: the sink has room for so many bytes;
 //! - `std`: the run reads and writes by a reader and a writer of std.
 //!
-//! Below a heading `== session` stand the lines that a session takes, as `sessions` says.
+//! Below a heading `== session` stand the lines that a session takes, as `sessions` says. Below `== table`
+//! stands a script of which each read and each write fails in turn, as `table` says.
+//!
+//! ```text
+//! = run ; pulls 1
+//! window 320 480          each reply is printed, then how the run ended and how often it pulled
+//! ```
+//!
+//! In reading order: `cases` (the headings), `runs`, `counted` (a source that counts its pulls), `table`;
+//! `sessions`, `steps` (one step, and what a check says of it), `drawing` (drawn lines).
 #![tactic(auto)]
 
 mod cases;
@@ -18,22 +28,12 @@ mod drawing;
 mod runs;
 mod sessions;
 mod steps;
+mod table;
 
 use crate::cases::printed;
-use std::io;
-use std::io::Write;
+use case_text::print_answers;
 use std::process::ExitCode;
 
 fn main(rt: HostRuntime) -> ExitCode {
-    let Ok(text) = io::read_to_string(rt.alloc(), rt.reader()) else {
-        return ExitCode::from(3);
-    };
-    let Ok(out) = printed(rt.alloc(), &text) else {
-        return ExitCode::from(5);
-    };
-    let mut sink = io::writer(&rt);
-    if write!(sink, "{out}").is_err() {
-        return ExitCode::from(4);
-    }
-    ExitCode::SUCCESS
+    print_answers(rt, printed)
 }

@@ -5,13 +5,13 @@ use edge_io::{MemorySink, MemorySource, Sink, Source, StdSink, StdSource};
 use frac_core::OutOfMemory;
 use layout_cli::{Status, run};
 use std::alloc::Global;
-use std::io::Cursor;
+use std::io::{Cursor, Write};
 
-// What a run leaves in its sink, and how it ends.
+/// What a run leaves in its sink, and how it ends.
 #[derive(Drop)]
-struct Ended {
-    text: Vec<u8>,
-    status: Status,
+pub struct Ended {
+    pub text: Vec<u8>,
+    pub status: Status,
 }
 
 // The status alone: nothing here needs a clause of `run`.
@@ -45,7 +45,8 @@ fn has_option(options: &str, name: &str) -> bool {
     false
 }
 
-fn words_of(alloc: Global, words: &str) -> Result<Vec<String>, OutOfMemory> {
+/// The words of a command line.
+pub fn words_of(alloc: Global, words: &str) -> Result<Vec<String>, OutOfMemory> {
     let mut list = Vec::new(alloc);
     for word in words.split_whitespace() {
         list.push(String::from_str(alloc, word)?)?;
@@ -68,8 +69,27 @@ fn fails_of(alloc: Global, options: &str) -> Result<Vec<u64>, OutOfMemory> {
     Ok(calls)
 }
 
+// The text, with what stands between two bytes `~` so many times in place of once.
+fn with_inner(alloc: Global, text: &str, times: usize) -> Result<Vec<u8>, OutOfMemory> {
+    let mut whole = Vec::new(alloc);
+    let mut is_inner = false;
+    for part in text.split("~") {
+        let count = if is_inner { times } else { 1 };
+        whole.extend_from_slice(&part.as_bytes().repeat(alloc, count)?)?;
+        is_inner = !is_inner;
+    }
+    Ok(whole)
+}
+
+fn input_of(alloc: Global, options: &str, text: &[u8]) -> Result<Vec<u8>, OutOfMemory> {
+    match number_after(options, "inner") {
+        Some(times) => with_inner(alloc, std::str::from_utf8(text).unwrap_or(""), times),
+        None => Ok(text.repeat(alloc, number_after(options, "times").unwrap_or(1))?),
+    }
+}
+
 fn source_of(alloc: Global, options: &str, text: &[u8]) -> Result<Counted, OutOfMemory> {
-    let whole = text.repeat(alloc, number_after(options, "times").unwrap_or(1))?;
+    let whole = input_of(alloc, options, text)?;
     let sizes = sizes_of(alloc, options, whole.len())?;
     let fails = fails_of(alloc, options)?;
     Ok(Counted {
@@ -78,77 +98,82 @@ fn source_of(alloc: Global, options: &str, text: &[u8]) -> Result<Counted, OutOf
     })
 }
 
-// A run that writes to memory.
-fn ended_in_memory<S: Source>(
+/// A run that writes to memory.
+pub fn ended_in_memory<S: Source>(
     alloc: Global,
     words: &[String],
     source: &mut S,
-    room: usize,
+    sink: &mut MemorySink,
 ) -> Result<Ended, OutOfMemory> {
-    let mut sink = MemorySink::new(alloc, room, Vec::new(alloc))?;
-    let status = status_of(alloc, words, source, &mut sink);
+    let status = status_of(alloc, words, source, sink);
     let text = sink.bytes().to_vec(alloc)?;
     Ok(Ended { text, status })
 }
 
-// A run that reads by a reader of std and writes to a list.
-fn ended_in_std(alloc: Global, words: &[String], text: &[u8]) -> Ended {
+// How a run ends that reads by a reader of std and writes by a writer of std.
+fn status_in_std<W: Write>(
+    alloc: Global,
+    words: &[String],
+    text: &[u8],
+    sink: &mut StdSink<W>,
+) -> Status {
     let mut source = StdSource::new(Cursor::new(text));
+    status_of(alloc, words, &mut source, sink)
+}
+
+// Such a run that writes to a list.
+fn ended_in_std(alloc: Global, words: &[String], text: &[u8]) -> Ended {
     let mut sink = StdSink::new(Vec::new(alloc));
-    let status = status_of(alloc, words, &mut source, &mut sink);
+    let status = status_in_std(alloc, words, text, &mut sink);
     Ended {
         text: sink.into_inner(),
         status,
     }
 }
 
-// A run that reads by a reader of std and writes to a place with an end.
+// How such a run ends that writes to a place with an end.
 fn status_in_room(alloc: Global, words: &[String], text: &[u8], room: &mut [u8]) -> Status {
-    let mut source = StdSource::new(Cursor::new(text));
     let mut sink = StdSink::new(Cursor::new(room));
-    status_of(alloc, words, &mut source, &mut sink)
+    status_in_std(alloc, words, text, &mut sink)
 }
 
-// Appends what a run left and how it ended.
-fn put_ended(out: &mut String, ended: &Ended) -> Result<(), OutOfMemory> {
+/// Appends what a run left and how it ended.
+pub fn put_ended(out: &mut String, ended: &Ended) -> Result<(), OutOfMemory> {
     put_text(out, &ended.text)?;
     let status = ended.status;
     Ok(writeln!(out, "-- {status:?}")?)
 }
 
-fn put_counted(
-    alloc: Global,
-    out: &mut String,
-    words: &[String],
-    options: &str,
-    text: &[u8],
-) -> Result<(), OutOfMemory> {
-    let mut source = source_of(alloc, options, text)?;
-    let room = number_after(options, "room").unwrap_or(65_536);
-    let ended = ended_in_memory(alloc, words, &mut source, room)?;
+// What a run is tried with: its words, how its source and its sink are, and its input.
+#[derive(Clone, Copy)]
+struct Case<'a> {
+    words: &'a [String],
+    options: &'a str,
+    text: &'a [u8],
+}
+
+fn put_counted(alloc: Global, out: &mut String, case: Case<'_>) -> Result<(), OutOfMemory> {
+    let mut source = source_of(alloc, case.options, case.text)?;
+    let room = number_after(case.options, "room").unwrap_or(65_536);
+    let mut sink = MemorySink::new(alloc, room, Vec::new(alloc))?;
+    let ended = ended_in_memory(alloc, case.words, &mut source, &mut sink)?;
     put_ended(out, &ended)?;
     let pulls = source.pulls;
     Ok(writeln!(out, "-- {pulls} pulls")?)
 }
 
-fn put_standard(
-    alloc: Global,
-    out: &mut String,
-    words: &[String],
-    options: &str,
-    text: &[u8],
-) -> Result<(), OutOfMemory> {
-    match number_after(options, "room") {
+fn put_standard(alloc: Global, out: &mut String, case: Case<'_>) -> Result<(), OutOfMemory> {
+    match number_after(case.options, "room") {
         Some(room) => {
             let mut text_left = vec![in alloc; b' '; room]?;
-            let status = status_in_room(alloc, words, text, &mut text_left);
+            let status = status_in_room(alloc, case.words, case.text, &mut text_left);
             let ended = Ended {
                 text: text_left,
                 status,
             };
             put_ended(out, &ended)
         }
-        None => put_ended(out, &ended_in_std(alloc, words, text)),
+        None => put_ended(out, &ended_in_std(alloc, case.words, case.text)),
     }
 }
 
@@ -160,11 +185,16 @@ pub fn put_run(
     text: &[u8],
 ) -> Result<(), OutOfMemory> {
     let (words, options) = heading.split_once(";").unwrap_or((heading, ""));
-    let words = words_of(alloc, words)?;
+    let words = &words_of(alloc, words)?;
+    let case = Case {
+        words,
+        options,
+        text,
+    };
     if has_option(options, "std") {
-        put_standard(alloc, out, &words, options, text)
+        put_standard(alloc, out, case)
     } else {
-        put_counted(alloc, out, &words, options, text)
+        put_counted(alloc, out, case)
     }
 }
 
@@ -172,7 +202,8 @@ pub fn put_run(
 pub fn verdict_of(alloc: Global, text: Vec<u8>) -> Result<Vec<u8>, OutOfMemory> {
     let words = words_of(alloc, "check")?;
     let mut source = MemorySource::new(text, Vec::new(alloc), Vec::new(alloc));
-    let ended = ended_in_memory(alloc, &words, &mut source, 100)?;
+    let mut sink = MemorySink::new(alloc, 100, Vec::new(alloc))?;
+    let ended = ended_in_memory(alloc, &words, &mut source, &mut sink)?;
     let Ended { text, status: _ } = ended;
     Ok(text)
 }
