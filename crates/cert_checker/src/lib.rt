@@ -1,4 +1,25 @@
-//! A checker of claims on layout problems that stands apart from any solver.
+//! A checker of claims on layout problems that stands apart from any solver: it uses the words of problems
+//! and claims alone, and reads no text.
+//!
+//! [`check_conflict`] judges multipliers that are to show that the required rows have no solution,
+//! [`check_best`] a certificate that values are best. The verdict is exact: yes, the number of the first
+//! clause that fails, or the first row at which there is no room for the sums.
+//!
+//! ```
+//! check_conflict(alloc, &problem, &conflict)?   // Verdict::Yes: there is no solution
+//! check_best(alloc, &problem, &values, &best)?  // Verdict::No(2): a required row doesn't hold
+//! ```
+//!
+//! Linear programming's words: the multipliers of a conflict are Farkas multipliers. A certificate is a dual
+//! solution, level by level. From it each mark, a slack or surplus variable, has a column of reduced costs,
+//! the strongest level first, and the first of these that isn't 0 is its front. That no front is below 0 is
+//! dual feasibility, and that the columns of the sides that the values use are all 0 is complementary
+//! slackness.
+//!
+//! In reading order: `verdict`; `arithmetic` (in 128 bits), `places` (of lines), `sums` (of lines by
+//! attribute), `refuting` (conflicts); `valued` (whose values they are, their room, the required rows),
+//! `leveled` (the levels of a certificate), `fronts`, `judging` (certificates); `laws`, and `path_laws` (the
+//! clauses of a lawful path, which `path_claims` checks).
 #![tactic(auto)]
 
 mod arithmetic;

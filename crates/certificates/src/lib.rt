@@ -12,8 +12,11 @@
 //! A corner's certificate is one in the sense of the checker ([`certified_is_accepted`]): it says yes, or
 //! that it has no room for some row's values. [`error`] reads what a row lacks.
 //!
+//! Linear programming's words: the multipliers of a level are its dual solution, so a certificate has one
+//! for each level at which one isn't 0.
+//!
 //! To read: `times` reads what is written of a level, `shares` divides by the common factor, and `levels`
-//! puts the levels together.
+//! puts the levels together; `errors` reads what rows lack; `laws` says what the checker says of all this.
 #![tactic(auto)]
 
 mod errors;

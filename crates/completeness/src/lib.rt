@@ -1,7 +1,18 @@
-//! What a line comes to where there is room: where no quantity fails to fit at any corner of its problem, and
-//! the budget is at least 4^N, with N rows and stays.
+//! What a line comes to where there is room: where no quantity fails to fit at any corner of its problem,
+//! and the budget is at least 4^N, with N rows and stays.
 //!
-//! Each law is the contract of a function that does nothing; its statement stands in `specs/`.
+//! Each law is the contract of a function that does nothing; its statement stands in `specs/` under the
+//! function's name.
+//!
+//! ```
+//! pub fn large_budgets_are_never_spent()        // no run uses up a budget of at least 4^N
+//!     ensures { LargeBudgetsAreNeverSpent }
+//! {}
+//! ```
+//!
+//! To read: `laws`, beginning with [`changes_are_answered`]; `specs/Room.antt` says what room is, and
+//! `specs/Laws.antt` what the laws say. A budget is the greatest number of pivots of one run of the simplex
+//! method, primal or dual.
 #![tactic(auto)]
 
 mod laws;

@@ -36,12 +36,18 @@
 //! attribute or an inside line are its equation by the outside lines in lowest terms, and those of a level
 //! are its cost; so are those at each earlier mark.
 //!
+//! Linear programming's words: the marks inside are the basis, and the values there its basic solution; a
+//! mark is the slack or the surplus variable of its line. A writing is a row of the tableau in lowest terms;
+//! [`Corner::movers`] counts the entries of a mark's column. [`Corner::multiplier`] is a simplex multiplier,
+//! [`Corner::reduced`] a reduced cost at one level, and [`Corner::front`] the first of a mark's that isn't
+//! 0. [`Corner::swap`] is a pivot, for which the caller makes the ratio test.
+//!
 //! To read: `table` has the lists, each with its earlier versions; `slots` finds in them by name;
 //! `writings`, `levels` and `growing` read what is written of attributes, marks and costs; `listing` lists
-//! lines, and `lows` those with negative values; `marking` names the marks inside; `sums` adds, and `fitting`
-//! tells what fits; `turning` and `exchange` go to the next corner, `joining` to that of a larger problem,
-//! `leaving`, `freeing` and `dropping` to that of a smaller one, `shifting` to that with another constant; and
-//! `corner` is what callers use.
+//! lines, and `lows` those with negative values; `marking` names the marks inside; `sums` adds, and
+//! `fitting` tells what fits; `turning` and `exchange` go to the next corner, `joining` to that of a larger
+//! problem, `leaving`, `freeing` and `dropping` to that of a smaller one, `shifting` to that with another
+//! constant; and `corner` is what callers use.
 #![tactic(auto)]
 
 mod corner;

@@ -14,6 +14,9 @@
 //! }
 //! ```
 //!
+//! Linear programming's words: such an end is an optimal basis, and the multipliers of a conflict are Farkas
+//! multipliers; a column is a mark's reduced costs, level by level.
+//!
 //! The contracts of both kinds of run say with the same words what they answer (`Runs`): an end that is best
 //! (`IsBestEnd`), where a run begins (`FromHere`), and a lawful path within the budget (`IsRun`). The lemmas
 //! here are those that the proofs of both kinds cite: on fronts and signs of columns, on marks in another

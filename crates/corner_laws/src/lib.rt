@@ -3,7 +3,11 @@
 //! here.
 //!
 //! Each law is the contract of a function that does nothing; its statement stands in `specs/` under the
-//! function's name. A proof elsewhere calls the function to have the law as a fact.
+//! function's name. A proof elsewhere cites the lemma that proves it:
+//!
+//! ```text
+//! use Rattle.corner_laws.proofs.RunPaths.{run_grows}      -- that a run grows by one exchange, `RunGrows`
+//! ```
 //!
 //! The words, and what linear programming calls them:
 //! - a corner is a basic solution, and the marks inside it are the basis; each line has two deviations, its

@@ -1,13 +1,24 @@
 //! What is written at a corner, by lines: of an attribute or an inside line one row of whole numbers,
 //! `own * quantity = own * value + sum of by * deviation` over the outside lines, without a common factor.
 //!
-//! The main word is `IsLineEquation` in `specs/LineEquations.antt`. Of `x >= 5` where x stands at 5, the
-//! attribute's is `1 * x = 1 * 5 + 1 * deviation of the row`. A corner that is kept as such rows is shown to
-//! meet the words of marks by the laws here, each the contract of a function that does nothing.
+//! The main word is `IsLineEquation` in `specs/LineEquations.antt`. Of a row `x >= 5` and a stay that draws
+//! x to 0 there is written, where x is 5 and the row is outside:
+//!
+//! ```text
+//! 1 * x = 1 * 5 + 1 * deviation of the row
+//! 1 * deviation of the stay = 1 * 5 + 1 * deviation of the row
+//! ```
+//!
+//! A corner that is kept as such rows is shown to meet the words of marks by the laws here, each the
+//! contract of a function that does nothing.
 //!
 //! A priority level has one such row too, `IsLevelRow`: an inside line of the level counts implicitly. The
 //! laws say what the row becomes at an exchange, a turn, a join and a departure, what the level then costs,
 //! when it fits, and that the sign of a column is that of its first number that isn't 0, its front.
+//!
+//! Linear programming's words: such a row is one of the tableau, in which the slack and the surplus of a
+//! constraint, whose columns are opposite, share one. The row of a level is an objective row, from which the
+//! reduced costs of its marks follow.
 //!
 //! In reading order: `equations` (writings, lowest terms, what does not fit, exchanges and what moves),
 //! `joins` (a row or an attribute joins, stays move), `removals` (they are taken out), `shifts` (a constant

@@ -11,6 +11,12 @@
 //! all_ambiguous(alloc, &mut engine, budget)?;   // (7, 1), and no other
 //! unmet(alloc, &engine)?;                       // row 7 lacks 100 points
 //! ```
+//!
+//! In linear programming's words [`ambiguous`] tells whether alternative optima differ at a variable, and a
+//! probe is one more goal, the weakest, that pushes it.
+//!
+//! In reading order: `priorities` and `lacking` (what does not hold, by priority and by row), `probing` (one
+//! attribute), `moving` (all of them), `diagnosing` (all that is found, [`diagnose`]).
 #![tactic(auto)]
 
 mod diagnosing;

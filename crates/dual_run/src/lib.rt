@@ -26,6 +26,11 @@
 //! whose values a new constant changes [`shift`] lists those at which they are negative with it, and so does
 //! an exchange.
 //!
+//! Linear programming's words: this is the dual simplex method. A column is a mark's reduced costs, level by
+//! level; that none is negative is dual feasibility. The choice of the mark that enters, by the least column
+//! over its number, is the dual ratio test, and the exchange of a mark for the other one of its line is the
+//! pivot of a slack for its own surplus.
+//!
 //! To read: `leaving` finds a mark with a negative value and lists lines, `shifts` lists those of a new
 //! constant; `ratios` tells which of two columns over their numbers is the lesser, `entering` which of all
 //! that have a number in the leaving mark's row; `runs` keeps the exchanges so far; and `restoring` is the

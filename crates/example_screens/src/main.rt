@@ -1,5 +1,13 @@
 //! Runs scripts that stand one after the other, each below a line that begins with `#: ` and says what it
 //! shows. That line is printed, and below it what a run of the script writes.
+//!
+//! ```text
+//! #: Login card           printed as it stands, and below it the replies to the lines
+//! window 320 480
+//! frames
+//! ```
+//!
+//! All is in `screens`.
 #![tactic(auto)]
 
 mod screens;

@@ -1,4 +1,16 @@
-//! Does what its words ask for, over the standard input and output.
+//! The program: does what its words ask for, over the standard input and output.
+//!
+//! ```text
+//! layout run < script         the replies to the lines of a script
+//! layout check < claim        the checker's verdict on a problem with a claim
+//! layout make 7 60            what a run of the script comes to that is drawn from the seed 7 for 60 views
+//! ```
+//!
+//! The exit status says how it ended: 0 where no reply is a refusal or the verdict is yes, 1 where one is or
+//! it is another, 2 for other words, 3 and 4 where reading or writing failed, 5 for want of memory, 6 for an
+//! input past its limit.
+//!
+//! All that it does stands in `layout_cli`. Here are the words, the streams and the status.
 #![tactic(auto)]
 
 ghost use Rattle.std.specs.Prelude.{◌≡◌};

@@ -43,9 +43,13 @@
 //! engine.value(1);                            // 20
 //! ```
 //!
-//! To read: `changing`, `removing` and `shifting` have the ways of a corner to the best one of another
-//! problem, with more rows, with fewer, or with other constants, and `engine` is what callers use. `laws` has
-//! small problems where a removal stops, and what is no such stop.
+//! Linear programming's words: `add` and `remove` go on by the primal simplex method from a feasible basis,
+//! `shift` by the dual one from a basis that is dual feasible.
+//!
+//! To read: `reading` finds rows and stays. `changing`, `removing` and `shifting` have the ways of a corner
+//! to the best one of another problem, with more rows, with fewer, or with other constants; `trying` goes
+//! such a way for what an attribute would be. `engine` is what callers use. `laws` has small problems where
+//! a removal stops, and what is no such stop.
 #![tactic(auto)]
 
 mod changing;

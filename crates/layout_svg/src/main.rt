@@ -3,6 +3,13 @@
 //!
 //! Where the input has no such reply, or a line of a frame is malformed, nothing is drawn: one line says why,
 //! and the status is 1.
+//!
+//! ```text
+//! layout run < script | layout_svg > drawing.svg
+//! ```
+//!
+//! In reading order: `fraction` (read exactly, written as decimals), `frame` (the line of a frame), `reply`
+//! (the last reply to `frames`), `drawing`.
 #![tactic(auto)]
 
 mod drawing;

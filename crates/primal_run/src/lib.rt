@@ -26,6 +26,11 @@
 //! is free: it is one of the strongest level, there of the lowest reduced cost, and of equal ones that of
 //! the weakest line, since then what a stronger line asks for need not be put right again.
 //!
+//! Linear programming's words: the choice of the mark that enters is the pricing, by the lowest reduced
+//! cost, and that of the mark that leaves is the ratio test. The rule between equal ones is the
+//! lexicographic one. There is no first phase apart: what the required rows lack is the cost of the
+//! strongest level.
+//!
 //! To read: `entering` finds the mark that enters, `required` does so where the required rows cost; `ties`
 //! tells which of two marks comes to 0 first, `leaving` which of all; `runs` keeps the exchanges so far; and
 //! `settling` is the run. What it shares with the dual run is in `corner_ends`.

@@ -1,4 +1,32 @@
-//! Layout problems: rows and stays, their errors, and what is best.
+//! Layout problems: rows and stays, their errors, and what is best. Here is said what a layout is, and no
+//! solver is known.
+//!
+//! A [`Problem`] has rows, each a relation of a sum of attributes and a constant, and for each attribute a
+//! stay that draws it to a value. An assignment is best where it satisfies the required rows, and no other
+//! that does has smaller costs, level by level, the strongest first (`IsBest` in `specs/Layout.antt`).
+//!
+//! ```
+//! let terms = [Term { attr: 1, by: 1 }];
+//! let five = Frac::of(5, 1)?;
+//! rows.push(Row::of(alloc, 7, 1000, 1, Rel::Ge, 1, five, &terms)?)?; // a row 7: attribute 1 is at least 5,
+//! stays.push(Stay { attr: 1, target: Frac::zero() })?;               // and it is drawn to 0
+//! let problem = Problem::of(rows, stays);                            // at best it is 5
+//! ```
+//!
+//! Linear programming's words: an attribute is a free variable, a row a constraint; one that is required (of
+//! the rank 1000) is hard, any other a goal. A gap is the residual of a row, its two deviations are its
+//! surplus and its slack, of which a [`Mark`] names one. A level is a preemptive goal, and what is best is
+//! the lexicographic optimum; the stays, each a level of its own below all rows, make it unique. Multipliers
+//! that refute the required rows are Farkas multipliers.
+//!
+//! What the types keep (`IsRow`, `IsWhole` in `specs/Kept.antt`): the numbers of rows rise, the attributes
+//! of a row's terms rise, there are at most 32 of them, each with a coefficient that isn't 0, and each has a
+//! stay, one alone; there are at most 4,096 rows and 4,096 stays.
+//!
+//! In reading order: `parts` (relations, terms, stays, marks, levels), `row`, `problem`, `values` (of
+//! attributes), `gaps` (the sign of a row's gap), `places` (marks by number), `stops` (what doesn't fit at a
+//! corner), `common` (least common multiples), `laws`: what is best by what reasons, each the contract of a
+//! function that does nothing.
 #![tactic(auto)]
 
 mod common;

@@ -2,6 +2,16 @@
 //!
 //! The words are read by `clap` as one command with the positional arguments MODE and NUMBER, the latter any
 //! number of times. `clap`'s own texts are never shown: words that name no mode are simply others.
+//!
+//! ```
+//! mode_of(alloc, &words)?                       // of `make 7 60`: Some(Mode::Make { seed: 7, views: 60 })
+//! mode_of(alloc, &words)?                       // of `--help`: None
+//! ```
+//!
+//! Words ask for one mode at most ([`mode_is_unique`]).
+//!
+//! In reading order: `mode` (the modes, and what MODE and the NUMBERs say), `numbers` (numbers as words),
+//! `command` (the words, read by `clap`), `laws`.
 #![tactic(auto)]
 
 mod command;

@@ -22,6 +22,14 @@
 //! certify
 //! ```
 //!
+//! [`read_line`] gives the one reading of a line, whose names are slices of it, or the place where it leaves
+//! the grammar:
+//!
+//! ```
+//! read_line(alloc, b"metric gap 8")?            // Command::Metric: the name `gap`, the value 8
+//! read_line(alloc, b"metric gap")               // Err(LineStop::SyntaxAt(10)): all 10 bytes begin some line
+//! ```
+//!
 //! An expression is a sum of terms with `+` and `-` between them and perhaps `-` in front. A term is a
 //! number, or a variable with perhaps `NUMBER *` or `RATIO *` in front; a variable is `NAME.ATTRIBUTE` or the
 //! name of a metric. A relation is `==`, `<=` or `>=`, and a priority is a name or a number. An alignment is
@@ -33,6 +41,11 @@
 //! `NAME.ATTRIBUTE`. Spaces and tabs may stand between all others, and must where a letter, a digit or `_`
 //! would follow another, and behind the first word where more follows. The text of a tree begins at the first
 //! byte behind these and is all that follows, whatever its bytes; what it says isn't read here.
+//!
+//! In reading order: `command` (what a line says), `words` (the words of the grammar), `fractions` (numbers
+//! and ratios as fractions), `terms` and `sums` (expressions), `constraint`, `formats` and `suggestions`
+//! (the lines of `constrain`, `vfl`, `suggest` and `release`), `lines` (all others, and [`read_line`]),
+//! `laws`.
 #![tactic(auto)]
 
 mod command;

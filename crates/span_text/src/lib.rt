@@ -1,5 +1,21 @@
 //! The lines of a script, the words of a line, and the readers that the grammars of formats and lines are
 //! made of. Each text that is handed out is a slice of the text that was given.
+//!
+//! ```
+//! for line in lines(b"view a\n# note\r\n") { .. }  // `view a`, then `# note`
+//! first_word(b"window 320 480")                     // `window`, and what follows it
+//! names::name(b"gap  8")?                           // `gap`, and `8` behind the spaces
+//! pieces::literal(b"in", b"if")                     // Err(1): no text goes on at the last byte
+//! ```
+//!
+//! A reader takes a text and gives what it read with the rest, which is never longer. An error is the count
+//! of the bytes that are left where no text of the grammar goes on, so of two errors the smaller one came
+//! further.
+//!
+//! In reading order: `line` (the lines of a script), `cut` and `token` (the tokens of a line, more coarsely
+//! than any grammar), `word` (its first word); `stop` (why a part wasn't read), `classes` (of bytes),
+//! `pieces` (the smallest readers), `numbers`, `names`, `multiples` (a number or a ratio), `object` (a
+//! number or a name).
 #![tactic(auto)]
 
 mod classes;

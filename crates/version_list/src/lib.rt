@@ -25,6 +25,11 @@
 //! names.remove(0)?;   // now "c"
 //! names.back();       // now "a"
 //! ```
+//!
+//! What the type keeps (`IsSound` in `specs/Undo.antt`): from the elements of now the logs of the marks, the
+//! newest first, give each earlier version.
+//!
+//! To read: `log` has the log of one mark, and this file the list.
 #![tactic(auto)]
 
 ghost use Rattle.std.specs.Borrow.{sem};

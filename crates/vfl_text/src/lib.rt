@@ -1,4 +1,19 @@
-//! Visual formats: a row or a column of views, the spaces between them and their sizes.
+//! Visual formats: a row or a column of views, the spaces between them and their sizes, read from a text and
+//! written.
+//!
+//! ```
+//! let format = read(alloc, "|-[a(20)]-[b]")?;   // two views from left to right, the first at its parent
+//! write(alloc, &format, &mut out)?;             // H:|-[a(==20)]-[b]
+//! read(alloc, "H:[a)")                          // Err(FormatStop::SyntaxAt(4)): 4 bytes begin some format
+//! ```
+//!
+//! A text has one reading at most. A [`Format`] says what was written and no more: what a name stands for,
+//! and what the usual space is, `constraint_compile` says. Its names are slices of the text. Between its
+//! views it has one connection fewer than views.
+//!
+//! In reading order: `parts` (what a format is made of), `preds` (sizes and spaces in parentheses), `views`
+//! (views and connections), `chain` (a whole format), `text` (a format and its text), `writer` (its
+//! canonical text).
 #![tactic(auto)]
 
 mod chain;

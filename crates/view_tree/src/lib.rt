@@ -1,4 +1,21 @@
-//! The tree of views: live views in order of creation, each below its parent, under the window.
+//! The tree of views: live views in order of creation, each below its parent, under the window. This crate
+//! alone gives a view its number.
+//!
+//! ```
+//! let mut tree = Tree::new(alloc)?;             // the window, ViewId(0)
+//! let card = tree.add("card", ViewId(0))?;      // ViewId(1)
+//! tree.add("title", card)?;                     // ViewId(2)
+//! tree.drop_subtree(card)?;                     // 2 views, whose numbers aren't used again
+//! // 2 views: `list`, ViewId(3), and in it `row`, ViewId(4)
+//! tree.add_json(br#"{"name": "list", "children": [{"name": "row"}]}"#, &metrics)?;
+//! ```
+//!
+//! What a [`Tree`] keeps (`AreKept`): the window comes first, names are distinct, numbers rise and are below
+//! the next one, a parent's is below its child's, and the limits hold ([`VIEW_LIMIT`], [`DEPTH_LIMIT`],
+//! [`ID_LIMIT`]). After a refusal all is as before.
+//!
+//! In reading order: `view` (what a caller sees of one), `stops` (why a call is refused), `tree`, `plan`
+//! (the views that a JSON value names) and `json` (trees from JSON), `laws`.
 #![tactic(auto)]
 
 mod json;
