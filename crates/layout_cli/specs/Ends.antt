@@ -34,7 +34,7 @@ AfterWriteFault Run left rest before now = (taken : List ℕ) × Consumes left r
 AfterWriteFault mode left rest before now = IfSome (input_of mode left) (λ input. (length input ≤ limit_of mode)
     × ((text : List ℕ) × (good : Bool) × IsOutputOf mode input text good × HasFront before now text))
 
--- where memory was wanting: the replies to the lines before the one that wanted it
+-- where memory was wanting: the replies to some first whole lines, or nothing in another mode
 abbrev pub AfterNoMemory : Mode → Option (List ℕ) → Option (List ℕ) → Option (List ℕ) → Option (List ℕ) → Type 0
 AfterNoMemory Run left rest before now = (taken : List ℕ) × Consumes left rest taken
     × (length taken ≤ limit_of Run) × AnswersFirst before now taken

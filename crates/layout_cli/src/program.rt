@@ -89,7 +89,7 @@ pub fn run<S: Source, K: Sink>(
     ensures after_too_long { result ≡ Status.TooLong → (mode : Mode) × AreWordsOf words.now mode
         × AfterTooLong mode (S.left source.old) (S.left source.new) (K.held sink.old) (K.held sink.new) }
 
-    // Exactly the replies to the lines before the one that wanted memory were written.
+    // Exactly the replies to some first whole lines were written, or nothing.
     ensures out_of_memory { result ≡ Status.OutOfMemory → Appends (K.held sink.old) (K.held sink.new) []
         ⊎ ((mode : Mode) × AreWordsOf words.now mode × AfterNoMemory mode
         (S.left source.old) (S.left source.new) (K.held sink.old) (K.held sink.new)) }
