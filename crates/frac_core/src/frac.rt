@@ -8,9 +8,11 @@ ghost use Rattle.frac_core.specs.Fraction.{IsUnfitRatio, fraction_order, sum_num
 use crate::divisor::gcd;
 use std::cmp::Ordering;
 use std::marker::Model;
+use thiserror::Error;
 
 /// A part is not below the bound in size.
-#[derive(Clone, Copy, Debug, PartialEq, Eq)]
+#[derive(Clone, Copy, Debug, PartialEq, Eq, Error)]
+#[error("a part of the fraction is too large")]
 pub struct Unfit;
 
 /// What the parts of a fitting number are below in size.

@@ -27,7 +27,7 @@ mod wide;
 
 pub use divisor::gcd;
 pub use frac::{Frac, PART_BOUND, Unfit};
-pub use memory::OutOfMemory;
+pub use memory::{OutOfMemory, Stop};
 pub use order::cmp_wide;
 pub use text::write_frac;
 pub use wide::Wide;

@@ -1,10 +1,13 @@
 // Want of memory as an error of its own.
-ghost use Rattle.std.specs.Prelude.{⊤};
+ghost use Rattle.std.specs.Prelude.{⊤, ◌≡◌};
 
 use std::alloc::{AllocError, AllocFailed};
+use std::fmt::Display;
+use thiserror::Error;
 
 /// Memory is wanting.
-#[derive(Clone, Copy, Debug, PartialEq, Eq)]
+#[derive(Clone, Copy, Debug, PartialEq, Eq, Error)]
+#[error("memory is wanting")]
 pub struct OutOfMemory;
 
 impl From<AllocError> for OutOfMemory {
@@ -23,5 +26,48 @@ where
 
     fn from(_: AllocFailed<T>) -> OutOfMemory {
         OutOfMemory
+    }
+}
+
+/// Why a call gave nothing: a cause of its own, or want of memory.
+#[derive(Clone, Copy, Debug, PartialEq, Eq, Error)]
+#[error_bound(E: Display)]
+pub enum Stop<E> {
+    #[error("{0}")]
+    Refused(E),
+    #[error("memory is wanting")]
+    OutOfMemory,
+}
+
+impl<E> From<OutOfMemory> for Stop<E> {
+    ghost use Rattle.frac_core.specs.declared.memory.Stop.TheVariants.{OutOfMemory};
+
+    ghost from_gives = { λ _ stop. stop ≡ OutOfMemory };
+
+    fn from(_: OutOfMemory) -> Stop<E> {
+        Stop::OutOfMemory
+    }
+}
+
+impl<E> From<AllocError> for Stop<E> {
+    ghost use Rattle.frac_core.specs.declared.memory.Stop.TheVariants.{OutOfMemory};
+
+    ghost from_gives = { λ _ stop. stop ≡ OutOfMemory };
+
+    fn from(_: AllocError) -> Stop<E> {
+        Stop::OutOfMemory
+    }
+}
+
+impl<T, E> From<AllocFailed<T>> for Stop<E>
+where
+    T: Drop,
+{
+    ghost use Rattle.frac_core.specs.declared.memory.Stop.TheVariants.{OutOfMemory};
+
+    ghost from_gives = { λ _ stop. stop ≡ OutOfMemory };
+
+    fn from(_: AllocFailed<T>) -> Stop<E> {
+        Stop::OutOfMemory
     }
 }

@@ -1,5 +1,5 @@
 -- The sign of a gap from the sum of the terms over a common denominator of the values.
-use Rattle.std.proofs.Common.{◌≡◌, ℕ, zero, suc, ◌+◌, ◌*◌, ◌/◌, ◌<◌, ◌≤◌, ◌^◌, List, [], ◌∷◌, ℤ, pos, negsuc, neg_ℤ, ◌+ℤ◌, ◌-ℤ◌, ◌*ℤ◌, ◌<ℤ◌, refl, sym, ap, ap₂, subst, ◌∙◌, inl, inr, arith, All, unsigned_abs, Result, Ok, Err, OnErr, mul-le-mul_left, mul-le-mul_right}
+use Rattle.std.proofs.Common.{◌≡◌, ℕ, zero, suc, ◌*◌, ◌/◌, ◌<◌, ◌≤◌, ◌^◌, List, [], ◌∷◌, ℤ, pos, neg_ℤ, ◌+ℤ◌, ◌-ℤ◌, ◌*ℤ◌, ◌<ℤ◌, sym, ap, ap₂, subst, ◌∙◌, inl, inr, arith, All, unsigned_abs, Result, Ok, Err, OnErr, mul-le-mul_left, mul-le-mul_right}
 use Rattle.std.proofs.lemmas.Bool.{cases_lt}
 use Rattle.std.specs.Int.{◌∣◌}
 use Rattle.std.specs.Ordering.{int_cmp}
@@ -10,7 +10,7 @@ use Rattle.std.proofs.lemmas.Nat.Gcd.{le_of_dvd}
 use Rattle.std.proofs.lemmas.Int.{unsigned_abs-mul}
 use borrow.Author.Differences.{ints}
 use Rattle.frac_core.specs.Fraction.{Fraction}
-use Rattle.frac_core.proofs.Integers.{diff, diff_eq, diff-add, diff-mul, diff-neg, diff-pos, neg-pos, on_2, add-mul_right, mul_positive, positive_from, sign_cases, zero_from_mul, same_from_sub}
+use Rattle.frac_core.proofs.Integers.{diff_eq, diff-add, diff-mul, diff-neg, diff-pos, neg-pos, on_2, add-mul_right, mul_positive, positive_from, sign_cases, zero_from_mul, same_from_sub}
 use Rattle.problem_core.specs.declared.parts.Term.{Term}
 use Rattle.problem_core.specs.Common.{IsLeastCommon}
 use Rattle.problem_core.specs.Layout.{Row, Assignment, Gives, gap, line_of_row, value_at}

@@ -1,13 +1,13 @@
 -- The least common multiple.
-use Rattle.std.proofs.Common.{◌≡◌, ℕ, zero, suc, ◌+◌, ◌*◌, ◌/◌, ◌<◌, ◌≤◌, List, [], ◌∷◌, ◌++◌, map, length, take, get_or, refl, sym, ap, subst, ◌∙◌, arith, mul-pos}
+use Rattle.std.proofs.Common.{◌≡◌, ℕ, ◌+◌, ◌*◌, ◌/◌, ◌<◌, List, [], ◌∷◌, ◌++◌, map, length, take, get_or, sym, ap, subst, ◌∙◌, arith, mul-pos}
 use Rattle.std.proofs.lemmas.List.{take_more, map-append, get_or_append_left, length-append}
 use Rattle.std.proofs.lemmas.List.Elements.{All-nil, All-push, All-weaker}
 use Rattle.std.proofs.lemmas.Nat.Gcd.{dvd_trans}
 use Rattle.std.proofs.Math.Seq.{get_or-append_seam}
 use Rattle.problem_core.specs.Common.{IsLeastCommon}
-use Rattle.std.specs.Int.{IsGcd, ◌∣◌}
+use Rattle.std.specs.Int.{◌∣◌}
 use Rattle.std.proofs.Math.Nat.{one-dvd, dvd-mul_left, mul-dvd-mul_right, dvd_of_mul-dvd-mul_right, div-mul_cancel}
-use Rattle.frac_core.proofs.Gauss.{Reduces, reduces, gauss}
+use Rattle.frac_core.proofs.Gauss.{Reduces, gauss}
 
 swapped : (a b g : ℕ) → a * (b * g) ≡ b * (a * g)
 swapped a b g = omega arith

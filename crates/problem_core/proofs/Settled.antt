@@ -1,10 +1,10 @@
 -- An assignment at which each line has no error, or which agrees with all that satisfies the rows on the line's attributes, is best.
 -- The order of the rows doesn't matter.
-use Rattle.std.proofs.Common.{◌≡◌, ℕ, ◌+◌, ◌*◌, ◌<◌, ◌≤◌, ◌⊎◌, Bool, cond, nat_eq, List, [], ◌∷◌, ap, ◌∙◌, inl, inr, arith, zero-mul}
-use Rattle.std.specs.List.{AllByRecursion as Each, All}
-use Rattle.std.proofs.lemmas.List.Elements.{recursion_from_All, All-from_recursion}
+use Rattle.std.proofs.Common.{◌≡◌, ℕ, ◌*◌, ◌<◌, ◌≤◌, ◌⊎◌, cond, nat_eq, List, [], ◌∷◌, ap, ◌∙◌, inl, inr, arith, zero-mul}
+use Rattle.std.specs.List.{AllByRecursion as Each}
+use Rattle.std.proofs.lemmas.List.Elements.{All-from_recursion}
 use Rattle.std.proofs.lemmas.Bool.{cases_eq}
-use Rattle.problem_core.specs.Layout.{Row, Line, Problem, Assignment, IsProblem, Satisfies, IsBest, IsLess, lines, line_of_row, stay_lines, gap, error, share, cost, count_of}
+use Rattle.problem_core.specs.Layout.{Line, Problem, Assignment, IsProblem, Satisfies, IsBest, IsLess, lines, line_of_row, stay_lines, gap, error, share, cost, count_of}
 use Rattle.problem_core.proofs.Forms.{each-impl, each-both, each-map}
 use Rattle.problem_core.proofs.Agreed.{AgreeAt, gap-agree, error-agree, weighted, weightless, zero-here, satisfied-costs, positive-shares, no_product}
 

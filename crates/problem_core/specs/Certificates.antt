@@ -6,11 +6,12 @@ use Rattle.problem_core.specs.declared.parts.Rel.TheVariants.{Eq, Le, Ge}
 use Rattle.problem_core.specs.declared.parts.RowName.{RowName}
 use Rattle.problem_core.specs.Layout.{Row, Line, Problem, Assignment, Satisfies, lines, gap, coefficient}
 use Rattle.problem_core.specs.Layout.{share, sum_of, product_of}
+use Rattle.problem_core.specs.declared.limits.TheConstants.{REQUIRED}
 
 -- ---- conflict
 
 abbrev pub required : Problem → List Row
-required p = filter (λ r. nat_eq r.rank 1000) p.rows
+required p = filter (λ r. nat_eq r.rank REQUIRED) p.rows
 
 abbrev pub HasSign : Rel → ℤ → Type 0
 HasSign Eq y = Unit {0}

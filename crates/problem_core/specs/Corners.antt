@@ -13,6 +13,7 @@ use Rattle.problem_core.specs.declared.parts.Term.{Term}
 use Rattle.problem_core.specs.Layout.{Assignment, Line, Problem, lines, coefficient, value_at, sum_of}
 use Rattle.problem_core.specs.Certificates.{Multipliers, under, over, under_weight, over_weight}
 use Rattle.problem_core.specs.Certificates.{IsLexNonnegative}
+use Rattle.problem_core.specs.declared.limits.TheConstants.{MARKS}
 
 abbrev pub side_number : Side → ℕ
 side_number Under = 0
@@ -27,10 +28,10 @@ place m = place_of m.row m.side
 
 -- the column of an attribute, and the column whose number is the common denominator
 abbrev pub attr_column : ℕ → ℕ
-attr_column attr = 17179869184 + attr
+attr_column attr = MARKS + attr
 
 abbrev pub one_column : ℕ
-one_column = 34359738368
+one_column = 2 * MARKS
 
 -- the column c has the value `num c / num one_column`
 pub record Point : Type 0 where

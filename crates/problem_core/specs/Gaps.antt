@@ -1,9 +1,10 @@
 -- The values of a row's attributes over a common denominator.
-use Rattle.std.specs.Prelude.{◌≡◌, ℕ, ◌/◌, ◌<◌, ◌^◌, cond, nat_eq, List, [], ◌∷◌, map, ℤ, pos, ◌*ℤ◌}
+use Rattle.std.specs.Prelude.{◌≡◌, ℕ, ◌/◌, ◌<◌, cond, nat_eq, List, [], ◌∷◌, map, ℤ, pos, ◌*ℤ◌}
 use Rattle.std.specs.Prelude.{unsigned_abs, All}
 use Rattle.std.specs.Int.{◌∣◌}
 use Rattle.std.specs.List.{Any}
 use Rattle.frac_core.specs.Fraction.{Fraction}
+use Rattle.problem_core.specs.declared.limits.TheConstants.{GAP_ROOM}
 use Rattle.problem_core.specs.declared.parts.Term.{Term}
 use Rattle.problem_core.specs.Layout.{Row, sum_of}
 use Rattle.problem_core.specs.Window.{zero_fraction}
@@ -23,12 +24,12 @@ times_common f d = f.num *ℤ pos (d / f.den)
 
 -- the fraction has room over the common denominator d
 abbrev pub HasRoomOver : ℕ → Fraction → Type 0
-HasRoomOver d f = (f.den ∣ d) × (unsigned_abs (times_common f d) < 2 ^ 62)
+HasRoomOver d f = (f.den ∣ d) × (unsigned_abs (times_common f d) < GAP_ROOM)
 
--- the values of the row's attributes have a common denominator below 2^62, and each of them times it is below
--- 2^62 in size
+-- the values of the row's attributes have a common denominator for which a gap has room, and each of them
+-- times it is as small
 abbrev pub HasRoom : Row → List (ℕ × Fraction) → Type 0
-HasRoom r values = (d : ℕ) × (0 < d) × (d < 2 ^ 62)
+HasRoom r values = (d : ℕ) × (0 < d) × (d < GAP_ROOM)
     × All (λ t. HasRoomOver d (value_of values t.attr)) r.terms
 
 abbrev pub value_dens : List (ℕ × Fraction) → List Term → List ℕ

@@ -1,30 +1,32 @@
 -- What the types of rows, problems and values keep.
-use Rattle.std.specs.Prelude.{◌≢◌, ℕ, ◌^◌, ◌<◌, ◌≤◌, List, length, pos, All, AllPairs}
+use Rattle.std.specs.Prelude.{◌≢◌, ℕ, ◌<◌, ◌≤◌, List, length, pos, All, AllPairs}
 use Rattle.std.specs.Int.RustNames.{unsigned_abs}
 use Rattle.frac_core.specs.Fraction.{Fraction, IsKept}
 use Rattle.problem_core.specs.declared.parts.Term.{Term}
 use Rattle.problem_core.specs.declared.parts.Stay.{Stay}
 use Rattle.problem_core.specs.Layout.{Row, Problem, IsCovered}
+use Rattle.problem_core.specs.declared.limits.TheConstants.{COEFFICIENT_LIMIT, NUMBER_LIMIT, REQUIRED}
+use Rattle.problem_core.specs.declared.limits.TheConstants.{ROW_LIMIT, TERM_LIMIT, WEIGHT_LIMIT}
 
 -- a row's or an attribute's number
 abbrev pub IsNumber : ℕ → Type 0
-IsNumber n = (0 < n) × (n ≤ 2 ^ 31)
+IsNumber n = (0 < n) × (n ≤ NUMBER_LIMIT)
 
--- the attribute times a number that isn't 0 and at most 2^30 in size
+-- the attribute times a number that isn't 0 and at most so large
 pub record IsTerm (t : Term) : Type 0 where
   pub attr : IsNumber t.attr
   pub nonzero : t.by ≢ pos 0
-  pub small : unsigned_abs t.by ≤ 2 ^ 30
+  pub small : unsigned_abs t.by ≤ COEFFICIENT_LIMIT
 
 pub record IsRow (r : Row) : Type 0 where
   pub number : IsNumber r.id
-  pub rank : r.rank ≤ 1000
-  pub weight : (0 < r.weight) × (r.weight ≤ 1000)
-  pub scale : (0 < r.scale) × (r.scale ≤ 2 ^ 30)
+  pub rank : r.rank ≤ REQUIRED
+  pub weight : (0 < r.weight) × (r.weight ≤ WEIGHT_LIMIT)
+  pub scale : (0 < r.scale) × (r.scale ≤ COEFFICIENT_LIMIT)
   pub constant : IsKept r.constant
   pub terms : All IsTerm r.terms
   pub rising : AllPairs (λ s t. s.attr < t.attr) r.terms
-  pub count : length r.terms ≤ 32
+  pub count : length r.terms ≤ TERM_LIMIT
 
 pub record IsStay (s : Stay) : Type 0 where
   pub attr : IsNumber s.attr
@@ -36,8 +38,8 @@ pub record IsWhole (p : Problem) : Type 0 where
   pub rising : AllPairs (λ r s. r.id < s.id) p.rows
   pub apart : AllPairs (λ s t. s.attr ≢ t.attr) p.stays
   pub covered : All (IsCovered p.stays) p.rows
-  pub row_count : length p.rows ≤ 4096
-  pub stay_count : length p.stays ≤ 4096
+  pub row_count : length p.rows ≤ ROW_LIMIT
+  pub stay_count : length p.stays ≤ ROW_LIMIT
 
 -- attributes with their values, by number
 abbrev pub AreRising : List (ℕ × Fraction) → Type 0

@@ -9,6 +9,7 @@ use Rattle.problem_core.specs.declared.parts.RowName.{RowName}
 use Rattle.problem_core.specs.declared.parts.RowName.TheVariants.{Held, Stay as StayOf}
 use Rattle.problem_core.specs.declared.parts.Term.{Term}
 use Rattle.problem_core.specs.declared.parts.Stay.{Stay}
+use Rattle.problem_core.specs.declared.limits.TheConstants.{REQUIRED}
 
 -- ---- words for sums
 
@@ -67,8 +68,16 @@ pub record Problem : Type 0 where
   pub rows : List Row
   pub stays : List Stay
 
--- a row or a stay with its name and its level: 1000 less the rank for a row, and 1001, 1002, .. for the stays
--- in their order
+-- the level of the rows of a rank: 0 for the required ones, 1 for the strongest priority below, and so on
+abbrev pub rank_level : ℕ → ℕ
+rank_level rank = REQUIRED - rank
+
+-- the level of the first stay, behind those of all ranks
+abbrev pub first_stay_level : ℕ
+first_stay_level = REQUIRED + 1
+
+-- a row or a stay with its name and its level: that of its rank for a row, and for the stays, in their order,
+-- those from the first stay's on
 pub record Line : Type 0 where
   pub name : RowName
   pub level : ℕ
@@ -82,7 +91,7 @@ pub record Line : Type 0 where
 abbrev pub line_of_row : Row → Line
 line_of_row r = record {
   name = Held r.id;
-  level = 1000 - r.rank;
+  level = rank_level r.rank;
   weight = r.weight;
   rel = r.rel;
   scale = r.scale;
@@ -109,7 +118,7 @@ stay_lines level [] = []
 stay_lines level (s ∷ rest) = line_of_stay level s ∷ stay_lines (level + 1) rest
 
 abbrev pub lines : Problem → List Line
-lines p = map line_of_row p.rows ++ stay_lines 1001 p.stays
+lines p = map line_of_row p.rows ++ stay_lines first_stay_level p.stays
 
 -- what the type of a problem promises: no scale and no denominator is 0
 abbrev pub IsProblem : Problem → Type 0
@@ -154,7 +163,7 @@ IsLess p x y =
 -- ---- the best assignment
 
 abbrev pub Satisfies : Problem → Assignment → Type 0
-Satisfies p x = All (λ r. r.rank ≡ 1000 → error x (line_of_row r) ≡ 0) p.rows
+Satisfies p x = All (λ r. r.rank ≡ REQUIRED → error x (line_of_row r) ≡ 0) p.rows
 
 abbrev pub IsInConflict : Problem → Type 0
 IsInConflict p = (x : Assignment) → Satisfies p x → ⊥
@@ -182,9 +191,9 @@ HasStay stays attr = Any (λ s. s.attr ≡ attr) stays
 abbrev pub IsCovered : List Stay → Row → Type 0
 IsCovered stays r = All (λ t. HasStay stays t.attr) r.terms
 
--- besides, no rank is above 1000, no weight is 0, and each attribute of a row has a stay
+-- besides, no rank is above that of required rows, no weight is 0, and each attribute of a row has a stay
 pub record IsProper (p : Problem) : Type 0 where
   pub problem : IsProblem p
-  pub ranks : All (λ r. r.rank ≤ 1000) p.rows
+  pub ranks : All (λ r. r.rank ≤ REQUIRED) p.rows
   pub weights : All (λ r. 0 < r.weight) p.rows
   pub covered : All (IsCovered p.stays) p.rows

@@ -12,10 +12,11 @@ use Rattle.problem_core.specs.declared.parts.Level.TheVariants.{Priority, Stay a
 use Rattle.problem_core.specs.Layout.{Line, Problem, lines, coefficient, sum_of, product_of}
 use Rattle.problem_core.specs.Certificates.{Multipliers, under_weight, over_weight, weight_at}
 use Rattle.problem_core.specs.Corners.{Point, StandsAt, IsIn, column, one_column, place_of}
+use Rattle.problem_core.specs.declared.limits.TheConstants.{REQUIRED}
 
 -- the number of a level among the levels of the problem, strongest first
 abbrev pub IsLevelAt : Problem → Level → ℕ → Type 0
-IsLevelAt p (Priority rank) k = k + rank ≡ 1000
+IsLevelAt p (Priority rank) k = k + rank ≡ REQUIRED
 IsLevelAt p (StayLevel attr) k = Any (λ l. (l.name ≡ StayOf attr) × (l.level ≡ k)) (lines p)
 
 -- ---- the cost

@@ -8,6 +8,7 @@ pub mod Certificates
 pub mod Corners
 pub mod Levels
 pub mod Unfit
+pub mod Stops
 pub mod Paths
 pub mod Begins
 pub mod Rays

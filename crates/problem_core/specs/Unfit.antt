@@ -11,7 +11,7 @@ use Rattle.problem_core.specs.declared.stops.What.{What}
 use Rattle.problem_core.specs.declared.stops.What.TheVariants.{Attr, Mark as MarkOf, Level as LevelOf}
 use Rattle.problem_core.specs.declared.stops.Quantity.{Quantity}
 use Rattle.problem_core.specs.declared.stops.Quantity.TheVariants.{Plain, Terms, Rows, Shifts}
-use Rattle.problem_core.specs.Layout.{Row, Problem, HasStay, lines, coefficient, sum_of}
+use Rattle.problem_core.specs.Layout.{Row, Problem, HasStay, lines, coefficient, rank_level, sum_of}
 use Rattle.problem_core.specs.Corners.{IsIn, attr_column, place}
 pub use Rattle.problem_core.specs.Corners.{IsWritingOf}
 use Rattle.problem_core.specs.Levels.{IsLevelAt, HasNoLevelWriting}
@@ -69,7 +69,7 @@ without_weight r = record {
 -- the rows of this level after the first j have no weight
 abbrev pub lightened : ℕ → ℕ → List Row → List Row
 lightened level j [] = []
-lightened level j (r ∷ rows) = cond (nat_eq (1000 - r.rank) level)
+lightened level j (r ∷ rows) = cond (nat_eq (rank_level r.rank) level)
     (cond (nat_eq j 0) (without_weight r) r ∷ lightened level (j - 1) rows) (r ∷ lightened level j rows)
 
 abbrev pub with_first_rows : ℕ → ℕ → Problem → Problem
@@ -126,6 +126,6 @@ abbrev pub IsUnfit : Problem → List Row → List Mark → Quantity → Type 0
 IsUnfit p old at (Plain what) = IsUnfitWhat p at what
 IsUnfit p old at (Terms mark j) = IsUnfitTerms p at mark j × All (λ r. Held r.id ≢ mark.row) old
 IsUnfit p old at (Rows level j) = IsUnfitRows p at level j
-    × ((k : ℕ) × IsLevelAt p level k × IsNewAt old j (filter (λ r. nat_eq (1000 - r.rank) k) p.rows))
+    × ((k : ℕ) × IsLevelAt p level k × IsNewAt old j (filter (λ r. nat_eq (rank_level r.rank) k) p.rows))
 IsUnfit p old at (Shifts what j) = (1 ≤ j) × (j ≤ changes old p.rows)
     × IsUnfitWhat (with_first_shifts old j p) at what

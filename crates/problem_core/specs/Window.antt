@@ -5,6 +5,7 @@ use Rattle.problem_core.specs.declared.parts.Rel.{Rel}
 use Rattle.problem_core.specs.declared.parts.Rel.TheVariants.{Eq, Ge}
 use Rattle.problem_core.specs.declared.parts.Stay.{Stay}
 use Rattle.problem_core.specs.Layout.{Row}
+use Rattle.problem_core.specs.declared.limits.TheConstants.{REQUIRED}
 
 abbrev pub zero_fraction : Fraction
 zero_fraction = record { num = pos 0; den = 1 }
@@ -13,7 +14,7 @@ zero_fraction = record { num = pos 0; den = 1 }
 abbrev pub required_row : ℕ → ℕ → Rel → Fraction → Row
 required_row id attr rel c = record {
   id = id;
-  rank = 1000;
+  rank = REQUIRED;
   weight = 1;
   rel = rel;
   scale = 1;

@@ -11,6 +11,7 @@ ghost use Rattle.problem_core.specs.Certificates.{constant, over, under};
 ghost use Rattle.problem_core.specs.Corners.{Point, AreMultipliersAt, IsIn, StandsAt, assignment_at, column};
 ghost use Rattle.problem_core.specs.Corners.{marks_of, place};
 ghost use Rattle.problem_core.specs.Layout.{Satisfies, coefficient, lines, sum_of};
+ghost use Rattle.problem_core.specs.declared.limits.TheConstants.{REQUIRED};
 ghost use Rattle.problem_core.specs.declared.parts.Mark.{Mark};
 ghost use Rattle.problem_core.specs.declared.parts.Side.{Side};
 ghost use Rattle.problem_core.specs.declared.parts.Stay.{Stay};
@@ -87,7 +88,7 @@ pub fn best_is_unique()
 /// At a corner where the required cost is above 0 and no reduced cost of that level is negative, the level's
 /// multipliers refute the required rows.
 pub fn required_cost_refutes()
-    ensures { (p : Problem) → IsProblem p → All (λ r. r.rank ≤ 1000) p.rows → (m : Multipliers)
+    ensures { (p : Problem) → IsProblem p → All (λ r. r.rank ≤ REQUIRED) p.rows → (m : Multipliers)
         → ((v : ℕ) → sum_of (λ l. m.times 0 l.name *ℤ coefficient v l.form) (lines p) ≡ pos 0)
         → All (λ l. pos 0 ≤ℤ under m l 0) (lines p) → All (λ l. pos 0 ≤ℤ over m l 0) (lines p)
         → pos 0 <ℤ constant m (lines p) 0 → IsRefutation p (λ id. m.times 0 (Held id)) }

@@ -8,23 +8,24 @@
 //! ```
 //! let terms = [Term { attr: 1, by: 1 }];
 //! let five = Frac::of(5, 1)?;
-//! rows.push(Row::of(alloc, 7, 1000, 1, Rel::Ge, 1, five, &terms)?)?; // a row 7: attribute 1 is at least 5,
-//! stays.push(Stay { attr: 1, target: Frac::zero() })?;               // and it is drawn to 0
-//! let problem = Problem::of(rows, stays);                            // at best it is 5
+//! // A row 7: attribute 1 is at least 5. It is drawn to 0, so at best it is 5.
+//! rows.push(Row::of(alloc, 7, REQUIRED, 1, Rel::Ge, 1, five, &terms)?)?;
+//! stays.push(Stay { attr: 1, target: Frac::zero() })?;
+//! let problem = Problem::of(rows, stays);
 //! ```
 //!
 //! Linear programming's words: an attribute is a free variable, a row a constraint; one that is required (of
-//! the rank 1000) is hard, any other a goal. A gap is the residual of a row, its two deviations are its
-//! surplus and its slack, of which a [`Mark`] names one. A level is a preemptive goal, and what is best is
+//! the rank [`REQUIRED`]) is hard, any other a goal. A gap is the residual of a row, its two deviations are
+//! its surplus and its slack, of which a [`Mark`] names one. A level is a preemptive goal, and what is best is
 //! the lexicographic optimum; the stays, each a level of its own below all rows, make it unique. Multipliers
 //! that refute the required rows are Farkas multipliers.
 //!
 //! What the types keep (`IsRow`, `IsWhole` in `specs/Kept.antt`): the numbers of rows rise, the attributes
-//! of a row's terms rise, there are at most 32 of them, each with a coefficient that isn't 0, and each has a
-//! stay, one alone; there are at most 4,096 rows and 4,096 stays.
+//! of a row's terms rise, there are at most [`TERM_LIMIT`] of them, each with a coefficient that isn't 0, and
+//! each has a stay, one alone; there are at most [`ROW_LIMIT`] rows and as many stays.
 //!
-//! In reading order: `parts` (relations, terms, stays, marks, levels), `row`, `problem`, `values` (of
-//! attributes), `gaps` (the sign of a row's gap), `places` (marks by number), `stops` (what doesn't fit at a
+//! In reading order: `limits`, `parts` (relations, terms, stays, marks, levels), `row`, `problem`, `values`
+//! (of attributes), `gaps` (the sign of a row's gap), `places` (marks by number), `stops` (what doesn't fit at a
 //! corner), `common` (least common multiples), `laws`: what is best by what reasons, each the contract of a
 //! function that does nothing.
 #![tactic(auto)]
@@ -32,6 +33,7 @@
 mod common;
 mod gaps;
 mod laws;
+mod limits;
 mod parts;
 mod places;
 mod problem;
@@ -46,6 +48,9 @@ pub use laws::{
     costless_is_best, end_has_certificate, errorless_is_best, first_scene_is_best,
     refutation_shows_conflict, required_cost_refutes, same_is_best, whole_is_proper,
     window_is_best,
+};
+pub use limits::{
+    COEFFICIENT_LIMIT, GAP_ROOM, MARKS, NUMBER_LIMIT, REQUIRED, ROW_LIMIT, TERM_LIMIT, WEIGHT_LIMIT,
 };
 pub use parts::{Level, Mark, Rel, RowName, Side, Stay, Term};
 pub use places::{mark_at, place};

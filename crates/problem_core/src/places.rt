@@ -1,7 +1,8 @@
 // The columns of marks.
-ghost use Rattle.std.specs.Prelude.{◌≡◌, ◌≤◌, ◌<◌, ◌+◌, ◌*◌, ◌^◌, ◌%◌, IfSome, IfNone};
+ghost use Rattle.std.specs.Prelude.{◌≡◌, ◌≤◌, ◌<◌, ◌+◌, ◌*◌, ◌%◌, IfSome, IfNone};
 ghost use Rattle.problem_core.specs.Corners as corners;
 ghost use Rattle.problem_core.specs.Corners.{place_of, side_number};
+ghost use Rattle.problem_core.specs.declared.limits.TheConstants.{MARKS};
 
 use crate::parts::{Mark, RowName, Side};
 
@@ -9,7 +10,7 @@ use crate::parts::{Mark, RowName, Side};
 /// its over mark, 2 for a stay's under mark and 3 for its over mark.
 pub fn place(m: Mark) -> u64
     ensures value { result ≡ corners.place m }
-    ensures small { result < 2 ^ 34 }
+    ensures small { result < MARKS }
 {
     let side = match m.side {
         Side::Under => 0,
@@ -32,11 +33,11 @@ fn side_at(place: u64) -> Side
     }
 }
 
-/// The mark whose column is the place, and None exactly where the place is 2^34 or more.
+/// The mark whose column is the place, and None exactly where the place is [`MARKS`] or more.
 pub fn mark_at(place: u64) -> Option<Mark>
     ensures some { IfSome result (λ m. corners.place m ≡ place) }
-    ensures below { IfSome result (λ _. place < 2 ^ 34) }
-    ensures none { IfNone result (2 ^ 34 ≤ place) }
+    ensures below { IfSome result (λ _. place < MARKS) }
+    ensures none { IfNone result (MARKS ≤ place) }
 {
     let number = u32::try_from(place / 4).ok()?;
     let side = side_at(place);

@@ -11,8 +11,8 @@ use std::marker::Model;
 /// A row `a1*x1 + .. + an*xn REL c` of whole coefficients, with its number, its rank and its weight.
 ///
 /// The scale is the factor by which the row as written was multiplied to make its coefficients whole: a gap
-/// is the left side less the constant, divided by the scale, in points. The rank 1000 is required, those
-/// below it are priorities, and the rank 0 is that of a probe.
+/// is the left side less the constant, divided by the scale, in points. The rank [`REQUIRED`] is that of a
+/// required row, those below it are priorities, and the rank 0 is that of a probe.
 #[derive(Clone, Debug, Drop)]
 pub struct Row {
     id: u32,
@@ -39,7 +39,8 @@ impl Model for Row {
 }
 
 impl Row {
-    /// The row with just these parts, which `IsRow` limits.
+    /// The row with just these parts, which `IsRow` limits. They come one by one, since a type that holds all
+    /// eight would be the row once more.
     pub fn of(
         alloc: Global,
         id: u32,
@@ -81,21 +82,21 @@ impl Row {
         })
     }
 
-    /// The number, from 1 to 2^31.
+    /// The number, from 1 to [`NUMBER_LIMIT`](crate::NUMBER_LIMIT).
     pub fn id(&self) -> u32
         ensures { result ≡ self.now.id }
     {
         self.id
     }
 
-    /// The rank, at most 1000, which is that of the required rows.
+    /// The rank, at most [`REQUIRED`](crate::REQUIRED).
     pub fn rank(&self) -> u16
         ensures { result ≡ self.now.rank }
     {
         self.rank
     }
 
-    /// The weight, from 1 to 1000.
+    /// The weight, from 1 to [`WEIGHT_LIMIT`](crate::WEIGHT_LIMIT).
     pub fn weight(&self) -> u16
         ensures { result ≡ self.now.weight }
     {
@@ -108,7 +109,7 @@ impl Row {
         self.rel
     }
 
-    /// The scale, from 1 to 2^30.
+    /// The scale, from 1 to [`COEFFICIENT_LIMIT`](crate::COEFFICIENT_LIMIT).
     pub fn scale(&self) -> i64
         ensures { result ≡ pos self.now.scale }
     {

@@ -1,8 +1,6 @@
 // What has a writing at a corner, and what stops a change of a tableau.
-ghost use Rattle.std.specs.Prelude.{◌≡◌};
-
 use crate::parts::{Level, Mark};
-use frac_core::OutOfMemory;
+use frac_core::Stop;
 
 /// What is written by the outside marks of a corner: an attribute, a mark, or the cost of a level.
 #[derive(Clone, Copy, Debug, PartialEq, Eq)]
@@ -26,18 +24,4 @@ pub enum Quantity {
 }
 
 /// What stops a change of a tableau: a quantity that does not fit, or want of memory.
-#[derive(Clone, Copy, Debug, PartialEq, Eq)]
-pub enum TableStop {
-    UnfitAt(Quantity),
-    OutOfMemory,
-}
-
-impl From<OutOfMemory> for TableStop {
-    ghost use Rattle.problem_core.specs.declared.stops.TableStop.TheVariants.{OutOfMemory};
-
-    ghost from_gives = { λ _ stop. stop ≡ OutOfMemory };
-
-    fn from(_: OutOfMemory) -> TableStop {
-        TableStop::OutOfMemory
-    }
-}
+pub type TableStop = Stop<Quantity>;

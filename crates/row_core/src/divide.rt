@@ -6,11 +6,11 @@ ghost use Rattle.frac_core.specs.Fraction.{IsFitting};
 ghost use Rattle.row_core.specs.Rows.{IsRising, IsKeptRow, IsReduced, IsUnfit};
 ghost use Rattle.row_core.specs.Walks.{HasSmallProducts, DividesWhole, IsDivisor, IsPushed};
 ghost use Rattle.row_core.specs.Walks.{IsTooLarge, whole};
-ghost use Rattle.row_core.specs.declared.entry.RowStop.TheVariants.{Unfit};
+ghost use Rattle.frac_core.specs.Stops.{IsRefused};
 
 use crate::entry::{Col, Entry, RowStop};
 use crate::walk::{Sum, Wide, Width, start};
-use frac_core::{PART_BOUND, gcd};
+use frac_core::{PART_BOUND, Stop, Unfit, gcd};
 use std::alloc::Global;
 
 // The greatest common divisor of the numbers, which is 0 where all are 0.
@@ -77,13 +77,13 @@ fn keep(out: &mut Vec<Entry>, col: u64, by: i128, divisor: i128) -> Result<(), R
     requires above { pos 0 <ℤ divisor }
     requires divides { unsigned_abs divisor ∣ unsigned_abs by }
     ensures pushed { IfOk result (λ _. IsPushed divisor col by out.old.items out.new.items) }
-    ensures unfit { IfErr result (λ stop. stop ≡ Unfit → IsTooLarge divisor by) }
+    ensures unfit { IfErr result (λ stop. IsRefused stop → IsTooLarge divisor by) }
 {
     if by == 0 {
         return Ok(());
     }
     let Some(by) = fitting_quotient(by, divisor) else {
-        return Err(RowStop::Unfit);
+        return Err(Stop::Refused(Unfit));
     };
     out.push(Entry { col: Col(col), by })?;
     Ok(())
@@ -103,7 +103,7 @@ pub(crate) fn divided<W: Width>(
     requires divisor { IsDivisor divisor (whole sum r.now p.now) }
     ensures value { IfOk result (λ out. IsReduced out.items (whole sum r.now p.now)) }
     ensures kept { IfOk result (λ out. IsKeptRow out.items) }
-    ensures unfit { IfErr result (λ stop. stop ≡ Unfit → IsUnfit (whole sum r.now p.now)) }
+    ensures unfit { IfErr result (λ stop. IsRefused stop → IsUnfit (whole sum r.now p.now)) }
 {
     let mut out = Vec::with_capacity(alloc, r.len() + p.len())?;
     let mut at = start(sum);

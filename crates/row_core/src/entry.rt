@@ -1,8 +1,5 @@
 // The entries of rows, and what stops the making of a row.
-ghost use Rattle.std.specs.Prelude.{◌≡◌};
-
-use frac_core::OutOfMemory;
-use std::alloc::{AllocError, AllocFailed};
+use frac_core::{Stop, Unfit};
 use std::marker::Model;
 
 /// A column.
@@ -42,41 +39,4 @@ pub struct Patch {
 }
 
 /// A part in lowest terms does not fit, or memory is wanting.
-#[derive(Clone, Copy, Debug, PartialEq, Eq)]
-pub enum RowStop {
-    Unfit,
-    OutOfMemory,
-}
-
-impl From<OutOfMemory> for RowStop {
-    ghost use Rattle.row_core.specs.declared.entry.RowStop.TheVariants.{OutOfMemory};
-
-    ghost from_gives = { λ _ stop. stop ≡ OutOfMemory };
-
-    fn from(_: OutOfMemory) -> RowStop {
-        RowStop::OutOfMemory
-    }
-}
-
-impl From<AllocError> for RowStop {
-    ghost use Rattle.row_core.specs.declared.entry.RowStop.TheVariants.{OutOfMemory};
-
-    ghost from_gives = { λ _ stop. stop ≡ OutOfMemory };
-
-    fn from(_: AllocError) -> RowStop {
-        RowStop::OutOfMemory
-    }
-}
-
-impl<T> From<AllocFailed<T>> for RowStop
-where
-    T: Drop,
-{
-    ghost use Rattle.row_core.specs.declared.entry.RowStop.TheVariants.{OutOfMemory};
-
-    ghost from_gives = { λ _ stop. stop ≡ OutOfMemory };
-
-    fn from(_: AllocFailed<T>) -> RowStop {
-        RowStop::OutOfMemory
-    }
-}
+pub type RowStop = Stop<Unfit>;

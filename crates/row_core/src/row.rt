@@ -7,7 +7,7 @@ ghost use Rattle.row_core.specs.Rows.{IsRising, AllFit, IsKeptRow, IsReduced, Is
 ghost use Rattle.row_core.specs.Rows.{combination};
 ghost use Rattle.row_core.specs.Combinations.{IsFactor, combination_but};
 ghost use Rattle.row_core.specs.Walks.{HasSmallProducts, IsNarrowSum, whole};
-ghost use Rattle.row_core.specs.declared.entry.RowStop.TheVariants.{Unfit};
+ghost use Rattle.frac_core.specs.Stops.{IsRefused};
 
 use crate::divide::{divided, divisor_of};
 use crate::entry::{Col, Entry, Factors, Patch, RowStop};
@@ -54,7 +54,7 @@ fn lowest<W: Width>(alloc: Global, r: &[Entry], p: &[Entry], sum: Sum) -> Result
     requires holds { W.Holds sum r.now p.now }
     ensures value { IfOk result (λ row. IsReduced row (whole sum r.now p.now)) }
     ensures kept { IfOk result IsKeptRow }
-    ensures unfit { IfErr result (λ stop. stop ≡ Unfit → IsUnfit (whole sum r.now p.now)) }
+    ensures unfit { IfErr result (λ stop. IsRefused stop → IsUnfit (whole sum r.now p.now)) }
 {
     let divisor = divisor_of(r, p, sum);
     let entries = divided::<W>(alloc, r, p, sum, divisor)?;
@@ -77,7 +77,7 @@ fn combined(alloc: Global, r: &[Entry], p: &[Entry], sum: Sum) -> Result<IntRow,
     requires products { HasSmallProducts sum r.now p.now }
     ensures value { IfOk result (λ row. IsReduced row (whole sum r.now p.now)) }
     ensures kept { IfOk result IsKeptRow }
-    ensures unfit { IfErr result (λ stop. stop ≡ Unfit → IsUnfit (whole sum r.now p.now)) }
+    ensures unfit { IfErr result (λ stop. IsRefused stop → IsUnfit (whole sum r.now p.now)) }
 {
     if is_narrow(sum) {
         lowest::<Narrow>(alloc, r, p, sum)
@@ -166,7 +166,7 @@ impl IntRow {
         requires { IsRising entries.now }
         ensures value { IfOk result (λ row. IsReduced row (λ c. coefficient c entries.now)) }
         ensures kept { IfOk result IsKeptRow }
-        ensures unfit { IfErr result (λ stop. stop ≡ Unfit → IsUnfit (λ c. coefficient c entries.now)) }
+        ensures unfit { IfErr result (λ stop. IsRefused stop → IsUnfit (λ c. coefficient c entries.now)) }
     {
         lowest::<Wide>(alloc, entries, &[], plain(Factors { k: 1, n: 0 }))
     }
@@ -219,7 +219,7 @@ pub fn combine(alloc: Global, r: &IntRow, p: &IntRow, k: i64, n: i64) -> Result<
     requires n { IsFitting n }
     ensures value { IfOk result (λ row. IsReduced row (combination k r.now n p.now)) }
     ensures kept { IfOk result IsKeptRow }
-    ensures unfit { IfErr result (λ stop. stop ≡ Unfit → IsUnfit (combination k r.now n p.now)) }
+    ensures unfit { IfErr result (λ stop. IsRefused stop → IsUnfit (combination k r.now n p.now)) }
 {
     combine_wide(alloc, r, p, i128::from(k), i128::from(n))
 }
@@ -236,7 +236,7 @@ pub fn combine_wide(
     requires n { IsFactor n }
     ensures value { IfOk result (λ row. IsReduced row (combination k r.now n p.now)) }
     ensures kept { IfOk result IsKeptRow }
-    ensures unfit { IfErr result (λ stop. stop ≡ Unfit → IsUnfit (combination k r.now n p.now)) }
+    ensures unfit { IfErr result (λ stop. IsRefused stop → IsUnfit (combination k r.now n p.now)) }
 {
     combined(alloc, &r.entries, &p.entries, plain(Factors { k, n }))
 }
@@ -256,7 +256,7 @@ pub fn combine_but(
     requires extra { IsFactor but.extra }
     ensures value { IfOk result (λ row. IsReduced row (combination_but by r.now p.now but)) }
     ensures kept { IfOk result IsKeptRow }
-    ensures unfit { IfErr result (λ stop. stop ≡ Unfit → IsUnfit (combination_but by r.now p.now but)) }
+    ensures unfit { IfErr result (λ stop. IsRefused stop → IsUnfit (combination_but by r.now p.now but)) }
 {
     combined(alloc, &r.entries, &p.entries, patched(by, but))
 }

@@ -1,4 +1,4 @@
-use Rattle.frac_core.proofs.Gauss.{Reduces, reduces}
+use Rattle.frac_core.proofs.Gauss.{reduces}
 use Rattle.problem_core.proofs.Multiples.{multiple-above, multiple-left, multiple-right, multiple-least}
 use Rattle.problem_core.proofs.common.least_common.Goals as goal
 

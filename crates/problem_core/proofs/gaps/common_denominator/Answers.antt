@@ -1,4 +1,4 @@
-use Rattle.std.proofs.Common.{◌≡◌, ℕ, sym, ap, ◌∙◌, ◌<◌, ◌+◌, arith, length, get_or, pos, take, All}
+use Rattle.std.proofs.Common.{ap, ◌∙◌, ◌+◌, arith, pos, take}
 use Rattle.std.specs.Int.{◌∣◌}
 use Rattle.std.proofs.lemmas.List.Elements.{All-take, All-map}
 use Rattle.std.proofs.lemmas.Nat.Gcd.{le_of_dvd}
@@ -21,18 +21,18 @@ loop-term-preserved c =
     record {
       least = least-more (λ (t : Term). (value_of c.args.values.now t.attr).den) c.args.terms.now c.loop-term.term-index none c.loop-term.common c.least_common-common.result c.loop-term-test.true c.loop-term.invariant.least
           c.least_common-common.ensures.above c.least_common-common.ensures.x (rw den at c.least_common-common.ensures.y) (λ m. rw den at (c.least_common-common.ensures.least m));
-      small = c.if-common-ge-ROOM.false;
+      small = c.if-common-ge-GAP_ROOM.false;
     }
 
-pub returns-then-common-ge-ROOM-clause-none : goal.returns-then-common-ge-ROOM-clause-none
+pub returns-then-common-ge-GAP_ROOM-clause-none : goal.returns-then-common-ge-GAP_ROOM-clause-none
 unfolding none
-returns-then-common-ge-ROOM-clause-none c =
+returns-then-common-ge-GAP_ROOM-clause-none c =
     let den = c.denominator.ensures.value ∙ ap (λ f. f.den) c.value.ensures in
     let least : IsLeastCommon (value_dens c.args.values.now (take (c.loop-term.term-index + 1) c.args.terms.now)) c.least_common-common.result =
     least-more (λ (t : Term). (value_of c.args.values.now t.attr).den) c.args.terms.now c.loop-term.term-index none c.loop-term.common c.least_common-common.result c.loop-term-test.true c.loop-term.invariant.least
     c.least_common-common.ensures.above c.least_common-common.ensures.x (rw den at c.least_common-common.ensures.y) (λ m. rw den at (c.least_common-common.ensures.least m)) in (
       c.least_common-common.result,
-      c.if-common-ge-ROOM.true,
+      c.if-common-ge-GAP_ROOM.true,
       λ m some all. le_of_dvd some
           (least.least m (All-map (λ x. x ∣ m) (λ (t : Term). (value_of c.args.values.now t.attr).den) (take (c.loop-term.term-index + 1) c.args.terms.now) (All-take (λ (t : Term). (value_of c.args.values.now t.attr).den ∣ m) (c.loop-term.term-index + 1) c.args.terms.now all))),
     )

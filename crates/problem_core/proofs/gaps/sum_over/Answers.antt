@@ -1,9 +1,9 @@
-use Rattle.std.proofs.Common.{◌≡◌, ℕ, ℤ, ◌+ℤ◌, ◌*ℤ◌, ◌<◌, ◌^◌, pos, arith, ap, ap₂, sym, ◌∙◌, SFits, get_or, to_z, unsigned_abs, rules}
+use Rattle.std.proofs.Common.{◌≡◌, ◌+ℤ◌, ◌*ℤ◌, ◌<◌, ◌^◌, pos, ap₂, sym, ◌∙◌, SFits, get_or, to_z, unsigned_abs, rules}
 use Rattle.std.specs.Int.{w64, w128}
 use Rattle.std.proofs.lemmas.Int.{to_z-of_z}
 use Rattle.std.proofs.lemmas.List.Elements.{All-more}
 use Rattle.problem_core.specs.declared.parts.Term.{Term}
-use Rattle.problem_core.specs.Gaps.{value_of, times_common, scaled_sum}
+use Rattle.problem_core.specs.Gaps.{value_of, times_common}
 use Rattle.problem_core.proofs.Forms.{sum-more}
 use Rattle.problem_core.proofs.Amounts.{small-fits, sum-room}
 use Rattle.problem_core.proofs.gaps.sum_over.Goals as goal

@@ -1,6 +1,5 @@
-use Rattle.std.proofs.Common.{◌≡◌, ◌∙◌, ℕ, ap, sym, drop, length, get_or, arith, pos, ℤ, ap₂}
+use Rattle.std.proofs.Common.{◌≡◌, ◌∙◌, ℕ, ap, sym, pos, ℤ, ap₂}
 use Rattle.frac_core.specs.Fraction.{Fraction}
-use Rattle.problem_core.specs.Gaps.{value_of}
 use Rattle.problem_core.proofs.Lookups.{look-at, look-next, look-end}
 use Rattle.problem_core.proofs.gaps.value.Goals as goal
 
