@@ -6,7 +6,8 @@ use Rattle.problem_core.specs.declared.parts.RowName.{RowName}
 use Rattle.problem_core.specs.declared.parts.RowName.TheVariants.{Held, Stay as StayOf}
 use Rattle.problem_core.specs.declared.parts.Level.{Level}
 use Rattle.problem_core.specs.declared.parts.Level.TheVariants.{Priority, Stay as StayLevel}
-use Rattle.problem_core.specs.Layout.{Problem, sum_of}
+use Rattle.problem_core.specs.declared.limits.TheConstants.{REQUIRED}
+use Rattle.problem_core.specs.Layout.{Problem, first_stay_level, sum_of}
 use Rattle.problem_core.specs.Certificates.{Multipliers}
 use Rattle.cert_core.specs.declared.by.By.{By}
 
@@ -22,9 +23,9 @@ pub record BestLevel : Type 0 where
   pub scale : ℤ
   pub by : List By
 
--- a priority is at most 1000
+-- a priority is at most that of required rows
 abbrev pub IsPlace : Level → Type 0
-IsPlace (Priority rank) = rank ≤ 1000
+IsPlace (Priority rank) = rank ≤ REQUIRED
 IsPlace (StayLevel attr) = Unit {0}
 
 pub record IsLevel (l : BestLevel) : Type 0 where
@@ -65,10 +66,11 @@ abbrev pub bys_of : List BestLevel → Level → List By
 bys_of [] level = []
 bys_of (l ∷ levels) level = cond (same_level l.level level) l.by (bys_of levels level)
 
--- the levels of a problem, strongest first: the priorities 1000 to 0, then the stays in their order
+-- the levels of a problem, strongest first: the priorities from that of required rows to 0, then the stays
+-- in their order
 abbrev pub level_at : Problem → ℕ → Level
-level_at p k = cond (nat_lt 1000 k) (StayLevel (slice_index_or (map (λ s. s.attr) p.stays) (k - 1001) 0))
-    (Priority (1000 - k))
+level_at p k = cond (nat_lt REQUIRED k)
+    (StayLevel (slice_index_or (map (λ s. s.attr) p.stays) (k - first_stay_level) 0)) (Priority (REQUIRED - k))
 
 -- the multipliers for each level of the problem
 abbrev pub multipliers_of : Problem → List BestLevel → Multipliers

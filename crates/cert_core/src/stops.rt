@@ -5,6 +5,7 @@ use crate::conflict::Conflict;
 use crate::path::Path;
 use frac_core::OutOfMemory;
 use problem_core::Quantity;
+use thiserror::Error;
 
 /// A path, and a quantity that does not fit at its last corner.
 #[derive(Clone, Debug, Drop)]
@@ -15,11 +16,15 @@ pub struct UnfitPath {
 
 /// What ends a run: the required rows are in conflict, a quantity does not fit, the exchanges are used up, or
 /// memory is wanting.
-#[derive(Debug, Drop)]
+#[derive(Debug, Drop, Error)]
 pub enum RunStop {
+    #[error("the required rows are in conflict")]
     Conflict(Conflict),
+    #[error("a quantity doesn't fit")]
     Unfit(UnfitPath),
+    #[error("the exchanges are used up")]
     Spent(Path),
+    #[error("memory is wanting")]
     OutOfMemory,
 }
 

@@ -9,8 +9,8 @@ use Rattle.problem_core.specs.declared.parts.Mark.{Mark}
 use Rattle.problem_core.specs.declared.parts.Side.{Side}
 use Rattle.problem_core.specs.declared.parts.Level.TheVariants.{Priority as PriorityLevel}
 use Rattle.problem_core.specs.declared.stops.Quantity.TheVariants.{Rows}
-use Rattle.problem_core.specs.declared.stops.TableStop.{TableStop}
-use Rattle.problem_core.specs.declared.stops.TableStop.TheVariants.{UnfitAt, OutOfMemory as NoMemory}
+use Rattle.problem_core.specs.Stops.{TableStop}
+use Rattle.frac_core.specs.declared.memory.Stop.TheVariants.{Refused, OutOfMemory as NoMemory}
 use Rattle.problem_core.specs.Kept.{IsRow}
 use Rattle.problem_core.specs.Layout.{Line, Row, line_of_row, lines, stay_lines}
 use Rattle.problem_core.specs.Levels.{HasNoLevelWriting}
@@ -34,7 +34,8 @@ use Rattle.cert_core.specs.declared.stops.RunStop.TheVariants.{Conflict, Unfit, 
 use Rattle.problem_core.specs.declared.stops.Quantity.{Quantity}
 use Rattle.corner.specs.Changes.{IsPathStop}
 use Rattle.corner.specs.Kept.{AreSlots}
-use Rattle.corner.specs.RowJoins.{AreAsBefore, IsUnfitAt}
+use Rattle.frac_core.specs.Stops.{IsRefused}
+use Rattle.corner.specs.RowJoins.{AreAsBefore}
 use Rattle.corner.specs.Tables.{IsListedOf, marks_over, row_at}
 use Rattle.corner.specs.CostJoins.{IsCostJoined, IsFreeLine, IsJoinedCost, IsLineStop, IsNextListed}
 use Rattle.corner.proofs.CostFits.{next_count}
@@ -67,7 +68,7 @@ rows-among k [] ls = let n : ℕ = length (filter (λ l. nat_eq l.level k) ls) i
 rows-among k (s ∷ rows) ls = both-kept (nat_eq (1000 - s.rank) k) s (line_of_row s) (filter (λ r. nat_eq (1000 - r.rank) k) rows) (filter (λ l. nat_eq l.level k) (map line_of_row rows ++ ls)) (rows-among k rows ls)
 
 pub rows_stop_is : (t : Lists) (r : Row) (line : ℕ) (side : Side) → IsNextAt t r line side → HasNoLevelWriting (with_next t (home_at t line)) (marks_at t) (home_at t line)
-    → IsRowsStop t r (UnfitAt (Rows (PriorityLevel (1000 - home_at t line)) ((priority_at t (home_at t line)).rows + 1)))
+    → IsRowsStop t r (Refused (Rows (PriorityLevel (1000 - home_at t line)) ((priority_at t (home_at t line)).rows + 1)))
 rows_stop_is t r line side n none =
     let home = next_home t r line side n in
     let rank = (held_row t r n.kept (next_held t r n.next)).rank in
@@ -78,7 +79,7 @@ rows_stop_is t r line side n none =
       (home_at t line, (let e : home_at t line ≡ 1000 - r.rank = home in omega (arith, e)), omega arith, omega (arith, few, more), none),
     )
 
-pub stop_is : (t : Lists) (line : ℕ) (stop e : TableStop) → IsPartlyKept t → stop ≡ UnfitAt (Rows (PriorityLevel (1000 - home_at t line)) ((priority_at t (home_at t line)).rows + 1)) → IsCostStop t line stop e → IsJoinStop t line e
+pub stop_is : (t : Lists) (line : ℕ) (stop e : TableStop) → IsPartlyKept t → stop ≡ Refused (Rows (PriorityLevel (1000 - home_at t line)) ((priority_at t (home_at t line)).rows + 1)) → IsCostStop t line stop e → IsJoinStop t line e
 stop_is t line stop e kept is (inl none) r joins = subst (λ (x : TableStop). IsRowsStop t r x) (sym none) tt
 stop_is t line stop e kept is (inr (same, unfit)) r joins = let n = next_at t r line kept joins in subst (λ (x : TableStop). IsRowsStop t r x) (sym (same ∙ is)) (rows_stop_is t r line n.0 n.1 unfit)
 
@@ -192,11 +193,11 @@ free_listed u line old new e free = record {
 pub row_listed : (u : Lists) (line : ℕ) (old new : List ℕ) → IsListedOf line (row_at u line) old new → IsNextListed u line old new
 row_listed u line old new h = record { keeps = h.keeps; listed = inr h.has; others = h.others }
 
-unfit-stop : (stop : TableStop) (quantity : Quantity) → stop ≡ UnfitAt quantity → IsUnfitAt stop
-unfit-stop stop quantity e = subst IsUnfitAt (sym e) tt
+unfit-stop : (stop : TableStop) (quantity : Quantity) → stop ≡ Refused quantity → IsRefused stop
+unfit-stop stop quantity e = subst (λ (s : TableStop). IsRefused s) (sym e) tt
 
-pub same_slots : (t u : Lists) (stop : TableStop) → AreSlots t → AreAsBefore t u stop → IsUnfitAt stop → AreSlots u
-same_slots t u (UnfitAt quantity) slots same is = subst AreSlots (sym same) slots
+pub same_slots : (t u : Lists) (stop : TableStop) → AreSlots t → AreAsBefore t u stop → IsRefused stop → AreSlots u
+same_slots t u (Refused quantity) slots same is = subst AreSlots (sym same) slots
 same_slots t u NoMemory slots same is = absurd is
 
 pub line_stop : (t u : Lists) (line : ℕ) (stop : TableStop) (result : RunStop) → IsJoinStop t line stop → AreAsBefore t u stop → IsPathStop u [] stop result → IsLineStop t line result

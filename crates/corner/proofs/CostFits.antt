@@ -14,7 +14,7 @@ use Rattle.problem_core.specs.Levels.{HasNoLevelWriting, IsCostAt}
 use Rattle.corner_lines.specs.LevelFits.{IsFittingRow}
 use Rattle.corner_lines.proofs.LevelFits.{reduced-by, reduced_by}
 use Rattle.corner.specs.declared.exchange.Change.{Change}
-use Rattle.corner.specs.declared.fitting.Draft.{Draft}
+use Rattle.corner.specs.declared.levels.fitting.Draft.{Draft}
 use Rattle.corner.specs.declared.joining.Rise.{Rise}
 use Rattle.corner.specs.Tables.{Lists, line_slot, marks_at, priority_at, problem_of, standing_at}
 use Rattle.corner.specs.Exchanges.{row_number}

@@ -6,7 +6,7 @@ use Rattle.frac_core.specs.Fraction.{IsFitting}
 use Rattle.frac_core.specs.declared.frac.TheConstants.{PART_BOUND}
 use Rattle.row_core.specs.Rows.{Term, coefficient, IsKeptRow}
 use Rattle.problem_core.specs.declared.parts.Side.{Side}
-use Rattle.problem_core.specs.declared.stops.TableStop.{TableStop}
+use Rattle.problem_core.specs.Stops.{TableStop}
 use Rattle.problem_core.specs.Layout.{Line, Row, line_of_row, lines}
 use Rattle.problem_core.specs.Levels.{HasNoLevelWriting}
 use Rattle.corner_lines.specs.LineEquations.{sign_of}

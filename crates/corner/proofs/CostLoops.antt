@@ -21,7 +21,7 @@ use Rattle.problem_core.specs.declared.parts.Level.{Level}
 use Rattle.problem_core.specs.declared.parts.Level.TheVariants.{Priority as PriorityLevel}
 use Rattle.problem_core.specs.declared.stops.Quantity.{Quantity}
 use Rattle.problem_core.specs.declared.stops.Quantity.TheVariants.{Plain, Terms, Rows, Shifts}
-use Rattle.problem_core.specs.declared.stops.TableStop.TheVariants.{UnfitAt}
+use Rattle.frac_core.specs.declared.memory.Stop.TheVariants.{Refused}
 use Rattle.problem_core.specs.declared.parts.Stay.{Stay}
 use Rattle.problem_core.specs.Layout.{Line, Row, line_of_row, lines, stay_lines}
 use Rattle.corner.specs.Views.{IsNamed}
@@ -213,7 +213,7 @@ costs_stop t0 t first done r rest rows listed old (Unfit at) parts kept h same (
     problem_same : problem_of t ≡ problem_of t0
     problem_same = ap₂ (λ (rows : List Row) (stays : List Stay). record { rows = rows; stays = stays }) same.rows_same same.stays
 
-    by_quantity : (q : Quantity) → IsRowsStop t r (UnfitAt q) → (j : ℕ) × (q ≡ Rows (PriorityLevel r.rank) j) × (j ≡ level_count (1000 - r.rank) (first ++ done) + 1) × IsUnfitRows (problem_of t0) (marks_at t0) (PriorityLevel r.rank) j
+    by_quantity : (q : Quantity) → IsRowsStop t r (Refused q) → (j : ℕ) × (q ≡ Rows (PriorityLevel r.rank) j) × (j ≡ level_count (1000 - r.rank) (first ++ done) + 1) × IsUnfitRows (problem_of t0) (marks_at t0) (PriorityLevel r.rank) j
     by_quantity (Plain what) h = absurd h
     by_quantity (Terms mark j) h = absurd h
     by_quantity (Shifts what j) h = absurd h

@@ -11,9 +11,9 @@ use Rattle.problem_core.specs.Layout.{Line, Row, lines}
 use Rattle.problem_core.specs.Kept.{IsWhole}
 use Rattle.problem_core.proofs.Forms.{each-both}
 use Rattle.corner_laws.proofs.LevelSmall.{lines_light}
-use Rattle.corner_lines.specs.LevelCosts.{most_weight}
+use Rattle.problem_core.specs.declared.limits.TheConstants.{WEIGHT_LIMIT}
 use Rattle.corner_lines.proofs.LevelSound.{whole_is_sound}
-use Rattle.corner.specs.declared.fitting.Draft.{Draft}
+use Rattle.corner.specs.declared.levels.fitting.Draft.{Draft}
 use Rattle.corner.specs.Tables.{Lists, line_slot, problem_of, slot_at}
 use Rattle.corner.specs.Kept.{AreSlots, IsLineSlot}
 use Rattle.corner.specs.Views.{IsNamed}
@@ -24,10 +24,10 @@ use Rattle.corner.proofs.FittingRows.{free_lines}
 
 -- ---- a line's slot and a unit
 
-counted-line : (t : Lists) (l : Line) (unit : ℤ) → IsLineSlot t l → l.weight ≤ most_weight → 0 < l.scale → pos 0 <ℤ unit → IsFitting unit → IsCounted (slot_at t (line_slot t l.name)) unit
+counted-line : (t : Lists) (l : Line) (unit : ℤ) → IsLineSlot t l → l.weight ≤ WEIGHT_LIMIT → 0 < l.scale → pos 0 <ℤ unit → IsFitting unit → IsCounted (slot_at t (line_slot t l.name)) unit
 counted-line t l unit slot light scale above fits = record {
   weight_is = slot.weight ∙ sym (ap (λ (z : ℤ). pos (unsigned_abs z)) slot.weight);
-  light = subst (λ (z : ℤ). unsigned_abs z ≤ most_weight) (sym slot.weight) light;
+  light = subst (λ (z : ℤ). unsigned_abs z ≤ WEIGHT_LIMIT) (sym slot.weight) light;
   scale_is = slot.scale ∙ sym (ap (λ (z : ℤ). pos (unsigned_abs z)) slot.scale);
   scale_positive = subst (λ (z : ℤ). 0 < unsigned_abs z) (sym slot.scale) scale;
   unit_is = omega (arith, ints, above);

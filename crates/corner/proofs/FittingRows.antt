@@ -29,11 +29,12 @@ use Rattle.corner_laws.proofs.LevelUnits.{own_weight}
 use Rattle.corner_laws.proofs.ZeroColumns.{each-joined}
 use Rattle.corner_lines.specs.LineEquations.{IsOutsideLine, sign_of}
 use Rattle.corner_lines.specs.LevelRows.{inside_number, reduced_number}
-use Rattle.corner_lines.specs.LevelCosts.{AreDifferent, IsSound, most_weight}
-use Rattle.corner_lines.specs.LevelFits.{small_number, small_scale}
+use Rattle.corner_lines.specs.LevelCosts.{AreDifferent, IsSound}
+use Rattle.problem_core.specs.declared.limits.TheConstants.{WEIGHT_LIMIT}
+use Rattle.corner_laws.specs.LevelLaws.{small_number, small_scale}
 use Rattle.corner_lines.proofs.LevelFits.{small_row_fits}
 use Rattle.corner_lines.proofs.LevelSound.{seen-each, seen-same, whole_is_sound}
-use Rattle.corner.specs.declared.fitting.Draft.{Draft}
+use Rattle.corner.specs.declared.levels.fitting.Draft.{Draft}
 use Rattle.corner.specs.declared.table.Slot.{Slot}
 use Rattle.corner.specs.declared.table.TheConstants.{LEVELS}
 use Rattle.corner.specs.Tables.{Lists, line_slot, problem_of, slot_at}
@@ -351,16 +352,16 @@ unfit_by_scale t draft row not at unit own da f = not (subst IsFitting (sym (ap�
 
 -- ---- small rows
 
-light-row : (b : Bool) (r : Row) → r.weight ≤ most_weight → (cond b (without_weight r) r).weight ≤ most_weight
+light-row : (b : Bool) (r : Row) → r.weight ≤ WEIGHT_LIMIT → (cond b (without_weight r) r).weight ≤ WEIGHT_LIMIT
 light-row true r h = omega arith
 light-row false r h = h
 
-either-light : (b : Bool) (x r : Row) (xs ys : List Row) (ls : List Line) → x.weight ≤ most_weight → r.weight ≤ most_weight → Each (λ l. l.weight ≤ most_weight) (map line_of_row xs ++ ls) → Each (λ l. l.weight ≤ most_weight) (map line_of_row ys ++ ls)
-    → Each (λ l. l.weight ≤ most_weight) (map line_of_row (cond b (x ∷ xs) (r ∷ ys)) ++ ls)
+either-light : (b : Bool) (x r : Row) (xs ys : List Row) (ls : List Line) → x.weight ≤ WEIGHT_LIMIT → r.weight ≤ WEIGHT_LIMIT → Each (λ l. l.weight ≤ WEIGHT_LIMIT) (map line_of_row xs ++ ls) → Each (λ l. l.weight ≤ WEIGHT_LIMIT) (map line_of_row ys ++ ls)
+    → Each (λ l. l.weight ≤ WEIGHT_LIMIT) (map line_of_row (cond b (x ∷ xs) (r ∷ ys)) ++ ls)
 either-light true x r xs ys ls e f h k = (e, h)
 either-light false x r xs ys ls e f h k = (f, k)
 
-all-light : (level j : ℕ) (rows : List Row) (ls : List Line) → Each (λ l. l.weight ≤ most_weight) (map line_of_row rows ++ ls) → Each (λ l. l.weight ≤ most_weight) (map line_of_row (lightened level j rows) ++ ls)
+all-light : (level j : ℕ) (rows : List Row) (ls : List Line) → Each (λ l. l.weight ≤ WEIGHT_LIMIT) (map line_of_row rows ++ ls) → Each (λ l. l.weight ≤ WEIGHT_LIMIT) (map line_of_row (lightened level j rows) ++ ls)
 all-light level j [] ls h = h
 all-light level j (r ∷ rows) ls h = either-light (nat_eq (1000 - r.rank) level) (cond (nat_eq j 0) (without_weight r) r) r (lightened level (j - 1) rows) (lightened level j rows) ls (light-row (nat_eq j 0) r h.0) h.0 (all-light level (j - 1) rows ls h.1) (all-light level j rows ls h.1)
 
@@ -372,7 +373,7 @@ first_sound p level j whole =
       problem = All-from_recursion (λ l. (0 < l.scale) × (0 < l.den)) (lines q)
           (seen-each (λ l. (l.scale, l.den)) (λ (u : ℕ × ℕ). (0 < u.0) × (0 < u.1)) (lines p) (lines q) (sym (seen-same (λ l. (l.scale, l.den)) (λ r. refl) level j p.rows (stay_lines 1001 p.stays))) (recursion_from_All _ (lines p) s.problem));
       names = subst AreDifferent (sym (seen-same (λ l. l.name) (λ r. refl) level j p.rows (stay_lines 1001 p.stays))) s.names;
-      weights = All-from_recursion (λ l. l.weight ≤ most_weight) (lines q) (all-light level j p.rows (stay_lines 1001 p.stays) (recursion_from_All (λ l. l.weight ≤ most_weight) (lines p) s.weights));
+      weights = All-from_recursion (λ l. l.weight ≤ WEIGHT_LIMIT) (lines q) (all-light level j p.rows (stay_lines 1001 p.stays) (recursion_from_All (λ l. l.weight ≤ WEIGHT_LIMIT) (lines p) s.weights));
     }
 
 neg-small : (z : ℤ) → unsigned_abs z < small_number → unsigned_abs (neg_ℤ z) < small_number
@@ -397,12 +398,12 @@ fits_if_small t draft row whole kept scale small at unit own da =
 
 -- ---- how large a line's size is
 
-share-most : (slot : Slot) (unit : ℤ) → IsCounted slot unit → share_of slot unit ≤ PART_BOUND * most_weight
+share-most : (slot : Slot) (unit : ℤ) → IsCounted slot unit → share_of slot unit ≤ PART_BOUND * WEIGHT_LIMIT
 share-most slot unit c =
     let a : share_of slot unit ≤ unsigned_abs unit * unsigned_abs slot.weight = div-le_self (unsigned_abs unit * unsigned_abs slot.weight) (unsigned_abs slot.scale) in
     let fits = c.fits in
     let most : unsigned_abs unit ≤ PART_BOUND = omega (arith, fits) in
-    let b : unsigned_abs unit * unsigned_abs slot.weight ≤ PART_BOUND * most_weight = mul-le-mul most c.light in
+    let b : unsigned_abs unit * unsigned_abs slot.weight ≤ PART_BOUND * WEIGHT_LIMIT = mul-le-mul most c.light in
     omega (arith, a, b)
 
 pub small_size : (a : ℤ) (slot : Slot) (unit : ℤ) → IsFitting a → IsCounted slot unit → unsigned_abs (a *ℤ pos (share_of slot unit)) < 2 ^ 100
@@ -410,5 +411,5 @@ small_size a slot unit fits c =
     let n : ℕ = share_of slot unit in
     let e : unsigned_abs (a *ℤ pos n) ≡ unsigned_abs a * n = unsigned_abs-mul a (pos n) in
     let most : unsigned_abs a ≤ PART_BOUND = omega (arith, fits) in
-    let b : unsigned_abs a * n ≤ PART_BOUND * (PART_BOUND * most_weight) = mul-le-mul most (share-most slot unit c) in
+    let b : unsigned_abs a * n ≤ PART_BOUND * (PART_BOUND * WEIGHT_LIMIT) = mul-le-mul most (share-most slot unit c) in
     omega (arith, e, b)

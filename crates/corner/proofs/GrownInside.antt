@@ -14,8 +14,8 @@ use Rattle.problem_core.specs.declared.parts.RowName.{RowName}
 use Rattle.problem_core.specs.declared.parts.RowName.TheVariants.{Held}
 use Rattle.problem_core.specs.declared.parts.Side.{Side}
 use Rattle.problem_core.specs.declared.parts.Side.TheVariants.{Under, Over}
-use Rattle.problem_core.specs.declared.stops.TableStop.{TableStop}
-use Rattle.problem_core.specs.declared.stops.TableStop.TheVariants.{UnfitAt, OutOfMemory as NoMemory}
+use Rattle.problem_core.specs.Stops.{TableStop}
+use Rattle.frac_core.specs.declared.memory.Stop.TheVariants.{Refused, OutOfMemory as NoMemory}
 use Rattle.problem_core.specs.Corners.{Swap}
 use Rattle.problem_core.specs.Layout.{lines}
 use Rattle.corner_lines.specs.LineEquations.{other_side, sign_of}
@@ -299,7 +299,7 @@ some-unfit a t by kept unfit none = unfit a kept.lowest (nothing-added a t by.n 
 pub home_stop : (t : Lists) (line : ℕ) (side : Side) (more : Fraction) (stop : TableStop) → IsKept t → IsSlot t line → (standing_at t line).side ≡ Some side → (slot_at t line).home < LEVELS
     → IsGrowStop t (slot_at t line).home (home_growth t line side) more stop → IsLineStop t line more stop
 home_stop t line side more NoMemory kept slot inside low stop = tt
-home_stop t line side more (UnfitAt quantity) kept slot inside low (what, there, names, unfit) =
+home_stop t line side more (Refused quantity) kept slot inside low (what, there, names, unfit) =
     let home : ℕ = (slot_at t line).home in
     let high : LEVELS ≤ line = slot.0 in
     let same : growth_at t line (slot_at t line).home ≡ home_growth t line side = inside-growth t line side home inside ∙ at-home t line side home (λ e. absurd (omega (arith, e, low, high))) refl in (
@@ -315,7 +315,7 @@ home_stop t line side more (UnfitAt quantity) kept slot inside low (what, there,
 pub mark_stop : (t u : Lists) (line : ℕ) (side : Side) (more : Fraction) (stop : TableStop) → IsKept t → IsSlot t line → (standing_at t line).side ≡ Some side → (slot_at t line).home < LEVELS
     → IsGrown t (slot_at t line).home (home_growth t line side) more u → IsGrowStop u line (mark_growth side) more stop → IsLineStop t line more stop
 mark_stop t u line side more NoMemory kept slot inside low grown stop = tt
-mark_stop t u line side more (UnfitAt quantity) kept slot inside low (cost, cost-kept, cost-is, first) (what, there, names, unfit) =
+mark_stop t u line side more (Refused quantity) kept slot inside low (cost, cost-kept, cost-is, first) (what, there, names, unfit) =
     let high : LEVELS ≤ line = slot.0 in
     let before = put-other t.standings (slot_at t line).home line cost (λ e. absurd (omega (arith, e, low, high))) in
     let same : growth_at t line line ≡ mark_growth side = inside-growth t line side line inside ∙ at-line t line side in (

@@ -14,8 +14,8 @@ use Rattle.problem_core.specs.declared.parts.Side.{Side}
 use Rattle.problem_core.specs.declared.parts.Side.TheVariants.{Under, Over}
 use Rattle.corner_laws.proofs.LinePlaces.{pairs-first, pairs-rest}
 use Rattle.problem_core.specs.declared.stops.What.{What}
-use Rattle.problem_core.specs.declared.stops.TableStop.{TableStop}
-use Rattle.problem_core.specs.declared.stops.TableStop.TheVariants.{UnfitAt, OutOfMemory as NoMemory}
+use Rattle.problem_core.specs.Stops.{TableStop}
+use Rattle.frac_core.specs.declared.memory.Stop.TheVariants.{Refused, OutOfMemory as NoMemory}
 use Rattle.corner.specs.declared.shifting.Growth.{Growth}
 use Rattle.corner.specs.declared.table.Owner.{Owner}
 use Rattle.corner.specs.declared.table.Owner.TheVariants.{Level as LevelSlot, Attr as AttrSlot, Line as LineSlot}
@@ -245,7 +245,7 @@ grows_after t standings w e h = record { fits = h.fits; above = h.above; what = 
 pub next_stop : (n w : ℕ) (t : Lists) (line : ℕ) (more : Fraction) (slots : List ℕ) (u : Lists) (stop : TableStop) → IsKept t → (standing_at t line).side ≡ None → IsColumnOf t.matrix line slots
     → n < length slots → w ≡ slice_index_or slots n 0 → w < length t.slots → AreFirstGrown n t line more slots u → IsGrowStop u w (outside_growth u line w) more stop → IsLineStop t line more stop
 next_stop n w t line more slots u NoMemory kept outside column within is below h stop = tt
-next_stop n w t line more slots u (UnfitAt quantity) kept outside column within is below h (what, there, names, unfit) = (
+next_stop n w t line more slots u (Refused quantity) kept outside column within is below h (what, there, names, unfit) = (
   w,
   what,
   below,

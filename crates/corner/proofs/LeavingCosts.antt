@@ -13,8 +13,8 @@ use Rattle.problem_core.specs.declared.parts.Level.TheVariants.{Priority as Prio
 use Rattle.problem_core.specs.declared.parts.RowName.TheVariants.{Held}
 use Rattle.problem_core.specs.declared.stops.What.TheVariants.{Level as LevelOf}
 use Rattle.problem_core.specs.declared.stops.Quantity.TheVariants.{Plain}
-use Rattle.problem_core.specs.declared.stops.TableStop.{TableStop}
-use Rattle.problem_core.specs.declared.stops.TableStop.TheVariants.{UnfitAt}
+use Rattle.problem_core.specs.Stops.{TableStop}
+use Rattle.frac_core.specs.declared.memory.Stop.TheVariants.{Refused}
 use Rattle.problem_core.specs.Layout.{Line, Row, line_of_row, lines, stay_lines}
 use Rattle.problem_core.specs.Certificates.{weight_at}
 use Rattle.problem_core.specs.Levels.{HasNoLevelWriting, IsCostAt}
@@ -197,7 +197,7 @@ unfit_stop t r x unit size row stop h e least j unfit =
 level-sum : (l : ℕ) → l ≤ 1000 → l + (1000 - l) ≡ 1000
 level-sum l le = omega (arith, le)
 
-pub left_stop : (t : Lists) (r : Row) (x : Leaver) (stop e : TableStop) → IsLeavingRow t r x → stop ≡ UnfitAt (Plain (LevelOf (PriorityLevel (1000 - x.level)))) → IsLeftStop t x stop e → IsUnfitStop (problem_left t x) (marks_left t x) e
+pub left_stop : (t : Lists) (r : Row) (x : Leaver) (stop e : TableStop) → IsLeavingRow t r x → stop ≡ Refused (Plain (LevelOf (PriorityLevel (1000 - x.level)))) → IsLeftStop t x stop e → IsUnfitStop (problem_left t x) (marks_left t x) e
 left_stop t r x stop e h is (inl none) = subst (IsUnfitStop (problem_left t x) (marks_left t x)) (sym none) tt
 left_stop t r x stop e h is (inr (same, unfit)) =
     subst (IsUnfitStop (problem_left t x) (marks_left t x)) (sym (same ∙ is)) (x.level, level-sum x.level (let a = its_level t r x h in omega (arith, a)), unfit)

@@ -12,10 +12,10 @@ use Rattle.problem_core.specs.Corners.{IsIn, place_of}
 use Rattle.problem_core.specs.Begins.{without_marks}
 use Rattle.problem_core.proofs.Forms.{each-both, each-impl}
 use Rattle.corner_lines.specs.LineEquations.{IsOutsideLine}
-use Rattle.corner_lines.specs.LevelFits.{small_number, small_scale}
+use Rattle.corner_laws.specs.LevelLaws.{small_number, small_scale}
 use Rattle.corner_lines.specs.LevelRows.{inside_number, reduced_number}
 use Rattle.corner_lines.proofs.LevelFits.{small_row_fits}
-use Rattle.corner.specs.declared.fitting.Draft.{Draft}
+use Rattle.corner.specs.declared.levels.fitting.Draft.{Draft}
 use Rattle.corner.specs.declared.leaving.Leaver.{Leaver}
 use Rattle.corner.specs.Tables.{Lists, line_slot, marks_at}
 use Rattle.corner.specs.Exchanges.{row_number}

@@ -10,7 +10,7 @@ use Rattle.row_core.specs.declared.entry.Patch.{Patch}
 use Rattle.row_core.proofs.Lowest.{reduced_same, unfit_same}
 use Rattle.problem_core.specs.declared.parts.Mark.{Mark}
 use Rattle.problem_core.specs.declared.parts.Side.{Side}
-use Rattle.problem_core.specs.declared.stops.TableStop.{TableStop}
+use Rattle.problem_core.specs.Stops.{TableStop}
 use Rattle.problem_core.specs.Layout.{Problem}
 use Rattle.problem_core.specs.Corners.{IsCorner, Swap}
 use Rattle.problem_core.specs.Rays.{HasRays}
@@ -28,7 +28,7 @@ use Rattle.corner_lines.proofs.LevelRests.{all_rows_have_joined}
 use Rattle.corner_lines.proofs.LevelSound.{whole_is_sound}
 use Rattle.corner_lines.proofs.LineWritings.{line_value}
 use Rattle.corner.specs.declared.exchange.Pivot.{Pivot}
-use Rattle.corner.specs.declared.fitting.Draft.{Draft}
+use Rattle.corner.specs.declared.levels.fitting.Draft.{Draft}
 use Rattle.corner.specs.declared.levels.Pair.{Pair}
 use Rattle.corner.specs.declared.table.TheConstants.{LEVELS}
 use Rattle.corner.specs.Tables.{Lists, entry, marks_at, number, priority_at, problem_of, row_at, standing_at}

@@ -14,7 +14,7 @@ use Rattle.problem_core.specs.Levels.{IsLevelAt}
 use Rattle.problem_core.proofs.Forms.{each-impl, each-both}
 use Rattle.corner_laws.proofs.LevelSmall.{lines_light}
 use Rattle.corner_laws.proofs.ZeroColumns.{each-joined, here-in}
-use Rattle.corner_lines.specs.LevelCosts.{most_weight}
+use Rattle.problem_core.specs.declared.limits.TheConstants.{WEIGHT_LIMIT}
 use Rattle.corner_lines.proofs.LevelSound.{whole_is_sound}
 use Rattle.corner.specs.Tables.{Lists, line_slot, problem_of, slot_at}
 use Rattle.corner.specs.Kept.{IsKept, IsLineSlot, home_of}
@@ -43,7 +43,7 @@ levels-of p = each-joined (λ l. AreLevelsOf l.name l.level) (map line_of_row p.
 -- what is known of each line
 pub record IsKnown (t : Lists) (l : Line) : Type 0 where
   pub slot : IsLineSlot t l
-  pub light : l.weight ≤ most_weight
+  pub light : l.weight ≤ WEIGHT_LIMIT
   pub scale : 0 < l.scale
   pub levels : AreLevelsOf l.name l.level
   pub marks : (side : Side) → Contains (map place (marks_of (lines (problem_of t)))) (place_of l.name side)

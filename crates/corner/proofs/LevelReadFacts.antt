@@ -20,7 +20,7 @@ use Rattle.problem_core.specs.Layout.{Line, Problem, lines}
 use Rattle.problem_core.specs.Levels.{IsLevelAt}
 use Rattle.corner_laws.specs.Units.{IsStayLevel}
 use Rattle.corner_lines.specs.LineEquations.{sign_of}
-use Rattle.corner_lines.specs.LevelCosts.{most_weight}
+use Rattle.problem_core.specs.declared.limits.TheConstants.{WEIGHT_LIMIT}
 use Rattle.corner_lines.proofs.StayRows.{stay_stands_alone}
 use Rattle.corner.specs.declared.table.Slot.{Slot}
 use Rattle.corner.specs.Tables.{Lists, attr_slot, level_slot, line_slot, problem_of, slot_at, standing_at}
@@ -90,7 +90,7 @@ counted-line t l kept k =
     let r : HasRow t (slot_at t (line_slot t l.name)).home l.level = level_row t (slot_at t (line_slot t l.name)).home l.level kept (home_is t l k) in
     record {
       weight_is = k.slot.weight ∙ sym (ap (λ (z : ℤ). pos (unsigned_abs z)) k.slot.weight);
-      light = subst (λ (z : ℤ). unsigned_abs z ≤ most_weight) (sym k.slot.weight) k.light;
+      light = subst (λ (z : ℤ). unsigned_abs z ≤ WEIGHT_LIMIT) (sym k.slot.weight) k.light;
       scale_is = k.slot.scale ∙ sym (ap (λ (z : ℤ). pos (unsigned_abs z)) k.slot.scale);
       scale_positive = subst (λ (z : ℤ). 0 < unsigned_abs z) (sym k.slot.scale) k.scale;
       unit_is = r.unit_is ∙ sym (ap (λ (z : ℤ). pos (unsigned_abs z)) r.unit_is);
@@ -108,10 +108,10 @@ side-most Le Over n = omega arith
 side-most Ge Under n = omega arith
 side-most Ge Over n = omega arith
 
-small-product : (own unit weight count n : ℕ) → count ≤ n → n ≤ unit * weight → weight ≤ most_weight → own * unit < PART_BOUND → own * count < PART_BOUND * most_weight
+small-product : (own unit weight count n : ℕ) → count ≤ n → n ≤ unit * weight → weight ≤ WEIGHT_LIMIT → own * unit < PART_BOUND → own * count < PART_BOUND * WEIGHT_LIMIT
 small-product own unit weight count n c m light fits =
     let a : own * count ≤ own * (unit * weight) = mul-le-mul (le_refl own) (omega (arith, c, m)) in
-    let b : own * unit * weight ≤ own * unit * most_weight = mul-le-mul (le_refl (own * unit)) light in
+    let b : own * unit * weight ≤ own * unit * WEIGHT_LIMIT = mul-le-mul (le_refl (own * unit)) light in
     let e : own * (unit * weight) ≡ own * unit * weight = omega arith in
     omega (arith, a, b, e, fits)
 
@@ -122,7 +122,7 @@ cost-line t l side kept k =
     let count : ℕ = count_of t slot side in
     let most : share_of slot (unit_at t slot.home) ≤ r.unit * l.weight =
     subst (λ (z : ℤ). unsigned_abs z * unsigned_abs slot.weight / unsigned_abs slot.scale ≤ r.unit * l.weight) (sym r.unit_is) (subst (λ (z : ℤ). r.unit * unsigned_abs z / unsigned_abs slot.scale ≤ r.unit * l.weight) (sym k.slot.weight) (div-le_self (r.unit * l.weight) (unsigned_abs slot.scale))) in
-    subst (λ (z : ℤ). unsigned_abs (z *ℤ pos count) < PART_BOUND * most_weight) (sym r.own_is)
+    subst (λ (z : ℤ). unsigned_abs (z *ℤ pos count) < PART_BOUND * WEIGHT_LIMIT) (sym r.own_is)
     (small-product r.own r.unit l.weight count (share_of slot (unit_at t slot.home)) (side-most slot.rel side (share_of slot (unit_at t slot.home))) most k.light r.fits)
 
 pub cost_small : (t : Lists) (slot : Slot) (side : Side) → IsKept t → IsLinesSlot t slot → IsCost (own_cost t slot side)

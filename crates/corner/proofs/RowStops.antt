@@ -22,8 +22,8 @@ use Rattle.cert_core.specs.declared.stops.RunStop.{RunStop}
 use Rattle.cert_core.specs.declared.stops.RunStop.TheVariants.{Conflict, Unfit, Spent, OutOfMemory}
 use Rattle.problem_core.specs.declared.stops.Quantity.{Quantity}
 use Rattle.problem_core.specs.declared.stops.Quantity.TheVariants.{Plain, Terms, Rows, Shifts}
-use Rattle.problem_core.specs.declared.stops.TableStop.{TableStop}
-use Rattle.problem_core.specs.declared.stops.TableStop.TheVariants.{UnfitAt}
+use Rattle.problem_core.specs.Stops.{TableStop}
+use Rattle.frac_core.specs.declared.memory.Stop.TheVariants.{Refused}
 use Rattle.corner_laws.specs.Lifts.{AreJoined}
 use Rattle.corner_laws.proofs.Counting.{head_pairs, tail_pairs}
 use Rattle.corner_laws.proofs.TermLifts.{terms_lift}
@@ -410,7 +410,7 @@ stop_old t0 t rows more r rest mark s e k x lt same =
     (named_so_far more t0 t (Held (slice_index_or t0.rows k x).id) s.lists (row_named (problem_of t0) k (slice_index_or t0.rows k x) lt (get_or_default t0.rows k (slice_index_or t0.rows k x) x lt)))
     (same ∙ ap (λ (m : Mark). m.row) e)
 
-unfit_path : (t0 t : Lists) (rows more : List Row) (r : Row) (rest : List Row) (quantity : Quantity) → IsStopped t0 t rows more r rest → IsTermsStop t r (UnfitAt quantity)
+unfit_path : (t0 t : Lists) (rows more : List Row) (r : Row) (rest : List Row) (quantity : Quantity) → IsStopped t0 t rows more r rest → IsTermsStop t r (Refused quantity)
     → IsAddStop (seen_of t0) rows (Unfit (record { path = record { dual = false; corner = marks_over t (r ∷ rest); swaps = [] }; quantity = quantity }))
 unfit_path t0 t rows more r rest (Plain what) s h = absurd h
 unfit_path t0 t rows more r rest (Rows level j) s h = absurd h

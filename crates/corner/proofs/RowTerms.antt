@@ -16,8 +16,8 @@ use Rattle.row_core.proofs.Places.{coefficient_at}
 use Rattle.indexed_rows.specs.Matrices.{IsBelow}
 use Rattle.problem_core.specs.declared.parts.Mark.{Mark}
 use Rattle.problem_core.specs.declared.stops.Quantity.TheVariants.{Terms}
-use Rattle.problem_core.specs.declared.stops.TableStop.{TableStop}
-use Rattle.problem_core.specs.declared.stops.TableStop.TheVariants.{UnfitAt}
+use Rattle.problem_core.specs.Stops.{TableStop}
+use Rattle.frac_core.specs.declared.memory.Stop.TheVariants.{Refused}
 use Rattle.problem_core.specs.declared.parts.Stay.{Stay}
 use Rattle.problem_core.specs.declared.parts.Term as parts
 use Rattle.problem_core.specs.declared.parts.RowName.{RowName}
@@ -494,8 +494,8 @@ den_above t r quantity s h = (h.equation (with_number r.id (length t.slots) t.ro
 pub attr_den : (t : Lists) (attr : ℕ) → IsPartlyKept t → HasStay t.stays attr → 0 < (standing_at t (attr_slot t attr)).value.den
 attr_den t attr kept has = (stay_row t attr kept has).2.den_positive
 
-pub stop_of : (t : Lists) (r : Row) (stop : TableStop) (id j k : ℕ) → stop ≡ UnfitAt (Terms (over_mark id) j) → id ≡ r.id → j ≡ k → IsUnfitTerms (with_row r (problem_of t)) (over_joined r (marks_at t)) (over_mark r.id) k → IsTermsStop t r stop
-stop_of t r stop id j k e f g h = subst (IsTermsStop t r) (sym (e ∙ ap₂ (λ (i n : ℕ). UnfitAt (Terms (over_mark i) n)) f g)) (refl, h)
+pub stop_of : (t : Lists) (r : Row) (stop : TableStop) (id j k : ℕ) → stop ≡ Refused (Terms (over_mark id) j) → id ≡ r.id → j ≡ k → IsUnfitTerms (with_row r (problem_of t)) (over_joined r (marks_at t)) (over_mark r.id) k → IsTermsStop t r stop
+stop_of t r stop id j k e f g h = subst (IsTermsStop t r) (sym (e ∙ ap₂ (λ (i n : ℕ). Refused (Terms (over_mark i) n)) f g)) (refl, h)
 
 pub start_sum : (t : Lists) (r : Row) (row : List Term) (value : Fraction) (at : ℕ) → row ≡ record { col = at; by = pos 1 } ∷ [] → at ≡ length t.slots → value ≡ zero_fraction → IsSumRow t r (first_terms r 0) (record { row = row; value = value })
 start_sum t r row value at e f g =

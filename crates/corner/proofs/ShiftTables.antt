@@ -3,7 +3,7 @@ use Rattle.std.proofs.Common.{◌≡◌, ◌∙◌, ℕ, List, sym, ap, subst, s
 use Rattle.frac_core.specs.Fraction.{Fraction}
 use Rattle.frac_core.specs.Fraction as fractions
 use Rattle.problem_core.specs.declared.parts.Mark.{Mark}
-use Rattle.problem_core.specs.declared.stops.TableStop.{TableStop}
+use Rattle.problem_core.specs.Stops.{TableStop}
 use Rattle.problem_core.specs.Layout.{Problem}
 use Rattle.corner_lines.specs.Shifts.{with_constant}
 use Rattle.corner.specs.declared.table.Table.{Table}

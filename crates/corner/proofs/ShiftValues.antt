@@ -13,8 +13,8 @@ use Rattle.problem_core.specs.declared.parts.Level.TheVariants.{Priority}
 use Rattle.problem_core.specs.declared.parts.Side.{Side}
 use Rattle.problem_core.specs.declared.parts.Side.TheVariants.{Under, Over}
 use Rattle.problem_core.specs.declared.stops.Quantity.{Quantity}
-use Rattle.problem_core.specs.declared.stops.TableStop.{TableStop}
-use Rattle.problem_core.specs.declared.stops.TableStop.TheVariants.{UnfitAt, OutOfMemory as NoMemory}
+use Rattle.problem_core.specs.Stops.{TableStop}
+use Rattle.frac_core.specs.declared.memory.Stop.TheVariants.{Refused, OutOfMemory as NoMemory}
 use Rattle.problem_core.specs.declared.stops.What.{What}
 use Rattle.problem_core.specs.declared.stops.What.TheVariants.{Mark as MarkOf, Level as LevelOf}
 use Rattle.problem_core.specs.Layout.{HasStay, Problem, lines}
@@ -329,8 +329,8 @@ slot-unfit t id from to more w (LineSlot name) (Some side) what h owned e is som
 -- the stop of a change is that of a quantity of the problem with the new constant
 pub shift_stop : (t : Lists) (id : ℕ) (from to more : Fraction) (stop : TableStop) → IsShiftOf t id from to more → IsShiftStop t id more stop → IsUnfitStop (with_constant id to (problem_of t)) (marks_at t) stop
 shift_stop t id from to more NoMemory h is = tt
-shift_stop t id from to more (UnfitAt quantity) h (w, what, within, some, there, same, unfit) =
-    subst (λ (k : Quantity). IsUnfitStop (with_constant id to (problem_of t)) (marks_at t) (UnfitAt k)) (sym same)
+shift_stop t id from to more (Refused quantity) h (w, what, within, some, there, same, unfit) =
+    subst (λ (k : Quantity). IsUnfitStop (with_constant id to (problem_of t)) (marks_at t) (Refused k)) (sym same)
     (elim (cases_lt w LEVELS) [
       | inl low ↦ subst (IsUnfitWhat (with_constant id to (problem_of t)) (marks_at t)) (sym (there.0 low)) (level_unfit t id from to more w h low some unfit)
       | inr high ↦ slot-unfit t id from to more w (slot_at t w).owner (standing_at t w).side what h (h.kept.slots.owners w (high, within)) refl (there.1 high) some unfit

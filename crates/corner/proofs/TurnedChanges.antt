@@ -13,13 +13,13 @@ use Rattle.row_core.proofs.Lowest.{reduced_same, unfit_same}
 use Rattle.row_core.proofs.Places.{coefficient_at}
 use Rattle.indexed_rows.specs.Matrices.{IsBelow}
 use Rattle.problem_core.specs.declared.parts.Side.{Side}
-use Rattle.problem_core.specs.declared.stops.TableStop.{TableStop}
+use Rattle.problem_core.specs.Stops.{TableStop}
 use Rattle.problem_core.specs.Corners.{Swap}
 use Rattle.problem_core.specs.Levels.{HasNoLevelWriting, IsCostAt}
 use Rattle.corner_laws.specs.Units.{IsLevelUnit}
 use Rattle.corner_lines.specs.LineEquations.{sign_of}
 use Rattle.corner_lines.specs.LevelRows.{HasLevelRow}
-use Rattle.corner.specs.declared.fitting.Draft.{Draft}
+use Rattle.corner.specs.declared.levels.fitting.Draft.{Draft}
 use Rattle.corner.specs.declared.levels.Pair.{Pair}
 use Rattle.corner.specs.declared.table.TheConstants.{LEVELS}
 use Rattle.corner.specs.Tables.{Lists, entry, priority_at, problem_of, row_at, slot_at, standing_at}

@@ -5,8 +5,8 @@ use Rattle.problem_core.specs.declared.parts.Side.{Side}
 use Rattle.problem_core.specs.declared.parts.RowName.{RowName}
 use Rattle.problem_core.specs.declared.stops.Quantity.{Quantity}
 use Rattle.problem_core.specs.declared.stops.Quantity.TheVariants.{Plain, Terms, Rows, Shifts}
-use Rattle.problem_core.specs.declared.stops.TableStop.{TableStop}
-use Rattle.problem_core.specs.declared.stops.TableStop.TheVariants.{UnfitAt, OutOfMemory as NoMemory}
+use Rattle.problem_core.specs.Stops.{TableStop}
+use Rattle.frac_core.specs.declared.memory.Stop.TheVariants.{Refused, OutOfMemory as NoMemory}
 use Rattle.problem_core.specs.Layout.{Row, Problem}
 use Rattle.frac_core.specs.Fraction.{Fraction}
 use Rattle.problem_core.specs.Corners.{HasNegativeColumn, attr_column}
@@ -20,10 +20,10 @@ use Rattle.corner.specs.Tables.{Lists, marks_over}
 
 -- want of memory, or a quantity of the problem that does not fit at these marks
 abbrev pub IsUnfitStop : Problem → List Mark → TableStop → Type 0
-IsUnfitStop p marks (UnfitAt (Plain what)) = IsUnfitWhat p marks what
-IsUnfitStop p marks (UnfitAt (Terms mark j)) = ⊥
-IsUnfitStop p marks (UnfitAt (Rows level j)) = ⊥
-IsUnfitStop p marks (UnfitAt (Shifts what j)) = ⊥
+IsUnfitStop p marks (Refused (Plain what)) = IsUnfitWhat p marks what
+IsUnfitStop p marks (Refused (Terms mark j)) = ⊥
+IsUnfitStop p marks (Refused (Rows level j)) = ⊥
+IsUnfitStop p marks (Refused (Shifts what j)) = ⊥
 IsUnfitStop p marks NoMemory = Unit {0}
 
 abbrev pub scene_of : CornerView → Scene
@@ -37,7 +37,7 @@ pub record IsRewound (old new : CornerView) : Type 0 where
 
 -- the same corner, but after want of memory that of the newest mark
 abbrev pub IsAsBefore : CornerView → CornerView → TableStop → Type 0
-IsAsBefore old new (UnfitAt quantity) = new ≡ old
+IsAsBefore old new (Refused quantity) = new ≡ old
 IsAsBefore old new NoMemory = IsRewound old new
 
 -- of the rows that join: sums of their terms, or of a level's rows, and no others
@@ -71,7 +71,7 @@ IsAddStop old rows OutOfMemory = Unit {0}
 abbrev pub IsPathStop : Lists → List Row → TableStop → RunStop → Type 0
 IsPathStop t rest stop (Conflict by) = ⊥
 IsPathStop t rest stop (Spent path) = ⊥
-IsPathStop t rest stop (Unfit at) = (stop ≡ UnfitAt at.quantity)
+IsPathStop t rest stop (Unfit at) = (stop ≡ Refused at.quantity)
     × (at.path ≡ record { dual = false; corner = marks_over t rest; swaps = [] })
 IsPathStop t rest stop OutOfMemory = Unit {0}
 

@@ -1,5 +1,5 @@
 -- How a row that has joined the corner joins the cost of its level.
-use Rattle.std.specs.Prelude.{◌≡◌, ◌≢◌, ◌⊎◌, ℕ, ◌+◌, ◌-◌, ◌*◌, ◌/◌, ◌<◌, ◌≤◌, cond, nat_eq, List, [], ◌∷◌}
+use Rattle.std.specs.Prelude.{◌≡◌, ◌≢◌, ◌⊎◌, ℕ, ◌+◌, ◌*◌, ◌/◌, ◌<◌, ◌≤◌, cond, nat_eq, List, [], ◌∷◌}
 use Rattle.std.specs.Prelude.{◌++◌, false, slice_set, ℤ, pos, ◌+ℤ◌, ◌*ℤ◌, unsigned_abs, All, Any, Contains}
 use Rattle.std.specs.Prelude.{Some}
 use Rattle.std.specs.Int.{IsGcd}
@@ -10,9 +10,9 @@ use Rattle.row_core.specs.Rows.{Term, coefficient, IsKeptRow, IsReduced, IsUnfit
 use Rattle.row_core.specs.declared.entry.Factors.{Factors}
 use Rattle.problem_core.specs.declared.parts.RowName.TheVariants.{Held}
 use Rattle.problem_core.specs.declared.parts.Side.{Side}
-use Rattle.problem_core.specs.declared.stops.TableStop.{TableStop}
-use Rattle.problem_core.specs.declared.stops.TableStop.TheVariants.{UnfitAt, OutOfMemory as NoMemory}
-use Rattle.problem_core.specs.Layout.{Problem, Row}
+use Rattle.problem_core.specs.Stops.{TableStop}
+use Rattle.frac_core.specs.declared.memory.Stop.TheVariants.{Refused, OutOfMemory as NoMemory}
+use Rattle.problem_core.specs.Layout.{Problem, Row, rank_level}
 use Rattle.problem_core.specs.Levels.{AreFitting, HasNoLevelWriting, IsCostAt}
 use Rattle.problem_core.specs.Unfit.{IsUnfitRows, with_first_rows}
 use Rattle.corner_laws.specs.Lifts.{HasOneIn}
@@ -256,7 +256,7 @@ IsCostsStop t first rows (Unfit at) =
     (at.path ≡ record { dual = false; corner = marks_over t []; swaps = [] })
     × ((done : List Row) × (r : Row) × (rest : List Row) × (rows ≡ done ++ (r ∷ rest))
     × ((j : ℕ) × (at.quantity ≡ Rows (PriorityLevel r.rank) j)
-    × (j ≡ level_count (1000 - r.rank) (first ++ done) + 1)
+    × (j ≡ level_count (rank_level r.rank) (first ++ done) + 1)
     × IsUnfitRows (problem_of t) (marks_at t) (PriorityLevel r.rank) j))
 IsCostsStop t first rows OutOfMemory = Unit {0}
 
@@ -265,7 +265,7 @@ abbrev pub IsLineStop : Lists → ℕ → RunStop → Type 0
 IsLineStop t line (Conflict by) = ⊥
 IsLineStop t line (Spent path) = ⊥
 IsLineStop t line (Unfit at) = (at.path ≡ record { dual = false; corner = marks_over t []; swaps = [] })
-    × IsJoinStop t line (UnfitAt at.quantity)
+    × IsJoinStop t line (Refused at.quantity)
 IsLineStop t line OutOfMemory = Unit {0}
 
 -- the rows have joined the corner one by one, and then their levels

@@ -12,8 +12,8 @@ use Rattle.problem_core.specs.declared.parts.RowName.{RowName}
 use Rattle.problem_core.specs.declared.parts.RowName.TheVariants.{Stay as StayOf}
 use Rattle.problem_core.specs.declared.parts.Level.TheVariants.{Stay as StayLevel}
 use Rattle.problem_core.specs.declared.stops.Quantity.TheVariants.{Plain}
-use Rattle.problem_core.specs.declared.stops.TableStop.{TableStop}
-use Rattle.problem_core.specs.declared.stops.TableStop.TheVariants.{UnfitAt}
+use Rattle.problem_core.specs.Stops.{TableStop}
+use Rattle.frac_core.specs.declared.memory.Stop.TheVariants.{Refused}
 use Rattle.corner.specs.Changes.{IsUnfitStop}
 use Rattle.problem_core.specs.declared.parts.Mark.{Mark}
 use Rattle.problem_core.specs.declared.parts.Side.{Side}
@@ -186,7 +186,7 @@ IsStaySlot t w = IsStayOwner (slot_at t w).owner
 -- the stop names the level of the slot's stay
 abbrev pub IsLevelStop : Lists → ℕ → TableStop → Type 0
 IsLevelStop t w stop = (attr : ℕ) → (slot_at t w).owner ≡ LineSlot (StayOf attr)
-    → stop ≡ UnfitAt (Plain (LevelOf (StayLevel attr)))
+    → stop ≡ Refused (Plain (LevelOf (StayLevel attr)))
 
 -- the new row and value of a slot that is none of the two lines'; a level that has one has rows
 pub record IsChangeOf (t : Lists) (pair : Pair) (s : Swap) (change : Change) : Type 0 where

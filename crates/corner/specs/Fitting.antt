@@ -10,12 +10,12 @@ use Rattle.problem_core.specs.declared.parts.Rel.TheVariants.{Eq, Le, Ge}
 use Rattle.problem_core.specs.declared.parts.RowName.TheVariants.{Held}
 use Rattle.problem_core.specs.declared.parts.Side.{Side}
 use Rattle.problem_core.specs.declared.parts.Side.TheVariants.{Under, Over}
-use Rattle.problem_core.specs.Layout.{Problem, Row, lines}
+use Rattle.problem_core.specs.Layout.{Problem, Row, lines, rank_level}
 use Rattle.problem_core.specs.Corners.{IsIn, place_of}
 use Rattle.problem_core.specs.Unfit.{with_first_rows}
 use Rattle.corner_lines.specs.LevelFits.{IsFittingRow}
 use Rattle.corner_lines.specs.LineEquations.{sign_of}
-use Rattle.corner.specs.declared.fitting.Draft.{Draft}
+use Rattle.corner.specs.declared.levels.fitting.Draft.{Draft}
 use Rattle.corner.specs.declared.levels.Pair.{Pair}
 use Rattle.corner.specs.Tables.{Lists, line_slot, problem_of, slot_at, standing_at}
 use Rattle.corner.specs.Exchanges.{row_number}
@@ -95,7 +95,7 @@ either false A B = B
 -- of these rows the first j of the level
 abbrev pub AreFittingLines : Lists → Draft → List Term → ℕ → List Row → Type 0
 AreFittingLines t draft row j [] = Unit {0}
-AreFittingLines t draft row j (r ∷ rows) = either (nat_eq (1000 - r.rank) draft.level)
+AreFittingLines t draft row j (r ∷ rows) = either (nat_eq (rank_level r.rank) draft.level)
     (either (nat_eq j 0) (Unit {0})
     (IsFittingLine t draft row (line_slot t (Held r.id)) × AreFittingLines t draft row (j - 1) rows))
     (AreFittingLines t draft row j rows)

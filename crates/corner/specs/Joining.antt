@@ -1,9 +1,9 @@
 -- How attributes and rows join the lists of a corner.
-use Rattle.std.specs.Prelude.{◌≡◌, ◌≢◌, ℕ, zero, suc, ◌+◌, ◌-◌, cond, nat_eq, List, [], ◌∷◌, ◌++◌, length}
+use Rattle.std.specs.Prelude.{◌≡◌, ◌≢◌, ℕ, zero, suc, ◌+◌, cond, nat_eq, List, [], ◌∷◌, ◌++◌, length}
 use Rattle.std.specs.Prelude.{◌^◌, ◌<◌, slice_index_or, pos, negsuc, None}
 use Rattle.frac_core.specs.Fraction.{Fraction}
 use Rattle.row_core.specs.Rows.{IsKeptRow, Term, coefficient}
-use Rattle.problem_core.specs.Layout.{Row}
+use Rattle.problem_core.specs.Layout.{Row, rank_level}
 use Rattle.problem_core.specs.Window.{zero_fraction}
 use Rattle.problem_core.specs.declared.parts.Rel.TheVariants.{Eq}
 use Rattle.problem_core.specs.declared.parts.RowName.TheVariants.{Held, Stay as StayOf}
@@ -106,7 +106,7 @@ slot_of_stay attr w = record {
 abbrev pub slot_of_row : Row → Slot
 slot_of_row r = record {
   owner = LineSlot (Held r.id);
-  home = 1000 - r.rank;
+  home = rank_level r.rank;
   weight = pos r.weight;
   scale = pos r.scale;
   rel = r.rel;

@@ -1,5 +1,5 @@
 -- What the lists of a corner keep.
-use Rattle.std.specs.Prelude.{◌≡◌, ◌≢◌, ◌⊎◌, ℕ, ◌^◌, ◌-◌, ◌*◌, ◌<◌, ◌≤◌, ◌+◌, cond, nat_eq, [], filter}
+use Rattle.std.specs.Prelude.{◌≡◌, ◌≢◌, ◌⊎◌, ℕ, ◌^◌, ◌*◌, ◌<◌, ◌≤◌, ◌+◌, cond, nat_eq, [], filter}
 use Rattle.std.specs.Prelude.{length}
 use Rattle.std.specs.Prelude.{ℤ, pos, ◌*ℤ◌, All, Any, AllPairs, Some, None}
 use Rattle.std.specs.declared.option.Option.{Option}
@@ -13,7 +13,7 @@ use Rattle.problem_core.specs.declared.parts.Stay.{Stay}
 use Rattle.problem_core.specs.declared.stops.What.{What}
 use Rattle.problem_core.specs.declared.stops.What.TheVariants.{Attr as AttrOf, Mark as MarkOf}
 use Rattle.problem_core.specs.declared.stops.What.TheVariants.{Level as LevelOf}
-use Rattle.problem_core.specs.Layout.{HasStay, Line, Problem, lines}
+use Rattle.problem_core.specs.Layout.{HasStay, Line, Problem, lines, rank_level}
 use Rattle.problem_core.specs.Window.{zero_fraction}
 use Rattle.problem_core.specs.Kept.{IsWhole}
 use Rattle.problem_core.specs.Corners.{IsCorner, attr_column}
@@ -128,7 +128,7 @@ AreOutside t = (w c : ℕ) → entry t w c ≢ pos 0 → c ≢ w
 
 -- how many rows the level has
 abbrev pub row_count : Lists → ℕ → ℕ
-row_count t k = length (filter (λ r. nat_eq (1000 - r.rank) k) t.rows)
+row_count t k = length (filter (λ r. nat_eq (rank_level r.rank) k) t.rows)
 
 -- the number of a level's row, 1 where it has none
 abbrev pub level_own : Lists → ℕ → ℤ

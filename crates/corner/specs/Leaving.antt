@@ -1,5 +1,5 @@
 -- How a row leaves the cost of its level.
-use Rattle.std.specs.Prelude.{◌≡◌, ◌≢◌, ◌⊎◌, ℕ, ◌+◌, ◌-◌, ◌*◌, ◌<◌, cond, nat_eq, List, [], ◌∷◌, ℤ, pos}
+use Rattle.std.specs.Prelude.{◌≡◌, ◌≢◌, ◌⊎◌, ℕ, ◌+◌, ◌*◌, ◌<◌, cond, nat_eq, List, [], ◌∷◌, ℤ, pos}
 use Rattle.std.specs.Prelude.{neg_ℤ, ◌+ℤ◌, ◌*ℤ◌, All, Any, Some}
 use Rattle.std.specs.Int.{◌∣◌}
 use Rattle.frac_core.specs.Fraction as fractions
@@ -7,9 +7,9 @@ use Rattle.row_core.specs.Rows.{Term, coefficient, IsKeptRow}
 use Rattle.problem_core.specs.declared.parts.Mark.{Mark}
 use Rattle.problem_core.specs.declared.parts.RowName.{RowName}
 use Rattle.problem_core.specs.declared.parts.RowName.TheVariants.{Held}
-use Rattle.problem_core.specs.declared.stops.TableStop.{TableStop}
-use Rattle.problem_core.specs.declared.stops.TableStop.TheVariants.{OutOfMemory as NoMemory}
-use Rattle.problem_core.specs.Layout.{Problem, Row, lines}
+use Rattle.problem_core.specs.Stops.{TableStop}
+use Rattle.frac_core.specs.declared.memory.Stop.TheVariants.{OutOfMemory as NoMemory}
+use Rattle.problem_core.specs.Layout.{Problem, Row, lines, rank_level}
 use Rattle.problem_core.specs.Begins.{without_marks}
 use Rattle.problem_core.specs.Levels.{AreFitting, HasNoLevelWriting, IsCostAt}
 use Rattle.corner_laws.specs.Units.{IsLevelRow, IsLevelUnit, IsReducedBy}
@@ -18,7 +18,7 @@ use Rattle.corner_lines.specs.LevelFits.{IsFittingRow}
 use Rattle.corner_lines.specs.LevelJoins.{level_count}
 use Rattle.corner_lines.specs.LevelRows.{HasLevelRow}
 use Rattle.corner_lines.specs.Removals.{without_row}
-use Rattle.corner.specs.declared.fitting.Draft.{Draft}
+use Rattle.corner.specs.declared.levels.fitting.Draft.{Draft}
 use Rattle.corner.specs.declared.leaving.Leaver.{Leaver}
 use Rattle.corner.specs.declared.leaving.Left.{Left}
 use Rattle.corner.specs.Tables.{Lists, entry, line_slot, marks_at, priority_at, problem_of, slot_at}
@@ -34,7 +34,7 @@ pub record IsLeaver (t : Lists) (r : Row) (leaver : Leaver) : Type 0 where
   pub id_is : leaver.id ≡ r.id
   pub line_is : line_slot t (Held r.id) ≡ leaver.line
   pub side_is : (standing_at t leaver.line).side ≡ Some leaver.side
-  pub level_is : leaver.level ≡ 1000 - r.rank
+  pub level_is : leaver.level ≡ rank_level r.rank
 
 -- what is left of the problem, and of the marks inside
 abbrev pub problem_left : Lists → Leaver → Problem
@@ -100,7 +100,7 @@ IsLeftStop t leaver stop e = (e ≡ NoMemory) ⊎ ((e ≡ stop)
 
 -- the reduced costs of the level's other rows do
 abbrev pub AreLeftFitting : Lists → Draft → List Term → ℕ → List Row → Type 0
-AreLeftFitting t draft row id rows = All (λ r. 1000 - r.rank ≡ draft.level → r.id ≢ id
+AreLeftFitting t draft row id rows = All (λ r. rank_level r.rank ≡ draft.level → r.id ≢ id
     → IsFittingLine t draft row (line_slot t (Held r.id))) rows
 
 -- the row's scale, numbers and reduced costs do without the leaving row

@@ -4,13 +4,14 @@ use Rattle.std.specs.Prelude.{unsigned_abs, Some, None}
 use Rattle.std.specs.declared.option.Option.{Option}
 use Rattle.frac_core.specs.Fraction.{Fraction, IsRatio, sum_den, sum_num}
 use Rattle.row_core.specs.Rows.{combination}
+use Rattle.problem_core.specs.declared.limits.TheConstants.{REQUIRED}
 use Rattle.problem_core.specs.declared.parts.Level.TheVariants.{Priority as PriorityLevel}
 use Rattle.problem_core.specs.declared.parts.Side.{Side}
 use Rattle.problem_core.specs.declared.parts.Side.TheVariants.{Over}
 use Rattle.problem_core.specs.declared.stops.What.TheVariants.{Level as LevelOf}
 use Rattle.problem_core.specs.declared.stops.Quantity.TheVariants.{Plain}
-use Rattle.problem_core.specs.declared.stops.TableStop.{TableStop}
-use Rattle.problem_core.specs.declared.stops.TableStop.TheVariants.{UnfitAt}
+use Rattle.problem_core.specs.Stops.{TableStop}
+use Rattle.frac_core.specs.declared.memory.Stop.TheVariants.{Refused}
 use Rattle.corner_lines.specs.LineEquations.{sign_of}
 use Rattle.corner.specs.declared.exchange.Pivot.{Pivot}
 use Rattle.corner.specs.declared.levels.Pair.{Pair}
@@ -55,4 +56,4 @@ IsLevelValue t pivot l f = IsRatio f
 
 -- the stop names the level
 abbrev pub IsStopOf : ℕ → TableStop → Type 0
-IsStopOf l stop = stop ≡ UnfitAt (Plain (LevelOf (PriorityLevel (1000 - l))))
+IsStopOf l stop = stop ≡ Refused (Plain (LevelOf (PriorityLevel (REQUIRED - l))))

@@ -13,7 +13,7 @@ use Rattle.problem_core.specs.Layout.{lines}
 use Rattle.problem_core.specs.Certificates.{under_weight, over_weight}
 use Rattle.problem_core.specs.Levels.{IsLevelAt}
 use Rattle.corner_lines.specs.LineEquations.{sign_of}
-use Rattle.corner_lines.specs.LevelCosts.{most_weight}
+use Rattle.problem_core.specs.declared.limits.TheConstants.{WEIGHT_LIMIT}
 use Rattle.corner_lines.specs.StayLevels.{turned}
 use Rattle.corner.specs.declared.table.Slot.{Slot}
 use Rattle.corner.specs.declared.table.TheConstants.{LEVELS}
@@ -54,7 +54,7 @@ unit_at t w = cond (nat_lt w LEVELS) (priority_at t w).unit (pos 1)
 -- a line's slot and a unit
 pub record IsCounted (slot : Slot) (unit : ℤ) : Type 0 where
   pub weight_is : slot.weight ≡ pos (unsigned_abs slot.weight)
-  pub light : unsigned_abs slot.weight ≤ most_weight
+  pub light : unsigned_abs slot.weight ≤ WEIGHT_LIMIT
   pub scale_is : slot.scale ≡ pos (unsigned_abs slot.scale)
   pub scale_positive : 0 < unsigned_abs slot.scale
   pub unit_is : unit ≡ pos (unsigned_abs unit)
@@ -79,7 +79,7 @@ own_cost t slot side = own_at t slot.home *ℤ pos (count_of t slot side)
 
 -- less than the most weight times what no longer fits
 abbrev pub IsCost : ℤ → Type 0
-IsCost z = unsigned_abs z < PART_BOUND * most_weight
+IsCost z = unsigned_abs z < PART_BOUND * WEIGHT_LIMIT
 
 -- ---- a line's number at the level of a slot
 

@@ -1,5 +1,5 @@
 -- What the lists of a corner keep while rows that have joined it join the costs of their levels.
-use Rattle.std.specs.Prelude.{◌≡◌, ℕ, ◌+◌, ◌-◌, ◌*◌, ◌<◌, ◌≤◌, ◌++◌, nat_eq, List, [], ◌∷◌}
+use Rattle.std.specs.Prelude.{◌≡◌, ℕ, ◌+◌, ◌*◌, ◌<◌, ◌≤◌, ◌++◌, nat_eq, List, [], ◌∷◌}
 use Rattle.std.specs.Prelude.{filter, length, ℤ, pos, All}
 use Rattle.frac_core.specs.Fraction as fractions
 use Rattle.row_core.specs.Rows.{IsKeptRow}
@@ -7,9 +7,9 @@ use Rattle.problem_core.specs.declared.parts.Mark.{Mark}
 use Rattle.problem_core.specs.declared.parts.RowName.{RowName}
 use Rattle.problem_core.specs.declared.parts.Level.TheVariants.{Priority as PriorityLevel}
 use Rattle.problem_core.specs.declared.stops.Quantity.TheVariants.{Plain, Terms, Rows, Shifts}
-use Rattle.problem_core.specs.declared.stops.TableStop.{TableStop}
-use Rattle.problem_core.specs.declared.stops.TableStop.TheVariants.{UnfitAt, OutOfMemory as NoMemory}
-use Rattle.problem_core.specs.Layout.{Problem, Row, lines}
+use Rattle.problem_core.specs.Stops.{TableStop}
+use Rattle.frac_core.specs.declared.memory.Stop.TheVariants.{Refused, OutOfMemory as NoMemory}
+use Rattle.problem_core.specs.Layout.{Problem, Row, lines, rank_level}
 use Rattle.problem_core.specs.Kept.{IsWhole}
 use Rattle.problem_core.specs.Corners.{IsCorner, Point, SameMarks, StandsAt}
 use Rattle.problem_core.specs.Begins.{IsJoined}
@@ -82,11 +82,11 @@ pub record IsWithRow (r : Row) (old new : Lists) : Type 0 where
 
 -- want of memory, or a sum of the row's first terms that does not fit where it is over
 abbrev pub IsTermsStop : Lists → Row → TableStop → Type 0
-IsTermsStop t r (UnfitAt (Plain what)) = ⊥
-IsTermsStop t r (UnfitAt (Terms mark j)) = (mark ≡ over_mark r.id)
+IsTermsStop t r (Refused (Plain what)) = ⊥
+IsTermsStop t r (Refused (Terms mark j)) = (mark ≡ over_mark r.id)
     × IsUnfitTerms (with_row r (problem_of t)) (over_joined r (marks_at t)) mark j
-IsTermsStop t r (UnfitAt (Rows level j)) = ⊥
-IsTermsStop t r (UnfitAt (Shifts what j)) = ⊥
+IsTermsStop t r (Refused (Rows level j)) = ⊥
+IsTermsStop t r (Refused (Shifts what j)) = ⊥
 IsTermsStop t r NoMemory = Unit {0}
 
 -- ---- a row that has joined the corner joins its level
@@ -94,14 +94,14 @@ IsTermsStop t r NoMemory = Unit {0}
 -- the row is the next of its level
 abbrev pub IsNextRow : Lists → Row → Type 0
 IsNextRow t r = (before : List Row) × (after : List Row) × (t.rows ≡ before ++ (r ∷ after))
-    × ((priority_at t (1000 - r.rank)).rows
-    ≡ length (filter (λ s. nat_eq (1000 - s.rank) (1000 - r.rank)) before))
+    × ((priority_at t (rank_level r.rank)).rows
+    ≡ length (filter (λ s. nat_eq (rank_level s.rank) (rank_level r.rank)) before))
 
 -- want of memory, or the cost of the level's first rows, of which this is the last, that does not fit
 abbrev pub IsRowsStop : Lists → Row → TableStop → Type 0
-IsRowsStop t r (UnfitAt (Plain what)) = ⊥
-IsRowsStop t r (UnfitAt (Terms mark j)) = ⊥
-IsRowsStop t r (UnfitAt (Rows level j)) = (level ≡ PriorityLevel r.rank)
-    × (j ≡ (priority_at t (1000 - r.rank)).rows + 1) × IsUnfitRows (problem_of t) (marks_at t) level j
-IsRowsStop t r (UnfitAt (Shifts what j)) = ⊥
+IsRowsStop t r (Refused (Plain what)) = ⊥
+IsRowsStop t r (Refused (Terms mark j)) = ⊥
+IsRowsStop t r (Refused (Rows level j)) = (level ≡ PriorityLevel r.rank)
+    × (j ≡ (priority_at t (rank_level r.rank)).rows + 1) × IsUnfitRows (problem_of t) (marks_at t) level j
+IsRowsStop t r (Refused (Shifts what j)) = ⊥
 IsRowsStop t r NoMemory = Unit {0}

@@ -4,8 +4,8 @@ use Rattle.std.specs.Prelude.{◌≤ℤ◌, Some}
 use Rattle.frac_core.specs.Fraction.{Fraction}
 use Rattle.row_core.specs.Rows.{Term}
 use Rattle.problem_core.specs.declared.parts.RowName.{RowName}
-use Rattle.problem_core.specs.declared.stops.TableStop.{TableStop}
-use Rattle.problem_core.specs.declared.stops.TableStop.TheVariants.{UnfitAt, OutOfMemory as NoMemory}
+use Rattle.problem_core.specs.Stops.{TableStop}
+use Rattle.frac_core.specs.declared.memory.Stop.TheVariants.{Refused, OutOfMemory as NoMemory}
 use Rattle.problem_core.specs.Layout.{Row}
 use Rattle.problem_core.specs.declared.parts.Side.TheVariants.{Under, Over}
 use Rattle.corner.specs.declared.joining.Sum.{Sum}
@@ -42,12 +42,8 @@ pub record ArePushed (more : List Row) (old new : Lists) : Type 0 where
 
 -- where a quantity doesn't fit, the lists are as before
 abbrev pub AreAsBefore : Lists → Lists → TableStop → Type 0
-AreAsBefore old new (UnfitAt quantity) = new ≡ old
+AreAsBefore old new (Refused quantity) = new ≡ old
 AreAsBefore old new NoMemory = Unit {0}
-
-abbrev pub IsUnfitAt : TableStop → Type 0
-IsUnfitAt (UnfitAt quantity) = Unit {0}
-IsUnfitAt NoMemory = ⊥
 
 -- ---- the row's slot
 

@@ -9,8 +9,9 @@ use Rattle.problem_core.specs.declared.parts.Level.TheVariants.{Priority}
 use Rattle.problem_core.specs.declared.stops.What.{What}
 use Rattle.problem_core.specs.declared.stops.What.TheVariants.{Level as LevelOf}
 use Rattle.problem_core.specs.declared.stops.Quantity.TheVariants.{Plain}
-use Rattle.problem_core.specs.declared.stops.TableStop.{TableStop}
-use Rattle.problem_core.specs.declared.stops.TableStop.TheVariants.{UnfitAt, OutOfMemory as NoMemory}
+use Rattle.problem_core.specs.Stops.{TableStop}
+use Rattle.frac_core.specs.declared.memory.Stop.TheVariants.{Refused, OutOfMemory as NoMemory}
+use Rattle.problem_core.specs.declared.limits.TheConstants.{REQUIRED}
 use Rattle.problem_core.specs.Layout.{Problem, Row}
 use Rattle.problem_core.specs.Window.{zero_fraction}
 use Rattle.corner_lines.specs.LineEquations.{sign_of}
@@ -81,7 +82,7 @@ IsGrowth old by more new = IsRatio new (sum_num old by.n by.d more) (sum_den old
 
 -- what the slot is of: a level, an attribute, or an inside line's mark
 abbrev pub IsThere : Lists → ℕ → What → Type 0
-IsThere t w what = (w < LEVELS → what ≡ LevelOf (Priority (1000 - w))) × (LEVELS ≤ w → IsWhatAt t w what)
+IsThere t w what = (w < LEVELS → what ≡ LevelOf (Priority (REQUIRED - w))) × (LEVELS ≤ w → IsWhatAt t w what)
 
 -- the slot's value has grown
 abbrev pub IsGrown : Lists → ℕ → Growth → Fraction → Lists → Type 0
@@ -91,7 +92,7 @@ IsGrown old w by more new = (value : Fraction) × IsKept value
 
 -- want of memory, or what the slot's value would grow to does not fit
 abbrev pub IsGrowStop : Lists → ℕ → Growth → Fraction → TableStop → Type 0
-IsGrowStop old w by more (UnfitAt quantity) = (what : What) × IsThere old w what × (quantity ≡ Plain what)
+IsGrowStop old w by more (Refused quantity) = (what : What) × IsThere old w what × (quantity ≡ Plain what)
     × IsUnfitRatio (sum_num (standing_at old w).value by.n by.d more)
     (sum_den (standing_at old w).value by.d more)
 IsGrowStop old w by more NoMemory = Unit {0}
@@ -148,7 +149,7 @@ HaveGrown t line more new = AreGrown t line more new.standings × (new ≡ with_
 
 -- want of memory, or what a slot's value grows to does not fit
 abbrev pub IsLineStop : Lists → ℕ → Fraction → TableStop → Type 0
-IsLineStop t line more (UnfitAt quantity) = (w : ℕ) × (what : What) × (w < length t.slots)
+IsLineStop t line more (Refused quantity) = (w : ℕ) × (what : What) × (w < length t.slots)
     × ((growth_at t line w).n ≢ pos 0) × IsThere t w what × (quantity ≡ Plain what)
     × IsUnfitRatio (sum_num (standing_at t w).value (growth_at t line w).n (growth_at t line w).d more)
     (sum_den (standing_at t w).value (growth_at t line w).d more)

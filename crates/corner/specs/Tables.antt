@@ -1,12 +1,12 @@
 -- The lists in which a corner is kept, and what is read of them.
-use Rattle.std.specs.Prelude.{◌≡◌, ◌≢◌, ◌↔◌, ◌⊎◌, ℕ, ◌+◌, ◌-◌, ◌<◌, ◌≤◌, AllPairs, Contains, Bool, true}
+use Rattle.std.specs.Prelude.{◌≡◌, ◌≢◌, ◌↔◌, ◌⊎◌, ℕ, ◌+◌, ◌<◌, ◌≤◌, AllPairs, Contains, Bool, true}
 use Rattle.std.specs.Prelude.{false, cond, nat_eq, List, [], ◌∷◌, ◌++◌, map, filter, ℤ, pos, neg_ℤ}
 use Rattle.std.specs.Prelude.{slice_index_or}
 use Rattle.std.specs.declared.option.Option.{Option}
 use Rattle.std.specs.Prelude.{Some, None}
 use Rattle.row_core.specs.Rows.{Term, coefficient}
 use Rattle.indexed_rows.specs.Lists.{HasColumn}
-use Rattle.problem_core.specs.Layout.{Row, Problem, lines}
+use Rattle.problem_core.specs.Layout.{Row, Problem, lines, rank_level}
 use Rattle.problem_core.specs.Window.{zero_fraction}
 use Rattle.problem_core.specs.Corners.{marks_of}
 use Rattle.problem_core.specs.Unfit.{over_mark}
@@ -101,7 +101,7 @@ line_slot t (StayOf attr) = attr_slot t attr + 1
 
 -- the slot whose row is the level's cost: of a stay's that of the stay
 abbrev pub level_slot : Lists → Level → ℕ
-level_slot t (Priority rank) = 1000 - rank
+level_slot t (Priority rank) = rank_level rank
 level_slot t (StayLevel attr) = attr_slot t attr + 1
 
 abbrev pub what_slot : Lists → What → ℕ

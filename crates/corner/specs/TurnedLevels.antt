@@ -8,7 +8,7 @@ use Rattle.row_core.specs.Rows.{IsKeptRow, coefficient, combination}
 use Rattle.indexed_rows.specs.Matrices.{IsBelow}
 use Rattle.problem_core.specs.declared.parts.Side.{Side}
 use Rattle.problem_core.specs.declared.parts.Side.TheVariants.{Under, Over}
-use Rattle.problem_core.specs.declared.stops.TableStop.{TableStop}
+use Rattle.problem_core.specs.Stops.{TableStop}
 use Rattle.problem_core.specs.Corners.{Swap}
 use Rattle.corner_lines.specs.LineEquations.{other_side, sign_of}
 use Rattle.corner.specs.declared.exchange.Change.{Change}

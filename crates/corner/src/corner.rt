@@ -8,8 +8,9 @@ ghost use Rattle.problem_core.specs.Kept.{IsWhole, IsNumber};
 ghost use Rattle.problem_core.specs.Corners as corners;
 ghost use Rattle.problem_core.specs.Corners.{IsExchange, IsIn, NoNegativeValue, SameMarks, attr_column};
 ghost use Rattle.problem_core.specs.Corners.{Swap, exchanged};
-ghost use Rattle.problem_core.specs.declared.stops.TableStop.TheVariants.{OutOfMemory as NoMemory};
+ghost use Rattle.frac_core.specs.declared.memory.Stop.TheVariants.{OutOfMemory as NoMemory};
 ghost use Rattle.problem_core.specs.Begins.{BeginsWith, without_marks};
+ghost use Rattle.problem_core.specs.declared.limits.TheConstants.{ROW_LIMIT};
 ghost use Rattle.problem_core.specs.Layout as layout;
 ghost use Rattle.problem_core.specs.declared.parts.RowName.TheVariants as row_names;
 ghost use Rattle.problem_core.specs.Levels.{IsCostAt, IsLevelAt};
@@ -43,27 +44,27 @@ ghost use Rattle.corner.specs.Tables.{Lists, lists_of, marks_at, problem_of};
 ghost use Rattle.corner.specs.Histories.{AreAlike, lists_before};
 ghost use Rattle.corner.specs.Invariants.{IsConsistent, IsEarlier, view_of};
 
-use crate::dropping::{drop_line, drop_stay, list_left};
+use crate::exchange::turning::{put_turn, turn_of};
 use crate::exchange::{exchange_of, put_exchange};
-use crate::growing::are_growers_dear;
 use crate::joining::{join_all, push_attr, stand_stays};
+use crate::leaving::dropping::{drop_line, drop_stay, list_left};
 use crate::leaving::{Leaver, Left, leaver_of, left_level};
+use crate::levels::growing::are_growers_dear;
 use crate::levels::{
     Front, Pair, cost_at, front_of, is_stronger, reduced_at, scale_at, times_at, used,
 };
 use crate::listing::Listed;
-use crate::lows::list_low;
+use crate::listing::lows::list_low;
 use crate::marking::marks_with;
 use crate::shifting::shift_row;
 use crate::slots::{attr_slot, level_slot, line_slot, name_at};
 use crate::table::{Table, back, forget, mark, new_table, rewind};
-use crate::turning::{put_turn, turn_of};
 use crate::writings::{
     attr_value, coefficient, denominator, entries_in, entry_in, is_inside, mark_value, mover,
     movers,
 };
 use cert_core::RunStop;
-use frac_core::{Frac, OutOfMemory};
+use frac_core::{Frac, OutOfMemory, Stop};
 use problem_core::{Level, Mark, Row, RowName, Side, Stay, TableStop, What};
 use std::alloc::Global;
 use std::marker::Model;
@@ -101,7 +102,7 @@ fn rewound(table: &mut Table, listed: &mut Listed) -> TableStop
     ensures rewound { IsRewound (view_of table.old listed.old) (view_of table.new listed.new) }
 {
     take_back(table, listed);
-    TableStop::OutOfMemory
+    Stop::OutOfMemory
 }
 
 // Exchanges an outside line's mark for an inside line's.
@@ -121,8 +122,8 @@ fn exchange_lines(table: &mut Table, listed: &mut Listed, pair: Pair) -> Result<
             Ok(()) => Ok(()),
             Err(OutOfMemory) => Err(rewound(table, listed)),
         },
-        Err(TableStop::OutOfMemory) => Err(rewound(table, listed)),
-        Err(TableStop::UnfitAt(quantity)) => Err(TableStop::UnfitAt(quantity)),
+        Err(Stop::OutOfMemory) => Err(rewound(table, listed)),
+        Err(Stop::Refused(quantity)) => Err(Stop::Refused(quantity)),
     }
 }
 
@@ -143,8 +144,8 @@ fn turn_line(table: &mut Table, listed: &mut Listed, line: u32, side: Side) -> R
             Ok(()) => Ok(()),
             Err(OutOfMemory) => Err(rewound(table, listed)),
         },
-        Err(TableStop::OutOfMemory) => Err(rewound(table, listed)),
-        Err(TableStop::UnfitAt(quantity)) => Err(TableStop::UnfitAt(quantity)),
+        Err(Stop::OutOfMemory) => Err(rewound(table, listed)),
+        Err(Stop::Refused(quantity)) => Err(Stop::Refused(quantity)),
     }
 }
 
@@ -187,8 +188,8 @@ fn take_row(table: &mut Table, listed: &mut Listed, leaver: Leaver) -> Result<()
             Ok(()) => Ok(()),
             Err(OutOfMemory) => Err(rewound(table, listed)),
         },
-        Err(TableStop::OutOfMemory) => Err(rewound(table, listed)),
-        Err(TableStop::UnfitAt(quantity)) => Err(TableStop::UnfitAt(quantity)),
+        Err(Stop::OutOfMemory) => Err(rewound(table, listed)),
+        Err(Stop::Refused(quantity)) => Err(Stop::Refused(quantity)),
     }
 }
 
@@ -249,7 +250,7 @@ impl Corner {
         ensures named { All (IsNamed self.now.problem) self.now.candidates }
         ensures before { All IsSettled self.now.before }
     {
-        let _ = &self.table;
+        let _ = &self.table; // for the proof: what a corner keeps
     }
 
     /// The rows, by rising number.
@@ -470,7 +471,7 @@ impl Corner {
 
     /// Exchanges an outside mark for an inside one that moves with it.
     ///
-    /// `UnfitAt` names what does not fit at the new corner, and the corner is as before. After want of memory
+    /// `Refused` names what does not fit at the new corner, and the corner is as before. After want of memory
     /// it is that of the newest mark.
     pub fn swap(&mut self, enter: Mark, leave: Mark) -> Result<(), TableStop>
         requires marked { 0 < length self.old.before }
@@ -505,7 +506,7 @@ impl Corner {
         requires marked { 0 < length self.old.before }
         requires number { IsNumber attr }
         requires fresh { HasStay self.old.problem.stays attr → ⊥ }
-        requires room { length self.old.problem.stays < 4096 }
+        requires room { length self.old.problem.stays < ROW_LIMIT }
         ensures problem { IfOk result (λ _. self.new.problem ≡ with_attr self.old.problem attr target) }
         ensures marks { IfOk result (λ _. self.new.marks ≡ self.old.marks) }
         ensures before { self.new.before ≡ self.old.before }
@@ -550,7 +551,7 @@ impl Corner {
     /// Gives a row this constant, whose difference from the row's own fits. The marks inside stay, and values
     /// may turn negative.
     ///
-    /// `UnfitAt` names a quantity that does not fit where the row has the new constant. After a stop the
+    /// `Refused` names a quantity that does not fit where the row has the new constant. After a stop the
     /// corner is that of the newest mark.
     pub fn shift(&mut self, id: u32, to: Frac) -> Result<(), TableStop>
         requires marked { 0 < length self.old.before }
@@ -574,7 +575,7 @@ impl Corner {
 
     /// Takes a row out whose mark is inside. The lines of its writing are listed if its mark costs.
     ///
-    /// `UnfitAt` names what does not fit without the row, and the corner is as before. After want of memory
+    /// `Refused` names what does not fit without the row, and the corner is as before. After want of memory
     /// it is that of the newest mark.
     pub fn drop_row(&mut self, id: u32) -> Result<(), TableStop>
         requires marked { 0 < length self.old.before }

@@ -1,4 +1,6 @@
 // Exchanges of an outside line for an inside one.
+pub(crate) mod turning;
+
 ghost use Rattle.std.specs.Prelude.{◌≡◌, ◌≢◌, ◌⊎◌, ◌<◌, ◌≤◌, ◌*ℤ◌, ◌<ℤ◌, neg_ℤ, ℕ, pos};
 ghost use Rattle.std.specs.Prelude.{true, length, false, unsigned_abs, IfOk, IfErr, OnOk, OnErr, Ok, Err};
 ghost use Rattle.std.specs.Prelude.{All};
@@ -6,12 +8,13 @@ ghost use Rattle.frac_core.specs.Fraction as fraction;
 ghost use Rattle.frac_core.specs.Fraction.{IsFitting, IsRatio, IsUnfitRatio, sum_den, sum_num};
 ghost use Rattle.problem_core.specs.Corners.{Swap};
 ghost use Rattle.problem_core.specs.declared.stops.Quantity.TheVariants.{Plain};
-ghost use Rattle.problem_core.specs.declared.stops.TableStop.TheVariants.{OutOfMemory as NoMemory, UnfitAt};
+ghost use Rattle.frac_core.specs.declared.memory.Stop.TheVariants.{OutOfMemory as NoMemory, Refused};
 ghost use Rattle.row_core.specs.Rows.{IsKeptRow, IsReduced, coefficient};
-ghost use Rattle.row_core.specs.declared.entry.RowStop.TheVariants.{Unfit};
+ghost use Rattle.frac_core.specs.declared.frac.Unfit as unfit_type;
+ghost use Rattle.frac_core.specs.declared.memory.Stop as stop_type;
+ghost use Rattle.frac_core.specs.Stops.{IsRefused};
 ghost use Rattle.indexed_rows.specs.Matrices.{IsBelow};
 ghost use Rattle.corner.specs.Histories.{AreAlike, lists_before};
-ghost use Rattle.row_core.specs.Combinations.{IsFactor};
 ghost use Rattle.corner.specs.LevelChanges as level_changes;
 ghost use Rattle.corner.specs.LevelNumbers.{IsCost, IsSlotOfLine};
 ghost use Rattle.corner.specs.Exchanges as exchanges;
@@ -29,8 +32,9 @@ ghost use Rattle.corner.specs.Tables as tables;
 ghost use Rattle.corner.specs.Tables.{IsSign, entry, lists_of, problem_of};
 ghost use Rattle.corner.specs.Touched.{AreLevelsPut, CountsWhereStands, IsPut};
 
-use crate::fitting::{Draft, does_level_fit};
+use crate::joining::product;
 use crate::levels::Pair;
+use crate::levels::fitting::{Draft, does_level_fit};
 use crate::listing::Listed;
 use crate::marking::list_row;
 use crate::slots::{
@@ -40,7 +44,7 @@ use crate::slots::{
 use crate::sums::sum;
 use crate::table::{Standing, Table};
 use crate::writings::what_sign;
-use frac_core::{Frac, OutOfMemory, PART_BOUND};
+use frac_core::{Frac, OutOfMemory, PART_BOUND, Stop};
 use problem_core::{Quantity, Side, TableStop, What};
 use row_core::{Col, Factors, IntRow, Patch, RowStop, combine, combine_but};
 
@@ -61,20 +65,21 @@ struct Pivot {
 }
 
 fn unfit(what: What) -> TableStop
-    ensures { result ≡ UnfitAt (Plain what) }
+    ensures { result ≡ Refused (Plain what) }
 {
-    TableStop::UnfitAt(Quantity::Plain(what))
+    Stop::Refused(Quantity::Plain(what))
 }
 
 /// The row, or the stop that says what it is of.
 pub(crate) fn named_row(made: Result<IntRow, RowStop>, stop: TableStop) -> Result<IntRow, TableStop>
     ensures ok { IfOk result (λ row. made ≡ Ok row) }
-    ensures err { IfErr result (λ e. (e ≡ NoMemory) ⊎ ((e ≡ stop) × (made ≡ Err Unfit))) }
+    ensures err { IfErr result (λ e. (e ≡ NoMemory)
+        ⊎ ((e ≡ stop) × ((s : stop_type.Stop unfit_type.Unfit) × (made ≡ Err s) × IsRefused s))) }
 {
     match made {
         Ok(row) => Ok(row),
-        Err(RowStop::Unfit) => Err(stop),
-        Err(RowStop::OutOfMemory) => Err(TableStop::OutOfMemory),
+        Err(Stop::Refused(_)) => Err(stop),
+        Err(Stop::OutOfMemory) => Err(Stop::OutOfMemory),
     }
 }
 
@@ -348,16 +353,6 @@ fn leaving_at(table: &Table, pivot: &Pivot, l: u32) -> i64
     own_of_level(table, l) * goes
 }
 
-// The product of two numbers that fit.
-fn product(a: i64, b: i64) -> i128
-    requires a { IsFitting a }
-    requires b { IsFitting b }
-    ensures value { result ≡ a *ℤ b }
-    ensures small { IsFactor result }
-{
-    i128::from(a) * i128::from(b)
-}
-
 // The row of a level in which the entering line is replaced by the leaving one's row.
 fn level_row(
     table: &Table,
@@ -483,7 +478,7 @@ fn push_change(table: &Table, pivot: &Pivot, w: u32, out: &mut Vec<Change>) -> R
         return Ok(());
     }
     let change = change_of(table, pivot, w)?;
-    out.push(change).map_err(|_| TableStop::OutOfMemory)
+    out.push(change).map_err(|_| Stop::OutOfMemory)
 }
 
 // Whether the level of a line is touched by what the line counts there, and not by its row.
@@ -524,7 +519,7 @@ fn push_level(table: &Table, pivot: &Pivot, l: u32, out: &mut Vec<Change>) -> Re
     ensures stop { IfErr result (IsPivotStop (lists_of table.now) pivot.now) }
 {
     let change = level_change(table, pivot, l)?;
-    out.push(change).map_err(|_| TableStop::OutOfMemory)
+    out.push(change).map_err(|_| Stop::OutOfMemory)
 }
 
 // Puts the change of a line's level behind the others where what the line counts there alone touches it. Two
@@ -757,8 +752,8 @@ fn put_lists(table: &mut Table, made: Exchange) -> Result<(), OutOfMemory>
 fn show_change(change: &Change)
     ensures { IsKeptChange change.now }
 {
-    let _ = change.row.entries();
-    let _ = change.value.num();
+    let _ = change.row.entries(); // for the proof: what a row keeps
+    let _ = change.value.num(); // for the proof: what a fraction keeps
 }
 
 fn show_changes(changes: &[Change])
@@ -792,7 +787,7 @@ pub(crate) fn put_exchange(
     ensures before { lists_before table.new ≡ lists_before table.old }
     ensures alike { AreAlike table.old → AreAlike table.new }
 {
-    show_exchange(&made);
+    show_exchange(&made); // for the proof: what rows and values keep
     let pair = made.pair;
     put_lists(table, made)?;
     listed.push(pair.leave)?;

@@ -6,7 +6,7 @@ ghost use Rattle.std.specs.Int.{IsGcd};
 ghost use Rattle.frac_core.specs.Fraction as fractions;
 ghost use Rattle.row_core.specs.Rows.{IsKeptRow, coefficient};
 ghost use Rattle.row_core.specs.Combinations.{IsFactor};
-ghost use Rattle.row_core.specs.declared.entry.RowStop.TheVariants.{Unfit};
+ghost use Rattle.frac_core.specs.Stops.{IsRefused};
 ghost use Rattle.problem_core.specs.Layout.{HasStay};
 ghost use Rattle.problem_core.specs.Corners.{NoNegativeValue};
 ghost use Rattle.problem_core.specs.Begins.{BeginsWith};
@@ -15,7 +15,7 @@ ghost use Rattle.problem_core.specs.Unfit.{first_terms, over_mark};
 ghost use Rattle.problem_core.specs.declared.parts.RowName.TheVariants.{Held};
 ghost use Rattle.problem_core.specs.declared.parts.Level.TheVariants.{Priority as PriorityLevel};
 ghost use Rattle.problem_core.specs.declared.stops.Quantity.TheVariants.{Rows, Terms};
-ghost use Rattle.problem_core.specs.declared.stops.TableStop.TheVariants.{UnfitAt};
+ghost use Rattle.frac_core.specs.declared.memory.Stop.TheVariants.{Refused};
 ghost use Rattle.corner_lines.specs.Joins.{with_row};
 ghost use Rattle.corner_lines.specs.LineEquations.{deviation as deviation_of};
 ghost use Rattle.corner.specs.Tables.{lists_of, marks_at, priority_at as level_at, problem_of, row_at};
@@ -26,7 +26,7 @@ ghost use Rattle.corner.specs.Invariants.{seen_of};
 ghost use Rattle.corner.specs.Kept.{AreSlots, IsKept};
 ghost use Rattle.corner.specs.Parts.{IsPartlyKept, IsTermsStop, IsWithRow};
 ghost use Rattle.corner.specs.RowJoins.{AreAsBefore, ArePushed, IsPlaced, IsPushed};
-ghost use Rattle.corner.specs.RowJoins.{IsStandingOf, IsUnfitAt};
+ghost use Rattle.corner.specs.RowJoins.{IsStandingOf};
 ghost use Rattle.corner.specs.RowSums.{AreTermFactors, IsSumRow, IsTermRow, IsTermValue};
 ghost use Rattle.corner.specs.RowSums.{IsUnfitTerm, term_of};
 ghost use Rattle.corner.specs.Joining.{IsStayForm, IsWithAttr, at_value, at_zero, slot_of_attr};
@@ -35,6 +35,7 @@ ghost use Rattle.corner.specs.Stood.{AreFirstStood, IsStoodAt, with_present};
 ghost use Rattle.std.specs.Prelude.{◌/◌, ◌*ℤ◌, ℤ, false, List, IfSome, IfNone};
 ghost use Rattle.frac_core.specs.declared.frac.TheConstants.{PART_BOUND};
 ghost use Rattle.indexed_rows.specs.Matrices.{IsBelow};
+ghost use Rattle.problem_core.specs.declared.limits.TheConstants.{REQUIRED, ROW_LIMIT};
 ghost use Rattle.problem_core.specs.Layout as layout;
 ghost use Rattle.problem_core.specs.Levels.{IsCostAt};
 ghost use Rattle.corner.specs.Histories.{AreAlike, lists_before};
@@ -48,20 +49,20 @@ ghost use Rattle.corner.specs.CostJoins.{IsJoinStop, IsLineStop, IsNextListed, I
 ghost use Rattle.corner.specs.CostJoins.{IsShareStop, IsSignedCount, IsUnfitRise, IsUnitStop, home_at};
 ghost use Rattle.corner.specs.CostJoins.{with_cost, with_next};
 
+use crate::exchange::turning::negated;
 use crate::exchange::{Change, named_row, named_sum, put_change};
-use crate::fitting::{Draft, does_level_fit};
 use crate::levels::Pair;
+use crate::levels::fitting::{Draft, does_level_fit};
 use crate::listing::Listed;
 use crate::marking::{list_row, path_stop};
 use crate::slots::{
-    attr_slot, costs, line_slot, own_of, priority_at, put_number, share, side_at, side_in, sign,
-    slot_at, value_at,
+    attr_slot, costs, line_slot, own_of, priority_at, priority_level, put_number, share, side_at,
+    side_in, sign, slot_at, value_at,
 };
 use crate::table::{Owner, Priority, Slot, Standing, Table, next_slot, push_slot};
-use crate::turning::negated;
 use cert_core::RunStop;
-use frac_core::{Frac, OutOfMemory, PART_BOUND, gcd};
-use problem_core::{Level, Mark, Quantity, Row, RowName, Side, Stay, TableStop, Term};
+use frac_core::{Frac, OutOfMemory, PART_BOUND, Stop, gcd};
+use problem_core::{Mark, Quantity, REQUIRED, Row, RowName, Side, Stay, TableStop, Term};
 use row_core::{Col, Factors, IntRow, Patch, RowStop, combine_but, combine_wide};
 use std::alloc::Global;
 
@@ -104,15 +105,15 @@ fn attr_row(alloc: Global, at: u32) -> Result<IntRow, OutOfMemory>
     let stay = IntRow::unit(alloc, Col(u64::from(at) + 1))?;
     match row_core::combine(alloc, &own, &stay, 1, -1) {
         Ok(row) => Ok(row),
-        Err(RowStop::Unfit) => unreachable!(),
-        Err(RowStop::OutOfMemory) => Err(OutOfMemory),
+        Err(Stop::Refused(_)) => unreachable!(),
+        Err(Stop::OutOfMemory) => Err(OutOfMemory),
     }
 }
 
 // Adds an attribute at this value and its stay, which is outside.
 fn place_attr(table: &mut Table, attr: u32, target: Frac) -> Result<(), OutOfMemory>
     requires kept { IsKept (lists_of table.old) }
-    requires room { length table.old.stays.items < 4096 }
+    requires room { length table.old.stays.items < ROW_LIMIT }
     ensures past { HasSameHistory table.old table.new }
     ensures lists { OnOk result (IsWithAttr attr target (lists_of table.old) (lists_of table.new)) }
 {
@@ -129,13 +130,13 @@ pub(crate) fn push_attr(table: &mut Table, attr: u32, target: Frac) -> Result<()
     requires kept { IsKept (lists_of table.old) }
     requires number { IsNumber attr }
     requires fresh { HasStay table.old.stays.items attr → ⊥ }
-    requires room { length table.old.stays.items < 4096 }
+    requires room { length table.old.stays.items < ROW_LIMIT }
     ensures past { HasSameHistory table.old table.new }
     ensures lists { OnOk result (IsWithAttr attr target (lists_of table.old) (lists_of table.new)) }
     ensures kept { OnOk result (IsKept (lists_of table.new)) }
     ensures value { fractions.IsKept target }
 {
-    let _ = target.den();
+    let _ = target.den(); // for the proof: what a fraction keeps
     place_attr(table, attr, target)?;
     Ok(())
 }
@@ -181,7 +182,8 @@ fn more_row(table: &Table, at: u32, sum: &IntRow, term: Term) -> Result<IntRow, 
     requires by { IsFitting term.by }
     requires own { pos 0 <ℤ coefficient at sum.now }
     ensures value { IfOk result (IsTermRow (lists_of table.now) at sum.now term) }
-    ensures unfit { IfErr result (λ stop. stop ≡ Unfit → IsUnfitTerm (lists_of table.now) at sum.now term) }
+    ensures unfit { IfErr result (λ stop. IsRefused stop
+        → IsUnfitTerm (lists_of table.now) at sum.now term) }
 {
     let a = attr_slot(table, term.attr);
     let factors = term_factors(sum.entry(Col(u64::from(at))), own_of(table, a), term.by);
@@ -196,13 +198,13 @@ fn more_row(table: &Table, at: u32, sum: &IntRow, term: Term) -> Result<IntRow, 
 // The sum of a row's first terms, with the row over.
 fn terms_stop(id: u32, first: usize) -> TableStop
     requires { first < 2 ^ 32 }
-    ensures { result ≡ UnfitAt (Terms (over_mark id) first) }
+    ensures { result ≡ Refused (Terms (over_mark id) first) }
 {
     let mark = Mark {
         row: RowName::Held(id),
         side: Side::Over,
     };
-    TableStop::UnfitAt(Quantity::Terms {
+    Stop::Refused(Quantity::Terms {
         mark,
         first: first as u32,
     })
@@ -324,7 +326,7 @@ fn slot_of(row: &Row) -> Slot
 {
     Slot {
         owner: Owner::Line(RowName::Held(row.id())),
-        home: 1000 - u32::from(row.rank()),
+        home: u32::from(REQUIRED - row.rank()),
         weight: i64::from(row.weight()),
         scale: row.scale(),
         rel: row.rel(),
@@ -447,7 +449,8 @@ fn share_factors(own: i64, line_own: i64, count: i64, times: i64) -> Factors
     }
 }
 
-// The row of a cost with a share of an inside line more, in the old unit.
+// The row of a cost with a share of an inside line more, in the old unit. It has six parameters, since count
+// and times go together nowhere else.
 fn with_share(
     table: &Table,
     old: &IntRow,
@@ -548,11 +551,11 @@ fn in_unit(
 
 // The number of rows of the line's level when it has joined, of which it is the last.
 fn rows_stop(slot: Slot, rows: u32) -> TableStop
-    requires { slot.home ≤ 1000 }
-    ensures { result ≡ UnfitAt (Rows (PriorityLevel (1000 - slot.home)) rows) }
+    requires { slot.home ≤ REQUIRED }
+    ensures { result ≡ Refused (Rows (PriorityLevel (REQUIRED - slot.home)) rows) }
 {
-    let level = Level::Priority((1000 - slot.home) as u16);
-    TableStop::UnfitAt(Quantity::Rows { level, first: rows })
+    let level = priority_level(slot.home);
+    Stop::Refused(Quantity::Rows { level, first: rows })
 }
 
 // What a line's mark of this side counts, unless its share doesn't fit.
@@ -696,7 +699,7 @@ fn rise_at(table: &Table, line: u32, stop: TableStop) -> Result<Rise, TableStop>
 fn put_cost(table: &mut Table, change: Change, unit: i64) -> Result<(), OutOfMemory>
     requires slots { AreSlots (lists_of table.old) }
     requires level { change.at < LEVELS }
-    requires few { (level_at (lists_of table.old) change.at).rows < 4096 }
+    requires few { (level_at (lists_of table.old) change.at).rows < ROW_LIMIT }
     requires below { IsBelow (length table.old.slots.items) change.row }
     ensures ok { OnOk result (lists_of table.new
         ≡ with_cost (lists_of table.old) change.at change.row change.value unit) }
@@ -785,12 +788,12 @@ pub(crate) fn stand_stays(table: &mut Table) -> Result<(), OutOfMemory>
 
 // The stop of a sum of a row's terms, where this row and those after it are still to join.
 fn added_stop(table: &Table, rest: &[Row], stop: TableStop) -> RunStop
-    requires slots { IsUnfitAt stop → AreSlots (lists_of table.now) }
+    requires slots { IsRefused stop → AreSlots (lists_of table.now) }
     ensures { IsPathStop (lists_of table.now) rest.now stop result }
 {
     match stop {
-        TableStop::UnfitAt(_) => path_stop(table, rest, stop),
-        TableStop::OutOfMemory => RunStop::OutOfMemory,
+        Stop::Refused(_) => path_stop(table, rest, stop),
+        Stop::OutOfMemory => RunStop::OutOfMemory,
     }
 }
 

@@ -1,10 +1,14 @@
 // A row that leaves the cost of its level.
+pub(crate) mod dropping;
+pub(crate) mod freeing;
+
 ghost use Rattle.std.specs.Prelude.{◌≡◌, ◌≢◌, ◌<◌, ◌≤◌, ◌-ℤ◌, ◌*ℤ◌, ◌<ℤ◌, ℕ, pos, true, false};
 ghost use Rattle.std.specs.Prelude.{unsigned_abs, [], ◌+◌, ◌-◌, Any, IfOk, IfErr};
 ghost use Rattle.frac_core.specs.Fraction.{IsFitting};
 ghost use Rattle.frac_core.specs.Fraction as fractions;
 ghost use Rattle.row_core.specs.Rows.{IsKeptRow};
 ghost use Rattle.row_core.specs.Combinations.{IsFactor};
+ghost use Rattle.problem_core.specs.declared.limits.TheConstants.{REQUIRED};
 ghost use Rattle.problem_core.specs.Layout as layout;
 ghost use Rattle.problem_core.specs.Levels.{IsCostAt};
 ghost use Rattle.problem_core.specs.Window.{zero_fraction};
@@ -12,7 +16,7 @@ ghost use Rattle.problem_core.specs.declared.parts.Level.TheVariants.{Priority a
 ghost use Rattle.problem_core.specs.declared.parts.RowName.TheVariants.{Held};
 ghost use Rattle.problem_core.specs.declared.stops.What.TheVariants.{Level as LevelOf};
 ghost use Rattle.problem_core.specs.declared.stops.Quantity.TheVariants.{Plain};
-ghost use Rattle.problem_core.specs.declared.stops.TableStop.TheVariants.{UnfitAt};
+ghost use Rattle.frac_core.specs.declared.memory.Stop.TheVariants.{Refused};
 ghost use Rattle.corner_laws.specs.Lifts.{HasOneIn};
 ghost use Rattle.corner.specs.Changes.{IsUnfitStop};
 ghost use Rattle.corner.specs.CostJoins.{AreShareFactors, IsLeastUnit};
@@ -24,15 +28,17 @@ ghost use Rattle.corner.specs.Tables as tables;
 ghost use Rattle.corner.specs.Tables.{lists_of, marks_at};
 
 use crate::exchange::{Change, named_row, named_sum, opposite};
-use crate::fitting::{
-    Draft, SMALL_SCALE, are_small, does_line_fit, is_fitting, level_at, scale_of,
-};
 use crate::joining::{common, over, product, risen};
 use crate::levels::Pair;
-use crate::slots::{cost_share, line_slot, own_of, priority_at, side_in, sign, slot_at, value_at};
+use crate::levels::fitting::{
+    Draft, SMALL_SCALE, are_small, does_line_fit, is_fitting, level_at, scale_of,
+};
+use crate::slots::{
+    cost_share, line_slot, own_of, priority_at, priority_level, side_in, sign, slot_at, value_at,
+};
 use crate::table::Table;
-use frac_core::Frac;
-use problem_core::{Level, Quantity, Row, RowName, Side, TableStop, What};
+use frac_core::{Frac, Stop};
+use problem_core::{Quantity, Row, RowName, Side, TableStop, What};
 use row_core::{Col, Factors, IntRow, Patch, combine_but};
 use std::alloc::Global;
 
@@ -264,10 +270,10 @@ fn does_left_fit(table: &Table, leaver: Leaver, unit: i64, row: &IntRow) -> bool
 
 // The cost of the level.
 fn level_stop(level: u32) -> TableStop
-    requires { level ≤ 1000 }
-    ensures { result ≡ UnfitAt (Plain (LevelOf (PriorityLevel (1000 - level)))) }
+    requires { level ≤ REQUIRED }
+    ensures { result ≡ Refused (Plain (LevelOf (PriorityLevel (REQUIRED - level)))) }
 {
-    TableStop::UnfitAt(Quantity::Plain(What::Level(Level::Priority((1000 - level) as u16))))
+    Stop::Refused(Quantity::Plain(What::Level(priority_level(level))))
 }
 
 // A level without rows.

@@ -1,4 +1,7 @@
 // What is read of the writings of the levels' costs.
+pub(crate) mod fitting;
+pub(crate) mod growing;
+
 ghost use Rattle.std.specs.Prelude.{◌≡◌, ◌*ℤ◌, ◌<◌, ◌≤◌, length, All, AllPairs, Contains, IfSome, IfNone};
 ghost use Rattle.std.specs.Prelude.{OnOk};
 ghost use Rattle.std.specs.Prelude.{ℕ, [], None, true, false, ◌↔◌};
@@ -18,7 +21,7 @@ ghost use Rattle.corner.specs.Views.{HasNoFront, IsFrontOf, IsInUse, IsLevelOf, 
 
 use crate::slots::{
     cost_share, is_level, is_stay, level_of, level_slot, line_slot, own_of, own_of_level,
-    priority_at, side_at, slot_at, unit_of, value_at,
+    priority_at, priority_level, side_at, slot_at, unit_of, value_at,
 };
 use crate::table::{LEVELS, Slot, Standing, Table};
 use frac_core::Frac;
@@ -281,7 +284,7 @@ pub(crate) fn used(table: &Table, out: &mut Vec<Level>) -> Result<(), frac_core:
 {
     for level in 0..LEVELS {
         if priority_at(table, level).rows > 0 {
-            out.push(Level::Priority((1000 - level) as u16))?;
+            out.push(priority_level(level))?;
         }
     }
     for stay in table.stays.as_slice() {

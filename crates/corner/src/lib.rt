@@ -43,30 +43,24 @@
 //! 0. [`Corner::swap`] is a pivot, for which the caller makes the ratio test.
 //!
 //! To read: `table` has the lists, each with its earlier versions; `slots` finds in them by name;
-//! `writings`, `levels` and `growing` read what is written of attributes, marks and costs; `listing` lists
-//! lines, and `lows` those with negative values; `marking` names the marks inside; `sums` adds, and
-//! `fitting` tells what fits; `turning` and `exchange` go to the next corner, `joining` to that of a larger
-//! problem, `leaving`, `freeing` and `dropping` to that of a smaller one, `shifting` to that with another
-//! constant; and `corner` is what callers use.
+//! `writings`, `levels` and `levels::growing` read what is written of attributes, marks and costs; `listing`
+//! lists lines, and `listing::lows` those with negative values; `marking` names the marks inside; `sums`
+//! adds, and `levels::fitting` tells what fits; `exchange` and `exchange::turning` go to the next corner,
+//! `joining` to that of a larger problem, `leaving`, with `leaving::freeing` and `leaving::dropping`, to that
+//! of a smaller one, `shifting` to that with another constant; and `corner` is what callers use.
 #![tactic(auto)]
 
 mod corner;
-mod dropping;
 mod exchange;
-mod fitting;
-mod freeing;
-mod growing;
 mod joining;
 mod leaving;
 mod levels;
 mod listing;
-mod lows;
 mod marking;
 mod shifting;
 mod slots;
 mod sums;
 mod table;
-mod turning;
 mod writings;
 
 pub use corner::Corner;

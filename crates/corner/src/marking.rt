@@ -12,7 +12,7 @@ use crate::listing::Listed;
 use crate::slots::{line_slot, side_at};
 use crate::table::{LEVELS, Table};
 use cert_core::{Path, RunStop, UnfitPath};
-use frac_core::OutOfMemory;
+use frac_core::{OutOfMemory, Stop};
 use problem_core::{Mark, Quantity, Row, RowName, Side, TableStop};
 
 // Puts the inside mark of a line behind the others, if it has one.
@@ -92,7 +92,7 @@ pub(crate) fn path_stop(table: &Table, rest: &[Row], stop: TableStop) -> RunStop
     requires slots { AreSlots (lists_of table.now) }
     ensures { IsPathStop (lists_of table.now) rest.now stop result }
 {
-    let TableStop::UnfitAt(quantity) = stop else {
+    let Stop::Refused(quantity) = stop else {
         return RunStop::OutOfMemory;
     };
     match unfit_path(table, rest, quantity) {

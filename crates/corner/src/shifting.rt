@@ -27,7 +27,7 @@ use crate::slots::{
 };
 use crate::table::Table;
 use crate::writings::what_sign;
-use frac_core::{Frac, OutOfMemory};
+use frac_core::{Frac, OutOfMemory, Stop};
 use problem_core::{Quantity, Row, RowName, Side, TableStop, What};
 use std::alloc::Global;
 
@@ -59,7 +59,7 @@ fn with_constant(alloc: Global, row: &Row, to: Frac) -> Result<Row, OutOfMemory>
     requires { IsRow row.now }
     ensures { IfOk result (λ r. r ≡ has_constant row.now.id to row.now) }
 {
-    row.show_row();
+    row.show_row(); // for the proof: what a row keeps
     Row::of(
         alloc,
         row.id(),
@@ -92,11 +92,11 @@ fn grow(table: &mut Table, w: u32, by: Growth, more: Frac, what: What) -> Result
     ensures before { lists_before table.new ≡ lists_before table.old }
     ensures alike { AreAlike table.old → AreAlike table.new }
 {
-    let stop = TableStop::UnfitAt(Quantity::Plain(what));
+    let stop = Stop::Refused(Quantity::Plain(what));
     let value = named_sum(value_at(table, w), by.n, by.d, more, stop)?;
     match put_value(table, w, value) {
         Ok(()) => Ok(()),
-        Err(OutOfMemory) => Err(TableStop::OutOfMemory),
+        Err(OutOfMemory) => Err(Stop::OutOfMemory),
     }
 }
 
@@ -300,13 +300,13 @@ pub(crate) fn shift_row(table: &mut Table, id: u32, to: Frac) -> Result<(), Tabl
     ensures before { lists_before table.new ≡ lists_before table.old }
     ensures alike { AreAlike table.old → AreAlike table.new }
 {
-    let _ = to.den();
+    let _ = to.den(); // for the proof: what a fraction keeps
     let at = row_place(table, id);
     let more = difference(table.rows.get(at).constant(), to);
     let line = line_slot(table, RowName::Held(id));
     grow_line(table, line, more)?;
     match put_constant(table, at, to) {
         Ok(()) => Ok(()),
-        Err(OutOfMemory) => Err(TableStop::OutOfMemory),
+        Err(OutOfMemory) => Err(Stop::OutOfMemory),
     }
 }

@@ -3,6 +3,7 @@ ghost use Rattle.std.specs.Prelude.{◌≡◌, ◌<◌, ◌≤◌, ◌-◌, ◌*
 ghost use Rattle.std.specs.Prelude.{ℕ, ℤ, pos, cond, length, slice_index_or, true, unsigned_abs, Some, OnOk};
 ghost use Rattle.frac_core.specs.Fraction.{IsFitting};
 ghost use Rattle.problem_core.specs.Layout.{HasStay};
+ghost use Rattle.problem_core.specs.declared.limits.TheConstants.{REQUIRED};
 ghost use Rattle.problem_core.specs.declared.parts.RowName as row_type;
 ghost use Rattle.problem_core.specs.declared.parts.RowName.TheVariants as row_names;
 ghost use Rattle.problem_core.specs.declared.parts.Level.TheVariants as level_names;
@@ -21,7 +22,7 @@ ghost use Rattle.corner_lines.specs.LineEquations.{sign_of, other_side};
 
 use crate::table::{ABSENT, LEVELS, Owner, Priority, Slot, Table};
 use frac_core::{Frac, OutOfMemory};
-use problem_core::{Level, Mark, Rel, RowName, Side, What};
+use problem_core::{Level, Mark, REQUIRED, Rel, RowName, Side, What};
 use version_list::VersionList;
 
 /// The slot under a number.
@@ -79,7 +80,7 @@ pub(crate) fn level_slot(table: &Table, level: Level) -> u32
     ensures within { result < length table.now.slots.items }
 {
     match level {
-        Level::Priority(rank) => 1000 - u32::from(rank),
+        Level::Priority(rank) => u32::from(REQUIRED - rank),
         Level::Stay(attr) => attr_slot(table, attr) + 1,
     }
 }
@@ -140,6 +141,14 @@ pub(crate) fn is_stay(table: &Table, w: u32) -> bool
     matches!(slot_at(table, w).owner, Owner::Line(RowName::Stay(_)))
 }
 
+/// The priority level of a slot.
+pub(crate) fn priority_level(w: u32) -> Level
+    requires { w ≤ REQUIRED }
+    ensures { result ≡ level_names.Priority (REQUIRED - w) }
+{
+    Level::Priority(REQUIRED - w as u16)
+}
+
 /// The name of a level by its slot.
 pub(crate) fn level_of(table: &Table, w: u32) -> Level
     requires slots { AreSlots (lists_of table.now) }
@@ -149,11 +158,11 @@ pub(crate) fn level_of(table: &Table, w: u32) -> Level
     ensures stay { (attr : ℕ)
         → (tables.slot_at (lists_of table.now) w).owner ≡ owner_type.Line (row_names.Stay attr)
         → result ≡ level_names.Stay attr }
-    ensures priority { w < LEVELS → result ≡ level_names.Priority (1000 - w) }
+    ensures priority { w < LEVELS → result ≡ level_names.Priority (REQUIRED - w) }
 {
     match slot_at(table, w).owner {
         Owner::Line(RowName::Stay(attr)) => Level::Stay(attr),
-        _ => Level::Priority((1000 - w) as u16),
+        _ => priority_level(w),
     }
 }
 
@@ -168,7 +177,7 @@ pub(crate) fn what_at(table: &Table, w: u32, side: Side) -> What
         → result ≡ what_type.Mark (record { row = name; side = side }) }
 {
     match slot_at(table, w).owner {
-        Owner::Level => What::Level(Level::Priority(1000)),
+        Owner::Level => What::Level(Level::Priority(REQUIRED)),
         Owner::Attr(attr) => What::Attr(attr),
         Owner::Line(row) => What::Mark(Mark { row, side }),
     }

@@ -9,14 +9,14 @@ ghost use Rattle.corner.specs.Joining.{HasNoPast, with_level, with_slot};
 
 use frac_core::{Frac, OutOfMemory};
 use indexed_rows::IndexedRows;
-use problem_core::{Rel, Row, RowName, Side, Stay};
+use problem_core::{REQUIRED, Rel, Row, RowName, Side, Stay};
 use row_core::IntRow;
 use std::alloc::Global;
 use version_list::VersionList;
 
 /// The first slots are those of the priority levels, by number; those from here on are in the order in
 /// which they came.
-pub(crate) const LEVELS: u32 = 1001;
+pub(crate) const LEVELS: u32 = REQUIRED as u32 + 1;
 
 /// The slot of a number that has none.
 pub(crate) const ABSENT: u32 = 0;

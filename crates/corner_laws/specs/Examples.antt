@@ -1,5 +1,6 @@
 -- Small problems for the words of corners: one attribute with its stay at 0, and one required row `x >= k`.
 use Rattle.std.specs.Prelude.{ℕ, [], ◌∷◌, pos}
+use Rattle.problem_core.specs.declared.limits.TheConstants.{REQUIRED}
 use Rattle.problem_core.specs.declared.parts.Mark.{Mark}
 use Rattle.problem_core.specs.declared.parts.Side.TheVariants.{Under, Over}
 use Rattle.problem_core.specs.declared.parts.Rel.TheVariants.{Eq, Ge}
@@ -9,7 +10,7 @@ use Rattle.problem_core.specs.Layout.{Problem, Row}
 abbrev pub at_least : ℕ → Row
 at_least k = record {
   id = 1;
-  rank = 1000;
+  rank = REQUIRED;
   weight = 1;
   rel = Ge;
   scale = 1;
@@ -20,7 +21,7 @@ at_least k = record {
 abbrev pub equal_five : Row
 equal_five = record {
   id = 2;
-  rank = 1000;
+  rank = REQUIRED;
   weight = 1;
   rel = Eq;
   scale = 1;

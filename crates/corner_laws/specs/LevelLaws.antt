@@ -1,7 +1,9 @@
 -- What holds of the writings of levels' costs.
-use Rattle.std.specs.Prelude.{◌≡◌, ◌<◌, ◌*◌, ◌-◌, ◌^◌, nat_eq, ℕ, List, length, ℤ, pos, ◌*ℤ◌, ◌≤◌, All}
+use Rattle.std.specs.Prelude.{◌≡◌, ◌<◌, ◌*◌, ◌/◌, nat_eq, ℕ, List, length, ℤ, pos, ◌*ℤ◌, ◌≤◌, All}
 use Rattle.std.specs.Prelude.{unsigned_abs}
-use Rattle.problem_core.specs.Layout.{IsProblem, Problem, Row, lines, Line}
+use Rattle.frac_core.specs.declared.frac.TheConstants.{PART_BOUND}
+use Rattle.problem_core.specs.declared.limits.TheConstants.{COEFFICIENT_LIMIT}
+use Rattle.problem_core.specs.Layout.{IsProblem, Problem, Row, lines, Line, rank_level}
 use Rattle.problem_core.specs.Kept.{IsWhole}
 use Rattle.problem_core.specs.Certificates.{Multipliers}
 use Rattle.problem_core.specs.Corners.{AreMultipliersAt, IsCorner, IsIn, place_of}
@@ -54,7 +56,7 @@ UnfitFromLevel = (p : Problem) (at : List Mark) (level scale : ℕ) (times : Row
 abbrev pub RowsLift : Type 0
 RowsLift = (p : Problem) (rest : List Row) (at joined : List Mark) (level : Level) (k j : ℕ)
     → IsProblem (with_rows rest p) → IsLevelAt (with_rows rest p) level k → 1 ≤ j
-    → j ≡ length (filter (λ r. nat_eq (1000 - r.rank) k) p.rows) → AreJoined p at joined
+    → j ≡ length (filter (λ r. nat_eq (rank_level r.rank) k) p.rows) → AreJoined p at joined
     → All (HasOneIn joined) rest → HasNoLevelWriting p at k → IsUnfitRows (with_rows rest p) joined level j
 
 -- a level's row in lowest terms gives the level's writing in joint lowest terms: its scale is the row's own
@@ -87,12 +89,19 @@ LevelFits = (p : Problem) (at : List Mark) (level unit own : ℕ) (by : RowName 
     → IsLevelRow p at level unit own by → IsReducedBy p level unit own by reduced
     → AreFittingThere p at level (own * unit) by reduced → AreFitting p (own * unit) by reduced
 
--- they fit where its scale is below 2^30 and the outside lines' multipliers are below 2^41
+-- a scale below it, and multipliers below half the bound of what fits, leave room for each reduced cost
+abbrev pub small_scale : ℕ
+small_scale = COEFFICIENT_LIMIT
+
+abbrev pub small_number : ℕ
+small_number = PART_BOUND / 2
+
+-- they fit where its scale and the outside lines' multipliers are small
 abbrev pub SmallLevelFits : Type 0
 SmallLevelFits = (p : Problem) (at : List Mark) (level unit own : ℕ) (by : RowName → ℤ) (reduced : ℕ → ℤ)
     → IsWhole p → IsLevelRow p at level unit own by → IsReducedBy p level unit own by reduced
-    → own * unit < 2 ^ 30 → All (λ l. (IsIn (place_of l.name Under) at → ⊥)
-    → (IsIn (place_of l.name Over) at → ⊥) → unsigned_abs (by l.name) < 2 ^ 41) (lines p)
+    → own * unit < small_scale → All (λ l. (IsIn (place_of l.name Under) at → ⊥)
+    → (IsIn (place_of l.name Over) at → ⊥) → unsigned_abs (by l.name) < small_number) (lines p)
     → AreFitting p (own * unit) by reduced
 
 -- at a corner each level has multipliers

@@ -33,8 +33,10 @@ use Rattle.corner_laws.proofs.Unique.{same-name}
 use Rattle.corner_laws.proofs.ZeroColumns.{not-in}
 use Rattle.corner_lines.specs.LineEquations.{IsOutsideLine}
 use Rattle.corner_lines.specs.LevelRows.{HasLevelRow, IsDividedRow, inside_number, reduced_number}
-use Rattle.corner_lines.specs.LevelCosts.{AreDifferent, IsSound, most_weight}
-use Rattle.corner_lines.specs.LevelFits.{FittingRowHasWriting, SmallRowFits, small_number, small_scale, UnfitMultipleHasNoWriting, UnfitRowHasNoWriting}
+use Rattle.corner_lines.specs.LevelCosts.{AreDifferent, IsSound}
+use Rattle.problem_core.specs.declared.limits.TheConstants.{WEIGHT_LIMIT}
+use Rattle.corner_lines.specs.LevelFits.{FittingRowHasWriting, SmallRowFits, UnfitMultipleHasNoWriting, UnfitRowHasNoWriting}
+use Rattle.corner_laws.specs.LevelLaws.{small_number, small_scale}
 use Rattle.corner_lines.proofs.LevelDivided.{divided-same, divided_row_is_row, outside-false, quotient}
 use Rattle.corner_lines.proofs.LineSums.{mul-opp}
 use Rattle.corner_lines.proofs.LevelExchanges.{inside-numbers}
@@ -341,14 +343,14 @@ unfit_multiple_has_no_writing p at level unit own by number sound rays is mult s
 quotient-most : (unit w k most : ℕ) → 0 < k → w ≤ most → unit * w / k ≤ unit * most
 quotient-most unit w k most above le = le_trans (div-le_self (unit * w) k) (mul-le-mul (le_refl unit) le)
 
-weight-most : (l : Line) (level : ℕ) → l.weight ≤ most_weight → weight_at l level ≤ most_weight
+weight-most : (l : Line) (level : ℕ) → l.weight ≤ WEIGHT_LIMIT → weight_at l level ≤ WEIGHT_LIMIT
 weight-most l level le = elim (cases_Bool (nat_eq l.level level)) [
-  | inl e ↦ subst (λ (b : Bool). cond b l.weight 0 ≤ most_weight) (sym e) le
-  | inr e ↦ subst (λ (b : Bool). cond b l.weight 0 ≤ most_weight) (sym e) (omega arith)
+  | inl e ↦ subst (λ (b : Bool). cond b l.weight 0 ≤ WEIGHT_LIMIT) (sym e) le
+  | inr e ↦ subst (λ (b : Bool). cond b l.weight 0 ≤ WEIGHT_LIMIT) (sym e) (omega arith)
 ]
 
-share-most : (unit level : ℕ) (l : Line) → 0 < l.scale → l.weight ≤ most_weight → unit * weight_at l level / l.scale ≤ unit * most_weight
-share-most unit level l above le = quotient-most unit (weight_at l level) l.scale most_weight above (weight-most l level le)
+share-most : (unit level : ℕ) (l : Line) → 0 < l.scale → l.weight ≤ WEIGHT_LIMIT → unit * weight_at l level / l.scale ≤ unit * WEIGHT_LIMIT
+share-most unit level l above le = quotient-most unit (weight_at l level) l.scale WEIGHT_LIMIT above (weight-most l level le)
 
 under-most : (rel : Rel) (u m : ℕ) → u ≤ m → under_weight rel u ≤ m
 under-most Eq u m le = le
@@ -360,9 +362,9 @@ over-most Eq u m le = le
 over-most Ge u m le = omega arith
 over-most Le u m le = le
 
-own-most : (own unit u : ℕ) → u ≤ unit * most_weight → own * unit < small_scale → own * u < 2 ^ 40
+own-most : (own unit u : ℕ) → u ≤ unit * WEIGHT_LIMIT → own * unit < small_scale → own * u < 2 ^ 40
 own-most own unit u le small =
-    let a : own * u ≤ own * (unit * most_weight) = mul-le-mul (le_refl own) le in
+    let a : own * u ≤ own * (unit * WEIGHT_LIMIT) = mul-le-mul (le_refl own) le in
     omega (arith, a, small)
 
 below-plus : (a : ℕ) (y : ℤ) → a < 2 ^ 40 → unsigned_abs y < small_number → (unsigned_abs (pos a -ℤ y) < 2 ^ 42) × (unsigned_abs (pos a +ℤ y) < 2 ^ 42)
@@ -378,10 +380,10 @@ record Small (level unit own : ℕ) (l : Line) : Type 0 where
   under : own * under_share unit level l < 2 ^ 40
   over : own * over_share unit level l < 2 ^ 40
 
-small-line : (level unit own : ℕ) (l : Line) → own * unit < small_scale → 0 < l.scale → l.weight ≤ most_weight → Small level unit own l
+small-line : (level unit own : ℕ) (l : Line) → own * unit < small_scale → 0 < l.scale → l.weight ≤ WEIGHT_LIMIT → Small level unit own l
 small-line level unit own l small above le = record {
-  under = own-most own unit (under_share unit level l) (under-most l.rel (unit * weight_at l level / l.scale) (unit * most_weight) (share-most unit level l above le)) small;
-  over = own-most own unit (over_share unit level l) (over-most l.rel (unit * weight_at l level / l.scale) (unit * most_weight) (share-most unit level l above le)) small;
+  under = own-most own unit (under_share unit level l) (under-most l.rel (unit * weight_at l level / l.scale) (unit * WEIGHT_LIMIT) (share-most unit level l above le)) small;
+  over = own-most own unit (over_share unit level l) (over-most l.rel (unit * weight_at l level / l.scale) (unit * WEIGHT_LIMIT) (share-most unit level l above le)) small;
 }
 
 small-reduced : (side : Side) (level unit own : ℕ) (y : ℤ) (l : Line) → Small level unit own l → unsigned_abs y < small_number → IsFitting (reduced_number side level unit own y l)
@@ -395,7 +397,7 @@ small-inside Over level unit own l s = small-neg (own * over_share unit level l)
 pub small_row_fits : SmallRowFits
 small_row_fits p at level unit own number sound small numbers =
     let each : Each (Small level unit own) (lines p) =
-    each-impl (λ l. ((0 < l.scale) × (0 < l.den)) × (l.weight ≤ most_weight)) _ (lines p) (λ l h. small-line level unit own l small h.0.0 h.1)
+    each-impl (λ l. ((0 < l.scale) × (0 < l.den)) × (l.weight ≤ WEIGHT_LIMIT)) _ (lines p) (λ l h. small-line level unit own l small h.0.0 h.1)
     (each-both _ _ (lines p) (recursion_from_All _ (lines p) sound.problem) (recursion_from_All _ (lines p) sound.weights)) in
     record {
       scale_fits = omega (arith, small);

@@ -14,7 +14,8 @@ use Rattle.problem_core.proofs.Wholes.{whole-IsProblem}
 use Rattle.problem_core.proofs.Forms.{each-impl}
 use Rattle.corner_laws.proofs.LevelSmall.{lines_light}
 use Rattle.corner_laws.proofs.LinePlaces.{AllApart, AreApart, lines_apart}
-use Rattle.corner_lines.specs.LevelCosts.{AreDifferent, FirstRowsAreSound, IsSound, WholeIsSound, most_weight}
+use Rattle.corner_lines.specs.LevelCosts.{AreDifferent, FirstRowsAreSound, IsSound, WholeIsSound}
+use Rattle.problem_core.specs.declared.limits.TheConstants.{WEIGHT_LIMIT}
 
 -- ---- names
 
@@ -27,7 +28,7 @@ apart-names (l ∷ ls) h = (All-from_recursion (λ m. l.name ≢ m) (map (λ (l 
     each-names n (l ∷ ls) h = (h.0, each-names n ls h.1)
 
 pub whole_is_sound : WholeIsSound
-whole_is_sound p whole = record { problem = whole-IsProblem p whole; names = apart-names (lines p) (lines_apart p whole); weights = All-from_recursion (λ l. l.weight ≤ most_weight) (lines p) (lines_light p whole) }
+whole_is_sound p whole = record { problem = whole-IsProblem p whole; names = apart-names (lines p) (lines_apart p whole); weights = All-from_recursion (λ l. l.weight ≤ WEIGHT_LIMIT) (lines p) (lines_light p whole) }
 
 -- ---- what does not see the weights
 
@@ -125,15 +126,15 @@ first-seen p level j = record {
   count = sym (light-count level j p.rows);
 }
 
-light-row : (b : Bool) (r : Row) → r.weight ≤ most_weight → (cond b (without_weight r) r).weight ≤ most_weight
+light-row : (b : Bool) (r : Row) → r.weight ≤ WEIGHT_LIMIT → (cond b (without_weight r) r).weight ≤ WEIGHT_LIMIT
 light-row true r h = omega arith
 light-row false r h = h
 
-either-light : (b : Bool) (x r : Row) (xs ys : List Row) (ls : List Line) → x.weight ≤ most_weight → r.weight ≤ most_weight → Each (λ l. l.weight ≤ most_weight) (map line_of_row xs ++ ls) → Each (λ l. l.weight ≤ most_weight) (map line_of_row ys ++ ls) → Each (λ l. l.weight ≤ most_weight) (map line_of_row (cond b (x ∷ xs) (r ∷ ys)) ++ ls)
+either-light : (b : Bool) (x r : Row) (xs ys : List Row) (ls : List Line) → x.weight ≤ WEIGHT_LIMIT → r.weight ≤ WEIGHT_LIMIT → Each (λ l. l.weight ≤ WEIGHT_LIMIT) (map line_of_row xs ++ ls) → Each (λ l. l.weight ≤ WEIGHT_LIMIT) (map line_of_row ys ++ ls) → Each (λ l. l.weight ≤ WEIGHT_LIMIT) (map line_of_row (cond b (x ∷ xs) (r ∷ ys)) ++ ls)
 either-light true x r xs ys ls e f h k = (e, h)
 either-light false x r xs ys ls e f h k = (f, k)
 
-all-light : (level j : ℕ) (rows : List Row) (ls : List Line) → Each (λ l. l.weight ≤ most_weight) (map line_of_row rows ++ ls) → Each (λ l. l.weight ≤ most_weight) (map line_of_row (lightened level j rows) ++ ls)
+all-light : (level j : ℕ) (rows : List Row) (ls : List Line) → Each (λ l. l.weight ≤ WEIGHT_LIMIT) (map line_of_row rows ++ ls) → Each (λ l. l.weight ≤ WEIGHT_LIMIT) (map line_of_row (lightened level j rows) ++ ls)
 all-light level j [] ls h = h
 all-light level j (r ∷ rows) ls h = either-light (nat_eq (1000 - r.rank) level) (cond (nat_eq j 0) (without_weight r) r) r (lightened level (j - 1) rows) (lightened level j rows) ls (light-row (nat_eq j 0) r h.0) h.0 (all-light level (j - 1) rows ls h.1) (all-light level j rows ls h.1)
 
@@ -145,7 +146,7 @@ first_rows_are_sound p at level j whole corner rays =
         problem = All-from_recursion (λ l. (0 < l.scale) × (0 < l.den)) (lines q)
             (seen-each (λ l. (l.scale, l.den)) (λ (u : ℕ × ℕ). (0 < u.0) × (0 < u.1)) (lines p) (lines q) (sym (seen-same (λ l. (l.scale, l.den)) (λ r. refl) level j p.rows (stay_lines 1001 p.stays))) (recursion_from_All _ (lines p) s.problem));
         names = subst AreDifferent (sym (seen-same (λ l. l.name) (λ r. refl) level j p.rows (stay_lines 1001 p.stays))) s.names;
-        weights = All-from_recursion (λ l. l.weight ≤ most_weight) (lines q) (all-light level j p.rows (stay_lines 1001 p.stays) (recursion_from_All (λ l. l.weight ≤ most_weight) (lines p) s.weights));
+        weights = All-from_recursion (λ l. l.weight ≤ WEIGHT_LIMIT) (lines q) (all-light level j p.rows (stay_lines 1001 p.stays) (recursion_from_All (λ l. l.weight ≤ WEIGHT_LIMIT) (lines p) s.weights));
       },
       same-corner p q at (first-seen p level j) corner,
       same-rays p q at (first-seen p level j) rays,

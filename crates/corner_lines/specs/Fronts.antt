@@ -7,7 +7,7 @@ use Rattle.problem_core.specs.declared.parts.RowName.{RowName}
 use Rattle.problem_core.specs.declared.parts.RowName.TheVariants.{Stay as StayOf}
 use Rattle.problem_core.specs.declared.parts.Stay.{Stay}
 use Rattle.problem_core.specs.declared.parts.Mark.{Mark}
-use Rattle.problem_core.specs.Layout.{IsProblem, Line, Problem, lines}
+use Rattle.problem_core.specs.Layout.{IsProblem, Line, Problem, first_stay_level, lines}
 use Rattle.problem_core.specs.Kept.{IsWhole}
 use Rattle.problem_core.specs.Certificates.{IsLexNonnegative, Multipliers}
 use Rattle.problem_core.specs.Corners.{AreMultipliersAt, HasNegativeColumn, NoNegativeColumn, Swap, column}
@@ -163,7 +163,7 @@ with_stay p s = record { rows = p.rows; stays = p.stays ++ (s ∷ []) }
 
 -- the level that the stay has
 abbrev pub next_level : Problem → ℕ
-next_level p = 1001 + length p.stays
+next_level p = first_stay_level + length p.stays
 
 -- at other levels units and rows are as before
 abbrev pub NewStayLeavesLevels : Type 0

@@ -1,6 +1,7 @@
 -- What a level costs after an exchange, a turn or a join.
 use Rattle.std.specs.Prelude.{◌≡◌, ◌≢◌, ℕ, ◌*◌, ◌<◌, ◌≤◌, List, [], ◌∷◌, map, ℤ, pos, ◌*ℤ◌, All, Any}
 use Rattle.frac_core.specs.Fraction.{Fraction, Fits, IsLowest, IsRatio, sum_den, sum_num}
+use Rattle.problem_core.specs.declared.limits.TheConstants.{WEIGHT_LIMIT}
 use Rattle.problem_core.specs.declared.parts.Side.{Side}
 use Rattle.problem_core.specs.declared.parts.RowName.{RowName}
 use Rattle.problem_core.specs.declared.parts.Mark.{Mark}
@@ -23,14 +24,10 @@ abbrev pub AreDifferent : List RowName → Type 0
 AreDifferent [] = Unit {0}
 AreDifferent (n ∷ ns) = All (λ m. n ≢ m) ns × AreDifferent ns
 
--- no weight is above that of a row
-abbrev pub most_weight : ℕ
-most_weight = 1000
-
 pub record IsSound (p : Problem) : Type 0 where
   pub problem : IsProblem p
   pub names : AreDifferent (map (λ l. l.name) (lines p))
-  pub weights : All (λ l. l.weight ≤ most_weight) (lines p)
+  pub weights : All (λ l. l.weight ≤ WEIGHT_LIMIT) (lines p)
 
 abbrev pub WholeIsSound : Type 0
 WholeIsSound = (p : Problem) → IsWhole p → IsSound p

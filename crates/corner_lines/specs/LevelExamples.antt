@@ -1,5 +1,6 @@
 -- Small instances: the row `x >= 2` with its under mark inside, and a stay of x at 0.
-use Rattle.std.specs.Prelude.{ℕ, ◌^◌, cond, nat_eq, List, [], ◌∷◌, ℤ, pos, negsuc, ◌<ℤ◌}
+use Rattle.std.specs.Prelude.{ℕ, cond, nat_eq, List, [], ◌∷◌, ℤ, pos, negsuc, ◌<ℤ◌}
+use Rattle.frac_core.specs.declared.frac.TheConstants.{PART_BOUND}
 use Rattle.frac_core.specs.Fraction.{Fraction}
 use Rattle.problem_core.specs.declared.parts.Mark.{Mark}
 use Rattle.problem_core.specs.declared.parts.Side.TheVariants.{Under}
@@ -36,7 +37,7 @@ SingleHasFront = AreLevelRows (single 2) below_two single_rows
 
 -- a row with a number 1 does not fit where its own number does not, and fits where that is 1
 abbrev pub SingleIsUnfit : Type 0
-SingleIsUnfit = IsUnfitRow (single 2) below_two (2 ^ 42) stay_falls
+SingleIsUnfit = IsUnfitRow (single 2) below_two PART_BOUND stay_falls
     × (IsUnfitRow (single 2) below_two 1 stay_falls → ⊥)
 
 abbrev pub whole_number : ℤ → Fraction
@@ -44,5 +45,5 @@ whole_number n = record { num = n; den = 1 }
 
 -- 0 and n times 1 over 1
 abbrev pub SumIsUnfit : Type 0
-SumIsUnfit = IsUnfitStep (whole_number (pos 0)) (pos (2 ^ 42)) 1 (whole_number (pos 1))
+SumIsUnfit = IsUnfitStep (whole_number (pos 0)) (pos PART_BOUND) 1 (whole_number (pos 1))
     × (IsUnfitStep (whole_number (pos 0)) (pos 1) 1 (whole_number (pos 1)) → ⊥)

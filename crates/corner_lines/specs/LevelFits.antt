@@ -1,5 +1,5 @@
 -- When what a level costs fits, told by its row.
-use Rattle.std.specs.Prelude.{◌≡◌, ℕ, ◌*◌, ◌^◌, ◌<◌, List, ℤ, pos, unsigned_abs, All}
+use Rattle.std.specs.Prelude.{◌≡◌, ℕ, ◌*◌, ◌<◌, List, ℤ, pos, unsigned_abs, All}
 use Rattle.frac_core.specs.Fraction.{Fraction, Fits, IsFitting, IsLowest}
 use Rattle.problem_core.specs.declared.parts.Side.{Side}
 use Rattle.problem_core.specs.declared.parts.RowName.{RowName}
@@ -8,6 +8,7 @@ use Rattle.problem_core.specs.Layout.{Problem, lines}
 use Rattle.problem_core.specs.Corners.{IsCorner, IsExchange, IsIn, Swap, place, place_of}
 use Rattle.problem_core.specs.Levels.{HasNoLevelWriting, IsCostAt}
 use Rattle.problem_core.specs.Rays.{HasRays}
+use Rattle.corner_laws.specs.LevelLaws.{small_number, small_scale}
 use Rattle.corner_laws.specs.Units.{IsLevelUnit}
 use Rattle.corner_lines.specs.LineEquations.{IsOutsideLine}
 use Rattle.corner_lines.specs.LevelRows.{HasLevelRow, IsLevelMultiple, IsUnfitRow, inside_number}
@@ -55,12 +56,6 @@ UnfitMultipleHasNoWriting = (p : Problem) (at : List Mark) (level unit own : ℕ
     → IsUnfitRow p at own number → HasNoLevelWriting p at level
 
 -- ---- numbers that fit without a look at each line
-
-abbrev pub small_scale : ℕ
-small_scale = 2 ^ 30
-
-abbrev pub small_number : ℕ
-small_number = 2 ^ 41
 
 abbrev pub SmallRowFits : Type 0
 SmallRowFits = (p : Problem) (at : List Mark) (level unit own : ℕ) (number : RowName → ℤ) → IsSound p

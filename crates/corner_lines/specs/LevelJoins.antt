@@ -1,12 +1,12 @@
 -- How a row joins the row of its level.
-use Rattle.std.specs.Prelude.{◌≡◌, ◌≢◌, ◌⊎◌, ℕ, ◌+◌, ◌-◌, ◌*◌, ◌/◌, ◌<◌, ◌≤◌, nat_eq, List, [], ◌∷◌, ◌++◌}
+use Rattle.std.specs.Prelude.{◌≡◌, ◌≢◌, ◌⊎◌, ℕ, ◌+◌, ◌*◌, ◌/◌, ◌<◌, ◌≤◌, nat_eq, List, [], ◌∷◌, ◌++◌}
 use Rattle.std.specs.Prelude.{length, ℤ, filter, pos, ◌*ℤ◌, neg_ℤ, All, Any}
 use Rattle.std.specs.Int.{◌∣◌, IsGcd}
 use Rattle.problem_core.specs.declared.parts.Side.{Side}
 use Rattle.problem_core.specs.declared.parts.RowName.{RowName}
 use Rattle.problem_core.specs.declared.parts.RowName.TheVariants.{Held}
 use Rattle.problem_core.specs.declared.parts.Mark.{Mark}
-use Rattle.problem_core.specs.Layout.{IsProblem, Line, Problem, Row, lines}
+use Rattle.problem_core.specs.Layout.{IsProblem, Line, Problem, Row, lines, rank_level}
 use Rattle.problem_core.specs.Kept.{IsWhole}
 use Rattle.problem_core.specs.Certificates.{weight_at}
 use Rattle.problem_core.specs.Corners.{IsIn, place_of}
@@ -111,7 +111,7 @@ FreeRowChangesNothing = (p q : Problem) (at : List Mark) (level unit own : ℕ) 
 -- ---- the rows of a change
 
 abbrev pub level_count : ℕ → List Row → ℕ
-level_count level rows = length (filter (λ r. nat_eq (1000 - r.rank) level) rows)
+level_count level rows = length (filter (λ r. nat_eq (rank_level r.rank) level) rows)
 
 -- when all rows have joined the corner, but none its level yet, each level has its row from before
 abbrev pub JoiningRowsAreFree : Type 0
@@ -126,7 +126,7 @@ JoiningRowsAreFree = (p : Problem) (rest : List Row) (at joined : List Mark) (le
 -- one row more of the level gets its weight
 abbrev pub OneRowMoreJoins : Type 0
 OneRowMoreJoins = (p : Problem) (before : List Row) (r : Row) (after : List Row) (level : ℕ) → IsWhole p
-    → p.rows ≡ before ++ (r ∷ after) → level ≡ 1000 - r.rank
+    → p.rows ≡ before ++ (r ∷ after) → level ≡ rank_level r.rank
     → AreLinesBefore (Held r.id) (lines (with_first_rows level (level_count level before) p))
     (lines (with_first_rows level (level_count level before + 1) p))
 

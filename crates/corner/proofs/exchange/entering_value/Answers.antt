@@ -1,8 +1,8 @@
 use Rattle.std.proofs.Common.{rules, SFits, w64, ◌≡◌, ◌∙◌, ◌*ℤ◌, ℤ, pos, sym, ap, ap₂, subst, unsigned_abs}
 use Rattle.std.proofs.lemmas.Int.{to_z-of_z}
 use Rattle.problem_core.specs.declared.parts.Side.{Side}
-use Rattle.problem_core.specs.declared.stops.TableStop.{TableStop}
-use Rattle.problem_core.specs.declared.stops.TableStop.TheVariants.{UnfitAt}
+use Rattle.problem_core.specs.Stops.{TableStop}
+use Rattle.frac_core.specs.declared.memory.Stop.TheVariants.{Refused}
 use Rattle.problem_core.specs.declared.stops.Quantity.TheVariants.{Plain}
 use Rattle.frac_core.specs.Fraction.{IsKept, IsLowest}
 use Rattle.row_core.proofs.Lowest.{ok_implies}
@@ -55,9 +55,9 @@ returns-clause-ok c =
 pub returns-clause-lowest : goal.returns-clause-lowest
 returns-clause-lowest c = ok_implies c.named_sum.result IsKept IsLowest (λ f kept. kept.lowest) c.named_sum.ensures.kept
 
-what-is : (c : goal.After-named_sum) (s : Swap) → IsPair (lists_of c.args.table.now) c.args.pair s → c.unfit-stop.result ≡ UnfitAt (Plain (MarkOf s.enter))
+what-is : (c : goal.After-named_sum) (s : Swap) → IsPair (lists_of c.args.table.now) c.args.pair s → c.unfit-stop.result ≡ Refused (Plain (MarkOf s.enter))
 what-is c s are =
-    c.unfit-stop.ensures ∙ ap (λ (w : What). UnfitAt (Plain w)) (c.what_at.ensures.line s.enter.row (enter_owner (lists_of c.args.table.now) c.args.pair s c.requires.kept.slots are) ∙ ap (λ (d : Side). MarkOf (record { row = s.enter.row; side = d })) (sym are.enter_side))
+    c.unfit-stop.ensures ∙ ap (λ (w : What). Refused (Plain w)) (c.what_at.ensures.line s.enter.row (enter_owner (lists_of c.args.table.now) c.args.pair s c.requires.kept.slots are) ∙ ap (λ (d : Side). MarkOf (record { row = s.enter.row; side = d })) (sym are.enter_side))
 
 pub returns-clause-stop : goal.returns-clause-stop
 returns-clause-stop c =

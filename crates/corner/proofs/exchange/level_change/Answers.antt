@@ -5,8 +5,8 @@ use Rattle.frac_core.specs.Fraction.{IsFitting}
 use Rattle.problem_core.specs.declared.parts.Level.{Level}
 use Rattle.problem_core.specs.declared.stops.What.TheVariants.{Level as LevelOf}
 use Rattle.problem_core.specs.declared.stops.Quantity.TheVariants.{Plain}
-use Rattle.problem_core.specs.declared.stops.TableStop.TheVariants.{UnfitAt}
-use Rattle.corner.specs.declared.fitting.Draft.{Draft}
+use Rattle.frac_core.specs.declared.memory.Stop.TheVariants.{Refused}
+use Rattle.corner.specs.declared.levels.fitting.Draft.{Draft}
 use Rattle.corner.specs.Exchanges.{marks_after}
 use Rattle.corner.specs.LevelChanges.{IsStopOf}
 use Rattle.corner.specs.Tables.{lists_of, priority_at}
@@ -34,7 +34,7 @@ returns-then-not-does_level_fit-clause-stop c s at =
     let draft : Draft = record { level = c.args.l; unit = to_z w64 (of_z w64 c.priority_at-old.result.unit); pair = c.args.pivot.now.pair; rows = c.priority_at-old.result.rows } in
     let is : IsDraftOf (lists_of c.args.table.now) c.args.pivot.now c.args.l (record { level = c.args.l; unit = to_z w64 (of_z w64 c.priority_at-old.result.unit); pair = c.args.pivot.now.pair; rows = c.priority_at-old.result.rows }) =
     record { level_is = refl; rows_is = rows-is; unit_is = to_z-of_z w64 c.priority_at-old.result.unit fits ∙ unit-is; pair_is = refl } in
-    let stop : IsStopOf c.args.l c.unfit-stop.result = c.unfit-stop.ensures ∙ ap (λ (level : Level). UnfitAt (Plain (LevelOf level))) (c.level_of.ensures.priority c.requires.level) in
+    let stop : IsStopOf c.args.l c.unfit-stop.result = c.unfit-stop.ensures ∙ ap (λ (level : Level). Refused (Plain (LevelOf level))) (c.level_of.ensures.priority c.requires.level) in
     level_stop t (marks_after (lists_of c.args.table.now) s) c.args.l c.unfit-stop.result c.requires.level stop
     (draft_unfit t c.args.pivot.now s c.args.l c.in_ok-row.row c.in_ok-value.value draft c.requires.kept at c.requires.level c.requires.rows is c.in_ok-row.ensures.kept c.in_ok-row.ensures.ok c.in_ok-value.ensures.ok c.in_ok-value.ensures.kept.lowest (c.if-not-does_level_fit.ensures.unfit refl))
 

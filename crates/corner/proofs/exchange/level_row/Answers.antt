@@ -1,13 +1,13 @@
-use Rattle.std.proofs.Common.{rules, SFits, to_z, of_z, ◌≡◌, ◌∙◌, ◌*ℤ◌, ◌-ℤ◌, inl, inr, ℤ, pos, neg_ℤ, sym, ap, ap₂, subst, refl, unsigned_abs}
+use Rattle.std.proofs.Common.{rules, SFits, to_z, of_z, ◌≡◌, ◌∙◌, ◌*ℤ◌, ◌-ℤ◌, inl, inr, ℤ, pos, neg_ℤ, sym, ap, ap₂, subst, unsigned_abs}
 use Rattle.std.specs.Int.{w64, w128}
 use Rattle.std.proofs.lemmas.Int.{to_z-of_z}
 use Rattle.frac_core.specs.Fraction.{IsFitting}
-use Rattle.problem_core.specs.declared.stops.TableStop.{TableStop}
+use Rattle.problem_core.specs.Stops.{TableStop}
 use Rattle.row_core.specs.Rows.{IsKeptRow, IsReduced, IsUnfit}
-use Rattle.row_core.specs.Combinations.{combination_but}
+use Rattle.row_core.specs.Combinations.{IsFactor, combination_but}
 use Rattle.row_core.specs.declared.entry.Factors.{Factors}
 use Rattle.row_core.specs.declared.entry.Patch.{Patch}
-use Rattle.row_core.specs.declared.entry.RowStop.TheVariants.{Unfit}
+use Rattle.frac_core.specs.Stops.{IsRefused}
 use Rattle.row_core.proofs.Lowest.{ok_implies}
 use Rattle.corner.specs.Changes.{IsUnfitStop}
 use Rattle.corner.specs.Exchanges.{IsPivotStop, marks_after, signed}
@@ -25,6 +25,14 @@ combine_but-requires-clause-n c =
     let f : SFits w128 c.from-2.result = search rules in
     let e : c.from-2.result ≡ c.signed.result = search rules in
     negated_factor c.from-2.result c.signed.result f e c.signed.ensures.fits
+
+pub combine_but-requires-clause-extra : goal.combine_but-requires-clause-extra
+combine_but-requires-clause-extra c =
+    let f : SFits w128 c.product.result = search rules in
+    let size : SFits w64 c.size-size.result = search rules in
+    let leaving : SFits w64 c.leaving_at.result = search rules in
+    let factor : IsFactor c.product.result = (simp to_z-of_z at c.product.ensures.factor) c.size-size.ensures.fits c.leaving_at.ensures.fits in
+    subst IsFactor (sym (to_z-of_z w128 c.product.result f)) factor
 
 abbrev factors : goal.After-named_row → Factors
 factors c = record { k = to_z w128 (of_z w128 c.from.result); n = to_z w128 (of_z w128 (pos 0 -ℤ to_z w128 (of_z w128 c.from-2.result))) }
@@ -82,6 +90,6 @@ returns-clause-stop c =
       | inr (e, made) ↦
           row_stop t c.args.pivot.now c.args.l stop c.requires.kept c.requires.level c.requires.rows (e ∙ c.requires.stop)
           (sum_unfit t c.args.pivot.now.pair c.args.l (factors c) (patch c) c.row-r.result.now c.row-p.result.now (numbers c)
-          (err_of c.combine_but.result Unfit (λ (x : _). x ≡ Unfit → IsUnfit (combination_but (factors c) c.row-r.result.now c.row-p.result.now (patch c))) made c.combine_but.ensures.unfit refl)) s at
+          (err_of c.combine_but.result made.0 (λ (x : _). IsRefused x → IsUnfit (combination_but (factors c) c.row-r.result.now c.row-p.result.now (patch c))) made.1 c.combine_but.ensures.unfit made.2)) s at
     ])
     c.named_row.ensures.err

@@ -3,7 +3,7 @@ use Rattle.std.proofs.lemmas.Int.{to_z-of_z}
 use Rattle.frac_core.specs.Fraction.{IsFitting}
 use Rattle.row_core.specs.Rows.{coefficient}
 use Rattle.problem_core.specs.Corners.{Swap}
-use Rattle.problem_core.specs.declared.stops.TableStop.{TableStop}
+use Rattle.problem_core.specs.Stops.{TableStop}
 use Rattle.corner.specs.Changes.{IsUnfitStop}
 use Rattle.corner.specs.Exchanges.{IsOwnerRow, IsPivotAt, marks_after}
 use Rattle.corner.specs.Tables.{lists_of, problem_of, slot_at, standing_at}

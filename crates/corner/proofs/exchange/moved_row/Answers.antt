@@ -1,10 +1,9 @@
-use Rattle.std.proofs.Common.{rules, SFits, w64, ◌≡◌, ◌∙◌, inl, inr, ℤ, pos, neg_ℤ, sym, ap, ap₂, subst, refl, unsigned_abs}
+use Rattle.std.proofs.Common.{rules, SFits, w64, ◌≡◌, ◌∙◌, inl, inr, ℤ, pos, neg_ℤ, sym, ap, ap₂, subst, unsigned_abs}
 use Rattle.std.proofs.lemmas.Int.{to_z-of_z}
 use Rattle.frac_core.specs.Fraction.{IsFitting}
 use Rattle.problem_core.specs.Corners.{Swap}
-use Rattle.problem_core.specs.declared.stops.TableStop.{TableStop}
+use Rattle.problem_core.specs.Stops.{TableStop}
 use Rattle.row_core.specs.Rows.{IsKeptRow, IsReduced}
-use Rattle.row_core.specs.declared.entry.RowStop.TheVariants.{Unfit}
 use Rattle.row_core.proofs.Lowest.{ok_implies}
 use Rattle.corner.specs.Changes.{IsUnfitStop}
 use Rattle.corner.specs.Exchanges.{IsPivotAt, marks_after, moved, signed}
@@ -57,6 +56,6 @@ returns-clause-stop c =
           (what_stop (lists_of c.args.table.now) c.args.pivot.now s c.args.w c.args.what c.requires.kept at c.requires.slot c.requires.other c.requires.stands c.requires.what
           (inl (unfit_moved (lists_of c.args.table.now) c.args.pivot.now.pair c.args.w c.size.result c.opposite.result c.row-r.result.now c.row-p.result.now (size-is c) (by-is c)
           (read_row c.args.table.now.matrix.rows c.args.w c.row-r.result.now c.row-r.ensures.value) (read_row c.args.table.now.matrix.rows c.args.pivot.now.pair.leave c.row-p.result.now c.row-p.ensures.value)
-          (simp to_z-of_z at (err_of c.combine-made.result Unfit _ made c.combine-made.ensures.unfit refl)))))
+          (simp to_z-of_z at (err_of c.combine-made.result made.0 _ made.1 c.combine-made.ensures.unfit made.2)))))
     ])
     c.named_row.ensures.err

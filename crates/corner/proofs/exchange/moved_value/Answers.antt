@@ -2,7 +2,7 @@ use Rattle.std.proofs.Common.{rules, SFits, w64, ◌≡◌, ◌∙◌, ◌*ℤ�
 use Rattle.std.proofs.lemmas.Int.{to_z-of_z}
 use Rattle.frac_core.specs.Fraction.{IsKept, IsLowest}
 use Rattle.problem_core.specs.Corners.{Swap}
-use Rattle.problem_core.specs.declared.stops.TableStop.{TableStop}
+use Rattle.problem_core.specs.Stops.{TableStop}
 use Rattle.row_core.proofs.Lowest.{ok_implies}
 use Rattle.corner.specs.Changes.{IsUnfitStop}
 use Rattle.corner.specs.Exchanges.{IsPivotAt, IsValueAfter, marks_after, moved_by}

@@ -1,7 +1,7 @@
 use Rattle.std.proofs.Common.{rules, SFits, w64, ◌*ℤ◌, pos, sym, subst}
 use Rattle.std.proofs.lemmas.Int.{to_z-of_z}
 use Rattle.frac_core.specs.Fraction.{IsFitting}
-use Rattle.problem_core.specs.declared.stops.TableStop.{TableStop}
+use Rattle.problem_core.specs.Stops.{TableStop}
 use Rattle.corner.specs.Changes.{IsUnfitStop}
 use Rattle.corner.specs.Exchanges.{marks_after}
 use Rattle.corner.specs.Tables.{lists_of, problem_of}

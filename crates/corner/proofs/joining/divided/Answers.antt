@@ -1,7 +1,6 @@
-use Rattle.std.proofs.Common.{rules, [], ◌∷◌, SFits, w64, ◌∙◌, inl, inr, ℕ, pos, ap, refl}
+use Rattle.std.proofs.Common.{rules, [], ◌∷◌, SFits, w64, ◌∙◌, inl, inr, ℕ, pos, ap}
 use Rattle.std.specs.Int.{w128}
 use Rattle.std.proofs.lemmas.Int.{to_z-of_z}
-use Rattle.row_core.specs.declared.entry.RowStop.TheVariants.{Unfit}
 use Rattle.row_core.proofs.Lowest.{ok_implies}
 use Rattle.corner.specs.CostJoins.{IsInUnit, IsUnitStop}
 use Rattle.row_core.specs.Rows.{IsKeptRow, coefficient}
@@ -35,7 +34,7 @@ returns-clause-err c =
       | inl e ↦ inl e
       | inr (e, made) ↦ inr (
         e,
-        unfit_unit c.args.row.now _ c.args.l c.entry.result c.args.times c.unit_factors-k.result (simp to_z-of_z at (err_of c.combine_wide.result Unfit _ made c.combine_wide.ensures.unfit refl)) (c.in_ok-level.ensures ∙ ap (λ (w : ℕ). record { col = w; by = pos 1 } ∷ []) c.from-2.ensures)
+        unfit_unit c.args.row.now _ c.args.l c.entry.result c.args.times c.unit_factors-k.result (simp to_z-of_z at (err_of c.combine_wide.result made.0 _ made.1 c.combine_wide.ensures.unfit made.2)) (c.in_ok-level.ensures ∙ ap (λ (w : ℕ). record { col = w; by = pos 1 } ∷ []) c.from-2.ensures)
             (c.entry.ensures.value ∙ ap (λ (w : ℕ). coefficient w c.args.row.now) c.from.ensures) (simp to_z-of_z at c.unit_factors-k.ensures.factors),
       )
     ])

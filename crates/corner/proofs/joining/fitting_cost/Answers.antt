@@ -1,6 +1,6 @@
 use Rattle.std.proofs.Common.{SFits, w64, ◌<◌, ◌∙◌, inr, ◌+◌, ◌≤◌, ℕ, sym, ap, subst, refl, arith}
 use Rattle.std.proofs.lemmas.Int.{to_z-of_z}
-use Rattle.corner.specs.declared.fitting.Draft.{Draft}
+use Rattle.corner.specs.declared.levels.fitting.Draft.{Draft}
 use Rattle.corner.specs.declared.table.TheConstants.{LEVELS}
 use Rattle.corner.specs.declared.table.Priority.{Priority}
 use Rattle.corner.specs.Tables.{lists_of, priority_at}

@@ -7,7 +7,7 @@ use Rattle.corner.specs.Tables.{lists_of, priority_at}
 use Rattle.corner.specs.CostJoins.{IsJoinStop}
 use Rattle.problem_core.specs.declared.parts.Level.TheVariants.{Priority as PriorityLevel}
 use Rattle.problem_core.specs.declared.stops.Quantity.TheVariants.{Rows}
-use Rattle.problem_core.specs.declared.stops.TableStop.TheVariants.{UnfitAt}
+use Rattle.frac_core.specs.declared.memory.Stop.TheVariants.{Refused}
 use Rattle.corner.proofs.LevelReadFacts.{fitting_sfits}
 use Rattle.corner.proofs.CostFound.{passed_on}
 use Rattle.corner.proofs.CostEnds.{joined_below, joined_kept, joining_below, joining_few, stop_is}
@@ -27,13 +27,13 @@ rows_stop-stop-requires c = let h = subst (λ (slot : Slot). slot.home < LEVELS)
 pub returns-in_err-rise-clause-stop : goal.returns-in_err-rise-clause-stop
 returns-in_err-rise-clause-stop c =
     passed_on c.from_residual.result c.in_err-rise.field-0.0 (IsJoinStop (lists_of c.args.table.now) c.args.line) c.from_residual.ensures.1
-    (stop_is (lists_of c.args.table.now) c.args.line c.rows_stop-stop.result c.in_err-rise.field-0.0 c.requires.kept (c.rows_stop-stop.ensures ∙ ap₂ (λ (slot : Slot) (n : ℕ). UnfitAt (Rows (PriorityLevel (1000 - slot.home)) (n + 1))) c.slot_at-slot.ensures
+    (stop_is (lists_of c.args.table.now) c.args.line c.rows_stop-stop.result c.in_err-rise.field-0.0 c.requires.kept (c.rows_stop-stop.ensures ∙ ap₂ (λ (slot : Slot) (n : ℕ). Refused (Rows (PriorityLevel (1000 - slot.home)) (n + 1))) c.slot_at-slot.ensures
     (ap (λ (p : Priority). p.rows) c.priority_at.ensures ∙ ap (λ (slot : Slot). (priority_at (lists_of c.args.table.now) slot.home).rows) c.slot_at-slot.ensures)) c.in_err-rise.ensures.err)
 
 pub returns-in_err-change-clause-stop : goal.returns-in_err-change-clause-stop
 returns-in_err-change-clause-stop c =
     passed_on c.from_residual-in_err-change.result c.in_err-change.field-0.0 (IsJoinStop (lists_of c.args.table.now) c.args.line) c.from_residual-in_err-change.ensures.1
-    (stop_is (lists_of c.args.table.now) c.args.line c.rows_stop-stop.result c.in_err-change.field-0.0 c.requires.kept (c.rows_stop-stop.ensures ∙ ap₂ (λ (slot : Slot) (n : ℕ). UnfitAt (Rows (PriorityLevel (1000 - slot.home)) (n + 1))) c.slot_at-slot.ensures
+    (stop_is (lists_of c.args.table.now) c.args.line c.rows_stop-stop.result c.in_err-change.field-0.0 c.requires.kept (c.rows_stop-stop.ensures ∙ ap₂ (λ (slot : Slot) (n : ℕ). Refused (Rows (PriorityLevel (1000 - slot.home)) (n + 1))) c.slot_at-slot.ensures
     (ap (λ (p : Priority). p.rows) c.priority_at.ensures ∙ ap (λ (slot : Slot). (priority_at (lists_of c.args.table.now) slot.home).rows) c.slot_at-slot.ensures)) c.in_err-change.ensures.err)
 
 pub put_cost-requires-clause-level : goal.put_cost-requires-clause-level

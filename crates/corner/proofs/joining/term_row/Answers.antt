@@ -1,6 +1,5 @@
 use Rattle.std.proofs.Common.{◌∙◌, inl, inr, refl, sym, subst}
-use Rattle.problem_core.specs.declared.stops.TableStop.{TableStop}
-use Rattle.row_core.specs.declared.entry.RowStop.TheVariants.{Unfit}
+use Rattle.problem_core.specs.Stops.{TableStop}
 use Rattle.problem_core.specs.Unfit.{first_terms}
 use Rattle.corner.specs.Parts.{IsTermsStop}
 use Rattle.corner.specs.Tables.{lists_of}
@@ -25,6 +24,6 @@ returns-clause-stop c =
       | inl e ↦ subst (λ (x : TableStop). IsTermsStop (lists_of c.args.table.now) c.args.row.now x) (sym e) tt
       | inr (e, made) ↦ stop_of (lists_of c.args.table.now) c.args.row.now stop _ _ _ (e ∙ c.terms_stop-stop.ensures) c.id.ensures refl
           (row_unfit (lists_of c.args.table.now) c.args.row.now c.args.i _ c.args.sum.now c.args.at c.terms.result.now c.requires.kept c.requires.whole c.requires.within c.requires.sum c.requires.at c.terms.ensures
-          (err_of c.more_row.result Unfit _ made c.more_row.ensures.unfit refl))
+          (err_of c.more_row.result made.0 _ made.1 c.more_row.ensures.unfit made.2))
     ])
     c.named_row.ensures.err

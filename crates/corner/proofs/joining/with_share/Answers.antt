@@ -1,7 +1,6 @@
 use Rattle.std.proofs.Common.{rules, SFits, w64, ◌∙◌, inl, inr, ℕ, ap, refl}
 use Rattle.std.specs.Int.{w128}
 use Rattle.std.proofs.lemmas.Int.{to_z-of_z}
-use Rattle.row_core.specs.declared.entry.RowStop.TheVariants.{Unfit}
 use Rattle.row_core.proofs.Lowest.{ok_implies}
 use Rattle.corner.specs.Tables.{lists_of}
 use Rattle.corner.specs.CostJoins.{IsShared, IsShareStop}
@@ -43,7 +42,7 @@ returns-clause-err c =
       | inr (e, made) ↦ inr (
         e,
         unfit_share (lists_of c.args.table.now) c.args.old.now c.row.result.now c.args.line c.args.count c.args.times c.entry-own.result c.own_of.result c.share_factors-k.result _
-            (simp to_z-of_z at (err_of c.combine_but.result Unfit _ made c.combine_but.ensures.unfit refl)) c.from-2.ensures refl (read_row c.args.table.now.matrix.rows c.args.line c.row.result.now c.row.ensures.value)
+            (simp to_z-of_z at (err_of c.combine_but.result made.0 _ made.1 c.combine_but.ensures.unfit made.2)) c.from-2.ensures refl (read_row c.args.table.now.matrix.rows c.args.line c.row.result.now c.row.ensures.value)
             (c.entry-own.ensures.value ∙ ap (λ (w : ℕ). coefficient w c.args.old.now) c.from.ensures ∙ ap (λ (slot : Slot). coefficient slot.home c.args.old.now) c.slot_at-home.ensures) c.own_of.ensures.value (simp to_z-of_z at c.share_factors-k.ensures.factors),
       )
     ])

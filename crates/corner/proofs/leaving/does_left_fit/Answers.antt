@@ -3,7 +3,7 @@ use Rattle.std.proofs.lemmas.Int.{to_z-of_z}
 use borrow.Author.Differences.{ints}
 use Rattle.frac_core.specs.Fraction.{IsFitting}
 use Rattle.row_core.specs.Rows.{coefficient}
-use Rattle.corner_lines.specs.LevelFits.{small_number}
+use Rattle.corner_laws.specs.LevelLaws.{small_number}
 use Rattle.corner.specs.Tables.{lists_of}
 use Rattle.corner.specs.Leaving.{AreLeftFitting}
 use Rattle.corner.proofs.LeavingFits.{draft_left, fits_left, small_left, unfit_left}

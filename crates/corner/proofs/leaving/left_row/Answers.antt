@@ -1,8 +1,7 @@
-use Rattle.std.proofs.Common.{rules, SFits, w64, ◌≡◌, ◌∙◌, ◌<ℤ◌, ◌*ℤ◌, inl, inr, ℤ, pos, neg_ℤ, ap, sym, subst, refl, unsigned_abs}
+use Rattle.std.proofs.Common.{rules, SFits, w64, ◌≡◌, ◌∙◌, ◌<ℤ◌, ◌*ℤ◌, inl, inr, ℤ, pos, neg_ℤ, ap, sym, subst, unsigned_abs}
 use Rattle.std.specs.Int.{w128}
 use Rattle.std.proofs.lemmas.Int.{to_z-of_z}
 use Rattle.row_core.specs.Rows.{IsKeptRow}
-use Rattle.row_core.specs.declared.entry.RowStop.TheVariants.{Unfit}
 use Rattle.row_core.proofs.Lowest.{ok_implies}
 use Rattle.corner_lines.specs.LineEquations.{sign_of}
 use Rattle.corner.specs.Tables.{lists_of}
@@ -101,7 +100,7 @@ returns-clause-err c =
       | inr (e, made) ↦ inr (
         e,
         made_unfit (lists_of c.args.table.now) c.requires.leaver.0 c.args.leaver c.args.unit c.own_of-own.result c.own_of.result c.opposite.result c.times_of.result c.left_factors-k.result _ c.row-level.result.now c.row-line.result.now (record { kept = c.requires.kept; is = c.requires.leaver.1 })
-            (simp to_z-of_z at (err_of c.combine_but.result Unfit _ made c.combine_but.ensures.unfit refl))
+            (simp to_z-of_z at (err_of c.combine_but.result made.0 _ made.1 c.combine_but.ensures.unfit made.2))
             (record {
               left_unit = c.requires.unit;
               own_is = c.own_of-own.ensures.value;

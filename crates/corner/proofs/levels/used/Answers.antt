@@ -1,4 +1,5 @@
-use Rattle.std.proofs.Common.{rules, ◌≡◌, ◌∙◌, ◌+◌, ◌-◌, ◌<◌, ◌≤◌, ap, arith, length, slice_index_or, sym, subst}
+use Rattle.problem_core.specs.declared.parts.Level.{Level}
+use Rattle.std.proofs.Common.{rules, ◌≡◌, ◌∙◌, ◌++◌, ◌∷◌, [], ◌+◌, ◌-◌, ◌<◌, ◌≤◌, ap, arith, length, slice_index_or, sym, subst}
 use Rattle.corner.specs.Tables.{lists_of}
 use Rattle.corner.specs.declared.table.TheConstants.{LEVELS}
 use Rattle.corner.proofs.UsedLevels.{AreUsedBelow, all_used, push_priority, push_stay, skip_priority}
@@ -10,7 +11,7 @@ loop-level-preserved c =
     let lt : c.loop-level.level < LEVELS = search rules in
     elim c.if-priority_at-gt0.branch [
       | then-priority_at-gt0+in_ok-push w ↦
-          subst (AreUsedBelow (lists_of c.args.table.now) (c.loop-level.level + 1)) (sym (ap (λ out. out.items) w.out-is ∙ w.in_ok-push.ensures.items))
+          subst (AreUsedBelow (lists_of c.args.table.now) (c.loop-level.level + 1)) (sym (ap (λ out. out.items) w.out-is ∙ w.in_ok-push.ensures.items ∙ ap (λ (l : Level). c.loop-level.out.items ++ (l ∷ [])) w.priority_level.ensures))
           (push_priority (lists_of c.args.table.now) c.loop-level.level (1000 - c.loop-level.level) c.loop-level.out.items c.requires.kept lt (omega (arith, lt))
           (let some = w.if-priority_at-gt0.true in omega (arith, some, ap (λ p. p.rows) c.priority_at.ensures)) c.loop-level.invariant)
       | else-priority_at-gt0 w ↦
