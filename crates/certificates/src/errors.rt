@@ -1,6 +1,7 @@
 // What rows lack at a corner.
-ghost use Rattle.std.specs.Prelude.{◌≡◌, ◌≤◌, ◌^◌, pos, ◌*ℤ◌, ◌<ℤ◌, unsigned_abs, Any};
+ghost use Rattle.std.specs.Prelude.{◌≡◌, ◌≤◌, pos, ◌*ℤ◌, ◌<ℤ◌, unsigned_abs, Any};
 ghost use Rattle.frac_core.specs.Fraction.{IsKept, IsLowest, IsRatio};
+ghost use Rattle.problem_core.specs.declared.limits.TheConstants.{COEFFICIENT_LIMIT};
 ghost use Rattle.problem_core.specs.declared.parts.RowName.TheVariants as row_names;
 ghost use Rattle.problem_core.specs.Corners.{NoNegativeValue, Point, StandsAt, assignment_at};
 ghost use Rattle.problem_core.specs.Layout.{line_of_row};
@@ -38,7 +39,7 @@ fn lacking(rel: Rel, under: Frac, over: Frac) -> Frac
 /// The fraction over a scale.
 fn over_scale(f: Frac, scale: i64) -> Wide
     requires above { pos 0 <ℤ scale }
-    requires small { unsigned_abs scale ≤ 2 ^ 30 }
+    requires small { unsigned_abs scale ≤ COEFFICIENT_LIMIT }
     ensures value { IsRatio result f.num (scale *ℤ pos f.den) }
     ensures lowest { IsLowest result }
     ensures kept { IsKept f }
@@ -54,7 +55,7 @@ pub fn error(c: &Corner, row: &Row) -> Wide
         → IsErrorAt (assignment_at x) (line_of_row row.now) result }
     ensures lowest { IsLowest result }
 {
-    c.show_corner();
+    c.show_corner(); // for the proof: what a corner keeps
     let under = c.value(mark_of(row, Side::Under));
     let over = c.value(mark_of(row, Side::Over));
     over_scale(lacking(row.rel(), under, over), row.scale())

@@ -23,7 +23,7 @@ fn push_level(alloc: Global, best: &mut Best, c: &Corner, level: Level) -> Resul
     requires stronger { All (λ l. IsStronger c.now.problem l.level level) best.old }
     ensures { OnOk result (IsPushed c.now.problem c.now.marks level best.old best.new) }
 {
-    c.show_corner();
+    c.show_corner(); // for the proof: what a corner keeps
     let by = times(alloc, c, level)?;
     if by.is_empty() {
         return Ok(());
@@ -43,7 +43,7 @@ pub fn certificate(alloc: Global, c: &Corner) -> Result<Best, OutOfMemory>
     ensures certified { IfOk result (λ best. (x : Point) → StandsAt c.now.problem c.now.marks x
         → IsCertificate c.now.problem (assignment_at x) (multipliers_of c.now.problem best)) }
 {
-    c.show_corner();
+    c.show_corner(); // for the proof: what a corner keeps
     let levels = c.levels()?;
     let mut best = Best::new(alloc)?;
     for level in levels.iter() {

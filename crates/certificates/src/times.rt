@@ -21,7 +21,7 @@ pub(crate) fn scale(c: &Corner, level: Level) -> i64
     ensures above { pos 0 <ℤ result }
     ensures fits { IsFitting result }
 {
-    c.show_corner();
+    c.show_corner(); // for the proof: what a corner keeps
     c.scale(level)
 }
 
@@ -33,7 +33,7 @@ fn multiplier(c: &Corner, level: Level, row: RowName) -> i64
         → AreNumbersAt c.now.problem c.now.marks level scale times → result ≡ times row }
     ensures fits { IsFitting result }
 {
-    c.show_corner();
+    c.show_corner(); // for the proof: what a corner keeps
     c.multiplier(level, row)
 }
 

@@ -9,3 +9,4 @@ pub mod SharedTimes
 pub mod ShownTimes
 pub mod RequiredTimes
 pub mod FirstMarks
+pub mod Trails

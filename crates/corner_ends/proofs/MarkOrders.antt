@@ -3,8 +3,8 @@ use Rattle.std.proofs.Common.{◌≡◌, ◌≢◌, ◌∙◌, inl, inr, ℕ, ze
 use Rattle.std.specs.List.{AllByRecursion as Each}
 use Rattle.std.proofs.lemmas.List.Elements.{All-from_recursion}
 use Rattle.problem_core.specs.declared.parts.Mark.{Mark}
-use Rattle.problem_core.specs.declared.stops.TableStop.{TableStop}
-use Rattle.problem_core.specs.declared.stops.TableStop.TheVariants.{UnfitAt, OutOfMemory as NoMemory}
+use Rattle.frac_core.specs.declared.memory.Stop.TheVariants.{Refused, OutOfMemory as NoMemory}
+use Rattle.problem_core.specs.Stops.{TableStop}
 use Rattle.problem_core.specs.declared.stops.Quantity.TheVariants.{Plain, Terms, Rows, Shifts}
 use Rattle.problem_core.specs.declared.stops.What.{What}
 use Rattle.problem_core.specs.declared.stops.What.TheVariants.{Attr as AttrOf, Mark as MarkOf, Level as LevelOf}
@@ -96,8 +96,8 @@ unfit-what p a b (MarkOf m) same h = (contains_in a b (place m) same.0 h.0, unfi
 unfit-what p a b (LevelOf level) same h = (h.0, h.1, unfit-level p a b h.0 same h.2)
 
 pub unfit_same : (p : Problem) (a b : List Mark) (stop : TableStop) → SameMarks a b → IsUnfitStop p a stop → IsUnfitStop p b stop
-unfit_same p a b (UnfitAt (Plain what)) same h = unfit-what p a b what same h
-unfit_same p a b (UnfitAt (Terms mark j)) same h = absurd h
-unfit_same p a b (UnfitAt (Rows level j)) same h = absurd h
-unfit_same p a b (UnfitAt (Shifts what j)) same h = absurd h
+unfit_same p a b (Refused (Plain what)) same h = unfit-what p a b what same h
+unfit_same p a b (Refused (Terms mark j)) same h = absurd h
+unfit_same p a b (Refused (Rows level j)) same h = absurd h
+unfit_same p a b (Refused (Shifts what j)) same h = absurd h
 unfit_same p a b NoMemory same h = h

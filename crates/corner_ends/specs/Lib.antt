@@ -3,3 +3,4 @@ pub mod Shares
 pub mod Columns
 pub mod Among
 pub mod Begins
+pub mod Trails

@@ -1,9 +1,10 @@
 // The conflict that the multipliers of the required level show.
-ghost use Rattle.std.specs.Prelude.{◌≡◌, ◌≢◌, ◌⊎◌, ℕ, ℤ, ◌<◌, ◌^◌, ◌/◌, neg_ℤ, ◌++◌, ◌∷◌, [], ◌*ℤ◌};
+ghost use Rattle.std.specs.Prelude.{◌≡◌, ◌≢◌, ◌⊎◌, ℕ, ℤ, ◌<◌, ◌/◌, neg_ℤ, ◌++◌, ◌∷◌, [], ◌*ℤ◌};
 ghost use Rattle.std.specs.Prelude.{pos, true, false, List, Any, All};
 ghost use Rattle.std.specs.Prelude.{IfOk, unsigned_abs};
 ghost use Rattle.std.specs.Int.{◌∣◌};
 ghost use Rattle.frac_core.specs.Fraction.{IsFitting};
+ghost use Rattle.frac_core.specs.declared.frac.TheConstants.{PART_BOUND};
 ghost use Rattle.problem_core.specs.Layout as layout;
 ghost use Rattle.problem_core.specs.Levels.{CostsAbove};
 ghost use Rattle.problem_core.specs.Paths.{NoNegativeRequired};
@@ -15,7 +16,7 @@ use crate::costs::{is_below, required_level};
 use cert_core::{By, Conflict, RunStop};
 use corner::Corner;
 use frac_core::{OutOfMemory, gcd};
-use problem_core::{Row, RowName};
+use problem_core::{REQUIRED, Row, RowName};
 use std::alloc::Global;
 
 /// The multiplier of a row at the level of the required rows.
@@ -24,15 +25,15 @@ fn multiplier(c: &Corner, row: &Row) -> i64
     ensures value { (y : ℕ → ℤ) → AreRequiredTimes c.now.problem c.now.marks y → result ≡ y row.now.id }
     ensures fits { IsFitting result }
 {
-    c.show_corner();
+    c.show_corner(); // for the proof: what a corner keeps
     c.multiplier(required_level(), RowName::Held(row.id()))
 }
 
 /// The greatest factor that the number shares with a factor.
 fn shared(factor: u128, times: i64) -> u128
     requires times { IsFitting times }
-    requires small { factor < 2 ^ 42 }
-    ensures small { result < 2 ^ 42 }
+    requires small { factor < PART_BOUND }
+    ensures small { result < PART_BOUND }
     ensures factor { result ∣ factor }
     ensures times { result ∣ unsigned_abs times }
     ensures greatest { (k : ℕ) → k ∣ factor → k ∣ unsigned_abs times → k ∣ result }
@@ -47,15 +48,15 @@ fn shared(factor: u128, times: i64) -> u128
 /// The greatest factor that a row's multiplier shares with a factor, where the row is required.
 fn shared_by(factor: u128, c: &Corner, row: &Row) -> u128
     requires row { Any (λ r. r.id ≡ row.now.id) c.now.problem.rows }
-    requires small { factor < 2 ^ 42 }
-    ensures small { result < 2 ^ 42 }
+    requires small { factor < PART_BOUND }
+    ensures small { result < PART_BOUND }
     ensures factor { result ∣ factor }
     ensures times { (y : ℕ → ℤ) → AreRequiredTimes c.now.problem c.now.marks y
         → IsDivisor result y row.now }
     ensures greatest { (y : ℕ → ℤ) → AreRequiredTimes c.now.problem c.now.marks y → (k : ℕ) → k ∣ factor
         → IsDivisor k y row.now → k ∣ result }
 {
-    if row.rank() == 1000 {
+    if row.rank() == REQUIRED {
         shared(factor, multiplier(c, row))
     } else {
         factor
@@ -65,7 +66,7 @@ fn shared_by(factor: u128, c: &Corner, row: &Row) -> u128
 /// The greatest common factor of the multipliers, 1 where there are none.
 fn common_factor(c: &Corner) -> u128
     ensures above { 0 < result }
-    ensures small { result < 2 ^ 42 }
+    ensures small { result < PART_BOUND }
     ensures divides { (y : ℕ → ℤ) → AreRequiredTimes c.now.problem c.now.marks y
         → All (IsDivisor result y) c.now.problem.rows }
     ensures greatest { (y : ℕ → ℤ) → AreRequiredTimes c.now.problem c.now.marks y
@@ -140,8 +141,8 @@ fn push_share(out: &mut Vec<By>, c: &Corner, row: &Row, factor: u128) -> Result<
         → AreShares y factor rows out.old.items
         → AreShares y factor (rows ++ row.now ∷ []) out.new.items) }
 {
-    c.show_corner();
-    if row.rank() == 1000 {
+    c.show_corner(); // for the proof: what a corner keeps
+    if row.rank() == REQUIRED {
         let times = share(multiplier(c, row), factor);
         if !is_zero(times) {
             out.push(By {
@@ -160,7 +161,7 @@ fn shares(alloc: Global, c: &Corner) -> Result<Vec<By>, OutOfMemory>
         × (All (IsDivisor 0 y) c.now.problem.rows ⊎ IsGreatest g y c.now.problem.rows)
         × AreShares y g c.now.problem.rows out.items) }
 {
-    c.show_corner();
+    c.show_corner(); // for the proof: what a corner keeps
     let factor = common_factor(c);
     let mut out = Vec::new(alloc);
     for row in c.rows() {
@@ -175,7 +176,7 @@ fn conflict(alloc: Global, c: &Corner) -> Result<Conflict, OutOfMemory>
     requires columns { NoNegativeRequired c.now.problem c.now.marks }
     ensures { IfOk result (IsShownConflict c.now.problem) }
 {
-    c.show_corner();
+    c.show_corner(); // for the proof: what a corner keeps
     let by = shares(alloc, c)?;
     Conflict::of(alloc, &by)
 }

@@ -1,10 +1,11 @@
 // What the required rows cost.
 ghost use Rattle.std.specs.Prelude.{◌≡◌, ℤ, pos, ◌<ℤ◌, ◌≤ℤ◌, true, false};
+ghost use Rattle.problem_core.specs.declared.limits.TheConstants.{REQUIRED};
 ghost use Rattle.problem_core.specs.declared.parts.Level.TheVariants.{Priority};
 ghost use Rattle.problem_core.specs.Levels.{CostsAbove};
 
 use corner::Corner;
-use problem_core::Level;
+use problem_core::{Level, REQUIRED};
 
 /// Whether the number is below 0.
 pub fn is_below(z: i64) -> bool
@@ -24,9 +25,9 @@ pub fn is_above(z: i64) -> bool
 
 /// The level of the required rows.
 pub fn required_level() -> Level
-    ensures { result ≡ Priority 1000 }
+    ensures { result ≡ Priority REQUIRED }
 {
-    Level::Priority(1000)
+    Level::Priority(REQUIRED)
 }
 
 /// Whether the required rows cost.
@@ -34,6 +35,6 @@ pub fn is_costly(c: &Corner) -> bool
     ensures yes { result ≡ true → CostsAbove c.now.problem c.now.marks 0 }
     ensures no { result ≡ false → CostsAbove c.now.problem c.now.marks 0 → ⊥ }
 {
-    c.show_corner();
+    c.show_corner(); // for the proof: what a corner keeps
     is_above(c.cost(required_level()).num())
 }

@@ -18,21 +18,24 @@
 //! multipliers; a column is a mark's reduced costs, level by level.
 //!
 //! The contracts of both kinds of run say with the same words what they answer (`Runs`): an end that is best
-//! (`IsBestEnd`), where a run begins (`FromHere`), and a lawful path within the budget (`IsRun`). The lemmas
-//! here are those that the proofs of both kinds cite: on fronts and signs of columns, on marks in another
-//! order, and on what stops a run.
+//! (`IsBestEnd`), where a run begins (`FromHere`), and a lawful path within the budget (`IsRun`). What a run
+//! has done so far is a [`Trail`] (`IsTrailOf` in `specs/Trails.antt`), which its stops name. The lemmas here
+//! are those that the proofs of both kinds cite: on fronts and signs of columns, on marks in another order,
+//! on the exchanges so far, and on what stops a run.
 //!
 //! To read: `costs` tells what the required rows cost, `numbers` reads a coefficient, `conflicts` divides the
-//! multipliers by their common factor, and `begins` finds the marks of a run's first corner from those of now
-//! and the exchanges so far, so that no run lists them at its start.
+//! multipliers by their common factor, `begins` finds the marks of a run's first corner from those of now and
+//! the exchanges so far, so that no run lists them at its start, and `trail` keeps these exchanges.
 #![tactic(auto)]
 
 mod begins;
 mod conflicts;
 mod costs;
 mod numbers;
+mod trail;
 
 pub use begins::first_marks;
 pub use conflicts::conflict_stop;
 pub use costs::{is_above, is_below, is_costly, required_level};
 pub use numbers::{coefficient_of, product};
+pub use trail::Trail;

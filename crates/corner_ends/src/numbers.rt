@@ -16,7 +16,7 @@ pub fn coefficient_of(c: &Corner, m: Mark, enter: Mark) -> i64
     ensures { (w : Writing) → Writes c.now.problem c.now.marks (corners.place m) w
         → result ≡ coefficient (corners.place enter) w.form }
 {
-    c.show_corner();
+    c.show_corner(); // for the proof: what a corner keeps
     c.coefficient(What::Mark(m), enter)
 }
 

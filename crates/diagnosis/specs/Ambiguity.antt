@@ -1,13 +1,14 @@
 -- What is best where the stays are left out, and which attributes move among it.
 use Rattle.std.specs.Prelude.{◌≡◌, ◌≢◌, ◌⊎◌, ℕ, ◌*◌, ◌<◌, ◌≤◌, pos, ◌+ℤ◌, ◌-ℤ◌, ◌*ℤ◌, ◌<ℤ◌, ◌≤ℤ◌}
 use Rattle.frac_core.specs.Fraction.{Fraction}
+use Rattle.problem_core.specs.declared.limits.TheConstants.{REQUIRED}
 use Rattle.problem_core.specs.Layout.{Assignment, Problem, Satisfies, cost, lines}
 
 -- at the first priority at which they differ, x costs less than y; the levels of stays don't count
 abbrev pub IsLooselyLess : Problem → Assignment → Assignment → Type 0
 IsLooselyLess p x y =
     (level : ℕ)
-    × (level ≤ 1000)
+    × (level ≤ REQUIRED)
     × ((k : ℕ) → k < level → cost (lines p) x k * y.den ≡ cost (lines p) y k * x.den)
     × (cost (lines p) x level * y.den < cost (lines p) y level * x.den)
 

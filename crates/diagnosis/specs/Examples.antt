@@ -1,6 +1,7 @@
 -- Problems in which an attribute moves, and does not, and rows that hold, and do not.
 use Rattle.std.specs.Prelude.{ℕ, [], ◌∷◌, pos, negsuc}
 use Rattle.frac_core.specs.Fraction.{Fraction}
+use Rattle.problem_core.specs.declared.limits.TheConstants.{REQUIRED}
 use Rattle.problem_core.specs.declared.parts.Rel.TheVariants.{Eq, Le}
 use Rattle.problem_core.specs.Layout.{Problem, Row}
 
@@ -15,7 +16,7 @@ free = record { rows = []; stays = record { attr = 1; target = whole 0 } ∷ [] 
 abbrev pub zero_row : Row
 zero_row = record {
   id = 7;
-  rank = 1000;
+  rank = REQUIRED;
   weight = 1;
   rel = Eq;
   scale = 1;
@@ -30,7 +31,7 @@ held = record { rows = zero_row ∷ []; stays = record { attr = 1; target = whol
 abbrev pub cap_row : Row
 cap_row = record {
   id = 7;
-  rank = 1000;
+  rank = REQUIRED;
   weight = 1;
   rel = Le;
   scale = 1;

@@ -1,7 +1,8 @@
 -- Probes: the row that is added, what is answered, and why a probe stops.
-use Rattle.std.specs.Prelude.{◌≡◌, ℕ, ◌^◌, ◌+◌, ◌<◌, Bool, true, false, List, [], ◌∷◌, length, ℤ, pos, ◌+ℤ◌}
+use Rattle.std.specs.Prelude.{◌≡◌, ℕ, ◌+◌, ◌<◌, Bool, true, false, List, [], ◌∷◌, length, ℤ, pos, ◌+ℤ◌}
 use Rattle.std.specs.Prelude.{◌≢◌, ◌-ℤ◌, ◌*ℤ◌, All, AllPairs}
 use Rattle.frac_core.specs.Fraction.{Fraction, IsKept, IsLowest, IsUnfitRatio}
+use Rattle.problem_core.specs.declared.limits.TheConstants.{NUMBER_LIMIT, ROW_LIMIT}
 use Rattle.problem_core.specs.declared.parts.Rel.TheVariants.{Eq}
 use Rattle.problem_core.specs.declared.parts.Stay.{Stay}
 use Rattle.problem_core.specs.Layout.{HasStay, Problem, Row}
@@ -23,8 +24,8 @@ use Rattle.diagnosis.specs.Ambiguity.{GoesAbove, IsAmbiguous, IsMove}
 -- and no row has the rank of a probe
 pub record CanProbe (l : Layout) (attr : ℕ) : Type 0 where
   pub held : HasStay l.problem.stays attr
-  pub few : length l.problem.rows < 4096
-  pub numbers : All (λ r. r.id < 2 ^ 31) l.problem.rows
+  pub few : length l.problem.rows < ROW_LIMIT
+  pub numbers : All (λ r. r.id < NUMBER_LIMIT) l.problem.rows
   pub ranks : All (λ r. 0 < r.rank) l.problem.rows
   pub room : length l.earlier < MOST
 

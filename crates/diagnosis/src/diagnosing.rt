@@ -1,5 +1,5 @@
 // All that is found of a layout.
-ghost use Rattle.std.specs.Prelude.{◌≡◌, ◌<◌, ◌^◌, true, false, length, IfOk, IfErr};
+ghost use Rattle.std.specs.Prelude.{◌≡◌, ◌<◌, true, false, length, IfOk, IfErr};
 ghost use Rattle.version_list.specs.declared.TheConstants.{MOST};
 ghost use Rattle.diagnosis.specs.Diagnoses.{AreFindings, LeaveRoom, findings_of};
 ghost use Rattle.diagnosis.specs.Probes.{CanProbeAll, IsStopAt};
@@ -10,7 +10,7 @@ use crate::priorities::costs;
 use crate::probing::DiagnoseStop;
 use frac_core::{Frac, Wide};
 use layout_solver::Engine;
-use problem_core::Row;
+use problem_core::{NUMBER_LIMIT, ROW_LIMIT, Row};
 use std::alloc::Global;
 
 /// What a layout lacks, and what it leaves open.
@@ -24,12 +24,6 @@ pub struct Diagnosis {
     /// The attributes that move, by number, with the values that they reach.
     pub moving: Vec<(u32, Frac)>,
 }
-
-/// The number of a probe's row is at most this.
-const NUMBER_LIMIT: u32 = 1 << 31;
-
-/// How many rows there may be.
-const ROW_LIMIT: usize = 4096;
 
 fn leave_room(rows: &[Row]) -> bool
     ensures yes { result ≡ true → LeaveRoom rows.now }
@@ -71,12 +65,10 @@ pub fn diagnose(
     let Ok(unmet) = unmet(alloc, e) else {
         return Err((0, DiagnoseStop::OutOfMemory));
     };
-    match all_ambiguous(alloc, e, budget) {
-        Ok(moving) => Ok(Diagnosis {
-            errors,
-            unmet,
-            moving,
-        }),
-        Err(stop) => Err(stop),
-    }
+    let moving = all_ambiguous(alloc, e, budget)?;
+    Ok(Diagnosis {
+        errors,
+        unmet,
+        moving,
+    })
 }

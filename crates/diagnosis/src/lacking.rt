@@ -5,7 +5,7 @@ ghost use Rattle.diagnosis.specs.Unmet.{AreUnmet};
 
 use frac_core::{OutOfMemory, Wide};
 use layout_solver::Engine;
-use problem_core::Row;
+use problem_core::{REQUIRED, Row};
 use std::alloc::Global;
 
 /// Whether the two errors are equal.
@@ -23,8 +23,8 @@ fn push_unmet(out: &mut Vec<(u32, Wide)>, e: &Engine, row: &Row) -> Result<(), O
         → AreUnmet rows e.now.values out.old.items
         → AreUnmet (rows ++ row.now ∷ []) e.now.values out.new.items) }
 {
-    e.show_layout();
-    if row.rank() == 1000 {
+    e.show_layout(); // for the proof: what an engine keeps
+    if row.rank() == REQUIRED {
         return Ok(());
     }
     let Some(error) = e.error(row.id()) else {
@@ -40,7 +40,7 @@ fn push_unmet(out: &mut Vec<(u32, Wide)>, e: &Engine, row: &Row) -> Result<(), O
 pub fn unmet(alloc: Global, e: &Engine) -> Result<Vec<(u32, Wide)>, OutOfMemory>
     ensures { IfOk result (λ out. AreUnmet e.now.problem.rows e.now.values out.items) }
 {
-    e.show_layout();
+    e.show_layout(); // for the proof: what an engine keeps
     let mut out = Vec::new(alloc);
     for row in e.rows() {
         push_unmet(&mut out, e, row)?;

@@ -36,7 +36,7 @@ fn push_moving(
     ensures stop { IfErr result (IsStopAt e.old budget) }
     ensures same { e.new ≡ e.old }
 {
-    e.show_layout();
+    e.show_layout(); // for the proof: what an engine keeps
     let attr = e.stays()[at].attr;
     match ambiguous(alloc, e, attr, budget) {
         Ok(answer) => match push_answer(out, attr, answer) {
@@ -64,9 +64,7 @@ pub fn all_ambiguous(
 {
     let mut out = Vec::new(alloc);
     for at in 0..e.stays().len() {
-        if let Err(stop) = push_moving(alloc, &mut out, e, at, budget) {
-            return Err(stop);
-        }
+        push_moving(alloc, &mut out, e, at, budget)?;
     }
     Ok(out)
 }

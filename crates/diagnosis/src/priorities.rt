@@ -1,11 +1,12 @@
 // The priorities at which something is lacking.
 ghost use Rattle.std.specs.Prelude.{◌≡◌, ◌≢◌, ◌<◌, ◌≤◌, ◌-◌, pos, true, false, IfOk};
 ghost use Rattle.frac_core.specs.Fraction.{IsKept};
+ghost use Rattle.problem_core.specs.declared.limits.TheConstants.{REQUIRED};
 ghost use Rattle.diagnosis.specs.Costs.{AreCosts};
 
 use frac_core::{Frac, OutOfMemory};
 use layout_solver::Engine;
-use problem_core::Level;
+use problem_core::{Level, REQUIRED};
 use std::alloc::Global;
 
 /// Whether the sum is 0.
@@ -20,7 +21,7 @@ fn is_zero(sum: Frac) -> bool
 /// Appends the priority below this one with the sum of its weighted errors, where this is not 0.
 fn push_cost(out: &mut Vec<(u16, Frac)>, e: &Engine, above: u16) -> Result<(), OutOfMemory>
     requires some { 0 < above }
-    requires most { above ≤ 1000 }
+    requires most { above ≤ REQUIRED }
     ensures { IfOk result (λ _. AreCosts e.now.problem e.now.values above out.old.items
         → AreCosts e.now.problem e.now.values (above - 1) out.new.items) }
 {
@@ -38,7 +39,7 @@ pub fn costs(alloc: Global, e: &Engine) -> Result<Vec<(u16, Frac)>, OutOfMemory>
     ensures { IfOk result (λ out. AreCosts e.now.problem e.now.values 1 out.items) }
 {
     let mut out = Vec::new(alloc);
-    let mut rank: u16 = 1000;
+    let mut rank = REQUIRED;
     while rank > 1 {
         push_cost(&mut out, e, rank)?;
         rank -= 1;

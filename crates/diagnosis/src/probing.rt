@@ -1,7 +1,8 @@
 // Whether an attribute moves among what is best without the stays.
-ghost use Rattle.std.specs.Prelude.{◌≡◌, ◌≢◌, ◌<◌, ◌≤◌, ◌^◌, pos, true, false, All};
+ghost use Rattle.std.specs.Prelude.{◌≡◌, ◌≢◌, ◌<◌, ◌≤◌, pos, true, false, All};
 ghost use Rattle.std.specs.Prelude.{IfOk, IfErr, IfSome, IfNone};
 ghost use Rattle.frac_core.specs.Fraction.{IsKept, IsUnfitRatio};
+ghost use Rattle.problem_core.specs.declared.limits.TheConstants.{NUMBER_LIMIT};
 ghost use Rattle.problem_core.specs.Gaps.{value_of};
 ghost use Rattle.diagnosis.specs.Probes as probes;
 ghost use Rattle.diagnosis.specs.Probes.{CanProbe, IsAnswer, IsBeside, IsDiagnoseStop, IsStopped, IsTried};
@@ -12,6 +13,7 @@ use frac_core::{Frac, Unfit};
 use layout_solver::Engine;
 use problem_core::{Rel, Row, Term};
 use std::alloc::Global;
+use thiserror::Error;
 
 /// What is said of an attribute.
 #[derive(Clone, Copy, Debug, PartialEq, Eq)]
@@ -23,15 +25,19 @@ pub enum Answer {
 }
 
 /// Why a probe stopped, up or down.
-#[derive(Clone, Debug, Drop)]
+#[derive(Clone, Debug, Drop, Error)]
 pub enum DiagnoseStop {
     /// A quantity does not fit at the end of a path.
+    #[error("a quantity doesn't fit")]
     Unfit { up: bool, at: UnfitPath },
     /// The path has as many exchanges as the budget.
+    #[error("the exchanges are used up")]
     Spent { up: bool, path: Path },
     /// The value that the probe would wish does not fit.
+    #[error("the value a point away doesn't fit")]
     Target { up: bool },
     /// Memory is wanting.
+    #[error("memory is wanting")]
     OutOfMemory,
 }
 
@@ -51,7 +57,7 @@ fn next_value(value: Frac, up: bool) -> Option<Frac>
 
 /// A number above those of all rows.
 fn next_number(rows: &[Row]) -> u32
-    requires { All (λ r. r.id < 2 ^ 31) rows.now }
+    requires { All (λ r. r.id < NUMBER_LIMIT) rows.now }
     ensures { result ≡ probes.next_number rows.now }
 {
     match rows.last() {
@@ -87,7 +93,7 @@ fn probe(
     ensures stop { IfErr result (IsStopped e.old attr up budget) }
     ensures same { e.new ≡ e.old }
 {
-    e.show_layout();
+    e.show_layout(); // for the proof: what an engine keeps
     let Some(target) = next_value(e.value_at(attr), up) else {
         return Err(DiagnoseStop::Target { up });
     };
@@ -106,7 +112,7 @@ fn probe(
     };
     match e.value_with(&[row], attr, budget) {
         Ok(value) => {
-            let _ = value.num();
+            let _ = value.num(); // for the proof: what a fraction keeps
             Ok(value)
         }
         Err(stop) => Err(stop_of(up, stop)),
@@ -136,7 +142,7 @@ pub fn ambiguous(
     ensures stop { IfErr result (IsDiagnoseStop e.old attr budget) }
     ensures same { e.new ≡ e.old }
 {
-    e.show_layout();
+    e.show_layout(); // for the proof: what an engine keeps
     let value = e.value_at(attr);
     let above = probe(alloc, e, attr, true, budget)?;
     if !is_same(above, value) {

@@ -23,7 +23,7 @@ fn own_choice(c: &Corner, leave: Mark) -> Choice
     ensures choice { IsChoice c.now.problem c.now.marks leave result }
     ensures line { IsBeforeLine c.now.problem c.now.marks leave result leave.row }
 {
-    c.show_corner();
+    c.show_corner(); // for the proof: what a corner keeps
     Choice {
         mark: other(leave),
         by: c.denominator(What::Mark(leave)),
@@ -99,7 +99,7 @@ fn growing(c: &Corner, leave: Mark, row: RowName) -> Mark
     ensures row { result.row ≡ row }
     ensures other { NeverGrows c.now.problem c.now.marks leave (other_mark result) }
 {
-    c.show_corner();
+    c.show_corner(); // for the proof: what a corner keeps
     let under = Mark {
         row,
         side: Side::Under,
@@ -137,7 +137,7 @@ fn least(c: &Corner, leave: Mark) -> Result<Choice, OutOfMemory>
         (λ best. IsBeforeLine c.now.problem c.now.marks leave best leave.row) }
     ensures least { IfOk result (IsBeforeEntries c.now.problem c.now.marks leave) }
 {
-    c.show_corner();
+    c.show_corner(); // for the proof: what a corner keeps
     let count = c.entries(leave);
     let mut found = found_at(c, leave, own_choice(c, leave));
     for i in 0..count {
@@ -153,7 +153,7 @@ fn is_dear(c: &Corner, mark: Mark) -> bool
     ensures yes { result ≡ true → IsDear c.now.problem c.now.marks mark }
     ensures no { result ≡ false → IsFree c.now.problem c.now.marks mark }
 {
-    c.show_corner();
+    c.show_corner(); // for the proof: what a corner keeps
     is_above(c.reduced(required_level(), mark))
 }
 
@@ -163,7 +163,7 @@ fn are_dear(c: &Corner, leave: Mark) -> bool
     requires { IsIn (corners.place leave) c.now.marks }
     ensures { result ≡ true → AreDear c.now.problem c.now.marks leave }
 {
-    c.show_corner();
+    c.show_corner(); // for the proof: what a corner keeps
     c.are_growers_dear(leave, required_level())
 }
 
@@ -191,7 +191,7 @@ pub(crate) fn entering(c: &Corner, leave: Mark) -> Result<Mark, OutOfMemory>
     ensures swap { IfOk result (λ m. IsDualSwap c.now.problem c.now.marks
         (record { enter = m; leave = leave })) }
 {
-    c.show_corner();
+    c.show_corner(); // for the proof: what a corner keeps
     let own = other(leave);
     if turns(c, leave, own) {
         return Ok(own);

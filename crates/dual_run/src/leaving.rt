@@ -30,7 +30,7 @@ fn is_low(c: &Corner, mark: Mark) -> bool
     ensures yes { result ≡ true → IsLow c.now.problem c.now.marks mark }
     ensures no { result ≡ false → HasNegativeValue c.now.problem c.now.marks mark → ⊥ }
 {
-    c.show_corner();
+    c.show_corner(); // for the proof: what a corner keeps
     is_below(c.value(mark).num())
 }
 
@@ -40,7 +40,7 @@ fn standing(c: &Corner, row: RowName) -> Mark
     ensures row { result.row ≡ row }
     ensures other { HasNegativeValue c.now.problem c.now.marks (other_mark result) → ⊥ }
 {
-    c.show_corner();
+    c.show_corner(); // for the proof: what a corner keeps
     let under = Mark {
         row,
         side: Side::Under,
@@ -69,7 +69,7 @@ pub(crate) fn leaving(c: &Corner, low: &mut Vec<RowName>) -> Option<Mark>
     ensures some { IfSome result (IsLow c.now.problem c.now.marks) }
     ensures none { IfNone result (NoNegativeValue c.now.problem c.now.marks) }
 {
-    c.show_corner();
+    c.show_corner(); // for the proof: what a corner keeps
     while !low.is_empty() {
         let name = low[low.len() - 1];
         if let Some(mark) = low_of(c, name) {

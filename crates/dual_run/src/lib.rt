@@ -20,11 +20,11 @@
 //! path of at most as many exchanges as the budget leads from the corner before to this one (`IsRun`). After
 //! `Err` the stop shows why the run ends (`IsStopOf`).
 //!
-//! What holds before each exchange (`IsRunOf`): the first corner had no negative column, and in each exchange
-//! so far the mark with the least column over its number entered. So the vector of costs rises, and no corner
-//! comes twice. And each mark with a negative value is of a line on the list (`AreLowLines`): of the lines
-//! whose values a new constant changes [`shift`] lists those at which they are negative with it, and so does
-//! an exchange.
+//! What holds before each exchange (`IsTrailOf`): the first corner had no negative column, and in each
+//! exchange so far the mark with the least column over its number entered. So the vector of costs rises, and
+//! no corner comes twice. And each mark with a negative value is of a line on the list (`AreLowLines`): of
+//! the lines whose values a new constant changes [`shift`] lists those at which they are negative with it,
+//! and so does an exchange.
 //!
 //! Linear programming's words: this is the dual simplex method. A column is a mark's reduced costs, level by
 //! level; that none is negative is dual feasibility. The choice of the mark that enters, by the least column
@@ -33,8 +33,8 @@
 //!
 //! To read: `leaving` finds a mark with a negative value and lists lines, `shifts` lists those of a new
 //! constant; `ratios` tells which of two columns over their numbers is the lesser, `entering` which of all
-//! that have a number in the leaving mark's row; `runs` keeps the exchanges so far; and `restoring` is the
-//! run.
+//! that have a number in the leaving mark's row; `runs` makes an exchange; and `restoring` is the run. The
+//! exchanges so far are a `Trail` of `corner_ends`, as in the primal run.
 #![tactic(auto)]
 
 mod entering;

@@ -38,7 +38,7 @@ fn order_at(c: &Corner, level: Level, a: Choice, b: Choice) -> Ordering
         → result ≡ int_cmp (b.by *ℤ r.costs k (corners.place a.mark))
         (a.by *ℤ r.costs k (corners.place b.mark)) }
 {
-    c.show_corner();
+    c.show_corner(); // for the proof: what a corner keeps
     let first = product(b.by, c.reduced(level, a.mark));
     first.cmp(&product(a.by, c.reduced(level, b.mark)))
 }
@@ -52,7 +52,7 @@ fn is_before_at(c: &Corner, levels: &[Level], a: Choice, b: Choice) -> bool
     ensures yes { result ≡ true → IsNoGreater c.now.problem c.now.marks a b }
     ensures no { result ≡ false → IsNoGreater c.now.problem c.now.marks b a }
 {
-    c.show_corner();
+    c.show_corner(); // for the proof: what a corner keeps
     for level in levels {
         match order_at(c, *level, a, b) {
             Ordering::Less => return true,
@@ -82,7 +82,7 @@ fn front_order(c: &Corner, a: Choice, f: Front, b: Choice, g: Front) -> Ordering
     ensures less { result ≡ IsLess → IsNoGreater c.now.problem c.now.marks a b }
     ensures greater { result ≡ IsGreater → IsNoGreater c.now.problem c.now.marks b a }
 {
-    c.show_corner();
+    c.show_corner(); // for the proof: what a corner keeps
     if c.is_stronger(f.level, g.level) {
         return Ordering::Greater;
     }
@@ -102,7 +102,7 @@ fn order(c: &Corner, a: Found, b: Found) -> Ordering
     ensures less { result ≡ IsLess → IsNoGreater c.now.problem c.now.marks a.choice b.choice }
     ensures greater { result ≡ IsGreater → IsNoGreater c.now.problem c.now.marks b.choice a.choice }
 {
-    c.show_corner();
+    c.show_corner(); // for the proof: what a corner keeps
     match a.front {
         None => Ordering::Less,
         Some(f) => match b.front {

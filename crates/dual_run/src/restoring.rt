@@ -11,10 +11,10 @@ ghost use Rattle.corner_ends.specs.Shares.{IsConflictStop};
 ghost use Rattle.dual_run.specs.Leaving.{AreLowLines, MayLeave};
 
 use crate::leaving::leaving;
-use crate::runs::Run;
+use crate::runs::exchange;
 use cert_core::RunStop;
 use corner::Corner;
-use corner_ends::{conflict_stop, is_costly};
+use corner_ends::{Trail, conflict_stop, is_costly};
 use problem_core::{Mark, RowName};
 use std::alloc::Global;
 
@@ -28,7 +28,7 @@ fn next(alloc: Global, c: &Corner, low: &mut Vec<RowName>) -> Result<Option<Mark
     ensures costs { IfOk result (λ found. IfNone found (CostsAbove c.now.problem c.now.marks 0 → ⊥)) }
     ensures stop { IfErr result (IsConflictStop c.now.problem) }
 {
-    c.show_corner();
+    c.show_corner(); // for the proof: what a corner keeps
     if is_costly(c) {
         return Err(conflict_stop(alloc, c));
     }
@@ -42,7 +42,7 @@ fn unlist_all(c: &mut Corner)
     ensures before { c.new.before ≡ c.old.before }
     ensures listed { c.new.candidates ≡ [] }
 {
-    c.show_corner();
+    c.show_corner(); // for the proof: what a corner keeps
     while c.candidates() > 0 {
         let last = c.candidates() - 1;
         c.unlist(last);
@@ -68,26 +68,22 @@ pub fn restore(alloc: Global, c: &mut Corner, low: Vec<RowName>, budget: u64) ->
     ensures stop { IfErr result
         (IsStopOf true c.old.problem c.old.problem.rows (FromHere c.old.marks) budget) }
 {
-    c.show_corner();
-    let Ok(mut run) = Run::of(alloc, c, low.len()) else {
-        return Err(RunStop::OutOfMemory);
-    };
+    c.show_corner(); // for the proof: what a corner keeps
+    let mut trail = Trail::with_room(alloc, true, c, low.len())?;
     let mut low = low;
     loop {
-        match next(alloc, c, &mut low) {
-            Ok(Some(leave)) => {
-                if run.is_spent(budget) {
-                    return Err(run.spent(c, leave));
+        let found = next(alloc, c, &mut low)?;
+        match found {
+            Some(leave) => {
+                if trail.is_spent(budget) {
+                    return Err(trail.spent(c));
                 }
-                if let Err(stop) = run.exchange(c, leave, &mut low) {
-                    return Err(stop);
-                }
+                exchange(&mut trail, c, leave, &mut low)?;
             }
-            Ok(None) => {
+            None => {
                 unlist_all(c);
                 return Ok(());
             }
-            Err(stop) => return Err(stop),
         }
     }
 }

@@ -8,7 +8,7 @@ ghost use Rattle.corner.specs.Views.{IsNamed};
 ghost use Rattle.dual_run.specs.Leaving.{AreLowLines};
 
 use corner::Corner;
-use frac_core::{Frac, OutOfMemory};
+use frac_core::{Frac, OutOfMemory, Stop};
 use problem_core::{RowName, TableStop};
 
 /// Gives a row this constant, as `Corner::shift` does, and lists the lines whose values are negative with it.
@@ -24,18 +24,14 @@ pub fn shift(c: &mut Corner, low: &mut Vec<RowName>, id: u32, to: Frac) -> Resul
     ensures stop { IfErr result (IsUnfitStop (with_constant id to c.old.problem) c.old.marks) }
     ensures same { OnErr result (IsRewound c.old c.new) }
 {
-    c.show_corner();
-    match c.shift(id, to) {
-        Ok(()) => {
-            c.show_corner();
-            match c.list_low(RowName::Held(id), low) {
-                Ok(()) => Ok(()),
-                Err(OutOfMemory) => {
-                    c.rewind();
-                    Err(TableStop::OutOfMemory)
-                }
-            }
+    c.show_corner(); // for the proof: what a corner keeps
+    c.shift(id, to)?;
+    c.show_corner(); // for the proof: what a corner keeps
+    match c.list_low(RowName::Held(id), low) {
+        Ok(()) => Ok(()),
+        Err(OutOfMemory) => {
+            c.rewind();
+            Err(Stop::OutOfMemory)
         }
-        Err(stop) => Err(stop),
     }
 }

@@ -14,7 +14,7 @@ use Rattle.problem_core.specs.declared.parts.Stay.{Stay}
 use Rattle.problem_core.specs.declared.stops.What.{What}
 use Rattle.problem_core.specs.declared.stops.Quantity.{Quantity}
 use Rattle.problem_core.specs.declared.stops.Quantity.TheVariants.{Plain, Terms, Rows, Shifts}
-use Rattle.problem_core.specs.declared.stops.TableStop.TheVariants.{UnfitAt}
+use Rattle.frac_core.specs.declared.memory.Stop.TheVariants.{Refused}
 use Rattle.problem_core.specs.Begins.{ComesFrom, without_marks}
 use Rattle.problem_core.specs.Layout.{Assignment, Line, Problem, Row, Satisfies, line_of_row, line_of_stay, lines, stay_lines, value_at}
 use Rattle.problem_core.specs.Kept.{IsWhole}
@@ -60,10 +60,10 @@ all_of {X} (x ∷ xs) (suc i) = ap (λ (ys : List X). x ∷ ys) (all_of xs i)
 is-path : (path : Path) (at : List Mark) → path.dual ≡ false → path.swaps ≡ [] → path.corner ≡ at → path ≡ record { dual = false; corner = at; swaps = [] }
 is-path path at a b e = ap₂ (λ (d : Bool) (s : List Swap). record { dual = d; corner = path.corner; swaps = s }) a b ∙ ap (λ (ms : List Mark). record { dual = false; corner = ms; swaps = [] }) e
 
-held-stop : (p q : Problem) (kept at : List Mark) (leaving gone : List ℕ) (what : What) → ComesFrom p kept leaving gone at → at ≡ in_order q at → IsPath false q at [] → IsUnfitStop q at (UnfitAt (Plain what)) → IsStopOf false q p.rows (FromRemoved p kept leaving gone q) 0 (UnfitRun (record { path = record { dual = false; corner = at; swaps = [] }; quantity = Plain what }))
+held-stop : (p q : Problem) (kept at : List Mark) (leaving gone : List ℕ) (what : What) → ComesFrom p kept leaving gone at → at ≡ in_order q at → IsPath false q at [] → IsUnfitStop q at (Refused (Plain what)) → IsStopOf false q p.rows (FromRemoved p kept leaving gone q) 0 (UnfitRun (record { path = record { dual = false; corner = at; swaps = [] }; quantity = Plain what }))
 held-stop p q kept at leaving gone what comes ordered lawful unfit = (refl, omega arith, ((refl, comes, ordered), lawful, unfit))
 
-pub held_path : (p q : Problem) (kept at : List Mark) (leaving gone still : List ℕ) (path : Path) (quantity : Quantity) → gone ++ still ≡ leaving → q ≡ without_rows gone p → path ≡ record { dual = false; corner = at; swaps = [] } → ComesFrom p kept leaving gone at → at ≡ in_order q at → IsPath false q at [] → IsUnfitStop q at (UnfitAt quantity) → IsHeldPath p kept leaving still (record { path = path; quantity = quantity })
+pub held_path : (p q : Problem) (kept at : List Mark) (leaving gone still : List ℕ) (path : Path) (quantity : Quantity) → gone ++ still ≡ leaving → q ≡ without_rows gone p → path ≡ record { dual = false; corner = at; swaps = [] } → ComesFrom p kept leaving gone at → at ≡ in_order q at → IsPath false q at [] → IsUnfitStop q at (Refused quantity) → IsHeldPath p kept leaving still (record { path = path; quantity = quantity })
 held_path p q kept at leaving gone still path (Plain what) all is e comes ordered lawful unfit = record {
   gone = gone;
   in_order = all;
@@ -113,7 +113,7 @@ module _ (p : Problem) (kept : List Mark) (rows : List ℕ) (i : ℕ) (within : 
       (subst (λ (ids : List ℕ). IsHeldPath p kept rows ids at) (sym of.0)
       (held_path p c.problem kept at.path.corner rows (take i rows) (drop i rows) at.path at.quantity (all_of rows i) h.problem
       (is-path at.path at.path.corner f.0.kind f.0.none refl) all f.0.ordered f.0.lawful
-      (subst (λ (q : Quantity). IsUnfitStop c.problem at.path.corner (UnfitAt q)) (sym f.1.1) f.1.2)))
+      (subst (λ (q : Quantity). IsUnfitStop c.problem at.path.corner (Refused q)) (sym f.1.1) f.1.2)))
 
   -- it has gone
   pub row_dropped : (old new : CornerView) → new.problem ≡ without_row (get_or rows i 0) old.problem → new.marks ≡ without_marks (get_or rows i 0 ∷ []) old.marks
@@ -132,7 +132,7 @@ module _ (p : Problem) (kept : List Mark) (rows : List ℕ) (i : ℕ) (within : 
 
   -- or something does not fit where it has gone
   pub unfit_dropped : (c : CornerView) (path : Path) (quantity : Quantity) (stop : RemoveStop) → IsKeptCorner c.problem c.marks → HasMarkIn c.marks (get_or rows i 0) → path ≡ record { dual = false; corner = without_marks (get_or rows i 0 ∷ []) c.marks; swaps = [] }
-      → IsUnfitStop (without_row (get_or rows i 0) c.problem) (without_marks (get_or rows i 0 ∷ []) c.marks) (UnfitAt quantity)
+      → IsUnfitStop (without_row (get_or rows i 0) c.problem) (without_marks (get_or rows i 0 ∷ []) c.marks) (Refused quantity)
       → HaveGone p kept (take (i + 1) rows) (take i rows) c → IsUnfitOf (drop (i + 1) rows) (record { path = path; quantity = quantity }) stop → IsStillStop p kept rows stop
   unfit_dropped c path quantity (Spent other) k inside e unfit h of = absurd of
   unfit_dropped c path quantity OutOfMemory k inside e unfit h of = tt

@@ -10,7 +10,7 @@ use Rattle.problem_core.specs.declared.parts.Side.TheVariants.{Under, Over}
 use Rattle.problem_core.specs.declared.stops.What.{What}
 use Rattle.problem_core.specs.declared.stops.Quantity.{Quantity}
 use Rattle.problem_core.specs.declared.stops.Quantity.TheVariants.{Plain, Terms, Rows, Shifts}
-use Rattle.problem_core.specs.declared.stops.TableStop.TheVariants.{UnfitAt}
+use Rattle.frac_core.specs.declared.memory.Stop.TheVariants.{Refused}
 use Rattle.problem_core.specs.declared.parts.Stay.{Stay}
 use Rattle.problem_core.specs.Layout.{Line, Problem, Row, line_of_row, line_of_stay, lines, stay_lines}
 use Rattle.problem_core.specs.Kept.{IsWhole}
@@ -236,7 +236,7 @@ rewound_marks first old new (newest, rest, before, marks) same back =
 -- what is said of each way to write a quantity holds of this one
 pub unfit_stop : (p q : Problem) (old : List Row) (here marks : List Mark) (quantity : Quantity) (n : ℕ) (stop : RunStop)
     → ((p : Problem) (old : List Row) (what : What) → quantity ≡ Plain what → IsPath true p here [] → IsUnfit p old here (Shifts what n) → (budget : ℕ) → IsStopOf true p old (FromHere here) budget stop)
-    → here ≡ marks → IsUnfitStop q marks (UnfitAt quantity) → ((what : What) → IsUnfitWhat q marks what → IsUnfit p old marks (Shifts what n)) → IsPath true p marks []
+    → here ≡ marks → IsUnfitStop q marks (Refused quantity) → ((what : What) → IsUnfitWhat q marks what → IsUnfit p old marks (Shifts what n)) → IsPath true p marks []
     → (budget : ℕ) → IsStopOf true p old (FromHere marks) budget stop
 unfit_stop p q old here marks (Plain what) n stop says e h unfit path budget =
     subst (λ (ms : List Mark). IsStopOf true p old (FromHere ms) budget stop) e

@@ -1,6 +1,8 @@
 -- What can leave, and where a removal has a stop: the row `x >= k` where x stands at k, and a row `x >= 0`.
-use Rattle.std.specs.Prelude.{◌≡◌, ℕ, ◌^◌, List, [], ◌∷◌, ◌++◌, pos, false}
+use Rattle.std.specs.Prelude.{◌≡◌, ℕ, List, [], ◌∷◌, ◌++◌, pos, false}
 use Rattle.std.specs.Global.{Vec}
+use Rattle.frac_core.specs.declared.frac.TheConstants.{PART_BOUND}
+use Rattle.problem_core.specs.declared.limits.TheConstants.{REQUIRED}
 use Rattle.problem_core.specs.declared.parts.Mark.{Mark}
 use Rattle.problem_core.specs.declared.parts.Rel.TheVariants.{Ge}
 use Rattle.problem_core.specs.Layout.{Problem, Row}
@@ -15,7 +17,7 @@ use Rattle.layout_solver.specs.Removals.{CanLeave, IsHeldPath, IsRemoveStop, Lea
 abbrev pub second : Row
 second = record {
   id = 2;
-  rank = 1000;
+  rank = REQUIRED;
   weight = 1;
   rel = Ge;
   scale = 1;
@@ -49,9 +51,9 @@ below_bound = record { dual = false; corner = under_row ∷ []; swaps = [] }
 
 pub record SomeRemovalsStop : Type 0 where
   -- a mark of the row has come in, or the second row has gone, while the first is still held
-  pub freed : IsHeldPath (standing (2 ^ 42)) (over_stay ∷ []) (1 ∷ []) (1 ∷ []) x_over
+  pub freed : IsHeldPath (standing PART_BOUND) (over_stay ∷ []) (1 ∷ []) (1 ∷ []) x_over
   pub freed_fits : (still : List ℕ) → IsHeldPath (standing 5) (over_stay ∷ []) (1 ∷ []) still x_over → ⊥
-  pub held : IsHeldPath (with_second (standing (2 ^ 42))) both_over (2 ∷ 1 ∷ []) (1 ∷ []) x_over
+  pub held : IsHeldPath (with_second (standing PART_BOUND)) both_over (2 ∷ 1 ∷ []) (1 ∷ []) x_over
   pub fits : (still : List ℕ) → IsHeldPath (with_second (standing 5)) both_over (2 ∷ 1 ∷ []) still x_over → ⊥
   -- a row that does not leave, or leaves first, is not told as still held
   pub not_leaving : (p : Problem) (kept : List Mark) (at : UnfitPath)
@@ -59,9 +61,9 @@ pub record SomeRemovalsStop : Type 0 where
   pub out_of_order : (p : Problem) (kept : List Mark) (at : UnfitPath)
       → IsHeldPath p kept (2 ∷ 1 ∷ []) (2 ∷ []) at → ⊥
   -- with the first row still held, or with none
-  pub one_held : (still : Vec ℕ) → still.items ≡ 1 ∷ [] → IsRemoveStop (with_second (standing (2 ^ 42)))
+  pub one_held : (still : Vec ℕ) → still.items ≡ 1 ∷ [] → IsRemoveStop (with_second (standing PART_BOUND))
       both_over (leaving (2 ∷ 1 ∷ []) (1 ∷ [])) 0 (Unfit still x_over)
-  pub none_held : (still : Vec ℕ) → still.items ≡ [] → IsRemoveStop (with_second (standing (2 ^ 42)))
+  pub none_held : (still : Vec ℕ) → still.items ≡ [] → IsRemoveStop (with_second (standing PART_BOUND))
       both_over (leaving (2 ∷ []) []) 0 (Unfit still x_over)
   pub none_unfit : (still : Vec ℕ) (budget : ℕ) → IsRemoveStop (with_second (standing 5)) both_over
       (leaving (2 ∷ 1 ∷ []) (1 ∷ [])) budget (Unfit still x_over) → ⊥

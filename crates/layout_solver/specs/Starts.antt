@@ -2,6 +2,7 @@
 use Rattle.std.specs.Prelude.{◌≡◌, ◌≢◌, ℕ, ◌<◌, List, [], ◌∷◌, ◌++◌, length, map, All}
 use Rattle.std.specs.List.{AllByRecursion as Each}
 use Rattle.frac_core.specs.Fraction.{Fraction, IsLowest}
+use Rattle.problem_core.specs.declared.limits.TheConstants.{ROW_LIMIT}
 use Rattle.problem_core.specs.Layout.{Problem, Row}
 use Rattle.problem_core.specs.Kept.{IsNumber}
 use Rattle.corner.specs.Views.{CornerView}
@@ -11,7 +12,7 @@ use Rattle.layout_solver.specs.Layouts.{AreValuesAt, stays_at, zeros}
 abbrev pub CanTake : List ℕ → List ℕ → Type 0
 CanTake held [] = Unit {0}
 CanTake held (a ∷ attrs) =
-    IsNumber a × Each (λ h. h ≢ a) held × (length held < 4096) × CanTake (held ++ (a ∷ [])) attrs
+    IsNumber a × Each (λ h. h ≢ a) held × (length held < ROW_LIMIT) × CanTake (held ++ (a ∷ [])) attrs
 
 abbrev pub attrs_of : Problem → List ℕ
 attrs_of p = map (λ s. s.attr) p.stays

@@ -49,14 +49,10 @@ fn join(alloc: Global, c: &mut Corner, rows: &[Row], budget: u64) -> Result<(), 
     ensures stop { IfErr result (IsStopOf false (with_more c.old.problem rows.now) c.old.problem.rows
         (FromAdded (with_more c.old.problem rows.now) c.old.marks rows.now) budget) }
 {
-    c.show_corner();
-    match c.add_rows(rows) {
-        Ok(()) => {
-            c.show_corner();
-            settle(alloc, c, budget)
-        }
-        Err(stop) => Err(stop),
-    }
+    c.show_corner(); // for the proof: what a corner keeps
+    c.add_rows(rows)?;
+    c.show_corner(); // for the proof: what a corner keeps
+    settle(alloc, c, budget)
 }
 
 /// Moves the stays to the present values, and adds attributes at 0.
@@ -68,7 +64,7 @@ fn widen(c: &mut Corner, attrs: &[u32]) -> Result<(), OutOfMemory>
     ensures before { c.new.before ≡ c.old.before }
 {
     c.stand()?;
-    c.show_corner();
+    c.show_corner(); // for the proof: what a corner keeps
     add_attrs(c, attrs)
 }
 
@@ -97,8 +93,8 @@ pub(crate) fn extend(
         → IsMoved c.old attrs.now (c.old.problem.rows ++ rows.now) p
         → IsStopOf false p c.old.problem.rows (FromAdded p c.old.marks rows.now) budget stop) }
 {
-    c.show_corner();
+    c.show_corner(); // for the proof: what a corner keeps
     widen(c, attrs)?;
-    c.show_corner();
+    c.show_corner(); // for the proof: what a corner keeps
     join(alloc, c, rows, budget)
 }

@@ -73,7 +73,7 @@ impl Engine {
         }) }
     {
         let corner = Corner::new(alloc)?;
-        corner.show_corner();
+        corner.show_corner(); // for the proof: what a corner keeps
         Ok(Engine { corner, alloc })
     }
 
@@ -112,7 +112,7 @@ impl Engine {
     {
         self.corner.mark();
         let result = extend(self.alloc, &mut self.corner, attrs, rows, budget);
-        self.corner.show_corner();
+        self.corner.show_corner(); // for the proof: what a corner keeps
         match result {
             Ok(()) => Ok(()),
             Err(stop) => {
@@ -142,7 +142,7 @@ impl Engine {
     {
         self.corner.mark();
         let result = alter(self.alloc, &mut self.corner, to, budget);
-        self.corner.show_corner();
+        self.corner.show_corner(); // for the proof: what a corner keeps
         match result {
             Ok(()) => Ok(()),
             Err(stop) => {
@@ -174,7 +174,7 @@ impl Engine {
     {
         self.corner.mark();
         let result = shrink(self.alloc, &mut self.corner, rows, attrs, budget);
-        self.corner.show_corner();
+        self.corner.show_corner(); // for the proof: what a corner keeps
         match result {
             Ok(()) => Ok(()),
             Err(stop) => {
@@ -251,7 +251,7 @@ impl Engine {
         ensures { Any (λ v. (v.0 ≡ attr) × (v.1 ≡ result)) self.now.values }
     {
         let value = self.corner.attr_value(attr);
-        let _ = value.num();
+        let _ = value.num(); // for the proof: what a fraction keeps
         value
     }
 

@@ -20,7 +20,7 @@
 //! | `show_layout`: `best` | the values are those of a best assignment; no other list is |
 //! | `done` | after `Ok`, the problem is the one that was asked for |
 //! | `path` | after `Ok`, a lawful path within the budget leads from the kept corner to the engine's corner |
-//! | `stop` | a conflict has multipliers that show it, which `remove` never has; any other stop has a lawful path |
+//! | `stop` | a conflict (`remove` has none) has multipliers that show it; any other stop has a lawful path |
 //! | `earlier` | after `Ok`, the layout before is the latest of the earlier ones |
 //! | `same` | after a stop or want of memory, the engine is as before |
 //! | `some`, `none` | the value of an attribute with a stay, and of no other |

@@ -4,7 +4,7 @@ ghost use Rattle.problem_core.specs.Layout.{HasStay, Problem};
 ghost use Rattle.problem_core.specs.Levels.{IsLevelAt};
 ghost use Rattle.corner.specs.Views.{IsLevelOf};
 
-use problem_core::{Level, Row, Stay};
+use problem_core::{Level, REQUIRED, Row, Stay};
 
 /// Whether an attribute has a stay.
 pub(crate) fn has_stay(stays: &[Stay], attr: u32) -> bool
@@ -20,7 +20,7 @@ pub(crate) fn has_level(stays: &[Stay], level: Level) -> bool
     ensures no { (p : Problem) → p.stays ≡ stays.now → result ≡ false → (k : ℕ) → IsLevelAt p level k → ⊥ }
 {
     match level {
-        Level::Priority(rank) => rank <= 1000,
+        Level::Priority(rank) => rank <= REQUIRED,
         Level::Stay(attr) => has_stay(stays, attr),
     }
 }

@@ -17,19 +17,23 @@ ghost use Rattle.layout_solver.specs.Starts.{IsMoved};
 
 use cert_core::{Path, RunStop, UnfitPath};
 use corner::Corner;
-use frac_core::OutOfMemory;
+use frac_core::{OutOfMemory, Stop};
 use marker_remove::free_row;
 use primal_run::settle;
 use problem_core::{Mark, RowName, TableStop};
 use std::alloc::Global;
+use thiserror::Error;
 
 /// What ends a removal.
-#[derive(Debug, Drop)]
+#[derive(Debug, Drop, Error)]
 pub enum RemoveStop {
     /// A quantity does not fit while these leaving rows, by number, are still held.
+    #[error("a quantity doesn't fit")]
     Unfit { still: Vec<u32>, at: UnfitPath },
     /// The exchanges are used up.
+    #[error("the exchanges are used up")]
     Spent(Path),
+    #[error("memory is wanting")]
     OutOfMemory,
 }
 
@@ -95,7 +99,7 @@ fn free_next(alloc: Global, c: &mut Corner, rows: &[u32], gone: usize) -> Result
         → HaveGone p kept (take gone rows.now) (take gone rows.now) c.old
         → IsStillStop p kept rows.now stop) }
 {
-    c.show_corner();
+    c.show_corner(); // for the proof: what a corner keeps
     match free_row(alloc, c, rows[gone]) {
         Ok(_) => Ok(()),
         Err(RunStop::Unfit(at)) => Err(held_stop(alloc, &rows[gone..], at)),
@@ -116,15 +120,15 @@ fn drop_next(alloc: Global, c: &mut Corner, rows: &[u32], gone: usize) -> Result
         → HaveGone p kept (take (gone + 1) rows.now) (take gone rows.now) c.old
         → IsStillStop p kept rows.now stop) }
 {
-    c.show_corner();
+    c.show_corner(); // for the proof: what a corner keeps
     let id = rows[gone];
     match c.drop_row(id) {
         Ok(()) => Ok(()),
-        Err(TableStop::UnfitAt(quantity)) => match path_without(alloc, c, id) {
+        Err(Stop::Refused(quantity)) => match path_without(alloc, c, id) {
             Ok(path) => Err(held_stop(alloc, &rows[gone + 1..], UnfitPath { path, quantity })),
             Err(OutOfMemory) => Err(RemoveStop::OutOfMemory),
         },
-        Err(TableStop::OutOfMemory) => Err(RemoveStop::OutOfMemory),
+        Err(Stop::OutOfMemory) => Err(RemoveStop::OutOfMemory),
     }
 }
 
@@ -145,10 +149,8 @@ fn take_next(alloc: Global, c: &mut Corner, rows: &[u32], gone: usize) -> Result
         → HaveGone p kept (take gone rows.now) (take gone rows.now) c.old
         → IsStillStop p kept rows.now stop) }
 {
-    match free_next(alloc, c, rows, gone) {
-        Ok(()) => drop_next(alloc, c, rows, gone),
-        Err(stop) => Err(stop),
-    }
+    free_next(alloc, c, rows, gone)?;
+    drop_next(alloc, c, rows, gone)
 }
 
 /// Takes rows out, one by one.
@@ -162,11 +164,9 @@ fn drop_rows(alloc: Global, c: &mut Corner, rows: &[u32]) -> Result<(), RemoveSt
     ensures gone { IfOk result (λ _. HaveGone c.old.problem c.old.marks rows.now rows.now c.new) }
     ensures stop { IfErr result (IsStillStop c.old.problem c.old.marks rows.now) }
 {
-    c.show_corner();
+    c.show_corner(); // for the proof: what a corner keeps
     for gone in 0..rows.len() {
-        if let Err(stop) = take_next(alloc, c, rows, gone) {
-            return Err(stop);
-        }
+        take_next(alloc, c, rows, gone)?;
     }
     Ok(())
 }
@@ -200,7 +200,7 @@ fn settle_left(alloc: Global, c: &mut Corner, budget: u64) -> Result<(), RemoveS
         × IsRun false c.old.problem (λ at. at ≡ c.old.marks) budget c.new.marks path) }
     ensures stop { IfErr result (IsEndStop c.old.problem c.old.marks budget) }
 {
-    c.show_corner();
+    c.show_corner(); // for the proof: what a corner keeps
     match settle(alloc, c, budget) {
         Ok(()) => Ok(()),
         Err(RunStop::Unfit(at)) => Err(RemoveStop::Unfit {
@@ -234,7 +234,7 @@ fn leave_attrs(alloc: Global, c: &mut Corner, attrs: &[u32], budget: u64) -> Res
 {
     match drop_attrs(c, attrs) {
         Ok(()) => {
-            c.show_corner();
+            c.show_corner(); // for the proof: what a corner keeps
             settle_left(alloc, c, budget)
         }
         Err(OutOfMemory) => Err(RemoveStop::OutOfMemory),
@@ -265,10 +265,8 @@ fn take_out(
     ensures stop { IfErr result (IsRemoveStop c.old.problem c.old.marks
         (record { rows = rows.now; attrs = attrs.now }) budget) }
 {
-    match drop_rows(alloc, c, rows) {
-        Ok(()) => leave_attrs(alloc, c, attrs, budget),
-        Err(stop) => Err(stop),
-    }
+    drop_rows(alloc, c, rows)?;
+    leave_attrs(alloc, c, attrs, budget)
 }
 
 /// Moves the stays to the present values, takes rows and attributes out, and goes on to the best corner.
@@ -293,10 +291,10 @@ pub(crate) fn shrink(
     ensures stop { IfErr result (λ stop. (p : layout.Problem) → IsMoved c.old [] c.old.problem.rows p
         → IsRemoveStop p c.old.marks (record { rows = rows.now; attrs = attrs.now }) budget stop) }
 {
-    c.show_corner();
+    c.show_corner(); // for the proof: what a corner keeps
     match c.stand() {
         Ok(()) => {
-            c.show_corner();
+            c.show_corner(); // for the proof: what a corner keeps
             take_out(alloc, c, rows, attrs, budget)
         }
         Err(OutOfMemory) => Err(RemoveStop::OutOfMemory),

@@ -18,7 +18,7 @@ use crate::engine::Change;
 use cert_core::{Path, RunStop, UnfitPath};
 use corner::Corner;
 use dual_run::{restore, shift};
-use frac_core::{Frac, OutOfMemory};
+use frac_core::{Frac, OutOfMemory, Stop};
 use problem_core::{Quantity, Row, RowName, TableStop};
 use std::alloc::Global;
 
@@ -37,7 +37,7 @@ fn show_constants(to: &[Change])
     ensures { All (λ t. IsKept t.constant) to.now }
 {
     for change in to {
-        let _ = change.constant.num();
+        let _ = change.constant.num(); // for the proof: what a fraction keeps
     }
 }
 
@@ -92,21 +92,21 @@ fn shift_all(
     ensures stop { IfErr result (λ stop. (budget : ℕ) → IsStopOf true (with_constants to.now c.old.problem)
         c.old.problem.rows (FromHere c.old.marks) budget stop) }
 {
-    c.show_corner();
+    c.show_corner(); // for the proof: what a corner keeps
     let mut changed = 0;
     for change in to {
-        c.show_corner();
+        c.show_corner(); // for the proof: what a corner keeps
         if constant_of(c.rows(), change.row) == change.constant {
             continue;
         }
         changed += 1;
         match shift(c, low, change.row, change.constant) {
             Ok(()) => (),
-            Err(TableStop::UnfitAt(quantity)) => {
+            Err(Stop::Refused(quantity)) => {
                 show_constants(to);
                 return Err(shifts_stop(alloc, c, quantity, changed));
             }
-            Err(TableStop::OutOfMemory) => return Err(RunStop::OutOfMemory),
+            Err(Stop::OutOfMemory) => return Err(RunStop::OutOfMemory),
         }
     }
     Ok(())
@@ -137,12 +137,10 @@ pub(crate) fn alter(
         → IsMoved c.old [] (shifted to.now c.old.problem.rows) p
         → IsStopOf true p c.old.problem.rows (FromHere c.old.marks) budget stop) }
 {
-    c.show_corner();
+    c.show_corner(); // for the proof: what a corner keeps
     c.stand()?;
-    c.show_corner();
+    c.show_corner(); // for the proof: what a corner keeps
     let mut low = Vec::new(alloc);
-    match shift_all(alloc, c, &mut low, to) {
-        Ok(()) => restore(alloc, c, low, budget),
-        Err(stop) => Err(stop),
-    }
+    shift_all(alloc, c, &mut low, to)?;
+    restore(alloc, c, low, budget)
 }

@@ -37,12 +37,8 @@ pub(crate) fn tried(
         → IsMoved c.old [] (c.old.problem.rows ++ rows.now) p
         → IsStopOf false p c.old.problem.rows (FromAdded p c.old.marks rows.now) budget stop) }
 {
-    c.show_corner();
-    match extend(alloc, c, &[], rows, budget) {
-        Ok(()) => {
-            c.show_corner();
-            Ok(c.attr_value(attr))
-        }
-        Err(stop) => Err(stop),
-    }
+    c.show_corner(); // for the proof: what a corner keeps
+    extend(alloc, c, &[], rows, budget)?;
+    c.show_corner(); // for the proof: what a corner keeps
+    Ok(c.attr_value(attr))
 }

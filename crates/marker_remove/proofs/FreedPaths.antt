@@ -11,7 +11,7 @@ use Rattle.problem_core.specs.declared.parts.Side.TheVariants.{Under, Over}
 use Rattle.problem_core.specs.declared.stops.What.{What}
 use Rattle.problem_core.specs.declared.stops.Quantity.{Quantity}
 use Rattle.problem_core.specs.declared.stops.Quantity.TheVariants.{Plain, Terms, Rows, Shifts}
-use Rattle.problem_core.specs.declared.stops.TableStop.TheVariants.{UnfitAt}
+use Rattle.frac_core.specs.declared.memory.Stop.TheVariants.{Refused}
 use Rattle.problem_core.specs.Layout.{Line, Problem, lines}
 use Rattle.problem_core.specs.Corners.{IsCorner, IsExchange, IsIn, NoNegativeValue, SameMarks, Swap, exchanged, marks_of, place, place_of}
 use Rattle.problem_core.specs.Paths.{IsPath}
@@ -194,17 +194,17 @@ freed_path p at id s path kept row stay ex up standing e =
       lawful = path_here p (in_order p (exchanged s at)) corner (same_up p at (in_order p (exchanged s at)) s stay.attr kept.whole kept.corner standing stay.stay ex back up);
     })
 
-plain_quantity : (p : Problem) (ms : List Mark) (quantity : Quantity) → IsUnfitStop p ms (UnfitAt quantity) → (what : What) × (quantity ≡ Plain what) × IsUnfitWhat p ms what
+plain_quantity : (p : Problem) (ms : List Mark) (quantity : Quantity) → IsUnfitStop p ms (Refused quantity) → (what : What) × (quantity ≡ Plain what) × IsUnfitWhat p ms what
 plain_quantity p ms (Plain what) h = (what, refl, h)
 plain_quantity p ms (Terms mark j) h = absurd h
 plain_quantity p ms (Rows level j) h = absurd h
 plain_quantity p ms (Shifts what j) h = absurd h
 
-pub unfit_there : (p : Problem) (at : List Mark) (s : Swap) (path : Path) (quantity : Quantity) → IsExchange p at s → path ≡ record { dual = false; corner = in_order p (exchanged s at); swaps = [] } → IsUnfitStop p (exchanged s at) (UnfitAt quantity) → (what : What) × (quantity ≡ Plain what) × IsUnfitWhat p path.corner what
+pub unfit_there : (p : Problem) (at : List Mark) (s : Swap) (path : Path) (quantity : Quantity) → IsExchange p at s → path ≡ record { dual = false; corner = in_order p (exchanged s at); swaps = [] } → IsUnfitStop p (exchanged s at) (Refused quantity) → (what : What) × (quantity ≡ Plain what) × IsUnfitWhat p path.corner what
 unfit_there p at s path quantity ex e h =
     subst (λ (q : Path). (what : What) × (quantity ≡ Plain what) × IsUnfitWhat p q.corner what) (sym e)
     (plain_quantity p (in_order p (exchanged s at)) quantity
-    (unfit_same p (exchanged s at) (in_order p (exchanged s at)) (UnfitAt quantity) (same_back (in_order p (exchanged s at)) (exchanged s at) (ordered_same p (exchanged s at) ex.corner)) h))
+    (unfit_same p (exchanged s at) (in_order p (exchanged s at)) (Refused quantity) (same_back (in_order p (exchanged s at)) (exchanged s at) (ordered_same p (exchanged s at) ex.corner)) h))
 
 -- a mark of the row is inside after the exchange
 pub freed_inside : (at new : List Mark) (id : ℕ) (s : Swap) → IsIn (place s.leave) at → s.enter ≡ record { row = Held id; side = Over } → SameMarks new (exchanged s at) → HasMarkIn new id

@@ -1,5 +1,6 @@
 -- Where a row that leaves has a stop, and where it has none: the row `x >= k` where x stands at k.
-use Rattle.std.specs.Prelude.{ℕ, ◌^◌, List, [], ◌∷◌, pos, false}
+use Rattle.std.specs.Prelude.{ℕ, List, [], ◌∷◌, pos, false}
+use Rattle.frac_core.specs.declared.frac.TheConstants.{PART_BOUND}
 use Rattle.problem_core.specs.declared.parts.Mark.{Mark}
 use Rattle.problem_core.specs.declared.stops.What.TheVariants.{Attr}
 use Rattle.problem_core.specs.declared.stops.Quantity.{Quantity}
@@ -31,10 +32,10 @@ x_over = unfit_at (over_row ∷ []) (Plain (Attr 1))
 
 -- the corner leans on the row, and x is what may not fit once the row's mark is in
 pub record SomeRowsCannotLeave : Type 0 where
-  pub values : NoNegativeValue (standing (2 ^ 42)) (over_stay ∷ [])
-  pub stands : DoStand (standing (2 ^ 42)) (over_stay ∷ [])
-  pub unfit : IsFreeStop (standing (2 ^ 42)) (over_stay ∷ []) 1 (Unfit x_over)
+  pub values : NoNegativeValue (standing PART_BOUND) (over_stay ∷ [])
+  pub stands : DoStand (standing PART_BOUND) (over_stay ∷ [])
+  pub unfit : IsFreeStop (standing PART_BOUND) (over_stay ∷ []) 1 (Unfit x_over)
   pub fits : IsFreeStop (standing 5) (over_stay ∷ []) 1 (Unfit x_over) → ⊥
-  pub other_row : IsFreeStop (standing (2 ^ 42)) (over_stay ∷ []) 2 (Unfit x_over) → ⊥
+  pub other_row : IsFreeStop (standing PART_BOUND) (over_stay ∷ []) 2 (Unfit x_over) → ⊥
   pub not_freed : (p : Problem) (at : List Mark) (id : ℕ) (quantity : Quantity)
       → IsFreeStop p at id (Unfit (unfit_at at quantity)) → ⊥

@@ -2,7 +2,7 @@
 ghost use Rattle.std.specs.Prelude.{◌≡◌, ◌<◌, [], length, true, false, Any, IfOk, IfErr};
 ghost use Rattle.std.specs.Prelude.{IfSome, IfNone};
 ghost use Rattle.problem_core.specs.Corners.{IsExchange, NoNegativeValue, exchanged};
-ghost use Rattle.problem_core.specs.declared.stops.TableStop.TheVariants.{UnfitAt};
+ghost use Rattle.frac_core.specs.declared.memory.Stop.TheVariants.{Refused};
 ghost use Rattle.corner.specs.Changes.{IsUnfitStop};
 ghost use Rattle.corner.specs.Views.{in_order};
 ghost use Rattle.problem_core.specs.declared.parts.RowName.TheVariants.{Held};
@@ -13,7 +13,7 @@ use crate::leaving::leaving;
 use cert_core::{Path, RunStop, Swap, UnfitPath};
 use corner::Corner;
 use corner_ends::first_marks;
-use frac_core::OutOfMemory;
+use frac_core::{OutOfMemory, Stop};
 use problem_core::{Mark, Quantity, RowName, Side, TableStop};
 use std::alloc::Global;
 
@@ -60,10 +60,10 @@ fn unfit(alloc: Global, c: &Corner, id: u32, swap: Swap, quantity: Quantity) -> 
     requires exchange { IsExchange c.now.problem c.now.marks swap }
     requires values { NoNegativeValue c.now.problem c.now.marks }
     requires standing { DoStand c.now.problem c.now.marks }
-    requires quantity { IsUnfitStop c.now.problem (exchanged swap c.now.marks) (UnfitAt quantity) }
+    requires quantity { IsUnfitStop c.now.problem (exchanged swap c.now.marks) (Refused quantity) }
     ensures { IsFreeStop c.now.problem c.now.marks id result }
 {
-    c.show_corner();
+    c.show_corner(); // for the proof: what a corner keeps
     match freed_path(alloc, c, swap) {
         Ok(path) => RunStop::Unfit(UnfitPath { path, quantity }),
         Err(OutOfMemory) => RunStop::OutOfMemory,
@@ -90,7 +90,7 @@ pub fn free_row(alloc: Global, c: &mut Corner, id: u32) -> Result<Option<Swap>, 
     ensures values { IfOk result (λ _. NoNegativeValue c.new.problem c.new.marks) }
     ensures stop { IfErr result (IsFreeStop c.old.problem c.old.marks id) }
 {
-    c.show_corner();
+    c.show_corner(); // for the proof: what a corner keeps
     if is_free(c, id) {
         return Ok(None);
     }
@@ -98,9 +98,9 @@ pub fn free_row(alloc: Global, c: &mut Corner, id: u32) -> Result<Option<Swap>, 
     let leave = leaving(c, enter);
     match c.swap(enter, leave) {
         Ok(()) => Ok(Some(Swap { enter, leave })),
-        Err(TableStop::UnfitAt(quantity)) => {
+        Err(Stop::Refused(quantity)) => {
             Err(unfit(alloc, c, id, Swap { enter, leave }, quantity))
         }
-        Err(TableStop::OutOfMemory) => Err(RunStop::OutOfMemory),
+        Err(Stop::OutOfMemory) => Err(RunStop::OutOfMemory),
     }
 }

@@ -1,5 +1,6 @@
 -- Which marks may enter.
 use Rattle.std.specs.Prelude.{◌≤ℤ◌, ◌<ℤ◌, List, ℤ, pos, false}
+use Rattle.problem_core.specs.declared.limits.TheConstants.{REQUIRED}
 use Rattle.problem_core.specs.declared.parts.Mark.{Mark}
 use Rattle.problem_core.specs.declared.parts.RowName.{RowName}
 use Rattle.problem_core.specs.declared.parts.Side.{Side}
@@ -21,13 +22,13 @@ pub record IsChoice (p : Problem) (at : List Mark) (f : Choice) : Type 0 where
 pub record IsRequired (p : Problem) (at : List Mark) (m : Mark) : Type 0 where
   pub outside : IsOutside p at m
   pub reduced : ℤ
-  pub is_reduced : IsReducedAt p at (Priority 1000) m reduced
+  pub is_reduced : IsReducedAt p at (Priority REQUIRED) m reduced
   pub below : reduced <ℤ pos 0
 
 -- neither mark of the line has a reduced cost below 0 there
 abbrev pub HasNoRequired : Problem → List Mark → RowName → Type 0
 HasNoRequired p at name = (side : Side) → (z : ℤ)
-    × IsReducedAt p at (Priority 1000) (record { row = name; side = side }) z × (pos 0 ≤ℤ z)
+    × IsReducedAt p at (Priority REQUIRED) (record { row = name; side = side }) z × (pos 0 ≤ℤ z)
 
 -- the corner is no end, and the outside mark's column is negative
 pub record MayEnter (p : Problem) (at : List Mark) (m : Mark) : Type 0 where

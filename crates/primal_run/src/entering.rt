@@ -26,7 +26,7 @@ fn negative_front(c: &Corner, mark: Mark) -> Option<Front>
     ensures below { IfSome result (λ front. front.reduced <ℤ pos 0) }
     ensures none { IfNone result (HasNegativeColumn c.now.problem c.now.marks mark → ⊥) }
 {
-    c.show_corner();
+    c.show_corner(); // for the proof: what a corner keeps
     match c.front(mark) {
         Some(front) => {
             if is_below(front.reduced) {
@@ -143,7 +143,7 @@ fn see(c: &mut Corner, found: Option<Choice>, i: usize) -> Seen
     ensures none { IfNone result.found ((found ≡ None) × (result.next ≡ i)) }
     ensures nearer { length c.new.candidates - result.next < length c.old.candidates - i }
 {
-    c.show_corner();
+    c.show_corner(); // for the proof: what a corner keeps
     let _count = c.candidates();
     let row = c.candidate(i);
     match negative_of(c, row) {

@@ -30,7 +30,7 @@ fn next_untied(
         → IsFirstOf c.now.problem c.now.marks (corners.place enter) first list found
         → IsFirstOf c.now.problem c.now.marks (corners.place enter) first (list ++ what ∷ []) next) }
 {
-    c.show_corner();
+    c.show_corner(); // for the proof: what a corner keeps
     let What::Mark(m) = what else {
         return Ok(found);
     };
@@ -38,10 +38,10 @@ fn next_untied(
         return Ok(found);
     };
     match found {
-        Some(other) => match smaller(c, ratio, other, enter) {
-            Ok(best) => Ok(Some(best)),
-            Err(Tied) => Err(Tied),
-        },
+        Some(other) => {
+            let best = smaller(c, ratio, other, enter)?;
+            Ok(Some(best))
+        }
         None => Ok(Some(ratio)),
     }
 }
@@ -54,14 +54,11 @@ pub(crate) fn leaving_untied(c: &Corner, enter: Mark) -> Result<Mark, Tied>
     ensures first { IfOk result (λ m. (first : List MarkOfLine)
         → IsFirstToLeave c.now.problem first c.now.marks (record { enter = enter; leave = m })) }
 {
-    c.show_corner();
+    c.show_corner(); // for the proof: what a corner keeps
     let count = c.movers(enter);
     let mut found = None;
     for i in 0..count {
-        match next_untied(c, found, c.mover(enter, i), enter) {
-            Ok(next) => found = next,
-            Err(Tied) => return Err(Tied),
-        }
+        found = next_untied(c, found, c.mover(enter, i), enter)?;
     }
     match found {
         Some(ratio) => Ok(ratio.mark),
@@ -86,7 +83,7 @@ fn next_first(
         → IsFirstOf c.now.problem c.now.marks (corners.place enter) first.now list found
         → IsFirstOf c.now.problem c.now.marks (corners.place enter) first.now (list ++ what ∷ []) result }
 {
-    c.show_corner();
+    c.show_corner(); // for the proof: what a corner keeps
     let What::Mark(m) = what else {
         return found;
     };
@@ -108,7 +105,7 @@ pub(crate) fn leaving(c: &Corner, enter: Mark, first: &[Mark]) -> Mark
     ensures first { IsFirstToLeave c.now.problem first.now c.now.marks
         (record { enter = enter; leave = result }) }
 {
-    c.show_corner();
+    c.show_corner(); // for the proof: what a corner keeps
     let count = c.movers(enter);
     let mut found = None;
     for i in 0..count {

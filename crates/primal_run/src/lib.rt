@@ -20,7 +20,7 @@
 //! without a common factor; by a path to a corner at which a quantity does not fit; by a path of as many
 //! exchanges as the budget to a corner that is no end; or by want of memory.
 //!
-//! What holds before each exchange (`IsRunOf`): the first corner had no negative value, and in each
+//! What holds before each exchange (`IsTrailOf`): the first corner had no negative value, and in each
 //! exchange so far that mark left which was the first to come to 0, where the marks of the first corner
 //! decide between equal ones. By that rule no corner comes twice. Which mark with a negative column enters
 //! is free: it is one of the strongest level, there of the lowest reduced cost, and of equal ones that of
@@ -32,8 +32,9 @@
 //! strongest level.
 //!
 //! To read: `entering` finds the mark that enters, `required` does so where the required rows cost; `ties`
-//! tells which of two marks comes to 0 first, `leaving` which of all; `runs` keeps the exchanges so far; and
-//! `settling` is the run. What it shares with the dual run is in `corner_ends`.
+//! tells which of two marks comes to 0 first, `leaving` which of all; `runs` makes an exchange; and
+//! `settling` is the run. What it shares with the dual run is in `corner_ends`, which keeps the exchanges so
+//! far (`Trail`).
 #![tactic(auto)]
 
 mod entering;

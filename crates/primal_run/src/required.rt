@@ -2,6 +2,7 @@
 ghost use Rattle.std.specs.Prelude.{◌≡◌, ◌⊎◌, ◌<◌, ℤ, pos, ◌≤ℤ◌};
 ghost use Rattle.std.specs.Prelude.{true, false, length, IfSome, IfNone};
 ghost use Rattle.std.specs.Prelude.{slice_get, Some, None};
+ghost use Rattle.problem_core.specs.declared.limits.TheConstants.{REQUIRED};
 ghost use Rattle.problem_core.specs.declared.parts.Level.TheVariants.{Priority};
 ghost use Rattle.problem_core.specs.declared.parts.RowName.{RowName as RowNameOf};
 ghost use Rattle.problem_core.specs.Paths.{NoNegativeRequired};
@@ -11,14 +12,14 @@ ghost use Rattle.primal_run.specs.Entering.{HasNoRequired, IsChoice, IsRequired}
 use crate::entering::{Choice, is_weaker, mark_at};
 use corner::Corner;
 use corner_ends::{is_below, required_level};
-use problem_core::{Level, Mark, RowName, Side};
+use problem_core::{Level, Mark, REQUIRED, RowName, Side};
 
 /// Whether it is the level of the required rows.
 fn is_required_level(level: Level) -> bool
-    ensures { result ≡ true → level ≡ Priority 1000 }
+    ensures { result ≡ true → level ≡ Priority REQUIRED }
 {
     match level {
-        Level::Priority(rank) => rank == 1000,
+        Level::Priority(rank) => rank == REQUIRED,
         Level::Stay(_) => false,
     }
 }
@@ -28,7 +29,7 @@ pub(crate) fn required_of(c: &Corner, found: Option<Choice>) -> Option<Mark>
     requires { IfSome found (IsChoice c.now.problem c.now.marks) }
     ensures { IfSome result (IsRequired c.now.problem c.now.marks) }
 {
-    c.show_corner();
+    c.show_corner(); // for the proof: what a corner keeps
     match found {
         Some(choice) => {
             if is_required_level(choice.front.level) {
@@ -51,7 +52,7 @@ struct Lower {
 /// The mark's reduced cost at the level of the required rows.
 fn reduced_of(c: &Corner, mark: Mark) -> i64
     requires { IsMarkOf c.now.problem mark }
-    ensures { IsReducedAt c.now.problem c.now.marks (Priority 1000) mark result }
+    ensures { IsReducedAt c.now.problem c.now.marks (Priority REQUIRED) mark result }
 {
     c.reduced(required_level(), mark)
 }
@@ -60,10 +61,10 @@ fn reduced_of(c: &Corner, mark: Mark) -> i64
 fn lower_at(c: &Corner, mark: Mark) -> Option<Lower>
     requires { IsMarkOf c.now.problem mark }
     ensures some { IfSome result (λ f. IsRequired c.now.problem c.now.marks f.mark) }
-    ensures none { IfNone result ((z : ℤ) × IsReducedAt c.now.problem c.now.marks (Priority 1000) mark z
+    ensures none { IfNone result ((z : ℤ) × IsReducedAt c.now.problem c.now.marks (Priority REQUIRED) mark z
         × (pos 0 ≤ℤ z)) }
 {
-    c.show_corner();
+    c.show_corner(); // for the proof: what a corner keeps
     let reduced = reduced_of(c, mark);
     if is_below(reduced) {
         Some(Lower { mark, reduced })
@@ -111,7 +112,7 @@ fn next_lowest(c: &Corner, found: Option<Lower>, i: usize) -> Option<Lower>
         × ((name : RowNameOf) × (slice_get c.now.candidates i ≡ Some name)
         × HasNoRequired c.now.problem c.now.marks name)) }
 {
-    c.show_corner();
+    c.show_corner(); // for the proof: what a corner keeps
     match lower_of(c, c.candidate(i)) {
         Some(lower) => Some(lowest(c, lower, found)),
         None => found,
@@ -123,7 +124,7 @@ pub(crate) fn required_pick(c: &Corner) -> Option<Mark>
     ensures some { IfSome result (IsRequired c.now.problem c.now.marks) }
     ensures none { IfNone result (NoNegativeRequired c.now.problem c.now.marks) }
 {
-    c.show_corner();
+    c.show_corner(); // for the proof: what a corner keeps
     let count = c.candidates();
     let mut found = None;
     for i in 0..count {

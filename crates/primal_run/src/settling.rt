@@ -12,10 +12,10 @@ ghost use Rattle.primal_run.specs.Entering.{IsChoice, MayEnter};
 
 use crate::entering::{Choice, pick};
 use crate::required::{required_of, required_pick};
-use crate::runs::Run;
+use crate::runs::exchange;
 use cert_core::RunStop;
 use corner::Corner;
-use corner_ends::{conflict_stop, is_costly};
+use corner_ends::{Trail, conflict_stop, is_costly};
 use problem_core::Mark;
 use std::alloc::Global;
 
@@ -27,7 +27,7 @@ fn required_entering(alloc: Global, c: &Corner, found: Option<Choice>) -> Result
     ensures enters { IfOk result (MayEnter c.now.problem c.now.marks) }
     ensures stop { IfErr result (IsConflictStop c.now.problem) }
 {
-    c.show_corner();
+    c.show_corner(); // for the proof: what a corner keeps
     if let Some(mark) = required_of(c, found) {
         return Ok(mark);
     }
@@ -60,15 +60,13 @@ fn entering(alloc: Global, c: &mut Corner) -> Result<Option<Mark>, RunStop>
     ensures listed { IfOk result (λ found. IfNone found (c.new.candidates ≡ [])) }
     ensures stop { IfErr result (IsConflictStop c.old.problem) }
 {
-    c.show_corner();
+    c.show_corner(); // for the proof: what a corner keeps
     let costly = is_costly(c);
     let found = pick(c);
-    c.show_corner();
+    c.show_corner(); // for the proof: what a corner keeps
     if costly {
-        return match required_entering(alloc, c, found) {
-            Ok(mark) => Ok(Some(mark)),
-            Err(stop) => Err(stop),
-        };
+        let mark = required_entering(alloc, c, found)?;
+        return Ok(Some(mark));
     }
     Ok(mark_of(c, found))
 }
@@ -87,19 +85,17 @@ fn run_on(alloc: Global, c: &mut Corner, budget: u64, first: Mark) -> Result<(),
     ensures stop { IfErr result
         (IsStopOf false c.old.problem c.old.problem.rows (FromHere c.old.marks) budget) }
 {
-    let mut run = Run::of(alloc, c);
+    let mut trail = Trail::of(alloc, false, c);
     let mut enter = first;
     loop {
-        if run.is_spent(budget) {
-            return Err(run.spent(c, enter));
+        if trail.is_spent(budget) {
+            return Err(trail.spent(c));
         }
-        if let Err(stop) = run.exchange(c, enter) {
-            return Err(stop);
-        }
-        match entering(alloc, c) {
-            Ok(Some(next)) => enter = next,
-            Ok(None) => return Ok(()),
-            Err(stop) => return Err(stop),
+        exchange(&mut trail, c, enter)?;
+        let found = entering(alloc, c)?;
+        match found {
+            Some(next) => enter = next,
+            None => return Ok(()),
         }
     }
 }
@@ -122,10 +118,10 @@ pub fn settle(alloc: Global, c: &mut Corner, budget: u64) -> Result<(), RunStop>
     ensures stop { IfErr result
         (IsStopOf false c.old.problem c.old.problem.rows (FromHere c.old.marks) budget) }
 {
-    c.show_corner();
-    match entering(alloc, c) {
-        Ok(Some(first)) => run_on(alloc, c, budget, first),
-        Ok(None) => Ok(()),
-        Err(stop) => Err(stop),
+    c.show_corner(); // for the proof: what a corner keeps
+    let found = entering(alloc, c)?;
+    match found {
+        Some(first) => run_on(alloc, c, budget, first),
+        None => Ok(()),
     }
 }

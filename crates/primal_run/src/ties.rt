@@ -41,7 +41,7 @@ fn scale(c: &Corner, m: Mark) -> i64
     ensures of { (w : Writing) → Writes c.now.problem c.now.marks (corners.place m) w
         → result ≡ pos w.scale }
 {
-    c.show_corner();
+    c.show_corner(); // for the proof: what a corner keeps
     c.denominator(What::Mark(m))
 }
 
@@ -53,7 +53,7 @@ pub(crate) fn ratio_of(c: &Corner, m: Mark, enter: Mark) -> Option<Ratio>
         (λ r. (r.mark ≡ m) × IsRatioAt c.now.problem c.now.marks (corners.place enter) r) }
     ensures none { IfNone result (NeverFalls c.now.problem c.now.marks (corners.place enter) m) }
 {
-    c.show_corner();
+    c.show_corner(); // for the proof: what a corner keeps
     let by = coefficient_of(c, m, enter);
     if !is_below(by) {
         return None;
@@ -74,7 +74,7 @@ fn count(c: &Corner, m: Mark, f: Mark, by: i64) -> i128
     ensures { (w : Writing) → Writes c.now.problem c.now.marks (corners.place m) w
         → result ≡ count_at (corners.place m) w (corners.place f) *ℤ by }
 {
-    c.show_corner();
+    c.show_corner(); // for the proof: what a corner keeps
     if m == f {
         return product(scale(c, m), by);
     }
@@ -114,7 +114,7 @@ fn breaks_tie(c: &Corner, a: Ratio, b: Ratio, enter: Mark, first: &[Mark]) -> bo
         → BreaksTie (corners.place enter) (corners.place b.mark) w (corners.place a.mark) v
         (map corners.place first.now) }
 {
-    c.show_corner();
+    c.show_corner(); // for the proof: what a corner keeps
     for f in first {
         match count_order(c, a, b, *f) {
             Ordering::Less => return true,
@@ -136,7 +136,7 @@ pub(crate) fn smaller(c: &Corner, a: Ratio, b: Ratio, enter: Mark) -> Result<Rat
     ensures { IfOk result (λ best. (first : List MarkOfLine)
         → IsEarlier c.now.problem c.now.marks (corners.place enter) first a b best) }
 {
-    c.show_corner();
+    c.show_corner(); // for the proof: what a corner keeps
     match cmp_wide(a.above, a.below, b.above, b.below) {
         Ordering::Less => Ok(a),
         Ordering::Greater => Ok(b),
@@ -151,7 +151,7 @@ pub(crate) fn earlier(c: &Corner, a: Ratio, b: Ratio, enter: Mark, first: &[Mark
     requires first { All (IsMarkOf c.now.problem) first.now }
     ensures { IsEarlier c.now.problem c.now.marks (corners.place enter) first.now a b result }
 {
-    c.show_corner();
+    c.show_corner(); // for the proof: what a corner keeps
     match cmp_wide(a.above, a.below, b.above, b.below) {
         Ordering::Less => a,
         Ordering::Greater => b,

@@ -12,7 +12,7 @@ pub share-times-requires-clause-divides : goal.share-times-requires-clause-divid
 share-times-requires-clause-divides c =
     let fits : SFits w64 c.multiplier.result = search rules in
     let t = times_exist c.args.c.now.problem c.args.c.now.marks c.show_corner.ensures.kept in
-    simp to_z-of_z (subst (λ (z : ℤ). ◌∣◌ c.args.factor (unsigned_abs z)) (sym (c.multiplier.ensures.value t.0 t.1)) (c.requires.divides t.0 t.1 (sym c.rank.ensures ∙ c.if-rank-eq1000.true)))
+    simp to_z-of_z (subst (λ (z : ℤ). ◌∣◌ c.args.factor (unsigned_abs z)) (sym (c.multiplier.ensures.value t.0 t.1)) (c.requires.divides t.0 t.1 (sym c.rank.ensures ∙ c.if-rank-eq-REQUIRED.true)))
 
 pub returns-in_ok-push : goal.returns-in_ok-push
 returns-in_ok-push c = λ y is rows below are.
@@ -21,7 +21,7 @@ returns-in_ok-push c = λ y is rows below are.
     let same = simp to_z-of_z at c.share-times.ensures.value in
     let items = simp to_z-of_z at c.in_ok-push.ensures.items in
     let some = simp to_z-of_z at c.is_zero.ensures.no in
-    shares_push y c.args.factor rows c.args.out.now.items c.push.new.self.items c.args.row.now c.share-times.result below (sym c.rank.ensures ∙ c.if-rank-eq1000.true) (some c.if-not-is_zero.true) (same ∙ c.multiplier.ensures.value y is) c.share-times.ensures.fits
+    shares_push y c.args.factor rows c.args.out.now.items c.push.new.self.items c.args.row.now c.share-times.result below (sym c.rank.ensures ∙ c.if-rank-eq-REQUIRED.true) (some c.if-not-is_zero.true) (same ∙ c.multiplier.ensures.value y is) c.share-times.ensures.fits
     (items ∙ ap (λ (k : ℕ). c.args.out.now.items ++ record { row = Held k; times = c.share-times.result } ∷ []) c.id.ensures) are
 
 pub returns-else-not-is_zero : goal.returns-else-not-is_zero
@@ -33,6 +33,6 @@ returns-else-not-is_zero c = λ y is rows below are.
     shares_skip y c.args.factor rows c.args.out.now.items c.args.row.now below
     (λ _. sym (same ∙ c.multiplier.ensures.value y is) ∙ ap (λ (z : ℤ). pos c.args.factor *ℤ z) (zero c.if-not-is_zero.false) ∙ mul-zero_ℤ (pos c.args.factor)) are
 
-pub returns-else-rank-eq1000 : goal.returns-else-rank-eq1000
-returns-else-rank-eq1000 c = λ y is rows below are.
-    shares_skip y c.args.factor rows c.args.out.now.items c.args.row.now below (λ rank. absurd (c.if-rank-eq1000.false (c.rank.ensures ∙ rank))) are
+pub returns-else-rank-eq-REQUIRED : goal.returns-else-rank-eq-REQUIRED
+returns-else-rank-eq-REQUIRED c = λ y is rows below are.
+    shares_skip y c.args.factor rows c.args.out.now.items c.args.row.now below (λ rank. absurd (c.if-rank-eq-REQUIRED.false (c.rank.ensures ∙ rank))) are

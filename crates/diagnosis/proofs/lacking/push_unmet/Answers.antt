@@ -2,15 +2,15 @@ use Rattle.std.proofs.Common.{◌∙◌, ℕ, ◌++◌, ◌∷◌, [], ap, arith
 use Rattle.diagnosis.proofs.UnmetRows.{no_error, own_error, row_rank, some_error, unmet_push, unmet_skip}
 use Rattle.diagnosis.proofs.lacking.push_unmet.Goals as goal
 
-pub returns-then-rank-eq1000 : goal.returns-then-rank-eq1000
-returns-then-rank-eq1000 c rows below are =
-    let a = c.if-rank-eq1000.true in
+pub returns-then-rank-eq-REQUIRED : goal.returns-then-rank-eq-REQUIRED
+returns-then-rank-eq-REQUIRED c rows below are =
+    let a = c.if-rank-eq-REQUIRED.true in
     let b = c.rank.ensures in
     unmet_skip rows c.args.e.now.values c.args.out.now.items c.args.row.now (λ low. absurd (omega (arith, low, a, b))) are
 
 pub returns-in_ok-push : goal.returns-in_ok-push
 returns-in_ok-push c rows below are =
-    let a = c.if-rank-eq1000.false in
+    let a = c.if-rank-eq-REQUIRED.false in
     let b = c.rank.ensures in
     unmet_push rows c.args.e.now.values c.args.out.now.items c.push.new.self.items c.args.row.now c.in-Some.error below
     (row_rank c.args.e.now.problem c.args.row.now c.show_layout.ensures.whole c.requires.held (λ same. absurd (omega (arith, a, b, same))))

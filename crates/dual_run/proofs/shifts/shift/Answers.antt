@@ -9,11 +9,11 @@ use Rattle.dual_run.proofs.shifts.shift.Goals as goal
 pub list_low-requires : goal.list_low-requires
 list_low-requires c =
     let near = c.requires.near in
-    subst (λ (p : Problem). IsNamed p (Held c.args.id)) (sym c.in-Ok.ensures.problem)
+    subst (λ (p : Problem). IsNamed p (Held c.args.id)) (sym c.in_ok-shift.ensures.problem)
     (named_shifted c.args.c.now.problem c.args.id c.args.to (Held c.args.id) (row_named c.args.c.now.problem c.args.id c.args.id near.2.held refl))
 
-pub returns-in-Ok-list_low-clause-low : goal.returns-in-Ok-list_low-clause-low
-returns-in-Ok-list_low-clause-low c = λ lows.
+pub returns-in-Ok-clause-low : goal.returns-in-Ok-clause-low
+returns-in-Ok-clause-low c = λ lows.
     let near = c.requires.near in
     lows_shifted c.args.c.now.problem c.shift.new.self.problem c.args.c.now.marks c.shift.new.self.marks c.args.id near.0 c.args.to near.1 c.args.low.now.items c.list_low.new.low.items
-    c.show_corner.ensures.kept c.show_corner-in-Ok.ensures.kept (row_named c.args.c.now.problem c.args.id c.args.id near.2.held refl) near.2 c.in-Ok.ensures.problem c.in-Ok.ensures.marks c.in-Ok-list_low.ensures lows
+    c.show_corner.ensures.kept c.show_corner-2.ensures.kept (row_named c.args.c.now.problem c.args.id c.args.id near.2.held refl) near.2 c.in_ok-shift.ensures.problem c.in_ok-shift.ensures.marks c.in-Ok.ensures lows

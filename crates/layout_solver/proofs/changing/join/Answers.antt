@@ -10,20 +10,20 @@ use Rattle.layout_solver.proofs.changing.join.Goals as goal
 pub settle-requires-clause-values : goal.settle-requires-clause-values
 settle-requires-clause-values c =
     values_there c.args.c.now c.add_rows.new.self c.args.rows.now
-    (record { whole = c.requires.whole; kept = c.show_corner.ensures.kept; values = c.requires.values; problem = c.in-Ok.ensures.problem; begins = c.in-Ok.ensures.marks; ordered = c.show_corner-in-Ok.ensures.kept.ordered })
+    (record { whole = c.requires.whole; kept = c.show_corner.ensures.kept; values = c.requires.values; problem = c.in_ok-add_rows.ensures.problem; begins = c.in_ok-add_rows.ensures.marks; ordered = c.show_corner-2.ensures.kept.ordered })
 
-pub returns-in-Ok-clause-path : goal.returns-in-Ok-clause-path
-returns-in-Ok-clause-path c =
+pub returns-clause-path : goal.returns-clause-path
+returns-clause-path c =
     let joined : HasJoined c.args.c.now c.add_rows.new.self c.args.rows.now =
-    record { whole = c.requires.whole; kept = c.show_corner.ensures.kept; values = c.requires.values; problem = c.in-Ok.ensures.problem; begins = c.in-Ok.ensures.marks; ordered = c.show_corner-in-Ok.ensures.kept.ordered } in
+    record { whole = c.requires.whole; kept = c.show_corner.ensures.kept; values = c.requires.values; problem = c.in_ok-add_rows.ensures.problem; begins = c.in_ok-add_rows.ensures.marks; ordered = c.show_corner-2.ensures.kept.ordered } in
     IfOk-weaker c.settle.result (λ _. (path : Path) × IsRun false c.add_rows.new.self.problem (λ at. at ≡ c.add_rows.new.self.marks) c.args.budget c.settle.new.c.marks path)
     (λ _. (path : Path) × IsRun false (with_rows c.args.c.now.problem c.args.rows.now) (FromAdded (with_rows c.args.c.now.problem c.args.rows.now) c.args.c.now.marks c.args.rows.now []) c.args.budget c.settle.new.c.marks path)
     (λ _ run. path_there c.args.c.now c.add_rows.new.self c.args.rows.now c.args.budget c.settle.new.c.marks joined run) c.settle.ensures.path
 
-pub returns-in-Ok-clause-stop : goal.returns-in-Ok-clause-stop
-returns-in-Ok-clause-stop c =
+pub returns-clause-stop : goal.returns-clause-stop
+returns-clause-stop c =
     let joined : HasJoined c.args.c.now c.add_rows.new.self c.args.rows.now =
-    record { whole = c.requires.whole; kept = c.show_corner.ensures.kept; values = c.requires.values; problem = c.in-Ok.ensures.problem; begins = c.in-Ok.ensures.marks; ordered = c.show_corner-in-Ok.ensures.kept.ordered } in
+    record { whole = c.requires.whole; kept = c.show_corner.ensures.kept; values = c.requires.values; problem = c.in_ok-add_rows.ensures.problem; begins = c.in_ok-add_rows.ensures.marks; ordered = c.show_corner-2.ensures.kept.ordered } in
     IfErr-weaker c.settle.result (IsStopOf false c.add_rows.new.self.problem c.add_rows.new.self.problem.rows (FromHere c.add_rows.new.self.marks) c.args.budget)
     (IsStopOf false (with_rows c.args.c.now.problem c.args.rows.now) c.args.c.now.problem.rows (FromAdded (with_rows c.args.c.now.problem c.args.rows.now) c.args.c.now.marks c.args.rows.now) c.args.budget)
     (λ stop h. stop_there c.args.c.now c.add_rows.new.self c.args.rows.now c.args.budget stop joined h) c.settle.ensures.stop

@@ -1,5 +1,5 @@
 use Rattle.std.proofs.Common.{rules, ◌≡◌, ℕ, List, [], ◌∷◌, ◌+◌, false, get_or, subst}
-use Rattle.problem_core.specs.declared.stops.TableStop.TheVariants.{UnfitAt}
+use Rattle.frac_core.specs.declared.memory.Stop.TheVariants.{Refused}
 use Rattle.problem_core.specs.Begins.{without_marks}
 use Rattle.corner.specs.Views.{CornerView}
 use Rattle.corner.specs.Changes.{IsUnfitStop}
@@ -19,8 +19,8 @@ returns-in-Ok-clause-gone c = λ p kept h.
 pub returns-in-Ok-path_without-clause-stop : goal.returns-in-Ok-path_without-clause-stop
 returns-in-Ok-path_without-clause-stop c = λ p kept h.
     let same : c.drop_row.new.self ≡ c.args.c.now = search rules in
-    let unfit : IsUnfitStop (without_row (get_or c.args.rows.now c.args.gone 0) c.args.c.now.problem) (without_marks (get_or c.args.rows.now c.args.gone 0 ∷ []) c.args.c.now.marks) (UnfitAt c.in-Err-UnfitAt.quantity) = search rules in
-    unfit_dropped p kept c.args.rows.now c.args.gone c.requires.within c.args.c.now c.in-Ok-path_without.path c.in-Err-UnfitAt.quantity c.held_stop.result c.show_corner.ensures.kept c.requires.inside
+    let unfit : IsUnfitStop (without_row (get_or c.args.rows.now c.args.gone 0) c.args.c.now.problem) (without_marks (get_or c.args.rows.now c.args.gone 0 ∷ []) c.args.c.now.marks) (Refused c.in-Err-Refused.quantity) = search rules in
+    unfit_dropped p kept c.args.rows.now c.args.gone c.requires.within c.args.c.now c.in-Ok-path_without.path c.in-Err-Refused.quantity c.held_stop.result c.show_corner.ensures.kept c.requires.inside
     (subst (λ (v : CornerView). c.in-Ok-path_without.path ≡ record { dual = false; corner = without_marks (get_or c.args.rows.now c.args.gone 0 ∷ []) v.marks; swaps = [] }) same c.in-Ok-path_without.ensures)
     unfit h
-    (subst (λ (ids : List ℕ). IsUnfitOf ids (record { path = c.in-Ok-path_without.path; quantity = c.in-Err-UnfitAt.quantity }) c.held_stop.result) (take_rest c.args.rows.now (c.args.gone + 1)) c.held_stop.ensures)
+    (subst (λ (ids : List ℕ). IsUnfitOf ids (record { path = c.in-Ok-path_without.path; quantity = c.in-Err-Refused.quantity }) c.held_stop.result) (take_rest c.args.rows.now (c.args.gone + 1)) c.held_stop.ensures)

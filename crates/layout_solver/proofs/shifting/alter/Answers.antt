@@ -1,5 +1,5 @@
 use Rattle.std.proofs.Common.{◌≡◌, [], ◌∙◌, true}
-use Rattle.std.proofs.lemmas.Result.{IfErr-weaker, IfOk-weaker}
+use Rattle.std.proofs.lemmas.Result.{IfErr-weaker, IfOk-weaker, err_from_is_err_and}
 use Rattle.problem_core.specs.Layout.{Problem}
 use Rattle.cert_core.specs.Paths.{Path}
 use Rattle.cert_core.specs.Stops.{IsStopOf}
@@ -26,29 +26,31 @@ shift_all-requires-clause-low c =
 
 pub restore-requires-clause-columns : goal.restore-requires-clause-columns
 restore-requires-clause-columns c =
-    columns_there c.stand.new.self c.shift_all.new.c c.args.to.now c.in-Ok.ensures.problem c.in-Ok.ensures.marks
+    columns_there c.stand.new.self c.shift_all.new.c c.args.to.now c.in_ok-shift_all.ensures.problem c.in_ok-shift_all.ensures.marks
     (columns_stood c.args.c.now c.stand.new.self c.in_ok-stand.ensures.stood c.in_ok-stand.ensures.marks c.requires.columns)
 
-pub returns-in-Ok-clause-problem : goal.returns-in-Ok-clause-problem
-returns-in-Ok-clause-problem c =
+pub returns-clause-problem : goal.returns-clause-problem
+returns-clause-problem c =
     IfOk-weaker c.restore.result (λ _. c.restore.new.c.problem ≡ c.shift_all.new.c.problem) (λ _. IsMoved c.args.c.now [] (shifted c.args.to.now c.args.c.now.problem.rows) c.restore.new.c.problem)
-    (λ _ e. altered c.args.c.now c.stand.new.self c.args.to.now c.show_corner.ensures.kept.corner c.in_ok-stand.ensures.stood c.show_corner-2.ensures.kept.whole c.in_ok-stand.ensures.marks c.restore.new.c.problem (e ∙ c.in-Ok.ensures.problem))
+    (λ _ e. altered c.args.c.now c.stand.new.self c.args.to.now c.show_corner.ensures.kept.corner c.in_ok-stand.ensures.stood c.show_corner-2.ensures.kept.whole c.in_ok-stand.ensures.marks c.restore.new.c.problem (e ∙ c.in_ok-shift_all.ensures.problem))
     c.restore.ensures.problem
 
-pub returns-in-Ok-clause-path : goal.returns-in-Ok-clause-path
-returns-in-Ok-clause-path c =
+pub returns-clause-path : goal.returns-clause-path
+returns-clause-path c =
     IfOk-weaker c.restore.result (λ _. (path : Path) × IsRun true c.shift_all.new.c.problem (λ at. at ≡ c.shift_all.new.c.marks) c.args.budget c.restore.new.c.marks path)
     (λ _. (p : Problem) → IsMoved c.args.c.now [] (shifted c.args.to.now c.args.c.now.problem.rows) p → (path : Path) × IsRun true p (FromHere c.args.c.now.marks []) c.args.budget c.restore.new.c.marks path)
-    (λ _ run. restored_path c.args.c.now c.stand.new.self c.args.to.now c.show_corner.ensures.kept.corner c.in_ok-stand.ensures.stood c.show_corner-2.ensures.kept.whole c.in_ok-stand.ensures.marks c.shift_all.new.c c.in-Ok.ensures.problem c.in-Ok.ensures.marks c.args.budget c.restore.new.c.marks run)
+    (λ _ run. restored_path c.args.c.now c.stand.new.self c.args.to.now c.show_corner.ensures.kept.corner c.in_ok-stand.ensures.stood c.show_corner-2.ensures.kept.whole c.in_ok-stand.ensures.marks c.shift_all.new.c c.in_ok-shift_all.ensures.problem c.in_ok-shift_all.ensures.marks c.args.budget c.restore.new.c.marks run)
     c.restore.ensures.path
 
-pub returns-in-Ok-clause-stop : goal.returns-in-Ok-clause-stop
-returns-in-Ok-clause-stop c =
+pub returns-clause-stop : goal.returns-clause-stop
+returns-clause-stop c =
     IfErr-weaker c.restore.result (IsStopOf true c.shift_all.new.c.problem c.shift_all.new.c.problem.rows (FromHere c.shift_all.new.c.marks) c.args.budget)
     (λ stop. (p : Problem) → IsMoved c.args.c.now [] (shifted c.args.to.now c.args.c.now.problem.rows) p → IsStopOf true p c.args.c.now.problem.rows (FromHere c.args.c.now.marks) c.args.budget stop)
-    (λ stop h. restored_stop c.args.c.now c.stand.new.self c.args.to.now c.show_corner.ensures.kept.corner c.in_ok-stand.ensures.stood c.show_corner-2.ensures.kept.whole c.in_ok-stand.ensures.marks c.shift_all.new.c c.in-Ok.ensures.problem c.in-Ok.ensures.marks c.args.budget stop h)
+    (λ stop h. restored_stop c.args.c.now c.stand.new.self c.args.to.now c.show_corner.ensures.kept.corner c.in_ok-stand.ensures.stood c.show_corner-2.ensures.kept.whole c.in_ok-stand.ensures.marks c.shift_all.new.c c.in_ok-shift_all.ensures.problem c.in_ok-shift_all.ensures.marks c.args.budget stop h)
     c.restore.ensures.stop
 
-pub returns-in-Err-clause-stop : goal.returns-in-Err-clause-stop
-returns-in-Err-clause-stop c =
-    altered_stop c.args.c.now c.stand.new.self c.args.to.now c.show_corner.ensures.kept.corner c.in_ok-stand.ensures.stood c.show_corner-2.ensures.kept.whole c.in_ok-stand.ensures.marks c.args.budget c.in-Err.stop c.in-Err.ensures.stop
+pub returns-in_err-shift_all-clause-stop : goal.returns-in_err-shift_all-clause-stop
+returns-in_err-shift_all-clause-stop c =
+    let p = err_from_is_err_and c.from_residual-in_err-shift_all.result c.from_residual-in_err-shift_all.ensures.1 in
+    rw (p.1, p.2)
+    (altered_stop c.args.c.now c.stand.new.self c.args.to.now c.show_corner.ensures.kept.corner c.in_ok-stand.ensures.stood c.show_corner-2.ensures.kept.whole c.in_ok-stand.ensures.marks c.args.budget c.in_err-shift_all.field-0.0 c.in_err-shift_all.ensures.stop)

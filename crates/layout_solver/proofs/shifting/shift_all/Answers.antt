@@ -1,6 +1,6 @@
 use Rattle.std.proofs.Common.{◌+◌, ◌≡◌, ◌≢◌, ◌≤◌, ◌∙◌, List, All, arith, refl, rules, subst}
 use Rattle.problem_core.specs.declared.parts.Mark.{Mark}
-use Rattle.problem_core.specs.declared.stops.TableStop.TheVariants.{UnfitAt}
+use Rattle.frac_core.specs.declared.memory.Stop.TheVariants.{Refused}
 use Rattle.problem_core.specs.Layout.{Row}
 use Rattle.corner_lines.specs.Shifts.{with_constant}
 use Rattle.corner.specs.Changes.{IsUnfitStop}
@@ -27,14 +27,14 @@ overflow_add-changed c =
     let few : c.loop-change.changed ≤ 4096 = few_shifted c.args.c.now.problem c.loop-change.c.problem c.args.to.now c.loop-change.change-index c.loop-change.changed c.show_corner.ensures.kept.whole c.loop-change.invariant.shifted in
     omega (arith, few)
 
-pub returns-in-Err-UnfitAt-clause-stop : goal.returns-in-Err-UnfitAt-clause-stop
-returns-in-Err-UnfitAt-clause-stop c =
+pub returns-in-Err-Refused-clause-stop : goal.returns-in-Err-Refused-clause-stop
+returns-in-Err-Refused-clause-stop c =
     let other : c.constant_of.result ≢ c.change-item.result.constant = search rules in
-    unfit_stop (with_constants c.args.to.now c.args.c.now.problem) (with_constant c.change-item.result.row c.change-item.result.constant c.loop-change.c.problem) c.args.c.now.problem.rows c.shift.new.c.marks c.args.c.now.marks c.in-Err-UnfitAt.quantity (c.loop-change.changed + 1) c.shifts_stop.result
-    (rw c.in-Err-UnfitAt.field-0-is at c.shifts_stop.ensures)
-    (rewound_marks c.args.c.now c.loop-change.c c.shift.new.c c.requires.newest c.loop-change.invariant.before c.in-Err-UnfitAt.ensures.same)
-    (subst (λ (ms : List Mark). IsUnfitStop (with_constant c.change-item.result.row c.change-item.result.constant c.loop-change.c.problem) ms (UnfitAt c.in-Err-UnfitAt.quantity)) c.loop-change.invariant.marks
-    (rw c.in-Err-UnfitAt.field-0-is at c.in-Err-UnfitAt.ensures.stop))
+    unfit_stop (with_constants c.args.to.now c.args.c.now.problem) (with_constant c.change-item.result.row c.change-item.result.constant c.loop-change.c.problem) c.args.c.now.problem.rows c.shift.new.c.marks c.args.c.now.marks c.in-Err-Refused.quantity (c.loop-change.changed + 1) c.shifts_stop.result
+    (rw c.in-Err-Refused.field-0-is at c.shifts_stop.ensures)
+    (rewound_marks c.args.c.now c.loop-change.c c.shift.new.c c.requires.newest c.loop-change.invariant.before c.in-Err-Refused.ensures.same)
+    (subst (λ (ms : List Mark). IsUnfitStop (with_constant c.change-item.result.row c.change-item.result.constant c.loop-change.c.problem) ms (Refused c.in-Err-Refused.quantity)) c.loop-change.invariant.marks
+    (rw c.in-Err-Refused.field-0-is at c.in-Err-Refused.ensures.stop))
     (λ what unfit. next_unfit c.args.c.now.problem c.loop-change.c.problem c.args.to.now c.loop-change.change-index c.loop-change.changed c.change-item.result c.loop-change-test.true c.change-item.is c.loop-change.invariant.shifted c.requires.rising c.show_corner.ensures.kept.whole.rising c.constant_of.result
     (subst (λ (rs : List Row). All (λ (r : Row). r.id ≡ c.change-item.result.row → r.constant ≡ c.constant_of.result) rs) c.rows.ensures c.constant_of.ensures) other c.args.c.now.marks what unfit)
     (shifted_path c.args.c.now.problem c.args.to.now c.args.c.now.marks c.show_corner.ensures.kept c.requires.columns c.requires.near c.show_constants.ensures)

@@ -6,11 +6,11 @@ use Rattle.layout_solver.proofs.MovedProblems.{one_problem}
 use Rattle.layout_solver.proofs.trying.tried.Goals as goal
 
 pub attr_value-requires : goal.attr_value-requires
-attr_value-requires c = record { attr = moved_stay c.args.c.now (c.args.c.now.problem.rows ++ c.args.rows.now) c.extend.new.c.problem c.args.attr c.in-Ok.ensures.problem c.requires.attr }
+attr_value-requires c = record { attr = moved_stay c.args.c.now (c.args.c.now.problem.rows ++ c.args.rows.now) c.extend.new.c.problem c.args.attr c.in_ok-extend.ensures.problem c.requires.attr }
 
-pub returns-in-Ok-clause-value : goal.returns-in-Ok-clause-value
-returns-in-Ok-clause-value c = λ p moved.
+pub returns-clause-value : goal.returns-clause-value
+returns-clause-value c = λ p moved.
     subst (λ (q : Problem). IsBestValue q c.args.attr c.attr_value.result)
-    (one_problem c.args.c.now [] (c.args.c.now.problem.rows ++ c.args.rows.now) c.extend.new.c.problem p c.show_corner.ensures.kept.corner c.in-Ok.ensures.problem moved)
-    (best_value c.extend.new.c.problem c.extend.new.c.marks c.args.attr c.attr_value.result c.show_corner-in-Ok.ensures.kept.whole c.show_corner-in-Ok.ensures.kept.corner c.in-Ok.ensures.end
-    (moved_stay c.args.c.now (c.args.c.now.problem.rows ++ c.args.rows.now) c.extend.new.c.problem c.args.attr c.in-Ok.ensures.problem c.requires.attr) c.attr_value.ensures)
+    (one_problem c.args.c.now [] (c.args.c.now.problem.rows ++ c.args.rows.now) c.extend.new.c.problem p c.show_corner.ensures.kept.corner c.in_ok-extend.ensures.problem moved)
+    (best_value c.extend.new.c.problem c.extend.new.c.marks c.args.attr c.attr_value.result c.show_corner-2.ensures.kept.whole c.show_corner-2.ensures.kept.corner c.in_ok-extend.ensures.end
+    (moved_stay c.args.c.now (c.args.c.now.problem.rows ++ c.args.rows.now) c.extend.new.c.problem c.args.attr c.in_ok-extend.ensures.problem c.requires.attr) c.attr_value.ensures)

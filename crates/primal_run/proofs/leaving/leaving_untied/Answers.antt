@@ -25,10 +25,10 @@ next_untied-requires-clause-moves c =
 
 pub loop-i-preserved : goal.loop-i-preserved
 loop-i-preserved c = record {
-  ratio = c.in-Ok.ensures.ratio;
+  ratio = c.in_ok-found.ensures.ratio;
   first = λ first whats are.
-      subst (λ (xs : List What). IsFirstOf c.args.c.now.problem c.args.c.now.marks (place c.args.enter) first xs c.in-Ok.next) (took_next whats c.loop-i.i c.mover.result (c.mover.ensures whats are))
-      (c.in-Ok.ensures.first first (take c.loop-i.i whats) (c.loop-i.invariant.first first whats are));
+      subst (λ (xs : List What). IsFirstOf c.args.c.now.problem c.args.c.now.marks (place c.args.enter) first xs c.in_ok-found.found) (took_next whats c.loop-i.i c.mover.result (c.mover.ensures whats are))
+      (c.in_ok-found.ensures.first first (take c.loop-i.i whats) (c.loop-i.invariant.first first whats are));
 }
 
 pub unreachable-requires : goal.unreachable-requires

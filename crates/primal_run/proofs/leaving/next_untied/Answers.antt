@@ -23,13 +23,13 @@ returns-in_default-ratio_of-clause-first c = λ first list are.
     no_mark c.args.c.now.problem c.args.c.now.marks (place c.args.enter) first list c.args.what c.args.found
     (never_mark c.args.c.now.problem c.args.c.now.marks (place c.args.enter) c.args.what c.in-Mark.m c.in-Mark.is c.in_default-ratio_of.ensures.none) are
 
-pub returns-in-Ok-clause-ratio : goal.returns-in-Ok-clause-ratio
-returns-in-Ok-clause-ratio c = (c.in-Ok.ensures []).ratio
+pub returns-in_ok-best-in-Some-found-clause-ratio : goal.returns-in_ok-best-in-Some-found-clause-ratio
+returns-in_ok-best-in-Some-found-clause-ratio c = (c.in_ok-best-in-Some-found.ensures []).ratio
 
-pub returns-in-Ok-clause-first : goal.returns-in-Ok-clause-first
-returns-in-Ok-clause-first c = λ first list are.
-    subst (λ (x : What). IsFirstOf c.args.c.now.problem c.args.c.now.marks (place c.args.enter) first (list ++ x ∷ []) (Some c.in-Ok.best)) (sym c.in-Mark.is)
-    (earlier_mark c.args.c.now.problem c.args.c.now.marks (place c.args.enter) first list c.in-Mark.m c.in-Some.ratio c.in-Some-found.other c.in-Ok.best c.show_corner.ensures.kept c.in-Some.ensures.some.0 (c.in-Ok.ensures first)
+pub returns-in_ok-best-in-Some-found-clause-first : goal.returns-in_ok-best-in-Some-found-clause-first
+returns-in_ok-best-in-Some-found-clause-first c = λ first list are.
+    subst (λ (x : What). IsFirstOf c.args.c.now.problem c.args.c.now.marks (place c.args.enter) first (list ++ x ∷ []) (Some c.in_ok-best-in-Some-found.best)) (sym c.in-Mark.is)
+    (earlier_mark c.args.c.now.problem c.args.c.now.marks (place c.args.enter) first list c.in-Mark.m c.in-Some.ratio c.in-Some-found.other c.in_ok-best-in-Some-found.best c.show_corner.ensures.kept c.in-Some.ensures.some.0 (c.in_ok-best-in-Some-found.ensures first)
     (subst (λ (f : Option Ratio). IsFirstOf c.args.c.now.problem c.args.c.now.marks (place c.args.enter) first list f) c.in-Some-found.is are))
 
 pub returns-in-None-clause-first : goal.returns-in-None-clause-first
