@@ -1,3 +1,4 @@
+pub mod Stops
 pub mod CarriedSums
 pub mod CarriedLevels
 pub mod EnteringLine

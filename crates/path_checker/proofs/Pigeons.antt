@@ -70,7 +70,7 @@ no_more (m ∷ xs) ys apart h =
     omega (arith, less, count)
 
 -- so many different ones among as many
-all_of_them : (xs ys : List Mark) → AllPairs (λ m n. place m ≢ place n) xs → All (λ m. IsIn (place m) ys) xs → length xs ≡ length ys → All (λ m. IsIn (place m) xs) ys
+pub all_of_them : (xs ys : List Mark) → AllPairs (λ m n. place m ≢ place n) xs → All (λ m. IsIn (place m) ys) xs → length xs ≡ length ys → All (λ m. IsIn (place m) xs) ys
 all_of_them xs ys apart all same =
     All-from_recursion (λ m. IsIn (place m) xs) ys
     (each-impl (λ m. IsIn (place m) ys) (λ m. IsIn (place m) xs) ys

@@ -34,7 +34,7 @@ pub last_more : (at : List Mark) (done : List Swap) (s : Swap) → last_marks at
 last_more at [] s = refl
 last_more at (t ∷ done) s = last_more (exchanged t at) done s
 
-joined : {X : Type 0} (xs : List X) (y : X) (ys : List X) → (xs ++ y ∷ []) ++ ys ≡ xs ++ y ∷ ys
+pub joined : {X : Type 0} (xs : List X) (y : X) (ys : List X) → (xs ++ y ∷ []) ++ ys ≡ xs ++ y ∷ ys
 joined [] y ys = refl
 joined {X = X} (x ∷ xs) y ys = ap (λ (zs : List X). x ∷ zs) (joined xs y ys)
 
@@ -42,11 +42,11 @@ pub with_none : {X : Type 0} (xs : List X) → xs ++ [] ≡ xs
 with_none [] = refl
 with_none {X = X} (x ∷ xs) = ap (λ (zs : List X). x ∷ zs) (with_none xs)
 
-begun_more : (done : List Swap) (s : Swap) (o : Option Step) → o ≢ None → IsBegun (done ++ s ∷ []) o
+pub begun_more : (done : List Swap) (s : Swap) (o : Option Step) → o ≢ None → IsBegun (done ++ s ∷ []) o
 begun_more [] s o some = some
 begun_more (t ∷ done) s o some = some
 
-new_more : (wanted at : List Mark) (done : List Swap) (s : Swap) → AreNew wanted at done → IsIn (place s.enter) wanted → (IsIn (place s.enter) (last_marks at done) → ⊥) → AreNew wanted at (done ++ s ∷ [])
+pub new_more : (wanted at : List Mark) (done : List Swap) (s : Swap) → AreNew wanted at done → IsIn (place s.enter) wanted → (IsIn (place s.enter) (last_marks at done) → ⊥) → AreNew wanted at (done ++ s ∷ [])
 new_more wanted at [] s new want out = (want, out, tt)
 new_more wanted at (t ∷ done) s new want out = (new.0, new.1, new_more wanted (exchanged t at) done s new.2 want out)
 
@@ -58,7 +58,7 @@ pub in_all : (wanted at : List Mark) (c : ℕ) → All (λ m. IsIn (place m) at)
 in_all wanted at c all i = contains_each (λ v. IsIn v at) wanted c (recursion_from_All (λ m. IsIn (place m) at) wanted all) i
 
 -- not all wanted marks are inside where the exchanges end
-not_ended : (wanted at : List Mark) (swaps done b : List Swap) (m : Mark) → AreNew wanted at done → done ≡ b ++ swaps → All (λ m. IsIn (place m) (last_marks at b)) wanted → IsIn (place m) wanted → (IsIn (place m) (last_marks at done) → ⊥) → ⊥
+pub not_ended : (wanted at : List Mark) (swaps done b : List Swap) (m : Mark) → AreNew wanted at done → done ≡ b ++ swaps → All (λ m. IsIn (place m) (last_marks at b)) wanted → IsIn (place m) wanted → (IsIn (place m) (last_marks at done) → ⊥) → ⊥
 not_ended wanted at [] done b m new is all want out =
     out (subst (λ (ss : List Swap). IsIn (place m) (last_marks at ss)) (sym (is ∙ with_none b)) (in_all wanted (last_marks at b) (place m) all want))
 not_ended wanted at (s ∷ swaps) done b m new is all want out =
@@ -104,7 +104,7 @@ no_room_there p path before rest way m n unfit is want out same stuck =
 
 -- ---- one mark more
 
-goes_in : (p : Problem) (path : Path) (at : List Mark) (m : Mark) (rest : List Mark) (more : List Swap) → IsIn (place m) at → GoesBy p path.corner path.swaps at rest more → GoesBy p path.corner path.swaps at (m ∷ rest) more
+pub goes_in : (p : Problem) (path : Path) (at : List Mark) (m : Mark) (rest : List Mark) (more : List Swap) → IsIn (place m) at → GoesBy p path.corner path.swaps at rest more → GoesBy p path.corner path.swaps at (m ∷ rest) more
 goes_in p path at m rest [] i goes = tt
 goes_in p path at m rest (s ∷ more) i goes = inl (i, goes)
 

@@ -1,7 +1,8 @@
 -- The lines of the corner where the route begins.
-use Rattle.std.specs.Prelude.{◌≡◌, ℕ, ◌+◌, ◌*◌, ◌<◌, ◌≤◌, ◌^◌, List, length, get_or, ℤ, unsigned_abs}
+use Rattle.std.specs.Prelude.{◌≡◌, ℕ, ◌+◌, ◌*◌, ◌<◌, ◌≤◌, List, length, get_or, ℤ, unsigned_abs}
 use Rattle.std.specs.Prelude.{All, Any, Option}
 use Rattle.frac_core.specs.Fraction.{Fraction}
+use Rattle.problem_core.specs.declared.limits.TheConstants.{COEFFICIENT_LIMIT, TERM_LIMIT}
 use Rattle.problem_core.specs.declared.parts.Term.{Term}
 use Rattle.problem_core.specs.Layout.{Problem, Row, lines}
 use Rattle.problem_core.specs.Unfit.{IsUnfitTerms, first_terms, over_mark}
@@ -17,8 +18,12 @@ IsRowOf p r = Any (λ s. s ≡ r) p.rows
 -- the sum of the row's first j terms by the stays' deviations, and its value
 pub record IsTermsSum (p : Problem) (r : Row) (j : ℕ) (by : List ℤ) (value : Fraction) : Type 0 where
   pub count : length by ≡ line_count p
-  pub small : All (λ z. unsigned_abs z ≤ j * 2 ^ 30) by
+  pub small : All (λ z. unsigned_abs z ≤ j * COEFFICIENT_LIMIT) by
   pub sum : IsLineSum p (over_marks p) (first_terms r j) 1 (numbers_of (lines p) by) value.num value.den
+
+-- a coefficient more can be added to each of the numbers
+abbrev pub HaveRoom : List ℤ → Type 0
+HaveRoom numbers = All (λ z. unsigned_abs z ≤ TERM_LIMIT * COEFFICIENT_LIMIT) numbers
 
 -- a sum of the row's first terms does not fit
 abbrev pub HasUnfitTerms : Problem → Row → Type 0

@@ -1,5 +1,6 @@
 -- Small paths for the words of the first four clauses: x with its stay at 0, and one required row `x >= k`.
 use Rattle.std.specs.Prelude.{◌≡◌, false, List, [], ◌∷◌, None, Some}
+use Rattle.frac_core.specs.declared.frac.TheConstants.{PART_BOUND}
 use Rattle.problem_core.specs.declared.parts.Side.TheVariants.{Under, Over}
 use Rattle.problem_core.specs.Corners.{Swap}
 use Rattle.cert_core.specs.Paths.{Path}
@@ -35,7 +36,7 @@ pub record HasBegun (way : Way) : Type 0 where
 
 -- whether all sums of first terms fit where the route begins
 pub record SomeFirstFit : Type 0 where
-  pub large : HasUnfitFirst (single 4398046511104)
+  pub large : HasUnfitFirst (single PART_BOUND)
   pub small : HasUnfitFirst (single 5) → ⊥
 
 -- where the way is, and where it isn't

@@ -1,3 +1,4 @@
+pub mod Stops
 pub mod Numbers
 pub mod Tables
 pub mod Carried

@@ -12,6 +12,7 @@ use Rattle.cert_core.specs.Paths.{Path}
 use Rattle.path_checker.specs.declared.spots.Spot.{Spot}
 use Rattle.path_checker.specs.declared.spots.Step.{Step}
 use Rattle.path_checker.specs.declared.table.Inside.{Inside}
+use Rattle.path_checker.specs.declared.way.TheConstants.{PATH_LIMIT}
 use Rattle.path_checker.specs.declared.way.Kept.{Kept}
 use Rattle.path_checker.specs.declared.way.Way.{Way}
 use Rattle.path_checker.specs.declared.way.WayStop.{WayStop}
@@ -26,6 +27,10 @@ use Rattle.path_checker.specs.Room.{HasNoRoom}
 use Rattle.path_checker.specs.Sides.{IsWithin}
 use Rattle.path_checker.specs.Tables.{AreLines, AreSides, AreSized, IsThere, line_count}
 use Rattle.path_checker.specs.Tables.{mark_of, name_at, swap_of}
+
+-- its exchanges can be counted
+abbrev pub IsShortPath : Path → Type 0
+IsShortPath path = length path.corner + length path.swaps < PATH_LIMIT
 
 -- ---- lines that are made once they are asked for
 

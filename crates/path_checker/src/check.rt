@@ -1,8 +1,10 @@
 // The first clauses of a path.
-ghost use Rattle.std.specs.Prelude.{◌≡◌, ◌≢◌, ◌<◌, ◌≤◌, ◌+◌, ◌^◌, length, AllPairs, IfOk, IfErr};
+ghost use Rattle.std.specs.Prelude.{◌≡◌, ◌≢◌, ◌<◌, ◌≤◌, length, AllPairs, IfOk, IfErr};
 ghost use Rattle.problem_core.specs.Corners.{place};
 ghost use Rattle.path_checker.specs.Tables.{AreSides, line_count, names_of};
-ghost use Rattle.path_checker.specs.Ways.{IsArrived, IsEnded, IsExchangeVerdict, IsMarkStop, IsUsableWay};
+ghost use Rattle.path_checker.specs.declared.way.TheConstants.{PATH_LIMIT};
+ghost use Rattle.path_checker.specs.Ways.{IsArrived, IsEnded, IsExchangeVerdict, IsMarkStop, IsShortPath};
+ghost use Rattle.path_checker.specs.Ways.{IsUsableWay};
 
 use crate::route::{comes_twice, sides_of};
 use crate::spots::names;
@@ -34,7 +36,7 @@ fn arrive(
 ) -> Result<Way, WayStop>
     requires names { names.now ≡ names_of p.now }
     requires wanted { AreSides p.now path.now.corner wanted.now }
-    requires count { length path.now.corner < 2 ^ 31 }
+    requires count { length path.now.corner < PATH_LIMIT }
     requires rows { length path.now.corner ≡ length p.now.rows }
     requires apart { AllPairs (λ m n. place m ≢ place n) path.now.corner }
     ensures usable { IfOk result (IsUsableWay (line_count p.now)) }
@@ -48,10 +50,10 @@ fn arrive(
 /// The first three clauses of a path: its first marks are a corner, its swaps are exchanges, and no corner
 /// comes twice.
 pub fn check_exchanges(alloc: Global, p: &Problem, path: &Path) -> Result<PathVerdict, OutOfMemory>
-    requires { length path.now.corner + length path.now.swaps < 2 ^ 31 }
+    requires { IsShortPath path.now }
     ensures { IfOk result (IsExchangeVerdict p.now path.now) }
 {
-    p.show_whole();
+    p.show_whole(); // for the proof: what a problem keeps
     if path.corner().len() != p.rows().len() {
         return Ok(PathVerdict::No(9));
     }

@@ -1,6 +1,7 @@
 // One exchange, from a corner whose numbers fit.
 ghost use Rattle.std.specs.Prelude.{◌≡◌, ◌≢◌, ◌<◌, ◌*ℤ◌, ◌<ℤ◌, ◌≤ℤ◌, pos, length, true, false};
 ghost use Rattle.std.specs.Prelude.{◌↔◌, All, IfOk, IfErr, IsTrue, List, OnErr};
+ghost use Rattle.frac_core.specs.Stops.{IsRefused};
 ghost use Rattle.frac_core.specs.Fraction.{IsFitting, IsKept, IsRatio, IsUnfitRatio, sum_den, sum_num};
 ghost use Rattle.problem_core.specs.Window.{zero_fraction};
 ghost use Rattle.problem_core.specs.Layout.{Problem};
@@ -13,14 +14,13 @@ ghost use Rattle.path_checker.specs.Tables.{name_at, swap_of};
 ghost use Rattle.path_checker.specs.Pivots.{AreNextLines, AreUnfitNext, HasUnfit, IsEnteredBy, IsNextLine};
 ghost use Rattle.path_checker.specs.Pivots.{IsLeavingBy, IsPivotAt, IsSolvedFrom, IsUnfitNext, LeadTo};
 ghost use Rattle.path_checker.specs.Pivots.{LeadToUnfit, next_marks};
-ghost use Rattle.path_checker.specs.declared.stop.SumStop.TheVariants.{OutOfMemory};
-ghost use Rattle.path_checker.specs.declared.stop.SumStop.TheVariants as stops;
+ghost use Rattle.frac_core.specs.declared.memory.Stop.TheVariants.{OutOfMemory};
 
 use crate::numbers::{Lowest, Wide, combined, in_lowest_terms};
 use crate::spots::Step;
 use crate::stop::SumStop;
 use crate::table::{Inside, Sum, turn};
-use frac_core::{Frac, Unfit};
+use frac_core::{Frac, Stop, Unfit};
 use std::alloc::Global;
 
 /// An exchange with the leaving line's sum, solved for the entering line: `size` times what the entering
@@ -242,7 +242,7 @@ pub fn entering_value(pivot: &Pivot) -> Result<Frac, Unfit>
         (sum_den zero_fraction pivot.now.size pivot.now.value)) }
 {
     if pivot.is_turn {
-        let _ = pivot.value.num();
+        let _ = pivot.value.num(); // for the proof: what a fraction keeps
         return Ok(pivot.value);
     }
     Frac::mul_add(Frac::zero(), pivot.times, pivot.size, pivot.value)
@@ -269,7 +269,7 @@ pub fn entering_sum(alloc: Global, pivot: &Pivot, enters: Frac) -> Result<Sum, S
     ensures sum { IfOk result (λ sum. (p : Problem) (at : List Mark) → IsPivotAt p at pivot.now
         → IsEnteredBy pivot.now enters
         → IsSumOf p (next_marks p pivot.now at) (name_at p pivot.now.step.enter.at) sum) }
-    ensures unfit { IfErr result (λ stop. stop ≡ stops.Unfit → (p : Problem) (at : List Mark)
+    ensures unfit { IfErr result (λ stop. IsRefused stop → (p : Problem) (at : List Mark)
         → IsPivotAt p at pivot.now → IsEnteredBy pivot.now enters → HasUnfit p (next_marks p pivot.now at)) }
 {
     let wide = entering(alloc, pivot)?;
@@ -287,7 +287,7 @@ pub fn carried_sum(alloc: Global, pivot: &Pivot, sum: &Sum, enters: Frac) -> Res
     ensures sum { IfOk result (λ next. (p : Problem) (at : List Mark) (name : RowName)
         → IsPivotAt p at pivot.now → IsEnteredBy pivot.now enters → IsSumOf p at name sum.now
         → IsSumOf p (next_marks p pivot.now at) name next) }
-    ensures unfit { IfErr result (λ stop. stop ≡ stops.Unfit → (p : Problem) (at : List Mark) (mark : Mark)
+    ensures unfit { IfErr result (λ stop. IsRefused stop → (p : Problem) (at : List Mark) (mark : Mark)
         → IsPivotAt p at pivot.now → IsEnteredBy pivot.now enters → IsSumOf p at mark.row sum.now
         → IsIn (place mark) (next_marks p pivot.now at) → HasUnfit p (next_marks p pivot.now at)) }
 {
@@ -295,7 +295,7 @@ pub fn carried_sum(alloc: Global, pivot: &Pivot, sum: &Sum, enters: Frac) -> Res
     let numbers = in_lowest_terms(alloc, &wide)?;
     let number = number_of(&sum.by, pivot.step.enter.at);
     let Ok(value) = Frac::mul_add(sum.value, number, sum.own, enters) else {
-        return Err(SumStop::Unfit);
+        return Err(Stop::Refused(Unfit));
     };
     Ok(sum_of(numbers, value))
 }
@@ -314,7 +314,7 @@ fn exchanged_line(
     requires sized { IsSizedLine (length pivot.now.by.items) old.now }
     ensures sized { IfOk result (IsSizedLine (length pivot.now.by.items)) }
     ensures line { IfOk result (IsNextLine pivot.now enters at old.now) }
-    ensures unfit { IfErr result (λ stop. stop ≡ stops.Unfit → IsUnfitNext pivot.now enters at old.now) }
+    ensures unfit { IfErr result (λ stop. IsRefused stop → IsUnfitNext pivot.now enters at old.now) }
 {
     if at == pivot.step.enter.at {
         let sum = entering_sum(alloc, pivot, enters)?;
@@ -347,7 +347,7 @@ pub fn exchanged_lines(
     ensures sized { IfOk result (λ next. AreSized next.items) }
     ensures count { IfOk result (λ next. length next.items ≡ length lines.now) }
     ensures lines { IfOk result (λ next. AreNextLines pivot.now enters lines.now next.items) }
-    ensures unfit { IfErr result (λ stop. stop ≡ stops.Unfit → AreUnfitNext pivot.now enters lines.now) }
+    ensures unfit { IfErr result (λ stop. IsRefused stop → AreUnfitNext pivot.now enters lines.now) }
 {
     let mut out = Vec::with_capacity(alloc, lines.len())?;
     for (at, old) in lines.iter().enumerate() {
@@ -386,15 +386,15 @@ fn solved_lines(
     ensures count { IfOk result (λ next. length next.items ≡ length lines.now) }
     ensures next { IfOk result (λ next. IsLeavingBy step lines.now leaving.now
         → LeadTo step lines.now next.items) }
-    ensures unfit { IfErr result (λ stop. stop ≡ stops.Unfit → IsLeavingBy step lines.now leaving.now
+    ensures unfit { IfErr result (λ stop. IsRefused stop → IsLeavingBy step lines.now leaving.now
         → LeadToUnfit step lines.now) }
 {
     if !stands(&leaving.by, step.enter.at) {
-        return Err(SumStop::Unfit);
+        return Err(Stop::Refused(Unfit));
     }
     let pivot = solving(alloc, leaving, step)?;
     let Ok(enters) = entering_value(&pivot) else {
-        return Err(SumStop::Unfit);
+        return Err(Stop::Refused(Unfit));
     };
     exchanged_lines(alloc, &pivot, lines, enters)
 }
@@ -411,12 +411,12 @@ fn solved_at(
     ensures sized { IfOk result (λ next. AreSized next.items) }
     ensures count { IfOk result (λ next. length next.items ≡ length lines.now) }
     ensures next { IfOk result (λ next. step.enter.at ≢ step.leave.at → LeadTo step lines.now next.items) }
-    ensures unfit { IfErr result (λ stop. stop ≡ stops.Unfit → step.enter.at ≢ step.leave.at
+    ensures unfit { IfErr result (λ stop. IsRefused stop → step.enter.at ≢ step.leave.at
         → LeadToUnfit step lines.now) }
 {
     match &lines[step.leave.at] {
         Some(inside) => solved_lines(alloc, lines, &inside.sum, step),
-        None => Err(SumStop::Unfit),
+        None => Err(Stop::Refused(Unfit)),
     }
 }
 
@@ -432,7 +432,7 @@ pub fn after_exchange(
     ensures sized { IfOk result (λ next. AreSized next.items) }
     ensures count { IfOk result (λ next. length next.items ≡ length lines.items) }
     ensures next { IfOk result (λ next. LeadTo step lines.items next.items) }
-    ensures unfit { IfErr result (λ stop. stop ≡ stops.Unfit → LeadToUnfit step lines.items) }
+    ensures unfit { IfErr result (λ stop. IsRefused stop → LeadToUnfit step lines.items) }
 {
     if is_turn(step) {
         let mut next = lines;

@@ -1,23 +1,23 @@
 // The lines of the corner where the route begins.
-ghost use Rattle.std.specs.Prelude.{◌≡◌, ◌≢◌, ◌≤◌, ◌<◌, ◌+◌, ◌^◌, ◌+ℤ◌, ℕ, pos, length, set, unsigned_abs};
-ghost use Rattle.std.specs.Prelude.{All, Any, IfOk, IfErr, IfSome, IfNone, get_or};
+ghost use Rattle.std.specs.Prelude.{◌≡◌, ◌≢◌, ◌≤◌, ◌<◌, ◌+◌, ◌+ℤ◌, pos, length, set, unsigned_abs};
+ghost use Rattle.std.specs.Prelude.{All, IfOk, IfErr, IfSome, IfNone};
 ghost use Rattle.std.specs.List.{HoldsAt};
-ghost use Rattle.frac_core.specs.Fraction.{Fraction};
+ghost use Rattle.frac_core.specs.Stops.{IsRefused};
 ghost use Rattle.problem_core.specs.Kept.{IsTerm};
 ghost use Rattle.problem_core.specs.Layout.{Row};
 ghost use Rattle.problem_core.specs.declared.parts.RowName.TheVariants.{Held};
+ghost use Rattle.problem_core.specs.declared.limits.TheConstants.{COEFFICIENT_LIMIT};
 ghost use Rattle.problem_core.specs.declared.parts.Term.{Term};
 ghost use Rattle.path_checker.specs.FirstLines.{HasUnfitTerms, IsOneTermMore, IsRowOf, IsTermTooMuch};
-ghost use Rattle.path_checker.specs.FirstLines.{AreFirstLines, HasUnfitFirst, IsTermsSum};
+ghost use Rattle.path_checker.specs.FirstLines.{AreFirstLines, HasUnfitFirst, HaveRoom, IsTermsSum};
 ghost use Rattle.path_checker.specs.Numbers.{number_at};
 ghost use Rattle.path_checker.specs.Route.{over_marks};
-ghost use Rattle.path_checker.specs.Tables.{AreLines, AreSized, IsSized, IsSumOf, line_count};
-ghost use Rattle.path_checker.specs.declared.stop.SumStop.TheVariants.{OutOfMemory};
-ghost use Rattle.path_checker.specs.declared.stop.SumStop.TheVariants as stops;
+ghost use Rattle.path_checker.specs.Tables.{AreLines, AreSized, IsSumOf, line_count};
+ghost use Rattle.frac_core.specs.declared.memory.Stop.TheVariants.{OutOfMemory};
 
 use crate::stop::SumStop;
 use crate::table::{Inside, Sum};
-use frac_core::Frac;
+use frac_core::{Frac, Stop, Unfit};
 use problem_core::{Problem, Row, Side, Stay, Term};
 use std::alloc::Global;
 
@@ -40,8 +40,8 @@ fn stay_of(stays: &[Stay], attr: u32) -> Option<usize>
 // The list with a number added at the place.
 fn raised(numbers: Vec<i64>, at: usize, number: i64) -> Vec<i64>
     requires at { at < length numbers.items }
-    requires numbers { All (λ z. unsigned_abs z ≤ 2 ^ 40) numbers.items }
-    requires number { unsigned_abs number ≤ 2 ^ 30 }
+    requires numbers { HaveRoom numbers.items }
+    requires number { unsigned_abs number ≤ COEFFICIENT_LIMIT }
     ensures { result.items ≡ set numbers.items at (number_at numbers.items at +ℤ number) }
 {
     let mut out = numbers;
@@ -52,18 +52,18 @@ fn raised(numbers: Vec<i64>, at: usize, number: i64) -> Vec<i64>
 // The sum with one term more, or that does not fit.
 fn with_term(p: &Problem, sum: Terms, term: Term) -> Result<Terms, SumStop>
     requires count { length sum.by.items ≡ line_count p.now }
-    requires small { All (λ z. unsigned_abs z ≤ 2 ^ 40) sum.by.items }
+    requires small { HaveRoom sum.by.items }
     requires term { IsTerm term }
     ensures next { IfOk result (IsOneTermMore p.now term sum) }
-    ensures unfit { IfErr result (λ stop. stop ≡ stops.Unfit → IsTermTooMuch p.now term sum) }
+    ensures unfit { IfErr result (λ stop. IsRefused stop → IsTermTooMuch p.now term sum) }
 {
-    p.show_whole();
+    p.show_whole(); // for the proof: what a problem keeps
     let Some(at) = stay_of(p.stays(), term.attr) else {
-        return Err(SumStop::Unfit);
+        return Err(Stop::Refused(Unfit));
     };
     let target = p.stays()[at].target;
     let Ok(value) = Frac::mul_add(sum.value, term.by, 1, target) else {
-        return Err(SumStop::Unfit);
+        return Err(Stop::Refused(Unfit));
     };
     let by = raised(sum.by, p.rows().len() + at, term.by);
     Ok(Terms { by, value })
@@ -86,9 +86,9 @@ fn zeros(alloc: Global, count: usize) -> Result<Vec<i64>, SumStop>
 fn terms_of(alloc: Global, p: &Problem, r: &Row) -> Result<Terms, SumStop>
     requires { IsRowOf p.now r.now }
     ensures sum { IfOk result (λ sum. IsTermsSum p.now r.now (length r.now.terms) sum.by.items sum.value) }
-    ensures unfit { IfErr result (λ stop. stop ≡ stops.Unfit → HasUnfitTerms p.now r.now) }
+    ensures unfit { IfErr result (λ stop. IsRefused stop → HasUnfitTerms p.now r.now) }
 {
-    r.show_row();
+    r.show_row(); // for the proof: what a row keeps
     let value = Frac::zero();
     let by = zeros(alloc, p.rows().len() + p.stays().len())?;
     let mut sum = Terms { by, value };
@@ -103,13 +103,13 @@ fn terms_of(alloc: Global, p: &Problem, r: &Row) -> Result<Terms, SumStop>
 pub fn first_sum(alloc: Global, p: &Problem, r: &Row) -> Result<Sum, SumStop>
     requires { IsRowOf p.now r.now }
     ensures sum { IfOk result (IsSumOf p.now (over_marks p.now) (Held r.now.id)) }
-    ensures unfit { IfErr result (λ stop. stop ≡ stops.Unfit → HasUnfitTerms p.now r.now) }
+    ensures unfit { IfErr result (λ stop. IsRefused stop → HasUnfitTerms p.now r.now) }
 {
-    p.show_whole();
-    r.show_row();
+    p.show_whole(); // for the proof: what a problem keeps
+    r.show_row(); // for the proof: what a row keeps
     let sum = terms_of(alloc, p, r)?;
     let Ok(value) = Frac::mul_add(sum.value, -1, 1, r.constant()) else {
-        return Err(SumStop::Unfit);
+        return Err(Stop::Refused(Unfit));
     };
     let by = sum.by;
     Ok(Sum { own: 1, by, value })
@@ -118,7 +118,7 @@ pub fn first_sum(alloc: Global, p: &Problem, r: &Row) -> Result<Sum, SumStop>
 // The lines of the rows there.
 fn held_lines(alloc: Global, p: &Problem) -> Result<Vec<Option<Inside>>, SumStop>
     ensures lines { IfOk result (λ out. AreFirstLines p.now (length p.now.rows) out.items) }
-    ensures unfit { IfErr result (λ stop. stop ≡ stops.Unfit → HasUnfitFirst p.now) }
+    ensures unfit { IfErr result (λ stop. IsRefused stop → HasUnfitFirst p.now) }
 {
     let mut out = Vec::new(alloc);
     for r in p.rows() {
@@ -134,7 +134,7 @@ pub fn first_lines(alloc: Global, p: &Problem) -> Result<Vec<Option<Inside>>, Su
     ensures sized { IfOk result (λ lines. AreSized lines.items) }
     ensures count { IfOk result (λ lines. length lines.items ≡ line_count p.now) }
     ensures lines { IfOk result (λ lines. AreLines p.now (over_marks p.now) lines.items) }
-    ensures unfit { IfErr result (λ stop. stop ≡ stops.Unfit → HasUnfitFirst p.now) }
+    ensures unfit { IfErr result (λ stop. IsRefused stop → HasUnfitFirst p.now) }
 {
     let mut out = held_lines(alloc, p)?;
     for _ in 0..p.stays().len() {

@@ -67,4 +67,6 @@ pub use stop::SumStop;
 pub use table::{Inside, Sum, turn};
 pub use tests::{has_no_negative_value, is_down, is_on_side, is_up};
 pub use verdict::PathVerdict;
-pub use way::{Kept, Way, WayStop, brought, first_sides, follow, lines_now, to_corner, told};
+pub use way::{
+    Kept, PATH_LIMIT, Way, WayStop, brought, first_sides, follow, lines_now, to_corner, told,
+};

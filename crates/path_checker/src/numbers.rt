@@ -3,13 +3,14 @@ ghost use Rattle.std.specs.Prelude.{◌≡◌, ℕ, ◌*◌, ◌<◌, ◌≤◌,
 ghost use Rattle.std.specs.Prelude.{unsigned_abs, All, IfOk, IfErr, IfSome, IfNone, map};
 ghost use Rattle.std.specs.Int.{◌∣◌};
 ghost use Rattle.std.specs.Ordering.{int_cmp};
+ghost use Rattle.frac_core.specs.Stops.{IsRefused};
 ghost use Rattle.frac_core.specs.Fraction.{IsFitting, sum_num};
 ghost use Rattle.path_checker.specs.Numbers.{AreFitting, AreLowest, AreUnfit, DividesAll, HasTooLarge};
 ghost use Rattle.path_checker.specs.Numbers.{IsCombined, IsCommonDivisor, IsFactor, IsSmallProduct};
-ghost use Rattle.path_checker.specs.declared.stop.SumStop.TheVariants.{OutOfMemory, Unfit};
+ghost use Rattle.frac_core.specs.declared.memory.Stop.TheVariants.{OutOfMemory};
 
 use crate::stop::SumStop;
-use frac_core::{Frac, PART_BOUND, cmp_wide, gcd};
+use frac_core::{Frac, PART_BOUND, Stop, Unfit, cmp_wide, gcd};
 use std::alloc::Global;
 use std::cmp::Ordering;
 
@@ -83,12 +84,12 @@ fn quotients(alloc: Global, numbers: &[i128], divisor: i128) -> Result<Vec<i64>,
     requires divides { All (λ z. unsigned_abs divisor ∣ unsigned_abs z) numbers.now }
     ensures same { IfOk result (λ v. map (λ z. divisor *ℤ z) v.items ≡ numbers.now) }
     ensures fits { IfOk result (λ v. All IsFitting v.items) }
-    ensures unfit { IfErr result (λ stop. stop ≡ Unfit → HasTooLarge divisor numbers.now) }
+    ensures unfit { IfErr result (λ stop. IsRefused stop → HasTooLarge divisor numbers.now) }
 {
     let mut out = Vec::with_capacity(alloc, numbers.len())?;
     for number in numbers {
         let Some(part) = fitting_quotient(*number, divisor) else {
-            return Err(SumStop::Unfit);
+            return Err(Stop::Refused(Unfit));
         };
         out.push(part)?;
     }
@@ -101,11 +102,11 @@ pub fn in_lowest_terms(alloc: Global, wide: &Wide) -> Result<Lowest, SumStop>
     ensures lowest { IfOk result (λ l. AreLowest wide.now.own wide.now.by.items l.own l.by.items) }
     ensures above { IfOk result (λ l. pos 0 <ℤ l.own) }
     ensures fits { IfOk result (λ l. AreFitting l.own l.by.items) }
-    ensures unfit { IfErr result (λ stop. stop ≡ Unfit → AreUnfit wide.now.own wide.now.by.items) }
+    ensures unfit { IfErr result (λ stop. IsRefused stop → AreUnfit wide.now.own wide.now.by.items) }
 {
     let divisor = divisor_of(wide.own, &wide.by);
     let Some(own) = fitting_quotient(wide.own, divisor) else {
-        return Err(SumStop::Unfit);
+        return Err(Stop::Refused(Unfit));
     };
     let by = quotients(alloc, &wide.by, divisor)?;
     Ok(Lowest { own, by })

@@ -1,5 +1,5 @@
 // The corners of a path, by which mark of each line is inside.
-ghost use Rattle.std.specs.Prelude.{◌≡◌, ◌↔◌, ◌<◌, ◌++◌, [], ◌∷◌, ℕ, List, length, drop, replicate, true};
+ghost use Rattle.std.specs.Prelude.{◌≡◌, ◌↔◌, ◌<◌, ◌++◌, [], ◌∷◌, List, length, drop, replicate, true};
 ghost use Rattle.std.specs.Prelude.{false, All, Any, IfOk, IfSome, IfNone, IsTrue, Some, None};
 ghost use Rattle.problem_core.specs.Layout.{Problem};
 ghost use Rattle.problem_core.specs.Kept.{IsWhole};

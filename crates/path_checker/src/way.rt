@@ -1,5 +1,5 @@
 // The way to a path's first corner.
-ghost use Rattle.std.specs.Prelude.{◌≡◌, ◌≢◌, ◌<◌, ◌≤◌, ◌+◌, ◌^◌, ◌++◌, [], ◌∷◌, ℕ, List, length};
+ghost use Rattle.std.specs.Prelude.{◌≡◌, ◌≢◌, ◌<◌, ◌≤◌, ◌+◌, ◌^◌, [], List, length};
 ghost use Rattle.std.specs.Prelude.{IfOk, IfErr, Ok, Err, Some, false};
 ghost use Rattle.problem_core.specs.Layout.{Problem};
 ghost use Rattle.problem_core.specs.declared.parts.Mark.{Mark};
@@ -12,7 +12,9 @@ ghost use Rattle.path_checker.specs.Ways.{AreFollowed, IsArrived, IsSwapStop, St
 ghost use Rattle.path_checker.specs.Pivots.{LeadTo, LeadToUnfit};
 ghost use Rattle.path_checker.specs.Sides.{IsWithin, moved_sides};
 ghost use Rattle.path_checker.specs.declared.spots.Step.{Step};
-ghost use Rattle.path_checker.specs.declared.stop.SumStop.TheVariants as stops;
+ghost use Rattle.frac_core.specs.Stops.{IsRefused};
+ghost use Rattle.frac_core.specs.declared.memory.Stop.TheVariants as stops;
+ghost use Rattle.path_checker.specs.declared.way.TheConstants.{PATH_LIMIT};
 ghost use Rattle.path_checker.specs.declared.way.WayStop.TheVariants as ways;
 
 use crate::exchange::{after_exchange, is_exchange};
@@ -22,9 +24,13 @@ use crate::spots::{Spot, Step, spot_of, step_of};
 use crate::stop::SumStop;
 use crate::table::Inside;
 use cert_core::Path;
-use frac_core::OutOfMemory;
+use frac_core::{OutOfMemory, Stop};
 use problem_core::{Problem, RowName, Side};
 use std::alloc::{AllocFailed, Global};
+use thiserror::Error;
+
+/// What the number of marks and exchanges of a path is below, so that its exchanges are counted in 32 bits.
+pub const PATH_LIMIT: usize = 1 << 31;
 
 /// What is kept of a corner of the route: the lines before the exchange that leads there, or nothing of the
 /// one where it begins, and how many exchanges led there. Its own lines are made once another exchange is to
@@ -45,10 +51,13 @@ pub struct Way {
 
 /// What ends a way: a clause fails, something that counts does not fit after so many exchanges, or memory is
 /// wanting.
-#[derive(Clone, Copy, Debug, PartialEq, Eq)]
+#[derive(Clone, Copy, Debug, PartialEq, Eq, Error)]
 pub enum WayStop {
+    #[error("a clause of the path fails")]
     Fails,
+    #[error("a number that counts does not fit after {0} exchanges")]
     NoRoom(u32),
+    #[error("memory is wanting")]
     OutOfMemory,
 }
 
@@ -82,10 +91,10 @@ pub fn lines_now(alloc: Global, p: &Problem, kept: Kept) -> Result<Vec<Option<In
     ensures count { IfOk result (λ lines. length lines.items ≡ line_count p.now) }
     ensures lines { IfOk result (λ lines. (at : List Mark) → IsKept p.now at kept
         → IsThere p.now at × AreLines p.now at lines.items) }
-    ensures unfit { IfErr result (λ stop. stop ≡ stops.Unfit → (at : List Mark) → IsKept p.now at kept
+    ensures unfit { IfErr result (λ stop. IsRefused stop → (at : List Mark) → IsKept p.now at kept
         → IsStuckBy p.now at kept.step) }
 {
-    p.show_whole();
+    p.show_whole(); // for the proof: what a problem keeps
     match kept.step {
         Some(step) => after_exchange(alloc, kept.lines, step),
         None => first_lines(alloc, p),
@@ -99,12 +108,12 @@ pub fn told(
 ) -> Result<Vec<Option<Inside>>, WayStop>
     ensures ok { IfOk result (λ l. lines ≡ Ok l) }
     ensures stop { IfErr result (λ stop. stop ≢ ways.OutOfMemory
-        → (stop ≡ ways.NoRoom count) × (lines ≡ Err stops.Unfit)) }
+        → (stop ≡ ways.NoRoom count) × (lines ≡ Err (stops.Refused (record {})))) }
 {
     match lines {
         Ok(lines) => Ok(lines),
-        Err(SumStop::Unfit) => Err(WayStop::NoRoom(count)),
-        Err(SumStop::OutOfMemory) => Err(WayStop::OutOfMemory),
+        Err(Stop::Refused(_)) => Err(WayStop::NoRoom(count)),
+        Err(Stop::OutOfMemory) => Err(WayStop::OutOfMemory),
     }
 }
 
@@ -215,7 +224,7 @@ fn first_way(alloc: Global, p: &Problem) -> Result<Way, WayStop>
     ensures way { IfOk result (λ way. (path : Path) → IsWayAt p.now path [] path.corner way) }
     ensures stop { IfErr result (λ stop. stop ≡ ways.OutOfMemory) }
 {
-    p.show_whole();
+    p.show_whole(); // for the proof: what a problem keeps
     let sides = first_sides(alloc, p)?;
     let lines = Vec::new(alloc);
     let step = None;
@@ -235,7 +244,7 @@ pub fn to_corner(
 ) -> Result<Way, WayStop>
     requires names { names.now ≡ names_of p.now }
     requires wanted { AreSides p.now path.now.corner wanted.now }
-    requires count { length path.now.corner < 2 ^ 31 }
+    requires count { length path.now.corner < PATH_LIMIT }
     ensures usable { IfOk result (IsUsableWay (line_count p.now)) }
     ensures count { IfOk result (λ way. way.kept.count ≤ length path.now.corner) }
     ensures way { IfOk result (IsWayAt p.now path.now path.now.corner []) }

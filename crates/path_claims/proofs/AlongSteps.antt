@@ -5,30 +5,30 @@ use Rattle.problem_core.specs.declared.parts.Mark.{Mark}
 use Rattle.problem_core.specs.declared.stops.Quantity.{Quantity}
 use Rattle.problem_core.specs.Layout.{Problem}
 use Rattle.problem_core.specs.Begins.{AreExchanges}
-use Rattle.problem_core.specs.Corners.{IsCorner, IsExchange, SameMarks, Swap, exchanged}
+use Rattle.problem_core.specs.Corners.{IsExchange, SameMarks, Swap, exchanged}
 use Rattle.problem_core.specs.Paths.{IsEndOf, IsSound, MaySwap, last_marks}
 use Rattle.corner_laws.proofs.Rays.{rays_after}
 use Rattle.cert_core.specs.Paths.{Path}
 use Rattle.path_checker.specs.declared.spots.Step.{Step}
 use Rattle.path_checker.specs.declared.way.WayStop.{WayStop}
 use Rattle.path_checker.specs.declared.way.WayStop.TheVariants.{Fails, NoRoom, OutOfMemory}
-use Rattle.path_checker.specs.PathClauses.{AreCalledFor, HoldToApart, HoldToExchanges}
+use Rattle.path_checker.specs.PathClauses.{AreCalledFor, HoldToExchanges}
 use Rattle.path_checker.specs.Room.{HasNoRoom}
-use Rattle.path_checker.specs.Route.{IsRoute, IsWholeRoute, corner_after, over_marks}
+use Rattle.path_checker.specs.Route.{IsRoute, corner_after, over_marks}
 use Rattle.path_checker.specs.Sides.{IsWithin}
 use Rattle.path_checker.specs.Tables.{IsThere, line_count, swap_of}
 use Rattle.path_checker.specs.Ways.{IsBegun, IsMarkStop}
 use Rattle.path_checker.proofs.Following.{last_after, last_more, not_whole, take_next}
 use Rattle.path_checker.proofs.Iffs.{never_true, yes}
 use Rattle.path_checker.proofs.Places.{mark_is_there}
-use Rattle.path_checker.proofs.WaySteps.{counts_there}
+use Rattle.path_checker.proofs.WaySteps.{begun_more, counts_there}
 use Rattle.path_checker.proofs.Walks.{split_there}
-use Rattle.path_claims.specs.declared.frame.Frame.{Frame}
+use Rattle.path_levels.specs.declared.frame.Frame.{Frame}
 use Rattle.path_claims.specs.declared.stations.Station.{Station}
 use Rattle.path_claims.specs.declared.stations.Table.{Table}
 use Rattle.path_claims.specs.Journeys.{AreSoundAhead, IsOnRoute, LeadThere}
 use Rattle.path_claims.specs.Stations.{IsStation, IsStationBy, IsStuckAt, IsTableAt, IsUsableStation}
-use Rattle.path_claims.proofs.JourneySteps.{IsCountingAt, begun_more, counting_at, some_apart}
+use Rattle.path_claims.proofs.JourneySteps.{IsCountingAt, counting_at, some_apart}
 use Rattle.path_claims.proofs.MarkOrders.{end_same, exchange_same, exchanges_same, last_same, may_same, same_back, sound_same}
 
 -- ---- exchanges

@@ -1,8 +1,7 @@
 -- Attributes by their stays' lines, and marks, after an exchange.
-use Rattle.std.proofs.Common.{◌≡◌, ◌≢◌, ◌∙◌, ◌↔◌, ℕ, ◌+◌, ◌*◌, ◌<◌, List, length, map, get_or, ℤ, pos, negsuc, ◌+ℤ◌, ◌-ℤ◌, ◌*ℤ◌, ◌<ℤ◌, unsigned_abs, refl, sym, ap, ap₂, subst, subst₂, arith, All, inl, inr, Option, None, Some, IsTrue, Bool, true, false, cond, nat_eq, [], ◌∷◌, mul-pos}
+use Rattle.std.proofs.Common.{◌≡◌, ◌≢◌, ◌∙◌, ◌↔◌, ℕ, ◌+◌, ◌*◌, ◌<◌, List, length, get_or, ℤ, pos, ◌+ℤ◌, ◌-ℤ◌, ◌*ℤ◌, unsigned_abs, refl, sym, ap, ap₂, subst, arith, All, Option, None, Some, Bool, true, false, cond, nat_eq, [], ◌∷◌, mul-pos}
 use Rattle.std.specs.List.{AllByRecursion as Each}
 use Rattle.std.proofs.lemmas.List.{get_or_default, length-map}
-use Rattle.std.specs.Prelude.{slice_index_or}
 use borrow.Author.Differences.{ints}
 use Rattle.frac_core.specs.Fraction.{Fraction, IsFitting, IsKept, IsRatio, IsUnfitRatio, sum_den, sum_num}
 use Rattle.frac_core.proofs.Integers.{zero-mul_ℤ}
@@ -19,7 +18,7 @@ use Rattle.problem_core.specs.Layout.{HasStay, Line, Problem, line_of_stay, line
 use Rattle.problem_core.specs.Corners.{IsIn, Point, Solves, attr_column, equation, one_column, place, place_of}
 use Rattle.problem_core.specs.Unfit.{HasNoWriting, IsUnfitWhat}
 use Rattle.corner_laws.proofs.Gaps.{line_gap}
-use Rattle.corner_lines.specs.LineEquations.{IsLineEquation, IsLineSum, IsOutsideLine, deviation, mark_form}
+use Rattle.corner_lines.specs.LineEquations.{IsLineEquation, IsLineSum, deviation, mark_form}
 use Rattle.corner_lines.proofs.JoinedLines.{added, same-sum}
 use Rattle.corner_lines.proofs.LineUnfits.{line_sum, line_unfit}
 use Rattle.path_checker.specs.declared.table.Inside.{Inside}
@@ -28,16 +27,16 @@ use Rattle.path_checker.specs.declared.spots.Spot.{Spot}
 use Rattle.path_checker.specs.Tables.{IsLineAt, IsSpotOf, IsThere, line_count, name_at, names_of, numbers_of}
 use Rattle.path_checker.proofs.Exchanging.{one_side, side_out}
 use Rattle.path_checker.proofs.FirstLines.{count_lines, stay_at, stay_name, units}
-use Rattle.path_checker.proofs.Places.{any_line, name_there}
+use Rattle.path_checker.proofs.Places.{any_line}
 use Rattle.path_checker.proofs.ValueSigns.{inside_place}
 use Rattle.path_claims.specs.Attrs.{IsAttrAfter, IsFittingStay, IsStayAt, IsUnfitStay}
 use Rattle.path_claims.specs.Fits.{AllAttrsFit}
 use Rattle.path_checker.specs.Pivots.{HasUnfit}
 use Rattle.std.proofs.Math.Nat.{eq-one_of_dvd-one}
 use Rattle.corner_lines.proofs.LineWritings.{line_writing}
-use Rattle.path_claims.specs.Sums.{IsCopy, IsKeptLine, IsQuantitySum, IsSideAt, IsUnfitLineAt, IsUnitSum}
+use Rattle.path_claims.specs.Sums.{IsCopy, IsKeptLine, IsQuantitySum, IsSideAt, IsUnfitLineAt}
 use Rattle.path_claims.proofs.SumsAfter.{sum_of_unit, units_outside}
-use Rattle.path_claims.proofs.QuantitiesAfter.{copied_sum, form_fits, mark_fits, quantity_fits, unit_equation}
+use Rattle.path_claims.proofs.QuantitiesAfter.{copied_sum, form_fits, mark_fits, quantity_fits}
 
 -- ---- a stay's line
 

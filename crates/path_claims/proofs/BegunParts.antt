@@ -1,5 +1,5 @@
 -- What is made of the corner where a route begins, and what fits there.
-use Rattle.std.proofs.Common.{◌≡◌, ◌∙◌, ℕ, ◌+◌, ◌<◌, ◌≤◌, List, [], ◌∷◌, length, get_or, refl, sym, ap, subst, arith, inl, inr, Option, None, Some}
+use Rattle.std.proofs.Common.{◌≡◌, ◌∙◌, ℕ, ◌+◌, ◌<◌, ◌≤◌, List, [], ◌∷◌, length, get_or, refl, sym, ap, subst, arith, inl, inr, Option}
 use Rattle.std.proofs.lemmas.Bool.{cases_eq, cases_lt}
 use Rattle.std.proofs.lemmas.List.{get_or_default}
 use Rattle.problem_core.specs.declared.parts.Level.{Level}
@@ -10,22 +10,22 @@ use Rattle.problem_core.specs.Kept.{IsWhole}
 use Rattle.problem_core.specs.Layout.{Line, Problem, Row, lines}
 use Rattle.problem_core.specs.Unfit.{AreOverFrom, IsUnfitAt, IsUnfitTerms, over_mark}
 use Rattle.path_checker.specs.declared.table.Inside.{Inside}
-use Rattle.path_checker.specs.FirstLines.{AreFirstLines, IsRowOf}
+use Rattle.path_checker.specs.FirstLines.{IsRowOf}
 use Rattle.path_checker.specs.Room.{ComesBefore, IsPartial}
 use Rattle.path_checker.specs.Route.{over_marks}
 use Rattle.path_checker.specs.Tables.{AreLines, AreSized, line_count}
 use Rattle.path_checker.proofs.FirstCorner.{begins_there}
 use Rattle.path_checker.proofs.FirstLines.{all_over, count_lines}
-use Rattle.path_claims.specs.declared.frame.Frame.{Frame}
-use Rattle.path_claims.specs.declared.frame.LevelFacts.{LevelFacts}
-use Rattle.path_claims.specs.declared.frame.LineFacts.{LineFacts}
-use Rattle.path_claims.specs.declared.sums.LevelSum.{LevelSum}
-use Rattle.path_claims.specs.Begun.{IsBegunUntil, IsWholeBegun, Reaches}
-use Rattle.path_claims.specs.FirstSums.{AllSumsFit, AreMade, IsFirstUnfitSum, IsStopAt, IsUnfitSum}
-use Rattle.path_claims.specs.Frames.{AreFactsOf, IsFrame}
-use Rattle.path_claims.specs.Levels.{AreLevels, AreSizedLevels}
-use Rattle.path_claims.specs.Rows.{AllRowsFit, AreKept, IsFirstOfAll}
-use Rattle.path_claims.proofs.FirstSums.{over_number, same_row, unfit_of}
+use Rattle.path_levels.specs.declared.frame.Frame.{Frame}
+use Rattle.path_levels.specs.declared.frame.LevelFacts.{LevelFacts}
+use Rattle.path_levels.specs.declared.frame.LineFacts.{LineFacts}
+use Rattle.path_levels.specs.declared.sums.LevelSum.{LevelSum}
+use Rattle.path_claims.specs.Begun.{IsBegunUntil, IsWholeBegun}
+use Rattle.path_claims.specs.FirstSums.{AreMade, IsFirstUnfitSum, IsStopAt, IsUnfitSum}
+use Rattle.path_levels.specs.Frames.{AreFactsOf, IsFrame}
+use Rattle.path_levels.specs.Levels.{AreLevels, AreSizedLevels}
+use Rattle.path_levels.specs.Rows.{AllRowsFit, AreKept, IsFirstOfAll}
+use Rattle.path_claims.proofs.FirstSums.{over_number, same_row}
 
 -- ---- rows and their sums
 

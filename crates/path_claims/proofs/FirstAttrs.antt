@@ -1,24 +1,20 @@
 -- All attributes fit where the route begins.
-use Rattle.std.proofs.Common.{◌≡◌, ◌+◌, ◌<◌, ℕ, Bool, true, false, cond, length, get_or, ℤ, pos, neg_ℤ, subst, arith, sym, ap, List, [], ◌∷◌, ◌∙◌}
+use Rattle.std.proofs.Common.{◌+◌, ℕ, Bool, true, false, cond, length, get_or, ℤ, pos, neg_ℤ, subst, arith, sym, ap, List, [], ◌∷◌, ◌∙◌}
 use Rattle.std.specs.List.{AllByRecursion as Each}
-use Rattle.std.proofs.lemmas.List.Elements.{All-from_recursion, recursion_from_All}
 use Rattle.frac_core.specs.Fraction.{Fraction, IsFitting, IsKept}
-use Rattle.problem_core.specs.declared.parts.Side.TheVariants.{Under, Over}
 use Rattle.problem_core.specs.declared.parts.Mark.{Mark}
 use Rattle.problem_core.specs.declared.parts.RowName.{RowName}
 use Rattle.problem_core.specs.declared.parts.Stay.{Stay}
-use Rattle.problem_core.specs.Layout.{Line, Problem, coefficient, lines}
+use Rattle.problem_core.specs.Layout.{Line, Problem, lines}
 use Rattle.problem_core.specs.Kept.{IsWhole}
-use Rattle.problem_core.specs.Corners.{attr_column, place_of}
+use Rattle.problem_core.specs.Corners.{attr_column}
 use Rattle.problem_core.specs.Unfit.{HasNoWriting}
-use Rattle.problem_core.proofs.Forms.{each-impl}
 use Rattle.corner_laws.proofs.LinePlaces.{lines_apart}
 use Rattle.corner_lines.specs.LineEquations.{IsLineEquation, IsLineSum, mark_form}
 use Rattle.corner_lines.proofs.LevelJoins.{one-divides}
 use Rattle.corner_lines.proofs.LineWritings.{line_writing}
 use Rattle.corner_lines.proofs.MarkForms.{by-places}
 use Rattle.path_checker.specs.Route.{over_marks}
-use Rattle.path_checker.specs.Tables.{line_count}
 use Rattle.path_checker.proofs.FirstLines.{attr_sum, units}
 use Rattle.path_claims.specs.Fits.{AllAttrsFit}
 

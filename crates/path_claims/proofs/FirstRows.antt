@@ -17,15 +17,15 @@ use Rattle.problem_core.specs.Levels.{IsLevelAt}
 use Rattle.problem_core.specs.Unfit.{IsUnfitRows}
 use Rattle.path_checker.specs.Tables.{line_count, name_at}
 use Rattle.path_checker.proofs.Places.{any_line, name_there}
-use Rattle.path_claims.specs.declared.frame.Frame.{Frame}
-use Rattle.path_claims.specs.declared.frame.LevelFacts.{LevelFacts}
-use Rattle.path_claims.specs.declared.frame.LineFacts.{LineFacts}
+use Rattle.path_levels.specs.declared.frame.Frame.{Frame}
+use Rattle.path_levels.specs.declared.frame.LevelFacts.{LevelFacts}
+use Rattle.path_levels.specs.declared.frame.LineFacts.{LineFacts}
 use Rattle.path_claims.specs.declared.last.Fit.TheVariants.{NoRoom}
 use Rattle.path_claims.specs.Attrs.{IsEmptyLevel}
 use Rattle.path_claims.specs.FirstLines.{HasUnfitFirst, IsFirstAt, size_in}
 use Rattle.path_claims.specs.Fits.{IsFitAt}
-use Rattle.path_claims.specs.Frames.{AreFactsOf, AreLevelFacts, IsFactsOf, IsFrame, number_at}
-use Rattle.path_claims.specs.Rows.{level_place, level_size}
+use Rattle.path_levels.specs.Frames.{AreFactsOf, AreLevelFacts, IsFactsOf, IsFrame, number_at}
+use Rattle.path_levels.specs.Rows.{level_place, level_size}
 use Rattle.path_claims.proofs.LevelsAfter.{any_facts, facts_at, facts_count, level_once}
 
 -- ---- the place of a level

@@ -1,24 +1,22 @@
 -- Sums of rows' first terms at the corner where the route begins.
-use Rattle.std.proofs.Common.{◌≡◌, ◌≢◌, ◌∙◌, ℕ, zero, suc, ◌+◌, ◌*◌, ◌<◌, ◌≤◌, ◌^◌, Bool, cond, nat_eq, List, [], ◌∷◌, length, get_or, take, true, false, ℤ, pos, negsuc, ◌+ℤ◌, ◌-ℤ◌, ◌*ℤ◌, neg_ℤ, unsigned_abs, refl, sym, ap, subst, arith, inl, inr, mul-pos, replicate, ◌++◌, Option, None, Some}
-use Rattle.std.specs.List.{All, AllPairs, Any, AllByRecursion as Each}
+use Rattle.std.proofs.Common.{◌≡◌, ◌∙◌, ℕ, zero, suc, ◌+◌, ◌*◌, ◌<◌, ◌≤◌, ◌^◌, Bool, cond, nat_eq, List, [], ◌∷◌, length, get_or, true, false, ℤ, pos, negsuc, ◌+ℤ◌, ◌-ℤ◌, ◌*ℤ◌, neg_ℤ, unsigned_abs, refl, sym, ap, subst, arith, inl, inr, mul-pos, replicate, ◌++◌, Option, Some}
+use Rattle.std.specs.List.{All, AllPairs, AllByRecursion as Each}
 use Rattle.std.proofs.lemmas.Bool.{cases_eq, cases_lt}
 use Rattle.std.proofs.lemmas.List.{get_or_default, get_or-replicate, length-replicate}
-use Rattle.std.proofs.lemmas.List.Elements.{recursion_from_All, All-from_recursion}
+use Rattle.std.proofs.lemmas.List.Elements.{recursion_from_All}
 use Rattle.std.proofs.Math.Nat.{eq-one_of_dvd-one}
 use borrow.Author.Differences.{ints}
 use Rattle.frac_core.specs.Fraction.{Fraction, IsFitting, IsKept, IsRatio, IsUnfitRatio, sum_den, sum_num}
 use Rattle.problem_core.specs.declared.parts.Mark.{Mark}
 use Rattle.problem_core.specs.declared.parts.RowName.{RowName}
 use Rattle.problem_core.specs.declared.parts.RowName.TheVariants.{Held}
-use Rattle.problem_core.specs.declared.parts.Side.{Side}
 use Rattle.problem_core.specs.declared.parts.Side.TheVariants.{Under, Over}
 use Rattle.problem_core.specs.declared.parts.Stay.{Stay}
 use Rattle.problem_core.specs.declared.parts.Term.{Term}
-use Rattle.problem_core.specs.Kept.{IsRow, IsTerm, IsWhole}
+use Rattle.problem_core.specs.Kept.{IsTerm, IsWhole}
 use Rattle.problem_core.specs.Layout.{HasStay, IsCovered, Line, Problem, Row, coefficient, lines, value_at}
 use Rattle.problem_core.specs.Corners.{IsIn, attr_column, place, place_of}
 use Rattle.problem_core.specs.Unfit.{HasNoWriting, IsUnfitTerms, first_terms, over_mark}
-use Rattle.problem_core.proofs.Forms.{each-impl}
 use Rattle.corner_laws.proofs.Directions.{each-of}
 use Rattle.corner_laws.proofs.LinePlaces.{lines_apart}
 use Rattle.corner_lines.specs.LineEquations.{IsLineEquation, IsLineSum, deviation, inside_form, mark_form}
@@ -32,7 +30,7 @@ use Rattle.path_checker.specs.Tables.{IsSumOf, IsThere, line_count, numbers_of}
 use Rattle.path_checker.specs.declared.table.Inside.{Inside}
 use Rattle.path_checker.specs.declared.table.Sum.{Sum}
 use Rattle.path_checker.proofs.FirstCorner.{begins_there}
-use Rattle.path_checker.proofs.FirstLines.{attr_sum, count_lines, held_line, no_terms_yet, one_line_more, one_term_more, over_in, stay_there, units}
+use Rattle.path_checker.proofs.FirstLines.{attr_sum, held_line, no_terms_yet, one_line_more, one_term_more, over_in, stay_there, units}
 use Rattle.path_claims.specs.FirstSums.{AllSumsFit, AreMade, DoFitBefore, IsFirstUnfitSum, IsNextTooMuch, IsNextValue, IsTarget, IsTermsValue, IsUnfitSum}
 
 -- ---- numbers that fit

@@ -5,58 +5,43 @@ use Rattle.std.proofs.lemmas.List.{take_more}
 use Rattle.std.proofs.lemmas.List.Elements.{All-push}
 use Rattle.problem_core.specs.declared.parts.Mark.{Mark}
 use Rattle.problem_core.specs.declared.parts.RowName.{RowName}
-use Rattle.problem_core.specs.declared.parts.Side.{Side}
 use Rattle.problem_core.specs.declared.stops.Quantity.{Quantity}
 use Rattle.problem_core.specs.declared.stops.Quantity.TheVariants.{Plain, Terms, Rows}
 use Rattle.problem_core.specs.Layout.{Problem, lines as lines_of}
 use Rattle.problem_core.specs.Kept.{IsWhole}
-use Rattle.problem_core.specs.Corners.{IsCorner, IsIn, SameMarks, Swap, exchanged, marks_of, place}
-use Rattle.problem_core.specs.Paths.{last_marks}
+use Rattle.problem_core.specs.Corners.{IsCorner, IsIn, Swap, exchanged, marks_of, place}
 use Rattle.problem_core.specs.Unfit.{IsUnfitAt, over_mark}
 use Rattle.corner_laws.proofs.Rays.{enter_in, kept_in, rays_after}
 use Rattle.cert_core.specs.Paths.{Path}
 use Rattle.path_checker.specs.declared.spots.Spot.{Spot}
 use Rattle.path_checker.specs.declared.spots.Step.{Step}
-use Rattle.path_checker.specs.declared.table.Inside.{Inside}
 use Rattle.path_checker.specs.declared.way.WayStop.{WayStop}
 use Rattle.path_checker.specs.declared.way.WayStop.TheVariants.{Fails, NoRoom, OutOfMemory}
 use Rattle.path_checker.specs.Bringing.{IsBringing, NothingBrings}
 use Rattle.path_checker.specs.Room.{CountsOnTheWay, HasNoRoom}
-use Rattle.path_checker.specs.Route.{GivesWay, GoesBy, IsRoute, IsWholeRoute, MayGiveWay, corner_after, over_marks}
+use Rattle.path_checker.specs.Route.{GivesWay, GoesBy, IsRoute, MayGiveWay, corner_after, over_marks}
 use Rattle.path_checker.specs.Sides.{IsWithin, moved_sides}
-use Rattle.path_checker.specs.Tables.{AreLines, AreSides, IsSpotOf, IsThere, line_count, mark_of, names_of, swap_of}
-use Rattle.path_checker.specs.Ways.{AreFirstSides, AreNew, IsBegun, IsBroughtByNone, IsMarkStop}
+use Rattle.path_checker.specs.Tables.{AreSides, IsSpotOf, IsThere, line_count, mark_of, names_of, swap_of}
+use Rattle.path_checker.specs.Ways.{AreFirstSides, IsBegun, IsMarkStop}
 use Rattle.path_checker.proofs.Bringing.{none_gives_way}
 use Rattle.path_checker.proofs.FirstCorner.{begins_there}
 use Rattle.path_checker.proofs.Places.{mark_is_there}
 use Rattle.path_checker.proofs.SidesApart.{moved_are_sides}
 use Rattle.path_checker.proofs.WayBegins.{mark_in, spot_is}
-use Rattle.path_checker.proofs.WaySteps.{counts_there, in_all, inside_by_sides, last_more, new_after, with_none}
+use Rattle.path_checker.proofs.WaySteps.{begun_more, counts_there, goes_in, inside_by_sides, joined, last_more, new_more, not_ended, with_none}
 use Rattle.path_checker.proofs.Walks.{first_of_rest}
-use Rattle.path_claims.proofs.AllMarks.{all_of_them}
-use Rattle.path_claims.specs.declared.frame.Frame.{Frame}
+use Rattle.path_checker.proofs.Pigeons.{all_of_them}
+use Rattle.path_levels.specs.declared.frame.Frame.{Frame}
 use Rattle.path_claims.specs.declared.journey.Claim.{Claim}
 use Rattle.path_claims.specs.declared.journey.Journey.{Journey}
 use Rattle.path_claims.specs.declared.stations.Station.{Station}
 use Rattle.path_claims.specs.declared.stations.Table.{Table}
-use Rattle.path_claims.specs.Journeys.{Brings, BringsNone, HasOneMore, IsBroughtBy, IsClaim, IsJourneyAt, IsMarkNext, IsOnRoute, LeadThere, StopsAt}
-use Rattle.path_claims.specs.Frames.{IsFrame}
+use Rattle.path_claims.specs.Journeys.{Brings, BringsNone, HasOneMore, IsBroughtBy, IsClaim, IsJourneyAt, IsMarkNext, IsOnRoute, StopsAt}
+use Rattle.path_levels.specs.Frames.{IsFrame}
 use Rattle.path_claims.specs.Stations.{IsSizedTable, IsStation, IsStationBy, IsStuckAt, IsTableAt, IsUsableBy, IsUsableStation}
 use Rattle.path_claims.proofs.StationTables.{frame_long}
 
 -- ---- one exchange more
-
-joined : {X : Type 0} (xs : List X) (y : X) (ys : List X) → (xs ++ y ∷ []) ++ ys ≡ xs ++ y ∷ ys
-joined [] y ys = refl
-joined {X = X} (x ∷ xs) y ys = ap (λ (zs : List X). x ∷ zs) (joined xs y ys)
-
-pub begun_more : (done : List Swap) (s : Swap) (o : Option Step) → o ≢ None → IsBegun (done ++ s ∷ []) o
-begun_more [] s o some = some
-begun_more (t ∷ done) s o some = some
-
-new_more : (wanted at : List Mark) (done : List Swap) (s : Swap) → AreNew wanted at done → IsIn (place s.enter) wanted → (IsIn (place s.enter) (last_marks at done) → ⊥) → AreNew wanted at (done ++ s ∷ [])
-new_more wanted at [] s new want out = (want, out, tt)
-new_more wanted at (t ∷ done) s new want out = (new.0, new.1, new_more wanted (exchanged t at) done s new.2 want out)
 
 pub some_apart : (step : Step) → Some step ≡ None → ⊥
 some_apart step e = subst is_some_type e tt
@@ -64,14 +49,6 @@ some_apart step e = subst is_some_type e tt
     is_some_type : Option Step → Type 0
     is_some_type None = ⊥
     is_some_type (Some t) = Unit {0}
-
--- not all wanted marks are inside where the exchanges end
-not_ended : (wanted at : List Mark) (swaps done b : List Swap) (m : Mark) → AreNew wanted at done → done ≡ b ++ swaps → All (λ m. IsIn (place m) (last_marks at b)) wanted → IsIn (place m) wanted → (IsIn (place m) (last_marks at done) → ⊥) → ⊥
-not_ended wanted at [] done b m new is all want out =
-    out (subst (λ (ss : List Swap). IsIn (place m) (last_marks at ss)) (sym (is ∙ with_none b)) (in_all wanted (last_marks at b) (place m) all want))
-not_ended wanted at (s ∷ swaps) done b m new is all want out =
-    let here = new_after wanted at b (s ∷ swaps) (subst (AreNew wanted at) is new) in
-    here.1 (in_all wanted (last_marks at b) (place s.enter) all here.0)
 
 -- ---- what counts where the route stops
 
@@ -101,10 +78,6 @@ no_room_there p path frame before rest journey m n unfit is want out same stuck 
     }
 
 -- ---- one mark more
-
-goes_in : (p : Problem) (path : Path) (at : List Mark) (m : Mark) (rest : List Mark) (more : List Swap) → IsIn (place m) at → GoesBy p path.corner path.swaps at rest more → GoesBy p path.corner path.swaps at (m ∷ rest) more
-goes_in p path at m rest [] i goes = tt
-goes_in p path at m rest (s ∷ more) i goes = inl (i, goes)
 
 already_inside : (p : Problem) (path : Path) (frame : Frame) (before rest : List Mark) (journey : Journey) (m : Mark) → (is : IsJourneyAt p path frame before (m ∷ rest) journey) → IsIn (place m) path.corner → IsIn (place m) (corner_after p is.done) → IsJourneyAt p path frame (before ++ m ∷ []) rest journey
 already_inside p path frame before rest journey m is want here = record {

@@ -1,5 +1,5 @@
 -- The last corner of a path, and the verdict.
-use Rattle.std.proofs.Common.{◌≡◌, ◌≢◌, ◌∙◌, ◌↔◌, ◌⊎◌, inl, inr, ◌+◌, ℕ, zero, suc, ◌-◌, ◌<◌, ◌≤◌, ◌++◌, Bool, true, false, ◌&&◌, IsTrue, List, [], ◌∷◌, length, get_or, refl, sym, ap, subst, subst₂, arith, Option, None, Some, take_all}
+use Rattle.std.proofs.Common.{◌≡◌, ◌≢◌, ◌∙◌, ◌↔◌, ◌⊎◌, inl, inr, ◌+◌, ℕ, ◌-◌, ◌<◌, ◌≤◌, ◌++◌, Bool, true, false, ◌&&◌, IsTrue, List, [], ◌∷◌, length, get_or, refl, sym, ap, subst, subst₂, arith, Option, None, Some, take_all}
 use Rattle.std.proofs.lemmas.Bool.{cases_eq, cases_lt}
 use Rattle.problem_core.specs.declared.parts.Mark.{Mark}
 use Rattle.problem_core.specs.declared.parts.RowName.{RowName}
@@ -7,42 +7,39 @@ use Rattle.problem_core.specs.declared.stops.Quantity.{Quantity}
 use Rattle.problem_core.specs.Layout.{Problem, Row}
 use Rattle.problem_core.specs.Kept.{IsWhole}
 use Rattle.problem_core.specs.Begins.{AreExchanges}
-use Rattle.problem_core.specs.Corners.{IsCorner, IsExchange, SameMarks, Swap, exchanged}
+use Rattle.problem_core.specs.Corners.{IsExchange, SameMarks, Swap, exchanged}
 use Rattle.problem_core.specs.Paths.{IsSound, last_marks}
-use Rattle.problem_core.specs.Unfit.{IsUnfitAt}
 use Rattle.cert_core.specs.Paths.{Path}
 use Rattle.cert_core.specs.Stops.{IsBefore}
 use Rattle.path_checker.specs.declared.spots.Step.{Step}
 use Rattle.path_checker.specs.declared.table.Inside.{Inside}
 use Rattle.path_checker.specs.declared.verdict.PathVerdict.{PathVerdict}
-use Rattle.path_checker.specs.declared.verdict.PathVerdict.TheVariants.{Yes, No, NoRoom as NoRoomFor}
 use Rattle.path_checker.specs.declared.way.WayStop.{WayStop}
 use Rattle.path_checker.specs.declared.way.WayStop.TheVariants.{Fails, NoRoom as NoRoomAfter, OutOfMemory}
 use Rattle.path_checker.specs.PathClauses.{AreSound, AreSoundBefore, IsPathVerdict, row_of_terms}
-use Rattle.path_checker.specs.Room.{Counts, CountsAtEnd, HasNoRoom, IsPartOf}
+use Rattle.path_checker.specs.Room.{CountsAtEnd, HasNoRoom, IsPartOf}
 use Rattle.path_checker.specs.Route.{IsRoute, IsWholeRoute, corner_after, over_marks}
-use Rattle.path_checker.specs.Tables.{AreJudged, line_count, name_at, swap_of}
+use Rattle.path_checker.specs.Tables.{AreJudged, name_at, swap_of}
 use Rattle.path_checker.specs.Ways.{IsBegun, IsEnded, IsMarkStop}
 use Rattle.path_checker.proofs.FirstLines.{count_lines, row_name, stay_name}
 use Rattle.path_checker.proofs.WayBegins.{any_row, any_stay}
 use Rattle.path_checker.proofs.Iffs.{never_true, yes}
 use Rattle.path_claims.specs.declared.along.Walked.{Walked}
 use Rattle.path_claims.specs.declared.journey.Claim.{Claim}
-use Rattle.path_claims.specs.declared.frame.Frame.{Frame}
+use Rattle.path_levels.specs.declared.frame.Frame.{Frame}
 use Rattle.path_claims.specs.declared.last.Fit.{Fit}
 use Rattle.path_claims.specs.declared.last.Fit.TheVariants.{Fits, Unfit, NoRoom}
 use Rattle.path_claims.specs.declared.last.Last.{Last}
 use Rattle.path_claims.specs.declared.stations.Station.{Station}
 use Rattle.path_claims.specs.declared.stations.Table.{Table}
-use Rattle.path_claims.specs.declared.sums.LevelSum.{LevelSum}
+use Rattle.path_levels.specs.declared.sums.LevelSum.{LevelSum}
 use Rattle.path_claims.specs.Fits.{IsFitAt, IsLastAfter, marks_after}
 use Rattle.path_claims.specs.Journeys.{AreSoundAhead, IsClaim, IsOnRoute}
 use Rattle.path_claims.specs.Judging.{IsFitFor, IsFound, IsSoundFrom, IsWalked, unjudged_from}
-use Rattle.path_claims.specs.Levels.{AreLevels}
-use Rattle.path_claims.specs.Rows.{AreKept}
+use Rattle.path_levels.specs.Levels.{AreLevels}
+use Rattle.path_levels.specs.Rows.{AreKept}
 use Rattle.path_claims.specs.Stations.{ComesBy, IsStation, IsStationBy, IsStuckAt, IsTableAt}
 use Rattle.path_claims.proofs.AlongSteps.{marks_same, no_room_end, route_is}
-use Rattle.path_claims.proofs.JourneySteps.{some_apart}
 use Rattle.path_claims.proofs.MarkOrders.{before_same, same_back, sound_same, unfit_same}
 
 -- ---- rows that are judged

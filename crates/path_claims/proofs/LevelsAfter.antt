@@ -28,13 +28,13 @@ use Rattle.corner_lines.proofs.LevelJoins.{empty_level_has_row}
 use Rattle.corner_lines.proofs.LevelSound.{whole_is_sound}
 use Rattle.path_checker.specs.Tables.{IsThere, name_at, numbers_of}
 use Rattle.path_checker.proofs.Places.{name_there, names_differ}
-use Rattle.path_claims.specs.declared.frame.Frame.{Frame}
-use Rattle.path_claims.specs.declared.frame.LevelFacts.{LevelFacts}
-use Rattle.path_claims.specs.declared.frame.LineFacts.{LineFacts}
-use Rattle.path_claims.specs.declared.sums.LevelSum.{LevelSum}
+use Rattle.path_levels.specs.declared.frame.Frame.{Frame}
+use Rattle.path_levels.specs.declared.frame.LevelFacts.{LevelFacts}
+use Rattle.path_levels.specs.declared.frame.LineFacts.{LineFacts}
+use Rattle.path_levels.specs.declared.sums.LevelSum.{LevelSum}
 use Rattle.path_claims.specs.Attrs.{IsEmptyLevel}
-use Rattle.path_claims.specs.Frames.{AreFactsOf, IsFactsOf, IsFrame, number_at}
-use Rattle.path_claims.specs.Levels.{IsLevelSum}
+use Rattle.path_levels.specs.Frames.{AreFactsOf, IsFactsOf, IsFrame, number_at}
+use Rattle.path_levels.specs.Levels.{IsLevelSum}
 
 line_named : (p : Problem) (i : ℕ) (l : Line) (name : RowName) → i < length (lines p) → get_or (lines p) i l ≡ l → l.name ≡ name → name_at p i ≡ name
 line_named p i l name within is e = sym (name_there p i l within) ∙ ap (λ (x : Line). x.name) is ∙ e

@@ -1,23 +1,21 @@
 -- What holds at a corner holds in another order of its marks.
-use Rattle.std.proofs.Common.{◌≡◌, ◌≢◌, ◌∙◌, ◌↔◌, ◌⊎◌, inl, inr, ℕ, zero, suc, Bool, true, false, cond, nat_eq, List, [], ◌∷◌, ◌++◌, ℤ, pos, ◌≤ℤ◌, refl, sym, ap, ap₂, subst, arith, All, AllPairs, eq-eqb, ne_eqb, get_or}
+use Rattle.std.proofs.Common.{◌≡◌, ◌≢◌, ◌∙◌, inl, inr, ℕ, zero, suc, Bool, true, false, cond, nat_eq, List, [], ◌∷◌, ℤ, pos, ◌≤ℤ◌, sym, subst, arith, All, AllPairs, eq-eqb, ne_eqb, get_or}
 use Rattle.std.specs.List.{AllByRecursion as Each}
 use Rattle.std.proofs.lemmas.Bool.{cases_eq}
 use Rattle.std.proofs.lemmas.List.Elements.{All-from_recursion, recursion_from_All}
 use Rattle.std.proofs.lemmas.List.Kept.{AllPairs-cons}
 use Rattle.problem_core.specs.declared.parts.Mark.{Mark}
-use Rattle.problem_core.specs.declared.parts.RowName.{RowName}
-use Rattle.problem_core.specs.declared.parts.Side.{Side}
 use Rattle.problem_core.specs.declared.parts.Term.{Term}
 use Rattle.problem_core.specs.declared.stops.Quantity.{Quantity}
 use Rattle.problem_core.specs.declared.stops.Quantity.TheVariants.{Plain, Terms, Rows, Shifts}
 use Rattle.problem_core.specs.declared.stops.What.{What}
 use Rattle.problem_core.specs.declared.stops.What.TheVariants.{Attr as AttrOf, Mark as MarkOf, Level as LevelOf}
-use Rattle.problem_core.specs.Layout.{Problem, Row}
+use Rattle.problem_core.specs.Layout.{Problem}
 use Rattle.problem_core.specs.Begins.{AreExchanges}
 use Rattle.problem_core.specs.Certificates.{Multipliers}
-use Rattle.problem_core.specs.Corners.{AreMultipliersAt, HasNegativeColumn, HasNegativeValue, IsCorner, IsExchange, IsIn, IsWritingOf, NoNegativeColumn, NoNegativeValue, Point, SameMarks, StandsAt, Swap, attr_column, exchanged, place}
+use Rattle.problem_core.specs.Corners.{AreMultipliersAt, IsCorner, IsExchange, IsIn, IsWritingOf, NoNegativeColumn, NoNegativeValue, Point, SameMarks, Swap, attr_column, exchanged, place}
 use Rattle.problem_core.specs.Paths.{IsEndOf, IsSound, MaySwap, last_marks}
-use Rattle.problem_core.specs.Unfit.{AreOverFrom, HasNoWriting, IsUnfitAt, IsUnfitTerms, IsUnfitRows, IsUnfitWhat, first_terms, over_mark, with_first_rows}
+use Rattle.problem_core.specs.Unfit.{AreOverFrom, HasNoWriting, IsUnfitAt, IsUnfitTerms, IsUnfitWhat, first_terms, with_first_rows}
 use Rattle.problem_core.specs.Levels.{HasNoLevelWriting}
 use Rattle.problem_core.proofs.Forms.{each-both, each-impl}
 use Rattle.cert_core.specs.Stops.{AreNonnegativeBefore, IsBefore}

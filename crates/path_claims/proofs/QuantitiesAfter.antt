@@ -1,26 +1,23 @@
 -- The equation of any quantity after an exchange, when it fits and when it does not.
-use Rattle.std.proofs.Common.{◌≡◌, ◌≢◌, ◌∙◌, ℕ, zero, suc, ◌*◌, ◌<◌, List, length, map, get_or, ℤ, pos, negsuc, ◌+ℤ◌, ◌-ℤ◌, ◌*ℤ◌, ◌<ℤ◌, neg_ℤ, unsigned_abs, refl, sym, ap, ap₂, subst, subst₂, arith, All, inl, inr, true, false, Contains, Some, None, Option}
-use Rattle.std.specs.List.{AllByRecursion as Each}
+use Rattle.std.proofs.Common.{◌≡◌, ◌∙◌, ℕ, zero, suc, ◌*◌, ◌<◌, List, length, get_or, ℤ, pos, negsuc, ◌-ℤ◌, ◌*ℤ◌, ◌<ℤ◌, neg_ℤ, unsigned_abs, refl, sym, ap, ap₂, subst, subst₂, arith, All, inl, inr, true, Some}
 use Rattle.std.proofs.lemmas.Bool.{cases_eq}
-use Rattle.std.proofs.lemmas.List.Elements.{recursion_from_All, All-from_recursion}
+use Rattle.std.proofs.lemmas.List.Elements.{recursion_from_All}
 use Rattle.std.proofs.lemmas.List.{get_or_default}
 use Rattle.std.proofs.Math.Nat.{eq-one_of_dvd-one}
 use Rattle.std.specs.Int.{IsGcd}
 use borrow.Author.Differences.{ints}
-use Rattle.frac_core.specs.Fraction.{Fraction, IsFitting, IsKept, IsLowest, IsRatio, IsUnfitRatio, sum_den, sum_num}
+use Rattle.frac_core.specs.Fraction.{Fraction, IsFitting, IsKept, IsRatio, IsUnfitRatio, sum_den, sum_num}
 use Rattle.frac_core.specs.declared.frac.TheConstants.{PART_BOUND}
 use Rattle.problem_core.proofs.Forms.{each-impl}
 use Rattle.problem_core.specs.declared.parts.Mark.{Mark}
 use Rattle.problem_core.specs.declared.parts.RowName.{RowName}
 use Rattle.problem_core.specs.declared.parts.Side.{Side}
-use Rattle.problem_core.specs.declared.parts.Side.TheVariants.{Under, Over}
-use Rattle.problem_core.specs.declared.stops.What.TheVariants.{Mark as MarkOf}
-use Rattle.problem_core.specs.Layout.{Line, Problem, coefficient, lines, sum_of}
+use Rattle.problem_core.specs.Layout.{Problem, coefficient, lines, sum_of}
 use Rattle.problem_core.specs.Kept.{IsWhole}
-use Rattle.problem_core.specs.Corners.{IsIn, exchanged, marks_of, place, place_of}
-use Rattle.problem_core.specs.Unfit.{HasNoWriting, IsUnfitWhat}
+use Rattle.problem_core.specs.Corners.{IsIn, place_of}
+use Rattle.problem_core.specs.Unfit.{HasNoWriting}
 use Rattle.corner_laws.proofs.LinePlaces.{lines_apart, sum-each}
-use Rattle.corner_lines.specs.LineEquations.{IsLineEquation, IsLineSum, IsOutsideLine, IsUnfitLine, deviation, inside_form, mark_form, other_side, sign_of}
+use Rattle.corner_lines.specs.LineEquations.{IsLineEquation, IsLineSum, IsUnfitLine, deviation, inside_form, mark_form, other_side, sign_of}
 use Rattle.corner_lines.proofs.LineExchanges.{line_turns}
 use Rattle.corner_lines.proofs.LineUnfits.{line_sum, line_unfit, mark_has_none, reduced_line}
 use Rattle.corner_lines.proofs.LineWritings.{inside-other, line_writing, mark_writing, other_coefficient, same-abs}
@@ -30,18 +27,17 @@ use Rattle.path_checker.specs.declared.table.Inside.{Inside}
 use Rattle.path_checker.specs.declared.table.Sum.{Sum}
 use Rattle.path_checker.specs.Numbers.{AreFitting, AreLowest, AreUnfit, IsCombined, number_at}
 use Rattle.path_checker.specs.Pivots.{IsPivotAt, next_marks}
-use Rattle.path_checker.specs.Carried.{IsPivotOf}
 use Rattle.path_checker.specs.Tables.{IsLineAt, IsSized, IsSumOf, IsThere, line_count, name_at, numbers_of, swap_of}
 use Rattle.path_checker.proofs.CarriedSums.{carried_line_sum}
 use Rattle.path_checker.proofs.EnteringLine.{at_place}
 use Rattle.path_checker.proofs.FirstLines.{units}
-use Rattle.path_checker.proofs.NextLines.{lowest_count, sized_from}
+use Rattle.path_checker.proofs.NextLines.{sized_from}
 use Rattle.path_checker.proofs.NumbersOf.{reduced_numbers}
 use Rattle.path_checker.proofs.Places.{mark_is_there, name_there, names_differ, number_there}
 use Rattle.path_checker.proofs.SolvedPivots.{some_up, up}
 use Rattle.path_checker.proofs.Unfits.{unfit_list_is_unfit}
-use Rattle.path_claims.specs.Sums.{IsCopy, IsQuantitySum, IsUnitList, IsUnitSum, IsSumAfter, IsUnfitAfter, IsUnfitLineAt}
-use Rattle.path_claims.specs.Turns.{IsTurnPivot}
+use Rattle.path_claims.specs.Sums.{IsCopy, IsQuantitySum, IsUnitList, IsUnitSum, IsSumAfter, IsUnfitLineAt}
+use Rattle.path_levels.specs.Turns.{IsTurnPivot}
 use Rattle.path_claims.proofs.SumsAfter.{corner_after, den_after, entered_by, enters_of, num_after, units_here, units_other}
 
 -- ---- the same numbers

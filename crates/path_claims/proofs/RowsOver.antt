@@ -1,25 +1,21 @@
 -- Rows that are over, and the row that a sum of terms names.
-use Rattle.std.proofs.Common.{◌≡◌, ◌≢◌, ◌∙◌, ℕ, ◌+◌, ◌*◌, ◌<◌, ◌≤◌, List, length, get_or, take, refl, sym, ap, subst, arith, All, Any, inl, inr}
+use Rattle.std.proofs.Common.{◌≡◌, ◌≢◌, ◌∙◌, ℕ, ◌+◌, ◌*◌, ◌<◌, ◌≤◌, List, length, get_or, refl, sym, ap, subst, arith, All, inl, inr}
 use Rattle.std.proofs.lemmas.Bool.{cases_eq, cases_lt}
 use Rattle.std.proofs.lemmas.List.{get_or_default}
 use Rattle.problem_core.specs.declared.parts.Mark.{Mark}
 use Rattle.problem_core.specs.declared.parts.RowName.{RowName}
-use Rattle.problem_core.specs.declared.parts.RowName.TheVariants.{Held}
 use Rattle.problem_core.specs.declared.parts.Side.TheVariants.{Over}
-use Rattle.problem_core.specs.declared.parts.Term.{Term}
 use Rattle.problem_core.specs.declared.stops.What.TheVariants.{Attr}
 use Rattle.problem_core.specs.declared.stops.Quantity.TheVariants.{Plain, Terms}
 use Rattle.problem_core.specs.Kept.{IsWhole}
 use Rattle.problem_core.specs.Layout.{Problem, Row}
 use Rattle.problem_core.specs.Corners.{IsIn, place, place_of}
 use Rattle.problem_core.specs.Unfit.{AreOverFrom, HasNoWriting, IsUnfitTerms, first_terms, over_mark}
-use Rattle.path_checker.specs.FirstLines.{IsRowOf}
-use Rattle.path_checker.specs.Tables.{name_at}
 use Rattle.path_checker.proofs.FirstLines.{row_name}
 use Rattle.path_claims.specs.declared.last.Fit.{Fit}
 use Rattle.path_claims.specs.declared.last.Fit.TheVariants.{Fits, Unfit, NoRoom}
 use Rattle.path_claims.specs.Fits.{IsFitAt}
-use Rattle.path_claims.specs.TermSums.{AreKnownTerms, AreOverAt, IsRowFit}
+use Rattle.path_claims.specs.TermSums.{AreOverAt, IsRowFit}
 
 same_id : (a b : ℕ) → over_mark a ≡ over_mark b → a ≡ b
 same_id a b e = let h : 4 * a + 1 ≡ 4 * b + 1 = ap place e in omega (arith, h)

@@ -1,5 +1,5 @@
 -- What the signs of values after an exchange say of the corner.
-use Rattle.std.proofs.Common.{◌≡◌, ◌∙◌, ◌↔◌, ◌⊎◌, ℕ, zero, suc, ◌<◌, ◌≤◌, List, [], ◌∷◌, length, ℤ, pos, negsuc, ◌*ℤ◌, ◌<ℤ◌, ◌≤ℤ◌, neg_ℤ, refl, sym, ap, subst, arith, inl, inr, IsTrue, true, false, Bool}
+use Rattle.std.proofs.Common.{◌≡◌, ◌∙◌, ◌↔◌, ◌⊎◌, ℕ, zero, suc, ◌<◌, ◌≤◌, List, [], ◌∷◌, ℤ, pos, negsuc, ◌*ℤ◌, ◌<ℤ◌, ◌≤ℤ◌, sym, ap, subst, arith, inl, IsTrue, false, Bool}
 use Rattle.std.specs.List.{AllByRecursion as Each}
 use Rattle.std.proofs.lemmas.List.Elements.{recursion_from_All}
 use borrow.Author.Differences.{ints}
@@ -7,22 +7,21 @@ use Rattle.std.proofs.Math.IntN.{*ℤ_comm}
 use Rattle.problem_core.specs.declared.parts.Mark.{Mark}
 use Rattle.problem_core.specs.declared.parts.RowName.{RowName}
 use Rattle.problem_core.specs.declared.parts.Side.{Side}
-use Rattle.problem_core.specs.Layout.{Line, Problem, lines}
+use Rattle.problem_core.specs.Layout.{Problem, lines}
 use Rattle.problem_core.specs.Corners.{Agree, IsIn, NoNegativeValue, Point, StandsAt, exchanged, marks_of, one_column, place, place_of}
 use Rattle.problem_core.specs.Paths.{IsSound}
 use Rattle.cert_core.specs.Stops.{AreNonnegativeBefore, IsBefore}
 use Rattle.corner_lines.proofs.LevelExchanges.{by-sides}
 use Rattle.path_checker.specs.declared.exchange.Pivot.{Pivot}
 use Rattle.path_checker.specs.declared.spots.Step.{Step}
-use Rattle.path_checker.specs.declared.table.Inside.{Inside}
 use Rattle.path_checker.specs.Pivots.{next_marks}
 use Rattle.path_checker.specs.Tables.{AreJudged, IsThere, IsUp, line_count, name_at, swap_of}
 use Rattle.path_checker.proofs.Iffs.{through}
 use Rattle.path_checker.proofs.Places.{mark_is_there}
 use Rattle.path_checker.proofs.ValueSigns.{all_up, up_at_all}
 use Rattle.path_claims.specs.Sums.{AreUpAfter}
-use Rattle.path_claims.specs.Turns.{IsTurnPivot}
-use Rattle.path_claims.specs.Fits.{IsLastAfter, marks_after}
+use Rattle.path_levels.specs.Turns.{IsTurnPivot}
+use Rattle.path_claims.specs.Fits.{marks_after}
 use Rattle.path_claims.specs.declared.last.Last.{Last}
 use Rattle.path_claims.proofs.SumsAfter.{corner_after, signs_go}
 

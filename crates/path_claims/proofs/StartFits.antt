@@ -1,20 +1,18 @@
 -- Where the route begins and all sums fit, each quantity does.
-use Rattle.std.proofs.Common.{◌≡◌, ◌≢◌, ◌∙◌, ℕ, zero, suc, ◌+◌, ◌-◌, ◌*◌, ◌/◌, ◌<◌, ◌≤◌, ◌++◌, Bool, true, false, cond, nat_eq, List, [], ◌∷◌, length, map, filter, get_or, ℤ, pos, ◌+ℤ◌, ◌-ℤ◌, ◌*ℤ◌, unsigned_abs, refl, sym, ap, ap₂, subst, arith, inl, inr, All, Contains, eq-eqb, ne_eqb}
+use Rattle.std.proofs.Common.{◌≡◌, ◌∙◌, ℕ, zero, suc, ◌+◌, ◌-◌, ◌*◌, ◌/◌, ◌<◌, ◌≤◌, ◌++◌, Bool, true, false, cond, nat_eq, List, [], ◌∷◌, length, map, filter, get_or, ℤ, pos, ◌+ℤ◌, ◌-ℤ◌, ◌*ℤ◌, refl, sym, ap, ap₂, subst, arith, inl, inr, eq-eqb, ne_eqb}
 use Rattle.std.specs.List.{AllByRecursion as Each}
-use Rattle.std.specs.Int.{◌∣◌}
 use Rattle.std.proofs.lemmas.Bool.{cases_eq}
 use Rattle.std.proofs.lemmas.List.{get_or_default}
 use Rattle.std.proofs.lemmas.List.Elements.{All-from_recursion}
 use Rattle.std.proofs.Math.Nat.{eq-one_of_dvd-one}
 use borrow.Author.Differences.{ints}
-use Rattle.frac_core.specs.Fraction.{Fraction, IsFitting, IsKept}
+use Rattle.frac_core.specs.Fraction.{IsFitting, IsKept}
 use Rattle.frac_core.proofs.Integers.{mul-zero_ℤ, zero-mul_ℤ}
 use Rattle.problem_core.specs.declared.parts.Level.{Level}
 use Rattle.problem_core.specs.declared.parts.Mark.{Mark}
 use Rattle.problem_core.specs.declared.parts.Rel.{Rel}
 use Rattle.problem_core.specs.declared.parts.Rel.TheVariants.{Eq, Le, Ge}
 use Rattle.problem_core.specs.declared.parts.RowName.{RowName}
-use Rattle.problem_core.specs.declared.parts.RowName.TheVariants.{Held}
 use Rattle.problem_core.specs.declared.parts.Side.{Side}
 use Rattle.problem_core.specs.declared.parts.Side.TheVariants.{Under, Over}
 use Rattle.problem_core.specs.declared.parts.Stay.{Stay}
@@ -23,10 +21,10 @@ use Rattle.problem_core.specs.declared.stops.Quantity.TheVariants.{Plain, Terms,
 use Rattle.problem_core.specs.declared.stops.What.{What}
 use Rattle.problem_core.specs.declared.stops.What.TheVariants.{Attr, Mark as MarkOf, Level as LevelOf}
 use Rattle.problem_core.specs.Kept.{IsWhole}
-use Rattle.problem_core.specs.Layout.{HasStay, Line, Problem, Row, coefficient, line_of_row, lines, stay_lines, sum_of}
+use Rattle.problem_core.specs.Layout.{HasStay, Line, Problem, Row, coefficient, line_of_row, lines, stay_lines}
 use Rattle.problem_core.specs.Certificates.{over_weight, under_weight, weight_at}
 use Rattle.problem_core.specs.Corners.{IsCorner, IsIn, attr_column, column, one_column, place, place_of}
-use Rattle.problem_core.specs.Levels.{HasNoLevelWriting, IsCostAt, IsLevelAt, IsLevelWriting, alone, cost_at, line_cost, scales}
+use Rattle.problem_core.specs.Levels.{HasNoLevelWriting, IsLevelAt, alone, cost_at, line_cost, scales}
 use Rattle.problem_core.specs.Unfit.{HasNoWriting, IsUnfitAt, IsUnfitWhat, first_terms, lightened, over_mark, with_first_rows, without_weight}
 use Rattle.problem_core.specs.Window.{zero_fraction}
 use Rattle.problem_core.proofs.Forms.{each-impl, sum-zero}

@@ -1,12 +1,12 @@
 -- The verdict on a path that is the corner where the route begins.
-use Rattle.std.proofs.Common.{◌≡◌, ◌≢◌, ◌∙◌, ◌↔◌, ◌⊎◌, ℕ, ◌+◌, ◌-◌, ◌<◌, ◌≤◌, zero, suc, Bool, true, false, true≢false, IsTrue, List, [], ◌∷◌, length, take, get_or, refl, sym, ap, subst, arith, inl, inr, Option, None, Some, All}
+use Rattle.std.proofs.Common.{◌≡◌, ◌≢◌, ◌∙◌, ◌↔◌, ℕ, ◌-◌, ◌<◌, ◌≤◌, zero, suc, Bool, true, false, true≢false, IsTrue, List, [], ◌∷◌, length, get_or, refl, sym, subst, arith, inl, inr, Option, None, Some}
 use Rattle.std.proofs.lemmas.Bool.{cases_lt}
 use Rattle.problem_core.specs.declared.parts.Mark.{Mark}
 use Rattle.problem_core.specs.declared.stops.Quantity.{Quantity}
 use Rattle.problem_core.specs.declared.stops.Quantity.TheVariants.{Plain, Terms, Rows, Shifts}
 use Rattle.problem_core.specs.Kept.{IsWhole}
 use Rattle.problem_core.specs.Layout.{Problem, Row}
-use Rattle.problem_core.specs.Corners.{IsCorner, IsIn, SameMarks, Swap, place}
+use Rattle.problem_core.specs.Corners.{IsCorner, SameMarks, Swap}
 use Rattle.problem_core.specs.Unfit.{IsUnfitAt, over_mark}
 use Rattle.cert_core.specs.Paths.{Path}
 use Rattle.cert_core.specs.Stops.{IsBefore}
@@ -24,8 +24,8 @@ use Rattle.path_checker.proofs.Iffs.{never_true, yes}
 use Rattle.path_checker.proofs.ValueSigns.{all_up, judged_all, judged_is_up, outside_is_up, up_at_all}
 use Rattle.path_claims.specs.declared.last.Fit.{Fit}
 use Rattle.path_claims.specs.declared.last.Fit.TheVariants.{Fits, Unfit, NoRoom}
-use Rattle.path_claims.specs.declared.frame.Frame.{Frame}
-use Rattle.path_claims.specs.declared.sums.LevelSum.{LevelSum}
+use Rattle.path_levels.specs.declared.frame.Frame.{Frame}
+use Rattle.path_levels.specs.declared.sums.LevelSum.{LevelSum}
 use Rattle.path_claims.specs.Begun.{IsBegunUntil, IsWholeBegun, Reaches}
 use Rattle.path_claims.specs.Orders.{IsFitBefore, IsJudgedTo}
 use Rattle.path_claims.specs.Starts.{AreUpTo, IsAtStart}

@@ -1,5 +1,5 @@
 -- The lines and levels of a corner of the route, from those of the corner before.
-use Rattle.std.proofs.Common.{◌≡◌, ◌∙◌, ℕ, List, [], ◌∷◌, length, sym, ap, subst, Option, None, Some, arith, inl, inr, Result, Err, IfErr}
+use Rattle.std.proofs.Common.{◌≡◌, ℕ, List, [], ◌∷◌, length, sym, subst, Option, None, Some, arith}
 use Rattle.problem_core.specs.declared.parts.Mark.{Mark}
 use Rattle.problem_core.specs.declared.parts.Level.{Level}
 use Rattle.problem_core.specs.declared.stops.What.TheVariants.{Level as LevelOf}
@@ -8,22 +8,18 @@ use Rattle.problem_core.specs.Kept.{IsWhole}
 use Rattle.problem_core.specs.Corners.{IsExchange, exchanged}
 use Rattle.path_checker.specs.declared.spots.Step.{Step}
 use Rattle.path_checker.specs.declared.table.Inside.{Inside}
-use Rattle.path_checker.specs.FirstLines.{HasUnfitFirst}
 use Rattle.path_checker.specs.Pivots.{HasUnfit, LeadTo, LeadToUnfit}
 use Rattle.path_checker.specs.Route.{over_marks}
 use Rattle.path_checker.specs.Tables.{AreLines, IsThere, line_count, swap_of}
 use Rattle.path_checker.proofs.FirstCorner.{begins_there}
-use Rattle.path_claims.specs.declared.frame.Frame.{Frame}
-use Rattle.path_claims.specs.declared.frame.LevelFacts.{LevelFacts}
-use Rattle.path_claims.specs.declared.frame.LineFacts.{LineFacts}
-use Rattle.path_claims.specs.declared.rows.RowsStop.{RowsStop}
-use Rattle.path_claims.specs.declared.rows.RowsStop.TheVariants.{Unfit, OutOfMemory}
+use Rattle.path_levels.specs.declared.frame.Frame.{Frame}
+use Rattle.path_levels.specs.declared.frame.LevelFacts.{LevelFacts}
+use Rattle.path_levels.specs.declared.frame.LineFacts.{LineFacts}
 use Rattle.path_claims.specs.declared.stations.Table.{Table}
-use Rattle.path_claims.specs.declared.sums.LevelSum.{LevelSum}
-use Rattle.path_claims.specs.Frames.{AreFactsOf, IsFrame}
+use Rattle.path_levels.specs.Frames.{AreFactsOf, IsFrame}
 use Rattle.path_claims.specs.Fits.{AllAttrsFit}
-use Rattle.path_claims.specs.Levels.{AreLevels, HasUnfitLevel}
-use Rattle.path_claims.specs.Rows.{AreKept, IsLevelsStop}
+use Rattle.path_levels.specs.Levels.{AreLevels, HasUnfitLevel}
+use Rattle.path_levels.specs.Rows.{AreKept, IsLevelsStop, unfit_rows}
 use Rattle.path_claims.specs.Stations.{HasUnfitRows, IsStationBy, IsStuckAt, IsTableAt, LeadsToTable, LeadsToUnfitTable}
 
 facts_long : (levels : List LevelFacts) (ls : List Line) (facts : List LineFacts) → AreFactsOf levels ls facts → length facts ≡ length ls
@@ -40,7 +36,7 @@ frame_long p frame is = facts_long frame.levels.items (lines_of p) frame.lines.i
 pub begins_kept : (p : Problem) (frame : Frame) (lines : List (Option Inside)) → IsFrame p frame → IsWhole p → AreLines p (over_marks p) lines → AreKept p (over_marks p) frame lines
 begins_kept p frame lines is whole are = record { frame_is = is; there = begins_there p whole; lines_are = are }
 
-pub rows_unfit : (p : Problem) (frame : Frame) (lines : List (Option Inside)) (level : Level) (j : ℕ) → AreKept p (over_marks p) frame lines → IsLevelsStop frame lines (Unfit level j) → HasUnfitRows p
+pub rows_unfit : (p : Problem) (frame : Frame) (lines : List (Option Inside)) (level : Level) (j : ℕ) → AreKept p (over_marks p) frame lines → IsLevelsStop frame lines (unfit_rows level j) → HasUnfitRows p
 rows_unfit p frame lines level j kept stops = (level, j, (stops p (over_marks p) kept).unfit)
 
 -- ---- after an exchange

@@ -1,5 +1,5 @@
 -- The order of sums where a route begins.
-use Rattle.std.proofs.Common.{◌≡◌, ◌≢◌, ◌∙◌, ◌↔◌, ◌⊎◌, ℕ, ◌+◌, ◌-◌, ◌<◌, ◌≤◌, ◌++◌, zero, suc, Bool, true, false, true≢false, cond, nat_eq, List, [], ◌∷◌, length, map, filter, get_or, eq-eqb, ne_eqb, pos, refl, sym, ap, ap₂, subst, arith, inl, inr, Option, None, Some}
+use Rattle.std.proofs.Common.{◌≡◌, ◌≢◌, ◌∙◌, ◌⊎◌, ℕ, ◌+◌, ◌-◌, ◌<◌, ◌≤◌, ◌++◌, suc, Bool, true, false, true≢false, cond, nat_eq, List, [], ◌∷◌, length, map, filter, get_or, eq-eqb, ne_eqb, pos, refl, sym, ap, ap₂, subst, arith, inl, inr, Some}
 use Rattle.std.specs.List.{All, HoldsAt, AllByRecursion as Each}
 use Rattle.std.proofs.lemmas.List.Elements.{recursion_from_All}
 use Rattle.std.proofs.lemmas.Bool.{cases_eq, cases_lt}
@@ -8,66 +8,28 @@ use Rattle.problem_core.specs.declared.parts.Level.{Level}
 use Rattle.problem_core.specs.declared.parts.Level.TheVariants.{Priority, Stay as StayLevel}
 use Rattle.problem_core.specs.declared.parts.Mark.{Mark}
 use Rattle.problem_core.specs.declared.parts.RowName.{RowName}
-use Rattle.problem_core.specs.declared.parts.RowName.TheVariants.{Held, Stay as StayOf}
+use Rattle.problem_core.specs.declared.parts.RowName.TheVariants.{Held}
 use Rattle.problem_core.specs.declared.parts.Stay.{Stay}
 use Rattle.problem_core.specs.declared.stops.Quantity.{Quantity}
 use Rattle.problem_core.specs.declared.stops.Quantity.TheVariants.{Plain, Terms, Rows, Shifts}
 use Rattle.problem_core.specs.Kept.{IsWhole}
-use Rattle.problem_core.specs.Layout.{Line, Problem, Row, line_of_row, line_of_stay, lines, stay_lines}
+use Rattle.problem_core.specs.Layout.{Line, Problem, Row, line_of_row, line_of_stay, stay_lines}
 use Rattle.problem_core.specs.Levels.{IsLevelAt}
 use Rattle.problem_core.specs.Unfit.{over_mark}
 use Rattle.cert_core.specs.Stops.{IsBefore}
 use Rattle.path_checker.specs.Room.{ComesBefore, IsSumOf}
 use Rattle.path_checker.specs.PathClauses.{held_number, row_of_terms}
-use Rattle.path_checker.specs.Tables.{AreJudged, line_count, name_at}
-use Rattle.path_checker.proofs.FirstLines.{count_lines, row_at, row_name, stay_name}
+use Rattle.path_checker.specs.Tables.{AreJudged, name_at}
+use Rattle.path_checker.proofs.FirstLines.{count_lines, row_name, stay_name}
 use Rattle.path_claims.specs.declared.orders.Place.{Place}
 use Rattle.path_claims.specs.Orders.{IsFirstOf, IsJudgedTo, IsLower, IsPlaceOf, IsSizeOf, Precedes}
-use Rattle.path_claims.proofs.FrameParts.{any_line, any_stay, stay_at, stay_level}
+use Rattle.path_levels.proofs.FrameParts.{any_line, any_stay, stay_level}
+use Rattle.path_levels.proofs.LevelsOfLines.{level_unique, stay_of_level}
 
 abbrev pub any_row : Row
 any_row = record { id = 0; rank = 0; weight = 0; rel = any_line.rel; scale = 1; constant = record { num = pos 0; den = 1 }; terms = [] }
 
 -- ---- the numbers of levels
-
-is_held : RowName → Bool
-is_held (Held id) = true
-is_held (StayOf attr) = false
-
-not_held : (id attr : ℕ) → Held id ≡ StayOf attr → ⊥
-unfolding is_held
-not_held id attr e = true≢false (ap is_held e)
-
-attr_of : RowName → ℕ
-attr_of (Held id) = 0
-attr_of (StayOf attr) = attr
-
-same_attr : (a b : ℕ) → StayOf a ≡ StayOf b → a ≡ b
-unfolding attr_of
-same_attr a b e = ap attr_of e
-
--- a stay's level has the number of its place
-stay_of_level : (p : Problem) (attr k : ℕ) → IsLevelAt p (StayLevel attr) k → (i : ℕ) × (i < length p.stays) × (k ≡ 1001 + i) × ((get_or p.stays i any_stay).attr ≡ attr)
-stay_of_level p attr k (n, l, within, is, (name, level)) =
-    elim (cases_lt n (length p.rows)) [
-      | inl row ↦ absurd (not_held (get_or p.rows n any_row).id attr (sym (ap (λ (l : Line). l.name) (row_at p n l any_row row)) ∙ ap (λ (l : Line). l.name) is ∙ name))
-      | inr stay ↦
-          let i : ℕ = n - length p.rows in
-          let n_is : length p.rows + i ≡ n = omega (arith, stay) in
-          let here : i < length p.stays = omega (arith, within, stay, count_lines p) in
-          let line : l ≡ line_of_stay (1001 + i) (get_or p.stays i any_stay) = sym is ∙ ap (λ (m : ℕ). get_or (lines p) m l) (sym n_is) ∙ stay_at p i l any_stay here in
-          (i, here, sym level ∙ ap (λ (l : Line). l.level) line, same_attr (get_or p.stays i any_stay).attr attr (sym (ap (λ (l : Line). l.name) line) ∙ name))
-    ]
-
-level_unique : (p : Problem) (l m : Level) (k : ℕ) → IsLevelAt p l k → IsLevelAt p m k → l ≡ m
-level_unique p (Priority r) (Priority s) k h g = ap Priority (let e : r ≡ s = omega (arith, h, g) in e)
-level_unique p (Priority r) (StayLevel a) k h g = let s = stay_of_level p a k g in absurd (omega (arith, h, s.2))
-level_unique p (StayLevel a) (Priority r) k h g = let s = stay_of_level p a k h in absurd (omega (arith, g, s.2))
-level_unique p (StayLevel a) (StayLevel b) k h g =
-    let s = stay_of_level p a k h in
-    let t = stay_of_level p b k g in
-    let e : s.0 ≡ t.0 = omega (arith, s.2, t.2) in
-    ap StayLevel (sym s.3 ∙ ap (λ (i : ℕ). (get_or p.stays i any_stay).attr) e ∙ t.3)
 
 pub stay_number_there : (p : Problem) (stays : List Stay) (attr i : ℕ) → stays ≡ p.stays → i < length stays → HoldsAt (λ (s : Stay). s.attr ≡ attr) stays i → IsLevelAt p (StayLevel attr) (1001 + i)
 stay_number_there p stays attr i same within found =

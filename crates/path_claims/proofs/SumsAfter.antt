@@ -1,10 +1,10 @@
 -- Sums of any quantity after an exchange.
-use Rattle.std.proofs.Common.{◌≡◌, ◌≢◌, ◌∙◌, ◌↔◌, ℕ, ◌*◌, ◌<◌, List, length, get_or, ℤ, pos, negsuc, ◌+ℤ◌, ◌-ℤ◌, ◌*ℤ◌, ◌<ℤ◌, ◌≤ℤ◌, neg_ℤ, unsigned_abs, cond, nat_eq, refl, sym, ap, ap₂, subst, subst₂, arith, All, inl, inr, Option, None, Some, true, false, Contains, map}
+use Rattle.std.proofs.Common.{◌≡◌, ◌≢◌, ◌∙◌, ◌↔◌, ℕ, ◌*◌, ◌<◌, List, get_or, ℤ, pos, negsuc, ◌+ℤ◌, ◌-ℤ◌, ◌*ℤ◌, ◌<ℤ◌, ◌≤ℤ◌, neg_ℤ, unsigned_abs, cond, nat_eq, refl, sym, ap, ap₂, subst, subst₂, arith, inl, inr, None, Some, true, false, Contains, map}
 use Rattle.std.proofs.lemmas.Bool.{cases_eq}
-use Rattle.std.proofs.lemmas.List.Elements.{recursion_from_All, All-from_recursion}
+use Rattle.std.proofs.lemmas.List.Elements.{All-from_recursion}
 use borrow.Author.Differences.{ints}
 use Rattle.std.proofs.Math.IntN.{*ℤ_comm}
-use Rattle.frac_core.specs.Fraction.{Fraction, IsRatio, sum_den, sum_num}
+use Rattle.frac_core.specs.Fraction.{Fraction, sum_den, sum_num}
 use Rattle.frac_core.proofs.Integers.{cancel_mul, mul_assoc_ℤ, mul_left_comm_ℤ, mul_not_negative, mul_positive, sign_cases, zero-mul_ℤ}
 use Rattle.problem_core.specs.declared.parts.Mark.{Mark}
 use Rattle.problem_core.specs.declared.parts.RowName.{RowName}
@@ -20,7 +20,7 @@ use Rattle.corner_laws.proofs.LinePlaces.{lines_apart, sum-single}
 use Rattle.corner_laws.proofs.Rays.{enter_in, kept_in, rays_after}
 use Rattle.corner_laws.proofs.Unique.{same-name}
 use Rattle.corner_laws.proofs.WrittenValues.{form_there, nothing_outside}
-use Rattle.corner_lines.specs.LineEquations.{IsLineEquation, IsLineSum, IsOutsideLine, deviation, mark_form, other_side, sign_of}
+use Rattle.corner_lines.specs.LineEquations.{IsLineSum, IsOutsideLine, deviation, mark_form, other_side, sign_of}
 use Rattle.corner_lines.specs.LineExchanges.{IsExchangedRow}
 use Rattle.corner_lines.proofs.LevelExchanges.{by-sides}
 use Rattle.corner_lines.proofs.LineCarried.{carried}
@@ -31,20 +31,19 @@ use Rattle.corner_lines.proofs.MarkForms.{form-value}
 use Rattle.path_checker.specs.declared.exchange.Pivot.{Pivot}
 use Rattle.path_checker.specs.declared.spots.Step.{Step}
 use Rattle.path_checker.specs.declared.table.Inside.{Inside}
-use Rattle.path_checker.specs.declared.table.Sum.{Sum}
 use Rattle.path_checker.specs.Numbers.{number_at}
 use Rattle.path_checker.specs.Pivots.{IsEnteredBy, IsPivotAt, next_marks}
 use Rattle.path_checker.specs.Carried.{IsPivotOf, without}
-use Rattle.path_checker.specs.Tables.{IsLineAt, IsThere, IsUp, line_count, mark_of, name_at, numbers_of, swap_of}
+use Rattle.path_checker.specs.Tables.{IsLineAt, IsThere, IsUp, line_count, name_at, numbers_of, swap_of}
 use Rattle.path_checker.proofs.CarriedSums.{without_other}
 use Rattle.path_checker.proofs.Exchanging.{one_side, side_out}
 use Rattle.path_checker.proofs.FirstLines.{units}
 use Rattle.path_checker.proofs.Moves.{positive_product}
 use Rattle.path_checker.proofs.Places.{any_line, mark_is_there, name_there, names_differ, number_there}
 use Rattle.path_checker.proofs.SolvedPivots.{some_up, up}
-use Rattle.path_claims.specs.declared.after.Share.{Share}
+use Rattle.path_claims.specs.declared.last.after.Share.{Share}
 use Rattle.path_claims.specs.Sums.{IsShareOf, IsSideAt}
-use Rattle.path_claims.specs.Turns.{IsTurnPivot}
+use Rattle.path_levels.specs.Turns.{IsTurnPivot}
 
 -- ---- the corner
 

@@ -1,14 +1,13 @@
 -- Sums of terms at a corner.
-use Rattle.std.proofs.Common.{◌≡◌, ◌≢◌, ◌∙◌, ℕ, ◌+◌, ◌*◌, ◌<◌, ◌≤◌, List, [], ◌∷◌, length, get_or, take, ℤ, pos, ◌+ℤ◌, ◌-ℤ◌, ◌*ℤ◌, ◌<ℤ◌, unsigned_abs, refl, sym, ap, ap₂, subst, subst₂, arith, All, mul-pos}
-use Rattle.std.proofs.lemmas.List.Elements.{recursion_from_All, All-from_recursion}
+use Rattle.std.proofs.Common.{◌≡◌, ◌∙◌, ℕ, ◌+◌, ◌*◌, ◌<◌, List, length, get_or, take, ℤ, pos, ◌+ℤ◌, ◌-ℤ◌, ◌*ℤ◌, ◌<ℤ◌, unsigned_abs, refl, sym, ap, ap₂, subst, subst₂, arith, All, mul-pos}
+use Rattle.std.proofs.lemmas.List.Elements.{recursion_from_All}
 use Rattle.std.proofs.Math.Nat.{eq-one_of_dvd-one}
-use borrow.Author.Differences.{ints}
 use Rattle.frac_core.specs.Fraction.{Fraction, IsRatio, IsUnfitRatio, sum_den, sum_num}
 use Rattle.frac_core.proofs.Integers.{zero-mul_ℤ}
 use Rattle.problem_core.proofs.Forms.{each-impl, sum-more, sum-zero}
 use Rattle.problem_core.specs.declared.parts.Mark.{Mark}
 use Rattle.problem_core.specs.declared.parts.Term.{Term}
-use Rattle.problem_core.specs.Layout.{Line, Problem, lines, sum_of, value_at}
+use Rattle.problem_core.specs.Layout.{Problem, lines, sum_of, value_at}
 use Rattle.problem_core.specs.Corners.{attr_column, one_column}
 use Rattle.problem_core.specs.Unfit.{HasNoWriting, IsUnfitWhat}
 use Rattle.problem_core.specs.declared.stops.What.TheVariants.{Attr}
@@ -20,7 +19,7 @@ use Rattle.corner_lines.specs.LineEquations.{IsLineEquation, IsLineSum, IsUnfitL
 use Rattle.corner_lines.proofs.JoinedLines.{added, same-sum}
 use Rattle.corner_lines.proofs.LineUnfits.{line_sum, line_unfit, reduced_line}
 use Rattle.path_checker.specs.declared.table.Sum.{Sum}
-use Rattle.path_checker.specs.Numbers.{AreFitting, AreLowest, AreUnfit, IsCombined, number_at}
+use Rattle.path_checker.specs.Numbers.{AreFitting, AreLowest, AreUnfit, IsCombined}
 use Rattle.path_checker.specs.Tables.{IsSized, IsThere, line_count, numbers_of}
 use Rattle.path_checker.proofs.NextLines.{sized_from}
 use Rattle.path_checker.proofs.NumbersOf.{numbers-combined, reduced_numbers}
@@ -28,8 +27,8 @@ use Rattle.path_checker.proofs.SolvedPivots.{some_up, up}
 use Rattle.path_checker.proofs.Unfits.{unfit_list_is_unfit}
 use Rattle.path_claims.specs.Sums.{IsQuantitySum, IsUnitSum}
 use Rattle.path_claims.specs.TermSums.{IsAttrStop, IsMoreStop, IsTermsStop, terms_of}
-use Rattle.path_claims.specs.declared.terms.TermsStop.{TermsStop}
-use Rattle.path_claims.specs.declared.terms.TermsStop.TheVariants.{UnfitAttr, UnfitTerms, OutOfMemory}
+use Rattle.path_claims.specs.declared.last.terms.TermsStop.{TermsStop}
+use Rattle.path_claims.specs.declared.last.terms.TermsStop.TheVariants.{UnfitAttr, UnfitTerms, OutOfMemory}
 use Rattle.path_claims.proofs.QuantitiesAfter.{product_is, unit_sized}
 
 -- ---- one term more

@@ -1,5 +1,5 @@
 -- The sum of all terms of a row less its constant, and which sum a quantity names.
-use Rattle.std.proofs.Common.{◌≡◌, ◌≢◌, ◌∙◌, ℕ, zero, suc, ◌+◌, ◌*◌, ◌<◌, ◌≤◌, List, [], ◌∷◌, length, get_or, take, ℤ, pos, negsuc, ◌+ℤ◌, ◌-ℤ◌, ◌*ℤ◌, unsigned_abs, refl, sym, ap, ap₂, subst, subst₂, arith, All, Any, inl, inr, mul-pos}
+use Rattle.std.proofs.Common.{◌≡◌, ◌≢◌, ◌∙◌, ℕ, zero, suc, ◌+◌, ◌*◌, ◌<◌, ◌≤◌, List, [], ◌∷◌, length, get_or, take, ℤ, pos, negsuc, ◌+ℤ◌, ◌-ℤ◌, ◌*ℤ◌, unsigned_abs, refl, sym, ap, subst, arith, Any, inl, inr, mul-pos}
 use Rattle.std.specs.List.{AllByRecursion as Each}
 use Rattle.std.proofs.lemmas.Bool.{cases_eq}
 use Rattle.std.proofs.lemmas.List.{get_or_default}
@@ -12,24 +12,23 @@ use Rattle.problem_core.specs.declared.parts.RowName.{RowName}
 use Rattle.problem_core.specs.declared.parts.RowName.TheVariants.{Held}
 use Rattle.problem_core.specs.declared.parts.Side.TheVariants.{Under, Over}
 use Rattle.problem_core.specs.declared.parts.Term.{Term}
-use Rattle.problem_core.specs.Kept.{IsWhole}
 use Rattle.problem_core.specs.Layout.{Line, Problem, Row, line_of_row, lines, sum_of, value_at}
-use Rattle.problem_core.specs.Corners.{IsIn, Point, Solves, attr_column, equation, one_column, place, place_of}
+use Rattle.problem_core.specs.Corners.{IsIn, Point, Solves, equation, one_column, place, place_of}
 use Rattle.problem_core.specs.Unfit.{HasNoWriting, first_terms, over_mark}
 use Rattle.corner_laws.proofs.Gaps.{line_gap}
-use Rattle.corner_lines.specs.LineEquations.{IsLineEquation, IsLineSum, deviation}
+use Rattle.corner_lines.specs.LineEquations.{IsLineSum, deviation}
 use Rattle.corner_lines.proofs.JoinedLines.{added, past-terms, plain-terms, same-sum}
 use Rattle.corner_lines.proofs.LineUnfits.{line_sum, mark_unfit}
 use Rattle.path_checker.specs.FirstLines.{IsRowOf}
 use Rattle.path_checker.specs.declared.table.Sum.{Sum}
-use Rattle.path_checker.specs.Tables.{IsThere, line_count, numbers_of}
+use Rattle.path_checker.specs.Tables.{IsThere, numbers_of}
 use Rattle.path_checker.proofs.FirstLines.{count_lines, row_at}
 use Rattle.path_checker.proofs.Places.{any_line}
 use Rattle.path_claims.specs.Sums.{IsQuantitySum}
 use Rattle.path_claims.specs.TermSums.{IsRowFit, IsTermsStop, terms_of}
 use Rattle.path_claims.specs.declared.last.Fit.{Fit}
 use Rattle.path_claims.specs.declared.last.Fit.TheVariants.{Unfit, NoRoom}
-use Rattle.path_claims.specs.declared.terms.TermsStop.TheVariants.{UnfitAttr, UnfitTerms}
+use Rattle.path_claims.specs.declared.last.terms.TermsStop.TheVariants.{UnfitAttr, UnfitTerms}
 use Rattle.path_claims.proofs.QuantitiesAfter.{line_sum_is, mark_fits, quantity_fits}
 use Rattle.path_claims.proofs.TermsAfter.{same_writing}
 

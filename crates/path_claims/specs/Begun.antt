@@ -11,10 +11,10 @@ use Rattle.path_checker.specs.Route.{over_marks}
 use Rattle.path_checker.specs.Tables.{AreSized}
 use Rattle.path_claims.specs.declared.begins.Begun.{Begun}
 use Rattle.path_claims.specs.declared.begins.Begun.TheVariants.{Whole, Until}
-use Rattle.path_claims.specs.declared.frame.Frame.{Frame}
-use Rattle.path_claims.specs.declared.sums.LevelSum.{LevelSum}
-use Rattle.path_claims.specs.Levels.{AreLevels, AreSizedLevels}
-use Rattle.path_claims.specs.Rows.{AreKept}
+use Rattle.path_levels.specs.declared.frame.Frame.{Frame}
+use Rattle.path_levels.specs.declared.sums.LevelSum.{LevelSum}
+use Rattle.path_levels.specs.Levels.{AreLevels, AreSizedLevels}
+use Rattle.path_levels.specs.Rows.{AreKept}
 
 -- all lines and levels are made, and each sum of first terms or of first rows fits
 pub record IsWholeBegun (p : Problem) (frame : Frame) (lines : List (Option Inside)) (levels : List LevelSum)

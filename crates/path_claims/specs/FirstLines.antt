@@ -3,8 +3,8 @@ use Rattle.std.specs.Prelude.{◌≡◌, ℕ, ◌<◌, nat_eq, List, length, fil
 use Rattle.problem_core.specs.declared.parts.Mark.{Mark}
 use Rattle.problem_core.specs.Layout.{Problem}
 use Rattle.path_checker.specs.Tables.{line_count, name_at}
-use Rattle.path_claims.specs.declared.frame.LineFacts.{LineFacts}
-use Rattle.path_claims.specs.declared.rows_after.FirstLines.{FirstLines}
+use Rattle.path_levels.specs.declared.frame.LineFacts.{LineFacts}
+use Rattle.path_claims.specs.declared.last.rows_after.FirstLines.{FirstLines}
 use Rattle.path_claims.specs.Sums.{IsUnfitLineAt}
 
 -- how many of the lines have the level at this place

@@ -10,8 +10,9 @@ use Rattle.problem_core.specs.Unfit.{HasNoWriting, first_terms, over_mark}
 use Rattle.path_checker.specs.declared.table.Inside.{Inside}
 use Rattle.path_checker.specs.FirstLines.{AreFirstLines, IsTermsSum}
 use Rattle.path_checker.specs.Route.{over_marks}
-use Rattle.path_claims.specs.declared.firsts.LineStop.{LineStop}
-use Rattle.path_claims.specs.declared.firsts.LineStop.TheVariants.{Unfit, OutOfMemory}
+use Rattle.frac_core.specs.declared.memory.Stop.{Stop}
+use Rattle.frac_core.specs.declared.memory.Stop.TheVariants.{Refused, OutOfMemory}
+use Rattle.path_claims.specs.declared.firsts.UnfitTerms.{UnfitTerms}
 
 -- the attribute's stay has this target
 abbrev pub IsTarget : List Stay → ℕ → Fraction → Type 0
@@ -52,8 +53,8 @@ pub record IsFirstUnfitSum (p : Problem) (r : Row) (j : ℕ) : Type 0 where
 -- ---- the lines of rows
 
 -- why a row's line is not made
-abbrev pub IsLineStop : Problem → Row → LineStop → Type 0
-IsLineStop p r (Unfit j) = IsFirstUnfitSum p r j
+abbrev pub IsLineStop : Problem → Row → Stop UnfitTerms → Type 0
+IsLineStop p r (Refused terms) = IsFirstUnfitSum p r terms.first
 IsLineStop p r OutOfMemory = Unit {0}
 
 -- the lines of the first n rows are made, and all their sums fit

@@ -1,5 +1,5 @@
 -- How a quantity stands at a corner that an exchange leads to.
-use Rattle.std.specs.Prelude.{◌≡◌, ℕ, ◌<◌, List, length}
+use Rattle.std.specs.Prelude.{◌≡◌, ℕ, List, length}
 use Rattle.problem_core.specs.declared.parts.Mark.{Mark}
 use Rattle.problem_core.specs.declared.stops.Quantity.{Quantity}
 use Rattle.problem_core.specs.declared.stops.What.TheVariants.{Attr}
@@ -9,9 +9,9 @@ use Rattle.problem_core.specs.Unfit.{IsUnfitAt, IsUnfitWhat}
 use Rattle.path_checker.specs.Room.{IsPartOf}
 use Rattle.path_checker.specs.Sides.{IsWithin}
 use Rattle.path_checker.specs.Tables.{AreSized, swap_of}
-use Rattle.path_claims.specs.Frames.{IsSizedFrame}
-use Rattle.path_claims.specs.Levels.{AreLevels, AreSizedLevels}
-use Rattle.path_claims.specs.Rows.{AreKept}
+use Rattle.path_levels.specs.Frames.{IsSizedFrame}
+use Rattle.path_levels.specs.Levels.{AreLevels, AreSizedLevels}
+use Rattle.path_levels.specs.Rows.{AreKept}
 use Rattle.path_claims.specs.declared.last.Fit.{Fit}
 use Rattle.path_claims.specs.declared.last.Fit.TheVariants.{Fits, Unfit, NoRoom}
 use Rattle.path_claims.specs.declared.last.Last.{Last}

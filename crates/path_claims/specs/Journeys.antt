@@ -1,8 +1,7 @@
 -- The checker's route with lines and levels: to a path's first corner and along its swaps.
-use Rattle.std.specs.Prelude.{◌≡◌, ◌+◌, ◌<◌, ◌^◌, ℕ, Bool, List, [], ◌∷◌, ◌++◌, length, take, All, Option}
+use Rattle.std.specs.Prelude.{◌≡◌, ◌+◌, Bool, List, [], ◌∷◌, ◌++◌, length, take, All}
 use Rattle.std.specs.Prelude.{Some}
 use Rattle.problem_core.specs.declared.parts.Mark.{Mark}
-use Rattle.problem_core.specs.declared.stops.Quantity.{Quantity}
 use Rattle.problem_core.specs.Layout.{Problem}
 use Rattle.problem_core.specs.Begins.{AreExchanges}
 use Rattle.problem_core.specs.Corners.{IsCorner, IsIn, SameMarks, Swap, exchanged, place}
@@ -13,16 +12,15 @@ use Rattle.path_checker.specs.declared.spots.Step.{Step}
 use Rattle.path_checker.specs.declared.way.WayStop.{WayStop}
 use Rattle.path_checker.specs.declared.way.WayStop.TheVariants.{Fails, NoRoom, OutOfMemory}
 use Rattle.path_checker.specs.PathClauses.{HoldToApart}
-use Rattle.path_checker.specs.Room.{HasNoRoom}
 use Rattle.path_checker.specs.Route.{GivesWay, GoesBy, IsRoute, corner_after, over_marks}
 use Rattle.path_checker.specs.Sides.{IsWithin}
 use Rattle.path_checker.specs.Tables.{AreSides, IsThere, line_count, mark_of, names_of, swap_of}
-use Rattle.path_checker.specs.Ways.{AreNew, IsBegun, IsBroughtByNone, IsMarkStop}
-use Rattle.path_claims.specs.declared.frame.Frame.{Frame}
+use Rattle.path_checker.specs.Ways.{AreNew, IsBegun, IsBroughtByNone, IsMarkStop, IsShortPath}
+use Rattle.path_levels.specs.declared.frame.Frame.{Frame}
 use Rattle.path_claims.specs.declared.journey.Claim.{Claim}
 use Rattle.path_claims.specs.declared.journey.Journey.{Journey}
 use Rattle.path_claims.specs.declared.stations.Station.{Station}
-use Rattle.path_claims.specs.Frames.{IsFrame, IsSizedFrame}
+use Rattle.path_levels.specs.Frames.{IsFrame, IsSizedFrame}
 use Rattle.path_claims.specs.Stations.{IsStation, IsStuckAt, IsUsableStation}
 
 -- a path of whose clauses the first three hold, and what is read off it
@@ -32,7 +30,7 @@ pub record IsClaim (claim : Claim) : Type 0 where
   pub names_are : claim.names.now ≡ names_of claim.p.now
   pub wanted_are : AreSides claim.p.now claim.path.now.corner claim.wanted.now
   pub holds : HoldToApart claim.p.now claim.path.now
-  pub count : length claim.path.now.corner + length claim.path.now.swaps < 2 ^ 31
+  pub count : IsShortPath claim.path.now
 
 -- ---- one mark is brought in
 

@@ -11,12 +11,12 @@ use Rattle.path_checker.specs.Pivots.{HasUnfit}
 use Rattle.path_checker.specs.Route.{over_marks}
 use Rattle.path_checker.specs.Sides.{IsWithin}
 use Rattle.path_checker.specs.Tables.{AreSized, swap_of}
-use Rattle.path_claims.specs.declared.frame.Frame.{Frame}
+use Rattle.path_levels.specs.declared.frame.Frame.{Frame}
 use Rattle.path_claims.specs.declared.stations.Station.{Station}
 use Rattle.path_claims.specs.declared.stations.Table.{Table}
 use Rattle.path_claims.specs.Fits.{AllAttrsFit}
-use Rattle.path_claims.specs.Levels.{AreLevels, AreSizedLevels}
-use Rattle.path_claims.specs.Rows.{AreKept}
+use Rattle.path_levels.specs.Levels.{AreLevels, AreSizedLevels}
+use Rattle.path_levels.specs.Rows.{AreKept}
 
 -- ---- lines and levels
 

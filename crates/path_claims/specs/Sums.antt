@@ -5,7 +5,7 @@ use Rattle.frac_core.specs.Fraction.{Fraction, IsFitting, IsKept}
 use Rattle.problem_core.specs.declared.parts.Side.{Side}
 use Rattle.problem_core.specs.declared.parts.Mark.{Mark}
 use Rattle.problem_core.specs.declared.parts.RowName.{RowName}
-use Rattle.problem_core.specs.declared.stops.What.TheVariants.{Attr, Mark as MarkOf}
+use Rattle.problem_core.specs.declared.stops.What.TheVariants.{Mark as MarkOf}
 use Rattle.problem_core.specs.Layout.{Problem, lines}
 use Rattle.problem_core.specs.Corners.{IsIn, place_of}
 use Rattle.problem_core.specs.Unfit.{HasNoWriting, IsUnfitWhat}
@@ -15,9 +15,9 @@ use Rattle.path_checker.specs.declared.table.Sum.{Sum}
 use Rattle.path_checker.specs.declared.table.Inside.{Inside}
 use Rattle.path_checker.specs.Numbers.{number_at}
 use Rattle.path_checker.specs.Pivots.{next_marks}
-use Rattle.path_checker.specs.Tables.{AreLines, IsLineAt, IsSized, IsUp, line_count, name_at, numbers_of}
-use Rattle.path_claims.specs.declared.after.Share.{Share}
-use Rattle.path_claims.specs.Turns.{IsTurnPivot}
+use Rattle.path_checker.specs.Tables.{IsSized, IsUp, line_count, name_at, numbers_of}
+use Rattle.path_claims.specs.declared.last.after.Share.{Share}
+use Rattle.path_levels.specs.Turns.{IsTurnPivot}
 
 -- ---- which mark is inside
 

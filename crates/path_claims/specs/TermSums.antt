@@ -12,8 +12,8 @@ use Rattle.frac_core.specs.Fraction.{Fraction, IsKept, IsRatio, sum_den, sum_num
 use Rattle.problem_core.specs.Unfit.{HasNoWriting, IsUnfitWhat, first_terms}
 use Rattle.path_checker.specs.declared.table.Sum.{Sum}
 use Rattle.path_checker.specs.Tables.{IsThere, name_at}
-use Rattle.path_claims.specs.declared.terms.TermsStop.{TermsStop}
-use Rattle.path_claims.specs.declared.terms.TermsStop.TheVariants.{UnfitAttr, UnfitTerms, OutOfMemory}
+use Rattle.path_claims.specs.declared.last.terms.TermsStop.{TermsStop}
+use Rattle.path_claims.specs.declared.last.terms.TermsStop.TheVariants.{UnfitAttr, UnfitTerms, OutOfMemory}
 use Rattle.path_claims.specs.declared.last.Fit.{Fit}
 use Rattle.path_claims.specs.declared.last.Fit.TheVariants.{Fits, Unfit, NoRoom}
 use Rattle.path_claims.specs.Sums.{IsQuantitySum}

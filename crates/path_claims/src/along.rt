@@ -1,5 +1,5 @@
 // The checker's route along the swaps of a path, and what is judged at the corners before the last.
-ghost use Rattle.std.specs.Prelude.{◌≡◌, ◌↔◌, ◌<◌, ◌≤◌, ◌+◌, ◌^◌, [], List, IfOk, IfErr, IsTrue, length};
+ghost use Rattle.std.specs.Prelude.{◌↔◌, ◌≤◌, [], List, IfOk, IfErr, IsTrue, length};
 ghost use Rattle.problem_core.specs.Corners.{IsExchange};
 ghost use Rattle.problem_core.specs.Paths.{IsEndOf, IsSound, MaySwap};
 ghost use Rattle.problem_core.specs.declared.parts.Mark.{Mark};
@@ -10,10 +10,10 @@ ghost use Rattle.path_checker.specs.Ways.{IsMarkStop};
 ghost use Rattle.path_claims.specs.Journeys.{AreSoundAhead, IsClaim, IsOnRoute};
 ghost use Rattle.path_claims.specs.Stations.{IsSizedTable, IsTableAt, IsUsableStation};
 
-use crate::ends::{is_end, is_sound, may_swap};
 use crate::journey::Claim;
 use crate::stations::{Station, Table, station_after, table_now, told};
 use path_checker::{Step, WayStop, step_of};
+use path_levels::{is_end, is_sound, may_swap};
 use std::alloc::Global;
 
 /// What is kept of a path's last corner, whether all holds that has to at each corner before it, and whether

@@ -4,14 +4,12 @@ ghost use Rattle.path_checker.specs.Route.{over_marks};
 ghost use Rattle.path_checker.specs.Tables.{AreLines, AreSized, line_count};
 ghost use Rattle.path_claims.specs.Begun.{IsBegun};
 ghost use Rattle.path_claims.specs.FirstSums.{AreMade};
-ghost use Rattle.path_claims.specs.Frames.{IsFrame, IsSizedFrame};
+ghost use Rattle.path_levels.specs.Frames.{IsFrame, IsSizedFrame};
 
 use crate::firsts::row_lines;
-use crate::frame::Frame;
-use crate::rows::{RowsStop, first_levels};
-use crate::sums::LevelSum;
-use frac_core::OutOfMemory;
+use frac_core::{OutOfMemory, Stop};
 use path_checker::Inside;
+use path_levels::{Frame, LevelSum, first_levels};
 use problem_core::{Problem, Quantity};
 use std::alloc::Global;
 
@@ -49,7 +47,7 @@ pub fn begin(alloc: Global, p: &Problem, frame: &Frame) -> Result<Begun, OutOfMe
     requires sized { IsSizedFrame frame.now }
     ensures { IfOk result (IsBegun p.now frame.now) }
 {
-    p.show_whole();
+    p.show_whole(); // for the proof: what a problem keeps
     let made = row_lines(alloc, p)?;
     if let Some(unfit) = made.unfit {
         let lines = made.lines;
@@ -58,10 +56,13 @@ pub fn begin(alloc: Global, p: &Problem, frame: &Frame) -> Result<Begun, OutOfMe
     let lines = with_stays(made.lines, p)?;
     match first_levels(alloc, frame, &lines) {
         Ok(levels) => Ok(Begun::Whole { lines, levels }),
-        Err(RowsStop::Unfit { level, first }) => {
-            let unfit = Quantity::Rows { level, first };
+        Err(Stop::Refused(rows)) => {
+            let unfit = Quantity::Rows {
+                level: rows.level,
+                first: rows.first,
+            };
             Ok(Begun::Until { lines, unfit })
         }
-        Err(RowsStop::OutOfMemory) => Err(OutOfMemory),
+        Err(Stop::OutOfMemory) => Err(OutOfMemory),
     }
 }

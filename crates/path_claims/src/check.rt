@@ -1,18 +1,17 @@
 // The check of a path.
-ghost use Rattle.std.specs.Prelude.{◌≡◌, ◌↔◌, ◌<◌, ◌+◌, ◌^◌, List, Option, IfOk, IsTrue, None, Some, length};
+ghost use Rattle.std.specs.Prelude.{◌≡◌, ◌↔◌, List, Option, IfOk, IsTrue, None, Some, length};
 ghost use Rattle.cert_core.specs.Paths.{Path};
 ghost use Rattle.problem_core.specs.Layout.{Problem};
 ghost use Rattle.problem_core.specs.declared.parts.Mark.{Mark};
 ghost use Rattle.problem_core.specs.declared.stops.Quantity.{Quantity};
 ghost use Rattle.path_checker.specs.PathClauses.{HoldToApart, IsPathVerdict, row_of_terms};
 ghost use Rattle.path_checker.specs.Tables.{AreJudged};
-ghost use Rattle.path_checker.specs.Ways.{IsEnded};
+ghost use Rattle.path_checker.specs.Ways.{IsEnded, IsShortPath};
 ghost use Rattle.path_claims.specs.Fits.{IsLastAfter, IsSizedLast, marks_after};
 ghost use Rattle.path_claims.specs.Journeys.{IsClaim};
 ghost use Rattle.path_claims.specs.Judging.{IsFound, IsSoundFrom, IsWalked, unjudged_from};
 
 use crate::along::{Walked, is_sound_there, walk};
-use crate::frame::Frame;
 use crate::journey::{Claim, to_first};
 use crate::last::{Fit, Last, fit_after, has_no_negative_before_after, is_sound_after};
 use crate::start::check_at_start;
@@ -20,6 +19,7 @@ use crate::stations::{table_now, told};
 use cert_core::Path;
 use frac_core::OutOfMemory;
 use path_checker::{PathVerdict, Step, WayStop, check_exchanges, names, sides_of};
+use path_levels::Frame;
 use problem_core::{Problem, Quantity, RowName};
 use std::alloc::Global;
 
@@ -79,7 +79,7 @@ fn unjudged_row(path: &Path, named: Quantity) -> Option<u32>
 fn rows_before(p: &Problem, id: u32) -> usize
     ensures { AreJudged p.now id result (length p.now.rows) }
 {
-    p.show_whole();
+    p.show_whole(); // for the proof: what a problem keeps
     let rows = p.rows();
     for (at, r) in rows.iter().enumerate() {
         if r.id() >= id {
@@ -194,11 +194,11 @@ fn check_rest(
     path: &Path,
     unfit: Option<Quantity>,
 ) -> Result<PathVerdict, OutOfMemory>
-    requires count { length path.now.corner + length path.now.swaps < 2 ^ 31 }
+    requires count { IsShortPath path.now }
     requires apart { HoldToApart p.now path.now }
     ensures { IfOk result (IsPathVerdict p.now path.now unfit) }
 {
-    p.show_whole();
+    p.show_whole(); // for the proof: what a problem keeps
     let names = names(alloc, p)?;
     let Some(wanted) = sides_of(alloc, &names, path.corner())? else {
         unreachable!();
@@ -227,7 +227,7 @@ pub fn check_path(
     path: &Path,
     unfit: Option<Quantity>,
 ) -> Result<PathVerdict, OutOfMemory>
-    requires { length path.now.corner + length path.now.swaps < 2 ^ 31 }
+    requires { IsShortPath path.now }
     ensures { IfOk result (IsPathVerdict p.now path.now unfit) }
 {
     match check_exchanges(alloc, p, path)? {

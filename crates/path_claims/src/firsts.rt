@@ -12,18 +12,22 @@ ghost use Rattle.path_checker.specs.Tables.{IsSumOf};
 ghost use Rattle.path_claims.specs.FirstSums.{AllSumsFit, AreMadeUntil, DoFitBefore, IsFirstUnfitSum};
 ghost use Rattle.path_claims.specs.FirstSums.{IsLineStop, IsNextTooMuch, IsNextValue, IsTarget};
 
-use frac_core::{Frac, OutOfMemory, Unfit};
-use path_checker::{Inside, Sum, SumStop, first_sum};
+use frac_core::{Frac, OutOfMemory, Stop, Unfit};
+use path_checker::{Inside, Sum, first_sum};
 use problem_core::{Mark, Problem, Quantity, Row, RowName, Side, Stay, Term};
 use std::alloc::Global;
+use thiserror::Error;
 
-/// Why a row's line is not made: the sum of so many first terms does not fit, one more than there are terms
-/// for all of them less the constant, or memory is wanting.
-#[derive(Clone, Copy, Debug, PartialEq, Eq)]
-pub enum LineStop {
-    Unfit(u32),
-    OutOfMemory,
+/// The sum of so many first terms of a row does not fit, one more than there are terms for all of them less
+/// the constant.
+#[derive(Clone, Copy, Debug, PartialEq, Eq, Error)]
+#[error("the sum of the first {first} terms of a row does not fit")]
+pub struct UnfitTerms {
+    pub first: u32,
 }
+
+/// Why a row's line is not made: a sum of first terms does not fit, or memory is wanting.
+pub type LineStop = Stop<UnfitTerms>;
 
 /// The lines of the rows where the route begins, and the first sum that does not fit, where there is one: the
 /// lines end before its row.
@@ -52,7 +56,7 @@ fn with_term(p: &Problem, value: Frac, term: Term) -> Result<Frac, Unfit>
     ensures kept { IfOk result IsKept }
     ensures unfit { IfErr result (λ stop. IsNextTooMuch p.now term value) }
 {
-    p.show_whole();
+    p.show_whole(); // for the proof: what a problem keeps
     let target = target_of(p.stays(), term.attr);
     let Ok(next) = Frac::mul_add(value, term.by, 1, target) else {
         return Err(Unfit);
@@ -66,8 +70,8 @@ fn unfit_terms(p: &Problem, r: &Row) -> Option<u32>
     ensures some { IfSome result (IsFirstUnfitSum p.now r.now) }
     ensures none { IfNone result (DoFitBefore p.now r.now (length r.now.terms + 1)) }
 {
-    p.show_whole();
-    r.show_row();
+    p.show_whole(); // for the proof: what a problem keeps
+    r.show_row(); // for the proof: what a row keeps
     let mut value = Frac::zero();
     let mut first = 1;
     for term in r.terms() {
@@ -87,18 +91,21 @@ fn first_line(alloc: Global, p: &Problem, r: &Row) -> Result<Sum, LineStop>
     ensures fit { IfOk result (λ sum. AllSumsFit p.now r.now) }
     ensures stop { IfErr result (IsLineStop p.now r.now) }
 {
-    p.show_whole();
-    r.show_row();
+    p.show_whole(); // for the proof: what a problem keeps
+    r.show_row(); // for the proof: what a row keeps
     if let Some(first) = unfit_terms(p, r) {
-        return Err(LineStop::Unfit(first));
+        return Err(Stop::Refused(UnfitTerms { first }));
     }
     match first_sum(alloc, p, r) {
         Ok(sum) => {
-            let _ = sum.value.num();
+            let _ = sum.value.num(); // for the proof: what a fraction keeps
             Ok(sum)
         }
-        Err(SumStop::Unfit) => Err(LineStop::Unfit(r.terms().len() as u32 + 1)),
-        Err(SumStop::OutOfMemory) => Err(LineStop::OutOfMemory),
+        Err(Stop::Refused(_)) => {
+            let first = r.terms().len() as u32 + 1;
+            Err(Stop::Refused(UnfitTerms { first }))
+        }
+        Err(Stop::OutOfMemory) => Err(Stop::OutOfMemory),
     }
 }
 
@@ -121,11 +128,11 @@ pub fn row_lines(alloc: Global, p: &Problem) -> Result<RowLines, OutOfMemory>
     for r in p.rows() {
         let sum = match first_line(alloc, p, r) {
             Ok(sum) => sum,
-            Err(LineStop::Unfit(first)) => {
-                let unfit = Some(terms_sum(r, first));
+            Err(Stop::Refused(terms)) => {
+                let unfit = Some(terms_sum(r, terms.first));
                 return Ok(RowLines { lines, unfit });
             }
-            Err(LineStop::OutOfMemory) => return Err(OutOfMemory),
+            Err(Stop::OutOfMemory) => return Err(OutOfMemory),
         };
         let side = Side::Over;
         lines.push(Some(Inside { side, sum }))?;

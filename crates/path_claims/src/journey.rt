@@ -1,20 +1,20 @@
 // The checker's route to a path's first corner, with lines and levels.
-ghost use Rattle.std.specs.Prelude.{◌≡◌, ◌<◌, ◌≤◌, ◌+◌, ◌^◌, [], List, IfOk, IfErr, Some, length};
+ghost use Rattle.std.specs.Prelude.{◌≡◌, ◌<◌, ◌≤◌, ◌+◌, ◌^◌, [], IfOk, IfErr, Some, length};
 ghost use Rattle.cert_core.specs.Paths.{Path};
 ghost use Rattle.path_checker.specs.Sides.{moved_sides};
 ghost use Rattle.path_checker.specs.Tables.{line_count};
 ghost use Rattle.path_checker.specs.Ways.{IsMarkStop};
 ghost use Rattle.path_checker.specs.declared.spots.Step.{Step};
-ghost use Rattle.path_claims.specs.declared.frame.Frame.{Frame};
+ghost use Rattle.path_levels.specs.declared.frame.Frame.{Frame};
 ghost use Rattle.path_claims.specs.Journeys.{Brings, BringsNone, HasOneMore, IsClaim, IsJourneyAt, IsOnRoute};
 ghost use Rattle.path_claims.specs.Journeys.{IsUsableJourney, StopsAt};
 ghost use Rattle.path_claims.specs.Stations.{IsUsableStation};
 
-use crate::frame::Frame;
 use crate::stations::{Station, Table, station_after, table_now, told};
 use cert_core::Path;
 use frac_core::OutOfMemory;
 use path_checker::{Spot, WayStop, bringing_in, first_sides, is_one, moved, spot_of};
+use path_levels::Frame;
 use problem_core::{Problem, RowName, Side};
 use std::alloc::Global;
 
@@ -107,7 +107,7 @@ fn first_journey(alloc: Global, p: &Problem) -> Result<Journey, OutOfMemory>
     ensures journey { IfOk result (λ journey. (path : Path) (frame : Frame)
         → IsJourneyAt p.now path frame [] path.corner journey) }
 {
-    p.show_whole();
+    p.show_whole(); // for the proof: what a problem keeps
     let sides = first_sides(alloc, p)?;
     let lines = Vec::new(alloc);
     let levels = Vec::new(alloc);

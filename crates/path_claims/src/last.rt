@@ -1,5 +1,12 @@
 // The corner after the last exchange of a path, at which not all has to fit.
-ghost use Rattle.std.specs.Prelude.{◌≡◌, ◌↔◌, ℕ, List, IfOk, IsTrue, length, false};
+mod after;
+pub(crate) mod fits;
+mod line_sums;
+mod rows_after;
+mod sums_after;
+mod terms;
+
+ghost use Rattle.std.specs.Prelude.{◌≡◌, ◌↔◌, ℕ, List, IfOk, IsTrue, length};
 ghost use Rattle.problem_core.specs.Layout.{Problem};
 ghost use Rattle.problem_core.specs.Paths.{IsSound};
 ghost use Rattle.problem_core.specs.declared.parts.Mark.{Mark};
@@ -7,20 +14,17 @@ ghost use Rattle.cert_core.specs.Stops.{AreNonnegativeBefore};
 ghost use Rattle.problem_core.specs.declared.stops.Quantity.TheVariants as quantities;
 ghost use Rattle.path_checker.specs.Pivots.{next_marks};
 ghost use Rattle.path_checker.specs.Tables.{AreJudged, line_count};
-ghost use Rattle.path_claims.specs.Turns.{IsSizedPivot, IsTurnPivot};
+ghost use Rattle.path_levels.specs.Turns.{IsSizedPivot, IsTurnPivot};
 ghost use Rattle.path_claims.specs.Fits.{IsFitAt, IsLastAfter, IsSizedLast, marks_after};
 
-use crate::after::are_up_after;
-use crate::fits::{attr_fit, mark_fit};
-use crate::frame::Frame;
-use crate::rows_after::rows_fit;
-use crate::sums::LevelSum;
-use crate::sums_after::level_fit;
-use crate::terms::{FirstTerms, terms_fit};
-use crate::turns::Turn;
-use crate::{has_no_negative_column_after, pivot_of};
-use frac_core::OutOfMemory;
-use path_checker::{Inside, Pivot, Step, SumStop};
+use crate::last::after::are_up_after;
+use crate::last::fits::{attr_fit, mark_fit};
+use crate::last::rows_after::rows_fit;
+use crate::last::sums_after::level_fit;
+use crate::last::terms::{FirstTerms, terms_fit};
+use frac_core::{OutOfMemory, Stop};
+use path_checker::{Inside, Pivot, Step};
+use path_levels::{Frame, LevelSum, Turn, has_no_negative_column_after, pivot_of};
 use problem_core::{Problem, Quantity, What};
 use std::alloc::Global;
 
@@ -100,14 +104,14 @@ pub fn fit_after(
     ensures { IfOk result (λ fit. (at : List Mark) → IsLastAfter p.now at last.entry
         → IsFitAt p.now (marks_after p.now last.entry at) named fit) }
 {
-    p.show_whole();
+    p.show_whole(); // for the proof: what a problem keeps
     if last.lines.len() != p.rows().len() + p.stays().len() {
         return Ok(Fit::Fits);
     }
     match pivot_of(alloc, last.lines, last.step) {
         Ok(pivot) => quantity_fit(alloc, p, last, &pivot, named),
-        Err(SumStop::OutOfMemory) => Err(OutOfMemory),
-        Err(SumStop::Unfit) => Ok(Fit::Fits),
+        Err(Stop::OutOfMemory) => Err(OutOfMemory),
+        Err(Stop::Refused(_)) => Ok(Fit::Fits),
     }
 }
 
@@ -123,8 +127,8 @@ pub fn is_sound_after(alloc: Global, dual: bool, last: Last<'_>) -> Result<bool,
     }
     match pivot_of(alloc, last.lines, last.step) {
         Ok(pivot) => Ok(are_up_after(last.lines, &pivot, last.lines.len(), last.lines.len())),
-        Err(SumStop::OutOfMemory) => Err(OutOfMemory),
-        Err(SumStop::Unfit) => Ok(true),
+        Err(Stop::OutOfMemory) => Err(OutOfMemory),
+        Err(Stop::Refused(_)) => Ok(true),
     }
 }
 
@@ -143,7 +147,7 @@ pub fn has_no_negative_before_after(
 {
     match pivot_of(alloc, last.lines, last.step) {
         Ok(pivot) => Ok(are_up_after(last.lines, &pivot, judged, rows)),
-        Err(SumStop::OutOfMemory) => Err(OutOfMemory),
-        Err(SumStop::Unfit) => Ok(true),
+        Err(Stop::OutOfMemory) => Err(OutOfMemory),
+        Err(Stop::Refused(_)) => Ok(true),
     }
 }

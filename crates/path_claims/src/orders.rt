@@ -2,6 +2,7 @@
 ghost use Rattle.std.specs.Prelude.{◌≡◌, ◌≢◌, ◌↔◌, ◌+◌, ◌<◌, ◌≤◌, ℕ, length, get_or, All};
 ghost use Rattle.std.specs.Prelude.{IfSome, IfNone, IsTrue, Some, false};
 ghost use Rattle.std.specs.List.{HoldsAt};
+ghost use Rattle.problem_core.specs.declared.limits.TheConstants.{REQUIRED};
 ghost use Rattle.problem_core.specs.declared.parts.Level.TheVariants.{Priority, Stay as StayLevel};
 ghost use Rattle.problem_core.specs.Layout.{Row};
 ghost use Rattle.problem_core.specs.Levels.{IsLevelAt};
@@ -10,9 +11,9 @@ ghost use Rattle.path_checker.specs.Room.{IsSumOf};
 ghost use Rattle.path_checker.specs.PathClauses.{row_of_terms};
 ghost use Rattle.path_claims.specs.Orders.{IsFirstOf, IsFitBefore, IsJudgedTo, IsPlaceOf, IsSizeOf, Precedes};
 
-use crate::frame::{FIRST_STAY, REQUIRED};
 use crate::last::Fit;
-use problem_core::{Level, Mark, Problem, Quantity, Row, RowName, Side, Stay};
+use path_levels::FIRST_STAY;
+use problem_core::{Level, Mark, Problem, Quantity, REQUIRED, Row, RowName, Side, Stay};
 
 /// Where a sum stands: at the number of its row or level, by how many it sums.
 #[derive(Clone, Copy, Debug, PartialEq, Eq)]
@@ -35,8 +36,8 @@ fn row_number(mark: Mark) -> Option<u32>
 
 // The number of a priority's level.
 fn priority_number(rank: u16) -> Option<u32>
-    ensures some { IfSome result (λ k. k + rank ≡ 1000) }
-    ensures none { IfNone result ((k : ℕ) → k + rank ≡ 1000 → ⊥) }
+    ensures some { IfSome result (λ k. k + rank ≡ REQUIRED) }
+    ensures none { IfNone result ((k : ℕ) → k + rank ≡ REQUIRED → ⊥) }
 {
     if rank > REQUIRED {
         return None;
@@ -58,7 +59,7 @@ fn stay_number(p: &Problem, attr: u32) -> Option<u32>
     ensures some { IfSome result (IsLevelAt p.now (StayLevel attr)) }
     ensures none { IfNone result ((k : ℕ) → IsLevelAt p.now (StayLevel attr) k → ⊥) }
 {
-    p.show_whole();
+    p.show_whole(); // for the proof: what a problem keeps
     let Some(at) = stay_place(p.stays(), attr) else {
         return None;
     };
@@ -117,7 +118,7 @@ fn is_before(a: Place, b: Place) -> bool
 fn is_first_of(r: &Row, mark: Mark, first: u32) -> bool
     ensures { result ≡ false → IsFirstOf mark first r.now → ⊥ }
 {
-    r.show_row();
+    r.show_row(); // for the proof: what a row keeps
     let row = RowName::Held(r.id());
     let side = Side::Over;
     mark == Mark { row, side } && first >= 1 && first as usize <= r.terms().len() + 1
@@ -134,7 +135,7 @@ fn is_terms_sum(rows: &[Row], mark: Mark, first: u32) -> bool
 fn rank_count(p: &Problem, rank: u16) -> usize
     ensures { IsSizeOf p.now (Priority rank) result }
 {
-    p.show_whole();
+    p.show_whole(); // for the proof: what a problem keeps
     let mut count = 0;
     for r in p.rows() {
         if r.rank() == rank {
@@ -170,7 +171,7 @@ pub fn fit_before(p: &Problem, named: Quantity, unfit: Quantity) -> Fit
     requires { IsSumOf p.now unfit }
     ensures { IsFitBefore p.now named unfit result }
 {
-    p.show_whole();
+    p.show_whole(); // for the proof: what a problem keeps
     if named == unfit {
         return Fit::Unfit;
     }
@@ -197,7 +198,7 @@ fn rows_before(p: &Problem, id: u32) -> usize
     ensures after { (k : ℕ) (d : Row) → result ≤ k → k < length p.now.rows
         → id ≤ (get_or p.now.rows k d).id }
 {
-    p.show_whole();
+    p.show_whole(); // for the proof: what a problem keeps
     for (at, r) in p.rows().iter().enumerate() {
         if r.id() >= id {
             return at;

@@ -5,10 +5,10 @@ ghost use Rattle.problem_core.specs.Layout.{Problem};
 ghost use Rattle.problem_core.specs.Levels.{IsLevelAt};
 ghost use Rattle.problem_core.specs.declared.parts.Level.TheVariants as kinds;
 ghost use Rattle.path_claims.specs.Attrs.{IsEmptyLevel};
-ghost use Rattle.path_claims.specs.Frames.{IsFrame, IsSizedFrame, number_at};
+ghost use Rattle.path_levels.specs.Frames.{IsFrame, IsSizedFrame, number_at};
 
-use crate::frame::{Frame, LevelFacts, LineFacts, REQUIRED};
-use problem_core::{Level, RowName};
+use path_levels::{Frame, LevelFacts, LineFacts};
+use problem_core::{Level, REQUIRED, RowName};
 
 // The place of the level with this number.
 fn place_of_number(levels: &[LevelFacts], number: u32) -> Option<usize>

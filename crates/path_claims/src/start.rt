@@ -9,20 +9,18 @@ ghost use Rattle.path_checker.specs.PathClauses.{AreSoundBefore, IsPathVerdict};
 ghost use Rattle.path_checker.specs.Route.{over_marks};
 ghost use Rattle.path_checker.specs.declared.verdict.PathVerdict.TheVariants.{No};
 ghost use Rattle.path_claims.specs.Begun.{IsBegunUntil, IsWholeBegun};
-ghost use Rattle.path_claims.specs.Frames.{IsFrame, IsSizedFrame};
-ghost use Rattle.path_claims.specs.Levels.{AreSizedLevels};
+ghost use Rattle.path_levels.specs.Frames.{IsFrame, IsSizedFrame};
+ghost use Rattle.path_levels.specs.Levels.{AreSizedLevels};
 ghost use Rattle.path_claims.specs.Orders.{IsJudgedTo};
 ghost use Rattle.path_claims.specs.Starts.{AreUpTo, IsAtStart};
 
 use crate::begins::{Begun, begin};
-use crate::columns::has_no_negative_column;
-use crate::frame::Frame;
 use crate::last::Fit;
 use crate::orders::{fit_before, judged_rows};
-use crate::sums::LevelSum;
 use cert_core::Path;
 use frac_core::OutOfMemory;
 use path_checker::{Inside, PathVerdict, is_up};
+use path_levels::{Frame, LevelSum, has_no_negative_column};
 use problem_core::{Problem, Quantity};
 use std::alloc::Global;
 
@@ -85,7 +83,7 @@ fn verdict_until(
     requires start { IsAtStart p.now path.now }
     ensures { IsPathVerdict p.now path.now (Some named) result }
 {
-    p.show_whole();
+    p.show_whole(); // for the proof: what a problem keeps
     if path.dual() {
         return PathVerdict::NoRoom(0);
     }
@@ -117,7 +115,7 @@ pub fn check_at_start(
     requires marks { SameMarks path.now.corner (over_marks p.now) }
     ensures { IfOk result (IsPathVerdict p.now path.now (Some named)) }
 {
-    p.show_whole();
+    p.show_whole(); // for the proof: what a problem keeps
     match begin(alloc, p, frame)? {
         Begun::Whole { lines, levels } => {
             let judged = judged_rows(p, named);

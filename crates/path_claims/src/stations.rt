@@ -4,20 +4,19 @@ ghost use Rattle.problem_core.specs.declared.parts.Mark.{Mark};
 ghost use Rattle.path_checker.specs.Route.{over_marks};
 ghost use Rattle.path_checker.specs.Sides.{IsWithin};
 ghost use Rattle.path_checker.specs.Tables.{AreSized};
-ghost use Rattle.path_checker.specs.declared.stop.SumStop.TheVariants as stops;
+ghost use Rattle.frac_core.specs.Stops.{IsRefused};
+ghost use Rattle.frac_core.specs.declared.memory.Stop.TheVariants as stops;
 ghost use Rattle.path_checker.specs.declared.way.WayStop.TheVariants as ways;
-ghost use Rattle.path_claims.specs.Frames.{IsFrame, IsSizedFrame};
-ghost use Rattle.path_claims.specs.Levels.{AreLevels, AreSizedLevels};
-ghost use Rattle.path_claims.specs.Rows.{AreKept};
+ghost use Rattle.path_levels.specs.Frames.{IsFrame, IsSizedFrame};
+ghost use Rattle.path_levels.specs.Levels.{AreLevels, AreSizedLevels};
+ghost use Rattle.path_levels.specs.Rows.{AreKept};
 ghost use Rattle.path_claims.specs.Stations.{HasUnfitRows, HasUnfitSum, IsSizedTable, IsStation, IsStuckAt};
 ghost use Rattle.path_claims.specs.Stations.{IsTableAt, IsUsableStation, LeadsToTable, LeadsToUnfitTable};
 
-use crate::fits::attrs_fit;
-use crate::frame::Frame;
-use crate::rows::{RowsStop, first_levels};
-use crate::sums::LevelSum;
-use crate::turns::{Turn, next_levels};
+use crate::last::fits::attrs_fit;
+use frac_core::{Stop, Unfit};
 use path_checker::{Inside, Step, SumStop, WayStop, after_exchange, first_lines};
+use path_levels::{Frame, LevelSum, Turn, first_levels, next_levels};
 use problem_core::Problem;
 use std::alloc::Global;
 
@@ -52,12 +51,12 @@ fn begun_levels(
     ensures sized { IfOk result (λ levels. AreSizedLevels (length lines.now) levels.items) }
     ensures count { IfOk result (λ levels. length levels.items ≡ length frame.now.levels.items) }
     ensures levels { IfOk result (λ levels. AreLevels p.now (over_marks p.now) frame.now levels.items) }
-    ensures unfit { IfErr result (λ stop. stop ≡ stops.Unfit → HasUnfitRows p.now) }
+    ensures unfit { IfErr result (λ stop. IsRefused stop → HasUnfitRows p.now) }
 {
     match first_levels(alloc, frame, lines) {
         Ok(levels) => Ok(levels),
-        Err(RowsStop::Unfit { .. }) => Err(SumStop::Unfit),
-        Err(RowsStop::OutOfMemory) => Err(SumStop::OutOfMemory),
+        Err(Stop::Refused(_)) => Err(Stop::Refused(Unfit)),
+        Err(Stop::OutOfMemory) => Err(Stop::OutOfMemory),
     }
 }
 
@@ -67,9 +66,9 @@ pub fn first_table(alloc: Global, p: &Problem, frame: &Frame) -> Result<Table, S
     requires sized { IsSizedFrame frame.now }
     ensures sized { IfOk result (IsSizedTable frame.now) }
     ensures table { IfOk result (IsTableAt p.now (over_marks p.now) frame.now) }
-    ensures unfit { IfErr result (λ stop. stop ≡ stops.Unfit → HasUnfitSum p.now) }
+    ensures unfit { IfErr result (λ stop. IsRefused stop → HasUnfitSum p.now) }
 {
-    p.show_whole();
+    p.show_whole(); // for the proof: what a problem keeps
     let lines = first_lines(alloc, p)?;
     let levels = begun_levels(alloc, p, frame, &lines)?;
     Ok(Table { lines, levels })
@@ -89,7 +88,7 @@ pub fn table_after(
     requires step { IsWithin (length table.lines.items) step }
     ensures sized { IfOk result (IsSizedTable frame.now) }
     ensures next { IfOk result (LeadsToTable p.now frame.now table step) }
-    ensures unfit { IfErr result (λ stop. stop ≡ stops.Unfit → LeadsToUnfitTable p.now frame.now table step) }
+    ensures unfit { IfErr result (λ stop. IsRefused stop → LeadsToUnfitTable p.now frame.now table step) }
 {
     let turn = Turn {
         lines: &table.lines,
@@ -98,7 +97,7 @@ pub fn table_after(
     let levels = next_levels(alloc, frame, turn, &table.levels)?;
     let lines = after_exchange(alloc, table.lines, step)?;
     if !attrs_fit(p, &lines) {
-        return Err(SumStop::Unfit);
+        return Err(Stop::Refused(Unfit));
     }
     Ok(Table { lines, levels })
 }
@@ -116,7 +115,7 @@ pub fn table_now(
     ensures sized { IfOk result (IsSizedTable frame.now) }
     ensures table { IfOk result (λ table. (at : List Mark) → IsStation p.now at frame.now station
         → IsTableAt p.now at frame.now table) }
-    ensures unfit { IfErr result (λ stop. stop ≡ stops.Unfit → (at : List Mark)
+    ensures unfit { IfErr result (λ stop. IsRefused stop → (at : List Mark)
         → IsStation p.now at frame.now station → IsStuckAt p.now at station.step) }
 {
     match station.step {
@@ -129,12 +128,12 @@ pub fn table_now(
 pub fn told(table: Result<Table, SumStop>, count: u32) -> Result<Table, WayStop>
     ensures ok { IfOk result (λ t. table ≡ Ok t) }
     ensures stop { IfErr result (λ stop. stop ≢ ways.OutOfMemory
-        → (stop ≡ ways.NoRoom count) × (table ≡ Err stops.Unfit)) }
+        → (stop ≡ ways.NoRoom count) × (table ≡ Err (stops.Refused (record {})))) }
 {
     match table {
         Ok(table) => Ok(table),
-        Err(SumStop::Unfit) => Err(WayStop::NoRoom(count)),
-        Err(SumStop::OutOfMemory) => Err(WayStop::OutOfMemory),
+        Err(Stop::Refused(_)) => Err(WayStop::NoRoom(count)),
+        Err(Stop::OutOfMemory) => Err(WayStop::OutOfMemory),
     }
 }
 

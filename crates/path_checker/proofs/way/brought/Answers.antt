@@ -1,4 +1,4 @@
-use Rattle.std.proofs.Common.{◌≡◌, List, length, ap, subst, refl, Option, arith}
+use Rattle.std.proofs.Common.{◌≡◌, List, length, ap, subst, Option, arith}
 use Rattle.std.proofs.lemmas.Result.{err_from_is_err_and}
 use Rattle.path_checker.specs.declared.table.Inside.{Inside}
 use Rattle.path_checker.specs.declared.spots.Spot.{Spot}
@@ -30,4 +30,4 @@ returns-in_err-lines-clause-stop c =
     let exit = err_from_is_err_and c.from_residual.result c.from_residual.ensures.1 in
     rw (exit.1, exit.2) (bring_stuck c.args.p.now c.args.kept c.args.wanted.now c.args.enter c.in_err-lines.field-0.0 (λ other.
     let told = c.in_err-lines.ensures.stop other in
-    (told.0, err_says _ c.lines_now.result _ told.1 c.lines_now.ensures.unfit refl)))
+    (told.0, err_says _ c.lines_now.result _ told.1 c.lines_now.ensures.unfit tt)))

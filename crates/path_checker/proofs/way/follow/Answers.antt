@@ -17,7 +17,7 @@ returns-in_err-lines-clause-stop c =
     let told = c.in_err-lines.ensures.stop other in (
       told.0,
       λ unfit. no_room_before c.args.p.now c.args.path.now c.args.way c.args.way.kept.count unfit c.requires.arrived some refl
-          (err_says _ c.lines_now.result _ told.1 c.lines_now.ensures.unfit refl _ c.requires.arrived.way_is.kept),
+          (err_says _ c.lines_now.result _ told.1 c.lines_now.ensures.unfit tt _ c.requires.arrived.way_is.kept),
     )))
 
 pub loop-at-init : goal.loop-at-init

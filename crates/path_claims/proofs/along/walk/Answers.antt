@@ -1,4 +1,4 @@
-use Rattle.std.proofs.Common.{◌≡◌, ◌∙◌, ◌<◌, List, length, get_or, take, refl, sym, ap, subst, arith}
+use Rattle.std.proofs.Common.{◌≡◌, ◌∙◌, ◌<◌, List, length, get_or, take, refl, sym, ap, subst}
 use Rattle.std.proofs.lemmas.Result.{err_from_is_err_and}
 use Rattle.problem_core.specs.Corners.{IsExchange, Swap}
 use Rattle.problem_core.specs.Paths.{last_marks}
@@ -27,7 +27,7 @@ returns-in_err-table-clause-stop c =
     let told = c.in_err-table.ensures.stop other in (
       told.0,
       λ unfit. no_room_on c.args.claim.p.now c.args.claim.path.now c.args.claim.frame.now c.loop-swap.swap-index c.loop-swap.station.count c.loop-swap.station unfit c.loop-swap.invariant.route c.requires.claim.holds.0.exchanges within refl
-          (err_says _ c.table_now.result _ told.1 c.table_now.ensures.unfit refl _ c.loop-swap.invariant.route.station_is),
+          (err_says _ c.table_now.result _ told.1 c.table_now.ensures.unfit tt _ c.loop-swap.invariant.route.station_is),
     )))
 
 pub loop-swap-preserved : goal.loop-swap-preserved

@@ -2,8 +2,8 @@ use Rattle.std.proofs.Common.{◌∙◌, List, length, sym, ap, subst, Option}
 use Rattle.path_checker.specs.declared.table.Inside.{Inside}
 use Rattle.path_checker.specs.Route.{over_marks}
 use Rattle.path_claims.specs.FirstSums.{AreMade, AreMadeUntil}
-use Rattle.path_claims.specs.Levels.{AreSizedLevels}
-use Rattle.path_claims.specs.Rows.{AreKept, IsLevelsStop}
+use Rattle.path_levels.specs.Levels.{AreSizedLevels}
+use Rattle.path_levels.specs.Rows.{AreKept, IsLevelsStop}
 use Rattle.path_claims.proofs.BegunParts.{begun_until_rows, begun_until_terms, begun_whole, frame_count, kept_there}
 use Rattle.path_claims.proofs.begins.begin.Goals as goal
 
@@ -25,11 +25,11 @@ returns-in-Ok c =
     (subst (λ (ls : List (Option Inside)). AreSizedLevels (length ls) c.in-Ok.levels.items) c.deref.ensures.value c.in-Ok.ensures.sized) c.in-Ok.ensures.count
     (c.in-Ok.ensures.levels c.args.p.now (over_marks c.args.p.now) kept) (c.in-Ok.ensures.fits c.args.p.now (over_marks c.args.p.now) kept)
 
-pub returns-in-Err-Unfit : goal.returns-in-Err-Unfit
-returns-in-Err-Unfit c =
+pub returns-in-Err-Refused : goal.returns-in-Err-Refused
+returns-in-Err-Refused c =
     let made : AreMade c.args.p.now (length c.args.p.now.rows) c.in_ok-made.made.lines.items = subst (AreMadeUntil c.args.p.now c.in_ok-made.made.lines.items) c.in_default.is c.in_ok-made.ensures in
     let kept : AreKept c.args.p.now (over_marks c.args.p.now) c.args.frame.now c.deref.result.now =
     subst (AreKept c.args.p.now (over_marks c.args.p.now) c.args.frame.now) (sym c.deref.ensures.value) (kept_there c.args.p.now c.args.frame.now c.in_ok-lines.lines.items c.show_whole.ensures c.requires.frame c.in_ok-lines.ensures.lines) in
-    let stop = subst (IsLevelsStop c.args.frame.now c.deref.result.now) c.in-Err-Unfit.field-0-is c.in-Err-Unfit.ensures.unfit in
-    begun_until_rows c.args.p.now c.in_ok-made.made.lines.items c.in_ok-lines.lines.items c.in-Err-Unfit.level c.in-Err-Unfit.first c.show_whole.ensures made c.in_ok-lines.ensures.lines
+    let stop = subst (IsLevelsStop c.args.frame.now c.deref.result.now) c.in-Err-Refused.field-0-is c.in-Err-Refused.ensures.unfit in
+    begun_until_rows c.args.p.now c.in_ok-made.made.lines.items c.in_ok-lines.lines.items c.in-Err-Refused.rows.level c.in-Err-Refused.rows.first c.show_whole.ensures made c.in_ok-lines.ensures.lines
     (stop c.args.p.now (over_marks c.args.p.now) kept)

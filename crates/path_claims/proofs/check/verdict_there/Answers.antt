@@ -1,4 +1,3 @@
-use Rattle.std.proofs.Common.{refl}
 use Rattle.path_checker.proofs.Leading.{ok_then}
 use Rattle.path_checker.proofs.WayLines.{err_says, ok_says}
 use Rattle.path_claims.proofs.LastSteps.{found_there, no_room_then, no_room_there}
@@ -9,7 +8,7 @@ returns-in-Err c =
     ok_then c.ended.result (λ v is. no_room_then c.args.claim.p.now c.args.claim.path.now c.in-Err.stop c.args.walked.station.count v (λ other.
     let told = c.in-Err.ensures.stop other in (
       told.0,
-      no_room_there c.args.claim c.args.walked c.requires.claim c.requires.walked (err_says _ c.table_now.result _ told.1 c.table_now.ensures.unfit refl),
+      no_room_there c.args.claim c.args.walked c.requires.claim c.requires.walked (err_says _ c.table_now.result _ told.1 c.table_now.ensures.unfit tt),
     )) is) c.ended.ensures
 
 pub returns : goal.returns

@@ -1,4 +1,4 @@
-use Rattle.std.proofs.Common.{◌≡◌, ◌∙◌, List, length, ap, sym, subst, refl, Option, arith}
+use Rattle.std.proofs.Common.{◌≡◌, ◌∙◌, List, length, ap, sym, subst, Option, arith}
 use Rattle.std.proofs.lemmas.Result.{err_from_is_err_and}
 use Rattle.path_checker.specs.declared.table.Inside.{Inside}
 use Rattle.path_checker.specs.declared.spots.Spot.{Spot}
@@ -28,7 +28,7 @@ returns-in_err-table-clause-stop c =
     let exit = err_from_is_err_and c.from_residual.result c.from_residual.ensures.1 in
     rw (exit.1, exit.2) (bring_stuck c.args.claim c.args.enter c.args.station c.in_err-table.field-0.0 (λ other.
     let told = c.in_err-table.ensures.stop other in
-    (told.0, err_says _ c.table_now.result _ told.1 c.table_now.ensures.unfit refl)))
+    (told.0, err_says _ c.table_now.result _ told.1 c.table_now.ensures.unfit tt)))
 
 pub returns-in_default-clause-stop : goal.returns-in_default-clause-stop
 returns-in_default-clause-stop c =

@@ -1,12 +1,12 @@
-use Rattle.std.proofs.Common.{◌≡◌, ◌∙◌, ◌+◌, ap, ap₂, List, length, sym, subst, rules, arith}
+use Rattle.std.proofs.Common.{◌≡◌, ap, List, length, subst, arith}
 use Rattle.problem_core.specs.declared.parts.Mark.{Mark}
 use Rattle.problem_core.specs.declared.parts.Stay.{Stay}
 use Rattle.problem_core.specs.Layout.{Row}
-use Rattle.path_checker.specs.Tables.{line_count}
 use Rattle.path_checker.proofs.FirstLines.{count_lines}
 use Rattle.path_checker.proofs.Leading.{ok_then}
+use Rattle.path_checker.proofs.Stops.{is_refused}
 use Rattle.path_claims.specs.Fits.{IsFitAt}
-use Rattle.path_claims.specs.Turns.{IsTurnPivot}
+use Rattle.path_levels.specs.Turns.{IsTurnPivot}
 use Rattle.path_claims.proofs.SignsAfter.{same_next}
 use Rattle.path_claims.proofs.last.fit_after.Goals as goal
 
@@ -27,5 +27,5 @@ quantity_fit-requires-clause-count c =
     let stays : length c.stays.result.now ≡ length c.args.p.now.stays = ap (λ (ss : List Stay). length ss) c.stays.ensures in
     omega (arith, c.if-last-rows.false, rows, stays, count_lines c.args.p.now)
 
-pub returns-in-Err-Unfit : goal.returns-in-Err-Unfit
-returns-in-Err-Unfit c = λ at is. absurd (c.in-Err-Unfit.ensures.unfit c.in-Err-Unfit.field-0-is c.args.p.now at is.kept.there is.kept.lines_are is.exchange)
+pub returns-in-Err-Refused : goal.returns-in-Err-Refused
+returns-in-Err-Refused c = λ at is. absurd (c.in-Err-Refused.ensures.unfit (is_refused _ _ c.in-Err-Refused.field-0-is) c.args.p.now at is.kept.there is.kept.lines_are is.exchange)

@@ -1,8 +1,9 @@
-use Rattle.std.proofs.Common.{◌≡◌, ◌∙◌, ◌↔◌, Bool, IsTrue, true, false, sym, subst, rules}
+use Rattle.std.proofs.Common.{◌≡◌, ◌↔◌, Bool, IsTrue, true, false, sym, subst, rules}
 use Rattle.problem_core.specs.Paths.{IsSound}
 use Rattle.path_checker.proofs.Leading.{ok_then}
+use Rattle.path_checker.proofs.Stops.{is_refused}
 use Rattle.path_claims.specs.Fits.{marks_after}
-use Rattle.path_claims.specs.Turns.{IsTurnPivot}
+use Rattle.path_levels.specs.Turns.{IsTurnPivot}
 use Rattle.path_claims.proofs.SignsAfter.{sound_iff}
 use Rattle.path_claims.proofs.last.is_sound_after.Goals as goal
 
@@ -16,3 +17,6 @@ returns-in-Ok c = λ p at is.
     let primal : c.args.dual ≡ false = search rules in
     let turn : IsTurnPivot p at c.in-Ok.pivot = c.in-Ok.ensures.pivot p at is.kept.there is.kept.lines_are is.exchange in
     sound_iff p at c.args.last c.in-Ok.pivot _ _ c.args.dual c.are_up_after.result primal turn c.in-Ok.ensures.step is.kept.lines_are.count (c.are_up_after.ensures p at turn is.kept.lines_are)
+
+pub returns-in-Err-Refused : goal.returns-in-Err-Refused
+returns-in-Err-Refused c = λ p at is. absurd (c.in-Err-Refused.ensures.unfit (is_refused _ _ c.in-Err-Refused.field-0-is) p at is.kept.there is.kept.lines_are is.exchange)

@@ -2,8 +2,8 @@ use Rattle.std.proofs.Common.{◌≡◌, ◌≢◌, ◌<◌, List, All, length, 
 use Rattle.problem_core.specs.declared.parts.RowName.TheVariants.{Stay as StayOf}
 use Rattle.problem_core.specs.declared.parts.Level.TheVariants.{Stay as StayLevel}
 use Rattle.problem_core.specs.Levels.{IsLevelAt}
-use Rattle.path_claims.specs.declared.frame.LineFacts.{LineFacts}
-use Rattle.path_claims.specs.Frames.{number_at}
+use Rattle.path_levels.specs.declared.frame.LineFacts.{LineFacts}
+use Rattle.path_levels.specs.Frames.{number_at}
 use Rattle.path_claims.proofs.FirstRows.{stay_line_found, stay_line_none}
 use Rattle.path_claims.proofs.places.level_of_stay.Goals as goal
 

@@ -1,6 +1,6 @@
 use Rattle.std.proofs.Common.{◌≡◌, ◌≢◌, ◌+◌, ◌-◌, ◌<◌, List, All, length, get_or, subst, rules, arith}
 use Rattle.problem_core.specs.declared.parts.Level.TheVariants.{Priority}
-use Rattle.path_claims.specs.declared.frame.LevelFacts.{LevelFacts}
+use Rattle.path_levels.specs.declared.frame.LevelFacts.{LevelFacts}
 use Rattle.path_claims.proofs.LevelsAfter.{none_then, rank_found, rank_none, some_both}
 use Rattle.path_claims.proofs.places.place_of_rank.Goals as goal
 

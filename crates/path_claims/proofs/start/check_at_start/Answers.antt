@@ -1,9 +1,8 @@
-use Rattle.std.proofs.Common.{◌≡◌, sym, subst, subst₂, List, Option, Some}
+use Rattle.std.proofs.Common.{sym, subst, subst₂, List, Option, Some}
 use Rattle.path_checker.specs.declared.table.Inside.{Inside}
 use Rattle.path_checker.specs.PathClauses.{row_of_terms}
-use Rattle.path_claims.specs.declared.sums.LevelSum.{LevelSum}
+use Rattle.path_levels.specs.declared.sums.LevelSum.{LevelSum}
 use Rattle.path_claims.specs.Begun.{IsBegun, IsWholeBegun}
-use Rattle.path_claims.specs.Starts.{IsAtStart}
 use Rattle.path_claims.proofs.StartVerdicts.{whole_verdict}
 use Rattle.path_claims.proofs.start.check_at_start.Goals as goal
 

@@ -1,7 +1,7 @@
 use Rattle.std.proofs.Common.{◌∙◌, List, length, sym, ap, subst, Option}
 use Rattle.path_checker.specs.declared.table.Inside.{Inside}
-use Rattle.path_claims.specs.Levels.{AreSizedLevels}
-use Rattle.path_claims.specs.Rows.{AreKept}
+use Rattle.path_levels.specs.Levels.{AreSizedLevels}
+use Rattle.path_levels.specs.Rows.{AreKept}
 use Rattle.path_claims.proofs.FirstAttrs.{attrs_first}
 use Rattle.path_claims.proofs.StationTables.{begins_kept, frame_long}
 use Rattle.path_claims.proofs.stations.first_table.Goals as goal

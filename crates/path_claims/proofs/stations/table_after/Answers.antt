@@ -2,8 +2,8 @@ use Rattle.std.proofs.Common.{◌∙◌, List, length, sym, ap, subst, rules, Op
 use Rattle.std.proofs.lemmas.Result.{err_from_is_err_and}
 use Rattle.path_checker.specs.declared.table.Inside.{Inside}
 use Rattle.path_checker.specs.Tables.{AreLines}
-use Rattle.path_claims.specs.Levels.{AreLevels}
-use Rattle.path_claims.specs.Rows.{AreKept}
+use Rattle.path_levels.specs.Levels.{AreLevels}
+use Rattle.path_levels.specs.Rows.{AreKept}
 use Rattle.path_claims.proofs.StationTables.{attrs_lead_unfit, frame_long, leads_to_table, levels_lead_unfit, lines_lead_unfit}
 use Rattle.path_claims.proofs.stations.table_after.Goals as goal
 

@@ -1,5 +1,0 @@
-use Rattle.path_claims.specs.Joins.{AreFittingTo}
-use Rattle.path_claims.proofs.joins.are_lines_fitting.Given as goal
-
-abbrev pub invariant-loop-at : goal.invariant-loop-at
-invariant-loop-at l = AreFittingTo l.fn.frame l.fn.lines l.fn.place l.at l.fn.draft

@@ -1,5 +1,0 @@
-use Rattle.path_claims.proofs.RowsLoop.{AreJoined}
-use Rattle.path_claims.proofs.rows.rows_level.Given as goal
-
-abbrev pub invariant-loop-at : goal.invariant-loop-at
-invariant-loop-at l = AreJoined l.fn.frame l.fn.lines l.fn.place l.fn.most l.at l.first l.sum

@@ -1,0 +1,204 @@
+// Lines after an exchange, whatever fits there: which mark is inside, and the sign of its value.
+ghost use Rattle.std.specs.Prelude.{◌≡◌, ◌≢◌, ◌↔◌, ◌⊎◌, ◌<◌, ◌≤◌, ◌*ℤ◌, ◌<ℤ◌, pos, true, false, length};
+ghost use Rattle.std.specs.Prelude.{List, IsTrue};
+ghost use Rattle.std.specs.Ordering.{int_cmp};
+ghost use Rattle.frac_core.specs.Fraction.{IsFitting, sum_num};
+ghost use Rattle.problem_core.specs.Layout.{Problem};
+ghost use Rattle.problem_core.specs.Corners.{IsExchange, exchanged};
+ghost use Rattle.problem_core.specs.declared.parts.Mark.{Mark};
+ghost use Rattle.path_checker.specs.Numbers.{IsFactor, number_at};
+ghost use Rattle.path_checker.specs.Pivots.{next_marks};
+ghost use Rattle.path_checker.specs.Tables.{AreLines, AreSized, IsLineAt, IsSizedLine, IsThere, IsUp};
+ghost use Rattle.path_checker.specs.Tables.{line_count, name_at, swap_of};
+ghost use Rattle.path_claims.specs.Sums.{AreUpAfter, IsShareOf, IsSideAt, IsSizedShare};
+ghost use Rattle.path_levels.specs.Turns.{IsSizedPivot, IsTurnPivot};
+
+use frac_core::Frac;
+use path_checker::{Inside, Pivot, Ratio, Step, is_on_side, moved_sign};
+use problem_core::Side;
+use std::cmp::Ordering;
+
+/// Which mark of the line is inside after the exchange.
+pub(crate) fn side_after(line: &Option<Inside>, step: Step, at: usize) -> Option<Side>
+    ensures { (p : Problem) (marks : List Mark) → IsThere p marks → IsExchange p marks (swap_of p step)
+        → step.enter.at < line_count p → step.leave.at < line_count p → at < line_count p
+        → IsLineAt p marks (name_at p at) line.now
+        → IsSideAt (exchanged (swap_of p step) marks) (name_at p at) result }
+{
+    if at == step.enter.at {
+        return Some(step.enter.side);
+    }
+    if at == step.leave.at {
+        return None;
+    }
+    match line {
+        Some(inside) => Some(inside.side),
+        None => None,
+    }
+}
+
+/// What moves a line's deviation: `own` times it has this number at the entering line, and this value before
+/// the exchange.
+#[derive(Clone, Copy, Debug)]
+pub(crate) struct Share {
+    pub own: i64,
+    pub number: i64,
+    pub value: Frac,
+}
+
+/// The number of a line by itself: 1 at its own place.
+pub(crate) fn own_number(at: usize, enter: usize) -> i64
+    ensures here { at ≡ enter → result ≡ pos 1 }
+    ensures other { at ≢ enter → result ≡ pos 0 }
+    ensures fits { IsFitting result }
+{
+    if at == enter { 1 } else { 0 }
+}
+
+/// The number at a place.
+pub(crate) fn number_of(by: &[i64], at: usize) -> i64
+    requires { at < length by.now }
+    ensures { result ≡ number_at by.now at }
+{
+    by[at]
+}
+
+/// The line's share.
+pub(crate) fn share_of(line: &Option<Inside>, count: usize, enter: usize, at: usize) -> Share
+    requires sized { IsSizedLine count line.now }
+    requires enter { enter < count }
+    ensures sized { IsSizedShare result }
+    ensures share { (p : Problem) (marks : List Mark) → IsThere p marks → count ≡ line_count p
+        → at < line_count p → IsLineAt p marks (name_at p at) line.now
+        → IsShareOf p marks (name_at p at) (name_at p enter) result }
+{
+    match line {
+        Some(inside) => Share {
+            own: inside.sum.own,
+            number: number_of(&inside.sum.by, enter),
+            value: inside.sum.value,
+        },
+        None => Share {
+            own: 1,
+            number: own_number(at, enter),
+            value: Frac::zero(),
+        },
+    }
+}
+
+/// The product of two fitting numbers.
+pub(crate) fn pair(x: i64, y: i64) -> i128
+    requires x { IsFitting x }
+    requires y { IsFitting y }
+    ensures value { result ≡ x *ℤ y }
+    ensures small { IsFactor result }
+{
+    i128::from(x) * i128::from(y)
+}
+
+/// By what times the leaving line's value a share moves.
+pub(crate) fn ratio_of(pivot: &Pivot, number: i64, own: i64) -> Ratio
+    requires number { IsFitting number }
+    requires own { IsFitting own }
+    requires above { pos 0 <ℤ own }
+    requires times { IsFitting pivot.now.times }
+    requires size { IsFitting pivot.now.size }
+    requires size_above { pos 0 <ℤ pivot.now.size }
+    ensures times { result.times ≡ number *ℤ pivot.now.times }
+    ensures over { result.over ≡ own *ℤ pivot.now.size }
+    ensures times_small { IsFactor result.times }
+    ensures over_small { IsFactor result.over }
+    ensures above { pos 0 <ℤ result.over }
+{
+    Ratio {
+        times: pair(number, pivot.times),
+        over: pair(own, pivot.size),
+    }
+}
+
+// The sign of the line's deviation after the exchange.
+fn sign_after(share: Share, pivot: &Pivot) -> Ordering
+    requires share { IsSizedShare share }
+    requires times { IsFitting pivot.now.times }
+    requires size { IsFitting pivot.now.size }
+    requires size_above { pos 0 <ℤ pivot.now.size }
+    ensures turn { pivot.now.is_turn ≡ true → result ≡ int_cmp share.value.num (pos 0) }
+    ensures other { pivot.now.is_turn ≡ false → result ≡ int_cmp
+        (sum_num share.value (share.number *ℤ pivot.now.times) (share.own *ℤ pivot.now.size) pivot.now.value)
+        (pos 0) }
+{
+    if pivot.is_turn {
+        return share.value.num().cmp(&0);
+    }
+    moved_sign(
+        share.value,
+        ratio_of(pivot, share.number, share.own),
+        pivot.value,
+    )
+}
+
+// Whether the line's inside mark, if it has one, has no negative value after the exchange.
+fn is_up_after(line: &Option<Inside>, pivot: &Pivot, count: usize, at: usize) -> bool
+    requires sized { IsSizedLine count line.now }
+    requires pivot { IsSizedPivot count pivot.now }
+    ensures { (p : Problem) (marks : List Mark) → IsTurnPivot p marks pivot.now → count ≡ line_count p
+        → at < line_count p → IsLineAt p marks (name_at p at) line.now
+        → IsTrue result ↔ IsUp p (next_marks p pivot.now marks) (name_at p at) }
+{
+    match side_after(line, pivot.step, at) {
+        Some(side) => is_on_side(
+            sign_after(share_of(line, count, pivot.step.enter.at, at), pivot),
+            side,
+        ),
+        None => true,
+    }
+}
+
+// Whether it is so, or isn't judged.
+fn is_fine_after(
+    line: &Option<Inside>,
+    pivot: &Pivot,
+    count: usize,
+    at: usize,
+    judged: bool,
+) -> bool
+    requires sized { IsSizedLine count line.now }
+    requires pivot { IsSizedPivot count pivot.now }
+    ensures free { judged ≡ false → result ≡ true }
+    ensures up { judged ≡ true → (p : Problem) (marks : List Mark) → IsTurnPivot p marks pivot.now
+        → count ≡ line_count p → at < line_count p → IsLineAt p marks (name_at p at) line.now
+        → IsTrue result ↔ IsUp p (next_marks p pivot.now marks) (name_at p at) }
+{
+    if judged {
+        is_up_after(line, pivot, count, at)
+    } else {
+        true
+    }
+}
+
+// Whether a line is before the one place, or from the other on.
+fn is_judged(at: usize, judged: usize, rows: usize) -> bool
+    ensures { IsTrue result ↔ ((at < judged) ⊎ (rows ≤ at)) }
+{
+    at < judged || at >= rows
+}
+
+/// Whether no judged line's inside mark has a negative value after the exchange.
+pub(crate) fn are_up_after(
+    lines: &[Option<Inside>],
+    pivot: &Pivot,
+    judged: usize,
+    rows: usize,
+) -> bool
+    requires sized { AreSized lines.now }
+    requires pivot { IsSizedPivot (length lines.now) pivot.now }
+    ensures { (p : Problem) (marks : List Mark) → IsTurnPivot p marks pivot.now → AreLines p marks lines.now
+        → IsTrue result ↔ AreUpAfter p marks pivot.now judged rows }
+{
+    for (at, line) in lines.iter().enumerate() {
+        if !is_fine_after(line, pivot, lines.len(), at, is_judged(at, judged, rows)) {
+            return false;
+        }
+    }
+    true
+}

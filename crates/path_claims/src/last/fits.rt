@@ -1,0 +1,191 @@
+// How marks and attributes stand after an exchange.
+ghost use Rattle.std.specs.Prelude.{◌≡◌, ◌≢◌, ◌↔◌, ◌<◌, true, false, length, List, All, IfOk, IfErr};
+ghost use Rattle.std.specs.Prelude.{IfSome, IfNone, IsTrue};
+ghost use Rattle.std.specs.List.{HoldsAt};
+ghost use Rattle.problem_core.specs.Layout.{Problem};
+ghost use Rattle.problem_core.specs.Corners.{IsExchange, IsIn, exchanged, place_of};
+ghost use Rattle.problem_core.specs.Unfit.{IsUnfitWhat};
+ghost use Rattle.problem_core.specs.declared.parts.Mark.{Mark};
+ghost use Rattle.problem_core.specs.declared.stops.What.TheVariants.{Attr, Mark as MarkOf};
+ghost use Rattle.problem_core.specs.declared.stops.Quantity.TheVariants.{Plain};
+ghost use Rattle.path_checker.specs.Pivots.{HasUnfit, next_marks};
+ghost use Rattle.path_checker.specs.Tables.{AreLines, AreSized, IsLineAt, IsSized, IsSizedLine, IsThere};
+ghost use Rattle.path_checker.specs.Tables.{line_count};
+ghost use Rattle.path_checker.specs.Tables.{name_at, swap_of};
+ghost use Rattle.frac_core.specs.Stops.{IsRefused};
+ghost use Rattle.path_claims.specs.Fits.{AllAttrsFit, IsFitAt};
+ghost use Rattle.path_claims.specs.Attrs.{IsAttrAfter, IsAttrBefore, IsFittingStay, IsSizedMade};
+ghost use Rattle.path_claims.specs.Attrs.{IsUnfitBefore};
+ghost use Rattle.path_claims.specs.Attrs.{IsUnfitStay};
+ghost use Rattle.path_levels.specs.Turns.{IsSizedPivot, IsTurnPivot};
+
+use crate::last::Fit;
+use crate::last::after::side_after;
+use crate::last::line_sums::{line_after, next_sum, unit_sum, with_value};
+use frac_core::{Frac, OutOfMemory, Stop, Unfit};
+use path_checker::{Inside, Pivot, Step, Sum, SumStop, names, spot_of};
+use problem_core::{Mark, Problem, Side, Stay};
+use std::alloc::Global;
+
+/// Whether this mark of the line is inside after the exchange.
+pub(crate) fn is_inside_after(line: &Option<Inside>, step: Step, at: usize, side: Side) -> bool
+    ensures { (p : Problem) (marks : List Mark) → IsThere p marks → IsExchange p marks (swap_of p step)
+        → step.enter.at < line_count p → step.leave.at < line_count p → at < line_count p
+        → IsLineAt p marks (name_at p at) line.now
+        → IsTrue result ↔ IsIn (place_of (name_at p at) side) (exchanged (swap_of p step) marks) }
+{
+    match side_after(line, step, at) {
+        Some(inside) => inside == side,
+        None => false,
+    }
+}
+
+/// How a mark stands after the exchange.
+pub(crate) fn mark_fit(
+    alloc: Global,
+    p: &Problem,
+    lines: &[Option<Inside>],
+    pivot: &Pivot,
+    mark: Mark,
+) -> Result<Fit, OutOfMemory>
+    requires count { length lines.now ≡ line_count p.now }
+    requires lines { AreSized lines.now }
+    requires pivot { IsSizedPivot (length lines.now) pivot.now }
+    ensures { IfOk result (λ fit. (marks : List Mark) → IsTurnPivot p.now marks pivot.now
+        → AreLines p.now marks lines.now
+        → IsFitAt p.now (next_marks p.now pivot.now marks) (Plain (MarkOf mark)) fit) }
+{
+    let names = names(alloc, p)?;
+    let Some(spot) = spot_of(&names, mark) else {
+        return Ok(Fit::Fits);
+    };
+    let line = &lines[spot.at];
+    if !is_inside_after(line, pivot.step, spot.at, spot.side) {
+        return Ok(Fit::Fits);
+    }
+    match line_after(alloc, line, pivot, lines.len(), spot.at) {
+        Ok(_) => Ok(Fit::Fits),
+        Err(Stop::Refused(_)) => Ok(Fit::Unfit),
+        Err(Stop::OutOfMemory) => Err(OutOfMemory),
+    }
+}
+
+/// The place of the attribute's stay among the stays.
+pub(crate) fn stay_of(stays: &[Stay], attr: u32) -> Option<usize>
+    ensures within { IfSome result (λ k. k < length stays.now) }
+    ensures found { IfSome result (HoldsAt (λ s. s.attr ≡ attr) stays.now) }
+    ensures none { IfNone result (All (λ s. s.attr ≢ attr) stays.now) }
+{
+    stays.iter().position(|s| s.attr == attr)
+}
+
+// The sum of the attribute whose stay has this target, at the corner before.
+fn attr_before(
+    alloc: Global,
+    target: Frac,
+    line: &Option<Inside>,
+    count: usize,
+    at: usize,
+) -> Result<Sum, SumStop>
+    requires { IsSizedLine count line.now }
+    ensures sized { IfOk result (IsSized count) }
+    ensures attr { IfOk result (IsAttrBefore target count at line.now) }
+    ensures unfit { IfErr result (λ stop. IsRefused stop → IsUnfitBefore target count at line.now) }
+{
+    match line {
+        Some(inside) => {
+            let Ok(value) = Frac::mul_add(target, 1, 1, inside.sum.value) else {
+                return Err(Stop::Refused(Unfit));
+            };
+            with_value(alloc, &inside.sum, value)
+        }
+        None => unit_sum(alloc, count, at, target),
+    }
+}
+
+/// The sum of an attribute after the exchange, unless it has no stay.
+pub(crate) fn attr_after(
+    alloc: Global,
+    p: &Problem,
+    lines: &[Option<Inside>],
+    pivot: &Pivot,
+    attr: u32,
+) -> Result<Option<Sum>, SumStop>
+    requires count { length lines.now ≡ line_count p.now }
+    requires lines { AreSized lines.now }
+    requires pivot { IsSizedPivot (length lines.now) pivot.now }
+    ensures sized { IfOk result (IsSizedMade (length lines.now)) }
+    ensures attr { IfOk result (λ made. (marks : List Mark) → IsTurnPivot p.now marks pivot.now
+        → AreLines p.now marks lines.now → IsAttrAfter p.now (next_marks p.now pivot.now marks) attr made) }
+    ensures unfit { IfErr result (λ stop. IsRefused stop → (marks : List Mark)
+        → IsTurnPivot p.now marks pivot.now
+        → AreLines p.now marks lines.now → AllAttrsFit p.now marks
+        → IsUnfitWhat p.now (next_marks p.now pivot.now marks) (Attr attr)) }
+{
+    p.show_whole(); // for the proof: what a problem keeps
+    let Some(i) = stay_of(p.stays(), attr) else {
+        return Ok(None);
+    };
+    let target = p.stays()[i].target;
+    let at = p.rows().len() + i;
+    let before = attr_before(alloc, target, &lines[at], lines.len(), at)?;
+    let sum = next_sum(alloc, pivot, &before)?;
+    Ok(Some(sum))
+}
+
+/// How an attribute stands after the exchange.
+pub(crate) fn attr_fit(
+    alloc: Global,
+    p: &Problem,
+    lines: &[Option<Inside>],
+    pivot: &Pivot,
+    attr: u32,
+) -> Result<Fit, OutOfMemory>
+    requires count { length lines.now ≡ line_count p.now }
+    requires lines { AreSized lines.now }
+    requires pivot { IsSizedPivot (length lines.now) pivot.now }
+    ensures { IfOk result (λ fit. (marks : List Mark) → IsTurnPivot p.now marks pivot.now
+        → AreLines p.now marks lines.now → AllAttrsFit p.now marks
+        → IsFitAt p.now (next_marks p.now pivot.now marks) (Plain (Attr attr)) fit) }
+{
+    match attr_after(alloc, p, lines, pivot, attr) {
+        Ok(_) => Ok(Fit::Fits),
+        Err(Stop::Refused(_)) => Ok(Fit::Unfit),
+        Err(Stop::OutOfMemory) => Err(OutOfMemory),
+    }
+}
+
+// Whether the target and what the line deviates fit together.
+fn stay_fits(target: Frac, line: &Option<Inside>) -> bool
+    ensures fits { result ≡ true → IsFittingStay target line.now }
+    ensures unfit { result ≡ false → IsUnfitStay target line.now }
+{
+    let Some(inside) = line else {
+        return true;
+    };
+    let Ok(value) = Frac::mul_add(target, 1, 1, inside.sum.value) else {
+        return false;
+    };
+    let _ = value.num(); // for the proof: what a fraction keeps
+    true
+}
+
+/// Whether all attributes fit at a corner.
+pub fn attrs_fit(p: &Problem, lines: &[Option<Inside>]) -> bool
+    requires { length lines.now ≡ line_count p.now }
+    ensures fits { result ≡ true → (at : List Mark) → IsThere p.now at → AreLines p.now at lines.now
+        → AllAttrsFit p.now at }
+    ensures unfit { result ≡ false → (at : List Mark) → IsThere p.now at → AreLines p.now at lines.now
+        → HasUnfit p.now at }
+{
+    p.show_whole(); // for the proof: what a problem keeps
+    let rows = p.rows().len();
+    let stays = p.stays();
+    for (i, stay) in stays.iter().enumerate() {
+        let at = rows + i;
+        if !stay_fits(stay.target, &lines[at]) {
+            return false;
+        }
+    }
+    true
+}

@@ -1,0 +1,165 @@
+// The sum of a quantity after an exchange, whatever else fits there.
+ghost use Rattle.std.specs.Prelude.{◌≡◌, ◌<◌, ◌*ℤ◌, length, List, IfOk, IfErr, OnErr};
+ghost use Rattle.frac_core.specs.Stops.{IsRefused};
+ghost use Rattle.frac_core.specs.Fraction.{IsKept, IsRatio, IsUnfitRatio, sum_den, sum_num};
+ghost use Rattle.problem_core.specs.Layout.{Problem};
+ghost use Rattle.problem_core.specs.declared.parts.Mark.{Mark};
+ghost use Rattle.corner_lines.specs.LineEquations.{deviation};
+ghost use Rattle.path_checker.specs.Numbers.{number_at};
+ghost use Rattle.path_checker.specs.Pivots.{next_marks};
+ghost use Rattle.path_checker.specs.Tables.{IsLineAt, IsSized, IsSizedLine, IsThere, line_count, name_at};
+ghost use Rattle.frac_core.specs.declared.memory.Stop.TheVariants.{OutOfMemory};
+ghost use Rattle.path_claims.specs.Sums.{IsCopy, IsKeptLine, IsQuantitySum, IsSumAfter, IsUnfitAfter};
+ghost use Rattle.path_claims.specs.Sums.{IsUnfitLineAt, IsUnitList, IsUnitSum};
+ghost use Rattle.path_levels.specs.Turns.{IsSizedPivot, IsTurnPivot};
+
+use crate::last::after::{number_of, own_number, ratio_of, side_after};
+use frac_core::{Frac, Stop, Unfit};
+use path_checker::{Inside, Lowest, Pivot, Sum, SumStop, carried, in_lowest_terms};
+use path_levels::moved_value;
+use std::alloc::Global;
+
+// The same numbers.
+fn copied(alloc: Global, numbers: &[i64]) -> Result<Vec<i64>, SumStop>
+    ensures value { IfOk result (λ out. out.items ≡ numbers.now) }
+    ensures memory { IfErr result (λ stop. stop ≡ OutOfMemory) }
+{
+    let mut out = Vec::with_capacity(alloc, numbers.len())?;
+    for number in numbers {
+        out.push(*number)?;
+    }
+    Ok(out)
+}
+
+// The numbers of a sum, with another value.
+pub(crate) fn with_value(alloc: Global, sum: &Sum, value: Frac) -> Result<Sum, SumStop>
+    ensures copy { IfOk result (IsCopy sum.now value) }
+    ensures kept { IfOk result (λ next. IsKept next.value) }
+    ensures memory { IfErr result (λ stop. stop ≡ OutOfMemory) }
+{
+    let _ = value.num(); // for the proof: what a fraction keeps
+    let by = copied(alloc, &sum.by)?;
+    let own = sum.own;
+    Ok(Sum { own, by, value })
+}
+
+// A line by itself.
+fn unit_numbers(alloc: Global, count: usize, at: usize) -> Result<Vec<i64>, SumStop>
+    ensures value { IfOk result (λ out. IsUnitList count at out.items) }
+    ensures memory { IfErr result (λ stop. stop ≡ OutOfMemory) }
+{
+    let mut out = Vec::with_capacity(alloc, count)?;
+    for place in 0..count {
+        out.push(own_number(place, at))?;
+    }
+    Ok(out)
+}
+
+/// The deviation of the line at a place and this value.
+pub(crate) fn unit_sum(alloc: Global, count: usize, at: usize, value: Frac) -> Result<Sum, SumStop>
+    ensures unit { IfOk result (IsUnitSum count at value) }
+    ensures memory { IfErr result (λ stop. stop ≡ OutOfMemory) }
+{
+    let by = unit_numbers(alloc, count, at)?;
+    Ok(Sum { own: 1, by, value })
+}
+
+// The value of a sum after an exchange of two lines.
+fn next_value(pivot: &Pivot, sum: &Sum) -> Result<Frac, Unfit>
+    requires pivot { IsSizedPivot (length sum.now.by.items) pivot.now }
+    requires sum { IsSized (length sum.now.by.items) sum.now }
+    ensures value { IfOk result (λ f. IsRatio f
+        (sum_num sum.now.value (number_at sum.now.by.items pivot.now.step.enter.at *ℤ pivot.now.times)
+        (sum.now.own *ℤ pivot.now.size) pivot.now.value)
+        (sum_den sum.now.value (sum.now.own *ℤ pivot.now.size) pivot.now.value)) }
+    ensures kept { IfOk result IsKept }
+    ensures unfit { OnErr result (IsUnfitRatio
+        (sum_num sum.now.value (number_at sum.now.by.items pivot.now.step.enter.at *ℤ pivot.now.times)
+        (sum.now.own *ℤ pivot.now.size) pivot.now.value)
+        (sum_den sum.now.value (sum.now.own *ℤ pivot.now.size) pivot.now.value)) }
+{
+    let number = number_of(&sum.by, pivot.step.enter.at);
+    let ratio = ratio_of(pivot, number, sum.own);
+    moved_value(sum.value, ratio, pivot.value)
+}
+
+/// Numbers and a value.
+pub(crate) fn sum_of(numbers: Lowest, value: Frac) -> Sum
+    ensures own { result.own ≡ numbers.own }
+    ensures by { result.by.items ≡ numbers.by.items }
+    ensures value { result.value ≡ value }
+{
+    Sum {
+        own: numbers.own,
+        by: numbers.by,
+        value,
+    }
+}
+
+/// The sum of a quantity after an exchange.
+pub(crate) fn next_sum(alloc: Global, pivot: &Pivot, sum: &Sum) -> Result<Sum, SumStop>
+    requires pivot { IsSizedPivot (length sum.now.by.items) pivot.now }
+    requires sum { IsSized (length sum.now.by.items) sum.now }
+    ensures sized { IfOk result (IsSized (length sum.now.by.items)) }
+    ensures kept { IfOk result (λ next. IsKept next.value) }
+    ensures next { IfOk result (IsSumAfter pivot.now sum.now) }
+    ensures unfit { IfErr result (λ stop. IsRefused stop → IsUnfitAfter pivot.now sum.now) }
+{
+    if pivot.is_turn {
+        return with_value(alloc, sum, sum.value);
+    }
+    let wide = carried(alloc, pivot, sum)?;
+    let numbers = in_lowest_terms(alloc, &wide)?;
+    let Ok(value) = next_value(pivot, sum) else {
+        return Err(Stop::Refused(Unfit));
+    };
+    Ok(sum_of(numbers, value))
+}
+
+/// The sum of a line's deviation before an exchange: its own where it is outside.
+pub(crate) fn line_before(
+    alloc: Global,
+    line: &Option<Inside>,
+    count: usize,
+    at: usize,
+) -> Result<Sum, SumStop>
+    requires { IsSizedLine count line.now }
+    ensures sized { IfOk result (IsSized count) }
+    ensures sum { IfOk result (λ sum. (p : Problem) (marks : List Mark) → IsThere p marks
+        → count ≡ line_count p → at < line_count p → IsLineAt p marks (name_at p at) line.now
+        → IsQuantitySum p marks (deviation (name_at p at)) sum) }
+    ensures memory { IfErr result (λ stop. stop ≡ OutOfMemory) }
+{
+    match line {
+        Some(inside) => with_value(alloc, &inside.sum, inside.sum.value),
+        None => unit_sum(alloc, count, at, Frac::zero()),
+    }
+}
+
+/// A line after an exchange.
+pub(crate) fn line_after(
+    alloc: Global,
+    line: &Option<Inside>,
+    pivot: &Pivot,
+    count: usize,
+    at: usize,
+) -> Result<Option<Inside>, SumStop>
+    requires line { IsSizedLine count line.now }
+    requires pivot { IsSizedPivot count pivot.now }
+    ensures sized { IfOk result (IsSizedLine count) }
+    ensures kept { IfOk result IsKeptLine }
+    ensures line { IfOk result (λ next. (p : Problem) (marks : List Mark) → IsTurnPivot p marks pivot.now
+        → count ≡ line_count p → at < line_count p → IsLineAt p marks (name_at p at) line.now
+        → IsLineAt p (next_marks p pivot.now marks) (name_at p at) next) }
+    ensures unfit { IfErr result (λ stop. IsRefused stop → (p : Problem) (marks : List Mark)
+        → IsTurnPivot p marks pivot.now → count ≡ line_count p → at < line_count p
+        → IsLineAt p marks (name_at p at) line.now
+        → IsUnfitLineAt p (next_marks p pivot.now marks) (name_at p at)) }
+{
+    let Some(side) = side_after(line, pivot.step, at) else {
+        return Ok(None);
+    };
+    let before = line_before(alloc, line, count, at)?;
+    let sum = next_sum(alloc, pivot, &before)?;
+    Ok(Some(Inside { side, sum }))
+}

@@ -1,0 +1,186 @@
+// How the sum of a level's first rows stands after an exchange.
+ghost use Rattle.std.specs.Prelude.{◌≡◌, ◌<◌, ◌≢◌, ℕ, cond, nat_eq, true, false, length, take, get_or};
+ghost use Rattle.std.specs.Prelude.{List, Option, IfOk, IfErr, IfSome, IfNone};
+ghost use Rattle.problem_core.specs.Layout.{Problem};
+ghost use Rattle.problem_core.specs.Levels.{IsLevelAt};
+ghost use Rattle.problem_core.specs.declared.parts.Mark.{Mark};
+ghost use Rattle.problem_core.specs.declared.parts.Level.{Level};
+ghost use Rattle.problem_core.specs.declared.stops.Quantity.TheVariants as quantities;
+ghost use Rattle.path_checker.specs.Pivots.{next_marks};
+ghost use Rattle.path_checker.specs.Tables.{AreLines, AreSized, IsLineAt, IsSizedLine, name_at};
+ghost use Rattle.frac_core.specs.Stops.{IsRefused};
+ghost use Rattle.path_checker.specs.declared.table.Inside.{Inside};
+ghost use Rattle.path_claims.specs.FirstLines.{HasUnfitFirst, IsFirstAt, size_in};
+ghost use Rattle.path_claims.specs.Fits.{IsFitAt, IsLastAfter, IsSizedLast};
+ghost use Rattle.path_levels.specs.Frames.{IsSizedFrame, number_at};
+ghost use Rattle.path_levels.specs.Rows.{AreKeptOf};
+ghost use Rattle.path_levels.specs.Turns.{IsSizedPivot, IsTurnPivot};
+ghost use Rattle.path_claims.specs.declared.last.Fit.TheVariants as fits;
+
+use crate::last::line_sums::line_after;
+use crate::last::{Fit, Last};
+use crate::places::place_of_level;
+use frac_core::{OutOfMemory, Stop};
+use path_checker::{Inside, Pivot, SumStop};
+use path_levels::{Frame, LineFacts, level_of_lines};
+use problem_core::Level;
+use std::alloc::Global;
+
+// 1 for a line of the level at the place.
+fn one_of(facts: LineFacts, place: usize) -> usize
+    ensures { result ≡ cond (nat_eq facts.level place) 1 0 }
+{
+    if facts.level == place { 1 } else { 0 }
+}
+
+// How many lines there are up to the so-many-th of the level, if it has as many.
+fn end_of_first(lines: &[LineFacts], place: usize, first: usize) -> Option<usize>
+    ensures some { IfSome result (λ end. size_in place (take end lines.now) ≡ first) }
+    ensures none { IfNone result (size_in place lines.now < first) }
+{
+    let mut count = 0;
+    for (at, facts) in lines.iter().enumerate() {
+        if count == first {
+            return Some(at);
+        }
+        count += one_of(*facts, place);
+    }
+    if count == first {
+        Some(lines.len())
+    } else {
+        None
+    }
+}
+
+/// The lines of the level at a place that come before an end.
+#[derive(Clone, Copy, Debug)]
+pub(crate) struct FirstLines {
+    pub place: usize,
+    pub end: usize,
+}
+
+// Whether the line at a place is one of them.
+fn is_first(lines: &[LineFacts], firsts: FirstLines, at: usize) -> bool
+    requires { at < length lines.now }
+    ensures yes { result ≡ true → IsFirstAt lines.now firsts at }
+    ensures no { result ≡ false → IsFirstAt lines.now firsts at → ⊥ }
+{
+    at < firsts.end && lines[at].level == firsts.place
+}
+
+// The line at a place after the exchange, if it is one of these.
+fn first_line(
+    alloc: Global,
+    last: Last<'_>,
+    pivot: &Pivot,
+    firsts: FirstLines,
+    at: usize,
+) -> Result<Option<Inside>, SumStop>
+    requires last { IsSizedLast last }
+    requires pivot { IsSizedPivot (length last.lines.now) pivot.now }
+    requires at { at < length last.lines.now }
+    ensures sized { IfOk result (IsSizedLine (length last.entry.lines.now)) }
+    ensures line { IfOk result (λ next. IsFirstAt last.entry.frame.now.lines.items firsts at
+        → (p : Problem) (marks : List Mark) → IsTurnPivot p marks pivot.now
+        → AreLines p marks last.entry.lines.now
+        → IsLineAt p (next_marks p pivot.now marks) (name_at p at) next) }
+    ensures unfit { IfErr result (λ stop. IsRefused stop → (p : Problem) (marks : List Mark)
+        → IsTurnPivot p marks pivot.now → AreLines p marks last.entry.lines.now
+        → HasUnfitFirst p (next_marks p pivot.now marks) last.entry.frame.now.lines.items firsts) }
+{
+    if !is_first(&last.frame.lines, firsts, at) {
+        return Ok(None);
+    }
+    line_after(alloc, &last.lines[at], pivot, last.lines.len(), at)
+}
+
+// These lines after the exchange.
+fn first_lines(
+    alloc: Global,
+    last: Last<'_>,
+    pivot: &Pivot,
+    firsts: FirstLines,
+) -> Result<Vec<Option<Inside>>, SumStop>
+    requires last { IsSizedLast last }
+    requires pivot { IsSizedPivot (length last.lines.now) pivot.now }
+    ensures count { IfOk result (λ next. length next.items ≡ length last.entry.lines.now) }
+    ensures sized { IfOk result (λ next. AreSized next.items) }
+    ensures lines { IfOk result (λ next. (k : ℕ) (d : Option Inside) → k < length last.entry.lines.now
+        → IsFirstAt last.entry.frame.now.lines.items firsts k
+        → (p : Problem) (marks : List Mark) → IsTurnPivot p marks pivot.now
+        → AreLines p marks last.entry.lines.now
+        → IsLineAt p (next_marks p pivot.now marks) (name_at p k) (get_or next.items k d)) }
+    ensures unfit { IfErr result (λ stop. IsRefused stop → (p : Problem) (marks : List Mark)
+        → IsTurnPivot p marks pivot.now → AreLines p marks last.entry.lines.now
+        → HasUnfitFirst p (next_marks p pivot.now marks) last.entry.frame.now.lines.items firsts) }
+{
+    let count = last.lines.len();
+    let mut next = Vec::with_capacity(alloc, count)?;
+    for at in 0..count {
+        next.push(first_line(alloc, last, pivot, firsts, at)?)?;
+    }
+    Ok(next)
+}
+
+// How a sum stands of which already so many rows do not fit.
+fn stop_of(count: u32, first: u32) -> Fit
+    ensures whole { count ≡ first → result ≡ fits.Unfit }
+    ensures part { count ≢ first → result ≡ fits.NoRoom }
+{
+    if count == first {
+        Fit::Unfit
+    } else {
+        Fit::NoRoom
+    }
+}
+
+// How the sum of a level's first rows stands at a corner of which their lines are kept.
+fn rows_at(
+    alloc: Global,
+    frame: &Frame,
+    lines: &[Option<Inside>],
+    place: usize,
+    first: u32,
+) -> Result<Fit, OutOfMemory>
+    requires frame { IsSizedFrame frame.now }
+    requires lines { AreSized lines.now }
+    requires count { length lines.now ≡ length frame.now.lines.items }
+    requires place { place < length frame.now.levels.items }
+    ensures { IfOk result (λ fit. (p : Problem) (at : List Mark) (level : Level)
+        → AreKeptOf p at frame.now place first lines.now
+        → IsLevelAt p level (number_at frame.now.levels.items place)
+        → IsFitAt p at (quantities.Rows level first) fit) }
+{
+    match level_of_lines(alloc, frame, lines, place, first) {
+        Ok(_) => Ok(Fit::Fits),
+        Err(Stop::Refused(rows)) => Ok(stop_of(rows.first, first)),
+        Err(Stop::OutOfMemory) => Err(OutOfMemory),
+    }
+}
+
+/// How the sum of the first rows of a level stands after the exchange.
+pub(crate) fn rows_fit(
+    alloc: Global,
+    last: Last<'_>,
+    pivot: &Pivot,
+    level: Level,
+    first: u32,
+) -> Result<Fit, OutOfMemory>
+    requires last { IsSizedLast last }
+    requires pivot { IsSizedPivot (length last.lines.now) pivot.now }
+    ensures { IfOk result (λ fit. (p : Problem) (at : List Mark) → IsLastAfter p at last.entry
+        → IsTurnPivot p at pivot.now
+        → IsFitAt p (next_marks p pivot.now at) (quantities.Rows level first) fit) }
+{
+    let Some(place) = place_of_level(last.frame, level) else {
+        return Ok(Fit::Fits);
+    };
+    let Some(end) = end_of_first(&last.frame.lines, place, first as usize) else {
+        return Ok(Fit::Fits);
+    };
+    match first_lines(alloc, last, pivot, FirstLines { place, end }) {
+        Ok(lines) => rows_at(alloc, last.frame, &lines, place, first),
+        Err(Stop::Refused(_)) => Ok(Fit::NoRoom),
+        Err(Stop::OutOfMemory) => Err(OutOfMemory),
+    }
+}

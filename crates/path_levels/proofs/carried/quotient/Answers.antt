@@ -1,0 +1,10 @@
+use Rattle.std.proofs.Common.{◌∙◌, ap, ◌*ℤ◌, ℤ}
+use Rattle.std.specs.Int.{w64}
+use Rattle.std.proofs.lemmas.Int.{quot_is, quot_fits}
+use Rattle.path_checker.proofs.LowestTerms.{exact_quotient}
+use Rattle.path_levels.proofs.carried.quotient.Goals as goal
+
+pub returns : goal.returns
+returns c =
+    ap (λ (z : ℤ). c.args.divisor *ℤ z) (quot_is w64 c.args.number c.args.divisor c.ranges.number c.ranges.divisor (quot_fits w64 c.args.number c.args.divisor c.ranges.number c.requires.above))
+    ∙ exact_quotient c.args.number c.args.divisor c.requires.above c.requires.divides

@@ -1,0 +1,15 @@
+pub mod Frames
+pub mod Levels
+pub mod Rows
+pub mod FrameParts
+pub mod Joins
+pub mod Parts
+pub mod StaySums
+pub mod Turns
+pub mod Shares
+pub mod Carried
+pub mod FitsAfter
+pub mod Moved
+pub mod Costs
+pub mod Required
+pub mod WideCosts

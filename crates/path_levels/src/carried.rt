@@ -1,0 +1,177 @@
+// A level's row after an exchange, before it is divided.
+ghost use Rattle.std.specs.Prelude.{◌≡◌, ◌<◌, ◌^◌, ◌*ℤ◌, ◌+ℤ◌, ◌<ℤ◌, pos, length, unsigned_abs, List};
+ghost use Rattle.std.specs.Prelude.{All, IfOk, IfErr};
+ghost use Rattle.std.specs.Int.{◌∣◌};
+ghost use Rattle.frac_core.specs.Fraction.{IsFitting};
+ghost use Rattle.problem_core.specs.Layout.{Problem};
+ghost use Rattle.problem_core.specs.declared.parts.Mark.{Mark};
+ghost use Rattle.path_checker.specs.Numbers.{IsFactor, number_at as in_list};
+ghost use Rattle.path_checker.specs.Pivots.{next_marks};
+ghost use Rattle.frac_core.specs.declared.memory.Stop.TheVariants as stops;
+ghost use Rattle.path_levels.specs.Frames.{IsFrame, IsSizedFrame, number_at};
+ghost use Rattle.path_levels.specs.Levels.{IsLevelSum, IsSizedLevel};
+ghost use Rattle.path_levels.specs.Shares.{IsScaled, IsSmallFacts, before_of, entering_of, stood_of};
+ghost use Rattle.path_levels.specs.Carried.{AreSharing, IsCarriedBy, IsCommonOf};
+ghost use Rattle.path_levels.specs.Turns.{IsMultipleAt, IsSizedPivot, IsTurnPivot, IsWideLevel};
+
+use crate::frame::{Frame, LineFacts};
+use crate::shares::stood_number;
+use crate::sums::LevelSum;
+use frac_core::gcd;
+use path_checker::{Pivot, SumStop, Wide, combined};
+use std::alloc::Global;
+
+// The entering line's number in the level's row before the exchange.
+fn number_before(line: &LineFacts, pivot: &Pivot, place: usize, sum: &LevelSum) -> i64
+    requires line { IsSmallFacts line.now }
+    requires sum { IsScaled sum.now }
+    requires enter { pivot.now.step.enter.at < length sum.now.by.items }
+    requires fits { All IsFitting sum.now.by.items }
+    ensures value { result ≡ before_of line.now pivot.now place sum.now }
+    ensures small { unsigned_abs result < 2 ^ 52 }
+{
+    if pivot.is_turn {
+        return stood_number(line, pivot.step.leave.side, place, sum);
+    }
+    sum.by[pivot.step.enter.at]
+}
+
+/// The same less what the line counts from now on.
+pub fn entering_number(line: &LineFacts, pivot: &Pivot, place: usize, sum: &LevelSum) -> i64
+    requires line { IsSmallFacts line.now }
+    requires sum { IsScaled sum.now }
+    requires enter { pivot.now.step.enter.at < length sum.now.by.items }
+    requires fits { All IsFitting sum.now.by.items }
+    ensures value { result ≡ entering_of line.now pivot.now place sum.now }
+    ensures small { unsigned_abs result < 2 ^ 53 }
+{
+    let before = number_before(line, pivot, place, sum);
+    before - stood_number(line, pivot.step.enter.side, place, sum)
+}
+
+// The greatest common divisor.
+fn common_of(size: i64, n: i64) -> i64
+    requires above { pos 0 <ℤ size }
+    requires fits { IsFitting size }
+    ensures { IsCommonOf size n result }
+{
+    gcd(
+        u128::from(size.unsigned_abs()),
+        u128::from(n.unsigned_abs()),
+    ) as i64
+}
+
+// The exact quotient.
+fn quotient(number: i64, divisor: i64) -> i64
+    requires above { pos 0 <ℤ divisor }
+    requires divides { unsigned_abs divisor ∣ unsigned_abs number }
+    ensures { divisor *ℤ result ≡ number }
+{
+    number / divisor
+}
+
+/// By what a row and a pivot are taken for the entering line to cancel.
+#[derive(Clone, Copy, Debug)]
+pub struct Factors {
+    pub row: i64,
+    pub pivot: i64,
+}
+
+// The factors for a pivot of this size, where the entering line's number changes by n.
+fn factors_of(size: i64, n: i64) -> Factors
+    requires above { pos 0 <ℤ size }
+    requires fits { IsFitting size }
+    ensures { AreSharing size n result }
+{
+    let common = common_of(size, n);
+    Factors {
+        row: quotient(size, common),
+        pivot: quotient(n, common),
+    }
+}
+
+/// The product.
+pub(crate) fn product(small: i64, other: i64) -> i128
+    requires small { IsFitting small }
+    requires other { unsigned_abs other < 2 ^ 53 }
+    ensures value { result ≡ small *ℤ other }
+    ensures size { unsigned_abs result < 2 ^ 95 }
+    ensures factor { IsFitting other → IsFactor result }
+{
+    i128::from(small) * i128::from(other)
+}
+
+// The leaving line's number after the exchange.
+fn leaving_number(
+    line: &LineFacts,
+    pivot: &Pivot,
+    place: usize,
+    sum: &LevelSum,
+    factors: Factors,
+) -> i128
+    requires line { IsSmallFacts line.now }
+    requires sum { IsScaled sum.now }
+    requires leave { pivot.now.step.leave.at < length pivot.now.by.items }
+    requires fits { All IsFitting pivot.now.by.items }
+    requires row { IsFitting factors.row }
+    requires pivot { unsigned_abs factors.pivot < 2 ^ 53 }
+    ensures value { result ≡ factors.row *ℤ stood_of line.now pivot.now.step.leave.side place sum.now
+        +ℤ in_list pivot.now.by.items pivot.now.step.leave.at *ℤ factors.pivot }
+    ensures small { unsigned_abs result < 2 ^ 96 }
+{
+    let stood = stood_number(line, pivot.step.leave.side, place, sum);
+    let number = pivot.by[pivot.step.leave.at];
+    product(factors.row, stood) + product(number, factors.pivot)
+}
+
+// The row's numbers and the pivot's, so often, with this number at the leaving line.
+fn put_together(
+    alloc: Global,
+    pivot: &Pivot,
+    sum: &LevelSum,
+    factors: Factors,
+    leaving: i128,
+) -> Result<Wide, SumStop>
+    requires pivot { IsSizedPivot (length sum.now.by.items) pivot.now }
+    requires sum { IsSizedLevel (length sum.now.by.items) sum.now }
+    requires above { pos 0 <ℤ factors.row }
+    requires row { IsFitting factors.row }
+    requires factor { unsigned_abs factors.pivot < 2 ^ 53 }
+    requires leaving { unsigned_abs leaving < 2 ^ 96 }
+    ensures sized { IfOk result (IsWideLevel (length sum.now.by.items) sum.now.unit) }
+    ensures carried { IfOk result (IsCarriedBy pivot.now sum.now factors leaving) }
+    ensures memory { IfErr result (λ stop. stop ≡ stops.OutOfMemory) }
+{
+    let (row, factor) = (i128::from(factors.row), i128::from(factors.pivot));
+    let mut by = combined(alloc, row, &sum.by, factor, &pivot.by)?;
+    by[pivot.step.leave.at] = leaving;
+    by[pivot.step.enter.at] = 0;
+    let own = product(factors.row, sum.own);
+    Ok(Wide { own, by })
+}
+
+/// The row of the level at a place after an exchange, before it is divided.
+pub fn next_level_numbers(
+    alloc: Global,
+    frame: &Frame,
+    pivot: &Pivot,
+    place: usize,
+    sum: &LevelSum,
+) -> Result<Wide, SumStop>
+    requires frame { IsSizedFrame frame.now }
+    requires pivot { IsSizedPivot (length frame.now.lines.items) pivot.now }
+    requires place { place < length frame.now.levels.items }
+    requires sum { IsSizedLevel (length frame.now.lines.items) sum.now }
+    ensures sized { IfOk result (IsWideLevel (length frame.now.lines.items) sum.now.unit) }
+    ensures next { IfOk result (λ wide. (p : Problem) (at : List Mark) → IsFrame p frame.now
+        → IsTurnPivot p at pivot.now → IsLevelSum p at (number_at frame.now.levels.items place) sum.now
+        → IsMultipleAt p (next_marks p pivot.now at) (number_at frame.now.levels.items place)
+        sum.now.unit wide) }
+    ensures memory { IfErr result (λ stop. stop ≡ stops.OutOfMemory) }
+{
+    let n = entering_number(&frame.lines[pivot.step.enter.at], pivot, place, sum);
+    let factors = factors_of(pivot.size, n);
+    let leaves = &frame.lines[pivot.step.leave.at];
+    let leaving = leaving_number(leaves, pivot, place, sum, factors);
+    put_together(alloc, pivot, sum, factors, leaving)
+}

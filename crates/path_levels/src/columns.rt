@@ -1,0 +1,172 @@
+// The signs of columns.
+ghost use Rattle.std.specs.Prelude.{◌≡◌, ◌↔◌, ◌<◌, ◌^◌, ◌<ℤ◌, ℕ, pos, length, get_or, unsigned_abs, List};
+ghost use Rattle.std.specs.Prelude.{IsTrue, [], false};
+ghost use Rattle.problem_core.specs.Layout.{Problem};
+ghost use Rattle.problem_core.specs.Corners.{HasNegativeColumn, NoNegativeColumn};
+ghost use Rattle.problem_core.specs.declared.parts.Mark.{Mark};
+ghost use Rattle.path_checker.specs.Tables.{mark_of};
+ghost use Rattle.path_levels.specs.Frames.{IsSizedFrame};
+ghost use Rattle.path_levels.specs.Levels.{AreLevels, AreSizedLevels, IsSizedLevel};
+ghost use Rattle.path_levels.specs.Rows.{AreKept};
+ghost use Rattle.path_levels.specs.Costs.{AreSmall, HasLine, HasNegative, IsNegativeFirst, IsPriced};
+ghost use Rattle.path_levels.specs.Costs.{cost_in, cost_of, counted as counted_at, reduced_by};
+ghost use Rattle.path_levels.specs.Costs.{share_of, weight_of};
+ghost use Rattle.path_levels.specs.declared.sums.LevelSum.{LevelSum as KeptSum};
+
+use crate::frame::{Frame, LineFacts};
+use crate::sums::LevelSum;
+use path_checker::{Inside, Spot};
+use problem_core::Side;
+
+/// The parts of a level's row that its costs are counted by.
+#[derive(Clone, Copy, Debug)]
+pub(crate) struct Units {
+    pub unit: i64,
+    pub own: u128,
+}
+
+// What a deviation of the line on this side costs.
+fn weight(facts: &LineFacts, side: Side) -> i64
+    ensures { result ≡ weight_of side facts.now }
+{
+    match side {
+        Side::Under => facts.under,
+        Side::Over => facts.over,
+    }
+}
+
+// What it counts at the line's level.
+fn share(facts: &LineFacts, side: Side, unit: i64) -> u128
+    requires { pos 0 <ℤ facts.now.scale }
+    ensures { result ≡ share_of side (unsigned_abs unit) facts.now }
+{
+    let weight = u128::from(weight(facts, side).unsigned_abs());
+    u128::from(unit.unsigned_abs()) * weight / u128::from(facts.scale.unsigned_abs())
+}
+
+// The same `own` times, at the level at a place.
+fn counted(facts: &LineFacts, side: Side, place: usize, units: Units) -> u128
+    requires facts { IsPriced facts.now }
+    requires units { AreSmall units }
+    ensures value { result ≡ counted_at side place (unsigned_abs units.unit) units.own facts.now }
+    ensures small { result < 2 ^ 94 }
+{
+    if facts.level == place {
+        units.own * share(facts, side, units.unit)
+    } else {
+        0
+    }
+}
+
+// The reduced cost of an outside mark that counts so much, and whose line has this number.
+fn reduced(side: Side, count: u128, number: i128) -> i128
+    requires count { count < 2 ^ 94 }
+    requires number { unsigned_abs number < 2 ^ 126 }
+    ensures { result ≡ reduced_by side count number }
+{
+    let count = count as i128;
+    match side {
+        Side::Under => count - number,
+        Side::Over => count + number,
+    }
+}
+
+/// The reduced cost of an outside mark at the level at a place, where its line has this number.
+pub(crate) fn cost(facts: &LineFacts, side: Side, place: usize, units: Units, number: i128) -> i128
+    requires facts { IsPriced facts.now }
+    requires units { AreSmall units }
+    requires number { unsigned_abs number < 2 ^ 126 }
+    ensures { result ≡ cost_of side place (unsigned_abs units.unit) units.own facts.now number }
+{
+    reduced(side, counted(facts, side, place, units), number)
+}
+
+/// That of a line's mark, where it is outside.
+pub(crate) fn cost_at(facts: &LineFacts, spot: Spot, place: usize, sum: &LevelSum) -> i128
+    requires facts { IsPriced facts.now }
+    requires sum { IsSizedLevel (length sum.now.by.items) sum.now }
+    requires spot { spot.at < length sum.now.by.items }
+    ensures { result ≡ cost_in spot.side facts.now spot.at place sum.now }
+{
+    let units = Units {
+        unit: sum.unit,
+        own: u128::from(sum.own.unsigned_abs()),
+    };
+    cost(facts, spot.side, place, units, i128::from(sum.by[spot.at]))
+}
+
+// Whether the first of the mark's reduced costs that is not 0 is below 0.
+fn is_negative_first(facts: &LineFacts, levels: &[LevelSum], spot: Spot) -> bool
+    requires facts { IsPriced facts.now }
+    requires levels { (k : ℕ) (d : KeptSum) → k < length levels.now
+        → HasLine spot.at (get_or levels.now k d) }
+    ensures none { levels.now ≡ [] → result ≡ false }
+    ensures first { (d : KeptSum) → IsTrue result ↔ IsNegativeFirst (length levels.now)
+        (λ k. cost_in spot.side facts.now spot.at k (get_or levels.now k d)) }
+{
+    for (place, sum) in levels.iter().enumerate() {
+        let cost = cost_at(facts, spot, place, sum);
+        if cost != 0 {
+            return cost < 0;
+        }
+    }
+    false
+}
+
+/// Whether the column of a mark is negative at the corner.
+pub fn is_negative_column(
+    frame: &Frame,
+    lines: &[Option<Inside>],
+    levels: &[LevelSum],
+    spot: Spot,
+) -> bool
+    requires frame { IsSizedFrame frame.now }
+    requires count { length lines.now ≡ length frame.now.lines.items }
+    requires levels { AreSizedLevels (length lines.now) levels.now }
+    requires level_count { length levels.now ≡ length frame.now.levels.items }
+    requires spot { spot.at < length lines.now }
+    ensures { (p : Problem) (at : List Mark) → AreKept p at frame.now lines.now
+        → AreLevels p at frame.now levels.now → IsTrue result ↔ HasNegativeColumn p at (mark_of p spot) }
+{
+    match &lines[spot.at] {
+        Some(_) => false,
+        None => is_negative_first(&frame.lines[spot.at], levels, spot),
+    }
+}
+
+// Whether the column of a mark of the line is negative.
+fn has_negative_column(
+    frame: &Frame,
+    lines: &[Option<Inside>],
+    levels: &[LevelSum],
+    at: usize,
+) -> bool
+    requires frame { IsSizedFrame frame.now }
+    requires count { length lines.now ≡ length frame.now.lines.items }
+    requires levels { AreSizedLevels (length lines.now) levels.now }
+    requires level_count { length levels.now ≡ length frame.now.levels.items }
+    requires at { at < length lines.now }
+    ensures { (p : Problem) (marks : List Mark) → AreKept p marks frame.now lines.now
+        → AreLevels p marks frame.now levels.now → IsTrue result ↔ HasNegative p marks at }
+{
+    let (under, over) = (Side::Under, Side::Over);
+    is_negative_column(frame, lines, levels, Spot { at, side: under })
+        || is_negative_column(frame, lines, levels, Spot { at, side: over })
+}
+
+/// Whether no column is negative at the corner.
+pub fn has_no_negative_column(frame: &Frame, lines: &[Option<Inside>], levels: &[LevelSum]) -> bool
+    requires frame { IsSizedFrame frame.now }
+    requires count { length lines.now ≡ length frame.now.lines.items }
+    requires levels { AreSizedLevels (length lines.now) levels.now }
+    requires level_count { length levels.now ≡ length frame.now.levels.items }
+    ensures { (p : Problem) (at : List Mark) → AreKept p at frame.now lines.now
+        → AreLevels p at frame.now levels.now → IsTrue result ↔ NoNegativeColumn p at }
+{
+    for at in 0..lines.len() {
+        if has_negative_column(frame, lines, levels, at) {
+            return false;
+        }
+    }
+    true
+}

@@ -1,0 +1,50 @@
+//! What levels cost at the corners of a checked path: their rows, and what is judged by them.
+//!
+//! At a corner whose lines are kept (`path_checker`), a level is kept as one row of whole numbers over the
+//! outside lines, a [`LevelSum`], in lowest terms and fitting. [`first_levels`] makes the rows line by line
+//! where a route begins, [`next_levels`] carries them over an exchange. [`is_sound`], [`is_end`] and
+//! [`may_swap`] judge a corner by them; `path_claims` puts these answers together to the check of a path.
+//!
+//! ```
+//! let frame = Frame::of(alloc, &problem)?;                   // its lines, and its levels, strongest first
+//! let levels = first_levels(alloc, &frame, &lines)?;         // one row a level
+//! has_no_negative_column(&frame, &lines, &levels)            // whether the corner is at its best
+//! ```
+//!
+//! Linear programming's words: the rows of the levels are the objective rows of the tableau, one for each
+//! preemptive goal. A column is a mark's reduced costs, the strongest level first, and a corner is sound
+//! where it is feasible, on a dual path dual feasible. An exchange is called for where the pricing and the
+//! ratio test, or the dual ratio test, may choose it.
+//!
+//! A row has one number a line, each below 2^42 in size, 0 at inside lines, and its own unit is above 0.
+//! Want of room is never silent: a row is refused only where no writing of it fits.
+//!
+//! In reading order: `frame` (lines and levels in order), `sums` (a level's row), `rows` (levels line by
+//! line, by `joins` and `stays`), `turns` (after an exchange, by `pivots`, `moved`, `carried`, `shares`),
+//! `columns`, `columns_after` (signs), `ends` (what is judged at a corner).
+#![tactic(auto)]
+
+mod carried;
+mod columns;
+mod columns_after;
+mod ends;
+mod frame;
+mod joins;
+mod moved;
+mod pivots;
+mod rows;
+mod shares;
+mod stays;
+mod sums;
+mod turns;
+
+pub use carried::next_level_numbers;
+pub use columns::{has_no_negative_column, is_negative_column};
+pub use columns_after::has_no_negative_column_after;
+pub use ends::{is_end, is_sound, may_swap};
+pub use frame::{FIRST_STAY, Frame, LevelFacts, LineFacts};
+pub use moved::moved_value;
+pub use pivots::pivot_of;
+pub use rows::{RowsStop, UnfitRows, first_levels, level_of_lines};
+pub use sums::LevelSum;
+pub use turns::{Turn, next_level, next_levels};

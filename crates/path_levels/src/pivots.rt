@@ -1,0 +1,90 @@
+// The pivot of an exchange at a corner, of two lines or of the two marks of one.
+ghost use Rattle.std.specs.Prelude.{◌≡◌, ◌≢◌, ◌<◌, ◌↔◌, pos, length, set, true, List};
+ghost use Rattle.std.specs.Prelude.{IfOk, IfErr, IsTrue};
+ghost use Rattle.problem_core.specs.Layout.{Problem};
+ghost use Rattle.problem_core.specs.Corners.{IsExchange};
+ghost use Rattle.problem_core.specs.declared.parts.Mark.{Mark};
+ghost use Rattle.path_checker.specs.Numbers.{number_at};
+ghost use Rattle.path_checker.specs.Pivots.{IsSolvedFrom};
+ghost use Rattle.path_checker.specs.Sides.{IsWithin};
+ghost use Rattle.path_checker.specs.Tables.{AreLines, AreSized, IsSized, IsThere, swap_of};
+ghost use Rattle.frac_core.specs.Stops.{IsRefused};
+ghost use Rattle.frac_core.specs.declared.memory.Stop.TheVariants as stops;
+ghost use Rattle.path_levels.specs.Turns.{IsSizedPivot, IsTurnPivot, IsTurnedFrom};
+
+use frac_core::{Stop, Unfit};
+use path_checker::{Inside, Pivot, Step, Sum, SumStop, solving};
+use std::alloc::Global;
+
+// The list with another number at the place.
+fn with_number(alloc: Global, numbers: &[i64], at: usize, number: i64) -> Result<Vec<i64>, SumStop>
+    requires { at < length numbers.now }
+    ensures value { IfOk result (λ out. out.items ≡ set numbers.now at number) }
+    ensures memory { IfErr result (λ stop. stop ≡ stops.OutOfMemory) }
+{
+    let mut out = Vec::with_capacity(alloc, numbers.len())?;
+    out.extend_from_slice(numbers)?;
+    out[at] = number;
+    Ok(out)
+}
+
+// The pivot of an exchange of the two marks of one line: the line's own equation.
+fn turning(alloc: Global, sum: &Sum, step: Step) -> Result<Pivot, SumStop>
+    requires enter { step.enter.at < length sum.now.by.items }
+    requires sized { IsSized (length sum.now.by.items) sum.now }
+    ensures turned { IfOk result (IsTurnedFrom sum.now step) }
+    ensures memory { IfErr result (λ stop. stop ≡ stops.OutOfMemory) }
+{
+    let by = with_number(alloc, &sum.by, step.enter.at, -sum.own)?;
+    Ok(Pivot {
+        step,
+        is_turn: true,
+        size: sum.own,
+        by,
+        value: sum.value,
+        times: sum.own,
+    })
+}
+
+// Whether the number at the place is not 0.
+fn stands(by: &[i64], at: usize) -> bool
+    requires { at < length by.now }
+    ensures { IsTrue result ↔ (number_at by.now at ≢ pos 0) }
+{
+    by[at] != 0
+}
+
+// The pivot of an exchange with the leaving line's sum.
+fn pivot_from(alloc: Global, sum: &Sum, step: Step) -> Result<Pivot, SumStop>
+    requires enter { step.enter.at < length sum.now.by.items }
+    requires sized { IsSized (length sum.now.by.items) sum.now }
+    ensures turned { IfOk result (λ pivot. step.enter.at ≡ step.leave.at → IsTurnedFrom sum.now step pivot) }
+    ensures solved { IfOk result (λ pivot. step.enter.at ≢ step.leave.at → IsSolvedFrom sum.now step pivot) }
+    ensures unfit { IfErr result (λ stop. IsRefused stop → (step.enter.at ≢ step.leave.at)
+        × (number_at sum.now.by.items step.enter.at ≡ pos 0)) }
+{
+    if step.enter.at == step.leave.at {
+        return turning(alloc, sum, step);
+    }
+    if !stands(&sum.by, step.enter.at) {
+        return Err(Stop::Refused(Unfit));
+    }
+    solving(alloc, sum, step)
+}
+
+/// The pivot of an exchange, of two lines or of the two marks of one. Unfit where it is none.
+pub fn pivot_of(alloc: Global, lines: &[Option<Inside>], step: Step) -> Result<Pivot, SumStop>
+    requires lines { AreSized lines.now }
+    requires step { IsWithin (length lines.now) step }
+    ensures step { IfOk result (λ pivot. pivot.step ≡ step) }
+    ensures sized { IfOk result (IsSizedPivot (length lines.now)) }
+    ensures pivot { IfOk result (λ pivot. (p : Problem) (at : List Mark) → IsThere p at
+        → AreLines p at lines.now → IsExchange p at (swap_of p step) → IsTurnPivot p at pivot) }
+    ensures unfit { IfErr result (λ stop. IsRefused stop → (p : Problem) (at : List Mark) → IsThere p at
+        → AreLines p at lines.now → IsExchange p at (swap_of p step) → ⊥) }
+{
+    match &lines[step.leave.at] {
+        Some(inside) => pivot_from(alloc, &inside.sum, step),
+        None => Err(Stop::Refused(Unfit)),
+    }
+}

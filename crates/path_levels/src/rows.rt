@@ -1,0 +1,265 @@
+// The rows of levels, line by line.
+ghost use Rattle.std.specs.Prelude.{◌≡◌, ◌<◌, ◌≤◌, length, List, IfOk, IfErr};
+ghost use Rattle.problem_core.specs.declared.limits.TheConstants.{REQUIRED};
+ghost use Rattle.problem_core.specs.Layout.{Problem};
+ghost use Rattle.problem_core.specs.declared.parts.Mark.{Mark};
+ghost use Rattle.path_checker.specs.Tables.{AreSized};
+ghost use Rattle.path_levels.specs.Frames.{IsSizedFrame};
+ghost use Rattle.path_levels.specs.Levels.{AreLevels, AreSizedLevels, IsSizedLevel};
+ghost use Rattle.std.specs.Prelude.{◌+◌, ◌<ℤ◌, ◌*ℤ◌, pos, ℕ, All};
+ghost use Rattle.frac_core.specs.Stops.{IsRefused};
+ghost use Rattle.frac_core.specs.Fraction.{IsFitting};
+ghost use Rattle.frac_core.specs.declared.memory.Stop.TheVariants as stops;
+ghost use Rattle.path_levels.specs.Frames.{IsFrame, number_at};
+ghost use Rattle.path_levels.specs.Parts.{IsEmptySum, IsPartKept, IsPartSum, IsPartUnfit};
+ghost use Rattle.path_levels.specs.Parts.{level_there};
+ghost use Rattle.std.specs.Prelude.{◌≢◌, take, IfSome, IfNone};
+ghost use Rattle.std.specs.List.{HoldsAt};
+ghost use Rattle.path_checker.specs.Tables.{IsSizedLine};
+ghost use Rattle.path_levels.specs.StaySums.{IsStayRow, IsUnfitStay};
+ghost use Rattle.path_levels.specs.Rows.{AllRowsFit, AreKept, AreKeptOf, IsLevelsStop, IsRowsStop, IsRowsSum};
+ghost use Rattle.path_levels.specs.Rows.{unfit_rows};
+
+use crate::frame::{Frame, LineFacts};
+use crate::joins::{Draft, does_fit, joined};
+use crate::stays::inside_stay;
+use crate::sums::LevelSum;
+use frac_core::{Frac, OutOfMemory, Stop, Unfit};
+use path_checker::{Inside, SumStop};
+use problem_core::Level;
+use std::alloc::Global;
+use thiserror::Error;
+
+/// The cost of so many first rows of a level does not fit, and that of fewer does.
+#[derive(Clone, Copy, Debug, PartialEq, Eq, Error)]
+#[error("the cost of the first {first} rows of a level does not fit")]
+pub struct UnfitRows {
+    pub level: Level,
+    pub first: u32,
+}
+
+/// Why the rows of levels are not made: first rows of a level do not fit, or memory is wanting.
+pub type RowsStop = Stop<UnfitRows>;
+
+/// The rows of all levels at a corner, each line by line, or the first sum of first rows that does not fit
+/// there.
+pub fn first_levels(
+    alloc: Global,
+    frame: &Frame,
+    lines: &[Option<Inside>],
+) -> Result<Vec<LevelSum>, RowsStop>
+    requires frame { IsSizedFrame frame.now }
+    requires lines { AreSized lines.now }
+    requires count { length lines.now ≡ length frame.now.lines.items }
+    ensures sized { IfOk result (λ levels. AreSizedLevels (length lines.now) levels.items) }
+    ensures count { IfOk result (λ levels. length levels.items ≡ length frame.now.levels.items) }
+    ensures levels { IfOk result (λ levels. (p : Problem) (at : List Mark) → AreKept p at frame.now lines.now
+        → AreLevels p at frame.now levels.items) }
+    ensures fits { IfOk result (λ levels. (p : Problem) (at : List Mark) → AreKept p at frame.now lines.now
+        → AllRowsFit p at) }
+    ensures unfit { IfErr result (IsLevelsStop frame.now lines.now) }
+{
+    let mut levels = Vec::with_capacity(alloc, frame.levels.len())?;
+    for place in 0..frame.levels.len() {
+        levels.push(level_of_lines(alloc, frame, lines, place, u32::MAX)?)?;
+    }
+    Ok(levels)
+}
+
+/// The row of the level at a place, of its first lines, at most so many; or how many of them do not fit.
+pub fn level_of_lines(
+    alloc: Global,
+    frame: &Frame,
+    lines: &[Option<Inside>],
+    place: usize,
+    most: u32,
+) -> Result<LevelSum, RowsStop>
+    requires frame { IsSizedFrame frame.now }
+    requires lines { AreSized lines.now }
+    requires count { length lines.now ≡ length frame.now.lines.items }
+    requires place { place < length frame.now.levels.items }
+    ensures sized { IfOk result (IsSizedLevel (length lines.now)) }
+    ensures row { IfOk result (λ sum. (p : Problem) (at : List Mark)
+        → AreKeptOf p at frame.now place most lines.now → IsRowsSum p at frame.now place most sum) }
+    ensures unfit { IfErr result (IsRowsStop frame.now place most lines.now) }
+{
+    match frame.levels[place].level {
+        Level::Priority(_) => rows_level(alloc, frame, lines, place, most),
+        Level::Stay(_) => stay_level(alloc, frame, lines, place, most),
+    }
+}
+
+// A row of no numbers.
+fn empty_level(alloc: Global, count: usize) -> Result<LevelSum, OutOfMemory>
+    ensures sized { IfOk result (IsSizedLevel count) }
+    ensures empty { IfOk result (IsEmptySum count) }
+{
+    Ok(LevelSum {
+        unit: 1,
+        own: 1,
+        by: zeros(alloc, count)?,
+        cost: Frac::zero(),
+    })
+}
+
+// So many zeros.
+fn zeros(alloc: Global, count: usize) -> Result<Vec<i64>, OutOfMemory>
+    ensures count { IfOk result (λ out. length out.items ≡ count) }
+    ensures zero { IfOk result (λ out. All (λ z. z ≡ pos 0) out.items) }
+{
+    let mut out = Vec::with_capacity(alloc, count)?;
+    for _ in 0..count {
+        out.push(0)?;
+    }
+    Ok(out)
+}
+
+// The row of a level with one line more.
+fn with_line(
+    alloc: Global,
+    frame: &Frame,
+    lines: &[Option<Inside>],
+    at: usize,
+    old: &LevelSum,
+) -> Result<LevelSum, SumStop>
+    requires frame { IsSizedFrame frame.now }
+    requires lines { AreSized lines.now }
+    requires count { length lines.now ≡ length frame.now.lines.items }
+    requires at { at < length lines.now }
+    requires old { IsSizedLevel (length lines.now) old.now }
+    ensures sized { IfOk result (IsSizedLevel (length lines.now)) }
+    ensures row { IfOk result (λ sum. (p : Problem) (marks : List Mark) (place : ℕ)
+        → level_there frame.now at ≡ place → IsPartKept p marks frame.now place (at + 1) lines.now
+        → IsPartSum p marks frame.now place at old.now
+        → IsPartSum p marks frame.now place (at + 1) sum) }
+    ensures unfit { IfErr result (λ stop. IsRefused stop → (p : Problem) (marks : List Mark) (place : ℕ)
+        → level_there frame.now at ≡ place → IsPartKept p marks frame.now place (at + 1) lines.now
+        → IsPartSum p marks frame.now place at old.now
+        → IsPartUnfit p marks frame.now place (at + 1)) }
+{
+    let line = frame.lines[at];
+    let draft = joined(alloc, old, line, &lines[at])?;
+    if does_fit(frame, lines, line.level, &draft, at + 1) {
+        Ok(fitting_sum(draft))
+    } else {
+        Err(Stop::Refused(Unfit))
+    }
+}
+
+// The row that a draft is which fits.
+fn fitting_sum(draft: Draft) -> LevelSum
+    requires own { pos 0 <ℤ draft.own }
+    requires unit { pos 0 <ℤ draft.unit }
+    requires scale { IsFitting (draft.own *ℤ draft.unit) }
+    ensures unit { result.unit ≡ draft.unit }
+    ensures own { result.own ≡ draft.own }
+    ensures by { result.by.items ≡ draft.by.items }
+    ensures cost { result.cost ≡ draft.cost }
+{
+    LevelSum {
+        unit: draft.unit as i64,
+        own: draft.own,
+        by: draft.by,
+        cost: draft.cost,
+    }
+}
+
+// Why the first rows of a level have no row.
+fn rows_stop(stop: SumStop, level: Level, first: u32) -> RowsStop
+    ensures unfit { IsRefused stop → result ≡ unfit_rows level first }
+    ensures memory { stop ≡ stops.OutOfMemory → result ≡ stops.OutOfMemory }
+{
+    match stop {
+        Stop::Refused(_) => Stop::Refused(UnfitRows { level, first }),
+        Stop::OutOfMemory => Stop::OutOfMemory,
+    }
+}
+
+// The row of a level of rows, of its first ones.
+fn rows_level(
+    alloc: Global,
+    frame: &Frame,
+    lines: &[Option<Inside>],
+    place: usize,
+    most: u32,
+) -> Result<LevelSum, RowsStop>
+    requires frame { IsSizedFrame frame.now }
+    requires lines { AreSized lines.now }
+    requires count { length lines.now ≡ length frame.now.lines.items }
+    requires place { place < length frame.now.levels.items }
+    ensures sized { IfOk result (IsSizedLevel (length lines.now)) }
+    ensures row { IfOk result (λ sum. (p : Problem) (at : List Mark)
+        → number_at frame.now.levels.items place ≤ REQUIRED
+        → AreKeptOf p at frame.now place most lines.now → IsRowsSum p at frame.now place most sum) }
+    ensures unfit { IfErr result (λ stop. ((p : Problem) → IsFrame p frame.now
+        → number_at frame.now.levels.items place ≤ REQUIRED)
+        → IsRowsStop frame.now place most lines.now stop) }
+{
+    let mut sum = empty_level(alloc, lines.len())?;
+    let mut first = 0;
+    for at in 0..lines.len() {
+        if frame.lines[at].level == place && first < most {
+            first += 1;
+            match with_line(alloc, frame, lines, at, &sum) {
+                Ok(next) => sum = next,
+                Err(stop) => return Err(rows_stop(stop, frame.levels[place].level, first)),
+            }
+        }
+    }
+    Ok(sum)
+}
+
+// The place of the first line of a level.
+fn first_line(lines: &[LineFacts], place: usize) -> Option<usize>
+    ensures within { IfSome result (λ k. k < length lines.now) }
+    ensures found { IfSome result (HoldsAt (λ f. f.level ≡ place) lines.now) }
+    ensures before { IfSome result (λ k. All (λ f. f.level ≢ place) (take k lines.now)) }
+    ensures none { IfNone result (All (λ f. f.level ≢ place) lines.now) }
+{
+    lines.iter().position(|line| line.level == place)
+}
+
+// The row of a stay's level, as the stay is kept.
+fn stay_sum(alloc: Global, count: usize, line: &Option<Inside>) -> Result<LevelSum, SumStop>
+    requires { IsSizedLine count line.now }
+    ensures sized { IfOk result (IsSizedLevel count) }
+    ensures row { IfOk result (IsStayRow count line.now) }
+    ensures unfit { IfErr result (λ stop. IsRefused stop → IsUnfitStay line.now) }
+{
+    match line {
+        None => Ok(empty_level(alloc, count)?),
+        Some(inside) => inside_stay(alloc, inside),
+    }
+}
+
+// The row of a stay's level, of its one line, or of none.
+fn stay_level(
+    alloc: Global,
+    frame: &Frame,
+    lines: &[Option<Inside>],
+    place: usize,
+    most: u32,
+) -> Result<LevelSum, RowsStop>
+    requires frame { IsSizedFrame frame.now }
+    requires lines { AreSized lines.now }
+    requires count { length lines.now ≡ length frame.now.lines.items }
+    requires place { place < length frame.now.levels.items }
+    ensures sized { IfOk result (IsSizedLevel (length lines.now)) }
+    ensures row { IfOk result (λ sum. (p : Problem) (at : List Mark)
+        → REQUIRED < number_at frame.now.levels.items place
+        → AreKeptOf p at frame.now place most lines.now → IsRowsSum p at frame.now place most sum) }
+    ensures unfit { IfErr result (λ stop. ((p : Problem) → IsFrame p frame.now
+        → REQUIRED < number_at frame.now.levels.items place)
+        → IsRowsStop frame.now place most lines.now stop) }
+{
+    let Some(at) = first_line(&frame.lines, place) else {
+        return Ok(empty_level(alloc, lines.len())?);
+    };
+    if most == 0 {
+        return Ok(empty_level(alloc, lines.len())?);
+    }
+    match stay_sum(alloc, lines.len(), &lines[at]) {
+        Ok(sum) => Ok(sum),
+        Err(stop) => Err(rows_stop(stop, frame.levels[place].level, 1)),
+    }
+}

@@ -1,0 +1,253 @@
+// The rows of levels after an exchange.
+ghost use Rattle.std.specs.Prelude.{◌≡◌, ◌<◌, ◌^◌, ◌*ℤ◌, ◌↔◌};
+ghost use Rattle.std.specs.Prelude.{length, List, IfOk, IfErr, IfSome, IfNone, IsTrue};
+ghost use Rattle.std.specs.Prelude.{unsigned_abs};
+ghost use Rattle.frac_core.specs.Stops.{IsRefused};
+ghost use Rattle.frac_core.specs.Fraction.{IsFitting};
+ghost use Rattle.problem_core.specs.Layout.{Problem};
+ghost use Rattle.problem_core.specs.Levels.{HasNoLevelWriting};
+ghost use Rattle.problem_core.specs.Corners.{IsExchange, exchanged};
+ghost use Rattle.problem_core.specs.declared.parts.Mark.{Mark};
+ghost use Rattle.path_checker.specs.Sides.{IsWithin};
+ghost use Rattle.path_checker.specs.Tables.{AreSized, swap_of};
+ghost use Rattle.path_levels.specs.Frames.{IsSizedFrame, number_at};
+ghost use Rattle.path_levels.specs.Levels.{AreLevels, AreSizedLevels, HasUnfitLevel, IsLevelSum};
+ghost use Rattle.path_levels.specs.Levels.{IsSizedLevel};
+ghost use Rattle.path_levels.specs.Rows.{AreKept};
+ghost use Rattle.path_levels.specs.Shares.{IsScaled, IsSmallFacts, entering_of, shown_of};
+ghost use Rattle.path_levels.specs.Turns.{IsSizedPivot};
+ghost use Rattle.path_levels.specs.FitsAfter.{IsCostStop, IsFitLevel, IsFitLine, IsMadeLevel, IsMovedCost};
+ghost use Rattle.path_levels.specs.FitsAfter.{side_of_after};
+
+use crate::carried::{entering_number, next_level_numbers, product};
+use crate::frame::{Frame, LineFacts};
+use crate::moved::moved_value;
+use crate::pivots::pivot_of;
+use crate::shares::{has_fitting_cost, stood_number};
+use crate::sums::LevelSum;
+use frac_core::{Frac, PART_BOUND, Stop, Unfit};
+use path_checker::{Inside, Lowest, Pivot, Ratio, Step, SumStop, in_lowest_terms};
+use problem_core::Side;
+use std::alloc::Global;
+
+/// An exchange at a corner with these lines.
+#[derive(Clone, Copy, Debug)]
+pub struct Turn<'a> {
+    pub lines: &'a [Option<Inside>],
+    pub step: Step,
+}
+
+// Which mark of the line at a place is inside after the exchange.
+fn side_after(lines: &[Option<Inside>], pivot: &Pivot, at: usize) -> Option<Side>
+    requires { at < length lines.now }
+    ensures { result ≡ side_of_after lines.now pivot.now at }
+{
+    if at == pivot.step.enter.at {
+        return Some(pivot.step.enter.side);
+    }
+    if at == pivot.step.leave.at {
+        return None;
+    }
+    match &lines[at] {
+        Some(inside) => Some(inside.side),
+        None => None,
+    }
+}
+
+// The line's number in the level's row, where a mark of this side is inside.
+fn shown_number(
+    line: &LineFacts,
+    inside: Option<Side>,
+    place: usize,
+    sum: &LevelSum,
+    number: i64,
+) -> i64
+    requires line { IsSmallFacts line.now }
+    requires sum { IsScaled sum.now }
+    requires number { IsFitting number }
+    ensures value { result ≡ shown_of line.now inside place sum.now number }
+    ensures small { unsigned_abs result < 2 ^ 52 }
+{
+    match inside {
+        Some(side) => stood_number(line, side, place, sum),
+        None => number,
+    }
+}
+
+// Whether both reduced costs of the line fit, if it is of the level.
+fn line_fits(
+    line: &LineFacts,
+    inside: Option<Side>,
+    place: usize,
+    sum: &LevelSum,
+    number: i64,
+) -> bool
+    requires line { IsSmallFacts line.now }
+    requires sum { IsScaled sum.now }
+    requires number { IsFitting number }
+    ensures { IsTrue result ↔ IsFitLine line.now inside place sum.now number }
+{
+    if line.level != place {
+        return true;
+    }
+    let shown = shown_number(line, inside, place, sum, number);
+    has_fitting_cost(line, Side::Under, place, sum, shown)
+        && has_fitting_cost(line, Side::Over, place, sum, shown)
+}
+
+// Whether the scale fits.
+fn scale_fits(sum: &LevelSum) -> bool
+    requires own { IsFitting sum.now.own }
+    requires unit { IsFitting sum.now.unit }
+    ensures { IsTrue result ↔ IsFitting (sum.now.own *ℤ sum.now.unit) }
+{
+    product(sum.own, sum.unit).unsigned_abs() < PART_BOUND
+}
+
+// Whether the row fits after the exchange.
+fn level_fits(
+    frame: &Frame,
+    lines: &[Option<Inside>],
+    pivot: &Pivot,
+    place: usize,
+    sum: &LevelSum,
+) -> bool
+    requires frame { IsSizedFrame frame.now }
+    requires count { length lines.now ≡ length frame.now.lines.items }
+    requires sum { IsMadeLevel (length lines.now) sum.now }
+    ensures { IsTrue result ↔ IsFitLevel frame.now lines.now pivot.now place sum.now }
+{
+    if !scale_fits(sum) {
+        return false;
+    }
+    for (at, line) in frame.lines.iter().enumerate() {
+        if !line_fits(line, side_after(lines, pivot, at), place, sum, sum.by[at]) {
+            return false;
+        }
+    }
+    true
+}
+
+// The number, if it fits.
+fn fitting(number: i64) -> Option<i64>
+    ensures some { IfSome result (λ n. (n ≡ number) × IsFitting n) }
+    ensures none { IfNone result (IsFitting number → ⊥) }
+{
+    if u128::from(number.unsigned_abs()) >= PART_BOUND {
+        return None;
+    }
+    Some(number)
+}
+
+// The level's cost after the exchange, of which the entering line has these facts.
+fn cost_after(
+    line: &LineFacts,
+    pivot: &Pivot,
+    place: usize,
+    sum: &LevelSum,
+) -> Result<Frac, SumStop>
+    requires line { IsSmallFacts line.now }
+    requires pivot { IsSizedPivot (length sum.now.by.items) pivot.now }
+    requires sum { IsSizedLevel (length sum.now.by.items) sum.now }
+    ensures cost { IfOk result
+        (IsMovedCost (entering_of line.now pivot.now place sum.now) pivot.now sum.now) }
+    ensures stop { IfErr result
+        (IsCostStop (entering_of line.now pivot.now place sum.now) pivot.now sum.now) }
+{
+    let Some(n) = fitting(entering_number(line, pivot, place, sum)) else {
+        return Err(Stop::Refused(Unfit));
+    };
+    let ratio = Ratio {
+        times: product(n, pivot.times),
+        over: product(sum.own * sum.unit, pivot.size),
+    };
+    match moved_value(sum.cost, ratio, pivot.value) {
+        Ok(cost) => Ok(cost),
+        Err(_) => Err(Stop::Refused(Unfit)),
+    }
+}
+
+// A row in lowest terms with its cost.
+fn level_with(unit: i64, numbers: Lowest, cost: Frac) -> LevelSum
+    ensures unit { result.unit ≡ unit }
+    ensures own { result.own ≡ numbers.own }
+    ensures by { result.by.items ≡ numbers.by.items }
+    ensures cost { result.cost ≡ cost }
+{
+    LevelSum {
+        unit,
+        own: numbers.own,
+        by: numbers.by,
+        cost,
+    }
+}
+
+/// The row of the level at a place after an exchange, or its cost does not fit there.
+pub fn next_level(
+    alloc: Global,
+    frame: &Frame,
+    turn: Turn<'_>,
+    place: usize,
+    sum: &LevelSum,
+) -> Result<LevelSum, SumStop>
+    requires frame { IsSizedFrame frame.now }
+    requires lines { AreSized turn.lines.now }
+    requires count { length turn.lines.now ≡ length frame.now.lines.items }
+    requires step { IsWithin (length turn.lines.now) turn.step }
+    requires place { place < length frame.now.levels.items }
+    requires sum { IsSizedLevel (length turn.lines.now) sum.now }
+    ensures sized { IfOk result (IsSizedLevel (length turn.entry.lines.now)) }
+    ensures next { IfOk result (λ next. (p : Problem) (at : List Mark)
+        → AreKept p at frame.now turn.entry.lines.now
+        → IsLevelSum p at (number_at frame.now.levels.items place) sum.now
+        → IsExchange p at (swap_of p turn.entry.step)
+        → IsLevelSum p (exchanged (swap_of p turn.entry.step) at)
+        (number_at frame.now.levels.items place) next) }
+    ensures unfit { IfErr result (λ stop. IsRefused stop → (p : Problem) (at : List Mark)
+        → AreKept p at frame.now turn.entry.lines.now
+        → IsLevelSum p at (number_at frame.now.levels.items place) sum.now
+        → IsExchange p at (swap_of p turn.entry.step)
+        → HasNoLevelWriting p (exchanged (swap_of p turn.entry.step) at)
+        (number_at frame.now.levels.items place)) }
+{
+    let pivot = pivot_of(alloc, turn.lines, turn.step)?;
+    let wide = next_level_numbers(alloc, frame, &pivot, place, sum)?;
+    let numbers = in_lowest_terms(alloc, &wide)?;
+    let cost = cost_after(&frame.lines[turn.step.enter.at], &pivot, place, sum)?;
+    let next = level_with(sum.unit, numbers, cost);
+    if !level_fits(frame, turn.lines, &pivot, place, &next) {
+        return Err(Stop::Refused(Unfit));
+    }
+    Ok(next)
+}
+
+/// The rows of all levels after an exchange, or the cost of one of them does not fit there.
+pub fn next_levels(
+    alloc: Global,
+    frame: &Frame,
+    turn: Turn<'_>,
+    levels: &[LevelSum],
+) -> Result<Vec<LevelSum>, SumStop>
+    requires frame { IsSizedFrame frame.now }
+    requires lines { AreSized turn.lines.now }
+    requires count { length turn.lines.now ≡ length frame.now.lines.items }
+    requires step { IsWithin (length turn.lines.now) turn.step }
+    requires levels { AreSizedLevels (length turn.lines.now) levels.now }
+    requires level_count { length levels.now ≡ length frame.now.levels.items }
+    ensures sized { IfOk result (λ next. AreSizedLevels (length turn.entry.lines.now) next.items) }
+    ensures level_count { IfOk result (λ next. length next.items ≡ length frame.now.levels.items) }
+    ensures next { IfOk result (λ next. (p : Problem) (at : List Mark)
+        → AreKept p at frame.now turn.entry.lines.now → AreLevels p at frame.now levels.now
+        → IsExchange p at (swap_of p turn.entry.step)
+        → AreLevels p (exchanged (swap_of p turn.entry.step) at) frame.now next.items) }
+    ensures unfit { IfErr result (λ stop. IsRefused stop → (p : Problem) (at : List Mark)
+        → AreKept p at frame.now turn.entry.lines.now → AreLevels p at frame.now levels.now
+        → IsExchange p at (swap_of p turn.entry.step)
+        → HasUnfitLevel p (exchanged (swap_of p turn.entry.step) at)) }
+{
+    let mut out = Vec::with_capacity(alloc, levels.len())?;
+    for (place, sum) in levels.iter().enumerate() {
+        out.push(next_level(alloc, frame, turn, place, sum)?)?;
+    }
+    Ok(out)
+}
