@@ -1,7 +1,8 @@
 -- The lines that are still to come, and what a feed keeps of them.
-use Rattle.std.specs.Prelude.{◌≡◌, ℕ, ◌≤◌, ◌==◌, Bool, true, false, cond, nat_le, List, [], ◌∷◌}
+use Rattle.std.specs.Prelude.{◌≡◌, ℕ, ◌+◌, ◌≤◌, ◌==◌, Bool, true, false, cond, nat_le, List, [], ◌∷◌}
 use Rattle.std.specs.Prelude.{◌++◌, length, map, All, Option, Some, None}
 use Rattle.std.specs.Str.Lines.{lines}
+use Rattle.edge_io.specs.declared.feed.TheConstants.{LINE_LIMIT}
 
 -- the bytes that were taken and neither given nor given up, and whether the beginning of a line that is too
 -- long was given up
@@ -24,11 +25,11 @@ IsUnended bytes = All (λ b. (b == 10) ≡ false) bytes
 -- no line ends in what is pending, and it is no longer than a line with a byte 13 at its end
 pub record IsOpen (p : Pending) : Type 0 where
   pub unended : IsUnended p.bytes
-  pub small : length p.bytes ≤ 4097
+  pub small : length p.bytes ≤ LINE_LIMIT + 1
 
 -- how a line is given: none stands for one that is too long
 abbrev pub given_as : List ℕ → Option (List ℕ)
-given_as line = cond (nat_le (length line) 4096) (Some line) None
+given_as line = cond (nat_le (length line) LINE_LIMIT) (Some line) None
 
 -- the lines of these bytes as they are given
 abbrev pub pieces_of : List ℕ → List (Option (List ℕ))

@@ -1,10 +1,11 @@
 -- What the calls of a feed do.
-use Rattle.std.specs.Prelude.{◌≡◌, ◌⊎◌, ℕ, ◌<◌, ◌≤◌, true, false, cond, List, [], ◌∷◌, ◌++◌, length}
+use Rattle.std.specs.Prelude.{◌≡◌, ◌⊎◌, ℕ, ◌+◌, ◌<◌, ◌≤◌, true, false, cond, List, [], ◌∷◌, ◌++◌, length}
 use Rattle.std.specs.Prelude.{Option, Some, None, IfSome, IfNone}
 use Rattle.std.specs.Io.KnownBytes.{Consumes, IsAtEnd}
 use Rattle.std.specs.Str.Lines.{strip_carriage_return}
 use Rattle.edge_io.specs.Feed.{Pending, nothing, cut, IsUnended, IsOpen, given_as, to_come}
 use Rattle.edge_io.specs.declared.feed.Piece.{Piece}
+use Rattle.edge_io.specs.declared.feed.TheConstants.{LINE_LIMIT}
 use Rattle.edge_io.specs.declared.feed.Piece.TheVariants.{Line, Long}
 
 -- a piece's line; none where it is too long
@@ -34,8 +35,8 @@ pub record Gives (old : Pending) (piece : Option (List ℕ)) (new : Pending) : T
 -- no line ends in what was pending; it is given up where it is the beginning of a line that is too long
 pub record Waits (old new : Pending) : Type 0 where
   pub unended : IsUnended old.bytes
-  pub long : (old.is_cut ≡ true) ⊎ (4097 < length old.bytes) → new ≡ cut
-  pub short : old.is_cut ≡ false → length old.bytes ≤ 4097 → new ≡ old
+  pub long : (old.is_cut ≡ true) ⊎ (LINE_LIMIT + 1 < length old.bytes) → new ≡ cut
+  pub short : old.is_cut ≡ false → length old.bytes ≤ LINE_LIMIT + 1 → new ≡ old
   pub ready : IsOpen new
   pub follows : (more : List ℕ) → to_come new more ≡ to_come old more
 

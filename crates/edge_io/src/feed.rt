@@ -40,12 +40,13 @@ pub struct Feed {
 impl Model for Feed {
     ghost use Rattle.std.specs.Prelude.{◌≡◌, ◌≤◌, vec_len, slice_range};
     ghost use Rattle.edge_io.specs.Feed.{Pending};
+    ghost use Rattle.edge_io.specs.declared.feed.TheConstants.{ROOM};
 
     ghost Value = { Pending };
 
     ghost view = { λ f. record { bytes = slice_range f.buffer.items f.start f.end; is_cut = f.is_cut } };
 
-    ghost invariant = { λ f. (f.start ≤ f.end) × (f.end ≤ vec_len f.buffer) × (vec_len f.buffer ≡ 8192) };
+    ghost invariant = { λ f. (f.start ≤ f.end) × (f.end ≤ vec_len f.buffer) × (vec_len f.buffer ≡ ROOM) };
 }
 
 impl Feed {

@@ -4,7 +4,7 @@
 //! ```
 //! let mut source = MemorySource::new(bytes, sizes, fails); // `one`, an end of line, and `two`
 //! let mut feed = Feed::new(alloc)?;
-//! feed.fill(&mut source, 4096)?;                // 7
+//! feed.fill(&mut source, 100)?;                 // 7
 //! feed.next();                                  // Some(Piece::Line(b"one"))
 //! feed.next();                                  // None: no line ends in `two`
 //! feed.end();                                   // Some(Piece::Line(b"two"))

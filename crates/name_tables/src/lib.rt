@@ -10,8 +10,8 @@
 //! metrics.define("gap", Frac::zero())           // Err(NameStop::Taken), and the metric is 8 as before
 //! ```
 //!
-//! Invariant: no name stands twice, and there are at most so many as the limit says, 500 of metrics. After a
-//! refusal all is as before.
+//! Invariant: no name stands twice, and there are at most so many as the limit says, [`METRIC_LIMIT`] of
+//! metrics. After a refusal all is as before.
 //!
 //! In reading order: `stops` (why a call is refused, and the limits of a scene by name), `owned_name` (a
 //! name that outlives its text), `name_map`, `names`, `metrics`.

@@ -14,7 +14,8 @@ use std::marker::Model;
 /// How many metrics there may be.
 pub const METRIC_LIMIT: usize = 500;
 
-/// The metrics in order of definition: distinct names, each with a number in points. There are at most 500.
+/// The metrics in order of definition: distinct names, each with a number in points. There are at most
+/// [`METRIC_LIMIT`].
 #[derive(Drop)]
 pub struct Metrics {
     table: NameMap<Frac>,
@@ -67,8 +68,8 @@ impl Metrics {
 
     /// Defines a metric, which goes to the end.
     ///
-    /// `Taken` where there is a metric of that name, otherwise `Full` where there are 500. After a refusal
-    /// all is as before.
+    /// `Taken` where there is a metric of that name, otherwise `Full` where there are [`METRIC_LIMIT`]. After
+    /// a refusal all is as before.
     pub fn define(&mut self, name: &str, value: Frac) -> Result<(), NameStop>
         ensures new { OnOk result (IsNew METRIC_LIMIT (names_of self.old) name.now) }
         ensures added { OnOk result (self.new ≡ self.old ++ (name.now, value) ∷ []) }

@@ -1,16 +1,21 @@
 // Why a name is refused.
 use frac_core::OutOfMemory;
+use thiserror::Error;
 
 /// Why a table of names refuses a call.
-#[derive(Clone, Copy, Debug, PartialEq, Eq)]
+#[derive(Clone, Copy, Debug, PartialEq, Eq, Error)]
 pub enum NameStop {
     /// The table has the name.
+    #[error("the name is taken")]
     Taken,
     /// The table has as many names as it may have.
+    #[error("there are as many names as there may be")]
     Full,
     /// The table doesn't have the name.
+    #[error("there is no such name")]
     Unknown,
     /// Memory is wanting.
+    #[error("memory is wanting")]
     OutOfMemory,
 }
 

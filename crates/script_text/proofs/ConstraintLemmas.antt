@@ -5,49 +5,48 @@ use Rattle.std.specs.Prelude.{codes, pos}
 use Rattle.span_text.specs.Language.{Rel, End, Or, Answers}
 use Rattle.span_text.specs.Classes.{is_space, is_digit, is_word, is_letter}
 use Rattle.span_text.specs.Reading.{◌>>=◌, end_at}
-use Rattle.span_text.specs.Tokens.{Gap, Word, Sign, Name, Number, Whole, is_point, skip}
+use Rattle.span_text.specs.Tokens.{Blanks, Word, Sign, Name, Number, Whole, is_point, skip}
 use Rattle.span_text.specs.Multiples.{is_slash}
 use Rattle.span_text.proofs.PieceLemmas.{Lives, begins, end_answers, or_answers, Never}
-use Rattle.span_text.proofs.TokensLemmas.{bind_assoc, bind_cond, end_lives, gap_lives, name_lives, whole_lives, words_lives, table_outside, words_never, lit_only, lit_never, one_only, end_never, or_never, left_lives, right_lives, gap_answers, sign_answers, word_answers, name_answers, number_answers, whole_answers, number_never}
+use Rattle.span_text.proofs.TokensLemmas.{bind_assoc, bind_cond, end_lives, blanks_lives, name_lives, whole_lives, words_lives, table_outside, words_never, lit_only, lit_never, one_only, end_never, or_never, left_lives, right_lives, blanks_answers, sign_answers, word_answers, name_answers, number_answers, whole_answers, number_never}
 use Rattle.script_text.specs.Meaning.{Term, Linear, Meaning}
 use Rattle.span_text.specs.Objects.{Meant}
 use Rattle.span_text.specs.Objects as object
 use Rattle.script_text.specs.Meaning as mean
-use Rattle.script_text.specs.Grammar.{relations, Expression, Relation, Priority, Weight, LinearText, Arguments}
-use Rattle.script_text.specs.LineReading.{is_star, is_plus, is_minus, is_at, is_w, relation_at, object_at, priority_at, weight_at, behind_priority_at, behind_right_at, behind_relation_at, behind_left_at, linear_at, constrain_at}
+use Rattle.script_text.specs.Grammar.{linear, Expression, Relation, Priority, Weight, LinearText, Arguments}
+use Rattle.script_text.specs.LineReading.{is_star, is_plus, is_w, relation_at, object_at, priority_at, weight_at, expression_at, linear_at, constrain_at}
+use Rattle.vfl_text.specs.Reading.{is_minus, is_at}
 use Rattle.problem_core.specs.declared.parts.Rel as parts
+use Rattle.vfl_text.specs.Grammar.{relations}
 use Rattle.script_text.specs.declared.words.Keyword.TheVariants as key
 use Rattle.script_text.proofs.Tables.{IsTable, table_answers}
 use Rattle.script_text.proofs.SumLemmas.{Ends, expression_lives, expression_answers}
 
 relations_table : IsTable relations
-unfolding relations
 relations_table = record { full = refl; free = refl; bytes = refl }
 
 relations_outside : table_outside is_space relations ≡ true
-unfolding relations
 relations_outside = refl
 
 relation_lives : {A : Type 0} (F : parts.Rel → Rel A) → ((r : parts.Rel) → Lives is_space (F r)) → Lives is_space (Relation F)
-relation_lives F lives = words_lives (λ r. Gap (F r)) is_space relations relations_outside relations_table.bytes (λ r. begins (gap_lives is_word refl (lives r)))
+relation_lives F lives = words_lives (λ r. Blanks (F r)) is_space relations relations_outside relations_table.bytes (λ r. begins (blanks_lives is_word refl (lives r)))
 
 relation_answers : {A : Type 0} (F : parts.Rel → Rel A) (k : parts.Rel → List ℕ → Result A ℕ) → ((r : parts.Rel) → Lives is_space (F r)) → ((r : parts.Rel) (t : List ℕ) → Answers (F r) t (k r t))
     → (s : List ℕ) → Answers (Relation F) s (relation_at s >>= λ r. k r.0 r.1)
 unfolding relation_at
-relation_answers F k lives goes s = rw bind_assoc (table_answers (λ r. Gap (F r)) (λ r t. k r (skip t)) (λ r. begins (gap_lives is_word refl (lives r))) s
-    (λ r t h. gap_answers (F r) (k r) (lives r) t (λ u i. goes r u)) relations relations_table)
+relation_answers F k lives goes s = rw bind_assoc (table_answers (λ r. Blanks (F r)) (λ r t. k r (skip t)) (λ r. begins (blanks_lives is_word refl (lives r))) s
+    (λ r t h. blanks_answers (F r) (k r) (lives r) t (λ u i. goes r u)) relations relations_table)
 
 relation_ends : {A : Type 0} (F : parts.Rel → Rel A) → ((r : parts.Rel) → Lives is_space (F r)) → Ends (Relation F)
-unfolding relations
 relation_ends F lives = record {
   follows = record {
     lives = relation_lives F lives;
-    no_point = words_never (λ r. Gap (F r)) is_point relations refl;
-    no_slash = words_never (λ r. Gap (F r)) is_slash relations refl;
-    no_star = words_never (λ r. Gap (F r)) is_star relations refl;
+    no_point = words_never (λ r. Blanks (F r)) is_point relations refl;
+    no_slash = words_never (λ r. Blanks (F r)) is_slash relations refl;
+    no_star = words_never (λ r. Blanks (F r)) is_star relations refl;
   };
-  no_plus = words_never (λ r. Gap (F r)) is_plus relations refl;
-  no_minus = words_never (λ r. Gap (F r)) is_minus relations refl;
+  no_plus = words_never (λ r. Blanks (F r)) is_plus relations refl;
+  no_minus = words_never (λ r. Blanks (F r)) is_minus relations refl;
 }
 
 letter_is_no_digit : (b : ℕ) → is_digit b ≡ true → is_letter b ≡ false
@@ -93,9 +92,27 @@ weight_answers F k lives never goes s = rw bind_cond (or_answers is_w (Word (cod
     (λ t h. whole_answers (λ n. F n) k lives t (λ n u i. goes n u))))
     (goes 1 s))
 
--- a constraint's parts
-abbrev linear : List Term → parts.Rel → List Term → Option Meant → ℕ → Linear
-linear l r e p w = record { left = l; rel = r; right = e; priority = p; weight = w }
+-- ---- a constraint from its left side on
+
+abbrev with_weight : List Term → parts.Rel → List Term → Option Meant → ℕ × List ℕ → Result (Linear × List ℕ) ℕ
+with_weight l r e p w = Ok (linear l r e p w.0, w.1)
+
+-- behind the priority, behind the right side, behind the relation, behind the left side
+unfoldable behind_priority_at : List Term → parts.Rel → List Term → Option Meant → List ℕ → Result (Linear × List ℕ) ℕ
+behind_priority_at l r e p s = weight_at s >>= with_weight l r e p
+
+unfoldable behind_right_at : List Term → parts.Rel → List Term → List ℕ → Result (Linear × List ℕ) ℕ
+behind_right_at l r e s = priority_at s >>= λ p. behind_priority_at l r e p.0 p.1
+
+unfoldable behind_relation_at : List Term → parts.Rel → List ℕ → Result (Linear × List ℕ) ℕ
+behind_relation_at l r s = expression_at s >>= λ e. behind_right_at l r e.0 e.1
+
+unfoldable behind_left_at : List Term → List ℕ → Result (Linear × List ℕ) ℕ
+behind_left_at l s = relation_at s >>= λ r. behind_relation_at l r.0 r.1
+
+linear_behind : (s : List ℕ) → linear_at s ≡ (expression_at s >>= λ l. behind_left_at l.0 l.1)
+unfolding linear_at behind_left_at behind_relation_at behind_right_at behind_priority_at
+linear_behind s = refl
 
 module _ (n : List ℕ) where
   abbrev Final : List Term → parts.Rel → List Term → Option Meant → ℕ → Rel Meaning
@@ -159,8 +176,7 @@ module _ (n : List ℕ) where
   behind_left_answers l s = rw bind_assoc (relation_answers (Right l) (λ r t. behind_relation_at l r t >>= λ r. ended r.0 r.1) (right_lives_too l) (λ r t. behind_relation_answers l r t) s)
 
   pub linear_answers : (s : List ℕ) → Answers (LinearText (λ l. End (mean.Constrain n l))) s (linear_at s >>= λ r. ended r.0 r.1)
-  unfolding linear_at
-  linear_answers s = rw bind_assoc (expression_answers (λ l. Relation (Right l)) (λ l t. behind_left_at l t >>= λ r. ended r.0 r.1) left_ends (λ l t. behind_left_answers l t) s)
+  linear_answers s = rw (linear_behind s, bind_assoc) (expression_answers (λ l. Relation (Right l)) (λ l t. behind_left_at l t >>= λ r. ended r.0 r.1) left_ends (λ l t. behind_left_answers l t) s)
 
 pub constrain_answers : (len : ℕ) (s : List ℕ) → Answers (Arguments len key.Constrain) s (constrain_at s)
 unfolding constrain_at

@@ -6,7 +6,7 @@ use Rattle.span_text.specs.Classes.{is_space}
 use Rattle.span_text.specs.Reading.{◌>>=◌}
 use Rattle.span_text.specs.Tokens.{Word, Sign, Name, Number, skip}
 use Rattle.span_text.proofs.PieceLemmas.{Lives, begins, lit_answers, or_answers}
-use Rattle.span_text.proofs.TokensLemmas.{end_lives, name_lives, number_lives, whole_lives, right_lives, gap_answers, lit_only, end_never, or_never, table_inside, table_apart, words_only, words_never}
+use Rattle.span_text.proofs.TokensLemmas.{end_lives, name_lives, number_lives, whole_lives, right_lives, blanks_answers, lit_only, end_never, or_never, table_inside, table_apart, words_only, words_never}
 use Rattle.span_text.proofs.Offsets.{answers_ok, answers_err, stops_leaves}
 use Rattle.script_text.specs.Meaning.{Meaning}
 use Rattle.script_text.specs.Meaning as mean
@@ -92,7 +92,7 @@ module _ (words : List (List ℕ × Keyword)) (are : AreCommands words) where
       (command_answers len s) (bare_answers mean.Nothing s))
 
   of_answers : (len : ℕ) (s : List ℕ) → Answers (LineOf words len) s (content_at words len (skip s))
-  of_answers len s = gap_answers (Or (Lit (codes "#") (Any mean.Nothing)) (Or (Command len) (End mean.Nothing))) (content_at words len)
+  of_answers len s = blanks_answers (Or (Lit (codes "#") (Any mean.Nothing)) (Or (Command len) (End mean.Nothing))) (content_at words len)
       (right_lives is_space (Lit (codes "#") (Any mean.Nothing)) (content_lives len)) s (λ t i. content_answers len t)
 
   pub line_answers : (s : List ℕ) → Answers (Line words) s (line_at words s)

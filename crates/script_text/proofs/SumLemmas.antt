@@ -17,7 +17,8 @@ use Rattle.script_text.specs.Fractions.{lowest}
 use Rattle.script_text.specs.Meaning.{Operand, Term}
 use Rattle.script_text.specs.Meaning as mean
 use Rattle.script_text.specs.Grammar.{attributes, decimal, times, Attribute, Variable, TermText, Behind, Expression}
-use Rattle.script_text.specs.LineReading.{is_star, is_plus, is_minus, term_at, next_at, behind_at, first_at, expression_at}
+use Rattle.script_text.specs.LineReading.{is_star, is_plus, term_at, next_at, behind_at, first_at, expression_at}
+use Rattle.vfl_text.specs.Reading.{is_minus}
 use Rattle.script_text.proofs.VariableLemmas.{Follows, Multiplied, Product, term_lives, term_answers}
 
 once_variable : {S A : Type 0} (T : Operand → (S → Rel A) → Rel A) → ((o : Operand) → OnceIn (T o)) → OnceIn (λ G. Variable (λ o. T o G))

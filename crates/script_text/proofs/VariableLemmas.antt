@@ -5,12 +5,12 @@ use Rattle.std.specs.Prelude.{codes}
 use Rattle.span_text.specs.Language.{Rel, Lit, Or, Words, Answers}
 use Rattle.span_text.specs.Classes.{is_space, is_digit, is_word, is_letter}
 use Rattle.span_text.specs.Reading.{◌>>=◌, starts}
-use Rattle.span_text.specs.Tokens.{Gap, Tail, Sign, Name, RawName, Number, Ratio, is_point, skip, tail_at, sign_at}
+use Rattle.span_text.specs.Tokens.{Blanks, Tail, Sign, Name, RawName, Number, Ratio, is_point, skip, tail_at, sign_at}
 use Rattle.span_text.specs.Multiples.{is_slash}
 use Rattle.span_text.specs.declared.multiples.Multiple.TheVariants as multiple
 use Rattle.span_text.proofs.PieceLemmas.{Lives, begins, Same, agree_same, lit_answers, or_answers, Never}
-use Rattle.span_text.proofs.TokensLemmas.{bind_assoc, bind_cond, gap_lives, tail_lives, sign_lives, name_lives, words_lives, table_outside, lit_only, lit_never, one_only, one_never, or_only, or_never, left_lives, right_lives, gap_answers, tail_answers, sign_answers, raw_name_answers, number_never}
-use Rattle.span_text.proofs.Factors.{gap_never}
+use Rattle.span_text.proofs.TokensLemmas.{bind_assoc, bind_cond, blanks_lives, tail_lives, sign_lives, name_lives, words_lives, table_outside, lit_only, lit_never, one_only, one_never, or_only, or_never, left_lives, right_lives, blanks_answers, tail_answers, sign_answers, raw_name_answers, number_never}
+use Rattle.span_text.proofs.Factors.{blanks_never}
 use Rattle.span_text.proofs.MultipleLemmas.{multiple_answers}
 use Rattle.frac_core.specs.Fraction.{Fraction}
 use Rattle.script_text.specs.Fractions.{lowest}
@@ -48,7 +48,7 @@ abbrev Dotted : {A : Type 0} → (Operand → Rel A) → List ℕ → Rel A
 Dotted F n = Lit (codes ".") (Words attributes (λ w. Tail (F (mean.Attr n w))))
 
 abbrev Bare : {A : Type 0} → (Operand → Rel A) → List ℕ → Rel A
-Bare F n = Gap (F (mean.Metric n))
+Bare F n = Blanks (F (mean.Metric n))
 
 pub variable_lives : {A : Type 0} {F : Operand → Rel A} → ((o : Operand) → Lives is_space (F o)) → Lives is_space (Variable F)
 variable_lives {F} lives = right_lives is_space (Attribute (λ n w. F (mean.Attr n w))) (name_lives is_space refl (λ n. lives (mean.Metric n)))
@@ -70,12 +70,12 @@ unfolding variable_at
 variable_answers F k lives never s goes = rw bind_assoc
     (agree_same (Variable F) (RawName (λ n. Or (Dotted F n) (Bare F n))) s _ (begins (variable_lives lives)) (raw_name_or (Dotted F) (Bare F))
     (raw_name_answers (λ n. Or (Dotted F n) (Bare F n)) (λ n t. cond (starts is_point t) (attribute_at n t) (Ok (mean.Metric n, skip t)) >>= λ r. k r.0 r.1)
-    (λ n. right_lives is_word (Dotted F n) (gap_lives is_word refl (lives (mean.Metric n)))) s
+    (λ n. right_lives is_word (Dotted F n) (blanks_lives is_word refl (lives (mean.Metric n)))) s
     (λ n t h. rw bind_cond (or_answers is_point (Dotted F n) (Bare F n) _ _
-    (lit_only _ is_point 46 [] refl) (gap_never is_point (F (mean.Metric n)) space_is_no_point (never (mean.Metric n)))
-    (begins (right_lives is_word (Dotted F n) (gap_lives is_word refl (lives (mean.Metric n))))) t
+    (lit_only _ is_point 46 [] refl) (blanks_never is_point (F (mean.Metric n)) space_is_no_point (never (mean.Metric n)))
+    (begins (right_lives is_word (Dotted F n) (blanks_lives is_word refl (lives (mean.Metric n))))) t
     (attribute_answers F k lives n t (λ o u i. goes o u (omega arith)))
-    (gap_answers (F (mean.Metric n)) (k (mean.Metric n)) (lives (mean.Metric n)) t (λ u i. goes (mean.Metric n) u (omega arith)))))))
+    (blanks_answers (F (mean.Metric n)) (k (mean.Metric n)) (lives (mean.Metric n)) t (λ u i. goes (mean.Metric n) u (omega arith)))))))
 
 product_answers : {A : Type 0} (by : Fraction) (F : Term → Rel A) (k : Term → List ℕ → Result A ℕ) → ((t : Term) → Lives is_space (F t)) → ((t : Term) → Never is_point (F t)) → (s : List ℕ)
     → ((t : Term) (u : List ℕ) → length u < length s → Answers (F t) u (k t u)) → Answers (Variable (λ o. F (times by o))) s (product_at by s >>= λ r. k r.0 r.1)

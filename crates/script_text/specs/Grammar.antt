@@ -1,14 +1,16 @@
 -- The lines of a script, by the cases of their grammar. What follows a construct is its last argument.
 use Rattle.std.specs.Prelude.{◌≡◌, ℕ, ◌-◌, Bool, true, false, not, List, [], ◌∷◌, ◌++◌, length, Option, Some}
 use Rattle.std.specs.Prelude.{None, codes, pos}
+use Rattle.span_text.specs.Bytes.{at_sign, minus, plus, star}
 use Rattle.span_text.specs.Classes.{is_space}
 use Rattle.span_text.specs.Language.{Rel, End, Lit, One, Not, Or, Words}
 use Rattle.span_text.specs.Loops.{Loop}
-use Rattle.span_text.specs.Tokens.{Gap, Tail, Word, Sign, Name, RawName, Number, Whole, Ratio}
+use Rattle.span_text.specs.Tokens.{Blanks, Tail, Word, Sign, Name, RawName, Number, Whole, Ratio}
 use Rattle.span_text.specs.Objects.{Meant}
 use Rattle.span_text.specs.Objects as object
+use Rattle.span_text.specs.declared.limits.TheConstants.{UNIT}
 use Rattle.frac_core.specs.Fraction.{Fraction}
-use Rattle.vfl_text.specs.Grammar.{FormatText}
+use Rattle.vfl_text.specs.Grammar.{FormatText, relations}
 use Rattle.script_text.specs.Fractions.{lowest}
 use Rattle.script_text.specs.Meaning.{Operand, Term, Linear, Meaning}
 use Rattle.script_text.specs.Meaning as mean
@@ -18,7 +20,6 @@ use Rattle.script_text.specs.declared.words.Align.{Align}
 use Rattle.script_text.specs.declared.words.Align.TheVariants as align
 use Rattle.script_text.specs.declared.words.AttrWord.{AttrWord}
 use Rattle.script_text.specs.declared.words.AttrWord.TheVariants as attr
-use Rattle.problem_core.specs.declared.parts.Rel.TheVariants as rel
 use Rattle.problem_core.specs.declared.parts.Rel as parts
 
 -- the first words of lines
@@ -54,12 +55,9 @@ word_text attr.CenterY = codes "centerY"
 word_text attr.Leading = codes "leading"
 word_text attr.Trailing = codes "trailing"
 
-unfoldable pub relations : List (List ℕ × parts.Rel)
-relations = (codes "==", rel.Eq) ∷ (codes "<=", rel.Le) ∷ (codes ">=", rel.Ge) ∷ []
-
 -- thousandths as a fraction
 abbrev pub decimal : Bool → ℕ → Fraction
-decimal is_negative n = lowest is_negative n 1000
+decimal is_negative n = lowest is_negative n UNIT
 
 -- a name, a point and an attribute, with no space between them
 abbrev pub Attribute : {A : Type 0} → (List ℕ → AttrWord → Rel A) → Rel A
@@ -74,33 +72,36 @@ times by of = record { by = by; of = of }
 -- a multiplied variable, a variable, or a number
 abbrev pub TermText : {A : Type 0} → Bool → (Term → Rel A) → Rel A
 TermText is_negative F = Or (Variable (λ o. F (times (lowest is_negative 1 1) o)))
-    (Or (Number (λ n. Or (Sign 42 (Variable (λ o. F (times (decimal is_negative n) o))))
+    (Or (Number (λ n. Or (Sign star (Variable (λ o. F (times (decimal is_negative n) o))))
     (F (times (decimal is_negative n) mean.One))))
-    (Ratio (λ p q. Sign 42 (Variable (λ o. F (times (lowest is_negative p q) o))))))
+    (Ratio (λ p q. Sign star (Variable (λ o. F (times (lowest is_negative p q) o))))))
 
 -- behind some terms
 abbrev pub Behind : {A : Type 0} → (List Term → Rel A) → (List Term → Rel A) → List Term → Rel A
-Behind F G terms = Or (Sign 43 (TermText false (λ t. G (terms ++ t ∷ []))))
-    (Or (Sign 45 (TermText true (λ t. G (terms ++ t ∷ [])))) (F terms))
+Behind F G terms = Or (Sign plus (TermText false (λ t. G (terms ++ t ∷ []))))
+    (Or (Sign minus (TermText true (λ t. G (terms ++ t ∷ [])))) (F terms))
 
 -- terms with + and - between them, and perhaps - in front
 abbrev pub Expression : {A : Type 0} → (List Term → Rel A) → Rel A
-Expression F = Or (Sign 45 (TermText true (λ t. Loop (Behind F) (t ∷ []))))
+Expression F = Or (Sign minus (TermText true (λ t. Loop (Behind F) (t ∷ []))))
     (TermText false (λ t. Loop (Behind F) (t ∷ [])))
 
 abbrev pub Relation : {A : Type 0} → (parts.Rel → Rel A) → Rel A
-Relation F = Words relations (λ r. Gap (F r))
+Relation F = Words relations (λ r. Blanks (F r))
 
 abbrev pub Priority : {A : Type 0} → (Option Meant → Rel A) → Rel A
-Priority F = Or (Sign 64 (Or (Name (λ n. F (Some (object.Name n))))
+Priority F = Or (Sign at_sign (Or (Name (λ n. F (Some (object.Name n))))
     (Number (λ n. F (Some (object.Number (pos n))))))) (F None)
 
 abbrev pub Weight : {A : Type 0} → (ℕ → Rel A) → Rel A
 Weight F = Or (Word (codes "weight") (Whole (λ n. F n))) (F 1)
 
+abbrev pub linear : List Term → parts.Rel → List Term → Option Meant → ℕ → Linear
+linear l r e p w = record { left = l; rel = r; right = e; priority = p; weight = w }
+
 abbrev pub LinearText : (Linear → Rel Meaning) → Rel Meaning
 LinearText F = Expression (λ l. Relation (λ r. Expression (λ e.
-    Priority (λ p. Weight (λ w. F (record { left = l; rel = r; right = e; priority = p; weight = w }))))))
+    Priority (λ p. Weight (λ w. F (linear l r e p w))))))
 
 -- a value, and perhaps a priority
 abbrev pub Suggestion : List ℕ → AttrWord → Bool → Rel Meaning
@@ -127,14 +128,14 @@ Arguments len key.View = Name (λ n. Or (Word (codes "in") (Name (λ p. End (mea
     (End (mean.View n None)))
 Arguments len key.Tree = Rest (λ t. mean.Tree t (len - length t))
 Arguments len key.Drop = Name (λ n. End (mean.Drop n))
-Arguments len key.Metric = Name (λ n. Or (Sign 45 (Number (λ v. End (mean.Metric n (decimal true v)))))
+Arguments len key.Metric = Name (λ n. Or (Sign minus (Number (λ v. End (mean.Metric n (decimal true v)))))
     (Number (λ v. End (mean.Metric n (decimal false v)))))
 Arguments len key.Window = Number (λ w. Number (λ h. End (mean.Window (decimal false w) (decimal false h))))
 Arguments len key.Vfl = Name (λ n. Or (Word (codes "align")
     (Words alignments (λ a. Tail (FormatLine n (Some a))))) (FormatLine n None))
 Arguments len key.Constrain = Name (λ n. LinearText (λ l. End (mean.Constrain n l)))
 Arguments len key.Remove = Name (λ n. End (mean.Remove n))
-Arguments len key.Suggest = Attribute (λ n w. Or (Sign 45 (Suggestion n w true)) (Suggestion n w false))
+Arguments len key.Suggest = Attribute (λ n w. Or (Sign minus (Suggestion n w true)) (Suggestion n w false))
 Arguments len key.Release = Attribute (λ n w. End (mean.Release n w))
 Arguments len key.Undo = End mean.Undo
 Arguments len key.Budget = Whole (λ n. End (mean.Budget n))
@@ -152,11 +153,11 @@ is_no_space b = not (is_space b)
 
 -- Behind the first word: where more follows, a space stands before it.
 abbrev pub Apart : {A : Type 0} → Rel A → Rel A
-Apart F = Not is_no_space (Gap F)
+Apart F = Not is_no_space (Blanks F)
 
 -- a line of this length: a comment, a command whose first word is one of these, or a blank line
 abbrev pub LineOf : List (List ℕ × Keyword) → ℕ → Rel Meaning
-LineOf words len = Gap (Or (Lit (codes "#") (Any mean.Nothing))
+LineOf words len = Blanks (Or (Lit (codes "#") (Any mean.Nothing))
     (Or (Words words (λ k. Apart (Arguments len k))) (End mean.Nothing)))
 
 -- a line and what it means

@@ -2,5 +2,4 @@ pub mod Fractions
 pub mod Grammar
 pub mod LineReading
 pub mod Meaning
-pub mod Stops
 pub mod View

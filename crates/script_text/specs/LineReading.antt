@@ -1,6 +1,7 @@
 -- Reading a line from left to right.
 use Rattle.std.specs.Prelude.{ℕ, Bool, true, false, List, [], ◌∷◌, ◌++◌, Option, Some, None, Result, Ok}
 use Rattle.std.specs.Prelude.{codes, pos, ◌==◌, ◌-◌, if◌then◌else◌, length, Err}
+use Rattle.span_text.specs.Bytes.{at_sign, hash, lower_a, lower_i, lower_w, minus, plus, star}
 use Rattle.span_text.specs.Reading.{◌>>=◌, lit_at, starts, tried, end_at}
 use Rattle.span_text.specs.Classes.{is_letter, is_space}
 use Rattle.span_text.specs.Tokens.{is_point, skip, tail_at, word_at, sign_at, name_at, raw_name_at, number_at}
@@ -12,11 +13,12 @@ use Rattle.span_text.specs.declared.multiples.Multiple.TheVariants as multiple
 use Rattle.span_text.specs.Objects.{Meant}
 use Rattle.span_text.specs.Objects as object
 use Rattle.frac_core.specs.Fraction.{Fraction}
-use Rattle.vfl_text.specs.Reading.{format_at}
+use Rattle.vfl_text.specs.Grammar.{relations}
+use Rattle.vfl_text.specs.Reading.{format_at, is_at, is_minus}
 use Rattle.script_text.specs.Fractions.{lowest}
 use Rattle.script_text.specs.Meaning.{Operand, Term, Linear, Meaning}
 use Rattle.script_text.specs.Meaning as mean
-use Rattle.script_text.specs.Grammar.{alignments, attributes, relations, decimal, times, is_any}
+use Rattle.script_text.specs.Grammar.{alignments, attributes, decimal, times, linear, is_any}
 use Rattle.problem_core.specs.declared.parts.Rel.{Rel}
 use Rattle.script_text.specs.declared.words.Align.{Align}
 use Rattle.script_text.specs.declared.words.AttrWord.{AttrWord}
@@ -24,28 +26,22 @@ use Rattle.script_text.specs.declared.words.Keyword.{Keyword}
 use Rattle.script_text.specs.declared.words.Keyword.TheVariants as key
 
 abbrev pub is_a : ℕ → Bool
-is_a b = b == 97
+is_a b = b == lower_a
 
 abbrev pub is_i : ℕ → Bool
-is_i b = b == 105
+is_i b = b == lower_i
 
 abbrev pub is_w : ℕ → Bool
-is_w b = b == 119
+is_w b = b == lower_w
 
 abbrev pub is_plus : ℕ → Bool
-is_plus b = b == 43
-
-abbrev pub is_minus : ℕ → Bool
-is_minus b = b == 45
+is_plus b = b == plus
 
 abbrev pub is_star : ℕ → Bool
-is_star b = b == 42
-
-abbrev pub is_at : ℕ → Bool
-is_at b = b == 64
+is_star b = b == star
 
 abbrev pub is_hash : ℕ → Bool
-is_hash b = b == 35
+is_hash b = b == hash
 
 unfoldable pub view_at : List ℕ → Result Meaning ℕ
 view_at s = do
@@ -77,7 +73,7 @@ metric_at s = do
   name ← name_at s
   if starts is_minus name.1
       then (do
-        rest ← sign_at 45 name.1
+        rest ← sign_at minus name.1
         value ← number_at rest
         _ ← end_at value.1
         Ok (mean.Metric name.0 (decimal true value.0)))
@@ -125,9 +121,9 @@ product_at by s = variable_at s >>= with_by by
 -- behind a multiplier or a number
 unfoldable pub multiplied_at : Bool → Multiple → List ℕ → Result (Term × List ℕ) ℕ
 multiplied_at is_negative (multiple.Number n) s = if starts is_star s
-    then sign_at 42 s >>= product_at (decimal is_negative n)
+    then sign_at star s >>= product_at (decimal is_negative n)
     else Ok (times (decimal is_negative n) mean.One, s)
-multiplied_at is_negative (multiple.Ratio p q) s = sign_at 42 s >>= product_at (lowest is_negative p q)
+multiplied_at is_negative (multiple.Ratio p q) s = sign_at star s >>= product_at (lowest is_negative p q)
 
 unfoldable pub term_at : Bool → List ℕ → Result (Term × List ℕ) ℕ
 term_at is_negative s = if starts is_letter s
@@ -140,8 +136,8 @@ some_term t = Ok (Some t)
 -- the next term of a sum, if there is one
 unfoldable pub next_at : List ℕ → Result (Option (Term × List ℕ)) ℕ
 next_at s = if starts is_plus s
-    then sign_at 43 s >>= term_at false >>= some_term
-    else (if starts is_minus s then sign_at 45 s >>= term_at true >>= some_term else Ok None)
+    then sign_at plus s >>= term_at false >>= some_term
+    else (if starts is_minus s then sign_at minus s >>= term_at true >>= some_term else Ok None)
 
 abbrev pub go_on : (List Term → List ℕ → Result (List Term × List ℕ) ℕ) → List Term → List ℕ
     → Option (Term × List ℕ) → Result (List Term × List ℕ) ℕ
@@ -153,16 +149,16 @@ unfoldable pub behind_at : (List Term → List ℕ → Result (List Term × List
 behind_at g terms s = next_at s >>= go_on g terms s
 
 unfoldable pub first_at : List ℕ → Result (Term × List ℕ) ℕ
-first_at s = if starts is_minus s then sign_at 45 s >>= term_at true else term_at false s
+first_at s = if starts is_minus s then sign_at minus s >>= term_at true else term_at false s
 
 unfoldable pub expression_at : List ℕ → Result (List Term × List ℕ) ℕ
 expression_at s = first_at s >>= λ t. loop_at behind_at (t.0 ∷ []) t.1
 
-abbrev pub with_gap : Rel × List ℕ → Result (Rel × List ℕ) ℕ
-with_gap r = Ok (r.0, skip r.1)
+abbrev pub with_blanks : Rel × List ℕ → Result (Rel × List ℕ) ℕ
+with_blanks r = Ok (r.0, skip r.1)
 
 unfoldable pub relation_at : List ℕ → Result (Rel × List ℕ) ℕ
-relation_at s = tried relations s >>= with_gap
+relation_at s = tried relations s >>= with_blanks
 
 abbrev pub named_object : List ℕ × List ℕ → Result (Option Meant × List ℕ) ℕ
 named_object n = Ok (Some (object.Name n.0), n.1)
@@ -174,30 +170,19 @@ unfoldable pub object_at : List ℕ → Result (Option Meant × List ℕ) ℕ
 object_at s = if starts is_letter s then name_at s >>= named_object else number_at s >>= number_object
 
 unfoldable pub priority_at : List ℕ → Result (Option Meant × List ℕ) ℕ
-priority_at s = if starts is_at s then sign_at 64 s >>= object_at else Ok (None, s)
+priority_at s = if starts is_at s then sign_at at_sign s >>= object_at else Ok (None, s)
 
 unfoldable pub weight_at : List ℕ → Result (ℕ × List ℕ) ℕ
 weight_at s = if starts is_w s then word_at (codes "weight") s >>= whole_at else Ok (1, s)
 
-abbrev pub with_weight : List Term → Rel → List Term → Option Meant → ℕ × List ℕ → Result (Linear × List ℕ) ℕ
-with_weight l r e p w = Ok (record { left = l; rel = r; right = e; priority = p; weight = w.0 }, w.1)
-
--- behind the priority, behind the right side, behind the relation, behind the left side
-unfoldable pub behind_priority_at : List Term → Rel → List Term → Option Meant → List ℕ
-    → Result (Linear × List ℕ) ℕ
-behind_priority_at l r e p s = weight_at s >>= with_weight l r e p
-
-unfoldable pub behind_right_at : List Term → Rel → List Term → List ℕ → Result (Linear × List ℕ) ℕ
-behind_right_at l r e s = priority_at s >>= λ p. behind_priority_at l r e p.0 p.1
-
-unfoldable pub behind_relation_at : List Term → Rel → List ℕ → Result (Linear × List ℕ) ℕ
-behind_relation_at l r s = expression_at s >>= λ e. behind_right_at l r e.0 e.1
-
-unfoldable pub behind_left_at : List Term → List ℕ → Result (Linear × List ℕ) ℕ
-behind_left_at l s = relation_at s >>= λ r. behind_relation_at l r.0 r.1
-
 unfoldable pub linear_at : List ℕ → Result (Linear × List ℕ) ℕ
-linear_at s = expression_at s >>= λ l. behind_left_at l.0 l.1
+linear_at s = do
+  left ← expression_at s
+  rel ← relation_at left.1
+  right ← expression_at rel.1
+  priority ← priority_at right.1
+  weight ← weight_at priority.1
+  Ok (linear left.0 rel.0 right.0 priority.0 weight.0, weight.1)
 
 unfoldable pub constrain_at : List ℕ → Result Meaning ℕ
 constrain_at s = do
@@ -241,7 +226,7 @@ suggest_at s = do
   of ← view_word_at s
   if starts is_minus of.1
       then (do
-        rest ← sign_at 45 of.1
+        rest ← sign_at minus of.1
         suggestion_at of.0.0 of.0.1 true rest)
       else suggestion_at of.0.0 of.0.1 false of.1
 

@@ -117,12 +117,3 @@ pub enum Command<'a> {
     /// The values and what shows that they are the best are to be told.
     Certify,
 }
-
-/// Why a line was not read.
-#[derive(Clone, Copy, Debug, PartialEq, Eq)]
-pub enum LineStop {
-    /// The line is outside the grammar; its longest prefix that is a prefix of some line of the grammar has
-    /// this length.
-    SyntaxAt(usize),
-    OutOfMemory,
-}

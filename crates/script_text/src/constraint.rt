@@ -8,7 +8,6 @@ ghost use Rattle.script_text.specs.View.{object_view, linear_view, view};
 
 use crate::command::{Command, Linear};
 use crate::sums::expression;
-use crate::words::relation_sign;
 use problem_core::Rel;
 use span_text::{Object, PartStop, names, numbers, pieces};
 use std::alloc::Global;
@@ -17,7 +16,7 @@ use std::alloc::Global;
 fn relation(text: &[u8]) -> Result<(Rel, &[u8]), usize>
     ensures { Gives (λ p. (p.0, p.1.now)) result (relation_at text.now) }
 {
-    let (rel, text) = relation_sign(text)?;
+    let (rel, text) = vfl_text::relation(text)?;
     Ok((rel, pieces::skip(text)))
 }
 
@@ -59,7 +58,7 @@ fn weight(text: &[u8]) -> Result<(u64, &[u8]), usize>
     }
 }
 
-#[tactic(auto, unfolding(crate::specs::LineReading::linear_at, crate::specs::LineReading::behind_left_at, crate::specs::LineReading::behind_relation_at, crate::specs::LineReading::behind_right_at, crate::specs::LineReading::behind_priority_at))]
+#[tactic(auto, unfolding(crate::specs::LineReading::linear_at))]
 fn linear(alloc: Global, text: &[u8]) -> Result<(Linear<'_>, &[u8]), PartStop>
     ensures { GivesOrMemory (λ p. (linear_view p.0, p.1.now)) result (linear_at text.now) }
 {

@@ -20,14 +20,12 @@ fn format_line<'a>(
 ) -> Result<Command<'a>, PartStop>
     ensures { GivesOrMemory view result (format_line_at group.now align text.now) }
 {
-    match read_bytes(alloc, text) {
-        Ok(format) => Ok(Command::Vfl {
-            group,
-            align,
-            format,
-        }),
-        Err(stop) => Err(stop),
-    }
+    let format = read_bytes(alloc, text)?;
+    Ok(Command::Vfl {
+        group,
+        align,
+        format,
+    })
 }
 
 // What follows the word `vfl`.

@@ -4,6 +4,7 @@ ghost use Rattle.script_text.specs.Fractions.{lowest};
 ghost use Rattle.script_text.specs.Grammar.{decimal};
 
 use frac_core::Frac;
+use span_text::UNIT;
 
 // The number of this size with its sign.
 fn signed(is_negative: bool, size: u32) -> i128
@@ -31,5 +32,5 @@ pub fn signed_ratio(is_negative: bool, p: u32, q: u32) -> Frac
 pub fn signed_number(is_negative: bool, thousandths: u32) -> Frac
     ensures { result ≡ decimal is_negative thousandths }
 {
-    signed_ratio(is_negative, thousandths, 1000)
+    signed_ratio(is_negative, thousandths, UNIT)
 }

@@ -27,7 +27,7 @@
 //!
 //! ```
 //! read_line(alloc, b"metric gap 8")?            // Command::Metric: the name `gap`, the value 8
-//! read_line(alloc, b"metric gap")               // Err(LineStop::SyntaxAt(10)): all 10 bytes begin some line
+//! read_line(alloc, b"metric gap")               // Stop::Refused(SyntaxAt(10)): all 10 bytes begin some line
 //! ```
 //!
 //! An expression is a sum of terms with `+` and `-` between them and perhaps `-` in front. A term is a
@@ -59,7 +59,7 @@ mod sums;
 mod terms;
 mod words;
 
-pub use command::{Command, ExprTerm, LineStop, Linear, Operand};
+pub use command::{Command, ExprTerm, Linear, Operand};
 pub use laws::{line_reads_or_leaves, offset_is_unique, reading_is_unique};
 pub use lines::read_line;
 pub use words::{Align, AttrWord};

@@ -1,7 +1,6 @@
 // The readers of lines.
-ghost use Rattle.std.specs.Prelude.{◌≡◌, IfOk};
+ghost use Rattle.std.specs.Prelude.{◌≡◌, IfErr, IfOk};
 ghost use Rattle.span_text.specs.GivesOrMemory.{GivesOrMemory};
-ghost use Rattle.span_text.specs.Language.{LeavesAt};
 ghost use Rattle.script_text.specs.Grammar.{Line, all_words};
 ghost use Rattle.script_text.specs.Meaning.{Meaning};
 ghost use Rattle.script_text.specs.Meaning as mean;
@@ -9,16 +8,17 @@ ghost use Rattle.script_text.specs.LineReading.{view_at, tree_at, named_at, metr
 ghost use Rattle.script_text.specs.LineReading.{bare_at, apart_at, arguments_at, command_at, content_at};
 ghost use Rattle.script_text.specs.LineReading.{line_at};
 ghost use Rattle.span_text.specs.Gives.{Gives};
-ghost use Rattle.script_text.specs.Stops.{OnSyntax};
+ghost use Rattle.vfl_text.specs.Stops.{IsStopOf};
 ghost use Rattle.script_text.specs.View.{view};
 
-use crate::command::{Command, LineStop};
+use crate::command::Command;
 use crate::constraint::constrain;
 use crate::formats::vfl;
 use crate::fractions::signed_number;
 use crate::suggestions::{release, suggest};
 use crate::words::{Keyword, first_word};
-use span_text::{PartStop, names, numbers, pieces};
+use frac_core::Stop;
+use span_text::{PartStop, SyntaxAt, names, numbers, pieces};
 use std::alloc::Global;
 
 #[tactic(auto, unfolding(crate::specs::LineReading::view_at))]
@@ -232,14 +232,14 @@ fn any_line(alloc: Global, line: &[u8]) -> Result<Command<'_>, PartStop>
 /// The one reading of a line by the grammar of lines. A line of the grammar is never refused as syntax; for
 /// any other the refusal has the length of its longest prefix that is a prefix of some line of the grammar.
 /// The line's bytes need not be a text.
-pub fn read_line(alloc: Global, line: &[u8]) -> Result<Command<'_>, LineStop>
+pub fn read_line(alloc: Global, line: &[u8]) -> Result<Command<'_>, Stop<SyntaxAt>>
     ensures sound { IfOk result (λ command. Line all_words line.now (view command)) }
     ensures one { (m : Meaning) → Line all_words line.now m → IfOk result (λ command. view command ≡ m) }
-    ensures offset { OnSyntax result (LeavesAt (Line all_words) line.now) }
+    ensures offset { IfErr result (IsStopOf (Line all_words) line.now) }
 {
     match any_line(alloc, line) {
         Ok(command) => Ok(command),
-        Err(PartStop::Left(left)) => Err(LineStop::SyntaxAt(line.len() - left)),
-        Err(PartStop::OutOfMemory) => Err(LineStop::OutOfMemory),
+        Err(PartStop::Left(left)) => Err(Stop::Refused(SyntaxAt(line.len() - left))),
+        Err(PartStop::OutOfMemory) => Err(Stop::OutOfMemory),
     }
 }

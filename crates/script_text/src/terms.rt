@@ -15,7 +15,7 @@ use frac_core::Frac;
 use span_text::{Multiple, names, number_or_ratio, pieces};
 
 // An attribute of the view of this name; the text begins at the point.
-#[tactic(auto, using(crate::proofs::Tables::tried_shorter), unfolding(crate::specs::LineReading::attribute_at))]
+#[tactic(auto, using(crate::proofs::Tables::shorter), unfolding(crate::specs::LineReading::attribute_at))]
 fn attribute<'a>(name: &'a str, text: &'a [u8]) -> Result<(Operand<'a>, &'a [u8]), usize>
     ensures within { IfOk result (λ p. length p.1.now ≤ length text.now) }
     ensures gives { Gives (λ p. (operand_view p.0, p.1.now)) result (attribute_at name.now text.now) }

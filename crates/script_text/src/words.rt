@@ -3,9 +3,8 @@
 ghost use Rattle.std.specs.Prelude.{◌≡◌};
 ghost use Rattle.span_text.specs.Gives.{Gives};
 ghost use Rattle.span_text.specs.Reading.{tried};
-ghost use Rattle.script_text.specs.Grammar.{all_words, alignments, attributes, relations, word_text};
+ghost use Rattle.script_text.specs.Grammar.{all_words, alignments, attributes, word_text};
 
-use problem_core::Rel;
 use span_text::pieces::or_else;
 
 /// The first word of a line.
@@ -123,13 +122,4 @@ pub fn align_word(text: &[u8]) -> Result<(Align, &[u8]), usize>
     let found = or_else(b"top", Align::Top, text, found);
     let found = or_else(b"right", Align::Right, text, found);
     or_else(b"left", Align::Left, text, found)
-}
-
-// The relation's sign and the text at once behind it.
-pub fn relation_sign(text: &[u8]) -> Result<(Rel, &[u8]), usize>
-    ensures { Gives (λ p. (p.0, p.1.now)) result (tried relations text.now) }
-{
-    let found = or_else(b">=", Rel::Ge, text, Err(text.len()));
-    let found = or_else(b"<=", Rel::Le, text, found);
-    or_else(b"==", Rel::Eq, text, found)
 }

@@ -3,7 +3,7 @@ use Rattle.std.proofs.Common.{◌≡◌, ℕ, suc, ◌≤◌, Bool, true, false,
 use Rattle.span_text.specs.Classes.{is_space}
 use Rattle.span_text.specs.Language.{Rel, Or, Where, Begins, Answers}
 use Rattle.span_text.specs.Reading.{starts}
-use Rattle.span_text.specs.Tokens.{Digits, Gap, Name, Number}
+use Rattle.span_text.specs.Tokens.{Digits, Blanks, Name, Number}
 use Rattle.span_text.proofs.Answering.{halt, agree}
 use Rattle.span_text.proofs.PieceLemmas.{bool_tells, Same, Only, Never}
 
@@ -56,9 +56,9 @@ number_or F G s v = (λ h. elim h [ inl y ↦ number_left F G s v y | inr y ↦ 
     number_split F G s v (b, t, e, c, (x, u, f, a, k, q, inr (m, (n, (g2, h2, i2, j2, k2, inr y2))))) = inr (b, t, e, c, (x, u, f, a, k, q, inr (m, (n, (g2, h2, i2, j2, k2, y2)))))
 
 -- spaces are outside the class, so what begins with the class stands without them
-pub gap_never : {A : Type 0} (d : ℕ → Bool) (F : Rel A) → ((b : ℕ) → is_space b ≡ true → d b ≡ false) → Never d F → Never d (Gap F)
-gap_never d F outside never s v ([], t, e, a, n, h) = subst (λ (x : List ℕ). starts d x ≡ false) (sym e) (never t v h)
-gap_never d F outside never s v (b ∷ x, t, e, a, n, h) = subst (λ (z : List ℕ). starts d z ≡ false) (sym e) (outside b a.0)
+pub blanks_never : {A : Type 0} (d : ℕ → Bool) (F : Rel A) → ((b : ℕ) → is_space b ≡ true → d b ≡ false) → Never d F → Never d (Blanks F)
+blanks_never d F outside never s v ([], t, e, a, n, h) = subst (λ (x : List ℕ). starts d x ≡ false) (sym e) (never t v h)
+blanks_never d F outside never s v (b ∷ x, t, e, a, n, h) = subst (λ (z : List ℕ). starts d z ≡ false) (sym e) (outside b a.0)
 
 -- an alternative that stands only where a test holds
 pub or_where_answers : {A : Type 0} (d : ℕ → Bool) (F G : Rel A) (P : Type 0) (c : Bool) (f g : Result A ℕ) → (c ≡ true → P) → (P → c ≡ true) → Only d G → Never d F → Begins F [] → (s : List ℕ)

@@ -1,17 +1,17 @@
 -- A number or a ratio has its reader.
-use Rattle.std.proofs.Common.{◌≡◌, ℕ, suc, ◌<◌, ◌≤◌, ◌*◌, ◌+◌, Bool, true, false, cond, nat_le, List, [], ◌∷◌, length, Result, Ok, Err, inl, inr, refl, sym, ap, ◌∙◌, arith}
+use Rattle.std.proofs.Common.{◌≡◌, ℕ, ◌<◌, ◌≤◌, ◌*◌, ◌+◌, true, false, cond, nat_le, List, [], ◌∷◌, length, Result, Err, inl, inr, refl, sym, ap, ◌∙◌, arith}
 use Rattle.std.proofs.lemmas.Bool.Decides.{nat_tests, eqb_tells}
 use Rattle.span_text.specs.Language.{Rel, Lit, Not, Or, Where, Answers}
-use Rattle.span_text.specs.Classes.{is_space, is_digit, is_word}
+use Rattle.span_text.specs.Classes.{is_space, is_digit}
 use Rattle.span_text.specs.Digits.{digits, Nonzero}
 use Rattle.span_text.specs.Reading.{◌>>=◌, starts}
-use Rattle.span_text.specs.Tokens.{Tail, Digits, Number, Ratio, decimals, is_point, valued_at, decimals_at, no_decimals_at, below_at}
+use Rattle.span_text.specs.Tokens.{Tail, Digits, Number, Ratio, decimals, is_point, below_at}
 use Rattle.span_text.specs.Multiples.{is_slash, number_end_at, as_number, as_ratio, multiple_at}
 use Rattle.span_text.specs.declared.multiples.Multiple.{Multiple}
 use Rattle.span_text.specs.declared.multiples.Multiple.TheVariants as multiple
-use Rattle.span_text.proofs.PieceLemmas.{Lives, begins, Same, agree_same, or_answers, Only, Never}
-use Rattle.span_text.proofs.TokensLemmas.{bind_assoc, bind_cond, number_end_lives, number_lives, number_part, number_whole, below_lives, below_answers, valued_answers, lit_only, lit_never, not_never, or_never, left_lives, digits_lives}
-use Rattle.span_text.proofs.Factors.{digits_or, gap_never, or_where_answers}
+use Rattle.span_text.proofs.PieceLemmas.{Lives, begins, agree_same, or_answers, Never}
+use Rattle.span_text.proofs.TokensLemmas.{bind_assoc, bind_cond, number_end_lives, number_lives, number_part, number_whole, below_answers, valued_answers, lit_only, lit_never, not_never, or_never, left_lives}
+use Rattle.span_text.proofs.Factors.{digits_or, blanks_never, or_where_answers}
 
 -- behind a number's whole digits
 abbrev NumberEnd : {A : Type 0} → (ℕ → Rel A) → List ℕ → Rel A
@@ -25,7 +25,7 @@ pub space_is_no_slash : (b : ℕ) → is_space b ≡ true → is_slash b ≡ fal
 space_is_no_slash b h = elim (eqb_tells b 47) [ inl q ↦ (let e : is_space 47 ≡ true = ap is_space (sym q.1) ∙ h in absurd cc) | inr q ↦ q.0 ]
 
 tail_never : {A : Type 0} (F : Rel A) → Never is_slash F → Never is_slash (Tail F)
-tail_never F never s v h = gap_never is_slash F space_is_no_slash never s v h.1
+tail_never F never s v h = blanks_never is_slash F space_is_no_slash never s v h.1
 
 number_end_never : {A : Type 0} (F : ℕ → Rel A) → ((n : ℕ) → Never is_slash (F n)) → (x : List ℕ) → Never is_slash (NumberEnd F x)
 number_end_never F never x = or_never is_slash (Lit (46 ∷ []) (Digits 2 (λ y. Tail (F (digits 0 x * 1000 + decimals y))))) (Not is_point (Tail (F (digits 0 x * 1000))))

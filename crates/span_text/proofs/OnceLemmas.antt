@@ -3,7 +3,7 @@ use Rattle.std.proofs.Common.{ℕ, ◌+◌, ◌*◌, Bool, List, [], ◌∷◌, 
 use Rattle.span_text.specs.Language.{Rel, Or, Lit, One, Run, Few, Not, Words}
 use Rattle.span_text.specs.Classes.{is_space, is_digit, is_word, is_letter}
 use Rattle.span_text.specs.Digits.{digits, Nonzero}
-use Rattle.span_text.specs.Tokens.{Gap, Tail, Word, Sign, Name, RawName, Digits, Number, Whole, Ratio, decimals, is_point}
+use Rattle.span_text.specs.Tokens.{Blanks, Tail, Word, Sign, Name, RawName, Digits, Number, Whole, Ratio, decimals, is_point}
 
 -- as Once, for a part of a round
 abbrev pub OnceIn : {S A : Type 0} → ((S → Rel A) → Rel A) → Type 1
@@ -34,20 +34,20 @@ once_run c T t G s v (x, z, e, a, n, h) = elim (t x G z v h) [ inl (y, w, g, bac
 pub once_few : {S A : Type 0} (c : ℕ → Bool) (m : ℕ) (T : List ℕ → (S → Rel A) → Rel A) → ((x : List ℕ) → OnceIn (T x)) → OnceIn (λ G. Few c m (λ x. T x G))
 once_few c m T t G s v (x, z, e, a, l, n, h) = elim (t x G z v h) [ inl (y, w, g, back) ↦ inl (y, w, g, λ H k. (x, z, e, a, l, n, back H k)) | inr f ↦ inr (λ H. (x, z, e, a, l, n, f H)) ]
 
-pub once_gap : {S A : Type 0} (T : (S → Rel A) → Rel A) → OnceIn T → OnceIn (λ G. Gap (T G))
-once_gap T t = once_run is_space (λ x. T) (λ x. t)
+pub once_blanks : {S A : Type 0} (T : (S → Rel A) → Rel A) → OnceIn T → OnceIn (λ G. Blanks (T G))
+once_blanks T t = once_run is_space (λ x. T) (λ x. t)
 
 pub once_sign : {S A : Type 0} (c : ℕ) (T : (S → Rel A) → Rel A) → OnceIn T → OnceIn (λ G. Sign c (T G))
-once_sign c T t = once_lit (c ∷ []) (λ G. Gap (T G)) (once_gap T t)
+once_sign c T t = once_lit (c ∷ []) (λ G. Blanks (T G)) (once_blanks T t)
 
 pub once_name : {S A : Type 0} (T : List ℕ → (S → Rel A) → Rel A) → ((n : List ℕ) → OnceIn (T n)) → OnceIn (λ G. Name (λ n. T n G))
-once_name T t = once_one is_letter (λ b G. Run is_word (λ x. Gap (T (b ∷ x) G))) (λ b. once_run is_word (λ x G. Gap (T (b ∷ x) G)) (λ x. once_gap (T (b ∷ x)) (t (b ∷ x))))
+once_name T t = once_one is_letter (λ b G. Run is_word (λ x. Blanks (T (b ∷ x) G))) (λ b. once_run is_word (λ x G. Blanks (T (b ∷ x) G)) (λ x. once_blanks (T (b ∷ x)) (t (b ∷ x))))
 
 pub once_digits : {S A : Type 0} (m : ℕ) (T : List ℕ → (S → Rel A) → Rel A) → ((x : List ℕ) → OnceIn (T x)) → OnceIn (λ G. Digits m (λ x. T x G))
 once_digits m T t = once_one is_digit (λ b G. Few is_digit m (λ x. T (b ∷ x) G)) (λ b. once_few is_digit m (λ x. T (b ∷ x)) (λ x. t (b ∷ x)))
 
 pub once_tail : {S A : Type 0} (T : (S → Rel A) → Rel A) → OnceIn T → OnceIn (λ G. Tail (T G))
-once_tail T t = once_not is_word (λ G. Gap (T G)) (once_gap T t)
+once_tail T t = once_not is_word (λ G. Blanks (T G)) (once_blanks T t)
 
 pub once_number : {S A : Type 0} (T : ℕ → (S → Rel A) → Rel A) → ((n : ℕ) → OnceIn (T n)) → OnceIn (λ G. Number (λ n. T n G))
 once_number T t = once_digits 5 (λ x G. Or (Lit (46 ∷ []) (Digits 2 (λ y. Tail (T (digits 0 x * 1000 + decimals y) G)))) (Not is_point (Tail (T (digits 0 x * 1000) G))))

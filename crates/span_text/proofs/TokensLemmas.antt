@@ -4,7 +4,7 @@ use Rattle.span_text.specs.Language.{Rel, End, Lit, One, Run, Few, Not, Or, Word
 use Rattle.span_text.specs.Classes.{is_byte, is_space, is_digit, is_letter, is_word}
 use Rattle.span_text.specs.Digits.{digits, Nonzero}
 use Rattle.span_text.specs.Reading.{◌>>=◌, front, back, few_at, starts}
-use Rattle.span_text.specs.Tokens.{Gap, Tail, Word, Sign, Name, Digits, Number, Whole, Ratio, RawName, decimals, is_point, skip, tail_at, word_at, sign_at, name_at, raw_name_at, whole_at, with_parts, below_at, ratio_at, digits_at, valued_at, decimals_at, no_decimals_at, number_at}
+use Rattle.span_text.specs.Tokens.{Blanks, Tail, Word, Sign, Name, Digits, Number, Whole, Ratio, RawName, decimals, is_point, skip, tail_at, word_at, sign_at, name_at, raw_name_at, whole_at, with_parts, below_at, ratio_at, digits_at, valued_at, decimals_at, no_decimals_at, number_at}
 use Rattle.span_text.proofs.PieceLemmas.{Lives, begins, and_parts, bytes_before, lit_answers, one_answers, not_answers, run_answers, few_answers, or_answers, Only, Never}
 use Rattle.span_text.proofs.NonzeroLemmas.{nonzero_answers}
 
@@ -16,8 +16,8 @@ pub bind_cond : {A B : Type 0} (b : Bool) (x y : Result A ℕ) (g : A → Result
 bind_cond true x y g = refl
 bind_cond false x y g = refl
 
-pub gap_lives : {A : Type 0} {F : Rel A} (c : ℕ → Bool) → c 32 ≡ false → Lives is_space F → Lives c (Gap F)
-gap_lives c e l = record { text = 32 ∷ l.text; value = l.value; apart = e; bytes = (refl, l.bytes); reads = (32 ∷ [], l.text, refl, (refl, tt), l.apart, l.reads) }
+pub blanks_lives : {A : Type 0} {F : Rel A} (c : ℕ → Bool) → c 32 ≡ false → Lives is_space F → Lives c (Blanks F)
+blanks_lives c e l = record { text = 32 ∷ l.text; value = l.value; apart = e; bytes = (refl, l.bytes); reads = (32 ∷ [], l.text, refl, (refl, tt), l.apart, l.reads) }
 
 pub tail_lives : {A : Type 0} {F : Rel A} (c : ℕ → Bool) → c 32 ≡ false → Lives is_space F → Lives c (Tail F)
 tail_lives c e l = record { text = 32 ∷ l.text; value = l.value; apart = e; bytes = (refl, l.bytes); reads = (refl, (32 ∷ [], l.text, refl, (refl, tt), l.apart, l.reads)) }
@@ -62,12 +62,12 @@ number_end_lives F x lives =
 pub number_lives : {A : Type 0} {F : ℕ → Rel A} (d : ℕ → Bool) → d 48 ≡ false → ((n : ℕ) → Lives is_space (F n)) → Lives d (Number F)
 number_lives {F} d e lives = digits_lives d 5 e (λ x. number_end_lives F x lives)
 
-pub gap_answers : {A : Type 0} (F : Rel A) (k : List ℕ → Result A ℕ) → Lives is_space F → (s : List ℕ) → ((t : List ℕ) → length t ≤ length s → Answers F t (k t)) → Answers (Gap F) s (k (skip s))
-gap_answers F k l s goes = run_answers is_space (λ _. F) (λ _ t. k t) (λ x a. l) s (λ x t a h. goes t h)
+pub blanks_answers : {A : Type 0} (F : Rel A) (k : List ℕ → Result A ℕ) → Lives is_space F → (s : List ℕ) → ((t : List ℕ) → length t ≤ length s → Answers F t (k t)) → Answers (Blanks F) s (k (skip s))
+blanks_answers F k l s goes = run_answers is_space (λ _. F) (λ _ t. k t) (λ x a. l) s (λ x t a h. goes t h)
 
 pub tail_answers : {A : Type 0} (F : Rel A) (k : List ℕ → Result A ℕ) → Lives is_space F → (s : List ℕ) → ((t : List ℕ) → length t ≤ length s → Answers F t (k t)) → Answers (Tail F) s (tail_at s >>= k)
 unfolding tail_at
-tail_answers F k l s goes = rw bind_assoc (not_answers is_word (Gap F) (λ t. k (skip t)) (gap_lives is_word refl l) s (λ t h. gap_answers F k l t (λ u i. goes u (omega arith))))
+tail_answers F k l s goes = rw bind_assoc (not_answers is_word (Blanks F) (λ t. k (skip t)) (blanks_lives is_word refl l) s (λ t h. blanks_answers F k l t (λ u i. goes u (omega arith))))
 
 pub word_answers : {A : Type 0} (w : List ℕ) (F : Rel A) (k : List ℕ → Result A ℕ) → are_bytes w ≡ true → Lives is_space F → (s : List ℕ) → ((t : List ℕ) → length t ≤ length s → Answers F t (k t)) → Answers (Word w F) s (word_at w s >>= k)
 unfolding word_at
@@ -75,16 +75,16 @@ word_answers w F k ok l s goes = rw bind_assoc (lit_answers (Tail F) (λ t. tail
 
 pub sign_answers : {A : Type 0} (c : ℕ) (F : Rel A) (k : List ℕ → Result A ℕ) → is_byte c ≡ true → Lives is_space F → (s : List ℕ) → ((t : List ℕ) → length t < length s → Answers F t (k t)) → Answers (Sign c F) s (sign_at c s >>= k)
 unfolding sign_at
-sign_answers c F k ok l s goes = rw bind_assoc (lit_answers (Gap F) (λ t. k (skip t)) (begins (gap_lives is_word refl l)) (c ∷ []) s (let e : are_bytes (c ∷ []) ≡ true = rw ok refl in e) (λ t h. gap_answers F k l t (λ u i. goes u (omega arith))))
+sign_answers c F k ok l s goes = rw bind_assoc (lit_answers (Blanks F) (λ t. k (skip t)) (begins (blanks_lives is_word refl l)) (c ∷ []) s (let e : are_bytes (c ∷ []) ≡ true = rw ok refl in e) (λ t h. blanks_answers F k l t (λ u i. goes u (omega arith))))
 
 pub name_answers : {A : Type 0} (F : List ℕ → Rel A) (k : List ℕ → List ℕ → Result A ℕ) → ((n : List ℕ) → Lives is_space (F n)) → (s : List ℕ) → ((n t : List ℕ) → length t < length s → Answers (F n) t (k n t)) → Answers (Name F) s (name_at s >>= λ r. k r.0 r.1)
 unfolding name_at
 name_answers F k lives s goes = rw bind_assoc
-    (one_answers is_letter (λ b. Run is_word (λ x. Gap (F (b ∷ x)))) (λ b t. k (b ∷ front is_word t) (skip (back is_word t)))
+    (one_answers is_letter (λ b. Run is_word (λ x. Blanks (F (b ∷ x)))) (λ b t. k (b ∷ front is_word t) (skip (back is_word t)))
     (begins (name_lives is_space refl lives))
-    (λ b e. let l = gap_lives is_word refl (lives (b ∷ [])) in (l.text, l.value, l.bytes, ([], l.text, refl, tt, l.apart, l.reads)))
+    (λ b e. let l = blanks_lives is_word refl (lives (b ∷ [])) in (l.text, l.value, l.bytes, ([], l.text, refl, tt, l.apart, l.reads)))
     s
-    (λ b t e h. run_answers is_word (λ x. Gap (F (b ∷ x))) (λ x u. k (b ∷ x) (skip u)) (λ x a. gap_lives is_word refl (lives (b ∷ x))) t (λ x u a i. gap_answers (F (b ∷ x)) (k (b ∷ x)) (lives (b ∷ x)) u (λ z j. goes (b ∷ x) z (omega arith)))))
+    (λ b t e h. run_answers is_word (λ x. Blanks (F (b ∷ x))) (λ x u. k (b ∷ x) (skip u)) (λ x a. blanks_lives is_word refl (lives (b ∷ x))) t (λ x u a i. blanks_answers (F (b ∷ x)) (k (b ∷ x)) (lives (b ∷ x)) u (λ z j. goes (b ∷ x) z (omega arith)))))
 
 pub digits_answers : {A : Type 0} (n : ℕ) (F : List ℕ → Rel A) (k : List ℕ → List ℕ → Result A ℕ) → ((x : List ℕ) → Lives is_digit (F x)) → (s : List ℕ) → ((x t : List ℕ) → length t < length s → Answers (F x) t (k x t)) → Answers (Digits n F) s (digits_at n s >>= λ r. k r.0 r.1)
 unfolding digits_at

@@ -2,13 +2,14 @@
 -- and other characters one by one. Between them stand spaces alone.
 use Rattle.std.specs.Prelude.{◌≡◌, ℕ, Bool, true, false, ◌==◌, ◌&&◌, ◌||◌, ◌<◌, List, [], ◌∷◌, ◌++◌, length}
 use Rattle.std.specs.Prelude.{◌⊎◌, encode_utf8}
+use Rattle.span_text.specs.Bytes.{equals, greater, less}
 use Rattle.span_text.specs.Language.{AllIn, NotStart}
 use Rattle.span_text.specs.Classes.{is_space, is_word}
 
 abbrev pub begins_relation : List ℕ → Bool
 begins_relation [] = false
 begins_relation (b ∷ []) = false
-begins_relation (b ∷ c ∷ s) = (c == 61) && ((b == 60) || (b == 61) || (b == 62))
+begins_relation (b ∷ c ∷ s) = (c == equals) && ((b == less) || (b == equals) || (b == greater))
 
 -- the longest run of letters, digits and _ in front of what follows
 pub record IsRun (text rest : List ℕ) : Type 0 where

@@ -1,3 +1,4 @@
+pub mod Bytes
 pub mod Classes
 pub mod Cutting
 pub mod Digits

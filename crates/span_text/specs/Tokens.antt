@@ -1,56 +1,64 @@
 -- Tokens with the spaces behind them, and their readers.
 use Rattle.std.specs.Prelude.{ℕ, ◌+◌, ◌-◌, ◌*◌, ◌^◌, ◌==◌, Bool, List, [], ◌∷◌, length, Result, Ok}
 use Rattle.std.specs.Prelude.{if◌then◌else◌}
+use Rattle.span_text.specs.Bytes.{point, slash}
 use Rattle.span_text.specs.Language.{Rel, Lit, One, Run, Few, Not, Or}
 use Rattle.span_text.specs.Classes.{is_space, is_digit, is_letter, is_word}
 use Rattle.span_text.specs.Digits.{digits, Nonzero, nonzero_at}
 use Rattle.span_text.specs.Reading.{◌>>=◌, lit_at, front, back, one_at, not_at, few_at, starts}
+use Rattle.span_text.specs.declared.limits.TheConstants.{DECIMALS, NUMBER_DIGITS, RATIO_DIGITS}
+use Rattle.span_text.specs.declared.limits.TheConstants.{UNIT, WHOLE_DIGITS}
 
 -- spaces, and then a text of F
-abbrev pub Gap : {A : Type 0} → Rel A → Rel A
-Gap F = Run is_space (λ _. F)
+abbrev pub Blanks : {A : Type 0} → Rel A → Rel A
+Blanks F = Run is_space (λ _. F)
 
 -- Behind a letter, a digit or _: no other one of them follows, so a space stands before the next one.
 abbrev pub Tail : {A : Type 0} → Rel A → Rel A
-Tail F = Not is_word (Gap F)
+Tail F = Not is_word (Blanks F)
 
 abbrev pub Word : {A : Type 0} → List ℕ → Rel A → Rel A
 Word w F = Lit w (Tail F)
 
 abbrev pub Sign : {A : Type 0} → ℕ → Rel A → Rel A
-Sign c F = Lit (c ∷ []) (Gap F)
+Sign c F = Lit (c ∷ []) (Blanks F)
 
 abbrev pub Name : {A : Type 0} → (List ℕ → Rel A) → Rel A
-Name F = One is_letter (λ b. Run is_word (λ x. Gap (F (b ∷ x))))
+Name F = One is_letter (λ b. Run is_word (λ x. Blanks (F (b ∷ x))))
 
 -- a name with nothing said of what follows, as in a.left
 abbrev pub RawName : {A : Type 0} → (List ℕ → Rel A) → Rel A
 RawName F = One is_letter (λ b. Run is_word (λ x. F (b ∷ x)))
 
--- 1 to n + 1 digits
+-- a digit, and at most n more
 abbrev pub Digits : {A : Type 0} → ℕ → (List ℕ → Rel A) → Rel A
 Digits n F = One is_digit (λ b. Few is_digit n (λ x. F (b ∷ x)))
 
--- The decimals in thousandths.
+-- decimals in thousandths
 abbrev pub decimals : List ℕ → ℕ
-decimals f = digits 0 f * 10 ^ (3 - length f)
+decimals f = digits 0 f * 10 ^ (DECIMALS - length f)
 
 abbrev pub is_point : ℕ → Bool
-is_point b = b == 46
+is_point b = b == point
 
--- 1 to 6 digits, and perhaps a point and 1 to 3 digits; the value in thousandths
+-- digits, and perhaps a point and decimals; the value in thousandths
 abbrev pub Number : {A : Type 0} → (ℕ → Rel A) → Rel A
-Number F = Digits 5 (λ x. Or
-    (Lit (46 ∷ []) (Digits 2 (λ y. Tail (F (digits 0 x * 1000 + decimals y)))))
-    (Not is_point (Tail (F (digits 0 x * 1000)))))
+Number F = Digits (NUMBER_DIGITS - 1) (λ x. Or
+    (Lit (point ∷ []) (Digits (DECIMALS - 1) (λ y. Tail (F (digits 0 x * UNIT + decimals y)))))
+    (Not is_point (Tail (F (digits 0 x * UNIT)))))
 
--- 1 to 19 digits
+-- what each number in thousandths is below
+abbrev pub number_bound : ℕ
+number_bound = 10 ^ NUMBER_DIGITS * UNIT
+
+-- digits alone
 abbrev pub Whole : {A : Type 0} → (ℕ → Rel A) → Rel A
-Whole F = Digits 18 (λ x. Tail (F (digits 0 x)))
+Whole F = Digits (WHOLE_DIGITS - 1) (λ x. Tail (F (digits 0 x)))
 
--- 1 to 4 digits, a slash, and 1 to 4 digits whose value isn't 0
+-- digits, a slash, and digits whose value isn't 0
 abbrev pub Ratio : {A : Type 0} → (ℕ → ℕ → Rel A) → Rel A
-Ratio F = Digits 3 (λ x. Lit (47 ∷ []) (Nonzero 4 0 (λ d. Tail (F (digits 0 x) d))))
+Ratio F = Digits (RATIO_DIGITS - 1) (λ x. Lit (slash ∷ [])
+    (Nonzero RATIO_DIGITS 0 (λ d. Tail (F (digits 0 x) d))))
 
 abbrev pub skip : List ℕ → List ℕ
 skip s = back is_space s
@@ -94,25 +102,25 @@ valued_at n s = digits_at n s >>= valued
 
 unfoldable pub decimals_at : ℕ → List ℕ → Result (ℕ × List ℕ) ℕ
 decimals_at whole s = do
-  rest ← lit_at (46 ∷ []) s
-  part ← valued_at 2 rest
+  rest ← lit_at (point ∷ []) s
+  part ← valued_at (DECIMALS - 1) rest
   rest ← tail_at part.2
-  Ok (whole * 1000 + part.0 * 10 ^ (3 - part.1), rest)
+  Ok (whole * UNIT + part.0 * 10 ^ (DECIMALS - part.1), rest)
 
 unfoldable pub no_decimals_at : ℕ → List ℕ → Result (ℕ × List ℕ) ℕ
 no_decimals_at whole s = do
   rest ← not_at is_point s
   rest ← tail_at rest
-  Ok (whole * 1000, rest)
+  Ok (whole * UNIT, rest)
 
 unfoldable pub number_at : List ℕ → Result (ℕ × List ℕ) ℕ
 number_at s = do
-  whole ← valued_at 5 s
+  whole ← valued_at (NUMBER_DIGITS - 1) s
   if starts is_point whole.2 then decimals_at whole.0 whole.2 else no_decimals_at whole.0 whole.2
 
 unfoldable pub whole_at : List ℕ → Result (ℕ × List ℕ) ℕ
 whole_at s = do
-  value ← valued_at 18 s
+  value ← valued_at (WHOLE_DIGITS - 1) s
   rest ← tail_at value.2
   Ok (value.0, rest)
 
@@ -121,12 +129,12 @@ with_parts above below s = Ok (above, below, s)
 
 unfoldable pub below_at : ℕ → List ℕ → Result (ℕ × ℕ × List ℕ) ℕ
 below_at above s = do
-  rest ← lit_at (47 ∷ []) s
-  below ← nonzero_at 4 0 rest
+  rest ← lit_at (slash ∷ []) s
+  below ← nonzero_at RATIO_DIGITS 0 rest
   tail_at below.1 >>= with_parts above below.0
 
 -- a ratio's two parts and the text behind it
 unfoldable pub ratio_at : List ℕ → Result (ℕ × ℕ × List ℕ) ℕ
 ratio_at s = do
-  above ← valued_at 3 s
+  above ← valued_at (RATIO_DIGITS - 1) s
   below_at above.0 above.2

@@ -13,13 +13,14 @@
 //! further.
 //!
 //! In reading order: `line` (the lines of a script), `cut` and `token` (the tokens of a line, more coarsely
-//! than any grammar), `word` (its first word); `stop` (why a part wasn't read), `classes` (of bytes),
-//! `pieces` (the smallest readers), `numbers`, `names`, `multiples` (a number or a ratio), `object` (a
-//! number or a name).
+//! than any grammar), `word` (its first word); `stop` (why a part wasn't read), `limits` (of numbers),
+//! `classes` (of bytes), `pieces` (the smallest readers), `numbers`, `names`, `multiples` (a number or a
+//! ratio), `object` (a number or a name).
 #![tactic(auto)]
 
 mod classes;
 mod cut;
+mod limits;
 mod line;
 mod multiples;
 pub mod names;
@@ -31,9 +32,10 @@ mod token;
 mod word;
 
 pub use cut::{lines, tokens};
+pub use limits::{DECIMALS, NUMBER_DIGITS, RATIO_DIGITS, UNIT, WHOLE_DIGITS};
 pub use line::{Line, Lines};
 pub use multiples::{Multiple, number_or_ratio};
 pub use object::Object;
-pub use stop::PartStop;
+pub use stop::{PartStop, SyntaxAt};
 pub use token::{Token, Tokens};
 pub use word::first_word;

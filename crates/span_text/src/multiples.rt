@@ -2,9 +2,11 @@
 
 ghost use Rattle.std.specs.Prelude.{◌≡◌, ◌^◌, ◌<◌, ◌≤◌, IfOk, length};
 ghost use Rattle.span_text.specs.Gives.{Gives};
-ghost use Rattle.span_text.specs.Tokens.{below_at};
+ghost use Rattle.span_text.specs.Tokens.{below_at, number_bound};
 ghost use Rattle.span_text.specs.Multiples.{number_end_at, multiple_at, IsSmall};
+ghost use Rattle.span_text.specs.declared.limits.TheConstants.{NUMBER_DIGITS, RATIO_DIGITS};
 
+use crate::limits::{NUMBER_DIGITS, RATIO_DIGITS};
 use crate::{names, numbers, pieces};
 
 /// What a multiplier may be: a number in thousandths, or a ratio of two whole numbers as it is written.
@@ -17,9 +19,9 @@ pub enum Multiple {
 // What stands behind a number's whole digits of this value.
 #[tactic(auto, unfolding(crate::specs::Multiples::number_end_at))]
 fn number_end(text: &[u8], whole: u32) -> Result<(u32, &[u8]), usize>
-    requires { whole < 10 ^ 6 }
+    requires { whole < 10 ^ NUMBER_DIGITS }
     ensures gives { Gives (λ x. (x.0, x.1.now)) result (number_end_at whole text.now) }
-    ensures small { IfOk result (λ x. x.0 < 10 ^ 9) }
+    ensures small { IfOk result (λ x. x.0 < number_bound) }
     ensures within { IfOk result (λ x. length x.1.now ≤ length text.now) }
 {
     if pieces::begins(text, b'.') {
@@ -33,7 +35,7 @@ fn number_end(text: &[u8], whole: u32) -> Result<(u32, &[u8]), usize>
 #[tactic(auto, unfolding(crate::specs::Tokens::below_at))]
 fn ratio_end(text: &[u8], above: u32) -> Result<(u32, &[u8]), usize>
     ensures gives { Gives (λ x. (above, x.0, x.1.now)) result (below_at above text.now) }
-    ensures small { IfOk result (λ x. (0 < x.0) × (x.0 < 10 ^ 4)) }
+    ensures small { IfOk result (λ x. (0 < x.0) × (x.0 < 10 ^ RATIO_DIGITS)) }
     ensures within { IfOk result (λ x. length x.1.now ≤ length text.now) }
 {
     let rest = pieces::literal(b"/", text)?;
@@ -42,18 +44,17 @@ fn ratio_end(text: &[u8], above: u32) -> Result<(u32, &[u8]), usize>
     Ok((below, rest))
 }
 
-/// A number or a ratio, and the text behind it. A number is less than a million; a ratio's parts are less
-/// than 10,000.
+/// A number or a ratio, and the text behind it.
 #[tactic(auto, unfolding(crate::specs::Multiples::multiple_at))]
 pub fn number_or_ratio(text: &[u8]) -> Result<(Multiple, &[u8]), usize>
     ensures shorter { IfOk result (λ x. length x.1.now < length text.now) }
     ensures small { IfOk result (λ x. IsSmall x.0) }
     ensures gives { Gives (λ x. (x.0, x.1.now)) result (multiple_at text.now) }
 {
-    let whole = numbers::digits(text, 5)?;
+    let whole = numbers::digits(text, NUMBER_DIGITS)?;
     let rest = whole.rest;
     if pieces::begins(rest, b'/') {
-        if whole.count > 4 {
+        if whole.count > RATIO_DIGITS {
             return Err(rest.len());
         }
         let above = whole.value as u32;

@@ -42,7 +42,7 @@ pub fn sign(byte: u8, text: &[u8]) -> Result<&[u8], usize>
 }
 
 // A name's bytes and the text at once behind them.
-#[tactic(auto, using(crate::proofs::Fronts::name_taken), unfolding(crate::specs::Tokens::raw_name_at, crate::specs::Reading::one_at))]
+#[tactic(auto, unfolding(crate::specs::Tokens::raw_name_at, crate::specs::Reading::one_at))]
 fn name_bytes(text: &[u8]) -> Result<(&[u8], &[u8]), usize>
     ensures shorter { IfOk result (λ p. length p.1.now < length text.now) }
     ensures gives { Gives (λ p. (p.0.now, p.1.now)) result (raw_name_at text.now) }

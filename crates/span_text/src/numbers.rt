@@ -4,8 +4,11 @@ ghost use Rattle.std.specs.Prelude.{◌≡◌, ◌+◌, ◌^◌, ◌<◌, ◌≤
 ghost use Rattle.span_text.specs.Gives.{Gives};
 ghost use Rattle.span_text.specs.Digits.{nonzero_at};
 ghost use Rattle.span_text.specs.Tokens.{valued_at, decimals_at, no_decimals_at, number_at, whole_at};
-ghost use Rattle.span_text.specs.Tokens.{below_at, ratio_at};
+ghost use Rattle.span_text.specs.Tokens.{below_at, number_bound, ratio_at};
+ghost use Rattle.span_text.specs.declared.limits.TheConstants.{DECIMALS, NUMBER_DIGITS, RATIO_DIGITS};
+ghost use Rattle.span_text.specs.declared.limits.TheConstants.{UNIT, WHOLE_DIGITS};
 
+use crate::limits::{DECIMALS, NUMBER_DIGITS, RATIO_DIGITS, UNIT, WHOLE_DIGITS};
 use crate::{classes, names, pieces};
 
 // The value and the count of digits, and the text at once behind them.
@@ -16,13 +19,13 @@ pub(crate) struct DigitRun<'a> {
     pub(crate) rest: &'a [u8],
 }
 
-// At most `most + 1` digits, at least one.
+// At most `most` digits, at least one.
 pub(crate) fn digits(text: &[u8], most: usize) -> Result<DigitRun<'_>, usize>
-    requires { most < 19 }
-    ensures gives { Gives (λ x. (x.value, x.count, x.rest.now)) result (valued_at most text.now) }
+    requires { (0 < most) × (most ≤ WHOLE_DIGITS) }
+    ensures gives { Gives (λ x. (x.value, x.count, x.rest.now)) result (valued_at (most - 1) text.now) }
     ensures small { IfOk result (λ x. x.value < 10 ^ x.count) }
-    ensures few { IfOk result (λ x. x.count ≤ most + 1) }
-    ensures bound { IfOk result (λ x. x.value < 10 ^ (most + 1)) }
+    ensures few { IfOk result (λ x. x.count ≤ most) }
+    ensures bound { IfOk result (λ x. x.value < 10 ^ most) }
     ensures shorter { IfOk result (λ x. length x.rest.now < length text.now) }
 {
     let mut value: u64 = 0;
@@ -32,7 +35,7 @@ pub(crate) fn digits(text: &[u8], most: usize) -> Result<DigitRun<'_>, usize>
         if !classes::is_digit(*b) {
             break;
         }
-        if count > most {
+        if count >= most {
             return Err(rest.len());
         }
         value = 10 * value + (*b - b'0') as u64;
@@ -49,12 +52,12 @@ pub(crate) fn digits(text: &[u8], most: usize) -> Result<DigitRun<'_>, usize>
 // Decimals of this value and count in thousandths.
 fn in_thousandths(value: u64, count: usize) -> u32
     requires below { value < 10 ^ count }
-    requires few { count ≤ 3 }
-    ensures is { result ≡ value * 10 ^ (3 - count) }
-    ensures small { result < 1000 }
+    requires few { count ≤ DECIMALS }
+    ensures is { result ≡ value * 10 ^ (DECIMALS - count) }
+    ensures small { result < UNIT }
 {
     match count {
-        0 => value as u32 * 1000,
+        0 => value as u32 * UNIT,
         1 => value as u32 * 100,
         2 => value as u32 * 10,
         _ => value as u32,
@@ -63,37 +66,38 @@ fn in_thousandths(value: u64, count: usize) -> u32
 
 #[tactic(auto, unfolding(crate::specs::Tokens::decimals_at))]
 pub(crate) fn decimals(text: &[u8], whole: u32) -> Result<(u32, &[u8]), usize>
-    requires { whole < 10 ^ 6 }
+    requires { whole < 10 ^ NUMBER_DIGITS }
     ensures gives { Gives (λ x. (x.0, x.1.now)) result (decimals_at whole text.now) }
-    ensures small { IfOk result (λ x. x.0 < 10 ^ 9) }
+    ensures small { IfOk result (λ x. x.0 < number_bound) }
     ensures within { IfOk result (λ x. length x.1.now ≤ length text.now) }
 {
     let text = pieces::literal(b".", text)?;
-    let part = digits(text, 2)?;
+    let part = digits(text, DECIMALS)?;
     let text = names::tail(part.rest)?;
-    Ok((whole * 1000 + in_thousandths(part.value, part.count), text))
+    Ok((whole * UNIT + in_thousandths(part.value, part.count), text))
 }
 
 #[tactic(auto, unfolding(crate::specs::Tokens::no_decimals_at))]
 pub(crate) fn no_decimals(text: &[u8], whole: u32) -> Result<(u32, &[u8]), usize>
-    requires { whole < 10 ^ 6 }
+    requires { whole < 10 ^ NUMBER_DIGITS }
     ensures gives { Gives (λ x. (x.0, x.1.now)) result (no_decimals_at whole text.now) }
-    ensures small { IfOk result (λ x. x.0 < 10 ^ 9) }
+    ensures small { IfOk result (λ x. x.0 < number_bound) }
     ensures within { IfOk result (λ x. length x.1.now ≤ length text.now) }
 {
     let text = pieces::no_point(text)?;
     let text = names::tail(text)?;
-    Ok((whole * 1000, text))
+    Ok((whole * UNIT, text))
 }
 
-/// A number in thousandths, and the text behind it. Any number is less than a million.
+/// A number in thousandths, and the text behind it. It has up to [`NUMBER_DIGITS`] digits, and up to
+/// [`DECIMALS`] behind a point.
 #[tactic(auto, unfolding(crate::specs::Tokens::number_at))]
 pub fn number(text: &[u8]) -> Result<(u32, &[u8]), usize>
     ensures shorter { IfOk result (λ x. length x.1.now < length text.now) }
-    ensures small { IfOk result (λ x. x.0 < 10 ^ 9) }
+    ensures small { IfOk result (λ x. x.0 < number_bound) }
     ensures gives { Gives (λ x. (x.0, x.1.now)) result (number_at text.now) }
 {
-    let whole = digits(text, 5)?;
+    let whole = digits(text, NUMBER_DIGITS)?;
     let value = whole.value as u32;
     if pieces::begins(whole.rest, b'.') {
         decimals(whole.rest, value)
@@ -102,13 +106,13 @@ pub fn number(text: &[u8]) -> Result<(u32, &[u8]), usize>
     }
 }
 
-/// A whole number of 1 to 19 digits, and the text behind it.
+/// A whole number of up to [`WHOLE_DIGITS`] digits, and the text behind it.
 #[tactic(auto, unfolding(crate::specs::Tokens::whole_at))]
 pub fn whole(text: &[u8]) -> Result<(u64, &[u8]), usize>
     ensures shorter { IfOk result (λ x. length x.1.now < length text.now) }
     ensures gives { Gives (λ x. (x.0, x.1.now)) result (whole_at text.now) }
 {
-    let found = digits(text, 18)?;
+    let found = digits(text, WHOLE_DIGITS)?;
     let rest = names::tail(found.rest)?;
     Ok((found.value, rest))
 }
@@ -121,15 +125,15 @@ pub struct RatioRead<'a> {
     pub rest: &'a [u8],
 }
 
-// 1 to 4 digits whose value isn't 0, and the text at once behind them.
+// The digits of a ratio's lower part, whose value isn't 0, and the text at once behind them.
 #[tactic(auto, unfolding(crate::specs::Digits::nonzero_at))]
 pub(crate) fn nonzero(text: &[u8]) -> Result<(u32, &[u8]), usize>
-    ensures small { IfOk result (λ x. (0 < x.0) × (x.0 < 10 ^ 4)) }
-    ensures gives { Gives (λ x. (x.0, x.1.now)) result (nonzero_at 4 0 text.now) }
+    ensures small { IfOk result (λ x. (0 < x.0) × (x.0 < 10 ^ RATIO_DIGITS)) }
+    ensures gives { Gives (λ x. (x.0, x.1.now)) result (nonzero_at RATIO_DIGITS 0 text.now) }
     ensures within { IfOk result (λ x. length x.1.now ≤ length text.now) }
 {
     let mut value: u32 = 0;
-    let mut room: usize = 4;
+    let mut room: usize = RATIO_DIGITS;
     let mut rest = text;
     while let [b, others @ ..] = rest {
         if !classes::is_digit(*b) {
@@ -153,14 +157,15 @@ pub(crate) fn nonzero(text: &[u8]) -> Result<(u32, &[u8]), usize>
     }
 }
 
-/// A ratio, whose parts are less than 10,000, and the text behind it.
+/// A ratio, whose parts have up to [`RATIO_DIGITS`] digits, and the text behind it.
 #[tactic(auto, unfolding(crate::specs::Tokens::ratio_at, crate::specs::Tokens::below_at))]
 pub fn ratio(text: &[u8]) -> Result<RatioRead<'_>, usize>
     ensures shorter { IfOk result (λ x. length x.rest.now < length text.now) }
-    ensures small { IfOk result (λ x. (x.above < 10 ^ 4) × (0 < x.below) × (x.below < 10 ^ 4)) }
+    ensures small { IfOk result (λ x. (x.above < 10 ^ RATIO_DIGITS)
+        × (0 < x.below) × (x.below < 10 ^ RATIO_DIGITS)) }
     ensures gives { Gives (λ x. (x.above, x.below, x.rest.now)) result (ratio_at text.now) }
 {
-    let above = digits(text, 3)?;
+    let above = digits(text, RATIO_DIGITS)?;
     let rest = pieces::literal(b"/", above.rest)?;
     let (below, rest) = nonzero(rest)?;
     let rest = names::tail(rest)?;

@@ -7,21 +7,21 @@ use Rattle.problem_core.specs.declared.parts.Rel.TheVariants as rel
 use Rattle.span_text.specs.Language.{Rel, Or, End, Words, Answers}
 use Rattle.span_text.specs.Classes.{is_space, is_digit, is_letter, is_word}
 use Rattle.span_text.specs.Reading.{◌>>=◌, starts}
-use Rattle.span_text.specs.Tokens.{Gap, Sign, Name, Number, skip, sign_at}
+use Rattle.span_text.specs.Tokens.{Blanks, Sign, Name, Number, skip, sign_at}
 use Rattle.span_text.specs.Loops.{Loop, loop_at}
 use Rattle.span_text.specs.Objects as object
 use Rattle.span_text.specs.Objects.{Meant}
 use Rattle.span_text.proofs.PieceLemmas.{Lives, begins, Only, Never, or_answers, end_answers}
 use Rattle.span_text.proofs.WordsLemmas.{words_answers, tried_reads}
-use Rattle.span_text.proofs.TokensLemmas.{words_never, bind_assoc, bind_cond, end_lives, gap_lives, sign_lives, name_lives, number_lives, left_lives, right_lives, gap_answers, sign_answers, name_answers, number_answers, lit_only, lit_never, one_only, one_never, or_only, or_never, end_never, words_only}
-use Rattle.span_text.proofs.Factors.{gap_never}
+use Rattle.span_text.proofs.TokensLemmas.{words_never, bind_assoc, bind_cond, end_lives, blanks_lives, sign_lives, name_lives, number_lives, left_lives, right_lives, blanks_answers, sign_answers, name_answers, number_answers, lit_only, lit_never, one_only, one_never, or_only, or_never, end_never, words_only}
+use Rattle.span_text.proofs.Factors.{blanks_never}
 use Rattle.span_text.proofs.LoopLemmas.{loop_answers}
 use Rattle.span_text.proofs.BoundedLoops.{bounded_answers, bounded_loop_lives}
 use Rattle.vfl_text.specs.declared.parts.Axis.{Axis}
 use Rattle.vfl_text.specs.declared.parts.Axis.TheVariants as axis
-use Rattle.vfl_text.specs.Formats.{PredMeaning, GapMeaning, Flush, Standard, Given, ItemMeaning, FormatMeaning}
+use Rattle.vfl_text.specs.Formats.{PredMeaning, SpacingMeaning, Flush, Standard, Given, ItemMeaning, FormatMeaning}
 use Rattle.vfl_text.specs.Grammar.{relations, axes, Value, Object, pred, Priority, Ruled, Pred, PredRound, Preds, item, View, single, Spaced, Connection, with_item, with_end, Next, Round, Orientation, FromParent, started, FormatText}
-use Rattle.vfl_text.specs.Reading.{is_minus, is_at, is_comma, is_compare, is_list, is_view, is_bar, is_joined, is_more, is_axis, with_rest, value_at, object_at, priority_at, ruled_at, pred_at, pred_round_at, preds_at, item_at, spaced_at, gap_at, next_at, round_at, orientation_at, from_parent_at, format_at}
+use Rattle.vfl_text.specs.Reading.{is_minus, is_at, is_comma, is_compare, is_list, is_view, is_bar, is_joined, is_more, is_axis, with_rest, value_at, object_at, priority_at, ruled_at, pred_at, pred_round_at, preds_at, item_at, spaced_at, spacing_at, next_at, round_at, orientation_at, from_parent_at, format_at}
 use Rattle.vfl_text.proofs.OnceLemmas.{once_pred_round, once_round}
 
 -- what a value may begin with
@@ -107,14 +107,14 @@ module _ {A : Type 0} (F : PredMeaning → Rel A) (k : PredMeaning → List ℕ 
   ruled_never r d e h = or_never d (Sign 45 (Number (λ n. Priority r (object.Number (neg_ℤ (pos n))) F))) (Value (λ o. Priority r o F)) (lit_never _ d 45 [] e) (value_never (λ o. Priority r o F) d h)
 
   pred_lives : Lives is_space (Pred F)
-  pred_lives = right_lives is_space (Words relations (λ r. Gap (Ruled r F))) (ruled_lives rel.Eq)
+  pred_lives = right_lives is_space (Words relations (λ r. Blanks (Ruled r F))) (ruled_lives rel.Eq)
 
   pred_answers : (s : List ℕ) → ((p : PredMeaning) (t : List ℕ) → length t < length s → Answers (F p) t (k p t)) → Answers (Pred F) s (pred_at s >>= λ r. k r.0 r.1)
   unfolding pred_at
-  pred_answers s goes = rw (bind_cond, tried_reads s relations refl) (or_answers is_compare (Words relations (λ r. Gap (Ruled r F))) (Ruled rel.Eq F) _ _
-      (words_only (λ r. Gap (Ruled r F)) is_compare relations refl) (ruled_never rel.Eq is_compare refl word_no_compare) (begins pred_lives) s
-      (rw bind_assoc (words_answers (λ r. Gap (Ruled r F)) (λ r t. ruled_at r (skip t) >>= λ r. k r.0 r.1) (λ r. begins (gap_lives is_word refl (ruled_lives r))) s
-      (λ r t i. gap_answers (Ruled r F) (λ u. ruled_at r u >>= λ r. k r.0 r.1) (ruled_lives r) t (λ u j. ruled_answers r u (λ p w h. goes p w (omega arith)))) _ _ refl refl))
+  pred_answers s goes = rw (bind_cond, tried_reads s relations refl) (or_answers is_compare (Words relations (λ r. Blanks (Ruled r F))) (Ruled rel.Eq F) _ _
+      (words_only (λ r. Blanks (Ruled r F)) is_compare relations refl) (ruled_never rel.Eq is_compare refl word_no_compare) (begins pred_lives) s
+      (rw bind_assoc (words_answers (λ r. Blanks (Ruled r F)) (λ r t. ruled_at r (skip t) >>= λ r. k r.0 r.1) (λ r. begins (blanks_lives is_word refl (ruled_lives r))) s
+      (λ r t i. blanks_answers (Ruled r F) (λ u. ruled_at r u >>= λ r. k r.0 r.1) (ruled_lives r) t (λ u j. ruled_answers r u (λ p w h. goes p w (omega arith)))) _ _ refl refl))
       (ruled_answers rel.Eq s goes))
 
 -- a list of predicates
@@ -180,14 +180,14 @@ joined_more : (b : ℕ) → is_joined b ≡ true → is_more b ≡ true
 joined_more b h = grind (arith, nat_tests)
 
 -- a connection, behind which a view or the parent stands
-module _ {A : Type 0} (F : GapMeaning → Rel A) (k : GapMeaning → List ℕ → Result A ℕ) (lives : (g : GapMeaning) → Lives is_space (F g)) (joined : (g : GapMeaning) → Only is_joined (F g)) where
+module _ {A : Type 0} (F : SpacingMeaning → Rel A) (k : SpacingMeaning → List ℕ → Result A ℕ) (lives : (g : SpacingMeaning) → Lives is_space (F g)) (joined : (g : SpacingMeaning) → Only is_joined (F g)) where
   simple_lives : Lives is_space (Or (Value (λ o. Sign 45 (F (Given (single o))))) (F Standard))
   simple_lives = right_lives is_space (Value (λ o. Sign 45 (F (Given (single o))))) (lives Standard)
 
   spaced_lives : Lives is_space (Spaced F)
   spaced_lives = right_lives is_space (Preds (λ ps. Sign 45 (F (Given ps)))) simple_lives
 
-  spaced_answers : (s : List ℕ) → ((g : GapMeaning) (t : List ℕ) → length t ≤ length s → Answers (F g) t (k g t)) → Answers (Spaced F) s (spaced_at s >>= λ r. k r.0 r.1)
+  spaced_answers : (s : List ℕ) → ((g : SpacingMeaning) (t : List ℕ) → length t ≤ length s → Answers (F g) t (k g t)) → Answers (Spaced F) s (spaced_at s >>= λ r. k r.0 r.1)
   unfolding spaced_at
   spaced_answers s goes = rw (bind_cond, bind_cond) (or_answers is_list (Preds (λ ps. Sign 45 (F (Given ps)))) (Or (Value (λ o. Sign 45 (F (Given (single o))))) (F Standard)) _ _
       (lit_only _ is_list 40 [] refl)
@@ -204,9 +204,9 @@ module _ {A : Type 0} (F : GapMeaning → Rel A) (k : GapMeaning → List ℕ �
   connection_lives : Lives is_space (Connection F)
   connection_lives = right_lives is_space (Sign 45 (Spaced F)) (lives Flush)
 
-  gap_at_answers : (s : List ℕ) → ((g : GapMeaning) (t : List ℕ) → length t ≤ length s → Answers (F g) t (k g t)) → Answers (Connection F) s (gap_at s >>= λ r. k r.0 r.1)
-  unfolding gap_at
-  gap_at_answers s goes = rw bind_cond (or_answers is_minus (Sign 45 (Spaced F)) (F Flush) _ _
+  spacing_at_answers : (s : List ℕ) → ((g : SpacingMeaning) (t : List ℕ) → length t ≤ length s → Answers (F g) t (k g t)) → Answers (Connection F) s (spacing_at s >>= λ r. k r.0 r.1)
+  unfolding spacing_at
+  spacing_at_answers s goes = rw bind_cond (or_answers is_minus (Sign 45 (Spaced F)) (F Flush) _ _
       (lit_only _ is_minus 45 [] refl) (only_never is_joined is_minus (F Flush) joined_no_minus (joined Flush)) (begins connection_lives) s
       (rw bind_assoc (sign_answers 45 (Spaced F) _ refl spaced_lives s (λ t i. spaced_answers t (λ g u j. goes g u (omega arith)))))
       (goes Flush s (omega arith)))
@@ -219,10 +219,10 @@ module _ {A : Type 0} (F : GapMeaning → Rel A) (k : GapMeaning → List ℕ �
       only_more (b ∷ s) v h = joined_more b h
 
 -- the views behind the first one
-next_lives : (G : FormatMeaning → Rel FormatMeaning) (f : FormatMeaning) (g : GapMeaning) → Lives is_space (Next G f g)
+next_lives : (G : FormatMeaning → Rel FormatMeaning) (f : FormatMeaning) (g : SpacingMeaning) → Lives is_space (Next G f g)
 next_lives G f g = right_lives is_space (View (λ i. G (with_item f g i))) (sign_lives is_space 124 refl refl (end_lives is_space (with_end f g)))
 
-next_joined : (G : FormatMeaning → Rel FormatMeaning) (f : FormatMeaning) (g : GapMeaning) → Only is_joined (Next G f g)
+next_joined : (G : FormatMeaning → Rel FormatMeaning) (f : FormatMeaning) (g : SpacingMeaning) → Only is_joined (Next G f g)
 next_joined G f g = or_only is_joined (View (λ i. G (with_item f g i))) (Sign 124 (End (with_end f g))) (lit_only _ is_joined 91 [] refl) (lit_only _ is_joined 124 [] refl)
 
 round_lives : (G : FormatMeaning → Rel FormatMeaning) (f : FormatMeaning) → Lives is_space (Round G f)
@@ -233,7 +233,7 @@ bind_right (Ok x) = refl
 bind_right (Err m) = refl
 
 module _ (G : FormatMeaning → Rel FormatMeaning) (k : FormatMeaning → List ℕ → Result FormatMeaning ℕ) (lives : (f : FormatMeaning) → Lives is_space (G f)) where
-  next_answers : (f : FormatMeaning) (g : GapMeaning) (s : List ℕ) → ((h : FormatMeaning) (t : List ℕ) → length t < length s → Answers (G h) t (k h t)) → Answers (Next G f g) s (next_at k f g s)
+  next_answers : (f : FormatMeaning) (g : SpacingMeaning) (s : List ℕ) → ((h : FormatMeaning) (t : List ℕ) → length t < length s → Answers (G h) t (k h t)) → Answers (Next G f g) s (next_at k f g s)
   unfolding next_at
   next_answers f g s goes = or_answers is_view (View (λ i. G (with_item f g i))) (Sign 124 (End (with_end f g))) _ _
       (lit_only _ is_view 91 [] refl) (lit_never _ is_view 124 [] refl) (begins (next_lives G f g)) s
@@ -244,7 +244,7 @@ module _ (G : FormatMeaning → Rel FormatMeaning) (k : FormatMeaning → List �
   unfolding round_at
   round_answers f s goes = or_answers is_more (Connection (λ g. Next G f g)) (End f) _ _
       (connection_only (λ g. Next G f g) (λ g t. next_at k f g t) (λ g. next_lives G f g) (λ g. next_joined G f g)) (end_never is_more f) (begins (round_lives G f)) s
-      (gap_at_answers (λ g. Next G f g) (λ g t. next_at k f g t) (λ g. next_lives G f g) (λ g. next_joined G f g) s (λ g t i. next_answers f g t (λ h u j. goes h u (omega arith))))
+      (spacing_at_answers (λ g. Next G f g) (λ g t. next_at k f g t) (λ g. next_lives G f g) (λ g. next_joined G f g) s (λ g t i. next_answers f g t (λ h u j. goes h u (omega arith))))
       (end_answers f s)
 
 chain_lives : (f : FormatMeaning) → Lives is_space (Loop Round f)
@@ -257,20 +257,20 @@ chain_answers f s = subst (λ (r : Result FormatMeaning ℕ). Answers (Loop Roun
 -- the direction in front
 module _ {A : Type 0} (F : Axis → Rel A) (k : Axis → List ℕ → Result A ℕ) (lives : (a : Axis) → Lives is_space (F a)) (apart : Never is_axis (F axis.H)) where
   orientation_lives : Lives is_space (Orientation F)
-  orientation_lives = right_lives is_space (Words axes (λ a. Gap (Sign 58 (F a)))) (lives axis.H)
+  orientation_lives = right_lives is_space (Words axes (λ a. Blanks (Sign 58 (F a)))) (lives axis.H)
 
   orientation_answers : (s : List ℕ) → ((a : Axis) (t : List ℕ) → length t ≤ length s → Answers (F a) t (k a t)) → Answers (Orientation F) s (orientation_at s >>= λ r. k r.0 r.1)
   unfolding orientation_at
-  orientation_answers s goes = rw (bind_cond, tried_reads s axes refl) (or_answers is_axis (Words axes (λ a. Gap (Sign 58 (F a)))) (F axis.H) _ _
-      (words_only (λ a. Gap (Sign 58 (F a))) is_axis axes refl) apart (begins orientation_lives) s
-      (rw bind_assoc (words_answers (λ a. Gap (Sign 58 (F a))) (λ a t. (sign_at 58 (skip t) >>= with_rest a) >>= λ r. k r.0 r.1) (λ a. begins (gap_lives is_word refl (sign_lives is_space 58 refl refl (lives a)))) s
-      (λ a t i. gap_answers (Sign 58 (F a)) (λ u. (sign_at 58 u >>= with_rest a) >>= λ r. k r.0 r.1) (sign_lives is_space 58 refl refl (lives a)) t
+  orientation_answers s goes = rw (bind_cond, tried_reads s axes refl) (or_answers is_axis (Words axes (λ a. Blanks (Sign 58 (F a)))) (F axis.H) _ _
+      (words_only (λ a. Blanks (Sign 58 (F a))) is_axis axes refl) apart (begins orientation_lives) s
+      (rw bind_assoc (words_answers (λ a. Blanks (Sign 58 (F a))) (λ a t. (sign_at 58 (skip t) >>= with_rest a) >>= λ r. k r.0 r.1) (λ a. begins (blanks_lives is_word refl (sign_lives is_space 58 refl refl (lives a)))) s
+      (λ a t i. blanks_answers (Sign 58 (F a)) (λ u. (sign_at 58 u >>= with_rest a) >>= λ r. k r.0 r.1) (sign_lives is_space 58 refl refl (lives a)) t
       (λ u j. rw bind_assoc (sign_answers 58 (F a) _ refl (lives a) u (λ w h. goes a w (omega arith))))) _ _ refl refl))
       (goes axis.H s (omega arith)))
 
 -- the parent in front
-module _ {A : Type 0} (F : Option GapMeaning → Rel A) (k : Option GapMeaning → List ℕ → Result A ℕ) (lives : (g : Option GapMeaning) → Lives is_space (F g)) (views : (g : Option GapMeaning) → Only is_view (F g)) where
-  view_joined : (g : Option GapMeaning) → Only is_joined (F g)
+module _ {A : Type 0} (F : Option SpacingMeaning → Rel A) (k : Option SpacingMeaning → List ℕ → Result A ℕ) (lives : (g : Option SpacingMeaning) → Lives is_space (F g)) (views : (g : Option SpacingMeaning) → Only is_view (F g)) where
+  view_joined : (g : Option SpacingMeaning) → Only is_joined (F g)
   view_joined g s v h = view_is_joined s (views g s v h)
     where
       view_is_joined : (s : List ℕ) → starts is_view s ≡ true → starts is_joined s ≡ true
@@ -280,12 +280,12 @@ module _ {A : Type 0} (F : Option GapMeaning → Rel A) (k : Option GapMeaning �
   from_parent_lives : Lives is_space (FromParent F)
   from_parent_lives = right_lives is_space (Sign 124 (Connection (λ g. F (Some g)))) (lives None)
 
-  from_parent_answers : (s : List ℕ) → ((g : Option GapMeaning) (t : List ℕ) → length t ≤ length s → Answers (F g) t (k g t)) → Answers (FromParent F) s (from_parent_at s >>= λ r. k r.0 r.1)
+  from_parent_answers : (s : List ℕ) → ((g : Option SpacingMeaning) (t : List ℕ) → length t ≤ length s → Answers (F g) t (k g t)) → Answers (FromParent F) s (from_parent_at s >>= λ r. k r.0 r.1)
   unfolding from_parent_at
   from_parent_answers s goes = rw bind_cond (or_answers is_bar (Sign 124 (Connection (λ g. F (Some g)))) (F None) _ _
       (lit_only _ is_bar 124 [] refl) (only_never is_view is_bar (F None) view_no_bar (views None)) (begins from_parent_lives) s
       (rw bind_assoc (sign_answers 124 (Connection (λ g. F (Some g))) _ refl (connection_lives (λ g. F (Some g)) (λ g. k (Some g)) (λ g. lives (Some g)) (λ g. view_joined (Some g))) s
-      (λ t i. rw bind_assoc (gap_at_answers (λ g. F (Some g)) (λ g u. k (Some g) u) (λ g. lives (Some g)) (λ g. view_joined (Some g)) t (λ g u j. goes (Some g) u (omega arith))))))
+      (λ t i. rw bind_assoc (spacing_at_answers (λ g. F (Some g)) (λ g u. k (Some g) u) (λ g. lives (Some g)) (λ g. view_joined (Some g)) t (λ g u j. goes (Some g) u (omega arith))))))
       (goes None s (omega arith)))
     where
       view_no_bar : (b : ℕ) → is_view b ≡ true → is_bar b ≡ false
@@ -298,13 +298,13 @@ module _ {A : Type 0} (F : Option GapMeaning → Rel A) (k : Option GapMeaning �
       view_no_axis b h = grind (arith, nat_tests)
 
 -- the first view and those behind it
-first_lives : (a : Axis) (g : Option GapMeaning) → Lives is_space (View (λ i. Loop Round (started a g i)))
+first_lives : (a : Axis) (g : Option SpacingMeaning) → Lives is_space (View (λ i. Loop Round (started a g i)))
 first_lives a g = view_lives (λ i. Loop Round (started a g i)) (λ i. loop_at round_at (started a g i)) (λ i. chain_lives (started a g i))
 
-first_answers : (a : Axis) (g : Option GapMeaning) (s : List ℕ) → Answers (View (λ i. Loop Round (started a g i))) s (item_at s >>= λ i. loop_at round_at (started a g i.0) i.1)
+first_answers : (a : Axis) (g : Option SpacingMeaning) (s : List ℕ) → Answers (View (λ i. Loop Round (started a g i))) s (item_at s >>= λ i. loop_at round_at (started a g i.0) i.1)
 first_answers a g s = item_answers (λ i. Loop Round (started a g i)) (λ i. loop_at round_at (started a g i)) (λ i. chain_lives (started a g i)) s (λ i t j. chain_answers (started a g i) t)
 
-first_views : (a : Axis) (g : Option GapMeaning) → Only is_view (View (λ i. Loop Round (started a g i)))
+first_views : (a : Axis) (g : Option SpacingMeaning) → Only is_view (View (λ i. Loop Round (started a g i)))
 first_views a g = lit_only _ is_view 91 [] refl
 
 body_at : Axis → List ℕ → Result FormatMeaning ℕ
@@ -323,9 +323,9 @@ body_never = from_parent_never (λ g. View (λ i. Loop Round (started axis.H g i
 -- what no format begins with
 pub format_never : (d : ℕ → Bool) → ((b : ℕ) → is_space b ≡ true → d b ≡ false) → d 72 ≡ false → d 86 ≡ false → d 124 ≡ false → d 91 ≡ false → Never d FormatText
 unfolding FormatText
-format_never d spaces h v bar view = gap_never d (Orientation (λ a. FromParent (λ g. View (λ i. Loop Round (started a g i))))) spaces
-    (or_never d (Words axes (λ a. Gap (Sign 58 (FromParent (λ g. View (λ i. Loop Round (started a g i))))))) (FromParent (λ g. View (λ i. Loop Round (started axis.H g i))))
-    (words_never (λ a. Gap (Sign 58 (FromParent (λ g. View (λ i. Loop Round (started a g i)))))) d axes (rw (h, v) refl))
+format_never d spaces h v bar view = blanks_never d (Orientation (λ a. FromParent (λ g. View (λ i. Loop Round (started a g i))))) spaces
+    (or_never d (Words axes (λ a. Blanks (Sign 58 (FromParent (λ g. View (λ i. Loop Round (started a g i))))))) (FromParent (λ g. View (λ i. Loop Round (started axis.H g i))))
+    (words_never (λ a. Blanks (Sign 58 (FromParent (λ g. View (λ i. Loop Round (started a g i)))))) d axes (rw (h, v) refl))
     (or_never d (Sign 124 (Connection (λ g. View (λ i. Loop Round (started axis.H (Some g) i))))) (View (λ i. Loop Round (started axis.H None i))) (lit_never _ d 124 [] bar) (lit_never _ d 91 [] view)))
 
 pub format_lives : Lives is_space FormatText
@@ -335,6 +335,6 @@ format_lives = let l = orientation_lives (λ a. FromParent (λ g. View (λ i. Lo
 
 pub format_answers : (s : List ℕ) → Answers FormatText s (format_at s)
 unfolding format_at FormatText body_at
-format_answers s = gap_answers (Orientation (λ a. FromParent (λ g. View (λ i. Loop Round (started a g i))))) (λ t. orientation_at t >>= λ r. body_at r.0 r.1)
+format_answers s = blanks_answers (Orientation (λ a. FromParent (λ g. View (λ i. Loop Round (started a g i))))) (λ t. orientation_at t >>= λ r. body_at r.0 r.1)
     (orientation_lives (λ a. FromParent (λ g. View (λ i. Loop Round (started a g i)))) body_at body_lives body_never) s
     (λ t i. orientation_answers (λ a. FromParent (λ g. View (λ i. Loop Round (started a g i)))) body_at body_lives body_never t (λ a u j. body_answers a u))

@@ -7,18 +7,18 @@ use Rattle.problem_core.specs.declared.parts.Rel as relation
 use Rattle.problem_core.specs.declared.parts.Rel.TheVariants as rel
 use Rattle.span_text.specs.Language.{Rel, Or, End, Words, NotStart}
 use Rattle.span_text.specs.Classes.{is_space, is_digit, is_letter}
-use Rattle.span_text.specs.Tokens.{Gap, Sign, Name, Number}
+use Rattle.span_text.specs.Tokens.{Blanks, Sign, Name, Number}
 use Rattle.span_text.specs.Loops.{Rounds, Loop}
 use Rattle.span_text.specs.Objects as object
 use Rattle.span_text.specs.Objects.{Meant}
 use Rattle.vfl_text.specs.declared.parts.Axis.{Axis}
 use Rattle.vfl_text.specs.declared.parts.Axis.TheVariants as axis
-use Rattle.vfl_text.specs.Formats.{PredMeaning, GapMeaning, Flush, Standard, Given, ItemMeaning, FormatMeaning}
+use Rattle.vfl_text.specs.Formats.{PredMeaning, SpacingMeaning, Flush, Standard, Given, ItemMeaning, FormatMeaning}
 use Rattle.vfl_text.specs.Grammar.{relations, Value, Object, pred, Priority, Ruled, Pred, PredRound, Preds, item, View, single, Spaced, Connection, with_item, with_end, Next, Round, Orientation, FromParent, started, FormatText}
-use Rattle.vfl_text.specs.Text.{number_text, object_text, relation_text, priority_text, pred_text, more_text, list_text, sizes_text, item_text, is_simple, given_text, gap_text, axis_text, from_text, to_text, chain_text, views_text, format_text}
-use Rattle.vfl_text.specs.Writable.{IsName, IsObject, IsValue, IsPriority, IsPred, ArePreds, IsGap, AreGaps, IsEnd, AreItems, IsWritable}
+use Rattle.vfl_text.specs.Text.{number_text, object_text, relation_text, priority_text, pred_text, more_text, list_text, sizes_text, item_text, is_simple, given_text, spacing_text, axis_text, from_text, to_text, chain_text, views_text, format_text}
+use Rattle.vfl_text.specs.Writable.{IsName, IsObject, IsValue, IsPriority, IsPred, ArePreds, IsSpacing, AreSpacings, IsEnd, AreItems, IsWritable}
 use Rattle.span_text.proofs.PieceLemmas.{bool_tells}
-use Rattle.vfl_text.proofs.NumberTexts.{IsApart, gap_made, sign_made, name_made, number_made, number_apart, name_apart}
+use Rattle.vfl_text.proofs.NumberTexts.{IsApart, blanks_made, sign_made, name_made, number_made, number_apart, name_apart}
 
 letter_no_space : (b : ℕ) → is_letter b ≡ true → is_space b ≡ false
 letter_no_space b h = grind (arith, nat_tests)
@@ -59,10 +59,10 @@ priority_made r o F (Some p) s v is apart h = inl (sign_made 64 (Value (λ p. F 
 ruled_made : {A : Type 0} (F : PredMeaning → Rel A) (p : PredMeaning) (s : List ℕ) (v : A) → IsPred p → IsApart s → F p s v → Ruled p.rel F (object_text p.object ++ (priority_text p.priority ++ s)) v
 ruled_made F p s v is apart h = object_made (λ o. Priority p.rel o F) p.object (priority_text p.priority ++ s) v is.0 (priority_apart p.priority s apart) (priority_made p.rel p.object F p.priority s v is.1 apart h)
 
-relation_made : {A : Type 0} (F : relation.Rel → Rel A) (r : relation.Rel) (s : List ℕ) (v : A) → NotStart is_space s → F r s v → Words relations (λ r. Gap (F r)) (relation_text r ++ s) v
-relation_made F rel.Eq s v n h = inl (s, refl, gap_made (F rel.Eq) s v n h)
-relation_made F rel.Le s v n h = inr (inl (s, refl, gap_made (F rel.Le) s v n h))
-relation_made F rel.Ge s v n h = inr (inr (inl (s, refl, gap_made (F rel.Ge) s v n h)))
+relation_made : {A : Type 0} (F : relation.Rel → Rel A) (r : relation.Rel) (s : List ℕ) (v : A) → NotStart is_space s → F r s v → Words relations (λ r. Blanks (F r)) (relation_text r ++ s) v
+relation_made F rel.Eq s v n h = inl (s, refl, blanks_made (F rel.Eq) s v n h)
+relation_made F rel.Le s v n h = inr (inl (s, refl, blanks_made (F rel.Le) s v n h))
+relation_made F rel.Ge s v n h = inr (inr (inl (s, refl, blanks_made (F rel.Ge) s v n h)))
 
 pred_made : {A : Type 0} (F : PredMeaning → Rel A) (p : PredMeaning) (s : List ℕ) (v : A) → IsPred p → IsApart s → F p s v → Pred F (pred_text p ++ s) v
 pred_made F p s v is apart h =
@@ -124,7 +124,7 @@ given_no_space [] s are = refl
 given_no_space (p ∷ []) s are = elim (bool_tells (is_simple p)) [ inl t ↦ rw t (object_no_space p.object s are.0.0) | inr t ↦ rw t refl ]
 given_no_space (p ∷ q ∷ ps) s are = refl
 
-given_made : {A : Type 0} (F : GapMeaning → Rel A) (ps : List PredMeaning) (s : List ℕ) (v : A) → 0 < length ps → ArePreds ps → NotStart is_space s → F (Given ps) s v → Spaced F (given_text ps ++ 45 ∷ s) v
+given_made : {A : Type 0} (F : SpacingMeaning → Rel A) (ps : List PredMeaning) (s : List ℕ) (v : A) → 0 < length ps → ArePreds ps → NotStart is_space s → F (Given ps) s v → Spaced F (given_text ps ++ 45 ∷ s) v
 given_made F [] s v some are n h = absurd (omega arith)
 given_made F (p ∷ []) s v some are n h = elim (bool_tells (is_simple p)) [
   | inl t ↦ rw t (let is = simple_is p.rel p.object p.priority t are.0.0 in
@@ -134,60 +134,60 @@ given_made F (p ∷ []) s v some are n h = elim (bool_tells (is_simple p)) [
 ]
 given_made F (p ∷ q ∷ ps) s v some are n h = inl (list_made (λ ps. Sign 45 (F (Given ps))) (p ∷ q ∷ ps) (45 ∷ s) v some are refl (sign_made 45 (F (Given (p ∷ q ∷ ps))) s v n h))
 
-gap_no_space : (g : GapMeaning) (s : List ℕ) → NotStart is_space s → NotStart is_space (gap_text g ++ s)
-gap_no_space Flush s n = n
-gap_no_space Standard s n = refl
-gap_no_space (Given ps) s n = refl
+spacing_no_space : (g : SpacingMeaning) (s : List ℕ) → NotStart is_space s → NotStart is_space (spacing_text g ++ s)
+spacing_no_space Flush s n = n
+spacing_no_space Standard s n = refl
+spacing_no_space (Given ps) s n = refl
 
-connection_made : {A : Type 0} (F : GapMeaning → Rel A) (g : GapMeaning) (s : List ℕ) (v : A) → IsGap g → NotStart is_space s → F g s v → Connection F (gap_text g ++ s) v
+connection_made : {A : Type 0} (F : SpacingMeaning → Rel A) (g : SpacingMeaning) (s : List ℕ) (v : A) → IsSpacing g → NotStart is_space s → F g s v → Connection F (spacing_text g ++ s) v
 connection_made F Flush s v is n h = inr h
 connection_made F Standard s v is n h = inl (sign_made 45 (Spaced F) s v n (inr (inr h)))
 connection_made F (Given ps) s v is n h = inl (rw (append_assoc (given_text ps) (45 ∷ []) s) (sign_made 45 (Spaced F) (given_text ps ++ 45 ∷ s) v (given_no_space ps (45 ∷ s) is.1) (given_made F ps s v is.0 is.1 n h)))
 
 -- the format with these views and this end behind its own
-abbrev finished : FormatMeaning → List GapMeaning → List ItemMeaning → Option GapMeaning → FormatMeaning
-finished f gs is t = record { axis = f.axis; from_parent = f.from_parent; items = f.items ++ is; gaps = f.gaps ++ gs; to_parent = t }
+abbrev finished : FormatMeaning → List SpacingMeaning → List ItemMeaning → Option SpacingMeaning → FormatMeaning
+finished f gs is t = record { axis = f.axis; from_parent = f.from_parent; items = f.items ++ is; spacings = f.spacings ++ gs; to_parent = t }
 
-to_no_space : (t : Option GapMeaning) → NotStart is_space (to_text t)
+to_no_space : (t : Option SpacingMeaning) → NotStart is_space (to_text t)
 to_no_space None = tt
-to_no_space (Some g) = gap_no_space g (124 ∷ []) refl
+to_no_space (Some g) = spacing_no_space g (124 ∷ []) refl
 
-chain_no_space : (gs : List GapMeaning) (is : List ItemMeaning) (t : Option GapMeaning) → NotStart is_space (chain_text gs is ++ to_text t)
+chain_no_space : (gs : List SpacingMeaning) (is : List ItemMeaning) (t : Option SpacingMeaning) → NotStart is_space (chain_text gs is ++ to_text t)
 chain_no_space [] is t = to_no_space t
 chain_no_space (g ∷ gs) [] t = to_no_space t
-chain_no_space (g ∷ gs) (i ∷ is) t = rw (append_assoc (gap_text g) (item_text i ++ chain_text gs is) (to_text t)) (gap_no_space g ((item_text i ++ chain_text gs is) ++ to_text t) refl)
+chain_no_space (g ∷ gs) (i ∷ is) t = rw (append_assoc (spacing_text g) (item_text i ++ chain_text gs is) (to_text t)) (spacing_no_space g ((item_text i ++ chain_text gs is) ++ to_text t) refl)
 
-end_made : (f : FormatMeaning) (t : Option GapMeaning) → IsEnd t → f.to_parent ≡ None → Loop Round f (to_text t) (finished f [] [] t)
-end_made f None is none = (1, inr (refl, rw (append-nil f.items, append-nil f.gaps, none) refl))
+end_made : (f : FormatMeaning) (t : Option SpacingMeaning) → IsEnd t → f.to_parent ≡ None → Loop Round f (to_text t) (finished f [] [] t)
+end_made f None is none = (1, inr (refl, rw (append-nil f.items, append-nil f.spacings, none) refl))
 end_made f (Some g) is none = (
   1,
   inl (connection_made (λ g. Next (Rounds Round zero) f g) g (124 ∷ []) (finished f [] [] (Some g)) is refl
-      (inr (sign_made 124 (End (with_end f g)) [] (finished f [] [] (Some g)) tt (refl, rw (append-nil f.items, append-nil f.gaps) refl)))),
+      (inr (sign_made 124 (End (with_end f g)) [] (finished f [] [] (Some g)) tt (refl, rw (append-nil f.items, append-nil f.spacings) refl)))),
 )
 
-chain_made : (gs : List GapMeaning) (is : List ItemMeaning) (t : Option GapMeaning) (f : FormatMeaning) → length gs ≡ length is → AreGaps gs → AreItems is → IsEnd t → f.to_parent ≡ None → Loop Round f (chain_text gs is ++ to_text t) (finished f gs is t)
-chain_made [] [] t f same gaps items end none = end_made f t end none
-chain_made [] (i ∷ is) t f same gaps items end none = absurd (omega arith)
-chain_made (g ∷ gs) [] t f same gaps items end none = absurd (omega arith)
-chain_made (g ∷ gs) (i ∷ is) t f same gaps items end none =
-    let (n, rest) = chain_made gs is t (with_item f g i) (omega arith) gaps.1 items.1 end none in
+chain_made : (gs : List SpacingMeaning) (is : List ItemMeaning) (t : Option SpacingMeaning) (f : FormatMeaning) → length gs ≡ length is → AreSpacings gs → AreItems is → IsEnd t → f.to_parent ≡ None → Loop Round f (chain_text gs is ++ to_text t) (finished f gs is t)
+chain_made [] [] t f same spacings items end none = end_made f t end none
+chain_made [] (i ∷ is) t f same spacings items end none = absurd (omega arith)
+chain_made (g ∷ gs) [] t f same spacings items end none = absurd (omega arith)
+chain_made (g ∷ gs) (i ∷ is) t f same spacings items end none =
+    let (n, rest) = chain_made gs is t (with_item f g i) (omega arith) spacings.1 items.1 end none in
     let moved : Rounds Round n (with_item f g i) (chain_text gs is ++ to_text t) (finished f (g ∷ gs) (i ∷ is) t) =
-    subst (λ (v : FormatMeaning). Rounds Round n (with_item f g i) (chain_text gs is ++ to_text t) v) (rw (append_assoc f.items (i ∷ []) is, append_assoc f.gaps (g ∷ []) gs) refl) rest in
-    rw (append_assoc (gap_text g) (item_text i ++ chain_text gs is) (to_text t), append_assoc (item_text i) (chain_text gs is) (to_text t)) (
+    subst (λ (v : FormatMeaning). Rounds Round n (with_item f g i) (chain_text gs is ++ to_text t) v) (rw (append_assoc f.items (i ∷ []) is, append_assoc f.spacings (g ∷ []) gs) refl) rest in
+    rw (append_assoc (spacing_text g) (item_text i ++ chain_text gs is) (to_text t), append_assoc (item_text i) (chain_text gs is) (to_text t)) (
       suc n,
-      inl (connection_made (λ g. Next (Rounds Round n) f g) g (item_text i ++ (chain_text gs is ++ to_text t)) (finished f (g ∷ gs) (i ∷ is) t) gaps.0 refl
+      inl (connection_made (λ g. Next (Rounds Round n) f g) g (item_text i ++ (chain_text gs is ++ to_text t)) (finished f (g ∷ gs) (i ∷ is) t) spacings.0 refl
           (inl (view_made (λ i. Rounds Round n (with_item f g i)) i (chain_text gs is ++ to_text t) (finished f (g ∷ gs) (i ∷ is) t) items.0.0 items.0.1 (chain_no_space gs is t) moved))),
     )
 
 axis_made : {A : Type 0} (F : Axis → Rel A) (a : Axis) (s : List ℕ) (v : A) → NotStart is_space s → F a s v → Orientation F (axis_text a ++ s) v
-axis_made F axis.H s v n h = inl (inl (58 ∷ s, refl, gap_made (Sign 58 (F axis.H)) (58 ∷ s) v refl (sign_made 58 (F axis.H) s v n h)))
-axis_made F axis.V s v n h = inl (inr (inl (58 ∷ s, refl, gap_made (Sign 58 (F axis.V)) (58 ∷ s) v refl (sign_made 58 (F axis.V) s v n h))))
+axis_made F axis.H s v n h = inl (inl (58 ∷ s, refl, blanks_made (Sign 58 (F axis.H)) (58 ∷ s) v refl (sign_made 58 (F axis.H) s v n h)))
+axis_made F axis.V s v n h = inl (inr (inl (58 ∷ s, refl, blanks_made (Sign 58 (F axis.V)) (58 ∷ s) v refl (sign_made 58 (F axis.V) s v n h))))
 
-from_made : {A : Type 0} (F : Option GapMeaning → Rel A) (g : Option GapMeaning) (s : List ℕ) (v : A) → IsEnd g → NotStart is_space s → F g s v → FromParent F (from_text g ++ s) v
+from_made : {A : Type 0} (F : Option SpacingMeaning → Rel A) (g : Option SpacingMeaning) (s : List ℕ) (v : A) → IsEnd g → NotStart is_space s → F g s v → FromParent F (from_text g ++ s) v
 from_made F None s v is n h = inr h
-from_made F (Some g) s v is n h = inl (sign_made 124 (Connection (λ g. F (Some g))) (gap_text g ++ s) v (gap_no_space g s n) (connection_made (λ g. F (Some g)) g s v is n h))
+from_made F (Some g) s v is n h = inl (sign_made 124 (Connection (λ g. F (Some g))) (spacing_text g ++ s) v (spacing_no_space g s n) (connection_made (λ g. F (Some g)) g s v is n h))
 
-from_no_space : (g : Option GapMeaning) (s : List ℕ) → NotStart is_space s → NotStart is_space (from_text g ++ s)
+from_no_space : (g : Option SpacingMeaning) (s : List ℕ) → NotStart is_space s → NotStart is_space (from_text g ++ s)
 from_no_space None s n = n
 from_no_space (Some g) s n = refl
 
@@ -195,20 +195,20 @@ axis_no_space : (a : Axis) (s : List ℕ) → NotStart is_space (axis_text a ++ 
 axis_no_space axis.H s = refl
 axis_no_space axis.V s = refl
 
-parts_made : (a : Axis) (g : Option GapMeaning) (is : List ItemMeaning) (gs : List GapMeaning) (t : Option GapMeaning) → IsEnd g → AreItems is → AreGaps gs → IsEnd t → length gs + 1 ≡ length is
-    → FormatText (axis_text a ++ (from_text g ++ (views_text gs is ++ to_text t))) (record { axis = a; from_parent = g; items = is; gaps = gs; to_parent = t })
+parts_made : (a : Axis) (g : Option SpacingMeaning) (is : List ItemMeaning) (gs : List SpacingMeaning) (t : Option SpacingMeaning) → IsEnd g → AreItems is → AreSpacings gs → IsEnd t → length gs + 1 ≡ length is
+    → FormatText (axis_text a ++ (from_text g ++ (views_text gs is ++ to_text t))) (record { axis = a; from_parent = g; items = is; spacings = gs; to_parent = t })
 unfolding FormatText
-parts_made a g [] gs t from items gaps end between = absurd (omega arith)
-parts_made a g (i ∷ is) gs t from items gaps end between =
-    let v : FormatMeaning = record { axis = a; from_parent = g; items = i ∷ is; gaps = gs; to_parent = t } in
+parts_made a g [] gs t from items spacings end between = absurd (omega arith)
+parts_made a g (i ∷ is) gs t from items spacings end between =
+    let v : FormatMeaning = record { axis = a; from_parent = g; items = i ∷ is; spacings = gs; to_parent = t } in
     rw (append_assoc (item_text i) (chain_text gs is) (to_text t))
-    (gap_made (Orientation (λ a. FromParent (λ g. View (λ i. Loop Round (started a g i))))) (axis_text a ++ (from_text g ++ (item_text i ++ (chain_text gs is ++ to_text t)))) v (axis_no_space a (from_text g ++ (item_text i ++ (chain_text gs is ++ to_text t))))
+    (blanks_made (Orientation (λ a. FromParent (λ g. View (λ i. Loop Round (started a g i))))) (axis_text a ++ (from_text g ++ (item_text i ++ (chain_text gs is ++ to_text t)))) v (axis_no_space a (from_text g ++ (item_text i ++ (chain_text gs is ++ to_text t))))
     (axis_made (λ a. FromParent (λ g. View (λ i. Loop Round (started a g i)))) a (from_text g ++ (item_text i ++ (chain_text gs is ++ to_text t))) v (from_no_space g (item_text i ++ (chain_text gs is ++ to_text t)) refl)
     (from_made (λ g. View (λ i. Loop Round (started a g i))) g (item_text i ++ (chain_text gs is ++ to_text t)) v from refl
     (view_made (λ i. Loop Round (started a g i)) i (chain_text gs is ++ to_text t) v items.0.0 items.0.1 (chain_no_space gs is t)
-    (chain_made gs is t (started a g i) (omega arith) gaps items.1 end refl)))))
+    (chain_made gs is t (started a g i) (omega arith) spacings items.1 end refl)))))
 
 -- a format that can be written is what its text means
 pub format_made : (f : FormatMeaning) → IsWritable f → FormatText (format_text f) f
 unfolding format_text
-format_made f is = parts_made f.axis f.from_parent f.items f.gaps f.to_parent is.from_parent is.items is.gaps is.to_parent is.between
+format_made f is = parts_made f.axis f.from_parent f.items f.spacings f.to_parent is.from_parent is.items is.spacings is.to_parent is.between

@@ -6,7 +6,7 @@ use Rattle.std.proofs.lemmas.Fmt.{decimal_by_steps, length-decimal-le}
 use Rattle.span_text.specs.Language.{Rel, AllIn, NotStart, Lit, Not, Or}
 use Rattle.span_text.specs.Classes.{is_space, is_digit, is_letter, is_word}
 use Rattle.span_text.specs.Digits.{digits}
-use Rattle.span_text.specs.Tokens.{Gap, Tail, Sign, Name, Digits, Number, decimals, is_point}
+use Rattle.span_text.specs.Tokens.{Blanks, Tail, Sign, Name, Digits, Number, decimals, is_point}
 use Rattle.vfl_text.specs.Text.{decimals_text, number_text}
 use Rattle.vfl_text.specs.Writable.{IsName}
 
@@ -37,18 +37,18 @@ decimal_is n small = decimal_by_steps IsText
     n small
 
 -- a text that stands where one of the language may
-pub gap_made : {A : Type 0} (F : Rel A) (s : List ℕ) (v : A) → NotStart is_space s → F s v → Gap F s v
-gap_made F s v n h = ([], s, refl, tt, n, h)
+pub blanks_made : {A : Type 0} (F : Rel A) (s : List ℕ) (v : A) → NotStart is_space s → F s v → Blanks F s v
+blanks_made F s v n h = ([], s, refl, tt, n, h)
 
 pub tail_made : {A : Type 0} (F : Rel A) (s : List ℕ) (v : A) → IsApart s → F s v → Tail F s v
-tail_made F s v apart h = (apart.word, gap_made F s v apart.space h)
+tail_made F s v apart h = (apart.word, blanks_made F s v apart.space h)
 
 pub sign_made : {A : Type 0} (c : ℕ) (F : Rel A) (s : List ℕ) (v : A) → NotStart is_space s → F s v → Sign c F (c ∷ s) v
-sign_made c F s v n h = (s, refl, gap_made F s v n h)
+sign_made c F s v n h = (s, refl, blanks_made F s v n h)
 
 pub name_made : {A : Type 0} (F : List ℕ → Rel A) (n s : List ℕ) (v : A) → IsName n → IsApart s → F n s v → Name F (n ++ s) v
 name_made F [] s v is apart h = absurd is
-name_made F (b ∷ x) s v is apart h = (b, x ++ s, refl, is.0, (x, s, refl, is.1, apart.word, gap_made (F (b ∷ x)) s v apart.space h))
+name_made F (b ∷ x) s v is apart h = (b, x ++ s, refl, is.0, (x, s, refl, is.1, apart.word, blanks_made (F (b ∷ x)) s v apart.space h))
 
 digits_made : {A : Type 0} (n : ℕ) (F : List ℕ → Rel A) (x s : List ℕ) (v : A) → AllIn is_digit x → 1 ≤ length x → length x ≤ n + 1 → NotStart is_digit s → F x s v → Digits n F (x ++ s) v
 digits_made n F [] s v all some few apart h = absurd (omega arith)

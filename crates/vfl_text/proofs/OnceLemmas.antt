@@ -4,13 +4,13 @@ use Rattle.std.specs.Prelude.{neg_ℤ}
 use Rattle.problem_core.specs.declared.parts.Rel as relation
 use Rattle.problem_core.specs.declared.parts.Rel.TheVariants as rel
 use Rattle.span_text.specs.Language.{Rel, Or, End, Words}
-use Rattle.span_text.specs.Tokens.{Gap, Sign, Name, Number}
+use Rattle.span_text.specs.Tokens.{Blanks, Sign, Name, Number}
 use Rattle.span_text.specs.Loops.{Rounds, Loop}
 use Rattle.span_text.specs.Objects as object
 use Rattle.span_text.specs.Objects.{Meant}
 use Rattle.span_text.proofs.LoopLemmas.{Once}
-use Rattle.span_text.proofs.OnceLemmas.{OnceIn, once_go, once_end, once_or, once_sign, once_name, once_number, once_words, once_gap}
-use Rattle.vfl_text.specs.Formats.{PredMeaning, GapMeaning, Flush, Standard, Given, ItemMeaning, FormatMeaning}
+use Rattle.span_text.proofs.OnceLemmas.{OnceIn, once_go, once_end, once_or, once_sign, once_name, once_number, once_words, once_blanks}
+use Rattle.vfl_text.specs.Formats.{PredMeaning, SpacingMeaning, Flush, Standard, Given, ItemMeaning, FormatMeaning}
 use Rattle.vfl_text.specs.Grammar.{relations, Value, Object, pred, Priority, Ruled, Pred, PredRound, Preds, item, View, single, Spaced, Connection, with_item, with_end, Next, Round}
 
 pub once_value : {S A : Type 0} (T : Meant → (S → Rel A) → Rel A) → ((o : Meant) → OnceIn (T o)) → OnceIn (λ G. Value (λ o. T o G))
@@ -31,8 +31,8 @@ once_ruled : {S A : Type 0} (r : relation.Rel) (T : PredMeaning → (S → Rel A
 once_ruled r T t = once_object (λ o G. Priority r o (λ p. T p G)) (λ o. once_priority r o T t)
 
 pub once_pred : {S A : Type 0} (T : PredMeaning → (S → Rel A) → Rel A) → ((p : PredMeaning) → OnceIn (T p)) → OnceIn (λ G. Pred (λ p. T p G))
-once_pred T t = once_or (λ G. Words relations (λ r. Gap (Ruled r (λ p. T p G)))) (λ G. Ruled rel.Eq (λ p. T p G))
-    (once_words relations (λ r G. Gap (Ruled r (λ p. T p G))) (λ r. once_gap (λ G. Ruled r (λ p. T p G)) (once_ruled r T t)))
+once_pred T t = once_or (λ G. Words relations (λ r. Blanks (Ruled r (λ p. T p G)))) (λ G. Ruled rel.Eq (λ p. T p G))
+    (once_words relations (λ r G. Blanks (Ruled r (λ p. T p G))) (λ r. once_blanks (λ G. Ruled r (λ p. T p G)) (once_ruled r T t)))
     (once_ruled rel.Eq T t)
 
 -- one predicate of a list, by what follows it
@@ -73,17 +73,17 @@ once_view T t = once_sign 91 (λ G. Name (λ n. Or (Preds (λ ps. Sign 93 (T (it
     (once_preds (λ ps G. Sign 93 (T (item n ps) G)) (λ ps. once_sign 93 (T (item n ps)) (t (item n ps))))
     (once_sign 93 (T (item n [])) (t (item n [])))))
 
-once_spaced : {S A : Type 0} (T : GapMeaning → (S → Rel A) → Rel A) → ((g : GapMeaning) → OnceIn (T g)) → OnceIn (λ G. Spaced (λ g. T g G))
+once_spaced : {S A : Type 0} (T : SpacingMeaning → (S → Rel A) → Rel A) → ((g : SpacingMeaning) → OnceIn (T g)) → OnceIn (λ G. Spaced (λ g. T g G))
 once_spaced T t = once_or (λ G. Preds (λ ps. Sign 45 (T (Given ps) G))) (λ G. Or (Value (λ o. Sign 45 (T (Given (single o)) G))) (T Standard G))
     (once_preds (λ ps G. Sign 45 (T (Given ps) G)) (λ ps. once_sign 45 (T (Given ps)) (t (Given ps))))
     (once_or (λ G. Value (λ o. Sign 45 (T (Given (single o)) G))) (T Standard)
     (once_value (λ o G. Sign 45 (T (Given (single o)) G)) (λ o. once_sign 45 (T (Given (single o))) (t (Given (single o)))))
     (t Standard))
 
-pub once_connection : {S A : Type 0} (T : GapMeaning → (S → Rel A) → Rel A) → ((g : GapMeaning) → OnceIn (T g)) → OnceIn (λ G. Connection (λ g. T g G))
+pub once_connection : {S A : Type 0} (T : SpacingMeaning → (S → Rel A) → Rel A) → ((g : SpacingMeaning) → OnceIn (T g)) → OnceIn (λ G. Connection (λ g. T g G))
 once_connection T t = once_or (λ G. Sign 45 (Spaced (λ g. T g G))) (T Flush) (once_sign 45 (λ G. Spaced (λ g. T g G)) (once_spaced T t)) (t Flush)
 
-once_next : (f : FormatMeaning) (g : GapMeaning) → OnceIn (λ G. Next G f g)
+once_next : (f : FormatMeaning) (g : SpacingMeaning) → OnceIn (λ G. Next G f g)
 once_next f g = once_or (λ G. View (λ i. G (with_item f g i))) (λ G. Sign 124 (End (with_end f g)))
     (once_view (λ i G. G (with_item f g i)) (λ i. once_go (with_item f g i)))
     (once_end (Sign 124 (End (with_end f g))))

@@ -8,15 +8,15 @@ use Rattle.problem_core.specs.declared.parts.Rel.TheVariants as rel
 use Rattle.span_text.specs.Language.{Rel, Or, End, Words, AllIn}
 use Rattle.span_text.specs.Classes.{is_digit}
 use Rattle.span_text.specs.Digits.{digits}
-use Rattle.span_text.specs.Tokens.{Gap, Sign, Name, Number, decimals}
+use Rattle.span_text.specs.Tokens.{Blanks, Sign, Name, Number, decimals}
 use Rattle.span_text.specs.Loops.{Rounds, Loop}
 use Rattle.span_text.specs.Objects as object
 use Rattle.span_text.specs.Objects.{Meant}
 use Rattle.vfl_text.specs.declared.parts.Axis.{Axis}
 use Rattle.vfl_text.specs.declared.parts.Axis.TheVariants as axis
-use Rattle.vfl_text.specs.Formats.{PredMeaning, GapMeaning, Flush, Standard, Given, ItemMeaning, FormatMeaning}
+use Rattle.vfl_text.specs.Formats.{PredMeaning, SpacingMeaning, Flush, Standard, Given, ItemMeaning, FormatMeaning}
 use Rattle.vfl_text.specs.Grammar.{relations, Value, Object, pred, Priority, Ruled, Pred, PredRound, Preds, item, View, single, Spaced, Connection, with_item, with_end, Next, Round, Orientation, FromParent, started, FormatText}
-use Rattle.vfl_text.specs.Writable.{IsName, IsObject, IsValue, IsPred, ArePreds, IsGap, AreGaps, IsEnd, AreItems, IsWritable}
+use Rattle.vfl_text.specs.Writable.{IsName, IsObject, IsValue, IsPred, ArePreds, IsSpacing, AreSpacings, IsEnd, AreItems, IsWritable}
 
 -- A text of a construct whose value has the property, and what follows.
 abbrev Holds : {A B : Type 0} → (A → Type 0) → (A → Rel B) → B → Type 0
@@ -89,7 +89,7 @@ priority_holds r o F s v is (inr h) = (pred r o None, s, (is, tt), h)
 ruled_holds : {A : Type 0} (r : relation.Rel) (F : PredMeaning → Rel A) (s : List ℕ) (v : A) → Ruled r F s v → Holds IsPred F v
 ruled_holds r F s v h = let (o, t, is, rest) = object_holds (λ o. Priority r o F) s v h in priority_holds r o F t v is rest
 
-relation_holds : {A : Type 0} (F : PredMeaning → Rel A) (s : List ℕ) (v : A) → Words relations (λ r. Gap (Ruled r F)) s v → Holds IsPred F v
+relation_holds : {A : Type 0} (F : PredMeaning → Rel A) (s : List ℕ) (v : A) → Words relations (λ r. Blanks (Ruled r F)) s v → Holds IsPred F v
 relation_holds F s v (inl (t, e, (x, u, f, a, n, h))) = ruled_holds rel.Eq F u v h
 relation_holds F s v (inr (inl (t, e, (x, u, f, a, n, h)))) = ruled_holds rel.Le F u v h
 relation_holds F s v (inr (inr (inl (t, e, (x, u, f, a, n, h))))) = ruled_holds rel.Ge F u v h
@@ -130,12 +130,12 @@ view_holds F s v h =
       | inr end ↦ (let (x, last) = sign_holds 93 (F (item n [])) u v end in (item n [], x, (is, tt), last))
     ]
 
-spaced_holds : {A : Type 0} (F : GapMeaning → Rel A) (s : List ℕ) (v : A) → Spaced F s v → Holds IsGap F v
+spaced_holds : {A : Type 0} (F : SpacingMeaning → Rel A) (s : List ℕ) (v : A) → Spaced F s v → Holds IsSpacing F v
 spaced_holds F s v (inl h) = let (ps, t, are, g) = preds_hold (λ ps. Sign 45 (F (Given ps))) s v h in let (u, rest) = sign_holds 45 (F (Given ps)) t v g in (Given ps, u, are, rest)
 spaced_holds F s v (inr (inl h)) = let (o, t, is, g) = value_holds (λ o. Sign 45 (F (Given (single o)))) s v h in let (u, rest) = sign_holds 45 (F (Given (single o))) t v g in (Given (single o), u, (omega arith, ((value_is_object o is, tt), tt)), rest)
 spaced_holds F s v (inr (inr h)) = (Standard, s, tt, h)
 
-connection_holds : {A : Type 0} (F : GapMeaning → Rel A) (s : List ℕ) (v : A) → Connection F s v → Holds IsGap F v
+connection_holds : {A : Type 0} (F : SpacingMeaning → Rel A) (s : List ℕ) (v : A) → Connection F s v → Holds IsSpacing F v
 connection_holds F s v (inl h) = let (t, g) = sign_holds 45 (Spaced F) s v h in spaced_holds F t v g
 connection_holds F s v (inr h) = (Flush, s, tt, h)
 
@@ -143,42 +143,42 @@ items_more : (is : List ItemMeaning) (i : ItemMeaning) → AreItems is → IsIte
 items_more [] i are is = (is, tt)
 items_more (j ∷ js) i are is = (are.0, items_more js i are.1 is)
 
-gaps_more : (gs : List GapMeaning) (g : GapMeaning) → AreGaps gs → IsGap g → AreGaps (gs ++ g ∷ [])
-gaps_more [] g are is = (is, tt)
-gaps_more (h ∷ hs) g are is = (are.0, gaps_more hs g are.1 is)
+spacings_more : (gs : List SpacingMeaning) (g : SpacingMeaning) → AreSpacings gs → IsSpacing g → AreSpacings (gs ++ g ∷ [])
+spacings_more [] g are is = (is, tt)
+spacings_more (h ∷ hs) g are is = (are.0, spacings_more hs g are.1 is)
 
-joined_is : (f : FormatMeaning) (g : GapMeaning) (i : ItemMeaning) → IsWritable f → IsGap g → IsItem i → IsWritable (with_item f g i)
-joined_is f g i h gap it = record {
+joined_is : (f : FormatMeaning) (g : SpacingMeaning) (i : ItemMeaning) → IsWritable f → IsSpacing g → IsItem i → IsWritable (with_item f g i)
+joined_is f g i h spacing it = record {
   from_parent = h.from_parent;
   items = items_more f.items i h.items it;
-  gaps = gaps_more f.gaps g h.gaps gap;
+  spacings = spacings_more f.spacings g h.spacings spacing;
   to_parent = h.to_parent;
-  between = (let k = length-append f.items (i ∷ []) in let l = length-append f.gaps (g ∷ []) in let b = h.between in omega (arith, k, l, b));
+  between = (let k = length-append f.items (i ∷ []) in let l = length-append f.spacings (g ∷ []) in let b = h.between in omega (arith, k, l, b));
 }
 
-ended_is : (f : FormatMeaning) (g : GapMeaning) → IsWritable f → IsGap g → IsWritable (with_end f g)
-ended_is f g h gap = record { from_parent = h.from_parent; items = h.items; gaps = h.gaps; to_parent = gap; between = h.between }
+ended_is : (f : FormatMeaning) (g : SpacingMeaning) → IsWritable f → IsSpacing g → IsWritable (with_end f g)
+ended_is f g h spacing = record { from_parent = h.from_parent; items = h.items; spacings = h.spacings; to_parent = spacing; between = h.between }
 
 chain_writable : (n : ℕ) (f : FormatMeaning) (s : List ℕ) (m : FormatMeaning) → IsWritable f → Rounds Round n f s m → IsWritable m
 chain_writable zero f s m is h = absurd h
 chain_writable (suc n) f s m is (inl h) =
-    let (g, t, gap, next) = connection_holds (λ g. Next (Rounds Round n) f g) s m h in
+    let (g, t, spacing, next) = connection_holds (λ g. Next (Rounds Round n) f g) s m h in
     elim next [
-      | inl v ↦ (let (i, u, it, rest) = view_holds (λ i. Rounds Round n (with_item f g i)) t m v in chain_writable n (with_item f g i) u m (joined_is f g i is gap it) rest)
-      | inr e ↦ (let (u, end) = sign_holds 124 (End (with_end f g)) t m e in subst IsWritable (sym end.1) (ended_is f g is gap))
+      | inl v ↦ (let (i, u, it, rest) = view_holds (λ i. Rounds Round n (with_item f g i)) t m v in chain_writable n (with_item f g i) u m (joined_is f g i is spacing it) rest)
+      | inr e ↦ (let (u, end) = sign_holds 124 (End (with_end f g)) t m e in subst IsWritable (sym end.1) (ended_is f g is spacing))
     ]
 chain_writable (suc n) f s m is (inr h) = subst IsWritable (sym h.1) is
 
-view_writable : (a : Axis) (g : Option GapMeaning) (s : List ℕ) (m : FormatMeaning) → IsEnd g → View (λ i. Loop Round (started a g i)) s m → IsWritable m
+view_writable : (a : Axis) (g : Option SpacingMeaning) (s : List ℕ) (m : FormatMeaning) → IsEnd g → View (λ i. Loop Round (started a g i)) s m → IsWritable m
 view_writable a g s m end h =
     let (i, t, it, rest) = view_holds (λ i. Loop Round (started a g i)) s m h in
-    chain_writable rest.0 (started a g i) t m (record { from_parent = end; items = (it, tt); gaps = tt; to_parent = tt; between = omega arith }) rest.1
+    chain_writable rest.0 (started a g i) t m (record { from_parent = end; items = (it, tt); spacings = tt; to_parent = tt; between = omega arith }) rest.1
 
 body_writable : (a : Axis) (s : List ℕ) (m : FormatMeaning) → FromParent (λ g. View (λ i. Loop Round (started a g i))) s m → IsWritable m
 body_writable a s m (inl h) =
     let (t, c) = sign_holds 124 (Connection (λ g. View (λ i. Loop Round (started a (Some g) i)))) s m h in
-    let (g, u, gap, rest) = connection_holds (λ g. View (λ i. Loop Round (started a (Some g) i))) t m c in
-    view_writable a (Some g) u m gap rest
+    let (g, u, spacing, rest) = connection_holds (λ g. View (λ i. Loop Round (started a (Some g) i))) t m c in
+    view_writable a (Some g) u m spacing rest
 body_writable a s m (inr h) = view_writable a None s m tt h
 
 axis_writable : (s : List ℕ) (m : FormatMeaning) → Orientation (λ a. FromParent (λ g. View (λ i. Loop Round (started a g i)))) s m → IsWritable m

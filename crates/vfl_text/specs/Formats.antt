@@ -9,10 +9,10 @@ pub record PredMeaning : Type 0 where
   pub object : Meant
   pub priority : Option Meant
 
-pub data GapMeaning : Type 0 where
-  Flush : GapMeaning
-  Standard : GapMeaning
-  Given : List PredMeaning → GapMeaning
+pub data SpacingMeaning : Type 0 where
+  Flush : SpacingMeaning
+  Standard : SpacingMeaning
+  Given : List PredMeaning → SpacingMeaning
 
 pub record ItemMeaning : Type 0 where
   pub name : List ℕ
@@ -20,7 +20,7 @@ pub record ItemMeaning : Type 0 where
 
 pub record FormatMeaning : Type 0 where
   pub axis : Axis
-  pub from_parent : Option GapMeaning
+  pub from_parent : Option SpacingMeaning
   pub items : List ItemMeaning
-  pub gaps : List GapMeaning
-  pub to_parent : Option GapMeaning
+  pub spacings : List SpacingMeaning
+  pub to_parent : Option SpacingMeaning

@@ -4,6 +4,8 @@ use Rattle.std.specs.Prelude.{ℕ, pos, neg_ℤ, Bool, ◌==◌, ◌||◌, List,
 use Rattle.std.specs.Prelude.{Result, Ok, if◌then◌else◌}
 use Rattle.problem_core.specs.declared.parts.Rel as relation
 use Rattle.problem_core.specs.declared.parts.Rel.TheVariants as rel
+use Rattle.span_text.specs.Bytes.{at_sign, bar, colon, comma, equals, greater, left_bracket, left_paren}
+use Rattle.span_text.specs.Bytes.{less, minus, right_bracket, right_paren, upper_h, upper_v}
 use Rattle.span_text.specs.Classes.{is_letter, is_word}
 use Rattle.span_text.specs.Reading.{◌>>=◌, starts, tried, end_at}
 use Rattle.span_text.specs.Tokens.{skip, sign_at, name_at, number_at}
@@ -12,44 +14,44 @@ use Rattle.span_text.specs.Objects as object
 use Rattle.span_text.specs.Objects.{Meant}
 use Rattle.vfl_text.specs.declared.parts.Axis.{Axis}
 use Rattle.vfl_text.specs.declared.parts.Axis.TheVariants as axis
-use Rattle.vfl_text.specs.Formats.{PredMeaning, GapMeaning, Flush, Standard, Given, ItemMeaning}
+use Rattle.vfl_text.specs.Formats.{PredMeaning, SpacingMeaning, Flush, Standard, Given, ItemMeaning}
 use Rattle.vfl_text.specs.Formats.{FormatMeaning}
 use Rattle.vfl_text.specs.Grammar.{relations, axes, pred, item, single, with_item, with_end, started}
 
 abbrev pub is_minus : ℕ → Bool
-is_minus b = b == 45
+is_minus b = b == minus
 
 abbrev pub is_at : ℕ → Bool
-is_at b = b == 64
+is_at b = b == at_sign
 
 abbrev pub is_comma : ℕ → Bool
-is_comma b = b == 44
+is_comma b = b == comma
 
 -- the first byte of a relation
 abbrev pub is_compare : ℕ → Bool
-is_compare b = (b == 60) || (b == 61) || (b == 62)
+is_compare b = (b == less) || (b == equals) || (b == greater)
 
 -- the first byte of a list
 abbrev pub is_list : ℕ → Bool
-is_list b = b == 40
+is_list b = b == left_paren
 
 -- the first byte of a view
 abbrev pub is_view : ℕ → Bool
-is_view b = b == 91
+is_view b = b == left_bracket
 
 abbrev pub is_bar : ℕ → Bool
-is_bar b = b == 124
+is_bar b = b == bar
 
 -- what may follow a connection
 abbrev pub is_joined : ℕ → Bool
-is_joined b = (b == 91) || (b == 124)
+is_joined b = (b == left_bracket) || (b == bar)
 
 -- what a further round begins with
 abbrev pub is_more : ℕ → Bool
-is_more b = (b == 45) || (b == 91) || (b == 124)
+is_more b = (b == minus) || (b == left_bracket) || (b == bar)
 
 abbrev pub is_axis : ℕ → Bool
-is_axis b = (b == 72) || (b == 86)
+is_axis b = (b == upper_h) || (b == upper_v)
 
 -- a value and the text behind it
 abbrev pub with_rest : {V : Type 0} → V → List ℕ → Result (V × List ℕ) ℕ
@@ -68,13 +70,13 @@ unfoldable pub value_at : List ℕ → Result (Meant × List ℕ) ℕ
 value_at s = if starts is_letter s then name_at s >>= as_name else number_at s >>= as_number
 
 unfoldable pub object_at : List ℕ → Result (Meant × List ℕ) ℕ
-object_at s = if starts is_minus s then sign_at 45 s >>= (λ t. number_at t >>= as_negative) else value_at s
+object_at s = if starts is_minus s then sign_at minus s >>= (λ t. number_at t >>= as_negative) else value_at s
 
 abbrev pub with_priority : relation.Rel → Meant → Meant × List ℕ → Result (PredMeaning × List ℕ) ℕ
 with_priority r o p = Ok (pred r o (Some p.0), p.1)
 
 unfoldable pub priority_at : relation.Rel → Meant → List ℕ → Result (PredMeaning × List ℕ) ℕ
-priority_at r o s = if starts is_at s then sign_at 64 s >>= (λ t. value_at t >>= with_priority r o)
+priority_at r o s = if starts is_at s then sign_at at_sign s >>= (λ t. value_at t >>= with_priority r o)
     else with_rest (pred r o None) s
 
 unfoldable pub ruled_at : relation.Rel → List ℕ → Result (PredMeaning × List ℕ) ℕ
@@ -86,30 +88,31 @@ pred_at s = if starts is_compare s then tried relations s >>= (λ r. ruled_at r.
 
 unfoldable pub pred_round_at : (List PredMeaning → List ℕ → Result (List PredMeaning × List ℕ) ℕ)
     → List PredMeaning → List ℕ → Result (List PredMeaning × List ℕ) ℕ
-pred_round_at g ps s = pred_at s >>= (λ p. if starts is_comma p.1 then sign_at 44 p.1 >>= g (ps ++ p.0 ∷ [])
-    else sign_at 41 p.1 >>= with_rest (ps ++ p.0 ∷ []))
+pred_round_at g ps s = pred_at s >>= (λ p. if starts is_comma p.1
+    then sign_at comma p.1 >>= g (ps ++ p.0 ∷ [])
+    else sign_at right_paren p.1 >>= with_rest (ps ++ p.0 ∷ []))
 
 unfoldable pub preds_at : List ℕ → Result (List PredMeaning × List ℕ) ℕ
-preds_at s = sign_at 40 s >>= loop_at pred_round_at []
+preds_at s = sign_at left_paren s >>= loop_at pred_round_at []
 
 unfoldable pub item_at : List ℕ → Result (ItemMeaning × List ℕ) ℕ
-item_at s = sign_at 91 s >>= (λ s. name_at s >>= (λ n. if starts is_list n.1
-    then preds_at n.1 >>= (λ p. sign_at 93 p.1 >>= with_rest (item n.0 p.0))
-    else sign_at 93 n.1 >>= with_rest (item n.0 [])))
+item_at s = sign_at left_bracket s >>= (λ s. name_at s >>= (λ n. if starts is_list n.1
+    then preds_at n.1 >>= (λ p. sign_at right_bracket p.1 >>= with_rest (item n.0 p.0))
+    else sign_at right_bracket n.1 >>= with_rest (item n.0 [])))
 
-unfoldable pub spaced_at : List ℕ → Result (GapMeaning × List ℕ) ℕ
+unfoldable pub spaced_at : List ℕ → Result (SpacingMeaning × List ℕ) ℕ
 spaced_at s = if starts is_list s
-    then preds_at s >>= (λ p. sign_at 45 p.1 >>= with_rest (Given p.0))
-    else (if starts is_word s then value_at s >>= (λ o. sign_at 45 o.1 >>= with_rest (Given (single o.0)))
+    then preds_at s >>= (λ p. sign_at minus p.1 >>= with_rest (Given p.0))
+    else (if starts is_word s then value_at s >>= (λ o. sign_at minus o.1 >>= with_rest (Given (single o.0)))
     else with_rest Standard s)
 
-unfoldable pub gap_at : List ℕ → Result (GapMeaning × List ℕ) ℕ
-gap_at s = if starts is_minus s then sign_at 45 s >>= spaced_at else with_rest Flush s
+unfoldable pub spacing_at : List ℕ → Result (SpacingMeaning × List ℕ) ℕ
+spacing_at s = if starts is_minus s then sign_at minus s >>= spaced_at else with_rest Flush s
 
-abbrev pub parent_at : FormatMeaning → GapMeaning → List ℕ → Result FormatMeaning ℕ
-parent_at f g s = sign_at 124 s >>= (λ t. end_at t >>= (λ _. Ok (with_end f g)))
+abbrev pub parent_at : FormatMeaning → SpacingMeaning → List ℕ → Result FormatMeaning ℕ
+parent_at f g s = sign_at bar s >>= (λ t. end_at t >>= (λ _. Ok (with_end f g)))
 
-unfoldable pub next_at : (FormatMeaning → List ℕ → Result FormatMeaning ℕ) → FormatMeaning → GapMeaning
+unfoldable pub next_at : (FormatMeaning → List ℕ → Result FormatMeaning ℕ) → FormatMeaning → SpacingMeaning
     → List ℕ → Result FormatMeaning ℕ
 next_at k f g s = if starts is_view s
     then item_at s >>= (λ i. k (with_item f g i.0) i.1)
@@ -117,18 +120,18 @@ next_at k f g s = if starts is_view s
 
 unfoldable pub round_at : (FormatMeaning → List ℕ → Result FormatMeaning ℕ) → FormatMeaning → List ℕ
     → Result FormatMeaning ℕ
-round_at k f s = if starts is_more s then gap_at s >>= (λ g. next_at k f g.0 g.1)
+round_at k f s = if starts is_more s then spacing_at s >>= (λ g. next_at k f g.0 g.1)
     else end_at s >>= (λ _. Ok f)
 
 unfoldable pub orientation_at : List ℕ → Result (Axis × List ℕ) ℕ
-orientation_at s = if starts is_axis s then tried axes s >>= (λ a. sign_at 58 (skip a.1) >>= with_rest a.0)
+orientation_at s = if starts is_axis s then tried axes s >>= (λ a. sign_at colon (skip a.1) >>= with_rest a.0)
     else with_rest axis.H s
 
-abbrev pub from_gap : GapMeaning × List ℕ → Result (Option GapMeaning × List ℕ) ℕ
-from_gap g = Ok (Some g.0, g.1)
+abbrev pub from_spacing : SpacingMeaning × List ℕ → Result (Option SpacingMeaning × List ℕ) ℕ
+from_spacing g = Ok (Some g.0, g.1)
 
-unfoldable pub from_parent_at : List ℕ → Result (Option GapMeaning × List ℕ) ℕ
-from_parent_at s = if starts is_bar s then sign_at 124 s >>= (λ t. gap_at t >>= from_gap)
+unfoldable pub from_parent_at : List ℕ → Result (Option SpacingMeaning × List ℕ) ℕ
+from_parent_at s = if starts is_bar s then sign_at bar s >>= (λ t. spacing_at t >>= from_spacing)
     else with_rest None s
 
 unfoldable pub format_at : List ℕ → Result FormatMeaning ℕ

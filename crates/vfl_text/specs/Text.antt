@@ -5,25 +5,28 @@ use Rattle.std.specs.Prelude.{ℕ, ℤ, pos, negsuc, suc, ◌+◌, ◌/◌, ◌%
 use Rattle.std.specs.Prelude.{◌∷◌, ◌++◌, Option, Some, None, codes, decimal, if◌then◌else◌}
 use Rattle.problem_core.specs.declared.parts.Rel as relation
 use Rattle.problem_core.specs.declared.parts.Rel.TheVariants as rel
+use Rattle.span_text.specs.Bytes.{at_sign, bar, comma, digit_0, left_bracket, left_paren, minus, point}
+use Rattle.span_text.specs.Bytes.{right_bracket, right_paren}
 use Rattle.span_text.specs.Objects as object
 use Rattle.span_text.specs.Objects.{Meant}
+use Rattle.span_text.specs.declared.limits.TheConstants.{UNIT}
 use Rattle.vfl_text.specs.declared.parts.Axis.{Axis}
 use Rattle.vfl_text.specs.declared.parts.Axis.TheVariants as axis
-use Rattle.vfl_text.specs.Formats.{PredMeaning, GapMeaning, Flush, Standard, Given, ItemMeaning}
+use Rattle.vfl_text.specs.Formats.{PredMeaning, SpacingMeaning, Flush, Standard, Given, ItemMeaning}
 use Rattle.vfl_text.specs.Formats.{FormatMeaning}
 
--- thousandths below 1000 as decimals, the fewest there can be
+-- thousandths below one as decimals, the fewest there can be
 unfoldable pub decimals_text : ℕ → List ℕ
-decimals_text f = if f == 0 then [] else 46 ∷ (48 + f / 100) ∷
-    (if f % 100 == 0 then [] else (48 + f / 10 % 10) ∷
-    (if f % 10 == 0 then [] else (48 + f % 10) ∷ []))
+decimals_text f = if f == 0 then [] else point ∷ (digit_0 + f / 100) ∷
+    (if f % 100 == 0 then [] else (digit_0 + f / 10 % 10) ∷
+    (if f % 10 == 0 then [] else (digit_0 + f % 10) ∷ []))
 
 unfoldable pub number_text : ℕ → List ℕ
-number_text n = decimal (n / 1000) ++ decimals_text (n % 1000)
+number_text n = decimal (n / UNIT) ++ decimals_text (n % UNIT)
 
 abbrev pub signed_text : ℤ → List ℕ
 signed_text (pos n) = number_text n
-signed_text (negsuc n) = 45 ∷ number_text (suc n)
+signed_text (negsuc n) = minus ∷ number_text (suc n)
 
 abbrev pub object_text : Meant → List ℕ
 object_text (object.Number z) = signed_text z
@@ -36,7 +39,7 @@ relation_text rel.Ge = codes ">="
 
 abbrev pub priority_text : Option Meant → List ℕ
 priority_text None = []
-priority_text (Some p) = 64 ∷ object_text p
+priority_text (Some p) = at_sign ∷ object_text p
 
 abbrev pub pred_text : PredMeaning → List ℕ
 pred_text p = relation_text p.rel ++ (object_text p.object ++ priority_text p.priority)
@@ -44,21 +47,21 @@ pred_text p = relation_text p.rel ++ (object_text p.object ++ priority_text p.pr
 -- the predicates behind the first one
 abbrev pub more_text : List PredMeaning → List ℕ
 more_text [] = []
-more_text (p ∷ ps) = 44 ∷ (pred_text p ++ more_text ps)
+more_text (p ∷ ps) = comma ∷ (pred_text p ++ more_text ps)
 
 abbrev pub preds_text : List PredMeaning → List ℕ
 preds_text [] = []
 preds_text (p ∷ ps) = pred_text p ++ more_text ps
 
 abbrev pub list_text : List PredMeaning → List ℕ
-list_text ps = 40 ∷ (preds_text ps ++ 41 ∷ [])
+list_text ps = left_paren ∷ (preds_text ps ++ right_paren ∷ [])
 
 abbrev pub sizes_text : List PredMeaning → List ℕ
 sizes_text [] = []
 sizes_text (p ∷ ps) = list_text (p ∷ ps)
 
 abbrev pub item_text : ItemMeaning → List ℕ
-item_text i = 91 ∷ (i.name ++ (sizes_text i.sizes ++ 93 ∷ []))
+item_text i = left_bracket ∷ (i.name ++ (sizes_text i.sizes ++ right_bracket ∷ []))
 
 abbrev pub is_eq : relation.Rel → Bool
 is_eq rel.Eq = true
@@ -85,33 +88,33 @@ given_text [] = list_text []
 given_text (p ∷ []) = if is_simple p then object_text p.object else list_text (p ∷ [])
 given_text (p ∷ q ∷ ps) = list_text (p ∷ q ∷ ps)
 
-abbrev pub gap_text : GapMeaning → List ℕ
-gap_text Flush = []
-gap_text Standard = 45 ∷ []
-gap_text (Given ps) = 45 ∷ (given_text ps ++ 45 ∷ [])
+abbrev pub spacing_text : SpacingMeaning → List ℕ
+spacing_text Flush = []
+spacing_text Standard = minus ∷ []
+spacing_text (Given ps) = minus ∷ (given_text ps ++ minus ∷ [])
 
 abbrev pub axis_text : Axis → List ℕ
 axis_text axis.H = codes "H:"
 axis_text axis.V = codes "V:"
 
-abbrev pub from_text : Option GapMeaning → List ℕ
+abbrev pub from_text : Option SpacingMeaning → List ℕ
 from_text None = []
-from_text (Some g) = 124 ∷ gap_text g
+from_text (Some g) = bar ∷ spacing_text g
 
-abbrev pub to_text : Option GapMeaning → List ℕ
+abbrev pub to_text : Option SpacingMeaning → List ℕ
 to_text None = []
-to_text (Some g) = gap_text g ++ 124 ∷ []
+to_text (Some g) = spacing_text g ++ bar ∷ []
 
 -- the views behind the first one, each with the connection before it
-abbrev pub chain_text : List GapMeaning → List ItemMeaning → List ℕ
+abbrev pub chain_text : List SpacingMeaning → List ItemMeaning → List ℕ
 chain_text [] is = []
 chain_text (g ∷ gs) [] = []
-chain_text (g ∷ gs) (i ∷ is) = gap_text g ++ (item_text i ++ chain_text gs is)
+chain_text (g ∷ gs) (i ∷ is) = spacing_text g ++ (item_text i ++ chain_text gs is)
 
-abbrev pub views_text : List GapMeaning → List ItemMeaning → List ℕ
+abbrev pub views_text : List SpacingMeaning → List ItemMeaning → List ℕ
 views_text gs [] = []
 views_text gs (i ∷ is) = item_text i ++ chain_text gs is
 
 unfoldable pub format_text : FormatMeaning → List ℕ
 format_text f = axis_text f.axis ++ (from_text f.from_parent
-    ++ (views_text f.gaps f.items ++ to_text f.to_parent))
+    ++ (views_text f.spacings f.items ++ to_text f.to_parent))

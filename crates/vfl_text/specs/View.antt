@@ -3,11 +3,11 @@ use Rattle.std.specs.Prelude.{List, map, Option, Some, None}
 use Rattle.span_text.specs.declared.object.Object.{Object}
 use Rattle.span_text.specs.Objects.{Meant, meant}
 use Rattle.vfl_text.specs.declared.parts.Pred.{Pred}
-use Rattle.vfl_text.specs.declared.parts.Gap.{Gap}
-use Rattle.vfl_text.specs.declared.parts.Gap.TheVariants as gap
+use Rattle.vfl_text.specs.declared.parts.Spacing.{Spacing}
+use Rattle.vfl_text.specs.declared.parts.Spacing.TheVariants as spacing
 use Rattle.vfl_text.specs.declared.parts.Item.{Item}
 use Rattle.vfl_text.specs.declared.parts.Format.{Format}
-use Rattle.vfl_text.specs.Formats.{PredMeaning, GapMeaning, Flush, Standard, Given, ItemMeaning}
+use Rattle.vfl_text.specs.Formats.{PredMeaning, SpacingMeaning, Flush, Standard, Given, ItemMeaning}
 use Rattle.vfl_text.specs.Formats.{FormatMeaning}
 
 abbrev pub priority_meaning : Option Object → Option Meant
@@ -20,17 +20,17 @@ pred_meaning p = record { rel = p.rel; object = meant p.object; priority = prior
 abbrev pub pred_meanings : List Pred → List PredMeaning
 pred_meanings ps = map pred_meaning ps
 
-abbrev pub gap_meaning : Gap → GapMeaning
-gap_meaning gap.Flush = Flush
-gap_meaning gap.Standard = Standard
-gap_meaning (gap.Given preds) = Given (pred_meanings preds.items)
+abbrev pub spacing_meaning : Spacing → SpacingMeaning
+spacing_meaning spacing.Flush = Flush
+spacing_meaning spacing.Standard = Standard
+spacing_meaning (spacing.Given preds) = Given (pred_meanings preds.items)
 
-abbrev pub gap_meanings : List Gap → List GapMeaning
-gap_meanings gs = map gap_meaning gs
+abbrev pub spacing_meanings : List Spacing → List SpacingMeaning
+spacing_meanings gs = map spacing_meaning gs
 
-abbrev pub end_meaning : Option Gap → Option GapMeaning
+abbrev pub end_meaning : Option Spacing → Option SpacingMeaning
 end_meaning None = None
-end_meaning (Some g) = Some (gap_meaning g)
+end_meaning (Some g) = Some (spacing_meaning g)
 
 abbrev pub item_meaning : Item → ItemMeaning
 item_meaning i = record { name = i.name.now; sizes = pred_meanings i.sizes.items }
@@ -43,6 +43,6 @@ meaning f = record {
   axis = f.axis;
   from_parent = end_meaning f.from_parent;
   items = item_meanings f.items.items;
-  gaps = gap_meanings f.gaps.items;
+  spacings = spacing_meanings f.spacings.items;
   to_parent = end_meaning f.to_parent;
 }

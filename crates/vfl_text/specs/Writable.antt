@@ -1,12 +1,13 @@
 -- Which formats have a text: names are names, numbers are those that the grammar can write, and each space
 -- that is given has a predicate.
-use Rattle.std.specs.Prelude.{◌≡◌, ℕ, pos, negsuc, suc, ◌+◌, ◌<◌, ◌^◌, true, List, [], ◌∷◌, length, Option}
+use Rattle.std.specs.Prelude.{◌≡◌, ℕ, pos, negsuc, suc, ◌+◌, ◌<◌, true, List, [], ◌∷◌, length, Option}
 use Rattle.std.specs.Prelude.{Some, None}
 use Rattle.span_text.specs.Classes.{is_letter, is_word}
 use Rattle.span_text.specs.Language.{AllIn}
 use Rattle.span_text.specs.Objects as object
 use Rattle.span_text.specs.Objects.{Meant}
-use Rattle.vfl_text.specs.Formats.{PredMeaning, GapMeaning, Flush, Standard, Given, ItemMeaning}
+use Rattle.span_text.specs.Tokens.{number_bound}
+use Rattle.vfl_text.specs.Formats.{PredMeaning, SpacingMeaning, Flush, Standard, Given, ItemMeaning}
 use Rattle.vfl_text.specs.Formats.{FormatMeaning}
 
 -- a letter or _, and then letters, digits and _
@@ -14,15 +15,15 @@ abbrev pub IsName : List ℕ → Type 0
 IsName [] = ⊥
 IsName (b ∷ x) = (is_letter b ≡ true) × AllIn is_word x
 
--- a name, or a number of at most six digits before the point and three behind it
+-- a name, or a number that can be written
 abbrev pub IsObject : Meant → Type 0
-IsObject (object.Number (pos n)) = n < 10 ^ 9
-IsObject (object.Number (negsuc n)) = suc n < 10 ^ 9
+IsObject (object.Number (pos n)) = n < number_bound
+IsObject (object.Number (negsuc n)) = suc n < number_bound
 IsObject (object.Name n) = IsName n
 
 -- the same, where the number isn't below 0
 abbrev pub IsValue : Meant → Type 0
-IsValue (object.Number (pos n)) = n < 10 ^ 9
+IsValue (object.Number (pos n)) = n < number_bound
 IsValue (object.Number (negsuc n)) = ⊥
 IsValue (object.Name n) = IsName n
 
@@ -37,18 +38,18 @@ abbrev pub ArePreds : List PredMeaning → Type 0
 ArePreds [] = Unit {0}
 ArePreds (p ∷ ps) = IsPred p × ArePreds ps
 
-abbrev pub IsGap : GapMeaning → Type 0
-IsGap Flush = Unit {0}
-IsGap Standard = Unit {0}
-IsGap (Given ps) = (0 < length ps) × ArePreds ps
+abbrev pub IsSpacing : SpacingMeaning → Type 0
+IsSpacing Flush = Unit {0}
+IsSpacing Standard = Unit {0}
+IsSpacing (Given ps) = (0 < length ps) × ArePreds ps
 
-abbrev pub AreGaps : List GapMeaning → Type 0
-AreGaps [] = Unit {0}
-AreGaps (g ∷ gs) = IsGap g × AreGaps gs
+abbrev pub AreSpacings : List SpacingMeaning → Type 0
+AreSpacings [] = Unit {0}
+AreSpacings (g ∷ gs) = IsSpacing g × AreSpacings gs
 
-abbrev pub IsEnd : Option GapMeaning → Type 0
+abbrev pub IsEnd : Option SpacingMeaning → Type 0
 IsEnd None = Unit {0}
-IsEnd (Some g) = IsGap g
+IsEnd (Some g) = IsSpacing g
 
 abbrev pub AreItems : List ItemMeaning → Type 0
 AreItems [] = Unit {0}
@@ -57,6 +58,6 @@ AreItems (i ∷ is) = (IsName i.name × ArePreds i.sizes) × AreItems is
 pub record IsWritable (f : FormatMeaning) : Type 0 where
   pub from_parent : IsEnd f.from_parent
   pub items : AreItems f.items
-  pub gaps : AreGaps f.gaps
+  pub spacings : AreSpacings f.spacings
   pub to_parent : IsEnd f.to_parent
-  pub between : length f.gaps + 1 ≡ length f.items
+  pub between : length f.spacings + 1 ≡ length f.items

@@ -8,9 +8,9 @@ ghost use Rattle.span_text.specs.declared.stop.PartStop.TheVariants as stop;
 ghost use Rattle.vfl_text.specs.Grammar.{axes, started, with_item};
 ghost use Rattle.vfl_text.specs.Reading.{is_axis, is_more, orientation_at, from_parent_at, parent_at};
 ghost use Rattle.vfl_text.specs.Reading.{round_at, format_at};
-ghost use Rattle.vfl_text.specs.View.{meaning, gap_meaning, end_meaning, item_meaning};
+ghost use Rattle.vfl_text.specs.View.{meaning, spacing_meaning, end_meaning, item_meaning};
 
-use crate::parts::{Axis, Format, Gap, Item};
+use crate::parts::{Axis, Format, Item, Spacing};
 use crate::views;
 use span_text::{PartStop, names, pieces};
 use std::alloc::Global;
@@ -53,27 +53,31 @@ fn orientation(text: &[u8]) -> Result<(Axis, &[u8]), usize>
 
 // The connection to a parent in front, if one is there, and the text behind it.
 #[tactic(auto, unfolding(crate::specs::Reading::from_parent_at))]
-fn from_parent(alloc: Global, text: &[u8]) -> Result<(Option<Gap<'_>>, &[u8]), PartStop>
+fn from_parent(alloc: Global, text: &[u8]) -> Result<(Option<Spacing<'_>>, &[u8]), PartStop>
     ensures { GivesOrMemory (λ p. (end_meaning p.0, p.1.now)) result (from_parent_at text.now) }
 {
     if pieces::begins(text, b'|') {
         let rest = names::sign(b'|', text)?;
-        let (gap, rest) = views::connection(alloc, rest)?;
-        Ok((Some(gap), rest))
+        let (spacing, rest) = views::connection(alloc, rest)?;
+        Ok((Some(spacing), rest))
     } else {
         Ok((None, text))
     }
 }
 
 // The format with this connection to the parent at its end, which the text must be.
-fn to_parent<'a>(format: Format<'a>, gap: Gap<'a>, text: &[u8]) -> Result<Format<'a>, PartStop>
+fn to_parent<'a>(
+    format: Format<'a>,
+    spacing: Spacing<'a>,
+    text: &[u8],
+) -> Result<Format<'a>, PartStop>
     ensures { GivesOrMemory meaning result (parent_at (meaning format.entry)
-        (gap_meaning gap.entry) text.now) }
+        (spacing_meaning spacing.entry) text.now) }
 {
     let rest = names::sign(b'|', text)?;
     pieces::end(rest)?;
     let mut format = format;
-    format.to_parent = Some(gap);
+    format.to_parent = Some(spacing);
     Ok(format)
 }
 
@@ -81,7 +85,7 @@ fn to_parent<'a>(format: Format<'a>, gap: Gap<'a>, text: &[u8]) -> Result<Format
 fn begun<'a>(
     alloc: Global,
     axis: Axis,
-    from_parent: Option<Gap<'a>>,
+    from_parent: Option<Spacing<'a>>,
     item: Item<'a>,
 ) -> Result<Format<'a>, PartStop>
     ensures ok { IfOk result (λ f. meaning f ≡ started axis (end_meaning from_parent.entry)
@@ -94,15 +98,19 @@ fn begun<'a>(
         axis,
         from_parent,
         items,
-        gaps: Vec::new(alloc),
+        spacings: Vec::new(alloc),
         to_parent: None,
     })
 }
 
 // The format with one more view.
-fn joined<'a>(format: Format<'a>, gap: Gap<'a>, item: Item<'a>) -> Result<Format<'a>, PartStop>
-    ensures ok { IfOk result (λ f. meaning f ≡ with_item (meaning format.entry) (gap_meaning gap.entry)
-        (item_meaning item.entry)) }
+fn joined<'a>(
+    format: Format<'a>,
+    spacing: Spacing<'a>,
+    item: Item<'a>,
+) -> Result<Format<'a>, PartStop>
+    ensures ok { IfOk result (λ f. meaning f
+        ≡ with_item (meaning format.entry) (spacing_meaning spacing.entry) (item_meaning item.entry)) }
     ensures grows { IfOk result (λ f. length f.items.items ≡ length format.entry.items.items + 1) }
     ensures err { IfErr result (λ e. e ≡ stop.OutOfMemory) }
 {
@@ -110,16 +118,16 @@ fn joined<'a>(format: Format<'a>, gap: Gap<'a>, item: Item<'a>) -> Result<Format
         axis,
         from_parent,
         mut items,
-        mut gaps,
+        mut spacings,
         to_parent,
     } = format;
-    gaps.push(gap)?;
+    spacings.push(spacing)?;
     items.push(item)?;
     Ok(Format {
         axis,
         from_parent,
         items,
-        gaps,
+        spacings,
         to_parent,
     })
 }
@@ -131,12 +139,12 @@ fn chain<'a>(alloc: Global, first: Format<'a>, text: &'a [u8]) -> Result<Format<
     let mut format = first;
     let mut rest = text;
     while goes_on(rest) {
-        let (gap, after) = views::connection(alloc, rest)?;
+        let (spacing, after) = views::connection(alloc, rest)?;
         if !pieces::begins(after, b'[') {
-            return to_parent(format, gap, after);
+            return to_parent(format, spacing, after);
         }
         let (item, after) = views::view(alloc, after)?;
-        format = joined(format, gap, item)?;
+        format = joined(format, spacing, item)?;
         rest = after;
     }
     pieces::end(rest)?;

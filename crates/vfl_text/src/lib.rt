@@ -4,7 +4,7 @@
 //! ```
 //! let format = read(alloc, "|-[a(20)]-[b]")?;   // two views from left to right, the first at its parent
 //! write(alloc, &format, &mut out)?;             // H:|-[a(==20)]-[b]
-//! read(alloc, "H:[a)")                          // Err(FormatStop::SyntaxAt(4)): 4 bytes begin some format
+//! read(alloc, "H:[a)")                          // Stop::Refused(SyntaxAt(4)): 4 bytes begin some format
 //! ```
 //!
 //! A text has one reading at most. A [`Format`] says what was written and no more: what a name stands for,
@@ -24,6 +24,6 @@ mod views;
 mod writer;
 
 pub use chain::read_bytes;
-pub use parts::{Axis, Format, Gap, Item, Pred};
+pub use parts::{Axis, Format, Item, Pred, Spacing};
 pub use preds::relation;
-pub use text::{FormatStop, read, write};
+pub use text::{read, write};

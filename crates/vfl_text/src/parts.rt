@@ -22,7 +22,7 @@ pub struct Pred<'a> {
 
 /// A connection of two neighbours.
 #[derive(Debug, Drop)]
-pub enum Gap<'a> {
+pub enum Spacing<'a> {
     /// No space.
     Flush,
     /// The space that is usual there.
@@ -42,11 +42,11 @@ pub struct Item<'a> {
 #[derive(Debug, Drop)]
 pub struct Format<'a> {
     pub axis: Axis,
-    pub from_parent: Option<Gap<'a>>,
+    pub from_parent: Option<Spacing<'a>>,
     pub items: Vec<Item<'a>>,
-    pub gaps: Vec<Gap<'a>>,
-    pub to_parent: Option<Gap<'a>>,
-    ghost between: { vec_len gaps + 1 ≡ vec_len items },
+    pub spacings: Vec<Spacing<'a>>,
+    pub to_parent: Option<Spacing<'a>>,
+    ghost between: { vec_len spacings + 1 ≡ vec_len items },
 }
 
 impl<'a> Item<'a> {
@@ -67,9 +67,9 @@ impl<'a> Format<'a> {
     }
 
     /// The connections between the views, in order.
-    pub fn gaps(&self) -> &[Gap<'a>]
-        ensures { result.now ≡ self.now.gaps.items }
+    pub fn spacings(&self) -> &[Spacing<'a>]
+        ensures { result.now ≡ self.now.spacings.items }
     {
-        &self.gaps
+        &self.spacings
     }
 }

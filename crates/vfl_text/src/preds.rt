@@ -1,10 +1,11 @@
 // Predicates, alone and in lists.
-ghost use Rattle.std.specs.Prelude.{◌≡◌, ◌<◌, ◌≤◌, ◌^◌, IfOk, length, pos, neg_ℤ, []};
+ghost use Rattle.std.specs.Prelude.{◌≡◌, ◌<◌, ◌≤◌, IfOk, length, pos, neg_ℤ, []};
 ghost use Rattle.span_text.specs.Gives.{Gives};
 ghost use Rattle.span_text.specs.GivesOrMemory.{GivesOrMemory};
 ghost use Rattle.span_text.specs.Objects.{meant};
 ghost use Rattle.span_text.specs.Loops.{loop_at};
 ghost use Rattle.span_text.specs.Reading.{tried, starts};
+ghost use Rattle.span_text.specs.Tokens.{number_bound};
 ghost use Rattle.vfl_text.specs.Grammar.{relations};
 ghost use Rattle.vfl_text.specs.Reading.{value_at, object_at, priority_at, ruled_at, pred_at, pred_round_at};
 ghost use Rattle.vfl_text.specs.Reading.{preds_at, is_compare};
@@ -17,14 +18,14 @@ use std::alloc::Global;
 
 // A number of thousandths with its sign.
 fn above_zero(thousandths: u32) -> i32
-    requires { thousandths < 10 ^ 9 }
+    requires { thousandths < number_bound }
     ensures { result ≡ pos thousandths }
 {
     thousandths as i32
 }
 
 fn below_zero(thousandths: u32) -> i32
-    requires { thousandths < 10 ^ 9 }
+    requires { thousandths < number_bound }
     ensures { result ≡ neg_ℤ (pos thousandths) }
 {
     -(thousandths as i32)

@@ -1,6 +1,6 @@
 // A format and its text.
 ghost use Rattle.std.specs.Prelude.{◌≡◌, ◌++◌, IfOk, IfErr, OnOk, OnErr, MatchResult};
-ghost use Rattle.vfl_text.specs.declared.text.FormatStop.TheVariants as stop;
+ghost use Rattle.frac_core.specs.declared.memory.Stop.TheVariants as stop;
 ghost use Rattle.vfl_text.specs.Formats.{FormatMeaning};
 ghost use Rattle.vfl_text.specs.Grammar.{FormatText};
 ghost use Rattle.vfl_text.specs.Stops.{IsStopOf};
@@ -11,30 +11,23 @@ ghost use Rattle.vfl_text.specs.Writable.{IsWritable};
 use crate::chain::read_bytes;
 use crate::parts::Format;
 use crate::writer::write_format;
-use frac_core::OutOfMemory;
-use span_text::PartStop;
+use frac_core::{OutOfMemory, Stop};
+use span_text::{PartStop, SyntaxAt};
 use std::alloc::Global;
 
-/// Why a text isn't read.
-#[derive(Clone, Copy, Debug, PartialEq, Eq)]
-pub enum FormatStop {
-    /// The text isn't a format. So many bytes of it begin some format, and no more.
-    SyntaxAt(usize),
-    OutOfMemory,
-}
-
-/// The one format that the text means. The names in it are slices of the text.
-pub fn read<'a>(alloc: Global, text: &'a str) -> Result<Format<'a>, FormatStop>
+/// The one format that the text means. The names in it are slices of the text. A text that isn't a format is
+/// refused with the count of its bytes that begin some format.
+pub fn read<'a>(alloc: Global, text: &'a str) -> Result<Format<'a>, Stop<SyntaxAt>>
     ensures sound { IfOk result (λ f. FormatText text.now (meaning f)) }
     ensures complete { (m : FormatMeaning) → FormatText text.now m
         → MatchResult result (λ f. meaning f ≡ m) (λ e. e ≡ stop.OutOfMemory) }
     ensures writable { IfOk result (λ f. IsWritable (meaning f)) }
-    ensures stops { IfErr result (IsStopOf text.now) }
+    ensures stops { IfErr result (IsStopOf FormatText text.now) }
 {
     match read_bytes(alloc, text.as_bytes()) {
         Ok(format) => Ok(format),
-        Err(PartStop::Left(left)) => Err(FormatStop::SyntaxAt(text.len() - left)),
-        Err(PartStop::OutOfMemory) => Err(FormatStop::OutOfMemory),
+        Err(PartStop::Left(left)) => Err(Stop::Refused(SyntaxAt(text.len() - left))),
+        Err(PartStop::OutOfMemory) => Err(Stop::OutOfMemory),
     }
 }
 

@@ -5,10 +5,10 @@ ghost use Rattle.span_text.specs.GivesOrMemory.{GivesOrMemory};
 ghost use Rattle.span_text.specs.Objects.{meant};
 ghost use Rattle.span_text.specs.declared.stop.PartStop.TheVariants as stop;
 ghost use Rattle.vfl_text.specs.Grammar.{single};
-ghost use Rattle.vfl_text.specs.Reading.{item_at, spaced_at, gap_at};
-ghost use Rattle.vfl_text.specs.View.{pred_meanings, item_meaning, gap_meaning};
+ghost use Rattle.vfl_text.specs.Reading.{item_at, spaced_at, spacing_at};
+ghost use Rattle.vfl_text.specs.View.{pred_meanings, item_meaning, spacing_meaning};
 
-use crate::parts::{Gap, Item, Pred};
+use crate::parts::{Item, Pred, Spacing};
 use crate::preds;
 use problem_core::Rel;
 use span_text::{Object, PartStop, names, pieces};
@@ -49,34 +49,34 @@ fn alone(alloc: Global, object: Object<'_>) -> Result<Vec<Pred<'_>>, PartStop>
 
 // What stands behind the first `-` of a connection, and the text behind the connection.
 #[tactic(auto, unfolding(crate::specs::Reading::spaced_at))]
-fn spaced(alloc: Global, text: &[u8]) -> Result<(Gap<'_>, &[u8]), PartStop>
+fn spaced(alloc: Global, text: &[u8]) -> Result<(Spacing<'_>, &[u8]), PartStop>
     ensures within { IfOk result (λ p. length p.1.now ≤ length text.now) }
-    ensures gives { GivesOrMemory (λ p. (gap_meaning p.0, p.1.now)) result (spaced_at text.now) }
+    ensures gives { GivesOrMemory (λ p. (spacing_meaning p.0, p.1.now)) result (spaced_at text.now) }
 {
     if pieces::begins(text, b'(') {
         let (preds, rest) = preds::predicates(alloc, text)?;
         let rest = names::sign(b'-', rest)?;
-        Ok((Gap::Given(preds), rest))
+        Ok((Spacing::Given(preds), rest))
     } else if pieces::begins_with_word(text) {
         let (object, rest) = preds::value(text)?;
         let rest = names::sign(b'-', rest)?;
         let preds = alone(alloc, object)?;
-        Ok((Gap::Given(preds), rest))
+        Ok((Spacing::Given(preds), rest))
     } else {
-        Ok((Gap::Standard, text))
+        Ok((Spacing::Standard, text))
     }
 }
 
 /// A connection, and the text behind it.
-#[tactic(auto, unfolding(crate::specs::Reading::gap_at))]
-pub fn connection(alloc: Global, text: &[u8]) -> Result<(Gap<'_>, &[u8]), PartStop>
+#[tactic(auto, unfolding(crate::specs::Reading::spacing_at))]
+pub fn connection(alloc: Global, text: &[u8]) -> Result<(Spacing<'_>, &[u8]), PartStop>
     ensures within { IfOk result (λ p. length p.1.now ≤ length text.now) }
-    ensures gives { GivesOrMemory (λ p. (gap_meaning p.0, p.1.now)) result (gap_at text.now) }
+    ensures gives { GivesOrMemory (λ p. (spacing_meaning p.0, p.1.now)) result (spacing_at text.now) }
 {
     if pieces::begins(text, b'-') {
         let rest = names::sign(b'-', text)?;
         spaced(alloc, rest)
     } else {
-        Ok((Gap::Flush, text))
+        Ok((Spacing::Flush, text))
     }
 }

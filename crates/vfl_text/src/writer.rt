@@ -1,30 +1,32 @@
 // The canonical text of a format. What is written is put behind a text; after an error nothing is said of it.
 ghost use Rattle.std.specs.Prelude.{◌≡◌, ◌<◌, ◌+◌, ◌++◌, ◌∷◌, OnOk, length, drop};
+ghost use Rattle.span_text.specs.Bytes.{digit_0};
 ghost use Rattle.span_text.specs.Objects.{meant};
+ghost use Rattle.span_text.specs.declared.limits.TheConstants.{UNIT};
 ghost use Rattle.vfl_text.specs.Text.{decimals_text, number_text, object_text, relation_text, priority_text};
 ghost use Rattle.vfl_text.specs.Text.{pred_text, more_text, preds_text, list_text, sizes_text, item_text};
-ghost use Rattle.vfl_text.specs.Text.{is_plain, is_simple, given_text, gap_text, axis_text, from_text};
+ghost use Rattle.vfl_text.specs.Text.{is_plain, is_simple, given_text, spacing_text, axis_text, from_text};
 ghost use Rattle.vfl_text.specs.Text.{to_text, chain_text, views_text, format_text};
 ghost use Rattle.vfl_text.specs.View.{pred_meaning, pred_meanings, priority_meaning, item_meaning};
-ghost use Rattle.vfl_text.specs.View.{item_meanings, gap_meaning, gap_meanings, end_meaning, meaning};
+ghost use Rattle.vfl_text.specs.View.{item_meanings, spacing_meaning, spacing_meanings, end_meaning, meaning};
 
-use crate::parts::{Axis, Format, Gap, Item, Pred};
+use crate::parts::{Axis, Format, Item, Pred, Spacing};
 use frac_core::OutOfMemory;
 use itoa::Buffer;
 use problem_core::Rel;
-use span_text::Object;
+use span_text::{Object, UNIT};
 use std::alloc::Global;
 
 fn digit(value: u32) -> u8
     requires { value < 10 }
-    ensures { result ≡ 48 + value }
+    ensures { result ≡ digit_0 + value }
 {
     b'0' + value as u8
 }
 
 #[tactic(auto, unfolding(crate::specs::Text::decimals_text))]
 fn write_decimals(thousandths: u32, text: &mut Vec<u8>) -> Result<(), OutOfMemory>
-    requires { thousandths < 1000 }
+    requires { thousandths < UNIT }
     ensures { OnOk result (text.new.items ≡ text.old.items ++ decimals_text thousandths) }
 {
     if thousandths == 0 {
@@ -48,8 +50,8 @@ fn write_number(thousandths: u32, text: &mut Vec<u8>) -> Result<(), OutOfMemory>
     ensures { OnOk result (text.new.items ≡ text.old.items ++ number_text thousandths) }
 {
     let mut digits = Buffer::new();
-    text.extend_from_slice(digits.format(thousandths / 1000).as_bytes())?;
-    write_decimals(thousandths % 1000, text)
+    text.extend_from_slice(digits.format(thousandths / UNIT).as_bytes())?;
+    write_decimals(thousandths % UNIT, text)
 }
 
 fn write_object(object: Object<'_>, text: &mut Vec<u8>) -> Result<(), OutOfMemory>
@@ -178,13 +180,13 @@ fn write_given(preds: &[Pred<'_>], text: &mut Vec<u8>) -> Result<(), OutOfMemory
     }
 }
 
-fn write_gap(gap: &Gap<'_>, text: &mut Vec<u8>) -> Result<(), OutOfMemory>
-    ensures { OnOk result (text.new.items ≡ text.old.items ++ gap_text (gap_meaning gap.now)) }
+fn write_spacing(spacing: &Spacing<'_>, text: &mut Vec<u8>) -> Result<(), OutOfMemory>
+    ensures { OnOk result (text.new.items ≡ text.old.items ++ spacing_text (spacing_meaning spacing.now)) }
 {
-    match gap {
-        Gap::Flush => {}
-        Gap::Standard => text.push(b'-')?,
-        Gap::Given(preds) => {
+    match spacing {
+        Spacing::Flush => {}
+        Spacing::Standard => text.push(b'-')?,
+        Spacing::Given(preds) => {
             text.push(b'-')?;
             write_given(preds, text)?;
             text.push(b'-')?;
@@ -204,34 +206,38 @@ fn write_axis(axis: Axis, text: &mut Vec<u8>) -> Result<(), OutOfMemory>
     Ok(())
 }
 
-fn write_from_parent(gap: &Option<Gap<'_>>, text: &mut Vec<u8>) -> Result<(), OutOfMemory>
-    ensures { OnOk result (text.new.items ≡ text.old.items ++ from_text (end_meaning gap.now)) }
+fn write_from_parent(spacing: &Option<Spacing<'_>>, text: &mut Vec<u8>) -> Result<(), OutOfMemory>
+    ensures { OnOk result (text.new.items ≡ text.old.items ++ from_text (end_meaning spacing.now)) }
 {
-    if let Some(gap) = gap {
+    if let Some(spacing) = spacing {
         text.push(b'|')?;
-        write_gap(gap, text)?;
+        write_spacing(spacing, text)?;
     }
     Ok(())
 }
 
-fn write_to_parent(gap: &Option<Gap<'_>>, text: &mut Vec<u8>) -> Result<(), OutOfMemory>
-    ensures { OnOk result (text.new.items ≡ text.old.items ++ to_text (end_meaning gap.now)) }
+fn write_to_parent(spacing: &Option<Spacing<'_>>, text: &mut Vec<u8>) -> Result<(), OutOfMemory>
+    ensures { OnOk result (text.new.items ≡ text.old.items ++ to_text (end_meaning spacing.now)) }
 {
-    if let Some(gap) = gap {
-        write_gap(gap, text)?;
+    if let Some(spacing) = spacing {
+        write_spacing(spacing, text)?;
         text.push(b'|')?;
     }
     Ok(())
 }
 
 // The views behind the first one.
-fn write_chain(gaps: &[Gap<'_>], items: &[Item<'_>], text: &mut Vec<u8>) -> Result<(), OutOfMemory>
-    requires { length gaps.now ≡ length items.now }
+fn write_chain(
+    spacings: &[Spacing<'_>],
+    items: &[Item<'_>],
+    text: &mut Vec<u8>,
+) -> Result<(), OutOfMemory>
+    requires { length spacings.now ≡ length items.now }
     ensures { OnOk result (text.new.items ≡ text.old.items
-        ++ chain_text (gap_meanings gaps.now) (item_meanings items.now)) }
+        ++ chain_text (spacing_meanings spacings.now) (item_meanings items.now)) }
 {
-    for (i, gap) in gaps.iter().enumerate() {
-        write_gap(gap, text)?;
+    for (i, spacing) in spacings.iter().enumerate() {
+        write_spacing(spacing, text)?;
         write_item(&items[i], text)?;
     }
     Ok(())
@@ -239,12 +245,12 @@ fn write_chain(gaps: &[Gap<'_>], items: &[Item<'_>], text: &mut Vec<u8>) -> Resu
 
 fn write_views(format: &Format<'_>, text: &mut Vec<u8>) -> Result<(), OutOfMemory>
     ensures { OnOk result (text.new.items ≡ text.old.items
-        ++ views_text (gap_meanings format.now.gaps.items) (item_meanings format.now.items.items)) }
+        ++ views_text (spacing_meanings format.now.spacings.items) (item_meanings format.now.items.items)) }
 {
     match format.items.as_slice() {
         [first, others @ ..] => {
             write_item(first, text)?;
-            write_chain(&format.gaps, others, text)
+            write_chain(&format.spacings, others, text)
         }
         [] => Ok(()),
     }

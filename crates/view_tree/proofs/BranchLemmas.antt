@@ -15,8 +15,8 @@ use Rattle.view_tree.specs.JsonStops.{AreFree, IsWithin, has_room, is_held}
 use Rattle.view_tree.specs.JsonTrees.{Branch, branch, Branches, no_branches, more, height, height_in, names, names_in, size, size_in, views_of, views_in, with_branch}
 use Rattle.view_tree.specs.Plans.{AreNew, grown, number_of, pairs, pairs_in}
 use Rattle.view_tree.specs.Stops.{IsNewView, is_full}
-use Rattle.view_tree.specs.Views.{IsOnLevel, IsTree, LiveView, ViewTree, view_named, view_of, with_view}
-use Rattle.view_tree.proofs.ViewLemmas.{IsOnLevel-append, IsOnLevel-push, IsTree-with_view}
+use Rattle.view_tree.specs.Views.{IsAtDepth, IsTree, LiveView, ViewTree, view_named, view_of, with_view}
+use Rattle.view_tree.proofs.ViewLemmas.{IsAtDepth-append, IsAtDepth-push, IsTree-with_view}
 
 -- ---- counts
 
@@ -160,15 +160,15 @@ module _ (t : ViewTree) (metrics : List (List ℕ × Fraction)) where
     views : w.views ≡ u.views ++ vs
     next : w.next ≡ u.next + count
 
-  -- where views of these names on so many levels may go in
-  record Holds (u : ViewTree) (before : List (List ℕ)) (up : List ℕ) (parent level : ℕ) (ns : List (List ℕ)) (count levels : ℕ) : Type 0 where
+  -- where views of these names on so many tall may go in
+  record Holds (u : ViewTree) (before : List (List ℕ)) (up : List ℕ) (parent depth : ℕ) (ns : List (List ℕ)) (count tall : ℕ) : Type 0 where
     tree : IsTree u
     frees : Frees u before
     some : IsSome (view_named u.views up)
     number : number_of u up ≡ parent
     live : IsSome (view_of u.views parent)
-    on : IsOnLevel u.views parent level
-    within : level + levels ≤ 32
+    on : IsAtDepth u.views parent depth
+    within : depth + tall ≤ 32
     free : AreFree t metrics before ns
     short : AllByRecursion (λ n. length n ≤ 64) ns
     room : length u.views + count ≤ 200
@@ -205,14 +205,14 @@ module _ (t : ViewTree) (metrics : List (List ℕ × Fraction)) where
       let apart = held-push before name n h in
       unnamed-push u.views (record { id = u.next; name = name; parent = Some parent }) n (frees n apart.0) apart.1
 
-  is_new : (u : ViewTree) (before : List (List ℕ)) (up : List ℕ) (parent level : ℕ) (name : List ℕ) (ns : List (List ℕ)) (count levels : ℕ)
-      → Holds u before up parent level (name ∷ ns) (suc count) (suc levels) → IsNewView u name parent
-  is_new u before up parent level name ns count levels h = record {
+  is_new : (u : ViewTree) (before : List (List ℕ)) (up : List ℕ) (parent depth : ℕ) (name : List ℕ) (ns : List (List ℕ)) (count tall : ℕ)
+      → Holds u before up parent depth (name ∷ ns) (suc count) (suc tall) → IsNewView u name parent
+  is_new u before up parent depth name ns count tall h = record {
     live = h.live;
     free = h.frees name h.free.0;
     short = h.short.0;
     room = not_full u (omega (arith, h.room)) (omega (arith, h.ids));
-    high = (level, h.on, omega (arith, h.within));
+    high = (depth, h.on, omega (arith, h.within));
   }
 
   number-named : (u : ViewTree) (n : List ℕ) (v : LiveView) → view_named u.views n ≡ Some v → number_of u n ≡ v.id
@@ -226,18 +226,18 @@ module _ (t : ViewTree) (metrics : List (List ℕ × Fraction)) where
       by (Some v) some is = ap Some is
 
   -- the views inside go in where their own was added
-  inside : (u : ViewTree) (before : List (List ℕ)) (up : List ℕ) (parent level : ℕ) (name : List ℕ) (ns : List (List ℕ)) (count levels : ℕ)
-      → Holds u before up parent level (name ∷ ns) (suc count) (suc levels) → Holds (with_view u name parent) (before ++ name ∷ []) name u.next (level + 1) ns count levels
-  inside u before up parent level name ns count levels h =
+  inside : (u : ViewTree) (before : List (List ℕ)) (up : List ℕ) (parent depth : ℕ) (name : List ℕ) (ns : List (List ℕ)) (count tall : ℕ)
+      → Holds u before up parent depth (name ∷ ns) (suc count) (suc tall) → Holds (with_view u name parent) (before ++ name ∷ []) name u.next (depth + 1) ns count tall
+  inside u before up parent depth name ns count tall h =
       let v : LiveView = record { id = u.next; name = name; parent = Some parent } in
       let found : view_named (u.views ++ v ∷ []) name ≡ Some v = named-push u.views v (h.frees name h.free.0) in
       record {
-        tree = IsTree-with_view u name parent h.tree (is_new u before up parent level name ns count levels h);
+        tree = IsTree-with_view u name parent h.tree (is_new u before up parent depth name ns count tall h);
         frees = frees-push u before name parent h.frees;
         some = ap is_some found;
         number = number-named (with_view u name parent) name v found;
         live = IsSome-view_of (u.views ++ v ∷ []) name u.next (ap (option_map (λ (w : LiveView). w.id)) found);
-        on = IsOnLevel-push u.views v parent level refl h.tree.below h.on;
+        on = IsAtDepth-push u.views v parent depth refl h.tree.below h.on;
         within = omega (arith, h.within);
         free = h.free.1;
         short = h.short.1;
@@ -262,13 +262,13 @@ module _ (t : ViewTree) (metrics : List (List ℕ × Fraction)) where
   same_both u mid w ps qs rest e f = ap (grown u) (append_assoc ps qs rest) ∙ e ∙ f
 
   mutual
-    grows : (b : Branch) (u : ViewTree) (before : List (List ℕ)) (up : List ℕ) (parent level : ℕ) → Holds u before up parent level (names b) (size b) (height b)
+    grows : (b : Branch) (u : ViewTree) (before : List (List ℕ)) (up : List ℕ) (parent depth : ℕ) → Holds u before up parent depth (names b) (size b) (height b)
         → (w : ViewTree) × Grows u w (before ++ names b) (pairs up b) (views_of u.next parent b) (size b)
-    grows (branch name inner) u before up parent level h =
-        let new = is_new u before up parent level name (names_in inner) (size_in inner) (height_in inner) h in
+    grows (branch name inner) u before up parent depth h =
+        let new = is_new u before up parent depth name (names_in inner) (size_in inner) (height_in inner) h in
         let u1 : ViewTree = with_view u name parent in
         let v : LiveView = record { id = u.next; name = name; parent = Some parent } in
-        let more = grows_in inner u1 (before ++ name ∷ []) name u.next (level + 1) (inside u before up parent level name (names_in inner) (size_in inner) (height_in inner) h) in
+        let more = grows_in inner u1 (before ++ name ∷ []) name u.next (depth + 1) (inside u before up parent depth name (names_in inner) (size_in inner) (height_in inner) h) in
         let w : ViewTree = more.0 in (
           w,
           record {
@@ -285,9 +285,9 @@ module _ (t : ViewTree) (metrics : List (List ℕ × Fraction)) where
           },
         )
 
-    grows_in : (bs : Branches) (u : ViewTree) (before : List (List ℕ)) (up : List ℕ) (parent level : ℕ) → Holds u before up parent level (names_in bs) (size_in bs) (height_in bs)
+    grows_in : (bs : Branches) (u : ViewTree) (before : List (List ℕ)) (up : List ℕ) (parent depth : ℕ) → Holds u before up parent depth (names_in bs) (size_in bs) (height_in bs)
         → (w : ViewTree) × Grows u w (before ++ names_in bs) (pairs_in up bs) (views_in u.next parent bs) (size_in bs)
-    grows_in no_branches u before up parent level h = (
+    grows_in no_branches u before up parent depth h = (
       u,
       record {
         tree = h.tree;
@@ -298,10 +298,10 @@ module _ (t : ViewTree) (metrics : List (List ℕ × Fraction)) where
         next = omega arith;
       },
     )
-    grows_in (more b bs) u before up parent level h =
+    grows_in (more b bs) u before up parent depth h =
         let ns = split (λ n. length n ≤ 64) (names b) (names_in bs) h.short in
         let free = AreFree-split t metrics before (names b) (names_in bs) h.free in
-        let one = grows b u before up parent level (record {
+        let one = grows b u before up parent depth (record {
           tree = h.tree;
           frees = h.frees;
           some = h.some;
@@ -318,13 +318,13 @@ module _ (t : ViewTree) (metrics : List (List ℕ × Fraction)) where
         let vs : List LiveView = views_of u.next parent b in
         let is : u1.views ≡ u.views ++ vs = one.1.views in
         let up_is : view_named u1.views up ≡ view_named u.views up = ap (λ views. view_named views up) is ∙ named-append u.views vs up h.some in
-        let two = grows_in bs u1 (before ++ names b) up parent level (record {
+        let two = grows_in bs u1 (before ++ names b) up parent depth (record {
           tree = one.1.tree;
           frees = one.1.frees;
           some = ap is_some up_is ∙ h.some;
           number = ap (λ o. option_map_or (λ (w : LiveView). w.id) o 0) up_is ∙ h.number;
           live = alive parent u1.views up (ap (option_map (λ (v : LiveView). v.id)) up_is ∙ number_some u up parent h.some h.number);
-          on = subst (λ views. IsOnLevel views parent level) (sym is) (IsOnLevel-append u.views vs parent level h.on);
+          on = subst (λ views. IsAtDepth views parent depth) (sym is) (IsAtDepth-append u.views vs parent depth h.on);
           within = omega (arith, h.within);
           free = free.1;
           short = ns.1;

@@ -10,7 +10,7 @@ use Rattle.std.specs.List.{AllByRecursion}
 use Rattle.std.specs.Option.{option_map, option_map_or}
 use Rattle.view_tree.specs.Drops.{AreGoing, goes, is_among}
 use Rattle.view_tree.specs.Nodes.{AreKept, live_view, tree_of}
-use Rattle.view_tree.specs.Views.{AreAbove, HasParent, IsOnLevel, IsTree, LiveView, ViewTree, view_of, window}
+use Rattle.view_tree.specs.Views.{AreAbove, HasParent, IsAtDepth, IsTree, LiveView, ViewTree, view_of, window}
 use Rattle.view_tree.specs.declared.tree.Node.{Node}
 
 -- ---- numbers among others
@@ -173,8 +173,8 @@ module _ (go : ℕ → Bool) where
   AreAbove-left views closed id [] out h = HasParent-left views id None out h
   AreAbove-left views closed id (p ∷ above) out h = (HasParent-left views id (Some p) out h.0, AreAbove-left views closed p above (closed id p h.0 out) h.1)
 
-  pub IsOnLevel-left : (views : List LiveView) → ((id p : ℕ) → HasParent views id (Some p) → go id ≡ false → go p ≡ false) → (id level : ℕ) → go id ≡ false → IsOnLevel views id level → IsOnLevel (left views) id level
-  IsOnLevel-left views closed id level out h = record { above = h.above; chain = AreAbove-left views closed id h.above out h.chain; count = h.count }
+  pub IsAtDepth-left : (views : List LiveView) → ((id p : ℕ) → HasParent views id (Some p) → go id ≡ false → go p ≡ false) → (id depth : ℕ) → go id ≡ false → IsAtDepth views id depth → IsAtDepth (left views) id depth
+  IsAtDepth-left views closed id depth out h = record { above = h.above; chain = AreAbove-left views closed id h.above out h.chain; count = h.count }
 
   root-left : (views : List LiveView) → go 0 ≡ false → slice_get views 0 ≡ Some window → slice_get (left views) 0 ≡ Some window
   root-left [] stays h = h
@@ -194,9 +194,9 @@ module _ (go : ℕ → Bool) where
         rising = AllPairs-filter (λ v w. v.id < w.id) keeps t.views h.rising;
         short = All-filter keeps (λ v. length v.name ≤ 64) t.views h.short;
         names = pairs-map (λ v. v.name) (λ a b. a ≢ b) (left t.views) (AllPairs-filter (λ v w. v.name ≢ w.name) keeps t.views (pairs-unmapped (λ v. v.name) (λ a b. a ≢ b) t.views h.names));
-        levels = λ k d l.
-            (let were = All-filter keeps (λ v. (level : ℕ) × IsOnLevel t.views v.id level × (level ≤ 32)) t.views h.levels k d l in
-            (were.0, IsOnLevel-left t.views closed _ _ (kept-out _ (filter_passes keeps t.views k d l)) were.1, were.2));
+        depths = λ k d l.
+            (let were = All-filter keeps (λ v. (depth : ℕ) × IsAtDepth t.views v.id depth × (depth ≤ 32)) t.views h.depths k d l in
+            (were.0, IsAtDepth-left t.views closed _ _ (kept-out _ (filter_passes keeps t.views k d l)) were.1, were.2));
         older = All-filter keeps (λ v. (p : ℕ) → v.parent ≡ Some p → p < v.id) t.views h.older;
       }
 
@@ -216,12 +216,12 @@ module _ (go : ℕ → Bool) where
       → AreKept (filter (λ e. not (go e.1.id.0)) es) next
   AreKept-left es next h stays closed =
       let keeps : List ℕ × Node → Bool = λ e. not (go e.1.id.0) in
-      let levels : All (λ e. IsOnLevel (left (map live_view es)) e.1.id.0 e.1.level) (filter keeps es) = λ k d l.
-      IsOnLevel-left (map live_view es) closed _ _ (kept-out _ (filter_passes keeps es k d l))
-      (All-filter keeps (λ e. IsOnLevel (map live_view es) e.1.id.0 e.1.level) es h.levels k d l) in
+      let depths : All (λ e. IsAtDepth (left (map live_view es)) e.1.id.0 e.1.depth) (filter keeps es) = λ k d l.
+      IsAtDepth-left (map live_view es) closed _ _ (kept-out _ (filter_passes keeps es k d l))
+      (All-filter keeps (λ e. IsAtDepth (map live_view es) e.1.id.0 e.1.depth) es h.depths k d l) in
       record {
         tree = subst IsTree (sym (tree_of-left es next)) (IsTree-left (tree_of es next) h.tree stays closed);
-        levels = subst (λ views. All (λ e. IsOnLevel views e.1.id.0 e.1.level) (filter keeps es)) (sym (map-left es)) levels;
+        depths = subst (λ views. All (λ e. IsAtDepth views e.1.id.0 e.1.depth) (filter keeps es)) (sym (map-left es)) depths;
       }
 
 -- ---- a view whose parent goes doesn't stay

@@ -15,9 +15,9 @@ use Rattle.serde_json.specs.Read.{read}
 use Rattle.serde_json.proofs.OnLiterals.{serde_json_on_literals}
 use Rattle.view_tree.specs.JsonStops.{AreFree, IsFirstHeld, IsWithin, MayStayOut, PassesTreeLimit, has_room, is_held}
 use Rattle.view_tree.specs.JsonTrees.{Branch, branch, no_branches, more, height, names, IsJson, IsTreeText, JsonTree, tree_of, with_branch}
-use Rattle.view_tree.specs.Views.{IsOnLevel, ViewTree, view_named, window}
+use Rattle.view_tree.specs.Views.{IsAtDepth, ViewTree, view_named, window}
 use Rattle.view_tree.specs.declared.stops.TreeStop.TheVariants.{Syntax, Shape, Unknown, Taken}
-use Rattle.view_tree.proofs.ViewLemmas.{IsOnLevel-unique}
+use Rattle.view_tree.proofs.ViewLemmas.{IsAtDepth-unique}
 
 -- the window alone, and one metric
 abbrev bare : ViewTree
@@ -164,8 +164,8 @@ taken_fails name h =
 
 -- ---- limits
 
--- the window's level
-on_first : IsOnLevel bare.views 0 1
+-- the window's depth
+on_first : IsAtDepth bare.views 0 1
 on_first = record { above = []; chain = refl; count = refl }
 
 -- a chain of so many views
@@ -173,7 +173,7 @@ abbrev chain : ℕ → Branch
 chain zero = branch (codes "p") no_branches
 chain (suc n) = branch (codes "p") (more (chain n) no_branches)
 
-pub depth_holds : IsOnLevel bare.views 0 1 × (32 < 1 + height (chain 31))
+pub depth_holds : IsAtDepth bare.views 0 1 × (32 < 1 + height (chain 31))
 depth_holds = (on_first, lit< tt)
 
 -- the two views of the text pass no limit
@@ -188,7 +188,7 @@ pub limits_fail : (limit : LimitWord) → PassesTreeLimit bare 0 two_tree.branch
 limits_fail word.Name h = h within_two.short
 limits_fail word.Views h = true≢false h.1
 limits_fail word.Depth h =
-    let same : h.2.0 ≡ 1 = IsOnLevel-unique bare.views 0 h.2.0 1 h.2.1 on_first in
+    let same : h.2.0 ≡ 1 = IsAtDepth-unique bare.views 0 h.2.0 1 h.2.1 on_first in
     omega (arith, same, h.2.2)
 limits_fail _ h = h
 

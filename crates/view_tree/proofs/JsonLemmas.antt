@@ -19,13 +19,13 @@ use Rattle.view_tree.specs.JsonStops.{AreFree, AreShort, GoesIn, IsFirstHeld, Is
 use Rattle.view_tree.specs.JsonTrees.{IsJson, IsTreeText, JsonTree, names, size, tree_of}
 use Rattle.view_tree.specs.Plans.{AreNew, IsPlanOf, grown, names_of_plan, number_of, pair_of, pairs_of}
 use Rattle.view_tree.specs.Stops.{IsNewView, MayStop, PassesLimit}
-use Rattle.view_tree.specs.Views.{AreAbove, IsOnLevel, IsTree, LiveView, ViewTree, view_named, view_of, with_view}
+use Rattle.view_tree.specs.Views.{AreAbove, IsAtDepth, IsTree, LiveView, ViewTree, view_named, view_of, with_view}
 use Rattle.view_tree.specs.declared.stops.TreeStop.{TreeStop}
 use Rattle.view_tree.specs.declared.stops.TreeStop.TheVariants as stop
 use Rattle.view_tree.specs.declared.plan.Plan.{Plan}
 use Rattle.view_tree.specs.declared.plan.Planned.{Planned}
 use Rattle.view_tree.proofs.BranchLemmas.{AreNew-pairs, grown-pairs, length-pairs, names-pairs, room_for}
-use Rattle.view_tree.proofs.ViewLemmas.{IsOnLevel-unique}
+use Rattle.view_tree.proofs.ViewLemmas.{IsAtDepth-unique}
 
 -- ---- names
 
@@ -188,13 +188,13 @@ module _ (t : ViewTree) (parent : ℕ) (plan : Plan) (tree : JsonTree) (is : IsP
   pub passes_views : (n : ℕ) → AreShort (names_of_plan views) → n ≡ length plan.views.items → has_room t n ≡ false → PassesTreeLimit t parent tree.branch Views
   passes_views n h e full = (short h, ap (has_room t) (sym (counted n e)) ∙ full)
 
-  pub passes_depth : (n : ℕ) → AreShort (names_of_plan views) → n ≡ length plan.views.items → has_room t n ≡ true → (level : ℕ) × IsOnLevel t.views parent level × (32 < level + plan.levels) → PassesTreeLimit t parent tree.branch Depth
-  passes_depth n h e room deep = (short h, ap (has_room t) (sym (counted n e)) ∙ room, (deep.0, deep.1, omega (arith, deep.2, is.levels)))
+  pub passes_depth : (n : ℕ) → AreShort (names_of_plan views) → n ≡ length plan.views.items → has_room t n ≡ true → (depth : ℕ) × IsAtDepth t.views parent depth × (32 < depth + plan.height) → PassesTreeLimit t parent tree.branch Depth
+  passes_depth n h e room deep = (short h, ap (has_room t) (sym (counted n e)) ∙ room, (deep.0, deep.1, omega (arith, deep.2, is.height)))
 
-  pub is_within : (n : ℕ) → AreShort (names_of_plan views) → n ≡ length plan.views.items → has_room t n ≡ true → (level : ℕ) × IsOnLevel t.views parent level × (level + plan.levels ≤ 32) → IsWithin t parent tree.branch
-  is_within n h e room high = record { short = short h; room = ap (has_room t) (sym (counted n e)) ∙ room; high = (high.0, high.1, omega (arith, high.2, is.levels)) }
+  pub is_within : (n : ℕ) → AreShort (names_of_plan views) → n ≡ length plan.views.items → has_room t n ≡ true → (depth : ℕ) × IsAtDepth t.views parent depth × (depth + plan.height ≤ 32) → IsWithin t parent tree.branch
+  is_within n h e room high = record { short = short h; room = ap (has_room t) (sym (counted n e)) ∙ room; high = (high.0, high.1, omega (arith, high.2, is.height)) }
 
--- ---- levels
+-- ---- depths
 
 some_mapped : {X Y : Type 0} (f : X → Y) (o : Option X) (y : Y) → option_map f o ≡ Some y → IsSome o
 some_mapped f None y h = absurd (none-some y h)
@@ -212,25 +212,25 @@ live_above : (views : List LiveView) (id : ℕ) (above : List ℕ) → AreAbove 
 live_above views id [] h = some_mapped (λ (v : LiveView). v.parent) (view_of views id) None h
 live_above views id (p ∷ above) h = some_mapped (λ (v : LiveView). v.parent) (view_of views id) (Some p) h.0
 
--- no level of a tree is below the 32nd
-pub low_level : (t : ViewTree) (id level : ℕ) → IsTree t → IsOnLevel t.views id level → level ≤ 32
-low_level t id level whole on =
-    let found = found_of (λ v. (l : ℕ) × IsOnLevel t.views v.id l × (l ≤ 32)) id t.views (recursion_from_All (λ v. (l : ℕ) × IsOnLevel t.views v.id l × (l ≤ 32)) t.views whole.levels) (live_above t.views id on.above on.chain) in
-    let there : IsOnLevel t.views id found.1.0 = subst (λ n. IsOnLevel t.views n found.1.0) found.2 found.1.1 in
-    omega (arith, IsOnLevel-unique t.views id level found.1.0 on there, found.1.2)
+-- no depth of a tree is below the 32nd
+pub low_depth : (t : ViewTree) (id depth : ℕ) → IsTree t → IsAtDepth t.views id depth → depth ≤ 32
+low_depth t id depth whole on =
+    let found = found_of (λ v. (l : ℕ) × IsAtDepth t.views v.id l × (l ≤ 32)) id t.views (recursion_from_All (λ v. (l : ℕ) × IsAtDepth t.views v.id l × (l ≤ 32)) t.views whole.depths) (live_above t.views id on.above on.chain) in
+    let there : IsAtDepth t.views id found.1.0 = subst (λ n. IsAtDepth t.views n found.1.0) found.2 found.1.1 in
+    omega (arith, IsAtDepth-unique t.views id depth found.1.0 on there, found.1.2)
 
-pub is_deep : (level levels : ℕ) → level ≤ 32 → nat_lt (32 - level) levels ≡ true → 32 < level + levels
-is_deep level levels low h = grind (arith, nat_tests, h, low)
+pub is_deep : (depth tall : ℕ) → depth ≤ 32 → nat_lt (32 - depth) tall ≡ true → 32 < depth + tall
+is_deep depth tall low h = grind (arith, nat_tests, h, low)
 
-pub is_high : (level levels : ℕ) → level ≤ 32 → nat_lt (32 - level) levels ≡ false → level + levels ≤ 32
-is_high level levels low h = grind (arith, nat_tests, h, low)
+pub is_high : (depth tall : ℕ) → depth ≤ 32 → nat_lt (32 - depth) tall ≡ false → depth + tall ≤ 32
+is_high depth tall low h = grind (arith, nat_tests, h, low)
 
 -- ---- a view that may be added
 
 pub limit_passed : (t : ViewTree) (name : List ℕ) (parent : ℕ) → IsNewView t name parent → (limit : LimitWord) → PassesLimit t name parent limit → ⊥
 limit_passed t name parent new Name h = omega (arith, h, new.short)
 limit_passed t name parent new Views h = true≢false (sym h.1 ∙ new.room)
-limit_passed t name parent new Depth h = omega (arith, IsOnLevel-unique t.views parent h.2.0 new.high.0 h.2.1 new.high.1, h.2.2, new.high.2)
+limit_passed t name parent new Depth h = omega (arith, IsAtDepth-unique t.views parent h.2.0 new.high.0 h.2.1 new.high.1, h.2.2, new.high.2)
 limit_passed t name parent new _ h = h
 
 -- for want of memory alone

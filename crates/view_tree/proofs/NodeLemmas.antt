@@ -14,9 +14,9 @@ use Rattle.std.specs.Option.{option_map}
 use Rattle.std.specs.Str.{bytes_eq}
 use Rattle.name_tables.specs.Names.{names_of, place_of}
 use Rattle.view_tree.specs.Nodes.{AreKept, live_view, tree_of}
-use Rattle.view_tree.specs.Views.{IsOnLevel, IsTree, LiveView, ViewTree, view_named, view_of, window, with_view}
+use Rattle.view_tree.specs.Views.{IsAtDepth, IsTree, LiveView, ViewTree, view_named, view_of, window, with_view}
 use Rattle.view_tree.specs.Stops.{IsNewView}
-use Rattle.view_tree.proofs.ViewLemmas.{IsOnLevel-append, IsOnLevel-unique, IsOnLevel-push, IsTree-window, IsTree-with_view}
+use Rattle.view_tree.proofs.ViewLemmas.{IsAtDepth-append, IsAtDepth-unique, IsAtDepth-push, IsTree-window, IsTree-with_view}
 use Rattle.view_tree.specs.declared.tree.Node.{Node}
 
 -- ---- searches
@@ -69,20 +69,20 @@ module _ {X Y Z : Type 0} (f : X → Y) (g : Z → Y) where
   is_some-same (Some x) None h = absurd (none-some (f x) (sym h))
   is_some-same (Some x) (Some z) h = refl
 
--- the node of a number has the level of that view
-level_by : (views : List LiveView) (id : ℕ) (es : List (List ℕ × Node)) → AllByRecursion (λ e. IsOnLevel views e.1.id.0 e.1.level) es
-    → IfSome (find (λ n. nat_eq n.id.0 id) (values_of es)) (λ n. IsOnLevel views id n.level)
-level_by views id [] h = tt
-level_by views id (e ∷ es) h = by (nat_eq e.1.id.0 id) refl (level_by views id es h.1)
+-- the node of a number has the depth of that view
+depth_by : (views : List LiveView) (id : ℕ) (es : List (List ℕ × Node)) → AllByRecursion (λ e. IsAtDepth views e.1.id.0 e.1.depth) es
+    → IfSome (find (λ n. nat_eq n.id.0 id) (values_of es)) (λ n. IsAtDepth views id n.depth)
+depth_by views id [] h = tt
+depth_by views id (e ∷ es) h = by (nat_eq e.1.id.0 id) refl (depth_by views id es h.1)
   where
-    by : (b : Bool) → nat_eq e.1.id.0 id ≡ b → IfSome (find (λ n. nat_eq n.id.0 id) (values_of es)) (λ n. IsOnLevel views id n.level)
-        → IfSome (cond b (Some e.1) (find (λ n. nat_eq n.id.0 id) (values_of es))) (λ n. IsOnLevel views id n.level)
-    by true same rest = subst (λ i. IsOnLevel views i e.1.level) (eqb-true _ _ same) h.0
+    by : (b : Bool) → nat_eq e.1.id.0 id ≡ b → IfSome (find (λ n. nat_eq n.id.0 id) (values_of es)) (λ n. IsAtDepth views id n.depth)
+        → IfSome (cond b (Some e.1) (find (λ n. nat_eq n.id.0 id) (values_of es))) (λ n. IsAtDepth views id n.depth)
+    by true same rest = subst (λ i. IsAtDepth views i e.1.depth) (eqb-true _ _ same) h.0
     by false other rest = rest
 
-pub IsOnLevel-find : (views : List LiveView) (id : ℕ) (es : List (List ℕ × Node)) → All (λ e. IsOnLevel views e.1.id.0 e.1.level) es
-    → IfSome (find (λ n. nat_eq n.id.0 id) (values_of es)) (λ n. IsOnLevel views id n.level)
-IsOnLevel-find views id es h = level_by views id es (recursion_from_All (λ e. IsOnLevel views e.1.id.0 e.1.level) es h)
+pub IsAtDepth-find : (views : List LiveView) (id : ℕ) (es : List (List ℕ × Node)) → All (λ e. IsAtDepth views e.1.id.0 e.1.depth) es
+    → IfSome (find (λ n. nat_eq n.id.0 id) (values_of es)) (λ n. IsAtDepth views id n.depth)
+IsAtDepth-find views id es h = depth_by views id es (recursion_from_All (λ e. IsAtDepth views e.1.id.0 e.1.depth) es h)
 
 -- ---- one entry more
 
@@ -99,24 +99,24 @@ module _ (es : List (List ℕ × Node)) (next : ℕ) (name : List ℕ) (node : N
   pub tree_of-push : tree_of (es ++ (name, node) ∷ []) (next + 1) ≡ with_view (tree_of es next) name parent
   tree_of-push = ap (λ views. record { views = views; next = next + 1 }) same_views
 
-  pub AreKept-push : (above : ℕ) → AreKept es next → IsNewView (tree_of es next) name parent → IsOnLevel (map live_view es) parent above → node.level ≡ above + 1
+  pub AreKept-push : (above : ℕ) → AreKept es next → IsNewView (tree_of es next) name parent → IsAtDepth (map live_view es) parent above → node.depth ≡ above + 1
       → AreKept (es ++ (name, node) ∷ []) (next + 1)
-  AreKept-push above kept new on level =
+  AreKept-push above kept new on depth =
       let views : List LiveView = map live_view es in
       let highest : All (λ w. w.id < node.id.0) views = subst (λ n. All (λ w. w.id < n) views) (sym id) kept.tree.below in
-      let pushed : IsOnLevel (views ++ live_view (name, node) ∷ []) node.id.0 node.level =
-      subst (IsOnLevel (views ++ live_view (name, node) ∷ []) node.id.0) (sym level) (IsOnLevel-push views (live_view (name, node)) parent above below highest on) in
+      let pushed : IsAtDepth (views ++ live_view (name, node) ∷ []) node.id.0 node.depth =
+      subst (IsAtDepth (views ++ live_view (name, node) ∷ []) node.id.0) (sym depth) (IsAtDepth-push views (live_view (name, node)) parent above below highest on) in
       record {
         tree = subst IsTree (sym tree_of-push) (IsTree-with_view (tree_of es next) name parent kept.tree new);
-        levels = rw (map-append live_view es ((name, node) ∷ []))
-            (All-push (λ e. IsOnLevel (views ++ live_view (name, node) ∷ []) e.1.id.0 e.1.level) es (name, node)
-            (λ k d l. IsOnLevel-append views (live_view (name, node) ∷ []) _ _ (kept.levels k d l)) pushed);
+        depths = rw (map-append live_view es ((name, node) ∷ []))
+            (All-push (λ e. IsAtDepth (views ++ live_view (name, node) ∷ []) e.1.id.0 e.1.depth) es (name, node)
+            (λ k d l. IsAtDepth-append views (live_view (name, node) ∷ []) _ _ (kept.depths k d l)) pushed);
       }
 
-pub AreKept-window : AreKept ((codes "window", record { id = record { 0 = 0 }; parent = None; level = 1 }) ∷ []) 1
+pub AreKept-window : AreKept ((codes "window", record { id = record { 0 = 0 }; parent = None; depth = 1 }) ∷ []) 1
 AreKept-window = record {
   tree = IsTree-window;
-  levels = All-from_recursion (λ (e : List ℕ × Node). IsOnLevel (window ∷ []) e.1.id.0 e.1.level) ((codes "window", record { id = record { 0 = 0 }; parent = None; level = 1 }) ∷ [])
+  depths = All-from_recursion (λ (e : List ℕ × Node). IsAtDepth (window ∷ []) e.1.id.0 e.1.depth) ((codes "window", record { id = record { 0 = 0 }; parent = None; depth = 1 }) ∷ [])
       (record { above = []; chain = refl; count = refl }, tt);
 }
 
@@ -136,14 +136,14 @@ unnamed name es none =
 
 -- ---- the last entry less
 
--- each view has the level that it had
-levels-back : (views later : List LiveView) (es : List (List ℕ × Node)) → AllByRecursion (λ w. (level : ℕ) × IsOnLevel views w.id level × (level ≤ 32)) (map live_view es)
-    → AllByRecursion (λ e. IsOnLevel (views ++ later) e.1.id.0 e.1.level) es → AllByRecursion (λ e. IsOnLevel views e.1.id.0 e.1.level) es
-levels-back views later [] h g = tt
-levels-back views later (e ∷ es) h g = (
-  subst (IsOnLevel views e.1.id.0)
-      (IsOnLevel-unique (views ++ later) e.1.id.0 h.0.0 e.1.level (IsOnLevel-append views later e.1.id.0 h.0.0 h.0.1) g.0) h.0.1,
-  levels-back views later es h.1 g.1,
+-- each view has the depth that it had
+depths-back : (views later : List LiveView) (es : List (List ℕ × Node)) → AllByRecursion (λ w. (depth : ℕ) × IsAtDepth views w.id depth × (depth ≤ 32)) (map live_view es)
+    → AllByRecursion (λ e. IsAtDepth (views ++ later) e.1.id.0 e.1.depth) es → AllByRecursion (λ e. IsAtDepth views e.1.id.0 e.1.depth) es
+depths-back views later [] h g = tt
+depths-back views later (e ∷ es) h g = (
+  subst (IsAtDepth views e.1.id.0)
+      (IsAtDepth-unique (views ++ later) e.1.id.0 h.0.0 e.1.depth (IsAtDepth-append views later e.1.id.0 h.0.0 h.0.1) g.0) h.0.1,
+  depths-back views later es h.1 g.1,
 )
 
 module _ (es : List (List ℕ × Node)) (next : ℕ) (t : ViewTree) (later : List LiveView) (count : ℕ) (is : tree_of es next ≡ record { views = t.views ++ later; next = t.next + count }) (counted : length later ≡ count) where
@@ -169,19 +169,19 @@ module _ (es : List (List ℕ × Node)) (next : ℕ) (t : ViewTree) (later : Lis
   pub AreKept-cut : IsTree t → AreKept es next → AreKept (take (length es - count) es) (next - count)
   AreKept-cut whole kept =
       let left : List (List ℕ × Node) = take (length es - count) es in
-      let levels : All (λ w. (level : ℕ) × IsOnLevel t.views w.id level × (level ≤ 32)) (map live_view left) =
-      subst (All (λ w. (level : ℕ) × IsOnLevel t.views w.id level × (level ≤ 32))) (sym views-cut) whole.levels in
-      let were : All (λ e. IsOnLevel (t.views ++ later) e.1.id.0 e.1.level) left =
-      All-take (λ e. IsOnLevel (t.views ++ later) e.1.id.0 e.1.level) (length es - count) es
-      (subst (λ (views : List LiveView). All (λ e. IsOnLevel views e.1.id.0 e.1.level) es) grown_views kept.levels) in
-      let are : All (λ e. IsOnLevel t.views e.1.id.0 e.1.level) left =
-      All-from_recursion (λ e. IsOnLevel t.views e.1.id.0 e.1.level) left
-      (levels-back t.views later left
-      (recursion_from_All (λ w. (level : ℕ) × IsOnLevel t.views w.id level × (level ≤ 32)) (map live_view left) levels)
-      (recursion_from_All (λ e. IsOnLevel (t.views ++ later) e.1.id.0 e.1.level) left were)) in
+      let depths : All (λ w. (depth : ℕ) × IsAtDepth t.views w.id depth × (depth ≤ 32)) (map live_view left) =
+      subst (All (λ w. (depth : ℕ) × IsAtDepth t.views w.id depth × (depth ≤ 32))) (sym views-cut) whole.depths in
+      let were : All (λ e. IsAtDepth (t.views ++ later) e.1.id.0 e.1.depth) left =
+      All-take (λ e. IsAtDepth (t.views ++ later) e.1.id.0 e.1.depth) (length es - count) es
+      (subst (λ (views : List LiveView). All (λ e. IsAtDepth views e.1.id.0 e.1.depth) es) grown_views kept.depths) in
+      let are : All (λ e. IsAtDepth t.views e.1.id.0 e.1.depth) left =
+      All-from_recursion (λ e. IsAtDepth t.views e.1.id.0 e.1.depth) left
+      (depths-back t.views later left
+      (recursion_from_All (λ w. (depth : ℕ) × IsAtDepth t.views w.id depth × (depth ≤ 32)) (map live_view left) depths)
+      (recursion_from_All (λ e. IsAtDepth (t.views ++ later) e.1.id.0 e.1.depth) left were)) in
       record {
         tree = subst IsTree (sym tree_of-cut) whole;
-        levels = subst (λ (views : List LiveView). All (λ e. IsOnLevel views e.1.id.0 e.1.level) left) (sym views-cut) are;
+        depths = subst (λ (views : List LiveView). All (λ e. IsAtDepth views e.1.id.0 e.1.depth) left) (sym views-cut) are;
       }
 
 module _ (es : List (List ℕ × Node)) (next : ℕ) (t : ViewTree) (name : List ℕ) (parent : ℕ) (is : tree_of es next ≡ with_view t name parent) where

@@ -181,35 +181,35 @@ tree_is d place b goes is =
 -- ---- elements
 
 -- the elements that are left, after so much of the plan
-pub record Upto (all left : Items) (parent : List ℕ) (old now : List (List ℕ × List ℕ)) (levels : ℕ) : Type 0 where
+pub record Upto (all left : Items) (parent : List ℕ) (old now : List (List ℕ × List ℕ)) (high : ℕ) : Type 0 where
   pub some : (rest : Branches) → branches_of left ≡ Some rest
-      → (whole : Branches) × (branches_of all ≡ Some whole) × (now ++ pairs_in parent rest ≡ old ++ pairs_in parent whole) × (max levels (height_in rest) ≡ height_in whole)
+      → (whole : Branches) × (branches_of all ≡ Some whole) × (now ++ pairs_in parent rest ≡ old ++ pairs_in parent whole) × (max high (height_in rest) ≡ height_in whole)
   pub none : branches_of left ≡ None → branches_of all ≡ None
 
 pub Upto-begin : (all : Items) (parent : List ℕ) (old : List (List ℕ × List ℕ)) → Upto all all parent old old 0
 Upto-begin all parent old = record { some = λ rest e. (rest, e, refl, omega arith); none = λ e. e }
 
-pub Upto-next : (all left : Items) (d : Data) (parent : List ℕ) (old now next : List (List ℕ × List ℕ)) (levels : ℕ) (b : Branch) (more_levels : ℕ)
-    → Upto all (item d left) parent old now levels → branch_of false d ≡ Some b → next ≡ now ++ pairs parent b → more_levels ≡ max levels (height b) → Upto all left parent old next more_levels
-Upto-next all left d parent old now next levels b more_levels u is next_is levels_is = record {
+pub Upto-next : (all left : Items) (d : Data) (parent : List ℕ) (old now next : List (List ℕ × List ℕ)) (high : ℕ) (b : Branch) (more_high : ℕ)
+    → Upto all (item d left) parent old now high → branch_of false d ≡ Some b → next ≡ now ++ pairs parent b → more_high ≡ max high (height b) → Upto all left parent old next more_high
+Upto-next all left d parent old now next high b more_high u is next_is high_is = record {
   some = λ rest e.
       (let whole = u.some (more b rest) (ap (λ o. option_and_then (λ c. option_map (more c) (branches_of left)) o) is ∙ ap (option_map (more b)) e) in (
         whole.0,
         whole.1,
         ap (λ ps. ps ++ pairs_in parent rest) next_is ∙ append_assoc now (pairs parent b) (pairs_in parent rest) ∙ whole.2,
-        omega (arith, whole.3, levels_is),
+        omega (arith, whole.3, high_is),
       ));
   none = λ e. u.none (ap (λ o. option_and_then (λ c. option_map (more c) (branches_of left)) o) is ∙ ap (option_map (more b)) e);
 }
 
-pub Upto-end : (all : Items) (parent : List ℕ) (old now : List (List ℕ × List ℕ)) (levels : ℕ) → Upto all no_items parent old now levels
-    → (whole : Branches) × (branches_of all ≡ Some whole) × (now ≡ old ++ pairs_in parent whole) × (levels ≡ height_in whole)
-Upto-end all parent old now levels u =
+pub Upto-end : (all : Items) (parent : List ℕ) (old now : List (List ℕ × List ℕ)) (high : ℕ) → Upto all no_items parent old now high
+    → (whole : Branches) × (branches_of all ≡ Some whole) × (now ≡ old ++ pairs_in parent whole) × (high ≡ height_in whole)
+Upto-end all parent old now high u =
     let whole = u.some no_branches refl in
     (whole.0, whole.1, sym (append-nil now) ∙ whole.2, omega (arith, whole.3))
 
-pub Upto-none : (all left : Items) (d : Data) (parent : List ℕ) (old now : List (List ℕ × List ℕ)) (levels : ℕ) → Upto all (item d left) parent old now levels → branch_of false d ≡ None → branches_of all ≡ None
-Upto-none all left d parent old now levels u e = u.none (ap (λ o. option_and_then (λ c. option_map (more c) (branches_of left)) o) e)
+pub Upto-none : (all left : Items) (d : Data) (parent : List ℕ) (old now : List (List ℕ × List ℕ)) (high : ℕ) → Upto all (item d left) parent old now high → branch_of false d ≡ None → branches_of all ≡ None
+Upto-none all left d parent old now high u e = u.none (ap (λ o. option_and_then (λ c. option_map (more c) (branches_of left)) o) e)
 
 pub items_view-drop : (vs : List Value) (i : ℕ) (d : Value) → i < length vs → items_view (drop i vs) ≡ item (view (get_or vs i d)) (items_view (drop (suc i) vs))
 items_view-drop [] i d h = absurd (omega arith)
@@ -232,6 +232,6 @@ elements_of-none (string s) e = refl
 elements_of-none (array xs) e = absurd (none-some xs e)
 elements_of-none (object ms) e = refl
 
--- the levels are no more than the views
-pub few_levels : (parent : List ℕ) (bs : Branches) (old now : List (List ℕ × List ℕ)) → now ≡ old ++ pairs_in parent bs → height_in bs ≤ length now
-few_levels parent bs old now e = omega (arith, ap length e, length-append old (pairs_in parent bs), length-pairs_in parent bs, low_in bs)
+-- the high are no more than the views
+pub low_height : (parent : List ℕ) (bs : Branches) (old now : List (List ℕ × List ℕ)) → now ≡ old ++ pairs_in parent bs → height_in bs ≤ length now
+low_height parent bs old now e = omega (arith, ap length e, length-append old (pairs_in parent bs), length-pairs_in parent bs, low_in bs)

@@ -13,7 +13,7 @@ use Rattle.std.specs.Option.{option_map, option_or}
 use Rattle.std.specs.Str.{bytes_eq}
 use Rattle.name_tables.specs.Names.{AreDistinct}
 use Rattle.view_tree.specs.Stops.{IsNewView, is_full}
-use Rattle.view_tree.specs.Views.{AreAbove, HasParent, IsOnLevel, IsTree, LiveView, ViewTree, view_named, view_of, window, with_view}
+use Rattle.view_tree.specs.Views.{AreAbove, HasParent, IsAtDepth, IsTree, LiveView, ViewTree, view_named, view_of, window, with_view}
 
 -- ---- more views leave what is known of a view
 
@@ -31,10 +31,10 @@ AreAbove-append : (views more : List LiveView) (id : ℕ) (above : List ℕ) →
 AreAbove-append views more id [] h = HasParent-append views more id None h
 AreAbove-append views more id (parent ∷ above) h = (HasParent-append views more id (Some parent) h.0, AreAbove-append views more parent above h.1)
 
-pub IsOnLevel-append : (views more : List LiveView) (id level : ℕ) → IsOnLevel views id level → IsOnLevel (views ++ more) id level
-IsOnLevel-append views more id level h = record { above = h.above; chain = AreAbove-append views more id h.above h.chain; count = h.count }
+pub IsAtDepth-append : (views more : List LiveView) (id depth : ℕ) → IsAtDepth views id depth → IsAtDepth (views ++ more) id depth
+IsAtDepth-append views more id depth h = record { above = h.above; chain = AreAbove-append views more id h.above h.chain; count = h.count }
 
--- ---- a view has one level
+-- ---- a view has one depth
 
 one_parent : (views : List LiveView) (id : ℕ) (p q : Option ℕ) → HasParent views id p → HasParent views id q → p ≡ q
 one_parent views id p q h g = ap (λ o. unwrap_or o None) (sym h ∙ g)
@@ -47,8 +47,8 @@ same_length views id (x ∷ xs) (y ∷ ys) h g =
     let same : x ≡ y = ap (λ o. unwrap_or o 0) (one_parent views id (Some x) (Some y) h.0 g.0) in
     ap suc (same_length views y xs ys (subst (λ p. AreAbove views p xs) same h.1) g.1)
 
-pub IsOnLevel-unique : (views : List LiveView) (id one other : ℕ) → IsOnLevel views id one → IsOnLevel views id other → one ≡ other
-IsOnLevel-unique views id one other h g = sym h.count ∙ ap (λ n. n + 1) (same_length views id h.above g.above h.chain g.chain) ∙ g.count
+pub IsAtDepth-unique : (views : List LiveView) (id one other : ℕ) → IsAtDepth views id one → IsAtDepth views id other → one ≡ other
+IsAtDepth-unique views id one other h g = sym h.count ∙ ap (λ n. n + 1) (same_length views id h.above g.above h.chain g.chain) ∙ g.count
 
 -- ---- a new view
 
@@ -69,10 +69,10 @@ HasParent-push views v h =
     let none : view_of views v.id ≡ None = unused v.id views (recursion_from_All (λ w. w.id < v.id) views h) in
     rw (find-append (λ (w : LiveView). nat_eq w.id v.id) views (v ∷ []), none_first (view_of views v.id) (view_of (v ∷ []) v.id) none, first_alone v) refl
 
--- it stands one level below its parent
-pub IsOnLevel-push : (views : List LiveView) (v : LiveView) (parent above : ℕ) → v.parent ≡ Some parent → All (λ w. w.id < v.id) views → IsOnLevel views parent above
-    → IsOnLevel (views ++ v ∷ []) v.id (above + 1)
-IsOnLevel-push views v parent above child h on =
+-- it stands one depth below its parent
+pub IsAtDepth-push : (views : List LiveView) (v : LiveView) (parent above : ℕ) → v.parent ≡ Some parent → All (λ w. w.id < v.id) views → IsAtDepth views parent above
+    → IsAtDepth (views ++ v ∷ []) v.id (above + 1)
+IsAtDepth-push views v parent above child h on =
     let has : HasParent (views ++ v ∷ []) v.id (Some parent) = subst (HasParent (views ++ v ∷ []) v.id) child (HasParent-push views v h) in
     record { above = parent ∷ on.above; chain = (has, AreAbove-append views (v ∷ []) parent on.above on.chain); count = omega (arith, on.count) }
 
@@ -123,9 +123,9 @@ IsTree-with_view t name parent h new =
       rising = all_pairs_push (λ a b. a.id < b.id) t.views v h.rising h.below;
       short = All-push (λ w. length w.name ≤ 64) t.views v h.short new.short;
       names = rw (map-append (λ (w : LiveView). w.name) t.views (v ∷ [])) (AreDistinct-push (map (λ w. w.name) t.views) name h.names (free name t.views new.free));
-      levels = All-push (λ w. (level : ℕ) × IsOnLevel (t.views ++ v ∷ []) w.id level × (level ≤ 32)) t.views v
-          (λ k d l. ((h.levels k d l).0, IsOnLevel-append t.views (v ∷ []) _ _ (h.levels k d l).1, (h.levels k d l).2))
-          (new.high.0 + 1, IsOnLevel-push t.views v parent new.high.0 refl h.below new.high.1, omega (arith, new.high.2));
+      depths = All-push (λ w. (depth : ℕ) × IsAtDepth (t.views ++ v ∷ []) w.id depth × (depth ≤ 32)) t.views v
+          (λ k d l. ((h.depths k d l).0, IsAtDepth-append t.views (v ∷ []) _ _ (h.depths k d l).1, (h.depths k d l).2))
+          (new.high.0 + 1, IsAtDepth-push t.views v parent new.high.0 refl h.below new.high.1, omega (arith, new.high.2));
       older = All-push (λ w. (p : ℕ) → w.parent ≡ Some p → p < w.id) t.views v h.older
           (λ p is. subst (λ n. n < t.next) (ap (λ o. unwrap_or o 0) is) (lower t.next parent t.views (recursion_from_All (λ w. w.id < t.next) t.views h.below) new.live));
     }
@@ -139,6 +139,6 @@ IsTree-window = record {
   rising = λ i j d l m. absurd (omega (arith, l, m));
   short = All-from_recursion (λ (v : LiveView). length v.name ≤ 64) (window ∷ []) (lit≤ tt, tt);
   names = λ i j d l m. absurd (omega (arith, l, m));
-  levels = All-from_recursion (λ (v : LiveView). (level : ℕ) × IsOnLevel (window ∷ []) v.id level × (level ≤ 32)) (window ∷ []) ((1, record { above = []; chain = refl; count = refl }, omega arith), tt);
+  depths = All-from_recursion (λ (v : LiveView). (depth : ℕ) × IsAtDepth (window ∷ []) v.id depth × (depth ≤ 32)) (window ∷ []) ((1, record { above = []; chain = refl; count = refl }, omega arith), tt);
   older = All-from_recursion (λ (v : LiveView). (p : ℕ) → v.parent ≡ Some p → p < v.id) (window ∷ []) ((λ p is. absurd (none-some p is)), tt);
 }

@@ -1,5 +1,5 @@
 -- When a tree of views from JSON is refused.
-use Rattle.std.specs.Prelude.{◌≡◌, ◌<◌, ◌≤◌, ◌+◌, ◌^◌, ◌&&◌, ◌||◌, ℕ, Bool, true, false, List, [], ◌∷◌, ◌++◌}
+use Rattle.std.specs.Prelude.{◌≡◌, ◌<◌, ◌≤◌, ◌+◌, ◌&&◌, ◌||◌, ℕ, Bool, true, false, List, [], ◌∷◌, ◌++◌}
 use Rattle.std.specs.Prelude.{None, Some, IsSome, All, is_some, length, nat_le}
 use Rattle.std.specs.List.{list_any}
 use Rattle.std.specs.Option.{option_map}
@@ -8,10 +8,12 @@ use Rattle.frac_core.specs.Fraction.{Fraction}
 use Rattle.name_tables.specs.Names.{value_of}
 use Rattle.name_tables.specs.declared.stops.LimitWord.{LimitWord}
 use Rattle.name_tables.specs.declared.stops.LimitWord.TheVariants.{Name, Views, Depth}
+use Rattle.name_tables.specs.declared.stops.TheConstants.{NAME_LIMIT}
 use Rattle.serde_json.specs.Data.{Data}
 use Rattle.view_tree.specs.JsonTrees.{Branch, IsJson, IsTreeText, JsonTree}
 use Rattle.view_tree.specs.JsonTrees.{height, names, size, tree_of, with_branch}
-use Rattle.view_tree.specs.Views.{ViewTree, IsOnLevel, view_named}
+use Rattle.view_tree.specs.Views.{ViewTree, IsAtDepth, view_named}
+use Rattle.view_tree.specs.declared.limits.TheConstants.{DEPTH_LIMIT, ID_LIMIT, VIEW_LIMIT}
 use Rattle.view_tree.specs.declared.stops.TreeStop.{TreeStop}
 use Rattle.view_tree.specs.declared.stops.TreeStop.TheVariants.{Syntax, Shape, Unknown, Taken, Limit}
 use Rattle.view_tree.specs.declared.stops.TreeStop.TheVariants.{OutOfMemory}
@@ -37,24 +39,24 @@ pub record IsFirstHeld (t : ViewTree) (metrics : List (List ℕ × Fraction)) (a
   pub held : is_held t metrics before name ≡ true
 
 abbrev pub AreShort : List (List ℕ) → Type 0
-AreShort all = All (λ name. length name ≤ 64) all
+AreShort all = All (λ name. length name ≤ NAME_LIMIT) all
 
 -- so many views more may be live, and there are numbers for them
 abbrev pub has_room : ViewTree → ℕ → Bool
-has_room t count = nat_le (length t.views + count) 200 && nat_le (t.next + count) (2 ^ 29)
+has_room t count = nat_le (length t.views + count) VIEW_LIMIT && nat_le (t.next + count) ID_LIMIT
 
 -- below this parent the branch passes no limit
 pub record IsWithin (t : ViewTree) (parent : ℕ) (b : Branch) : Type 0 where
   pub short : AreShort (names b)
   pub room : has_room t (size b) ≡ true
-  pub high : (level : ℕ) × IsOnLevel t.views parent level × (level + height b ≤ 32)
+  pub high : (depth : ℕ) × IsAtDepth t.views parent depth × (depth + height b ≤ DEPTH_LIMIT)
 
 -- the first limit that the branch would pass
 abbrev pub PassesTreeLimit : ViewTree → ℕ → Branch → LimitWord → Type 0
 PassesTreeLimit t parent b Name = AreShort (names b) → ⊥
 PassesTreeLimit t parent b Views = AreShort (names b) × (has_room t (size b) ≡ false)
 PassesTreeLimit t parent b Depth = AreShort (names b) × (has_room t (size b) ≡ true)
-    × ((level : ℕ) × IsOnLevel t.views parent level × (32 < level + height b))
+    × ((depth : ℕ) × IsAtDepth t.views parent depth × (DEPTH_LIMIT < depth + height b))
 PassesTreeLimit t parent b _ = ⊥
 
 -- the number of the view that the tree goes in

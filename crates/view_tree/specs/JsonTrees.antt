@@ -30,7 +30,7 @@ abbrev mutual
   size_in no_branches = 0
   size_in (more b bs) = size b + size_in bs
 
--- how many levels they stand on
+-- how many views there are on the longest way down
 abbrev mutual
   pub height : Branch → ℕ
   height (branch name inner) = suc (height_in inner)

@@ -1,3 +1,4 @@
+pub mod Attributes
 pub mod Drops
 pub mod JsonStops
 pub mod JsonTrees

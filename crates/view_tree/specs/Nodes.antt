@@ -1,7 +1,7 @@
 -- What the tree keeps under a name.
 use Rattle.std.specs.Prelude.{ℕ, List, All, map}
 use Rattle.std.specs.Option.{option_map}
-use Rattle.view_tree.specs.Views.{LiveView, ViewTree, IsOnLevel, IsTree}
+use Rattle.view_tree.specs.Views.{LiveView, ViewTree, IsAtDepth, IsTree}
 use Rattle.view_tree.specs.declared.tree.Node.{Node}
 
 abbrev pub live_view : List ℕ × Node → LiveView
@@ -10,7 +10,7 @@ live_view e = record { id = e.1.id.0; name = e.0; parent = option_map (λ p. p.0
 abbrev pub tree_of : List (List ℕ × Node) → ℕ → ViewTree
 tree_of entries next = record { views = map live_view entries; next = next }
 
--- what holds of the kept entries: they make a tree, and each has the level of its view
+-- what holds of the kept entries: they make a tree, and each has the depth of its view
 pub record AreKept (entries : List (List ℕ × Node)) (next : ℕ) : Type 0 where
   pub tree : IsTree (tree_of entries next)
-  pub levels : All (λ e. IsOnLevel (map live_view entries) e.1.id.0 e.1.level) entries
+  pub depths : All (λ e. IsAtDepth (map live_view entries) e.1.id.0 e.1.depth) entries

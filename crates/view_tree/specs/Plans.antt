@@ -29,7 +29,7 @@ names_of_plan ps = map (λ p. p.name.now) ps
 pub record IsPlanOf (plan : Plan) (tree : JsonTree) : Type 0 where
   pub place : plan.place.now ≡ tree.place
   pub pairs : pairs_of plan.views.items ≡ pairs tree.place tree.branch
-  pub levels : plan.levels ≡ height tree.branch
+  pub height : plan.height ≡ height tree.branch
 
 -- the number of the view of this name
 abbrev pub number_of : ViewTree → List ℕ → ℕ

@@ -1,9 +1,11 @@
 -- The tree of views.
-use Rattle.std.specs.Prelude.{◌≡◌, ◌<◌, ◌≤◌, ◌+◌, ◌^◌, ℕ, List, [], ◌∷◌, ◌++◌, Option, None, Some, All}
+use Rattle.std.specs.Prelude.{◌≡◌, ◌<◌, ◌≤◌, ◌+◌, ℕ, List, [], ◌∷◌, ◌++◌, Option, None, Some, All}
 use Rattle.std.specs.Prelude.{AllPairs, codes, find, length, map, nat_eq, slice_get}
 use Rattle.std.specs.Option.{option_map}
 use Rattle.std.specs.Str.{bytes_eq}
 use Rattle.name_tables.specs.Names.{AreDistinct}
+use Rattle.name_tables.specs.declared.stops.TheConstants.{NAME_LIMIT}
+use Rattle.view_tree.specs.declared.limits.TheConstants.{DEPTH_LIMIT, ID_LIMIT, VIEW_LIMIT}
 
 -- a live view: its number, its name, and its parent's number, which the window alone lacks
 pub record LiveView : Type 0 where
@@ -35,22 +37,22 @@ abbrev pub AreAbove : List LiveView → ℕ → List ℕ → Type 0
 AreAbove views id [] = HasParent views id None
 AreAbove views id (parent ∷ above) = HasParent views id (Some parent) × AreAbove views parent above
 
--- the level of a live view: the window is on the first, and each other view one level below its parent
-pub record IsOnLevel (views : List LiveView) (id level : ℕ) : Type 0 where
+-- the depth of a live view: the window's is 1, and each other view's one more than its parent's
+pub record IsAtDepth (views : List LiveView) (id depth : ℕ) : Type 0 where
   pub above : List ℕ
   pub chain : AreAbove views id above
-  pub count : length above + 1 ≡ level
+  pub count : length above + 1 ≡ depth
 
 -- what holds of every tree
 pub record IsTree (t : ViewTree) : Type 0 where
   pub root : slice_get t.views 0 ≡ Some window
-  pub few : length t.views ≤ 200
-  pub ids : t.next ≤ 2 ^ 29
+  pub few : length t.views ≤ VIEW_LIMIT
+  pub ids : t.next ≤ ID_LIMIT
   pub below : All (λ v. v.id < t.next) t.views
   pub rising : AllPairs (λ v w. v.id < w.id) t.views
-  pub short : All (λ v. length v.name ≤ 64) t.views
+  pub short : All (λ v. length v.name ≤ NAME_LIMIT) t.views
   pub names : AreDistinct (map (λ v. v.name) t.views)
-  pub levels : All (λ v. (level : ℕ) × IsOnLevel t.views v.id level × (level ≤ 32)) t.views
+  pub depths : All (λ v. (depth : ℕ) × IsAtDepth t.views v.id depth × (depth ≤ DEPTH_LIMIT)) t.views
   pub older : All (λ v. (parent : ℕ) → v.parent ≡ Some parent → parent < v.id) t.views
 
 -- the tree with one view more

@@ -5,16 +5,19 @@ ghost use Rattle.std.specs.List.{list_any};
 ghost use Rattle.serde_json.specs.Data.{Data};
 ghost use Rattle.serde_json.specs.View.{view};
 ghost use Rattle.name_tables.specs.Names.{names_of};
+ghost use Rattle.name_tables.specs.declared.stops.TheConstants.{NAME_LIMIT};
 ghost use Rattle.view_tree.specs.JsonStops.{AreFree, IsFirstHeld, IsGrown, IsWithin, MayStayOut};
 ghost use Rattle.view_tree.specs.JsonStops.{PassesTreeLimit, has_room, is_held};
 ghost use Rattle.view_tree.specs.JsonTrees.{IsJson, JsonTree};
 ghost use Rattle.view_tree.specs.Plans.{AreNew, IsPlanOf, grown, names_of_plan, number_of, pairs_of};
 ghost use Rattle.view_tree.specs.Stops.{IsNewView};
-ghost use Rattle.view_tree.specs.Views.{IsOnLevel, IsTree, view_named, view_of, with_view};
+ghost use Rattle.view_tree.specs.declared.limits.TheConstants.{DEPTH_LIMIT};
+ghost use Rattle.view_tree.specs.Views.{IsAtDepth, IsTree, view_named, view_of, with_view};
 
+use crate::limits::{DEPTH_LIMIT, ID_LIMIT, VIEW_LIMIT};
 use crate::plan::{Plan, PlanStop, Planned, plan_of};
 use crate::stops::TreeStop;
-use crate::tree::{DEPTH_LIMIT, ID_LIMIT, Tree, VIEW_LIMIT};
+use crate::tree::Tree;
 use crate::view::ViewId;
 use frac_core::OutOfMemory;
 use name_tables::{LimitWord, Metrics, NAME_LIMIT, NameMap, OwnedName};
@@ -38,7 +41,7 @@ fn value_of(alloc: Global, text: &[u8]) -> Result<Option<Value>, OutOfMemory>
 
 // Whether one of the names is longer than it may be.
 fn has_long(views: &[Planned<'_>]) -> bool
-    ensures { result ≡ list_any (λ planned. nat_lt 64 (length planned.name.now)) views.now }
+    ensures { result ≡ list_any (λ planned. nat_lt NAME_LIMIT (length planned.name.now)) views.now }
 {
     views.iter().any(|view| view.name.len() > NAME_LIMIT)
 }
@@ -55,19 +58,19 @@ impl Tree {
         count <= (ID_LIMIT - self.next_number()) as usize
     }
 
-    // Whether so many levels below the parent are too many.
-    fn is_deep(&self, parent: ViewId, levels: usize) -> bool
+    // Whether views of this height are too deep below the parent.
+    fn is_deep(&self, parent: ViewId, height: usize) -> bool
         requires live { IsSome (view_of self.now.views parent.0) }
         requires tree { IsTree self.now }
-        ensures yes { result ≡ true → (level : ℕ) × IsOnLevel self.now.views parent.0 level
-            × (32 < level + levels) }
-        ensures no { result ≡ false → (level : ℕ) × IsOnLevel self.now.views parent.0 level
-            × (level + levels ≤ 32) }
+        ensures yes { result ≡ true → (depth : ℕ) × IsAtDepth self.now.views parent.0 depth
+            × (DEPTH_LIMIT < depth + height) }
+        ensures no { result ≡ false → (depth : ℕ) × IsAtDepth self.now.views parent.0 depth
+            × (depth + height ≤ DEPTH_LIMIT) }
     {
-        let Some(level) = self.level(parent) else {
+        let Some(depth) = self.depth(parent) else {
             unreachable!()
         };
-        levels > (DEPTH_LIMIT - level) as usize
+        height > (DEPTH_LIMIT - depth) as usize
     }
 
     // The first limit that the plan would pass.
@@ -85,7 +88,7 @@ impl Tree {
         if !self.has_room(plan.views.len()) {
             return Some(LimitWord::Views);
         }
-        if self.is_deep(parent, plan.levels) {
+        if self.is_deep(parent, plan.height) {
             return Some(LimitWord::Depth);
         }
         None

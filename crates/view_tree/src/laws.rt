@@ -2,11 +2,11 @@
 ghost use Rattle.std.specs.Prelude.{◌≡◌, ℕ, List, map};
 ghost use Rattle.std.specs.List.{range_with_len};
 ghost use Rattle.view_tree.specs.JsonTrees.{Branch, size, views_of};
-ghost use Rattle.view_tree.specs.Views.{IsOnLevel, LiveView};
+ghost use Rattle.view_tree.specs.Views.{IsAtDepth, LiveView};
 
-/// A view has one level at most.
-pub fn level_is_unique()
-    ensures { (views : List LiveView) → (id one other : ℕ) → IsOnLevel views id one → IsOnLevel views id other
+/// A view has at most one depth.
+pub fn depth_is_unique()
+    ensures { (views : List LiveView) → (id one other : ℕ) → IsAtDepth views id one → IsAtDepth views id other
         → one ≡ other }
 {}
 

@@ -14,18 +14,23 @@
 //! the next one, a parent's is below its child's, and the limits hold ([`VIEW_LIMIT`], [`DEPTH_LIMIT`],
 //! [`ID_LIMIT`]). After a refusal all is as before.
 //!
-//! In reading order: `view` (what a caller sees of one), `stops` (why a call is refused), `tree`, `plan`
-//! (the views that a JSON value names) and `json` (trees from JSON), `laws`.
+//! In reading order: `limits`, `view` (what a caller sees of one), `attributes` (the numbers of its four),
+//! `stops` (why a call is refused), `tree`, `plan` (the views that a JSON value names), `json` (trees from
+//! JSON) and `laws`.
 #![tactic(auto)]
 
+mod attributes;
 mod json;
 mod laws;
+mod limits;
 mod plan;
 mod stops;
 mod tree;
 mod view;
 
-pub use laws::{level_is_unique, numbers_rise};
+pub use attributes::Attributes;
+pub use laws::{depth_is_unique, numbers_rise};
+pub use limits::{DEPTH_LIMIT, ID_LIMIT, VIEW_LIMIT};
 pub use stops::TreeStop;
-pub use tree::{DEPTH_LIMIT, ID_LIMIT, Tree, VIEW_LIMIT};
+pub use tree::Tree;
 pub use view::{View, ViewId};

@@ -20,12 +20,12 @@ pub(crate) struct Planned<'v> {
     pub parent: &'v str,
 }
 
-// What a JSON value makes: the views in preorder, on so many levels, below the view of the name `place`.
+// What a JSON value makes: views in preorder, and their height, below the view of the name `place`.
 #[derive(Debug, Drop)]
 pub(crate) struct Plan<'v> {
     pub place: &'v str,
     pub views: Vec<Planned<'v>>,
-    pub levels: usize,
+    pub height: usize,
 }
 
 // Why there is no plan.
@@ -104,7 +104,7 @@ fn has_shape(value: &Value, is_outermost: bool) -> bool
     }
 }
 
-// Appends the views of an object, and answers on how many levels they stand.
+// Appends the views of an object, and answers their height.
 #[cycle(plan)]
 fn plan_object<'v>(
     value: &'v Value,
@@ -112,8 +112,8 @@ fn plan_object<'v>(
     parent: &'v str,
     views: &mut Vec<Planned<'v>>,
 ) -> Result<usize, PlanStop>
-    ensures planned { IfOk result (λ levels. (b : Branch) × (branch_of is_outermost (view value.now) ≡ Some b)
-        × (pairs_of views.new.items ≡ pairs_of views.old.items ++ pairs parent.now b) × (levels ≡ height b)) }
+    ensures planned { IfOk result (λ high. (b : Branch) × (branch_of is_outermost (view value.now) ≡ Some b)
+        × (pairs_of views.new.items ≡ pairs_of views.old.items ++ pairs parent.now b) × (high ≡ height b)) }
     ensures other { IfErr result (λ stop. stop ≡ PlanStop.Shape
         → branch_of is_outermost (view value.now) ≡ None) }
 {
@@ -129,34 +129,31 @@ fn plan_object<'v>(
         None => return Ok(1),
     };
     match plan_elements(children, name, views) {
-        Ok(levels) => Ok(levels + 1),
+        Ok(height) => Ok(height + 1),
         Err(stop) => Err(stop),
     }
 }
 
-// Appends the views of the objects in an array, and answers on how many levels they stand.
+// Appends the views of the objects in an array, and answers their height.
 #[cycle(plan)]
 fn plan_elements<'v>(
     value: &'v Value,
     parent: &'v str,
     views: &mut Vec<Planned<'v>>,
 ) -> Result<usize, PlanStop>
-    ensures planned { IfOk result (λ levels. (bs : Branches) × (elements_of (view value.now) ≡ Some bs)
+    ensures planned { IfOk result (λ high. (bs : Branches) × (elements_of (view value.now) ≡ Some bs)
         × (pairs_of views.new.items ≡ pairs_of views.old.items ++ pairs_in parent.now bs)
-        × (levels ≡ height_in bs)) }
+        × (high ≡ height_in bs)) }
     ensures other { IfErr result (λ stop. stop ≡ PlanStop.Shape → elements_of (view value.now) ≡ None) }
 {
     let Some(elements) = value.as_array() else {
         return Err(PlanStop::Shape);
     };
-    let mut levels: usize = 0;
+    let mut height: usize = 0;
     for element in elements {
-        match plan_object(element, false, parent, views) {
-            Ok(more) => levels = levels.max(more),
-            Err(stop) => return Err(stop),
-        }
+        height = height.max(plan_object(element, false, parent, views)?);
     }
-    Ok(levels)
+    Ok(height)
 }
 
 // The plan of a JSON value.
@@ -169,10 +166,10 @@ pub(crate) fn plan_of(alloc: Global, value: &Value) -> Result<Plan<'_>, PlanStop
         return Err(PlanStop::Shape);
     };
     let mut views = Vec::new(alloc);
-    let levels = plan_object(value, true, place, &mut views)?;
+    let height = plan_object(value, true, place, &mut views)?;
     Ok(Plan {
         place,
         views,
-        levels,
+        height,
     })
 }

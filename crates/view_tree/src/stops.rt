@@ -1,21 +1,27 @@
 // Why the tree refuses a call.
 use frac_core::OutOfMemory;
 use name_tables::{LimitWord, OwnedName};
+use thiserror::Error;
 
 /// Why the tree of views refuses a call. A name stands here only where the caller doesn't hold it.
-#[derive(Drop, Debug)]
+#[derive(Drop, Debug, Error)]
 pub enum TreeStop {
     /// The text of a tree isn't JSON.
+    #[error("the text of the tree isn't JSON")]
     Syntax,
     /// The tree is of another shape.
+    #[error("this isn't the shape of a tree")]
     Shape,
     /// A view that must be live isn't.
+    #[error("the view isn't live")]
     Unknown(Option<OwnedName>),
     /// A new view's name is taken.
+    #[error("the name is taken")]
     Taken(Option<OwnedName>),
     /// A limit would be passed.
+    #[error("a limit would be passed")]
     Limit(LimitWord),
-    /// Memory is wanting.
+    #[error("memory is wanting")]
     OutOfMemory,
 }
 

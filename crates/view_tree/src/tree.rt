@@ -1,14 +1,16 @@
 // The live views.
-ghost use Rattle.std.specs.Prelude.{◌≡◌, ◌≢◌, ◌≤◌, ◌<◌, ◌^◌, ◌+◌, ◌==◌, ℕ, List, [], ◌∷◌, ◌++◌, None, false};
+ghost use Rattle.std.specs.Prelude.{◌≡◌, ◌≢◌, ◌≤◌, ◌<◌, ◌+◌, ◌==◌, ℕ, List, [], ◌∷◌, ◌++◌, None, false};
 ghost use Rattle.std.specs.Prelude.{filter, find, not, position};
 ghost use Rattle.std.specs.Prelude.{IfOk, IfSome, OnErr, OnOk, IfErr, IfNone, is_some, length, slice_get};
 ghost use Rattle.std.specs.Option.{option_map, option_map_or, option_and_then};
 ghost use Rattle.view_tree.specs.Plans.{IsGrownBy};
-ghost use Rattle.view_tree.specs.Views.{LiveView, ViewTree, IsTree, IsOnLevel, HasParent, IsAdded};
+ghost use Rattle.view_tree.specs.Views.{LiveView, ViewTree, IsTree, IsAtDepth, HasParent, IsAdded};
 ghost use Rattle.view_tree.specs.Views.{view_of, view_named, with_view, window};
 ghost use Rattle.view_tree.specs.Stops.{IsNewView, MayStop, is_full};
+ghost use Rattle.view_tree.specs.declared.limits.TheConstants.{DEPTH_LIMIT, ID_LIMIT};
 ghost use Rattle.view_tree.specs.Drops.{AreGoing, IsDropped, MayStay, goes, is_among, without};
 
+use crate::limits::{DEPTH_LIMIT, ID_LIMIT, VIEW_LIMIT};
 use crate::stops::TreeStop;
 use crate::view::{View, ViewId};
 use frac_core::OutOfMemory;
@@ -16,21 +18,12 @@ use name_tables::{LimitWord, NAME_LIMIT, NameMap};
 use std::alloc::Global;
 use std::marker::Model;
 
-/// How many views may be live, the window counted.
-pub const VIEW_LIMIT: usize = 200;
-
-/// Each view's number is below this.
-pub const ID_LIMIT: u32 = 1 << 29;
-
-/// How many levels there may be, the window's counted.
-pub const DEPTH_LIMIT: u32 = 32;
-
-// What is kept under a view's name. The level is 1 for the window.
+// What is kept under a view's name.
 #[derive(Clone, Copy, Debug)]
 pub(crate) struct Node {
     id: ViewId,
     parent: Option<ViewId>,
-    level: u32,
+    depth: u32,
 }
 
 // The place of the node of this number.
@@ -114,7 +107,7 @@ impl Tree {
         let node = Node {
             id: ViewId(0),
             parent: None,
-            level: 1,
+            depth: 1,
         };
         table.add("window", node)?;
         Ok(Tree { table, next: 1 })
@@ -145,24 +138,24 @@ impl Tree {
     // The number that the next view takes.
     pub(crate) fn next_number(&self) -> u32
         ensures next { result ≡ self.now.next }
-        ensures within { self.now.next ≤ 2 ^ 29 }
+        ensures within { self.now.next ≤ ID_LIMIT }
     {
         self.next
     }
 
-    // The level of a live view.
-    pub(crate) fn level(&self, id: ViewId) -> Option<u32>
-        ensures level { IfSome result (IsOnLevel self.now.views id.0) }
+    // The depth of a live view.
+    pub(crate) fn depth(&self, id: ViewId) -> Option<u32>
+        ensures depth { IfSome result (IsAtDepth self.now.views id.0) }
         ensures dead { IfNone result (view_of self.now.views id.0 ≡ None) }
     {
         let node = self.node(id)?;
-        Some(node.level)
+        Some(node.depth)
     }
 
     // What is kept of a view, if it is live.
     fn node(&self, id: ViewId) -> Option<Node>
         ensures live { IfSome result (λ n. HasParent self.now.views id.0 (option_map (λ p. p.0) n.parent)) }
-        ensures level { IfSome result (λ n. IsOnLevel self.now.views id.0 n.level) }
+        ensures depth { IfSome result (λ n. IsAtDepth self.now.views id.0 n.depth) }
         ensures dead { IfNone result (view_of self.now.views id.0 ≡ None) }
     {
         node_of(self.table.values(), id.0)
@@ -201,11 +194,11 @@ impl Tree {
         })
     }
 
-    // The level of a new view below this parent, or the first cause that there is against it.
-    fn level_below(&self, name: &str, parent: ViewId) -> Result<u32, TreeStop>
-        ensures level { IfOk result (λ level. (above : ℕ) × IsOnLevel self.now.views parent.0 above
-            × (level ≡ above + 1)) }
-        ensures low { IfOk result (λ level. level ≤ 32) }
+    // The depth of a new view below this parent, or the first cause that there is against it.
+    fn depth_below(&self, name: &str, parent: ViewId) -> Result<u32, TreeStop>
+        ensures depth { IfOk result (λ depth. (above : ℕ) × IsAtDepth self.now.views parent.0 above
+            × (depth ≡ above + 1)) }
+        ensures low { IfOk result (λ depth. depth ≤ DEPTH_LIMIT) }
         ensures new { OnOk result (IsNewView self.now name.now parent.0) }
         ensures refused { IfErr result (MayStop self.now name.now parent.0) }
     {
@@ -219,10 +212,10 @@ impl Tree {
         if self.is_full() {
             return Err(TreeStop::Limit(LimitWord::Views));
         }
-        if above.level >= DEPTH_LIMIT {
+        if above.depth >= DEPTH_LIMIT {
             return Err(TreeStop::Limit(LimitWord::Depth));
         }
-        Ok(above.level + 1)
+        Ok(above.depth + 1)
     }
 
     // Whether there are as many views as there may be, or no number is left.
@@ -235,8 +228,9 @@ impl Tree {
     /// Adds a view below a parent, and answers its number, which is the next one.
     ///
     /// `Unknown` where the parent isn't live, otherwise `Taken` where a live view has the name, otherwise the
-    /// first limit that would be passed: `Name` at more than 64 bytes, `Views` at 200 live views or at the
-    /// number 2^29, `Depth` at more than 32 levels. After a refusal all is as before.
+    /// first limit that would be passed: `Name` past [`NAME_LIMIT`] bytes, `Views` at [`VIEW_LIMIT`] live
+    /// views or at the number [`ID_LIMIT`], `Depth` below a parent at [`DEPTH_LIMIT`]. After a refusal all is
+    /// as before.
     pub fn add(&mut self, name: &str, parent: ViewId) -> Result<ViewId, TreeStop>
         ensures id { IfOk result (λ id. id.0 ≡ self.old.next) }
         ensures new { OnOk result (IsNewView self.old name.now parent.0) }
@@ -244,12 +238,12 @@ impl Tree {
         ensures refused { IfErr result (MayStop self.old name.now parent.0) }
         ensures unchanged { OnErr result (self.new ≡ self.old) }
     {
-        let level = self.level_below(name, parent)?;
+        let depth = self.depth_below(name, parent)?;
         let id = ViewId(self.next);
         let node = Node {
             id,
             parent: Some(parent),
-            level,
+            depth,
         };
         self.table.add(name, node)?;
         self.next += 1;
@@ -261,11 +255,11 @@ impl Tree {
     /// It stops where `add` would be refused, at the same cause.
     pub fn id_below(&self, name: &str, parent: ViewId) -> Result<ViewId, TreeStop>
         ensures id { IfOk result (λ id. id.0 ≡ self.now.next) }
-        ensures small { IfOk result (λ id. id.0 < 2 ^ 29) }
+        ensures small { IfOk result (λ id. id.0 < ID_LIMIT) }
         ensures new { OnOk result (IsNewView self.now name.now parent.0) }
         ensures refused { IfErr result (MayStop self.now name.now parent.0) }
     {
-        self.level_below(name, parent)?;
+        self.depth_below(name, parent)?;
         Ok(ViewId(self.next))
     }
 

@@ -4,7 +4,7 @@ use Rattle.std.proofs.lemmas.List.{length-map}
 use Rattle.serde_json.specs.View.{items_view, view}
 use Rattle.view_tree.specs.JsonTrees.{branch, height_in, no_branches}
 use Rattle.view_tree.specs.Plans.{pair_of, pairs_of}
-use Rattle.view_tree.proofs.PlanLemmas.{depth-element, depth-get, few_levels, object_alone, object_other, object_some, pairs_leaf, pairs_object}
+use Rattle.view_tree.proofs.PlanLemmas.{depth-element, depth-get, low_height, object_alone, object_other, object_some, pairs_leaf, pairs_object}
 use Rattle.view_tree.proofs.plan.+plan.Goals as goal
 
 pub plan_elements-plan_object-requires : goal.plan_elements-plan_object-requires
@@ -32,7 +32,7 @@ plan_object-returns-in-None-clause-planned t c = (
 pub plan_object-overflow_add-result : goal.plan_object-overflow_add-result
 plan_object-overflow_add-result t c =
     let below = c.in-Ok.ensures.planned in
-    let few : height_in below.0 ≤ length (pairs_of c.plan_elements.new.views.items) = few_levels c.in-Some.name.now below.0 (pairs_of c.push.new.self.items) (pairs_of c.plan_elements.new.views.items) below.2 in
+    let few : height_in below.0 ≤ length (pairs_of c.plan_elements.new.views.items) = low_height c.in-Some.name.now below.0 (pairs_of c.push.new.self.items) (pairs_of c.plan_elements.new.views.items) below.2 in
     let len : length c.plan_elements.new.views.items < 2 ^ 63 = omega (arith, c.plan_elements.new.views.ok.0, c.plan_elements.new.views.ok.1, c.plan_elements.new.views.small) in
     record { fits = omega (arith, few, len, below.3, length-map c.plan_elements.new.views.items pair_of) }
 

@@ -12,4 +12,4 @@ abbrev pub decreases-plan_elements : goal.decreases-plan_elements
 decreases-plan_elements l = depth (view l.value.now)
 
 abbrev pub invariant-plan_elements-loop-element : goal.invariant-plan_elements-loop-element
-invariant-plan_elements-loop-element l = Upto (items_view l.element-items) (items_view (drop l.element-index l.element-items)) l.parent (pairs_of l.fn.views.items) (pairs_of l.views.items) l.levels
+invariant-plan_elements-loop-element l = Upto (items_view l.element-items) (items_view (drop l.element-index l.element-items)) l.parent (pairs_of l.fn.views.items) (pairs_of l.views.items) l.height

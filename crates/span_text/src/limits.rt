@@ -1,0 +1,16 @@
+// How numbers are written.
+
+/// One, in thousandths.
+pub const UNIT: u32 = 1000;
+
+/// How many digits a number may have in front of its point.
+pub const NUMBER_DIGITS: usize = 6;
+
+/// How many digits a number may have behind its point.
+pub const DECIMALS: usize = 3;
+
+/// How many digits each part of a ratio may have.
+pub const RATIO_DIGITS: usize = 4;
+
+/// How many digits a whole number may have that counts something.
+pub const WHOLE_DIGITS: usize = 19;

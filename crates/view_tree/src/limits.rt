@@ -1,0 +1,10 @@
+// The limits of a tree.
+
+/// How many views may be live, the window counted.
+pub const VIEW_LIMIT: usize = 200;
+
+/// Each view's number is below this.
+pub const ID_LIMIT: u32 = 1 << 29;
+
+/// The greatest depth of a view. The window's is 1.
+pub const DEPTH_LIMIT: u32 = 32;
