@@ -90,9 +90,9 @@ parent_live t tree id p h = by (view_of t.views id) refl h
     by (Some v) e h =
         let at = found_in (λ (u : LiveView). nat_eq u.id id) t.views v e in
         let is : v.id ≡ id = grind (arith, nat_tests, at.3) in
-        let level = tree.levels at.0 v at.1 in
-        let chain : AreAbove t.views id level.1.above = subst (λ (n : ℕ). AreAbove t.views n level.1.above) (ap (λ (u : LiveView). u.id) at.2 ∙ is) level.1.chain in
-        top v e h level.1.above chain
+        let depth = tree.depths at.0 v at.1 in
+        let chain : AreAbove t.views id depth.1.above = subst (λ (n : ℕ). AreAbove t.views n depth.1.above) (ap (λ (u : LiveView). u.id) at.2 ∙ is) depth.1.chain in
+        top v e h depth.1.above chain
 
 -- the parent has this number, and is found by its name
 pub parent_named : (t : ViewTree) → IsTree t → (name : List ℕ) (p : ℕ) → parent_of t.views name ≡ Some p → (option_map (λ v. v.id) (view_named t.views (name_of t.views (Some p))) ≡ Some p) × (p < 2 ^ 29)

@@ -2,6 +2,7 @@
 use Rattle.std.specs.Prelude.{◌≡◌, ◌≤◌, List, [], ◌∷◌, ◌++◌, All, Option, true, false}
 use Rattle.std.specs.List.{AllZip}
 use Rattle.std.specs.Option.{option_to_list}
+use Rattle.problem_core.specs.declared.limits.TheConstants.{REQUIRED}
 use Rattle.script_text.specs.declared.words.Align.{Align}
 use Rattle.script_text.specs.Meaning.{Linear}
 use Rattle.vfl_text.specs.declared.parts.Axis.{Axis}
@@ -22,7 +23,7 @@ added a = a.plus ∷ (option_to_list a.minus ++ a.object ∷ [])
 -- what holds of a row that is asked for, whatever the names were
 pub record IsKeptAsk (a : Ask) : Type 0 where
   pub added : All IsKept (added a)
-  pub rank : a.rank ≤ 1000
+  pub rank : a.rank ≤ REQUIRED
 
 -- the row is that of the line
 pub record IsAsk (views : List LiveView) (metrics : MetricList) (l : Linear) (a : Ask) : Type 0 where

@@ -40,7 +40,7 @@ pub record CompiledLine : Type 0 where
 abbrev pub IsValue : Fraction → Fraction → Type 0
 IsValue f g = f.num *ℤ pos g.den ≡ g.num *ℤ pos f.den
 
--- the sum in lowest terms has parts below 2^42
+-- the sum in lowest terms fits
 pub record IsFittingSum (e : Fraction) : Type 0 where
   pub sum : Fraction
   pub lowest : IsLowest sum

@@ -5,6 +5,7 @@ use Rattle.std.specs.Option.{option_map, option_to_list}
 use Rattle.frac_core.specs.Fraction.{Fraction}
 use Rattle.span_text.specs.Objects as object
 use Rattle.span_text.specs.Objects.{Meant}
+use Rattle.span_text.specs.declared.limits.TheConstants.{UNIT}
 use Rattle.vfl_text.specs.Formats.{PredMeaning}
 use Rattle.script_text.specs.Grammar.{decimal}
 use Rattle.script_text.specs.declared.words.AttrWord.{AttrWord}
@@ -32,7 +33,7 @@ owner_name views owner.Parent name = name_of views (parent_of views name)
 
 -- the attribute, once
 abbrev pub end_term : List LiveView → End → Term
-end_term views e = record { by = decimal false 1000; of = mean.Attr (owner_name views e.owner e.view) e.word }
+end_term views e = record { by = decimal false UNIT; of = mean.Attr (owner_name views e.owner e.view) e.word }
 
 abbrev pub minus_terms : List LiveView → Option End → List Term
 minus_terms views None = []
@@ -48,9 +49,8 @@ number (negsuc n) = decimal true (n + 1)
 abbrev pub object_term : List LiveView → AttrWord → Meant → Term
 object_term views w (object.Number z) = record { by = number z; of = mean.One }
 object_term views w (object.Name name) = record {
-  by = decimal false 1000;
-  of = (if is_some
-      (view_named views name) then mean.Attr name w else mean.Metric name);
+  by = decimal false UNIT;
+  of = (if is_some (view_named views name) then mean.Attr name w else mean.Metric name);
 }
 
 -- the first end is so related to the second one, if there is one, with the object added

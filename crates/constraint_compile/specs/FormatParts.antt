@@ -4,7 +4,7 @@ use Rattle.problem_core.specs.declared.parts.Rel.TheVariants as rel
 use Rattle.span_text.specs.Objects as object
 use Rattle.vfl_text.specs.declared.parts.Axis.{Axis}
 use Rattle.vfl_text.specs.declared.parts.Axis.TheVariants as axis
-use Rattle.vfl_text.specs.Formats.{PredMeaning, GapMeaning, Flush, Standard, Given, ItemMeaning}
+use Rattle.vfl_text.specs.Formats.{PredMeaning, SpacingMeaning, Flush, Standard, Given, ItemMeaning}
 use Rattle.vfl_text.specs.Formats.{FormatMeaning}
 use Rattle.script_text.specs.declared.words.Align.{Align}
 use Rattle.script_text.specs.declared.words.Align.TheVariants as align
@@ -12,6 +12,7 @@ use Rattle.script_text.specs.declared.words.AttrWord.{AttrWord}
 use Rattle.script_text.specs.declared.words.AttrWord.TheVariants as word
 use Rattle.constraint_compile.specs.declared.format.parts.Owner.{Owner}
 use Rattle.constraint_compile.specs.declared.format.parts.Owner.TheVariants as owner
+use Rattle.constraint_compile.specs.declared.format.lists.TheConstants.{USUAL_BETWEEN, USUAL_INSIDE}
 
 -- an attribute of the view of this name, or of that view's parent
 pub record End : Type 0 where
@@ -80,28 +81,28 @@ abbrev pub asks : Span → List PredMeaning → List Part
 asks s ps = map (Asks s) ps
 
 -- a connection, and the space that is usual there, in thousandths
-abbrev pub gap_parts : Span → ℕ → GapMeaning → List Part
-gap_parts s usual Flush = Asks s (exactly 0) ∷ []
-gap_parts s usual Standard = Asks s (exactly usual) ∷ []
-gap_parts s usual (Given ps) = asks s ps
+abbrev pub spacing_parts : Span → ℕ → SpacingMeaning → List Part
+spacing_parts s usual Flush = Asks s (exactly 0) ∷ []
+spacing_parts s usual Standard = Asks s (exactly usual) ∷ []
+spacing_parts s usual (Given ps) = asks s ps
 
 abbrev pub item_parts : Axis → ItemMeaning → List Part
 item_parts a i = View i.name ∷ asks (size a i.name) i.sizes
 
 -- the views behind the one of this name, each with the connection before it
-abbrev pub chain_parts : Axis → List ℕ → List GapMeaning → List ItemMeaning → List Part
+abbrev pub chain_parts : Axis → List ℕ → List SpacingMeaning → List ItemMeaning → List Part
 chain_parts a before [] is = []
 chain_parts a before (g ∷ gs) [] = []
-chain_parts a before (g ∷ gs) (i ∷ is) = gap_parts (between a before i.name) 8000 g
+chain_parts a before (g ∷ gs) (i ∷ is) = spacing_parts (between a before i.name) USUAL_BETWEEN g
     ++ (item_parts a i ++ chain_parts a i.name gs is)
 
-abbrev pub front_parts : Axis → List ℕ → Option GapMeaning → List Part
+abbrev pub front_parts : Axis → List ℕ → Option SpacingMeaning → List Part
 front_parts a name None = []
-front_parts a name (Some g) = Bar name ∷ gap_parts (inside_near a name) 20000 g
+front_parts a name (Some g) = Bar name ∷ spacing_parts (inside_near a name) USUAL_INSIDE g
 
-abbrev pub back_parts : Axis → List ℕ → Option GapMeaning → List Part
+abbrev pub back_parts : Axis → List ℕ → Option SpacingMeaning → List Part
 back_parts a name None = []
-back_parts a name (Some g) = Bar name ∷ gap_parts (inside_far a name) 20000 g
+back_parts a name (Some g) = Bar name ∷ spacing_parts (inside_far a name) USUAL_INSIDE g
 
 -- ---- alignment
 
@@ -113,14 +114,14 @@ aligned_word align.Bottom = word.Bottom
 aligned_word align.CenterX = word.CenterX
 aligned_word align.CenterY = word.CenterY
 
--- the views behind the one of this name, each level with the one before it
-abbrev pub level_parts : AttrWord → List ℕ → List ItemMeaning → List Part
-level_parts w before [] = []
-level_parts w before (i ∷ is) = Asks (off w before i.name) (exactly 0) ∷ level_parts w i.name is
+-- the views behind the one of this name, each aligned with the one before it
+abbrev pub aligned_parts : AttrWord → List ℕ → List ItemMeaning → List Part
+aligned_parts w before [] = []
+aligned_parts w before (i ∷ is) = Asks (off w before i.name) (exactly 0) ∷ aligned_parts w i.name is
 
 abbrev pub align_parts : Option Align → List ℕ → List ItemMeaning → List Part
 align_parts None first is = []
-align_parts (Some a) first is = level_parts (aligned_word a) first is
+align_parts (Some a) first is = aligned_parts (aligned_word a) first is
 
 -- ---- the whole
 
@@ -134,7 +135,7 @@ parts_over f align [] = []
 parts_over f align (i ∷ is) =
     front_parts f.axis i.name f.from_parent
     ++ (item_parts f.axis i
-    ++ (chain_parts f.axis i.name f.gaps is
+    ++ (chain_parts f.axis i.name f.spacings is
     ++ (back_parts f.axis (last_name i.name is) f.to_parent
     ++ align_parts align i.name is)))
 

@@ -69,7 +69,7 @@ has_view_space views (View name) = false
 has_view_space views (Bar name) = false
 has_view_space views (Asks span pred) = is_some span.minus && is_view_object views pred.object
 
--- each priority stands for a whole number from 1 to 1000
+-- each priority stands for a rank
 abbrev pub HasRank : List LiveView → MetricList → Part → Type 0
 HasRank views metrics (View name) = ⊤
 HasRank views metrics (Bar name) = ⊤

@@ -1,6 +1,7 @@
 -- When a format is refused, before its rows are made.
-use Rattle.std.specs.Prelude.{◌≡◌, ℕ, ◌+◌, ◌<◌, ◌^◌, true, false, List, length, Option, None, Some, ⊤}
+use Rattle.std.specs.Prelude.{◌≡◌, ℕ, ◌+◌, ◌<◌, true, false, List, length, Option, None, Some, ⊤}
 use Rattle.std.specs.List.{list_any}
+use Rattle.problem_core.specs.declared.limits.TheConstants.{NUMBER_LIMIT}
 use Rattle.name_tables.specs.declared.stops.LimitWord.TheVariants as limit
 use Rattle.vfl_text.specs.declared.parts.Axis.{Axis}
 use Rattle.script_text.specs.declared.words.Align.{Align}
@@ -22,7 +23,7 @@ row_count views parts = length (lines_of views parts)
 -- one of so many rows, numbered from the first number, has a number past the last one
 pub record IsPastNumbers (first count : ℕ) : Type 0 where
   pub some : 0 < count
-  pub past : 2 ^ 31 < first + count
+  pub past : NUMBER_LIMIT < first + count
 
 -- each name is known, and no use is wrong
 pub record IsUsableFormat (views : List LiveView) (metrics : MetricList) (axis : Axis) (align : Option Align)

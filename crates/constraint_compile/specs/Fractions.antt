@@ -1,7 +1,9 @@
 -- Sums of fractions that need not be in lowest terms, and the numbers that make them whole.
-use Rattle.std.specs.Prelude.{◌≡◌, ℕ, ◌*◌, ◌<◌, ◌≤◌, ◌^◌, List, [], ◌∷◌, ℤ, pos, neg_ℤ, ◌+ℤ◌, ◌*ℤ◌}
+use Rattle.std.specs.Prelude.{◌≡◌, ℕ, ◌*◌, ◌<◌, ◌≤◌, List, [], ◌∷◌, ℤ, pos, neg_ℤ, ◌+ℤ◌, ◌*ℤ◌}
 use Rattle.std.specs.Prelude.{unsigned_abs}
 use Rattle.frac_core.specs.Fraction.{Fraction, IsLowest, IsRatio}
+use Rattle.problem_core.specs.declared.limits.TheConstants.{COEFFICIENT_LIMIT}
+use Rattle.constraint_compile.specs.declared.limits.TheConstants.{CONSTANT_LIMIT}
 
 abbrev pub zero_fraction : Fraction
 zero_fraction = record { num = pos 0; den = 1 }
@@ -34,21 +36,25 @@ pub record IsScale (b : ℕ → Fraction) (k : ℕ) : Type 0 where
   pub whole : MakesWhole k b
   pub least : (j : ℕ) → 0 < j → MakesWhole j b → k ≤ j
 
--- the scale, and each coefficient times the scale, are at most 2^30 in size
+-- the scale, and each coefficient times the scale, are within the limit of coefficients
 pub record AreSmall (b : ℕ → Fraction) : Type 0 where
   pub scale : ℕ
   pub is_scale : IsScale b scale
-  pub small_scale : scale ≤ 2 ^ 30
-  pub small : (v : ℕ) (z : ℤ) → IsOver scale (b v) z → unsigned_abs z ≤ 2 ^ 30
+  pub small_scale : scale ≤ COEFFICIENT_LIMIT
+  pub small : (v : ℕ) (z : ℤ) → IsOver scale (b v) z → unsigned_abs z ≤ COEFFICIENT_LIMIT
 
 -- c is -k*e in lowest terms
 pub record IsConstant (k : ℕ) (e c : Fraction) : Type 0 where
   pub lowest : IsLowest c
   pub value : IsRatio c (neg_ℤ (pos k *ℤ e.num)) (pos e.den)
 
--- both parts of -k*e in lowest terms are below 2^40 in size
+-- both parts are below the limit of constants in size
+abbrev pub HasSmallParts : Fraction → Type 0
+HasSmallParts f = (unsigned_abs f.num < CONSTANT_LIMIT) × (f.den < CONSTANT_LIMIT)
+
+-- both parts of -k*e in lowest terms are below the limit of constants in size
 pub record IsSmallConstant (k : ℕ) (e : Fraction) : Type 0 where
   pub constant : Fraction
   pub is_constant : IsConstant k e constant
-  pub num_small : unsigned_abs constant.num < 2 ^ 40
-  pub den_small : constant.den < 2 ^ 40
+  pub num_small : unsigned_abs constant.num < CONSTANT_LIMIT
+  pub den_small : constant.den < CONSTANT_LIMIT

@@ -1,9 +1,11 @@
 -- What a compiled line is made of.
-use Rattle.std.specs.Prelude.{◌<◌, ◌≤◌, ◌^◌, List, map, length, All, AllPairs}
+use Rattle.std.specs.Prelude.{◌<◌, ◌≤◌, List, map, length, All, AllPairs}
 use Rattle.std.specs.String.{string_bytes}
 use Rattle.problem_core.specs.Kept.{IsTerm}
+use Rattle.problem_core.specs.declared.limits.TheConstants.{NUMBER_LIMIT, REQUIRED, TERM_LIMIT}
 use Rattle.view_tree.specs.declared.view.ViewId.{ViewId}
 use Rattle.constraint_compile.specs.Compiled as compiled
+use Rattle.constraint_compile.specs.Meaning.{IsWeight}
 use Rattle.constraint_compile.specs.Keeps.{steps_view, AreScalesKept}
 use Rattle.constraint_compile.specs.declared.compiled.RowForm.{RowForm}
 
@@ -17,16 +19,16 @@ form_view r = record {
   steps = steps_view (map string_bytes r.names.items) r.steps.items;
 }
 
-abbrev pub line_of : List RowForm → List ViewId → compiled.CompiledLine
-line_of rows views = record { rows = map form_view rows; views = map (λ v. v.0) views }
+abbrev pub compiled_line : List RowForm → List ViewId → compiled.CompiledLine
+compiled_line rows views = record { rows = map form_view rows; views = map (λ v. v.0) views }
 
 pub record IsForm (r : RowForm) : Type 0 where
-  pub number : (0 < r.id) × (r.id < 2 ^ 31)
-  pub rank : r.rank ≤ 1000
-  pub weight : (0 < r.weight) × (r.weight ≤ 1000)
+  pub number : (0 < r.id) × (r.id < NUMBER_LIMIT)
+  pub rank : r.rank ≤ REQUIRED
+  pub weight : IsWeight r.weight
   pub each : All IsTerm r.terms.items
   pub rising : AllPairs (λ s t. s.attr < t.attr) r.terms.items
-  pub count : length r.terms.items ≤ 32
+  pub count : length r.terms.items ≤ TERM_LIMIT
   pub scales : AreScalesKept r.steps.items
 
 abbrev pub AreForms : List RowForm → Type 0

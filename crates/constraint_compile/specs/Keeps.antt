@@ -1,7 +1,8 @@
 -- What a compiled line keeps.
-use Rattle.std.specs.Prelude.{◌≡◌, ℕ, ◌<◌, ◌≤◌, ◌^◌, Bool, true, false, List, [], map, slice_index_or}
+use Rattle.std.specs.Prelude.{◌≡◌, ℕ, ◌<◌, ◌≤◌, Bool, true, false, List, [], map, slice_index_or}
 use Rattle.std.specs.Prelude.{All}
 use Rattle.std.specs.List.{list_any}
+use Rattle.problem_core.specs.declared.limits.TheConstants.{COEFFICIENT_LIMIT}
 use Rattle.constraint_compile.specs.Meaning as meaning
 use Rattle.constraint_compile.specs.Addends.{Addend}
 use Rattle.constraint_compile.specs.Compiled as compiled
@@ -22,7 +23,7 @@ abbrev pub steps_view : List (List ℕ) → List Step → List compiled.Step
 steps_view names steps = map (step_view names) steps
 
 abbrev pub AreScalesKept : List Step → Type 0
-AreScalesKept steps = All (λ s. (0 < s.scale) × (s.scale ≤ 2 ^ 30)) steps
+AreScalesKept steps = All (λ s. (0 < s.scale) × (s.scale ≤ COEFFICIENT_LIMIT)) steps
 
 -- the metric of which a multiple is added, or no name
 abbrev pub metric_in : meaning.Part → List ℕ

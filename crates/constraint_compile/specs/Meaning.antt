@@ -6,14 +6,17 @@ use Rattle.std.specs.Option.{option_or, option_map, option_to_list}
 use Rattle.frac_core.specs.Fraction.{Fraction}
 use Rattle.problem_core.specs.declared.parts.Term.{Term}
 use Rattle.problem_core.specs.Layout.{coefficient}
+use Rattle.problem_core.specs.declared.limits.TheConstants.{REQUIRED, WEIGHT_LIMIT}
 use Rattle.name_tables.specs.Names.{value_of}
 use Rattle.view_tree.specs.Views.{LiveView, view_named}
 use Rattle.span_text.specs.Objects.{Meant}
 use Rattle.span_text.specs.Objects as object
+use Rattle.span_text.specs.declared.limits.TheConstants.{UNIT}
 use Rattle.script_text.specs.declared.words.AttrWord.{AttrWord}
 use Rattle.script_text.specs.declared.words.AttrWord.TheVariants as word
 use Rattle.script_text.specs.Meaning.{Operand, Linear}
 use Rattle.script_text.specs.Meaning as mean
+use Rattle.view_tree.specs.Attributes.{left_of, top_of, width_of, height_of}
 use Rattle.constraint_compile.specs.Fractions.{zero_fraction, times, negated, total}
 
 -- the metrics with their values
@@ -24,15 +27,14 @@ MetricList = List (List ℕ × Fraction)
 
 -- so many times the edge, and so many times the size, of a view along one direction
 abbrev pub horizontal : ℕ → ℕ → ℕ → List Term
-horizontal view edge size = record { attr = 4 * view + 1; by = pos edge }
-    ∷ record { attr = 4 * view + 3; by = pos size } ∷ []
+horizontal view edge size = record { attr = left_of view; by = pos edge }
+    ∷ record { attr = width_of view; by = pos size } ∷ []
 
 abbrev pub vertical : ℕ → ℕ → ℕ → List Term
-vertical view edge size = record { attr = 4 * view + 2; by = pos edge }
-    ∷ record { attr = 4 * view + 4; by = pos size } ∷ []
+vertical view edge size = record { attr = top_of view; by = pos edge }
+    ∷ record { attr = height_of view; by = pos size } ∷ []
 
--- twice an attribute of a view, by the attributes that are kept: those of the view v are 4v+1 (left), 4v+2
--- (top), 4v+3 (width), 4v+4 (height)
+-- twice an attribute of a view, by the attributes that are kept
 abbrev pub doubled : ℕ → AttrWord → List Term
 doubled view word.Left = horizontal view 2 0
 doubled view word.Leading = horizontal view 2 0
@@ -59,8 +61,7 @@ abbrev pub share_in : Option LiveView → Fraction → AttrWord → ℕ → Frac
 share_in None by word v = zero_fraction
 share_in (Some view) by word v = record {
   num = by.num *ℤ coefficient v (doubled view.id word);
-  den = by.den
-      * 2;
+  den = by.den * 2;
 }
 
 -- how often so many times an operand has the attribute v
@@ -146,16 +147,19 @@ is_view_number views mean.One = false
 abbrev pub has_view_number : List LiveView → List mean.Term → Bool
 has_view_number views terms = list_any (λ t. is_view_number views t.of) terms
 
--- r is from 1 to 1000, as is the weight of a row
-abbrev pub IsInThousand : ℕ → Type 0
-IsInThousand r = (0 < r) × (r ≤ 1000)
+-- r is the rank of a row that is asked for, or of a required one
+abbrev pub IsPriority : ℕ → Type 0
+IsPriority r = (0 < r) × (r ≤ REQUIRED)
+
+abbrev pub IsWeight : ℕ → Type 0
+IsWeight w = (0 < w) × (w ≤ WEIGHT_LIMIT)
 
 -- the rank that a priority stands for
 abbrev pub IsRank : List LiveView → MetricList → Option Meant → ℕ → Type 0
-IsRank views metrics None r = r ≡ 1000
-IsRank views metrics (Some (object.Number z)) r = (z ≡ pos (r * 1000)) × IsInThousand r
+IsRank views metrics None r = r ≡ REQUIRED
+IsRank views metrics (Some (object.Number z)) r = (z ≡ pos (r * UNIT)) × IsPriority r
 IsRank views metrics (Some (object.Name name)) r = (view_named views name ≡ None)
-    × (value_of metrics name ≡ Some (record { num = pos r; den = 1 })) × IsInThousand r
+    × (value_of metrics name ≡ Some (record { num = pos r; den = 1 })) × IsPriority r
 
 -- the number of the view that an operand names
 abbrev pub view_in : List LiveView → Operand → List ℕ

@@ -1,13 +1,14 @@
 -- When a line isn't compiled.
-use Rattle.std.specs.Prelude.{◌≡◌, ℕ, ◌+◌, ◌<◌, ◌≤◌, ◌^◌, true, false, List, [], ◌∷◌, length, map}
+use Rattle.std.specs.Prelude.{◌≡◌, ℕ, ◌+◌, ◌<◌, ◌≤◌, true, false, List, [], ◌∷◌, length, map}
 use Rattle.std.specs.Prelude.{None, Some, slice_index_or, ⊤}
+use Rattle.problem_core.specs.declared.limits.TheConstants.{NUMBER_LIMIT, TERM_LIMIT}
 use Rattle.name_tables.specs.declared.stops.LimitWord.{LimitWord}
 use Rattle.name_tables.specs.declared.stops.LimitWord.TheVariants as limit
 use Rattle.view_tree.specs.Views.{LiveView}
 use Rattle.script_text.specs.Meaning.{Term, Linear}
 use Rattle.constraint_compile.specs.Fractions.{IsScale, AreSmall}
 use Rattle.constraint_compile.specs.Meaning.{MetricList, part, terms_of, sum_at, first_unknown, unknown_among}
-use Rattle.constraint_compile.specs.Meaning.{has_view_number, IsRank, IsInThousand, views_in}
+use Rattle.constraint_compile.specs.Meaning.{has_view_number, IsRank, IsWeight, views_in}
 use Rattle.constraint_compile.specs.Sums.{first_sum, HasTooMany, AreTerms}
 use Rattle.constraint_compile.specs.Compiled.{Step, RowForm, CompiledLine, AreSmallSteps, AreSmallForms}
 use Rattle.constraint_compile.specs.Compiled.{last_scale}
@@ -15,6 +16,7 @@ use Rattle.constraint_compile.specs.declared.stops.CompileStop.{CompileStop}
 use Rattle.constraint_compile.specs.declared.stops.CompileStop.TheVariants.{Unknown, Kind, Limit, OutOfMemory}
 use Rattle.constraint_compile.specs.declared.stops.KindWord.{KindWord}
 use Rattle.constraint_compile.specs.declared.stops.KindWord.TheVariants as kind
+use Rattle.constraint_compile.specs.declared.limits.TheConstants.{ADDEND_LIMIT}
 
 -- each name of the line is a view's or a metric's where it must be
 abbrev pub AreKnown : List LiveView → MetricList → Linear → Type 0
@@ -29,7 +31,7 @@ IsWrongUse views metrics l kind.Object = has_view_number views (terms_of l) ≡ 
 IsWrongUse views metrics l kind.Priority = (has_view_number views (terms_of l) ≡ false)
     × (HasRank views metrics l → ⊥)
 IsWrongUse views metrics l kind.Weight = (has_view_number views (terms_of l) ≡ false)
-    × HasRank views metrics l × (IsInThousand l.weight → ⊥)
+    × HasRank views metrics l × (IsWeight l.weight → ⊥)
 IsWrongUse views metrics l _ = ⊥
 
 -- no use in the line is wrong
@@ -37,7 +39,7 @@ pub record IsUsable (views : List LiveView) (metrics : MetricList) (l : Linear) 
   pub known : AreKnown views metrics l
   pub numbers : has_view_number views (terms_of l) ≡ false
   pub rank : HasRank views metrics l
-  pub weight : IsInThousand l.weight
+  pub weight : IsWeight l.weight
 
 -- after each term the scale and the coefficients are small
 abbrev pub AreSmallSums : List LiveView → List Term → Type 0
@@ -54,7 +56,7 @@ pub record AreSteps (views : List LiveView) (terms : List Term) (steps : List St
 pub record IsSumRow (views : List LiveView) (summed : List Term) (row : RowForm) : Type 0 where
   pub scale : IsScale (sum_at views summed) (last_scale row.steps)
   pub terms : AreTerms (sum_at views summed) (last_scale row.steps) row.terms
-  pub few : length row.terms ≤ 32
+  pub few : length row.terms ≤ TERM_LIMIT
   pub steps : AreSteps views summed row.steps
 
 -- the row of a line: its number, rank, weight and relation, and the row of the sum of its terms
@@ -77,8 +79,8 @@ pub record IsWithinLimits (views : List LiveView) (metrics : MetricList) (terms 
 pub record IsCompiled (views : List LiveView) (metrics : MetricList) (l : Linear) (number : ℕ)
     (c : CompiledLine) : Type 0 where
   pub usable : IsUsable views metrics l
-  pub numbers : number < 2 ^ 31
-  pub count : length (terms_of l) ≤ 64
+  pub numbers : number < NUMBER_LIMIT
+  pub count : length (terms_of l) ≤ ADDEND_LIMIT
   pub row : (r : RowForm) × (c.rows ≡ r ∷ []) × IsRowOf views metrics l number r
       × IsWithinLimits views metrics (terms_of l) r.steps
   pub views_named : c.views ≡ views_in views (terms_of l)
@@ -95,9 +97,10 @@ PassesRowLimit views metrics terms _ = ⊥
 
 -- the first limit that the line passes
 abbrev pub PassesLimit : List LiveView → MetricList → Linear → ℕ → LimitWord → Type 0
-PassesLimit views metrics l number limit.Rows = 2 ^ 31 ≤ number
-PassesLimit views metrics l number limit.Terms = (number < 2 ^ 31) × (64 < length (terms_of l))
-PassesLimit views metrics l number word = (number < 2 ^ 31) × (length (terms_of l) ≤ 64)
+PassesLimit views metrics l number limit.Rows = NUMBER_LIMIT ≤ number
+PassesLimit views metrics l number limit.Terms = (number < NUMBER_LIMIT)
+    × (ADDEND_LIMIT < length (terms_of l))
+PassesLimit views metrics l number word = (number < NUMBER_LIMIT) × (length (terms_of l) ≤ ADDEND_LIMIT)
     × PassesRowLimit views metrics (terms_of l) word
 
 -- when a line may be refused

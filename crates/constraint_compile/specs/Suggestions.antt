@@ -1,18 +1,23 @@
 -- The row of a suggestion: that an attribute of a view has a value.
-use Rattle.std.specs.Prelude.{◌≡◌, ℕ, ◌+◌, ◌*◌, ◌<◌, ◌≤◌, ◌^◌, List, [], ◌∷◌, Option, Some, None, pos, ⊤}
+use Rattle.std.specs.Prelude.{◌≡◌, ℕ, ◌+◌, ◌*◌, ◌<◌, ◌≤◌, List, [], ◌∷◌, Option, Some, None, pos, ⊤}
 use Rattle.problem_core.specs.declared.parts.Rel.TheVariants.{Eq}
 use Rattle.problem_core.specs.declared.parts.Term.{Term}
 use Rattle.problem_core.specs.Layout.{Row}
+use Rattle.problem_core.specs.declared.limits.TheConstants.{NUMBER_LIMIT, REQUIRED}
 use Rattle.span_text.specs.Objects.{Meant}
 use Rattle.span_text.specs.Objects as object
+use Rattle.span_text.specs.declared.limits.TheConstants.{UNIT}
 use Rattle.script_text.specs.declared.words.AttrWord.{AttrWord}
 use Rattle.script_text.specs.declared.words.AttrWord.TheVariants as word
 use Rattle.view_tree.specs.Views.{LiveView}
+use Rattle.view_tree.specs.declared.limits.TheConstants.{ID_LIMIT}
+use Rattle.view_tree.specs.Attributes.{left_of, top_of, width_of, height_of}
 use Rattle.constraint_compile.specs.Meaning.{MetricList, IsRank, unknown_object}
 use Rattle.constraint_compile.specs.declared.stops.CompileStop.{CompileStop}
 use Rattle.constraint_compile.specs.declared.stops.CompileStop.TheVariants.{Unknown, Kind, Limit, OutOfMemory}
 use Rattle.constraint_compile.specs.declared.stops.KindWord.TheVariants as kind
 use Rattle.constraint_compile.specs.declared.suggestion.Suggestion.{Suggestion}
+use Rattle.constraint_compile.specs.declared.suggestion.TheConstants.{USUAL_RANK}
 
 abbrev pub one_term : ℕ → ℕ → Term
 one_term attr by = record { attr = attr; by = pos by }
@@ -30,19 +35,18 @@ scale_of word.CenterY = 2
 scale_of word.Leading = 1
 scale_of word.Trailing = 1
 
--- so many times the attribute of the view v, by those that are kept: 4v + 1 to 4v + 4 are its left, top,
--- width and height
+-- so many times the attribute of the view v, by those that are kept
 abbrev pub suggested_terms : ℕ → AttrWord → List Term
-suggested_terms v word.Left = one_term (4 * v + 1) 1 ∷ []
-suggested_terms v word.Top = one_term (4 * v + 2) 1 ∷ []
-suggested_terms v word.Width = one_term (4 * v + 3) 1 ∷ []
-suggested_terms v word.Height = one_term (4 * v + 4) 1 ∷ []
-suggested_terms v word.Right = one_term (4 * v + 1) 1 ∷ one_term (4 * v + 3) 1 ∷ []
-suggested_terms v word.Bottom = one_term (4 * v + 2) 1 ∷ one_term (4 * v + 4) 1 ∷ []
-suggested_terms v word.CenterX = one_term (4 * v + 1) 2 ∷ one_term (4 * v + 3) 1 ∷ []
-suggested_terms v word.CenterY = one_term (4 * v + 2) 2 ∷ one_term (4 * v + 4) 1 ∷ []
-suggested_terms v word.Leading = one_term (4 * v + 1) 1 ∷ []
-suggested_terms v word.Trailing = one_term (4 * v + 1) 1 ∷ one_term (4 * v + 3) 1 ∷ []
+suggested_terms v word.Left = one_term (left_of v) 1 ∷ []
+suggested_terms v word.Top = one_term (top_of v) 1 ∷ []
+suggested_terms v word.Width = one_term (width_of v) 1 ∷ []
+suggested_terms v word.Height = one_term (height_of v) 1 ∷ []
+suggested_terms v word.Right = one_term (left_of v) 1 ∷ one_term (width_of v) 1 ∷ []
+suggested_terms v word.Bottom = one_term (top_of v) 1 ∷ one_term (height_of v) 1 ∷ []
+suggested_terms v word.CenterX = one_term (left_of v) 2 ∷ one_term (width_of v) 1 ∷ []
+suggested_terms v word.CenterY = one_term (top_of v) 2 ∷ one_term (height_of v) 1 ∷ []
+suggested_terms v word.Leading = one_term (left_of v) 1 ∷ []
+suggested_terms v word.Trailing = one_term (left_of v) 1 ∷ one_term (width_of v) 1 ∷ []
 
 -- the row with these terms
 abbrev pub with_terms : Suggestion → List Term → Row
@@ -61,13 +65,13 @@ suggested_row s = with_terms s (suggested_terms s.view s.word)
 
 -- the numbers are those of a row and of a view
 pub record IsSuggestion (s : Suggestion) : Type 0 where
-  pub row : (0 < s.row) × (s.row < 2 ^ 31)
-  pub rank : s.rank ≤ 1000
-  pub view : s.view < 2 ^ 29
+  pub row : (0 < s.row) × (s.row < NUMBER_LIMIT)
+  pub rank : s.rank ≤ REQUIRED
+  pub view : s.view < ID_LIMIT
 
--- where none is written, the priority is 750
+-- where none is written, the priority is the usual one
 abbrev pub suggested_priority : Option Meant → Option Meant
-suggested_priority None = Some (object.Number (pos 750000))
+suggested_priority None = Some (object.Number (pos (USUAL_RANK * UNIT)))
 suggested_priority (Some priority) = Some priority
 
 -- why a priority stands for no rank

@@ -1,11 +1,12 @@
 -- Sums of terms as the code keeps them: whole numbers by attribute, over a common scale.
-use Rattle.std.specs.Prelude.{◌≡◌, ◌≢◌, ℕ, ◌+◌, ◌*◌, ◌<◌, ◌≤◌, ◌^◌, List, length, take, slice_index_or, ℤ}
+use Rattle.std.specs.Prelude.{◌≡◌, ◌≢◌, ℕ, ◌+◌, ◌*◌, ◌<◌, ◌≤◌, List, length, take, slice_index_or, ℤ}
 use Rattle.std.specs.Prelude.{pos, ◌+ℤ◌, ◌*ℤ◌, unsigned_abs, All, AllPairs}
 use Prim.Native.Nat.{◌∣◌}
 use Rattle.frac_core.specs.Fraction.{Fraction}
 use Rattle.problem_core.specs.declared.parts.Term.{Term as RowTerm}
 use Rattle.problem_core.specs.Kept.{IsTerm}
 use Rattle.problem_core.specs.Layout.{coefficient}
+use Rattle.problem_core.specs.declared.limits.TheConstants.{COEFFICIENT_LIMIT, TERM_LIMIT}
 use Rattle.view_tree.specs.Views.{LiveView}
 use Rattle.script_text.specs.Meaning.{Term}
 use Rattle.constraint_compile.specs.Meaning.{sum_at}
@@ -33,8 +34,8 @@ pub record HasOnly (b : ℕ → Fraction) (attrs : List ℕ) : Type 0 where
 pub record AreKept (attrs : List ℕ) (scale : ℕ) (numbers : List ℤ) : Type 0 where
   pub long : length numbers ≡ length attrs
   pub above : 0 < scale
-  pub small_scale : scale ≤ 2 ^ 30
-  pub small : All (λ z. unsigned_abs z ≤ 2 ^ 30) numbers
+  pub small_scale : scale ≤ COEFFICIENT_LIMIT
+  pub small : All (λ z. unsigned_abs z ≤ COEFFICIENT_LIMIT) numbers
 
 -- the numbers over the scale are the coefficients b, and the scale is b's
 pub record IsSum (b : ℕ → Fraction) (attrs : List ℕ) (scale : ℕ) (numbers : List ℤ) : Type 0 where
@@ -72,24 +73,24 @@ pub record IsDivisor (whole : ℕ) (numbers : List ℤ) (divisor : ℕ) : Type 0
   pub of_each : All (λ z. divisor ∣ unsigned_abs z) numbers
   pub greatest : (x j : ℕ) → x ∣ whole * j → All (λ z. x ∣ unsigned_abs z * j) numbers → x ∣ divisor * j
 
--- the numbers are these times the divisor, and none is past 2^30
+-- the numbers are these times the divisor, and none is past the limit of coefficients
 pub record AreDivided (wide : List ℤ) (divisor : ℤ) (numbers : List ℤ) : Type 0 where
   pub long : length numbers ≡ length wide
   pub each : (i : ℕ) → i < length wide → divisor *ℤ number_at numbers i ≡ number_at wide i
-  pub small : All (λ z. unsigned_abs z ≤ 2 ^ 30) numbers
+  pub small : All (λ z. unsigned_abs z ≤ COEFFICIENT_LIMIT) numbers
 
--- the numbers over 1 with the share added, none of which is past 2^30
+-- the numbers over 1 with the share added, none of which is past the limit of coefficients
 pub record AreWhole (attrs : List ℕ) (numbers : List ℤ) (s : Share) (next : List ℤ) : Type 0 where
   pub long : length next ≡ length attrs
   pub each : (i : ℕ) → i < length attrs → pos 2 *ℤ number_at next i
       ≡ with_share_number (number_at numbers i) 1 s (attr_at attrs i)
-  pub small : All (λ z. unsigned_abs z ≤ 2 ^ 30) next
+  pub small : All (λ z. unsigned_abs z ≤ COEFFICIENT_LIMIT) next
 
--- one of the numbers divided is past 2^30
+-- one of the numbers divided is past the limit of coefficients
 pub record IsPast (wide : List ℤ) (divisor : ℤ) : Type 0 where
   pub place : ℕ
   pub within : place < length wide
-  pub past : unsigned_abs divisor * 2 ^ 30 < unsigned_abs (number_at wide place)
+  pub past : unsigned_abs divisor * COEFFICIENT_LIMIT < unsigned_abs (number_at wide place)
 
 -- the coefficients of the first n terms
 abbrev pub first_sum : List LiveView → List Term → ℕ → ℕ → Fraction
@@ -99,15 +100,15 @@ first_sum views terms n = sum_at views (take n terms)
 pub record AreScales (added : List Addend) (n : ℕ) (scales : List ℕ) : Type 0 where
   pub long : length scales ≡ n
   pub each : (i : ℕ) → i < n → IsScale (first_of added (i + 1)) (slice_index_or scales i 0)
-  pub low : All (λ k. k ≤ 2 ^ 30) scales
+  pub low : All (λ k. k ≤ COEFFICIENT_LIMIT) scales
   pub small : (i : ℕ) → i < n → AreSmall (first_of added (i + 1))
 
--- more than 32 attributes have coefficients that aren't 0
+-- more attributes than a row may have terms have coefficients that aren't 0
 pub record HasTooMany (b : ℕ → Fraction) : Type 0 where
   pub attrs : List ℕ
   pub rising : AllPairs (λ v w. v < w) attrs
   pub nonzero : All (λ v. (b v).num ≢ pos 0) attrs
-  pub many : 32 < length attrs
+  pub many : TERM_LIMIT < length attrs
 
 -- the terms have the numbers of the first n attributes
 pub record HasFirst (attrs : List ℕ) (numbers : List ℤ) (n : ℕ) (out : List RowTerm) : Type 0 where

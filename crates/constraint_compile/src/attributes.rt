@@ -1,10 +1,11 @@
 // The attributes that terms have.
-ghost use Rattle.std.specs.Prelude.{◌≡◌, ◌≢◌, ℕ, ◌<◌, ◌≤◌, ◌^◌, [], ◌∷◌, pos, ◌*◌, ◌*ℤ◌, false, length};
+ghost use Rattle.std.specs.Prelude.{◌≡◌, ◌≢◌, ℕ, ◌<◌, ◌≤◌, [], ◌∷◌, pos, ◌*◌, ◌*ℤ◌, false, length};
 ghost use Rattle.problem_core.specs.Layout.{coefficient};
 ghost use Rattle.std.specs.Prelude.{slice_index_or, All, AllPairs, IsTrue, IfOk, IfSome, OnOk};
 ghost use Rattle.std.specs.Option.{option_map};
 ghost use Rattle.view_tree.specs.Views.{view_named};
 ghost use Rattle.problem_core.specs.Kept.{IsNumber};
+ghost use Rattle.view_tree.specs.declared.limits.TheConstants.{ID_LIMIT};
 ghost use Rattle.constraint_compile.specs.Meaning as meaning;
 ghost use Rattle.constraint_compile.specs.Addends.{addend_view, IsKept};
 ghost use Rattle.constraint_compile.specs.Shares.{form, share_fraction, AreHalves, IsOff};
@@ -40,28 +41,30 @@ fn times(attr: u32, by: u8) -> Term
 }
 
 fn horizontal(view: ViewId, edge: u8, size: u8) -> Doubled
-    requires { view.0 < 2 ^ 29 }
+    requires { view.0 < ID_LIMIT }
     ensures { form result ≡ meaning.horizontal view.0 edge size }
 {
+    let of = view.attributes();
     Doubled {
-        edge: times(4 * view.0 + 1, edge),
-        size: times(4 * view.0 + 3, size),
+        edge: times(of.left, edge),
+        size: times(of.width, size),
     }
 }
 
 fn vertical(view: ViewId, edge: u8, size: u8) -> Doubled
-    requires { view.0 < 2 ^ 29 }
+    requires { view.0 < ID_LIMIT }
     ensures { form result ≡ meaning.vertical view.0 edge size }
 {
+    let of = view.attributes();
     Doubled {
-        edge: times(4 * view.0 + 2, edge),
-        size: times(4 * view.0 + 4, size),
+        edge: times(of.top, edge),
+        size: times(of.height, size),
     }
 }
 
 // Twice an attribute of a view.
 fn twice(view: ViewId, word: AttrWord) -> Doubled
-    requires { view.0 < 2 ^ 29 }
+    requires { view.0 < ID_LIMIT }
     ensures form { form result ≡ meaning.doubled view.0 word }
     ensures halves { AreHalves result }
 {
@@ -81,17 +84,17 @@ fn twice(view: ViewId, word: AttrWord) -> Doubled
 
 /// The number of a view.
 pub(crate) fn number_of(tree: &Tree, name: &str) -> Option<ViewId>
-    ensures id { option_map (λ id. id.0) result ≡ option_map (λ v.
-        v.id) (view_named tree.now.views name.now) }
-    ensures within { IfSome result (λ id. id.0 < 2 ^ 29) }
+    ensures id { option_map (λ id. id.0) result
+        ≡ option_map (λ v. v.id) (view_named tree.now.views name.now) }
+    ensures within { IfSome result (λ id. id.0 < ID_LIMIT) }
 {
-    let _count = tree.len();
+    let _count = tree.len(); // for the proof: what a tree keeps
     tree.find(name)
 }
 
 /// So many times an attribute of a view.
 pub(crate) fn share_at(by: Frac, view: ViewId, word: AttrWord) -> Share
-    requires { view.0 < 2 ^ 29 }
+    requires { view.0 < ID_LIMIT }
     ensures share { (v : ℕ) → share_fraction result v
         ≡ record { num = by.num *ℤ coefficient v (meaning.doubled view.0 word); den = by.den * 2 } }
     ensures halves { AreHalves result.of }

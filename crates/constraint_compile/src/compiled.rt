@@ -2,7 +2,7 @@
 ghost use Rattle.std.specs.Prelude.{◌≡◌, ◌++◌, map, nat_eq, IfOk};
 ghost use Rattle.std.specs.List.{list_any};
 ghost use Rattle.std.specs.String.{string_bytes};
-ghost use Rattle.constraint_compile.specs.Inside.{form_view, line_of, IsForm, AreForms};
+ghost use Rattle.constraint_compile.specs.Inside.{form_view, compiled_line, IsForm, AreForms};
 
 use crate::steps::Step;
 use frac_core::OutOfMemory;
@@ -10,9 +10,6 @@ use problem_core::{Rel, Term};
 use std::alloc::Global;
 use std::marker::Model;
 use view_tree::ViewId;
-
-/// Each row's number is below this.
-pub const NUMBER_LIMIT: u32 = 1 << 31;
 
 // A row without its constant. The steps name metrics by the places of their names.
 #[derive(Debug, Drop)]
@@ -36,11 +33,11 @@ pub struct Compiled {
 
 impl Model for Compiled {
     ghost use Rattle.constraint_compile.specs.Compiled.{CompiledLine};
-    ghost use Rattle.constraint_compile.specs.Inside.{line_of, AreForms};
+    ghost use Rattle.constraint_compile.specs.Inside.{compiled_line, AreForms};
 
     ghost Value = { CompiledLine };
 
-    ghost view = { λ c. line_of c.rows.items c.views.items };
+    ghost view = { λ c. compiled_line c.rows.items c.views.items };
 
     ghost invariant = { λ c. AreForms c.rows.items };
 }
@@ -49,7 +46,7 @@ impl Compiled {
     /// The rows and the views with just these parts.
     pub(crate) fn of(rows: Vec<RowForm>, views: Vec<ViewId>) -> Compiled
         requires { AreForms rows.items }
-        ensures { result ≡ line_of rows.items views.items }
+        ensures { result ≡ compiled_line rows.items views.items }
     {
         Compiled { rows, views }
     }

@@ -45,7 +45,10 @@ pub fn format_row_count(
 ///
 /// It stops at the first unknown name of the text, and else at the first wrong use in the order `Align`,
 /// `Parent`, `Object`, `Priority`, and else at the first limit that is passed: `Rows`, where a row's number
-/// would be 2^31 or more, then `Attributes`, `Coefficient` and `Constant`, each over all rows.
+/// would be [`NUMBER_LIMIT`](problem_core::NUMBER_LIMIT) or more, then `Attributes`, `Coefficient` and
+/// `Constant`, each over all rows.
+// It has six parameters, since a line keeps the format and its alignment apart, and metrics change without
+// the views.
 pub fn compile_format(
     alloc: Global,
     tree: &Tree,

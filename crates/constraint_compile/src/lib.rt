@@ -21,7 +21,7 @@
 //! A row is a constraint in linear programming's words; its rank is the priority of a goal, and its scale
 //! the factor that makes the coefficients whole.
 //!
-//! In reading order: `stops` (why there are no rows), `compiled` (a line's rows and views). Names:
+//! In reading order: `stops` (why there are no rows), `limits`, `compiled` (a line's rows and views). Names:
 //! `lookups`, `attributes`, `addends` (a term with no name left), `resolved` (the names of a line, each
 //! looked up once). Sums: `wide`, `ratios`, `steps` (a constant, step by step). `line`, with `line::signs`
 //! (all terms on one side), `line::sums`, `line::scales`, `line::nonzero` and `line::row_terms` (the
@@ -35,6 +35,7 @@ mod addends;
 mod attributes;
 mod compiled;
 mod format;
+mod limits;
 mod line;
 mod lookups;
 mod naming;
@@ -51,8 +52,9 @@ pub use format::laws::{
     compiled_formats_have_all_rows, compiled_formats_have_no_refusal, format_refusal_is_unique,
 };
 pub use format::{compile_format, format_row_count};
+pub use limits::{ADDEND_LIMIT, CONSTANT_LIMIT};
 pub use line::compile_line;
 pub use naming::RowConstant;
 pub use rows::constants_now;
 pub use stops::{CompileStop, KindWord};
-pub use suggestion::{Suggestion, suggested_constant, suggested_rank};
+pub use suggestion::{Suggestion, USUAL_RANK, suggested_constant, suggested_rank};

@@ -7,31 +7,32 @@ mod scales;
 pub(crate) mod signs;
 mod sums;
 
-ghost use Rattle.std.specs.Prelude.{◌≡◌, ◌≤◌, ◌<◌, ◌^◌, ◌∷◌, [], ℕ, List, false, true, None, Some, All};
+ghost use Rattle.std.specs.Prelude.{◌≡◌, ◌≤◌, ◌<◌, ◌∷◌, [], ℕ, List, false, true, None, Some, All};
 ghost use Rattle.std.specs.Prelude.{length, IfOk, OnOk, IfErr, IfSome, IfNone};
+ghost use Rattle.problem_core.specs.declared.limits.TheConstants.{NUMBER_LIMIT};
 ghost use Rattle.view_tree.specs.Views.{LiveView};
 ghost use Rattle.script_text.specs.View.{terms_view, linear_view, object_view};
-ghost use Rattle.constraint_compile.specs.Meaning.{MetricList, terms_of, views_in, IsRank, IsInThousand};
+ghost use Rattle.constraint_compile.specs.Meaning.{MetricList, terms_of, views_in, IsRank, IsWeight};
 ghost use Rattle.constraint_compile.specs.Meaning.{has_view_number};
 ghost use Rattle.constraint_compile.specs.Stops.{AreKnown, IsUsable, IsWrongUse, IsCompiled, MayStop};
 ghost use Rattle.constraint_compile.specs.Stops.{PassesLimit, HasRank};
 ghost use Rattle.constraint_compile.specs.Addends.{addends, addends_view, IsKept};
 ghost use Rattle.constraint_compile.specs.FormatLines.{numbers};
 ghost use Rattle.constraint_compile.specs.Inside.{form_view, IsForm};
+ghost use Rattle.constraint_compile.specs.declared.limits.TheConstants.{ADDEND_LIMIT};
 
-use crate::compiled::{Compiled, NUMBER_LIMIT, RowForm};
+use crate::compiled::{Compiled, RowForm};
+use crate::limits::ADDEND_LIMIT;
 use crate::line::rows::{Head, row_of_addends};
 use crate::line::signs::signed_terms;
 use crate::resolved::{Resolved, resolve, resolve_rank};
 use crate::stops::{CompileStop, KindWord};
 use frac_core::OutOfMemory;
 use name_tables::{LimitWord, Metrics, OwnedName};
+use problem_core::{NUMBER_LIMIT, WEIGHT_LIMIT};
 use script_text::{ExprTerm, Linear};
 use std::alloc::Global;
 use view_tree::{Tree, ViewId};
-
-/// How many terms a line may have.
-pub const TERM_LIMIT: usize = 64;
 
 // What the names of a line stand for.
 #[derive(Drop, Debug)]
@@ -81,12 +82,12 @@ struct Strength {
     weight: u16,
 }
 
-// A weight from 1 to 1000.
+// The weight, where it is one.
 fn weight_of(weight: u64) -> Option<u16>
-    ensures some { IfSome result (λ w. (w ≡ weight) × IsInThousand weight) }
-    ensures none { IfNone result (IsInThousand weight → ⊥) }
+    ensures some { IfSome result (λ w. (w ≡ weight) × IsWeight weight) }
+    ensures none { IfNone result (IsWeight weight → ⊥) }
 {
-    if weight == 0 || weight > 1000 {
+    if weight == 0 || weight > u64::from(WEIGHT_LIMIT) {
         None
     } else {
         Some(weight as u16)
@@ -97,14 +98,14 @@ fn weight_of(weight: u64) -> Option<u16>
 fn strength_of(names: &Names<'_>, line: &Linear<'_>) -> Result<Strength, KindWord>
     ensures numbers { OnOk result (names.now.terms.has_view_number ≡ false) }
     ensures rank { IfOk result (λ s. names.now.rank ≡ Some s.rank) }
-    ensures weight { IfOk result (λ s. (s.weight ≡ line.now.weight) × IsInThousand line.now.weight) }
+    ensures weight { IfOk result (λ s. (s.weight ≡ line.now.weight) × IsWeight line.now.weight) }
     ensures stop { IfErr result (λ word. (views : List LiveView) (metrics : MetricList)
         → names.now.terms.has_view_number ≡ has_view_number views (terms_of (linear_view line.now))
         → IfSome names.now.rank (IsRank views metrics (object_view line.now.priority))
         → IfNone names.now.rank (HasRank views metrics (linear_view line.now) → ⊥)
         → IsWrongUse views metrics (linear_view line.now) word) }
 {
-    let _rel = line.rel;
+    let _rel = line.rel; // for the proof: what a line is made of
     if names.terms.has_view_number {
         return Err(KindWord::Object);
     }
@@ -120,16 +121,16 @@ fn strength_of(names: &Names<'_>, line: &Linear<'_>) -> Result<Strength, KindWor
 // The limits of the row's number and of the count of terms.
 fn within_limits(id: u32, terms: &[ExprTerm<'_>], line: &Linear<'_>) -> Result<(), LimitWord>
     requires { terms_view terms.now ≡ terms_of (linear_view line.now) }
-    ensures ok { OnOk result ((id < 2 ^ 31) × (length terms.now ≤ 64)
-        × (length (terms_of (linear_view line.now)) ≤ 64)) }
+    ensures ok { OnOk result ((id < NUMBER_LIMIT) × (length terms.now ≤ ADDEND_LIMIT)
+        × (length (terms_of (linear_view line.now)) ≤ ADDEND_LIMIT)) }
     ensures stop { IfErr result (λ word. (views : List LiveView) (metrics : MetricList)
         → PassesLimit views metrics (linear_view line.now) id word) }
 {
-    let _rel = line.rel;
+    let _rel = line.rel; // for the proof: what a line is made of
     if id >= NUMBER_LIMIT {
         return Err(LimitWord::Rows);
     }
-    if terms.len() > TERM_LIMIT {
+    if terms.len() > ADDEND_LIMIT {
         return Err(LimitWord::Terms);
     }
     Ok(())
@@ -151,11 +152,13 @@ fn with_views(alloc: Global, views: Vec<ViewId>, row: RowForm) -> Result<Compile
 /// Every term of the left side is added and every term of the right side subtracted. `Unknown` with the first
 /// name of the line that must be a view's or a metric's and isn't. Otherwise `Kind` with the first wrong use:
 /// `Object` where a view stands for a number, `Priority` where the priority is no whole number from 1 to
-/// 1000, `Weight` where the weight is outside 1 to 1000. Otherwise `Limit` with the first limit that is
-/// passed: `Rows` where the number isn't below 2^31, `Terms` at more than 64 terms, `Attributes` at more than
-/// 32 attributes with coefficients that aren't 0, `Coefficient` where after some term the scale or a
-/// coefficient is past 2^30 in size, `Constant` where after some term a part of the constant isn't below 2^40
-/// in size.
+/// [`REQUIRED`](problem_core::REQUIRED), `Weight` where the weight is outside 1 to [`WEIGHT_LIMIT`].
+/// Otherwise `Limit` with the first limit that is passed: `Rows` where the number isn't below
+/// [`NUMBER_LIMIT`], `Terms` at more than [`ADDEND_LIMIT`] terms, `Attributes` at more than
+/// [`TERM_LIMIT`](problem_core::TERM_LIMIT) attributes with coefficients that aren't 0, `Coefficient` where
+/// after some term the scale or a coefficient is past [`COEFFICIENT_LIMIT`](problem_core::COEFFICIENT_LIMIT)
+/// in size, `Constant` where after some term a part of the constant isn't below
+/// [`CONSTANT_LIMIT`](crate::CONSTANT_LIMIT) in size.
 pub fn compile_line(
     alloc: Global,
     tree: &Tree,

@@ -1,9 +1,12 @@
 // What names and numbers stand for.
 ghost use Rattle.std.specs.Prelude.{◌≡◌, ℕ, ◌*◌, pos, Some, is_some, IfSome, IfNone};
+ghost use Rattle.span_text.specs.declared.limits.TheConstants.{UNIT};
 ghost use Rattle.view_tree.specs.Views.{view_named};
-ghost use Rattle.constraint_compile.specs.Meaning.{IsInThousand};
+ghost use Rattle.constraint_compile.specs.Meaning.{IsPriority};
 
 use frac_core::Frac;
+use problem_core::REQUIRED;
+use span_text::UNIT;
 use view_tree::Tree;
 
 pub(crate) fn is_view(tree: &Tree, name: &str) -> bool
@@ -12,38 +15,38 @@ pub(crate) fn is_view(tree: &Tree, name: &str) -> bool
     tree.find(name).is_some()
 }
 
-/// The whole number from 1 to 1000 that this number of thousandths is.
+/// The rank that this number of thousandths is.
 pub(crate) fn rank_of_thousandths(thousandths: i32) -> Option<u16>
-    ensures some { IfSome result (λ r. (thousandths ≡ pos (r * 1000)) × IsInThousand r) }
-    ensures none { IfNone result ((r : ℕ) → thousandths ≡ pos (r * 1000) → IsInThousand r → ⊥) }
+    ensures some { IfSome result (λ r. (thousandths ≡ pos (r * UNIT)) × IsPriority r) }
+    ensures none { IfNone result ((r : ℕ) → thousandths ≡ pos (r * UNIT) → IsPriority r → ⊥) }
 {
     if thousandths <= 0 {
         return None;
     }
     let size = thousandths as u32;
-    if size % 1000 != 0 || size > 1_000_000 {
+    if size % UNIT != 0 || size > u32::from(REQUIRED) * UNIT {
         return None;
     }
-    Some((size / 1000) as u16)
+    Some((size / UNIT) as u16)
 }
 
-// The whole number from 1 to 1000 that the fraction is.
+// The rank that the fraction is.
 fn rank_of_fraction(f: Frac) -> Option<u16>
-    ensures some { IfSome result (λ r. (f ≡ record { num = pos r; den = 1 }) × IsInThousand r) }
-    ensures none { IfNone result ((r : ℕ) → f ≡ record { num = pos r; den = 1 } → IsInThousand r → ⊥) }
+    ensures some { IfSome result (λ r. (f ≡ record { num = pos r; den = 1 }) × IsPriority r) }
+    ensures none { IfNone result ((r : ℕ) → f ≡ record { num = pos r; den = 1 } → IsPriority r → ⊥) }
 {
     let num = f.num();
-    if f.den() == 1 && num > 0 && num <= 1000 {
+    if f.den() == 1 && num > 0 && num <= i64::from(REQUIRED) {
         Some(num as u16)
     } else {
         None
     }
 }
 
-/// The whole number from 1 to 1000 that the metric's value is, where the metric is there.
+/// The rank that the metric's value is, where the metric is there.
 pub(crate) fn rank_of_metric(value: Option<Frac>) -> Option<u16>
-    ensures some { IfSome result (λ r. (value ≡ Some (record { num = pos r; den = 1 })) × IsInThousand r) }
-    ensures none { IfNone result ((r : ℕ) → value ≡ Some (record { num = pos r; den = 1 }) → IsInThousand r
+    ensures some { IfSome result (λ r. (value ≡ Some (record { num = pos r; den = 1 })) × IsPriority r) }
+    ensures none { IfNone result ((r : ℕ) → value ≡ Some (record { num = pos r; den = 1 }) → IsPriority r
         → ⊥) }
 {
     match value {

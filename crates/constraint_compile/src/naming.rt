@@ -96,8 +96,8 @@ fn constants_naming(
 
 impl Compiled {
     /// The rows whose constants name the metric, each with its constant for these metrics. `Limit(Constant)`
-    /// where a part of such a constant isn't below 2^40 in size after some term. No other row is looked at:
-    /// its constant is the same whatever the metric's value.
+    /// where a part of such a constant isn't below the limit in size after some term. No other row is looked
+    /// at: its constant is the same whatever the metric's value.
     pub fn constants_naming(
         &self,
         alloc: Global,

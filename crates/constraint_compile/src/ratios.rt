@@ -3,8 +3,11 @@ ghost use Rattle.std.specs.Prelude.{◌≡◌, ℕ, ◌<◌, ◌≤◌, ◌*◌,
 ghost use Rattle.std.specs.Prelude.{IfNone, unsigned_abs};
 ghost use Rattle.std.specs.Int.{IsGcd};
 ghost use Rattle.frac_core.specs.Fraction.{Fraction, IsLowest, IsRatio};
+ghost use Rattle.constraint_compile.specs.Fractions.{HasSmallParts};
 ghost use Rattle.constraint_compile.specs.Quotients.{IsDivided, IsReduced};
+ghost use Rattle.constraint_compile.specs.declared.limits.TheConstants.{CONSTANT_LIMIT};
 
+use crate::limits::CONSTANT_LIMIT;
 use crate::wide::quotient;
 use frac_core::{Frac, gcd};
 
@@ -12,9 +15,6 @@ const PRODUCT_MOST: u128 = (1 << 112) - 1;
 
 // Two sizes below this have a product of at most that.
 const SHORT: u128 = 1 << 56;
-
-/// Both parts of a constant are below this in size.
-const CONSTANT_LIMIT: i64 = 1 << 40;
 
 /// A number over another, which is above 0.
 #[derive(Clone, Copy, Debug)]
@@ -76,7 +76,7 @@ pub(crate) fn common(a: i128, b: i128, x: i128, y: i128) -> Option<Ratio>
     requires apart { IsGcd (unsigned_abs x) (unsigned_abs y) 1 }
     ensures some { IfSome result (λ r. IsDivided (a *ℤ y +ℤ x *ℤ b) (b *ℤ y) r.num r.den) }
     ensures none { IfNone result ((f : Fraction) → IsLowest f → IsRatio f (a *ℤ y +ℤ x *ℤ b) (b *ℤ y)
-        → unsigned_abs f.num < 2 ^ 40 → f.den < 2 ^ 40 → ⊥) }
+        → unsigned_abs f.num < CONSTANT_LIMIT → f.den < CONSTANT_LIMIT → ⊥) }
 {
     let shares = reduced(b, y);
     let Some(left) = bounded(a, shares.den) else {
@@ -95,10 +95,11 @@ pub(crate) fn common(a: i128, b: i128, x: i128, y: i128) -> Option<Ratio>
 }
 
 fn is_small(constant: Frac) -> bool
-    ensures yes { IsTrue result → (unsigned_abs constant.num < 2 ^ 40) × (constant.den < 2 ^ 40) }
-    ensures no { result ≡ false → unsigned_abs constant.num < 2 ^ 40 → constant.den < 2 ^ 40 → ⊥ }
+    ensures yes { IsTrue result → HasSmallParts constant }
+    ensures no { result ≡ false → unsigned_abs constant.num < CONSTANT_LIMIT → constant.den < CONSTANT_LIMIT
+        → ⊥ }
 {
-    constant.num().abs() < CONSTANT_LIMIT && constant.den() < CONSTANT_LIMIT
+    constant.num().unsigned_abs() < CONSTANT_LIMIT && constant.den().unsigned_abs() < CONSTANT_LIMIT
 }
 
 /// The ratio in lowest terms, where both parts are small.
@@ -106,9 +107,9 @@ pub(crate) fn small_of(r: Ratio) -> Option<Frac>
     requires { pos 0 <ℤ r.den }
     ensures value { IfSome result (λ f. IsRatio f r.num r.den) }
     ensures lowest { IfSome result IsLowest }
-    ensures small { IfSome result (λ f. (unsigned_abs f.num < 2 ^ 40) × (f.den < 2 ^ 40)) }
+    ensures small { IfSome result HasSmallParts }
     ensures none { IfNone result ((f : Fraction) → IsLowest f → IsRatio f r.num r.den
-        → unsigned_abs f.num < 2 ^ 40 → f.den < 2 ^ 40 → ⊥) }
+        → unsigned_abs f.num < CONSTANT_LIMIT → f.den < CONSTANT_LIMIT → ⊥) }
 {
     match Frac::of(r.num, r.den) {
         Ok(f) if is_small(f) => Some(f),

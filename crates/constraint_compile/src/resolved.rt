@@ -15,6 +15,7 @@ use crate::lookups::{is_view, rank_of_metric, rank_of_thousandths};
 use crate::stops::CompileStop;
 use frac_core::OutOfMemory;
 use name_tables::{Metrics, OwnedName};
+use problem_core::REQUIRED;
 use script_text::{ExprTerm, Operand};
 use span_text::Object;
 use std::alloc::Global;
@@ -156,7 +157,7 @@ pub(crate) fn resolve_rank<'a>(
         ≡ Some name.now) }
 {
     match *priority {
-        None => Ok(Some(1000)),
+        None => Ok(Some(REQUIRED)),
         Some(Object::Number { thousandths }) => Ok(rank_of_thousandths(thousandths)),
         Some(Object::Name { text }) => {
             if is_view(tree, text) {

@@ -1,7 +1,8 @@
 // The rows of compiled lines for given metrics.
-ghost use Rattle.std.specs.Prelude.{◌≡◌, ◌≤◌, ◌<◌, ◌^◌, ℕ, List, length, map, IfOk, IfErr, IfSome, IfNone};
+ghost use Rattle.std.specs.Prelude.{◌≡◌, ◌≤◌, ◌<◌, ℕ, List, length, map, IfOk, IfErr, IfSome, IfNone};
 ghost use Rattle.std.specs.Prelude.{OnSome};
 ghost use Rattle.frac_core.specs.Fraction.{IsKept};
+ghost use Rattle.problem_core.specs.declared.limits.TheConstants.{COEFFICIENT_LIMIT};
 ghost use Rattle.constraint_compile.specs.Fractions.{IsConstant};
 ghost use Rattle.constraint_compile.specs.Compiled.{AreSmallSteps, AreSmallForms, AreRowsNow};
 ghost use Rattle.constraint_compile.specs.Compiled.{AreConstantsNow, IsRowNow, step_sum, last_scale};
@@ -22,7 +23,7 @@ fn scale_of(steps: &[Step]) -> u32
     requires { AreScalesKept steps.now }
     ensures scale { (names : List (List ℕ)) → result ≡ last_scale (steps_view names steps.now) }
     ensures above { 0 < result }
-    ensures small { result ≤ 2 ^ 30 }
+    ensures small { result ≤ COEFFICIENT_LIMIT }
 {
     if steps.is_empty() {
         return 1;
@@ -39,7 +40,7 @@ fn with_constant(alloc: Global, form: &RowForm, constant: Frac) -> Result<Row, O
         × (r.scale ≡ last_scale (form_view form.now).steps) × (r.terms ≡ form.now.terms.items)
         × (r.constant ≡ constant)) }
 {
-    let _den = constant.den();
+    let _den = constant.den(); // for the proof: what a fraction keeps
     let scale = i64::from(scale_of(&form.steps));
     Row::of(
         alloc,
@@ -117,7 +118,8 @@ fn constants_of(
 }
 
 /// The constant of each row of a line for these metrics. `Limit(Constant)` where a part of the constant of
-/// some row isn't below 2^40 in size after some term. A metric that isn't there counts as 0.
+/// some row isn't below [`CONSTANT_LIMIT`](crate::CONSTANT_LIMIT) in size after some term. A metric that
+/// isn't there counts as 0.
 pub fn constants_now(
     alloc: Global,
     c: &Compiled,

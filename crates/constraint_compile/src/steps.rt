@@ -3,13 +3,15 @@ ghost use Rattle.std.specs.Prelude.{◌≡◌, ℕ, ◌<◌, ◌<ℤ◌, ◌≤�
 ghost use Rattle.std.specs.Prelude.{IfSome, IfNone, IsTrue, unsigned_abs};
 ghost use Rattle.frac_core.specs.Fraction.{Fraction};
 ghost use Rattle.std.specs.String.{string_bytes};
-ghost use Rattle.constraint_compile.specs.Fractions.{plus, times, IsConstant, IsSmallConstant};
+ghost use Rattle.problem_core.specs.declared.limits.TheConstants.{COEFFICIENT_LIMIT};
+ghost use Rattle.constraint_compile.specs.Fractions.{plus, times, HasSmallParts, IsConstant, IsSmallConstant};
 ghost use Rattle.constraint_compile.specs.Quotients.{IsReduced};
 ghost use Rattle.constraint_compile.specs.Meaning.{part_value};
 ghost use Rattle.constraint_compile.specs.Compiled.{AreSmallSteps, step_sum, last_scale};
 ghost use Rattle.constraint_compile.specs.Keeps.{AreScalesKept, part_view, steps_view};
 ghost use Rattle.constraint_compile.specs.declared.steps.Part.TheVariants.{Nothing};
 ghost use Rattle.name_tables.specs.Names.{value_of};
+ghost use Rattle.constraint_compile.specs.declared.limits.TheConstants.{CONSTANT_LIMIT};
 
 use crate::ratios::{Ratio, common, reduced, small_of};
 use crate::wide::product;
@@ -95,16 +97,16 @@ fn part_ratio(metrics: &Metrics, names: &[String], part: Part) -> Ratio
 
 // The number below 0 of this size.
 fn negative(scale: u32) -> i64
-    requires { scale ≤ 2 ^ 30 }
+    requires { scale ≤ COEFFICIENT_LIMIT }
     ensures value { result ≡ neg_ℤ (pos scale) }
-    ensures small { unsigned_abs result ≤ 2 ^ 30 }
+    ensures small { unsigned_abs result ≤ COEFFICIENT_LIMIT }
 {
     -i64::from(scale)
 }
 
 // What a part with this value changes the constant by, at a scale.
 fn change(scale: u32, value: Ratio) -> Ratio
-    requires scale { scale ≤ 2 ^ 30 }
+    requires scale { scale ≤ COEFFICIENT_LIMIT }
     requires small { unsigned_abs value.num < 2 ^ 88 }
     requires above { pos 0 <ℤ value.den }
     ensures { IsReduced (neg_ℤ (pos scale) *ℤ value.num) value.den result.num result.den }
@@ -114,8 +116,8 @@ fn change(scale: u32, value: Ratio) -> Ratio
 
 // A part of the constant times a scale.
 fn scaled(scale: u32, part: i64) -> i128
-    requires scale { scale ≤ 2 ^ 30 }
-    requires small { unsigned_abs part < 2 ^ 40 }
+    requires scale { scale ≤ COEFFICIENT_LIMIT }
+    requires small { unsigned_abs part < CONSTANT_LIMIT }
     ensures value { result ≡ pos scale *ℤ part }
     ensures small { unsigned_abs result < 2 ^ 70 }
 {
@@ -131,15 +133,15 @@ struct Progress {
 
 // The constant at the new scale with a value added to the sum, where it is small.
 fn moved(before: Progress, scale: u32, value: Ratio) -> Option<Frac>
-    requires before { (0 < before.scale) × (before.scale ≤ 2 ^ 30) }
-    requires num_small { unsigned_abs before.constant.num < 2 ^ 40 }
-    requires den_small { before.constant.den < 2 ^ 40 }
-    requires scale { (0 < scale) × (scale ≤ 2 ^ 30) }
+    requires before { (0 < before.scale) × (before.scale ≤ COEFFICIENT_LIMIT) }
+    requires num_small { unsigned_abs before.constant.num < CONSTANT_LIMIT }
+    requires den_small { before.constant.den < CONSTANT_LIMIT }
+    requires scale { (0 < scale) × (scale ≤ COEFFICIENT_LIMIT) }
     requires small { unsigned_abs value.num < 2 ^ 88 }
     requires above { pos 0 <ℤ value.den }
     ensures constant { IfSome result (λ f. (e p : Fraction) → 0 < e.den → value.num ≡ p.num
         → value.den ≡ pos p.den → IsConstant before.scale e before.constant → IsConstant scale (plus e p) f) }
-    ensures small { IfSome result (λ f. (unsigned_abs f.num < 2 ^ 40) × (f.den < 2 ^ 40)) }
+    ensures small { IfSome result HasSmallParts }
     ensures none { IfNone result ((e p : Fraction) → 0 < e.den → value.num ≡ p.num → value.den ≡ pos p.den
         → IsConstant before.scale e before.constant → IsSmallConstant scale (plus e p) → ⊥) }
 {
@@ -161,16 +163,16 @@ fn is_still(scale: u32, step: &Step) -> bool
 
 // The constant after a step.
 fn after(metrics: &Metrics, names: &[String], before: Progress, step: &Step) -> Option<Progress>
-    requires before { (0 < before.scale) × (before.scale ≤ 2 ^ 30) }
-    requires num_small { unsigned_abs before.constant.num < 2 ^ 40 }
-    requires den_small { before.constant.den < 2 ^ 40 }
-    requires scale { (0 < step.now.scale) × (step.now.scale ≤ 2 ^ 30) }
+    requires before { (0 < before.scale) × (before.scale ≤ COEFFICIENT_LIMIT) }
+    requires num_small { unsigned_abs before.constant.num < CONSTANT_LIMIT }
+    requires den_small { before.constant.den < CONSTANT_LIMIT }
+    requires scale { (0 < step.now.scale) × (step.now.scale ≤ COEFFICIENT_LIMIT) }
     ensures scale { IfSome result (λ p. p.scale ≡ step.now.scale) }
     ensures constant { IfSome result (λ p. (e : Fraction) → 0 < e.den
         → IsConstant before.scale e before.constant
         → IsConstant step.now.scale (plus e (part_value metrics.now
         (part_view (map string_bytes names.now) step.now.part))) p.constant) }
-    ensures small { IfSome result (λ p. (unsigned_abs p.constant.num < 2 ^ 40) × (p.constant.den < 2 ^ 40)) }
+    ensures small { IfSome result (λ p. HasSmallParts p.constant) }
     ensures none { IfNone result ((e : Fraction) → 0 < e.den → IsConstant before.scale e before.constant
         → IsSmallConstant step.now.scale (plus e (part_value metrics.now
         (part_view (map string_bytes names.now) step.now.part))) → ⊥) }

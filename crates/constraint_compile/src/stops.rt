@@ -1,38 +1,51 @@
 // Why a line isn't compiled.
 use frac_core::OutOfMemory;
 use name_tables::{LimitWord, OwnedName};
+use thiserror::Error;
 
 /// The wrong uses, in the order in which they are tried.
-#[derive(Clone, Copy, Debug, PartialEq, Eq)]
+#[derive(Clone, Copy, Debug, PartialEq, Eq, Error)]
 pub enum KindWord {
     /// An alignment runs along the direction of its format.
+    #[error("the alignment runs along the direction of its format")]
     Align,
     /// A format leads to the parent of the window, which has none.
+    #[error("the window has no parent")]
     Parent,
     /// A view stands for a number.
+    #[error("a view stands for a number")]
     Object,
-    /// A priority is no whole number from 1 to 1000.
+    /// A priority stands for no rank.
+    #[error("the priority stands for no rank")]
     Priority,
-    /// A weight is outside 1 to 1000.
+    /// A weight is 0, or past its limit.
+    #[error("the weight is 0 or too large")]
     Weight,
     /// The window is to be dropped.
+    #[error("the window can't be dropped")]
     Window,
     /// A further suggestion of the same attribute has a priority.
+    #[error("a further suggestion of the attribute has a priority")]
     Suggested,
     /// A tree of views is of another shape.
+    #[error("the tree of views is of another shape")]
     Tree,
 }
 
 /// Why a line has no rows.
-#[derive(Drop, Debug)]
+#[derive(Drop, Debug, Error)]
 pub enum CompileStop {
     /// This name must be that of a view or a metric, and isn't.
+    #[error("a name is neither a view's nor a metric's")]
     Unknown(OwnedName),
     /// A name or a number is used wrongly.
+    #[error("{0}")]
     Kind(KindWord),
     /// A limit would be passed.
+    #[error("a limit would be passed")]
     Limit(LimitWord),
     /// Memory is wanting.
+    #[error("memory is wanting")]
     OutOfMemory,
 }
 

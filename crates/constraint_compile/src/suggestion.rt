@@ -16,9 +16,9 @@ use frac_core::{Frac, OutOfMemory};
 use name_tables::{Metrics, OwnedName};
 use problem_core::{Rel, Row, Term};
 use script_text::AttrWord;
-use span_text::Object;
+use span_text::{Object, UNIT};
 use std::alloc::Global;
-use view_tree::Tree;
+use view_tree::{Tree, ViewId};
 
 /// That an attribute of a view has a value: the number and the rank of the row, the view's number, the
 /// attribute as it is written, and the row's constant.
@@ -31,8 +31,8 @@ pub struct Suggestion {
     pub constant: Frac,
 }
 
-/// The priority, in thousandths, where none is written.
-const USUAL: i32 = 750_000;
+/// The rank of a suggestion whose priority isn't written.
+pub const USUAL_RANK: u16 = 750;
 
 // The number that makes the attribute's halves whole.
 fn scale_of(word: AttrWord) -> u8
@@ -65,7 +65,8 @@ fn scaled(word: AttrWord, num: i64) -> i128
     i128::from(scale_of(word)) * i128::from(num)
 }
 
-/// The constant of the row of a suggestion of this value, where both of its parts are below 2^40 in size.
+/// The constant of the row of a suggestion of this value, where both of its parts are below the limit in
+/// size.
 pub fn suggested_constant(word: AttrWord, value: Frac) -> Option<Frac>
     ensures constant { IfSome result (IsConstant (scale_of word) (negated value)) }
     ensures small { OnSome result (IsSmallConstant (scale_of word) (negated value)) }
@@ -76,19 +77,21 @@ pub fn suggested_constant(word: AttrWord, value: Frac) -> Option<Frac>
     small_of(Ratio { num, den })
 }
 
-// The priority, which is 750 where none is written.
+// The priority, which is the usual one where none is written.
 fn or_usual(priority: Option<Object<'_>>) -> Option<Object<'_>>
     ensures { object_view result ≡ suggested_priority (object_view priority.entry) }
 {
     match priority {
         Some(priority) => Some(priority),
-        None => Some(Object::Number { thousandths: USUAL }),
+        None => Some(Object::Number {
+            thousandths: i32::from(USUAL_RANK) * UNIT as i32,
+        }),
     }
 }
 
-/// The rank that a suggestion's priority stands for: 750 where none is written. `Unknown` with its name,
-/// where that is neither a view's nor a metric's; `Kind(Priority)` where it is no whole number from 1 to
-/// 1000.
+/// The rank that a suggestion's priority stands for: [`USUAL_RANK`] where none is written. `Unknown` with its
+/// name, where that is neither a view's nor a metric's; `Kind(Priority)` where it is no whole number from 1
+/// to [`REQUIRED`](problem_core::REQUIRED).
 pub fn suggested_rank(
     alloc: Global,
     tree: &Tree,
@@ -119,7 +122,7 @@ impl Suggestion {
         requires few { length terms.now ≤ 2 }
         ensures { IfOk result (λ row. row ≡ with_terms self.now terms.now) }
     {
-        let _den = self.constant.den();
+        let _den = self.constant.den(); // for the proof: what a fraction keeps
         let scale = i64::from(scale_of(self.word));
         Row::of(
             alloc,
@@ -159,17 +162,16 @@ impl Suggestion {
         requires { IsSuggestion self.now }
         ensures { IfOk result (λ row. row ≡ suggested_row self.now) }
     {
-        let (left, top) = (4 * self.view + 1, 4 * self.view + 2);
-        let (width, height) = (4 * self.view + 3, 4 * self.view + 4);
+        let of = ViewId(self.view).attributes();
         match self.word {
-            AttrWord::Left | AttrWord::Leading => self.single(alloc, left),
-            AttrWord::Top => self.single(alloc, top),
-            AttrWord::Width => self.single(alloc, width),
-            AttrWord::Height => self.single(alloc, height),
-            AttrWord::Right | AttrWord::Trailing => self.pair(alloc, left, 1, width),
-            AttrWord::Bottom => self.pair(alloc, top, 1, height),
-            AttrWord::CenterX => self.pair(alloc, left, 2, width),
-            AttrWord::CenterY => self.pair(alloc, top, 2, height),
+            AttrWord::Left | AttrWord::Leading => self.single(alloc, of.left),
+            AttrWord::Top => self.single(alloc, of.top),
+            AttrWord::Width => self.single(alloc, of.width),
+            AttrWord::Height => self.single(alloc, of.height),
+            AttrWord::Right | AttrWord::Trailing => self.pair(alloc, of.left, 1, of.width),
+            AttrWord::Bottom => self.pair(alloc, of.top, 1, of.height),
+            AttrWord::CenterX => self.pair(alloc, of.left, 2, of.width),
+            AttrWord::CenterY => self.pair(alloc, of.top, 2, of.height),
         }
     }
 }

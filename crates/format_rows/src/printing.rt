@@ -2,8 +2,9 @@
 use crate::setting::Setting;
 use crate::text::{put_row, put_stop};
 use constraint_compile::{CompileStop, Compiled, compile_format, compile_line, format_row_count};
-use frac_core::OutOfMemory;
-use script_text::{Align, Command, LineStop, Linear, read_line};
+use frac_core::{OutOfMemory, Stop};
+use script_text::{Align, Command, Linear, read_line};
+use span_text::SyntaxAt;
 use std::alloc::Global;
 use vfl_text::Format;
 
@@ -117,12 +118,12 @@ fn put_line(
 ) -> Result<usize, OutOfMemory> {
     match read_line(alloc, line) {
         Ok(command) => put_command(alloc, out, setting, &command),
-        Err(LineStop::SyntaxAt(at)) => {
+        Err(Stop::Refused(SyntaxAt(at))) => {
             let at = at.saturating_sub(before);
             writeln!(out, "syntax {at}")?;
             Ok(0)
         }
-        Err(LineStop::OutOfMemory) => Err(OutOfMemory),
+        Err(Stop::OutOfMemory) => Err(OutOfMemory),
     }
 }
 

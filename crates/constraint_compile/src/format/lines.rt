@@ -1,7 +1,8 @@
 // What the ends of the rows of a format add.
-ghost use Rattle.std.specs.Prelude.{◌≡◌, ◌<◌, ◌^◌, [], false, IfSome, IfNone, Some, pos, neg_ℤ};
+ghost use Rattle.std.specs.Prelude.{◌≡◌, ◌<◌, [], false, IfSome, IfNone, Some, pos, neg_ℤ};
 ghost use Rattle.std.specs.Prelude.{if◌then◌else◌};
 ghost use Rattle.std.specs.Option.{option_map};
+ghost use Rattle.span_text.specs.declared.limits.TheConstants.{UNIT};
 ghost use Rattle.script_text.specs.Grammar as grammar;
 ghost use Rattle.script_text.specs.Meaning as mean;
 ghost use Rattle.constraint_compile.specs.Addends.{addend, addend_view, IsKept};
@@ -9,6 +10,7 @@ ghost use Rattle.constraint_compile.specs.Fractions as fractions;
 ghost use Rattle.constraint_compile.specs.FormatLines as lines;
 ghost use Rattle.constraint_compile.specs.FormatRefusals as refusals;
 ghost use Rattle.view_tree.specs.Views.{view_named};
+ghost use Rattle.view_tree.specs.declared.limits.TheConstants.{ID_LIMIT};
 
 use crate::addends::Addend;
 use crate::attributes::{number_of, share_at};
@@ -16,6 +18,7 @@ use crate::format::checks::parent_of;
 use crate::format::parts::{End, Owner};
 use crate::line::signs::negated;
 use frac_core::Frac;
+use span_text::UNIT;
 use view_tree::{Tree, ViewId};
 
 // The number of this size with its sign.
@@ -33,7 +36,7 @@ fn signed(is_negative: bool, size: u32) -> i128
 fn decimal(is_negative: bool, size: u32) -> Frac
     ensures { result ≡ grammar.decimal is_negative size }
 {
-    match Frac::of(signed(is_negative, size), 1000) {
+    match Frac::of(signed(is_negative, size), i128::from(UNIT)) {
         Ok(fraction) => fraction,
         Err(_) => unreachable!(),
     }
@@ -55,14 +58,14 @@ pub(crate) fn minus_number(thousandths: i32) -> Frac
 
 /// An attribute is added once.
 pub(crate) fn one() -> Frac
-    ensures { result ≡ grammar.decimal false 1000 }
+    ensures { result ≡ grammar.decimal false UNIT }
 {
-    decimal(false, 1000)
+    decimal(false, UNIT)
 }
 
 /// An attribute is subtracted once.
 pub(crate) fn minus_one() -> Frac
-    ensures { result ≡ fractions.negated (grammar.decimal false 1000) }
+    ensures { result ≡ fractions.negated (grammar.decimal false UNIT) }
 {
     negated(one())
 }
@@ -71,11 +74,11 @@ pub(crate) fn minus_one() -> Frac
 fn parent_at(tree: &Tree, name: &str) -> Option<ViewId>
     ensures some { IfSome result (λ id. option_map (λ v. v.id) (view_named tree.now.views
         (lines.name_of tree.now.views (refusals.parent_of tree.now.views name.now))) ≡ Some id.0) }
-    ensures within { IfSome result (λ id. id.0 < 2 ^ 29) }
+    ensures within { IfSome result (λ id. id.0 < ID_LIMIT) }
     ensures none { IfNone result (lines.name_of tree.now.views (refusals.parent_of tree.now.views name.now)
         ≡ []) }
 {
-    let _count = tree.len();
+    let _count = tree.len(); // for the proof: what a tree keeps
     parent_of(tree, name)
 }
 
@@ -83,7 +86,7 @@ fn parent_at(tree: &Tree, name: &str) -> Option<ViewId>
 fn view_of(tree: &Tree, end: End<'_>) -> Option<ViewId>
     ensures id { option_map (λ id. id.0) result ≡ option_map (λ v. v.id) (view_named tree.now.views
         (lines.owner_name tree.now.views end.entry.owner end.entry.view.now)) }
-    ensures within { IfSome result (λ id. id.0 < 2 ^ 29) }
+    ensures within { IfSome result (λ id. id.0 < ID_LIMIT) }
 {
     match end.owner {
         Owner::Itself => number_of(tree, end.view),

@@ -1,7 +1,7 @@
 // The parts of a format, in the order of its text. After an error nothing is said of what was appended.
-ghost use Rattle.std.specs.Prelude.{◌≡◌, ◌++◌, ◌∷◌, [], ◌≤◌, ◌<◌, ◌^◌, IfOk, OnOk, length};
-ghost use Rattle.vfl_text.specs.View.{pred_meaning, pred_meanings, gap_meaning, gap_meanings, end_meaning};
-ghost use Rattle.vfl_text.specs.View.{item_meaning, item_meanings, meaning};
+ghost use Rattle.std.specs.Prelude.{◌≡◌, ◌++◌, ◌∷◌, [], ◌≤◌, ◌<◌, IfOk, OnOk, length};
+ghost use Rattle.vfl_text.specs.View.{pred_meaning, pred_meanings, spacing_meaning, spacing_meanings};
+ghost use Rattle.vfl_text.specs.View.{end_meaning, item_meaning, item_meanings, meaning};
 ghost use Rattle.constraint_compile.specs.FormatParts as parts;
 ghost use Rattle.constraint_compile.specs.FormatViews.{span_view, part_view, parts_view};
 
@@ -12,7 +12,7 @@ use problem_core::Rel;
 use script_text::{Align, AttrWord};
 use span_text::Object;
 use std::alloc::Global;
-use vfl_text::{Axis, Format, Gap, Item, Pred};
+use vfl_text::{Axis, Format, Item, Pred, Spacing};
 
 /// The space between two views where none is given, in thousandths.
 pub const USUAL_BETWEEN: u16 = 8_000;
@@ -60,19 +60,20 @@ fn push_preds<'a>(
     Ok(())
 }
 
-fn push_gap<'a>(
+fn push_spacing<'a>(
     out: &mut Vec<Part<'a>>,
     span: Span<'a>,
     usual: u16,
-    gap: &Gap<'a>,
+    spacing: &Spacing<'a>,
 ) -> Result<(), OutOfMemory>
     ensures { OnOk result (parts_view out.new.items
-        ≡ parts_view out.old.items ++ parts.gap_parts (span_view span.entry) usual (gap_meaning gap.now)) }
+        ≡ parts_view out.old.items
+        ++ parts.spacing_parts (span_view span.entry) usual (spacing_meaning spacing.now)) }
 {
-    match gap {
-        Gap::Flush => push_exactly(out, span, 0),
-        Gap::Standard => push_exactly(out, span, usual),
-        Gap::Given(preds) => push_preds(out, span, preds),
+    match spacing {
+        Spacing::Flush => push_exactly(out, span, 0),
+        Spacing::Standard => push_exactly(out, span, usual),
+        Spacing::Given(preds) => push_preds(out, span, preds),
     }
 }
 
@@ -89,19 +90,24 @@ fn push_chain<'a>(
     out: &mut Vec<Part<'a>>,
     axis: Axis,
     first: &'a str,
-    gaps: &[Gap<'a>],
+    spacings: &[Spacing<'a>],
     items: &[Item<'a>],
 ) -> Result<&'a str, OutOfMemory>
-    requires { length gaps.now ≡ length items.now }
+    requires { length spacings.now ≡ length items.now }
     ensures parts { OnOk result (parts_view out.new.items
-        ≡ parts_view out.old.items ++ parts.chain_parts axis first.now (gap_meanings gaps.now)
+        ≡ parts_view out.old.items ++ parts.chain_parts axis first.now (spacing_meanings spacings.now)
         (item_meanings items.now)) }
     ensures last { IfOk result (λ name. name.now ≡ parts.last_name first.now (item_meanings items.now)) }
 {
     let mut before = first;
-    for (i, gap) in gaps.iter().enumerate() {
+    for (i, spacing) in spacings.iter().enumerate() {
         let item = &items[i];
-        push_gap(out, between(axis, before, item.name), USUAL_BETWEEN, gap)?;
+        push_spacing(
+            out,
+            between(axis, before, item.name),
+            USUAL_BETWEEN,
+            spacing,
+        )?;
         push_item(out, axis, item)?;
         before = item.name;
     }
@@ -112,14 +118,14 @@ fn push_front<'a>(
     out: &mut Vec<Part<'a>>,
     axis: Axis,
     view: &'a str,
-    gap: &Option<Gap<'a>>,
+    spacing: &Option<Spacing<'a>>,
 ) -> Result<(), OutOfMemory>
     ensures { OnOk result (parts_view out.new.items
-        ≡ parts_view out.old.items ++ parts.front_parts axis view.now (end_meaning gap.now)) }
+        ≡ parts_view out.old.items ++ parts.front_parts axis view.now (end_meaning spacing.now)) }
 {
-    if let Some(gap) = gap {
+    if let Some(spacing) = spacing {
         out.push(Part::Bar { view })?;
-        push_gap(out, inside_near(axis, view), USUAL_INSIDE, gap)?;
+        push_spacing(out, inside_near(axis, view), USUAL_INSIDE, spacing)?;
     }
     Ok(())
 }
@@ -128,26 +134,26 @@ fn push_back<'a>(
     out: &mut Vec<Part<'a>>,
     axis: Axis,
     view: &'a str,
-    gap: &Option<Gap<'a>>,
+    spacing: &Option<Spacing<'a>>,
 ) -> Result<(), OutOfMemory>
     ensures { OnOk result (parts_view out.new.items
-        ≡ parts_view out.old.items ++ parts.back_parts axis view.now (end_meaning gap.now)) }
+        ≡ parts_view out.old.items ++ parts.back_parts axis view.now (end_meaning spacing.now)) }
 {
-    if let Some(gap) = gap {
+    if let Some(spacing) = spacing {
         out.push(Part::Bar { view })?;
-        push_gap(out, inside_far(axis, view), USUAL_INSIDE, gap)?;
+        push_spacing(out, inside_far(axis, view), USUAL_INSIDE, spacing)?;
     }
     Ok(())
 }
 
-fn push_level<'a>(
+fn push_aligned<'a>(
     out: &mut Vec<Part<'a>>,
     word: AttrWord,
     first: &'a str,
     items: &[Item<'a>],
 ) -> Result<(), OutOfMemory>
     ensures { OnOk result (parts_view out.new.items
-        ≡ parts_view out.old.items ++ parts.level_parts word first.now (item_meanings items.now)) }
+        ≡ parts_view out.old.items ++ parts.aligned_parts word first.now (item_meanings items.now)) }
 {
     let mut before = first;
     for item in items {
@@ -167,7 +173,7 @@ fn push_align<'a>(
         ≡ parts_view out.old.items ++ parts.align_parts align first.now (item_meanings items.now)) }
 {
     match align {
-        Some(align) => push_level(out, aligned_word(align), first, items),
+        Some(align) => push_aligned(out, aligned_word(align), first, items),
         None => Ok(()),
     }
 }
@@ -185,7 +191,7 @@ pub(crate) fn parts_of<'a>(
     if let [first, others @ ..] = format.items() {
         push_front(&mut out, format.axis, first.name, &format.from_parent)?;
         push_item(&mut out, format.axis, first)?;
-        let last = push_chain(&mut out, format.axis, first.name, format.gaps(), others)?;
+        let last = push_chain(&mut out, format.axis, first.name, format.spacings(), others)?;
         push_back(&mut out, format.axis, last, &format.to_parent)?;
         push_align(&mut out, align, first.name, others)?;
     }

@@ -8,12 +8,12 @@ ghost use Rattle.constraint_compile.specs.FormatStops.{IsPastNumbers, IsUsableFo
 ghost use Rattle.constraint_compile.specs.FormatViews.{part_view, parts_view};
 ghost use Rattle.constraint_compile.specs.FormatParts.{Part as FormatPart};
 
-use crate::compiled::NUMBER_LIMIT;
 use crate::format::asks::{Asked, resolve_parts};
 use crate::format::checks::is_along;
 use crate::format::parts::Part;
 use crate::stops::{CompileStop, KindWord};
 use name_tables::{LimitWord, Metrics};
+use problem_core::NUMBER_LIMIT;
 use script_text::Align;
 use std::alloc::Global;
 use vfl_text::Axis;
@@ -25,7 +25,7 @@ fn rows_in(tree: &Tree, part: &Part<'_>) -> usize
         ≡ result + stops.row_count tree.now.views parts }
     ensures small { result ≤ 1 }
 {
-    let _count = tree.len();
+    let _count = tree.len(); // for the proof: what a tree keeps
     match part {
         Part::View { name: _ } => 0,
         Part::Bar { view: _ } => 0,
@@ -74,6 +74,7 @@ fn used(axis: Axis, align: Option<Align>, asked: &Asked<'_>) -> Result<(), KindW
 
 /// What the parts stand for, where nothing is wrong with a format whose rows are numbered from the first
 /// number.
+// It has seven parameters: those of `compile_format`, where of the format its axis and its parts are left.
 pub(crate) fn checked<'a>(
     alloc: Global,
     tree: &Tree,

@@ -1,6 +1,7 @@
 // The rows of a format, one after the other.
-ghost use Rattle.std.specs.Prelude.{◌≡◌, ℕ, ◌<◌, ◌≤◌, ◌+◌, ◌^◌, ◌++◌, ◌∷◌, [], List, map, length, IfOk, OnOk};
+ghost use Rattle.std.specs.Prelude.{◌≡◌, ℕ, ◌<◌, ◌≤◌, ◌+◌, ◌++◌, ◌∷◌, [], List, map, length, IfOk, OnOk};
 ghost use Rattle.std.specs.Prelude.{IfErr, All};
+ghost use Rattle.problem_core.specs.declared.limits.TheConstants.{NUMBER_LIMIT};
 ghost use Rattle.script_text.specs.Meaning.{Linear};
 ghost use Rattle.view_tree.specs.Views.{LiveView};
 ghost use Rattle.constraint_compile.specs.Addends.{IsKept};
@@ -55,7 +56,7 @@ fn addends_of<'a>(alloc: Global, ask: &Ask<'a>) -> Result<Vec<Addend<'a>>, OutOf
 // The row that is asked for.
 fn row_of(alloc: Global, metrics: &Metrics, ask: &Ask<'_>, id: u32) -> Result<RowForm, CompileStop>
     requires kept { IsKeptAsk ask.now }
-    requires number { (0 < id) × (id < 2 ^ 31) }
+    requires number { (0 < id) × (id < NUMBER_LIMIT) }
     ensures form { IfOk result IsForm }
     ensures row { IfOk result (λ r. (views : List LiveView) (l : Linear) → IsAsk views metrics.now l ask.now
         → IsRowWithin views metrics.now l id (form_view r)) }
@@ -110,7 +111,7 @@ fn add_row(
     found: &mut Found,
 ) -> Result<(), CompileStop>
     requires kept { IsKeptAsk ask.now }
-    requires number { (0 < id) × (id < 2 ^ 31) }
+    requires number { (0 < id) × (id < NUMBER_LIMIT) }
     requires forms { AreForms found.old.rows.items }
     ensures forms { OnOk result (AreForms found.new.rows.items) }
     ensures found { OnOk result ((views : List LiveView) (lines : List Linear) (l : Linear) (first : ℕ)

@@ -1,15 +1,19 @@
 // Which coefficients of a sum are not 0, whatever their size.
 ghost use Rattle.std.specs.Prelude.{◌≡◌, ◌≢◌, ◌≤◌, ◌<◌, ◌+◌, ◌*◌, ◌^◌, ◌+ℤ◌, ◌*ℤ◌, ℕ, pos, unsigned_abs};
 ghost use Rattle.std.specs.Prelude.{true, false, length, map, IsTrue, IfOk, OnOk, All, AllPairs};
+ghost use Rattle.problem_core.specs.declared.limits.TheConstants.{TERM_LIMIT};
 ghost use Rattle.constraint_compile.specs.Fractions.{total};
 ghost use Rattle.constraint_compile.specs.Addends.{addend_view, addends_view, sum_of, IsKept};
 ghost use Rattle.constraint_compile.specs.Shares.{IsOff};
 ghost use Rattle.constraint_compile.specs.Sums.{HasTooMany};
 ghost use Rattle.constraint_compile.specs.Pieces.{piece_value, IsPiece, AreDoubled, HasFound};
+ghost use Rattle.constraint_compile.specs.declared.limits.TheConstants.{ADDEND_LIMIT};
 
 use crate::addends::Addend;
+use crate::limits::ADDEND_LIMIT;
 use crate::line::sums::{double_den, halves, split, times_halves};
 use frac_core::OutOfMemory;
+use problem_core::TERM_LIMIT;
 use std::alloc::Global;
 
 /// A fraction that need not be in lowest terms.
@@ -19,11 +23,9 @@ pub(crate) struct Piece {
     pub den: i64,
 }
 
-// Each of at most 64 terms has a denominator below 2^43. So a sum that isn't 0 is past 64 in size after this
-// many doublings.
-const ROUNDS: u32 = 2760;
-
-const ATTRIBUTE_LIMIT: usize = 32;
+// Each addend has a denominator below 2^43. So a sum of as many as there may be that isn't 0 is past their
+// number in size after this many doublings.
+const ROUNDS: u32 = 43 * ADDEND_LIMIT as u32 + 8;
 
 // What an addend has of an attribute.
 fn piece_of(addend: &Addend<'_>, attr: u32) -> Piece
@@ -87,7 +89,7 @@ struct Double {
 }
 
 fn doubled(alloc: Global, pieces: &[Piece]) -> Result<Double, OutOfMemory>
-    requires few { length pieces.now ≤ 64 }
+    requires few { length pieces.now ≤ ADDEND_LIMIT }
     requires kept { All IsPiece pieces.now }
     ensures { IfOk result (λ d. AreDoubled pieces.now d.whole d.rests.items) }
 {
@@ -102,7 +104,7 @@ fn doubled(alloc: Global, pieces: &[Piece]) -> Result<Double, OutOfMemory>
 }
 
 fn twice_with(whole: i64, more: i64) -> i64
-    requires whole { unsigned_abs whole ≤ 64 }
+    requires whole { unsigned_abs whole ≤ ADDEND_LIMIT }
     requires more { unsigned_abs more ≤ 2 ^ 51 }
     ensures { result ≡ pos 2 *ℤ whole +ℤ more }
 {
@@ -110,15 +112,15 @@ fn twice_with(whole: i64, more: i64) -> i64
 }
 
 fn is_past(whole: i64) -> bool
-    ensures yes { IsTrue result → 64 < unsigned_abs whole }
-    ensures no { result ≡ false → unsigned_abs whole ≤ 64 }
+    ensures yes { IsTrue result → ADDEND_LIMIT < unsigned_abs whole }
+    ensures no { result ≡ false → unsigned_abs whole ≤ ADDEND_LIMIT }
 {
-    whole < -64 || whole > 64
+    whole.unsigned_abs() > ADDEND_LIMIT as u64
 }
 
-// Whether a sum is 0: then its doubles are, and otherwise one of them is past 64 in size.
+// Whether a sum is 0: then its doubles are, and otherwise one of them is past the number of pieces in size.
 fn is_zero(alloc: Global, pieces: Vec<Piece>) -> Result<bool, OutOfMemory>
-    requires few { length pieces.items ≤ 64 }
+    requires few { length pieces.items ≤ ADDEND_LIMIT }
     requires kept { All IsPiece pieces.items }
     ensures yes { IfOk result (λ zero. IsTrue zero → (total piece_value pieces.items).num ≡ pos 0) }
     ensures no { IfOk result (λ zero. zero ≡ false → (total piece_value pieces.items).num ≢ pos 0) }
@@ -139,7 +141,7 @@ fn is_zero(alloc: Global, pieces: Vec<Piece>) -> Result<bool, OutOfMemory>
 // Whether the coefficient of an attribute is 0.
 fn is_absent(alloc: Global, added: &[Addend<'_>], attr: u32) -> Result<bool, OutOfMemory>
     requires kept { All IsKept added.now }
-    requires few { length added.now ≤ 64 }
+    requires few { length added.now ≤ ADDEND_LIMIT }
     ensures yes { IfOk result (λ absent. IsTrue absent
         → (sum_of (addends_view added.now) attr).num ≡ pos 0) }
     ensures no { IfOk result (λ absent. absent ≡ false
@@ -158,7 +160,7 @@ fn keep(
     place: usize,
 ) -> Result<(), OutOfMemory>
     requires kept { All IsKept added.now }
-    requires few { length added.now ≤ 64 }
+    requires few { length added.now ≤ ADDEND_LIMIT }
     requires rising { AllPairs (λ a b. a < b) attrs.now }
     requires place { place < length attrs.now }
     requires found { HasFound (sum_of (addends_view added.now)) attrs.now place found.old.items }
@@ -176,7 +178,7 @@ fn keep(
 // The attributes whose coefficients aren't 0.
 fn nonzero(alloc: Global, attrs: &[u32], added: &[Addend<'_>]) -> Result<Vec<u32>, OutOfMemory>
     requires kept { All IsKept added.now }
-    requires few { length added.now ≤ 64 }
+    requires few { length added.now ≤ ADDEND_LIMIT }
     requires rising { AllPairs (λ a b. a < b) attrs.now }
     ensures { IfOk result (λ found. HasFound (sum_of (addends_view added.now)) attrs.now
         (length attrs.now) found.items) }
@@ -190,19 +192,19 @@ fn nonzero(alloc: Global, attrs: &[u32], added: &[Addend<'_>]) -> Result<Vec<u32
 
 // Where there are few attributes, few have coefficients.
 fn may_be_many(attrs: &[u32]) -> bool
-    ensures no { result ≡ false → length attrs.now ≤ 32 }
+    ensures no { result ≡ false → length attrs.now ≤ TERM_LIMIT }
 {
-    attrs.len() > ATTRIBUTE_LIMIT
+    attrs.len() > TERM_LIMIT
 }
 
-/// Whether more than 32 attributes have coefficients that aren't 0 in the sum.
+/// Whether more attributes than a row may have terms have coefficients that aren't 0 in the sum.
 pub(crate) fn has_too_many(
     alloc: Global,
     attrs: &[u32],
     added: &[Addend<'_>],
 ) -> Result<bool, OutOfMemory>
     requires kept { All IsKept added.now }
-    requires few { length added.now ≤ 64 }
+    requires few { length added.now ≤ ADDEND_LIMIT }
     requires rising { AllPairs (λ a b. a < b) attrs.now }
     requires off { (v : ℕ) → IsOff attrs.now v → All (λ a. ((addend_view a).share v).num ≡ pos 0) added.now }
     ensures yes { IfOk result (λ many. IsTrue many
@@ -214,5 +216,5 @@ pub(crate) fn has_too_many(
         return Ok(false);
     }
     let found = nonzero(alloc, attrs, added)?;
-    Ok(found.len() > ATTRIBUTE_LIMIT)
+    Ok(found.len() > TERM_LIMIT)
 }

@@ -4,6 +4,7 @@ ghost use Rattle.std.specs.String.{string_bytes};
 ghost use Rattle.constraint_compile.specs.Addends.{addend_view, addends_view};
 ghost use Rattle.constraint_compile.specs.Keeps as keeps;
 ghost use Rattle.constraint_compile.specs.Keeps.{part_view, steps_view, metric_name, HaveNames};
+ghost use Rattle.constraint_compile.specs.declared.limits.TheConstants.{ADDEND_LIMIT};
 
 use crate::addends::Addend;
 use crate::steps::{Part, Step};
@@ -86,7 +87,7 @@ pub(crate) fn steps_of(
     scales: &[u32],
 ) -> Result<Vec<Step>, OutOfMemory>
     requires long { length scales.now ≡ length added.now }
-    requires few { length added.now ≤ 64 }
+    requires few { length added.now ≤ ADDEND_LIMIT }
     ensures long { IfOk result (λ steps. length steps.items ≡ length added.now) }
     ensures scales { IfOk result (λ steps. map (λ s. s.scale) steps.items ≡ scales.now) }
     ensures parts { IfOk result (λ steps. (names : List (List ℕ)) → HaveNames names (addends_view added.now)

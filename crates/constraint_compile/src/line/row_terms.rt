@@ -2,6 +2,7 @@
 ghost use Rattle.std.specs.Prelude.{◌≡◌, ℕ, ◌<◌, ◌+◌, length, All, AllPairs, IfOk, OnOk};
 ghost use Rattle.frac_core.specs.Fraction.{Fraction};
 ghost use Rattle.problem_core.specs.Kept.{IsNumber};
+ghost use Rattle.problem_core.specs.declared.limits.TheConstants.{TERM_LIMIT};
 ghost use Rattle.constraint_compile.specs.Sums.{AreKept, IsSum, HasFirst, AreTerms, HasTooMany};
 
 use crate::line::sums::Sum;
@@ -34,7 +35,8 @@ pub(crate) fn row_terms(alloc: Global, attrs: &[u32], sum: &Sum) -> Result<Vec<T
     ensures terms { IfOk result (λ terms. (b : ℕ → Fraction)
         → IsSum b attrs.now sum.now.scale sum.now.numbers.items → AreTerms b sum.now.scale terms.items) }
     ensures many { IfOk result (λ terms. (b : ℕ → Fraction)
-        → IsSum b attrs.now sum.now.scale sum.now.numbers.items → 32 < length terms.items → HasTooMany b) }
+        → IsSum b attrs.now sum.now.scale sum.now.numbers.items → TERM_LIMIT < length terms.items
+        → HasTooMany b) }
 {
     let mut out = Vec::with_capacity(alloc, attrs.len())?;
     for place in 0..attrs.len() {

@@ -1,11 +1,12 @@
 // The row of a sum of terms.
-ghost use Rattle.std.specs.Prelude.{◌≡◌, ◌≤◌, ◌<◌, ◌^◌, ℕ, List, false, length, map, IsTrue, IfOk, OnOk};
+ghost use Rattle.std.specs.Prelude.{◌≡◌, ◌≤◌, ◌<◌, ℕ, List, false, length, map, IsTrue, IfOk, OnOk};
 ghost use Rattle.std.specs.Prelude.{IfErr, All, AllPairs};
 ghost use Rattle.problem_core.specs.Kept.{IsTerm};
 ghost use Rattle.std.specs.String.{string_bytes};
+ghost use Rattle.problem_core.specs.declared.limits.TheConstants.{NUMBER_LIMIT, REQUIRED, TERM_LIMIT};
 ghost use Rattle.script_text.specs.Meaning.{Term as Summand};
 ghost use Rattle.constraint_compile.specs.Fractions.{IsScale};
-ghost use Rattle.constraint_compile.specs.Meaning.{MetricList};
+ghost use Rattle.constraint_compile.specs.Meaning.{MetricList, IsWeight};
 ghost use Rattle.constraint_compile.specs.Addends.{addends, addends_view, sum_of, IsKept};
 ghost use Rattle.constraint_compile.specs.Sums.{AreTerms, AreScales, HasTooMany};
 ghost use Rattle.constraint_compile.specs.Stops.{AreSteps, IsSumRow, IsWithinLimits, IsRowStop};
@@ -13,6 +14,7 @@ ghost use Rattle.constraint_compile.specs.Compiled.{AreSmallSteps};
 ghost use Rattle.constraint_compile.specs.Keeps.{AreScalesKept, steps_view};
 ghost use Rattle.view_tree.specs.Views.{LiveView};
 ghost use Rattle.constraint_compile.specs.Inside.{form_view, IsForm};
+ghost use Rattle.constraint_compile.specs.declared.limits.TheConstants.{ADDEND_LIMIT};
 
 use crate::addends::Addend;
 use crate::attributes::attributes;
@@ -47,12 +49,12 @@ struct Coefficients {
 // The coefficients of the terms, unless there are too many or one is past its limit.
 fn coefficients_of(alloc: Global, added: &[Addend<'_>]) -> Result<Coefficients, CompileStop>
     requires kept { All IsKept added.now }
-    requires few { length added.now ≤ 64 }
+    requires few { length added.now ≤ ADDEND_LIMIT }
     ensures terms { IfOk result (λ c. (k : ℕ) → IsScale (sum_of (addends_view added.now)) k
         → AreTerms (sum_of (addends_view added.now)) k c.terms.items) }
     ensures each { IfOk result (λ c. All IsTerm c.terms.items) }
     ensures rising { IfOk result (λ c. AllPairs (λ s t. s.attr < t.attr) c.terms.items) }
-    ensures few { IfOk result (λ c. length c.terms.items ≤ 32) }
+    ensures few { IfOk result (λ c. length c.terms.items ≤ TERM_LIMIT) }
     ensures some { OnOk result (HasTooMany (sum_of (addends_view added.now)) → ⊥) }
     ensures scales { IfOk result (λ c. AreScales (addends_view added.now) (length added.now) c.scales.items) }
     ensures stop { IfErr result (λ e. (views : List LiveView) (metrics : MetricList) (terms : List Summand)
@@ -84,7 +86,7 @@ fn named_steps(
     added: &[Addend<'_>],
     scales: &[u32],
 ) -> Result<NamedSteps, OutOfMemory>
-    requires few { length added.now ≤ 64 }
+    requires few { length added.now ≤ ADDEND_LIMIT }
     requires scales { AreScales (addends_view added.now) (length added.now) scales.now }
     ensures kept { IfOk result (λ n. AreScalesKept n.steps.items) }
     ensures steps { IfOk result (λ n. (views : List LiveView) (terms : List Summand)
@@ -119,10 +121,10 @@ pub(crate) fn row_of_addends(
     head: Head,
 ) -> Result<RowForm, CompileStop>
     requires kept { All IsKept added.now }
-    requires few { length added.now ≤ 64 }
-    requires number { (0 < head.id) × (head.id < 2 ^ 31) }
-    requires rank { head.rank ≤ 1000 }
-    requires weight { (0 < head.weight) × (head.weight ≤ 1000) }
+    requires few { length added.now ≤ ADDEND_LIMIT }
+    requires number { (0 < head.id) × (head.id < NUMBER_LIMIT) }
+    requires rank { head.rank ≤ REQUIRED }
+    requires weight { IsWeight head.weight }
     ensures form { IfOk result IsForm }
     ensures head { IfOk result (λ r. (r.id ≡ head.id) × (r.rank ≡ head.rank) × (r.weight ≡ head.weight)
         × (r.rel ≡ head.rel)) }

@@ -2,7 +2,9 @@
 ghost use Rattle.std.specs.Prelude.{◌≡◌, ℕ, ◌<◌, ◌≤◌, ◌*◌, ◌^◌, ◌+ℤ◌, ◌*ℤ◌, ◌<ℤ◌, pos, length, if◌then◌else◌};
 ghost use Rattle.std.specs.Prelude.{◌==◌, All, AllPairs, IfOk, IfSome, IfNone, unsigned_abs};
 ghost use Prim.Native.Nat.{◌∣◌};
+ghost use Rattle.frac_core.specs.declared.frac.TheConstants.{PART_BOUND};
 ghost use Rattle.problem_core.specs.Layout.{coefficient};
+ghost use Rattle.problem_core.specs.declared.limits.TheConstants.{COEFFICIENT_LIMIT};
 ghost use Rattle.constraint_compile.specs.Shares.{form, AreHalves};
 ghost use Rattle.constraint_compile.specs.Sums.{AreKept, IsSumWithShare, IsPastWithShare, IsDivisor};
 ghost use Rattle.constraint_compile.specs.Sums.{AreDivided, IsPast, AreWhole, attr_at, number_at};
@@ -11,11 +13,8 @@ ghost use Rattle.constraint_compile.specs.Sums.{with_share_number};
 use crate::attributes::{Doubled, Share};
 use crate::wide::{product, quotient, total};
 use frac_core::{Frac, OutOfMemory, gcd};
-use problem_core::Term;
+use problem_core::{COEFFICIENT_LIMIT, Term};
 use std::alloc::Global;
-
-/// The greatest size of a coefficient and of a scale.
-pub const COEFFICIENT_LIMIT: u32 = 1 << 30;
 
 /// A sum of terms: each attribute of a list of them has the number at its place, over the scale.
 #[derive(Drop, Debug)]
@@ -62,7 +61,7 @@ pub(crate) fn split(num: i64, den: i64) -> Division
 }
 
 pub(crate) fn times_halves(num: i64, halves: i64) -> i64
-    requires num { unsigned_abs num < 2 ^ 42 }
+    requires num { unsigned_abs num < PART_BOUND }
     requires halves { unsigned_abs halves ≤ 4 }
     ensures value { result ≡ num *ℤ halves }
     ensures small { unsigned_abs result < 2 ^ 44 }
@@ -73,7 +72,7 @@ pub(crate) fn times_halves(num: i64, halves: i64) -> i64
 // So many halves over the scale.
 fn scaled_halves(of: &Doubled, attr: u32, scale: u32) -> i64
     requires halves { AreHalves of.now }
-    requires scale { scale ≤ 2 ^ 30 }
+    requires scale { scale ≤ COEFFICIENT_LIMIT }
     ensures value { result ≡ pos scale *ℤ coefficient attr (form of.now) }
     ensures small { unsigned_abs result < 2 ^ 44 }
 {
@@ -91,8 +90,8 @@ pub(crate) fn double_den(f: Frac) -> i64
 
 // The number of an attribute over the scale times twice the share's denominator, with the share added.
 fn with_more(number: i64, scale: u32, share: &Share, attr: u32) -> i128
-    requires number { unsigned_abs number ≤ 2 ^ 30 }
-    requires scale { scale ≤ 2 ^ 30 }
+    requires number { unsigned_abs number ≤ COEFFICIENT_LIMIT }
+    requires scale { scale ≤ COEFFICIENT_LIMIT }
     requires halves { AreHalves share.now.of }
     ensures { result ≡ with_share_number number scale share.now attr }
 {
@@ -135,8 +134,8 @@ fn small_quotient(number: i128, divisor: i128) -> Option<i64>
     requires above { pos 0 <ℤ divisor }
     requires divides { unsigned_abs divisor ∣ unsigned_abs number }
     ensures value { IfSome result (λ z. divisor *ℤ z ≡ number) }
-    ensures small { IfSome result (λ z. unsigned_abs z ≤ 2 ^ 30) }
-    ensures past { IfNone result (unsigned_abs divisor * 2 ^ 30 < unsigned_abs number) }
+    ensures small { IfSome result (λ z. unsigned_abs z ≤ COEFFICIENT_LIMIT) }
+    ensures past { IfNone result (unsigned_abs divisor * COEFFICIENT_LIMIT < unsigned_abs number) }
 {
     let by = quotient(number, divisor);
     if by.unsigned_abs() > u128::from(COEFFICIENT_LIMIT) {
@@ -165,7 +164,7 @@ fn divided(alloc: Global, wide: &[i128], divisor: i128) -> Result<Option<Vec<i64
 // The scale times twice the denominator.
 fn whole_of(scale: u32, f: Frac) -> u128
     requires above { 0 < scale }
-    requires small { scale ≤ 2 ^ 30 }
+    requires small { scale ≤ COEFFICIENT_LIMIT }
     ensures value { result ≡ scale * (f.den * 2) }
     ensures above { 0 < result }
     ensures small { result < 2 ^ 80 }
@@ -189,17 +188,17 @@ fn half(number: i64) -> Option<i64>
 
 // The number over 1 with the share added, where that is whole and within the limit.
 fn whole_more(number: i64, share: &Share, attr: u32) -> Option<i64>
-    requires number { unsigned_abs number ≤ 2 ^ 30 }
+    requires number { unsigned_abs number ≤ COEFFICIENT_LIMIT }
     requires halves { AreHalves share.now.of }
     requires den { share.now.by.den ≡ 1 }
     ensures value { IfSome result (λ z. pos 2 *ℤ z ≡ with_share_number number 1 share.now attr) }
-    ensures small { IfSome result (λ z. unsigned_abs z ≤ 2 ^ 30) }
+    ensures small { IfSome result (λ z. unsigned_abs z ≤ COEFFICIENT_LIMIT) }
 {
     let Some(more) = half(times_halves(share.by.num(), halves(&share.of, attr))) else {
         return None;
     };
     let next = number + more;
-    if next.unsigned_abs() > u64::from(COEFFICIENT_LIMIT) {
+    if next.unsigned_abs() > COEFFICIENT_LIMIT {
         return None;
     }
     Some(next)
