@@ -20,7 +20,7 @@ fn put_added(out: &mut String, tree: &mut Tree, words: &str) -> Result<(), OutOf
 }
 
 // The one metric, which is called `gap`.
-fn gap(alloc: Global) -> Result<Metrics, OutOfMemory> {
+fn one_metric(alloc: Global) -> Result<Metrics, OutOfMemory> {
     let mut metrics = Metrics::new(alloc)?;
     if let Ok(eight) = Frac::of(8, 1) {
         metrics.define("gap", eight).map_err(|_| OutOfMemory)?;
@@ -39,7 +39,7 @@ fn put_grown(
     tree: &mut Tree,
     text: &str,
 ) -> Result<(), OutOfMemory> {
-    let metrics = gap(alloc)?;
+    let metrics = one_metric(alloc)?;
     let answer = grown(tree, text, &metrics);
     Ok(writeln!(out, "{answer:?}")?)
 }

@@ -1,11 +1,12 @@
 -- The first number of a column that is not 0.
-use Rattle.std.specs.Prelude.{◌≡◌, ℕ, ◌*◌, ◌<◌, ◌≤◌, ◌^◌, Bool, true, false, ◌&&◌, cond, nat_eq, List, length}
+use Rattle.std.specs.Prelude.{◌≡◌, ℕ, ◌*◌, ◌<◌, ◌≤◌, Bool, true, false, ◌&&◌, cond, nat_eq, List, length}
 use Rattle.std.specs.Prelude.{ℤ, pos, ◌-ℤ◌, ◌+ℤ◌, ◌*ℤ◌, ◌<ℤ◌, nat_abs, unsigned_abs, Option, Some, None, All}
 use Rattle.std.specs.Prelude.{slice_index_or}
 use Rattle.std.specs.List.{HoldsAt, list_any}
 use Rattle.std.specs.declared.cmp.Ordering.{Ordering}
 use Rattle.std.specs.declared.cmp.Ordering.TheVariants.{Less, Equal, Greater}
 use Rattle.problem_core.specs.Layout.{Line, Problem, lines}
+use Rattle.problem_core.specs.declared.limits.TheConstants.{COEFFICIENT_LIMIT, WEIGHT_LIMIT}
 use Rattle.problem_core.specs.declared.parts.Rel.{Rel}
 use Rattle.problem_core.specs.declared.parts.Side.{Side}
 use Rattle.problem_core.specs.declared.parts.Side.TheVariants.{Under, Over}
@@ -45,8 +46,8 @@ pub record AreFacts (p : Problem) (at : ℕ) (facts : Facts) : Type 0 where
   pub weight : HoldsAt (λ l. l.weight ≡ facts.weight) (lines p) at
   pub rel : HoldsAt (λ l. l.rel ≡ facts.rel) (lines p) at
   pub scale : HoldsAt (λ l. pos l.scale ≡ facts.scale) (lines p) at
-  pub scale_fits : unsigned_abs facts.scale ≤ 2 ^ 30
-  pub weight_fits : facts.weight ≤ 1000
+  pub scale_fits : unsigned_abs facts.scale ≤ COEFFICIENT_LIMIT
+  pub weight_fits : facts.weight ≤ WEIGHT_LIMIT
 
 -- both fronts of a line, and whether a multiplier at its own level was seen
 pub record HasFronts (f g : ℕ → ℤ) (seen : ℕ → Bool) (own : ℕ) (sides : Sides) : Type 0 where

@@ -1,10 +1,11 @@
 -- Sums of rows by attribute.
-use Rattle.std.specs.Prelude.{◌≡◌, ◌≢◌, ◌+ℤ◌, ℕ, ◌+◌, ◌^◌, ◌≤◌, List, [], map, length, ℤ, pos, unwrap_or}
+use Rattle.std.specs.Prelude.{◌≡◌, ◌≢◌, ◌+ℤ◌, ℕ, ◌+◌, ◌≤◌, List, [], map, length, ℤ, pos, unwrap_or}
 use Rattle.std.specs.Prelude.{slice_index_or, unsigned_abs}
 use Rattle.std.specs.Ordering.{nat_cmp}
 use Rattle.std.specs.BTreeMap.{BTreeMap, get}
 use Rattle.problem_core.specs.declared.parts.Term.{Term}
 use Rattle.problem_core.specs.Layout.{Problem, lines}
+use Rattle.problem_core.specs.declared.limits.TheConstants.{COEFFICIENT_LIMIT}
 
 -- the sum that is kept for an attribute
 abbrev pub sum_at : BTreeMap ℕ ℤ → ℕ → ℤ
@@ -16,7 +17,7 @@ pub record IsAdded (old new : BTreeMap ℕ ℤ) (attr : ℕ) (more : ℤ) : Type
   pub others : (v : ℕ) → v ≢ attr → sum_at new v ≡ sum_at old v
 
 abbrev pub IsSmall : Term → Type 0
-IsSmall t = unsigned_abs t.by ≤ 2 ^ 30
+IsSmall t = unsigned_abs t.by ≤ COEFFICIENT_LIMIT
 
 abbrev pub line_count : Problem → ℕ
 line_count p = length p.rows + length p.stays

@@ -1,5 +1,5 @@
 -- The clauses of a conflict, and the checker's verdict on one.
-use Rattle.std.specs.Prelude.{◌≡◌, ◌≢◌, ◌⊎◌, ℕ, ◌+◌, ◌<◌, ◌^◌, ◌/◌, List, [], take, length, pos, ◌*ℤ◌, ◌<ℤ◌}
+use Rattle.std.specs.Prelude.{◌≡◌, ◌≢◌, ◌⊎◌, ℕ, ◌+◌, ◌<◌, ◌/◌, List, [], take, length, pos, ◌*ℤ◌, ◌<ℤ◌}
 use Rattle.std.specs.Prelude.{All}
 use Rattle.std.specs.Int.{◌∣◌}
 use Rattle.std.specs.List.{Any, HoldsAt}
@@ -7,8 +7,10 @@ use Rattle.problem_core.specs.declared.parts.RowName.{RowName}
 use Rattle.problem_core.specs.declared.parts.RowName.TheVariants.{Held}
 use Rattle.problem_core.specs.Layout.{Problem, coefficient, sum_of, product_of}
 use Rattle.problem_core.specs.Certificates.{HasSign, required}
+use Rattle.problem_core.specs.declared.limits.TheConstants.{REQUIRED}
 use Rattle.cert_core.specs.declared.by.By.{By}
 use Rattle.cert_core.specs.Claims.{times_of}
+use Rattle.cert_checker.specs.declared.refuting.TheConstants.{ROOM}
 use Rattle.cert_checker.specs.declared.verdict.Verdict.{Verdict}
 use Rattle.cert_checker.specs.declared.verdict.Verdict.TheVariants.{Yes, No, NoRoom}
 
@@ -16,7 +18,7 @@ use Rattle.cert_checker.specs.declared.verdict.Verdict.TheVariants.{Yes, No, NoR
 
 -- the name is that of a required row
 abbrev pub IsRequired : Problem → RowName → Type 0
-IsRequired p row = Any (λ r. (r.rank ≡ 1000) × (row ≡ Held r.id)) p.rows
+IsRequired p row = Any (λ r. (r.rank ≡ REQUIRED) × (row ≡ Held r.id)) p.rows
 
 -- there is a multiplier, all are of required rows, and they cancel at each attribute
 pub record Cancels (p : Problem) (bys : List By) : Type 0 where
@@ -33,9 +35,9 @@ IsAboveZero p bys = pos 0 <ℤ sum_of (λ r. times_of bys (Held r.id)
 
 -- ---- room
 
--- the constants of the named rows have a common denominator below 2^30
+-- the constants of the named rows have a common denominator for which there is room
 abbrev pub HasRoom : Problem → List By → Type 0
-HasRoom p bys = (d : ℕ) × (0 < d) × (d < 2 ^ 30) × All (λ b.
+HasRoom p bys = (d : ℕ) × (0 < d) × (d < ROOM) × All (λ b.
     All (λ r. b.row ≡ Held r.id → r.constant.den ∣ d) p.rows) bys
 
 -- the row n is the first with which the rows named so far have none

@@ -3,16 +3,17 @@ ghost use Rattle.std.specs.Prelude.{◌≡◌, ℕ, ◌<◌, ◌≤◌, ◌^◌,
 ghost use Rattle.std.specs.Prelude.{length, All, ℤ, pos, ◌<ℤ◌, nat_abs, unsigned_abs};
 ghost use Rattle.frac_core.specs.Fraction.{IsFitting};
 ghost use Rattle.problem_core.specs.Certificates.{Multipliers};
+ghost use Rattle.problem_core.specs.declared.limits.TheConstants.{COEFFICIENT_LIMIT};
 ghost use Rattle.cert_checker.specs.LineSums.{line_count};
 ghost use Rattle.cert_checker.specs.Fronts.{AreFacts, AreFronts, AreOfLevel, HasFronts, HasOwnNumber};
 ghost use Rattle.cert_checker.specs.Fronts.{IsBlank, IsFront, IsReady, names_line, seen_by};
 ghost use Rattle.cert_checker.specs.Fronts.{reduced as reduced_cost, weight_of_side};
 
 use crate::arithmetic::{difference, product, total};
-use crate::leveled::PlacedLevel;
+use crate::leveled::{FIRST_STAY, PlacedLevel};
 use crate::sums::Weighted;
 use frac_core::OutOfMemory;
-use problem_core::{Problem, Rel, Side};
+use problem_core::{Problem, REQUIRED, Rel, Side};
 use std::alloc::Global;
 
 /// The first level at which a column is not 0, and its sign there.
@@ -52,14 +53,14 @@ fn keep(front: Option<Front>, level: usize, number: i128) -> Option<Front>
             level,
             negative: number < 0,
         }),
-        Some(first) => {
-            if level < first.level {
+        Some(front) => {
+            if level < front.level {
                 Some(Front {
                     level,
                     negative: number < 0,
                 })
             } else {
-                Some(first)
+                Some(front)
             }
         }
     }
@@ -82,7 +83,7 @@ fn weight_at(facts: &Facts, level: usize) -> u16
 
 /// The reduced cost of a side of the line at a level.
 fn reduced(facts: &Facts, side: Side, level: usize, scale: i64, times: i64) -> i128
-    requires facts { unsigned_abs facts.now.scale ≤ 2 ^ 30 }
+    requires facts { unsigned_abs facts.now.scale ≤ COEFFICIENT_LIMIT }
     requires above { pos 0 <ℤ scale }
     requires scale { IsFitting scale }
     requires times { IsFitting times }
@@ -102,20 +103,20 @@ pub(crate) fn facts_of(p: &Problem, at: usize) -> Facts
     requires { at < line_count p.now }
     ensures { AreFacts p.now at result }
 {
-    p.show_whole();
+    p.show_whole(); // for the proof: what a problem keeps
     let rows = p.rows();
     if at < rows.len() {
         let row = &rows[at];
-        row.show_row();
+        row.show_row(); // for the proof: what a row keeps
         return Facts {
-            own: 1000 - row.rank() as usize,
+            own: REQUIRED as usize - row.rank() as usize,
             weight: row.weight(),
             rel: row.rel(),
             scale: row.scale(),
         };
     }
     Facts {
-        own: 1001 + at - rows.len(),
+        own: FIRST_STAY + at - rows.len(),
         weight: 1,
         rel: Rel::Eq,
         scale: 1,
@@ -124,7 +125,7 @@ pub(crate) fn facts_of(p: &Problem, at: usize) -> Facts
 
 /// The fronts of a line when its multiplier at one more level is seen.
 fn enter(sides: Sides, facts: &Facts, level: usize, scale: i64, times: i64) -> Sides
-    requires facts { unsigned_abs facts.now.scale ≤ 2 ^ 30 }
+    requires facts { unsigned_abs facts.now.scale ≤ COEFFICIENT_LIMIT }
     requires above { pos 0 <ℤ scale }
     requires scale { IsFitting scale }
     requires times { IsFitting times }
@@ -170,7 +171,7 @@ fn start(alloc: Global, p: &Problem) -> Result<Vec<Sides>, OutOfMemory>
     ensures count { IfOk result (λ v. length v.items ≡ line_count p.now) }
     ensures blank { IfOk result (λ v. All IsBlank v.items) }
 {
-    p.show_whole();
+    p.show_whole(); // for the proof: what a problem keeps
     let count = p.rows().len() + p.stays().len();
     let mut sides = Vec::new(alloc);
     for _ in 0..count {
@@ -223,14 +224,14 @@ fn keep_above(front: Option<Front>, level: usize) -> Option<Front>
             level,
             negative: false,
         }),
-        Some(first) => {
-            if level < first.level {
+        Some(front) => {
+            if level < front.level {
                 Some(Front {
                     level,
                     negative: false,
                 })
             } else {
-                Some(first)
+                Some(front)
             }
         }
     }

@@ -44,7 +44,7 @@ fn is_below(front: Option<Front>) -> bool
 {
     match front {
         None => false,
-        Some(first) => first.negative,
+        Some(front) => front.negative,
     }
 }
 
@@ -68,8 +68,8 @@ fn are_not_negative(p: &Problem, sides: &[Sides]) -> bool
     ensures { (m : Multipliers) (seen : ℕ → ℕ → Bool) → AreKnown p.now m seen
         → AreFronts p.now m seen sides.now → IsTrue result ↔ AreNotNegative p.now m }
 {
-    for (at, line) in sides.iter().enumerate() {
-        if !is_not_negative(p, at, *line) {
+    for (at, of_line) in sides.iter().enumerate() {
+        if !is_not_negative(p, at, *of_line) {
             return false;
         }
     }
@@ -95,7 +95,7 @@ fn stay_sign(stay: &Stay, values: &Values) -> Ordering
         → result ≡ int_cmp (gap x (line_of_stay level stay.now)) (pos 0) }
 {
     let value = value(values, stay.attr);
-    let _ = value.den();
+    let _ = value.den(); // for the proof: what a fraction keeps
     value.compare(&stay.target)
 }
 
@@ -107,7 +107,7 @@ fn line_sign(p: &Problem, at: usize, values: &Values) -> Ordering
     ensures { (x : Assignment) → Gives values.now x
         → HoldsAt (λ l. result ≡ int_cmp (gap x l) (pos 0)) (lines p.now) at }
 {
-    p.show_whole();
+    p.show_whole(); // for the proof: what a problem keeps
     let rows = p.rows();
     if at < rows.len() {
         return row_sign(&rows[at], values);
@@ -144,8 +144,8 @@ fn are_free(p: &Problem, values: &Values, sides: &[Sides]) -> bool
     ensures { (m : Multipliers) (seen : ℕ → ℕ → Bool) (x : Assignment) → AreKnown p.now m seen
         → AreFronts p.now m seen sides.now → Gives values.now x → IsTrue result ↔ AreFree p.now m x }
 {
-    for (at, line) in sides.iter().enumerate() {
-        if !is_free(whole(p, at, *line), line_sign(p, at, values)) {
+    for (at, of_line) in sides.iter().enumerate() {
+        if !is_free(whole(p, at, *of_line), line_sign(p, at, values)) {
             return false;
         }
     }
@@ -159,8 +159,8 @@ fn judge(alloc: Global, p: &Problem, values: &Values, best: &Best) -> Result<Ver
     requires met { EachGiven values.now (Satisfies p.now) }
     ensures { IfOk result (IsBestVerdict p.now values.now best.now) }
 {
-    p.show_whole();
-    let _ = best.levels();
+    p.show_whole(); // for the proof: what a problem keeps
+    let _ = best.levels(); // for the proof: what a certificate keeps
     let places = Places::of(alloc, p)?;
     let Some(placed) = place_levels(alloc, p, &places, best)? else {
         return Ok(Verdict::No(3));
@@ -178,11 +178,11 @@ fn judge(alloc: Global, p: &Problem, values: &Values, best: &Best) -> Result<Ver
 /// Checks that the multipliers show the values to be best.
 ///
 /// `No(1)`: an attribute with a stay has no value, or one without a stay has one. `NoRoom`, tried next, has
-/// the first row whose attributes' values have no common denominator below 2^62, or one of them times it is
-/// not below 2^62 in size. `No(2)`: a required row doesn't hold. `No(3)`: a scale is not above 0, a row or a
-/// level is not the problem's, or at some level the lines do not cancel at each attribute. `No(4)`: the first
-/// number of some column that is not 0 is below 0. `No(5)`: the column of a side that the values use is not
-/// all 0.
+/// the first row whose attributes' values have no common denominator below `GAP_ROOM`, or one of them times
+/// it is not below `GAP_ROOM` in size. `No(2)`: a required row doesn't hold. `No(3)`: a scale is not above 0,
+/// a row or a level is not the problem's, or at some level the lines do not cancel at each attribute.
+/// `No(4)`: the first number of some column that is not 0 is below 0. `No(5)`: the column of a side that the
+/// values use is not all 0.
 pub fn check_best(
     alloc: Global,
     p: &Problem,
@@ -194,8 +194,8 @@ pub fn check_best(
         → EachGiven values.now (λ x. IsCertificate p.now x (multipliers_of p.now best.now))) }
     ensures best { IfOk result (λ v. v ≡ Verdict.Yes → EachGiven values.now (IsBest p.now)) }
 {
-    p.show_whole();
-    let _ = best.levels();
+    p.show_whole(); // for the proof: what a problem keeps
+    let _ = best.levels(); // for the proof: what a certificate keeps
     if !are_of_stays(p, values) {
         return Ok(Verdict::No(1));
     }

@@ -11,7 +11,7 @@ use crate::places::{Places, weigh};
 use crate::sums::{Weighted, cancel};
 use cert_core::{Best, BestLevel};
 use frac_core::OutOfMemory;
-use problem_core::{Level, Problem, RowName};
+use problem_core::{Level, Problem, REQUIRED, RowName};
 use std::alloc::Global;
 
 /// A level's place, strongest first, with its scale and the lines that it names.
@@ -22,6 +22,9 @@ pub(crate) struct PlacedLevel {
     pub weighted: Vec<Weighted>,
 }
 
+/// The level of the first stay, behind those of all ranks.
+pub(crate) const FIRST_STAY: usize = REQUIRED as usize + 1;
+
 /// The place of a level, strongest first, if it is one of the problem's.
 fn level_place(p: &Problem, places: &Places, level: Level) -> Option<usize>
     requires places { ArePlaces p.now places.now }
@@ -30,11 +33,11 @@ fn level_place(p: &Problem, places: &Places, level: Level) -> Option<usize>
     ensures held { IfSome result (λ _. HasLevel p.now level) }
     ensures none { IfNone result (HasLevel p.now level → ⊥) }
 {
-    p.show_whole();
+    p.show_whole(); // for the proof: what a problem keeps
     match level {
-        Level::Priority(rank) => Some(1000 - rank as usize),
+        Level::Priority(rank) => Some(REQUIRED as usize - rank as usize),
         Level::Stay(attr) => match places.find(p, RowName::Stay(attr)) {
-            Some(at) => Some(1001 + at - p.rows().len()),
+            Some(at) => Some(FIRST_STAY + at - p.rows().len()),
             None => None,
         },
     }
@@ -83,7 +86,7 @@ fn cancel_lines(
     requires weighted { AreWeighed p.now l.now.by weighted.now }
     ensures { IfOk result (λ yes. IsTrue yes ↔ CancelAt p.now l.now) }
 {
-    p.show_whole();
+    p.show_whole(); // for the proof: what a problem keeps
     cancel(alloc, p, weighted)
 }
 

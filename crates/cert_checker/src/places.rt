@@ -67,7 +67,7 @@ impl Places {
         ensures some { IfSome result (λ k. (k < line_count p.now) × (name_at p.now k ≡ row)) }
         ensures none { IfNone result (Contains (names p.now) row → ⊥) }
     {
-        p.show_whole();
+        p.show_whole(); // for the proof: what a problem keeps
         match row {
             RowName::Held(id) => self.rows.get(&id).copied(),
             RowName::Stay(attr) => {

@@ -7,6 +7,9 @@ ghost use Rattle.problem_core.specs.declared.parts.RowName.TheVariants.{Held};
 ghost use Rattle.problem_core.specs.Layout.{IsInConflict, sum_of};
 ghost use Rattle.problem_core.specs.Certificates.{HasSign, IsRefutation};
 ghost use Rattle.cert_core.specs.Claims.{AreBys, times_of};
+ghost use Rattle.frac_core.specs.declared.frac.TheConstants.{PART_BOUND};
+ghost use Rattle.problem_core.specs.declared.limits.TheConstants.{ROW_LIMIT};
+ghost use Rattle.cert_checker.specs.declared.refuting.TheConstants.{ROOM};
 ghost use Rattle.cert_checker.specs.LinePlaces.{AreWeighed};
 ghost use Rattle.cert_checker.specs.Refuting.{Cancels, HasRoom, IsAboveZero, IsConflictVerdict};
 ghost use Rattle.cert_checker.specs.Refuting.{IsFirstWithoutRoom};
@@ -19,17 +22,18 @@ use crate::sums::{Weighted, cancel};
 use crate::verdict::Verdict;
 use cert_core::{By, Conflict};
 use frac_core::OutOfMemory;
-use problem_core::{Problem, Rel, least_common};
+use problem_core::{Problem, REQUIRED, Rel, least_common};
 use std::alloc::Global;
 
-const ROOM: u128 = 1 << 30;
+// What the common denominator of the constants of a refutation is below, so that their sum fits in 128 bits.
+pub(crate) const ROOM: u128 = 1 << 30;
 
 /// Whether each line is a required row.
 fn are_required(p: &Problem, weighted: &[Weighted]) -> bool
     ensures { IsTrue result ↔ All (λ w. IsRequiredAt p.now w.at) weighted.now }
 {
     let rows = p.rows();
-    weighted.iter().all(|line| line.at < rows.len() && rows[line.at].rank() == 1000)
+    weighted.iter().all(|line| line.at < rows.len() && rows[line.at].rank() == REQUIRED)
 }
 
 /// Whether the relation allows the sign of the multiplier.
@@ -56,17 +60,17 @@ fn denominator(p: &Problem, at: usize) -> u128
     requires { at < length p.now.rows }
     ensures value { result ≡ den_at p.now at }
     ensures above { 0 < result }
-    ensures small { result < 2 ^ 42 }
+    ensures small { result < PART_BOUND }
 {
     let row = &p.rows()[at];
     row.constant().den() as u128
 }
 
 /// The least common denominator of the rows' constants, or the number of the first row with which it reaches
-/// 2^30.
+/// [`ROOM`].
 fn common_denominator(p: &Problem, weighted: &[Weighted]) -> Result<u128, u32>
     requires { All (λ w. IsRequiredAt p.now w.at) weighted.now }
-    ensures room { IfOk result (λ d. d < 2 ^ 30) }
+    ensures room { IfOk result (λ d. d < ROOM) }
     ensures least { IfOk result (IsLeastCommon (denominators p.now weighted.now)) }
     ensures reached { IfErr result (Reaches p.now weighted.now) }
 {
@@ -94,7 +98,7 @@ fn numerator(p: &Problem, at: usize) -> i64
 fn scaled(times: i64, num: i64, share: u128) -> i128
     requires times { IsFitting times }
     requires num { IsFitting num }
-    requires share { share < 2 ^ 30 }
+    requires share { share < ROOM }
     ensures value { result ≡ times *ℤ (num *ℤ pos share) }
     ensures small { unsigned_abs result < 2 ^ 114 }
 {
@@ -104,8 +108,8 @@ fn scaled(times: i64, num: i64, share: u128) -> i128
 /// The sum of the rows' constants, each times its multiplier, over a common denominator.
 fn constants(p: &Problem, weighted: &[Weighted], common: u128) -> i128
     requires rows { All (λ w. IsRequiredAt p.now w.at × IsFitting w.times) weighted.now }
-    requires count { length weighted.now ≤ 4096 }
-    requires room { common < 2 ^ 30 }
+    requires count { length weighted.now ≤ ROW_LIMIT }
+    requires room { common < ROOM }
     ensures { result ≡ sum_of (λ w. w.times *ℤ (num_at p.now w.at
         *ℤ pos (common / den_at p.now w.at))) weighted.now }
 {
@@ -129,7 +133,7 @@ fn cancels(
     ensures cancels { IfOk result (λ yes. IsTrue yes ↔ Cancels p.now by.now) }
     ensures rows { IfOk result (λ yes. IsTrue yes → All (λ w. IsRequiredAt p.now w.at) weighted.now) }
 {
-    p.show_whole();
+    p.show_whole(); // for the proof: what a problem keeps
     if by.is_empty() {
         return Ok(false);
     }
@@ -148,7 +152,7 @@ fn is_above_zero(p: &Problem, by: &[By], weighted: &[Weighted]) -> Result<bool, 
     ensures above { IfOk result (λ yes. IsTrue yes ↔ IsAboveZero p.now by.now) }
     ensures lost { IfErr result (IsFirstWithoutRoom p.now by.now) }
 {
-    p.show_whole();
+    p.show_whole(); // for the proof: what a problem keeps
     match common_denominator(p, weighted) {
         Ok(common) => Ok(constants(p, weighted, common) > 0),
         Err(row) => Err(row),
@@ -166,7 +170,7 @@ fn judge(
     requires weighted { AreWeighed p.now by.now weighted.now }
     ensures { IfOk result (IsConflictVerdict p.now by.now) }
 {
-    p.show_whole();
+    p.show_whole(); // for the proof: what a problem keeps
     if !cancels(alloc, p, by, weighted)? {
         return Ok(Verdict::No(6));
     }
@@ -185,14 +189,14 @@ fn judge(
 /// `No(6)`: there is none, one is not of a required row, or the rows do not cancel at each attribute.
 /// `No(7)`: a multiplier is below 0 at a `>=` or above 0 at a `<=`. `No(8)`: the sum of the constants is not
 /// above 0. Before that clause, `NoRoom` has the first row with which the constants of the rows named so far
-/// have no common denominator below 2^30.
+/// have no common denominator for which there is room.
 pub fn check_conflict(alloc: Global, p: &Problem, c: &Conflict) -> Result<Verdict, OutOfMemory>
     ensures verdict { IfOk result (IsConflictVerdict p.now c.now) }
     ensures refutes { IfOk result (λ v. v ≡ Verdict.Yes
         → IsRefutation p.now (λ id. times_of c.now (Held id))) }
     ensures conflict { IfOk result (λ v. v ≡ Verdict.Yes → IsInConflict p.now) }
 {
-    p.show_whole();
+    p.show_whole(); // for the proof: what a problem keeps
     let by = c.by();
     let places = Places::of(alloc, p)?;
     match weigh(alloc, p, &places, by)? {

@@ -64,7 +64,7 @@ fn add_line(
     ensures room { OnOk result ((v : ℕ) → unsigned_abs (sum_at sums.new v)
         ≤ unsigned_abs (sum_at sums.old v) + 2 ^ 89) }
 {
-    p.show_whole();
+    p.show_whole(); // for the proof: what a problem keeps
     let rows = p.rows();
     if at < rows.len() {
         let row = &rows[at];

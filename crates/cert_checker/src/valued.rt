@@ -3,9 +3,10 @@ ghost use Rattle.std.specs.Prelude.{◌≡◌, ℕ, ◌↔◌, pos, All, IsTrue,
 ghost use Rattle.std.specs.Ordering.{int_cmp};
 ghost use Rattle.problem_core.specs.Layout.{Assignment, Gives, HasStay, Satisfies, error, gap, line_of_row};
 ghost use Rattle.problem_core.specs.Gaps.{HasRoom, HasValue};
+ghost use Rattle.problem_core.specs.declared.limits.TheConstants.{REQUIRED};
 ghost use Rattle.cert_checker.specs.Certifying.{AreOfStays, HaveRoom, IsFirstRowWithoutRoom, is_met as meets};
 
-use problem_core::{Problem, Rel, Row, Stay, Values, gap_sign};
+use problem_core::{Problem, REQUIRED, Rel, Row, Stay, Values, gap_sign};
 use std::cmp::Ordering;
 
 fn has_value(values: &Values, attr: u32) -> bool
@@ -95,9 +96,9 @@ fn holds(row: &Row, values: &Values) -> bool
     requires values { All (λ t. HasValue values.now t.attr) row.now.terms }
     requires room { HasRoom row.now values.now }
     ensures { (x : Assignment) → Gives values.now x
-        → IsTrue result ↔ (row.now.rank ≡ 1000 → error x (line_of_row row.now) ≡ 0) }
+        → IsTrue result ↔ (row.now.rank ≡ REQUIRED → error x (line_of_row row.now) ≡ 0) }
 {
-    if row.rank() != 1000 {
+    if row.rank() != REQUIRED {
         return true;
     }
     is_met(row.rel(), row_sign(row, values))

@@ -15,7 +15,7 @@ use Rattle.claim_text.specs.declared.claim.draft.Stage.{Stage}
 use Rattle.claim_text.specs.declared.claim.draft.Stage.TheVariants.{Values, Levels, Bys, Conflict, Path}
 use Rattle.claim_text.specs.declared.claim.Claim.{Claim}
 use Rattle.claim_text.specs.declared.claim.Claim.TheVariants.{IsBest, IsConflict, IsPath}
-use Rattle.claim_text.specs.declared.stops.ReadStop.TheVariants.{BadLine}
+use Rattle.claim_text.specs.Stops.{bad_line}
 use Rattle.claim_text.specs.Words.{line_of, words}
 use Rattle.claim_text.specs.ClaimLines.{IsValue, best_lines, best_words, by_line, conflict_words, level_line, lines_of_levels, value_line}
 use Rattle.claim_text.specs.ClaimTexts.{Draft, Ends, HasBys, HasLevels, IsBestWritten, IsDraft, IsLevelRead, MayFollow, ReadFrom, Reads, Says, Step, StopsAt, closed, nothing_read, with_line}
@@ -314,7 +314,7 @@ early-leaves all d read stage c are =
     let same : whole.0 ≡ d = one_reading all nothing_read whole.0 d whole.1 read in
     open-none d c stage (subst (λ (m : Draft). Ends m c) same whole.2)
 
-stop-outside : (all : List (List ℕ)) (n : ℕ) → StopsAt all (BadLine n) → IsFirstOutside all n
+stop-outside : (all : List (List ℕ)) (n : ℕ) → StopsAt all (bad_line n) → IsFirstOutside all n
 stop-outside all n (inl bad) = record {
   before = bad.before;
   after = bad.line ∷ bad.after;
@@ -340,7 +340,7 @@ waits all d read none (Bys l) stage = absurd (none (best-of d) (whole-best d all
 waits all d read none Conflict stage = absurd (none (IsConflict d.bys) (whole-conflict d all (all-so all d read) (kept all d read) stage))
 waits all d read none (Path p) stage = absurd (none (IsPath (path_of p) p.unfit) (whole-path d all (all-so all d read) (kept all d read) p stage))
 
-outside-at : (all before after : List (List ℕ)) (n : ℕ) → all ≡ before ++ after → n ≡ length before + 1 → IsFront before → LeavesForm before after → StopsAt all (BadLine n)
+outside-at : (all before after : List (List ℕ)) (n : ℕ) → all ≡ before ++ after → n ≡ length before + 1 → IsFront before → LeavesForm before after → StopsAt all (bad_line n)
 outside-at all before [] n parts number front leaves =
     let read = front-read before front in
     let same : before ≡ all = sym (append-nil before) ∙ sym parts in
@@ -409,7 +409,7 @@ one-outside all m n h k =
 apart-outside : (all : List (List ℕ)) (c : Claim) (n : ℕ) → AreLinesOf all c → IsFirstOutside all n → ⊥
 apart-outside all c n are h = clash (outside-at all h.before h.after n h.parts h.number h.front h.leaves)
   where
-    clash : StopsAt all (BadLine n) → ⊥
+    clash : StopsAt all (bad_line n) → ⊥
     clash (inl bad) = let read = form-read all c are in no_bad_line all read.0 n read.1 bad
     clash (inr early) = early-leaves all early.so_far early.reads early.waits c are
 

@@ -19,8 +19,8 @@ use Rattle.claim_text.specs.declared.claim.draft.Stage.{Stage}
 use Rattle.claim_text.specs.declared.claim.draft.Stage.TheVariants.{Values, Levels, Bys, Conflict, Path}
 use Rattle.claim_text.specs.declared.claim.Claim.{Claim}
 use Rattle.claim_text.specs.declared.claim.Claim.TheVariants.{IsBest, IsConflict, IsPath}
-use Rattle.claim_text.specs.declared.stops.ReadStop.{ReadStop}
-use Rattle.claim_text.specs.declared.stops.ReadStop.TheVariants.{BadLine, OutOfMemory}
+use Rattle.claim_text.specs.Stops.{ReadStop, bad_line}
+use Rattle.frac_core.specs.declared.memory.Stop.TheVariants.{OutOfMemory, Refused}
 use Rattle.claim_text.specs.Words.{line_of}
 use Rattle.claim_text.specs.ClaimLines.{value_words, level_words, by_words, best_words, conflict_words, value_line, level_line, by_line, lines_of_levels, claim_lines, claim_text, IsValue, IsLevelLine, IsBy}
 use Rattle.claim_text.specs.Names.{row_word, level_word, IsRowName, IsLevelName}
@@ -412,19 +412,19 @@ read_is c d text read is text_is =
     ends_one written.0 c d written.2 (rw same at read.2)
 
 pub stop_is : (c : Claim) (stop : ReadStop) (text : List ℕ) → StopsAt (lines text) stop → IsWritten c → text ≡ claim_text c → stop ≡ OutOfMemory
-stop_is c (BadLine n) text (inl bad) is text_is =
+stop_is c (Refused bad_at) text (inl bad) is text_is =
     let written : Reads (lines text) c = rw text_is (reads_back c is) in
-    absurd (no_bad_line (lines text) written.0 n written.1 bad)
-stop_is c (BadLine n) text (inr early) is text_is =
+    absurd (no_bad_line (lines text) written.0 bad_at.0 written.1 bad)
+stop_is c (Refused bad_at) text (inr early) is text_is =
     let written : Reads (lines text) c = rw text_is (reads_back c is) in
     let same : early.so_far ≡ written.0 = one_reading (lines text) nothing_read early.so_far written.0 early.reads written.1 in
     absurd (never_open written.0 c written.2 (rw same at early.waits))
 stop_is c OutOfMemory text at is text_is = refl
 
 pub lines_stop_is : (c : Claim) (stop : ReadStop) (text : List ℕ) → LinesStopAt (lines text) stop → IsWritten c → text ≡ claim_text c → stop ≡ OutOfMemory
-lines_stop_is c (BadLine n) text bad is text_is = stop_is c (BadLine n) text (inl bad) is text_is
+lines_stop_is c (Refused bad_at) text bad is text_is = stop_is c (Refused bad_at) text (inl bad) is text_is
 lines_stop_is c OutOfMemory text at is text_is = refl
 
-pub not_early : (c : Claim) (text : List ℕ) (d : Draft) (count : ℕ) → IsRead (lines text) d count → d.stage ≡ Values → IsWritten c → text ≡ claim_text c → BadLine (count + 1) ≡ OutOfMemory
+pub not_early : (c : Claim) (text : List ℕ) (d : Draft) (count : ℕ) → IsRead (lines text) d count → d.stage ≡ Values → IsWritten c → text ≡ claim_text c → bad_line (count + 1) ≡ OutOfMemory
 not_early c text d count read waits is text_is =
-    stop_is c (BadLine (count + 1)) text (inr (record { number = omega (arith, read.count_is); so_far = d; reads = read.reads; waits = waits })) is text_is
+    stop_is c (bad_line (count + 1)) text (inr (record { number = omega (arith, read.count_is); so_far = d; reads = read.reads; waits = waits })) is text_is

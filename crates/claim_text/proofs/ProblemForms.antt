@@ -12,7 +12,7 @@ use Rattle.problem_core.specs.Kept.{IsRow, IsStay}
 use Rattle.problem_core.specs.Layout.{HasStay, IsCovered, Problem, Row}
 use Rattle.claim_text.specs.declared.problem.items.Item.{Item}
 use Rattle.claim_text.specs.declared.problem.items.Item.TheVariants.{Nothing, OfRow, OfStay}
-use Rattle.claim_text.specs.declared.stops.ReadStop.TheVariants.{BadLine}
+use Rattle.claim_text.specs.Stops.{bad_line}
 use Rattle.claim_text.specs.Words.{line_of, words}
 use Rattle.claim_text.specs.Lines.{row_line, row_words, stay_line, stay_words}
 use Rattle.claim_text.specs.Problems.{HasStayLine, IsPassedOver, MayFollow, ReadFrom, Reads, Says, Step, StopsAt, nothing_read, with_item}
@@ -268,7 +268,7 @@ bad-leaves all before line d read bad (p, are, shows) =
     let same : cut.0 ≡ d = one_reading (HasStayLine all) before nothing_read cut.0 d cut.1 read in
     bad cut.2.0 (subst (λ (m : Problem). Step (HasStayLine all) m line cut.2.0) same cut.2.1)
 
-stop-outside : (all : List (List ℕ)) (n : ℕ) → StopsAt all (BadLine n) → IsFirstOutsideProblem all n
+stop-outside : (all : List (List ℕ)) (n : ℕ) → StopsAt all (bad_line n) → IsFirstOutsideProblem all n
 stop-outside all n bad = record {
   before = bad.before;
   line = bad.line;
@@ -279,7 +279,7 @@ stop-outside all n bad = record {
   leaves = bad-leaves all bad.before bad.line bad.so_far bad.reads bad.bad;
 }
 
-outside-stop : (all : List (List ℕ)) (n : ℕ) → IsFirstOutsideProblem all n → StopsAt all (BadLine n)
+outside-stop : (all : List (List ℕ)) (n : ℕ) → IsFirstOutsideProblem all n → StopsAt all (bad_line n)
 outside-stop all n h =
     let p : Problem = h.front.0 in
     let read : ReadFrom (HasStayLine all) nothing_read h.before p = front-read all h.before p h.front.1 h.front.2 in

@@ -12,8 +12,8 @@ use Rattle.claim_text.specs.declared.problem.items.Item.TheVariants.{OfRow, OfSt
 use Rattle.claim_text.specs.Words.{words}
 use Rattle.claim_text.specs.Lines.{row_words, stay_words, row_line, stay_line, problem_text}
 use Rattle.claim_text.specs.Problems.{with_item, Step, ReadFrom, Reads, nothing_read, HasStayLine, IsFirstBad, StopsAt}
-use Rattle.claim_text.specs.declared.stops.ReadStop.{ReadStop}
-use Rattle.claim_text.specs.declared.stops.ReadStop.TheVariants.{BadLine, OutOfMemory}
+use Rattle.claim_text.specs.Stops.{ReadStop}
+use Rattle.frac_core.specs.declared.memory.Stop.TheVariants.{OutOfMemory, Refused}
 use Rattle.claim_text.proofs.Same.{one_item}
 use Rattle.claim_text.proofs.Rising.{All-front, AllPairs-front, All-last, All-at_end}
 use Rattle.claim_text.proofs.StayAttributes.{HasStayLine-right}
@@ -164,5 +164,5 @@ read_is p q text read whole rows stays is =
     one_reading (HasStayLine (lines (problem_text p))) (lines (problem_text p)) nothing_read q p (rw all at read) (reads_back p whole rows stays)
 
 pub stop_is : (p : Problem) (stop : ReadStop) (text : List ℕ) → StopsAt (lines text) stop → IsWhole p → length p.rows ≤ 2001 → length p.stays ≤ 800 → text ≡ problem_text p → stop ≡ OutOfMemory
-stop_is p (BadLine n) text at whole rows stays is = absurd (no_bad_line (lines text) p n (rw is (reads_back p whole rows stays)) at)
+stop_is p (Refused bad) text at whole rows stays is = absurd (no_bad_line (lines text) p bad.0 (rw is (reads_back p whole rows stays)) at)
 stop_is p OutOfMemory text at whole rows stays is = refl

@@ -1,7 +1,7 @@
 -- Which lines are claims, and which line is the first outside the form: without a reader.
 use Rattle.std.specs.Prelude.{◌≡◌, ℕ, ◌+◌, List, [], ◌∷◌, ◌++◌, length}
 use Rattle.claim_text.specs.declared.claim.Claim.{Claim}
-use Rattle.claim_text.specs.declared.stops.ReadStop.TheVariants.{BadLine}
+use Rattle.claim_text.specs.Stops.{bad_line}
 use Rattle.claim_text.specs.ClaimLines.{claim_lines}
 use Rattle.claim_text.specs.ClaimTexts.{IsWritten, Reads, StopsAt}
 
@@ -32,7 +32,7 @@ pub record IsFirstOutside (all : List (List ℕ)) (n : ℕ) : Type 0 where
 pub record ClaimsAreTheForm : Type 0 where
   pub read : (all : List (List ℕ)) (c : Claim) → Reads all c → AreLinesOf all c
   pub form : (all : List (List ℕ)) (c : Claim) → AreLinesOf all c → Reads all c
-  pub stop : (all : List (List ℕ)) (n : ℕ) → StopsAt all (BadLine n) → IsFirstOutside all n
-  pub outside : (all : List (List ℕ)) (n : ℕ) → IsFirstOutside all n → StopsAt all (BadLine n)
+  pub stop : (all : List (List ℕ)) (n : ℕ) → StopsAt all (bad_line n) → IsFirstOutside all n
+  pub outside : (all : List (List ℕ)) (n : ℕ) → IsFirstOutside all n → StopsAt all (bad_line n)
   pub one : (all : List (List ℕ)) (m n : ℕ) → IsFirstOutside all m → IsFirstOutside all n → m ≡ n
   pub apart : (all : List (List ℕ)) (c : Claim) (n : ℕ) → AreLinesOf all c → IsFirstOutside all n → ⊥

@@ -10,8 +10,8 @@ use Rattle.claim_text.specs.declared.claim.draft.Stage.{Stage}
 use Rattle.claim_text.specs.declared.claim.draft.Stage.TheVariants.{Values, Levels, Bys, Conflict, Path}
 use Rattle.claim_text.specs.declared.claim.Claim.{Claim}
 use Rattle.claim_text.specs.declared.claim.Claim.TheVariants.{IsBest, IsConflict, IsPath}
-use Rattle.claim_text.specs.declared.stops.ReadStop.{ReadStop}
-use Rattle.claim_text.specs.declared.stops.ReadStop.TheVariants.{BadLine, OutOfMemory}
+use Rattle.claim_text.specs.Stops.{ReadStop}
+use Rattle.frac_core.specs.declared.memory.Stop.TheVariants.{OutOfMemory, Refused}
 use Rattle.claim_text.specs.Words.{words}
 use Rattle.claim_text.specs.ClaimLines.{value_words, level_words, by_words, best_words, conflict_words}
 use Rattle.claim_text.specs.ClaimLines.{IsValue, IsLevelLine, IsBy}
@@ -167,7 +167,7 @@ pub record EndsEarly (all : List (List ℕ)) (n : ℕ) : Type 0 where
 
 -- where the text stops to be a claim, unless memory was wanting
 abbrev pub StopsAt : List (List ℕ) → ReadStop → Type 0
-StopsAt all (BadLine n) = IsFirstBad all n ⊎ EndsEarly all n
+StopsAt all (Refused bad) = IsFirstBad all bad.0 ⊎ EndsEarly all bad.0
 StopsAt all OutOfMemory = Unit {0}
 
 -- ---- what the reader of lines tells
@@ -177,7 +177,7 @@ pub record IsRead (all : List (List ℕ)) (draft : Draft) (count : ℕ) : Type 0
   pub count_is : count ≡ length all
 
 abbrev pub LinesStopAt : List (List ℕ) → ReadStop → Type 0
-LinesStopAt all (BadLine n) = IsFirstBad all n
+LinesStopAt all (Refused bad) = IsFirstBad all bad.0
 LinesStopAt all OutOfMemory = Unit {0}
 
 -- ---- what a draft keeps

@@ -1,4 +1,5 @@
 pub mod Words
+pub mod Stops
 pub mod Lines
 pub mod Problems
 pub mod Sets

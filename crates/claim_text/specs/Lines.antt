@@ -1,5 +1,5 @@
 -- The words of the lines of problems.
-use Rattle.std.specs.Prelude.{ℕ, ◌<◌, ◌≤◌, ◌^◌, List, [], ◌∷◌, ◌++◌, length, map, All, AllPairs, codes}
+use Rattle.std.specs.Prelude.{ℕ, ◌<◌, ◌≤◌, List, [], ◌∷◌, ◌++◌, length, map, All, AllPairs, codes}
 use Rattle.std.specs.Prelude.{decimal}
 use Rattle.std.specs.Fmt.{signed_decimal}
 use Rattle.frac_core.specs.Fraction.{IsKept}
@@ -9,6 +9,8 @@ use Rattle.problem_core.specs.declared.parts.Rel.TheVariants.{Eq, Le, Ge}
 use Rattle.problem_core.specs.declared.parts.Term.{Term}
 use Rattle.problem_core.specs.declared.parts.Stay.{Stay}
 use Rattle.problem_core.specs.Kept.{IsNumber, IsTerm}
+use Rattle.problem_core.specs.declared.limits.TheConstants.{COEFFICIENT_LIMIT, REQUIRED, TERM_LIMIT}
+use Rattle.problem_core.specs.declared.limits.TheConstants.{WEIGHT_LIMIT}
 use Rattle.problem_core.specs.Layout.{Row, Problem}
 use Rattle.claim_text.specs.Words.{line_of}
 use Rattle.claim_text.specs.declared.problem.row_lines.Head.{Head}
@@ -38,18 +40,18 @@ head_words h = codes "row" ∷ decimal h.id ∷ decimal h.rank ∷ decimal h.wei
 
 pub record IsHead (h : Head) : Type 0 where
   pub number : IsNumber h.id
-  pub rank : h.rank ≤ 1000
+  pub rank : h.rank ≤ REQUIRED
   pub weight_above : 1 ≤ h.weight
-  pub weight : h.weight ≤ 1000
+  pub weight : h.weight ≤ WEIGHT_LIMIT
   pub scale_above : 1 ≤ h.scale
-  pub scale : h.scale ≤ 2 ^ 30
+  pub scale : h.scale ≤ COEFFICIENT_LIMIT
   pub constant : IsKept h.constant
 
--- the terms of a row: at most 32, their attributes rise
+-- the terms of a row: not too many, and their attributes rise
 pub record AreTerms (terms : List Term) : Type 0 where
   pub each : All IsTerm terms
   pub rising : AllPairs (λ s t. s.attr < t.attr) terms
-  pub count : length terms ≤ 32
+  pub count : length terms ≤ TERM_LIMIT
 
 -- the row of these parts
 abbrev pub row_from : Head → List Term → Row

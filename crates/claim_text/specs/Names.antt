@@ -5,6 +5,7 @@ use Rattle.problem_core.specs.declared.parts.RowName.TheVariants.{Held, Stay as 
 use Rattle.problem_core.specs.declared.parts.Level.{Level}
 use Rattle.problem_core.specs.declared.parts.Level.TheVariants.{Priority, Stay as StayLevel}
 use Rattle.problem_core.specs.Kept.{IsNumber}
+use Rattle.problem_core.specs.declared.limits.TheConstants.{REQUIRED}
 
 -- a row by its number, or the row of an attribute's stay behind an `s`
 abbrev pub row_word : RowName → List ℕ
@@ -21,7 +22,7 @@ IsRowName (Held id) = IsNumber id
 IsRowName (StayRow attr) = IsNumber attr
 
 abbrev pub IsLevelName : Level → Type 0
-IsLevelName (Priority rank) = rank ≤ 1000
+IsLevelName (Priority rank) = rank ≤ REQUIRED
 IsLevelName (StayLevel attr) = IsNumber attr
 
 -- rows rise and come before the stays, which are different

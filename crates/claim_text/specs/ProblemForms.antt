@@ -3,7 +3,8 @@ use Rattle.std.specs.Prelude.{◌≡◌, ◌≢◌, ◌⊎◌, ℕ, ◌+◌, ◌
 use Rattle.std.specs.Prelude.{AllPairs}
 use Rattle.problem_core.specs.Kept.{IsRow, IsStay, IsWhole}
 use Rattle.problem_core.specs.Layout.{Problem}
-use Rattle.claim_text.specs.declared.stops.ReadStop.TheVariants.{BadLine}
+use Rattle.claim_text.specs.declared.limits.TheConstants.{TEXT_ROW_LIMIT, TEXT_STAY_LIMIT}
+use Rattle.claim_text.specs.Stops.{bad_line}
 use Rattle.claim_text.specs.Lines.{row_line, stay_line}
 use Rattle.claim_text.specs.Problems.{HasStayLine, IsPassedOver, Reads, StopsAt}
 
@@ -17,10 +18,10 @@ Shows [] wanted = wanted ≡ []
 Shows (line ∷ more) wanted = (IsPassedOver line × Shows more wanted)
     ⊎ ((rest : List (List ℕ)) × (wanted ≡ line ∷ rest) × Shows more rest)
 
--- at most 2,001 rows and 800 stays
+-- no more rows and stays than a text may have
 pub record IsSmall (p : Problem) : Type 0 where
-  pub rows : length p.rows ≤ 2001
-  pub stays : length p.stays ≤ 800
+  pub rows : length p.rows ≤ TEXT_ROW_LIMIT
+  pub stays : length p.stays ≤ TEXT_STAY_LIMIT
 
 -- the problem is one that the types can hold, and these are its lines
 pub record AreProblemLines (all : List (List ℕ)) (p : Problem) : Type 0 where
@@ -56,8 +57,8 @@ pub record IsFirstOutsideProblem (all : List (List ℕ)) (n : ℕ) : Type 0 wher
 pub record ProblemsAreTheForm : Type 0 where
   pub read : (all : List (List ℕ)) (p : Problem) → Reads all p → AreProblemLines all p
   pub form : (all : List (List ℕ)) (p : Problem) → AreProblemLines all p → Reads all p
-  pub stop : (all : List (List ℕ)) (n : ℕ) → StopsAt all (BadLine n) → IsFirstOutsideProblem all n
-  pub outside : (all : List (List ℕ)) (n : ℕ) → IsFirstOutsideProblem all n → StopsAt all (BadLine n)
+  pub stop : (all : List (List ℕ)) (n : ℕ) → StopsAt all (bad_line n) → IsFirstOutsideProblem all n
+  pub outside : (all : List (List ℕ)) (n : ℕ) → IsFirstOutsideProblem all n → StopsAt all (bad_line n)
   pub one : (all : List (List ℕ)) (m n : ℕ) → IsFirstOutsideProblem all m → IsFirstOutsideProblem all n
       → m ≡ n
   pub apart : (all : List (List ℕ)) (p : Problem) (n : ℕ) → AreProblemLines all p

@@ -6,8 +6,9 @@ use Rattle.problem_core.specs.Kept.{IsRow, IsStay}
 use Rattle.problem_core.specs.Layout.{Row, Problem}
 use Rattle.claim_text.specs.declared.problem.items.Item.{Item}
 use Rattle.claim_text.specs.declared.problem.items.Item.TheVariants.{Nothing, OfRow, OfStay}
-use Rattle.claim_text.specs.declared.stops.ReadStop.{ReadStop}
-use Rattle.claim_text.specs.declared.stops.ReadStop.TheVariants.{BadLine, OutOfMemory}
+use Rattle.claim_text.specs.declared.limits.TheConstants.{TEXT_ROW_LIMIT, TEXT_STAY_LIMIT}
+use Rattle.claim_text.specs.Stops.{ReadStop}
+use Rattle.frac_core.specs.declared.memory.Stop.TheVariants.{OutOfMemory, Refused}
 use Rattle.claim_text.specs.Words.{words}
 use Rattle.claim_text.specs.Lines.{row_words, stay_words}
 
@@ -26,11 +27,11 @@ pub record RowMayFollow (HasStay : ℕ → Type 0) (old : Problem) (r : Row) : T
   pub first : old.stays ≡ []
   pub rises : All (λ q. q.id < r.id) old.rows
   pub covered : All (λ t. HasStay t.attr) r.terms
-  pub room : length old.rows < 2001
+  pub room : length old.rows < TEXT_ROW_LIMIT
 
 pub record StayMayFollow (old : Problem) (s : Stay) : Type 0 where
   pub fresh : All (λ q. q.attr ≢ s.attr) old.stays
-  pub room : length old.stays < 800
+  pub room : length old.stays < TEXT_STAY_LIMIT
 
 abbrev pub MayFollow : (ℕ → Type 0) → Problem → Item → Type 0
 MayFollow HasStay old Nothing = Unit {0}
@@ -87,5 +88,5 @@ pub record IsFirstBad (all : List (List ℕ)) (n : ℕ) : Type 0 where
 
 -- where the text stops to be a problem, unless memory was wanting
 abbrev pub StopsAt : List (List ℕ) → ReadStop → Type 0
-StopsAt all (BadLine n) = IsFirstBad all n
+StopsAt all (Refused bad) = IsFirstBad all bad.0
 StopsAt all OutOfMemory = Unit {0}

@@ -1,10 +1,11 @@
 // The cut of the input of a check into a problem and a claim.
-ghost use Rattle.std.specs.Prelude.{◌≡◌, ◌<◌, ◌≤◌, ◌^◌, ◌++◌, ◌∷◌, [], All, List, ℕ, length, take, drop};
+ghost use Rattle.std.specs.Prelude.{◌≡◌, ◌<◌, ◌≤◌, ◌++◌, ◌∷◌, [], All, List, ℕ, length, take, drop};
 ghost use Rattle.std.specs.Prelude.{codes, IsTrue, ◌↔◌, MatchOption};
 ghost use Rattle.std.specs.Str.Lines.{lines};
 ghost use Rattle.span_text.specs.Words.{words_of};
 ghost use Rattle.claim_text.specs.Cut.{IsClaimWord, BeginsClaim, IsClaimStart, IsWithoutOk, IsCut, ok_line};
 ghost use Rattle.claim_text.specs.CutLines.{IsLineLength, IsLastStart, IsPlace};
+ghost use Rattle.claim_text.specs.declared.limits.TheConstants.{TEXT_LIMIT};
 
 use crate::words::first_part;
 use span_text::{first_word, lines};
@@ -67,7 +68,7 @@ struct ClaimStart {
 
 // The first line with which a claim may begin.
 fn claim_start(input: &[u8]) -> ClaimStart
-    requires { length input.now < 2 ^ 31 }
+    requires { length input.now < TEXT_LIMIT }
     ensures place { IsPlace input.now result.at result.count }
     ensures starts { IsClaimStart (lines (drop result.at input.now)) }
 {
@@ -128,7 +129,7 @@ fn without_ok(text: &[u8]) -> &[u8]
 /// Cuts the input of a check: the problem is what stands before the first line whose first word is `value`,
 /// `best`, `conflict` or `path`, and the claim is the rest without an ending line `ok`.
 pub fn cut_input(input: &[u8]) -> CheckInput<'_>
-    requires { length input.now < 2 ^ 31 }
+    requires { length input.now < TEXT_LIMIT }
     ensures cut { IsCut (lines input.now) (lines result.problem.now) (lines result.claim.now) }
     ensures count { result.lines_before ≡ length (lines result.problem.now) }
     ensures problem_short { length result.problem.now ≤ length input.now }

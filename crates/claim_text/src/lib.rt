@@ -30,13 +30,14 @@
 //! and of stays, `problem::draft` while they are read, `problem::reader`, `problem::writer`); `claim` (the
 //! type, `claim::lines` and `claim::path_lines`, `claim::draft` and `claim::path_draft` while they are read,
 //! `claim::order`, `claim::reader`, `claim::writer`, `claim::path_writer`); `cut` (the input of a check);
-//! `stops` (why a text was not read); `form_laws`.
+//! `limits` and `stops` (why a text was not read); `form_laws`.
 #![tactic(auto)]
 
 mod claim;
 mod cut;
 mod fields;
 mod form_laws;
+mod limits;
 mod numbers;
 mod problem;
 mod stops;
@@ -48,6 +49,7 @@ pub use claim::reader::read_claim;
 pub use claim::writer::{best_text, cert_text, conflict_text};
 pub use cut::{CheckInput, cut_input};
 pub use form_laws::{claims_are_the_form, problems_are_the_form, some_lines_are_outside};
+pub use limits::{TEXT_LIMIT, TEXT_ROW_LIMIT, TEXT_STAY_LIMIT};
 pub use problem::reader::read_problem;
 pub use problem::writer::{problem_text, rows_text};
-pub use stops::ReadStop;
+pub use stops::{BadLine, ReadStop};

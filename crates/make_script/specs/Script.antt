@@ -1,6 +1,10 @@
 -- The script that is made for a seed: lines for many views, drawn one after the other.
 use Rattle.std.specs.Prelude.{ℕ, zero, suc, ◌+◌, ◌-◌, List, [], ◌∷◌, ◌++◌, codes, decimal}
 use Rattle.make_script.specs.Draws.{next, drawn}
+use Rattle.make_script.specs.declared.texts.TheConstants.{HEIGHT_BOUND, LEAST_HEIGHT, LEAST_PRIORITY}
+use Rattle.make_script.specs.declared.texts.TheConstants.{LEAST_SUGGESTION, LEAST_WIDTH, LEFT_BOUND}
+use Rattle.make_script.specs.declared.texts.TheConstants.{MORE_BOUND, PRIORITY_BOUND, SUGGESTION_BOUND}
+use Rattle.make_script.specs.declared.texts.TheConstants.{WIDTH_BOUND}
 use Rattle.make_script.specs.declared.part.Part.{Part}
 use Rattle.make_script.specs.declared.part.Part.TheVariants.{Views, Sizes, Stacks, Widths, Suggestions}
 
@@ -34,11 +38,12 @@ suggestion_line i width = codes "suggest v" ++ (decimal i ++ (codes ".width " ++
 -- the line of a part for the view of this number, drawn from this state
 abbrev pub line_of : Part → ℕ → ℕ → List ℕ
 line_of Views i s = view_line i
-line_of Sizes i s = size_line i (drawn 50 (next s)) (10 + drawn 200 (next (next s)))
-    (100 + drawn 800 (next (next (next s))))
-line_of Stacks i s = stack_line i (10 + drawn 90 (next s))
-line_of Widths i s = width_line i (drawn 20 (next s)) (100 + drawn 800 (next (next s)))
-line_of Suggestions i s = suggestion_line i (50 + drawn 100 (next s))
+line_of Sizes i s = size_line i (drawn LEFT_BOUND (next s)) (LEAST_WIDTH + drawn WIDTH_BOUND (next (next s)))
+    (LEAST_PRIORITY + drawn PRIORITY_BOUND (next (next (next s))))
+line_of Stacks i s = stack_line i (LEAST_HEIGHT + drawn HEIGHT_BOUND (next s))
+line_of Widths i s = width_line i (drawn MORE_BOUND (next s))
+    (LEAST_PRIORITY + drawn PRIORITY_BOUND (next (next s)))
+line_of Suggestions i s = suggestion_line i (LEAST_SUGGESTION + drawn SUGGESTION_BOUND (next s))
 
 -- the state after that line
 abbrev pub state_after : Part → ℕ → ℕ

@@ -6,20 +6,20 @@ use crate::part::Part;
 use crate::texts::put_line;
 use frac_core::OutOfMemory;
 
-// Appends a part for so many views from the first on, and says at which state it ends.
+// Appends a part for so many views from a number on, and says at which state it ends.
 fn put_part(
     text: &mut String,
     part: Part,
-    first: u32,
+    from_view: u32,
     count: u32,
     state: u64,
 ) -> Result<u64, OutOfMemory>
-    requires { 0 < first }
+    requires { 0 < from_view }
     ensures text { IfOk result (λ _.
-        string_bytes text.new ≡ string_bytes text.old ++ part_of part count first state) }
+        string_bytes text.new ≡ string_bytes text.old ++ part_of part count from_view state) }
     ensures state { IfOk result (λ end. end ≡ after part count state) }
 {
-    let begin = u64::from(first);
+    let begin = u64::from(from_view);
     let mut now = state;
     for i in begin..begin + u64::from(count) {
         put_line(text, part, i, now)?;

@@ -7,6 +7,34 @@ use crate::draws::{draw, next_state};
 use crate::part::Part;
 use frac_core::OutOfMemory;
 
+// What is drawn is a least number, 0 where none is said, and one below a bound more.
+
+// How far a view is from the left.
+const LEFT_BOUND: u64 = 50;
+
+// The width of a view.
+const LEAST_WIDTH: u64 = 10;
+
+const WIDTH_BOUND: u64 = 200;
+
+// The height of a view.
+const LEAST_HEIGHT: u64 = 10;
+
+const HEIGHT_BOUND: u64 = 90;
+
+// By how much a view is wider than the one before.
+const MORE_BOUND: u64 = 20;
+
+// The priority of a line.
+const LEAST_PRIORITY: u64 = 100;
+
+const PRIORITY_BOUND: u64 = 800;
+
+// The width that is suggested of a view.
+const LEAST_SUGGESTION: u64 = 50;
+
+const SUGGESTION_BOUND: u64 = 100;
+
 #[tactic(auto, unfolding(crate::specs::Script::view_line))]
 fn put_view(text: &mut String, i: u64) -> Result<(), OutOfMemory>
     ensures { IfOk result (λ _. string_bytes text.new ≡ string_bytes text.old ++ view_line i) }
@@ -68,12 +96,21 @@ pub(crate) fn put_line(text: &mut String, part: Part, i: u64, state: u64) -> Res
         Part::Sizes => put_size(
             text,
             i,
-            draw(50, first),
-            10 + draw(200, second),
-            100 + draw(800, third),
+            draw(LEFT_BOUND, first),
+            LEAST_WIDTH + draw(WIDTH_BOUND, second),
+            LEAST_PRIORITY + draw(PRIORITY_BOUND, third),
         ),
-        Part::Stacks => put_stack(text, i, 10 + draw(90, first)),
-        Part::Widths => put_width(text, i, draw(20, first), 100 + draw(800, second)),
-        Part::Suggestions => put_suggestion(text, i, 50 + draw(100, first)),
+        Part::Stacks => put_stack(text, i, LEAST_HEIGHT + draw(HEIGHT_BOUND, first)),
+        Part::Widths => put_width(
+            text,
+            i,
+            draw(MORE_BOUND, first),
+            LEAST_PRIORITY + draw(PRIORITY_BOUND, second),
+        ),
+        Part::Suggestions => put_suggestion(
+            text,
+            i,
+            LEAST_SUGGESTION + draw(SUGGESTION_BOUND, first),
+        ),
     }
 }

@@ -7,6 +7,8 @@ use Rattle.clap.specs.Words.{new_rule, with_rule}
 use Rattle.clap.specs.declared.builder.action.ArgAction.TheVariants.{Append}
 use Rattle.program_words.specs.declared.mode.Mode.{Mode}
 use Rattle.program_words.specs.declared.mode.Mode.TheVariants.{Run, Check, Make}
+use Rattle.program_words.specs.declared.numbers.TheConstants.{LEAST_VIEWS, MOST_VIEWS, SEED_DIGITS}
+use Rattle.program_words.specs.declared.numbers.TheConstants.{VIEWS_DIGITS}
 
 -- ---- the command
 
@@ -29,9 +31,9 @@ pub record IsWritten (most : ℕ) (word : Text) (n : ℕ) : Type 0 where
   pub value : n ≡ digits_value 10 word
   pub small : n < 2 ^ 64
 
--- one to three digits that write a number from 2 to 120
+-- no more digits than a number of views has, which write a number of views of a script
 abbrev pub AreViews : Text → ℕ → Type 0
-AreViews word n = IsWritten 3 word n × (2 ≤ n) × (n ≤ 120)
+AreViews word n = IsWritten VIEWS_DIGITS word n × (LEAST_VIEWS ≤ n) × (n ≤ MOST_VIEWS)
 
 -- ---- modes
 
@@ -40,7 +42,7 @@ abbrev pub Says : Text → List Text → Mode → Type 0
 Says name numbers Run = (name ≡ codes "run") × (numbers ≡ [])
 Says name numbers Check = (name ≡ codes "check") × (numbers ≡ [])
 Says name numbers (Make seed views) = (name ≡ codes "make") × (s v : Text) × (numbers ≡ s ∷ v ∷ [])
-    × IsWritten 20 s seed × AreViews v views
+    × IsWritten SEED_DIGITS s seed × AreViews v views
 
 -- what is found for MODE and the NUMBERs says the mode
 abbrev pub IsFound : List Row → Mode → Type 0

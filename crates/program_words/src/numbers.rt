@@ -1,6 +1,7 @@
 // Numbers as words.
 ghost use Rattle.std.specs.Prelude.{◌≡◌, ℕ, IfSome, IfNone, IsTrue, ◌↔◌, slice_index};
 ghost use Rattle.program_words.specs.Words.{IsWritten, AreViews};
+ghost use Rattle.program_words.specs.declared.numbers.TheConstants.{SEED_DIGITS};
 
 /// The most digits of a seed.
 const SEED_DIGITS: usize = 20;
@@ -33,8 +34,8 @@ fn number(word: &str, most: usize) -> Option<u64>
 
 /// The seed that a word writes.
 pub(crate) fn seed_of(word: &str) -> Option<u64>
-    ensures some { IfSome result (IsWritten 20 word.now) }
-    ensures none { IfNone result ((n : ℕ) → IsWritten 20 word.now n → ⊥) }
+    ensures some { IfSome result (IsWritten SEED_DIGITS word.now) }
+    ensures none { IfNone result ((n : ℕ) → IsWritten SEED_DIGITS word.now n → ⊥) }
 {
     number(word, SEED_DIGITS)
 }

@@ -1,13 +1,13 @@
 // Whole texts: lines, problems, claims, and both together.
 use case_text::put_text;
-use claim_text::{Claim, ReadStop, cert_text, cut_input, problem_text, read_claim, read_problem};
-use frac_core::OutOfMemory;
+use claim_text::{
+    BadLine, Claim, ReadStop, TEXT_LIMIT, cert_text, cut_input, problem_text, read_claim,
+    read_problem,
+};
+use frac_core::{OutOfMemory, Stop};
 use problem_core::Problem;
 use span_text::lines;
 use std::alloc::Global;
-
-/// The greatest length of a text that is read.
-const LIMIT: usize = 1 << 20;
 
 /// Appends the lines of a text, each with its place.
 pub fn put_lines(out: &mut String, text: &[u8]) -> Result<(), OutOfMemory> {
@@ -21,8 +21,8 @@ pub fn put_lines(out: &mut String, text: &[u8]) -> Result<(), OutOfMemory> {
 
 fn put_stop(out: &mut String, stop: ReadStop) -> Result<(), OutOfMemory> {
     match stop {
-        ReadStop::BadLine(line) => Ok(writeln!(out, "bad {line}")?),
-        ReadStop::OutOfMemory => Err(OutOfMemory),
+        Stop::Refused(BadLine(line)) => Ok(writeln!(out, "bad {line}")?),
+        Stop::OutOfMemory => Err(OutOfMemory),
     }
 }
 
@@ -36,8 +36,8 @@ fn put_written(alloc: Global, out: &mut String, problem: &Problem) -> Result<(),
 
 // A problem as it is read. Its length is tested before.
 fn problem_of(alloc: Global, text: &[u8]) -> Result<Problem, ReadStop> {
-    if text.len() > LIMIT {
-        return Err(ReadStop::OutOfMemory);
+    if text.len() >= TEXT_LIMIT {
+        return Err(Stop::OutOfMemory);
     }
     read_problem(alloc, text)
 }
@@ -52,8 +52,8 @@ pub fn put_problem(alloc: Global, out: &mut String, text: &[u8]) -> Result<(), O
 
 // A claim as it is read. Its length is tested before.
 fn claim_of(alloc: Global, text: &[u8]) -> Result<Claim, ReadStop> {
-    if text.len() > LIMIT {
-        return Err(ReadStop::OutOfMemory);
+    if text.len() >= TEXT_LIMIT {
+        return Err(Stop::OutOfMemory);
     }
     read_claim(alloc, text)
 }
@@ -84,7 +84,7 @@ pub fn put_claim(alloc: Global, out: &mut String, text: &[u8]) -> Result<(), Out
 
 /// Appends the problem and the claim of a text.
 pub fn put_cut(out: &mut String, text: &[u8]) -> Result<(), OutOfMemory> {
-    if text.len() > LIMIT {
+    if text.len() >= TEXT_LIMIT {
         return Ok(());
     }
     let cut = cut_input(text);

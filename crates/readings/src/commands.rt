@@ -1,9 +1,9 @@
 // Lines of a script: their readings, part by part.
 use crate::formats::put_written;
 use case_text::{put_text, relation_text};
-use frac_core::{Frac, OutOfMemory};
-use script_text::{Align, AttrWord, Command, ExprTerm, LineStop, Linear, Operand, read_line};
-use span_text::Object;
+use frac_core::{Frac, OutOfMemory, Stop};
+use script_text::{Align, AttrWord, Command, ExprTerm, Linear, Operand, read_line};
+use span_text::{Object, SyntaxAt};
 use std::alloc::Global;
 
 fn align_name(align: Align) -> &'static str {
@@ -166,7 +166,7 @@ fn put_command(alloc: Global, out: &mut String, command: &Command<'_>) -> Result
 pub fn put_line(alloc: Global, out: &mut String, line: &[u8]) -> Result<(), OutOfMemory> {
     match read_line(alloc, line) {
         Ok(command) => put_command(alloc, out, &command),
-        Err(LineStop::SyntaxAt(at)) => Ok(writeln!(out, "syntax {at}")?),
-        Err(LineStop::OutOfMemory) => Err(OutOfMemory),
+        Err(Stop::Refused(SyntaxAt(at))) => Ok(writeln!(out, "syntax {at}")?),
+        Err(Stop::OutOfMemory) => Err(OutOfMemory),
     }
 }

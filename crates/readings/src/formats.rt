@@ -1,8 +1,9 @@
 // Formats: their own text and the counts of their parts.
 use case_text::put_text;
-use frac_core::OutOfMemory;
+use frac_core::{OutOfMemory, Stop};
+use span_text::SyntaxAt;
 use std::alloc::Global;
-use vfl_text::{Format, FormatStop, Gap, read, write};
+use vfl_text::{Format, Spacing, read, write};
 
 /// Appends the canonical text of a format.
 pub fn put_written(
@@ -20,10 +21,10 @@ fn text_of(bytes: &[u8]) -> &str {
     std::str::from_utf8(bytes).unwrap_or("")
 }
 
-fn put_stop(out: &mut String, stop: FormatStop) -> Result<(), OutOfMemory> {
+fn put_stop(out: &mut String, stop: Stop<SyntaxAt>) -> Result<(), OutOfMemory> {
     match stop {
-        FormatStop::SyntaxAt(at) => Ok(writeln!(out, "syntax {at}")?),
-        FormatStop::OutOfMemory => Err(OutOfMemory),
+        Stop::Refused(SyntaxAt(at)) => Ok(writeln!(out, "syntax {at}")?),
+        Stop::OutOfMemory => Err(OutOfMemory),
     }
 }
 
@@ -35,9 +36,9 @@ pub fn put_format(alloc: Global, out: &mut String, text: &[u8]) -> Result<(), Ou
     }
 }
 
-fn count_of(gap: &Gap<'_>) -> usize {
-    match gap {
-        Gap::Given(preds) => preds.len(),
+fn count_of(spacing: &Spacing<'_>) -> usize {
+    match spacing {
+        Spacing::Given(preds) => preds.len(),
         _ => 0,
     }
 }
@@ -48,8 +49,8 @@ fn put_parts(out: &mut String, format: &Format<'_>) -> Result<(), OutOfMemory> {
         let (name, count) = (item.name, item.sizes().len());
         writeln!(out, "{name} with {count}")?;
     }
-    for gap in format.gaps() {
-        let count = count_of(gap);
+    for spacing in format.spacings() {
+        let count = count_of(spacing);
         writeln!(out, "between with {count}")?;
     }
     Ok(())

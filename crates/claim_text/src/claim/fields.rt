@@ -11,7 +11,7 @@ ghost use Rattle.claim_text.specs.Names.{row_word, level_word, IsRowName, IsLeve
 
 use crate::numbers::{integer, natural};
 use crate::words::Words;
-use problem_core::{Level, Mark, RowName, Side};
+use problem_core::{Level, Mark, NUMBER_LIMIT, REQUIRED, RowName, Side};
 
 // What follows an `s`.
 fn after_s(word: &[u8]) -> Option<&[u8]>
@@ -29,11 +29,11 @@ fn row_name(word: &[u8]) -> Option<RowName>
     ensures none { IfNone result ((r : RowName) → IsRowName r → word.now ≡ row_word r → ⊥) }
 {
     match after_s(word) {
-        Some(attr) => match natural(attr, 1, 1 << 31) {
+        Some(attr) => match natural(attr, 1, NUMBER_LIMIT as u64) {
             Some(attr) => Some(RowName::Stay(attr as u32)),
             None => None,
         },
-        None => match natural(word, 1, 1 << 31) {
+        None => match natural(word, 1, NUMBER_LIMIT as u64) {
             Some(id) => Some(RowName::Held(id as u32)),
             None => None,
         },
@@ -45,11 +45,11 @@ pub(crate) fn level_name(word: &[u8]) -> Option<Level>
     ensures none { IfNone result ((l : Level) → IsLevelName l → word.now ≡ level_word l → ⊥) }
 {
     match after_s(word) {
-        Some(attr) => match natural(attr, 1, 1 << 31) {
+        Some(attr) => match natural(attr, 1, NUMBER_LIMIT as u64) {
             Some(attr) => Some(Level::Stay(attr as u32)),
             None => None,
         },
-        None => match natural(word, 0, 1000) {
+        None => match natural(word, 0, REQUIRED as u64) {
             Some(rank) => Some(Level::Priority(rank as u16)),
             None => None,
         },

@@ -15,7 +15,7 @@ use crate::numbers::FITTING;
 use crate::words::Words;
 use cert_core::By;
 use frac_core::Frac;
-use problem_core::Level;
+use problem_core::{Level, NUMBER_LIMIT};
 
 /// A level and its scale.
 #[derive(Clone, Copy)]
@@ -33,7 +33,7 @@ pub(crate) fn read_value(line: &[u8]) -> Option<(u32, Frac)>
     if !next_is(&mut words, b"value") {
         return None;
     }
-    let Some(attr) = next_number(&mut words, 1, 1 << 31) else {
+    let Some(attr) = next_number(&mut words, 1, NUMBER_LIMIT as u64) else {
         return None;
     };
     let Some(value) = next_fraction(&mut words) else {

@@ -18,7 +18,7 @@ use crate::fields::{next_is, next_number};
 use crate::numbers::natural;
 use crate::words::Words;
 use cert_core::Swap;
-use problem_core::{Mark, Quantity, What};
+use problem_core::{Mark, NUMBER_LIMIT, Quantity, What};
 
 /// What a line of a path says, behind the first.
 #[derive(Clone, Copy)]
@@ -104,7 +104,7 @@ fn what_of(kind: &[u8], name: &[u8]) -> Option<What>
         → kind.now ∷ name.now ∷ [] ≡ what_words w → ⊥) }
 {
     if kind == b"attr".as_slice() {
-        match natural(name, 1, 1 << 31) {
+        match natural(name, 1, NUMBER_LIMIT as u64) {
             Some(attr) => Some(What::Attr(attr as u32)),
             None => None,
         }

@@ -1,15 +1,18 @@
 // The reader of claims.
-ghost use Rattle.std.specs.Prelude.{◌≡◌, ◌<◌, ◌^◌, length, IfOk, IfErr, MatchResult};
+ghost use Rattle.std.specs.Prelude.{◌≡◌, ◌<◌, length, IfOk, IfErr, MatchResult};
 ghost use Rattle.std.specs.Str.Lines.{lines};
+ghost use Rattle.frac_core.specs.declared.memory.Stop.TheVariants.{OutOfMemory};
 ghost use Rattle.claim_text.specs.declared.claim.Claim as claim;
 ghost use Rattle.claim_text.specs.ClaimLines.{claim_text};
 ghost use Rattle.claim_text.specs.ClaimTexts.{IsRead, LinesStopAt, Reads, StopsAt, IsWritten};
 ghost use Rattle.claim_text.specs.ClaimTexts.{HasNoMoreParts};
+ghost use Rattle.claim_text.specs.declared.limits.TheConstants.{TEXT_LIMIT};
 
 use crate::claim::Claim;
 use crate::claim::draft::ClaimDraft;
 use crate::claim::seen::Seen;
-use crate::stops::ReadStop;
+use crate::stops::{BadLine, ReadStop};
+use frac_core::Stop;
 use span_text::lines;
 use std::alloc::Global;
 
@@ -22,7 +25,7 @@ struct ReadLines {
 
 // What the lines of the text say.
 fn read_lines(alloc: Global, text: &[u8]) -> Result<ReadLines, ReadStop>
-    requires { length text.now < 2 ^ 31 }
+    requires { length text.now < TEXT_LIMIT }
     ensures read { IfOk result (λ found. IsRead (lines text.now) found.draft found.count) }
     ensures stop { IfErr result (LinesStopAt (lines text.now)) }
 {
@@ -32,7 +35,7 @@ fn read_lines(alloc: Global, text: &[u8]) -> Result<ReadLines, ReadStop>
     for line in lines(text) {
         count += 1;
         if !draft.take_line(alloc, &mut seen, line.bytes)? {
-            return Err(ReadStop::BadLine(count));
+            return Err(Stop::Refused(BadLine(count)));
         }
     }
     Ok(ReadLines { draft, count })
@@ -43,17 +46,17 @@ fn read_lines(alloc: Global, text: &[u8]) -> Result<ReadLines, ReadStop>
 /// `BadLine` is the number of the first line, counted from 1, that may not follow the lines before it, or one
 /// more than the count of lines where the text ends before it is said which claim it is.
 pub fn read_claim(alloc: Global, text: &[u8]) -> Result<Claim, ReadStop>
-    requires { length text.now < 2 ^ 31 }
+    requires { length text.now < TEXT_LIMIT }
     ensures read { IfOk result (Reads (lines text.now)) }
     ensures stop { IfErr result (StopsAt (lines text.now)) }
     ensures few { IfOk result (λ c. HasNoMoreParts c (length text.now)) }
     // What was written is read.
     ensures written { (c : claim.Claim) → IsWritten c → text.now ≡ claim_text c
-        → MatchResult result (λ d. d ≡ c) (λ stop. stop ≡ ReadStop.OutOfMemory) }
+        → MatchResult result (λ d. d ≡ c) (λ stop. stop ≡ OutOfMemory) }
 {
     let mut found = read_lines(alloc, text)?;
     match found.draft.finish(alloc)? {
         Some(claim) => Ok(claim),
-        None => Err(ReadStop::BadLine(found.count + 1)),
+        None => Err(Stop::Refused(BadLine(found.count + 1))),
     }
 }

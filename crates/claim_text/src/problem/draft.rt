@@ -4,7 +4,9 @@ ghost use Rattle.std.specs.Prelude.{false, length};
 ghost use Rattle.problem_core.specs.Layout as layout;
 ghost use Rattle.problem_core.specs.Kept.{IsWhole};
 ghost use Rattle.claim_text.specs.declared.problem.items.Item as item;
+ghost use Rattle.claim_text.specs.declared.limits.TheConstants.{TEXT_ROW_LIMIT};
 
+use crate::limits::{TEXT_ROW_LIMIT, TEXT_STAY_LIMIT};
 use crate::problem::attributes::Attributes;
 use crate::problem::items::{Item, read_item};
 use frac_core::OutOfMemory;
@@ -68,9 +70,9 @@ impl Draft {
 
     // Whether a row may still come.
     fn takes_rows(&self) -> bool
-        ensures { IsTrue result ↔ ((self.now.stays ≡ []) × (length self.now.rows < 2001)) }
+        ensures { IsTrue result ↔ ((self.now.stays ≡ []) × (length self.now.rows < TEXT_ROW_LIMIT)) }
     {
-        self.stays.is_empty() && self.rows.len() < 2001
+        self.stays.is_empty() && self.rows.len() < TEXT_ROW_LIMIT
     }
 
     // Whether the number is above those of all rows.
@@ -95,7 +97,7 @@ impl Draft {
     fn stay_may_follow(&self, stay: &Stay) -> bool
         ensures { IsTrue result ↔ StayMayFollow self.now stay.now }
     {
-        self.stays.len() < 800 && is_fresh(&self.stays, stay.attr)
+        self.stays.len() < TEXT_STAY_LIMIT && is_fresh(&self.stays, stay.attr)
     }
 
     fn may_follow(&self, covered: &Attributes, item: &Item) -> bool

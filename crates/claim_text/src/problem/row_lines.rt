@@ -10,7 +10,7 @@ use crate::fields::{next_fraction, next_is, next_number, next_relation};
 use crate::problem::term_words::read_terms;
 use crate::words::Words;
 use frac_core::{Frac, OutOfMemory};
-use problem_core::{Rel, Row, Term};
+use problem_core::{COEFFICIENT_LIMIT, NUMBER_LIMIT, REQUIRED, Rel, Row, Term, WEIGHT_LIMIT};
 use std::alloc::Global;
 
 // What stands before the terms of a row.
@@ -32,11 +32,11 @@ fn read_head(words: &mut Words) -> Option<Head>
     if !next_is(words, b"row") {
         return None;
     }
-    let id = next_number(words, 1, 1 << 31)?;
-    let rank = next_number(words, 0, 1000)?;
-    let weight = next_number(words, 1, 1000)?;
+    let id = next_number(words, 1, NUMBER_LIMIT as u64)?;
+    let rank = next_number(words, 0, REQUIRED as u64)?;
+    let weight = next_number(words, 1, WEIGHT_LIMIT as u64)?;
     let rel = next_relation(words)?;
-    let scale = next_number(words, 1, 1 << 30)?;
+    let scale = next_number(words, 1, COEFFICIENT_LIMIT)?;
     let constant = next_fraction(words)?;
     Some(Head {
         id: id as u32,

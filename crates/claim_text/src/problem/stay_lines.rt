@@ -7,7 +7,7 @@ ghost use Rattle.claim_text.specs.Lines.{stay_words};
 
 use crate::fields::{next_fraction, next_is, next_number};
 use crate::words::Words;
-use problem_core::Stay;
+use problem_core::{NUMBER_LIMIT, Stay};
 
 /// The stay that a line says.
 pub(crate) fn read_stay(line: &[u8]) -> Option<Stay>
@@ -18,7 +18,7 @@ pub(crate) fn read_stay(line: &[u8]) -> Option<Stay>
     if !next_is(&mut words, b"stay") {
         return None;
     }
-    let Some(attr) = next_number(&mut words, 1, 1 << 31) else {
+    let Some(attr) = next_number(&mut words, 1, NUMBER_LIMIT as u64) else {
         return None;
     };
     let Some(target) = next_fraction(&mut words) else {

@@ -9,7 +9,7 @@ ghost use Rattle.claim_text.specs.Lines.{term_word, AreTerms};
 use crate::numbers::{integer, natural};
 use crate::words::{Words, first_part};
 use frac_core::OutOfMemory;
-use problem_core::Term;
+use problem_core::{COEFFICIENT_LIMIT, NUMBER_LIMIT, TERM_LIMIT, Term};
 use std::alloc::Global;
 
 // The term of an attribute and a coefficient.
@@ -19,10 +19,10 @@ fn product(attr: &[u8], by: &[u8]) -> Option<Term>
     ensures none { IfNone result ((t : Term) → IsTerm t → attr.now ≡ decimal t.attr
         → by.now ≡ signed_decimal t.by → ⊥) }
 {
-    let Some(attr) = natural(attr, 1, 1 << 31) else {
+    let Some(attr) = natural(attr, 1, NUMBER_LIMIT as u64) else {
         return None;
     };
-    let Some(by) = integer(by, 1 << 30) else {
+    let Some(by) = integer(by, COEFFICIENT_LIMIT) else {
         return None;
     };
     if by == 0 {
@@ -59,7 +59,7 @@ fn next_term(terms: &[Term], word: &[u8]) -> Option<Term>
     ensures some { IfSome result (λ t. AreTerms (terms.now ++ t ∷ []) × (word.now ≡ term_word t)) }
     ensures none { IfNone result ((t : Term) → AreTerms (terms.now ++ t ∷ []) → word.now ≡ term_word t → ⊥) }
 {
-    if terms.len() == 32 {
+    if terms.len() == TERM_LIMIT {
         return None;
     }
     let Some(term) = term(word) else {
