@@ -1,6 +1,7 @@
 -- The problem of the first scene, at each of whose corners each quantity fits; one at a corner of which an
 -- attribute doesn't fit; and problems of one attribute.
 use Rattle.std.specs.Prelude.{ℕ, [], ◌∷◌, ◌++◌, ℤ, pos, negsuc}
+use Rattle.problem_core.specs.declared.limits.TheConstants.{REQUIRED}
 use Rattle.problem_core.specs.declared.parts.Rel.TheVariants.{Eq}
 use Rattle.problem_core.specs.declared.parts.Stay.{Stay}
 use Rattle.problem_core.specs.Layout.{Problem, Row}
@@ -20,7 +21,7 @@ first = record {
 abbrev pub steep_row : Row
 steep_row = record {
   id = 5;
-  rank = 1000;
+  rank = REQUIRED;
   weight = 1;
   rel = Eq;
   scale = 1;

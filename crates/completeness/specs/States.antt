@@ -6,6 +6,7 @@ use Rattle.problem_core.specs.Layout.{Row}
 use Rattle.problem_core.specs.Window.{zero_fraction}
 use Rattle.view_tree.specs.Views.{window}
 use Rattle.constraint_compile.specs.Compiled.{RowForm}
+use Rattle.session_undo.specs.declared.limits.TheConstants.{FIRST_BUDGET}
 use Rattle.session_undo.specs.Items.{Item, OfLine}
 use Rattle.session_undo.specs.Scene.{State, first_limits}
 use Rattle.completeness.specs.Examples.{lone_row}
@@ -23,7 +24,7 @@ state_of held rows value = record {
     values = (1, value) ∷ [];
   };
   earlier = [];
-  budget = 100000;
+  budget = FIRST_BUDGET;
   limits = first_limits;
 }
 

@@ -12,8 +12,6 @@ use Rattle.problem_core.specs.Layout.{Row, Problem}
 use Rattle.problem_core.specs.Kept.{IsNumber, IsRow, IsWhole, AreRising}
 use Rattle.problem_core.specs.Window.{required_row, structural_rows, zero_fraction}
 use Rattle.view_tree.specs.Views.{LiveView, ViewTree, IsTree}
-use Rattle.constraint_compile.specs.Meaning.{MetricList}
-use Rattle.constraint_compile.specs.Compiled.{CompiledLine, AreRowsNow}
 use Rattle.layout_solver.specs.declared.engine.Change.{Change}
 use Rattle.layout_solver.specs.Layouts.{Layout, stays_at, zeros, with_added}
 use Rattle.layout_solver.specs.Shifts.{shifted, with_shifts}
@@ -21,15 +19,15 @@ use Rattle.session_undo.specs.Items.{size_rows, without_constant}
 use Rattle.session_undo.specs.Scene.{State}
 use Rattle.session_undo.specs.Machine.{IsCrowded}
 use Rattle.session_undo.specs.Kept.{AreWithin}
-use Rattle.session_undo.specs.Attributes.{view_attributes, attributes_of, HasOnly, IsNextLine, IsCounted}
+use Rattle.session_undo.specs.Attributes.{view_attributes, attributes_of, HasOnly, IsCounted}
 use Rattle.session_undo.proofs.Lists.{pairs-nil, pairs-cons, four-rising, all-unmapped}
 use Rattle.session_undo.proofs.Attributes.{view-new, none-new, contains-left, contains-top, contains-width, contains-height, window-among}
-use Rattle.session_undo.proofs.Wholes.{IsSettled, MayBeAdded, added-rising, added-whole, settled-numbers, attributes-joined, shape}
+use Rattle.session_undo.proofs.Wholes.{IsSettled, added-rising, added-whole, settled-numbers, attributes-joined, shape}
+use Rattle.session_undo.specs.Attributes.{MayBeAdded}
 use Rattle.session_undo.proofs.AlikeRows.{alike-shapes}
 use Rattle.session_undo.proofs.ShiftedRows.{shifted-alike}
 use Rattle.session_undo.proofs.First.{first_problem, first_tree}
-use Rattle.session_undo.proofs.NextRows.{line-may, line-below}
-use Rattle.session_undo.proofs.Ranks.{HasRank, ranks-now, size-ranked}
+use Rattle.session_undo.proofs.Ranks.{HasRank}
 
 -- ---- required rows
 
@@ -48,7 +46,7 @@ two-may attrs n r s each first second only_r only_s = record {
   only = All-from_recursion (HasOnly attrs) (r ∷ s ∷ []) (only_r, (only_s, tt));
 }
 
-size-may : (t : ViewTree) (next : ℕ) (w h : Fraction) (more : List Row) → IsTree t → more ≡ size_rows next w h → All IsRow more → MayBeAdded (attributes_of t.views) next more
+pub size-may : (t : ViewTree) (next : ℕ) (w h : Fraction) (more : List Row) → IsTree t → more ≡ size_rows next w h → All IsRow more → MayBeAdded (attributes_of t.views) next more
 size-may t next w h more tree is each =
     subst (MayBeAdded (attributes_of t.views) next) (sym is)
     (two-may (attributes_of t.views) next _ _ (subst (All IsRow) is each) refl refl
@@ -66,16 +64,6 @@ rows-whole views next l more is counted may room =
     (none-new (2 ^ 31 + 1)) counted.below
     (subst (λ (ns : List ℕ). MayBeAdded ns next more) (sym (append-nil (map (λ s. s.attr) l.problem.stays) ∙ counted.stays)) may)
     (omega (arith, room)) (omega (arith, is.whole.stay_count))
-
-pub line-whole : (views : List LiveView) (next : ℕ) (l : Layout) (line : CompiledLine) (ms : MetricList) (more : List Row) → IsSettled l.problem l.values → IsCounted views next l.problem → IsNextLine views next line → AreRowsNow ms line.rows more → All IsRow more
-    → length l.problem.rows + length more ≤ 2000 → IsWhole (with_added l [] more)
-line-whole views next l line ms more is counted fits are each room = rows-whole views next l more is counted (line-may views next line ms more fits are each) room
-
-pub size-whole : (t : ViewTree) (next : ℕ) (l : Layout) (w h : Fraction) (more : List Row) → IsTree t → IsSettled l.problem l.values → IsCounted t.views next l.problem → more ≡ size_rows next w h → All IsRow more
-    → length l.problem.rows + 2 ≤ 2000 → IsWhole (with_added l [] more)
-size-whole t next l w h more tree is counted are each room =
-    let two : length more ≡ 2 = ap length are in
-    rows-whole t.views next l more is counted (size-may t next w h more tree are each) (omega (arith, room, two))
 
 -- ---- attributes that rise
 
@@ -98,18 +86,6 @@ counted-added views new_views next now l attrs more p same counted grown below r
       ranks = All-append HasRank l.problem.rows more counted.ranks ranks;
       few = omega (arith, room, length-append l.problem.rows more);
     })
-
-pub counted-size : (views : List LiveView) (next : ℕ) (l : Layout) (w h : Fraction) (more : List Row) (p : Problem) → map (λ v. v.0) l.values ≡ map (λ s. s.attr) l.problem.stays → IsCounted views next l.problem
-    → more ≡ size_rows next w h → length l.problem.rows + 2 ≤ 2000 → p ≡ with_added l [] more → IsCounted views (next + 2) p
-counted-size views next l w h more p same counted are room is =
-    let two : length more ≡ 2 = ap length are in
-    counted-added views views next (next + 2) l [] more p same counted (sym (append-nil (attributes_of views)))
-    (subst (All (λ (r : Row). r.id < next + 2)) (sym are) (All-from_recursion (λ (r : Row). r.id < next + 2) (size_rows next w h) (omega arith, (omega arith, tt)))) (subst (All HasRank) (sym are) (size-ranked next w h)) (omega arith) (omega (arith, room, two)) is
-
-pub counted-line : (views : List LiveView) (next : ℕ) (l : Layout) (line : CompiledLine) (ms : MetricList) (more : List Row) (p : Problem) → map (λ v. v.0) l.values ≡ map (λ s. s.attr) l.problem.stays → IsCounted views next l.problem
-    → IsNextLine views next line → AreRowsNow ms line.rows more → length l.problem.rows + length more ≤ 2000 → p ≡ with_added l [] more → IsCounted views (next + length more) p
-counted-line views next l line ms more p same counted fits are room is =
-    counted-added views views next (next + length more) l [] more p same counted (sym (append-nil (attributes_of views))) (line-below views next line ms more fits are) (ranks-now ms line.rows more are fits.ranks) (omega arith) room is
 
 -- other constants change no number
 pub counted-shifted : (views : List LiveView) (next : ℕ) (l : Layout) (to : List Change) (p : Problem) → map (λ v. v.0) l.values ≡ map (λ s. s.attr) l.problem.stays → IsCounted views next l.problem

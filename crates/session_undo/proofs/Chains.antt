@@ -13,10 +13,10 @@ use Rattle.problem_core.specs.Layout.{Row}
 use Rattle.name_tables.specs.Names.{value_of}
 use Rattle.name_tables.specs.declared.stops.LimitWord.{LimitWord}
 use Rattle.name_tables.specs.declared.stops.LimitWord.TheVariants as word
-use Rattle.view_tree.specs.Views.{LiveView, ViewTree, view_of, view_named, IsOnLevel}
+use Rattle.view_tree.specs.Views.{LiveView, ViewTree, view_of, view_named, IsAtDepth}
 use Rattle.view_tree.specs.Views as tree
 use Rattle.view_tree.specs.Stops.{IsNewView, PassesLimit, is_full}
-use Rattle.view_tree.proofs.ViewLemmas.{IsOnLevel-unique}
+use Rattle.view_tree.proofs.ViewLemmas.{IsAtDepth-unique}
 use Rattle.constraint_compile.specs.Meaning.{MetricList}
 use Rattle.constraint_compile.specs.declared.stops.CompileStop.TheVariants as stop
 use Rattle.layout_solver.specs.declared.engine.Change.{Change}
@@ -35,6 +35,10 @@ use Rattle.session_undo.proofs.Steps.{refuses}
 pub ok-map : {T E : Type 0} (P Q : T → Type 0) (r : Result T E) → ((x : T) → P x → Q x) → IfOk r P → IfOk r Q
 ok-map P Q (Ok x) to h = to x h
 ok-map P Q (Err e) to h = h
+
+pub stop-map : {T E : Type 0} (P Q : E → Type 0) (r : Result T E) → ((e : E) → P e → Q e) → IfErr r P → IfErr r Q
+stop-map P Q (Ok x) to h = h
+stop-map P Q (Err e) to h = to e h
 
 pub err-map : {T : Type 0} (F G : Reply → Type 0) (r : Result T Refusal) → ((reply : Reply) → F reply → G reply) → IfErr r (MayRefuse F) → IfErr r (MayRefuse G)
 err-map F G (Ok x) to h = h
@@ -63,10 +67,10 @@ view_of_name : (o : Option LiveView) (id : ℕ) → Some id ≡ option_map (λ v
 view_of_name None id is = absurd (none-some id (sym is))
 view_of_name (Some v) id is = (v, refl, sym (same_Some id v.id is))
 
-not-deep : (t : ViewTree) (parent : List ℕ) (above : LiveView) (level : ℕ) → view_named t.views parent ≡ Some above → IsOnLevel t.views above.id level → level < 32 → IsDeep t parent → ⊥
+not-deep : (t : ViewTree) (parent : List ℕ) (above : LiveView) (level : ℕ) → view_named t.views parent ≡ Some above → IsAtDepth t.views above.id level → level < 32 → IsDeep t parent → ⊥
 not-deep t parent above level is on high (w, l, w_is, on_2, deep) =
     let same : w ≡ above = same_Some w above (sym w_is ∙ is) in
-    let levels : l ≡ level = IsOnLevel-unique t.views above.id l level (subst (λ (u : LiveView). IsOnLevel t.views u.id l) same on_2) on in
+    let levels : l ≡ level = IsAtDepth-unique t.views above.id l level (subst (λ (u : LiveView). IsAtDepth t.views u.id l) same on_2) on in
     omega (arith, levels, high, deep)
 
 pub not-some : {X : Type 0} (o : Option X) → o ≡ None → IsSome o → ⊥
@@ -205,7 +209,7 @@ view-limited old name parent above End word.Views asked h =
 view-limited old name parent above End word.Depth asked h =
     let v = view_of_name (view_named old.scene.tree.views parent) above asked.found in
     view-deep old name parent End (asked-found old name parent above asked) asked.free asked.short (few-views old asked.few h.1)
-    (v.0, h.2.0, v.1, subst (λ (n : ℕ). IsOnLevel old.scene.tree.views n h.2.0) (sym v.2) h.2.1, h.2.2)
+    (v.0, h.2.0, v.1, subst (λ (n : ℕ). IsAtDepth old.scene.tree.views n h.2.0) (sym v.2) h.2.1, h.2.2)
 view-limited old name parent above End word.Line asked h = absurd h
 view-limited old name parent above End word.Metrics asked h = absurd h
 view-limited old name parent above End word.Lines asked h = absurd h
@@ -219,7 +223,7 @@ view-limited old name parent above End word.Budget asked h = absurd h
 asked-high : (old : State) (name parent : List ℕ) (above : ℕ) → IsAsked old name parent above → IsNewView old.scene.tree name above → IsDeep old.scene.tree parent → ⊥
 asked-high old name parent above asked fresh =
     let v = view_of_name (view_named old.scene.tree.views parent) above asked.found in
-    let on = subst (λ (n : ℕ). (level : ℕ) × IsOnLevel old.scene.tree.views n level × (level < 32)) (sym v.2) fresh.high in
+    let on = subst (λ (n : ℕ). (level : ℕ) × IsAtDepth old.scene.tree.views n level × (level < 32)) (sym v.2) fresh.high in
     not-deep old.scene.tree parent v.0 on.0 v.1 on.1 on.2
 
 pub view-full : (old : State) (name parent : List ℕ) (above : ℕ) (End : Scene → Reply → State → Type 0) → IsAsked old name parent above → IsNewView old.scene.tree name above → IsCrowded old 2

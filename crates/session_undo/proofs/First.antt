@@ -14,7 +14,7 @@ use Rattle.session_undo.specs.Items.{OfWindow}
 use Rattle.version_list.specs.Versions.{Versions}
 use Rattle.session_undo.specs.declared.item.Item as declared
 use Rattle.session_undo.specs.declared.item.Item.TheVariants as kind
-use Rattle.session_undo.specs.declared.past.Past.{Past}
+use Rattle.session_undo.specs.declared.scene.past.Past.{Past}
 use Rattle.session_undo.specs.Scene.{Scene, new_values, first_scene}
 use Rattle.session_undo.specs.Attributes.{IsCounted}
 use Rattle.session_undo.specs.Kept.{AreAlike, IsItem, IsKept, IsKeptHistory, history_at, scene_at, IsNamed}

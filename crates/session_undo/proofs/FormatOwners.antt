@@ -1,5 +1,5 @@
 -- The attributes of a format's rows are those of views that the format names, or of their parents.
-use Rattle.std.proofs.Common.{◌≡◌, ◌≢◌, ◌||◌, ◌⊎◌, inl, inr, ℕ, zero, suc, ◌+◌, ◌<◌, ◌≤◌, Bool, true, false, cond, List, [], ◌∷◌, ◌++◌, map, length, get_or, Option, Some, None, is_some, is_none, unwrap_or, nat_eq, refl, sym, ap, subst, ◌∙◌, arith, All, AllPairs, true≢false, if◌then◌else◌, eq-eqb, eqb-true}
+use Rattle.std.proofs.Common.{◌≡◌, ◌≢◌, ◌||◌, inl, inr, ℕ, zero, suc, ◌+◌, ◌≤◌, Bool, true, false, cond, List, [], ◌∷◌, ◌++◌, map, length, Option, Some, None, is_some, is_none, unwrap_or, nat_eq, refl, sym, ap, subst, ◌∙◌, arith, All, AllPairs, true≢false, if◌then◌else◌, eqb-true}
 use Rattle.std.specs.List.{Contains, list_any, AllByRecursion as Each}
 use Rattle.std.specs.Option.{option_map, option_and_then, option_to_list}
 use Rattle.std.specs.Bool.{⊤}
@@ -10,14 +10,14 @@ use Rattle.std.proofs.lemmas.List.Elements.{All-from_recursion, recursion_from_A
 use Rattle.span_text.specs.Objects.{Meant}
 use Rattle.span_text.specs.Objects as object
 use Rattle.vfl_text.specs.declared.parts.Axis.{Axis}
-use Rattle.vfl_text.specs.Formats.{FormatMeaning, PredMeaning, GapMeaning, Flush, Standard, Given, ItemMeaning}
-use Rattle.view_tree.specs.Views.{AreAbove, HasParent, IsOnLevel, IsTree, LiveView, ViewTree, view_named, view_of}
+use Rattle.vfl_text.specs.Formats.{FormatMeaning, PredMeaning, SpacingMeaning, Flush, Standard, Given, ItemMeaning}
+use Rattle.view_tree.specs.Views.{AreAbove, HasParent, IsAtDepth, IsTree, LiveView, ViewTree, view_named, view_of}
 use Rattle.script_text.specs.declared.words.Align.{Align}
 use Rattle.script_text.specs.declared.words.AttrWord.{AttrWord}
 use Rattle.script_text.specs.Meaning as mean
 use Rattle.constraint_compile.specs.Meaning.{MetricList, minus, terms_of, view_in, views_in}
 use Rattle.constraint_compile.specs.Compiled.{RowForm, CompiledLine}
-use Rattle.constraint_compile.specs.FormatParts.{End, Span, Part, View, Bar, Asks, parts, parts_over, asks, exactly, gap_parts, item_parts, chain_parts, front_parts, back_parts, level_parts, align_parts, aligned_word, last_name, own, parents, size, between, inside_near, inside_far, off, near, far, extent}
+use Rattle.constraint_compile.specs.FormatParts.{End, Span, Part, View, Bar, Asks, parts, parts_over, asks, spacing_parts, item_parts, chain_parts, front_parts, back_parts, aligned_parts, align_parts, aligned_word, last_name, own, parents, size, between, inside_near, inside_far, near, far, extent}
 use Rattle.constraint_compile.specs.FormatLines.{line_of, lines_of, minus_terms, name_in, name_of, number_of, object_term, object_views, owner_name, part_views, parts_views}
 use Rattle.constraint_compile.specs.FormatRefusals.{lacks_parent, parent_of}
 use Rattle.constraint_compile.specs.FormatRows.{AreRowsOf, IsCompiledFormat}
@@ -86,7 +86,7 @@ module _ (t : ViewTree) (tree : IsTree t) where
   -- a parent is live
   parent-lives : (id pid : ℕ) (w : LiveView) → view_of t.views id ≡ Some w → HasParent t.views id (Some pid) → view_of t.views pid ≡ None → ⊥
   parent-lives id pid w found has none =
-      let at = found-each (λ v. (level : ℕ) × IsOnLevel t.views v.id level × (level ≤ 32)) id t.views w found (recursion_from_All (λ v. (level : ℕ) × IsOnLevel t.views v.id level × (level ≤ 32)) t.views tree.levels) in
+      let at = found-each (λ v. (level : ℕ) × IsAtDepth t.views v.id level × (level ≤ 32)) id t.views w found (recursion_from_All (λ v. (level : ℕ) × IsAtDepth t.views v.id level × (level ≤ 32)) t.views tree.depths) in
       up at.0.1.above (subst (λ (n : ℕ). AreAbove t.views n at.0.1.above) at.1 at.0.1.chain)
     where
       up : (above : List ℕ) → AreAbove t.views id above → ⊥
@@ -188,39 +188,39 @@ module _ (t : ViewTree) (tree : IsTree t) where
     asks-close s [] plus less h = tt
     asks-close s (p ∷ ps) plus less h = ((plus, less, h.0.0), asks-close s ps plus less h.1)
 
-    gap-close : (s : Span) (usual : ℕ) (g : GapMeaning) → IsCloseEnd s.plus → IsCloseMinus s.minus → Each Holds (gap_parts s usual g) → Each IsClosePart (gap_parts s usual g)
-    gap-close s usual Flush plus less h = ((plus, less, tt), tt)
-    gap-close s usual Standard plus less h = ((plus, less, tt), tt)
-    gap-close s usual (Given ps) plus less h = asks-close s ps plus less h
+    spacing-close : (s : Span) (usual : ℕ) (g : SpacingMeaning) → IsCloseEnd s.plus → IsCloseMinus s.minus → Each Holds (spacing_parts s usual g) → Each IsClosePart (spacing_parts s usual g)
+    spacing-close s usual Flush plus less h = ((plus, less, tt), tt)
+    spacing-close s usual Standard plus less h = ((plus, less, tt), tt)
+    spacing-close s usual (Given ps) plus less h = asks-close s ps plus less h
 
     item-close : (a : Axis) (i : ItemMeaning) → Each Holds (item_parts a i) → Known i.name × Each IsClosePart (item_parts a i)
     item-close a i h = (h.0.0, (tt, asks-close (size a i.name) i.sizes (own-close i.name (extent a) h.0.0) tt h.1))
 
-    chain-close : (a : Axis) (before : List ℕ) (gs : List GapMeaning) (is : List ItemMeaning) → length gs ≡ length is → Known before → Each Holds (chain_parts a before gs is)
+    chain-close : (a : Axis) (before : List ℕ) (gs : List SpacingMeaning) (is : List ItemMeaning) → length gs ≡ length is → Known before → Each Holds (chain_parts a before gs is)
         → Each (λ i. Known i.name) is × Each IsClosePart (chain_parts a before gs is)
     chain-close a before [] [] long known h = (tt, tt)
     chain-close a before [] (i ∷ is) long known h = absurd (omega (arith, long))
     chain-close a before (g ∷ gs) [] long known h = absurd (omega (arith, long))
     chain-close a before (g ∷ gs) (i ∷ is) long known h =
-        let first = each-split Holds (gap_parts (between a before i.name) 8000 g) (item_parts a i ++ chain_parts a i.name gs is) h in
+        let first = each-split Holds (spacing_parts (between a before i.name) 8000 g) (item_parts a i ++ chain_parts a i.name gs is) h in
         let second = each-split Holds (item_parts a i) (chain_parts a i.name gs is) first.1 in
         let here = item-close a i second.0 in
         let rest = chain-close a i.name gs is (omega (arith, long)) here.0 second.1 in (
           (here.0, rest.0),
-          each-join IsClosePart (gap_parts (between a before i.name) 8000 g) (item_parts a i ++ chain_parts a i.name gs is)
-              (gap-close (between a before i.name) 8000 g (own-close i.name (near a) here.0) (own-close before (far a) known) first.0)
+          each-join IsClosePart (spacing_parts (between a before i.name) 8000 g) (item_parts a i ++ chain_parts a i.name gs is)
+              (spacing-close (between a before i.name) 8000 g (own-close i.name (near a) here.0) (own-close before (far a) known) first.0)
               (each-join IsClosePart (item_parts a i) (chain_parts a i.name gs is) here.1 rest.1),
         )
 
-    front-close : (a : Axis) (name : List ℕ) (g : Option GapMeaning) → Known name → Each Holds (front_parts a name g) → Each IsClosePart (front_parts a name g)
+    front-close : (a : Axis) (name : List ℕ) (g : Option SpacingMeaning) → Known name → Each Holds (front_parts a name g) → Each IsClosePart (front_parts a name g)
     front-close a name None known h = tt
-    front-close a name (Some g) known h = (tt, gap-close (inside_near a name) 20000 g (own-close name (near a) known) (parents-close name (near a) known h.0.1) h.1)
+    front-close a name (Some g) known h = (tt, spacing-close (inside_near a name) 20000 g (own-close name (near a) known) (parents-close name (near a) known h.0.1) h.1)
 
-    back-close : (a : Axis) (name : List ℕ) (g : Option GapMeaning) → Known name → Each Holds (back_parts a name g) → Each IsClosePart (back_parts a name g)
+    back-close : (a : Axis) (name : List ℕ) (g : Option SpacingMeaning) → Known name → Each Holds (back_parts a name g) → Each IsClosePart (back_parts a name g)
     back-close a name None known h = tt
-    back-close a name (Some g) known h = (tt, gap-close (inside_far a name) 20000 g (parents-close name (far a) known h.0.1) (own-close name (far a) known) h.1)
+    back-close a name (Some g) known h = (tt, spacing-close (inside_far a name) 20000 g (parents-close name (far a) known h.0.1) (own-close name (far a) known) h.1)
 
-    level-close : (w : AttrWord) (before : List ℕ) (is : List ItemMeaning) → Known before → Each (λ i. Known i.name) is → Each IsClosePart (level_parts w before is)
+    level-close : (w : AttrWord) (before : List ℕ) (is : List ItemMeaning) → Known before → Each (λ i. Known i.name) is → Each IsClosePart (aligned_parts w before is)
     level-close w before [] known h = tt
     level-close w before (i ∷ is) known h = ((own-close i.name w h.0, own-close before w known, tt), level-close w i.name is h.0 h.1)
 
@@ -232,18 +232,18 @@ module _ (t : ViewTree) (tree : IsTree t) where
     last-known name [] known h = known
     last-known name (i ∷ is) known h = last-known i.name is h.0 h.1
 
-    parts-close : (f : FormatMeaning) (a : Option Align) (is : List ItemMeaning) → length f.gaps + 1 ≡ length is → Each Holds (parts_over f a is) → Each IsClosePart (parts_over f a is)
+    parts-close : (f : FormatMeaning) (a : Option Align) (is : List ItemMeaning) → length f.spacings + 1 ≡ length is → Each Holds (parts_over f a is) → Each IsClosePart (parts_over f a is)
     parts-close f a [] long h = tt
     parts-close f a (i ∷ is) long h =
-        let one = each-split Holds (front_parts f.axis i.name f.from_parent) (item_parts f.axis i ++ (chain_parts f.axis i.name f.gaps is ++ (back_parts f.axis (last_name i.name is) f.to_parent ++ align_parts a i.name is))) h in
-        let two = each-split Holds (item_parts f.axis i) (chain_parts f.axis i.name f.gaps is ++ (back_parts f.axis (last_name i.name is) f.to_parent ++ align_parts a i.name is)) one.1 in
-        let three = each-split Holds (chain_parts f.axis i.name f.gaps is) (back_parts f.axis (last_name i.name is) f.to_parent ++ align_parts a i.name is) two.1 in
+        let one = each-split Holds (front_parts f.axis i.name f.from_parent) (item_parts f.axis i ++ (chain_parts f.axis i.name f.spacings is ++ (back_parts f.axis (last_name i.name is) f.to_parent ++ align_parts a i.name is))) h in
+        let two = each-split Holds (item_parts f.axis i) (chain_parts f.axis i.name f.spacings is ++ (back_parts f.axis (last_name i.name is) f.to_parent ++ align_parts a i.name is)) one.1 in
+        let three = each-split Holds (chain_parts f.axis i.name f.spacings is) (back_parts f.axis (last_name i.name is) f.to_parent ++ align_parts a i.name is) two.1 in
         let four = each-split Holds (back_parts f.axis (last_name i.name is) f.to_parent) (align_parts a i.name is) three.1 in
         let here = item-close f.axis i two.0 in
-        let rest = chain-close f.axis i.name f.gaps is (omega (arith, long)) here.0 three.0 in
-        each-join IsClosePart (front_parts f.axis i.name f.from_parent) (item_parts f.axis i ++ (chain_parts f.axis i.name f.gaps is ++ (back_parts f.axis (last_name i.name is) f.to_parent ++ align_parts a i.name is))) (front-close f.axis i.name f.from_parent here.0 one.0)
-        (each-join IsClosePart (item_parts f.axis i) (chain_parts f.axis i.name f.gaps is ++ (back_parts f.axis (last_name i.name is) f.to_parent ++ align_parts a i.name is)) here.1
-        (each-join IsClosePart (chain_parts f.axis i.name f.gaps is) (back_parts f.axis (last_name i.name is) f.to_parent ++ align_parts a i.name is) rest.1
+        let rest = chain-close f.axis i.name f.spacings is (omega (arith, long)) here.0 three.0 in
+        each-join IsClosePart (front_parts f.axis i.name f.from_parent) (item_parts f.axis i ++ (chain_parts f.axis i.name f.spacings is ++ (back_parts f.axis (last_name i.name is) f.to_parent ++ align_parts a i.name is))) (front-close f.axis i.name f.from_parent here.0 one.0)
+        (each-join IsClosePart (item_parts f.axis i) (chain_parts f.axis i.name f.spacings is ++ (back_parts f.axis (last_name i.name is) f.to_parent ++ align_parts a i.name is)) here.1
+        (each-join IsClosePart (chain_parts f.axis i.name f.spacings is) (back_parts f.axis (last_name i.name is) f.to_parent ++ align_parts a i.name is) rest.1
         (each-join IsClosePart (back_parts f.axis (last_name i.name is) f.to_parent) (align_parts a i.name is)
         (back-close f.axis (last_name i.name is) f.to_parent (last-known i.name is here.0 rest.0) four.0)
         (align-close a i.name is here.0 rest.0))))
@@ -278,7 +278,7 @@ module _ (t : ViewTree) (tree : IsTree t) where
     rows-owned ms (l ∷ lines) n (r ∷ rows) above close are =
         (row-owned t.views named (terms_of l) r above.0 are.0.is_row.sum close.0, rows-owned ms lines (n + 1) rows above.1 close.1 are.1)
 
-pub format-owned : (t : ViewTree) (ms : MetricList) (f : FormatMeaning) (a : Option Align) (first : ℕ) (c : CompiledLine) → IsTree t → length f.gaps + 1 ≡ length f.items → IsCompiledFormat t.views ms f a first c → AreOwned t.views c
+pub format-owned : (t : ViewTree) (ms : MetricList) (f : FormatMeaning) (a : Option Align) (first : ℕ) (c : CompiledLine) → IsTree t → length f.spacings + 1 ≡ length f.items → IsCompiledFormat t.views ms f a first c → AreOwned t.views c
 unfolding parts
 format-owned t ms f a first c tree long is =
     All-from_recursion (λ (r : RowForm). All (λ u. HasOwner t.views c.views u.attr) r.terms) c.rows

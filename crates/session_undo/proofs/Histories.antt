@@ -8,10 +8,11 @@ use Rattle.version_list.specs.Versions.{Versions}
 use Rattle.version_list.specs.declared.TheConstants.{MOST}
 use Rattle.layout_solver.specs.Layouts.{Layout, Solution, solution_of}
 use Rattle.session_undo.specs.declared.item.Item as declared
-use Rattle.session_undo.specs.declared.past.Past.{Past}
+use Rattle.session_undo.specs.declared.scene.past.Past.{Past}
 use Rattle.session_undo.specs.Items.{Item}
 use Rattle.session_undo.specs.Kept.{AreAlike, IsKept, IsKeptHistory, earlier_at, history_at, items_of, own_or, scene_at, scene_of}
-use Rattle.session_undo.specs.Scene.{EARLIER, Scene, with_earlier}
+use Rattle.session_undo.specs.Scene.{Scene, with_earlier}
+use Rattle.session_undo.specs.declared.limits.TheConstants.{EARLIER}
 
 -- ---- one solution, one scene
 

@@ -2,7 +2,7 @@
 use Rattle.std.proofs.Common.{◌≡◌, ◌∙◌, ◌≤◌, ◌∷◌, ℕ, List, length, take, sym, ap, arith}
 use Rattle.std.proofs.lemmas.List.{take_all}
 use Rattle.version_list.specs.declared.TheConstants.{MOST}
-use Rattle.session_undo.specs.Scene.{EARLIER}
+use Rattle.session_undo.specs.declared.limits.TheConstants.{EARLIER}
 use Rattle.view_tree.specs.Views.{ViewTree}
 use Rattle.constraint_compile.specs.Meaning.{MetricList}
 use Rattle.layout_solver.specs.Layouts.{Layout, solution_of}

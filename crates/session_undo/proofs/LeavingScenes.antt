@@ -16,7 +16,7 @@ use Rattle.layout_solver.specs.declared.removing.RemoveStop.{RemoveStop}
 use Rattle.layout_solver.specs.declared.removing.RemoveStop.TheVariants as removal
 use Rattle.session_undo.specs.Items.{Item, OfWindow, OfView, Sized, OfLine, Suggested, AreRows}
 use Rattle.session_undo.specs.Scene.{Scene, AreDraftRows, moved}
-use Rattle.session_undo.specs.Leaving.{attributes_in, goes_with, numbers_of, other_stays, staying, stood_of, without_views}
+use Rattle.session_undo.specs.Leaving.{attributes_in, goes_with, numbers_of, other_stays, staying, stood_of, without_items, without_views}
 use Rattle.session_undo.specs.Machine.{CannotLeave, HasLeft, IsLeaving, IsProblemOf}
 use Rattle.session_undo.specs.Adding.{HasRun, LeaveStopsAt}
 use Rattle.session_undo.specs.Attributes.{IsClose, attributes_of}
@@ -31,10 +31,6 @@ use Rattle.session_undo.proofs.Wholes.{IsSettled}
 
 abbrev parts : Scene → List Item → ℕ → Layout → Scene
 parts draft held next l = record draft { held = held; next_row = next; rows = l.problem.rows; stays = l.problem.stays; values = l.values }
-
--- the scene without what goes
-abbrev pub without_these : Scene → (Item → Bool) → Scene
-without_these old goes = record old { held = staying goes old.held; stays = moved old.stays old.values }
 
 abbrev of : List Row → List Stay → Problem
 of rows stays = record { rows = rows; stays = stays }
@@ -122,7 +118,7 @@ module _ (tree : ViewTree) (ms : MetricList) (held : List Item) (next : ℕ) (l 
     group-problem = without-is group_leaving (stood l) ∙ ap (of (filter (keeps (numbers_of goes held)) l.problem.rows)) (no-stays-leave (stays_at l.values) ∙ sym moves)
 
     group-leaves : (rows : List Row) → rows ≡ filter (keeps (numbers_of goes held)) l.problem.rows
-        → IsLeaving (scene_at tree ms held next l) (without_these (scene_at tree ms held next l) goes) rows l.corner group_leaving
+        → IsLeaving (scene_at tree ms held next l) (without_items (scene_at tree ms held next l) goes) rows l.corner group_leaving
     group-leaves rows rows_are = record {
       reached = reached l sound;
       can = rows-can goes ms held (stood_of (scene_at tree ms held next l)) kept.are_rows is.whole.rising;
@@ -130,13 +126,13 @@ module _ (tree : ViewTree) (ms : MetricList) (held : List Item) (next : ℕ) (l 
       left = ap₂ of rows_are (sym (no-stays-leave (moved l.problem.stays l.values))) ∙ sym (without-is group_leaving (stood_of (scene_at tree ms held next l)));
     }
 
-    pub group-poses : (p : Problem) → p ≡ with_removed l group_leaving → IsProblemOf (without_these (scene_at tree ms held next l) goes) p
+    pub group-poses : (p : Problem) → p ≡ with_removed l group_leaving → IsProblemOf (without_items (scene_at tree ms held next l) goes) p
     group-poses p e = (subst (AreRows ms (staying goes held)) (sym (rows_is p _ (e ∙ group-problem))) group-rows, stays_is p _ (e ∙ group-problem))
 
     pub group-stops : (budget : ℕ) (s : RemoveStop) → IsRemoveStop (stood l) l.corner group_leaving budget s
-        → LeaveStopsAt (scene_at tree ms held next l) (without_these (scene_at tree ms held next l) goes) budget s
+        → LeaveStopsAt (scene_at tree ms held next l) (without_items (scene_at tree ms held next l) goes) budget s
     group-stops budget s stops =
-        left-stops (scene_at tree ms held next l) (without_these (scene_at tree ms held next l) goes) (filter (keeps (numbers_of goes held)) l.problem.rows) l group_leaving budget s
+        left-stops (scene_at tree ms held next l) (without_items (scene_at tree ms held next l) goes) (filter (keeps (numbers_of goes held)) l.problem.rows) l group_leaving budget s
         group-rows (group-leaves (filter (keeps (numbers_of goes held)) l.problem.rows) refl) stands stops
 
     module _ (items : List Item) (new : Layout) (done : new.problem ≡ with_removed l group_leaving) (items_are : items ≡ staying goes held) where
@@ -150,9 +146,9 @@ module _ (tree : ViewTree) (ms : MetricList) (held : List Item) (next : ℕ) (l 
       are = subst (AreRows ms (staying goes held)) (sym rows_are) group-rows
 
       pub group-left : (budget : ℕ) → AreBest new.problem new.values → HasRun l new group_leaving budget
-          → HasLeft (scene_at tree ms held next l) (without_these (scene_at tree ms held next l) goes) budget (scene_at tree ms items next new)
+          → HasLeft (scene_at tree ms held next l) (without_items (scene_at tree ms held next l) goes) budget (scene_at tree ms items next new)
       group-left budget best run =
-          left-at (scene_at tree ms held next l) (without_these (scene_at tree ms held next l) goes) items next l new group_leaving budget
+          left-at (scene_at tree ms held next l) (without_items (scene_at tree ms held next l) goes) items next l new group_leaving budget
           items_are refl stays_are are best (group-leaves new.problem.rows rows_are) stands run
 
       pub group-kept : IsKept (scene_at tree ms items next new)

@@ -27,6 +27,7 @@ pub mod MovingInstances
 pub mod NearMoves
 pub mod Nears
 pub mod NewViews
+pub mod NextItems
 pub mod NextLines
 pub mod NextRows
 pub mod Owners

@@ -82,3 +82,8 @@ contains-or (x ∷ xs) v = elim (cases_eq x v) [
 -- a list has one element at a place
 pub one-read : {X : Type 0} (xs : List X) (i : ℕ) (x y : X) → i < length xs → x ≡ get_or xs i x → y ≡ get_or xs i y → x ≡ y
 one-read xs i x y within x_is y_is = x_is ∙ get_or_default xs i x y within ∙ sym y_is
+
+-- ---- one element more
+
+pub each-snoc : {A : Type 0} (P : A → Type 0) (xs new : List A) (x : A) → All P xs → P x → new ≡ xs ++ x ∷ [] → All P new
+each-snoc P xs new x each is added = subst (All P) (sym added) (All-append P xs (x ∷ []) each (All-from_recursion P (x ∷ []) (is, tt)))

@@ -10,7 +10,8 @@ use Rattle.constraint_compile.specs.Meaning.{MetricList}
 use Rattle.constraint_compile.specs.Compiled.{RowForm, CompiledLine, IsRowNow, AreRowsNow}
 use Rattle.session_undo.specs.Attributes.{attributes_of, AreNumberedFrom, IsNextLine}
 use Rattle.session_undo.proofs.Lists.{pairs-nil, pairs-cons, pairs-map, pairs-unmapped, all-unmapped}
-use Rattle.session_undo.proofs.Wholes.{shape, MayBeAdded}
+use Rattle.session_undo.proofs.Wholes.{shape}
+use Rattle.session_undo.specs.Attributes.{MayBeAdded}
 
 -- ---- numbers
 

@@ -84,17 +84,17 @@ some-held (Suggested own ∷ held) s some = some-held held s some
 
 -- ---- its number
 
-first-number : (held : List Item) (s : Size) → Each IsItem held → size_of held ≡ Some s → (0 < s.first) × (s.first < 2 ^ 31)
+first-number : (held : List Item) (s : Size) → Each IsItem held → size_of held ≡ Some s → (0 < s.first_row) × (s.first_row < 2 ^ 31)
 first-number [] s each some = absurd (none-some s some)
 first-number (OfWindow ∷ held) s each some = first-number held s each.1 some
 first-number (OfView first id ∷ held) s each some = first-number held s each.1 some
 first-number (Sized first w h ∷ held) s each some =
-    let same : record { first = first; width = w; height = h } ≡ s = same_Some (record { first = first; width = w; height = h }) s some in
-    subst (λ (t : Size). (0 < t.first) × (t.first < 2 ^ 31)) same each.0
+    let same : record { first_row = first; width = w; height = h } ≡ s = same_Some (record { first_row = first; width = w; height = h }) s some in
+    subst (λ (t : Size). (0 < t.first_row) × (t.first_row < 2 ^ 31)) same each.0
 first-number (OfLine group line ∷ held) s each some = first-number held s each.1 some
 first-number (Suggested own ∷ held) s each some = first-number held s each.1 some
 
-pub size-number : (held : List Item) (s : Size) → All IsItem held → size_of held ≡ Some s → (0 < s.first) × (s.first < 2 ^ 31)
+pub size-number : (held : List Item) (s : Size) → All IsItem held → size_of held ≡ Some s → (0 < s.first_row) × (s.first_row < 2 ^ 31)
 size-number held s each some = first-number held s (recursion_from_All IsItem held each) some
 
 -- ---- its rows
@@ -103,35 +103,35 @@ size-number held s each some = first-number held s (recursion_from_All IsItem he
 record AreAround (ms : MetricList) (held : List Item) (rows : List Row) (w h : Fraction) (s : Size) : Type 0 where
   pre : List Row
   post : List Row
-  before : rows ≡ pre ++ (size_rows s.first s.width s.height ++ post)
-  after : AreRows ms (resized w h held) (pre ++ (size_rows s.first w h ++ post))
+  before : rows ≡ pre ++ (size_rows s.first_row s.width s.height ++ post)
+  after : AreRows ms (resized w h held) (pre ++ (size_rows s.first_row w h ++ post))
 
-size-here : (ms : MetricList) (held : List Item) (rows front back : List Row) (w h : Fraction) (s : Size) → rows ≡ front ++ back → front ≡ size_rows s.first s.width s.height → AreRows ms held back
-    → AreAround ms (Sized s.first s.width s.height ∷ held) rows w h s
+size-here : (ms : MetricList) (held : List Item) (rows front back : List Row) (w h : Fraction) (s : Size) → rows ≡ front ++ back → front ≡ size_rows s.first_row s.width s.height → AreRows ms held back
+    → AreAround ms (Sized s.first_row s.width s.height ∷ held) rows w h s
 size-here ms held rows front back w h s is first rest = record {
   pre = [];
   post = back;
   before = is ∙ ap (λ (r : List Row). r ++ back) first;
-  after = (size_rows s.first w h, back, refl, refl, rest);
+  after = (size_rows s.first_row w h, back, refl, refl, rest);
 }
 
 around : (ms : MetricList) (held : List Item) (rows : List Row) (w h : Fraction) (s : Size) → AreRows ms held rows → size_of held ≡ Some s → AreAround ms held rows w h s
 around ms [] rows w h s are some = absurd (none-some s some)
 around ms (OfWindow ∷ held) rows w h s (front, back, is, first, rest) some =
     let r = around ms held back w h s rest some in
-    record { pre = front ++ r.pre; post = r.post; before = is ∙ ap (λ (b : List Row). front ++ b) r.before ∙ sym (append_assoc front r.pre _); after = (front, r.pre ++ (size_rows s.first w h ++ r.post), append_assoc front r.pre _, first, r.after) }
+    record { pre = front ++ r.pre; post = r.post; before = is ∙ ap (λ (b : List Row). front ++ b) r.before ∙ sym (append_assoc front r.pre _); after = (front, r.pre ++ (size_rows s.first_row w h ++ r.post), append_assoc front r.pre _, first, r.after) }
 around ms (OfView n id ∷ held) rows w h s (front, back, is, first, rest) some =
     let r = around ms held back w h s rest some in
-    record { pre = front ++ r.pre; post = r.post; before = is ∙ ap (λ (b : List Row). front ++ b) r.before ∙ sym (append_assoc front r.pre _); after = (front, r.pre ++ (size_rows s.first w h ++ r.post), append_assoc front r.pre _, first, r.after) }
+    record { pre = front ++ r.pre; post = r.post; before = is ∙ ap (λ (b : List Row). front ++ b) r.before ∙ sym (append_assoc front r.pre _); after = (front, r.pre ++ (size_rows s.first_row w h ++ r.post), append_assoc front r.pre _, first, r.after) }
 around ms (Sized n x y ∷ held) rows w h s (front, back, is, first, rest) some =
-    let same : record { first = n; width = x; height = y } ≡ s = same_Some (record { first = n; width = x; height = y }) s some in
-    subst (λ (t : Size). AreAround ms (Sized n x y ∷ held) rows w h t) same (size-here ms held rows front back w h (record { first = n; width = x; height = y }) is first rest)
+    let same : record { first_row = n; width = x; height = y } ≡ s = same_Some (record { first_row = n; width = x; height = y }) s some in
+    subst (λ (t : Size). AreAround ms (Sized n x y ∷ held) rows w h t) same (size-here ms held rows front back w h (record { first_row = n; width = x; height = y }) is first rest)
 around ms (OfLine group line ∷ held) rows w h s (front, back, is, first, rest) some =
     let r = around ms held back w h s rest some in
-    record { pre = front ++ r.pre; post = r.post; before = is ∙ ap (λ (b : List Row). front ++ b) r.before ∙ sym (append_assoc front r.pre _); after = (front, r.pre ++ (size_rows s.first w h ++ r.post), append_assoc front r.pre _, first, r.after) }
+    record { pre = front ++ r.pre; post = r.post; before = is ∙ ap (λ (b : List Row). front ++ b) r.before ∙ sym (append_assoc front r.pre _); after = (front, r.pre ++ (size_rows s.first_row w h ++ r.post), append_assoc front r.pre _, first, r.after) }
 around ms (Suggested own ∷ held) rows w h s (front, back, is, first, rest) some =
     let r = around ms held back w h s rest some in
-    record { pre = front ++ r.pre; post = r.post; before = is ∙ ap (λ (b : List Row). front ++ b) r.before ∙ sym (append_assoc front r.pre _); after = (front, r.pre ++ (size_rows s.first w h ++ r.post), append_assoc front r.pre _, first, r.after) }
+    record { pre = front ++ r.pre; post = r.post; before = is ∙ ap (λ (b : List Row). front ++ b) r.before ∙ sym (append_assoc front r.pre _); after = (front, r.pre ++ (size_rows s.first_row w h ++ r.post), append_assoc front r.pre _, first, r.after) }
 
 -- ---- the changes of a size
 
@@ -202,11 +202,11 @@ module _ (pre post : List Row) (n : ℕ) (x y w h : Fraction) (rising : AllPairs
 
 -- the rows of what is held with the other size are those before with its constants
 pub shifted-size : (ms : MetricList) (held : List Item) (rows : List Row) (w h : Fraction) (s : Size) → AreRows ms held rows → size_of held ≡ Some s → AllPairs (λ a b. a.id < b.id) rows
-    → AreRows ms (resized w h held) (shifted (to_size s.first w h) rows)
+    → AreRows ms (resized w h held) (shifted (to_size s.first_row w h) rows)
 shifted-size ms held rows w h s are some rising =
     let r : AreAround ms held rows w h s = around ms held rows w h s are some in
-    let split : AllPairs (λ a b. a.id < b.id) (r.pre ++ (size_rows s.first s.width s.height ++ r.post)) = subst (AllPairs (λ (a b : Row). a.id < b.id)) r.before rising in
-    subst (AreRows ms (resized w h held)) (sym (ap (shifted (to_size s.first w h)) r.before ∙ all-shifted r.pre r.post s.first s.width s.height w h split)) r.after
+    let split : AllPairs (λ a b. a.id < b.id) (r.pre ++ (size_rows s.first_row s.width s.height ++ r.post)) = subst (AllPairs (λ (a b : Row). a.id < b.id)) r.before rising in
+    subst (AreRows ms (resized w h held)) (sym (ap (shifted (to_size s.first_row w h)) r.before ∙ all-shifted r.pre r.post s.first_row s.width s.height w h split)) r.after
 
 -- ---- the changes may be made
 
@@ -236,12 +236,12 @@ above-zero : (w x : Fraction) → 0 < w.den → 0 < x.den → 0 < (plus w (negat
 above-zero w x one two = mul-pos one two
 
 -- a size that is not far, whose rows are there
-pub can-resize : (ms : MetricList) (held : List Item) (p : Problem) (w h : Fraction) (s : Size) → AreRows ms held p.rows → size_of held ≡ Some s → IsWhole p → (0 < w.den) × (0 < h.den) → (IsFarSize held w h → ⊥) → CanShift p (to_size s.first w h)
+pub can-resize : (ms : MetricList) (held : List Item) (p : Problem) (w h : Fraction) (s : Size) → AreRows ms held p.rows → size_of held ≡ Some s → IsWhole p → (0 < w.den) × (0 < h.den) → (IsFarSize held w h → ⊥) → CanShift p (to_size s.first_row w h)
 can-resize ms held p w h s are some whole tos near =
     let r : AreAround ms held p.rows w h s = around ms held p.rows w h s are some in
-    let each : Each IsRow (r.pre ++ (size_rows s.first s.width s.height ++ r.post)) = recursion_from_All IsRow (r.pre ++ (size_rows s.first s.width s.height ++ r.post)) (subst (All IsRow) r.before whole.rows) in
-    let width : IsRow (required_row s.first 3 Eq s.width) = each-at IsRow r.pre (required_row (s.first + 1) 4 Eq s.height ∷ r.post) (required_row s.first 3 Eq s.width) each in
-    let height : IsRow (required_row (s.first + 1) 4 Eq s.height) = each-second IsRow r.pre r.post (required_row s.first 3 Eq s.width) (required_row (s.first + 1) 4 Eq s.height) each in
-    size-near p r.pre r.post s.first s.width s.height w h r.before whole.rising (width.constant.lowest.above, height.constant.lowest.above) tos
+    let each : Each IsRow (r.pre ++ (size_rows s.first_row s.width s.height ++ r.post)) = recursion_from_All IsRow (r.pre ++ (size_rows s.first_row s.width s.height ++ r.post)) (subst (All IsRow) r.before whole.rows) in
+    let width : IsRow (required_row s.first_row 3 Eq s.width) = each-at IsRow r.pre (required_row (s.first_row + 1) 4 Eq s.height ∷ r.post) (required_row s.first_row 3 Eq s.width) each in
+    let height : IsRow (required_row (s.first_row + 1) 4 Eq s.height) = each-second IsRow r.pre r.post (required_row s.first_row 3 Eq s.width) (required_row (s.first_row + 1) 4 Eq s.height) each in
+    size-near p r.pre r.post s.first_row s.width s.height w h r.before whole.rising (width.constant.lowest.above, height.constant.lowest.above) tos
     (fits (plus w (negated s.width)) (above-zero w s.width tos.0 width.constant.lowest.above) (λ never. near (s, some, (λ both. never both.0))))
     (fits (plus h (negated s.height)) (above-zero h s.height tos.1 height.constant.lowest.above) (λ never. near (s, some, (λ both. never both.1))))

@@ -1,5 +1,5 @@
 -- What the engine's answers come to.
-use Rattle.std.proofs.Common.{◌≡◌, ℕ, ◌+◌, ◌*◌, ◌^◌, ◌<◌, ◌≤◌, true, false, List, [], ◌∷◌, ◌++◌, length, map, Some, All, inl, inr, refl, sym, ap, ap₂, ◌∙◌, subst, arith}
+use Rattle.std.proofs.Common.{◌≡◌, ℕ, ◌+◌, ◌*◌, ◌^◌, ◌≤◌, true, List, [], ◌++◌, map, Some, All, inl, inr, refl, sym, ap, ap₂, ◌∙◌, subst, arith}
 use Rattle.std.proofs.lemmas.List.Elements.{All-append}
 use Rattle.frac_core.specs.Fraction.{Fraction}
 use Rattle.problem_core.specs.declared.parts.Stay.{Stay}
@@ -10,7 +10,6 @@ use Rattle.problem_core.proofs.Refutations.{refutation-IsInConflict}
 use Rattle.problem_core.proofs.Wholes.{whole-IsProblem}
 use Rattle.view_tree.specs.Views.{ViewTree}
 use Rattle.constraint_compile.specs.Meaning.{MetricList}
-use Rattle.constraint_compile.specs.Compiled.{CompiledLine, AreRowsNow}
 use Rattle.cert_core.specs.Paths.{Path}
 use Rattle.cert_core.specs.declared.stops.RunStop.{RunStop}
 use Rattle.cert_core.specs.declared.stops.RunStop.TheVariants as run
@@ -19,13 +18,13 @@ use Rattle.layout_solver.specs.Begins.{Start, IsRunFrom, IsStopFrom}
 use Rattle.layout_solver.specs.declared.engine.Change.{Change}
 use Rattle.layout_solver.specs.Layouts.{Layout, AreBest, IsKeptLayout, stays_at, zeros, with_added}
 use Rattle.layout_solver.specs.Shifts.{shifted, with_shifts}
-use Rattle.session_undo.specs.Items.{Item, Size, Sized, OfLine, AreRows, rows_of_views, view_items, size_rows, has_size, resized, size_of, without_constant}
-use Rattle.session_undo.specs.Scene.{Scene, moved, AreDraftRows, with_line, with_window}
+use Rattle.session_undo.specs.Items.{Item, Size, AreRows, rows_of_views, view_items, has_size, resized, size_of, without_constant}
+use Rattle.session_undo.specs.Scene.{Scene, moved, AreDraftRows, with_window}
 use Rattle.session_undo.specs.Machine.{IsProblemOf, IsSolved, IsStart, IsStopped}
 use Rattle.session_undo.specs.Adding.{StopsAt, IsNoConflict, from_corner, from_shifts, views_draft, metrics_draft}
-use Rattle.session_undo.specs.Attributes.{AreOwned, IsCounted, attributes_from}
+use Rattle.session_undo.specs.Attributes.{IsCounted, attributes_from}
 use Rattle.session_undo.specs.Kept.{IsItem, IsKept, IsNamed, scene_at}
-use Rattle.session_undo.proofs.ItemRows.{rows-more, all-more, all-resized-IsItem, all-resized-IsNamed}
+use Rattle.session_undo.proofs.ItemRows.{all-resized-IsItem, all-resized-IsNamed}
 use Rattle.session_undo.proofs.ViewsCome.{all-items, all-names, rows-come, rows-join}
 use Rattle.session_undo.proofs.Moves.{moved-is, moved-still, moved-added}
 use Rattle.session_undo.proofs.NewViews.{views-possible}
@@ -151,73 +150,6 @@ module _ (tree : ViewTree) (ms : MetricList) (held : List Item) (next : ℕ) (l 
         counted = counted;
       })
 
-  -- ---- a line
-
-  pub line-stops : (group : List ℕ) (line : CompiledLine) (more : List Row) (budget : ℕ) (s : RunStop) → AreRowsNow ms line.rows more → IsStopFrom (from_corner l more) (with_added l [] more) budget s
-      → StopsAt (scene_at tree ms held next l) (with_line (scene_at tree ms held next l) group line) budget s
-  line-stops group line more budget s are stops =
-      stops-at (scene_at tree ms held next l) (with_line (scene_at tree ms held next l) group line) (l.problem.rows ++ more) (from_corner l more) (stays_at (l.values ++ zeros [])) budget s
-      (rows-more ms held (OfLine group line) l.problem.rows more kept.are_rows are) still
-      (kept-start (l.problem.rows ++ more) more refl) stops
-
-  pub line-solved : (items : List Item) (now : ℕ) (new : Layout) (group : List ℕ) (line : CompiledLine) (more : List Row) (budget : ℕ) → AreRowsNow ms line.rows more → new.problem ≡ with_added l [] more
-      → AreBest new.problem new.values → Run more new budget → items ≡ held ++ OfLine group line ∷ [] → now ≡ next + length line.rows
-      → Solved (with_line (scene_at tree ms held next l) group line) budget (scene_at tree ms items now new)
-  line-solved items now new group line more budget are done best runs items_is now_is =
-      solved-at (scene_at tree ms held next l) (with_line (scene_at tree ms held next l) group line) items now new (from_corner l more) budget items_is now_is
-      (stays_is new.problem (with_added l [] more) done ∙ sym still)
-      (subst (AreRows ms (held ++ OfLine group line ∷ [])) (sym (rows_is new.problem (with_added l [] more) done)) (rows-more ms held (OfLine group line) l.problem.rows more kept.are_rows are))
-      best (kept-start new.problem.rows more (rows_is new.problem (with_added l [] more) done)) runs
-
-  pub line-kept : (items : List Item) (now : ℕ) (new : Layout) (group : List ℕ) (line : CompiledLine) (more : List Row) → AreOwned tree.views line → AreRowsNow ms line.rows more → new.problem ≡ with_added l [] more
-      → items ≡ held ++ OfLine group line ∷ [] → next ≤ now → now ≤ 2 ^ 31 → IsCounted tree.views now new.problem → IsKept (scene_at tree ms items now new)
-  line-kept items now new group line more owned are done items_is up small counted =
-      subst (λ (hs : List Item). IsKept (scene_at tree ms hs now new)) (sym items_is)
-      (record {
-        are_rows = subst (AreRows ms (held ++ OfLine group line ∷ [])) (sym (rows_is new.problem (with_added l [] more) done)) (rows-more ms held (OfLine group line) l.problem.rows more kept.are_rows are);
-        each = all-more IsItem held (OfLine group line) kept.each tt;
-        named = all-more (IsNamed tree.views) held (OfLine group line) kept.named owned;
-        next = omega (arith, kept.next, up);
-        top = small;
-        counted = counted;
-      })
-
-  -- ---- the window's first size
-
-  abbrev first-draft : Fraction → Fraction → Scene
-  first-draft w h = record (scene_at tree ms held next l) { held = held ++ Sized next w h ∷ []; next_row = next + 2; stays = moved l.problem.stays l.values }
-
-  first-draft-is : (w h : Fraction) → has_size held ≡ false → with_window (scene_at tree ms held next l) w h ≡ first-draft w h
-  first-draft-is w h none = rw none refl
-
-  pub first-stops : (w h : Fraction) (more : List Row) (budget : ℕ) (s : RunStop) → has_size held ≡ false → more ≡ size_rows next w h → IsStopFrom (from_corner l more) (with_added l [] more) budget s
-      → StopsAt (scene_at tree ms held next l) (with_window (scene_at tree ms held next l) w h) budget s
-  first-stops w h more budget s none are stops =
-      subst (λ (d : Scene). StopsAt (scene_at tree ms held next l) d budget s) (sym (first-draft-is w h none))
-      (stops-at (scene_at tree ms held next l) (first-draft w h) (l.problem.rows ++ more) (from_corner l more) (stays_at (l.values ++ zeros [])) budget s (rows-more ms held (Sized next w h) l.problem.rows more kept.are_rows are) still (kept-start (l.problem.rows ++ more) more refl) stops)
-
-  pub first-solved : (items : List Item) (new : Layout) (w h : Fraction) (more : List Row) (budget : ℕ) → has_size held ≡ false → more ≡ size_rows next w h → new.problem ≡ with_added l [] more
-      → AreBest new.problem new.values → Run more new budget → items ≡ held ++ Sized next w h ∷ []
-      → Solved (with_window (scene_at tree ms held next l) w h) budget (scene_at tree ms items (next + 2) new)
-  first-solved items new w h more budget none are done best runs items_is =
-      subst (λ (d : Scene). Solved d budget (scene_at tree ms items (next + 2) new)) (sym (first-draft-is w h none))
-      (solved-at (scene_at tree ms held next l) (first-draft w h) items (next + 2) new (from_corner l more) budget items_is refl (stays_is new.problem (with_added l [] more) done ∙ sym still)
-      (subst (AreRows ms (held ++ Sized next w h ∷ [])) (sym (rows_is new.problem (with_added l [] more) done)) (rows-more ms held (Sized next w h) l.problem.rows more kept.are_rows are))
-      best (kept-start new.problem.rows more (rows_is new.problem (with_added l [] more) done)) runs)
-
-  pub first-kept : (items : List Item) (new : Layout) (w h : Fraction) (more : List Row) → more ≡ size_rows next w h → next + 2 ≤ 2 ^ 31 → new.problem ≡ with_added l [] more
-      → items ≡ held ++ Sized next w h ∷ [] → IsCounted tree.views (next + 2) new.problem → IsKept (scene_at tree ms items (next + 2) new)
-  first-kept items new w h more are below done items_is counted =
-      subst (λ (hs : List Item). IsKept (scene_at tree ms hs (next + 2) new)) (sym items_is)
-      (record {
-        are_rows = subst (AreRows ms (held ++ Sized next w h ∷ [])) (sym (rows_is new.problem (with_added l [] more) done)) (rows-more ms held (Sized next w h) l.problem.rows more kept.are_rows are);
-        each = all-more IsItem held (Sized next w h) kept.each (kept.next, omega (arith, below));
-        named = all-more (IsNamed tree.views) held (Sized next w h) kept.named tt;
-        next = omega (arith, kept.next);
-        top = below;
-        counted = counted;
-      })
-
   -- ---- the window's later sizes
 
   abbrev again-draft : Fraction → Fraction → Scene
@@ -226,29 +158,29 @@ module _ (tree : ViewTree) (ms : MetricList) (held : List Item) (next : ℕ) (l 
   again-draft-is : (w h : Fraction) → has_size held ≡ true → with_window (scene_at tree ms held next l) w h ≡ again-draft w h
   again-draft-is w h some = rw some refl
 
-  again-rows : (w h : Fraction) (size : Size) → size_of held ≡ Some size → AreRows ms (resized w h held) (shifted (to_size size.first w h) l.problem.rows)
+  again-rows : (w h : Fraction) (size : Size) → size_of held ≡ Some size → AreRows ms (resized w h held) (shifted (to_size size.first_row w h) l.problem.rows)
   again-rows w h size some = shifted-size ms held l.problem.rows w h size kept.are_rows some is.whole.rising
 
-  again-are : (new : Layout) (w h : Fraction) (size : Size) → size_of held ≡ Some size → new.problem ≡ with_shifts l (to_size size.first w h) → AreRows ms (resized w h held) new.problem.rows
+  again-are : (new : Layout) (w h : Fraction) (size : Size) → size_of held ≡ Some size → new.problem ≡ with_shifts l (to_size size.first_row w h) → AreRows ms (resized w h held) new.problem.rows
   again-are new w h size some done =
-      subst (AreRows ms (resized w h held)) (sym (rows_is new.problem (with_shifts l (to_size size.first w h)) done)) (again-rows w h size some)
+      subst (AreRows ms (resized w h held)) (sym (rows_is new.problem (with_shifts l (to_size size.first_row w h)) done)) (again-rows w h size some)
 
-  pub again-stops : (w h : Fraction) (size : Size) (budget : ℕ) (s : RunStop) → size_of held ≡ Some size → IsStopFrom (from_shifts l) (with_shifts l (to_size size.first w h)) budget s
+  pub again-stops : (w h : Fraction) (size : Size) (budget : ℕ) (s : RunStop) → size_of held ≡ Some size → IsStopFrom (from_shifts l) (with_shifts l (to_size size.first_row w h)) budget s
       → StopsAt (scene_at tree ms held next l) (with_window (scene_at tree ms held next l) w h) budget s
   again-stops w h size budget s some stops =
       subst (λ (d : Scene). StopsAt (scene_at tree ms held next l) d budget s) (sym (again-draft-is w h (some-held held size some)))
-      (shift-stops (again-draft w h) (to_size size.first w h) budget s (again-rows w h size some) moves stops)
+      (shift-stops (again-draft w h) (to_size size.first_row w h) budget s (again-rows w h size some) moves stops)
 
-  pub again-solved : (items : List Item) (new : Layout) (w h : Fraction) (size : Size) (budget : ℕ) → size_of held ≡ Some size → new.problem ≡ with_shifts l (to_size size.first w h)
+  pub again-solved : (items : List Item) (new : Layout) (w h : Fraction) (size : Size) (budget : ℕ) → size_of held ≡ Some size → new.problem ≡ with_shifts l (to_size size.first_row w h)
       → AreBest new.problem new.values → RunShifts new budget → items ≡ resized w h held
       → Solved (with_window (scene_at tree ms held next l) w h) budget (scene_at tree ms items next new)
   again-solved items new w h size budget some done best runs items_is =
       subst (λ (d : Scene). Solved d budget (scene_at tree ms items next new)) (sym (again-draft-is w h (some-held held size some)))
-      (solved-at (scene_at tree ms held next l) (again-draft w h) items next new (from_shifts l) budget items_is refl (stays_is new.problem (with_shifts l (to_size size.first w h)) done ∙ sym moves)
+      (solved-at (scene_at tree ms held next l) (again-draft w h) items next new (from_shifts l) budget items_is refl (stays_is new.problem (with_shifts l (to_size size.first_row w h)) done ∙ sym moves)
       (again-are new w h size some done) best
-      (shift-start new.problem.rows (to_size size.first w h) (rows_is new.problem (with_shifts l (to_size size.first w h)) done)) runs)
+      (shift-start new.problem.rows (to_size size.first_row w h) (rows_is new.problem (with_shifts l (to_size size.first_row w h)) done)) runs)
 
-  pub again-kept : (items : List Item) (new : Layout) (w h : Fraction) (size : Size) → size_of held ≡ Some size → new.problem ≡ with_shifts l (to_size size.first w h) → items ≡ resized w h held
+  pub again-kept : (items : List Item) (new : Layout) (w h : Fraction) (size : Size) → size_of held ≡ Some size → new.problem ≡ with_shifts l (to_size size.first_row w h) → items ≡ resized w h held
       → IsCounted tree.views next new.problem → IsKept (scene_at tree ms items next new)
   again-kept items new w h size some done items_is counted =
       subst (λ (hs : List Item). IsKept (scene_at tree ms hs next new)) (sym items_is)
@@ -288,23 +220,10 @@ module _ (tree : ViewTree) (ms : MetricList) (held : List Item) (next : ℕ) (l 
     stays_is p (with_added l (attributes_from id n) more) made ∙ sym (views-move id n),
   )
 
-  pub line-posed : (group : List ℕ) (line : CompiledLine) (more : List Row) (p : Problem) → AreRowsNow ms line.rows more → p ≡ with_added l [] more → IsProblemOf (with_line (scene_at tree ms held next l) group line) p
-  line-posed group line more p are made = (
-    subst (AreRows ms (held ++ OfLine group line ∷ [])) (sym (rows_is p (with_added l [] more) made)) (rows-more ms held (OfLine group line) l.problem.rows more kept.are_rows are),
-    stays_is p (with_added l [] more) made ∙ sym still,
-  )
-
-  pub first-posed : (w h : Fraction) (more : List Row) (p : Problem) → has_size held ≡ false → more ≡ size_rows next w h → p ≡ with_added l [] more → IsProblemOf (with_window (scene_at tree ms held next l) w h) p
-  first-posed w h more p none are made =
-      subst (λ (d : Scene). IsProblemOf d p) (sym (first-draft-is w h none)) (
-        subst (AreRows ms (held ++ Sized next w h ∷ [])) (sym (rows_is p (with_added l [] more) made)) (rows-more ms held (Sized next w h) l.problem.rows more kept.are_rows are),
-        stays_is p (with_added l [] more) made ∙ sym still,
-      )
-
   abbrev At : List Row → Problem
   At rows = record { rows = rows; stays = stays_at l.values }
 
-  pub again-posed : (w h : Fraction) (size : Size) (rows : List Row) (p : Problem) → size_of held ≡ Some size → rows ≡ shifted (to_size size.first w h) l.problem.rows → p ≡ At rows
+  pub again-posed : (w h : Fraction) (size : Size) (rows : List Row) (p : Problem) → size_of held ≡ Some size → rows ≡ shifted (to_size size.first_row w h) l.problem.rows → p ≡ At rows
       → IsProblemOf (with_window (scene_at tree ms held next l) w h) p
   again-posed w h size rows p some shifts made =
       subst (λ (d : Scene). IsProblemOf d p) (sym (again-draft-is w h (some-held held size some))) (

@@ -8,7 +8,7 @@ use Rattle.span_text.specs.declared.object.Object.{Object}
 use Rattle.script_text.specs.View.{object_view}
 use Rattle.script_text.specs.declared.words.AttrWord.{AttrWord}
 use Rattle.view_tree.specs.Views.{LiveView, view_named}
-use Rattle.constraint_compile.specs.Meaning.{MetricList, IsRank, unknown_object}
+use Rattle.constraint_compile.specs.Meaning.{IsRank, unknown_object}
 use Rattle.constraint_compile.specs.Suggestions.{suggested_priority}
 use Rattle.constraint_compile.specs.declared.suggestion.Suggestion.{Suggestion}
 use Rattle.session_undo.specs.Items.{suggestion_of}

@@ -14,7 +14,7 @@ use Rattle.session_undo.specs.Attributes.{attributes_of, view_attributes, HasOnl
 use Rattle.session_undo.proofs.Attributes.{contains-left, contains-top, contains-width, contains-height}
 use Rattle.session_undo.proofs.FormTerms.{found-among}
 use Rattle.session_undo.proofs.Lists.{pairs-nil, pairs-cons}
-use Rattle.session_undo.proofs.Wholes.{MayBeAdded}
+use Rattle.session_undo.specs.Attributes.{MayBeAdded}
 
 each-own : (v : ℕ) (w : AttrWord) → Each (λ t. Contains (view_attributes v) t.attr) (suggested_terms v w)
 each-own v word.Left = (contains-left v, tt)

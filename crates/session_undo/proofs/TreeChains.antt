@@ -12,7 +12,7 @@ use Rattle.view_tree.specs.JsonTrees.{Branch, branch, IsJson, IsTreeText, JsonTr
 use Rattle.view_tree.specs.JsonStops.{AreFree, GoesIn, IsFirstHeld, IsGrown, IsWithin, MayStayOut, PassesTreeLimit, has_room, is_held}
 use Rattle.view_tree.specs.Views.{LiveView, ViewTree, view_named}
 use Rattle.view_tree.specs.declared.stops.TreeStop.TheVariants as stays
-use Rattle.view_tree.proofs.ViewLemmas.{IsOnLevel-unique}
+use Rattle.view_tree.proofs.ViewLemmas.{IsAtDepth-unique}
 use Rattle.constraint_compile.specs.declared.stops.KindWord.TheVariants as kind
 use Rattle.session_undo.specs.Replies.{Reply, Outside, Unknown, Taken, Limit, Kind}
 use Rattle.session_undo.specs.Scene.{Scene, State}
@@ -38,7 +38,7 @@ pub no-limit : (t : ViewTree) (parent : ℕ) (b : Branch) → IsWithin t parent 
 no-limit t parent b within word.Name passes = passes within.short
 no-limit t parent b within word.Views passes = not-both (has_room t (size b)) passes.1 within.room
 no-limit t parent b within word.Depth (short, room, (level, on, deep)) =
-    let same : level ≡ within.high.0 = IsOnLevel-unique t.views parent level within.high.0 on within.high.1 in
+    let same : level ≡ within.high.0 = IsAtDepth-unique t.views parent level within.high.0 on within.high.1 in
     omega (arith, same, deep, within.high.2)
 no-limit t parent b within word.Line passes = passes
 no-limit t parent b within word.Metrics passes = passes

@@ -1,5 +1,5 @@
 -- Texts of trees against which there is a cause, one for each, and a text against which there is none.
-use Rattle.std.proofs.Common.{◌≡◌, ◌&&◌, ℕ, ◌+◌, ◌*◌, ◌^◌, ◌<◌, ◌≤◌, Bool, true, false, List, [], ◌∷◌, None, Some, codes, length, nat_lt, pos, refl, sym, ap, subst, ◌∙◌, true≢false, arith, inl, inr, lit<, unwrap_or}
+use Rattle.std.proofs.Common.{◌≡◌, ◌&&◌, ℕ, ◌*◌, ◌^◌, ◌<◌, Bool, true, false, List, [], ◌∷◌, None, Some, codes, nat_lt, pos, refl, sym, ap, subst, ◌∙◌, true≢false, arith, inl, inr, lit<, unwrap_or}
 use Rattle.std.specs.Prelude.{IsUtf8}
 use Rattle.std.proofs.lemmas.Bool.Decides.{nat_tests}
 use Rattle.std.proofs.lemmas.List.Elements.{All-from_recursion}
@@ -17,8 +17,8 @@ use Rattle.view_tree.specs.Views.{view_named, window}
 use Rattle.view_tree.proofs.JsonExamples.{limits_fail, shape_fails, shape_holds, syntax_holds, within_two}
 use Rattle.constraint_compile.specs.declared.stops.KindWord.TheVariants as kind
 use Rattle.session_undo.specs.Replies.{Reply, Done, Outside, Unknown, Taken, Limit, Kind}
-use Rattle.session_undo.specs.Scene.{Scene, State, first_scene, first_state}
-use Rattle.session_undo.specs.Machine.{AddsBranch, IsCrowded, IsMisshapen, Keeps, TriedTree, Unless, UnlessAny}
+use Rattle.session_undo.specs.Scene.{State, first_scene, first_state}
+use Rattle.session_undo.specs.Machine.{AddsBranch, IsCrowded, Keeps, TriedTree, Unless, UnlessAny}
 use Rattle.session_undo.specs.Adding.{NoEnd}
 use Rattle.session_undo.proofs.TreeChains.{no-first, no-limit, tree-crowded, tree-limited, tree-misshapen, tree-outside, tree-taken, tree-unknown}
 

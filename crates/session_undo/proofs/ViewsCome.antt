@@ -17,7 +17,8 @@ use Rattle.session_undo.specs.Kept.{IsItem, IsNamed}
 use Rattle.session_undo.specs.Attributes.{view_attributes, attributes_of, attributes_from, HasOnly, IsGrown, IsCounted}
 use Rattle.session_undo.proofs.Lists.{pairs-nil, pairs-cons, four-rising, rising-append, all-unmapped}
 use Rattle.session_undo.proofs.Attributes.{attributes-below, attribute-count, four-numbers, grown-attributes, contains-width, contains-height}
-use Rattle.session_undo.proofs.Wholes.{IsSettled, MayBeAdded, MayBeNew, added-rising, added-whole}
+use Rattle.session_undo.proofs.Wholes.{IsSettled, MayBeNew, added-rising, added-whole}
+use Rattle.session_undo.specs.Attributes.{MayBeAdded}
 use Rattle.session_undo.proofs.Additions.{one-only, once, counted-added}
 use Rattle.session_undo.proofs.Ranks.{HasRank, views-ranked}
 

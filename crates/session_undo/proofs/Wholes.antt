@@ -11,7 +11,7 @@ use Rattle.problem_core.specs.Layout.{Row, Problem, HasStay, IsCovered}
 use Rattle.problem_core.specs.Kept.{IsNumber, IsRow, IsStay, IsWhole, AreRising}
 use Rattle.problem_core.specs.Window.{zero_fraction}
 use Rattle.layout_solver.specs.Layouts.{stays_at, zeros}
-use Rattle.session_undo.specs.Attributes.{HasOnly}
+use Rattle.session_undo.specs.Attributes.{HasOnly, MayBeAdded}
 use Rattle.session_undo.proofs.Lists.{pairs-map, pairs-unmapped, all-unmapped, rising-append}
 
 abbrev at : ℕ × Fraction → ℕ
@@ -82,13 +82,6 @@ settled-count : (p : Problem) (values : List (ℕ × Fraction)) → IsSettled p 
 settled-count p values is = sym (length-map values at) ∙ ap length is.attributes ∙ length-map p.stays (λ (s : Stay). s.attr)
 
 -- ---- more rows
-
--- rows that may be added where these attributes have stays, and numbers below n are taken
-pub record MayBeAdded (attrs : List ℕ) (n : ℕ) (more : List Row) : Type 0 where
-  pub rows : All IsRow more
-  pub rising : AllPairs (λ r s. r.id < s.id) more
-  pub above : All (λ r. n ≤ r.id) more
-  pub only : All (HasOnly attrs) more
 
 -- attributes that may be added where those below n are taken
 pub record MayBeNew (n : ℕ) (attrs : List ℕ) : Type 0 where

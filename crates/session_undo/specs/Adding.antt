@@ -12,13 +12,14 @@ use Rattle.view_tree.specs.JsonTrees.{JsonTree, IsTreeText, names, size, with_br
 use Rattle.view_tree.specs.JsonStops.{AreFree, GoesIn, IsWithin}
 use Rattle.frac_core.specs.Fraction.{Fraction}
 use Rattle.problem_core.specs.Layout.{Row}
-use Rattle.constraint_compile.specs.Meaning.{MetricList, IsInThousand, IsRank, unknown_object}
+use Rattle.constraint_compile.specs.Meaning.{MetricList, IsPriority, IsRank, unknown_object}
 use Rattle.constraint_compile.specs.Compiled.{CompiledLine, AreRowsNow, IsFittingSum}
 use Rattle.constraint_compile.specs.Fractions.{plus, negated, IsConstant, IsSmallConstant}
 use Rattle.constraint_compile.specs.Suggestions.{scale_of, suggested_priority}
 use Rattle.constraint_compile.specs.declared.suggestion.Suggestion.{Suggestion}
-use Rattle.session_undo.specs.declared.suggesting.NewSuggestion.{NewSuggestion}
-use Rattle.session_undo.specs.declared.suggesting.NewSuggestion.TheVariants as new
+use Rattle.name_tables.specs.declared.stops.TheConstants.{NAME_LIMIT}
+use Rattle.session_undo.specs.declared.item.suggesting.NewSuggestion.{NewSuggestion}
+use Rattle.session_undo.specs.declared.item.suggesting.NewSuggestion.TheVariants as new
 use Rattle.constraint_compile.specs.declared.stops.CompileStop.{CompileStop}
 use Rattle.constraint_compile.specs.declared.stops.CompileStop.TheVariants as stop
 use Rattle.cert_core.specs.declared.stops.RunStop.{RunStop}
@@ -131,8 +132,9 @@ metrics_draft old metrics = record old { metrics = metrics; stays = moved old.st
 
 -- the constants of the two rows of the window's size, of which the first has this number
 abbrev pub size_changes : ℕ → Fraction → Fraction → List Change
-size_changes first width height =
-    (record { row = first; constant = width }) ∷ (record { row = first + 1; constant = height }) ∷ []
+size_changes first_row width height =
+    (record { row = first_row; constant = width })
+    ∷ (record { row = first_row + 1; constant = height }) ∷ []
 
 -- ---- no cause is there
 
@@ -141,7 +143,7 @@ pub record IsFreeView (old : State) (name parent : List ℕ) (new : ViewTree) (i
   pub above : LiveView
   pub found : view_named old.scene.tree.views parent ≡ Some above
   pub free : IsTaken old.scene name → ⊥
-  pub short : length name ≤ 64
+  pub short : length name ≤ NAME_LIMIT
   pub room : HasAllViews old → ⊥
   pub high : IsDeep old.scene.tree parent → ⊥
   pub rows : IsCrowded old 2 → ⊥
@@ -165,7 +167,7 @@ pub record IsFreeTree (old : State) (text : List ℕ) (new : ViewTree) (id count
 pub record IsFreeMetric (old : State) (name : List ℕ) (value : Fraction) (new : MetricList)
     (to : List Change) : Type 0 where
   pub free : IsSome (view_named old.scene.tree.views name) → ⊥
-  pub short : length name ≤ 64
+  pub short : length name ≤ NAME_LIMIT
   pub room : AreTooMany old.scene.metrics name → ⊥
   pub new_is : new ≡ metrics_with old.scene.metrics name value
   pub changes : AreChangesFor old.scene new to
@@ -187,7 +189,7 @@ pub record IsGoing (scene : Scene) (name gone : List ℕ) : Type 0 where
 -- the suggestion's row has the next number, its rank is one that a priority stands for, and its view is there
 pub record IsNextSuggestion (scene : Scene) (s : Suggestion) : Type 0 where
   pub row : s.row ≡ scene.next_row
-  pub rank : IsInThousand s.rank
+  pub rank : IsPriority s.rank
   pub name : List ℕ
   pub view : LiveView
   pub found : view_named scene.tree.views name ≡ Some view
@@ -267,14 +269,15 @@ pub record IsHeldSuggestion (scene : Scene) (name : List ℕ) (attr : AttrWord) 
 -- the limits of groups that a further line may pass
 abbrev pub UnlessFull : State → List ℕ → (Reply → State → Type 0) → Reply → State → Type 0
 UnlessFull old group F =
-    Unless (64 < length group) (Limit word.Name) old (Unless (HasAllLines old) (Limit word.Lines) old F)
+    Unless (NAME_LIMIT < length group) (Limit word.Name) old
+    (Unless (HasAllLines old) (Limit word.Lines) old F)
 
 -- the first of these limits that it passes, and that it passes none
 abbrev pub IsGroupLimit : State → List ℕ → LimitWord → Type 0
 IsGroupLimit old group limit = UnlessFull old group (λ reply new. ⊥) (Limit limit) old
 
 abbrev pub IsGroupFree : State → List ℕ → Type 0
-IsGroupFree old group = (64 < length group → ⊥) × (HasAllLines old → ⊥)
+IsGroupFree old group = (NAME_LIMIT < length group → ⊥) × (HasAllLines old → ⊥)
 
 -- the same with the limit of rows
 abbrev pub IsLineLimit : State → List ℕ → ℕ → LimitWord → Type 0

@@ -1,13 +1,18 @@
 -- The attributes of views, and what makes the rows and stays of a session a problem.
-use Rattle.std.specs.Prelude.{◌≡◌, ◌⊎◌, Some, ℕ, zero, suc, ◌+◌, ◌*◌, ◌^◌, ◌<◌, ◌≤◌, List, [], ◌∷◌, ◌++◌, length, map, All}
+use Rattle.std.specs.Prelude.{◌≡◌, ◌⊎◌, Some, ℕ, zero, suc, ◌+◌, ◌<◌, ◌≤◌, List, [], ◌∷◌, ◌++◌}
+use Rattle.std.specs.Prelude.{length, map, All, AllPairs}
 use Rattle.std.specs.List.{Contains}
+use Rattle.problem_core.specs.Kept.{IsRow}
 use Rattle.problem_core.specs.Layout.{Row, Problem}
+use Rattle.view_tree.specs.declared.limits.TheConstants.{ID_LIMIT, VIEW_LIMIT}
+use Rattle.view_tree.specs.Attributes.{left_of, top_of, width_of, height_of}
 use Rattle.view_tree.specs.Views.{LiveView, HasParent}
 use Rattle.constraint_compile.specs.Compiled.{RowForm, CompiledLine}
+use Rattle.session_undo.specs.declared.limits.TheConstants.{MOST_ROWS}
 
 -- left, top, width and height of a view
 abbrev pub view_attributes : ℕ → List ℕ
-view_attributes id = (4 * id + 1) ∷ (4 * id + 2) ∷ (4 * id + 3) ∷ (4 * id + 4) ∷ []
+view_attributes id = left_of id ∷ top_of id ∷ width_of id ∷ height_of id ∷ []
 
 -- those of all views, in order
 abbrev pub attributes_of : List LiveView → List ℕ
@@ -22,6 +27,13 @@ attributes_from id (suc count) = view_attributes id ++ attributes_from (id + 1) 
 -- a row has these attributes alone
 abbrev pub HasOnly : List ℕ → Row → Type 0
 HasOnly attrs r = All (λ t. Contains attrs t.attr) r.terms
+
+-- the rows may join others whose numbers are below this one, and have these attributes alone
+pub record MayBeAdded (attrs : List ℕ) (next : ℕ) (more : List Row) : Type 0 where
+  pub rows : All IsRow more
+  pub rising : AllPairs (λ r s. r.id < s.id) more
+  pub above : All (λ r. next ≤ r.id) more
+  pub only : All (HasOnly attrs) more
 
 -- the line's text names the view, or one whose parent it is
 abbrev pub IsClose : List LiveView → List ℕ → ℕ → Type 0
@@ -54,13 +66,13 @@ pub record IsGrown (old new : List LiveView) (id count : ℕ) : Type 0 where
   pub are : new ≡ old ++ more
   pub attributes : attributes_of more ≡ attributes_from id count
   pub above : All (λ v. v.id < id) old
-  pub few : length new ≤ 200
-  pub small : id + count ≤ 2 ^ 29
+  pub few : length new ≤ VIEW_LIMIT
+  pub small : id + count ≤ ID_LIMIT
 
--- the stays are those of the views' attributes, and the rows, at most 2,000, have numbers below the next one
--- and ranks above 0
+-- the stays are those of the views' attributes, and the rows, which aren't too many, have numbers below the
+-- next one and ranks above 0
 pub record IsCounted (views : List LiveView) (next_row : ℕ) (problem : Problem) : Type 0 where
   pub stays : map (λ s. s.attr) problem.stays ≡ attributes_of views
   pub below : All (λ r. r.id < next_row) problem.rows
   pub ranks : All (λ r. 0 < r.rank) problem.rows
-  pub few : length problem.rows ≤ 2000
+  pub few : length problem.rows ≤ MOST_ROWS

@@ -1,7 +1,5 @@
 -- What is found of a scene, and why its probes stop.
-use Rattle.std.specs.Prelude.{◌≡◌, ℕ, ◌⊎◌, Bool}
-use Rattle.cert_core.specs.Paths.{Path}
-use Rattle.cert_core.specs.declared.stops.UnfitPath.{UnfitPath}
+use Rattle.std.specs.Prelude.{◌≡◌, ℕ}
 use Rattle.layout_solver.specs.Begins.{IsReached}
 use Rattle.layout_solver.specs.Layouts.{Layout}
 use Rattle.diagnosis.specs.Diagnoses.{AreFindings, Findings}

@@ -1,11 +1,12 @@
 -- What is held, and the rows that it stands for.
-use Rattle.std.specs.Prelude.{◌≡◌, ℕ, zero, suc, ◌+◌, ◌*◌, Bool, true, false, cond}
+use Rattle.std.specs.Prelude.{◌≡◌, ℕ, zero, suc, ◌+◌, Bool, true, false, cond}
 use Rattle.std.specs.Prelude.{List, [], ◌∷◌, ◌++◌, length, filter}
 use Rattle.std.specs.Prelude.{Option, Some, None, ◌&&◌, nat_eq}
 use Rattle.frac_core.specs.Fraction.{Fraction}
 use Rattle.problem_core.specs.declared.parts.Rel.TheVariants.{Eq, Ge}
 use Rattle.problem_core.specs.Layout.{Row}
 use Rattle.problem_core.specs.Window.{required_row, structural_rows, zero_fraction}
+use Rattle.view_tree.specs.Attributes.{width_of, height_of}
 use Rattle.constraint_compile.specs.Meaning.{MetricList}
 use Rattle.script_text.specs.declared.words.AttrWord.{AttrWord}
 use Rattle.script_text.specs.declared.words.AttrWord.TheVariants as attr
@@ -25,31 +26,33 @@ pub data Item : Type 0 where
 
 -- ---- rows
 
--- the view v has the attributes 4v + 1 to 4v + 4: left, top, width and height
+-- a view's width and height are at least 0
 abbrev pub view_rows : ℕ → ℕ → List Row
-view_rows first id =
-    required_row first (4 * id + 3) Ge zero_fraction
-    ∷ required_row (first + 1) (4 * id + 4) Ge zero_fraction ∷ []
+view_rows first_row id =
+    required_row first_row (width_of id) Ge zero_fraction
+    ∷ required_row (first_row + 1) (height_of id) Ge zero_fraction ∷ []
 
 -- the rows of so many views, of which the first has these numbers of its first row and its own: those of each
 -- later one are 2 and 1 more
 abbrev pub rows_of_views : ℕ → ℕ → ℕ → List Row
-rows_of_views first id zero = []
-rows_of_views first id (suc count) = view_rows first id ++ rows_of_views (first + 2) (id + 1) count
+rows_of_views first_row id zero = []
+rows_of_views first_row id (suc count) =
+    view_rows first_row id ++ rows_of_views (first_row + 2) (id + 1) count
 
 -- these views
 abbrev pub view_items : ℕ → ℕ → ℕ → List Item
-view_items first id zero = []
-view_items first id (suc count) = OfView first id ∷ view_items (first + 2) (id + 1) count
+view_items first_row id zero = []
+view_items first_row id (suc count) = OfView first_row id ∷ view_items (first_row + 2) (id + 1) count
 
 abbrev pub size_rows : ℕ → Fraction → Fraction → List Row
-size_rows first width height = required_row first 3 Eq width ∷ required_row (first + 1) 4 Eq height ∷ []
+size_rows first_row width height =
+    required_row first_row (width_of 0) Eq width ∷ required_row (first_row + 1) (height_of 0) Eq height ∷ []
 
 -- the rows of an item, for these metrics
 abbrev pub AreItemRows : MetricList → Item → List Row → Type 0
 AreItemRows metrics OfWindow rows = rows ≡ structural_rows
-AreItemRows metrics (OfView first id) rows = rows ≡ view_rows first id
-AreItemRows metrics (Sized first width height) rows = rows ≡ size_rows first width height
+AreItemRows metrics (OfView first_row id) rows = rows ≡ view_rows first_row id
+AreItemRows metrics (Sized first_row width height) rows = rows ≡ size_rows first_row width height
 AreItemRows metrics (OfLine group line) rows = AreRowsNow metrics line.rows rows
 AreItemRows metrics (Suggested s) rows = rows ≡ suggested_row s ∷ []
 
@@ -63,8 +66,8 @@ AreRows metrics (item ∷ more) rows =
 -- after each term of each row its constant is small
 abbrev pub IsSmallItem : MetricList → Item → Type 0
 IsSmallItem metrics OfWindow = Unit {0}
-IsSmallItem metrics (OfView first id) = Unit {0}
-IsSmallItem metrics (Sized first width height) = Unit {0}
+IsSmallItem metrics (OfView first_row id) = Unit {0}
+IsSmallItem metrics (Sized first_row width height) = Unit {0}
 IsSmallItem metrics (OfLine group line) = AreSmallForms metrics line.rows
 IsSmallItem metrics (Suggested s) = Unit {0}
 
@@ -72,8 +75,8 @@ IsSmallItem metrics (Suggested s) = Unit {0}
 
 abbrev pub is_line : Item → Bool
 is_line OfWindow = false
-is_line (OfView first id) = false
-is_line (Sized first width height) = false
+is_line (OfView first_row id) = false
+is_line (Sized first_row width height) = false
 is_line (OfLine group line) = true
 is_line (Suggested s) = false
 
@@ -83,8 +86,8 @@ line_count held = length (filter is_line held)
 
 abbrev pub is_size : Item → Bool
 is_size OfWindow = false
-is_size (OfView first id) = false
-is_size (Sized first width height) = true
+is_size (OfView first_row id) = false
+is_size (Sized first_row width height) = true
 is_size (OfLine group line) = false
 is_size (Suggested s) = false
 
@@ -96,8 +99,8 @@ has_size (item ∷ more) = cond (is_size item) true (has_size more)
 -- the item with these constants, where it is the window's size
 abbrev pub sized : Fraction → Fraction → Item → Item
 sized width height OfWindow = OfWindow
-sized width height (OfView first id) = OfView first id
-sized width height (Sized first w h) = Sized first width height
+sized width height (OfView first_row id) = OfView first_row id
+sized width height (Sized first_row w h) = Sized first_row width height
 sized width height (OfLine group line) = OfLine group line
 sized width height (Suggested s) = Suggested s
 
@@ -109,14 +112,15 @@ resized width height (item ∷ more) =
 
 -- the number of the first row of the window's size, and its constants
 pub record Size : Type 0 where
-  pub first : ℕ
+  pub first_row : ℕ
   pub width : Fraction
   pub height : Fraction
 
 abbrev pub own_size : Item → Option Size
 own_size OfWindow = None
-own_size (OfView first id) = None
-own_size (Sized first width height) = Some (record { first = first; width = width; height = height })
+own_size (OfView first_row id) = None
+own_size (Sized first_row width height) =
+    Some (record { first_row = first_row; width = width; height = height })
 own_size (OfLine group line) = None
 own_size (Suggested s) = None
 
@@ -142,15 +146,15 @@ word_number attr.Trailing = 9
 -- the item is the suggestion of this attribute, as it is written, of the view of this number
 abbrev pub is_suggestion : ℕ → AttrWord → Item → Bool
 is_suggestion view word OfWindow = false
-is_suggestion view word (OfView first id) = false
-is_suggestion view word (Sized first width height) = false
+is_suggestion view word (OfView first_row id) = false
+is_suggestion view word (Sized first_row width height) = false
 is_suggestion view word (OfLine group line) = false
 is_suggestion view word (Suggested s) = nat_eq s.view view && nat_eq (word_number s.word) (word_number word)
 
 abbrev pub own_suggestion : Item → Option Suggestion
 own_suggestion OfWindow = None
-own_suggestion (OfView first id) = None
-own_suggestion (Sized first width height) = None
+own_suggestion (OfView first_row id) = None
+own_suggestion (Sized first_row width height) = None
 own_suggestion (OfLine group line) = None
 own_suggestion (Suggested s) = Some s
 
@@ -163,8 +167,8 @@ suggestion_of view word (item ∷ more) =
 -- the item with this constant, where it is a suggestion
 abbrev pub with_constant : Fraction → Item → Item
 with_constant constant OfWindow = OfWindow
-with_constant constant (OfView first id) = OfView first id
-with_constant constant (Sized first width height) = Sized first width height
+with_constant constant (OfView first_row id) = OfView first_row id
+with_constant constant (Sized first_row width height) = Sized first_row width height
 with_constant constant (OfLine group line) = OfLine group line
 with_constant constant (Suggested s) = Suggested (record s { constant = constant })
 

@@ -1,14 +1,15 @@
 -- What a scene keeps, and of which parts it is made.
-use Rattle.std.specs.Prelude.{◌≡◌, ℕ, ◌^◌, ◌<◌, ◌≤◌, List, [], ◌∷◌, map, All, length, Bool, Option, Some, None}
+use Rattle.std.specs.Prelude.{◌≡◌, ℕ, ◌+◌, ◌<◌, ◌≤◌, List, [], ◌∷◌, map, All, length, Bool, Option, Some}
+use Rattle.std.specs.Prelude.{None}
 use Rattle.constraint_compile.specs.Meaning.{MetricList}
 use Rattle.view_tree.specs.Views.{LiveView, ViewTree}
-use Rattle.problem_core.specs.Layout.{Problem}
+use Rattle.problem_core.specs.Layout.{Problem, Row}
 use Rattle.frac_core.specs.Fraction.{Fraction}
 use Rattle.version_list.specs.Versions.{Versions}
 use Rattle.layout_solver.specs.Layouts.{Layout, Solution}
-use Rattle.session_undo.specs.declared.leaving.Leaver.{Leaver}
-use Rattle.session_undo.specs.declared.leaving.Leaver.TheVariants as leaver
-use Rattle.session_undo.specs.declared.past.Past.{Past}
+use Rattle.session_undo.specs.declared.item.leaving.Leaver.{Leaver}
+use Rattle.session_undo.specs.declared.item.leaving.Leaver.TheVariants as leaver
+use Rattle.session_undo.specs.declared.scene.past.Past.{Past}
 use Rattle.session_undo.specs.Leaving.{goes_with, is_in_group}
 use Rattle.session_undo.specs.Items.{is_suggestion}
 use Rattle.session_undo.specs.declared.item.Item as declared
@@ -16,16 +17,20 @@ use Rattle.session_undo.specs.declared.item.HeldSize.{HeldSize}
 use Rattle.session_undo.specs.declared.item.Item.TheVariants as kind
 use Rattle.session_undo.specs.declared.limits.Limits as declared_limits
 use Rattle.constraint_compile.specs.Suggestions.{IsSuggestion}
-use Rattle.session_undo.specs.Items.{Item, Size, OfWindow, OfView, Sized, OfLine, Suggested, AreRows}
-use Rattle.session_undo.specs.Scene.{EARLIER, History, Scene, Limits, State, problem_of}
-use Rattle.session_undo.specs.Attributes.{AreOwned, IsCounted}
+use Rattle.session_undo.specs.Items.{Item, Size, OfWindow, OfView, Sized, OfLine, Suggested}
+use Rattle.session_undo.specs.Items.{AreItemRows, AreRows}
+use Rattle.session_undo.specs.Scene.{History, Scene, Limits, State, problem_of}
+use Rattle.session_undo.specs.Attributes.{AreOwned, IsCounted, MayBeAdded, attributes_of}
+use Rattle.session_undo.specs.declared.limits.TheConstants.{EARLIER, MOST_ROWS}
+use Rattle.problem_core.specs.declared.limits.TheConstants.{NUMBER_LIMIT}
+use Rattle.view_tree.specs.declared.limits.TheConstants.{ID_LIMIT, VIEW_LIMIT}
 
 -- ---- items
 
 abbrev pub item_of : declared.Item → Item
 item_of kind.OfWindow = OfWindow
-item_of (kind.OfView first id) = OfView first id
-item_of (kind.Sized first width height) = Sized first width height
+item_of (kind.OfView first_row id) = OfView first_row id
+item_of (kind.Sized first_row width height) = Sized first_row width height
 item_of (kind.OfLine group line) = OfLine group line
 item_of (kind.Suggested s) = Suggested s
 
@@ -33,21 +38,21 @@ abbrev pub items_of : List declared.Item → List Item
 items_of items = map item_of items
 
 abbrev pub size_in : HeldSize → Size
-size_in s = record { first = s.first; width = s.size.width; height = s.size.height }
+size_in s = record { first_row = s.first_row; width = s.size.width; height = s.size.height }
 
--- the numbers of its rows and of its attributes are above 0 and at most 2^31
+-- the numbers of its rows are above 0 and those of views below their limit, and none is too great
 abbrev pub IsItem : Item → Type 0
 IsItem OfWindow = Unit {0}
-IsItem (OfView first id) = ((0 < first) × (first < 2 ^ 31)) × (id < 2 ^ 29)
-IsItem (Sized first width height) = (0 < first) × (first < 2 ^ 31)
+IsItem (OfView first_row id) = ((0 < first_row) × (first_row < NUMBER_LIMIT)) × (id < ID_LIMIT)
+IsItem (Sized first_row width height) = (0 < first_row) × (first_row < NUMBER_LIMIT)
 IsItem (OfLine group line) = Unit {0}
 IsItem (Suggested s) = IsSuggestion s
 
 -- the attributes of a line's rows are those of views that its text names, or of their parents
 abbrev pub IsNamed : List LiveView → Item → Type 0
 IsNamed views OfWindow = Unit {0}
-IsNamed views (OfView first id) = Unit {0}
-IsNamed views (Sized first width height) = Unit {0}
+IsNamed views (OfView first_row id) = Unit {0}
+IsNamed views (Sized first_row width height) = Unit {0}
 IsNamed views (OfLine group line) = AreOwned views line
 IsNamed views (Suggested s) = Unit {0}
 
@@ -103,8 +108,18 @@ pub record IsKept (scene : Scene) : Type 0 where
   pub each : All IsItem scene.held
   pub named : All (IsNamed scene.tree.views) scene.held
   pub next : 0 < scene.next_row
-  pub top : scene.next_row ≤ 2 ^ 31
+  pub top : scene.next_row ≤ NUMBER_LIMIT
   pub counted : IsCounted scene.tree.views scene.next_row (problem_of scene)
+
+-- the item may be held next, these are its rows, and there is room for them
+pub record IsNextItem (scene : Scene) (item : Item) (more : List Row) : Type 0 where
+  pub own : AreItemRows scene.metrics item more
+  pub is : IsItem item
+  pub named : IsNamed scene.tree.views item
+  pub may : MayBeAdded (attributes_of scene.tree.views) scene.next_row more
+  pub below : All (λ r. r.id < scene.next_row + length more) more
+  pub ranks : All (λ r. 0 < r.rank) more
+  pub room : length scene.rows + length more ≤ MOST_ROWS
 
 -- there are as many earlier versions of each part, and not too many
 pub record AreAlike (held : List (List declared.Item)) (solved : List Solution) (pasts : List Past)
@@ -123,8 +138,8 @@ limits_of l = record { views = l.views; lines = l.lines; rows = l.rows }
 
 -- as many views as a tree has room for, and no more rows than a problem has
 pub record AreWithin (limits : Limits) : Type 0 where
-  pub views : limits.views ≡ 200
-  pub rows : limits.rows ≤ 2000
+  pub views : limits.views ≡ VIEW_LIMIT
+  pub rows : limits.rows ≤ MOST_ROWS
 
 -- the session of this scene and those before it
 abbrev pub session_at : History → ℕ → declared_limits.Limits → State

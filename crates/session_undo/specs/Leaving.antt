@@ -16,16 +16,16 @@ use Rattle.session_undo.specs.Scene.{Scene, moved}
 -- the item is a line of this group
 abbrev pub is_in_group : List ℕ → Item → Bool
 is_in_group group OfWindow = false
-is_in_group group (OfView first id) = false
-is_in_group group (Sized first width height) = false
+is_in_group group (OfView first_row id) = false
+is_in_group group (Sized first_row width height) = false
 is_in_group group (OfLine name line) = bytes_eq group name
 is_in_group group (Suggested s) = false
 
 -- the item is one of these views, a line whose text names one of them, or a suggestion for one of them
 abbrev pub goes_with : List ℕ → Item → Bool
 goes_with gone OfWindow = false
-goes_with gone (OfView first id) = is_among gone id
-goes_with gone (Sized first width height) = false
+goes_with gone (OfView first_row id) = is_among gone id
+goes_with gone (Sized first_row width height) = false
 goes_with gone (OfLine name line) = list_any (λ id. list_any (λ v. nat_eq v id) line.views) gone
 goes_with gone (Suggested s) = is_among gone s.view
 
@@ -37,8 +37,8 @@ staying goes held = filter (λ item. not (goes item)) held
 
 abbrev pub item_numbers : Item → List ℕ
 item_numbers OfWindow = 1 ∷ 2 ∷ 3 ∷ 4 ∷ []
-item_numbers (OfView first id) = first ∷ (first + 1) ∷ []
-item_numbers (Sized first width height) = first ∷ (first + 1) ∷ []
+item_numbers (OfView first_row id) = first_row ∷ (first_row + 1) ∷ []
+item_numbers (Sized first_row width height) = first_row ∷ (first_row + 1) ∷ []
 item_numbers (OfLine name line) = map (λ f. f.id) line.rows
 item_numbers (Suggested s) = s.row ∷ []
 
@@ -62,19 +62,17 @@ other_stays attrs stays = filter (λ s. not (is_among attrs s.attr)) stays
 abbrev pub stood_of : Scene → Problem
 stood_of scene = record { rows = scene.rows; stays = moved scene.stays scene.values }
 
+-- without those items that go, none of which is a view
+abbrev pub without_items : Scene → (Item → Bool) → Scene
+without_items old goes = record old { held = staying goes old.held; stays = moved old.stays old.values }
+
 -- without the lines of the group
 abbrev pub without_group : Scene → List ℕ → Scene
-without_group old group = record old {
-  held = staying (is_in_group group) old.held;
-  stays = moved old.stays old.values;
-}
+without_group old group = without_items old (is_in_group group)
 
 -- without the suggestion of this attribute
 abbrev pub without_suggestion : Scene → ℕ → AttrWord → Scene
-without_suggestion old view word = record old {
-  held = staying (is_suggestion view word) old.held;
-  stays = moved old.stays old.values;
-}
+without_suggestion old view word = without_items old (is_suggestion view word)
 
 -- without these views, their rows, stays and suggestions, and the lines that name one of them
 abbrev pub without_views : Scene → List ℕ → Scene

@@ -1,5 +1,5 @@
 -- The step of a session: what a command leads to.
-use Rattle.std.specs.Prelude.{◌≡◌, ℕ, ◌+◌, ◌*◌, ◌^◌, ◌<◌, ◌≤◌, ◌⊎◌, List, [], ◌∷◌, ◌++◌, length, codes}
+use Rattle.std.specs.Prelude.{◌≡◌, ℕ, ◌+◌, ◌*◌, ◌<◌, ◌≤◌, ◌⊎◌, List, [], ◌∷◌, ◌++◌, length, codes}
 use Rattle.std.specs.Prelude.{Option}
 use Rattle.std.specs.Prelude.{Some, None, IsSome, Bool, true, false, map, slice_index_or, All, AllPairs}
 use Rattle.std.specs.List.{list_any}
@@ -10,7 +10,7 @@ use Rattle.name_tables.specs.declared.stops.LimitWord.TheVariants as word
 use Rattle.serde_json.specs.Data.{Data}
 use Rattle.view_tree.specs.JsonTrees.{Branch, IsJson, IsTreeText, JsonTree, names, size, tree_of}
 use Rattle.view_tree.specs.JsonStops.{GoesIn, IsFirstHeld, PassesTreeLimit}
-use Rattle.view_tree.specs.Views.{LiveView, ViewTree, IsOnLevel, view_named}
+use Rattle.view_tree.specs.Views.{LiveView, ViewTree, IsAtDepth, view_named}
 use Rattle.problem_core.specs.Layout.{Row, Problem}
 use Rattle.cert_core.specs.declared.by.By.{By}
 use Rattle.cert_core.specs.Claims.{BestLevel}
@@ -45,6 +45,11 @@ use Rattle.constraint_compile.specs.FormatStops.{row_count}
 use Rattle.constraint_compile.specs.FormatRows.{IsCompiledFormat, MayStopFormat}
 use Rattle.constraint_compile.specs.declared.stops.CompileStop.{CompileStop}
 use Rattle.constraint_compile.specs.declared.stops.CompileStop.TheVariants as stop
+use Rattle.name_tables.specs.declared.metrics.TheConstants.{METRIC_LIMIT}
+use Rattle.name_tables.specs.declared.stops.TheConstants.{NAME_LIMIT}
+use Rattle.problem_core.specs.declared.limits.TheConstants.{NUMBER_LIMIT}
+use Rattle.view_tree.specs.declared.limits.TheConstants.{DEPTH_LIMIT, ID_LIMIT}
+use Rattle.session_undo.specs.declared.limits.TheConstants.{BUDGET_LIMIT}
 use Rattle.session_undo.specs.Items.{IsSmallItem, Item, Size, line_count, has_size, size_of, without_constant}
 use Rattle.session_undo.specs.Items.{suggestion_of}
 use Rattle.session_undo.specs.Scene.{Scene, State, with_view, with_metric, with_window, with_line, problem_of}
@@ -253,17 +258,17 @@ IsTaken scene name = IsSome (view_named scene.tree.views name) ⊎ IsSome (value
 
 -- there are as many views as there may be, or no number is left
 abbrev pub HasAllViews : State → Type 0
-HasAllViews s = (s.limits.views ≤ length s.scene.tree.views) ⊎ (2 ^ 29 ≤ s.scene.tree.next)
+HasAllViews s = (s.limits.views ≤ length s.scene.tree.views) ⊎ (ID_LIMIT ≤ s.scene.tree.next)
 
 -- a view in this one would be below the last level
 abbrev pub IsDeep : ViewTree → List ℕ → Type 0
 IsDeep tree parent =
     (above : LiveView) × (level : ℕ) × (view_named tree.views parent ≡ Some above)
-    × IsOnLevel tree.views above.id level × (32 ≤ level)
+    × IsAtDepth tree.views above.id level × (DEPTH_LIMIT ≤ level)
 
 -- so many more rows would be too many, or one would have too great a number
 abbrev pub IsCrowded : State → ℕ → Type 0
-IsCrowded s count = (s.limits.rows < length s.scene.rows + count) ⊎ (2 ^ 31 < s.scene.next_row + count)
+IsCrowded s count = (s.limits.rows < length s.scene.rows + count) ⊎ (NUMBER_LIMIT < s.scene.next_row + count)
 
 -- there are as many lines of groups as there may be
 abbrev pub HasAllLines : State → Type 0
@@ -271,7 +276,7 @@ HasAllLines s = s.limits.lines ≤ line_count s.scene.held
 
 -- a metric of this name would be one too many
 abbrev pub AreTooMany : MetricList → List ℕ → Type 0
-AreTooMany metrics name = (place_of (names_of metrics) name ≡ None) × (500 ≤ length metrics)
+AreTooMany metrics name = (place_of (names_of metrics) name ≡ None) × (METRIC_LIMIT ≤ length metrics)
 
 -- the second constant less the first fits
 abbrev pub IsNear : Row → Row → Type 0
@@ -322,7 +327,7 @@ abbrev pub TriedView : State → List ℕ → List ℕ → (Scene → Reply → 
 TriedView old name parent End =
     Unless (view_named old.scene.tree.views parent ≡ None) (Unknown parent) old
     (Unless (IsTaken old.scene name) (Taken name) old
-    (Unless (64 < length name) (Limit word.Name) old
+    (Unless (NAME_LIMIT < length name) (Limit word.Name) old
     (Unless (HasAllViews old) (Limit word.Views) old
     (Unless (IsDeep old.scene.tree parent) (Limit word.Depth) old
     (Unless (IsCrowded old 2) (Limit word.Rows) old
@@ -360,7 +365,7 @@ TriedTree old text start End =
 abbrev pub TriedMetric : State → List ℕ → Fraction → (Scene → Reply → State → Type 0) → Reply → State → Type 0
 TriedMetric old name value End =
     Unless (IsSome (view_named old.scene.tree.views name)) (Taken name) old
-    (Unless (64 < length name) (Limit word.Name) old
+    (Unless (NAME_LIMIT < length name) (Limit word.Name) old
     (Unless (AreTooMany old.scene.metrics name) (Limit word.Metrics) old
     (UnlessFar old (with_metric old.scene name value)
     (End (with_metric old.scene name value)))))
@@ -384,7 +389,7 @@ abbrev pub TriedLine : State → List ℕ → ℕ → (CompileStop → Type 0) �
     → (Scene → Reply → State → Type 0) → Reply → State → Type 0
 TriedLine old group count May Is End =
     UnlessAny (λ name. May (stop.Unknown name)) Unknown old
-    (Unless (64 < length group) (Limit word.Name) old
+    (Unless (NAME_LIMIT < length group) (Limit word.Name) old
     (Unless (HasAllLines old) (Limit word.Lines) old
     (UnlessAny (λ wrong. May (stop.Kind wrong)) Kind old
     (Unless (IsCrowded old count) (Limit word.Rows) old
@@ -495,7 +500,7 @@ TriedDrop old name End =
 
 abbrev pub TriedBudget : State → ℕ → (Reply → State → Reply → State → Type 0) → Reply → State → Type 0
 TriedBudget old exchanges Other =
-    Unless ((exchanges ≡ 0) ⊎ (10 ^ 18 < exchanges)) (Limit word.Budget) old
+    Unless ((exchanges ≡ 0) ⊎ (BUDGET_LIMIT < exchanges)) (Limit word.Budget) old
     (Other Done (record old { budget = exchanges }))
 
 -- the reply is a certificate of the scene's values

@@ -19,8 +19,8 @@ use Rattle.session_undo.specs.Machine.{AreNear}
 -- those of a line
 abbrev pub forms_in : Item → List RowForm
 forms_in OfWindow = []
-forms_in (OfView first id) = []
-forms_in (Sized first width height) = []
+forms_in (OfView first_row id) = []
+forms_in (Sized first_row width height) = []
 forms_in (OfLine group line) = line.rows
 forms_in (Suggested s) = []
 

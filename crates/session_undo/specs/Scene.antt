@@ -7,6 +7,8 @@ use Rattle.problem_core.specs.declared.parts.Stay.{Stay}
 use Rattle.problem_core.specs.Gaps.{value_of}
 use Rattle.problem_core.specs.Layout.{Row, Problem}
 use Rattle.problem_core.specs.Window.{structural_rows, zero_fraction}
+use Rattle.view_tree.specs.declared.limits.TheConstants.{VIEW_LIMIT}
+use Rattle.view_tree.specs.Attributes.{left_of, top_of, width_of, height_of}
 use Rattle.view_tree.specs.Views.{ViewTree, window}
 use Rattle.view_tree.specs.Views as tree
 use Rattle.view_tree.specs.JsonTrees.{Branch, size}
@@ -19,6 +21,7 @@ use Rattle.constraint_compile.specs.declared.suggestion.Suggestion.{Suggestion}
 use Rattle.session_undo.specs.Items.{Item, OfWindow, OfView, Sized, OfLine, Suggested, AreRows, has_size}
 use Rattle.session_undo.specs.Items.{resized, suggested_again, view_items}
 use Rattle.session_undo.specs.Attributes.{attributes_from}
+use Rattle.session_undo.specs.declared.limits.TheConstants.{EARLIER, FIRST_BUDGET, MOST_LINES, MOST_ROWS}
 
 -- the views, the metrics in order of definition, what is held in order of acceptance, the number that the
 -- next row takes, the rows by rising number, the stays, and the values by their attributes' numbers
@@ -49,10 +52,6 @@ pub record State : Type 0 where
   pub budget : ℕ
   pub limits : Limits
 
--- how many earlier scenes are kept
-abbrev pub EARLIER : ℕ
-EARLIER = 32
-
 -- the earlier scenes, once there is another scene after this one: the oldest of too many is forgotten
 abbrev pub with_earlier : Scene → List Scene → List Scene
 with_earlier scene earlier = take EARLIER (scene ∷ earlier)
@@ -69,8 +68,8 @@ moved stays values = map (λ s. record { attr = s.attr; target = value_of values
 -- the four attributes of a view, at 0
 abbrev pub new_values : ℕ → List (ℕ × Fraction)
 new_values id =
-    (4 * id + 1, zero_fraction) ∷ (4 * id + 2, zero_fraction) ∷ (4 * id + 3, zero_fraction)
-    ∷ (4 * id + 4, zero_fraction) ∷ []
+    (left_of id, zero_fraction) ∷ (top_of id, zero_fraction) ∷ (width_of id, zero_fraction)
+    ∷ (height_of id, zero_fraction) ∷ []
 
 abbrev pub new_stays : ℕ → List Stay
 new_stays id = stays_at (new_values id)
@@ -126,21 +125,21 @@ with_window old width height = record old {
   stays = moved old.stays old.values;
 }
 
--- with a line of a group more
-abbrev pub with_line : Scene → List ℕ → CompiledLine → Scene
-with_line old group line = record old {
-  held = old.held ++ OfLine group line ∷ [];
-  next_row = old.next_row + length line.rows;
+-- with an item more, which has so many rows
+abbrev pub with_item : Scene → Item → ℕ → Scene
+with_item old item count = record old {
+  held = old.held ++ item ∷ [];
+  next_row = old.next_row + count;
   stays = moved old.stays old.values;
 }
 
+-- with a line of a group more
+abbrev pub with_line : Scene → List ℕ → CompiledLine → Scene
+with_line old group line = with_item old (OfLine group line) (length line.rows)
+
 -- with a suggestion more, whose row takes the next number
 abbrev pub with_suggestion : Scene → Suggestion → Scene
-with_suggestion old s = record old {
-  held = old.held ++ Suggested s ∷ [];
-  next_row = old.next_row + 1;
-  stays = moved old.stays old.values;
-}
+with_suggestion old s = with_item old (Suggested s) 1
 
 -- with another constant in the row of a suggestion
 abbrev pub with_suggested : Scene → ℕ → AttrWord → Fraction → Scene
@@ -186,7 +185,8 @@ first_scene = record {
 }
 
 abbrev pub first_limits : Limits
-first_limits = record { views = 200; lines = 2000; rows = 2000 }
+first_limits = record { views = VIEW_LIMIT; lines = MOST_LINES; rows = MOST_ROWS }
 
 abbrev pub first_state : State
-first_state = record { scene = first_scene; earlier = []; budget = 100000; limits = first_limits }
+first_state =
+    record { scene = first_scene; earlier = []; budget = FIRST_BUDGET; limits = first_limits }

@@ -1,5 +1,6 @@
 // Parts of the changes of a session.
-ghost use Rattle.std.specs.Prelude.{◌≡◌, ◌<◌, ◌^◌, true, false, IfOk, OnErr};
+ghost use Rattle.std.specs.Prelude.{◌≡◌, ◌<◌, true, false, IfOk, OnErr};
+ghost use Rattle.problem_core.specs.declared.limits.TheConstants.{NUMBER_LIMIT};
 ghost use Rattle.constraint_compile.specs.Compiled.{IsFittingSum};
 ghost use Rattle.constraint_compile.specs.Fractions.{plus, negated};
 ghost use Rattle.session_undo.specs.Adding.{size_changes};
@@ -55,17 +56,17 @@ pub fn is_near_size(from: &WindowSize, to: &WindowSize) -> bool
 }
 
 /// The constants of the two rows of the window's size, of which the first has this number.
-pub fn size_changes(first: u32, size: &WindowSize) -> [Change; 2]
-    requires { first < 2 ^ 31 }
-    ensures { result ≡ size_changes first size.now.width size.now.height }
+pub fn size_changes(first_row: u32, size: &WindowSize) -> [Change; 2]
+    requires { first_row < NUMBER_LIMIT }
+    ensures { result ≡ size_changes first_row size.now.width size.now.height }
 {
     [
         Change {
-            row: first,
+            row: first_row,
             constant: size.width,
         },
         Change {
-            row: first + 1,
+            row: first_row + 1,
             constant: size.height,
         },
     ]

@@ -1,12 +1,18 @@
 // What is held, apart from its rows.
+pub(crate) mod coming;
+pub(crate) mod leaving;
+pub(crate) mod moving;
+pub(crate) mod rows;
+pub(crate) mod suggesting;
+
 ghost use Rattle.std.specs.Prelude.{◌≡◌, ◌∷◌, ◌≤◌, true, false, length, Some, None};
 ghost use Rattle.std.specs.Prelude.{IfSome, IfNone, OnSome, OnOk, OnErr};
 ghost use Rattle.session_undo.specs.Items.{is_line, is_size, line_count, has_size, own_size, size_of};
 ghost use Rattle.session_undo.specs.Items.{sized, resized};
 ghost use Rattle.session_undo.specs.Kept.{item_of, items_of, size_in};
-ghost use Rattle.session_undo.specs.Scene.{EARLIER};
+ghost use Rattle.session_undo.specs.declared.limits.TheConstants.{EARLIER};
 
-use crate::past::put_item;
+use crate::scene::past::put_item;
 use constraint_compile::{Compiled, Suggestion};
 use frac_core::{Frac, OutOfMemory};
 use name_tables::OwnedName;
@@ -17,14 +23,14 @@ use version_list::VersionList;
 pub enum Item {
     /// The window: its left and top are 0, its width and height at least 0.
     OfWindow,
-    /// A view: its width and height are at least 0. Its two rows have the numbers from `first` on.
+    /// A view: its width and height are at least 0. Its two rows have the numbers from `first_row` on.
     OfView {
-        first: u32,
+        first_row: u32,
         id: u32,
     },
-    /// The window's size. Its two rows have the numbers from `first` on.
+    /// The window's size. Its two rows have the numbers from `first_row` on.
     Sized {
-        first: u32,
+        first_row: u32,
         width: Frac,
         height: Frac,
     },
@@ -47,7 +53,7 @@ pub struct WindowSize {
 /// The window's size as it is held, with the number of the first of its two rows.
 #[derive(Clone, Copy, Debug, PartialEq, Eq)]
 pub struct HeldSize {
-    pub first: u32,
+    pub first_row: u32,
     pub size: WindowSize,
 }
 
@@ -83,11 +89,11 @@ fn own_size(item: &Item) -> Option<HeldSize>
 {
     match item {
         Item::Sized {
-            first,
+            first_row,
             width,
             height,
         } => Some(HeldSize {
-            first: *first,
+            first_row: *first_row,
             size: WindowSize {
                 width: *width,
                 height: *height,
@@ -130,8 +136,8 @@ fn sized(item: &Item, size: &WindowSize) -> Option<Item>
     ensures none { IfNone result (is_size (item_of item.now) ≡ false) }
 {
     match item {
-        Item::Sized { first, .. } => Some(Item::Sized {
-            first: *first,
+        Item::Sized { first_row, .. } => Some(Item::Sized {
+            first_row: *first_row,
             width: size.width,
             height: size.height,
         }),

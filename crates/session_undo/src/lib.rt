@@ -21,29 +21,20 @@
 //! What a [`Scene`] keeps (`IsKeptHistory`): the engine's problem is that of the rows of what is held, at
 //! this scene and at each earlier one that is kept; and so its values are best (`layout_solver`).
 //!
-//! In reading order: `reply`, `item` (what is held), `limits`, `rows` (the rows of what is held); the parts
-//! of changes: `coming`, `leaving`, `moving`, `suggesting`, `changes`, `drafts` (problems that no engine has
-//! taken), `solving` (the engine's changes); `frames`, `certifying`, `showing` (reminders to the prover);
-//! `past` (earlier scenes), `scene`, `session`.
+//! In reading order: `reply`, `limits`, `changes`; `item` is what is held, with `rows` (its rows), `coming`,
+//! `leaving`, `moving` and `suggesting` (what a change does to it); `scene` is what it comes to, with `past`
+//! (earlier scenes), `frames`, `values`, `drafts` (problems that no engine has taken), `problems` (those of a
+//! scene's changes), `solving` (the engine's changes) and `steps` (the scene's); then `session`. Reminders to
+//! the prover stand in `showing`.
 #![tactic(auto)]
 
-mod certifying;
 mod changes;
-mod coming;
-mod drafts;
-mod frames;
 mod item;
-mod leaving;
 mod limits;
-mod moving;
-mod past;
 mod reply;
-mod rows;
 mod scene;
 mod session;
 mod showing;
-mod solving;
-mod suggesting;
 
 pub use item::{Item, WindowSize};
 pub use limits::Limits;

@@ -10,6 +10,7 @@ use frac_core::OutOfMemory;
 use layout_solver::RemoveStop;
 use name_tables::{LimitWord, OwnedName};
 use std::alloc::AllocError;
+use thiserror::Error;
 
 /// The reply to an accepted line.
 #[derive(Debug, Drop)]
@@ -29,7 +30,8 @@ pub enum Reply {
 }
 
 /// There is no earlier scene.
-#[derive(Clone, Copy, Debug, PartialEq, Eq)]
+#[derive(Clone, Copy, Debug, PartialEq, Eq, Error)]
+#[error("there is no earlier scene")]
 pub struct NoEarlier;
 
 /// What had to stop where a quantity doesn't fit or the exchanges are used up.
@@ -44,29 +46,40 @@ pub enum StopPlace {
 }
 
 /// Why a line is refused. Then all is as before.
-#[derive(Debug, Drop)]
+#[derive(Debug, Drop, Error)]
 pub enum Refusal {
     /// The line leaves the grammar at this offset.
+    #[error("the line leaves the grammar at offset {0}")]
     Syntax(usize),
     /// This name must be that of a view or a metric, and isn't.
+    #[error("no view or metric has the name")]
     Unknown(OwnedName),
     /// A view or a metric has this name.
+    #[error("a view or a metric has the name")]
     Taken(OwnedName),
     /// A limit would be passed.
+    #[error("a limit would be passed")]
     Limit(LimitWord),
     /// A name or a number is used wrongly.
+    #[error("{0}")]
     Kind(KindWord),
     /// The required rows have no solution, as these multipliers show.
+    #[error("the required rows have no solution")]
     Conflict(Conflict),
     /// There is no earlier scene.
+    #[error("there is no earlier scene")]
     NoEarlier,
     /// A quantity doesn't fit at the end of this path.
+    #[error("a quantity doesn't fit")]
     Overflow { place: StopPlace, at: UnfitPath },
     /// The exchanges are used up.
+    #[error("the exchanges are used up")]
     Spent { place: StopPlace, path: Path },
     /// The value that a probe of this attribute would wish, above or below, doesn't fit.
+    #[error("the value that a probe would wish doesn't fit")]
     NoTarget { attr: u32, up: bool },
     /// Memory is wanting. This ends a run.
+    #[error("memory is wanting")]
     OutOfMemory,
 }
 

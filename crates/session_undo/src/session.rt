@@ -1,17 +1,18 @@
 // The session, and what each command does to it.
-ghost use Rattle.std.specs.Prelude.{◌≡◌, ◌<◌, ◌≤◌, ◌^◌, ◌+◌, ◌++◌, ◌⊎◌, true, false, length, None, IsSome};
+ghost use Rattle.std.specs.Prelude.{◌≡◌, ◌<◌, ◌≤◌, ◌⊎◌, true, false, length, None, IsSome};
 ghost use Rattle.std.specs.Prelude.{Option, Some, ℕ, IfOk, IfErr, IfSome, IfNone, OnOk, OnErr};
+ghost use Rattle.session_undo.specs.declared.limits.TheConstants.{BUDGET_LIMIT};
 
-use crate::certifying::values_of;
 use crate::changes::{fits_after, parent_or_window, put_metric};
-use crate::coming::NewViews;
 use crate::item::WindowSize;
-use crate::limits::{FIRST_LIMITS, Limits};
+use crate::item::coming::NewViews;
+use crate::item::rows::small_line_rows;
+use crate::item::suggesting::{NewSuggestion, suggestion_name};
+use crate::limits::{BUDGET_LIMIT, FIRST_BUDGET, FIRST_LIMITS, Limits};
 use crate::reply::{NoEarlier, Refusal, Reply, answer_of, left_answer, probe_refusal};
-use crate::rows::small_line_rows;
 use crate::scene::Scene;
+use crate::scene::values::values_of;
 use crate::showing::show_terms;
-use crate::suggesting::{NewSuggestion, suggestion_name};
 use constraint_compile::{
     CompileStop, Compiled, KindWord, Suggestion, compile_format, compile_line, format_row_count,
     suggested_constant, suggested_rank,
@@ -19,7 +20,7 @@ use constraint_compile::{
 use frac_core::{Frac, OutOfMemory};
 use layout_solver::{Change, Engine};
 use name_tables::{LimitWord, Metrics, NAME_LIMIT, OwnedName};
-use problem_core::{Problem, Row, Values};
+use problem_core::{NUMBER_LIMIT, Problem, Row, Values};
 use script_text::{Align, AttrWord, Command, Linear};
 use span_text::Object;
 use std::alloc::Global;
@@ -27,19 +28,10 @@ use std::marker::Model;
 use vfl_text::Format;
 use view_tree::{TreeStop, ViewId};
 
-/// How many exchanges a run may make at the start.
-const FIRST_BUDGET: u64 = 100_000;
-
-/// How many exchanges a run may be allowed.
-const BUDGET_LIMIT: u64 = 1_000_000_000_000_000_000;
-
-/// Each row's number is below this.
-const NUMBER_LIMIT: u64 = 1 << 31;
-
 // Whether a run may not be allowed so many exchanges.
 fn is_no_budget(exchanges: u64) -> bool
-    ensures yes { result ≡ true → (exchanges ≡ 0) ⊎ (10 ^ 18 < exchanges) }
-    ensures no { result ≡ false → (exchanges ≡ 0) ⊎ (10 ^ 18 < exchanges) → ⊥ }
+    ensures yes { result ≡ true → (exchanges ≡ 0) ⊎ (BUDGET_LIMIT < exchanges) }
+    ensures no { result ≡ false → (exchanges ≡ 0) ⊎ (BUDGET_LIMIT < exchanges) → ⊥ }
 {
     exchanges == 0 || exchanges > BUDGET_LIMIT
 }
@@ -134,7 +126,7 @@ impl Session {
         if count > self.limits.rows || held > self.limits.rows - count {
             return true;
         }
-        u64::from(self.scene.next_row()) + count as u64 > NUMBER_LIMIT
+        u64::from(self.scene.next_row()) + count as u64 > u64::from(NUMBER_LIMIT)
     }
 
     // Whether a view or a metric has the name.
@@ -158,10 +150,11 @@ impl Session {
 
     // The views with a new one in the one of the name `parent`.
     fn new_view(&self, name: &str, parent: &str) -> Result<NewViews, Refusal>
-        ensures made { IfOk result (λ new. IsFreeView self.now name.now parent.now new.tree new.first.0) }
+        ensures made { IfOk result
+            (λ new. IsFreeView self.now name.now parent.now new.tree new.first_view.0) }
         ensures one { IfOk result (λ new. new.count ≡ 1) }
         ensures grown { IfOk result
-            (λ new. IsGrown self.now.scene.tree.views new.tree.views new.first.0 new.count) }
+            (λ new. IsGrown self.now.scene.tree.views new.tree.views new.first_view.0 new.count) }
         ensures refused { IfErr result
             (MayRefuse (λ reply. TriedView self.now name.now parent.now NoEnd reply self.now)) }
     {
@@ -180,7 +173,7 @@ impl Session {
         }
         let _before = views.len();
         let mut tree = views.copy()?;
-        let first = match tree.add(name, above) {
+        let first_view = match tree.add(name, above) {
             Ok(id) => id,
             Err(TreeStop::Limit(word)) => return Err(Refusal::Limit(word)),
             Err(TreeStop::OutOfMemory) => return Err(Refusal::OutOfMemory),
@@ -191,19 +184,19 @@ impl Session {
         if self.is_crowded(2) {
             return Err(Refusal::Limit(LimitWord::Rows));
         }
-        let _after = tree.len();
+        let _after = tree.len(); // for the proof: what a tree keeps
         Ok(NewViews {
             tree,
-            first,
+            first_view,
             count: 1,
         })
     }
 
     // The views with those of a tree, whose text begins at this offset of its line.
     fn new_tree(&self, text: &[u8], start: usize) -> Result<NewViews, Refusal>
-        ensures made { IfOk result (λ new. IsFreeTree self.now text.now new.tree new.first.0 new.count) }
+        ensures made { IfOk result (λ new. IsFreeTree self.now text.now new.tree new.first_view.0 new.count) }
         ensures grown { IfOk result
-            (λ new. IsGrown self.now.scene.tree.views new.tree.views new.first.0 new.count) }
+            (λ new. IsGrown self.now.scene.tree.views new.tree.views new.first_view.0 new.count) }
         ensures refused { Refusing (TriedTree self.now text.now start NoEnd) self.now result }
     {
         let views = self.scene.tree();
@@ -220,7 +213,7 @@ impl Session {
             Err(TreeStop::Limit(word)) => return Err(Refusal::Limit(word)),
             Err(TreeStop::OutOfMemory) => return Err(Refusal::OutOfMemory),
         };
-        let _after = tree.len();
+        let _after = tree.len(); // for the proof: what a tree keeps
         if self.is_crowded(2 * count as usize) {
             return Err(Refusal::Limit(LimitWord::Rows));
         }
@@ -228,8 +221,12 @@ impl Session {
         let Some(first) = tree.at(before) else {
             unreachable!()
         };
-        let first = first.id;
-        Ok(NewViews { tree, first, count })
+        let first_view = first.id;
+        Ok(NewViews {
+            tree,
+            first_view,
+            count,
+        })
     }
 
     // A new view in the one of the name `parent`.
@@ -465,7 +462,7 @@ impl Session {
             (TriedFormat self.now group.now align (meaning format.now) NoEnd) self.now result }
     {
         let (tree, metrics) = (self.scene.tree(), self.scene.metrics());
-        let _count = tree.len();
+        let _count = tree.len(); // for the proof: what a tree keeps
         match compile_format(
             self.alloc,
             tree,

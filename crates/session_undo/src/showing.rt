@@ -10,7 +10,7 @@ pub fn show_rows(rows: &[Row])
     ensures { All IsRow rows.now }
 {
     for row in rows {
-        row.show_row();
+        row.show_row(); // for the proof: what a row keeps
     }
 }
 
@@ -18,7 +18,7 @@ pub fn show_rows(rows: &[Row])
 fn show_term(term: &ExprTerm<'_>)
     ensures { 0 < term.now.by.den }
 {
-    let _ = term.by.den();
+    let _ = term.by.den(); // for the proof: what a fraction keeps
 }
 
 /// Shows that all denominators are above 0.

@@ -18,18 +18,18 @@ pub returns-clause-accepted : goal.returns-clause-accepted
 returns-clause-accepted c =
     let old = (session_at c.self.inside.scene c.self.inside.budget c.self.inside.limits) in
     rw (c.answer_of.ensures, ← c.self.view_is)
-    (ok-map (λ (reply : answer.Reply). SolvesFree old (views_draft old.scene c.in-Ok.new.tree c.in-Ok.new.first.0 c.in-Ok.new.count) (accepted reply) (after old c.take_views-end.new.self))
+    (ok-map (λ (reply : answer.Reply). SolvesFree old (views_draft old.scene c.in-Ok.new.tree c.in-Ok.new.first_view.0 c.in-Ok.new.count) (accepted reply) (after old c.take_views-end.new.self))
     (λ (reply : answer.Reply). TriedView old c.args.name.now c.args.parent.now (SolvesFree old) (accepted reply) (after old c.take_views-end.new.self)) _
-    (λ reply end. view-passed old c.args.name.now c.args.parent.now (SolvesFree old) c.in-Ok.new.tree c.in-Ok.new.first.0 (accepted reply) (after old c.take_views-end.new.self) (rw (← c.self.view_is) at c.in-Ok.ensures.made) (subst (λ (k : ℕ). SolvesFree old (views_draft old.scene c.in-Ok.new.tree c.in-Ok.new.first.0 k) (accepted reply) (after old c.take_views-end.new.self)) c.in-Ok.ensures.one end))
-    (free-accepted (views_draft old.scene c.in-Ok.new.tree c.in-Ok.new.first.0 c.in-Ok.new.count) old c.take_views-end.new.self c.take_views-end.result c.take_views-end.ensures.solved c.take_views-end.ensures.earlier))
+    (λ reply end. view-passed old c.args.name.now c.args.parent.now (SolvesFree old) c.in-Ok.new.tree c.in-Ok.new.first_view.0 (accepted reply) (after old c.take_views-end.new.self) (rw (← c.self.view_is) at c.in-Ok.ensures.made) (subst (λ (k : ℕ). SolvesFree old (views_draft old.scene c.in-Ok.new.tree c.in-Ok.new.first_view.0 k) (accepted reply) (after old c.take_views-end.new.self)) c.in-Ok.ensures.one end))
+    (free-accepted (views_draft old.scene c.in-Ok.new.tree c.in-Ok.new.first_view.0 c.in-Ok.new.count) old c.take_views-end.new.self c.take_views-end.result c.take_views-end.ensures.solved c.take_views-end.ensures.earlier))
 
 pub returns-clause-refused : goal.returns-clause-refused
 returns-clause-refused c =
     let old = (session_at c.self.inside.scene c.self.inside.budget c.self.inside.limits) in
     rw (c.answer_of.ensures, ← c.self.view_is)
-    (err-map (λ (reply : Reply). SolvesFree old (views_draft old.scene c.in-Ok.new.tree c.in-Ok.new.first.0 c.in-Ok.new.count) reply old) (λ (reply : Reply). TriedView old c.args.name.now c.args.parent.now (SolvesFree old) reply old) _
-    (λ reply end. view-passed old c.args.name.now c.args.parent.now (SolvesFree old) c.in-Ok.new.tree c.in-Ok.new.first.0 reply old (rw (← c.self.view_is) at c.in-Ok.ensures.made) (subst (λ (k : ℕ). SolvesFree old (views_draft old.scene c.in-Ok.new.tree c.in-Ok.new.first.0 k) reply old) c.in-Ok.ensures.one end))
-    (free-refused (views_draft old.scene c.in-Ok.new.tree c.in-Ok.new.first.0 c.in-Ok.new.count) old c.take_views-end.new.self c.take_views-end.result c.take_views-end.ensures.stop c.take_views-end.ensures.free))
+    (err-map (λ (reply : Reply). SolvesFree old (views_draft old.scene c.in-Ok.new.tree c.in-Ok.new.first_view.0 c.in-Ok.new.count) reply old) (λ (reply : Reply). TriedView old c.args.name.now c.args.parent.now (SolvesFree old) reply old) _
+    (λ reply end. view-passed old c.args.name.now c.args.parent.now (SolvesFree old) c.in-Ok.new.tree c.in-Ok.new.first_view.0 reply old (rw (← c.self.view_is) at c.in-Ok.ensures.made) (subst (λ (k : ℕ). SolvesFree old (views_draft old.scene c.in-Ok.new.tree c.in-Ok.new.first_view.0 k) reply old) c.in-Ok.ensures.one end))
+    (free-refused (views_draft old.scene c.in-Ok.new.tree c.in-Ok.new.first_view.0 c.in-Ok.new.count) old c.take_views-end.new.self c.take_views-end.result c.take_views-end.ensures.stop c.take_views-end.ensures.free))
 
 pub returns-clause-same : goal.returns-clause-same
 returns-clause-same c = rw (c.answer_of.ensures, ← c.self.view_is) (answer-same (session_at c.self.inside.scene c.self.inside.budget c.self.inside.limits) c.take_views-end.new.self c.take_views-end.result c.take_views-end.ensures.same)

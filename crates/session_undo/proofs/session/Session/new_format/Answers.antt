@@ -3,7 +3,7 @@ use Rattle.std.proofs.lemmas.List.{length-map}
 use Rattle.view_tree.specs.Views.{IsTree}
 use Rattle.session_undo.proofs.FormatOwners.{format-owned}
 use Rattle.constraint_compile.specs.Compiled.{CompiledLine}
-use Rattle.vfl_text.specs.View.{gap_meaning, gap_meanings, item_meaning, item_meanings, meaning}
+use Rattle.vfl_text.specs.View.{spacing_meaning, spacing_meanings, item_meaning, item_meanings, meaning}
 use Rattle.constraint_compile.specs.FormatParts.{parts}
 use Rattle.constraint_compile.specs.FormatStops.{row_count}
 use Rattle.constraint_compile.specs.FormatRows.{IsCompiledFormat, MayStopFormat}
@@ -36,8 +36,8 @@ with_rows-requires c =
     let is : IsCompiledFormat c.args.self.now.scene.tree.views c.args.self.now.scene.metrics (meaning c.args.format.now) c.args.align c.args.self.now.scene.next_row c.in-Ok.compiled =
     subst (λ (s : State). IsCompiledFormat s.scene.tree.views s.scene.metrics (meaning c.args.format.now) c.args.align s.scene.next_row c.in-Ok.compiled) c.self.view_is (rw (c.tree-tree.ensures, c.metrics-metrics.ensures, c.next_row.ensures.value) at c.in-Ok.ensures.compiled) in
     let whole : IsTree c.args.self.now.scene.tree = subst (λ (s : State). IsTree s.scene.tree) c.self.view_is (rw c.tree-tree.ensures at c.len-count.ensures.tree) in
-    let long : length (gap_meanings c.args.format.now.gaps.items) + 1 ≡ length (item_meanings c.args.format.now.items.items) =
-    omega (arith, c.args.format.now.between, length-map c.args.format.now.gaps.items gap_meaning, length-map c.args.format.now.items.items item_meaning) in
+    let long : length (spacing_meanings c.args.format.now.spacings.items) + 1 ≡ length (item_meanings c.args.format.now.items.items) =
+    omega (arith, c.args.format.now.between, length-map c.args.format.now.spacings.items spacing_meaning, length-map c.args.format.now.items.items item_meaning) in
     record {
       small = format-small c.args.self.now.scene.tree.views c.args.self.now.scene.metrics (meaning c.args.format.now) c.args.align c.args.self.now.scene.next_row c.in-Ok.compiled is;
       next = format-next c.args.self.now.scene.tree.views c.args.self.now.scene.metrics (meaning c.args.format.now) c.args.align c.args.self.now.scene.next_row c.in-Ok.compiled

@@ -1,7 +1,7 @@
 use Rattle.std.proofs.Common.{ℕ, sym, subst}
 use Rattle.script_text.specs.View.{object_view}
 use Rattle.view_tree.specs.Views.{view_named}
-use Rattle.session_undo.specs.declared.suggesting.NewSuggestion.{NewSuggestion}
+use Rattle.session_undo.specs.declared.item.suggesting.NewSuggestion.{NewSuggestion}
 use Rattle.session_undo.specs.Adding.{IsFreeSuggestion, IsSuggestionFor, NoEnd, SuggestStep}
 use Rattle.session_undo.specs.Machine.{TriedSuggest}
 use Rattle.session_undo.specs.Replies.{Reply}

@@ -11,7 +11,7 @@ pub returns-clause-posed : goal.returns-clause-posed
 returns-clause-posed c =
     let old = (session_at c.self.inside.scene c.self.inside.budget c.self.inside.limits) in
     rw (← c.self.view_is)
-    (tree-passed old c.args.text.now c.args.start (PosesDraft c.in_ok-views_problem.field-0) c.in-Ok.new.tree c.in-Ok.new.first.0 c.in-Ok.new.count Done old (rw (← c.self.view_is) at c.in-Ok.ensures.made) c.in_ok-views_problem.ensures)
+    (tree-passed old c.args.text.now c.args.start (PosesDraft c.in_ok-views_problem.field-0) c.in-Ok.new.tree c.in-Ok.new.first_view.0 c.in-Ok.new.count Done old (rw (← c.self.view_is) at c.in-Ok.ensures.made) c.in_ok-views_problem.ensures)
 
 pub views_problem-requires : goal.views_problem-requires
 views_problem-requires c =

@@ -11,8 +11,8 @@ pub returns-clause-posed : goal.returns-clause-posed
 returns-clause-posed c =
     let old = (session_at c.self.inside.scene c.self.inside.budget c.self.inside.limits) in
     rw (← c.self.view_is)
-    (view-passed old c.args.name.now c.args.parent.now (PosesDraft c.in_ok-views_problem.field-0) c.in-Ok.new.tree c.in-Ok.new.first.0 Done old (rw (← c.self.view_is) at c.in-Ok.ensures.made)
-    (subst (λ (k : ℕ). IsProblemOf (views_draft old.scene c.in-Ok.new.tree c.in-Ok.new.first.0 k) c.in_ok-views_problem.field-0) c.in-Ok.ensures.one c.in_ok-views_problem.ensures))
+    (view-passed old c.args.name.now c.args.parent.now (PosesDraft c.in_ok-views_problem.field-0) c.in-Ok.new.tree c.in-Ok.new.first_view.0 Done old (rw (← c.self.view_is) at c.in-Ok.ensures.made)
+    (subst (λ (k : ℕ). IsProblemOf (views_draft old.scene c.in-Ok.new.tree c.in-Ok.new.first_view.0 k) c.in_ok-views_problem.field-0) c.in-Ok.ensures.one c.in_ok-views_problem.ensures))
 
 pub views_problem-requires : goal.views_problem-requires
 views_problem-requires c =

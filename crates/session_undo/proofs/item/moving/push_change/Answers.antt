@@ -1,0 +1,16 @@
+use Rattle.std.proofs.Common.{◌≡◌, ◌≢◌, refl, inl, inr, rules}
+use Rattle.constraint_compile.specs.Compiled.{IsFittingSum}
+use Rattle.constraint_compile.specs.Fractions.{plus, negated}
+use Rattle.session_undo.proofs.NearMoves.{held-moved, held-still}
+use Rattle.session_undo.proofs.item.moving.push_change.Goals as goal
+
+pub returns-in_ok-push-clause-near : goal.returns-in_ok-push-clause-near
+returns-in_ok-push-clause-near c = λ yes.
+    let other : c.index-rows-place.result.constant ≢ c.args.constant.now.constant = search rules in
+    let near : IsFittingSum (plus c.args.constant.now.constant (negated c.index-rows-place.result.constant)) = search rules in
+    inr (held-moved c.args.rows.now c.in-Some.place c.index-rows-place.result c.args.constant.now c.requires c.in-Some.ensures.within c.index-rows-place.is c.in-Some.ensures.found other near, c.in_ok-push.ensures.items)
+
+pub returns-else-ne-clause-near : goal.returns-else-ne-clause-near
+returns-else-ne-clause-near c = λ yes.
+    let same : c.index-rows-place.result.constant ≡ c.args.constant.now.constant = search rules in
+    inl (held-still c.args.rows.now c.in-Some.place c.index-rows-place.result c.args.constant.now c.requires c.in-Some.ensures.within c.index-rows-place.is c.in-Some.ensures.found same, refl)

@@ -1,6 +1,0 @@
-use Rattle.std.proofs.Common.{take}
-use Rattle.session_undo.specs.Moving.{AreMoves}
-use Rattle.session_undo.proofs.moving.moves.Given as goal
-
-abbrev pub invariant-loop-constant : goal.invariant-loop-constant
-invariant-loop-constant l = AreMoves l.rows (take l.constant-index l.constants) l.to.items

@@ -1,0 +1,320 @@
+// The steps of a scene. Each changes the items, has the engine solve what they stand for, and keeps the
+// scene of before as the latest earlier one. After a stop all is as before.
+ghost use Rattle.std.specs.Prelude.{◌≡◌, ◌≢◌, ◌<◌, ◌≤◌, ◌+◌, ◌*◌, ℕ, false, length, Some};
+ghost use Rattle.std.specs.Prelude.{IfOk, IfErr, OnOk, OnErr};
+ghost use Rattle.problem_core.specs.declared.limits.TheConstants.{NUMBER_LIMIT};
+ghost use Rattle.cert_core.specs.Paths as paths;
+ghost use Rattle.view_tree.specs.Drops.{AreGoing};
+ghost use Rattle.constraint_compile.specs.Compiled.{AreRowsNow};
+ghost use Rattle.session_undo.specs.declared.limits.TheConstants.{MOST_ROWS};
+ghost use Rattle.session_undo.specs.Adding.{IsNearSuggestion, IsNextSuggestion, metrics_draft, views_draft};
+ghost use Rattle.session_undo.specs.Adding.{IsNoConflict, LeaveStopsAt, StopsAt};
+ghost use Rattle.session_undo.specs.Attributes.{IsGrown, IsNextLine};
+ghost use Rattle.session_undo.specs.Items.{has_size, size_of};
+ghost use Rattle.session_undo.specs.Kept.{IsNextItem, is_leaving, item_of, size_in};
+ghost use Rattle.session_undo.specs.Leaving.{without_group, without_items, without_suggestion, without_views};
+ghost use Rattle.session_undo.specs.Machine.{HasLeft, IsFarSize, IsSolved};
+ghost use Rattle.session_undo.specs.Moving.{AreChangesFor};
+ghost use Rattle.session_undo.specs.Scene.{with_earlier, with_item, with_line, with_suggested};
+ghost use Rattle.session_undo.specs.Scene.{with_suggestion, with_window};
+
+use crate::changes::size_changes;
+use crate::item::coming::{NewViews, attributes_from, push_views};
+use crate::item::leaving::{Leaver, attributes_in, leaving_numbers, take_leaving_out};
+use crate::item::rows::{size_rows, suggestion_rows, view_rows};
+use crate::item::suggesting::suggest_again;
+use crate::item::{HeldSize, Item, WindowSize, resize_first, size_of};
+use crate::scene::Scene;
+use crate::scene::past::{Past, keep, push_item};
+use crate::scene::solving::{take_constants, take_more, take_out};
+use crate::showing::show_rows;
+use cert_core::RunStop;
+use constraint_compile::{Compiled, Suggestion};
+use layout_solver::{Change, RemoveStop};
+use name_tables::{Metrics, OwnedName};
+use problem_core::Row;
+use script_text::AttrWord;
+use std::mem;
+use view_tree::ViewId;
+
+impl Scene {
+    // Takes an item more, whose rows these are.
+    fn take_item(&mut self, item: Item, rows: &[Row], budget: u64) -> Result<(), RunStop>
+        requires next { IsNextItem self.old.scene (item_of item) rows.now }
+        requires number { self.old.scene.next_row + length rows.now ≤ NUMBER_LIMIT }
+        ensures solved { IfOk result (λ _. (path : paths.Path)
+            × IsSolved self.old.scene (with_item self.old.scene (item_of item) (length rows.now)) budget path
+            self.new.scene) }
+        ensures stop { IfErr result
+            (StopsAt self.old.scene (with_item self.old.scene (item_of item) (length rows.now)) budget) }
+        ensures earlier { OnOk result (self.new.earlier ≡ with_earlier self.old.scene self.old.earlier) }
+        ensures same { OnErr result (self.new ≡ self.old) }
+    {
+        self.engine.show_layout(); // for the proof: what an engine keeps
+        push_item(&mut self.items, item)?;
+        take_more(&mut self.engine, &mut self.items, &[], rows, budget)?;
+        let past = Past::alike(self.next_row);
+        self.next_row += rows.len() as u32;
+        keep(&mut self.items, &mut self.engine, &mut self.pasts, past);
+        Ok(())
+    }
+
+    // Takes out what leaves, of which no view is one.
+    fn take_items_out(&mut self, leaver: Leaver<'_>, budget: u64) -> Result<(), RemoveStop>
+        ensures left { IfOk result
+            (λ _. HasLeft self.old.scene (without_items self.old.scene (is_leaving leaver.entry)) budget
+            self.new.scene) }
+        ensures stop { IfErr result
+            (LeaveStopsAt self.old.scene (without_items self.old.scene (is_leaving leaver.entry)) budget) }
+        ensures earlier { OnOk result (self.new.earlier ≡ with_earlier self.old.scene self.old.earlier) }
+        ensures same { OnErr result (self.new ≡ self.old) }
+    {
+        self.engine.show_layout(); // for the proof: what an engine keeps
+        let Ok(rows) = leaving_numbers(self.alloc, self.items.as_slice(), leaver) else {
+            return Err(RemoveStop::OutOfMemory);
+        };
+        let Ok(()) = take_leaving_out(&mut self.items, leaver) else {
+            return Err(RemoveStop::OutOfMemory);
+        };
+        take_out(&mut self.engine, &mut self.items, &rows, &[], budget)?;
+        let past = Past::alike(self.next_row);
+        keep(&mut self.items, &mut self.engine, &mut self.pasts, past);
+        Ok(())
+    }
+
+    /// Takes views that come, in one step.
+    pub fn take_views(&mut self, new: NewViews, budget: u64) -> Result<(), RunStop>
+        requires grown { IsGrown self.old.scene.tree.views new.tree.views new.first_view.0 new.count }
+        requires room { length self.old.scene.rows + 2 * new.count ≤ MOST_ROWS }
+        requires number { self.old.scene.next_row + 2 * new.count ≤ NUMBER_LIMIT }
+        ensures solved { IfOk result (λ _. (path : paths.Path)
+            × IsSolved self.old.scene (views_draft self.old.scene new.tree new.first_view.0 new.count) budget
+            path self.new.scene) }
+        ensures stop { IfErr result
+            (StopsAt self.old.scene (views_draft self.old.scene new.tree new.first_view.0 new.count) budget) }
+        ensures free { IfErr result IsNoConflict }
+        ensures earlier { OnOk result (self.new.earlier ≡ with_earlier self.old.scene self.old.earlier) }
+        ensures same { OnErr result (self.new ≡ self.old) }
+    {
+        self.engine.show_layout(); // for the proof: what an engine keeps
+        let first_row = self.next_row;
+        let rows = view_rows(self.alloc, first_row, new.first_view.0, new.count)?;
+        let attrs = attributes_from(self.alloc, new.first_view.0, new.count)?;
+        push_views(&mut self.items, first_row, new.first_view.0, new.count)?;
+        take_more(&mut self.engine, &mut self.items, &attrs, &rows, budget)?;
+        self.next_row = first_row + 2 * new.count;
+        let past = Past::with_tree(mem::replace(&mut self.tree, new.tree), first_row);
+        keep(&mut self.items, &mut self.engine, &mut self.pasts, past);
+        Ok(())
+    }
+
+    /// Takes these metrics, for which these are the changes.
+    pub fn take_metrics(
+        &mut self,
+        metrics: Metrics,
+        to: &[Change],
+        budget: u64,
+    ) -> Result<(), RunStop>
+        requires { AreChangesFor self.old.scene metrics to.now }
+        ensures solved { IfOk result (λ _. (path : paths.Path)
+            × IsSolved self.old.scene (metrics_draft self.old.scene metrics) budget path self.new.scene) }
+        ensures stop { IfErr result (StopsAt self.old.scene (metrics_draft self.old.scene metrics) budget) }
+        ensures earlier { OnOk result (self.new.earlier ≡ with_earlier self.old.scene self.old.earlier) }
+        ensures same { OnErr result (self.new ≡ self.old) }
+    {
+        self.engine.show_layout(); // for the proof: what an engine keeps
+        self.items.mark();
+        take_constants(&mut self.engine, &mut self.items, to, budget)?;
+        let past = Past::with_metrics(mem::replace(&mut self.metrics, metrics), self.next_row);
+        keep(&mut self.items, &mut self.engine, &mut self.pasts, past);
+        Ok(())
+    }
+
+    // The window has a size for the first time, which takes two rows.
+    fn size_first(&mut self, size: &WindowSize, budget: u64) -> Result<(), RunStop>
+        requires none { has_size self.old.scene.held ≡ false }
+        requires room { length self.old.scene.rows + 2 ≤ MOST_ROWS }
+        requires number { self.old.scene.next_row + 2 ≤ NUMBER_LIMIT }
+        ensures solved { IfOk result (λ _. (path : paths.Path)
+            × IsSolved self.old.scene (with_window self.old.scene size.now.width size.now.height) budget path
+            self.new.scene) }
+        ensures stop { IfErr result
+            (StopsAt self.old.scene (with_window self.old.scene size.now.width size.now.height) budget) }
+        ensures earlier { OnOk result (self.new.earlier ≡ with_earlier self.old.scene self.old.earlier) }
+        ensures same { OnErr result (self.new ≡ self.old) }
+    {
+        let _count = self.tree.len(); // for the proof: what a tree keeps
+        let rows = size_rows(self.alloc, self.next_row, size)?;
+        let sized = Item::Sized {
+            first_row: self.next_row,
+            width: size.width,
+            height: size.height,
+        };
+        self.take_item(sized, &rows, budget)
+    }
+
+    // The window has another size than this.
+    fn size_again(&mut self, held: HeldSize, size: &WindowSize, budget: u64) -> Result<(), RunStop>
+        requires some { size_of self.old.scene.held ≡ Some (size_in held) }
+        requires near { IsFarSize self.old.scene.held size.now.width size.now.height → ⊥ }
+        ensures solved { IfOk result (λ _. (path : paths.Path)
+            × IsSolved self.old.scene (with_window self.old.scene size.now.width size.now.height) budget path
+            self.new.scene) }
+        ensures stop { IfErr result
+            (StopsAt self.old.scene (with_window self.old.scene size.now.width size.now.height) budget) }
+        ensures earlier { OnOk result (self.new.earlier ≡ with_earlier self.old.scene self.old.earlier) }
+        ensures same { OnErr result (self.new ≡ self.old) }
+    {
+        self.engine.show_layout(); // for the proof: what an engine keeps
+        let _dens = (size.width.den(), size.height.den()); // for the proof: what fractions keep
+        let to = size_changes(held.first_row, size);
+        resize_first(&mut self.items, size)?;
+        take_constants(&mut self.engine, &mut self.items, &to, budget)?;
+        let past = Past::alike(self.next_row);
+        keep(&mut self.items, &mut self.engine, &mut self.pasts, past);
+        Ok(())
+    }
+
+    /// Takes this size of the window. The first takes two rows, for which there is to be room.
+    pub fn take_size(&mut self, size: &WindowSize, budget: u64) -> Result<(), RunStop>
+        requires room { has_size self.old.scene.held ≡ false → length self.old.scene.rows + 2 ≤ MOST_ROWS }
+        requires number { has_size self.old.scene.held ≡ false → self.old.scene.next_row + 2 ≤ NUMBER_LIMIT }
+        requires near { IsFarSize self.old.scene.held size.now.width size.now.height → ⊥ }
+        ensures solved { IfOk result (λ _. (path : paths.Path)
+            × IsSolved self.old.scene (with_window self.old.scene size.now.width size.now.height) budget path
+            self.new.scene) }
+        ensures stop { IfErr result
+            (StopsAt self.old.scene (with_window self.old.scene size.now.width size.now.height) budget) }
+        ensures earlier { OnOk result (self.new.earlier ≡ with_earlier self.old.scene self.old.earlier) }
+        ensures same { OnErr result (self.new ≡ self.old) }
+    {
+        match size_of(self.items.as_slice()) {
+            Some(held) => self.size_again(held, size, budget),
+            None => self.size_first(size, budget),
+        }
+    }
+
+    /// Takes a line more of this group, whose rows these are.
+    pub fn take_line(
+        &mut self,
+        group: OwnedName,
+        line: Compiled,
+        rows: &[Row],
+        budget: u64,
+    ) -> Result<(), RunStop>
+        requires rows { AreRowsNow self.old.scene.metrics line.rows rows.now }
+        requires next { IsNextLine self.old.scene.tree.views self.old.scene.next_row line }
+        requires room { length self.old.scene.rows + length rows.now ≤ MOST_ROWS }
+        requires number { self.old.scene.next_row + length rows.now ≤ NUMBER_LIMIT }
+        ensures solved { IfOk result (λ _. (path : paths.Path)
+            × IsSolved self.old.scene (with_line self.old.scene group line) budget path self.new.scene) }
+        ensures stop { IfErr result (StopsAt self.old.scene (with_line self.old.scene group line) budget) }
+        ensures earlier { OnOk result (self.new.earlier ≡ with_earlier self.old.scene self.old.earlier) }
+        ensures same { OnErr result (self.new ≡ self.old) }
+    {
+        show_rows(rows); // for the proof: what rows keep
+        self.take_item(Item::OfLine { group, line }, rows, budget)
+    }
+
+    /// Takes a suggestion more, for whose row there is to be room.
+    pub fn take_suggestion(&mut self, new: Suggestion, budget: u64) -> Result<(), RunStop>
+        requires next { IsNextSuggestion self.old.scene new }
+        requires room { length self.old.scene.rows + 1 ≤ MOST_ROWS }
+        requires number { self.old.scene.next_row < NUMBER_LIMIT }
+        ensures solved { IfOk result (λ _. (path : paths.Path)
+            × IsSolved self.old.scene (with_suggestion self.old.scene new) budget path self.new.scene) }
+        ensures stop { IfErr result (StopsAt self.old.scene (with_suggestion self.old.scene new) budget) }
+        ensures earlier { OnOk result (self.new.earlier ≡ with_earlier self.old.scene self.old.earlier) }
+        ensures same { OnErr result (self.new ≡ self.old) }
+    {
+        let _count = self.tree.len(); // for the proof: what a tree keeps
+        let rows = suggestion_rows(self.alloc, &new)?;
+        self.take_item(Item::Suggested(new), &rows, budget)
+    }
+
+    /// Takes another constant in the row of a suggestion that is held.
+    pub fn take_suggested(&mut self, again: Suggestion, budget: u64) -> Result<(), RunStop>
+        requires { IsNearSuggestion self.old.scene again }
+        ensures solved { IfOk result (λ _. (path : paths.Path)
+            × IsSolved self.old.scene (with_suggested self.old.scene again.view again.word again.constant)
+            budget path self.new.scene) }
+        ensures stop { IfErr result (StopsAt self.old.scene
+            (with_suggested self.old.scene again.view again.word again.constant) budget) }
+        ensures earlier { OnOk result (self.new.earlier ≡ with_earlier self.old.scene self.old.earlier) }
+        ensures same { OnErr result (self.new ≡ self.old) }
+    {
+        self.engine.show_layout(); // for the proof: what an engine keeps
+        let _den = again.constant.den(); // for the proof: what a fraction keeps
+        let to = [Change {
+            row: again.row,
+            constant: again.constant,
+        }];
+        suggest_again(&mut self.items, &again)?;
+        take_constants(&mut self.engine, &mut self.items, &to, budget)?;
+        let past = Past::alike(self.next_row);
+        keep(&mut self.items, &mut self.engine, &mut self.pasts, past);
+        Ok(())
+    }
+
+    /// Takes the lines of a group out.
+    pub fn take_group_out(&mut self, name: &[u8], budget: u64) -> Result<(), RemoveStop>
+        ensures left { IfOk result
+            (λ _. HasLeft self.old.scene (without_group self.old.scene name.now) budget self.new.scene) }
+        ensures stop { IfErr result
+            (LeaveStopsAt self.old.scene (without_group self.old.scene name.now) budget) }
+        ensures earlier { OnOk result (self.new.earlier ≡ with_earlier self.old.scene self.old.earlier) }
+        ensures same { OnErr result (self.new ≡ self.old) }
+    {
+        self.take_items_out(Leaver::Group(name), budget)
+    }
+
+    /// Takes the suggestion of this attribute of the view out.
+    pub fn take_suggestion_out(
+        &mut self,
+        view: ViewId,
+        word: AttrWord,
+        budget: u64,
+    ) -> Result<(), RemoveStop>
+        ensures left { IfOk result
+            (λ _. HasLeft self.old.scene (without_suggestion self.old.scene view.0 word) budget
+            self.new.scene) }
+        ensures stop { IfErr result
+            (LeaveStopsAt self.old.scene (without_suggestion self.old.scene view.0 word) budget) }
+        ensures earlier { OnOk result (self.new.earlier ≡ with_earlier self.old.scene self.old.earlier) }
+        ensures same { OnErr result (self.new ≡ self.old) }
+    {
+        self.take_items_out(Leaver::Suggestion(view.0, word), budget)
+    }
+
+    /// Takes these views out, which are a view and all below it, with the lines that name one of them.
+    pub fn take_views_out(&mut self, gone: &[u32], budget: u64) -> Result<(), RemoveStop>
+        requires { (root : ℕ) × (root ≢ 0) × AreGoing self.old.scene.tree.views root gone.now }
+        ensures left { IfOk result
+            (λ _. HasLeft self.old.scene (without_views self.old.scene gone.now) budget self.new.scene) }
+        ensures stop { IfErr result
+            (LeaveStopsAt self.old.scene (without_views self.old.scene gone.now) budget) }
+        ensures earlier { OnOk result (self.new.earlier ≡ with_earlier self.old.scene self.old.earlier) }
+        ensures same { OnErr result (self.new ≡ self.old) }
+    {
+        self.engine.show_layout(); // for the proof: what an engine keeps
+        let _count = self.tree.len(); // for the proof: what a tree keeps
+        let Ok(rows) = leaving_numbers(self.alloc, self.items.as_slice(), Leaver::Views(gone))
+        else {
+            return Err(RemoveStop::OutOfMemory);
+        };
+        let Ok(attrs) = attributes_in(self.alloc, gone) else {
+            return Err(RemoveStop::OutOfMemory);
+        };
+        let Ok(mut tree) = self.tree.copy() else {
+            return Err(RemoveStop::OutOfMemory);
+        };
+        tree.drop_views(gone);
+        let Ok(()) = take_leaving_out(&mut self.items, Leaver::Views(gone)) else {
+            return Err(RemoveStop::OutOfMemory);
+        };
+        take_out(&mut self.engine, &mut self.items, &rows, &attrs, budget)?;
+        let past = Past::with_tree(mem::replace(&mut self.tree, tree), self.next_row);
+        keep(&mut self.items, &mut self.engine, &mut self.pasts, past);
+        Ok(())
+    }
+}
