@@ -15,7 +15,8 @@ use Rattle.constraint_compile.specs.FormatParts.{parts}
 use Rattle.constraint_compile.specs.FormatStops.{row_count}
 use Rattle.constraint_compile.specs.FormatRows.{IsCompiledFormat, MayStopFormat}
 use Rattle.constraint_compile.specs.declared.stops.CompileStop.{CompileStop}
-use Rattle.session_undo.specs.Scene.{EARLIER, Scene, State, IsBestScene, IsBestState, with_earlier}
+use Rattle.session_undo.specs.Scene.{Scene, State, IsBestScene, IsBestState, with_earlier}
+use Rattle.session_undo.specs.declared.limits.TheConstants.{EARLIER}
 use Rattle.session_undo.specs.Replies.{Reply, Done}
 use Rattle.layout_solver.specs.declared.removing.RemoveStop.{RemoveStop}
 use Rattle.layout_solver.specs.declared.removing.RemoveStop.TheVariants as removal

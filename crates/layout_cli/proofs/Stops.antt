@@ -8,13 +8,13 @@ use Rattle.edge_io.specs.Cause.{Rose}
 use Rattle.program_words.specs.declared.mode.Mode.{Mode}
 use Rattle.program_words.specs.declared.mode.Mode.TheVariants as mode
 use Rattle.layout_cli.specs.Checks.{IsCheckOf}
-use Rattle.layout_cli.specs.Ends.{Outside, AfterNoMemory, AfterReadFault, AfterTooLong, AfterWriteFault, HasOutput, IsEndOf, IsScriptEnd}
+use Rattle.layout_cli.specs.Ends.{Outside, AfterNoMemory, AfterReadFault, AfterTooLong, AfterWriteFault, HasOutput, IsEndOf, IsScriptEnd, IsTooLong}
 use Rattle.layout_cli.specs.Making.{IsMade}
 use Rattle.layout_cli.specs.Printing.{HasFront}
 use Rattle.layout_cli.specs.declared.program.Status.{Status}
 use Rattle.layout_cli.specs.declared.program.Status.TheVariants as status
-use Rattle.layout_cli.specs.declared.answers.AnswerStop.{AnswerStop}
-use Rattle.layout_cli.specs.declared.answers.AnswerStop.TheVariants as answer
+use Rattle.layout_cli.specs.declared.script.answers.AnswerStop.{AnswerStop}
+use Rattle.layout_cli.specs.declared.script.answers.AnswerStop.TheVariants as answer
 use Rattle.layout_cli.specs.declared.input.InputStop.{InputStop}
 use Rattle.layout_cli.specs.declared.input.InputStop.TheVariants as input
 use Rattle.layout_cli.specs.declared.script.ScriptStop.{ScriptStop}
@@ -43,13 +43,13 @@ answer_ends old new answer.OutOfMemory e from write memory = err_as old new e sc
 
 pub input_ends : (old new : Outside) (s : InputStop) (e : ScriptStop) → FromInput s e
     → (s ≡ input.Fault → Rose old.reads_failed new.reads_failed × AfterReadFault mode.Run old.left new.left old.held new.held)
-    → (s ≡ input.TooLong → IfSome old.left (λ script. 1048576 < length script) × AfterTooLong mode.Run old.left new.left old.held new.held)
+    → (s ≡ input.TooLong → IsTooLong mode.Run old.left × AfterTooLong mode.Run old.left new.left old.held new.held)
     → (s ≡ input.OutOfMemory → ⊥) → IsScriptEnd old new (Err e)
 input_ends old new input.Fault e from read long memory = err_as old new e script.ReadFault (from.0 refl) (read refl)
 input_ends old new input.TooLong e from read long memory = err_as old new e script.TooLong (from.1 refl) (long refl)
 input_ends old new input.OutOfMemory e from read long memory = absurd (memory refl)
 
-pub good_ends : (old new : Outside) (good : Bool) → HasOutput mode.Run old new good → IsScriptEnd old new (Ok good)
+pub good_ends : (old new : Outside) (good : Bool) → HasOutput mode.Run old.left old.held new.held good → IsScriptEnd old new (Ok good)
 good_ends old new true out = out
 good_ends old new false out = out
 

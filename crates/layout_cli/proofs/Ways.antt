@@ -10,7 +10,7 @@ use Rattle.std.proofs.lemmas.Bool.Decides.{leb_tells}
 use Rattle.edge_io.specs.Feed.{IsOpen, Pending, nothing}
 use Rattle.layout_cli.specs.Machine.{IsRunOf}
 use Rattle.program_words.specs.declared.mode.Mode.TheVariants as mode
-use Rattle.layout_cli.specs.Talks.{AnswersWhole, AnswersFirst, AnswersInPart, TakesMore, joined}
+use Rattle.layout_cli.specs.Talks.{Answering, AnswersWhole, AnswersFirst, AnswersInPart, OnceJoined, TakesMore, joined}
 use Rattle.layout_cli.specs.Ends.{Outside, HasOutput, AfterNoMemory, AfterReadFault, AfterTooLong, AfterWriteFault}
 use Rattle.layout_cli.proofs.Talks.{whole_begins, first_begins}
 
@@ -72,9 +72,9 @@ way_long left rest after before now room Is way over byte =
 -- ---- what is pending is answered
 
 pub way_answers : (left rest after before now past : Option (List ℕ)) (room less : ℕ) (p next last : Pending) (more : Bool)
-    (Was Is : Pending → Option (List ℕ) → Option (List ℕ) → List ℕ → Type 0)
+    (Was Is : Answering)
     → IsUnderWay left rest before now room (Was p before now) → TakesMore p next rest after room less more
-    → ((q : Pending) (b : Option (List ℕ)) (taken bytes : List ℕ) → Was q b now taken → next ≡ joined q bytes → Is last b past (taken ++ bytes) × AnswersWhole b past (taken ++ bytes))
+    → OnceJoined Was now next (λ b taken. Is last b past taken × AnswersWhole b past taken)
     → IsUnderWay left after before past less (Is last before past)
 way_answers left rest after before now past room less p next last more Was Is way takes answers =
     let both = answers p before way.taken takes.bytes way.talk takes.joins in
@@ -87,21 +87,21 @@ way_answers left rest after before now past room less p next last more Was Is wa
     }
 
 pub way_breaks : (left rest after before now past : Option (List ℕ)) (room less : ℕ) (p next : Pending) (more : Bool)
-    (Was : Pending → Option (List ℕ) → Option (List ℕ) → List ℕ → Type 0)
+    (Was : Answering)
     → IsUnderWay left rest before now room (Was p before now) → TakesMore p next rest after room less more
-    → ((q : Pending) (b l : Option (List ℕ)) (taken bytes : List ℕ) → Was q b now taken → next ≡ joined q bytes → AnswersInPart b past l (taken ++ bytes))
+    → ((l : Option (List ℕ)) → OnceJoined Was now next (λ b. AnswersInPart b past l))
     → AfterWriteFault mode.Run left after before past
 way_breaks left rest after before now past room less p next more Was way takes breaks = (
   way.taken ++ takes.bytes,
   consumes_both left rest after way.taken takes.bytes way.consumed takes.taken,
   omega (arith, length-append way.taken takes.bytes, way.counted, takes.counted),
-  breaks p before after way.taken takes.bytes way.talk takes.joins,
+  breaks after p before way.taken takes.bytes way.talk takes.joins,
 )
 
 pub way_stops : (left rest after before now past : Option (List ℕ)) (room less : ℕ) (p next : Pending) (more : Bool)
-    (Was : Pending → Option (List ℕ) → Option (List ℕ) → List ℕ → Type 0)
+    (Was : Answering)
     → IsUnderWay left rest before now room (Was p before now) → TakesMore p next rest after room less more
-    → ((q : Pending) (b : Option (List ℕ)) (taken bytes : List ℕ) → Was q b now taken → next ≡ joined q bytes → AnswersFirst b past (taken ++ bytes))
+    → OnceJoined Was now next (λ b. AnswersFirst b past)
     → AfterNoMemory mode.Run left after before past
 way_stops left rest after before now past room less p next more Was way takes stops = (
   way.taken ++ takes.bytes,
@@ -120,7 +120,7 @@ same_pending p next bytes is none =
     is ∙ ap (λ (bs : List ℕ). pending_of (p.bytes ++ bs) p.is_cut) none ∙ ap (λ (bs : List ℕ). pending_of bs p.is_cut) (append-nil p.bytes)
 
 pub way_closes : (left rest after before now : Option (List ℕ)) (room less : ℕ) (p next : Pending) (more : Bool)
-    (Was : Pending → Option (List ℕ) → Option (List ℕ) → List ℕ → Type 0)
+    (Was : Answering)
     → IsUnderWay left rest before now room (Was p before now) → TakesMore p next rest after room less more → more ≡ false → IsUnderWay left after before now room (Was next before now)
 way_closes left rest after before now room less p next more Was way takes ended =
     let none : takes.bytes ≡ [] = (takes.at_end ended).0 in
@@ -151,9 +151,9 @@ way_stops_first left before = ([], consumes_none left, omega arith, first_begins
 pub way_ends : (old new : Outside) (rest now : Option (List ℕ)) (room : ℕ) (Is : List ℕ → Type 0) (good result : Bool) → result ≡ good
     → IsUnderWay old.left rest old.held now room Is → IsAtEnd rest
     → ((taken : List ℕ) → Is taken → (text : List ℕ) × IsRunOf taken text good × Appends old.held new.held text)
-    → HasOutput mode.Run old new result
+    → HasOutput mode.Run old.left old.held new.held result
 way_ends old new rest now room Is good result is way end whole =
-    subst (λ (b : Bool). HasOutput mode.Run old new b) (sym is)
+    subst (λ (b : Bool). HasOutput mode.Run old.left old.held new.held b) (sym is)
     (all_taken old.left rest way.taken (λ script. (length script ≤ 1048576) × ((text : List ℕ) × IsRunOf script text good × Appends old.held new.held text))
     way.consumed end (omega (arith, way.counted), whole way.taken way.talk))
 

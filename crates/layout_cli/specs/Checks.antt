@@ -12,7 +12,7 @@ use Rattle.path_checker.specs.declared.verdict.PathVerdict.TheVariants as on_pat
 use Rattle.path_checker.specs.PathClauses.{IsPathVerdict}
 use Rattle.claim_text.specs.declared.claim.Claim.{Claim}
 use Rattle.claim_text.specs.declared.claim.Claim.TheVariants.{IsBest, IsConflict, IsPath}
-use Rattle.claim_text.specs.declared.stops.ReadStop.TheVariants.{BadLine}
+use Rattle.claim_text.specs.Stops.{bad_line}
 use Rattle.claim_text.specs.Cut.{IsCut}
 use Rattle.claim_text.specs.Problems as problem
 use Rattle.claim_text.specs.ClaimTexts as claim
@@ -47,8 +47,8 @@ pub record IsBad (all : List (List ℕ)) (n : ℕ) : Type 0 where
   pub before : List (List ℕ)
   pub after : List (List ℕ)
   pub cut : IsCut all before after
-  pub bad : problem.StopsAt before (BadLine n) ⊎ ((p : Problem) × problem.Reads before p × (m : ℕ)
-      × claim.StopsAt after (BadLine m) × (n ≡ length before + m))
+  pub bad : problem.StopsAt before (bad_line n) ⊎ ((p : Problem) × problem.Reads before p × (m : ℕ)
+      × claim.StopsAt after (bad_line m) × (n ≡ length before + m))
 
 abbrev pub IsAnswerTo : List (List ℕ) → Answer → Type 0
 IsAnswerTo all (Judged v) = IsJudged all v

@@ -1,11 +1,13 @@
--- What was written where a run of a mode ends early.
-use Rattle.std.specs.Prelude.{◌≡◌, ℕ, ◌<◌, ◌≤◌, Bool, true, false, List, [], ◌∷◌, ◌++◌, length, Option, IfSome}
+-- What was written where a run of a mode ends.
+use Rattle.std.specs.Prelude.{◌≡◌, ℕ, ◌<◌, ◌≤◌, Bool, true, false, List, [], ◌∷◌, ◌++◌, length, Option}
+use Rattle.std.specs.Prelude.{IfSome}
 use Rattle.std.specs.Io.KnownBytes.{Appends, Consumes}
 use Rattle.edge_io.specs.Cause.{Rose}
 use Rattle.program_words.specs.declared.mode.Mode.{Mode}
 use Rattle.program_words.specs.declared.mode.Mode.TheVariants.{Run, Check, Make}
 use Rattle.std.specs.declared.result.Result.{Result}
 use Rattle.std.specs.declared.result.Result.TheVariants.{Ok, Err}
+use Rattle.layout_cli.specs.declared.mode.TheConstants.{INPUT_LIMIT}
 use Rattle.layout_cli.specs.declared.script.ScriptStop.{ScriptStop}
 use Rattle.layout_cli.specs.declared.script.ScriptStop.TheVariants as script
 use Rattle.layout_cli.specs.declared.program.Status.{Status}
@@ -15,53 +17,74 @@ use Rattle.layout_cli.specs.Outputs.{IsOutputOf}
 use Rattle.layout_cli.specs.Printing.{HasFront}
 use Rattle.layout_cli.specs.Talks.{AnswersWhole, AnswersFirst, AnswersInPart}
 
+-- ---- what was written: from what was left in the source and held by the sink to what is
+
+-- the mode's input is within the limit, and this holds of it
+abbrev pub IfWithin : Mode → (left : Option (List ℕ)) → (List ℕ → Type 0) → Type 0
+IfWithin mode left P = IfSome (input_of mode left) (λ input. (length input ≤ limit_of mode) × P input)
+
+-- the mode's input is longer than the limit
+abbrev pub IsTooLong : Mode → (left : Option (List ℕ)) → Type 0
+IsTooLong mode left = IfSome (input_of mode left) (λ input. limit_of mode < length input)
+
+-- the whole input was read, it is within the limit, and what was written is the mode's output for it
+abbrev pub HasOutput : Mode → (left before now : Option (List ℕ)) → Bool → Type 0
+HasOutput mode left before now good = IfWithin mode left (λ input. (text : List ℕ)
+    × IsOutputOf mode input text good × Appends before now text)
+
+-- of a script, bytes within the limit were taken, and this holds of them
+abbrev pub HasTaken : (left rest : Option (List ℕ)) → (List ℕ → Type 0) → Type 0
+HasTaken left rest Is = (taken : List ℕ) × Consumes left rest taken × (length taken ≤ INPUT_LIMIT) × Is taken
+
 -- where the source failed: the replies to the whole lines that were read, or nothing in another mode
-abbrev pub AfterReadFault : Mode → Option (List ℕ) → Option (List ℕ) → Option (List ℕ) → Option (List ℕ) → Type 0
-AfterReadFault Run left rest before now = (taken : List ℕ) × Consumes left rest taken
-    × (length taken ≤ limit_of Run) × AnswersWhole before now taken
+abbrev pub AfterReadFault : Mode → (left rest before now : Option (List ℕ)) → Type 0
+AfterReadFault Run left rest before now = HasTaken left rest (AnswersWhole before now)
 AfterReadFault mode left rest before now = Appends before now []
 
 -- where the source gave more than the limit: the replies to the whole lines within it
-abbrev pub AfterTooLong : Mode → Option (List ℕ) → Option (List ℕ) → Option (List ℕ) → Option (List ℕ) → Type 0
-AfterTooLong Run left rest before now = (taken : List ℕ) × (byte : ℕ) × Consumes left rest (taken ++ byte ∷ [])
-    × (length taken ≡ limit_of Run) × AnswersWhole before now taken
+abbrev pub AfterTooLong : Mode → (left rest before now : Option (List ℕ)) → Type 0
+AfterTooLong Run left rest before now = (taken : List ℕ) × (byte : ℕ)
+    × Consumes left rest (taken ++ byte ∷ []) × (length taken ≡ INPUT_LIMIT) × AnswersWhole before now taken
 AfterTooLong mode left rest before now = Appends before now []
 
 -- where the sink failed: a front of the replies, or of the mode's output
-abbrev pub AfterWriteFault : Mode → Option (List ℕ) → Option (List ℕ) → Option (List ℕ) → Option (List ℕ) → Type 0
-AfterWriteFault Run left rest before now = (taken : List ℕ) × Consumes left rest taken
-    × (length taken ≤ limit_of Run) × AnswersInPart before now rest taken
-AfterWriteFault mode left rest before now = IfSome (input_of mode left) (λ input. (length input ≤ limit_of mode)
-    × ((text : List ℕ) × (good : Bool) × IsOutputOf mode input text good × HasFront before now text))
+abbrev pub AfterWriteFault : Mode → (left rest before now : Option (List ℕ)) → Type 0
+AfterWriteFault Run left rest before now = HasTaken left rest (AnswersInPart before now rest)
+AfterWriteFault mode left rest before now = IfWithin mode left (λ input. (text : List ℕ) × (good : Bool)
+    × IsOutputOf mode input text good × HasFront before now text)
 
 -- where memory was wanting: the replies to some first whole lines, or nothing in another mode
-abbrev pub AfterNoMemory : Mode → Option (List ℕ) → Option (List ℕ) → Option (List ℕ) → Option (List ℕ) → Type 0
-AfterNoMemory Run left rest before now = (taken : List ℕ) × Consumes left rest taken
-    × (length taken ≤ limit_of Run) × AnswersFirst before now taken
+abbrev pub AfterNoMemory : Mode → (left rest before now : Option (List ℕ)) → Type 0
+AfterNoMemory Run left rest before now = HasTaken left rest (AnswersFirst before now)
 AfterNoMemory mode left rest before now = Appends before now []
 
--- what was read and written, and how often the source and the sink had failed, before a run and after it
+-- ---- how a run may end
+
+-- what a source has left and a sink holds, and how often each has failed
 pub record Outside : Type 0 where
   pub left : Option (List ℕ)
-  pub held : Option (List ℕ)
   pub reads_failed : ℕ
+  pub held : Option (List ℕ)
   pub writes_failed : ℕ
 
--- the whole input was read, it is within the limit, and what was written is the mode's output for it
-abbrev pub HasOutput : Mode → Outside → Outside → Bool → Type 0
-HasOutput mode old new good = IfSome (input_of mode old.left) (λ input. (length input ≤ limit_of mode)
-    × ((text : List ℕ) × IsOutputOf mode input text good × Appends old.held new.held text))
+abbrev pub outside : Option (List ℕ) → ℕ → Option (List ℕ) → ℕ → Outside
+outside left reads_failed held writes_failed = record {
+  left = left;
+  reads_failed = reads_failed;
+  held = held;
+  writes_failed = writes_failed;
+}
 
--- the run of a mode may end so
+-- from what was outside before to what is, the run of a mode may end so
 abbrev pub IsEndOf : Mode → Outside → Outside → Status → Type 0
-IsEndOf mode old new status.Done = HasOutput mode old new true
-IsEndOf mode old new status.Refused = HasOutput mode old new false
+IsEndOf mode old new status.Done = HasOutput mode old.left old.held new.held true
+IsEndOf mode old new status.Refused = HasOutput mode old.left old.held new.held false
 IsEndOf mode old new status.Usage = ⊥
 IsEndOf mode old new status.ReadFault = Rose old.reads_failed new.reads_failed
     × AfterReadFault mode old.left new.left old.held new.held
 IsEndOf mode old new status.WriteFault = Rose old.writes_failed new.writes_failed
     × AfterWriteFault mode old.left new.left old.held new.held
-IsEndOf mode old new status.TooLong = IfSome (input_of mode old.left) (λ input. limit_of mode < length input)
+IsEndOf mode old new status.TooLong = IsTooLong mode old.left
     × AfterTooLong mode old.left new.left old.held new.held
 IsEndOf mode old new status.OutOfMemory = AfterNoMemory mode old.left new.left old.held new.held
 

@@ -1,18 +1,19 @@
 -- The text of what is found of a scene, and of the probe that stopped.
-use Rattle.std.specs.Prelude.{ℕ, ◌+◌, ◌*◌, Bool, true, false, cond, nat_eq, List, [], ◌∷◌, ◌++◌, codes, decimal, Option}
-use Rattle.std.specs.Prelude.{Some, None}
+use Rattle.std.specs.Prelude.{ℕ, Bool, true, false, cond, nat_eq, List, [], ◌∷◌, ◌++◌, codes, decimal}
+use Rattle.std.specs.Prelude.{Option, Some, None}
 use Rattle.frac_core.specs.Fraction.{Fraction}
 use Rattle.frac_core.specs.Text.{fraction_text}
+use Rattle.view_tree.specs.Attributes.{left_of, top_of, width_of, height_of}
 use Rattle.view_tree.specs.Views.{LiveView}
 use Rattle.diagnosis.specs.Diagnoses.{Findings}
 
 -- the word of an attribute, if it is one of the view of this number
 abbrev pub word_at : ℕ → ℕ → Option (List ℕ)
 word_at id attr =
-    cond (nat_eq attr (4 * id + 1)) (Some (codes "left"))
-    (cond (nat_eq attr (4 * id + 2)) (Some (codes "top"))
-    (cond (nat_eq attr (4 * id + 3)) (Some (codes "width"))
-    (cond (nat_eq attr (4 * id + 4)) (Some (codes "height")) None)))
+    cond (nat_eq attr (left_of id)) (Some (codes "left"))
+    (cond (nat_eq attr (top_of id)) (Some (codes "top"))
+    (cond (nat_eq attr (width_of id)) (Some (codes "width"))
+    (cond (nat_eq attr (height_of id)) (Some (codes "height")) None)))
 
 -- the view's name, a point and the word; where there is no word, the other name
 abbrev pub name_or : List ℕ → Option (List ℕ) → List ℕ → List ℕ

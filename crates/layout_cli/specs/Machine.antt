@@ -1,6 +1,7 @@
 -- The step of a session from line to line, and a run over the lines of a script.
 use Rattle.std.specs.Prelude.{◌≡◌, ℕ, ◌<◌, ◌⊎◌, Bool, true, ◌&&◌, List, [], ◌∷◌, ◌++◌, length}
 use Rattle.std.specs.Str.Lines.{lines}
+use Rattle.edge_io.specs.declared.feed.TheConstants.{LINE_LIMIT}
 use Rattle.span_text.specs.Language.{LeavesAt}
 use Rattle.name_tables.specs.declared.stops.LimitWord.TheVariants as word
 use Rattle.script_text.specs.Grammar.{Line, all_words}
@@ -18,7 +19,7 @@ GrammarStep old line reply new =
 
 -- From the old session the line may get this reply, and the session is the new one then.
 abbrev pub Step : State → List ℕ → Reply → State → Type 0
-Step old line = Unless (4096 < length line) (Limit word.Line) old (GrammarStep old line)
+Step old line = Unless (LINE_LIMIT < length line) (Limit word.Line) old (GrammarStep old line)
 
 -- The text is that of replies to the lines, one after the other; all are accepted, or not; the last session.
 abbrev pub Run : State → List (List ℕ) → List ℕ → Bool → State → Type 0

@@ -1,5 +1,5 @@
 -- The text of replies.
-use Rattle.std.specs.Prelude.{ℕ, ◌+◌, ◌*◌, Bool, List, [], ◌∷◌, ◌++◌, codes, decimal}
+use Rattle.std.specs.Prelude.{ℕ, Bool, List, [], ◌∷◌, ◌++◌, codes, decimal}
 use Rattle.frac_core.specs.Fraction.{Fraction}
 use Rattle.frac_core.specs.Text.{fraction_text}
 use Rattle.problem_core.specs.Gaps.{value_of}
@@ -8,6 +8,7 @@ use Rattle.name_tables.specs.declared.stops.LimitWord.{LimitWord}
 use Rattle.name_tables.specs.declared.stops.LimitWord.TheVariants as word
 use Rattle.constraint_compile.specs.declared.stops.KindWord.{KindWord}
 use Rattle.constraint_compile.specs.declared.stops.KindWord.TheVariants as kind
+use Rattle.view_tree.specs.Attributes.{left_of, top_of, width_of, height_of}
 use Rattle.view_tree.specs.Views.{LiveView}
 use Rattle.cert_core.specs.declared.by.By.{By}
 use Rattle.cert_core.specs.Claims.{BestLevel}
@@ -58,8 +59,8 @@ frame_line name left top width height = codes "frame "
     ++ (name ++ (value_text left ++ (value_text top ++ (value_text width ++ (value_text height ++ 10 ∷ [])))))
 
 abbrev pub frame_of : List (ℕ × Fraction) → LiveView → List ℕ
-frame_of values v = frame_line v.name (value_of values (4 * v.id + 1)) (value_of values (4 * v.id + 2))
-    (value_of values (4 * v.id + 3)) (value_of values (4 * v.id + 4))
+frame_of values v = frame_line v.name (value_of values (left_of v.id)) (value_of values (top_of v.id))
+    (value_of values (width_of v.id)) (value_of values (height_of v.id))
 
 -- `# ID NAME.ATTR`
 unfoldable pub name_line : ℕ → List ℕ → List ℕ → List ℕ
@@ -67,8 +68,10 @@ name_line attr name word = codes "# " ++ (decimal attr ++ (32 ∷ (name ++ (46 �
 
 -- the lines that name a view's attributes
 abbrev pub names_of : LiveView → List ℕ
-names_of v = name_line (4 * v.id + 1) v.name (codes "left") ++ (name_line (4 * v.id + 2) v.name (codes "top")
-    ++ (name_line (4 * v.id + 3) v.name (codes "width") ++ name_line (4 * v.id + 4) v.name (codes "height")))
+names_of v = name_line (left_of v.id) v.name (codes "left")
+    ++ (name_line (top_of v.id) v.name (codes "top")
+    ++ (name_line (width_of v.id) v.name (codes "width")
+    ++ name_line (height_of v.id) v.name (codes "height")))
 
 -- the texts of the views, one after the other
 abbrev pub text_of_each : (LiveView → List ℕ) → List LiveView → List ℕ

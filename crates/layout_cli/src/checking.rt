@@ -1,15 +1,16 @@
 // The check of a claim on a problem.
-ghost use Rattle.std.specs.Prelude.{◌≡◌, ◌<◌, ◌-◌, ◌^◌, ◌++◌, ◌∷◌, [], IfOk, decimal, length};
+ghost use Rattle.std.specs.Prelude.{◌≡◌, ◌<◌, ◌-◌, ◌++◌, ◌∷◌, [], IfOk, decimal, length};
 ghost use Rattle.std.specs.Str.Lines.{lines};
 ghost use Rattle.claim_text.specs.ClaimTexts.{HasNoMoreParts};
+ghost use Rattle.claim_text.specs.declared.limits.TheConstants.{TEXT_LIMIT};
 ghost use Rattle.layout_cli.specs.Checks.{IsAnswerTo, IsCheckOf, IsVerdictOn};
 ghost use Rattle.layout_cli.specs.Checks.{answer_text, is_yes, verdict_of};
 
 use crate::output::Output;
-use crate::refusals::push_line;
+use crate::reply::refusals::push_line;
 use cert_checker::{Verdict, check_best, check_conflict};
-use claim_text::{Claim, ReadStop, cut_input, read_claim, read_problem};
-use frac_core::OutOfMemory;
+use claim_text::{BadLine, Claim, cut_input, read_claim, read_problem};
+use frac_core::{OutOfMemory, Stop};
 use path_checker::PathVerdict;
 use path_claims::check_path;
 use problem_core::Problem;
@@ -44,7 +45,7 @@ fn verdict_of(verdict: PathVerdict) -> Verdict
 }
 
 fn verdict_on(alloc: Global, p: &Problem, claim: &Claim) -> Result<Verdict, OutOfMemory>
-    requires { HasNoMoreParts claim.now (2 ^ 31 - 1) }
+    requires { HasNoMoreParts claim.now (TEXT_LIMIT - 1) }
     ensures { IfOk result (IsVerdictOn p.now claim.now) }
 {
     match claim {
@@ -56,21 +57,21 @@ fn verdict_on(alloc: Global, p: &Problem, claim: &Claim) -> Result<Verdict, OutO
 
 // What the check of an input answers.
 fn answer_to(alloc: Global, input: &[u8]) -> Result<Answer, OutOfMemory>
-    requires { length input.now < 2 ^ 31 }
+    requires { length input.now < TEXT_LIMIT }
     ensures { IfOk result (IsAnswerTo (lines input.now)) }
 {
     let cut = cut_input(input);
     let problem = match read_problem(alloc, cut.problem) {
         Ok(problem) => problem,
-        Err(ReadStop::BadLine(line)) => return Ok(Answer::Bad(u64::from(line))),
-        Err(ReadStop::OutOfMemory) => return Err(OutOfMemory),
+        Err(Stop::Refused(BadLine(line))) => return Ok(Answer::Bad(u64::from(line))),
+        Err(Stop::OutOfMemory) => return Err(OutOfMemory),
     };
     match read_claim(alloc, cut.claim) {
         Ok(claim) => Ok(Answer::Judged(verdict_on(alloc, &problem, &claim)?)),
-        Err(ReadStop::BadLine(line)) => {
+        Err(Stop::Refused(BadLine(line))) => {
             Ok(Answer::Bad(u64::from(cut.lines_before) + u64::from(line)))
         }
-        Err(ReadStop::OutOfMemory) => Err(OutOfMemory),
+        Err(Stop::OutOfMemory) => Err(OutOfMemory),
     }
 }
 
@@ -99,7 +100,7 @@ fn answer_line(alloc: Global, answer: Answer) -> Result<Vec<u8>, OutOfMemory>
 
 /// The line that the check of an input answers, and whether it is `yes`.
 pub fn check_input(alloc: Global, input: &[u8]) -> Result<Output, OutOfMemory>
-    requires { length input.now < 2 ^ 31 }
+    requires { length input.now < TEXT_LIMIT }
     ensures { IfOk result (λ output. IsCheckOf input.now output.text.items output.is_good) }
 {
     let answer = answer_to(alloc, input)?;

@@ -1,5 +1,5 @@
 // The whole input, in as many pulls as it takes.
-ghost use Rattle.std.specs.Prelude.{◌≡◌, ◌≤◌, ◌<◌, ◌^◌, length, vec_len, IfOk, IfSome, IsErrOf};
+ghost use Rattle.std.specs.Prelude.{◌≡◌, ◌≤◌, ◌<◌, length, vec_len, IfOk, IfSome, IsErrOf};
 ghost use Rattle.edge_io.specs.Cause.{Rose};
 ghost use Rattle.layout_cli.specs.declared.input.InputStop.TheVariants.{OutOfMemory};
 
@@ -34,7 +34,6 @@ pub fn read_all<S: Source>(
     source: &mut S,
     limit: usize,
 ) -> Result<Vec<u8>, InputStop>
-    requires { limit < 2 ^ 32 }
     ensures bytes { IfOk result (λ v. IfSome (S.left source.old) (λ bs. v.items ≡ bs)) }
     ensures short { IfOk result (λ v. vec_len v ≤ limit) }
     ensures fault { IsErrOf result InputStop.Fault → Rose (S.faults source.old) (S.faults source.new) }

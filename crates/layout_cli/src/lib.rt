@@ -17,32 +17,26 @@
 //! replies to the lines that were read.
 //!
 //! In reading order: `program` ([`run`]), `mode` (what each mode reads). For `run`: `script` (the loop over
-//! the pulls), `talk` (a session that answers lines), `answers` (one line), `replies`, `refusals`, `frames`,
-//! `names`, `found` (what a scene lacks, and probes), `printing` (frames straight to a sink). For `check`:
-//! `input` (the whole input), `checking`. For `make`: `making`. `output`, `laws`.
+//! the pulls) with `script::talk` (a session that answers lines) and `script::answers` (one line); `reply`
+//! with `reply::refusals`, `reply::frames`, `reply::names`, `reply::found` (what a scene lacks, and probes)
+//! and `reply::printing` (frames straight to a sink). For `check`: `input` (the whole input), `checking`. For
+//! `make`: `making`. `output`, `laws`.
 #![tactic(auto)]
 
-mod answers;
 mod checking;
-mod found;
-mod frames;
 mod input;
 mod laws;
 mod making;
 mod mode;
-mod names;
 mod output;
-mod printing;
 mod program;
-mod refusals;
-mod replies;
+mod reply;
 mod script;
-mod talk;
 
 pub use laws::{
     best_values_are_unique, counted_runs_are_runs, first_values_are_best, runs_lead_to_best_values,
 };
 pub use mode::{CHECK_LIMIT, INPUT_LIMIT};
-pub use printing::print_frames;
 pub use program::{Status, run};
-pub use replies::reply_text;
+pub use reply::printing::print_frames;
+pub use reply::{OK_LENGTH, reply_text};

@@ -1,5 +1,5 @@
 // The script that is made, and what a run of it comes to.
-ghost use Rattle.std.specs.Prelude.{◌≡◌, ◌<◌, ◌≤◌, ◌^◌, ◌++◌, IfOk, length, string_bytes};
+ghost use Rattle.std.specs.Prelude.{◌≡◌, ◌<◌, ◌≤◌, ◌++◌, IfOk, length, string_bytes};
 ghost use Rattle.std.specs.Str.Lines.{lines as lines_in};
 ghost use Rattle.make_script.specs.Script.{script};
 ghost use Rattle.session_undo.specs.Scene.{first_state};
@@ -7,8 +7,8 @@ ghost use Rattle.session_undo.specs.Replies as reply;
 ghost use Rattle.layout_cli.specs.Machine.{Step};
 ghost use Rattle.layout_cli.specs.Making.{IsMade, Refuses, last_line, refusal_count, summary_line};
 
-use crate::answers::step;
-use crate::frames::push_at;
+use crate::script::answers::step;
+use crate::reply::frames::push_at;
 use crate::output::Output;
 use frac_core::OutOfMemory;
 use make_script::make_script;
@@ -50,7 +50,7 @@ fn count_refusal(alloc: Global, session: &mut Session, line: &[u8]) -> Result<u6
 
 // Answers the lines of a script, and counts them and those that are refused.
 fn answer_lines(alloc: Global, script: &[u8]) -> Result<Answered, OutOfMemory>
-    requires { length script.now < 2 ^ 63 }
+    requires { length script.now < usize.MAX }
     ensures count { IfOk result (λ end. end.lines ≡ length (lines_in script.now)) }
     ensures run { IfOk result (λ end. Refuses first_state (lines_in script.now) end.refused end.session) }
 {

@@ -1,13 +1,12 @@
 // The program's run, over any source and sink.
-ghost use Rattle.std.specs.Prelude.{◌≡◌, ◌⊎◌, ◌<◌, ◌≤◌, ℕ, List, Option, [], true, false, length, IfSome};
+ghost use Rattle.std.specs.Prelude.{◌≡◌, ◌⊎◌, ℕ, List, Option, [], true, false};
 ghost use Rattle.std.specs.Io.KnownBytes.{Appends};
 ghost use Rattle.edge_io.specs.Cause.{Rose};
-ghost use Rattle.layout_cli.specs.Ends.{AfterNoMemory, AfterReadFault, AfterTooLong, AfterWriteFault, IsEndOf};
-ghost use Rattle.layout_cli.specs.Outputs.{IsOutputOf};
+ghost use Rattle.layout_cli.specs.Ends.{AfterNoMemory, AfterReadFault, AfterTooLong, AfterWriteFault};
+ghost use Rattle.layout_cli.specs.Ends.{HasOutput, IsEndOf, IsTooLong, outside};
 ghost use Rattle.layout_cli.specs.Printing.{HasFront};
-ghost use Rattle.layout_cli.specs.Words.{Pulls, input_of, limit_of, usage_line};
-ghost use Rattle.program_words.specs.Words.{AreOther, AreWordsOf};
-ghost use Rattle.program_words.specs.declared.mode.Mode.{Mode};
+ghost use Rattle.layout_cli.specs.Words.{NameMode, Pulls, usage_line};
+ghost use Rattle.program_words.specs.Words.{AreOther};
 ghost use Rattle.program_words.specs.declared.mode.Mode.TheVariants.{Run, Check, Make};
 
 use crate::checking::check_input;
@@ -16,7 +15,7 @@ use crate::making::make_and_run;
 use crate::mode::CHECK_LIMIT;
 use crate::output::Output;
 use crate::script::ScriptStop;
-use crate::talk::talk_over;
+use crate::script::talk::talk_over;
 use edge_io::{Sink, Source, put_all};
 use frac_core::OutOfMemory;
 use program_words::{Mode, mode_of};
@@ -41,9 +40,9 @@ pub enum Status {
     TooLong,
 }
 
-/// Answers each line of a script before it reads the next one; or reads a problem and a claim to their end and
-/// writes the checker's verdict; or pulls nothing, and writes what a run of the script comes to that is drawn
-/// from a seed. `words` are the program's words after its name, and name the mode.
+/// Answers each line of a script before it reads the next one; or reads a problem and a claim to their end
+/// and writes the checker's verdict; or pulls nothing, and writes what a run of the script comes to that is
+/// drawn from a seed. `words` are the program's words after its name, and name the mode.
 ///
 /// The first event that ends the run decides the status.
 pub fn run<S: Source, K: Sink>(
@@ -53,14 +52,10 @@ pub fn run<S: Source, K: Sink>(
     sink: &mut K,
 ) -> Status
     // The whole input was read, and what was written is what the mode that the words name answers it.
-    ensures done { result ≡ Status.Done → (mode : Mode) × AreWordsOf words.now mode
-        × IfSome (input_of mode (S.left source.old)) (λ input. (length input ≤ limit_of mode)
-        × ((text : List ℕ) × IsOutputOf mode input text true
-        × Appends (K.held sink.old) (K.held sink.new) text)) }
-    ensures refused { result ≡ Status.Refused → (mode : Mode) × AreWordsOf words.now mode
-        × IfSome (input_of mode (S.left source.old)) (λ input. (length input ≤ limit_of mode)
-        × ((text : List ℕ) × IsOutputOf mode input text false
-        × Appends (K.held sink.old) (K.held sink.new) text)) }
+    ensures done { result ≡ Status.Done → NameMode words.now (λ mode.
+        HasOutput mode (S.left source.old) (K.held sink.old) (K.held sink.new) true) }
+    ensures refused { result ≡ Status.Refused → NameMode words.now (λ mode.
+        HasOutput mode (S.left source.old) (K.held sink.old) (K.held sink.new) false) }
 
     // Other words get the usage line, unless the sink fails or memory is wanting.
     ensures usage { result ≡ Status.Usage → Appends (K.held sink.old) (K.held sink.new) usage_line }
@@ -69,30 +64,29 @@ pub fn run<S: Source, K: Sink>(
         → (result ≡ Status.Usage) ⊎ (result ≡ Status.WriteFault) ⊎ (result ≡ Status.OutOfMemory) }
 
     // The source is as before, but for a mode that pulls from it.
-    ensures unread { (source.new ≡ source.old) ⊎ ((mode : Mode) × AreWordsOf words.now mode × Pulls mode) }
+    ensures unread { (source.new ≡ source.old) ⊎ NameMode words.now Pulls }
 
     // A fault has its cause. Exactly the replies to the whole lines that were read were written before the
     // source failed, and a front of the output before the sink did.
     ensures read_fault { result ≡ Status.ReadFault → Rose (S.faults source.old) (S.faults source.new) }
-    ensures after_read_fault { result ≡ Status.ReadFault → (mode : Mode) × AreWordsOf words.now mode
-        × Pulls mode × AfterReadFault mode
-        (S.left source.old) (S.left source.new) (K.held sink.old) (K.held sink.new) }
+    ensures after_read_fault { result ≡ Status.ReadFault → NameMode words.now (λ mode. Pulls mode
+        × AfterReadFault mode (S.left source.old) (S.left source.new) (K.held sink.old) (K.held sink.new)) }
     ensures write_fault { result ≡ Status.WriteFault → Rose (K.faults sink.old) (K.faults sink.new) }
     ensures after_write_fault { result ≡ Status.WriteFault
         → (AreOther words.now × HasFront (K.held sink.old) (K.held sink.new) usage_line)
-        ⊎ ((mode : Mode) × AreWordsOf words.now mode × AfterWriteFault mode
-        (S.left source.old) (S.left source.new) (K.held sink.old) (K.held sink.new)) }
+        ⊎ NameMode words.now (λ mode.
+        AfterWriteFault mode (S.left source.old) (S.left source.new) (K.held sink.old) (K.held sink.new)) }
 
     // The source gave more than the limit. Exactly the replies to the whole lines within it were written.
-    ensures too_long { result ≡ Status.TooLong → (mode : Mode) × AreWordsOf words.now mode
-        × IfSome (input_of mode (S.left source.old)) (λ input. limit_of mode < length input) }
-    ensures after_too_long { result ≡ Status.TooLong → (mode : Mode) × AreWordsOf words.now mode
-        × AfterTooLong mode (S.left source.old) (S.left source.new) (K.held sink.old) (K.held sink.new) }
+    ensures too_long { result ≡ Status.TooLong → NameMode words.now (λ mode.
+        IsTooLong mode (S.left source.old)) }
+    ensures after_too_long { result ≡ Status.TooLong → NameMode words.now (λ mode.
+        AfterTooLong mode (S.left source.old) (S.left source.new) (K.held sink.old) (K.held sink.new)) }
 
     // Exactly the replies to some first whole lines were written, or nothing.
     ensures out_of_memory { result ≡ Status.OutOfMemory → Appends (K.held sink.old) (K.held sink.new) []
-        ⊎ ((mode : Mode) × AreWordsOf words.now mode × AfterNoMemory mode
-        (S.left source.old) (S.left source.new) (K.held sink.old) (K.held sink.new)) }
+        ⊎ NameMode words.now (λ mode.
+        AfterNoMemory mode (S.left source.old) (S.left source.new) (K.held sink.old) (K.held sink.new)) }
 {
     let mode = match mode_of(alloc, words) {
         Ok(Some(mode)) => mode,
@@ -109,18 +103,8 @@ pub fn run<S: Source, K: Sink>(
 // Answers a script line by line.
 fn run_script<S: Source, K: Sink>(alloc: Global, source: &mut S, sink: &mut K) -> Status
     ensures { IsEndOf Run
-        (record {
-          left = S.left source.old;
-          held = K.held sink.old;
-          reads_failed = S.faults source.old;
-          writes_failed = K.faults sink.old;
-        })
-        (record {
-          left = S.left source.new;
-          held = K.held sink.new;
-          reads_failed = S.faults source.new;
-          writes_failed = K.faults sink.new;
-        }) result }
+        (outside (S.left source.old) (S.faults source.old) (K.held sink.old) (K.faults sink.old))
+        (outside (S.left source.new) (S.faults source.new) (K.held sink.new) (K.faults sink.new)) result }
 {
     match talk_over(alloc, source, sink) {
         Ok(true) => Status::Done,
@@ -135,18 +119,8 @@ fn run_script<S: Source, K: Sink>(alloc: Global, source: &mut S, sink: &mut K) -
 // Reads a problem and a claim, and puts the checker's verdict.
 fn run_check<S: Source, K: Sink>(alloc: Global, source: &mut S, sink: &mut K) -> Status
     ensures { IsEndOf Check
-        (record {
-          left = S.left source.old;
-          held = K.held sink.old;
-          reads_failed = S.faults source.old;
-          writes_failed = K.faults sink.old;
-        })
-        (record {
-          left = S.left source.new;
-          held = K.held sink.new;
-          reads_failed = S.faults source.new;
-          writes_failed = K.faults sink.new;
-        }) result }
+        (outside (S.left source.old) (S.faults source.old) (K.held sink.old) (K.faults sink.old))
+        (outside (S.left source.new) (S.faults source.new) (K.held sink.new) (K.faults sink.new)) result }
 {
     let input = match read_all(alloc, source, CHECK_LIMIT) {
         Ok(input) => input,
@@ -163,9 +137,8 @@ fn run_check<S: Source, K: Sink>(alloc: Global, source: &mut S, sink: &mut K) ->
 // Puts what a run of a script comes to that is drawn.
 fn run_made<K: Sink>(alloc: Global, seed: u64, views: u32, sink: &mut K) -> Status
     ensures { (left : Option (List ℕ)) (failed : ℕ) → IsEndOf (Make seed views)
-        (record { left = left; held = K.held sink.old; reads_failed = failed; writes_failed = K.faults sink.old })
-        (record { left = left; held = K.held sink.new; reads_failed = failed; writes_failed = K.faults sink.new })
-        result }
+        (outside left failed (K.held sink.old) (K.faults sink.old))
+        (outside left failed (K.held sink.new) (K.faults sink.new)) result }
 {
     match make_and_run(alloc, seed, views) {
         Ok(output) => put_output(&output, sink),

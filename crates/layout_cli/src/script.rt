@@ -1,18 +1,22 @@
 // A script that is answered line by line.
+pub(crate) mod answers;
+pub(crate) mod talk;
+
 ghost use Rattle.std.specs.Prelude.{◌≡◌, ◌≤◌, ◌++◌, ◌∷◌, [], Bool, ℕ, List, Option, IfOk, IsErrOf, OnOk};
 ghost use Rattle.std.specs.Io.KnownBytes.{Appends, Consumes, IsAtEnd, Keeps};
 ghost use Rattle.edge_io.specs.Cause.{Rose};
 ghost use Rattle.edge_io.specs.Feed.{Pending, IsOpen, nothing};
-ghost use Rattle.layout_cli.specs.Ends.{IsScriptEnd};
+ghost use Rattle.layout_cli.specs.Ends.{IsScriptEnd, outside};
 ghost use Rattle.layout_cli.specs.Machine.{IsRunOf};
-ghost use Rattle.layout_cli.specs.Talks.{AnswersFirst, AnswersInPart, AnswersWhole, TakesMore, joined};
-ghost use Rattle.layout_cli.specs.declared.answers.AnswerStop.TheVariants as answer;
+ghost use Rattle.layout_cli.specs.Talks.{AnswersFirst, AnswersInPart, AnswersWhole, OnceJoined, OnceTaken};
+ghost use Rattle.layout_cli.specs.Talks.{TakesMore};
+ghost use Rattle.layout_cli.specs.declared.script.answers.AnswerStop.TheVariants as answer;
 ghost use Rattle.layout_cli.specs.declared.input.InputStop.TheVariants as input;
 ghost use Rattle.layout_cli.specs.declared.script.ScriptStop.TheVariants as stop;
 
-use crate::answers::AnswerStop;
 use crate::input::InputStop;
 use crate::mode::INPUT_LIMIT;
+use crate::script::answers::AnswerStop;
 use edge_io::{Feed, Sink, Source};
 use frac_core::OutOfMemory;
 use std::alloc::Global;
@@ -68,7 +72,7 @@ pub(crate) trait Answerer {
     /// No answer was a refusal.
     ghost good: { Self → Bool };
 
-    /// These bytes were taken, the lines that the feed gave of them are answered, this is pending, and what was
+    /// Bytes were taken, the lines that the feed gave of them are answered, this is pending, and what was
     /// written since are the answers.
     ghost has_answered: { Self → Pending → Option (List ℕ) → Option (List ℕ) → List ℕ → Type 0 };
 
@@ -78,33 +82,32 @@ pub(crate) trait Answerer {
 
     /// Answers the lines that end in what is pending.
     fn answer_pending<K: Sink>(&mut self, feed: &mut Feed, sink: &mut K) -> Result<(), AnswerStop>
-        ensures answered { OnOk result ((p : Pending) (before : Option (List ℕ)) (taken more : List ℕ)
-            → has_answered self.old p before (K.held sink.old) taken → feed.old ≡ joined p more
-            → has_answered self.new feed.new before (K.held sink.new) (taken ++ more)
-            × AnswersWhole before (K.held sink.new) (taken ++ more)) }
+        ensures answered { OnOk result (OnceJoined (has_answered self.old) (K.held sink.old) feed.old
+            (λ before taken. has_answered self.new feed.new before (K.held sink.new) taken
+            × AnswersWhole before (K.held sink.new) taken)) }
         ensures ready { OnOk result (IsOpen feed.new) }
-        ensures front { IsErrOf result AnswerStop.Fault → (p : Pending) (before left : Option (List ℕ))
-            (taken more : List ℕ) → has_answered self.old p before (K.held sink.old) taken
-            → feed.old ≡ joined p more → AnswersInPart before (K.held sink.new) left (taken ++ more) }
+        ensures front { IsErrOf result AnswerStop.Fault → (left : Option (List ℕ))
+            → OnceJoined (has_answered self.old) (K.held sink.old) feed.old
+            (λ before. AnswersInPart before (K.held sink.new) left) }
         ensures fault { IsErrOf result AnswerStop.Fault → Rose (K.faults sink.old) (K.faults sink.new) }
         ensures later { K.faults sink.old ≤ K.faults sink.new }
-        ensures first { IsErrOf result AnswerStop.OutOfMemory → (p : Pending) (before : Option (List ℕ))
-            (taken more : List ℕ) → has_answered self.old p before (K.held sink.old) taken
-            → feed.old ≡ joined p more → AnswersFirst before (K.held sink.new) (taken ++ more) };
+        ensures first { IsErrOf result AnswerStop.OutOfMemory
+            → OnceJoined (has_answered self.old) (K.held sink.old) feed.old
+            (λ before. AnswersFirst before (K.held sink.new)) };
 
     /// Answers what is pending as the last line.
     fn answer_last<K: Sink>(&mut self, feed: &mut Feed, sink: &mut K) -> Result<(), AnswerStop>
         requires { IsOpen feed.old }
-        ensures whole { OnOk result ((before : Option (List ℕ)) (taken : List ℕ)
-            → has_answered self.old feed.old before (K.held sink.old) taken
-            → (text : List ℕ) × IsRunOf taken text (good self.new) × Appends before (K.held sink.new) text) }
-        ensures front { IsErrOf result AnswerStop.Fault → (before left : Option (List ℕ)) (taken : List ℕ)
-            → has_answered self.old feed.old before (K.held sink.old) taken → IsAtEnd left
-            → AnswersInPart before (K.held sink.new) left taken }
+        ensures whole { OnOk result (OnceTaken (has_answered self.old) (K.held sink.old) feed.old
+            (λ before taken. (text : List ℕ) × IsRunOf taken text (good self.new)
+            × Appends before (K.held sink.new) text)) }
+        ensures front { IsErrOf result AnswerStop.Fault → (left : Option (List ℕ)) → IsAtEnd left
+            → OnceTaken (has_answered self.old) (K.held sink.old) feed.old
+            (λ before. AnswersInPart before (K.held sink.new) left) }
         ensures fault { IsErrOf result AnswerStop.Fault → Rose (K.faults sink.old) (K.faults sink.new) }
-        ensures first { IsErrOf result AnswerStop.OutOfMemory → (before : Option (List ℕ)) (taken : List ℕ)
-            → has_answered self.old feed.old before (K.held sink.old) taken
-            → AnswersFirst before (K.held sink.new) taken };
+        ensures first { IsErrOf result AnswerStop.OutOfMemory
+            → OnceTaken (has_answered self.old) (K.held sink.old) feed.old
+            (λ before. AnswersFirst before (K.held sink.new)) };
 }
 
 // Fills the feed within what is left of the limit, and says whether there may be more. At the limit one byte
@@ -145,18 +148,8 @@ pub(crate) fn answer_script<S: Source, K: Sink, T: Answerer>(
 ) -> Result<bool, ScriptStop>
     requires { T.has_answered talk.old nothing (K.held sink.old) (K.held sink.old) [] }
     ensures { IsScriptEnd
-        (record {
-          left = S.left source.old;
-          held = K.held sink.old;
-          reads_failed = S.faults source.old;
-          writes_failed = K.faults sink.old;
-        })
-        (record {
-          left = S.left source.new;
-          held = K.held sink.new;
-          reads_failed = S.faults source.new;
-          writes_failed = K.faults sink.new;
-        }) result }
+        (outside (S.left source.old) (S.faults source.old) (K.held sink.old) (K.faults sink.old))
+        (outside (S.left source.new) (S.faults source.new) (K.held sink.new) (K.faults sink.new)) result }
 {
     let mut feed = Feed::new(alloc)?;
     let mut room = INPUT_LIMIT;

@@ -1,10 +1,10 @@
 //! Hands the path of each refusal for a quantity that does not fit, or for exchanges that are used up, to the
 //! checker, and prints what it says.
 //!
-//! Below a heading `== NAME` stands a script, line by line, and the program answers it in a session of its own.
-//! Each refusal 7 or 8 gives a line of the output: the number of the script's line, counted from 1; `probe` or
-//! `still` where the path is that of a probe or of a removal with rows still held; `spent`, or the kind of the
-//! quantity; and the verdict on the path, beside the problem that the line would solve:
+//! Below a heading `== NAME` stands a script, line by line, and the program answers it in a session of its
+//! own. Each refusal 7 or 8 gives a line of the output: the number of the script's line, counted from 1;
+//! `probe` or `still` where the path is that of a probe or of a removal with rows still held; `spent`, or the
+//! kind of the quantity; and the verdict on the path, beside the problem that the line would solve:
 //!
 //! - of a probe, the held problem with the row of its wish;
 //! - while rows are still held, the held problem without those rows alone that have gone;
@@ -13,7 +13,8 @@
 //! A verdict is `yes`, `no room N` or `no N`. `unread` says that no such problem could be made, and stands
 //! nowhere in a right output. `no path` stands where a probe's wish doesn't fit, so that there is no path.
 //!
-//! Behind each script, and behind `== all` for all of them, stand counts by kind and verdict: `= spent yes 1`.
+//! Behind each script, and behind `== all` for all of them, stand counts by kind and verdict, as
+//! `= spent yes 1`.
 //!
 //! A folder of scripts is judged by
 //!

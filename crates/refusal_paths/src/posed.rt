@@ -1,18 +1,15 @@
 // The problem that the path of a refusal speaks of.
 use crate::held::Held;
-use claim_text::{ReadStop, read_problem, rows_text};
-use frac_core::{Frac, OutOfMemory};
+use claim_text::{BadLine, ReadStop, TEXT_LIMIT, read_problem, rows_text};
+use frac_core::{Frac, OutOfMemory, Stop};
 use problem_core::{Problem, Quantity, Row, Stay};
 use session_undo::StopPlace;
 use std::alloc::Global;
 
-/// The greatest length of a text that is read.
-const LIMIT: usize = 1 << 24;
-
 // A problem as it is read. Its length is tested before.
 fn read(alloc: Global, text: &[u8]) -> Result<Problem, ReadStop> {
-    if text.len() > LIMIT {
-        return Err(ReadStop::BadLine(0));
+    if text.len() >= TEXT_LIMIT {
+        return Err(Stop::Refused(BadLine(0)));
     }
     read_problem(alloc, text)
 }
@@ -21,8 +18,8 @@ fn read(alloc: Global, text: &[u8]) -> Result<Problem, ReadStop> {
 fn problem_of(alloc: Global, text: &[u8]) -> Result<Option<Problem>, OutOfMemory> {
     match read(alloc, text) {
         Ok(problem) => Ok(Some(problem)),
-        Err(ReadStop::BadLine(_)) => Ok(None),
-        Err(ReadStop::OutOfMemory) => Err(OutOfMemory),
+        Err(Stop::Refused(BadLine(_))) => Ok(None),
+        Err(Stop::OutOfMemory) => Err(OutOfMemory),
     }
 }
 

@@ -57,8 +57,8 @@ pub fn text_of_problem(alloc: Global, problem: &Problem) -> Result<Vec<u8>, OutO
     Ok(text)
 }
 
-/// What the word `check` says of the multipliers that a reply prints, where it prints any: of a certificate as
-/// it stands, of a conflict beside the problem that its line would solve.
+/// What the word `check` says of the multipliers that a reply prints, where it prints any: of a certificate
+/// as it stands, of a conflict beside the problem that its line would solve.
 pub fn verdict_on(
     alloc: Global,
     problem: &Problem,

@@ -2,7 +2,7 @@ use Rattle.std.proofs.Common.{◌≡◌, ◌≤◌, ◌∙◌, ◌==◌, Bool, t
 use Rattle.std.proofs.lemmas.Result.{err_from_is_err_and}
 use Rattle.layout_cli.specs.Ends.{Outside}
 use Rattle.layout_cli.specs.Talks.{TakesMore}
-use Rattle.layout_cli.specs.declared.answers.AnswerStop.{AnswerStop}
+use Rattle.layout_cli.specs.declared.script.answers.AnswerStop.{AnswerStop}
 use Rattle.layout_cli.specs.declared.input.InputStop.{InputStop}
 use Rattle.layout_cli.specs.declared.script.ScriptStop.{ScriptStop}
 use Rattle.layout_cli.specs.declared.script.ScriptStop.TheVariants as stop
@@ -77,7 +77,7 @@ returns-in_err-answer_last g c =
     end_as old new c.from_residual-in_err-answer_last.result exit.0 exit.1 (answer_ends old new c.in_err-answer_last.field-0.0 exit.0 exit.2
     (λ is. let breaks = t.front (ap (λ (e : AnswerStop). Err e) is) in (
       rose_later _ _ _ i.writes (t.fault (ap (λ (e : AnswerStop). Err e) is)),
-      way_breaks_last _ _ _ _ _ _ _ way (λ taken talk. breaks (g.K.Sink.held c.args.sink.now) (g.S.Source.left c.take_more.new.source) taken talk (more.at_end c.if-branch.false).1),
+      way_breaks_last _ _ _ _ _ _ _ way (breaks (g.S.Source.left c.take_more.new.source) (more.at_end c.if-branch.false).1 (g.K.Sink.held c.args.sink.now)),
     ))
     (λ is. let first = t.first (ap (λ (e : AnswerStop). Err e) is) in
     way_stops_last _ _ _ _ _ _ _ way (first (g.K.Sink.held c.args.sink.now))))

@@ -1,6 +1,0 @@
-use Rattle.std.proofs.Common.{◌≡◌, ◌++◌, take}
-use Rattle.layout_cli.specs.Found.{line_of_each, moving_line}
-use Rattle.layout_cli.proofs.found.push_movings.Given as goal
-
-abbrev pub invariant-loop-attr : goal.invariant-loop-attr
-invariant-loop-attr l = l.out.items ≡ l.fn.out.items ++ line_of_each (moving_line l.tree.views) (take l.attr-index l.moving)

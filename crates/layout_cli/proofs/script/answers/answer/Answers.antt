@@ -1,0 +1,34 @@
+use Rattle.std.proofs.Common.{◌≡◌, ◌∙◌, Err, sym, ap, List, ℕ}
+use Rattle.std.specs.Io.KnownBytes.{Appends}
+use Rattle.std.proofs.lemmas.Result.{err_from_is_err_and}
+use Rattle.session_undo.specs.Replies.{Reply}
+use Rattle.layout_cli.specs.Printing.{HasFront}
+use Rattle.layout_cli.specs.Replies.{text_of}
+use Rattle.layout_cli.specs.declared.script.answers.AnswerStop.{AnswerStop}
+use Rattle.layout_cli.proofs.Answered.{passed_on, step_told}
+use Rattle.layout_cli.proofs.Told.{unchanged}
+use Rattle.layout_cli.proofs.script.answers.answer.Goals as goal
+
+pub returns-in_err-put_reply-clause-front : goal.returns-in_err-put_reply-clause-front
+returns-in_err-put_reply-clause-front g c =
+    let new = c.step-reply.new.session in
+    λ is.
+    let exit = err_from_is_err_and c.from_residual-in_err-put_reply.result c.from_residual-in_err-put_reply.ensures.1 in
+    let told = step_told c.args.session.now new c.args.line.now (λ (reply : Reply). HasFront (g.K.Sink.held c.args.sink.now) (g.K.Sink.held c.put_reply.new.sink) (text_of new.scene reply)) c.step-reply.result
+    c.step-reply.ensures.accepted c.step-reply.ensures.refused c.step-reply.ensures.same
+    (c.in_err-put_reply.ensures.front (ap (λ (e : AnswerStop). Err e) (passed_on _ _ exit.0 _ exit.1 exit.2 is))) in
+    (told.0, new, told.1, told.2)
+
+pub returns-in_err-put_reply-clause-same : goal.returns-in_err-put_reply-clause-same
+returns-in_err-put_reply-clause-same g c =
+    λ is.
+    let exit = err_from_is_err_and c.from_residual-in_err-put_reply.result c.from_residual-in_err-put_reply.ensures.1 in
+    unchanged c.args.session.now c.step-reply.new.session c.args.line.now c.step-reply.result c.step-reply.ensures.accepted c.step-reply.ensures.same
+    (c.in_err-put_reply.ensures.unchanged (ap (λ (e : AnswerStop). Err e) (passed_on _ _ exit.0 _ exit.1 exit.2 is)))
+
+pub returns-clause-told : goal.returns-clause-told
+returns-clause-told g c =
+    let new = c.step-reply.new.session in
+    let told = step_told c.args.session.now new c.args.line.now (λ (reply : Reply). Appends (g.K.Sink.held c.args.sink.now) (g.K.Sink.held c.put_reply.new.sink) (text_of new.scene reply)) c.step-reply.result
+    c.step-reply.ensures.accepted c.step-reply.ensures.refused c.step-reply.ensures.same c.in_ok-put_reply.ensures.put in
+    (told.0, told.1, told.2, c.is_ok.ensures.value ∙ told.3)

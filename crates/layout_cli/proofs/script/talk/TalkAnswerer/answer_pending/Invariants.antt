@@ -1,0 +1,15 @@
+use Rattle.std.proofs.Common.{◌≤◌, List, ℕ, Option, length}
+use Rattle.layout_cli.specs.Talks.{IsTalk}
+use Rattle.layout_cli.proofs.script.talk.TalkAnswerer.answer_pending.Given as goal
+
+-- What the run was before the call it is now, with the lines that were given answered.
+abbrev pub invariant-loop-piece : goal.invariant-loop-piece
+invariant-loop-piece g l = record {
+  later : g.K.Sink.faults l.fn.sink ≤ g.K.Sink.faults l.sink;
+  talk : (before : Option (List ℕ)) (taken : List ℕ)
+      → IsTalk before (g.K.Sink.held l.fn.sink) taken l.fn.feed l.fn.self.is_good l.fn.self.session
+      → IsTalk before (g.K.Sink.held l.sink) taken l.feed l.self.is_good l.self.session;
+}
+
+abbrev pub decreases-loop-piece : goal.decreases-loop-piece
+decreases-loop-piece g l = length l.feed.bytes

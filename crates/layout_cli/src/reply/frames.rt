@@ -1,0 +1,87 @@
+// The text of frames.
+ghost use Rattle.std.specs.Prelude.{◌≡◌, ◌++◌, ◌∷◌, [], IfOk, Some, None, slice_get};
+ghost use Rattle.view_tree.specs.Views.{LiveView};
+ghost use Rattle.layout_cli.specs.Replies.{value_text, frame_line, frame_of, text_of_each};
+
+use frac_core::{Frac, OutOfMemory, Wide, write_frac};
+use session_undo::Scene;
+
+// Left, top, width and height of a view, in window coordinates.
+#[derive(Clone, Copy, Debug, PartialEq, Eq)]
+pub(crate) struct Frame {
+    pub left: Frac,
+    pub top: Frac,
+    pub width: Frac,
+    pub height: Frac,
+}
+
+/// The room for a value as it is written.
+pub(crate) const VALUE_ROOM: usize = 82;
+
+/// Appends a space and a value.
+#[tactic(auto, unfolding(crate::specs::Replies::value_text))]
+pub(crate) fn push_value(out: &mut Vec<u8>, value: Wide) -> Result<(), OutOfMemory>
+    ensures { IfOk result (λ _. out.new.items ≡ out.old.items ++ value_text value) }
+{
+    let mut text = [0; VALUE_ROOM];
+    let end = write_frac(value, &mut text);
+    out.push(b' ')?;
+    out.extend_from_slice(&text[..end])?;
+    Ok(())
+}
+
+// Appends the line that shows a frame.
+#[tactic(auto, unfolding(crate::specs::Replies::frame_line))]
+fn push_frame(out: &mut Vec<u8>, name: &str, frame: &Frame) -> Result<(), OutOfMemory>
+    ensures { IfOk result (λ _. out.new.items ≡ out.old.items
+        ++ frame_line name.now frame.now.left frame.now.top frame.now.width frame.now.height) }
+{
+    out.extend_from_slice(b"frame ")?;
+    out.extend_from_slice(name.as_bytes())?;
+    push_value(out, Wide::from(frame.left))?;
+    push_value(out, Wide::from(frame.top))?;
+    push_value(out, Wide::from(frame.width))?;
+    push_value(out, Wide::from(frame.height))?;
+    out.push(b'\n')?;
+    Ok(())
+}
+
+// The parts of a frame by their names.
+pub(crate) fn named(frame: &[Frac; 4]) -> Frame
+    ensures { frame.now ≡ result.left ∷ result.top ∷ result.width ∷ result.height ∷ [] }
+{
+    let [left, top, width, height] = *frame;
+    Frame {
+        left,
+        top,
+        width,
+        height,
+    }
+}
+
+/// Appends the line that shows the frame of the view at a place, if a view is there.
+pub(crate) fn push_at(out: &mut Vec<u8>, scene: &Scene, place: usize) -> Result<(), OutOfMemory>
+    ensures line { IfOk result (λ _. (v : LiveView) → slice_get scene.now.scene.tree.views place ≡ Some v
+        → out.new.items ≡ out.old.items ++ frame_of scene.now.scene.values v) }
+    ensures none { IfOk result (λ _. slice_get scene.now.scene.tree.views place ≡ None
+        → out.new.items ≡ out.old.items) }
+{
+    let Some(view) = scene.tree().at(place) else {
+        return Ok(());
+    };
+    let Some(frame) = scene.frame_at(place) else {
+        return Ok(());
+    };
+    push_frame(out, view.name, &named(&frame))
+}
+
+/// Appends the frames of all views.
+pub fn push_frames(out: &mut Vec<u8>, scene: &Scene) -> Result<(), OutOfMemory>
+    ensures { IfOk result (λ _. out.new.items
+        ≡ out.old.items ++ text_of_each (frame_of scene.now.scene.values) scene.now.scene.tree.views) }
+{
+    for place in 0..scene.tree().len() {
+        push_at(out, scene, place)?;
+    }
+    Ok(())
+}
