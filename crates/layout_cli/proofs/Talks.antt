@@ -1,11 +1,9 @@
 -- A script that is answered line by line.
-use Rattle.std.proofs.Common.{◌≡◌, ◌∙◌, ◌⊎◌, inl, inr, ℕ, ◌<◌, ◌≤◌, ◌+◌, ◌==◌, Bool, true, false, true≢false, ◌&&◌, cond, List, [], ◌∷◌, ◌++◌, length, Option, Some, None, nat_le, refl, sym, ap, subst, arith, append_assoc, length-append}
+use Rattle.std.proofs.Common.{◌≡◌, ◌∙◌, ◌⊎◌, inl, inr, ℕ, ◌<◌, ◌==◌, Bool, true, false, true≢false, ◌&&◌, cond, List, [], ◌∷◌, ◌++◌, length, Option, None, refl, sym, ap, subst, arith, append_assoc, length-append}
 use Rattle.std.specs.Str.Lines.{lines, strip_carriage_return}
-use Rattle.std.specs.Prelude.{IfSome}
-use Rattle.std.specs.Io.KnownBytes.{Appends, Consumes, IsAtEnd, Keeps}
+use Rattle.std.specs.Io.KnownBytes.{Appends, Consumes, IsAtEnd}
 use Rattle.std.proofs.lemmas.List.{append-nil}
 use Rattle.std.proofs.lemmas.List.Elements.{All-nil, All-append}
-use Rattle.std.proofs.lemmas.Bool.{leb-false}
 use Rattle.std.proofs.lemmas.Bool.Decides.{leb_tells}
 use Rattle.edge_io.specs.Feed.{Pending, nothing, cut, given_as, IsUnended}
 use Rattle.edge_io.specs.Feeding.{Gives, Waits}
@@ -16,9 +14,7 @@ use Rattle.session_undo.specs.Replies.{Reply, is_accepted}
 use Rattle.layout_cli.specs.Replies.{text_of}
 use Rattle.layout_cli.specs.Machine.{Step, Run, IsRunOf}
 use Rattle.layout_cli.specs.Printing.{HasFront}
-use Rattle.program_words.specs.declared.mode.Mode.TheVariants as mode
-use Rattle.layout_cli.specs.Talks.{AreWholeLines, AnswersWhole, AnswersFirst, AnswersInPart, StandsFor, IsTalk, IsGivenAs, joined}
-use Rattle.layout_cli.specs.Ends.{AfterNoMemory, AfterReadFault, AfterTooLong, AfterWriteFault}
+use Rattle.layout_cli.specs.Talks.{AreWholeLines, AnswersWhole, AnswersFirst, AnswersInPart, IsTalk, IsGivenAs, joined}
 use Rattle.layout_cli.proofs.Printed.{appends_none, front_then}
 
 and_assoc : (a b c : Bool) → ((a && b) && c) ≡ (a && (b && c))

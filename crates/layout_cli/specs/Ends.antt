@@ -4,7 +4,7 @@ use Rattle.std.specs.Prelude.{IfSome}
 use Rattle.std.specs.Io.KnownBytes.{Appends, Consumes}
 use Rattle.edge_io.specs.Cause.{Rose}
 use Rattle.program_words.specs.declared.mode.Mode.{Mode}
-use Rattle.program_words.specs.declared.mode.Mode.TheVariants.{Run, Check, Make}
+use Rattle.program_words.specs.declared.mode.Mode.TheVariants.{Run}
 use Rattle.std.specs.declared.result.Result.{Result}
 use Rattle.std.specs.declared.result.Result.TheVariants.{Ok, Err}
 use Rattle.layout_cli.specs.declared.mode.TheConstants.{INPUT_LIMIT}

@@ -7,9 +7,9 @@ ghost use Rattle.session_undo.specs.Replies as reply;
 ghost use Rattle.layout_cli.specs.Machine.{Step};
 ghost use Rattle.layout_cli.specs.Making.{IsMade, Refuses, last_line, refusal_count, summary_line};
 
-use crate::script::answers::step;
-use crate::reply::frames::push_at;
 use crate::output::Output;
+use crate::reply::frames::push_at;
+use crate::script::answers::step;
 use frac_core::OutOfMemory;
 use make_script::make_script;
 use session_undo::{Refusal, Session};

@@ -1,4 +1,4 @@
-use Rattle.std.proofs.Common.{◌≡◌, ◌≤◌, ℕ, List, length, subst, arith}
+use Rattle.std.proofs.Common.{◌≤◌, ℕ, List, length, subst, arith}
 use Rattle.layout_cli.specs.Checks.{IsCheckOf}
 use Rattle.layout_cli.specs.Ends.{Outside}
 use Rattle.layout_cli.proofs.Stops.{check_ends}

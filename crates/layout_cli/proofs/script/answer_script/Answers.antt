@@ -1,7 +1,6 @@
-use Rattle.std.proofs.Common.{◌≡◌, ◌≤◌, ◌∙◌, ◌==◌, Bool, true, false, Err, List, ℕ, sym, subst, ap, refl, arith, rules}
+use Rattle.std.proofs.Common.{◌∙◌, Err, ap, arith}
 use Rattle.std.proofs.lemmas.Result.{err_from_is_err_and}
 use Rattle.layout_cli.specs.Ends.{Outside}
-use Rattle.layout_cli.specs.Talks.{TakesMore}
 use Rattle.layout_cli.specs.declared.script.answers.AnswerStop.{AnswerStop}
 use Rattle.layout_cli.specs.declared.input.InputStop.{InputStop}
 use Rattle.layout_cli.specs.declared.script.ScriptStop.{ScriptStop}

@@ -1,4 +1,4 @@
-use Rattle.std.proofs.Common.{◌≡◌, ◌≤◌, ℕ, length, max, arith}
+use Rattle.std.proofs.Common.{◌≡◌, ◌≤◌, length, max, arith}
 use Rattle.layout_cli.proofs.Talks.{one_byte}
 use Rattle.layout_cli.proofs.script.take_more.Goals as goal
 

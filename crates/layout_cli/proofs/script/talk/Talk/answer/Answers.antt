@@ -1,10 +1,9 @@
-use Rattle.std.proofs.Common.{◌≡◌, ◌∙◌, ◌&&◌, ◌<◌, Bool, false, Err, List, ℕ, length, sym, subst, ap, refl, rules}
+use Rattle.std.proofs.Common.{◌≡◌, ◌&&◌, ◌<◌, Bool, Err, length, sym, subst, ap}
 use Rattle.std.proofs.lemmas.Result.{err_from_is_err_and}
 use Rattle.edge_io.specs.Feeding.{shown}
 use Rattle.edge_io.specs.declared.feed.Piece.{Piece}
 use Rattle.name_tables.specs.declared.stops.LimitWord.TheVariants as word
-use Rattle.session_undo.specs.Replies.{Limit, is_accepted}
-use Rattle.layout_cli.specs.Machine.{Step}
+use Rattle.session_undo.specs.Replies.{Limit}
 use Rattle.layout_cli.specs.Talks.{IsGivenAs}
 use Rattle.layout_cli.specs.declared.script.answers.AnswerStop.{AnswerStop}
 use Rattle.layout_cli.proofs.Answered.{passed_on, long_step, and_false}

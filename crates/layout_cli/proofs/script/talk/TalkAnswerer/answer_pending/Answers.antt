@@ -1,4 +1,4 @@
-use Rattle.std.proofs.Common.{◌≡◌, ◌≤◌, ◌∙◌, Err, sym, subst, ap, arith, rules}
+use Rattle.std.proofs.Common.{Err, subst, ap, arith}
 use Rattle.std.specs.Prelude.{IfSome, IfNone, Option}
 use Rattle.std.proofs.lemmas.Result.{err_from_is_err_and}
 use Rattle.edge_io.specs.Feeding.{Gives, Waits, shown}
