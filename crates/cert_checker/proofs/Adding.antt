@@ -1,20 +1,14 @@
 -- One more term in the sums of a row.
-use Rattle.std.proofs.Common.{◌≡◌, ℕ, ◌+◌, ◌*◌, ◌<◌, ◌≤◌, ◌^◌, cond, nat_eq, List, [], ◌∷◌, length, take, get_or, ℤ, pos, ◌+ℤ◌, ◌*ℤ◌, BTreeMap, refl, sym, ap, ◌∙◌, inl, inr, arith, eq-eqb, ne_eqb}
+use Rattle.std.proofs.Common.{◌≡◌, ℕ, ◌+◌, ◌*◌, ◌<◌, ◌≤◌, ◌^◌, cond, nat_eq, List, length, take, get_or, ℤ, pos, ◌+ℤ◌, ◌*ℤ◌, BTreeMap, refl, sym, ap, ◌∙◌, inl, inr, arith, eq-eqb, ne_eqb}
 use Rattle.std.specs.Int.RustNames.{unsigned_abs}
 use Rattle.std.proofs.lemmas.Bool.{cases_eq}
-use Rattle.std.proofs.lemmas.List.{take_more}
 use borrow.Author.Differences.{ints}
 use Rattle.problem_core.specs.declared.parts.Term.{Term}
-use Rattle.problem_core.specs.Layout.{coefficient, sum_of}
+use Rattle.problem_core.specs.Layout.{coefficient}
 use Rattle.frac_core.proofs.Integers.{mul-add_left}
-use Rattle.problem_core.proofs.Forms.{sum-append}
+use Rattle.problem_core.proofs.Forms.{sum-more}
 use Rattle.cert_checker.specs.LineSums.{sum_at, IsAdded}
 use Rattle.cert_checker.proofs.Sizes.{size-add}
-
--- a sum over one element more
-pub sum-more : {A : Type 0} (f : A → ℤ) (xs : List A) (i : ℕ) (d : A) → i < length xs → sum_of f (take (i + 1) xs) ≡ sum_of f (take i xs) +ℤ f (get_or xs i d)
-sum-more f xs i d l =
-    ap (sum_of f) (take_more xs i d l) ∙ sum-append f (take i xs) (get_or xs i d ∷ []) ∙ ap (λ (t : ℤ). sum_of f (take i xs) +ℤ t) (let e : f (get_or xs i d) +ℤ pos 0 ≡ f (get_or xs i d) = omega (arith, ints) in e)
 
 step : (x y s k p w : ℤ) (times b : ℤ) → p ≡ x +ℤ times *ℤ s → w ≡ times *ℤ b → y ≡ p +ℤ w → y ≡ x +ℤ times *ℤ (s +ℤ b)
 step x y s k p w times b e f g = omega (arith, ints, e, f, g, mul-add_left times s b)

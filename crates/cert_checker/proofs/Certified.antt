@@ -1,12 +1,12 @@
 -- From the values and the placed levels to the clauses of a certificate.
-use Rattle.std.proofs.Common.{◌≡◌, ℕ, ◌+◌, ◌-◌, ◌*◌, ◌<◌, ◌≤◌, Bool, List, [], ◌∷◌, length, get_or, ℤ, pos, ◌+ℤ◌, ◌-ℤ◌, ◌*ℤ◌, ◌<ℤ◌, nat_abs, sym, ap, subst, ◌∙◌, inl, inr, arith, All, Ordering}
+use Rattle.std.proofs.Common.{◌≡◌, ℕ, ◌+◌, ◌-◌, ◌<◌, ◌≤◌, List, [], ◌∷◌, length, get_or, ℤ, pos, ◌+ℤ◌, ◌*ℤ◌, ◌<ℤ◌, nat_abs, sym, ap, subst, ◌∙◌, inl, inr, arith, All, Ordering}
 use Rattle.std.specs.List.{HoldsAt}
 use Rattle.std.specs.Ordering.{int_cmp}
 use Rattle.std.proofs.lemmas.List.{get_or-map, get_or_default}
 use Rattle.std.proofs.lemmas.List.Elements.{recursion_from_All}
 use borrow.Author.Differences.{ints}
 use Rattle.frac_core.specs.Fraction.{Fraction, IsFitting}
-use Rattle.frac_core.proofs.Integers.{diff_eq, diff-add, diff-mul, diff-neg, diff-pos, neg-pos, on_2}
+use Rattle.frac_core.proofs.Integers.{diff-add, diff-mul, diff-neg, diff-pos, neg-pos}
 use Rattle.problem_core.specs.declared.parts.Level.{Level}
 use Rattle.problem_core.specs.declared.parts.Level.TheVariants.{Priority, Stay as StayLevel}
 use Rattle.problem_core.specs.declared.parts.Stay.{Stay}
@@ -15,19 +15,18 @@ use Rattle.problem_core.specs.Kept.{IsWhole}
 use Rattle.problem_core.specs.Certificates.{Multipliers, IsCertificate, under, over}
 use Rattle.problem_core.specs.Gaps.{HasValue, value_of}
 use Rattle.problem_core.proofs.Lookups.{given-value}
-use Rattle.problem_core.proofs.GapSigns.{same-order}
+use Rattle.problem_core.proofs.GapSigns.{same-order, gap-over}
 use Rattle.problem_core.proofs.Duality.{certificate-IsBest}
 use Rattle.problem_core.proofs.Wholes.{whole-IsProblem}
 use Rattle.cert_core.specs.declared.by.By.{By}
 use Rattle.cert_core.specs.Claims.{BestLevel, IsLevel, IsPlace, AreLevels, level_at, multipliers_of, bys_of, scale_of, times_of}
 use Rattle.cert_checker.specs.declared.leveled.PlacedLevel.{PlacedLevel}
-use Rattle.cert_checker.specs.declared.fronts.Sides.{Sides}
 use Rattle.cert_checker.specs.declared.verdict.Verdict.{Verdict}
 use Rattle.cert_checker.specs.declared.verdict.Verdict.TheVariants.{Yes}
 use Rattle.cert_checker.specs.LineSums.{line_count}
 use Rattle.cert_checker.specs.Certifying.{AreOfStays, HasLevel, Balances, AreNotNegative, AreFree, IsNotNegative, IsFree, EachGiven, IsBestVerdict}
 use Rattle.cert_checker.specs.PlacedLevels.{BalancesAt, IsPlaced, ArePlaced}
-use Rattle.cert_checker.specs.Fronts.{AreFronts, AreKnown, AreOfLevel, HasFrontsAt, IsReady, seen_by}
+use Rattle.cert_checker.specs.Fronts.{AreKnown, AreOfLevel, IsReady, seen_by}
 use Rattle.cert_checker.proofs.Indexes.{length-lines, no_stay}
 use Rattle.cert_checker.proofs.LinePlaces.{row-at}
 use Rattle.cert_checker.proofs.Columns.{stay-line}
@@ -38,7 +37,7 @@ use Rattle.cert_checker.proofs.Unseen.{unseen-zero}
 
 ruleset ring = (diff-add, diff-mul, diff-neg, diff-pos, neg-pos)
 
-no_level : BestLevel
+unfoldable pub no_level : BestLevel
 no_level = record { level = Priority 0; scale = pos 0; by = [] }
 
 -- ---- values
@@ -50,15 +49,6 @@ rows-valued p whole values are k r l j t m =
     subst (HasValue values) (ap (λ (s : Stay). s.attr) is ∙ e) has
 
 -- ---- the sign of a stay's gap
-
-left_gap : (whole q d : ℕ) (v p : ℤ) → pos whole *ℤ (pos q *ℤ v -ℤ p *ℤ pos d) ≡ pos q *ℤ (v *ℤ pos whole) -ℤ p *ℤ pos (d * whole)
-left_gap whole q d = on_2 (λ v p. pos whole *ℤ (pos q *ℤ v -ℤ p *ℤ pos d) ≡ pos q *ℤ (v *ℤ pos whole) -ℤ p *ℤ pos (d * whole)) (λ a a' b b'. simp ring (diff_eq _ _ _ _ (omega arith)))
-
-right_gap : (whole q d : ℕ) (s p : ℤ) → pos q *ℤ (s *ℤ pos d) -ℤ p *ℤ pos (d * whole) ≡ pos d *ℤ (s *ℤ pos q -ℤ p *ℤ pos whole)
-right_gap whole q d = on_2 (λ s p. pos q *ℤ (s *ℤ pos d) -ℤ p *ℤ pos (d * whole) ≡ pos d *ℤ (s *ℤ pos q -ℤ p *ℤ pos whole)) (λ a a' b b'. simp ring (diff_eq _ _ _ _ (omega arith)))
-
-gap-over : (whole q d : ℕ) (v s p : ℤ) → v *ℤ pos whole ≡ s *ℤ pos d → pos whole *ℤ (pos q *ℤ v -ℤ p *ℤ pos d) ≡ pos d *ℤ (s *ℤ pos q -ℤ p *ℤ pos whole)
-gap-over whole q d v s p e = left_gap whole q d v p ∙ ap (λ (z : ℤ). pos q *ℤ z -ℤ p *ℤ pos (d * whole)) e ∙ right_gap whole q d s p
 
 one-times : (z : ℤ) → pos 1 *ℤ z +ℤ pos 0 ≡ z
 one-times z = omega (arith, ints)
@@ -155,9 +145,6 @@ placed-known p whole levels placed ok are = record {
 }
 
 -- ---- columns
-
-pub fronts-at : (p : Problem) (m : Multipliers) (seen : ℕ → ℕ → Bool) (sides : List Sides) → AreFronts p m seen sides → (at : ℕ) (s : Sides) → at < line_count p → s ≡ get_or sides at s → HasFrontsAt p m seen at s
-fronts-at p m seen sides fronts at s l is d = subst (λ (t : Sides). HasFrontsAt p m seen at t) (sym is) (λ d. fronts.each at d s l) d
 
 pub not-Negatives : (p : Problem) (m : Multipliers) → All (IsNotNegative m) (lines p) → AreNotNegative p m
 not-Negatives p m all = record { below = λ i d l. (all i d l).0; above = λ i d l. (all i d l).1 }

@@ -1,5 +1,5 @@
 -- One more line of a level in the fronts of all lines.
-use Rattle.std.proofs.Common.{◌≡◌, ◌≢◌, ℕ, ◌+◌, ◌*◌, ◌<◌, Bool, true, false, ◌||◌, ◌&&◌, cond, nat_eq, List, [], ◌∷◌, ◌++◌, length, take, set, get_or, ℤ, pos, ◌+ℤ◌, ◌-ℤ◌, ◌*ℤ◌, ◌<ℤ◌, ◌≤ℤ◌, nat_abs, Option, Some, None, refl, sym, ap, ap₂, subst, ◌∙◌, inl, inr, ◌⊎◌, arith, eqb-true, eq-eqb, ne_eqb, All}
+use Rattle.std.proofs.Common.{◌≡◌, ◌≢◌, ℕ, ◌+◌, ◌*◌, ◌<◌, Bool, true, false, ◌||◌, ◌&&◌, cond, nat_eq, List, [], ◌∷◌, ◌++◌, length, take, set, get_or, ℤ, pos, ◌+ℤ◌, ◌-ℤ◌, ◌*ℤ◌, ◌<ℤ◌, ◌≤ℤ◌, nat_abs, Option, Some, None, refl, sym, ap, ap₂, subst, ◌∙◌, inl, inr, arith, eqb-true, eq-eqb, ne_eqb, All}
 use Rattle.std.proofs.lemmas.Bool.{cases_eq, cases_Bool, cases_order}
 use Rattle.std.proofs.lemmas.List.{take_more, length-set, get_or-set_same, get_or-set_other}
 use Rattle.std.proofs.lemmas.List.Folds.{list_any-append}
@@ -174,16 +174,6 @@ or-same false false h = refl
 pub front-own : (f : ℕ → ℤ) (seen : ℕ → Bool) (own : ℕ) (o : Option Front) → seen own ≡ true → IsFront f seen o → IsFront f (λ k. seen k || nat_eq k own) o
 front-own f seen own o e h =
     front-same f seen (λ k. seen k || nat_eq k own) o (λ k. or-same (seen k) (nat_eq k own) (λ q. ap seen (eqb-true k own q) ∙ e)) h
-
-split-or : (s e : Bool) → (s || e) ≡ true → (s ≡ true) ⊎ (e ≡ true)
-split-or true e h = inl refl
-split-or false e h = inr h
-
--- the number at the own level is 0
-pub front-free : (f : ℕ → ℤ) (seen : ℕ → Bool) (own : ℕ) (o : Option Front) → f own ≡ pos 0 → IsFront f seen o → IsFront f (λ k. seen k || nat_eq k own) o
-front-free f seen own None e h = λ k u. elim (split-or (seen k) (nat_eq k own) u) [ inl s ↦ h k s | inr q ↦ ap f (eqb-true k own q) ∙ e ]
-front-free f seen own (Some q) e h =
-    (h.0, h.1, λ k u l. elim (split-or (seen k) (nat_eq k own) u) [ inl s ↦ h.2 k s l | inr r ↦ ap f (eqb-true k own r) ∙ e ])
 
 -- ---- whole columns
 

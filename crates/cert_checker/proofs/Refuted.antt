@@ -265,10 +265,6 @@ cancels-iff p whole bys ws are some all ok (f, g) =
       λ h. g (λ v. sym (cancel-sum p whole bys ws are named v) ∙ h.cancel v),
     )
 
-pub empty-cancels : (p : Problem) (bys : List By) → length bys ≡ 0 → Cancels p bys → ⊥
-empty-cancels p [] e h = h.some refl
-empty-cancels p (b ∷ bys) e h = omega (arith, e)
-
 pub not_empty : (bys : List By) → (length bys ≡ 0 → ⊥) → bys ≢ []
 not_empty bys n e = n (ap (λ (xs : List By). length xs) e)
 

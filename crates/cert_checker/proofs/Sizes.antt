@@ -1,11 +1,11 @@
 -- Sizes of sums.
 use Rattle.std.proofs.Common.{ℕ, ◌+◌, ◌<◌, ◌≤◌, ◌^◌, ◌*◌, ℤ, pos, negsuc, ◌+ℤ◌, ◌*ℤ◌, SFits, arith}
 use Rattle.std.specs.Int.{w64, w128}
-use Rattle.std.proofs.Math.Nat.{mul-le-mul}
 use Rattle.std.proofs.lemmas.Int.{fits_signed_from_abs, unsigned_abs-mul}
 use Rattle.frac_core.specs.Fraction.{IsFitting}
 use Rattle.std.specs.Int.RustNames.{unsigned_abs}
 use borrow.Author.Differences.{ints}
+use Rattle.frac_core.proofs.Products.{most_product}
 
 pub size-add : (x y : ℤ) → unsigned_abs (x +ℤ y) ≤ unsigned_abs x + unsigned_abs y
 size-add (pos x) (pos y) = omega (arith, ints)
@@ -19,12 +19,9 @@ fits-w64 z h = fits_signed_from_abs w64 z (omega (arith, h))
 pub room-more : (x y b : ℕ) (i : ℕ) → x ≤ i * 2 ^ 89 → y ≤ x + 2 ^ 89 → y ≤ (i + 1) * 2 ^ 89
 room-more x y b i h k = omega arith
 
-most : (a b m n : ℕ) → a ≤ m → b ≤ n → a * b ≤ m * n
-most a b m n h k = mul-le-mul h k
-
 pub share-size : (p : ℤ) (s : ℕ) → unsigned_abs p < 2 ^ 84 → s < 2 ^ 30 → unsigned_abs (p *ℤ pos s) < 2 ^ 114
 share-size p s h k =
-    omega (arith, unsigned_abs-mul p (pos s), most (unsigned_abs p) s 19342813113834066795298815 1073741823 (omega (arith, h)) (omega (arith, k)))
+    omega (arith, unsigned_abs-mul p (pos s), most_product (unsigned_abs p) s 19342813113834066795298815 1073741823 (omega (arith, h)) (omega (arith, k)))
 
 pub share-fits : (p : ℤ) (s : ℕ) → unsigned_abs p < 2 ^ 84 → s < 2 ^ 30 → SFits w128 (p *ℤ pos s)
 share-fits p s h k = fits_signed_from_abs w128 (p *ℤ pos s) (omega (arith, share-size p s h k))

@@ -1,5 +1,5 @@
 -- A sum over all lines, each times the multiplier that is written for its name, is a sum over what is written.
-use Rattle.std.proofs.Common.{◌≡◌, ◌≢◌, ℕ, zero, suc, ◌<◌, Bool, true, false, cond, List, [], ◌∷◌, length, get_or, ℤ, pos, ◌+ℤ◌, ◌*ℤ◌, refl, sym, ap, ap₂, subst, ◌∙◌, arith, eq-eqb, ne_eqb, eqb-true}
+use Rattle.std.proofs.Common.{◌≡◌, ◌≢◌, ℕ, zero, suc, ◌<◌, Bool, true, false, cond, List, [], ◌∷◌, length, get_or, ℤ, pos, ◌+ℤ◌, ◌*ℤ◌, refl, sym, ap, ap₂, subst, ◌∙◌, arith, eq-eqb, ne_eqb}
 use borrow.Author.Differences.{ints}
 use Rattle.problem_core.specs.declared.parts.RowName.{RowName}
 use Rattle.problem_core.specs.declared.parts.RowName.TheVariants.{Held, Stay as StayOf}
@@ -20,12 +20,6 @@ same-false (Held a) (Held b) n = ne_eqb a b (λ e. n (ap Held e))
 same-false (Held a) (StayOf b) n = refl
 same-false (StayOf a) (Held b) n = refl
 same-false (StayOf a) (StayOf b) n = ne_eqb a b (λ e. n (ap StayOf e))
-
-pub true-same : (a b : RowName) → same_row a b ≡ true → a ≡ b
-true-same (Held a) (Held b) e = ap Held (eqb-true a b e)
-true-same (Held a) (StayOf b) e = absurd cc
-true-same (StayOf a) (Held b) e = absurd cc
-true-same (StayOf a) (StayOf b) e = ap StayOf (eqb-true a b e)
 
 -- ---- the two sums
 

@@ -4,6 +4,7 @@ ghost use Rattle.std.specs.Prelude.{IsTrue, IfOk, OnOk, unsigned_abs};
 ghost use Rattle.std.specs.Ordering.{nat_cmp};
 ghost use Rattle.std.specs.BTreeMap.{IsOrdered, values};
 ghost use Rattle.frac_core.specs.Fraction.{IsFitting};
+ghost use Rattle.problem_core.specs.declared.limits.TheConstants.{ROW_LIMIT};
 ghost use Rattle.problem_core.specs.Kept.{IsWhole};
 ghost use Rattle.problem_core.specs.Layout.{coefficient, sum_of};
 ghost use Rattle.cert_checker.specs.LineSums.{sum_at, form_at, line_count, IsAdded, IsSmall};
@@ -92,7 +93,7 @@ fn are_zero(sums: &BTreeMap<u32, i128>) -> bool
 /// Whether the lines, each times its multiplier, cancel at each attribute.
 pub(crate) fn cancel(alloc: Global, p: &Problem, weighted: &[Weighted]) -> Result<bool, OutOfMemory>
     requires weighted { All (λ w. (w.at < line_count p.now) × IsFitting w.times) weighted.now }
-    requires count { length weighted.now ≤ 8192 }
+    requires count { length weighted.now ≤ 2 * ROW_LIMIT }
     ensures { IfOk result (λ yes. IsTrue yes ↔ ((v : ℕ)
         → sum_of (λ w. w.times *ℤ coefficient v (form_at p.now w.at)) weighted.now ≡ pos 0)) }
 {

@@ -70,7 +70,8 @@ bys_of (l ∷ levels) level = cond (same_level l.level level) l.by (bys_of level
 -- in their order
 abbrev pub level_at : Problem → ℕ → Level
 level_at p k = cond (nat_lt REQUIRED k)
-    (StayLevel (slice_index_or (map (λ s. s.attr) p.stays) (k - first_stay_level) 0)) (Priority (REQUIRED - k))
+    (StayLevel (slice_index_or (map (λ s. s.attr) p.stays) (k - first_stay_level) 0))
+    (Priority (REQUIRED - k))
 
 -- the multipliers for each level of the problem
 abbrev pub multipliers_of : Problem → List BestLevel → Multipliers

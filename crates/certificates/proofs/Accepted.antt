@@ -1,5 +1,5 @@
 -- What is certified is accepted.
-use Rattle.std.proofs.Common.{◌≡◌, ℕ, ◌<◌, List, All, inl, inr}
+use Rattle.std.proofs.Common.{ℕ, ◌<◌, List, All, inl, inr}
 use Rattle.frac_core.specs.Fraction.{Fraction}
 use Rattle.problem_core.specs.Kept.{AreRising}
 use Rattle.problem_core.specs.Layout.{Problem}

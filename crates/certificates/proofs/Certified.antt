@@ -1,7 +1,6 @@
 -- A corner's own multipliers are a certificate.
-use Rattle.std.proofs.Common.{◌≡◌, ◌≢◌, ◌∙◌, ◌⊎◌, inl, inr, ℕ, zero, suc, ◌*◌, ◌<◌, List, [], ◌∷◌, map, length, get_or, ℤ, pos, negsuc, ◌+ℤ◌, ◌-ℤ◌, ◌*ℤ◌, ◌<ℤ◌, ◌≤ℤ◌, nat_abs, refl, sym, ap, ap₂, subst, arith, All, AllPairs, Any, Contains}
+use Rattle.std.proofs.Common.{◌≡◌, ◌≢◌, ◌∙◌, inl, inr, ℕ, zero, suc, ◌*◌, ◌<◌, List, [], length, get_or, ℤ, pos, negsuc, ◌+ℤ◌, ◌-ℤ◌, ◌*ℤ◌, ◌<ℤ◌, ◌≤ℤ◌, nat_abs, refl, sym, ap, subst, arith, All, Contains}
 use Rattle.std.specs.List.{AllByRecursion as Each}
-use Rattle.std.proofs.lemmas.List.{get_or_default}
 use Rattle.std.proofs.lemmas.List.Elements.{All-from_recursion, recursion_from_All}
 use borrow.Author.Differences.{ints}
 use Rattle.frac_core.proofs.Integers.{mul-sub_left, mul-add_left, mul_left_comm_ℤ, mul_assoc_ℤ, mul-zero_ℤ, zero_from_mul}
@@ -15,7 +14,7 @@ use Rattle.problem_core.specs.Layout.{Line, Problem, coefficient, lines, sum_of}
 use Rattle.problem_core.specs.Kept.{IsWhole}
 use Rattle.problem_core.specs.Certificates.{IsCertificate, IsLexNonnegative, Multipliers, over_weight, under_weight, weight_at}
 use Rattle.problem_core.specs.Corners.{AreMultipliersAt, IsCorner, IsIn, NoNegativeColumn, NoNegativeValue, Point, StandsAt, assignment_at, column, one_column, place, place_of}
-use Rattle.problem_core.specs.Levels.{IsLevelAt, IsLevelWriting, alone}
+use Rattle.problem_core.specs.Levels.{IsLevelAt, alone}
 use Rattle.problem_core.proofs.Ends.{end-IsCertificate}
 use Rattle.problem_core.proofs.Forms.{each-both, each-impl, mul-sum}
 use Rattle.cert_core.specs.declared.by.By.{By}
@@ -28,15 +27,16 @@ use Rattle.corner_laws.proofs.ColumnsStay.{lex_alike}
 use Rattle.corner_laws.proofs.DualChoice.{unused-IsLevelSum}
 use Rattle.corner_laws.proofs.Ends.{all_up, decided, satisfies_there}
 use Rattle.corner_laws.proofs.Equal.{writing-sum}
-use Rattle.corner_laws.proofs.LinePlaces.{sum-each}
 use Rattle.corner_laws.proofs.LowestForms.{marks_are_fixed}
-use Rattle.corner.specs.Views.{HasNumbers, IsInUse, IsKeptCorner, IsStronger}
+use Rattle.corner.specs.Views.{IsKeptCorner, IsStronger}
 use Rattle.corner_ends.specs.Runs.{IsBestEnd}
 use Rattle.corner_ends.proofs.Fronts.{level_one, some_line}
 use Rattle.corner_ends.proofs.Signs.{columns_alike}
-use Rattle.certificates.specs.OwnLevels.{HasNoNeed, IsOwnBest, IsOwnLevel, multiplied, nonzero_times}
+use Rattle.certificates.specs.OwnLevels.{HasNoNeed, IsOwnBest, IsOwnLevel, nonzero_times}
 use Rattle.certificates.proofs.Places.{number_is, stay_there, used_level}
 use Rattle.certificates.proofs.MultiplierLists.{each_line, multiplied_rows, multiplied_times, names_different, nonzero_found, nonzero_rows}
+use Rattle.problem_core.proofs.Conflicts.{sum-each}
+use Rattle.cert_checker.proofs.Certified.{no_level}
 
 -- ---- numbers that are those of a level over a factor
 
@@ -117,9 +117,6 @@ shares-multiply p at m s = record {
 }
 
 -- ---- a corner's own levels
-
-no-level : BestLevel
-no-level = record { level = Priority 0; scale = pos 0; by = [] }
 
 pub own_different : (p : Problem) (at : List Mark) (levels : List BestLevel) → IsOwnBest p at levels → (j k : ℕ) (d : BestLevel) → j < k → k < length levels → (get_or levels j d).level ≢ (get_or levels k d).level
 own_different p at levels own j k d less within e =
@@ -203,11 +200,11 @@ own-shares : (p : Problem) (at : List Mark) (levels : List BestLevel) → IsWhol
 own-shares p at levels whole own k =
     elim (written-level levels (level_at p k)) [
       | inl (i, within, is) ↦
-          let found = found-level levels i no-level within (own_different p at levels own) in
-          let l : BestLevel = get_or levels i no-level in
+          let found = found-level levels i no_level within (own_different p at levels own) in
+          let l : BestLevel = get_or levels i no_level in
           moved-share p at k (nat_abs l.scale) (scale_of levels (level_at p k)) l.by (bys_of levels (level_at p k))
-          (sym found.0 ∙ ap (scale_of levels) (is no-level)) (sym found.1 ∙ ap (bys_of levels) (is no-level))
-          (own-share p at k l whole (sym (is no-level)) (own.own i no-level within))
+          (sym found.0 ∙ ap (scale_of levels) (is no_level)) (sym found.1 ∙ ap (bys_of levels) (is no_level))
+          (own-share p at k l whole (sym (is no_level)) (own.own i no_level within))
       | inr blank ↦ moved-share p at k 1 (scale_of levels (level_at p k)) [] (bys_of levels (level_at p k)) (sym blank.0) (sym blank.1) (blank-share p at levels k whole own blank.1)
     ]
 

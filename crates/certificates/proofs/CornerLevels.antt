@@ -1,22 +1,20 @@
 -- A corner's own levels, one more at a time.
-use Rattle.std.proofs.Common.{◌≡◌, ◌≢◌, ◌∙◌, ◌⊎◌, inl, inr, ℕ, zero, suc, ◌+◌, ◌<◌, ◌≤◌, List, [], ◌∷◌, ◌++◌, length, take, get_or, ℤ, pos, negsuc, ◌*ℤ◌, ◌<ℤ◌, unsigned_abs, refl, sym, ap, subst, arith, All, AllPairs, Contains, OnOk, IfOk}
+use Rattle.std.proofs.Common.{◌≡◌, ◌≢◌, ◌∙◌, inl, inr, ℕ, zero, suc, ◌+◌, ◌<◌, ◌≤◌, List, [], ◌∷◌, ◌++◌, length, take, get_or, ℤ, pos, ◌*ℤ◌, ◌<ℤ◌, unsigned_abs, refl, sym, ap, subst, arith, All, AllPairs, Contains, OnOk, IfOk}
 use Rattle.std.specs.Int.{◌∣◌}
 use Rattle.std.specs.List.{AllByRecursion as Each}
 use Rattle.std.specs.declared.result.Result.{Result}
 use Rattle.std.specs.declared.result.Result.TheVariants.{Ok, Err}
 use Rattle.std.proofs.lemmas.List.{take_all, take_more, get_or-take, get_or_default, length-take-le}
-use Rattle.std.proofs.lemmas.List.Elements.{All-from_recursion, All-nil, All-push, recursion_from_All}
+use Rattle.std.proofs.lemmas.List.Elements.{All-from_recursion, All-push, recursion_from_All}
 use Rattle.std.proofs.lemmas.List.Quantifiers.{all_pairs_push}
-use borrow.Author.Differences.{ints}
 use Rattle.frac_core.specs.Fraction.{IsFitting}
 use Rattle.problem_core.specs.declared.parts.Level.{Level}
 use Rattle.problem_core.specs.declared.parts.Level.TheVariants.{Priority, Stay as StayLevel}
 use Rattle.problem_core.specs.declared.parts.Mark.{Mark}
 use Rattle.problem_core.specs.declared.parts.RowName.{RowName}
 use Rattle.problem_core.specs.Layout.{Problem, lines}
-use Rattle.problem_core.specs.Levels.{IsLevelAt}
 use Rattle.cert_core.specs.declared.by.By.{By}
-use Rattle.cert_core.specs.Claims.{AreBys, BestLevel, IsLevel, IsPlace}
+use Rattle.cert_core.specs.Claims.{BestLevel, IsLevel, IsPlace}
 use Rattle.cert_checker.specs.LinePlaces.{names}
 use Rattle.corner.specs.Views.{IsInUse, IsKeptCorner, IsStronger}
 use Rattle.certificates.specs.OwnLevels.{HasNoNeed, IsOwnBest, IsOwnLevel, multiplied, nonzero_times}
@@ -24,6 +22,7 @@ use Rattle.certificates.specs.Reading.{AreNumbersAt, IsPushed}
 use Rattle.certificates.proofs.Factors.{no_factor}
 use Rattle.certificates.proofs.MultiplierLists.{DifferentRows, all_different, each_line, multiplied_different, names_different, none_written, nonzero_different}
 use Rattle.certificates.proofs.Numbers.{numbers_exist, used_is_level}
+use Rattle.corner.proofs.RowPaths.{positive_is}
 
 -- ---- one level
 
@@ -55,16 +54,12 @@ pub record Divided (p : Problem) (at : List Mark) (level : Level) (items : List 
   pub low_is : factor *ℤ low ≡ scale
   pub by_is : multiplied (unsigned_abs factor) by ≡ items
 
-positive : (z : ℤ) → pos 0 <ℤ z → (0 < unsigned_abs z) × (pos (unsigned_abs z) ≡ z)
-positive (pos n) h = (omega (arith, ints, h), refl)
-positive (negsuc n) h = absurd h.lt
-
 pub own_level : (p : Problem) (at : List Mark) (level : Level) (items : List By) (scale factor low : ℤ) (by : List By) → IsKeptCorner p at → IsInUse p level → Divided p at level items scale factor low by
     → IsOwnLevel p at (record { level = level; scale = low; by = by })
 own_level p at level items scale factor low by kept used d =
     let n = numbers_exist p at level kept (used_is_level p level used) in
     let are = n.2 in
-    let f = positive factor d.above in
+    let f = positive_is factor d.above in
     let same : pos (unsigned_abs factor) *ℤ low ≡ scale = ap (λ (z : ℤ). z *ℤ low) f.1 ∙ d.low_is in
     record {
       number = are.number;
@@ -99,11 +94,6 @@ level_kept p at level items factor low by kept used read same fits all =
 pub not_empty : (factor : ℕ) (by items : List By) → multiplied factor by ≡ items → items ≢ [] → by ≢ []
 not_empty factor by items e some none = some (sym e ∙ ap (multiplied factor) none)
 
-pub not_stronger : (p : Problem) (a b : Level) → IsInUse p b → IsStronger p a b → a ≢ b
-not_stronger p a b (i, x, within, is, h) stronger e =
-    let low = stronger x.level x.level (subst (λ (l : Level). IsLevelAt p l x.level) (sym e) h) h in
-    absurd (omega (arith, low))
-
 pub ok_gives : {A E : Type 0} (r : Result A E) (P Q : Type 0) → (P → Q) → IfOk r (λ _. P) → OnOk r Q
 ok_gives (Ok x) P Q f h = f h
 ok_gives (Err e) P Q f h = tt
@@ -116,15 +106,6 @@ pub record Own (p : Problem) (at : List Mark) (done : List Level) (levels : List
   pub order : AllPairs (λ l m. IsStronger p l.level m.level) levels
   pub among : All (λ l. Contains done l.level) levels
   pub missing : All (λ level. All (λ l. l.level ≢ level) levels → HasNoNeed p at level) done
-
-pub own_none : (p : Problem) (at : List Mark) → Own p at [] []
-own_none p at = record {
-  own = All-nil (IsOwnLevel p at);
-  needed = All-nil (λ l. l.by ≢ []);
-  order = λ i j d less within. absurd (omega (arith, within));
-  among = All-nil (λ l. Contains [] l.level);
-  missing = All-nil (λ level. All (λ l. l.level ≢ level) [] → HasNoNeed p at level);
-}
 
 more-among : (done : List Level) (level : Level) (levels : List BestLevel) → All (λ l. Contains done l.level) levels → All (λ l. Contains (done ++ level ∷ []) l.level) levels
 more-among done level levels h i d within =

@@ -1,7 +1,6 @@
 -- Errors and costs at a corner where no value is negative.
-use Rattle.std.proofs.Common.{◌≡◌, ◌≢◌, ◌∙◌, ◌⊎◌, inl, inr, ℕ, zero, suc, ◌+◌, ◌*◌, ◌/◌, ◌<◌, Bool, true, false, cond, nat_eq, List, [], ◌∷◌, ◌++◌, map, length, get_or, ℤ, pos, negsuc, ◌+ℤ◌, ◌-ℤ◌, ◌*ℤ◌, neg_ℤ, ◌<ℤ◌, ◌≤ℤ◌, nat_abs, refl, sym, ap, ap₂, subst, arith, All, Any, Contains, one-mul}
+use Rattle.std.proofs.Common.{◌≡◌, ◌≢◌, ◌∙◌, ◌⊎◌, inl, inr, ℕ, zero, suc, ◌+◌, ◌*◌, ◌/◌, ◌<◌, Bool, true, false, cond, nat_eq, List, [], ◌∷◌, ◌++◌, map, ℤ, pos, negsuc, ◌+ℤ◌, ◌-ℤ◌, ◌*ℤ◌, neg_ℤ, ◌<ℤ◌, ◌≤ℤ◌, nat_abs, refl, sym, ap, ap₂, subst, arith, All, Any, Contains, one-mul}
 use Rattle.std.specs.List.{AllByRecursion as Each}
-use Rattle.std.proofs.lemmas.Bool.{cases_Bool}
 use Rattle.std.proofs.lemmas.List.Elements.{All-from_recursion, recursion_from_All}
 use lib.IntN.{*ℤ_comm}
 use borrow.Author.Differences.{ints}
@@ -14,7 +13,7 @@ use Rattle.problem_core.specs.declared.parts.RowName.{RowName}
 use Rattle.problem_core.specs.declared.parts.RowName.TheVariants.{Held}
 use Rattle.problem_core.specs.declared.parts.Side.{Side}
 use Rattle.problem_core.specs.declared.parts.Side.TheVariants.{Under, Over}
-use Rattle.problem_core.specs.Layout.{Line, Problem, Row, above, below, common, cost, count_of, error, error_of, gap, line_of_row, lines, product_of, share, stay_lines, sum_of, value_at}
+use Rattle.problem_core.specs.Layout.{Line, Problem, Row, above, below, common, cost, count_of, error, error_of, gap, line_of_row, lines, share, stay_lines, sum_of, value_at}
 use Rattle.problem_core.specs.Kept.{IsRow, IsStay, IsWhole}
 use Rattle.problem_core.specs.Certificates.{over_weight, under_weight, weight_at}
 use Rattle.problem_core.specs.Corners.{IsCorner, IsIn, NoNegativeValue, Point, StandsAt, assignment_at, attr_column, equation, marks_of, one_column, place, place_of}
@@ -32,6 +31,8 @@ use Rattle.corner_laws.proofs.ZeroColumns.{scales-above}
 use Rattle.corner.specs.Views.{HasValueAt}
 use Rattle.certificates.specs.Errors.{IsErrorAt, IsLack, IsLevelCost}
 use Rattle.certificates.proofs.Certified.{values_up}
+use Rattle.corner_laws.proofs.Linear.{zero-or-not}
+use Rattle.problem_core.proofs.Ends.{abs_same}
 
 -- ---- what a line lacks, by its deviations
 
@@ -92,10 +93,6 @@ gap-step : (d : ℕ) (u o f g n one : ℤ) → pos d *ℤ ((u -ℤ o) +ℤ f) �
 gap-step d u o f g n one e h =
     let a : pos d *ℤ ((u -ℤ o) +ℤ f) ≡ pos d *ℤ f -ℤ pos d *ℤ (o -ℤ u) = ap (λ (z : ℤ). pos d *ℤ z) (let k : (u -ℤ o) +ℤ f ≡ f -ℤ (o -ℤ u) = omega (arith, ints) in k) ∙ mul-sub_left (pos d) f (o -ℤ u) in
     omega (arith, ints, a, e, h)
-
-abs_same : (z : ℤ) → pos 0 <ℤ z → pos (nat_abs z) ≡ z
-abs_same (pos n) h = refl
-abs_same (negsuc n) h = absurd h.lt
 
 gap-there : (x : Point) (l : Line) → value_at x.num (equation l) ≡ pos 0 → gap (assignment_at x) l ≡ pos l.den *ℤ (x.num (place_of l.name Over) -ℤ x.num (place_of l.name Under))
 gap-there x l e =
@@ -180,13 +177,8 @@ something n f one above e some none =
     let prod : pos c.0 *ℤ f.num ≡ pos 0 = ap (λ (z : ℤ). z *ℤ f.num) (sym c.2) ∙ *ℤ_comm one f.num ∙ sym e ∙ ap (λ (m : ℕ). pos m *ℤ pos f.den) none ∙ (let q : pos 0 *ℤ pos f.den ≡ pos 0 = *ℤ_comm (pos 0) (pos f.den) ∙ mul-zero_ℤ (pos f.den) in q) in
     some (cancel_mul c.0 f.num (pos 0) c.1 (prod ∙ sym (mul-zero_ℤ (pos c.0))))
 
-zero-or : (z : ℤ) → (z ≡ pos 0) ⊎ (z ≢ pos 0)
-zero-or (pos zero) = inl refl
-zero-or (pos (suc n)) = inr (λ e. absurd (omega (arith, ints, e)))
-zero-or (negsuc n) = inr (λ e. absurd (omega (arith, ints, e)))
-
 num-none : (o : ℕ) (g : Fraction) (one : ℤ) → pos 0 <ℤ one → Is o g one → o ≡ 0 → g.num ≡ pos 0
-num-none o g one up ho z = elim (zero-or g.num) [ inl e ↦ e | inr some ↦ absurd (something o g one up ho some z) ]
+num-none o g one up ho z = elim (zero-or-not g.num) [ inl e ↦ e | inr some ↦ absurd (something o g one up ho some z) ]
 
 lack-is : (rel : Rel) (u o : ℕ) (f g k : Fraction) (one : ℤ) → pos 0 <ℤ one → 0 < g.den → OneNone u o → Is u f one → Is o g one → IsLack rel f g k → Is (lack rel u o) k one
 lack-is Le u o f g k one up above e hu ho h = subst (λ (q : Fraction). Is o q one) (sym h) ho
@@ -195,7 +187,7 @@ lack-is Eq u o f g k one up above (inr none) hu ho h =
     let zero-num : g.num ≡ pos 0 = num-none o g one up ho none in
     subst (λ (n : ℕ). Is n k one) (let q : u ≡ u + o = omega (arith, none) in q) (subst (λ (q : Fraction). Is u q one) (sym (h.0 zero-num)) hu)
 lack-is Eq u o f g k one up above (inl none) hu ho h =
-    elim (zero-or g.num) [
+    elim (zero-or-not g.num) [
       | inl e ↦
           let o-none : o ≡ 0 = nothing o g one above ho e in
           subst (λ (n : ℕ). Is n k one) (let q : u ≡ u + o = omega (arith, o-none) in q) (subst (λ (q : Fraction). Is u q one) (sym (h.0 e)) hu)
@@ -309,7 +301,7 @@ sum-natural : (f : Line → ℤ) (g : Line → ℕ) (ls : List Line) → Each (�
 sum-natural f g [] h = refl
 sum-natural f g (l ∷ ls) h = ap₂ ◌+ℤ◌ h.0 (sum-natural f g ls h.1)
 
-counts-alike : (f g : Line → ℕ) (s c : ℕ) (ls : List Line) → Each (λ l. f l * s ≡ g l * c) ls → count_of f ls * s ≡ count_of g ls * c
+pub counts-alike : (f g : Line → ℕ) (s c : ℕ) (ls : List Line) → Each (λ l. f l * s ≡ g l * c) ls → count_of f ls * s ≡ count_of g ls * c
 counts-alike f g s c [] h = omega arith
 counts-alike f g s c (l ∷ ls) h =
     let here = h.0 in

@@ -1,23 +1,18 @@
 -- Numbers divided by the factor that they share.
-use Rattle.std.proofs.Common.{◌≡◌, ◌∙◌, ℕ, zero, suc, ◌*◌, ◌/◌, ◌<◌, ◌≤◌, List, [], ◌∷◌, ◌++◌, ◌+◌, length, take, get_or, ℤ, pos, negsuc, ◌*ℤ◌, ◌<ℤ◌, int_div, neg_ℤ, unsigned_abs, refl, sym, ap, ap₂, subst, arith, All, SFits, to_z}
+use Rattle.std.proofs.Common.{◌≡◌, ◌∙◌, ℕ, zero, suc, ◌*◌, ◌/◌, ◌<◌, ◌≤◌, List, [], ◌∷◌, ◌++◌, ◌+◌, length, take, get_or, ℤ, pos, negsuc, ◌*ℤ◌, ◌<ℤ◌, int_div, neg_ℤ, unsigned_abs, refl, sym, ap, ap₂, subst, arith, All, to_z}
 use Rattle.std.specs.Int.{w64, ◌∣◌, IsGcd}
 use Rattle.std.specs.List.{AllByRecursion as Each}
 use Rattle.std.proofs.lemmas.Int.{to_z_pos, unsigned_abs-mul}
 use Rattle.std.proofs.lemmas.List.{take_all, take_more}
 use Rattle.std.proofs.lemmas.List.Elements.{All-from_recursion, All-nil, All-push, recursion_from_All}
 use Rattle.std.proofs.lemmas.Nat.Gcd.{dvd_refl, dvd_trans, le_of_dvd}
-use Rattle.std.proofs.Math.Nat.{div-le_self, div-mul_cancel, eq-zero_of_zero-dvd, mul-dvd-mul_right}
+use Rattle.std.proofs.Math.Nat.{div-mul_cancel, eq-zero_of_zero-dvd, mul-dvd-mul_right}
 use borrow.Author.Differences.{ints}
 use Rattle.frac_core.specs.Fraction.{IsFitting}
-use Rattle.frac_core.proofs.Signs.{unsigned_abs-neg}
 use Rattle.cert_core.specs.declared.by.By.{By}
 use Rattle.certificates.specs.OwnLevels.{multiplied}
 use Rattle.certificates.proofs.MultiplierLists.{multiplied_append}
-
-one-left : (k g : ℕ) → 0 < g → (k * g) ∣ g → k ≡ 1
-one-left zero g above h = absurd (let e = eq-zero_of_zero-dvd (subst (λ (n : ℕ). n ∣ g) (let z : 0 * g ≡ 0 = omega arith in z) h) in omega (arith, above, e))
-one-left (suc zero) g above h = refl
-one-left (suc (suc k)) g above h = absurd (let most = le_of_dvd above h in omega (arith, above, most))
+use Rattle.corner_ends.proofs.ShownTimes.{one-left}
 
 times-factor : (k g : ℕ) (z y : ℤ) → pos g *ℤ z ≡ y → k ∣ unsigned_abs z → (k * g) ∣ unsigned_abs y
 times-factor k g z y e h =
@@ -48,12 +43,6 @@ pub exact_quotient : (z d : ℤ) → pos 0 <ℤ d → unsigned_abs d ∣ unsigne
 exact_quotient z (negsuc b) above h = absurd above.lt
 exact_quotient (pos a) (pos b) above h = ap pos (let e = div-mul_cancel b h in let turn : b * (a / b) ≡ a / b * b = omega arith in turn ∙ e)
 exact_quotient (negsuc a) (pos b) above h = quotient-below b (suc a / b) a (div-mul_cancel b h)
-
-pub quotient_fits : (z d : ℤ) → pos 0 <ℤ d → IsFitting z → IsFitting (int_div z d)
-quotient_fits z (negsuc b) above h = absurd above.lt
-quotient_fits (pos a) (pos b) above h = let less = div-le_self a b in omega (arith, less, h)
-quotient_fits (negsuc a) (pos b) above h =
-    subst (λ (n : ℕ). n < 4398046511104) (sym (unsigned_abs-neg (suc a / b))) (let less = div-le_self (suc a) b in omega (arith, less, h))
 
 -- ---- the greatest factor that all share
 
@@ -103,9 +92,6 @@ factored_more scale bys i b factor g within is f (first, second, most) =
 
 pub factored_all : (scale : ℤ) (bys : List By) (i factor : ℕ) → length bys ≤ i → Factored scale (take i bys) factor → Factored scale bys factor
 factored_all scale bys i factor over h = subst (λ (bs : List By). Factored scale bs factor) (take_all i bys over) h
-
-pub fitting_small : (z : ℤ) → IsFitting z → SFits w64 z
-fitting_small z h = omega (arith, ints, h)
 
 pub by_positive : (z : ℤ) → pos 0 <ℤ z → pos (unsigned_abs z) ≡ z
 by_positive (pos n) h = refl

@@ -1,12 +1,11 @@
 -- Lists of multipliers.
-use Rattle.std.proofs.Common.{◌≡◌, ◌≢◌, ◌∙◌, ℕ, zero, suc, ◌<◌, Bool, true, false, cond, nat_eq, List, [], ◌∷◌, ◌++◌, map, length, ℤ, pos, negsuc, ◌+ℤ◌, ◌*ℤ◌, unsigned_abs, refl, sym, ap, ap₂, subst, arith, All, AllPairs, Contains, eq-eqb, eqb-true, ne_eqb}
+use Rattle.std.proofs.Common.{◌≡◌, ◌≢◌, ◌∙◌, ℕ, suc, Bool, true, false, cond, nat_eq, List, [], ◌∷◌, ◌++◌, map, ℤ, pos, negsuc, ◌+ℤ◌, ◌*ℤ◌, unsigned_abs, refl, sym, ap, ap₂, arith, AllPairs, Contains, eq-eqb, eqb-true, ne_eqb}
 use Rattle.std.specs.List.{AllByRecursion as Each}
-use Rattle.std.proofs.lemmas.List.Elements.{All-from_recursion, recursion_from_All, All-nil}
+use Rattle.std.proofs.lemmas.List.Elements.{All-from_recursion}
 use Rattle.std.proofs.lemmas.List.Kept.{AllPairs-cons}
 use borrow.Author.Differences.{ints}
 use Rattle.frac_core.proofs.Integers.{mul-add_left, mul-zero_ℤ}
 use Rattle.problem_core.specs.declared.parts.RowName.{RowName}
-use Rattle.problem_core.specs.declared.parts.RowName.TheVariants.{Held, Stay as StayOf}
 use Rattle.problem_core.specs.declared.parts.Side.TheVariants.{Under}
 use Rattle.problem_core.specs.Layout.{Line, Problem, lines}
 use Rattle.problem_core.specs.Corners.{place_of}
@@ -179,9 +178,6 @@ multiplied_different f (b ∷ bys) h = (not-multiplied f b.row bys h.0, multipli
 pub multiplied_append : (f : ℕ) (xs ys : List By) → multiplied f (xs ++ ys) ≡ multiplied f xs ++ multiplied f ys
 multiplied_append f [] ys = refl
 multiplied_append f (b ∷ xs) ys = ap (λ (zs : List By). by_of b.row (pos f *ℤ b.times) ∷ zs) (multiplied_append f xs ys)
-
-pub some_multiplied : (f : ℕ) (bys : List By) → bys ≡ [] → multiplied f bys ≡ []
-some_multiplied f bys e = ap (multiplied f) e
 
 -- ---- one name
 

@@ -1,8 +1,7 @@
 -- What is read of a level's writing.
-use Rattle.std.proofs.Common.{◌≡◌, ◌∙◌, inl, inr, ℕ, zero, suc, ◌+◌, ◌<◌, ◌≤◌, List, [], ◌∷◌, ◌++◌, map, length, take, get_or, ℤ, pos, ◌<ℤ◌, unsigned_abs, refl, sym, ap, ap₂, subst, arith, All, Any}
+use Rattle.std.proofs.Common.{◌≡◌, ◌∙◌, inl, inr, ℕ, zero, suc, ◌+◌, ◌<◌, ◌≤◌, List, [], ◌∷◌, ◌++◌, map, length, take, get_or, ℤ, pos, ◌<ℤ◌, unsigned_abs, refl, sym, ap, subst, arith, All, Any}
 use Rattle.std.proofs.lemmas.Bool.{cases_lt}
 use Rattle.std.proofs.lemmas.List.{take_all, take_more}
-use Rattle.std.proofs.lemmas.List.Elements.{All-nil}
 use borrow.Author.Differences.{ints}
 use Rattle.frac_core.specs.Fraction.{IsFitting}
 use Rattle.frac_core.specs.declared.frac.TheConstants.{PART_BOUND}
@@ -23,12 +22,10 @@ use Rattle.corner_ends.proofs.Fronts.{level_one}
 use Rattle.certificates.specs.OwnLevels.{nonzero_times}
 use Rattle.certificates.specs.Reading.{AreNumbersAt}
 use Rattle.certificates.proofs.MultiplierLists.{nonzero_append}
+use Rattle.corner_ends.proofs.RequiredTimes.{at-name}
 
 pub used_is_level : (p : Problem) (level : Level) → IsInUse p level → IsLevelOf p level
 used_is_level p level (i, x, within, is, h) = (x.level, h)
-
-at-name : (P : RowName → Type 0) (ls : List Line) (name : RowName) → All (λ l. P l.name) ls → Any (λ l. l.name ≡ name) ls → P name
-at-name P ls name all (i, x, within, is, e) = subst P (ap (λ (l : Line). l.name) is ∙ e) (all i x within)
 
 abbrev Alike : (RowName → ℤ) → (RowName → ℤ) → RowName → Type 0
 Alike y z name = y name ≡ z name
@@ -142,9 +139,6 @@ pub record Read (p : Problem) (at : List Mark) (level : Level) (done : List RowN
   pub value : (scale : ℕ) (times : RowName → ℤ) → AreNumbersAt p at level scale times → items ≡ nonzero_times times done
   pub fits : All (λ b. IsFitting b.times) items
 
-pub read_none : (p : Problem) (at : List Mark) (level : Level) → Read p at level [] []
-read_none p at level = record { value = λ scale times are. refl; fits = All-nil (λ b. IsFitting b.times) }
-
 pub read_more : (p : Problem) (at : List Mark) (level : Level) (done : List RowName) (name : RowName) (old new : List By) → Read p at level done old
     → ((scale : ℕ) (times : RowName → ℤ) → AreNumbersAt p at level scale times → new ≡ old ++ nonzero_times times (name ∷ []))
     → (All (λ b. IsFitting b.times) old → All (λ b. IsFitting b.times) new) → Read p at level (done ++ name ∷ []) new
@@ -172,14 +166,6 @@ stay_read p at level i x old new within is h pushed fits =
     append_assoc : (xs ys zs : List RowName) → (xs ++ ys) ++ zs ≡ xs ++ (ys ++ zs)
     append_assoc [] ys zs = refl
     append_assoc (x ∷ xs) ys zs = ap (λ (ws : List RowName). x ∷ ws) (append_assoc xs ys zs)
-
-pub rows_read : (p : Problem) (at : List Mark) (level : Level) (i : ℕ) (items : List By) → length p.rows ≤ i → Read p at level (row_names (take i p.rows)) items → Read p at level (row_names p.rows ++ []) items
-rows_read p at level i items over h =
-    subst (λ (ns : List RowName). Read p at level ns items) (ap row_names (take_all i p.rows over) ∙ sym (append_none (row_names p.rows))) h
-  where
-    append_none : (xs : List RowName) → xs ++ [] ≡ xs
-    append_none [] = refl
-    append_none (x ∷ xs) = ap (λ (ws : List RowName). x ∷ ws) (append_none xs)
 
 pub all_read : (p : Problem) (at : List Mark) (level : Level) (i : ℕ) (items : List By) → length p.stays ≤ i → Read p at level (row_names p.rows ++ stay_names (take i p.stays)) items → Read p at level (names p) items
 all_read p at level i items over h =

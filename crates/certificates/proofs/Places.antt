@@ -1,5 +1,5 @@
 -- The levels of a problem by their numbers.
-use Rattle.std.proofs.Common.{◌≡◌, ◌≢◌, ◌∙◌, ◌⊎◌, inl, inr, ℕ, zero, suc, ◌+◌, ◌-◌, ◌<◌, ◌≤◌, List, [], ◌∷◌, map, length, get_or, refl, sym, ap, subst, arith, All, Any}
+use Rattle.std.proofs.Common.{◌≡◌, ◌∙◌, inl, inr, ℕ, zero, suc, ◌+◌, ◌-◌, ◌<◌, ◌≤◌, List, [], ◌∷◌, map, length, get_or, refl, sym, ap, subst, arith, Any}
 use Rattle.std.proofs.lemmas.Bool.{cases_lt}
 use Rattle.std.proofs.lemmas.List.{get_or-map, get_or_default, length-map}
 use Rattle.problem_core.specs.declared.parts.Level.{Level}
@@ -10,7 +10,7 @@ use Rattle.problem_core.specs.Kept.{IsStay, IsWhole}
 use Rattle.problem_core.specs.Layout.{HasStay, Line, Problem, line_of_stay, lines}
 use Rattle.problem_core.specs.Levels.{IsLevelAt}
 use Rattle.cert_core.specs.Claims.{level_at}
-use Rattle.cert_checker.specs.LinePlaces.{name_at, names}
+use Rattle.cert_checker.specs.LinePlaces.{name_at}
 use Rattle.cert_checker.specs.LineSums.{line_count}
 use Rattle.cert_checker.proofs.Columns.{stay-line}
 use Rattle.cert_checker.proofs.Indexes.{length-lines, no_stay, stay_name}

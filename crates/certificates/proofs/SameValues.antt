@@ -1,5 +1,5 @@
 -- Two assignments that give the same values: what is a certificate of one is one of the other.
-use Rattle.std.proofs.Common.{◌≡◌, ◌∙◌, ℕ, zero, suc, ◌*◌, ◌<◌, List, [], ◌∷◌, ◌++◌, map, length, ℤ, pos, negsuc, ◌*ℤ◌, ◌<ℤ◌, refl, sym, ap, subst, arith, All, Any}
+use Rattle.std.proofs.Common.{◌≡◌, ◌∙◌, ℕ, zero, suc, ◌*◌, ◌<◌, List, [], ◌∷◌, map, ℤ, pos, negsuc, ◌*ℤ◌, ◌<ℤ◌, refl, sym, ap, subst, arith, All, Any}
 use Rattle.std.specs.List.{AllByRecursion as Each}
 use Rattle.std.proofs.lemmas.List.Elements.{All-from_recursion, recursion_from_All}
 use lib.IntN.{*ℤ_comm}
@@ -11,11 +11,12 @@ use Rattle.problem_core.specs.Layout.{AreSame, Assignment, Gives, HasStay, Line,
 use Rattle.problem_core.specs.Kept.{IsWhole}
 use Rattle.problem_core.specs.Certificates.{IsCertificate, Multipliers, over, under}
 use Rattle.problem_core.specs.Gaps.{HasValue}
-use Rattle.problem_core.proofs.Agreed.{agree-lines, agree-row, cost-agree, error-agree, gap-agree}
+use Rattle.problem_core.proofs.Agreed.{agree-lines, cost-agree, error-agree, gap-agree}
 use Rattle.problem_core.proofs.Forms.{each-both, each-impl}
 use Rattle.problem_core.proofs.Midpoints.{cancel}
 use Rattle.cert_checker.specs.Certifying.{AreOfStays}
 use Rattle.certificates.specs.Errors.{IsErrorAt, IsLevelCost}
+use Rattle.corner_laws.proofs.Ends.{first-rows}
 
 -- ---- values
 
@@ -97,10 +98,6 @@ none-error : (a b d e : ℕ) → 0 < e → a * e ≡ b * d → b ≡ 0 → a ≡
 none-error zero b d e above h n = refl
 none-error (suc a) b d e above h n = let z : b * d ≡ 0 = ap (λ (m : ℕ). m * d) n ∙ (let q : 0 * d ≡ 0 = omega arith in q) in absurd (omega (arith, above, h, z))
 
-first-rows : (P : Line → Type 0) (rows : List Row) (ls : List Line) → Each P (map line_of_row rows ++ ls) → Each (λ r. P (line_of_row r)) rows
-first-rows P [] ls h = tt
-first-rows P (r ∷ rows) ls h = (h.0, first-rows P rows ls h.1)
-
 abbrev Agreed : Assignment → Assignment → Line → Type 0
 Agreed x y l = gap x l *ℤ pos y.den ≡ gap y l *ℤ pos x.den
 
@@ -156,7 +153,7 @@ ratio_moved f a b D u v above all e h =
     let n = natural-num f b (v * D) all h in
     ap (λ (z : ℤ). z *ℤ pos (u * D)) n.1 ∙ ap pos (moved-ratio a b D u v n.0 f.den above e n.2)
 
-product-up : (a b : ℕ) → 0 < a → 0 < b → 0 < a * b
+pub product-up : (a b : ℕ) → 0 < a → 0 < b → 0 < a * b
 product-up (suc a) (suc b) h k = omega arith
 product-up zero b h k = absurd (omega (arith, h))
 product-up (suc a) zero h k = absurd (omega (arith, k))

@@ -34,6 +34,7 @@ use Rattle.corner_laws.proofs.WrittenValues.{contains_each}
 use Rattle.corner_laws.proofs.ZeroColumns.{not-in}
 use Rattle.completeness.specs.Examples.{first}
 use Rattle.completeness.proofs.FirstBlocks.{IsBlock, IsMark, block-1, block-2, block-3, block-4}
+use Rattle.corner_lines.proofs.LevelFits.{look_up}
 
 -- ---- sums of three marks
 
@@ -183,13 +184,8 @@ abbrev times_at : List Mark → ℕ → RowName → ℤ
 times_at at k (Held id) = factor at k id
 times_at at k (StayOf attr) = neg_ℤ (factor at k attr)
 
--- what f says of the mark of this column
-abbrev pub picked : (Side → Line → ℤ) → List Line → ℕ → ℤ
-picked f [] c = pos 0
-picked f (l ∷ ls) c = cond (nat_eq (place_of l.name Under) c) (f Under l) (cond (nat_eq (place_of l.name Over) c) (f Over l) (picked f ls c))
-
 abbrev reduced_at : List Mark → ℕ → ℕ → ℤ
-reduced_at at k c = picked (λ side l. column (alone 1 (times_at at k)) side l k) (lines first) c
+reduced_at at k c = look_up (λ side l. column (alone 1 (times_at at k)) side l k) (lines first) c
 
 pub most-one : (b : Bool) → cond b 1 0 ≤ 1
 most-one true = omega arith

@@ -29,7 +29,9 @@ use Rattle.corner_laws.proofs.Fits.{one_factor, whole_is_kept}
 use Rattle.corner_laws.proofs.PathExamples.{alone-in}
 use Rattle.corner_laws.proofs.WrittenValues.{contains_each}
 use Rattle.completeness.specs.Examples.{bare, lone, lone_row, zero_stay}
-use Rattle.completeness.proofs.FirstFits.{IsUnit, at-above, at-below, at-over, at-under, give, minus, most-one, multiplier, multiplier-unit, none, once, one, opposite, picked, take, three, three-at, three-fits, unit-fits, weight_of}
+use Rattle.completeness.proofs.FirstFits.{IsUnit, at-above, at-below, at-over, at-under, give, minus, most-one, multiplier, multiplier-unit, none, once, one, opposite, take, three, three-at, three-fits, unit-fits, weight_of, zero_point}
+use Rattle.corner_lines.proofs.LevelFits.{look_up}
+use Rattle.corner_lines.proofs.JoinedBegins.{nowhere}
 
 -- ---- they are whole
 
@@ -111,16 +113,13 @@ written p at quantity a b d i j k c oa ob od ui uj uk uc sums unfit =
 bare-solved : (x : Point) → Solves bare x → pos 1 *ℤ x.num 6 +ℤ (negsuc 0 *ℤ x.num 7 +ℤ (pos 0 *ℤ x.num one_column +ℤ (pos 1 *ℤ x.num (attr_column 1) +ℤ pos 0))) ≡ pos 0
 bare-solved x h = (recursion_from_All (λ l. value_at x.num (equation l) ≡ pos 0) (lines bare) h).0
 
-nothing-in : (c : ℕ) → IsIn c [] → ⊥
-nothing-in c (k, within, is) = absurd (omega (arith, within))
-
 pub only-attr : (n : ℤ) (attr : ℕ) → HasStay (zero_stay 1 ∷ []) attr → 1 ≡ attr
 only-attr n attr (zero, s, within, is, e) = ap (λ (t : Stay). t.attr) is ∙ e
 only-attr n attr (suc k, s, within, is, e) = absurd (omega (arith, within))
 
 bare-attr : HasNoWriting bare [] (λ x. x (attr_column 1)) → ⊥
 bare-attr =
-    written bare [] (λ x. x (attr_column 1)) 7 6 6 (pos 1) (negsuc 0) (pos 0) (pos 0) ((1, omega arith, refl), nothing-in 7) ((0, omega arith, refl), nothing-in 6) ((0, omega arith, refl), nothing-in 6) one minus none none
+    written bare [] (λ x. x (attr_column 1)) 7 6 6 (pos 1) (negsuc 0) (pos 0) (pos 0) ((1, omega arith, refl), nowhere 7) ((0, omega arith, refl), nowhere 6) ((0, omega arith, refl), nowhere 6) one minus none none
     (λ x h. omega (arith, ints, bare-solved x h))
 
 no-times : RowName → ℤ
@@ -144,9 +143,6 @@ no-product z = omega (arith, ints)
 abbrev zero_num : ℕ → ℤ
 zero_num v = cond (nat_eq v one_column) (pos 1) (pos 0)
 
-abbrev zero_point : Point
-zero_point = record { num = zero_num; positive = record { lt = tt } }
-
 bare-stands : StandsAt bare [] zero_point
 bare-stands = (
   All-from_recursion (λ l. value_at zero_num (equation l) ≡ pos 0) (lines bare) (refl, tt),
@@ -167,7 +163,7 @@ bare-level k unfit =
         | Under ↦ All-from_recursion (λ l. pos l.scale *ℤ bare-reduced k (place_of l.name Under) ≡ column (alone 1 no-times) Under l k) (lines bare) (less-none (weight_of 1001 k), tt)
         | Over ↦ All-from_recursion (λ l. pos l.scale *ℤ bare-reduced k (place_of l.name Over) ≡ column (alone 1 no-times) Over l k) (lines bare) (plus-none (weight_of 1001 k), tt)
       ];
-      inside_zero = λ side i d within h. absurd (nothing-in _ h);
+      inside_zero = λ side i d within h. absurd (nowhere _ h);
       lowest = λ n h rest. dvd_antisymm h (one-dvd n);
     })
     (zero_point, bare-stands, ap (λ (z : ℤ). z *ℤ pos 1) (bare-cost (pos (weight_of 1001 k)) (pos (weight_of 1001 k))) ∙ sym (zero-mul_ℤ (pos 1 *ℤ pos 1)))
@@ -192,7 +188,7 @@ no-changes (o ∷ old) = refl
 pub bare-fits : (old : List Row) → AllFit bare old
 bare-fits old (m ∷ at) q corner h = let e : length (m ∷ at) ≡ 0 = corner.count in absurd (omega (arith, e))
 bare-fits old [] (Plain (Attr attr)) corner (has, unfit) = subst (λ (a : ℕ). HasNoWriting bare [] (λ x. x (attr_column a)) → ⊥) (only-attr (pos 0) attr has) bare-attr unfit
-bare-fits old [] (Plain (MarkOf m)) corner (i, unfit) = nothing-in (place m) i
+bare-fits old [] (Plain (MarkOf m)) corner (i, unfit) = nowhere (place m) i
 bare-fits old [] (Plain (LevelOf level)) corner (k, is, unfit) = bare-level k unfit
 bare-fits old [] (Terms mark j) corner ((k, r, within, is, h), fresh) = absurd (omega (arith, within))
 bare-fits old [] (Rows level j) corner (sum, (k, number, (before, r, after, e, count, fresh))) = absurd (split-length before after r e)
@@ -280,7 +276,7 @@ module _ (n : ℤ) (unit : IsUnit n) where
     times_at k (StayOf attr) = neg_ℤ (factor k)
 
     abbrev reduced_at : ℕ → ℕ → ℤ
-    reduced_at k c = picked (λ side l. column (alone 1 (times_at k)) side l k) (lines (lone n)) c
+    reduced_at k c = look_up (λ side l. column (alone 1 (times_at k)) side l k) (lines (lone n)) c
 
     -- not both are inside
     not-both : (c d : ℕ) → c ≢ d → is_place at c ≡ true → is_place at d ≡ true → ⊥

@@ -218,9 +218,6 @@ over_row id = record { row = Held id; side = Over }
 abbrev over_stay : ℕ → Mark
 over_stay attr = record { row = StayOf attr; side = Over }
 
-other : (m n : ℕ) → (m ≡ n → ⊥) → m ≢ n
-other m n h = h
-
 marks-apart : AllPairs (λ m n. place m ≢ place n) at
 marks-apart =
     pairs Apart (over_row 3) (over_row 4 ∷ over_stay 1 ∷ over_stay 2 ∷ over_stay 4 ∷ []) ((λ e. omega (arith, e)), ((λ e. omega (arith, e)), ((λ e. omega (arith, e)), ((λ e. omega (arith, e)), tt))))

@@ -55,8 +55,8 @@ use Rattle.corner.proofs.PartFacts.{kept_part}
 use Rattle.corner.proofs.CostLines.{row_among}
 use Rattle.corner.proofs.JoinedCandidates.{joined_candidates}
 use Rattle.corner.proofs.KeptFacts.{marks_ordered}
-use Rattle.corner.proofs.MarkingFacts.{marks_inside}
-use Rattle.corner.proofs.RowPaths.{append_more, append_none, problem_so_far}
+use Rattle.corner.proofs.MarkingFacts.{marks_inside, append_more, append_none}
+use Rattle.corner.proofs.RowPaths.{problem_so_far}
 
 -- ---- the rows to join
 
@@ -271,14 +271,6 @@ added_consistent t u rows old new c alike before h =
     longer-than : (xs ys : List Slot) → length xs ≤ length (xs ++ ys)
     longer-than [] ys = let n : ℕ = length ys in omega arith
     longer-than (x ∷ xs) ys = let k = longer-than xs ys in omega (arith, k)
-
-pub added_problem : (t u : Lists) (rows : List Row) (old new : List ℕ) → AreAllJoined rows t old u new → problem_of u ≡ with_rows (problem_of t) rows
-added_problem t u rows old new h = ap₂ (λ (xs : List Row) (ys : List Stay). record { rows = xs; stays = ys }) (h.joined.rows_same ∙ h.pushed.rows) (h.joined.stays ∙ h.pushed.stays)
-
-pub added_begins : (t u : Lists) (rows : List Row) (old new : List ℕ) → AreAllJoined rows t old u new → BeginsWith (problem_of u) (marks_at t) rows [] (marks_at u)
-added_begins t u rows old new h =
-    subst (λ (at : List Mark). BeginsWith (problem_of u) (marks_at t) rows [] at) (sym h.joined.marks)
-    (subst (λ (p : Problem). BeginsWith p (marks_at t) rows [] (marks_at h.mid)) (sym (ap₂ (λ (xs : List Row) (ys : List Stay). record { rows = xs; stays = ys }) h.joined.rows_same h.joined.stays)) h.begins)
 
 pub seen_stop : (t : Table) (listed : List ℕ) (rows : List Row) (stop : RunStop) → IsAddStop (seen_of (lists_of t)) rows stop → IsAddStop (view_of t listed) rows stop
 seen_stop t listed rows (Conflict by) h = h

@@ -20,7 +20,7 @@ use Rattle.corner.proofs.AttrLevels.{each_old, sum_push}
 
 -- ---- the new attribute stands in no line before
 
-absent : (v : ℕ) (form : List Term) → All (λ e. e.attr ≢ v) form → coefficient v form ≡ pos 0
+pub absent : (v : ℕ) (form : List Term) → All (λ e. e.attr ≢ v) form → coefficient v form ≡ pos 0
 absent v [] h = refl
 absent v (e ∷ es) h =
     ap₂ (λ (b : Bool) (z : ℤ). cond b e.by (pos 0) +ℤ z) (ne_eqb e.attr v (h zero e (omega arith))) (absent v es (λ k x lt. h (suc k) x (omega (arith, lt))))
@@ -51,7 +51,7 @@ sum_last f (x ∷ xs) y = let e = sum_last f xs y in omega (arith, ints, e)
 
 -- ---- its stay is taken no times
 
-one_time : (z : ℤ) → z *ℤ (pos 1 +ℤ pos 0) ≡ z
+pub one_time : (z : ℤ) → z *ℤ (pos 1 +ℤ pos 0) ≡ z
 one_time z = omega (arith, ints)
 
 times_none : (p : Problem) (at : List Mark) (attr : ℕ) (target : Fraction) (level : ℕ) (m : Multipliers) → IsWhole p → (HasStay p.stays attr → ⊥) → AreMultipliersAt (with_attr attr target p) at m → m.times level (StayOf attr) ≡ pos 0

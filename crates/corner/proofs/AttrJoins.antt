@@ -35,6 +35,7 @@ use Rattle.corner.specs.Kept.{AreOutside, AreSlots, IsAttrRow, IsAttrSlot, IsEqu
 use Rattle.corner.specs.Joining.{IsNumbered, IsStayForm, at_value, at_zero, slot_of_attr, slot_of_stay}
 use Rattle.corner.proofs.SlotFacts.{named_slot, named_stay}
 use Rattle.corner.proofs.NewTables.{less_or}
+use Rattle.corner_lines.proofs.FrontsStay.{stays-more, regrouped}
 
 -- ---- two more in a list
 
@@ -126,19 +127,11 @@ own_stay stays k x lt = (k, slice_index_or stays k x, lt, get_or_default stays k
 
 -- ---- lines
 
-pub stays_more : (b : ℕ) (stays : List Stay) (s : Stay) → stay_lines b (stays ++ (s ∷ [])) ≡ stay_lines b stays ++ (line_of_stay (b + length stays) s ∷ [])
-stays_more b [] s = ap (λ (n : ℕ). line_of_stay n s ∷ []) (omega arith)
-stays_more b (t ∷ stays) s = ap (λ (ls : List Line). line_of_stay b t ∷ ls) (stays_more (b + 1) stays s ∙ ap (λ (n : ℕ). stay_lines (b + 1) stays ++ (line_of_stay n s ∷ [])) (omega arith))
-
-pub regrouped : (xs ys zs : List Line) → xs ++ (ys ++ zs) ≡ (xs ++ ys) ++ zs
-regrouped [] ys zs = refl
-regrouped (x ∷ xs) ys zs = ap (λ (ls : List Line). x ∷ ls) (regrouped xs ys zs)
-
 abbrev pub new_line : Problem → ℕ → Fraction → Line
 new_line p attr target = line_of_stay (1001 + length p.stays) (new_stay attr target)
 
 pub lines_more : (p : Problem) (attr : ℕ) (target : Fraction) → lines (with_attr attr target p) ≡ lines p ++ (new_line p attr target ∷ [])
-lines_more p attr target = ap (λ (ls : List Line). map line_of_row p.rows ++ ls) (stays_more 1001 p.stays (new_stay attr target)) ∙ regrouped (map line_of_row p.rows) (stay_lines 1001 p.stays) (new_line p attr target ∷ [])
+lines_more p attr target = ap (λ (ls : List Line). map line_of_row p.rows ++ ls) (stays-more 1001 p.stays (new_stay attr target)) ∙ regrouped (map line_of_row p.rows) (stay_lines 1001 p.stays) (new_line p attr target ∷ [])
 
 -- what holds of each line before and of the new one holds of all
 pub put_line : (P : Line → Type 0) (p : Problem) (attr : ℕ) (target : Fraction) → All P (lines p) → P (new_line p attr target) → All P (lines (with_attr attr target p))

@@ -103,7 +103,7 @@ number_same t attr target m a k unit own j lt n r i x within =
           ]
     ]
 
-zero_fits : (z : ℤ) → z ≡ pos 0 → IsFitting z
+pub zero_fits : (z : ℤ) → z ≡ pos 0 → IsFitting z
 zero_fits z e = subst IsFitting (sym e) (omega arith)
 
 level_numbers : (t : Lists) (attr : ℕ) (target : Fraction) (m : List (List Term)) (a : List ℕ) (k unit own : ℕ) → IsJoin t attr target m a → k < LEVELS → HasLevelNumbers t k unit own
@@ -284,7 +284,7 @@ kept_joined t attr target m a j =
           (λ i x lt. room_kept t attr target m a (slice_index_or t.stays i x) j (own_stay t.stays i x lt) (k.stay_levels i x lt)) (new_room t attr target m a j);
     }
 
-abbrev made : List Row → List Stay → List Slot → List Standing → List (List Term) → List ℕ → List ℕ → List Priority → Lists
+abbrev pub made : List Row → List Stay → List Slot → List Standing → List (List Term) → List ℕ → List ℕ → List Priority → Lists
 made r s l v m b d p = record { rows = r; stays = s; slots = l; standings = v; matrix = m; attr_slots = b; row_slots = d; priorities = p }
 
 pub joined_is : (t u : Lists) (attr : ℕ) (target : Fraction) → IsWithAttr attr target t u → u ≡ joined t attr target u.matrix u.attr_slots

@@ -1,8 +1,7 @@
 -- After an exchange each outside mark with a negative column is of a listed line: `candidates_after` for the
 -- lists with the exchange, `exchanged_candidates` for any with the same marks; and after a turn:
 -- `candidates_turned`, `turned_candidates`.
-use Rattle.std.proofs.Common.{◌≡◌, ◌≢◌, ◌∙◌, ℕ, ◌<◌, ◌⊎◌, inl, inr, Bool, true, false, cond, nat_eq, List, [], ◌∷◌, refl, sym, ap, subst, arith, ℤ, pos, neg_ℤ, ◌*ℤ◌, All, Contains, None, Some, ne_eqb}
-use Rattle.std.specs.declared.option.Option.{Option}
+use Rattle.std.proofs.Common.{◌≡◌, ◌≢◌, ◌∙◌, ℕ, ◌<◌, ◌⊎◌, inl, inr, Bool, true, false, cond, nat_eq, List, refl, sym, ap, subst, arith, ℤ, pos, neg_ℤ, ◌*ℤ◌, All, Contains, Some}
 use Rattle.std.proofs.lemmas.Bool.{cases_Bool}
 use Rattle.std.proofs.lemmas.List.Elements.{All-from_recursion, recursion_from_All}
 use borrow.Author.Differences.{ints}
@@ -18,26 +17,25 @@ use Rattle.problem_core.proofs.Forms.{each-both, each-impl}
 use Rattle.problem_core.proofs.Wholes.{whole-IsProblem}
 use Rattle.corner_laws.proofs.Counting.{IsIn-from_is_place}
 use Rattle.corner_laws.proofs.Rays.{enter_in, kept_in}
-use Rattle.corner_laws.proofs.Unique.{AreIdle, idle_none, same-name}
+use Rattle.corner_laws.proofs.Unique.{AreIdle, idle_none}
+use Rattle.corner_lines.proofs.OtherNumbers.{other-number}
 use Rattle.corner_laws.proofs.ZeroColumns.{not-in}
 use Rattle.corner_lines.specs.LineEquations.{IsOutsideLine, deviation, sign_of}
 use Rattle.corner_lines.specs.LevelRows.{IsPivot, line_numbers}
-use Rattle.corner_lines.proofs.LevelExchanges.{by-sides}
+use Rattle.corner_lines.proofs.LevelExchanges.{by-sides, at-side}
 use Rattle.corner_lines.proofs.LinePivots.{equation_is_pivot}
-use Rattle.corner.specs.declared.exchange.Change.{Change}
 use Rattle.corner.specs.declared.exchange.Exchange.{Exchange}
 use Rattle.corner.specs.declared.table.Slot.{Slot}
 use Rattle.corner.specs.Tables.{Lists, entry, line_slot, marks_at, number, problem_of, slot_at, standing_at}
 use Rattle.corner.specs.Kept.{AreSlots, IsEquationAt, IsKept}
 use Rattle.corner.specs.Views.{AreCandidates, IsNamed}
 use Rattle.corner.specs.Invariants.{name_of, names_of}
-use Rattle.corner.specs.Exchanges.{AreListedAfter, IsExchangeOf, cleared, exchanged_lists, marks_after, row_number, turned_lists, with_changes}
+use Rattle.corner.specs.Exchanges.{AreListedAfter, IsExchangeOf, marks_after, row_number}
 use Rattle.corner.proofs.ColumnReturns.{IsReturn, candidates_return, name-cases}
 use Rattle.corner.proofs.LevelRowFacts.{out_line}
 use Rattle.corner.proofs.ListFacts.{from_map, to_map}
 use Rattle.corner.proofs.PairFacts.{leave_in, named_mark, pair_exchange, side-stands}
 use Rattle.corner.proofs.PivotFacts.{line_owner}
-use Rattle.corner.proofs.PutFacts.{changes_keep}
 use Rattle.corner.proofs.MarkFacts.{stands_inside}
 use Rattle.corner.proofs.ReadFacts.{inside_equation}
 use Rattle.corner.proofs.SlotFacts.{any_is}
@@ -73,13 +71,6 @@ seen_alike t u marks listed problem slots h =
     (subst (λ (ss : List Slot). AreCandidates (problem_of t) marks (names_of (with_slots t ss) listed)) (sym slots) h)
 
 -- ---- the entering line's row
-
-pub other-line : (name : RowName) (own : ℕ) (by : RowName → ℤ) (l : RowName) → l ≢ name → line_numbers name own by l ≡ by l
-other-line name own by l ne = ap (λ (b : Bool). cond b (neg_ℤ (pos own)) (by l)) (ne_eqb (place_of l Under) (place_of name Under) (λ e. ne (same-name l name e)))
-
-at-side : (side : Side) (marks : List Mark) (name : RowName) → IsOutsideLine marks name → IsIn (place_of name side) marks → ⊥
-at-side Under marks name out i = out.under i
-at-side Over marks name out i = out.over i
 
 idle-line : (at : List Mark) (leave : RowName) (by : RowName → ℤ) (l : Line) → by leave ≡ pos 0 → ((side : Side) → IsIn (place_of l.name side) at → l.name ≢ leave → by l.name ≡ pos 0)
     → (by l.name ≡ pos 0) ⊎ ((IsIn (place_of l.name Under) at → ⊥) × (IsIn (place_of l.name Over) at → ⊥))
@@ -155,17 +146,8 @@ exchanged_candidates t u made s old new kept ex problem slots same listed before
     (λ name named other stays some.
     listed_name t new name kept.slots named
     (listed.row (line_slot t name)
-    (λ none. some (other-line s.enter.row ex.enters.line.0 (row_number t made.pair.enter made.entering.row) name other ∙ row-none (nat_eq (line_slot t name) made.pair.enter) (coefficient (line_slot t name) made.entering.row) none))
+    (λ none. some (other-number s.enter.row ex.enters.line.0 (row_number t made.pair.enter made.entering.row) name other ∙ row-none (nat_eq (line_slot t name) made.pair.enter) (coefficient (line_slot t name) made.entering.row) none))
     (λ e. other (lines_apart t name s.enter.row kept.slots named ex.pair.enters (ex.pair.enter_slot ∙ sym e))))))
-
-exchanged_problem : (t : Lists) (changes : List Change) → problem_of (with_changes t changes) ≡ problem_of t
-exchanged_problem t [] = refl
-exchanged_problem t (change ∷ changes) = exchanged_problem t changes
-
-pub candidates_after : (t : Lists) (made : Exchange) (s : Swap) (old new : List ℕ) → IsKept t → IsExchangeOf t made s → SameMarks (marks_at (exchanged_lists t made)) (marks_after t s) → AreListedAfter t made old new
-    → AreCandidates (problem_of t) (marks_at t) (names_of t old) → AreCandidates (problem_of (exchanged_lists t made)) (marks_at (exchanged_lists t made)) (names_of (exchanged_lists t made) new)
-candidates_after t made s old new kept ex same listed before =
-    exchanged_candidates t (exchanged_lists t made) made s old new kept ex (exchanged_problem (cleared t made.pair.leave) made.changes.items) (changes_keep (cleared t made.pair.leave) made.changes.items) same listed before
 
 -- ---- after a turn
 
@@ -197,14 +179,5 @@ turned_candidates t u s line old new kept named at_line side turns problem slots
     let apart : line_slot t name ≢ line_slot t s.leave.row = λ z. stays (lines_apart t name s.leave.row kept.slots is named (sym z)) in
     listed_name t new name kept.slots is
     (row (line_slot t name)
-    (λ none. some (other-line s.leave.row e.0 (number t (line_slot t s.leave.row)) name stays ∙ row-none (nat_eq (line_slot t name) (line_slot t s.leave.row)) (entry t (line_slot t s.leave.row) (line_slot t name)) (ap (λ w. entry t w (line_slot t name)) at_line ∙ none)))
+    (λ none. some (other-number s.leave.row e.0 (number t (line_slot t s.leave.row)) name stays ∙ row-none (nat_eq (line_slot t name) (line_slot t s.leave.row)) (entry t (line_slot t s.leave.row) (line_slot t name)) (ap (λ w. entry t w (line_slot t name)) at_line ∙ none)))
     (λ z. apart (z ∙ sym at_line)))))
-
-pub candidates_turned : (t : Lists) (s : Swap) (line : ℕ) (change : Option Change) (old new : List ℕ) → IsKept t → IsNamed (problem_of t) s.leave.row → line_slot t s.leave.row ≡ line → (standing_at t line).side ≡ Some s.leave.side → s.enter.row ≡ s.leave.row
-    → SameMarks (marks_at (turned_lists t line s.enter.side change)) (marks_after t s) → ((w : ℕ) → Contains old w → Contains new w) → ((c : ℕ) → entry t line c ≢ pos 0 → c ≢ line → Contains new c)
-    → AreCandidates (problem_of t) (marks_at t) (names_of t old)
-    → AreCandidates (problem_of (turned_lists t line s.enter.side change)) (marks_at (turned_lists t line s.enter.side change)) (names_of (turned_lists t line s.enter.side change) new)
-candidates_turned t s line None old new kept named at_line side turns same keeps row before =
-    turned_candidates t (turned_lists t line s.enter.side None) s line old new kept named at_line side turns refl refl same keeps row before
-candidates_turned t s line (Some change) old new kept named at_line side turns same keeps row before =
-    turned_candidates t (turned_lists t line s.enter.side (Some change)) s line old new kept named at_line side turns refl refl same keeps row before

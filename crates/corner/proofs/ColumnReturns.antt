@@ -24,11 +24,13 @@ use Rattle.corner_laws.proofs.Unique.{same-name}
 use Rattle.corner_laws.proofs.WrittenValues.{contains_each, not_zero}
 use Rattle.corner_lines.specs.LineEquations.{sign_of}
 use Rattle.corner_lines.specs.StayLevels.{turned}
-use Rattle.corner_lines.proofs.LevelExchanges.{all-small, by-sides}
-use Rattle.corner_lines.proofs.LineSums.{both-cancel, mul-opp}
+use Rattle.corner_lines.proofs.LevelExchanges.{by-sides}
+use Rattle.corner_lines.proofs.LineSums.{both-cancel}
 use Rattle.corner.specs.Views.{AreCandidates, IsNamed}
 use Rattle.corner.proofs.PairFacts.{turned-left, turned-right, turned-twice, way_of}
 use Rattle.corner.proofs.ReadFacts.{mark_named}
+use Rattle.corner_lines.proofs.LineWritings.{all-small}
+use Rattle.corner_laws.proofs.ExchangedLevels.{mul-opp}
 
 -- ---- lines by name
 

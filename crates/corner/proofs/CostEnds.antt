@@ -1,5 +1,5 @@
 -- What is answered where a row joins the cost of its level.
-use Rattle.std.proofs.Common.{◌≡◌, ◌∙◌, ℕ, zero, suc, ◌+◌, ◌-◌, ◌*◌, ◌<◌, ◌≤◌, ◌++◌, Bool, true, false, cond, nat_eq, List, [], ◌∷◌, map, length, refl, sym, ap, subst, arith, inl, inr, ℤ, pos, ◌<ℤ◌, get_or, unsigned_abs, Any, Contains, lt-ltb}
+use Rattle.std.proofs.Common.{◌≡◌, ◌∙◌, ℕ, zero, suc, ◌+◌, ◌-◌, ◌*◌, ◌<◌, ◌≤◌, ◌++◌, Bool, true, false, cond, nat_eq, List, [], ◌∷◌, map, length, refl, sym, ap, subst, arith, inl, inr, ℤ, pos, ◌<ℤ◌, get_or, unsigned_abs, Any, lt-ltb}
 use Rattle.std.specs.List.{filter}
 use borrow.Author.Differences.{ints}
 use Rattle.frac_core.specs.Fraction.{Fraction, IsFitting}
@@ -31,13 +31,12 @@ use Rattle.row_core.proofs.Places.{coefficient_at}
 use Rattle.indexed_rows.specs.Matrices.{IsBelow}
 use Rattle.cert_core.specs.declared.stops.RunStop.{RunStop}
 use Rattle.cert_core.specs.declared.stops.RunStop.TheVariants.{Conflict, Unfit, Spent, OutOfMemory}
-use Rattle.problem_core.specs.declared.stops.Quantity.{Quantity}
 use Rattle.corner.specs.Changes.{IsPathStop}
 use Rattle.corner.specs.Kept.{AreSlots}
 use Rattle.frac_core.specs.Stops.{IsRefused}
 use Rattle.corner.specs.RowJoins.{AreAsBefore}
 use Rattle.corner.specs.Tables.{IsListedOf, marks_over, row_at}
-use Rattle.corner.specs.CostJoins.{IsCostJoined, IsFreeLine, IsJoinedCost, IsLineStop, IsNextListed}
+use Rattle.corner.specs.CostJoins.{IsCostJoined, IsJoinedCost, IsLineStop, IsNextListed}
 use Rattle.corner.proofs.CostFits.{next_count}
 use Rattle.corner.proofs.CostKept.{cost_kept, cost_marks, next_within}
 
@@ -54,10 +53,6 @@ pub held_row : (t : Lists) (r : Row) → IsPartlyKept t → Any (λ s. s ≡ r) 
 held_row t r kept held = any_is IsRow (λ s. s ≡ r) t.rows kept.whole.rows held (λ s h e. subst IsRow e h)
 
 -- ---- a stop
-
-kept-line : (b : Bool) (x : Line) (xs : List Line) (m : ℕ) → m ≤ length xs → m ≤ length (cond b (x ∷ xs) xs)
-kept-line true x xs m h = omega (arith, h)
-kept-line false x xs m h = h
 
 both-kept : (b : Bool) (s : Row) (x : Line) (rows : List Row) (ls : List Line) → length rows ≤ length ls → length (cond b (s ∷ rows) rows) ≤ length (cond b (x ∷ ls) ls)
 both-kept true s x rows ls h = omega (arith, h)
@@ -183,18 +178,8 @@ joined_kept t u r line unit change kept joins c e =
 pub cost_joined_kept : (t u : Lists) (r : Row) (line : ℕ) → IsPartlyKept t → IsJoining t r line → IsCostJoined t line u → IsPartlyKept u
 cost_joined_kept t u r line kept joins c = subst IsPartlyKept (sym c.lists) (cost_kept t line c.unit c.change kept (joining_below t r line kept joins) (joining_within t r line kept joins) c.joined)
 
-pub free_listed : (u : Lists) (line : ℕ) (old new : List ℕ) → new ≡ old → IsFreeLine u line → IsNextListed u line old new
-free_listed u line old new e free = record {
-  keeps = λ c h. subst (λ (xs : List ℕ). Contains xs c) (sym e) h;
-  listed = inl free;
-  others = λ c h. inl (subst (λ (xs : List ℕ). Contains xs c) e h);
-}
-
 pub row_listed : (u : Lists) (line : ℕ) (old new : List ℕ) → IsListedOf line (row_at u line) old new → IsNextListed u line old new
 row_listed u line old new h = record { keeps = h.keeps; listed = inr h.has; others = h.others }
-
-unfit-stop : (stop : TableStop) (quantity : Quantity) → stop ≡ Refused quantity → IsRefused stop
-unfit-stop stop quantity e = subst (λ (s : TableStop). IsRefused s) (sym e) tt
 
 pub same_slots : (t u : Lists) (stop : TableStop) → AreSlots t → AreAsBefore t u stop → IsRefused stop → AreSlots u
 same_slots t u (Refused quantity) slots same is = subst AreSlots (sym same) slots

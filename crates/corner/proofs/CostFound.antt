@@ -28,6 +28,7 @@ use Rattle.corner.proofs.CostLines.{next-row, next_slot}
 use Rattle.corner.proofs.CostJoins.{IsCostJoin, below_levels, part_of, size_of}
 use Rattle.corner.proofs.CostTerms.{IsCostRow, size-above, size-is}
 use Rattle.corner.proofs.CostSteps.{cost_row_is, count_is, joined_ok, rise_join, share_unfit, shared_above, sum_unfit, unit_unfit}
+use Rattle.corner_laws.proofs.DualChoice.{positive-pos}
 
 -- a line that joins its level, with the rise of the unit
 pub record IsFound (t : Lists) (line : ℕ) (rise : Rise) : Type 0 where
@@ -55,14 +56,11 @@ pub found_count : (t : Lists) (line : ℕ) (rise : Rise) (count : ℤ) → (f : 
     → count ≡ neg_ℤ (inside_number f.side (home_at t line) (f.times * (part_of t f.row line f.side (home_at t line) f.times f.join).unit) 1 (line_of_row f.row))
 found_count t line rise count f counts = counts f.side f.join.next.side_is ∙ count_is t f.row line f.side (home_at t line) f.times rise.unit f.join f.unit_is
 
-above-zero : (n : ℕ) → 0 < n → pos 0 <ℤ pos n
-above-zero n h = omega (arith, ints, h)
-
 pub found_below : (t : Lists) (line : ℕ) (rise : Rise) → IsFound t line rise → home_at t line < LEVELS
 found_below t line rise f = below_levels (home_at t line) f.row f.join.level
 
 pub found_size : (t : Lists) (line : ℕ) (rise : Rise) → IsFound t line rise → pos 0 <ℤ entry t line line
-found_size t line rise f = subst (λ (z : ℤ). pos 0 <ℤ z) (sym (size-is t f.row line f.side f.join.next)) (above-zero (size_of t f.row line f.side f.join.next) (size-above t f.row line f.side f.join.next))
+found_size t line rise f = subst (λ (z : ℤ). pos 0 <ℤ z) (sym (size-is t f.row line f.side f.join.next)) (positive-pos (size_of t f.row line f.side f.join.next) (size-above t f.row line f.side f.join.next))
 
 pub found_old : (t : Lists) (line : ℕ) (rise : Rise) (old : List Term) → IsFound t line rise → ((priority_at t (home_at t line)).rows ≡ 0 → old ≡ record { col = home_at t line; by = pos 1 } ∷ []) → (((priority_at t (home_at t line)).rows ≡ 0 → ⊥) → old ≡ row_at t (home_at t line))
     → IsCostRow t (home_at t line) old
@@ -71,7 +69,7 @@ found_old t line rise old f none some = cost_row_is t (home_at t line) old (part
 pub found_level : (t : Lists) (line : ℕ) (rise : Rise) (old : List Term) → IsFound t line rise → IsCostRow t (home_at t line) old → pos 0 <ℤ coefficient (home_at t line) old
 found_level t line rise old f row =
     let part = part_of t f.row line f.side (home_at t line) f.times f.join in
-    subst (λ (z : ℤ). pos 0 <ℤ z) (sym (row.own ∙ part.own_is)) (above-zero part.own part.numbers.row.own_positive)
+    subst (λ (z : ℤ). pos 0 <ℤ z) (sym (row.own ∙ part.own_is)) (positive-pos part.own part.numbers.row.own_positive)
 
 pub found_own : (t : Lists) (line : ℕ) (rise : Rise) (count : ℤ) (old row : List Term) → IsFound t line rise → IsCostRow t (home_at t line) old → IsShared t old line count rise.times row → pos 0 <ℤ coefficient (home_at t line) row
 found_own t line rise count old row f cost shared =

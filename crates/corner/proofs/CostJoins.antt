@@ -1,5 +1,5 @@
 -- The row of a level where its next row joins its cost.
-use Rattle.std.proofs.Common.{◌≡◌, ◌∙◌, ℕ, zero, suc, ◌+◌, ◌-◌, ◌*◌, ◌/◌, ◌<◌, List, [], ◌∷◌, refl, sym, ap, subst, arith, inl, inr, ℤ, pos, neg_ℤ, ◌+ℤ◌, ◌*ℤ◌, unsigned_abs}
+use Rattle.std.proofs.Common.{◌≡◌, ◌∙◌, ℕ, ◌+◌, ◌-◌, ◌*◌, ◌/◌, ◌<◌, List, [], ◌∷◌, refl, sym, ap, subst, arith, inl, inr, ℤ, pos, neg_ℤ, ◌+ℤ◌, ◌*ℤ◌, unsigned_abs}
 use Rattle.std.specs.List.{AllByRecursion as Each}
 use Rattle.std.specs.Int.{IsGcd}
 use Rattle.std.proofs.lemmas.Bool.{cases_Bool}
@@ -29,20 +29,18 @@ use Rattle.corner_lines.specs.LevelJoins.{IsLeastMultiple, IsLevelJoin}
 use Rattle.corner_lines.specs.LevelRows.{HasLevelRow, IsDividedRow, inside_number, line_numbers, reduced_number}
 use Rattle.corner_lines.proofs.LevelDivided.{divided-same}
 use Rattle.corner_lines.proofs.LevelExchanges.{inside-numbers}
-use Rattle.corner_lines.proofs.LevelFits.{divided, reduced-by, reduced-is, reduced_by, unfit_row_has_no_writing}
+use Rattle.corner_lines.proofs.LevelFits.{divided, reduced-by, reduced-is, reduced_by, unfit_row_has_no_writing, fit-of}
 use Rattle.corner_lines.proofs.LevelJoins.{grown_row_is_row, joined_row_is_row, joined_unit_is_unit}
-use Rattle.corner_lines.proofs.LineSums.{mul-opp}
 use Rattle.corner.specs.declared.table.TheConstants.{LEVELS}
 use Rattle.corner.specs.Tables.{Lists, marks_at, number, priority_at, slot_at}
 use Rattle.corner.specs.Parts.{IsLevelPart, joined_at}
 use Rattle.corner.specs.CostJoins.{IsLeastUnit, with_next}
 use Rattle.corner.proofs.SlotFacts.{any_impl}
 use Rattle.corner.proofs.CostLines.{IsNextAt, lines_before, next_each, next_equation, next_in, next_line, next_pivot, next_slot, next_sound, no_other_side}
+use Rattle.corner_laws.proofs.ExchangedLevels.{mul-opp}
+use Rattle.corner_lines.proofs.OtherNumbers.{same-parts, above-product}
 
 -- ---- a level's row that fits, and one that does not
-
-fit-of : (side : Side) (level unit own : ℕ) (y z : ℤ) (l : Line) → y ≡ z → IsFitting (reduced_number side level unit own z l) → IsFitting (reduced_number side level unit own y l)
-fit-of side level unit own y z l e h = subst (λ (t : ℤ). IsFitting (reduced_number side level unit own t l)) (sym e) h
 
 record Known (p : Problem) (at : List Mark) (level unit own : ℕ) (by number : RowName → ℤ) (l : Line) : Type 0 where
   under_is : reduced_by p level unit own by (place_of l.name Under) ≡ reduced_number Under level unit own (by l.name) l
@@ -169,10 +167,6 @@ counted_by Over level unit own k =
 abbrev pub joined_sum : Lists → Row → ℕ → ℕ → (size times k : ℕ) → ℤ → RowName → ℤ
 joined_sum t r line l size times k n name = pos (k * times) *ℤ number t l name +ℤ n *ℤ line_numbers (Held r.id) size (number t line) name
 
-same-parts : (k times g : ℕ) (z : ℤ) → times / g * g ≡ times → pos (k * g) *ℤ (pos (times / g) *ℤ z) ≡ pos (k * times) *ℤ z
-same-parts k times g z e =
-    sym (mul_assoc_ℤ (pos (k * g)) (pos (times / g)) z) ∙ ap (λ (n : ℕ). pos n *ℤ z) (let q : ℕ = times / g in let f : k * g * (times / g) ≡ k * (times / g * g) = omega arith in f ∙ ap (λ (m : ℕ). k * m) e)
-
 crossed-factors : (own k g : ℕ) (n c : ℤ) (size : ℕ) → own / g * g ≡ own → n *ℤ pos size ≡ (pos own *ℤ c) *ℤ pos k → n *ℤ pos size ≡ (pos (own / g) *ℤ c) *ℤ pos (k * g)
 crossed-factors own k g n c size e h =
     h ∙ ap (λ (m : ℕ). (pos m *ℤ c) *ℤ pos k) (sym e)
@@ -180,10 +174,6 @@ crossed-factors own k g n c size e h =
     ∙ mul_assoc_ℤ (pos (own / g)) (pos g) (c *ℤ pos k)
     ∙ ap (λ (z : ℤ). pos (own / g) *ℤ z) (mul_left_comm_ℤ (pos g) c (pos k) ∙ ap (λ (m : ℕ). c *ℤ pos m) (let f : g * k ≡ k * g = omega arith in f))
     ∙ sym (mul_assoc_ℤ (pos (own / g)) c (pos (k * g)))
-
-above-product : (a b : ℕ) → 0 < a → 0 < b → 0 < a * b
-above-product zero b h k = absurd (omega (arith, h))
-above-product (suc a) b h k = omega (arith, k)
 
 pub joined_row : (t : Lists) (r : Row) (line : ℕ) (side : Side) (l times k low : ℕ) (n c : ℤ) (next : RowName → ℤ) → (j : IsCostJoin t r line side l times) → 0 < k
     → c ≡ neg_ℤ (inside_number side l (times * (part_of t r line side l times j).unit) 1 (line_of_row r))

@@ -98,7 +98,7 @@ moved-equation t l row value unit quantity w num den slots lt ne h =
     subst (λ (at : List Mark). EquationBy t at quantity w (row_at (with_cost t l row value unit) w) num den) (sym (cost_marks t l row value unit slots lt))
     (subst (λ (r : List Term). EquationBy t (marks_at t) quantity w r num den) (sym (cost_row t l row value unit w ne)) h)
 
-high : (l w : ℕ) → l < LEVELS → LEVELS ≤ w → w ≢ l
+pub high : (l w : ℕ) → l < LEVELS → LEVELS ≤ w → w ≢ l
 high l w a b e = omega (arith, a, b, e)
 
 cost-attr : (t : Lists) (l : ℕ) (row : List Term) (value : Fraction) (unit : ℤ) (attr : ℕ) → AreSlots t → l < LEVELS → LEVELS ≤ attr_slot t attr → IsAttrRow t attr → IsAttrRow (with_cost t l row value unit) attr

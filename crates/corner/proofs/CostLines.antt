@@ -1,5 +1,5 @@
 -- A row that has joined the corner, before it joins its level.
-use Rattle.std.proofs.Common.{◌≡◌, ◌≢◌, ◌∙◌, ℕ, zero, suc, ◌+◌, ◌-◌, ◌++◌, Bool, true, false, cond, nat_eq, List, [], ◌∷◌, map, length, refl, sym, ap, subst, arith, inl, inr, ℤ, pos, ◌+ℤ◌, ◌*ℤ◌, All, Any, Some, None, eq-eqb}
+use Rattle.std.proofs.Common.{◌≡◌, ◌≢◌, ◌∙◌, ℕ, zero, suc, ◌+◌, ◌-◌, ◌++◌, Bool, cond, nat_eq, List, [], ◌∷◌, map, length, refl, sym, ap, subst, arith, inl, inr, ℤ, pos, ◌+ℤ◌, ◌*ℤ◌, All, Any, Some, None, eq-eqb}
 use Rattle.std.specs.List.{AllByRecursion as Each, filter}
 use Rattle.std.specs.declared.option.Option.{Option}
 use Rattle.std.proofs.lemmas.Bool.{cases_Bool}
@@ -44,10 +44,6 @@ later P s rows h = (suc h.0, h.1, omega (arith, h.2), h.3, h.4)
 
 first_any : (P : Row → Type 0) (s : Row) (rows : List Row) → P s → Any P (s ∷ rows)
 first_any P s rows h = (0, s, omega arith, refl, h)
-
-cond_any : (P : Row → Type 0) (b : Bool) (x y : Row) (xs ys : List Row) → (b ≡ true → Any P (x ∷ xs)) → (b ≡ false → Any P (y ∷ ys)) → Any P (cond b (x ∷ xs) (y ∷ ys))
-cond_any P true x y xs ys f g = f refl
-cond_any P false x y xs ys f g = g refl
 
 one_more : (n : ℕ) → suc n ≡ n + 1
 one_more n = omega arith

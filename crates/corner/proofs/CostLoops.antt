@@ -1,5 +1,5 @@
 -- Rows join the costs of their levels one by one.
-use Rattle.std.proofs.Common.{◌≡◌, ◌≢◌, ◌∙◌, inl, inr, ℕ, zero, suc, ◌+◌, ◌-◌, ◌<◌, ◌≤◌, ◌++◌, Bool, true, false, cond, nat_eq, List, [], ◌∷◌, map, length, take, drop, refl, sym, ap, ap₂, subst, arith, All, Any, Contains, slice_index_or, get_or, eq-eqb, ne_eqb, pos}
+use Rattle.std.proofs.Common.{◌≡◌, ◌∙◌, inl, inr, ℕ, zero, suc, ◌+◌, ◌-◌, ◌<◌, ◌≤◌, ◌++◌, Bool, true, false, cond, nat_eq, List, [], ◌∷◌, map, length, take, drop, refl, sym, ap, ap₂, subst, arith, All, Any, Contains, slice_index_or, get_or, eq-eqb, ne_eqb, pos}
 use Rattle.std.specs.List.{filter}
 use Rattle.std.proofs.lemmas.Bool.{cases_eq}
 use Rattle.std.proofs.lemmas.List.Elements.{All-push}
@@ -40,13 +40,13 @@ use Rattle.corner.specs.Kept.{IsKept}
 use Rattle.corner.proofs.AttrJoins.{nowhere}
 use Rattle.corner.specs.Parts.{IsPartlyKept}
 use Rattle.corner.specs.CostJoins.{AreCostsJoined, AreToJoin, IsCostJoined, IsCostsStop, IsJoining, IsLineListed, IsLineStop, IsNextListed, home_at, with_cost}
-use Rattle.corner.proofs.MarkingFacts.{marks_inside}
+use Rattle.corner.proofs.MarkingFacts.{marks_inside, append_more, append_none}
 use Rattle.corner.proofs.SlotFacts.{named_slot}
 use Rattle.corner.proofs.PartFacts.{part_kept}
-use Rattle.corner.proofs.RowPaths.{append_more, append_none, take_drop}
+use Rattle.corner.proofs.RowPaths.{take_drop}
 use Rattle.corner.proofs.RowStops.{next_rows, this_row}
 use Rattle.corner.proofs.CostEnds.{cost_joined_kept, held_home, joining_below, joining_held}
-use Rattle.corner.proofs.CostKept.{cost_marks, cost_priority, cost_priority_here, cost_row, cost_side}
+use Rattle.corner.proofs.CostKept.{cost_marks, cost_priority, cost_priority_here, cost_row, cost_side, high}
 
 -- ---- the next row
 
@@ -107,24 +107,6 @@ next_to_join t u done r rest line kept h j c = record {
 }
 
 -- ---- what is the same
-
-pub none_joined : (t : Lists) (listed : List ℕ) → AreCostsJoined [] t listed t listed
-none_joined t listed = record {
-  rows_same = refl;
-  stays = refl;
-  slots = refl;
-  attr_slots = refl;
-  row_slots = refl;
-  marks = refl;
-  lines = λ w up. refl;
-  sides = λ w. refl;
-  keeps = λ c h. h;
-  listed = λ i x lt. absurd (omega (arith, lt));
-  others = λ c h. inl h;
-}
-
-high : (l w : ℕ) → l < LEVELS → LEVELS ≤ w → w ≢ l
-high l w a b e = omega (arith, a, b, e)
 
 next-row-same : (t u : Lists) (r : Row) (line : ℕ) → IsPartlyKept t → IsJoining t r line → IsCostJoined t line u → (w : ℕ) → LEVELS ≤ w → row_at u w ≡ row_at t w
 next-row-same t u r line kept j c w up = ap (λ (v : Lists). row_at v w) c.lists ∙ cost_row t (home_at t line) c.change.row c.change.value c.unit w (high (home_at t line) w (joining_below t r line kept j) up)

@@ -36,6 +36,8 @@ use Rattle.corner_laws.proofs.Equal.{cancel-left}
 use Rattle.corner.proofs.CostLines.{IsNextAt, whole_names, next_at, next_home, next_in, next_line, next_slot, next_sound}
 use Rattle.corner.proofs.CostJoins.{IsCostJoin, joined_row, joined_sum, joined_unit, part_of, row_unfit, size_of}
 use Rattle.corner.proofs.CostTerms.{IsCostRow, IsStage, by_slot, lowest_terms, size-above, stage_names, stage_outside, stage_row, stage_terms, whole_own}
+use Rattle.corner.proofs.LeavingRows.{weight-there}
+use Rattle.corner_lines.proofs.OtherNumbers.{above-product}
 
 -- ---- what the line counts
 
@@ -58,9 +60,6 @@ share-is t r line side unit n =
 
 rel-is : (t : Lists) (r : Row) (line : ℕ) (side : Side) → IsNextAt t r line side → (slot_at t line).rel ≡ r.rel
 rel-is t r line side n = ap (λ (w : ℕ). (slot_at t w).rel) (sym n.slot_is) ∙ (next_slot t r line side n).rel
-
-weight-there : (r : Row) (l : ℕ) → l ≡ 1000 - r.rank → weight_at (line_of_row r) l ≡ r.weight
-weight-there r l e = ap (λ (b : Bool). cond b r.weight 0) (eq-eqb (1000 - r.rank) l (sym e))
 
 signed-share : (side : Side) (rel : Rel) (l unit m : ℕ) (r : Row) → rel ≡ r.rel → l ≡ 1000 - r.rank → m ≡ unit * r.weight / r.scale → pos (side_share rel side m) *ℤ sign_of side ≡ neg_ℤ (inside_number side l unit 1 (line_of_row r))
 signed-share Under rel l unit m r e f g =
@@ -86,10 +85,6 @@ count_is t r line side l times unit j e =
 
 -- ---- a level's row there is
 
-positive-times : (a b : ℕ) → 0 < a → 0 < b → 0 < a * b
-positive-times zero b h k = absurd (omega (arith, h))
-positive-times (suc a) b h k = omega (arith, k)
-
 -- whatever fits
 pub true_row : (t : Lists) (r : Row) (line : ℕ) (side : Side) (l times : ℕ) → (j : IsCostJoin t r line side l times)
     → (low : ℕ) × (next : RowName → ℤ) × HasLevelRow (with_next t l) (marks_at t) l (times * (part_of t r line side l times j).unit) low next
@@ -98,7 +93,7 @@ true_row t r line side l times j =
     let size : ℕ = size_of t r line side j.next in
     let c : ℤ = neg_ℤ (inside_number side l (times * part.unit) 1 (line_of_row r)) in
     let d = divided (with_next t l) (marks_at t) (size_of t r line side j.next * part.own) (joined_sum t r line l (size_of t r line side j.next) times (size_of t r line side j.next) (pos part.own *ℤ neg_ℤ (inside_number side l (times * part.unit) 1 (line_of_row r))))
-    (positive-times (size_of t r line side j.next) part.own (size-above t r line side j.next) part.numbers.row.own_positive) in (
+    (above-product (size_of t r line side j.next) part.own (size-above t r line side j.next) part.numbers.row.own_positive) in (
       d.0,
       d.1,
       joined_row t r line side l times (size_of t r line side j.next) d.0 (pos part.own *ℤ neg_ℤ (inside_number side l (times * part.unit) 1 (line_of_row r))) (neg_ℤ (inside_number side l (times * part.unit) 1 (line_of_row r))) d.1 j
@@ -157,7 +152,7 @@ shared-own : (t : Lists) (r : Row) (line : ℕ) (side : Side) (l times k : ℕ) 
     → (low : ℕ) × (coefficient l row ≡ pos low) × (0 < low) × (red.factor * low ≡ k * times * (part_of t r line side l times j).own)
 shared-own t r line side l times k n old row j cost up red =
     positive_part red.factor (k * times * (part_of t r line side l times j).own) (coefficient l row)
-    (positive-times (k * times) (part_of t r line side l times j).own (positive-times k times up j.above) (part_of t r line side l times j).numbers.row.own_positive)
+    (above-product (k * times) (part_of t r line side l times j).own (above-product k times up j.above) (part_of t r line side l times j).numbers.row.own_positive)
     (red.same l ∙ whole_own t r line side l times k n old j cost)
 
 pub shared_above : (t : Lists) (r : Row) (line : ℕ) (side : Side) (l times : ℕ) (c : ℤ) (old row : List Term) → IsCostJoin t r line side l times → IsCostRow t l old → IsShared t old line c (pos times) row → pos 0 <ℤ coefficient l row
@@ -186,7 +181,7 @@ unit-own row l k2 own2 = ap (λ (b : Bool). cond b own2 (pos k2 *ℤ coefficient
 own-part : (times k2 low1 k1 own f : ℕ) (own2 c : ℤ) → 0 < times → 0 < k2 → 0 < low1 → c ≡ pos low1 → own2 *ℤ pos times ≡ pos k2 *ℤ c → f * low1 ≡ k1 * times * own → (o : ℕ) × (own2 ≡ pos o) × (0 < o) × (f * o ≡ k2 * k1 * own)
 own-part times k2 low1 k1 own f own2 c up above more e h g =
     let same : pos times *ℤ own2 ≡ pos (k2 * low1) = *ℤ_comm (pos times) own2 ∙ h ∙ ap (λ (z : ℤ). pos k2 *ℤ z) e in
-    let part = positive_part times (k2 * low1) own2 (positive-times k2 low1 above more) same in
+    let part = positive_part times (k2 * low1) own2 (above-product k2 low1 above more) same in
     (part.0, part.1, part.2, cancel times (f * part.0) (k2 * k1 * own) up (step times f part.0 k2 low1 k1 own part.3 g))
   where
     cancel : (g a b : ℕ) → 0 < g → g * a ≡ g * b → a ≡ b
@@ -253,7 +248,7 @@ unit_unfit t r line side l times c old row j cost counts (k1, n, share, red) (k2
     row_unfit (with_next t l) (marks_at t) l (times * kept.unit) low.0 low.1 sound.0 sound.1 sound.2 (joined_unit t r line side l times j)
     (stage_row t r line side l times k1 red.factor k2 q.0 low.0 n c old (unit_whole row l k2 own2) low.1 j cost counts share st q.3 low.2)
     (λ fit. unfit_terms t l (unit_whole row l k2 own2) q.0 (by_slot t l (unit_whole row l k2 own2)) (pos 0) 1 j.next.kept.slots terms unfit low.0 low.1 zero_fraction low.2 zero-ratio
-    (scale-part low.0 (times * kept.unit) (positive-times times kept.unit j.above kept.least.above) fit.scale_fits)
+    (scale-part low.0 (times * kept.unit) (above-product times kept.unit j.above kept.least.above) fit.scale_fits)
     (all-fit t l (by_slot t l (unit_whole row l k2 own2)) low.1 low.0 q.0 low.2 names (whole_names (λ name. IsOutsideLine (marks_at t) name → IsFitting (low.1 name)) (problem_of t) l ((priority_at t l).rows + 1) fit.outside_fit))
     zero_kept)
   where
@@ -271,15 +266,15 @@ sum_unfit t r line side l times c old j cost counts (k, n, share, unfit) =
     let w : ℕ → ℤ = shared_whole t old line (pos times) k n in
     let st : IsStage l (shared_whole t old line (pos times) k n) (shared_whole t old line (pos times) k n) 1 1 = record { above = omega arith; times = omega arith; off = λ d ne. refl } in
     let by : RowName → ℤ = by_slot t l (shared_whole t old line (pos times) k n) in
-    let up : 0 < k * kept.own = positive-times k kept.own share.above kept.numbers.row.own_positive in
+    let up : 0 < k * kept.own = above-product k kept.own share.above kept.numbers.row.own_positive in
     let low = lowest_terms (problem_of t) (k * kept.own) (by_slot t l (shared_whole t old line (pos times) k n)) up in
     let names = stage_names t r line side l times k 1 1 n old (shared_whole t old line (pos times) k n) j cost st in
     let own_is = whole_own t r line side l times k n old j cost in
     let terms = stage_terms t r line side l times k 1 1 (k * times * kept.own) n old (shared_whole t old line (pos times) k n) j cost st own_is in
-    let part = lowest_terms (problem_of t) (times * low.0) low.1 (positive-times times low.0 j.above low.2.low_positive) in
+    let part = lowest_terms (problem_of t) (times * low.0) low.1 (above-product times low.0 j.above low.2.low_positive) in
     let red : AreReduced (lines (problem_of t)) (k * times * kept.own) (by_slot t l (shared_whole t old line (pos times) k n)) part.0 part.1 = record {
       factor = low.2.factor * part.2.factor;
-      factor_positive = positive-times low.2.factor part.2.factor low.2.factor_positive part.2.factor_positive;
+      factor_positive = above-product low.2.factor part.2.factor low.2.factor_positive part.2.factor_positive;
       low_positive = part.2.low_positive;
       own_same = two-parts low.2.factor part.2.factor part.0 times low.0 k kept.own part.2.own_same low.2.own_same;
       same = λ i x lt. mul_assoc_ℤ (pos low.2.factor) (pos part.2.factor) (part.1 (get_or (lines (problem_of t)) i x).name) ∙ ap (λ (z : ℤ). pos low.2.factor *ℤ z) (part.2.same i x lt) ∙ low.2.same i x lt;

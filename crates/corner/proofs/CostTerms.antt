@@ -23,12 +23,12 @@ use Rattle.corner.specs.Parts.{IsPartlyKept}
 use Rattle.corner.specs.CostJoins.{IsShare, shared_whole, with_next}
 use Rattle.corner.proofs.SlotFacts.{named_slot}
 use Rattle.corner.proofs.RowEquations.{AreTermsOf, line-owned, mul-neg}
-use Rattle.corner_lines.proofs.MarkForms.{same-name}
 use Rattle.corner.proofs.LevelRowFacts.{out_line}
 use Rattle.corner.proofs.WritingFacts.{lines_apart, number_is}
 use Rattle.corner.proofs.AttrJoins.{own_name, zero_unless}
 use Rattle.corner.proofs.CostLines.{IsNextAt, first_names, next_equation, next_home, next_in, next_named, whole_names}
 use Rattle.corner.proofs.CostJoins.{IsCostJoin, below_levels, joined_row, joined_sum, part_of, size_of}
+use Rattle.corner_lines.proofs.OtherNumbers.{other-number}
 
 ruleset ring = (diff-add, diff-mul, diff-neg, diff-pos, neg-pos)
 
@@ -177,9 +177,6 @@ divided_from t l own sum by s whole low part up e same out red =
         never f z up s q = nonzero z s (zero_from_mul f z up q)
 
 -- ---- each line's number
-
-other-number : (name : RowName) (own : ℕ) (by : RowName → ℤ) (l : RowName) → l ≢ name → line_numbers name own by l ≡ by l
-other-number name own by l ne = ap (λ (b : Bool). cond b (neg_ℤ (pos own)) (by l)) (ne_eqb (place_of l Under) (place_of name Under) (λ e. ne (same-name l name Under Under e)))
 
 negated-sum : (a n x y : ℤ) → neg_ℤ (a *ℤ x +ℤ n *ℤ y) ≡ a *ℤ neg_ℤ x +ℤ n *ℤ neg_ℤ y
 negated-sum a n x y = spread (a *ℤ x) (n *ℤ y) ∙ ap₂ (λ (u v : ℤ). u +ℤ v) (sym (mul-neg a x)) (sym (mul-neg n y))

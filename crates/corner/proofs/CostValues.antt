@@ -30,9 +30,6 @@ same-product side n m v z e =
     ∙ ap (λ (x : ℤ). turned side n *ℤ x) (turned-left side v z)
     ∙ turned-left side n (turned side (v *ℤ z)) ∙ ap (turned side) (turned-right side n (v *ℤ z)) ∙ turned-twice side (n *ℤ (v *ℤ z))
 
-abbrev signed_value : Side → Fraction → Fraction
-signed_value side f = record { num = sign_of side *ℤ f.num; den = f.den }
-
 pub ratio-same : (side : Side) (cost value f : Fraction) (n m unit : ℤ) (u : ℕ) → n *ℤ sign_of side ≡ m → unit ≡ pos u → IsRatio f (sum_num cost n unit value) (sum_den cost unit value)
     → IsRatio f (sum_num cost m (pos u) (record { num = sign_of side *ℤ value.num; den = value.den })) (sum_den cost (pos u) (record { num = sign_of side *ℤ value.num; den = value.den }))
 ratio-same side cost value f n m unit u e d h =

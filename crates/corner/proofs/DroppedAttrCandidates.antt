@@ -18,12 +18,13 @@ use Rattle.problem_core.specs.Layout.{Line, Problem, Row, coefficient, line_of_r
 use Rattle.problem_core.specs.Corners.{AreMultipliersAt, HasNegativeColumn, IsCorner, IsIn, IsLexNegative, column, place, place_of}
 use Rattle.problem_core.proofs.Forms.{each-impl}
 use Rattle.corner_laws.proofs.Counting.{tail_pairs}
-use Rattle.corner_laws.proofs.LevelSizes.{over-zero, under-zero}
-use Rattle.corner_laws.proofs.LinePlaces.{sum-each}
 use Rattle.corner_lines.specs.Removals.{IsFree, without_attr}
-use Rattle.corner_lines.proofs.DroppedAttr.{stay-out}
+use Rattle.corner_lines.proofs.DroppedAttr.{stay-out, filter-off, filter-on, other_stay}
 use Rattle.corner_lines.proofs.MarkForms.{same-name}
-use Rattle.corner.proofs.DroppedAttrLevels.{attr_sum, other_stay, stays_behind, stays_off, stays_on}
+use Rattle.corner.proofs.DroppedAttrLevels.{attr_sum, stays_behind}
+use Rattle.problem_core.proofs.Conflicts.{sum-each}
+use Rattle.corner_laws.proofs.ZeroColumns.{over-none, under-none}
+use Rattle.corner.proofs.DroppedLevels.{no-weight}
 
 -- ---- levels
 
@@ -131,9 +132,6 @@ times-else attr t m level name n far =
 abbrev at_level : ℕ → Line → Line
 at_level level l = record { name = l.name; level = level; weight = l.weight; rel = l.rel; scale = l.scale; num = l.num; den = l.den; form = l.form }
 
-no-times : (n w : ℕ) → w ≡ 0 → n * w ≡ 0
-no-times n w e = ap (λ (v : ℕ). n * v) e ∙ omega arith
-
 none-less : (n s : ℕ) (z : ℤ) → n ≡ 0 → z ≡ pos 0 → pos n -ℤ pos s *ℤ z ≡ pos 0
 none-less n s z e f = let k : pos s *ℤ z ≡ pos 0 = ap (λ (x : ℤ). pos s *ℤ x) f ∙ mul-zero_ℤ (pos s) in omega (arith, ints, e, k)
 
@@ -147,11 +145,11 @@ weightless l t level e n = ap (λ (b : Bool). cond b l.weight 0) (ne_eqb l.level
 column-own : (attr t : ℕ) (m : Multipliers) (side : Side) (l : Line) (level : ℕ) → level ≡ t → l.level ≢ t → column (raised_times attr t m) side l level ≡ pos 0
 column-own attr t m Under l level e n =
     none-less ((raised_times attr t m).scale level * under_weight l.rel (weight_at l level)) l.scale ((raised_times attr t m).times level l.name)
-    (no-times ((raised_times attr t m).scale level) (under_weight l.rel (weight_at l level)) (ap (under_weight l.rel) (weightless l t level e n) ∙ under-zero l.rel))
+    (no-weight ((raised_times attr t m).scale level) (under_weight l.rel (weight_at l level)) (ap (under_weight l.rel) (weightless l t level e n) ∙ under-none l.rel))
     (times-own attr t m level l.name e)
 column-own attr t m Over l level e n =
     none-more ((raised_times attr t m).scale level * over_weight l.rel (weight_at l level)) l.scale ((raised_times attr t m).times level l.name)
-    (no-times ((raised_times attr t m).scale level) (over_weight l.rel (weight_at l level)) (ap (over_weight l.rel) (weightless l t level e n) ∙ over-zero l.rel))
+    (no-weight ((raised_times attr t m).scale level) (over_weight l.rel (weight_at l level)) (ap (over_weight l.rel) (weightless l t level e n) ∙ over-none l.rel))
     (times-own attr t m level l.name e)
 
 -- and at each other level it is as before
@@ -227,7 +225,7 @@ AreApart stays = AllPairs (λ (s t : Stay). s.attr ≢ t.attr) stays
 each-behind : (P Q : Line → Type 0) (attr t n : ℕ) (stays : List Stay) → Raises attr t P Q → t ≤ n → Each (λ (s : Stay). s.attr ≢ attr) stays → Each P (stay_lines n (filter (other_stay attr) stays)) → Each Q (stay_lines (n + 1) stays)
 each-behind P Q attr t n [] move behind others h = tt
 each-behind P Q attr t n (s ∷ stays) move behind others h =
-    let k : Each P (stay_lines n (s ∷ filter (other_stay attr) stays)) = subst (λ (ss : List Stay). Each P (stay_lines n ss)) (stays_off attr s stays others.0) h in
+    let k : Each P (stay_lines n (s ∷ filter (other_stay attr) stays)) = subst (λ (ss : List Stay). Each P (stay_lines n ss)) (filter-off attr s stays others.0) h in
     (move n (n + 1) (line_of_stay n s) (inr (behind, refl)) (stay-far s.attr attr others.0) k.0, each-behind P Q attr t (n + 1) stays move (omega (arith, behind)) others.1 k.1)
 
 each-stays : (P Q : Line → Type 0) (attr t n : ℕ) (stays : List Stay) → Raises attr t P Q → ((s : Stay) → s.attr ≡ attr → Q (line_of_stay t s)) → level_of attr n stays ≡ t → AreApart stays → Each P (stay_lines n (filter (other_stay attr) stays)) → Each Q (stay_lines n stays)
@@ -236,12 +234,12 @@ each-stays P Q attr t n (s ∷ stays) move own is apart h = elim (cases_eq s.att
   | inl e ↦
       let here : n ≡ t = sym (level-on attr n s stays e) ∙ is in (
         subst (λ (k : ℕ). Q (line_of_stay k s)) (sym here) (own s e),
-        each-behind P Q attr t n stays move (omega (arith, here)) (stays_behind attr s stays e apart) (subst (λ (ss : List Stay). Each P (stay_lines n ss)) (stays_on attr s stays e) h),
+        each-behind P Q attr t n stays move (omega (arith, here)) (stays_behind attr s stays e apart) (subst (λ (ss : List Stay). Each P (stay_lines n ss)) (filter-on attr s stays e) h),
       )
   | inr d ↦
       let later : level_of attr (n + 1) stays ≡ t = sym (level-off attr n s stays d) ∙ is in
       let before : n < t = omega (arith, later, level-above attr (n + 1) stays) in
-      let k : Each P (stay_lines n (s ∷ filter (other_stay attr) stays)) = subst (λ (ss : List Stay). Each P (stay_lines n ss)) (stays_off attr s stays d) h in (
+      let k : Each P (stay_lines n (s ∷ filter (other_stay attr) stays)) = subst (λ (ss : List Stay). Each P (stay_lines n ss)) (filter-off attr s stays d) h in (
         move n n (line_of_stay n s) (inl (before, refl)) (stay-far s.attr attr d) k.0,
         each-stays P Q attr t (n + 1) stays move own later (tail_pairs (λ (s t : Stay). s.attr ≢ t.attr) s stays apart) k.1,
       )
@@ -272,7 +270,7 @@ some-later P x xs h = (suc h.0, h.1, omega (arith, h.2), h.3, h.4)
 any-behind : (P Q : Line → Type 0) (attr t n : ℕ) (stays : List Stay) → Raises attr t P Q → t ≤ n → Each (λ (s : Stay). s.attr ≢ attr) stays → Any P (stay_lines n (filter (other_stay attr) stays)) → Any Q (stay_lines (n + 1) stays)
 any-behind P Q attr t n [] move behind others h = absurd (omega (arith, h.2))
 any-behind P Q attr t n (s ∷ stays) move behind others h =
-    elim (some-first P (line_of_stay n s) (stay_lines (n + 1) (filter (other_stay attr) stays)) (subst (λ (ss : List Stay). Any P (stay_lines n ss)) (stays_off attr s stays others.0) h)) [
+    elim (some-first P (line_of_stay n s) (stay_lines (n + 1) (filter (other_stay attr) stays)) (subst (λ (ss : List Stay). Any P (stay_lines n ss)) (filter-off attr s stays others.0) h)) [
       | inl x ↦ some-here Q (line_of_stay (n + 1) s) (stay_lines (n + 1 + 1) stays) (move n (n + 1) (line_of_stay n s) (inr (behind, refl)) (stay-far s.attr attr others.0) x)
       | inr i ↦ some-later Q (line_of_stay (n + 1) s) (stay_lines (n + 1 + 1) stays) (any-behind P Q attr t (n + 1) stays move (omega (arith, behind)) others.1 i)
     ]
@@ -283,11 +281,11 @@ any-stays P Q attr t n (s ∷ stays) move is apart h = elim (cases_eq s.attr att
   | inl e ↦
       let here : n ≡ t = sym (level-on attr n s stays e) ∙ is in
       some-later Q (line_of_stay n s) (stay_lines (n + 1) stays)
-      (any-behind P Q attr t n stays move (omega (arith, here)) (stays_behind attr s stays e apart) (subst (λ (ss : List Stay). Any P (stay_lines n ss)) (stays_on attr s stays e) h))
+      (any-behind P Q attr t n stays move (omega (arith, here)) (stays_behind attr s stays e apart) (subst (λ (ss : List Stay). Any P (stay_lines n ss)) (filter-on attr s stays e) h))
   | inr d ↦
       let later : level_of attr (n + 1) stays ≡ t = sym (level-off attr n s stays d) ∙ is in
       let before : n < t = omega (arith, later, level-above attr (n + 1) stays) in
-      elim (some-first P (line_of_stay n s) (stay_lines (n + 1) (filter (other_stay attr) stays)) (subst (λ (ss : List Stay). Any P (stay_lines n ss)) (stays_off attr s stays d) h)) [
+      elim (some-first P (line_of_stay n s) (stay_lines (n + 1) (filter (other_stay attr) stays)) (subst (λ (ss : List Stay). Any P (stay_lines n ss)) (filter-off attr s stays d) h)) [
         | inl x ↦ some-here Q (line_of_stay n s) (stay_lines (n + 1) stays) (move n n (line_of_stay n s) (inl (before, refl)) (stay-far s.attr attr d) x)
         | inr i ↦ some-later Q (line_of_stay n s) (stay_lines (n + 1) stays) (any-stays P Q attr t (n + 1) stays move later (tail_pairs (λ (s t : Stay). s.attr ≢ t.attr) s stays apart) i)
       ]
@@ -309,8 +307,8 @@ any-raise P Q attr p apart move =
 stays-far : (attr n : ℕ) (stays : List Stay) → Each (λ l. l.name ≢ StayOf attr) (stay_lines n (filter (other_stay attr) stays))
 stays-far attr n [] = tt
 stays-far attr n (s ∷ stays) = elim (cases_eq s.attr attr) [
-  | inl e ↦ subst (λ (ss : List Stay). Each (λ l. l.name ≢ StayOf attr) (stay_lines n ss)) (sym (stays_on attr s stays e)) (stays-far attr n stays)
-  | inr d ↦ subst (λ (ss : List Stay). Each (λ l. l.name ≢ StayOf attr) (stay_lines n ss)) (sym (stays_off attr s stays d)) (stay-far s.attr attr d, stays-far attr (n + 1) stays)
+  | inl e ↦ subst (λ (ss : List Stay). Each (λ l. l.name ≢ StayOf attr) (stay_lines n ss)) (sym (filter-on attr s stays e)) (stays-far attr n stays)
+  | inr d ↦ subst (λ (ss : List Stay). Each (λ l. l.name ≢ StayOf attr) (stay_lines n ss)) (sym (filter-off attr s stays d)) (stay-far s.attr attr d, stays-far attr (n + 1) stays)
 ]
 
 names-far : (attr : ℕ) (p : Problem) → Each (λ l. l.name ≢ StayOf attr) (lines (without_attr attr p))

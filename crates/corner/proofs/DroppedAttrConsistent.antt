@@ -42,7 +42,7 @@ attr_left_listed t attr old mid new first second = record {
   others = λ w has. first.others w (second.others w has);
 }
 
-abbrev is-held : RowName → Type 0
+abbrev pub is-held : RowName → Type 0
 is-held (Held id) = Unit {0}
 is-held (StayOf attr) = ⊥
 

@@ -1,5 +1,5 @@
 -- What the lists keep where an attribute that no row names is taken out.
-use Rattle.std.proofs.Common.{◌≡◌, ◌≢◌, ◌∙◌, ℕ, zero, suc, ◌+◌, ◌*◌, ◌^◌, ◌<◌, ◌≤◌, ◌++◌, Bool, true, false, cond, nat_eq, List, [], ◌∷◌, map, length, length-set, slice_set, refl, sym, ap, ap₂, subst, arith, inl, inr, ℤ, pos, ◌*ℤ◌, ◌+ℤ◌, ◌-ℤ◌, neg_ℤ, ne_eqb, eq-eqb, slice_index_or, All, Any, Some, None}
+use Rattle.std.proofs.Common.{◌≡◌, ◌≢◌, ◌∙◌, ℕ, zero, suc, ◌+◌, ◌*◌, ◌^◌, ◌<◌, ◌≤◌, ◌++◌, Bool, true, false, cond, nat_eq, List, [], ◌∷◌, map, length, length-set, slice_set, refl, sym, ap, ap₂, subst, arith, inl, inr, ℤ, pos, ◌*ℤ◌, ◌+ℤ◌, ◌-ℤ◌, neg_ℤ, ne_eqb, slice_index_or, All, Any, Some, None}
 use Rattle.std.specs.declared.option.Option.{Option}
 use Rattle.std.specs.List.{AllByRecursion as Each, filter}
 use Rattle.std.proofs.lemmas.Bool.{cases_eq, cases_lt}
@@ -20,7 +20,6 @@ use Rattle.problem_core.specs.declared.parts.Side.TheVariants.{Under, Over}
 use Rattle.problem_core.specs.declared.parts.Stay.{Stay}
 use Rattle.problem_core.specs.Kept.{IsStay, IsWhole}
 use Rattle.problem_core.specs.Layout.{HasStay, Line, Problem, Row, line_of_row, line_of_stay, lines, stay_lines}
-use Rattle.problem_core.specs.Window.{zero_fraction}
 use Rattle.problem_core.specs.Corners.{IsCorner, IsIn, attr_column, marks_of, place_of}
 use Rattle.problem_core.specs.Levels.{IsCostAt}
 use Rattle.problem_core.specs.Rays.{HasRays}
@@ -30,7 +29,7 @@ use Rattle.corner_laws.specs.Units.{IsLevelRow, over_share, under_share}
 use Rattle.corner_laws.proofs.LevelSizes.{no-over, no-under}
 use Rattle.corner_lines.specs.LineEquations.{IsLineEquation, IsOutsideLine, deviation, sign_of}
 use Rattle.corner_lines.specs.Removals.{IsFree, without_attr}
-use Rattle.corner_lines.proofs.DroppedAttr.{attr_left_attr, attr_left_corner, attr_left_inside, attr_left_rays, attr_none, line_none, stay-out}
+use Rattle.corner_lines.proofs.DroppedAttr.{attr_left_attr, attr_left_corner, attr_left_inside, attr_left_rays, attr_none, line_none, stay-out, filter-on, filter-off, other_stay}
 use Rattle.corner.specs.declared.table.Owner.{Owner}
 use Rattle.corner.specs.declared.table.Owner.TheVariants.{Level as LevelSlot, Attr as AttrSlot, Line as LineSlot}
 use Rattle.corner.specs.declared.table.Slot.{Slot}
@@ -43,29 +42,21 @@ use Rattle.corner.specs.Tables.{Lists, attr_slot, entry, is_side, line_slot, mar
 use Rattle.corner.specs.Views.{IsNamed}
 use Rattle.corner.proofs.AttrJoins.{own_name, own_stay, zero_kept}
 use Rattle.corner.proofs.AttrLevels.{stay_named}
-use Rattle.corner.proofs.DroppedAttrLevels.{attr_left_cost, attr_left_level, attr_left_unit, attr_level_none}
+use Rattle.corner.proofs.DroppedAttrLevels.{attr_left_cost, attr_left_level, attr_left_unit, attr_level_none, stays_part}
 use Rattle.corner.proofs.MarkFacts.{stands_inside}
 use Rattle.corner.proofs.PairFacts.{named_mark}
 use Rattle.corner.proofs.ReadFacts.{attr_equation}
 use Rattle.corner.proofs.SlotFacts.{any_is, named_slot}
 use Rattle.corner.proofs.WritingFacts.{attr_apart, attr_owner, lines_apart}
+use Rattle.corner.proofs.DroppedKept.{EquationBy, no_standing}
 
 -- ---- stays without one
-
-abbrev pub other_stay : ℕ → Stay → Bool
-other_stay attr s = cond (nat_eq s.attr attr) false true
-
-stay-on : (attr : ℕ) (s : Stay) (stays : List Stay) → s.attr ≡ attr → filter (other_stay attr) (s ∷ stays) ≡ filter (other_stay attr) stays
-stay-on attr s stays e = ap (λ (b : Bool). cond (cond b false true) (s ∷ filter (other_stay attr) stays) (filter (other_stay attr) stays)) (eq-eqb s.attr attr e)
-
-stay-off : (attr : ℕ) (s : Stay) (stays : List Stay) → s.attr ≢ attr → filter (other_stay attr) (s ∷ stays) ≡ s ∷ filter (other_stay attr) stays
-stay-off attr s stays n = ap (λ (b : Bool). cond (cond b false true) (s ∷ filter (other_stay attr) stays) (filter (other_stay attr) stays)) (ne_eqb s.attr attr n)
 
 stays-left : (P Q : Line → Type 0) (attr n k : ℕ) (stays : List Stay) → 1001 ≤ n → 1001 ≤ k → ((s : Stay) (i j : ℕ) → 1001 ≤ i → 1001 ≤ j → s.attr ≢ attr → P (line_of_stay i s) → Q (line_of_stay j s)) → Each P (stay_lines n stays) → Each Q (stay_lines k (filter (other_stay attr) stays))
 stays-left P Q attr n k [] up high f h = tt
 stays-left P Q attr n k (s ∷ stays) up high f h = elim (cases_eq s.attr attr) [
-  | inl e ↦ subst (λ (ss : List Stay). Each Q (stay_lines k ss)) (sym (stay-on attr s stays e)) (stays-left P Q attr (n + 1) k stays (omega (arith, up)) high f h.1)
-  | inr ne ↦ subst (λ (ss : List Stay). Each Q (stay_lines k ss)) (sym (stay-off attr s stays ne)) (f s n k up high ne h.0, stays-left P Q attr (n + 1) (k + 1) stays (omega (arith, up)) (omega (arith, high)) f h.1)
+  | inl e ↦ subst (λ (ss : List Stay). Each Q (stay_lines k ss)) (sym (filter-on attr s stays e)) (stays-left P Q attr (n + 1) k stays (omega (arith, up)) high f h.1)
+  | inr ne ↦ subst (λ (ss : List Stay). Each Q (stay_lines k ss)) (sym (filter-off attr s stays ne)) (f s n k up high ne h.0, stays-left P Q attr (n + 1) (k + 1) stays (omega (arith, up)) (omega (arith, high)) f h.1)
 ]
 
 rows-left : (P Q : Line → Type 0) (rows : List Row) (ls ms : List Line) → ((r : Row) → P (line_of_row r) → Q (line_of_row r)) → (Each P ls → Each Q ms) → Each P (map line_of_row rows ++ ls) → Each Q (map line_of_row rows ++ ms)
@@ -81,8 +72,8 @@ attr_lines P Q attr p f g h =
 each-stay : (P : Stay → Type 0) (attr : ℕ) (stays : List Stay) → Each P stays → Each (λ s. P s × (s.attr ≢ attr)) (filter (other_stay attr) stays)
 each-stay P attr [] h = tt
 each-stay P attr (s ∷ stays) h = elim (cases_eq s.attr attr) [
-  | inl e ↦ subst (λ (ss : List Stay). Each (λ s. P s × (s.attr ≢ attr)) ss) (sym (stay-on attr s stays e)) (each-stay P attr stays h.1)
-  | inr ne ↦ subst (λ (ss : List Stay). Each (λ s. P s × (s.attr ≢ attr)) ss) (sym (stay-off attr s stays ne)) ((h.0, ne), each-stay P attr stays h.1)
+  | inl e ↦ subst (λ (ss : List Stay). Each (λ s. P s × (s.attr ≢ attr)) ss) (sym (filter-on attr s stays e)) (each-stay P attr stays h.1)
+  | inr ne ↦ subst (λ (ss : List Stay). Each (λ s. P s × (s.attr ≢ attr)) ss) (sym (filter-off attr s stays ne)) ((h.0, ne), each-stay P attr stays h.1)
 ]
 
 all-stays : (P : Stay → Type 0) (attr : ℕ) (stays : List Stay) → All P stays → All (λ s. P s × (s.attr ≢ attr)) (filter (other_stay attr) stays)
@@ -99,15 +90,15 @@ first-stay a s stays less f (suc k, x, lt, is, h) = let i = f (k, x, omega (arit
 pub has_left : (attr a : ℕ) (stays : List Stay) → a ≢ attr → HasStay stays a → HasStay (filter (other_stay attr) stays) a
 has_left attr a [] ne (k, x, lt, e, is) = absurd (omega (arith, lt))
 has_left attr a (s ∷ stays) ne i = elim (cases_eq s.attr attr) [
-  | inl e ↦ subst (λ (ss : List Stay). HasStay ss a) (sym (stay-on attr s stays e)) (has_left attr a stays ne (past-stay attr a s stays ne e i))
-  | inr n ↦ subst (λ (ss : List Stay). HasStay ss a) (sym (stay-off attr s stays n)) (first-stay a s stays (filter (other_stay attr) stays) (has_left attr a stays ne) i)
+  | inl e ↦ subst (λ (ss : List Stay). HasStay ss a) (sym (filter-on attr s stays e)) (has_left attr a stays ne (past-stay attr a s stays ne e i))
+  | inr n ↦ subst (λ (ss : List Stay). HasStay ss a) (sym (filter-off attr s stays n)) (first-stay a s stays (filter (other_stay attr) stays) (has_left attr a stays ne) i)
 ]
 
 few-stays : (attr : ℕ) (stays : List Stay) → length (filter (other_stay attr) stays) ≤ length stays
 few-stays attr [] = omega arith
 few-stays attr (s ∷ stays) = elim (cases_eq s.attr attr) [
-  | inl e ↦ subst (λ (ss : List Stay). length ss ≤ suc (length stays)) (sym (stay-on attr s stays e)) (let h = few-stays attr stays in omega (arith, h))
-  | inr n ↦ subst (λ (ss : List Stay). length ss ≤ suc (length stays)) (sym (stay-off attr s stays n)) (let h = few-stays attr stays in omega (arith, h))
+  | inl e ↦ subst (λ (ss : List Stay). length ss ≤ suc (length stays)) (sym (filter-on attr s stays e)) (let h = few-stays attr stays in omega (arith, h))
+  | inr n ↦ subst (λ (ss : List Stay). length ss ≤ suc (length stays)) (sym (filter-off attr s stays n)) (let h = few-stays attr stays in omega (arith, h))
 ]
 
 attr-whole : (p : Problem) (attr : ℕ) → IsWhole p → IsFree p attr → IsWhole (without_attr attr p)
@@ -150,9 +141,6 @@ attr_drop t attr kept free =
           let m : Mark = record { row = StayOf attr; side = s } in
           stay-out (problem_of t) (marks_at t) attr s kept.whole kept.corner free (stands_inside t m (named_mark t m named) (ap (λ (o : Option Side). is_side o s) e ∙ side-true s)));
     }
-
-abbrev no_standing : Standing
-no_standing = record { side = None; value = zero_fraction }
 
 -- neither of its slots
 pub record IsApart (t : Lists) (attr c : ℕ) : Type 0 where
@@ -239,9 +227,6 @@ left-lines t attr =
     one-stay : (a b : ℕ) → StayOf a ≡ StayOf b → a ≡ b
     one-stay a b e = ap attr-in e
 
-line-is-apart : (t : Lists) (attr : ℕ) → IsAttrDrop t attr → All (λ l. IsApart t attr (line_slot t l.name)) (lines (without_attr attr (problem_of t)))
-line-is-apart t attr d i x lt = let h = left-lines t attr i x lt in line-apart t attr (slice_index_or (lines (without_attr attr (problem_of t))) i x).name d h.1 h.0
-
 -- ---- the marks
 
 two-marks : (f : Mark → Bool) (m n : Mark) (ms : List Mark) → f m ≡ false → f n ≡ false → filter f (m ∷ n ∷ ms) ≡ filter f ms
@@ -256,11 +241,11 @@ stays-marks : (f g : Mark → Bool) (attr n k : ℕ) (stays : List Stay) → ((s
 stays-marks f g attr n k [] none same = refl
 stays-marks f g attr n k (s ∷ stays) none same = elim (cases_eq s.attr attr) [
   | inl e ↦
-      ap (λ (ss : List Stay). filter g (marks_of (stay_lines k ss))) (stay-on attr s stays e) ∙ stays-marks f g attr (n + 1) k stays none same.1
+      ap (λ (ss : List Stay). filter g (marks_of (stay_lines k ss))) (filter-on attr s stays e) ∙ stays-marks f g attr (n + 1) k stays none same.1
       ∙ sym (two-marks f (record { row = StayOf s.attr; side = Under }) (record { row = StayOf s.attr; side = Over }) (marks_of (stay_lines (n + 1) stays))
       (ap (λ (a : ℕ). f (record { row = StayOf a; side = Under })) e ∙ none Under) (ap (λ (a : ℕ). f (record { row = StayOf a; side = Over })) e ∙ none Over))
   | inr ne ↦
-      ap (λ (ss : List Stay). filter g (marks_of (stay_lines k ss))) (stay-off attr s stays ne)
+      ap (λ (ss : List Stay). filter g (marks_of (stay_lines k ss))) (filter-off attr s stays ne)
       ∙ two-same f g (record { row = StayOf s.attr; side = Under }) (record { row = StayOf s.attr; side = Over }) (marks_of (stay_lines (n + 1) stays)) (marks_of (stay_lines (k + 1) (filter (other_stay attr) stays))) (same.0 ne Under) (same.0 ne Over)
       (stays-marks f g attr (n + 1) (k + 1) stays none same.1)
 ]
@@ -275,10 +260,6 @@ row-part : (P : Line → Type 0) (rows : List Row) (ls : List Line) → Each P (
 row-part P [] ls h = tt
 row-part P (r ∷ rows) ls h = (h.0, row-part P rows ls h.1)
 
-stay-part : (P : Line → Type 0) (rows : List Row) (ls : List Line) → Each P (map line_of_row rows ++ ls) → Each P ls
-stay-part P [] ls h = h
-stay-part P (r ∷ rows) ls h = stay-part P rows ls h.1
-
 stays-part : (P : RowName → Type 0) (n : ℕ) (stays : List Stay) → Each (λ l. P l.name) (stay_lines n stays) → Each (λ (s : Stay). P (StayOf s.attr)) stays
 stays-part P n [] h = tt
 stays-part P n (s ∷ stays) h = (h.0, stays-part P (n + 1) stays h.1)
@@ -289,7 +270,7 @@ attr_drop_marks t attr d =
     (each-impl (λ (r : Row). IsNamed (problem_of t) (Held r.id)) _ t.rows (λ r named side. side-same (Held r.id) side (row-not r.id attr) named) (row-part (λ l. IsNamed (problem_of t) l.name) t.rows (stay_lines 1001 t.stays) names))
     (stays-marks (stands_in t) (stands_in (dropped_attr t attr)) attr 1001 1001 t.stays (λ side. ap (λ (o : Option Side). is_side o side) d.outside)
     (each-impl (λ (s : Stay). IsNamed (problem_of t) (StayOf s.attr)) _ t.stays (λ s named ne side. side-same (StayOf s.attr) side (λ e. ne (ap attr-in e)) named)
-    (stays-part (IsNamed (problem_of t)) 1001 t.stays (stay-part (λ l. IsNamed (problem_of t) l.name) t.rows (stay_lines 1001 t.stays) names))))
+    (stays-part (IsNamed (problem_of t)) 1001 t.stays (stays_part (λ l. IsNamed (problem_of t) l.name) t.rows (stay_lines 1001 t.stays) names))))
   where
     names : Each (λ l. IsNamed (problem_of t) l.name) (lines (problem_of t))
     names = recursion_from_All (λ l. IsNamed (problem_of t) l.name) (lines (problem_of t)) (own_name (lines (problem_of t)))
@@ -325,8 +306,8 @@ first-line name l m ls ms e f (suc i, x, lt, is, h) = let j = f (i, x, omega (ar
 stays-named : (name : RowName) (attr n k : ℕ) (stays : List Stay) → name ≢ StayOf attr → Any (λ l. l.name ≡ name) (stay_lines n stays) → Any (λ l. l.name ≡ name) (stay_lines k (filter (other_stay attr) stays))
 stays-named name attr n k [] ne (i, x, lt, e, h) = absurd (omega (arith, lt))
 stays-named name attr n k (s ∷ stays) ne i = elim (cases_eq s.attr attr) [
-  | inl e ↦ subst (λ (xs : List Stay). Any (λ l. l.name ≡ name) (stay_lines k xs)) (sym (stay-on attr s stays e)) (stays-named name attr (n + 1) k stays ne (past-line name attr n s (stay_lines (n + 1) stays) ne e i))
-  | inr ne2 ↦ subst (λ (xs : List Stay). Any (λ l. l.name ≡ name) (stay_lines k xs)) (sym (stay-off attr s stays ne2))
+  | inl e ↦ subst (λ (xs : List Stay). Any (λ l. l.name ≡ name) (stay_lines k xs)) (sym (filter-on attr s stays e)) (stays-named name attr (n + 1) k stays ne (past-line name attr n s (stay_lines (n + 1) stays) ne e i))
+  | inr ne2 ↦ subst (λ (xs : List Stay). Any (λ l. l.name ≡ name) (stay_lines k xs)) (sym (filter-off attr s stays ne2))
       (first-line name (line_of_stay n s) (line_of_stay k s) (stay_lines (n + 1) stays) (stay_lines (k + 1) (filter (other_stay attr) stays)) refl (stays-named name attr (n + 1) (k + 1) stays ne) i)
 ]
 
@@ -420,10 +401,6 @@ attr-stored t attr d = record {
     empty-at c (there off) up free = attr_row_same t attr c off ∙ d.kept.stored.empty c up (sym (ap (λ (x : Slot). x.owner) (attr_slot_same t attr c off)) ∙ free)
 
 -- ---- rows
-
-abbrev EquationBy : Lists → Problem → List Mark → ((ℕ → ℤ) → ℤ) → ℕ → List Term → ℤ → ℕ → Type 0
-EquationBy t p at quantity w row num den = (own : ℕ) × (coefficient w row ≡ pos own)
-    × IsLineEquation p at quantity own (λ name. cond (nat_eq (line_slot t name) w) (pos 0) (neg_ℤ (coefficient (line_slot t name) row))) num den
 
 equation-left : (t : Lists) (attr : ℕ) (quantity : (ℕ → ℤ) → ℤ) (w : ℕ) (num : ℤ) (den : ℕ) → IsAttrDrop t attr → IsApart t attr w
     → ((own : ℕ) → IsLineEquation (problem_of t) (marks_at t) quantity own (number t w) num den → IsLineEquation (without_attr attr (problem_of t)) (marks_at t) quantity own (number t w) num den)

@@ -1,11 +1,10 @@
 -- The levels of rows, where an attribute that no row names is taken out.
-use Rattle.std.proofs.Common.{◌≡◌, ◌≢◌, ◌∙◌, ℕ, zero, suc, ◌+◌, ◌*◌, ◌/◌, ◌<◌, ◌++◌, Bool, true, false, cond, nat_eq, List, [], ◌∷◌, filter, map, ℤ, pos, ◌+ℤ◌, ◌*ℤ◌, neg_ℤ, unsigned_abs, ne_eqb, eq-eqb, refl, sym, ap, ap₂, subst, arith, inl, inr, All, AllPairs, Contains}
+use Rattle.std.proofs.Common.{◌≡◌, ◌≢◌, ◌∙◌, ℕ, zero, suc, ◌+◌, ◌*◌, ◌/◌, ◌<◌, ◌++◌, Bool, cond, List, [], ◌∷◌, filter, map, ℤ, pos, ◌+ℤ◌, ◌*ℤ◌, neg_ℤ, unsigned_abs, ne_eqb, eq-eqb, refl, sym, ap, ap₂, subst, arith, inl, inr, All, AllPairs, Contains}
 use Rattle.std.specs.Int.{◌∣◌}
 use Rattle.std.specs.List.{AllByRecursion as Each}
 use Rattle.std.proofs.lemmas.Bool.{cases_eq}
 use Rattle.std.proofs.lemmas.Nat.Gcd.{dvd-zero}
 use Rattle.std.proofs.lemmas.List.Elements.{recursion_from_All, All-from_recursion}
-use borrow.Author.Differences.{ints}
 use Rattle.frac_core.specs.Fraction.{Fraction}
 use Rattle.frac_core.proofs.Integers.{add-zero_ℤ, mul-zero_ℤ, zero-add_ℤ, zero-mul_ℤ}
 use Rattle.problem_core.specs.declared.parts.Mark.{Mark}
@@ -14,7 +13,6 @@ use Rattle.problem_core.specs.declared.parts.RowName.{RowName}
 use Rattle.problem_core.specs.declared.parts.RowName.TheVariants.{Held, Stay as StayOf}
 use Rattle.problem_core.specs.declared.parts.Side.TheVariants.{Under, Over}
 use Rattle.problem_core.specs.declared.parts.Stay.{Stay}
-use Rattle.problem_core.specs.declared.parts.Term.{Term}
 use Rattle.problem_core.specs.Certificates.{over_weight, under_weight, weight_at}
 use Rattle.problem_core.specs.Kept.{IsWhole}
 use Rattle.problem_core.specs.Layout.{HasStay, Line, Problem, Row, coefficient, line_of_row, line_of_stay, lines, product_of, stay_lines, sum_of, value_at}
@@ -24,21 +22,14 @@ use Rattle.problem_core.proofs.Forms.{each-impl}
 use Rattle.corner_laws.specs.Units.{IsLevelRow, IsLevelUnit, over_share, under_share}
 use Rattle.corner_laws.proofs.ColumnsStay.{each_marks}
 use Rattle.corner_laws.proofs.Counting.{head_pairs, tail_pairs}
-use Rattle.corner_laws.proofs.LevelSizes.{over-zero, under-zero}
 use Rattle.corner_laws.proofs.WrittenValues.{nothing_outside}
-use Rattle.corner_laws.proofs.ZeroColumns.{here-in}
+use Rattle.corner_laws.proofs.ZeroColumns.{here-in, over-none, under-none}
 use Rattle.corner_lines.specs.Removals.{IsFree, without_attr}
+use Rattle.corner_lines.proofs.DroppedAttr.{filter-on, filter-off, other_stay}
+use Rattle.corner.proofs.AttrColumns.{absent, one_time}
+use Rattle.corner.proofs.DroppedLevels.{no-weight}
 
 -- ---- the lines without the stay
-
-abbrev pub other_stay : ℕ → Stay → Bool
-other_stay attr s = cond (nat_eq s.attr attr) false true
-
-pub stays_on : (attr : ℕ) (s : Stay) (stays : List Stay) → s.attr ≡ attr → filter (other_stay attr) (s ∷ stays) ≡ filter (other_stay attr) stays
-stays_on attr s stays e = ap (λ (b : Bool). cond (cond b false true) (s ∷ filter (other_stay attr) stays) (filter (other_stay attr) stays)) (eq-eqb s.attr attr e)
-
-pub stays_off : (attr : ℕ) (s : Stay) (stays : List Stay) → s.attr ≢ attr → filter (other_stay attr) (s ∷ stays) ≡ s ∷ filter (other_stay attr) stays
-stays_off attr s stays n = ap (λ (b : Bool). cond (cond b false true) (s ∷ filter (other_stay attr) stays) (filter (other_stay attr) stays)) (ne_eqb s.attr attr n)
 
 pub swap_stays : (P : Line → Type 0) (rows : List Row) (ls ms : List Line) → Each P (map line_of_row rows ++ ls) → Each P ms → Each P (map line_of_row rows ++ ms)
 swap_stays P [] ls ms h k = k
@@ -55,16 +46,16 @@ Moves k P = (i j : ℕ) (s : Stay) → k < i → k < j → P (line_of_stay i s) 
 stays-left : (P : Line → Type 0) (k attr n m : ℕ) (stays : List Stay) → Moves k P → k < n → k < m → Each P (stay_lines n stays) → Each P (stay_lines m (filter (other_stay attr) stays))
 stays-left P k attr n m [] move first second h = tt
 stays-left P k attr n m (s ∷ stays) move first second h = elim (cases_eq s.attr attr) [
-  | inl e ↦ subst (λ (ss : List Stay). Each P (stay_lines m ss)) (sym (stays_on attr s stays e)) (stays-left P k attr (n + 1) m stays move (omega (arith, first)) second h.1)
-  | inr d ↦ subst (λ (ss : List Stay). Each P (stay_lines m ss)) (sym (stays_off attr s stays d)) (move n m s first second h.0, stays-left P k attr (n + 1) (m + 1) stays move (omega (arith, first)) (omega (arith, second)) h.1)
+  | inl e ↦ subst (λ (ss : List Stay). Each P (stay_lines m ss)) (sym (filter-on attr s stays e)) (stays-left P k attr (n + 1) m stays move (omega (arith, first)) second h.1)
+  | inr d ↦ subst (λ (ss : List Stay). Each P (stay_lines m ss)) (sym (filter-off attr s stays d)) (move n m s first second h.0, stays-left P k attr (n + 1) (m + 1) stays move (omega (arith, first)) (omega (arith, second)) h.1)
 ]
 
 stays-back : (P : Line → Type 0) (k attr n m : ℕ) (stays : List Stay) → Moves k P → ((i : ℕ) (s : Stay) → s.attr ≡ attr → k < i → P (line_of_stay i s)) → k < n → k < m → Each P (stay_lines m (filter (other_stay attr) stays)) → Each P (stay_lines n stays)
 stays-back P k attr n m [] move own first second h = tt
 stays-back P k attr n m (s ∷ stays) move own first second h = elim (cases_eq s.attr attr) [
-  | inl e ↦ (own n s e first, stays-back P k attr (n + 1) m stays move own (omega (arith, first)) second (subst (λ (ss : List Stay). Each P (stay_lines m ss)) (stays_on attr s stays e) h))
+  | inl e ↦ (own n s e first, stays-back P k attr (n + 1) m stays move own (omega (arith, first)) second (subst (λ (ss : List Stay). Each P (stay_lines m ss)) (filter-on attr s stays e) h))
   | inr d ↦
-      let l : Each P (stay_lines m (s ∷ filter (other_stay attr) stays)) = subst (λ (ss : List Stay). Each P (stay_lines m ss)) (stays_off attr s stays d) h in
+      let l : Each P (stay_lines m (s ∷ filter (other_stay attr) stays)) = subst (λ (ss : List Stay). Each P (stay_lines m ss)) (filter-off attr s stays d) h in
       (move m n s second first l.0, stays-back P k attr (n + 1) (m + 1) stays move own (omega (arith, first)) (omega (arith, second)) l.1)
 ]
 
@@ -86,16 +77,13 @@ weightless i k s above = ap (λ (b : Bool). cond b 1 0) (ne_eqb i k (λ e. absur
 same-weight : (i j k : ℕ) (s : Stay) → k < i → k < j → weight_at (line_of_stay i s) k ≡ weight_at (line_of_stay j s) k
 same-weight i j k s a b = weightless i k s a ∙ sym (weightless j k s b)
 
-no-times : (n w : ℕ) → w ≡ 0 → n * w ≡ 0
-no-times n w e = ap (λ (v : ℕ). n * v) e ∙ omega arith
-
 -- ---- the unit
 
 unit-moves : (n k : ℕ) → Moves k (λ l. l.scale ∣ n * weight_at l k)
 unit-moves n k i j s a b h = subst (λ (w : ℕ). 1 ∣ n * w) (same-weight i j k s a b) h
 
 unit-own : (n k attr i : ℕ) (s : Stay) → s.attr ≡ attr → k < i → 1 ∣ n * weight_at (line_of_stay i s) k
-unit-own n k attr i s e above = subst (λ (m : ℕ). 1 ∣ m) (sym (no-times n (weight_at (line_of_stay i s) k) (weightless i k s above))) (dvd-zero 1)
+unit-own n k attr i s e above = subst (λ (m : ℕ). 1 ∣ m) (sym (no-weight n (weight_at (line_of_stay i s) k) (weightless i k s above))) (dvd-zero 1)
 
 pub attr_left_unit : (p : Problem) (attr k unit : ℕ) → k < 1001 → IsLevelUnit p k unit → IsLevelUnit (without_attr attr p) k unit
 attr_left_unit p attr k unit below is = record {
@@ -119,10 +107,10 @@ stays-sum by v attr n m (s ∷ stays) none = elim (cases_eq s.attr attr) [
       (ap (λ (a : ℕ). by (StayOf a) *ℤ coefficient v (line_of_stay n s).form) e ∙ ap (λ (z : ℤ). z *ℤ coefficient v (line_of_stay n s).form) none ∙ zero-mul_ℤ (coefficient v (line_of_stay n s).form))
       (stays-sum by v attr (n + 1) m stays none)
       ∙ zero-add_ℤ (taken_sum by v (stay_lines m (filter (other_stay attr) stays)))
-      ∙ ap (λ (ss : List Stay). taken_sum by v (stay_lines m ss)) (sym (stays_on attr s stays e))
+      ∙ ap (λ (ss : List Stay). taken_sum by v (stay_lines m ss)) (sym (filter-on attr s stays e))
   | inr d ↦
       ap (λ (z : ℤ). by (StayOf s.attr) *ℤ coefficient v (line_of_stay n s).form +ℤ z) (stays-sum by v attr (n + 1) (m + 1) stays none)
-      ∙ ap (λ (ss : List Stay). taken_sum by v (stay_lines m ss)) (sym (stays_off attr s stays d))
+      ∙ ap (λ (ss : List Stay). taken_sum by v (stay_lines m ss)) (sym (filter-off attr s stays d))
 ]
 
 rows-sum : (f : Line → ℤ) (rows : List Row) (ls ms : List Line) → sum_of f ls ≡ sum_of f ms → sum_of f (map line_of_row rows ++ ls) ≡ sum_of f (map line_of_row rows ++ ms)
@@ -136,14 +124,6 @@ attr_sum by v attr p none =
     (stays-sum by v attr 1001 1001 p.stays none)
 
 -- ---- the stay of an attribute that no row names is taken no times
-
-absent : (v : ℕ) (form : List Term) → All (λ e. e.attr ≢ v) form → coefficient v form ≡ pos 0
-absent v [] h = refl
-absent v (e ∷ es) h =
-    ap₂ (λ (b : Bool) (z : ℤ). cond b e.by (pos 0) +ℤ z) (ne_eqb e.attr v (h zero e (omega arith))) (absent v es (λ k x lt. h (suc k) x (omega (arith, lt))))
-
-one-time : (z : ℤ) → z *ℤ (pos 1 +ℤ pos 0) ≡ z
-one-time z = omega (arith, ints)
 
 rows-none : (by : RowName → ℤ) (attr : ℕ) (rows : List Row) (ls : List Line) → All (λ (r : Row). All (λ t. t.attr ≢ attr) r.terms) rows → taken_sum by attr (map line_of_row rows ++ ls) ≡ taken_sum by attr ls
 rows-none by attr [] ls free = refl
@@ -171,7 +151,7 @@ own-stay by attr n [] apart h = absurd (omega (arith, h.2))
 own-stay by attr n (s ∷ stays) apart h = elim (cases_eq s.attr attr) [
   | inl e ↦
       ap₂ (λ (x y : ℤ). x +ℤ y)
-      (ap (λ (b : Bool). by (StayOf s.attr) *ℤ (cond b (pos 1) (pos 0) +ℤ pos 0)) (eq-eqb s.attr attr e) ∙ one-time (by (StayOf s.attr)) ∙ ap (λ (a : ℕ). by (StayOf a)) e)
+      (ap (λ (b : Bool). by (StayOf s.attr) *ℤ (cond b (pos 1) (pos 0) +ℤ pos 0)) (eq-eqb s.attr attr e) ∙ one_time (by (StayOf s.attr)) ∙ ap (λ (a : ℕ). by (StayOf a)) e)
       (others-none by attr (n + 1) stays (stays_behind attr s stays e apart))
       ∙ add-zero_ℤ (by (StayOf attr))
   | inr d ↦
@@ -230,8 +210,8 @@ same-scales attr p =
 
 free-cost : (q level : ℕ) (x : ℕ → ℤ) (l : Line) → weight_at l level ≡ 0 → pos q *ℤ line_cost level x l ≡ pos 0
 free-cost q level x l e =
-    let u : under_weight l.rel (weight_at l level) ≡ 0 = ap (under_weight l.rel) e ∙ under-zero l.rel in
-    let o : over_weight l.rel (weight_at l level) ≡ 0 = ap (over_weight l.rel) e ∙ over-zero l.rel in
+    let u : under_weight l.rel (weight_at l level) ≡ 0 = ap (under_weight l.rel) e ∙ under-none l.rel in
+    let o : over_weight l.rel (weight_at l level) ≡ 0 = ap (over_weight l.rel) e ∙ over-none l.rel in
     ap (λ (z : ℤ). pos q *ℤ z)
     (ap₂ (λ (y z : ℤ). y +ℤ z) (ap (λ (w : ℕ). pos w *ℤ x (place_of l.name Under)) u ∙ zero-mul_ℤ (x (place_of l.name Under))) (ap (λ (w : ℕ). pos w *ℤ x (place_of l.name Over)) o ∙ zero-mul_ℤ (x (place_of l.name Over))))
     ∙ mul-zero_ℤ (pos q)

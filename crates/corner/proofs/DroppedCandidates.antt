@@ -7,8 +7,6 @@ use Rattle.std.proofs.lemmas.List.Elements.{All-from_recursion, recursion_from_A
 use borrow.Author.Differences.{ints}
 use Rattle.frac_core.proofs.Integers.{mul-zero_ℤ, zero-mul_ℤ}
 use Rattle.problem_core.specs.declared.parts.Mark.{Mark}
-use Rattle.problem_core.specs.declared.parts.Rel.{Rel}
-use Rattle.problem_core.specs.declared.parts.Rel.TheVariants.{Eq, Le, Ge}
 use Rattle.problem_core.specs.declared.parts.RowName.{RowName}
 use Rattle.problem_core.specs.declared.parts.RowName.TheVariants.{Held}
 use Rattle.problem_core.specs.declared.parts.Side.{Side}
@@ -19,7 +17,6 @@ use Rattle.problem_core.specs.Layout as layout
 use Rattle.problem_core.specs.Certificates.{Multipliers, over_weight, under_weight, weight_at}
 use Rattle.problem_core.specs.Corners.{AreMultipliersAt, HasNegativeColumn, IsIn, IsLexNegative, column, place, place_of}
 use Rattle.problem_core.proofs.Forms.{each-both, each-impl}
-use Rattle.corner_laws.proofs.LinePlaces.{sum-each}
 use Rattle.corner_lines.specs.LevelRows.{IsPivot}
 use Rattle.corner_lines.specs.Removals.{without_row}
 use Rattle.corner_lines.proofs.LevelExchanges.{by-sides}
@@ -29,7 +26,10 @@ use Rattle.corner.specs.JoinedLists.{IsFreeRow}
 use Rattle.corner.specs.LevelNumbers.{side_share}
 use Rattle.corner.proofs.ColumnReturns.{factor_of, leaving-column, name-cases, negative-line, returned, unmoved-column}
 use Rattle.corner.proofs.DroppedLevels.{lines_back, sum_without}
-use Rattle.corner.proofs.LeftLists.{in_left, left_far, other_row}
+use Rattle.corner.proofs.LeftLists.{in_left, left_far}
+use Rattle.problem_core.proofs.Conflicts.{sum-each}
+use Rattle.corner.proofs.JoinedCandidates.{free-side, times-none}
+use Rattle.corner_lines.proofs.Dropped.{other_row}
 
 -- the multipliers with 0 at the row
 abbrev but : ℕ → Multipliers → Multipliers
@@ -49,17 +49,6 @@ column-other id m Under l level ne = ap (λ (z : ℤ). pos (m.scale level * unde
 column-other id m Over l level ne = ap (λ (z : ℤ). pos (m.scale level * over_weight l.rel (weight_at l level)) +ℤ pos l.scale *ℤ z) (but-other id m level l.name ne)
 
 -- ---- the row's own mark
-
-free-side : (rel : Rel) (side : Side) (n : ℕ) → side_share rel side 1 ≡ 0 → side_share rel side n ≡ 0
-free-side Eq Under n e = absurd (omega (arith, e))
-free-side Eq Over n e = absurd (omega (arith, e))
-free-side Le Under n e = refl
-free-side Le Over n e = absurd (omega (arith, e))
-free-side Ge Under n e = absurd (omega (arith, e))
-free-side Ge Over n e = refl
-
-times-none : (k n : ℕ) → n ≡ 0 → k * n ≡ 0
-times-none k n e = ap (λ (x : ℕ). k * x) e ∙ omega arith
 
 less-none : (n : ℕ) (z : ℤ) → n ≡ 0 → z ≡ pos 0 → pos n -ℤ z ≡ pos 0
 less-none n z e h = omega (arith, ints, e, h)
@@ -173,9 +162,6 @@ free-multipliers p at r m only free is = record {
 }
 
 -- ---- where the mark's line doesn't stand in the row
-
-abbrev most : Row → ℕ → ℕ
-most r own = r.scale * own
 
 above-both : (a b : ℕ) → 0 < a → 0 < b → 0 < a * b
 above-both zero b x y = absurd (omega (arith, x))

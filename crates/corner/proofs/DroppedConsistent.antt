@@ -33,7 +33,8 @@ use Rattle.corner.specs.Leaving.{IsLeaver, marks_left, problem_left}
 use Rattle.corner.specs.LevelNumbers.{side_share}
 use Rattle.corner.specs.Tables.{Lists, entry, line_slot, lists_of, marks_at, number, problem_of, row_at, slot_at, standing_at}
 use Rattle.corner.specs.Views.{AreCandidates, IsNamed, IsOutside}
-use Rattle.corner.proofs.CandidatesAfter.{other-line, row-none}
+use Rattle.corner.proofs.CandidatesAfter.{row-none}
+use Rattle.corner_lines.proofs.OtherNumbers.{other-number}
 use Rattle.corner.proofs.CornerAttrs.{not_zero}
 use Rattle.corner.proofs.DroppedCandidates.{left_negative}
 use Rattle.corner.proofs.DroppedKept.{IsDrop, IsGoing, drop-slot-count, drop_kept, drop_marks, drop_slot_same, left-named, named-left, one-row}
@@ -47,12 +48,9 @@ use Rattle.corner.proofs.ReadFacts.{is_some, mark_named, named_in}
 use Rattle.corner.proofs.RowEquations.{line-owned}
 use Rattle.corner.proofs.SlotFacts.{any_is, named_slot}
 use Rattle.corner.proofs.WritingFacts.{line_owner, lines_apart}
+use Rattle.corner.proofs.DroppedAttrConsistent.{is-held}
 
 -- ---- names
-
-abbrev is-held : RowName → Type 0
-is-held (Held id) = Unit {0}
-is-held (StayOf attr) = ⊥
 
 stay-not : (a id : ℕ) → StayOf a ≡ Held id → ⊥
 stay-not a id e = subst is-held (sym e) tt
@@ -172,7 +170,7 @@ drop-candidate t leaver left r old new m d is listed before out negative =
       | inr all ↦
           none-else (entry t leaver.line (line_slot t m.row)) (Contains (names_of (dropped t leaver left) new) m.row) (decide_zero (entry t leaver.line (line_slot t m.row)))
           (λ e. still (left_negative p at r leaver.side h.own (line_numbers (Held r.id) h.own (number t leaver.line)) m h.scale h.only h.no_other h.pivot
-          (inr (other-line (Held r.id) h.own (number t leaver.line) m.row (λ q. both.1 (q ∙ ap Held (sym is.id_is))) ∙ row-none (nat_eq (line_slot t m.row) leaver.line) (entry t leaver.line (line_slot t m.row)) e)) low))
+          (inr (other-number (Held r.id) h.own (number t leaver.line) m.row (λ q. both.1 (q ∙ ap Held (sym is.id_is))) ∙ row-none (nat_eq (line_slot t m.row) leaver.line) (entry t leaver.line (line_slot t m.row)) e)) low))
           (λ some. new-name t leaver left new m.row d both.0 off
           (all (line_slot t m.row) (named_slot t m.row g.kept.slots both.0).0 off ((number_at_column (line_slot t m.row) (row_at t leaver.line) (row_kept t leaver.line g.kept)).0 some)))
     ]

@@ -1,5 +1,5 @@
 -- What the lists keep where a row is taken out.
-use Rattle.std.proofs.Common.{◌≡◌, ◌≢◌, ◌∙◌, ℕ, zero, suc, ◌-◌, ◌*◌, ◌^◌, ◌<◌, ◌≤◌, ◌++◌, Bool, true, false, cond, nat_eq, List, [], ◌∷◌, map, length, length-set, slice_set, refl, sym, ap, ap₂, subst, arith, inl, inr, ℤ, pos, ◌*ℤ◌, ◌+ℤ◌, ◌-ℤ◌, neg_ℤ, ne_eqb, eq-eqb, slice_index_or, All, AllPairs, Any, Some, None}
+use Rattle.std.proofs.Common.{◌≡◌, ◌≢◌, ◌∙◌, ℕ, zero, suc, ◌-◌, ◌*◌, ◌^◌, ◌<◌, ◌≤◌, ◌++◌, Bool, true, false, cond, nat_eq, List, [], ◌∷◌, map, length, length-set, slice_set, refl, sym, ap, ap₂, subst, arith, inl, inr, ℤ, pos, ◌*ℤ◌, ◌+ℤ◌, ◌-ℤ◌, neg_ℤ, ne_eqb, slice_index_or, All, AllPairs, Any, Some, None}
 use Rattle.std.specs.declared.option.Option.{Option}
 use Rattle.std.specs.List.{AllByRecursion as Each, filter}
 use Rattle.std.proofs.lemmas.Bool.{cases_eq, cases_lt}
@@ -16,7 +16,7 @@ use Rattle.problem_core.specs.declared.parts.RowName.TheVariants.{Held, Stay as 
 use Rattle.problem_core.specs.declared.parts.Side.{Side}
 use Rattle.problem_core.specs.declared.parts.Side.TheVariants.{Under, Over}
 use Rattle.problem_core.specs.declared.parts.Stay.{Stay}
-use Rattle.problem_core.specs.Begins.{is_one_of, is_row, without_marks}
+use Rattle.problem_core.specs.Begins.{is_one_of, without_marks}
 use Rattle.problem_core.specs.Certificates.{weight_at}
 use Rattle.problem_core.specs.Layout.{HasStay, Line, Problem, Row, line_of_row, lines, stay_lines}
 use Rattle.problem_core.specs.Window.{zero_fraction}
@@ -27,7 +27,7 @@ use Rattle.problem_core.proofs.Forms.{each-impl}
 use Rattle.corner_laws.specs.Units.{IsLevelRow, over_share, under_share}
 use Rattle.corner_lines.specs.LevelJoins.{level_count}
 use Rattle.corner_lines.specs.LineEquations.{IsLineEquation, IsOutsideLine, deviation, sign_of}
-use Rattle.corner_lines.proofs.Dropped.{attr_without, deviation_without, left_corner, left_line, left_rays}
+use Rattle.corner_lines.proofs.Dropped.{attr_without, deviation_without, left_corner, left_line, left_rays, row-on, row-off, filter-on, filter-off, other_row}
 use Rattle.corner.specs.declared.leaving.Leaver.{Leaver}
 use Rattle.corner.specs.declared.leaving.Left.{Left}
 use Rattle.corner.specs.declared.table.Owner.{Owner}
@@ -46,7 +46,7 @@ use Rattle.corner.proofs.AttrJoins.{own_name, own_stay, zero_kept}
 use Rattle.corner.proofs.LevelSwaps.{decide_zero}
 use Rattle.corner.proofs.AttrLevels.{stay_named}
 use Rattle.corner.proofs.DroppedLevels.{CountsNothing, other_cost, other_row_is, other_unit}
-use Rattle.corner.proofs.LeftLists.{all_left, left_far, left_whole_problem, other_row, outside_back}
+use Rattle.corner.proofs.LeftLists.{all_left, left_far, left_whole_problem, outside_back}
 use Rattle.corner.proofs.MarkFacts.{stands_inside}
 use Rattle.corner.proofs.MovedFacts.{none_some}
 use Rattle.corner.proofs.PairFacts.{named_mark, side-stands}
@@ -121,7 +121,7 @@ pub record IsDrop (t : Lists) (leaver : Leaver) (left : Left) : Type 0 where
   pub going : IsGoing t leaver
   pub level : IsLevelLeft t leaver left
 
-abbrev no_standing : Standing
+abbrev pub no_standing : Standing
 no_standing = record { side = None; value = zero_fraction }
 
 pub high : (w l : ℕ) → LEVELS ≤ w → l < LEVELS → w ≢ l
@@ -204,20 +204,6 @@ attr-high t leaver attr g has = high (attr_slot t attr) leaver.level (attr-slot 
 
 -- ---- the marks
 
-mark-kept : ℕ → Mark → Bool
-mark-kept id m = cond (is_one_of (id ∷ []) m.row) false true
-
-row-on : (id : ℕ) (name : RowName) → name ≡ Held id → is_row id name ≡ true
-row-on id name e = ap (is_row id) e ∙ eq-eqb id id refl
-
-held-number : RowName → ℕ
-held-number (Held n) = n
-held-number (StayOf a) = 0
-
-row-off : (id : ℕ) (name : RowName) → name ≢ Held id → is_row id name ≡ false
-row-off id (Held n) ne = ne_eqb n id (λ e. ne (ap Held e))
-row-off id (StayOf a) ne = refl
-
 twice : (f : Mark → Bool) (id : ℕ) (m : Mark) (b : Bool) (ms : List Mark) → without_marks (id ∷ []) (cond b (m ∷ ms) ms) ≡ cond b (cond (cond (is_one_of (id ∷ []) m.row) false true) (m ∷ without_marks (id ∷ []) ms) (without_marks (id ∷ []) ms)) (without_marks (id ∷ []) ms)
 twice f id m true ms = refl
 twice f id m false ms = refl
@@ -245,12 +231,6 @@ marks-same f g id (l ∷ ls) h =
     let o : Mark = record { row = l.name; side = Over } in
     ap₂ (λ (b : Bool) (ms : List Mark). cond b (u ∷ ms) ms) (h.0.1 Under) (ap₂ (λ (b : Bool) (ms : List Mark). cond b (o ∷ ms) ms) (h.0.1 Over) rest ∙ sym (mark-off f id o (marks_of ls) h.0.0))
     ∙ sym (mark-off f id u (o ∷ marks_of ls) h.0.0)
-
-filter-on : (id : ℕ) (r : Row) (rows : List Row) → r.id ≡ id → filter (other_row id) (r ∷ rows) ≡ filter (other_row id) rows
-filter-on id r rows e = ap (λ (b : Bool). cond (cond b false true) (r ∷ filter (other_row id) rows) (filter (other_row id) rows)) (eq-eqb r.id id e)
-
-filter-off : (id : ℕ) (r : Row) (rows : List Row) → r.id ≢ id → filter (other_row id) (r ∷ rows) ≡ r ∷ filter (other_row id) rows
-filter-off id r rows n = ap (λ (b : Bool). cond (cond b false true) (r ∷ filter (other_row id) rows) (filter (other_row id) rows)) (ne_eqb r.id id n)
 
 marks-gone : (f g : Mark → Bool) (id : ℕ) (rows : List Row) (ls : List Line) → Each (λ l. (l.name ≢ Held id) × ((side : Side) → g (record { row = l.name; side = side }) ≡ f (record { row = l.name; side = side }))) (map line_of_row (filter (other_row id) rows) ++ ls)
     → filter g (marks_of (map line_of_row (filter (other_row id) rows) ++ ls)) ≡ without_marks (id ∷ []) (filter f (marks_of (map line_of_row rows ++ ls)))
@@ -368,7 +348,7 @@ drop-stored t leaver left d = record {
 -- ---- equations
 
 -- an equation by its row
-abbrev EquationBy : Lists → Problem → List Mark → ((ℕ → ℤ) → ℤ) → ℕ → List Term → ℤ → ℕ → Type 0
+abbrev pub EquationBy : Lists → Problem → List Mark → ((ℕ → ℤ) → ℤ) → ℕ → List Term → ℤ → ℕ → Type 0
 EquationBy t p at quantity w row num den = (own : ℕ) × (coefficient w row ≡ pos own)
     × IsLineEquation p at quantity own (λ name. cond (nat_eq (line_slot t name) w) (pos 0) (neg_ℤ (coefficient (line_slot t name) row))) num den
 

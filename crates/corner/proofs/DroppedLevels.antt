@@ -4,17 +4,16 @@ use Rattle.std.specs.Int.{◌∣◌}
 use Rattle.std.specs.List.{AllByRecursion as Each}
 use Rattle.std.proofs.lemmas.Bool.{cases_eq}
 use Rattle.std.proofs.lemmas.Nat.Gcd.{dvd-zero}
-use Rattle.std.proofs.Math.Nat.{mul-div_cancel}
 use Rattle.std.proofs.lemmas.List.Elements.{recursion_from_All, All-from_recursion}
 use Rattle.frac_core.specs.Fraction.{Fraction}
-use Rattle.frac_core.proofs.Integers.{cancel_mul, mul_assoc_ℤ, mul_left_comm_ℤ, mul-zero_ℤ, zero-mul_ℤ, zero-add_ℤ}
+use Rattle.frac_core.proofs.Integers.{cancel_mul, mul_assoc_ℤ, mul_left_comm_ℤ, zero-mul_ℤ, zero-add_ℤ}
 use Rattle.problem_core.specs.declared.parts.Mark.{Mark}
 use Rattle.problem_core.specs.declared.parts.RowName.{RowName}
 use Rattle.problem_core.specs.declared.parts.RowName.TheVariants.{Held}
 use Rattle.problem_core.specs.declared.parts.Side.{Side}
 use Rattle.problem_core.specs.declared.parts.Side.TheVariants.{Under, Over}
 use Rattle.problem_core.specs.Begins.{without_marks}
-use Rattle.problem_core.specs.Certificates.{over_weight, under_weight, weight_at}
+use Rattle.problem_core.specs.Certificates.{weight_at}
 use Rattle.problem_core.specs.Kept.{IsWhole}
 use Rattle.problem_core.specs.Layout.{IsProblem, Line, Problem, Row, coefficient, line_of_row, lines, product_of, stay_lines, sum_of, value_at}
 use Rattle.problem_core.specs.Corners.{IsCorner, IsIn, Point, StandsAt, equation, marks_of, one_column, place, place_of}
@@ -24,24 +23,20 @@ use Rattle.problem_core.proofs.Forms.{each-both, each-impl, mul-sum}
 use Rattle.problem_core.proofs.Wholes.{whole-IsProblem}
 use Rattle.corner_laws.specs.Units.{IsLevelRow, IsLevelUnit, over_share, under_share}
 use Rattle.corner_laws.proofs.Gaps.{shares}
-use Rattle.corner_laws.proofs.LevelSizes.{over-zero, under-zero}
-use Rattle.corner_laws.proofs.LinePlaces.{sum-each}
 use Rattle.corner_lines.specs.LevelRows.{inside_number}
 use Rattle.corner_lines.specs.Removals.{without_row}
 use Rattle.corner_lines.proofs.LevelJoins.{free-number}
 use Rattle.corner_lines.proofs.LevelPlaces.{cost_everywhere}
-use Rattle.corner_lines.proofs.LevelRests.{marks-each}
-use Rattle.corner.proofs.LeftLists.{all_left, in_before, in_left, left_far, lines_left, other_row}
+use Rattle.corner.proofs.LeftLists.{all_left, in_before, in_left, left_far}
+use Rattle.problem_core.proofs.Conflicts.{sum-each}
+use Rattle.corner_laws.proofs.Ends.{both_marks}
+use Rattle.corner_lines.proofs.Dropped.{lines-left, filter-on, filter-off, other_row}
+use Rattle.corner_laws.proofs.LevelLifts.{quotient}
+use Rattle.corner_lines.proofs.LevelJoinCosts.{free-cost}
 
 -- the row counts nothing at the level
 abbrev pub CountsNothing : ℕ → ℕ → List Row → Type 0
 CountsNothing id k rows = Each (λ (r : Row). r.id ≡ id → weight_at (line_of_row r) k ≡ 0) rows
-
-filter-on : (id : ℕ) (r : Row) (rows : List Row) → r.id ≡ id → filter (other_row id) (r ∷ rows) ≡ filter (other_row id) rows
-filter-on id r rows e = ap (λ (b : Bool). cond (cond b false true) (r ∷ filter (other_row id) rows) (filter (other_row id) rows)) (eq-eqb r.id id e)
-
-filter-off : (id : ℕ) (r : Row) (rows : List Row) → r.id ≢ id → filter (other_row id) (r ∷ rows) ≡ r ∷ filter (other_row id) rows
-filter-off id r rows n = ap (λ (b : Bool). cond (cond b false true) (r ∷ filter (other_row id) rows) (filter (other_row id) rows)) (ne_eqb r.id id n)
 
 -- what holds of the lines that are left, and of the row's, holds of all
 pub lines_back : (P : Line → Type 0) (id : ℕ) (rows : List Row) (ls : List Line) → Each (λ (r : Row). r.id ≡ id → P (line_of_row r)) rows → Each P (map line_of_row (filter (other_row id) rows) ++ ls) → Each P (map line_of_row rows ++ ls)
@@ -60,7 +55,7 @@ sum_without f id (r ∷ rows) ls none = elim (cases_eq r.id id) [
 
 -- ---- the unit
 
-no-weight : (n w : ℕ) → w ≡ 0 → n * w ≡ 0
+pub no-weight : (n w : ℕ) → w ≡ 0 → n * w ≡ 0
 no-weight n w e = ap (λ (v : ℕ). n * v) e ∙ omega arith
 
 pub other_unit : (p : Problem) (id k unit : ℕ) → CountsNothing id k p.rows → IsLevelUnit p k unit → IsLevelUnit (without_row id p) k unit
@@ -159,20 +154,6 @@ scales-gone id (r ∷ rows) ls = elim (cases_eq r.id id) [
       ∙ ap₂ (λ (b : Bool) (rs : List Row). cond b r.scale 1 * gone id rows * product_of (λ l. l.scale) (map line_of_row rs ++ ls)) (sym (ne_eqb r.id id n)) (sym (filter-off id r rows n))
 ]
 
-quotient-more : (whole part k d : ℕ) → 0 < d → whole / d * d ≡ whole → part ≡ k * whole → part / d ≡ k * (whole / d)
-quotient-more whole part k d above e f =
-    let g : k * (whole / d * d) ≡ k * whole = ap (λ (n : ℕ). k * n) e in
-    let h : part ≡ (k * (whole / d)) * d = omega (arith, f, g) in
-    ap (λ (n : ℕ). n / d) h ∙ mul-div_cancel (k * (whole / d)) above
-
-free-cost : (q level : ℕ) (x : ℕ → ℤ) (l : Line) → weight_at l level ≡ 0 → pos q *ℤ line_cost level x l ≡ pos 0
-free-cost q level x l e =
-    let u : under_weight l.rel (weight_at l level) ≡ 0 = ap (under_weight l.rel) e ∙ under-zero l.rel in
-    let o : over_weight l.rel (weight_at l level) ≡ 0 = ap (over_weight l.rel) e ∙ over-zero l.rel in
-    ap (λ (z : ℤ). pos q *ℤ z)
-    (ap₂ ◌+ℤ◌ (ap (λ (w : ℕ). pos w *ℤ x (place_of l.name Under)) u ∙ zero-mul_ℤ (x (place_of l.name Under))) (ap (λ (w : ℕ). pos w *ℤ x (place_of l.name Over)) o ∙ zero-mul_ℤ (x (place_of l.name Over))))
-    ∙ mul-zero_ℤ (pos q)
-
 cost-left : (p : Problem) (id level : ℕ) (x : ℕ → ℤ) → IsProblem p → CountsNothing id level p.rows → cost_at p level x ≡ pos (gone id p.rows) *ℤ cost_at (without_row id p) level x
 cost-left p id level x problem none =
     let q : Problem = without_row id p in
@@ -181,7 +162,7 @@ cost-left p id level x problem none =
     (each-impl (λ (r : Row). r.id ≡ id → weight_at (line_of_row r) level ≡ 0) _ p.rows (λ r z e. free-cost (scales p / r.scale) level x (line_of_row r) (z e)) none)
     ∙ sum-each (λ l. pos (scales p / l.scale) *ℤ line_cost level x l) (λ l. pos (gone id p.rows) *ℤ (pos (scales q / l.scale) *ℤ line_cost level x l)) (lines q)
     (each-impl (λ l. ((0 < l.scale) × (0 < l.den)) × (scales q / l.scale * l.scale ≡ scales q)) _ (lines q)
-    (λ l h. ap (λ (n : ℕ). pos n *ℤ line_cost level x l) (quotient-more (scales q) (scales p) (gone id p.rows) l.scale h.0.0 h.1 (scales-gone id p.rows (stay_lines 1001 p.stays))) ∙ mul_assoc_ℤ (pos (gone id p.rows)) (pos (scales q / l.scale)) (line_cost level x l))
+    (λ l h. ap (λ (n : ℕ). pos n *ℤ line_cost level x l) (quotient (scales q) (scales p) (gone id p.rows) l.scale h.0.0 h.1 (scales-gone id p.rows (stay_lines 1001 p.stays))) ∙ mul_assoc_ℤ (pos (gone id p.rows)) (pos (scales q / l.scale)) (line_cost level x l))
     (each-both _ _ (lines q) (recursion_from_All _ (lines q) there) (shares q there)))
     ∙ mul-sum (pos (gone id p.rows)) (λ l. pos (scales q / l.scale) *ℤ line_cost level x l) (lines q)
 
@@ -202,8 +183,8 @@ still-stands p at id x stands = (
     both : Each (λ l. (l.name ≢ Held id) × (((IsIn (place_of l.name Under) at → ⊥) → x.num (place_of l.name Under) ≡ pos 0) × ((IsIn (place_of l.name Over) at → ⊥) → x.num (place_of l.name Over) ≡ pos 0))) (lines (without_row id p))
     both =
         each-both _ _ (lines (without_row id p)) (left_far p id)
-        (lines_left (λ l. ((IsIn (place_of l.name Under) at → ⊥) → x.num (place_of l.name Under) ≡ pos 0) × ((IsIn (place_of l.name Over) at → ⊥) → x.num (place_of l.name Over) ≡ pos 0)) id p.rows (stay_lines 1001 p.stays)
-        (marks-each (λ c. (IsIn c at → ⊥) → x.num c ≡ pos 0) (lines p) (recursion_from_All _ (marks_of (lines p)) stands.1)))
+        (lines-left (λ l. ((IsIn (place_of l.name Under) at → ⊥) → x.num (place_of l.name Under) ≡ pos 0) × ((IsIn (place_of l.name Over) at → ⊥) → x.num (place_of l.name Over) ≡ pos 0)) id p.rows (stay_lines 1001 p.stays)
+        (both_marks (λ c. (IsIn c at → ⊥) → x.num c ≡ pos 0) (lines p) (recursion_from_All _ (marks_of (lines p)) stands.1)))
 
 pub other_cost : (p : Problem) (at : List Mark) (id k : ℕ) (side : Side) (f : Fraction) → IsWhole p → IsCorner p at → IsIn (place_of (Held id) side) at → CountsNothing id k p.rows → IsCostAt p at k f
     → IsCostAt (without_row id p) (without_marks (id ∷ []) at) k f

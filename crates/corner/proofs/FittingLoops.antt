@@ -1,5 +1,5 @@
 -- The rows of a level, one after the other.
-use Rattle.std.proofs.Common.{◌≡◌, ◌≢◌, ◌∙◌, ℕ, zero, suc, ◌+◌, ◌-◌, ◌<◌, ◌≤◌, Bool, true, false, nat_eq, List, [], ◌∷◌, drop, length, slice_index_or, refl, sym, ap, subst, arith, ℤ, pos, ◌<ℤ◌, unsigned_abs}
+use Rattle.std.proofs.Common.{◌≡◌, ◌≢◌, ◌∙◌, ℕ, zero, suc, ◌+◌, ◌-◌, ◌<◌, ◌≤◌, Bool, true, false, nat_eq, List, [], ◌∷◌, drop, length, slice_index_or, sym, ap, subst, arith, ℤ, pos, ◌<ℤ◌, unsigned_abs}
 use Rattle.std.proofs.lemmas.Bool.Decides.{nat_tests}
 use Rattle.std.proofs.lemmas.List.Elements.{All-from_recursion, recursion_from_All}
 use borrow.Author.Differences.{ints}
@@ -20,7 +20,6 @@ use Rattle.corner.specs.Views.{IsNamed}
 use Rattle.corner.specs.LevelNumbers.{IsCounted}
 use Rattle.corner.specs.Fitting.{AreFittingLines, IsFittingLine, either}
 use Rattle.corner.proofs.SlotFacts.{any_is}
-use Rattle.corner.proofs.FittingRows.{free_lines}
 
 -- ---- a line's slot and a unit
 
@@ -53,23 +52,11 @@ drop-suc (y ∷ xs) (suc i) x lt e = drop-suc xs i x (omega (arith, lt)) e
 drop-next : {X : Type 0} (xs : List X) (i : ℕ) (x : X) → i < length xs → slice_index_or xs i x ≡ x → drop i xs ≡ x ∷ drop (i + 1) xs
 drop-next xs i x lt e = let n : suc i ≡ i + 1 = omega arith in subst (λ k. drop i xs ≡ x ∷ drop k xs) n (drop-suc xs i x lt e)
 
-drop-all : {X : Type 0} (xs : List X) (i : ℕ) → length xs ≤ i → drop i xs ≡ []
-drop-all [] zero le = refl
-drop-all [] (suc i) le = refl
-drop-all (x ∷ xs) zero le = absurd (omega (arith, le))
-drop-all (x ∷ xs) (suc i) le = drop-all xs i (omega (arith, le))
-
 -- so many of the level's rows are among the first i, and what is left fits exactly where all of them do
 pub record AreFittingSoFar (t : Lists) (draft : Draft) (row : List Term) (joined i : ℕ) (rows : List Row) : Type 0 where
   pub within : joined ≤ draft.rows
   pub all : AreFittingLines t draft row (draft.rows - joined) (drop i rows) → AreFittingLines t draft row draft.rows rows
   pub left : AreFittingLines t draft row draft.rows rows → AreFittingLines t draft row (draft.rows - joined) (drop i rows)
-
-pub none_yet : (t : Lists) (draft : Draft) (row : List Term) (rows : List Row) → AreFittingSoFar t draft row 0 0 rows
-none_yet t draft row rows =
-    let n : ℕ = draft.rows in
-    let e : n - 0 ≡ n = omega arith in
-    record { within = omega arith; all = λ h. subst (λ j. AreFittingLines t draft row j rows) e h; left = λ h. subst (λ j. AreFittingLines t draft row j rows) (sym e) h }
 
 pub another_level : (t : Lists) (draft : Draft) (row : List Term) (joined i : ℕ) (rows : List Row) (r : Row) → i < length rows → slice_index_or rows i r ≡ r → nat_eq (1000 - r.rank) draft.level ≡ false
     → AreFittingSoFar t draft row joined i rows → AreFittingSoFar t draft row joined (i + 1) rows
@@ -114,17 +101,3 @@ one_joined t draft row joined i rows r lt e same ne fits h =
       left = λ f. subst (λ j. AreFittingLines t draft row j (drop (i + 1) rows)) less
           (at-row t draft row (n - joined) (drop (i + 1) rows) r same some (subst (AreFittingLines t draft row (n - joined)) next (h.left f))).1;
     }
-
-pub one_unfit : (t : Lists) (draft : Draft) (row : List Term) (joined i : ℕ) (rows : List Row) (r : Row) → i < length rows → slice_index_or rows i r ≡ r → nat_eq (1000 - r.rank) draft.level ≡ true → joined ≢ draft.rows
-    → (IsFittingLine t draft row (line_slot t (Held r.id)) → ⊥) → AreFittingSoFar t draft row joined i rows → AreFittingLines t draft row draft.rows rows → ⊥
-one_unfit t draft row joined i rows r lt e same ne not h f =
-    not (at-row t draft row (draft.rows - joined) (drop (i + 1) rows) r same (above-none joined draft.rows h.within ne) (subst (AreFittingLines t draft row (draft.rows - joined)) (drop-next rows i r lt e) (h.left f))).0
-
-pub all_joined : (t : Lists) (draft : Draft) (row : List Term) (joined i : ℕ) (rows : List Row) → joined ≡ draft.rows → AreFittingSoFar t draft row joined i rows → AreFittingLines t draft row draft.rows rows
-all_joined t draft row joined i rows e h =
-    let n : ℕ = draft.rows in
-    let none : n - joined ≡ 0 = omega (arith, e) in
-    h.all (subst (λ j. AreFittingLines t draft row j (drop i rows)) (sym none) (free_lines t draft row (drop i rows)))
-
-pub all_seen : (t : Lists) (draft : Draft) (row : List Term) (joined i : ℕ) (rows : List Row) → length rows ≤ i → AreFittingSoFar t draft row joined i rows → AreFittingLines t draft row draft.rows rows
-all_seen t draft row joined i rows le h = h.all (subst (AreFittingLines t draft row (draft.rows - joined)) (sym (drop-all rows i le)) tt)

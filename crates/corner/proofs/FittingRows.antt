@@ -1,5 +1,5 @@
 -- The rows of a level whose reduced costs fit.
-use Rattle.std.proofs.Common.{◌≡◌, ◌∙◌, ◌↔◌, ℕ, ◌+◌, ◌-◌, ◌*◌, ◌/◌, ◌<◌, ◌≤◌, ◌^◌, ◌++◌, Bool, true, false, cond, nat_eq, List, [], ◌∷◌, map, get_or, refl, sym, ap, ap₂, subst, arith, ℤ, pos, negsuc, neg_ℤ, ◌+ℤ◌, ◌-ℤ◌, ◌*ℤ◌, unsigned_abs, All, Some, None, ne_eqb}
+use Rattle.std.proofs.Common.{◌≡◌, ◌∙◌, ◌↔◌, ℕ, ◌+◌, ◌-◌, ◌*◌, ◌/◌, ◌<◌, ◌≤◌, ◌^◌, Bool, true, false, cond, nat_eq, List, [], ◌∷◌, map, get_or, refl, sym, ap, ap₂, subst, arith, ℤ, pos, negsuc, neg_ℤ, ◌+ℤ◌, ◌-ℤ◌, ◌*ℤ◌, unsigned_abs, All, Some, None, ne_eqb}
 use Rattle.std.specs.List.{AllByRecursion as Each}
 use Rattle.std.specs.declared.option.Option.{Option}
 use Rattle.std.proofs.lemmas.Bool.Decides.{nat_tests}
@@ -33,7 +33,7 @@ use Rattle.corner_lines.specs.LevelCosts.{AreDifferent, IsSound}
 use Rattle.problem_core.specs.declared.limits.TheConstants.{WEIGHT_LIMIT}
 use Rattle.corner_laws.specs.LevelLaws.{small_number, small_scale}
 use Rattle.corner_lines.proofs.LevelFits.{small_row_fits}
-use Rattle.corner_lines.proofs.LevelSound.{seen-each, seen-same, whole_is_sound}
+use Rattle.corner_lines.proofs.LevelSound.{seen-each, seen-same, whole_is_sound, all-light}
 use Rattle.corner.specs.declared.levels.fitting.Draft.{Draft}
 use Rattle.corner.specs.declared.table.Slot.{Slot}
 use Rattle.corner.specs.declared.table.TheConstants.{LEVELS}
@@ -42,6 +42,7 @@ use Rattle.corner.specs.Kept.{AreSlots, IsLineSlot}
 use Rattle.corner.specs.Exchanges.{row_number}
 use Rattle.corner.specs.LevelNumbers.{IsCounted, share_of, side_share}
 use Rattle.corner.specs.Fitting.{AreFittingCosts, AreFittingLines, HasFittingRow, HasNoFittingRow, IsDraftAt, IsFittingDraft, IsFittingLine, counted, drafted, either, line_size, number_by, side_after}
+use Rattle.corner_laws.proofs.BeginsUnique.{each-first}
 
 -- ---- what a line counts
 
@@ -295,10 +296,6 @@ fit-rows t draft row at unit own d j (r ∷ rows) seen h =
 
 -- ---- all lines
 
-each-first : {X : Type 0} (P : X → Type 0) (xs ys : List X) → Each P (xs ++ ys) → Each P xs
-each-first P [] ys h = tt
-each-first P (x ∷ xs) ys h = (h.0, each-first P xs ys h.1)
-
 of-rows : (P : Line → Type 0) (rows : List Row) → Each P (map line_of_row rows) → Each (λ r. P (line_of_row r)) rows
 of-rows P [] h = tt
 of-rows P (r ∷ rows) h = (h.0, of-rows P rows h.1)
@@ -347,23 +344,7 @@ unfit_by_lines t draft row slots whole low kept not at unit own da f =
     (each-first (IsFitLine t draft row at unit own) (map line_of_row (lightened draft.level draft.rows t.rows)) (stay_lines 1001 t.stays)
     (recursion_from_All (IsFitLine t draft row at unit own) (lines (drafted t draft)) (lines-fit t draft row at unit own f))))
 
-pub unfit_by_scale : (t : Lists) (draft : Draft) (row : List Term) → (IsFitting (coefficient draft.level row *ℤ draft.unit) → ⊥) → HasNoFittingRow t draft row
-unfit_by_scale t draft row not at unit own da f = not (subst IsFitting (sym (ap₂ ◌*ℤ◌ da.own_is da.unit_is)) f.scale_fits)
-
 -- ---- small rows
-
-light-row : (b : Bool) (r : Row) → r.weight ≤ WEIGHT_LIMIT → (cond b (without_weight r) r).weight ≤ WEIGHT_LIMIT
-light-row true r h = omega arith
-light-row false r h = h
-
-either-light : (b : Bool) (x r : Row) (xs ys : List Row) (ls : List Line) → x.weight ≤ WEIGHT_LIMIT → r.weight ≤ WEIGHT_LIMIT → Each (λ l. l.weight ≤ WEIGHT_LIMIT) (map line_of_row xs ++ ls) → Each (λ l. l.weight ≤ WEIGHT_LIMIT) (map line_of_row ys ++ ls)
-    → Each (λ l. l.weight ≤ WEIGHT_LIMIT) (map line_of_row (cond b (x ∷ xs) (r ∷ ys)) ++ ls)
-either-light true x r xs ys ls e f h k = (e, h)
-either-light false x r xs ys ls e f h k = (f, k)
-
-all-light : (level j : ℕ) (rows : List Row) (ls : List Line) → Each (λ l. l.weight ≤ WEIGHT_LIMIT) (map line_of_row rows ++ ls) → Each (λ l. l.weight ≤ WEIGHT_LIMIT) (map line_of_row (lightened level j rows) ++ ls)
-all-light level j [] ls h = h
-all-light level j (r ∷ rows) ls h = either-light (nat_eq (1000 - r.rank) level) (cond (nat_eq j 0) (without_weight r) r) r (lightened level (j - 1) rows) (lightened level j rows) ls (light-row (nat_eq j 0) r h.0) h.0 (all-light level (j - 1) rows ls h.1) (all-light level j rows ls h.1)
 
 pub first_sound : (p : Problem) (level j : ℕ) → IsWhole p → IsSound (with_first_rows level j p)
 first_sound p level j whole =

@@ -128,7 +128,7 @@ next_grown n w t line more slots u v rising within is below h grown =
 
 -- ---- the column
 
-behind : (w : ℕ) (ws : List ℕ) (v : ℕ) → Contains (w ∷ ws) v → (w ≡ v → ⊥) → Contains ws v
+pub behind : (w : ℕ) (ws : List ℕ) (v : ℕ) → Contains (w ∷ ws) v → (w ≡ v → ⊥) → Contains ws v
 behind w ws v (zero, lt, x) never = absurd (never x)
 behind w ws v (suc k, lt, x) never = (k, omega (arith, lt), x)
 

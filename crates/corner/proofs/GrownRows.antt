@@ -86,12 +86,6 @@ put_mapped (x ∷ rows) (suc at) id to r rising within is =
 constant-there : (rows : List Row) (at id : ℕ) (from : Fraction) (r : Row) → All (λ r. r.id ≡ id → r.constant ≡ from) rows → at < length rows → (slice_index_or rows at r).id ≡ id → (slice_index_or rows at r).constant ≡ from
 constant-there rows at id from r all within is = all at r within is
 
--- what the constant is above the row's own
-pub near_there : (p : Problem) (at id : ℕ) (to : Fraction) (r : Row) → IsNear p id to → at < length p.rows → (slice_index_or p.rows at r).id ≡ id
-    → (more : Fraction) × fractions.IsKept more × IsRatio more (sum_num to (negsuc 0) (pos 1) (slice_index_or p.rows at r).constant) (sum_den to (pos 1) (slice_index_or p.rows at r).constant)
-near_there p at id to r (from, more, shift, kept) within is =
-    (more, kept, subst (λ (f : Fraction). IsRatio more (sum_num to (negsuc 0) (pos 1) f) (sum_den to (pos 1) f)) (sym (constant-there p.rows at id from r shift.constant within is)) shift.difference)
-
 pub shift_there : (p : Problem) (at id : ℕ) (to more : Fraction) (r : Row) → IsNear p id to → at < length p.rows → (slice_index_or p.rows at r).id ≡ id → fractions.IsKept more
     → IsRatio more (sum_num to (negsuc 0) (pos 1) (slice_index_or p.rows at r).constant) (sum_den to (pos 1) (slice_index_or p.rows at r).constant)
     → (from : Fraction) × IsShift p id from to more

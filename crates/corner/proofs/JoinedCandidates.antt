@@ -39,13 +39,16 @@ use Rattle.corner.specs.Invariants.{name_of, names_of}
 use Rattle.corner.specs.LevelNumbers.{side_share}
 use Rattle.corner.specs.JoinedLists.{AreRowsListed, IsFreeRow, IsRowListed}
 use Rattle.corner.proofs.AttrColumns.{negative_mark}
-use Rattle.corner.proofs.CandidatesAfter.{listed_name, other-line, row-none}
+use Rattle.corner.proofs.CandidatesAfter.{listed_name, row-none}
+use Rattle.corner_lines.proofs.OtherNumbers.{other-number}
 use Rattle.corner.proofs.ColumnReturns.{inside_not_negative, name-cases, negative-line, returned, unmoved-column}
 use Rattle.corner.proofs.ListFacts.{from_map, to_map}
 use Rattle.corner.proofs.MarkFacts.{inside_stands}
 use Rattle.corner.proofs.ReadFacts.{is_some, mark_named}
 use Rattle.corner.proofs.SlotFacts.{any_impl, any_is}
 use Rattle.corner.proofs.WritingFacts.{lines_apart}
+use Rattle.corner.proofs.LevelUseFacts.{later-any}
+use Rattle.corner_laws.proofs.TermLifts.{each-second}
 
 -- ---- a row that has joined
 
@@ -79,7 +82,7 @@ record IsWithout (q : Problem) (next : List Mark) (rows : List Row) (m : Multipl
   inside_zero : (side : Side) → All (λ l. Each (λ (r : Row). l.name ≢ Held r.id) rows → IsIn (place_of l.name side) next → (level : ℕ) → column m side l level ≡ pos 0) (lines q)
   none : Each (λ (r : Row). (level : ℕ) → m.times level (Held r.id) ≡ pos 0) rows
 
-free-side : (rel : Rel) (side : Side) (n : ℕ) → side_share rel side 1 ≡ 0 → side_share rel side n ≡ 0
+pub free-side : (rel : Rel) (side : Side) (n : ℕ) → side_share rel side 1 ≡ 0 → side_share rel side n ≡ 0
 free-side Eq Under n e = absurd (omega (arith, e))
 free-side Eq Over n e = absurd (omega (arith, e))
 free-side Le Under n e = refl
@@ -87,7 +90,7 @@ free-side Le Over n e = absurd (omega (arith, e))
 free-side Ge Under n e = absurd (omega (arith, e))
 free-side Ge Over n e = refl
 
-times-none : (k n : ℕ) → n ≡ 0 → k * n ≡ 0
+pub times-none : (k n : ℕ) → n ≡ 0 → k * n ≡ 0
 times-none k n e = ap (λ (x : ℕ). k * x) e ∙ omega arith
 
 less-none : (n : ℕ) (z : ℤ) → n ≡ 0 → pos n -ℤ z ≡ pos 0 → z ≡ pos 0
@@ -218,9 +221,6 @@ any-first P x xs (suc k, y, lt, e, h) = inr (k, y, omega (arith, lt), e, h)
 any-here : {X : Type 0} (P : X → Type 0) (x : X) (xs : List X) → P x → Any P (x ∷ xs)
 any-here P x xs h = (0, x, omega arith, refl, h)
 
-any-later : {X : Type 0} (P : X → Type 0) (x : X) (xs : List X) → Any P xs → Any P (x ∷ xs)
-any-later P x xs h = (suc h.0, h.1, omega (arith, h.2), h.3, h.4)
-
 any-less : (P : Line → Type 0) (rows rest : List Row) (ls : List Line) → Each (λ (r : Row). P (line_of_row r) → ⊥) rest → Any P (map line_of_row (rows ++ rest) ++ ls) → Any P (map line_of_row rows ++ ls)
 any-less P [] [] ls never h = h
 any-less P [] (r ∷ rest) ls never h = elim (any-first P (line_of_row r) (map line_of_row rest ++ ls) h) [
@@ -229,14 +229,7 @@ any-less P [] (r ∷ rest) ls never h = elim (any-first P (line_of_row r) (map l
 ]
 any-less P (s ∷ rows) rest ls never h = elim (any-first P (line_of_row s) (map line_of_row (rows ++ rest) ++ ls) h) [
   | inl i ↦ any-here P (line_of_row s) (map line_of_row rows ++ ls) i
-  | inr i ↦ any-later P (line_of_row s) (map line_of_row rows ++ ls) (any-less P rows rest ls never i)
-]
-
-any-row : (r : Row) (rows : List Row) (ls : List Line) → Any (λ s. s ≡ r) rows → Any (λ l. l ≡ line_of_row r) (map line_of_row rows ++ ls)
-any-row r [] ls h = absurd (omega (arith, h.2))
-any-row r (s ∷ rows) ls h = elim (any-first (λ (x : Row). x ≡ r) s rows h) [
-  | inl e ↦ any-here (λ l. l ≡ line_of_row r) (line_of_row s) (map line_of_row rows ++ ls) (ap line_of_row e)
-  | inr i ↦ any-later (λ l. l ≡ line_of_row r) (line_of_row s) (map line_of_row rows ++ ls) (any-row r rows ls i)
+  | inr i ↦ later-any P (line_of_row s) (map line_of_row rows ++ ls) (any-less P rows rest ls never i)
 ]
 
 -- ---- names
@@ -250,10 +243,6 @@ stay-held attr id e = let k : 0 ≡ id + 1 = ap held_number e in omega (arith, k
 
 held-less : (a b : ℕ) → a < b → Held a ≡ Held b → ⊥
 held-less a b lt e = let k : a + 1 ≡ b + 1 = ap held_number e in omega (arith, k, lt)
-
-each-last : {X : Type 0} (P : X → Type 0) (xs ys : List X) → Each P (xs ++ ys) → Each P ys
-each-last P [] ys h = h
-each-last P (x ∷ xs) ys h = each-last P xs ys h.1
 
 abbrev Rising : List Row → Type 0
 Rising rows = AllPairs (λ r s. r.id < s.id) rows
@@ -274,7 +263,7 @@ row-names : (rows rest : List Row) (ls : List Line) → Rising (rows ++ rest) �
 row-names [] rest ls rising h = h
 row-names (s ∷ rows) rest ls rising h = (
   each-impl (λ (r : Row). s.id < r.id) (λ (r : Row). Held s.id ≢ Held r.id) rest (λ r lt. held-less s.id r.id lt)
-      (each-last (λ (r : Row). s.id < r.id) rows rest (recursion_from_All (λ (r : Row). s.id < r.id) (rows ++ rest) (pairs-first (λ r s. r.id < s.id) s (rows ++ rest) rising))),
+      (each-second (λ (r : Row). s.id < r.id) rows rest (recursion_from_All (λ (r : Row). s.id < r.id) (rows ++ rest) (pairs-first (λ r s. r.id < s.id) s (rows ++ rest) rising))),
   row-names rows rest ls (pairs-rest (λ r s. r.id < s.id) s (rows ++ rest) rising) h,
 )
 
@@ -377,7 +366,7 @@ row-of u r kept held one =
 
 some-entry : (u : Lists) (r : Row) (own : ℕ) (name : RowName) → name ≢ Held r.id → line_numbers (Held r.id) own (number u (line_slot u (Held r.id))) name ≢ pos 0 → entry u (line_slot u (Held r.id)) (line_slot u name) ≢ pos 0
 some-entry u r own name other some none =
-    some (other-line (Held r.id) own (number u (line_slot u (Held r.id))) name other ∙ row-none (nat_eq (line_slot u name) (line_slot u (Held r.id))) (entry u (line_slot u (Held r.id)) (line_slot u name)) none)
+    some (other-number (Held r.id) own (number u (line_slot u (Held r.id))) name other ∙ row-none (nat_eq (line_slot u name) (line_slot u (Held r.id))) (entry u (line_slot u (Held r.id)) (line_slot u name)) none)
 
 named-row : (q : Problem) (r : Row) → Any (λ l. l ≡ line_of_row r) (lines q) → IsNamed q (Held r.id)
 named-row q r held = any_impl (λ l. l ≡ line_of_row r) (λ l. l.name ≡ Held r.id) (lines q) (λ l e. ap (λ (k : Line). k.name) e) held
@@ -412,10 +401,10 @@ new-rows : (rows rest : List Row) (ls : List Line) → Each (λ (r : Row). Any (
 new-rows [] [] ls = tt
 new-rows [] (r ∷ rest) ls = (
   any-here (λ l. l ≡ line_of_row r) (line_of_row r) (map line_of_row rest ++ ls) refl,
-  each-impl (λ (s : Row). Any (λ l. l ≡ line_of_row s) (map line_of_row rest ++ ls)) (λ (s : Row). Any (λ l. l ≡ line_of_row s) (line_of_row r ∷ (map line_of_row rest ++ ls))) rest (λ s h. any-later (λ l. l ≡ line_of_row s) (line_of_row r) (map line_of_row rest ++ ls) h) (new-rows [] rest ls),
+  each-impl (λ (s : Row). Any (λ l. l ≡ line_of_row s) (map line_of_row rest ++ ls)) (λ (s : Row). Any (λ l. l ≡ line_of_row s) (line_of_row r ∷ (map line_of_row rest ++ ls))) rest (λ s h. later-any (λ l. l ≡ line_of_row s) (line_of_row r) (map line_of_row rest ++ ls) h) (new-rows [] rest ls),
 )
 new-rows (s ∷ rows) rest ls =
-    each-impl (λ (r : Row). Any (λ l. l ≡ line_of_row r) (map line_of_row (rows ++ rest) ++ ls)) (λ (r : Row). Any (λ l. l ≡ line_of_row r) (line_of_row s ∷ (map line_of_row (rows ++ rest) ++ ls))) rest (λ r h. any-later (λ l. l ≡ line_of_row r) (line_of_row s) (map line_of_row (rows ++ rest) ++ ls) h) (new-rows rows rest ls)
+    each-impl (λ (r : Row). Any (λ l. l ≡ line_of_row r) (map line_of_row (rows ++ rest) ++ ls)) (λ (r : Row). Any (λ l. l ≡ line_of_row r) (line_of_row s ∷ (map line_of_row (rows ++ rest) ++ ls))) rest (λ r h. later-any (λ l. l ≡ line_of_row r) (line_of_row s) (map line_of_row (rows ++ rest) ++ ls) h) (new-rows rows rest ls)
 
 names_join : (t u : Lists) (old new : List ℕ) (name : RowName) → ((w : ℕ) → Contains old w → slot_at u w ≡ slot_at t w) → ((w : ℕ) → Contains old w → Contains new w) → Contains (names_of t old) name → Contains (names_of u new) name
 names_join t u old new name same keeps has =

@@ -44,9 +44,11 @@ use Rattle.corner.specs.Kept.{HasStayRoom, IsKept, IsLineRow}
 use Rattle.corner.specs.Invariants.{IsEarlier}
 use Rattle.corner.proofs.SlotFacts.{any_impl, any_is, level_stay}
 use Rattle.corner.proofs.MarkFacts.{inside_stands, later, not_both, stands_inside}
-use Rattle.corner.proofs.ReadFacts.{attr_equation, inside_equation, named_in, sign_twice}
+use Rattle.corner.proofs.ReadFacts.{attr_equation, inside_equation, named_in}
 use Rattle.corner.proofs.WritingFacts.{in_mark}
 use Rattle.corner.proofs.ListFacts.{further}
+use Rattle.corner_lines.proofs.LineUnfits.{twice as sign_twice}
+use Rattle.corner_laws.proofs.Directions.{each-of}
 
 -- ---- in order
 
@@ -58,7 +60,7 @@ is_in (m ∷ ms) c e =
       | inr other ↦ later c m ms (is_in ms c (subst (λ (b : Bool). cond b true (is_mark ms c) ≡ true) (ne_eqb (place m) c other) e))
     ]
 
-here_or : (b c : Bool) → c ≡ true → cond b true c ≡ true
+pub here_or : (b c : Bool) → c ≡ true → cond b true c ≡ true
 here_or true c e = refl
 here_or false c e = e
 
@@ -97,10 +99,6 @@ each_at : {X : Type 0} (P : X → Type 0) (xs : List X) (k : ℕ) (d : X) → Ea
 each_at P [] k d h p = p
 each_at P (x ∷ xs) zero d h p = h.0
 each_at P (x ∷ xs) (suc k) d h p = each_at P xs k d h.1 p
-
-each_all : {X : Type 0} (P : X → Type 0) (xs : List X) → ((x : X) → P x) → Each P xs
-each_all P [] h = tt
-each_all P (x ∷ xs) h = (h x, each_all P xs h)
 
 pub entry_fits : (t : Lists) (w c : ℕ) → IsKept t → IsFitting (entry t w c)
 entry_fits t w c kept =
@@ -141,7 +139,7 @@ number_fits t w name kept =
 form_fits : (p : Problem) (by : RowName → ℤ) → IsWhole p → ((name : RowName) → IsFitting (by name)) → (v : ℕ) → IsFitting (layout.coefficient v (mark_form by (lines p)))
 form_fits p by whole h v =
     by-places (λ c z. IsFitting z) by (lines p) (lines_apart p whole) (λ c. omega arith)
-    (each_all (λ l. IsFitting (by l.name) × IsFitting (neg_ℤ (by l.name))) (lines p) (λ l. (h l.name, opposite_fits (by l.name) (h l.name)))) v
+    (each-of (λ l. IsFitting (by l.name) × IsFitting (neg_ℤ (by l.name))) (lines p) (λ l. (h l.name, opposite_fits (by l.name) (h l.name)))) v
 
 -- ---- attributes and marks
 
@@ -252,7 +250,7 @@ stay_fits t attr (Some side) kept named is (own, own_is, e) room (k, there, unfi
     (line_value (problem_of t) (marks_at t) (deviation (StayOf attr)) own (number t (line_slot t (StayOf attr))) (sign_of side *ℤ f.num) f.den kept.whole kept.corner e)
     (signed_lowest side f (value_kept t (line_slot t (StayOf attr)) kept).lowest) (signed_small side f (value_kept t (line_slot t (StayOf attr)) kept).fits)
     (All-from_recursion (λ l. IsOutsideLine (marks_at t) l.name → IsFitting (line_numbers (StayOf attr) own (number t (line_slot t (StayOf attr))) l.name)) (lines (problem_of t))
-    (each_all (λ l. IsOutsideLine (marks_at t) l.name → IsFitting (line_numbers (StayOf attr) own (number t (line_slot t (StayOf attr))) l.name)) (lines (problem_of t))
+    (each-of (λ l. IsOutsideLine (marks_at t) l.name → IsFitting (line_numbers (StayOf attr) own (number t (line_slot t (StayOf attr))) l.name)) (lines (problem_of t))
     (λ l out. own_or_by (StayOf attr) l.name own (number t (line_slot t (StayOf attr))) fits (number_fits t (line_slot t (StayOf attr)) l.name kept))))
     (twice (entry t (line_slot t (StayOf attr)) (line_slot t (StayOf attr))) own own_is room) (k, there, unfit)
   where

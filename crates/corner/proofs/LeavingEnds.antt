@@ -1,5 +1,5 @@
 -- What the code finds where a row leaves its level, as the contracts say it.
-use Rattle.std.proofs.Common.{◌≡◌, ◌≢◌, ◌∙◌, ℕ, zero, suc, ◌+◌, ◌-◌, ◌*◌, ◌/◌, ◌<◌, ◌≤◌, ◌^◌, Bool, cond, nat_eq, List, length, refl, sym, ap, ap₂, subst, arith, inl, inr, ℤ, pos, negsuc, neg_ℤ, ◌+ℤ◌, ◌-ℤ◌, ◌*ℤ◌, ◌<ℤ◌, unsigned_abs, Any, Some, eq-eqb, ne_eqb, get_or, mul-pos, SFits}
+use Rattle.std.proofs.Common.{◌≡◌, ◌≢◌, ◌∙◌, ℕ, zero, suc, ◌+◌, ◌-◌, ◌*◌, ◌/◌, ◌<◌, ◌≤◌, ◌^◌, Bool, cond, nat_eq, List, length, refl, sym, ap, ap₂, subst, arith, inl, inr, ℤ, pos, negsuc, neg_ℤ, ◌+ℤ◌, ◌-ℤ◌, ◌*ℤ◌, ◌<ℤ◌, unsigned_abs, Any, Some, eq-eqb, ne_eqb, get_or, SFits}
 use Rattle.std.specs.Int.{◌∣◌, IsGcd, w128}
 use Rattle.std.specs.Prelude.{FitsSigned}
 use Rattle.std.proofs.lemmas.Int.{fits_signed_from_abs}
@@ -34,20 +34,19 @@ use Rattle.corner.specs.Tables.{Lists, entry, line_slot, marks_at, priority_at, 
 use Rattle.corner.specs.Kept.{AreSlots, IsKept, IsLineSlot}
 use Rattle.corner.specs.Views.{IsNamed}
 use Rattle.corner.specs.LevelNumbers.{IsCounted, unit_at}
-use Rattle.corner.specs.CostJoins.{AreShareFactors, IsLeastUnit, IsRise, IsUnfitRise}
+use Rattle.corner.specs.CostJoins.{AreShareFactors, IsLeastUnit, IsUnfitRise}
 use Rattle.corner.specs.Leaving.{HasMultiple, IsLeaver, IsLeftRow, IsLeftShare, IsLeftUnit, IsTimes, left_count, left_whole, marks_left, problem_left}
 use Rattle.corner.proofs.SlotFacts.{any_impl, any_is}
 use Rattle.corner.proofs.FittingLoops.{counted_named}
 use Rattle.corner.proofs.MarkFacts.{inside_stands}
 use Rattle.corner.proofs.ReadFacts.{is_some}
-use Rattle.corner.proofs.CommonDivisors.{size_above}
-use Rattle.corner.specs.declared.joining.Rise.{Rise}
 use Rattle.corner_laws.specs.Lifts.{HasOneIn}
 use Rattle.problem_core.specs.Kept.{IsRow}
 use Rattle.corner.proofs.AttrJoins.{zero_unless}
 use Rattle.corner.proofs.CostUnits.{scale_above}
 use Rattle.corner.proofs.LeavingRows.{IsLeavingRow, below-unit, count_is, its_home, its_level, its_line, its_mark, its_size, its_size_above, its_size_is, its_slot, level_apart, left_row_is, left_unfit, level_kept, level_own_is, line-among, times-count}
 use Rattle.corner.proofs.LeavingUnits.{IsUnitTo, never_unfit, one_row_more}
+use Rattle.corner_laws.proofs.DualChoice.{positive-pos}
 
 -- ---- a row of the lists
 
@@ -64,12 +63,6 @@ pub row_counted : (t : Lists) (s : Row) (unit : ℤ) → IsKept t → Any (λ o.
 row_counted t s unit kept is above fits = counted_named t (Held s.id) unit kept.slots kept.whole above fits (row_name t s is)
 
 -- ---- sizes
-
-above-is : (n : ℕ) → 0 < n → pos 0 <ℤ pos n
-above-is n h = omega (arith, ints, h)
-
-pub unit_above : (x : Leaver) (rows : List Row) (i : ℕ) (unit : ℤ) → IsUnitTo x rows i unit → pos 0 <ℤ unit
-unit_above x rows i unit u = subst (λ (z : ℤ). pos 0 <ℤ z) (sym u.unit_is) (above-is u.size u.above)
 
 divisor-small : (n m q b : ℕ) → 0 < m → n * q ≡ m → m < b → n < b
 divisor-small n m zero b up e h = absurd (omega (arith, up, e))
@@ -89,7 +82,7 @@ unit_fits t r x h =
     subst (λ (z : ℤ). IsFitting z) (sym lev.unit_is) (own-part lev.own lev.unit PART_BOUND lev.numbers.row.own_positive lev.numbers.fits.scale_fits)
 
 pub unit_up : (t : Lists) (r : Row) (x : Leaver) → IsLeavingRow t r x → pos 0 <ℤ (priority_at t x.level).unit
-unit_up t r x h = let lev = level_kept t r x h in subst (λ (z : ℤ). pos 0 <ℤ z) (sym lev.unit_is) (above-is lev.unit lev.least.above)
+unit_up t r x h = let lev = level_kept t r x h in subst (λ (z : ℤ). pos 0 <ℤ z) (sym lev.unit_is) (positive-pos lev.unit lev.least.above)
 
 pub its_unit : (t : Lists) (r : Row) (x : Leaver) → IsLeavingRow t r x → unit_at t (slot_at t x.line).home ≡ (priority_at t x.level).unit
 its_unit t r x h = ap (λ (l : ℕ). unit_at t l) (its_home t r x h) ∙ below-unit t x.level (its_level t r x h)
@@ -127,7 +120,7 @@ pub record IsQuotient (t : Lists) (x : Leaver) (unit times : ℤ) : Type 0 where
   pub whole : IsTimes t x unit size
 
 pub left_unit_above : (t : Lists) (x : Leaver) (unit : ℤ) → IsLeftUnit t x unit → pos 0 <ℤ unit
-left_unit_above t x unit u = subst (λ (z : ℤ). pos 0 <ℤ z) (sym u.unit_is) (above-is u.size u.least.above)
+left_unit_above t x unit u = subst (λ (z : ℤ). pos 0 <ℤ z) (sym u.unit_is) (positive-pos u.size u.least.above)
 
 -- it divides the one before
 unit-divides : (t : Lists) (r : Row) (x : Leaver) (unit : ℤ) → (h : IsLeavingRow t r x) → (u : IsLeftUnit t x unit) → u.size ∣ (level_kept t r x h).unit
@@ -280,12 +273,6 @@ leaver_name t r id own held = subst (λ (n : ℕ). IsNamed (problem_of t) (Held 
 
 -- ---- a unit more
 
-pub more_is : (slot : Slot) (unit : ℤ) (rise : Rise) → IsRise slot unit rise → pos 0 <ℤ unit → (pos 0 <ℤ rise.unit) × IsLeastUnit slot unit (unsigned_abs rise.unit)
-more_is slot unit rise h up = (
-  subst (λ (z : ℤ). pos 0 <ℤ z) (sym h.unit_is) (above-is (h.times * unsigned_abs unit) (mul-pos h.above (size_above unit up))),
-  subst (λ (z : ℤ). IsLeastUnit slot unit (unsigned_abs z)) (sym h.unit_is) h.least,
-)
-
 pub more_never : (t : Lists) (s : Row) (unit : ℤ) → IsKept t → Any (λ o. o ≡ s) t.rows → HasMultiple s unit → IsUnfitRise (slot_at t (line_slot t (Held s.id))) unit → ⊥
 more_never t s unit kept is room rise =
     let slot = row_slot t s kept is in
@@ -312,14 +299,10 @@ signed_cost t r x h = either x.side (left_count t x) (count_fits t r x h)
     either Over n h = omega (arith, ints, h)
 
 pub line_above : (t : Lists) (r : Row) (x : Leaver) → IsLeavingRow t r x → pos 0 <ℤ entry t x.line x.line
-line_above t r x h = subst (λ (z : ℤ). pos 0 <ℤ z) (sym (its_size_is t r x h)) (above-is (its_size t r x h) (its_size_above t r x h))
+line_above t r x h = subst (λ (z : ℤ). pos 0 <ℤ z) (sym (its_size_is t r x h)) (positive-pos (its_size t r x h) (its_size_above t r x h))
 
 pub level_above : (t : Lists) (r : Row) (x : Leaver) → IsLeavingRow t r x → pos 0 <ℤ entry t x.level x.level
-level_above t r x h = subst (λ (z : ℤ). pos 0 <ℤ z) (sym (level_own_is t r x h)) (above-is (level_kept t r x h).own (level_kept t r x h).numbers.row.own_positive)
-
-positive-is : (z : ℤ) → pos 0 <ℤ z → z ≡ pos (unsigned_abs z)
-positive-is (pos n) h = refl
-positive-is (negsuc n) h = absurd h.lt
+level_above t r x h = subst (λ (z : ℤ). pos 0 <ℤ z) (sym (level_own_is t r x h)) (positive-pos (level_kept t r x h).own (level_kept t r x h).numbers.row.own_positive)
 
 share-k : (k : ℕ) (z : ℤ) → z ≡ pos k *ℤ pos 1 → z ≡ pos k
 share-k k z e = e ∙ times-one (pos k)

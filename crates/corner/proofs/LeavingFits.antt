@@ -1,5 +1,5 @@
 -- Whether a level's cost fits where a row has left it.
-use Rattle.std.proofs.Common.{◌≡◌, ◌≢◌, ℕ, ◌-◌, ◌*◌, ◌<◌, ◌≤◌, List, [], ◌∷◌, sym, ap₂, subst, arith, ℤ, pos, ◌*ℤ◌, unsigned_abs, All, get_or}
+use Rattle.std.proofs.Common.{◌≡◌, ◌≢◌, ℕ, ◌-◌, ◌*◌, ◌<◌, ◌≤◌, List, [], ◌∷◌, ap₂, subst, arith, ℤ, pos, ◌*ℤ◌, unsigned_abs, All, get_or}
 use Rattle.std.specs.List.{AllByRecursion as Each}
 use Rattle.std.proofs.lemmas.List.Elements.{All-from_recursion, recursion_from_All}
 use Rattle.frac_core.specs.Fraction.{IsFitting}
@@ -102,6 +102,3 @@ small_left t r x unit row h kept scale small size own e o =
     small_row_fits (problem_left t x) (marks_left t x) x.level size own (row_number t x.level row) (left_sound t r x h).0
     (scale (own * size) (ap₂ ◌*ℤ◌ o e))
     (λ i l within out. small-numbers t x.level row (get_or (lines (problem_left t x)) i l).name kept small)
-
-pub large_left : (t : Lists) (x : Leaver) (unit : ℤ) (row : List Term) → (IsFitting (coefficient x.level row *ℤ unit) → ⊥) → IsUnfitLeft t x unit row
-large_left t x unit row not size own e o fit = not (subst IsFitting (sym (ap₂ ◌*ℤ◌ o e)) fit.scale_fits)

@@ -12,7 +12,6 @@ use Rattle.frac_core.specs.Fraction.{IsFitting}
 use Rattle.frac_core.specs.declared.frac.TheConstants.{PART_BOUND}
 use Rattle.frac_core.proofs.Integers.{mul-zero_ℤ, sign_cases, zero_from_mul}
 use Rattle.row_core.specs.Rows.{Term, coefficient, IsLowestRow, IsReduced, IsUnfit}
-use Rattle.problem_core.specs.declared.parts.Mark.{Mark}
 use Rattle.problem_core.specs.declared.parts.Rel.{Rel}
 use Rattle.problem_core.specs.declared.parts.Side.{Side}
 use Rattle.problem_core.specs.declared.parts.Side.TheVariants.{Under, Over}
@@ -22,7 +21,6 @@ use Rattle.problem_core.specs.Layout as layout
 use Rattle.problem_core.specs.Layout.{IsProblem, Line, Problem, Row, line_of_row, lines, stay_lines}
 use Rattle.problem_core.specs.Corners.{IsCorner, IsIn, place_of}
 use Rattle.problem_core.specs.Certificates.{over_weight, under_weight, weight_at}
-use Rattle.problem_core.specs.Kept.{IsRow}
 use Rattle.problem_core.specs.Rays.{HasRays}
 use Rattle.problem_core.specs.Levels.{HasNoLevelWriting}
 use Rattle.problem_core.specs.Window.{zero_fraction}
@@ -39,7 +37,6 @@ use Rattle.corner_lines.proofs.LevelLeaves.{left_row_is_multiple}
 use Rattle.corner_lines.proofs.LevelSound.{whole_is_sound}
 use Rattle.corner_lines.proofs.LinePivots.{equation_is_pivot}
 use Rattle.corner_lines.proofs.LineWritings.{line_value}
-use Rattle.corner_lines.proofs.MarkForms.{same-name}
 use Rattle.corner.specs.declared.leaving.Leaver.{Leaver}
 use Rattle.corner.specs.declared.table.TheConstants.{LEVELS}
 use Rattle.corner.specs.Tables.{Lists, entry, line_slot, marks_at, number, priority_at, problem_of, slot_at, standing_at}
@@ -60,6 +57,9 @@ use Rattle.corner.proofs.CostJoins.{row_unfit}
 use Rattle.corner.proofs.CostTerms.{by_slot, lowest_terms}
 use Rattle.corner.proofs.LeftLists.{all_left, each_lighter, left_before, left_count_is, left_far, left_whole_problem, names_back, outside_back, outside_left, with_lighter}
 use Rattle.corner.proofs.LeftLevels.{left_number, multiple_left}
+use Rattle.corner.proofs.FittingRows.{at_side}
+use Rattle.corner.proofs.LevelCosts.{some_whole}
+use Rattle.corner_lines.proofs.OtherNumbers.{other-number}
 
 -- a row that leaves lists that are kept
 pub record IsLeavingRow (t : Lists) (r : Row) (x : Leaver) : Type 0 where
@@ -75,9 +75,6 @@ line-among r (s ∷ rows) ls (suc k, d, lt, e, h) = let i = line-among r rows ls
 
 pub its_line : (t : Lists) (r : Row) (x : Leaver) → IsLeaver t r x → Any (λ l. l ≡ line_of_row r) (lines (problem_of t))
 its_line t r x is = line-among r t.rows (stay_lines 1001 t.stays) is.held
-
-pub its_row : (t : Lists) (r : Row) (x : Leaver) → IsLeavingRow t r x → IsRow r
-its_row t r x h = any_is IsRow (λ s. s ≡ r) t.rows h.kept.whole.rows h.is.held (λ s k e. subst IsRow e k)
 
 pub its_name : (t : Lists) (r : Row) (x : Leaver) → IsLeaver t r x → IsNamed (problem_of t) (Held r.id)
 its_name t r x is = any_impl (λ l. l ≡ line_of_row r) (λ l. l.name ≡ Held r.id) (lines (problem_of t)) (λ l e. ap (λ (k : Line). k.name) e) (its_line t r x is)
@@ -228,7 +225,7 @@ its_count t r x level unit own h = its_each (λ l. inside_number x.side level un
 
 -- ---- what it counts
 
-weight-there : (r : Row) (l : ℕ) → l ≡ 1000 - r.rank → weight_at (line_of_row r) l ≡ r.weight
+pub weight-there : (r : Row) (l : ℕ) → l ≡ 1000 - r.rank → weight_at (line_of_row r) l ≡ r.weight
 weight-there r l e = ap (λ (b : Bool). cond b r.weight 0) (eq-eqb (1000 - r.rank) l (sym e))
 
 inside-count : (side : Side) (rel : Rel) (l unit m : ℕ) (r : Row) → rel ≡ r.rel → l ≡ 1000 - r.rank → m ≡ unit * r.weight / r.scale → neg_ℤ (pos (side_share rel side m) *ℤ sign_of side) ≡ inside_number side l unit 1 (line_of_row r)
@@ -357,9 +354,6 @@ slot-off t r x name h named e = let a = (named_slot t name h.kept.slots named).0
 by-off : (t : Lists) (l : ℕ) (whole : ℕ → ℤ) (name : RowName) → line_slot t name ≢ l → by_slot t l whole name ≡ neg_ℤ (whole (line_slot t name))
 by-off t l whole name ne = ap (λ (b : Bool). cond b (pos 0) (neg_ℤ (whole (line_slot t name)))) (ne_eqb (line_slot t name) l ne)
 
-other-number : (name : RowName) (own : ℕ) (by : RowName → ℤ) (l : RowName) → l ≢ name → line_numbers name own by l ≡ by l
-other-number name own by l ne = ap (λ (b : Bool). cond b (neg_ℤ (pos own)) (by l)) (ne_eqb (place_of l Under) (place_of name Under) (λ e. ne (same-name l name Under Under e)))
-
 negated-sum : (a n x y : ℤ) → neg_ℤ (a *ℤ x +ℤ n *ℤ y) ≡ a *ℤ neg_ℤ x +ℤ n *ℤ neg_ℤ y
 negated-sum a n x y = spread (a *ℤ x) (n *ℤ y) ∙ ap₂ (λ (u v : ℤ). u +ℤ v) (sym (mul-neg a x)) (sym (mul-neg n y))
   where
@@ -414,10 +408,6 @@ divides-part k f z y up e h =
     nonzero z (inl up) e = omega (arith, ints, up, e)
     nonzero z (inr down) e = omega (arith, ints, down, e)
 
-held-outside : (side : Side) (at : List Mark) (name : RowName) → IsOutsideLine at name → IsIn (place_of name side) at → ⊥
-held-outside Under at name out i = out.under i
-held-outside Over at name out i = out.over i
-
 left-divided : (t : Lists) (r : Row) (x : Leaver) (times k low : ℕ) (n : ℤ) (part : RowName → ℤ) → (h : IsLeavingRow t r x)
     → AreReduced (lines (problem_of t)) (k * (level_kept t r x h).own * times) (by_slot t x.level (left_whole t x times k n)) low part
     → IsDividedRow (problem_left t x) (marks_left t x) (k * (level_kept t r x h).own * times) (left_numbers t r x h k n) low part
@@ -438,7 +428,7 @@ left-divided t r x times k low n part h red =
       lowest = λ m dm each.
           let named : Each (λ l. (IsOutsideLine (marks_at t) l.name → m ∣ unsigned_abs (part l.name))) (lines (problem_of t)) =
           names_back (λ name. IsOutsideLine (marks_at t) name → m ∣ unsigned_abs (part name)) x.id (problem_of t)
-          (λ out. absurd (held-outside x.side (marks_at t) (Held x.id) out (subst (λ (i : ℕ). IsIn (place_of (Held i) x.side) (marks_at t)) (sym h.is.id_is) (its_mark t r x h.is))))
+          (λ out. absurd (at_side x.side (marks_at t) (Held x.id) out (subst (λ (i : ℕ). IsIn (place_of (Held i) x.side) (marks_at t)) (sym h.is.id_is) (its_mark t r x h.is))))
           (each-impl (λ l. IsOutsideLine (marks_left t x) l.name → m ∣ unsigned_abs (part l.name)) _ (lines (problem_left t x)) (λ l e out. e (outside_left (marks_at t) x.id l.name out)) (recursion_from_All _ (lines (problem_left t x)) each)) in
           let all = All-from_recursion (λ l. IsOutsideLine (marks_at t) l.name → m ∣ unsigned_abs (part l.name)) (lines (problem_of t)) named in
           red.lowest m dm (λ i d lt. divides-part m red.factor (part (get_or (lines (problem_of t)) i d).name) (by (get_or (lines (problem_of t)) i d).name) red.factor_positive (red.same i d lt)
@@ -454,9 +444,6 @@ left-has t r x unit times k low n part h least above same share red =
     divided_row_is_row (problem_left t x) (marks_left t x) x.level unit (k * (level_kept t r x h).own * times) low m.0 part m.1
     (divided-same (problem_left t x) (marks_left t x) (k * (level_kept t r x h).own * times) low (left_numbers t r x h k n) m.0 part m.2 (left-divided t r x times k low n part h red))
 
-whole-some : (g : ℕ) (z w : ℤ) → 0 < g → pos g *ℤ z ≡ w → z ≢ pos 0 → w ≢ pos 0
-whole-some g z w above e some none = some (zero_from_mul g z above (e ∙ none))
-
 own-above : (t : Lists) (r : Row) (x : Leaver) (times k : ℕ) → (h : IsLeavingRow t r x) → 0 < times → 0 < k → 0 < k * (level_kept t r x h).own * times
 own-above t r x times k h above up = mul-pos (mul-pos up (level_kept t r x h).numbers.row.own_positive) above
 
@@ -469,7 +456,7 @@ left_row_is t r x unit times k n row h least above whole share made lowest =
       own = red.0;
       own_is = red.1;
       level_row = left-has t r x unit times k red.0 n (row_number t x.level row) h least above same share red.2;
-      columns = λ c some ne. left_columns t r x times k n h c (whole-some made.factor (coefficient c row) (left_whole t x times k n c) made.above (made.same c) some) ne;
+      columns = λ c some ne. left_columns t r x times k n h c (some_whole made.factor (coefficient c row) (left_whole t x times k n c) made.above (made.same c) some) ne;
     }
 
 -- ---- where it does not fit
@@ -502,7 +489,7 @@ left_unfit t r x unit times k n h least above whole share unfit =
     (λ fit.
     let named : Each (λ l. IsOutsideLine (marks_at t) l.name → IsFitting (low.1 l.name)) (lines (problem_of t)) =
     names_back (λ name. IsOutsideLine (marks_at t) name → IsFitting (low.1 name)) x.id (problem_of t)
-    (λ out. absurd (held-outside x.side (marks_at t) (Held x.id) out (subst (λ (i : ℕ). IsIn (place_of (Held i) x.side) (marks_at t)) (sym h.is.id_is) (its_mark t r x h.is))))
+    (λ out. absurd (at_side x.side (marks_at t) (Held x.id) out (subst (λ (i : ℕ). IsIn (place_of (Held i) x.side) (marks_at t)) (sym h.is.id_is) (its_mark t r x h.is))))
     (each-impl (λ l. IsOutsideLine (marks_left t x) l.name → IsFitting (low.1 l.name)) _ (lines (problem_left t x)) (λ l e out. e (outside_left (marks_at t) x.id l.name out)) (recursion_from_All _ (lines (problem_left t x)) fit.outside_fit)) in
     let all = All-from_recursion (λ l. IsOutsideLine (marks_at t) l.name → IsFitting (low.1 l.name)) (lines (problem_of t)) named in
     unfit_terms t x.level (left_whole t x times k n) (k * (level_kept t r x h).own * times) (by_slot t x.level (left_whole t x times k n)) (pos 0) 1 h.kept.slots (left_terms t r x times k n h) unfit low.0 low.1 zero_fraction low.2 refl

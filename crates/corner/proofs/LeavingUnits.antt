@@ -4,10 +4,10 @@ use Rattle.std.specs.List.{AllByRecursion as Each}
 use Rattle.std.specs.Int.{◌∣◌, IsGcd}
 use Rattle.std.proofs.lemmas.Bool.{cases_eq}
 use Rattle.std.proofs.lemmas.Nat.Gcd.{IsGcd-swap, dvd_trans}
-use Rattle.std.proofs.Math.Nat.{dvd-mul_left, dvd-mul_right_of_dvd, dvd_of_mul-dvd-mul_right, mul-div_cancel', mul-dvd-mul_right, one-dvd}
+use Rattle.std.proofs.Math.Nat.{dvd-mul_left, mul-div_cancel', mul-dvd-mul_right, one-dvd}
 use Rattle.std.proofs.lemmas.List.Elements.{All-from_recursion, recursion_from_All}
 use Rattle.frac_core.specs.declared.frac.TheConstants.{PART_BOUND}
-use Rattle.frac_core.proofs.Gauss.{Reduces, gauss, reduces}
+use Rattle.frac_core.proofs.Gauss.{Reduces, reduces}
 use Rattle.problem_core.specs.declared.parts.RowName.{RowName}
 use Rattle.problem_core.specs.declared.parts.RowName.TheVariants.{Held}
 use Rattle.problem_core.specs.declared.parts.Side.TheVariants.{Under}
@@ -15,7 +15,7 @@ use Rattle.problem_core.specs.Layout.{Line, Problem, Row, line_of_row, lines, st
 use Rattle.problem_core.specs.Corners.{place_of}
 use Rattle.problem_core.specs.Certificates.{weight_at}
 use Rattle.problem_core.proofs.Forms.{each-both, each-impl}
-use Rattle.corner_laws.proofs.LevelUnits.{own_weight}
+use Rattle.corner_laws.proofs.LevelUnits.{own_weight, grown, shrunk}
 use Rattle.corner_lines.specs.LevelJoins.{IsLeastMultiple}
 use Rattle.corner_lines.proofs.LevelJoins.{whole-none}
 use Rattle.corner_lines.proofs.MarkForms.{same-name}
@@ -28,18 +28,6 @@ use Rattle.corner.proofs.SlotFacts.{any_is}
 use Rattle.corner.proofs.FittingRows.{stays_above}
 use Rattle.corner.proofs.LeavingRows.{IsLeavingRow, its_each, its_level, level_kept}
 use Rattle.corner.proofs.LeftLists.{all_left, left_rows, lines_back, rows_left}
-
--- ---- shares
-
-grown : (n w k g : ℕ) → Reduces w k g → (k / g) ∣ n → k ∣ n * w
-grown n w k g r d =
-    let same : n * (w / g) * g ≡ n * w = let h : n * (w / g * g) ≡ n * w = ap (λ (m : ℕ). n * m) r.num_is in omega (arith, h) in
-    subst (λ (m : ℕ). k ∣ m) same (subst (λ (m : ℕ). m ∣ n * (w / g) * g) r.den_is (mul-dvd-mul_right (k / g) (dvd-mul_right_of_dvd (k / g) d (w / g)) g))
-
-shrunk : (n w k g : ℕ) → Reduces w k g → k ∣ n * w → (k / g) ∣ n
-shrunk n w k g r d =
-    let same : w / g * n * g ≡ n * w = let h : n * (w / g * g) ≡ n * w = ap (λ (m : ℕ). n * m) r.num_is in omega (arith, h) in
-    gauss (w / g) (k / g) n r.apart (dvd_of_mul-dvd-mul_right (k / g) r.g_above (subst (λ (m : ℕ). m ∣ w / g * n * g) (sym r.den_is) (subst (λ (m : ℕ). k ∣ m) (sym same) d)))
 
 -- ---- the row's share is whole in each unit
 

@@ -1,20 +1,19 @@
 -- What a level is where a row is taken out that has no weight there.
-use Rattle.std.proofs.Common.{◌≡◌, ◌≢◌, ◌∙◌, ℕ, zero, suc, ◌*◌, ◌/◌, ◌<◌, ◌++◌, Bool, true, false, cond, nat_eq, List, [], ◌∷◌, map, ℤ, pos, ◌+ℤ◌, ◌*ℤ◌, ◌<ℤ◌, neg_ℤ, refl, sym, ap, ap₂, subst, arith, All, Any, eq-eqb, mul-pos}
+use Rattle.std.proofs.Common.{◌≡◌, ◌≢◌, ◌∙◌, ℕ, zero, suc, ◌*◌, ◌/◌, ◌<◌, ◌++◌, Bool, true, false, cond, nat_eq, List, [], ◌∷◌, map, ℤ, pos, ◌*ℤ◌, ◌<ℤ◌, neg_ℤ, refl, sym, ap, subst, arith, All, Any, eq-eqb, mul-pos}
 use Rattle.std.specs.List.{AllByRecursion as Each}
 use Rattle.std.specs.Int.{◌∣◌}
 use Rattle.std.proofs.Math.IntN.{*ℤ_comm}
-use Rattle.std.proofs.Math.Nat.{mul-div_cancel}
 use Rattle.std.proofs.lemmas.List.Elements.{recursion_from_All, All-from_recursion}
 use borrow.Author.Differences.{ints}
 use Rattle.frac_core.specs.Fraction.{Fraction, IsRatio}
-use Rattle.frac_core.proofs.Integers.{mul_assoc_ℤ, mul_left_comm_ℤ, mul-zero_ℤ, mul_positive, zero-mul_ℤ}
+use Rattle.frac_core.proofs.Integers.{mul_assoc_ℤ, mul_left_comm_ℤ, mul_positive, zero-mul_ℤ}
 use Rattle.problem_core.specs.declared.parts.Mark.{Mark}
 use Rattle.problem_core.specs.declared.parts.RowName.{RowName}
 use Rattle.problem_core.specs.declared.parts.RowName.TheVariants.{Held}
 use Rattle.problem_core.specs.declared.parts.Side.{Side}
 use Rattle.problem_core.specs.declared.parts.Side.TheVariants.{Under, Over}
 use Rattle.problem_core.specs.Layout.{IsProblem, Line, Problem, Row, coefficient, line_of_row, lines, stay_lines, sum_of, value_at}
-use Rattle.problem_core.specs.Certificates.{over_weight, under_weight, weight_at}
+use Rattle.problem_core.specs.Certificates.{weight_at}
 use Rattle.problem_core.specs.Corners.{IsCorner, IsIn, Point, StandsAt, equation, marks_of, one_column, place, place_of}
 use Rattle.problem_core.specs.Levels.{IsCostAt, cost_at, line_cost, scales}
 use Rattle.problem_core.specs.Unfit.{without_weight}
@@ -23,16 +22,18 @@ use Rattle.problem_core.proofs.Forms.{each-both, each-impl, mul-sum}
 use Rattle.corner_laws.specs.Units.{IsLevelUnit, over_share, under_share}
 use Rattle.corner_laws.proofs.ColumnsStay.{each_marks}
 use Rattle.corner_laws.proofs.Gaps.{shares}
-use Rattle.corner_laws.proofs.LevelSizes.{over-zero, under-zero}
-use Rattle.corner_laws.proofs.LinePlaces.{sum-each}
 use Rattle.corner_laws.proofs.Rays.{cancel-right}
 use Rattle.corner_laws.proofs.ZeroColumns.{scales-above}
 use Rattle.corner_lines.specs.LevelRows.{IsLevelMultiple}
 use Rattle.corner_lines.specs.Removals.{without_row}
 use Rattle.corner_lines.proofs.LevelJoins.{free-number, grown-over, grown-under, weightless-none}
 use Rattle.corner_lines.proofs.LevelPlaces.{cost_everywhere}
-use Rattle.corner_lines.proofs.LevelRests.{marks-each}
 use Rattle.corner.proofs.LeftLists.{all_left, each_lighter, gone, in_before, in_left, left_far, left_product, left_sum, lighter, with_lighter}
+use Rattle.problem_core.proofs.Conflicts.{sum-each}
+use Rattle.corner_laws.proofs.Ends.{both_marks, first-rows}
+use Rattle.corner_lines.proofs.LevelLeaves.{moved-factor}
+use Rattle.corner_lines.proofs.LevelJoinCosts.{free-cost}
+use Rattle.corner_laws.proofs.LevelLifts.{quotient}
 
 -- ---- its number
 
@@ -60,9 +61,6 @@ left_number p at r Over level unit own by is i h =
     (λ l k e. subst (λ (m : Line). IsIn (place_of m.name Over) at → by m.name ≡ neg_ℤ (pos (own * over_share unit level m))) e k i ∙ free-number Over level unit own (line_of_row (without_weight r)) (weightless-none level (line_of_row r)))
 
 -- ---- the row
-
-moved-factor : (own t u w : ℕ) → w ≡ t * u → own * w ≡ own * t * u
-moved-factor own t u w e = ap (λ (n : ℕ). own * n) e ∙ omega arith
 
 -- in a unit that is so many times less
 pub multiple_left : (p : Problem) (at : List Mark) (id level unit f own : ℕ) (by : RowName → ℤ) → IsProblem (without_row id p) → IsLevelUnit (without_row id p) level unit → 0 < f → by (Held id) ≡ pos 0
@@ -110,21 +108,7 @@ left_stands p at id x h = (
     known =
         each-both _ _ (lines (without_row id p)) (left_far p id)
         (each_lighter (λ l. ((IsIn (place_of l.name Under) at → ⊥) → x.num (place_of l.name Under) ≡ pos 0) × ((IsIn (place_of l.name Over) at → ⊥) → x.num (place_of l.name Over) ≡ pos 0)) id p
-        (marks-each (λ c. (IsIn c at → ⊥) → x.num c ≡ pos 0) (lines (with_lighter id p)) (recursion_from_All _ (marks_of (lines (with_lighter id p))) h.1)))
-
-free-cost : (q level : ℕ) (x : ℕ → ℤ) (l : Line) → weight_at l level ≡ 0 → pos q *ℤ line_cost level x l ≡ pos 0
-free-cost q level x l e =
-    let u : under_weight l.rel (weight_at l level) ≡ 0 = ap (under_weight l.rel) e ∙ under-zero l.rel in
-    let o : over_weight l.rel (weight_at l level) ≡ 0 = ap (over_weight l.rel) e ∙ over-zero l.rel in
-    ap (λ (z : ℤ). pos q *ℤ z)
-    (ap₂ ◌+ℤ◌ (ap (λ (w : ℕ). pos w *ℤ x (place_of l.name Under)) u ∙ zero-mul_ℤ (x (place_of l.name Under))) (ap (λ (w : ℕ). pos w *ℤ x (place_of l.name Over)) o ∙ zero-mul_ℤ (x (place_of l.name Over))))
-    ∙ mul-zero_ℤ (pos q)
-
-quotient-more : (whole part k d : ℕ) → 0 < d → whole / d * d ≡ whole → part ≡ k * whole → part / d ≡ k * (whole / d)
-quotient-more whole part k d above e f =
-    let g : k * (whole / d * d) ≡ k * whole = ap (λ (n : ℕ). k * n) e in
-    let h : part ≡ (k * (whole / d)) * d = omega (arith, f, g) in
-    ap (λ (n : ℕ). n / d) h ∙ mul-div_cancel (k * (whole / d)) above
+        (both_marks (λ c. (IsIn c at → ⊥) → x.num c ≡ pos 0) (lines (with_lighter id p)) (recursion_from_All _ (marks_of (lines (with_lighter id p))) h.1)))
 
 -- with the scales of the rows that are gone
 left-cost : (p : Problem) (id level : ℕ) (x : ℕ → ℤ) → IsProblem (without_row id p) → cost_at (with_lighter id p) level x ≡ pos (gone id p.rows) *ℤ cost_at (without_row id p) level x
@@ -135,14 +119,10 @@ left-cost p id level x problem =
     (λ r e. free-cost (scales (with_lighter id p) / r.scale) level x (line_of_row (without_weight r)) (weightless-none level (line_of_row r)))
     ∙ sum-each (λ l. pos (scales (with_lighter id p) / l.scale) *ℤ line_cost level x l) (λ l. pos (gone id p.rows) *ℤ (pos (scales (without_row id p) / l.scale) *ℤ line_cost level x l)) (lines (without_row id p))
     (each-impl (λ l. ((0 < l.scale) × (0 < l.den)) × (scales (without_row id p) / l.scale * l.scale ≡ scales (without_row id p))) _ (lines (without_row id p))
-    (λ l h. ap (λ (n : ℕ). pos n *ℤ line_cost level x l) (quotient-more (scales (without_row id p)) (scales (with_lighter id p)) (gone id p.rows) l.scale h.0.0 h.1 (left_product id p.rows (stay_lines 1001 p.stays)))
+    (λ l h. ap (λ (n : ℕ). pos n *ℤ line_cost level x l) (quotient (scales (without_row id p)) (scales (with_lighter id p)) (gone id p.rows) l.scale h.0.0 h.1 (left_product id p.rows (stay_lines 1001 p.stays)))
     ∙ mul_assoc_ℤ (pos (gone id p.rows)) (pos (scales (without_row id p) / l.scale)) (line_cost level x l))
     (each-both _ _ (lines (without_row id p)) (recursion_from_All _ (lines (without_row id p)) problem) (shares (without_row id p) problem)))
     ∙ mul-sum (pos (gone id p.rows)) (λ l. pos (scales (without_row id p) / l.scale) *ℤ line_cost level x l) (lines (without_row id p))
-
-first-rows : (P : Line → Type 0) (rows : List Row) (ls : List Line) → Each P (map line_of_row rows ++ ls) → Each (λ r. P (line_of_row r)) rows
-first-rows P [] ls h = tt
-first-rows P (r ∷ rows) ls h = (h.0, first-rows P rows ls h.1)
 
 above-product : (k : ℕ) → 0 < k → pos 0 <ℤ pos k
 above-product k h = omega (arith, ints, h)

@@ -21,9 +21,7 @@ use Rattle.corner_lines.specs.LineEquations.{IsOutsideLine}
 use Rattle.corner_lines.specs.LevelJoins.{AreLinesBefore, IsLineBefore, level_count}
 use Rattle.corner_lines.specs.Removals.{without_row}
 use Rattle.corner_lines.proofs.MarkForms.{same-name}
-
-abbrev pub other_row : ℕ → Row → Bool
-other_row id r = cond (nat_eq r.id id) false true
+use Rattle.corner_lines.proofs.Dropped.{filter-on, filter-off, lines-left, later-in, other_row}
 
 -- ---- the problem where the row has no weight
 
@@ -33,12 +31,6 @@ lighter id (r ∷ rows) = cond (nat_eq r.id id) (without_weight r) r ∷ lighter
 
 abbrev pub with_lighter : ℕ → Problem → Problem
 with_lighter id p = record { rows = lighter id p.rows; stays = p.stays }
-
-filter-on : (id : ℕ) (r : Row) (rows : List Row) → r.id ≡ id → filter (other_row id) (r ∷ rows) ≡ filter (other_row id) rows
-filter-on id r rows e = ap (λ (b : Bool). cond (cond b false true) (r ∷ filter (other_row id) rows) (filter (other_row id) rows)) (eq-eqb r.id id e)
-
-filter-off : (id : ℕ) (r : Row) (rows : List Row) → r.id ≢ id → filter (other_row id) (r ∷ rows) ≡ r ∷ filter (other_row id) rows
-filter-off id r rows n = ap (λ (b : Bool). cond (cond b false true) (r ∷ filter (other_row id) rows) (filter (other_row id) rows)) (ne_eqb r.id id n)
 
 lighter-on : (id : ℕ) (r : Row) (rows : List Row) → r.id ≡ id → lighter id (r ∷ rows) ≡ without_weight r ∷ lighter id rows
 lighter-on id r rows e = ap (λ (b : Bool). cond b (without_weight r) r ∷ lighter id rows) (eq-eqb r.id id e)
@@ -60,16 +52,8 @@ stay-not attr id e = subst is-stay e tt
     is-stay (Held n) = ⊥
     is-stay (StayOf a) = Unit {0}
 
--- what holds of each line holds of each that is left
-pub lines_left : (P : Line → Type 0) (id : ℕ) (rows : List Row) (ls : List Line) → Each P (map line_of_row rows ++ ls) → Each P (map line_of_row (filter (other_row id) rows) ++ ls)
-lines_left P id [] ls h = h
-lines_left P id (r ∷ rows) ls h = elim (cases_eq r.id id) [
-  | inl e ↦ subst (λ (rs : List Row). Each P (map line_of_row rs ++ ls)) (sym (filter-on id r rows e)) (lines_left P id rows ls h.1)
-  | inr n ↦ subst (λ (rs : List Row). Each P (map line_of_row rs ++ ls)) (sym (filter-off id r rows n)) (h.0, lines_left P id rows ls h.1)
-]
-
 pub all_left : (P : Line → Type 0) (id : ℕ) (p : Problem) → All P (lines p) → All P (lines (without_row id p))
-all_left P id p h = All-from_recursion P (lines (without_row id p)) (lines_left P id p.rows (stay_lines 1001 p.stays) (recursion_from_All P (lines p) h))
+all_left P id p h = All-from_recursion P (lines (without_row id p)) (lines-left P id p.rows (stay_lines 1001 p.stays) (recursion_from_All P (lines p) h))
 
 -- so does what holds of each where the row has no weight
 lighter-left : (P : Line → Type 0) (id : ℕ) (rows : List Row) (ls : List Line) → Each P (map line_of_row (lighter id rows) ++ ls) → Each P (map line_of_row (filter (other_row id) rows) ++ ls)
@@ -293,9 +277,6 @@ left_whole_problem p id whole = record {
 }
 
 -- ---- the marks that are left
-
-later-in : (m : Mark) (ms : List Mark) (c : ℕ) → IsIn c ms → IsIn c (m ∷ ms)
-later-in m ms c (k, within, is) = (suc k, omega (arith, within), is)
 
 -- each is one of before
 pub in_before : (id c : ℕ) (ms : List Mark) → IsIn c (without_marks (id ∷ []) ms) → IsIn c ms

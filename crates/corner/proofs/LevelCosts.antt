@@ -44,6 +44,7 @@ use Rattle.corner.proofs.LevelCounts.{IsAtLevel}
 use Rattle.corner.proofs.LevelTerms.{fitting_numbers}
 use Rattle.corner.proofs.LevelSwaps.{IsLevelPair, enter_out, enter_high, leave_high, leaving_numbers, level_entering, level_exchange, pivot_level, pivot_sign, row_after, row_unfit, size_of, sum_columns}
 use Rattle.corner.proofs.SwapSides.{pair_swap, sides_after}
+use Rattle.corner_laws.proofs.DualChoice.{positive-pos}
 
 -- ---- the cost
 
@@ -230,9 +231,6 @@ kept-scale t l h low = ap₂ ◌*ℤ◌ (h.levels l low).own_is (h.levels l low)
 
 pub scale_fits : (t : Lists) (l : ℕ) → IsKept t → l < LEVELS → IsFitting (level_own t l *ℤ (priority_at t l).unit)
 scale_fits t l kept low = subst IsFitting (sym (kept-scale t l kept low)) (kept.levels l low).numbers.fits.scale_fits
-
-positive-pos : (n : ℕ) → 0 < n → pos 0 <ℤ pos n
-positive-pos n h = omega (arith, ints, h)
 
 pub scale_above : (t : Lists) (l : ℕ) → IsKept t → l < LEVELS → pos 0 <ℤ (level_own t l *ℤ (priority_at t l).unit)
 scale_above t l kept low =

@@ -7,15 +7,14 @@ use Rattle.std.proofs.lemmas.List.Elements.{recursion_from_All}
 use borrow.Author.Differences.{ints}
 use Rattle.problem_core.specs.declared.parts.Side.{Side}
 use Rattle.problem_core.specs.declared.parts.Side.TheVariants.{Under, Over}
-use Rattle.problem_core.specs.declared.parts.RowName.TheVariants.{Held, Stay as StayOf}
+use Rattle.problem_core.specs.declared.parts.RowName.TheVariants.{Stay as StayOf}
 use Rattle.problem_core.specs.declared.parts.Level.{Level}
 use Rattle.problem_core.specs.declared.parts.Level.TheVariants.{Priority, Stay as StayLevel}
 use Rattle.problem_core.specs.Layout.{lines}
 use Rattle.problem_core.specs.Levels.{IsLevelAt}
 use Rattle.corner_laws.proofs.Counting.{head_pairs, tail_pairs}
 use Rattle.corner_lines.specs.LineEquations.{sign_of}
-use Rattle.corner.specs.declared.table.Owner.{Owner}
-use Rattle.corner.specs.declared.table.Owner.TheVariants.{Level as LevelSlot, Attr as AttrSlot, Line as LineSlot}
+use Rattle.corner.specs.declared.table.Owner.TheVariants.{Line as LineSlot}
 use Rattle.corner.specs.declared.table.TheConstants.{LEVELS}
 use Rattle.corner.specs.Tables.{Lists, entry, level_slot, line_slot, problem_of, slot_at, standing_at}
 use Rattle.corner.specs.Kept.{HasCost, IsKept, IsOwned, IsStayOwner}
@@ -24,6 +23,7 @@ use Rattle.corner.proofs.LevelNumberFacts.{home_is, named_line, slot_line}
 use Rattle.corner.proofs.SlotFacts.{any_impl, named_slot}
 use Rattle.corner.proofs.LevelReadFacts.{reduced_elsewhere}
 use Rattle.corner.proofs.LevelRowFacts.{times-above, times-below}
+use Rattle.corner.proofs.PivotFacts.{stay_owner}
 
 -- ---- lists that rise
 
@@ -62,12 +62,6 @@ none_more P xs i none here j lt h = elim (cases_eq j i) [
 
 -- ---- slots of levels
 
-stay-owner : (o : Owner) → IsStayOwner o → (attr : ℕ) × (o ≡ LineSlot (StayOf attr))
-stay-owner LevelSlot h = absurd h
-stay-owner (AttrSlot attr) h = absurd h
-stay-owner (LineSlot (Held id)) h = absurd h
-stay-owner (LineSlot (StayOf attr)) h = (attr, refl)
-
 past-levels : (t : Lists) (w : ℕ) → IsKept t → IsStayOwner (slot_at t w).owner → LEVELS ≤ w
 past-levels t w kept h = elim (cases_lt w LEVELS) [
   | inl lt ↦ absurd (subst IsStayOwner (kept.slots.level_owners w lt) h)
@@ -82,13 +76,13 @@ stay-there t w attr kept within le e =
 pub level_there : (t : Lists) (w : ℕ) (level : Level) → IsKept t → w < length t.slots → HasCost t w → (w < LEVELS → level ≡ Priority (1000 - w)) → ((attr : ℕ) → (slot_at t w).owner ≡ LineSlot (StayOf attr) → level ≡ StayLevel attr) → IsLevelThere t w level
 level_there t w level kept within (inl lt) first stay = subst (λ (l : Level). IsLevelThere t w l) (sym (first lt)) ((w, omega (arith, lt)), omega (arith, lt))
 level_there t w level kept within (inr h) first stay =
-    let o = stay-owner (slot_at t w).owner h in
+    let o = stay_owner (slot_at t w).owner h in
     subst (λ (l : Level). IsLevelThere t w l) (sym (stay o.0 o.1)) (stay-there t w o.0 kept within (past-levels t w kept h) o.1)
 
 pub cost_level : (t : Lists) (w : ℕ) → IsKept t → w < length t.slots → HasCost t w → IsLevelSlot t w
 cost_level t w kept within (inl lt) = (w, (Priority (1000 - w), omega (arith, lt), omega (arith, lt)))
 cost_level t w kept within (inr h) =
-    let o = stay-owner (slot_at t w).owner h in
+    let o = stay_owner (slot_at t w).owner h in
     let there = stay-there t w o.0 kept within (past-levels t w kept h) o.1 in
     (there.0.0, (StayLevel o.0, there.0.1, there.1))
 

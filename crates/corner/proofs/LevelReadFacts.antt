@@ -45,9 +45,6 @@ stay-above t attr k kept is =
 slot-above : (t : Lists) (attr k : ℕ) → IsKept t → IsLevelAt (problem_of t) (StayLevel attr) k → 1001 ≤ attr_slot t attr + 1
 slot-above t attr k kept is = (named_slot t (StayOf attr) kept.slots (stay-name (problem_of t) attr k is)).0
 
-same-stay-level : (p : Problem) (a j k : ℕ) → IsLevelAt p (StayLevel a) j → IsStayLevel p k a → j ≡ k
-same-stay-level p a j k is alone = any_is (λ l. l.name ≡ StayOf a → l.level ≡ k) (λ l. (l.name ≡ StayOf a) × (l.level ≡ j)) (lines p) alone.named is (λ l h e. sym e.1 ∙ h e.0)
-
 same-stay : (p : Problem) (a b k : ℕ) → IsLevelAt p (StayLevel a) k → IsStayLevel p k b → StayOf a ≡ StayOf b
 same-stay p a b k is alone = any_is (λ l. l.level ≡ k → (l.name ≡ StayOf b) × (l.rel ≡ Eq) × (l.scale ≡ 1) × (l.weight ≡ 1)) (λ l. (l.name ≡ StayOf a) × (l.level ≡ k)) (lines p) alone.own is (λ l h e. sym e.0 ∙ (h e.1).0)
 

@@ -1,9 +1,7 @@
 -- Each level has a row, whose numbers are those that the lists have.
-use Rattle.std.proofs.Common.{◌≡◌, ◌≢◌, ◌∙◌, ℕ, ◌+◌, ◌*◌, ◌<◌, ◌≤◌, cond, Bool, true, false, List, refl, sym, ap, subst, arith, inl, inr, ℤ, pos, neg_ℤ, ◌*ℤ◌, unsigned_abs, Some, None, ne_eqb, lt-ltb, le-ltb}
+use Rattle.std.proofs.Common.{◌≡◌, ◌≢◌, ◌∙◌, ℕ, ◌+◌, ◌*◌, ◌<◌, ◌≤◌, cond, Bool, true, false, refl, sym, ap, subst, arith, ℤ, pos, neg_ℤ, ◌*ℤ◌, unsigned_abs, Some, None, lt-ltb, le-ltb}
 use Rattle.std.specs.Int.{◌∣◌}
 use Rattle.std.specs.declared.option.Option.{Option}
-use Rattle.std.proofs.lemmas.Bool.{cases_eq}
-use Rattle.std.proofs.lemmas.Nat.Gcd.{dvd-zero}
 use Rattle.std.proofs.lemmas.List.Elements.{All-from_recursion, recursion_from_All}
 use Rattle.frac_core.specs.Fraction.{IsFitting}
 use Rattle.problem_core.specs.declared.parts.Mark.{Mark}
@@ -22,10 +20,9 @@ use Rattle.corner_lines.specs.LineEquations.{IsOutsideLine, deviation, sign_of}
 use Rattle.corner_lines.specs.LevelRows.{HasLevelRow, line_numbers}
 use Rattle.corner_lines.specs.StayLevels.{IsInsideStay, turned}
 use Rattle.corner_lines.proofs.LinePivots.{equation_is_pivot}
-use Rattle.corner_lines.proofs.MarkForms.{same-name}
 use Rattle.corner_lines.proofs.StayRows.{inside_stay_has_row, outside_stay_has_row, stay_stands_alone}
 use Rattle.corner.specs.declared.table.TheConstants.{LEVELS}
-use Rattle.corner.specs.Tables.{Lists, attr_slot, entry, is_side, level_slot, line_slot, marks_at, number, priority_at, problem_of, same_side, standing_at, stands_in}
+use Rattle.corner.specs.Tables.{Lists, attr_slot, entry, is_side, level_slot, line_slot, marks_at, number, priority_at, problem_of, standing_at, stands_in}
 use Rattle.corner.specs.Kept.{HasStayRoom, IsEquationAt, IsKept, level_own}
 use Rattle.corner.specs.Views.{IsMarkOf, IsNamed}
 use Rattle.corner.specs.LevelNumbers.{IsSlotOfLevel, outside_times, own_at, own_inside, turned_inside, unit_at}
@@ -34,6 +31,9 @@ use Rattle.corner.proofs.MarkFacts.{inside_stands, not_both, stands_inside}
 use Rattle.corner.proofs.ReadFacts.{inside_equation}
 use Rattle.corner.proofs.WritingFacts.{lines_apart, number_is}
 use Rattle.corner.proofs.LevelNumberFacts.{IsKnown, all-known, named_line}
+use Rattle.corner_lines.proofs.LevelExchanges.{at-side}
+use Rattle.corner.proofs.RowPlaces.{self_side}
+use Rattle.corner_lines.proofs.OtherNumbers.{other-number, divides-zero}
 
 -- ---- by slot
 
@@ -89,15 +89,11 @@ priority_row t w kept lt =
 
 -- ---- lines outside and inside
 
-same-itself : (s : Side) → same_side s s ≡ true
-same-itself Under = refl
-same-itself Over = refl
-
 none-stands : (o : Option Side) (s : Side) → o ≡ None → is_side o s ≡ false
 none-stands o s e = ap (λ (x : Option Side). is_side x s) e
 
 some-stands : (o : Option Side) (s : Side) → o ≡ Some s → is_side o s ≡ true
-some-stands o s e = ap (λ (x : Option Side). is_side x s) e ∙ same-itself s
+some-stands o s e = ap (λ (x : Option Side). is_side x s) e ∙ self_side s
 
 pub out_line : (t : Lists) (name : RowName) → (standing_at t (line_slot t name)).side ≡ None → IsOutsideLine (marks_at t) name
 out_line t name e = record {
@@ -107,10 +103,6 @@ out_line t name e = record {
 
 pub in_line : (t : Lists) (l : Line) (s : Side) → IsKnown t l → (standing_at t (line_slot t l.name)).side ≡ Some s → IsIn (place_of l.name s) (marks_at t)
 in_line t l s k e = stands_inside t (record { row = l.name; side = s }) (k.marks s) (some-stands (standing_at t (line_slot t l.name)).side s e)
-
-at-side : (side : Side) (marks : List Mark) (name : RowName) → IsOutsideLine marks name → IsIn (place_of name side) marks → ⊥
-at-side Under marks name out i = out.under i
-at-side Over marks name out i = out.over i
 
 -- ---- stays' levels
 
@@ -138,15 +130,6 @@ outside_stay_row t attr k kept is side =
             (recursion_from_All _ (lines (problem_of t)) given.1.outside));
       };
     }
-
-other-number : (name : RowName) (own : ℕ) (by : RowName → ℤ) (l : RowName) → l ≢ name → line_numbers name own by l ≡ by l
-other-number name own by l ne = ap (λ (b : Bool). cond b (neg_ℤ (pos own)) (by l)) (ne_eqb (place_of l Under) (place_of name Under) (λ e. ne (same-name l name Under Under e)))
-
-divides-zero : (q : ℕ) (z : ℤ) → (z ≢ pos 0 → q ∣ unsigned_abs z) → q ∣ unsigned_abs z
-divides-zero q z h = elim (cases_eq (unsigned_abs z) 0) [
-  | inl e ↦ subst (λ (n : ℕ). q ∣ n) (sym e) (dvd-zero q)
-  | inr ne ↦ h (λ e. ne (ap (λ (y : ℤ). unsigned_abs y) e))
-]
 
 -- the stay inside and its equation
 pub inside_stay : (t : Lists) (attr k : ℕ) (s : Side) → IsKept t → (is : IsLevelAt (problem_of t) (StayLevel attr) k) → IsIn (place_of (StayOf attr) s) (marks_at t)

@@ -17,22 +17,23 @@ use Rattle.problem_core.specs.Layout.{Line, Problem, lines}
 use Rattle.problem_core.specs.Window.{zero_fraction}
 use Rattle.problem_core.specs.Corners.{IsIn, place_of}
 use Rattle.problem_core.specs.Levels.{AreFitting}
-use Rattle.problem_core.proofs.CornerFacts.{is_place}
 use Rattle.problem_core.proofs.Forms.{each-both, each-impl}
 use Rattle.corner_laws.specs.Units.{IsLevelRow, IsReducedBy}
-use Rattle.corner_laws.proofs.Counting.{IsIn-from_is_place}
 use Rattle.corner_laws.proofs.LevelSizes.{level_fits}
-use Rattle.corner_laws.proofs.ZeroColumns.{not-in}
 use Rattle.corner_lines.specs.LineEquations.{AreReduced, IsOutsideLine}
 use Rattle.corner_lines.specs.LevelCosts.{IsSound}
 use Rattle.corner_lines.specs.LevelFits.{IsFittingRow}
 use Rattle.corner_lines.specs.LevelRows.{IsDividedRow, IsUnfitRow, inside_number, reduced_number}
 use Rattle.corner_lines.proofs.LevelExchanges.{inside-numbers}
-use Rattle.corner_lines.proofs.LevelFits.{reduced-by, reduced-is, reduced_by}
+use Rattle.corner_lines.proofs.LevelFits.{reduced-by, reduced-is, reduced_by, fit-of}
 use Rattle.corner.specs.Tables.{Lists, problem_of}
 use Rattle.corner.specs.Kept.{AreSlots}
 use Rattle.corner.proofs.AttrJoins.{zero_kept}
 use Rattle.corner.proofs.RowEquations.{AreTermsOf, positive_part, unfit_terms}
+use Rattle.corner_lines.proofs.LevelTakes.{zero-fits}
+use Rattle.problem_core.proofs.CornerFacts.{is_place}
+use Rattle.corner_laws.proofs.Counting.{IsIn-from_is_place}
+use Rattle.corner_laws.proofs.ZeroColumns.{not-in}
 
 -- ---- lowest terms
 
@@ -75,9 +76,6 @@ part-same g by number name above e =
       | inr some ↦ ap (λ (b : Bool). cond b (pos 0) (number name)) (ne_eqb (unsigned_abs (by name)) 0 some)
     ]
 
-none-fits : (z : ℤ) → z ≡ pos 0 → IsFitting z
-none-fits z e = omega (arith, ints, e)
-
 reduced-of : (p : Problem) (at : List Mark) (own : ℕ) (by number : RowName → ℤ) (low : ℕ) → 0 < own → AreApart p at by → IsDividedRow p at own by low number → AreReduced (lines p) own by low (part-or by number)
 reduced-of p at own by number low above apart d =
     let part = positive_part d.factor own (pos low) above (ap pos d.own_is) in
@@ -99,7 +97,7 @@ unfit_divided t w whole own by at above slots are apart unfit low number d low_f
     unfit_terms t w whole own by (pos 0) 1 slots are unfit low (part-or by number) zero_fraction (reduced-of (problem_of t) at own by number low above apart d) refl low_fits
     (λ i l within. elim (apart i l within) [
       | inl out ↦ subst IsFitting (sym (part-same d.factor by number (get_or (lines (problem_of t)) i l).name d.above (d.same i l within out))) (fits i l within out)
-      | inr (inside, none) ↦ none-fits (part-or by number (get_or (lines (problem_of t)) i l).name) (part-none by number (get_or (lines (problem_of t)) i l).name none)
+      | inr (inside, none) ↦ zero-fits (part-or by number (get_or (lines (problem_of t)) i l).name) (part-none by number (get_or (lines (problem_of t)) i l).name none)
     ])
     zero_kept
 
@@ -114,9 +112,6 @@ record Fitting (p : Problem) (at : List Mark) (level unit own : ℕ) (by number 
   outside_fit : IsOutsideLine at l.name → IsFitting (number l.name)
   own_fit : l.level ≡ level → IsOutsideLine at l.name → (side : Side) → IsFitting (reduced_number side level unit own (number l.name) l)
   inside_fit : l.level ≡ level → (side inside : Side) → IsIn (place_of l.name inside) at → IsFitting (reduced_number side level unit own (inside_number inside level unit own l) l)
-
-fit-of : (side : Side) (level unit own : ℕ) (y z : ℤ) (l : Line) → y ≡ z → IsFitting (reduced_number side level unit own z l) → IsFitting (reduced_number side level unit own y l)
-fit-of side level unit own y z l e h = subst (λ (t : ℤ). IsFitting (reduced_number side level unit own t l)) (sym e) h
 
 reduced-fits : (p : Problem) (at : List Mark) (level unit own : ℕ) (by number : RowName → ℤ) (l : Line) → Fitting p at level unit own by number l → l.level ≡ level → (side : Side) → IsFitting (reduced_number side level unit own (by l.name) l)
 reduced-fits p at level unit own by number l f e side =

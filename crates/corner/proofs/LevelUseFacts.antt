@@ -1,5 +1,5 @@
 -- Levels that are in use, and fronts.
-use Rattle.std.proofs.Common.{◌≡◌, ◌≢◌, ◌∙◌, ℕ, zero, suc, ◌+◌, ◌-◌, ◌<◌, ◌≤◌, ◌++◌, cond, nat_eq, Bool, List, [], ◌∷◌, map, filter, length, refl, sym, ap, subst, arith, inl, inr, ℤ, pos, unsigned_abs, All, AllPairs, Any, ne_eqb}
+use Rattle.std.proofs.Common.{◌≡◌, ◌≢◌, ◌∙◌, ℕ, zero, suc, ◌+◌, ◌-◌, ◌<◌, ◌≤◌, ◌++◌, cond, nat_eq, Bool, List, [], ◌∷◌, map, filter, length, refl, sym, ap, subst, arith, inl, inr, ℤ, pos, unsigned_abs, AllPairs, Any, ne_eqb}
 use Rattle.std.specs.List.{AllByRecursion as Each}
 use Rattle.std.proofs.lemmas.Bool.{cases_eq}
 use Rattle.std.proofs.lemmas.List.Elements.{All-from_recursion, recursion_from_All}
@@ -28,11 +28,9 @@ use Rattle.corner.proofs.LevelNumberFacts.{IsKnown, all-known, home_is, named_li
 use Rattle.corner.proofs.LevelReadFacts.{same_level}
 use Rattle.corner.proofs.LevelFrontFacts.{in_column}
 use Rattle.corner.proofs.LevelWrittenFacts.{has_reduced}
+use Rattle.corner.proofs.TurnedFacts.{any-with}
 
 -- ---- rows of a level
-
-any-with : {X : Type 0} (P Q R : X → Type 0) (xs : List X) → All P xs → Any Q xs → ((x : X) → P x → Q x → R x) → Any R xs
-any-with P Q R xs a h f = (h.0, h.1, h.2, h.3, f h.1 (subst P h.3 (a h.0 h.1 h.2)) h.4)
 
 pub later-any : {X : Type 0} (P : X → Type 0) (x : X) (xs : List X) → Any P xs → Any P (x ∷ xs)
 later-any P x xs h = (suc h.0, h.1, omega (arith, h.2), h.3, h.4)

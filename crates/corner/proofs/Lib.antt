@@ -56,7 +56,6 @@ pub mod RowLevels
 pub mod RowJoins
 pub mod RowPaths
 pub mod RowStops
-pub mod CommonDivisors
 pub mod NextFacts
 pub mod ExchangedFacts
 pub mod ExchangedMarks

@@ -82,9 +82,6 @@ unlist_kept t listed new line k less none = record {
 
 -- ---- the lines of a row
 
-pub none_listed : (w : ℕ) (old : List ℕ) → IsListedOf w [] old old
-none_listed w old = record { keeps = λ c h. h; has = λ c le ne h. absurd h; others = λ c h. inl h }
-
 -- one term more, of a line that is listed
 pub one_listed : (w : ℕ) (row : List Term) (t : Term) (old mid new : List ℕ) → IsListedOf w row old mid → LEVELS ≤ t.col → t.col ≢ w → IsListed t.col mid new → IsListedOf w (row ++ t ∷ []) old new
 one_listed w row t old mid new h le ne listed = record {

@@ -23,7 +23,7 @@ use Rattle.corner.proofs.ReadFacts.{inside_equation, is_some, mark_named, value_
 use Rattle.corner.proofs.SlotFacts.{named_slot}
 use Rattle.corner.proofs.WritingFacts.{in_mark, line_owner}
 
-up_or_low : (z : ℤ) → (pos 0 ≤ℤ z) ⊎ (z <ℤ pos 0)
+pub up_or_low : (z : ℤ) → (pos 0 ≤ℤ z) ⊎ (z <ℤ pos 0)
 up_or_low (pos n) = inl (omega (arith, ints))
 up_or_low (negsuc n) = inr (omega (arith, ints))
 

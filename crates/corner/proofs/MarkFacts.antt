@@ -1,5 +1,5 @@
 -- The marks of a corner's lists.
-use Rattle.std.proofs.Common.{◌≡◌, ◌∙◌, ℕ, zero, suc, Bool, true, false, cond, List, [], ◌∷◌, filter, refl, sym, ap₂, subst, arith, inl, inr, ◌⊎◌}
+use Rattle.std.proofs.Common.{◌≡◌, ◌∙◌, ℕ, zero, suc, Bool, true, false, cond, List, [], ◌∷◌, filter, refl, sym, ap₂, subst, arith, inl, inr}
 use Rattle.problem_core.specs.declared.parts.Mark.{Mark}
 use Rattle.problem_core.specs.declared.parts.RowName.{RowName}
 use Rattle.problem_core.specs.declared.parts.RowName.TheVariants.{Held, Stay as StayOf}
@@ -10,10 +10,7 @@ use Rattle.problem_core.specs.Corners.{IsIn, marks_of, place, place_of}
 use Rattle.corner_lines.proofs.MarkForms.{same-name}
 use Rattle.corner.specs.Views.{IsMarkOf}
 use Rattle.corner.specs.Tables.{Lists, marks_at, problem_of, stands_in}
-
-pub bool_is : (b : Bool) → (b ≡ true) ⊎ (b ≡ false)
-bool_is true = inl refl
-bool_is false = inr refl
+use Rattle.row_core.proofs.Walks.{either}
 
 abbrev holds_if : Bool → Type 0
 holds_if true = Unit {0}
@@ -25,7 +22,7 @@ not_both b e f = subst holds_if (sym e ∙ f) tt
 
 keep : (p : Mark → Bool) (m : Mark) (ms : List Mark) (P : List Mark → Type 0) → (p m ≡ true → P (m ∷ filter p ms)) → (p m ≡ false → P (filter p ms)) → P (filter p (m ∷ ms))
 keep p m ms P passed other =
-    elim (bool_is (p m)) [
+    elim (either (p m)) [
       | inl e ↦ subst (λ (b : Bool). P (cond b (m ∷ filter p ms) (filter p ms))) (sym e) (passed e)
       | inr e ↦ subst (λ (b : Bool). P (cond b (m ∷ filter p ms) (filter p ms))) (sym e) (other e)
     ]

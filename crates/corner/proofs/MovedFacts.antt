@@ -34,6 +34,7 @@ use Rattle.corner.proofs.ListFacts.{all_from, from_map, further, get_mapped, to_
 use Rattle.corner.proofs.CornerFacts.{map_length}
 use Rattle.corner.proofs.FreeSlots.{free_line, not_free}
 use Rattle.corner.proofs.MoverFacts.{AreAt, has_where, in_slots, moves_where, none_false, one_list}
+use Rattle.corner.proofs.KeptFacts.{here_or}
 
 -- ---- what the slots are of
 
@@ -148,10 +149,6 @@ among_has (v ∷ ws) w e =
       | inl same ↦ (0, omega arith, same)
       | inr other ↦ further v ws w (among_has ws w (subst (λ (b : Bool). cond b true (is_among ws w) ≡ true) (ne_eqb v w other) e))
     ]
-
-here_or : (b c : Bool) → c ≡ true → cond b true c ≡ true
-here_or true c e = refl
-here_or false c e = e
 
 has_among : (ws : List ℕ) (w : ℕ) → Contains ws w → is_among ws w ≡ true
 has_among [] w (k, within, is) = absurd (omega (arith, within))

@@ -18,6 +18,7 @@ use Rattle.corner.specs.declared.table.Owner.{Owner}
 use Rattle.corner.specs.Views.{AreMovers, CornerView, IsCoefficientOf, IsColumnOf, IsOutside, MovesWith, owner_of}
 use Rattle.corner.proofs.ListFacts.{from_map, further, to_map}
 use Rattle.corner.proofs.KeptFacts.{filter_same}
+use Rattle.corner.proofs.GrownLists.{behind}
 
 -- ---- by coefficients
 
@@ -98,10 +99,6 @@ above ws base w none c le =
   where
     greater : (base w : ℕ) → base ≤ w → w ≢ base → base + 1 ≤ w
     greater base w le ne = omega (arith, le, ne)
-
-behind : (w : ℕ) (ws : List ℕ) (v : ℕ) → Contains (w ∷ ws) v → (w ≡ v → ⊥) → Contains ws v
-behind w ws v (zero, lt, x) never = absurd (never x)
-behind w ws v (suc k, lt, x) never = (k, omega (arith, lt), x)
 
 pub none_false : (b : Bool) → (b ≡ true → ⊥) → b ≡ false
 none_false true h = absurd (h refl)

@@ -1,22 +1,22 @@
 -- The corner of no attribute and no row.
-use Rattle.std.proofs.Common.{◌≡◌, ◌∙◌, ◌≤◌, List, [], map, filter, Contains, drop, length, sym, ap, ap₂, subst, arith}
+use Rattle.std.proofs.Common.{◌≡◌, ◌∙◌, ◌≤◌, List, [], map, filter, drop, length, ap, ap₂, arith}
 use Rattle.std.proofs.Math.ListN.{drop_of_length-le}
 use Rattle.problem_core.specs.declared.parts.Mark.{Mark}
 use Rattle.problem_core.specs.declared.parts.Stay.{Stay}
 use Rattle.problem_core.specs.Layout.{Problem, Row, lines}
 use Rattle.problem_core.specs.declared.parts.RowName.{RowName}
-use Rattle.problem_core.specs.Corners.{marks_of, place}
+use Rattle.problem_core.specs.Corners.{marks_of}
 use Rattle.corner.specs.declared.table.Owner.{Owner}
 use Rattle.corner.specs.declared.table.Slot.{Slot}
 use Rattle.corner.specs.declared.table.TheConstants.{LEVELS}
 use Rattle.corner.specs.declared.table.Table.{Table}
-use Rattle.corner.specs.Views.{AreCandidates, CornerView, Scene}
+use Rattle.corner.specs.Views.{CornerView, Scene}
 use Rattle.corner.specs.Tables.{Lists, lists_of, marks_at, problem_of, scene_at, stands_in}
-use Rattle.corner.specs.Histories.{AreAlike, lists_before, side_by_side}
+use Rattle.corner.specs.Histories.{lists_before, side_by_side}
 use Rattle.corner.specs.Invariants.{view_of}
 use Rattle.corner.specs.Joining.{HasNoPast}
 
-abbrev made_problem : List Row → List Stay → Problem
+abbrev pub made_problem : List Row → List Stay → Problem
 made_problem rows stays = record { rows = rows; stays = stays }
 
 no_problem : (t : Lists) → t.rows ≡ [] → t.stays ≡ [] → problem_of t ≡ made_problem [] []
@@ -33,23 +33,6 @@ none_inside t rows stays = none_of (marks_of (lines (problem_of t))) (no_marks t
 
 none_before : (t : Table) → HasNoPast t → lists_before t ≡ []
 none_before t past = ap (λ (rs : List (List Row)). side_by_side rs t.stays.before t.slots.before t.standings.before t.matrix.before t.attr_slots.before t.row_slots.before t.priorities.before) past.rows
-
-alike : (t : Table) → HasNoPast t → AreAlike t
-alike t past = record {
-  stays = ap length past.stays ∙ sym (ap length past.rows);
-  slots = ap length past.slots ∙ sym (ap length past.rows);
-  standings = ap length past.standings ∙ sym (ap length past.rows);
-  matrix = ap length past.matrix ∙ sym (ap length past.rows);
-  attr_slots = ap length past.attr_slots ∙ sym (ap length past.rows);
-  row_slots = ap length past.row_slots ∙ sym (ap length past.rows);
-  priorities = ap length past.priorities ∙ sym (ap length past.rows);
-}
-
-no_candidates : (p : Problem) (at : List Mark) → marks_of (lines p) ≡ [] → AreCandidates p at []
-no_candidates p at none m out negative = absurd (nothing_in (marks_of (lines p)) none out.0)
-  where
-    nothing_in : (ms : List Mark) → ms ≡ [] → Contains (map place ms) (place m) → ⊥
-    nothing_in ms e h = let k : Contains [] (place m) = subst (λ (ns : List Mark). Contains (map place ns) (place m)) e h in omega (arith, k.2)
 
 abbrev seen : Problem → List Mark → List Scene → List RowName → List Owner → CornerView
 seen p marks before candidates order = record { problem = p; marks = marks; before = before; candidates = candidates; order = order }

@@ -26,7 +26,7 @@ use Rattle.corner.specs.NextLists.{IsKeptBy, IsLevelNext, IsLineBy, over}
 
 -- ---- no mark comes twice
 
-apart-line : (l : Line) (ls : List Line) (side : Side) → Each (AreApart l) ls → Each (λ n. place_of l.name side ≢ place n) (marks_of ls)
+pub apart-line : (l : Line) (ls : List Line) (side : Side) → Each (AreApart l) ls → Each (λ n. place_of l.name side ≢ place n) (marks_of ls)
 apart-line l [] side h = tt
 apart-line l (k ∷ ls) Under h = (h.0.under_under, (h.0.under_over, apart-line l ls Under h.1))
 apart-line l (k ∷ ls) Over h = (h.0.over_under, (h.0.over_over, apart-line l ls Over h.1))

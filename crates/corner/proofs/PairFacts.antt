@@ -20,13 +20,14 @@ use Rattle.corner_lines.specs.StayLevels.{turned}
 use Rattle.corner_lines.proofs.LineMoves.{line_is_exchange}
 use Rattle.corner.specs.declared.levels.Pair.{Pair}
 use Rattle.corner.specs.Views.{IsMarkOf, IsNamed}
-use Rattle.corner.specs.Tables.{Lists, entry, is_side, line_slot, marks_at, number, problem_of, same_side, standing_at, stands_in}
+use Rattle.corner.specs.Tables.{Lists, entry, is_side, line_slot, marks_at, number, problem_of, standing_at, stands_in}
 use Rattle.corner.specs.Kept.{IsEquationAt, IsKept}
 use Rattle.corner.specs.Exchanges.{IsPair, marks_after, signed, solved}
 use Rattle.corner.proofs.MarkFacts.{stands_inside}
 use Rattle.corner.proofs.ReadFacts.{inside_equation}
 use Rattle.corner.proofs.WritingFacts.{lines_apart, number_is}
 use Rattle.corner.proofs.RowEquations.{mul-neg}
+use Rattle.corner.proofs.RowPlaces.{self_side}
 
 -- ---- signs
 
@@ -76,12 +77,8 @@ named-mark name side (l ∷ ls) (suc k, y, lt, e, h) =
 pub named_mark : (t : Lists) (m : Mark) → IsNamed (problem_of t) m.row → IsMarkOf (problem_of t) m
 named_mark t m named = named-mark m.row m.side (lines (problem_of t)) named
 
-same-side : (s : Side) → same_side s s ≡ true
-same-side Under = refl
-same-side Over = refl
-
 pub side-stands : (t : Lists) (m : Mark) → (standing_at t (line_slot t m.row)).side ≡ Some m.side → stands_in t m ≡ true
-side-stands t m e = ap (λ (o : Option Side). is_side o m.side) e ∙ same-side m.side
+side-stands t m e = ap (λ (o : Option Side). is_side o m.side) e ∙ self_side m.side
 
 pub leave_stands : (t : Lists) (pair : Pair) (s : Swap) → IsPair t pair s → stands_in t s.leave ≡ true
 leave_stands t pair s are = side-stands t s.leave (ap (λ w. (standing_at t w).side) are.leave_slot ∙ are.inside)

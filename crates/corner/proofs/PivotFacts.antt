@@ -76,12 +76,6 @@ entering_unfit t pair s z v n d kept are is unfit =
     (subst (λ (u : Fraction). IsUnfitRatio (sum_num zero_fraction n d u) (sum_den zero_fraction d u)) is.value_is
     (subst (λ (u : Fraction). IsUnfitRatio (sum_num u n d v) (sum_den u d v)) (is-zero z is.zero_num is.zero_den) unfit)))
 
-abbrev stay-number : Owner → ℕ
-stay-number LevelSlot = 0
-stay-number (AttrSlot attr) = attr
-stay-number (LineSlot (Held id)) = id
-stay-number (LineSlot (StayOf attr)) = attr
-
 pub stay_owner : (o : Owner) → IsStayOwner o → (attr : ℕ) × (o ≡ LineSlot (StayOf attr))
 stay_owner LevelSlot h = absurd h
 stay_owner (AttrSlot attr) h = absurd h

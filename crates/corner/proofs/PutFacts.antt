@@ -1,7 +1,6 @@
 -- Slots of lists with other rows and values.
 use Rattle.std.proofs.Common.{◌≡◌, ◌∙◌, ℕ, ◌<◌, ◌++◌, List, [], ◌∷◌, length, length-set, refl, sym, ap, subst, arith, All}
 use Rattle.std.proofs.lemmas.List.{get_or_append_left, length-append}
-use Rattle.std.proofs.Math.Seq.{get_or-append_seam}
 use Rattle.row_core.specs.Rows.{Term}
 use Rattle.corner.specs.declared.exchange.Change.{Change}
 use Rattle.indexed_rows.specs.Matrices.{IsBelow}
@@ -74,9 +73,6 @@ pub record ArePutSoFar (old : Table) (changes : List Change) (now : Table) (left
   pub before : lists_before now ≡ lists_before old
   pub alike : AreAlike old → AreAlike now
 
-pub none_put : (old : Table) (changes : List Change) → AreSlots (lists_of old) → All (IsChangeIn (lists_of old)) changes → ArePutSoFar old changes old changes
-none_put old changes slots all = record { slots = slots; changes_in = all; put = refl; before = refl; alike = λ h. h }
-
 pub one_more : (old : Table) (changes : List Change) (now next : Table) (left : List Change) (change : Change) → ArePutSoFar old changes now (left ++ change ∷ []) → lists_of next ≡ with_change (lists_of now) change
     → lists_before next ≡ lists_before now → (AreAlike now → AreAlike next) → ArePutSoFar old changes next left
 one_more old changes now next left change h put before alike = record {
@@ -86,10 +82,6 @@ one_more old changes now next left change h put before alike = record {
   before = before ∙ h.before;
   alike = λ a. alike (h.alike a);
 }
-
-pub last_in : (old : Table) (changes : List Change) (now : Table) (left : List Change) (change : Change) → ArePutSoFar old changes now (left ++ change ∷ []) → IsChangeIn (lists_of now) change
-last_in old changes now left change h =
-    subst (IsChangeIn (lists_of now)) (get_or-append_seam left change [] change) (h.changes_in (length left) change (subst (λ n. length left < n) (sym (length-append left (change ∷ []))) (omega arith)))
 
 pub changes_slots : (t : Lists) (changes : List Change) → AreSlots t → AreSlots (with_changes t changes)
 changes_slots t [] h = h

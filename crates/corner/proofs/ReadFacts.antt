@@ -1,7 +1,6 @@
 -- Values and writings, as the lists have them.
 use Rattle.std.proofs.Common.{◌≡◌, ◌∙◌, ℕ, zero, suc, true, false, List, [], ◌∷◌, refl, sym, ap, subst, arith, inl, inr, ℤ, pos, ◌*ℤ◌, Any, Some, None}
 use Rattle.std.specs.declared.option.Option.{Option}
-use borrow.Author.Differences.{ints}
 use Rattle.frac_core.specs.Fraction.{Fraction}
 use Rattle.frac_core.proofs.Integers.{zero-mul_ℤ}
 use Rattle.problem_core.specs.declared.parts.Mark.{Mark}
@@ -19,6 +18,7 @@ use Rattle.corner.specs.Tables.{Lists, attr_slot, is_side, line_slot, marks_at, 
 use Rattle.corner.specs.Kept.{IsAttrRow, IsEquationAt, IsKept, IsLineRow}
 use Rattle.corner.proofs.SlotFacts.{any_is}
 use Rattle.corner.proofs.MarkFacts.{inside_stands, not_both, stands_inside}
+use Rattle.corner_lines.proofs.LineUnfits.{twice}
 
 named_any : (name : RowName) (ls : List Line) → Named name ls → Any (λ l. l.name ≡ name) ls
 named_any name [] h = absurd h
@@ -48,10 +48,6 @@ pub is_some : (o : Option Side) (s : Side) → is_side o s ≡ true → o ≡ So
 is_some None s e = absurd (not_both false e refl)
 is_some (Some t) s e = ap (λ (r : Side). Some r) (same_is t s e)
 
-pub sign_twice : (side : Side) (z : ℤ) → sign_of side *ℤ (sign_of side *ℤ z) ≡ z
-sign_twice Under z = omega (arith, ints)
-sign_twice Over z = omega (arith, ints)
-
 -- the equation of an inside mark's line
 pub inside_equation : (t : Lists) (m : Mark) → IsKept t → IsMarkOf (problem_of t) m → stands_in t m ≡ true
     → IsEquationAt t (deviation m.row) (line_slot t m.row) (sign_of m.side *ℤ (standing_at t (line_slot t m.row)).value.num) (standing_at t (line_slot t m.row)).value.den
@@ -65,7 +61,7 @@ value_inside t m kept is h =
     let e = inside_equation t m kept is h in
     let f : Fraction = (standing_at t (line_slot t m.row)).value in
     let v = mark_value (problem_of t) (marks_at t) m.row m.side e.0 (number t (line_slot t m.row)) (sign_of m.side *ℤ f.num) f.den kept.whole kept.corner (stands_inside t m is h) e.2 in
-    (v.0, v.1, subst (λ (z : ℤ). v.0.num (place m) *ℤ pos f.den ≡ z *ℤ v.0.num one_column) (sign_twice m.side f.num) v.2)
+    (v.0, v.1, subst (λ (z : ℤ). v.0.num (place m) *ℤ pos f.den ≡ z *ℤ v.0.num one_column) (twice m.side f.num) v.2)
 
 pub value_outside : (t : Lists) (m : Mark) → IsKept t → IsMarkOf (problem_of t) m → stands_in t m ≡ false → HasValueAt (problem_of t) (marks_at t) (place m) zero_fraction
 value_outside t m kept is h =

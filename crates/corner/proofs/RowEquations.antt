@@ -28,7 +28,8 @@ use Rattle.corner.specs.Tables.{Lists, line_slot, problem_of, slot_at}
 use Rattle.corner.specs.Kept.{AreSlots, IsLineSlot, IsOwned, IsSlot}
 use Rattle.corner.specs.Exchanges.{row_number}
 use Rattle.corner.proofs.SlotFacts.{any_is}
-use Rattle.corner.proofs.MarkFacts.{bool_is}
+use Rattle.row_core.proofs.Walks.{either}
+use Rattle.frac_core.proofs.Quotients.{size_opposite}
 
 -- ---- numbers
 
@@ -47,11 +48,6 @@ positive_part g n (pos low) above e =
 positive_part g n (negsuc m) above e =
     let up : pos 0 <ℤ (pos g *ℤ negsuc m) = subst (λ (z : ℤ). pos 0 <ℤ z) (sym e) (omega (arith, ints, above)) in
     absurd (omega (arith, ints, positive_from g (negsuc m) up))
-
-size-neg : (z : ℤ) → unsigned_abs (neg_ℤ z) ≡ unsigned_abs z
-size-neg (pos zero) = refl
-size-neg (pos (suc n)) = refl
-size-neg (negsuc n) = refl
 
 -- ---- rows and columns
 
@@ -87,7 +83,7 @@ some-whole g z w above e some none = some (zero_from_mul g z above (e ∙ none))
 pub line-columns : (t : Lists) (w : ℕ) (whole : ℕ → ℤ) (own : ℕ) (by : RowName → ℤ) (row : List Term) (k low : ℕ) → AreTermsOf t w whole own by → (red : IsReduced row whole)
     → coefficient w row ≡ pos low → k ∣ low → All (λ l. k ∣ unsigned_abs (row_number t w row l.name)) (lines (problem_of t)) → (c : ℕ) → coefficient c row ≢ pos 0 → k ∣ unsigned_abs (coefficient c row)
 line-columns t w whole own by row k low are red low_is divides each c some =
-    elim (bool_is (nat_eq c w)) [
+    elim (either (nat_eq c w)) [
       | inl same ↦
           let e : c ≡ w = grind (arith, nat_tests) in
           subst (λ n. k ∣ n) (sym (ap (λ d. unsigned_abs (coefficient d row)) e ∙ ap unsigned_abs low_is)) divides
@@ -95,7 +91,7 @@ line-columns t w whole own by row k low are red low_is divides each c some =
           let ne : c ≢ w = grind (arith, nat_tests) in
           any_is (λ l. k ∣ unsigned_abs (row_number t w row l.name)) (λ l. line_slot t l.name ≡ c) (lines (problem_of t)) each (are.columns c (some-whole red.factor (coefficient c row) (whole c) red.above (red.same c) some) ne)
           (λ l d e. subst (λ n. k ∣ n)
-          (ap unsigned_abs (other-slot (line_slot t l.name) w (neg_ℤ (coefficient (line_slot t l.name) row)) (λ z. ne (sym e ∙ z))) ∙ size-neg (coefficient (line_slot t l.name) row) ∙ ap (λ d. unsigned_abs (coefficient d row)) e) d)
+          (ap unsigned_abs (other-slot (line_slot t l.name) w (neg_ℤ (coefficient (line_slot t l.name) row)) (λ z. ne (sym e ∙ z))) ∙ size_opposite (coefficient (line_slot t l.name) row) ∙ ap (λ d. unsigned_abs (coefficient d row)) e) d)
     ]
 
 -- a row in lowest terms has the numbers in lowest terms
@@ -202,7 +198,7 @@ slot-part t w low part c = cond (nat_eq c w) (pos low) (owner-part part (slot_at
 past-slots : (t : Lists) (c : ℕ) → length t.slots ≤ c → (slot_at t c).owner ≡ LevelSlot
 past-slots t c le = ap (λ (s : Slot). s.owner) (get_or_past t.slots c (record { owner = LevelSlot; home = 0; weight = pos 1; scale = pos 1; rel = Eq }) le)
 
-abbrev line-like : Owner → Type 0
+abbrev pub line-like : Owner → Type 0
 line-like LevelSlot = ⊥
 line-like (AttrSlot attr) = ⊥
 line-like (LineSlot name) = Unit {0}
@@ -255,7 +251,7 @@ owner-same t w whole own by low part c (LineSlot name) slots are red ne e =
 slot-same : (t : Lists) (w : ℕ) (whole : ℕ → ℤ) (own : ℕ) (by : RowName → ℤ) (low : ℕ) (part : RowName → ℤ) (c : ℕ) → AreSlots t → AreTermsOf t w whole own by → (red : AreReduced (lines (problem_of t)) own by low part)
     → pos red.factor *ℤ slot-part t w low part c ≡ whole c
 slot-same t w whole own by low part c slots are red =
-    elim (bool_is (nat_eq c w)) [
+    elim (either (nat_eq c w)) [
       | inl same ↦
           let e : c ≡ w = grind (arith, nat_tests) in
           ap (λ b. pos red.factor *ℤ cond b (pos low) (owner-part part (slot_at t c).owner)) same ∙ ap pos red.own_same ∙ sym are.own_is ∙ ap whole (sym e)
@@ -281,11 +277,11 @@ owner-fits t part c LevelSlot slots fits e = omega arith
 owner-fits t part c (AttrSlot attr) slots fits e = omega arith
 owner-fits t part c (LineSlot name) slots fits e =
     any_is (λ l. IsFitting (part l.name)) (λ l. l.name ≡ name) (lines (problem_of t)) fits (line-owned t c name slots e).0
-    (λ l h n. subst (λ k. k < PART_BOUND) (sym (size-neg (part name))) (subst (λ (m : RowName). IsFitting (part m)) n h))
+    (λ l h n. subst (λ k. k < PART_BOUND) (sym (size_opposite (part name))) (subst (λ (m : RowName). IsFitting (part m)) n h))
 
 slot-fits : (t : Lists) (w low : ℕ) (part : RowName → ℤ) (c : ℕ) → AreSlots t → IsFitting (pos low) → All (λ l. IsFitting (part l.name)) (lines (problem_of t)) → IsFitting (slot-part t w low part c)
 slot-fits t w low part c slots own fits =
-    elim (bool_is (nat_eq c w)) [
+    elim (either (nat_eq c w)) [
       | inl same ↦ subst (λ (b : Bool). IsFitting (cond b (pos low) (owner-part part (slot_at t c).owner))) (sym same) own
       | inr other ↦ subst (λ (b : Bool). IsFitting (cond b (pos low) (owner-part part (slot_at t c).owner))) (sym other) (owner-fits t part c (slot_at t c).owner slots fits refl)
     ]
@@ -294,13 +290,13 @@ part-divides : (t : Lists) (w : ℕ) (whole : ℕ → ℤ) (own : ℕ) (by : Row
     → pos red.factor *ℤ part l.name ≡ by l.name → by l.name ≡ cond (nat_eq (line_slot t l.name) w) (pos 0) (neg_ℤ (whole (line_slot t l.name)))
     → d ∣ unsigned_abs (slot-part t w low part (line_slot t l.name)) → d ∣ unsigned_abs (part l.name)
 part-divides t w whole own by low part d l slot red same is divides =
-    elim (bool_is (nat_eq (line_slot t l.name) w)) [
+    elim (either (nat_eq (line_slot t l.name) w)) [
       | inl here ↦
           let none : part l.name ≡ pos 0 = zero_from_mul red.factor (part l.name) red.factor_positive (same ∙ is ∙ ap (λ b. cond b (pos 0) (neg_ℤ (whole (line_slot t l.name)))) here) in
           subst (λ (z : ℤ). d ∣ unsigned_abs z) (sym none) (dvd-zero d)
       | inr other ↦
           let e : slot-part t w low part (line_slot t l.name) ≡ neg_ℤ (part l.name) = ap (λ b. cond b (pos low) (owner-part part (slot_at t (line_slot t l.name)).owner)) other ∙ ap (owner-part part) slot.owner in
-          subst (λ n. d ∣ n) (ap unsigned_abs e ∙ size-neg (part l.name)) divides
+          subst (λ n. d ∣ n) (ap unsigned_abs e ∙ size_opposite (part l.name)) divides
     ]
 
 slot-lowest : (t : Lists) (w : ℕ) (whole : ℕ → ℤ) (own : ℕ) (by : RowName → ℤ) (low : ℕ) (part : RowName → ℤ) → AreSlots t → AreTermsOf t w whole own by → AreReduced (lines (problem_of t)) own by low part → IsLowestRow (slot-row t w low part)

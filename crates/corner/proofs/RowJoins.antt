@@ -21,7 +21,6 @@ use Rattle.corner_lines.specs.LineEquations.{deviation, sign_of}
 use Rattle.corner_lines.proofs.JoinedRows.{in-parts}
 use Rattle.corner_lines.proofs.LineWritings.{mark_value}
 use Rattle.corner.specs.declared.joining.Sum.{Sum}
-use Rattle.corner.specs.declared.table.Priority.{Priority}
 use Rattle.corner.specs.declared.table.Slot.{Slot}
 use Rattle.corner.specs.declared.table.Standing.{Standing}
 use Rattle.corner.specs.Tables.{Lists, line_slot, marks_at, problem_of, standing_at}
@@ -39,7 +38,7 @@ use Rattle.std.proofs.lemmas.List.{length_push}
 use Rattle.std.proofs.Math.ListN.{get_or-append}
 use Rattle.corner.proofs.AttrJoins.{own_name, own_stay}
 use Rattle.corner.proofs.Opposites.{opposite_fits, opposite_lowest}
-use Rattle.corner.proofs.AttrLevels.{stay_named}
+use Rattle.corner.proofs.AttrLevels.{stay_named, made}
 use Rattle.corner.proofs.SlotFacts.{named_slot}
 use Rattle.corner.proofs.RowPlaces.{IsPush, last_of, marks_pushed, old_row, old_slot, put_line, row_place, slots_pushed, next}
 use Rattle.corner.proofs.RowKept.{IsSideOf, corner_pushed, new_kept_line, old_attr_row, old_kept_line, outside_pushed, rays_pushed, row_equation, side_of}
@@ -148,9 +147,6 @@ with_pushed_row t r v o a s sum j st is own h above =
     }
 
 -- ---- as the code finds it
-
-abbrev made : List Row → List Stay → List Slot → List Standing → List (List Term) → List ℕ → List ℕ → List Priority → Lists
-made r s l v m b d p = record { rows = r; stays = s; slots = l; standings = v; matrix = m; attr_slots = b; row_slots = d; priorities = p }
 
 pub pushed_is : (t u : Lists) (r : Row) → (h : IsPushed r t u) → u ≡ with_pushed r h.standing h.own u.row_slots t
 pushed_is t u r h =

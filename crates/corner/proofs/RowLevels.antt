@@ -29,8 +29,7 @@ use Rattle.corner_laws.proofs.Ends.{both_marks, decided}
 use Rattle.corner_laws.proofs.Lifts.{each_drop}
 use Rattle.corner_laws.proofs.Lifts as lifts
 use Rattle.corner_laws.proofs.WrittenValues.{contains_each}
-use Rattle.corner_laws.proofs.LevelSizes.{level_fits, over-zero, under-zero}
-use Rattle.corner_laws.proofs.LinePlaces.{sum-each}
+use Rattle.corner_laws.proofs.LevelSizes.{level_fits}
 use Rattle.corner_lines.specs.Joins.{with_row}
 use Rattle.corner_lines.specs.LineEquations.{IsOutsideLine}
 use Rattle.corner_lines.specs.LevelRows.{HasLevelRow}
@@ -53,6 +52,10 @@ use Rattle.corner.proofs.AttrJoins.{own_name}
 use Rattle.corner.proofs.RowPlaces.{IsPush, each_new, each_old, last_of, mark_of_line, marks_pushed, old_row, old_standing, put_line, next}
 use Rattle.corner.proofs.RowKept.{corner_pushed, rays_pushed}
 use Rattle.corner.proofs.RowTerms.{old_number}
+use Rattle.problem_core.proofs.Conflicts.{sum-each}
+use Rattle.corner_laws.proofs.ZeroColumns.{over-none, under-none}
+use Rattle.corner.proofs.AttrLevels.{zero_fits}
+use Rattle.corner_laws.proofs.LevelLifts.{no-weight-left}
 
 -- ---- the first rows with the new one
 
@@ -190,18 +193,11 @@ number_same t r v o a s k unit own j side lt n h i x within =
           ]
     ]
 
-zero_fits : (z : ℤ) → z ≡ pos 0 → IsFitting z
-zero_fits z e = subst IsFitting (sym e) (omega arith)
-
-no_left : (b : Bool) → cond {A = ℕ} b 0 0 ≡ 0
-no_left true = refl
-no_left false = refl
-
 -- the pushed row has no weight at the level
 light_weight : (k : ℕ) (r : Row) → weight_at (line_of_row (light k r)) k ≡ 0
 light_weight k r =
     elim (cases_Bool (nat_eq (1000 - r.rank) k)) [
-      | inl e ↦ subst (λ (b : Bool). weight_at (line_of_row (cond b (without_weight r) r)) k ≡ 0) (sym e) (no_left (nat_eq (1000 - r.rank) k))
+      | inl e ↦ subst (λ (b : Bool). weight_at (line_of_row (cond b (without_weight r) r)) k ≡ 0) (sym e) (no-weight-left (nat_eq (1000 - r.rank) k))
       | inr e ↦ subst (λ (b : Bool). weight_at (line_of_row (cond b (without_weight r) r)) k ≡ 0) (sym e) (ap (λ (b : Bool). cond b r.weight 0) e)
     ]
 
@@ -292,8 +288,8 @@ quotient_more whole more k d above e f =
 
 free_cost : (q k : ℕ) (x : ℕ → ℤ) (l : Line) → weight_at l k ≡ 0 → pos q *ℤ line_cost k x l ≡ pos 0
 free_cost q k x l e =
-    let un : under_weight l.rel (weight_at l k) ≡ 0 = ap (under_weight l.rel) e ∙ under-zero l.rel in
-    let ov : over_weight l.rel (weight_at l k) ≡ 0 = ap (over_weight l.rel) e ∙ over-zero l.rel in
+    let un : under_weight l.rel (weight_at l k) ≡ 0 = ap (under_weight l.rel) e ∙ under-none l.rel in
+    let ov : over_weight l.rel (weight_at l k) ≡ 0 = ap (over_weight l.rel) e ∙ over-none l.rel in
     ap (λ (z : ℤ). pos q *ℤ z)
     (ap₂ ◌+ℤ◌ (ap (λ (w : ℕ). pos w *ℤ x (place_of l.name Under)) un ∙ zero-mul_ℤ (x (place_of l.name Under))) (ap (λ (w : ℕ). pos w *ℤ x (place_of l.name Over)) ov ∙ zero-mul_ℤ (x (place_of l.name Over))))
     ∙ mul-zero_ℤ (pos q)

@@ -25,16 +25,9 @@ use Rattle.corner.specs.Joining.{slot_of_row}
 use Rattle.corner.specs.RowJoins.{ArePushed, IsPushed}
 use Rattle.corner.proofs.RowPlaces.{IsNext, named_by, old_row, old_standing}
 use Rattle.corner.proofs.RowJoins.{pushed_is}
+use Rattle.corner.proofs.MarkingFacts.{append_more, append_none}
 
 -- ---- lists
-
-pub append_more : {X : Type 0} (xs ys zs : List X) → (xs ++ ys) ++ zs ≡ xs ++ (ys ++ zs)
-append_more [] ys zs = refl
-append_more (x ∷ xs) ys zs = ap (λ us. x ∷ us) (append_more xs ys zs)
-
-pub append_none : {X : Type 0} (xs : List X) → xs ++ [] ≡ xs
-append_none [] = refl
-append_none (x ∷ xs) = ap (λ us. x ∷ us) (append_none xs)
 
 pub map_append : {X Y : Type 0} (f : X → Y) (xs : List X) (y : X) → map f (xs ++ (y ∷ [])) ≡ map f xs ++ (f y ∷ [])
 map_append f [] y = refl

@@ -244,7 +244,7 @@ one_side Under Over e = absurd (not_both false e refl)
 one_side Over Under e = absurd (not_both false e refl)
 one_side Over Over e = refl
 
-self_side : (s : Side) → same_side s s ≡ true
+pub self_side : (s : Side) → same_side s s ≡ true
 self_side Under = refl
 self_side Over = refl
 

@@ -1,5 +1,5 @@
 -- Where a sum of a new row's terms doesn't fit: the path to where the row and those after it are over.
-use Rattle.std.proofs.Common.{◌-◌, take, drop, ◌≡◌, ◌≢◌, ◌∙◌, ◌⊎◌, ℕ, zero, suc, ◌+◌, ◌<◌, ◌≤◌, ◌++◌, Bool, false, cond, List, [], ◌∷◌, length, map, filter, refl, sym, ap, ap₂, subst, arith, inl, inr, ℤ, pos, ◌*ℤ◌, ◌<ℤ◌, ◌≤ℤ◌, unsigned_abs, slice_index_or, All, AllPairs, Contains, Some}
+use Rattle.std.proofs.Common.{◌-◌, take, drop, ◌≡◌, ◌≢◌, ◌∙◌, ℕ, zero, suc, ◌+◌, ◌<◌, ◌≤◌, ◌++◌, Bool, false, cond, List, [], ◌∷◌, length, map, filter, refl, sym, ap, ap₂, subst, arith, inl, inr, ℤ, pos, ◌*ℤ◌, ◌<ℤ◌, ◌≤ℤ◌, unsigned_abs, slice_index_or, All, AllPairs, Contains, Some}
 use Rattle.std.specs.List.{AllByRecursion as Each, AllZip}
 use Rattle.std.proofs.lemmas.List.{get_or_default, length-drop}
 use Rattle.std.proofs.lemmas.List.Elements.{All-push, All-from_recursion, recursion_from_All}
@@ -43,12 +43,13 @@ use Rattle.corner.specs.RowJoins.{AreAsBefore, ArePushed}
 use Rattle.corner.specs.RowSums.{with_pushed}
 use Rattle.corner.proofs.KeptFacts.{marks_ordered}
 use Rattle.corner.proofs.MarkFacts.{same_mark}
-use Rattle.corner.proofs.MarkingFacts.{inside_more, marks_inside, row_named, stay_named}
+use Rattle.corner.proofs.MarkingFacts.{inside_more, marks_inside, row_named, stay_named, append_more, append_none}
 use Rattle.corner.proofs.RowJoins.{not_below, not_less}
 use Rattle.corner.proofs.RowLevels.{stands_before}
-use Rattle.corner.proofs.RowPaths.{self_in, append_more, append_none, map_append, moved_last, named_so_far, positive_is, problem_so_far, drop_next, take_all, take_drop, take_next, same_sym, same_trans, stands_there, whole_front}
+use Rattle.corner.proofs.RowPaths.{self_in, map_append, moved_last, named_so_far, positive_is, problem_so_far, drop_next, take_all, take_drop, take_next, same_sym, same_trans, stands_there, whole_front}
 use Rattle.corner.proofs.RowPlaces.{IsNext, marks_different, other_name, row_stands, slots_pushed, stand_same}
 use Rattle.corner.proofs.RowTerms.{numbered, with_number}
+use Rattle.corner_lines.proofs.JoinedBegins.{in-left, in-right, in-either, each-of-all}
 
 -- ---- the marks with the rest over
 
@@ -133,29 +134,8 @@ over_apart rest t slots whole =
 
 -- ---- the order of the marks
 
-in_left : (c : ℕ) (xs ys : List Mark) → IsIn c xs → IsIn c (xs ++ ys)
-in_left c [] ys (k, within, is) = absurd (omega (arith, within))
-in_left c (x ∷ xs) ys (zero, within, is) = (0, omega arith, is)
-in_left c (x ∷ xs) ys (suc k, within, is) = let i = in_left c xs ys (k, omega (arith, within), is) in (suc i.0, omega (arith, i.1), i.2)
-
-in_right : (c : ℕ) (xs ys : List Mark) → IsIn c ys → IsIn c (xs ++ ys)
-in_right c [] ys i = i
-in_right c (x ∷ xs) ys i = let j = in_right c xs ys i in (suc j.0, omega (arith, j.1), j.2)
-
-in_either : (c : ℕ) (xs ys : List Mark) → IsIn c (xs ++ ys) → IsIn c xs ⊎ IsIn c ys
-in_either c [] ys i = inr i
-in_either c (x ∷ xs) ys (zero, within, is) = inl (0, omega arith, is)
-in_either c (x ∷ xs) ys (suc k, within, is) = elim (in_either c xs ys (k, omega (arith, within), is)) [
-  | inl i ↦ inl (suc i.0, omega (arith, i.1), i.2)
-  | inr i ↦ inr i
-]
-
-each_of_all : (P : ℕ → Type 0) (ms : List Mark) → ((c : ℕ) → IsIn c ms → P c) → Each (λ m. P (place m)) ms
-each_of_all P [] f = tt
-each_of_all P (m ∷ ms) f = (f (place m) (0, omega arith, refl), each_of_all P ms (λ c i. f c (suc i.0, omega (arith, i.1), i.2)))
-
 same_by : (a b : List Mark) → ((c : ℕ) → IsIn c a → IsIn c b) → ((c : ℕ) → IsIn c b → IsIn c a) → SameMarks a b
-same_by a b f g = (All-from_recursion (λ m. IsIn (place m) b) a (each_of_all (λ c. IsIn c b) a f), All-from_recursion (λ m. IsIn (place m) a) b (each_of_all (λ c. IsIn c a) b g))
+same_by a b f g = (All-from_recursion (λ m. IsIn (place m) b) a (each-of-all (λ c. IsIn c b) a f), All-from_recursion (λ m. IsIn (place m) a) b (each-of-all (λ c. IsIn c a) b g))
 
 in_by : (a b : List Mark) (c : ℕ) → All (λ m. IsIn (place m) b) a → IsIn c a → IsIn c b
 in_by a b c h i = contains_each (λ d. IsIn d b) a c (recursion_from_All (λ m. IsIn (place m) b) a h) i
@@ -163,19 +143,19 @@ in_by a b c h i = contains_each (λ d. IsIn d b) a c (recursion_from_All (λ m. 
 same_behind : (a b more : List Mark) → SameMarks a b → SameMarks (a ++ more) (b ++ more)
 same_behind a b more same =
     same_by (a ++ more) (b ++ more)
-    (λ c i. elim (in_either c a more i) [ inl j ↦ in_left c b more (in_by a b c same.0 j) | inr j ↦ in_right c b more j ])
-    (λ c i. elim (in_either c b more i) [ inl j ↦ in_left c a more (in_by b a c same.1 j) | inr j ↦ in_right c a more j ])
+    (λ c i. elim (in-either c a more i) [ inl j ↦ in-left c b more (in_by a b c same.0 j) | inr j ↦ in-right c b more j ])
+    (λ c i. elim (in-either c b more i) [ inl j ↦ in-left c a more (in_by b a c same.1 j) | inr j ↦ in-right c a more j ])
 
 same_middle : (a b c : List Mark) → SameMarks (a ++ (b ++ c)) ((a ++ c) ++ b)
 same_middle a b c =
     same_by (a ++ (b ++ c)) ((a ++ c) ++ b)
-    (λ d i. elim (in_either d a (b ++ c) i) [
-      | inl j ↦ in_left d (a ++ c) b (in_left d a c j)
-      | inr j ↦ elim (in_either d b c j) [ inl k ↦ in_right d (a ++ c) b k | inr k ↦ in_left d (a ++ c) b (in_right d a c k) ]
+    (λ d i. elim (in-either d a (b ++ c) i) [
+      | inl j ↦ in-left d (a ++ c) b (in-left d a c j)
+      | inr j ↦ elim (in-either d b c j) [ inl k ↦ in-right d (a ++ c) b k | inr k ↦ in-left d (a ++ c) b (in-right d a c k) ]
     ])
-    (λ d i. elim (in_either d (a ++ c) b i) [
-      | inl j ↦ elim (in_either d a c j) [ inl k ↦ in_left d a (b ++ c) k | inr k ↦ in_right d a (b ++ c) (in_right d b c k) ]
-      | inr j ↦ in_right d a (b ++ c) (in_left d b c j)
+    (λ d i. elim (in-either d (a ++ c) b i) [
+      | inl j ↦ elim (in-either d a c j) [ inl k ↦ in-left d a (b ++ c) k | inr k ↦ in-right d a (b ++ c) (in-right d b c k) ]
+      | inr j ↦ in-right d a (b ++ c) (in-left d b c j)
     ])
 
 pub over_same : (t : Lists) (rest : List Row) → SameMarks (marks_over t rest) (marks_at t ++ map (λ r. over_mark r.id) rest)
@@ -236,9 +216,9 @@ zip_moves p at x y (r ∷ joined) (m ∷ news) corner sx sy a (inr (e, up), z) =
 -- a row that joins with one mark more
 one_joined : (p : Problem) (at : List Mark) (r : Row) (side : Side) → IsWhole (with_row r p) → AreJoined p at (at ++ (record { row = Held r.id; side = side } ∷ []))
 one_joined p at r side whole = record {
-  kept = All-from_recursion (λ m. IsIn (place m) (at ++ (record { row = Held r.id; side = side } ∷ []))) at (each_of_all (λ c. IsIn c (at ++ (record { row = Held r.id; side = side } ∷ []))) at (λ c i. old-in at (record { row = Held r.id; side = side }) c i));
+  kept = All-from_recursion (λ m. IsIn (place m) (at ++ (record { row = Held r.id; side = side } ∷ []))) at (each-of-all (λ c. IsIn c (at ++ (record { row = Held r.id; side = side } ∷ []))) at (λ c i. old-in at (record { row = Held r.id; side = side }) c i));
   no_other = All-from_recursion (λ m. IsIn (place m) (at ++ (record { row = Held r.id; side = side } ∷ [])) → IsIn (place m) at) (marks_of (lines p))
-      (each_of_all (λ c. IsIn c (at ++ (record { row = Held r.id; side = side } ∷ [])) → IsIn c at) (marks_of (lines p))
+      (each-of-all (λ c. IsIn c (at ++ (record { row = Held r.id; side = side } ∷ [])) → IsIn c at) (marks_of (lines p))
       (λ c mark i. elim (in-parts at (record { row = Held r.id; side = side }) c i) [
         | inl j ↦ j
         | inr e ↦ absurd (fresh-mark p r c side whole mark e)
@@ -311,7 +291,7 @@ more_begun p kept more rest at id r whole le h =
       point = y;
       stands = corner.stands;
       each = zip_moves p at h.point y more h.news h.corner h.stands before
-          (each_of_all (λ c. IsIn c at) h.news (λ c i. in_by (kept ++ (h.news ++ map (λ r. over_mark r.id) rest)) at c h.marks.1 (in_right c kept (h.news ++ map (λ r. over_mark r.id) rest) (in_left c h.news (map (λ r. over_mark r.id) rest) i)))) h.each;
+          (each-of-all (λ c. IsIn c at) h.news (λ c i. in_by (kept ++ (h.news ++ map (λ r. over_mark r.id) rest)) at c h.marks.1 (in-right c kept (h.news ++ map (λ r. over_mark r.id) rest) (in-left c h.news (map (λ r. over_mark r.id) rest) i)))) h.each;
       before = All-push (λ m. IsBefore id m.row → pos 0 ≤ℤ y.num (place m)) at (over_mark r.id)
           (λ k m lt earlier. sign_below p at (place (slice_index_or at k m)) h.point y h.corner (self_in at k m lt) h.stands before (h.before k m lt earlier))
           (λ earlier. absurd (omega (arith, le, earlier)));

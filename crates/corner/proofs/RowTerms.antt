@@ -2,7 +2,6 @@
 use Rattle.std.proofs.Common.{◌≡◌, ◌≢◌, ◌∙◌, ◌⊎◌, ℕ, zero, suc, ◌+◌, ◌*◌, ◌<◌, ◌≤◌, Bool, true, false, cond, nat_eq, List, [], ◌∷◌, length, get_or, refl, sym, ap, ap₂, subst, arith, inl, inr, ℤ, pos, negsuc, neg_ℤ, ◌+ℤ◌, ◌-ℤ◌, ◌*ℤ◌, ◌<ℤ◌, ◌/◌, unsigned_abs, ne_eqb, eq-eqb, slice_index_or, All, Any, mul-pos}
 use Rattle.std.proofs.lemmas.Bool.{cases_eq}
 use Rattle.std.proofs.lemmas.List.Elements.{recursion_from_All}
-use Rattle.std.specs.List.{AllByRecursion as Each}
 use Rattle.std.specs.Int.{IsGcd}
 use Rattle.std.proofs.Math.Nat.{mul-div_cancel'}
 use borrow.Author.Differences.{ints}
@@ -23,19 +22,17 @@ use Rattle.problem_core.specs.declared.parts.Term as parts
 use Rattle.problem_core.specs.declared.parts.RowName.{RowName}
 use Rattle.problem_core.specs.declared.parts.RowName.TheVariants.{Held}
 use Rattle.problem_core.specs.declared.parts.Side.TheVariants.{Over}
-use Rattle.problem_core.specs.Layout.{HasStay, IsCovered, Line, Problem, Row, lines, sum_of}
+use Rattle.problem_core.specs.Layout.{HasStay, IsCovered, Problem, Row, lines, sum_of}
 use Rattle.problem_core.specs.Kept.{IsWhole}
 use Rattle.problem_core.specs.Window.{zero_fraction}
 use Rattle.problem_core.specs.Corners.{attr_column, one_column}
 use Rattle.problem_core.specs.Unfit.{IsUnfitTerms, first_terms, over_mark}
-use Rattle.problem_core.proofs.Forms.{each-impl, mul-sum}
-use Rattle.corner_laws.proofs.LinePlaces.{sum-each}
 use Rattle.corner_lines.specs.Joins.{over_joined, with_row}
 use Rattle.corner_lines.specs.LineEquations.{IsLineEquation, IsLineSum, IsUnfitLine, deviation}
 use Rattle.corner_lines.specs.LineLaws.{IsUnfitValue}
 use Rattle.corner_lines.proofs.JoinedLines.{gives_deviation, goes_on, last_terms_unfit, no_terms, old_line, terms_unfit}
 use Rattle.corner_lines.proofs.JoinedRows.{den-positive, joined_corner, joined_rays, new-in}
-use Rattle.corner_lines.proofs.LineUnfits.{line_sum, line_unfit, mark_unfit, reduced_line}
+use Rattle.corner_lines.proofs.LineUnfits.{line_sum, line_unfit, mark_unfit, reduced_line, part-sum}
 use Rattle.corner.specs.declared.joining.Sum.{Sum}
 use Rattle.corner.specs.declared.table.Owner.{Owner}
 use Rattle.corner.specs.declared.table.Owner.TheVariants.{Level as LevelSlot, Attr as AttrSlot, Line as LineSlot}
@@ -47,11 +44,12 @@ use Rattle.corner.specs.Parts.{IsPartlyKept, IsTermsStop}
 use Rattle.corner.specs.Joining.{IsNumbered, at_zero}
 use Rattle.corner.specs.Exchanges.{IsOutsideSlot, row_number}
 use Rattle.corner.specs.RowSums.{AreTermFactors, HasTermFactors, IsSumRow, IsTermRow, IsTermValue, IsUnfitTerm, term_number, term_of, with_pushed}
-use Rattle.corner.proofs.CommonDivisors.{size_above}
 use Rattle.corner.proofs.AttrJoins.{own_name, same_numbers, zero_unless}
 use Rattle.corner.proofs.RowEquations.{AreTermsOf, line-owned, mul-neg, positive_part, reduced_terms, unfit_terms}
 use Rattle.corner.proofs.RowPlaces.{IsPush, last_of, row_is, named_by, named_more, old_row, put_line, row_here, slots_pushed, next}
 use Rattle.corner.proofs.SlotFacts.{any_impl, any_is, named_slot}
+use Rattle.corner.proofs.LevelSwaps.{decide_zero}
+use Rattle.corner_lines.proofs.Units.{size_above, positive_is}
 
 -- ---- the slot's number
 
@@ -81,17 +79,7 @@ number_others (suc n) s (x ∷ xs) (suc m) ne = number_others n s xs m (λ e. ne
 pub numbered : (n s : ℕ) (xs : List ℕ) → IsNumbered n s xs (with_number n s xs)
 numbered n s xs = record { here = number_here n s xs; others = number_others n s xs }
 
--- the row's number in some list
-pub some_push : (t : Lists) (r : Row) → IsPartlyKept t → IsWhole (with_row r (problem_of t)) → IsPush t r (with_number r.id (length t.slots) t.row_slots)
-some_push t r kept whole = record { kept = kept; whole = whole; numbers = numbered r.id (length t.slots) t.row_slots }
-
 -- ---- a sum without a common factor
-
-part-sum : (g : ℕ) (part by : RowName → ℤ) (x : ℕ → ℤ) (ls : List Line) → Each (λ l. pos g *ℤ part l.name ≡ by l.name) ls → pos g *ℤ sum_of (λ l. part l.name *ℤ deviation l.name x) ls ≡ sum_of (λ l. by l.name *ℤ deviation l.name x) ls
-part-sum g part by x ls same =
-    sym (mul-sum (pos g) (λ l. part l.name *ℤ deviation l.name x) ls)
-    ∙ sum-each (λ l. pos g *ℤ (part l.name *ℤ deviation l.name x)) (λ l. by l.name *ℤ deviation l.name x) ls
-    (each-impl (λ l. pos g *ℤ part l.name ≡ by l.name) _ ls (λ l e. sym (mul_assoc_ℤ (pos g) (part l.name) (deviation l.name x)) ∙ ap (λ (z : ℤ). z *ℤ deviation l.name x) e) same)
 
 less-factor : (den own g low : ℕ) (q sum part num one : ℤ) → 0 < g → g * low ≡ own → pos g *ℤ part ≡ sum → pos den *ℤ (pos own *ℤ q -ℤ sum) ≡ pos own *ℤ (num *ℤ one) → pos den *ℤ (pos low *ℤ q -ℤ part) ≡ pos low *ℤ (num *ℤ one)
 less-factor den own g low q sum part num one above e f h =
@@ -171,9 +159,6 @@ no_sum t r = record {
 
 -- ---- one term more
 
-abbrev term_at : Row → ℕ → parts.Term → parts.Term
-term_at r i none = get_or r.terms i none
-
 -- what the next term is added to
 pub record IsStep (t : Lists) (r : Row) (i : ℕ) (none : parts.Term) (s : Sum) (f : Factors) : Type 0 where
   pub kept : IsPartlyKept t
@@ -232,12 +217,6 @@ no_more d x y u w e f = mul-zero_ℤ (pos d) ∙ sym (ap₂ ◌+ℤ◌ (ap (λ (
 abbrev pub more_number : Lists → Lists → List Term → parts.Term → Factors → RowName → ℤ
 more_number u t sum term factors name = cond (nat_eq (line_slot u name) (length t.slots)) (pos 0) (neg_ℤ (term_number t sum term factors (line_slot u name)))
 
--- a column of the sum of rows is an outside line's
-decide-zero : (z : ℤ) → (z ≡ pos 0) ⊎ (z ≢ pos 0)
-decide-zero (pos zero) = inl refl
-decide-zero (pos (suc n)) = inr (λ e. omega (arith, ints, e))
-decide-zero (negsuc n) = inr (λ e. omega (arith, ints, e))
-
 pub more_columns : (t : Lists) (r : Row) (i : ℕ) (none : parts.Term) (s : Sum) (f : Factors) (c : ℕ) → IsStep t r i none s f → term_number t s.row (get_or r.terms i none) f c ≢ pos 0 → c ≢ length t.slots → IsOutsideSlot t c
 more_columns t r i none s f c h some ne =
     let term : parts.Term = get_or r.terms i none in
@@ -245,9 +224,9 @@ more_columns t r i none s f c h some ne =
     let sum : ℤ = f.k *ℤ coefficient c s.row +ℤ f.n *ℤ entry t x c in
     elim (cases_eq c x) [
       | inl e ↦ absurd (some (ap (λ (b : Bool). cond b (pos 0) sum) (eq-eqb c x e)))
-      | inr other ↦ elim (decide-zero (coefficient c s.row)) [
+      | inr other ↦ elim (decide_zero (coefficient c s.row)) [
         | inr here ↦ h.sum.columns c here ne
-        | inl gone ↦ elim (decide-zero (entry t x c)) [
+        | inl gone ↦ elim (decide_zero (entry t x c)) [
           | inr there ↦ h.kept.outside x c there other
           | inl away ↦ absurd (some (ap (λ (b : Bool). cond b (pos 0) sum) (ne_eqb c x other)
               ∙ ap₂ ◌+ℤ◌ (ap (λ (z : ℤ). f.k *ℤ z) gone ∙ mul-zero_ℤ f.k) (ap (λ (z : ℤ). f.n *ℤ z) away ∙ mul-zero_ℤ f.n)))
@@ -437,10 +416,6 @@ less_unfit t r s kept whole sum above unfit =
     (mark_unfit q over (Held r.id) Over e.0 by num den whole (joined_corner p (marks_at t) r whole kept.corner) (joined_rays p (marks_at t) r whole kept.rays) (new-in (marks_at t) (over_mark r.id)) less (no_value q e.0 by num den unfit))
 
 -- ---- factors
-
-positive_is : (z : ℤ) → pos 0 <ℤ z → z ≡ pos (unsigned_abs z)
-positive_is (pos n) h = refl
-positive_is (negsuc n) h = absurd h.lt
 
 pub term_factors : (own attr by : ℤ) (f : Factors) (d a b : ℤ) → pos 0 <ℤ own → pos 0 <ℤ attr → pos 0 <ℤ d → IsGcd (unsigned_abs own) (unsigned_abs attr) (unsigned_abs d)
     → a ≡ pos (unsigned_abs attr / unsigned_abs d) → b ≡ pos (unsigned_abs own / unsigned_abs d) → f.k ≡ a → f.n ≡ b *ℤ by → AreTermFactors own attr by f

@@ -32,16 +32,18 @@ use Rattle.corner_laws.proofs.ZeroColumns.{here-in, not-in, scales-above}
 use Rattle.corner_lines.specs.LineEquations.{deviation}
 use Rattle.corner_lines.specs.LevelRows.{inside_number}
 use Rattle.corner_lines.specs.Shifts.{IsShift, with_constant}
-use Rattle.corner_lines.proofs.LevelCosts.{column-is, cost-ratio, cost-step, reduced-none, step, step-solves}
+use Rattle.corner_lines.proofs.LevelCosts.{column-is, cost-ratio, cost-step, reduced-none, step-solves}
 use Rattle.corner_lines.proofs.LevelExchanges.{inside-numbers}
 use Rattle.corner_lines.proofs.LevelPlaces.{cost_everywhere}
 use Rattle.corner_lines.proofs.LineExchanges.{single}
-use Rattle.corner_lines.proofs.LineSums.{mul-opp}
 use Rattle.corner_lines.proofs.LineWritings.{Named}
 use Rattle.corner_lines.proofs.Shifted.{held-named, names-sum, raised, raised-deviation, raised-other, raised-own, shift-small, unshift-solves, unshifted}
 use Rattle.corner_lines.proofs.ShiftedCorner.{shift_corner}
 use Rattle.corner.proofs.ShiftLines.{row_seen_alike, shift_seen, shift_whole, unit_seen}
 use Rattle.corner.proofs.StoodLines.{scales_seen}
+use Rattle.corner_laws.proofs.Rises.{step}
+use Rattle.corner_laws.proofs.ExchangedLevels.{mul-opp}
+use Rattle.corner_laws.proofs.ColumnSigns.{nothing}
 
 -- ---- the lines' deviations at a corner
 
@@ -67,15 +69,12 @@ side-rests at level unit own by x l side whole inside outside =
       | inr o ↦ ap (λ (c : ℤ). column (alone (own * unit) by) side l level *ℤ c) (outside (not-in at (place_of l.name side) o)) ∙ mul-zero_ℤ (column (alone (own * unit) by) side l level)
     ]
 
-both-rest : (q : ℕ) (a b : ℤ) → a ≡ pos 0 → b ≡ pos 0 → pos q *ℤ (a +ℤ b) ≡ pos 0
-both-rest q a b e f = ap (λ (z : ℤ). pos q *ℤ z) (ap₂ ◌+ℤ◌ e f) ∙ mul-zero_ℤ (pos q)
-
 all-rest : (p : Problem) (at : List Mark) (level unit own : ℕ) (by : RowName → ℤ) (x : Point) → IsLevelUnit p level unit → IsLevelRow p at level unit own by → StandsAt p at x
     → Each (λ l. pos (scales p / l.scale) *ℤ moved_columns (alone (own * unit) by) x.num level l ≡ pos 0) (lines p)
 all-rest p at level unit own by x is row stands =
     each-impl (λ l. (l.scale ∣ unit * weight_at l level) × (((side : Side) → IsIn (place_of l.name side) at → by l.name ≡ inside_number side level unit own l)
     × (Contains (map place (marks_of (lines p))) (place_of l.name Under) × Contains (map place (marks_of (lines p))) (place_of l.name Over)))) _ (lines p)
-    (λ l h. both-rest (scales p / l.scale) (column (alone (own * unit) by) Under l level *ℤ x.num (place_of l.name Under)) (column (alone (own * unit) by) Over l level *ℤ x.num (place_of l.name Over))
+    (λ l h. nothing (scales p / l.scale) (column (alone (own * unit) by) Under l level *ℤ x.num (place_of l.name Under)) (column (alone (own * unit) by) Over l level *ℤ x.num (place_of l.name Over))
     (side-rests at level unit own by x.num l Under h.0 (h.1.0 Under) (λ out. nothing_outside p at x (place_of l.name Under) stands h.1.1.0 out))
     (side-rests at level unit own by x.num l Over h.0 (h.1.0 Over) (λ out. nothing_outside p at x (place_of l.name Over) stands h.1.1.1 out)))
     (each-both _ _ (lines p) (recursion_from_All _ (lines p) is.whole) (each-both _ _ (lines p) (inside-numbers p at level unit own by row) (here-in (lines p))))

@@ -1,5 +1,5 @@
 -- How much each slot's value grows with a row's constant, as the lists have it.
-use Rattle.std.proofs.Common.{◌≡◌, ◌≢◌, ◌∙◌, ◌⊎◌, ℕ, zero, suc, ◌*◌, ◌<◌, ◌≤◌, Bool, cond, nat_eq, List, refl, sym, ap, ap₂, subst, arith, inl, inr, ℤ, pos, negsuc, ◌+ℤ◌, ◌*ℤ◌, neg_ℤ, Some, None, eq-eqb, ne_eqb, lt-ltb, le-ltb}
+use Rattle.std.proofs.Common.{◌≡◌, ◌≢◌, ◌∙◌, ℕ, ◌*◌, ◌<◌, ◌≤◌, Bool, cond, nat_eq, List, refl, sym, ap, ap₂, subst, arith, inl, inr, ℤ, pos, ◌+ℤ◌, ◌*ℤ◌, neg_ℤ, Some, None, eq-eqb, ne_eqb, lt-ltb, le-ltb}
 use Rattle.std.specs.declared.option.Option.{Option}
 use Rattle.std.proofs.lemmas.Bool.{cases_eq}
 use Rattle.std.proofs.lemmas.List.Elements.{All-from_recursion}
@@ -15,7 +15,6 @@ use Rattle.problem_core.specs.declared.parts.Side.TheVariants.{Over}
 use Rattle.problem_core.specs.Layout.{lines}
 use Rattle.problem_core.specs.Corners.{IsIn, place_of}
 use Rattle.problem_core.proofs.Forms.{each-both}
-use Rattle.corner_laws.proofs.Exchanged.{neg-times}
 use Rattle.corner_lines.specs.LineEquations.{IsOutsideLine, sign_of}
 use Rattle.corner_lines.specs.LevelRows.{inside_number}
 use Rattle.corner_lines.specs.Shifts.{IsShift}
@@ -41,6 +40,8 @@ use Rattle.corner.proofs.ShiftCosts.{IsShiftHere}
 use Rattle.corner.proofs.SlotFacts.{any_is, named_slot}
 use Rattle.corner.proofs.SumTurns.{nothing-added}
 use Rattle.corner.proofs.WritingFacts.{number_is}
+use Rattle.corner.proofs.LevelSwaps.{decide_zero}
+use Rattle.corner.proofs.RowEquations.{mul-neg}
 
 -- lists at which a row's constant changes
 pub record IsShiftOf (t : Lists) (id : ℕ) (from to more : Fraction) : Type 0 where
@@ -93,21 +94,10 @@ factor_ratio a t next f n d above h =
     (sym (ap (λ (z : ℤ). next.num *ℤ z) (factor-den a t f d) ∙ mul_left_comm_ℤ next.num (pos f) (sum_den a d t)) ∙ h
     ∙ ap (λ (z : ℤ). z *ℤ pos next.den) (factor-num a t f n d) ∙ mul_assoc_ℤ (pos f) (sum_num a n d t) (pos next.den))
 
-pub decide_zero : (z : ℤ) → (z ≡ pos 0) ⊎ (z ≢ pos 0)
-decide_zero (pos zero) = inl refl
-decide_zero (pos (suc n)) = inr (λ e. omega (arith, ints, e))
-decide_zero (negsuc n) = inr (λ e. omega (arith, ints, e))
-
 -- ---- by the row's line
-
-abbrev by_side : Lists → ℕ → ℕ → Option Side → Growth
-by_side t line w o = growth_by t line o w
 
 one-times : (z : ℤ) → pos 1 *ℤ z ≡ z
 one-times z = omega (arith, ints)
-
-mul-neg : (x y : ℤ) → x *ℤ neg_ℤ y ≡ neg_ℤ (x *ℤ y)
-mul-neg x y = *ℤ_comm x (neg_ℤ y) ∙ neg-times y x ∙ ap neg_ℤ (*ℤ_comm y x)
 
 pub growth_side : (t : Lists) (line w : ℕ) (o : Option Side) → (standing_at t line).side ≡ o → growth_at t line w ≡ growth_by t line o w
 growth_side t line w o e = ap (λ (i : Option Side). growth_by t line i w) e

@@ -3,7 +3,6 @@ use Rattle.std.proofs.Common.{◌≡◌, ◌∙◌, ℕ, suc, ◌-◌, ◌*◌, 
 use Rattle.frac_core.specs.Fraction.{Fraction}
 use Rattle.problem_core.specs.declared.parts.Mark.{Mark}
 use Rattle.problem_core.specs.declared.parts.RowName.{RowName}
-use Rattle.problem_core.specs.declared.parts.RowName.TheVariants.{Held, Stay as StayOf}
 use Rattle.problem_core.specs.Layout.{Line, Problem, Row, lines}
 use Rattle.problem_core.specs.Corners.{IsCorner}
 use Rattle.problem_core.specs.Rays.{HasRays}
@@ -18,7 +17,7 @@ use Rattle.corner.specs.declared.table.Owner.TheVariants.{Level as LevelSlot, At
 use Rattle.corner.specs.declared.table.Standing.{Standing}
 use Rattle.corner.specs.declared.table.TheConstants.{LEVELS}
 use Rattle.corner.specs.Tables.{Lists, line_slot, marks_at, number, problem_of, slot_at, standing_at}
-use Rattle.corner.specs.Kept.{AreSlots, HasLevelNumbers, IsKept, IsLevelKept, IsLineRow, IsLineSlot, IsOwned, home_of, row_count}
+use Rattle.corner.specs.Kept.{AreSlots, HasLevelNumbers, IsKept, IsLevelKept, IsLineRow, IsLineSlot, IsOwned, row_count}
 use Rattle.corner.specs.Shifting.{AreShifted, with_shifted}
 use Rattle.corner.proofs.AttrJoins.{own_name, own_stay}
 use Rattle.corner.proofs.KeptFacts.{value_kept}
@@ -27,28 +26,15 @@ use Rattle.corner.proofs.ShiftGrowths.{IsShiftOf, level_grown, shift_here}
 use Rattle.corner.proofs.ShiftLines.{fitting_seen, reduced_seen, row_seen_alike, shift_named, shift_seen, shift_whole, unit_seen}
 use Rattle.corner.proofs.ShiftValues.{attr_shifted, line_shifted, shift_marks_at}
 use Rattle.corner.proofs.StoodLines.{AreSeenAlike, each_seen}
+use Rattle.corner.proofs.StoodKept.{home_seen, slot_back}
 
 -- ---- slots
-
-home-seen : (t u : Lists) (l : Line) (name : RowName) → ((n : RowName) → line_slot u n ≡ line_slot t n) → home_of u (constantless l) name ≡ home_of t l name
-home-seen t u l (Held id) e = refl
-home-seen t u l (StayOf attr) e = e (StayOf attr)
 
 slot-seen : (t : Lists) (id : ℕ) (to : Fraction) (standings : List Standing) (l : Line) → IsLineSlot t l → IsLineSlot (with_shifted id to standings t) (constantless l)
 slot-seen t id to standings l s = record {
   slot = s.slot;
   owner = s.owner;
-  home = s.home ∙ sym (home-seen t (with_shifted id to standings t) l l.name (λ n. refl));
-  weight = s.weight;
-  scale = s.scale;
-  rel = s.rel;
-}
-
-slot-back : (t : Lists) (l : Line) → IsLineSlot t (constantless l) → IsLineSlot t l
-slot-back t l s = record {
-  slot = s.slot;
-  owner = s.owner;
-  home = s.home ∙ home-seen t t l l.name (λ n. refl);
+  home = s.home ∙ sym (home_seen t (with_shifted id to standings t) l l.name (λ n. refl));
   weight = s.weight;
   scale = s.scale;
   rel = s.rel;
@@ -82,7 +68,7 @@ shift_slots t id to standings slots count = record {
 
     after : All (IsLineSlot u) (lines q)
     after i x lt =
-        slot-back u (slice_index_or (lines q) i x)
+        slot_back u (slice_index_or (lines q) i x)
         (each_seen (IsLineSlot u) (problem_of t) q (sym (shift_seen (problem_of t) id to)) (λ k y within. slot-seen t id to standings (slice_index_or (lines (problem_of t)) k y) (slots.lines k y within)) i x lt)
 
 -- ---- how many rows a level has

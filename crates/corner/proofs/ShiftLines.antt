@@ -1,25 +1,24 @@
 -- A row's constant changes: what does not speak of constants is as before.
-use Rattle.std.proofs.Common.{◌≡◌, ◌∙◌, ℕ, zero, suc, ◌*◌, ◌<◌, ◌++◌, Bool, true, false, cond, nat_eq, List, [], ◌∷◌, map, length, refl, sym, ap, ap₂, subst, arith, ℤ, pos, ◌+ℤ◌, ◌-ℤ◌, ◌*ℤ◌, neg_ℤ, unsigned_abs, All, Contains, slice_index_or}
+use Rattle.std.proofs.Common.{◌≡◌, ◌∙◌, ℕ, zero, suc, ◌*◌, ◌<◌, ◌++◌, Bool, true, false, cond, nat_eq, List, [], ◌∷◌, map, length, refl, sym, ap, ap₂, subst, arith, ℤ, pos, ◌+ℤ◌, ◌-ℤ◌, ◌*ℤ◌, neg_ℤ, unsigned_abs, Contains, slice_index_or}
 use Rattle.std.specs.List.{AllByRecursion as Each}
 use Rattle.std.specs.Int.{◌∣◌}
 use Rattle.std.proofs.lemmas.List.Elements.{All-from_recursion, recursion_from_All}
 use Rattle.frac_core.specs.Fraction.{Fraction, IsFitting, IsKept}
 use Rattle.problem_core.specs.declared.parts.Mark.{Mark}
 use Rattle.problem_core.specs.declared.parts.RowName.{RowName}
-use Rattle.problem_core.specs.declared.parts.Side.{Side}
 use Rattle.problem_core.specs.declared.parts.Side.TheVariants.{Under, Over}
 use Rattle.problem_core.specs.declared.parts.Stay.{Stay}
 use Rattle.problem_core.specs.Layout.{IsCovered, Line, Problem, Row, coefficient, line_of_row, lines, stay_lines}
 use Rattle.problem_core.specs.Kept.{IsRow, IsWhole}
-use Rattle.problem_core.specs.Certificates.{IsLexNonnegative, Multipliers, weight_at}
-use Rattle.problem_core.specs.Corners.{IsIn, NoNegativeColumn, column, marks_of, place, place_of}
+use Rattle.problem_core.specs.Certificates.{weight_at}
+use Rattle.problem_core.specs.Corners.{IsIn, marks_of, place, place_of}
 use Rattle.problem_core.specs.Levels.{AreFitting}
 use Rattle.corner_laws.specs.Units.{IsLevelRow, IsLevelUnit, IsReducedBy, over_share, under_share}
 use Rattle.corner_lines.specs.Fronts.{constantless}
 use Rattle.corner_lines.specs.Shifts.{has_constant, with_constant}
 use Rattle.corner_lines.proofs.Shifted.{changed}
-use Rattle.corner.specs.Views.{AreCandidates, IsMarkOf, IsNamed}
-use Rattle.corner.proofs.StoodColumns.{multipliers_seen, negative_seen}
+use Rattle.corner.specs.Views.{AreCandidates, IsNamed}
+use Rattle.corner.proofs.StoodColumns.{negative_seen}
 use Rattle.corner.proofs.StoodLines.{AreSeenAlike, any_seen, each_seen, marks_seen, sum_seen}
 
 row_seen : (b : Bool) (f : Fraction) (r : Row) → constantless (line_of_row (cond b (changed f r) r)) ≡ constantless (line_of_row r)
@@ -39,23 +38,10 @@ shift_named p id to name named = any_seen (λ l. l.name ≡ name) p (with_consta
 pub shift_marks : (p : Problem) (id : ℕ) (to : Fraction) → marks_of (lines (with_constant id to p)) ≡ marks_of (lines p)
 shift_marks p id to = marks_seen (with_constant id to p) p (shift_seen p id to)
 
-pub shift_mark : (p : Problem) (id : ℕ) (to : Fraction) (m : Mark) → IsMarkOf p m → IsMarkOf (with_constant id to p) m
-shift_mark p id to m is = subst (λ (ms : List Mark). Contains (map place ms) (place m)) (sym (shift_marks p id to)) is
-
 pub shift_candidates : (p : Problem) (id : ℕ) (to : Fraction) (at : List Mark) (names : List RowName) → AreCandidates p at names → AreCandidates (with_constant id to p) at names
 shift_candidates p id to at names c m out negative =
     c m (subst (λ (ms : List Mark). Contains (map place ms) (place m)) (shift_marks p id to) out.0, out.1)
     (negative_seen (with_constant id to p) p at m (shift_seen p id to) negative)
-
-lex_seen : (p q : Problem) (m : Multipliers) (side : Side) → AreSeenAlike p q → All (λ l. IsLexNonnegative (column m side l)) (lines p) → All (λ l. IsLexNonnegative (column m side l)) (lines q)
-lex_seen p q m Under same h = each_seen (λ l. IsLexNonnegative (column m Under l)) p q same h
-lex_seen p q m Over same h = each_seen (λ l. IsLexNonnegative (column m Over l)) p q same h
-
--- where no column is negative, none is with the new constant
-pub shift_not_negative : (p : Problem) (id : ℕ) (to : Fraction) (at : List Mark) → NoNegativeColumn p at → NoNegativeColumn (with_constant id to p) at
-shift_not_negative p id to at (m, are, none) =
-    let same : AreSeenAlike p (with_constant id to p) = sym (shift_seen p id to) in
-    (m, multipliers_seen p (with_constant id to p) at m same are, λ side. lex_seen p (with_constant id to p) m side same (none side))
 
 -- ---- the problem with the new constant is whole
 
@@ -80,7 +66,7 @@ each_row : (P : Row → Type 0) (id : ℕ) (f : Fraction) (rows : List Row) → 
 each_row P id f [] step h = tt
 each_row P id f (r ∷ rows) step h = (step (nat_eq r.id id) r h.0, each_row P id f rows step h.1)
 
-row_id : (b : Bool) (f : Fraction) (r : Row) → (cond b (changed f r) r).id ≡ r.id
+pub row_id : (b : Bool) (f : Fraction) (r : Row) → (cond b (changed f r) r).id ≡ r.id
 row_id true f r = refl
 row_id false f r = refl
 

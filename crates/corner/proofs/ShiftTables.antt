@@ -12,7 +12,7 @@ use Rattle.corner.specs.Changes.{IsUnfitStop}
 use Rattle.corner.specs.Tables.{Lists, lists_of, marks_at, problem_of}
 use Rattle.corner.specs.Kept.{IsKept, IsSlot}
 use Rattle.corner.specs.Histories.{AreAlike, lists_before}
-use Rattle.corner.specs.Invariants.{IsConsistent, IsEarlier, names_of, order_of}
+use Rattle.corner.specs.Invariants.{IsConsistent, IsEarlier, names_of}
 use Rattle.corner.specs.Shifting.{IsShifted, IsShiftedStop, with_shifted}
 use Rattle.corner.proofs.ShiftGrowths.{IsShiftOf}
 use Rattle.corner.proofs.ShiftKept.{shift_kept}
@@ -22,18 +22,8 @@ use Rattle.corner.proofs.ShiftValues.{shift_marks_at, shift_stop}
 shift-of : (t u : Lists) (id : ℕ) (to : Fraction) → IsKept t → fractions.IsKept to → (h : IsShifted id to t u) → IsShiftOf t id h.0 to h.1
 shift-of t u id to kept to_kept h = record { kept = kept; shift = h.2; to_kept = to_kept }
 
--- the problem has the constant, and the marks, names and the order are as before
-pub shifted_problem : (t u : Lists) (id : ℕ) (to : Fraction) → IsShifted id to t u → problem_of u ≡ with_constant id to (problem_of t)
-shifted_problem t u id to h = ap problem_of h.5
-
 pub shifted_marks : (t u : Lists) (id : ℕ) (to : Fraction) → IsShifted id to t u → marks_at u ≡ marks_at t
 shifted_marks t u id to h = ap marks_at h.5 ∙ shift_marks_at t id to h.1 u.standings h.4
-
-pub shifted_names : (t u : Lists) (id : ℕ) (to : Fraction) (ws : List ℕ) → IsShifted id to t u → names_of u ws ≡ names_of t ws
-shifted_names t u id to ws h = ap (λ (l : Lists). names_of l ws) h.5
-
-pub shifted_order : (t u : Lists) (id : ℕ) (to : Fraction) → IsShifted id to t u → order_of u ≡ order_of t
-shifted_order t u id to h = ap order_of h.5
 
 pub shifted_kept : (t u : Lists) (id : ℕ) (to : Fraction) → IsKept t → fractions.IsKept to → IsShifted id to t u → IsKept u
 shifted_kept t u id to kept to_kept h = subst IsKept (sym h.5) (shift_kept t id h.0 to h.1 u.standings (shift-of t u id to kept to_kept h) h.4)

@@ -9,10 +9,6 @@ use Rattle.corner.specs.Kept.{AreSlots, IsLineSlot, IsSlot}
 use Rattle.problem_core.specs.declared.parts.Level.TheVariants.{Stay as StayLevel}
 use Rattle.corner.specs.Views.{IsLevelOf, IsNamed}
 
--- what holds of each holds of the one that some fact is of
-pub all_any : {X : Type 0} (P Q R : X → Type 0) (xs : List X) → All P xs → Any Q xs → ((x : X) → P x → Q x → Any R xs) → Any R xs
-all_any P Q R xs a h f = f h.1 (subst P h.3 (a h.0 h.1 h.2)) h.4
-
 pub any_is : {X : Type 0} {Y : Type 0} (P Q : X → Type 0) (xs : List X) → All P xs → Any Q xs → ((x : X) → P x → Q x → Y) → Y
 any_is P Q xs a h f = f h.1 (subst P h.3 (a h.0 h.1 h.2)) h.4
 

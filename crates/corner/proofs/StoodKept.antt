@@ -42,12 +42,13 @@ use Rattle.corner.proofs.AttrJoins.{own_name, own_stay}
 use Rattle.corner.proofs.AttrLevels.{stay_named}
 use Rattle.corner.proofs.AttrRows.{below_or}
 use Rattle.corner.proofs.KeptFacts.{filter_same, value_kept}
-use Rattle.corner.proofs.MarkFacts.{bool_is, inside_stands, not_both}
+use Rattle.corner.proofs.MarkFacts.{inside_stands, not_both}
 use Rattle.corner.proofs.ReadFacts.{named_in, value_attr, value_inside}
 use Rattle.corner.proofs.SlotFacts.{any_is, named_stay}
 use Rattle.corner.proofs.StoodLevels.{cost_stood}
 use Rattle.corner.proofs.StoodLines.{AreSeenAlike, any_seen, each_seen, lines_alike, map_same, marks_seen, stay_line, sum_seen}
 use Rattle.corner.proofs.StoodLists.{held_no_stay, level_no_stay, no_first_attr}
+use Rattle.row_core.proofs.Walks.{either}
 
 -- ---- slots while the stays move
 
@@ -73,7 +74,7 @@ owned_after n t stays standings h w LevelSlot own = own
 owned_after n t stays standings h w (AttrSlot attr) own = (has_after n t stays standings h attr own.0, own.1)
 owned_after n t stays standings h w (LineSlot name) own = (named_after n t stays standings h name own.0, own.1)
 
-home_seen : (t u : Lists) (l : Line) (name : RowName) → ((n : RowName) → line_slot u n ≡ line_slot t n) → home_of u (constantless l) name ≡ home_of t l name
+pub home_seen : (t u : Lists) (l : Line) (name : RowName) → ((n : RowName) → line_slot u n ≡ line_slot t n) → home_of u (constantless l) name ≡ home_of t l name
 home_seen t u l (Held id) e = refl
 home_seen t u l (StayOf attr) e = e (StayOf attr)
 
@@ -87,7 +88,7 @@ slot_seen t stays standings l s = record {
   rel = s.rel;
 }
 
-slot_back : (t : Lists) (l : Line) → IsLineSlot t (constantless l) → IsLineSlot t l
+pub slot_back : (t : Lists) (l : Line) → IsLineSlot t (constantless l) → IsLineSlot t l
 slot_back t l s = record {
   slot = s.slot;
   owner = s.owner;
@@ -137,7 +138,7 @@ first_slots n t stays standings slots h = record {
 
 -- a mark whose line is at 0
 mark_rests : (t : Lists) (m : Mark) (kept : IsKept t) → IsMarkOf (problem_of t) m → (standing_at t (line_slot t m.row)).value.num ≡ pos 0 → kept.corner.point.num (place m) ≡ pos 0
-mark_rests t m kept is none = elim (bool_is (stands_in t m)) [
+mark_rests t m kept is none = elim (either (stands_in t m)) [
   | inl e ↦
       let (y, stands, value) = value_inside t m kept is e in
       let f : Fraction = (standing_at t (line_slot t m.row)).value in

@@ -69,7 +69,7 @@ stays_alike base (x ∷ xs) (y ∷ ys) n h =
     ap₂ (λ (a : ℕ) (ls : List Line). constantless (line_of_stay base (record { attr = a; target = x.target })) ∷ ls) (h zero x (omega arith))
     (stays_alike (base + 1) xs ys (omega (arith, n)) (λ i z lt. h (suc i) z (omega (arith, lt))))
 
-rows_alike : (rows : List Row) (xs ys : List Line) → map constantless xs ≡ map constantless ys → map constantless (map line_of_row rows ++ xs) ≡ map constantless (map line_of_row rows ++ ys)
+pub rows_alike : (rows : List Row) (xs ys : List Line) → map constantless xs ≡ map constantless ys → map constantless (map line_of_row rows ++ xs) ≡ map constantless (map line_of_row rows ++ ys)
 rows_alike [] xs ys e = e
 rows_alike (r ∷ rows) xs ys e = ap (λ (ls : List Line). constantless (line_of_row r) ∷ ls) (rows_alike rows xs ys e)
 

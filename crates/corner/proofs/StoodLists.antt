@@ -91,18 +91,6 @@ kept_at (s ∷ standings) (suc w) h = kept_at standings w (λ k x lt. h (suc k) 
 
 -- ---- one by one
 
-pub none_stood : (t : Lists) → IsKept t → HaveFirstStood 0 t t.stays t.standings
-none_stood t kept = record {
-  stay_count = refl;
-  first = λ i s lt within. absurd (omega (arith, lt));
-  later = λ i s le. refl;
-  standing_count = refl;
-  sides = λ w. refl;
-  cleared = λ i s lt within. absurd (omega (arith, lt));
-  others = λ w never. refl;
-  values = kept.values;
-}
-
 fewer : (t : Lists) (n w : ℕ) → IsNoFirst t (n + 1) w → IsNoFirst t n w
 fewer t n w never i s lt within = never i s (omega (arith, lt)) within
 

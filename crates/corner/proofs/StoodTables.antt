@@ -18,7 +18,7 @@ use Rattle.corner.proofs.CornerAttrs.{alike_same, past_same}
 use Rattle.corner.proofs.StoodColumns.{negative_seen}
 use Rattle.corner.proofs.StoodKept.{attr_same, first_slots, have_stood, named_after, seen_alike, stood_kept, stood_marks}
 use Rattle.corner.proofs.StoodLines.{AreSeenAlike, marks_seen}
-use Rattle.corner.proofs.StoodLists.{none_stood, one_moves, one_rests}
+use Rattle.corner.proofs.StoodLists.{one_moves, one_rests}
 
 -- ---- the loop
 
@@ -34,14 +34,8 @@ same_again s t u a b = record {
   priorities = b.priorities ∙ a.priorities;
 }
 
-pub none_first : (t : Lists) → IsKept t → AreFirstStood 0 t t
-none_first t kept = (refl, none_stood t kept)
-
 pub first_are_slots : (n : ℕ) (t u : Lists) → AreSlots t → AreFirstStood n t u → AreSlots u
 first_are_slots n t u slots h = subst AreSlots (sym h.0) (first_slots n t u.stays u.standings slots h.1)
-
-pub first_count : (n : ℕ) (t u : Lists) → AreFirstStood n t u → length u.stays ≡ length t.stays
-first_count n t u h = h.1.stay_count
 
 next_attr : (n attr : ℕ) (t u : Lists) (r : Stay) → n < length t.stays → AreFirstStood n t u → (slice_index_or u.stays n r).attr ≡ attr → (slice_index_or t.stays n r).attr ≡ attr
 next_attr n attr t u r within h is = sym (attr_same n t u.stays u.standings h.1 n r within) ∙ is

@@ -2,9 +2,9 @@
 use Rattle.std.proofs.Common.{◌≡◌, ◌≢◌, ◌∙◌, ℕ, zero, suc, ◌+◌, ◌-◌, ◌*◌, ◌/◌, ◌<◌, ◌≤◌, ◌++◌, inl, inr, cond, nat_eq, Bool, true, false, List, [], ◌∷◌, map, filter, length, get_or, refl, sym, ap, ap₂, subst, arith, ℤ, pos, neg_ℤ, ◌*ℤ◌, All, Any, Contains, Some, Result, Ok, Err, OnOk, slice_index_or, eq-eqb, ne_eqb, not, of_z, to_z, SFits}
 use Rattle.std.specs.Int.{◌∣◌}
 use Rattle.std.proofs.lemmas.Bool.{cases_eq, cases_lt}
-use Rattle.std.proofs.lemmas.List.{get_or_append_left, length-append}
+use Rattle.std.proofs.lemmas.List.{length-append}
 use Rattle.std.proofs.Math.Seq.{get_or-append_seam}
-use Rattle.std.proofs.lemmas.List.Elements.{All-append, All-from_recursion, All-nil, recursion_from_All}
+use Rattle.std.proofs.lemmas.List.Elements.{All-append, All-from_recursion, recursion_from_All}
 use Rattle.std.proofs.Math.Nat.{div-mul_cancel, mul-zero, zero-div, zero-mul}
 use Rattle.std.specs.Int.{w64}
 use Rattle.std.proofs.lemmas.Int.{to_z-of_z}
@@ -38,10 +38,11 @@ use Rattle.corner.specs.Exchanges.{ArePut, IsChangeBy, IsChangeOf, IsEnteringBy,
 use Rattle.corner.specs.Touched.{AreLevelsPut, CountsNothing, CountsWhereStands, IsPut}
 use Rattle.corner.proofs.MarkFacts.{not_both}
 use Rattle.corner.proofs.LevelNumberFacts.{IsKnown, all-known, home_is}
-use Rattle.corner.proofs.LevelReadFacts.{named_line_slot, same_level, same_slot}
+use Rattle.corner.proofs.LevelReadFacts.{same_level, same_slot}
 use Rattle.corner.proofs.LevelRowFacts.{HasRow, priority_row}
 use Rattle.corner.proofs.LevelUseFacts.{is_zero}
 use Rattle.corner.proofs.LevelWrittenFacts.{share-there}
+use Rattle.corner.proofs.TurnedFacts.{any-with}
 
 -- ---- a line that counts nothing in one unit counts nothing in any
 
@@ -125,9 +126,6 @@ counts_elsewhere t level w side kept lt ne = counts_nothing t level w side kept 
 
 -- ---- levels that have rows
 
-any-with : {X : Type 0} (P Q R : X → Type 0) (xs : List X) → All P xs → Any Q xs → ((x : X) → P x → Q x → R x) → Any R xs
-any-with P Q R xs a h f = (h.0, h.1, h.2, h.3, f h.1 (subst P h.3 (a h.0 h.1 h.2)) h.4)
-
 stay-level : (k base : ℕ) (stays : List Stay) → Any (λ l. l.level ≡ k) (stay_lines base stays) → base ≤ k
 stay-level k base [] (n, x, lt, e, h) = absurd (omega (arith, lt))
 stay-level k base (s ∷ stays) (zero, x, lt, e, h) = let i : base ≡ k = ap (λ (l : Line). l.level) e ∙ h in omega (arith, i)
@@ -162,9 +160,6 @@ standing_rows t w c kept lt some none = some (ap (λ (row : List Term). coeffici
 
 -- ---- changes behind changes
 
-pub put_before : (changes more : List Change) (w : ℕ) → IsPut changes w → IsPut (changes ++ more) w
-put_before changes more w h = (h.0, h.1, (let lt = h.2 in let n = length-append changes more in omega (arith, lt, n)), get_or_append_left changes more h.1 h.0 h.2 ∙ h.3, h.4)
-
 pub put_last : (changes : List Change) (change : Change) → IsPut (changes ++ change ∷ []) change.at
 put_last changes change = (length changes, change, (let n = length-append changes (change ∷ []) in omega (arith, n)), get_or-append_seam changes change [] change, refl)
 
@@ -189,12 +184,6 @@ on_ok_both (Err e) P Q R f h k = tt
 
 -- ---- the levels of the two lines
 
-pub enter_line : (t : Lists) (pair : Pair) (s : Swap) → IsPair t pair s → IsSlotOfLine t pair.enter
-enter_line t pair s are = subst (IsSlotOfLine t) are.enter_slot (named_line_slot t s.enter.row are.enters)
-
-pub leave_line : (t : Lists) (pair : Pair) (s : Swap) → IsPair t pair s → IsSlotOfLine t pair.leave
-leave_line t pair s are = subst (IsSlotOfLine t) are.leave_slot (named_line_slot t s.leave.row are.leaves)
-
 pub home_put : (t : Lists) (enter w : ℕ) (side : Side) (changes : List Change) → IsKept t → IsPut changes (slot_at t w).home → AreLevelsPut t enter w side changes
 home_put t enter w side changes kept put level lt none = elim (cases_eq (slot_at t w).home level) [
   | inl e ↦ inl (subst (λ (k : ℕ). IsPut changes k) e put)
@@ -213,9 +202,6 @@ more_put t enter w side changes more keeps put level lt none = elim (put level l
 pub record AreGone (t : Lists) (pivot : Pivot) (slots : List ℕ) (index : ℕ) (changes : List Change) : Type 0 where
   pub changes_by : All (IsChangeBy t pivot) changes
   pub put : (i : ℕ) → i < index → slice_index_or slots i 0 ≢ pivot.pair.leave → IsPut changes (slice_index_or slots i 0)
-
-pub none_gone : (t : Lists) (pivot : Pivot) (slots : List ℕ) → AreGone t pivot slots 0 []
-none_gone t pivot slots = record { changes_by = All-nil (IsChangeBy t pivot); put = λ i lt. absurd (omega (arith, lt)) }
 
 pub one_gone : (t : Lists) (pivot : Pivot) (slots : List ℕ) (index : ℕ) (changes more : List Change) → AreGone t pivot slots index changes → All (IsChangeBy t pivot) more → ((v : ℕ) → IsPut changes v → IsPut more v)
     → (slice_index_or slots index 0 ≢ pivot.pair.leave → IsPut more (slice_index_or slots index 0)) → AreGone t pivot slots (index + 1) more

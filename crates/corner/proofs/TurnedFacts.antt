@@ -329,7 +329,7 @@ count-some id k (r ∷ rows) rest none (zero, y, lt, e, h) q =
 count-some id k (r ∷ rows) rest none (suc i, y, lt, e, h) q =
     count-some id k rows rest none (i, y, omega (arith, lt), e, h) (one-more (nat_eq (1000 - r.rank) k) r (filter (λ (r : Row). nat_eq (1000 - r.rank) k) rows) q).1
 
-any-with : {X : Type 0} (P Q R : X → Type 0) (xs : List X) → All P xs → Any Q xs → ((x : X) → P x → Q x → R x) → Any R xs
+pub any-with : {X : Type 0} (P Q R : X → Type 0) (xs : List X) → All P xs → Any Q xs → ((x : X) → P x → Q x → R x) → Any R xs
 any-with P Q R xs a h f = (h.0, h.1, h.2, h.3, f h.1 (subst P h.3 (a h.0 h.1 h.2)) h.4)
 
 -- the level of a line has rows

@@ -25,14 +25,6 @@ pub record AreUsedBelow (t : Lists) (n : ℕ) (levels : List Level) : Type 0 whe
   pub all : (a : Level) (j : ℕ) → IsLevelAt (problem_of t) a j → IsInUse (problem_of t) a → j < n → Contains levels a
   pub order : AllPairs (IsStronger (problem_of t)) levels
 
-pub none_used : (t : Lists) → AreUsedBelow t 0 []
-none_used t = record {
-  used = λ k x lt. absurd (omega (arith, lt));
-  below = λ k x lt. absurd (omega (arith, lt));
-  all = λ a j is use-of lt. absurd (omega (arith, lt));
-  order = λ i k d lt within. absurd (omega (arith, within));
-}
-
 level-number : (t : Lists) (a : Level) (j k : ℕ) → IsKept t → IsLevelAt (problem_of t) a j → IsLevelAt (problem_of t) a k → j ≡ k
 level-number t a j k kept x y = same_level t (level_slot t a) (level_slot t a) j k kept (a, x, refl) (a, y, refl) refl
 

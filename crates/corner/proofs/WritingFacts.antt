@@ -21,7 +21,8 @@ use Rattle.corner.specs.Tables.{IsOfLine, Lists, attr_slot, entry, line_slot, ma
 use Rattle.corner.specs.Kept.{AreSlots, IsAttrSlot, IsHeld, IsKept, IsLineSlot}
 use Rattle.corner.proofs.SlotFacts.{any_is}
 use Rattle.corner.proofs.MarkFacts.{inside_stands}
-use Rattle.corner.proofs.ReadFacts.{attr_equation, inside_equation, mark_named, sign_twice}
+use Rattle.corner.proofs.ReadFacts.{attr_equation, inside_equation, mark_named}
+use Rattle.corner_lines.proofs.LineUnfits.{twice}
 
 -- an inside mark is one of the problem
 pub in_mark : (t : Lists) (m : Mark) → IsKept t → IsIn (place m) (marks_at t) → IsMarkOf (problem_of t) m
@@ -58,7 +59,7 @@ scale_of t (MarkOf m) kept h =
         e.0,
         inside_form m.side m.row e.0 (number t (line_slot t m.row)) (lines (problem_of t)),
         f,
-        subst (λ (z : ℤ). IsWritingOf (problem_of t) (marks_at t) (λ x. x (place m)) e.0 (inside_form m.side m.row e.0 (number t (line_slot t m.row)) (lines (problem_of t))) z f.den) (sign_twice m.side f.num)
+        subst (λ (z : ℤ). IsWritingOf (problem_of t) (marks_at t) (λ x. x (place m)) e.0 (inside_form m.side m.row e.0 (number t (line_slot t m.row)) (lines (problem_of t))) z f.den) (twice m.side f.num)
             (mark_writing (problem_of t) (marks_at t) m.row m.side e.0 (number t (line_slot t m.row)) (sign_of m.side *ℤ f.num) f.den kept.whole kept.corner h.1.0 e.2),
         e.1,
       ),
@@ -143,7 +144,7 @@ mark_coefficient t k m kept i is ne =
         e.0,
         inside_form k.side k.row e.0 (number t (line_slot t k.row)) (lines (problem_of t)),
         f,
-        subst (λ (z : ℤ). IsWritingOf (problem_of t) (marks_at t) (λ x. x (place k)) e.0 (inside_form k.side k.row e.0 (number t (line_slot t k.row)) (lines (problem_of t))) z f.den) (sign_twice k.side f.num)
+        subst (λ (z : ℤ). IsWritingOf (problem_of t) (marks_at t) (λ x. x (place k)) e.0 (inside_form k.side k.row e.0 (number t (line_slot t k.row)) (lines (problem_of t))) z f.den) (twice k.side f.num)
             (mark_writing (problem_of t) (marks_at t) k.row k.side e.0 (number t (line_slot t k.row)) (sign_of k.side *ℤ f.num) f.den kept.whole kept.corner i e.2),
         mark_sign m.side k.side (entry t (line_slot t k.row) (line_slot t m.row)) (number t (line_slot t k.row) m.row)
             (number_is t (line_slot t k.row) m.row (λ z. ne (lines_apart t k.row m.row kept.slots (mark_named (problem_of t) k at) named z))) ∙ sym c,
@@ -166,7 +167,7 @@ own_coefficient t k m kept i out row =
         e.0,
         inside_form k.side k.row e.0 (number t (line_slot t k.row)) (lines (problem_of t)),
         f,
-        subst (λ (z : ℤ). IsWritingOf (problem_of t) (marks_at t) (λ x. x (place k)) e.0 (inside_form k.side k.row e.0 (number t (line_slot t k.row)) (lines (problem_of t))) z f.den) (sign_twice k.side f.num)
+        subst (λ (z : ℤ). IsWritingOf (problem_of t) (marks_at t) (λ x. x (place k)) e.0 (inside_form k.side k.row e.0 (number t (line_slot t k.row)) (lines (problem_of t))) z f.den) (twice k.side f.num)
             (mark_writing (problem_of t) (marks_at t) k.row k.side e.0 (number t (line_slot t k.row)) (sign_of k.side *ℤ f.num) f.den kept.whole kept.corner i e.2),
         e.1 ∙ sym c ∙ ap (λ (n : ℕ). coefficient n (inside_form k.side k.row e.0 (number t (line_slot t k.row)) (lines (problem_of t)))) (ap (λ (s : Side). place_of k.row s) side ∙ ap (λ (r : RowName). place_of r m.side) row),
       ),

@@ -17,6 +17,7 @@ use Rattle.corner.specs.Views.{IsNamed, in_order, is_mark}
 use Rattle.corner_ends.specs.Among.{lines_among, marks_among}
 use Rattle.corner_ends.specs.Begins.{AreExchanges, HasExchanged}
 use Rattle.corner_ends.proofs.MarkOrders.{kept_in}
+use Rattle.corner.proofs.MarkingFacts.{append_more}
 
 -- ---- whether a mark is among others
 
@@ -102,14 +103,6 @@ mark_stays first at swaps c b run others to back =
 
 -- ---- lists
 
-pub append_more : {X : Type 0} (xs ys zs : List X) → (xs ++ ys) ++ zs ≡ xs ++ (ys ++ zs)
-append_more [] ys zs = refl
-append_more (x ∷ xs) ys zs = ap (λ us. x ∷ us) (append_more xs ys zs)
-
-pub append_none : {X : Type 0} (xs : List X) → xs ++ [] ≡ xs
-append_none [] = refl
-append_none (x ∷ xs) = ap (λ us. x ∷ us) (append_none xs)
-
 filter-two : (p : Mark → Bool) (m : Mark) (b : Bool) (ms us vs : List Mark) → ms ≡ us ++ vs → cond b (m ∷ ms) ms ≡ cond b (m ∷ us) us ++ vs
 filter-two p m true ms us vs e = ap (λ xs. m ∷ xs) e
 filter-two p m false ms us vs e = e
@@ -123,17 +116,6 @@ lines_more first [] more = refl
 lines_more first (n ∷ names) more =
     ap (λ ms. marks_among first (record { row = n; side = Under } ∷ record { row = n; side = Over } ∷ []) ++ ms) (lines_more first names more)
     ∙ sym (append_more (marks_among first (record { row = n; side = Under } ∷ record { row = n; side = Over } ∷ [])) (lines_among first names) (lines_among first more))
-
--- both marks of a line, one after the other
-pub line_pushed : (first old out new : List Mark) (name : RowName) (under over : Mark) → under ≡ record { row = name; side = Under } → over ≡ record { row = name; side = Over } → out ≡ old ++ marks_among first (under ∷ []) → new ≡ out ++ marks_among first (over ∷ []) → new ≡ old ++ lines_among first (name ∷ [])
-line_pushed first old out new name under over u o e f =
-    let m : Mark = record { row = name; side = Under } in
-    let n : Mark = record { row = name; side = Over } in
-    f ∙ ap (λ (ms : List Mark). ms ++ marks_among first (over ∷ [])) e
-    ∙ append_more old (marks_among first (under ∷ [])) (marks_among first (over ∷ []))
-    ∙ ap (λ (a : Mark). old ++ (marks_among first (a ∷ []) ++ marks_among first (over ∷ []))) u
-    ∙ ap (λ (b : Mark). old ++ (marks_among first (m ∷ []) ++ marks_among first (b ∷ []))) o
-    ∙ ap (λ (ms : List Mark). old ++ ms) (sym (mark_more first m (n ∷ [])) ∙ sym (append_none (marks_among first (m ∷ n ∷ []))))
 
 -- the first elements, and one more
 map-next : {X Y : Type 0} (f : X → Y) (xs : List X) (k : ℕ) (x : X) → k < length xs → get_or xs k x ≡ x → map f (take (k + 1) xs) ≡ map f (take k xs) ++ (f x ∷ [])

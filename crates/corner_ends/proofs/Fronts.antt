@@ -1,5 +1,5 @@
 -- Fronts: the first level at which a mark's reduced cost is not 0.
-use Rattle.std.proofs.Common.{◌≡◌, ◌≢◌, ◌∙◌, ◌⊎◌, inl, inr, ℕ, zero, suc, ◌+◌, ◌++◌, ◌<◌, List, [], ◌∷◌, map, ℤ, pos, negsuc, ◌≤ℤ◌, ◌<ℤ◌, refl, sym, ap, subst, arith, All, Any, Contains}
+use Rattle.std.proofs.Common.{◌≡◌, ◌≢◌, ◌∙◌, ◌⊎◌, inl, inr, ℕ, zero, suc, ◌+◌, ◌++◌, ◌<◌, List, [], ◌∷◌, map, ℤ, pos, ◌≤ℤ◌, ◌<ℤ◌, refl, sym, ap, subst, arith, All, Any, Contains}
 use Rattle.std.specs.List.{AllByRecursion as Each}
 use Rattle.std.proofs.lemmas.Bool.{cases_eq}
 use Rattle.std.proofs.lemmas.List.Elements.{recursion_from_All, All-from_recursion}
@@ -28,6 +28,7 @@ use Rattle.corner.specs.declared.levels.Front.{Front}
 use Rattle.corner.specs.Views.{HasNoFront, IsFrontOf, IsInUse, IsKeptCorner, IsMarkOf, IsOutside, IsReducedAt}
 use Rattle.corner_ends.specs.Columns.{IsNegative, Reduced}
 use Rattle.corner_ends.proofs.Signs.{reduced_by_negative}
+use Rattle.corner.proofs.LowLines.{up_or_low}
 
 -- ---- the reduced costs of all levels
 
@@ -209,10 +210,6 @@ no_front p at m kept mark h column =
 
 -- ---- all marks
 
-pub up_or_down : (z : ℤ) → (pos 0 ≤ℤ z) ⊎ (z <ℤ pos 0)
-up_or_down (pos n) = inl (omega (arith, ints))
-up_or_down (negsuc n) = inr (omega (arith, ints))
-
 pub each_mark : (ls : List Line) → Each (λ m. Contains (map place (marks_of ls)) (place m)) (marks_of ls)
 each_mark [] = tt
 each_mark (l ∷ ls) = ((0, omega arith, refl), ((1, omega arith, refl), each-impl (λ m. Contains (map place (marks_of ls)) (place m)) (λ m. Contains (map place (marks_of (l ∷ ls))) (place m)) (marks_of ls) (λ m h. (suc (suc h.0), (let within = h.1 in omega (arith, within)), h.2)) (each_mark ls)))
@@ -224,7 +221,7 @@ none_negative p at kept none =
     none_negative_by_reduced p at r.costs r.are
     (All-from_recursion (λ m. IsLexNonnegative (λ level. r.costs level (place m))) (marks_of (lines p))
     (each-impl (λ m. IsMarkOf p m) _ (marks_of (lines p))
-    (λ m mark k before. elim (up_or_down (r.costs k (place m))) [
+    (λ m mark k before. elim (up_or_low (r.costs k (place m))) [
       | inl up ↦ up
       | inr low ↦
           absurd (none m (mark, λ i. let zero = inside_zero p at r k m mark i in omega (arith, ints, zero, low))

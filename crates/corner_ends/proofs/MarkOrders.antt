@@ -8,17 +8,15 @@ use Rattle.problem_core.specs.Stops.{TableStop}
 use Rattle.problem_core.specs.declared.stops.Quantity.TheVariants.{Plain, Terms, Rows, Shifts}
 use Rattle.problem_core.specs.declared.stops.What.{What}
 use Rattle.problem_core.specs.declared.stops.What.TheVariants.{Attr as AttrOf, Mark as MarkOf, Level as LevelOf}
-use Rattle.problem_core.specs.declared.parts.Term.{Term}
 use Rattle.problem_core.specs.Layout.{Problem}
-use Rattle.problem_core.specs.Certificates.{Multipliers}
-use Rattle.problem_core.specs.Corners.{AreMultipliersAt, IsWritingOf, attr_column, IsIn, SameMarks, Swap, exchanged, place}
+use Rattle.problem_core.specs.Corners.{attr_column, IsIn, SameMarks, Swap, exchanged, place}
 use Rattle.problem_core.specs.Paths.{last_marks}
 use Rattle.problem_core.specs.Unfit.{HasNoWriting, IsUnfitWhat}
-use Rattle.problem_core.specs.Levels.{HasNoLevelWriting}
 use Rattle.problem_core.proofs.Forms.{each-impl}
-use Rattle.corner_laws.proofs.RunPaths.{contains_in, same_stands}
+use Rattle.corner_laws.proofs.RunPaths.{contains_in}
 use Rattle.corner_laws.proofs.Exchanged.{exchanged_in}
 use Rattle.corner.specs.Changes.{IsUnfitStop}
+use Rattle.corner_lines.proofs.SameLevels.{same-writing, unfit-level}
 
 pub same_back : (a b : List Mark) → SameMarks a b → SameMarks b a
 same_back a b h = (h.1, h.0)
@@ -39,9 +37,6 @@ same_through a b c h g = (all-through a b c h.0 g.0, all-through c b a g.1 h.1)
 pub last_more : (at : List Mark) (swaps : List Swap) (s : Swap) → last_marks at (swaps ++ s ∷ []) ≡ exchanged s (last_marks at swaps)
 last_more at [] s = refl
 last_more at (t ∷ swaps) s = last_more (exchanged t at) swaps s
-
-pub same_multipliers : (p : Problem) (at other : List Mark) (m : Multipliers) → ((v : ℕ) → IsIn v at → IsIn v other) → AreMultipliersAt p other m → AreMultipliersAt p at m
-same_multipliers p at other m to h = record { scales = h.scales; cancel = h.cancel; inside_zero = λ side i d within here. h.inside_zero side i d within (to _ here) }
 
 pub kept_in : (s : Swap) (at : List Mark) (c : ℕ) → c ≢ place s.leave → IsIn c at → IsIn c (exchanged s at)
 kept_in s [] c ne i = absurd (let within = i.1 in omega (arith, within))
@@ -72,23 +67,8 @@ last_same first at swaps s here leaves =
     subst (λ (ms : List Mark). SameMarks ms (exchanged s at)) (sym (last_more first swaps s))
     (same_exchanged s (last_marks first swaps) at here (contains_in at (last_marks first swaps) (place s.leave) here.1 leaves) leaves)
 
-same-writing : (p : Problem) (a b : List Mark) (quantity : (ℕ → ℤ) → ℤ) (scale : ℕ) (form : List Term) (num : ℤ) (den : ℕ) → ((v : ℕ) → IsIn v b → IsIn v a) → IsWritingOf p a quantity scale form num den → IsWritingOf p b quantity scale form num den
-same-writing p a b quantity scale form num den back h = record {
-  scale_positive = h.scale_positive;
-  den_positive = h.den_positive;
-  outside = λ v some. ((h.outside v some).0, λ i. (h.outside v some).1 (back v i));
-  holds = h.holds;
-  lowest = h.lowest;
-}
-
 unfit-writing : (p : Problem) (a b : List Mark) (quantity : (ℕ → ℤ) → ℤ) → SameMarks a b → HasNoWriting p a quantity → HasNoWriting p b quantity
 unfit-writing p a b quantity same h scale form value w = h scale form value (same-writing p b a quantity scale form value.num value.den (λ v i. contains_in a b v same.0 i) w)
-
-unfit-level : (p : Problem) (a b : List Mark) (k : ℕ) → SameMarks a b → HasNoLevelWriting p a k → HasNoLevelWriting p b k
-unfit-level p a b k same h scale times reduced value w cost =
-    h scale times reduced value
-    (record { scale_positive = w.scale_positive; cancel = w.cancel; columns = w.columns; inside_zero = λ side i d within here. w.inside_zero side i d within (contains_in a b _ same.0 here); lowest = w.lowest })
-    (cost.0, same_stands p a b cost.0 (λ v i. contains_in b a v same.1 i) cost.1, cost.2)
 
 unfit-what : (p : Problem) (a b : List Mark) (what : What) → SameMarks a b → IsUnfitWhat p a what → IsUnfitWhat p b what
 unfit-what p a b (AttrOf attr) same h = (h.0, unfit-writing p a b (λ x. x (attr_column attr)) same h.1)

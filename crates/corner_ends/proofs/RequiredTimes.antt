@@ -28,7 +28,8 @@ use Rattle.corner_laws.proofs.Refuting.{cost_refutes}
 use Rattle.corner.specs.Views.{HasNumbers, IsKeptCorner, IsNamed}
 use Rattle.corner_ends.specs.Shares.{AreRequiredTimes}
 use Rattle.corner_ends.proofs.Fronts.{level_0}
-use Rattle.corner_ends.proofs.Signs.{columns_alike, low_from}
+use Rattle.corner_ends.proofs.Signs.{columns_alike}
+use Rattle.corner_lines.proofs.ColumnsBelow.{low_from}
 
 -- ---- rows and their lines
 
@@ -47,7 +48,7 @@ row-line (r ∷ rows) ls (suc i) x id within is e =
 pub row_named : (p : Problem) (id n : ℕ) → Any (λ r. r.id ≡ id) p.rows → n ≡ id → IsNamed p (Held n)
 row_named p id n (i, x, within, is, e) same = row-line p.rows _ i x n within is (e ∙ sym same)
 
-at-name : (P : RowName → Type 0) (ls : List Line) (name : RowName) → All (λ l. P l.name) ls → Any (λ l. l.name ≡ name) ls → P name
+pub at-name : (P : RowName → Type 0) (ls : List Line) (name : RowName) → All (λ l. P l.name) ls → Any (λ l. l.name ≡ name) ls → P name
 at-name P ls name all (i, x, within, is, e) = subst P (ap (λ (l : Line). l.name) is ∙ e) (all i x within)
 
 -- ---- the multiplier of a row

@@ -5,7 +5,7 @@ use Rattle.std.specs.Int.{◌∣◌}
 use Rattle.std.proofs.lemmas.Nat.Gcd.{dvd_trans}
 use Rattle.std.specs.List.{AllByRecursion as Each}
 use Rattle.std.proofs.lemmas.List.{get_or-take, get_or_default, length-take-le}
-use Rattle.std.proofs.lemmas.List.Elements.{All-push, All-nil, recursion_from_All, All-from_recursion, filter_passes}
+use Rattle.std.proofs.lemmas.List.Elements.{All-push, recursion_from_All, All-from_recursion, filter_passes}
 use Rattle.std.proofs.lemmas.List.Quantifiers.{all_pairs_push}
 use borrow.Author.Differences.{ints}
 use Rattle.frac_core.specs.Fraction.{IsFitting}
@@ -67,16 +67,6 @@ front_apart rows r id h = All-from_recursion (λ s. s.id ≢ id) rows (recursion
     recursion_front : (xs : List Row) → Each (λ s. s.id ≢ id) (xs ++ r ∷ []) → Each (λ s. s.id ≢ id) xs
     recursion_front [] e = tt
     recursion_front (x ∷ xs) e = (e.0, recursion_front xs e.1)
-
-pub shares_none : (y : ℕ → ℤ) (g : ℕ) → AreShares y g [] []
-shares_none y g = record {
-  times = All-nil (λ r. r.rank ≡ 1000 → pos g *ℤ times_of [] (Held r.id) ≡ y r.id);
-  absent = λ id none. All-nil (λ b. b.row ≢ Held id);
-  kept = record { fitting = All-nil (λ b. IsFitting b.times); apart = λ i j d less within. absurd (omega (arith, within)) };
-  named = All-nil (λ b. Any (λ r. (r.rank ≡ 1000) × (b.row ≡ Held r.id)) []);
-  nonzero = All-nil (λ b. b.times ≢ pos 0);
-  rising = λ i j d less within. absurd (omega (arith, within));
-}
 
 -- a row more
 any-front : (P : Row → Type 0) (rows : List Row) (r : Row) → Any P rows → Any P (rows ++ r ∷ [])

@@ -64,7 +64,7 @@ multiple-of k (b ∷ by) name h =
     let rest = multiple-of k by name h.1 in
     (first.0 +ℤ rest.0, ap₂ ◌+ℤ◌ first.1 rest.1 ∙ sym (mul-add_left (pos k) first.0 rest.0))
 
-one-left : (k g : ℕ) → 0 < g → (k * g) ∣ g → k ≡ 1
+pub one-left : (k g : ℕ) → 0 < g → (k * g) ∣ g → k ≡ 1
 one-left zero g above h = absurd (let e = eq-zero_of_zero-dvd (subst (λ (n : ℕ). n ∣ g) (let z : 0 * g ≡ 0 = omega arith in z) h) in omega (arith, above, e))
 one-left (suc zero) g above h = refl
 one-left (suc (suc k)) g above h = absurd (let most = le_of_dvd above h in omega (arith, above, most))

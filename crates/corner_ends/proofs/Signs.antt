@@ -1,15 +1,14 @@
 -- The signs of columns, by the reduced costs of all levels.
-use Rattle.std.proofs.Common.{◌≡◌, ◌∙◌, ℕ, suc, ◌*◌, ◌<◌, List, ℤ, pos, negsuc, ◌+ℤ◌, ◌-ℤ◌, ◌*ℤ◌, ◌≤ℤ◌, ◌<ℤ◌, sym, ap, subst, arith}
+use Rattle.std.proofs.Common.{◌≡◌, ◌∙◌, ℕ, ◌<◌, List, ℤ, pos, ◌*ℤ◌, ◌≤ℤ◌, ◌<ℤ◌, sym, ap, subst, arith}
 use Rattle.std.specs.List.{AllByRecursion as Each}
 use Rattle.std.proofs.lemmas.List.Elements.{recursion_from_All}
 use borrow.Author.Differences.{ints}
-use Rattle.frac_core.proofs.Integers.{mul-sub_left, mul-add_left, mul_left_comm_ℤ, mul-zero_ℤ, mul_positive, mul_not_negative, zero_from_mul}
+use Rattle.frac_core.proofs.Integers.{zero_from_mul}
 use Rattle.problem_core.specs.declared.parts.Mark.{Mark}
 use Rattle.problem_core.specs.declared.parts.Side.{Side}
-use Rattle.problem_core.specs.declared.parts.Side.TheVariants.{Under, Over}
-use Rattle.problem_core.specs.Layout.{Line, Problem, lines}
+use Rattle.problem_core.specs.Layout.{Problem, lines}
 use Rattle.problem_core.specs.Kept.{IsWhole}
-use Rattle.problem_core.specs.Certificates.{IsLexNonnegative, Multipliers, over_weight, under_weight, weight_at}
+use Rattle.problem_core.specs.Certificates.{IsLexNonnegative, Multipliers}
 use Rattle.problem_core.specs.Corners.{AreMultipliersAt, HasNegativeColumn, IsLexNegative, NoNegativeColumn, column, place, place_of}
 use Rattle.problem_core.specs.Rays.{HasRays}
 use Rattle.problem_core.proofs.Wholes.{whole-IsProblem}
@@ -19,28 +18,10 @@ use Rattle.corner_laws.proofs.ColumnsStay.{columns-of, sums-AreMultipliersAt, to
 use Rattle.corner_laws.proofs.ColumnSigns.{pick}
 use Rattle.corner_laws.proofs.DualChoice.{has-sum}
 use Rattle.corner_laws.proofs.Unique.{multipliers_same}
+use Rattle.corner_lines.proofs.FrontSigns.{columns-multiple}
+use Rattle.corner_lines.proofs.ColumnsBelow.{none_from, low_from}
 
 -- ---- by two lists of multipliers
-
-multiple-under : (k s t w : ℕ) (y z : ℤ) → pos s *ℤ z ≡ pos t *ℤ y → pos s *ℤ (pos (t * w) -ℤ pos k *ℤ z) ≡ pos t *ℤ (pos (s * w) -ℤ pos k *ℤ y)
-multiple-under k s t w y z e =
-    let a : pos s *ℤ (pos (t * w) -ℤ pos k *ℤ z) ≡ pos s *ℤ pos (t * w) -ℤ pos s *ℤ (pos k *ℤ z) = mul-sub_left (pos s) (pos (t * w)) (pos k *ℤ z) in
-    let b : pos t *ℤ (pos (s * w) -ℤ pos k *ℤ y) ≡ pos t *ℤ pos (s * w) -ℤ pos t *ℤ (pos k *ℤ y) = mul-sub_left (pos t) (pos (s * w)) (pos k *ℤ y) in
-    let c : pos s *ℤ (pos k *ℤ z) ≡ pos t *ℤ (pos k *ℤ y) = mul_left_comm_ℤ (pos s) (pos k) z ∙ ap (λ (x : ℤ). pos k *ℤ x) e ∙ mul_left_comm_ℤ (pos k) (pos t) y in
-    let d : pos s *ℤ pos (t * w) ≡ pos t *ℤ pos (s * w) = ap pos (omega arith) in
-    omega (arith, ints, a, b, c, d)
-
-multiple-over : (k s t w : ℕ) (y z : ℤ) → pos s *ℤ z ≡ pos t *ℤ y → pos s *ℤ (pos (t * w) +ℤ pos k *ℤ z) ≡ pos t *ℤ (pos (s * w) +ℤ pos k *ℤ y)
-multiple-over k s t w y z e =
-    let a : pos s *ℤ (pos (t * w) +ℤ pos k *ℤ z) ≡ pos s *ℤ pos (t * w) +ℤ pos s *ℤ (pos k *ℤ z) = mul-add_left (pos s) (pos (t * w)) (pos k *ℤ z) in
-    let b : pos t *ℤ (pos (s * w) +ℤ pos k *ℤ y) ≡ pos t *ℤ pos (s * w) +ℤ pos t *ℤ (pos k *ℤ y) = mul-add_left (pos t) (pos (s * w)) (pos k *ℤ y) in
-    let c : pos s *ℤ (pos k *ℤ z) ≡ pos t *ℤ (pos k *ℤ y) = mul_left_comm_ℤ (pos s) (pos k) z ∙ ap (λ (x : ℤ). pos k *ℤ x) e ∙ mul_left_comm_ℤ (pos k) (pos t) y in
-    let d : pos s *ℤ pos (t * w) ≡ pos t *ℤ pos (s * w) = ap pos (omega arith) in
-    omega (arith, ints, a, b, c, d)
-
-columns-multiple : (m n : Multipliers) (side : Side) (l : Line) (level : ℕ) → pos (m.scale level) *ℤ n.times level l.name ≡ pos (n.scale level) *ℤ m.times level l.name → pos (m.scale level) *ℤ column n side l level ≡ pos (n.scale level) *ℤ column m side l level
-columns-multiple m n Under l level e = multiple-under l.scale (m.scale level) (n.scale level) (under_weight l.rel (weight_at l level)) (m.times level l.name) (n.times level l.name) e
-columns-multiple m n Over l level e = multiple-over l.scale (m.scale level) (n.scale level) (over_weight l.rel (weight_at l level)) (m.times level l.name) (n.times level l.name) e
 
 -- the columns by two lists of multipliers are proportional
 pub columns_alike : (p : Problem) (at : List Mark) (m n : Multipliers) (side : Side) (level : ℕ) → IsWhole p → HasRays p at → AreMultipliersAt p at m → AreMultipliersAt p at n
@@ -48,21 +29,6 @@ pub columns_alike : (p : Problem) (at : List Mark) (m n : Multipliers) (side : S
 columns_alike p at m n side level whole rays a b =
     each-impl (λ l. pos (m.scale level) *ℤ n.times level l.name ≡ pos (n.scale level) *ℤ m.times level l.name) _ (lines p) (λ l e. columns-multiple m n side l level e)
     (recursion_from_All _ (lines p) (multipliers_same p at m n level whole rays a b))
-
--- ---- signs of multiples
-
-pub none_from : (s t : ℕ) (a b : ℤ) → 0 < s → pos s *ℤ b ≡ pos t *ℤ a → a ≡ pos 0 → b ≡ pos 0
-none_from s t a b above e h = zero_from_mul s b above (e ∙ ap (λ (z : ℤ). pos t *ℤ z) h ∙ mul-zero_ℤ (pos t))
-
-pub low_from : (s t : ℕ) (a b : ℤ) → 0 < t → pos s *ℤ b ≡ pos t *ℤ a → a <ℤ pos 0 → b <ℤ pos 0
-low_from s t a (negsuc b) above e h = omega (arith, ints)
-low_from s t (pos a) (pos b) above e h = absurd (omega (arith, ints, h))
-low_from s t (negsuc a) (pos b) above e h =
-    let up : pos 0 <ℤ (pos t *ℤ pos (suc a)) = mul_positive t (pos (suc a)) above (omega (arith, ints)) in
-    let turned : pos t *ℤ (pos 0 -ℤ pos (suc a)) ≡ pos t *ℤ pos 0 -ℤ pos t *ℤ pos (suc a) = mul-sub_left (pos t) (pos 0) (pos (suc a)) in
-    let none = mul-zero_ℤ (pos t) in
-    let not : pos 0 ≤ℤ (pos s *ℤ pos b) = mul_not_negative s (pos b) (omega (arith, ints)) in
-    absurd (omega (arith, ints, up, turned, none, not, e))
 
 -- ---- the line of a mark
 

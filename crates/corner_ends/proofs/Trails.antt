@@ -10,7 +10,7 @@ use Rattle.problem_core.specs.Corners.{IsIn, SameMarks, Swap, exchanged, place}
 use Rattle.problem_core.specs.Paths.{ArePathSwaps, IsEndOf, IsPath, IsSound, last_marks}
 use Rattle.corner_laws.specs.Runs.{AreDualSwaps, AreRunSwaps}
 use Rattle.corner_laws.proofs.DualRuns.{dual_run_is_path}
-use Rattle.corner_laws.proofs.RunPaths.{contains_in, run_is_path, same_stands}
+use Rattle.corner_laws.proofs.RunPaths.{contains_in, run_is_path, same_stands, same_multipliers}
 use Rattle.corner_laws.proofs.WrittenValues.{contains_each}
 use Rattle.corner.specs.Views.{IsKeptCorner}
 use Rattle.corner.specs.Changes.{IsUnfitStop}
@@ -20,7 +20,7 @@ use Rattle.cert_core.specs.Paths.{Path}
 use Rattle.corner_ends.specs.Begins.{AreExchanges, HasExchanged}
 use Rattle.corner_ends.specs.Runs.{FromHere}
 use Rattle.corner_ends.specs.Trails.{AreSwapsOf, HasRun}
-use Rattle.corner_ends.proofs.MarkOrders.{last_same, same_back, same_multipliers, same_self, same_through, unfit_same}
+use Rattle.corner_ends.proofs.MarkOrders.{last_same, same_back, same_self, same_through, unfit_same}
 use Rattle.corner_ends.proofs.RunEnds.{spent_path}
 
 -- ---- a run of no exchange
@@ -121,9 +121,3 @@ run_more dual p first at new swaps s run swapped leaves same = record {
 pub length_more : {X : Type 0} (xs : List X) (x : X) → length (xs ++ x ∷ []) ≡ length xs + 1
 length_more [] x = refl
 length_more (y ∷ xs) x = let h = length_more xs x in omega (arith, h)
-
-pub path_made : (path : Path) (kind dual : Bool) (corner first : List Mark) (swaps all : List Swap) → path ≡ record { dual = kind; corner = corner; swaps = swaps } → kind ≡ dual → corner ≡ first → swaps ≡ all → path ≡ record { dual = dual; corner = first; swaps = all }
-path_made path kind dual corner first swaps all e d f g =
-    subst (λ (k : Bool). path ≡ record { dual = k; corner = first; swaps = all }) d
-    (subst (λ (xs : List Swap). path ≡ record { dual = kind; corner = first; swaps = xs }) g
-    (subst (λ (ms : List Mark). path ≡ record { dual = kind; corner = ms; swaps = swaps }) f e))

@@ -15,7 +15,7 @@ use Rattle.problem_core.specs.Begins.{IsJoined, BeginsWith, ComesFrom, is_one_of
 use Rattle.corner_laws.specs.Examples.{single, at_least, under_row, over_row}
 use Rattle.corner_laws.proofs.PathExamples.{no, over-numbers, under_point, under-stands, over_point, over-stands, below-five}
 
-one-same : (m : Mark) → SameMarks (m ∷ []) (m ∷ [])
+pub one-same : (m : Mark) → SameMarks (m ∷ []) (m ∷ [])
 one-same m = (All-from_recursion (λ k. IsIn (place k) (m ∷ [])) (m ∷ []) ((0, omega arith, refl), tt), All-from_recursion (λ k. IsIn (place k) (m ∷ [])) (m ∷ []) ((0, omega arith, refl), tt))
 
 -- the row joins where it is 5 below its bound, so with its under mark

@@ -1,6 +1,6 @@
 -- Where a path begins: the corner that was there fixes the attributes, so the new rows' marks.
 use Rattle.std.proofs.Common.{◌≡◌, ◌≢◌, ◌∙◌, ℕ, zero, suc, ◌+◌, ◌*◌, ◌<◌, ◌≤◌, List, [], ◌∷◌, ◌++◌, map, ℤ, pos, negsuc, ◌+ℤ◌, ◌-ℤ◌, ◌*ℤ◌, neg_ℤ, ◌<ℤ◌, ◌≤ℤ◌, refl, sym, ap, ap₂, subst, arith, inl, inr, Contains}
-use Rattle.std.specs.List.{AllByRecursion as Each, AllPairs, AllZip}
+use Rattle.std.specs.List.{AllByRecursion as Each, AllZip}
 use Rattle.std.proofs.lemmas.List.Elements.{All-from_recursion, recursion_from_All}
 use lib.IntN.{*ℤ_comm}
 use borrow.Author.Differences.{ints}
@@ -20,63 +20,53 @@ use Rattle.problem_core.proofs.Wholes.{whole-IsProblem}
 use Rattle.problem_core.specs.Begins.{BeginsWith, IsJoined}
 use Rattle.problem_core.specs.Unfit.{over_mark, under_mark}
 use Rattle.corner_laws.proofs.ColumnsStay.{each_marks}
-use Rattle.corner_laws.proofs.Counting.{IsSmall, head_pairs, one_mark, tail_pairs, rows_small, stays_small}
+use Rattle.corner_laws.proofs.Counting.{IsSmall, one_mark, rows_small, stays_small}
 use Rattle.corner_laws.proofs.Exchanged.{neg-times}
 use Rattle.corner_laws.proofs.Gaps.{deviation, form_value, line_gap}
 use Rattle.corner_laws.proofs.Rays.{cancel-right}
 use Rattle.corner_laws.proofs.WrittenValues.{contains_each, nothing_outside}
 use Rattle.corner_laws.proofs.ZeroColumns.{each-joined, here-in}
+use Rattle.corner_laws.proofs.TermLifts.{each-second, pairs-across}
+use Rattle.corner_laws.proofs.Directions.{each-of}
 
 -- ---- lists of rows
 
-each-rest : {X : Type 0} (P : X → Type 0) (xs ys : List X) → Each P (xs ++ ys) → Each P ys
-each-rest P [] ys h = h
-each-rest P (x ∷ xs) ys h = each-rest P xs ys h.1
-
-each-first : {X : Type 0} (P : X → Type 0) (xs ys : List X) → Each P (xs ++ ys) → Each P xs
+pub each-first : {X : Type 0} (P : X → Type 0) (xs ys : List X) → Each P (xs ++ ys) → Each P xs
 each-first P [] ys h = tt
 each-first P (x ∷ xs) ys h = (h.0, each-first P xs ys h.1)
 
 -- the lines without those of the new rows
-without-new : (P : Line → Type 0) (old new : List Row) (rest : List Line) → Each P (map line_of_row (old ++ new) ++ rest) → Each P (map line_of_row old ++ rest)
-without-new P [] new rest h = each-rest P (map line_of_row new) rest h
+pub without-new : (P : Line → Type 0) (old new : List Row) (rest : List Line) → Each P (map line_of_row (old ++ new) ++ rest) → Each P (map line_of_row old ++ rest)
+without-new P [] new rest h = each-second P (map line_of_row new) rest h
 without-new P (r ∷ old) new rest h = (h.0, without-new P old new rest h.1)
-
-across : {X : Type 0} (R : X → X → Type 0) (xs ys : List X) → AllPairs R (xs ++ ys) → Each (λ x. Each (R x) ys) xs
-across R [] ys h = tt
-across R (x ∷ xs) ys h = (each-rest (R x) xs ys (recursion_from_All (R x) (xs ++ ys) (head_pairs R x (xs ++ ys) h)), across R xs ys (tail_pairs R x (xs ++ ys) h))
 
 held-same : (a b : ℕ) → Held a ≡ Held b → a ≡ b
 held-same a b e = cc
 
 -- the line is none of these rows
-abbrev IsNone : List Row → Line → Type 0
+abbrev pub IsNone : List Row → Line → Type 0
 IsNone rows l = Each (λ r. l.name ≢ Held r.id) rows
 
-old-rows : (old new : List Row) → Each (λ r. Each (λ s. r.id < s.id) new) old → Each (IsNone new) (map line_of_row old)
+pub old-rows : (old new : List Row) → Each (λ r. Each (λ s. r.id < s.id) new) old → Each (IsNone new) (map line_of_row old)
 old-rows [] new h = tt
 old-rows (r ∷ old) new h = (each-impl (λ s. r.id < s.id) (λ s. Held r.id ≢ Held s.id) new (λ s lt e. absurd (omega (arith, lt, held-same r.id s.id e))) h.0, old-rows old new h.1)
 
 stay-held : (a b : ℕ) → StayOf a ≢ Held b
 stay-held a b e = cc
 
-all-of : {X : Type 0} (P : X → Type 0) (xs : List X) → ((x : X) → P x) → Each P xs
-all-of P [] h = tt
-all-of P (x ∷ xs) h = (h x, all-of P xs h)
-
-old-stays : (level : ℕ) (stays : List Stay) (new : List Row) → Each (IsNone new) (stay_lines level stays)
+pub old-stays : (level : ℕ) (stays : List Stay) (new : List Row) → Each (IsNone new) (stay_lines level stays)
 old-stays level [] new = tt
-old-stays level (s ∷ stays) new = (all-of (λ r. StayOf s.attr ≢ Held r.id) new (λ r. stay-held s.attr r.id), old-stays (level + 1) stays new)
+old-stays level (s ∷ stays) new = (each-of (λ r. StayOf s.attr ≢ Held r.id) new (λ r. stay-held s.attr r.id), old-stays (level + 1) stays new)
 
 -- ---- marks
 
-apart-places : (n id s t : ℕ) → s ≤ 1 → t ≤ 1 → n ≢ id → 4 * id + s ≢ 4 * n + t
+pub apart-places : (n id s t : ℕ) → s ≤ 1 → t ≤ 1 → n ≢ id → 4 * id + s ≢ 4 * n + t
 apart-places n id s t a b ne e = ne (omega (arith, a, b, e))
 
-stay-places : (n id s t : ℕ) → s ≤ 1 → t ≤ 1 → 4 * id + s ≢ 4 * n + 2 + t
+pub stay-places : (n id s t : ℕ) → s ≤ 1 → t ≤ 1 → 4 * id + s ≢ 4 * n + 2 + t
 stay-places n id s t a b e = absurd (omega (arith, a, b, e))
 
-place-apart : (name : RowName) (id : ℕ) (s t : Side) → name ≢ Held id → place_of (Held id) s ≢ place_of name t
+pub place-apart : (name : RowName) (id : ℕ) (s t : Side) → name ≢ Held id → place_of (Held id) s ≢ place_of name t
 place-apart (Held n) id Under Under ne = apart-places n id 0 0 (omega arith) (omega arith) (λ e. ne (ap Held e))
 place-apart (Held n) id Under Over ne = apart-places n id 0 1 (omega arith) (omega arith) (λ e. ne (ap Held e))
 place-apart (Held n) id Over Under ne = apart-places n id 1 0 (omega arith) (omega arith) (λ e. ne (ap Held e))
@@ -86,18 +76,18 @@ place-apart (StayOf n) id Under Over ne = stay-places n id 0 1 (omega arith) (om
 place-apart (StayOf n) id Over Under ne = stay-places n id 1 0 (omega arith) (omega arith)
 place-apart (StayOf n) id Over Over ne = stay-places n id 1 1 (omega arith) (omega arith)
 
-news-apart : (x : Point) (name : RowName) (side : Side) (joined : List Row) (news : List Mark) → AllZip (IsJoined x) joined news → Each (λ r. name ≢ Held r.id) joined → Each (λ m. place m ≢ place_of name side) news
+pub news-apart : (x : Point) (name : RowName) (side : Side) (joined : List Row) (news : List Mark) → AllZip (IsJoined x) joined news → Each (λ r. name ≢ Held r.id) joined → Each (λ m. place m ≢ place_of name side) news
 news-apart x name side [] [] z h = tt
 news-apart x name side [] (m ∷ news) z h = absurd z
 news-apart x name side (r ∷ joined) [] z h = absurd z
 news-apart x name side (r ∷ joined) (m ∷ news) (inl (e, up), z) h = ((λ q. place-apart name r.id Over side h.0 (sym (ap place e) ∙ q)), news-apart x name side joined news z h.1)
 news-apart x name side (r ∷ joined) (m ∷ news) (inr (e, up), z) h = ((λ q. place-apart name r.id Under side h.0 (sym (ap place e) ∙ q)), news-apart x name side joined news z h.1)
 
-overs-apart : (name : RowName) (side : Side) (rest : List Row) → Each (λ r. name ≢ Held r.id) rest → Each (λ m. place m ≢ place_of name side) (map (λ r. over_mark r.id) rest)
+pub overs-apart : (name : RowName) (side : Side) (rest : List Row) → Each (λ r. name ≢ Held r.id) rest → Each (λ m. place m ≢ place_of name side) (map (λ r. over_mark r.id) rest)
 overs-apart name side [] h = tt
 overs-apart name side (r ∷ rest) h = (place-apart name r.id Over side h.0, overs-apart name side rest h.1)
 
-in-first : (v : ℕ) (xs ys : List Mark) → Each (λ m. place m ≢ v) ys → IsIn v (xs ++ ys) → IsIn v xs
+pub in-first : (v : ℕ) (xs ys : List Mark) → Each (λ m. place m ≢ v) ys → IsIn v (xs ++ ys) → IsIn v xs
 in-first v [] ys h i = absurd (contains_each (λ c. c ≢ v) ys v h i refl)
 in-first v (x ∷ xs) ys h (zero, within, is) = (0, omega arith, is)
 in-first v (x ∷ xs) ys h (suc k, within, is) = let i = in-first v xs ys h (k, omega (arith, within), is) in (suc i.0, omega (arith, i.1), i.2)
@@ -105,19 +95,19 @@ in-first v (x ∷ xs) ys h (suc k, within, is) = let i = in-first v xs ys h (k, 
 -- ---- the corner that was there
 
 -- what stands at the marks after stands at the kept ones, where only the old rows are looked at
-stands-before : (old joined rest : List Row) (stays : List Stay) (kept a : List Mark) → IsWhole (record { rows = old ++ (joined ++ rest); stays = stays }) → (h : BeginsWith (record { rows = old ++ (joined ++ rest); stays = stays }) kept joined rest a) → StandsAt (record { rows = old; stays = stays }) kept h.point
+pub stands-before : (old joined rest : List Row) (stays : List Stay) (kept a : List Mark) → IsWhole (record { rows = old ++ (joined ++ rest); stays = stays }) → (h : BeginsWith (record { rows = old ++ (joined ++ rest); stays = stays }) kept joined rest a) → StandsAt (record { rows = old; stays = stays }) kept h.point
 stands-before old joined rest stays kept a whole h =
     let new : List Row = joined ++ rest in
     let p : Problem = record { rows = old ++ new; stays = stays } in
     let q : Problem = record { rows = old; stays = stays } in
-    let none : Each (IsNone new) (lines q) = each-joined (IsNone new) (map line_of_row old) (stay_lines 1001 stays) (old-rows old new (across (λ r s. r.id < s.id) old new whole.rising)) (old-stays 1001 stays new) in
+    let none : Each (IsNone new) (lines q) = each-joined (IsNone new) (map line_of_row old) (stay_lines 1001 stays) (old-rows old new (pairs-across (λ r s. r.id < s.id) old new whole.rising)) (old-stays 1001 stays new) in
     let here = without-new (λ l. Contains (map place (marks_of (lines p))) (place_of l.name Under) × Contains (map place (marks_of (lines p))) (place_of l.name Over)) old new (stay_lines 1001 stays) (here-in (lines p)) in
     let out : (l : Line) (side : Side) → IsNone new l → Contains (map place (marks_of (lines p))) (place_of l.name side) → (IsIn (place_of l.name side) kept → ⊥) → h.point.num (place_of l.name side) ≡ pos 0 =
     λ l side apart mark gone. nothing_outside p a h.point (place_of l.name side) h.stands mark
     (λ i. gone (in-first (place_of l.name side) kept (h.news ++ map (λ r. over_mark r.id) rest)
     (each-joined (λ m. place m ≢ place_of l.name side) h.news (map (λ r. over_mark r.id) rest)
     (news-apart h.point l.name side joined h.news h.each (each-first (λ r. l.name ≢ Held r.id) joined rest apart))
-    (overs-apart l.name side rest (each-rest (λ r. l.name ≢ Held r.id) joined rest apart)))
+    (overs-apart l.name side rest (each-second (λ r. l.name ≢ Held r.id) joined rest apart)))
     (contains_each (λ c. IsIn c (kept ++ (h.news ++ map (λ r. over_mark r.id) rest))) a (place_of l.name side) (recursion_from_All (λ m. IsIn (place m) (kept ++ (h.news ++ map (λ r. over_mark r.id) rest))) a h.marks.0) i))) in (
       All-from_recursion (λ l. value_at h.point.num (equation l) ≡ pos 0) (lines q) (without-new (λ l. value_at h.point.num (equation l) ≡ pos 0) old new (stay_lines 1001 stays) (recursion_from_All _ (lines p) h.stands.0)),
       All-from_recursion (λ m. (IsIn (place m) kept → ⊥) → h.point.num (place m) ≡ pos 0) (marks_of (lines q))
@@ -129,7 +119,7 @@ stands-before old joined rest stays kept a whole h =
 -- ---- attributes
 
 -- z*a = x*c and z*b = y*c, where a, b, c are the denominators of x, y, z
-agree-both : (x y z a b c : ℤ) → pos 0 <ℤ c → z *ℤ a ≡ x *ℤ c → z *ℤ b ≡ y *ℤ c → x *ℤ b ≡ y *ℤ a
+pub agree-both : (x y z a b c : ℤ) → pos 0 <ℤ c → z *ℤ a ≡ x *ℤ c → z *ℤ b ≡ y *ℤ c → x *ℤ b ≡ y *ℤ a
 agree-both x y z a b c above e f =
     let one : (x *ℤ b) *ℤ c ≡ (z *ℤ a) *ℤ b = mul_assoc_ℤ x b c ∙ ap (λ (t : ℤ). x *ℤ t) (*ℤ_comm b c) ∙ sym (mul_assoc_ℤ x c b) ∙ ap (λ (t : ℤ). t *ℤ b) (sym e) in
     let two : (y *ℤ a) *ℤ c ≡ (z *ℤ b) *ℤ a = mul_assoc_ℤ y a c ∙ ap (λ (t : ℤ). y *ℤ t) (*ℤ_comm a c) ∙ sym (mul_assoc_ℤ y c a) ∙ ap (λ (t : ℤ). t *ℤ a) (sym f) in
@@ -144,7 +134,7 @@ agree-attr q kept x y corner sx sy attr (k, s, within, is, e) =
     subst (λ (n : ℕ). x.num (attr_column n) *ℤ y.num one_column ≡ y.num (attr_column n) *ℤ x.num one_column) e
     (agree-both (x.num (attr_column s.attr)) (y.num (attr_column s.attr)) (corner.point.num (attr_column s.attr)) (x.num one_column) (y.num one_column) (corner.point.num one_column) corner.point.positive ax ay)
 
-agree-form : (n o : ℕ → ℤ) (a b : ℤ) (form : List Term) → Each (λ t. n t.attr *ℤ b ≡ o t.attr *ℤ a) form → value_at n form *ℤ b ≡ value_at o form *ℤ a
+pub agree-form : (n o : ℕ → ℤ) (a b : ℤ) (form : List Term) → Each (λ t. n t.attr *ℤ b ≡ o t.attr *ℤ a) form → value_at n form *ℤ b ≡ value_at o form *ℤ a
 agree-form n o a b [] h = zero-mul_ℤ b ∙ sym (zero-mul_ℤ a)
 agree-form n o a b (t ∷ form) h =
     add-mul_right (t.by *ℤ n t.attr) (value_at n form) b
@@ -153,7 +143,7 @@ agree-form n o a b (t ∷ form) h =
 
 -- ---- gaps
 
-gap-same : (d : ℕ) (k u v f g a b : ℤ) → 0 < d → pos d *ℤ (u +ℤ f) ≡ k *ℤ a → pos d *ℤ (v +ℤ g) ≡ k *ℤ b → f *ℤ b ≡ g *ℤ a → u *ℤ b ≡ v *ℤ a
+pub gap-same : (d : ℕ) (k u v f g a b : ℤ) → 0 < d → pos d *ℤ (u +ℤ f) ≡ k *ℤ a → pos d *ℤ (v +ℤ g) ≡ k *ℤ b → f *ℤ b ≡ g *ℤ a → u *ℤ b ≡ v *ℤ a
 gap-same d k u v f g a b above e h same =
     let one : pos d *ℤ ((u +ℤ f) *ℤ b) ≡ (k *ℤ a) *ℤ b = sym (mul_assoc_ℤ (pos d) (u +ℤ f) b) ∙ ap (λ (z : ℤ). z *ℤ b) e in
     let two : pos d *ℤ ((v +ℤ g) *ℤ a) ≡ (k *ℤ b) *ℤ a = sym (mul_assoc_ℤ (pos d) (v +ℤ g) a) ∙ ap (λ (z : ℤ). z *ℤ a) h in
@@ -213,7 +203,7 @@ new-rows old joined rest stays kept a b whole corner h k =
           (agree-form (λ v. h.point.num (attr_column v)) (λ v. k.point.num (attr_column v)) (h.point.num one_column) (k.point.num one_column) r.terms
           (each-impl (λ t. HasStay stays t.attr) _ r.terms (λ t s. same t.attr s) (recursion_from_All _ r.terms f.1)));
     })
-    (each-first _ joined rest (each-rest _ old (joined ++ rest) rows))
+    (each-first _ joined rest (each-second _ old (joined ++ rest) rows))
 
 -- ---- the new rows' marks
 
@@ -249,8 +239,8 @@ both-begin old joined rest stays kept a b whole corner ka kb h k =
     let ends : List Mark = map (λ r. over_mark r.id) rest in
     let same : h.news ≡ k.news =
     same-news p a b h.point k.point joined h.news k.news ka kb h.stands k.stands (new-rows old joined rest stays kept a b whole corner h k) (new-rows old joined rest stays kept b a whole corner k h)
-    (each-first _ h.news ends (each-rest _ kept (h.news ++ ends) (recursion_from_All (λ m. IsIn (place m) a) (kept ++ (h.news ++ ends)) h.marks.1)))
-    (each-first _ k.news ends (each-rest _ kept (k.news ++ ends) (recursion_from_All (λ m. IsIn (place m) b) (kept ++ (k.news ++ ends)) k.marks.1)))
+    (each-first _ h.news ends (each-second _ kept (h.news ++ ends) (recursion_from_All (λ m. IsIn (place m) a) (kept ++ (h.news ++ ends)) h.marks.1)))
+    (each-first _ k.news ends (each-second _ kept (k.news ++ ends) (recursion_from_All (λ m. IsIn (place m) b) (kept ++ (k.news ++ ends)) k.marks.1)))
     h.each k.each in
     through a b (kept ++ (h.news ++ ends)) h.marks (subst (λ (n : List Mark). SameMarks b (kept ++ (n ++ ends))) (sym same) k.marks)
 

@@ -30,6 +30,8 @@ use Rattle.corner_laws.proofs.Gaps.{direction_cost, moved_columns, shares}
 use Rattle.corner_laws.proofs.LinePlaces.{AllApart, AreApart, IsSmallLine, apart-sym, lines_apart, lines_small}
 use Rattle.corner_laws.proofs.WrittenValues.{contains_each}
 use Rattle.corner_laws.proofs.ZeroColumns.{both-up, here-in, not-in, one-column, outside-still, positive-share, scales-above, sum-up}
+use Rattle.corner_laws.proofs.Equal.{zero-column}
+use Rattle.corner_laws.proofs.PathExamples.{zero-fits}
 
 -- ---- a sum in which the line of one mark alone counts
 
@@ -64,7 +66,7 @@ Zeros p at m l = (IsMarkAt p (place_of l.name Under) × IsMarkAt p (place_of l.n
 zeros : (p : Problem) (at : List Mark) (m : Multipliers) → AreMultipliersAt p at m → Each (Zeros p at m) (lines p)
 zeros p at m is = each-both _ _ (lines p) (here-in (lines p)) (each-both _ _ (lines p) (recursion_from_All _ (lines p) (is.inside_zero Under)) (recursion_from_All _ (lines p) (is.inside_zero Over)))
 
-nothing : (q : ℕ) (a b : ℤ) → a ≡ pos 0 → b ≡ pos 0 → pos q *ℤ (a +ℤ b) ≡ pos 0
+pub nothing : (q : ℕ) (a b : ℤ) → a ≡ pos 0 → b ≡ pos 0 → pos q *ℤ (a +ℤ b) ≡ pos 0
 nothing q a b e f = ap (λ (z : ℤ). pos q *ℤ z) (ap₂ ◌+ℤ◌ e f) ∙ mul-zero_ℤ (pos q)
 
 elsewhere : (p : Problem) (at : List Mark) (m : Multipliers) (c : ℕ) (ray : ℕ → ℤ) (level : ℕ) (l : Line) → IsRay p at c ray → Zeros p at m l → IsElsewhere c (λ l. pos (scales p / l.scale) *ℤ moved_columns m ray level l) l
@@ -135,9 +137,6 @@ negative_costs p at mark ray whole (m, is, (k, x, within, found, (e, (level, bef
 
 -- ---- a mark falls
 
-zero-up : (z : ℤ) → z ≡ pos 0 → pos 0 ≤ℤ z
-zero-up z e = omega (arith, ints, e)
-
 weak : (z : ℤ) → pos 0 <ℤ z → pos 0 ≤ℤ z
 weak z h = omega (arith, ints, h)
 
@@ -161,7 +160,7 @@ some_mark_falls p at enter ray whole column r up =
       | inl i ↦ contains_each (λ u. pos 0 ≤ℤ ray u) at v (recursion_from_All (λ m. pos 0 ≤ℤ ray (place m)) at up) (IsIn-from_is_place v at i)
       | inr o ↦ elim (cases_eq v (place enter)) [
         | inl e ↦ weak (ray v) (subst (λ (u : ℕ). pos 0 <ℤ ray u) (sym e) r.here)
-        | inr n ↦ zero-up (ray v) (outside-still p at (place enter) ray v r mark (not-in at v o) n)
+        | inr n ↦ zero-fits (ray v) (outside-still p at (place enter) ray v r mark (not-in at v o) n)
       ]
     ]) in
     let low = falls.2 in
@@ -182,9 +181,6 @@ same-side a b Under Under e = refl
 same-side a b Over Over e = refl
 same-side a b Under Over e = absurd (sides_apart b a (sym e))
 same-side a b Over Under e = absurd (sides_apart a b e)
-
-scaled-none : (k : ℕ) (r c : ℤ) → pos k *ℤ r ≡ c → r ≡ pos 0 → c ≡ pos 0
-scaled-none k r c e h = sym e ∙ ap (λ (z : ℤ). pos k *ℤ z) h ∙ mul-zero_ℤ (pos k)
 
 scaled-low : (k : ℕ) (r c : ℤ) → 0 < k → pos k *ℤ r ≡ c → r <ℤ pos 0 → c <ℤ pos 0
 scaled-low k r c above e h =
@@ -214,7 +210,7 @@ negative_by_reduced p at reduced m whole levels mark (level, before, low) =
           e,
           (
             level,
-            (λ k less. scaled-none found.2.scale (reduced k (place m)) (column all m.side found.2 k) (column_is k) (before k less)),
+            (λ k less. zero-column found.2.scale (reduced k (place m)) (column all m.side found.2 k) (column_is k) (before k less)),
             scaled-low found.2.scale (reduced level (place m)) (column all m.side found.2 level) above (column_is level) low,
           ),
         ),

@@ -25,6 +25,7 @@ use Rattle.corner_laws.proofs.Rises.{sign-from}
 use Rattle.corner_laws.proofs.Unique.{multipliers_same}
 use Rattle.corner_laws.proofs.WrittenValues.{contains_each}
 use Rattle.corner_laws.proofs.ZeroColumns.{both-up, first-none, rest-none}
+use Rattle.corner_laws.proofs.Equal.{zero-column}
 
 -- ---- lexicographically nonnegative lists of numbers
 
@@ -72,9 +73,6 @@ same-column scale times Over l level = refl
 
 pub columns-of : (p : Problem) (at : List Mark) (scale : ℕ → ℕ) (times : ℕ → RowName → ℤ) (reduced : ℕ → ℕ → ℤ) → AreLevelSums p at scale times reduced → (side : Side) → All (λ l. (level : ℕ) → pos l.scale *ℤ reduced level (place_of l.name side) ≡ column (together scale times) side l level) (lines p)
 columns-of p at scale times reduced sums side = λ i d within level. (sums level).columns side i d within ∙ same-column scale times side _ level
-
-zero-column : (k : ℕ) (r c : ℤ) → pos k *ℤ r ≡ c → r ≡ pos 0 → c ≡ pos 0
-zero-column k r c e h = sym e ∙ ap (λ (z : ℤ). pos k *ℤ z) h ∙ mul-zero_ℤ (pos k)
 
 zero-inside : (at : List Mark) (scale : ℕ → ℕ) (times : ℕ → RowName → ℤ) (reduced : ℕ → ℕ → ℤ) (side : Side) (l : Line) → ((level : ℕ) → pos l.scale *ℤ reduced level (place_of l.name side) ≡ column (together scale times) side l level) → ((level : ℕ) → IsIn (place_of l.name side) at → reduced level (place_of l.name side) ≡ pos 0) → IsIn (place_of l.name side) at → (level : ℕ) → column (together scale times) side l level ≡ pos 0
 zero-inside at scale times reduced side l e h inside level = zero-column l.scale (reduced level (place_of l.name side)) (column (together scale times) side l level) (e level) (h level inside)

@@ -42,13 +42,13 @@ stops_anywhere dual p old budget stop whole fit large h = stops_are_conflicts du
 
 -- ---- a run that adds and changes nothing
 
-same-self : (f : Fraction) → same_constant f f ≡ true
+pub same-self : (f : Fraction) → same_constant f f ≡ true
 same-self f = ap (λ (b : Bool). cond b (nat_eq (nat_abs (f.num -ℤ f.num)) 0) false) (eq-eqb f.den f.den refl) ∙ ap (λ (z : ℤ). nat_eq (nat_abs z) 0) (sub-self f.num)
 
 each-kept : (P : Row → Bool) (rows : List Row) (r : Row) → Each (λ s. s.id ≢ r.id) rows → Each (λ s. s.id ≢ r.id) (filter P rows)
 each-kept P rows r h = each-filter (λ s. s.id ≢ r.id) P rows h
 
-no-changes : (rows : List Row) → changes rows rows ≡ 0
+pub no-changes : (rows : List Row) → changes rows rows ≡ 0
 no-changes [] = refl
 no-changes (r ∷ rows) = ap (λ (b : Bool). cond b (changes rows rows) (1 + changes rows rows)) (same-self r.constant) ∙ no-changes rows
 

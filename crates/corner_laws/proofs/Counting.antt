@@ -13,7 +13,7 @@ use Rattle.problem_core.specs.declared.parts.Stay.{Stay}
 use Rattle.problem_core.specs.Layout.{Problem, Row, Line, lines, line_of_row, stay_lines, coefficient, value_at}
 use Rattle.problem_core.specs.Kept.{IsWhole, IsRow, IsStay}
 use Rattle.problem_core.specs.Corners.{Point, StandsAt, Agree, IsIn, IsCorner, SameMarks, equation, marks_of, place, place_of, attr_column, one_column}
-use Rattle.problem_core.proofs.CornerFacts.{is_place}
+use Rattle.problem_core.proofs.CornerFacts.{is_place, at_place}
 use Rattle.problem_core.proofs.Forms.{value-plus, value-single, each-impl, each-both}
 use Rattle.problem_core.proofs.Tableaus.{unit_at}
 use Rattle.frac_core.proofs.Integers.{mul-zero_ℤ, add-zero_ℤ, add-mul_right}
@@ -38,15 +38,6 @@ IsIn-from_is_place c (m ∷ ms) h =
       | inr n ↦
           let more : IsIn c ms = IsIn-from_is_place c ms (sym (ap (λ (b : Bool). cond b true (is_place ms c)) (ne_eqb (place m) c n)) ∙ h) in
           (suc more.0, omega (arith, more.1), more.2)
-    ]
-
--- what holds of each mark's place holds of each of them
-at_place : (P : ℕ → Type 0) (ms : List Mark) (c : ℕ) → Each (λ m. P (place m)) ms → is_place ms c ≡ true → P c
-at_place P [] c h e = absurd (true≢false (sym e))
-at_place P (m ∷ ms) c h e =
-    elim (cases_eq (place m) c) [
-      | inl q ↦ subst P q h.0
-      | inr q ↦ at_place P ms c h.1 (sym (ap (λ (b : Bool). cond b true (is_place ms c)) (ne_eqb (place m) c q)) ∙ e)
     ]
 
 -- ---- both marks of a line leave the equations as they are

@@ -21,21 +21,21 @@ use Rattle.problem_core.specs.Unfit.{IsWritingOf}
 use Rattle.corner_laws.proofs.ColumnsStay.{each_marks}
 use Rattle.corner_laws.proofs.Counting.{IsSmall, bump, bump_one, cancels, cond_other, cond_same, rows_small, sides_apart, stays_small, unit_value}
 use Rattle.corner_laws.proofs.Exchanged.{neg-times}
-use Rattle.corner_laws.proofs.Gaps.{value-columns}
 use Rattle.corner_laws.proofs.LinePlaces.{AllApart, IsSmallLine, lines_apart, lines_attrs, lines_small, sum-single}
 use Rattle.corner_laws.proofs.Rays.{ray_form}
 use Rattle.corner_laws.proofs.WrittenValues.{contains_each, not_zero}
 use Rattle.corner_laws.proofs.ZeroColumns.{IsDirection}
+use Rattle.problem_core.proofs.Ends.{value-columns}
 
 -- ---- along a direction
 
-along-parts : (d s : ℕ) (q r f g k o e : ℤ) → 0 < d → e ≡ pos 0 → pos d *ℤ (pos s *ℤ q -ℤ f) ≡ pos s *ℤ (k *ℤ o) → pos d *ℤ (pos s *ℤ (q +ℤ r) -ℤ (f +ℤ g)) ≡ pos s *ℤ (k *ℤ (o +ℤ e)) → pos s *ℤ r ≡ g
+pub along-parts : (d s : ℕ) (q r f g k o e : ℤ) → 0 < d → e ≡ pos 0 → pos d *ℤ (pos s *ℤ q -ℤ f) ≡ pos s *ℤ (k *ℤ o) → pos d *ℤ (pos s *ℤ (q +ℤ r) -ℤ (f +ℤ g)) ≡ pos s *ℤ (k *ℤ (o +ℤ e)) → pos s *ℤ r ≡ g
 along-parts d s q r f g k o e above none a b =
     let same : o +ℤ e ≡ o = omega (arith, ints, none) in
     let all : pos s *ℤ (q +ℤ r) -ℤ (f +ℤ g) ≡ pos s *ℤ q -ℤ f = cancel_mul d (pos s *ℤ (q +ℤ r) -ℤ (f +ℤ g)) (pos s *ℤ q -ℤ f) above (b ∙ ap (λ (z : ℤ). pos s *ℤ (k *ℤ z)) same ∙ sym a) in
     omega (arith, ints, all, mul-add_left (pos s) q r)
 
-moved-one : (x : Point) (n : ℕ → ℤ) → n one_column ≡ pos 0 → x.num one_column ≡ x.num one_column +ℤ n one_column
+pub moved-one : (x : Point) (n : ℕ → ℤ) → n one_column ≡ pos 0 → x.num one_column ≡ x.num one_column +ℤ n one_column
 moved-one x n e = omega (arith, ints, e)
 
 -- scale times what the mark moves is the form's value along the direction
@@ -130,7 +130,7 @@ only-first u s e = let h : negsuc 0 *ℤ s ≡ pos 0 = no-part (negsuc 0) s e in
 pub only-rest : (u s c : ℤ) → u ≡ pos 0 → s ≡ c → u +ℤ negsuc 0 *ℤ s ≡ neg_ℤ c
 only-rest u s c e f = let h : negsuc 0 *ℤ s ≡ neg_ℤ s = omega (arith, ints) in omega (arith, ints, h, e, f)
 
-attr-unit : (v w : ℕ) → unit_at (attr_column v) (attr_column w) ≡ unit_at v w
+pub attr-unit : (v w : ℕ) → unit_at (attr_column v) (attr_column w) ≡ unit_at v w
 attr-unit v w = elim (cases_eq w v) [
   | inl e ↦ cond_same (attr_column w) (attr_column v) (pos 1) (ap attr_column e) ∙ sym (cond_same w v (pos 1) e)
   | inr n ↦ cond_other (attr_column w) (attr_column v) (pos 1) (λ e. n (omega (arith, e))) ∙ sym (cond_other w v (pos 1) n)

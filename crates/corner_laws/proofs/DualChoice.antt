@@ -22,8 +22,8 @@ use Rattle.problem_core.specs.Unfit.{IsWritingOf}
 use Rattle.corner_laws.proofs.ColumnsStay.{columns_stay, lex_same}
 use Rattle.corner_laws.proofs.Directions.{each-of, writing_is_row}
 use Rattle.corner_laws.proofs.Exchanged.{neg-times}
-use Rattle.corner_laws.proofs.LevelSizes.{over-zero, under-zero}
 use Rattle.corner_laws.proofs.LevelUnits.{no_weight}
+use Rattle.corner_laws.proofs.ZeroColumns.{over-none, under-none}
 
 -- ---- the levels
 
@@ -47,10 +47,10 @@ no-reduced-over k r w e f =
 unused-columns : (p : Problem) (level : ℕ) (reduced : ℕ → ℤ) → All (λ l. l.level ≢ level) (lines p) → ((v : ℕ) → reduced v ≡ pos 0) → (side : Side) → All (λ l. pos l.scale *ℤ reduced (place_of l.name side) ≡ column (alone 1 (λ name. pos 0)) side l level) (lines p)
 unused-columns p level reduced unused none Under =
     All-from_recursion (λ l. pos l.scale *ℤ reduced (place_of l.name Under) ≡ column (alone 1 (λ name. pos 0)) Under l level) (lines p)
-    (each-impl (λ l. l.level ≢ level) _ (lines p) (λ l ne. no-reduced l.scale (reduced (place_of l.name Under)) (under_weight l.rel (weight_at l level)) (none (place_of l.name Under)) (ap (under_weight l.rel) (no_weight l level ne) ∙ under-zero l.rel)) (recursion_from_All _ (lines p) unused))
+    (each-impl (λ l. l.level ≢ level) _ (lines p) (λ l ne. no-reduced l.scale (reduced (place_of l.name Under)) (under_weight l.rel (weight_at l level)) (none (place_of l.name Under)) (ap (under_weight l.rel) (no_weight l level ne) ∙ under-none l.rel)) (recursion_from_All _ (lines p) unused))
 unused-columns p level reduced unused none Over =
     All-from_recursion (λ l. pos l.scale *ℤ reduced (place_of l.name Over) ≡ column (alone 1 (λ name. pos 0)) Over l level) (lines p)
-    (each-impl (λ l. l.level ≢ level) _ (lines p) (λ l ne. no-reduced-over l.scale (reduced (place_of l.name Over)) (over_weight l.rel (weight_at l level)) (none (place_of l.name Over)) (ap (over_weight l.rel) (no_weight l level ne) ∙ over-zero l.rel)) (recursion_from_All _ (lines p) unused))
+    (each-impl (λ l. l.level ≢ level) _ (lines p) (λ l ne. no-reduced-over l.scale (reduced (place_of l.name Over)) (over_weight l.rel (weight_at l level)) (none (place_of l.name Over)) (ap (over_weight l.rel) (no_weight l level ne) ∙ over-none l.rel)) (recursion_from_All _ (lines p) unused))
 
 -- a level at which no line stands
 pub unused-IsLevelSum : (p : Problem) (at : List Mark) (level : ℕ) (reduced : ℕ → ℤ) → All (λ l. l.level ≢ level) (lines p) → ((v : ℕ) → reduced v ≡ pos 0) → IsLevelSum p at level 1 (λ name. pos 0) reduced
@@ -82,7 +82,7 @@ turned-ratio f g r x d e is h =
     let b : e *ℤ x ≡ neg_ℤ (g *ℤ x) = ap (λ (z : ℤ). z *ℤ x) h ∙ neg-times g x in
     omega (arith, ints, a, b)
 
-positive-pos : (n : ℕ) → 0 < n → pos 0 <ℤ pos n
+pub positive-pos : (n : ℕ) → 0 < n → pos 0 <ℤ pos n
 positive-pos n h = omega (arith, ints, h)
 
 -- where the mark of the least ratio by writings enters, no column is negative at the next corner

@@ -135,7 +135,7 @@ pub record HasGone (p : Problem) (at : List Mark) (s : Swap) : Type 0 where
   pub exchange : IsExchange p at s
   pub columns : NoNegativeColumn p (exchanged s at)
 
-up-some : (s : ℕ) (a k r : ℤ) → pos 0 <ℤ k → pos 0 <ℤ r → pos s *ℤ a ≡ k *ℤ r → a ≢ pos 0
+pub up-some : (s : ℕ) (a k r : ℤ) → pos 0 <ℤ k → pos 0 <ℤ r → pos s *ℤ a ≡ k *ℤ r → a ≢ pos 0
 up-some s a k r up grow e none =
     let one : pos 0 <ℤ (k *ℤ r) = up-both k r up grow in
     let two : pos s *ℤ a ≡ pos 0 = ap (λ (z : ℤ). pos s *ℤ z) none ∙ mul-zero_ℤ (pos s) in

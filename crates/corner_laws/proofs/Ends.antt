@@ -1,5 +1,5 @@
 -- An end at which the required rows cost nothing is best.
-use Rattle.std.proofs.Common.{◌≡◌, ◌∙◌, ◌⊎◌, ℕ, zero, suc, ◌+◌, ◌-◌, ◌*◌, ◌/◌, ◌<◌, List, [], ◌∷◌, ◌++◌, map, ℤ, pos, negsuc, ◌+ℤ◌, ◌-ℤ◌, ◌*ℤ◌, neg_ℤ, nat_abs, ◌<ℤ◌, ◌≤ℤ◌, refl, sym, ap, subst, arith, inl, inr, All}
+use Rattle.std.proofs.Common.{◌≡◌, ◌∙◌, ◌⊎◌, ℕ, zero, suc, ◌+◌, ◌-◌, ◌*◌, ◌/◌, ◌<◌, List, [], ◌∷◌, ◌++◌, map, ℤ, pos, negsuc, ◌+ℤ◌, ◌-ℤ◌, ◌*ℤ◌, neg_ℤ, ◌<ℤ◌, ◌≤ℤ◌, refl, sym, ap, subst, arith, inl, inr, All}
 use Rattle.std.specs.List.{AllByRecursion as Each}
 use Rattle.std.proofs.lemmas.Bool.{cases_Bool}
 use Rattle.std.proofs.lemmas.List.Elements.{All-from_recursion, recursion_from_All}
@@ -15,7 +15,7 @@ use Rattle.problem_core.specs.Certificates.{under_weight, over_weight, weight_at
 use Rattle.problem_core.specs.Corners.{IsIn, NoNegativeColumn, NoNegativeValue, Point, StandsAt, assignment_at, attr_column, equation, marks_of, one_column, place, place_of}
 use Rattle.problem_core.proofs.CornerFacts.{is_place}
 use Rattle.problem_core.proofs.Duality.{certificate-IsBest}
-use Rattle.problem_core.proofs.Ends.{end-IsCertificate}
+use Rattle.problem_core.proofs.Ends.{end-IsCertificate, abs_same}
 use Rattle.problem_core.proofs.Forms.{each-impl, each-both}
 use Rattle.problem_core.proofs.Wholes.{whole-IsProblem}
 use Rattle.problem_core.specs.Levels.{CostsAbove, cost_at, scales}
@@ -23,15 +23,13 @@ use Rattle.corner_laws.proofs.Counting.{IsIn-from_is_place}
 use Rattle.corner_laws.proofs.WrittenValues.{contains_each}
 use Rattle.corner_laws.proofs.Gaps.{form_value, line_gap, shares}
 use Rattle.corner_laws.proofs.ZeroColumns.{both-up, each-none, each-joined, first-none, not-in, part, part-own, positive-share, rest-none, row-weights, scales-above, stay-weights, sum-up}
+use Rattle.corner_laws.proofs.PathExamples.{zero-fits}
 
 pub decided : (at : List Mark) (k : Mark) → IsIn (place k) at ⊎ (IsIn (place k) at → ⊥)
 decided at k = elim (cases_Bool (is_place at (place k))) [
   | inl i ↦ inl (IsIn-from_is_place (place k) at i)
   | inr o ↦ inr (not-in at (place k) o)
 ]
-
-zero-up : (z : ℤ) → z ≡ pos 0 → pos 0 ≤ℤ z
-zero-up z e = omega (arith, ints, e)
 
 -- no mark's value is negative, inside or outside
 pub all_up : (p : Problem) (at : List Mark) (x : Point) → StandsAt p at x → All (λ m. pos 0 ≤ℤ x.num (place m)) at → All (λ k. pos 0 ≤ℤ x.num (place k)) (marks_of (lines p))
@@ -40,7 +38,7 @@ all_up p at x stands values =
     (each-impl (λ k. (IsIn (place k) at → ⊥) → x.num (place k) ≡ pos 0) (λ k. pos 0 ≤ℤ x.num (place k)) (marks_of (lines p))
     (λ k h. elim (decided at k) [
       | inl i ↦ contains_each (λ v. pos 0 ≤ℤ x.num v) at (place k) (recursion_from_All (λ m. pos 0 ≤ℤ x.num (place m)) at values) i
-      | inr o ↦ zero-up (x.num (place k)) (h o)
+      | inr o ↦ zero-fits (x.num (place k)) (h o)
     ])
     (recursion_from_All _ (marks_of (lines p)) stands.1))
 
@@ -64,10 +62,6 @@ gap-is : (d : ℕ) (u o f g n one v : ℤ) → pos d *ℤ ((u -ℤ o) +ℤ f) �
 gap-is d u o f g n one v e h =
     let a : pos d *ℤ ((u -ℤ o) +ℤ f) ≡ pos d *ℤ f -ℤ pos d *ℤ (o -ℤ u) = ap (λ (z : ℤ). pos d *ℤ z) (let k : (u -ℤ o) +ℤ f ≡ f -ℤ (o -ℤ u) = omega (arith, ints) in k) ∙ mul-sub_left (pos d) f (o -ℤ u) in
     omega (arith, ints, a, e, h)
-
-abs_same : (z : ℤ) → pos 0 <ℤ z → pos (nat_abs z) ≡ z
-abs_same (pos n) h = refl
-abs_same (negsuc n) h = absurd h.lt
 
 line-gap-is : (x : Point) (l : Line) → value_at x.num (equation l) ≡ pos 0 → gap (assignment_at x) l ≡ pos l.den *ℤ (x.num (place_of l.name Over) -ℤ x.num (place_of l.name Under))
 line-gap-is x l e =
@@ -97,7 +91,7 @@ no-error Le d w u o g heavy a b e h =
     let turn : g ≡ neg_ℤ (pos d *ℤ u) = e ∙ mul-sub_left (pos d) o u ∙ (let k : pos d *ℤ o ≡ pos 0 = ap (λ (z : ℤ). pos d *ℤ z) ho ∙ mul-zero_ℤ (pos d) in omega (arith, ints, k)) in
     no-above g (omega (arith, ints, turn, up))
 
-first-rows : (P : Line → Type 0) (rows : List Row) (ls : List Line) → Each P (map line_of_row rows ++ ls) → Each (λ r. P (line_of_row r)) rows
+pub first-rows : (P : Line → Type 0) (rows : List Row) (ls : List Line) → Each P (map line_of_row rows ++ ls) → Each (λ r. P (line_of_row r)) rows
 first-rows P [] ls h = tt
 first-rows P (r ∷ rows) ls h = (h.0, first-rows P rows ls h.1)
 

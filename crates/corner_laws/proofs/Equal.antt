@@ -34,7 +34,7 @@ writing-sum p at k s y r w = record { scale_positive = w.scale_positive; cancel 
 
 -- ---- up to the scale
 
-zero-column : (k : ℕ) (r c : ℤ) → pos k *ℤ r ≡ c → r ≡ pos 0 → c ≡ pos 0
+pub zero-column : (k : ℕ) (r c : ℤ) → pos k *ℤ r ≡ c → r ≡ pos 0 → c ≡ pos 0
 zero-column k r c e h = sym e ∙ ap (λ (z : ℤ). pos k *ℤ z) h ∙ mul-zero_ℤ (pos k)
 
 pub times_same : (p : Problem) (at : List Mark) (k s t : ℕ) (y z : RowName → ℤ) (r q : ℕ → ℤ) → IsProblem p → HasRays p at → IsLevelSum p at k s y r → IsLevelSum p at k t z q → All (λ l. pos s *ℤ z l.name ≡ pos t *ℤ y l.name) (lines p)
@@ -98,17 +98,17 @@ all_same p at k s t y z r q problem rays f g =
 
 -- ---- in joint lowest terms
 
-sizes : (s t : ℕ) (y z : ℤ) → pos s *ℤ z ≡ pos t *ℤ y → s * unsigned_abs z ≡ t * unsigned_abs y
+pub sizes : (s t : ℕ) (y z : ℤ) → pos s *ℤ z ≡ pos t *ℤ y → s * unsigned_abs z ≡ t * unsigned_abs y
 sizes s t y z e = sym (unsigned_abs-mul (pos s) z) ∙ ap unsigned_abs e ∙ unsigned_abs-mul (pos t) y
 
 pub cancel-left : (g a b : ℕ) → 0 < g → g * a ≡ g * b → a ≡ b
 cancel-left g a b above e = let h : pos a ≡ pos b = cancel_mul g (pos a) (pos b) above (ap pos e) in omega (arith, ints, h)
 
-regroup : (a g x b y : ℕ) → (a * g) * x ≡ (b * g) * y → g * (a * x) ≡ g * (b * y)
+pub regroup : (a g x b y : ℕ) → (a * g) * x ≡ (b * g) * y → g * (a * x) ≡ g * (b * y)
 regroup a g x b y e = omega (arith, e)
 
 -- the share of the scale that the other one lacks divides each number
-share-divides : (s t g y z : ℕ) → Reduces t s g → s * z ≡ t * y → (s / g) ∣ y
+pub share-divides : (s t g y z : ℕ) → Reduces t s g → s * z ≡ t * y → (s / g) ∣ y
 share-divides s t g y z r e =
     let parts : ((s / g) * g) * z ≡ ((t / g) * g) * y = ap (λ (n : ℕ). n * z) r.den_is ∙ e ∙ sym (ap (λ (n : ℕ). n * y) r.num_is) in
     let same : (s / g) * z ≡ (t / g) * y = cancel-left g ((s / g) * z) ((t / g) * y) r.g_above (regroup (s / g) g z (t / g) y parts) in

@@ -47,14 +47,14 @@ whole_share k (negsuc n) d = (
 
 -- ---- a writing as an equation
 
-spread : (d s : ℕ) (q f n one : ℤ) → pos d *ℤ (pos s *ℤ q -ℤ f) ≡ pos s *ℤ (n *ℤ one) → pos (d * s) *ℤ q ≡ pos d *ℤ f +ℤ (pos s *ℤ n) *ℤ one
+pub spread : (d s : ℕ) (q f n one : ℤ) → pos d *ℤ (pos s *ℤ q -ℤ f) ≡ pos s *ℤ (n *ℤ one) → pos (d * s) *ℤ q ≡ pos d *ℤ f +ℤ (pos s *ℤ n) *ℤ one
 spread d s q f n one h =
     let a : pos (d * s) *ℤ q ≡ pos d *ℤ (pos s *ℤ q) = mul_assoc_ℤ (pos d) (pos s) q in
     let b = mul-sub_left (pos d) (pos s *ℤ q) f in
     let e = mul_assoc_ℤ (pos s) n one in
     omega (arith, ints, a, b, e, h)
 
-not-zero : (k : ℕ) (z y : ℤ) → y ≡ pos k *ℤ z → y ≢ pos 0 → z ≢ pos 0
+pub not-zero : (k : ℕ) (z y : ℤ) → y ≡ pos k *ℤ z → y ≢ pos 0 → z ≢ pos 0
 not-zero k z y e some none = some (e ∙ ap (λ (x : ℤ). pos k *ℤ x) none ∙ mul-zero_ℤ (pos k))
 
 pub writing-equation : (p : Problem) (at : List Mark) (quantity : (ℕ → ℤ) → ℤ) (scale : ℕ) (form : List Term) (num : ℤ) (den : ℕ) → IsWritingOf p at quantity scale form num den → IsEquationOf p at quantity (den * scale) (times (pos den) form) (pos scale *ℤ num)
@@ -153,7 +153,7 @@ proportional-value : (s k : ℕ) (f l : List Term) (x : ℕ → ℤ) → ((v : �
 proportional-value s k f l x same =
     sym (value-times x (pos s) l) ∙ value-equal x (times (pos s) l) (times (pos k) f) (λ v. coefficient-times v (pos s) l ∙ same v ∙ sym (coefficient-times v (pos k) f)) ∙ value-times x (pos k) f
 
-divisor : (k : ℕ) (z y : ℤ) → z ≡ pos k *ℤ y → k ∣ unsigned_abs z
+pub divisor : (k : ℕ) (z y : ℤ) → z ≡ pos k *ℤ y → k ∣ unsigned_abs z
 divisor k z y e = subst (λ (n : ℕ). k ∣ n) (sym (ap unsigned_abs e ∙ unsigned_abs-mul (pos k) y)) (dvd-mul_right k (unsigned_abs y))
 
 -- an equation's lowest terms are a writing, with its constant over its scale

@@ -32,14 +32,8 @@ more-cancel p g t a b h k v =
     ∙ ap₂ ◌+ℤ◌ (mul-sum (pos g) (λ l. a l.name *ℤ coefficient v l.form) (lines p) ∙ ap (λ (z : ℤ). pos g *ℤ z) (h v) ∙ mul-zero_ℤ (pos g))
     (mul-sum t (λ l. b l.name *ℤ coefficient v l.form) (lines p) ∙ ap (λ (z : ℤ). t *ℤ z) (k v) ∙ mul-zero_ℤ t)
 
-mul-opp : (t z : ℤ) → t *ℤ neg_ℤ z ≡ neg_ℤ (t *ℤ z)
+pub mul-opp : (t z : ℤ) → t *ℤ neg_ℤ z ≡ neg_ℤ (t *ℤ z)
 mul-opp t z = *ℤ_comm t (neg_ℤ z) ∙ neg-times z t ∙ ap neg_ℤ (*ℤ_comm z t)
-
-as-more : (g : ℕ) (t a b : ℤ) → pos g *ℤ a -ℤ t *ℤ b ≡ pos g *ℤ a +ℤ neg_ℤ t *ℤ b
-as-more g t a b = omega (arith, ints, neg-times t b)
-
-opposite-less : (g : ℕ) (t a b : ℤ) → pos g *ℤ neg_ℤ a -ℤ t *ℤ neg_ℤ b ≡ neg_ℤ (pos g *ℤ a -ℤ t *ℤ b)
-opposite-less g t a b = omega (arith, ints, mul-opp (pos g) a, mul-opp t b)
 
 -- k*r = D*w - k*y gives k*(g*r - t*b) = g*D*w - k*(g*y + t*b)
 under-step : (k g s w : ℕ) (t r y e b : ℤ) → pos k *ℤ r ≡ pos (s * w) -ℤ pos k *ℤ y → e ≡ b → pos k *ℤ (pos g *ℤ r -ℤ t *ℤ e) ≡ pos (g * s * w) -ℤ pos k *ℤ (pos g *ℤ y +ℤ t *ℤ b)
@@ -65,7 +59,7 @@ over-step k g s w t r y e b h same =
 same-zero : (g : ℕ) (t a b : ℤ) → a ≡ pos 0 → b ≡ pos 0 → pos g *ℤ a -ℤ t *ℤ b ≡ pos 0
 same-zero g t a b e f = ap₂ ◌-ℤ◌ (ap (λ (z : ℤ). pos g *ℤ z) e ∙ mul-zero_ℤ (pos g)) (ap (λ (z : ℤ). t *ℤ z) f ∙ mul-zero_ℤ t)
 
-left-zero : (a b : ℤ) → a ≡ b → a -ℤ b ≡ pos 0
+pub left-zero : (a b : ℤ) → a ≡ b → a -ℤ b ≡ pos 0
 left-zero a b e = omega (arith, ints, e)
 
 more-columns : (p : Problem) (at : List Mark) (level scale c g : ℕ) (t : ℤ) (times row : RowName → ℤ) (reduced entry : ℕ → ℤ) → IsLevelSum p at level scale times reduced → IsRowOf p at c row entry → (side : Side) → All (λ l. pos l.scale *ℤ less g t reduced entry (place_of l.name side) ≡ column (alone (g * scale) (more g t times row)) side l level) (lines p)
@@ -94,30 +88,6 @@ exchanged_level p at s level scale g t times row reduced entry is r above cancel
       (λ l h i. elim (exchanged_in s at (place_of l.name side) i) [
         | inl e ↦ ap (less g t reduced entry) e ∙ left-zero (pos g *ℤ reduced (place s.enter)) (t *ℤ entry (place s.enter)) cancels
         | inr k ↦ same-zero g t (reduced (place_of l.name side)) (entry (place_of l.name side)) (h.0 k.0) (h.1 k.0 k.1)
-      ])
-      (each-both _ _ (lines p) (recursion_from_All _ (lines p) (is.inside_zero side)) (recursion_from_All _ (lines p) (r.inside_zero side))));
-}
-
--- the same for the rows of the other inside marks
-pub exchanged_row : (p : Problem) (at : List Mark) (s : Swap) (c g : ℕ) (t : ℤ) (times row : RowName → ℤ) (own entry : ℕ → ℤ)
-    → c ≢ place s.enter → IsRowOf p at c times own → IsRowOf p at (place s.leave) row entry → pos g *ℤ own (place s.enter) ≡ t *ℤ entry (place s.enter)
-    → IsRowOf p (exchanged s at) c (λ name. pos g *ℤ times name -ℤ t *ℤ row name) (less g t own entry)
-exchanged_row p at s c g t times row own entry other is r cancels = record {
-  cancel = λ v.
-      sum-cong (λ l. (pos g *ℤ times l.name -ℤ t *ℤ row l.name) *ℤ coefficient v l.form) (λ l. more g (neg_ℤ t) times row l.name *ℤ coefficient v l.form) (lines p) (λ l. ap (λ (z : ℤ). z *ℤ coefficient v l.form) (as-more g t (times l.name) (row l.name)))
-      ∙ more-cancel p g (neg_ℤ t) times row is.cancel r.cancel v;
-  under = All-from_recursion (λ l. less g t own entry (place_of l.name Under) ≡ pos g *ℤ times l.name -ℤ t *ℤ row l.name) (lines p)
-      (each-impl (λ l. (own (place_of l.name Under) ≡ times l.name) × (entry (place_of l.name Under) ≡ row l.name)) _ (lines p) (λ l h. ap₂ (λ (x y : ℤ). pos g *ℤ x -ℤ t *ℤ y) h.0 h.1)
-      (each-both _ _ (lines p) (recursion_from_All _ (lines p) is.under) (recursion_from_All _ (lines p) r.under)));
-  over = All-from_recursion (λ l. less g t own entry (place_of l.name Over) ≡ neg_ℤ (pos g *ℤ times l.name -ℤ t *ℤ row l.name)) (lines p)
-      (each-impl (λ l. (own (place_of l.name Over) ≡ neg_ℤ (times l.name)) × (entry (place_of l.name Over) ≡ neg_ℤ (row l.name))) _ (lines p) (λ l h. ap₂ (λ (x y : ℤ). pos g *ℤ x -ℤ t *ℤ y) h.0 h.1 ∙ opposite-less g t (times l.name) (row l.name))
-      (each-both _ _ (lines p) (recursion_from_All _ (lines p) is.over) (recursion_from_All _ (lines p) r.over)));
-  inside_zero = λ side.
-      All-from_recursion (λ l. IsIn (place_of l.name side) (exchanged s at) → place_of l.name side ≢ c → less g t own entry (place_of l.name side) ≡ pos 0) (lines p)
-      (each-impl (λ l. (IsIn (place_of l.name side) at → place_of l.name side ≢ c → own (place_of l.name side) ≡ pos 0) × (IsIn (place_of l.name side) at → place_of l.name side ≢ place s.leave → entry (place_of l.name side) ≡ pos 0)) _ (lines p)
-      (λ l h i ne. elim (exchanged_in s at (place_of l.name side) i) [
-        | inl e ↦ ap (less g t own entry) e ∙ left-zero (pos g *ℤ own (place s.enter)) (t *ℤ entry (place s.enter)) cancels
-        | inr k ↦ same-zero g t (own (place_of l.name side)) (entry (place_of l.name side)) (h.0 k.0 ne) (h.1 k.0 k.1)
       ])
       (each-both _ _ (lines p) (recursion_from_All _ (lines p) (is.inside_zero side)) (recursion_from_All _ (lines p) (r.inside_zero side))));
 }

@@ -12,6 +12,7 @@ use Rattle.problem_core.specs.Certificates.{Multipliers, under_weight, over_weig
 use Rattle.problem_core.specs.Corners.{attr_column, column, equation, one_column, place_of}
 use Rattle.problem_core.proofs.Forms.{combination-zero, each-impl, each-both, sum-add, sum-zero, product-shares}
 use Rattle.problem_core.specs.Levels.{cost_at, line_cost, scales}
+use Rattle.problem_core.proofs.Ends.{value-columns}
 
 -- ---- a direction: it solves the equations without their constants
 
@@ -20,10 +21,6 @@ deviation n l = n (place_of l.name Under) -ℤ n (place_of l.name Over)
 
 abbrev pub form_value : (ℕ → ℤ) → Line → ℤ
 form_value n l = value_at (λ v. n (attr_column v)) l.form
-
-pub value-columns : (n : ℕ → ℤ) (k : ℤ) (form : List Term) → value_at n (map (λ e. record { attr = attr_column e.attr; by = k *ℤ e.by }) form) ≡ k *ℤ value_at (λ v. n (attr_column v)) form
-value-columns n k [] = sym (mul-zero_ℤ k)
-value-columns n k (e ∷ form) = ap₂ ◌+ℤ◌ (mul_assoc_ℤ k e.by (n (attr_column e.attr))) (value-columns n k form) ∙ sym (mul-add_left k _ _)
 
 gap-parts : (q u o p w v one : ℤ) → q *ℤ u +ℤ (neg_ℤ q *ℤ o +ℤ (neg_ℤ p *ℤ one +ℤ w)) ≡ pos 0 → w ≡ q *ℤ v → q *ℤ ((u -ℤ o) +ℤ v) ≡ p *ℤ one
 gap-parts q u o p w v one e f = omega (arith, ints, e, f, mul-opposite q o, mul-opposite p one, mul-add_left q (u -ℤ o) v, mul-sub_left q u o)

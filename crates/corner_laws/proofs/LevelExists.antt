@@ -31,12 +31,13 @@ use Rattle.corner_laws.proofs.Directions.{attr-direction, attr_ray, bump-directi
 use Rattle.corner_laws.proofs.Equal.{writing_from_level}
 use Rattle.corner_laws.proofs.Exchanged.{neg-times}
 use Rattle.corner_laws.proofs.Gaps.{shares}
-use Rattle.corner_laws.proofs.LinePlaces.{IsSmallLine, lines_apart, lines_attrs, lines_small, sum-each, sum-single}
+use Rattle.corner_laws.proofs.LinePlaces.{IsSmallLine, lines_apart, lines_attrs, lines_small, sum-single}
 use Rattle.corner_laws.proofs.Linear.{equation_exists}
 use Rattle.corner_laws.proofs.LowestForms.{marks_are_fixed, only-one, pos-quotient, shared}
 use Rattle.corner_laws.proofs.Rises.{cost_linear}
 use Rattle.corner_laws.proofs.RunCosts.{cost_none}
 use Rattle.corner_laws.proofs.ZeroColumns.{IsDirection, bump-over, scales-above}
+use Rattle.problem_core.proofs.Conflicts.{sum-each}
 
 -- ---- the level's cost is a quantity that the corner fixes
 
@@ -269,7 +270,7 @@ multipliers_exist p at whole corner rays =
 
 -- ---- in lowest terms
 
-quotient : ℕ → ℤ → ℤ
+unfoldable pub quotient : ℕ → ℤ → ℤ
 quotient g (pos n) = pos (n / g)
 quotient g (negsuc n) = neg_ℤ (pos (suc n / g))
 

@@ -11,11 +11,10 @@ use Rattle.problem_core.specs.declared.parts.RowName.{RowName}
 use Rattle.problem_core.specs.declared.parts.RowName.TheVariants.{Held, Stay as StayOf}
 use Rattle.problem_core.specs.declared.parts.Level.TheVariants.{Priority}
 use Rattle.problem_core.specs.declared.stops.What.TheVariants.{Level as LevelOf}
-use Rattle.problem_core.specs.declared.stops.Quantity.TheVariants.{Plain, Rows}
+use Rattle.problem_core.specs.declared.stops.Quantity.TheVariants.{Plain}
 use Rattle.problem_core.specs.Layout.{Row, coefficient, lines}
 use Rattle.problem_core.specs.Corners.{IsIn, column, place_of}
 use Rattle.problem_core.specs.Levels.{AreFitting, HasNoLevelWriting, IsCostAt, IsLevelWriting, alone}
-use Rattle.corner_laws.specs.Equations.{IsUnfitSum}
 use Rattle.problem_core.specs.Unfit.{IsUnfit}
 use Rattle.corner_laws.specs.Examples.{single, at_least, under_row}
 use Rattle.corner_laws.proofs.Fits.{whole_is_kept}
@@ -71,17 +70,3 @@ has-writing none = none 1 times_there reduced_there (record { num = pos 5; den =
 pub level_fits : (old : List Row) → IsUnfit (single 5) old (under_row ∷ []) (Plain (LevelOf (Priority 1000))) → ⊥
 level_fits old (zero, is, none) = has-writing none
 level_fits old (suc k, is, none) = absurd (omega (arith, is))
-
-pub first_row_fits : (old : List Row) → IsUnfit (single 5) old (under_row ∷ []) (Rows (Priority 1000) 1) → ⊥
-first_row_fits old ((zero, is, a, b, none), fresh) = has-writing none
-first_row_fits old ((suc k, is, a, b, none), fresh) = absurd (omega (arith, is))
-
--- these numbers are in lowest terms and fit
-pub sum_fits : IsUnfitSum (single 5) (under_row ∷ []) 0 1 times_there reduced_there → ⊥
-sum_fits none =
-    none 1 times_there reduced_there (record { num = pos 5; den = 1 })
-    (record {
-      low_positive = omega arith;
-      same = All-from_recursion (λ l. (pos 1 *ℤ times_there l.name ≡ pos 1 *ℤ times_there l.name) × ((pos 1 *ℤ reduced_there (place_of l.name Under) ≡ pos 1 *ℤ reduced_there (place_of l.name Under)) × (pos 1 *ℤ reduced_there (place_of l.name Over) ≡ pos 1 *ℤ reduced_there (place_of l.name Over)))) (lines (single 5)) ((refl, (refl, refl)), ((refl, (refl, refl)), tt));
-      lowest = writes.lowest;
-    }) costs fits (whole_is_kept 5 (omega arith))

@@ -26,6 +26,7 @@ use Rattle.corner_laws.proofs.Lifts.{each_drop, each_less, each_marks, each_put}
 use Rattle.corner_laws.proofs.TermLifts.{back, no_rows, regrouped}
 use Rattle.corner_laws.proofs.WrittenValues.{contains_each}
 use Rattle.corner_laws.proofs.ZeroColumns.{over-none, under-none}
+use Rattle.corner_laws.proofs.Ends.{both_marks}
 
 -- ---- a row without a weight that has a mark inside
 
@@ -106,7 +107,7 @@ sum-times k f (l ∷ ls) = ap (λ (z : ℤ). pos k *ℤ f l +ℤ z) (sum-times k
 
 -- ---- the cost
 
-quotient : (whole part k d : ℕ) → 0 < d → whole / d * d ≡ whole → part ≡ k * whole → part / d ≡ k * (whole / d)
+pub quotient : (whole part k d : ℕ) → 0 < d → whole / d * d ≡ whole → part ≡ k * whole → part / d ≡ k * (whole / d)
 quotient whole part k d above e f =
     let g : k * (whole / d * d) ≡ k * whole = ap (λ (n : ℕ). k * n) e in
     let h : part ≡ (k * (whole / d)) * d = omega (arith, f, g) in
@@ -137,17 +138,13 @@ without-scale k s c n o d above h =
     cancel_mul k (c *ℤ pos d) (n *ℤ (pos s *ℤ o)) above
     (sym (mul_assoc_ℤ (pos k) c (pos d)) ∙ h ∙ ap (λ (z : ℤ). n *ℤ z) (mul_assoc_ℤ (pos k) (pos s) o) ∙ mul_left_comm_ℤ n (pos k) (pos s *ℤ o))
 
-back_marks : (P : ℕ → Type 0) (ls : List Line) → Each (λ m. P (place m)) (marks_of ls) → Each (λ l. P (place_of l.name Under) × P (place_of l.name Over)) ls
-back_marks P [] h = tt
-back_marks P (l ∷ ls) h = ((h.0, h.1.0), back_marks P ls h.1.1)
-
 fewer_stand : (p : Problem) (at : List Mark) (r : Row) (x : Point) → StandsAt (with_rows (r ∷ []) p) at x → StandsAt p at x
 fewer_stand p at r x stands = (
   All-from_recursion (λ l. value_at x.num (equation l) ≡ pos 0) (lines p) (each_drop (λ l. value_at x.num (equation l) ≡ pos 0) p.rows r (stay_lines 1001 p.stays) (recursion_from_All _ (lines (with_rows (r ∷ []) p)) stands.0)).0,
   All-from_recursion (λ m. (IsIn (place m) at → ⊥) → x.num (place m) ≡ pos 0) (marks_of (lines p))
       (each_marks (λ c. (IsIn c at → ⊥) → x.num c ≡ pos 0) (lines p)
       (each_drop (λ l. ((IsIn (place_of l.name Under) at → ⊥) → x.num (place_of l.name Under) ≡ pos 0) × ((IsIn (place_of l.name Over) at → ⊥) → x.num (place_of l.name Over) ≡ pos 0)) p.rows r (stay_lines 1001 p.stays)
-      (back_marks (λ c. (IsIn c at → ⊥) → x.num c ≡ pos 0) (lines (with_rows (r ∷ []) p)) (recursion_from_All (λ m. (IsIn (place m) at → ⊥) → x.num (place m) ≡ pos 0) (marks_of (lines (with_rows (r ∷ []) p))) stands.1))).0),
+      (both_marks (λ c. (IsIn c at → ⊥) → x.num c ≡ pos 0) (lines (with_rows (r ∷ []) p)) (recursion_from_All (λ m. (IsIn (place m) at → ⊥) → x.num (place m) ≡ pos 0) (marks_of (lines (with_rows (r ∷ []) p))) stands.1))).0),
 )
 
 fewer_cost : (p : Problem) (at : List Mark) (k : ℕ) (r : Row) (f : Fraction) → IsProblem p → IsFreeRow at k r → IsCostAt (with_rows (r ∷ []) p) at k f → IsCostAt p at k f
@@ -235,7 +232,7 @@ level_lifts p rest at joined k problem are free none = more_rows p rest joined k
 
 -- ---- the first rows of a level
 
-past-first : (b : Bool) (k j : ℕ) (r : Row) (rows rest found : List Row) → j ≡ length (cond b (r ∷ found) found) → ((i : ℕ) → i ≡ length found → lightened k i (rows ++ rest) ≡ rows ++ lightened k 0 rest)
+pub past-first : (b : Bool) (k j : ℕ) (r : Row) (rows rest found : List Row) → j ≡ length (cond b (r ∷ found) found) → ((i : ℕ) → i ≡ length found → lightened k i (rows ++ rest) ≡ rows ++ lightened k 0 rest)
     → cond b (cond (nat_eq j 0) (without_weight r) r ∷ lightened k (j - 1) (rows ++ rest)) (r ∷ lightened k j (rows ++ rest)) ≡ r ∷ (rows ++ lightened k 0 rest)
 past-first true k j r rows rest found e h =
     ap₂ (λ (s : Row) (xs : List Row). s ∷ xs) (ap (λ (b : Bool). cond b (without_weight r) r) (ne_eqb j 0 (λ z. omega (arith, e, z)))) (h (j - 1) (omega (arith, e)))
@@ -246,7 +243,7 @@ lightened_append : (k j : ℕ) (rows rest : List Row) → j ≡ length (filter (
 lightened_append k j [] rest e = ap (λ (n : ℕ). lightened k n rest) e
 lightened_append k j (r ∷ rows) rest e = past-first (nat_eq (1000 - r.rank) k) k j r rows rest (filter (λ (r : Row). nat_eq (1000 - r.rank) k) rows) e (λ i h. lightened_append k i rows rest h)
 
-no-weight-left : (b : Bool) → cond {A = ℕ} b 0 0 ≡ 0
+pub no-weight-left : (b : Bool) → cond {A = ℕ} b 0 0 ≡ 0
 no-weight-left true = refl
 no-weight-left false = refl
 

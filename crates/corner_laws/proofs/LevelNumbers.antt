@@ -5,7 +5,6 @@ use Rattle.std.proofs.lemmas.Int.{unsigned_abs-mul}
 use Rattle.std.proofs.lemmas.Nat.Gcd.{IsGcd-swap, le_of_dvd}
 use Rattle.std.proofs.Math.Nat.{dvd-mul_right, dvd_of_mul-dvd-mul_right, mul-div_cancel', pos_of_dvd_of_pos}
 use Rattle.std.proofs.lemmas.List.Elements.{All-from_recursion, recursion_from_All}
-use lib.IntN.{*ℤ_comm}
 use borrow.Author.Differences.{ints}
 use Rattle.frac_core.proofs.Gauss.{Reduces, gauss, reduces, scaled}
 use Rattle.frac_core.proofs.Integers.{mul-add_left, mul-sub_left}
@@ -22,12 +21,9 @@ use Rattle.problem_core.proofs.Forms.{each-impl, each-both}
 use Rattle.problem_core.specs.Levels.{IsLevelWriting, alone}
 use Rattle.corner_laws.specs.Units.{IsLevelRow, IsLevelUnit, IsReducedBy, over_share, under_share}
 use Rattle.corner_laws.proofs.Equal.{cancel-left}
-use Rattle.corner_laws.proofs.Exchanged.{neg-times}
+use Rattle.corner_laws.proofs.ExchangedLevels.{mul-opp}
 
 -- ---- divisors of signed numbers
-
-mul-opp : (t z : ℤ) → t *ℤ neg_ℤ z ≡ neg_ℤ (t *ℤ z)
-mul-opp t z = *ℤ_comm t (neg_ℤ z) ∙ neg-times z t ∙ ap neg_ℤ (*ℤ_comm z t)
 
 pub multiple : (k : ℕ) (z : ℤ) → k ∣ unsigned_abs z → (w : ℤ) × (z ≡ pos k *ℤ w)
 multiple k (pos n) d = (pos (n / k), ap pos (sym (mul-div_cancel' k d)))
@@ -51,17 +47,17 @@ rest-over k a z r e dz dr =
 
 -- ---- the columns
 
-under-whole : (rel : Rel) (k m w : ℕ) → k ∣ m * w → k * under_weight rel (m * w / k) ≡ m * under_weight rel w
+pub under-whole : (rel : Rel) (k m w : ℕ) → k ∣ m * w → k * under_weight rel (m * w / k) ≡ m * under_weight rel w
 under-whole Eq k m w d = mul-div_cancel' k d
 under-whole Ge k m w d = mul-div_cancel' k d
 under-whole Le k m w d = omega arith
 
-over-whole : (rel : Rel) (k m w : ℕ) → k ∣ m * w → k * over_weight rel (m * w / k) ≡ m * over_weight rel w
+pub over-whole : (rel : Rel) (k m w : ℕ) → k ∣ m * w → k * over_weight rel (m * w / k) ≡ m * over_weight rel w
 over-whole Eq k m w d = mul-div_cancel' k d
 over-whole Ge k m w d = omega arith
 over-whole Le k m w d = mul-div_cancel' k d
 
-moved-in : (k own u m w : ℕ) → k * u ≡ m * w → k * (own * u) ≡ own * m * w
+pub moved-in : (k own u m w : ℕ) → k * u ≡ m * w → k * (own * u) ≡ own * m * w
 moved-in k own u m w e = let h : own * (k * u) ≡ own * (m * w) = ap (λ (n : ℕ). own * n) e in omega (arith, h)
 
 under-column : (k own u m w : ℕ) (y r : ℤ) → k * u ≡ m * w → r ≡ pos (own * u) -ℤ y → pos k *ℤ r ≡ pos (own * m * w) -ℤ pos k *ℤ y

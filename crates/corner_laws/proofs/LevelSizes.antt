@@ -8,8 +8,6 @@ use borrow.Author.Differences.{ints}
 use Rattle.frac_core.specs.Fraction.{IsFitting}
 use Rattle.frac_core.proofs.Signs.{unsigned_abs-neg}
 use Rattle.problem_core.specs.declared.parts.Mark.{Mark}
-use Rattle.problem_core.specs.declared.parts.Rel.{Rel}
-use Rattle.problem_core.specs.declared.parts.Rel.TheVariants.{Eq, Le, Ge}
 use Rattle.problem_core.specs.declared.parts.Side.{Side}
 use Rattle.problem_core.specs.declared.parts.Side.TheVariants.{Under, Over}
 use Rattle.problem_core.specs.declared.parts.RowName.{RowName}
@@ -22,19 +20,9 @@ use Rattle.problem_core.specs.Levels.{AreFitting}
 use Rattle.corner_laws.specs.Units.{AreFittingThere, IsLevelRow, IsReducedBy, over_share, under_share}
 use Rattle.corner_laws.proofs.Counting.{IsIn-from_is_place}
 use Rattle.corner_laws.proofs.LevelUnits.{no_weight}
-use Rattle.corner_laws.proofs.ZeroColumns.{not-in}
+use Rattle.corner_laws.proofs.ZeroColumns.{not-in, under-none as under-zero, over-none as over-zero}
 
 -- ---- a line that is not of the level
-
-pub under-zero : (rel : Rel) → under_weight rel 0 ≡ 0
-under-zero Eq = refl
-under-zero Ge = refl
-under-zero Le = refl
-
-pub over-zero : (rel : Rel) → over_weight rel 0 ≡ 0
-over-zero Eq = refl
-over-zero Ge = refl
-over-zero Le = refl
 
 none-there : (unit level : ℕ) (l : Line) → l.level ≢ level → unit * weight_at l level / l.scale ≡ 0
 none-there unit level l ne = ap (λ (w : ℕ). unit * w / l.scale) (no_weight l level ne) ∙ ap (λ (n : ℕ). n / l.scale) (mul-zero unit) ∙ zero-div l.scale

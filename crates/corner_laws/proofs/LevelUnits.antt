@@ -21,12 +21,12 @@ no_weight l level n = ap (λ b. cond b l.weight 0) (ne_eqb l.level level n)
 
 -- ---- one line
 
-grown : (n w k g : ℕ) → Reduces w k g → (k / g) ∣ n → k ∣ n * w
+pub grown : (n w k g : ℕ) → Reduces w k g → (k / g) ∣ n → k ∣ n * w
 grown n w k g r d =
     let same : n * (w / g) * g ≡ n * w = let h : n * (w / g * g) ≡ n * w = ap (λ (m : ℕ). n * m) r.num_is in omega (arith, h) in
     subst (λ (m : ℕ). k ∣ m) same (subst (λ (m : ℕ). m ∣ n * (w / g) * g) r.den_is (mul-dvd-mul_right (k / g) (dvd-mul_right_of_dvd (k / g) d (w / g)) g))
 
-shrunk : (n w k g : ℕ) → Reduces w k g → k ∣ n * w → (k / g) ∣ n
+pub shrunk : (n w k g : ℕ) → Reduces w k g → k ∣ n * w → (k / g) ∣ n
 shrunk n w k g r d =
     let same : w / g * n * g ≡ n * w = let h : n * (w / g * g) ≡ n * w = ap (λ (m : ℕ). n * m) r.num_is in omega (arith, h) in
     gauss (w / g) (k / g) n r.apart (dvd_of_mul-dvd-mul_right (k / g) r.g_above (subst (λ (m : ℕ). m ∣ w / g * n * g) (sym r.den_is) (subst (λ (m : ℕ). k ∣ m) (sym same) d)))

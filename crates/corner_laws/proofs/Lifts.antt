@@ -73,7 +73,7 @@ stretched_value d e c x form =
     value-plus (λ v. pos d *ℤ x v) (λ v. e *ℤ unit_at c v) form
     ∙ ap₂ ◌+ℤ◌ (value-scaled (pos d) x form) (value-scaled e (unit_at c) form ∙ ap (λ (z : ℤ). e *ℤ z) (unit_value c form))
 
-no-more : (a e k : ℤ) → k ≡ pos 0 → a +ℤ e *ℤ k ≡ a
+pub no-more : (a e k : ℤ) → k ≡ pos 0 → a +ℤ e *ℤ k ≡ a
 no-more a e k h = ap (λ (z : ℤ). a +ℤ e *ℤ z) h ∙ ap (λ (z : ℤ). a +ℤ z) (mul-zero_ℤ e) ∙ add-zero_ℤ a
 
 stretched_one : (r : Row) (e : ℤ) (x : ℕ → ℤ) → IsSmall (Held r.id) → stretched r.constant.den e (place_of (Held r.id) Over) x one_column ≡ pos r.constant.den *ℤ x one_column

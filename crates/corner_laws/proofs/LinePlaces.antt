@@ -1,5 +1,5 @@
 -- The columns of a whole problem's lines: all are different, and below those of attributes.
-use Rattle.std.proofs.Common.{◌≡◌, ◌≢◌, ◌∙◌, ℕ, zero, suc, ◌+◌, ◌<◌, ◌++◌, List, [], ◌∷◌, map, refl, sym, ap, ap₂, arith, ℤ, pos, ◌+ℤ◌, All, AllPairs}
+use Rattle.std.proofs.Common.{◌≡◌, ◌≢◌, ◌∙◌, ℕ, zero, suc, ◌+◌, ◌<◌, ◌++◌, List, [], ◌∷◌, map, sym, ap, ap₂, arith, ℤ, pos, ◌+ℤ◌, All, AllPairs}
 use Rattle.std.specs.List.{AllByRecursion as Each}
 use Rattle.std.proofs.lemmas.List.Elements.{recursion_from_All}
 use Rattle.problem_core.specs.declared.parts.Side.TheVariants.{Under, Over}
@@ -159,10 +159,6 @@ lines_attrs p whole =
     (stay-attrs 1001 p.stays (recursion_from_All IsStay p.stays whole.stays))
 
 -- ---- sums over the lines
-
-pub sum-each : {A : Type 0} (f g : A → ℤ) (xs : List A) → Each (λ x. f x ≡ g x) xs → sum_of f xs ≡ sum_of g xs
-sum-each f g [] h = refl
-sum-each f g (x ∷ xs) h = ap₂ ◌+ℤ◌ h.0 (sum-each f g xs h.1)
 
 -- a sum in which only the line itself counts
 pub sum-single : (g : Line → Line → ℤ) → ((k l : Line) → AreApart k l → g k l ≡ pos 0) → (ls : List Line) → AllApart ls → Each (λ k. sum_of (g k) ls ≡ g k k) ls

@@ -96,7 +96,7 @@ taken-value x g v form by = sum-append (λ e. e.by *ℤ x e.attr) (times (pos g)
 none-both : (g : ℕ) (a b : ℤ) → a ≡ pos 0 → b ≡ pos 0 → pos g *ℤ a +ℤ b ≡ pos 0
 none-both g a b e f = ap₂ ◌+ℤ◌ (ap (λ (z : ℤ). pos g *ℤ z) e ∙ mul-zero_ℤ (pos g)) f
 
-zero-or-not : (z : ℤ) → (z ≡ pos 0) ⊎ (z ≢ pos 0)
+pub zero-or-not : (z : ℤ) → (z ≡ pos 0) ⊎ (z ≢ pos 0)
 zero-or-not (pos zero) = inl refl
 zero-or-not (pos (suc n)) = inr (λ e. absurd (omega (arith, ints, e)))
 zero-or-not (negsuc n) = inr (λ e. absurd (omega (arith, ints, e)))

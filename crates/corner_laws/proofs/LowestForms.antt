@@ -67,7 +67,7 @@ abbrev once : List Term → List Term
 once [] = []
 once (t ∷ ts) = record { attr = t.attr; by = coefficient t.attr (t ∷ ts) } ∷ drop_column t.attr (once ts)
 
-at-zero : (k z : ℤ) → z ≡ pos 0 → k +ℤ z ≡ k
+pub at-zero : (k z : ℤ) → z ≡ pos 0 → k +ℤ z ≡ k
 at-zero k z e = omega (arith, ints, e)
 
 once-at : (v : ℕ) (ts : List Term) → coefficient v (once ts) ≡ coefficient v ts

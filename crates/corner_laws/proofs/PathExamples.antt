@@ -294,7 +294,7 @@ less-either : (b : Bool) (n : ℕ) → pos 0 ≤ℤ (pos n -ℤ pos 1 *ℤ cond 
 less-either true n = omega (arith, ints)
 less-either false n = omega (arith, ints)
 
-zero-fits : (z : ℤ) → z ≡ pos 0 → pos 0 ≤ℤ z
+pub zero-fits : (z : ℤ) → z ≡ pos 0 → pos 0 ≤ℤ z
 zero-fits z e = omega (arith, ints, e)
 
 stay-columns : (side : Side) → All (λ l. IsLexNonnegative (column (by_level 1001) side l)) (lines (single 5))

@@ -19,7 +19,7 @@ use Rattle.corner_laws.proofs.WrittenValues.{contains_each, nothing_outside}
 
 -- ---- the list of marks
 
-exchanged_each : (s : Swap) (P : Mark → Type 0) (xs : List Mark) → Each (λ m. (place m ≡ place s.leave → P s.enter) × (place m ≢ place s.leave → P m)) xs → Each P (exchanged s xs)
+pub exchanged_each : (s : Swap) (P : Mark → Type 0) (xs : List Mark) → Each (λ m. (place m ≡ place s.leave → P s.enter) × (place m ≢ place s.leave → P m)) xs → Each P (exchanged s xs)
 exchanged_each s P [] h = tt
 exchanged_each s P (m ∷ xs) h = (
   elim (cases_eq (place m) (place s.leave)) [
@@ -34,7 +34,7 @@ exchanged_length s [] = refl
 exchanged_length s (m ∷ xs) = ap suc (exchanged_length s xs)
 
 -- the marks stay different
-first_apart : (s : Swap) (m : Mark) (xs : List Mark) → place m ≢ place s.enter → Each (λ n. place m ≢ place n) xs → Each (λ n. place n ≢ place s.enter) xs → Each (λ n. place (cond (nat_eq (place m) (place s.leave)) s.enter m) ≢ place n) (exchanged s xs)
+pub first_apart : (s : Swap) (m : Mark) (xs : List Mark) → place m ≢ place s.enter → Each (λ n. place m ≢ place n) xs → Each (λ n. place n ≢ place s.enter) xs → Each (λ n. place (cond (nat_eq (place m) (place s.leave)) s.enter m) ≢ place n) (exchanged s xs)
 first_apart s m xs far apart none =
     elim (cases_eq (place m) (place s.leave)) [
       | inl e ↦
@@ -46,7 +46,7 @@ first_apart s m xs far apart none =
           (exchanged_each s (λ n. place m ≢ place n) xs (each-impl (λ n. place m ≢ place n) _ xs (λ n h. (λ q. far, λ q. h)) apart))
     ]
 
-exchanged_apart : (s : Swap) (xs : List Mark) → AllPairs (λ m n. place m ≢ place n) xs → Each (λ n. place n ≢ place s.enter) xs → AllPairs (λ m n. place m ≢ place n) (exchanged s xs)
+pub exchanged_apart : (s : Swap) (xs : List Mark) → AllPairs (λ m n. place m ≢ place n) xs → Each (λ n. place n ≢ place s.enter) xs → AllPairs (λ m n. place m ≢ place n) (exchanged s xs)
 exchanged_apart s [] apart none = apart
 exchanged_apart s (m ∷ xs) apart none =
     AllPairs-cons (λ (m n : Mark). place m ≢ place n) (cond (nat_eq (place m) (place s.leave)) s.enter m) (exchanged s xs)
@@ -54,10 +54,10 @@ exchanged_apart s (m ∷ xs) apart none =
     (first_apart s m xs none.0 (recursion_from_All (λ n. place m ≢ place n) xs (head_pairs (λ (m n : Mark). place m ≢ place n) m xs apart)) none.1))
     (exchanged_apart s xs (tail_pairs (λ (m n : Mark). place m ≢ place n) m xs apart) none.1)
 
-later-in : (m : Mark) (xs : List Mark) (c : ℕ) → IsIn c xs → IsIn c (m ∷ xs)
+pub later-in : (m : Mark) (xs : List Mark) (c : ℕ) → IsIn c xs → IsIn c (m ∷ xs)
 later-in m xs c (k, within, is) = (suc k, omega (arith, within), is)
 
-each-out : (c : ℕ) (xs : List Mark) → (IsIn c xs → ⊥) → Each (λ n. place n ≢ c) xs
+pub each-out : (c : ℕ) (xs : List Mark) → (IsIn c xs → ⊥) → Each (λ n. place n ≢ c) xs
 each-out c [] out = tt
 each-out c (m ∷ xs) out = (λ e. out (0, omega arith, e), each-out c xs (λ i. out (later-in m xs c i)))
 

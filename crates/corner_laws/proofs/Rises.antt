@@ -24,6 +24,7 @@ use Rattle.corner_laws.proofs.Exchanged.{exchanged_in, neg-times}
 use Rattle.corner_laws.proofs.Rays.{kept_in}
 use Rattle.corner_laws.proofs.Gaps.{direction_cost, moved_columns, shares}
 use Rattle.corner_laws.proofs.ZeroColumns.{both-up, each-none, first-none, here-in, no_zero_column, not-in, outside-still, positive-share, rest-none, scales-above, sum-up}
+use Rattle.corner_laws.proofs.PathExamples.{zero-fits}
 
 -- ---- the costs along a ray
 
@@ -35,17 +36,14 @@ pub up-times : (a n : ℤ) → pos 0 ≤ℤ a → pos 0 <ℤ n → pos 0 ≤ℤ 
 up-times a (pos k) h g = subst (λ (z : ℤ). pos 0 ≤ℤ z) (*ℤ_comm (pos k) a) (mul_not_negative k a h)
 up-times a (negsuc k) h g = absurd g.lt
 
-zero-up : (z : ℤ) → z ≡ pos 0 → pos 0 ≤ℤ z
-zero-up z e = omega (arith, ints, e)
-
 -- a mark's part is not negative
 mark-up : (p : Problem) (at : List Mark) (c : ℕ) (n : ℕ → ℤ) (k : ℤ) (v : ℕ) → IsRay p at c n → Contains (map place (marks_of (lines p))) v → (IsIn v at → k ≡ pos 0) → (v ≡ c → pos 0 ≤ℤ k) → pos 0 ≤ℤ (k *ℤ n v)
 mark-up p at c n k v ray is inside here =
     elim (cases_Bool (is_place at v)) [
-      | inl i ↦ zero-up (k *ℤ n v) (ap (λ (z : ℤ). z *ℤ n v) (inside (IsIn-from_is_place v at i)) ∙ zero-mul_ℤ (n v))
+      | inl i ↦ zero-fits (k *ℤ n v) (ap (λ (z : ℤ). z *ℤ n v) (inside (IsIn-from_is_place v at i)) ∙ zero-mul_ℤ (n v))
       | inr o ↦ elim (cases_eq v c) [
         | inl e ↦ up-times k (n v) (here e) (subst (λ (u : ℕ). pos 0 <ℤ n u) (sym e) ray.here)
-        | inr ne ↦ zero-up (k *ℤ n v) (ap (λ (z : ℤ). k *ℤ z) (outside-still p at c n v ray is (not-in at v o) ne) ∙ mul-zero_ℤ k)
+        | inr ne ↦ zero-fits (k *ℤ n v) (ap (λ (z : ℤ). k *ℤ z) (outside-still p at c n v ray is (not-in at v o) ne) ∙ mul-zero_ℤ k)
       ]
     ]
 
@@ -130,13 +128,13 @@ zeros-to p at m c n problem is columns ray (suc level) costs k less =
 -- ---- from one corner to the next
 
 -- the difference of two points, over both denominators
-abbrev step : Point → Point → ℕ → ℤ
+abbrev pub step : Point → Point → ℕ → ℤ
 step x y v = x.num one_column *ℤ y.num v +ℤ neg_ℤ (y.num one_column) *ℤ x.num v
 
-both-none : (a b x y : ℤ) → x ≡ pos 0 → y ≡ pos 0 → a *ℤ y +ℤ neg_ℤ b *ℤ x ≡ pos 0
+pub both-none : (a b x y : ℤ) → x ≡ pos 0 → y ≡ pos 0 → a *ℤ y +ℤ neg_ℤ b *ℤ x ≡ pos 0
 both-none a b x y e f = ap₂ ◌+ℤ◌ (ap (λ (z : ℤ). a *ℤ z) f ∙ mul-zero_ℤ a) (ap (λ (z : ℤ). neg_ℤ b *ℤ z) e ∙ mul-zero_ℤ (neg_ℤ b))
 
-same-ones : (a b : ℤ) → a *ℤ b +ℤ neg_ℤ b *ℤ a ≡ pos 0
+pub same-ones : (a b : ℤ) → a *ℤ b +ℤ neg_ℤ b *ℤ a ≡ pos 0
 same-ones a b = omega (arith, ints, neg-times b a, *ℤ_comm b a)
 
 grows : (a b x y : ℤ) → pos 0 <ℤ b → x <ℤ pos 0 → y ≡ pos 0 → pos 0 <ℤ (a *ℤ y +ℤ neg_ℤ b *ℤ x)

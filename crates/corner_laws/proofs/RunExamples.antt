@@ -13,7 +13,7 @@ use Rattle.corner_laws.proofs.ChoiceExamples.{run_begins}
 use Rattle.corner_laws.proofs.Fits.{whole_is_kept}
 use Rattle.corner_laws.proofs.LevelExists.{level_writing_exists}
 use Rattle.corner_laws.proofs.LowestForms.{marks_are_fixed}
-use Rattle.corner_laws.proofs.PathExamples.{no, under-sound, under_corner}
+use Rattle.corner_laws.proofs.PathExamples.{no, under-sound, under_corner, under_num}
 use Rattle.corner_laws.proofs.RunPaths.{run_is_path}
 use Rattle.problem_core.specs.Levels.{IsLevelWriting}
 use Rattle.problem_core.specs.declared.parts.RowName.{RowName}
@@ -132,23 +132,19 @@ product_is_not linear = let e : (pos 1 *ℤ pos 1 +ℤ pos 1 *ℤ pos 1) *ℤ (p
 pub under_is_fixed : IsFixedAt (single 5) (under_row ∷ []) (λ x. x 4)
 under_is_fixed = marks_are_fixed (single 5) (under_row ∷ []) 4 under_corner (0, omega arith, refl)
 
--- with both of the row's marks inside neither is fixed
-abbrev low_num : ℕ → ℤ
-low_num v = cond (nat_eq v 4) (pos 5) (cond (nat_eq v one_column) (pos 1) (pos 0))
-
 abbrev high_num : ℕ → ℤ
 high_num v = cond (nat_eq v 4) (pos 6) (cond (nat_eq v 5) (pos 1) (cond (nat_eq v one_column) (pos 1) (pos 0)))
 
 abbrev low_point : Point
-low_point = record { num = low_num; positive = record { lt = tt } }
+low_point = record { num = under_num; positive = record { lt = tt } }
 
 abbrev high_point : Point
 high_point = record { num = high_num; positive = record { lt = tt } }
 
 low-stands : StandsAt (single 5) (under_row ∷ over_row ∷ []) low_point
 low-stands = (
-  All-from_recursion (λ l. value_at low_num (equation l) ≡ pos 0) (lines (single 5)) (refl, (refl, tt)),
-  All-from_recursion (λ m. (IsIn (place m) (under_row ∷ over_row ∷ []) → ⊥) → low_num (place m) ≡ pos 0) (marks_of (lines (single 5))) (λ o. absurd (o (0, omega arith, refl)), (λ o. refl, (λ o. refl, (λ o. refl, tt)))),
+  All-from_recursion (λ l. value_at under_num (equation l) ≡ pos 0) (lines (single 5)) (refl, (refl, tt)),
+  All-from_recursion (λ m. (IsIn (place m) (under_row ∷ over_row ∷ []) → ⊥) → under_num (place m) ≡ pos 0) (marks_of (lines (single 5))) (λ o. absurd (o (0, omega arith, refl)), (λ o. refl, (λ o. refl, (λ o. refl, tt)))),
 )
 
 high-stands : StandsAt (single 5) (under_row ∷ over_row ∷ []) high_point

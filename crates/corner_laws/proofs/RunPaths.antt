@@ -127,7 +127,7 @@ pub record HasStepped (p : Problem) (first at : List Mark) (s : Swap) (values : 
   pub extended : IsExtended p first (exchanged s at) after scale
   pub lower : AreLower p (run_columns first) one values scale after
 
-turned-low : (z : ℤ) → z <ℤ pos 0 → pos 0 <ℤ neg_ℤ z
+pub turned-low : (z : ℤ) → z <ℤ pos 0 → pos 0 <ℤ neg_ℤ z
 turned-low z h = omega (arith, ints, h)
 
 low-some : (z : ℤ) → z <ℤ pos 0 → z ≢ pos 0
@@ -258,7 +258,7 @@ run_grows p first at (t ∷ swaps) s run swap = (run.0, run_grows p first (excha
 
 -- ---- the order of the marks
 
-same_multipliers : (p : Problem) (at other : List Mark) (m : Multipliers) → ((v : ℕ) → IsIn v at → IsIn v other) → AreMultipliersAt p other m → AreMultipliersAt p at m
+pub same_multipliers : (p : Problem) (at other : List Mark) (m : Multipliers) → ((v : ℕ) → IsIn v at → IsIn v other) → AreMultipliersAt p other m → AreMultipliersAt p at m
 same_multipliers p at other m to h = record { scales = h.scales; cancel = h.cancel; inside_zero = λ side i d within here. h.inside_zero side i d within (to _ here) }
 
 pub same_stands : (p : Problem) (at other : List Mark) (x : Point) → ((v : ℕ) → IsIn v other → IsIn v at) → StandsAt p other x → StandsAt p at x

@@ -28,19 +28,19 @@ use Rattle.corner_laws.proofs.Unique.{same-name}
 
 -- ---- the unit
 
-under-one : (rel : Rel) (w k : ℕ) → rel ≡ Eq → w ≡ 1 → k ≡ 1 → under_weight rel (1 * w / k) ≡ 1
+pub under-one : (rel : Rel) (w k : ℕ) → rel ≡ Eq → w ≡ 1 → k ≡ 1 → under_weight rel (1 * w / k) ≡ 1
 under-one rel w k r e f = ap (λ (q : Rel). under_weight q (1 * w / k)) r ∙ ap (λ (n : ℕ). 1 * n / k) e ∙ ap (λ (n : ℕ). 1 * 1 / n) f
 
-over-one : (rel : Rel) (w k : ℕ) → rel ≡ Eq → w ≡ 1 → k ≡ 1 → over_weight rel (1 * w / k) ≡ 1
+pub over-one : (rel : Rel) (w k : ℕ) → rel ≡ Eq → w ≡ 1 → k ≡ 1 → over_weight rel (1 * w / k) ≡ 1
 over-one rel w k r e f = ap (λ (q : Rel). over_weight q (1 * w / k)) r ∙ ap (λ (n : ℕ). 1 * n / k) e ∙ ap (λ (n : ℕ). 1 * 1 / n) f
 
-whole-one : (l : Line) (level : ℕ) → (l.level ≡ level → l.scale ≡ 1) → l.scale ∣ 1 * weight_at l level
+pub whole-one : (l : Line) (level : ℕ) → (l.level ≡ level → l.scale ≡ 1) → l.scale ∣ 1 * weight_at l level
 whole-one l level h = elim (cases_eq l.level level) [
   | inl e ↦ subst (λ (k : ℕ). k ∣ 1 * weight_at l level) (sym (h e)) (one-dvd (1 * weight_at l level))
   | inr ne ↦ subst (λ (n : ℕ). l.scale ∣ n) (sym (ap (λ (w : ℕ). 1 * w) (no_weight l level ne))) (dvd-zero l.scale)
 ]
 
-stay-unit : (p : Problem) (level attr : ℕ) → IsStayLevel p level attr → IsLevelUnit p level 1
+pub stay-unit : (p : Problem) (level attr : ℕ) → IsStayLevel p level attr → IsLevelUnit p level 1
 stay-unit p level attr is = record {
   above = omega arith;
   whole = All-from_recursion (λ l. l.scale ∣ 1 * weight_at l level) (lines p)
@@ -50,7 +50,7 @@ stay-unit p level attr is = record {
 
 -- ---- the row
 
-same-over : (a b : RowName) → place_of a Over ≡ place_of b Over → a ≡ b
+pub same-over : (a b : RowName) → place_of a Over ≡ place_of b Over → a ≡ b
 same-over a b e = same-name a b (let m = over_next a in let n = over_next b in omega (arith, e, m, n))
 
 opposite : (y n : ℤ) → n ≡ neg_ℤ y → y ≡ neg_ℤ n

@@ -18,6 +18,7 @@ use Rattle.corner_laws.specs.Lifts.{HasOneIn, with_rows}
 use Rattle.corner_laws.proofs.Counting.{IsSmall, cond_other, head_pairs, sides_apart, tail_pairs}
 use Rattle.corner_laws.proofs.Lifts.{IsFormWithout, IsNewRow, each_less, fewer_rows}
 use Rattle.corner_laws.proofs.WrittenValues.{contains_each}
+use Rattle.corner_laws.proofs.ZeroColumns.{each-joined}
 
 -- ---- lists
 
@@ -25,16 +26,12 @@ each-there : {X : Type 0} (P : X → Type 0) (xs : List X) (y : X) (ys : List X)
 each-there P [] y ys h = h.0
 each-there P (x ∷ xs) y ys h = each-there P xs y ys h.1
 
-each-second : {X : Type 0} (P : X → Type 0) (xs ys : List X) → Each P (xs ++ ys) → Each P ys
+pub each-second : {X : Type 0} (P : X → Type 0) (xs ys : List X) → Each P (xs ++ ys) → Each P ys
 each-second P [] ys h = h
 each-second P (x ∷ xs) ys h = each-second P xs ys h.1
 
-each-append : {X : Type 0} (P : X → Type 0) (xs ys : List X) → Each P xs → Each P ys → Each P (xs ++ ys)
-each-append P [] ys h k = k
-each-append P (x ∷ xs) ys h k = (h.0, each-append P xs ys h.1 k)
-
 -- each of the first list stands so to each of the second
-pairs-across : {X : Type 0} (R : X → X → Type 0) (xs ys : List X) → AllPairs R (xs ++ ys) → Each (λ x. Each (R x) ys) xs
+pub pairs-across : {X : Type 0} (R : X → X → Type 0) (xs ys : List X) → AllPairs R (xs ++ ys) → Each (λ x. Each (R x) ys) xs
 pairs-across R [] ys h = tt
 pairs-across R (x ∷ xs) ys h = (each-second (R x) xs ys (recursion_from_All (R x) (xs ++ ys) (head_pairs R x (xs ++ ys) h)), pairs-across R xs ys (tail_pairs R x (xs ++ ys) h))
 
@@ -154,7 +151,7 @@ terms_lift p rest at joined mark j whole corner kept over unfit =
     (λ r below h. (
       h.0,
       All-from_recursion (λ s. r.id ≤ s.id → IsIn (place (over_mark s.id)) joined) (p.rows ++ rest)
-          (each-append (λ (s : Row). r.id ≤ s.id → IsIn (place (over_mark s.id)) joined) p.rows rest
+          (each-joined (λ (s : Row). r.id ≤ s.id → IsIn (place (over_mark s.id)) joined) p.rows rest
           (each-impl (λ s. r.id ≤ s.id → IsIn (place (over_mark s.id)) at) _ p.rows (λ s k le. more (place (over_mark s.id)) (k le)) (recursion_from_All _ p.rows h.1))
           (each-impl (λ (s : Row). IsIn (place (over_mark s.id)) joined) _ rest (λ s i le. i) overs)),
       h.2,

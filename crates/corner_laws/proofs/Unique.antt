@@ -1,5 +1,5 @@
 -- A corner has one list of multipliers at each level, up to the scale.
-use Rattle.std.proofs.Common.{◌≡◌, ◌≢◌, ◌∙◌, ◌⊎◌, ℕ, ◌*◌, ◌<◌, List, [], ◌∷◌, map, ℤ, pos, negsuc, ◌+ℤ◌, ◌-ℤ◌, ◌*ℤ◌, neg_ℤ, ◌<ℤ◌, ◌≤ℤ◌, refl, sym, ap, ap₂, arith, inl, inr, All, Contains}
+use Rattle.std.proofs.Common.{◌≡◌, ◌∙◌, ◌⊎◌, ℕ, ◌*◌, ◌<◌, List, [], ◌∷◌, map, ℤ, pos, negsuc, ◌+ℤ◌, ◌-ℤ◌, ◌*ℤ◌, neg_ℤ, ◌<ℤ◌, ◌≤ℤ◌, refl, sym, ap, ap₂, arith, inl, inr, All, Contains}
 use Rattle.std.specs.List.{AllByRecursion as Each}
 use Rattle.std.proofs.lemmas.Bool.{cases_eq, cases_Bool}
 use Rattle.std.proofs.lemmas.List.Elements.{All-from_recursion, recursion_from_All}
@@ -19,10 +19,10 @@ use Rattle.problem_core.proofs.Forms.{combination-zero, each-impl, each-both, su
 use Rattle.problem_core.proofs.Wholes.{whole-IsProblem}
 use Rattle.problem_core.specs.Rays.{HasRays, IsRay}
 use Rattle.corner_laws.proofs.Counting.{IsIn-from_is_place, sides_apart}
-use Rattle.corner_laws.proofs.WrittenValues.{contains_each}
 use Rattle.corner_laws.proofs.Exchanged.{neg-times}
 use Rattle.corner_laws.proofs.Gaps.{deviation, form_value, no_gap}
-use Rattle.corner_laws.proofs.ZeroColumns.{each-none, here-in, not-in}
+use Rattle.corner_laws.proofs.ZeroColumns.{each-none, here-in, not-in, outside-still}
+use Rattle.corner_laws.proofs.ExchangedLevels.{mul-opp}
 
 -- names with the same place are the same
 pub same-name : (a b : RowName) → place_of a Under ≡ place_of b Under → a ≡ b
@@ -46,10 +46,6 @@ idle-sum p z n problem cancel still solves =
     (λ l h. sym (mul-add_left (z l.name) (deviation n l) (form_value n l)) ∙ ap (λ (k : ℤ). z l.name *ℤ k) (no_gap n l h.0.1 still h.1) ∙ mul-zero_ℤ (z l.name))
     (each-both _ _ (lines p) (recursion_from_All _ (lines p) problem) (recursion_from_All _ (lines p) solves))) in
     omega (arith, ints, whole, forms)
-
-outside-still : (p : Problem) (at : List Mark) (c : ℕ) (n : ℕ → ℤ) (v : ℕ) → IsRay p at c n → Contains (map place (marks_of (lines p))) v → (IsIn v at → ⊥) → v ≢ c → n v ≡ pos 0
-outside-still p at c n v ray is out ne =
-    contains_each (λ u. (IsIn u at → ⊥) → u ≢ c → n u ≡ pos 0) (marks_of (lines p)) v (recursion_from_All (λ m. (IsIn (place m) at → ⊥) → place m ≢ c → n (place m) ≡ pos 0) (marks_of (lines p)) ray.other) is out ne
 
 no-over : (u o : ℤ) → o ≡ pos 0 → u -ℤ o ≡ u
 no-over u o e = omega (arith, ints, e)
@@ -82,9 +78,6 @@ turned-step a b = omega (arith, ints)
 turned-sum : {X : Type 0} (f : X → ℤ) (xs : List X) → sum_of (λ x. pos 0 -ℤ f x) xs ≡ pos 0 -ℤ sum_of f xs
 turned-sum f [] = refl
 turned-sum f (x ∷ xs) = ap (λ (z : ℤ). (pos 0 -ℤ f x) +ℤ z) (turned-sum f xs) ∙ turned-step (f x) (sum_of f xs)
-
-mul-opp : (t z : ℤ) → t *ℤ neg_ℤ z ≡ neg_ℤ (t *ℤ z)
-mul-opp t z = *ℤ_comm t (neg_ℤ z) ∙ neg-times z t ∙ ap neg_ℤ (*ℤ_comm z t)
 
 -- parts of which each is 0 or t, and whose sum is 0: where one is t, t is 0
 none-each : {X : Type 0} (f : X → ℤ) (t : ℤ) (xs : List X) → Each (λ x. (f x ≡ pos 0) ⊎ (f x ≡ t)) xs → sum_of f xs ≡ pos 0 → Each (λ x. f x ≡ t → t ≡ pos 0) xs

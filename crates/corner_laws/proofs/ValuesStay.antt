@@ -56,7 +56,7 @@ rising (pos x) (negsuc r) a n at low up here =
 falling : (x r a n : ℤ) → (n *ℤ r) ≤ℤ (x *ℤ a) → pos 0 ≤ℤ (x *ℤ a +ℤ neg_ℤ r *ℤ n)
 falling x r a n h = omega (arith, ints, h, neg-times r n, *ℤ_comm n r)
 
-sign-of : (z : ℤ) → (z <ℤ pos 0) ⊎ (pos 0 ≤ℤ z)
+pub sign-of : (z : ℤ) → (z <ℤ pos 0) ⊎ (pos 0 ≤ℤ z)
 sign-of (pos n) = inr (omega (arith, ints))
 sign-of (negsuc n) = inl (omega (arith, ints))
 

@@ -37,7 +37,7 @@ form_there p at x form stands outside =
     ] in
     value-single x.num 0 form (λ v ne. each v) ∙ each 0
 
-less-none : (s : ℕ) (q f : ℤ) → f ≡ pos 0 → pos s *ℤ q ≡ pos s *ℤ q -ℤ f
+pub less-none : (s : ℕ) (q f : ℤ) → f ≡ pos 0 → pos s *ℤ q ≡ pos s *ℤ q -ℤ f
 less-none s q f e = omega (arith, ints, e)
 
 -- what is written has the writing's value there

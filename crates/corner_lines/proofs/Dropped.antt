@@ -23,7 +23,7 @@ use Rattle.problem_core.proofs.Forms.{each-both, each-impl, mul-sum, value-plus,
 use Rattle.problem_core.proofs.Tableaus.{unit_at}
 use Rattle.corner_laws.proofs.ColumnsStay.{each_marks}
 use Rattle.corner_laws.proofs.Counting.{IsSmall, bump, bump_one, bump_other, cancels, cond_other, cond_same, head_pairs, sides_apart, tail_pairs, unit_value}
-use Rattle.corner_laws.proofs.LinePlaces.{IsSmallLine, sum-each}
+use Rattle.corner_laws.proofs.LinePlaces.{IsSmallLine}
 use Rattle.corner_laws.proofs.WrittenValues.{contains_each, nothing_outside}
 use Rattle.corner_laws.proofs.ZeroColumns.{here-in}
 use Rattle.corner_lines.specs.LineEquations.{IsLineEquation, IsOutsideLine, deviation, other_side}
@@ -31,20 +31,21 @@ use Rattle.corner_lines.specs.Removals.{without_row}
 use Rattle.corner_lines.proofs.JoinedRows.{extended, extended-attr, extended-old, extended-one, extended-other, extended-own, extended-under}
 use Rattle.corner_lines.proofs.LineWritings.{Named, inside-named, other-out}
 use Rattle.corner_lines.proofs.MarkForms.{same-name}
+use Rattle.problem_core.proofs.Conflicts.{sum-each}
 
 -- ---- the lines without the row
 
-abbrev other_row : ℕ → Row → Bool
+abbrev pub other_row : ℕ → Row → Bool
 other_row id r = cond (nat_eq r.id id) false true
 
-filter-on : (id : ℕ) (r : Row) (rows : List Row) → r.id ≡ id → filter (other_row id) (r ∷ rows) ≡ filter (other_row id) rows
+pub filter-on : (id : ℕ) (r : Row) (rows : List Row) → r.id ≡ id → filter (other_row id) (r ∷ rows) ≡ filter (other_row id) rows
 filter-on id r rows e = ap (λ (b : Bool). cond (cond b false true) (r ∷ filter (other_row id) rows) (filter (other_row id) rows)) (eq-eqb r.id id e)
 
-filter-off : (id : ℕ) (r : Row) (rows : List Row) → r.id ≢ id → filter (other_row id) (r ∷ rows) ≡ r ∷ filter (other_row id) rows
+pub filter-off : (id : ℕ) (r : Row) (rows : List Row) → r.id ≢ id → filter (other_row id) (r ∷ rows) ≡ r ∷ filter (other_row id) rows
 filter-off id r rows n = ap (λ (b : Bool). cond (cond b false true) (r ∷ filter (other_row id) rows) (filter (other_row id) rows)) (ne_eqb r.id id n)
 
 -- what holds of each line holds of each that is left
-lines-left : (P : Line → Type 0) (id : ℕ) (rows : List Row) (ls : List Line) → Each P (map line_of_row rows ++ ls) → Each P (map line_of_row (filter (other_row id) rows) ++ ls)
+pub lines-left : (P : Line → Type 0) (id : ℕ) (rows : List Row) (ls : List Line) → Each P (map line_of_row rows ++ ls) → Each P (map line_of_row (filter (other_row id) rows) ++ ls)
 lines-left P id [] ls h = h
 lines-left P id (r ∷ rows) ls h = elim (cases_eq r.id id) [
   | inl e ↦ subst (λ (rs : List Row). Each P (map line_of_row rs ++ ls)) (sym (filter-on id r rows e)) (lines-left P id rows ls h.1)
@@ -184,7 +185,7 @@ widened-point r h t y = record { num = widened r t y.num; positive = subst (λ (
 
 -- ---- the marks without the row's
 
-abbrev left_mark : ℕ → Mark → Bool
+abbrev pub left_mark : ℕ → Mark → Bool
 left_mark id m = cond (is_one_of (id ∷ []) m.row) false true
 
 names : (a b : RowName) → (a ≡ b) ⊎ (a ≢ b)
@@ -193,10 +194,10 @@ names a b = elim (cases_eq (place_of a Under) (place_of b Under)) [
   | inr n ↦ inr (λ e. n (ap (λ (k : RowName). place_of k Under) e))
 ]
 
-row-on : (id : ℕ) (name : RowName) → name ≡ Held id → is_row id name ≡ true
+pub row-on : (id : ℕ) (name : RowName) → name ≡ Held id → is_row id name ≡ true
 row-on id name e = ap (is_row id) e ∙ eq-eqb id id refl
 
-row-off : (id : ℕ) (name : RowName) → name ≢ Held id → is_row id name ≡ false
+pub row-off : (id : ℕ) (name : RowName) → name ≢ Held id → is_row id name ≡ false
 row-off id (Held n) ne = ne_eqb n id (λ e. ne (ap Held e))
 row-off id (StayOf a) ne = refl
 
@@ -206,7 +207,7 @@ marks-on id m ms e = ap (λ (b : Bool). cond (cond (cond b true false) false tru
 marks-off : (id : ℕ) (m : Mark) (ms : List Mark) → m.row ≢ Held id → without_marks (id ∷ []) (m ∷ ms) ≡ m ∷ without_marks (id ∷ []) ms
 marks-off id m ms n = ap (λ (b : Bool). cond (cond (cond b true false) false true) (m ∷ without_marks (id ∷ []) ms) (without_marks (id ∷ []) ms)) (row-off id m.row n)
 
-later-in : (m : Mark) (ms : List Mark) (c : ℕ) → IsIn c ms → IsIn c (m ∷ ms)
+pub later-in : (m : Mark) (ms : List Mark) (c : ℕ) → IsIn c ms → IsIn c (m ∷ ms)
 later-in m ms c (k, within, is) = (suc k, omega (arith, within), is)
 
 in-before : (id : ℕ) (c : ℕ) (ms : List Mark) → IsIn c (without_marks (id ∷ []) ms) → IsIn c ms
@@ -343,7 +344,7 @@ each-was P p id old own =
 left-outside : (at : List Mark) (id : ℕ) (name : RowName) → IsOutsideLine at name → IsOutsideLine (without_marks (id ∷ []) at) name
 left-outside at id name out = record { under = λ i. out.under (in-before id (place_of name Under) at i); over = λ i. out.over (in-before id (place_of name Over) at i) }
 
-same-deviation : (d : ℕ) (o u a b : ℤ) → a ≡ pos d *ℤ o → b ≡ pos d *ℤ u → a -ℤ b ≡ pos d *ℤ (o -ℤ u)
+pub same-deviation : (d : ℕ) (o u a b : ℤ) → a ≡ pos d *ℤ o → b ≡ pos d *ℤ u → a -ℤ b ≡ pos d *ℤ (o -ℤ u)
 same-deviation d o u a b e f = ap₂ ◌-ℤ◌ e f ∙ sym (mul-sub_left (pos d) o u)
 
 widened-deviation : (r : Row) (y : ℕ → ℤ) (name : RowName) → name ≢ Held r.id → deviation name (widened r (pos 0) y) ≡ pos r.constant.den *ℤ deviation name y

@@ -6,7 +6,7 @@ use Rattle.std.specs.List.{AllByRecursion as Each}
 use Rattle.std.proofs.lemmas.Bool.{cases_eq}
 use Rattle.std.proofs.lemmas.List.Elements.{recursion_from_All, All-from_recursion}
 use borrow.Author.Differences.{ints}
-use Rattle.frac_core.proofs.Integers.{mul-sub_left, mul-zero_ℤ, mul_left_comm_ℤ, mul_positive, zero-mul_ℤ, zero-add_ℤ, sign_cases}
+use Rattle.frac_core.proofs.Integers.{mul-zero_ℤ, mul_left_comm_ℤ, mul_positive, zero-mul_ℤ, zero-add_ℤ, sign_cases}
 use Rattle.problem_core.specs.declared.parts.Mark.{Mark}
 use Rattle.problem_core.specs.declared.parts.RowName.{RowName}
 use Rattle.problem_core.specs.declared.parts.RowName.TheVariants.{Held, Stay as StayOf}
@@ -21,27 +21,28 @@ use Rattle.problem_core.specs.Rays.{HasRays, IsRay}
 use Rattle.problem_core.proofs.Forms.{each-both, each-impl, mul-sum, sum-zero, value-scaled}
 use Rattle.corner_laws.proofs.ColumnsStay.{each_marks}
 use Rattle.corner_laws.proofs.Counting.{head_pairs, tail_pairs}
-use Rattle.corner_laws.proofs.LinePlaces.{IsSmallLine, lines_small, sum-each}
+use Rattle.corner_laws.proofs.LinePlaces.{IsSmallLine, lines_small}
 use Rattle.corner_laws.proofs.WrittenValues.{contains_each, not_zero, nothing_outside}
 use Rattle.corner_laws.proofs.ZeroColumns.{IsDirection, direction_zero, each-joined, here-in}
 use Rattle.corner_lines.specs.LineEquations.{IsLineEquation, IsOutsideLine, deviation}
 use Rattle.corner_lines.specs.Removals.{IsFree, without_attr}
-use Rattle.corner_lines.proofs.Dropped.{agree-less, each-in, without-unit}
+use Rattle.corner_lines.proofs.Dropped.{agree-less, each-in, without-unit, same-deviation}
 use Rattle.corner_lines.proofs.LineMoves.{line_moves, mark_moves}
 use Rattle.corner_lines.proofs.LineWritings.{Named, inside-named, named-mark}
 use Rattle.corner_lines.proofs.MarkForms.{same-name}
 use Rattle.corner_lines.proofs.MovedStays.{stay-solves}
 use Rattle.corner_lines.proofs.NewStays.{attr_grows, grows-here, grows-none, grows-stay, one-above}
+use Rattle.problem_core.proofs.Conflicts.{sum-each}
 
 -- ---- the lines without the stay
 
-abbrev other_stay : ℕ → Stay → Bool
+abbrev pub other_stay : ℕ → Stay → Bool
 other_stay attr s = cond (nat_eq s.attr attr) false true
 
-filter-on : (attr : ℕ) (s : Stay) (stays : List Stay) → s.attr ≡ attr → filter (other_stay attr) (s ∷ stays) ≡ filter (other_stay attr) stays
+pub filter-on : (attr : ℕ) (s : Stay) (stays : List Stay) → s.attr ≡ attr → filter (other_stay attr) (s ∷ stays) ≡ filter (other_stay attr) stays
 filter-on attr s stays e = ap (λ (b : Bool). cond (cond b false true) (s ∷ filter (other_stay attr) stays) (filter (other_stay attr) stays)) (eq-eqb s.attr attr e)
 
-filter-off : (attr : ℕ) (s : Stay) (stays : List Stay) → s.attr ≢ attr → filter (other_stay attr) (s ∷ stays) ≡ s ∷ filter (other_stay attr) stays
+pub filter-off : (attr : ℕ) (s : Stay) (stays : List Stay) → s.attr ≢ attr → filter (other_stay attr) (s ∷ stays) ≡ s ∷ filter (other_stay attr) stays
 filter-off attr s stays n = ap (λ (b : Bool). cond (cond b false true) (s ∷ filter (other_stay attr) stays) (filter (other_stay attr) stays)) (ne_eqb s.attr attr n)
 
 -- a property that does not speak of levels
@@ -451,9 +452,6 @@ attr_left_rays p at attr rays c is out =
     )
 
 -- ---- the equations
-
-same-deviation : (d : ℕ) (o u a b : ℤ) → a ≡ pos d *ℤ o → b ≡ pos d *ℤ u → a -ℤ b ≡ pos d *ℤ (o -ℤ u)
-same-deviation d o u a b e f = ap₂ ◌-ℤ◌ e f ∙ sym (mul-sub_left (pos d) o u)
 
 restored-deviation : (attr : ℕ) (s : Stay) (y : ℕ → ℤ) (name : RowName) → name ≢ StayOf attr → (place_of name Over < 17179869184) × (place_of name Under < 17179869184) → deviation name (restored attr s y) ≡ pos s.target.den *ℤ deviation name y
 restored-deviation attr s y name ne small =

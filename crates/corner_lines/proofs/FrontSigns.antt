@@ -33,6 +33,7 @@ use Rattle.corner_lines.specs.LevelRows.{inside_number, reduced_number}
 use Rattle.corner_lines.specs.Fronts.{AlikeCostsKeepSign, AlikeFrontsAreFronts, AreAlike, AreLevelRows, IsFront, NegativeFrontIsNegative, NoFrontIsNot, NoNegativeFronts, PositiveFrontIsNot, ReducedElsewhere, Rows, costs_of}
 use Rattle.corner_lines.proofs.LevelExchanges.{by-sides, inside-numbers}
 use Rattle.corner_lines.proofs.LevelCosts.{column-is, reduced-none}
+use Rattle.corner_laws.proofs.PathExamples.{zero-fits}
 
 -- ---- reduced costs where the line is not of the level
 
@@ -154,7 +155,7 @@ alike_fronts_are_fronts costs next level front alike f =
 
 -- ---- the columns by any multipliers
 
-multiple-under : (k s t w : ℕ) (y z : ℤ) → pos s *ℤ z ≡ pos t *ℤ y → pos s *ℤ (pos (t * w) -ℤ pos k *ℤ z) ≡ pos t *ℤ (pos (s * w) -ℤ pos k *ℤ y)
+pub multiple-under : (k s t w : ℕ) (y z : ℤ) → pos s *ℤ z ≡ pos t *ℤ y → pos s *ℤ (pos (t * w) -ℤ pos k *ℤ z) ≡ pos t *ℤ (pos (s * w) -ℤ pos k *ℤ y)
 multiple-under k s t w y z e =
     let a : pos s *ℤ (pos (t * w) -ℤ pos k *ℤ z) ≡ pos s *ℤ pos (t * w) -ℤ pos s *ℤ (pos k *ℤ z) = mul-sub_left (pos s) (pos (t * w)) (pos k *ℤ z) in
     let b : pos t *ℤ (pos (s * w) -ℤ pos k *ℤ y) ≡ pos t *ℤ pos (s * w) -ℤ pos t *ℤ (pos k *ℤ y) = mul-sub_left (pos t) (pos (s * w)) (pos k *ℤ y) in
@@ -162,7 +163,7 @@ multiple-under k s t w y z e =
     let d : pos s *ℤ pos (t * w) ≡ pos t *ℤ pos (s * w) = ap pos (omega arith) in
     omega (arith, ints, a, b, c, d)
 
-multiple-over : (k s t w : ℕ) (y z : ℤ) → pos s *ℤ z ≡ pos t *ℤ y → pos s *ℤ (pos (t * w) +ℤ pos k *ℤ z) ≡ pos t *ℤ (pos (s * w) +ℤ pos k *ℤ y)
+pub multiple-over : (k s t w : ℕ) (y z : ℤ) → pos s *ℤ z ≡ pos t *ℤ y → pos s *ℤ (pos (t * w) +ℤ pos k *ℤ z) ≡ pos t *ℤ (pos (s * w) +ℤ pos k *ℤ y)
 multiple-over k s t w y z e =
     let a : pos s *ℤ (pos (t * w) +ℤ pos k *ℤ z) ≡ pos s *ℤ pos (t * w) +ℤ pos s *ℤ (pos k *ℤ z) = mul-add_left (pos s) (pos (t * w)) (pos k *ℤ z) in
     let b : pos t *ℤ (pos (s * w) +ℤ pos k *ℤ y) ≡ pos t *ℤ pos (s * w) +ℤ pos t *ℤ (pos k *ℤ y) = mul-add_left (pos t) (pos (s * w)) (pos k *ℤ y) in
@@ -170,7 +171,7 @@ multiple-over k s t w y z e =
     let d : pos s *ℤ pos (t * w) ≡ pos t *ℤ pos (s * w) = ap pos (omega arith) in
     omega (arith, ints, a, b, c, d)
 
-columns-multiple : (m n : Multipliers) (side : Side) (l : Line) (level : ℕ) → pos (m.scale level) *ℤ n.times level l.name ≡ pos (n.scale level) *ℤ m.times level l.name → pos (m.scale level) *ℤ column n side l level ≡ pos (n.scale level) *ℤ column m side l level
+pub columns-multiple : (m n : Multipliers) (side : Side) (l : Line) (level : ℕ) → pos (m.scale level) *ℤ n.times level l.name ≡ pos (n.scale level) *ℤ m.times level l.name → pos (m.scale level) *ℤ column n side l level ≡ pos (n.scale level) *ℤ column m side l level
 columns-multiple m n Under l level e = multiple-under l.scale (m.scale level) (n.scale level) (under_weight l.rel (weight_at l level)) (m.times level l.name) (n.times level l.name) e
 columns-multiple m n Over l level e = multiple-over l.scale (m.scale level) (n.scale level) (over_weight l.rel (weight_at l level)) (m.times level l.name) (n.times level l.name) e
 
@@ -228,22 +229,19 @@ positive_front_is_not p at rows mark level front m whole rays are out fronts up 
     (All-from_recursion (λ l. l.name ≡ mark.row → IsLexNonnegative (costs_of rows mark.side l)) (lines p)
     (each-impl (λ l. l.name ≡ mark.row → IsFront (costs_of rows mark.side l) level front) _ (lines p) (λ l h e. front-positive (costs_of rows mark.side l) level front (h e) up) (recursion_from_All _ (lines p) fronts))) is
 
-none-positive : (z : ℤ) → z ≡ pos 0 → pos 0 ≤ℤ z
-none-positive z e = omega (arith, ints, e)
-
 pub no_front_is_not : NoFrontIsNot
 no_front_is_not p at rows mark m whole rays are out fronts is =
     any-multipliers p at rows mark m whole rays are out
     (All-from_recursion (λ l. l.name ≡ mark.row → IsLexNonnegative (costs_of rows mark.side l)) (lines p)
-    (each-impl (λ l. l.name ≡ mark.row → (level : ℕ) → costs_of rows mark.side l level ≡ pos 0) _ (lines p) (λ l h e level none. none-positive (costs_of rows mark.side l level) (h e level)) (recursion_from_All _ (lines p) fronts))) is
+    (each-impl (λ l. l.name ≡ mark.row → (level : ℕ) → costs_of rows mark.side l level ≡ pos 0) _ (lines p) (λ l h e level none. zero-fits (costs_of rows mark.side l level) (h e level)) (recursion_from_All _ (lines p) fronts))) is
 
 -- ---- no negative front
 
 inside-positive : (side inside : Side) (level unit own : ℕ) (y : ℤ) (l : Line) → y ≡ inside_number inside level unit own l → pos 0 ≤ℤ reduced_number side level unit own y l
-inside-positive Under Under level unit own y l e = none-positive (reduced_number Under level unit own y l) (reduced-none Under level unit own y l e)
+inside-positive Under Under level unit own y l e = zero-fits (reduced_number Under level unit own y l) (reduced-none Under level unit own y l e)
 inside-positive Under Over level unit own y l e = omega (arith, ints, e)
 inside-positive Over Under level unit own y l e = omega (arith, ints, e)
-inside-positive Over Over level unit own y l e = none-positive (reduced_number Over level unit own y l) (reduced-none Over level unit own y l e)
+inside-positive Over Over level unit own y l e = zero-fits (reduced_number Over level unit own y l) (reduced-none Over level unit own y l e)
 
 scaled-positive : (k : ℕ) (f g : ℕ → ℤ) → 0 < k → ((level : ℕ) → g level ≡ pos k *ℤ f level) → IsLexNonnegative f → IsLexNonnegative g
 scaled-positive k f g above e h = alike_costs_keep_sign f g (λ level. record { left = 1; right = k; left_positive = omega arith; right_positive = above; same = (let t : pos 1 *ℤ g level ≡ g level = omega (arith, ints) in t) ∙ e level }) h

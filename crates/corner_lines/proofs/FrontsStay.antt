@@ -15,27 +15,26 @@ use Rattle.problem_core.specs.declared.parts.RowName.{RowName}
 use Rattle.problem_core.specs.declared.parts.RowName.TheVariants.{Stay as StayOf}
 use Rattle.problem_core.specs.Layout.{Line, Problem, coefficient, line_of_row, line_of_stay, lines, stay_lines, sum_of}
 use Rattle.problem_core.specs.Certificates.{weight_at}
-use Rattle.problem_core.specs.Corners.{IsIn, Swap, column, exchanged, place_of}
+use Rattle.problem_core.specs.Corners.{IsIn, column, exchanged, place_of}
 use Rattle.problem_core.specs.Rays.{HasRays}
 use Rattle.problem_core.specs.Levels.{alone}
 use Rattle.problem_core.proofs.Forms.{each-impl, each-both, sum-append}
 use Rattle.corner_laws.specs.Equations.{IsLevelSum}
 use Rattle.corner_laws.specs.Units.{IsLevelUnit, over_share, under_share}
 use Rattle.corner_laws.proofs.Equal.{all_same, writing-sum}
-use Rattle.corner_laws.proofs.Exchanged.{exchanged_in}
 use Rattle.corner_laws.proofs.LevelUnits.{no_weight}
-use Rattle.corner_laws.proofs.LinePlaces.{sum-each}
 use Rattle.corner_laws.proofs.Unique.{same-name}
 use Rattle.corner_laws.proofs.ZeroColumns.{each-joined}
 use Rattle.corner_lines.specs.LineEquations.{IsOutsideLine}
 use Rattle.corner_lines.specs.LevelRows.{HasLevelRow, IsLevelMultiple, inside_number, reduced_number, sum_by}
 use Rattle.corner_lines.specs.LevelCosts.{IsSound}
 use Rattle.corner_lines.specs.Fronts.{AreAlike, ExchangedCostsAreAlike, GrownCostsAreAlike, JoinedCostsAreAlike, MovedLevelsStay, NewStayLeavesLevels, constantless, with_stay}
-use Rattle.corner_lines.proofs.LevelExchanges.{by-sides, entering-number, exchanged-multiple, multiple-numbers}
+use Rattle.corner_lines.proofs.LevelExchanges.{entering-number, exchanged-multiple, multiple-numbers, left-outside}
 use Rattle.corner_lines.proofs.LevelCosts.{column-is, reduced-none}
 use Rattle.corner_lines.proofs.LevelFits.{reduced-is, reduced_by, row-writing}
 use Rattle.corner_lines.proofs.LevelJoins.{cross-share, grown-over, grown-under, joined_row_is_multiple, whole-none}
 use Rattle.corner_lines.proofs.LevelSound.{seen-each, whole_is_sound}
+use Rattle.problem_core.proofs.Conflicts.{sum-each}
 
 -- ---- a multiple as a sum of lines
 
@@ -106,18 +105,6 @@ alike-from p at level unit own size low z next sound rays is up upo mult h =
 
 -- ---- an exchange
 
-still-outside : (s : Swap) (at : List Mark) (name : RowName) → IsOutsideLine at name → name ≢ s.enter.row → IsOutsideLine (exchanged s at) name
-still-outside s at name out ne = record {
-  under = λ i. elim (exchanged_in s at (place_of name Under) i) [
-    | inl e ↦ ne (by-sides name s.enter.row Under s.enter.side e).0
-    | inr r ↦ out.under r.0
-  ];
-  over = λ i. elim (exchanged_in s at (place_of name Over) i) [
-    | inl e ↦ ne (by-sides name s.enter.row Over s.enter.side e).0
-    | inr r ↦ out.over r.0
-  ];
-}
-
 without-pivot : (k : ℕ) (y m e x : ℤ) → e ≡ pos 0 → y ≡ x → pos k *ℤ y +ℤ m *ℤ e ≡ pos k *ℤ x
 without-pivot k y m e x h same =
     let a : m *ℤ e ≡ pos 0 = ap (λ (z : ℤ). m *ℤ z) h ∙ mul-zero_ℤ m in
@@ -128,7 +115,7 @@ pub exchanged_costs_are_alike : ExchangedCostsAreAlike
 exchanged_costs_are_alike p at s level unit own size low number pivot next n ex is out enters rays h =
     All-from_recursion (λ l. IsOutsideLine at l.name → l.name ≢ s.enter.row → pivot l.name ≡ pos 0 → (side : Side) → AreAlike (reduced_number side level unit own (number l.name) l) (reduced_number side level unit low (next l.name) l)) (lines p)
     (each-impl (λ l. (IsOutsideLine (exchanged s at) l.name → (y : ℤ) → sum_by size ex.row.by n pivot l.name ≡ pos size *ℤ y → (side : Side) → AreAlike (reduced_number side level unit own y l) (reduced_number side level unit low (next l.name) l)) × (IsOutsideLine at l.name → ex.row.by l.name ≡ number l.name)) _ (lines p)
-    (λ l k o ne none side. k.0 (still-outside s at l.name o ne) (number l.name) (without-pivot size (ex.row.by l.name) n (pivot l.name) (number l.name) none (k.1 o)) side)
+    (λ l k o ne none side. k.0 (left-outside s at l.name o ne) (number l.name) (without-pivot size (ex.row.by l.name) n (pivot l.name) (number l.name) none (k.1 o)) side)
     (each-both _ _ (lines p)
     (alike-from p (exchanged s at) level unit own size low (sum_by size ex.row.by n pivot) next (whole_is_sound p ex.whole) rays is ex.pivot_is.size_positive ex.row.row.own_positive
     (exchanged-multiple p at s level unit own size size ex.row.by pivot n n ex.whole ex.corner ex.exchange ex.row.row ex.pivot_is (entering-number p at s.enter level unit own number n ex.row.by out ex.row.outside enters) (record { above = ex.pivot_is.size_positive; same = refl })) h)
@@ -207,11 +194,11 @@ moved_levels_stay p q at level unit own number same is h = (
 
 -- ---- a new stay
 
-stays-more : (b : ℕ) (stays : List Stay) (s : Stay) → stay_lines b (stays ++ (s ∷ [])) ≡ stay_lines b stays ++ (line_of_stay (b + length stays) s ∷ [])
+pub stays-more : (b : ℕ) (stays : List Stay) (s : Stay) → stay_lines b (stays ++ (s ∷ [])) ≡ stay_lines b stays ++ (line_of_stay (b + length stays) s ∷ [])
 stays-more b [] s = ap (λ (n : ℕ). line_of_stay n s ∷ []) (omega arith)
 stays-more b (t ∷ stays) s = ap (λ (ls : List Line). line_of_stay b t ∷ ls) (stays-more (b + 1) stays s ∙ ap (λ (n : ℕ). stay_lines (b + 1) stays ++ (line_of_stay n s ∷ [])) (omega arith))
 
-regrouped : (xs ys zs : List Line) → xs ++ (ys ++ zs) ≡ (xs ++ ys) ++ zs
+pub regrouped : (xs ys zs : List Line) → xs ++ (ys ++ zs) ≡ (xs ++ ys) ++ zs
 regrouped [] ys zs = refl
 regrouped (x ∷ xs) ys zs = ap (λ (ls : List Line). x ∷ ls) (regrouped xs ys zs)
 
@@ -239,10 +226,6 @@ but-new new by = ap (λ (b : Bool). cond b (pos 0) (by new)) (eq-eqb (place_of n
 but-old : (new : RowName) (by : RowName → ℤ) (name : RowName) → name ≢ new → but new by name ≡ by name
 unfolding but
 but-old new by name ne = ap (λ (b : Bool). cond b (pos 0) (by name)) (ne_eqb (place_of name Under) (place_of new Under) (λ e. ne (same-name name new e)))
-
-at-side : (side : Side) (marks : List Mark) (name : RowName) → IsOutsideLine marks name → IsIn (place_of name side) marks → ⊥
-at-side Under marks name out i = out.under i
-at-side Over marks name out i = out.over i
 
 pub new_stay_leaves_levels : NewStayLeavesLevels
 new_stay_leaves_levels p s at level unit own number fresh out other none is h =

@@ -19,16 +19,16 @@ use Rattle.corner_lines.specs.LineEquations.{HasValue}
 use Rattle.corner_lines.specs.Joins.{IsJoinedBy, with_row}
 use Rattle.corner_lines.proofs.JoinedRows.{fresh-mark, in-parts, mark-grows, without-row}
 
-in-left : (c : ℕ) (xs ys : List Mark) → IsIn c xs → IsIn c (xs ++ ys)
+pub in-left : (c : ℕ) (xs ys : List Mark) → IsIn c xs → IsIn c (xs ++ ys)
 in-left c [] ys (k, within, is) = absurd (omega (arith, within))
 in-left c (x ∷ xs) ys (zero, within, is) = (0, omega arith, is)
 in-left c (x ∷ xs) ys (suc k, within, is) = let i = in-left c xs ys (k, omega (arith, within), is) in (suc i.0, omega (arith, i.1), i.2)
 
-in-right : (c : ℕ) (xs ys : List Mark) → IsIn c ys → IsIn c (xs ++ ys)
+pub in-right : (c : ℕ) (xs ys : List Mark) → IsIn c ys → IsIn c (xs ++ ys)
 in-right c [] ys i = i
 in-right c (x ∷ xs) ys i = let j = in-right c xs ys i in (suc j.0, omega (arith, j.1), j.2)
 
-in-either : (c : ℕ) (xs ys : List Mark) → IsIn c (xs ++ ys) → IsIn c xs ⊎ IsIn c ys
+pub in-either : (c : ℕ) (xs ys : List Mark) → IsIn c (xs ++ ys) → IsIn c xs ⊎ IsIn c ys
 in-either c [] ys i = inr i
 in-either c (x ∷ xs) ys (zero, within, is) = inl (0, omega arith, is)
 in-either c (x ∷ xs) ys (suc k, within, is) = elim (in-either c xs ys (k, omega (arith, within), is)) [
@@ -36,11 +36,11 @@ in-either c (x ∷ xs) ys (suc k, within, is) = elim (in-either c xs ys (k, omeg
   | inr i ↦ inr i
 ]
 
-each-of-all : (P : ℕ → Type 0) (ms : List Mark) → ((c : ℕ) → IsIn c ms → P c) → Each (λ m. P (place m)) ms
+pub each-of-all : (P : ℕ → Type 0) (ms : List Mark) → ((c : ℕ) → IsIn c ms → P c) → Each (λ m. P (place m)) ms
 each-of-all P [] f = tt
 each-of-all P (m ∷ ms) f = (f (place m) (0, omega arith, refl), each-of-all P ms (λ c i. f c (suc i.0, omega (arith, i.1), i.2)))
 
-nowhere : (c : ℕ) → IsIn c [] → ⊥
+pub nowhere : (c : ℕ) → IsIn c [] → ⊥
 nowhere c (k, within, is) = absurd (omega (arith, within))
 
 -- one mark more on both sides

@@ -21,7 +21,6 @@ use Rattle.problem_core.proofs.Forms.{each-both, each-impl, sum-more, sum-zero}
 use Rattle.corner_laws.proofs.Counting.{head_pairs, tail_pairs}
 use Rattle.corner_laws.proofs.Gaps.{form_value, line_gap}
 use Rattle.corner_laws.proofs.Lifts.{each_drop, each_put}
-use Rattle.corner_laws.proofs.LinePlaces.{sum-each}
 use Rattle.corner_laws.proofs.WrittenValues.{not_zero}
 use Rattle.corner_laws.proofs.ZeroColumns.{each-joined}
 use Rattle.corner_lines.specs.LineEquations.{IsLineEquation, IsLineSum, IsOutsideLine, deviation}
@@ -29,6 +28,7 @@ use Rattle.corner_lines.specs.Joins.{AreAdded, over_joined, under_joined, with_r
 use Rattle.corner_lines.proofs.JoinedRows.{fresh-mark, fresh-names, in-parts, new-in, without-row}
 use Rattle.corner_lines.proofs.LineCarried.{carried-value, combined-sum}
 use Rattle.corner_lines.proofs.MarkForms.{same-name}
+use Rattle.problem_core.proofs.Conflicts.{sum-each}
 
 ruleset ring = (diff-add, diff-mul, diff-neg, diff-pos, neg-pos)
 
@@ -233,7 +233,7 @@ gives_deviation p at r own by value num den dens e above ratio = record {
 
 -- ---- terms that do not fit
 
-same-writing : (p : Problem) (at : List Mark) (q u : (ℕ → ℤ) → ℤ) → ((x : ℕ → ℤ) → q x ≡ u x) → HasNoWriting p at q → HasNoWriting p at u
+pub same-writing : (p : Problem) (at : List Mark) (q u : (ℕ → ℤ) → ℤ) → ((x : ℕ → ℤ) → q x ≡ u x) → HasNoWriting p at q → HasNoWriting p at u
 same-writing p at q u same none scale form value w = none scale form value (record {
   scale_positive = w.scale_positive;
   den_positive = w.den_positive;
@@ -273,10 +273,6 @@ last_terms_unfit p at r whole none =
     (same-writing (with_row r p) (over_joined r at) (λ x. x (place (over_mark r.id))) (first_terms r (length r.terms + 1)) (λ x. sym (past-terms r x)) none)
 
 -- ---- the row's under mark
-
-unchanged : (s : Swap) (at : List Mark) → Each (λ m. place m ≢ place s.leave) at → exchanged s at ≡ at
-unchanged s [] far = refl
-unchanged s (m ∷ at) far = ap₂ (λ (x : Mark) (xs : List Mark). x ∷ xs) (ap (λ (b : Bool). cond b s.enter m) (ne_eqb (place m) (place s.leave) far.0)) (unchanged s at far.1)
 
 turned-last : (s : Swap) (at : List Mark) (m : Mark) → Each (λ n. place n ≢ place s.leave) at → place m ≡ place s.leave → exchanged s (at ++ (m ∷ [])) ≡ at ++ (s.enter ∷ [])
 turned-last s [] m far e = ap (λ (b : Bool). cond b s.enter m ∷ []) (eq-eqb (place m) (place s.leave) e)

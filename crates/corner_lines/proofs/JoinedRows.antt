@@ -1,11 +1,11 @@
 -- A corner with a new row's over mark is a corner of the problem with the row.
-use Rattle.std.proofs.Common.{◌≡◌, ◌≢◌, ◌∙◌, ℕ, zero, suc, ◌+◌, ◌<◌, ◌++◌, Bool, cond, nat_eq, List, [], ◌∷◌, map, ℤ, pos, ◌+ℤ◌, ◌-ℤ◌, ◌*ℤ◌, neg_ℤ, ◌<ℤ◌, refl, sym, ap, ap₂, subst, arith, All, AllPairs, Contains, inl, inr, ◌⊎◌, eq-eqb, ne_eqb, length-append}
+use Rattle.std.proofs.Common.{◌≡◌, ◌≢◌, ◌∙◌, ℕ, zero, suc, ◌+◌, ◌<◌, ◌++◌, Bool, cond, nat_eq, List, [], ◌∷◌, map, ℤ, pos, ◌+ℤ◌, ◌-ℤ◌, ◌*ℤ◌, neg_ℤ, ◌<ℤ◌, refl, sym, ap, subst, arith, All, AllPairs, Contains, inl, inr, ◌⊎◌, eq-eqb, ne_eqb, length-append}
 use Rattle.std.specs.List.{AllByRecursion as Each}
 use Rattle.std.proofs.lemmas.List.Elements.{recursion_from_All, All-from_recursion}
 use Rattle.std.proofs.lemmas.List.Kept.{AllPairs-cons}
 use lib.IntN.{*ℤ_comm}
 use borrow.Author.Differences.{ints}
-use Rattle.frac_core.proofs.Integers.{add-mul_right, cancel_mul, mul-sub_left, mul-zero_ℤ, mul_assoc_ℤ, mul_left_comm_ℤ, mul_positive, zero-mul_ℤ}
+use Rattle.frac_core.proofs.Integers.{add-mul_right, mul-sub_left, mul-zero_ℤ, mul_assoc_ℤ, mul_left_comm_ℤ, mul_positive, zero-mul_ℤ}
 use Rattle.problem_core.specs.declared.parts.Mark.{Mark}
 use Rattle.problem_core.specs.declared.parts.RowName.{RowName}
 use Rattle.problem_core.specs.declared.parts.RowName.TheVariants.{Held}
@@ -22,13 +22,16 @@ use Rattle.problem_core.proofs.Forms.{each-both, each-impl, value-scaled}
 use Rattle.corner_laws.specs.Lifts.{with_rows}
 use Rattle.corner_laws.proofs.Counting.{IsSmall, bump, head_pairs, tail_pairs}
 use Rattle.corner_laws.proofs.ColumnsStay.{each_marks}
-use Rattle.corner_laws.proofs.Gaps.{deviation, form_value, line_gap, value-columns}
+use Rattle.corner_laws.proofs.Gaps.{deviation, form_value, line_gap}
 use Rattle.corner_laws.proofs.Lifts.{each_drop, each_put}
-use Rattle.corner_laws.proofs.LinePlaces.{AllApart, AreApart, IsSmallLine, lines_apart, lines_small, sum-each}
+use Rattle.corner_laws.proofs.LinePlaces.{AllApart, AreApart, IsSmallLine, lines_apart, lines_small}
 use Rattle.corner_laws.proofs.WrittenValues.{contains_each, nothing_outside}
 use Rattle.corner_laws.proofs.ZeroColumns.{each-joined, here-in}
 use Rattle.corner_lines.proofs.LineMoves.{turn-ray}
 use Rattle.corner_lines.proofs.MarkForms.{same-name}
+use Rattle.problem_core.proofs.Ends.{value-columns}
+use Rattle.problem_core.proofs.Conflicts.{sum-each}
+use Rattle.corner_laws.proofs.BeginsUnique.{agree-form, gap-same}
 
 -- ---- the lines with the row
 
@@ -250,22 +253,6 @@ joined_rays p at r whole rays c is =
     words-bump = bump (Held r.id)
 
 -- ---- the corner
-
--- z*a = x*c and z*b = y*c, where a, b, c are the denominators of x, y, z
-agree-form : (n o : ℕ → ℤ) (a b : ℤ) (form : List Term) → Each (λ t. n t.attr *ℤ b ≡ o t.attr *ℤ a) form → value_at n form *ℤ b ≡ value_at o form *ℤ a
-agree-form n o a b [] h = zero-mul_ℤ b ∙ sym (zero-mul_ℤ a)
-agree-form n o a b (t ∷ form) h =
-    add-mul_right (t.by *ℤ n t.attr) (value_at n form) b
-    ∙ ap₂ ◌+ℤ◌ (mul_assoc_ℤ t.by (n t.attr) b ∙ ap (λ (z : ℤ). t.by *ℤ z) h.0 ∙ sym (mul_assoc_ℤ t.by (o t.attr) a)) (agree-form n o a b form h.1)
-    ∙ sym (add-mul_right (t.by *ℤ o t.attr) (value_at o form) a)
-
-gap-same : (d : ℕ) (k u v f g a b : ℤ) → 0 < d → pos d *ℤ (u +ℤ f) ≡ k *ℤ a → pos d *ℤ (v +ℤ g) ≡ k *ℤ b → f *ℤ b ≡ g *ℤ a → u *ℤ b ≡ v *ℤ a
-gap-same d k u v f g a b above e h same =
-    let one : pos d *ℤ ((u +ℤ f) *ℤ b) ≡ (k *ℤ a) *ℤ b = sym (mul_assoc_ℤ (pos d) (u +ℤ f) b) ∙ ap (λ (z : ℤ). z *ℤ b) e in
-    let two : pos d *ℤ ((v +ℤ g) *ℤ a) ≡ (k *ℤ b) *ℤ a = sym (mul_assoc_ℤ (pos d) (v +ℤ g) a) ∙ ap (λ (z : ℤ). z *ℤ a) h in
-    let three : (k *ℤ a) *ℤ b ≡ (k *ℤ b) *ℤ a = mul_assoc_ℤ k a b ∙ ap (λ (t : ℤ). k *ℤ t) (*ℤ_comm a b) ∙ sym (mul_assoc_ℤ k b a) in
-    let all : (u +ℤ f) *ℤ b ≡ (v +ℤ g) *ℤ a = cancel_mul d ((u +ℤ f) *ℤ b) ((v +ℤ g) *ℤ a) above (one ∙ three ∙ sym two) in
-    omega (arith, ints, all, add-mul_right u f b, add-mul_right v g a, same)
 
 over-same : (u o v q a b : ℤ) → u ≡ pos 0 → v ≡ pos 0 → (u -ℤ o) *ℤ b ≡ (v -ℤ q) *ℤ a → o *ℤ b ≡ q *ℤ a
 over-same u o v q a b e f h =

@@ -3,15 +3,11 @@ use Rattle.std.proofs.Common.{◌≡◌, ◌≢◌, ◌∙◌, ℕ, ◌*◌, ◌
 use Rattle.std.specs.List.{AllByRecursion as Each}
 use Rattle.std.specs.Int.{◌∣◌}
 use Rattle.std.proofs.lemmas.Bool.{cases_eq, cases_Bool}
-use Rattle.std.proofs.Math.Nat.{mul-div_cancel'}
 use Rattle.std.proofs.lemmas.List.Elements.{All-from_recursion, recursion_from_All}
-use lib.IntN.{*ℤ_comm}
 use borrow.Author.Differences.{ints}
 use Rattle.frac_core.specs.Fraction.{Fraction, IsRatio, sum_den, sum_num}
 use Rattle.frac_core.proofs.Integers.{cancel_mul, diff, diff_eq, diff-add, diff-mul, diff-neg, diff-pos, neg-pos, mul-add_left, mul-sub_left, mul-zero_ℤ, mul_assoc_ℤ, mul_left_comm_ℤ, on_2, on_3, same_from_sub, zero-mul_ℤ}
 use Rattle.problem_core.specs.declared.parts.Mark.{Mark}
-use Rattle.problem_core.specs.declared.parts.Rel.{Rel}
-use Rattle.problem_core.specs.declared.parts.Rel.TheVariants.{Eq, Le, Ge}
 use Rattle.problem_core.specs.declared.parts.Side.{Side}
 use Rattle.problem_core.specs.declared.parts.Side.TheVariants.{Under, Over}
 use Rattle.problem_core.specs.declared.parts.RowName.{RowName}
@@ -28,8 +24,8 @@ use Rattle.corner_laws.proofs.ColumnsStay.{each_marks}
 use Rattle.corner_laws.proofs.Counting.{IsIn-from_is_place, IsSmall, cond_other, cond_same}
 use Rattle.corner_laws.proofs.Exchanged.{exchanged_in, neg-times}
 use Rattle.corner_laws.proofs.Gaps.{direction_cost, moved_columns, shares}
-use Rattle.corner_laws.proofs.LinePlaces.{AreApart, lines_apart, sum-each, sum-single}
-use Rattle.corner_laws.proofs.Rises.{cost_linear}
+use Rattle.corner_laws.proofs.LinePlaces.{AreApart, lines_apart, sum-single}
+use Rattle.corner_laws.proofs.Rises.{cost_linear, step, both-none, same-ones}
 use Rattle.corner_laws.proofs.Unique.{same-name}
 use Rattle.corner_laws.proofs.WrittenValues.{contains_each, nothing_outside}
 use Rattle.corner_laws.proofs.ZeroColumns.{here-in, not-in, scales-above}
@@ -37,25 +33,15 @@ use Rattle.corner_lines.specs.LineEquations.{deviation}
 use Rattle.corner_lines.specs.LevelRows.{inside_number, reduced_number}
 use Rattle.corner_lines.specs.LevelCosts.{ExchangedCostIsCost, HasDeviation, IsCostStep, IsUnfitStep, TurnedCostIsCost, UnfitExchangedCost, UnfitTurnedCost}
 use Rattle.corner_lines.proofs.LevelPlaces.{cost_everywhere}
-use Rattle.corner_lines.proofs.LineSums.{mul-opp}
-use Rattle.corner_lines.proofs.LevelExchanges.{all-small, by-sides, entering-number, exchanged_has, inside-numbers, turning-number, two-marks}
+use Rattle.corner_lines.proofs.LevelExchanges.{by-sides, entering-number, exchanged_has, inside-numbers, turning-number, two-marks}
+use Rattle.problem_core.proofs.Conflicts.{sum-each}
+use Rattle.corner_laws.proofs.ExchangedLevels.{mul-opp, left-zero}
+use Rattle.corner_lines.proofs.LineWritings.{all-small}
+use Rattle.corner_laws.proofs.LevelNumbers.{under-whole, over-whole, moved-in}
 
 ruleset ring = (diff-add, diff-mul, diff-neg, diff-pos, neg-pos)
 
 -- ---- columns as reduced numbers
-
-under-whole : (rel : Rel) (k m w : ℕ) → k ∣ m * w → k * under_weight rel (m * w / k) ≡ m * under_weight rel w
-under-whole Eq k m w d = mul-div_cancel' k d
-under-whole Ge k m w d = mul-div_cancel' k d
-under-whole Le k m w d = omega arith
-
-over-whole : (rel : Rel) (k m w : ℕ) → k ∣ m * w → k * over_weight rel (m * w / k) ≡ m * over_weight rel w
-over-whole Eq k m w d = mul-div_cancel' k d
-over-whole Ge k m w d = omega arith
-over-whole Le k m w d = mul-div_cancel' k d
-
-moved-in : (k own u m w : ℕ) → k * u ≡ m * w → k * (own * u) ≡ own * m * w
-moved-in k own u m w e = let h : own * (k * u) ≡ own * (m * w) = ap (λ (n : ℕ). own * n) e in omega (arith, h)
 
 under-column : (k own u m w : ℕ) (y : ℤ) → k * u ≡ m * w → pos (own * m * w) -ℤ pos k *ℤ y ≡ pos k *ℤ (pos (own * u) -ℤ y)
 under-column k own u m w y e = sym (mul-sub_left (pos k) (pos (own * u)) y ∙ ap (λ (n : ℕ). pos n -ℤ pos k *ℤ y) (moved-in k own u m w e))
@@ -83,17 +69,8 @@ over-not e = let h : 1 ≡ 0 = ap one-of e in absurd (omega (arith, h))
 
 -- ---- from one point to another
 
-abbrev pub step : Point → Point → ℕ → ℤ
-step x y v = x.num one_column *ℤ y.num v +ℤ neg_ℤ (y.num one_column) *ℤ x.num v
-
-both-none : (a b x y : ℤ) → x ≡ pos 0 → y ≡ pos 0 → a *ℤ y +ℤ neg_ℤ b *ℤ x ≡ pos 0
-both-none a b x y e f = ap₂ ◌+ℤ◌ (ap (λ (z : ℤ). a *ℤ z) f ∙ mul-zero_ℤ a) (ap (λ (z : ℤ). neg_ℤ b *ℤ z) e ∙ mul-zero_ℤ (neg_ℤ b))
-
 first-only : (a b x y : ℤ) → x ≡ pos 0 → a *ℤ y +ℤ neg_ℤ b *ℤ x ≡ a *ℤ y
 first-only a b x y e = let h : neg_ℤ b *ℤ x ≡ pos 0 = ap (λ (z : ℤ). neg_ℤ b *ℤ z) e ∙ mul-zero_ℤ (neg_ℤ b) in omega (arith, ints, h)
-
-same-ones : (a b : ℤ) → a *ℤ b +ℤ neg_ℤ b *ℤ a ≡ pos 0
-same-ones a b = omega (arith, ints, neg-times b a, *ℤ_comm b a)
 
 pub step-solves : (p : Problem) (x y : Point) → All (λ l. value_at x.num (equation l) ≡ pos 0) (lines p) → All (λ l. value_at y.num (equation l) ≡ pos 0) (lines p) → All (λ l. value_at (step x y) (equation l) ≡ pos 0) (lines p)
 step-solves p x y h k =
@@ -284,9 +261,6 @@ second-identity Z D S fd vd gd = on_5 (λ cz fn w q gn. pos (fd * (D * vd)) *ℤ
     ≡ pos (vd * gd) *ℤ (pos D *ℤ (cz *ℤ pos fd) -ℤ pos S *ℤ (pos D *ℤ (pos Z *ℤ fn) +ℤ w *ℤ pos fd)) +ℤ (pos (S * (fd * gd)) *ℤ (w *ℤ pos vd -ℤ q *ℤ pos Z) +ℤ pos (S * Z) *ℤ ((fn *ℤ (pos D *ℤ pos vd) +ℤ q *ℤ pos fd) *ℤ pos gd -ℤ gn *ℤ (pos fd *ℤ (pos D *ℤ pos vd)))))
     (λ a a' b b' c c' d d' e e'. simp ring (diff_eq _ _ _ _ (omega arith)))
 
-less-none : (a b : ℤ) → a ≡ b → a -ℤ b ≡ pos 0
-less-none a b e = omega (arith, ints, e)
-
 two-none : (a b : ℤ) (k m : ℕ) → a ≡ pos 0 → b ≡ pos 0 → pos k *ℤ a +ℤ pos m *ℤ b ≡ pos 0
 two-none a b k m e f = ap₂ ◌+ℤ◌ (ap (λ (z : ℤ). pos k *ℤ z) e ∙ mul-zero_ℤ (pos k)) (ap (λ (z : ℤ). pos m *ℤ z) f ∙ mul-zero_ℤ (pos m))
 
@@ -302,12 +276,12 @@ cost-there X Z D S fd vd gd cx cz fn vn gn n dev upX upf upv upD one two three f
     let first : pos D *ℤ (cz *ℤ pos fd) ≡ pos S *ℤ (pos D *ℤ (pos Z *ℤ fn) +ℤ (n *ℤ dev) *ℤ pos fd) =
     from-none X (pos D *ℤ (cz *ℤ pos fd)) (pos S *ℤ (pos D *ℤ (pos Z *ℤ fn) +ℤ (n *ℤ dev) *ℤ pos fd)) _ upX (first-identity X Z D S fd cx cz fn (n *ℤ dev))
     (two-none (pos D *ℤ (pos X *ℤ cz +ℤ neg_ℤ (pos Z) *ℤ cx) -ℤ pos S *ℤ (pos X *ℤ (n *ℤ dev))) (cx *ℤ pos fd -ℤ fn *ℤ (pos S *ℤ pos X)) fd (D * Z)
-    (less-none _ _ (one ∙ ap (λ (z : ℤ). pos S *ℤ z) (mul_left_comm_ℤ n (pos X) dev))) (less-none _ _ two)) in
+    (left-zero _ _ (one ∙ ap (λ (z : ℤ). pos S *ℤ z) (mul_left_comm_ℤ n (pos X) dev))) (left-zero _ _ two)) in
     let third : (n *ℤ dev) *ℤ pos vd ≡ (n *ℤ vn) *ℤ pos Z = mul_assoc_ℤ n dev (pos vd) ∙ ap (λ (z : ℤ). n *ℤ z) three ∙ sym (mul_assoc_ℤ n vn (pos Z)) in
     let fourth : (fn *ℤ (pos D *ℤ pos vd) +ℤ (n *ℤ vn) *ℤ pos fd) *ℤ pos gd ≡ gn *ℤ (pos fd *ℤ (pos D *ℤ pos vd)) = ap (λ (z : ℤ). (fn *ℤ (pos D *ℤ pos vd) +ℤ z) *ℤ pos gd) (mul_assoc_ℤ n vn (pos fd)) ∙ sym four in
     from-none (fd * (D * vd)) (cz *ℤ pos gd) (gn *ℤ (pos S *ℤ pos Z)) _ (mul-pos upf (mul-pos upD upv)) (second-identity Z D S fd vd gd cz fn (n *ℤ dev) (n *ℤ vn) gn)
-    (ap₂ ◌+ℤ◌ (ap (λ (z : ℤ). pos (vd * gd) *ℤ z) (less-none _ _ first) ∙ mul-zero_ℤ (pos (vd * gd)))
-    (two-none ((n *ℤ dev) *ℤ pos vd -ℤ (n *ℤ vn) *ℤ pos Z) ((fn *ℤ (pos D *ℤ pos vd) +ℤ (n *ℤ vn) *ℤ pos fd) *ℤ pos gd -ℤ gn *ℤ (pos fd *ℤ (pos D *ℤ pos vd))) (S * (fd * gd)) (S * Z) (less-none _ _ third) (less-none _ _ fourth)))
+    (ap₂ ◌+ℤ◌ (ap (λ (z : ℤ). pos (vd * gd) *ℤ z) (left-zero _ _ first) ∙ mul-zero_ℤ (pos (vd * gd)))
+    (two-none ((n *ℤ dev) *ℤ pos vd -ℤ (n *ℤ vn) *ℤ pos Z) ((fn *ℤ (pos D *ℤ pos vd) +ℤ (n *ℤ vn) *ℤ pos fd) *ℤ pos gd -ℤ gn *ℤ (pos fd *ℤ (pos D *ℤ pos vd))) (S * (fd * gd)) (S * Z) (left-zero _ _ third) (left-zero _ _ fourth)))
 
 pub cost-step : (x1 z1 : ℤ) (D S : ℕ) (cost value next : Fraction) (cx cz n dev : ℤ) → pos 0 <ℤ x1 → pos 0 <ℤ z1 → 0 < D → IsCostStep cost n D value next
     → pos D *ℤ (x1 *ℤ cz +ℤ neg_ℤ z1 *ℤ cx) ≡ pos S *ℤ (n *ℤ (x1 *ℤ dev)) → cx *ℤ pos cost.den ≡ cost.num *ℤ (pos S *ℤ x1) → dev *ℤ pos value.den ≡ value.num *ℤ z1 → cz *ℤ pos next.den ≡ next.num *ℤ (pos S *ℤ z1)
@@ -339,11 +313,11 @@ ratio-there X Z D S fd vd gd cx cz fn vn gn n dev upX upZ upS one two three goal
     let first : pos D *ℤ (cz *ℤ pos fd) ≡ pos S *ℤ (pos D *ℤ (pos Z *ℤ fn) +ℤ (n *ℤ dev) *ℤ pos fd) =
     from-none X (pos D *ℤ (cz *ℤ pos fd)) (pos S *ℤ (pos D *ℤ (pos Z *ℤ fn) +ℤ (n *ℤ dev) *ℤ pos fd)) _ upX (first-identity X Z D S fd cx cz fn (n *ℤ dev))
     (two-none (pos D *ℤ (pos X *ℤ cz +ℤ neg_ℤ (pos Z) *ℤ cx) -ℤ pos S *ℤ (pos X *ℤ (n *ℤ dev))) (cx *ℤ pos fd -ℤ fn *ℤ (pos S *ℤ pos X)) fd (D * Z)
-    (less-none _ _ (one ∙ ap (λ (z : ℤ). pos S *ℤ z) (mul_left_comm_ℤ n (pos X) dev))) (less-none _ _ two)) in
+    (left-zero _ _ (one ∙ ap (λ (z : ℤ). pos S *ℤ z) (mul_left_comm_ℤ n (pos X) dev))) (left-zero _ _ two)) in
     let third : (n *ℤ dev) *ℤ pos vd ≡ (n *ℤ vn) *ℤ pos Z = mul_assoc_ℤ n dev (pos vd) ∙ ap (λ (z : ℤ). n *ℤ z) three ∙ sym (mul_assoc_ℤ n vn (pos Z)) in
     from-none (S * Z) (gn *ℤ (pos fd *ℤ (pos D *ℤ pos vd))) ((fn *ℤ (pos D *ℤ pos vd) +ℤ (n *ℤ vn) *ℤ pos fd) *ℤ pos gd) _ (mul-pos upS upZ) (third-identity Z D S fd vd gd cz fn (n *ℤ dev) (n *ℤ vn) gn)
-    (ap₂ ◌+ℤ◌ (ap (λ (z : ℤ). pos (vd * gd) *ℤ z) (less-none _ _ first) ∙ mul-zero_ℤ (pos (vd * gd)))
-    (two-none ((n *ℤ dev) *ℤ pos vd -ℤ (n *ℤ vn) *ℤ pos Z) (gn *ℤ (pos S *ℤ pos Z) -ℤ cz *ℤ pos gd) (S * (fd * gd)) (fd * (D * vd)) (less-none _ _ third) (less-none _ _ (sym goal))))
+    (ap₂ ◌+ℤ◌ (ap (λ (z : ℤ). pos (vd * gd) *ℤ z) (left-zero _ _ first) ∙ mul-zero_ℤ (pos (vd * gd)))
+    (two-none ((n *ℤ dev) *ℤ pos vd -ℤ (n *ℤ vn) *ℤ pos Z) (gn *ℤ (pos S *ℤ pos Z) -ℤ cz *ℤ pos gd) (S * (fd * gd)) (fd * (D * vd)) (left-zero _ _ third) (left-zero _ _ (sym goal))))
     ∙ ap (λ (z : ℤ). (fn *ℤ (pos D *ℤ pos vd) +ℤ z) *ℤ pos gd) (mul_assoc_ℤ n vn (pos fd))
 
 pub cost-ratio : (x1 z1 : ℤ) (D S : ℕ) (cost value next : Fraction) (cx cz n dev : ℤ) → pos 0 <ℤ x1 → pos 0 <ℤ z1 → 0 < S

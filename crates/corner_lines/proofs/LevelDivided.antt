@@ -17,19 +17,17 @@ use Rattle.problem_core.proofs.Forms.{each-impl, each-both, mul-sum}
 use Rattle.corner_laws.specs.Units.{over_share, under_share}
 use Rattle.corner_laws.proofs.Counting.{IsIn-from_is_place, is_place-from_IsIn}
 use Rattle.corner_laws.proofs.Directions.{each-of}
-use Rattle.corner_laws.proofs.LinePlaces.{sum-each}
 use Rattle.corner_laws.proofs.ZeroColumns.{not-in}
 use Rattle.corner_lines.specs.LineEquations.{IsOutsideLine}
-use Rattle.corner_lines.proofs.LineSums.{mul-opp}
 use Rattle.corner_lines.specs.LevelRows.{DividedRowIsRow, IsDividedRow, IsLevelMultiple}
+use Rattle.problem_core.proofs.Conflicts.{sum-each}
+use Rattle.corner_laws.proofs.ExchangedLevels.{mul-opp}
+use Rattle.corner_laws.proofs.LevelExists.{quotient}
 
 -- ---- a quotient of a whole number
 
-abbrev pub quotient : ℕ → ℤ → ℤ
-quotient g (pos n) = pos (n / g)
-quotient g (negsuc n) = neg_ℤ (pos (suc n / g))
-
 pub quotient-pos : (g m : ℕ) → 0 < g → quotient g (pos (g * m)) ≡ pos m
+unfolding quotient
 quotient-pos g m above = ap pos (mul-div_cancel_left m above)
 
 negative-of : (n m : ℕ) → n ≡ suc m → neg_ℤ (pos n) ≡ negsuc m
@@ -40,6 +38,7 @@ size-above zero m above = absurd (omega (arith, above))
 size-above (suc g) m above = (m + g * suc m, omega arith)
 
 quotient-neg : (g m : ℕ) → 0 < g → quotient g (neg_ℤ (pos (g * m))) ≡ neg_ℤ (pos m)
+unfolding quotient
 quotient-neg g zero above = let e : g * 0 ≡ 0 = omega arith in ap (λ (n : ℕ). quotient g (neg_ℤ (pos n))) e ∙ ap pos (let h : 0 / g ≡ 0 = omega arith in h)
 quotient-neg g (suc m) above =
     let k = size-above g m above in

@@ -24,6 +24,7 @@ use Rattle.corner_lines.specs.LevelRows.{HasLevelRow}
 use Rattle.corner_lines.specs.Fronts.{AreLevelRows, IsFront, costs_of}
 use Rattle.corner_lines.specs.LevelExamples.{SingleHasFront, SingleIsUnfit, SumIsUnfit, below_two, single_rows, stay_falls, whole_number}
 use Rattle.corner_lines.proofs.LevelJoins.{free-number, one-divides}
+use Rattle.corner_laws.proofs.LevelFits.{times_there, cancelled}
 
 row-line : Line
 row-line = line_of_row (at_least 2)
@@ -35,10 +36,6 @@ both : (P : Line → Type 0) → P (line_of_row (at_least 2)) → P (line_of_sta
 both P r s = All-from_recursion P (lines (single 2)) (r, (s, tt))
 
 -- ---- the rows of the levels
-
-required-by : RowName → ℤ
-required-by (Held id) = pos 1
-required-by (StayOf attr) = negsuc 0
 
 unit-one : (level : ℕ) → IsLevelUnit (single 2) level 1
 unit-one level = record {
@@ -59,24 +56,20 @@ no-row-over = not-in below_two (place_of (Held 1) Over) refl
 row-in : IsIn (place_of (Held 1) Under) below_two
 row-in = IsIn-from_is_place (place_of (Held 1) Under) below_two refl
 
-opposite-sum : (c : ℤ) → pos 1 *ℤ c +ℤ (negsuc 0 *ℤ c +ℤ pos 0) ≡ pos 0
-opposite-sum c = omega (arith, ints)
-
 no-sum : (c : ℤ) → pos 0 *ℤ c +ℤ (pos 0 *ℤ c +ℤ pos 0) ≡ pos 0
 no-sum c = let h = zero-mul_ℤ c in omega (arith, ints, h)
 
 required-row : HasLevelRow (single 2) below_two 0 1 1 (λ name. cond (nat_eq 0 0) (stay_falls name) (pos 0))
-unfolding required-by
 required-row = record {
-  by = required-by;
+  by = times_there;
   row = record {
     own_positive = omega arith;
-    cancel = λ v. opposite-sum (cond (nat_eq 1 v) (pos 1) (pos 0) +ℤ pos 0);
-    under = both (λ l. IsIn (place_of l.name Under) below_two → required-by l.name ≡ pos (1 * under_share 1 0 l)) (λ i. refl) (λ i. absurd (no-stay-under i));
-    over = both (λ l. IsIn (place_of l.name Over) below_two → required-by l.name ≡ neg_ℤ (pos (1 * over_share 1 0 l))) (λ i. absurd (no-row-over i)) (λ i. absurd (no-stay-over i));
+    cancel = λ v. cancelled (cond (nat_eq 1 v) (pos 1) (pos 0) +ℤ pos 0);
+    under = both (λ l. IsIn (place_of l.name Under) below_two → times_there l.name ≡ pos (1 * under_share 1 0 l)) (λ i. refl) (λ i. absurd (no-stay-under i));
+    over = both (λ l. IsIn (place_of l.name Over) below_two → times_there l.name ≡ neg_ℤ (pos (1 * over_share 1 0 l))) (λ i. absurd (no-row-over i)) (λ i. absurd (no-stay-over i));
     lowest = λ k d each. one-divides k d;
   };
-  outside = both (λ l. IsOutsideLine below_two l.name → required-by l.name ≡ stay_falls l.name) (λ o. absurd (o.under row-in)) (λ o. refl);
+  outside = both (λ l. IsOutsideLine below_two l.name → times_there l.name ≡ stay_falls l.name) (λ o. absurd (o.under row-in)) (λ o. refl);
 }
 
 empty-row : (n : ℕ) → HasLevelRow (single 2) below_two (suc n) 1 1 (λ name. cond (nat_eq (suc n) 0) (stay_falls name) (pos 0))

@@ -13,28 +13,23 @@ use Rattle.problem_core.specs.declared.parts.Mark.{Mark}
 use Rattle.problem_core.specs.declared.parts.Side.{Side}
 use Rattle.problem_core.specs.declared.parts.Side.TheVariants.{Under, Over}
 use Rattle.problem_core.specs.declared.parts.RowName.{RowName}
-use Rattle.problem_core.specs.Layout.{Line, Problem, lines, stay_lines}
+use Rattle.problem_core.specs.Layout.{Line, Problem, lines}
 use Rattle.problem_core.specs.Kept.{IsWhole}
 use Rattle.problem_core.specs.Corners.{IsCorner, IsExchange, IsIn, Swap, exchanged, place, place_of}
 use Rattle.problem_core.proofs.Forms.{each-impl, each-both}
 use Rattle.corner_laws.specs.Units.{IsLevelRow, over_share, under_share}
-use Rattle.corner_laws.proofs.Counting.{IsSmall, one_mark, over_next, rows_small, sides_apart, stays_small}
+use Rattle.corner_laws.proofs.Counting.{IsSmall, one_mark, sides_apart}
 use Rattle.corner_laws.proofs.Directions.{each-of}
 use Rattle.corner_laws.proofs.Exchanged.{exchanged_in}
 use Rattle.corner_laws.proofs.Rays.{kept_in}
 use Rattle.corner_laws.proofs.Unique.{same-name}
-use Rattle.corner_lines.proofs.LineSums.{both-cancel, mul-opp}
+use Rattle.corner_lines.proofs.LineSums.{both-cancel}
 use Rattle.corner_lines.proofs.LevelDivided.{divided-same, divided_row_is_row}
 use Rattle.corner_lines.specs.LineEquations.{IsOutsideLine}
 use Rattle.corner_lines.specs.LevelRows.{AreFactors, ExchangedRowIsMultiple, ExchangedRowIsRow, HasLevelRow, IsEnteringNumber, IsTurningNumber, IsLevelMultiple, IsPivot, TurnedRowIsMultiple, TurnedRowIsRow, UntouchedRowStays, exchanged_sum, inside_number, sum_by}
-
--- ---- names
-
-pub same-over : (a b : RowName) → place_of a Over ≡ place_of b Over → a ≡ b
-same-over a b e = same-name a b (let m = over_next a in let n = over_next b in omega (arith, e, m, n))
-
-pub all-small : (p : Problem) → IsWhole p → Each (λ l. IsSmall l.name) (lines p)
-all-small p whole = rows_small p.rows (stay_lines 1001 p.stays) (recursion_from_All _ _ whole.rows) (stays_small 1001 p.stays (recursion_from_All _ _ whole.stays))
+use Rattle.corner_laws.proofs.ExchangedLevels.{mul-opp}
+use Rattle.corner_laws.proofs.StayLevels.{same-over}
+use Rattle.corner_lines.proofs.LineWritings.{all-small}
 
 -- ---- numbers
 
@@ -192,7 +187,7 @@ exchanged_has s [] (k, within, is) = absurd (omega (arith, within))
 exchanged_has s (m ∷ ms) (zero, within, is) = (0, omega arith, ap (λ b. place (cond b s.enter m)) (eq-eqb (place m) (place s.leave) is))
 exchanged_has s (m ∷ ms) (suc k, within, is) = let r = exchanged_has s ms (k, omega (arith, within), is) in (suc r.0, omega (arith, r.1), r.2)
 
-at-side : (side : Side) (marks : List Mark) (name : RowName) → IsOutsideLine marks name → IsIn (place_of name side) marks → ⊥
+pub at-side : (side : Side) (marks : List Mark) (name : RowName) → IsOutsideLine marks name → IsIn (place_of name side) marks → ⊥
 at-side Under marks name out i = out.under i
 at-side Over marks name out i = out.over i
 
@@ -256,7 +251,7 @@ same-sum number pivot leave name none =
     ]
 
 -- a line outside before is outside after, or it enters
-left-outside : (s : Swap) (at : List Mark) (name : RowName) → IsOutsideLine at name → name ≢ s.enter.row → IsOutsideLine (exchanged s at) name
+pub left-outside : (s : Swap) (at : List Mark) (name : RowName) → IsOutsideLine at name → name ≢ s.enter.row → IsOutsideLine (exchanged s at) name
 left-outside s at name out ne = record {
   under = λ i. elim (exchanged_in s at (place_of name Under) i) [
     | inl e ↦ ne (by-sides name s.enter.row Under s.enter.side e).0

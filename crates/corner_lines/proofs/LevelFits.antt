@@ -9,7 +9,7 @@ use Rattle.std.proofs.Math.Nat.{dvd-mul_right, mul-div_cancel', mul-dvd-mul_righ
 use Rattle.std.proofs.lemmas.List.Elements.{All-from_recursion, recursion_from_All}
 use borrow.Author.Differences.{ints}
 use Rattle.frac_core.specs.Fraction.{Fits, IsFitting}
-use Rattle.frac_core.proofs.Gauss.{Reduces, gauss, reduces, scaled}
+use Rattle.frac_core.proofs.Gauss.{Reduces, reduces, scaled}
 use Rattle.problem_core.specs.declared.parts.Mark.{Mark}
 use Rattle.problem_core.specs.declared.parts.Rel.{Rel}
 use Rattle.problem_core.specs.declared.parts.Rel.TheVariants.{Eq, Le, Ge}
@@ -24,8 +24,8 @@ use Rattle.problem_core.specs.Levels.{AreFitting, IsLevelWriting}
 use Rattle.problem_core.proofs.CornerFacts.{is_place}
 use Rattle.problem_core.proofs.Forms.{each-impl, each-both}
 use Rattle.corner_laws.specs.Units.{IsLevelRow, IsLevelUnit, IsReducedBy, over_share, under_share}
-use Rattle.corner_laws.proofs.Counting.{IsIn-from_is_place, over_next, sides_apart}
-use Rattle.corner_laws.proofs.Equal.{all_same, cancel-left, writing-sum}
+use Rattle.corner_laws.proofs.Counting.{IsIn-from_is_place, sides_apart}
+use Rattle.corner_laws.proofs.Equal.{all_same, cancel-left, writing-sum, sizes, share-divides}
 use Rattle.corner_laws.proofs.Equations.{cancel-number}
 use Rattle.corner_laws.proofs.LevelNumbers.{level_numbers}
 use Rattle.corner_laws.proofs.LevelSizes.{level_fits}
@@ -37,10 +37,12 @@ use Rattle.corner_lines.specs.LevelCosts.{AreDifferent, IsSound}
 use Rattle.problem_core.specs.declared.limits.TheConstants.{WEIGHT_LIMIT}
 use Rattle.corner_lines.specs.LevelFits.{FittingRowHasWriting, SmallRowFits, UnfitMultipleHasNoWriting, UnfitRowHasNoWriting}
 use Rattle.corner_laws.specs.LevelLaws.{small_number, small_scale}
-use Rattle.corner_lines.proofs.LevelDivided.{divided-same, divided_row_is_row, outside-false, quotient}
-use Rattle.corner_lines.proofs.LineSums.{mul-opp}
+use Rattle.corner_lines.proofs.LevelDivided.{divided-same, divided_row_is_row, outside-false}
 use Rattle.corner_lines.proofs.LevelExchanges.{inside-numbers}
 use Rattle.corner_lines.proofs.LevelPlaces.{cost_same}
+use Rattle.corner_laws.proofs.ExchangedLevels.{mul-opp}
+use Rattle.corner_laws.proofs.StayLevels.{same-over}
+use Rattle.corner_laws.proofs.LevelExists.{quotient}
 
 -- ---- a function of columns with given numbers at the lines' marks
 
@@ -60,9 +62,6 @@ further : (f : Side → Line → ℤ) (l : Line) (ls : List Line) (c : ℕ) → 
 further f l ls c n m =
     ap (λ (b : Bool). cond b (f Under l) (cond (nat_eq (place_of l.name Over) c) (f Over l) (look_up f ls c))) (ne_eqb (place_of l.name Under) c n)
     ∙ ap (λ (b : Bool). cond b (f Over l) (look_up f ls c)) (ne_eqb (place_of l.name Over) c m)
-
-same-over : (a b : RowName) → place_of a Over ≡ place_of b Over → a ≡ b
-same-over a b e = same-name a b (let m = over_next a in let n = over_next b in omega (arith, e, m, n))
 
 back-names : (n : RowName) (ls : List Line) → Each (λ m. n ≢ m) (map (λ (l : Line). l.name) ls) → Each (λ l. n ≢ l.name) ls
 back-names n [] h = tt
@@ -102,7 +101,7 @@ row-writing p at level unit own by sound is row = level_numbers p at level unit 
 
 -- ---- a writing that fits
 
-record Fitting (p : Problem) (at : List Mark) (level unit own : ℕ) (by number : RowName → ℤ) (l : Line) : Type 0 where
+pub record Fitting (p : Problem) (at : List Mark) (level unit own : ℕ) (by number : RowName → ℤ) (l : Line) : Type 0 where
   under_is : reduced_by p level unit own by (place_of l.name Under) ≡ reduced_number Under level unit own (by l.name) l
   over_is : reduced_by p level unit own by (place_of l.name Over) ≡ reduced_number Over level unit own (by l.name) l
   inside : (side : Side) → IsIn (place_of l.name side) at → by l.name ≡ inside_number side level unit own l
@@ -110,10 +109,10 @@ record Fitting (p : Problem) (at : List Mark) (level unit own : ℕ) (by number 
   own_fit : l.level ≡ level → IsOutsideLine at l.name → (side : Side) → IsFitting (reduced_number side level unit own (number l.name) l)
   inside_fit : l.level ≡ level → (side inside : Side) → IsIn (place_of l.name inside) at → IsFitting (reduced_number side level unit own (inside_number inside level unit own l) l)
 
-fit-of : (side : Side) (level unit own : ℕ) (y z : ℤ) (l : Line) → y ≡ z → IsFitting (reduced_number side level unit own z l) → IsFitting (reduced_number side level unit own y l)
+pub fit-of : (side : Side) (level unit own : ℕ) (y z : ℤ) (l : Line) → y ≡ z → IsFitting (reduced_number side level unit own z l) → IsFitting (reduced_number side level unit own y l)
 fit-of side level unit own y z l e h = subst (λ (t : ℤ). IsFitting (reduced_number side level unit own t l)) (sym e) h
 
-reduced-fits : (p : Problem) (at : List Mark) (level unit own : ℕ) (by number : RowName → ℤ) (l : Line) → Fitting p at level unit own by number l → l.level ≡ level → (side : Side) → IsFitting (reduced_number side level unit own (by l.name) l)
+pub reduced-fits : (p : Problem) (at : List Mark) (level unit own : ℕ) (by number : RowName → ℤ) (l : Line) → Fitting p at level unit own by number l → l.level ≡ level → (side : Side) → IsFitting (reduced_number side level unit own (by l.name) l)
 reduced-fits p at level unit own by number l f e side =
     elim (cases_Bool (is_place at (place_of l.name Under))) [
       | inl i ↦ let here = IsIn-from_is_place (place_of l.name Under) at i in fit-of side level unit own (by l.name) (inside_number Under level unit own l) l (f.inside Under here) (f.inside_fit e side Under here)
@@ -150,18 +149,6 @@ fitting_row_has_writing p at level unit own number cost there fit costs none =
     none (own * unit) by reduced cost (row-writing p at level unit own by there.sound there.unit_is there.row.row) there.cost_is fits (record { lowest = there.lowest; fits = costs })
 
 -- ---- the numbers of two writings
-
-sizes : (s t : ℕ) (y z : ℤ) → pos s *ℤ z ≡ pos t *ℤ y → s * unsigned_abs z ≡ t * unsigned_abs y
-sizes s t y z e = sym (unsigned_abs-mul (pos s) z) ∙ ap unsigned_abs e ∙ unsigned_abs-mul (pos t) y
-
-regroup : (a g x b y : ℕ) → (a * g) * x ≡ (b * g) * y → g * (a * x) ≡ g * (b * y)
-regroup a g x b y e = omega (arith, e)
-
-share-divides : (s t g y z : ℕ) → Reduces t s g → s * z ≡ t * y → (s / g) ∣ y
-share-divides s t g y z r e =
-    let parts : ((s / g) * g) * z ≡ ((t / g) * g) * y = ap (λ (n : ℕ). n * z) r.den_is ∙ e ∙ sym (ap (λ (n : ℕ). n * y) r.num_is) in
-    let same : (s / g) * z ≡ (t / g) * y = cancel-left g ((s / g) * z) ((t / g) * y) r.g_above (regroup (s / g) g z (t / g) y parts) in
-    gauss (t / g) (s / g) y r.apart (subst (λ (n : ℕ). (s / g) ∣ n) same (dvd-mul_right (s / g) z))
 
 divides-other : (p : Problem) (at : List Mark) (k s t : ℕ) (y z : RowName → ℤ) (r q : ℕ → ℤ) → IsProblem p → HasRays p at → IsLevelWriting p at k s y r → IsLevelWriting p at k t z q → s ∣ t
 divides-other p at k s t y z r q problem rays f g =
@@ -279,6 +266,7 @@ outer-divides at by l k h =
     ]
 
 quotient-times : (g : ℕ) (z : ℤ) → g ∣ unsigned_abs z → pos g *ℤ quotient g z ≡ z
+unfolding quotient
 quotient-times g (pos n) d = ap pos (mul-div_cancel' g d)
 quotient-times g (negsuc n) d = mul-opp (pos g) (pos (suc n / g)) ∙ ap (λ (m : ℕ). neg_ℤ (pos m)) (mul-div_cancel' g d)
 
@@ -369,9 +357,6 @@ own-most own unit u le small =
 
 below-plus : (a : ℕ) (y : ℤ) → a < 2 ^ 40 → unsigned_abs y < small_number → (unsigned_abs (pos a -ℤ y) < 2 ^ 42) × (unsigned_abs (pos a +ℤ y) < 2 ^ 42)
 below-plus a y h k = (omega (arith, ints, h, k), omega (arith, ints, h, k))
-
-plus-below : (a b : ℕ) → a < 2 ^ 40 → b < 2 ^ 40 → (unsigned_abs (pos a -ℤ pos b) < 2 ^ 42) × (unsigned_abs (pos a +ℤ pos b) < 2 ^ 42)
-plus-below a b h k = (omega (arith, ints, h, k), omega (arith, ints, h, k))
 
 small-neg : (b : ℕ) → b < 2 ^ 40 → unsigned_abs (neg_ℤ (pos b)) < small_number
 small-neg b h = omega (arith, ints, h)

@@ -3,13 +3,10 @@ use Rattle.std.proofs.Common.{◌≡◌, ◌≢◌, ◌∙◌, ◌⊎◌, ℕ, �
 use Rattle.std.specs.List.{AllByRecursion as Each}
 use Rattle.std.specs.Int.{◌∣◌}
 use Rattle.std.proofs.lemmas.Bool.{cases_eq, cases_Bool}
-use Rattle.std.proofs.Math.Nat.{mul-div_cancel, mul-div_cancel'}
 use Rattle.std.proofs.lemmas.List.Elements.{All-from_recursion, recursion_from_All}
 use borrow.Author.Differences.{ints}
 use Rattle.frac_core.proofs.Integers.{add-zero_ℤ, mul-add_left, mul-zero_ℤ, mul_assoc_ℤ, mul_left_comm_ℤ, zero-mul_ℤ}
 use Rattle.problem_core.specs.declared.parts.Mark.{Mark}
-use Rattle.problem_core.specs.declared.parts.Rel.{Rel}
-use Rattle.problem_core.specs.declared.parts.Rel.TheVariants.{Eq, Le, Ge}
 use Rattle.problem_core.specs.declared.parts.Side.{Side}
 use Rattle.problem_core.specs.declared.parts.Side.TheVariants.{Under, Over}
 use Rattle.problem_core.specs.declared.parts.RowName.{RowName}
@@ -26,21 +23,23 @@ use Rattle.corner_laws.proofs.ColumnsStay.{each_marks}
 use Rattle.corner_laws.proofs.Counting.{cond_other, cond_same}
 use Rattle.corner_laws.proofs.Exchanged.{neg-times}
 use Rattle.corner_laws.proofs.Gaps.{shares}
-use Rattle.corner_laws.proofs.LevelSizes.{over-zero, under-zero}
-use Rattle.corner_laws.proofs.LinePlaces.{sum-each}
 use Rattle.corner_laws.proofs.Unique.{same-name}
 use Rattle.corner_laws.proofs.WrittenValues.{nothing_outside}
-use Rattle.corner_laws.proofs.ZeroColumns.{here-in, scales-above}
+use Rattle.corner_laws.proofs.ZeroColumns.{here-in, scales-above, over-none, under-none}
 use Rattle.corner_lines.specs.LineEquations.{deviation}
 use Rattle.corner_lines.specs.LevelRows.{inside_number}
 use Rattle.corner_lines.specs.LevelJoins.{AreLinesBefore, IsJoiningNumber, level_count, weightless}
 use Rattle.corner_lines.specs.LevelCosts.{AreDifferent, IsSound, JoinedCostIsCost, JoiningRowsCostNothing, LeftCostIsCost, UnfitJoinedCost}
-use Rattle.corner_lines.proofs.LineSums.{mul-opp}
 use Rattle.corner_lines.proofs.LevelCosts.{cost-ratio, cost-step, over-not}
 use Rattle.corner_lines.proofs.LevelJoins.{any-other, each-after, not-weight-back, weightless-none}
 use Rattle.corner_lines.proofs.LevelPlaces.{cost_everywhere}
-use Rattle.corner_lines.proofs.LevelRests.{each-fewer, lightened_append, marks-each, sum-more}
+use Rattle.corner_lines.proofs.LevelRests.{each-fewer, lightened_append, sum-more}
 use Rattle.corner_lines.proofs.LevelSound.{first-seen, same-stands}
+use Rattle.problem_core.proofs.Conflicts.{sum-each}
+use Rattle.corner_laws.proofs.ExchangedLevels.{mul-opp}
+use Rattle.corner_laws.proofs.Ends.{both_marks}
+use Rattle.corner_laws.proofs.LevelNumbers.{under-whole, over-whole}
+use Rattle.corner_laws.proofs.LevelLifts.{quotient}
 
 -- ---- a list with one weight more
 
@@ -90,24 +89,11 @@ one-named name v g (l ∷ ls) d h =
 
 -- ---- the line's cost
 
-under-whole : (rel : Rel) (k m w : ℕ) → k ∣ m * w → k * under_weight rel (m * w / k) ≡ m * under_weight rel w
-under-whole Eq k m w d = mul-div_cancel' k d
-under-whole Ge k m w d = mul-div_cancel' k d
-under-whole Le k m w d = omega arith
-
-over-whole : (rel : Rel) (k m w : ℕ) → k ∣ m * w → k * over_weight rel (m * w / k) ≡ m * over_weight rel w
-over-whole Eq k m w d = mul-div_cancel' k d
-over-whole Ge k m w d = omega arith
-over-whole Le k m w d = mul-div_cancel' k d
-
 -- unit * (q * (w * u)) = whole * (share * u)
 part-share : (q k whole unit w s : ℕ) (u : ℤ) → q * k ≡ whole → k * s ≡ unit * w → pos unit *ℤ (pos q *ℤ (pos w *ℤ u)) ≡ pos whole *ℤ (pos s *ℤ u)
 part-share q k whole unit w s u e f =
     let a : unit * (q * w) ≡ whole * s = (let g : q * (k * s) ≡ q * (unit * w) = ap (λ (n : ℕ). q * n) f in let h : q * k * s ≡ whole * s = ap (λ (n : ℕ). n * s) e in omega (arith, g, h)) in
     ap (λ (z : ℤ). pos unit *ℤ z) (sym (mul_assoc_ℤ (pos q) (pos w) u)) ∙ sym (mul_assoc_ℤ (pos unit) (pos (q * w)) u) ∙ ap (λ (n : ℕ). pos n *ℤ u) a ∙ mul_assoc_ℤ (pos whole) (pos s) u
-
-dev-over : (q w : ℕ) (n u o : ℤ) (s : ℕ) → n ≡ neg_ℤ (neg_ℤ (pos (1 * s))) → u ≡ pos 0 → pos s *ℤ u +ℤ pos w *ℤ o ≡ pos w *ℤ o
-dev-over q w n u o s e z = let h : pos s *ℤ u ≡ pos 0 = ap (λ (t : ℤ). pos s *ℤ t) z ∙ mul-zero_ℤ (pos s) in omega (arith, ints, h)
 
 -- both marks' shares, as n times the deviation
 shares-dev : (side : Side) (level unit : ℕ) (l : Line) (n : ℤ) (x : ℕ → ℤ) → n ≡ neg_ℤ (inside_number side level unit 1 l) → ((other : Side) → other ≢ side → x (place_of l.name other) ≡ pos 0)
@@ -147,8 +133,8 @@ cond-times false k v = sym (mul-zero_ℤ k)
 
 free-part : (q level : ℕ) (x : ℕ → ℤ) (m : Line) → pos q *ℤ line_cost level x (weightless m) ≡ pos 0
 free-part q level x m =
-    let u : under_weight m.rel (weight_at (weightless m) level) ≡ 0 = ap (under_weight m.rel) (weightless-none level m) ∙ under-zero m.rel in
-    let o : over_weight m.rel (weight_at (weightless m) level) ≡ 0 = ap (over_weight m.rel) (weightless-none level m) ∙ over-zero m.rel in
+    let u : under_weight m.rel (weight_at (weightless m) level) ≡ 0 = ap (under_weight m.rel) (weightless-none level m) ∙ under-none m.rel in
+    let o : over_weight m.rel (weight_at (weightless m) level) ≡ 0 = ap (over_weight m.rel) (weightless-none level m) ∙ over-none m.rel in
     ap (λ (z : ℤ). pos q *ℤ z)
     (ap₂ ◌+ℤ◌ (ap (λ (w : ℕ). pos w *ℤ x (place_of m.name Under)) u ∙ zero-mul_ℤ (x (place_of m.name Under))) (ap (λ (w : ℕ). pos w *ℤ x (place_of m.name Over)) o ∙ zero-mul_ℤ (x (place_of m.name Over))))
     ∙ mul-zero_ℤ (pos q)
@@ -206,7 +192,7 @@ before-stands p q at name x before h = (
     both =
         each-after name (λ l. ((IsIn (place_of l.name Under) at → ⊥) → x.num (place_of l.name Under) ≡ pos 0) × ((IsIn (place_of l.name Over) at → ⊥) → x.num (place_of l.name Over) ≡ pos 0)) (λ l. ((IsIn (place_of l.name Under) at → ⊥) → x.num (place_of l.name Under) ≡ pos 0) × ((IsIn (place_of l.name Over) at → ⊥) → x.num (place_of l.name Over) ≡ pos 0)) (lines p) (lines q)
         (λ l m b e. not-weight-back name (λ l. ((IsIn (place_of l.name Under) at → ⊥) → x.num (place_of l.name Under) ≡ pos 0) × ((IsIn (place_of l.name Over) at → ⊥) → x.num (place_of l.name Over) ≡ pos 0)) l m (λ t. t) b e) before
-        (marks-each (λ c. (IsIn c at → ⊥) → x.num c ≡ pos 0) (lines q) (recursion_from_All _ (marks_of (lines q)) h.1))
+        (both_marks (λ c. (IsIn c at → ⊥) → x.num c ≡ pos 0) (lines q) (recursion_from_All _ (marks_of (lines q)) h.1))
 
 pub joined_cost_is_cost : JoinedCostIsCost
 joined_cost_is_cost p q at level unit own number name side size line n cost value next sound corner join some is joins c (z, there, f) st = (
@@ -258,16 +244,10 @@ product-more [] [] ls = omega arith
 product-more [] (r ∷ more) ls = let e : r.scale * product_of (λ l. l.scale) (map line_of_row more ++ ls) ≡ r.scale * (product_of (λ (r : Row). r.scale) more * product_of (λ l. l.scale) ls) = ap (λ (n : ℕ). r.scale * n) (product-more [] more ls) in omega (arith, e)
 product-more (s ∷ rows) more ls = let e : s.scale * product_of (λ l. l.scale) (map line_of_row (rows ++ more) ++ ls) ≡ s.scale * (product_of (λ (r : Row). r.scale) more * product_of (λ l. l.scale) (map line_of_row rows ++ ls)) = ap (λ (n : ℕ). s.scale * n) (product-more rows more ls) in omega (arith, e)
 
-quotient-more : (whole part k d : ℕ) → 0 < d → whole / d * d ≡ whole → part ≡ k * whole → part / d ≡ k * (whole / d)
-quotient-more whole part k d above e f =
-    let g : k * (whole / d * d) ≡ k * whole = ap (λ (n : ℕ). k * n) e in
-    let h : part ≡ (k * (whole / d)) * d = omega (arith, f, g) in
-    ap (λ (n : ℕ). n / d) h ∙ mul-div_cancel (k * (whole / d)) above
-
-free-cost : (q level : ℕ) (x : ℕ → ℤ) (l : Line) → weight_at l level ≡ 0 → pos q *ℤ line_cost level x l ≡ pos 0
+pub free-cost : (q level : ℕ) (x : ℕ → ℤ) (l : Line) → weight_at l level ≡ 0 → pos q *ℤ line_cost level x l ≡ pos 0
 free-cost q level x l e =
-    let u : under_weight l.rel (weight_at l level) ≡ 0 = ap (under_weight l.rel) e ∙ under-zero l.rel in
-    let o : over_weight l.rel (weight_at l level) ≡ 0 = ap (over_weight l.rel) e ∙ over-zero l.rel in
+    let u : under_weight l.rel (weight_at l level) ≡ 0 = ap (under_weight l.rel) e ∙ under-none l.rel in
+    let o : over_weight l.rel (weight_at l level) ≡ 0 = ap (over_weight l.rel) e ∙ over-none l.rel in
     ap (λ (z : ℤ). pos q *ℤ z)
     (ap₂ ◌+ℤ◌ (ap (λ (w : ℕ). pos w *ℤ x (place_of l.name Under)) u ∙ zero-mul_ℤ (x (place_of l.name Under))) (ap (λ (w : ℕ). pos w *ℤ x (place_of l.name Over)) o ∙ zero-mul_ℤ (x (place_of l.name Over))))
     ∙ mul-zero_ℤ (pos q)
@@ -279,7 +259,7 @@ more-cost p more level x problem free =
     sum-more (λ l. pos (scales q / l.scale) *ℤ line_cost level x l) p.rows more (stay_lines 1001 p.stays) (each-impl (λ r. weight_at (line_of_row r) level ≡ 0) _ more (λ r e. free-cost (scales q / r.scale) level x (line_of_row r) e) free)
     ∙ sum-each (λ l. pos (scales q / l.scale) *ℤ line_cost level x l) (λ l. pos (product_of (λ (r : Row). r.scale) more) *ℤ (pos (scales p / l.scale) *ℤ line_cost level x l)) (lines p)
     (each-impl (λ l. ((0 < l.scale) × (0 < l.den)) × (scales p / l.scale * l.scale ≡ scales p)) _ (lines p)
-    (λ l h. ap (λ (n : ℕ). pos n *ℤ line_cost level x l) (quotient-more (scales p) (scales q) (product_of (λ (r : Row). r.scale) more) l.scale h.0.0 h.1 (product-more p.rows more (stay_lines 1001 p.stays))) ∙ mul_assoc_ℤ (pos (product_of (λ (r : Row). r.scale) more)) (pos (scales p / l.scale)) (line_cost level x l))
+    (λ l h. ap (λ (n : ℕ). pos n *ℤ line_cost level x l) (quotient (scales p) (scales q) (product_of (λ (r : Row). r.scale) more) l.scale h.0.0 h.1 (product-more p.rows more (stay_lines 1001 p.stays))) ∙ mul_assoc_ℤ (pos (product_of (λ (r : Row). r.scale) more)) (pos (scales p / l.scale)) (line_cost level x l))
     (each-both _ _ (lines p) (recursion_from_All _ (lines p) problem) (shares p problem)))
     ∙ mul-sum (pos (product_of (λ (r : Row). r.scale) more)) (λ l. pos (scales p / l.scale) *ℤ line_cost level x l) (lines p)
 
@@ -314,7 +294,7 @@ fewer-stand p more at joined x are h = (
     both : Each (λ l. ((IsIn (place_of l.name Under) joined → ⊥) → x.num (place_of l.name Under) ≡ pos 0) × ((IsIn (place_of l.name Over) joined → ⊥) → x.num (place_of l.name Over) ≡ pos 0)) (lines p)
     both =
         each-fewer (λ l. ((IsIn (place_of l.name Under) joined → ⊥) → x.num (place_of l.name Under) ≡ pos 0) × ((IsIn (place_of l.name Over) joined → ⊥) → x.num (place_of l.name Over) ≡ pos 0)) p.rows more (stay_lines 1001 p.stays)
-        (marks-each (λ c. (IsIn c joined → ⊥) → x.num c ≡ pos 0) (lines (with_rows more p)) (recursion_from_All _ (marks_of (lines (with_rows more p))) h.1))
+        (both_marks (λ c. (IsIn c joined → ⊥) → x.num c ≡ pos 0) (lines (with_rows more p)) (recursion_from_All _ (marks_of (lines (with_rows more p))) h.1))
 
 pub joining_rows_cost_nothing : JoiningRowsCostNothing
 joining_rows_cost_nothing p rest at joined level cost whole corner with_rest are c =

@@ -1,15 +1,15 @@
 -- How a row joins the row of its level.
-use Rattle.std.proofs.Common.{◌≡◌, ◌≢◌, ◌⊎◌, ◌∙◌, ℕ, zero, suc, ◌*◌, ◌/◌, ◌<◌, Bool, true, false, cond, nat_eq, List, [], ◌∷◌, ℤ, pos, ◌+ℤ◌, ◌-ℤ◌, ◌*ℤ◌, neg_ℤ, unsigned_abs, refl, sym, ap, ap₂, subst, arith, inl, inr, All, Any, mul-pos, mul-zero}
+use Rattle.std.proofs.Common.{◌≡◌, ◌≢◌, ◌⊎◌, ◌∙◌, ℕ, zero, suc, ◌*◌, ◌/◌, ◌<◌, nat_eq, List, [], ◌∷◌, ℤ, pos, ◌+ℤ◌, ◌-ℤ◌, ◌*ℤ◌, neg_ℤ, unsigned_abs, refl, sym, ap, ap₂, subst, arith, inl, inr, All, Any, mul-pos, mul-zero}
 use Rattle.std.specs.List.{AllByRecursion as Each}
 use Rattle.std.specs.Int.{◌∣◌, IsGcd}
 use Rattle.std.proofs.lemmas.Bool.{cases_eq}
 use Rattle.std.proofs.lemmas.Int.{unsigned_abs-mul}
 use Rattle.std.proofs.lemmas.Nat.Gcd.{IsGcd-swap, dvd-zero, dvd_trans}
-use Rattle.std.proofs.Math.Nat.{dvd-mul_right_of_dvd, dvd_of_mul-dvd-mul_right, mul-div_cancel, mul-div_cancel', mul-dvd-mul_right, one-dvd, zero-div}
+use Rattle.std.proofs.Math.Nat.{dvd-mul_right_of_dvd, mul-div_cancel, mul-div_cancel', mul-dvd-mul_right, one-dvd, zero-div}
 use Rattle.std.proofs.lemmas.List.Elements.{All-from_recursion, recursion_from_All}
 use borrow.Author.Differences.{ints}
 use Rattle.frac_core.proofs.Gauss.{Reduces, gauss, reduces}
-use Rattle.frac_core.proofs.Integers.{mul_assoc_ℤ, mul-zero_ℤ, zero-mul_ℤ}
+use Rattle.frac_core.proofs.Integers.{zero-mul_ℤ}
 use Rattle.problem_core.specs.declared.parts.Mark.{Mark}
 use Rattle.problem_core.specs.declared.parts.Rel.{Rel}
 use Rattle.problem_core.specs.declared.parts.Rel.TheVariants.{Eq, Le, Ge}
@@ -21,16 +21,20 @@ use Rattle.problem_core.specs.Certificates.{under_weight, over_weight, weight_at
 use Rattle.problem_core.specs.Corners.{IsIn, place_of}
 use Rattle.problem_core.proofs.Forms.{each-impl, each-both, mul-sum, sum-cong}
 use Rattle.corner_laws.specs.Units.{over_share, under_share}
-use Rattle.corner_laws.proofs.LevelSizes.{under-zero, over-zero, no-share}
-use Rattle.corner_laws.proofs.LevelUnits.{own_weight}
+use Rattle.corner_laws.proofs.LevelSizes.{no-share}
+use Rattle.corner_laws.proofs.LevelUnits.{own_weight, grown, shrunk}
 use Rattle.corner_laws.proofs.Directions.{each-of}
 use Rattle.corner_laws.proofs.Unique.{same-name}
 use Rattle.corner_lines.specs.LineEquations.{IsOutsideLine}
 use Rattle.corner_lines.specs.LevelRows.{HasLevelRow, inside_number, sum_by}
 use Rattle.corner_lines.specs.LevelJoins.{AreLinesBefore, EmptyLevelHasRow, FreeRowChangesNothing, GrownRowIsRow, IsLineBefore, JoinedRowIsMultiple, JoinedRowIsRow, JoinedUnitIsUnit, weightless}
-use Rattle.corner_lines.proofs.LineSums.{both-cancel, mul-opp}
+use Rattle.corner_lines.proofs.LineSums.{both-cancel}
 use Rattle.corner_lines.proofs.LevelDivided.{divided-same, divided_row_is_row}
 use Rattle.corner_lines.proofs.LevelExchanges.{entered, inside-numbers, kept, pivot-zeros, times-inside}
+use Rattle.corner_laws.proofs.ExchangedLevels.{mul-opp}
+use Rattle.corner_laws.proofs.ZeroColumns.{under-none, over-none}
+use Rattle.corner_lines.proofs.LinePivots.{times-cancel}
+use Rattle.corner_laws.proofs.LevelLifts.{no-weight-left}
 
 -- ---- shares of lines without a weight
 
@@ -38,10 +42,10 @@ quotient-none : (unit k w : ℕ) → w ≡ 0 → unit * w / k ≡ 0
 quotient-none unit k w e = ap (λ (w : ℕ). unit * w / k) e ∙ ap (λ (n : ℕ). n / k) (mul-zero unit) ∙ zero-div k
 
 pub free-under : (unit level : ℕ) (l : Line) → weight_at l level ≡ 0 → under_share unit level l ≡ 0
-free-under unit level l e = ap (under_weight l.rel) (quotient-none unit l.scale (weight_at l level) e) ∙ under-zero l.rel
+free-under unit level l e = ap (under_weight l.rel) (quotient-none unit l.scale (weight_at l level) e) ∙ under-none l.rel
 
 pub free-over : (unit level : ℕ) (l : Line) → weight_at l level ≡ 0 → over_share unit level l ≡ 0
-free-over unit level l e = ap (over_weight l.rel) (quotient-none unit l.scale (weight_at l level) e) ∙ over-zero l.rel
+free-over unit level l e = ap (over_weight l.rel) (quotient-none unit l.scale (weight_at l level) e) ∙ over-none l.rel
 
 pub free-number : (side : Side) (level unit own : ℕ) (l : Line) → weight_at l level ≡ 0 → inside_number side level unit own l ≡ pos 0
 free-number Under level unit own l e = ap pos (no-share own (under_share unit level l) (free-under unit level l e))
@@ -120,11 +124,6 @@ grown-number-under t own g u w y r e h = ap (λ (z : ℤ). pos (t / g) *ℤ z) h
 grown-number-over : (t own g u w : ℕ) (y : ℤ) → Reduces t own g → w ≡ t * u → y ≡ neg_ℤ (pos (own * u)) → pos (t / g) *ℤ y ≡ neg_ℤ (pos (own / g * w))
 grown-number-over t own g u w y r e h = ap (λ (z : ℤ). pos (t / g) *ℤ z) h ∙ mul-opp (pos (t / g)) (pos (own * u)) ∙ ap (λ (n : ℕ). neg_ℤ (pos n)) (cross-share t own g u r) ∙ ap (λ (n : ℕ). neg_ℤ (pos (own / g * n))) (sym e)
 
-grown-cancel : (p : Problem) (k : ℤ) (y : RowName → ℤ) (v : ℕ) → sum_of (λ l. y l.name *ℤ coefficient v l.form) (lines p) ≡ pos 0 → sum_of (λ l. (k *ℤ y l.name) *ℤ coefficient v l.form) (lines p) ≡ pos 0
-grown-cancel p k y v h =
-    sum-cong (λ l. (k *ℤ y l.name) *ℤ coefficient v l.form) (λ l. k *ℤ (y l.name *ℤ coefficient v l.form)) (lines p) (λ l. mul_assoc_ℤ k (y l.name) (coefficient v l.form))
-    ∙ mul-sum k (λ l. y l.name *ℤ coefficient v l.form) (lines p) ∙ ap (λ (z : ℤ). k *ℤ z) h ∙ mul-zero_ℤ k
-
 -- what divides own/g and t/g times a number divides the number
 factor-left : (t own g k n : ℕ) → Reduces t own g → k ∣ own / g → k ∣ t / g * n → k ∣ n
 factor-left t own g k n r d e =
@@ -140,7 +139,7 @@ grown_row_is_row p at level unit own t g number problem is above gcd h =
       by = λ name. pos (t / g) *ℤ h.by name;
       row = record {
         own_positive = r.den_above;
-        cancel = λ v. grown-cancel p (pos (t / g)) h.by v (h.row.cancel v);
+        cancel = λ v. times-cancel p (pos (t / g)) h.by v (h.row.cancel v);
         under = All-from_recursion (λ l. IsIn (place_of l.name Under) at → pos (t / g) *ℤ h.by l.name ≡ pos (own / g * under_share (t * unit) level l)) (lines p)
             (each-impl (λ l. (((0 < l.scale) × (0 < l.den)) × (l.scale ∣ unit * weight_at l level)) × (IsIn (place_of l.name Under) at → h.by l.name ≡ pos (own * under_share unit level l))) _ (lines p)
             (λ l k i. grown-number-under t own g (under_share unit level l) (under_share (t * unit) level l) (h.by l.name) r (grown-under t unit level l k.0.0.0 k.0.1) (k.1 i))
@@ -180,33 +179,14 @@ sum-before name f g [] (m ∷ ms) e are = absurd are
 sum-before name f g (l ∷ ls) [] e are = absurd are
 sum-before name f g (l ∷ ls) (m ∷ ms) e are = ap₂ ◌+ℤ◌ (e l m are.0) (sum-before name f g ls ms e are.1)
 
--- a property that does not see the weight
-pub not-weight : (name : RowName) (P : Line → Type 0) (l m : Line) → (P (weightless m) → P m) → IsLineBefore name l m → P l → P m
-not-weight name P l m f (inl e) h = subst P e.0 h
-not-weight name P l m f (inr e) h = f (subst P e.0 h)
-
 pub not-weight-back : (name : RowName) (P : Line → Type 0) (l m : Line) → (P m → P (weightless m)) → IsLineBefore name l m → P m → P l
 not-weight-back name P l m f (inl e) h = subst P (sym e.0) h
 not-weight-back name P l m f (inr e) h = subst P (sym e.0) (f h)
 
-no-weight-there : (b : Bool) → cond {A = ℕ} b 0 0 ≡ 0
-no-weight-there true = refl
-no-weight-there false = refl
-
 pub weightless-none : (level : ℕ) (m : Line) → weight_at (weightless m) level ≡ 0
-weightless-none level m = no-weight-there (nat_eq m.level level)
+weightless-none level m = no-weight-left (nat_eq m.level level)
 
 -- ---- the unit
-
-grown : (n w k g : ℕ) → Reduces w k g → (k / g) ∣ n → k ∣ n * w
-grown n w k g r d =
-    let same : n * (w / g) * g ≡ n * w = let h : n * (w / g * g) ≡ n * w = ap (λ (m : ℕ). n * m) r.num_is in omega (arith, h) in
-    subst (λ (m : ℕ). k ∣ m) same (subst (λ (m : ℕ). m ∣ n * (w / g) * g) r.den_is (mul-dvd-mul_right (k / g) (dvd-mul_right_of_dvd (k / g) d (w / g)) g))
-
-shrunk : (n w k g : ℕ) → Reduces w k g → k ∣ n * w → (k / g) ∣ n
-shrunk n w k g r d =
-    let same : w / g * n * g ≡ n * w = let h : n * (w / g * g) ≡ n * w = ap (λ (m : ℕ). n * m) r.num_is in omega (arith, h) in
-    gauss (w / g) (k / g) n r.apart (dvd_of_mul-dvd-mul_right (k / g) r.g_above (subst (λ (m : ℕ). m ∣ w / g * n * g) (sym r.den_is) (subst (λ (m : ℕ). k ∣ m) (sym same) d)))
 
 times-more : (k unit w next : ℕ) → k ∣ unit * w → unit ∣ next → k ∣ next * w
 times-more k unit w next d e = dvd_trans k d (mul-dvd-mul_right unit e w)

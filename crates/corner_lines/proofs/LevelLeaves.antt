@@ -103,7 +103,7 @@ left_row_is_row p q at level unit own number name side size k low line next n m 
 
 -- ---- a unit that shrinks
 
-moved-factor : (own t u w : ℕ) → w ≡ t * u → own * w ≡ own * t * u
+pub moved-factor : (own t u w : ℕ) → w ≡ t * u → own * w ≡ own * t * u
 moved-factor own t u w e = ap (λ (n : ℕ). own * n) e ∙ omega arith
 
 pub shrunk_row_is_row : ShrunkRowIsRow

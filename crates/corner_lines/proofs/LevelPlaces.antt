@@ -18,7 +18,7 @@ use Rattle.problem_core.specs.Levels.{IsCostAt, cost_at, line_cost, scales}
 use Rattle.corner_laws.proofs.Exchanged.{neg-times}
 use Rattle.corner_laws.proofs.Rises.{cost_linear}
 use Rattle.corner_laws.proofs.ZeroColumns.{scales-above}
-use Rattle.corner_lines.proofs.LevelRests.{marks-each}
+use Rattle.corner_laws.proofs.Ends.{both_marks}
 
 -- ---- fractions of one value
 
@@ -97,7 +97,7 @@ costs-agree p at level x y corner here there =
     (λ l h. no-cost (scales p / l.scale) (under_weight l.rel (weight_at l level)) (over_weight l.rel (weight_at l level)) (x.num one_column *ℤ y.num (place_of l.name Under) +ℤ neg_ℤ (y.num one_column) *ℤ x.num (place_of l.name Under)) (x.num one_column *ℤ y.num (place_of l.name Over) +ℤ neg_ℤ (y.num one_column) *ℤ x.num (place_of l.name Over))
     (no-step (x.num one_column) (y.num one_column) (x.num (place_of l.name Under)) (y.num (place_of l.name Under)) h.0)
     (no-step (x.num one_column) (y.num one_column) (x.num (place_of l.name Over)) (y.num (place_of l.name Over)) h.1))
-    (marks-each (λ c. x.num c *ℤ y.num one_column ≡ y.num c *ℤ x.num one_column) (lines p) (marks-agree p at x y corner here there))))
+    (both_marks (λ c. x.num c *ℤ y.num one_column ≡ y.num c *ℤ x.num one_column) (lines p) (marks-agree p at x y corner here there))))
 
 moved-over : (X : ℕ) (y1 cx cy fn s : ℤ) (fd : ℕ) → 0 < X → pos X *ℤ cy ≡ y1 *ℤ cx → cx *ℤ pos fd ≡ fn *ℤ (s *ℤ pos X) → cy *ℤ pos fd ≡ fn *ℤ (s *ℤ y1)
 moved-over X y1 cx cy fn s fd above e f =

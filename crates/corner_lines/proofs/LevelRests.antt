@@ -20,7 +20,6 @@ use Rattle.problem_core.proofs.Forms.{each-impl, each-both}
 use Rattle.corner_laws.specs.Lifts.{AreJoined, HasOneIn, with_rows}
 use Rattle.corner_laws.specs.Units.{IsLevelUnit, over_share, under_share}
 use Rattle.corner_laws.proofs.Counting.{IsIn-from_is_place, head_pairs, is_place-from_IsIn, tail_pairs}
-use Rattle.corner_laws.proofs.LinePlaces.{sum-each}
 use Rattle.corner_laws.proofs.WrittenValues.{contains_each}
 use Rattle.corner_laws.proofs.ZeroColumns.{not-in}
 use Rattle.corner_lines.specs.LineEquations.{IsOutsideLine}
@@ -28,6 +27,9 @@ use Rattle.corner_lines.specs.LevelRows.{HasLevelRow}
 use Rattle.corner_lines.specs.LevelJoins.{AllRowsHaveJoined, AreLinesBefore, IsLineBefore, JoiningRowsAreFree, OneRowMoreJoins, level_count}
 use Rattle.corner_lines.proofs.LevelDivided.{outside-false}
 use Rattle.corner_lines.proofs.LevelJoins.{free-number, whole-none}
+use Rattle.problem_core.proofs.Conflicts.{sum-each}
+use Rattle.corner_laws.proofs.Ends.{both_marks}
+use Rattle.corner_laws.proofs.LevelLifts.{past-first, no-weight-left}
 
 -- ---- lists of lines with rows more
 
@@ -46,10 +48,6 @@ pub sum-more : (f : Line → ℤ) (rows more : List Row) (ls : List Line) → Ea
 sum-more f [] [] ls h = refl
 sum-more f [] (r ∷ more) ls h = let e = sum-more f [] more ls h.1 in let z = h.0 in omega (arith, ints, e, z)
 sum-more f (s ∷ rows) more ls h = ap (λ (z : ℤ). f (line_of_row s) +ℤ z) (sum-more f rows more ls h)
-
-pub marks-each : (P : ℕ → Type 0) (ls : List Line) → Each (λ m. P (place m)) (marks_of ls) → Each (λ l. P (place_of l.name Under) × P (place_of l.name Over)) ls
-marks-each P [] h = tt
-marks-each P (l ∷ ls) h = ((h.0, h.1.0), marks-each P ls h.1.1)
 
 -- ---- numbers that are 0 at the new lines
 
@@ -106,10 +104,6 @@ record IsFree (at joined : List Mark) (level : ℕ) (r : Row) : Type 0 where
   outside : IsOutsideLine at (Held r.id)
   one : HasOneIn joined r
 
-no-weight-left : (b : Bool) → cond {A = ℕ} b 0 0 ≡ 0
-no-weight-left true = refl
-no-weight-left false = refl
-
 free-rows : (level : ℕ) (at joined : List Mark) (rest : List Row) → Each (HasOneIn joined) rest → Each (λ r. IsOutsideLine at (Held r.id)) rest → Each (IsFree at joined level) (lightened level 0 rest)
 free-rows level at joined [] one out = tt
 free-rows level at joined (r ∷ rest) one out =
@@ -146,7 +140,7 @@ more-row p more at joined level unit own number are free h =
     let stays : List Line = stay_lines 1001 p.stays in
     let known : Each (Known at joined) (lines p) =
     each-impl (λ l. (IsIn (place_of l.name Under) joined → IsIn (place_of l.name Under) at) × (IsIn (place_of l.name Over) joined → IsIn (place_of l.name Over) at)) _ (lines p) (λ l k. record { under = k.0; over = k.1 })
-    (marks-each (λ c. IsIn c joined → IsIn c at) (lines p) (recursion_from_All (λ m. IsIn (place m) joined → IsIn (place m) at) (marks_of (lines p)) are.no_other)) in
+    (both_marks (λ c. IsIn c joined → IsIn c at) (lines p) (recursion_from_All (λ m. IsIn (place m) joined → IsIn (place m) at) (marks_of (lines p)) are.no_other)) in
     let by : RowName → ℤ = kept-number at joined h.by in
     let old : Each (λ l. Known at joined l × (by l.name ≡ h.by l.name)) (lines p) = each-impl (Known at joined) _ (lines p) (λ l k. (k, kept-same at joined h.by l.name (λ out. still-outside at joined l k out))) known in
     let new : Each (λ r. IsFree at joined level r × (by (Held r.id) ≡ pos 0)) more = each-impl (IsFree at joined level) _ more (λ r f. (f, new-number at joined h.by (Held r.id) f.outside f.one)) free in
@@ -190,12 +184,6 @@ more-unit p more at joined level unit free is = record {
       (each-impl (IsFree at joined level) _ more (λ r f. whole-none r.scale unit (weight_at (line_of_row r) level) f.weightless) free));
   least = λ n all. is.least n (All-from_recursion (λ l. l.scale ∣ n * weight_at l level) (lines p) (each-fewer (λ l. l.scale ∣ n * weight_at l level) p.rows more (stay_lines 1001 p.stays) (recursion_from_All _ (lines (with_rows more p)) all)));
 }
-
-past-first : (b : Bool) (k j : ℕ) (r : Row) (rows rest found : List Row) → j ≡ length (cond b (r ∷ found) found) → ((i : ℕ) → i ≡ length found → lightened k i (rows ++ rest) ≡ rows ++ lightened k 0 rest)
-    → cond b (cond (nat_eq j 0) (without_weight r) r ∷ lightened k (j - 1) (rows ++ rest)) (r ∷ lightened k j (rows ++ rest)) ≡ r ∷ (rows ++ lightened k 0 rest)
-past-first true k j r rows rest found e h =
-    ap₂ (λ (s : Row) (xs : List Row). s ∷ xs) (ap (λ (b : Bool). cond b (without_weight r) r) (ne_eqb j 0 (λ z. omega (arith, e, z)))) (h (j - 1) (omega (arith, e)))
-past-first false k j r rows rest found e h = ap (λ (xs : List Row). r ∷ xs) (h j e)
 
 -- the first j rows of the level are those of the first list
 pub lightened_append : (k j : ℕ) (rows rest : List Row) → j ≡ level_count k rows → lightened k j (rows ++ rest) ≡ rows ++ lightened k 0 rest

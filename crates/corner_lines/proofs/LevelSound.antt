@@ -126,15 +126,15 @@ first-seen p level j = record {
   count = sym (light-count level j p.rows);
 }
 
-light-row : (b : Bool) (r : Row) → r.weight ≤ WEIGHT_LIMIT → (cond b (without_weight r) r).weight ≤ WEIGHT_LIMIT
+pub light-row : (b : Bool) (r : Row) → r.weight ≤ WEIGHT_LIMIT → (cond b (without_weight r) r).weight ≤ WEIGHT_LIMIT
 light-row true r h = omega arith
 light-row false r h = h
 
-either-light : (b : Bool) (x r : Row) (xs ys : List Row) (ls : List Line) → x.weight ≤ WEIGHT_LIMIT → r.weight ≤ WEIGHT_LIMIT → Each (λ l. l.weight ≤ WEIGHT_LIMIT) (map line_of_row xs ++ ls) → Each (λ l. l.weight ≤ WEIGHT_LIMIT) (map line_of_row ys ++ ls) → Each (λ l. l.weight ≤ WEIGHT_LIMIT) (map line_of_row (cond b (x ∷ xs) (r ∷ ys)) ++ ls)
+pub either-light : (b : Bool) (x r : Row) (xs ys : List Row) (ls : List Line) → x.weight ≤ WEIGHT_LIMIT → r.weight ≤ WEIGHT_LIMIT → Each (λ l. l.weight ≤ WEIGHT_LIMIT) (map line_of_row xs ++ ls) → Each (λ l. l.weight ≤ WEIGHT_LIMIT) (map line_of_row ys ++ ls) → Each (λ l. l.weight ≤ WEIGHT_LIMIT) (map line_of_row (cond b (x ∷ xs) (r ∷ ys)) ++ ls)
 either-light true x r xs ys ls e f h k = (e, h)
 either-light false x r xs ys ls e f h k = (f, k)
 
-all-light : (level j : ℕ) (rows : List Row) (ls : List Line) → Each (λ l. l.weight ≤ WEIGHT_LIMIT) (map line_of_row rows ++ ls) → Each (λ l. l.weight ≤ WEIGHT_LIMIT) (map line_of_row (lightened level j rows) ++ ls)
+pub all-light : (level j : ℕ) (rows : List Row) (ls : List Line) → Each (λ l. l.weight ≤ WEIGHT_LIMIT) (map line_of_row rows ++ ls) → Each (λ l. l.weight ≤ WEIGHT_LIMIT) (map line_of_row (lightened level j rows) ++ ls)
 all-light level j [] ls h = h
 all-light level j (r ∷ rows) ls h = either-light (nat_eq (1000 - r.rank) level) (cond (nat_eq j 0) (without_weight r) r) r (lightened level (j - 1) rows) (lightened level j rows) ls (light-row (nat_eq j 0) r h.0) h.0 (all-light level (j - 1) rows ls h.1) (all-light level j rows ls h.1)
 

@@ -81,7 +81,7 @@ leaving-fits : (side : Side) (level unit own : ℕ) (l : Line) → ((other : Sid
 leaving-fits Under level unit own l h = under-less (own * under_share unit level l) (own * over_share unit level l) (h Over)
 leaving-fits Over level unit own l h = over-less (own * over_share unit level l) (own * under_share unit level l) (h Under)
 
-zero-fits : (z : ℤ) → z ≡ pos 0 → IsFitting z
+pub zero-fits : (z : ℤ) → z ≡ pos 0 → IsFitting z
 zero-fits z e = omega (arith, ints, e)
 
 pub leaving_number_fits : LeavingNumberFits

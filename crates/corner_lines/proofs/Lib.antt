@@ -36,3 +36,8 @@ pub mod ShiftedCorner
 pub mod Dropped
 pub mod DroppedAttr
 pub mod JoinedBegins
+pub mod Units
+pub mod CostSigns
+pub mod ColumnsBelow
+pub mod SameLevels
+pub mod OtherNumbers

@@ -23,7 +23,7 @@ use Rattle.corner_laws.proofs.Pivots.{pivot_is_exchange}
 use Rattle.corner_laws.proofs.Rays.{above-zero}
 use Rattle.corner_lines.specs.LineEquations.{IsLineEquation, IsOutsideLine, deviation, inside_form, mark_form, other_side, sign_of}
 use Rattle.corner_lines.proofs.MarkForms.{each-coefficient, same-name}
-use Rattle.corner_lines.proofs.LineWritings.{Named, all-small, at-name, inside-named, inside-other, line_writing, mark-named, mark_writing, named-mark, other-out, other_coefficient}
+use Rattle.corner_lines.proofs.LineWritings.{Named, all-small, at-name, inside-named, inside-other, line_writing, mark-named, mark_writing, named-mark, other-out, other_coefficient, no-side}
 
 -- ---- numbers
 
@@ -115,10 +115,6 @@ mark_moves p at name side k to own by num den ray whole corner mark inside r e =
     ]
 
 -- ---- what can be exchanged
-
-no-side : (at : List Mark) (name : RowName) (side : Side) → IsOutsideLine at name → IsIn (place_of name side) at → ⊥
-no-side at name Under out = out.under
-no-side at name Over out = out.over
 
 -- a mark of a line that stands in the equation of an inside line enters for that line's mark
 pub line_is_exchange : (p : Problem) (at : List Mark) (s : Swap) (own : ℕ) (by : RowName → ℤ) (num : ℤ) (den : ℕ) → IsWhole p → IsCorner p at → HasRays p at → Contains (map place (marks_of (lines p))) (place s.enter) → IsIn (place s.leave) at

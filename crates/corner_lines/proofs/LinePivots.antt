@@ -1,10 +1,10 @@
 -- The equation of an inside line as a sum of lines that cancel.
-use Rattle.std.proofs.Common.{◌≡◌, ◌≢◌, ◌∙◌, ℕ, ◌<◌, Bool, cond, nat_eq, List, map, ℤ, pos, negsuc, ◌+ℤ◌, ◌-ℤ◌, ◌*ℤ◌, neg_ℤ, ◌<ℤ◌, refl, sym, ap, ap₂, subst, arith, inl, inr, Contains, eq-eqb, ne_eqb}
+use Rattle.std.proofs.Common.{◌≡◌, ◌≢◌, ◌∙◌, ℕ, ◌<◌, Bool, cond, nat_eq, List, map, ℤ, pos, ◌+ℤ◌, ◌-ℤ◌, ◌*ℤ◌, neg_ℤ, ◌<ℤ◌, refl, sym, ap, ap₂, subst, arith, inl, inr, Contains, eq-eqb, ne_eqb}
 use Rattle.std.specs.List.{AllByRecursion as Each}
 use Rattle.std.proofs.lemmas.Bool.{cases_eq}
 use Rattle.std.proofs.lemmas.List.Elements.{All-from_recursion, recursion_from_All}
 use borrow.Author.Differences.{ints}
-use Rattle.frac_core.proofs.Integers.{cancel_mul, mul_assoc_ℤ, mul-add_left, mul-zero_ℤ, sign_cases, zero-mul_ℤ}
+use Rattle.frac_core.proofs.Integers.{mul_assoc_ℤ, mul-add_left, mul-zero_ℤ, sign_cases, zero-mul_ℤ}
 use Rattle.problem_core.specs.declared.parts.Mark.{Mark}
 use Rattle.problem_core.specs.declared.parts.Side.{Side}
 use Rattle.problem_core.specs.declared.parts.Side.TheVariants.{Under, Over}
@@ -16,46 +16,21 @@ use Rattle.problem_core.specs.Corners.{IsCorner, IsIn, Point, Solves, attr_colum
 use Rattle.problem_core.proofs.Forms.{each-impl, each-both, mul-sum, sum-add, sum-cong, sum-zero, value-plus}
 use Rattle.problem_core.proofs.Tableaus.{unit_at}
 use Rattle.corner_laws.proofs.Counting.{cond_other, cond_same, sides_apart, unit_value}
-use Rattle.corner_laws.proofs.Directions.{attr_ray, each-of, spread}
+use Rattle.corner_laws.proofs.Directions.{attr_ray, each-of, spread, spread-none, spread-own, only-first, only-rest, attr-unit, along-parts, moved-one, no-part}
 use Rattle.corner_laws.proofs.Exchanged.{neg-times}
-use Rattle.corner_laws.proofs.Gaps.{value-columns}
-use Rattle.corner_laws.proofs.LinePlaces.{AllApart, IsSmallLine, lines_apart, lines_attrs, lines_small, sum-each, sum-single}
+use Rattle.corner_laws.proofs.LinePlaces.{IsSmallLine, lines_apart, lines_attrs, lines_small}
 use Rattle.corner_laws.proofs.Unique.{same-name}
 use Rattle.corner_laws.proofs.WrittenValues.{contains_each, not_zero}
 use Rattle.corner_laws.proofs.ZeroColumns.{IsDirection}
 use Rattle.corner_lines.specs.LineEquations.{IsLineEquation, IsOutsideLine, deviation}
 use Rattle.corner_lines.specs.LevelRows.{EquationIsPivot, PivotIsSolved, line_numbers}
-use Rattle.corner_lines.proofs.LineSums.{Cancel, mul-opp}
+use Rattle.corner_lines.proofs.LineSums.{Cancel}
 use Rattle.corner_lines.proofs.LevelCosts.{one-line}
+use Rattle.problem_core.proofs.Ends.{value-columns}
+use Rattle.problem_core.proofs.Conflicts.{sum-each}
+use Rattle.corner_laws.proofs.ExchangedLevels.{mul-opp}
 
 -- ---- the direction in which one attribute grows
-
-no-part : (k z : ℤ) → z ≡ pos 0 → k *ℤ z ≡ pos 0
-no-part k z e = ap (λ (t : ℤ). k *ℤ t) e ∙ mul-zero_ℤ k
-
-times-one : (k : ℤ) → k *ℤ pos 1 ≡ k
-times-one k = omega (arith, ints)
-
-spread-none : (v w : ℕ) (ls : List Line) → Each (λ l. w ≢ place_of l.name Under) ls → spread v ls w ≡ pos 0
-spread-none v w ls h = sum-zero (λ l. coefficient v l.form *ℤ unit_at (place_of l.name Under) w) ls (each-impl (λ l. w ≢ place_of l.name Under) _ ls (λ l ne. no-part (coefficient v l.form) (unit_at (place_of l.name Under) w) (cond_other w (place_of l.name Under) (pos 1) ne)) h)
-
-spread-own : (v : ℕ) (ls : List Line) → AllApart ls → Each (λ l. spread v ls (place_of l.name Under) ≡ coefficient v l.form) ls
-spread-own v ls apart =
-    each-impl (λ k. spread v ls (place_of k.name Under) ≡ coefficient v k.form *ℤ unit_at (place_of k.name Under) (place_of k.name Under)) _ ls
-    (λ k e. e ∙ ap (λ (z : ℤ). coefficient v k.form *ℤ z) (cond_same (place_of k.name Under) (place_of k.name Under) (pos 1) refl) ∙ times-one (coefficient v k.form))
-    (sum-single (λ k l. coefficient v l.form *ℤ unit_at (place_of l.name Under) (place_of k.name Under)) (λ k l a. no-part (coefficient v l.form) (unit_at (place_of l.name Under) (place_of k.name Under)) (cond_other (place_of k.name Under) (place_of l.name Under) (pos 1) a.under_under)) ls apart)
-
-only-first : (u s : ℤ) → s ≡ pos 0 → u +ℤ negsuc 0 *ℤ s ≡ u
-only-first u s e = let h : negsuc 0 *ℤ s ≡ pos 0 = no-part (negsuc 0) s e in omega (arith, ints, h)
-
-only-rest : (u s c : ℤ) → u ≡ pos 0 → s ≡ c → u +ℤ negsuc 0 *ℤ s ≡ neg_ℤ c
-only-rest u s c e f = let h : negsuc 0 *ℤ s ≡ neg_ℤ s = omega (arith, ints) in omega (arith, ints, h, e, f)
-
-attr-unit : (v w : ℕ) → unit_at (attr_column v) (attr_column w) ≡ unit_at v w
-attr-unit v w = elim (cases_eq w v) [
-  | inl e ↦ cond_same (attr_column w) (attr_column v) (pos 1) (ap attr_column e) ∙ sym (cond_same w v (pos 1) e)
-  | inr n ↦ cond_other (attr_column w) (attr_column v) (pos 1) (λ e. n (omega (arith, e))) ∙ sym (cond_other w v (pos 1) n)
-]
 
 parts-none : (q u o k one w c : ℤ) → u ≡ neg_ℤ c → o ≡ pos 0 → one ≡ pos 0 → w ≡ q *ℤ c → q *ℤ u +ℤ (neg_ℤ q *ℤ o +ℤ (k *ℤ one +ℤ w)) ≡ pos 0
 parts-none q u o k one w c e f g h =
@@ -102,15 +77,6 @@ attr-direction p v whole ne =
     }
 
 -- ---- along a direction
-
-along-parts : (d s : ℕ) (q r f g k o e : ℤ) → 0 < d → e ≡ pos 0 → pos d *ℤ (pos s *ℤ q -ℤ f) ≡ pos s *ℤ (k *ℤ o) → pos d *ℤ (pos s *ℤ (q +ℤ r) -ℤ (f +ℤ g)) ≡ pos s *ℤ (k *ℤ (o +ℤ e)) → pos s *ℤ r ≡ g
-along-parts d s q r f g k o e above none a b =
-    let same : o +ℤ e ≡ o = omega (arith, ints, none) in
-    let all : pos s *ℤ (q +ℤ r) -ℤ (f +ℤ g) ≡ pos s *ℤ q -ℤ f = cancel_mul d (pos s *ℤ (q +ℤ r) -ℤ (f +ℤ g)) (pos s *ℤ q -ℤ f) above (b ∙ ap (λ (z : ℤ). pos s *ℤ (k *ℤ z)) same ∙ sym a) in
-    omega (arith, ints, all, mul-add_left (pos s) q r)
-
-moved-one : (x : Point) (n : ℕ → ℤ) → n one_column ≡ pos 0 → x.num one_column ≡ x.num one_column +ℤ n one_column
-moved-one x n e = omega (arith, ints, e)
 
 split-difference : (a b c d : ℤ) → (a +ℤ b) -ℤ (c +ℤ d) ≡ (a -ℤ c) +ℤ (b -ℤ d)
 split-difference a b c d = omega (arith, ints)
@@ -214,7 +180,7 @@ equation_is_pivot p at mark own by num den whole corner inside w = record {
       (inside-none p at (deviation mark.row) own by num den w));
 }
 
-times-cancel : (p : Problem) (k : ℤ) (y : RowName → ℤ) (v : ℕ) → sum_of (λ l. y l.name *ℤ coefficient v l.form) (lines p) ≡ pos 0 → sum_of (λ l. (k *ℤ y l.name) *ℤ coefficient v l.form) (lines p) ≡ pos 0
+pub times-cancel : (p : Problem) (k : ℤ) (y : RowName → ℤ) (v : ℕ) → sum_of (λ l. y l.name *ℤ coefficient v l.form) (lines p) ≡ pos 0 → sum_of (λ l. (k *ℤ y l.name) *ℤ coefficient v l.form) (lines p) ≡ pos 0
 times-cancel p k y v h =
     sum-cong (λ l. (k *ℤ y l.name) *ℤ coefficient v l.form) (λ l. k *ℤ (y l.name *ℤ coefficient v l.form)) (lines p) (λ l. mul_assoc_ℤ k (y l.name) (coefficient v l.form))
     ∙ mul-sum k (λ l. y l.name *ℤ coefficient v l.form) (lines p) ∙ ap (λ (z : ℤ). k *ℤ z) h ∙ mul-zero_ℤ k

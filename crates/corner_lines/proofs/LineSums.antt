@@ -1,14 +1,9 @@
 -- Sums of lines that cancel.
-use Rattle.std.proofs.Common.{◌≡◌, ◌∙◌, ℕ, ℤ, pos, ◌+ℤ◌, ◌*ℤ◌, neg_ℤ, ap, ap₂}
-use lib.IntN.{*ℤ_comm}
+use Rattle.std.proofs.Common.{◌≡◌, ◌∙◌, ℕ, ℤ, pos, ◌+ℤ◌, ◌*ℤ◌, ap, ap₂}
 use Rattle.frac_core.proofs.Integers.{add-mul_right, mul_assoc_ℤ, mul-zero_ℤ}
 use Rattle.problem_core.specs.declared.parts.RowName.{RowName}
 use Rattle.problem_core.specs.Layout.{Problem, coefficient, lines, sum_of}
 use Rattle.problem_core.proofs.Forms.{mul-sum, sum-add, sum-cong}
-use Rattle.corner_laws.proofs.Exchanged.{neg-times}
-
-pub mul-opp : (t z : ℤ) → t *ℤ neg_ℤ z ≡ neg_ℤ (t *ℤ z)
-mul-opp t z = *ℤ_comm t (neg_ℤ z) ∙ neg-times z t ∙ ap neg_ℤ (*ℤ_comm z t)
 
 -- the lines cancel when each is taken so often
 abbrev pub Cancel : Problem → (RowName → ℤ) → Type 0

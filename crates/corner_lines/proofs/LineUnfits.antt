@@ -22,14 +22,15 @@ use Rattle.problem_core.specs.Rays.{HasRays}
 use Rattle.problem_core.proofs.Forms.{each-impl, each-both, sum-append, times, coefficient-times, value-times, mul-sum}
 use Rattle.problem_core.proofs.Lowest.{lowest-dvd}
 use Rattle.corner_laws.specs.Equations.{IsEquationOf}
-use Rattle.corner_laws.proofs.Directions.{writing_is_row}
+use Rattle.corner_laws.proofs.Directions.{writing_is_row, each-of}
 use Rattle.corner_laws.proofs.Counting.{cond_other, cond_same}
-use Rattle.corner_laws.proofs.Equations.{constant_same, whole_share, writing-lowest, writing_same}
+use Rattle.corner_laws.proofs.Equations.{constant_same, whole_share, writing-lowest, writing_same, divisor, spread, not-zero}
 use Rattle.corner_laws.proofs.Exchanged.{neg-times}
-use Rattle.corner_laws.proofs.LinePlaces.{AllApart, lines_apart, sum-each}
+use Rattle.corner_laws.proofs.LinePlaces.{AllApart, lines_apart}
 use Rattle.corner_lines.specs.LineEquations.{AreReduced, IsLineEquation, IsLineSum, IsOutsideLine, IsUnfitLine, deviation, mark_form, other_side, sign_of}
 use Rattle.corner_lines.proofs.MarkForms.{by-places, each-coefficient, form-value}
-use Rattle.corner_lines.proofs.LineWritings.{at-name, divisor, form-outside, inside-named, other-out, same-abs, side-value}
+use Rattle.corner_lines.proofs.LineWritings.{at-name, form-outside, inside-named, other-out, same-abs, side-value, no-part}
+use Rattle.problem_core.proofs.Conflicts.{sum-each}
 
 -- ---- an equation without its common factor
 
@@ -54,7 +55,7 @@ reduced-parts den d own g low q sum part num n one above dens e f r h =
     (mul_left_comm_ℤ (pos den) (pos d) (pos low *ℤ q -ℤ part) ∙ ap (λ (z : ℤ). pos d *ℤ z) less ∙ mul_left_comm_ℤ (pos d) (pos low) (num *ℤ one)
     ∙ ap (λ (z : ℤ). pos low *ℤ z) turned ∙ mul_left_comm_ℤ (pos low) (pos den) (n *ℤ one))
 
-part-sum : (g : ℕ) (part by : RowName → ℤ) (x : ℕ → ℤ) (ls : List Line) → Each (λ l. pos g *ℤ part l.name ≡ by l.name) ls → pos g *ℤ sum_of (λ l. part l.name *ℤ deviation l.name x) ls ≡ sum_of (λ l. by l.name *ℤ deviation l.name x) ls
+pub part-sum : (g : ℕ) (part by : RowName → ℤ) (x : ℕ → ℤ) (ls : List Line) → Each (λ l. pos g *ℤ part l.name ≡ by l.name) ls → pos g *ℤ sum_of (λ l. part l.name *ℤ deviation l.name x) ls ≡ sum_of (λ l. by l.name *ℤ deviation l.name x) ls
 part-sum g part by x ls same =
     sym (mul-sum (pos g) (λ l. part l.name *ℤ deviation l.name x) ls)
     ∙ sum-each (λ l. pos g *ℤ (part l.name *ℤ deviation l.name x)) (λ l. by l.name *ℤ deviation l.name x) ls
@@ -78,16 +79,6 @@ reduced_line p at quantity own by num den low part value e r above ratio = recor
 
 -- ---- what does not fit
 
-spread : (d s : ℕ) (q f n one : ℤ) → pos d *ℤ (pos s *ℤ q -ℤ f) ≡ pos s *ℤ (n *ℤ one) → pos (d * s) *ℤ q ≡ pos d *ℤ f +ℤ (pos s *ℤ n) *ℤ one
-spread d s q f n one h =
-    let a : pos (d * s) *ℤ q ≡ pos d *ℤ (pos s *ℤ q) = mul_assoc_ℤ (pos d) (pos s) q in
-    let b = mul-sub_left (pos d) (pos s *ℤ q) f in
-    let e = mul_assoc_ℤ (pos s) n one in
-    omega (arith, ints, a, b, e, h)
-
-not-zero : (k : ℕ) (z y : ℤ) → y ≡ pos k *ℤ z → y ≢ pos 0 → z ≢ pos 0
-not-zero k z y e some none = some (e ∙ ap (λ (x : ℤ). pos k *ℤ x) none ∙ mul-zero_ℤ (pos k))
-
 -- a line's sum as an equation of marks
 pub sum-equation : (p : Problem) (at : List Mark) (quantity : (ℕ → ℤ) → ℤ) (own : ℕ) (by : RowName → ℤ) (num : ℤ) (den : ℕ) → IsWhole p → IsLineSum p at quantity own by num den → IsEquationOf p at quantity (den * own) (times (pos den) (mark_form by (lines p))) (pos own *ℤ num)
 sum-equation p at quantity own by num den whole e = record {
@@ -108,9 +99,6 @@ without-own d s e v n above h =
     cancel_mul s (v *ℤ pos d) (n *ℤ pos e) above
     (mul_left_comm_ℤ (pos s) v (pos d) ∙ ap (λ (z : ℤ). v *ℤ z) (*ℤ_comm (pos s) (pos d)) ∙ h ∙ mul_assoc_ℤ (pos s) n (pos e))
 
-no-divisor : (k : ℕ) (z : ℤ) → z ≡ pos 0 → k ∣ unsigned_abs z
-no-divisor k z e = divisor k z (pos 0) (e ∙ sym (mul-zero_ℤ (pos k)))
-
 neg-divides : (k : ℕ) (z : ℤ) → k ∣ unsigned_abs z → k ∣ unsigned_abs (neg_ℤ z)
 neg-divides k z d =
     let w = whole_share k z d in
@@ -120,7 +108,7 @@ neg-divides k z d =
 parts-divided : (m g : ℕ) (by part : RowName → ℤ) (ls : List Line) → 0 < g → AllApart ls → Each (λ l. (pos g *ℤ part l.name ≡ by l.name) × (m ∣ unsigned_abs (part l.name))) ls → (v : ℕ) (u : ℤ) → pos g *ℤ u ≡ coefficient v (mark_form by ls) → m ∣ unsigned_abs u
 parts-divided m g by part ls above apart h v =
     by-places (λ v z. (u : ℤ) → pos g *ℤ u ≡ z → m ∣ unsigned_abs u) by ls apart
-    (λ v u e. no-divisor m u (zero_from_mul g u above e))
+    (λ v u e. no-part m u (zero_from_mul g u above e))
     (each-impl (λ l. (pos g *ℤ part l.name ≡ by l.name) × (m ∣ unsigned_abs (part l.name))) _ ls
     (λ l k. (
       λ u e. subst (λ (z : ℤ). m ∣ unsigned_abs z) (cancel_mul g (part l.name) u above (k.0 ∙ sym e)) k.1,
@@ -161,10 +149,6 @@ writing-reduced p own t by form whole owns above e lowest =
           (each-both (λ l. pos (own / t) *ℤ coefficient (place_of l.name Over) form ≡ by l.name) (λ l. m ∣ unsigned_abs (coefficient (place_of l.name Over) form)) (lines p) each (recursion_from_All (λ l. m ∣ unsigned_abs (coefficient (place_of l.name Over) form)) (lines p) all)) v (coefficient v form)
           (taken-factor own t (own / t) (coefficient v (mark_form by (lines p))) (coefficient v form) above f (e v)));
     }
-
-each-of : {X : Type 0} (P : X → Type 0) (xs : List X) → ((x : X) → P x) → Each P xs
-each-of P [] h = tt
-each-of P (x ∷ xs) h = (h x, each-of P xs h)
 
 -- where the lowest terms or the value of a line's sum do not fit, its quantity has no writing that fits
 pub line_unfit : (p : Problem) (at : List Mark) (quantity : (ℕ → ℤ) → ℤ) (own : ℕ) (by : RowName → ℤ) (num : ℤ) (den : ℕ) → IsWhole p → IsCorner p at → HasRays p at → IsLineSum p at quantity own by num den → IsUnfitLine p own by num den → HasNoWriting p at quantity
@@ -213,7 +197,7 @@ deviation-cases side name t form own v =
 signed-none : (s z : ℤ) → z ≡ pos 0 → s *ℤ z ≡ pos 0
 signed-none s z e = ap (λ (t : ℤ). s *ℤ t) e ∙ mul-zero_ℤ s
 
-twice : (side : Side) (z : ℤ) → sign_of side *ℤ (sign_of side *ℤ z) ≡ z
+pub twice : (side : Side) (z : ℤ) → sign_of side *ℤ (sign_of side *ℤ z) ≡ z
 twice Under z = omega (arith, ints)
 twice Over z = omega (arith, ints)
 

@@ -2,7 +2,6 @@
 use Rattle.std.proofs.Common.{◌≡◌, ◌≢◌, ◌∙◌, ℕ, ◌*◌, List, [], ◌∷◌, map, ℤ, pos, negsuc, ◌+ℤ◌, ◌-ℤ◌, ◌*ℤ◌, neg_ℤ, unsigned_abs, refl, sym, ap, subst, arith, inl, inr, ◌⊎◌, All, Contains}
 use Rattle.std.specs.Int.{◌∣◌}
 use Rattle.std.proofs.Math.Nat.{dvd-mul_right}
-use Rattle.std.proofs.lemmas.Int.{unsigned_abs-mul}
 use Rattle.std.specs.List.{AllByRecursion as Each}
 use Rattle.std.proofs.lemmas.Bool.{cases_eq}
 use Rattle.std.proofs.lemmas.List.Elements.{All-from_recursion, recursion_from_All}
@@ -25,6 +24,8 @@ use Rattle.corner_laws.proofs.WrittenValues.{contains_each, not_zero, value_ther
 use Rattle.corner_laws.proofs.ZeroColumns.{here-in}
 use Rattle.corner_lines.specs.LineEquations.{IsLineEquation, IsOutsideLine, deviation, inside_form, mark_form, other_side, sign_of, HasValue}
 use Rattle.corner_lines.proofs.MarkForms.{by-places, each-coefficient, form-value, same-name}
+use Rattle.corner_laws.proofs.Equations.{divisor}
+use Rattle.corner_laws.proofs.LowestForms.{at-zero}
 
 -- ---- lines and their marks
 
@@ -67,7 +68,7 @@ pub other-out : (p : Problem) (at : List Mark) (name : RowName) (side : Side) �
 other-out p at name Under whole corner i o = one_mark p at name (at-name IsSmall name (lines p) (inside-named p at name Under corner i) (all-small p whole)) corner i o
 other-out p at name Over whole corner i o = one_mark p at name (at-name IsSmall name (lines p) (inside-named p at name Over corner i) (all-small p whole)) corner o i
 
-no-side : (at : List Mark) (name : RowName) (side : Side) → IsOutsideLine at name → IsIn (place_of name side) at → ⊥
+pub no-side : (at : List Mark) (name : RowName) (side : Side) → IsOutsideLine at name → IsIn (place_of name side) at → ⊥
 no-side at name Under out = out.under
 no-side at name Over out = out.over
 
@@ -90,9 +91,6 @@ form-outside p at by whole outside =
     (each-impl (λ l. (Contains (map place (marks_of (lines p))) (place_of l.name Under) × Contains (map place (marks_of (lines p))) (place_of l.name Over)) × (by l.name ≢ pos 0 → IsOutsideLine at l.name)) _ (lines p)
     (λ l h. (λ some. (h.0.1, (h.1 some).over), λ some. (h.0.0, (h.1 (neg-some (by l.name) some)).under)))
     (each-both _ _ (lines p) (here-in (lines p)) (recursion_from_All _ (lines p) outside)))
-
-pub divisor : (k : ℕ) (z y : ℤ) → z ≡ pos k *ℤ y → k ∣ unsigned_abs z
-divisor k z y e = subst (λ (n : ℕ). k ∣ n) (sym (ap unsigned_abs e ∙ unsigned_abs-mul (pos k) y)) (dvd-mul_right k (unsigned_abs y))
 
 pub factor-of : (k own n : ℕ) → own ≡ k * n → k ∣ own
 factor-of k own n e = subst (λ (m : ℕ). k ∣ m) (sym e) (dvd-mul_right k n)
@@ -161,7 +159,7 @@ inside-outside p at side name own by whole corner inside outside v some =
       | inr n ↦ form-outside p at (λ k. sign_of side *ℤ by k) whole (signed-outside p at (sign_of side) by outside) v (λ z. some (inside-other side name own by (lines p) v n ∙ z))
     ]
 
-no-part : (k : ℕ) (z : ℤ) → z ≡ pos 0 → k ∣ unsigned_abs z
+pub no-part : (k : ℕ) (z : ℤ) → z ≡ pos 0 → k ∣ unsigned_abs z
 no-part k z e = divisor k z (pos 0) (e ∙ sym (mul-zero_ℤ (pos k)))
 
 inside-divides : (p : Problem) (side : Side) (name : RowName) (own : ℕ) (by : RowName → ℤ) (k : ℕ) (l : Line) → by name ≡ pos 0 → coefficient (place_of l.name Over) (mark_form (λ n. sign_of side *ℤ by n) (lines p)) ≡ pos 1 *ℤ (sign_of side *ℤ by l.name)
@@ -218,9 +216,6 @@ inside_coefficients p side name own by at whole =
     (λ l c ne. inside-other side name own by (lines p) (place_of l.name at) (λ e. ne (sym (same-name name l.name (other_side side) at e))) ∙ c)
     (each-coefficient (λ n. sign_of side *ℤ by n) at (lines p) (lines_apart p whole)))
 
-own-more : (k z : ℤ) → z ≡ pos 0 → k +ℤ z ≡ k
-own-more k z e = omega (arith, ints, e)
-
 -- at the other mark stands `own`
 pub other_coefficient : (p : Problem) (at : List Mark) (name : RowName) (side : Side) (own : ℕ) (by : RowName → ℤ) (num : ℤ) (den : ℕ) → IsWhole p → IsCorner p at → IsIn (place_of name side) at → IsLineEquation p at (deviation name) own by num den
     → coefficient (place_of name (other_side side)) (inside_form side name own by (lines p)) ≡ pos own
@@ -230,5 +225,5 @@ other_coefficient p at name side own by num den whole corner inside e =
     at-name (λ k. coefficient (place_of k (other_side side)) (mark_form (λ n. sign_of side *ℤ by n) (lines p)) ≡ sign_of (other_side side) *ℤ (sign_of side *ℤ by k)) name (lines p) (inside-named p at name side corner inside)
     (each-coefficient (λ n. sign_of side *ℤ by n) (other_side side) (lines p) (lines_apart p whole)) in
     ap (λ (z : ℤ). z +ℤ coefficient (place_of name (other_side side)) (mark_form (λ n. sign_of side *ℤ by n) (lines p))) (cond_same (place_of name (other_side side)) (place_of name (other_side side)) (pos own) refl)
-    ∙ own-more (pos own) (coefficient (place_of name (other_side side)) (mark_form (λ n. sign_of side *ℤ by n) (lines p)))
+    ∙ at-zero (pos own) (coefficient (place_of name (other_side side)) (mark_form (λ n. sign_of side *ℤ by n) (lines p)))
     (c ∙ ap (λ (z : ℤ). sign_of (other_side side) *ℤ (sign_of side *ℤ z)) none ∙ ap (λ (z : ℤ). sign_of (other_side side) *ℤ z) (mul-zero_ℤ (sign_of side)) ∙ mul-zero_ℤ (sign_of (other_side side)))

@@ -20,7 +20,6 @@ use Rattle.problem_core.specs.Rays.{HasRays}
 use Rattle.problem_core.proofs.Forms.{each-both, each-impl, mul-sum, value-scaled}
 use Rattle.problem_core.proofs.Wholes.{whole-IsProblem}
 use Rattle.corner_laws.proofs.Exchanged.{neg-times}
-use Rattle.corner_laws.proofs.LinePlaces.{sum-each}
 use Rattle.corner_laws.proofs.Rays.{above-zero, cancel-right}
 use Rattle.corner_laws.proofs.WrittenValues.{not_zero, nothing_outside, value_there}
 use Rattle.corner_laws.proofs.ZeroColumns.{here-in}
@@ -29,6 +28,8 @@ use Rattle.corner_lines.specs.Joins.{HaveStood, with_stays}
 use Rattle.corner_lines.proofs.JoinedRows.{each-column}
 use Rattle.corner_lines.proofs.LineWritings.{line_writing}
 use Rattle.corner_lines.proofs.MarkForms.{same-name}
+use Rattle.problem_core.proofs.Conflicts.{sum-each}
+use Rattle.corner_lines.proofs.Dropped.{without-unit}
 
 -- ---- the stays, pair by pair
 
@@ -193,7 +194,7 @@ part-own (s ∷ stays) x attr side (suc k, t, within, is, e) = elim (cases_eq (p
   ]
 ]
 
-own-stays : (stays : List Stay) → Each (λ (s : Stay). HasStay stays s.attr) stays
+pub own-stays : (stays : List Stay) → Each (λ (s : Stay). HasStay stays s.attr) stays
 own-stays [] = tt
 own-stays (s ∷ stays) = ((0, s, omega arith, refl, refl), each-impl (λ (t : Stay). HasStay stays t.attr) _ stays (λ t (k, u, within, is, e). (suc k, u, omega (arith, within), is, e)) (own-stays stays))
 
@@ -529,13 +530,6 @@ unsettled-sum p at new g x y by m stands outside =
     (each-both _ _ (lines p) (here-in (lines p)) (recursion_from_All (λ l. by l.name ≢ pos 0 → IsOutsideLine at l.name) (lines p) outside)))
     ∙ mul-sum (pos g) (λ l. by l.name *ℤ deviation l.name y) (lines p)
     ∙ ap (λ (z : ℤ). pos g *ℤ z) (sym (names-sum (λ n. by n *ℤ deviation n y) x.num p new m))
-
--- den*(own*(g*q) - g*s) = own*(num*(g*y1))
-without-unit : (g den own : ℕ) (q s num y1 : ℤ) → 0 < g → pos den *ℤ (pos own *ℤ (pos g *ℤ q) -ℤ pos g *ℤ s) ≡ pos own *ℤ (num *ℤ (pos g *ℤ y1)) → pos den *ℤ (pos own *ℤ q -ℤ s) ≡ pos own *ℤ (num *ℤ y1)
-without-unit g den own q s num y1 above h =
-    let inner : pos own *ℤ (pos g *ℤ q) -ℤ pos g *ℤ s ≡ pos g *ℤ (pos own *ℤ q -ℤ s) = ap (λ (z : ℤ). z -ℤ pos g *ℤ s) (mul_left_comm_ℤ (pos own) (pos g) q) ∙ sym (mul-sub_left (pos g) (pos own *ℤ q) s) in
-    cancel_mul g (pos den *ℤ (pos own *ℤ q -ℤ s)) (pos own *ℤ (num *ℤ y1)) above
-    (mul_left_comm_ℤ (pos g) (pos den) (pos own *ℤ q -ℤ s) ∙ ap (λ (z : ℤ). pos den *ℤ z) (sym inner) ∙ h ∙ ap (λ (z : ℤ). pos own *ℤ z) (mul_left_comm_ℤ num (pos g) y1) ∙ mul_left_comm_ℤ (pos own) (pos g) (num *ℤ y1))
 
 -- den*(own*(g*q + y1*d) - g*s) = own*(num*(g*y1)), den*d = num*g: own*q = s
 to-zero : (g den own : ℕ) (q s d num y1 : ℤ) → 0 < g → 0 < den → pos den *ℤ (pos own *ℤ (pos g *ℤ q +ℤ y1 *ℤ d) -ℤ pos g *ℤ s) ≡ pos own *ℤ (num *ℤ (pos g *ℤ y1)) → pos den *ℤ d ≡ num *ℤ pos g → pos 1 *ℤ (pos own *ℤ q -ℤ s) ≡ pos own *ℤ (pos 0 *ℤ y1)

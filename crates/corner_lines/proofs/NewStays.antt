@@ -23,13 +23,14 @@ use Rattle.problem_core.proofs.Forms.{each-both, each-impl, sum-zero, value-scal
 use Rattle.problem_core.proofs.Tableaus.{unit_at}
 use Rattle.corner_laws.proofs.ColumnsStay.{each_marks}
 use Rattle.corner_laws.proofs.Counting.{cond_other, cond_same, sides_apart}
-use Rattle.corner_laws.proofs.LinePlaces.{IsSmallLine, lines_small, sum-each}
+use Rattle.corner_laws.proofs.LinePlaces.{IsSmallLine, lines_small}
 use Rattle.corner_laws.proofs.WrittenValues.{contains_each, nothing_outside}
 use Rattle.corner_laws.proofs.ZeroColumns.{each-joined, here-in}
 use Rattle.corner_lines.specs.LineEquations.{IsLineEquation, IsOutsideLine, deviation, sign_of}
 use Rattle.corner_lines.specs.Joins.{new_stay, with_attr}
 use Rattle.corner_lines.proofs.MarkForms.{same-name}
 use Rattle.corner_lines.proofs.MovedStays.{stay-holds, stay-solves}
+use Rattle.problem_core.proofs.Conflicts.{sum-each}
 
 -- ---- the lines with the stay
 

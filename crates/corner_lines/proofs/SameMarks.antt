@@ -16,7 +16,7 @@ use Rattle.corner_lines.specs.LineEquations.{IsLineEquation, IsOutsideLine}
 -- ---- as many marks
 
 -- the marks without the first one at this place
-without : ℕ → List Mark → List Mark
+unfoldable pub without : ℕ → List Mark → List Mark
 without c [] = []
 without c (m ∷ ms) = cond (nat_eq (place m) c) ms (m ∷ without c ms)
 

@@ -7,7 +7,7 @@ use Rattle.std.proofs.lemmas.List.Elements.{recursion_from_All, All-from_recursi
 use lib.IntN.{*ℤ_comm}
 use borrow.Author.Differences.{ints}
 use Rattle.frac_core.specs.Fraction.{Fraction, IsRatio, sum_den, sum_num}
-use Rattle.frac_core.proofs.Integers.{add-mul_right, cancel_mul, diff_eq, mul-add_left, mul-sub_left, mul-zero_ℤ, mul_assoc_ℤ, mul_left_comm_ℤ, mul_positive, on_2, zero-mul_ℤ, add-zero_ℤ, zero_from_mul, diff-add, diff-mul, diff-neg, diff-pos, neg-pos}
+use Rattle.frac_core.proofs.Integers.{add-mul_right, cancel_mul, diff_eq, mul-add_left, mul-sub_left, mul-zero_ℤ, mul_assoc_ℤ, mul_left_comm_ℤ, mul_positive, on_2, zero-mul_ℤ, zero_from_mul, diff-add, diff-mul, diff-neg, diff-pos, neg-pos}
 use Rattle.problem_core.specs.declared.parts.Mark.{Mark}
 use Rattle.problem_core.specs.declared.parts.RowName.{RowName}
 use Rattle.problem_core.specs.declared.parts.RowName.TheVariants.{Held, Stay as StayOf}
@@ -21,9 +21,9 @@ use Rattle.problem_core.specs.Rays.{HasRays}
 use Rattle.problem_core.proofs.Forms.{mul-sum, sum-add, value-plus, value-scaled}
 use Rattle.problem_core.proofs.Tableaus.{unit_at}
 use Rattle.corner_laws.proofs.Counting.{IsSmall, cond_other, cond_same, no_attr, sides_apart, sum_3, unit_value}
-use Rattle.corner_laws.proofs.Gaps.{form_value, value-columns}
+use Rattle.corner_laws.proofs.Gaps.{form_value}
 use Rattle.corner_laws.proofs.Exchanged.{neg-times}
-use Rattle.corner_laws.proofs.LinePlaces.{lines_apart, sum-each}
+use Rattle.corner_laws.proofs.LinePlaces.{lines_apart}
 use Rattle.corner_lines.specs.LineEquations.{IsLineEquation, IsOutsideLine, deviation}
 use Rattle.corner_lines.specs.Shifts.{IsShift, has_constant, with_constant}
 use Rattle.corner_lines.proofs.JoinedLines.{times-own}
@@ -31,6 +31,10 @@ use Rattle.corner_lines.proofs.LineCarried.{carried-value}
 use Rattle.corner_lines.proofs.LineExchanges.{single}
 use Rattle.corner_lines.proofs.LineWritings.{Named, all-small, at-name}
 use Rattle.corner_lines.proofs.MarkForms.{same-name}
+use Rattle.problem_core.proofs.Ends.{value-columns}
+use Rattle.problem_core.proofs.Conflicts.{sum-each}
+use Rattle.corner_laws.proofs.Lifts.{no-more}
+use Rattle.corner_lines.proofs.Dropped.{same-deviation}
 
 ruleset ring = (diff-add, diff-mul, diff-neg, diff-pos, neg-pos)
 
@@ -39,10 +43,10 @@ ruleset ring = (diff-add, diff-mul, diff-neg, diff-pos, neg-pos)
 abbrev pub changed : Fraction → Row → Row
 changed f r = record { id = r.id; rank = r.rank; weight = r.weight; rel = r.rel; scale = r.scale; constant = f; terms = r.terms }
 
-shift-on : (id : ℕ) (f : Fraction) (r : Row) → r.id ≡ id → has_constant id f r ≡ changed f r
+pub shift-on : (id : ℕ) (f : Fraction) (r : Row) → r.id ≡ id → has_constant id f r ≡ changed f r
 shift-on id f r e = ap (λ (b : Bool). cond b (changed f r) r) (eq-eqb r.id id e)
 
-shift-off : (id : ℕ) (f : Fraction) (r : Row) → r.id ≢ id → has_constant id f r ≡ r
+pub shift-off : (id : ℕ) (f : Fraction) (r : Row) → r.id ≢ id → has_constant id f r ≡ r
 shift-off id f r n = ap (λ (b : Bool). cond b (changed f r) r) (ne_eqb r.id id n)
 
 pub rows-forward : (P Q : Line → Type 0) (id : ℕ) (c f : Fraction) (rows : List Row) (ls : List Line) → ((r : Row) → r.id ≢ id → P (line_of_row r) → Q (line_of_row r)) → ((r : Row) → r.id ≡ id → r.constant ≡ c → P (line_of_row r) → Q (line_of_row (changed f r))) → (Each P ls → Each Q ls)
@@ -111,9 +115,6 @@ pub raised-value : (d : ℕ) (e : ℤ) (c : ℕ) (y : ℕ → ℤ) (form : List 
 raised-value d e c y form =
     value-plus (λ v. pos d *ℤ y v) (λ v. e *ℤ unit_at c v) form
     ∙ ap₂ ◌+ℤ◌ (value-scaled (pos d) y form) (value-scaled e (unit_at c) form ∙ ap (λ (z : ℤ). e *ℤ z) (unit_value c form))
-
-pub no-more : (a e k : ℤ) → k ≡ pos 0 → a +ℤ e *ℤ k ≡ a
-no-more a e k h = ap (λ (z : ℤ). a +ℤ e *ℤ z) h ∙ ap (λ (z : ℤ). a +ℤ z) (mul-zero_ℤ e) ∙ add-zero_ℤ a
 
 pub raised-other : (d : ℕ) (e : ℤ) (c : ℕ) (y : ℕ → ℤ) (v : ℕ) → v ≢ c → raised d e c y v ≡ pos d *ℤ y v
 raised-other d e c y v n = no-more (pos d *ℤ y v) e (unit_at c v) (cond_other v c (pos 1) n)
@@ -250,9 +251,6 @@ held-named p id h = rows p.rows h
 
 pub shift-small : (p : Problem) (id : ℕ) (c f more : Fraction) → IsWhole p → IsShift p id c f more → IsSmall (Held id)
 shift-small p id c f more whole s = small-row p id whole (held-named p id s.held)
-
-same-deviation : (d : ℕ) (o u a b : ℤ) → a ≡ pos d *ℤ o → b ≡ pos d *ℤ u → a -ℤ b ≡ pos d *ℤ (o -ℤ u)
-same-deviation d o u a b e f = ap₂ ◌-ℤ◌ e f ∙ sym (mul-sub_left (pos d) o u)
 
 pub raised-deviation : (d : ℕ) (e : ℤ) (id : ℕ) (y : ℕ → ℤ) (name : RowName) → name ≢ Held id → deviation name (raised d e (place_of (Held id) Over) y) ≡ pos d *ℤ deviation name y
 raised-deviation d e id y name ne =

@@ -22,7 +22,6 @@ use Rattle.problem_core.proofs.Forms.{each-both, each-impl, value-plus, value-sc
 use Rattle.corner_laws.proofs.Counting.{IsIn-from_is_place, IsSmall, cond_other, no_attr, sides_apart, sum_3}
 use Rattle.corner_laws.proofs.Exchanged.{neg-times}
 use Rattle.corner_laws.proofs.Gaps.{form_value}
-use Rattle.corner_laws.proofs.LinePlaces.{sum-each}
 use Rattle.corner_laws.proofs.Rays.{above-zero, combined-holds, combined_ray}
 use Rattle.corner_laws.proofs.WrittenValues.{nothing_outside}
 use Rattle.corner_laws.proofs.ZeroColumns.{IsDirection, not-in}
@@ -30,7 +29,10 @@ use Rattle.corner_lines.specs.LineEquations.{sign_of}
 use Rattle.corner_lines.specs.Shifts.{IsShift, has_constant, with_constant}
 use Rattle.corner_lines.proofs.LineWritings.{named-mark}
 use Rattle.corner_lines.proofs.MarkForms.{same-name}
-use Rattle.corner_lines.proofs.Shifted.{changed, held-named, no-more, raised, raised-here, raised-other, raised-value, row-holds, row-solves, rows-back, rows-forward, same-marks, shift-parts, shift-small}
+use Rattle.corner_lines.proofs.Shifted.{changed, held-named, raised, raised-here, raised-other, raised-value, row-holds, row-solves, rows-back, rows-forward, same-marks, shift-parts, shift-small}
+use Rattle.problem_core.proofs.Conflicts.{sum-each}
+use Rattle.corner_laws.proofs.Lifts.{no-more}
+use Rattle.corner_laws.proofs.Rises.{step, both-none}
 
 ruleset ring = (diff-add, diff-mul, diff-neg, diff-pos, neg-pos)
 
@@ -206,28 +208,21 @@ length-same : (id : ℕ) (f : Fraction) (rows : List Row) → length (map (has_c
 length-same id f [] = refl
 length-same id f (r ∷ rows) = ap suc (length-same id f rows)
 
--- the difference of two points of the new problem
-abbrev between : Point → Point → ℕ → ℤ
-between x y v = x.num one_column *ℤ y.num v +ℤ neg_ℤ (y.num one_column) *ℤ x.num v
-
 between-one : (a b : ℤ) → a *ℤ b +ℤ neg_ℤ b *ℤ a ≡ pos 0
 between-one a b = let h = neg-times b a in omega (arith, ints, h, *ℤ_comm a b)
-
-between-none : (a b x y : ℤ) → x ≡ pos 0 → y ≡ pos 0 → a *ℤ y +ℤ neg_ℤ b *ℤ x ≡ pos 0
-between-none a b x y e f = ap₂ ◌+ℤ◌ (ap (λ (z : ℤ). a *ℤ z) f ∙ mul-zero_ℤ a) (ap (λ (z : ℤ). neg_ℤ b *ℤ z) e ∙ mul-zero_ℤ (neg_ℤ b))
 
 between-agree : (x y a b : ℤ) → a *ℤ y +ℤ neg_ℤ b *ℤ x ≡ pos 0 → x *ℤ b ≡ y *ℤ a
 between-agree x y a b h = let k = neg-times b x in omega (arith, ints, h, k, *ℤ_comm a y, *ℤ_comm b x)
 
-between-direction : (p : Problem) (id : ℕ) (c f more : Fraction) (x y : Point) → IsShift p id c f more → Solves (with_constant id f p) x → Solves (with_constant id f p) y → IsDirection p (between x y)
+between-direction : (p : Problem) (id : ℕ) (c f more : Fraction) (x y : Point) → IsShift p id c f more → Solves (with_constant id f p) x → Solves (with_constant id f p) y → IsDirection p (step x y)
 between-direction p id c f more x y s hx hy = record {
   still = between-one (x.num one_column) (y.num one_column);
-  holds = direction-back p id c f more (between x y) s (between-one (x.num one_column) (y.num one_column))
-      (All-from_recursion (λ l. value_at (between x y) (equation l) ≡ pos 0) (lines (with_constant id f p))
+  holds = direction-back p id c f more (step x y) s (between-one (x.num one_column) (y.num one_column))
+      (All-from_recursion (λ l. value_at (step x y) (equation l) ≡ pos 0) (lines (with_constant id f p))
       (each-impl (λ l. (value_at x.num (equation l) ≡ pos 0) × (value_at y.num (equation l) ≡ pos 0)) _ (lines (with_constant id f p))
       (λ l e. value-plus (λ v. x.num one_column *ℤ y.num v) (λ v. neg_ℤ (y.num one_column) *ℤ x.num v) (equation l)
       ∙ ap₂ ◌+ℤ◌ (value-scaled (x.num one_column) y.num (equation l)) (value-scaled (neg_ℤ (y.num one_column)) x.num (equation l))
-      ∙ between-none (x.num one_column) (y.num one_column) (value_at x.num (equation l)) (value_at y.num (equation l)) e.0 e.1)
+      ∙ both-none (x.num one_column) (y.num one_column) (value_at x.num (equation l)) (value_at y.num (equation l)) e.0 e.1)
       (each-both _ _ (lines (with_constant id f p)) (recursion_from_All (λ l. value_at x.num (equation l) ≡ pos 0) (lines (with_constant id f p)) hx) (recursion_from_All (λ l. value_at y.num (equation l) ≡ pos 0) (lines (with_constant id f p)) hy))));
 }
 
@@ -235,12 +230,12 @@ between-direction p id c f more x y s hx hy = record {
 corner-with : (p : Problem) (at : List Mark) (id : ℕ) (c f more : Fraction) (x : Point) → IsCorner p at → IsShift p id c f more → StandsAt (with_constant id f p) at x → IsCorner (with_constant id f p) at
 corner-with p at id c f more x corner s stands =
     let marks : marks_of (lines (with_constant id f p)) ≡ marks_of (lines p) = same-marks id f p in
-    let nothing : (y : Point) → StandsAt (with_constant id f p) at y → (All (λ m. between x y (place m) ≡ pos 0) (marks_of (lines p))) × All (λ s. between x y (attr_column s.attr) ≡ pos 0) p.stays = λ y there.
-    still-attr p at corner (between x y) (between-direction p id c f more x y s stands.0 there.0)
-    (subst (λ (ms : List Mark). All (λ m. (IsIn (place m) at → ⊥) → between x y (place m) ≡ pos 0) ms) marks
-    (All-from_recursion (λ m. (IsIn (place m) at → ⊥) → between x y (place m) ≡ pos 0) (marks_of (lines (with_constant id f p)))
+    let nothing : (y : Point) → StandsAt (with_constant id f p) at y → (All (λ m. step x y (place m) ≡ pos 0) (marks_of (lines p))) × All (λ s. step x y (attr_column s.attr) ≡ pos 0) p.stays = λ y there.
+    still-attr p at corner (step x y) (between-direction p id c f more x y s stands.0 there.0)
+    (subst (λ (ms : List Mark). All (λ m. (IsIn (place m) at → ⊥) → step x y (place m) ≡ pos 0) ms) marks
+    (All-from_recursion (λ m. (IsIn (place m) at → ⊥) → step x y (place m) ≡ pos 0) (marks_of (lines (with_constant id f p)))
     (each-impl (λ m. ((IsIn (place m) at → ⊥) → x.num (place m) ≡ pos 0) × ((IsIn (place m) at → ⊥) → y.num (place m) ≡ pos 0)) _ (marks_of (lines (with_constant id f p)))
-    (λ m h out. between-none (x.num one_column) (y.num one_column) (x.num (place m)) (y.num (place m)) (h.0 out) (h.1 out))
+    (λ m h out. both-none (x.num one_column) (y.num one_column) (x.num (place m)) (y.num (place m)) (h.0 out) (h.1 out))
     (each-both _ _ (marks_of (lines (with_constant id f p))) (recursion_from_All (λ m. (IsIn (place m) at → ⊥) → x.num (place m) ≡ pos 0) (marks_of (lines (with_constant id f p))) stands.1) (recursion_from_All (λ m. (IsIn (place m) at → ⊥) → y.num (place m) ≡ pos 0) (marks_of (lines (with_constant id f p))) there.1))))) in
     record {
       count = corner.count ∙ sym (length-same id f p.rows);
@@ -252,10 +247,10 @@ corner-with p at id c f more x corner s stands =
       marks_fixed = λ y there.
           subst (λ (ms : List Mark). All (λ m. Agree (place m) x y) ms) (sym marks)
           (All-from_recursion (λ m. Agree (place m) x y) (marks_of (lines p))
-          (each-impl (λ m. between x y (place m) ≡ pos 0) _ (marks_of (lines p)) (λ m h. between-agree (x.num (place m)) (y.num (place m)) (x.num one_column) (y.num one_column) h) (recursion_from_All (λ m. between x y (place m) ≡ pos 0) (marks_of (lines p)) (nothing y there).0)));
+          (each-impl (λ m. step x y (place m) ≡ pos 0) _ (marks_of (lines p)) (λ m h. between-agree (x.num (place m)) (y.num (place m)) (x.num one_column) (y.num one_column) h) (recursion_from_All (λ m. step x y (place m) ≡ pos 0) (marks_of (lines p)) (nothing y there).0)));
       attrs_fixed = λ y there.
           All-from_recursion (λ s. Agree (attr_column s.attr) x y) p.stays
-          (each-impl (λ s. between x y (attr_column s.attr) ≡ pos 0) _ p.stays (λ s h. between-agree (x.num (attr_column s.attr)) (y.num (attr_column s.attr)) (x.num one_column) (y.num one_column) h) (recursion_from_All (λ s. between x y (attr_column s.attr) ≡ pos 0) p.stays (nothing y there).1));
+          (each-impl (λ s. step x y (attr_column s.attr) ≡ pos 0) _ p.stays (λ s h. between-agree (x.num (attr_column s.attr)) (y.num (attr_column s.attr)) (x.num one_column) (y.num one_column) h) (recursion_from_All (λ s. step x y (attr_column s.attr) ≡ pos 0) p.stays (nothing y there).1));
     }
 
 unfoldable lowered-point : (id : ℕ) → IsSmall (Held id) → (d : ℕ) → 0 < d → ℤ → Side → Point → Point

@@ -27,7 +27,6 @@ use Rattle.corner_laws.proofs.ColumnsStay.{each_marks}
 use Rattle.corner_laws.proofs.Counting.{IsSmall, cond_other, cond_same}
 use Rattle.corner_laws.proofs.Exchanged.{neg-times}
 use Rattle.corner_laws.proofs.Gaps.{shares}
-use Rattle.corner_laws.proofs.LinePlaces.{sum-each}
 use Rattle.corner_laws.proofs.Unique.{same-name}
 use Rattle.corner_laws.proofs.WrittenValues.{contains_each, nothing_outside}
 use Rattle.corner_laws.proofs.ZeroColumns.{here-in, part-other}
@@ -36,12 +35,15 @@ use Rattle.corner_lines.specs.LevelRows.{inside_number, reduced_number}
 use Rattle.corner_lines.specs.LevelCosts.{HasDeviation}
 use Rattle.corner_lines.specs.LevelFits.{IsFittingRow, IsLevelThere}
 use Rattle.corner_lines.specs.StayLevels.{InsideStayCosts, InsideStayFits, InsideStayIsUnfit, IsInsideStay, OutsideStayCostsOne, OutsideStayFits, OutsideStayLevelFits, StayLevelFits, StayLevelIsUnfit, turned}
-use Rattle.corner_lines.proofs.LevelExchanges.{all-small, by-sides, two-marks}
+use Rattle.corner_lines.proofs.LevelExchanges.{by-sides, two-marks, at-side}
 use Rattle.corner_lines.proofs.LevelCosts.{one-line}
 use Rattle.corner_lines.proofs.LevelFits.{fitting_row_has_writing, unfit_row_has_no_writing}
 use Rattle.corner_lines.proofs.LevelJoinCosts.{line-part}
 use Rattle.corner_lines.proofs.LevelSound.{whole_is_sound}
-use Rattle.corner_lines.proofs.StayRows.{inside_stay_has_row, outside_stay_has_row, stay-number, stay_stands_alone, turned-size, whole-one}
+use Rattle.corner_lines.proofs.StayRows.{inside_stay_has_row, outside_stay_has_row, stay-number, stay_stands_alone, turned-size}
+use Rattle.problem_core.proofs.Conflicts.{sum-each}
+use Rattle.corner_lines.proofs.LineWritings.{all-small}
+use Rattle.corner_laws.proofs.StayLevels.{whole-one}
 
 -- ---- the cost of a stay
 
@@ -110,7 +112,7 @@ inside_stay_costs p at level attr side own line value is (z, there, e) = (
       ∙ mul_left_comm_ℤ (pos (scales p)) (turned side value.num) (z.num one_column),
 )
 
-turned-lowest : (side : Side) (value : Fraction) → IsLowest value → IsLowest (record { num = turned side value.num; den = value.den })
+pub turned-lowest : (side : Side) (value : Fraction) → IsLowest value → IsLowest (record { num = turned side value.num; den = value.den })
 turned-lowest side value low = record { above = low.above; coprime = subst (λ (n : ℕ). IsGcd n value.den 1) (sym (turned-size side value.num)) low.coprime }
 
 turned-fits : (side : Side) (value : Fraction) → Fits value → Fits (record { num = turned side value.num; den = value.den })
@@ -124,7 +126,7 @@ level-there p at level attr side own line value is rays v low =
 
 -- ---- twice the stay's own number
 
-over-as : (level unit own : ℕ) (y : ℤ) (l : Line) → reduced_number Over level unit own y l ≡ y -ℤ inside_number Over level unit own l
+pub over-as : (level unit own : ℕ) (y : ℤ) (l : Line) → reduced_number Over level unit own y l ≡ y -ℤ inside_number Over level unit own l
 over-as level unit own y l = let a : ℤ = pos (own * over_share unit level l) in omega (arith, ints)
 
 -- the reduced cost of one mark where the other, or the same, is inside
@@ -152,10 +154,6 @@ twice-fits Under Under own h = omega arith
 twice-fits Under Over own h = h
 twice-fits Over Under own h = h
 twice-fits Over Over own h = omega arith
-
-at-side : (side : Side) (marks : List Mark) (name : RowName) → IsOutsideLine marks name → IsIn (place_of name side) marks → ⊥
-at-side Under marks name out i = out.under i
-at-side Over marks name out i = out.over i
 
 pub inside_stay_fits : InsideStayFits
 inside_stay_fits p at level attr side own line value is rays v low fits numbers two none =

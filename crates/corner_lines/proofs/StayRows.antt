@@ -1,15 +1,12 @@
 -- The level of a stay: its equation is the level's row.
-use Rattle.std.proofs.Common.{◌≡◌, ◌≢◌, ◌∙◌, ℕ, zero, suc, ◌+◌, ◌-◌, ◌*◌, ◌/◌, ◌<◌, ◌≤◌, List, [], ◌∷◌, ◌++◌, map, ℤ, pos, negsuc, ◌*ℤ◌, neg_ℤ, unsigned_abs, refl, sym, ap, subst, arith, inl, inr, AllPairs, Any, length, get_or}
+use Rattle.std.proofs.Common.{◌≡◌, ◌≢◌, ◌∙◌, ℕ, zero, suc, ◌+◌, ◌-◌, ◌*◌, ◌<◌, ◌≤◌, List, [], ◌∷◌, ◌++◌, map, ℤ, pos, negsuc, ◌*ℤ◌, neg_ℤ, unsigned_abs, refl, sym, ap, subst, arith, inl, inr, AllPairs, Any, length, get_or}
 use Rattle.std.specs.List.{AllByRecursion as Each}
 use Rattle.std.specs.Int.{◌∣◌}
 use Rattle.std.proofs.lemmas.Bool.{cases_eq}
-use Rattle.std.proofs.lemmas.Nat.Gcd.{dvd-zero}
-use Rattle.std.proofs.Math.Nat.{mul-div_cancel', one-dvd}
 use Rattle.std.proofs.lemmas.List.Elements.{All-from_recursion, recursion_from_All}
 use borrow.Author.Differences.{ints}
 use Rattle.frac_core.proofs.Integers.{mul-zero_ℤ, zero-mul_ℤ}
 use Rattle.problem_core.specs.declared.parts.Mark.{Mark}
-use Rattle.problem_core.specs.declared.parts.Rel.{Rel}
 use Rattle.problem_core.specs.declared.parts.Rel.TheVariants.{Eq}
 use Rattle.problem_core.specs.declared.parts.Side.{Side}
 use Rattle.problem_core.specs.declared.parts.Side.TheVariants.{Under, Over}
@@ -17,20 +14,23 @@ use Rattle.problem_core.specs.declared.parts.Stay.{Stay}
 use Rattle.problem_core.specs.declared.parts.RowName.{RowName}
 use Rattle.problem_core.specs.declared.parts.RowName.TheVariants.{Held, Stay as StayOf}
 use Rattle.problem_core.specs.Layout.{Line, Problem, Row, coefficient, line_of_row, lines, stay_lines, sum_of}
-use Rattle.problem_core.specs.Certificates.{under_weight, over_weight, weight_at}
+use Rattle.problem_core.specs.Certificates.{weight_at}
 use Rattle.problem_core.specs.Corners.{IsCorner, IsIn, place_of}
 use Rattle.problem_core.proofs.Forms.{each-impl, each-both, mul-sum, sum-cong}
-use Rattle.corner_laws.specs.Units.{IsLevelUnit, IsStayLevel, over_share, under_share}
+use Rattle.corner_laws.specs.Units.{over_share, under_share}
 use Rattle.corner_laws.proofs.Counting.{IsSmall, head_pairs, one_mark, tail_pairs}
 use Rattle.corner_laws.proofs.Directions.{each-of}
 use Rattle.corner_laws.proofs.Exchanged.{neg-times}
 use Rattle.corner_laws.proofs.LevelSizes.{no-over, no-share, no-under}
-use Rattle.corner_laws.proofs.LevelUnits.{no_weight, own_weight}
+use Rattle.corner_laws.proofs.LevelUnits.{own_weight}
 use Rattle.corner_laws.proofs.ZeroColumns.{each-joined}
 use Rattle.corner_lines.specs.LineEquations.{IsOutsideLine}
 use Rattle.corner_lines.specs.LevelRows.{inside_number}
 use Rattle.corner_lines.specs.StayLevels.{InsideStayHasRow, IsInsideStay, OutsideStayHasRow, StayStandsAlone, turned}
-use Rattle.corner_lines.proofs.LevelExchanges.{all-small, pivot-zeros}
+use Rattle.corner_lines.proofs.LevelExchanges.{pivot-zeros, at-side}
+use Rattle.corner_lines.proofs.LineWritings.{all-small}
+use Rattle.corner_laws.proofs.StayLevels.{under-one, over-one, stay-unit}
+use Rattle.corner_lines.proofs.LevelJoins.{one-divides}
 
 -- ---- a stay stands alone at its level
 
@@ -95,26 +95,6 @@ alone-stays level attr base (s ∷ stays) apart (suc k, l, within, is, e) =
     )
 
 -- ---- shares
-
-under-one : (rel : Rel) (w k : ℕ) → rel ≡ Eq → w ≡ 1 → k ≡ 1 → under_weight rel (1 * w / k) ≡ 1
-under-one rel w k r e f = ap (λ (q : Rel). under_weight q (1 * w / k)) r ∙ ap (λ (n : ℕ). 1 * n / k) e ∙ ap (λ (n : ℕ). 1 * 1 / n) f
-
-over-one : (rel : Rel) (w k : ℕ) → rel ≡ Eq → w ≡ 1 → k ≡ 1 → over_weight rel (1 * w / k) ≡ 1
-over-one rel w k r e f = ap (λ (q : Rel). over_weight q (1 * w / k)) r ∙ ap (λ (n : ℕ). 1 * n / k) e ∙ ap (λ (n : ℕ). 1 * 1 / n) f
-
-pub whole-one : (l : Line) (level : ℕ) → (l.level ≡ level → l.scale ≡ 1) → l.scale ∣ 1 * weight_at l level
-whole-one l level h = elim (cases_eq l.level level) [
-  | inl e ↦ subst (λ (k : ℕ). k ∣ 1 * weight_at l level) (sym (h e)) (one-dvd (1 * weight_at l level))
-  | inr ne ↦ subst (λ (n : ℕ). l.scale ∣ n) (sym (ap (λ (w : ℕ). 1 * w) (no_weight l level ne))) (dvd-zero l.scale)
-]
-
-pub stay-unit : (p : Problem) (level attr : ℕ) → IsStayLevel p level attr → IsLevelUnit p level 1
-stay-unit p level attr is = record {
-  above = omega arith;
-  whole = All-from_recursion (λ l. l.scale ∣ 1 * weight_at l level) (lines p)
-      (each-impl (λ l. l.level ≡ level → (l.name ≡ StayOf attr) × (l.rel ≡ Eq) × (l.scale ≡ 1) × (l.weight ≡ 1)) _ (lines p) (λ l h. whole-one l level (λ e. (h e).2)) (recursion_from_All _ (lines p) is.own));
-  least = λ n h. one-dvd n;
-}
 
 -- the stay's own share is 1, all others are 0
 pub stay-number : (level attr own : ℕ) (l : Line) (side : Side) → (l.level ≡ level → (l.name ≡ StayOf attr) × (l.rel ≡ Eq) × (l.scale ≡ 1) × (l.weight ≡ 1)) → l.level ≡ level → inside_number side level 1 own l ≡ turned side (neg_ℤ (pos own))
@@ -200,19 +180,6 @@ inside_stay_has_row p at level attr side own line is =
     )
 
 -- ---- a stay outside
-
-one-divides : (k : ℕ) → k ∣ 1 → k ≡ 1
-one-divides k d = one-factor k (1 / k) (mul-div_cancel' k d)
-  where
-    one-factor : (k n : ℕ) → k * n ≡ 1 → k ≡ 1
-    one-factor zero n e = absurd (omega (arith, e))
-    one-factor (suc zero) n e = refl
-    one-factor (suc (suc k)) zero e = absurd (omega (arith, e))
-    one-factor (suc (suc k)) (suc n) e = absurd (omega (arith, e))
-
-at-side : (side : Side) (marks : List Mark) (name : RowName) → IsOutsideLine marks name → IsIn (place_of name side) marks → ⊥
-at-side Under marks name out i = out.under i
-at-side Over marks name out i = out.over i
 
 none-there : (at : List Mark) (level attr : ℕ) (l : Line) (side : Side) → (l.level ≡ level → (l.name ≡ StayOf attr) × (l.rel ≡ Eq) × (l.scale ≡ 1) × (l.weight ≡ 1)) → IsOutsideLine at (StayOf attr) → IsIn (place_of l.name side) at → pos 0 ≡ inside_number side level 1 1 l
 none-there at level attr l side h out i = elim (cases_eq l.level level) [

@@ -1,11 +1,10 @@
 -- An assignment between two others.
-use Rattle.std.proofs.Common.{◌≡◌, ◌∙◌, ℕ, zero, suc, ◌+◌, ◌*◌, ◌<◌, ◌≤◌, Bool, true, false, cond, nat_eq, List, [], ◌∷◌, ℤ, pos, negsuc, ◌+ℤ◌, ◌-ℤ◌, ◌*ℤ◌, sym, ap, ap₂, subst, arith, mul-le-mul_left, mul-le-mul_right}
+use Rattle.std.proofs.Common.{◌≡◌, ◌∙◌, ℕ, zero, suc, ◌+◌, ◌*◌, ◌<◌, ◌≤◌, nat_eq, List, [], ◌∷◌, ℤ, pos, ◌+ℤ◌, ◌-ℤ◌, ◌*ℤ◌, sym, ap, ap₂, subst, arith}
 use borrow.Author.Differences.{ints}
 use Rattle.problem_core.specs.declared.parts.Term.{Term}
-use Rattle.problem_core.specs.declared.parts.Rel.{Rel}
-use Rattle.problem_core.specs.declared.parts.Rel.TheVariants.{Eq, Ge, Le}
-use Rattle.problem_core.specs.Layout.{Assignment, Line, above, below, cost, count_of, error, error_of, gap, share, value_at}
+use Rattle.problem_core.specs.Layout.{Assignment, Line, cost, error, error_of, gap, share, value_at}
 use Rattle.frac_core.proofs.Integers.{add-mul_right, diff-add, diff-mul, diff-neg, diff-pos, diff_eq, mul-add_left, neg-pos, on_1, on_3}
+use Rattle.problem_core.proofs.Midpoints.{count-mid, weighted-mid, error-mid}
 
 ruleset ring = (diff-add, diff-mul, diff-neg, diff-pos, neg-pos)
 
@@ -55,37 +54,14 @@ gap_mix a b some x y l =
     ap (λ (t : ℤ). pos l.den *ℤ t -ℤ l.num *ℤ pos ((a + b) * (x.den * y.den))) (value-mix a b x.den y.den x.num y.num l.form)
     ∙ gap-of-mix l.den a b x.den y.den (value_at x.num l.form) (value_at y.num l.form) l.num
 
-sides-mix : (e d : ℕ) (g h : ℤ) → pos e *ℤ g +ℤ pos d *ℤ h ≡ pos (e * above g + d * above h) -ℤ pos (e * below g + d * below h)
-sides-mix e d (pos a) (pos b) = omega (arith, ints)
-sides-mix e d (pos a) (negsuc b) = omega (arith, ints)
-sides-mix e d (negsuc a) (pos b) = omega (arith, ints)
-sides-mix e d (negsuc a) (negsuc b) = omega (arith, ints)
-
-most-sides : (z : ℤ) (p n : ℕ) → z ≡ pos p -ℤ pos n → (above z ≤ p) × (below z ≤ n)
-most-sides (pos a) p n e = (omega (arith, ints), omega arith)
-most-sides (negsuc a) p n e = (omega arith, omega (arith, ints))
-
-error-mix : (rel : Rel) (e d : ℕ) (g h : ℤ) → error_of rel (pos e *ℤ g +ℤ pos d *ℤ h) ≤ e * error_of rel g + d * error_of rel h
-error-mix Eq e d g h = omega (arith, most-sides (pos e *ℤ g +ℤ pos d *ℤ h) (e * above g + d * above h) (e * below g + d * below h) (sides-mix e d g h))
-error-mix Ge e d g h = omega (arith, most-sides (pos e *ℤ g +ℤ pos d *ℤ h) (e * above g + d * above h) (e * below g + d * below h) (sides-mix e d g h))
-error-mix Le e d g h = omega (arith, most-sides (pos e *ℤ g +ℤ pos d *ℤ h) (e * above g + d * above h) (e * below g + d * below h) (sides-mix e d g h))
-
 pub line_error_mix : (a b : ℕ) (some : 0 < a + b) (x y : Assignment) (l : Line) → error (mix a b some x y) l ≤ a * y.den * error x l + b * x.den * error y l
 line_error_mix a b some x y l =
-    subst (λ (g : ℤ). error_of l.rel g ≤ a * y.den * error x l + b * x.den * error y l) (sym (gap_mix a b some x y l)) (error-mix l.rel (a * y.den) (b * x.den) (gap x l) (gap y l))
-
-count-mix : {A : Type 0} (e d : ℕ) (f g h : A → ℕ) (xs : List A) → ((x : A) → f x ≤ e * g x + d * h x) → count_of f xs ≤ e * count_of g xs + d * count_of h xs
-count-mix e d f g h [] k = omega arith
-count-mix e d f g h (x ∷ xs) k = omega (arith, k x, count-mix e d f g h xs k)
-
-weighted-mix : (b : Bool) (e d w m g h s : ℕ) → m ≤ e * g + d * h → cond b (w * m * s) 0 ≤ e * cond b (w * g * s) 0 + d * cond b (w * h * s) 0
-weighted-mix true e d w m g h s l = omega (arith, mul-le-mul_right s (mul-le-mul_left w l))
-weighted-mix false e d w m g h s l = omega arith
+    subst (λ (g : ℤ). error_of l.rel g ≤ a * y.den * error x l + b * x.den * error y l) (sym (gap_mix a b some x y l)) (error-mid l.rel (a * y.den) (b * x.den) (gap x l) (gap y l))
 
 pub cost_mix : (ls : List Line) (a b : ℕ) (some : 0 < a + b) (x y : Assignment) (level : ℕ) → cost ls (mix a b some x y) level ≤ a * y.den * cost ls x level + b * x.den * cost ls y level
 cost_mix ls a b some x y level =
-    count-mix (a * y.den) (b * x.den) _ _ _ ls
-    (λ l. weighted-mix (nat_eq l.level level) (a * y.den) (b * x.den) l.weight (error (mix a b some x y) l) (error x l) (error y l) (share ls l) (line_error_mix a b some x y l))
+    count-mid (a * y.den) (b * x.den) _ _ _ ls
+    (λ l. weighted-mid (nat_eq l.level level) (a * y.den) (b * x.den) l.weight (error (mix a b some x y) l) (error x l) (error y l) (share ls l) (line_error_mix a b some x y l))
 
 -- ---- its value
 

@@ -1,7 +1,7 @@
 -- The attributes that move, one more at a time.
-use Rattle.std.proofs.Common.{◌≡◌, ◌≢◌, ◌∙◌, ℕ, ◌+◌, ◌<◌, ◌≤◌, List, [], ◌∷◌, ◌++◌, map, length, take, get_or, refl, sym, ap, subst, arith, All, AllPairs, append-nil}
-use Rattle.std.proofs.lemmas.List.{get_or-map, get_or-take, get_or_default, length-map, length-take-le, take_all, take_more}
-use Rattle.std.proofs.lemmas.List.Elements.{All-nil, All-push}
+use Rattle.std.proofs.Common.{◌≡◌, ◌≢◌, ◌∙◌, ℕ, ◌+◌, ◌<◌, List, [], ◌∷◌, ◌++◌, map, length, take, get_or, refl, sym, ap, subst, arith, All, AllPairs, append-nil}
+use Rattle.std.proofs.lemmas.List.{get_or-map, get_or-take, get_or_default, length-map, length-take-le, take_more}
+use Rattle.std.proofs.lemmas.List.Elements.{All-push}
 use Rattle.std.proofs.lemmas.List.Quantifiers.{all_pairs_push}
 use Rattle.frac_core.specs.Fraction.{Fraction}
 use Rattle.problem_core.specs.declared.parts.Stay.{Stay}
@@ -33,14 +33,6 @@ stays_rise values stays e rising i j d less within =
         ∙ get_or-map (λ (t : Stay). t.attr) ss k s s.attr short
 
 -- ---- one more
-
-pub moving_none : (p : Problem) (values : List (ℕ × Fraction)) → AreMoving p values [] []
-moving_none p values = record {
-  answers = All-nil (λ (m : ℕ × Fraction). IsAnswer p m.0 (value_of values m.0) (Moves m.1));
-  among = All-nil (λ (m : ℕ × Fraction). HasStay [] m.0);
-  rising = λ i j d less within. absurd (omega (arith, within));
-  all = All-nil (λ (s : Stay). All (λ (m : ℕ × Fraction). m.0 ≢ s.attr) [] → IsAmbiguous p s.attr → ⊥);
-}
 
 pub moving_skip : (p : Problem) (values : List (ℕ × Fraction)) (stays : List Stay) (moving : List (ℕ × Fraction)) (s : Stay) → (IsAmbiguous p s.attr → ⊥) → AreMoving p values stays moving → AreMoving p values (stays ++ s ∷ []) moving
 moving_skip p values stays moving s fixed are = record {
@@ -111,9 +103,6 @@ pub next_listed : (p : Problem) (values : List (ℕ × Fraction)) (stays read : 
 next_listed p values stays read moving new i s answer rising within same is e are =
     next-answered p values stays moving new i (get_or read i s).attr (get_or stays i s) answer rising within (get_or_default stays i s (get_or stays i s) within)
     (ap (λ (ss : List Stay). (get_or ss i s).attr) same) is e are
-
-pub moving_all : (p : Problem) (values : List (ℕ × Fraction)) (stays : List Stay) (moving : List (ℕ × Fraction)) (i : ℕ) → length stays ≤ i → AreMoving p values (take i stays) moving → AreMoving p values stays moving
-moving_all p values stays moving i over h = subst (λ (done : List Stay). AreMoving p values done moving) (take_all i stays over) h
 
 pub can_next : (l : Layout) (read : List Stay) (i : ℕ) (s : Stay) → CanProbeAll l → i < length l.problem.stays → read ≡ l.problem.stays → CanProbe l (get_or read i s).attr
 can_next l read i s can within same = subst (λ (ss : List Stay). CanProbe l (get_or ss i s).attr) (sym same) (can i s within)

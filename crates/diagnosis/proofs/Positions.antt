@@ -6,6 +6,7 @@ use Rattle.frac_core.proofs.Integers.{add-mul_right, diff-add, diff-mul, diff-ne
 use Rattle.frac_core.specs.Fraction.{Fraction}
 use Rattle.problem_core.specs.Layout.{Assignment}
 use Rattle.diagnosis.specs.Ambiguity.{IsAbove, IsBelow, IsDownToLast, IsUpToNext, Reaches}
+use Rattle.certificates.proofs.SameValues.{product-up}
 
 ruleset ring = (diff-add, diff-mul, diff-neg, diff-pos, neg-pos)
 
@@ -36,11 +37,6 @@ spread-first d t D E = on_2 (λ X N. pos d *ℤ ((X *ℤ pos t -ℤ N *ℤ pos D
 
 swap-dens : (t D E : ℕ) (n m : ℤ) → (pos (t * E) *ℤ (n *ℤ pos D) ≡ pos (t * D) *ℤ (n *ℤ pos E)) × (pos 0 *ℤ m ≡ pos 0 *ℤ m)
 swap-dens t D E = on_2 (λ n m. (pos (t * E) *ℤ (n *ℤ pos D) ≡ pos (t * D) *ℤ (n *ℤ pos E)) × (pos 0 *ℤ m ≡ pos 0 *ℤ m)) (λ n n' m m'. (simp ring (diff_eq _ _ _ _ (omega arith)), refl))
-
-product-up : (a b : ℕ) → 0 < a → 0 < b → 0 < a * b
-product-up (suc a) (suc b) h k = omega arith
-product-up zero b h k = absurd (omega (arith, h))
-product-up (suc a) zero h k = absurd (omega (arith, k))
 
 compared : (attr : ℕ) (t f : Fraction) (x y : Assignment) → Reaches x attr f
     → (pos f.den *ℤ (place attr t x *ℤ pos y.den) ≡ pos (t.den * x.den) *ℤ (f.num *ℤ pos y.den) -ℤ pos (f.den * (x.den * y.den)) *ℤ t.num)

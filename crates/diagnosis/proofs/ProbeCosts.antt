@@ -1,5 +1,5 @@
 -- What a problem costs with one more row of rank 0.
-use Rattle.std.proofs.Common.{◌≡◌, ◌∙◌, inl, inr, ℕ, zero, suc, ◌+◌, ◌-◌, ◌*◌, ◌<◌, ◌≤◌, Bool, true, false, cond, nat_eq, List, [], ◌∷◌, ◌++◌, map, refl, sym, ap, ap₂, subst, arith, All, one-mul, ne_eqb}
+use Rattle.std.proofs.Common.{◌≡◌, ◌∙◌, inl, inr, ℕ, ◌+◌, ◌-◌, ◌*◌, ◌<◌, ◌≤◌, Bool, true, false, cond, nat_eq, List, [], ◌∷◌, ◌++◌, map, refl, sym, ap, ap₂, subst, arith, All, one-mul, ne_eqb}
 use Rattle.std.specs.List.{AllByRecursion as Each}
 use Rattle.std.proofs.lemmas.Bool.{cases_lt}
 use Rattle.std.proofs.lemmas.List.Elements.{All-from_recursion, recursion_from_All}
@@ -9,11 +9,9 @@ use Rattle.problem_core.proofs.Forms.{each-both, each-impl, product-positive, pr
 use Rattle.problem_core.proofs.Midpoints.{cancel, count-append, left-positive, none-before}
 use Rattle.diagnosis.specs.Ambiguity.{IsLooselyBest}
 use Rattle.diagnosis.proofs.Loosely.{less_from, less_times, same_costs}
-
-product-up : (a b : ℕ) → 0 < a → 0 < b → 0 < a * b
-product-up (suc a) (suc b) h k = omega arith
-product-up zero b h k = absurd (omega (arith, h))
-product-up (suc a) zero h k = absurd (omega (arith, k))
+use Rattle.certificates.proofs.SameValues.{product-up}
+use Rattle.certificates.proofs.ErrorFacts.{counts-alike}
+use Rattle.corner.proofs.NewCorners.{made_problem}
 
 line-products : (p : Problem) → IsProblem p → Each (λ l. 0 < l.scale * l.den) (lines p)
 line-products p problem = each-impl (λ l. (0 < l.scale) × (0 < l.den)) (λ l. 0 < l.scale * l.den) (lines p) (λ l h. product-up l.scale l.den h.0 h.1) (recursion_from_All _ (lines p) problem)
@@ -25,9 +23,6 @@ line-shares : (p : Problem) → IsProblem p → Each (λ l. share (lines p) l * 
 line-shares p problem = product-shares (λ (l : Line). l.scale * l.den) (lines p) (common (lines p)) 1 (sym (one-mul (common (lines p)))) (line-products p problem)
 
 -- ---- the two problems
-
-abbrev pub base : List Row → List Stay → Problem
-base rows stays = record { rows = rows; stays = stays }
 
 abbrev pub probed : List Row → Row → List Stay → Problem
 probed rows r stays = record { rows = rows ++ r ∷ []; stays = stays }
@@ -41,11 +36,11 @@ abbrev part : List Line → Assignment → ℕ → Line → ℕ
 part ls x k l = cond (nat_eq l.level k) (l.weight * error x l * share ls l) 0
 
 -- the rows alone cost at a priority
-base-cost : (rows : List Row) (stays : List Stay) (x : Assignment) (k : ℕ) → k ≤ 1000 → cost (lines (base rows stays)) x k ≡ count_of (part (lines (base rows stays)) x k) (map line_of_row rows)
+base-cost : (rows : List Row) (stays : List Stay) (x : Assignment) (k : ℕ) → k ≤ 1000 → cost (lines (made_problem rows stays)) x k ≡ count_of (part (lines (made_problem rows stays)) x k) (map line_of_row rows)
 base-cost rows stays x k low =
-    let none = none-before k 1001 (λ l. l.weight * error x l * share (lines (base rows stays)) l) stays (omega (arith, low)) in
-    count-append (part (lines (base rows stays)) x k) (map line_of_row rows) (stay_lines 1001 stays)
-    ∙ (let q : count_of (part (lines (base rows stays)) x k) (stay_lines 1001 stays) ≡ 0 = none in omega (arith, q))
+    let none = none-before k 1001 (λ l. l.weight * error x l * share (lines (made_problem rows stays)) l) stays (omega (arith, low)) in
+    count-append (part (lines (made_problem rows stays)) x k) (map line_of_row rows) (stay_lines 1001 stays)
+    ∙ (let q : count_of (part (lines (made_problem rows stays)) x k) (stay_lines 1001 stays) ≡ 0 = none in omega (arith, q))
 
 probed-cost : (rows : List Row) (r : Row) (stays : List Stay) (x : Assignment) (k : ℕ) → k ≤ 1000
     → cost (lines (probed rows r stays)) x k ≡ count_of (part (lines (probed rows r stays)) x k) (map line_of_row rows) + part (lines (probed rows r stays)) x k (line_of_row r)
@@ -75,30 +70,21 @@ part-alike true w e s u n A B above h k =
     let b : w * e * u * A ≡ w * e * u * (s * n) = ap (λ (z : ℕ). w * e * u * z) (sym h) in
     omega (arith, a, b)
 
-counts-alike : (f g : Line → ℕ) (s c : ℕ) (ls : List Line) → Each (λ l. f l * s ≡ g l * c) ls → count_of f ls * s ≡ count_of g ls * c
-counts-alike f g s c [] h = omega arith
-counts-alike f g s c (l ∷ ls) h =
-    let here = h.0 in
-    let rest = counts-alike f g s c ls h.1 in
-    let a : (f l + count_of f ls) * s ≡ f l * s + count_of f ls * s = omega arith in
-    let b : (g l + count_of g ls) * c ≡ g l * c + count_of g ls * c = omega arith in
-    omega (arith, here, rest, a, b)
-
-module _ (rows : List Row) (r : Row) (old new : List Stay) (p_is : IsProblem (base rows old)) (q_is : IsProblem (probed rows r new)) where
-  rows-alike : (x : Assignment) (k : ℕ) → count_of (part (lines (base rows old)) x k) (map line_of_row rows) * common (lines (probed rows r new)) ≡ count_of (part (lines (probed rows r new)) x k) (map line_of_row rows) * common (lines (base rows old))
+module _ (rows : List Row) (r : Row) (old new : List Stay) (p_is : IsProblem (made_problem rows old)) (q_is : IsProblem (probed rows r new)) where
+  rows-alike : (x : Assignment) (k : ℕ) → count_of (part (lines (made_problem rows old)) x k) (map line_of_row rows) * common (lines (probed rows r new)) ≡ count_of (part (lines (probed rows r new)) x k) (map line_of_row rows) * common (lines (made_problem rows old))
   rows-alike x k =
-      counts-alike (part (lines (base rows old)) x k) (part (lines (probed rows r new)) x k) (common (lines (probed rows r new))) (common (lines (base rows old))) (map line_of_row rows)
-      (each-impl (λ l. (0 < l.scale * l.den) × ((share (lines (base rows old)) l * (l.scale * l.den) ≡ common (lines (base rows old))) × (share (lines (probed rows r new)) l * (l.scale * l.den) ≡ common (lines (probed rows r new))))) _ (map line_of_row rows)
-      (λ l h. part-alike (nat_eq l.level k) l.weight (error x l) (share (lines (base rows old)) l) (share (lines (probed rows r new)) l) (l.scale * l.den) (common (lines (base rows old))) (common (lines (probed rows r new))) h.0 h.1.0 h.1.1)
-      (each-both _ _ (map line_of_row rows) (front (λ l. 0 < l.scale * l.den) rows (stay_lines 1001 old) (line-products (base rows old) p_is))
-      (each-both _ _ (map line_of_row rows) (front _ rows (stay_lines 1001 old) (line-shares (base rows old) p_is)) (front-more _ rows r (stay_lines 1001 new) (line-shares (probed rows r new) q_is)).0)))
+      counts-alike (part (lines (made_problem rows old)) x k) (part (lines (probed rows r new)) x k) (common (lines (probed rows r new))) (common (lines (made_problem rows old))) (map line_of_row rows)
+      (each-impl (λ l. (0 < l.scale * l.den) × ((share (lines (made_problem rows old)) l * (l.scale * l.den) ≡ common (lines (made_problem rows old))) × (share (lines (probed rows r new)) l * (l.scale * l.den) ≡ common (lines (probed rows r new))))) _ (map line_of_row rows)
+      (λ l h. part-alike (nat_eq l.level k) l.weight (error x l) (share (lines (made_problem rows old)) l) (share (lines (probed rows r new)) l) (l.scale * l.den) (common (lines (made_problem rows old))) (common (lines (probed rows r new))) h.0 h.1.0 h.1.1)
+      (each-both _ _ (map line_of_row rows) (front (λ l. 0 < l.scale * l.den) rows (stay_lines 1001 old) (line-products (made_problem rows old) p_is))
+      (each-both _ _ (map line_of_row rows) (front _ rows (stay_lines 1001 old) (line-shares (made_problem rows old) p_is)) (front-more _ rows r (stay_lines 1001 new) (line-shares (probed rows r new) q_is)).0)))
 
   -- below the rank of the probe the costs are the same, over other denominators
-  pub same_below : r.rank ≡ 0 → (x : Assignment) (k : ℕ) → k < 1000 → cost (lines (base rows old)) x k * common (lines (probed rows r new)) ≡ cost (lines (probed rows r new)) x k * common (lines (base rows old))
+  pub same_below : r.rank ≡ 0 → (x : Assignment) (k : ℕ) → k < 1000 → cost (lines (made_problem rows old)) x k * common (lines (probed rows r new)) ≡ cost (lines (probed rows r new)) x k * common (lines (made_problem rows old))
   same_below rank x k low =
       let none : part (lines (probed rows r new)) x k (line_of_row r) ≡ 0 = ap (λ (b : Bool). cond b (r.weight * error x (line_of_row r) * share (lines (probed rows r new)) (line_of_row r)) 0) (ne_eqb (1000 - r.rank) k (λ e. absurd (omega (arith, e, rank, low)))) in
       let q : cost (lines (probed rows r new)) x k ≡ count_of (part (lines (probed rows r new)) x k) (map line_of_row rows) = probed-cost rows r new x k (omega (arith, low)) ∙ (omega (arith, none)) in
-      ap (λ (n : ℕ). n * common (lines (probed rows r new))) (base-cost rows old x k (omega (arith, low))) ∙ rows-alike x k ∙ ap (λ (n : ℕ). n * common (lines (base rows old))) (sym q)
+      ap (λ (n : ℕ). n * common (lines (probed rows r new))) (base-cost rows old x k (omega (arith, low))) ∙ rows-alike x k ∙ ap (λ (n : ℕ). n * common (lines (made_problem rows old))) (sym q)
 
   -- ---- at the probe's rank
 
@@ -110,8 +96,8 @@ module _ (rows : List Row) (r : Row) (old new : List Stay) (p_is : IsProblem (ba
       let here : cond (nat_eq (1000 - s.rank) 1000) (f (line_of_row s)) 0 ≡ 0 = ap (λ (b : Bool). cond b (f (line_of_row s)) 0) (ne_eqb (1000 - s.rank) 1000 (λ e. absurd (omega (arith, e, some)))) in
       omega (arith, here, rest)
 
-  pub base_none : All (λ s. 0 < s.rank) rows → (x : Assignment) → cost (lines (base rows old)) x 1000 ≡ 0
-  base_none ranks x = base-cost rows old x 1000 (omega arith) ∙ none-at-rank (λ l. l.weight * error x l * share (lines (base rows old)) l) rows (recursion_from_All (λ s. 0 < s.rank) rows ranks)
+  pub base_none : All (λ s. 0 < s.rank) rows → (x : Assignment) → cost (lines (made_problem rows old)) x 1000 ≡ 0
+  base_none ranks x = base-cost rows old x 1000 (omega arith) ∙ none-at-rank (λ l. l.weight * error x l * share (lines (made_problem rows old)) l) rows (recursion_from_All (λ s. 0 < s.rank) rows ranks)
 
   pub probe_cost : All (λ s. 0 < s.rank) rows → r.rank ≡ 0 → r.weight ≡ 1 → (x : Assignment) → cost (lines (probed rows r new)) x 1000 ≡ error x (line_of_row r) * share (lines (probed rows r new)) (line_of_row r)
   probe_cost ranks rank weight x =
@@ -148,8 +134,8 @@ rows-front : (P : Row → Type 0) (rows : List Row) (r : Row) → Each P (rows +
 rows-front P [] r h = tt
 rows-front P (s ∷ rows) r h = (h.0, rows-front P rows r h.1)
 
-module _ (rows : List Row) (r : Row) (old new : List Stay) (p_is : IsProblem (base rows old)) (q_is : IsProblem (probed rows r new)) (ranks : All (λ s. 0 < s.rank) rows) (rank : r.rank ≡ 0) (weight : r.weight ≡ 1) where
-  pub probed_loosely : (x : Assignment) → IsBest (probed rows r new) x → IsLooselyBest (base rows old) x
+module _ (rows : List Row) (r : Row) (old new : List Stay) (p_is : IsProblem (made_problem rows old)) (q_is : IsProblem (probed rows r new)) (ranks : All (λ s. 0 < s.rank) rows) (rank : r.rank ≡ 0) (weight : r.weight ≡ 1) where
+  pub probed_loosely : (x : Assignment) → IsBest (probed rows r new) x → IsLooselyBest (made_problem rows old) x
   probed_loosely x best = record {
     satisfies = All-from_recursion (λ s. s.rank ≡ 1000 → error x (line_of_row s) ≡ 0) rows (rows-front (λ s. s.rank ≡ 1000 → error x (line_of_row s) ≡ 0) rows r (recursion_from_All _ (rows ++ r ∷ []) best.0));
     least = λ y less. elim (cases_lt less.0 1000) [
@@ -157,27 +143,27 @@ module _ (rows : List Row) (r : Row) (old new : List Stay) (p_is : IsProblem (ba
           best.1 y (
             less.0,
             λ k before.
-                moved-same (cost (lines (base rows old)) y k) (cost (lines (base rows old)) x k) (common (lines (base rows old))) (common (lines (probed rows r new))) y.den x.den (cost (lines (probed rows r new)) y k) (cost (lines (probed rows r new)) x k)
-                (common_above (base rows old) p_is) (same_below rows r old new p_is q_is rank y k (omega (arith, before, low))) (same_below rows r old new p_is q_is rank x k (omega (arith, before, low))) (less.2 k before),
-            moved-less (cost (lines (base rows old)) y less.0) (cost (lines (base rows old)) x less.0) (common (lines (base rows old))) (common (lines (probed rows r new))) y.den x.den (cost (lines (probed rows r new)) y less.0) (cost (lines (probed rows r new)) x less.0)
+                moved-same (cost (lines (made_problem rows old)) y k) (cost (lines (made_problem rows old)) x k) (common (lines (made_problem rows old))) (common (lines (probed rows r new))) y.den x.den (cost (lines (probed rows r new)) y k) (cost (lines (probed rows r new)) x k)
+                (common_above (made_problem rows old) p_is) (same_below rows r old new p_is q_is rank y k (omega (arith, before, low))) (same_below rows r old new p_is q_is rank x k (omega (arith, before, low))) (less.2 k before),
+            moved-less (cost (lines (made_problem rows old)) y less.0) (cost (lines (made_problem rows old)) x less.0) (common (lines (made_problem rows old))) (common (lines (probed rows r new))) y.den x.den (cost (lines (probed rows r new)) y less.0) (cost (lines (probed rows r new)) x less.0)
                 (common_above (probed rows r new) q_is) (same_below rows r old new p_is q_is rank y less.0 low) (same_below rows r old new p_is q_is rank x less.0 low) less.3,
           )
       | inr high ↦
           let top : less.0 ≡ 1000 = (let most = less.1 in omega (arith, high, most)) in
-          let last : cost (lines (base rows old)) y 1000 * x.den < cost (lines (base rows old)) x 1000 * y.den = subst (λ (k : ℕ). cost (lines (base rows old)) y k * x.den < cost (lines (base rows old)) x k * y.den) top less.3 in
-          let none : cost (lines (base rows old)) x 1000 * y.den ≡ 0 * y.den = ap (λ (n : ℕ). n * y.den) (base_none rows r old new p_is q_is ranks x) in
+          let last : cost (lines (made_problem rows old)) y 1000 * x.den < cost (lines (made_problem rows old)) x 1000 * y.den = subst (λ (k : ℕ). cost (lines (made_problem rows old)) y k * x.den < cost (lines (made_problem rows old)) x k * y.den) top less.3 in
+          let none : cost (lines (made_problem rows old)) x 1000 * y.den ≡ 0 * y.den = ap (λ (n : ℕ). n * y.den) (base_none rows r old new p_is q_is ranks x) in
           absurd (omega (arith, last, none))
     ];
   }
 
   -- no loosely best assignment has a lesser error at the probe
-  pub probed_nearest : (x y : Assignment) → IsBest (probed rows r new) x → IsLooselyBest (base rows old) y → error y (line_of_row r) * x.den < error x (line_of_row r) * y.den → ⊥
+  pub probed_nearest : (x y : Assignment) → IsBest (probed rows r new) x → IsLooselyBest (made_problem rows old) y → error y (line_of_row r) * x.den < error x (line_of_row r) * y.den → ⊥
   probed_nearest x y best also less =
       best.1 y (
         1000,
         λ k before.
-            moved-same (cost (lines (base rows old)) y k) (cost (lines (base rows old)) x k) (common (lines (base rows old))) (common (lines (probed rows r new))) y.den x.den (cost (lines (probed rows r new)) y k) (cost (lines (probed rows r new)) x k)
-            (common_above (base rows old) p_is) (same_below rows r old new p_is q_is rank y k before) (same_below rows r old new p_is q_is rank x k before) (same_costs (base rows old) y x also (probed_loosely x best) k (omega (arith, before))),
+            moved-same (cost (lines (made_problem rows old)) y k) (cost (lines (made_problem rows old)) x k) (common (lines (made_problem rows old))) (common (lines (probed rows r new))) y.den x.den (cost (lines (probed rows r new)) y k) (cost (lines (probed rows r new)) x k)
+            (common_above (made_problem rows old) p_is) (same_below rows r old new p_is q_is rank y k before) (same_below rows r old new p_is q_is rank x k before) (same_costs (made_problem rows old) y x also (probed_loosely x best) k (omega (arith, before))),
         (let times = less_times (error y (line_of_row r) * x.den) (error x (line_of_row r) * y.den) (share (lines (probed rows r new)) (line_of_row r)) (probe_share rows r old new p_is q_is) less in
             let a : cost (lines (probed rows r new)) y 1000 * x.den ≡ error y (line_of_row r) * share (lines (probed rows r new)) (line_of_row r) * x.den = ap (λ (n : ℕ). n * x.den) (probe_cost rows r old new p_is q_is ranks rank weight y) in
             let b : cost (lines (probed rows r new)) x 1000 * y.den ≡ error x (line_of_row r) * share (lines (probed rows r new)) (line_of_row r) * y.den = ap (λ (n : ℕ). n * y.den) (probe_cost rows r old new p_is q_is ranks rank weight x) in

@@ -1,5 +1,5 @@
 -- With the probe row a layout's problem is whole.
-use Rattle.std.proofs.Common.{◌≡◌, ◌≢◌, ◌∙◌, ℕ, zero, suc, ◌+◌, ◌-◌, ◌<◌, ◌≤◌, ◌^◌, List, [], ◌∷◌, ◌++◌, map, length, get_or, pos, refl, sym, ap, subst, arith, All, AllPairs, append-nil, length-append}
+use Rattle.std.proofs.Common.{◌≡◌, ◌≢◌, ◌∙◌, ℕ, suc, ◌+◌, ◌-◌, ◌<◌, ◌≤◌, ◌^◌, List, [], ◌∷◌, ◌++◌, map, length, get_or, pos, sym, ap, subst, arith, All, AllPairs, append-nil, length-append}
 use Rattle.std.specs.List.{AllByRecursion as Each}
 use Rattle.std.proofs.lemmas.List.{length-map}
 use Rattle.std.proofs.lemmas.List.Elements.{All-from_recursion, All-push, recursion_from_All}
@@ -14,6 +14,7 @@ use Rattle.problem_core.specs.Kept.{IsNumber, IsRow, IsStay, IsTerm, IsWhole}
 use Rattle.problem_core.proofs.Forms.{each-impl}
 use Rattle.layout_solver.specs.Layouts.{Layout, stays_at, zeros}
 use Rattle.diagnosis.specs.Probes.{CanProbe, next_number, probe_row, with_probe}
+use Rattle.layout_solver.proofs.BestValues.{attrs-at, same-stays}
 
 -- ---- the number
 
@@ -49,21 +50,6 @@ next_is (s ∷ (t ∷ rows)) r some is =
     next_is (t ∷ rows) r (omega arith) (sym (ap (λ (k : ℕ). get_or (s ∷ (t ∷ rows)) k r) (let e : length (s ∷ (t ∷ rows)) - 1 ≡ suc (length (t ∷ rows) - 1) = omega arith in e)) ∙ is)
 
 -- ---- the stays
-
-attrs-at : (values : List (ℕ × Fraction)) → map (λ s. s.attr) (stays_at values) ≡ map (λ v. v.0) values
-attrs-at [] = refl
-attrs-at (v ∷ values) = ap (λ (ns : List ℕ). v.0 ∷ ns) (attrs-at values)
-
-same-stays : (old new : List Stay) (attr : ℕ) → map (λ s. s.attr) old ≡ map (λ s. s.attr) new → HasStay old attr → HasStay new attr
-same-stays [] new attr e (k, s, within, is, h) = absurd (omega (arith, within))
-same-stays (o ∷ old) [] attr e has = cc
-same-stays (o ∷ old) (n ∷ new) attr e (zero, s, within, is, h) =
-    let head : o.attr ≡ n.attr = cc in
-    (0, n, omega arith, refl, sym head ∙ ap (λ (t : Stay). t.attr) is ∙ h)
-same-stays (o ∷ old) (n ∷ new) attr e (suc k, s, within, is, h) =
-    let tail : map (λ s. s.attr) old ≡ map (λ s. s.attr) new = cc in
-    let r = same-stays old new attr tail (k, s, omega (arith, within), is, h) in
-    (suc r.0, r.1, (let less = r.2 in omega (arith, less)), r.3, r.4)
 
 numbers-at : (stays : List Stay) (values : List (ℕ × Fraction)) → map (λ v. v.0) values ≡ map (λ s. s.attr) stays → Each IsStay stays → Each (λ v. IsKept v.1) values → Each IsStay (stays_at values)
 numbers-at stays [] e h k = tt

@@ -101,9 +101,6 @@ own_error rows values r id f rising (i, q, within, is, e) same (j, s, also, at, 
     let one : q ≡ s = same-row rows i j q s rising within also is at (ap (λ (t : Row). t.id) e ∙ sym same ∙ sym h.0) in
     subst (λ (t : Row). EachGiven values (λ x. IsErrorAt x (line_of_row t) f)) (sym one ∙ e) h.1
 
-pub own_held : (rows : List Row) (r : Row) (id : ℕ) → Any (λ s. s ≡ r) rows → id ≡ r.id → Any (λ s. s.id ≡ id) rows
-own_held rows r id (i, q, within, is, e) same = (i, q, within, is, ap (λ (t : Row). t.id) e ∙ sym same)
-
 -- a row that is not required has a rank below 1000
 pub row_rank : (p : Problem) (r : Row) → IsWhole p → Any (λ s. s ≡ r) p.rows → r.rank ≢ 1000 → r.rank < 1000
 row_rank p r whole (i, q, within, is, e) other =

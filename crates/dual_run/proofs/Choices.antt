@@ -3,7 +3,6 @@ use Rattle.std.proofs.Common.{◌≡◌, ◌≢◌, ◌∙◌, inl, inr, ℕ, �
 use borrow.Author.Differences.{ints}
 use Rattle.std.proofs.lemmas.Bool.{cases_eq}
 use Rattle.std.proofs.lemmas.List.Elements.{All-from_recursion}
-use Rattle.frac_core.proofs.Integers.{mul-zero_ℤ}
 use Rattle.problem_core.specs.declared.parts.Mark.{Mark}
 use Rattle.problem_core.specs.declared.parts.Term.{Term}
 use Rattle.problem_core.specs.declared.parts.RowName.{RowName}
@@ -15,8 +14,7 @@ use Rattle.problem_core.specs.Corners.{IsIn, IsWritingOf, place, place_of}
 use Rattle.corner_laws.specs.Runs.{IsDualSwap, Writes, Writing, other_mark, other_side}
 use Rattle.corner_laws.proofs.Directions.{each-of, ray_number}
 use Rattle.corner_laws.proofs.LowestForms.{column_has_writing}
-use Rattle.corner_laws.proofs.PrimalChoice.{up-both}
-use Rattle.corner_laws.proofs.DualRuns.{other_mark_grows}
+use Rattle.corner_laws.proofs.DualRuns.{other_mark_grows, up-some}
 use Rattle.corner.specs.Views.{CornerView, IsKeptCorner, IsScaleOf, MovesWith}
 use Rattle.corner.specs.Entries.{AreBothOutside, AreEntries, HasEntry}
 use Rattle.corner_ends.proofs.Fronts.{order, reduced_at_all}
@@ -58,9 +56,6 @@ choice_positive p at leave f choice = record { mark = choice.outside.0; above = 
 
 pub no_greater_self : (p : Problem) (at : List Mark) (a : Choice) → IsNoGreater p at a a
 no_greater_self p at a r = lesser_self r.costs (place a.mark) a.by
-
-pub no_greater_through : (p : Problem) (at : List Mark) (leave : Mark) (a b c : Choice) → IsChoice p at leave a → IsChoice p at leave b → IsChoice p at leave c → IsNoGreater p at a b → IsNoGreater p at b c → IsNoGreater p at a c
-no_greater_through p at leave a b c x y z h g r = lesser_through r.costs (place a.mark) (place b.mark) (place c.mark) a.by b.by c.by x.above y.above z.above (h r) (g r)
 
 -- what is no greater than a choice is no greater than its mark's
 pub before_choice : (p : Problem) (at : List Mark) (leave : Mark) (a b : Choice) (m : Mark) → IsChoice p at leave b → b.mark ≡ m → IsNoGreater p at a b → IsBeforeMark p at leave a m
@@ -116,12 +111,6 @@ before_all p at leave f name inside own entries =
           (sym (ap (λ (m : Mark). m.row) (one_mark (record { row = name; side = Under }) (record { row = leave.row; side = Under }) (sym e)))) own
       | inr ne ↦ λ side w writes up. entries name (grown_entry p at leave name side w inside (λ e. ne (ap (λ (n : RowName). place_of n Under) e)) writes up) side w writes up
     ]
-
-up-some : (s : ℕ) (a k r : ℤ) → pos 0 <ℤ k → pos 0 <ℤ r → pos s *ℤ a ≡ k *ℤ r → a ≢ pos 0
-up-some s a k r up grow e none =
-    let one : pos 0 <ℤ (k *ℤ r) = up-both k r up grow in
-    let two : pos s *ℤ a ≡ pos 0 = ap (λ (z : ℤ). pos s *ℤ z) none ∙ mul-zero_ℤ (pos s) in
-    absurd (omega (arith, ints, one, two, e))
 
 -- the leaving mark moves where a choice grows
 pub choice_moves : (p : Problem) (at : List Mark) (leave : Mark) (f : Choice) → IsKeptCorner p at → IsIn (place leave) at → IsChoice p at leave f → MovesWith p at f.mark (MarkOf leave)

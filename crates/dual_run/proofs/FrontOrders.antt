@@ -11,12 +11,13 @@ use Rattle.corner_laws.proofs.ColumnSigns.{negative_by_reduced}
 use Rattle.corner.specs.declared.levels.Front.{Front}
 use Rattle.corner.specs.Views.{HasNoFront, IsFrontOf, IsKeptCorner, IsMarkOf, IsStronger}
 use Rattle.corner_ends.specs.Columns.{Reduced}
-use Rattle.corner_ends.proofs.Fronts.{front_below, level_named, level_one, reduced_there, some_line, up_or_down}
+use Rattle.corner_ends.proofs.Fronts.{front_below, level_named, level_one, reduced_there, some_line}
 use Rattle.corner_ends.proofs.Signs.{not_both_signs}
 use Rattle.dual_run.specs.declared.ratios.Choice.{Choice}
 use Rattle.dual_run.specs.Entering.{IsNoGreater, IsPositive}
 use Rattle.dual_run.proofs.Lesser.{lex_at, lex_same, lex_times}
 use Rattle.dual_run.proofs.Orders.{both-zero, cost_there}
+use Rattle.corner.proofs.LowLines.{up_or_low}
 
 not-none : (z : ℤ) → pos 0 ≤ℤ z → z ≢ pos 0 → pos 0 <ℤ z
 not-none (negsuc n) up some = absurd (omega (arith, ints, up))
@@ -26,7 +27,7 @@ not-none (pos (suc n)) up some = omega (arith, ints)
 -- no column is negative, so fronts are above 0
 pub front_up : (p : Problem) (at : List Mark) (m : Mark) (f : Front) → IsKeptCorner p at → NoNegativeColumn p at → IsMarkOf p m → IsFrontOf p at m f → pos 0 <ℤ f.reduced
 front_up p at m f kept columns mark front =
-    elim (up_or_down f.reduced) [
+    elim (up_or_low f.reduced) [
       | inl up ↦ not-none f.reduced up front.nonzero
       | inr low ↦ absurd (not_both_signs p at m kept.whole kept.rays columns (front_below p at m f kept mark front low).column)
     ]
@@ -99,7 +100,7 @@ lesser_ratio p at a b f g kept x y front other first second less r =
 
 pub column-up : (p : Problem) (at : List Mark) (r : Reduced p at) (m : Mark) → IsKeptCorner p at → NoNegativeColumn p at → IsMarkOf p m → IsLexNonnegative (λ i. r.costs i (place m))
 column-up p at r m kept columns mark k none =
-    elim (up_or_down (r.costs k (place m))) [
+    elim (up_or_low (r.costs k (place m))) [
       | inl up ↦ up
       | inr low ↦ absurd (not_both_signs p at m kept.whole kept.rays columns (negative_by_reduced p at r.costs m kept.whole r.are mark (k, none, low)))
     ]

@@ -4,8 +4,8 @@ use Rattle.std.proofs.lemmas.Bool.{cases_eq}
 use borrow.Author.Differences.{ints}
 use Rattle.frac_core.proofs.Integers.{diff-add, diff-mul, diff-neg, diff-pos, neg-pos, on_3, diff_eq, mul_not_negative, mul-zero_ℤ, zero_from_mul}
 use Rattle.problem_core.specs.Certificates.{IsLexNonnegative}
-use Rattle.corner_ends.proofs.Signs.{low_from}
 use Rattle.dual_run.specs.Entering.{IsLesser}
+use Rattle.corner_lines.proofs.ColumnsBelow.{low_from}
 
 ruleset ring = (diff-add, diff-mul, diff-neg, diff-pos, neg-pos)
 

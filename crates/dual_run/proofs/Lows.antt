@@ -12,9 +12,8 @@ use Rattle.problem_core.specs.declared.parts.Side.{Side}
 use Rattle.problem_core.specs.declared.parts.Side.TheVariants.{Under, Over}
 use Rattle.problem_core.specs.declared.parts.RowName.{RowName}
 use Rattle.problem_core.specs.Layout.{Problem, lines}
-use Rattle.problem_core.specs.Corners.{HasNegativeValue, IsIn, NoNegativeColumn, NoNegativeValue, Point, StandsAt, marks_of, one_column, place}
+use Rattle.problem_core.specs.Corners.{HasNegativeValue, IsIn, NoNegativeValue, Point, StandsAt, marks_of, one_column, place}
 use Rattle.problem_core.specs.Levels.{CostsAbove}
-use Rattle.problem_core.specs.Paths.{NoNegativeRequired}
 use Rattle.problem_core.proofs.CornerFacts.{is_place}
 use Rattle.problem_core.proofs.Forms.{each-impl}
 use Rattle.corner_laws.specs.Runs.{other_mark, other_side}
@@ -25,10 +24,11 @@ use Rattle.corner_laws.proofs.LowestForms.{column_has_writing, marks_are_fixed}
 use Rattle.corner_laws.proofs.WrittenValues.{contains_each}
 use Rattle.corner_laws.proofs.ZeroColumns.{not-in}
 use Rattle.corner.specs.Views.{HasValueAt, IsKeptCorner, IsMarkOf, IsNamed}
-use Rattle.corner_ends.proofs.Fronts.{up_or_down}
 use Rattle.corner_ends.proofs.Marks.{in_mark, named_mark, one_mark}
-use Rattle.corner_ends.proofs.Signs.{low_from}
 use Rattle.dual_run.specs.Leaving.{AreLowLines, HasNoLow, IsLow, MayLeave}
+use Rattle.corner.proofs.LowLines.{up_or_low}
+use Rattle.corner_ends.proofs.MarkOrders.{in_list}
+use Rattle.corner_lines.proofs.ColumnsBelow.{low_from}
 
 -- ---- signs
 
@@ -67,7 +67,7 @@ inside-low p at m x mark here low =
           absurd (omega (arith, ints, none, low))
     ]
 
-den-up : (d : ℕ) → 0 < d → pos 0 <ℤ pos d
+pub den-up : (d : ℕ) → 0 < d → pos 0 <ℤ pos d
 den-up d h = omega (arith, ints, h)
 
 pub low_value : (p : Problem) (at : List Mark) (m : Mark) (f : Fraction) → IsMarkOf p m → 0 < f.den → HasValueAt p at (place m) f → f.num <ℤ pos 0 → IsLow p at m
@@ -80,10 +80,6 @@ no_low_value p at m f kept mark den (x, here, e) up value =
     let down : x.num (place m) <ℤ pos 0 = low_everywhere p at m x kept mark here value in
     let low : f.num <ℤ pos 0 = same_sign (x.num (place m)) f.num (pos f.den) (x.num one_column) (den-up f.den den) x.positive e down in
     omega (arith, ints, up, low)
-
-each-in : (ms : List Mark) → Each (λ m. IsIn (place m) ms) ms
-each-in [] = tt
-each-in (m ∷ ms) = ((0, omega arith, refl), each-impl (λ n. IsIn (place n) ms) (λ n. IsIn (place n) (m ∷ ms)) ms (λ n i. (suc i.0, (let within = i.1 in omega (arith, within)), i.2)) (each-in ms))
 
 each-first : (P : RowName → Type 0) (xs ys : List RowName) → Each P (xs ++ ys) → Each P xs
 each-first P [] ys h = tt
@@ -141,12 +137,12 @@ no_low_left p at names kept none lows = (
   kept.corner.stands,
   All-from_recursion (λ m. pos 0 ≤ℤ kept.corner.point.num (place m)) at
       (each-impl (λ m. IsIn (place m) at) (λ m. pos 0 ≤ℤ kept.corner.point.num (place m)) at
-      (λ m inside. elim (up_or_down (kept.corner.point.num (place m))) [
+      (λ m inside. elim (up_or_low (kept.corner.point.num (place m))) [
         | inl up ↦ up
         | inr low ↦
             absurd (nothing m.row (subst (λ (xs : List RowName). Contains xs m.row) none (lows.low m (record { inside = inside; value = (kept.corner.point, kept.corner.stands, low) }))))
       ])
-      (each-in at)),
+      (in_list at)),
 )
   where
     nothing : (name : RowName) → Contains [] name → ⊥
@@ -173,9 +169,3 @@ may_leave p at m kept free low = record {
   ];
   low = low;
 }
-
-nothing-before : (k : ℕ) → k < 0 → ⊥
-nothing-before k h = omega (arith, h)
-
-pub none_required : (p : Problem) (at : List Mark) → NoNegativeColumn p at → NoNegativeRequired p at
-none_required p at (m, is, up) = (m, is, λ side i d within. up side i d within 0 (λ k less. absurd (nothing-before k less)))

@@ -25,11 +25,12 @@ use Rattle.corner_lines.proofs.Shifted.{raised, raised-other, same-marks, shift-
 use Rattle.corner.proofs.MoverFacts.{moves_where}
 use Rattle.corner.specs.Views.{IsKeptCorner, IsNamed, IsOutside, MovesWith}
 use Rattle.corner.specs.Lows.{IsListedIfLow, ListsLow}
-use Rattle.corner_ends.proofs.Signs.{low_from}
 use Rattle.corner_ends.proofs.Marks.{in_mark, named_mark, one_mark}
 use Rattle.dual_run.specs.Leaving.{AreLowLines, IsLow, ListsSwapped}
-use Rattle.dual_run.proofs.Lows.{mark_named, no_low_value, same_or_other, same_sign}
+use Rattle.dual_run.proofs.Lows.{mark_named, no_low_value, same_or_other, same_sign, den-up}
 use Rattle.dual_run.proofs.Turns.{opposite_numbers}
+use Rattle.corner_lines.proofs.Dropped.{later-in}
+use Rattle.corner_lines.proofs.ColumnsBelow.{low_from}
 
 -- ---- one mark
 
@@ -45,9 +46,6 @@ writes_more p at more n w writes apart = record {
   holds = writes.holds;
   lowest = writes.lowest;
 }
-
-den-up : (d : ℕ) → 0 < d → pos 0 <ℤ pos d
-den-up d h = omega (arith, ints, h)
 
 -- a value that is negative where none of the form's marks moves is negative at the corner
 still_low : (p : Problem) (at more : List Mark) (n : Mark) (w : Writing) (y : Point) → IsKeptCorner p at → Writes p at (place n) w → IsApart p more w → StandsAt p more y → y.num (place n) <ℤ pos 0 → HasNegativeValue p at n
@@ -220,9 +218,6 @@ times-one z = omega (arith, ints)
 
 low-times : (d : ℕ) (z : ℤ) → 0 < d → z <ℤ pos 0 → (pos d *ℤ z) <ℤ pos 0
 low-times d z above low = low_from 1 d z (pos d *ℤ z) above (times-one (pos d *ℤ z)) low
-
-later-in : (m : Mark) (ms : List Mark) (c : ℕ) → IsIn c ms → IsIn c (m ∷ ms)
-later-in m ms c (k, within, is) = (suc k, omega (arith, within), is)
 
 unshifted : (p : Problem) (at : List Mark) (id : ℕ) (from to more : Fraction) (y : Point) → IsKeptCorner p at → IsShift p id from to more → StandsAt (with_constant id to p) at y → IsUnshifted p at id y
 unshifted p at id from to more y kept s stands =

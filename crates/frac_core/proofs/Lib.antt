@@ -5,3 +5,5 @@ pub mod OneFraction
 pub mod Orders
 pub mod Products
 pub mod Signs
+pub mod Quotients
+pub mod Results

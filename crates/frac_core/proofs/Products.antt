@@ -7,7 +7,7 @@ use Rattle.std.proofs.lemmas.Int.{ints, unsigned_abs-mul, fits_signed_from_abs}
 use Rattle.std.proofs.Math.Nat.{mul-le-mul}
 use Rattle.frac_core.specs.Fraction.{IsFitting}
 
-most_product : (a b m n : ℕ) → a ≤ m → b ≤ n → a * b ≤ m * n
+pub most_product : (a b m n : ℕ) → a ≤ m → b ≤ n → a * b ≤ m * n
 most_product a b m n h k = mul-le-mul h k
 
 pub above_zero : (n : ℕ) → 0 < n → pos 0 <ℤ pos n

@@ -1,9 +1,9 @@
 -- The walk over the old and the new row.
-use Rattle.std.proofs.Common.{◌≡◌, ◌≢◌, ◌↔◌, ◌∙◌, ◌⊎◌, inl, inr, ℕ, zero, suc, ◌+◌, ◌<◌, ◌≤◌, List, [], ◌∷◌, ◌++◌, length, take, drop, get_or, pos, sym, refl, subst, ap, ap₂, arith, All}
+use Rattle.std.proofs.Common.{◌≡◌, ◌≢◌, ◌↔◌, ◌∙◌, ◌⊎◌, inl, inr, ℕ, zero, suc, ◌+◌, ◌<◌, ◌≤◌, List, [], ◌∷◌, ◌++◌, length, take, drop, get_or, pos, sym, refl, subst, ap, arith, All}
 use Rattle.std.specs.List.{Contains}
 use Rattle.std.specs.Global.{Vec}
 use Rattle.std.proofs.lemmas.Bool.{cases_eq, cases_lt}
-use Rattle.std.proofs.lemmas.List.{take_more, take_all, drop_all, append-nil, get_or_default, length-drop, get_or-drop}
+use Rattle.std.proofs.lemmas.List.{take_more, get_or_default, length-drop, get_or-drop}
 use Rattle.std.proofs.lemmas.List.Elements.{All-push}
 use Rattle.std.proofs.Math.Seq.{drop-cons}
 use Rattle.row_core.specs.Rows.{Term, IsRising}
@@ -169,9 +169,6 @@ same_without w c old new changed = record {
       ];
 }
 
-pub same_lists : (w : ℕ) (lists : List (Vec ℕ)) → IsSameBut w lists lists
-same_lists w lists = record { lengths = refl; others = λ c v other. (λ h. h, λ h. h) }
-
 pub same_then : (w : ℕ) (old mid new : List (Vec ℕ)) → IsSameBut w old mid → IsSameBut w mid new → IsSameBut w old new
 same_then w old mid new first second = record {
   lengths = second.lengths ∙ first.lengths;
@@ -286,18 +283,3 @@ has_list w old new i j lists within is =
     subst (HasColumn (column_at old i)) (sym (old_mid old new i j within))
     (has_right (column_at old i) (take j new) (get_or old i nothing ∷ drop (i + 1) old) (inl refl)) in
     listed_within lists (column_at old i) w ((is.listed.listed (column_at old i)).1 here)
-
--- ---- the ends of the walk
-
-pub walk_begins : (w : ℕ) (old new : List Term) (lists : List (Vec ℕ)) → IsListedAt w old lists → IsRelisted w old new 0 0 lists
-walk_begins w old new lists is = record {
-  old_within = omega arith;
-  new_within = omega arith;
-  behind = λ k d inside m le within. absurd (omega (arith, inside));
-  listed = is;
-}
-
-pub walk_ends : (w : ℕ) (old new : List Term) (i j : ℕ) (lists : List (Vec ℕ)) → length old ≤ i → length new ≤ j → IsRelisted w old new i j lists → IsListedAt w new lists
-walk_ends w old new i j lists old_read new_read is =
-    let all : take j new ++ drop i old ≡ new = ap₂ (λ (xs ys : List Term). xs ++ ys) (take_all j new new_read) (drop_all i old old_read) ∙ append-nil new in
-    subst (λ (row : List Term). IsListedAt w row lists) all is.listed

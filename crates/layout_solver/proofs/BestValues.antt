@@ -1,5 +1,5 @@
 -- The value of an attribute at a best corner.
-use Rattle.std.proofs.Common.{◌≡◌, ◌∙◌, ℕ, zero, suc, List, [], ◌∷◌, ◌++◌, map, ℤ, pos, negsuc, ◌*ℤ◌, ◌<ℤ◌, nat_abs, refl, sym, ap, arith, append-nil}
+use Rattle.std.proofs.Common.{◌≡◌, ◌∙◌, ℕ, zero, suc, List, [], ◌∷◌, ◌++◌, map, ℤ, pos, ◌*ℤ◌, refl, sym, ap, arith, append-nil}
 use Rattle.std.proofs.lemmas.List.Elements.{All-from_recursion}
 use Rattle.frac_core.specs.Fraction.{Fraction}
 use Rattle.problem_core.specs.declared.parts.Mark.{Mark}
@@ -14,10 +14,7 @@ use Rattle.corner_ends.specs.Runs.{IsBestEnd}
 use Rattle.certificates.proofs.ErrorFacts.{turned_value}
 use Rattle.layout_solver.specs.Layouts.{IsBestValue, stays_at, zeros}
 use Rattle.layout_solver.specs.Starts.{IsMoved}
-
-abs-same : (z : ℤ) → pos 0 <ℤ z → pos (nat_abs z) ≡ z
-abs-same (pos n) h = refl
-abs-same (negsuc n) h = absurd h.lt
+use Rattle.problem_core.proofs.Ends.{abs_same}
 
 pub best_value : (p : Problem) (at : List Mark) (attr : ℕ) (f : Fraction) → IsWhole p → IsCorner p at → IsBestEnd p at → HasStay p.stays attr → HasValueAt p at (attr_column attr) f → IsBestValue p attr f
 best_value p at attr f whole corner end has (y, there, e) =
@@ -27,16 +24,16 @@ best_value p at attr f whole corner end has (y, there, e) =
       assignment_at x,
       b.2,
       All-from_recursion (λ v. (assignment_at x).num v.0 *ℤ pos v.1.den ≡ v.1.num *ℤ pos (assignment_at x).den) ((attr, f) ∷ [])
-          (value ∙ ap (λ (z : ℤ). f.num *ℤ z) (sym (abs-same (x.num one_column) x.positive)), tt),
+          (value ∙ ap (λ (z : ℤ). f.num *ℤ z) (sym (abs_same (x.num one_column) x.positive)), tt),
     )
 
 -- ---- the stays of a moved problem
 
-attrs-at : (values : List (ℕ × Fraction)) → map (λ s. s.attr) (stays_at values) ≡ map (λ v. v.0) values
+pub attrs-at : (values : List (ℕ × Fraction)) → map (λ s. s.attr) (stays_at values) ≡ map (λ v. v.0) values
 attrs-at [] = refl
 attrs-at (v ∷ values) = ap (λ (ns : List ℕ). v.0 ∷ ns) (attrs-at values)
 
-same-stays : (old new : List Stay) (attr : ℕ) → map (λ s. s.attr) old ≡ map (λ s. s.attr) new → HasStay old attr → HasStay new attr
+pub same-stays : (old new : List Stay) (attr : ℕ) → map (λ s. s.attr) old ≡ map (λ s. s.attr) new → HasStay old attr → HasStay new attr
 same-stays [] new attr e (k, s, within, is, h) = absurd (omega (arith, within))
 same-stays (o ∷ old) [] attr e has = cc
 same-stays (o ∷ old) (n ∷ new) attr e (zero, s, within, is, h) =

@@ -24,6 +24,7 @@ use Rattle.layout_solver.proofs.Earlier.{earlier_length, forgot_kept, kept_cons,
 use Rattle.layout_solver.proofs.Rooms.{added_room}
 use Rattle.layout_solver.proofs.Solved.{changed_rising, moved_is, solved_end, solved_values, these_values}
 use Rattle.layout_solver.proofs.Values.{values_exist}
+use Rattle.layout_solver.proofs.ShiftedProblems.{head-of}
 
 pub some_values : (c : CornerView) → IsKeptCorner c.problem c.marks → HasValues (scene_of c)
 some_values c kept = let w = values_exist c kept.corner in (w.0, ∣ w.1 ∣₁)
@@ -33,9 +34,6 @@ some_values c kept = let w = values_exist c kept.corner in (w.0, ∣ w.1 ∣₁)
 -- there is room for one more
 marked-before : (s : Scene) (old : List Scene) (n : ℕ) → length old ≡ n → n < MOST → take MOST (s ∷ old) ≡ s ∷ old
 marked-before s old n e room = take_all MOST (s ∷ old) (omega (arith, e, room))
-
-head-of : (s t : Scene) (ss ts : List Scene) → s ∷ ss ≡ t ∷ ts → s ≡ t
-head-of s t ss ts e = cc
 
 tail-of : (s t : Scene) (ss ts : List Scene) → s ∷ ss ≡ t ∷ ts → ss ≡ ts
 tail-of s t ss ts e = cc

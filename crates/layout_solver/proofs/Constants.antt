@@ -7,17 +7,18 @@ use Rattle.std.proofs.lemmas.List.{drop_more, take-append-drop, take_more}
 use Rattle.std.proofs.lemmas.List.Elements.{recursion_from_All}
 use borrow.Author.Differences.{ints}
 use Rattle.frac_core.specs.Fraction.{Fraction}
-use Rattle.frac_core.proofs.Integers.{sub-self}
 use Rattle.problem_core.specs.Layout.{Row}
 use Rattle.problem_core.specs.Unfit.{changes, first_shifted, same_constant}
 use Rattle.problem_core.proofs.Forms.{each-impl}
 use Rattle.corner_laws.proofs.Counting.{head_pairs, tail_pairs}
 use Rattle.corner_laws.proofs.ZeroColumns.{each-joined}
 use Rattle.corner_lines.specs.Shifts.{has_constant}
-use Rattle.corner_lines.proofs.Shifted.{changed}
+use Rattle.corner_lines.proofs.Shifted.{changed, shift-off, shift-on}
 use Rattle.layout_solver.specs.declared.engine.Change.{Change}
 use Rattle.layout_solver.specs.Shifts.{shifted}
-use Rattle.layout_solver.proofs.Beginnings.{across}
+use Rattle.corner_laws.proofs.Complete.{same-self, no-changes}
+use Rattle.corner.proofs.ShiftLines.{row_id}
+use Rattle.corner_laws.proofs.TermLifts.{pairs-across}
 
 no-truth : false ≡ true → ⊥
 no-truth e = cc
@@ -26,9 +27,6 @@ no-truth e = cc
 
 abbrev over : ℤ → ℕ → Fraction
 over n d = record { num = n; den = d }
-
-pub same_self : (f : Fraction) → same_constant f f ≡ true
-same_self f = ap (λ (b : Bool). cond b (nat_eq (nat_abs (f.num -ℤ f.num)) 0) false) (eq-eqb f.den f.den refl) ∙ ap (λ (z : ℤ). nat_eq (nat_abs z) 0) (sub-self f.num)
 
 no-size : (z : ℤ) → nat_abs z ≡ 0 → z ≡ pos 0
 no-size (pos n) h = ap pos h
@@ -51,19 +49,9 @@ same_false f g n = elim (cases_Bool (same_constant f g)) [
 
 -- ---- a row with another constant
 
-has-id : (b : Bool) (f : Fraction) (r : Row) → (cond b (changed f r) r).id ≡ r.id
-has-id true f r = refl
-has-id false f r = refl
-
 has-alone : (b : Bool) (f g : Fraction) (r : Row) → changed g (cond b (changed f r) r) ≡ changed g r
 has-alone true f g r = refl
 has-alone false f g r = refl
-
-has-other : (id : ℕ) (f : Fraction) (r : Row) → r.id ≢ id → has_constant id f r ≡ r
-has-other id f r n = ap (λ (b : Bool). cond b (changed f r) r) (ne_eqb r.id id n)
-
-has-own : (id : ℕ) (f : Fraction) (r : Row) → r.id ≡ id → has_constant id f r ≡ changed f r
-has-own id f r e = ap (λ (b : Bool). cond b (changed f r) r) (eq-eqb r.id id e)
 
 -- where the row has the constant already, it is no change
 pub no_change : (id : ℕ) (f : Fraction) (rows : List Row) → Each (λ (r : Row). r.id ≡ id → r.constant ≡ f) rows → map (has_constant id f) rows ≡ rows
@@ -71,8 +59,8 @@ no_change id f [] h = refl
 no_change id f (r ∷ rows) h =
     ap₂ (λ (s : Row) (rs : List Row). s ∷ rs)
     (elim (cases_eq r.id id) [
-      | inl e ↦ has-own id f r e ∙ ap (λ (g : Fraction). changed g r) (sym (h.0 e))
-      | inr n ↦ has-other id f r n
+      | inl e ↦ shift-on id f r e ∙ ap (λ (g : Fraction). changed g r) (sym (h.0 e))
+      | inr n ↦ shift-off id f r n
     ])
     (no_change id f rows h.1)
 
@@ -88,11 +76,11 @@ applied-on (t ∷ a) b r = applied-on a b (has_constant t.row t.constant r)
 
 applied-id : (to : List Change) (r : Row) → (applied to r).id ≡ r.id
 applied-id [] r = refl
-applied-id (t ∷ more) r = applied-id more (has_constant t.row t.constant r) ∙ has-id (nat_eq r.id t.row) t.constant r
+applied-id (t ∷ more) r = applied-id more (has_constant t.row t.constant r) ∙ row_id (nat_eq r.id t.row) t.constant r
 
 applied-other : (to : List Change) (r : Row) → Each (λ (t : Change). r.id ≢ t.row) to → applied to r ≡ r
 applied-other [] r h = refl
-applied-other (t ∷ more) r h = ap (applied more) (has-other t.row t.constant r h.0) ∙ applied-other more r h.1
+applied-other (t ∷ more) r h = ap (applied more) (shift-off t.row t.constant r h.0) ∙ applied-other more r h.1
 
 applied-alone : (to : List Change) (r : Row) → applied to r ≡ changed (applied to r).constant r
 applied-alone [] r = refl
@@ -145,10 +133,6 @@ any-before P g (r ∷ rows) (suc n, x, within, is, h) = let i = any-before P g r
 
 -- ---- how many constants have changed
 
-pub changes_none : (rows : List Row) → changes rows rows ≡ 0
-changes_none [] = refl
-changes_none (r ∷ rows) = ap (λ (b : Bool). cond b (changes rows rows) (1 + changes rows rows)) (same_self r.constant) ∙ changes_none rows
-
 few-more : (b : Bool) (m n : ℕ) → m ≤ n → cond b m (1 + m) ≤ suc n
 few-more true m n h = omega (arith, h)
 few-more false m n h = omega (arith, h)
@@ -186,7 +170,7 @@ none-first h (o ∷ old) = none-head (same_constant o.constant (h o).constant) o
 past-law : (g h : Row → Row) (old : List Row) → Each (λ (r : Row). g r ≡ r) old → first_shifted (changes old (map g old)) old (map h old) ≡ map g old
 past-law g h old still =
     ap (λ (rs : List Row). first_shifted (changes old rs) old (map h old)) (mapped-still g old still)
-    ∙ ap (λ (n : ℕ). first_shifted n old (map h old)) (changes_none old)
+    ∙ ap (λ (n : ℕ). first_shifted n old (map h old)) (no-changes old)
     ∙ none-first h old
     ∙ sym (mapped-still g old still)
 
@@ -217,7 +201,7 @@ less-head false false m n both less = omega (arith, less)
 
 same-head : (id : ℕ) (g h : Row → Row) (r : Row) → IsFirst id g h r → same_constant r.constant (h r).constant ≡ true → same_constant r.constant (g r).constant ≡ true
 same-head id g h r k e = elim (cases_lt id r.id) [
-  | inl past ↦ ap (λ (s : Row). same_constant r.constant s.constant) (k.past past) ∙ same_self r.constant
+  | inl past ↦ ap (λ (s : Row). same_constant r.constant s.constant) (k.past past) ∙ same-self r.constant
   | inr upto ↦ sym (ap (λ (s : Row). same_constant r.constant s.constant) (k.upto upto)) ∙ e
 ]
 
@@ -255,7 +239,7 @@ next-law : (id : ℕ) (g h : Row → Row) (old : List Row) → Each (IsNext id g
 next-law id g h [] k rising (n, x, within, is, e) = absurd (omega (arith, within))
 next-law id g h (r ∷ old) k rising held = elim (cases_eq r.id id) [
   | inl e ↦ own-head (same_constant r.constant (h r).constant) (same_constant r.constant (g r).constant) (changes old (map h old)) (changes old (map g old)) (k.0.differs e)
-      (ap (λ (s : Row). same_constant r.constant s.constant) (k.0.still e) ∙ same_self r.constant)
+      (ap (λ (s : Row). same_constant r.constant s.constant) (k.0.still e) ∙ same-self r.constant)
       (ap (λ (rs : List Row). changes old rs) (mapped-same g h old (others-later id g h old k.1 (subst (λ (n : ℕ). Each (λ (s : Row). n < s.id) old) e
       (recursion_from_All (λ (s : Row). r.id < s.id) old (head_pairs (λ (s t : Row). s.id < t.id) r old rising))))))
   | inr ne ↦ subst (λ (s : Row). changes (r ∷ old) (s ∷ map h old) ≡ changes (r ∷ old) (g r ∷ map g old) + 1) (sym (k.0.other ne))
@@ -283,14 +267,14 @@ split_at to i t rising within at =
     sym (take-append-drop i to) ∙ ap (λ (ts : List Change). take i to ++ ts) (drop_more to i t within ∙ ap (λ (s : Change). s ∷ drop (i + 1) to) (sym at)) in
     let pairs : AllPairs (λ (a b : Change). a.row < b.row) (take i to ++ (t ∷ drop (i + 1) to)) = subst (AllPairs (λ (a b : Change). a.row < b.row)) is rising in record {
       is = is;
-      earlier = each-impl (λ (s : Change). Each (λ (u : Change). s.row < u.row) (t ∷ drop (i + 1) to)) (λ (s : Change). s.row < t.row) (take i to) (λ s k. k.0) (across (λ (a b : Change). a.row < b.row) (take i to) (t ∷ drop (i + 1) to) pairs);
+      earlier = each-impl (λ (s : Change). Each (λ (u : Change). s.row < u.row) (t ∷ drop (i + 1) to)) (λ (s : Change). s.row < t.row) (take i to) (λ s k. k.0) (pairs-across (λ (a b : Change). a.row < b.row) (take i to) (t ∷ drop (i + 1) to) pairs);
       later = recursion_from_All (λ (s : Change). t.row < s.row) (drop (i + 1) to)
           (head_pairs (λ (a b : Change). a.row < b.row) t (drop (i + 1) to) (pairs-rest (λ (a b : Change). a.row < b.row) (take i to) (t ∷ drop (i + 1) to) pairs));
     }
 
 module _ (to done : List Change) (t : Change) (rest : List Change) (split : IsSplit to done t rest) where
   after-id : (r : Row) → (has_constant t.row t.constant (applied done r)).id ≡ r.id
-  after-id r = has-id (nat_eq (applied done r).id t.row) t.constant (applied done r) ∙ applied-id done r
+  after-id r = row_id (nat_eq (applied done r).id t.row) t.constant (applied done r) ∙ applied-id done r
 
   none-past : (r : Row) → r.id ≤ t.row → Each (λ (s : Change). (has_constant t.row t.constant (applied done r)).id ≢ s.row) rest
   none-past r upto =
@@ -334,11 +318,11 @@ module _ (to done : List Change) (t : Change) (rest : List Change) (split : IsSp
   differs-here f r ne own e =
       let here : (applied done r).id ≡ t.row = applied-id done r ∙ e in
       let was : r.constant ≡ f = ap (λ (s : Row). s.constant) (sym (still-here r e)) ∙ own here in
-      ap (λ (s : Row). same_constant r.constant s.constant) (has-own t.row t.constant (applied done r) here) ∙ same_false r.constant t.constant (λ q. ne (sym was ∙ q))
+      ap (λ (s : Row). same_constant r.constant s.constant) (shift-on t.row t.constant (applied done r) here) ∙ same_false r.constant t.constant (λ q. ne (sym was ∙ q))
 
   next-here : (f : Fraction) (r : Row) → f ≢ t.constant → ((applied done r).id ≡ t.row → (applied done r).constant ≡ f) → IsNext t.row (applied done) (λ s. has_constant t.row t.constant (applied done s)) r
   next-here f r ne own = record {
-    other = λ n. has-other t.row t.constant (applied done r) (λ e. n (sym (applied-id done r) ∙ e));
+    other = λ n. shift-off t.row t.constant (applied done r) (λ e. n (sym (applied-id done r) ∙ e));
     still = still-here r;
     differs = differs-here f r ne own;
   }

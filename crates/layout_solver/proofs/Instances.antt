@@ -17,10 +17,11 @@ use Rattle.cert_core.specs.declared.stops.RunStop.TheVariants.{Unfit as UnfitRun
 use Rattle.corner_laws.specs.Examples.{at_least, over_row, over_second, over_stay, single, under_row}
 use Rattle.corner_laws.proofs.StopExamples.{spent_stops}
 use Rattle.marker_remove.specs.Instances.{standing, x_over}
-use Rattle.marker_remove.proofs.Instances.{row_exchange, row_path, same_one, x_fits, x_unfit}
+use Rattle.marker_remove.proofs.Instances.{row_exchange, row_path, x_fits, x_unfit}
 use Rattle.layout_solver.specs.declared.removing.RemoveStop.TheVariants.{Unfit, Spent}
 use Rattle.layout_solver.specs.Removals.{CanLeave, FromRemoved, IsHeldPath, IsRemoveStop, without_rows}
 use Rattle.layout_solver.specs.Instances.{SomeCannotLeave, SomeRemovalsStop, below_bound, both_over, leaving, second, with_second}
+use Rattle.corner_laws.proofs.BeginExamples.{one-same}
 
 -- ---- what can leave
 
@@ -108,7 +109,7 @@ comes p leaving = record {
   rows = no-frees leaving;
   apart = no-swaps;
   exchanges = tt;
-  marks = same_one over_row;
+  marks = one-same over_row;
 }
 
 comes-below : (p : Problem) (leaving : List ℕ) → ComesFrom p (under_row ∷ over_second ∷ []) leaving (2 ∷ []) (under_row ∷ [])
@@ -117,7 +118,7 @@ comes-below p leaving = record {
   rows = no-frees leaving;
   apart = no-swaps;
   exchanges = tt;
-  marks = same_one under_row;
+  marks = one-same under_row;
 }
 
 held : IsHeldPath (with_second (standing 4398046511104)) both_over (2 ∷ 1 ∷ []) (1 ∷ []) x_over
@@ -134,7 +135,7 @@ comes-freed = record {
   rows = All-from_recursion (λ (s : Swap). is_one_of (1 ∷ []) s.enter.row ≡ true) (record { enter = over_row; leave = over_stay } ∷ []) (refl, tt);
   apart = λ i j d less within. absurd (omega (arith, less, within));
   exchanges = (row_exchange, tt);
-  marks = same_one over_row;
+  marks = one-same over_row;
 }
 
 freed : IsHeldPath (standing 4398046511104) (over_stay ∷ []) (1 ∷ []) (1 ∷ []) x_over

@@ -46,6 +46,7 @@ use Rattle.layout_solver.proofs.LeftMarks.{row_there, standing_left, values_left
 use Rattle.layout_solver.proofs.LeftPaths.{comes_dropped, comes_freed, comes_here, comes_more}
 use Rattle.layout_solver.proofs.LeftRows.{at_place, before_apart, not_before, row_held, rows_last}
 use Rattle.layout_solver.proofs.LeftStops.{order_left}
+use Rattle.corner_lines.proofs.DroppedAttr.{other_stay}
 
 -- ---- lists
 
@@ -220,9 +221,6 @@ each-tail P (r ∷ rows) ls h = let k = each-tail P rows ls h.1 in ((h.0, k.0), 
 each-whole : (P : Line → Type 0) (rows : List Row) (ls : List Line) → Each (λ r. P (line_of_row r)) rows → Each P ls → Each P (map line_of_row rows ++ ls)
 each-whole P [] ls h k = k
 each-whole P (r ∷ rows) ls h k = (h.0, each-whole P rows ls h.1 k)
-
-abbrev other_stay : ℕ → Stay → Bool
-other_stay attr s = cond (nat_eq s.attr attr) false true
 
 -- for what does not speak of levels
 less-stays : (P : Line → Type 0) (attr n k : ℕ) (stays : List Stay) → ((a b : ℕ) (s : Stay) → P (line_of_stay a s) → P (line_of_stay b s)) → Each P (stay_lines n stays) → Each P (stay_lines k (filter (other_stay attr) stays))

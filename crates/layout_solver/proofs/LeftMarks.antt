@@ -1,12 +1,11 @@
 -- The marks and lines that are left where rows have gone.
-use Rattle.std.proofs.Common.{◌≡◌, ◌≢◌, ◌∙◌, ℕ, zero, suc, ◌+◌, ◌<◌, ◌++◌, Bool, true, false, cond, nat_eq, List, [], ◌∷◌, filter, map, take, length, get_or, ℤ, pos, ◌≤ℤ◌, refl, sym, ap, subst, arith, Any, Contains, inl, inr, eq-eqb, ne_eqb, true≢false}
+use Rattle.std.proofs.Common.{◌≡◌, ◌≢◌, ◌∙◌, ℕ, zero, suc, ◌+◌, ◌++◌, Bool, true, false, cond, List, [], ◌∷◌, filter, map, ℤ, pos, ◌≤ℤ◌, refl, sym, ap, subst, arith, Any, Contains, inl, inr, eq-eqb, ne_eqb, true≢false}
 use Rattle.std.specs.List.{AllByRecursion as Each}
 use Rattle.std.proofs.lemmas.Bool.{cases_Bool, cases_eq}
-use Rattle.std.proofs.lemmas.List.{take_more}
 use Rattle.std.proofs.lemmas.List.Elements.{All-from_recursion, recursion_from_All}
 use Rattle.problem_core.specs.declared.parts.Mark.{Mark}
 use Rattle.problem_core.specs.declared.parts.RowName.{RowName}
-use Rattle.problem_core.specs.declared.parts.RowName.TheVariants.{Held, Stay as StayOf}
+use Rattle.problem_core.specs.declared.parts.RowName.TheVariants.{Held}
 use Rattle.problem_core.specs.declared.parts.Side.{Side}
 use Rattle.problem_core.specs.declared.parts.Side.TheVariants.{Under, Over}
 use Rattle.problem_core.specs.declared.parts.Stay.{Stay}
@@ -26,6 +25,9 @@ use Rattle.corner_ends.proofs.MarkOrders.{in_list}
 use Rattle.corner_ends.proofs.Marks.{one_mark}
 use Rattle.marker_remove.specs.Freed.{DoStand}
 use Rattle.layout_solver.specs.Removals.{without_rows}
+use Rattle.corner_lines.proofs.Dropped.{later-in, filter-on, filter-off, other_row, lines-left}
+use Rattle.corner_laws.proofs.Directions.{each-of}
+use Rattle.marker_remove.proofs.StayMoves.{HasMarks}
 
 -- ---- rows by number
 
@@ -82,9 +84,6 @@ marks-on ids m ms e = ap (λ (b : Bool). cond (cond b false true) (m ∷ without
 marks-off : (ids : List ℕ) (m : Mark) (ms : List Mark) → is_one_of ids m.row ≡ false → without_marks ids (m ∷ ms) ≡ m ∷ without_marks ids ms
 marks-off ids m ms e = ap (λ (b : Bool). cond (cond b false true) (m ∷ without_marks ids ms) (without_marks ids ms)) e
 
-later-in : (m : Mark) (ms : List Mark) (c : ℕ) → IsIn c ms → IsIn c (m ∷ ms)
-later-in m ms c (k, within, is) = (suc k, omega (arith, within), is)
-
 pub far_in : (ids : List ℕ) (ms : List Mark) (m : Mark) → is_one_of ids m.row ≡ false → IsIn (place m) ms → IsIn (place m) (without_marks ids ms)
 far_in ids [] m far (k, within, is) = absurd (omega (arith, within))
 far_in ids (n ∷ ms) m far (zero, within, is) =
@@ -121,10 +120,6 @@ pub is_far : (ids : List ℕ) (ms : List Mark) (m : Mark) → IsIn (place m) (wi
 is_far ids ms m i =
     let h = mark_there (λ n. is_one_of ids n.row ≡ false) (without_marks ids ms) (place m) (all-far ids ms) i in
     ap (λ (k : Mark). is_one_of ids k.row) (one_mark m h.0 h.1) ∙ h.2
-
--- what is in, as a mark
-pub as_mark : (ms : List Mark) (c : ℕ) → IsIn c ms → (m : Mark) × (place m ≡ c)
-as_mark ms c i = let h = mark_there (λ m. IsIn (place m) ms) ms c (in_list ms) i in (h.0, h.1)
 
 pub same_by : (a b : List Mark) → ((m : Mark) → IsIn (place m) a → IsIn (place m) b) → ((m : Mark) → IsIn (place m) b → IsIn (place m) a) → SameMarks a b
 same_by a b to back = (
@@ -167,25 +162,9 @@ none_gone ms = same_by ms (without_marks [] ms) (λ m i. far_in [] ms m refl i) 
 
 -- ---- lines
 
-abbrev other_row : ℕ → Row → Bool
-other_row id r = cond (nat_eq r.id id) false true
-
-row-on : (id : ℕ) (r : Row) (rows : List Row) → r.id ≡ id → filter (other_row id) (r ∷ rows) ≡ filter (other_row id) rows
-row-on id r rows e = ap (λ (b : Bool). cond (cond b false true) (r ∷ filter (other_row id) rows) (filter (other_row id) rows)) (eq-eqb r.id id e)
-
-row-off : (id : ℕ) (r : Row) (rows : List Row) → r.id ≢ id → filter (other_row id) (r ∷ rows) ≡ r ∷ filter (other_row id) rows
-row-off id r rows n = ap (λ (b : Bool). cond (cond b false true) (r ∷ filter (other_row id) rows) (filter (other_row id) rows)) (ne_eqb r.id id n)
-
-rows-left : (P : Line → Type 0) (id : ℕ) (rows : List Row) (ls : List Line) → Each P (map line_of_row rows ++ ls) → Each P (map line_of_row (filter (other_row id) rows) ++ ls)
-rows-left P id [] ls h = h
-rows-left P id (r ∷ rows) ls h = elim (cases_eq r.id id) [
-  | inl e ↦ subst (λ (rs : List Row). Each P (map line_of_row rs ++ ls)) (sym (row-on id r rows e)) (rows-left P id rows ls h.1)
-  | inr n ↦ subst (λ (rs : List Row). Each P (map line_of_row rs ++ ls)) (sym (row-off id r rows n)) (h.0, rows-left P id rows ls h.1)
-]
-
 pub lines_gone : (P : Line → Type 0) (ids : List ℕ) (p : Problem) → Each P (lines p) → Each P (lines (without_rows ids p))
 lines_gone P [] p h = h
-lines_gone P (id ∷ ids) p h = lines_gone P ids (without_row id p) (rows-left P id p.rows (stay_lines 1001 p.stays) h)
+lines_gone P (id ∷ ids) p h = lines_gone P ids (without_row id p) (lines-left P id p.rows (stay_lines 1001 p.stays) h)
 
 stays-far : (id n : ℕ) (stays : List Stay) → Each (λ l. is_row id l.name ≡ false) (stay_lines n stays)
 stays-far id n [] = tt
@@ -194,13 +173,9 @@ stays-far id n (s ∷ stays) = (refl, stays-far id (n + 1) stays)
 first-far : (id : ℕ) (rows : List Row) (stays : List Stay) → Each (λ l. is_row id l.name ≡ false) (map line_of_row (filter (other_row id) rows) ++ stay_lines 1001 stays)
 first-far id [] stays = stays-far id 1001 stays
 first-far id (r ∷ rows) stays = elim (cases_eq r.id id) [
-  | inl e ↦ subst (λ (rs : List Row). Each (λ l. is_row id l.name ≡ false) (map line_of_row rs ++ stay_lines 1001 stays)) (sym (row-on id r rows e)) (first-far id rows stays)
-  | inr n ↦ subst (λ (rs : List Row). Each (λ l. is_row id l.name ≡ false) (map line_of_row rs ++ stay_lines 1001 stays)) (sym (row-off id r rows n)) (is_row-other r.id id n, first-far id rows stays)
+  | inl e ↦ subst (λ (rs : List Row). Each (λ l. is_row id l.name ≡ false) (map line_of_row rs ++ stay_lines 1001 stays)) (sym (filter-on id r rows e)) (first-far id rows stays)
+  | inr n ↦ subst (λ (rs : List Row). Each (λ l. is_row id l.name ≡ false) (map line_of_row rs ++ stay_lines 1001 stays)) (sym (filter-off id r rows n)) (is_row-other r.id id n, first-far id rows stays)
 ]
-
-each-of : {X : Type 0} (P : X → Type 0) (xs : List X) → ((x : X) → P x) → Each P xs
-each-of P [] h = tt
-each-of P (x ∷ xs) h = (h x, each-of P xs h)
 
 -- no line that is left is one of the rows
 pub lines_far : (ids : List ℕ) (p : Problem) → Each (λ l. is_one_of ids l.name ≡ false) (lines (without_rows ids p))
@@ -210,9 +185,6 @@ lines_far (id ∷ ids) p =
     (λ l h. ap (λ (t : Bool). cond t true (is_one_of ids l.name)) h.0 ∙ h.1)
     (each-both (λ l. is_row id l.name ≡ false) (λ l. is_one_of ids l.name ≡ false) (lines (without_rows ids (without_row id p)))
     (lines_gone (λ l. is_row id l.name ≡ false) ids (without_row id p) (first-far id p.rows p.stays)) (lines_far ids (without_row id p)))
-
-abbrev HasMarks : Problem → Line → Type 0
-HasMarks p l = Contains (map place (marks_of (lines p))) (place_of l.name Under) × Contains (map place (marks_of (lines p))) (place_of l.name Over)
 
 -- each mark that is left is the problem's and none of the rows'
 pub each_left : (P : ℕ → Type 0) (ids : List ℕ) (p : Problem) → ((name : RowName) (side : Side) → Contains (map place (marks_of (lines p))) (place_of name side) → is_one_of ids name ≡ false → P (place_of name side)) → Each (λ m. P (place m)) (marks_of (lines (without_rows ids p)))
@@ -276,31 +248,6 @@ standing_left p at id h = λ i d within.
     (v.0, stands_gone (alone id) p (without_marks (alone id) at) at v.0 (self-same id at) v.1, v.2)
 
 -- ---- one mark more
-
-name-own : (id : ℕ) (name : RowName) → name ≡ Held id → is_one_of (id ∷ []) name ≡ true
-name-own id name e = ap (is_one_of (id ∷ [])) e ∙ ap (λ (t : Bool). cond t true false) (is_row-own id id refl)
-
-name-other : (id : ℕ) (name : RowName) → name ≢ Held id → is_one_of (id ∷ []) name ≡ false
-name-other id (Held n) ne = ap (λ (t : Bool). cond t true false) (is_row-other n id (λ e. ne (ap Held e)))
-name-other id (StayOf a) ne = refl
-
-pub left_one : (id : ℕ) (m : Mark) → m.row ≢ Held id → without_marks (id ∷ []) (m ∷ []) ≡ m ∷ []
-left_one id m ne = marks-off (id ∷ []) m [] (name-other id m.row ne)
-
-pub left_none : (id : ℕ) (m : Mark) → m.row ≡ Held id → without_marks (id ∷ []) (m ∷ []) ≡ []
-left_none id m e = marks-on (id ∷ []) m [] (name-own id m.row e)
-
-left-append : (ids : List ℕ) (ms xs : List Mark) → without_marks ids (ms ++ xs) ≡ without_marks ids ms ++ without_marks ids xs
-left-append ids [] xs = refl
-left-append ids (n ∷ ms) xs = ap (λ (ys : List Mark). cond (cond (is_one_of ids n.row) false true) (n ∷ ys) ys) (left-append ids ms xs) ∙ apart (cond (is_one_of ids n.row) false true) (without_marks ids ms) (without_marks ids xs)
-  where
-    apart : (b : Bool) (ys zs : List Mark) → cond b (n ∷ (ys ++ zs)) (ys ++ zs) ≡ cond b (n ∷ ys) ys ++ zs
-    apart true ys zs = refl
-    apart false ys zs = refl
-
-pub left_push : (id : ℕ) (ms : List Mark) (i : ℕ) (d : Mark) (out new : List Mark) → i < length ms → out ≡ without_marks (id ∷ []) (take i ms) → new ≡ out ++ without_marks (id ∷ []) (get_or ms i d ∷ []) → new ≡ without_marks (id ∷ []) (take (i + 1) ms)
-left_push id ms i d out new within old push =
-    push ∙ ap (λ (xs : List Mark). xs ++ without_marks (id ∷ []) (get_or ms i d ∷ [])) old ∙ sym (left-append (id ∷ []) (take i ms) (get_or ms i d ∷ [])) ∙ ap (without_marks (id ∷ [])) (sym (take_more ms i d within))
 
 -- the row of a mark that is in is named there
 pub row_there : (ms : List Mark) (m : Mark) → IsIn (place m) ms → Any (λ n. n.row ≡ m.row) ms

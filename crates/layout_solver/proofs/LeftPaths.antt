@@ -116,12 +116,3 @@ comes_dropped p kept at leaving gone id h = record {
   exchanges = h.exchanges;
   marks = after_drop at (last_marks kept h.frees) gone id h.marks;
 }
-
-pub comes_same : (p : Problem) (kept a b : List Mark) (leaving gone : List ℕ) → SameMarks b a → ComesFrom p kept leaving gone a → ComesFrom p kept leaving gone b
-comes_same p kept a b leaving gone same h = record {
-  frees = h.frees;
-  rows = h.rows;
-  apart = h.apart;
-  exchanges = h.exchanges;
-  marks = same_through b a (without_marks gone (last_marks kept h.frees)) same h.marks;
-}

@@ -1,5 +1,5 @@
 -- The stops of a removal.
-use Rattle.std.proofs.Common.{◌≡◌, ◌≢◌, ◌∙◌, ℕ, ◌+◌, ◌++◌, Bool, true, false, cond, nat_eq, List, [], ◌∷◌, filter, map, refl, sym, ap, inl, inr, eq-eqb, ne_eqb}
+use Rattle.std.proofs.Common.{◌≡◌, ◌≢◌, ◌∙◌, ℕ, ◌+◌, ◌++◌, Bool, true, false, cond, List, [], ◌∷◌, filter, map, refl, sym, ap, inl, inr}
 use Rattle.std.proofs.lemmas.Bool.{cases_Bool, cases_eq}
 use Rattle.problem_core.specs.declared.parts.Mark.{Mark}
 use Rattle.problem_core.specs.declared.parts.RowName.TheVariants.{Held, Stay as StayOf}
@@ -13,6 +13,7 @@ use Rattle.corner.specs.Views.{in_order, is_mark}
 use Rattle.corner_lines.specs.Removals.{without_row}
 use Rattle.marker_remove.proofs.FreedPaths.{in_is, is_in, same_bool}
 use Rattle.layout_solver.proofs.LeftMarks.{far_in, is_row-own, is_row-other, was_in}
+use Rattle.corner_lines.proofs.Dropped.{filter-on, filter-off, left_mark, other_row}
 
 -- ---- the marks that are left are in order
 
@@ -36,13 +37,10 @@ module _ (f g k : Mark → Bool) where
         ∙ sym (ap (λ (b : Bool). cond b (m ∷ filter k left) (filter k left)) (same ∙ off-it))
   ]
 
-abbrev keeps : ℕ → Mark → Bool
-keeps id m = cond (is_one_of (id ∷ []) m.row) false true
-
-keeps-own : (id : ℕ) (n : ℕ) (side : Side) → n ≡ id → keeps id (record { row = Held n; side = side }) ≡ false
+keeps-own : (id : ℕ) (n : ℕ) (side : Side) → n ≡ id → left_mark id (record { row = Held n; side = side }) ≡ false
 keeps-own id n side e = ap (λ (t : Bool). cond (cond t true false) false true) (is_row-own n id e)
 
-keeps-other : (id : ℕ) (n : ℕ) (side : Side) → n ≢ id → keeps id (record { row = Held n; side = side }) ≡ true
+keeps-other : (id : ℕ) (n : ℕ) (side : Side) → n ≢ id → left_mark id (record { row = Held n; side = side }) ≡ true
 keeps-other id n side ne = ap (λ (t : Bool). cond (cond t true false) false true) (is_row-other n id ne)
 
 -- what is left of a mark of another line
@@ -52,51 +50,42 @@ same-there at id m far =
     (λ e. is_in at (place m) (was_in (id ∷ []) at (place m) (in_is (without_marks (id ∷ []) at) (place m) e)))
     (λ e. is_in (without_marks (id ∷ []) at) (place m) (far_in (id ∷ []) at m far (in_is at (place m) e)))
 
-abbrev other_row : ℕ → Row → Bool
-other_row id r = cond (nat_eq r.id id) false true
-
 abbrev was : List Mark → Mark → Bool
 was at m = is_mark at (place m)
 
 abbrev left : ℕ → List Mark → List Mark
 left id at = without_marks (id ∷ []) at
 
-row-filtered : (id : ℕ) (r : Row) (rows : List Row) → r.id ≡ id → filter (other_row id) (r ∷ rows) ≡ filter (other_row id) rows
-row-filtered id r rows e = ap (λ (b : Bool). cond (cond b false true) (r ∷ filter (other_row id) rows) (filter (other_row id) rows)) (eq-eqb r.id id e)
-
-row-kept : (id : ℕ) (r : Row) (rows : List Row) → r.id ≢ id → filter (other_row id) (r ∷ rows) ≡ r ∷ filter (other_row id) rows
-row-kept id r rows n = ap (λ (b : Bool). cond (cond b false true) (r ∷ filter (other_row id) rows) (filter (other_row id) rows)) (ne_eqb r.id id n)
-
 far-row : (id n : ℕ) → n ≢ id → is_one_of (id ∷ []) (Held n) ≡ false
 far-row id n ne = ap (λ (t : Bool). cond t true false) (is_row-other n id ne)
 
-order-stays : (at : List Mark) (id n : ℕ) (stays : List Stay) → filter (keeps id) (filter (was at) (marks_of (stay_lines n stays))) ≡ filter (was (left id at)) (marks_of (stay_lines n stays))
+order-stays : (at : List Mark) (id n : ℕ) (stays : List Stay) → filter (left_mark id) (filter (was at) (marks_of (stay_lines n stays))) ≡ filter (was (left id at)) (marks_of (stay_lines n stays))
 order-stays at id n [] = refl
 order-stays at id n (s ∷ stays) =
     let under : Mark = record { row = StayOf s.attr; side = Under } in
     let over : Mark = record { row = StayOf s.attr; side = Over } in
-    step-on (was at) (keeps id) (was (left id at)) (record { row = StayOf s.attr; side = Under }) (record { row = StayOf s.attr; side = Over } ∷ marks_of (stay_lines (n + 1) stays)) (record { row = StayOf s.attr; side = Over } ∷ marks_of (stay_lines (n + 1) stays))
+    step-on (was at) (left_mark id) (was (left id at)) (record { row = StayOf s.attr; side = Under }) (record { row = StayOf s.attr; side = Over } ∷ marks_of (stay_lines (n + 1) stays)) (record { row = StayOf s.attr; side = Over } ∷ marks_of (stay_lines (n + 1) stays))
     refl (same-there at id (record { row = StayOf s.attr; side = Under }) refl)
-    (step-on (was at) (keeps id) (was (left id at)) (record { row = StayOf s.attr; side = Over }) (marks_of (stay_lines (n + 1) stays)) (marks_of (stay_lines (n + 1) stays))
+    (step-on (was at) (left_mark id) (was (left id at)) (record { row = StayOf s.attr; side = Over }) (marks_of (stay_lines (n + 1) stays)) (marks_of (stay_lines (n + 1) stays))
     refl (same-there at id (record { row = StayOf s.attr; side = Over }) refl) (order-stays at id (n + 1) stays))
 
-order-rows : (at : List Mark) (id : ℕ) (stays : List Stay) (rows : List Row) → filter (keeps id) (filter (was at) (marks_of (map line_of_row rows ++ stay_lines 1001 stays))) ≡ filter (was (left id at)) (marks_of (map line_of_row (filter (other_row id) rows) ++ stay_lines 1001 stays))
+order-rows : (at : List Mark) (id : ℕ) (stays : List Stay) (rows : List Row) → filter (left_mark id) (filter (was at) (marks_of (map line_of_row rows ++ stay_lines 1001 stays))) ≡ filter (was (left id at)) (marks_of (map line_of_row (filter (other_row id) rows) ++ stay_lines 1001 stays))
 order-rows at id stays [] = order-stays at id 1001 stays
 order-rows at id stays (r ∷ rows) = elim (cases_eq r.id id) [
   | inl e ↦
-      step-off (was at) (keeps id) (was (left id at)) (record { row = Held r.id; side = Under }) (record { row = Held r.id; side = Over } ∷ marks_of (map line_of_row rows ++ stay_lines 1001 stays)) (keeps-own id r.id Under e)
-      ∙ step-off (was at) (keeps id) (was (left id at)) (record { row = Held r.id; side = Over }) (marks_of (map line_of_row rows ++ stay_lines 1001 stays)) (keeps-own id r.id Over e)
+      step-off (was at) (left_mark id) (was (left id at)) (record { row = Held r.id; side = Under }) (record { row = Held r.id; side = Over } ∷ marks_of (map line_of_row rows ++ stay_lines 1001 stays)) (keeps-own id r.id Under e)
+      ∙ step-off (was at) (left_mark id) (was (left id at)) (record { row = Held r.id; side = Over }) (marks_of (map line_of_row rows ++ stay_lines 1001 stays)) (keeps-own id r.id Over e)
       ∙ order-rows at id stays rows
-      ∙ ap (λ (rs : List Row). filter (was (left id at)) (marks_of (map line_of_row rs ++ stay_lines 1001 stays))) (sym (row-filtered id r rows e))
+      ∙ ap (λ (rs : List Row). filter (was (left id at)) (marks_of (map line_of_row rs ++ stay_lines 1001 stays))) (sym (filter-on id r rows e))
   | inr n ↦
-      step-on (was at) (keeps id) (was (left id at)) (record { row = Held r.id; side = Under }) (record { row = Held r.id; side = Over } ∷ marks_of (map line_of_row rows ++ stay_lines 1001 stays))
+      step-on (was at) (left_mark id) (was (left id at)) (record { row = Held r.id; side = Under }) (record { row = Held r.id; side = Over } ∷ marks_of (map line_of_row rows ++ stay_lines 1001 stays))
       (record { row = Held r.id; side = Over } ∷ marks_of (map line_of_row (filter (other_row id) rows) ++ stay_lines 1001 stays))
       (keeps-other id r.id Under n) (same-there at id (record { row = Held r.id; side = Under }) (far-row id r.id n))
-      (step-on (was at) (keeps id) (was (left id at)) (record { row = Held r.id; side = Over }) (marks_of (map line_of_row rows ++ stay_lines 1001 stays))
+      (step-on (was at) (left_mark id) (was (left id at)) (record { row = Held r.id; side = Over }) (marks_of (map line_of_row rows ++ stay_lines 1001 stays))
       (marks_of (map line_of_row (filter (other_row id) rows) ++ stay_lines 1001 stays))
       (keeps-other id r.id Over n) (same-there at id (record { row = Held r.id; side = Over }) (far-row id r.id n)) (order-rows at id stays rows))
-      ∙ ap (λ (rs : List Row). filter (was (left id at)) (marks_of (map line_of_row rs ++ stay_lines 1001 stays))) (sym (row-kept id r rows n))
+      ∙ ap (λ (rs : List Row). filter (was (left id at)) (marks_of (map line_of_row rs ++ stay_lines 1001 stays))) (sym (filter-off id r rows n))
 ]
 
 pub order_left : (p : Problem) (at : List Mark) (id : ℕ) → at ≡ in_order p at → without_marks (id ∷ []) at ≡ in_order (without_row id p) (without_marks (id ∷ []) at)
-order_left p at id e = ap (λ (ms : List Mark). filter (keeps id) ms) e ∙ order-rows at id p.stays p.rows
+order_left p at id e = ap (λ (ms : List Mark). filter (left_mark id) ms) e ∙ order-rows at id p.stays p.rows

@@ -20,12 +20,13 @@ use Rattle.problem_core.specs.Corners.{IsIn, NoNegativeValue, Point, StandsAt, a
 use Rattle.problem_core.proofs.Forms.{each-both, each-impl}
 use Rattle.corner_laws.proofs.ColumnsStay.{each_marks}
 use Rattle.corner_laws.proofs.Exchanged.{neg-times}
-use Rattle.corner_laws.proofs.LinePlaces.{sum-each}
 use Rattle.corner_laws.proofs.WrittenValues.{nothing_outside}
 use Rattle.corner_laws.proofs.ZeroColumns.{each-joined, here-in}
 use Rattle.layout_solver.specs.Layouts.{stays_at, zeros}
-use Rattle.layout_solver.proofs.Beginnings.{across, each_first, each_rest, place_apart}
 use Rattle.layout_solver.proofs.Values.{AreNumbers}
+use Rattle.problem_core.proofs.Conflicts.{sum-each}
+use Rattle.corner_laws.proofs.BeginsUnique.{each-first, place-apart}
+use Rattle.corner_laws.proofs.TermLifts.{each-second, pairs-across}
 
 -- ---- a point of which some columns are cleared
 
@@ -139,7 +140,7 @@ IsLow s = s.attr ≤ 2147483648
 
 held-other : (id : ℕ) (side : Side) (stays : List Stay) → Each (λ (s : Stay). (place_of (Held id) side ≢ place_of (StayOf s.attr) Under) × (place_of (Held id) side ≢ place_of (StayOf s.attr) Over)) stays
 held-other id side [] = tt
-held-other id side (s ∷ stays) = ((place_apart (StayOf s.attr) id side Under (λ e. cc), place_apart (StayOf s.attr) id side Over (λ e. cc)), held-other id side stays)
+held-other id side (s ∷ stays) = ((place-apart (StayOf s.attr) id side Under (λ e. cc), place-apart (StayOf s.attr) id side Over (λ e. cc)), held-other id side stays)
 
 held-low : (id : ℕ) (side : Side) → id ≤ 2147483648 → place_of (Held id) side < 17179869184
 held-low id Under h = omega (arith, h)
@@ -258,7 +259,7 @@ low-new [] h = tt
 low-new (a ∷ attrs) h = (h.0, low-new attrs h.1)
 
 fresh-there : (p q : Problem) (values : List (ℕ × Fraction)) (attrs : List ℕ) → IsMovedFrom p values attrs q → IsFresh (stays_at values ++ stays_at (zeros attrs)) attrs
-fresh-there p q values attrs h = record { low = low-stays p q values attrs h; new = low-new attrs (each_rest IsLow (stays_at values) (stays_at (zeros attrs)) (low-stays p q values attrs h)) }
+fresh-there p q values attrs h = record { low = low-stays p q values attrs h; new = low-new attrs (each-second IsLow (stays_at values) (stays_at (zeros attrs)) (low-stays p q values attrs h)) }
 
 new-attrs : (n : ℕ) (attrs : List ℕ) → Each (λ (t : Stay). n ≢ t.attr) (stays_at (zeros attrs)) → Each (λ (a : ℕ). n ≢ a) attrs
 new-attrs n [] h = tt
@@ -268,7 +269,7 @@ apart-there : (p q : Problem) (values : List (ℕ × Fraction)) (attrs : List �
 apart-there p q values attrs h =
     each-impl (λ v. Each (λ (t : Stay). v.0 ≢ t.attr) (stays_at (zeros attrs))) _ values (λ v k. new-attrs v.0 attrs k)
     (each-unmap stay_of (λ s. Each (λ (t : Stay). s.attr ≢ t.attr) (stays_at (zeros attrs))) values
-    (across (λ (s t : Stay). s.attr ≢ t.attr) (stays_at values) (stays_at (zeros attrs))
+    (pairs-across (λ (s t : Stay). s.attr ≢ t.attr) (stays_at values) (stays_at (zeros attrs))
     (subst (AllPairs (λ (s t : Stay). s.attr ≢ t.attr)) (h.stays ∙ two-parts values attrs) h.apart)))
 
 later : (ss : List Stay) (attrs : List ℕ) (v : ℕ) → is_one (attr_columns attrs) v ≡ true → is_one (fresh_columns ss attrs) v ≡ true
@@ -325,7 +326,7 @@ rows-at p q at values attrs x h stands =
       over = λ out. nothing_outside p at x (place_of (Held r.id) Over) stands k.1.1.1 out;
     })
     (each-both _ _ p.rows (each-both _ _ p.rows (recursion_from_All IsRow p.rows h.whole.rows) (recursion_from_All (IsCovered p.stays) p.rows h.whole.covered))
-    (each-unmap line_of_row _ p.rows (each_first _ (map line_of_row p.rows) (stay_lines 1001 p.stays) known)))
+    (each-unmap line_of_row _ p.rows (each-first _ (map line_of_row p.rows) (stay_lines 1001 p.stays) known)))
 
 -- the moved point
 pub record HasMoved (q : Problem) (at : List Mark) (x : Point) : Type 0 where

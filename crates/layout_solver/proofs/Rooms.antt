@@ -9,8 +9,8 @@ use Rattle.problem_core.specs.Kept.{AreRising, IsNumber, IsStay, IsWhole}
 use Rattle.problem_core.proofs.Forms.{each-impl}
 use Rattle.layout_solver.specs.Layouts.{stays_at, zeros}
 use Rattle.layout_solver.specs.Starts.{CanTake, attrs_of}
-use Rattle.layout_solver.proofs.Beginnings.{across, each_rest}
 use Rattle.layout_solver.proofs.Moved.{each_mapped}
+use Rattle.corner_laws.proofs.TermLifts.{each-second, pairs-across}
 
 -- ---- lists with what holds of each two of their items
 
@@ -41,7 +41,7 @@ room : (held new : List ℕ) → Each IsNumber new → AllPairs (λ a b. a ≢ b
 room held [] numbers apart long = tt
 room held (a ∷ new) numbers apart long = (
   numbers.0,
-  each-impl (λ (h : ℕ). Each (λ (b : ℕ). h ≢ b) (a ∷ new)) _ held (λ h k. k.0) (across (λ (b c : ℕ). b ≢ c) held (a ∷ new) apart),
+  each-impl (λ (h : ℕ). Each (λ (b : ℕ). h ≢ b) (a ∷ new)) _ held (λ h k. k.0) (pairs-across (λ (b c : ℕ). b ≢ c) held (a ∷ new) apart),
   omega (arith, long, length-append held (a ∷ new)),
   room (held ++ (a ∷ [])) new numbers.1 (subst (AllPairs (λ (b c : ℕ). b ≢ c)) (sym (append_assoc held (a ∷ []) new)) apart)
       (subst (λ (ns : List ℕ). length ns ≤ 4096) (sym (append_assoc held (a ∷ []) new)) long),
@@ -51,7 +51,7 @@ room held (a ∷ new) numbers apart long = (
 whole-room : (p : Problem) (held new : List ℕ) → IsWhole p → attrs_of p ≡ held ++ new → CanTake held new
 whole-room p held new whole e =
     room held new
-    (each_rest IsNumber held new (subst (Each IsNumber) e (each_mapped (λ (s : Stay). s.attr) IsNumber p.stays (each-impl IsStay _ p.stays (λ s k. k.attr) (recursion_from_All IsStay p.stays whole.stays)))))
+    (each-second IsNumber held new (subst (Each IsNumber) e (each_mapped (λ (s : Stay). s.attr) IsNumber p.stays (each-impl IsStay _ p.stays (λ s k. k.attr) (recursion_from_All IsStay p.stays whole.stays)))))
     (subst (AllPairs (λ (a b : ℕ). a ≢ b)) e (pairs-mapped (λ (s : Stay). s.attr) (λ (a b : ℕ). a ≢ b) p.stays whole.apart))
     (subst (λ (ns : List ℕ). length ns ≤ 4096) e (subst (λ (n : ℕ). n ≤ 4096) (sym (length-mapped (λ (s : Stay). s.attr) p.stays)) whole.stay_count))
 
@@ -65,11 +65,6 @@ added_room held values attrs rows e whole =
     whole-room (record { rows = rows; stays = stays_at (values ++ zeros attrs) }) held attrs whole (numbers-of values attrs ∙ ap (λ (ns : List ℕ). ns ++ attrs) e)
 
 -- ---- values that rise
-
-firsts-of : (values : List (ℕ × Fraction)) (attrs : List ℕ) → map (λ v. v.0) (values ++ zeros attrs) ≡ map (λ v. v.0) values ++ attrs
-firsts-of [] [] = refl
-firsts-of [] (a ∷ attrs) = ap (λ (ns : List ℕ). a ∷ ns) (firsts-of [] attrs)
-firsts-of (v ∷ values) attrs = ap (λ (ns : List ℕ). v.0 ∷ ns) (firsts-of values attrs)
 
 pub same_rising : (u v : List (ℕ × Fraction)) → map (λ w. w.0) u ≡ map (λ w. w.0) v → AreRising v → AreRising u
 same_rising u v e h =

@@ -33,11 +33,12 @@ use Rattle.corner.specs.Changes.{HasStood, IsRewound, IsUnfitStop, scene_of}
 use Rattle.corner.specs.Views.{CornerView, IsKeptCorner, Scene}
 use Rattle.corner.proofs.ShiftLines.{shift_seen, shift_whole}
 use Rattle.corner.proofs.StoodColumns.{multipliers_seen}
-use Rattle.corner.proofs.StoodLines.{AreSeenAlike, each_seen}
+use Rattle.corner.proofs.StoodLines.{AreSeenAlike, each_seen, rows_alike}
 use Rattle.corner_ends.specs.Runs.{FromHere}
 use Rattle.layout_solver.specs.declared.engine.Change.{Change}
 use Rattle.layout_solver.specs.Shifts.{CanShift, IsAtMark, shifted, with_constants}
-use Rattle.layout_solver.proofs.Constants.{changes_few, changes_less, changes_none, first_changes, next_taken, no_change, one_change, shifted_on, split_at}
+use Rattle.layout_solver.proofs.Constants.{changes_few, changes_less, first_changes, next_taken, no_change, one_change, shifted_on, split_at}
+use Rattle.corner_laws.proofs.Complete.{no-changes}
 
 abbrev made : Problem → List Row → Problem
 made p rows = record { rows = rows; stays = p.stays }
@@ -67,13 +68,9 @@ stays-alike base (x ∷ xs) (y ∷ ys) e =
     let tail : map (λ (s : Stay). s.attr) xs ≡ map (λ (s : Stay). s.attr) ys = cc in
     ap₂ (λ (a : ℕ) (ls : List Line). constantless (line_of_stay base (record { attr = a; target = x.target })) ∷ ls) head (stays-alike (base + 1) xs ys tail)
 
-rows-alike : (rows : List Row) (xs ys : List Line) → map constantless xs ≡ map constantless ys → map constantless (map line_of_row rows ++ xs) ≡ map constantless (map line_of_row rows ++ ys)
-rows-alike [] xs ys e = e
-rows-alike (r ∷ rows) xs ys e = ap (λ (ls : List Line). constantless (line_of_row r) ∷ ls) (rows-alike rows xs ys e)
-
 stood-alike : (old new : CornerView) → HasStood old new → AreSeenAlike old.problem new.problem
 stood-alike old new stood =
-    rows-alike old.problem.rows (stay_lines 1001 old.problem.stays) (stay_lines 1001 new.problem.stays) (stays-alike 1001 old.problem.stays new.problem.stays (sym stood.attrs))
+    rows_alike old.problem.rows (stay_lines 1001 old.problem.stays) (stay_lines 1001 new.problem.stays) (stays-alike 1001 old.problem.stays new.problem.stays (sym stood.attrs))
     ∙ ap (λ (rs : List Row). map constantless (map line_of_row rs ++ stay_lines 1001 new.problem.stays)) (sym stood.rows)
 
 pub columns_stood : (old new : CornerView) → HasStood old new → new.marks ≡ old.marks → NoNegativeColumn old.problem old.marks → NoNegativeColumn new.problem new.marks
@@ -138,7 +135,7 @@ pub record HasShifted (p : Problem) (to : List Change) (i n : ℕ) (q : Problem)
   pub changed : n ≡ changes p.rows q.rows
 
 pub none_shifted : (p : Problem) (to : List Change) → CanShift p to → HasShifted p to 0 0 p
-none_shifted p to near = record { near = near; problem = refl; changed = sym (changes_none p.rows) }
+none_shifted p to near = record { near = near; problem = refl; changed = sym (no-changes p.rows) }
 
 pub few_shifted : (p q : Problem) (to : List Change) (i n : ℕ) → IsWhole p → HasShifted p to i n q → n ≤ 4096
 few_shifted p q to i n whole h =
@@ -222,7 +219,7 @@ path_stop p old marks path quantity what other n budget is also e lawful unfit =
     (subst (λ (q : Path). IsStopOf true p old (FromHere marks) budget (Unfit (record { path = q; quantity = Shifts what n }))) (sym e)
     (refl, omega arith, (refl, (refl, refl), lawful, unfit)))
 
-head-of : (s t : Scene) (ss ts : List Scene) → s ∷ ss ≡ t ∷ ts → s ≡ t
+pub head-of : (s t : Scene) (ss ts : List Scene) → s ∷ ss ≡ t ∷ ts → s ≡ t
 head-of s t ss ts e = cc
 
 pub still_newest : (old new : CornerView) → new.before ≡ old.before → new.marks ≡ old.marks → IsAtMark old → IsAtMark new

@@ -1,5 +1,5 @@
 -- What the corner of an engine shows of its values.
-use Rattle.std.proofs.Common.{◌≡◌, ◌∙◌, ℕ, ◌-◌, ◌<◌, ◌≤◌, List, sym, ap, subst, arith, Any, IfOk}
+use Rattle.std.proofs.Common.{◌≡◌, ◌∙◌, ℕ, ◌-◌, ◌≤◌, List, sym, ap, subst, arith, Any, IfOk}
 use Rattle.std.specs.declared.result.Result.{Result}
 use Rattle.std.specs.declared.result.Result.TheVariants.{Ok, Err}
 use Rattle.frac_core.specs.Fraction.{Fraction}
@@ -23,10 +23,6 @@ use Rattle.layout_solver.specs.Layouts.{Layout}
 use Rattle.layout_solver.specs.Engines.{IsSolved, layout_of, HaveValues}
 use Rattle.layout_solver.proofs.Solved.{solved_values}
 use Rattle.layout_solver.proofs.Values.{given_here, numbers_here}
-
-pub ok_weaker : {A E : Type 0} (r : Result A E) (P Q : A → Type 0) → ((x : A) → P x → Q x) → IfOk r P → IfOk r Q
-ok_weaker (Ok x) P Q f h = f x h
-ok_weaker (Err e) P Q f h = h
 
 pub ok_both : {A E : Type 0} (r : Result A E) (P Q R : A → Type 0) → ((x : A) → P x → Q x → R x) → IfOk r P → IfOk r Q → IfOk r R
 ok_both (Ok x) P Q R f h k = f x h k
@@ -78,9 +74,6 @@ module _ (c : CornerView) (v : List (ℕ × Fraction)) (past : HaveValues c.befo
 
 pub priority_level : (p : Problem) (rank : ℕ) → rank ≤ 1000 → IsLevelOf p (Priority rank)
 priority_level p rank h = (1000 - rank, omega (arith, h))
-
-pub no_priority : (p : Problem) (rank k : ℕ) → 1000 < rank → IsLevelAt p (Priority rank) k → ⊥
-no_priority p rank k h at = absurd (omega (arith, h, at))
 
 pub has_stay_level : (p : Problem) (attr : ℕ) → HasStay p.stays attr → IsLevelOf p (StayLevel attr)
 has_stay_level p attr h = stay_level p attr h

@@ -1,5 +1,5 @@
 -- A corner's values: that there are some, and what they say.
-use Rattle.std.proofs.Common.{◌≡◌, ◌∙◌, ℕ, zero, suc, ◌<◌, Bool, cond, List, [], ◌∷◌, map, ℤ, pos, negsuc, ◌+ℤ◌, ◌*ℤ◌, ◌<ℤ◌, nat_abs, unsigned_abs, refl, sym, ap, subst, arith, inl, inr, All, ne_eqb}
+use Rattle.std.proofs.Common.{◌≡◌, ◌∙◌, ℕ, zero, suc, ◌<◌, Bool, cond, List, [], ◌∷◌, map, ℤ, pos, ◌+ℤ◌, ◌*ℤ◌, ◌<ℤ◌, nat_abs, unsigned_abs, refl, sym, ap, subst, arith, inl, inr, All, ne_eqb}
 use Rattle.std.specs.Int.{◌∣◌}
 use Rattle.std.specs.List.{AllByRecursion as Each}
 use Rattle.std.proofs.Math.Nat.{one-dvd}
@@ -31,7 +31,9 @@ use Rattle.corner.specs.Changes.{scene_of}
 use Rattle.layout_solver.specs.Layouts.{AreBest}
 use Rattle.layout_solver.specs.Engines.{AreItsValues}
 use Rattle.layout_solver.specs.ValuesUnique.{IsFixed, fixed_attrs, one_number}
-use Rattle.layout_solver.proofs.Beginnings.{agree_both}
+use Rattle.corner_laws.proofs.BeginsUnique.{agree-both}
+use Rattle.corner_lines.proofs.MovedStays.{own-stays}
+use Rattle.problem_core.proofs.Ends.{abs_same}
 
 -- ---- a fraction in lowest terms
 
@@ -105,7 +107,7 @@ values_exist c corner =
 
 number-here : (f : Fraction) (p p1 x x1 y y1 : ℤ) → pos 0 <ℤ p1 → pos 0 <ℤ y1 → p *ℤ x1 ≡ x *ℤ p1 → p *ℤ y1 ≡ y *ℤ p1 → y *ℤ pos f.den ≡ f.num *ℤ y1 → x *ℤ pos f.den ≡ f.num *ℤ x1
 number-here f p p1 x x1 y y1 above over hx hy given =
-    sym (agree_both f.num x y (pos f.den) x1 y1 over given (sym (agree_both x y p x1 y1 p1 above hx hy)))
+    sym (agree-both f.num x y (pos f.den) x1 y1 over given (sym (agree-both x y p x1 y1 p1 above hx hy)))
 
 fixed-at : (p : Problem) (at : List Mark) (x : Point) (stays : List Stay) (values : List (ℕ × Fraction)) → map (λ v. v.0) values ≡ map (λ s. s.attr) stays → Each (λ s. IsFixed p at x (attr_column s.attr)) stays → Each (λ v. IsFixed p at x (attr_column v.0)) values
 fixed-at p at x [] [] e h = tt
@@ -131,14 +133,10 @@ numbers_here c values x h stands =
     (k.0 x stands) (k.0 k.1.0 k.1.1) k.1.2)
     (each-both _ _ values (fixed-at c.problem c.marks h.corner.point c.problem.stays values h.attributes (fixed_attrs c.problem c.marks h.corner)) (recursion_from_All (λ v. HasValueAt c.problem c.marks (attr_column v.0) v.1) values h.stand))
 
-same-size : (z : ℤ) → pos 0 <ℤ z → pos (nat_abs z) ≡ z
-same-size (pos n) h = refl
-same-size (negsuc n) h = absurd h.lt
-
 pub given_here : (x : Point) (values : List (ℕ × Fraction)) → AreNumbers x values → Gives values (assignment_at x)
 given_here x values h =
     All-from_recursion (λ v. x.num (attr_column v.0) *ℤ pos v.1.den ≡ v.1.num *ℤ pos (nat_abs (x.num one_column))) values
-    (each-impl (λ v. x.num (attr_column v.0) *ℤ pos v.1.den ≡ v.1.num *ℤ x.num one_column) _ values (λ v e. e ∙ ap (λ (z : ℤ). v.1.num *ℤ z) (sym (same-size (x.num one_column) x.positive))) h)
+    (each-impl (λ v. x.num (attr_column v.0) *ℤ pos v.1.den ≡ v.1.num *ℤ x.num one_column) _ values (λ v e. e ∙ ap (λ (z : ℤ). v.1.num *ℤ z) (sym (abs_same (x.num one_column) x.positive))) h)
 
 -- the values of an end are best
 pub best_there : (c : CornerView) (values : List (ℕ × Fraction)) → AreItsValues (scene_of c) values → IsWhole c.problem → IsBestEnd c.problem c.marks → AreBest c.problem values
@@ -172,10 +170,6 @@ fits-or-not f h =
         | inr ge ↦ absurd (h (λ fits. absurd (omega (arith, ge, fits.den_fits))))
       ];
     }
-
-own-stays : (stays : List Stay) → Each (λ (s : Stay). HasStay stays s.attr) stays
-own-stays [] = tt
-own-stays (s ∷ stays) = ((0, s, omega arith, refl, refl), each-impl (λ (t : Stay). HasStay stays t.attr) _ stays (λ t (k, u, within, is, e). (suc k, u, omega (arith, within), is, e)) (own-stays stays))
 
 of-attrs : (Q : ℕ → Type 0) (stays : List Stay) (values : List (ℕ × Fraction)) → map (λ v. v.0) values ≡ map (λ s. s.attr) stays → Each (λ (s : Stay). Q s.attr) stays → Each (λ (v : ℕ × Fraction). Q v.0) values
 of-attrs Q [] [] e h = tt

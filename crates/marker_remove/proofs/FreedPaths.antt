@@ -6,21 +6,20 @@ use Rattle.std.proofs.lemmas.List.Elements.{All-from_recursion, recursion_from_A
 use Rattle.std.proofs.lemmas.List.Kept.{AllPairs-cons, AllPairs-filter}
 use Rattle.problem_core.specs.declared.parts.Mark.{Mark}
 use Rattle.problem_core.specs.declared.parts.RowName.TheVariants.{Held}
-use Rattle.problem_core.specs.declared.parts.Side.{Side}
 use Rattle.problem_core.specs.declared.parts.Side.TheVariants.{Under, Over}
 use Rattle.problem_core.specs.declared.stops.What.{What}
 use Rattle.problem_core.specs.declared.stops.Quantity.{Quantity}
 use Rattle.problem_core.specs.declared.stops.Quantity.TheVariants.{Plain, Terms, Rows, Shifts}
 use Rattle.frac_core.specs.declared.memory.Stop.TheVariants.{Refused}
 use Rattle.problem_core.specs.Layout.{Line, Problem, lines}
-use Rattle.problem_core.specs.Corners.{IsCorner, IsExchange, IsIn, NoNegativeValue, SameMarks, Swap, exchanged, marks_of, place, place_of}
+use Rattle.problem_core.specs.Corners.{IsCorner, IsExchange, IsIn, NoNegativeValue, SameMarks, Swap, exchanged, marks_of, place}
 use Rattle.problem_core.specs.Paths.{IsPath}
 use Rattle.problem_core.specs.Kept.{IsWhole}
 use Rattle.problem_core.specs.Unfit.{IsUnfitWhat}
 use Rattle.problem_core.proofs.Forms.{each-impl}
 use Rattle.cert_core.specs.Paths.{Path}
 use Rattle.corner_laws.proofs.Exchanged.{exchanged_in}
-use Rattle.corner_laws.proofs.LinePlaces.{AllApart, AreApart, IsSmallLine, lines_apart, lines_small}
+use Rattle.corner_laws.proofs.LinePlaces.{AllApart, IsSmallLine, lines_apart, lines_small}
 use Rattle.corner_laws.proofs.Rays.{enter_in, kept_in}
 use Rattle.corner_laws.proofs.RunPaths.{contains_in}
 use Rattle.corner_laws.proofs.WrittenValues.{contains_each}
@@ -31,6 +30,8 @@ use Rattle.corner_ends.specs.Begins.{HasExchanged}
 use Rattle.corner_ends.proofs.MarkOrders.{in_list, same_back, unfit_same}
 use Rattle.marker_remove.specs.Freed.{DoStand, HasMarkIn, IsFreedPath, IsStayMover}
 use Rattle.marker_remove.proofs.ZeroSwaps.{same_up}
+use Rattle.corner_lines.proofs.Dropped.{later-in}
+use Rattle.corner.proofs.NextFacts.{apart-line}
 
 -- ---- marks in order
 
@@ -48,9 +49,6 @@ is_in (m ∷ ms) c (suc k, within, is) = elim (cases_eq (place m) c) [
   | inl q ↦ ap (λ (b : Bool). cond b true (is_mark ms c)) (eq-eqb (place m) c q)
   | inr n ↦ ap (λ (b : Bool). cond b true (is_mark ms c)) (ne_eqb (place m) c n) ∙ is_in ms c (k, omega (arith, within), is)
 ]
-
-later-in : (m : Mark) (ms : List Mark) (c : ℕ) → IsIn c ms → IsIn c (m ∷ ms)
-later-in m ms c (k, within, is) = (suc k, omega (arith, within), is)
 
 -- those of the list that are among the marks
 abbrev pub among : List Mark → List Mark → List Mark
@@ -156,12 +154,6 @@ one-corner ms = AllPairs-cons (λ (a b : List Mark). SameMarks a b → ⊥) ms [
 
 pub path_here : (p : Problem) (ms : List Mark) → IsCorner p ms → NoNegativeValue p ms → IsPath false p ms []
 path_here p ms corner up = record { corner = corner; apart = one-corner ms; lawful = up }
-
--- no two marks of a problem have one column
-apart-line : (l : Line) (ls : List Line) (side : Side) → Each (AreApart l) ls → Each (λ n. place_of l.name side ≢ place n) (marks_of ls)
-apart-line l [] side h = tt
-apart-line l (k ∷ ls) Under h = (h.0.under_under, (h.0.under_over, apart-line l ls Under h.1))
-apart-line l (k ∷ ls) Over h = (h.0.over_under, (h.0.over_over, apart-line l ls Over h.1))
 
 apart-marks : (ls : List Line) → Each IsSmallLine ls → AllApart ls → AllPairs (λ m n. place m ≢ place n) (marks_of ls)
 apart-marks [] small h = λ i j d less lt. absurd (omega (arith, less, lt))

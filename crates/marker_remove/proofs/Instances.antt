@@ -1,33 +1,31 @@
 -- The row `x >= k` where x stands at k: places 4, 5 of the row, 6, 7 of the stay.
-use Rattle.std.proofs.Common.{◌≡◌, ◌≢◌, ◌∙◌, ℕ, zero, suc, true, false, cond, nat_eq, List, [], ◌∷◌, map, ℤ, pos, negsuc, ◌+ℤ◌, ◌-ℤ◌, ◌*ℤ◌, ◌≤ℤ◌, refl, sym, ap, subst, arith, inl, inr, ◌⊎◌, Contains, ne_eqb}
+use Rattle.std.proofs.Common.{◌≡◌, ◌∙◌, ℕ, zero, suc, false, cond, nat_eq, List, [], ◌∷◌, map, ℤ, pos, negsuc, ◌+ℤ◌, ◌-ℤ◌, ◌*ℤ◌, ◌≤ℤ◌, refl, sym, ap, subst, arith, inl, inr, Contains}
 use Rattle.std.proofs.lemmas.List.Elements.{All-from_recursion, recursion_from_All}
-use Rattle.std.proofs.lemmas.Bool.{cases_eq}
 use borrow.Author.Differences.{ints}
-use Rattle.frac_core.specs.Fraction.{IsFitting}
 use Rattle.problem_core.specs.declared.parts.Mark.{Mark}
 use Rattle.problem_core.specs.declared.parts.RowName.TheVariants.{Held}
-use Rattle.problem_core.specs.declared.parts.Term.{Term}
 use Rattle.problem_core.specs.declared.parts.Side.{Side}
 use Rattle.problem_core.specs.declared.parts.Side.TheVariants.{Under, Over}
 use Rattle.problem_core.specs.declared.stops.What.{What}
 use Rattle.problem_core.specs.declared.stops.What.TheVariants.{Attr}
 use Rattle.problem_core.specs.declared.stops.Quantity.{Quantity}
 use Rattle.problem_core.specs.declared.stops.Quantity.TheVariants.{Plain, Terms, Rows, Shifts}
-use Rattle.problem_core.specs.Layout.{Problem, lines, coefficient, value_at}
-use Rattle.problem_core.specs.Corners.{Agree, IsCorner, IsExchange, IsIn, IsWritingOf, NoNegativeValue, Point, SameMarks, Solves, StandsAt, attr_column, equation, exchanged, marks_of, one_column, place, place_of}
+use Rattle.problem_core.specs.Layout.{Problem, lines, value_at}
+use Rattle.problem_core.specs.Corners.{Agree, IsCorner, IsExchange, IsIn, IsWritingOf, NoNegativeValue, Point, Solves, StandsAt, attr_column, equation, exchanged, marks_of, one_column, place, place_of}
 use Rattle.problem_core.specs.Unfit.{IsUnfitWhat}
 use Rattle.problem_core.specs.Paths.{IsPath}
 use Rattle.cert_core.specs.declared.stops.RunStop.TheVariants.{Unfit}
 use Rattle.corner.specs.Views.{HasValueAt}
 use Rattle.corner_laws.specs.Examples.{over_row, over_stay}
 use Rattle.corner_laws.proofs.Examples.{no_writing}
-use Rattle.corner_laws.proofs.Fits.{one_factor, whole_is_kept}
+use Rattle.corner_laws.proofs.Fits.{one_factor, whole_is_kept, difference, difference-at, small-by}
 use Rattle.corner_laws.proofs.PathExamples.{alone-in, no, one-value}
 use Rattle.corner_laws.proofs.Rays.{enter_in}
 use Rattle.corner_laws.proofs.RunPaths.{contains_in}
 use Rattle.marker_remove.specs.Freed.{DoStand, IsFreeStop}
 use Rattle.marker_remove.specs.Instances.{SomeRowsCannotLeave, standing, unfit_at, x_over}
 use Rattle.marker_remove.proofs.FreedPaths.{path_here}
+use Rattle.corner_laws.proofs.BeginExamples.{one-same}
 
 -- ---- x at 2^42, with all deviations 0
 
@@ -105,9 +103,6 @@ row_exchange = record {
   corner = row_corner;
 }
 
-pub same_one : (m : Mark) → SameMarks (m ∷ []) (m ∷ [])
-same_one m = (All-from_recursion (λ k. IsIn (place k) (m ∷ [])) (m ∷ []) ((0, omega arith, refl), tt), All-from_recursion (λ k. IsIn (place k) (m ∷ [])) (m ∷ []) ((0, omega arith, refl), tt))
-
 pub x_unfit : IsUnfitWhat (standing 4398046511104) (over_row ∷ []) (Attr 1)
 x_unfit = (
   (0, record { attr = 1; target = record { num = pos 4398046511104; den = 1 } }, omega arith, refl, refl),
@@ -119,7 +114,7 @@ unfit = (
   record {
     kind = refl;
     none = refl;
-    freed = (record { enter = over_row; leave = over_stay }, record { row = refl; stay = (1, refl); exchange = row_exchange; marks = same_one over_row });
+    freed = (record { enter = over_row; leave = over_stay }, record { row = refl; stay = (1, refl); exchange = row_exchange; marks = one-same over_row });
     ordered = refl;
     lawful = path_here (standing 4398046511104) (over_row ∷ []) row_corner (values over_row (record { le = tt }));
   },
@@ -137,33 +132,6 @@ what_of (Plain what) = what
 what_of (Terms mark j) = Attr 0
 what_of (Rows level j) = Attr 0
 what_of (Shifts what j) = Attr 0
-
--- two marks with the coefficients 1 and -1
-abbrev difference : ℕ → ℕ → List Term
-difference a b = record { attr = a; by = pos 1 } ∷ record { attr = b; by = negsuc 0 } ∷ []
-
-difference-at : (a b v : ℕ) → coefficient v (difference a b) ≢ pos 0 → (v ≡ a) ⊎ (v ≡ b)
-difference-at a b v some =
-    elim (cases_eq a v) [
-      | inl e ↦ inl (sym e)
-      | inr n ↦ elim (cases_eq b v) [
-        | inl e ↦ inr (sym e)
-        | inr m ↦ absurd (some (ap (λ (t : _). cond t (pos 1) (pos 0) +ℤ (cond (nat_eq b v) (negsuc 0) (pos 0) +ℤ pos 0)) (ne_eqb a v n) ∙ ap (λ (t : _). pos 0 +ℤ (cond t (negsuc 0) (pos 0) +ℤ pos 0)) (ne_eqb b v m)))
-      ]
-    ]
-
-small-by : (a b v : ℕ) → IsFitting (coefficient v (difference a b))
-small-by a b v =
-    elim (nat_eq a v) as (λ (t : _). IsFitting (cond t (pos 1) (pos 0) +ℤ (cond (nat_eq b v) (negsuc 0) (pos 0) +ℤ pos 0))) [
-      | true ↦ elim (nat_eq b v) as (λ (t : _). IsFitting (pos 1 +ℤ (cond t (negsuc 0) (pos 0) +ℤ pos 0))) [
-        | true ↦ omega arith
-        | false ↦ omega arith
-      ]
-      | false ↦ elim (nat_eq b v) as (λ (t : _). IsFitting (pos 0 +ℤ (cond t (negsuc 0) (pos 0) +ℤ pos 0))) [
-        | true ↦ omega arith
-        | false ↦ omega arith
-      ]
-    ]
 
 five-holds : (s t one a : ℤ) → pos 1 *ℤ s +ℤ (negsuc 0 *ℤ t +ℤ (negsuc 4 *ℤ one +ℤ (pos 1 *ℤ a +ℤ pos 0))) ≡ pos 0 → pos 1 *ℤ (pos 1 *ℤ a -ℤ (pos 1 *ℤ t +ℤ (negsuc 0 *ℤ s +ℤ pos 0))) ≡ pos 1 *ℤ (pos 5 *ℤ one)
 five-holds s t one a e = omega (arith, ints, e)

@@ -19,7 +19,7 @@ use Rattle.problem_core.specs.Corners.{IsIn, attr_column, equation, marks_of, pl
 use Rattle.problem_core.specs.Rays.{IsRay}
 use Rattle.problem_core.proofs.Forms.{each-both, each-impl}
 use Rattle.corner_laws.proofs.Counting.{sides_apart}
-use Rattle.corner_laws.proofs.Ends.{decided}
+use Rattle.corner_laws.proofs.Ends.{decided, first-rows}
 use Rattle.corner_laws.proofs.Gaps.{no_gap}
 use Rattle.corner_laws.proofs.WrittenValues.{contains_each, not_zero}
 use Rattle.corner_laws.proofs.ZeroColumns.{here-in}
@@ -27,16 +27,9 @@ use Rattle.corner_lines.proofs.MarkForms.{same-name}
 use Rattle.corner.specs.Views.{AreMovers, CornerView, IsKeptCorner, IsNamed, IsOutside, MovesWith}
 use Rattle.corner_ends.proofs.Marks.{contained, got_holds, mark_is}
 use Rattle.marker_remove.specs.Freed.{HasMarkIn, IsStayMover}
+use Rattle.corner.proofs.DroppedAttrLevels.{stays_part}
 
 -- ---- the lines of rows and of stays
-
-pub head_lines : (P : Line → Type 0) (rows : List Row) (ls : List Line) → Each P (map line_of_row rows ++ ls) → Each (λ r. P (line_of_row r)) rows
-head_lines P [] ls h = tt
-head_lines P (r ∷ rows) ls h = (h.0, head_lines P rows ls h.1)
-
-pub tail_lines : (P : Line → Type 0) (rows : List Row) (ls : List Line) → Each P (map line_of_row rows ++ ls) → Each P ls
-tail_lines P [] ls h = h
-tail_lines P (r ∷ rows) ls h = tail_lines P rows ls h.1
 
 -- the row with this number
 pub row_at : (P : Row → Type 0) (rows : List Row) (id : ℕ) → Each P rows → Any (λ r. r.id ≡ id) rows → (r : Row) × (r.id ≡ id) × P r
@@ -94,7 +87,7 @@ look at ray (s ∷ stays) = elim (look-side at ray s Under) [
 single-still : (u o a : ℤ) → u ≡ pos 0 → o ≡ pos 0 → (u -ℤ o) +ℤ (pos 1 *ℤ a +ℤ pos 0) ≡ pos 0 → a ≡ pos 0
 single-still u o a e f h = omega (arith, ints, e, f, h)
 
-abbrev HasMarks : Problem → Line → Type 0
+abbrev pub HasMarks : Problem → Line → Type 0
 HasMarks p l = Contains (map place (marks_of (lines p))) (place_of l.name Under) × Contains (map place (marks_of (lines p))) (place_of l.name Over)
 
 held-stay : (a b : ℕ) → Held a ≢ StayOf b
@@ -146,10 +139,10 @@ module _ (p : Problem) (at : List Mark) (id : ℕ) (side : Side) (ray : ℕ → 
         let both : Each (λ l. (value_at ray (equation l) ≡ pos 0) × HasMarks p l) (lines p) =
         each-both (λ l. value_at ray (equation l) ≡ pos 0) (HasMarks p) (lines p) (recursion_from_All (λ l. value_at ray (equation l) ≡ pos 0) (lines p) is.holds) (here-in (lines p)) in
         let still : Each (λ s. ray (attr_column s.attr) ≡ pos 0) p.stays =
-        attrs-still 1001 p.stays (recursion_from_All IsStay p.stays whole.stays) rest (tail_lines (λ l. (value_at ray (equation l) ≡ pos 0) × HasMarks p l) p.rows (stay_lines 1001 p.stays) both) in
+        attrs-still 1001 p.stays (recursion_from_All IsStay p.stays whole.stays) rest (stays_part (λ l. (value_at ray (equation l) ≡ pos 0) × HasMarks p l) p.rows (stay_lines 1001 p.stays) both) in
         let row = row_at (λ r. ((value_at ray (equation (line_of_row r)) ≡ pos 0) × HasMarks p (line_of_row r)) × (IsRow r × IsCovered p.stays r)) p.rows id
         (each-both (λ r. (value_at ray (equation (line_of_row r)) ≡ pos 0) × HasMarks p (line_of_row r)) (λ r. IsRow r × IsCovered p.stays r) p.rows
-        (head_lines (λ l. (value_at ray (equation l) ≡ pos 0) × HasMarks p l) p.rows (stay_lines 1001 p.stays) both)
+        (first-rows (λ l. (value_at ray (equation l) ≡ pos 0) × HasMarks p l) p.rows (stay_lines 1001 p.stays) both)
         (each-both IsRow (IsCovered p.stays) p.rows (recursion_from_All IsRow p.rows whole.rows) (recursion_from_All (IsCovered p.stays) p.rows whole.covered))) held in
         let r : Row = row.0 in
         let form : value_at (λ v. ray (attr_column v)) r.terms ≡ pos 0 =

@@ -26,7 +26,8 @@ use Rattle.corner_lines.proofs.LineWritings.{Named, inside-named, named-mark, ot
 use Rattle.corner.specs.Views.{HasValueAt}
 use Rattle.corner_ends.proofs.MarkOrders.{in_list}
 use Rattle.marker_remove.specs.Freed.{DoStand, HasSameValues}
-use Rattle.marker_remove.proofs.StayMoves.{tail_lines}
+use Rattle.corner.proofs.DroppedAttrLevels.{stays_part}
+use Rattle.corner_laws.proofs.PathExamples.{zero-fits}
 
 -- ---- the stay of a name
 
@@ -91,7 +92,7 @@ module _ (p : Problem) (at : List Mark) (whole : IsWhole p) (corner : IsCorner p
       (λ s h. record { kept = h.1.0; value = h.1.1; level = h.0.0; holds = h.0.1 })
       (each-both (λ s. (k : ℕ) × ((x : Point) → StandsAt p at x → value_at x.num (equation (line_of_stay k s)) ≡ pos 0)) (λ s. IsStay s × HasValueAt p at (attr_column s.attr) s.target) p.stays
       (each-stay (λ l. (x : Point) → StandsAt p at x → value_at x.num (equation l) ≡ pos 0) 1001 p.stays
-      (tail_lines (λ l. (x : Point) → StandsAt p at x → value_at x.num (equation l) ≡ pos 0) p.rows (stay_lines 1001 p.stays)
+      (stays_part (λ l. (x : Point) → StandsAt p at x → value_at x.num (equation l) ≡ pos 0) p.rows (stay_lines 1001 p.stays)
       (recursion_from_All (λ l. (x : Point) → StandsAt p at x → value_at x.num (equation l) ≡ pos 0) (lines p) (λ i d within x stands. stands.0 i d within))))
       (each-both IsStay (λ s. HasValueAt p at (attr_column s.attr) s.target) p.stays (recursion_from_All IsStay p.stays whole.stays) (recursion_from_All (λ s. HasValueAt p at (attr_column s.attr) s.target) p.stays standing)))
 
@@ -144,9 +145,6 @@ same_values p at new s a whole corner standing e leaves same c f (x, stands, val
   value,
 )
 
-zero-up : (z : ℤ) → z ≡ pos 0 → pos 0 ≤ℤ z
-zero-up z e = omega (arith, ints, e)
-
 -- no value turns negative
 pub same_up : (p : Problem) (at new : List Mark) (s : Swap) (a : ℕ) → IsWhole p → IsCorner p at → DoStand p at → s.leave.row ≡ StayOf a → IsExchange p at s → SameMarks (exchanged s at) new → NoNegativeValue p at → NoNegativeValue p new
 same_up p at new s a whole corner standing e ex same (x, stands, up) = (
@@ -155,7 +153,7 @@ same_up p at new s a whole corner standing e ex same (x, stands, up) = (
   All-from_recursion (λ m. pos 0 ≤ℤ x.num (place m)) new
       (each-impl (λ m. IsIn (place m) new) (λ m. pos 0 ≤ℤ x.num (place m)) new
       (λ m i. elim (exchanged_in s at (place m) (contains_in new (exchanged s at) (place m) same.1 i)) [
-        | inl q ↦ zero-up (x.num (place m)) (ap x.num q ∙ enter-zero)
+        | inl q ↦ zero-fits (x.num (place m)) (ap x.num q ∙ enter-zero)
         | inr old ↦ contains_each (λ v. pos 0 ≤ℤ x.num v) at (place m) (recursion_from_All (λ m. pos 0 ≤ℤ x.num (place m)) at up) old.0
       ])
       (in_list new)),

@@ -27,6 +27,7 @@ use Rattle.corner.specs.Views.{HasValueAt, IsKeptCorner, IsScaleOf, MovesWith}
 use Rattle.corner_ends.proofs.ReadNumbers.{scale_is}
 use Rattle.primal_run.specs.declared.ties.Ratio.{Ratio}
 use Rattle.primal_run.specs.Leaving.{FallsBefore, IsEarlier, IsFirstOf, IsRatioAt, NeverFalls}
+use Rattle.corner_laws.proofs.RunPaths.{turned-low}
 
 -- ---- one writing
 
@@ -198,16 +199,13 @@ from-precedes x y a b P Q f h =
       | inr both ↦ let e = both.0 in inr (omega (arith, ints, s, t, e), f both.1)
     ]
 
-size-up : (z : ℤ) → z <ℤ pos 0 → pos 0 <ℤ neg_ℤ z
-size-up z h = omega (arith, ints, h)
-
 pub tie_chain : (enter c d e : ℕ) (u v w : Writing) (fs : List ℕ) → coefficient enter u.form <ℤ pos 0 → coefficient enter v.form <ℤ pos 0 → coefficient enter w.form <ℤ pos 0
     → BreaksTie enter c u d v fs → BreaksTie enter d v e w fs → BreaksTie enter c u e w fs
 tie_chain enter c d e u v w [] x y z h k = tt
 tie_chain enter c d e u v w (f ∷ fs) x y z h k =
     from-precedes (count_at c u f) (count_at e w f) (coefficient enter u.form) (coefficient enter w.form) (BreaksTie enter c u e w fs) (BreaksTie enter c u e w fs) (λ t. t)
     (precedes (count_at c u f) (neg_ℤ (coefficient enter u.form)) (count_at d v f) (neg_ℤ (coefficient enter v.form)) (count_at e w f) (neg_ℤ (coefficient enter w.form)) (BreaksTie enter c u d v fs) (BreaksTie enter d v e w fs) (BreaksTie enter c u e w fs)
-    (size-up (coefficient enter u.form) x) (size-up (coefficient enter v.form) y) (size-up (coefficient enter w.form) z) (tie_chain enter c d e u v w fs x y z)
+    (turned-low (coefficient enter u.form) x) (turned-low (coefficient enter v.form) y) (turned-low (coefficient enter w.form) z) (tie_chain enter c d e u v w fs x y z)
     (to-precedes (count_at c u f) (count_at d v f) (coefficient enter u.form) (coefficient enter v.form) (BreaksTie enter c u d v fs) (BreaksTie enter c u d v fs) (λ t. t) h)
     (to-precedes (count_at d v f) (count_at e w f) (coefficient enter v.form) (coefficient enter w.form) (BreaksTie enter d v e w fs) (BreaksTie enter d v e w fs) (λ t. t) k))
 

@@ -21,9 +21,11 @@ use Rattle.primal_run.specs.Entering.{HasNoRequired, IsChoice, IsRequired, MayEn
 use Rattle.primal_run.specs.declared.entering.Choice.{Choice}
 use Rattle.problem_core.specs.declared.parts.Level.{Level}
 use Rattle.corner_ends.specs.Columns.{IsNegative, Reduced}
-use Rattle.corner_ends.proofs.Fronts.{any_there, each_mark, inside_zero, none_negative, reduced_at_all, reduced_same, some_line, up_or_down}
+use Rattle.corner_ends.proofs.Fronts.{any_there, each_mark, inside_zero, none_negative, reduced_at_all, reduced_same, some_line}
 use Rattle.corner_ends.proofs.Marks.{contained}
-use Rattle.corner_ends.proofs.Signs.{columns_alike, low_from, mark_column, not_both_signs}
+use Rattle.corner_ends.proofs.Signs.{columns_alike, mark_column, not_both_signs}
+use Rattle.corner.proofs.LowLines.{up_or_low}
+use Rattle.corner_lines.proofs.ColumnsBelow.{low_from}
 
 -- ---- marks that are negative there
 
@@ -67,7 +69,7 @@ none_required p at names kept listed none =
     required_by_reduced p at r.costs r.are
     (All-from_recursion (λ m. pos 0 ≤ℤ r.costs 0 (place m)) (marks_of (lines p))
     (each-impl (λ m. IsMarkOf p m) _ (marks_of (lines p))
-    (λ m mark. elim (up_or_down (r.costs 0 (place m))) [
+    (λ m mark. elim (up_or_low (r.costs 0 (place m))) [
       | inl up ↦ up
       | inr low ↦
           let outside : IsOutside p at m = (mark, λ i. let zero = inside_zero p at r 0 m mark i in omega (arith, ints, zero, low)) in

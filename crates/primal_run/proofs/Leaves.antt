@@ -21,9 +21,9 @@ use Rattle.corner.specs.Views.{AreMovers, CornerView, IsKeptCorner, IsOutside, M
 use Rattle.primal_run.specs.declared.ties.Ratio.{Ratio}
 use Rattle.primal_run.specs.Entering.{MayEnter}
 use Rattle.primal_run.specs.Leaving.{IsFirstOf, IsRatioAt, NeverFalls}
-use Rattle.corner_ends.proofs.Fronts.{up_or_down}
 use Rattle.corner_ends.proofs.MarkOrders.{in_list}
 use Rattle.corner_ends.proofs.Marks.{contained, in_mark}
+use Rattle.corner.proofs.LowLines.{up_or_low}
 
 -- one item more
 pub took_next : {X : Type 0} (xs : List X) (i : ℕ) (x : X) → slice_get xs i ≡ Some x → take i xs ++ x ∷ [] ≡ take (i + 1) xs
@@ -107,7 +107,7 @@ none_leaves v enter first whats kept may are h =
     some_mark_falls v.problem v.marks enter ray.0 kept.whole may.column ray.1
     (All-from_recursion (λ m. pos 0 ≤ℤ ray.0 (place m)) v.marks
     (each-impl (λ m. IsIn (place m) v.marks) _ v.marks
-    (λ m i. elim (up_or_down (ray.0 (place m))) [
+    (λ m i. elim (up_or_low (ray.0 (place m))) [
       | inl up ↦ up
       | inr down ↦
           let f = falling v.problem v.marks enter m ray.0 kept ray.1 i down in

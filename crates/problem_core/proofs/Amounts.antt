@@ -3,14 +3,11 @@ use Rattle.std.proofs.Common.{ℕ, ◌+◌, ◌*◌, ◌<◌, ◌≤◌, ◌^◌
 use Rattle.std.specs.Int.{w64, w128}
 use Rattle.std.specs.Int.RustNames.{unsigned_abs}
 use Rattle.std.proofs.lemmas.Int.{fits_signed_from_abs, unsigned_abs-mul}
-use Rattle.std.proofs.Math.Nat.{mul-le-mul}
-
-most : (a b m n : ℕ) → a ≤ m → b ≤ n → a * b ≤ m * n
-most a b m n h k = mul-le-mul h k
+use Rattle.frac_core.proofs.Products.{most_product}
 
 pub term-size : (x y : ℤ) → unsigned_abs x ≤ 2 ^ 30 → unsigned_abs y < 2 ^ 62 → unsigned_abs (x *ℤ y) < 2 ^ 93
 term-size x y h k =
-    omega (arith, unsigned_abs-mul x y, most (unsigned_abs x) (unsigned_abs y) 1073741824 4611686018427387903 (omega (arith, h)) (omega (arith, k)))
+    omega (arith, unsigned_abs-mul x y, most_product (unsigned_abs x) (unsigned_abs y) 1073741824 4611686018427387903 (omega (arith, h)) (omega (arith, k)))
 
 pub term-fits : (x y : ℤ) → unsigned_abs x ≤ 2 ^ 30 → unsigned_abs y < 2 ^ 62 → SFits w128 (x *ℤ y)
 term-fits x y h k = fits_signed_from_abs w128 (x *ℤ y) (omega (arith, term-size x y h k))

@@ -1,5 +1,5 @@
 -- At a corner where the required cost is above 0 and no reduced cost of that level is negative, the level's multipliers refute the required rows.
-use Rattle.std.proofs.Common.{◌≡◌, ℕ, zero, suc, ◌+◌, ◌-◌, ◌*◌, ◌/◌, ◌<◌, ◌≤◌, Bool, cond, nat_eq, List, [], ◌∷◌, ◌++◌, map, filter, ℤ, pos, negsuc, ◌+ℤ◌, ◌-ℤ◌, ◌*ℤ◌, ◌≤ℤ◌, ◌<ℤ◌, refl, sym, ap, ap₂, subst, ◌∙◌, inl, inr, arith, ne_eqb, mul-zero}
+use Rattle.std.proofs.Common.{◌≡◌, ℕ, zero, suc, ◌+◌, ◌-◌, ◌*◌, ◌/◌, ◌<◌, ◌≤◌, Bool, cond, nat_eq, List, [], ◌∷◌, map, filter, ℤ, pos, negsuc, ◌+ℤ◌, ◌-ℤ◌, ◌*ℤ◌, ◌≤ℤ◌, ◌<ℤ◌, refl, sym, ap, ap₂, subst, ◌∙◌, inl, inr, arith, ne_eqb, mul-zero}
 use Rattle.std.specs.List.{All, AllByRecursion as Each}
 use Rattle.std.proofs.lemmas.List.Elements.{recursion_from_All, All-from_recursion}
 use Rattle.std.proofs.lemmas.Bool.{cases_Bool, eqb-false}
@@ -13,6 +13,7 @@ use Rattle.problem_core.specs.Certificates.{Multipliers, IsRefutation, HasSign, 
 use Rattle.frac_core.proofs.Integers.{zero-mul_ℤ, zero-add_ℤ, add-zero_ℤ, mul_positive, positive_from, shift_factor}
 use Rattle.problem_core.proofs.Forms.{sum-append, mul-sum, each-map, each-filter, each-impl, each-both, product-shares, product-positive}
 use Rattle.problem_core.proofs.Duality.{shares}
+use Rattle.problem_core.proofs.Midpoints.{each-right}
 
 -- ---- a sum over the lines is a sum over the required rows, where every other line adds nothing
 
@@ -30,14 +31,10 @@ stay_part : (g : Line → ℤ) (base : ℕ) (stays : List Stay) → 0 < base →
 stay_part g base [] h z = refl
 stay_part g base (s ∷ stays) h z = ap₂ ◌+ℤ◌ (z.0 (λ e. omega (arith, e))) (stay_part g (base + 1) stays (omega arith) z.1)
 
-each-back : {A : Type 0} (P : A → Type 0) (xs ys : List A) → Each P (xs ++ ys) → Each P ys
-each-back P [] ys h = h
-each-back P (x ∷ xs) ys h = each-back P xs ys h.1
-
 pub by_required : (g : Line → ℤ) (p : Problem) → Each (λ r. r.rank ≤ 1000) p.rows → Each (λ l. (l.level ≡ 0 → ⊥) → g l ≡ pos 0) (lines p) → sum_of g (lines p) ≡ sum_of (λ r. g (line_of_row r)) (required p)
 by_required g p h z =
     sum-append g (map line_of_row p.rows) (stay_lines 1001 p.stays)
-    ∙ ap₂ ◌+ℤ◌ (required_part g p.rows h (each-map _ line_of_row p.rows (stay_lines 1001 p.stays) z)) (stay_part g 1001 p.stays (omega arith) (each-back _ (map line_of_row p.rows) _ z))
+    ∙ ap₂ ◌+ℤ◌ (required_part g p.rows h (each-map _ line_of_row p.rows (stay_lines 1001 p.stays) z)) (stay_part g 1001 p.stays (omega arith) (each-right _ (map line_of_row p.rows) _ z))
     ∙ add-zero_ℤ _
 
 -- ---- the signs of the multipliers

@@ -13,11 +13,11 @@ use Rattle.problem_core.specs.Corners.{Point, equation, StandsAt, IsIn, marks_of
 use Rattle.frac_core.proofs.Integers.{mul-zero_ℤ, mul_assoc_ℤ, mul-add_left, mul-opposite}
 use Rattle.problem_core.proofs.Forms.{each-impl, each-both}
 
-value-columns : (n : ℕ → ℤ) (k : ℤ) (form : List Term) → value_at n (map (λ e. record { attr = attr_column e.attr; by = k *ℤ e.by }) form) ≡ k *ℤ value_at (λ v. n (attr_column v)) form
+pub value-columns : (n : ℕ → ℤ) (k : ℤ) (form : List Term) → value_at n (map (λ e. record { attr = attr_column e.attr; by = k *ℤ e.by }) form) ≡ k *ℤ value_at (λ v. n (attr_column v)) form
 value-columns n k [] = sym (mul-zero_ℤ k)
 value-columns n k (e ∷ form) = ap₂ ◌+ℤ◌ (mul_assoc_ℤ k e.by (n (attr_column e.attr))) (value-columns n k form) ∙ sym (mul-add_left k _ _)
 
-abs_same : (z : ℤ) → pos 0 <ℤ z → pos (nat_abs z) ≡ z
+pub abs_same : (z : ℤ) → pos 0 <ℤ z → pos (nat_abs z) ≡ z
 abs_same (pos n) h = refl
 abs_same (negsuc n) h = absurd h.lt
 

@@ -185,20 +185,6 @@ value-equal n f g h =
     ∙ below-cong (max (bound f) (bound g)) _ _ (λ v. ap (λ (t : ℤ). t *ℤ n v) (h v))
     ∙ sym (value-below (max (bound f) (bound g)) n g (omega arith))
 
--- a combination of forms, coefficient by coefficient
-pub value-combination : {A : Type 0} (n : ℕ → ℤ) (y : A → ℤ) (form : A → List Term) (xs : List A) (f : List Term) → ((v : ℕ) → coefficient v f ≡ sum_of (λ x. y x *ℤ coefficient v (form x)) xs) → value_at n f ≡ sum_of (λ x. y x *ℤ value_at n (form x)) xs
-value-combination n y form xs f h =
-    value-equal n f (combined y form xs) (λ v. h v ∙ sym (coefficient-combined v y form xs)) ∙ value-combined n y form xs
-
--- g times f is k times r plus m times p
-pub value-pivot : (n : ℕ → ℤ) (g k m : ℤ) (f r p : List Term) → ((v : ℕ) → g *ℤ coefficient v f ≡ k *ℤ coefficient v r +ℤ m *ℤ coefficient v p) → g *ℤ value_at n f ≡ k *ℤ value_at n r +ℤ m *ℤ value_at n p
-value-pivot n g k m f r p h =
-    sym (value-times n g f)
-    ∙ value-equal n (times g f) (times k r ++ times m p)
-    (λ v. coefficient-times v g f ∙ h v ∙ sym (sum-append _ (times k r) (times m p) ∙ ap₂ ◌+ℤ◌ (coefficient-times v k r) (coefficient-times v m p)))
-    ∙ sum-append _ (times k r) (times m p)
-    ∙ ap₂ ◌+ℤ◌ (value-times n k r) (value-times n m p)
-
 below-single : (bound b : ℕ) (f : ℕ → ℤ) → b < bound → ((v : ℕ) → (v ≡ b → ⊥) → f v ≡ pos 0) → sum_below bound f ≡ f b
 below-single zero b f l h = absurd (omega arith)
 below-single (suc n) b f l h =

@@ -42,13 +42,13 @@ terms-over x values d (t ∷ terms) h =
 
 -- ---- the gap
 
-left_gap : (whole q d : ℕ) (v p : ℤ) → pos whole *ℤ (pos q *ℤ v -ℤ p *ℤ pos d) ≡ pos q *ℤ (v *ℤ pos whole) -ℤ p *ℤ pos (d * whole)
+pub left_gap : (whole q d : ℕ) (v p : ℤ) → pos whole *ℤ (pos q *ℤ v -ℤ p *ℤ pos d) ≡ pos q *ℤ (v *ℤ pos whole) -ℤ p *ℤ pos (d * whole)
 left_gap whole q d = on_2 (λ v p. pos whole *ℤ (pos q *ℤ v -ℤ p *ℤ pos d) ≡ pos q *ℤ (v *ℤ pos whole) -ℤ p *ℤ pos (d * whole)) (λ a a' b b'. simp ring (diff_eq _ _ _ _ (omega arith)))
 
-right_gap : (whole q d : ℕ) (s p : ℤ) → pos q *ℤ (s *ℤ pos d) -ℤ p *ℤ pos (d * whole) ≡ pos d *ℤ (s *ℤ pos q -ℤ p *ℤ pos whole)
+pub right_gap : (whole q d : ℕ) (s p : ℤ) → pos q *ℤ (s *ℤ pos d) -ℤ p *ℤ pos (d * whole) ≡ pos d *ℤ (s *ℤ pos q -ℤ p *ℤ pos whole)
 right_gap whole q d = on_2 (λ s p. pos q *ℤ (s *ℤ pos d) -ℤ p *ℤ pos (d * whole) ≡ pos d *ℤ (s *ℤ pos q -ℤ p *ℤ pos whole)) (λ a a' b b'. simp ring (diff_eq _ _ _ _ (omega arith)))
 
-gap-over : (whole q d : ℕ) (v s p : ℤ) → v *ℤ pos whole ≡ s *ℤ pos d → pos whole *ℤ (pos q *ℤ v -ℤ p *ℤ pos d) ≡ pos d *ℤ (s *ℤ pos q -ℤ p *ℤ pos whole)
+pub gap-over : (whole q d : ℕ) (v s p : ℤ) → v *ℤ pos whole ≡ s *ℤ pos d → pos whole *ℤ (pos q *ℤ v -ℤ p *ℤ pos d) ≡ pos d *ℤ (s *ℤ pos q -ℤ p *ℤ pos whole)
 gap-over whole q d v s p e = left_gap whole q d v p ∙ ap (λ (z : ℤ). pos q *ℤ z -ℤ p *ℤ pos (d * whole)) e ∙ right_gap whole q d s p
 
 -- ---- the order

@@ -68,26 +68,26 @@ gap-mid x y l =
     ap (λ (t : ℤ). pos l.den *ℤ t -ℤ l.num *ℤ pos (2 * (x.den * y.den))) (value-mid x.num y.num (pos x.den) (pos y.den) l.form)
     ∙ gap-midpoint l.den x.den y.den (value_at x.num l.form) (value_at y.num l.form) l.num
 
-sides-mid : (e d : ℕ) (g h : ℤ) → pos e *ℤ g +ℤ pos d *ℤ h ≡ pos (e * above g + d * above h) -ℤ pos (e * below g + d * below h)
+pub sides-mid : (e d : ℕ) (g h : ℤ) → pos e *ℤ g +ℤ pos d *ℤ h ≡ pos (e * above g + d * above h) -ℤ pos (e * below g + d * below h)
 sides-mid e d (pos a) (pos b) = omega (arith, ints)
 sides-mid e d (pos a) (negsuc b) = omega (arith, ints)
 sides-mid e d (negsuc a) (pos b) = omega (arith, ints)
 sides-mid e d (negsuc a) (negsuc b) = omega (arith, ints)
 
-at_most_sides : (z : ℤ) (p n : ℕ) → z ≡ pos p -ℤ pos n → (above z ≤ p) × (below z ≤ n)
+pub at_most_sides : (z : ℤ) (p n : ℕ) → z ≡ pos p -ℤ pos n → (above z ≤ p) × (below z ≤ n)
 at_most_sides (pos a) p n e = (omega (arith, ints), omega arith)
 at_most_sides (negsuc a) p n e = (omega arith, omega (arith, ints))
 
-error-mid : (rel : Rel) (e d : ℕ) (g h : ℤ) → error_of rel (pos e *ℤ g +ℤ pos d *ℤ h) ≤ e * error_of rel g + d * error_of rel h
+pub error-mid : (rel : Rel) (e d : ℕ) (g h : ℤ) → error_of rel (pos e *ℤ g +ℤ pos d *ℤ h) ≤ e * error_of rel g + d * error_of rel h
 error-mid Eq e d g h = omega (arith, at_most_sides (pos e *ℤ g +ℤ pos d *ℤ h) (e * above g + d * above h) (e * below g + d * below h) (sides-mid e d g h))
 error-mid Ge e d g h = omega (arith, at_most_sides (pos e *ℤ g +ℤ pos d *ℤ h) (e * above g + d * above h) (e * below g + d * below h) (sides-mid e d g h))
 error-mid Le e d g h = omega (arith, at_most_sides (pos e *ℤ g +ℤ pos d *ℤ h) (e * above g + d * above h) (e * below g + d * below h) (sides-mid e d g h))
 
-count-mid : {A : Type 0} (e d : ℕ) (f g h : A → ℕ) (xs : List A) → ((x : A) → f x ≤ e * g x + d * h x) → count_of f xs ≤ e * count_of g xs + d * count_of h xs
+pub count-mid : {A : Type 0} (e d : ℕ) (f g h : A → ℕ) (xs : List A) → ((x : A) → f x ≤ e * g x + d * h x) → count_of f xs ≤ e * count_of g xs + d * count_of h xs
 count-mid e d f g h [] k = omega arith
 count-mid e d f g h (x ∷ xs) k = omega (arith, k x, count-mid e d f g h xs k)
 
-weighted-mid : (b : Bool) (e d w m g h s : ℕ) → m ≤ e * g + d * h → cond b (w * m * s) 0 ≤ e * cond b (w * g * s) 0 + d * cond b (w * h * s) 0
+pub weighted-mid : (b : Bool) (e d w m g h s : ℕ) → m ≤ e * g + d * h → cond b (w * m * s) 0 ≤ e * cond b (w * g * s) 0 + d * cond b (w * h * s) 0
 weighted-mid true e d w m g h s l = omega (arith, mul-le-mul_right s (mul-le-mul_left w l))
 weighted-mid false e d w m g h s l = omega arith
 

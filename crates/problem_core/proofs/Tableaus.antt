@@ -1,14 +1,12 @@
 -- Tableaus over homogeneous forms: each inside column is a unit column, an exchange keeps the solutions, and the outside columns are free.
-use Rattle.std.proofs.Common.{◌≡◌, ℕ, zero, suc, ◌*◌, ◌/◌, ◌<◌, Bool, true, false, cond, nat_eq, List, [], ◌∷◌, ◌++◌, ℤ, pos, negsuc, ◌+ℤ◌, ◌*ℤ◌, neg_ℤ, ◌<ℤ◌, refl, sym, ap, ap₂, subst, ◌∙◌, inl, inr, ◌⊎◌, arith, mul-pos, eq-eqb, ne_eqb, true≢false}
+use Rattle.std.proofs.Common.{◌≡◌, ℕ, ◌*◌, ◌/◌, ◌<◌, Bool, true, false, cond, nat_eq, List, [], ◌∷◌, ℤ, pos, negsuc, ◌+ℤ◌, ◌*ℤ◌, neg_ℤ, ◌<ℤ◌, refl, sym, ap, ap₂, ◌∙◌, inl, inr, ◌⊎◌, arith, eq-eqb, ne_eqb, true≢false}
 use Rattle.std.specs.List.{AllByRecursion as Each}
 use Rattle.std.proofs.lemmas.Bool.{cases_Bool}
-use lib.IntN.{*ℤ_comm}
-use lib.Signed.{<ℤ_irrefl}
 use borrow.Author.Differences.{ints}
 use Rattle.problem_core.specs.declared.parts.Term.{Term}
 use Rattle.problem_core.specs.Layout.{sum_of, product_of, coefficient, value_at, above}
-use Rattle.frac_core.proofs.Integers.{zero_from_mul, cancel_mul, pivot-factor, fill-cancel, zero-mul_ℤ, mul-zero_ℤ, add-zero_ℤ, minus, minus-same, opposite, same_from_opposite, mul_assoc_ℤ}
-use Rattle.problem_core.proofs.Forms.{value-pivot, value-single, value-plus, value-scaled, mul-sum, sum-add, sum-cong, each-impl, each-both, product-shares, product-positive, sum-append, times, coefficient-times, value-times}
+use Rattle.frac_core.proofs.Integers.{zero_from_mul, fill-cancel, zero-mul_ℤ, mul-zero_ℤ, add-zero_ℤ, minus, minus-same}
+use Rattle.problem_core.proofs.Forms.{value-single, value-plus, value-scaled, each-impl, each-both, product-shares}
 
 -- the row `form = 0`, which writes the column inside by the others
 pub record Basic : Type 0 where
@@ -32,42 +30,11 @@ pub record IsPivoted (leaving old new : List Term) : Type 0 where
   pub nonzero : k ≡ pos 0 → ⊥
   pub same : (c : ℕ) → pos g *ℤ coefficient c new ≡ k *ℤ coefficient c old +ℤ m *ℤ coefficient c leaving
 
--- an integer whose product with k is 0
-pub zero_of_product : (k z : ℤ) → (k ≡ pos 0 → ⊥) → k *ℤ z ≡ pos 0 → z ≡ pos 0
-zero_of_product (pos zero) z h e = absurd (h refl)
-zero_of_product (pos (suc k)) z h e = zero_from_mul (suc k) z (omega arith) e
-zero_of_product (negsuc k) z h e = zero_from_mul (suc k) z (omega arith) (omega (arith, ints, e))
-
-pub holds_after : (n : ℕ → ℤ) (leaving old new : List Term) → IsPivoted leaving old new → Holds n leaving → Holds n old → Holds n new
-holds_after n leaving old new s p q =
-    zero_from_mul s.g (value_at n new) s.positive
-    (value-pivot n (pos s.g) s.k s.m new old leaving s.same ∙ ap₂ ◌+ℤ◌ (ap (λ (t : ℤ). s.k *ℤ t) q ∙ mul-zero_ℤ s.k) (ap (λ (t : ℤ). s.m *ℤ t) p ∙ mul-zero_ℤ s.m))
-
-pub held_before : (n : ℕ → ℤ) (leaving old new : List Term) → IsPivoted leaving old new → Holds n leaving → Holds n new → Holds n old
-held_before n leaving old new s p q =
-    zero_of_product s.k (value_at n old) s.nonzero
-    (let e = value-pivot n (pos s.g) s.k s.m new old leaving s.same in
-    let a : pos s.g *ℤ value_at n new ≡ pos 0 = ap (λ (t : ℤ). pos s.g *ℤ t) q ∙ mul-zero_ℤ (pos s.g) in
-    let b : s.m *ℤ value_at n leaving ≡ pos 0 = ap (λ (t : ℤ). s.m *ℤ t) p ∙ mul-zero_ℤ s.m in
-    omega (arith, ints, e, a, b))
-
 -- ---- marker entries
 
 -- the row is the sum of the lines' forms, each times the row's own entry at the line's marker
 abbrev pub IsMarked : {L : Type 0} → (L → ℕ) → (L → List Term) → List L → List Term → Type 0
 IsMarked marker form ls row = (c : ℕ) → coefficient c row ≡ sum_of (λ l. coefficient (marker l) row *ℤ coefficient c (form l)) ls
-
-pub marked_after : {L : Type 0} (marker : L → ℕ) (form : L → List Term) (ls : List L) (leaving old new : List Term) → IsPivoted leaving old new → IsMarked marker form ls leaving → IsMarked marker form ls old → IsMarked marker form ls new
-marked_after {L} marker form ls leaving old new s p q c =
-    let f : L → ℤ = λ l. coefficient c (form l) in
-    let o : L → ℤ = λ l. coefficient (marker l) old *ℤ coefficient c (form l) in
-    let w : L → ℤ = λ l. coefficient (marker l) leaving *ℤ coefficient c (form l) in
-    cancel_mul s.g (coefficient c new) _ s.positive
-    (s.same c ∙ ap₂ ◌+ℤ◌ (ap (λ (t : ℤ). s.k *ℤ t) (q c)) (ap (λ (t : ℤ). s.m *ℤ t) (p c))
-    ∙ sym (sum-add (λ l. s.k *ℤ o l) (λ l. s.m *ℤ w l) ls ∙ ap₂ ◌+ℤ◌ (mul-sum s.k o ls) (mul-sum s.m w ls))
-    ∙ sum-cong _ (λ l. pos s.g *ℤ (coefficient (marker l) new *ℤ coefficient c (form l))) ls
-    (λ l. sym (pivot-factor s.k (coefficient (marker l) old) s.m (coefficient (marker l) leaving) (f l)) ∙ ap (λ (t : ℤ). t *ℤ f l) (sym (s.same (marker l))) ∙ mul_assoc_ℤ (pos s.g) (coefficient (marker l) new) (f l))
-    ∙ mul-sum (pos s.g) (λ l. coefficient (marker l) new *ℤ coefficient c (form l)) ls)
 
 -- ---- the outside columns are free
 
@@ -199,43 +166,3 @@ fixed rows n m t h k e =
 
 abbrev pub unit_at : ℕ → ℕ → ℤ
 unit_at c v = cond (nat_eq v c) (pos 1) (pos 0)
-
-pub vanishes : (rows : List Basic) (f : List Term) → IsTableau rows → ((n : ℕ → ℤ) → HoldAll n rows → Holds n f) → ((c : ℕ) → is_inside rows c ≡ true → coefficient c f ≡ pos 0) → (c : ℕ) → coefficient c f ≡ pos 0
-vanishes rows f t h z c =
-    elim (cases_Bool (is_inside rows c)) [
-      | inl i ↦ z c i
-      | inr o ↦
-          let n : ℕ → ℤ = solution rows (unit_at c) in
-          let one : value_at n f ≡ coefficient c f *ℤ n c =
-          value-single n c f
-          (λ v ne. elim (cases_Bool (is_inside rows v)) [
-            | inl i ↦ ap (λ (t : ℤ). t *ℤ n v) (z v i) ∙ zero-mul_ℤ (n v)
-            | inr q ↦
-                ap (λ (t : ℤ). coefficient v f *ℤ t)
-                (solution-outside rows (unit_at c) v q ∙ ap (λ (b : Bool). pos (whole rows) *ℤ cond b (pos 1) (pos 0)) (ne_eqb v c ne) ∙ mul-zero_ℤ (pos (whole rows)))
-                ∙ mul-zero_ℤ (coefficient v f)
-          ]) in
-          let here : n c ≡ pos (whole rows * 1) = solution-outside rows (unit_at c) c o ∙ ap (λ (b : Bool). pos (whole rows) *ℤ cond b (pos 1) (pos 0)) (eq-eqb c c refl) in
-          zero_from_mul (whole rows * 1) (coefficient c f) (mul-pos (product-positive own rows (owns rows t)) (omega arith))
-          (*ℤ_comm (pos (whole rows * 1)) (coefficient c f) ∙ ap (λ (t : ℤ). coefficient c f *ℤ t) (sym here) ∙ sym one ∙ h n (solution-HoldAll rows (unit_at c) t))
-    ]
-
--- ---- two rows that agree, up to factors, at the inside columns of a tableau agree everywhere
-
-pub agree : (rows : List Basic) (f h : List Term) (p q : ℤ) → IsTableau rows → ((n : ℕ → ℤ) → HoldAll n rows → Holds n f) → ((n : ℕ → ℤ) → HoldAll n rows → Holds n h) → ((c : ℕ) → is_inside rows c ≡ true → p *ℤ coefficient c f ≡ q *ℤ coefficient c h) → (c : ℕ) → p *ℤ coefficient c f ≡ q *ℤ coefficient c h
-agree rows f h p q t hf hh same c =
-    let parts : (c : ℕ) → coefficient c (times p f ++ times (neg_ℤ q) h) ≡ p *ℤ coefficient c f +ℤ neg_ℤ q *ℤ coefficient c h = λ c.
-    sum-append _ (times p f) (times (neg_ℤ q) h) ∙ ap₂ ◌+ℤ◌ (coefficient-times c p f) (coefficient-times c (neg_ℤ q) h) in
-    same_from_opposite (p *ℤ coefficient c f) q (coefficient c h)
-    (sym (parts c)
-    ∙ vanishes rows (times p f ++ times (neg_ℤ q) h) t
-    (λ n k. sum-append _ (times p f) (times (neg_ℤ q) h)
-    ∙ ap₂ ◌+ℤ◌ (value-times n p f ∙ ap (λ (t : ℤ). p *ℤ t) (hf n k) ∙ mul-zero_ℤ p) (value-times n (neg_ℤ q) h ∙ ap (λ (t : ℤ). neg_ℤ q *ℤ t) (hh n k) ∙ mul-zero_ℤ (neg_ℤ q)))
-    (λ c i. parts c ∙ opposite q (p *ℤ coefficient c f) (coefficient c h) (same c i)) c)
-
--- so no two rows of one tableau agree, up to factors, at the inside columns of another tableau with the same solutions
-pub no_ties : (first : List Basic) (r s : Basic) (p q : ℤ) → IsTableau first → ((n : ℕ → ℤ) → HoldAll n first → Holds n r.form) → ((n : ℕ → ℤ) → HoldAll n first → Holds n s.form) → (p ≡ pos 0 → ⊥) → pos 0 <ℤ coefficient r.inside r.form → coefficient r.inside s.form ≡ pos 0 → ((c : ℕ) → is_inside first c ≡ true → p *ℤ coefficient c r.form ≡ q *ℤ coefficient c s.form) → ⊥
-no_ties first r s p q t hr hs ne own other same =
-    let z : coefficient r.inside r.form ≡ pos 0 =
-    zero_of_product p (coefficient r.inside r.form) ne (agree first r.form s.form p q t hr hs same r.inside ∙ ap (λ (t : ℤ). q *ℤ t) other ∙ mul-zero_ℤ q) in
-    <ℤ_irrefl (subst (λ (t : ℤ). pos 0 <ℤ t) z own)

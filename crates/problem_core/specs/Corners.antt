@@ -1,6 +1,6 @@
 -- Corners: points of the attributes and the deviations, the problem's equations, corners, writings, exchanges
 -- and paths.
-use Rattle.std.specs.Prelude.{◌≡◌, ◌≢◌, ◌⊎◌, ℕ, zero, suc, ◌+◌, ◌*◌, ◌<◌, cond, nat_eq, List, [], ◌∷◌, map}
+use Rattle.std.specs.Prelude.{◌≡◌, ◌≢◌, ℕ, zero, suc, ◌+◌, ◌*◌, ◌<◌, cond, nat_eq, List, [], ◌∷◌, map}
 use Rattle.std.specs.Prelude.{length, ℤ, pos, negsuc, ◌-ℤ◌, ◌*ℤ◌, neg_ℤ, nat_abs, ◌≤ℤ◌, ◌<ℤ◌, All, AllPairs}
 use Rattle.std.specs.Prelude.{Any, Contains}
 use native.Mathlib.Nat.{zero-lt-suc}
@@ -11,7 +11,7 @@ use Rattle.problem_core.specs.declared.parts.RowName.TheVariants.{Held, Stay as 
 use Rattle.problem_core.specs.declared.parts.Mark.{Mark}
 use Rattle.problem_core.specs.declared.parts.Term.{Term}
 use Rattle.problem_core.specs.Layout.{Assignment, Line, Problem, lines, coefficient, value_at, sum_of}
-use Rattle.problem_core.specs.Certificates.{Multipliers, under, over, under_weight, over_weight}
+use Rattle.problem_core.specs.Certificates.{Multipliers, under, over}
 use Rattle.problem_core.specs.Certificates.{IsLexNonnegative}
 use Rattle.problem_core.specs.declared.limits.TheConstants.{MARKS}
 
@@ -37,10 +37,6 @@ one_column = 2 * MARKS
 pub record Point : Type 0 where
   pub num : ℕ → ℤ
   pub positive : pos 0 <ℤ num one_column
-
--- the columns before those of attributes are those of marks
-abbrev pub IsMarkColumn : ℕ → Type 0
-IsMarkColumn c = c < attr_column 0
 
 -- `den * (form + under - over) - num * one = 0`
 abbrev pub equation : Line → List Term
@@ -92,10 +88,6 @@ pub record IsWritingOf (p : Problem) (at : List Mark) (quantity : (ℕ → ℤ) 
       ≡ pos scale *ℤ (num *ℤ x.num one_column)
   pub lowest : (k : ℕ) → ((v : ℕ) → (z : ℤ) × (coefficient v form ≡ pos k *ℤ z)) → (n : ℕ) × (scale ≡ k * n)
       → k ≡ 1
-
--- the writing of the column c
-abbrev pub IsWriting : Problem → List Mark → ℕ → ℕ → List Term → ℤ → ℕ → Type 0
-IsWriting p at c scale form num den = IsWritingOf p at (λ x. x c) scale form num den
 
 pub record Swap : Type 0 where
   pub enter : Mark
@@ -155,26 +147,6 @@ pub record IsExchange (p : Problem) (at : List Mark) (s : Swap) : Type 0 where
   pub enters : IsIn (place s.enter) at → ⊥
   pub leaves : IsIn (place s.leave) at
   pub corner : IsCorner p (exchanged s at)
-
--- the required cost at the corner is above 0
-abbrev pub HasRequiredCost : Problem → List Mark → Type 0
-HasRequiredCost p inside = (x : Point) × StandsAt p inside x
-    × Any (λ l. (l.level ≡ 0) × ((pos 0 <ℤ (pos (over_weight l.rel 1) *ℤ x.num (place_of l.name Over)))
-    ⊎ (pos 0 <ℤ (pos (under_weight l.rel 1) *ℤ x.num (place_of l.name Under))))) (lines p)
-
-abbrev pub IsPrimalEnd : Problem → List Mark → Type 0
-IsPrimalEnd p at = NoNegativeColumn p at ⊎ (HasRequiredCost p at × (m : Multipliers) × AreMultipliersAt p at m
-    × ((side : Side) → All (λ l. pos 0 ≤ℤ column m side l 0) (lines p)))
-
-abbrev pub ArePrimalSwaps : Problem → List Mark → List Swap → Type 0
-ArePrimalSwaps p at [] = NoNegativeValue p at
-ArePrimalSwaps p at (s ∷ swaps) = NoNegativeValue p at × (IsPrimalEnd p at → ⊥) × IsExchange p at s
-    × HasNegativeColumn p at s.enter × ArePrimalSwaps p (exchanged s at) swaps
-
-pub record IsPrimalPath (p : Problem) (at : List Mark) (swaps : List Swap) : Type 0 where
-  pub corner : IsCorner p at
-  pub apart : ArePairwiseDifferent (corners at swaps)
-  pub exchanges : ArePrimalSwaps p at swaps
 
 pub abs_positive : (z : ℤ) → pos 0 <ℤ z → 0 < nat_abs z
 abs_positive (pos zero) h = absurd h.lt

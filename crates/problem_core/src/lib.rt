@@ -16,18 +16,18 @@
 //!
 //! Linear programming's words: an attribute is a free variable, a row a constraint; one that is required (of
 //! the rank [`REQUIRED`]) is hard, any other a goal. A gap is the residual of a row, its two deviations are
-//! its surplus and its slack, of which a [`Mark`] names one. A level is a preemptive goal, and what is best is
-//! the lexicographic optimum; the stays, each a level of its own below all rows, make it unique. Multipliers
-//! that refute the required rows are Farkas multipliers.
+//! its surplus and its slack, of which a [`Mark`] names one. A level is a preemptive goal, and what is best
+//! is the lexicographic optimum; the stays, each a level of its own below all rows, make it unique.
+//! Multipliers that refute the required rows are Farkas multipliers.
 //!
 //! What the types keep (`IsRow`, `IsWhole` in `specs/Kept.antt`): the numbers of rows rise, the attributes
 //! of a row's terms rise, there are at most [`TERM_LIMIT`] of them, each with a coefficient that isn't 0, and
 //! each has a stay, one alone; there are at most [`ROW_LIMIT`] rows and as many stays.
 //!
 //! In reading order: `limits`, `parts` (relations, terms, stays, marks, levels), `row`, `problem`, `values`
-//! (of attributes), `gaps` (the sign of a row's gap), `places` (marks by number), `stops` (what doesn't fit at a
-//! corner), `common` (least common multiples), `laws`: what is best by what reasons, each the contract of a
-//! function that does nothing.
+//! (of attributes), `gaps` (the sign of a row's gap), `places` (marks by number), `stops` (what doesn't fit
+//! at a corner), `common` (least common multiples), `laws`: what is best by what reasons, each the contract
+//! of a function that does nothing.
 #![tactic(auto)]
 
 mod common;

@@ -73,15 +73,6 @@ divisor_more r p sum at next old new col v r_rising p_rising is first value read
       small = gcd_small (unsigned_abs v) old new (2 ^ 127) gcd small is.small;
     }
 
-pub divisor_starts : (r p : List Term) (sum : Sum) (at : Place) → AreRead r p sum at 0 → IsDivisorSoFar r p sum at 0
-divisor_starts r p sum at are = record {
-  floor = 0;
-  are = are;
-  divides = λ c less. absurd (omega (arith, less));
-  greatest = λ d all. dvd-zero d;
-  small = omega arith;
-}
-
 pub divisor_ends : (r p : List Term) (sum : Sum) (at : Place) (g : ℕ) → IsRising r → IsRising p → IsDivisorSoFar r p sum at g → IsEnd r p at → DividesWhole g (whole sum r p)
 divisor_ends r p sum at g r_rising p_rising is end c =
     elim (cases_lt c is.floor) [
@@ -192,17 +183,6 @@ divided_more r p sum at next divisor out new col v r_rising p_rising is first va
             fits = All-push (λ s. IsFitting s.by) out t is.fits more.3;
           })
     ]
-
-pub divided_starts : (r p : List Term) (sum : Sum) (at : Place) (divisor : ℤ) → AreRead r p sum at 0 → IsDividedSoFar r p sum at divisor []
-divided_starts r p sum at divisor are = record {
-  floor = 0;
-  are = are;
-  same = λ c less. absurd (omega (arith, less));
-  below = λ k d within. absurd (omega arith);
-  rising = λ i j d less within. absurd (omega arith);
-  nonzero = λ k d within. absurd (omega arith);
-  fits = λ k d within. absurd (omega arith);
-}
 
 pub divided_ends : (r p : List Term) (sum : Sum) (at : Place) (divisor : ℤ) (out : List Term) → IsRising r → IsRising p → IsDividedSoFar r p sum at divisor out → IsEnd r p at
     → (c : ℕ) → divisor *ℤ coefficient c out ≡ whole sum r p c

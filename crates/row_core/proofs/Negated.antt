@@ -1,5 +1,5 @@
 -- Rows of opposite numbers.
-use Rattle.std.proofs.Common.{◌≡◌, ◌≢◌, ℕ, zero, suc, ◌+◌, ◌<◌, ◌++◌, length, take, drop, get_or, map, List, [], ◌∷◌, ℤ, pos, negsuc, neg_ℤ, ◌+ℤ◌, refl, subst, ap, ap₂, ◌∙◌, arith, All, Bool, true, false, cond, nat_eq, ◌-ℤ◌, to_z, of_z}
+use Rattle.std.proofs.Common.{◌≡◌, ◌≢◌, ℕ, zero, suc, ◌+◌, ◌<◌, ◌++◌, length, take, drop, get_or, map, List, [], ◌∷◌, ℤ, pos, neg_ℤ, ◌+ℤ◌, refl, subst, ap, ap₂, ◌∙◌, arith, All, Bool, true, false, cond, nat_eq, ◌-ℤ◌, to_z, of_z}
 use Prim.Native.Nat.{◌∣◌}
 use Rattle.std.proofs.Math.ListN.{set}
 use Rattle.std.specs.Prelude.{unsigned_abs}
@@ -11,14 +11,10 @@ use Rattle.std.proofs.lemmas.List.Elements.{All-map}
 use Rattle.frac_core.specs.Fraction.{IsFitting}
 use Rattle.row_core.specs.Rows.{Term, coefficient, IsRising, IsKeptRow}
 use Rattle.row_core.proofs.Sums.{at}
+use Rattle.frac_core.proofs.Quotients.{size_opposite}
 
 abbrev pub opposite : Term → Term
 opposite t = record { col = t.col; by = neg_ℤ t.by }
-
-size_opposite : (z : ℤ) → unsigned_abs (neg_ℤ z) ≡ unsigned_abs z
-size_opposite (pos zero) = refl
-size_opposite (pos (suc n)) = refl
-size_opposite (negsuc n) = refl
 
 cond-opposite : (b : Bool) (z : ℤ) → cond b (neg_ℤ z) (pos 0) ≡ neg_ℤ (cond b z (pos 0))
 cond-opposite true z = refl

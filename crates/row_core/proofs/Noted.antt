@@ -35,9 +35,6 @@ same_column a b e = ap (λ (q : ℕ). the_column q) e
 contains_more : (cols : List Col) (t c : Col) → Contains cols c → Contains (cols ++ t ∷ []) c
 contains_more cols t c has = Contains-append_left cols (t ∷ []) c has
 
-contains_none : (c : Col) → Contains [] c → ⊥
-contains_none c has = absurd (omega (arith, has.1))
-
 pub noted_more : (old new : List Term) (floor col : ℕ) (before now : List Col) (old_by new_by : ℤ) → AreNoted old new floor before → floor ≤ col
     → ((c : ℕ) → floor ≤ c → c < col → coefficient c new ≡ pos 0) → old_by ≡ coefficient col old → new_by ≡ coefficient col new
     → IsNoted old_by new_by col before now → AreNoted old new (col + 1) now
@@ -81,14 +78,6 @@ noted_more old new floor col before now old_by new_by are le gap old_is new_is n
           })
     ]
 
-pub noted_starts : (old new : List Term) → AreNoted old new 0 []
-noted_starts old new = record {
-  rising = λ i j d less within. absurd (omega arith);
-  below = λ k d within. absurd (omega arith);
-  only = λ c has. absurd (contains_none c has);
-  each = λ c less some none. absurd (omega (arith, less));
-}
-
 -- where nothing is left of the new row
 pub noted_ends : (old new : List Term) (floor right : ℕ) (cols : List Col) → IsRising new → IsRead new right floor → length new ≤ right → AreNoted old new floor cols → AreColumnsBut old new cols
 noted_ends old new floor right cols rising read end are = record {
@@ -101,15 +90,6 @@ noted_ends old new floor right cols rising read end are = record {
           | inr from ↦ absurd (has.0 (no_number new right floor c.0 rising read from (λ within. absurd (omega (arith, within, end)))))
         ],
   );
-}
-
-pub changes_start : (old new : List Term) → AreChanges old new 0 0 [] []
-changes_start old new = record {
-  floor = 0;
-  old_read = record { within = omega arith; before = λ m less. absurd (omega (arith, less)); behind = λ m from inside. omega arith };
-  new_read = record { within = omega arith; before = λ m less. absurd (omega (arith, less)); behind = λ m from inside. omega arith };
-  came = noted_starts old new;
-  gone = noted_starts new old;
 }
 
 pub lowest_from : (old new : List Term) (left right floor col : ℕ) → IsRead old left floor → IsRead new right floor

@@ -9,7 +9,7 @@ use Rattle.row_core.specs.Rows.{Term, coefficient, combination}
 use Rattle.row_core.specs.Combinations.{combination_but}
 use Rattle.row_core.specs.Walks.{whole}
 
-none_either : (b : Bool) → cond b (pos 0) (pos 0) ≡ pos 0
+pub none_either : (b : Bool) → cond b (pos 0) (pos 0) ≡ pos 0
 none_either true = refl
 none_either false = refl
 

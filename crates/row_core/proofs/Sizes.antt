@@ -4,15 +4,12 @@ use Rattle.std.specs.Prelude.{ℤ, pos, negsuc, ◌+ℤ◌, FitsSigned}
 use Rattle.std.specs.Int.{w64, w128}
 use Rattle.std.specs.Int.RustNames.{unsigned_abs}
 use Rattle.std.proofs.lemmas.Int.{ints, unsigned_abs-mul, fits_signed_from_abs}
-use Rattle.std.proofs.Math.Nat.{mul-le-mul}
 use Rattle.frac_core.specs.Fraction.{IsFitting}
 use Rattle.row_core.specs.Combinations.{IsFactor}
-use Rattle.row_core.specs.Rows.{Term, AllFit}
+use Rattle.row_core.specs.Rows.{Term}
 use Rattle.row_core.specs.Walks.{IsSmallProduct, IsFactorOf}
 use Rattle.row_core.proofs.Walks.{nothing}
-
-most_product : (a b m n : ℕ) → a ≤ m → b ≤ n → a * b ≤ m * n
-most_product a b m n h k = mul-le-mul h k
+use Rattle.frac_core.proofs.Products.{most_product}
 
 most : (k y : ℤ) → IsFactor k → IsFitting y → unsigned_abs k * unsigned_abs y ≤ 19342813113834066795298815 * 4398046511103
 most k y fits_k fits_y = most_product (unsigned_abs k) (unsigned_abs y) 19342813113834066795298815 4398046511103 (omega arith) (omega arith)
@@ -48,9 +45,6 @@ small_product k y row i is within here fits =
       | inl all ↦ rw here (factor_product k (get_or row i nothing).by is.factor (all i nothing within))
       | inr unit ↦ unit_product k y unit fits
     ]
-
-pub fitting_factor : (k : ℤ) (row : List Term) → IsFactor k → AllFit row → IsFactorOf k row
-fitting_factor k row factor fits = record { factor = factor; room = inl fits }
 
 narrow_small : (x y : ℤ) → unsigned_abs x < 2 ^ 61 → unsigned_abs y < 2 ^ 61 → unsigned_abs (x +ℤ y) < 2 ^ 62
 narrow_small (pos x) (pos y) h k = omega (arith, ints)

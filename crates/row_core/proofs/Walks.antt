@@ -11,6 +11,7 @@ use Rattle.row_core.specs.Rows.{Term, coefficient, IsRising, combination}
 use Rattle.row_core.specs.declared.walk.RowsRead.{RowsRead}
 use Rattle.row_core.specs.Walks.{IsRowRead, IsSumRead, HasNext, IsSmallProduct, IsRead, AreRead, IsFirst, IsEnd, column_at, whole, whole_of, steps}
 use Rattle.row_core.proofs.Places.{absent, coefficient_at}
+use Rattle.row_core.proofs.Patches.{none_either}
 
 abbrev pub nothing : Term
 nothing = record { col = 0; by = pos 0 }
@@ -35,19 +36,6 @@ at_place row i t h e = e ∙ get_or_default row i t nothing h
 pub number_here : (row : List Term) (i c : ℕ) → IsRising row → i < length row → c ≡ column_at row i → coefficient c row ≡ (get_or row i nothing).by
 number_here row i c rising within here = ap (λ (q : ℕ). coefficient q row) here ∙ coefficient_at row i nothing rising within
 
-pub read_here : (row : List Term) (i floor c : ℕ) → IsRising row → IsRead row i floor → floor ≤ c → i < length row → c ≡ column_at row i → IsRead row (i + 1) (c + 1)
-read_here row i floor c rising is le within here = record {
-  within = omega (arith, within);
-  before = λ m less.
-      elim (cases_lt m i) [
-        | inl below ↦ omega (arith, is.before m below, le)
-        | inr from ↦
-            let same : m ≡ i = omega (arith, less, from) in
-            rw same (omega (arith, here))
-      ];
-  behind = λ m from inside. omega (arith, here, rises row i m rising (omega (arith, from)) inside);
-}
-
 -- the row has none
 pub read_past : (row : List Term) (i floor c : ℕ) → IsRising row → IsRead row i floor → floor ≤ c → (i < length row → c < column_at row i) → IsRead row i (c + 1)
 read_past row i floor c rising is le past = record {
@@ -70,10 +58,6 @@ pub either : (b : Bool) → (b ≡ true) ⊎ (b ≡ false)
 either true = inl refl
 either false = inr refl
 
-both_none : (b : Bool) → cond b (pos 0) (pos 0) ≡ pos 0
-both_none true = refl
-both_none false = refl
-
 not_here : (c a : ℕ) (z : ℤ) → c ≢ a → cond (nat_eq c a) z (pos 0) ≡ pos 0
 not_here c a z other = ap (λ (b : Bool). cond b z (pos 0)) (ne_eqb c a other)
 
@@ -83,14 +67,14 @@ no_extra r p sum at floor c are le past =
       | inl added ↦
           elim (are.added added) [
             | inl below ↦ not_here c sum.at.0 sum.extra (λ e. absurd (omega (arith, e, below, le)))
-            | inr none ↦ ap (λ (z : ℤ). cond (nat_eq c sum.at.0) z (pos 0)) none ∙ both_none (nat_eq c sum.at.0)
+            | inr none ↦ ap (λ (z : ℤ). cond (nat_eq c sum.at.0) z (pos 0)) none ∙ none_either (nat_eq c sum.at.0)
           ]
       | inr waits ↦ not_here c sum.at.0 sum.extra (λ e. absurd (omega (arith, e, past waits)))
     ]
 
 none_whole : (sum : Sum) (c : ℕ) (z : ℤ) → z ≡ pos 0 → cond (nat_eq c sum.at.0) sum.extra (pos 0) ≡ pos 0 → whole_of sum c z ≡ pos 0
 none_whole sum c z none extra =
-    ap₂ (λ (x y : ℤ). cond (sum.leaves && nat_eq c sum.without.0) (pos 0) (x +ℤ y)) none extra ∙ both_none (sum.leaves && nat_eq c sum.without.0)
+    ap₂ (λ (x y : ℤ). cond (sum.leaves && nat_eq c sum.without.0) (pos 0) (x +ℤ y)) none extra ∙ none_either (sum.leaves && nat_eq c sum.without.0)
 
 no_combination : (k n : ℤ) (r p : List Term) (c : ℕ) → coefficient c r ≡ pos 0 → coefficient c p ≡ pos 0 → combination k r n p c ≡ pos 0
 no_combination k n r p c left right =

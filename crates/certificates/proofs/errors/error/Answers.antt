@@ -1,4 +1,4 @@
-use Rattle.std.proofs.Common.{rules, ◌≡◌, ◌∙◌, SFits, ℕ, ℤ, pos, ◌*ℤ◌, sym, ap, subst}
+use Rattle.std.proofs.Common.{rules, SFits, ℤ, pos, ◌*ℤ◌, subst}
 use Rattle.std.specs.Int.{w64}
 use Rattle.std.proofs.lemmas.Int.{to_z-of_z}
 use Rattle.frac_core.specs.Fraction.{IsRatio}

@@ -1,4 +1,4 @@
-use Rattle.std.proofs.Common.{rules, ◌≡◌, ◌∙◌, SFits, ℤ, pos, ◌*ℤ◌, ◌<ℤ◌, sym, ap, subst}
+use Rattle.std.proofs.Common.{rules, ◌≡◌, SFits, ℤ, pos, ◌*ℤ◌, ◌<ℤ◌, sym, subst}
 use Rattle.std.specs.Int.{w64, w128}
 use Rattle.std.proofs.lemmas.Int.{to_z-of_z}
 use Rattle.certificates.proofs.ErrorFacts.{product_above}

@@ -1,4 +1,4 @@
-use Rattle.std.proofs.Common.{◌≡◌, ◌∙◌, List, length, get_or, sym, subst, AllPairs, Contains, All}
+use Rattle.std.proofs.Common.{List, get_or, sym, subst, AllPairs, Contains}
 use Rattle.problem_core.specs.declared.parts.Level.{Level}
 use Rattle.problem_core.specs.declared.parts.Level.TheVariants.{Priority}
 use Rattle.corner.specs.Views.{IsInUse, IsStronger}

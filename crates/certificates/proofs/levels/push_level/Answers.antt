@@ -1,11 +1,9 @@
-use Rattle.std.proofs.Common.{rules, ◌≡◌, ◌∙◌, ◌*ℤ◌, ◌∷◌, ◌++◌, [], SFits, ℕ, ℤ, List, length, sym, subst, ap, inl, inr, refl, unsigned_abs, All, eqb-true}
+use Rattle.std.proofs.Common.{rules, ◌≡◌, ◌∙◌, ◌*ℤ◌, ◌∷◌, ◌++◌, [], SFits, List, length, sym, subst, ap, inl, inr, refl, unsigned_abs, All, eqb-true}
 use Rattle.std.specs.Int.{w64, ◌∣◌}
 use Rattle.std.proofs.lemmas.Bool.{eqb-false}
 use Rattle.std.proofs.lemmas.Int.{to_z-of_z}
-use Rattle.frac_core.specs.Fraction.{IsFitting}
 use Rattle.cert_core.specs.declared.by.By.{By}
 use Rattle.cert_core.specs.Claims.{BestLevel, IsLevel}
-use Rattle.certificates.specs.OwnLevels.{multiplied}
 use Rattle.certificates.specs.Reading.{IsPushed}
 use Rattle.certificates.proofs.CornerLevels.{Divided, level_kept, needless, no_items, not_empty, ok_gives, own_level}
 use Rattle.certificates.proofs.levels.push_level.Goals as goal

@@ -1,11 +1,12 @@
-use Rattle.std.proofs.Common.{rules, ◌≡◌, ◌∙◌, ◌∷◌, [], SFits, ℕ, ℤ, List, pos, sym, ap, subst, unsigned_abs, to_z, of_z, get_or, All}
+use Rattle.std.proofs.Common.{◌≡◌, ◌∙◌, [], ℕ, ℤ, pos, sym, subst, unsigned_abs, to_z, of_z, get_or, All}
 use Rattle.std.specs.Int.{w64, ◌∣◌, IsGcd}
 use Rattle.std.proofs.lemmas.Int.{to_z-of_z}
 use Rattle.std.proofs.lemmas.List.{get_or_default}
 use Rattle.problem_core.specs.declared.parts.RowName.TheVariants.{Held}
 use Rattle.cert_core.specs.declared.by.By.{By}
-use Rattle.certificates.proofs.Factors.{Factored, factor_is, factored_all, factored_more, factored_none, fitting_small}
+use Rattle.certificates.proofs.Factors.{Factored, factor_is, factored_all, factored_more, factored_none}
 use Rattle.certificates.proofs.shares.common_factor.Goals as goal
+use Rattle.corner.proofs.LevelReadFacts.{fitting_sfits}
 
 abbrev no-by : By
 no-by = record { row = Held 0; times = pos 0 }
@@ -18,7 +19,7 @@ loop-b-init c =
 
 pub loop-b-preserved : goal.loop-b-preserved
 loop-b-preserved c =
-    let fits = fitting_small (get_or c.args.by.now c.loop-b.b-index no-by).times (c.requires.by c.loop-b.b-index no-by c.loop-b-test.true) in
+    let fits = fitting_sfits (get_or c.args.by.now c.loop-b.b-index no-by).times (c.requires.by c.loop-b.b-index no-by c.loop-b-test.true) in
     let same = to_z-of_z w64 (get_or c.args.by.now c.loop-b.b-index no-by).times fits in
     factored_more (to_z w64 (of_z w64 c.args.scale)) c.args.by.now c.loop-b.b-index (get_or c.args.by.now c.loop-b.b-index no-by) c.loop-b.factor c.shared-factor.result c.loop-b-test.true
     (get_or_default c.args.by.now c.loop-b.b-index no-by (get_or c.args.by.now c.loop-b.b-index no-by) c.loop-b-test.true) c.loop-b.invariant (subst (λ (z : ℤ). IsGcd c.loop-b.factor (unsigned_abs z) c.shared-factor.result) same c.shared-factor.ensures)

@@ -1,7 +1,7 @@
 use Rattle.std.proofs.Common.{rules, SFits}
 use Rattle.std.specs.Int.{w64}
 use Rattle.std.proofs.lemmas.Int.{to_z-of_z}
-use Rattle.certificates.proofs.Numbers.{scale_above, scale_fits, scale_is, used_is_level}
+use Rattle.certificates.proofs.Numbers.{scale_above, scale_fits, scale_is}
 use Rattle.certificates.proofs.times.scale.Goals as goal
 
 pub returns-clause-value : goal.returns-clause-value

@@ -5,7 +5,6 @@ use Rattle.problem_core.specs.Stops.{TableStop}
 use Rattle.frac_core.specs.declared.memory.Stop.TheVariants.{Refused}
 use Rattle.problem_core.specs.declared.stops.Quantity.TheVariants.{Plain}
 use Rattle.frac_core.specs.Fraction.{IsKept, IsLowest}
-use Rattle.row_core.proofs.Lowest.{ok_implies}
 use Rattle.problem_core.specs.Corners.{Swap}
 use Rattle.problem_core.specs.declared.stops.What.{What}
 use Rattle.problem_core.specs.declared.stops.What.TheVariants.{Mark as MarkOf}
@@ -14,6 +13,7 @@ use Rattle.corner.specs.Tables.{entry, lists_of, problem_of}
 use Rattle.corner.specs.Exchanges.{IsEntering, IsPair, marks_after, signed}
 use Rattle.corner.proofs.PivotFacts.{AreNumbers, enter_owner, entering, entering_unfit, err_all, ok_both, size_above}
 use Rattle.corner.proofs.exchange.entering_value.Goals as goal
+use Rattle.frac_core.proofs.Results.{ok_implies}
 
 is-size : (c : goal.After-value_at) → c.size.result ≡ pos (unsigned_abs (entry (lists_of c.args.table.now) c.args.pair.leave c.args.pair.enter))
 is-size c = (simp (to_z-of_z, c.ranges.by) at c.size.ensures.value) ∙ ap (λ (z : ℤ). pos (unsigned_abs z)) c.requires.by

@@ -8,7 +8,6 @@ use Rattle.row_core.specs.Combinations.{IsFactor, combination_but}
 use Rattle.row_core.specs.declared.entry.Factors.{Factors}
 use Rattle.row_core.specs.declared.entry.Patch.{Patch}
 use Rattle.frac_core.specs.Stops.{IsRefused}
-use Rattle.row_core.proofs.Lowest.{ok_implies}
 use Rattle.corner.specs.Changes.{IsUnfitStop}
 use Rattle.corner.specs.Exchanges.{IsPivotStop, marks_after, signed}
 use Rattle.corner.specs.LevelChanges.{level_sum}
@@ -19,6 +18,7 @@ use Rattle.corner.proofs.LevelSwaps.{size_of}
 use Rattle.corner.proofs.LevelWords.{negated_factor, negated_is}
 use Rattle.corner.proofs.LevelCosts.{AreSumNumbers, row_stop, sum_reduced, sum_unfit}
 use Rattle.corner.proofs.exchange.level_row.Goals as goal
+use Rattle.frac_core.proofs.Results.{ok_implies}
 
 pub combine_but-requires-clause-n : goal.combine_but-requires-clause-n
 combine_but-requires-clause-n c =

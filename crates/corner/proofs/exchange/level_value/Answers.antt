@@ -2,7 +2,6 @@ use Rattle.std.proofs.Common.{rules, SFits, to_z, of_z, ◌≡◌, ◌∙◌, �
 use Rattle.std.specs.Int.{w64}
 use Rattle.std.proofs.lemmas.Int.{to_z-of_z}
 use Rattle.frac_core.specs.Fraction.{IsFitting}
-use Rattle.row_core.proofs.Lowest.{ok_implies}
 use Rattle.corner_lines.specs.LineEquations.{sign_of}
 use Rattle.corner.specs.Exchanges.{IsPivotStop}
 use Rattle.corner.specs.LevelChanges.{IsLevelValue, entering_at}
@@ -13,6 +12,7 @@ use Rattle.corner.proofs.LevelWords.{product_fits, product_is}
 use Rattle.corner.proofs.PivotFacts.{err_all}
 use Rattle.corner.proofs.LevelCosts.{minus_sign, scale_above, scale_fits, unfit_of, value_of, value_stop}
 use Rattle.corner.proofs.exchange.level_value.Goals as goal
+use Rattle.frac_core.proofs.Results.{ok_implies}
 
 pub overflow_mul-own_of_level : goal.overflow_mul-own_of_level
 overflow_mul-own_of_level c =

@@ -4,13 +4,13 @@ use Rattle.frac_core.specs.Fraction.{IsFitting}
 use Rattle.problem_core.specs.Corners.{Swap}
 use Rattle.problem_core.specs.Stops.{TableStop}
 use Rattle.row_core.specs.Rows.{IsKeptRow, IsReduced}
-use Rattle.row_core.proofs.Lowest.{ok_implies}
 use Rattle.corner.specs.Changes.{IsUnfitStop}
 use Rattle.corner.specs.Exchanges.{IsPivotAt, marks_after, moved, signed}
 use Rattle.corner.specs.Tables.{entry, lists_of, problem_of}
 use Rattle.corner.proofs.PivotFacts.{err_all}
 use Rattle.corner.proofs.LineSlots.{err_of, ok_of, read_row, reduced_moved, unfit_moved, what_stop}
 use Rattle.corner.proofs.exchange.moved_row.Goals as goal
+use Rattle.frac_core.proofs.Results.{ok_implies}
 
 pub size-requires : goal.size-requires
 size-requires c =

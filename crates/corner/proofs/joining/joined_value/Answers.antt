@@ -1,7 +1,6 @@
 use Rattle.std.proofs.Common.{SFits, w64, ◌<◌, inr, sym, subst, arith, length}
 use Rattle.std.proofs.lemmas.Int.{to_z-of_z}
 use Rattle.frac_core.specs.Fraction.{Fraction, IsRatio, IsUnfitRatio, sum_den, sum_num}
-use Rattle.row_core.proofs.Lowest.{ok_implies}
 use Rattle.problem_core.specs.Levels.{IsCostAt}
 use Rattle.corner.specs.declared.table.Slot.{Slot}
 use Rattle.corner.specs.Tables.{lists_of, marks_at, standing_at}
@@ -10,6 +9,7 @@ use Rattle.corner.proofs.PivotFacts.{err_all}
 use Rattle.corner.proofs.CostFound.{found, found_below}
 use Rattle.corner.proofs.CostValues.{found_cost, found_unfit}
 use Rattle.corner.proofs.joining.joined_value.Goals as goal
+use Rattle.frac_core.proofs.Results.{ok_implies}
 
 pub value_at-cost-requires-clause-within : goal.value_at-cost-requires-clause-within
 value_at-cost-requires-clause-within c =

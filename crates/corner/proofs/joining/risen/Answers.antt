@@ -3,8 +3,9 @@ use Rattle.std.specs.Int.{w128}
 use Rattle.std.proofs.lemmas.Int.{to_z-of_z}
 use Rattle.frac_core.specs.declared.frac.TheConstants.{PART_BOUND}
 use Rattle.corner.proofs.LevelReadFacts.{fitting_sfits}
-use Rattle.corner.proofs.CostUnits.{quotient_above, rise_of, scale_above, unfit_rise}
+use Rattle.corner.proofs.CostUnits.{rise_of, scale_above, unfit_rise}
 use Rattle.corner.proofs.joining.risen.Goals as goal
+use Rattle.corner_lines.proofs.Units.{quotient_above}
 
 part-above : (c : goal.After-over-part) → pos 0 <ℤ c.over-part.result
 part-above c =

@@ -3,8 +3,9 @@ use Rattle.std.specs.Int.{w128}
 use Rattle.std.proofs.lemmas.Int.{to_z-of_z}
 use Rattle.frac_core.specs.Fraction.{IsFitting}
 use Rattle.std.proofs.lemmas.Nat.Gcd.{IsGcd-swap}
-use Rattle.corner.proofs.CostUnits.{quotient_above, unit_factors, unit_sfits, unit_small}
+use Rattle.corner.proofs.CostUnits.{unit_factors, unit_sfits, unit_small}
 use Rattle.corner.proofs.joining.unit_factors.Goals as goal
+use Rattle.corner_lines.proofs.Units.{quotient_above}
 
 pub returns-clause-factors : goal.returns-clause-factors
 returns-clause-factors c =

@@ -1,7 +1,6 @@
 use Rattle.std.proofs.Common.{rules, SFits, w64, ◌∙◌, inl, inr, ℕ, ap, refl}
 use Rattle.std.specs.Int.{w128}
 use Rattle.std.proofs.lemmas.Int.{to_z-of_z}
-use Rattle.row_core.proofs.Lowest.{ok_implies}
 use Rattle.corner.specs.Tables.{lists_of}
 use Rattle.corner.specs.CostJoins.{IsShared, IsShareStop}
 use Rattle.row_core.specs.Rows.{IsKeptRow, coefficient}
@@ -10,6 +9,7 @@ use Rattle.corner.proofs.PivotFacts.{err_all}
 use Rattle.corner.proofs.LineSlots.{err_of, ok_of, read_row}
 use Rattle.corner.proofs.CostRows.{shared_row, unfit_share}
 use Rattle.corner.proofs.joining.with_share.Goals as goal
+use Rattle.frac_core.proofs.Results.{ok_implies}
 
 pub returns-clause-ok : goal.returns-clause-ok
 returns-clause-ok c =

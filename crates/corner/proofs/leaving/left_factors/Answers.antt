@@ -3,9 +3,10 @@ use Rattle.std.specs.Int.{w128}
 use Rattle.std.proofs.lemmas.Int.{to_z-of_z}
 use Rattle.std.proofs.lemmas.Nat.Gcd.{IsGcd-swap}
 use Rattle.frac_core.specs.Fraction.{IsFitting}
-use Rattle.corner.proofs.CostUnits.{quotient_above, share_factors}
+use Rattle.corner.proofs.CostUnits.{share_factors}
 use Rattle.corner.proofs.LeavingEnds.{one-step}
 use Rattle.corner.proofs.leaving.left_factors.Goals as goal
+use Rattle.corner_lines.proofs.Units.{quotient_above}
 
 pub returns-clause-factors : goal.returns-clause-factors
 returns-clause-factors c =

@@ -2,7 +2,6 @@ use Rattle.std.proofs.Common.{rules, SFits, w64, ◌≡◌, ◌∙◌, ◌<ℤ�
 use Rattle.std.specs.Int.{w128}
 use Rattle.std.proofs.lemmas.Int.{to_z-of_z}
 use Rattle.row_core.specs.Rows.{IsKeptRow}
-use Rattle.row_core.proofs.Lowest.{ok_implies}
 use Rattle.corner_lines.specs.LineEquations.{sign_of}
 use Rattle.corner.specs.Tables.{lists_of}
 use Rattle.corner.specs.Leaving.{IsLeftRow, IsLeftStop, left_count}
@@ -12,6 +11,7 @@ use Rattle.corner.proofs.LevelReadFacts.{fitting_cost}
 use Rattle.corner.proofs.LevelWords.{product_fits, product_is}
 use Rattle.corner.proofs.LeavingEnds.{level_above, line_above, made_row, made_unfit, signed_cost}
 use Rattle.corner.proofs.leaving.left_row.Goals as goal
+use Rattle.frac_core.proofs.Results.{ok_implies}
 
 pub overflow_mul-count : goal.overflow_mul-count
 overflow_mul-count c =

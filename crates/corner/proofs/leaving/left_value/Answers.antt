@@ -1,7 +1,6 @@
 use Rattle.std.proofs.Common.{rules, SFits, w64, ◌<ℤ◌, ◌∙◌, inr, pos, neg_ℤ, ap, sym, subst, arith}
 use Rattle.std.proofs.lemmas.Int.{to_z-of_z}
 use Rattle.frac_core.specs.Fraction.{Fraction, IsFitting, IsRatio, IsUnfitRatio, sum_den, sum_num}
-use Rattle.row_core.proofs.Lowest.{ok_implies}
 use Rattle.problem_core.specs.Levels.{IsCostAt}
 use Rattle.corner.specs.declared.table.Priority.{Priority}
 use Rattle.corner.specs.Tables.{lists_of, standing_at}
@@ -11,6 +10,7 @@ use Rattle.corner.proofs.LeavingRows.{its_level, its_place}
 use Rattle.corner.proofs.LeavingCosts.{left_cost_is, left_cost_unfit}
 use Rattle.corner.proofs.LeavingEnds.{unit_fits, unit_up}
 use Rattle.corner.proofs.leaving.left_value.Goals as goal
+use Rattle.frac_core.proofs.Results.{ok_implies}
 
 pub value_at-cost-requires-clause-within : goal.value_at-cost-requires-clause-within
 value_at-cost-requires-clause-within c =

@@ -2,10 +2,11 @@ use Rattle.std.proofs.Common.{◌≡◌, ◌∙◌, ℕ, List, ap₂}
 use Rattle.row_core.specs.Rows.{Term}
 use Rattle.row_core.specs.Combinations.{combination_but}
 use Rattle.row_core.specs.Walks.{whole}
-use Rattle.row_core.proofs.Lowest.{err_implies, unfit_same}
+use Rattle.row_core.proofs.Lowest.{unfit_same}
 use Rattle.row_core.proofs.Patches.{patched_is}
 use Rattle.row_core.proofs.row.combine_but.Goals.{After-combined}
 use Rattle.row_core.proofs.row.combine_but.Goals as goal
+use Rattle.frac_core.proofs.Results.{err_implies}
 
 same : (c : After-combined) (q : ℕ) → whole c.patched.result c.deref.result.now c.deref-2.result.now q ≡ combination_but c.args.by c.args.r.now c.args.p.now c.args.but q
 same c q =

@@ -2,10 +2,11 @@ use Rattle.std.proofs.Common.{◌≡◌, ◌∙◌, ℕ, List, ap₂}
 use Rattle.std.proofs.lemmas.Int.{to_z-of_z}
 use Rattle.row_core.specs.Rows.{Term, combination}
 use Rattle.row_core.specs.Walks.{whole}
-use Rattle.row_core.proofs.Lowest.{ok_implies, err_implies, reduced_same, unfit_same}
+use Rattle.row_core.proofs.Lowest.{reduced_same, unfit_same}
 use Rattle.row_core.proofs.Patches.{plain_is}
 use Rattle.row_core.proofs.row.combine_wide.Goals.{After-combined}
 use Rattle.row_core.proofs.row.combine_wide.Goals as goal
+use Rattle.frac_core.proofs.Results.{ok_implies, err_implies}
 
 same : (c : After-combined) (q : ℕ) → whole c.plain.result c.deref.result.now c.deref-2.result.now q ≡ combination c.args.k c.args.r.now c.args.n c.args.p.now q
 same c q =

@@ -2,7 +2,6 @@ use Rattle.std.proofs.Common.{rules, SFits, to_z, of_z, ◌≡◌, ◌∙◌, �
 use Rattle.std.specs.Int.{w64}
 use Rattle.std.proofs.lemmas.Int.{to_z-of_z}
 use Rattle.frac_core.specs.Fraction.{IsFitting}
-use Rattle.row_core.proofs.Lowest.{ok_implies}
 use Rattle.corner.specs.declared.table.Slot.{Slot}
 use Rattle.corner.specs.declared.table.TheConstants.{LEVELS}
 use Rattle.corner.specs.Tables.{lists_of, priority_at}
@@ -12,6 +11,7 @@ use Rattle.corner.proofs.LevelReadFacts.{fitting_cost, negated}
 use Rattle.corner.proofs.LevelCosts.{unit_above, unit_fits}
 use Rattle.corner.proofs.TurnedChanges.{turn_cost_stop, turned_value_of}
 use Rattle.corner.proofs.exchange.turning.turning_cost.Goals as goal
+use Rattle.frac_core.proofs.Results.{ok_implies}
 
 pub named_sum-requires-clause-d : goal.named_sum-requires-clause-d
 named_sum-requires-clause-d c =

@@ -7,7 +7,6 @@ use Rattle.row_core.specs.Combinations.{combination_but}
 use Rattle.row_core.specs.declared.entry.Factors.{Factors}
 use Rattle.row_core.specs.declared.entry.Patch.{Patch}
 use Rattle.frac_core.specs.Stops.{IsRefused}
-use Rattle.row_core.proofs.Lowest.{ok_implies}
 use Rattle.corner.specs.declared.table.Slot.{Slot}
 use Rattle.corner.specs.Changes.{IsUnfitStop}
 use Rattle.corner.specs.Exchanges.{marks_after}
@@ -17,6 +16,7 @@ use Rattle.corner.proofs.PivotFacts.{err_all}
 use Rattle.corner.proofs.LineSlots.{err_of, ok_of, read_row}
 use Rattle.corner.proofs.TurnedChanges.{AreTurnNumbers, turn_reduced, turn_row_stop}
 use Rattle.corner.proofs.exchange.turning.turning_row.Goals as goal
+use Rattle.frac_core.proofs.Results.{ok_implies}
 
 abbrev factors : goal.After-named_row → Factors
 factors c = record { k = to_z w128 (of_z w128 c.from.result); n = to_z w128 (of_z w128 c.from-2.result) }

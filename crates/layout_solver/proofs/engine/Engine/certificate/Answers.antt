@@ -4,12 +4,13 @@ use Rattle.cert_core.specs.Claims.{multipliers_of}
 use Rattle.cert_checker.specs.Certifying.{Balances}
 use Rattle.certificates.specs.Accepted.{IsCertified}
 use Rattle.certificates.specs.OwnLevels.{IsOwnBest}
-use Rattle.layout_solver.proofs.Shown.{ok_both, ok_weaker, shown_certified, shown_own}
+use Rattle.layout_solver.proofs.Shown.{ok_both, shown_certified, shown_own}
 use Rattle.layout_solver.proofs.engine.Engine.certificate.Goals as goal
+use Rattle.corner_ends.proofs.RequiredTimes.{ok_implies}
 
 pub returns-clause-own : goal.returns-clause-own
 returns-clause-own c =
-    ok_weaker c.certificate.result (IsOwnBest c.self.inside.corner.problem c.self.inside.corner.marks) (IsOwnBest c.args.self.now.problem c.args.self.now.corner)
+    ok_implies c.certificate.result (IsOwnBest c.self.inside.corner.problem c.self.inside.corner.marks) (IsOwnBest c.args.self.now.problem c.args.self.now.corner)
     (λ levels h. shown_own c.self.inside.corner c.self.inside.values.0 c.self.inside.earlier c.args.self.now c.self.invariant c.self.view_is levels h) c.certificate.ensures.own
 
 pub returns-clause-certified : goal.returns-clause-certified

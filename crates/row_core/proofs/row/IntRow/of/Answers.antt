@@ -1,6 +1,7 @@
-use Rattle.row_core.proofs.Lowest.{err_implies, unfit_same}
+use Rattle.row_core.proofs.Lowest.{unfit_same}
 use Rattle.row_core.proofs.Patches.{alone_is}
 use Rattle.row_core.proofs.row.IntRow.of.Goals as goal
+use Rattle.frac_core.proofs.Results.{err_implies}
 
 pub returns-clause-unfit : goal.returns-clause-unfit
 returns-clause-unfit c =
