@@ -94,7 +94,7 @@ levels_apart (Priority a) (StayLevel b) before = λ same. cc
 levels_apart (StayLevel a) (Priority b) before = λ same. absurd before
 levels_apart (StayLevel a) (StayLevel b) before = λ same. before (cc)
 
-none_pairs : {X : Type 0} (R : X → X → Type 0) → AllPairs R []
+pub none_pairs : {X : Type 0} (R : X → X → Type 0) → AllPairs R []
 none_pairs R i j d lt in_range = absurd (omega (arith, in_range))
 
 none_read : AreRead []

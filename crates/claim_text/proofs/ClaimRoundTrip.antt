@@ -42,16 +42,10 @@ use Rattle.claim_text.specs.PathTexts.{side_word, mark_text, kind_words, in_word
 use Rattle.claim_text.specs.PathForms.{PathDraft, SaysPart, PartMayFollow, IsPathWritten, IsQuantityWritten, path_begun, path_of, with_part}
 use Rattle.claim_text.specs.ClaimTexts.{IsBestWritten}
 use Rattle.claim_text.proofs.Rising.{All-front, AllPairs-front, All-last, All-at_end}
-use Rattle.claim_text.proofs.Visible.{IsVisible, both, decimal_visible, signed_visible, fraction_visible, words_of_line, line_bytes, lines_of_text}
+use Rattle.claim_text.proofs.Visible.{IsVisible, both, decimal_visible, signed_visible, fraction_visible, words_of_line, line_bytes, lines_of_text, visible, word}
 use Rattle.claim_text.proofs.ClaimReadings.{read_two, one_reading, no_bad_line}
 
 -- ---- words are visible
-
-visible : (b : ℕ) (w : List ℕ) → 32 < b → IsVisible w → IsVisible (b ∷ w)
-visible b w is rest = All-cons (λ b. 32 < b) b w is rest
-
-word : (w : List ℕ) (ws : List (List ℕ)) → IsVisible w → All IsVisible ws → All IsVisible (w ∷ ws)
-word w ws is rest = All-cons IsVisible w ws is rest
 
 no_word : All IsVisible []
 no_word = All-nil IsVisible

@@ -4,9 +4,9 @@ use Rattle.std.specs.Str.Lines.{lines, lines_of_parts, strip_carriage_return}
 use Rattle.std.proofs.lemmas.Bool.Decides.{nat_tests}
 use Rattle.std.proofs.lemmas.Bool.{false≢true}
 use Rattle.std.proofs.lemmas.List.{append_assoc, append-nil, length-append, take_at, drop_at, take_all, drop_all, take-append-drop, length-drop, length-take-le, same_from_push}
-use Rattle.std.proofs.lemmas.List.Elements.{All-push, All-nil}
-use Rattle.span_text.proofs.Cuts.{lines_at, lines_last, first_part}
-use Rattle.claim_text.specs.Cut.{BeginsClaim, IsClaimStart, IsWithoutOk, ok_line}
+use Rattle.std.proofs.lemmas.List.Elements.{All-push}
+use Rattle.span_text.proofs.Cuts.{lines_at, first_part}
+use Rattle.claim_text.specs.Cut.{BeginsClaim, IsWithoutOk, ok_line}
 use Rattle.claim_text.specs.CutLines.{IsWhole, IsLineLength, IsLastStart, IsPlace}
 use Rattle.claim_text.specs.Words.{parts}
 use Rattle.claim_text.proofs.Parts.{IsFree, whole_is}
@@ -32,13 +32,6 @@ line_here_is text part rest n line more free is taken left lines_are =
     let tails : lines rest ≡ more = cc in
     (ap lines taken ∙ (lines_at part [] free ∙ ap (λ l. l ∷ []) heads), ap lines left ∙ tails)
 
-line_alone : (text line : List ℕ) (more : List (List ℕ)) → lines text ≡ text ∷ [] → take (length text) text ≡ text → drop (length text) text ≡ [] → lines text ≡ line ∷ more → (lines (take (length text) text) ≡ line ∷ []) × (lines (drop (length text) text) ≡ more)
-line_alone text line more one taken left lines_are =
-    let both : text ∷ [] ≡ line ∷ more = sym one ∙ lines_are in
-    let none : [] ≡ more = cc in
-    let head : text ≡ line = cc in
-    (ap lines taken ∙ (one ∙ ap (λ l. l ∷ []) head), ap lines left ∙ none)
-
 still_whole : (text : List ℕ) (at count : ℕ) {n : ℕ} → IsPlace text at count → IsLineLength (drop at text) n → IsWhole (take at text)
 still_whole text at count {n = n} place next = elim place.whole [
   | inl whole ↦ whole
@@ -51,15 +44,6 @@ end_parts text at all =
     let left : drop at text ≡ [] = drop_all at text (omega (arith, all)) in
     sym (ap (λ l. lines l ++ lines (drop at text)) taken ∙ (ap (λ l. lines text ++ lines l) left ∙ append-nil (lines text)))
 
-no_more : (text : List ℕ) (at n : ℕ) (line : List ℕ) (more : List (List ℕ)) → at < length text → IsLineLength (drop at text) n → at + n ≡ length text → lines (drop at text) ≡ line ∷ more → more ≡ []
-no_more text at n line more lt next all lines_are =
-    let left : drop n (drop at text) ≡ [] = drop_all n (drop at text) (omega (arith, length-drop at text, all, lt)) in
-    sym ((next.here line more lines_are).1) ∙ ap lines left
-
-empty_no_ok : (front : List (List ℕ)) → lines [] ≡ front ++ ok_line ∷ [] → ⊥
-empty_no_ok [] is = cc
-empty_no_ok (l ∷ front) is = cc
-
 -- a text that isn't empty has a line
 by_parts : (text : List ℕ) (ps : List (List ℕ)) → parts 10 text ≡ ps → 0 < length text → (line : List ℕ) × (more : List (List ℕ)) × (lines text ≡ line ∷ more)
 by_parts text [] is some = let more = first_part (λ b. b == 10) text in let parts_are : parts 10 text ≡ more.0 ∷ more.1 = more.2 in absurd (cc)
@@ -71,10 +55,6 @@ by_parts text (y ∷ z ∷ zs) is some = (strip_carriage_return y, lines_of_part
 
 line_of_some : (text : List ℕ) → 0 < length text → (line : List ℕ) × (more : List (List ℕ)) × (lines text ≡ line ∷ more)
 line_of_some text some = by_parts text (parts 10 text) refl some
-
-pub some_bytes : (text line : List ℕ) (more : List (List ℕ)) → lines text ≡ line ∷ more → 0 < length text
-some_bytes [] line more is = absurd (cc)
-some_bytes (b ∷ text) line more is = omega arith
 
 some_line : (text : List ℕ) → 0 < length text → (line : List ℕ) × (more : List (List ℕ)) × (lines text ≡ line ∷ more)
 some_line [] some = absurd (omega (arith, some))
@@ -112,27 +92,7 @@ line_ended text part rest n free is count =
       here = λ line more lines_are. line_here_is text part rest n line more free is taken left lines_are;
     }
 
-pub line_open : (text part : List ℕ) → 0 < length text → IsFree 10 part → text ≡ part → IsLineLength text (length text)
-line_open text part some free is =
-    let taken : take (length text) text ≡ text = take_all (length text) text (omega arith) in
-    let left : drop (length text) text ≡ [] = drop_all (length text) text (omega arith) in
-    let one : lines text ≡ text ∷ [] = lines_last text some (subst (IsFree 10) (sym is) free) in
-    record {
-      some = some;
-      within = omega arith;
-      whole = inr refl;
-      here = λ line more lines_are. line_alone text line more one taken left lines_are;
-    }
-
 -- ---- places
-
-pub place_first : (text : List ℕ) → IsPlace text 0 0
-place_first text = record {
-  within = omega arith;
-  whole = inl (λ more. refl);
-  count_is = refl;
-  before = All-nil (λ (line : List ℕ). BeginsClaim line → ⊥);
-}
 
 pub place_more : (text line : List ℕ) (more : List (List ℕ)) (at count n : ℕ) → IsPlace text at count → IsLineLength (drop at text) n → lines (drop at text) ≡ line ∷ more → (BeginsClaim line → ⊥) → IsPlace text (at + n) (count + 1)
 place_more text line more at count n place next lines_are none =
@@ -159,12 +119,6 @@ place_parts text at count place = elim place.whole [
   | inr all ↦ end_parts text at all
 ]
 
-pub no_start : (text : List ℕ) → lines text ≡ [] → IsClaimStart (lines text)
-no_start text none = subst IsClaimStart (sym none) tt
-
-pub here_start : (text line : List ℕ) (more : List (List ℕ)) → lines text ≡ line ∷ more → BeginsClaim line → IsClaimStart (lines text)
-here_start text line more is begins = subst IsClaimStart (sym is) begins
-
 -- ---- the last line
 
 pub last_more : (text : List ℕ) (at n : ℕ) → at < length text → IsWhole (take at text) → IsLineLength (drop at text) n → (at + n ≡ length text → ⊥) → (at + n < length text) × IsWhole (take (at + n) text)
@@ -177,27 +131,10 @@ last_more text at n lt whole next not_all =
       ],
     )
 
-pub last_here : (text : List ℕ) (at n : ℕ) → at < length text → IsWhole (take at text) → IsLineLength (drop at text) n → at + n ≡ length text → IsLastStart text at
-last_here text at n lt whole next all = record {
-  within = lt;
-  whole = whole;
-  last = λ line more lines_are. no_more text at n line more lt next all lines_are;
-}
-
-pub ok_gone : (text : List ℕ) (at : ℕ) (more : List (List ℕ)) → IsLastStart text at → lines (drop at text) ≡ ok_line ∷ more → IsWithoutOk (lines text) (lines (take at text))
-ok_gone text at more last is =
-    let none : more ≡ [] = last.last ok_line more is in
-    let whole : lines text ≡ lines (take at text) ++ lines (drop at text) = ap lines (sym (take-append-drop at text)) ∙ last.whole (drop at text) in
-    inl (whole ∙ ap (λ l. lines (take at text) ++ l) (is ∙ ap (λ l. ok_line ∷ l) none))
-
 pub ok_missing : (text : List ℕ) (at : ℕ) → IsLastStart text at → ((more : List (List ℕ)) → lines (drop at text) ≡ ok_line ∷ more → ⊥) → IsWithoutOk (lines text) (lines text)
 ok_missing text at last none =
     let whole : lines text ≡ lines (take at text) ++ lines (drop at text) = ap lines (sym (take-append-drop at text)) ∙ last.whole (drop at text) in
     inr (refl, λ front is. last_is_ok text at front last (sym whole ∙ is) none)
-
-pub ok_nothing : (text : List ℕ) → length text ≡ 0 → IsWithoutOk (lines text) (lines text)
-ok_nothing [] none = inr (refl, λ front is. empty_no_ok front is)
-ok_nothing (b ∷ text) none = absurd (omega (arith, none))
 
 pub rest_count : (text part rest : List ℕ) → text ≡ part ++ 10 ∷ rest → (length text - length rest) + length rest ≡ length text
 rest_count text part rest is = omega (arith, ap length is, length-append part (10 ∷ rest))

@@ -1,7 +1,7 @@
 -- Lines outside the forms of claims and of problems.
 use Rattle.std.proofs.Common.{◌≡◌, ℕ, ◌<◌, List, [], ◌∷◌, ◌++◌, length, refl, sym, ap, arith, inl, inr, true, true≢false}
 use Rattle.std.proofs.lemmas.List.Elements.{recursion_from_All}
-use Rattle.span_text.specs.Words.{is_space}
+use Rattle.span_text.specs.Classes.{is_space}
 use Rattle.claim_text.specs.declared.problem.items.Item.TheVariants.{Nothing, OfRow, OfStay}
 use Rattle.claim_text.specs.Lines.{row_words, stay_words}
 use Rattle.claim_text.specs.Words.{words}

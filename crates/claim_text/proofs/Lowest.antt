@@ -13,7 +13,7 @@ use Rattle.frac_core.proofs.Signs.{unsigned_abs-mul}
 use Rattle.frac_core.proofs.Integers.{cancel_mul}
 use Rattle.claim_text.specs.Words.{parts}
 use Rattle.claim_text.proofs.Parts.{IsFree, cut_is, not_cut, not_whole, whole_is}
-use Rattle.claim_text.proofs.Digits.{decimal_free, signed_free, same_value, same_integer}
+use Rattle.claim_text.proofs.Digits.{signed_free, same_value, same_integer}
 
 fraction_from : ℤ → ℕ → Fraction
 fraction_from num den = record { num = num; den = den }
@@ -38,22 +38,11 @@ slash_apart b digit = grind (arith, nat_tests)
 pub num_free : (f : Fraction) → IsKept f → IsFree 47 (signed_decimal f.num)
 num_free f kept = signed_free 47 f.num slash_apart refl (omega (arith, kept.fits.num_fits))
 
-pub den_free : (f : Fraction) → IsKept f → IsFree 47 (decimal f.den)
-den_free f kept = decimal_free 47 f.den slash_apart (omega (arith, kept.fits.den_fits))
-
 pub text_cases : (f : Fraction) → IsKept f → ((f.den ≡ 1) × (fraction_text f ≡ signed_decimal f.num)) ⊎ ((2 ≤ f.den) × (fraction_text f ≡ signed_decimal f.num ++ 47 ∷ decimal f.den))
 text_cases f kept = elim (cases_eq f.den 1) [
   | inl one ↦ inl (one, rw one refl)
   | inr more ↦ let no : (f.den == 1) ≡ false = grind (arith, nat_tests) in inr (omega (arith, more, kept.lowest.above), rw no refl)
 ]
-
-pub whole_text : (f : Fraction) (word : List ℕ) → f.den ≡ 1 → word ≡ signed_decimal f.num → word ≡ fraction_text f
-whole_text f word one is = rw one is
-
-pub quotient_text : (f : Fraction) (word above below : List ℕ) → 2 ≤ f.den → word ≡ above ++ 47 ∷ below → above ≡ signed_decimal f.num → below ≡ decimal f.den → word ≡ fraction_text f
-quotient_text f word above below more is above_is below_is =
-    let no : (f.den == 1) ≡ false = grind (arith, nat_tests) in
-    rw no (rw (above_is, below_is) at is)
 
 -- what a word without a slash says
 pub whole_none : (word part : List ℕ) → parts 47 word ≡ part ∷ [] → ((f : Fraction) → IsKept f → f.den ≡ 1 → part ≡ signed_decimal f.num → ⊥) → (f : Fraction) → IsKept f → word ≡ fraction_text f → ⊥

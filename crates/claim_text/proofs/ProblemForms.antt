@@ -19,9 +19,8 @@ use Rattle.claim_text.specs.Problems.{HasStayLine, IsPassedOver, MayFollow, Read
 use Rattle.claim_text.specs.ProblemForms.{AreParts, AreProblemLines, IsFirstOutsideProblem, IsProblemFront, ProblemsAreTheForm, Shows, problem_lines}
 use Rattle.claim_text.proofs.Readings.{read_more, whole_read}
 use Rattle.claim_text.proofs.ClaimForms.{longer, same-number}
-use Rattle.claim_text.proofs.RoundTrip.{no_bad_line, one_reading}
+use Rattle.claim_text.proofs.RoundTrip.{no_bad_line, one_reading, row_words_are, stay_words_are, problem_from}
 use Rattle.claim_text.proofs.Rising.{AllPairs-front, All-at_end, All-front, All-last}
-use Rattle.claim_text.proofs.Visible.{row_visible, stay_visible, words_of_line}
 
 -- ---- lists of lines
 
@@ -37,9 +36,6 @@ shows-over (x ∷ xs) ws line over (inr (rest, is, h)) = inr (rest, is, shows-ov
 
 line-is : (line : List ℕ) (ws : List (List ℕ)) → words line ≡ ws → line ≡ line_of ws
 line-is line ws e = sym (join_with_byte-slice_split 32 line) ∙ ap (join_with_byte 32) e
-
-problem_from : List Row → List Stay → Problem
-problem_from rows stays = record { rows = rows; stays = stays }
 
 row-more : (rows : List Row) (stays : List Stay) (r : Row) → stays ≡ [] → (map row_line rows ++ map stay_line stays) ++ row_line r ∷ [] ≡ map row_line (rows ++ r ∷ []) ++ map stay_line stays
 row-more rows stays r none =
@@ -119,12 +115,6 @@ said all front p read = read-said all nothing_read p [] front (nothing-said all)
 
 -- ---- from the form
 
-row-says : (r : Row) → IsRow r → words (row_line r) ≡ row_words r
-row-says r is = words_of_line _ _ (row_visible r is)
-
-stay-says : (s : Stay) → IsStay s → words (stay_line s) ≡ stay_words s
-stay-says s is = words_of_line _ _ (stay_visible s is)
-
 module _ (all : List (List ℕ)) where
   abbrev H : ℕ → Type 0
   H = HasStayLine all
@@ -139,7 +129,7 @@ module _ (all : List (List ℕ)) where
       let is : IsRow r = All-at_end IsRow done r each in
       record {
         item = OfRow r;
-        says = (is, row-says r is);
+        says = (is, row_words_are r is);
         may = record {
           first = refl;
           rises = All-last (λ (q s : Row). q.id < s.id) done r rising;
@@ -158,7 +148,7 @@ module _ (all : List (List ℕ)) where
       let is : IsStay s = All-at_end IsStay done s each in
       record {
         item = OfStay s;
-        says = (is, stay-says s is);
+        says = (is, stay_words_are s is);
         may = record { fresh = All-last (λ (q t : Stay). q.attr ≢ t.attr) done s apart; room = omega (arith, length-append done (s ∷ more), are.small.stays) };
         is = refl;
       }
@@ -230,7 +220,7 @@ stay-there (line ∷ ls) [] [] attr are (inr (rest, is, shows)) (k, s, within, s
 stay-there (line ∷ ls) (t ∷ stays) [] attr are (inr (rest, is, shows)) (zero, s, within, same, e) =
     let here = tail-of [] is in
     let of : IsStay t = are 0 t (omega arith) in
-    inl (t, (of, subst (λ (l : List ℕ). words l ≡ stay_words t) here.0 (stay-says t of)), ap (λ (u : Stay). u.attr) same ∙ e)
+    inl (t, (of, subst (λ (l : List ℕ). words l ≡ stay_words t) here.0 (stay_words_are t of)), ap (λ (u : Stay). u.attr) same ∙ e)
 stay-there (line ∷ ls) (t ∷ stays) [] attr are (inr (rest, is, shows)) (suc k, s, within, same, e) =
     inr (stay-there ls stays [] attr (λ i d less. are (suc i) d (omega (arith, less))) (subst (Shows ls) (sym (tail-of [] is).1) shows) (k, s, omega (arith, within), same, e))
 

@@ -18,6 +18,7 @@ use Rattle.claim_text.specs.declared.problem.items.Item.TheVariants.{Nothing, Of
 use Rattle.claim_text.specs.Problems.{Says, MayFollow, with_item, Step, ReadFrom, Reads, nothing_read, HasStayLine, IsStayOf, AreStayAttributes, IsFirstBad}
 use Rattle.claim_text.proofs.Same.{one_item}
 use Rattle.claim_text.proofs.LineLists.{line_here, no_line_left}
+use Rattle.claim_text.proofs.ClaimReadings.{none_pairs}
 
 -- ---- one line more, and other words for what has stays
 
@@ -79,9 +80,6 @@ good_read H [] old new read good = rw read good
 good_read H (x ∷ xs) old new read good =
     let step = read.1 in
     good_read H xs read.0 new read.2 (rw step.is (good_item H old x step.item step.says step.may good))
-
-none_pairs : {X : Type 0} (R : X → X → Type 0) → AllPairs R []
-none_pairs R i j d lt in_range = absurd (omega (arith, in_range))
 
 good_nothing : (H : ℕ → Type 0) → IsGood H nothing_read
 good_nothing H = record {

@@ -68,10 +68,10 @@ record AreStays (stays : List Stay) : Type 0 where
   apart : AllPairs (λ s t. s.attr ≢ t.attr) stays
   count : length stays ≤ 800
 
-row_words_are : (r : Row) → IsRow r → words (row_line r) ≡ row_words r
+pub row_words_are : (r : Row) → IsRow r → words (row_line r) ≡ row_words r
 row_words_are r is = words_of_line _ _ (row_visible r is)
 
-stay_words_are : (s : Stay) → IsStay s → words (stay_line s) ≡ stay_words s
+pub stay_words_are : (s : Stay) → IsStay s → words (stay_line s) ≡ stay_words s
 stay_words_are s is = words_of_line _ _ (stay_visible s is)
 
 row_step : (H : ℕ → Type 0) (done : List Row) (r : Row) (more : List Row) → AreRows H (done ++ r ∷ more) → Step H (record { rows = done; stays = [] }) (row_line r) (record { rows = done ++ r ∷ []; stays = [] })
@@ -93,7 +93,7 @@ row_step H done r more are =
       is = refl;
     }
 
-problem_from : List Row → List Stay → Problem
+unfoldable pub problem_from : List Row → List Stay → Problem
 problem_from rows stays = record { rows = rows; stays = stays }
 
 read_rows : (H : ℕ → Type 0) (done todo : List Row) → AreRows H (done ++ todo) → ReadFrom H (record { rows = done; stays = [] }) (map row_line todo) (record { rows = done ++ todo; stays = [] })

@@ -6,7 +6,7 @@ use Rattle.std.specs.List.{join_with_byte}
 use Rattle.std.proofs.lemmas.Bool.{false≢true}
 use Rattle.std.proofs.lemmas.List.{append-nil}
 use Rattle.std.proofs.lemmas.List.Splits.{join_with_byte-slice_split}
-use Rattle.span_text.specs.Words.{is_space}
+use Rattle.span_text.specs.Classes.{is_space}
 use Rattle.frac_core.specs.Fraction.{Fraction, IsKept}
 use Rattle.frac_core.specs.Text.{fraction_text}
 use Rattle.problem_core.specs.declared.parts.Rel.{Rel}

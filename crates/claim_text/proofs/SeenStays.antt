@@ -1,5 +1,5 @@
 -- The stays that a claim has named, and what may stand behind them.
-use Rattle.std.proofs.Common.{nat_lt, ◌≡◌, ℕ, suc, ◌+◌, ◌-◌, ◌<◌, Bool, true, false, List, [], ◌∷◌, ◌++◌, map, length, take, take_all, get_or, Option, Some, None, BTreeMap, refl, sym, ap, subst, ◌∙◌, inl, inr, arith, All, MatchOption, IsTrue, ◌↔◌, pos}
+use Rattle.std.proofs.Common.{nat_lt, ◌≡◌, ℕ, ◌+◌, ◌-◌, ◌<◌, Bool, true, false, List, [], ◌∷◌, ◌++◌, map, length, take, take_all, get_or, Option, Some, None, BTreeMap, refl, sym, ap, subst, ◌∙◌, inl, inr, arith, All, MatchOption, IsTrue, ◌↔◌, pos}
 use Rattle.std.specs.Prelude.{AllPairs, IfOk}
 use Rattle.std.specs.declared.result.Result.{Result}
 use Rattle.std.specs.declared.result.Result.TheVariants.{Ok, Err}
@@ -16,7 +16,6 @@ use Rattle.problem_core.specs.declared.parts.RowName.{RowName}
 use Rattle.problem_core.specs.declared.parts.RowName.TheVariants.{Held, Stay as StayRow}
 use Rattle.problem_core.specs.declared.parts.Level.{Level}
 use Rattle.problem_core.specs.declared.parts.Level.TheVariants.{Priority, Stay as StayLevel}
-use Rattle.cert_core.specs.declared.by.By.{By}
 use Rattle.cert_core.specs.Claims.{BestLevel}
 use Rattle.claim_text.specs.declared.claim.lines.LevelLine.{LevelLine}
 use Rattle.claim_text.specs.declared.claim.draft.Stage.{Stage}
@@ -58,12 +57,6 @@ key_push P m n xs x attr v u never may keys q =
           subst (λ (o : Option ℕ). MatchOption o (All (λ x. P x q) (xs ++ x ∷ [])) (λ _. All (λ x. P x q) (xs ++ x ∷ []) → ⊥)) (sym (u.2 q (apart attr q e)))
           (kept P xs x q (get nat_cmp m q) (may q e) (keys q))
     ]
-
-pub held_row : (m : BTreeMap ℕ ℕ) (rows : List RowName) (id : ℕ) → AreRowKeys rows m → AreRowKeys (rows ++ Held id ∷ []) m
-held_row m rows id keys = plain_push (λ row attr. IsRowBefore row (StayRow attr)) m rows (Held id) (λ q. tt) keys
-
-pub stay_row : (m n : BTreeMap ℕ ℕ) (rows : List RowName) (attr v : ℕ) → Updates nat_cmp m n attr (Some v) → AreRowKeys rows m → AreRowKeys (rows ++ StayRow attr ∷ []) n
-stay_row m n rows attr v u keys = key_push (λ row attr. IsRowBefore row (StayRow attr)) m n rows (StayRow attr) attr v u (λ h. h refl) (λ q h. h) keys
 
 pub priority_level : (m : BTreeMap ℕ ℕ) (levels : List Level) (rank : ℕ) → AreLevelKeys levels m → AreLevelKeys (levels ++ Priority rank ∷ []) m
 priority_level m levels rank keys = plain_push (λ level attr. IsLevelBefore level (StayLevel attr)) m levels (Priority rank) (λ q. tt) keys
@@ -150,10 +143,6 @@ levels_before levels front last level rank e ends pairs b (f, g) =
       λ all. g (All-at_end (λ k. IsLevelBefore k level) front last (subst (λ (ls : List Level). All (λ k. IsLevelBefore k level) ls) ends (all_map (λ k. IsLevelBefore k level) (λ (l : BestLevel). l.level) levels no_level all))),
     )
 
-pub no_levels : (levels : List BestLevel) (level : Level) → map (λ l. l.level) levels ≡ [] → All (λ l. IsLevelBefore l.level level) levels
-no_levels [] level e i d l = absurd (omega (arith, l))
-no_levels (x ∷ levels) level e i d l = absurd (let g : suc (length (map (λ (l : BestLevel). l.level) levels)) ≡ 0 = ap (λ (ls : List Level). length ls) e in omega (arith, g))
-
 -- ---- the last level
 
 pub last_level : (levels : List BestLevel) (d : BestLevel) → 0 < length levels → (front : List Level) × (map (λ l. l.level) levels ≡ front ++ (get_or levels (length levels - 1) d).level ∷ [])
@@ -163,22 +152,8 @@ last_level levels d some =
     sym (take_all (length levels - 1 + 1) levels (omega (arith, some))) ∙ take_more levels (length levels - 1) d below in
     (map (λ (l : BestLevel). l.level) (take (length levels - 1) levels), ap (map (λ (l : BestLevel). l.level)) whole ∙ map-append (λ (l : BestLevel). l.level) (take (length levels - 1) levels) (get_or levels (length levels - 1) d ∷ []))
 
-pub closed_else : (stage : Stage) (levels : List BestLevel) (bys : List By) → ((l : LevelLine) → stage ≡ Bys l → ⊥) → closed stage levels bys ≡ levels
-closed_else Values levels bys n = refl
-closed_else Levels levels bys n = refl
-closed_else (Bys l) levels bys n = absurd (n l refl)
-closed_else Conflict levels bys n = refl
-closed_else (Path d) levels bys n = refl
-
 pub open_last : (levels : List BestLevel) (final : BestLevel) → map (λ l. l.level) (levels ++ final ∷ []) ≡ map (λ l. l.level) levels ++ final.level ∷ []
 open_last levels final = map-append (λ (l : BestLevel). l.level) levels (final ∷ [])
-
-pub names_same : (stage : Stage) (levels : List BestLevel) (bys more : List By) → map (λ l. l.level) (closed stage levels bys) ≡ map (λ l. l.level) (closed stage levels more)
-names_same Values levels bys more = refl
-names_same Levels levels bys more = refl
-names_same (Bys l) levels bys more = open_last levels (record { level = l.level; scale = l.scale; by = bys }) ∙ sym (open_last levels (record { level = l.level; scale = l.scale; by = more }))
-names_same Conflict levels bys more = refl
-names_same (Path d) levels bys more = refl
 
 -- ---- a level more
 

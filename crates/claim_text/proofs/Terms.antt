@@ -1,14 +1,12 @@
 -- The words of terms.
-use Rattle.std.proofs.Common.{◌≡◌, ◌≢◌, ℕ, ℤ, ◌<◌, ◌≤◌, ◌^◌, ◌==◌, List, [], ◌∷◌, ◌++◌, length, All, Bool, false, IsTrue, ◌↔◌, decimal, pos, ap, ap₂, sym, ◌∙◌, arith, map}
+use Rattle.std.proofs.Common.{◌≡◌, ℕ, ℤ, ◌<◌, ◌≤◌, ◌^◌, ◌==◌, List, [], ◌∷◌, ◌++◌, length, All, Bool, false, IsTrue, ◌↔◌, decimal, pos, ap, ap₂, sym, ◌∙◌, arith, map}
 use Rattle.std.proofs.lemmas.List.{append_assoc}
 use Rattle.std.specs.Char.{IsAsciiDigit}
 use Rattle.std.specs.Fmt.{signed_decimal}
 use Rattle.std.specs.Int.RustNames.{unsigned_abs}
 use Rattle.std.proofs.lemmas.Bool.Decides.{nat_tests}
 use Rattle.std.proofs.lemmas.Bool.{false≢true}
-use Rattle.std.proofs.lemmas.List.{length-append, length_push, append-nil, map_push}
-use Rattle.std.proofs.lemmas.List.Quantifiers.{all_pairs_push}
-use Rattle.std.proofs.lemmas.List.Elements.{All-push}
+use Rattle.std.proofs.lemmas.List.{length-append, length_push}
 use Rattle.problem_core.specs.declared.parts.Term.{Term}
 use Rattle.problem_core.specs.Kept.{IsTerm}
 use Rattle.claim_text.specs.Words.{parts}
@@ -57,13 +55,6 @@ product_none t word by small zero is is_t same =
 
 -- ---- lists of terms
 
-pub AreTerms-push : (terms : List Term) (t : Term) → AreTerms terms → length terms ≢ 32 → IsTerm t → All (λ s. s.attr < t.attr) terms → AreTerms (terms ++ t ∷ [])
-AreTerms-push terms t are few is above = record {
-  each = All-push IsTerm terms t are.each is;
-  rising = all_pairs_push (λ s u. s.attr < u.attr) terms t are.rising above;
-  count = omega (arith, length_push terms t, are.count, few);
-}
-
 pub AreTerms-front : (terms more : List Term) → AreTerms (terms ++ more) → AreTerms terms
 AreTerms-front terms more are = record {
   each = All-front IsTerm terms more are.each;
@@ -88,13 +79,6 @@ stuck all left word more terms is left_is are none ts are_ts is_ts =
     stuck_at terms word more found.0 ts are_ts found.1 found.2 none
 
 -- ---- where the words are read
-
-pub more_said : (all left : List (List ℕ)) (word : List ℕ) (rest : List (List ℕ)) (terms : List Term) (t : Term)
-    → all ≡ map term_word terms ++ left → left ≡ word ∷ rest → word ≡ term_word t → all ≡ map term_word (terms ++ t ∷ []) ++ rest
-more_said all left word rest terms t is left_is word_is = rw (map_push term_word terms t, append_assoc) (is ∙ ap (λ l. map term_word terms ++ l) (left_is ∙ ap (λ w. w ∷ rest) word_is))
-
-pub all_said : (all left : List (List ℕ)) (terms : List Term) → all ≡ map term_word terms ++ left → left ≡ [] → all ≡ map term_word terms
-all_said all left terms is none = is ∙ (ap (λ l. map term_word terms ++ l) none ∙ append-nil (map term_word terms))
 
 pub AreTerms-last : (terms : List Term) (t : Term) → AreTerms (terms ++ t ∷ []) → IsTerm t × All (λ s. s.attr < t.attr) terms × (length terms < 32)
 AreTerms-last terms t are = (

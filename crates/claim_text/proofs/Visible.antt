@@ -25,7 +25,7 @@ use Rattle.claim_text.proofs.Lowest.{text_cases}
 abbrev pub IsVisible : List ℕ → Type 0
 IsVisible w = All (λ b. 32 < b) w
 
-visible : (b : ℕ) (w : List ℕ) → 32 < b → IsVisible w → IsVisible (b ∷ w)
+pub visible : (b : ℕ) (w : List ℕ) → 32 < b → IsVisible w → IsVisible (b ∷ w)
 visible b w is rest = All-cons (λ b. 32 < b) b w is rest
 
 none : IsVisible []
@@ -59,7 +59,7 @@ term_visible : (t : Term) → IsTerm t → IsVisible (term_word t)
 term_visible t is = both (decimal t.attr) (58 ∷ signed_decimal t.by) (decimal_visible t.attr (omega (arith, is.attr.1)))
     (visible 58 (signed_decimal t.by) (omega arith) (signed_visible t.by (omega (arith, is.small))))
 
-word : (w : List ℕ) (ws : List (List ℕ)) → IsVisible w → All IsVisible ws → All IsVisible (w ∷ ws)
+pub word : (w : List ℕ) (ws : List (List ℕ)) → IsVisible w → All IsVisible ws → All IsVisible (w ∷ ws)
 word w ws is rest = All-cons IsVisible w ws is rest
 
 pub row_visible : (r : Row) → IsRow r → All IsVisible (row_words r)

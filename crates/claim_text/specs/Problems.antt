@@ -1,6 +1,6 @@
 -- Which texts are problems, and where a text stops to be one.
 use Rattle.std.specs.Prelude.{◌≡◌, ◌≢◌, ℕ, ◌+◌, ◌<◌, ◌⊎◌, true, List, [], ◌∷◌, ◌++◌, length, All, Contains}
-use Rattle.span_text.specs.Words.{is_space}
+use Rattle.span_text.specs.Classes.{is_space}
 use Rattle.problem_core.specs.declared.parts.Stay.{Stay}
 use Rattle.problem_core.specs.Kept.{IsRow, IsStay}
 use Rattle.problem_core.specs.Layout.{Row, Problem}

@@ -167,9 +167,6 @@ pub record AreFound (name : Text) (numbers : List Text) : Type 0 where
   pub mode : first_of (codes "MODE") (matches_of program (codes "layout" ∷ name ∷ numbers)) ≡ Some name
   pub all : unwrap_or (all_of (codes "NUMBER") (matches_of program (codes "layout" ∷ name ∷ numbers))) [] ≡ numbers
 
-abbrev whole_fault : List Text → Walk → Kinds
-whole_fault ws w = or_else (walk_fault shape [] begun ws) (closing w)
-
 walk_to : (name n : Text) (ns : List Text) → IsPlain name → IsPlain n → walk rules [] nothing_held (name ∷ n ∷ ns) ≡ fold (walked rules []) (numbered name [] n) ns
 walk_to name n ns p q =
     ap (λ (w : Walk). fold (walked rules []) (walked rules [] w n) ns) (to_name name p)

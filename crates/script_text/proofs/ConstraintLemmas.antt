@@ -1,9 +1,8 @@
 -- What stands between and behind the expressions of a constraint has its readers.
-use Rattle.std.proofs.Common.{◌≡◌, ℕ, Bool, true, false, List, [], ◌∷◌, Option, Some, None, Result, Ok, refl, arith}
-use Rattle.std.proofs.lemmas.Bool.Decides.{nat_tests}
+use Rattle.std.proofs.Common.{◌≡◌, ℕ, Bool, true, false, List, [], ◌∷◌, Option, Some, None, Result, Ok, refl}
 use Rattle.std.specs.Prelude.{codes, pos}
 use Rattle.span_text.specs.Language.{Rel, End, Or, Answers}
-use Rattle.span_text.specs.Classes.{is_space, is_digit, is_word, is_letter}
+use Rattle.span_text.specs.Classes.{is_space, is_word, is_letter}
 use Rattle.span_text.specs.Reading.{◌>>=◌, end_at}
 use Rattle.span_text.specs.Tokens.{Blanks, Word, Sign, Name, Number, Whole, is_point, skip}
 use Rattle.span_text.specs.Multiples.{is_slash}
@@ -21,6 +20,7 @@ use Rattle.vfl_text.specs.Grammar.{relations}
 use Rattle.script_text.specs.declared.words.Keyword.TheVariants as key
 use Rattle.script_text.proofs.Tables.{IsTable, table_answers}
 use Rattle.script_text.proofs.SumLemmas.{Ends, expression_lives, expression_answers}
+use Rattle.vfl_text.proofs.FormatLemmas.{digit_no_letter}
 
 relations_table : IsTable relations
 relations_table = record { full = refl; free = refl; bytes = refl }
@@ -49,9 +49,6 @@ relation_ends F lives = record {
   no_minus = words_never (λ r. Blanks (F r)) is_minus relations refl;
 }
 
-letter_is_no_digit : (b : ℕ) → is_digit b ≡ true → is_letter b ≡ false
-letter_is_no_digit b h = grind (arith, nat_tests)
-
 abbrev Named : {A : Type 0} → (Option Meant → Rel A) → Rel A
 Named F = Name (λ n. F (Some (object.Name n)))
 
@@ -71,7 +68,7 @@ priority_answers F k lives never goes s = rw bind_cond (or_answers is_at (Sign 6
     (lit_only _ is_at 64 [] refl) never (begins (priority_lives F (lives None))) s
     (rw bind_assoc (sign_answers 64 (Or (Named F) (Numbered F)) _ refl (left_lives is_space (Numbered F) (name_lives is_space refl (λ n. lives (Some (object.Name n))))) s
     (λ t h. rw bind_cond (or_answers is_letter (Named F) (Numbered F) _ _
-    (one_only is_letter _ is_letter (λ b e. e)) (number_never (λ n. F (Some (object.Number (pos n)))) is_letter letter_is_no_digit)
+    (one_only is_letter _ is_letter (λ b e. e)) (number_never (λ n. F (Some (object.Number (pos n)))) is_letter digit_no_letter)
     (begins (left_lives is_space (Numbered F) (name_lives is_space refl (λ n. lives (Some (object.Name n)))))) t
     (rw bind_assoc (name_answers (λ n. F (Some (object.Name n))) (λ n u. k (Some (object.Name n)) u) (λ n. lives (Some (object.Name n))) t (λ n u i. goes (Some (object.Name n)) u)))
     (rw bind_assoc (number_answers (λ n. F (Some (object.Number (pos n)))) (λ n u. k (Some (object.Number (pos n))) u) (λ n. lives (Some (object.Number (pos n)))) t (λ n u i. goes (Some (object.Number (pos n))) u)))))))

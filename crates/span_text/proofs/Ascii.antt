@@ -6,9 +6,7 @@ use Rattle.span_text.proofs.PieceLemmas.{bool_tells}
 use Rattle.span_text.specs.Classes.{is_word, is_letter}
 use Rattle.span_text.specs.Reading.{one_at, front}
 use Rattle.span_text.specs.Tokens.{raw_name_at}
-
-word_below : (b : ℕ) → is_word b ≡ true → b < 128
-word_below b h = grind (arith, nat_tests)
+use Rattle.span_text.proofs.TokenCuts.{word_below}
 
 letter_below : (b : ℕ) → is_letter b ≡ true → b < 128
 letter_below b h = grind (arith, nat_tests)

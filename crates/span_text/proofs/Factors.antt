@@ -3,7 +3,7 @@ use Rattle.std.proofs.Common.{◌≡◌, ℕ, suc, ◌≤◌, Bool, true, false,
 use Rattle.span_text.specs.Classes.{is_space}
 use Rattle.span_text.specs.Language.{Rel, Or, Where, Begins, Answers}
 use Rattle.span_text.specs.Reading.{starts}
-use Rattle.span_text.specs.Tokens.{Digits, Blanks, Name, Number}
+use Rattle.span_text.specs.Tokens.{Digits, Blanks, Number}
 use Rattle.span_text.proofs.Answering.{halt, agree}
 use Rattle.span_text.proofs.PieceLemmas.{bool_tells, Same, Only, Never}
 
@@ -17,19 +17,6 @@ digits_or n m l F G s v = (
   λ (b, t, e, c, (x, u, f, a, k, q, h)). elim h [
     | inl r ↦ inl (b, t, e, c, (x, u, f, a, k, q, r))
     | inr (i, r) ↦ inr (b, t, e, c, (x, u, f, a, omega arith, q, r))
-  ],
-)
-
--- a name behind which stands one thing or another
-pub name_or : {A : Type 0} (F G : List ℕ → Rel A) → Same (Or (Name F) (Name G)) (Name (λ n. Or (F n) (G n)))
-name_or F G s v = (
-  λ h. elim h [
-    | inl (b, t, e, l, (x, u, f, a, n, (g, w, i, c, m, r))) ↦ (b, t, e, l, (x, u, f, a, n, (g, w, i, c, m, inl r)))
-    | inr (b, t, e, l, (x, u, f, a, n, (g, w, i, c, m, r))) ↦ (b, t, e, l, (x, u, f, a, n, (g, w, i, c, m, inr r)))
-  ],
-  λ (b, t, e, l, (x, u, f, a, n, (g, w, i, c, m, h))). elim h [
-    | inl r ↦ inl (b, t, e, l, (x, u, f, a, n, (g, w, i, c, m, r)))
-    | inr r ↦ inr (b, t, e, l, (x, u, f, a, n, (g, w, i, c, m, r)))
   ],
 )
 

@@ -2,7 +2,6 @@ pub mod Answering
 pub mod Ascii
 pub mod BoundedLoops
 pub mod Cuts
-pub mod MapLemmas
 pub mod NonzeroLemmas
 pub mod DigitLemmas
 pub mod Factors

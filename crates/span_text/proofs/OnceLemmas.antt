@@ -3,7 +3,7 @@ use Rattle.std.proofs.Common.{ℕ, ◌+◌, ◌*◌, Bool, List, [], ◌∷◌, 
 use Rattle.span_text.specs.Language.{Rel, Or, Lit, One, Run, Few, Not, Words}
 use Rattle.span_text.specs.Classes.{is_space, is_digit, is_word, is_letter}
 use Rattle.span_text.specs.Digits.{digits, Nonzero}
-use Rattle.span_text.specs.Tokens.{Blanks, Tail, Word, Sign, Name, RawName, Digits, Number, Whole, Ratio, decimals, is_point}
+use Rattle.span_text.specs.Tokens.{Blanks, Tail, Sign, Name, RawName, Digits, Number, Ratio, decimals, is_point}
 
 -- as Once, for a part of a round
 abbrev pub OnceIn : {S A : Type 0} → ((S → Rel A) → Rel A) → Type 1
@@ -55,9 +55,6 @@ once_number T t = once_digits 5 (λ x G. Or (Lit (46 ∷ []) (Digits 2 (λ y. Ta
     (once_lit (46 ∷ []) (λ G. Digits 2 (λ y. Tail (T (digits 0 x * 1000 + decimals y) G))) (once_digits 2 (λ y G. Tail (T (digits 0 x * 1000 + decimals y) G)) (λ y. once_tail (T (digits 0 x * 1000 + decimals y)) (t (digits 0 x * 1000 + decimals y)))))
     (once_not is_point (λ G. Tail (T (digits 0 x * 1000) G)) (once_tail (T (digits 0 x * 1000)) (t (digits 0 x * 1000)))))
 
-pub once_word : {S A : Type 0} (w : List ℕ) (T : (S → Rel A) → Rel A) → OnceIn T → OnceIn (λ G. Word w (T G))
-once_word w T t = once_lit w (λ G. Tail (T G)) (once_tail T t)
-
 pub once_words : {S A K : Type 0} (ws : List (List ℕ × K)) (T : K → (S → Rel A) → Rel A) → ((j : K) → OnceIn (T j)) → OnceIn (λ G. Words ws (λ j. T j G))
 once_words [] T t G s v h = absurd h
 once_words (w ∷ ws) T t G s v (inl h) = elim (once_lit w.0 (T w.1) (t w.1) G s v h) [ inl (y, u, g, back) ↦ inl (y, u, g, λ H k. inl (back H k)) | inr f ↦ inr (λ H. inl (f H)) ]
@@ -68,9 +65,6 @@ once_raw_name T t = once_one is_letter (λ b G. Run is_word (λ x. T (b ∷ x) G
 
 pub once_nonzero : {S A : Type 0} (m a : ℕ) (T : ℕ → (S → Rel A) → Rel A) → ((n : ℕ) → OnceIn (T n)) → OnceIn (λ G. Nonzero m a (λ n. T n G))
 once_nonzero m a T t G s v (x, z, e, i, l, n, nz, h) = elim (t (digits a x) G z v h) [ inl (y, w, g, back) ↦ inl (y, w, g, λ H k. (x, z, e, i, l, n, nz, back H k)) | inr f ↦ inr (λ H. (x, z, e, i, l, n, nz, f H)) ]
-
-pub once_whole : {S A : Type 0} (T : ℕ → (S → Rel A) → Rel A) → ((n : ℕ) → OnceIn (T n)) → OnceIn (λ G. Whole (λ n. T n G))
-once_whole T t = once_digits 18 (λ x G. Tail (T (digits 0 x) G)) (λ x. once_tail (T (digits 0 x)) (t (digits 0 x)))
 
 pub once_ratio : {S A : Type 0} (T : ℕ → ℕ → (S → Rel A) → Rel A) → ((n m : ℕ) → OnceIn (T n m)) → OnceIn (λ G. Ratio (λ n m. T n m G))
 once_ratio T t = once_digits 3 (λ x G. Lit (47 ∷ []) (Nonzero 4 0 (λ m. Tail (T (digits 0 x) m G))))

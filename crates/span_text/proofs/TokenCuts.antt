@@ -38,10 +38,6 @@ outside_starts : (c : ℕ → Bool) (s : List ℕ) → NotStart c s → starts c
 outside_starts c [] h = refl
 outside_starts c (b ∷ s) h = h
 
-starts_outside : (c : ℕ → Bool) (s : List ℕ) → starts c s ≡ false → NotStart c s
-starts_outside c [] h = tt
-starts_outside c (b ∷ s) h = h
-
 -- behind bytes below 128 a text may be cut
 pub back_utf8 : (c : ℕ → Bool) → ((b : ℕ) → c b ≡ true → b < 128) → (s : List ℕ) → IsUtf8 s → IsUtf8 (back c s)
 unfolding back
@@ -78,11 +74,6 @@ pub relation_boundary : (s : List ℕ) → IsUtf8 s → begins_relation s ≡ tr
 relation_boundary [] u h = absurd cc
 relation_boundary (b ∷ []) u h = absurd cc
 relation_boundary (b ∷ c ∷ s) u h = IsCharBoundary-after_ascii (b ∷ c ∷ s) 1 u (omega arith) (let l : c < 128 = grind (arith, nat_tests) in l)
-
-pub relation_token : (s : List ℕ) → begins_relation s ≡ true → IsToken (take 2 s) (drop 2 s)
-relation_token [] h = absurd cc
-relation_token (b ∷ []) h = absurd cc
-relation_token (b ∷ c ∷ s) h = inr (inl (refl, h))
 
 -- the first character, by what follows it
 pub cut_before : (s x rest : List ℕ) → s ≡ x ++ rest → (take (length s - length rest) s ≡ x) × (drop (length s - length rest) s ≡ rest)

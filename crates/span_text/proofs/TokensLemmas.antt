@@ -25,9 +25,6 @@ tail_lives c e l = record { text = 32 ∷ l.text; value = l.value; apart = e; by
 pub end_lives : {A : Type 0} (c : ℕ → Bool) (a : A) → Lives c (End a)
 end_lives c a = record { text = []; value = a; apart = tt; bytes = tt; reads = (refl, refl) }
 
-pub word_lives : {A : Type 0} {F : Rel A} (d : ℕ → Bool) (c : ℕ) (w : List ℕ) → d c ≡ false → are_bytes (c ∷ w) ≡ true → Lives is_space F → Lives d (Word (c ∷ w) F)
-word_lives d c w e ok l = record { text = (c ∷ w) ++ (32 ∷ l.text); value = l.value; apart = e; bytes = bytes_before (c ∷ w) (32 ∷ l.text) ok (refl, l.bytes); reads = (32 ∷ l.text, refl, (refl, (32 ∷ [], l.text, refl, (refl, tt), l.apart, l.reads))) }
-
 pub sign_lives : {A : Type 0} {F : Rel A} (d : ℕ → Bool) (c : ℕ) → d c ≡ false → is_byte c ≡ true → Lives is_space F → Lives d (Sign c F)
 sign_lives d c e ok l = record { text = c ∷ l.text; value = l.value; apart = e; bytes = (ok, l.bytes); reads = (l.text, refl, ([], l.text, refl, tt, l.apart, l.reads)) }
 
@@ -205,9 +202,6 @@ nonzero_lives {F} d e lives = let l = lives 1 in record {
 
 pub below_lives : {A : Type 0} (F : ℕ → Rel A) → ((m : ℕ) → Lives is_space (F m)) → Lives is_digit (Lit (47 ∷ []) (Nonzero 4 0 (λ m. Tail (F m))))
 below_lives F lives = lit_lives is_digit 47 [] refl refl (begins (nonzero_lives is_space refl (λ m. tail_lives is_digit refl (lives m))))
-
-pub ratio_lives : {A : Type 0} {F : ℕ → ℕ → Rel A} (d : ℕ → Bool) → d 48 ≡ false → ((n m : ℕ) → Lives is_space (F n m)) → Lives d (Ratio F)
-ratio_lives {F} d e lives = digits_lives d 3 e (λ x. below_lives (F (digits 0 x)) (lives (digits 0 x)))
 
 pub below_answers : {A : Type 0} (v : ℕ) (F : ℕ → Rel A) (k : ℕ → ℕ → List ℕ → Result A ℕ) → ((m : ℕ) → Lives is_space (F m)) → (s : List ℕ) → ((m : ℕ) (t : List ℕ) → length t ≤ length s → Answers (F m) t (k v m t)) → Answers (Lit (47 ∷ []) (Nonzero 4 0 (λ m. Tail (F m)))) s (below_at v s >>= λ r. k r.0 r.1 r.2)
 unfolding below_at

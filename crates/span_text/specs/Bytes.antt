@@ -9,9 +9,6 @@ tab = 9
 abbrev pub newline : ℕ
 newline = 10
 
-abbrev pub carriage_return : ℕ
-carriage_return = 13
-
 abbrev pub space : ℕ
 space = 32
 

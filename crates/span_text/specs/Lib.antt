@@ -7,7 +7,6 @@ pub mod GivesOrMemory
 pub mod Language
 pub mod Lines
 pub mod Loops
-pub mod Maps
 pub mod Multiples
 pub mod NextTokens
 pub mod Objects

@@ -45,7 +45,7 @@ value_only F = or_only is_word (Name (λ n. F (object.Name n))) (Number (λ n. F
     digit_word : (b : ℕ) → is_digit b ≡ true → is_word b ≡ true
     digit_word b l = grind (arith, nat_tests)
 
-digit_no_letter : (b : ℕ) → is_digit b ≡ true → is_letter b ≡ false
+pub digit_no_letter : (b : ℕ) → is_digit b ≡ true → is_letter b ≡ false
 digit_no_letter b h = grind (arith, nat_tests)
 
 word_no_minus : (b : ℕ) → is_word b ≡ true → is_minus b ≡ false

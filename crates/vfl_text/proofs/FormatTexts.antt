@@ -31,7 +31,7 @@ object_no_space (object.Number (pos n)) s is = number_apart is_space digit_no_sp
 object_no_space (object.Number (negsuc n)) s is = refl
 object_no_space (object.Name n) s is = name_apart is_space letter_no_space n s is
 
-value_is_object : (o : Meant) → IsValue o → IsObject o
+pub value_is_object : (o : Meant) → IsValue o → IsObject o
 value_is_object (object.Number (pos n)) is = is
 value_is_object (object.Number (negsuc n)) is = absurd is
 value_is_object (object.Name n) is = is

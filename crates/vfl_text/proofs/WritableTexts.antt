@@ -1,6 +1,6 @@
 -- What a text means can be written.
 use Rattle.std.proofs.Common.{◌≡◌, ℕ, zero, suc, pos, ◌+◌, ◌-◌, ◌*◌, ◌<◌, ◌≤◌, ◌^◌, true, List, [], ◌∷◌, ◌++◌, length, Option, Some, None, inl, inr, sym, subst, arith, length-append}
-use Rattle.std.specs.Prelude.{negsuc, neg_ℤ}
+use Rattle.std.specs.Prelude.{neg_ℤ}
 use Rattle.std.proofs.Math.Nat.{pow-succ', pow-le-pow_right, mul-le-mul_right}
 use Rattle.std.proofs.lemmas.Bool.Decides.{nat_tests}
 use Rattle.problem_core.specs.declared.parts.Rel as relation
@@ -17,6 +17,7 @@ use Rattle.vfl_text.specs.declared.parts.Axis.TheVariants as axis
 use Rattle.vfl_text.specs.Formats.{PredMeaning, SpacingMeaning, Flush, Standard, Given, ItemMeaning, FormatMeaning}
 use Rattle.vfl_text.specs.Grammar.{relations, Value, Object, pred, Priority, Ruled, Pred, PredRound, Preds, item, View, single, Spaced, Connection, with_item, with_end, Next, Round, Orientation, FromParent, started, FormatText}
 use Rattle.vfl_text.specs.Writable.{IsName, IsObject, IsValue, IsPred, ArePreds, IsSpacing, AreSpacings, IsEnd, AreItems, IsWritable}
+use Rattle.vfl_text.proofs.FormatTexts.{value_is_object}
 
 -- A text of a construct whose value has the property, and what follows.
 abbrev Holds : {A B : Type 0} → (A → Type 0) → (A → Rel B) → B → Type 0
@@ -62,11 +63,6 @@ number_holds F s v (b, t, e, c, (x, u, f, a, k, q, inr (m, (n, (g2, h2, i2, j2, 
 value_holds : {A : Type 0} (F : Meant → Rel A) (s : List ℕ) (v : A) → Value F s v → Holds IsValue F v
 value_holds F s v (inl h) = let (n, t, is, rest) = name_holds (λ n. F (object.Name n)) s v h in (object.Name n, t, is, rest)
 value_holds F s v (inr h) = let (n, t, is, rest) = number_holds (λ n. F (object.Number (pos n))) s v h in (object.Number (pos n), t, is, rest)
-
-value_is_object : (o : Meant) → IsValue o → IsObject o
-value_is_object (object.Number (pos n)) is = is
-value_is_object (object.Number (negsuc n)) is = absurd is
-value_is_object (object.Name n) is = is
 
 negative_is : (n : ℕ) → n < 10 ^ 9 → IsObject (object.Number (neg_ℤ (pos n)))
 negative_is zero h = omega arith

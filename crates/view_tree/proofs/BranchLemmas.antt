@@ -95,7 +95,7 @@ or-left : (a b : Bool) → (a || b) ≡ false → a ≡ false
 or-left true b h = absurd (true≢false h)
 or-left false b h = refl
 
-or-right : (a b : Bool) → (a || b) ≡ false → b ≡ false
+pub or-right : (a b : Bool) → (a || b) ≡ false → b ≡ false
 or-right true b h = absurd (true≢false h)
 or-right false b h = h
 

@@ -12,6 +12,7 @@ use Rattle.view_tree.specs.Drops.{AreGoing, goes, is_among}
 use Rattle.view_tree.specs.Nodes.{AreKept, live_view, tree_of}
 use Rattle.view_tree.specs.Views.{AreAbove, HasParent, IsAtDepth, IsTree, LiveView, ViewTree, view_of, window}
 use Rattle.view_tree.specs.declared.tree.Node.{Node}
+use Rattle.view_tree.proofs.BranchLemmas.{or-right}
 
 -- ---- numbers among others
 
@@ -24,11 +25,11 @@ other-back n m less = grind (arith, common_steps, less)
 same : (n : ℕ) → nat_eq n n ≡ true
 same n = grind (arith, common_steps)
 
-or-false : (b : Bool) → (b || false) ≡ b
+pub or-false : (b : Bool) → (b || false) ≡ b
 or-false true = refl
 or-false false = refl
 
-or-assoc : (a b c : Bool) → (a || (b || c)) ≡ ((a || b) || c)
+pub or-assoc : (a b c : Bool) → (a || (b || c)) ≡ ((a || b) || c)
 or-assoc true b c = refl
 or-assoc false b c = refl
 
@@ -124,7 +125,7 @@ module _ (root : ℕ) where
 
 -- ---- what is left
 
-pairs-tail : {X : Type 0} (R : X → X → Type 0) (x : X) (xs : List X) → AllPairs R (x ∷ xs) → AllPairs R xs
+pub pairs-tail : {X : Type 0} (R : X → X → Type 0) (x : X) (xs : List X) → AllPairs R (x ∷ xs) → AllPairs R xs
 pairs-tail R x xs h i j d less within = h (suc i) (suc j) d (omega (arith, less)) (omega (arith, within))
 
 pairs-map : {X Y : Type 0} (f : X → Y) (R : Y → Y → Type 0) (xs : List X) → AllPairs (λ x y. R (f x) (f y)) xs → AllPairs R (map f xs)
@@ -134,12 +135,12 @@ pairs-map f R (x ∷ xs) h =
     (All-map (R (f x)) f xs (λ k d within. h zero (suc k) d (omega arith) (omega (arith, within))))
     (pairs-map f R xs (pairs-tail (λ x y. R (f x) (f y)) x xs h))
 
-pairs-unmapped : {X Y : Type 0} (f : X → Y) (R : Y → Y → Type 0) (xs : List X) → AllPairs R (map f xs) → AllPairs (λ x y. R (f x) (f y)) xs
+pub pairs-unmapped : {X Y : Type 0} (f : X → Y) (R : Y → Y → Type 0) (xs : List X) → AllPairs R (map f xs) → AllPairs (λ x y. R (f x) (f y)) xs
 pairs-unmapped f R xs h i j d less within =
     subst (λ (y : _). R (f (get_or xs i d)) y) (get_or-map f xs j d (f d) within)
     (subst (λ (y : _). R y (get_or (map f xs) j (f d))) (get_or-map f xs i d (f d) (omega (arith, less, within))) (h i j (f d) less (omega (arith, within, length-map xs f))))
 
-shorter : {X : Type 0} (p : X → Bool) (xs : List X) → length (filter p xs) ≤ length xs
+pub shorter : {X : Type 0} (p : X → Bool) (xs : List X) → length (filter p xs) ≤ length xs
 shorter p [] = omega arith
 shorter p (x ∷ xs) = by (p x) (shorter p xs)
   where
@@ -235,10 +236,6 @@ found-each P id (w ∷ views) v is h = by (nat_eq w.id id) refl is (λ e. found-
         let here : w ≡ v = ap (λ o. unwrap_or o w) e in
         (subst P here h.0, sym (ap (λ (u : LiveView). u.id) here) ∙ eqb-true w.id id alike)
     by false unlike e rest = rest e
-
-or-right : (a b : Bool) → (a || b) ≡ false → b ≡ false
-or-right true b h = absurd (true≢false h)
-or-right false b h = h
 
 module _ (views : List LiveView) (root : ℕ) (gone : List ℕ) (are : AreGoing views root gone) where
   closed-at : (id p : ℕ) (o : Option LiveView) → view_of views id ≡ o → option_map (λ v. v.parent) o ≡ Some (Some p) → is_among gone id ≡ false → is_among gone p ≡ false

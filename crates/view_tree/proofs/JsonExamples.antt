@@ -26,7 +26,7 @@ bare = record { views = window ∷ []; next = 1 }
 abbrev gap : List (List ℕ × Fraction)
 gap = (codes "gap", record { num = pos 8; den = 1 }) ∷ []
 
-small : (bs : List ℕ) → list_all (λ b. nat_lt b 128) bs ≡ true → AllByRecursion (λ b. b < 128) bs
+pub small : (bs : List ℕ) → list_all (λ b. nat_lt b 128) bs ≡ true → AllByRecursion (λ b. b < 128) bs
 small [] h = tt
 small (b ∷ bs) h = by (nat_lt b 128) refl h (small bs)
   where
@@ -34,7 +34,7 @@ small (b ∷ bs) h = by (nat_lt b 128) refl h (small bs)
     by true e h rest = (grind (arith, nat_tests, e), rest h)
     by false e h rest = absurd (true≢false (sym h))
 
-ascii : (bs : List ℕ) → list_all (λ b. nat_lt b 128) bs ≡ true → IsUtf8 bs
+pub ascii : (bs : List ℕ) → list_all (λ b. nat_lt b 128) bs ≡ true → IsUtf8 bs
 ascii bs h = IsUtf8-from_ascii bs (IsAscii-from_all bs (All-from_recursion (λ b. b < 128) bs (small bs h)))
 
 -- the one value of a text
@@ -49,14 +49,14 @@ open_array = codes "["
 abbrev empty_object : List ℕ
 empty_object = codes "{}"
 
-abbrev two_views : List ℕ
+abbrev pub two_views : List ℕ
 two_views = codes "{\"name\":\"p\",\"children\":[{\"name\":\"q\"}]}"
 
 -- its value and its tree
-abbrev two_value : Data
+abbrev pub two_value : Data
 two_value = object (member (codes "children") (array (item (object (member (codes "name") (string (codes "q")) no_members)) no_items)) (member (codes "name") (string (codes "p")) no_members))
 
-abbrev two_tree : JsonTree
+abbrev pub two_tree : JsonTree
 two_tree = record { place = codes "window"; branch = branch (codes "p") (more (branch (codes "q") no_branches) no_branches) }
 
 read_open : read open_array ≡ None

@@ -18,13 +18,12 @@ use Rattle.serde_json.specs.Data.{Data}
 use Rattle.view_tree.specs.JsonStops.{AreFree, AreShort, GoesIn, IsFirstHeld, IsGrown, IsWithin, MayStayOut, PassesTreeLimit, has_room, is_held}
 use Rattle.view_tree.specs.JsonTrees.{IsJson, IsTreeText, JsonTree, names, size, tree_of}
 use Rattle.view_tree.specs.Plans.{AreNew, IsPlanOf, grown, names_of_plan, number_of, pair_of, pairs_of}
-use Rattle.view_tree.specs.Stops.{IsNewView, MayStop, PassesLimit}
+use Rattle.view_tree.specs.Stops.{IsNewView, PassesLimit}
 use Rattle.view_tree.specs.Views.{AreAbove, IsAtDepth, IsTree, LiveView, ViewTree, view_named, view_of, with_view}
-use Rattle.view_tree.specs.declared.stops.TreeStop.{TreeStop}
 use Rattle.view_tree.specs.declared.stops.TreeStop.TheVariants as stop
 use Rattle.view_tree.specs.declared.plan.Plan.{Plan}
 use Rattle.view_tree.specs.declared.plan.Planned.{Planned}
-use Rattle.view_tree.proofs.BranchLemmas.{AreNew-pairs, grown-pairs, length-pairs, names-pairs, room_for}
+use Rattle.view_tree.proofs.BranchLemmas.{AreNew-pairs, grown-pairs, length-pairs, names-pairs, room_for, or-right}
 use Rattle.view_tree.proofs.ViewLemmas.{IsAtDepth-unique}
 
 -- ---- names
@@ -47,10 +46,6 @@ module _ (t : ViewTree) (metrics : List (List ℕ × Fraction)) where
   AreFree-push before [] n h free = (subst (λ ns. is_held t metrics ns n ≡ false) (append-nil before) free, tt)
   AreFree-push before (x ∷ xs) n h free = (h.0, AreFree-push (before ++ x ∷ []) xs n h.1 (subst (λ ns. is_held t metrics ns n ≡ false) (sym (append_assoc before (x ∷ []) xs)) free))
 
-right : (a b : Bool) → (a || b) ≡ false → b ≡ false
-right true b h = absurd (true≢false h)
-right false b h = h
-
 nowhere : (p : List ℕ → Bool) (xs : List (List ℕ)) → list_any p xs ≡ false → length xs ≤ position_or_len p xs
 nowhere p [] h = omega arith
 nowhere p (x ∷ xs) h =
@@ -71,7 +66,7 @@ names_push (e ∷ es) n v = ap (λ ns. e.0 ∷ ns) (names_push es n v)
 pub absent : (t : ViewTree) (metrics : List (List ℕ × Fraction)) (before : List (List ℕ)) (n : List ℕ) → is_held t metrics before n ≡ false → position (bytes_eq n) before ≡ None
 absent t metrics before n h =
     let metric : Bool = is_some (value_of metrics n) in
-    let others : list_any (bytes_eq n) before ≡ false = right metric (list_any (bytes_eq n) before) (right (is_some (view_named t.views n)) (metric || list_any (bytes_eq n) before) h) in
+    let others : list_any (bytes_eq n) before ≡ false = or-right metric (list_any (bytes_eq n) before) (or-right (is_some (view_named t.views n)) (metric || list_any (bytes_eq n) before) h) in
     let past : length before ≤ position_or_len (bytes_eq n) before = nowhere (bytes_eq n) before others in
     grind (arith, common_steps, past)
 
@@ -86,15 +81,6 @@ name_at (p ∷ ps) (suc i) d h =
 
 pub names_more : (ps : List Planned) (i : ℕ) (d : Planned) (before after : List (List ℕ)) → i < length ps → before ≡ take i (names_of_plan ps) → after ≡ before ++ (get_or ps i d).name.now ∷ [] → after ≡ take (i + 1) (names_of_plan ps)
 names_more ps i d before after h was is = is ∙ ap (λ ns. ns ++ (get_or ps i d).name.now ∷ []) was ∙ sym (name_at ps i d h)
-
-take_past : {X : Type 0} (xs : List X) (n : ℕ) → length xs ≤ n → take n xs ≡ xs
-take_past [] zero h = refl
-take_past [] (suc n) h = refl
-take_past (x ∷ xs) zero h = absurd (omega (arith, h))
-take_past (x ∷ xs) (suc n) h = ap (λ ys. x ∷ ys) (take_past xs n (omega (arith, h)))
-
-pub names_all : (ps : List Planned) (i : ℕ) → length ps ≤ i → take i (names_of_plan ps) ≡ names_of_plan ps
-names_all ps i h = take_past (names_of_plan ps) i (omega (arith, h, length-map ps (λ (p : Planned). p.name.now)))
 
 names_split : (ps : List Planned) (i : ℕ) (d : Planned) → i < length ps → names_of_plan ps ≡ take i (names_of_plan ps) ++ (get_or ps i d).name.now ∷ drop (suc i) (names_of_plan ps)
 names_split [] i d h = absurd (omega (arith, h))
@@ -119,12 +105,6 @@ pairs_left (p ∷ ps) zero d h = refl
 pairs_left (p ∷ ps) (suc i) d h =
     let one_more : suc (i + 1) ≡ suc i + 1 = omega arith in
     pairs_left ps i d (omega (arith, h)) ∙ ap (λ n. pair_of (get_or ps i d) ∷ drop n (pairs_of (p ∷ ps))) one_more
-
-pub pairs_end : (ps : List Planned) (i : ℕ) → length ps ≤ i → drop i (pairs_of ps) ≡ []
-pairs_end [] zero h = refl
-pairs_end [] (suc i) h = refl
-pairs_end (p ∷ ps) zero h = absurd (omega (arith, h))
-pairs_end (p ∷ ps) (suc i) h = pairs_end ps i (omega (arith, h))
 
 -- the next view may be added, and those after it then
 pub record Next (u : ViewTree) (ps : List Planned) (i : ℕ) (p : Planned) : Type 0 where
@@ -233,28 +213,12 @@ limit_passed t name parent new Views h = true≢false (sym h.1 ∙ new.room)
 limit_passed t name parent new Depth h = omega (arith, IsAtDepth-unique t.views parent h.2.0 new.high.0 h.2.1 new.high.1, h.2.2, new.high.2)
 limit_passed t name parent new _ h = h
 
--- for want of memory alone
-pub only_memory : (t : ViewTree) (name : List ℕ) (parent : ℕ) (reason : TreeStop) → IsNewView t name parent → MayStop t name parent reason → reason ≡ stop.OutOfMemory
-only_memory t name parent stop.Syntax new h = absurd h
-only_memory t name parent stop.Shape new h = absurd h
-only_memory t name parent (stop.Unknown held) new h = absurd (true≢false (sym new.live ∙ ap is_some h.1))
-only_memory t name parent (stop.Taken held) new h = absurd (true≢false (sym h.2 ∙ ap is_some new.free))
-only_memory t name parent (stop.Limit word) new h = absurd (limit_passed t name parent new word h.2)
-only_memory t name parent stop.OutOfMemory new h = refl
-
 pub is_parent : (t : ViewTree) (up : List ℕ) (parent : ℕ) → Some parent ≡ option_map (λ v. v.id) (view_named t.views up) → number_of t up ≡ parent
 is_parent t up parent e = by (view_named t.views up) e
   where
     by : (o : Option LiveView) → Some parent ≡ option_map (λ v. v.id) o → option_map_or (λ v. v.id) o 0 ≡ parent
     by None e = absurd (none-some parent (sym e))
     by (Some v) e = ap (λ o. unwrap_or o 0) (sym e)
-
-pub no_parent : (t : ViewTree) (up : List ℕ) → IsSome (view_named t.views up) → None ≡ option_map (λ v. v.id) (view_named t.views up) → ⊥
-no_parent t up some e = by (view_named t.views up) some e
-  where
-    by : (o : Option LiveView) → IsSome o → None ≡ option_map (λ v. v.id) o → ⊥
-    by None some e = true≢false (sym some)
-    by (Some v) some e = none-some v.id e
 
 -- ---- the whole call
 

@@ -1,5 +1,5 @@
 -- The plan of a JSON value, read from its parts.
-use Rattle.std.proofs.Common.{◌≡◌, ◌==◌, ◌&&◌, ℕ, zero, suc, max, ◌<◌, ◌≤◌, Bool, true, false, cond, List, [], ◌∷◌, ◌++◌, Option, None, Some, Ordering, Less, Equal, Greater, length, drop, get_or, is_eq, nat_cmp, refl, sym, ap, ◌∙◌, true≢false, arith, append_assoc, append-nil, length-append, Result, Ok, Err, unwrap_or}
+use Rattle.std.proofs.Common.{◌≡◌, ◌==◌, ◌&&◌, ℕ, zero, suc, max, ◌<◌, ◌≤◌, Bool, true, false, cond, List, [], ◌∷◌, ◌++◌, Option, None, Some, Ordering, Less, Equal, Greater, length, get_or, is_eq, nat_cmp, refl, sym, ap, ◌∙◌, true≢false, arith, append_assoc, length-append, Result, Ok, Err, unwrap_or}
 use Rattle.std.specs.Prelude.{codes, option_map, option_and_then}
 use Rattle.std.proofs.lemmas.Bool.Decides.{nat_tests}
 use Rattle.std.proofs.lemmas.List.{map-append}
@@ -10,14 +10,14 @@ use Rattle.std.specs.List.{list_all}
 use Rattle.std.specs.Option.{option_map_or}
 use Rattle.std.specs.Ordering.{match_ordering}
 use Rattle.std.specs.Str.{bytes_eq}
-use Rattle.serde_json.specs.Data.{Data, null, boolean, number, string, array, object, Items, no_items, item, Members, no_members, member, depth, items_depth, members_depth}
+use Rattle.serde_json.specs.Data.{Data, null, boolean, number, string, array, object, Items, Members, no_members, member, depth, items_depth, members_depth}
 use Rattle.serde_json.specs.Find.{get, get_member, as_array, as_object}
 use Rattle.serde_json.specs.View.{view, items_view}
 use Rattle.serde_json.specs.declared.value.Value.{Value}
 use Rattle.span_text.specs.Classes.{is_letter, is_word}
 use Rattle.span_text.specs.Reading.{back, one_at}
 use Rattle.span_text.specs.Tokens.{raw_name_at}
-use Rattle.view_tree.specs.JsonTrees.{Branch, branch, Branches, no_branches, more, height, height_in, branch_of, children_of, elements_of, branches_of, are_members, is_name, is_member, name_under, place_of, tree_of}
+use Rattle.view_tree.specs.JsonTrees.{Branch, branch, Branches, no_branches, height_in, branch_of, children_of, elements_of, branches_of, are_members, is_name, is_member, name_under, place_of, tree_of}
 use Rattle.view_tree.specs.Plans.{pair_of, pairs, pairs_in, pairs_of}
 use Rattle.view_tree.specs.declared.plan.Planned.{Planned}
 use Rattle.view_tree.proofs.BranchLemmas.{length-pairs_in, low_in}
@@ -133,26 +133,6 @@ object_of o (object ms) name h e =
     ap (λ b. cond b (Inside (name_under (codes "name") (object ms)) ms) None) h
     ∙ ap (λ n. Inside n ms) e ∙ ap (option_map (branch name)) (children_of-get ms)
 
-pub no_object : (o : Bool) (v : Data) → option_map_or (are_members o) (as_object v) false ≡ false → branch_of o v ≡ None
-no_object o null h = refl
-no_object o (boolean b) h = refl
-no_object o (number n) h = refl
-no_object o (string s) h = refl
-no_object o (array ds) h = refl
-no_object o (object ms) h = ap (λ b. cond b (Inside (name_under (codes "name") (object ms)) ms) None) h
-
-cond_same : {X : Type 0} (b : Bool) (x y : X) → y ≡ x → cond b y x ≡ x
-cond_same true x y e = e
-cond_same false x y e = refl
-
-pub no_name : (o : Bool) (v : Data) → name_under (codes "name") v ≡ None → branch_of o v ≡ None
-no_name o null e = refl
-no_name o (boolean b) e = refl
-no_name o (number n) e = refl
-no_name o (string s) e = refl
-no_name o (array ds) e = refl
-no_name o (object ms) e = cond_same (are_members o ms) None (Inside (name_under (codes "name") (object ms)) ms) (ap (λ n. Inside n ms) e)
-
 pub object_some : (o : Bool) (v : Data) (name : List ℕ) (child : Data) (bs : Branches) → option_map_or (are_members o) (as_object v) false ≡ true → Some name ≡ name_under (codes "name") v
     → Some child ≡ get (codes "children") v → elements_of child ≡ Some bs → branch_of o v ≡ Some (branch name bs)
 object_some o v name child bs shape is has e = object_of o v name shape (sym is) ∙ ap (λ g. option_map (branch name) (option_map_or elements_of g (Some no_branches))) (sym has) ∙ ap (option_map (branch name)) e
@@ -185,52 +165,6 @@ pub record Upto (all left : Items) (parent : List ℕ) (old now : List (List ℕ
   pub some : (rest : Branches) → branches_of left ≡ Some rest
       → (whole : Branches) × (branches_of all ≡ Some whole) × (now ++ pairs_in parent rest ≡ old ++ pairs_in parent whole) × (max high (height_in rest) ≡ height_in whole)
   pub none : branches_of left ≡ None → branches_of all ≡ None
-
-pub Upto-begin : (all : Items) (parent : List ℕ) (old : List (List ℕ × List ℕ)) → Upto all all parent old old 0
-Upto-begin all parent old = record { some = λ rest e. (rest, e, refl, omega arith); none = λ e. e }
-
-pub Upto-next : (all left : Items) (d : Data) (parent : List ℕ) (old now next : List (List ℕ × List ℕ)) (high : ℕ) (b : Branch) (more_high : ℕ)
-    → Upto all (item d left) parent old now high → branch_of false d ≡ Some b → next ≡ now ++ pairs parent b → more_high ≡ max high (height b) → Upto all left parent old next more_high
-Upto-next all left d parent old now next high b more_high u is next_is high_is = record {
-  some = λ rest e.
-      (let whole = u.some (more b rest) (ap (λ o. option_and_then (λ c. option_map (more c) (branches_of left)) o) is ∙ ap (option_map (more b)) e) in (
-        whole.0,
-        whole.1,
-        ap (λ ps. ps ++ pairs_in parent rest) next_is ∙ append_assoc now (pairs parent b) (pairs_in parent rest) ∙ whole.2,
-        omega (arith, whole.3, high_is),
-      ));
-  none = λ e. u.none (ap (λ o. option_and_then (λ c. option_map (more c) (branches_of left)) o) is ∙ ap (option_map (more b)) e);
-}
-
-pub Upto-end : (all : Items) (parent : List ℕ) (old now : List (List ℕ × List ℕ)) (high : ℕ) → Upto all no_items parent old now high
-    → (whole : Branches) × (branches_of all ≡ Some whole) × (now ≡ old ++ pairs_in parent whole) × (high ≡ height_in whole)
-Upto-end all parent old now high u =
-    let whole = u.some no_branches refl in
-    (whole.0, whole.1, sym (append-nil now) ∙ whole.2, omega (arith, whole.3))
-
-pub Upto-none : (all left : Items) (d : Data) (parent : List ℕ) (old now : List (List ℕ × List ℕ)) (high : ℕ) → Upto all (item d left) parent old now high → branch_of false d ≡ None → branches_of all ≡ None
-Upto-none all left d parent old now high u e = u.none (ap (λ o. option_and_then (λ c. option_map (more c) (branches_of left)) o) e)
-
-pub items_view-drop : (vs : List Value) (i : ℕ) (d : Value) → i < length vs → items_view (drop i vs) ≡ item (view (get_or vs i d)) (items_view (drop (suc i) vs))
-items_view-drop [] i d h = absurd (omega arith)
-items_view-drop (v ∷ vs) zero d h = refl
-items_view-drop (v ∷ vs) (suc i) d h = items_view-drop vs i d (omega arith)
-
-pub elements_of-array : (v : Data) (ds : Items) → Some ds ≡ as_array v → elements_of v ≡ branches_of ds
-elements_of-array null ds e = absurd (none-some ds (sym e))
-elements_of-array (boolean b) ds e = absurd (none-some ds (sym e))
-elements_of-array (number n) ds e = absurd (none-some ds (sym e))
-elements_of-array (string s) ds e = absurd (none-some ds (sym e))
-elements_of-array (array xs) ds e = ap (λ o. branches_of (unwrap_or o xs)) (sym e)
-elements_of-array (object ms) ds e = absurd (none-some ds (sym e))
-
-pub elements_of-none : (v : Data) → None ≡ as_array v → elements_of v ≡ None
-elements_of-none null e = refl
-elements_of-none (boolean b) e = refl
-elements_of-none (number n) e = refl
-elements_of-none (string s) e = refl
-elements_of-none (array xs) e = absurd (none-some xs e)
-elements_of-none (object ms) e = refl
 
 -- the high are no more than the views
 pub low_height : (parent : List ℕ) (bs : Branches) (old now : List (List ℕ × List ℕ)) → now ≡ old ++ pairs_in parent bs → height_in bs ≤ length now

@@ -99,7 +99,7 @@ first_stays : (views more : List LiveView) (v : LiveView) → slice_get views 0 
 first_stays [] more v h = absurd (none-some v h)
 first_stays (w ∷ views) more v h = h
 
-room : (t : ViewTree) → is_full t ≡ false → (length t.views < 200) × (t.next < 2 ^ 29)
+pub room : (t : ViewTree) → is_full t ≡ false → (length t.views < 200) × (t.next < 2 ^ 29)
 room t h = grind (arith, common_steps, h)
 
 -- a live view has a number below the next one

@@ -1,6 +1,6 @@
 // What a line of a problem says by itself.
 ghost use Rattle.std.specs.Prelude.{◌≡◌, ◌∷◌, List, ℕ, All, true, IfOk, IfSome, IfNone, IsTrue, ◌↔◌};
-ghost use Rattle.span_text.specs.Words.{is_space};
+ghost use Rattle.span_text.specs.Classes.{is_space};
 ghost use Rattle.claim_text.specs.declared.problem.items.Item as item;
 ghost use Rattle.claim_text.specs.Problems.{IsPassedOver, Says};
 
