@@ -13,12 +13,12 @@ use Rattle.problem_core.specs.Corners.{IsIn, Swap, exchanged, place, place_of}
 use Rattle.problem_core.specs.Kept.{IsWhole}
 use Rattle.corner_laws.specs.Laws.{IsMarkAt}
 use Rattle.corner_laws.proofs.Unique.{same-name}
-use Rattle.corner_lines.specs.LineEquations.{IsLineEquation, IsLineSum, deviation, sign_of}
+use Rattle.corner_lines.specs.LineEquations.{IsLineSum, deviation, sign_of}
 use Rattle.corner_lines.proofs.LineWritings.{Named, at-name, mark-named, none-inside}
 use Rattle.corner_lines.proofs.LineExchanges.{resolved}
 use Rattle.corner_lines.specs.LineExchanges.{IsExchangedRow}
 use Rattle.corner_lines.proofs.LineCarried.{carried}
-use Rattle.corner_lines.proofs.LineUnfits.{reduced_line}
+use Rattle.corner_lines.proofs.LineUnfits.{reduced_line, line_sum}
 use Rattle.path_checker.specs.Numbers.{IsCombined}
 use Rattle.path_checker.specs.Tables.{line_count, numbers_of}
 use Rattle.path_checker.specs.Carried.{CarriedIsEquation, IsPivotOf, LeavingIsPivot, without}
@@ -47,10 +47,7 @@ exchanged_row p at s size by pivot out enters count is combined = record {
       (sym (without_other s.enter.row (numbers_of (lines p) pivot) (get_or (lines p) k d).name other));
 }
 
-pub line_sum : (p : Problem) (at : List Mark) (quantity : (ℕ → ℤ) → ℤ) (own : ℕ) (by : RowName → ℤ) (num : ℤ) (den : ℕ) → IsLineEquation p at quantity own by num den → IsLineSum p at quantity own by num den
-line_sum p at quantity own by num den e = record { own_positive = e.own_positive; den_positive = e.den_positive; outside = e.outside; holds = e.holds }
-
-parts_product : (a b c : ℕ) → pos (a * (b * c)) ≡ pos a *ℤ (pos b *ℤ pos c)
+pub parts_product : (a b c : ℕ) → pos (a * (b * c)) ≡ pos a *ℤ (pos b *ℤ pos c)
 parts_product a b c = refl
 
 pub carried_line_sum : (p : Problem) (at : List Mark) (s : Swap) (quantity : (ℕ → ℤ) → ℤ) (own size : ℕ) (by pivot out : List ℤ) (value enters : Fraction) → IsWhole p → IsMarkAt p (place s.enter) → IsIn (place s.leave) at → length by ≡ line_count p

@@ -13,14 +13,15 @@ use Rattle.problem_core.specs.declared.parts.Mark.{Mark}
 use Rattle.problem_core.specs.Layout.{Line, Problem, lines, sum_of}
 use Rattle.problem_core.specs.Kept.{IsWhole}
 use Rattle.problem_core.specs.Corners.{Swap, exchanged, place_of}
-use Rattle.corner_laws.proofs.LinePlaces.{AllApart, AreApart, lines_apart, sum-each}
+use Rattle.corner_laws.proofs.LinePlaces.{AllApart, AreApart, lines_apart}
 use Rattle.corner_lines.specs.LineEquations.{IsLineSum, deviation}
-use Rattle.corner_lines.proofs.LineUnfits.{reduced_line}
+use Rattle.corner_lines.proofs.LineUnfits.{reduced_line, line_sum}
 use Rattle.path_checker.specs.Numbers.{IsReplaced, number_at}
 use Rattle.path_checker.specs.Tables.{line_count, name_at, numbers_of}
 use Rattle.path_checker.specs.Carried.{EnteringIsEquation, IsPivotOf, without}
 use Rattle.path_checker.proofs.NumbersOf.{number_here, number_later, reduced_numbers}
-use Rattle.path_checker.proofs.CarriedSums.{line_sum, without_here, without_other}
+use Rattle.path_checker.proofs.CarriedSums.{without_here, without_other}
+use Rattle.problem_core.proofs.Conflicts.{sum-each}
 
 -- ---- numbers and names at a place
 

@@ -6,7 +6,7 @@ use Rattle.problem_core.specs.declared.parts.Side.{Side}
 use Rattle.problem_core.specs.declared.parts.Side.TheVariants.{Under, Over}
 use Rattle.problem_core.specs.Layout.{Problem, lines}
 use Rattle.problem_core.specs.Corners.{IsExchange, IsIn, place_of}
-use Rattle.corner_lines.specs.LineEquations.{IsOutsideLine, other_side}
+use Rattle.corner_lines.specs.LineEquations.{other_side}
 use Rattle.corner_lines.proofs.LineMoves.{line_is_exchange, turn_is_exchange}
 use Rattle.path_checker.specs.declared.spots.Step.{Step}
 use Rattle.path_checker.specs.declared.table.Inside.{Inside}
@@ -14,16 +14,13 @@ use Rattle.path_checker.specs.Numbers.{number_at}
 use Rattle.path_checker.specs.Tables.{IsLineAt, IsThere, line_count, name_at, numbers_of, swap_of}
 use Rattle.path_checker.proofs.Bringing.{exchange_needs_number, one_mark_of_line}
 use Rattle.path_checker.proofs.Places.{mark_is_there, names_differ, number_there}
+use Rattle.corner_lines.proofs.LineWritings.{no-side}
 
 other_from : (a b : Side) → a ≢ b → a ≡ other_side b
 other_from Under Under ne = absurd (ne refl)
 other_from Under Over ne = refl
 other_from Over Under ne = refl
 other_from Over Over ne = absurd (ne refl)
-
-pub side_out : (at : List Mark) (name : RowName) (side : Side) → IsOutsideLine at name → IsIn (place_of name side) at → ⊥
-side_out at name Under out = out.under
-side_out at name Over out = out.over
 
 -- only one mark of an inside line is inside
 pub one_side : (p : Problem) (at : List Mark) (name : RowName) (a b : Side) → IsThere p at → IsIn (place_of name a) at → IsIn (place_of name b) at → a ≡ b
@@ -55,7 +52,7 @@ other_iff p at step inside there enter leave side line other =
     )
 
 pub none_leaves : (p : Problem) (at : List Mark) (step : Step) → IsLineAt p at (name_at p step.leave.at) None → IsExchange p at (swap_of p step) → ⊥
-none_leaves p at step out ex = side_out at (name_at p step.leave.at) step.leave.side out ex.leaves
+none_leaves p at step out ex = no-side at (name_at p step.leave.at) step.leave.side out ex.leaves
 
 pub other_leaves : (p : Problem) (at : List Mark) (step : Step) (inside : Inside) → IsThere p at → inside.side ≢ step.leave.side → IsLineAt p at (name_at p step.leave.at) (Some inside) → IsExchange p at (swap_of p step) → ⊥
 other_leaves p at step inside there ne line ex = ne (one_side p at (name_at p step.leave.at) inside.side step.leave.side there line.0 ex.leaves)

@@ -15,16 +15,9 @@ use Rattle.corner_lines.proofs.JoinedRows.{joined_corner, joined_rays}
 use Rattle.corner_lines.proofs.NewStays.{attr_corner, attr_rays}
 use Rattle.path_checker.specs.Tables.{IsThere}
 use Rattle.path_checker.specs.Laws.{BeginsThere}
+use Rattle.path_checker.proofs.WaySteps.{joined, with_none}
 
 -- ---- first parts of lists
-
-one_moved : {X : Type 0} (xs : List X) (y : X) (ys : List X) → (xs ++ y ∷ []) ++ ys ≡ xs ++ y ∷ ys
-one_moved [] y ys = refl
-one_moved {X = X} (x ∷ xs) y ys = ap (λ (zs : List X). x ∷ zs) (one_moved xs y ys)
-
-none_more : {X : Type 0} (xs : List X) → xs ++ [] ≡ xs
-none_more [] = refl
-none_more {X = X} (x ∷ xs) = ap (λ (zs : List X). x ∷ zs) (none_more xs)
 
 each_first : {X : Type 0} (P : X → Type 0) (xs ys : List X) → Each P (xs ++ ys) → Each P xs
 each_first P [] ys all = tt
@@ -80,13 +73,13 @@ nothing_there whole = record {
 }
 
 stays_there : (xs ys : List Stay) → IsWhole (record { rows = []; stays = xs ++ ys }) → IsThere (record { rows = []; stays = xs }) [] → IsThere (record { rows = []; stays = xs ++ ys }) []
-stays_there xs [] whole there = subst (λ (ss : List Stay). IsThere (record { rows = []; stays = ss }) []) (sym (none_more xs)) there
+stays_there xs [] whole there = subst (λ (ss : List Stay). IsThere (record { rows = []; stays = ss }) []) (sym (with_none xs)) there
 stays_there xs (y ∷ ys) whole there =
-    let more : IsWhole (record { rows = []; stays = (xs ++ y ∷ []) ++ ys }) = subst (λ (ss : List Stay). IsWhole (record { rows = []; stays = ss })) (sym (one_moved xs y ys)) whole in
+    let more : IsWhole (record { rows = []; stays = (xs ++ y ∷ []) ++ ys }) = subst (λ (ss : List Stay). IsWhole (record { rows = []; stays = ss })) (sym (joined xs y ys)) whole in
     let stay : IsStay y = each_last IsStay xs y ys (recursion_from_All IsStay (xs ++ y ∷ ys) whole.stays) in
     let fresh : HasStay xs y.attr → ⊥ = pairs_last xs y ys whole.apart in
     let old : IsWhole (record { rows = []; stays = xs }) = whole_stays xs (y ∷ ys) whole in
-    subst (λ (ss : List Stay). IsThere (record { rows = []; stays = ss }) []) (one_moved xs y ys)
+    subst (λ (ss : List Stay). IsThere (record { rows = []; stays = ss }) []) (joined xs y ys)
     (stays_there (xs ++ y ∷ []) ys more (record {
       whole = whole_stays (xs ++ y ∷ []) ys more;
       corner = attr_corner (record { rows = []; stays = xs }) [] y.attr y.target old stay.attr fresh stay.target.lowest.above there.corner;
@@ -112,11 +105,11 @@ overs_more (x ∷ xs) y = ap (λ (ms : List Mark). over_mark x.id ∷ ms) (overs
 
 rows_there : (xs ys : List Row) (stays : List Stay) → IsWhole (record { rows = xs ++ ys; stays = stays }) → IsThere (record { rows = xs; stays = stays }) (map (λ (r : Row). over_mark r.id) xs)
     → IsThere (record { rows = xs ++ ys; stays = stays }) (map (λ (r : Row). over_mark r.id) (xs ++ ys))
-rows_there xs [] stays whole there = subst (λ (rs : List Row). IsThere (record { rows = rs; stays = stays }) (map (λ (r : Row). over_mark r.id) rs)) (sym (none_more xs)) there
+rows_there xs [] stays whole there = subst (λ (rs : List Row). IsThere (record { rows = rs; stays = stays }) (map (λ (r : Row). over_mark r.id) rs)) (sym (with_none xs)) there
 rows_there xs (y ∷ ys) stays whole there =
-    let more : IsWhole (record { rows = (xs ++ y ∷ []) ++ ys; stays = stays }) = subst (λ (rs : List Row). IsWhole (record { rows = rs; stays = stays })) (sym (one_moved xs y ys)) whole in
+    let more : IsWhole (record { rows = (xs ++ y ∷ []) ++ ys; stays = stays }) = subst (λ (rs : List Row). IsWhole (record { rows = rs; stays = stays })) (sym (joined xs y ys)) whole in
     let next : IsWhole (record { rows = xs ++ y ∷ []; stays = stays }) = whole_rows (xs ++ y ∷ []) ys stays more in
-    subst (λ (rs : List Row). IsThere (record { rows = rs; stays = stays }) (map (λ (r : Row). over_mark r.id) rs)) (one_moved xs y ys)
+    subst (λ (rs : List Row). IsThere (record { rows = rs; stays = stays }) (map (λ (r : Row). over_mark r.id) rs)) (joined xs y ys)
     (rows_there (xs ++ y ∷ []) ys stays more
     (subst (λ (ms : List Mark). IsThere (record { rows = xs ++ y ∷ []; stays = stays }) ms) (overs_more xs y) (record {
       whole = next;

@@ -26,7 +26,7 @@ use Rattle.corner_laws.proofs.LinePlaces.{lines_apart, sum-single}
 use Rattle.corner_laws.proofs.Unique.{same-name}
 use Rattle.corner_lines.specs.LineEquations.{IsLineEquation, IsLineSum, IsOutsideLine, deviation}
 use Rattle.corner_lines.specs.Joins.{AreAdded}
-use Rattle.corner_lines.proofs.JoinedLines.{added, goes_on, no_terms, past-terms, plain-terms, same-sum}
+use Rattle.corner_lines.proofs.JoinedLines.{added, goes_on, no_terms, past-terms, plain-terms, same-sum, same-writing}
 use Rattle.corner_lines.proofs.LineUnfits.{line_sum, line_unfit, mark_unfit}
 use Rattle.path_checker.specs.FirstLines.{AreFirstLines, HasUnfitTerms, IsRowOf, IsTermsSum}
 use Rattle.path_checker.specs.Numbers.{number_at}
@@ -45,7 +45,7 @@ row_line [] ls k d r within = absurd (omega (arith, within))
 row_line (x ∷ rows) ls zero d r within = refl
 row_line (x ∷ rows) ls (suc k) d r within = row_line rows ls k d r (omega (arith, within))
 
-later_line : (rows : List Row) (ls : List Line) (i : ℕ) (d : Line) → get_or (map line_of_row rows ++ ls) (length rows + i) d ≡ get_or ls i d
+pub later_line : (rows : List Row) (ls : List Line) (i : ℕ) (d : Line) → get_or (map line_of_row rows ++ ls) (length rows + i) d ≡ get_or ls i d
 later_line rows ls i d = ap (λ (n : ℕ). get_or (map line_of_row rows ++ ls) (n + i) d) (sym (length-map rows line_of_row)) ∙ get_or-append-add (map line_of_row rows) ls i d
 
 stay_line : (level : ℕ) (stays : List Stay) (i : ℕ) (d : Line) (s : Stay) → i < length stays → (k : ℕ) × (get_or (stay_lines level stays) i d ≡ line_of_stay k (get_or stays i s))
@@ -104,13 +104,13 @@ all_over p id k d within le = over_in p k d within
 abbrev pub units : Problem → ℕ → RowName → ℤ
 units p k name = cond (nat_eq (place_of name Under) (place_of (name_at p k) Under)) (pos 1) (pos 0)
 
-abbrev unit_times : (ℕ → ℤ) → RowName → Line → ℤ
+abbrev pub unit_times : (ℕ → ℤ) → RowName → Line → ℤ
 unit_times x name l = cond (nat_eq (place_of l.name Under) (place_of name Under)) (pos 1) (pos 0) *ℤ deviation l.name x
 
 one_times : (z : ℤ) → pos 1 *ℤ z ≡ z
 one_times z = omega (arith, ints)
 
-sum_of_unit : (p : Problem) (k : ℕ) (x : ℕ → ℤ) → IsWhole p → k < line_count p → sum_of (λ l. units p k l.name *ℤ deviation l.name x) (lines p) ≡ deviation (name_at p k) x
+pub sum_of_unit : (p : Problem) (k : ℕ) (x : ℕ → ℤ) → IsWhole p → k < line_count p → sum_of (λ l. units p k l.name *ℤ deviation l.name x) (lines p) ≡ deviation (name_at p k) x
 sum_of_unit p k x whole within =
     let each = sum-single (λ (m l : Line). unit_times x m.name l) (λ m l apart. ap (λ (z : ℤ). z *ℤ deviation l.name x) (cond_other (place_of l.name Under) (place_of m.name Under) (pos 1) (λ e. apart.under_under (sym e))) ∙ zero-mul_ℤ (deviation l.name x)) (lines p) (lines_apart p whole) in
     let here : sum_of (unit_times x (get_or (lines p) k any_line).name) (lines p) ≡ unit_times x (get_or (lines p) k any_line).name (get_or (lines p) k any_line) =
@@ -121,13 +121,13 @@ sum_of_unit p k x whole within =
     ∙ one_times (deviation (get_or (lines p) k any_line).name x)
     ∙ ap (λ (n : RowName). deviation n x) name
 
-units_here : (p : Problem) (k : ℕ) (name : RowName) → name ≡ name_at p k → units p k name ≡ pos 1
+pub units_here : (p : Problem) (k : ℕ) (name : RowName) → name ≡ name_at p k → units p k name ≡ pos 1
 units_here p k name e = cond_same (place_of name Under) (place_of (name_at p k) Under) (pos 1) (ap (λ (n : RowName). place_of n Under) e)
 
-units_other : (p : Problem) (k : ℕ) (name : RowName) → name ≢ name_at p k → units p k name ≡ pos 0
+pub units_other : (p : Problem) (k : ℕ) (name : RowName) → name ≢ name_at p k → units p k name ≡ pos 0
 units_other p k name ne = cond_other (place_of name Under) (place_of (name_at p k) Under) (pos 1) (λ e. ne (same-name name (name_at p k) e))
 
-units_outside : (p : Problem) (at : List Mark) (k : ℕ) (name : RowName) → IsOutsideLine at (name_at p k) → units p k name ≢ pos 0 → IsOutsideLine at name
+pub units_outside : (p : Problem) (at : List Mark) (k : ℕ) (name : RowName) → IsOutsideLine at (name_at p k) → units p k name ≢ pos 0 → IsOutsideLine at name
 units_outside p at k name out some =
     elim (cases_eq (place_of name Under) (place_of (name_at p k) Under)) [
       | inl e ↦ subst (IsOutsideLine at) (sym (same-name name (name_at p k) e)) out
@@ -161,7 +161,7 @@ attr_sum p i s whole within =
 
 -- ---- one term more
 
-abs_sum : (x y : ℤ) (m n : ℕ) → unsigned_abs x ≤ m → unsigned_abs y ≤ n → unsigned_abs (x +ℤ y) ≤ m + n
+pub abs_sum : (x y : ℤ) (m n : ℕ) → unsigned_abs x ≤ m → unsigned_abs y ≤ n → unsigned_abs (x +ℤ y) ≤ m + n
 abs_sum (pos x) (pos y) m n h k = omega (arith, ints, h, k)
 abs_sum (pos x) (negsuc y) m n h k = omega (arith, ints, h, k)
 abs_sum (negsuc x) (pos y) m n h k = omega (arith, ints, h, k)
@@ -246,7 +246,7 @@ sum_unfit p q by num den there sum unfit =
     line_unfit p (over_marks p) q 1 by num den there.whole there.corner there.rays sum
     (λ low part value reduced ratio low_fits part_fit kept. unfit value kept.lowest ratio kept.fits)
 
-den_above : (a b : ℕ) → 0 < a → 0 < b → 0 < a * (1 * b)
+pub den_above : (a b : ℕ) → 0 < a → 0 < b → 0 < a * (1 * b)
 den_above a b h k = mul-pos h (let o : 0 < 1 * b = omega (arith, k) in o)
 
 pub one_term_unfit : (p : Problem) (r : Row) (j i : ℕ) (d : Term) (s : Stay) (by : List ℤ) (value : Fraction) → IsWhole p → IsRowOf p r → j < length r.terms → i < length p.stays
@@ -283,14 +283,14 @@ no_terms_yet p r by count zeros = record {
 
 -- ---- the constant
 
-nothing_moves : (p : Problem) (x : ℕ → ℤ) → sum_of (λ l. pos 0 *ℤ deviation l.name x) (lines p) ≡ pos 0
+pub nothing_moves : (p : Problem) (x : ℕ → ℤ) → sum_of (λ l. pos 0 *ℤ deviation l.name x) (lines p) ≡ pos 0
 nothing_moves p x = sum-zero (λ l. pos 0 *ℤ deviation l.name x) (lines p) (all_zero (lines p))
   where
     all_zero : (ls : List Line) → Each (λ l. pos 0 *ℤ deviation l.name x ≡ pos 0) ls
     all_zero [] = tt
     all_zero (l ∷ ls) = (zero-mul_ℤ (deviation l.name x), all_zero ls)
 
-take_all : (ts : List Term) → take (length ts) ts ≡ ts
+pub take_all : (ts : List Term) → take (length ts) ts ≡ ts
 take_all [] = refl
 take_all (t ∷ ts) = ap (λ (us : List Term). t ∷ us) (take_all ts)
 
@@ -364,15 +364,6 @@ row_sum p r by value sum whole held row is own_is by_is lowest ratio =
       });
     }
 
-same_writing : (p : Problem) (at : List Mark) (q u : (ℕ → ℤ) → ℤ) → ((x : ℕ → ℤ) → q x ≡ u x) → HasNoWriting p at q → HasNoWriting p at u
-same_writing p at q u same none scale form value w = none scale form value (record {
-  scale_positive = w.scale_positive;
-  den_positive = w.den_positive;
-  outside = w.outside;
-  holds = λ x solves. ap (λ (z : ℤ). pos value.den *ℤ (pos scale *ℤ z -ℤ value_at x.num form)) (same x.num) ∙ w.holds x solves;
-  lowest = w.lowest;
-})
-
 over_here : (p : Problem) (r : Row) → IsRowOf p r → IsIn (place (over_mark r.id)) (over_marks p)
 over_here p r held = at_row p r (λ (t : Row). IsIn (place (over_mark t.id)) (over_marks p)) (λ k within. over_in p k r within) held
 
@@ -386,7 +377,7 @@ row_unfit p r by value whole held row is unfit =
     last_sum p r by value num den whole held is (den_above value.den r.constant.den is.sum.den_positive row.constant.lowest.above) refl in (
       length r.terms + 1,
       unfit_terms p r (length r.terms + 1) held (omega arith) (omega arith)
-          (same_writing p (over_marks p) (λ x. x (place (over_mark r.id))) (first_terms r (length r.terms + 1)) (λ x. sym (past-terms r x))
+          (same-writing p (over_marks p) (λ x. x (place (over_mark r.id))) (first_terms r (length r.terms + 1)) (λ x. sym (past-terms r x))
           (mark_unfit p (over_marks p) (Held r.id) Over 1 (numbers_of (lines p) by) num den whole there.corner there.rays (over_here p r held) line
           (λ low part value reduced ratio low_fits part_fit kept. unfit value kept.lowest ratio kept.fits))),
     )
@@ -457,6 +448,3 @@ lines_sized p at kept lines k d within =
     sized_line : (name : RowName) (o : Option Inside) → IsLineAt p at name o → IsSizedLine (length kept) o
     sized_line name None h = tt
     sized_line name (Some inside) h = subst (λ (n : ℕ). IsSized n inside.sum) (sym lines.count) h.1.sized
-
-pub row_here : (p : Problem) (rows : List Row) (k : ℕ) (r : Row) → rows ≡ p.rows → k < length p.rows → r ≡ get_or rows k r → IsRowOf p r
-row_here p rows k r same within is = (k, get_or p.rows k r, within, get_or_default p.rows k (get_or p.rows k r) r within, sym (is ∙ ap (λ (rs : List Row). get_or rs k r) same))

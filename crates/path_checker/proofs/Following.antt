@@ -33,7 +33,7 @@ use Rattle.path_checker.specs.Route.{IsRoute, IsWholeRoute, corner_after, over_m
 use Rattle.path_checker.specs.Sides.{IsWithin}
 use Rattle.path_checker.specs.Tables.{AreLines, AreSized, IsLineAt, IsSpotOf, IsThere, line_count, name_at, names_of, numbers_of, swap_of}
 use Rattle.path_checker.specs.Ways.{AreNew, IsArrived, IsKept, IsStuckBy, IsSwapStop}
-use Rattle.path_checker.proofs.WaySteps.{IsCounting, counting, counts_there, in_all, new_after, with_none}
+use Rattle.path_checker.proofs.WaySteps.{IsCounting, counting, counts_there, in_all, last_more, new_after, with_none}
 use Rattle.path_checker.proofs.Walks.{split_there}
 
 pub record HasLines (p : Problem) (at : List Mark) (lines : List (Option Inside)) : Type 0 where
@@ -46,15 +46,11 @@ pub exchanges_more : (p : Problem) (at : List Mark) (done : List Swap) (s : Swap
 exchanges_more p at [] s are ex = (ex, tt)
 exchanges_more p at (t ∷ done) s are ex = (are.0, exchanges_more p (exchanged t at) done s are.1 ex)
 
-pub last_more : (at : List Mark) (done : List Swap) (s : Swap) → last_marks at (done ++ s ∷ []) ≡ exchanged s (last_marks at done)
-last_more at [] s = refl
-last_more at (t ∷ done) s = last_more (exchanged t at) done s
-
 pub last_after : (at : List Mark) (a b : List Swap) → last_marks at (a ++ b) ≡ last_marks (last_marks at a) b
 last_after at [] b = refl
 last_after at (t ∷ a) b = last_after (exchanged t at) a b
 
-exchange_there : (p : Problem) (at : List Mark) (a : List Swap) (s : Swap) (b : List Swap) → AreExchanges p at (a ++ s ∷ b) → IsExchange p (last_marks at a) s
+pub exchange_there : (p : Problem) (at : List Mark) (a : List Swap) (s : Swap) (b : List Swap) → AreExchanges p at (a ++ s ∷ b) → IsExchange p (last_marks at a) s
 exchange_there p at [] s b are = are.0
 exchange_there p at (t ∷ a) s b are = exchange_there p (exchanged t at) a s b are.1
 
@@ -243,29 +239,10 @@ pub not_last : (i n : ℕ) → i + 1 < n → nat_eq (i + 1) n ≡ false
 not_last i n less = ne_eqb (i + 1) n (λ e. absurd (omega (arith, less, e)))
 
 pub swap_stuck : (p : Problem) (path : Path) (stop : WayStop) (n : ℕ) → (stop ≢ OutOfMemory → (stop ≡ NoRoom n) × ((unfit : Option Quantity) → HasNoRoom p path unfit n)) → IsSwapStop p path stop
-swap_stuck p path Fails n h = absurd (wrong (h (λ e. absurd (fails_not e))).0)
-  where
-    is_fails : WayStop → Type 0
-    is_fails Fails = Unit {0}
-    is_fails (NoRoom n) = ⊥
-    is_fails OutOfMemory = ⊥
-
-    fails_not : Fails ≡ OutOfMemory → ⊥
-    fails_not e = subst is_fails e tt
-
-    wrong : Fails ≡ NoRoom n → ⊥
-    wrong e = subst is_fails e tt
+swap_stuck p path Fails n h = let e : Fails ≡ NoRoom n = (h (λ o. cc)).0 in absurd (cc)
 swap_stuck p path (NoRoom k) n h =
-    let there = h (λ e. subst is_room e tt) in
-    λ unfit. subst (HasNoRoom p path unfit) (sym (ap count_of there.0)) (there.1 unfit)
-  where
-    is_room : WayStop → Type 0
-    is_room Fails = ⊥
-    is_room (NoRoom n) = Unit {0}
-    is_room OutOfMemory = ⊥
-
-    count_of : WayStop → ℕ
-    count_of Fails = 0
-    count_of (NoRoom n) = n
-    count_of OutOfMemory = 0
+    let there = h (λ o. cc) in
+    let e : NoRoom k ≡ NoRoom n = there.0 in
+    let same : n ≡ k = cc in
+    λ unfit. subst (HasNoRoom p path unfit) same (there.1 unfit)
 swap_stuck p path OutOfMemory n h = tt

@@ -13,7 +13,7 @@ use Rattle.problem_core.specs.Corners.{IsCorner, IsIn, IsWritingOf, NoNegativeVa
 use Rattle.problem_core.specs.Unfit.{HasNoWriting, first_terms}
 use Rattle.corner_laws.specs.Examples.{at_least, over_row, over_stay, single, under_row}
 use Rattle.corner_laws.proofs.Examples.{terms_unfit}
-use Rattle.corner_laws.proofs.Fits.{one_factor, whole_is_kept}
+use Rattle.corner_laws.proofs.Fits.{one_factor, whole_is_kept, sum-holds}
 use Rattle.corner_laws.proofs.PathExamples.{alone-in, no, no_primal_path, over_corner, primal_path, stay-sound, under-sound, under_corner}
 use Rattle.corner_laws.proofs.RunExamples.{single_whole}
 use Rattle.path_checker.specs.declared.verdict.PathVerdict.TheVariants.{No}
@@ -82,10 +82,6 @@ small_stay true false = omega arith
 small_stay false true = omega arith
 small_stay false false = omega arith
 
-stay_holds : (s t one a : ℤ) → pos 1 *ℤ s +ℤ (negsuc 0 *ℤ t +ℤ (pos 0 *ℤ one +ℤ (pos 1 *ℤ a +ℤ pos 0))) ≡ pos 0
-    → pos 1 *ℤ (pos 1 *ℤ (pos 1 *ℤ a +ℤ pos 0) -ℤ (pos 1 *ℤ t +ℤ (negsuc 0 *ℤ s +ℤ pos 0))) ≡ pos 1 *ℤ (pos 0 *ℤ one)
-stay_holds s t one a e = omega (arith, ints, e)
-
 row_holds : (u o s t one a : ℤ) → pos 1 *ℤ u +ℤ (negsuc 0 *ℤ o +ℤ (negsuc 4 *ℤ one +ℤ (pos 1 *ℤ a +ℤ pos 0))) ≡ pos 0
     → pos 1 *ℤ s +ℤ (negsuc 0 *ℤ t +ℤ (pos 0 *ℤ one +ℤ (pos 1 *ℤ a +ℤ pos 0))) ≡ pos 0
     → pos 1 *ℤ (pos 1 *ℤ o -ℤ (pos 1 *ℤ u +ℤ (pos 1 *ℤ t +ℤ (negsuc 0 *ℤ s +ℤ pos 0)))) ≡ pos 1 *ℤ (negsuc 4 *ℤ one)
@@ -100,7 +96,7 @@ one_term = record {
     | inl e ↦ ((3, omega arith, sym e), only-row v (λ q. omega (arith, e, q)))
     | inr e ↦ ((2, omega arith, sym e), only-row v (λ q. omega (arith, e, q)))
   ];
-  holds = λ x solves. stay_holds (x.num 6) (x.num 7) (x.num one_column) (x.num (attr_column 1)) (recursion_from_All (λ l. value_at x.num (equation l) ≡ pos 0) (lines (single 5)) solves).1.0;
+  holds = λ x solves. sum-holds (x.num 6) (x.num 7) (x.num one_column) (x.num (attr_column 1)) (recursion_from_All (λ l. value_at x.num (equation l) ≡ pos 0) (lines (single 5)) solves).1.0;
   lowest = λ k each whole. one_factor k whole.0 whole.1;
 }
 

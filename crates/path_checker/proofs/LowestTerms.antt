@@ -1,20 +1,19 @@
 -- Lists of numbers in lowest terms.
-use Rattle.std.proofs.Common.{◌≡◌, ◌≢◌, ℕ, zero, suc, ◌+◌, ◌*◌, ◌/◌, ◌<◌, ◌≤◌, ◌^◌, length, map, take, get_or, List, [], ◌∷◌, ◌++◌, inl, inr, ℤ, pos, negsuc, ◌*ℤ◌, ◌<ℤ◌, neg_ℤ, refl, sym, subst, ap, ap₂, ◌∙◌, arith, All}
-use Rattle.std.specs.Prelude.{◌+ℤ◌, unsigned_abs, FitsSigned}
+use Rattle.std.proofs.Common.{◌≡◌, ◌≢◌, ℕ, zero, suc, ◌+◌, ◌*◌, ◌<◌, ◌≤◌, ◌^◌, length, map, take, get_or, List, [], ◌∷◌, ◌++◌, inl, inr, ℤ, pos, ◌*ℤ◌, ◌<ℤ◌, sym, subst, ap, ap₂, ◌∙◌, arith, All}
+use Rattle.std.specs.Prelude.{◌+ℤ◌, unsigned_abs}
 use Rattle.std.specs.Int.{◌∣◌, IsGcd}
-use Rattle.std.specs.Int.RustNames.{int_div}
 use borrow.Author.Differences.{ints}
-use Rattle.std.proofs.lemmas.Int.{unsigned_abs-mul, fits_signed_from_abs}
-use Rattle.std.specs.Int.{w128}
+use Rattle.std.proofs.lemmas.Int.{unsigned_abs-mul}
 use Rattle.std.proofs.lemmas.Bool.{cases_lt}
 use Rattle.std.proofs.lemmas.List.{get_or-take, get_or_append_left, get_or_push, length-append, length-take-le, map_push, take_more}
 use Rattle.std.proofs.lemmas.List.Elements.{All-map, All-more, All-weaker}
 use Rattle.std.proofs.lemmas.Nat.Gcd.{dvd_refl, dvd_trans, le_of_dvd}
-use Rattle.std.proofs.Math.Nat.{mul-le-mul, eq-zero_of_zero-dvd, dvd-mul_right, mul-dvd-mul_left, dvd_of_mul-dvd-mul_left, eq-one_of_dvd-one, mul-lt-mul_of_pos_left, div-mul_cancel}
+use Rattle.std.proofs.Math.Nat.{eq-zero_of_zero-dvd, dvd-mul_right, mul-dvd-mul_left, dvd_of_mul-dvd-mul_left, eq-one_of_dvd-one}
 use Rattle.frac_core.specs.Fraction.{IsFitting}
 use Rattle.frac_core.specs.declared.frac.TheConstants.{PART_BOUND}
-use Rattle.frac_core.proofs.Integers.{mul-zero_ℤ}
 use Rattle.path_checker.specs.Numbers.{AreLowest, AreUnfit, DividesAll, HasTooLarge, IsCommonDivisor, IsFactor, IsSmallProduct, number_at}
+use Rattle.frac_core.proofs.Products.{most_product}
+use Rattle.frac_core.proofs.Quotients.{positive_is, above_bound}
 
 -- ---- the divisor
 
@@ -24,10 +23,6 @@ pub record IsDivisorSoFar (own : ℤ) (by : List ℤ) (divisor : ℕ) : Type 0 w
   pub divides : DividesAll divisor own by
   pub greatest : (k : ℕ) → DividesAll k own by → k ∣ divisor
   pub small : divisor < 2 ^ 127
-
-pub positive_is : (g : ℤ) → pos 0 <ℤ g → (g ≡ pos (unsigned_abs g)) × (0 < unsigned_abs g)
-positive_is (pos n) h = (refl, omega (arith, ints))
-positive_is (negsuc n) h = absurd (omega (arith, ints))
 
 above_of_dvd : (d n : ℕ) → d ∣ n → 0 < n → 0 < d
 above_of_dvd zero n h some = let none : n ≡ 0 = eq-zero_of_zero-dvd h in absurd (omega (arith, none, some))
@@ -110,15 +105,10 @@ divides_multiples own by low part f own_is same = (
       (All-map (λ (z : ℤ). f ∣ unsigned_abs z) (λ (z : ℤ). pos f *ℤ z) part (λ k d within. factor_divides f (get_or part k d))),
 )
 
-too_large : (n f a m : ℕ) → f ≤ n → m ≡ f * a → 0 < f → a < PART_BOUND → n * PART_BOUND ≤ m → ⊥
-too_large n f a m le product some less large =
-    let scaled : f * a < f * 4398046511104 = mul-lt-mul_of_pos_left less some in
-    omega (arith, scaled, le, product, large)
-
 pub unfit_own : (own : ℤ) (by : List ℤ) (d : ℤ) → IsCommonDivisor own by d → unsigned_abs d * PART_BOUND ≤ unsigned_abs own → AreUnfit own by
 unfit_own own by d is large low part are fits =
     let le : are.factor ≤ unsigned_abs d = le_of_dvd (positive_is d is.above).1 (is.greatest are.factor (divides_multiples own by low part are.factor are.own_is are.same)) in
-    too_large (unsigned_abs d) are.factor (unsigned_abs low) (unsigned_abs own) le (ap unsigned_abs (sym are.own_is) ∙ size_of_multiple are.factor low) are.above fits.0 large
+    above_bound (unsigned_abs d) are.factor (unsigned_abs low) (unsigned_abs own) le (ap unsigned_abs (sym are.own_is) ∙ size_of_multiple are.factor low) are.above fits.0 large
 
 abbrev IsBelow : ℕ → ℤ → Type 0
 IsBelow f z = (a : ℕ) × (unsigned_abs z ≡ f * a) × (a < PART_BOUND)
@@ -130,45 +120,15 @@ unfit_part own by d is has low part are fits =
     subst (λ (zs : List ℤ). All (IsBelow are.factor) zs) are.same
     (All-map (IsBelow are.factor) (λ (z : ℤ). pos are.factor *ℤ z) part (λ k t less. (unsigned_abs (get_or part k t), size_of_multiple are.factor (get_or part k t), fits.1 k t less))) in
     let here : IsBelow are.factor (number_at by has.0) = all has.0 (pos 0) has.1 in
-    too_large (unsigned_abs d) are.factor here.0 (unsigned_abs (number_at by has.0)) le here.1 are.above here.2 has.2
-
--- ---- exact division
-
-swapped_cancel : (m n : ℕ) → n ∣ m → n * (m / n) ≡ m
-swapped_cancel m n divides = omega (arith, div-mul_cancel n divides)
-
-zero_times : (n : ℕ) → 0 ≡ n * 0
-zero_times n = omega arith
-
-times_neg : (n k : ℕ) → pos n *ℤ neg_ℤ (pos k) ≡ neg_ℤ (pos (n * k))
-times_neg n zero = mul-zero_ℤ (pos n) ∙ ap (λ (m : ℕ). neg_ℤ (pos m)) (zero_times n)
-times_neg zero (suc k) = refl
-times_neg (suc n) (suc k) = refl
-
-pub exact_quotient : (a d : ℤ) → pos 0 <ℤ d → unsigned_abs d ∣ unsigned_abs a → d *ℤ int_div a d ≡ a
-exact_quotient (pos m) (pos n) above divides = ap pos (swapped_cancel m n divides)
-exact_quotient (negsuc m) (pos n) above divides = times_neg n (suc m / n) ∙ ap (λ (k : ℕ). neg_ℤ (pos k)) (swapped_cancel (suc m) n divides)
-exact_quotient a (negsuc n) above divides = absurd (omega (arith, ints))
+    above_bound (unsigned_abs d) are.factor here.0 (unsigned_abs (number_at by has.0)) le here.1 are.above here.2 has.2
 
 -- ---- sums of products
-
-most_product : (a b m n : ℕ) → a ≤ m → b ≤ n → a * b ≤ m * n
-most_product a b m n h k = mul-le-mul h k
 
 most : (k y : ℤ) → IsFactor k → IsFitting y → unsigned_abs k * unsigned_abs y ≤ 19342813113834066795298815 * 4398046511103
 most k y fits_k fits_y = most_product (unsigned_abs k) (unsigned_abs y) 19342813113834066795298815 4398046511103 (omega arith) (omega arith)
 
 pub factor_product : (k y : ℤ) → IsFactor k → IsFitting y → IsSmallProduct k y
 factor_product k y fits_k fits_y = omega (arith, unsigned_abs-mul k y, most k y fits_k fits_y)
-
-sum_small : (x y : ℤ) → unsigned_abs x < 2 ^ 126 → unsigned_abs y < 2 ^ 126 → unsigned_abs (x +ℤ y) < 2 ^ 127
-sum_small (pos x) (pos y) h k = omega (arith, ints)
-sum_small (pos x) (negsuc y) h k = omega (arith, ints)
-sum_small (negsuc x) (pos y) h k = omega (arith, ints)
-sum_small (negsuc x) (negsuc y) h k = omega (arith, ints)
-
-pub sum_fits : (x y : ℤ) → unsigned_abs x < 2 ^ 126 → unsigned_abs y < 2 ^ 126 → FitsSigned w128 (x +ℤ y)
-sum_fits x y h k = fits_signed_from_abs w128 (x +ℤ y) (omega (arith, sum_small x y h k))
 
 -- the numbers so far, and one more
 pub combined_more : (k : ℤ) (left : List ℤ) (m : ℤ) (right : List ℤ) (out : List ℤ) (z : ℤ) (at : ℕ) → length out ≡ at → at < length left

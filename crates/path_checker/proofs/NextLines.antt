@@ -19,14 +19,14 @@ use Rattle.corner_laws.proofs.Exchanged.{exchanged_in}
 use Rattle.corner_laws.proofs.Rays.{enter_in, kept_in, rays_after}
 use Rattle.corner_lines.specs.LineEquations.{IsLineEquation, IsLineSum, IsOutsideLine, IsUnfitLine, deviation}
 use Rattle.corner_lines.proofs.LevelExchanges.{by-sides}
-use Rattle.corner_lines.proofs.LineUnfits.{mark_unfit, reduced_line}
+use Rattle.corner_lines.proofs.LineUnfits.{mark_unfit, reduced_line, line_sum}
 use Rattle.path_checker.specs.declared.exchange.Pivot.{Pivot}
 use Rattle.path_checker.specs.declared.table.Sum.{Sum}
 use Rattle.path_checker.specs.Numbers.{AreFitting, AreLowest, AreUnfit, IsCombined, IsReplaced, number_at}
 use Rattle.path_checker.specs.Carried.{IsPivotOf, without}
 use Rattle.path_checker.specs.Tables.{IsSized, IsSumOf, IsThere, line_count, mark_of, name_at, numbers_of, swap_of}
 use Rattle.path_checker.specs.Pivots.{HasUnfit, IsEnteredBy, IsPivotAt, next_marks}
-use Rattle.path_checker.proofs.CarriedSums.{carried_line_sum, line_sum}
+use Rattle.path_checker.proofs.CarriedSums.{carried_line_sum}
 use Rattle.path_checker.proofs.EnteringLine.{entering_is_equation, entering_line_sum}
 use Rattle.path_checker.proofs.Exchanging.{one_side}
 use Rattle.path_checker.proofs.NumbersOf.{reduced_numbers}
@@ -228,7 +228,7 @@ sized_from count sum own low out part are long some fits sum_own sum_by = record
 
 -- ---- the entering line's value
 
-den_up : (size : ℤ) (den : ℕ) → pos 0 <ℤ size → 0 < den → pos 0 <ℤ (pos 1 *ℤ (size *ℤ pos den))
+pub den_up : (size : ℤ) (den : ℕ) → pos 0 <ℤ size → 0 < den → pos 0 <ℤ (pos 1 *ℤ (size *ℤ pos den))
 den_up size den above some = mul_positive 1 (size *ℤ pos den) (omega arith) (positive_product size (pos den) above (omega (arith, ints, some)))
 
 pub entering_value_unfit : (p : Problem) (at : List Mark) (pivot : Pivot) → IsPivotAt p at pivot → IsUnfitRatio (sum_num zero_fraction pivot.times pivot.size pivot.value) (sum_den zero_fraction pivot.size pivot.value) → HasUnfit p (next_marks p pivot at)

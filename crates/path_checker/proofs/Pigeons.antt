@@ -11,16 +11,11 @@ use Rattle.problem_core.proofs.Forms.{each-both, each-impl}
 use Rattle.corner_laws.proofs.Counting.{head_pairs, tail_pairs}
 use Rattle.corner_laws.proofs.Ends.{decided}
 use Rattle.corner_laws.proofs.ZeroColumns.{all-marks}
-use Rattle.corner_lines.proofs.SameMarks.{same_corner}
+use Rattle.corner_lines.proofs.SameMarks.{same_corner, without}
 use Rattle.cert_core.specs.Paths.{Path}
 use Rattle.path_checker.specs.declared.way.Way.{Way}
 use Rattle.path_checker.specs.Route.{corner_after}
 use Rattle.path_checker.specs.Ways.{IsArrived, IsWayAt}
-
--- without the marks of one place
-abbrev without : ℕ → List Mark → List Mark
-without c [] = []
-without c (m ∷ ms) = cond (nat_eq (place m) c) ms (m ∷ without c ms)
 
 here_less : (b : Bool) (m : Mark) (ms rest : List Mark) → b ≡ true → cond b ms (m ∷ rest) ≡ ms
 here_less b m ms rest is = ap (λ (c : Bool). cond c ms (m ∷ rest)) is
@@ -36,6 +31,7 @@ in_more : (c : ℕ) (m : Mark) (ms : List Mark) → IsIn c ms → IsIn c (m ∷ 
 in_more c m ms (k, within, is) = (suc k, omega (arith, within), is)
 
 one_less : (c : ℕ) (ms : List Mark) → IsIn c ms → length (without c ms) + 1 ≡ length ms
+unfolding without
 one_less c [] (k, within, is) = absurd (omega (arith, within))
 one_less c (m ∷ ms) i =
     elim (cases_eq (place m) c) [
@@ -47,6 +43,7 @@ one_less c (m ∷ ms) i =
     ]
 
 still_in : (c d : ℕ) (ms : List Mark) → IsIn d ms → d ≢ c → IsIn d (without c ms)
+unfolding without
 still_in c d [] (k, within, is) ne = absurd (omega (arith, within))
 still_in c d (m ∷ ms) i ne =
     elim (cases_eq (place m) c) [

@@ -1,9 +1,9 @@
 -- Marks by lines, as they are taken one after the other.
-use Rattle.std.proofs.Common.{◌≡◌, ◌≢◌, ◌∙◌, ◌↔◌, ℕ, zero, suc, ◌<◌, List, [], ◌∷◌, ◌++◌, set, get_or, length, replicate, refl, sym, ap, ap₂, subst, arith, inl, inr, Option, None, Some, All, AllPairs, length-set, get_or-set_same, get_or-set_other}
+use Rattle.std.proofs.Common.{◌≡◌, ◌≢◌, ◌∙◌, ◌↔◌, ℕ, zero, suc, ◌<◌, List, [], ◌∷◌, ◌++◌, set, get_or, length, refl, sym, ap, ap₂, subst, arith, inl, inr, Option, None, Some, All, AllPairs, length-set, get_or-set_same, get_or-set_other}
 use Rattle.std.specs.Prelude.{slice_index_or}
 use Rattle.std.specs.List.{AllByRecursion as Each}
 use Rattle.std.proofs.lemmas.Bool.{cases_eq}
-use Rattle.std.proofs.lemmas.List.{get_or-replicate, length-map, length-replicate}
+use Rattle.std.proofs.lemmas.List.{length-map}
 use Rattle.std.proofs.lemmas.List.Elements.{All-push, recursion_from_All}
 use Rattle.std.proofs.lemmas.List.Kept.{AllPairs-cons}
 use Rattle.problem_core.specs.declared.parts.Mark.{Mark}
@@ -25,17 +25,6 @@ use Rattle.path_checker.proofs.ValueSigns.{inside_place}
 last_in : (at : List Mark) (m : Mark) → IsIn (place m) (at ++ m ∷ [])
 last_in [] m = (0, omega arith, refl)
 last_in (x ∷ xs) m = let i = last_in xs m in (suc i.0, omega (arith, i.1), i.2)
-
--- ---- no mark is taken yet
-
-pub none_taken : (p : Problem) → AreSides p [] (replicate (line_count p) None)
-none_taken p = record {
-  count = length-replicate (line_count p) None;
-  each = λ k side here. (
-    λ e. absurd (none_some side (sym (get_or-replicate (line_count p) k None None here) ∙ e)),
-    λ i. absurd (omega (arith, i.1)),
-  );
-}
 
 -- ---- one more
 

@@ -16,8 +16,8 @@ use Rattle.path_checker.specs.declared.spots.Step.{Step}
 use Rattle.path_checker.specs.declared.table.Inside.{Inside}
 use Rattle.path_checker.specs.declared.table.Sum.{Sum}
 use Rattle.path_checker.specs.Tables.{IsLineAt, IsSumOf, IsThere, IsTurnedLine, TurnedLinesAre, line_count, name_at, numbers_of, swap_of}
-use Rattle.path_checker.proofs.Exchanging.{side_out}
 use Rattle.path_checker.proofs.Places.{names_differ}
+use Rattle.corner_lines.proofs.LineWritings.{no-side}
 
 kept_sum : (p : Problem) (at : List Mark) (step : Step) (name : RowName) (sum : Sum) → IsThere p at → step.enter.at ≡ step.leave.at → IsExchange p at (swap_of p step) → IsSumOf p at name sum → IsSumOf p (exchanged (swap_of p step) at) name sum
 kept_sum p at step name sum there turn ex is = record {
@@ -45,7 +45,7 @@ turned_line : (p : Problem) (at : List Mark) (step : Step) (k : ℕ) (old next :
 turned_line p at step k None next there turn ex here is out = absurd (none_inside p at step k turn here out ex)
   where
     none_inside : (p : Problem) (at : List Mark) (step : Step) (k : ℕ) → step.enter.at ≡ step.leave.at → k ≡ step.enter.at → IsOutsideLine at (name_at p k) → IsExchange p at (swap_of p step) → ⊥
-    none_inside p at step k turn here out ex = side_out at (name_at p k) step.leave.side out (subst (λ (j : ℕ). IsIn (place_of (name_at p j) step.leave.side) at) (sym (here ∙ turn)) ex.leaves)
+    none_inside p at step k turn here out ex = no-side at (name_at p k) step.leave.side out (subst (λ (j : ℕ). IsIn (place_of (name_at p j) step.leave.side) at) (sym (here ∙ turn)) ex.leaves)
 turned_line p at step k (Some old) None there turn ex here is line = absurd is
 turned_line p at step k (Some old) (Some next) there turn ex here is line = (
   subst (λ (c : ℕ). IsIn c (exchanged (swap_of p step) at)) (same_mark (sym here) (sym is.0)) (enter_in (swap_of p step) at ex.leaves),

@@ -12,12 +12,12 @@ use Rattle.path_checker.specs.Tables.{numbers_of}
 use Rattle.path_checker.specs.Carried.{UnfitListIsUnfit}
 use Rattle.path_checker.proofs.NumbersOf.{number_here, number_later}
 
-unmapped : {A B : Type 0} (P : B → Type 0) (f : A → B) (xs : List A) → Each P (map f xs) → Each (λ x. P (f x)) xs
+pub unmapped : {A B : Type 0} (P : B → Type 0) (f : A → B) (xs : List A) → Each P (map f xs) → Each (λ x. P (f x)) xs
 unmapped P f [] all = tt
 unmapped P f (x ∷ xs) all = (all.0, unmapped P f xs all.1)
 
 -- the list of the lines' numbers
-same_list : (g : ℤ) (part : RowName → ℤ) (ls : List Line) (zs : List ℤ) → AllApart ls → length zs ≡ length ls → Each (λ l. g *ℤ part l.name ≡ numbers_of ls zs l.name) ls
+pub same_list : (g : ℤ) (part : RowName → ℤ) (ls : List Line) (zs : List ℤ) → AllApart ls → length zs ≡ length ls → Each (λ l. g *ℤ part l.name ≡ numbers_of ls zs l.name) ls
     → map (λ z. g *ℤ z) (map (λ l. part l.name) ls) ≡ zs
 same_list g part [] [] apart count all = refl
 same_list g part [] (z ∷ zs) apart count all = absurd (omega (arith, count))

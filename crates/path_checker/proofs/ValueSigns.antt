@@ -17,10 +17,10 @@ use Rattle.corner_laws.proofs.WrittenValues.{value_there}
 use Rattle.corner_laws.proofs.ZeroColumns.{all-marks}
 use Rattle.corner_lines.specs.LineEquations.{inside_form, sign_of}
 use Rattle.corner_lines.proofs.LevelExchanges.{by-sides}
-use Rattle.corner_lines.proofs.LineWritings.{Named, inside-named, mark_writing}
+use Rattle.corner_lines.proofs.LineWritings.{Named, inside-named, mark_writing, no-side}
 use Rattle.path_checker.specs.declared.table.Inside.{Inside}
 use Rattle.path_checker.specs.Tables.{AreJudged, IsLineAt, IsThere, IsUp, line_count, name_at, numbers_of}
-use Rattle.path_checker.proofs.Exchanging.{one_side, side_out}
+use Rattle.path_checker.proofs.Exchanging.{one_side}
 use Rattle.path_checker.proofs.Places.{any_line, name_there}
 
 -- ---- numbers
@@ -34,7 +34,7 @@ above_up z above = omega (arith, ints, above)
 none_up : (z : ℤ) → z ≡ pos 0 → pos 0 ≤ℤ z
 none_up z none = omega (arith, ints, none)
 
-times_down : (n : ℕ) (z : ℤ) → pos n *ℤ neg_ℤ z ≡ neg_ℤ (pos n *ℤ z)
+pub times_down : (n : ℕ) (z : ℤ) → pos n *ℤ neg_ℤ z ≡ neg_ℤ (pos n *ℤ z)
 times_down n z = *ℤ_comm (pos n) (neg_ℤ z) ∙ neg-times z (pos n) ∙ ap neg_ℤ (*ℤ_comm z (pos n))
 
 -- d*a = b*o: with d and o above 0, a is not negative where b is not
@@ -73,7 +73,7 @@ value_sign p at name inside there line = (
 )
 
 pub outside_is_up : (p : Problem) (at : List Mark) (name : RowName) → IsLineAt p at name None → IsUp p at name
-outside_is_up p at name out x side stands i = absurd (side_out at name side out i)
+outside_is_up p at name out x side stands i = absurd (no-side at name side out i)
 
 -- ---- all of them
 
@@ -102,7 +102,7 @@ up_at_all p at id judged rows there are all = (
 )
 
 -- a mark of a list, by its column
-mark_of_column : (P : Mark → Type 0) (at : List Mark) (c : ℕ) → Each P at → IsIn c at → (m : Mark) × (place m ≡ c) × P m
+pub mark_of_column : (P : Mark → Type 0) (at : List Mark) (c : ℕ) → Each P at → IsIn c at → (m : Mark) × (place m ≡ c) × P m
 mark_of_column P [] c all (k, within, is) = absurd (omega (arith, within))
 mark_of_column P (m ∷ ms) c all (zero, within, is) = (m, is, all.0)
 mark_of_column P (m ∷ ms) c all (suc k, within, is) = mark_of_column P ms c all.1 (k, omega (arith, within), is)
@@ -153,7 +153,7 @@ not_down : (z : ℤ) → pos 0 ≤ℤ z → z <ℤ pos 0 → ⊥
 not_down z up down = absurd (omega (arith, ints, up, down))
 
 pub down_iff : (p : Problem) (at : List Mark) (mark : Mark) (kept : Option Inside) → IsThere p at → IsLineAt p at mark.row kept → IsIn (place mark) at → (IsUp p at mark.row → ⊥) ↔ HasNegativeValue p at mark
-down_iff p at mark None there out inside = absurd (side_out at mark.row mark.side out inside)
+down_iff p at mark None there out inside = absurd (no-side at mark.row mark.side out inside)
 down_iff p at mark (Some kept) there line inside = (
   λ none. (
     there.corner.point,

@@ -102,7 +102,7 @@ mark_in (x ∷ at) (suc k) d within = let i = mark_in at k d (omega (arith, with
 pub any_row : Row
 any_row = record { id = 0; rank = 0; weight = 0; rel = Eq; scale = 1; constant = record { num = pos 0; den = 1 }; terms = [] }
 
-pub any_stay : Stay
+abbrev pub any_stay : Stay
 any_stay = record { attr = 0; target = record { num = pos 0; den = 1 } }
 
 pub next_mark : (p : Problem) (path : Path) (items : List Mark) (names : List RowName) (i : ℕ) (d : Mark) (way : Way) (sides : List (Option Side)) (enter : Spot) → items ≡ path.corner → names ≡ names_of p → i < length items → AreSides p path.corner sides

@@ -1,5 +1,5 @@
 -- The lines of a corner, from what is kept of it.
-use Rattle.std.proofs.Common.{◌≡◌, ◌≢◌, ◌+◌, ℕ, List, refl, sym, ap, subst, subst₂, Option, None, Some, Result, Ok, Err, IfOk, IfErr, IfSome}
+use Rattle.std.proofs.Common.{◌≡◌, ◌≢◌, ◌+◌, List, refl, sym, subst, subst₂, Option, None, Some, Result, Ok, Err, IfOk, IfErr, IfSome}
 use Rattle.problem_core.specs.declared.parts.Mark.{Mark}
 use Rattle.problem_core.specs.Layout.{Problem}
 use Rattle.problem_core.specs.Kept.{IsWhole}
@@ -57,39 +57,12 @@ pub err_says : {T E : Type 0} (P : E → Type 0) (r : Result T E) (e : E) → r 
 err_says P r e is h = subst (λ r. IfErr r P) is h
 
 pub bring_stuck : (p : Problem) (kept : Kept) (sides : List (Option Side)) (enter : Spot) (stop : WayStop) → (stop ≢ OutOfMemory → (stop ≡ NoRoom kept.count) × ((at : List Mark) → IsKept p at kept → IsStuckBy p at kept.step)) → IsBringStop p kept sides enter stop
-bring_stuck p kept sides enter Fails h = absurd (fails_is kept.count (h fails_apart).0)
-  where
-    fails_apart : Fails ≢ OutOfMemory
-    fails_apart e = subst is_fails e tt
-      where
-        is_fails : WayStop → Type 0
-        is_fails Fails = Unit {0}
-        is_fails (NoRoom n) = ⊥
-        is_fails OutOfMemory = ⊥
-
-    fails_is : (n : ℕ) → Fails ≡ NoRoom n → ⊥
-    fails_is n e = subst is_fails e tt
-      where
-        is_fails : WayStop → Type 0
-        is_fails Fails = Unit {0}
-        is_fails (NoRoom n) = ⊥
-        is_fails OutOfMemory = ⊥
+bring_stuck p kept sides enter Fails h = let e : Fails ≡ NoRoom kept.count = (h (λ o. cc)).0 in absurd (cc)
 bring_stuck p kept sides enter (NoRoom n) h =
-    let there : (NoRoom n ≡ NoRoom kept.count) × ((at : List Mark) → IsKept p at kept → IsStuckBy p at kept.step) = h (room_apart n) in
-    (ap count_of there.0, there.1)
-  where
-    count_of : WayStop → ℕ
-    count_of Fails = 0
-    count_of (NoRoom n) = n
-    count_of OutOfMemory = 0
-
-    room_apart : (n : ℕ) → NoRoom n ≢ OutOfMemory
-    room_apart n e = subst is_room e tt
-      where
-        is_room : WayStop → Type 0
-        is_room Fails = ⊥
-        is_room (NoRoom n) = Unit {0}
-        is_room OutOfMemory = ⊥
+    let there = h (λ o. cc) in
+    let e : NoRoom n ≡ NoRoom kept.count = there.0 in
+    let same : n ≡ kept.count = cc in
+    (same, there.1)
 bring_stuck p kept sides enter OutOfMemory h = tt
 
 pub some_says : {T : Type 0} (P : T → Type 0) (o : Option T) (x : T) → o ≡ Some x → IfSome o P → P x

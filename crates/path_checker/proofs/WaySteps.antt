@@ -23,7 +23,7 @@ use Rattle.path_checker.specs.Room.{Counts, CountsOnTheWay, HasNoRoom}
 use Rattle.path_checker.specs.Route.{GoesBy, IsRoute, IsWholeRoute, MayGiveWay, corner_after, over_marks}
 use Rattle.path_checker.specs.Sides.{moved_sides}
 use Rattle.path_checker.specs.Tables.{AreSides, IsThere, line_count, mark_of, swap_of}
-use Rattle.path_checker.specs.Ways.{AreNew, HasMarkMore, IsBegun, IsBringStop, IsBrought, IsKept, IsMarkStop, IsStuckBy, IsWayAt, StopsAtMark}
+use Rattle.path_checker.specs.Ways.{AreNew, HasMarkMore, IsBegun, IsBringStop, IsBrought, IsBroughtBy, IsKept, IsMarkStop, IsRouteAt, IsStuckBy, IsWayAt, StopsAtMark}
 use Rattle.path_checker.proofs.Bringing.{none_gives_way}
 use Rattle.path_checker.proofs.Places.{mark_is_there}
 use Rattle.path_checker.proofs.SidesApart.{moved_are_sides}
@@ -65,6 +65,9 @@ not_ended wanted at (s ∷ swaps) done b m new is all want out =
     let here = new_after wanted at b (s ∷ swaps) (subst (AreNew wanted at) is new) in
     here.1 (in_all wanted (last_marks at b) (place s.enter) all here.0)
 
+pub some_apart : (step : Step) → Some step ≡ None → ⊥
+some_apart step e = cc
+
 -- ---- what counts where the way stops
 
 pub record IsCounting (p : Problem) (done : List Swap) : Type 0 where
@@ -74,14 +77,7 @@ pub record IsCounting (p : Problem) (done : List Swap) : Type 0 where
 
 pub counting : (p : Problem) (done : List Swap) (o : Option Step) → IsBegun done o → IsStuckBy p (corner_after p done) o → IsCounting p done
 counting p [] None begun (k, r, within, is, unfit) = record { quantity = Terms (over_mark r.id) unfit.0; counts = tt; unfit = unfit.1 }
-counting p [] (Some step) begun stuck = absurd (none_here step begun)
-  where
-    none_here : (step : Step) → Some step ≡ None → ⊥
-    none_here step e = subst is_some_type e tt
-      where
-        is_some_type : Option Step → Type 0
-        is_some_type None = ⊥
-        is_some_type (Some t) = Unit {0}
+counting p [] (Some step) begun stuck = absurd (some_apart step begun)
 counting p (s ∷ done) None begun stuck = absurd (begun refl)
 counting p (s ∷ done) (Some step) begun (what, unfit) = record { quantity = Plain what; counts = tt; unfit = unfit }
 
@@ -89,18 +85,16 @@ pub counts_there : (p : Problem) (path : Path) (unfit : Option Quantity) (done :
 counts_there p path None done q not_whole counts = counts
 counts_there p path (Some named) done q not_whole counts = inl (not_whole, counts)
 
-pub no_room_there : (p : Problem) (path : Path) (before rest : List Mark) (way : Way) (m : Mark) (n : ℕ) (unfit : Option Quantity) → (is : IsWayAt p path before (m ∷ rest) way) → IsIn (place m) path.corner → (IsIn (place m) (corner_after p is.done) → ⊥)
-    → n ≡ way.kept.count → IsStuckBy p (corner_after p is.done) way.kept.step → HasNoRoom p path unfit n
-no_room_there p path before rest way m n unfit is want out same stuck =
-    let counting_is : IsCounting p is.done = counting p is.done way.kept.step is.begun stuck in
-    record {
-      done = is.done;
-      count = is.count ∙ sym same;
-      route = subst (IsRoute p path) (with_none is.done) (is.goes_on [] tt);
-      quantity = counting_is.quantity;
-      counts = counts_there p path unfit is.done counting_is.quantity (λ whole. not_ended path.corner (over_marks p) path.swaps is.done whole.1.0 m is.new whole.1.1 whole.1.2 want out) counting_is.counts;
-      does_not_fit = counting_is.unfit;
-    }
+pub no_room_there : (p : Problem) (path : Path) (holds : List Mark → Type 0) (before rest : List Mark) (made : ℕ) (last : Option Step) (sides : List (Option Side)) (m : Mark) (n : ℕ) (unfit : Option Quantity) → (is : IsRouteAt p path holds before (m ∷ rest) made last sides)
+    → IsIn (place m) path.corner → (IsIn (place m) (corner_after p is.done) → ⊥) → n ≡ made → IsCounting p is.done → HasNoRoom p path unfit n
+no_room_there p path holds before rest made last sides m n unfit is want out same counting_is = record {
+  done = is.done;
+  count = is.count ∙ sym same;
+  route = subst (IsRoute p path) (with_none is.done) (is.goes_on [] tt);
+  quantity = counting_is.quantity;
+  counts = counts_there p path unfit is.done counting_is.quantity (λ whole. not_ended path.corner (over_marks p) path.swaps is.done whole.1.0 m is.new whole.1.1 whole.1.2 want out) counting_is.counts;
+  does_not_fit = counting_is.unfit;
+}
 
 -- ---- one mark more
 
@@ -108,8 +102,9 @@ pub goes_in : (p : Problem) (path : Path) (at : List Mark) (m : Mark) (rest : Li
 goes_in p path at m rest [] i goes = tt
 goes_in p path at m rest (s ∷ more) i goes = inl (i, goes)
 
-pub already_inside : (p : Problem) (path : Path) (before rest : List Mark) (way : Way) (m : Mark) → (is : IsWayAt p path before (m ∷ rest) way) → IsIn (place m) path.corner → IsIn (place m) (corner_after p is.done) → IsWayAt p path (before ++ m ∷ []) rest way
-already_inside p path before rest way m is want here = record {
+pub already_inside : (p : Problem) (path : Path) (holds : List Mark → Type 0) (before rest : List Mark) (made : ℕ) (last : Option Step) (sides : List (Option Side)) (m : Mark) → (is : IsRouteAt p path holds before (m ∷ rest) made last sides)
+    → IsIn (place m) path.corner → IsIn (place m) (corner_after p is.done) → IsRouteAt p path holds (before ++ m ∷ []) rest made last sides
+already_inside p path holds before rest made last sides m is want here = record {
   done = is.done;
   count = is.count;
   begun = is.begun;
@@ -122,9 +117,10 @@ already_inside p path before rest way m is want here = record {
   new = is.new;
 }
 
-pub one_mark_more : (p : Problem) (path : Path) (before rest : List Mark) (way next : Way) (m : Mark) (enter : Spot) → (is : IsWayAt p path before (m ∷ rest) way) → m ≡ mark_of p enter → IsIn (place m) path.corner → (IsIn (place m) (corner_after p is.done) → ⊥)
-    → (b : IsBrought p path.corner (corner_after p is.done) enter way.kept next.kept) → next.sides.items ≡ moved_sides b.step way.sides.items → IsWayAt p path (before ++ m ∷ []) rest next
-one_mark_more p path before rest way next m enter is mark want out b sides_is =
+pub one_mark_more : (p : Problem) (path : Path) (holds next_holds : List Mark → Type 0) (before rest : List Mark) (made next_made : ℕ) (last next_last : Option Step) (sides next_sides : List (Option Side)) (m : Mark) (enter : Spot)
+    → (is : IsRouteAt p path holds before (m ∷ rest) made last sides) → m ≡ mark_of p enter → IsIn (place m) path.corner → (IsIn (place m) (corner_after p is.done) → ⊥)
+    → (b : IsBroughtBy p path.corner (corner_after p is.done) enter next_holds made next_made next_last) → next_sides ≡ moved_sides b.step sides → IsRouteAt p path next_holds (before ++ m ∷ []) rest next_made next_last next_sides
+one_mark_more p path holds next_holds before rest made next_made last next_last sides next_sides m enter is mark want out b sides_is =
     let s : Swap = swap_of p b.step in
     let at : List Mark = corner_after p is.done in
     let corner_is : corner_after p (is.done ++ s ∷ []) ≡ exchanged s at = last_more (over_marks p) is.done s in
@@ -133,14 +129,14 @@ one_mark_more p path before rest way next m enter is mark want out b sides_is =
     record {
       done = is.done ++ s ∷ [];
       count = let l = length-append is.done (s ∷ []) in omega (arith, l, is.count, b.count_is);
-      begun = begun_more is.done s next.kept.step (λ none. some_apart b.step (sym b.step_is ∙ none));
+      begun = begun_more is.done s next_last (λ none. some_apart b.step (sym b.step_is ∙ none));
       there = subst (IsThere p) (sym corner_is) (record {
         whole = is.there.whole;
         corner = b.gives.may.exchange.corner;
         rays = rays_after p at s (mark_is_there p b.step.enter.at b.step.enter.side b.within.0) b.gives.may.exchange is.there.rays;
       });
-      kept = subst (λ (ms : List Mark). IsKept p ms next.kept) (sym corner_is) b.kept_is;
-      sides = subst₂ (AreSides p) (sym corner_is) (sym sides_is) (moved_are_sides p at way.sides.items b.step is.there.whole is.there.corner b.within b.gives.may.exchange is.sides);
+      kept = subst next_holds (sym corner_is) b.kept_is;
+      sides = subst₂ (AreSides p) (sym corner_is) (sym sides_is) (moved_are_sides p at sides b.step is.there.whole is.there.corner b.within b.gives.may.exchange is.sides);
       goes_on = λ more goes.
           subst (IsRoute p path) (sym (joined is.done s more))
           (is.goes_on (s ∷ more) (inr (out, enter_is, b.gives, subst (λ (ms : List Mark). GoesBy p path.corner path.swaps ms rest more) corner_is goes)));
@@ -150,13 +146,6 @@ one_mark_more p path before rest way next m enter is mark want out b sides_is =
       wanted = All-push (λ n. IsIn (place n) path.corner) before m is.wanted want;
       new = new_more path.corner (over_marks p) is.done s is.new (subst (λ (n : Mark). IsIn (place n) path.corner) (sym enter_is) want) b.gives.may.exchange.enters;
     }
-  where
-    some_apart : (step : Step) → Some step ≡ None → ⊥
-    some_apart step e = subst is_some_type e tt
-      where
-        is_some_type : Option Step → Type 0
-        is_some_type None = ⊥
-        is_some_type (Some t) = Unit {0}
 
 pub mark_stops : (p : Problem) (path : Path) (before rest : List Mark) (way : Way) (m : Mark) (enter : Spot) (sides : List (Option Side)) (stop : WayStop) → (is : IsWayAt p path before (m ∷ rest) way) → m ≡ mark_of p enter → IsIn (place m) path.corner
     → (IsIn (place m) (corner_after p is.done) → ⊥) → enter.at < line_count p → AreSides p path.corner sides → IsBringStop p way.kept sides enter stop → IsMarkStop p path stop
@@ -164,7 +153,8 @@ mark_stops p path before rest way m enter sides Fails is mark want out within ar
     let none = stops path.corner (corner_after p is.done) is.kept are in
     none_gives_way p path.corner (corner_after p is.done) m none.0.corner none.0.rays (subst (λ (n : Mark). IsIn (place n) (marks_of (lines p))) (sym mark) (mark_is_there p enter.at enter.side within)) out want
     (λ n may. none.1 n (subst (λ (x : Mark). MayGiveWay p path.corner (corner_after p is.done) (record { enter = x; leave = n })) mark may))
-mark_stops p path before rest way m enter sides (NoRoom n) is mark want out within are stops = λ unfit. no_room_there p path before rest way m n unfit is want out stops.0 (stops.1 (corner_after p is.done) is.kept)
+mark_stops p path before rest way m enter sides (NoRoom n) is mark want out within are stops = λ unfit.
+    no_room_there p path (λ ms. IsKept p ms way.kept) before rest way.kept.count way.kept.step way.sides.items m n unfit is want out stops.0 (counting p is.done way.kept.step is.begun (stops.1 (corner_after p is.done) is.kept))
 mark_stops p path before rest way m enter sides OutOfMemory is mark want out within are stops = tt
 
 -- whether the mark is inside, by the sides
@@ -175,7 +165,7 @@ inside_by_sides p at sides m enter are mark within = subst (λ (n : Mark). (slic
 
 pub mark_was_inside : (p : Problem) (way : Way) (sides : List (Option Side)) (enter : Spot) → enter.at < line_count p → slice_index_or way.sides.items enter.at None ≡ Some enter.side → HasMarkMore p way sides enter way
 mark_was_inside p way sides enter within here path before m rest next =
-    already_inside p path before rest way m next.way_is next.wanted ((inside_by_sides p (corner_after p next.way_is.done) way.sides.items m enter next.way_is.sides next.mark within).0 here)
+    already_inside p path (λ ms. IsKept p ms way.kept) before rest way.kept.count way.kept.step way.sides.items m next.way_is next.wanted ((inside_by_sides p (corner_after p next.way_is.done) way.sides.items m enter next.way_is.sides next.mark within).0 here)
 
 pub mark_came : (p : Problem) (way next : Way) (kept : Kept) (sides : List (Option Side)) (enter : Spot) → enter.at < line_count p → (slice_index_or way.sides.items enter.at None ≡ Some enter.side → ⊥)
     → ((wanted at : List Mark) → IsKept p at way.kept → AreSides p wanted sides → IsBrought p wanted at enter way.kept kept) → next.kept ≡ kept → ((step : Step) → kept.step ≡ Some step → next.sides.items ≡ moved_sides step way.sides.items)
@@ -184,7 +174,7 @@ mark_came p way next kept sides enter within out brings kept_is sides_is path be
     let at : List Mark = corner_after p is.way_is.done in
     let b : IsBrought p path.corner at enter way.kept kept = brings path.corner at is.way_is.kept is.sides_are in
     let c : IsBrought p path.corner at enter way.kept next.kept = subst (λ (k : Kept). IsBrought p path.corner at enter way.kept k) (sym kept_is) b in
-    one_mark_more p path before rest way next m enter is.way_is is.mark is.wanted
+    one_mark_more p path (λ ms. IsKept p ms way.kept) (λ ms. IsKept p ms next.kept) before rest way.kept.count next.kept.count way.kept.step next.kept.step way.sides.items next.sides.items m enter is.way_is is.mark is.wanted
     (λ i. out ((inside_by_sides p at way.sides.items m enter is.way_is.sides is.mark within).1 i)) c
     (sides_is c.step (sym (ap (λ (k : Kept). k.step) kept_is) ∙ c.step_is))
 

@@ -66,15 +66,21 @@ IsStuckBy p at (Some step) = HasUnfit p at
 
 -- ---- one mark is brought in
 
--- the exchange that brings the mark in, at the corner of which this is kept, and what is kept of the next
-pub record IsBrought (p : Problem) (wanted at : List Mark) (enter : Spot) (kept next : Kept) : Type 0 where
+-- the exchange that brings the mark in after so many, and what holds of the corner that it leads to
+pub record IsBroughtBy (p : Problem) (wanted at : List Mark) (enter : Spot) (holds : List Mark → Type 0)
+    (made next_made : ℕ) (last : Option Step) : Type 0 where
   pub step : Step
   pub enter_is : step.enter ≡ enter
   pub gives : GivesWay p wanted at (swap_of p step)
   pub within : IsWithin (line_count p) step
-  pub kept_is : IsKept p (exchanged (swap_of p step) at) next
-  pub step_is : next.step ≡ Some step
-  pub count_is : next.count ≡ kept.count + 1
+  pub kept_is : holds (exchanged (swap_of p step) at)
+  pub step_is : last ≡ Some step
+  pub count_is : next_made ≡ made + 1
+
+-- the exchange that brings the mark in, at the corner of which this is kept, and what is kept of the next
+abbrev pub IsBrought : Problem → (wanted at : List Mark) → Spot → (kept next : Kept) → Type 0
+IsBrought p wanted at enter kept next =
+    IsBroughtBy p wanted at enter (λ ms. IsKept p ms next) kept.count next.count next.step
 
 -- no mark gives way to it there
 abbrev pub IsBroughtByNone : Problem → List Mark → List Mark → Spot → Type 0
@@ -102,19 +108,26 @@ abbrev pub IsBegun : List Swap → Option Step → Type 0
 IsBegun [] o = o ≡ None
 IsBegun (s ∷ done) o = o ≢ None
 
--- the route has come here: these marks of the path's first corner are inside, and the rest is to come
-pub record IsWayAt (p : Problem) (path : Path) (before rest : List Mark) (way : Way) : Type 0 where
+-- the route has come here by so many exchanges, where this holds: these marks of the path's first corner are
+-- inside, and the rest is to come
+pub record IsRouteAt (p : Problem) (path : Path) (holds : List Mark → Type 0) (before rest : List Mark)
+    (made : ℕ) (last : Option Step) (by_line : List (Option Side)) : Type 0 where
   pub done : List Swap
-  pub count : length done ≡ way.kept.count
-  pub begun : IsBegun done way.kept.step
+  pub count : length done ≡ made
+  pub begun : IsBegun done last
   pub there : IsThere p (corner_after p done)
-  pub kept : IsKept p (corner_after p done) way.kept
-  pub sides : AreSides p (corner_after p done) way.sides.items
+  pub kept : holds (corner_after p done)
+  pub sides : AreSides p (corner_after p done) by_line
   pub goes_on : (more : List Swap) → GoesBy p path.corner path.swaps (corner_after p done) rest more
       → IsRoute p path (done ++ more)
   pub inside : All (λ m. IsIn (place m) (corner_after p done)) before
   pub wanted : All (λ m. IsIn (place m) path.corner) before
   pub new : AreNew path.corner (over_marks p) done
+
+-- the way has come here, and this is kept of the corner
+abbrev pub IsWayAt : Problem → Path → (before rest : List Mark) → Way → Type 0
+IsWayAt p path before rest way =
+    IsRouteAt p path (λ at. IsKept p at way.kept) before rest way.kept.count way.kept.step way.sides.items
 
 pub record IsUsableWay (count : ℕ) (way : Way) : Type 0 where
   pub kept : IsUsable count way.kept

@@ -13,11 +13,11 @@ ghost use Rattle.path_checker.specs.FirstLines.{AreFirstLines, HasUnfitFirst, Ha
 ghost use Rattle.path_checker.specs.Numbers.{number_at};
 ghost use Rattle.path_checker.specs.Route.{over_marks};
 ghost use Rattle.path_checker.specs.Tables.{AreLines, AreSized, IsSumOf, line_count};
-ghost use Rattle.frac_core.specs.declared.memory.Stop.TheVariants.{OutOfMemory};
+ghost use Rattle.frac_core.specs.declared.memory.Stop.TheVariants as stops;
 
 use crate::stop::SumStop;
 use crate::table::{Inside, Sum};
-use frac_core::{Frac, Stop, Unfit};
+use frac_core::{Frac, OutOfMemory, Stop, Unfit};
 use problem_core::{Problem, Row, Side, Stay, Term};
 use std::alloc::Global;
 
@@ -73,7 +73,7 @@ fn with_term(p: &Problem, sum: Terms, term: Term) -> Result<Terms, SumStop>
 fn zeros(alloc: Global, count: usize) -> Result<Vec<i64>, SumStop>
     ensures count { IfOk result (λ out. length out.items ≡ count) }
     ensures zeros { IfOk result (λ out. All (λ z. z ≡ pos 0) out.items) }
-    ensures memory { IfErr result (λ stop. stop ≡ OutOfMemory) }
+    ensures memory { IfErr result (λ stop. stop ≡ stops.OutOfMemory) }
 {
     let mut out = Vec::with_capacity(alloc, count)?;
     for _ in 0..count {
@@ -129,6 +129,23 @@ fn held_lines(alloc: Global, p: &Problem) -> Result<Vec<Option<Inside>>, SumStop
     Ok(out)
 }
 
+/// The lines of the rows where the route begins, and then those of the stays, which are outside.
+pub fn with_stays(
+    lines: Vec<Option<Inside>>,
+    p: &Problem,
+) -> Result<Vec<Option<Inside>>, OutOfMemory>
+    requires { AreFirstLines p.now (length p.now.rows) lines.items }
+    ensures sized { IfOk result (λ lines. AreSized lines.items) }
+    ensures count { IfOk result (λ lines. length lines.items ≡ line_count p.now) }
+    ensures lines { IfOk result (λ lines. AreLines p.now (over_marks p.now) lines.items) }
+{
+    let mut out = lines;
+    for _ in 0..p.stays().len() {
+        out.push(None)?;
+    }
+    Ok(out)
+}
+
 /// The lines of the corner where the route begins, or a sum of some row's first terms does not fit there.
 pub fn first_lines(alloc: Global, p: &Problem) -> Result<Vec<Option<Inside>>, SumStop>
     ensures sized { IfOk result (λ lines. AreSized lines.items) }
@@ -136,9 +153,6 @@ pub fn first_lines(alloc: Global, p: &Problem) -> Result<Vec<Option<Inside>>, Su
     ensures lines { IfOk result (λ lines. AreLines p.now (over_marks p.now) lines.items) }
     ensures unfit { IfErr result (λ stop. IsRefused stop → HasUnfitFirst p.now) }
 {
-    let mut out = held_lines(alloc, p)?;
-    for _ in 0..p.stays().len() {
-        out.push(None)?;
-    }
-    Ok(out)
+    let lines = held_lines(alloc, p)?;
+    Ok(with_stays(lines, p)?)
 }

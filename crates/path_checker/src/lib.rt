@@ -53,7 +53,7 @@ pub use exchange::{
     Pivot, after_exchange, carried, carried_sum, entering, entering_sum, entering_value,
     exchanged_lines, is_exchange, same, solving,
 };
-pub use first::{first_lines, first_sum};
+pub use first::{first_lines, first_sum, with_stays};
 pub use frame::weights;
 pub use laws::{
     apart_by_sides, begins_there, carried_is_equation, carried_level_is_row, entering_is_equation,

@@ -1,5 +1,5 @@
 -- The route along the swaps of a path, swap by swap.
-use Rattle.std.proofs.Common.{◌≡◌, ◌≢◌, ◌∙◌, ◌↔◌, ◌+◌, ℕ, ◌<◌, ◌≤◌, ◌++◌, Bool, true, false, ◌&&◌, not, IsTrue, List, [], ◌∷◌, length, get_or, take, drop, refl, sym, ap, subst, subst₂, arith, Option, None, Some, length-append, take-append-drop, take_all}
+use Rattle.std.proofs.Common.{◌≡◌, ◌≢◌, ◌∙◌, ◌↔◌, ◌+◌, ℕ, ◌<◌, ◌≤◌, ◌++◌, Bool, true, false, ◌&&◌, IsTrue, List, [], ◌∷◌, length, get_or, take, drop, refl, sym, ap, subst, subst₂, arith, Option, None, Some, length-append, take-append-drop, take_all}
 use Rattle.std.proofs.lemmas.List.{length-take-le}
 use Rattle.problem_core.specs.declared.parts.Mark.{Mark}
 use Rattle.problem_core.specs.declared.stops.Quantity.{Quantity}
@@ -18,24 +18,20 @@ use Rattle.path_checker.specs.Route.{IsRoute, corner_after, over_marks}
 use Rattle.path_checker.specs.Sides.{IsWithin}
 use Rattle.path_checker.specs.Tables.{IsThere, line_count, swap_of}
 use Rattle.path_checker.specs.Ways.{IsBegun, IsMarkStop}
-use Rattle.path_checker.proofs.Following.{last_after, last_more, not_whole, take_next}
+use Rattle.path_checker.proofs.Following.{last_after, not_whole, take_next, exchange_there}
 use Rattle.path_checker.proofs.Iffs.{never_true, yes}
 use Rattle.path_checker.proofs.Places.{mark_is_there}
-use Rattle.path_checker.proofs.WaySteps.{begun_more, counts_there}
+use Rattle.path_checker.proofs.WaySteps.{IsCounting, begun_more, counts_there, last_more, some_apart}
 use Rattle.path_checker.proofs.Walks.{split_there}
 use Rattle.path_levels.specs.declared.frame.Frame.{Frame}
 use Rattle.path_claims.specs.declared.stations.Station.{Station}
 use Rattle.path_claims.specs.declared.stations.Table.{Table}
 use Rattle.path_claims.specs.Journeys.{AreSoundAhead, IsOnRoute, LeadThere}
 use Rattle.path_claims.specs.Stations.{IsStation, IsStationBy, IsStuckAt, IsTableAt, IsUsableStation}
-use Rattle.path_claims.proofs.JourneySteps.{IsCountingAt, counting_at, some_apart}
+use Rattle.path_claims.proofs.JourneySteps.{counting_at}
 use Rattle.path_claims.proofs.MarkOrders.{end_same, exchange_same, exchanges_same, last_same, may_same, same_back, sound_same}
 
 -- ---- exchanges
-
-exchange_at : (p : Problem) (at : List Mark) (a : List Swap) (s : Swap) (b : List Swap) → AreExchanges p at (a ++ s ∷ b) → IsExchange p (last_marks at a) s
-exchange_at p at [] s b are = are.0
-exchange_at p at (t ∷ a) s b are = exchange_at p (exchanged t at) a s b are.1
 
 exchanges_first : (p : Problem) (at : List Mark) (a b : List Swap) → AreExchanges p at (a ++ b) → AreExchanges p at a
 exchanges_first p at [] b are = tt
@@ -45,7 +41,7 @@ pub first_exchanges : (p : Problem) (path : Path) (i : ℕ) → AreExchanges p p
 first_exchanges p path i are = exchanges_first p path.corner (take i path.swaps) (drop i path.swaps) (subst (AreExchanges p path.corner) (sym (take-append-drop i path.swaps)) are)
 
 pub swap_there : (p : Problem) (path : Path) (i : ℕ) (d : Swap) → i < length path.swaps → AreExchanges p path.corner path.swaps → IsExchange p (last_marks path.corner (take i path.swaps)) (get_or path.swaps i d)
-swap_there p path i d less are = exchange_at p path.corner (take i path.swaps) (get_or path.swaps i d) (drop (i + 1) path.swaps) (subst (AreExchanges p path.corner) (split_there path.swaps i d less) are)
+swap_there p path i d less are = exchange_there p path.corner (take i path.swaps) (get_or path.swaps i d) (drop (i + 1) path.swaps) (subst (AreExchanges p path.corner) (split_there path.swaps i d less) are)
 
 -- the route's corner has the marks of the path's
 pub marks_same : (p : Problem) (path : Path) (brings made : List Swap) → LeadThere p path brings → AreExchanges p path.corner made → SameMarks (corner_after p (brings ++ made)) (last_marks path.corner made)
@@ -88,10 +84,6 @@ both_are a b f g h =
       λ r. let k = h.0 r in both.1 (f.1 k.0, g.1 k.1),
     )
 
-pub not_and : {P Q : Type 0} (a b : Bool) → IsTrue a ↔ P → IsTrue b ↔ Q → IsTrue (not a && b) ↔ ((P → ⊥) × Q)
-not_and true b f g = (λ h. absurd (never_true h), λ h. absurd (h.0 (f.0 yes)))
-not_and false b f g = (λ h. (λ is. never_true (f.1 is), g.0 h), λ h. g.1 h.1)
-
 -- ---- as the code goes
 
 -- so many swaps are made, and whether all held at each corner before, and each swap was called for
@@ -101,15 +93,6 @@ pub record IsWalkedTo (p : Problem) (path : Path) (frame : Frame) (i : ℕ) (sta
   pub count : station.count ≤ length path.corner + i
   pub sound_is : IsTrue sound ↔ AreSoundAhead path.dual p path.corner (take i path.swaps)
   pub called_is : IsTrue called ↔ AreCalledFor path.dual p path.corner (take i path.swaps)
-
-pub walk_begins : (p : Problem) (path : Path) (frame : Frame) (station : Station) → IsOnRoute p path frame [] station → IsUsableStation frame station → station.count ≤ length path.corner → IsWalkedTo p path frame 0 station true true
-walk_begins p path frame station route usable count = record {
-  route = route;
-  usable = usable;
-  count = omega (arith, count);
-  sound_is = (λ h. tt, λ h. yes);
-  called_is = (λ h. tt, λ h. yes);
-}
 
 route_more : (p : Problem) (path : Path) (frame : Frame) (i : ℕ) (d : Swap) (station next : Station) (table : Table) (step : Step) → (is : IsOnRoute p path frame (take i path.swaps) station) → i < length path.swaps → swap_of p step ≡ get_or path.swaps i d → IsWithin (line_count p) step
     → IsTableAt p (corner_after p (is.brings ++ take i path.swaps)) frame table → IsExchange p (corner_after p (is.brings ++ take i path.swaps)) (swap_of p step) → next.table ≡ table → next.step ≡ Some step → next.count ≡ station.count + 1
@@ -176,7 +159,7 @@ pub no_room_on : (p : Problem) (path : Path) (frame : Frame) (i n : ℕ) (statio
     → IsStuckAt p (corner_after p (is.brings ++ take i path.swaps)) station.step → HasNoRoom p path unfit n
 no_room_on p path frame i n station unfit is are less same stuck =
     let done : List Swap = is.brings ++ take i path.swaps in
-    let counting_is : IsCountingAt p done = counting_at p done station.step is.begun stuck in
+    let counting_is : IsCounting p done = counting_at p done station.step is.begun stuck in
     let long : length (take i path.swaps) ≡ i = length-take-le i path.swaps (omega (arith, less)) in
     record {
       done = done;
@@ -191,7 +174,7 @@ no_room_on p path frame i n station unfit is are less same stuck =
 pub no_room_end : (p : Problem) (path : Path) (frame : Frame) (n : ℕ) (station : Station) → (is : IsOnRoute p path frame path.swaps station) → AreExchanges p path.corner path.swaps → n ≡ station.count → IsStuckAt p (corner_after p (is.brings ++ path.swaps)) station.step → HasNoRoom p path None n
 no_room_end p path frame n station is are same stuck =
     let done : List Swap = is.brings ++ path.swaps in
-    let counting_is : IsCountingAt p done = counting_at p done station.step is.begun stuck in
+    let counting_is : IsCounting p done = counting_at p done station.step is.begun stuck in
     let all : take (length path.swaps) path.swaps ≡ path.swaps = take_all (length path.swaps) path.swaps (omega arith) in
     record {
       done = done;
@@ -203,29 +186,10 @@ no_room_end p path frame n station is are same stuck =
     }
 
 pub walk_stuck : (p : Problem) (path : Path) (stop : WayStop) (n : ℕ) → (stop ≢ OutOfMemory → (stop ≡ NoRoom n) × ((unfit : Option Quantity) → HasNoRoom p path unfit n)) → IsMarkStop p path stop
-walk_stuck p path Fails n h = absurd (wrong (h (λ e. absurd (fails_not e))).0)
-  where
-    is_fails : WayStop → Type 0
-    is_fails Fails = Unit {0}
-    is_fails (NoRoom n) = ⊥
-    is_fails OutOfMemory = ⊥
-
-    fails_not : Fails ≡ OutOfMemory → ⊥
-    fails_not e = subst is_fails e tt
-
-    wrong : Fails ≡ NoRoom n → ⊥
-    wrong e = subst is_fails e tt
+walk_stuck p path Fails n h = let e : Fails ≡ NoRoom n = (h (λ o. cc)).0 in absurd (cc)
 walk_stuck p path (NoRoom k) n h =
-    let there = h (λ e. subst is_room e tt) in
-    λ unfit. subst (HasNoRoom p path unfit) (sym (ap count_of there.0)) (there.1 unfit)
-  where
-    is_room : WayStop → Type 0
-    is_room Fails = ⊥
-    is_room (NoRoom n) = Unit {0}
-    is_room OutOfMemory = ⊥
-
-    count_of : WayStop → ℕ
-    count_of Fails = 0
-    count_of (NoRoom n) = n
-    count_of OutOfMemory = 0
+    let there = h (λ o. cc) in
+    let e : NoRoom k ≡ NoRoom n = there.0 in
+    let same : n ≡ k = cc in
+    λ unfit. subst (HasNoRoom p path unfit) same (there.1 unfit)
 walk_stuck p path OutOfMemory n h = tt

@@ -1,11 +1,8 @@
 -- Attributes by their stays' lines, and marks, after an exchange.
-use Rattle.std.proofs.Common.{◌≡◌, ◌≢◌, ◌∙◌, ◌↔◌, ℕ, ◌+◌, ◌*◌, ◌<◌, List, length, get_or, ℤ, pos, ◌+ℤ◌, ◌-ℤ◌, ◌*ℤ◌, unsigned_abs, refl, sym, ap, ap₂, subst, arith, All, Option, None, Some, Bool, true, false, cond, nat_eq, [], ◌∷◌, mul-pos}
-use Rattle.std.specs.List.{AllByRecursion as Each}
+use Rattle.std.proofs.Common.{◌≡◌, ◌≢◌, ◌∙◌, ◌↔◌, ℕ, ◌+◌, ◌*◌, ◌<◌, List, length, get_or, ℤ, pos, ◌+ℤ◌, ◌-ℤ◌, ◌*ℤ◌, unsigned_abs, refl, sym, ap, ap₂, subst, arith, All, Option, None, Some, Bool, true, false, cond, nat_eq, mul-pos}
 use Rattle.std.proofs.lemmas.List.{get_or_default, length-map}
 use borrow.Author.Differences.{ints}
 use Rattle.frac_core.specs.Fraction.{Fraction, IsFitting, IsKept, IsRatio, IsUnfitRatio, sum_den, sum_num}
-use Rattle.frac_core.proofs.Integers.{zero-mul_ℤ}
-use Rattle.problem_core.proofs.Forms.{sum-zero}
 use Rattle.problem_core.specs.declared.parts.Mark.{Mark}
 use Rattle.problem_core.specs.declared.parts.RowName.{RowName}
 use Rattle.problem_core.specs.declared.parts.RowName.TheVariants.{Held, Stay as StayOf}
@@ -24,24 +21,21 @@ use Rattle.corner_lines.proofs.LineUnfits.{line_sum, line_unfit}
 use Rattle.path_checker.specs.declared.table.Inside.{Inside}
 use Rattle.path_checker.specs.declared.table.Sum.{Sum}
 use Rattle.path_checker.specs.declared.spots.Spot.{Spot}
-use Rattle.path_checker.specs.Tables.{IsLineAt, IsSpotOf, IsThere, line_count, name_at, names_of, numbers_of}
-use Rattle.path_checker.proofs.Exchanging.{one_side, side_out}
-use Rattle.path_checker.proofs.FirstLines.{count_lines, stay_at, stay_name, units}
+use Rattle.path_checker.specs.Tables.{AreLines, IsLineAt, IsSpotOf, IsThere, line_count, name_at, names_of, numbers_of}
+use Rattle.path_checker.proofs.Exchanging.{one_side}
+use Rattle.path_checker.proofs.FirstLines.{count_lines, stay_at, stay_name, units, sum_of_unit, units_outside, nothing_moves}
 use Rattle.path_checker.proofs.Places.{any_line}
 use Rattle.path_checker.proofs.ValueSigns.{inside_place}
 use Rattle.path_claims.specs.Attrs.{IsAttrAfter, IsFittingStay, IsStayAt, IsUnfitStay}
 use Rattle.path_claims.specs.Fits.{AllAttrsFit}
 use Rattle.path_checker.specs.Pivots.{HasUnfit}
 use Rattle.std.proofs.Math.Nat.{eq-one_of_dvd-one}
-use Rattle.corner_lines.proofs.LineWritings.{line_writing}
+use Rattle.corner_lines.proofs.LineWritings.{line_writing, no-side}
 use Rattle.path_claims.specs.Sums.{IsCopy, IsKeptLine, IsQuantitySum, IsSideAt, IsUnfitLineAt}
-use Rattle.path_claims.proofs.SumsAfter.{sum_of_unit, units_outside}
 use Rattle.path_claims.proofs.QuantitiesAfter.{copied_sum, form_fits, mark_fits, quantity_fits}
+use Rattle.path_checker.proofs.WayBegins.{any_stay}
 
 -- ---- a stay's line
-
-pub any_stay : Stay
-any_stay = record { attr = 0; target = record { num = pos 0; den = 1 } }
 
 pub stay_within : (p : Problem) (attr at : ℕ) (target : Fraction) → IsStayAt p attr at target → at < line_count p
 stay_within p attr at target is = omega (arith, is.within, is.place, count_lines p)
@@ -88,13 +82,6 @@ outside_attr p marks attr at target there is out = record {
         ap (λ (z : ℤ). pos d *ℤ z) g ∙ f ∙ sym (one_times r)
 
 -- ---- inside
-
-nothing_moves : (p : Problem) (x : ℕ → ℤ) → sum_of (λ l. pos 0 *ℤ deviation l.name x) (lines p) ≡ pos 0
-nothing_moves p x = sum-zero (λ l. pos 0 *ℤ deviation l.name x) (lines p) (all_zero (lines p))
-  where
-    all_zero : (ls : List Line) → Each (λ l. pos 0 *ℤ deviation l.name x ≡ pos 0) ls
-    all_zero [] = tt
-    all_zero (l ∷ ls) = (zero-mul_ℤ (deviation l.name x), all_zero ls)
 
 target_sum : (p : Problem) (marks : List Mark) (attr at : ℕ) (target : Fraction) → IsThere p marks → IsStayAt p attr at target → IsLineSum p marks (λ x. x (attr_column attr) -ℤ deviation (name_at p at) x) 1 (λ n. pos 0) target.num target.den
 target_sum p marks attr at target there is = record {
@@ -159,15 +146,12 @@ unknown_mark p at mark there none inside =
 
 -- where the line is as it is kept, its inside mark fits
 pub line_fits : (p : Problem) (at : List Mark) (name : RowName) (side : Side) (line : Option Inside) → IsThere p at → IsLineAt p at name line → IsKeptLine line → IsIn (place_of name side) at → HasNoWriting p at (λ x. x (place_of name side)) → ⊥
-line_fits p at name side None there out kept inside none = side_out at name side out inside
+line_fits p at name side None there out kept inside none = no-side at name side out inside
 line_fits p at name side (Some one) there line kept inside none =
     mark_fits p at name one there line kept (subst (λ (s : Side). HasNoWriting p at (λ x. x (place_of name s))) (one_side p at name side one.side there inside line.0) none)
 
 pub side_same : (p : Problem) (at : List Mark) (name : RowName) (side other : Side) → IsThere p at → IsSideAt at name (Some other) → (other ≡ side) ↔ IsIn (place_of name side) at
 side_same p at name side other there inside = (λ e. subst (λ (s : Side). IsIn (place_of name s) at) e inside, λ i. one_side p at name other side there inside i)
-
-pub side_none : (at : List Mark) (name : RowName) (side : Side) → IsSideAt at name None → IsIn (place_of name side) at → ⊥
-side_none at name side out inside = side_out at name side out inside
 
 -- ---- by the place of the mark's line
 
@@ -192,8 +176,8 @@ mark_in_unfit p at mark spot there is inside unfit =
 
 -- ---- by the attribute's stay
 
-pub no_stay_of : (p : Problem) (attr : ℕ) → All (λ s. s.attr ≢ attr) p.stays → HasStay p.stays attr → ⊥
-no_stay_of p attr none (k, s, within, is, e) = none k s within (ap (λ (t : Stay). t.attr) is ∙ e)
+pub line_is : (p : Problem) (marks : List Mark) (lines : List (Option Inside)) (k : ℕ) (kept : Option Inside) → AreLines p marks lines → k < line_count p → kept ≡ get_or lines k kept → IsLineAt p marks (name_at p k) kept
+line_is p marks lines k kept are within is = subst (IsLineAt p marks (name_at p k)) (sym is) (are.each k kept within)
 
 pub stay_at_place : (p : Problem) (attr i : ℕ) (target : Fraction) (stay : Stay) → i < length p.stays → stay ≡ get_or p.stays i stay → stay.attr ≡ attr → stay.target ≡ target → IsStayAt p attr (length p.rows + i) target
 stay_at_place p attr i target stay within is attr_is target_is = record {

@@ -1,5 +1,5 @@
 -- What is made of the corner where a route begins, and what fits there.
-use Rattle.std.proofs.Common.{◌≡◌, ◌∙◌, ℕ, ◌+◌, ◌<◌, ◌≤◌, List, [], ◌∷◌, length, get_or, refl, sym, ap, subst, arith, inl, inr, Option}
+use Rattle.std.proofs.Common.{◌≡◌, ◌∙◌, ℕ, ◌+◌, ◌<◌, ◌≤◌, List, length, get_or, refl, sym, ap, subst, arith, inl, inr, Option}
 use Rattle.std.proofs.lemmas.Bool.{cases_eq, cases_lt}
 use Rattle.std.proofs.lemmas.List.{get_or_default}
 use Rattle.problem_core.specs.declared.parts.Level.{Level}
@@ -7,7 +7,7 @@ use Rattle.problem_core.specs.declared.parts.Mark.{Mark}
 use Rattle.problem_core.specs.declared.stops.Quantity.{Quantity}
 use Rattle.problem_core.specs.declared.stops.Quantity.TheVariants.{Plain, Terms, Rows, Shifts}
 use Rattle.problem_core.specs.Kept.{IsWhole}
-use Rattle.problem_core.specs.Layout.{Line, Problem, Row, lines}
+use Rattle.problem_core.specs.Layout.{Problem, Row, lines}
 use Rattle.problem_core.specs.Unfit.{AreOverFrom, IsUnfitAt, IsUnfitTerms, over_mark}
 use Rattle.path_checker.specs.declared.table.Inside.{Inside}
 use Rattle.path_checker.specs.FirstLines.{IsRowOf}
@@ -17,15 +17,14 @@ use Rattle.path_checker.specs.Tables.{AreLines, AreSized, line_count}
 use Rattle.path_checker.proofs.FirstCorner.{begins_there}
 use Rattle.path_checker.proofs.FirstLines.{all_over, count_lines}
 use Rattle.path_levels.specs.declared.frame.Frame.{Frame}
-use Rattle.path_levels.specs.declared.frame.LevelFacts.{LevelFacts}
-use Rattle.path_levels.specs.declared.frame.LineFacts.{LineFacts}
 use Rattle.path_levels.specs.declared.sums.LevelSum.{LevelSum}
 use Rattle.path_claims.specs.Begun.{IsBegunUntil, IsWholeBegun}
 use Rattle.path_claims.specs.FirstSums.{AreMade, IsFirstUnfitSum, IsStopAt, IsUnfitSum}
-use Rattle.path_levels.specs.Frames.{AreFactsOf, IsFrame}
+use Rattle.path_levels.specs.Frames.{IsFrame}
 use Rattle.path_levels.specs.Levels.{AreLevels, AreSizedLevels}
 use Rattle.path_levels.specs.Rows.{AllRowsFit, AreKept, IsFirstOfAll}
 use Rattle.path_claims.proofs.FirstSums.{over_number, same_row}
+use Rattle.path_levels.proofs.LineShares.{facts_count}
 
 -- ---- rows and their sums
 
@@ -113,12 +112,6 @@ partial_fits p made (Plain what) whole are rows partial unfit = partial
 partial_fits p made (Terms m i) whole are rows partial unfit = all_terms_fit p made m i whole are unfit
 partial_fits p made (Rows level i) whole are rows partial unfit = rows level i unfit
 partial_fits p made (Shifts what i) whole are rows partial unfit = partial
-
-facts_count : (levels : List LevelFacts) (ls : List Line) (facts : List LineFacts) → AreFactsOf levels ls facts → length facts ≡ length ls
-facts_count levels [] [] are = refl
-facts_count levels [] (f ∷ facts) are = absurd are
-facts_count levels (l ∷ ls) [] are = absurd are
-facts_count levels (l ∷ ls) (f ∷ facts) are = let h = facts_count levels ls facts are.1 in omega (arith, h)
 
 pub frame_count : (p : Problem) (frame : Frame) → IsFrame p frame → length frame.lines.items ≡ line_count p
 frame_count p frame is = facts_count frame.levels.items (lines p) frame.lines.items is.lines_are

@@ -8,7 +8,7 @@ use Rattle.problem_core.specs.declared.parts.Mark.{Mark}
 use Rattle.problem_core.specs.declared.parts.RowName.{RowName}
 use Rattle.problem_core.specs.declared.parts.RowName.TheVariants.{Stay as StayOf}
 use Rattle.problem_core.specs.declared.parts.Level.{Level}
-use Rattle.problem_core.specs.declared.parts.Level.TheVariants.{Priority, Stay as StayLevel}
+use Rattle.problem_core.specs.declared.parts.Level.TheVariants.{Stay as StayLevel}
 use Rattle.problem_core.specs.declared.stops.What.TheVariants.{Mark as MarkOf}
 use Rattle.problem_core.specs.declared.stops.Quantity.TheVariants.{Plain, Rows}
 use Rattle.problem_core.specs.Kept.{IsWhole}
@@ -26,7 +26,9 @@ use Rattle.path_claims.specs.FirstLines.{HasUnfitFirst, IsFirstAt, size_in}
 use Rattle.path_claims.specs.Fits.{IsFitAt}
 use Rattle.path_levels.specs.Frames.{AreFactsOf, AreLevelFacts, IsFactsOf, IsFrame, number_at}
 use Rattle.path_levels.specs.Rows.{level_place, level_size}
-use Rattle.path_claims.proofs.LevelsAfter.{any_facts, facts_at, facts_count, level_once}
+use Rattle.path_claims.proofs.LevelsAfter.{facts_at, facts_count, level_once}
+use Rattle.path_levels.proofs.FitFacts.{any_facts}
+use Rattle.path_levels.proofs.MultipleFacts.{any_level}
 
 -- ---- the place of a level
 
@@ -63,9 +65,6 @@ one_level p levels a b d are here there same =
     ]
 
 -- ---- how many lines of a level there are
-
-any_level : LevelFacts
-any_level = record { level = Priority 0; number = 0 }
 
 same_test : (p : Problem) (levels : List LevelFacts) (place : ℕ) (l : Line) (f : LineFacts) → AreLevelFacts p levels → place < length levels → IsFactsOf levels l f → nat_eq l.level (number_at levels place) ≡ nat_eq f.level place
 same_test p levels place l f are within is =

@@ -1,5 +1,5 @@
 -- Sums of rows' first terms at the corner where the route begins.
-use Rattle.std.proofs.Common.{◌≡◌, ◌∙◌, ℕ, zero, suc, ◌+◌, ◌*◌, ◌<◌, ◌≤◌, ◌^◌, Bool, cond, nat_eq, List, [], ◌∷◌, length, get_or, true, false, ℤ, pos, negsuc, ◌+ℤ◌, ◌-ℤ◌, ◌*ℤ◌, neg_ℤ, unsigned_abs, refl, sym, ap, subst, arith, inl, inr, mul-pos, replicate, ◌++◌, Option, Some}
+use Rattle.std.proofs.Common.{◌≡◌, ◌∙◌, ℕ, ◌+◌, ◌*◌, ◌<◌, ◌≤◌, ◌^◌, Bool, cond, nat_eq, List, [], ◌∷◌, length, get_or, true, false, ℤ, pos, ◌+ℤ◌, ◌*ℤ◌, neg_ℤ, unsigned_abs, refl, sym, ap, subst, arith, inl, inr, replicate, ◌++◌, Option, Some}
 use Rattle.std.specs.List.{All, AllPairs, AllByRecursion as Each}
 use Rattle.std.proofs.lemmas.Bool.{cases_eq, cases_lt}
 use Rattle.std.proofs.lemmas.List.{get_or_default, get_or-replicate, length-replicate}
@@ -7,20 +7,19 @@ use Rattle.std.proofs.lemmas.List.Elements.{recursion_from_All}
 use Rattle.std.proofs.Math.Nat.{eq-one_of_dvd-one}
 use borrow.Author.Differences.{ints}
 use Rattle.frac_core.specs.Fraction.{Fraction, IsFitting, IsKept, IsRatio, IsUnfitRatio, sum_den, sum_num}
-use Rattle.problem_core.specs.declared.parts.Mark.{Mark}
 use Rattle.problem_core.specs.declared.parts.RowName.{RowName}
 use Rattle.problem_core.specs.declared.parts.RowName.TheVariants.{Held}
 use Rattle.problem_core.specs.declared.parts.Side.TheVariants.{Under, Over}
 use Rattle.problem_core.specs.declared.parts.Stay.{Stay}
 use Rattle.problem_core.specs.declared.parts.Term.{Term}
 use Rattle.problem_core.specs.Kept.{IsTerm, IsWhole}
-use Rattle.problem_core.specs.Layout.{HasStay, IsCovered, Line, Problem, Row, coefficient, lines, value_at}
+use Rattle.problem_core.specs.Layout.{HasStay, IsCovered, Line, Problem, Row, coefficient, lines}
 use Rattle.problem_core.specs.Corners.{IsIn, attr_column, place, place_of}
 use Rattle.problem_core.specs.Unfit.{HasNoWriting, IsUnfitTerms, first_terms, over_mark}
 use Rattle.corner_laws.proofs.Directions.{each-of}
 use Rattle.corner_laws.proofs.LinePlaces.{lines_apart}
 use Rattle.corner_lines.specs.LineEquations.{IsLineEquation, IsLineSum, deviation, inside_form, mark_form}
-use Rattle.corner_lines.proofs.JoinedLines.{goes_on, past-terms}
+use Rattle.corner_lines.proofs.JoinedLines.{goes_on, past-terms, same-writing}
 use Rattle.corner_lines.proofs.LineUnfits.{line_unfit}
 use Rattle.corner_lines.proofs.LineWritings.{inside-other, line_writing, mark_writing, other_coefficient}
 use Rattle.corner_lines.proofs.MarkForms.{by-places}
@@ -30,18 +29,14 @@ use Rattle.path_checker.specs.Tables.{IsSumOf, IsThere, line_count, numbers_of}
 use Rattle.path_checker.specs.declared.table.Inside.{Inside}
 use Rattle.path_checker.specs.declared.table.Sum.{Sum}
 use Rattle.path_checker.proofs.FirstCorner.{begins_there}
-use Rattle.path_checker.proofs.FirstLines.{attr_sum, held_line, no_terms_yet, one_line_more, one_term_more, over_in, stay_there, units}
+use Rattle.path_checker.proofs.FirstLines.{attr_sum, held_line, no_terms_yet, one_line_more, one_term_more, over_in, stay_there, units, den_above}
 use Rattle.path_claims.specs.FirstSums.{AllSumsFit, AreMade, DoFitBefore, IsFirstUnfitSum, IsNextTooMuch, IsNextValue, IsTarget, IsTermsValue, IsUnfitSum}
+use Rattle.frac_core.proofs.Quotients.{size_opposite}
 
 -- ---- numbers that fit
 
-neg-size : (z : ℤ) → unsigned_abs (neg_ℤ z) ≡ unsigned_abs z
-neg-size (pos zero) = refl
-neg-size (pos (suc n)) = refl
-neg-size (negsuc n) = refl
-
 pub fits_turned : (z : ℤ) → IsFitting z → IsFitting (neg_ℤ z)
-fits_turned z fits = let e = neg-size z in omega (arith, e, fits)
+fits_turned z fits = let e = size_opposite z in omega (arith, e, fits)
 
 number_small : (ls : List Line) (by : List ℤ) (name : RowName) (n : ℕ) → Each (λ z. unsigned_abs z ≤ n) by → unsigned_abs (numbers_of ls by name) ≤ n
 number_small [] by name n all = omega arith
@@ -101,9 +96,6 @@ next_value p term value next target whole proper (i, s, within, is, (attr, same)
 abbrev raised : Problem → List ℤ → ℤ → ℕ → RowName → ℤ
 raised p by k at name = pos 1 *ℤ numbers_of (lines p) by name +ℤ (pos 1 *ℤ k) *ℤ units p at name
 
-den_above : (a b : ℕ) → 0 < a → 0 < b → 0 < a * (1 * b)
-den_above a b h k = mul-pos h (let o : 0 < 1 * b = omega (arith, k) in o)
-
 one_more_unfit : (p : Problem) (r : Row) (j i : ℕ) (d : Term) (s : Stay) (by : List ℤ) (value : Fraction) → IsWhole p → j < length r.terms → i < length p.stays → (stay_there p i s).attr ≡ (get_or r.terms j d).attr → IsTermsSum p r j by value
     → IsUnfitRatio (sum_num value (get_or r.terms j d).by (pos 1) (stay_there p i s).target) (sum_den value (pos 1) (stay_there p i s).target) → IsUnfitSum p r (j + 1)
 one_more_unfit p r j i d s by value whole less within attr is unfit =
@@ -155,17 +147,8 @@ number_holds P (l ∷ ls) (z ∷ by) name none all = either (nat_eq (place_of l.
 once : (z : ℤ) → z ≡ pos 1 *ℤ z
 once z = omega (arith, ints)
 
-pub same_writing : (p : Problem) (at : List Mark) (q u : (ℕ → ℤ) → ℤ) → ((x : ℕ → ℤ) → q x ≡ u x) → HasNoWriting p at q → HasNoWriting p at u
-same_writing p at q u same none scale form value w = none scale form value (record {
-  scale_positive = w.scale_positive;
-  den_positive = w.den_positive;
-  outside = w.outside;
-  holds = λ x solves. ap (λ (z : ℤ). pos value.den *ℤ (pos scale *ℤ z -ℤ value_at x.num form)) (same x.num) ∙ w.holds x solves;
-  lowest = w.lowest;
-})
-
 pub mark_has_none : (p : Problem) (r : Row) → IsUnfitSum p r (length r.terms + 1) → HasNoWriting p (over_marks p) (λ x. x (place (over_mark r.id)))
-mark_has_none p r none = same_writing p (over_marks p) (first_terms r (length r.terms + 1)) (λ x. x (place (over_mark r.id))) (λ x. past-terms r x) none
+mark_has_none p r none = same-writing p (over_marks p) (first_terms r (length r.terms + 1)) (λ x. x (place (over_mark r.id))) (λ x. past-terms r x) none
 
 inside_fits : (p : Problem) (name : RowName) (own : ℕ) (by : List ℤ) (num : ℤ) (den : ℕ) → IsThere p (over_marks p) → IsIn (place_of name Over) (over_marks p) → IsLineEquation p (over_marks p) (deviation name) own (numbers_of (lines p) by) num den
     → IsFitting (pos own) → All IsFitting by → (v : ℕ) → IsFitting (coefficient v (inside_form Over name own (numbers_of (lines p) by) (lines p)))
@@ -237,9 +220,6 @@ last_is_first p r n whole held n_is (j, told) before =
     ]
 
 -- ---- line by line
-
-pub none_made : (p : Problem) → AreMade p 0 []
-none_made p = record { lines_are = record { count = refl; each = λ k d less. absurd (omega (arith, less)) }; fit = λ k d less. absurd (omega (arith, less)) }
 
 pub one_more_made : (p : Problem) (n : ℕ) (r : Row) (sum : Sum) (lines : List (Option Inside)) → n < length p.rows → r ≡ get_or p.rows n r → IsSumOf p (over_marks p) (Held r.id) sum → AllSumsFit p r → AreMade p n lines
     → AreMade p (n + 1) (lines ++ Some (record { side = Over; sum = sum }) ∷ [])

@@ -1,34 +1,29 @@
 -- The route to a path's first corner with levels, mark by mark.
-use Rattle.std.proofs.Common.{◌≡◌, ◌≢◌, ◌∙◌, ◌+◌, ℕ, ◌<◌, ◌++◌, List, [], ◌∷◌, length, get_or, take, drop, refl, sym, ap, subst, subst₂, arith, inl, inr, Option, None, Some, All, length-append}
+use Rattle.std.proofs.Common.{◌≡◌, ◌≢◌, ◌∙◌, ◌+◌, ℕ, ◌<◌, ◌++◌, List, [], ◌∷◌, length, get_or, take, drop, refl, sym, ap, subst, subst₂, arith, inl, inr, Option, None, Some}
 use Rattle.std.specs.Prelude.{slice_index_or}
 use Rattle.std.proofs.lemmas.List.{take_more}
-use Rattle.std.proofs.lemmas.List.Elements.{All-push}
 use Rattle.problem_core.specs.declared.parts.Mark.{Mark}
 use Rattle.problem_core.specs.declared.parts.RowName.{RowName}
-use Rattle.problem_core.specs.declared.stops.Quantity.{Quantity}
 use Rattle.problem_core.specs.declared.stops.Quantity.TheVariants.{Plain, Terms, Rows}
 use Rattle.problem_core.specs.Layout.{Problem, lines as lines_of}
 use Rattle.problem_core.specs.Kept.{IsWhole}
 use Rattle.problem_core.specs.Corners.{IsCorner, IsIn, Swap, exchanged, marks_of, place}
-use Rattle.problem_core.specs.Unfit.{IsUnfitAt, over_mark}
-use Rattle.corner_laws.proofs.Rays.{enter_in, kept_in, rays_after}
+use Rattle.problem_core.specs.Unfit.{over_mark}
 use Rattle.cert_core.specs.Paths.{Path}
 use Rattle.path_checker.specs.declared.spots.Spot.{Spot}
 use Rattle.path_checker.specs.declared.spots.Step.{Step}
 use Rattle.path_checker.specs.declared.way.WayStop.{WayStop}
 use Rattle.path_checker.specs.declared.way.WayStop.TheVariants.{Fails, NoRoom, OutOfMemory}
 use Rattle.path_checker.specs.Bringing.{IsBringing, NothingBrings}
-use Rattle.path_checker.specs.Room.{CountsOnTheWay, HasNoRoom}
-use Rattle.path_checker.specs.Route.{GivesWay, GoesBy, IsRoute, MayGiveWay, corner_after, over_marks}
+use Rattle.path_checker.specs.Route.{GivesWay, MayGiveWay, corner_after, over_marks}
 use Rattle.path_checker.specs.Sides.{IsWithin, moved_sides}
-use Rattle.path_checker.specs.Tables.{AreSides, IsSpotOf, IsThere, line_count, mark_of, names_of, swap_of}
+use Rattle.path_checker.specs.Tables.{IsSpotOf, IsThere, line_count, names_of, swap_of}
 use Rattle.path_checker.specs.Ways.{AreFirstSides, IsBegun, IsMarkStop}
 use Rattle.path_checker.proofs.Bringing.{none_gives_way}
 use Rattle.path_checker.proofs.FirstCorner.{begins_there}
 use Rattle.path_checker.proofs.Places.{mark_is_there}
-use Rattle.path_checker.proofs.SidesApart.{moved_are_sides}
 use Rattle.path_checker.proofs.WayBegins.{mark_in, spot_is}
-use Rattle.path_checker.proofs.WaySteps.{begun_more, counts_there, goes_in, inside_by_sides, joined, last_more, new_more, not_ended, with_none}
+use Rattle.path_checker.proofs.WaySteps.{IsCounting, already_inside, inside_by_sides, no_room_there, one_mark_more, some_apart, with_none}
 use Rattle.path_checker.proofs.Walks.{first_of_rest}
 use Rattle.path_checker.proofs.Pigeons.{all_of_them}
 use Rattle.path_levels.specs.declared.frame.Frame.{Frame}
@@ -36,97 +31,25 @@ use Rattle.path_claims.specs.declared.journey.Claim.{Claim}
 use Rattle.path_claims.specs.declared.journey.Journey.{Journey}
 use Rattle.path_claims.specs.declared.stations.Station.{Station}
 use Rattle.path_claims.specs.declared.stations.Table.{Table}
-use Rattle.path_claims.specs.Journeys.{Brings, BringsNone, HasOneMore, IsBroughtBy, IsClaim, IsJourneyAt, IsMarkNext, IsOnRoute, StopsAt}
+use Rattle.path_claims.specs.Journeys.{Brings, BringsNone, HasOneMore, IsBroughtTo, IsClaim, IsJourneyAt, IsMarkNext, IsOnRoute, StopsAt}
 use Rattle.path_levels.specs.Frames.{IsFrame}
 use Rattle.path_claims.specs.Stations.{IsSizedTable, IsStation, IsStationBy, IsStuckAt, IsTableAt, IsUsableBy, IsUsableStation}
 use Rattle.path_claims.proofs.StationTables.{frame_long}
 
--- ---- one exchange more
-
-pub some_apart : (step : Step) → Some step ≡ None → ⊥
-some_apart step e = subst is_some_type e tt
-  where
-    is_some_type : Option Step → Type 0
-    is_some_type None = ⊥
-    is_some_type (Some t) = Unit {0}
-
 -- ---- what counts where the route stops
 
-pub record IsCountingAt (p : Problem) (done : List Swap) : Type 0 where
-  pub quantity : Quantity
-  pub counts : CountsOnTheWay done quantity
-  pub unfit : IsUnfitAt p (corner_after p done) quantity
-
-pub counting_at : (p : Problem) (done : List Swap) (o : Option Step) → IsBegun done o → IsStuckAt p (corner_after p done) o → IsCountingAt p done
+pub counting_at : (p : Problem) (done : List Swap) (o : Option Step) → IsBegun done o → IsStuckAt p (corner_after p done) o → IsCounting p done
 counting_at p [] None begun (inl (k, r, within, is, unfit)) = record { quantity = Terms (over_mark r.id) unfit.0; counts = tt; unfit = unfit.1 }
 counting_at p [] None begun (inr (level, j, unfit)) = record { quantity = Rows level j; counts = tt; unfit = unfit }
 counting_at p [] (Some step) begun stuck = absurd (some_apart step begun)
 counting_at p (s ∷ done) None begun stuck = absurd (begun refl)
 counting_at p (s ∷ done) (Some step) begun (what, unfit) = record { quantity = Plain what; counts = tt; unfit = unfit }
 
-no_room_there : (p : Problem) (path : Path) (frame : Frame) (before rest : List Mark) (journey : Journey) (m : Mark) (n : ℕ) (unfit : Option Quantity) → (is : IsJourneyAt p path frame before (m ∷ rest) journey) → IsIn (place m) path.corner
-    → (IsIn (place m) (corner_after p is.done) → ⊥) → n ≡ journey.station.count → IsStuckAt p (corner_after p is.done) journey.station.step → HasNoRoom p path unfit n
-no_room_there p path frame before rest journey m n unfit is want out same stuck =
-    let counting_is : IsCountingAt p is.done = counting_at p is.done journey.station.step is.begun stuck in
-    record {
-      done = is.done;
-      count = is.count ∙ sym same;
-      route = subst (IsRoute p path) (with_none is.done) (is.goes_on [] tt);
-      quantity = counting_is.quantity;
-      counts = counts_there p path unfit is.done counting_is.quantity (λ whole. not_ended path.corner (over_marks p) path.swaps is.done whole.1.0 m is.new whole.1.1 whole.1.2 want out) counting_is.counts;
-      does_not_fit = counting_is.unfit;
-    }
-
--- ---- one mark more
-
-already_inside : (p : Problem) (path : Path) (frame : Frame) (before rest : List Mark) (journey : Journey) (m : Mark) → (is : IsJourneyAt p path frame before (m ∷ rest) journey) → IsIn (place m) path.corner → IsIn (place m) (corner_after p is.done) → IsJourneyAt p path frame (before ++ m ∷ []) rest journey
-already_inside p path frame before rest journey m is want here = record {
-  done = is.done;
-  count = is.count;
-  begun = is.begun;
-  there = is.there;
-  station_is = is.station_is;
-  sides = is.sides;
-  goes_on = λ more goes. is.goes_on more (goes_in p path (corner_after p is.done) m rest more here goes);
-  inside = All-push (λ m. IsIn (place m) (corner_after p is.done)) before m is.inside here;
-  wanted = All-push (λ m. IsIn (place m) path.corner) before m is.wanted want;
-  new = is.new;
-}
-
-one_mark_more : (p : Problem) (path : Path) (frame : Frame) (before rest : List Mark) (journey next : Journey) (m : Mark) (enter : Spot) → (is : IsJourneyAt p path frame before (m ∷ rest) journey) → m ≡ mark_of p enter → IsIn (place m) path.corner → (IsIn (place m) (corner_after p is.done) → ⊥)
-    → (b : IsBroughtBy p path.corner (corner_after p is.done) frame enter journey.station next.station) → next.sides.items ≡ moved_sides b.step journey.sides.items → IsJourneyAt p path frame (before ++ m ∷ []) rest next
-one_mark_more p path frame before rest journey next m enter is mark want out b sides_is =
-    let s : Swap = swap_of p b.step in
-    let at : List Mark = corner_after p is.done in
-    let corner_is : corner_after p (is.done ++ s ∷ []) ≡ exchanged s at = last_more (over_marks p) is.done s in
-    let enter_is : s.enter ≡ m = ap (mark_of p) b.enter_is ∙ sym mark in
-    let stays : (c : ℕ) → IsIn c path.corner → IsIn c at → IsIn c (exchanged s at) = λ c wanted i. kept_in s at c i (λ e. b.gives.may.unwanted (subst (λ (v : ℕ). IsIn v path.corner) e wanted)) in
-    record {
-      done = is.done ++ s ∷ [];
-      count = let l = length-append is.done (s ∷ []) in omega (arith, l, is.count, b.count_is);
-      begun = begun_more is.done s next.station.step (λ none. some_apart b.step (sym b.step_is ∙ none));
-      there = subst (IsThere p) (sym corner_is) (record {
-        whole = is.there.whole;
-        corner = b.gives.may.exchange.corner;
-        rays = rays_after p at s (mark_is_there p b.step.enter.at b.step.enter.side b.within.0) b.gives.may.exchange is.there.rays;
-      });
-      station_is = subst (λ (ms : List Mark). IsStation p ms frame next.station) (sym corner_is) b.station_is;
-      sides = subst₂ (AreSides p) (sym corner_is) (sym sides_is) (moved_are_sides p at journey.sides.items b.step is.there.whole is.there.corner b.within b.gives.may.exchange is.sides);
-      goes_on = λ more goes.
-          subst (IsRoute p path) (sym (joined is.done s more))
-          (is.goes_on (s ∷ more) (inr (out, enter_is, b.gives, subst (λ (ms : List Mark). GoesBy p path.corner path.swaps ms rest more) corner_is goes)));
-      inside = subst (λ (ms : List Mark). All (λ n. IsIn (place n) ms) (before ++ m ∷ [])) (sym corner_is)
-          (All-push (λ n. IsIn (place n) (exchanged s at)) before m (λ k d within. stays (place (get_or before k d)) (is.wanted k d within) (is.inside k d within))
-          (subst (λ (n : Mark). IsIn (place n) (exchanged s at)) enter_is (enter_in s at b.gives.may.exchange.leaves)));
-      wanted = All-push (λ n. IsIn (place n) path.corner) before m is.wanted want;
-      new = new_more path.corner (over_marks p) is.done s is.new (subst (λ (n : Mark). IsIn (place n) path.corner) (sym enter_is) want) b.gives.may.exchange.enters;
-    }
-
 -- ---- as the code goes
 
 pub mark_was_inside : (claim : Claim) (journey : Journey) (enter : Spot) → enter.at < line_count claim.p.now → slice_index_or journey.sides.items enter.at None ≡ Some enter.side → HasOneMore claim journey enter journey
 mark_was_inside claim journey enter within here before m rest is =
-    already_inside claim.p.now claim.path.now claim.frame.now before rest journey m is.journey_is is.wanted
+    already_inside claim.p.now claim.path.now (λ ms. IsStation claim.p.now ms claim.frame.now journey.station) before rest journey.station.count journey.station.step journey.sides.items m is.journey_is is.wanted
     ((inside_by_sides claim.p.now (corner_after claim.p.now is.journey_is.done) journey.sides.items m enter is.journey_is.sides is.mark within).0 here)
 
 pub mark_came : (claim : Claim) (journey next : Journey) (station : Station) (enter : Spot) → enter.at < line_count claim.p.now → (slice_index_or journey.sides.items enter.at None ≡ Some enter.side → ⊥) → Brings claim enter journey.station station → next.station ≡ station
@@ -134,9 +57,8 @@ pub mark_came : (claim : Claim) (journey next : Journey) (station : Station) (en
 mark_came claim journey next station enter within out brings station_is sides_is before m rest is =
     let p : Problem = claim.p.now in
     let at : List Mark = corner_after p is.journey_is.done in
-    let b : IsBroughtBy p claim.path.now.corner at claim.frame.now enter journey.station station = brings at is.journey_is.station_is in
-    let c : IsBroughtBy p claim.path.now.corner at claim.frame.now enter journey.station next.station = subst (λ (k : Station). IsBroughtBy p claim.path.now.corner at claim.frame.now enter journey.station k) (sym station_is) b in
-    one_mark_more p claim.path.now claim.frame.now before rest journey next m enter is.journey_is is.mark is.wanted
+    let c : IsBroughtTo claim at enter journey.station next.station = subst (λ (k : Station). IsBroughtTo claim at enter journey.station k) (sym station_is) (brings at is.journey_is.kept) in
+    one_mark_more p claim.path.now (λ ms. IsStation p ms claim.frame.now journey.station) (λ ms. IsStation p ms claim.frame.now next.station) before rest journey.station.count next.station.count journey.station.step next.station.step journey.sides.items next.sides.items m enter is.journey_is is.mark is.wanted
     (λ i. out ((inside_by_sides p at journey.sides.items m enter is.journey_is.sides is.mark within).1 i)) c
     (sides_is c.step (sym (ap (λ (k : Station). k.step) station_is) ∙ c.step_is))
 
@@ -145,11 +67,12 @@ stops_there : (claim : Claim) (journey : Journey) (enter : Spot) (stop : WayStop
 stops_there claim journey enter Fails before m rest is within out stops =
     let p : Problem = claim.p.now in
     let at : List Mark = corner_after p is.journey_is.done in
-    let none = stops at is.journey_is.station_is in
+    let none = stops at is.journey_is.kept in
     none_gives_way p claim.path.now.corner at m none.0.corner none.0.rays (subst (λ (n : Mark). IsIn (place n) (marks_of (lines_of p))) (sym is.mark) (mark_is_there p enter.at enter.side within)) out is.wanted
     (λ n may. none.1 n (subst (λ (x : Mark). MayGiveWay p claim.path.now.corner at (record { enter = x; leave = n })) is.mark may))
 stops_there claim journey enter (NoRoom n) before m rest is within out stops = λ unfit.
-    no_room_there claim.p.now claim.path.now claim.frame.now before rest journey m n unfit is.journey_is is.wanted out stops.0 (stops.1 (corner_after claim.p.now is.journey_is.done) is.journey_is.station_is)
+    no_room_there claim.p.now claim.path.now (λ ms. IsStation claim.p.now ms claim.frame.now journey.station) before rest journey.station.count journey.station.step journey.sides.items m n unfit is.journey_is is.wanted out stops.0
+    (counting_at claim.p.now is.journey_is.done journey.station.step is.journey_is.begun (stops.1 (corner_after claim.p.now is.journey_is.done) is.journey_is.kept))
 stops_there claim journey enter OutOfMemory before m rest is within out stops = tt
 
 pub mark_stopped : (claim : Claim) (journey : Journey) (enter : Spot) (stop : WayStop) → enter.at < line_count claim.p.now → (slice_index_or journey.sides.items enter.at None ≡ Some enter.side → ⊥) → BringsNone claim enter journey.station stop → StopsAt claim journey enter stop
@@ -181,40 +104,18 @@ brings_in claim enter station next table step is enter_is within brings there ta
       gives = gives;
       within = within;
       count_is = count_is;
-      station_is = subst₂ (λ (k : Table) (o : Option Step). IsStationBy p (exchanged (swap_of p step) at) claim.frame.now k o) (sym table_is) (sym step_is)
+      kept_is = subst₂ (λ (k : Table) (o : Option Step). IsStationBy p (exchanged (swap_of p step) at) claim.frame.now k o) (sym table_is) (sym step_is)
           (record { before = at; table_is = t; exchange = gives.may.exchange; next = refl });
       step_is = step_is;
     }
 
 pub bring_stuck : (claim : Claim) (enter : Spot) (station : Station) (stop : WayStop) → (stop ≢ OutOfMemory → (stop ≡ NoRoom station.count) × ((at : List Mark) → IsStation claim.p.now at claim.frame.now station → IsStuckAt claim.p.now at station.step)) → BringsNone claim enter station stop
-bring_stuck claim enter station Fails h = absurd (fails_is station.count (h fails_apart).0)
-  where
-    is_fails : WayStop → Type 0
-    is_fails Fails = Unit {0}
-    is_fails (NoRoom n) = ⊥
-    is_fails OutOfMemory = ⊥
-
-    fails_apart : Fails ≢ OutOfMemory
-    fails_apart e = subst is_fails e tt
-
-    fails_is : (n : ℕ) → Fails ≡ NoRoom n → ⊥
-    fails_is n e = subst is_fails e tt
+bring_stuck claim enter station Fails h = let e : Fails ≡ NoRoom station.count = (h (λ o. cc)).0 in absurd (cc)
 bring_stuck claim enter station (NoRoom n) h =
-    let there = h (room_apart n) in
-    (ap count_of there.0, there.1)
-  where
-    count_of : WayStop → ℕ
-    count_of Fails = 0
-    count_of (NoRoom n) = n
-    count_of OutOfMemory = 0
-
-    room_apart : (n : ℕ) → NoRoom n ≢ OutOfMemory
-    room_apart n e = subst is_room e tt
-      where
-        is_room : WayStop → Type 0
-        is_room Fails = ⊥
-        is_room (NoRoom n) = Unit {0}
-        is_room OutOfMemory = ⊥
+    let there = h (λ o. cc) in
+    let e : NoRoom n ≡ NoRoom station.count = there.0 in
+    let same : n ≡ station.count = cc in
+    (same, there.1)
 bring_stuck claim enter station OutOfMemory h = tt
 
 -- ---- where the route begins, and how it goes on
@@ -225,7 +126,7 @@ journey_begins p path frame journey whole step_is count_is sides = record {
   count = sym count_is;
   begun = step_is;
   there = begins_there p whole;
-  station_is = subst (λ (o : Option Step). IsStationBy p (over_marks p) frame journey.station.table o) (sym step_is) refl;
+  kept = subst (λ (o : Option Step). IsStationBy p (over_marks p) frame journey.station.table o) (sym step_is) refl;
   sides = record { count = sides.count; each = sides.each };
   goes_on = λ more goes. goes;
   inside = λ k d within. absurd (omega (arith, within));
@@ -258,7 +159,7 @@ journey_ends p path frame journey corner is =
       brings = is.done;
       lead = record { goes_on = λ more first exchanges. is.goes_on more (first, exchanges); new = is.new; corner = is.there.corner; same = (all_of_them path.corner at corner.apart is.inside (corner.count ∙ sym is.there.corner.count), is.inside) };
       there = subst (λ (ss : List Swap). IsThere p (corner_after p ss)) (sym none) is.there;
-      station_is = subst (λ (ss : List Swap). IsStation p (corner_after p ss) frame journey.station) (sym none) is.station_is;
+      station_is = subst (λ (ss : List Swap). IsStation p (corner_after p ss) frame journey.station) (sym none) is.kept;
       count = ap (λ (ss : List Swap). length ss) none ∙ is.count;
       begun = subst (λ (ss : List Swap). IsBegun ss journey.station.step) (sym none) is.begun;
     }

@@ -168,9 +168,6 @@ no_swaps [] [] o begun none = (refl, refl)
 no_swaps [] (s ∷ b) o begun none = absurd (begun none)
 no_swaps (s ∷ a) b o begun none = absurd (begun none)
 
-pub at_start_swaps : (p : Problem) (path : Path) (frame : Frame) (station : Station) → IsOnRoute p path frame path.swaps station → station.step ≡ None → path.swaps ≡ []
-at_start_swaps p path frame station is none = (no_swaps is.brings path.swaps station.step is.begun none).1
-
 pub at_start_marks : (p : Problem) (path : Path) (frame : Frame) (station : Station) → IsOnRoute p path frame path.swaps station → station.step ≡ None → SameMarks path.corner (over_marks p)
 at_start_marks p path frame station is none =
     same_back (over_marks p) path.corner (subst (λ (ss : List Swap). SameMarks (corner_after p ss) path.corner) (no_swaps is.brings path.swaps station.step is.begun none).0 is.lead.same)
@@ -183,31 +180,12 @@ stopped p path unfit (NoRoomAfter n) v stops ended = subst (IsPathVerdict p path
 stopped p path unfit OutOfMemory v stops ended = absurd ended
 
 pub no_room_then : (p : Problem) (path : Path) (stop : WayStop) (n : ℕ) (v : PathVerdict) → (stop ≢ OutOfMemory → (stop ≡ NoRoomAfter n) × HasNoRoom p path None n) → IsEnded stop 9 v → IsPathVerdict p path None v
-no_room_then p path Fails n v h ended = absurd (wrong (h (λ e. absurd (fails_not e))).0)
-  where
-    is_fails : WayStop → Type 0
-    is_fails Fails = Unit {0}
-    is_fails (NoRoomAfter n) = ⊥
-    is_fails OutOfMemory = ⊥
-
-    fails_not : Fails ≡ OutOfMemory → ⊥
-    fails_not e = subst is_fails e tt
-
-    wrong : Fails ≡ NoRoomAfter n → ⊥
-    wrong e = subst is_fails e tt
+no_room_then p path Fails n v h ended = let e : Fails ≡ NoRoomAfter n = (h (λ o. cc)).0 in absurd (cc)
 no_room_then p path (NoRoomAfter k) n v h ended =
-    let there = h (λ e. subst is_room e tt) in
-    subst (IsPathVerdict p path None) (sym ended) (subst (HasNoRoom p path None) (sym (ap count_of there.0)) there.1)
-  where
-    is_room : WayStop → Type 0
-    is_room Fails = ⊥
-    is_room (NoRoomAfter n) = Unit {0}
-    is_room OutOfMemory = ⊥
-
-    count_of : WayStop → ℕ
-    count_of Fails = 0
-    count_of (NoRoomAfter n) = n
-    count_of OutOfMemory = 0
+    let there = h (λ o. cc) in
+    let e : NoRoomAfter k ≡ NoRoomAfter n = there.0 in
+    let same : n ≡ k = cc in
+    subst (IsPathVerdict p path None) (sym ended) (subst (HasNoRoom p path None) same there.1)
 no_room_then p path OutOfMemory n v h ended = absurd ended
 
 -- ---- all together

@@ -11,7 +11,7 @@ use Rattle.frac_core.proofs.Integers.{mul-zero_ℤ, zero-mul_ℤ}
 use Rattle.problem_core.proofs.Forms.{each-impl, sum-zero}
 use Rattle.problem_core.specs.declared.parts.Mark.{Mark}
 use Rattle.problem_core.specs.declared.parts.RowName.{RowName}
-use Rattle.problem_core.specs.declared.parts.RowName.TheVariants.{Held, Stay as StayOf}
+use Rattle.problem_core.specs.declared.parts.RowName.TheVariants.{Stay as StayOf}
 use Rattle.problem_core.specs.declared.parts.Side.TheVariants.{Under, Over}
 use Rattle.problem_core.specs.declared.parts.Level.{Level}
 use Rattle.problem_core.specs.declared.parts.Level.TheVariants.{Priority, Stay as StayLevel}
@@ -35,6 +35,7 @@ use Rattle.path_levels.specs.declared.sums.LevelSum.{LevelSum}
 use Rattle.path_claims.specs.Attrs.{IsEmptyLevel}
 use Rattle.path_levels.specs.Frames.{AreFactsOf, IsFactsOf, IsFrame, number_at}
 use Rattle.path_levels.specs.Levels.{IsLevelSum}
+use Rattle.path_levels.proofs.FitFacts.{any_facts}
 
 line_named : (p : Problem) (i : ℕ) (l : Line) (name : RowName) → i < length (lines p) → get_or (lines p) i l ≡ l → l.name ≡ name → name_at p i ≡ name
 line_named p i l name within is e = sym (name_there p i l within) ∙ ap (λ (x : Line). x.name) is ∙ e
@@ -71,9 +72,6 @@ facts_count levels [] (y ∷ fs) are = absurd are
 facts_count levels (x ∷ ls) [] are = absurd are
 facts_count levels (x ∷ ls) (y ∷ fs) are = let h = facts_count levels ls fs are.1 in omega (arith, h)
 
-pub any_facts : LineFacts
-any_facts = record { name = Held 0; level = 0; under = pos 0; over = pos 0; scale = pos 1 }
-
 -- where no level has the number, no line does
 pub rank_none : (p : Problem) (frame : Frame) (rank number : ℕ) → number + rank ≡ 1000 → All (λ f. f.number ≢ number) frame.levels.items → IsFrame p frame → IsEmptyLevel p (Priority rank)
 rank_none p frame rank number sum none is k level_is i d within e =
@@ -81,9 +79,6 @@ rank_none p frame rank number sum none is k level_is i d within e =
     let f : LevelFacts = record { level = Priority 0; number = 0 } in
     none (get_or frame.lines.items i any_facts).level f facts.level
     (number_is frame.levels.items (get_or frame.lines.items i any_facts).level f facts.level ∙ facts.number ∙ e ∙ (let same : k ≡ number = omega (arith, sum, level_is) in same))
-
-pub rank_past : (p : Problem) (rank : ℕ) → 1000 < rank → IsEmptyLevel p (Priority rank)
-rank_past p rank past k level_is i d within e = absurd (omega (arith, past, level_is))
 
 pub rank_found : (levels : List LevelFacts) (rank number place : ℕ) (d : LevelFacts) → number + rank ≡ 1000 → place < length levels → (get_or levels place d).number ≡ number → number_at levels place + rank ≡ 1000
 rank_found levels rank number place d sum within e =
@@ -145,7 +140,3 @@ some_both (Some x) f h k = f x h k
 pub none_then : {T : Type 0} {P Q : Type 0} (o : Option T) → (P → Q) → IfNone o P → IfNone o Q
 none_then None f h = f h
 none_then (Some x) f h = tt
-
-pub some_then : {T : Type 0} {P Q : T → Type 0} (o : Option T) → ((x : T) → P x → Q x) → IfSome o P → IfSome o Q
-some_then None f h = tt
-some_then (Some x) f h = f x h

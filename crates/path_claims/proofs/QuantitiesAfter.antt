@@ -16,7 +16,7 @@ use Rattle.problem_core.specs.Layout.{Problem, coefficient, lines, sum_of}
 use Rattle.problem_core.specs.Kept.{IsWhole}
 use Rattle.problem_core.specs.Corners.{IsIn, place_of}
 use Rattle.problem_core.specs.Unfit.{HasNoWriting}
-use Rattle.corner_laws.proofs.LinePlaces.{lines_apart, sum-each}
+use Rattle.corner_laws.proofs.LinePlaces.{lines_apart}
 use Rattle.corner_lines.specs.LineEquations.{IsLineEquation, IsLineSum, IsUnfitLine, deviation, inside_form, mark_form, other_side, sign_of}
 use Rattle.corner_lines.proofs.LineExchanges.{line_turns}
 use Rattle.corner_lines.proofs.LineUnfits.{line_sum, line_unfit, mark_has_none, reduced_line}
@@ -28,9 +28,9 @@ use Rattle.path_checker.specs.declared.table.Sum.{Sum}
 use Rattle.path_checker.specs.Numbers.{AreFitting, AreLowest, AreUnfit, IsCombined, number_at}
 use Rattle.path_checker.specs.Pivots.{IsPivotAt, next_marks}
 use Rattle.path_checker.specs.Tables.{IsLineAt, IsSized, IsSumOf, IsThere, line_count, name_at, numbers_of, swap_of}
-use Rattle.path_checker.proofs.CarriedSums.{carried_line_sum}
+use Rattle.path_checker.proofs.CarriedSums.{carried_line_sum, parts_product}
 use Rattle.path_checker.proofs.EnteringLine.{at_place}
-use Rattle.path_checker.proofs.FirstLines.{units}
+use Rattle.path_checker.proofs.FirstLines.{units, units_here, units_other}
 use Rattle.path_checker.proofs.NextLines.{sized_from}
 use Rattle.path_checker.proofs.NumbersOf.{reduced_numbers}
 use Rattle.path_checker.proofs.Places.{mark_is_there, name_there, names_differ, number_there}
@@ -38,7 +38,8 @@ use Rattle.path_checker.proofs.SolvedPivots.{some_up, up}
 use Rattle.path_checker.proofs.Unfits.{unfit_list_is_unfit}
 use Rattle.path_claims.specs.Sums.{IsCopy, IsQuantitySum, IsUnitList, IsUnitSum, IsSumAfter, IsUnfitLineAt}
 use Rattle.path_levels.specs.Turns.{IsTurnPivot}
-use Rattle.path_claims.proofs.SumsAfter.{corner_after, den_after, entered_by, enters_of, num_after, units_here, units_other}
+use Rattle.path_claims.proofs.SumsAfter.{corner_after, den_after, entered_by, enters_of, num_after}
+use Rattle.problem_core.proofs.Conflicts.{sum-each}
 
 -- ---- the same numbers
 
@@ -68,9 +69,6 @@ turned_after pivot sum next turn copy p at quantity is s =
     (line_turns p at (swap_of p pivot.step) quantity (unsigned_abs sum.own) (numbers_of (lines p) sum.by.items) sum.value.num sum.value.den is.there.corner is.exchange.leaves (ap (name_at p) (is.sized.turn turn)) s.equation)
 
 -- ---- an exchange of two lines
-
-parts_product : (a b c : ℕ) → pos (a * (b * c)) ≡ pos a *ℤ (pos b *ℤ pos c)
-parts_product a b c = refl
 
 -- the sum with the pivot put in, before it is divided
 abbrev pub num_put : Problem → Pivot → Sum → ℤ
@@ -254,6 +252,3 @@ line_unfit_after p at pivot name side is inside none =
 
 pub line_sum_is : (p : Problem) (at : List Mark) (name : RowName) (sum : Sum) → IsQuantitySum p at (deviation name) sum → IsSumOf p at name sum
 line_sum_is p at name sum s = record { sized = s.sized; equation = s.equation }
-
-pub sum_line_is : (p : Problem) (at : List Mark) (name : RowName) (sum : Sum) → IsSumOf p at name sum → IsQuantitySum p at (deviation name) sum
-sum_line_is p at name sum s = record { sized = s.sized; equation = s.equation }

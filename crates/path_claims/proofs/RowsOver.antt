@@ -1,5 +1,5 @@
 -- Rows that are over, and the row that a sum of terms names.
-use Rattle.std.proofs.Common.{◌≡◌, ◌≢◌, ◌∙◌, ℕ, ◌+◌, ◌*◌, ◌<◌, ◌≤◌, List, length, get_or, refl, sym, ap, subst, arith, All, inl, inr}
+use Rattle.std.proofs.Common.{◌≡◌, ◌∙◌, ℕ, ◌+◌, ◌*◌, ◌<◌, ◌≤◌, List, length, get_or, refl, sym, ap, subst, arith, inl, inr}
 use Rattle.std.proofs.lemmas.Bool.{cases_eq, cases_lt}
 use Rattle.std.proofs.lemmas.List.{get_or_default}
 use Rattle.problem_core.specs.declared.parts.Mark.{Mark}
@@ -60,9 +60,6 @@ named_row p at mark j i r whole within is e (k, s, there, same, (m, over, low, h
     let a : (get_or p.rows i r).id ≡ (get_or p.rows k r).id = ap (λ (t : Row). t.id) is ∙ ids ∙ ap (λ (t : Row). t.id) (sym same ∙ get_or_default p.rows k s r there) in
     let rows : s ≡ r = sym same ∙ get_or_default p.rows k s r there ∙ ap (λ (n : ℕ). get_or p.rows n r) (sym (one_row p i k r whole within there a)) ∙ is in
     subst (λ (t : Row). AreOverFrom p at t.id × (1 ≤ j) × (j ≤ length t.terms + 1) × HasNoWriting p at (first_terms t j)) rows (over, low, high, none)
-
-pub no_row : (p : Problem) (at : List Mark) (mark : Mark) (j : ℕ) → All (λ r. over_mark r.id ≢ mark) p.rows → IsUnfitTerms p at mark j → ⊥
-no_row p at mark j none (k, s, there, same, (m, over, low, high, unfit)) = none k s there (ap (λ (t : Row). over_mark t.id) same ∙ sym m)
 
 unfit_named : (p : Problem) (at : List Mark) (mark : Mark) (j i : ℕ) (r : Row) → i < length p.rows → get_or p.rows i r ≡ r → over_mark r.id ≡ mark → AreOverFrom p at r.id → 1 ≤ j → j ≤ length r.terms + 1 → HasNoWriting p at (first_terms r j) → IsUnfitTerms p at mark j
 unfit_named p at mark j i r within is e over low high none = (i, r, within, is, (sym e, over, low, high, none))

@@ -1,6 +1,5 @@
 -- What the signs of values after an exchange say of the corner.
-use Rattle.std.proofs.Common.{◌≡◌, ◌∙◌, ◌↔◌, ◌⊎◌, ℕ, zero, suc, ◌<◌, ◌≤◌, List, [], ◌∷◌, ℤ, pos, negsuc, ◌*ℤ◌, ◌<ℤ◌, ◌≤ℤ◌, sym, ap, subst, arith, inl, IsTrue, false, Bool}
-use Rattle.std.specs.List.{AllByRecursion as Each}
+use Rattle.std.proofs.Common.{◌≡◌, ◌∙◌, ◌↔◌, ◌⊎◌, ℕ, ◌<◌, ◌≤◌, List, ℤ, pos, negsuc, ◌*ℤ◌, ◌<ℤ◌, ◌≤ℤ◌, sym, ap, subst, arith, inl, IsTrue, false, Bool}
 use Rattle.std.proofs.lemmas.List.Elements.{recursion_from_All}
 use borrow.Author.Differences.{ints}
 use Rattle.std.proofs.Math.IntN.{*ℤ_comm}
@@ -8,7 +7,7 @@ use Rattle.problem_core.specs.declared.parts.Mark.{Mark}
 use Rattle.problem_core.specs.declared.parts.RowName.{RowName}
 use Rattle.problem_core.specs.declared.parts.Side.{Side}
 use Rattle.problem_core.specs.Layout.{Problem, lines}
-use Rattle.problem_core.specs.Corners.{Agree, IsIn, NoNegativeValue, Point, StandsAt, exchanged, marks_of, one_column, place, place_of}
+use Rattle.problem_core.specs.Corners.{Agree, NoNegativeValue, Point, StandsAt, exchanged, marks_of, one_column, place, place_of}
 use Rattle.problem_core.specs.Paths.{IsSound}
 use Rattle.cert_core.specs.Stops.{AreNonnegativeBefore, IsBefore}
 use Rattle.corner_lines.proofs.LevelExchanges.{by-sides}
@@ -18,17 +17,12 @@ use Rattle.path_checker.specs.Pivots.{next_marks}
 use Rattle.path_checker.specs.Tables.{AreJudged, IsThere, IsUp, line_count, name_at, swap_of}
 use Rattle.path_checker.proofs.Iffs.{through}
 use Rattle.path_checker.proofs.Places.{mark_is_there}
-use Rattle.path_checker.proofs.ValueSigns.{all_up, up_at_all}
+use Rattle.path_checker.proofs.ValueSigns.{all_up, up_at_all, mark_of_column}
 use Rattle.path_claims.specs.Sums.{AreUpAfter}
 use Rattle.path_levels.specs.Turns.{IsTurnPivot}
 use Rattle.path_claims.specs.Fits.{marks_after}
 use Rattle.path_claims.specs.declared.last.Last.{Last}
 use Rattle.path_claims.proofs.SumsAfter.{corner_after, signs_go}
-
-mark_of_column : (P : Mark → Type 0) (at : List Mark) (c : ℕ) → Each P at → IsIn c at → (m : Mark) × (place m ≡ c) × P m
-mark_of_column P [] c all (k, within, is) = absurd (omega (arith, within))
-mark_of_column P (m ∷ ms) c all (zero, within, is) = (m, is, all.0)
-mark_of_column P (m ∷ ms) c all (suc k, within, is) = mark_of_column P ms c all.1 (k, omega (arith, within), is)
 
 -- a value is not negative at one point where it is not at another one that agrees
 agree_sign : (a b u v : ℤ) → pos 0 <ℤ u → pos 0 <ℤ v → a *ℤ u ≡ b *ℤ v → pos 0 ≤ℤ a → pos 0 ≤ℤ b

@@ -10,8 +10,6 @@ use Rattle.frac_core.specs.Fraction.{IsFitting, IsKept}
 use Rattle.frac_core.proofs.Integers.{mul-zero_ℤ, zero-mul_ℤ}
 use Rattle.problem_core.specs.declared.parts.Level.{Level}
 use Rattle.problem_core.specs.declared.parts.Mark.{Mark}
-use Rattle.problem_core.specs.declared.parts.Rel.{Rel}
-use Rattle.problem_core.specs.declared.parts.Rel.TheVariants.{Eq, Le, Ge}
 use Rattle.problem_core.specs.declared.parts.RowName.{RowName}
 use Rattle.problem_core.specs.declared.parts.Side.{Side}
 use Rattle.problem_core.specs.declared.parts.Side.TheVariants.{Under, Over}
@@ -32,7 +30,7 @@ use Rattle.corner_laws.proofs.Fits.{whole_is_kept}
 use Rattle.corner_laws.proofs.Directions.{each-of}
 use Rattle.corner_laws.proofs.LevelUnits.{no_weight}
 use Rattle.corner_lines.specs.LineEquations.{IsLineEquation, IsLineSum, mark_form}
-use Rattle.corner_lines.proofs.JoinedLines.{past-terms}
+use Rattle.corner_lines.proofs.JoinedLines.{past-terms, same-writing}
 use Rattle.corner_lines.proofs.LineWritings.{line_writing}
 use Rattle.path_checker.specs.FirstLines.{IsRowOf}
 use Rattle.path_checker.specs.Room.{IsPartial}
@@ -43,7 +41,8 @@ use Rattle.path_checker.proofs.FirstLines.{attr_sum, units}
 use Rattle.path_claims.specs.FirstSums.{IsUnfitSum}
 use Rattle.path_claims.proofs.SumOrders.{any_row}
 use Rattle.path_claims.proofs.BegunParts.{told_unfit}
-use Rattle.path_claims.proofs.FirstSums.{coefficients_fit, same_writing}
+use Rattle.path_claims.proofs.FirstSums.{coefficients_fit}
+use Rattle.corner_laws.proofs.ZeroColumns.{under-none, over-none}
 
 -- no partial sum of the problem's does not fit there
 abbrev pub AllPartialFit : Problem → Type 0
@@ -86,7 +85,7 @@ mark_fits p m fits inside none =
     let r : Row = get_or p.rows k.0 any_row in
     let held : IsRowOf p r = (k.0, r, k.1, get_or_default p.rows k.0 r any_row k.1, refl) in
     let unfit : IsUnfitSum p r (length r.terms + 1) =
-    same_writing p (over_marks p) (λ x. x (place m)) (first_terms r (length r.terms + 1)) (λ x. ap x (sym (k.2 any_row)) ∙ sym (past-terms r x)) none in
+    same-writing p (over_marks p) (λ x. x (place m)) (first_terms r (length r.terms + 1)) (λ x. ap x (sym (k.2 any_row)) ∙ sym (past-terms r x)) none in
     fits (Terms (over_mark r.id) (length r.terms + 1)) tt (told_unfit p r (length r.terms + 1) held (omega arith) (omega arith) unfit)
 
 -- ---- levels with lines
@@ -117,21 +116,11 @@ none_at (l ∷ ls) level none =
       | inr ne ↦ (no_weight l level ne, none_at ls level (sym (ap (λ (b : Bool). length (cond b (l ∷ filter (λ l. nat_eq l.level level) ls) (filter (λ l. nat_eq l.level level) ls))) (ne_eqb l.level level ne)) ∙ none))
     ]
 
-no_cost_under : (rel : Rel) → under_weight rel 0 ≡ 0
-no_cost_under Eq = refl
-no_cost_under Ge = refl
-no_cost_under Le = refl
-
-no_cost_over : (rel : Rel) → over_weight rel 0 ≡ 0
-no_cost_over Eq = refl
-no_cost_over Ge = refl
-no_cost_over Le = refl
-
 under_none : (l : Line) (level : ℕ) → weight_at l level ≡ 0 → under_weight l.rel (weight_at l level) ≡ 0
-under_none l level e = ap (under_weight l.rel) e ∙ no_cost_under l.rel
+under_none l level e = ap (under_weight l.rel) e ∙ under-none l.rel
 
 over_none : (l : Line) (level : ℕ) → weight_at l level ≡ 0 → over_weight l.rel (weight_at l level) ≡ 0
-over_none l level e = ap (over_weight l.rel) e ∙ no_cost_over l.rel
+over_none l level e = ap (over_weight l.rel) e ∙ over-none l.rel
 
 zero_column : (s : ℤ) (w : ℕ) → w ≡ 0 → s *ℤ pos 0 ≡ pos (1 * w) -ℤ s *ℤ pos 0
 zero_column s w e = let z : s *ℤ pos 0 ≡ pos 0 = mul-zero_ℤ s in omega (arith, ints, z, e)

@@ -116,12 +116,6 @@ has_no_room p path named q start counts unfit =
 
 -- ---- where a sum does not fit
 
-pub sum_there : (p : Problem) (n : ℕ) (q : Quantity) → Reaches p n q → IsUnfitAt p (over_marks p) q → IsSumOf p q
-sum_there p n (Plain what) reaches unfit = absurd reaches
-sum_there p n (Terms mark j) reaches (k, s, within, is, (mark_is, over, low, high, none)) = (k, s, within, is, (mark_is, low, high))
-sum_there p n (Rows level j) reaches (k, at, low, high, none) = (k, at, low, high)
-sum_there p n (Shifts what j) reaches unfit = absurd reaches
-
 partial_there : (p : Problem) (n : ℕ) (q : Quantity) → Reaches p n q → IsPartial q
 partial_there p n (Plain what) reaches = reaches
 partial_there p n (Terms mark j) reaches = tt
@@ -226,9 +220,6 @@ primal_by dual b p row is h = subst (λ (d : Bool). IsTrue b ↔ AreSoundBefore 
 
 pub whole_lines : (p : Problem) (frame : Frame) (lines : List (Option Inside)) (levels : List LevelSum) → IsWholeBegun p frame lines levels → AreFirstLines p (length lines) lines
 whole_lines p frame lines levels begun = record { count = refl; each = λ k d within. begun.kept.lines_are.each k d (omega (arith, within, begun.kept.lines_are.count)) }
-
-pub whole_judged : (p : Problem) (frame : Frame) (lines : List (Option Inside)) (levels : List LevelSum) (row : Option ℕ) (judged : ℕ) → IsWholeBegun p frame lines levels → IsJudgedTo p row judged → judged ≤ length lines
-whole_judged p frame lines levels row judged begun to = let most = judged_most p row judged to in omega (arith, most, begun.kept.lines_are.count, count_lines p)
 
 pub whole_verdict : (p : Problem) (path : Path) (named : Quantity) (frame : Frame) (lines : List (Option Inside)) (levels : List LevelSum) (dual b : Bool) (v : PathVerdict) → IsWhole p → IsAtStart p path → dual ≡ path.dual → IsWholeBegun p frame lines levels
     → IsTrue b ↔ AreSoundBefore dual p (over_marks p) [] (row_of_terms (Some named)) → (b ≡ true → v ≡ No 14) × (b ≡ false → v ≡ No 12) → IsPathVerdict p path (Some named) v

@@ -1,5 +1,5 @@
 -- The lines and levels of a corner of the route, from those of the corner before.
-use Rattle.std.proofs.Common.{◌≡◌, ℕ, List, [], ◌∷◌, length, sym, subst, Option, None, Some, arith}
+use Rattle.std.proofs.Common.{◌≡◌, ℕ, List, [], ◌∷◌, length, sym, subst, Option, Some, arith}
 use Rattle.problem_core.specs.declared.parts.Mark.{Mark}
 use Rattle.problem_core.specs.declared.parts.Level.{Level}
 use Rattle.problem_core.specs.declared.stops.What.TheVariants.{Level as LevelOf}
@@ -20,7 +20,7 @@ use Rattle.path_levels.specs.Frames.{AreFactsOf, IsFrame}
 use Rattle.path_claims.specs.Fits.{AllAttrsFit}
 use Rattle.path_levels.specs.Levels.{AreLevels, HasUnfitLevel}
 use Rattle.path_levels.specs.Rows.{AreKept, IsLevelsStop, unfit_rows}
-use Rattle.path_claims.specs.Stations.{HasUnfitRows, IsStationBy, IsStuckAt, IsTableAt, LeadsToTable, LeadsToUnfitTable}
+use Rattle.path_claims.specs.Stations.{HasUnfitRows, IsStationBy, IsStuckAt, LeadsToTable, LeadsToUnfitTable}
 
 facts_long : (levels : List LevelFacts) (ls : List Line) (facts : List LineFacts) → AreFactsOf levels ls facts → length facts ≡ length ls
 facts_long levels [] [] are = omega arith
@@ -61,15 +61,7 @@ levels_lead_unfit p frame table step unfit at is ex = let u = unfit at is.kept i
 
 -- ---- from what is kept
 
-pub table_comes : (p : Problem) (frame : Frame) (table next : Table) (o : Option Step) (step : Step) → o ≡ Some step → LeadsToTable p frame table step next → (at : List Mark) → IsStationBy p at frame table o → IsTableAt p at frame next
-table_comes p frame table next o step is leads at by =
-    let b = subst (IsStationBy p at frame table) is by in
-    subst (λ (ms : List Mark). IsTableAt p ms frame next) (sym b.next) (leads b.before b.table_is b.exchange)
-
 pub table_stuck : (p : Problem) (frame : Frame) (table : Table) (o : Option Step) (step : Step) → o ≡ Some step → LeadsToUnfitTable p frame table step → (at : List Mark) → IsStationBy p at frame table o → IsStuckAt p at o
 table_stuck p frame table o step is unfit at by =
     let b = subst (IsStationBy p at frame table) is by in
     subst (IsStuckAt p at) (sym is) (subst (λ (ms : List Mark). IsStuckAt p ms (Some step)) (sym b.next) (unfit b.before b.table_is b.exchange))
-
-pub table_begins : (p : Problem) (frame : Frame) (table next : Table) (o : Option Step) → o ≡ None → IsTableAt p (over_marks p) frame next → (at : List Mark) → IsStationBy p at frame table o → IsTableAt p at frame next
-table_begins p frame table next o is first at by = subst (λ (ms : List Mark). IsTableAt p ms frame next) (sym (subst (IsStationBy p at frame table) is by)) first

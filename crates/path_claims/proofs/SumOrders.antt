@@ -1,10 +1,9 @@
 -- The order of sums where a route begins.
-use Rattle.std.proofs.Common.{◌≡◌, ◌≢◌, ◌∙◌, ◌⊎◌, ℕ, ◌+◌, ◌-◌, ◌<◌, ◌≤◌, ◌++◌, suc, Bool, true, false, true≢false, cond, nat_eq, List, [], ◌∷◌, length, map, filter, get_or, eq-eqb, ne_eqb, pos, refl, sym, ap, ap₂, subst, arith, inl, inr, Some}
+use Rattle.std.proofs.Common.{◌≡◌, ◌≢◌, ◌∙◌, ◌⊎◌, ℕ, ◌+◌, ◌-◌, ◌<◌, ◌≤◌, ◌++◌, suc, Bool, cond, nat_eq, List, [], ◌∷◌, length, map, filter, get_or, eq-eqb, ne_eqb, pos, refl, sym, ap, ap₂, subst, arith, inl, inr, Some}
 use Rattle.std.specs.List.{All, HoldsAt, AllByRecursion as Each}
 use Rattle.std.proofs.lemmas.List.Elements.{recursion_from_All}
 use Rattle.std.proofs.lemmas.Bool.{cases_eq, cases_lt}
 use Rattle.std.proofs.lemmas.List.{get_or_default}
-use Rattle.problem_core.specs.declared.parts.Level.{Level}
 use Rattle.problem_core.specs.declared.parts.Level.TheVariants.{Priority, Stay as StayLevel}
 use Rattle.problem_core.specs.declared.parts.Mark.{Mark}
 use Rattle.problem_core.specs.declared.parts.RowName.{RowName}
@@ -22,9 +21,11 @@ use Rattle.path_checker.specs.PathClauses.{held_number, row_of_terms}
 use Rattle.path_checker.specs.Tables.{AreJudged, name_at}
 use Rattle.path_checker.proofs.FirstLines.{count_lines, row_name, stay_name}
 use Rattle.path_claims.specs.declared.orders.Place.{Place}
-use Rattle.path_claims.specs.Orders.{IsFirstOf, IsJudgedTo, IsLower, IsPlaceOf, IsSizeOf, Precedes}
-use Rattle.path_levels.proofs.FrameParts.{any_line, any_stay, stay_level}
+use Rattle.path_claims.specs.Orders.{IsJudgedTo, IsLower, IsPlaceOf, IsSizeOf, Precedes}
+use Rattle.path_levels.proofs.FrameParts.{stay_level}
 use Rattle.path_levels.proofs.LevelsOfLines.{level_unique, stay_of_level}
+use Rattle.path_checker.proofs.Places.{any_line}
+use Rattle.path_checker.proofs.WayBegins.{any_stay}
 
 abbrev pub any_row : Row
 any_row = record { id = 0; rank = 0; weight = 0; rel = any_line.rel; scale = 1; constant = record { num = pos 0; den = 1 }; terms = [] }
@@ -51,38 +52,9 @@ no_over_sum p mark first none (k, s, within, is, (mark_is, low, high)) = none s.
 pub no_over_place : (p : Problem) (sum : Quantity) (mark : Mark) (first : ℕ) → sum ≡ Terms mark first → ((id : ℕ) → mark ≡ over_mark id → ⊥) → IsSumOf p sum → ⊥
 no_over_place p sum mark first is none h = no_over_sum p mark first none (subst (IsSumOf p) is h)
 
-no_level_sum : (p : Problem) (level : Level) (first : ℕ) → ((k : ℕ) → IsLevelAt p level k → ⊥) → IsSumOf p (Rows level first) → ⊥
-no_level_sum p level first none h = none h.0 h.1
-
-pub no_level_place : (p : Problem) (sum : Quantity) (level : Level) (first : ℕ) → sum ≡ Rows level first → ((k : ℕ) → IsLevelAt p level k → ⊥) → IsSumOf p sum → ⊥
-no_level_place p sum level first is none h = no_level_sum p level first none (subst (IsSumOf p) is h)
-
-clash : {P : Type 0} (b : Bool) → b ≡ true → b ≡ false → P
-clash b t f = absurd (true≢false (sym t ∙ f))
-
 moved_order : (a b : Place) (i j : ℕ) → i ≡ a.first → j ≡ b.first → IsLower a b → (a.at < b.at) ⊎ ((a.at ≡ b.at) × (i < j))
 moved_order a b i j ia jb (inl less) = inl less
 moved_order a b i j ia jb (inr (same, less)) = inr (same, omega (arith, ia, jb, less))
-
-same_kind : (a b : Place) → Precedes a b → a.is_rows ≡ b.is_rows → IsLower a b
-same_kind a b (inl (f, t)) same = clash b.is_rows t (sym same ∙ f)
-same_kind a b (inr (same2, lower)) same = lower
-
-not_after_rows : (a b : Place) → a.is_rows ≡ true → b.is_rows ≡ false → Precedes a b → ⊥
-not_after_rows a b t f (inl (g, u)) = clash b.is_rows u f
-not_after_rows a b t f (inr (same, lower)) = clash a.is_rows t (same ∙ f)
-
-pub placed_before : (p : Problem) (q r : Quantity) (a b : Place) → IsPlaceOf p q a → IsPlaceOf p r b → Precedes a b → ComesBefore p q r
-placed_before p (Plain w) r a b h g order = absurd h
-placed_before p (Shifts w i) r a b h g order = absurd h
-placed_before p (Terms m i) (Plain w) a b h g order = absurd g
-placed_before p (Terms m i) (Shifts w j) a b h g order = absurd g
-placed_before p (Terms m i) (Rows l j) a b h g order = tt
-placed_before p (Terms m i) (Terms n j) a b h g order = (a.at, b.at, h.1, g.1, moved_order a b i j h.2 g.2 (same_kind a b order (h.0 ∙ sym g.0)))
-placed_before p (Rows l i) (Plain w) a b h g order = absurd g
-placed_before p (Rows l i) (Shifts w j) a b h g order = absurd g
-placed_before p (Rows l i) (Terms n j) a b h g order = absurd (not_after_rows a b h.0 g.0 order)
-placed_before p (Rows l i) (Rows m j) a b h g order = (a.at, b.at, h.1, g.1, moved_order a b i j h.2 g.2 (same_kind a b order (h.0 ∙ sym g.0)))
 
 -- lower, higher, or the same
 lower_cases : (a b : Place) → IsLower a b ⊎ (IsLower b a ⊎ ((a.at ≡ b.at) × (a.first ≡ b.first)))
@@ -169,12 +141,6 @@ judged_of p named mark first id n is row within before after =
 
 -- ---- sums of the problem's
 
-no_first_of : (p : Problem) (mark : Mark) (first : ℕ) → All (λ (r : Row). IsFirstOf mark first r → ⊥) p.rows → IsSumOf p (Terms mark first) → ⊥
-no_first_of p mark first none (k, s, within, is, sum) = none k s within (subst (IsFirstOf mark first) (sym is) sum)
-
-pub no_terms_sum : (p : Problem) (rows : List Row) (mark : Mark) (first : ℕ) → rows ≡ p.rows → All (λ (r : Row). IsFirstOf mark first r → ⊥) rows → IsSumOf p (Terms mark first) → ⊥
-no_terms_sum p rows mark first same none = no_first_of p mark first (subst (λ (rs : List Row). All (λ (r : Row). IsFirstOf mark first r → ⊥) rs) same none)
-
 none_later : (n k : ℕ) (stays : List Stay) → k < n → length (filter (λ l. nat_eq l.level k) (stay_lines n stays)) ≡ 0
 none_later n k [] less = refl
 none_later n k (s ∷ stays) less =
@@ -237,9 +203,3 @@ stay_size p attr k at =
     let e = no_rows_there k p.rows (stay_lines 1001 p.stays) (omega (arith, s.2)) in
     let one = one_later 1001 k p.stays in
     omega (arith, e, one)
-
-pub no_rows_sum : (p : Problem) (level : Level) (first size : ℕ) → IsSizeOf p level size → size < first → IsSumOf p (Rows level first) → ⊥
-no_rows_sum p level first size is more (k, at, low, high) = (let h = is k at in absurd (omega (arith, more, high, h)))
-
-pub no_zero_sum : (p : Problem) (level : Level) (first : ℕ) → first < 1 → IsSumOf p (Rows level first) → ⊥
-no_zero_sum p level first less (k, at, low, high) = absurd (omega (arith, less, low))

@@ -1,7 +1,6 @@
 -- Sums of any quantity after an exchange.
-use Rattle.std.proofs.Common.{◌≡◌, ◌≢◌, ◌∙◌, ◌↔◌, ℕ, ◌*◌, ◌<◌, List, get_or, ℤ, pos, negsuc, ◌+ℤ◌, ◌-ℤ◌, ◌*ℤ◌, ◌<ℤ◌, ◌≤ℤ◌, neg_ℤ, unsigned_abs, cond, nat_eq, refl, sym, ap, ap₂, subst, subst₂, arith, inl, inr, None, Some, true, false, Contains, map}
+use Rattle.std.proofs.Common.{◌≡◌, ◌≢◌, ◌∙◌, ◌↔◌, ℕ, ◌*◌, ◌<◌, List, get_or, ℤ, pos, negsuc, ◌+ℤ◌, ◌-ℤ◌, ◌*ℤ◌, ◌<ℤ◌, ◌≤ℤ◌, neg_ℤ, unsigned_abs, sym, ap, ap₂, subst, subst₂, arith, inl, inr, None, Some, true, false, Contains, map}
 use Rattle.std.proofs.lemmas.Bool.{cases_eq}
-use Rattle.std.proofs.lemmas.List.Elements.{All-from_recursion}
 use borrow.Author.Differences.{ints}
 use Rattle.std.proofs.Math.IntN.{*ℤ_comm}
 use Rattle.frac_core.specs.Fraction.{Fraction, sum_den, sum_num}
@@ -10,23 +9,20 @@ use Rattle.problem_core.specs.declared.parts.Mark.{Mark}
 use Rattle.problem_core.specs.declared.parts.RowName.{RowName}
 use Rattle.problem_core.specs.declared.parts.Side.{Side}
 use Rattle.problem_core.specs.declared.parts.Side.TheVariants.{Under, Over}
-use Rattle.problem_core.specs.Layout.{Line, Problem, lines, sum_of}
+use Rattle.problem_core.specs.Layout.{Problem, lines, sum_of}
 use Rattle.problem_core.specs.Kept.{IsWhole}
 use Rattle.problem_core.specs.Corners.{IsExchange, IsIn, Point, StandsAt, Swap, exchanged, marks_of, one_column, place, place_of}
 use Rattle.problem_core.specs.Window.{zero_fraction}
-use Rattle.corner_laws.proofs.Counting.{cond_other, cond_same}
 use Rattle.corner_laws.proofs.Exchanged.{exchanged_in, neg-times}
-use Rattle.corner_laws.proofs.LinePlaces.{lines_apart, sum-single}
 use Rattle.corner_laws.proofs.Rays.{enter_in, kept_in, rays_after}
-use Rattle.corner_laws.proofs.Unique.{same-name}
-use Rattle.corner_laws.proofs.WrittenValues.{form_there, nothing_outside}
+use Rattle.corner_laws.proofs.WrittenValues.{form_there, nothing_outside, less-none}
 use Rattle.corner_lines.specs.LineEquations.{IsLineSum, IsOutsideLine, deviation, mark_form, other_side, sign_of}
 use Rattle.corner_lines.specs.LineExchanges.{IsExchangedRow}
 use Rattle.corner_lines.proofs.LevelExchanges.{by-sides}
 use Rattle.corner_lines.proofs.LineCarried.{carried}
 use Rattle.corner_lines.proofs.LineExchanges.{still-outside}
 use Rattle.corner_lines.proofs.LineUnfits.{line_sum}
-use Rattle.corner_lines.proofs.LineWritings.{form-outside, other-out, side-value}
+use Rattle.corner_lines.proofs.LineWritings.{form-outside, other-out, side-value, no-side}
 use Rattle.corner_lines.proofs.MarkForms.{form-value}
 use Rattle.path_checker.specs.declared.exchange.Pivot.{Pivot}
 use Rattle.path_checker.specs.declared.spots.Step.{Step}
@@ -36,14 +32,16 @@ use Rattle.path_checker.specs.Pivots.{IsEnteredBy, IsPivotAt, next_marks}
 use Rattle.path_checker.specs.Carried.{IsPivotOf, without}
 use Rattle.path_checker.specs.Tables.{IsLineAt, IsThere, IsUp, line_count, name_at, numbers_of, swap_of}
 use Rattle.path_checker.proofs.CarriedSums.{without_other}
-use Rattle.path_checker.proofs.Exchanging.{one_side, side_out}
-use Rattle.path_checker.proofs.FirstLines.{units}
+use Rattle.path_checker.proofs.Exchanging.{one_side}
+use Rattle.path_checker.proofs.FirstLines.{units, sum_of_unit, units_here, units_other, units_outside}
 use Rattle.path_checker.proofs.Moves.{positive_product}
-use Rattle.path_checker.proofs.Places.{any_line, mark_is_there, name_there, names_differ, number_there}
+use Rattle.path_checker.proofs.Places.{mark_is_there, names_differ, number_there}
 use Rattle.path_checker.proofs.SolvedPivots.{some_up, up}
 use Rattle.path_claims.specs.declared.last.after.Share.{Share}
 use Rattle.path_claims.specs.Sums.{IsShareOf, IsSideAt}
 use Rattle.path_levels.specs.Turns.{IsTurnPivot}
+use Rattle.path_checker.proofs.NextLines.{den_up}
+use Rattle.path_checker.proofs.ValueSigns.{times_down}
 
 -- ---- the corner
 
@@ -89,9 +87,6 @@ stayed_in p at step k side there leave within other inside =
 
 -- ---- the value of a sum
 
-less-none : (s : ℕ) (q f : ℤ) → f ≡ pos 0 → pos s *ℤ q ≡ pos s *ℤ q -ℤ f
-less-none s q f e = omega (arith, ints, e)
-
 pub sum_value : (p : Problem) (at : List Mark) (quantity : (ℕ → ℤ) → ℤ) (own : ℕ) (by : RowName → ℤ) (num : ℤ) (den : ℕ) (x : Point) → IsWhole p → IsLineSum p at quantity own by num den → StandsAt p at x → pos den *ℤ quantity x.num ≡ num *ℤ x.num one_column
 sum_value p at quantity own by num den x whole s stands =
     let none : sum_of (λ l. by l.name *ℤ deviation l.name x.num) (lines p) ≡ pos 0 = sym (form-value by x.num (lines p)) ∙ form_there p at x (mark_form by (lines p)) stands (form-outside p at by whole s.outside) in
@@ -108,14 +103,11 @@ turned_sum p at s quantity own by num den leaves same e = record {
   den_positive = e.den_positive;
   outside = λ k d within some.
       let out : IsOutsideLine at (get_or (lines p) k d).name = e.outside k d within some in
-      still-outside s at (get_or (lines p) k d).name (λ name. side_out at (get_or (lines p) k d).name s.leave.side out (subst (λ (n : RowName). IsIn (place_of n s.leave.side) at) (sym (name ∙ same)) leaves)) out;
+      still-outside s at (get_or (lines p) k d).name (λ name. no-side at (get_or (lines p) k d).name s.leave.side out (subst (λ (n : RowName). IsIn (place_of n s.leave.side) at) (sym (name ∙ same)) leaves)) out;
   holds = e.holds;
 }
 
 -- ---- an exchange of two lines
-
-den_up : (size : ℤ) (den : ℕ) → pos 0 <ℤ size → 0 < den → pos 0 <ℤ (pos 1 *ℤ (size *ℤ pos den))
-den_up size den above some = mul_positive 1 (size *ℤ pos den) (omega arith) (positive_product size (pos den) above (omega (arith, ints, some)))
 
 -- the entering line's value after it, whether or not it fits
 abbrev pub enters_of : Pivot → Fraction
@@ -182,35 +174,8 @@ moved_sum p at pivot quantity own by base num den is sum above ratio =
 
 -- ---- one line alone
 
-abbrev unit_times : (ℕ → ℤ) → RowName → Line → ℤ
-unit_times x name l = cond (nat_eq (place_of l.name Under) (place_of name Under)) (pos 1) (pos 0) *ℤ deviation l.name x
-
 one_times : (z : ℤ) → pos 1 *ℤ z ≡ z
 one_times z = omega (arith, ints)
-
-pub sum_of_unit : (p : Problem) (k : ℕ) (x : ℕ → ℤ) → IsWhole p → k < line_count p → sum_of (λ l. units p k l.name *ℤ deviation l.name x) (lines p) ≡ deviation (name_at p k) x
-sum_of_unit p k x whole within =
-    let each = sum-single (λ (m l : Line). unit_times x m.name l) (λ m l apart. ap (λ (z : ℤ). z *ℤ deviation l.name x) (cond_other (place_of l.name Under) (place_of m.name Under) (pos 1) (λ e. apart.under_under (sym e))) ∙ zero-mul_ℤ (deviation l.name x)) (lines p) (lines_apart p whole) in
-    let here : sum_of (unit_times x (get_or (lines p) k any_line).name) (lines p) ≡ unit_times x (get_or (lines p) k any_line).name (get_or (lines p) k any_line) =
-    All-from_recursion (λ (m : Line). sum_of (unit_times x m.name) (lines p) ≡ unit_times x m.name m) (lines p) each k any_line within in
-    let name : (get_or (lines p) k any_line).name ≡ name_at p k = name_there p k any_line within in
-    ap (λ (n : RowName). sum_of (unit_times x n) (lines p)) (sym name) ∙ here
-    ∙ ap (λ (z : ℤ). z *ℤ deviation (get_or (lines p) k any_line).name x) (cond_same (place_of (get_or (lines p) k any_line).name Under) (place_of (get_or (lines p) k any_line).name Under) (pos 1) refl)
-    ∙ one_times (deviation (get_or (lines p) k any_line).name x)
-    ∙ ap (λ (n : RowName). deviation n x) name
-
-pub units_here : (p : Problem) (k : ℕ) (name : RowName) → name ≡ name_at p k → units p k name ≡ pos 1
-units_here p k name e = cond_same (place_of name Under) (place_of (name_at p k) Under) (pos 1) (ap (λ (n : RowName). place_of n Under) e)
-
-pub units_other : (p : Problem) (k : ℕ) (name : RowName) → name ≢ name_at p k → units p k name ≡ pos 0
-units_other p k name ne = cond_other (place_of name Under) (place_of (name_at p k) Under) (pos 1) (λ e. ne (same-name name (name_at p k) e))
-
-pub units_outside : (p : Problem) (at : List Mark) (k : ℕ) (name : RowName) → IsOutsideLine at (name_at p k) → units p k name ≢ pos 0 → IsOutsideLine at name
-units_outside p at k name out some =
-    elim (cases_eq (place_of name Under) (place_of (name_at p k) Under)) [
-      | inl e ↦ subst (IsOutsideLine at) (sym (same-name name (name_at p k) e)) out
-      | inr ne ↦ absurd (some (cond_other (place_of name Under) (place_of (name_at p k) Under) (pos 1) ne))
-    ]
 
 -- an outside line's deviation is itself
 pub unit_line : (p : Problem) (at : List Mark) (k : ℕ) → IsWhole p → k < line_count p → IsOutsideLine at (name_at p k) → IsLineSum p at (deviation (name_at p k)) 1 (units p k) (pos 0) 1
@@ -250,9 +215,6 @@ outside_share p at k enter share there here within out own same other num den = 
 }
 
 -- ---- signs
-
-times_down : (n : ℕ) (z : ℤ) → pos n *ℤ neg_ℤ z ≡ neg_ℤ (pos n *ℤ z)
-times_down n z = *ℤ_comm (pos n) (neg_ℤ z) ∙ neg-times z (pos n) ∙ ap neg_ℤ (*ℤ_comm z (pos n))
 
 not_both : (z : ℤ) → pos 0 ≤ℤ z → pos 0 <ℤ neg_ℤ z → ⊥
 not_both z up down = absurd (omega (arith, ints, up, down))

@@ -7,7 +7,7 @@ use Rattle.frac_core.proofs.Integers.{zero-mul_ℤ}
 use Rattle.problem_core.proofs.Forms.{each-impl, sum-more, sum-zero}
 use Rattle.problem_core.specs.declared.parts.Mark.{Mark}
 use Rattle.problem_core.specs.declared.parts.Term.{Term}
-use Rattle.problem_core.specs.Layout.{Problem, lines, sum_of, value_at}
+use Rattle.problem_core.specs.Layout.{Problem, lines, sum_of}
 use Rattle.problem_core.specs.Corners.{attr_column, one_column}
 use Rattle.problem_core.specs.Unfit.{HasNoWriting, IsUnfitWhat}
 use Rattle.problem_core.specs.declared.stops.What.TheVariants.{Attr}
@@ -16,7 +16,7 @@ use Rattle.corner_laws.proofs.LinePlaces.{lines_apart}
 use Rattle.path_checker.proofs.EnteringLine.{at_place}
 use Rattle.problem_core.specs.Window.{zero_fraction}
 use Rattle.corner_lines.specs.LineEquations.{IsLineEquation, IsLineSum, IsUnfitLine, deviation}
-use Rattle.corner_lines.proofs.JoinedLines.{added, same-sum}
+use Rattle.corner_lines.proofs.JoinedLines.{added, same-sum, same-writing}
 use Rattle.corner_lines.proofs.LineUnfits.{line_sum, line_unfit, reduced_line}
 use Rattle.path_checker.specs.declared.table.Sum.{Sum}
 use Rattle.path_checker.specs.Numbers.{AreFitting, AreLowest, AreUnfit, IsCombined}
@@ -99,15 +99,6 @@ same_quantity p at q u sum same s =
       equation = record { own_positive = e.own_positive; den_positive = e.den_positive; outside = e.outside; holds = e.holds; lowest = s.equation.lowest };
     }
 
-pub same_writing : (p : Problem) (at : List Mark) (q u : (ℕ → ℤ) → ℤ) → ((x : ℕ → ℤ) → q x ≡ u x) → HasNoWriting p at q → HasNoWriting p at u
-same_writing p at q u same none scale form value w = none scale form value (record {
-  scale_positive = w.scale_positive;
-  den_positive = w.den_positive;
-  outside = w.outside;
-  holds = λ x solves. ap (λ (z : ℤ). pos value.den *ℤ (pos scale *ℤ z -ℤ value_at x.num form)) (same x.num) ∙ w.holds x solves;
-  lowest = w.lowest;
-})
-
 pub terms_more : (terms : List Term) (k : ℕ) (d : Term) (x : ℕ → ℤ) → k < length terms → terms_of (take k terms) x +ℤ (get_or terms k d).by *ℤ x (attr_column (get_or terms k d).attr) ≡ terms_of (take (k + 1) terms) x
 terms_more terms k d x within = sym (sum-more (λ (t : Term). t.by *ℤ x (attr_column t.attr)) terms k d within)
 
@@ -149,7 +140,7 @@ more_stops p at terms k d sum more (UnfitTerms j) within there s m is = (
   omega (arith, is.0),
   omega (arith, is.0, within),
   subst (λ (i : ℕ). HasNoWriting p at (terms_of (take i terms))) (sym is.0)
-      (same_writing p at (λ x. terms_of (take k terms) x +ℤ (get_or terms k d).by *ℤ x (attr_column (get_or terms k d).attr)) (terms_of (take (k + 1) terms)) (λ x. terms_more terms k d x within)
+      (same-writing p at (λ x. terms_of (take k terms) x +ℤ (get_or terms k d).by *ℤ x (attr_column (get_or terms k d).attr)) (terms_of (take (k + 1) terms)) (λ x. terms_more terms k d x within)
       (is.1 p at (terms_of (take k terms)) (λ x. x (attr_column (get_or terms k d).attr)) there s m)),
 )
 more_stops p at terms k d sum more OutOfMemory within there s m is = tt

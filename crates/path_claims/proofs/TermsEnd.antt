@@ -1,12 +1,9 @@
 -- The sum of all terms of a row less its constant, and which sum a quantity names.
 use Rattle.std.proofs.Common.{◌≡◌, ◌≢◌, ◌∙◌, ℕ, zero, suc, ◌+◌, ◌*◌, ◌<◌, ◌≤◌, List, [], ◌∷◌, length, get_or, take, ℤ, pos, negsuc, ◌+ℤ◌, ◌-ℤ◌, ◌*ℤ◌, unsigned_abs, refl, sym, ap, subst, arith, Any, inl, inr, mul-pos}
-use Rattle.std.specs.List.{AllByRecursion as Each}
 use Rattle.std.proofs.lemmas.Bool.{cases_eq}
 use Rattle.std.proofs.lemmas.List.{get_or_default}
 use borrow.Author.Differences.{ints}
 use Rattle.frac_core.specs.Fraction.{Fraction, IsKept, IsRatio, IsUnfitRatio, sum_den, sum_num}
-use Rattle.frac_core.proofs.Integers.{zero-mul_ℤ}
-use Rattle.problem_core.proofs.Forms.{sum-zero}
 use Rattle.problem_core.specs.declared.parts.Mark.{Mark}
 use Rattle.problem_core.specs.declared.parts.RowName.{RowName}
 use Rattle.problem_core.specs.declared.parts.RowName.TheVariants.{Held}
@@ -17,12 +14,12 @@ use Rattle.problem_core.specs.Corners.{IsIn, Point, Solves, equation, one_column
 use Rattle.problem_core.specs.Unfit.{HasNoWriting, first_terms, over_mark}
 use Rattle.corner_laws.proofs.Gaps.{line_gap}
 use Rattle.corner_lines.specs.LineEquations.{IsLineSum, deviation}
-use Rattle.corner_lines.proofs.JoinedLines.{added, past-terms, plain-terms, same-sum}
+use Rattle.corner_lines.proofs.JoinedLines.{added, past-terms, plain-terms, same-sum, same-writing}
 use Rattle.corner_lines.proofs.LineUnfits.{line_sum, mark_unfit}
 use Rattle.path_checker.specs.FirstLines.{IsRowOf}
 use Rattle.path_checker.specs.declared.table.Sum.{Sum}
 use Rattle.path_checker.specs.Tables.{IsThere, numbers_of}
-use Rattle.path_checker.proofs.FirstLines.{count_lines, row_at}
+use Rattle.path_checker.proofs.FirstLines.{count_lines, row_at, nothing_moves}
 use Rattle.path_checker.proofs.Places.{any_line}
 use Rattle.path_claims.specs.Sums.{IsQuantitySum}
 use Rattle.path_claims.specs.TermSums.{IsRowFit, IsTermsStop, terms_of}
@@ -30,7 +27,6 @@ use Rattle.path_claims.specs.declared.last.Fit.{Fit}
 use Rattle.path_claims.specs.declared.last.Fit.TheVariants.{Unfit, NoRoom}
 use Rattle.path_claims.specs.declared.last.terms.TermsStop.TheVariants.{UnfitAttr, UnfitTerms}
 use Rattle.path_claims.proofs.QuantitiesAfter.{line_sum_is, mark_fits, quantity_fits}
-use Rattle.path_claims.proofs.TermsAfter.{same_writing}
 
 one_times : (z : ℤ) → pos 1 *ℤ z ≡ z
 one_times z = omega (arith, ints)
@@ -45,13 +41,6 @@ row_gap p r x (k, s, within, is, same) solves =
   where
     parts : (d : ℕ) (k u o f one : ℤ) → pos d *ℤ ((u -ℤ o) +ℤ f) ≡ k *ℤ one → pos d *ℤ (f -ℤ (o -ℤ u)) ≡ k *ℤ one
     parts d k u o f one e = (let g : f -ℤ (o -ℤ u) ≡ (u -ℤ o) +ℤ f = omega (arith, ints) in ap (λ (z : ℤ). pos d *ℤ z) g) ∙ e
-
-nothing_moves : (p : Problem) (x : ℕ → ℤ) → sum_of (λ l. pos 0 *ℤ deviation l.name x) (lines p) ≡ pos 0
-nothing_moves p x = sum-zero (λ l. pos 0 *ℤ deviation l.name x) (lines p) (all_zero (lines p))
-  where
-    all_zero : (ls : List Line) → Each (λ l. pos 0 *ℤ deviation l.name x ≡ pos 0) ls
-    all_zero [] = tt
-    all_zero (l ∷ ls) = (zero-mul_ℤ (deviation l.name x), all_zero ls)
 
 less_sum : (p : Problem) (at : List Mark) (r : Row) → IsRowOf p r → 0 < r.constant.den → IsLineSum p at (λ x. terms_of r.terms x -ℤ deviation (Held r.id) x) 1 (λ n. pos 0) r.constant.num r.constant.den
 less_sum p at r held above = record {
@@ -87,10 +76,6 @@ deviation_sum p at r sum num den held constant s above ratio =
     numbers : (own : ℕ) (b : ℤ) → b ≡ pos 1 *ℤ b +ℤ (pos own *ℤ negsuc 0) *ℤ pos 0
     numbers own b = let z : (pos own *ℤ negsuc 0) *ℤ pos 0 ≡ pos 0 = zero_times (pos own *ℤ negsuc 0) in omega (arith, ints, z)
 
-take_all : (ts : List Term) → take (length ts) ts ≡ ts
-take_all [] = refl
-take_all (t ∷ ts) = ap (λ (us : List Term). t ∷ us) (take_all ts)
-
 -- the whole sum less the constant fits, or does not
 pub last_fits : (p : Problem) (at : List Mark) (r : Row) (sum : Sum) (value : Fraction) → IsThere p at → IsRowOf p r → 0 < r.constant.den → IsQuantitySum p at (terms_of r.terms) sum → IsIn (place (over_mark r.id)) at → IsKept value
     → IsRatio value (sum_num sum.value (negsuc 0) (pos 1) r.constant) (sum_den sum.value (pos 1) r.constant) → HasNoWriting p at (first_terms r (length r.terms + 1)) → ⊥
@@ -102,14 +87,14 @@ last_fits p at r sum value there held constant s inside kept ratio none =
       equation = record { own_positive = e.own_positive; den_positive = e.den_positive; outside = e.outside; holds = e.holds; lowest = s.equation.lowest };
     } in
     mark_fits p at (Held r.id) (record { side = Over; sum = next }) there (inside, line_sum_is p at (Held r.id) next q) kept
-    (same_writing p at (first_terms r (length r.terms + 1)) (λ x. x (place (over_mark r.id))) (λ x. past-terms r x) none)
+    (same-writing p at (first_terms r (length r.terms + 1)) (λ x. x (place (over_mark r.id))) (λ x. past-terms r x) none)
 
 pub last_unfit : (p : Problem) (at : List Mark) (r : Row) (sum : Sum) → IsThere p at → IsRowOf p r → 0 < r.constant.den → IsQuantitySum p at (terms_of r.terms) sum → IsIn (place (over_mark r.id)) at
     → IsUnfitRatio (sum_num sum.value (negsuc 0) (pos 1) r.constant) (sum_den sum.value (pos 1) r.constant) → HasNoWriting p at (first_terms r (length r.terms + 1))
 last_unfit p at r sum there held constant s inside unfit =
     let num : ℤ = sum_num sum.value (negsuc 0) (pos 1) r.constant in
     let den : ℕ = sum.value.den * (1 * r.constant.den) in
-    same_writing p at (λ x. x (place (over_mark r.id))) (first_terms r (length r.terms + 1)) (λ x. sym (past-terms r x))
+    same-writing p at (λ x. x (place (over_mark r.id))) (first_terms r (length r.terms + 1)) (λ x. sym (past-terms r x))
     (mark_unfit p at (Held r.id) Over (unsigned_abs sum.own) (numbers_of (lines p) sum.by.items) num den there.whole there.corner there.rays inside
     (deviation_sum p at r sum num den held constant s (den_above sum.value.den r.constant.den s.equation.den_positive constant) refl)
     (λ low part value reduced ratio low_fits part_fit kept. unfit value kept.lowest ratio kept.fits))
@@ -147,12 +132,12 @@ first_is r j x within = plain-terms r j x within
 -- a sum of fewer terms, or an attribute, stops the sum
 pub stop_of_terms : (p : Problem) (at : List Mark) (r : Row) (first j : ℕ) → 1 ≤ j → j ≤ length (take first r.terms) → j ≤ length r.terms → HasNoWriting p at (terms_of (take j (take first r.terms))) → HasNoWriting p at (first_terms r j)
 stop_of_terms p at r first j low high within none =
-    same_writing p at (terms_of (take j (take first r.terms))) (first_terms r j)
+    same-writing p at (terms_of (take j (take first r.terms))) (first_terms r j)
     (λ x. ap (λ (ts : List Term). terms_of ts x) (take_twice r.terms j first (let l = take_long r.terms first in omega (arith, high, l))) ∙ sym (first_is r j x within)) none
 
 pub first_fits : (p : Problem) (at : List Mark) (r : Row) (first : ℕ) (sum : Sum) → IsThere p at → first ≤ length r.terms → IsQuantitySum p at (terms_of (take first r.terms)) sum → IsKept sum.value → HasNoWriting p at (first_terms r first) → ⊥
 first_fits p at r first sum there within s kept none =
-    quantity_fits p at (terms_of (take first r.terms)) sum there s kept (same_writing p at (first_terms r first) (terms_of (take first r.terms)) (λ x. first_is r first x within) none)
+    quantity_fits p at (terms_of (take first r.terms)) sum there s kept (same-writing p at (first_terms r first) (terms_of (take first r.terms)) (λ x. first_is r first x within) none)
 
 -- an attribute of them
 pub attr_part : (p : Problem) (at : List Mark) (r : Row) (first attr : ℕ) → IsTermsStop p at (take first r.terms) (UnfitAttr attr) → IsRowFit p at r first NoRoom
@@ -174,4 +159,4 @@ whole_attr_part p at r attr is = inr (attr, subst (λ (ts : List Term). Any (λ 
 
 pub whole_terms_part : (p : Problem) (at : List Mark) (r : Row) (j : ℕ) → IsTermsStop p at r.terms (UnfitTerms j) → IsRowFit p at r (length r.terms + 1) NoRoom
 whole_terms_part p at r j is =
-    inl (j, is.0, omega (arith, is.1), same_writing p at (terms_of (take j r.terms)) (first_terms r j) (λ x. sym (first_is r j x is.1)) is.2)
+    inl (j, is.0, omega (arith, is.1), same-writing p at (terms_of (take j r.terms)) (first_terms r j) (λ x. sym (first_is r j x is.1)) is.2)

@@ -5,9 +5,6 @@ use Rattle.std.proofs.lemmas.List.{get_or_append_left, get_or_push}
 use Rattle.path_checker.specs.Numbers.{number_at}
 use Rattle.path_claims.specs.Sums.{IsUnitList}
 
-pub no_units : (at : ℕ) → IsUnitList 0 at []
-no_units at = record { count_is = omega arith; here = λ less. absurd (omega (arith, less)); others = λ k less ne. absurd (omega (arith, less)) }
-
 pub one_unit_more : (n at : ℕ) (by : List ℤ) (z : ℤ) → IsUnitList n at by → (n ≡ at → z ≡ pos 1) → (n ≢ at → z ≡ pos 0) → IsUnitList (n + 1) at (by ++ z ∷ [])
 one_unit_more n at by z is here other = record {
   count_is = let l = length-append by (z ∷ []) in omega (arith, l, is.count_is);

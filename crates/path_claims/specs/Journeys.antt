@@ -1,6 +1,5 @@
 -- The checker's route with lines and levels: to a path's first corner and along its swaps.
-use Rattle.std.specs.Prelude.{◌≡◌, ◌+◌, Bool, List, [], ◌∷◌, ◌++◌, length, take, All}
-use Rattle.std.specs.Prelude.{Some}
+use Rattle.std.specs.Prelude.{◌≡◌, Bool, List, [], ◌∷◌, ◌++◌, length, take}
 use Rattle.problem_core.specs.declared.parts.Mark.{Mark}
 use Rattle.problem_core.specs.Layout.{Problem}
 use Rattle.problem_core.specs.Begins.{AreExchanges}
@@ -8,14 +7,13 @@ use Rattle.problem_core.specs.Corners.{IsCorner, IsIn, SameMarks, Swap, exchange
 use Rattle.problem_core.specs.Paths.{IsSound}
 use Rattle.cert_core.specs.Paths.{Path}
 use Rattle.path_checker.specs.declared.spots.Spot.{Spot}
-use Rattle.path_checker.specs.declared.spots.Step.{Step}
 use Rattle.path_checker.specs.declared.way.WayStop.{WayStop}
 use Rattle.path_checker.specs.declared.way.WayStop.TheVariants.{Fails, NoRoom, OutOfMemory}
 use Rattle.path_checker.specs.PathClauses.{HoldToApart}
-use Rattle.path_checker.specs.Route.{GivesWay, GoesBy, IsRoute, corner_after, over_marks}
-use Rattle.path_checker.specs.Sides.{IsWithin}
-use Rattle.path_checker.specs.Tables.{AreSides, IsThere, line_count, mark_of, names_of, swap_of}
-use Rattle.path_checker.specs.Ways.{AreNew, IsBegun, IsBroughtByNone, IsMarkStop, IsShortPath}
+use Rattle.path_checker.specs.Route.{IsRoute, corner_after, over_marks}
+use Rattle.path_checker.specs.Tables.{AreSides, IsThere, line_count, mark_of, names_of}
+use Rattle.path_checker.specs.Ways.{AreNew, IsBegun, IsBroughtBy, IsBroughtByNone, IsMarkStop}
+use Rattle.path_checker.specs.Ways.{IsRouteAt, IsShortPath}
 use Rattle.path_levels.specs.declared.frame.Frame.{Frame}
 use Rattle.path_claims.specs.declared.journey.Claim.{Claim}
 use Rattle.path_claims.specs.declared.journey.Journey.{Journey}
@@ -35,19 +33,13 @@ pub record IsClaim (claim : Claim) : Type 0 where
 -- ---- one mark is brought in
 
 -- the exchange that brings the mark in, and what is kept of the next corner
-pub record IsBroughtBy (p : Problem) (wanted at : List Mark) (frame : Frame) (enter : Spot)
-    (station next : Station) : Type 0 where
-  pub step : Step
-  pub enter_is : step.enter ≡ enter
-  pub gives : GivesWay p wanted at (swap_of p step)
-  pub within : IsWithin (line_count p) step
-  pub station_is : IsStation p (exchanged (swap_of p step) at) frame next
-  pub step_is : next.step ≡ Some step
-  pub count_is : next.count ≡ station.count + 1
+abbrev pub IsBroughtTo : Claim → List Mark → Spot → (station next : Station) → Type 0
+IsBroughtTo claim at enter station next = IsBroughtBy claim.p.now claim.path.now.corner at enter
+    (λ ms. IsStation claim.p.now ms claim.frame.now next) station.count next.count next.step
 
 abbrev pub Brings : Claim → Spot → Station → Station → Type 0
 Brings claim enter station next = (at : List Mark) → IsStation claim.p.now at claim.frame.now station
-    → IsBroughtBy claim.p.now claim.path.now.corner at claim.frame.now enter station next
+    → IsBroughtTo claim at enter station next
 
 -- none gives way to it, or something that counts does not fit
 abbrev pub BringsNone : Claim → Spot → Station → WayStop → Type 0
@@ -60,20 +52,10 @@ BringsNone claim enter station OutOfMemory = Unit {0}
 
 -- ---- all marks, one after the other
 
--- the route has come here: these marks of the path's first corner are inside, and the rest is to come
-pub record IsJourneyAt (p : Problem) (path : Path) (frame : Frame) (before rest : List Mark)
-    (journey : Journey) : Type 0 where
-  pub done : List Swap
-  pub count : length done ≡ journey.station.count
-  pub begun : IsBegun done journey.station.step
-  pub there : IsThere p (corner_after p done)
-  pub station_is : IsStation p (corner_after p done) frame journey.station
-  pub sides : AreSides p (corner_after p done) journey.sides.items
-  pub goes_on : (more : List Swap) → GoesBy p path.corner path.swaps (corner_after p done) rest more
-      → IsRoute p path (done ++ more)
-  pub inside : All (λ m. IsIn (place m) (corner_after p done)) before
-  pub wanted : All (λ m. IsIn (place m) path.corner) before
-  pub new : AreNew path.corner (over_marks p) done
+-- the journey has come here, and this is kept of the corner
+abbrev pub IsJourneyAt : Problem → Path → Frame → (before rest : List Mark) → Journey → Type 0
+IsJourneyAt p path frame before rest journey = IsRouteAt p path (λ at. IsStation p at frame journey.station)
+    before rest journey.station.count journey.station.step journey.sides.items
 
 pub record IsUsableJourney (p : Problem) (frame : Frame) (journey : Journey) : Type 0 where
   pub station : IsUsableStation frame journey.station

@@ -1,14 +1,11 @@
 // The corner where a route begins.
-ghost use Rattle.std.specs.Prelude.{◌≡◌, length, IfOk};
-ghost use Rattle.path_checker.specs.Route.{over_marks};
-ghost use Rattle.path_checker.specs.Tables.{AreLines, AreSized, line_count};
+ghost use Rattle.std.specs.Prelude.{IfOk};
 ghost use Rattle.path_claims.specs.Begun.{IsBegun};
-ghost use Rattle.path_claims.specs.FirstSums.{AreMade};
 ghost use Rattle.path_levels.specs.Frames.{IsFrame, IsSizedFrame};
 
 use crate::firsts::row_lines;
 use frac_core::{OutOfMemory, Stop};
-use path_checker::Inside;
+use path_checker::{Inside, with_stays};
 use path_levels::{Frame, LevelSum, first_levels};
 use problem_core::{Problem, Quantity};
 use std::alloc::Global;
@@ -25,20 +22,6 @@ pub enum Begun {
         lines: Vec<Option<Inside>>,
         unfit: Quantity,
     },
-}
-
-// The lines of the rows, and then those of the stays.
-fn with_stays(lines: Vec<Option<Inside>>, p: &Problem) -> Result<Vec<Option<Inside>>, OutOfMemory>
-    requires { AreMade p.now (length p.now.rows) lines.items }
-    ensures sized { IfOk result (λ lines. AreSized lines.items) }
-    ensures count { IfOk result (λ lines. length lines.items ≡ line_count p.now) }
-    ensures lines { IfOk result (λ lines. AreLines p.now (over_marks p.now) lines.items) }
-{
-    let mut out = lines;
-    for _ in 0..p.stays().len() {
-        out.push(None)?;
-    }
-    Ok(out)
 }
 
 /// The corner where a route begins, as far as its sums fit.

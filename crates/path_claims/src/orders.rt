@@ -1,7 +1,6 @@
 // The order of sums where a route begins: rows' by number and then levels', strongest first.
-ghost use Rattle.std.specs.Prelude.{◌≡◌, ◌≢◌, ◌↔◌, ◌+◌, ◌<◌, ◌≤◌, ℕ, length, get_or, All};
+ghost use Rattle.std.specs.Prelude.{◌≡◌, ◌↔◌, ◌+◌, ◌<◌, ◌≤◌, ℕ, length, get_or, All};
 ghost use Rattle.std.specs.Prelude.{IfSome, IfNone, IsTrue, Some, false};
-ghost use Rattle.std.specs.List.{HoldsAt};
 ghost use Rattle.problem_core.specs.declared.limits.TheConstants.{REQUIRED};
 ghost use Rattle.problem_core.specs.declared.parts.Level.TheVariants.{Priority, Stay as StayLevel};
 ghost use Rattle.problem_core.specs.Layout.{Row};
@@ -12,8 +11,9 @@ ghost use Rattle.path_checker.specs.PathClauses.{row_of_terms};
 ghost use Rattle.path_claims.specs.Orders.{IsFirstOf, IsFitBefore, IsJudgedTo, IsPlaceOf, IsSizeOf, Precedes};
 
 use crate::last::Fit;
+use crate::last::fits::stay_of;
 use path_levels::FIRST_STAY;
-use problem_core::{Level, Mark, Problem, Quantity, REQUIRED, Row, RowName, Side, Stay};
+use problem_core::{Level, Mark, Problem, Quantity, REQUIRED, Row, RowName, Side};
 
 /// Where a sum stands: at the number of its row or level, by how many it sums.
 #[derive(Clone, Copy, Debug, PartialEq, Eq)]
@@ -45,22 +45,13 @@ fn priority_number(rank: u16) -> Option<u32>
     Some(u32::from(REQUIRED - rank))
 }
 
-// The place of an attribute's stay.
-fn stay_place(stays: &[Stay], attr: u32) -> Option<usize>
-    ensures within { IfSome result (λ k. k < length stays.now) }
-    ensures found { IfSome result (HoldsAt (λ s. s.attr ≡ attr) stays.now) }
-    ensures none { IfNone result (All (λ s. s.attr ≢ attr) stays.now) }
-{
-    stays.iter().position(|s| s.attr == attr)
-}
-
 // The number of the level of an attribute's stay.
 fn stay_number(p: &Problem, attr: u32) -> Option<u32>
     ensures some { IfSome result (IsLevelAt p.now (StayLevel attr)) }
     ensures none { IfNone result ((k : ℕ) → IsLevelAt p.now (StayLevel attr) k → ⊥) }
 {
     p.show_whole(); // for the proof: what a problem keeps
-    let Some(at) = stay_place(p.stays(), attr) else {
+    let Some(at) = stay_of(p.stays(), attr) else {
         return None;
     };
     Some(FIRST_STAY + at as u32)

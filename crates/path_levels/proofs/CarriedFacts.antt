@@ -19,6 +19,7 @@ use Rattle.path_levels.specs.declared.sums.LevelSum.{LevelSum}
 use Rattle.path_levels.specs.Carried.{AreSharing, IsCarriedBy, IsCommonOf}
 use Rattle.path_levels.specs.Levels.{IsSizedLevel}
 use Rattle.path_levels.specs.Turns.{IsSizedPivot, IsWideLevel}
+use Rattle.frac_core.proofs.Products.{most_product}
 
 -- ---- factors
 
@@ -56,9 +57,6 @@ sharing size n c k m up above e f = record {
 }
 
 -- ---- sizes
-
-most_product : (a b m n : ℕ) → a ≤ m → b ≤ n → a * b ≤ m * n
-most_product a b m n h k = mul-le-mul h k
 
 pub product_size : (a b : ℤ) → IsFitting a → unsigned_abs b < 2 ^ 53 → unsigned_abs (a *ℤ b) < 2 ^ 95
 product_size a b h k =

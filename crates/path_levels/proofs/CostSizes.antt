@@ -1,16 +1,12 @@
 -- The sizes of reduced costs.
 use Rattle.std.proofs.Common.{◌≡◌, ℕ, ◌*◌, ◌/◌, ◌<◌, ◌≤◌, ◌^◌, ℤ, pos, negsuc, ◌≤ℤ◌, unsigned_abs, arith, sym, subst}
 use borrow.Author.Differences.{ints}
-use Rattle.std.proofs.lemmas.Int.{unsigned_abs-mul}
 use Rattle.std.proofs.lemmas.Nat.{mul-le}
 use Rattle.std.proofs.Math.Nat.{div-le_self}
 use Rattle.problem_core.specs.declared.parts.Side.{Side}
 use Rattle.problem_core.specs.declared.parts.Side.TheVariants.{Under, Over}
 use Rattle.path_levels.specs.declared.frame.LineFacts.{LineFacts}
-use Rattle.path_levels.specs.declared.sums.LevelSum.{LevelSum}
 use Rattle.path_levels.specs.Costs.{IsPriced, share_of, weight_of}
-use Rattle.path_levels.specs.Frames.{IsSizedFacts}
-use Rattle.path_levels.specs.Levels.{IsSizedLevel}
 
 size-within : (z : ℤ) (n : ℕ) → pos 0 ≤ℤ z → z ≤ℤ pos n → unsigned_abs z ≤ n
 size-within (pos k) n low high = omega (arith, ints, high)
@@ -31,9 +27,3 @@ share-small own unit w s less small =
 pub counted_small : (side : Side) (own unit n : ℕ) (f : LineFacts) → IsPriced f → own * unit < 2 ^ 84 → n ≡ share_of side unit f → own * n < 2 ^ 94
 counted_small side own unit n f is less e =
     subst (λ (m : ℕ). own * m < 2 ^ 94) (sym e) (share-small own unit (unsigned_abs (weight_of side f)) (unsigned_abs f.scale) less (weight-small side f is))
-
-pub priced : (n : ℕ) (f : LineFacts) → IsSizedFacts n f → IsPriced f
-priced n f is = record { under = is.under; over = is.over; scale = is.scale; level = omega arith }
-
-pub sum_small : (n : ℕ) (sum : LevelSum) → IsSizedLevel n sum → unsigned_abs sum.own * unsigned_abs sum.unit < 2 ^ 84
-sum_small n sum is = let s = is.scale in let e = unsigned_abs-mul sum.own sum.unit in omega (arith, s, e)

@@ -1,5 +1,5 @@
 -- A draft is the row of the level that the line has joined.
-use Rattle.std.proofs.Common.{◌≡◌, ◌∙◌, ℕ, ◌*◌, List, length, ℤ, pos, negsuc, ◌<ℤ◌, unsigned_abs, refl, sym, ap, subst, inl, inr}
+use Rattle.std.proofs.Common.{◌≡◌, ◌∙◌, ℕ, ◌*◌, List, length, ℤ, pos, unsigned_abs, sym, ap, subst, inl, inr}
 use Rattle.std.specs.declared.option.Option.{Option}
 use Rattle.problem_core.specs.declared.parts.Mark.{Mark}
 use Rattle.problem_core.specs.declared.parts.RowName.{RowName}
@@ -19,10 +19,7 @@ use Rattle.path_levels.proofs.LineJoins.{IsLineJoin}
 use Rattle.path_levels.proofs.LineLists.{HasZeros}
 use Rattle.path_levels.proofs.JoinRows.{joined_row, joined_unfit, started}
 use Rattle.path_levels.proofs.JoinCosts.{cost_there, unfit_cost}
-
-positive-is : (z : ℤ) → pos 0 <ℤ z → z ≡ pos (unsigned_abs z)
-positive-is (pos n) h = refl
-positive-is (negsuc n) h = absurd h.lt
+use Rattle.corner_lines.proofs.Units.{positive_is}
 
 -- all but whether it fits
 pub record IsDraftThere (q : Problem) (at : List Mark) (level : ℕ) (draft : Draft) : Type 0 where
@@ -34,7 +31,7 @@ pub draft_there : (p q : Problem) (at : List Mark) (level : ℕ) (name : RowName
 draft_there p q at level name old f kept draft j d =
     let s = started p q at level name old f kept d.times j d.rise in
     let unit : unsigned_abs draft.unit ≡ d.times * s.unit = ap unsigned_abs d.unit_is ∙ ap (λ (n : ℕ). d.times * n) s.unit_is in
-    let low : draft.own ≡ pos (unsigned_abs draft.own) = positive-is draft.own d.above in
+    let low : draft.own ≡ pos (unsigned_abs draft.own) = positive_is draft.own d.above in
     let row = joined_row p q at level name old f kept d.times d.own d.out (unsigned_abs draft.own) draft.by.items j s d.list (subst (λ (z : ℤ). AreLowest d.own d.out z draft.by.items) low d.lowest) in
     let cost = cost_there p q at level name old f kept d.times draft.cost j s d.cost in
     record {

@@ -1,22 +1,20 @@
 -- A level none of whose rows has joined yet.
-use Rattle.std.proofs.Common.{◌≡◌, ◌∙◌, ℕ, ◌/◌, ◌<◌, ◌≤◌, ◌^◌, Bool, true, false, cond, nat_eq, List, [], ◌∷◌, length, take, get_or, ℤ, pos, ◌+ℤ◌, ◌*ℤ◌, unsigned_abs, refl, sym, ap, ap₂, subst, arith, inr, All}
+use Rattle.std.proofs.Common.{◌≡◌, ◌∙◌, ℕ, ◌/◌, ◌<◌, ◌≤◌, ◌^◌, Bool, true, false, cond, nat_eq, List, [], ◌∷◌, length, take, get_or, ℤ, pos, ◌*ℤ◌, unsigned_abs, refl, sym, ap, subst, arith, inr, All}
 use Rattle.std.specs.List.{AllByRecursion as Each, filter}
 use Rattle.std.proofs.Math.Nat.{dvd-zero, dvd_refl}
 use Rattle.std.proofs.lemmas.List.Elements.{recursion_from_All}
 use Rattle.frac_core.specs.Fraction.{Fits, Fraction, IsLowest}
-use Rattle.frac_core.proofs.Integers.{mul-zero_ℤ, zero-mul_ℤ}
+use Rattle.frac_core.proofs.Integers.{zero-mul_ℤ}
 use Rattle.problem_core.specs.declared.parts.Mark.{Mark}
 use Rattle.problem_core.specs.declared.parts.RowName.{RowName}
-use Rattle.problem_core.specs.declared.parts.Side.TheVariants.{Under, Over}
+use Rattle.problem_core.specs.declared.parts.Side.TheVariants.{Under}
 use Rattle.problem_core.specs.Layout.{Line, Problem, lines, sum_of}
-use Rattle.problem_core.specs.Certificates.{over_weight, under_weight, weight_at}
+use Rattle.problem_core.specs.Certificates.{weight_at}
 use Rattle.problem_core.specs.Corners.{IsCorner, Point, one_column, place_of}
 use Rattle.problem_core.specs.Levels.{HasNoLevelWriting, IsCostAt, line_cost, scales}
 use Rattle.problem_core.specs.Window.{zero_fraction}
 use Rattle.problem_core.proofs.Forms.{each-impl, mul-sum}
 use Rattle.corner_laws.specs.Units.{IsLevelUnit}
-use Rattle.corner_laws.proofs.LevelSizes.{over-zero, under-zero}
-use Rattle.corner_laws.proofs.LinePlaces.{sum-each}
 use Rattle.corner_lines.specs.LevelFits.{IsFittingRow}
 use Rattle.corner_lines.specs.LevelRows.{HasLevelRow}
 use Rattle.corner_lines.proofs.LevelFits.{fitting_row_has_writing, small_row_fits}
@@ -29,16 +27,10 @@ use Rattle.path_levels.specs.Parts.{IsEmptySum, part}
 use Rattle.path_levels.specs.Rows.{level_place}
 use Rattle.path_levels.proofs.PartLines.{part_lines}
 use Rattle.path_levels.proofs.Weighed.{weighed_later, weighed_length}
+use Rattle.problem_core.proofs.Conflicts.{sum-each}
+use Rattle.corner_lines.proofs.LevelJoinCosts.{free-cost}
 
 -- ---- it costs nothing
-
-free-cost : (q level : ℕ) (x : ℕ → ℤ) (l : Line) → weight_at l level ≡ 0 → pos q *ℤ line_cost level x l ≡ pos 0
-free-cost q level x l e =
-    let u : under_weight l.rel (weight_at l level) ≡ 0 = ap (under_weight l.rel) e ∙ under-zero l.rel in
-    let o : over_weight l.rel (weight_at l level) ≡ 0 = ap (over_weight l.rel) e ∙ over-zero l.rel in
-    ap (λ (z : ℤ). pos q *ℤ z)
-    (ap₂ ◌+ℤ◌ (ap (λ (w : ℕ). pos w *ℤ x (place_of l.name Under)) u ∙ zero-mul_ℤ (x (place_of l.name Under))) (ap (λ (w : ℕ). pos w *ℤ x (place_of l.name Over)) o ∙ zero-mul_ℤ (x (place_of l.name Over))))
-    ∙ mul-zero_ℤ (pos q)
 
 pub free_costs_nothing : (p : Problem) (at : List Mark) (level : ℕ) → IsCorner p at → All (λ l. weight_at l level ≡ 0) (lines p) → IsCostAt p at level zero_fraction
 free_costs_nothing p at level corner none =
@@ -75,7 +67,7 @@ zeros-none [] zs name h = refl
 zeros-none (l ∷ ls) [] name h = refl
 zeros-none (l ∷ ls) (z ∷ zs) name h = either-none (nat_eq (place_of l.name Under) (place_of name Under)) z (numbers_of ls zs name) h.0 (zeros-none ls zs name h.1)
 
-zero-lowest : IsLowest zero_fraction
+pub zero-lowest : IsLowest zero_fraction
 zero-lowest = record { above = omega arith; coprime = (dvd-zero 1, dvd_refl 1, λ d a b. b) }
 
 zero-small : unsigned_abs (pos 0) < 2 ^ 41

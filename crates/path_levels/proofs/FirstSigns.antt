@@ -6,6 +6,7 @@ use borrow.Author.Differences.{ints}
 use Rattle.problem_core.specs.Corners.{IsLexNegative}
 use Rattle.path_checker.proofs.Iffs.{never_true}
 use Rattle.path_levels.specs.Costs.{IsNegativeFirst}
+use Rattle.corner_laws.proofs.ValuesStay.{sign-of}
 
 -- ---- a number among others
 
@@ -92,13 +93,6 @@ first_same count costs others same first = record {
 
 -- ---- as a loop finds it
 
-pub low_or_up : (z : ℤ) → (z <ℤ pos 0) ⊎ (pos 0 ≤ℤ z)
-low_or_up (pos n) = inr (omega (arith, ints))
-low_or_up (negsuc n) = inl (omega (arith, ints))
-
-pub none_first : (count : ℕ) (costs : ℕ → ℤ) → ((k : ℕ) → k < count → costs k ≡ pos 0) → IsNegativeFirst count costs → ⊥
-none_first count costs none first = not_low (costs first.place) (none first.place first.within) first.below
-
 pub not_first : (count place : ℕ) (costs : ℕ → ℤ) → ((k : ℕ) → k < place → costs k ≡ pos 0) → costs place ≢ pos 0 → pos 0 ≤ℤ costs place → IsNegativeFirst count costs → ⊥
 not_first count place costs before some up first =
     elim (cases_lt first.place place) [
@@ -115,7 +109,7 @@ not_first count place costs before some up first =
 pub decided_first : (b : Bool) (count place : ℕ) (costs : ℕ → ℤ) → place < count → ((k : ℕ) → k < place → costs k ≡ pos 0) → costs place ≢ pos 0 → IsTrue b ↔ (costs place <ℤ pos 0) → IsTrue b ↔ IsNegativeFirst count costs
 decided_first b count place costs within before some decides = (
   λ is. record { place = place; within = within; before = before; below = decides.0 is },
-  λ first. elim (low_or_up (costs place)) [
+  λ first. elim (sign-of (costs place)) [
     | inl low ↦ decides.1 low
     | inr up ↦ absurd (not_first count place costs before some up first)
   ],

@@ -24,7 +24,7 @@ use Rattle.path_checker.specs.Numbers.{number_at as in_list}
 use Rattle.path_checker.specs.Pivots.{next_marks}
 use Rattle.path_checker.specs.Tables.{AreLines, IsLineAt, IsThere, line_count, name_at, numbers_of, swap_of}
 use Rattle.path_checker.proofs.EnteringLine.{at_place}
-use Rattle.path_checker.proofs.Exchanging.{one_side, side_out}
+use Rattle.path_checker.proofs.Exchanging.{one_side}
 use Rattle.path_checker.proofs.Places.{any_line, mark_is_there, name_there, names_differ}
 use Rattle.path_levels.specs.declared.frame.Frame.{Frame}
 use Rattle.path_levels.specs.declared.frame.LineFacts.{LineFacts}
@@ -35,6 +35,7 @@ use Rattle.path_levels.specs.Shares.{reduced_of, shown_of, stood_of}
 use Rattle.path_levels.specs.Turns.{IsTurnPivot}
 use Rattle.path_levels.proofs.LineShares.{facts_at, facts_count, level_own, own_level, reduced_line, stood_line}
 use Rattle.path_levels.proofs.MultipleFacts.{any_level, leaves_out, stays_out}
+use Rattle.corner_lines.proofs.LineWritings.{no-side}
 
 -- ---- a line, by its two sides
 
@@ -109,10 +110,10 @@ any_facts = record { name = Held 0; level = 0; under = pos 0; over = pos 0; scal
 -- what is shown of a line, by what is kept of it
 shown_out : (f : LineFacts) (side : Option Side) (place : ℕ) (sum : LevelSum) (number : ℤ) (at : List Mark) (name : RowName) → IsSideAt at name side → IsOutsideLine at name → shown_of f side place sum number ≡ number
 shown_out f None place sum number at name is out = refl
-shown_out f (Some side) place sum number at name is out = absurd (side_out at name side out is)
+shown_out f (Some side) place sum number at name is out = absurd (no-side at name side out is)
 
 shown_in : (p : Problem) (f : LineFacts) (side : Option Side) (inside : Side) (place : ℕ) (sum : LevelSum) (number : ℤ) (at : List Mark) (name : RowName) → IsThere p at → IsSideAt at name side → IsIn (place_of name inside) at → shown_of f side place sum number ≡ stood_of f inside place sum
-shown_in p f None inside place sum number at name there is i = absurd (side_out at name inside is i)
+shown_in p f None inside place sum number at name there is i = absurd (no-side at name inside is i)
 shown_in p f (Some side) inside place sum number at name there is i = ap (λ (s : Side). stood_of f s place sum) (one_side p at name side inside there is i)
 
 pub fitting_row : (p : Problem) (at : List Mark) (frame : Frame) (kept : List (Option Inside)) (pivot : Pivot) (place : ℕ) (sum : LevelSum) → place < length frame.levels.items → IsFrame p frame → AreLines p at kept → IsTurnPivot p at pivot → IsMadeLevel (line_count p) sum → IsFitLevel frame kept pivot place sum

@@ -100,11 +100,11 @@ free-inside Over l level unit own none = ap neg_ℤ (times-none own (over_share 
 
 -- ---- numbers of the list
 
-cond-fits : (b : Bool) (x y : ℤ) → IsFitting x → IsFitting y → IsFitting (cond b x y)
+pub cond-fits : (b : Bool) (x y : ℤ) → IsFitting x → IsFitting y → IsFitting (cond b x y)
 cond-fits true x y h k = h
 cond-fits false x y h k = k
 
-named-fits : (ls : List Line) (zs : List ℤ) (name : RowName) → Each IsFitting zs → IsFitting (numbers_of ls zs name)
+pub named-fits : (ls : List Line) (zs : List ℤ) (name : RowName) → Each IsFitting zs → IsFitting (numbers_of ls zs name)
 named-fits [] zs name h = zero-fits
 named-fits (l ∷ ls) [] name h = zero-fits
 named-fits (l ∷ ls) (z ∷ zs) name h = cond-fits (nat_eq (place_of l.name Under) (place_of name Under)) z (numbers_of ls zs name) h.0 (named-fits ls zs name h.1)

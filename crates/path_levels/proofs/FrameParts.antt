@@ -1,41 +1,35 @@
 -- The levels and the facts of lines, one after the other.
-use Rattle.std.proofs.Common.{◌≡◌, ◌≢◌, ◌∙◌, ℕ, zero, suc, ◌+◌, ◌-◌, ◌<◌, ◌≤◌, ◌++◌, List, [], ◌∷◌, length, map, get_or, refl, sym, ap, subst, arith, inl, inr, length-append, pos}
+use Rattle.std.proofs.Common.{◌≡◌, ◌≢◌, ◌∙◌, ℕ, zero, suc, ◌+◌, ◌-◌, ◌<◌, ◌≤◌, ◌++◌, List, [], ◌∷◌, length, get_or, refl, sym, ap, subst, arith, inl, inr, length-append, pos}
 use Rattle.std.proofs.Common.{ℤ, ◌≤ℤ◌}
 use Rattle.std.specs.List.{All}
 use Rattle.std.proofs.lemmas.Bool.{cases_eq, cases_lt}
-use Rattle.std.proofs.lemmas.List.{get_or-append-add, get_or_append_left, get_or_default, get_or_push, length-map, get_or-map}
+use Rattle.std.proofs.lemmas.List.{get_or_append_left, get_or_default, get_or_push, get_or-map}
 use Rattle.std.proofs.lemmas.List.Elements.{All-push}
 use Rattle.std.proofs.lemmas.List.Quantifiers.{all_pairs_push}
 use borrow.Author.Differences.{ints}
-use Rattle.problem_core.specs.declared.parts.Level.{Level}
 use Rattle.problem_core.specs.declared.parts.Level.TheVariants.{Priority, Stay as StayLevel}
 use Rattle.problem_core.specs.declared.parts.Rel.{Rel}
 use Rattle.problem_core.specs.declared.parts.Rel.TheVariants.{Eq, Le, Ge}
-use Rattle.problem_core.specs.declared.parts.RowName.TheVariants.{Held, Stay as StayOf}
+use Rattle.problem_core.specs.declared.parts.RowName.TheVariants.{Stay as StayOf}
 use Rattle.problem_core.specs.declared.parts.Stay.{Stay}
 use Rattle.problem_core.specs.Certificates.{over_weight, under_weight}
 use Rattle.problem_core.specs.Kept.{IsRow, IsWhole}
 use Rattle.problem_core.specs.Layout.{Line, Problem, Row, line_of_row, line_of_stay, lines, stay_lines}
 use Rattle.problem_core.specs.Levels.{IsLevelAt}
 use Rattle.path_checker.specs.Tables.{line_count}
-use Rattle.path_checker.proofs.FirstLines.{count_lines, row_at}
+use Rattle.path_checker.proofs.FirstLines.{count_lines, row_at, later_line}
 use Rattle.path_levels.specs.declared.frame.Frame.{Frame}
 use Rattle.path_levels.specs.declared.frame.LevelFacts.{LevelFacts}
 use Rattle.path_levels.specs.declared.frame.LineFacts.{LineFacts}
 use Rattle.path_levels.specs.Frames.{AreFactsOf, IsFactsOf, IsFrame, IsSizedFacts, number_at}
 use Rattle.path_levels.specs.FrameParts.{AreFactsTo, AreLevelsTo, AreRankLevels, HasNumber, IsRankLevel}
+use Rattle.path_checker.proofs.Places.{any_line}
+use Rattle.path_checker.proofs.WayBegins.{any_stay}
 
 -- ---- numbers
 
 pub number_is : (levels : List LevelFacts) (k : ℕ) (d : LevelFacts) → k < length levels → number_at levels k ≡ (get_or levels k d).number
 number_is levels k d within = get_or-map (λ (f : LevelFacts). f.number) levels k d 0 within
-
-pub has_number : (levels : List LevelFacts) (k number : ℕ) → k < length levels → number_at levels k ≡ number → HasNumber levels number
-has_number [] k number within is = absurd (omega (arith, within))
-has_number (f ∷ levels) zero number within is = (0, f, omega arith, refl, is)
-has_number (f ∷ levels) (suc k) number within is =
-    let h = has_number levels k number (omega (arith, within)) is in
-    (suc h.0, h.1, omega (arith, h.2), h.3, h.4)
 
 still_has : (levels : List LevelFacts) (f : LevelFacts) (number : ℕ) → HasNumber levels number → HasNumber (levels ++ f ∷ []) number
 still_has levels f number (k, g, within, is, same) =
@@ -56,13 +50,6 @@ last_number levels f k is =
     ∙ ap (λ (g : LevelFacts). g.number) (get_or_push levels f f k (sym is))
 
 -- ---- the levels of rows
-
-pub no_ranks : (rows : List Row) → AreRankLevels rows 0 []
-no_ranks rows = record {
-  each = λ k d within. absurd (omega (arith, within));
-  rising = λ j k d less within. absurd (omega (arith, within));
-  rows_have = λ k d within less. absurd (omega (arith, less));
-}
 
 pub rank_pushed : (rows : List Row) (n rank : ℕ) (levels : List LevelFacts) → n ≤ 1000 → rank ≡ 1000 - n → AreRankLevels rows n levels
     → AreRankLevels rows (n + 1) (levels ++ record { level = Priority rank; number = n } ∷ [])
@@ -89,15 +76,6 @@ rank_skipped rows n rank levels small is proper none old = record {
 
 -- ---- the levels of stays
 
-abbrev pub any_stay : Stay
-any_stay = record { attr = 0; target = record { num = pos 0; den = 1 } }
-
-abbrev pub any_line : Line
-any_line = record { name = Held 0; level = 0; weight = 0; rel = Eq; scale = 1; num = pos 0; den = 1; form = [] }
-
-later_line : (rows : List Row) (ls : List Line) (i : ℕ) (d : Line) → get_or (map line_of_row rows ++ ls) (length rows + i) d ≡ get_or ls i d
-later_line rows ls i d = ap (λ (n : ℕ). get_or (map line_of_row rows ++ ls) (n + i) d) (sym (length-map rows line_of_row)) ∙ get_or-append-add (map line_of_row rows) ls i d
-
 stay_line : (level : ℕ) (stays : List Stay) (i : ℕ) (d : Line) (s : Stay) → i < length stays → get_or (stay_lines level stays) i d ≡ line_of_stay (level + i) (get_or stays i s)
 stay_line level [] i d s within = absurd (omega (arith, within))
 stay_line level (x ∷ stays) zero d s within = ap (λ (n : ℕ). line_of_stay n x) (omega arith)
@@ -118,19 +96,6 @@ stay_level p i s within is =
       (ap (λ (l : Line). l.name) here ∙ ap (λ (t : Stay). StayOf t.attr) (sym is), ap (λ (l : Line). l.level) here),
     )
 
-rank_is : (p : Problem) (n : ℕ) (f : LevelFacts) → IsRankLevel n f → IsLevelAt p f.level f.number
-rank_is p n f (less, (rank, is, sum)) = subst (λ (level : Level). IsLevelAt p level f.number) (sym is) sum
-
-pub no_stays_yet : (p : Problem) (levels : List LevelFacts) → IsWhole p → AreRankLevels p.rows 1001 levels → AreLevelsTo p (length levels) 0 levels
-no_stays_yet p levels whole ranks = record {
-  count = omega arith;
-  each = λ k d within. rank_is p 1001 (get_or levels k d) (ranks.each k d within);
-  below = λ k d within. (ranks.each k d within).0;
-  rising = ranks.rising;
-  rows_have = λ k d within. ranks.rows_have k d within (omega arith);
-  stays_are = λ i less. absurd (omega (arith, less));
-}
-
 pub stay_pushed : (p : Problem) (ranks n number : ℕ) (s : Stay) (levels : List LevelFacts) → n < length p.stays → s ≡ get_or p.stays n s → number ≡ 1001 + n → AreLevelsTo p ranks n levels
     → AreLevelsTo p ranks (n + 1) (levels ++ record { level = StayLevel s.attr; number = number } ∷ [])
 stay_pushed p ranks n number s levels within is numbered old =
@@ -149,9 +114,6 @@ stay_pushed p ranks n number s levels within is numbered old =
     }
 
 -- ---- the facts of lines
-
-pub no_facts : (p : Problem) (levels : List LevelFacts) → AreFactsTo p levels 0 []
-no_facts p levels = record { count = refl; each = λ k l f less. absurd (omega (arith, less)) }
 
 pub one_more : (p : Problem) (levels : List LevelFacts) (n : ℕ) (facts : List LineFacts) (new : LineFacts) → ((l : Line) → IsFactsOf levels (get_or (lines p) n l) new) → AreFactsTo p levels n facts
     → AreFactsTo p levels (n + 1) (facts ++ new ∷ [])

@@ -22,7 +22,6 @@ use Rattle.corner_lines.specs.LevelJoins.{AreLinesBefore, IsLineBefore, weightle
 use Rattle.corner_lines.specs.LevelRows.{line_numbers}
 use Rattle.corner_lines.proofs.LevelJoins.{sum-before}
 use Rattle.corner_lines.proofs.LevelJoinCosts.{joined_cost_is_cost, unfit_joined_cost}
-use Rattle.corner_lines.proofs.LineSums.{mul-opp}
 use Rattle.path_checker.specs.declared.table.Inside.{Inside}
 use Rattle.path_checker.specs.Tables.{numbers_of}
 use Rattle.path_levels.specs.declared.frame.LineFacts.{LineFacts}
@@ -30,6 +29,7 @@ use Rattle.path_levels.specs.declared.sums.LevelSum.{LevelSum}
 use Rattle.path_levels.specs.Joins.{IsJoinedCost, IsUnfitJoinedCost, cost_number, counted_number}
 use Rattle.path_levels.proofs.LineJoins.{IsCostOf, IsLineJoin}
 use Rattle.path_levels.proofs.JoinRows.{IsStart, counted_there, inside_join}
+use Rattle.corner_laws.proofs.ExchangedLevels.{mul-opp}
 
 -- ---- the same ratio by another fraction
 

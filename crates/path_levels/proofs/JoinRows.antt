@@ -1,5 +1,5 @@
 -- The row of a level that a line has joined.
-use Rattle.std.proofs.Common.{◌≡◌, ◌≢◌, ◌⊎◌, ◌∙◌, ℕ, zero, suc, ◌*◌, ◌/◌, ◌<◌, List, [], ◌∷◌, Bool, cond, length, get_or, ℤ, pos, negsuc, ◌+ℤ◌, ◌*ℤ◌, ◌<ℤ◌, neg_ℤ, unsigned_abs, refl, sym, ap, ap₂, subst, arith, inl, inr, All, Some, None, ne_eqb}
+use Rattle.std.proofs.Common.{◌≡◌, ◌≢◌, ◌⊎◌, ◌∙◌, ℕ, zero, suc, ◌*◌, ◌/◌, ◌<◌, List, [], ◌∷◌, Bool, cond, length, get_or, ℤ, pos, ◌+ℤ◌, ◌*ℤ◌, neg_ℤ, unsigned_abs, refl, sym, ap, ap₂, subst, arith, inl, inr, All, Some, None, ne_eqb}
 use Rattle.std.specs.declared.option.Option.{Option}
 use Rattle.std.specs.Int.{IsGcd}
 use Rattle.std.proofs.Math.Nat.{zero-div}
@@ -28,7 +28,6 @@ use Rattle.corner_lines.specs.LevelRows.{AreFactors, HasLevelRow, IsLevelMultipl
 use Rattle.corner_lines.proofs.LevelDivided.{divided_row_is_row}
 use Rattle.corner_lines.proofs.LevelFits.{unfit_multiple_has_no_writing}
 use Rattle.corner_lines.proofs.LevelJoins.{each-before, grown_row_is_row, joined_row_is_multiple, joined_unit_is_unit, sum-before}
-use Rattle.corner_lines.proofs.LineSums.{mul-opp}
 use Rattle.path_checker.specs.declared.table.Inside.{Inside}
 use Rattle.path_checker.specs.Numbers.{AreLowest, AreUnfit, IsCombined}
 use Rattle.path_checker.specs.Tables.{numbers_of}
@@ -38,6 +37,9 @@ use Rattle.path_levels.specs.declared.sums.LevelSum.{LevelSum}
 use Rattle.path_levels.specs.Joins.{IsJoinedList, IsRise, IsWeightOf, counted_number}
 use Rattle.path_levels.proofs.LineJoins.{IsCostOf, IsLineJoin}
 use Rattle.path_levels.proofs.LineLists.{HasZeros, list_divided, list_unfit, numbers_before, zeros_divided}
+use Rattle.corner_laws.proofs.ExchangedLevels.{mul-opp}
+use Rattle.corner_lines.proofs.Units.{positive_is}
+use Rattle.corner_lines.proofs.OtherNumbers.{above-product, same-parts}
 
 -- ---- what the line counts
 
@@ -105,10 +107,6 @@ pub record IsStart (p q : Problem) (at : List Mark) (level : ℕ) (name : RowNam
   pub row : HasLevelRow p at level (times * unit) (own / g) (λ n. pos (times / g) *ℤ numbers_of (lines p) old.by.items n)
   pub next_unit : IsLevelUnit q level (times * unit)
 
-positive-is : (z : ℤ) → pos 0 <ℤ z → z ≡ pos (unsigned_abs z)
-positive-is (pos n) h = refl
-positive-is (negsuc n) h = absurd h.lt
-
 pub started : (p q : Problem) (at : List Mark) (level : ℕ) (name : RowName) (old : LevelSum) (f : LineFacts) (kept : Option Inside) (times : ℕ) → IsLineJoin p q at level name old f kept → IsRise f (unsigned_abs old.unit) times → IsStart p q at level name old f times
 started p q at level name old f kept times j rise =
     let d = scaled (unsigned_abs old.own) times (unsigned_abs old.own) (omega arith) in
@@ -118,7 +116,7 @@ started p q at level name old f kept times j rise =
       own = unsigned_abs old.own;
       g = d.0;
       unit_is = refl;
-      own_is = positive-is old.own j.old_is.sized.own_above;
+      own_is = positive_is old.own j.old_is.sized.own_above;
       gcd = d.1;
       reduced = reduces times (unsigned_abs old.own) d.0 above d.1;
       row = grown_row_is_row p at level (unsigned_abs old.unit) (unsigned_abs old.own) times d.0 (numbers_of (lines p) old.by.items) j.sound_before.problem j.old_is.there.unit_is rise.above d.1 j.old_is.there.row;
@@ -133,14 +131,6 @@ started p q at level name old f kept times j rise =
     }
 
 -- ---- an inside line
-
-above-product : (a b : ℕ) → 0 < a → 0 < b → 0 < a * b
-above-product zero b h k = absurd (omega (arith, h))
-above-product (suc a) b h k = omega (arith, k)
-
-same-parts : (k times g : ℕ) (z : ℤ) → times / g * g ≡ times → pos (k * g) *ℤ (pos (times / g) *ℤ z) ≡ pos (k * times) *ℤ z
-same-parts k times g z e =
-    sym (mul_assoc_ℤ (pos (k * g)) (pos (times / g)) z) ∙ ap (λ (n : ℕ). pos n *ℤ z) (let q : ℕ = times / g in let f : k * g * (times / g) ≡ k * (times / g * g) = omega arith in f ∙ ap (λ (m : ℕ). k * m) e)
 
 -- an outside line is another one
 other-line : (at : List Mark) (name : RowName) (side : Side) (l : RowName) → IsIn (place_of name side) at → IsOutsideLine at l → l ≢ name
@@ -212,7 +202,7 @@ pub inside_multiple : (p q : Problem) (at : List Mark) (level : ℕ) (name : Row
     → (o : ℕ) × (own ≡ pos o) × IsJoinedMultiple q at level (times * s.unit) o out
 inside_multiple p q at level name old f inside times own out j s (own_is, made) =
     let size : ℕ = unsigned_abs inside.sum.own in
-    let size_is : inside.sum.own ≡ pos (unsigned_abs inside.sum.own) = positive-is inside.sum.own j.line_is.sized.above in
+    let size_is : inside.sum.own ≡ pos (unsigned_abs inside.sum.own) = positive_is inside.sum.own j.line_is.sized.above in
     let u : ℕ = times * s.unit in
     let n : ℤ = counted_number inside.side f (times * s.unit) (s.own / s.g) in
     let m : ℤ = counted_number inside.side f (times * s.unit) s.own in

@@ -1,11 +1,11 @@
 -- What a deviation counts in a level's units, and how large the products are.
-use Rattle.std.proofs.Common.{◌≡◌, ◌∙◌, ℕ, zero, suc, ◌-◌, ◌*◌, ◌/◌, ◌<◌, ◌≤◌, ◌^◌, arith, refl, sym, ap, subst, ℤ, pos, negsuc, ◌*ℤ◌, ◌<ℤ◌, ◌≤ℤ◌, neg_ℤ, unsigned_abs, SFits}
+use Rattle.std.proofs.Common.{◌≡◌, ◌∙◌, ℕ, zero, suc, ◌-◌, ◌*◌, ◌/◌, ◌<◌, ◌≤◌, ◌^◌, arith, refl, sym, ap, subst, ℤ, pos, negsuc, ◌*ℤ◌, ◌<ℤ◌, ◌≤ℤ◌, unsigned_abs, SFits}
 use Rattle.std.specs.Int.{w128}
 use lib.Signed.{quot_z}
 use borrow.Author.Differences.{ints}
 use Rattle.std.proofs.lemmas.Int.{unsigned_abs-mul}
 use Rattle.std.proofs.Math.Nat.{div-le_self, mul-le-mul, mul-le-mul_left}
-use Rattle.frac_core.specs.Fraction.{IsFitting}
+use Rattle.corner_lines.proofs.Units.{size_above}
 
 pub share_is : (unit cost scale : ℤ) → pos 0 <ℤ unit → pos 0 ≤ℤ cost → pos 0 <ℤ scale → quot_z (unit *ℤ cost) scale ≡ pos (unsigned_abs unit * unsigned_abs cost / unsigned_abs scale)
 share_is (pos u) (pos c) (pos s) h k l = refl
@@ -68,22 +68,12 @@ widened n h = omega (arith, h)
 pub as_factor : (n : ℕ) → n < 2 ^ 83 → n < 2 ^ 84
 as_factor n h = omega (arith, h)
 
-pub opposite_size : (z : ℤ) → unsigned_abs (neg_ℤ z) ≡ unsigned_abs z
-opposite_size (pos zero) = refl
-opposite_size (pos (suc n)) = refl
-opposite_size (negsuc n) = refl
-
 factor-bound : (o u m : ℕ) → 0 < o → o * u < m → u < m
 factor-bound zero u m h k = absurd (omega (arith, h))
 factor-bound (suc o) u m h k = omega (arith, k)
 
-some : (z : ℤ) → pos 0 <ℤ z → 0 < unsigned_abs z
-some (pos zero) h = absurd h.lt
-some (pos (suc n)) h = omega arith
-some (negsuc n) h = absurd h.lt
-
 pub unit_bound : (own unit : ℤ) (m : ℕ) → pos 0 <ℤ own → unsigned_abs (own *ℤ unit) < m → unsigned_abs unit < m
-unit_bound own unit m h k = factor-bound (unsigned_abs own) (unsigned_abs unit) m (some own h) (subst (λ (n : ℕ). n < m) (unsigned_abs-mul own unit) k)
+unit_bound own unit m h k = factor-bound (unsigned_abs own) (unsigned_abs unit) m (size_above own h) (subst (λ (n : ℕ). n < m) (unsigned_abs-mul own unit) k)
 
 -- ---- the products of a join
 
@@ -103,35 +93,6 @@ risen_scale own times unit h k =
 
     crossed : (o t u : ℕ) → t ≤ 2 ^ 30 → o * u < 2 ^ 42 → o * (t * u) < 2 ^ 72
     crossed o t u h k = subst (λ (n : ℕ). n < 2 ^ 72) (swapped o t u) (rest-small t (o * u) h k)
-
-pub product_above : (a b : ℤ) → pos 0 <ℤ a → pos 0 <ℤ b → pos 0 <ℤ (a *ℤ b)
-product_above (pos zero) b h k = absurd h.lt
-product_above (pos (suc a)) (pos zero) h k = absurd k.lt
-product_above (pos (suc a)) (pos (suc b)) h k = omega (arith, ints)
-product_above (pos (suc a)) (negsuc b) h k = absurd k.lt
-product_above (negsuc a) b h k = absurd h.lt
-
-pub less_than : (n : ℕ) → n < 2 ^ 72 → n < 2 ^ 126
-less_than n h = omega (arith, h)
-
-pub less_factor : (n : ℕ) → n < 2 ^ 72 → n < 2 ^ 84
-less_factor n h = omega (arith, h)
-
-pub pair_wide : (n : ℕ) → n < 2 ^ 84 → n < 2 ^ 126
-pair_wide n h = omega (arith, h)
-
-pub own_fits : (own unit : ℤ) → pos 0 <ℤ unit → IsFitting (own *ℤ unit) → IsFitting own
-own_fits own unit h k = factor-bound (unsigned_abs unit) (unsigned_abs own) (2 ^ 42) (some unit h) (subst (λ (n : ℕ). n < 2 ^ 42) (unsigned_abs-mul own unit ∙ flipped (unsigned_abs own) (unsigned_abs unit)) k)
-  where
-    flipped : (a b : ℕ) → a * b ≡ b * a
-    flipped a b = omega arith
-
-pub size_small : (size times : ℤ) → IsFitting size → unsigned_abs times ≤ 2 ^ 30 → unsigned_abs (size *ℤ times) < 2 ^ 72
-size_small size times h k =
-    subst (λ (n : ℕ). n < 2 ^ 72) (sym (unsigned_abs-mul size times ∙ flipped (unsigned_abs size) (unsigned_abs times))) (rest-small (unsigned_abs times) (unsigned_abs size) k h)
-  where
-    flipped : (a b : ℕ) → a * b ≡ b * a
-    flipped a b = omega arith
 
 pub positive_product : (a b : ℤ) → pos 0 <ℤ a → pos 0 <ℤ b → a *ℤ b ≡ pos (unsigned_abs a * unsigned_abs b)
 positive_product (pos a) (pos b) h k = refl

@@ -1,11 +1,10 @@
 -- What the required rows cost at a corner.
-use Rattle.std.proofs.Common.{◌≡◌, ◌≢◌, ◌∙◌, ◌⊎◌, ◌↔◌, ℕ, zero, suc, ◌/◌, ◌<◌, Bool, true, false, IsTrue, List, [], ◌∷◌, length, get_or, slice_index_or, ℤ, pos, negsuc, ◌+ℤ◌, ◌*ℤ◌, ◌≤ℤ◌, ◌<ℤ◌, neg_ℤ, refl, sym, ap, subst, arith, All, inl, inr, Option, None, Some}
+use Rattle.std.proofs.Common.{◌≡◌, ◌≢◌, ◌∙◌, ◌⊎◌, ◌↔◌, ℕ, zero, suc, ◌/◌, ◌<◌, Bool, true, false, IsTrue, List, [], ◌∷◌, length, get_or, slice_index_or, ℤ, pos, negsuc, ◌+ℤ◌, ◌*ℤ◌, ◌≤ℤ◌, ◌<ℤ◌, refl, sym, ap, subst, arith, All, inl, inr, Option, None, Some}
 use Rattle.std.specs.List.{slice_get}
 use Rattle.std.proofs.lemmas.List.Elements.{recursion_from_All}
 use borrow.Author.Differences.{ints}
-use lib.IntN.{*ℤ_comm}
 use Rattle.frac_core.specs.Fraction.{Fraction}
-use Rattle.frac_core.proofs.Integers.{mul_positive, mul_not_negative, positive_from, mul-zero_ℤ, zero-mul_ℤ}
+use Rattle.frac_core.proofs.Integers.{mul-zero_ℤ, zero-mul_ℤ}
 use Rattle.problem_core.specs.declared.parts.Mark.{Mark}
 use Rattle.problem_core.specs.declared.parts.RowName.{RowName}
 use Rattle.problem_core.specs.declared.parts.Side.{Side}
@@ -22,7 +21,6 @@ use Rattle.problem_core.proofs.Wholes.{whole-IsProblem}
 use Rattle.corner_laws.proofs.LevelExists.{cost_fixed}
 use Rattle.corner_laws.proofs.LevelUnits.{no_weight}
 use Rattle.corner_laws.proofs.ZeroColumns.{scales-above}
-use Rattle.corner_laws.proofs.Exchanged.{neg-times}
 use Rattle.corner_lines.specs.LineEquations.{IsOutsideLine}
 use Rattle.corner_lines.specs.Fronts.{costs_of}
 use Rattle.path_checker.specs.declared.table.Inside.{Inside}
@@ -36,43 +34,14 @@ use Rattle.path_levels.specs.Frames.{IsFrame, number_at}
 use Rattle.path_levels.specs.Levels.{AreLevels, IsLevelSum}
 use Rattle.path_levels.specs.Required.{HasRequired, IsBelow}
 use Rattle.path_levels.specs.Rows.{AreKept}
-use Rattle.path_levels.proofs.FirstSigns.{IsRising, low_or_up}
+use Rattle.path_levels.proofs.FirstSigns.{IsRising}
 use Rattle.path_levels.proofs.LineCosts.{by_at, cost_same, levels_rise, lines_stand, own_at, placed_by, sums_are, unit_at}
 use Rattle.path_levels.proofs.OwnColumns.{line_at, required_up}
 use Rattle.path_levels.proofs.PlacedRows.{Placed, are_multiples, placed_costs, rows_of}
+use Rattle.corner_laws.proofs.ValuesStay.{sign-of}
+use Rattle.corner_lines.proofs.CostSigns.{up-cost, low-cost, moved-up}
 
 -- ---- the sign of a cost
-
--- c*d = n*(s*o), where n, s and o are above 0
-up-cost : (c n o : ℤ) (d s : ℕ) → 0 < s → pos 0 <ℤ o → c *ℤ pos d ≡ n *ℤ (pos s *ℤ o) → pos 0 <ℤ n → pos 0 <ℤ c
-up-cost c (negsuc n) o d s above up e h = absurd (omega (arith, ints, h))
-up-cost c (pos n) o d s above up e h =
-    let all : pos 0 <ℤ (pos n *ℤ (pos s *ℤ o)) = mul_positive n (pos s *ℤ o) (omega (arith, ints, h)) (mul_positive s o above up) in
-    let turned : pos d *ℤ c ≡ pos n *ℤ (pos s *ℤ o) = *ℤ_comm (pos d) c ∙ e in
-    positive_from d c (subst (λ (z : ℤ). pos 0 <ℤ z) (sym turned) all)
-
-low-cost : (c n o : ℤ) (d s : ℕ) → 0 < d → pos 0 <ℤ o → c *ℤ pos d ≡ n *ℤ (pos s *ℤ o) → n ≤ℤ pos 0 → pos 0 <ℤ c → ⊥
-low-cost c (pos zero) o d s above up e h k =
-    let some : pos 0 <ℤ (pos d *ℤ c) = mul_positive d c above k in
-    let turned : pos d *ℤ c ≡ pos 0 *ℤ (pos s *ℤ o) = *ℤ_comm (pos d) c ∙ e in
-    let none : pos 0 *ℤ (pos s *ℤ o) ≡ pos 0 = *ℤ_comm (pos 0) (pos s *ℤ o) ∙ mul-zero_ℤ (pos s *ℤ o) in
-    omega (arith, ints, some, turned, none)
-low-cost c (pos (suc n)) o d s above up e h k = absurd (omega (arith, ints, h))
-low-cost c (negsuc n) o d s above up e h k =
-    let some : pos 0 <ℤ (pos d *ℤ c) = mul_positive d c above k in
-    let turned : pos d *ℤ c ≡ negsuc n *ℤ (pos s *ℤ o) = *ℤ_comm (pos d) c ∙ e in
-    let weak : pos 0 ≤ℤ (pos s *ℤ o) = mul_not_negative s o (omega (arith, ints, up)) in
-    let not : pos 0 ≤ℤ (pos (suc n) *ℤ (pos s *ℤ o)) = mul_not_negative (suc n) (pos s *ℤ o) weak in
-    let opposite : negsuc n *ℤ (pos s *ℤ o) ≡ neg_ℤ (pos (suc n) *ℤ (pos s *ℤ o)) = neg-times (pos (suc n)) (pos s *ℤ o) in
-    omega (arith, ints, some, turned, not, opposite)
-
--- it is above 0 at each point that stands there, or at none
-moved-up : (a b x y : ℤ) → pos 0 <ℤ x → pos 0 <ℤ y → a *ℤ y ≡ b *ℤ x → pos 0 <ℤ b → pos 0 <ℤ a
-moved-up a (negsuc b) x y ux uy e h = absurd (omega (arith, ints, h))
-moved-up a (pos b) x (negsuc y) ux uy e h = absurd (omega (arith, ints, uy))
-moved-up a (pos b) x (pos y) ux uy e h =
-    let some : pos 0 <ℤ (pos b *ℤ x) = mul_positive b x (omega (arith, ints, h)) ux in
-    positive_from y a (subst (λ (z : ℤ). pos 0 <ℤ z) (sym (*ℤ_comm (pos y) a ∙ e)) some)
 
 up-or-none : (z : ℤ) → (pos 0 <ℤ z) ⊎ (z ≤ℤ pos 0)
 up-or-none (pos zero) = inr (omega (arith, ints))
@@ -162,7 +131,7 @@ required_decided p at frame kept levels d f are sums required =
     ]) in (
       λ none.
           iff.0 (λ k side within outside.
-          elim (low_or_up (costs_of (rows_of p q) side (line_at p k) 0)) [
+          elim (sign-of (costs_of (rows_of p q) side (line_at p k) 0)) [
             | inr up ↦ up
             | inl low ↦
                 absurd (elim (each k within) [

@@ -24,8 +24,11 @@ use Rattle.path_levels.specs.declared.sums.LevelSum.{LevelSum}
 use Rattle.path_levels.specs.Frames.{AreLevelFacts, IsFrame, number_at}
 use Rattle.path_levels.specs.Levels.{AreLevels}
 use Rattle.path_levels.specs.Rows.{AllRowsFit, AreFittingRows, AreKept, AreKeptOf, IsFirstOfAll, IsFirstUnfit, IsLevelsStop, IsRowsStop, IsRowsSum, RowsStop, level_size}
-use Rattle.path_levels.proofs.FrameParts.{any_line, any_stay, number_is, stay_at}
+use Rattle.path_levels.proofs.FrameParts.{number_is, stay_at}
 use Rattle.path_levels.proofs.PartLines.{facts_at}
+use Rattle.path_checker.proofs.Places.{any_line}
+use Rattle.path_checker.proofs.WayBegins.{any_stay}
+use Rattle.path_levels.proofs.MultipleFacts.{any_level}
 
 -- ---- the number of a level
 
@@ -206,9 +209,6 @@ lower_place levels a b d rising in_a in_b less =
         | inr ne ↦ (let z : (get_or levels b d).number < (get_or levels a d).number = rising b a d (omega (arith, from, ne)) in_a in absurd (omega (arith, less, x, y, z)))
       ]
     ]
-
-any_level : LevelFacts
-any_level = record { level = Priority 0; number = 0 }
 
 earlier_fits : (frame : Frame) (kept : List (Option Inside)) (n : ℕ) (levels : List LevelSum) (p : Problem) (at : List Mark) (level other : Level) (i : ℕ) → n < length frame.levels.items → AreRowsTo frame kept n levels → AreKept p at frame kept
     → (b : ℕ) → b ≡ number_at frame.levels.items n → (a : ℕ) → IsLevelAt p other a → a < b → IsUnfitRows p at other i → ⊥

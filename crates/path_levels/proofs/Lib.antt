@@ -1,4 +1,3 @@
-pub mod CommonDivisors
 pub mod Units
 pub mod Fitting
 pub mod LineLists

@@ -3,16 +3,14 @@ use Rattle.std.proofs.Common.{◌≡◌, ◌≢◌, ◌∙◌, ◌↔◌, ℕ, z
 use Rattle.std.proofs.lemmas.Bool.{cases_eq}
 use Rattle.std.proofs.Math.ListN.{get_or-map}
 use Rattle.std.proofs.Math.Nat.{zero-div}
-use Rattle.problem_core.specs.declared.parts.Level.TheVariants.{Priority}
 use Rattle.problem_core.specs.declared.parts.Mark.{Mark}
 use Rattle.problem_core.specs.declared.parts.Rel.{Rel}
 use Rattle.problem_core.specs.declared.parts.Rel.TheVariants.{Eq, Le, Ge}
-use Rattle.problem_core.specs.declared.parts.RowName.TheVariants.{Held}
 use Rattle.problem_core.specs.declared.parts.Side.{Side}
 use Rattle.problem_core.specs.declared.parts.Side.TheVariants.{Under, Over}
 use Rattle.problem_core.specs.Layout.{Line, Problem, lines}
 use Rattle.problem_core.specs.Kept.{IsWhole}
-use Rattle.problem_core.specs.Certificates.{over_weight, under_weight, weight_at}
+use Rattle.problem_core.specs.Certificates.{over_weight, under_weight}
 use Rattle.problem_core.specs.Corners.{HasNegativeColumn, IsIn, NoNegativeColumn, place_of}
 use Rattle.corner_laws.specs.Units.{over_share, under_share}
 use Rattle.corner_laws.proofs.LevelSizes.{no-over, no-share, no-under}
@@ -35,14 +33,11 @@ use Rattle.path_levels.specs.Frames.{AreFactsOf, AreLevelFacts, IsFactsOf, IsFra
 use Rattle.path_levels.proofs.FirstSigns.{IsRising, first_by_places, first_same, rising_same}
 use Rattle.path_levels.proofs.OwnColumns.{are_multipliers, inner_column, line_at, mark_at, none_negative, outer_negative, own_multipliers, row_is_multiple}
 use Rattle.path_levels.proofs.PlacedRows.{ArePlaced, Placed, are_multiples, place_cost, placed_costs, rows_of}
+use Rattle.path_levels.proofs.LineShares.{own_weight}
+use Rattle.path_levels.proofs.MultipleFacts.{any_level}
+use Rattle.path_levels.proofs.FitFacts.{any_facts}
 
 -- ---- facts
-
-abbrev pub any_level : LevelFacts
-any_level = record { level = Priority 0; number = 0 }
-
-abbrev pub any_facts : LineFacts
-any_facts = record { name = Held 0; level = 0; under = pos 0; over = pos 0; scale = pos 1 }
 
 pub facts_at : (levels : List LevelFacts) (ls : List Line) (facts : List LineFacts) (k : ℕ) (d : Line) (f : LineFacts) → AreFactsOf levels ls facts → k < length ls → IsFactsOf levels (get_or ls k d) (get_or facts k f)
 facts_at levels [] facts k d f are within = absurd (omega (arith, within))
@@ -59,9 +54,6 @@ levels_rise p levels are j k less within =
 
 -- ---- shares
 
-own-weight : (l : Line) (level : ℕ) → l.level ≡ level → weight_at l level ≡ l.weight
-own-weight l level e = ap (λ (b : Bool). cond b l.weight 0) (eq-eqb l.level level e)
-
 none-share : (unit s : ℕ) → 0 ≡ unit * 0 / s
 none-share unit s = sym (ap (λ (n : ℕ). n / s) (mul-zero unit) ∙ zero-div s)
 
@@ -77,12 +69,12 @@ over-share Ge unit w s = none-share unit s
 
 under-there : (unit level : ℕ) (l : Line) (f : LineFacts) → l.level ≡ level → f.under ≡ pos (under_weight l.rel l.weight) → f.scale ≡ pos l.scale → under_share unit level l ≡ share_of Under unit f
 under-there unit level l f e under scale =
-    ap (λ (w : ℕ). under_weight l.rel (unit * w / l.scale)) (own-weight l level e) ∙ under-share l.rel unit l.weight l.scale
+    ap (λ (w : ℕ). under_weight l.rel (unit * w / l.scale)) (own_weight l level e) ∙ under-share l.rel unit l.weight l.scale
     ∙ sym (ap₂ (λ (u s : ℕ). unit * u / s) (ap unsigned_abs under) (ap unsigned_abs scale))
 
 over-there : (unit level : ℕ) (l : Line) (f : LineFacts) → l.level ≡ level → f.over ≡ pos (over_weight l.rel l.weight) → f.scale ≡ pos l.scale → over_share unit level l ≡ share_of Over unit f
 over-there unit level l f e over scale =
-    ap (λ (w : ℕ). over_weight l.rel (unit * w / l.scale)) (own-weight l level e) ∙ over-share l.rel unit l.weight l.scale
+    ap (λ (w : ℕ). over_weight l.rel (unit * w / l.scale)) (own_weight l level e) ∙ over-share l.rel unit l.weight l.scale
     ∙ sym (ap₂ (λ (u s : ℕ). unit * u / s) (ap unsigned_abs over) (ap unsigned_abs scale))
 
 counted-there : (side : Side) (place unit own n : ℕ) (f : LineFacts) → f.level ≡ place → n ≡ share_of side unit f → own * n ≡ counted side place unit own f

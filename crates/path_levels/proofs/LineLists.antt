@@ -1,7 +1,6 @@
 -- Lists of the lines' numbers, in lowest terms, as rows.
 use Rattle.std.proofs.Common.{◌≡◌, ◌⊎◌, ◌∙◌, ℕ, List, [], ◌∷◌, Bool, true, false, cond, nat_eq, map, length, get_or, ℤ, pos, ◌*ℤ◌, unsigned_abs, refl, sym, ap, ap₂, subst, arith, inl, inr, All}
 use Rattle.std.specs.Int.{◌∣◌}
-use Rattle.std.specs.List.{AllByRecursion as Each}
 use Rattle.std.proofs.lemmas.Bool.{cases_Bool}
 use Rattle.std.proofs.lemmas.List.{length-map}
 use Rattle.std.proofs.lemmas.List.Elements.{All-from_recursion, recursion_from_All, All-map}
@@ -14,16 +13,17 @@ use Rattle.problem_core.specs.declared.parts.Mark.{Mark}
 use Rattle.problem_core.specs.Layout.{Line, Problem, lines}
 use Rattle.problem_core.specs.Corners.{place_of}
 use Rattle.problem_core.proofs.CornerFacts.{is_place}
-use Rattle.problem_core.proofs.Forms.{each-impl, each-both}
+use Rattle.problem_core.proofs.Forms.{each-impl}
 use Rattle.corner_laws.proofs.Counting.{IsIn-from_is_place}
-use Rattle.corner_laws.proofs.LinePlaces.{AllApart, AreApart}
+use Rattle.corner_laws.proofs.LinePlaces.{AllApart}
 use Rattle.corner_laws.proofs.ZeroColumns.{not-in}
 use Rattle.corner_lines.specs.LineEquations.{IsOutsideLine}
 use Rattle.corner_lines.specs.LevelJoins.{AreLinesBefore, IsLineBefore}
 use Rattle.corner_lines.specs.LevelRows.{IsDividedRow, IsUnfitRow}
 use Rattle.path_checker.specs.Numbers.{AreLowest, AreUnfit}
 use Rattle.path_checker.specs.Tables.{numbers_of}
-use Rattle.path_checker.proofs.NumbersOf.{each_number, number_here, number_later, numbers-map}
+use Rattle.path_checker.proofs.NumbersOf.{each_number, numbers-map}
+use Rattle.path_checker.proofs.Unfits.{same_list, unmapped}
 
 -- inside lines have no number
 abbrev pub HasZeros : List Mark → List Line → List ℤ → Type 0
@@ -118,21 +118,6 @@ seen-same at g number by name outside (inr none) =
       ]
     ]
 
-same-list : (g : ℤ) (part : RowName → ℤ) (ls : List Line) (zs : List ℤ) → AllApart ls → length zs ≡ length ls → Each (λ l. g *ℤ part l.name ≡ numbers_of ls zs l.name) ls
-    → map (λ z. g *ℤ z) (map (λ l. part l.name) ls) ≡ zs
-same-list g part [] [] apart count all = refl
-same-list g part [] (z ∷ zs) apart count all = absurd (omega (arith, count))
-same-list g part (l ∷ ls) [] apart count all = absurd (omega (arith, count))
-same-list g part (l ∷ ls) (z ∷ zs) apart count all =
-    ap₂ ◌∷◌ (all.0 ∙ number_here l ls z zs)
-    (same-list g part ls zs apart.1 (omega (arith, count))
-    (each-impl (λ k. AreApart l k × (g *ℤ part k.name ≡ numbers_of (l ∷ ls) (z ∷ zs) k.name)) (λ k. g *ℤ part k.name ≡ numbers_of ls zs k.name) ls (λ k h. h.1 ∙ number_later l k ls z zs h.0)
-    (each-both (AreApart l) (λ k. g *ℤ part k.name ≡ numbers_of (l ∷ ls) (z ∷ zs) k.name) ls apart.0 all.1)))
-
-unmapped : {A B : Type 0} (P : B → Type 0) (f : A → B) (xs : List A) → Each P (map f xs) → Each (λ x. P (f x)) xs
-unmapped P f [] all = tt
-unmapped P f (x ∷ xs) all = (all.0, unmapped P f xs all.1)
-
 small-zero : IsFitting (pos 0)
 small-zero = omega arith
 
@@ -145,7 +130,7 @@ list_unfit q at own by out apart count outside zeros unfit low number d fits eac
       factor = d.factor;
       above = d.above;
       own_is = ap pos d.own_is;
-      same = same-list (pos d.factor) (seen at number) (lines q) out apart count
+      same = same_list (pos d.factor) (seen at number) (lines q) out apart count
           (recursion_from_All (λ l. pos d.factor *ℤ seen at number l.name ≡ numbers_of (lines q) out l.name) (lines q)
           (λ i e within. seen-same at (pos d.factor) number (numbers_of (lines q) out) (get_or (lines q) i e).name (λ o. d.same i e within o ∙ sym (outside i e within o)) (zeros i e within)));
       lowest = λ k all.

@@ -1,8 +1,6 @@
 -- What a line counts, by what is kept of it.
-use Rattle.std.proofs.Common.{◌≡◌, ◌≢◌, ◌∙◌, ℕ, zero, suc, ◌*◌, ◌/◌, ◌<◌, ◌≤◌, Bool, cond, List, [], ◌∷◌, map, length, get_or, ℤ, pos, ◌+ℤ◌, ◌-ℤ◌, neg_ℤ, unsigned_abs, refl, sym, ap, ap₂, arith, inl, inr, eq-eqb}
+use Rattle.std.proofs.Common.{◌≡◌, ◌≢◌, ◌∙◌, ℕ, zero, suc, ◌*◌, ◌/◌, ◌<◌, ◌≤◌, Bool, cond, List, [], ◌∷◌, length, get_or, ℤ, pos, ◌+ℤ◌, ◌-ℤ◌, neg_ℤ, unsigned_abs, refl, sym, ap, ap₂, arith, inl, inr, eq-eqb}
 use Rattle.std.proofs.lemmas.Bool.{cases_eq, cases_lt}
-use Rattle.std.proofs.lemmas.List.{get_or_default, length-map}
-use Rattle.std.proofs.Math.ListN.{get_or-map}
 use Rattle.std.proofs.Math.Nat.{div-le_self}
 use Rattle.problem_core.specs.declared.parts.Rel.{Rel}
 use Rattle.problem_core.specs.declared.parts.Rel.TheVariants.{Eq, Le, Ge}
@@ -19,17 +17,13 @@ use Rattle.path_levels.specs.declared.sums.LevelSum.{LevelSum}
 use Rattle.path_levels.specs.Frames.{AreFactsOf, AreLevelFacts, IsFactsOf, number_at}
 use Rattle.path_levels.specs.Shares.{reduced_of, share_of, stood_of, weight_on}
 use Rattle.path_levels.proofs.ShareFacts.{share_here, share_none}
+use Rattle.path_levels.proofs.RowsLoop.{number-there}
 
 -- ---- levels
 
-number_there : (levels : List LevelFacts) (k : ℕ) (d : LevelFacts) → k < length levels → number_at levels k ≡ (get_or levels k d).number
-number_there levels k d within =
-    get_or_default (map (λ (f : LevelFacts). f.number) levels) k 0 d.number (omega (arith, within, length-map levels (λ (f : LevelFacts). f.number)))
-    ∙ get_or-map (λ (f : LevelFacts). f.number) levels k d
-
 pub one_level : (p : Problem) (levels : List LevelFacts) (a b : ℕ) (d : LevelFacts) → AreLevelFacts p levels → a < length levels → b < length levels → number_at levels a ≡ number_at levels b → a ≡ b
 one_level p levels a b d are here there same =
-    let numbers : (get_or levels a d).number ≡ (get_or levels b d).number = sym (number_there levels a d here) ∙ same ∙ number_there levels b d there in
+    let numbers : (get_or levels a d).number ≡ (get_or levels b d).number = sym (number-there levels a d here) ∙ same ∙ number-there levels b d there in
     elim (cases_lt a b) [
       | inl less ↦ let h : (get_or levels a d).number < (get_or levels b d).number = are.rising a b d less there in absurd (omega (arith, h, numbers))
       | inr from ↦
@@ -58,7 +52,7 @@ over_times Eq u w s = refl
 over_times Le u w s = refl
 over_times Ge u w s = zero_over u s
 
-own_weight : (l : Line) (level : ℕ) → l.level ≡ level → weight_at l level ≡ l.weight
+pub own_weight : (l : Line) (level : ℕ) → l.level ≡ level → weight_at l level ≡ l.weight
 own_weight l level e = ap (λ (b : Bool). cond b l.weight 0) (eq-eqb l.level level e)
 
 under_none : (r : Rel) (u s w : ℕ) → w ≡ 0 → under_weight r (u * w / s) ≡ 0

@@ -1,16 +1,19 @@
 -- A value that moves by a multiple of another one: fractions and their sums.
-use Rattle.std.proofs.Common.{◌≡◌, ◌∙◌, ℕ, zero, suc, ◌+◌, ◌-◌, ◌*◌, ◌/◌, ◌<◌, ◌≤◌, ℤ, pos, negsuc, ◌+ℤ◌, ◌-ℤ◌, ◌*ℤ◌, ◌<ℤ◌, neg_ℤ, unsigned_abs, refl, sym, ap, ap₂, subst, subst₂, arith}
-use Rattle.std.specs.Int.{◌∣◌, IsGcd}
+use Rattle.std.proofs.Common.{◌≡◌, ◌∙◌, ℕ, zero, suc, ◌+◌, ◌-◌, ◌*◌, ◌/◌, ◌<◌, ◌≤◌, ℤ, pos, negsuc, ◌+ℤ◌, ◌-ℤ◌, ◌*ℤ◌, ◌<ℤ◌, neg_ℤ, unsigned_abs, sym, ap, ap₂, subst, subst₂, SFits, arith}
+use Rattle.std.specs.Int.{◌∣◌, IsGcd, w128}
 use borrow.Author.Differences.{ints}
 use Rattle.std.proofs.Math.IntN.{*ℤ_comm}
-use Rattle.std.proofs.lemmas.Int.{unsigned_abs-mul}
+use Rattle.std.proofs.lemmas.Int.{fits_signed_from_abs, unsigned_abs-mul}
 use Rattle.std.proofs.lemmas.Nat.Gcd.{le_of_dvd}
 use Rattle.std.proofs.Math.Nat.{mul-le-mul, dvd-mul_right, dvd-mul_left, dvd_of_mul-dvd-mul_left, div-mul_cancel}
-use Rattle.frac_core.specs.Fraction.{Fraction, Fits, IsLowest, IsRatio, IsUnfitRatio, sum_den, sum_num}
+use Rattle.frac_core.specs.Fraction.{Fraction, Fits, IsFitting, IsKept, IsLowest, IsRatio, IsUnfitRatio, sum_den, sum_num}
 use Rattle.frac_core.specs.declared.frac.TheConstants.{PART_BOUND}
 use Rattle.frac_core.proofs.Gauss.{gauss}
-use Rattle.frac_core.proofs.Integers.{cancel_mul, diff-add, diff-mul, diff-neg, diff-pos, diff_eq, mul_assoc_ℤ, mul_left_comm_ℤ, mul-add_left, mul_positive, neg-pos, on_2, positive_from}
+use Rattle.frac_core.proofs.Integers.{cancel_mul, diff-add, diff-mul, diff-neg, diff-pos, diff_eq, mul_assoc_ℤ, mul_left_comm_ℤ, mul-add_left, neg-pos, on_2, positive_from}
 use Rattle.path_levels.specs.Moved.{IsLowestPart, joint_den, joint_num}
+use Rattle.path_checker.proofs.SolvedPivots.{up, some_up}
+use Rattle.path_checker.proofs.FirstLines.{abs_sum}
+use Rattle.frac_core.proofs.Quotients.{size_opposite}
 
 ruleset ring = (diff-add, diff-mul, diff-neg, diff-pos, neg-pos)
 
@@ -27,33 +30,14 @@ unfit_up c n d some none f lowest r = none f lowest (ratio_down c f n d some r)
 
 -- ---- signed numbers above 0
 
-pub up : (z : ℤ) → pos 0 <ℤ z → pos (unsigned_abs z) ≡ z
-up (pos n) above = refl
-up (negsuc n) above = absurd above.lt
-
-pub some_up : (z : ℤ) → pos 0 <ℤ z → 0 < unsigned_abs z
-some_up (pos n) above = omega (arith, ints, above)
-some_up (negsuc n) above = absurd above.lt
-
 pub above_from_product : (d z : ℤ) → pos 0 <ℤ d → pos 0 <ℤ (d *ℤ z) → pos 0 <ℤ z
 above_from_product (pos n) z up_d up_p = positive_from n z up_p
 above_from_product (negsuc n) z up_d up_p = absurd up_d.lt
 
 -- ---- sizes
 
-pub abs_plus : (x y : ℤ) (m n : ℕ) → unsigned_abs x ≤ m → unsigned_abs y ≤ n → unsigned_abs (x +ℤ y) ≤ m + n
-abs_plus (pos x) (pos y) m n h k = omega (arith, ints, h, k)
-abs_plus (pos x) (negsuc y) m n h k = omega (arith, ints, h, k)
-abs_plus (negsuc x) (pos y) m n h k = omega (arith, ints, h, k)
-abs_plus (negsuc x) (negsuc y) m n h k = omega (arith, ints, h, k)
-
-neg_abs : (z : ℤ) → unsigned_abs (neg_ℤ z) ≡ unsigned_abs z
-neg_abs (pos zero) = refl
-neg_abs (pos (suc n)) = refl
-neg_abs (negsuc n) = refl
-
 abs_minus : (x y : ℤ) (m n : ℕ) → unsigned_abs x ≤ m → unsigned_abs y ≤ n → unsigned_abs (x -ℤ y) ≤ m + n
-abs_minus x y m n h k = abs_plus x (neg_ℤ y) m n h (subst (λ (i : ℕ). i ≤ n) (sym (neg_abs y)) k)
+abs_minus x y m n h k = abs_sum x (neg_ℤ y) m n h (subst (λ (i : ℕ). i ≤ n) (sym (size_opposite y)) k)
 
 pub abs_times : (x y : ℤ) (m n : ℕ) → unsigned_abs x ≤ m → unsigned_abs y ≤ n → unsigned_abs (x *ℤ y) ≤ m * n
 abs_times x y m n h k = subst (λ (i : ℕ). i ≤ m * n) (sym (unsigned_abs-mul x y)) (mul-le-mul h k)
@@ -96,7 +80,7 @@ at_most n t d a k some_d some_t e f =
     cancel u v d some e = ap unsigned_abs (cancel_mul d (pos u) (pos v) some (ap pos (let s : d * u ≡ d * v = omega (arith, e) in s)))
 
 -- its numerator is small where theirs and their denominators are
-pub num_small : (x b n : ℤ) (bd fd d m : ℕ) → 0 < d → 0 < bd → 0 < fd → IsGcd (unsigned_abs n) d 1 → x *ℤ (pos bd *ℤ pos d) ≡ (b *ℤ pos d +ℤ n *ℤ pos bd) *ℤ pos fd
+num_small : (x b n : ℤ) (bd fd d m : ℕ) → 0 < d → 0 < bd → 0 < fd → IsGcd (unsigned_abs n) d 1 → x *ℤ (pos bd *ℤ pos d) ≡ (b *ℤ pos d +ℤ n *ℤ pos bd) *ℤ pos fd
     → unsigned_abs x ≤ m → unsigned_abs b ≤ m → bd ≤ m → fd ≤ m → unsigned_abs n ≤ m * m + m * m
 num_small x b n bd fd d m some some_bd some_fd lowest h x_small b_small bd_small fd_small =
     let divides : d ∣ bd * fd = den_divides x b n bd fd d lowest h in
@@ -112,8 +96,8 @@ num_small x b n bd fd d m some some_bd some_fd lowest h x_small b_small bd_small
     product_above a b h k = let l : 1 * 1 ≤ a * b = mul-le-mul h k in omega (arith, l)
 
 -- what is left of its denominator without its common factor with the second one divides the first
-pub rest_small : (x b n : ℤ) (bd fd d c q e : ℕ) → 0 < c → 0 < fd → IsGcd (unsigned_abs n) d 1 → IsGcd d bd c → d ≡ c * q → bd ≡ c * e → IsGcd e q 1 → x *ℤ (pos bd *ℤ pos d) ≡ (b *ℤ pos d +ℤ n *ℤ pos bd) *ℤ pos fd → q ≤ fd
-rest_small x b n bd fd d c q e some some_fd lowest common d_is bd_is apart h =
+rest_small : (x b n : ℤ) (bd fd d c q e : ℕ) → 0 < c → 0 < fd → IsGcd (unsigned_abs n) d 1 → d ≡ c * q → bd ≡ c * e → IsGcd e q 1 → x *ℤ (pos bd *ℤ pos d) ≡ (b *ℤ pos d +ℤ n *ℤ pos bd) *ℤ pos fd → q ≤ fd
+rest_small x b n bd fd d c q e some some_fd lowest d_is bd_is apart h =
     let divides : d ∣ bd * fd = den_divides x b n bd fd d lowest h in
     let parts : c * q ∣ c * (e * fd) = subst (λ (k : ℕ). k ∣ c * (e * fd)) d_is (subst (λ (k : ℕ). d ∣ k) (let t : bd * fd ≡ c * (e * fd) = ap (λ (k : ℕ). k * fd) bd_is ∙ assoc c e fd in t) divides) in
     le_of_dvd some_fd (gauss e q fd apart (dvd_of_mul-dvd-mul_left q some parts))
@@ -122,7 +106,7 @@ rest_small x b n bd fd d c q e some some_fd lowest common d_is bd_is apart h =
     assoc c e f = omega arith
 
 -- both without their greatest common divisor have none
-pub apart_rests : (d bd c q e : ℕ) → 0 < c → IsGcd d bd c → d ≡ c * q → bd ≡ c * e → IsGcd e q 1
+apart_rests : (d bd c q e : ℕ) → 0 < c → IsGcd d bd c → d ≡ c * q → bd ≡ c * e → IsGcd e q 1
 apart_rests d bd c q e some common d_is bd_is = (
   one-divides e,
   one-divides q,
@@ -160,125 +144,95 @@ lowest_part_is num den g n d den_up g_up gcd num_is den_is =
       lowest = (apart.1, apart.0, λ k k_n k_d. apart.2 k k_d k_n);
     }
 
--- what the sum takes: the part's denominator and the base's, each their common factor times a rest
-pub record AreRests (base : Fraction) (den divisor rest share : ℤ) : Type 0 where
-  pub den_up : pos 0 <ℤ den
-  pub base_den : 0 < base.den
-  pub divisor_up : pos 0 <ℤ divisor
-  pub common : IsGcd (unsigned_abs den) base.den (unsigned_abs divisor)
-  pub den_is : divisor *ℤ rest ≡ den
-  pub base_is : divisor *ℤ share ≡ pos base.den
-
-rest_up : (base : Fraction) (den divisor rest share : ℤ) → AreRests base den divisor rest share → pos 0 <ℤ rest
-rest_up base den divisor rest share are = above_from_product divisor rest are.divisor_up (subst (λ (z : ℤ). pos 0 <ℤ z) (sym are.den_is) are.den_up)
-
 -- a fraction that is the sum and fits
-fitting_sum : (base : Fraction) (num den divisor rest share : ℤ) (f : Fraction) → AreRests base den divisor rest share → IsGcd (unsigned_abs num) (unsigned_abs den) 1 → Fits base → IsLowest f → Fits f
+fitting_sum : (base : Fraction) (num den rest share : ℤ) (f : Fraction) → IsLowestPart (pos base.den) den share rest → pos 0 <ℤ den → IsGcd (unsigned_abs num) (unsigned_abs den) 1 → IsKept base → IsLowest f → Fits f
     → IsRatio f (joint_num base num den) (joint_den base den) → (unsigned_abs rest < PART_BOUND) × (unsigned_abs num ≤ (PART_BOUND - 1) * (PART_BOUND - 1) + (PART_BOUND - 1) * (PART_BOUND - 1))
-fitting_sum base num den divisor rest share f are lowest base_fits f_lowest fits ratio =
-    let d_is : pos (unsigned_abs den) ≡ den = up den are.den_up in
+fitting_sum base num den rest share f part den_up lowest kept f_lowest fits ratio =
+    let d_is : pos (unsigned_abs den) ≡ den = up den den_up in
     let h : f.num *ℤ (pos base.den *ℤ pos (unsigned_abs den)) ≡ (base.num *ℤ pos (unsigned_abs den) +ℤ num *ℤ pos base.den) *ℤ pos f.den =
     subst (λ (z : ℤ). f.num *ℤ (pos base.den *ℤ z) ≡ (base.num *ℤ z +ℤ num *ℤ pos base.den) *ℤ pos f.den) (sym d_is) ratio in
-    let some : 0 < unsigned_abs divisor = some_up divisor are.divisor_up in
-    let den_abs : unsigned_abs den ≡ unsigned_abs divisor * unsigned_abs rest = ap unsigned_abs (sym are.den_is) ∙ unsigned_abs-mul divisor rest in
-    let base_abs : base.den ≡ unsigned_abs divisor * unsigned_abs share = ap unsigned_abs (sym are.base_is) ∙ unsigned_abs-mul divisor share in
-    let apart : IsGcd (unsigned_abs share) (unsigned_abs rest) 1 = apart_rests (unsigned_abs den) base.den (unsigned_abs divisor) (unsigned_abs rest) (unsigned_abs share) some are.common den_abs base_abs in
-    let less : unsigned_abs rest ≤ f.den = rest_small f.num base.num num base.den f.den (unsigned_abs den) (unsigned_abs divisor) (unsigned_abs rest) (unsigned_abs share) some f_lowest.above lowest are.common den_abs base_abs apart h in
+    let den_abs : unsigned_abs den ≡ part.factor * unsigned_abs rest = ap unsigned_abs (sym part.den_is) ∙ unsigned_abs-mul (pos part.factor) rest in
+    let base_abs : base.den ≡ part.factor * unsigned_abs share = ap unsigned_abs (sym part.num_is) ∙ unsigned_abs-mul (pos part.factor) share in
+    let less : unsigned_abs rest ≤ f.den = rest_small f.num base.num num base.den f.den (unsigned_abs den) part.factor (unsigned_abs rest) (unsigned_abs share) part.above f_lowest.above lowest den_abs base_abs part.lowest h in
     let f_den : f.den < PART_BOUND = fits.den_fits in
     let f_num : unsigned_abs f.num < PART_BOUND = fits.num_fits in
-    let b_den : base.den < PART_BOUND = base_fits.den_fits in
-    let b_num : unsigned_abs base.num < PART_BOUND = base_fits.num_fits in (
+    let b_den : base.den < PART_BOUND = kept.fits.den_fits in
+    let b_num : unsigned_abs base.num < PART_BOUND = kept.fits.num_fits in (
       omega (arith, less, f_den),
-      num_small f.num base.num num base.den f.den (unsigned_abs den) (PART_BOUND - 1) (some_up den are.den_up) are.base_den f_lowest.above lowest h
+      num_small f.num base.num num base.den f.den (unsigned_abs den) (PART_BOUND - 1) (some_up den den_up) kept.lowest.above f_lowest.above lowest h
           (below (unsigned_abs f.num) f_num) (below (unsigned_abs base.num) b_num) (below base.den b_den) (below f.den f_den),
     )
   where
     below : (n : ℕ) → n < PART_BOUND → n ≤ PART_BOUND - 1
     below n h = omega (arith, h)
 
-pub rest_unfit : (base : Fraction) (num den divisor rest share : ℤ) → AreRests base den divisor rest share → IsGcd (unsigned_abs num) (unsigned_abs den) 1 → Fits base → PART_BOUND ≤ unsigned_abs rest
-    → IsUnfitRatio (joint_num base num den) (joint_den base den)
-rest_unfit base num den divisor rest share are lowest base_fits large f f_lowest ratio fits =
-    let h = fitting_sum base num den divisor rest share f are lowest base_fits f_lowest fits ratio in
-    let less : unsigned_abs rest < PART_BOUND = h.0 in
+pub rest_unfit : (base : Fraction) (num den rest share : ℤ) → IsLowestPart (pos base.den) den share rest → pos 0 <ℤ den → IsGcd (unsigned_abs num) (unsigned_abs den) 1 → IsKept base → PART_BOUND ≤ unsigned_abs rest → IsUnfitRatio (joint_num base num den) (joint_den base den)
+rest_unfit base num den rest share part den_up lowest kept large f f_lowest ratio fits =
+    let less = (fitting_sum base num den rest share f part den_up lowest kept f_lowest fits ratio).0 in
     absurd (omega (arith, large, less))
 
-pub num_unfit : (base : Fraction) (num den divisor rest share : ℤ) → AreRests base den divisor rest share → IsGcd (unsigned_abs num) (unsigned_abs den) 1 → Fits base → 2 * (PART_BOUND - 1) * (PART_BOUND - 1) < unsigned_abs num
+pub num_unfit : (base : Fraction) (num den rest share : ℤ) → IsLowestPart (pos base.den) den share rest → pos 0 <ℤ den → IsGcd (unsigned_abs num) (unsigned_abs den) 1 → IsKept base → 2 * (PART_BOUND - 1) * (PART_BOUND - 1) < unsigned_abs num
     → IsUnfitRatio (joint_num base num den) (joint_den base den)
-num_unfit base num den divisor rest share are lowest base_fits large f f_lowest ratio fits =
-    let h = fitting_sum base num den divisor rest share f are lowest base_fits f_lowest fits ratio in
-    let less : unsigned_abs num ≤ (PART_BOUND - 1) * (PART_BOUND - 1) + (PART_BOUND - 1) * (PART_BOUND - 1) = h.1 in
+num_unfit base num den rest share part den_up lowest kept large f f_lowest ratio fits =
+    let less = (fitting_sum base num den rest share f part den_up lowest kept f_lowest fits ratio).1 in
     absurd (omega (arith, large, less))
 
 -- the sum with the common factor taken out
-num_parts : (b n c q e : ℤ) → c *ℤ (b *ℤ q +ℤ n *ℤ e) ≡ b *ℤ (c *ℤ q) +ℤ n *ℤ (c *ℤ e)
-num_parts b n c q e = mul-add_left c (b *ℤ q) (n *ℤ e) ∙ ap₂ ◌+ℤ◌ (mul_left_comm_ℤ c b q) (mul_left_comm_ℤ c n e)
+num_parts : (b n c q e : ℤ) → c *ℤ (q *ℤ b +ℤ n *ℤ e) ≡ b *ℤ (c *ℤ q) +ℤ n *ℤ (c *ℤ e)
+num_parts b n c q e = mul-add_left c (q *ℤ b) (n *ℤ e) ∙ ap₂ ◌+ℤ◌ (sym (mul_assoc_ℤ c q b) ∙ *ℤ_comm (c *ℤ q) b) (mul_left_comm_ℤ c n e)
 
-pub joint_num_is : (base : Fraction) (num den divisor rest share : ℤ) → AreRests base den divisor rest share → pos (unsigned_abs divisor) *ℤ (base.num *ℤ rest +ℤ num *ℤ share) ≡ joint_num base num den
-joint_num_is base num den divisor rest share are =
-    ap (λ (z : ℤ). z *ℤ (base.num *ℤ rest +ℤ num *ℤ share)) (up divisor are.divisor_up) ∙ num_parts base.num num divisor rest share
-    ∙ ap₂ (λ (x y : ℤ). base.num *ℤ x +ℤ num *ℤ y) are.den_is are.base_is
+joint_num_is : (base : Fraction) (num den rest share : ℤ) → (part : IsLowestPart (pos base.den) den share rest) → pos part.factor *ℤ (rest *ℤ base.num +ℤ num *ℤ share) ≡ joint_num base num den
+joint_num_is base num den rest share part = num_parts base.num num (pos part.factor) rest share ∙ ap₂ (λ (x y : ℤ). base.num *ℤ x +ℤ num *ℤ y) part.den_is part.num_is
 
-pub joint_den_is : (base : Fraction) (den divisor rest share : ℤ) → AreRests base den divisor rest share → pos (unsigned_abs divisor) *ℤ (rest *ℤ pos base.den) ≡ joint_den base den
-joint_den_is base den divisor rest share are =
-    ap (λ (z : ℤ). z *ℤ (rest *ℤ pos base.den)) (up divisor are.divisor_up) ∙ sym (mul_assoc_ℤ divisor rest (pos base.den)) ∙ ap (λ (z : ℤ). z *ℤ pos base.den) are.den_is ∙ *ℤ_comm den (pos base.den)
+joint_den_is : (base : Fraction) (den rest share : ℤ) → (part : IsLowestPart (pos base.den) den share rest) → pos part.factor *ℤ (rest *ℤ pos base.den) ≡ joint_den base den
+joint_den_is base den rest share part = sym (mul_assoc_ℤ (pos part.factor) rest (pos base.den)) ∙ ap (λ (z : ℤ). z *ℤ pos base.den) part.den_is ∙ *ℤ_comm den (pos base.den)
 
-pub joint_ratio : (base f : Fraction) (num den divisor rest share : ℤ) → AreRests base den divisor rest share → IsRatio f (base.num *ℤ rest +ℤ num *ℤ share) (rest *ℤ pos base.den) → IsRatio f (joint_num base num den) (joint_den base den)
-joint_ratio base f num den divisor rest share are r =
-    subst₂ (λ (x y : ℤ). IsRatio f x y) (joint_num_is base num den divisor rest share are) (joint_den_is base den divisor rest share are)
-    (ratio_up (unsigned_abs divisor) f (base.num *ℤ rest +ℤ num *ℤ share) (rest *ℤ pos base.den) r)
+pub joint_ratio : (base f : Fraction) (num den rest share : ℤ) → IsLowestPart (pos base.den) den share rest → IsRatio f (rest *ℤ base.num +ℤ num *ℤ share) (rest *ℤ pos base.den) → IsRatio f (joint_num base num den) (joint_den base den)
+joint_ratio base f num den rest share part r =
+    subst₂ (λ (x y : ℤ). IsRatio f x y) (joint_num_is base num den rest share part) (joint_den_is base den rest share part) (ratio_up part.factor f (rest *ℤ base.num +ℤ num *ℤ share) (rest *ℤ pos base.den) r)
 
-pub joint_unfit : (base : Fraction) (num den divisor rest share : ℤ) → AreRests base den divisor rest share → IsUnfitRatio (base.num *ℤ rest +ℤ num *ℤ share) (rest *ℤ pos base.den) → IsUnfitRatio (joint_num base num den) (joint_den base den)
-joint_unfit base num den divisor rest share are none =
-    subst₂ (λ (x y : ℤ). IsUnfitRatio x y) (joint_num_is base num den divisor rest share are) (joint_den_is base den divisor rest share are)
-    (unfit_up (unsigned_abs divisor) (base.num *ℤ rest +ℤ num *ℤ share) (rest *ℤ pos base.den) (some_up divisor are.divisor_up) none)
+pub joint_unfit : (base : Fraction) (num den rest share : ℤ) → IsLowestPart (pos base.den) den share rest → IsUnfitRatio (rest *ℤ base.num +ℤ num *ℤ share) (rest *ℤ pos base.den) → IsUnfitRatio (joint_num base num den) (joint_den base den)
+joint_unfit base num den rest share part none =
+    subst₂ (λ (x y : ℤ). IsUnfitRatio x y) (joint_num_is base num den rest share part) (joint_den_is base den rest share part) (unfit_up part.factor (rest *ℤ base.num +ℤ num *ℤ share) (rest *ℤ pos base.den) part.above none)
 
-pub joint_above : (base : Fraction) (den divisor rest share : ℤ) → AreRests base den divisor rest share → pos 0 <ℤ (rest *ℤ pos base.den)
-joint_above base den divisor rest share are = subst (λ (z : ℤ). pos 0 <ℤ (z *ℤ pos base.den)) (up rest (rest_up base den divisor rest share are)) (positive (unsigned_abs rest) base.den (some_up rest (rest_up base den divisor rest share are)) are.base_den)
-  where
-    positive : (m n : ℕ) → 0 < m → 0 < n → pos 0 <ℤ (pos m *ℤ pos n)
-    positive m n h k = mul_positive m (pos n) h (omega (arith, ints, k))
+-- a factor of a base's denominator is as small as that
+pub share_small : (base : Fraction) (den rest share : ℤ) → IsLowestPart (pos base.den) den share rest → IsKept base → unsigned_abs share < PART_BOUND
+share_small base den rest share part kept =
+    let base_abs : base.den ≡ part.factor * unsigned_abs share = ap unsigned_abs (sym part.num_is) ∙ unsigned_abs-mul (pos part.factor) share in
+    let l : 1 * unsigned_abs share ≤ part.factor * unsigned_abs share = mul-le-mul part.above (let r : unsigned_abs share ≤ unsigned_abs share = omega arith in r) in
+    let b : base.den < PART_BOUND = kept.fits.den_fits in
+    omega (arith, base_abs, l, b)
 
-share_small : (base : Fraction) (den divisor rest share : ℤ) → AreRests base den divisor rest share → unsigned_abs share ≤ base.den
-share_small base den divisor rest share are =
-    let base_abs : base.den ≡ unsigned_abs divisor * unsigned_abs share = ap unsigned_abs (sym are.base_is) ∙ unsigned_abs-mul divisor share in
-    let some : 1 ≤ unsigned_abs divisor = some_up divisor are.divisor_up in
-    let l : 1 * unsigned_abs share ≤ unsigned_abs divisor * unsigned_abs share = mul-le-mul some (let r : unsigned_abs share ≤ unsigned_abs share = omega arith in r) in
-    omega (arith, base_abs, l)
+-- ---- within 128 bits
 
-pub first_small : (base : Fraction) (rest : ℤ) → Fits base → unsigned_abs rest < PART_BOUND → unsigned_abs (base.num *ℤ rest) ≤ (PART_BOUND - 1) * (PART_BOUND - 1)
-first_small base rest fits less =
-    let b : unsigned_abs base.num < PART_BOUND = fits.num_fits in
-    abs_times base.num rest (PART_BOUND - 1) (PART_BOUND - 1) (omega (arith, b)) (omega (arith, less))
+pub right_small : (num share : ℤ) → unsigned_abs num ≤ 2 * (PART_BOUND - 1) * (PART_BOUND - 1) → unsigned_abs share < PART_BOUND → unsigned_abs (num *ℤ share) ≤ 2 * (PART_BOUND - 1) * (PART_BOUND - 1) * (PART_BOUND - 1)
+right_small num share h k = abs_times num share (2 * (PART_BOUND - 1) * (PART_BOUND - 1)) (PART_BOUND - 1) h (omega (arith, k))
 
-pub second_small : (base : Fraction) (num den divisor rest share : ℤ) → AreRests base den divisor rest share → Fits base → unsigned_abs num ≤ 2 * (PART_BOUND - 1) * (PART_BOUND - 1) → unsigned_abs (num *ℤ share) ≤ 2 * (PART_BOUND - 1) * (PART_BOUND - 1) * (PART_BOUND - 1)
-second_small base num den divisor rest share are fits less =
-    let b : base.den < PART_BOUND = fits.den_fits in
-    let s : unsigned_abs share ≤ base.den = share_small base den divisor rest share are in
-    abs_times num share (2 * (PART_BOUND - 1) * (PART_BOUND - 1)) (PART_BOUND - 1) less (omega (arith, b, s))
+pub right_fits : (num share : ℤ) → unsigned_abs num ≤ 2 * (PART_BOUND - 1) * (PART_BOUND - 1) → unsigned_abs share < PART_BOUND → SFits w128 (num *ℤ share)
+right_fits num share h k = let l = right_small num share h k in fits_signed_from_abs w128 (num *ℤ share) (omega (arith, l))
 
-pub den_small : (base : Fraction) (rest : ℤ) → Fits base → unsigned_abs rest < PART_BOUND → unsigned_abs (rest *ℤ pos base.den) ≤ (PART_BOUND - 1) * (PART_BOUND - 1)
-den_small base rest fits less =
-    let b : base.den < PART_BOUND = fits.den_fits in
-    abs_times rest (pos base.den) (PART_BOUND - 1) (PART_BOUND - 1) (omega (arith, less)) (omega (arith, b))
+pub sum_fits : (rest b num share : ℤ) → unsigned_abs rest < PART_BOUND → IsFitting b → unsigned_abs num ≤ 2 * (PART_BOUND - 1) * (PART_BOUND - 1) → unsigned_abs share < PART_BOUND → SFits w128 (rest *ℤ b +ℤ num *ℤ share)
+sum_fits rest b num share less fits h k =
+    let l = abs_sum (rest *ℤ b) (num *ℤ share) ((PART_BOUND - 1) * (PART_BOUND - 1)) (2 * (PART_BOUND - 1) * (PART_BOUND - 1) * (PART_BOUND - 1)) (abs_times rest b (PART_BOUND - 1) (PART_BOUND - 1) (omega (arith, less)) (omega (arith, fits))) (right_small num share h k) in
+    fits_signed_from_abs w128 (rest *ℤ b +ℤ num *ℤ share) (omega (arith, l))
 
 -- ---- the move
 
-pub moved_num : (base v : Fraction) (times over g n d : ℤ) → g *ℤ n ≡ times *ℤ v.num → g *ℤ d ≡ over *ℤ pos v.den → g *ℤ joint_num base n d ≡ sum_num base times over v
+moved_num : (base v : Fraction) (times over g n d : ℤ) → g *ℤ n ≡ times *ℤ v.num → g *ℤ d ≡ over *ℤ pos v.den → g *ℤ joint_num base n d ≡ sum_num base times over v
 moved_num base v times over g n d e f =
     mul-add_left g (base.num *ℤ d) (n *ℤ pos base.den)
     ∙ ap₂ ◌+ℤ◌ (mul_left_comm_ℤ g base.num d ∙ ap (λ (z : ℤ). base.num *ℤ z) f)
     (sym (mul_assoc_ℤ g n (pos base.den)) ∙ ap (λ (z : ℤ). z *ℤ pos base.den) e ∙ mul_assoc_ℤ times v.num (pos base.den))
 
-pub moved_den : (base v : Fraction) (over g d : ℤ) → g *ℤ d ≡ over *ℤ pos v.den → g *ℤ joint_den base d ≡ sum_den base over v
+moved_den : (base v : Fraction) (over g d : ℤ) → g *ℤ d ≡ over *ℤ pos v.den → g *ℤ joint_den base d ≡ sum_den base over v
 moved_den base v over g d f = mul_left_comm_ℤ g (pos base.den) d ∙ ap (λ (z : ℤ). pos base.den *ℤ z) f
 
-pub moved_ratio : (base v f : Fraction) (times over n d num den : ℤ) → num ≡ times *ℤ v.num → den ≡ over *ℤ pos v.den → IsLowestPart num den n d → IsRatio f (joint_num base n d) (joint_den base d) → IsRatio f (sum_num base times over v) (sum_den base over v)
-moved_ratio base v f times over n d num den num_is den_is part r =
-    subst₂ (λ (x y : ℤ). IsRatio f x y) (moved_num base v times over (pos part.factor) n d (part.num_is ∙ num_is) (part.den_is ∙ den_is)) (moved_den base v over (pos part.factor) d (part.den_is ∙ den_is))
+pub moved_ratio : (base v f : Fraction) (times over n d : ℤ) → IsLowestPart (times *ℤ v.num) (over *ℤ pos v.den) n d → IsRatio f (joint_num base n d) (joint_den base d) → IsRatio f (sum_num base times over v) (sum_den base over v)
+moved_ratio base v f times over n d part r =
+    subst₂ (λ (x y : ℤ). IsRatio f x y) (moved_num base v times over (pos part.factor) n d part.num_is part.den_is) (moved_den base v over (pos part.factor) d part.den_is)
     (ratio_up part.factor f (joint_num base n d) (joint_den base d) r)
 
-pub moved_unfit : (base v : Fraction) (times over n d num den : ℤ) → num ≡ times *ℤ v.num → den ≡ over *ℤ pos v.den → IsLowestPart num den n d → IsUnfitRatio (joint_num base n d) (joint_den base d) → IsUnfitRatio (sum_num base times over v) (sum_den base over v)
-moved_unfit base v times over n d num den num_is den_is part none =
-    subst₂ (λ (x y : ℤ). IsUnfitRatio x y) (moved_num base v times over (pos part.factor) n d (part.num_is ∙ num_is) (part.den_is ∙ den_is)) (moved_den base v over (pos part.factor) d (part.den_is ∙ den_is))
+pub moved_unfit : (base v : Fraction) (times over n d : ℤ) → IsLowestPart (times *ℤ v.num) (over *ℤ pos v.den) n d → IsUnfitRatio (joint_num base n d) (joint_den base d) → IsUnfitRatio (sum_num base times over v) (sum_den base over v)
+moved_unfit base v times over n d part none =
+    subst₂ (λ (x y : ℤ). IsUnfitRatio x y) (moved_num base v times over (pos part.factor) n d part.num_is part.den_is) (moved_den base v over (pos part.factor) d part.den_is)
     (unfit_up part.factor (joint_num base n d) (joint_den base d) part.above none)

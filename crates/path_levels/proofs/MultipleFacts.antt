@@ -25,7 +25,7 @@ use Rattle.path_checker.specs.Numbers.{number_at as in_list}
 use Rattle.path_checker.specs.Pivots.{next_marks}
 use Rattle.path_checker.specs.Tables.{line_count, name_at, numbers_of, swap_of}
 use Rattle.path_checker.proofs.EnteringLine.{at_place}
-use Rattle.path_checker.proofs.Exchanging.{one_side, side_out}
+use Rattle.path_checker.proofs.Exchanging.{one_side}
 use Rattle.path_checker.proofs.Places.{any_line, name_there, names_differ, number_there}
 use Rattle.path_checker.proofs.SolvedPivots.{some_up, up}
 use Rattle.path_levels.specs.declared.carried.Factors.{Factors}
@@ -39,6 +39,7 @@ use Rattle.path_levels.specs.Levels.{IsLevelSum}
 use Rattle.path_levels.specs.Shares.{before_of, entering_of, stood_of}
 use Rattle.path_levels.specs.Turns.{IsMultipleAt, IsTurnPivot}
 use Rattle.path_levels.proofs.LineShares.{facts_at, stood_line}
+use Rattle.corner_lines.proofs.LineWritings.{no-side}
 
 -- ---- which lines are outside
 
@@ -70,7 +71,7 @@ was_out p at pivot k is within ne out = record { under = λ i. out.under (stay U
 
 pub enters_in : (p : Problem) (at : List Mark) (pivot : Pivot) (k : ℕ) → IsTurnPivot p at pivot → IsOutsideLine (next_marks p pivot at) (name_at p k) → k ≢ pivot.step.enter.at
 enters_in p at pivot k is out e =
-    side_out (next_marks p pivot at) (name_at p pivot.step.enter.at) pivot.step.enter.side (subst (λ (j : ℕ). IsOutsideLine (next_marks p pivot at) (name_at p j)) e out) (enter_in (swap_of p pivot.step) at is.exchange.leaves)
+    no-side (next_marks p pivot at) (name_at p pivot.step.enter.at) pivot.step.enter.side (subst (λ (j : ℕ). IsOutsideLine (next_marks p pivot at) (name_at p j)) e out) (enter_in (swap_of p pivot.step) at is.exchange.leaves)
 
 -- a line with a number in the pivot is outside, but for the leaving one
 has_number_out : (p : Problem) (at : List Mark) (pivot : Pivot) (k : ℕ) → IsTurnPivot p at pivot → k < line_count p → k ≢ pivot.step.leave.at → (numbers_of (lines p) pivot.by.items (name_at p k) ≢ pos 0) → IsOutsideLine at (name_at p k)
@@ -169,7 +170,7 @@ both_zero r m x y e f =
     let b : m *ℤ y ≡ pos 0 = ap (λ (z : ℤ). m *ℤ z) f ∙ mul-zero_ℤ m in
     omega (arith, ints, a, b)
 
-some_number : (z : ℤ) → ((pos 0 <ℤ z) ⊎ (pos 0 <ℤ neg_ℤ z)) → z ≢ pos 0
+pub some_number : (z : ℤ) → ((pos 0 <ℤ z) ⊎ (pos 0 <ℤ neg_ℤ z)) → z ≢ pos 0
 some_number z (inl a) e = omega (arith, ints, a, e)
 some_number z (inr a) e = omega (arith, ints, a, e)
 

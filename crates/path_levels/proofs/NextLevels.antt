@@ -1,7 +1,6 @@
 -- The row of a level at the next corner, or its cost does not fit there.
-use Rattle.std.proofs.Common.{◌≡◌, ◌≢◌, ◌∙◌, ℕ, zero, suc, ◌*◌, ◌<◌, true, false, List, [], ◌∷◌, map, length, get_or, ℤ, pos, negsuc, ◌-ℤ◌, ◌*ℤ◌, ◌<ℤ◌, neg_ℤ, unsigned_abs, refl, sym, ap, ap₂, subst, subst₂, arith, inl, inr, All, ◌⊎◌, Option}
+use Rattle.std.proofs.Common.{◌≡◌, ◌≢◌, ◌∙◌, ℕ, zero, suc, ◌*◌, ◌<◌, true, false, List, map, length, get_or, ℤ, pos, negsuc, ◌-ℤ◌, ◌*ℤ◌, ◌<ℤ◌, unsigned_abs, refl, sym, ap, ap₂, subst, subst₂, arith, inl, inr, All, ◌⊎◌, Option}
 use Rattle.std.specs.Int.{◌∣◌}
-use Rattle.std.specs.List.{AllByRecursion as Each}
 use Rattle.std.proofs.lemmas.Bool.{cases_eq}
 use Rattle.std.proofs.lemmas.Int.{ints, unsigned_abs-mul}
 use Rattle.std.proofs.lemmas.List.Elements.{All-from_recursion, All-map, recursion_from_All}
@@ -9,12 +8,10 @@ use Rattle.std.proofs.lemmas.Nat.Gcd.{dvd-zero}
 use Rattle.frac_core.proofs.Integers.{mul-zero_ℤ, sign_cases, zero_from_mul}
 use Rattle.frac_core.specs.Fraction.{Fraction, IsFitting, IsUnfitRatio}
 use Rattle.problem_core.specs.declared.parts.Mark.{Mark}
-use Rattle.problem_core.specs.declared.parts.RowName.{RowName}
 use Rattle.problem_core.specs.Layout.{Line, Problem, lines}
 use Rattle.problem_core.specs.Corners.{IsExchange, exchanged}
 use Rattle.problem_core.specs.Levels.{HasNoLevelWriting, IsCostAt}
-use Rattle.problem_core.proofs.Forms.{each-impl, each-both}
-use Rattle.corner_laws.proofs.LinePlaces.{AllApart, AreApart, lines_apart}
+use Rattle.corner_laws.proofs.LinePlaces.{lines_apart}
 use Rattle.corner_lines.specs.LineEquations.{IsOutsideLine}
 use Rattle.corner_lines.specs.LevelRows.{HasLevelRow, IsEnteringNumber, IsLevelExchange, IsTurningNumber, IsUnfitRow}
 use Rattle.corner_lines.specs.LevelFits.{IsLevelThere}
@@ -30,7 +27,7 @@ use Rattle.path_checker.specs.Numbers.{AreFitting, AreLowest, AreUnfit}
 use Rattle.path_checker.specs.Pivots.{next_marks}
 use Rattle.path_checker.specs.Tables.{AreLines, IsThere, line_count, name_at, numbers_of, swap_of}
 use Rattle.path_checker.proofs.NextLines.{lowest_count}
-use Rattle.path_checker.proofs.NumbersOf.{each_number, number_here, number_later, numbers-map}
+use Rattle.path_checker.proofs.NumbersOf.{each_number, numbers-map}
 use Rattle.path_checker.proofs.Places.{name_there, names_differ, number_there}
 use Rattle.path_checker.proofs.SolvedPivots.{up}
 use Rattle.path_checker.proofs.Moves.{positive_product}
@@ -48,7 +45,8 @@ use Rattle.path_levels.specs.Turns.{IsMultipleAt, IsTurnPivot, IsWideLevel}
 use Rattle.path_levels.proofs.CostFacts.{cost_step, entered, entered_is, unfit_step}
 use Rattle.path_levels.proofs.FitFacts.{fit_level, fitting_row, next_is_there}
 use Rattle.path_levels.proofs.LineShares.{facts_at, facts_count, stood_line}
-use Rattle.path_levels.proofs.MultipleFacts.{any_level, before_other, before_turn, bool_cases, enter_out}
+use Rattle.path_levels.proofs.MultipleFacts.{any_level, before_other, before_turn, bool_cases, enter_out, some_number}
+use Rattle.path_checker.proofs.Unfits.{same_list, unmapped}
 
 -- ---- lowest terms
 
@@ -114,25 +112,6 @@ unfolding only
 only_some (pos zero) y ne = absurd (ne refl)
 only_some (pos (suc n)) y ne = refl
 only_some (negsuc n) y ne = refl
-
-some_number : (z : ℤ) → ((pos 0 <ℤ z) ⊎ (pos 0 <ℤ neg_ℤ z)) → z ≢ pos 0
-some_number z (inl a) e = omega (arith, ints, a, e)
-some_number z (inr a) e = omega (arith, ints, a, e)
-
-same_list : (g : ℤ) (part : RowName → ℤ) (ls : List Line) (zs : List ℤ) → AllApart ls → length zs ≡ length ls → Each (λ l. g *ℤ part l.name ≡ numbers_of ls zs l.name) ls
-    → map (λ z. g *ℤ z) (map (λ l. part l.name) ls) ≡ zs
-same_list g part [] [] apart count all = refl
-same_list g part [] (z ∷ zs) apart count all = absurd (omega (arith, count))
-same_list g part (l ∷ ls) [] apart count all = absurd (omega (arith, count))
-same_list g part (l ∷ ls) (z ∷ zs) apart count all =
-    ap₂ ◌∷◌ (all.0 ∙ number_here l ls z zs)
-    (same_list g part ls zs apart.1 (omega (arith, count))
-    (each-impl (λ k. AreApart l k × (g *ℤ part k.name ≡ numbers_of (l ∷ ls) (z ∷ zs) k.name)) (λ k. g *ℤ part k.name ≡ numbers_of ls zs k.name) ls (λ k h. h.1 ∙ number_later l k ls z zs h.0)
-    (each-both (AreApart l) (λ k. g *ℤ part k.name ≡ numbers_of (l ∷ ls) (z ∷ zs) k.name) ls apart.0 all.1)))
-
-unmapped : {A B : Type 0} (P : B → Type 0) (f : A → B) (xs : List A) → Each P (map f xs) → Each (λ x. P (f x)) xs
-unmapped P f [] all = tt
-unmapped P f (x ∷ xs) all = (all.0, unmapped P f xs all.1)
 
 pub unfit_row : (p : Problem) (at : List Mark) (level : ℕ) (unit : ℤ) (wide : Wide) → IsThere p at → length wide.by.items ≡ line_count p → pos 0 <ℤ wide.own → IsMultipleAt p at level unit wide → AreUnfit wide.own wide.by.items
     → IsUnfitRow p at (unsigned_abs wide.own) (numbers_of (lines p) wide.by.items)

@@ -1,16 +1,16 @@
 -- The signs of columns, by rows of all levels that may have common factors.
-use Rattle.std.proofs.Common.{◌≡◌, ◌∙◌, ◌⊎◌, ◌↔◌, ℕ, suc, ◌*◌, ◌<◌, List, ℤ, pos, negsuc, ◌+ℤ◌, ◌-ℤ◌, ◌*ℤ◌, ◌≤ℤ◌, ◌<ℤ◌, get_or, sym, ap, subst, arith, All, inl, inr, mul-pos}
+use Rattle.std.proofs.Common.{◌≡◌, ◌∙◌, ◌⊎◌, ◌↔◌, ℕ, ◌*◌, ◌<◌, List, ℤ, pos, ◌*ℤ◌, ◌≤ℤ◌, get_or, sym, ap, subst, arith, All, inl, inr, mul-pos}
 use Rattle.std.proofs.lemmas.Bool.{cases_eq}
 use Rattle.std.proofs.lemmas.List.{get_or_default}
 use borrow.Author.Differences.{ints}
-use Rattle.frac_core.proofs.Integers.{mul-sub_left, mul-add_left, mul_left_comm_ℤ, mul-zero_ℤ, mul_positive, mul_not_negative, zero_from_mul}
+use Rattle.frac_core.proofs.Integers.{mul-zero_ℤ, mul_not_negative}
 use Rattle.problem_core.specs.declared.parts.Mark.{Mark}
 use Rattle.problem_core.specs.declared.parts.RowName.{RowName}
 use Rattle.problem_core.specs.declared.parts.Side.{Side}
 use Rattle.problem_core.specs.declared.parts.Side.TheVariants.{Under, Over}
 use Rattle.problem_core.specs.Layout.{Line, Problem, lines}
 use Rattle.problem_core.specs.Kept.{IsWhole}
-use Rattle.problem_core.specs.Certificates.{Multipliers, over_weight, under_weight, weight_at}
+use Rattle.problem_core.specs.Certificates.{Multipliers}
 use Rattle.problem_core.specs.Corners.{AreMultipliersAt, HasNegativeColumn, IsIn, IsLexNegative, NoNegativeColumn, column, place_of}
 use Rattle.problem_core.specs.Paths.{NoNegativeRequired}
 use Rattle.problem_core.specs.Rays.{HasRays}
@@ -25,7 +25,9 @@ use Rattle.corner_lines.proofs.LevelExchanges.{by-sides}
 use Rattle.corner_lines.proofs.LevelCosts.{column-is, reduced-none}
 use Rattle.path_checker.specs.Tables.{line_count, name_at}
 use Rattle.path_checker.proofs.Places.{any_line, name_there, names_differ}
-use Rattle.path_levels.proofs.FirstSigns.{low_or_up}
+use Rattle.corner_laws.proofs.ValuesStay.{sign-of}
+use Rattle.corner_lines.proofs.FrontSigns.{columns-multiple}
+use Rattle.corner_lines.proofs.ColumnsBelow.{none_from, low_from}
 
 -- ---- rows
 
@@ -92,45 +94,12 @@ inner_up p at m inside side level k d is within i = other-up m inside side (get_
 
 -- ---- two lists of multipliers
 
-multiple-under : (k s t w : ℕ) (y z : ℤ) → pos s *ℤ z ≡ pos t *ℤ y → pos s *ℤ (pos (t * w) -ℤ pos k *ℤ z) ≡ pos t *ℤ (pos (s * w) -ℤ pos k *ℤ y)
-multiple-under k s t w y z e =
-    let a : pos s *ℤ (pos (t * w) -ℤ pos k *ℤ z) ≡ pos s *ℤ pos (t * w) -ℤ pos s *ℤ (pos k *ℤ z) = mul-sub_left (pos s) (pos (t * w)) (pos k *ℤ z) in
-    let b : pos t *ℤ (pos (s * w) -ℤ pos k *ℤ y) ≡ pos t *ℤ pos (s * w) -ℤ pos t *ℤ (pos k *ℤ y) = mul-sub_left (pos t) (pos (s * w)) (pos k *ℤ y) in
-    let c : pos s *ℤ (pos k *ℤ z) ≡ pos t *ℤ (pos k *ℤ y) = mul_left_comm_ℤ (pos s) (pos k) z ∙ ap (λ (x : ℤ). pos k *ℤ x) e ∙ mul_left_comm_ℤ (pos k) (pos t) y in
-    let d : pos s *ℤ pos (t * w) ≡ pos t *ℤ pos (s * w) = ap pos (omega arith) in
-    omega (arith, ints, a, b, c, d)
-
-multiple-over : (k s t w : ℕ) (y z : ℤ) → pos s *ℤ z ≡ pos t *ℤ y → pos s *ℤ (pos (t * w) +ℤ pos k *ℤ z) ≡ pos t *ℤ (pos (s * w) +ℤ pos k *ℤ y)
-multiple-over k s t w y z e =
-    let a : pos s *ℤ (pos (t * w) +ℤ pos k *ℤ z) ≡ pos s *ℤ pos (t * w) +ℤ pos s *ℤ (pos k *ℤ z) = mul-add_left (pos s) (pos (t * w)) (pos k *ℤ z) in
-    let b : pos t *ℤ (pos (s * w) +ℤ pos k *ℤ y) ≡ pos t *ℤ pos (s * w) +ℤ pos t *ℤ (pos k *ℤ y) = mul-add_left (pos t) (pos (s * w)) (pos k *ℤ y) in
-    let c : pos s *ℤ (pos k *ℤ z) ≡ pos t *ℤ (pos k *ℤ y) = mul_left_comm_ℤ (pos s) (pos k) z ∙ ap (λ (x : ℤ). pos k *ℤ x) e ∙ mul_left_comm_ℤ (pos k) (pos t) y in
-    let d : pos s *ℤ pos (t * w) ≡ pos t *ℤ pos (s * w) = ap pos (omega arith) in
-    omega (arith, ints, a, b, c, d)
-
-columns-multiple : (m n : Multipliers) (side : Side) (l : Line) (level : ℕ) → pos (m.scale level) *ℤ n.times level l.name ≡ pos (n.scale level) *ℤ m.times level l.name → pos (m.scale level) *ℤ column n side l level ≡ pos (n.scale level) *ℤ column m side l level
-columns-multiple m n Under l level e = multiple-under l.scale (m.scale level) (n.scale level) (under_weight l.rel (weight_at l level)) (m.times level l.name) (n.times level l.name) e
-columns-multiple m n Over l level e = multiple-over l.scale (m.scale level) (n.scale level) (over_weight l.rel (weight_at l level)) (m.times level l.name) (n.times level l.name) e
-
 -- a corner's columns by two lists of multipliers are proportional
 pub columns_alike : (p : Problem) (at : List Mark) (m n : Multipliers) (side : Side) (level k : ℕ) (d : Line) → IsWhole p → HasRays p at → AreMultipliersAt p at m → AreMultipliersAt p at n → k < line_count p
     → pos (m.scale level) *ℤ column n side (get_or (lines p) k d) level ≡ pos (n.scale level) *ℤ column m side (get_or (lines p) k d) level
 columns_alike p at m n side level k d whole rays a b within = columns-multiple m n side (get_or (lines p) k d) level (multipliers_same p at m n level whole rays a b k d within)
 
 -- ---- signs of multiples
-
-pub none_from : (s t : ℕ) (a b : ℤ) → 0 < s → pos s *ℤ b ≡ pos t *ℤ a → a ≡ pos 0 → b ≡ pos 0
-none_from s t a b above e h = zero_from_mul s b above (e ∙ ap (λ (z : ℤ). pos t *ℤ z) h ∙ mul-zero_ℤ (pos t))
-
-pub low_from : (s t : ℕ) (a b : ℤ) → 0 < t → pos s *ℤ b ≡ pos t *ℤ a → a <ℤ pos 0 → b <ℤ pos 0
-low_from s t a (negsuc b) above e h = omega (arith, ints)
-low_from s t (pos a) (pos b) above e h = absurd (omega (arith, ints, h))
-low_from s t (negsuc a) (pos b) above e h =
-    let up : pos 0 <ℤ (pos t *ℤ pos (suc a)) = mul_positive t (pos (suc a)) above (omega (arith, ints)) in
-    let turned : pos t *ℤ (pos 0 -ℤ pos (suc a)) ≡ pos t *ℤ pos 0 -ℤ pos t *ℤ pos (suc a) = mul-sub_left (pos t) (pos 0) (pos (suc a)) in
-    let none = mul-zero_ℤ (pos t) in
-    let not : pos 0 ≤ℤ (pos s *ℤ pos b) = mul_not_negative s (pos b) (omega (arith, ints)) in
-    absurd (omega (arith, ints, up, turned, none, not, e))
 
 pub up_from : (s t : ℕ) (a b : ℤ) → 0 < s → pos s *ℤ b ≡ pos t *ℤ a → pos 0 ≤ℤ a → pos 0 ≤ℤ b
 up_from s t a b above e h = sign-from s b above (subst (λ (z : ℤ). pos 0 ≤ℤ z) (sym e) (mul_not_negative t a h))
@@ -218,7 +187,7 @@ none_negative p at m whole rays is = (
     m,
     is,
     λ side k d within level before.
-        elim (low_or_up (column m side (get_or (lines p) k d) level)) [
+        elim (sign-of (column m side (get_or (lines p) k d) level)) [
           | inr up ↦ up
           | inl low ↦
               let same : get_or (lines p) k d ≡ line_at p k = get_or_default (lines p) k d any_line within in

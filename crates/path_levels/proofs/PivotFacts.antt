@@ -15,7 +15,7 @@ use Rattle.problem_core.specs.declared.parts.Side.TheVariants.{Under}
 use Rattle.problem_core.specs.Layout.{Problem, coefficient, lines}
 use Rattle.problem_core.specs.Corners.{IsExchange, IsIn, exchanged, one_column, place_of}
 use Rattle.problem_core.specs.Window.{zero_fraction}
-use Rattle.corner_laws.proofs.LinePlaces.{lines_apart, sum-each}
+use Rattle.corner_laws.proofs.LinePlaces.{lines_apart}
 use Rattle.corner_laws.proofs.Unique.{same-name}
 use Rattle.corner_lines.specs.LineEquations.{IsLineEquation, deviation}
 use Rattle.corner_lines.specs.LevelCosts.{HasDeviation}
@@ -31,10 +31,11 @@ use Rattle.path_checker.specs.Numbers.{IsReplaced, number_at, way}
 use Rattle.path_checker.specs.Pivots.{IsPivotAt, IsSolvedFrom, next_marks}
 use Rattle.path_checker.specs.Tables.{AreLines, IsLineAt, IsSized, IsSizedLine, IsSumOf, IsThere, line_count, name_at, numbers_of, swap_of}
 use Rattle.path_checker.proofs.EnteringLine.{at_place}
-use Rattle.path_checker.proofs.Exchanging.{none_leaves, one_side, other_iff}
+use Rattle.path_checker.proofs.Exchanging.{one_side, other_iff}
 use Rattle.path_checker.proofs.Places.{name_there, names_differ, number_there}
 use Rattle.path_checker.proofs.SolvedPivots.{solved_is_pivot, some_up, up}
 use Rattle.path_levels.specs.Turns.{IsSizedPivot, IsTurnPivot, IsTurnedFrom}
+use Rattle.problem_core.proofs.Conflicts.{sum-each}
 
 -- the same numbers on all lines
 pivot_same : (p : Problem) (at : List Mark) (enter leave : RowName) (size : ℕ) (f g : RowName → ℤ) → IsPivot p at enter leave size f → All (λ l. g l.name ≡ f l.name) (lines p) → g enter ≡ f enter → IsPivot p at enter leave size g
@@ -260,31 +261,12 @@ pivot_is p at step kept inside pivot enter leave is sized turned solved there li
       | inr ne ↦ solved_is p at step inside.sum pivot there enter_in leave_in ne line ex (solved ne) (solved_sized (line_count p) step inside.sum pivot enter_in leave_in ne line.sized (solved ne))
     ]
 
-pub pivot_sized : (step : Step) (count : ℕ) (sum : Sum) (pivot : Pivot) → step.enter.at < count → step.leave.at < count → IsSized count sum → (step.enter.at ≡ step.leave.at → IsTurnedFrom sum step pivot) → (step.enter.at ≢ step.leave.at → IsSolvedFrom sum step pivot)
-    → IsSizedPivot count pivot
-pivot_sized step count sum pivot enter leave sized turned solved =
-    elim (cases_eq step.enter.at step.leave.at) [
-      | inl e ↦ turned_sized count step sum pivot enter e sized (turned e)
-      | inr ne ↦ solved_sized count step sum pivot enter leave ne sized (solved ne)
-    ]
-
-pub pivot_step : (step : Step) (sum : Sum) (pivot : Pivot) → (step.enter.at ≡ step.leave.at → IsTurnedFrom sum step pivot) → (step.enter.at ≢ step.leave.at → IsSolvedFrom sum step pivot) → pivot.step ≡ step
-pivot_step step sum pivot turned solved =
-    elim (cases_eq step.enter.at step.leave.at) [
-      | inl e ↦ (turned e).step_is
-      | inr ne ↦ (solved ne).step_is
-    ]
-
 pub none_enters : (p : Problem) (at : List Mark) (step : Step) (kept : List (Option Inside)) (inside : Inside) → step.enter.at < length kept → step.leave.at < length kept → get_or kept step.leave.at None ≡ Some inside
     → step.enter.at ≢ step.leave.at → number_at inside.sum.by.items step.enter.at ≡ pos 0 → IsThere p at → AreLines p at kept → IsExchange p at (swap_of p step) → ⊥
 none_enters p at step kept inside enter leave is ne none there lines ex =
     let line : IsLineAt p at (name_at p step.leave.at) (Some inside) = leaving_sum p at step kept inside lines leave is in
     let side = one_side p at (name_at p step.leave.at) inside.side step.leave.side there line.0 ex.leaves in
     (other_iff p at step inside there (omega (arith, enter, lines.count)) (omega (arith, leave, lines.count)) side line ne).1 ex none
-
-pub nothing_is : (p : Problem) (at : List Mark) (step : Step) (kept : List (Option Inside)) → step.leave.at < length kept → get_or kept step.leave.at None ≡ None → AreLines p at kept → IsExchange p at (swap_of p step) → ⊥
-nothing_is p at step kept leave is lines ex =
-    none_leaves p at step (subst (IsLineAt p at (name_at p step.leave.at)) is (lines.each step.leave.at None (omega (arith, leave, lines.count)))) ex
 
 pub sized_line : (count : ℕ) (line : Option Inside) (inside : Inside) → line ≡ Some inside → IsSizedLine count line → IsSized count inside.sum
 sized_line count line inside is sized = subst (IsSizedLine count) is sized

@@ -1,15 +1,12 @@
 -- What follows for results.
-use Rattle.std.proofs.Common.{Result, Ok, Err, IfOk, IfErr}
-
-pub ok_implies : {A E : Type 0} (r : Result A E) (P Q : A → Type 0) → ((a : A) → P a → Q a) → IfOk r P → IfOk r Q
-ok_implies (Ok x) P Q f h = f x h
-ok_implies (Err e) P Q f h = h
-
-pub err_implies : {A E : Type 0} (r : Result A E) (P Q : E → Type 0) → ((e : E) → P e → Q e) → IfErr r P → IfErr r Q
-err_implies (Ok x) P Q f h = h
-err_implies (Err e) P Q f h = f e h
+use Rattle.std.proofs.Common.{Result, Ok, Err, IfOk}
+use Rattle.std.specs.Prelude.{OnErr}
 
 -- what holds by two clauses
 pub ok_both : {T E : Type 0} {P Q R : T → Type 0} (r : Result T E) → ((x : T) → P x → Q x → R x) → IfOk r P → IfOk r Q → IfOk r R
 ok_both (Ok x) f g h = f x g h
 ok_both (Err e) f g h = h
+
+pub onerr_then : {T E : Type 0} {P Q : Type 0} (r : Result T E) → (P → Q) → OnErr r P → OnErr r Q
+onerr_then (Ok x) f h = h
+onerr_then (Err e) f h = f h

@@ -1,5 +1,5 @@
 -- The first rows of a level, joined line by line.
-use Rattle.std.proofs.Common.{◌≡◌, ◌≢◌, ◌∙◌, ◌⊎◌, ℕ, zero, suc, ◌+◌, ◌-◌, ◌<◌, ◌≤◌, ◌++◌, Bool, true, false, cond, nat_eq, List, [], ◌∷◌, map, length, take, get_or, pos, refl, sym, ap, subst, arith, inl, inr, ne_eqb}
+use Rattle.std.proofs.Common.{◌≡◌, ◌≢◌, ◌∙◌, ◌⊎◌, ℕ, zero, suc, ◌+◌, ◌-◌, ◌<◌, ◌≤◌, ◌++◌, Bool, true, false, cond, nat_eq, List, [], ◌∷◌, map, length, take, get_or, refl, sym, ap, subst, arith, inl, inr, ne_eqb}
 use Rattle.std.specs.declared.option.Option.{Option}
 use Rattle.std.specs.List.{filter}
 use Rattle.std.proofs.lemmas.Bool.{cases_eq, cases_lt}
@@ -10,8 +10,7 @@ use Rattle.frac_core.specs.Fraction.{Fits}
 use Rattle.problem_core.specs.declared.parts.Level.{Level}
 use Rattle.problem_core.specs.declared.parts.Level.TheVariants.{Priority, Stay as StayLevel}
 use Rattle.problem_core.specs.declared.parts.Mark.{Mark}
-use Rattle.problem_core.specs.declared.parts.Rel.TheVariants.{Eq}
-use Rattle.problem_core.specs.declared.parts.RowName.TheVariants.{Held, Stay as StayOf}
+use Rattle.problem_core.specs.declared.parts.RowName.TheVariants.{Stay as StayOf}
 use Rattle.problem_core.specs.Kept.{IsWhole}
 use Rattle.problem_core.specs.Layout.{Line, Problem, Row, line_of_row, lines, stay_lines}
 use Rattle.problem_core.specs.Levels.{HasNoLevelWriting, IsLevelAt}
@@ -36,11 +35,9 @@ use Rattle.path_levels.specs.Rows.{AreKeptOf, IsRowsStop, IsRowsSum, RowsStop, l
 use Rattle.path_levels.proofs.EmptyParts.{empty_fits, empty_part, none_joined, sum_fits}
 use Rattle.path_levels.proofs.PartLines.{facts_at}
 use Rattle.path_levels.proofs.Weighed.{level_lines, level_lines_more}
+use Rattle.path_checker.proofs.Places.{any_line}
 
 -- ---- how many lines the level has
-
-some-line : Line
-some-line = record { name = Held 0; level = 0; weight = 0; rel = Eq; scale = 1; num = pos 0; den = 1; form = [] }
 
 -- a line of another level changes nothing
 lines-other : (level n : ℕ) (ls : List Line) (d : Line) → n < length ls → (get_or ls n d).level ≢ level → level_lines level (suc n) ls ≡ level_lines level n ls
@@ -95,7 +92,7 @@ rows-within level (r ∷ rows) sl =
 
 -- ---- levels of the frame
 
-number-there : (levels : List LevelFacts) (k : ℕ) (d : LevelFacts) → k < length levels → number_at levels k ≡ (get_or levels k d).number
+pub number-there : (levels : List LevelFacts) (k : ℕ) (d : LevelFacts) → k < length levels → number_at levels k ≡ (get_or levels k d).number
 number-there levels k d within =
     get_or_default (map (λ (f : LevelFacts). f.number) levels) k 0 d.number (omega (arith, within, length-map levels (λ (f : LevelFacts). f.number)))
     ∙ get_or-map (λ (f : LevelFacts). f.number) levels k d
@@ -129,9 +126,9 @@ one-up k = omega arith
 any-facts : LevelFacts
 any-facts = record { level = Priority 0; number = 0 }
 
-line-number : (p : Problem) (frame : Frame) (k : ℕ) (f : LineFacts) → IsFrame p frame → k < line_count p → (number_at frame.levels.items (get_or frame.lines.items k f).level ≡ (get_or (lines p) k some-line).level) × ((get_or frame.lines.items k f).level < length frame.levels.items)
+line-number : (p : Problem) (frame : Frame) (k : ℕ) (f : LineFacts) → IsFrame p frame → k < line_count p → (number_at frame.levels.items (get_or frame.lines.items k f).level ≡ (get_or (lines p) k any_line).level) × ((get_or frame.lines.items k f).level < length frame.levels.items)
 line-number p frame k f is within =
-    let facts : IsFactsOf frame.levels.items (get_or (lines p) k some-line) (get_or frame.lines.items k f) = facts_at frame.levels.items (lines p) frame.lines.items k some-line f is.lines_are within in
+    let facts : IsFactsOf frame.levels.items (get_or (lines p) k any_line) (get_or frame.lines.items k f) = facts_at frame.levels.items (lines p) frame.lines.items k any_line f is.lines_are within in
     (facts.number, facts.level)
 
 -- ---- the loop
@@ -179,7 +176,7 @@ skip_other frame kept place most k first f sum there within other h = record {
       let j = h.rows p at held are in
       let inside : k < line_count p = omega (arith, within, are.count) in
       let line = line-number p frame k f are.frame_is inside in
-      let same : level_place p level (k + 1) ≡ level_place p level k = ap (level_place p level) (one-up k) ∙ lines-other level k (lines p) some-line inside (λ e. other (one-place p frame.levels.items (get_or frame.lines.items k f).level place any-facts are.frame_is.levels_are line.1 there (line.0 ∙ e))) in
+      let same : level_place p level (k + 1) ≡ level_place p level k = ap (level_place p level) (one-up k) ∙ lines-other level k (lines p) any_line inside (λ e. other (one-place p frame.levels.items (get_or frame.lines.items k f).level place any-facts are.frame_is.levels_are line.1 there (line.0 ∙ e))) in
       record {
         below = j.below;
         count = elim j.count [
@@ -229,12 +226,12 @@ next-line p at frame kept place most k first f sum there within less here held a
     let level : ℕ = number_at frame.levels.items place in
     let inside : k < line_count p = omega (arith, within, are.count) in
     let line = line-number p frame k f are.frame_is inside in
-    let same : (get_or (lines p) k some-line).level ≡ level = sym line.0 ∙ ap (number_at frame.levels.items) here in
+    let same : (get_or (lines p) k any_line).level ≡ level = sym line.0 ∙ ap (number_at frame.levels.items) here in
     let first_is : first ≡ level_place p level k = elim j.count [
       | inl e ↦ e
       | inr c ↦ absurd (omega (arith, c.0, less))
     ] in
-    let more : level_place p level (k + 1) ≡ level_place p level k + 1 = ap (level_place p level) (one-up k) ∙ level_lines_more level k (lines p) some-line inside same in
+    let more : level_place p level (k + 1) ≡ level_place p level k + 1 = ap (level_place p level) (one-up k) ∙ level_lines_more level k (lines p) any_line inside same in
     record {
       first_is = first_is;
       more = omega (arith, more, first_is);

@@ -1,13 +1,12 @@
 -- The row of a stay's level, as the stay is kept.
-use Rattle.std.proofs.Common.{◌≡◌, ◌≢◌, ◌⊎◌, ◌∙◌, ℕ, ◌*◌, Bool, true, false, cond, nat_eq, List, [], ◌∷◌, map, get_or, ℤ, pos, negsuc, ◌*ℤ◌, ◌-ℤ◌, ◌<ℤ◌, neg_ℤ, unsigned_abs, refl, sym, ap, subst, arith, inl, inr, All, None, Some, ne_eqb}
+use Rattle.std.proofs.Common.{◌≡◌, ◌≢◌, ◌⊎◌, ◌∙◌, ℕ, ◌*◌, Bool, true, false, cond, nat_eq, List, [], ◌∷◌, map, get_or, ℤ, pos, negsuc, ◌*ℤ◌, ◌-ℤ◌, neg_ℤ, unsigned_abs, refl, sym, ap, subst, arith, inl, inr, All, None, Some, ne_eqb}
 use Rattle.std.specs.declared.option.Option.{Option}
 use Rattle.std.specs.List.{AllByRecursion as Each}
 use Rattle.std.specs.Int.{◌∣◌}
 use Rattle.std.proofs.lemmas.Bool.{cases_eq}
 use Rattle.std.proofs.lemmas.List.Elements.{recursion_from_All}
-use Rattle.std.proofs.lemmas.Nat.Gcd.{dvd_refl, dvd-zero}
 use borrow.Author.Differences.{ints}
-use Rattle.frac_core.specs.Fraction.{Fits, Fraction, IsFitting, IsKept, IsLowest}
+use Rattle.frac_core.specs.Fraction.{Fits, Fraction, IsFitting, IsKept}
 use Rattle.problem_core.specs.Window.{zero_fraction}
 use Rattle.problem_core.specs.declared.parts.Level.TheVariants.{Stay as StayLevel}
 use Rattle.problem_core.specs.declared.parts.Mark.{Mark}
@@ -19,7 +18,7 @@ use Rattle.problem_core.specs.declared.parts.Side.TheVariants.{Under, Over}
 use Rattle.problem_core.specs.Layout.{Line, Problem, lines}
 use Rattle.problem_core.specs.Corners.{IsIn, place_of}
 use Rattle.problem_core.specs.Levels.{HasNoLevelWriting, IsLevelAt}
-use Rattle.corner_laws.specs.Units.{IsStayLevel, over_share}
+use Rattle.corner_laws.specs.Units.{IsStayLevel}
 use Rattle.corner_laws.proofs.Unique.{same-name}
 use Rattle.corner_lines.specs.LineEquations.{IsOutsideLine, deviation}
 use Rattle.corner_lines.specs.LevelCosts.{HasDeviation}
@@ -30,7 +29,7 @@ use Rattle.corner_lines.proofs.LevelFits.{fitting_row_has_writing}
 use Rattle.corner_lines.proofs.LevelSound.{whole_is_sound}
 use Rattle.corner_lines.proofs.LinePivots.{equation_is_pivot}
 use Rattle.corner_lines.proofs.LineWritings.{line_value}
-use Rattle.corner_lines.proofs.StayFits.{inside_stay_costs, inside_stay_is_unfit, no-cost, outside_stay_costs_one}
+use Rattle.corner_lines.proofs.StayFits.{inside_stay_costs, inside_stay_is_unfit, no-cost, outside_stay_costs_one, turned-lowest, over-as}
 use Rattle.corner_lines.proofs.StayRows.{inside_stay_has_row, outside_stay_has_row, stay-number, stay_stands_alone, turned-size}
 use Rattle.path_checker.specs.declared.table.Inside.{Inside}
 use Rattle.path_checker.specs.Tables.{IsLineAt, IsThere, line_count, numbers_of}
@@ -38,25 +37,17 @@ use Rattle.path_levels.specs.declared.sums.LevelSum.{LevelSum}
 use Rattle.path_levels.specs.Levels.{IsLevelSum, IsSizedLevel}
 use Rattle.path_levels.specs.Parts.{IsEmptySum}
 use Rattle.path_levels.specs.StaySums.{IsStayRow, IsUnfitStay}
-use Rattle.path_levels.proofs.TurnedValues.{turned_fits, turned_fitting, turned_lowest}
-
-at-side : (side : Side) (marks : List Mark) (name : RowName) → IsOutsideLine marks name → IsIn (place_of name side) marks → ⊥
-at-side Under marks name out i = out.under i
-at-side Over marks name out i = out.over i
+use Rattle.path_levels.proofs.TurnedValues.{turned_fits, turned_fitting}
+use Rattle.corner_lines.proofs.LevelExchanges.{at-side}
+use Rattle.path_levels.proofs.FittingRows.{named-fits}
+use Rattle.path_levels.proofs.EmptyParts.{zero-lowest}
+use Rattle.corner_lines.proofs.OtherNumbers.{divides-zero}
+use Rattle.corner_lines.proofs.Units.{positive_is}
 
 -- ---- numbers of the list
 
-cond-fits : (b : Bool) (x y : ℤ) → IsFitting x → IsFitting y → IsFitting (cond b x y)
-cond-fits true x y h k = h
-cond-fits false x y h k = k
-
 zero-fits : IsFitting (pos 0)
 zero-fits = omega arith
-
-named-fits : (ls : List Line) (zs : List ℤ) (name : RowName) → Each IsFitting zs → IsFitting (numbers_of ls zs name)
-named-fits [] zs name h = zero-fits
-named-fits (l ∷ ls) [] name h = zero-fits
-named-fits (l ∷ ls) (z ∷ zs) name h = cond-fits (nat_eq (place_of l.name Under) (place_of name Under)) z (numbers_of ls zs name) h.0 (named-fits ls zs name h.1)
 
 cond-zero : (b : Bool) (x y : ℤ) → x ≡ pos 0 → y ≡ pos 0 → cond b x y ≡ pos 0
 cond-zero true x y h k = h
@@ -103,9 +94,6 @@ as-sum p at level own cost sum unit same costs row =
 
 -- ---- a stay outside
 
-zero-lowest : IsLowest zero_fraction
-zero-lowest = record { above = omega arith; coprime = (dvd-zero 1, dvd_refl 1, λ d a b. b) }
-
 outside-row : (p : Problem) (at : List Mark) (level attr : ℕ) (number : RowName → ℤ) → IsThere p at → IsLevelAt p (StayLevel attr) level → IsOutsideLine at (StayOf attr) → ((name : RowName) → number name ≡ pos 0) → IsRowThere p at level 1 1 number zero_fraction
 outside-row p at level attr number there is out zeros =
     let alone : IsStayLevel p level attr = stay_stands_alone p attr level there.whole is in
@@ -145,16 +133,6 @@ other-number name own by l ne = ap (λ (b : Bool). cond b (neg_ℤ (pos own)) (b
 not-here : (at : List Mark) (name l : RowName) (side : Side) → IsIn (place_of name side) at → IsOutsideLine at l → l ≢ name
 not-here at name l side i out = λ e. at-side side at l out (subst (λ (n : RowName). IsIn (place_of n side) at) (sym e) i)
 
-divides-zero : (q : ℕ) (z : ℤ) → (z ≢ pos 0 → q ∣ unsigned_abs z) → q ∣ unsigned_abs z
-divides-zero q z h = elim (cases_eq (unsigned_abs z) 0) [
-  | inl e ↦ subst (λ (n : ℕ). q ∣ n) (sym e) (dvd-zero q)
-  | inr ne ↦ h (λ e. ne (ap (λ (y : ℤ). unsigned_abs y) e))
-]
-
-positive-is : (z : ℤ) → pos 0 <ℤ z → z ≡ pos (unsigned_abs z)
-positive-is (pos n) h = refl
-positive-is (negsuc n) h = absurd h.lt
-
 inside-stay : (p : Problem) (at : List Mark) (level attr : ℕ) (inside : Inside) → IsThere p at → IsLevelAt p (StayLevel attr) level → IsLineAt p at (StayOf attr) (Some inside)
     → IsInsideStay p at level attr inside.side (unsigned_abs inside.sum.own) (line_numbers (StayOf attr) (unsigned_abs inside.sum.own) (numbers_of (lines p) inside.sum.by.items))
 inside-stay p at level attr inside there is line =
@@ -176,10 +154,6 @@ inside-stay p at level attr inside there is line =
 
 stay-deviation : (p : Problem) (at : List Mark) (attr : ℕ) (inside : Inside) → IsThere p at → IsLineAt p at (StayOf attr) (Some inside) → HasDeviation p at (StayOf attr) inside.sum.value
 stay-deviation p at attr inside there line = line_value p at (deviation (StayOf attr)) (unsigned_abs inside.sum.own) (numbers_of (lines p) inside.sum.by.items) inside.sum.value.num inside.sum.value.den there.whole there.corner line.1.equation
-
--- the reduced cost of one mark where the other, or the same, is inside
-over-as : (level unit own : ℕ) (y : ℤ) (l : Line) → reduced_number Over level unit own y l ≡ y -ℤ inside_number Over level unit own l
-over-as level unit own y l = let a : ℤ = pos (own * over_share unit level l) in omega (arith, ints)
 
 both-cost : (level attr own : ℕ) (l : Line) (side inside : Side) → (l.level ≡ level → (l.name ≡ StayOf attr) × (l.rel ≡ Eq) × (l.scale ≡ 1) × (l.weight ≡ 1)) → l.level ≡ level → IsFitting (pos (2 * own)) → IsFitting (reduced_number side level 1 own (inside_number inside level 1 own l) l)
 both-cost level attr own l Under Under h e two =
@@ -227,7 +201,7 @@ inside-row p at level attr inside number there is line two kept same =
               ∙ sym (same (get_or (lines p) i d).name);
         };
         cost_is = inside_stay_costs p at level attr inside.side (unsigned_abs inside.sum.own) (line_numbers (StayOf attr) (unsigned_abs inside.sum.own) (numbers_of (lines p) inside.sum.by.items)) inside.sum.value stay (stay-deviation p at attr inside there line);
-        lowest = turned_lowest inside.side inside.sum.value kept.lowest;
+        lowest = turned-lowest inside.side inside.sum.value kept.lowest;
       };
       fitting = record {
         scale_fits = once-fits (unsigned_abs inside.sum.own) two;
@@ -251,7 +225,7 @@ in-or-zero side out z y same h = elim (cases_eq (unsigned_abs z) 0) [
 
 inside-sum : (p : Problem) (at : List Mark) (level attr : ℕ) (inside : Inside) (sum : LevelSum) → IsThere p at → IsLevelAt p (StayLevel attr) level → IsLineAt p at (StayOf attr) (Some inside) → IsStayRow (line_count p) (Some inside) sum → IsFittingSum p at level sum
 inside-sum p at level attr inside sum there is line row =
-    let own : inside.sum.own ≡ pos (unsigned_abs inside.sum.own) = positive-is inside.sum.own line.1.sized.above in
+    let own : inside.sum.own ≡ pos (unsigned_abs inside.sum.own) = positive_is inside.sum.own line.1.sized.above in
     let same : (name : RowName) → numbers_of (lines p) sum.by.items name ≡ turned inside.side (numbers_of (lines p) inside.sum.by.items name) =
     λ name. ap (λ (zs : List ℤ). numbers_of (lines p) zs name) row.0.by ∙ named-turned inside.side (lines p) inside.sum.by.items name in
     let two : IsFitting (pos (2 * unsigned_abs inside.sum.own)) = double (unsigned_abs inside.sum.own) inside.sum.own own row.1 in
@@ -284,4 +258,4 @@ pub stay_unfit : (p : Problem) (at : List Mark) (level attr : ℕ) (line : Optio
 stay_unfit p at level attr None there is line unfit = absurd unfit
 stay_unfit p at level attr (Some inside) there is line unfit =
     inside_stay_is_unfit p at level attr inside.side (unsigned_abs inside.sum.own) (line_numbers (StayOf attr) (unsigned_abs inside.sum.own) (numbers_of (lines p) inside.sum.by.items)) inside.sum.value (inside-stay p at level attr inside there is line) there.rays (stay-deviation p at attr inside there line) unfit.1.lowest
-    (λ two. unfit.0 (halved (unsigned_abs inside.sum.own) inside.sum.own (positive-is inside.sum.own line.1.sized.above) two))
+    (λ two. unfit.0 (halved (unsigned_abs inside.sum.own) inside.sum.own (positive_is inside.sum.own line.1.sized.above) two))

@@ -1,6 +1,5 @@
 -- A value with the other sign.
 use Rattle.std.proofs.Common.{◌≡◌, ℕ, ◌<◌, List, [], ◌∷◌, map, ℤ, pos, refl, sym, subst, All, Result, Ok, Err, IfOk, OnErr}
-use Rattle.std.specs.Int.{IsGcd}
 use Rattle.std.specs.List.{AllByRecursion as Each}
 use Rattle.std.proofs.lemmas.List.Elements.{All-from_recursion, recursion_from_All}
 use Rattle.frac_core.specs.Fraction.{Fraction, Fits, IsFitting, IsKept, IsLowest, IsRatio, IsUnfitRatio}
@@ -9,9 +8,7 @@ use Rattle.frac_core.proofs.OneFraction.{same_fraction}
 use Rattle.problem_core.specs.declared.parts.Side.{Side}
 use Rattle.corner_lines.specs.StayLevels.{turned}
 use Rattle.corner_lines.proofs.StayRows.{turned-size}
-
-pub turned_lowest : (side : Side) (value : Fraction) → IsLowest value → IsLowest (record { num = turned side value.num; den = value.den })
-turned_lowest side value low = record { above = low.above; coprime = subst (λ (n : ℕ). IsGcd n value.den 1) (sym (turned-size side value.num)) low.coprime }
+use Rattle.corner_lines.proofs.StayFits.{turned-lowest}
 
 pub turned_fits : (side : Side) (value : Fraction) → Fits value → Fits (record { num = turned side value.num; den = value.den })
 turned_fits side value fits = record { num_fits = subst (λ (n : ℕ). n < PART_BOUND) (sym (turned-size side value.num)) fits.num_fits; den_fits = fits.den_fits }
@@ -20,7 +17,7 @@ pub turned_fitting : (side : Side) (z : ℤ) → IsFitting z → IsFitting (turn
 turned_fitting side z fits = subst (λ (n : ℕ). n < PART_BOUND) (sym (turned-size side z)) fits
 
 made : (side : Side) (value f : Fraction) → IsKept value → IsLowest f → IsRatio f (turned side value.num) (pos value.den) → f ≡ record { num = turned side value.num; den = value.den }
-made side value f kept low ratio = same_fraction f (record { num = turned side value.num; den = value.den }) low (turned_lowest side value kept.lowest) ratio
+made side value f kept low ratio = same_fraction f (record { num = turned side value.num; den = value.den }) low (turned-lowest side value kept.lowest) ratio
 
 pub made_ok : {E : Type 0} (side : Side) (value : Fraction) (r : Result Fraction E) → IsKept value → IfOk r IsLowest → IfOk r (λ f. IsRatio f (turned side value.num) (pos value.den))
     → IfOk r (λ f. f ≡ record { num = turned side value.num; den = value.den })
@@ -29,7 +26,7 @@ made_ok side value (Err e) kept low ratio = low
 
 pub none_unfit : {E : Type 0} (side : Side) (value : Fraction) (r : Result Fraction E) → IsKept value → OnErr r (IsUnfitRatio (turned side value.num) (pos value.den)) → OnErr r ⊥
 none_unfit side value (Ok f) kept unfit = unfit
-none_unfit side value (Err e) kept unfit = unfit (record { num = turned side value.num; den = value.den }) (turned_lowest side value kept.lowest) refl (turned_fits side value kept.fits)
+none_unfit side value (Err e) kept unfit = unfit (record { num = turned side value.num; den = value.den }) (turned-lowest side value kept.lowest) refl (turned_fits side value kept.fits)
 
 each-turned : (side : Side) (zs : List ℤ) → Each IsFitting zs → Each IsFitting (map (turned side) zs)
 each-turned side [] h = tt

@@ -1,5 +1,5 @@
 -- A line more of a level, by what is kept of it.
-use Rattle.std.proofs.Common.{◌≡◌, ◌≢◌, ◌⊎◌, ◌∙◌, ℕ, zero, suc, ◌+◌, ◌*◌, ◌<◌, ◌≤◌, ◌^◌, cond, nat_eq, List, [], ◌∷◌, map, length, get_or, ℤ, pos, negsuc, ◌*ℤ◌, ◌<ℤ◌, neg_ℤ, unsigned_abs, refl, sym, ap, ap₂, subst, arith, inl, inr, All, Some, None}
+use Rattle.std.proofs.Common.{◌≡◌, ◌≢◌, ◌⊎◌, ◌∙◌, ℕ, zero, suc, ◌+◌, ◌*◌, ◌<◌, ◌≤◌, ◌^◌, cond, nat_eq, List, [], ◌∷◌, map, length, get_or, ℤ, pos, negsuc, ◌*ℤ◌, ◌<ℤ◌, neg_ℤ, unsigned_abs, refl, sym, ap, ap₂, subst, arith, inl, inr, All, Some, None, mul-pos}
 use Rattle.std.specs.declared.option.Option.{Option}
 use Rattle.std.proofs.lemmas.Bool.{cases_eq, cases_lt}
 use Rattle.std.proofs.lemmas.List.{get_or_default, length-map}
@@ -7,7 +7,6 @@ use Rattle.std.proofs.Math.ListN.{get_or-map}
 use borrow.Author.Differences.{ints}
 use Rattle.frac_core.specs.Fraction.{Fraction, IsFitting}
 use Rattle.problem_core.specs.declared.parts.Mark.{Mark}
-use Rattle.problem_core.specs.declared.parts.Level.TheVariants.{Priority}
 use Rattle.problem_core.specs.declared.parts.RowName.{RowName}
 use Rattle.problem_core.specs.declared.parts.Side.TheVariants.{Under, Over}
 use Rattle.problem_core.specs.Layout.{Line, Problem, coefficient, lines, stay_lines}
@@ -39,10 +38,12 @@ use Rattle.path_levels.proofs.Drafts.{draft_there, no_draft}
 use Rattle.path_levels.proofs.FittingRows.{AreLevelLines, IsSeen, lines_fit, row_fits}
 use Rattle.path_levels.proofs.LineJoins.{IsCostOf, IsInsideLine, IsJoiningLine, IsLineJoin}
 use Rattle.path_levels.proofs.LineLists.{HasZeros}
-use Rattle.path_levels.proofs.JoinShares.{product_above, risen_small, unit_bound}
+use Rattle.path_levels.proofs.JoinShares.{risen_small, unit_bound}
 use Rattle.path_levels.proofs.PartJoins.{part_deviation, part_names, part_pivot}
 use Rattle.path_levels.proofs.PartLines.{cost_of_facts, facts_at, part_apart, part_before, part_lines}
 use Rattle.path_levels.proofs.Weighed.{weighed_first, weighed_later, weighed_length, weighed_level, weighed_name}
+use Rattle.path_levels.proofs.MultipleFacts.{any_level}
+use Rattle.corner_lines.proofs.Units.{positive_is}
 
 -- ---- the lines of a part by their places
 
@@ -123,9 +124,6 @@ seen_line p at name None there is = is
 seen_line p at name (Some inside) there is = (is.0, λ other i. one_side p at name other inside.side there i is.0)
 
 -- ---- places of levels
-
-any_level : LevelFacts
-any_level = record { level = Priority 0; number = 0 }
 
 number_there : (levels : List LevelFacts) (k : ℕ) → k < length levels → number_at levels k ≡ (get_or levels k any_level).number
 number_there levels k within =
@@ -229,15 +227,11 @@ line_join p at frame place k kept old f d within here is before =
 
 -- ---- what becomes of its row
 
-above_is : (z : ℤ) → pos 0 <ℤ z → z ≡ pos (unsigned_abs z)
-above_is (pos n) h = refl
-above_is (negsuc n) h = absurd h.lt
-
 some_above : (z : ℤ) → pos 0 <ℤ z → 0 < unsigned_abs z
 some_above z h = omega (arith, ints, h)
 
 product_some : (a b : ℕ) → 0 < a → 0 < b → pos 0 <ℤ pos (a * b)
-product_some a b h k = product_above (pos a) (pos b) (omega (arith, ints, h)) (omega (arith, ints, k))
+product_some a b h k = let m : 0 < a * b = mul-pos h k in omega (arith, ints, m)
 
 -- the row is as the draft
 pub record IsDrafted (draft : Draft) (next : LevelSum) : Type 0 where
@@ -257,7 +251,7 @@ unit_some : (old : LevelSum) (f : LineFacts) (kept : Option Inside) (draft : Dra
 unit_some old f kept draft h is = subst (λ (z : ℤ). pos 0 <ℤ z) (sym is.unit_is) (product_some is.times (unsigned_abs old.unit) is.rise.above (some_above old.unit h))
 
 scale_is : (draft : Draft) → pos 0 <ℤ draft.own → pos 0 <ℤ draft.unit → draft.own *ℤ draft.unit ≡ pos (unsigned_abs draft.own * unsigned_abs draft.unit)
-scale_is draft h k = ap₂ ◌*ℤ◌ (above_is draft.own h) (above_is draft.unit k)
+scale_is draft h k = ap₂ ◌*ℤ◌ (positive_is draft.own h) (positive_is draft.unit k)
 
 row_drafted : (p : Problem) (at : List Mark) (frame : Frame) (place k : ℕ) (kept : List (Option Inside)) (old : LevelSum) (draft : Draft) (next : LevelSum) (f : LineFacts) (d : Option Inside) → k < line_count p → (get_or frame.lines.items k f).level ≡ place
     → IsPartKept p at frame place (k + 1) kept → IsPartSum p at frame place k old → IsDraft old (get_or frame.lines.items k f) (get_or kept k d) draft → IsFittingTo frame kept place (k + 1) draft → IsDrafted draft next

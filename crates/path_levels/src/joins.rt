@@ -17,6 +17,7 @@ ghost use Rattle.path_levels.specs.Frames.{IsSizedFrame};
 ghost use Rattle.problem_core.specs.declared.limits.TheConstants.{COEFFICIENT_LIMIT, WEIGHT_LIMIT};
 ghost use Rattle.problem_core.specs.declared.parts.Side.TheVariants.{Under, Over};
 
+use crate::carried;
 use crate::frame::{Frame, LineFacts};
 use crate::sums::LevelSum;
 use frac_core::{Frac, PART_BOUND, Stop, Unfit, gcd};
@@ -156,12 +157,11 @@ fn with_sum(
         (unsigned_abs old.now.own)) inside.now.sum.by.items w.by.items) }
     ensures memory { IfErr result (λ stop. stop ≡ OutOfMemory) }
 {
-    let size = i128::from(inside.sum.own);
-    let unit = product(i128::from(times), i128::from(old.unit));
+    let unit = carried::product(times, old.unit);
     let number = counted(inside.side, line, unit, old.own);
-    let factor = product(size, i128::from(times));
+    let factor = carried::product(inside.sum.own, times);
     Ok(Wide {
-        own: product(size, i128::from(old.own)),
+        own: carried::product(inside.sum.own, old.own),
         by: combined(alloc, factor, &old.by, number, &inside.sum.by)?,
     })
 }
@@ -234,7 +234,7 @@ fn with_numbers(unit: i64, times: i64, numbers: Lowest, cost: Frac) -> Draft
     ensures cost { result.cost ≡ cost }
 {
     Draft {
-        unit: product(i128::from(times), i128::from(unit)),
+        unit: carried::product(times, unit),
         own: numbers.own,
         by: numbers.by,
         cost,

@@ -1,9 +1,11 @@
 // A value that moves by a multiple of another one.
-ghost use Rattle.std.specs.Prelude.{◌≡◌, ◌<◌, ◌^◌, ◌*ℤ◌, ◌<ℤ◌, pos, unsigned_abs, IfOk, OnErr};
+ghost use Rattle.std.specs.Prelude.{◌≡◌, ◌<◌, ◌≤◌, ◌^◌, ◌+ℤ◌, ◌*ℤ◌, ◌<ℤ◌, pos, unsigned_abs, IfOk, OnErr};
+ghost use Rattle.frac_core.specs.declared.frac.TheConstants.{PART_BOUND};
 ghost use Rattle.std.specs.Int.{◌∣◌, IsGcd};
 ghost use Rattle.frac_core.specs.Fraction.{IsKept, IsRatio, IsUnfitRatio, sum_den, sum_num};
 ghost use Rattle.path_checker.specs.Numbers.{IsFactor};
 ghost use Rattle.path_levels.specs.Moved.{IsLowestPart, joint_den, joint_num};
+ghost use Rattle.path_levels.specs.declared.moved.TheConstants.{NUM_ROOM};
 
 use frac_core::{Frac, PART_BOUND, Unfit, gcd};
 use path_checker::Ratio;
@@ -51,6 +53,39 @@ fn lowest_part(num: i128, den: i128) -> Portion
     }
 }
 
+// The product with a fitting number.
+fn product(k: i128, by: i64) -> i128
+    requires { unsigned_abs (k *ℤ by) < 2 ^ 126 }
+    ensures { result ≡ k *ℤ by }
+{
+    k * i128::from(by)
+}
+
+// What is left of the base's denominator and of another one without what they have in common.
+fn rests_of(base: Frac, den: i128) -> Portion
+    requires { pos 0 <ℤ den }
+    ensures { IsLowestPart (pos base.den) den result.num result.den }
+{
+    lowest_part(i128::from(base.den()), den)
+}
+
+// The sum of two fractions by what is left of their denominators, and by the second one's numerator.
+fn summed(base: Frac, num: i128, rests: Portion) -> Result<Frac, Unfit>
+    requires above { pos 0 <ℤ rests.den }
+    requires den { unsigned_abs rests.den < PART_BOUND }
+    requires share { unsigned_abs rests.num < PART_BOUND }
+    requires num { unsigned_abs num ≤ NUM_ROOM }
+    ensures value { IfOk result (λ f. IsRatio f (rests.den *ℤ base.num +ℤ num *ℤ rests.num)
+        (rests.den *ℤ pos base.den)) }
+    ensures kept { IfOk result IsKept }
+    ensures unfit { OnErr result (IsUnfitRatio (rests.den *ℤ base.num +ℤ num *ℤ rests.num)
+        (rests.den *ℤ pos base.den)) }
+{
+    let whole = product(rests.den, base.den());
+    let left = product(rests.den, base.num());
+    Frac::of(left + num * rests.num, whole)
+}
+
 // The sum of a fraction and of one in lowest terms, unless it does not fit.
 fn joined(base: Frac, part: Portion) -> Result<Frac, Unfit>
     requires den { pos 0 <ℤ part.den }
@@ -60,25 +95,14 @@ fn joined(base: Frac, part: Portion) -> Result<Frac, Unfit>
     ensures kept { IfOk result IsKept }
     ensures unfit { OnErr result (IsUnfitRatio (joint_num base part.num part.den) (joint_den base part.den)) }
 {
-    let den = i128::from(base.den());
-    let divisor = common(part.den, den);
-    let rest = quotient(part.den, divisor);
-    let share = quotient(den, divisor);
-    if rest.unsigned_abs() >= PART_BOUND {
+    let rests = rests_of(base, part.den);
+    if rests.den.unsigned_abs() >= PART_BOUND {
         return Err(Unfit);
     }
     if part.num.unsigned_abs() > NUM_ROOM {
         return Err(Unfit);
     }
-    Frac::of(i128::from(base.num()) * rest + part.num * share, rest * den)
-}
-
-// The product with a fitting number.
-fn product(k: i128, by: i64) -> i128
-    requires { unsigned_abs (k *ℤ by) < 2 ^ 126 }
-    ensures { result ≡ k *ℤ by }
-{
-    k * i128::from(by)
+    summed(base, part.num, rests)
 }
 
 /// `base + ratio * value`, unless it does not fit.

@@ -1,13 +1,14 @@
 // The rows of levels after an exchange.
 ghost use Rattle.std.specs.Prelude.{◌≡◌, ◌<◌, ◌^◌, ◌*ℤ◌, ◌↔◌};
 ghost use Rattle.std.specs.Prelude.{length, List, IfOk, IfErr, IfSome, IfNone, IsTrue};
-ghost use Rattle.std.specs.Prelude.{unsigned_abs};
+ghost use Rattle.std.specs.Prelude.{◌<ℤ◌, pos, unsigned_abs};
 ghost use Rattle.frac_core.specs.Stops.{IsRefused};
 ghost use Rattle.frac_core.specs.Fraction.{IsFitting};
 ghost use Rattle.problem_core.specs.Layout.{Problem};
 ghost use Rattle.problem_core.specs.Levels.{HasNoLevelWriting};
 ghost use Rattle.problem_core.specs.Corners.{IsExchange, exchanged};
 ghost use Rattle.problem_core.specs.declared.parts.Mark.{Mark};
+ghost use Rattle.path_checker.specs.Numbers.{IsFactor};
 ghost use Rattle.path_checker.specs.Sides.{IsWithin};
 ghost use Rattle.path_checker.specs.Tables.{AreSized, swap_of};
 ghost use Rattle.path_levels.specs.Frames.{IsSizedFrame, number_at};
@@ -139,6 +140,23 @@ fn fitting(number: i64) -> Option<i64>
     Some(number)
 }
 
+// By how much of the pivot's value the level's cost moves, where the entering line has this number.
+fn ratio_of(n: i64, pivot: &Pivot, sum: &LevelSum) -> Ratio
+    requires n { IsFitting n }
+    requires pivot { IsSizedPivot (length sum.now.by.items) pivot.now }
+    requires sum { IsSizedLevel (length sum.now.by.items) sum.now }
+    ensures times { result.times ≡ n *ℤ pivot.now.times }
+    ensures over { result.over ≡ (sum.now.own *ℤ sum.now.unit) *ℤ pivot.now.size }
+    ensures times_fit { IsFactor result.times }
+    ensures over_fit { IsFactor result.over }
+    ensures above { pos 0 <ℤ result.over }
+{
+    Ratio {
+        times: product(n, pivot.times),
+        over: product(sum.own * sum.unit, pivot.size),
+    }
+}
+
 // The level's cost after the exchange, of which the entering line has these facts.
 fn cost_after(
     line: &LineFacts,
@@ -157,11 +175,7 @@ fn cost_after(
     let Some(n) = fitting(entering_number(line, pivot, place, sum)) else {
         return Err(Stop::Refused(Unfit));
     };
-    let ratio = Ratio {
-        times: product(n, pivot.times),
-        over: product(sum.own * sum.unit, pivot.size),
-    };
-    match moved_value(sum.cost, ratio, pivot.value) {
+    match moved_value(sum.cost, ratio_of(n, pivot, sum), pivot.value) {
         Ok(cost) => Ok(cost),
         Err(_) => Err(Stop::Refused(Unfit)),
     }

@@ -1,11 +1,12 @@
 // How marks and attributes stand after an exchange.
-ghost use Rattle.std.specs.Prelude.{◌≡◌, ◌≢◌, ◌↔◌, ◌<◌, true, false, length, List, All, IfOk, IfErr};
+ghost use Rattle.std.specs.Prelude.{◌≡◌, ◌≢◌, ◌↔◌, ◌<◌, true, false, length, get_or, List, All, IfOk, IfErr};
 ghost use Rattle.std.specs.Prelude.{IfSome, IfNone, IsTrue};
 ghost use Rattle.std.specs.List.{HoldsAt};
 ghost use Rattle.problem_core.specs.Layout.{Problem};
-ghost use Rattle.problem_core.specs.Corners.{IsExchange, IsIn, exchanged, place_of};
-ghost use Rattle.problem_core.specs.Unfit.{IsUnfitWhat};
+ghost use Rattle.problem_core.specs.Corners.{IsExchange, IsIn, attr_column, exchanged, place_of};
+ghost use Rattle.problem_core.specs.Unfit.{HasNoWriting, IsUnfitWhat};
 ghost use Rattle.problem_core.specs.declared.parts.Mark.{Mark};
+ghost use Rattle.problem_core.specs.declared.parts.Stay.{Stay};
 ghost use Rattle.problem_core.specs.declared.stops.What.TheVariants.{Attr, Mark as MarkOf};
 ghost use Rattle.problem_core.specs.declared.stops.Quantity.TheVariants.{Plain};
 ghost use Rattle.path_checker.specs.Pivots.{HasUnfit, next_marks};
@@ -15,8 +16,7 @@ ghost use Rattle.path_checker.specs.Tables.{name_at, swap_of};
 ghost use Rattle.frac_core.specs.Stops.{IsRefused};
 ghost use Rattle.path_claims.specs.Fits.{AllAttrsFit, IsFitAt};
 ghost use Rattle.path_claims.specs.Attrs.{IsAttrAfter, IsAttrBefore, IsFittingStay, IsSizedMade};
-ghost use Rattle.path_claims.specs.Attrs.{IsUnfitBefore};
-ghost use Rattle.path_claims.specs.Attrs.{IsUnfitStay};
+ghost use Rattle.path_claims.specs.Attrs.{IsStayAt, IsUnfitBefore, IsUnfitStay};
 ghost use Rattle.path_levels.specs.Turns.{IsSizedPivot, IsTurnPivot};
 
 use crate::last::Fit;
@@ -103,6 +103,27 @@ fn attr_before(
     }
 }
 
+// The target of an attribute's stay, and the place of its line.
+#[derive(Clone, Copy, Debug)]
+struct StayPlace {
+    target: Frac,
+    at: usize,
+}
+
+// Where the attribute's stay stands, unless it has none.
+fn stay_place(p: &Problem, attr: u32) -> Option<StayPlace>
+    ensures some { IfSome result (λ s. IsStayAt p.now attr s.at s.target) }
+    ensures none { IfNone result (All (λ s. s.attr ≢ attr) p.now.stays) }
+{
+    p.show_whole(); // for the proof: what a problem keeps
+    let Some(i) = stay_of(p.stays(), attr) else {
+        return None;
+    };
+    let target = p.stays()[i].target;
+    let at = p.rows().len() + i;
+    Some(StayPlace { target, at })
+}
+
 /// The sum of an attribute after the exchange, unless it has no stay.
 pub(crate) fn attr_after(
     alloc: Global,
@@ -122,13 +143,10 @@ pub(crate) fn attr_after(
         → AreLines p.now marks lines.now → AllAttrsFit p.now marks
         → IsUnfitWhat p.now (next_marks p.now pivot.now marks) (Attr attr)) }
 {
-    p.show_whole(); // for the proof: what a problem keeps
-    let Some(i) = stay_of(p.stays(), attr) else {
+    let Some(stay) = stay_place(p, attr) else {
         return Ok(None);
     };
-    let target = p.stays()[i].target;
-    let at = p.rows().len() + i;
-    let before = attr_before(alloc, target, &lines[at], lines.len(), at)?;
+    let before = attr_before(alloc, stay.target, &lines[stay.at], lines.len(), stay.at)?;
     let sum = next_sum(alloc, pivot, &before)?;
     Ok(Some(sum))
 }
@@ -170,6 +188,22 @@ fn stay_fits(target: Frac, line: &Option<Inside>) -> bool
     true
 }
 
+// Whether the attribute of the stay at a place fits at the corner.
+fn stay_fits_at(p: &Problem, lines: &[Option<Inside>], i: usize) -> bool
+    requires within { i < length p.now.stays }
+    requires count { length lines.now ≡ line_count p.now }
+    ensures fits { result ≡ true → (s : Stay) (at : List Mark) → IsThere p.now at
+        → AreLines p.now at lines.now
+        → HasNoWriting p.now at (λ x. x (attr_column (get_or p.now.stays i s).attr)) → ⊥ }
+    ensures unfit { result ≡ false → (at : List Mark) → IsThere p.now at → AreLines p.now at lines.now
+        → HasUnfit p.now at }
+{
+    p.show_whole(); // for the proof: what a problem keeps
+    let target = p.stays()[i].target;
+    let at = p.rows().len() + i;
+    stay_fits(target, &lines[at])
+}
+
 /// Whether all attributes fit at a corner.
 pub fn attrs_fit(p: &Problem, lines: &[Option<Inside>]) -> bool
     requires { length lines.now ≡ line_count p.now }
@@ -178,12 +212,8 @@ pub fn attrs_fit(p: &Problem, lines: &[Option<Inside>]) -> bool
     ensures unfit { result ≡ false → (at : List Mark) → IsThere p.now at → AreLines p.now at lines.now
         → HasUnfit p.now at }
 {
-    p.show_whole(); // for the proof: what a problem keeps
-    let rows = p.rows().len();
-    let stays = p.stays();
-    for (i, stay) in stays.iter().enumerate() {
-        let at = rows + i;
-        if !stay_fits(stay.target, &lines[at]) {
+    for i in 0..p.stays().len() {
+        if !stay_fits_at(p, lines, i) {
             return false;
         }
     }

@@ -12,13 +12,12 @@ product-own-requires-clause-other c =
     let fits : IsFitting c.args.sum.now.own = own_small c.args.sum.now.own c.args.sum.now.unit c.requires.sum.unit_above c.requires.sum.scale in
     rw (to_z-of_z w64 c.args.sum.now.own own) (omega (arith, fits))
 
-pub returns-clause-sized : goal.returns-clause-sized
-returns-clause-sized c =
-    let leaving : SFits w128 c.args.leaving = c.ranges.leaving in
+-- the numbers and the own one that are put together
+made : (c : goal.After-product-own) → IsCombined c.args.factors.row c.args.sum.now.by.items c.args.factors.pivot c.args.pivot.now.by.items c.in_ok-by.by.items × (c.product-own.result ≡ c.args.factors.row *ℤ c.args.sum.now.own)
+made c =
     let row : SFits w64 c.args.factors.row = search rules in
     let factor : SFits w64 c.args.factors.pivot = search rules in
     let own : SFits w64 c.args.sum.now.own = search rules in
-    let product : SFits w128 c.product-own.result = record { sfits = c.product-own.type_inv } in
     let row_is : c.from-row.result ≡ c.args.factors.row = simp to_z-of_z at c.from-row.ensures in
     let factor_is : c.from-factor.result ≡ c.args.factors.pivot = simp to_z-of_z at c.from-factor.ensures in
     let row_fits : SFits w128 c.from-row.result = record { sfits = c.from-row.type_inv } in
@@ -26,26 +25,18 @@ returns-clause-sized c =
     let left : c.deref.result.now ≡ c.args.sum.now.by.items = search rules in
     let right : c.deref-2.result.now ≡ c.args.pivot.now.by.items = search rules in
     let raw : IsCombined c.from-row.result c.deref.result.now c.from-factor.result c.deref-2.result.now c.in_ok-by.by.items = simp to_z-of_z at c.in_ok-by.ensures.value in
-    let is : IsCombined c.args.factors.row c.args.sum.now.by.items c.args.factors.pivot c.args.pivot.now.by.items c.in_ok-by.by.items = rw (row_is, factor_is, left, right) at raw in
-    let own_is : c.product-own.result ≡ c.args.factors.row *ℤ c.args.sum.now.own = simp to_z-of_z at c.product-own.ensures.value in
-    wide_sized c.args.pivot.now c.args.sum.now c.args.factors c.args.leaving c.product-own.result c.in_ok-by.by.items _ c.requires.pivot c.requires.sum c.requires.above c.requires.row c.requires.factor c.requires.leaving is
-    (to_z-of_z w128 c.product-own.result product ∙ own_is) (simp to_z-of_z refl)
+    (rw (row_is, factor_is, left, right) at raw, simp to_z-of_z at c.product-own.ensures.value)
+
+pub returns-clause-sized : goal.returns-clause-sized
+returns-clause-sized c =
+    let leaving : SFits w128 c.args.leaving = c.ranges.leaving in
+    let product : SFits w128 c.product-own.result = record { sfits = c.product-own.type_inv } in
+    wide_sized c.args.pivot.now c.args.sum.now c.args.factors c.args.leaving c.product-own.result c.in_ok-by.by.items _ c.requires.pivot c.requires.sum c.requires.above c.requires.row c.requires.factor c.requires.leaving (made c).0
+    (to_z-of_z w128 c.product-own.result product ∙ (made c).1) (simp to_z-of_z refl)
 
 pub returns-clause-carried : goal.returns-clause-carried
 returns-clause-carried c =
     let leaving : SFits w128 c.args.leaving = c.ranges.leaving in
-    let row : SFits w64 c.args.factors.row = search rules in
-    let factor : SFits w64 c.args.factors.pivot = search rules in
-    let own : SFits w64 c.args.sum.now.own = search rules in
     let product : SFits w128 c.product-own.result = record { sfits = c.product-own.type_inv } in
-    let row_is : c.from-row.result ≡ c.args.factors.row = simp to_z-of_z at c.from-row.ensures in
-    let factor_is : c.from-factor.result ≡ c.args.factors.pivot = simp to_z-of_z at c.from-factor.ensures in
-    let row_fits : SFits w128 c.from-row.result = record { sfits = c.from-row.type_inv } in
-    let factor_fits : SFits w128 c.from-factor.result = record { sfits = c.from-factor.type_inv } in
-    let left : c.deref.result.now ≡ c.args.sum.now.by.items = search rules in
-    let right : c.deref-2.result.now ≡ c.args.pivot.now.by.items = search rules in
-    let raw : IsCombined c.from-row.result c.deref.result.now c.from-factor.result c.deref-2.result.now c.in_ok-by.by.items = simp to_z-of_z at c.in_ok-by.ensures.value in
-    let is : IsCombined c.args.factors.row c.args.sum.now.by.items c.args.factors.pivot c.args.pivot.now.by.items c.in_ok-by.by.items = rw (row_is, factor_is, left, right) at raw in
-    let own_is : c.product-own.result ≡ c.args.factors.row *ℤ c.args.sum.now.own = simp to_z-of_z at c.product-own.ensures.value in
-    wide_carried c.args.pivot.now c.args.sum.now c.args.factors c.args.leaving c.in_ok-by.by.items _ c.requires.pivot is
-    (to_z-of_z w128 c.product-own.result product ∙ own_is) (simp to_z-of_z refl)
+    wide_carried c.args.pivot.now c.args.sum.now c.args.factors c.args.leaving c.in_ok-by.by.items _ c.requires.pivot (made c).0
+    (to_z-of_z w128 c.product-own.result product ∙ (made c).1) (simp to_z-of_z refl)

@@ -7,8 +7,8 @@ use Rattle.path_levels.specs.declared.sums.LevelSum.{LevelSum}
 use Rattle.path_levels.specs.declared.frame.LineFacts.{LineFacts}
 use Rattle.path_levels.specs.Required.{IsBelow}
 use Rattle.path_levels.proofs.LevelEnds.{required_decided}
-use Rattle.path_levels.proofs.LineCosts.{any_facts}
 use Rattle.path_levels.proofs.ends.has_no_negative_required.Goals as goal
+use Rattle.path_levels.proofs.FitFacts.{any_facts}
 
 pub returns-then-is_line_below : goal.returns-then-is_line_below
 returns-then-is_line_below c = λ p at levels d kept sums is required.

@@ -3,8 +3,8 @@ use Rattle.std.specs.Prelude.{FitsSigned}
 use borrow.Author.Differences.{ints}
 use Rattle.std.specs.Int.{IsGcd}
 use Rattle.std.proofs.lemmas.Int.{fits_signed_from_abs, to_z-of_z}
-use Rattle.path_levels.proofs.CommonDivisors.{gcd_small, positive_small, size_above}
 use Rattle.path_levels.proofs.joins.common.Goals as goal
+use Rattle.corner_lines.proofs.Units.{gcd_small, positive_small, size_above}
 
 pub overflow_cast-result : goal.overflow_cast-result
 overflow_cast-result c =

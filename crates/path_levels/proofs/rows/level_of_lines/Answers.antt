@@ -1,6 +1,6 @@
-use Rattle.path_levels.proofs.Results.{err_implies, ok_implies}
 use Rattle.path_levels.proofs.LevelsOfLines.{stays_high}
 use Rattle.path_levels.proofs.rows.level_of_lines.Goals as goal
+use Rattle.frac_core.proofs.Results.{err_implies, ok_implies}
 
 pub returns-in-Stay-clause-row : goal.returns-in-Stay-clause-row
 returns-in-Stay-clause-row c =

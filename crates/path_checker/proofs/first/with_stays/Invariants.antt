@@ -1,6 +1,6 @@
 use Rattle.std.proofs.Common.{length, ◌+◌}
 use Rattle.path_checker.specs.FirstLines.{AreFirstLines}
-use Rattle.path_claims.proofs.begins.with_stays.Given as goal
+use Rattle.path_checker.proofs.first.with_stays.Given as goal
 
 abbrev pub invariant-loop : goal.invariant-loop
 invariant-loop l = AreFirstLines l.p (length l.p.rows + l.counter) l.out.items

@@ -5,7 +5,7 @@ use Rattle.path_checker.specs.FirstLines.{AreFirstLines}
 use Rattle.path_checker.specs.Route.{over_marks}
 use Rattle.path_checker.specs.Tables.{line_count}
 use Rattle.path_checker.proofs.FirstLines.{count_lines, first_are_lines, lines_sized, one_line_more, outside_line}
-use Rattle.path_checker.proofs.first.first_lines.Goals as goal
+use Rattle.path_checker.proofs.first.with_stays.Goals as goal
 
 all_made : (c : goal.After-loop) → AreFirstLines c.args.p.now (line_count c.args.p.now) c.loop.out.items
 all_made c =
