@@ -89,7 +89,7 @@ only_number k d n x y some e f = cancel_mul d x y some (swap x ∙ e ∙ sym f �
     swap : (x : ℤ) → pos d *ℤ x ≡ x *ℤ pos d
     swap x = omega (arith, ints)
 
-zero_left : (d : ℕ) → pos 0 *ℤ pos d ≡ pos 0
+pub zero_left : (d : ℕ) → pos 0 *ℤ pos d ≡ pos 0
 zero_left d = omega (arith, ints)
 
 pub small_sum : (b : ℕ → Fraction) (attrs : List ℕ) (k : ℕ) (numbers : List ℤ) → IsSum b attrs k numbers → AreKept attrs k numbers → AreSmall b

@@ -2,9 +2,9 @@
 use Rattle.std.proofs.Common.{◌≡◌, ℕ, ◌+◌, ◌<◌, ◌≤◌, ◌^◌, List, [], ◌∷◌, ◌++◌, length, take, get_or, ℤ, pos, neg_ℤ, ◌*ℤ◌, refl, sym, subst, ap, ◌∙◌, arith, mul-pos, ◌⊎◌, inl, inr}
 use Rattle.std.specs.Prelude.{unsigned_abs}
 use Rattle.std.proofs.lemmas.List.{take_more, get_or_default}
-use Rattle.frac_core.specs.Fraction.{Fraction, IsLowest}
+use Rattle.frac_core.specs.Fraction.{Fraction}
 use Rattle.frac_core.proofs.Integers.{on_1, diff_eq, diff-add, diff-mul, diff-pos, cancel_mul}
-use Rattle.constraint_compile.specs.Fractions.{zero_fraction, plus, IsConstant, IsSmallConstant}
+use Rattle.constraint_compile.specs.Fractions.{plus, IsConstant, IsSmallConstant}
 use Rattle.constraint_compile.specs.Meaning.{MetricList, part_value}
 use Rattle.constraint_compile.specs.Compiled.{Step, IsSmallAfter, AreSmallSteps, step_sum, last_scale}
 use Rattle.constraint_compile.proofs.Lowest.{one_lowest}
@@ -51,17 +51,6 @@ pub record IsAfter (metrics : MetricList) (steps : List Step) (i k : ℕ) (c : F
   pub constant : IsConstant k (step_sum metrics (take i steps)) c
   pub small : (j : ℕ) (d : Step) → j < i → IsSmallAfter metrics steps j (get_or steps j d)
 
-pub none_after : (metrics : MetricList) (steps : List Step) (c : Fraction) → IsLowest zero_fraction → c ≡ zero_fraction → IsAfter metrics steps 0 1 c
-none_after metrics steps c lowest is = rw is (record {
-  above = omega arith;
-  last = refl;
-  scale = (omega arith, omega arith);
-  num_small = omega arith;
-  den_small = omega arith;
-  constant = record { lowest = lowest; value = refl };
-  small = λ j d h. absurd (omega (arith, h));
-})
-
 pub more_after : (metrics : MetricList) (steps : List Step) (i k : ℕ) (c : Fraction) (s : Step) (d : Fraction) → i < length steps → s ≡ get_or steps i s → (0 < s.scale) × (s.scale ≤ 2 ^ 30) → IsAfter metrics steps i k c
     → 0 < (part_value metrics s.part).den → ((e : Fraction) → 0 < e.den → IsConstant k e c → IsConstant s.scale (plus e (part_value metrics s.part)) d) → unsigned_abs d.num < 2 ^ 40 → d.den < 2 ^ 40 → IsAfter metrics steps (i + 1) s.scale d
 more_after metrics steps i k c s d within here scale after above constant num_small den_small = record {
@@ -97,9 +86,3 @@ stops_after metrics steps i k c s within here after none all =
     let at : IsSmallAfter metrics steps i s = subst (λ (t : Step). IsSmallAfter metrics steps i t) (sym here) (all i s within) in
     let small : IsSmallConstant s.scale (plus (step_sum metrics (take i steps)) (part_value metrics s.part)) = rw more at at in
     none (step_sum metrics (take i steps)) after.above after.constant small
-
-pub zero_fraction_is : (f : Fraction) → f.num ≡ pos 0 → f.den ≡ 1 → f ≡ zero_fraction
-zero_fraction_is f num den = made f (pos 0) 1 num den
-  where
-    made : (f : Fraction) (n : ℤ) (d : ℕ) → f.num ≡ n → f.den ≡ d → f ≡ record { num = n; den = d }
-    made f n d num_is den_is = rw (← num_is, ← den_is) refl

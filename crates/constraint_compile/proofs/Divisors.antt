@@ -5,7 +5,7 @@ use Rattle.std.specs.Prelude.{unsigned_abs}
 use Rattle.std.specs.Int.{IsGcd}
 use Rattle.std.proofs.lemmas.List.{take_more}
 use Rattle.std.proofs.lemmas.List.Elements.{All-cons, All-push}
-use Rattle.std.proofs.lemmas.Nat.Gcd.{dvd_trans, dvd_refl, same_from_IsGcd}
+use Rattle.std.proofs.lemmas.Nat.Gcd.{dvd_trans, same_from_IsGcd}
 use Rattle.frac_core.proofs.Gauss.{scaled}
 use Rattle.constraint_compile.specs.Sums.{IsDivisor}
 
@@ -24,16 +24,6 @@ pushed_all P [] x all = ((λ k d within. absurd (omega (arith, within))), all ze
 pushed_all P (y ∷ xs) x all =
     let rest = pushed_all P xs x (tail_of P y (xs ++ x ∷ []) all) in
     (All-cons P y xs (all zero y (omega arith)) rest.0, rest.1)
-
-no_number : (P : ℤ → Type 0) (numbers : List ℤ) → All P (take 0 numbers)
-no_number P numbers = λ k d within. absurd (omega (arith, within))
-
-pub no_numbers : (whole : ℕ) (numbers : List ℤ) → IsDivisor whole (take 0 numbers) whole
-no_numbers whole numbers = record {
-  of_whole = dvd_refl whole;
-  of_each = no_number (λ z. whole ∣ unsigned_abs z) numbers;
-  greatest = λ x j h all. h;
-}
 
 pub divisor_more : (whole : ℕ) (numbers : List ℤ) (i old new : ℕ) → i < length numbers → IsGcd (unsigned_abs (get_or numbers i (pos 0))) old new → IsDivisor whole (take i numbers) old → IsDivisor whole (take (i + 1) numbers) new
 divisor_more whole numbers i old new within gcd is =

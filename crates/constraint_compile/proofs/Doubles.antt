@@ -76,9 +76,6 @@ size_pos : (z : ℤ) → pos 0 <ℤ z → pos (unsigned_abs z) ≡ z
 size_pos (pos n) h = refl
 size_pos (negsuc n) h = absurd (omega (arith, ints))
 
-pub no_doubles : AreDoubled [] (pos 0) []
-no_doubles = record { long = refl; kept = λ k d h. absurd (omega (arith, h)); den = refl; value = refl; low = omega arith; small = omega arith }
-
 pub double_more : (xs rests : List Piece) (w v : ℤ) (x rest : Piece) → AreDoubled xs w rests → IsPiece x → IsPiece rest
     → v *ℤ x.den +ℤ rest.num ≡ pos 2 *ℤ x.num → rest.den ≡ x.den → unsigned_abs rest.num ≤ unsigned_abs rest.den → unsigned_abs v ≤ 2 ^ 45
     → AreDoubled (xs ++ x ∷ []) (w +ℤ v) (rests ++ rest ∷ [])

@@ -46,9 +46,6 @@ no_more (x ∷ xs) (y ∷ ys) rising_x rising_y among = elim (cases_eq x y) [
 
 -- ---- all of them
 
-pub found_many : (b : ℕ → Fraction) (attrs found : List ℕ) (n : ℕ) → HasFound b attrs n found → 32 < length found → HasTooMany b
-found_many b attrs found n all many = record { attrs = found; rising = all.rising; nonzero = all.nonzero; many = many }
-
 pub found_few : (b : ℕ → Fraction) (attrs found : List ℕ) → HasFound b attrs (length attrs) found → ((v : ℕ) → IsOff attrs v → (b v).num ≡ pos 0) → length found ≤ 32 → HasTooMany b → ⊥
 found_few b attrs found all off few many =
     let most : length many.attrs ≤ length found = no_more many.attrs found many.rising all.rising (λ k d h not. many.nonzero k d h (nothing (get_or many.attrs k d) not (find_place attrs (get_or many.attrs k d)))) in
@@ -63,7 +60,7 @@ attrs_few b attrs rising off few many =
     let most : length many.attrs ≤ length attrs = no_more many.attrs attrs many.rising rising (λ k d h not. many.nonzero k d h (off (get_or many.attrs k d) not)) in
     omega (arith, most, few, many.many)
 
-zeros : (d e : ℕ) (x y : ℤ) → x ≡ pos 0 → y ≡ pos 0 → x *ℤ pos e +ℤ y *ℤ pos d ≡ pos 0
+pub zeros : (d e : ℕ) (x y : ℤ) → x ≡ pos 0 → y ≡ pos 0 → x *ℤ pos e +ℤ y *ℤ pos d ≡ pos 0
 zeros d e x y h k = rw (h, k) (let z : pos 0 *ℤ pos e +ℤ pos 0 *ℤ pos d ≡ pos 0 = omega (arith, ints) in z)
 
 pub zero_shares : (v : ℕ) (added : List Addend) → All (λ a. ((addend_view a).share v).num ≡ pos 0) added → (sum_of (addends_view added) v).num ≡ pos 0

@@ -1,5 +1,5 @@
 -- The row of a line, put together.
-use Rattle.std.proofs.Common.{◌≡◌, ℕ, Bool, true, false, ◌||◌, zero, suc, ◌+◌, ◌<◌, ◌≤◌, ◌^◌, List, [], ◌∷◌, ◌++◌, length, map, take, take_all, get_or, refl, sym, subst, ap, ◌∙◌, arith}
+use Rattle.std.proofs.Common.{◌≡◌, ℕ, false, zero, suc, ◌+◌, ◌<◌, ◌≤◌, ◌^◌, List, [], ◌∷◌, ◌++◌, length, map, take, take_all, get_or, refl, sym, subst, ap, ◌∙◌, arith}
 use Rattle.std.proofs.lemmas.List.{take_more, map_push, get_or-map, length-map}
 use Rattle.frac_core.specs.Fraction.{Fraction}
 use Rattle.problem_core.specs.declared.parts.Term.{Term as RowTerm}
@@ -20,6 +20,7 @@ use Rattle.constraint_compile.specs.declared.steps.Part.TheVariants as part
 use Rattle.constraint_compile.proofs.Added.{part_of, first_same, parts_same, same_count}
 use Rattle.constraint_compile.proofs.Beginnings.{zero_sum}
 use Rattle.constraint_compile.proofs.Constants.{last_more}
+use Rattle.constraint_compile.proofs.Asked.{neither}
 
 name_at : (added : List code.Addend) (i : ℕ) (a : code.Addend) → i < length added → a ≡ get_or added i a → get_or (map metric_name (addends_view added)) i [] ≡ metric_name (addend_view a)
 name_at added i a within is =
@@ -32,10 +33,6 @@ not_metric : (p : meaning.Part) → is_metric p ≡ false → metric_in p ≡ []
 not_metric meaning.Nothing none = refl
 not_metric (meaning.Number by) none = refl
 not_metric (meaning.Multiple by name) none = absurd cc
-
-neither : (a b : Bool) → (a || b) ≡ false → (a ≡ false) × (b ≡ false)
-neither true b none = absurd cc
-neither false b none = (refl, none)
 
 no_name : (added : List Addend) (i : ℕ) → any_names_metric added ≡ false → get_or (map metric_name added) i [] ≡ []
 no_name [] i none = refl

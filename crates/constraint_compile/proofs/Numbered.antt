@@ -150,24 +150,6 @@ found_stop views metrics lines l first rows more past OutOfMemory later stop fou
 found_stop views metrics lines l first rows more past (Unknown name) later stop found = absurd later
 found_stop views metrics lines l first rows more past (Kind word) later stop found = absurd later
 
--- a row that passes the first limit of all
-pub stop_ends : (views : List LiveView) (metrics : MetricList) (l : Linear) (stop : CompileStop) → (IsLater stop → ⊥) → IsRowStop views metrics (terms_of l) stop → EndsRows views metrics (l ∷ []) stop
-stop_ends views metrics l (Limit limit.Attributes) never stop = Any-push (Passes views metrics limit.Attributes) [] l stop
-stop_ends views metrics l (Limit limit.Coefficient) never stop = absurd (never tt)
-stop_ends views metrics l (Limit limit.Constant) never stop = absurd (never tt)
-stop_ends views metrics l (Limit limit.Line) never stop = absurd stop
-stop_ends views metrics l (Limit limit.Name) never stop = absurd stop
-stop_ends views metrics l (Limit limit.Views) never stop = absurd stop
-stop_ends views metrics l (Limit limit.Depth) never stop = absurd stop
-stop_ends views metrics l (Limit limit.Metrics) never stop = absurd stop
-stop_ends views metrics l (Limit limit.Lines) never stop = absurd stop
-stop_ends views metrics l (Limit limit.Rows) never stop = absurd stop
-stop_ends views metrics l (Limit limit.Terms) never stop = absurd stop
-stop_ends views metrics l (Limit limit.Budget) never stop = absurd stop
-stop_ends views metrics l OutOfMemory never stop = tt
-stop_ends views metrics l (Unknown name) never stop = absurd stop
-stop_ends views metrics l (Kind word) never stop = absurd stop
-
 -- what was found is a limit that the lines pass first
 pub found_passes : (views : List LiveView) (metrics : MetricList) (lines : List Linear) (first : ℕ) (rows : List RowForm) (word : LimitWord) → IsFound views metrics lines first rows (Some word) → PassesFirst views metrics lines word
 found_passes views metrics lines first rows limit.Coefficient found = found
@@ -190,10 +172,6 @@ lines_append views [] qs = refl
 lines_append views (View name ∷ ps) qs = lines_append views ps qs
 lines_append views (Bar name ∷ ps) qs = lines_append views ps qs
 lines_append views (Asks span pred ∷ ps) qs = ap (λ (ls : List Linear). line_of views span pred ∷ ls) (lines_append views ps qs)
-
--- the lines of one part more
-pub lines_push : (views : List LiveView) (ps : List Part) (p : Part) → lines_of views (ps ++ p ∷ []) ≡ lines_of views ps ++ lines_of views (p ∷ [])
-lines_push views ps p = lines_append views ps (p ∷ [])
 
 any_within : {A : Type 0} (P : A → Type 0) (xs ys zs : List A) → Any P ys → Any P (xs ++ (ys ++ zs))
 any_within {A} P xs ys zs any = (length xs + any.0, any.1, grind (arith, common_steps, any.2), grind (arith, common_steps, any.2, any.3), any.4)

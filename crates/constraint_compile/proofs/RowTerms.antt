@@ -15,6 +15,7 @@ use Rattle.constraint_compile.specs.Shares.{IsOff}
 use Rattle.constraint_compile.specs.Sums.{IsSum, HasFirst, AreTerms, HasTooMany, attr_at, number_at}
 use Rattle.constraint_compile.proofs.Joint.{find_place}
 use Rattle.constraint_compile.proofs.Lists.{lt_or_eq}
+use Rattle.constraint_compile.proofs.Beginnings.{zero_left}
 
 pushed : (v : ℕ) (out : List Term) (t : Term) → coefficient v (out ++ t ∷ []) ≡ coefficient v out +ℤ cond (nat_eq t.attr v) t.by (pos 0)
 pushed v out t = sum-append (λ (e : Term). cond (nat_eq e.attr v) e.by (pos 0)) out (t ∷ []) ∙ ap (λ (z : ℤ). coefficient v out +ℤ z) (let e : cond (nat_eq t.attr v) t.by (pos 0) +ℤ pos 0 ≡ cond (nat_eq t.attr v) t.by (pos 0) = omega (arith, ints) in e)
@@ -76,9 +77,6 @@ no_terms attrs numbers = record {
 }
 
 -- ---- the whole row
-
-zero_left : (d : ℕ) → pos 0 *ℤ pos d ≡ pos 0
-zero_left d = omega (arith, ints)
 
 pub all_terms : (b : ℕ → Fraction) (attrs : List ℕ) (scale : ℕ) (numbers : List ℤ) (n : ℕ) (out : List Term) → n ≡ length attrs → HasFirst attrs numbers n out → IsSum b attrs scale numbers → AreTerms b scale out
 all_terms b attrs scale numbers n out whole first sum = record {

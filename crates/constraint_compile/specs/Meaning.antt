@@ -1,5 +1,5 @@
 -- What a linear line means, for a list of views and a list of metrics.
-use Rattle.std.specs.Prelude.{◌≡◌, ℕ, ◌+◌, ◌*◌, ◌<◌, ◌≤◌, List, [], ◌∷◌, ◌++◌, map, Option}
+use Rattle.std.specs.Prelude.{◌≡◌, ℕ, ◌*◌, ◌<◌, ◌≤◌, List, [], ◌∷◌, ◌++◌, map, Option}
 use Rattle.std.specs.Prelude.{Some, None, is_some, Bool, true, false, ◌||◌, pos, ◌*ℤ◌}
 use Rattle.std.specs.List.{list_any}
 use Rattle.std.specs.Option.{option_or, option_map, option_to_list}
@@ -52,6 +52,10 @@ doubled view word.Height = vertical view 0 2
 -- the term subtracted
 abbrev pub minus : mean.Term → mean.Term
 minus t = record { by = negated t.by; of = t.of }
+
+-- the factor of the term has a denominator above 0
+abbrev pub HasDenominator : mean.Term → Type 0
+HasDenominator t = 0 < t.by.den
 
 -- all terms of the line brought to its left side, in the order written
 abbrev pub terms_of : Linear → List mean.Term

@@ -13,7 +13,7 @@ ghost use Rattle.problem_core.specs.declared.limits.TheConstants.{NUMBER_LIMIT};
 ghost use Rattle.view_tree.specs.Views.{LiveView};
 ghost use Rattle.script_text.specs.View.{terms_view, linear_view, object_view};
 ghost use Rattle.constraint_compile.specs.Meaning.{MetricList, terms_of, views_in, IsRank, IsWeight};
-ghost use Rattle.constraint_compile.specs.Meaning.{has_view_number};
+ghost use Rattle.constraint_compile.specs.Meaning.{HasDenominator, has_view_number};
 ghost use Rattle.constraint_compile.specs.Stops.{AreKnown, IsUsable, IsWrongUse, IsCompiled, MayStop};
 ghost use Rattle.constraint_compile.specs.Stops.{PassesLimit, HasRank};
 ghost use Rattle.constraint_compile.specs.Addends.{addends, addends_view, IsKept};
@@ -54,6 +54,7 @@ fn names_of<'a>(
     ensures added { IfOk result (λ n. addends_view n.terms.added.items
         ≡ addends tree.now.views (terms_of (linear_view line.now))) }
     ensures kept { IfOk result (λ n. All IsKept n.terms.added.items) }
+    ensures above { OnOk result (All HasDenominator (terms_of (linear_view line.now))) }
     ensures views { IfOk result (λ n. numbers n.terms.views.items
         ≡ views_in tree.now.views (terms_of (linear_view line.now))) }
     ensures number { IfOk result (λ n. n.terms.has_view_number
@@ -168,6 +169,7 @@ pub fn compile_line(
 ) -> Result<Compiled, CompileStop>
     requires { 0 < id }
     ensures compiled { IfOk result (IsCompiled tree.now.views metrics.now (linear_view line.now) id) }
+    ensures above { OnOk result (All HasDenominator (terms_of (linear_view line.now))) }
     ensures stop { IfErr result (MayStop tree.now.views metrics.now (linear_view line.now) id) }
 {
     let terms = signed_terms(alloc, line)?;

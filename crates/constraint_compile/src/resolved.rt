@@ -6,7 +6,8 @@ ghost use Rattle.constraint_compile.specs.Addends as addends;
 ghost use Rattle.constraint_compile.specs.Addends.{addend_view, addends_view, IsKept};
 ghost use Rattle.constraint_compile.specs.FormatLines.{numbers, option_numbers};
 ghost use Rattle.constraint_compile.specs.Meaning as meaning;
-ghost use Rattle.constraint_compile.specs.Meaning.{IsRank, unknown_in, unknown_among, unknown_object};
+ghost use Rattle.constraint_compile.specs.Meaning.{HasDenominator, IsRank, unknown_in, unknown_among};
+ghost use Rattle.constraint_compile.specs.Meaning.{unknown_object};
 ghost use Rattle.constraint_compile.specs.Stops.{IsUnknownTerm};
 
 use crate::addends::Addend;
@@ -41,9 +42,11 @@ fn look_up<'a>(tree: &Tree, metrics: &Metrics, term: &ExprTerm<'a>) -> Result<Fo
         ≡ meaning.view_in tree.now.views (term_view term.now).of) }
     ensures number { IfOk result (λ f. f.is_view_number
         ≡ meaning.is_view_number tree.now.views (term_view term.now).of) }
+    ensures above { HasDenominator (term_view term.now) }
     ensures stop { IfErr result (λ name. unknown_in tree.now.views metrics.now (term_view term.now).of
         ≡ Some name.now) }
 {
+    let _den = term.by.den(); // for the proof: what a fraction keeps
     match term.of {
         Operand::Attr { view, word } => match number_of(tree, view) {
             Some(id) => Ok(Found {
@@ -128,6 +131,7 @@ pub(crate) fn resolve<'a>(
         ≡ meaning.views_in tree.now.views (terms_view terms.now)) }
     ensures number { IfOk result (λ r. r.has_view_number
         ≡ meaning.has_view_number tree.now.views (terms_view terms.now)) }
+    ensures above { OnOk result (All HasDenominator (terms_view terms.now)) }
     ensures stop { IfErr result (IsUnknownTerm tree.now.views metrics.now (terms_view terms.now)) }
 {
     let mut out = nothing(alloc, terms.len())?;

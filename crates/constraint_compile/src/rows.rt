@@ -1,7 +1,8 @@
 // The rows of compiled lines for given metrics.
 ghost use Rattle.std.specs.Prelude.{◌≡◌, ◌≤◌, ◌<◌, ℕ, List, length, map, IfOk, IfErr, IfSome, IfNone};
-ghost use Rattle.std.specs.Prelude.{OnSome};
+ghost use Rattle.std.specs.Prelude.{All, OnSome};
 ghost use Rattle.frac_core.specs.Fraction.{IsKept};
+ghost use Rattle.problem_core.specs.Kept.{IsRow};
 ghost use Rattle.problem_core.specs.declared.limits.TheConstants.{COEFFICIENT_LIMIT};
 ghost use Rattle.constraint_compile.specs.Fractions.{IsConstant};
 ghost use Rattle.constraint_compile.specs.Compiled.{AreSmallSteps, AreSmallForms, AreRowsNow};
@@ -34,15 +35,16 @@ fn scale_of(steps: &[Step]) -> u32
 // The row with this constant.
 fn with_constant(alloc: Global, form: &RowForm, constant: Frac) -> Result<Row, OutOfMemory>
     requires { IsForm form.now }
-    ensures kept { IsKept constant }
+    ensures constant { IsKept constant }
     ensures row { IfOk result (λ r. (r.id ≡ form.now.id) × (r.rank ≡ form.now.rank)
         × (r.weight ≡ form.now.weight) × (r.rel ≡ form.now.rel)
         × (r.scale ≡ last_scale (form_view form.now).steps) × (r.terms ≡ form.now.terms.items)
         × (r.constant ≡ constant)) }
+    ensures kept { IfOk result IsRow }
 {
     let _den = constant.den(); // for the proof: what a fraction keeps
     let scale = i64::from(scale_of(&form.steps));
-    Row::of(
+    let row = Row::of(
         alloc,
         form.id,
         form.rank,
@@ -51,7 +53,9 @@ fn with_constant(alloc: Global, form: &RowForm, constant: Frac) -> Result<Row, O
         scale,
         constant,
         &form.terms,
-    )
+    )?;
+    row.show_row(); // for the proof: what a row keeps
+    Ok(row)
 }
 
 /// The row's constant for these metrics, unless it is past the limit after a step.
@@ -68,6 +72,7 @@ pub(crate) fn constant_now(form: &RowForm, metrics: &Metrics) -> Option<Frac>
 fn row_now(alloc: Global, form: &RowForm, metrics: &Metrics) -> Result<Option<Row>, OutOfMemory>
     requires { IsForm form.now }
     ensures row { IfOk result (λ o. IfSome o (IsRowNow metrics.now (form_view form.now))) }
+    ensures kept { IfOk result (λ o. IfSome o IsRow) }
     ensures small { IfOk result (λ o. OnSome o (AreSmallSteps metrics.now (form_view form.now).steps)) }
     ensures none { IfOk result (λ o. IfNone o (AreSmallSteps metrics.now (form_view form.now).steps → ⊥)) }
 {
@@ -85,6 +90,7 @@ fn rows_of(
     requires { AreForms forms.now }
     ensures rows { IfOk result (λ o. IfSome o (λ rows.
         AreRowsNow metrics.now (map form_view forms.now) rows.items)) }
+    ensures each { IfOk result (λ o. IfSome o (λ rows. All IsRow rows.items)) }
     ensures none { IfOk result (λ o. IfNone o (AreSmallForms metrics.now (map form_view forms.now) → ⊥)) }
 {
     let mut rows = Vec::with_capacity(alloc, forms.len())?;
@@ -138,6 +144,7 @@ impl Compiled {
     /// The rows with their constants for these metrics; the rest as in `constants_now`.
     pub fn rows_now(&self, alloc: Global, metrics: &Metrics) -> Result<Vec<Row>, CompileStop>
         ensures rows { IfOk result (λ rows. AreRowsNow metrics.now self.now.rows rows.items) }
+        ensures each { IfOk result (λ rows. All IsRow rows.items) }
         ensures stop { IfErr result (IsConstantStop metrics.now self.now.rows) }
     {
         match rows_of(alloc, self.forms(), metrics)? {

@@ -13,7 +13,7 @@ use Rattle.problem_core.specs.Kept.{IsNumber, IsRow, IsWhole, AreRising}
 use Rattle.problem_core.specs.Window.{required_row, structural_rows, zero_fraction}
 use Rattle.view_tree.specs.Views.{LiveView, ViewTree, IsTree}
 use Rattle.layout_solver.specs.declared.engine.Change.{Change}
-use Rattle.layout_solver.specs.Layouts.{Layout, stays_at, zeros, with_added}
+use Rattle.layout_solver.specs.Layouts.{Layout, zeros, with_added}
 use Rattle.layout_solver.specs.Shifts.{shifted, with_shifts}
 use Rattle.session_undo.specs.Items.{size_rows, without_constant}
 use Rattle.session_undo.specs.Scene.{State}
@@ -28,6 +28,7 @@ use Rattle.session_undo.proofs.AlikeRows.{alike-shapes}
 use Rattle.session_undo.proofs.ShiftedRows.{shifted-alike}
 use Rattle.session_undo.proofs.First.{first_problem, first_tree}
 use Rattle.session_undo.proofs.Ranks.{HasRank}
+use Rattle.layout_solver.proofs.BestValues.{attrs-at}
 
 -- ---- required rows
 
@@ -73,15 +74,11 @@ still-rising l rising = subst AreRising (sym (append-nil l.values)) rising
 
 -- ---- counts
 
-stays-at : (values : List (ℕ × Fraction)) → map (λ s. s.attr) (stays_at values) ≡ map (λ v. v.0) values
-stays-at [] = refl
-stays-at (v ∷ values) = ap (λ (ns : List ℕ). v.0 ∷ ns) (stays-at values)
-
 pub counted-added : (views new_views : List LiveView) (next now : ℕ) (l : Layout) (attrs : List ℕ) (more : List Row) (p : Problem) → map (λ v. v.0) l.values ≡ map (λ s. s.attr) l.problem.stays → IsCounted views next l.problem
     → attributes_of new_views ≡ attributes_of views ++ attrs → All (λ r. r.id < now) more → All HasRank more → next ≤ now → length l.problem.rows + length more ≤ 2000 → p ≡ with_added l attrs more → IsCounted new_views now p
 counted-added views new_views next now l attrs more p same counted grown below ranks up room is =
     subst (IsCounted new_views now) (sym is) (record {
-      stays = stays-at (l.values ++ zeros attrs) ∙ attributes-joined l.values attrs ∙ ap (λ (ns : List ℕ). ns ++ attrs) (same ∙ counted.stays) ∙ sym grown;
+      stays = attrs-at (l.values ++ zeros attrs) ∙ attributes-joined l.values attrs ∙ ap (λ (ns : List ℕ). ns ++ attrs) (same ∙ counted.stays) ∙ sym grown;
       below = All-append (λ (r : Row). r.id < now) l.problem.rows more (All-weaker (λ (r : Row). r.id < next) (λ (r : Row). r.id < now) (λ r h. omega (arith, h, up)) l.problem.rows counted.below) below;
       ranks = All-append HasRank l.problem.rows more counted.ranks ranks;
       few = omega (arith, room, length-append l.problem.rows more);
@@ -93,7 +90,7 @@ pub counted-shifted : (views : List LiveView) (next : ℕ) (l : Layout) (to : Li
 counted-shifted views next l to p same counted is =
     let shapes : map shape (shifted to l.problem.rows) ≡ map shape l.problem.rows = alike-shapes (shifted to l.problem.rows) l.problem.rows (shifted-alike to l.problem.rows) in
     subst (IsCounted views next) (sym is) (record {
-      stays = stays-at l.values ∙ same ∙ counted.stays;
+      stays = attrs-at l.values ∙ same ∙ counted.stays;
       below = all-unmapped shape (λ s. s.0 < next) (shifted to l.problem.rows) (subst (All (λ (s : ℕ × List Term). s.0 < next)) (sym shapes) (mapped l.problem.rows counted.below));
       ranks = all-unmapped without_constant HasRank (shifted to l.problem.rows) (subst (All HasRank) (sym (shifted-alike to l.problem.rows)) (All-map HasRank without_constant l.problem.rows counted.ranks));
       few = (let long : length (shifted to l.problem.rows) ≡ length l.problem.rows = sym (length-map (shifted to l.problem.rows) shape) ∙ ap length shapes ∙ length-map l.problem.rows shape in omega (arith, counted.few, long));

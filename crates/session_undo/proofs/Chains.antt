@@ -1,7 +1,6 @@
 -- The steps of commands, whose earlier causes don't hold.
-use Rattle.std.proofs.Common.{◌≡◌, ℕ, ◌<◌, ◌≤◌, Bool, true, false, cond, nat_eq, ◌⊎◌, ◌^◌, is_some, List, [], ◌∷◌, length, Some, None, IsSome, refl, sym, ap, ◌∙◌, subst, arith, inl, inr, true≢false, eq-eqb}
-use Rattle.std.specs.Prelude.{IfOk, IfErr, nat_le, ◌||◌}
-use Rattle.std.proofs.lemmas.Grind.{common_steps}
+use Rattle.std.proofs.Common.{◌≡◌, ℕ, ◌<◌, ◌≤◌, Bool, true, false, cond, nat_eq, is_some, List, [], ◌∷◌, length, Some, None, IsSome, refl, sym, ap, ◌∙◌, subst, arith, inl, inr, true≢false, eq-eqb}
+use Rattle.std.specs.Prelude.{IfOk, IfErr}
 use Rattle.std.specs.declared.option.Option.{Option}
 use Rattle.std.specs.declared.result.Result.{Result}
 use Rattle.std.specs.declared.result.Result.TheVariants.{Ok, Err}
@@ -10,13 +9,12 @@ use Rattle.std.specs.Str.{bytes_eq}
 use Rattle.std.proofs.lemmas.Option.{none-some, same_Some}
 use Rattle.frac_core.specs.Fraction.{Fraction}
 use Rattle.problem_core.specs.Layout.{Row}
-use Rattle.name_tables.specs.Names.{value_of}
 use Rattle.name_tables.specs.declared.stops.LimitWord.{LimitWord}
 use Rattle.name_tables.specs.declared.stops.LimitWord.TheVariants as word
 use Rattle.view_tree.specs.Views.{LiveView, ViewTree, view_of, view_named, IsAtDepth}
 use Rattle.view_tree.specs.Views as tree
-use Rattle.view_tree.specs.Stops.{IsNewView, PassesLimit, is_full}
-use Rattle.view_tree.proofs.ViewLemmas.{IsAtDepth-unique}
+use Rattle.view_tree.specs.Stops.{IsNewView, is_full}
+use Rattle.view_tree.proofs.ViewLemmas.{IsAtDepth-unique, room}
 use Rattle.constraint_compile.specs.Meaning.{MetricList}
 use Rattle.constraint_compile.specs.declared.stops.CompileStop.TheVariants as stop
 use Rattle.layout_solver.specs.declared.engine.Change.{Change}
@@ -31,6 +29,7 @@ use Rattle.session_undo.specs.Kept.{AreWithin}
 use Rattle.session_undo.specs.Moving.{MayLackChanges}
 use Rattle.session_undo.proofs.ItemRows.{rows-small}
 use Rattle.session_undo.proofs.Steps.{refuses}
+use Rattle.session_undo.proofs.SuggestionSteps.{view-found}
 
 pub ok-map : {T E : Type 0} (P Q : T → Type 0) (r : Result T E) → ((x : T) → P x → Q x) → IfOk r P → IfOk r Q
 ok-map P Q (Ok x) to h = to x h
@@ -62,11 +61,6 @@ found-live (v ∷ views) name id found none =
       | false ↦ λ h. found-live views name id h (tail-none (nat_eq v.id id) v (view_of views id) none)
     ] found
 
--- the view of that name
-view_of_name : (o : Option LiveView) (id : ℕ) → Some id ≡ option_map (λ v. v.id) o → (v : LiveView) × (o ≡ Some v) × (v.id ≡ id)
-view_of_name None id is = absurd (none-some id (sym is))
-view_of_name (Some v) id is = (v, refl, sym (same_Some id v.id is))
-
 not-deep : (t : ViewTree) (parent : List ℕ) (above : LiveView) (level : ℕ) → view_named t.views parent ≡ Some above → IsAtDepth t.views above.id level → level < 32 → IsDeep t parent → ⊥
 not-deep t parent above level is on high (w, l, w_is, on_2, deep) =
     let same : w ≡ above = same_Some w above (sym w_is ∙ is) in
@@ -80,20 +74,9 @@ not-some (Some x) is some = absurd (none-some x (sym is))
 not-none : {X : Type 0} (o : Option X) (x : X) → o ≡ Some x → o ≡ None → ⊥
 not-none o x is none = none-some x (sym none ∙ is)
 
-not-taken : (scene : Scene) (name : List ℕ) → view_named scene.tree.views name ≡ None → value_of scene.metrics name ≡ None → IsTaken scene name → ⊥
-not-taken scene name v m (inl some) = not-some (view_named scene.tree.views name) v some
-not-taken scene name v m (inr some) = not-some (value_of scene.metrics name) m some
-
 pub not-both : (b : Bool) → b ≡ false → b ≡ true → ⊥
 not-both true e f = true≢false e
 not-both false e f = true≢false (sym f)
-
-pub none-is : {X : Type 0} (o : Option X) → is_some o ≡ false → o ≡ None
-none-is None e = refl
-none-is (Some x) e = absurd (true≢false e)
-
-pub no-value : {X : Type 0} (r o : Option X) → r ≡ o → false ≡ is_some r → is_some o ≡ false
-no-value r o e h = sym (h ∙ ap is_some e)
 
 pub unfound : {X Y Z : Type 0} (f : X → Z) (g : Y → Z) (r : Option X) (o : Option Y) → option_map f r ≡ option_map g o → false ≡ is_some r → o ≡ None
 unfound f g None None e h = refl
@@ -163,26 +146,6 @@ module _ (old : State) (name parent : List ℕ) (End : Scene → Reply → State
 
 -- ---- what the tree says of a view that is to be made
 
-room : (t : ViewTree) → is_full t ≡ false → (length t.views < 200) × (t.next < 2 ^ 29)
-room t h = grind (arith, common_steps, h)
-
-or-cases : (a b : Bool) → (a || b) ≡ true → (a ≡ true) ⊎ (b ≡ true)
-or-cases true b h = inl refl
-or-cases false b h = inr h
-
-full : (t : ViewTree) → is_full t ≡ true → (200 ≤ length t.views) ⊎ (2 ^ 29 ≤ t.next)
-full t h = elim (or-cases (nat_le 200 (length t.views)) (nat_le (2 ^ 29) t.next) h) [
-  | inl many ↦ inl (grind (arith, common_steps, many))
-  | inr last ↦ inr (grind (arith, common_steps, last))
-]
-
--- the tree has room for no fewer views than the session
-all-views : (s : State) → AreWithin s.limits → is_full s.scene.tree ≡ true → HasAllViews s
-all-views s within h = elim (full s.scene.tree h) [
-  | inl many ↦ inl (omega (arith, within.views, many))
-  | inr last ↦ inr last
-]
-
 few-views : (s : State) → length s.scene.tree.views < s.limits.views → is_full s.scene.tree ≡ false → HasAllViews s → ⊥
 few-views s less h (inl many) = omega (arith, less, many)
 few-views s less h (inr last) = omega (arith, (room s.scene.tree h).1, last)
@@ -197,32 +160,12 @@ pub record IsAsked (old : State) (name parent : List ℕ) (above : ℕ) : Type 0
 
 asked-found : (old : State) (name parent : List ℕ) (above : ℕ) → IsAsked old name parent above → view_named old.scene.tree.views parent ≡ None → ⊥
 asked-found old name parent above asked =
-    let v = view_of_name (view_named old.scene.tree.views parent) above asked.found in
+    let v = view-found (view_named old.scene.tree.views parent) above asked.found in
     not-none (view_named old.scene.tree.views parent) v.0 v.1
-
--- the tree's limit is the session's
-pub view-limited : (old : State) (name parent : List ℕ) (above : ℕ) (End : Scene → Reply → State → Type 0) (limit : LimitWord) → IsAsked old name parent above → PassesLimit old.scene.tree name above limit
-    → TriedView old name parent End (Limit limit) old
-view-limited old name parent above End word.Name asked h = absurd (omega (arith, asked.short, h))
-view-limited old name parent above End word.Views asked h =
-    view-many old name parent End (asked-found old name parent above asked) asked.free asked.short (all-views old asked.within h.1)
-view-limited old name parent above End word.Depth asked h =
-    let v = view_of_name (view_named old.scene.tree.views parent) above asked.found in
-    view-deep old name parent End (asked-found old name parent above asked) asked.free asked.short (few-views old asked.few h.1)
-    (v.0, h.2.0, v.1, subst (λ (n : ℕ). IsAtDepth old.scene.tree.views n h.2.0) (sym v.2) h.2.1, h.2.2)
-view-limited old name parent above End word.Line asked h = absurd h
-view-limited old name parent above End word.Metrics asked h = absurd h
-view-limited old name parent above End word.Lines asked h = absurd h
-view-limited old name parent above End word.Rows asked h = absurd h
-view-limited old name parent above End word.Terms asked h = absurd h
-view-limited old name parent above End word.Attributes asked h = absurd h
-view-limited old name parent above End word.Coefficient asked h = absurd h
-view-limited old name parent above End word.Constant asked h = absurd h
-view-limited old name parent above End word.Budget asked h = absurd h
 
 asked-high : (old : State) (name parent : List ℕ) (above : ℕ) → IsAsked old name parent above → IsNewView old.scene.tree name above → IsDeep old.scene.tree parent → ⊥
 asked-high old name parent above asked fresh =
-    let v = view_of_name (view_named old.scene.tree.views parent) above asked.found in
+    let v = view-found (view_named old.scene.tree.views parent) above asked.found in
     let on = subst (λ (n : ℕ). (level : ℕ) × IsAtDepth old.scene.tree.views n level × (level < 32)) (sym v.2) fresh.high in
     not-deep old.scene.tree parent v.0 on.0 v.1 on.1 on.2
 
@@ -234,7 +177,7 @@ view-full old name parent above End asked fresh crowded =
 pub view-free : (old : State) (name parent : List ℕ) (above id : ℕ) (new : ViewTree) → IsAsked old name parent above → IsNewView old.scene.tree name above → (IsCrowded old 2 → ⊥) → new ≡ tree.with_view old.scene.tree name above
     → id ≡ old.scene.tree.next → IsFreeView old name parent new id
 view-free old name parent above id new asked fresh room new_is id_is =
-    let v = view_of_name (view_named old.scene.tree.views parent) above asked.found in
+    let v = view-found (view_named old.scene.tree.views parent) above asked.found in
     record {
       above = v.0;
       found = v.1;

@@ -11,8 +11,10 @@ use Rattle.layout_solver.specs.declared.engine.Change.{Change}
 use Rattle.layout_solver.specs.Shifts.{CanShift, shifted}
 use Rattle.session_undo.specs.Items.{without_constant}
 use Rattle.session_undo.specs.Machine.{AreNear}
-use Rattle.session_undo.proofs.Lists.{pairs-nil, pairs-cons, pairs-tail}
-use Rattle.session_undo.proofs.ShiftedRows.{can-shift, changed, near-at, same-row, shift-on, shifted-append, shifted-apart, unchanged}
+use Rattle.session_undo.proofs.Lists.{pairs-nil, pairs-cons}
+use Rattle.session_undo.proofs.ShiftedRows.{can-shift, near-at, same-row, shift-on, shifted-append, shifted-apart, unchanged}
+use Rattle.view_tree.proofs.DropLemmas.{pairs-tail}
+use Rattle.corner_lines.proofs.Shifted.{changed}
 
 abbrev pub change : ℕ → Fraction → Change
 change row constant = record { row = row; constant = constant }

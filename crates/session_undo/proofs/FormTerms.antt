@@ -1,8 +1,7 @@
 -- The attributes of compiled rows are those of views.
-use Rattle.std.proofs.Common.{◌≡◌, ℕ, ◌+◌, ◌*◌, ◌<◌, true, false, cond, List, [], ◌∷◌, get_or, Option, Some, None, pos, ℤ, ◌+ℤ◌, ◌*ℤ◌, refl, sym, ap, subst, ◌∙◌, arith, inl, inr, All, ne_eqb, mul-pos}
+use Rattle.std.proofs.Common.{◌≡◌, ℕ, ◌+◌, ◌*◌, ◌<◌, true, false, cond, List, [], ◌∷◌, get_or, Option, Some, None, pos, ℤ, ◌*ℤ◌, refl, sym, ap, subst, ◌∙◌, arith, inl, inr, All, ne_eqb, mul-pos}
 use Rattle.std.specs.List.{Contains, AllByRecursion as Each}
 use Rattle.std.specs.Str.{bytes_eq}
-use borrow.Author.Differences.{ints}
 use Rattle.std.proofs.lemmas.Option.{none-some, same_Some}
 use Rattle.std.proofs.lemmas.List.Elements.{Contains-append_left, Contains-append_right, recursion_from_All}
 use Rattle.frac_core.specs.Fraction.{Fraction}
@@ -12,13 +11,14 @@ use Rattle.view_tree.specs.Views.{LiveView, view_named}
 use Rattle.script_text.specs.declared.words.AttrWord.{AttrWord}
 use Rattle.script_text.specs.declared.words.AttrWord.TheVariants as word
 use Rattle.script_text.specs.Meaning as mean
-use Rattle.constraint_compile.specs.Meaning.{horizontal, vertical, doubled, share, share_in, sum_at}
+use Rattle.constraint_compile.specs.Meaning.{HasDenominator, horizontal, vertical, doubled, share, share_in, sum_at}
 use Rattle.constraint_compile.specs.Compiled.{RowForm, last_scale}
 use Rattle.constraint_compile.specs.Stops.{IsSumRow}
 use Rattle.constraint_compile.proofs.RowTerms.{coefficient_at, is_zero}
 use Rattle.session_undo.specs.Attributes.{view_attributes, attributes_of}
 use Rattle.session_undo.proofs.Lists.{contains-or}
 use Rattle.session_undo.proofs.Attributes.{contains-left, contains-top, contains-width, contains-height}
+use Rattle.constraint_compile.proofs.Found.{zeros}
 
 -- ---- a view has only its own attributes
 
@@ -68,17 +68,11 @@ no-share views v by (mean.Attr name w) off = no-share-in (view_named views name)
 no-share views v by (mean.Metric name) off = refl
 no-share views v by mean.One off = refl
 
-pub zeros : (d e : ℕ) (x y : ℤ) → x ≡ pos 0 → y ≡ pos 0 → x *ℤ pos e +ℤ y *ℤ pos d ≡ pos 0
-zeros d e x y h k = rw (h, k) (let z : pos 0 *ℤ pos e +ℤ pos 0 *ℤ pos d ≡ pos 0 = omega (arith, ints) in z)
-
 no-sum : (views : List LiveView) (v : ℕ) (terms : List mean.Term) → (Contains (attributes_of views) v → ⊥) → (sum_at views terms v).num ≡ pos 0
 no-sum views v [] off = refl
 no-sum views v (t ∷ terms) off = zeros (share views v t).den (sum_at views terms v).den (share views v t).num (sum_at views terms v).num (no-share views v t.by t.of off) (no-sum views v terms off)
 
 -- ---- denominators
-
-abbrev pub HasDenominator : mean.Term → Type 0
-HasDenominator t = 0 < t.by.den
 
 share-in-above : (o : Option LiveView) (by : Fraction) (w : AttrWord) (v : ℕ) → 0 < by.den → 0 < (share_in o by w v).den
 share-in-above None by w v above = omega arith

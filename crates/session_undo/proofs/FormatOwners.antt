@@ -15,14 +15,13 @@ use Rattle.view_tree.specs.Views.{AreAbove, HasParent, IsAtDepth, IsTree, LiveVi
 use Rattle.script_text.specs.declared.words.Align.{Align}
 use Rattle.script_text.specs.declared.words.AttrWord.{AttrWord}
 use Rattle.script_text.specs.Meaning as mean
-use Rattle.constraint_compile.specs.Meaning.{MetricList, minus, terms_of, view_in, views_in}
+use Rattle.constraint_compile.specs.Meaning.{HasDenominator, MetricList, minus, terms_of, view_in, views_in}
 use Rattle.constraint_compile.specs.Compiled.{RowForm, CompiledLine}
 use Rattle.constraint_compile.specs.FormatParts.{End, Span, Part, View, Bar, Asks, parts, parts_over, asks, spacing_parts, item_parts, chain_parts, front_parts, back_parts, aligned_parts, align_parts, aligned_word, last_name, own, parents, size, between, inside_near, inside_far, near, far, extent}
 use Rattle.constraint_compile.specs.FormatLines.{line_of, lines_of, minus_terms, name_in, name_of, number_of, object_term, object_views, owner_name, part_views, parts_views}
 use Rattle.constraint_compile.specs.FormatRefusals.{lacks_parent, parent_of}
 use Rattle.constraint_compile.specs.FormatRows.{AreRowsOf, IsCompiledFormat}
 use Rattle.session_undo.specs.Attributes.{AreOwned, HasOwner, IsClose}
-use Rattle.session_undo.proofs.FormTerms.{HasDenominator}
 use Rattle.session_undo.proofs.LeavingRows.{each-join, each-map, each-split}
 use Rattle.session_undo.proofs.Lists.{contains-cons, contains-first}
 use Rattle.session_undo.proofs.NextLines.{lines-above}

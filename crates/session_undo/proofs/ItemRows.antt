@@ -1,5 +1,5 @@
 -- The rows of what is held.
-use Rattle.std.proofs.Common.{◌≡◌, inl, inr, Some, ℕ, zero, suc, ◌+◌, ◌<◌, ◌≤◌, Bool, true, false, true≢false, arith, length-append, cond, List, [], ◌∷◌, ◌++◌, take, length, filter, refl, sym, ap, ◌∙◌, append_assoc, All}
+use Rattle.std.proofs.Common.{◌≡◌, inl, inr, Some, ℕ, zero, suc, ◌+◌, ◌<◌, ◌≤◌, Bool, true, false, true≢false, arith, cond, List, [], ◌∷◌, ◌++◌, take, length, refl, sym, ap, ◌∙◌, append_assoc, All}
 use Rattle.std.proofs.Math.ListN.{get_or}
 use Rattle.std.proofs.lemmas.List.{append-nil, length-map, take_more, map-append}
 use Rattle.std.proofs.lemmas.List.Sums.{count_by-le-length, length-filter}
@@ -109,30 +109,7 @@ named-append views more (Suggested s) is = is
 pub all-named-append : (views more : List LiveView) (held : List Item) → All (IsNamed views) held → All (IsNamed (views ++ more)) held
 all-named-append views more held all k d within = named-append views more (get_or held k d) (all k d within)
 
--- ---- how many, and whether one is there
-
-pub filter-more : (f : Item → Bool) (held : List Item) (item : Item) → filter f (held ++ item ∷ []) ≡ filter f held ++ cond (f item) (item ∷ []) []
-filter-more f [] item = last (f item)
-  where
-    last : (b : Bool) → cond b (item ∷ []) [] ≡ cond b (item ∷ []) []
-    last b = refl
-filter-more f (x ∷ held) item = elim (f x) as (λ b. cond b (x ∷ filter f (held ++ item ∷ [])) (filter f (held ++ item ∷ [])) ≡ cond b (x ∷ filter f held) (filter f held) ++ cond (f item) (item ∷ []) []) [
-  | true ↦ ap (λ (xs : List Item). x ∷ xs) (filter-more f held item)
-  | false ↦ filter-more f held item
-]
-
 -- ---- counts along a list
-
-last-count : (b : Bool) (item : Item) → length (cond b (item ∷ []) []) ≡ cond b 1 0
-last-count true item = refl
-last-count false item = refl
-
-pub count-more : (items : List declared.Item) (i : ℕ) (item : declared.Item) → i < length items → item ≡ get_or items i item
-    → line_count (items_of (take (i + 1) items)) ≡ line_count (items_of (take i items)) + cond (is_line (item_of item)) 1 0
-count-more items i item within read =
-    ap line_count (line-more items i item within read) ∙ ap length (filter-more is_line (items_of (take i items)) (item_of item))
-    ∙ length-append (filter is_line (items_of (take i items))) (cond (is_line (item_of item)) (item_of item ∷ []) [])
-    ∙ ap (λ (n : ℕ). line_count (items_of (take i items)) + n) (last-count (is_line (item_of item)) (item_of item))
 
 pub few-lines : (items : List declared.Item) → line_count (items_of items) ≤ length items
 few-lines items = omega (arith, length-filter is_line (items_of items), count_by-le-length is_line (items_of items), length-map items item_of)
@@ -151,13 +128,6 @@ size-last (x ∷ held) item none = elim (is_size x) as (λ b. cond b true (has_s
 pub size-more : (items : List declared.Item) (i : ℕ) (item : declared.Item) → i < length items → item ≡ get_or items i item → has_size (items_of (take i items)) ≡ false
     → has_size (items_of (take (i + 1) items)) ≡ is_size (item_of item)
 size-more items i item within read none = ap has_size (line-more items i item within read) ∙ size-last (items_of (take i items)) (item_of item) none
-
-pub size-found : (held more : List Item) (item : Item) → is_size item ≡ true → has_size (held ++ (item ∷ more)) ≡ true
-size-found [] more item is = rw is refl
-size-found (x ∷ held) more item is = elim (is_size x) as (λ b. cond b true (has_size (held ++ (item ∷ more))) ≡ true) [
-  | true ↦ refl
-  | false ↦ size-found held more item is
-]
 
 -- an item of the list is one
 pub size-at : (items : List declared.Item) (i : ℕ) (item : declared.Item) → i < length items → item ≡ get_or items i item → is_size (item_of item) ≡ true → has_size (items_of items) ≡ true

@@ -1,6 +1,6 @@
 -- Items of the code that leave, one after the other.
 use Rattle.std.proofs.Common.{◌≡◌, ◌||◌, ℕ, zero, suc, ◌+◌, ◌<◌, ◌≤◌, Some, Bool, true, false, cond, not, List, [], ◌∷◌, ◌++◌, drop, filter, length, take, get_or, slice_get, refl, sym, ap, subst, ◌∙◌, append_assoc, true≢false, arith}
-use Rattle.std.proofs.lemmas.List.{append-nil, drop_all, map-append, take_all, take_more}
+use Rattle.std.proofs.lemmas.List.{append-nil, drop_all, take_all, take_more}
 use Rattle.std.proofs.lemmas.List.Elements.{filter_more}
 use Rattle.std.proofs.lemmas.Option.{same_Some}
 use Rattle.std.specs.List.{list_any, remove}
@@ -9,11 +9,7 @@ use Rattle.session_undo.specs.Attributes.{view_attributes}
 use Rattle.session_undo.specs.Items.{Item}
 use Rattle.session_undo.specs.Kept.{item_of, items_of}
 use Rattle.session_undo.specs.Leaving.{attributes_in, item_numbers, numbers_of, staying}
-
--- one item further along a list
-line-more : (items : List declared.Item) (i : ℕ) (item : declared.Item) → i < length items → item ≡ get_or items i item → items_of (take (i + 1) items) ≡ items_of (take i items) ++ item_of item ∷ []
-line-more items i item within read =
-    ap items_of (take_more items i item within ∙ ap (λ (x : declared.Item). take i items ++ x ∷ []) (sym read)) ∙ map-append item_of (take i items) (item ∷ [])
+use Rattle.session_undo.proofs.ItemRows.{line-more}
 
 module _ (goes : Item → Bool) where
   any-last : (held : List Item) (item : Item) → list_any goes held ≡ false → list_any goes (held ++ item ∷ []) ≡ (goes item || false)

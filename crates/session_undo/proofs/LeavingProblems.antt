@@ -12,11 +12,12 @@ use Rattle.session_undo.specs.Items.{Item, AreRows}
 use Rattle.session_undo.specs.Leaving.{numbers_of, other_stays}
 use Rattle.session_undo.proofs.LeavingRows.{Up, all_numbers, each-going, held-ids, keeps, pairs-up, symmetric, up-going, up-pairs}
 use Rattle.session_undo.proofs.Lists.{pairs-map}
+use Rattle.corner.proofs.NewCorners.{made_problem}
 
 -- ---- one after the other, or all at once
 
 module _ {X : Type 0} (number : X → ℕ) where
-  -- the elements that have none of these numbers
+  -- the elements that have none made_problem these numbers
   abbrev pub others : List ℕ → List X → List X
   others ns xs = filter (λ x. not (is_among ns (number x))) xs
 
@@ -41,19 +42,16 @@ module _ {X : Type 0} (number : X → ℕ) where
           ∙ ap (λ ys. cond (not (is_among ns (number x))) (x ∷ ys) ys) rest
           ∙ sym (ap (λ b. cond (not (b || is_among ns (number x))) (x ∷ others (n ∷ ns) xs) (others (n ∷ ns) xs)) (symmetric n (number x) ∙ e))
 
-abbrev of : List Row → List Stay → Problem
-of rows stays = record { rows = rows; stays = stays }
+without-rows : (ids : List ℕ) (p : Problem) → without_rows ids p ≡ made_problem (filter (keeps ids) p.rows) p.stays
+without-rows [] p = ap (λ rows. made_problem rows p.stays) (others-none (λ (r : Row). r.id) p.rows)
+without-rows (id ∷ ids) p = without-rows ids (without_row id p) ∙ ap (λ rows. made_problem rows p.stays) (others-more (λ (r : Row). r.id) id ids p.rows)
 
-without-rows : (ids : List ℕ) (p : Problem) → without_rows ids p ≡ of (filter (keeps ids) p.rows) p.stays
-without-rows [] p = ap (λ rows. of rows p.stays) (others-none (λ (r : Row). r.id) p.rows)
-without-rows (id ∷ ids) p = without-rows ids (without_row id p) ∙ ap (λ rows. of rows p.stays) (others-more (λ (r : Row). r.id) id ids p.rows)
+without-attrs : (attrs : List ℕ) (p : Problem) → without_attrs attrs p ≡ made_problem p.rows (other_stays attrs p.stays)
+without-attrs [] p = ap (λ stays. made_problem p.rows stays) (others-none (λ (s : Stay). s.attr) p.stays)
+without-attrs (attr ∷ attrs) p = without-attrs attrs (without_attr attr p) ∙ ap (λ stays. made_problem p.rows stays) (others-more (λ (s : Stay). s.attr) attr attrs p.stays)
 
-without-attrs : (attrs : List ℕ) (p : Problem) → without_attrs attrs p ≡ of p.rows (other_stays attrs p.stays)
-without-attrs [] p = ap (λ stays. of p.rows stays) (others-none (λ (s : Stay). s.attr) p.stays)
-without-attrs (attr ∷ attrs) p = without-attrs attrs (without_attr attr p) ∙ ap (λ stays. of p.rows stays) (others-more (λ (s : Stay). s.attr) attr attrs p.stays)
-
-pub without-is : (l : Leaving) (p : Problem) → without l p ≡ of (filter (keeps l.rows) p.rows) (other_stays l.attrs p.stays)
-without-is l p = without-attrs l.attrs (without_rows l.rows p) ∙ ap (λ (q : Problem). of q.rows (other_stays l.attrs q.stays)) (without-rows l.rows p)
+pub without-is : (l : Leaving) (p : Problem) → without l p ≡ made_problem (filter (keeps l.rows) p.rows) (other_stays l.attrs p.stays)
+without-is l p = without-attrs l.attrs (without_rows l.rows p) ∙ ap (λ (q : Problem). made_problem q.rows (other_stays l.attrs q.stays)) (without-rows l.rows p)
 
 pub no-stays-leave : (stays : List Stay) → other_stays [] stays ≡ stays
 no-stays-leave stays = sym (others-none (λ (s : Stay). s.attr) stays)
@@ -67,7 +65,7 @@ each-raised : {X : Type 0} (P : ℕ → X → Type 0) (x : X) (xs : List X) (ns 
 each-raised P x xs [] h = tt
 each-raised P x xs (n ∷ ns) h = (any-further (P n) x xs h.0, each-raised P x xs ns h.1)
 
--- each number of a row is one of a row
+-- each number made_problem a row is one made_problem a row
 each-held : (rows : List Row) → Each (λ n. Any (λ r. r.id ≡ n) rows) (map (λ r. r.id) rows)
 each-held [] = tt
 each-held (r ∷ rows) = ((0, r, omega arith, refl, refl), each-raised (λ n (s : Row). s.id ≡ n) r rows (map (λ s. s.id) rows) (each-held rows))

@@ -11,9 +11,10 @@ use Rattle.constraint_compile.specs.Meaning.{MetricList}
 use Rattle.constraint_compile.specs.Compiled.{RowForm}
 use Rattle.session_undo.specs.Items.{Item, OfWindow, OfView, Sized, OfLine, Suggested, AreItemRows, AreRows}
 use Rattle.session_undo.specs.Leaving.{item_numbers, numbers_of, staying}
-use Rattle.session_undo.proofs.Lists.{pairs-cons, pairs-nil, pairs-tail}
+use Rattle.session_undo.proofs.Lists.{pairs-cons, pairs-nil}
 use Rattle.session_undo.proofs.NextRows.{form_shape, shapes-now}
 use Rattle.session_undo.proofs.Wholes.{shape}
+use Rattle.view_tree.proofs.DropLemmas.{pairs-tail, or-assoc}
 
 -- ---- numbers among others
 
@@ -22,14 +23,6 @@ symmetric a b = elim (cases_eq a b) [
   | inl same ↦ eq-eqb a b same ∙ sym (eq-eqb b a (sym same))
   | inr other ↦ ne_eqb a b other ∙ sym (ne_eqb b a (λ e. other (sym e)))
 ]
-
-or-assoc : (a b c : Bool) → (a || (b || c)) ≡ ((a || b) || c)
-or-assoc true b c = refl
-or-assoc false b c = refl
-
-or-false : (b : Bool) → (b || false) ≡ b
-or-false true = refl
-or-false false = refl
 
 or-true : (b c : Bool) → c ≡ true → (b || c) ≡ true
 or-true true c h = refl

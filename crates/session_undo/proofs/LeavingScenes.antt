@@ -1,5 +1,5 @@
 -- What a removal comes to.
-use Rattle.std.proofs.Common.{◌≡◌, ◌≢◌, inl, inr, Some, ℕ, ◌^◌, ◌<◌, ◌≤◌, Bool, true, false, cond, not, nat_eq, List, [], ◌∷◌, length, map, filter, All, refl, sym, ap, ap₂, ◌∙◌, subst, arith}
+use Rattle.std.proofs.Common.{◌≡◌, ◌≢◌, inl, inr, Some, ℕ, ◌^◌, ◌<◌, Bool, true, false, cond, not, nat_eq, List, [], ◌∷◌, length, map, filter, All, refl, sym, ap, ap₂, ◌∙◌, subst, arith}
 use Rattle.frac_core.specs.Fraction.{Fraction}
 use Rattle.std.proofs.lemmas.List.Elements.{All-filter, All-from_recursion, All-map, All-weaker, recursion_from_All}
 use Rattle.std.specs.List.{Any, Contains, list_any, AllByRecursion as Each}
@@ -8,7 +8,7 @@ use Rattle.problem_core.specs.Layout.{Row, Problem}
 use Rattle.view_tree.specs.Views.{IsTree, LiveView, ViewTree}
 use Rattle.view_tree.specs.Drops.{AreGoing, is_among}
 use Rattle.view_tree.specs.Drops as drops
-use Rattle.view_tree.proofs.DropLemmas.{HasParent-left, window-stays}
+use Rattle.view_tree.proofs.DropLemmas.{HasParent-left, window-stays, shorter}
 use Rattle.constraint_compile.specs.Meaning.{MetricList}
 use Rattle.layout_solver.specs.Layouts.{Layout, AreBest, IsKeptLayout, stays_at}
 use Rattle.layout_solver.specs.Removals.{CanLeave, HasRemoved, IsRemoveStop, Leaving, stood, with_removed}
@@ -28,12 +28,10 @@ use Rattle.session_undo.proofs.Moves.{moved-is}
 use Rattle.session_undo.proofs.Ranks.{HasRank}
 use Rattle.session_undo.proofs.Reached.{reached, settled}
 use Rattle.session_undo.proofs.Wholes.{IsSettled}
+use Rattle.corner.proofs.NewCorners.{made_problem}
 
-abbrev parts : Scene → List Item → ℕ → Layout → Scene
+abbrev pub parts : Scene → List Item → ℕ → Layout → Scene
 parts draft held next l = record draft { held = held; next_row = next; rows = l.problem.rows; stays = l.problem.stays; values = l.values }
-
-abbrev of : List Row → List Stay → Problem
-of rows stays = record { rows = rows; stays = stays }
 
 pub left-at : (scene draft : Scene) (held : List Item) (next : ℕ) (old new : Layout) (l : Leaving) (budget : ℕ)
     → held ≡ draft.held → next ≡ draft.next_row → new.problem.stays ≡ draft.stays → AreDraftRows draft new.problem.rows
@@ -79,20 +77,12 @@ rows_is p q e = ap (λ (r : Problem). r.rows) e
 stays_is : (p q : Problem) → p ≡ q → p.stays ≡ q.stays
 stays_is p q e = ap (λ (r : Problem). r.stays) e
 
-pub shorter : {X : Type 0} (p : X → Bool) (xs : List X) → length (filter p xs) ≤ length xs
-shorter p [] = omega arith
-shorter p (x ∷ xs) = by (p x) (shorter p xs)
-  where
-    by : (b : Bool) → length (filter p xs) ≤ length xs → length (cond b (x ∷ filter p xs) (filter p xs)) ≤ length (x ∷ xs)
-    by true h = omega (arith, h)
-    by false h = omega (arith, h)
-
 -- the stays move, and keep their attributes
 moved-attrs : (stays : List Stay) (values : List (ℕ × Fraction)) → map (λ s. s.attr) (moved stays values) ≡ map (λ s. s.attr) stays
 moved-attrs [] values = refl
 moved-attrs (s ∷ stays) values = ap (λ ns. s.attr ∷ ns) (moved-attrs stays values)
 
--- ---- rows leave alone, as those of a group or of a suggestion
+-- ---- rows leave alone, as those made_problem a group or made_problem a suggestion
 
 module _ (tree : ViewTree) (ms : MetricList) (held : List Item) (next : ℕ) (l : Layout) (kept : IsKept (scene_at tree ms held next l)) (sound : IsKeptLayout l) where
   is : IsSettled l.problem l.values
@@ -102,7 +92,7 @@ module _ (tree : ViewTree) (ms : MetricList) (held : List Item) (next : ℕ) (l 
   moves = moved-is l.problem.stays l.values is.attributes is.rising
 
   pub stands : stood l ≡ stood_of (scene_at tree ms held next l)
-  stands = ap (of l.problem.rows) (sym moves)
+  stands = ap (made_problem l.problem.rows) (sym moves)
 
   module _ (goes : Item → Bool) where
     abbrev group_leaving : Leaving
@@ -114,8 +104,8 @@ module _ (tree : ViewTree) (ms : MetricList) (held : List Item) (next : ℕ) (l 
     group-rows : AreRows ms (staying goes held) (filter (keeps (numbers_of goes held)) l.problem.rows)
     group-rows = rows-stay goes ms (numbers_of goes held) held l.problem.rows kept.are_rows (agree goes held (ids-up goes ms held l.problem kept.are_rows is.whole.rising))
 
-    group-problem : with_removed l group_leaving ≡ of (filter (keeps (numbers_of goes held)) l.problem.rows) (moved l.problem.stays l.values)
-    group-problem = without-is group_leaving (stood l) ∙ ap (of (filter (keeps (numbers_of goes held)) l.problem.rows)) (no-stays-leave (stays_at l.values) ∙ sym moves)
+    group-problem : with_removed l group_leaving ≡ made_problem (filter (keeps (numbers_of goes held)) l.problem.rows) (moved l.problem.stays l.values)
+    group-problem = without-is group_leaving (stood l) ∙ ap (made_problem (filter (keeps (numbers_of goes held)) l.problem.rows)) (no-stays-leave (stays_at l.values) ∙ sym moves)
 
     group-leaves : (rows : List Row) → rows ≡ filter (keeps (numbers_of goes held)) l.problem.rows
         → IsLeaving (scene_at tree ms held next l) (without_items (scene_at tree ms held next l) goes) rows l.corner group_leaving
@@ -123,7 +113,7 @@ module _ (tree : ViewTree) (ms : MetricList) (held : List Item) (next : ℕ) (l 
       reached = reached l sound;
       can = rows-can goes ms held (stood_of (scene_at tree ms held next l)) kept.are_rows is.whole.rising;
       rising = up-pairs (numbers_of goes held) (numbers-up goes ms held l.problem kept.are_rows is.whole.rising);
-      left = ap₂ of rows_are (sym (no-stays-leave (moved l.problem.stays l.values))) ∙ sym (without-is group_leaving (stood_of (scene_at tree ms held next l)));
+      left = ap₂ made_problem rows_are (sym (no-stays-leave (moved l.problem.stays l.values))) ∙ sym (without-is group_leaving (stood_of (scene_at tree ms held next l)));
     }
 
     pub group-poses : (p : Problem) → p ≡ with_removed l group_leaving → IsProblemOf (without_items (scene_at tree ms held next l) goes) p
@@ -239,8 +229,8 @@ module _ (tree : ViewTree) (ms : MetricList) (held : List Item) (next : ℕ) (l 
   view-rows : AreRows ms (staying (goes_with gone) held) (filter (keeps (numbers_of (goes_with gone) held)) l.problem.rows)
   view-rows = rows-stay (goes_with gone) ms (numbers_of (goes_with gone) held) held l.problem.rows kept.are_rows (agree (goes_with gone) held (ids-up (goes_with gone) ms held l.problem kept.are_rows is-settled.whole.rising))
 
-  views-problem : with_removed l views_leaving ≡ of (filter (keeps (numbers_of (goes_with gone) held)) l.problem.rows) (other_stays (attributes_in gone) (moved l.problem.stays l.values))
-  views-problem = without-is views_leaving (stood l) ∙ ap (λ ss. of (filter (keeps (numbers_of (goes_with gone) held)) l.problem.rows) (other_stays (attributes_in gone) ss)) (sym moves-to)
+  views-problem : with_removed l views_leaving ≡ made_problem (filter (keeps (numbers_of (goes_with gone) held)) l.problem.rows) (other_stays (attributes_in gone) (moved l.problem.stays l.values))
+  views-problem = without-is views_leaving (stood l) ∙ ap (λ ss. made_problem (filter (keeps (numbers_of (goes_with gone) held)) l.problem.rows) (other_stays (attributes_in gone) ss)) (sym moves-to)
 
   views-leave : (rows : List Row) → rows ≡ filter (keeps (numbers_of (goes_with gone) held)) l.problem.rows
       → IsLeaving (scene_at tree ms held next l) (without_views (scene_at tree ms held next l) gone) rows l.corner views_leaving
@@ -248,14 +238,14 @@ module _ (tree : ViewTree) (ms : MetricList) (held : List Item) (next : ℕ) (l 
     reached = reached l sound;
     can = can-leave (moved l.problem.stays l.values) (moved-attrs l.problem.stays l.values ∙ kept.counted.stays);
     rising = up-pairs (numbers_of (goes_with gone) held) (numbers-up (goes_with gone) ms held l.problem kept.are_rows is-settled.whole.rising);
-    left = ap (λ rs. of rs (other_stays (attributes_in gone) (moved l.problem.stays l.values))) rows_are ∙ sym (without-is views_leaving (stood_of (scene_at tree ms held next l)));
+    left = ap (λ rs. made_problem rs (other_stays (attributes_in gone) (moved l.problem.stays l.values))) rows_are ∙ sym (without-is views_leaving (stood_of (scene_at tree ms held next l)));
   }
 
   pub views-pose : (p : Problem) → p ≡ with_removed l views_leaving → IsProblemOf (without_views (scene_at tree ms held next l) gone) p
   views-pose p e = (subst (AreRows ms (staying (goes_with gone) held)) (sym (rows_is p _ (e ∙ views-problem))) view-rows, stays_is p _ (e ∙ views-problem))
 
   stands-to : stood l ≡ stood_of (scene_at tree ms held next l)
-  stands-to = ap (of l.problem.rows) (sym moves-to)
+  stands-to = ap (made_problem l.problem.rows) (sym moves-to)
 
   pub views-stop : (budget : ℕ) (s : RemoveStop) → IsRemoveStop (stood l) l.corner views_leaving budget s
       → LeaveStopsAt (scene_at tree ms held next l) (without_views (scene_at tree ms held next l) gone) budget s

@@ -90,7 +90,3 @@ pub dropped-causes : (old : State) (name : List ℕ) (End : Scene → Reply → 
 dropped-causes old name End reply new (inl h) = inl h
 dropped-causes old name End reply new (inr (a, inl h)) = inr (a, inl h)
 dropped-causes old name End reply new (inr (a, inr (b, (root, gone, found, are, end)))) = absurd end
-
-pub removed-causes : (old : State) (group : List ℕ) (End : Scene → Reply → State → Type 0) (reply : Reply) (new : State) → TriedRemove old group NoEnd reply new → TriedRemove old group End reply new
-removed-causes old group End reply new (inl h) = inl h
-removed-causes old group End reply new (inr (a, end)) = absurd end

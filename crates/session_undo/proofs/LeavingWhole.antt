@@ -1,4 +1,4 @@
--- What is left of a problem is one.
+-- What is left made_problem a problem is one.
 use Rattle.std.proofs.Common.{◌≡◌, ◌≢◌, ℕ, zero, suc, ◌<◌, Bool, true, false, cond, not, List, [], ◌∷◌, filter, length, get_or, refl, sym, ap, ◌∙◌, subst, arith, All, true≢false}
 use Rattle.std.proofs.lemmas.List.Elements.{All-filter, filter_passes}
 use Rattle.std.proofs.lemmas.List.{get_or_default}
@@ -11,13 +11,11 @@ use Rattle.layout_solver.specs.Removals.{Leaving}
 use Rattle.view_tree.specs.Drops.{is_among}
 use Rattle.session_undo.specs.Leaving.{other_stays}
 use Rattle.session_undo.proofs.LeavingRows.{keeps}
-use Rattle.session_undo.proofs.LeavingScenes.{shorter}
 use Rattle.session_undo.proofs.LeavingViews.{among-contained, contained-among}
+use Rattle.view_tree.proofs.DropLemmas.{shorter}
+use Rattle.corner.proofs.NewCorners.{made_problem}
 
-abbrev of : List Row → List Stay → Problem
-of rows stays = record { rows = rows; stays = stays }
-
--- the stay of an attribute that doesn't leave stays
+-- the stay made_problem an attribute that doesn't leave stays
 stay-left : (attrs : List ℕ) (stays : List Stay) (a : ℕ) → is_among attrs a ≡ false → HasStay stays a → HasStay (other_stays attrs stays) a
 stay-left attrs [] a out (k, t, within, is, attr) = absurd (omega (arith, within))
 stay-left attrs (s ∷ stays) a out (zero, t, within, is, attr) =
@@ -30,7 +28,7 @@ stay-left attrs (s ∷ stays) a out (suc k, t, within, is, attr) = by (is_among 
     by false (j, u, inside, same, own) = (suc j, u, omega (arith, inside), same, own)
 
 module _ (l : Leaving) where
-  -- the attributes of a row that stays do so too
+  -- the attributes made_problem a row that stays do so too
   row-left : (r : Row) (stays : List Stay) → keeps l.rows r ≡ true → IsCovered stays r → (Any (λ t. Contains l.attrs t.attr) r.terms → Contains l.rows r.id) → IsCovered (other_stays l.attrs stays) r
   row-left r stays kept covered leaves k d within = by (is_among l.attrs (get_or r.terms k d).attr) refl
     where
@@ -47,7 +45,7 @@ module _ (l : Leaving) where
           absurd (true≢false (sym (among-contained l.rows r.id there) ∙ none (is_among l.rows r.id) refl kept))
       by false e = stay-left l.attrs stays (get_or r.terms k d).attr e (covered k d within)
 
-  pub less-whole : (p : Problem) → IsWhole p → All (λ r. Any (λ t. Contains l.attrs t.attr) r.terms → Contains l.rows r.id) p.rows → IsWhole (of (filter (keeps l.rows) p.rows) (other_stays l.attrs p.stays))
+  pub less-whole : (p : Problem) → IsWhole p → All (λ r. Any (λ t. Contains l.attrs t.attr) r.terms → Contains l.rows r.id) p.rows → IsWhole (made_problem (filter (keeps l.rows) p.rows) (other_stays l.attrs p.stays))
   less-whole p whole leaves =
       let stays : Stay → Bool = λ s. not (is_among l.attrs s.attr) in
       record {

@@ -1,9 +1,10 @@
 -- Lists whose keys rise, and what holds along a map.
-use Rattle.std.proofs.Common.{◌≡◌, ◌∙◌, ℕ, zero, suc, ◌<◌, ◌≤◌, List, [], ◌∷◌, ◌++◌, length, map, get_or, sym, subst, arith, ◌⊎◌, inl, inr, All, AllPairs}
+use Rattle.std.proofs.Common.{◌≡◌, ℕ, zero, suc, ◌<◌, ◌≤◌, List, [], ◌∷◌, ◌++◌, map, sym, subst, arith, ◌⊎◌, inl, inr, All, AllPairs}
 use Rattle.std.specs.List.{Contains}
 use Rattle.std.proofs.lemmas.Bool.{cases_eq}
-use Rattle.std.proofs.lemmas.List.{length-map, get_or-map, get_or_default}
+use Rattle.std.proofs.lemmas.List.{length-map, get_or-map}
 use Rattle.std.proofs.lemmas.List.Elements.{All-from_recursion, All-append, All-head, All-tail, All-weaker, All-map}
+use Rattle.view_tree.proofs.DropLemmas.{pairs-tail}
 
 -- ---- pairs
 
@@ -12,9 +13,6 @@ pairs-cons R x xs here rest zero zero d less within = absurd (omega (arith, less
 pairs-cons R x xs here rest zero (suc j) d less within = here j d (omega (arith, within))
 pairs-cons R x xs here rest (suc i) zero d less within = absurd (omega (arith, less))
 pairs-cons R x xs here rest (suc i) (suc j) d less within = rest i j d (omega (arith, less)) (omega (arith, within))
-
-pub pairs-tail : {X : Type 0} (R : X → X → Type 0) (x : X) (xs : List X) → AllPairs R (x ∷ xs) → AllPairs R xs
-pairs-tail R x xs h i j d less within = h (suc i) (suc j) d (omega (arith, less)) (omega (arith, within))
 
 pub pairs-nil : {X : Type 0} (R : X → X → Type 0) → AllPairs R []
 pairs-nil R i j d less within = absurd (omega (arith, within))
@@ -49,11 +47,6 @@ pub all-unmapped : {X Y : Type 0} (f : X → Y) (P : Y → Type 0) (xs : List X)
 all-unmapped f P xs h k d within =
     subst P (get_or-map f xs k d (f d) within) (h k (f d) (omega (arith, within, length-map xs f)))
 
-pub pairs-unmapped : {X Y : Type 0} (f : X → Y) (R : Y → Y → Type 0) (xs : List X) → AllPairs R (map f xs) → AllPairs (λ x y. R (f x) (f y)) xs
-pairs-unmapped f R xs h i j d less within =
-    subst (λ (y : _). R (f (get_or xs i d)) y) (get_or-map f xs j d (f d) within)
-    (subst (λ (y : _). R y (get_or (map f xs) j (f d))) (get_or-map f xs i d (f d) (omega (arith, less, within))) (h i j (f d) less (omega (arith, within, length-map xs f))))
-
 -- ---- membership
 
 pub contains-cons : (x : ℕ) (xs : List ℕ) (v : ℕ) → Contains xs v → Contains (x ∷ xs) v
@@ -76,12 +69,6 @@ contains-or (x ∷ xs) v = elim (cases_eq x v) [
     further : Contains xs v ⊎ (Contains xs v → ⊥) → (x ≡ v → ⊥) → Contains (x ∷ xs) v ⊎ (Contains (x ∷ xs) v → ⊥)
     further (inl h) other = inl (contains-cons x xs v h)
     further (inr none) other = inr (no other none)
-
--- ---- reads
-
--- a list has one element at a place
-pub one-read : {X : Type 0} (xs : List X) (i : ℕ) (x y : X) → i < length xs → x ≡ get_or xs i x → y ≡ get_or xs i y → x ≡ y
-one-read xs i x y within x_is y_is = x_is ∙ get_or_default xs i x y within ∙ sym y_is
 
 -- ---- one element more
 

@@ -10,7 +10,8 @@ use Rattle.problem_core.specs.Kept.{AreRising}
 use Rattle.problem_core.specs.Window.{zero_fraction}
 use Rattle.layout_solver.specs.Layouts.{stays_at, zeros}
 use Rattle.session_undo.specs.Scene.{moved}
-use Rattle.session_undo.proofs.Lists.{all-unmapped, pairs-tail}
+use Rattle.session_undo.proofs.Lists.{all-unmapped}
+use Rattle.view_tree.proofs.DropLemmas.{pairs-tail}
 
 abbrev at : ℕ × Fraction → ℕ
 at v = v.0

@@ -1,19 +1,17 @@
 -- What a line is compiled to goes on from a number, and has attributes of views alone.
 use Rattle.std.proofs.Common.{ℕ, ◌+◌, ◌<◌, Bool, true, false, List, [], ◌∷◌, ◌++◌, map, Option, Some, None, pos, negsuc, ℤ, sym, subst, All, lit<}
 use Rattle.std.specs.List.{Contains, AllByRecursion as Each}
-use Rattle.std.proofs.lemmas.List.Elements.{All-from_recursion, All-append, All-map}
+use Rattle.std.proofs.lemmas.List.Elements.{All-from_recursion}
 use Rattle.span_text.specs.Objects.{Meant}
 use Rattle.span_text.specs.Objects as object
 use Rattle.vfl_text.specs.Formats.{FormatMeaning, PredMeaning}
 use Rattle.view_tree.specs.Views.{LiveView}
 use Rattle.script_text.specs.declared.words.Align.{Align}
 use Rattle.script_text.specs.declared.words.AttrWord.{AttrWord}
-use Rattle.script_text.specs.declared.command.Linear as declared
 use Rattle.script_text.specs.Grammar.{decimal}
 use Rattle.script_text.specs.Meaning as mean
-use Rattle.script_text.specs.View.{term_view, terms_view, linear_view}
 use Rattle.script_text.proofs.FractionLemmas.{lowest_is}
-use Rattle.constraint_compile.specs.Meaning.{MetricList, terms_of, minus}
+use Rattle.constraint_compile.specs.Meaning.{HasDenominator, MetricList, terms_of, minus}
 use Rattle.constraint_compile.specs.Compiled.{RowForm, CompiledLine}
 use Rattle.constraint_compile.specs.Stops.{IsCompiled}
 use Rattle.constraint_compile.specs.FormatParts.{End, Span, Part, View, Bar, Asks, parts}
@@ -21,7 +19,7 @@ use Rattle.constraint_compile.specs.FormatLines.{line_of, lines_of, minus_terms,
 use Rattle.constraint_compile.specs.FormatRows.{AreRowsOf, IsCompiledFormat}
 use Rattle.session_undo.specs.Attributes.{attributes_of, AreNumberedFrom, AreOwned, IsNextLine}
 use Rattle.session_undo.proofs.Owners.{constrain-owned}
-use Rattle.session_undo.proofs.FormTerms.{HasDenominator, terms-among}
+use Rattle.session_undo.proofs.FormTerms.{terms-among}
 use Rattle.session_undo.proofs.Ranks.{FormHasRank, rank-in-thousand, rows-ranked}
 
 -- ---- linear lines
@@ -38,13 +36,6 @@ constrain-next views ms l number c is above =
       attributes = subst (All (IsAmong views)) (sym row.1) (All-from_recursion (IsAmong views) (row.0 ∷ []) (terms-among views (terms_of l) row.0 above row.2.sum, tt));
       owned = constrain-owned views ms l number c is above;
     }
-
--- the terms of a line as it is read
-pub read-above : (l : declared.Linear) → All (λ t. 0 < t.by.den) l.left.items → All (λ t. 0 < t.by.den) l.right.items → All HasDenominator (terms_of (linear_view l))
-read-above l left right =
-    All-append HasDenominator (terms_view l.left.items) (map minus (terms_view l.right.items))
-    (All-map HasDenominator term_view l.left.items left)
-    (All-map HasDenominator minus (terms_view l.right.items) (All-map (λ (t : mean.Term). HasDenominator (minus t)) term_view l.right.items right))
 
 -- ---- formats
 

@@ -9,9 +9,10 @@ use Rattle.view_tree.specs.Views.{LiveView}
 use Rattle.constraint_compile.specs.Meaning.{MetricList}
 use Rattle.constraint_compile.specs.Compiled.{RowForm, CompiledLine, IsRowNow, AreRowsNow}
 use Rattle.session_undo.specs.Attributes.{attributes_of, AreNumberedFrom, IsNextLine}
-use Rattle.session_undo.proofs.Lists.{pairs-nil, pairs-cons, pairs-map, pairs-unmapped, all-unmapped}
+use Rattle.session_undo.proofs.Lists.{pairs-nil, pairs-cons, pairs-map, all-unmapped}
 use Rattle.session_undo.proofs.Wholes.{shape}
 use Rattle.session_undo.specs.Attributes.{MayBeAdded}
+use Rattle.view_tree.proofs.DropLemmas.{pairs-unmapped}
 
 -- ---- numbers
 

@@ -7,14 +7,15 @@ use Rattle.frac_core.specs.Fraction.{Fraction}
 use Rattle.problem_core.specs.Layout.{coefficient}
 use Rattle.view_tree.specs.Views.{LiveView, view_named}
 use Rattle.script_text.specs.Meaning as mean
-use Rattle.constraint_compile.specs.Meaning.{MetricList, share, sum_at, terms_of, view_in, views_in}
+use Rattle.constraint_compile.specs.Meaning.{HasDenominator, MetricList, share, sum_at, terms_of, view_in, views_in}
 use Rattle.constraint_compile.specs.Compiled.{RowForm, CompiledLine, last_scale}
 use Rattle.constraint_compile.specs.Stops.{IsCompiled, IsSumRow}
 use Rattle.constraint_compile.proofs.RowTerms.{coefficient_at, is_zero}
 use Rattle.session_undo.specs.Attributes.{AreOwned, HasOwner, IsClose, view_attributes}
 use Rattle.session_undo.specs.Leaving.{attributes_in}
-use Rattle.session_undo.proofs.FormTerms.{HasDenominator, no-share-in, sum-above, zeros}
+use Rattle.session_undo.proofs.FormTerms.{no-share-in, sum-above}
 use Rattle.session_undo.proofs.Lists.{contains-cons, contains-first, contains-or}
+use Rattle.constraint_compile.proofs.Found.{zeros}
 
 -- ---- attributes of some views
 

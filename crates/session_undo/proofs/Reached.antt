@@ -1,5 +1,5 @@
 -- What a kept layout says: at its corner the attributes have its values.
-use Rattle.std.proofs.Common.{◌≡◌, ◌∙◌, ℕ, get_or, ℤ, pos, negsuc, ◌*ℤ◌, ◌<ℤ◌, nat_abs, sym, ap, subst, refl, arith, All}
+use Rattle.std.proofs.Common.{◌≡◌, ◌∙◌, ℕ, get_or, ℤ, pos, negsuc, ◌*ℤ◌, ◌<ℤ◌, nat_abs, sym, ap, subst, arith, All}
 use Rattle.std.proofs.lemmas.List.Elements.{All-map}
 use lib.IntN.{*ℤ_comm}
 use borrow.Author.Differences.{ints}
@@ -13,6 +13,7 @@ use Rattle.layout_solver.specs.Begins.{Start, IsReached, IsRunFrom, IsRunTo}
 use Rattle.layout_solver.specs.Layouts.{GivesAt, IsKeptLayout, Layout}
 use Rattle.session_undo.proofs.Lists.{all-unmapped}
 use Rattle.session_undo.proofs.Wholes.{IsSettled}
+use Rattle.problem_core.proofs.Ends.{abs_same}
 
 -- ---- at one point
 
@@ -28,10 +29,6 @@ number-here f x x1 y (pos n) above agree given =
     ∙ ap (λ (z : ℤ). z *ℤ x1) given ∙ swap-last f.num (pos n) x1
     ∙ *ℤ_comm (f.num *ℤ x1) (pos n))
 number-here f x x1 y (negsuc n) above agree given = absurd above.lt
-
-same-size : (z : ℤ) → pos 0 <ℤ z → pos (nat_abs z) ≡ z
-same-size (pos n) h = refl
-same-size (negsuc n) h = absurd h.lt
 
 -- the corner fixes the attribute
 abbrev IsFixed : Layout → Point → ℕ → Type 0
@@ -56,7 +53,7 @@ given l h k d within =
     let v = get_or l.values k d in
     let at = h.values k d within in
     number-here v.1 (x.num (attr_column v.0)) (x.num one_column) (at.0.num (attr_column v.0)) (at.0.num one_column) at.0.positive (fixed l h k d within at.0 at.1) at.2
-    ∙ ap (λ (z : ℤ). v.1.num *ℤ z) (sym (same-size (x.num one_column) x.positive))
+    ∙ ap (λ (z : ℤ). v.1.num *ℤ z) (sym (abs_same (x.num one_column) x.positive))
 
 gives : (l : Layout) → IsKeptLayout l → GivesAt l.problem l.corner l.values
 gives l h = (h.corner.corner.point, h.corner.corner.stands, given l h)

@@ -20,9 +20,10 @@ use Rattle.session_undo.specs.Items.{Item, Size, OfWindow, OfView, Sized, OfLine
 use Rattle.session_undo.specs.Kept.{IsItem, item_of, items_of}
 use Rattle.session_undo.specs.Machine.{IsFarSize}
 use Rattle.session_undo.proofs.ConstantChanges.{change}
-use Rattle.session_undo.proofs.Lists.{pairs-nil, pairs-cons, pairs-tail}
+use Rattle.session_undo.proofs.Lists.{pairs-nil, pairs-cons}
 use Rattle.session_undo.proofs.Nears.{fits}
 use Rattle.session_undo.proofs.ShiftedRows.{can-shift, near-at, shift-on, shift-off, shifted-append, shifted-apart}
+use Rattle.view_tree.proofs.DropLemmas.{pairs-tail}
 
 -- ---- along a list
 
@@ -165,18 +166,18 @@ above n (r ∷ rows) h =
     let more : n + 1 < r.id = h.0 in
     (((λ e. omega (arith, e, more)), rest.0), ((λ e. omega (arith, e, more)), rest.1))
 
-each-at : (P : Row → Type 0) (xs ys : List Row) (r : Row) → Each P (xs ++ (r ∷ ys)) → P r
+pub each-at : (P : Row → Type 0) (xs ys : List Row) (r : Row) → Each P (xs ++ (r ∷ ys)) → P r
 each-at P [] ys r h = h.0
 each-at P (x ∷ xs) ys r h = each-at P xs ys r h.1
 
-each-below : (pre rest : List Row) (r : Row) → AllPairs (λ a b. a.id < b.id) (pre ++ (r ∷ rest)) → Each (λ a. a.id < r.id) pre
+pub each-below : (pre rest : List Row) (r : Row) → AllPairs (λ a b. a.id < b.id) (pre ++ (r ∷ rest)) → Each (λ a. a.id < r.id) pre
 each-below [] rest r rising = tt
 each-below (x ∷ pre) rest r rising = (
   each-at (λ b. x.id < b.id) pre rest r (recursion_from_All (λ (b : Row). x.id < b.id) (pre ++ (r ∷ rest)) (λ k d within. rising zero (suc k) d (omega arith) (omega (arith, within)))),
   each-below pre rest r (pairs-tail (λ (a b : Row). a.id < b.id) x (pre ++ (r ∷ rest)) rising),
 )
 
-rising-end : (pre rest : List Row) → AllPairs (λ a b. a.id < b.id) (pre ++ rest) → AllPairs (λ a b. a.id < b.id) rest
+pub rising-end : (pre rest : List Row) → AllPairs (λ a b. a.id < b.id) (pre ++ rest) → AllPairs (λ a b. a.id < b.id) rest
 rising-end [] rest rising = rising
 rising-end (x ∷ pre) rest rising = rising-end pre rest (pairs-tail (λ (a b : Row). a.id < b.id) x (pre ++ rest) rising)
 

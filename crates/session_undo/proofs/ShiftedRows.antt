@@ -13,13 +13,11 @@ use Rattle.constraint_compile.specs.Fractions.{plus, negated}
 use Rattle.layout_solver.specs.declared.engine.Change.{Change}
 use Rattle.layout_solver.specs.Shifts.{CanShift, shifted}
 use Rattle.session_undo.specs.Items.{without_constant}
-use Rattle.session_undo.proofs.Lists.{pairs-tail}
 use Rattle.session_undo.proofs.Nears.{less-num, less-den}
+use Rattle.view_tree.proofs.DropLemmas.{pairs-tail}
+use Rattle.corner_lines.proofs.Shifted.{changed}
 
 -- ---- one row
-
-abbrev pub changed : Fraction → Row → Row
-changed f r = record { id = r.id; rank = r.rank; weight = r.weight; rel = r.rel; scale = r.scale; constant = f; terms = r.terms }
 
 pub shift-on : (n : ℕ) (f : Fraction) (r : Row) → r.id ≡ n → has_constant n f r ≡ changed f r
 shift-on n f r e = ap (λ (b : Bool). cond b (changed f r) r) (eq-eqb r.id n e)

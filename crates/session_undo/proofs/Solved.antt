@@ -32,9 +32,7 @@ use Rattle.session_undo.proofs.Reached.{reached, settled}
 use Rattle.session_undo.proofs.Resized.{shifted-size, some-held, to_size}
 use Rattle.session_undo.proofs.ShiftedRows.{shifted-alike}
 use Rattle.session_undo.proofs.Wholes.{IsSettled}
-
-abbrev parts : Scene → List Item → ℕ → Layout → Scene
-parts draft held next l = record draft { held = held; next_row = next; rows = l.problem.rows; stays = l.problem.stays; values = l.values }
+use Rattle.session_undo.proofs.LeavingScenes.{parts}
 
 -- the draft with the engine's rows and values
 pub solved-at : (scene draft : Scene) (held : List Item) (next : ℕ) (l : Layout) (start : Start) (budget : ℕ)

@@ -15,7 +15,7 @@ use Rattle.session_undo.specs.declared.reply.Refusal.TheVariants as refusal
 use Rattle.std.specs.Prelude.{IfOk, IfErr, OnOk, OnErr}
 use Rattle.std.specs.declared.result.Result.{Result}
 use Rattle.std.specs.declared.result.Result.TheVariants.{Ok, Err}
-use Rattle.session_undo.specs.Replies.{Reply, Done, NoEarlier, Limit, Kind, MayRefuse, accepted}
+use Rattle.session_undo.specs.Replies.{Reply, Done, Limit, Kind, MayRefuse, accepted}
 use Rattle.session_undo.specs.Scene.{History, Scene, State, with_earlier, with_line}
 use Rattle.session_undo.specs.Machine.{TriedUndo, Unless, UnlessAny, Keeps, IsSolved, Solves, SolvesFree, TriedLine, AddsLine, IsCrowded}
 use Rattle.session_undo.specs.Adding.{refusal_of, answer_of, StopsAt, IsNoConflict, NoEnd, UnlessFull, AddStop, StopStep, IsGroupLimit, IsGroupFree, IsLineLimit, IsLineFree, IsFreeLine}
@@ -116,9 +116,6 @@ pub latest-earlier : (earlier : List Scene) → 0 < length earlier → (scene : 
 latest-earlier [] some = absurd (omega (arith, some))
 latest-earlier (scene ∷ rest) some = (scene, rest, refl)
 
-pub undo-refused : (old : State) (Other : Reply → State → Reply → State → Type 0) → old.earlier ≡ [] → TriedUndo old Other NoEarlier old
-undo-refused old Other none = inl (none, refl, refl)
-
 -- the stops of a compiler exclude each other
 pub record Excludes (May : CompileStop → Type 0) : Type 0 where
   pub kind : (name : List ℕ) (word : KindWord) → May (stop.Unknown name) → May (stop.Kind word) → ⊥
@@ -140,11 +137,6 @@ full-map : (old : State) (group : List ℕ) (F G : Reply → State → Type 0) (
 full-map old group F G reply new to (inl h) = inl h
 full-map old group F G reply new to (inr (a, inl h)) = inr (a, inl h)
 full-map old group F G reply new to (inr (a, inr (b, h))) = inr (a, inr (b, to h))
-
-unless-any-map : {A : Type 0} (IsCause : A → Type 0) (refusal : A → Reply) (old : State) (F G : Reply → State → Type 0) (reply : Reply) (new : State) → (F reply new → G reply new) → UnlessAny IsCause refusal old F reply new
-    → UnlessAny IsCause refusal old G reply new
-unless-any-map IsCause refusal old F G reply new to (inl h) = inl h
-unless-any-map IsCause refusal old F G reply new to (inr h) = inr (h.0, to h.1)
 
 -- the causes that are left where nothing is unknown and the group has room
 module _ (old : State) (group : List ℕ) (May : CompileStop → Type 0) (Is : CompiledLine → Type 0) (End : Scene → Reply → State → Type 0) where
@@ -246,9 +238,6 @@ line-limited old group count limit F h =
 pub line-free : (old : State) (group : List ℕ) (count : ℕ) (F : Reply → State → Type 0) (reply : Reply) (new : State) → IsLineFree old group count → F reply new
     → UnlessFull old group (Unless (IsCrowded old count) (Limit word.Rows) old F) reply new
 line-free old group count F reply new is h = inr (is.0.0, inr (is.0.1, inr (is.1, h)))
-
-pub crowded-limit : (old : State) (group : List ℕ) (count : ℕ) → IsGroupFree old group → IsCrowded old count → IsLineLimit old group count word.Rows
-crowded-limit old group count is crowded = inr (is.0, inr (is.1, inl (crowded, refl, refl)))
 
 pub stop-kind-limited : (old : State) (group : List ℕ) (count : ℕ) (wrong : KindWord) (limit : LimitWord) → IsGroupLimit old group limit → StopStep old group count (stop.Kind wrong) (Limit limit) old
 stop-kind-limited old group count wrong limit h = limited old group limit (Keeps (Kind wrong) old) h

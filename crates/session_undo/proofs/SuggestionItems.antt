@@ -20,8 +20,9 @@ use Rattle.session_undo.specs.declared.item.Item as declared
 use Rattle.session_undo.specs.Items.{Item, OfWindow, OfView, Sized, OfLine, Suggested, AreRows, is_suggestion, own_suggestion, suggestion_of, suggested_again, with_constant}
 use Rattle.session_undo.specs.Kept.{IsItem, IsNamed, item_of, items_of}
 use Rattle.session_undo.proofs.ConstantChanges.{change}
-use Rattle.session_undo.proofs.Lists.{pairs-nil, pairs-cons, pairs-tail}
+use Rattle.session_undo.proofs.Lists.{pairs-nil, pairs-cons}
 use Rattle.session_undo.proofs.ShiftedRows.{can-shift, near-at, shift-on, shifted-append, shifted-apart}
+use Rattle.session_undo.proofs.Resized.{each-at, each-below, rising-end}
 
 module _ (view : ℕ) (word : AttrWord) where
   -- ---- along a list
@@ -163,21 +164,6 @@ below n (r ∷ rows) h = (let less : r.id < n = h.0 in (λ e. omega (arith, e, l
 above : (n : ℕ) (rows : List Row) → Each (λ r. n < r.id) rows → Each (λ r. r.id ≢ n) rows
 above n [] h = tt
 above n (r ∷ rows) h = (let more : n < r.id = h.0 in (λ e. omega (arith, e, more)), above n rows h.1)
-
-each-at : (P : Row → Type 0) (xs ys : List Row) (r : Row) → Each P (xs ++ (r ∷ ys)) → P r
-each-at P [] ys r h = h.0
-each-at P (x ∷ xs) ys r h = each-at P xs ys r h.1
-
-each-below : (pre rest : List Row) (r : Row) → AllPairs (λ a b. a.id < b.id) (pre ++ (r ∷ rest)) → Each (λ a. a.id < r.id) pre
-each-below [] rest r rising = tt
-each-below (x ∷ pre) rest r rising = (
-  each-at (λ b. x.id < b.id) pre rest r (recursion_from_All (λ (b : Row). x.id < b.id) (pre ++ (r ∷ rest)) (λ k d within. rising zero (suc k) d (omega arith) (omega (arith, within)))),
-  each-below pre rest r (pairs-tail (λ (a b : Row). a.id < b.id) x (pre ++ (r ∷ rest)) rising),
-)
-
-rising-end : (pre rest : List Row) → AllPairs (λ a b. a.id < b.id) (pre ++ rest) → AllPairs (λ a b. a.id < b.id) rest
-rising-end [] rest rising = rising
-rising-end (x ∷ pre) rest rising = rising-end pre rest (pairs-tail (λ (a b : Row). a.id < b.id) x (pre ++ rest) rising)
 
 module _ (pre post : List Row) (s : Suggestion) (c : Fraction) (rising : AllPairs (λ a b. a.id < b.id) (pre ++ (suggested_row s ∷ post))) where
   pre-stay : shifted (to_suggested s.row c) pre ≡ pre

@@ -15,7 +15,7 @@ use Rattle.session_undo.specs.Items.{suggestion_of}
 use Rattle.session_undo.specs.Scene.{Scene, State, with_suggestion, with_suggested}
 use Rattle.session_undo.specs.Leaving.{without_suggestion}
 use Rattle.session_undo.specs.Replies.{Reply}
-use Rattle.session_undo.specs.Machine.{Suggests, TriedRelease, TriedSuggest, UnlessRankless}
+use Rattle.session_undo.specs.Machine.{Suggests, TriedRelease, TriedSuggest}
 use Rattle.session_undo.specs.Adding.{IsFirstSuggestion, IsHeldSuggestion, IsLaterSuggestion, IsNearSuggestion, IsNextSuggestion, NoEnd, SuggestStep}
 use Rattle.session_undo.proofs.Ranks.{rank-in-thousand}
 
@@ -128,13 +128,6 @@ pub ranked-step : (old : State) (view : ℕ) (attr : AttrWord) (value : Fraction
     → Suggests old view attr value priority rank (suggestion_of view attr old.scene.held) NoEnd reply new → SuggestStep old view attr value priority reply new
 ranked-step old view attr value priority rank reply new known is step =
     inr ((λ other named. none-some other (sym known ∙ named)), inr ((λ none. none rank is), (rank, is, step)))
-
--- no cause but that of the rank
-pub rank-step : (old : State) (view : ℕ) (attr : AttrWord) (value : Fraction) (priority : Option Meant) (reply : Reply) (new : State) → UnlessRankless old (suggested_priority priority) (λ r n. ⊥) reply new
-    → SuggestStep old view attr value priority reply new
-rank-step old view attr value priority reply new (inl h) = inl h
-rank-step old view attr value priority reply new (inr (a, inl h)) = inr (a, inl h)
-rank-step old view attr value priority reply new (inr (a, inr (b, never))) = absurd never
 
 -- what is held is this
 pub held-step : (old : State) (view rank : ℕ) (attr : AttrWord) (value : Fraction) (priority : Option Meant) (held : Option Suggestion) (reply : Reply) (new : State) → suggestion_of view attr old.scene.held ≡ held

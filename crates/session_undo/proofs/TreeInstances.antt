@@ -1,20 +1,14 @@
 -- Texts of trees against which there is a cause, one for each, and a text against which there is none.
-use Rattle.std.proofs.Common.{◌≡◌, ◌&&◌, ℕ, ◌*◌, ◌^◌, ◌<◌, Bool, true, false, List, [], ◌∷◌, None, Some, codes, nat_lt, pos, refl, sym, ap, subst, ◌∙◌, true≢false, arith, inl, inr, lit<, unwrap_or}
-use Rattle.std.specs.Prelude.{IsUtf8}
-use Rattle.std.proofs.lemmas.Bool.Decides.{nat_tests}
-use Rattle.std.proofs.lemmas.List.Elements.{All-from_recursion}
+use Rattle.std.proofs.Common.{◌≡◌, ℕ, ◌*◌, ◌^◌, List, [], ◌∷◌, None, Some, codes, pos, refl, sym, ap, subst, ◌∙◌, arith, inl, inr, lit<, unwrap_or}
 use Rattle.std.proofs.lemmas.Option.{none-some, same_Some}
-use Rattle.std.proofs.lemmas.Str.{IsUtf8-from_ascii}
-use Rattle.std.proofs.lemmas.Str.Ascii.{IsAscii-from_all}
-use Rattle.std.specs.List.{AllByRecursion, list_all}
 use Rattle.name_tables.specs.declared.stops.LimitWord.TheVariants as word
-use Rattle.serde_json.specs.Data.{Data, object, no_members, member, string, array, no_items, item}
+use Rattle.serde_json.specs.Data.{Data, object, no_members, member, string}
 use Rattle.serde_json.specs.Read.{read}
 use Rattle.serde_json.proofs.OnLiterals.{serde_json_on_literals}
 use Rattle.view_tree.specs.JsonStops.{IsFirstHeld, PassesTreeLimit}
-use Rattle.view_tree.specs.JsonTrees.{branch, no_branches, more, names, size, IsJson, IsTreeText, JsonTree, tree_of}
+use Rattle.view_tree.specs.JsonTrees.{branch, no_branches, names, size, IsJson, IsTreeText, JsonTree, tree_of}
 use Rattle.view_tree.specs.Views.{view_named, window}
-use Rattle.view_tree.proofs.JsonExamples.{limits_fail, shape_fails, shape_holds, syntax_holds, within_two}
+use Rattle.view_tree.proofs.JsonExamples.{limits_fail, shape_fails, shape_holds, syntax_holds, within_two, ascii, two_value, two_tree, two_views}
 use Rattle.constraint_compile.specs.declared.stops.KindWord.TheVariants as kind
 use Rattle.session_undo.specs.Replies.{Reply, Done, Outside, Unknown, Taken, Limit, Kind}
 use Rattle.session_undo.specs.Scene.{State, first_scene, first_state}
@@ -24,40 +18,19 @@ use Rattle.session_undo.proofs.TreeChains.{no-first, no-limit, tree-crowded, tre
 
 -- ---- two texts
 
-small : (bs : List ℕ) → list_all (λ b. nat_lt b 128) bs ≡ true → AllByRecursion (λ b. b < 128) bs
-small [] h = tt
-small (b ∷ bs) h = by (nat_lt b 128) refl h (small bs)
-  where
-    by : (c : Bool) → nat_lt b 128 ≡ c → (c && list_all (λ x. nat_lt x 128) bs) ≡ true → (list_all (λ x. nat_lt x 128) bs ≡ true → AllByRecursion (λ x. x < 128) bs) → AllByRecursion (λ x. x < 128) (b ∷ bs)
-    by true e h rest = (grind (arith, nat_tests, e), rest h)
-    by false e h rest = absurd (true≢false (sym h))
-
-ascii : (bs : List ℕ) → list_all (λ b. nat_lt b 128) bs ≡ true → IsUtf8 bs
-ascii bs h = IsUtf8-from_ascii bs (IsAscii-from_all bs (All-from_recursion (λ b. b < 128) bs (small bs h)))
-
--- a view with one in it
-abbrev two-views : List ℕ
-two-views = codes "{\"name\":\"p\",\"children\":[{\"name\":\"q\"}]}"
-
-abbrev two-value : Data
-two-value = object (member (codes "children") (array (item (object (member (codes "name") (string (codes "q")) no_members)) no_items)) (member (codes "name") (string (codes "p")) no_members))
-
-abbrev two-tree : JsonTree
-two-tree = record { place = codes "window"; branch = branch (codes "p") (more (branch (codes "q") no_branches) no_branches) }
-
-read-two : read two-views ≡ Some two-value
+read-two : read two_views ≡ Some two_value
 unfolding serde_json_on_literals
 read-two = refl
 
-json-two : IsJson two-views two-value
-json-two = record { utf8 = ascii two-views refl; value = read-two }
+json-two : IsJson two_views two_value
+json-two = record { utf8 = ascii two_views refl; value = read-two }
 
-text-two : IsTreeText two-views two-tree
-text-two = record { value = two-value; json = json-two; shape = refl }
+text-two : IsTreeText two_views two_tree
+text-two = record { value = two_value; json = json-two; shape = refl }
 
 -- the tree of a text is one
-one-tree : (tree : JsonTree) → IsTreeText two-views tree → two-tree ≡ tree
-one-tree tree text = ap (λ o. unwrap_or o two-tree) (ap tree_of (ap (λ o. unwrap_or o two-value) (sym read-two ∙ text.json.value)) ∙ text.shape)
+one-tree : (tree : JsonTree) → IsTreeText two_views tree → two_tree ≡ tree
+one-tree tree text = ap (λ o. unwrap_or o two_tree) (ap tree_of (ap (λ o. unwrap_or o two_value) (sym read-two ∙ text.json.value)) ∙ text.shape)
 
 -- a view in another
 abbrev in-a : List ℕ
@@ -94,52 +67,52 @@ unknown-holds = tree-unknown first_state in-a 5 NoEnd in-tree text-in refl
 abbrev with-q : State
 with-q = record first_state { scene = record first_scene { metrics = (codes "q", record { num = pos 8; den = 1 }) ∷ [] } }
 
-pub taken-holds : TriedTree with-q two-views 5 NoEnd (Taken (codes "q")) with-q
+pub taken-holds : TriedTree with-q two_views 5 NoEnd (Taken (codes "q")) with-q
 taken-holds =
-    tree-taken with-q two-views 5 NoEnd two-tree (codes "q") text-two refl
+    tree-taken with-q two_views 5 NoEnd two_tree (codes "q") text-two refl
     (record { before = codes "p" ∷ []; later = []; split = refl; free = (refl, tt); held = refl })
 
 -- no number is left for a view
 abbrev at-end : State
 at-end = record first_state { scene = record first_scene { tree = record { views = window ∷ []; next = 2 ^ 29 } } }
 
-pub limit-holds : TriedTree at-end two-views 5 NoEnd (Limit word.Views) at-end
-limit-holds = tree-limited at-end two-views 5 NoEnd two-tree 0 word.Views text-two refl (refl, (refl, tt)) (within_two.short, refl)
+pub limit-holds : TriedTree at-end two_views 5 NoEnd (Limit word.Views) at-end
+limit-holds = tree-limited at-end two_views 5 NoEnd two_tree 0 word.Views text-two refl (refl, (refl, tt)) (within_two.short, refl)
 
 -- four rows are held, the two views have four more, and seven have room
 abbrev narrow : State
 narrow = record first_state { limits = record first_state.limits { rows = 7 } }
 
-pub crowded-holds : TriedTree narrow two-views 5 NoEnd (Limit word.Rows) narrow
-crowded-holds = tree-crowded narrow two-views 5 NoEnd two-tree 0 text-two refl (refl, (refl, tt)) within_two (inl (lit< tt))
+pub crowded-holds : TriedTree narrow two_views 5 NoEnd (Limit word.Rows) narrow
+crowded-holds = tree-crowded narrow two_views 5 NoEnd two_tree 0 text-two refl (refl, (refl, tt)) within_two (inl (lit< tt))
 
 -- ---- none against the two views in the window alone
 
-free-two : (name : List ℕ) → IsFirstHeld first_scene.tree [] (names two-tree.branch) name → ⊥
-free-two = no-first first_scene.tree [] (names two-tree.branch) (refl, (refl, tt))
+free-two : (name : List ℕ) → IsFirstHeld first_scene.tree [] (names two_tree.branch) name → ⊥
+free-two = no-first first_scene.tree [] (names two_tree.branch) (refl, (refl, tt))
 
 no-adds : (reply : Reply) (new : State)
-    → Unless (view_named first_scene.tree.views two-tree.place ≡ None) (Unknown two-tree.place) first_state (UnlessAny (IsFirstHeld first_scene.tree [] (names two-tree.branch)) Taken first_state (AddsBranch first_state two-tree NoEnd)) reply new → ⊥
+    → Unless (view_named first_scene.tree.views two_tree.place ≡ None) (Unknown two_tree.place) first_state (UnlessAny (IsFirstHeld first_scene.tree [] (names two_tree.branch)) Taken first_state (AddsBranch first_state two_tree NoEnd)) reply new → ⊥
 no-adds reply new (inl (none, is, same)) = none-some window (sym none)
 no-adds reply new (inr (found, inl (name, first, is, same))) = free-two name first
 no-adds reply new (inr (found, inr (free, (parent, goes, inl (limit, passes, is, same))))) =
-    limits_fail limit (subst (λ (n : ℕ). PassesTreeLimit first_scene.tree n two-tree.branch limit) (sym (same_Some 0 parent goes)) passes)
+    limits_fail limit (subst (λ (n : ℕ). PassesTreeLimit first_scene.tree n two_tree.branch limit) (sym (same_Some 0 parent goes)) passes)
 no-adds reply new (inr (found, inr (free, (parent, goes, inr (within, inl (inl many, is, same)))))) = omega (arith, many)
 no-adds reply new (inr (found, inr (free, (parent, goes, inr (within, inl (inr great, is, same)))))) = omega (arith, great)
 no-adds reply new (inr (found, inr (free, (parent, goes, inr (within, inr (room, never)))))) = never
 
-pub no-cause : (reply : Reply) (new : State) → TriedTree first_state two-views 5 NoEnd reply new → ⊥
-no-cause reply new (inl (none, is, same)) = none two-value json-two
+pub no-cause : (reply : Reply) (new : State) → TriedTree first_state two_views 5 NoEnd reply new → ⊥
+no-cause reply new (inl (none, is, same)) = none two_value json-two
 no-cause reply new (inr (json, inl (bad, is, same))) = shape_fails bad
 no-cause reply new (inr (json, inr (shaped, (tree, text, rest)))) =
     no-adds reply new
     (subst (λ (t : JsonTree). Unless (view_named first_scene.tree.views t.place ≡ None) (Unknown t.place) first_state (UnlessAny (IsFirstHeld first_scene.tree [] (names t.branch)) Taken first_state (AddsBranch first_state t NoEnd)) reply new) (sym (one-tree tree text)) rest)
 
 -- so they are added
-pub two-come : TriedTree first_state two-views 5 (λ draft. Keeps Done first_state) Done first_state
+pub two-come : TriedTree first_state two_views 5 (λ draft. Keeps Done first_state) Done first_state
 two-come =
-    inr ((λ none. none two-value json-two), inr (shape_fails, (two-tree, text-two, inr ((λ none. none-some window (sym none)), inr (free-two, (0, refl, inr (no-limit first_scene.tree 0 two-tree.branch within_two, inr ((λ crowded. no-room crowded), (refl, refl)))))))))
+    inr ((λ none. none two_value json-two), inr (shape_fails, (two_tree, text-two, inr ((λ none. none-some window (sym none)), inr (free-two, (0, refl, inr (no-limit first_scene.tree 0 two_tree.branch within_two, inr ((λ crowded. no-room crowded), (refl, refl)))))))))
   where
-    no-room : IsCrowded first_state (2 * size two-tree.branch) → ⊥
+    no-room : IsCrowded first_state (2 * size two_tree.branch) → ⊥
     no-room (inl many) = omega (arith, many)
     no-room (inr great) = omega (arith, great)

@@ -87,10 +87,6 @@ all-names views first id n = All-from_recursion (IsNamed views) (view_items firs
 
 -- ---- attributes
 
-from-count : (id n : ℕ) → length (attributes_from id n) ≡ 4 * n
-from-count id zero = refl
-from-count id (suc n) = omega (arith, from-count (id + 1) n)
-
 from-numbers : (id n : ℕ) → id + n ≤ 2 ^ 29 → Each IsNumber (attributes_from id n)
 from-numbers id zero h = tt
 from-numbers id (suc n) h = let four = four-numbers id (omega (arith, h)) in (four.0, (four.1.0, (four.1.1.0, (four.1.1.1.0, from-numbers (id + 1) n (omega (arith, h))))))

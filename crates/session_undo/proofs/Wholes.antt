@@ -12,7 +12,8 @@ use Rattle.problem_core.specs.Kept.{IsNumber, IsRow, IsStay, IsWhole, AreRising}
 use Rattle.problem_core.specs.Window.{zero_fraction}
 use Rattle.layout_solver.specs.Layouts.{stays_at, zeros}
 use Rattle.session_undo.specs.Attributes.{HasOnly, MayBeAdded}
-use Rattle.session_undo.proofs.Lists.{pairs-map, pairs-unmapped, all-unmapped, rising-append}
+use Rattle.session_undo.proofs.Lists.{pairs-map, all-unmapped, rising-append}
+use Rattle.view_tree.proofs.DropLemmas.{pairs-unmapped}
 
 abbrev at : ℕ × Fraction → ℕ
 at v = v.0

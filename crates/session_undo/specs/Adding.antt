@@ -1,6 +1,6 @@
 -- Parts of the steps.
 use Rattle.std.specs.Prelude.{◌≡◌, ◌≢◌, ℕ, ◌+◌, ◌*◌, ◌<◌, ◌≤◌, true, false, List, [], ◌∷◌, ◌++◌, length, Some}
-use Rattle.std.specs.Prelude.{IsSome, Option, None}
+use Rattle.std.specs.Prelude.{All, IsSome, Option, None}
 use Rattle.span_text.specs.Objects.{Meant}
 use Rattle.script_text.specs.declared.words.AttrWord.{AttrWord}
 use Rattle.name_tables.specs.declared.stops.LimitWord.{LimitWord}
@@ -11,6 +11,7 @@ use Rattle.view_tree.specs.Drops.{AreGoing}
 use Rattle.view_tree.specs.JsonTrees.{JsonTree, IsTreeText, names, size, with_branch}
 use Rattle.view_tree.specs.JsonStops.{AreFree, GoesIn, IsWithin}
 use Rattle.frac_core.specs.Fraction.{Fraction}
+use Rattle.problem_core.specs.Kept.{IsRow}
 use Rattle.problem_core.specs.Layout.{Row}
 use Rattle.constraint_compile.specs.Meaning.{MetricList, IsPriority, IsRank, unknown_object}
 use Rattle.constraint_compile.specs.Compiled.{CompiledLine, AreRowsNow, IsFittingSum}
@@ -293,6 +294,7 @@ pub record IsFreeLine (old : State) (group kept : List ℕ) (line : CompiledLine
     (rows : List Row) : Type 0 where
   pub name : kept ≡ group
   pub are_rows : AreRowsNow old.scene.metrics line.rows rows
+  pub each : All IsRow rows
   pub next : IsNextLine old.scene.tree.views old.scene.next_row line
   pub free : IsLineFree old group (length line.rows)
 

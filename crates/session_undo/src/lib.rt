@@ -24,8 +24,7 @@
 //! In reading order: `reply`, `limits`, `changes`; `item` is what is held, with `rows` (its rows), `coming`,
 //! `leaving`, `moving` and `suggesting` (what a change does to it); `scene` is what it comes to, with `past`
 //! (earlier scenes), `frames`, `values`, `drafts` (problems that no engine has taken), `problems` (those of a
-//! scene's changes), `solving` (the engine's changes) and `steps` (the scene's); then `session`. Reminders to
-//! the prover stand in `showing`.
+//! scene's changes), `solving` (the engine's changes) and `steps` (the scene's); then `session`.
 #![tactic(auto)]
 
 mod changes;
@@ -34,7 +33,6 @@ mod limits;
 mod reply;
 mod scene;
 mod session;
-mod showing;
 
 pub use item::{Item, WindowSize};
 pub use limits::Limits;

@@ -21,7 +21,7 @@ use crate::item::leaving::has_group;
 use crate::item::rows::window_rows;
 use crate::item::suggesting::suggestion_of;
 use crate::item::{Item, WindowSize, has_size, line_count, size_of};
-use crate::limits::EARLIER;
+use crate::limits::{EARLIER, FIRST_BUDGET};
 use crate::scene::frames::{frame_of, place_of};
 use crate::scene::past::Past;
 use constraint_compile::Suggestion;
@@ -67,9 +67,6 @@ impl Model for Scene {
         × (EARLIER < deque_capacity s.pasts) };
 }
 
-/// How many exchanges the first run may make.
-const FIRST_RUN: u64 = 100_000;
-
 // What the window alone holds.
 fn first_items(alloc: Global) -> Result<VersionList<Item>, OutOfMemory>
     ensures { IfOk result (λ items. items ≡ record { items = kind.OfWindow ∷ []; before = [] }) }
@@ -89,7 +86,7 @@ fn first_engine(alloc: Global) -> Result<Engine, OutOfMemory>
     let mut engine = Engine::new(alloc)?;
     let rows = window_rows(alloc)?;
     // The first run needs no exchange, and all numbers fit, so it is memory that is wanting.
-    let Ok(()) = engine.add(&[1, 2, 3, 4], &rows, FIRST_RUN) else {
+    let Ok(()) = engine.add(&[1, 2, 3, 4], &rows, FIRST_BUDGET) else {
         return Err(OutOfMemory);
     };
     engine.forget();

@@ -12,7 +12,6 @@ use crate::limits::{BUDGET_LIMIT, FIRST_BUDGET, FIRST_LIMITS, Limits};
 use crate::reply::{NoEarlier, Refusal, Reply, answer_of, left_answer, probe_refusal};
 use crate::scene::Scene;
 use crate::scene::values::values_of;
-use crate::showing::show_terms;
 use constraint_compile::{
     CompileStop, Compiled, KindWord, Suggestion, compile_format, compile_line, format_row_count,
     suggested_constant, suggested_rank,
@@ -237,10 +236,7 @@ impl Session {
             (TriedView self.old name.now parent.now (SolvesFree self.old)) self.old result }
         ensures same { OnErr result (self.new ≡ self.old) }
     {
-        let new = match self.new_view(name, parent) {
-            Ok(new) => new,
-            Err(refusal) => return Err(refusal),
-        };
+        let new = self.new_view(name, parent)?;
         let end = self.scene.take_views(new, self.budget);
         answer_of(end)
     }
@@ -253,10 +249,7 @@ impl Session {
             (TriedTree self.old text.now start (SolvesFree self.old)) self.old result }
         ensures same { OnErr result (self.new ≡ self.old) }
     {
-        let new = match self.new_tree(text, start) {
-            Ok(new) => new,
-            Err(refusal) => return Err(refusal),
-        };
+        let new = self.new_tree(text, start)?;
         let end = self.scene.take_views(new, self.budget);
         answer_of(end)
     }
@@ -291,10 +284,7 @@ impl Session {
         ensures refused { Refusing (TriedMetric self.old name.now value (Solves self.old)) self.old result }
         ensures same { OnErr result (self.new ≡ self.old) }
     {
-        let new = match self.new_metrics(name, value) {
-            Ok(new) => new,
-            Err(refusal) => return Err(refusal),
-        };
+        let new = self.new_metrics(name, value)?;
         let end = self.scene.take_metrics(new.metrics, &new.to, self.budget);
         answer_of(end)
     }
@@ -424,8 +414,6 @@ impl Session {
         ensures refused { Refusing
             (TriedConstraint self.now group.now (linear_view line.now) NoEnd) self.now result }
     {
-        show_terms(&line.left);
-        show_terms(&line.right);
         let (tree, metrics) = (self.scene.tree(), self.scene.metrics());
         match compile_line(self.alloc, tree, metrics, line, self.scene.next_row()) {
             Ok(compiled) => self.with_rows(group, compiled),
@@ -441,10 +429,8 @@ impl Session {
             (TriedConstraint self.old group.now (linear_view line.now) (Solves self.old)) self.old result }
         ensures same { OnErr result (self.new ≡ self.old) }
     {
-        match self.new_constraint(group, line) {
-            Ok(new) => self.add_line(new),
-            Err(refusal) => Err(refusal),
-        }
+        let new = self.new_constraint(group, line)?;
+        self.add_line(new)
     }
 
     // The line that a format makes.
@@ -492,10 +478,8 @@ impl Session {
             (TriedFormat self.old group.now align (meaning format.now) (Solves self.old)) self.old result }
         ensures same { OnErr result (self.new ≡ self.old) }
     {
-        match self.new_format(group, align, format) {
-            Ok(new) => self.add_line(new),
-            Err(refusal) => Err(refusal),
-        }
+        let new = self.new_format(group, align, format)?;
+        self.add_line(new)
     }
 
     // The views that go with the view of this name.
@@ -519,10 +503,7 @@ impl Session {
         ensures refused { Refusing (TriedDrop self.old name.now (LeavesFree self.old)) self.old result }
         ensures same { OnErr result (self.new ≡ self.old) }
     {
-        let gone = match self.going(name) {
-            Ok(gone) => gone,
-            Err(refusal) => return Err(refusal),
-        };
+        let gone = self.going(name)?;
         let end = self.scene.take_views_out(&gone, self.budget);
         left_answer(end)
     }
@@ -629,10 +610,7 @@ impl Session {
         ensures refused { Refusing
             (SuggestStep self.now view.0 word value (object_view priority.entry)) self.now result }
     {
-        let rank = match self.rank_of(priority) {
-            Ok(rank) => rank,
-            Err(refusal) => return Err(refusal),
-        };
+        let rank = self.rank_of(priority)?;
         let Some(held) = self.scene.suggestion(view, word) else {
             return match self.first_suggestion(view, rank, word, value) {
                 Ok(new) => Ok(NewSuggestion::First(new)),
@@ -706,10 +684,9 @@ impl Session {
             (Solves self.old)) self.old result }
         ensures same { OnErr result (self.new ≡ self.old) }
     {
-        match self.new_suggestion(name, word, value, priority) {
-            Ok(NewSuggestion::First(new)) => self.suggest_first(new),
-            Ok(NewSuggestion::Again(again)) => self.suggest_later(again),
-            Err(refusal) => Err(refusal),
+        match self.new_suggestion(name, word, value, priority)? {
+            NewSuggestion::First(new) => self.suggest_first(new),
+            NewSuggestion::Again(again) => self.suggest_later(again),
         }
     }
 
@@ -735,10 +712,7 @@ impl Session {
             (TriedRelease self.old name.now word (LeavesFree self.old)) self.old result }
         ensures same { OnErr result (self.new ≡ self.old) }
     {
-        let view = match self.suggested(name, word) {
-            Ok(view) => view,
-            Err(refusal) => return Err(refusal),
-        };
+        let view = self.suggested(name, word)?;
         let end = self.scene.take_suggestion_out(view, word, self.budget);
         left_answer(end)
     }
@@ -818,10 +792,7 @@ impl Session {
             (λ p. TriedView self.now name.now parent.now (PosesDraft p) Done self.now) }
         ensures refused { Refusing (TriedView self.now name.now parent.now NoEnd) self.now result }
     {
-        let new = match self.new_view(name, parent) {
-            Ok(new) => new,
-            Err(refusal) => return Err(refusal),
-        };
+        let new = self.new_view(name, parent)?;
         Ok(self.scene.views_problem(&new)?)
     }
 
@@ -830,10 +801,7 @@ impl Session {
         ensures posed { IfOk result (λ p. TriedTree self.now text.now start (PosesDraft p) Done self.now) }
         ensures refused { Refusing (TriedTree self.now text.now start NoEnd) self.now result }
     {
-        let new = match self.new_tree(text, start) {
-            Ok(new) => new,
-            Err(refusal) => return Err(refusal),
-        };
+        let new = self.new_tree(text, start)?;
         Ok(self.scene.views_problem(&new)?)
     }
 
@@ -842,10 +810,7 @@ impl Session {
         ensures posed { IfOk result (λ p. TriedMetric self.now name.now value (PosesDraft p) Done self.now) }
         ensures refused { Refusing (TriedMetric self.now name.now value NoEnd) self.now result }
     {
-        let new = match self.new_metrics(name, value) {
-            Ok(new) => new,
-            Err(refusal) => return Err(refusal),
-        };
+        let new = self.new_metrics(name, value)?;
         Ok(self.scene.metrics_problem(&new.to)?)
     }
 
@@ -878,10 +843,8 @@ impl Session {
         ensures refused { Refusing
             (TriedConstraint self.now group.now (linear_view line.now) NoEnd) self.now result }
     {
-        match self.new_constraint(group, line) {
-            Ok(new) => Ok(self.line_problem(new)?),
-            Err(refusal) => Err(refusal),
-        }
+        let new = self.new_constraint(group, line)?;
+        Ok(self.line_problem(new)?)
     }
 
     // The problem with a format more.
@@ -896,10 +859,8 @@ impl Session {
         ensures refused { Refusing
             (TriedFormat self.now group.now align (meaning format.now) NoEnd) self.now result }
     {
-        match self.new_format(group, align, format) {
-            Ok(new) => Ok(self.line_problem(new)?),
-            Err(refusal) => Err(refusal),
-        }
+        let new = self.new_format(group, align, format)?;
+        Ok(self.line_problem(new)?)
     }
 
     // The problem without the view of this name and all below it.
@@ -907,10 +868,7 @@ impl Session {
         ensures posed { IfOk result (λ p. TriedDrop self.now name.now (PosesDraft p) Done self.now) }
         ensures refused { Refusing (TriedDrop self.now name.now NoEnd) self.now result }
     {
-        let gone = match self.going(name) {
-            Ok(gone) => gone,
-            Err(refusal) => return Err(refusal),
-        };
+        let gone = self.going(name)?;
         Ok(self.scene.left_problem(&gone)?)
     }
 
@@ -939,10 +897,9 @@ impl Session {
         ensures refused { Refusing
             (TriedSuggest self.now name.now word value (object_view priority.entry) NoEnd) self.now result }
     {
-        match self.new_suggestion(name, word, value, priority) {
-            Ok(NewSuggestion::First(new)) => Ok(self.scene.suggestion_problem(&new)?),
-            Ok(NewSuggestion::Again(again)) => Ok(self.scene.suggested_problem(&again)?),
-            Err(refusal) => Err(refusal),
+        match self.new_suggestion(name, word, value, priority)? {
+            NewSuggestion::First(new) => Ok(self.scene.suggestion_problem(&new)?),
+            NewSuggestion::Again(again) => Ok(self.scene.suggested_problem(&again)?),
         }
     }
 
@@ -951,10 +908,7 @@ impl Session {
         ensures posed { IfOk result (λ p. TriedRelease self.now name.now word (PosesDraft p) Done self.now) }
         ensures refused { Refusing (TriedRelease self.now name.now word NoEnd) self.now result }
     {
-        let view = match self.suggested(name, word) {
-            Ok(view) => view,
-            Err(refusal) => return Err(refusal),
-        };
+        let view = self.suggested(name, word)?;
         Ok(self.scene.release_problem(view, word)?)
     }
 

@@ -117,7 +117,8 @@ pub fn small_line_rows(
     metrics: &Metrics,
 ) -> Result<Vec<Row>, OutOfMemory>
     requires { AreSmallForms metrics.now line.now.rows }
-    ensures { IfOk result (λ rows. AreRowsNow metrics.now line.now.rows rows.items) }
+    ensures rows { IfOk result (λ rows. AreRowsNow metrics.now line.now.rows rows.items) }
+    ensures each { IfOk result (λ rows. All IsRow rows.items) }
 {
     match line.rows_now(alloc, metrics) {
         Ok(rows) => Ok(rows),

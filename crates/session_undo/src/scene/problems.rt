@@ -1,5 +1,7 @@
 // The problems of a scene, and those that its changes would solve.
 ghost use Rattle.std.specs.Prelude.{◌≡◌, ◌≢◌, ◌<◌, ◌≤◌, ◌+◌, ◌*◌, ℕ, List, false, length, Some, IfOk, IfErr};
+ghost use Rattle.std.specs.Prelude.{All};
+ghost use Rattle.problem_core.specs.Kept.{IsRow};
 ghost use Rattle.problem_core.specs.declared.limits.TheConstants.{NUMBER_LIMIT};
 ghost use Rattle.view_tree.specs.Drops.{AreGoing};
 ghost use Rattle.constraint_compile.specs.Compiled.{AreRowsNow};
@@ -27,7 +29,6 @@ use crate::item::rows::{size_rows, suggestion_rows, view_rows};
 use crate::item::{HeldSize, WindowSize, size_of};
 use crate::scene::Scene;
 use crate::scene::drafts::{as_held, rows_after, with_less, with_more, with_rows};
-use crate::showing::show_rows;
 use constraint_compile::{CompileStop, Compiled, Suggestion};
 use frac_core::OutOfMemory;
 use layout_solver::Change;
@@ -152,14 +153,18 @@ impl Scene {
     }
 
     /// The problem with a line more, whose rows these are.
-    pub fn line_problem(&self, line: &Compiled, rows: Vec<Row>) -> Result<Problem, OutOfMemory>
+    pub(crate) fn line_problem(
+        &self,
+        line: &Compiled,
+        rows: Vec<Row>,
+    ) -> Result<Problem, OutOfMemory>
         requires rows { AreRowsNow self.now.scene.metrics line.now.rows rows.items }
+        requires each { All IsRow rows.items }
         requires next { IsNextLine self.now.scene.tree.views self.now.scene.next_row line.now }
         requires room { length self.now.scene.rows + length rows.items ≤ MOST_ROWS }
         ensures { IfOk result
             (λ p. (group : List ℕ) → IsProblemOf (with_line self.now.scene group line.now) p) }
     {
-        show_rows(&rows); // for the proof: what rows keep
         self.item_problem(rows)
     }
 

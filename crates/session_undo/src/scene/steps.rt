@@ -1,7 +1,8 @@
 // The steps of a scene. Each changes the items, has the engine solve what they stand for, and keeps the
 // scene of before as the latest earlier one. After a stop all is as before.
 ghost use Rattle.std.specs.Prelude.{◌≡◌, ◌≢◌, ◌<◌, ◌≤◌, ◌+◌, ◌*◌, ℕ, false, length, Some};
-ghost use Rattle.std.specs.Prelude.{IfOk, IfErr, OnOk, OnErr};
+ghost use Rattle.std.specs.Prelude.{All, IfOk, IfErr, OnOk, OnErr};
+ghost use Rattle.problem_core.specs.Kept.{IsRow};
 ghost use Rattle.problem_core.specs.declared.limits.TheConstants.{NUMBER_LIMIT};
 ghost use Rattle.cert_core.specs.Paths as paths;
 ghost use Rattle.view_tree.specs.Drops.{AreGoing};
@@ -27,7 +28,6 @@ use crate::item::{HeldSize, Item, WindowSize, resize_first, size_of};
 use crate::scene::Scene;
 use crate::scene::past::{Past, keep, push_item};
 use crate::scene::solving::{take_constants, take_more, take_out};
-use crate::showing::show_rows;
 use cert_core::RunStop;
 use constraint_compile::{Compiled, Suggestion};
 use layout_solver::{Change, RemoveStop};
@@ -195,7 +195,7 @@ impl Scene {
     }
 
     /// Takes a line more of this group, whose rows these are.
-    pub fn take_line(
+    pub(crate) fn take_line(
         &mut self,
         group: OwnedName,
         line: Compiled,
@@ -203,6 +203,7 @@ impl Scene {
         budget: u64,
     ) -> Result<(), RunStop>
         requires rows { AreRowsNow self.old.scene.metrics line.rows rows.now }
+        requires each { All IsRow rows.now }
         requires next { IsNextLine self.old.scene.tree.views self.old.scene.next_row line }
         requires room { length self.old.scene.rows + length rows.now ≤ MOST_ROWS }
         requires number { self.old.scene.next_row + length rows.now ≤ NUMBER_LIMIT }
@@ -212,7 +213,6 @@ impl Scene {
         ensures earlier { OnOk result (self.new.earlier ≡ with_earlier self.old.scene self.old.earlier) }
         ensures same { OnErr result (self.new ≡ self.old) }
     {
-        show_rows(rows); // for the proof: what rows keep
         self.take_item(Item::OfLine { group, line }, rows, budget)
     }
 

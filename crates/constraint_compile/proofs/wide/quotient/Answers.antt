@@ -1,8 +1,8 @@
 use Rattle.std.proofs.Common.{◌∙◌, ap, ◌*ℤ◌, ℤ}
 use Rattle.std.specs.Int.{w128}
 use Rattle.std.proofs.lemmas.Int.{quot_is, quot_fits}
-use Rattle.constraint_compile.proofs.Quotients.{exact_quotient}
 use Rattle.constraint_compile.proofs.wide.quotient.Goals as goal
+use Rattle.frac_core.proofs.Quotients.{exact_quotient}
 
 pub returns : goal.returns
 returns c =

@@ -9,7 +9,7 @@ use Rattle.session_undo.proofs.NextItems.{count-draft, line-next}
 use Rattle.session_undo.proofs.scene.Scene.take_line.Goals as goal
 
 pub take_item-requires : goal.take_item-requires
-take_item-requires c = record { next = line-next c.args.self.now.scene c.args.group c.args.line c.args.rows.now c.requires.next c.requires.rows c.show_rows.ensures c.requires.room; number = c.requires.number }
+take_item-requires c = record { next = line-next c.args.self.now.scene c.args.group c.args.line c.args.rows.now c.requires.next c.requires.rows c.requires.each c.requires.room; number = c.requires.number }
 
 pub returns-clause-solved : goal.returns-clause-solved
 returns-clause-solved c =

@@ -27,6 +27,7 @@ take_line-end-requires c =
     rw c.deref.ensures.value
     (record {
       rows = free.are_rows;
+      each = free.each;
       next = free.next;
       room = room-fits old (length c.args.new.rows.items) c.self.invariant room;
       number = room-numbers old (length c.args.new.rows.items) room;

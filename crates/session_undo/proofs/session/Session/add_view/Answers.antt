@@ -1,4 +1,5 @@
 use Rattle.std.proofs.Common.{◌+◌, ◌≤◌, ◌^◌, ℕ, length, subst, arith}
+use Rattle.std.proofs.lemmas.Result.{err_from_is_err_and}
 use Rattle.session_undo.specs.Replies.{Reply, accepted}
 use Rattle.session_undo.specs.declared.reply.Reply as answer
 use Rattle.session_undo.specs.Machine.{TriedView, SolvesFree}
@@ -9,27 +10,29 @@ use Rattle.session_undo.proofs.Chains.{view-causes, view-passed, ok-map, err-map
 use Rattle.session_undo.proofs.Additions.{room-fits, room-numbers}
 use Rattle.session_undo.proofs.session.Session.add_view.Goals as goal
 
-pub returns-in-Err-clause-refused : goal.returns-in-Err-clause-refused
-returns-in-Err-clause-refused c =
-    refuses (λ (reply : Reply). TriedView c.args.self.now c.args.name.now c.args.parent.now NoEnd reply c.args.self.now) (λ (reply : Reply). TriedView c.args.self.now c.args.name.now c.args.parent.now (SolvesFree c.args.self.now) reply c.args.self.now)
-    c.in-Err.refusal (λ reply h. view-causes c.args.self.now c.args.name.now c.args.parent.now (SolvesFree c.args.self.now) reply c.args.self.now h) c.in-Err.ensures.refused
+pub returns-in_err-new-clause-refused : goal.returns-in_err-new-clause-refused
+returns-in_err-new-clause-refused c =
+    let exit = err_from_is_err_and c.from_residual.result c.from_residual.ensures.1 in
+    rw (exit.1, exit.2)
+    (refuses (λ (reply : Reply). TriedView c.args.self.now c.args.name.now c.args.parent.now NoEnd reply c.args.self.now) (λ (reply : Reply). TriedView c.args.self.now c.args.name.now c.args.parent.now (SolvesFree c.args.self.now) reply c.args.self.now)
+    c.in_err-new.field-0.0 (λ reply h. view-causes c.args.self.now c.args.name.now c.args.parent.now (SolvesFree c.args.self.now) reply c.args.self.now h) c.in_err-new.ensures.refused)
 
 pub returns-clause-accepted : goal.returns-clause-accepted
 returns-clause-accepted c =
     let old = (session_at c.self.inside.scene c.self.inside.budget c.self.inside.limits) in
     rw (c.answer_of.ensures, ← c.self.view_is)
-    (ok-map (λ (reply : answer.Reply). SolvesFree old (views_draft old.scene c.in-Ok.new.tree c.in-Ok.new.first_view.0 c.in-Ok.new.count) (accepted reply) (after old c.take_views-end.new.self))
+    (ok-map (λ (reply : answer.Reply). SolvesFree old (views_draft old.scene c.in_ok-new.new.tree c.in_ok-new.new.first_view.0 c.in_ok-new.new.count) (accepted reply) (after old c.take_views-end.new.self))
     (λ (reply : answer.Reply). TriedView old c.args.name.now c.args.parent.now (SolvesFree old) (accepted reply) (after old c.take_views-end.new.self)) _
-    (λ reply end. view-passed old c.args.name.now c.args.parent.now (SolvesFree old) c.in-Ok.new.tree c.in-Ok.new.first_view.0 (accepted reply) (after old c.take_views-end.new.self) (rw (← c.self.view_is) at c.in-Ok.ensures.made) (subst (λ (k : ℕ). SolvesFree old (views_draft old.scene c.in-Ok.new.tree c.in-Ok.new.first_view.0 k) (accepted reply) (after old c.take_views-end.new.self)) c.in-Ok.ensures.one end))
-    (free-accepted (views_draft old.scene c.in-Ok.new.tree c.in-Ok.new.first_view.0 c.in-Ok.new.count) old c.take_views-end.new.self c.take_views-end.result c.take_views-end.ensures.solved c.take_views-end.ensures.earlier))
+    (λ reply end. view-passed old c.args.name.now c.args.parent.now (SolvesFree old) c.in_ok-new.new.tree c.in_ok-new.new.first_view.0 (accepted reply) (after old c.take_views-end.new.self) (rw (← c.self.view_is) at c.in_ok-new.ensures.made) (subst (λ (k : ℕ). SolvesFree old (views_draft old.scene c.in_ok-new.new.tree c.in_ok-new.new.first_view.0 k) (accepted reply) (after old c.take_views-end.new.self)) c.in_ok-new.ensures.one end))
+    (free-accepted (views_draft old.scene c.in_ok-new.new.tree c.in_ok-new.new.first_view.0 c.in_ok-new.new.count) old c.take_views-end.new.self c.take_views-end.result c.take_views-end.ensures.solved c.take_views-end.ensures.earlier))
 
 pub returns-clause-refused : goal.returns-clause-refused
 returns-clause-refused c =
     let old = (session_at c.self.inside.scene c.self.inside.budget c.self.inside.limits) in
     rw (c.answer_of.ensures, ← c.self.view_is)
-    (err-map (λ (reply : Reply). SolvesFree old (views_draft old.scene c.in-Ok.new.tree c.in-Ok.new.first_view.0 c.in-Ok.new.count) reply old) (λ (reply : Reply). TriedView old c.args.name.now c.args.parent.now (SolvesFree old) reply old) _
-    (λ reply end. view-passed old c.args.name.now c.args.parent.now (SolvesFree old) c.in-Ok.new.tree c.in-Ok.new.first_view.0 reply old (rw (← c.self.view_is) at c.in-Ok.ensures.made) (subst (λ (k : ℕ). SolvesFree old (views_draft old.scene c.in-Ok.new.tree c.in-Ok.new.first_view.0 k) reply old) c.in-Ok.ensures.one end))
-    (free-refused (views_draft old.scene c.in-Ok.new.tree c.in-Ok.new.first_view.0 c.in-Ok.new.count) old c.take_views-end.new.self c.take_views-end.result c.take_views-end.ensures.stop c.take_views-end.ensures.free))
+    (err-map (λ (reply : Reply). SolvesFree old (views_draft old.scene c.in_ok-new.new.tree c.in_ok-new.new.first_view.0 c.in_ok-new.new.count) reply old) (λ (reply : Reply). TriedView old c.args.name.now c.args.parent.now (SolvesFree old) reply old) _
+    (λ reply end. view-passed old c.args.name.now c.args.parent.now (SolvesFree old) c.in_ok-new.new.tree c.in_ok-new.new.first_view.0 reply old (rw (← c.self.view_is) at c.in_ok-new.ensures.made) (subst (λ (k : ℕ). SolvesFree old (views_draft old.scene c.in_ok-new.new.tree c.in_ok-new.new.first_view.0 k) reply old) c.in_ok-new.ensures.one end))
+    (free-refused (views_draft old.scene c.in_ok-new.new.tree c.in_ok-new.new.first_view.0 c.in_ok-new.new.count) old c.take_views-end.new.self c.take_views-end.result c.take_views-end.ensures.stop c.take_views-end.ensures.free))
 
 pub returns-clause-same : goal.returns-clause-same
 returns-clause-same c = rw (c.answer_of.ensures, ← c.self.view_is) (answer-same (session_at c.self.inside.scene c.self.inside.budget c.self.inside.limits) c.take_views-end.new.self c.take_views-end.result c.take_views-end.ensures.same)
@@ -37,11 +40,11 @@ returns-clause-same c = rw (c.answer_of.ensures, ← c.self.view_is) (answer-sam
 pub take_views-end-requires : goal.take_views-end-requires
 take_views-end-requires c =
     let old = (session_at c.self.inside.scene c.self.inside.budget c.self.inside.limits) in
-    let made = rw (← c.self.view_is) at c.in-Ok.ensures.made in
+    let made = rw (← c.self.view_is) at c.in_ok-new.ensures.made in
     let room : length old.scene.rows + 2 ≤ 2000 = room-fits old 2 c.self.invariant made.rows in
     let fits : old.scene.next_row + 2 ≤ 2 ^ 31 = room-numbers old 2 made.rows in
     record {
-      grown = rw (← c.self.view_is) at c.in-Ok.ensures.grown;
-      room = omega (arith, room, c.in-Ok.ensures.one);
-      number = omega (arith, fits, c.in-Ok.ensures.one);
+      grown = rw (← c.self.view_is) at c.in_ok-new.ensures.grown;
+      room = omega (arith, room, c.in_ok-new.ensures.one);
+      number = omega (arith, fits, c.in_ok-new.ensures.one);
     }

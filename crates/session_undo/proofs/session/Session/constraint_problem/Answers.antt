@@ -4,7 +4,7 @@ use Rattle.session_undo.specs.Machine.{PosesDraft}
 use Rattle.session_undo.proofs.LineStops.{constraint-passed}
 use Rattle.session_undo.proofs.session.Session.constraint_problem.Goals as goal
 
-pub returns-in_ok-line_problem-in-Ok-clause-posed : goal.returns-in_ok-line_problem-in-Ok-clause-posed
-returns-in_ok-line_problem-in-Ok-clause-posed c =
-    constraint-passed c.args.self.now c.args.group.now (linear_view c.args.line.now) (PosesDraft c.in_ok-line_problem-in-Ok.field-0) c.in-Ok.new.line c.in-Ok.new.group c.in-Ok.new.rows.items Done c.args.self.now c.in-Ok.ensures.is c.in-Ok.ensures.made
-    c.in_ok-line_problem-in-Ok.ensures
+pub returns-clause-posed : goal.returns-clause-posed
+returns-clause-posed c =
+    constraint-passed c.args.self.now c.args.group.now (linear_view c.args.line.now) (PosesDraft c.in_ok-line_problem.field-0) c.in_ok-new.new.line c.in_ok-new.new.group c.in_ok-new.new.rows.items Done c.args.self.now c.in_ok-new.ensures.is c.in_ok-new.ensures.made
+    c.in_ok-line_problem.ensures

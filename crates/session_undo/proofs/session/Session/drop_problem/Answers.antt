@@ -8,9 +8,9 @@ pub returns-clause-posed : goal.returns-clause-posed
 returns-clause-posed c =
     let old = (session_at c.self.inside.scene c.self.inside.budget c.self.inside.limits) in
     rw (← c.self.view_is)
-    (dropped-passed old c.args.name.now c.in-Ok.gone.items (PosesDraft c.in_ok-left_problem.field-0) Done old (rw (← c.self.view_is) at c.in-Ok.ensures.going) (rw c.deref.ensures.value at c.in_ok-left_problem.ensures))
+    (dropped-passed old c.args.name.now c.in_ok-gone.gone.items (PosesDraft c.in_ok-left_problem.field-0) Done old (rw (← c.self.view_is) at c.in_ok-gone.ensures.going) (rw c.deref.ensures.value at c.in_ok-left_problem.ensures))
 
 pub left_problem-requires : goal.left_problem-requires
 left_problem-requires c =
-    let going = rw (← c.self.view_is) at c.in-Ok.ensures.going in
+    let going = rw (← c.self.view_is) at c.in_ok-gone.ensures.going in
     rw c.deref.ensures.value (going.root.id, going.below, going.are)

@@ -10,6 +10,7 @@ line_problem-requires c =
     let free = rw (← c.self.view_is) at c.requires in
     record {
       rows = free.are_rows;
+      each = free.each;
       next = free.next;
       room = room-fits old (length c.args.new.rows.items) c.self.invariant (subst (λ (n : ℕ). IsCrowded old n → ⊥) (sym free.are_rows.long) free.free.1);
     }

@@ -7,7 +7,7 @@ use Rattle.session_undo.proofs.session.Session.metric_problem.Goals as goal
 pub returns-clause-posed : goal.returns-clause-posed
 returns-clause-posed c =
     let old = (session_at c.self.inside.scene c.self.inside.budget c.self.inside.limits) in
-    let free = rw (← c.self.view_is) at c.in-Ok.ensures.made in
+    let free = rw (← c.self.view_is) at c.in_ok-new.ensures.made in
     rw (← c.self.view_is)
-    (metric-passed old c.args.name.now c.args.value (PosesDraft c.in_ok-metrics_problem.field-0) c.in-Ok.new.metrics c.in-Ok.new.to.items Done old free
-    ((rw c.deref.ensures.value at c.in_ok-metrics_problem.ensures) c.in-Ok.new.metrics free.changes))
+    (metric-passed old c.args.name.now c.args.value (PosesDraft c.in_ok-metrics_problem.field-0) c.in_ok-new.new.metrics c.in_ok-new.new.to.items Done old free
+    ((rw c.deref.ensures.value at c.in_ok-metrics_problem.ensures) c.in_ok-new.new.metrics free.changes))

@@ -3,7 +3,7 @@ use Rattle.constraint_compile.specs.Compiled.{CompiledLine}
 use Rattle.script_text.specs.View.{linear_view}
 use Rattle.constraint_compile.specs.Stops.{IsCompiled, MayStop}
 use Rattle.session_undo.proofs.SmallLines.{line-small}
-use Rattle.session_undo.proofs.NextLines.{constrain-next, read-above}
+use Rattle.session_undo.proofs.NextLines.{constrain-next}
 use Rattle.session_undo.specs.Scene.{State}
 use Rattle.session_undo.specs.Replies.{Reply}
 use Rattle.session_undo.specs.Machine.{TriedConstraint}
@@ -32,8 +32,7 @@ with_rows-requires c =
     subst (λ (s : State). IsCompiled s.scene.tree.views s.scene.metrics (linear_view c.args.line.now) s.scene.next_row c.in-Ok.compiled) c.self.view_is (rw (c.tree-tree.ensures, c.metrics-metrics.ensures, c.next_row.ensures.value) at c.in-Ok.ensures.compiled) in
     record {
       small = line-small c.args.self.now.scene.tree.views c.args.self.now.scene.metrics (linear_view c.args.line.now) c.args.self.now.scene.next_row c.in-Ok.compiled is;
-      next = constrain-next c.args.self.now.scene.tree.views c.args.self.now.scene.metrics (linear_view c.args.line.now) c.args.self.now.scene.next_row c.in-Ok.compiled is
-          (read-above c.args.line.now (rw c.deref.ensures.value at c.show_terms.ensures) (rw c.deref-2.ensures.value at c.show_terms-2.ensures));
+      next = constrain-next c.args.self.now.scene.tree.views c.args.self.now.scene.metrics (linear_view c.args.line.now) c.args.self.now.scene.next_row c.in-Ok.compiled is c.in-Ok.ensures.above;
     }
 
 pub returns-in-Err-clause-refused : goal.returns-in-Err-clause-refused

@@ -8,4 +8,4 @@ pub returns-clause-posed : goal.returns-clause-posed
 returns-clause-posed c =
     let old = (session_at c.self.inside.scene c.self.inside.budget c.self.inside.limits) in
     rw (← c.self.view_is)
-    (release-passed old c.args.name.now c.args.word c.in-Ok.view.0 (PosesDraft c.in_ok-release_problem.field-0) Done old (rw (← c.self.view_is) at c.in-Ok.ensures.held) c.in_ok-release_problem.ensures)
+    (release-passed old c.args.name.now c.args.word c.in_ok-view.view.0 (PosesDraft c.in_ok-release_problem.field-0) Done old (rw (← c.self.view_is) at c.in_ok-view.ensures.held) c.in_ok-release_problem.ensures)

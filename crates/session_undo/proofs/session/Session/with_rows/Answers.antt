@@ -5,4 +5,4 @@ use Rattle.session_undo.proofs.session.Session.with_rows.Goals as goal
 pub returns-in-Some-clause-refused : goal.returns-in-Some-clause-refused
 returns-in-Some-clause-refused c =
     let long : c.len.result ≡ length c.in_ok-rows.rows.items = search rules in
-    add-limited c.args.self.now c.args.group.now c.args.line c.len.result c.in-Some.word (long ∙ c.in_ok-rows.ensures.long) c.in-Some.ensures.full
+    add-limited c.args.self.now c.args.group.now c.args.line c.len.result c.in-Some.word (long ∙ c.in_ok-rows.ensures.rows.long) c.in-Some.ensures.full
