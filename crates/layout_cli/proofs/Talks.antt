@@ -16,14 +16,11 @@ use Rattle.layout_cli.specs.Machine.{Step, Run, IsRunOf}
 use Rattle.layout_cli.specs.Printing.{HasFront}
 use Rattle.layout_cli.specs.Talks.{AreWholeLines, AnswersWhole, AnswersFirst, AnswersInPart, IsTalk, IsGivenAs, joined}
 use Rattle.layout_cli.proofs.Printed.{appends_none, front_then}
+use Rattle.path_levels.proofs.MultipleFacts.{bool_cases}
 
 and_assoc : (a b c : Bool) → ((a && b) && c) ≡ (a && (b && c))
 and_assoc true b c = refl
 and_assoc false b c = refl
-
-true_or_false : (b : Bool) → (b ≡ true) ⊎ (b ≡ false)
-true_or_false true = inl refl
-true_or_false false = inr refl
 
 and_true : (a : Bool) → (a && true) ≡ a
 and_true true = refl
@@ -152,7 +149,7 @@ talk_waits before held taken p next good last talk waits =
       run = talk.run;
       written = talk.written;
     }) in
-    elim (true_or_false p.is_cut) [
+    elim (bool_cases p.is_cut) [
       | inl is ↦ gives_up (omega (arith, length-append s.gone p.bytes, s.long is)) (waits.long (inl is))
       | inr is ↦ elim (leb_tells (length p.bytes) 4097) [
         | inl small ↦ subst (λ (q : Pending). IsTalk before held taken q good last) (sym (waits.short is small.1)) talk

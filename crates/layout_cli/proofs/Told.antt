@@ -1,6 +1,6 @@
 -- A refusal that is told is one that the step allows.
 use Rattle.std.proofs.Common.{◌≡◌, ◌∙◌, ◌++◌, ◌≤◌, ℕ, Bool, true, false, is_ok, List, length, refl, sym, ap, subst, inl, inr, arith, true≢false}
-use Rattle.std.specs.Prelude.{IfOk, IfErr, OnOk, OnErr}
+use Rattle.std.specs.Prelude.{IfOk, IfErr, OnErr}
 use Rattle.std.specs.declared.result.Result.{Result}
 use Rattle.std.specs.declared.result.Result.TheVariants.{Ok, Err}
 use Rattle.session_undo.specs.declared.reply.Refusal.{Refusal}
@@ -63,19 +63,6 @@ told-text old out scene (refusal.Spent place path) is = is
 told-text old out scene (refusal.NoTarget attr up) is = is
 told-text old out scene refusal.OutOfMemory is = is
 
-pub text-told : (old out : List ℕ) (scene : Scene) (r : Refusal) → IsTold (Adds scene old out) r → IsTold (λ reply. out ≡ old ++ text_of scene reply) r
-text-told old out scene (refusal.Syntax at) is = is
-text-told old out scene (refusal.Unknown name) is = is
-text-told old out scene (refusal.Taken name) is = is
-text-told old out scene (refusal.Limit word) is = is
-text-told old out scene (refusal.Kind word) is = is
-text-told old out scene (refusal.Conflict by) is = is
-text-told old out scene refusal.NoEarlier is = is
-text-told old out scene (refusal.Overflow place at) is = is
-text-told old out scene (refusal.Spent place path) is = is
-text-told old out scene (refusal.NoTarget attr up) is = is
-text-told old out scene refusal.OutOfMemory is = is
-
 -- what the line leads to, told by its text
 pub answered : (old new : State) (line before after : List ℕ) (r : Result answer.Reply Refusal) → IfOk r (λ reply. Step old line (accepted reply) new) → IfErr r (MayRefuse (λ reply. Step old line reply old)) → OnErr r (new ≡ old)
     → Tells (λ reply. after ≡ before ++ text_of new.scene reply) r → (reply : Reply) × Step old line reply new × (after ≡ before ++ text_of new.scene reply) × (is_ok r ≡ is_accepted reply)
@@ -101,8 +88,3 @@ unchanged old new line (Ok good.Rows) step same never = not-done old Rows new re
 unchanged old new line (Ok (good.Certificate levels)) step same never = not-done old (Certificate levels) new refl (step-change old line (Certificate levels) new step)
 unchanged old new line (Ok (good.Diagnosed d)) step same never = not-done old (Diagnosed (findings_of d)) new refl (step-change old line (Diagnosed (findings_of d)) new step)
 unchanged old new line (Err stop) step same never = same
-
--- the text of a refusal is that of its reply
-pub refusal-tells : {E : Type 0} (old out : List ℕ) (scene : Scene) (refused : Refusal) (end : Result (Unit {0}) E) → IfOk end (λ done. IsTold (Adds scene old out) refused) → OnOk end (IsTold (λ reply. out ≡ old ++ text_of scene reply) refused)
-refusal-tells old out scene refused (Ok done) h = text-told old out scene refused h
-refusal-tells old out scene refused (Err stop) h = tt
