@@ -60,7 +60,7 @@ still-there c d (m ∷ ms) i ne =
     kept (suc k, within, is) f = let i = f (k, omega (arith, within), is) in (suc i.0, omega (arith, i.1), i.2)
 
 -- different marks that are all among others are no more than these
-no-more : (xs ys : List Mark) → AllPairs (λ m n. place m ≢ place n) xs → Each (λ m. IsIn (place m) ys) xs → length xs ≤ length ys
+pub no-more : (xs ys : List Mark) → AllPairs (λ m n. place m ≢ place n) xs → Each (λ m. IsIn (place m) ys) xs → length xs ≤ length ys
 no-more [] ys apart h = omega arith
 no-more (m ∷ xs) ys apart h =
     let less : length xs ≤ length (without (place m) ys) =

@@ -16,7 +16,7 @@ use std::marker::Model;
 pub const LINE_LIMIT: usize = 4096;
 
 // The room for what is pending.
-const ROOM: usize = 8192;
+const ROOM: usize = 2 * LINE_LIMIT;
 
 /// A line without its end, or a line that is too long.
 #[derive(Clone, Copy, Debug, PartialEq, Eq)]
@@ -162,22 +162,22 @@ fn pull_behind<S: Source>(
     Ok(count)
 }
 
-// The index of the first byte 10, if there is one.
+// The index of the first line end, if there is one.
 fn end_of_line(bytes: &[u8]) -> Option<usize>
     ensures within { IfSome result (λ i. i < length bytes.now) }
     ensures before { IfSome result (λ i. IsUnended (take i bytes.now)) }
     ensures at { IfSome result (λ i. slice_index bytes.now i ≡ 10) }
     ensures none { IfNone result (IsUnended bytes.now) }
 {
-    bytes.iter().position(|b| *b == 10)
+    bytes.iter().position(|b| *b == b'\n')
 }
 
-// The bytes without a byte 13 at their end.
+// The bytes without a carriage return at their end.
 fn without_return(bytes: &[u8]) -> &[u8]
     ensures { result.now ≡ strip_carriage_return bytes.now }
 {
     match bytes {
-        [front @ .., 13] => front,
+        [front @ .., b'\r'] => front,
         _ => bytes,
     }
 }

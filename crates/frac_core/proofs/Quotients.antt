@@ -17,7 +17,7 @@ positive_is (negsuc n) h = absurd (omega (arith, ints))
 
 pub above_bound : (n f a m : ℕ) → f ≤ n → m ≡ f * a → 0 < f → a < PART_BOUND → n * PART_BOUND ≤ m → ⊥
 above_bound n f a m le product some less large =
-    let scaled : f * a < f * 4398046511104 = mul-lt-mul_of_pos_left less some in
+    let scaled : f * a < f * PART_BOUND = mul-lt-mul_of_pos_left less some in
     omega (arith, scaled, le, product, large)
 
 pub size_opposite : (z : ℤ) → unsigned_abs (neg_ℤ z) ≡ unsigned_abs z

@@ -29,5 +29,5 @@ pub use divisor::gcd;
 pub use frac::{Frac, PART_BOUND, Unfit};
 pub use memory::{OutOfMemory, Stop};
 pub use order::cmp_wide;
-pub use text::write_frac;
+pub use text::{FRACTION_ROOM, write_frac};
 pub use wide::Wide;

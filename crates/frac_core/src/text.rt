@@ -1,6 +1,7 @@
-// Fractions as text.
+// Fractions as text, `p/q` or `p`.
 ghost use Rattle.std.specs.Prelude.{◌≡◌, ◌+◌, ◌≤◌, ◌++◌, length, take, drop};
 ghost use Rattle.frac_core.specs.Text.{fraction_text};
+ghost use Rattle.frac_core.specs.declared.text.TheConstants.{FRACTION_ROOM};
 
 use crate::wide::Wide;
 use itoa::Buffer;
@@ -17,12 +18,15 @@ fn put(out: &mut [u8], at: usize, piece: &[u8]) -> usize
     end
 }
 
+/// The room for a fraction's text: a sign, two numbers of forty digits, and a slash.
+pub const FRACTION_ROOM: usize = 82;
+
 /// Writes the fraction as `p/q`, or as `p` where q is 1, into the first bytes of `out`; the answer is the
 /// text's length.
-pub fn write_frac(f: Wide, out: &mut [u8; 82]) -> usize
+pub fn write_frac(f: Wide, out: &mut [u8; FRACTION_ROOM]) -> usize
     ensures length { result ≡ length (fraction_text f) }
     ensures text { take result out.new ≡ fraction_text f }
-    ensures within { result ≤ 82 }
+    ensures within { result ≤ FRACTION_ROOM }
 {
     let mut digits = Buffer::new();
     let end = put(out, 0, digits.format(f.num()).as_bytes());

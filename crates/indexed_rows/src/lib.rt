@@ -35,7 +35,7 @@ ghost use Rattle.std.specs.Prelude.{◌≡◌, ◌+◌, ◌-◌, ◌<◌, ◌≤
 ghost use Rattle.std.specs.Prelude.{IfOk, OnOk, OnErr, slice_get, slice_set, slice_index_or};
 ghost use Rattle.frac_core.specs.Fraction.{IsFitting};
 ghost use Rattle.row_core.specs.Rows.{IsKeptRow, coefficient};
-ghost use Rattle.version_list.specs.declared.TheConstants.{MOST};
+ghost use Rattle.version_list.specs.declared.TheConstants.{VERSION_LIMIT};
 ghost use Rattle.indexed_rows.specs.Indexes.{AreIndexed, IsColumnOf, IsIndexOf, row_at};
 ghost use Rattle.indexed_rows.specs.Matrices.{IsBelow};
 
@@ -138,7 +138,7 @@ impl IndexedRows {
     /// How many earlier versions there are.
     pub fn earlier(&self) -> usize
         ensures count { result ≡ length self.now.before }
-        ensures most { result ≤ MOST }
+        ensures most { result ≤ VERSION_LIMIT }
     {
         self.rows.earlier()
     }
@@ -151,7 +151,7 @@ impl IndexedRows {
         ensures columns { IsBelow (length self.now.rows) result.now }
     {
         let row = self.rows.get(w as usize);
-        let _entries = row.entries();
+        let _entries = row.entries(); // for the proof: what a row keeps
         row
     }
 
@@ -209,7 +209,7 @@ impl IndexedRows {
     /// Makes the rows of now the newest earlier version, and forgets the oldest where there are too many.
     pub fn mark(&mut self)
         ensures rows { self.new.rows ≡ self.old.rows }
-        ensures before { self.new.before ≡ take MOST (self.old.rows ∷ self.old.before) }
+        ensures before { self.new.before ≡ take VERSION_LIMIT (self.old.rows ∷ self.old.before) }
     {
         self.rows.mark();
         self.lists.mark();

@@ -42,7 +42,7 @@ pub enum LimitWord {
     Name,
     /// The live views, and their numbers.
     Views,
-    /// The levels of the tree of views.
+    /// The depth of the tree of views.
     Depth,
     /// The metrics.
     Metrics,

@@ -1,4 +1,4 @@
--- What stops a change of a tableau.
+-- What stops a change of a corner's tableau.
 use Rattle.frac_core.specs.declared.memory.Stop.{Stop}
 use Rattle.problem_core.specs.declared.stops.Quantity.{Quantity}
 

@@ -1,4 +1,4 @@
-// Least common multiples.
+// The least common multiple, by which fractions come over one denominator.
 ghost use Rattle.std.specs.Prelude.{ℕ, ◌*◌, ◌<◌, ◌^◌};
 ghost use Rattle.std.specs.Int.{◌∣◌};
 

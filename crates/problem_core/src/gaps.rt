@@ -24,18 +24,6 @@ use thiserror::Error;
 #[error("the values of the row's attributes are too large over one denominator")]
 pub struct NoRoom;
 
-/// The attribute's value, 0 where it has none.
-fn value(values: &Values, attr: u32) -> Frac
-    ensures { result ≡ value_of values.now attr }
-{
-    for (number, value) in values.pairs() {
-        if *number == attr {
-            return *value;
-        }
-    }
-    Frac::zero()
-}
-
 fn denominator(value: &Frac) -> u128
     ensures value { result ≡ value.now.den }
     ensures above { 0 < result }
@@ -44,7 +32,7 @@ fn denominator(value: &Frac) -> u128
     value.den() as u128
 }
 
-/// The least common denominator of the values of the terms' attributes, if it is below [`GAP_ROOM`].
+// The least common denominator of the values of the terms' attributes, if it is below [`GAP_ROOM`].
 fn common_denominator(terms: &[Term], values: &Values) -> Result<u128, NoRoom>
     ensures room { IfOk result (λ d. d < GAP_ROOM) }
     ensures least { IfOk result (IsLeastCommon (value_dens values.now terms.now)) }
@@ -53,7 +41,7 @@ fn common_denominator(terms: &[Term], values: &Values) -> Result<u128, NoRoom>
 {
     let mut common = 1;
     for term in terms {
-        common = least_common(common, denominator(&value(values, term.attr)));
+        common = least_common(common, denominator(&values.value(term.attr)));
         if common >= GAP_ROOM {
             return Err(NoRoom);
         }
@@ -61,7 +49,7 @@ fn common_denominator(terms: &[Term], values: &Values) -> Result<u128, NoRoom>
     Ok(common)
 }
 
-/// The value times a multiple of its denominator, if it is below [`GAP_ROOM`] in size.
+// The value times a multiple of its denominator, if it is below [`GAP_ROOM`] in size.
 fn scaled(value: &Frac, common: u128) -> Result<i64, NoRoom>
     requires { common < GAP_ROOM }
     ensures value { IfOk result (λ z. z ≡ times_common value.now common) }
@@ -94,7 +82,7 @@ fn total(x: i128, y: i128) -> i128
     x + y
 }
 
-/// The terms' sum where each attribute has its value, over a common denominator of the values.
+// The terms' sum where each attribute has its value, over a common denominator of the values.
 fn sum_over(terms: &[Term], values: &Values, common: u128) -> Result<i128, NoRoom>
     requires terms { All (λ t. unsigned_abs t.by ≤ COEFFICIENT_LIMIT) terms.now }
     requires count { length terms.now ≤ TERM_LIMIT }
@@ -107,13 +95,13 @@ fn sum_over(terms: &[Term], values: &Values, common: u128) -> Result<i128, NoRoo
 {
     let mut sum = 0;
     for term in terms {
-        let scaled = scaled(&value(values, term.attr), common)?;
+        let scaled = scaled(&values.value(term.attr), common)?;
         sum = total(sum, product(term.by, scaled));
     }
     Ok(sum)
 }
 
-/// The order of sum/common and a fraction.
+// The order of sum/common and a fraction.
 fn compare(sum: i128, common: u128, constant: &Frac) -> Ordering
     requires above { 0 < common }
     requires room { common < GAP_ROOM }

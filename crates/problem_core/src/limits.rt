@@ -6,7 +6,8 @@ pub const REQUIRED: u16 = 1000;
 /// The greatest weight of a row.
 pub const WEIGHT_LIMIT: u16 = 1000;
 
-/// The greatest number of a row or of an attribute.
+/// The greatest number of a row or of an attribute. A session gives out numbers below it: the greatest one is
+/// left for a row that is only tried.
 pub const NUMBER_LIMIT: u32 = 1 << 31;
 
 /// The greatest scale of a row, and the greatest size of a term's coefficient.

@@ -1,4 +1,4 @@
-// Problems.
+// Problems: rows with rising numbers, and a stay for each attribute that they name.
 ghost use Rattle.std.specs.Prelude.{◌≡◌, IfOk};
 ghost use Rattle.problem_core.specs.Kept.{IsWhole};
 
@@ -61,6 +61,6 @@ impl Problem {
     pub fn show_whole(&self)
         ensures { IsWhole self.now }
     {
-        let _ = &self.rows;
+        let _ = &self.rows; // for the proof: what a problem keeps
     }
 }

@@ -1,4 +1,4 @@
-// Rows.
+// Rows: a relation of a sum of attributes and a constant, with a rank and a weight.
 ghost use Rattle.std.specs.Prelude.{◌≡◌, ◌<ℤ◌, pos, nat_abs, IfOk};
 ghost use Rattle.problem_core.specs.Kept.{IsRow};
 ghost use Rattle.frac_core.specs.Fraction.{IsKept};
@@ -103,6 +103,7 @@ impl Row {
         self.weight
     }
 
+    /// The relation of the sum to the constant.
     pub fn rel(&self) -> Rel
         ensures { result ≡ self.now.rel }
     {
@@ -116,6 +117,7 @@ impl Row {
         self.scale
     }
 
+    /// The constant, in points.
     pub fn constant(&self) -> Frac
         ensures { result ≡ self.now.constant }
     {
@@ -133,6 +135,6 @@ impl Row {
     pub fn show_row(&self)
         ensures { IsRow self.now }
     {
-        let _ = &self.id;
+        let _ = &self.id; // for the proof: what a row keeps
     }
 }

@@ -1,5 +1,6 @@
 // The values of attributes.
 ghost use Rattle.std.specs.Prelude.{◌≡◌, IfOk};
+ghost use Rattle.problem_core.specs.Gaps.{value_of};
 ghost use Rattle.problem_core.specs.Kept.{AreRising};
 
 use frac_core::{Frac, OutOfMemory};
@@ -42,10 +43,22 @@ impl Values {
         &self.pairs
     }
 
+    /// The attribute's value, 0 where it has none.
+    pub fn value(&self, attr: u32) -> Frac
+        ensures { result ≡ value_of self.now attr }
+    {
+        for (number, value) in self.pairs() {
+            if *number == attr {
+                return *value;
+            }
+        }
+        Frac::zero()
+    }
+
     /// Shows that the attributes of all values rise.
     pub fn show_rising(&self)
         ensures { AreRising self.now }
     {
-        let _ = &self.pairs;
+        let _ = &self.pairs; // for the proof: what values keep
     }
 }

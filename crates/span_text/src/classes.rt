@@ -1,5 +1,4 @@
-//! Classes of bytes.
-
+// Classes of bytes.
 ghost use Rattle.std.specs.Prelude.{◌≡◌};
 ghost use Rattle.span_text.specs.Classes as class;
 

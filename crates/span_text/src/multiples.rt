@@ -1,5 +1,4 @@
-//! A number or a ratio.
-
+// A number or a ratio.
 ghost use Rattle.std.specs.Prelude.{◌≡◌, ◌^◌, ◌<◌, ◌≤◌, IfOk, length};
 ghost use Rattle.span_text.specs.Gives.{Gives};
 ghost use Rattle.span_text.specs.Tokens.{below_at, number_bound};

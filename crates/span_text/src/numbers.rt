@@ -1,5 +1,4 @@
-//! Numbers, with the spaces behind them.
-
+// Numbers, with the spaces behind them.
 ghost use Rattle.std.specs.Prelude.{◌≡◌, ◌+◌, ◌^◌, ◌<◌, ◌≤◌, ◌*◌, ◌-◌, IfOk, length};
 ghost use Rattle.span_text.specs.Gives.{Gives};
 ghost use Rattle.span_text.specs.Digits.{nonzero_at};

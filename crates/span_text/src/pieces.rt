@@ -1,6 +1,5 @@
-//! The smallest readers. Each takes a text and gives what follows the piece that was read. An error is the
-//! count of the bytes that are left where no text of the grammar goes on.
-
+// The smallest readers. Each takes a text and gives what follows the piece that was read. An error is the
+// count of the bytes that are left where no text of the grammar goes on.
 ghost use Rattle.std.specs.Prelude.{◌≡◌, ◌≤◌, ◌==◌, length, ℕ, List, Result, IfOk};
 ghost use Rattle.span_text.specs.Gives.{Gives};
 ghost use Rattle.span_text.specs.Reading.{lit_at, front, back, not_at, end_at, starts, either, read_word};

@@ -2,7 +2,7 @@
 use Rattle.std.specs.Prelude.{◌≡◌, ◌≢◌, ℕ, ◌+◌, ◌<◌, ◌≤◌, List, [], ◌∷◌, length, take, slice_set, slice_get}
 use Rattle.std.specs.Prelude.{slice_index, slice_index_or, IsSomeAnd, All, AllPairs}
 use Rattle.std.specs.List.{insert}
-use Rattle.version_list.specs.declared.TheConstants.{MOST}
+use Rattle.version_list.specs.declared.TheConstants.{VERSION_LIMIT}
 use Rattle.version_list.specs.declared.log.Log.{Log}
 use Rattle.version_list.specs.declared.log.Removed.{Removed}
 use Rattle.version_list.specs.declared.log.Replaced.{Replaced}
@@ -78,6 +78,6 @@ pub record IsSound
     {T : Type 0} (items : List T) (slots : List ℕ) (stack : List (Log T)) (capacity space : ℕ) : Type 0 where
   pub lengths : length slots ≡ length items
   pub logs : AreLogsOf slots stack
-  pub few : length stack ≤ MOST
-  pub room : MOST ≤ capacity
+  pub few : length stack ≤ VERSION_LIMIT
+  pub room : VERSION_LIMIT ≤ capacity
   pub spacious : All (λ version. length version ≤ space) (versions items stack)

@@ -46,9 +46,9 @@ use std::collections::VecDeque;
 use std::marker::Model;
 
 /// The most earlier versions that a list keeps.
-pub const MOST: usize = 33;
+pub const VERSION_LIMIT: usize = 33;
 
-/// A list with its earlier versions, of which a mark past the thirty-third forgets the oldest.
+/// A list with its earlier versions, of which a mark past [`VERSION_LIMIT`] forgets the oldest.
 #[derive(Drop)]
 pub struct VersionList<T> {
     items: Vec<T>,
@@ -83,7 +83,7 @@ impl<T> VersionList<T> {
     pub fn new(alloc: Global) -> Result<VersionList<T>, OutOfMemory>
         ensures { IfOk result (λ list. list ≡ record { items = []; before = [] }) }
     {
-        let logs = VecDeque::with_capacity(alloc, MOST)?;
+        let logs = VecDeque::with_capacity(alloc, VERSION_LIMIT)?;
         Ok(VersionList {
             items: Vec::new(alloc),
             slots: Vec::new(alloc),
@@ -110,7 +110,7 @@ impl<T> VersionList<T> {
     /// How many earlier versions there are.
     pub fn earlier(&self) -> usize
         ensures count { result ≡ length self.now.before }
-        ensures most { result ≤ MOST }
+        ensures most { result ≤ VERSION_LIMIT }
     {
         self.logs.len()
     }
@@ -189,7 +189,7 @@ impl<T: Drop> VersionList<T> {
     /// Makes the elements of now the newest earlier version, and forgets the oldest where there are too many.
     pub fn mark(&mut self)
         ensures items { self.new.items ≡ self.old.items }
-        ensures before { self.new.before ≡ take MOST (self.old.items ∷ self.old.before) }
+        ensures before { self.new.before ≡ take VERSION_LIMIT (self.old.items ∷ self.old.before) }
     {
         let mut log = empty_log(&mut self.logs, &mut self.spare, self.alloc);
         log.len = self.items.len();

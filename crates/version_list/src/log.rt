@@ -1,5 +1,5 @@
-//! The log of one mark: how many of the elements of then are left, and those that others took the place of
-//! since, or that left.
+// The log of one mark: how many of the elements of then are left, and those that others took the place of
+// since, or that left.
 ghost use Rattle.std.specs.Prelude.{◌≡◌, ◌+◌, ◌-◌, ◌<◌, ◌≤◌, ℕ, List, [], length, take, slice_set};
 ghost use Rattle.std.specs.Prelude.{slice_index};
 ghost use Rattle.std.specs.Prelude.{IsTrue, ◌↔◌, false, All, OnErr, OnOk, vec_capacity};
@@ -9,7 +9,7 @@ ghost use Rattle.version_list.specs.Versions.{IsOwn};
 ghost use Rattle.version_list.specs.Undo.{undo, items_at, slots_at, versions, AreLogsOf, HasAt, IsLogOf};
 ghost use Rattle.version_list.specs.Undo.{IsAsMarked, IsMarked};
 
-use crate::MOST;
+use crate::VERSION_LIMIT;
 use frac_core::OutOfMemory;
 use std::alloc::Global;
 use std::collections::VecDeque;
@@ -133,11 +133,11 @@ pub fn own<T: Clone + Drop>(
 
 // A log whose memory the next one may take: the oldest, where there are as many as may be, or the spare one.
 fn old_log<T: Drop>(logs: &mut VecDeque<Log<T>>, spare: &mut Option<Log<T>>) -> Option<Log<T>>
-    requires { deque_len logs.old ≤ MOST }
-    ensures rest { logs.new.items ≡ take (MOST - 1) logs.old.items }
+    requires { deque_len logs.old ≤ VERSION_LIMIT }
+    ensures rest { logs.new.items ≡ take (VERSION_LIMIT - 1) logs.old.items }
     ensures capacity { deque_capacity logs.new ≡ deque_capacity logs.old }
 {
-    if logs.len() == MOST {
+    if logs.len() == VERSION_LIMIT {
         return logs.pop_back();
     }
     mem::replace(spare, None)
@@ -149,10 +149,10 @@ pub fn empty_log<T: Drop>(
     spare: &mut Option<Log<T>>,
     alloc: Global,
 ) -> Log<T>
-    requires { deque_len logs.old ≤ MOST }
+    requires { deque_len logs.old ≤ VERSION_LIMIT }
     ensures empty { result.replaced.items ≡ [] }
     ensures whole { result.removed.items ≡ [] }
-    ensures rest { logs.new.items ≡ take (MOST - 1) logs.old.items }
+    ensures rest { logs.new.items ≡ take (VERSION_LIMIT - 1) logs.old.items }
     ensures capacity { deque_capacity logs.new ≡ deque_capacity logs.old }
 {
     if let Some(mut log) = old_log(logs, spare) {

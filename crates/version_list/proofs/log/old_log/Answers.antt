@@ -3,8 +3,8 @@ use Rattle.std.specs.VecDeque.{deque_len}
 use Rattle.std.proofs.lemmas.List.{take_all}
 use Rattle.version_list.proofs.log.old_log.Goals as goal
 
-pub returns-then-len-eq-MOST-clause-rest : goal.returns-then-len-eq-MOST-clause-rest
-returns-then-len-eq-MOST-clause-rest g c =
+pub returns-then-len-eq-VERSION_LIMIT-clause-rest : goal.returns-then-len-eq-VERSION_LIMIT-clause-rest
+returns-then-len-eq-VERSION_LIMIT-clause-rest g c =
     let all : deque_len c.args.logs.now ≡ 33 = omega arith in
     rw c.pop_back.ensures.rest (ap (λ k. take (k - 1) c.args.logs.now.items) all)
 
