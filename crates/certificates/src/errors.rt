@@ -12,7 +12,7 @@ use corner_ends::product;
 use frac_core::{Frac, Wide};
 use problem_core::{Mark, Rel, Row, RowName, Side};
 
-/// The mark of a row.
+// The mark of a row.
 fn mark_of(row: &Row, side: Side) -> Mark
     ensures { result ≡ record { row = row_names.Held row.now.id; side = side } }
 {
@@ -22,7 +22,7 @@ fn mark_of(row: &Row, side: Side) -> Mark
     }
 }
 
-/// What the row lacks, of what it has below and above.
+// What the row lacks, of what it has below and above.
 fn lacking(rel: Rel, under: Frac, over: Frac) -> Frac
     ensures value { IsLack rel under over result }
     ensures kept { IsKept over }
@@ -36,7 +36,7 @@ fn lacking(rel: Rel, under: Frac, over: Frac) -> Frac
     }
 }
 
-/// The fraction over a scale.
+// The fraction over a scale.
 fn over_scale(f: Frac, scale: i64) -> Wide
     requires above { pos 0 <ℤ scale }
     requires small { unsigned_abs scale ≤ COEFFICIENT_LIMIT }

@@ -17,7 +17,7 @@ use frac_core::OutOfMemory;
 use problem_core::Level;
 use std::alloc::Global;
 
-/// Puts a level's numbers at the end, where a multiplier is not 0.
+// Puts a level's numbers at the end, where a multiplier is not 0.
 fn push_level(alloc: Global, best: &mut Best, c: &Corner, level: Level) -> Result<(), OutOfMemory>
     requires level { IsInUse c.now.problem level }
     requires stronger { All (λ l. IsStronger c.now.problem l.level level) best.old }

@@ -8,7 +8,7 @@ use cert_core::By;
 use frac_core::{OutOfMemory, gcd};
 use std::alloc::Global;
 
-/// The greatest factor that a number shares with a factor.
+// The greatest factor that a number shares with a factor.
 fn shared(factor: u128, times: i64) -> u128
     ensures { IsGcd factor (unsigned_abs times) result }
 {

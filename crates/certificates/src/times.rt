@@ -25,7 +25,7 @@ pub(crate) fn scale(c: &Corner, level: Level) -> i64
     c.scale(level)
 }
 
-/// The multiplier of a row or stay at a level.
+// The multiplier of a row or stay at a level.
 fn multiplier(c: &Corner, level: Level, row: RowName) -> i64
     requires level { IsInUse c.now.problem level }
     requires row { IsNamed c.now.problem row }
@@ -37,7 +37,7 @@ fn multiplier(c: &Corner, level: Level, row: RowName) -> i64
     c.multiplier(level, row)
 }
 
-/// Appends the multiplier of a row or stay, where it is not 0.
+// Appends the multiplier of a row or stay, where it is not 0.
 fn push_times(out: &mut Vec<By>, c: &Corner, level: Level, row: RowName) -> Result<(), OutOfMemory>
     requires level { IsInUse c.now.problem level }
     requires row { IsNamed c.now.problem row }

@@ -1,7 +1,7 @@
 -- The problem of the first scene, at each of whose corners each quantity fits; one at a corner of which an
 -- attribute doesn't fit; and problems of one attribute.
 use Rattle.std.specs.Prelude.{ℕ, [], ◌∷◌, ◌++◌, ℤ, pos, negsuc}
-use Rattle.problem_core.specs.declared.limits.TheConstants.{REQUIRED}
+use Rattle.problem_core.specs.declared.limits.TheConstants.{COEFFICIENT_LIMIT, REQUIRED}
 use Rattle.problem_core.specs.declared.parts.Rel.TheVariants.{Eq}
 use Rattle.problem_core.specs.declared.parts.Stay.{Stay}
 use Rattle.problem_core.specs.Layout.{Problem, Row}
@@ -26,7 +26,7 @@ steep_row = record {
   rel = Eq;
   scale = 1;
   constant = zero_fraction;
-  terms = record { attr = 3; by = pos 1073741824 } ∷ record { attr = 4; by = negsuc 0 } ∷ [];
+  terms = record { attr = 3; by = pos COEFFICIENT_LIMIT } ∷ record { attr = 4; by = negsuc 0 } ∷ [];
 }
 
 -- the window's rows and that one, with the width at 4096 before

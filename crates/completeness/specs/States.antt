@@ -1,5 +1,6 @@
 -- States of one attribute: whose probes have room, and have not, and from which a row can leave.
-use Rattle.std.specs.Prelude.{List, [], ◌∷◌, pos}
+use Rattle.std.specs.Prelude.{List, [], ◌∷◌, ◌-◌, pos}
+use Rattle.frac_core.specs.declared.frac.TheConstants.{PART_BOUND}
 use Rattle.frac_core.specs.Fraction.{Fraction}
 use Rattle.problem_core.specs.declared.parts.Rel.TheVariants.{Eq}
 use Rattle.problem_core.specs.Layout.{Row}
@@ -34,7 +35,7 @@ free_state = state_of [] [] zero_fraction
 
 -- it has the greatest value that fits
 abbrev pub far_state : State
-far_state = state_of [] [] (record { num = pos 4398046511103; den = 1 })
+far_state = state_of [] [] (record { num = pos (PART_BOUND - 1); den = 1 })
 
 abbrev pub lone_form : RowForm
 lone_form = record {

@@ -1,6 +1,6 @@
 -- The lists of earlier marks side by side.
 use Rattle.std.proofs.Common.{◌≡◌, ◌-◌, ◌<◌, ℕ, zero, suc, List, [], ◌∷◌, length, take, drop, slice_index_or, refl, ap, arith}
-use Rattle.version_list.specs.declared.TheConstants.{MOST}
+use Rattle.version_list.specs.declared.TheConstants.{VERSION_LIMIT}
 use Rattle.row_core.specs.Rows.{Term}
 use Rattle.problem_core.specs.Layout.{Row}
 use Rattle.problem_core.specs.declared.parts.Stay.{Stay}
@@ -42,14 +42,14 @@ forgotten old new alike e1 e2 e3 e4 e5 e6 e7 e8 =
     rw (e1, e2, e3, e4, e5, e6, e7, e8, alike.stays, alike.slots, alike.standings, alike.matrix, alike.attr_slots, alike.row_slots, alike.priorities)
     (taken (length old.rows.before - 1) old.rows.before old.stays.before old.slots.before old.standings.before old.matrix.before old.attr_slots.before old.row_slots.before old.priorities.before)
 
-pub marked : (old new : Table) → new.rows.before ≡ take MOST (old.rows.items ∷ old.rows.before) → new.stays.before ≡ take MOST (old.stays.items ∷ old.stays.before)
-    → new.slots.before ≡ take MOST (old.slots.items ∷ old.slots.before) → new.standings.before ≡ take MOST (old.standings.items ∷ old.standings.before)
-    → new.matrix.before ≡ take MOST (old.matrix.rows ∷ old.matrix.before) → new.attr_slots.before ≡ take MOST (old.attr_slots.items ∷ old.attr_slots.before)
-    → new.row_slots.before ≡ take MOST (old.row_slots.items ∷ old.row_slots.before) → new.priorities.before ≡ take MOST (old.priorities.items ∷ old.priorities.before)
-    → lists_before new ≡ take MOST (lists_of old ∷ lists_before old)
+pub marked : (old new : Table) → new.rows.before ≡ take VERSION_LIMIT (old.rows.items ∷ old.rows.before) → new.stays.before ≡ take VERSION_LIMIT (old.stays.items ∷ old.stays.before)
+    → new.slots.before ≡ take VERSION_LIMIT (old.slots.items ∷ old.slots.before) → new.standings.before ≡ take VERSION_LIMIT (old.standings.items ∷ old.standings.before)
+    → new.matrix.before ≡ take VERSION_LIMIT (old.matrix.rows ∷ old.matrix.before) → new.attr_slots.before ≡ take VERSION_LIMIT (old.attr_slots.items ∷ old.attr_slots.before)
+    → new.row_slots.before ≡ take VERSION_LIMIT (old.row_slots.items ∷ old.row_slots.before) → new.priorities.before ≡ take VERSION_LIMIT (old.priorities.items ∷ old.priorities.before)
+    → lists_before new ≡ take VERSION_LIMIT (lists_of old ∷ lists_before old)
 marked old new e1 e2 e3 e4 e5 e6 e7 e8 =
     rw (e1, e2, e3, e4, e5, e6, e7, e8)
-    (taken MOST (old.rows.items ∷ old.rows.before) (old.stays.items ∷ old.stays.before) (old.slots.items ∷ old.slots.before) (old.standings.items ∷ old.standings.before) (old.matrix.rows ∷ old.matrix.before) (old.attr_slots.items ∷ old.attr_slots.before) (old.row_slots.items ∷ old.row_slots.before) (old.priorities.items ∷ old.priorities.before))
+    (taken VERSION_LIMIT (old.rows.items ∷ old.rows.before) (old.stays.items ∷ old.stays.before) (old.slots.items ∷ old.slots.before) (old.standings.items ∷ old.standings.before) (old.matrix.rows ∷ old.matrix.before) (old.attr_slots.items ∷ old.attr_slots.before) (old.row_slots.items ∷ old.row_slots.before) (old.priorities.items ∷ old.priorities.before))
 
 take_same : {X Y : Type 0} (n : ℕ) (xs : List X) (ys : List Y) → length xs ≡ length ys → length (take n xs) ≡ length (take n ys)
 take_same zero xs ys e = refl
@@ -58,13 +58,13 @@ take_same (suc n) [] (y ∷ ys) e = absurd (omega (arith, e))
 take_same (suc n) (x ∷ xs) [] e = absurd (omega (arith, e))
 take_same (suc n) (x ∷ xs) (y ∷ ys) e = let k : length xs ≡ length ys = omega (arith, e) in let h = take_same n xs ys k in omega (arith, h)
 
-one_marked : {X Y : Type 0} (x : X) (xs new : List X) (y : Y) (ys next : List Y) → length xs ≡ length ys → new ≡ take MOST (x ∷ xs) → next ≡ take MOST (y ∷ ys) → length new ≡ length next
-one_marked x xs new y ys next e a b = let k : length (x ∷ xs) ≡ length (y ∷ ys) = omega (arith, e) in rw (a, b) (take_same MOST (x ∷ xs) (y ∷ ys) k)
+one_marked : {X Y : Type 0} (x : X) (xs new : List X) (y : Y) (ys next : List Y) → length xs ≡ length ys → new ≡ take VERSION_LIMIT (x ∷ xs) → next ≡ take VERSION_LIMIT (y ∷ ys) → length new ≡ length next
+one_marked x xs new y ys next e a b = let k : length (x ∷ xs) ≡ length (y ∷ ys) = omega (arith, e) in rw (a, b) (take_same VERSION_LIMIT (x ∷ xs) (y ∷ ys) k)
 
-pub marked_alike : (old new : Table) → AreAlike old → new.rows.before ≡ take MOST (old.rows.items ∷ old.rows.before) → new.stays.before ≡ take MOST (old.stays.items ∷ old.stays.before)
-    → new.slots.before ≡ take MOST (old.slots.items ∷ old.slots.before) → new.standings.before ≡ take MOST (old.standings.items ∷ old.standings.before)
-    → new.matrix.before ≡ take MOST (old.matrix.rows ∷ old.matrix.before) → new.attr_slots.before ≡ take MOST (old.attr_slots.items ∷ old.attr_slots.before)
-    → new.row_slots.before ≡ take MOST (old.row_slots.items ∷ old.row_slots.before) → new.priorities.before ≡ take MOST (old.priorities.items ∷ old.priorities.before)
+pub marked_alike : (old new : Table) → AreAlike old → new.rows.before ≡ take VERSION_LIMIT (old.rows.items ∷ old.rows.before) → new.stays.before ≡ take VERSION_LIMIT (old.stays.items ∷ old.stays.before)
+    → new.slots.before ≡ take VERSION_LIMIT (old.slots.items ∷ old.slots.before) → new.standings.before ≡ take VERSION_LIMIT (old.standings.items ∷ old.standings.before)
+    → new.matrix.before ≡ take VERSION_LIMIT (old.matrix.rows ∷ old.matrix.before) → new.attr_slots.before ≡ take VERSION_LIMIT (old.attr_slots.items ∷ old.attr_slots.before)
+    → new.row_slots.before ≡ take VERSION_LIMIT (old.row_slots.items ∷ old.row_slots.before) → new.priorities.before ≡ take VERSION_LIMIT (old.priorities.items ∷ old.priorities.before)
     → AreAlike new
 marked_alike old new alike e1 e2 e3 e4 e5 e6 e7 e8 = record {
   stays = one_marked old.stays.items old.stays.before new.stays.before old.rows.items old.rows.before new.rows.before alike.stays e2 e1;

@@ -1,6 +1,7 @@
 -- Slots of lists with other rows and values.
 use Rattle.std.proofs.Common.{◌≡◌, ◌∙◌, ℕ, ◌<◌, ◌++◌, List, [], ◌∷◌, length, length-set, refl, sym, ap, subst, arith, All}
 use Rattle.std.proofs.lemmas.List.{get_or_append_left, length-append}
+use Rattle.std.proofs.lemmas.List.Elements.{All-push}
 use Rattle.row_core.specs.Rows.{Term}
 use Rattle.corner.specs.declared.exchange.Change.{Change}
 use Rattle.indexed_rows.specs.Matrices.{IsBelow}
@@ -10,6 +11,7 @@ use Rattle.corner.specs.declared.table.Table.{Table}
 use Rattle.corner.specs.Histories.{AreAlike, lists_before}
 use Rattle.corner.specs.Tables.{Lists, lists_of}
 use Rattle.corner.specs.Kept.{AreSlots}
+use Rattle.corner.specs.NextLists.{IsKeptChange}
 use Rattle.corner.specs.Exchanges.{IsChangeIn, cleared, with_change, with_changes, with_row, with_standing}
 
 pub standing_slots : (t : Lists) (w : ℕ) (standing : Standing) → AreSlots t → AreSlots (with_standing t w standing)
@@ -70,15 +72,17 @@ pub record ArePutSoFar (old : Table) (changes : List Change) (now : Table) (left
   pub slots : AreSlots (lists_of now)
   pub changes_in : All (IsChangeIn (lists_of now)) left
   pub put : with_changes (lists_of now) left ≡ with_changes (lists_of old) changes
+  pub kept : All IsKeptChange left → All IsKeptChange changes
   pub before : lists_before now ≡ lists_before old
   pub alike : AreAlike old → AreAlike now
 
-pub one_more : (old : Table) (changes : List Change) (now next : Table) (left : List Change) (change : Change) → ArePutSoFar old changes now (left ++ change ∷ []) → lists_of next ≡ with_change (lists_of now) change
+pub one_more : (old : Table) (changes : List Change) (now next : Table) (left : List Change) (change : Change) → ArePutSoFar old changes now (left ++ change ∷ []) → IsKeptChange change → lists_of next ≡ with_change (lists_of now) change
     → lists_before next ≡ lists_before now → (AreAlike now → AreAlike next) → ArePutSoFar old changes next left
-one_more old changes now next left change h put before alike = record {
+one_more old changes now next left change h is put before alike = record {
   slots = subst AreSlots (sym put) (change_slots (lists_of now) change h.slots);
   changes_in = subst (λ t. All (IsChangeIn t) left) (sym put) (λ i d within. subst (IsChangeIn (lists_of now)) (get_or_append_left left (change ∷ []) d i within) (h.changes_in i d (subst (λ n. i < n) (sym (length-append left (change ∷ []))) (omega (arith, within)))));
   put = ap (λ t. with_changes t left) put ∙ sym (last_first (lists_of now) left change) ∙ h.put;
+  kept = λ all. h.kept (All-push IsKeptChange left change all is);
   before = before ∙ h.before;
   alike = λ a. alike (h.alike a);
 }

@@ -19,7 +19,7 @@ ghost use Rattle.problem_core.specs.declared.parts.RowName as row_type;
 ghost use Rattle.problem_core.specs.declared.parts.Side.TheVariants.{Over};
 ghost use Rattle.problem_core.specs.declared.stops.What as what_type;
 ghost use Rattle.problem_core.specs.declared.stops.What.TheVariants.{Mark as MarkOf};
-ghost use Rattle.version_list.specs.declared.TheConstants.{MOST};
+ghost use Rattle.version_list.specs.declared.TheConstants.{VERSION_LIMIT};
 ghost use Rattle.corner.specs.Views.{AreCandidates, AreMovers, HasNoFront, HasNumbers};
 ghost use Rattle.corner.specs.Entries.{AreEntries};
 ghost use Rattle.corner.specs.Growing.{AreGrowersDear};
@@ -634,7 +634,7 @@ impl Corner {
     pub fn mark(&mut self)
         requires { self.old.candidates ≡ [] }
         ensures scene { scene_of self.new ≡ scene_of self.old }
-        ensures before { self.new.before ≡ take MOST (scene_of self.old ∷ self.old.before) }
+        ensures before { self.new.before ≡ take VERSION_LIMIT (scene_of self.old ∷ self.old.before) }
         ensures candidates { self.new.candidates ≡ [] }
     {
         mark(&mut self.table);

@@ -56,7 +56,7 @@ pub(crate) struct Change {
     pub value: Frac,
 }
 
-/// The entering line's number in the leaving one's row, and the value that the entering mark comes to.
+// The entering line's number in the leaving one's row, and the value that the entering mark comes to.
 #[derive(Clone, Copy)]
 struct Pivot {
     pair: Pair,
@@ -205,10 +205,8 @@ fn pivot_with(table: &Table, pair: Pair, by: i64, value: Frac) -> Result<Pivot, 
     ensures ok { IfOk result (IsPivotOf (lists_of table.now) pair) }
     ensures stop { IfErr result (IsPairStop (lists_of table.now) pair) }
 {
-    match check_stay(table, pair.enter, by) {
-        Ok(()) => Ok(Pivot { pair, by, value }),
-        Err(stop) => Err(stop),
-    }
+    check_stay(table, pair.enter, by)?;
+    Ok(Pivot { pair, by, value })
 }
 
 // What the exchange makes of the entering line, or the mark or the stay's level that does not fit.
@@ -302,10 +300,8 @@ fn moved_line(table: &Table, pivot: &Pivot, what: What, change: Change) -> Resul
     ensures stop { IfErr result (IsPivotStop (lists_of table.now) pivot.now) }
 {
     let own = change.row.entry(Col(u64::from(change.at)));
-    match check_stay(table, change.at, own) {
-        Ok(()) => Ok(change),
-        Err(stop) => Err(stop),
-    }
+    check_stay(table, change.at, own)?;
+    Ok(change)
 }
 
 // The change of an attribute or an inside line in whose row the entering line stands.
@@ -683,15 +679,25 @@ pub(crate) fn put_change(table: &mut Table, change: Change) -> Result<(), OutOfM
     put_row(table, at, row)
 }
 
+// What the types of a row and a value keep.
+fn show_change(change: &Change)
+    ensures { IsKeptChange change.now }
+{
+    let _ = change.row.entries(); // for the proof: what a row keeps
+    let _ = change.value.num(); // for the proof: what a fraction keeps
+}
+
 // Puts all changes, the last one first.
 fn put_changes(table: &mut Table, mut changes: Vec<Change>) -> Result<(), OutOfMemory>
     requires slots { AreSlots (lists_of table.old) }
     requires changes { All (IsChangeIn (lists_of table.old)) changes.items }
     ensures ok { OnOk result (lists_of table.new ≡ with_changes (lists_of table.old) changes.items) }
+    ensures kept { OnOk result (All IsKeptChange changes.items) }
     ensures before { lists_before table.new ≡ lists_before table.old }
     ensures alike { AreAlike table.old → AreAlike table.new }
 {
     while let Some(change) = changes.pop() {
+        show_change(&change); // for the proof: what a row and a value keep
         put_change(table, change)?;
     }
     Ok(())
@@ -735,6 +741,7 @@ fn put_lists(table: &mut Table, made: Exchange) -> Result<(), OutOfMemory>
     requires entering { IsChangeIn (lists_of table.old) made.entering }
     requires changes { All (IsChangeIn (lists_of table.old)) made.changes.items }
     ensures ok { OnOk result (lists_of table.new ≡ exchanged_lists (lists_of table.old) made) }
+    ensures kept { OnOk result (AreKeptChanges made) }
     ensures before { lists_before table.new ≡ lists_before table.old }
     ensures alike { AreAlike table.old → AreAlike table.new }
 {
@@ -743,33 +750,10 @@ fn put_lists(table: &mut Table, made: Exchange) -> Result<(), OutOfMemory>
         entering,
         changes,
     } = made;
+    show_change(&entering); // for the proof: what a row and a value keep
     clear_slot(table, pair.leave)?;
     put_changes(table, changes)?;
     fill_slot(table, pair.side, entering)
-}
-
-// What the types of a row and a value keep.
-fn show_change(change: &Change)
-    ensures { IsKeptChange change.now }
-{
-    let _ = change.row.entries(); // for the proof: what a row keeps
-    let _ = change.value.num(); // for the proof: what a fraction keeps
-}
-
-fn show_changes(changes: &[Change])
-    ensures { All IsKeptChange changes.now }
-{
-    for change in changes {
-        show_change(change);
-    }
-}
-
-// What the types keep of an exchange.
-fn show_exchange(made: &Exchange)
-    ensures { AreKeptChanges made.now }
-{
-    show_change(&made.entering);
-    show_changes(&made.changes);
 }
 
 /// Puts what an exchange makes of the lists.
@@ -787,7 +771,6 @@ pub(crate) fn put_exchange(
     ensures before { lists_before table.new ≡ lists_before table.old }
     ensures alike { AreAlike table.old → AreAlike table.new }
 {
-    show_exchange(&made); // for the proof: what rows and values keep
     let pair = made.pair;
     put_lists(table, made)?;
     listed.push(pair.leave)?;

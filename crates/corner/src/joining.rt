@@ -141,7 +141,7 @@ pub(crate) fn push_attr(table: &mut Table, attr: u32, target: Frac) -> Result<()
     Ok(())
 }
 
-/// A sum of terms as a row and its value.
+// A sum of terms as a row and its value.
 #[derive(Drop)]
 struct Sum {
     row: IntRow,

@@ -24,7 +24,7 @@ use crate::slots::{
     priority_at, priority_level, side_at, slot_at, unit_of, value_at,
 };
 use crate::table::{LEVELS, Slot, Standing, Table};
-use frac_core::Frac;
+use frac_core::{Frac, OutOfMemory};
 use problem_core::{Level, Mark, RowName, Side};
 
 /// The first level at which a mark's reduced cost is not 0, and this cost.
@@ -232,9 +232,7 @@ pub(crate) fn front_of(table: &Table, mark: Mark) -> Option<Front>
         (HasNoFront (problem_of (lists_of table.now)) (marks_at (lists_of table.now)) mark) }
 {
     let line = line_slot(table, mark.row);
-    let Some(l) = first_slot(table, line, mark.side) else {
-        return None;
-    };
+    let l = first_slot(table, line, mark.side)?;
     Some(front_at(table, l, reduced_of(table, l, line, mark.side)))
 }
 
@@ -274,7 +272,7 @@ pub(crate) fn side_after(table: &Table, pair: Pair, line: u32) -> Option<Side>
 }
 
 /// The levels at which a row or a stay stands, strongest first.
-pub(crate) fn used(table: &Table, out: &mut Vec<Level>) -> Result<(), frac_core::OutOfMemory>
+pub(crate) fn used(table: &Table, out: &mut Vec<Level>) -> Result<(), OutOfMemory>
     requires kept { IsKept (lists_of table.now) }
     requires empty { out.old.items ≡ [] }
     ensures used { OnOk result (All (IsInUse (problem_of (lists_of table.now))) out.new.items) }

@@ -77,7 +77,7 @@ impl Listed {
         self.flags[line as usize] = false;
     }
 
-    /// Where the line is listed.
+    // Where the line is listed.
     fn place_of(&self, line: u32) -> Option<usize>
         ensures some { IfSome result (λ i. i < length self.now) }
         ensures is { IfSome result (λ i. slice_index_or self.now i 0 ≡ line) }

@@ -41,7 +41,7 @@ pub(crate) fn row_place(table: &Table, id: u32) -> usize
     table.rows.as_slice().partition_point(|row| row.id() < id)
 }
 
-/// What a constant is above the row's own.
+// What a constant is above the row's own.
 fn difference(constant: Frac, to: Frac) -> Frac
     requires near { (more : Fraction) × fraction.IsKept more
         × IsRatio more (sum_num to (negsuc 0) (pos 1) constant) (sum_den to (pos 1) constant) }
@@ -54,7 +54,7 @@ fn difference(constant: Frac, to: Frac) -> Frac
     }
 }
 
-/// The row with another constant.
+// The row with another constant.
 fn with_constant(alloc: Global, row: &Row, to: Frac) -> Result<Row, OutOfMemory>
     requires { IsRow row.now }
     ensures { IfOk result (λ r. r ≡ has_constant row.now.id to row.now) }
@@ -72,14 +72,14 @@ fn with_constant(alloc: Global, row: &Row, to: Frac) -> Result<Row, OutOfMemory>
     )
 }
 
-/// How many times the difference a value grows: `n` over `d`.
+// How many times the difference a value grows: `n` over `d`.
 #[derive(Clone, Copy, Debug)]
 struct Growth {
     n: i64,
     d: i64,
 }
 
-/// Lets a value grow by so many times the difference.
+// Lets a value grow by so many times the difference.
 fn grow(table: &mut Table, w: u32, by: Growth, more: Frac, what: What) -> Result<(), TableStop>
     requires slots { AreSlots (lists_of table.old) }
     requires within { w < length table.old.slots.items }
@@ -94,10 +94,8 @@ fn grow(table: &mut Table, w: u32, by: Growth, more: Frac, what: What) -> Result
 {
     let stop = Stop::Refused(Quantity::Plain(what));
     let value = named_sum(value_at(table, w), by.n, by.d, more, stop)?;
-    match put_value(table, w, value) {
-        Ok(()) => Ok(()),
-        Err(OutOfMemory) => Err(Stop::OutOfMemory),
-    }
+    put_value(table, w, value)?;
+    Ok(())
 }
 
 // How the cost of an inside line's level grows.
@@ -305,8 +303,6 @@ pub(crate) fn shift_row(table: &mut Table, id: u32, to: Frac) -> Result<(), Tabl
     let more = difference(table.rows.get(at).constant(), to);
     let line = line_slot(table, RowName::Held(id));
     grow_line(table, line, more)?;
-    match put_constant(table, at, to) {
-        Ok(()) => Ok(()),
-        Err(OutOfMemory) => Err(Stop::OutOfMemory),
-    }
+    put_constant(table, at, to)?;
+    Ok(())
 }

@@ -1,7 +1,7 @@
 // The lists that a corner is kept in.
 ghost use Rattle.std.specs.Prelude.{◌≡◌, ◌<◌, ◌-◌, ◌+◌, ◌^◌, [], ◌∷◌, List, length, take, IfOk, OnOk};
 ghost use Rattle.indexed_rows.specs.Matrices.{IsBelow};
-ghost use Rattle.version_list.specs.declared.TheConstants.{MOST};
+ghost use Rattle.version_list.specs.declared.TheConstants.{VERSION_LIMIT};
 ghost use Rattle.corner.specs.Tables.{Lists, lists_of};
 ghost use Rattle.corner.specs.Histories.{AreAlike, HasSameHistory, lists_before};
 ghost use Rattle.corner.specs.Kept.{IsKept};
@@ -21,7 +21,7 @@ pub(crate) const LEVELS: u32 = REQUIRED as u32 + 1;
 /// The slot of a number that has none.
 pub(crate) const ABSENT: u32 = 0;
 
-/// More slots than these are want of memory.
+// More slots than these are want of memory.
 const MOST_SLOTS: usize = 1 << 31;
 
 /// What a slot is of. `Level` past those of the levels is of nothing: what it was of was taken out.
@@ -149,7 +149,8 @@ pub(crate) fn mark(table: &mut Table)
     requires { AreAlike table.old }
     ensures alike { AreAlike table.new }
     ensures now { lists_of table.new ≡ lists_of table.old }
-    ensures before { lists_before table.new ≡ take MOST (lists_of table.old ∷ lists_before table.old) }
+    ensures before { lists_before table.new
+        ≡ take VERSION_LIMIT (lists_of table.old ∷ lists_before table.old) }
 {
     table.rows.mark();
     table.stays.mark();

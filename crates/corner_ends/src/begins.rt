@@ -13,14 +13,14 @@ use frac_core::OutOfMemory;
 use problem_core::{Mark, RowName, Side};
 use std::alloc::Global;
 
-/// The mark of a line on a side.
+// The mark of a line on a side.
 fn mark_at(row: RowName, side: Side) -> Mark
     ensures { result ≡ record { row = row; side = side } }
 {
     Mark { row, side }
 }
 
-/// Whether the mark was inside the first corner: the first exchange that names it tells.
+// Whether the mark was inside the first corner: the first exchange that names it tells.
 fn was_inside(c: &Corner, swaps: &[Swap], mark: Mark) -> bool
     requires { IsMarkOf c.now.problem mark }
     ensures { (first : List MarkOfLine) → HasExchanged first swaps.now c.now.marks
@@ -37,7 +37,7 @@ fn was_inside(c: &Corner, swaps: &[Swap], mark: Mark) -> bool
     c.is_inside(mark)
 }
 
-/// Puts the mark behind the others, if it was inside the first corner.
+// Puts the mark behind the others, if it was inside the first corner.
 fn push_mark(c: &Corner, swaps: &[Swap], mark: Mark, out: &mut Vec<Mark>) -> Result<(), OutOfMemory>
     requires { IsMarkOf c.now.problem mark }
     ensures { OnOk result ((first : List MarkOfLine) → HasExchanged first swaps.now c.now.marks
@@ -49,7 +49,7 @@ fn push_mark(c: &Corner, swaps: &[Swap], mark: Mark, out: &mut Vec<Mark>) -> Res
     Ok(())
 }
 
-/// Puts the mark of a line behind the others that was inside the first corner, if one was.
+// Puts the mark of a line behind the others that was inside the first corner, if one was.
 fn push_line(
     c: &Corner,
     swaps: &[Swap],

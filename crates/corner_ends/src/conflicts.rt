@@ -19,7 +19,7 @@ use frac_core::{OutOfMemory, gcd};
 use problem_core::{REQUIRED, Row, RowName};
 use std::alloc::Global;
 
-/// The multiplier of a row at the level of the required rows.
+// The multiplier of a row at the level of the required rows.
 fn multiplier(c: &Corner, row: &Row) -> i64
     requires { Any (λ r. r.id ≡ row.now.id) c.now.problem.rows }
     ensures value { (y : ℕ → ℤ) → AreRequiredTimes c.now.problem c.now.marks y → result ≡ y row.now.id }
@@ -29,7 +29,7 @@ fn multiplier(c: &Corner, row: &Row) -> i64
     c.multiplier(required_level(), RowName::Held(row.id()))
 }
 
-/// The greatest factor that the number shares with a factor.
+// The greatest factor that the number shares with a factor.
 fn shared(factor: u128, times: i64) -> u128
     requires times { IsFitting times }
     requires small { factor < PART_BOUND }
@@ -45,7 +45,7 @@ fn shared(factor: u128, times: i64) -> u128
     }
 }
 
-/// The greatest factor that a row's multiplier shares with a factor, where the row is required.
+// The greatest factor that a row's multiplier shares with a factor, where the row is required.
 fn shared_by(factor: u128, c: &Corner, row: &Row) -> u128
     requires row { Any (λ r. r.id ≡ row.now.id) c.now.problem.rows }
     requires small { factor < PART_BOUND }
@@ -63,7 +63,7 @@ fn shared_by(factor: u128, c: &Corner, row: &Row) -> u128
     }
 }
 
-/// The greatest common factor of the multipliers, 1 where there are none.
+// The greatest common factor of the multipliers, 1 where there are none.
 fn common_factor(c: &Corner) -> u128
     ensures above { 0 < result }
     ensures small { result < PART_BOUND }
@@ -80,7 +80,7 @@ fn common_factor(c: &Corner) -> u128
     if factor == 0 { 1 } else { factor }
 }
 
-/// The size of a number divided by a factor.
+// The size of a number divided by a factor.
 fn size_share(times: i64, factor: u128) -> i64
     requires above { 0 < factor }
     requires fits { IsFitting times }
@@ -90,7 +90,7 @@ fn size_share(times: i64, factor: u128) -> i64
     (u128::from(times.unsigned_abs()) / factor) as i64
 }
 
-/// The number with the other sign.
+// The number with the other sign.
 fn opposite(z: i64) -> i64
     requires { IsFitting z }
     ensures value { result ≡ neg_ℤ z }
@@ -99,7 +99,7 @@ fn opposite(z: i64) -> i64
     -z
 }
 
-/// Whether the number is 0.
+// Whether the number is 0.
 fn is_zero(z: i64) -> bool
     ensures yes { result ≡ true → z ≡ pos 0 }
     ensures no { result ≡ false → z ≢ pos 0 }
@@ -107,14 +107,14 @@ fn is_zero(z: i64) -> bool
     z == 0
 }
 
-/// The size of a number, in 128 bits.
+// The size of a number, in 128 bits.
 fn size_of(z: i64) -> u128
     ensures { result ≡ unsigned_abs z }
 {
     u128::from(z.unsigned_abs())
 }
 
-/// The number divided by a factor of it.
+// The number divided by a factor of it.
 fn share(times: i64, factor: u128) -> i64
     requires above { 0 < factor }
     requires fits { IsFitting times }
@@ -130,7 +130,7 @@ fn share(times: i64, factor: u128) -> i64
     }
 }
 
-/// Appends the row's share of its multiplier, where the row is required and this is not 0.
+// Appends the row's share of its multiplier, where the row is required and this is not 0.
 fn push_share(out: &mut Vec<By>, c: &Corner, row: &Row, factor: u128) -> Result<(), OutOfMemory>
     requires row { Any (λ r. r.id ≡ row.now.id) c.now.problem.rows }
     requires above { 0 < factor }
@@ -154,7 +154,7 @@ fn push_share(out: &mut Vec<By>, c: &Corner, row: &Row, factor: u128) -> Result<
     Ok(())
 }
 
-/// The multipliers of the required rows without a common factor.
+// The multipliers of the required rows without a common factor.
 fn shares(alloc: Global, c: &Corner) -> Result<Vec<By>, OutOfMemory>
     ensures { IfOk result (λ out. (y : ℕ → ℤ) → AreRequiredTimes c.now.problem c.now.marks y
         → (g : ℕ) × (0 < g)
@@ -170,7 +170,7 @@ fn shares(alloc: Global, c: &Corner) -> Result<Vec<By>, OutOfMemory>
     Ok(out)
 }
 
-/// The conflict that the multipliers of the required level show.
+// The conflict that the multipliers of the required level show.
 fn conflict(alloc: Global, c: &Corner) -> Result<Conflict, OutOfMemory>
     requires above { CostsAbove c.now.problem c.now.marks 0 }
     requires columns { NoNegativeRequired c.now.problem c.now.marks }

@@ -43,7 +43,7 @@ impl Model for Trail {
 impl Trail {
     ghost use Rattle.corner_ends.specs.Trails.{HasRun, IsTrailOf};
 
-    /// The trail of these exchanges, which are none yet.
+    // The trail of these exchanges, which are none yet.
     fn begun(alloc: Global, dual: bool, c: &Corner, swaps: Vec<Swap>) -> Trail
         requires sound { IsSound dual c.now.problem c.now.marks }
         requires none { swaps.items ≡ [] }
@@ -104,7 +104,7 @@ impl Trail {
         Ok(())
     }
 
-    /// The marks of the first corner, found from the exchanges.
+    // The marks of the first corner, found from the exchanges.
     fn first_corner(&self, c: &Corner) -> Result<Vec<Mark>, OutOfMemory>
         ensures { IfOk result (λ marks. (dual : Bool) (first : List MarkOfLine)
             → IsTrailOf dual c.now.problem first self.now c.now.marks → marks.items ≡ first) }
@@ -136,7 +136,7 @@ impl Trail {
         &self.corner
     }
 
-    /// The path from the listed marks.
+    // The path from the listed marks.
     fn to_path(&self) -> Result<Path, OutOfMemory>
         ensures { IfOk result (λ path. path ≡ record {
           dual = self.now.dual;
@@ -147,7 +147,7 @@ impl Trail {
         Path::of(self.alloc, self.dual, &self.corner, &self.swaps)
     }
 
-    /// The path so far.
+    // The path so far.
     fn path(&mut self, c: &Corner) -> Result<Path, OutOfMemory>
         ensures { IfOk result (λ path. (dual : Bool) (first : List MarkOfLine)
             → IsTrailOf dual c.now.problem first self.old c.now.marks
@@ -157,7 +157,7 @@ impl Trail {
         self.to_path()
     }
 
-    /// The path so far, with one exchange more.
+    // The path so far, with one exchange more.
     fn path_with(&mut self, c: &Corner, swap: Swap) -> Result<Path, OutOfMemory>
         ensures { IfOk result (λ path. (dual : Bool) (first : List MarkOfLine)
             → IsTrailOf dual c.now.problem first self.old c.now.marks

@@ -11,7 +11,7 @@ use Rattle.problem_core.specs.Gaps.{value_of}
 use Rattle.cert_core.specs.Stops.{IsStopOf}
 use Rattle.cert_core.specs.declared.stops.RunStop.{RunStop}
 use Rattle.cert_core.specs.declared.stops.RunStop.TheVariants as run
-use Rattle.version_list.specs.declared.TheConstants.{MOST}
+use Rattle.version_list.specs.declared.TheConstants.{VERSION_LIMIT}
 use Rattle.corner.specs.Changes.{FromAdded}
 use Rattle.layout_solver.specs.Layouts.{IsBestValue, Layout, with_added}
 use Rattle.diagnosis.specs.declared.probing.Answer.{Answer}
@@ -27,7 +27,7 @@ pub record CanProbe (l : Layout) (attr : ℕ) : Type 0 where
   pub few : length l.problem.rows < ROW_LIMIT
   pub numbers : All (λ r. r.id < NUMBER_LIMIT) l.problem.rows
   pub ranks : All (λ r. 0 < r.rank) l.problem.rows
-  pub room : length l.earlier < MOST
+  pub room : length l.earlier < VERSION_LIMIT
 
 -- one more than the greatest number, or 1
 abbrev pub next_number : List Row → ℕ

@@ -1,6 +1,6 @@
 // All that is found of a layout.
 ghost use Rattle.std.specs.Prelude.{◌≡◌, ◌<◌, true, false, length, IfOk, IfErr};
-ghost use Rattle.version_list.specs.declared.TheConstants.{MOST};
+ghost use Rattle.version_list.specs.declared.TheConstants.{VERSION_LIMIT};
 ghost use Rattle.diagnosis.specs.Diagnoses.{AreFindings, LeaveRoom, findings_of};
 ghost use Rattle.diagnosis.specs.Probes.{CanProbeAll, IsStopAt};
 
@@ -38,7 +38,7 @@ fn leave_room(rows: &[Row]) -> bool
 /// Whether each attribute can be probed: there is room for a row more, with a number above those of all rows
 /// and a rank below theirs.
 pub fn can_probe_all(e: &Engine) -> bool
-    requires { length e.now.earlier < MOST }
+    requires { length e.now.earlier < VERSION_LIMIT }
     ensures yes { result ≡ true → CanProbeAll e.now }
     ensures no { result ≡ false → LeaveRoom e.now.problem.rows → ⊥ }
 {

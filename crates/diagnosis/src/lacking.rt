@@ -8,7 +8,7 @@ use layout_solver::Engine;
 use problem_core::{REQUIRED, Row};
 use std::alloc::Global;
 
-/// Whether the two errors are equal.
+// Whether the two errors are equal.
 fn is_same(a: Wide, b: Wide) -> bool
     ensures yes { result ≡ true → a ≡ b }
     ensures no { result ≡ false → a ≢ b }
@@ -16,7 +16,7 @@ fn is_same(a: Wide, b: Wide) -> bool
     a == b
 }
 
-/// Appends a row with its error, where it is not required and this is not 0.
+// Appends a row with its error, where it is not required and this is not 0.
 fn push_unmet(out: &mut Vec<(u32, Wide)>, e: &Engine, row: &Row) -> Result<(), OutOfMemory>
     requires held { Any (λ r. r ≡ row.now) e.now.problem.rows }
     ensures { IfOk result (λ _. (rows : List layout.Row) → All (λ r. r.id < row.now.id) rows

@@ -7,7 +7,7 @@ use frac_core::{Frac, OutOfMemory};
 use layout_solver::Engine;
 use std::alloc::Global;
 
-/// Appends an attribute that moves, with the value that it reaches.
+// Appends an attribute that moves, with the value that it reaches.
 fn push_answer(out: &mut Vec<(u32, Frac)>, attr: u32, answer: Answer) -> Result<(), OutOfMemory>
     ensures { IfOk result (λ _. out.new.items ≡ out.old.items ++ listed attr answer) }
 {
@@ -20,7 +20,7 @@ fn push_answer(out: &mut Vec<(u32, Frac)>, attr: u32, answer: Answer) -> Result<
     }
 }
 
-/// Appends the attribute of a stay, where it moves, with the value that it reaches.
+// Appends the attribute of a stay, where it moves, with the value that it reaches.
 fn push_moving(
     alloc: Global,
     out: &mut Vec<(u32, Frac)>,

@@ -41,7 +41,7 @@ pub enum DiagnoseStop {
     OutOfMemory,
 }
 
-/// The value a point above, or below.
+// The value a point above, or below.
 fn next_value(value: Frac, up: bool) -> Option<Frac>
     ensures some { IfSome result (IsBeside up value) }
     ensures kept { IfSome result IsKept }
@@ -55,7 +55,7 @@ fn next_value(value: Frac, up: bool) -> Option<Frac>
     }
 }
 
-/// A number above those of all rows.
+// A number above those of all rows.
 fn next_number(rows: &[Row]) -> u32
     requires { All (λ r. r.id < NUMBER_LIMIT) rows.now }
     ensures { result ≡ probes.next_number rows.now }
@@ -66,7 +66,7 @@ fn next_number(rows: &[Row]) -> u32
     }
 }
 
-/// The stop of a probe, up or down. It is no conflict.
+// The stop of a probe, up or down. It is no conflict.
 fn stop_of(up: bool, stop: RunStop) -> DiagnoseStop
     requires { NoConflict stop }
     ensures { result ≡ turned up stop }
@@ -79,7 +79,7 @@ fn stop_of(up: bool, stop: RunStop) -> DiagnoseStop
     }
 }
 
-/// The value that the attribute takes where one is wished a point above its own, or below.
+// The value that the attribute takes where one is wished a point above its own, or below.
 fn probe(
     alloc: Global,
     e: &mut Engine,
@@ -119,7 +119,7 @@ fn probe(
     }
 }
 
-/// Whether the two values are equal.
+// Whether the two values are equal.
 fn is_same(a: Frac, b: Frac) -> bool
     ensures yes { result ≡ true → a ≡ b }
     ensures no { result ≡ false → a ≢ b }

@@ -17,7 +17,7 @@ use corner_ends::{coefficient_of, is_above, required_level};
 use frac_core::OutOfMemory;
 use problem_core::{Mark, RowName, Side, What};
 
-/// The other mark of the leaving one's line, which grows as much.
+// The other mark of the leaving one's line, which grows as much.
 fn own_choice(c: &Corner, leave: Mark) -> Choice
     requires { IsIn (corners.place leave) c.now.marks }
     ensures choice { IsChoice c.now.problem c.now.marks leave result }
@@ -30,7 +30,7 @@ fn own_choice(c: &Corner, leave: Mark) -> Choice
     }
 }
 
-/// The mark with its number, where the leaving mark grows with it.
+// The mark with its number, where the leaving mark grows with it.
 fn choice_at(c: &Corner, leave: Mark, mark: Mark) -> Option<Choice>
     requires leave { IsIn (corners.place leave) c.now.marks }
     requires mark { IsOutside c.now.problem c.now.marks mark }
@@ -46,7 +46,7 @@ fn choice_at(c: &Corner, leave: Mark, mark: Mark) -> Option<Choice>
     }
 }
 
-/// The choice with its mark's front.
+// The choice with its mark's front.
 fn found_at(c: &Corner, leave: Mark, choice: Choice) -> Found
     requires { IsChoice c.now.problem c.now.marks leave choice }
     ensures found { IsFound c.now.problem c.now.marks leave result }
@@ -58,7 +58,7 @@ fn found_at(c: &Corner, leave: Mark, choice: Choice) -> Found
     }
 }
 
-/// The one of the two with the lesser column over its number.
+// The one of the two with the lesser column over its number.
 fn lesser(c: &Corner, leave: Mark, a: Found, b: Found) -> Result<Found, OutOfMemory>
     requires columns { NoNegativeColumn c.now.problem c.now.marks }
     requires a { IsFound c.now.problem c.now.marks leave a }
@@ -71,7 +71,7 @@ fn lesser(c: &Corner, leave: Mark, a: Found, b: Found) -> Result<Found, OutOfMem
     Ok(if before { a } else { b })
 }
 
-/// The one with the lesser column over its number, of what is found and a mark.
+// The one with the lesser column over its number, of what is found and a mark.
 fn better(c: &Corner, leave: Mark, found: Found, mark: Mark) -> Result<Found, OutOfMemory>
     requires columns { NoNegativeColumn c.now.problem c.now.marks }
     requires leave { IsIn (corners.place leave) c.now.marks }
@@ -91,7 +91,7 @@ fn better(c: &Corner, leave: Mark, found: Found, mark: Mark) -> Result<Found, Ou
     }
 }
 
-/// The mark of an outside line with which the leaving one may grow: with the other one it does not.
+// The mark of an outside line with which the leaving one may grow: with the other one it does not.
 fn growing(c: &Corner, leave: Mark, row: RowName) -> Mark
     requires leave { IsIn (corners.place leave) c.now.marks }
     requires row { AreBothOutside c.now.problem c.now.marks row }
@@ -111,7 +111,7 @@ fn growing(c: &Corner, leave: Mark, row: RowName) -> Mark
     }
 }
 
-/// The one with the least column over its number, of what is found and the marks of an outside line.
+// The one with the least column over its number, of what is found and the marks of an outside line.
 fn better_of(c: &Corner, leave: Mark, found: Found, row: RowName) -> Result<Found, OutOfMemory>
     requires columns { NoNegativeColumn c.now.problem c.now.marks }
     requires leave { IsIn (corners.place leave) c.now.marks }
@@ -128,7 +128,7 @@ fn better_of(c: &Corner, leave: Mark, found: Found, row: RowName) -> Result<Foun
     Ok(best)
 }
 
-/// The mark with the least column over its number, of all outside marks with which the leaving one grows.
+// The mark with the least column over its number, of all outside marks with which the leaving one grows.
 fn least(c: &Corner, leave: Mark) -> Result<Choice, OutOfMemory>
     requires columns { NoNegativeColumn c.now.problem c.now.marks }
     requires leave { IsIn (corners.place leave) c.now.marks }
@@ -147,7 +147,7 @@ fn least(c: &Corner, leave: Mark) -> Result<Choice, OutOfMemory>
     Ok(found.choice)
 }
 
-/// Whether a mark costs at the level of the required rows.
+// Whether a mark costs at the level of the required rows.
 fn is_dear(c: &Corner, mark: Mark) -> bool
     requires { IsMarkOf c.now.problem mark }
     ensures yes { result ≡ true → IsDear c.now.problem c.now.marks mark }
@@ -157,8 +157,8 @@ fn is_dear(c: &Corner, mark: Mark) -> bool
     is_above(c.reduced(required_level(), mark))
 }
 
-/// Whether all outside marks of other lines with which the leaving one grows cost at the level of the
-/// required rows.
+// Whether all outside marks of other lines with which the leaving one grows cost at the level of the
+// required rows.
 fn are_dear(c: &Corner, leave: Mark) -> bool
     requires { IsIn (corners.place leave) c.now.marks }
     ensures { result ≡ true → AreDear c.now.problem c.now.marks leave }
@@ -167,8 +167,8 @@ fn are_dear(c: &Corner, leave: Mark) -> bool
     c.are_growers_dear(leave, required_level())
 }
 
-/// Whether of all marks with which the leaving one grows its line's other mark alone costs nothing at the
-/// level of the required rows.
+// Whether of all marks with which the leaving one grows its line's other mark alone costs nothing at the
+// level of the required rows.
 fn turns(c: &Corner, leave: Mark, own: Mark) -> bool
     requires leave { IsIn (corners.place leave) c.now.marks }
     requires own { IsMarkOf c.now.problem own }

@@ -24,7 +24,7 @@ pub(crate) fn other(mark: Mark) -> Mark
     }
 }
 
-/// Whether the mark's value is negative.
+// Whether the mark's value is negative.
 fn is_low(c: &Corner, mark: Mark) -> bool
     requires { IsMarkOf c.now.problem mark }
     ensures yes { result ≡ true → IsLow c.now.problem c.now.marks mark }
@@ -34,7 +34,7 @@ fn is_low(c: &Corner, mark: Mark) -> bool
     is_below(c.value(mark).num())
 }
 
-/// The mark of the line that is inside, or its over mark: the other one has no negative value.
+// The mark of the line that is inside, or its over mark: the other one has no negative value.
 fn standing(c: &Corner, row: RowName) -> Mark
     requires { IsNamed c.now.problem row }
     ensures row { result.row ≡ row }
@@ -52,7 +52,7 @@ fn standing(c: &Corner, row: RowName) -> Mark
     }
 }
 
-/// The mark of the line whose value is negative.
+// The mark of the line whose value is negative.
 fn low_of(c: &Corner, row: RowName) -> Option<Mark>
     requires { IsNamed c.now.problem row }
     ensures some { IfSome result (IsLow c.now.problem c.now.marks) }

@@ -29,7 +29,7 @@ pub(crate) struct Found {
     pub front: Option<Front>,
 }
 
-/// The order of two marks' reduced costs at a level, each over its number.
+// The order of two marks' reduced costs at a level, each over its number.
 fn order_at(c: &Corner, level: Level, a: Choice, b: Choice) -> Ordering
     requires used { IsInUse c.now.problem level }
     requires a { IsMarkOf c.now.problem a.mark }
@@ -43,8 +43,8 @@ fn order_at(c: &Corner, level: Level, a: Choice, b: Choice) -> Ordering
     first.cmp(&product(a.by, c.reduced(level, b.mark)))
 }
 
-/// Whether the first column over its number is no greater than the second, by these levels; if not, the
-/// second is no greater than the first.
+// Whether the first column over its number is no greater than the second, by these levels; if not, the
+// second is no greater than the first.
 fn is_before_at(c: &Corner, levels: &[Level], a: Choice, b: Choice) -> bool
     requires levels { AreLevels c.now.problem levels.now }
     requires a { IsMarkOf c.now.problem a.mark }
@@ -63,7 +63,7 @@ fn is_before_at(c: &Corner, levels: &[Level], a: Choice, b: Choice) -> bool
     true
 }
 
-/// The order of two fronts at one level, each over its number.
+// The order of two fronts at one level, each over its number.
 fn ratio_order(a: Choice, f: Front, b: Choice, g: Front) -> Ordering
     ensures { result ≡ int_cmp (b.by *ℤ f.reduced) (a.by *ℤ g.reduced) }
 {
@@ -71,8 +71,8 @@ fn ratio_order(a: Choice, f: Front, b: Choice, g: Front) -> Ordering
     first.cmp(&product(a.by, g.reduced))
 }
 
-/// The order of two columns over their numbers by their fronts: the weaker front is the lesser, and of fronts
-/// at one level that with the lesser ratio. Equal where levels behind them decide.
+// The order of two columns over their numbers by their fronts: the weaker front is the lesser, and of fronts
+// at one level that with the lesser ratio. Equal where levels behind them decide.
 fn front_order(c: &Corner, a: Choice, f: Front, b: Choice, g: Front) -> Ordering
     requires columns { NoNegativeColumn c.now.problem c.now.marks }
     requires a { IsPositive c.now.problem a }
@@ -92,7 +92,7 @@ fn front_order(c: &Corner, a: Choice, f: Front, b: Choice, g: Front) -> Ordering
     ratio_order(a, f, b, g)
 }
 
-/// The order of two columns over their numbers, Equal where levels behind their fronts decide.
+// The order of two columns over their numbers, Equal where levels behind their fronts decide.
 fn order(c: &Corner, a: Found, b: Found) -> Ordering
     requires columns { NoNegativeColumn c.now.problem c.now.marks }
     requires a { IsPositive c.now.problem a.choice }

@@ -18,7 +18,7 @@ use corner_ends::{Trail, conflict_stop, is_costly};
 use problem_core::{Mark, RowName};
 use std::alloc::Global;
 
-/// The mark that leaves next, and None at the end of the run.
+// The mark that leaves next, and None at the end of the run.
 fn next(alloc: Global, c: &Corner, low: &mut Vec<RowName>) -> Result<Option<Mark>, RunStop>
     requires columns { NoNegativeColumn c.now.problem c.now.marks }
     requires low { AreLowLines c.now.problem c.now.marks low.old.items }
@@ -35,7 +35,7 @@ fn next(alloc: Global, c: &Corner, low: &mut Vec<RowName>) -> Result<Option<Mark
     Ok(leaving(c, low))
 }
 
-/// Takes all lines off the list, where no column is negative.
+// Takes all lines off the list, where no column is negative.
 fn unlist_all(c: &mut Corner)
     requires { NoNegativeColumn c.old.problem c.old.marks }
     ensures scene { scene_of c.new ≡ scene_of c.old }

@@ -1,7 +1,7 @@
 -- An engine's corner from its mark to the change or back.
 use Rattle.std.proofs.Common.{◌≡◌, ◌∙◌, ℕ, ◌-◌, ◌<◌, ◌++◌, true, false, List, [], ◌∷◌, length, take, sym, ap, ap₂, subst, arith, append-nil, All}
 use Rattle.std.proofs.lemmas.List.{take_all}
-use Rattle.version_list.specs.declared.TheConstants.{MOST}
+use Rattle.version_list.specs.declared.TheConstants.{VERSION_LIMIT}
 use Rattle.frac_core.specs.Fraction.{Fraction}
 use Rattle.problem_core.specs.declared.parts.Mark.{Mark}
 use Rattle.problem_core.specs.declared.parts.Stay.{Stay}
@@ -32,8 +32,8 @@ some_values c kept = let w = values_exist c kept.corner in (w.0, ∣ w.1 ∣₁)
 -- ---- earlier corners
 
 -- there is room for one more
-marked-before : (s : Scene) (old : List Scene) (n : ℕ) → length old ≡ n → n < MOST → take MOST (s ∷ old) ≡ s ∷ old
-marked-before s old n e room = take_all MOST (s ∷ old) (omega (arith, e, room))
+marked-before : (s : Scene) (old : List Scene) (n : ℕ) → length old ≡ n → n < VERSION_LIMIT → take VERSION_LIMIT (s ∷ old) ≡ s ∷ old
+marked-before s old n e room = take_all VERSION_LIMIT (s ∷ old) (omega (arith, e, room))
 
 tail-of : (s t : Scene) (ss ts : List Scene) → s ∷ ss ≡ t ∷ ts → ss ≡ ts
 tail-of s t ss ts e = cc
@@ -70,8 +70,8 @@ pub record IsMarked (c mid : CornerView) (v : List (ℕ × Fraction)) (past : Ha
   pub solved : IsSolved c v past
   pub view : layout_of c v past ≡ l
   pub scene : scene_of mid ≡ scene_of c
-  pub before : mid.before ≡ take MOST (scene_of c ∷ c.before)
-  pub room : length l.earlier < MOST
+  pub before : mid.before ≡ take VERSION_LIMIT (scene_of c ∷ c.before)
+  pub room : length l.earlier < VERSION_LIMIT
 
 module _ (c mid : CornerView) (v : List (ℕ × Fraction)) (past : HaveValues c.before) (l : Layout) (m : IsMarked c mid v past l) where
   -- the latest is the corner of now

@@ -1,5 +1,6 @@
 -- Constants that change.
-use Rattle.std.specs.Prelude.{◌≡◌, List, [], ◌∷◌, map}
+use Rattle.std.specs.Prelude.{◌≡◌, List, [], ◌∷◌, map, All}
+use Rattle.frac_core.specs.Fraction.{IsKept}
 use Rattle.problem_core.specs.Layout.{Row, Problem}
 use Rattle.corner.specs.Shifting.{IsNear}
 use Rattle.corner.specs.Views.{CornerView, Scene}
@@ -24,6 +25,10 @@ with_shifts old to = record { rows = shifted to old.problem.rows; stays = stays_
 abbrev pub CanShift : Problem → List Change → Type 0
 CanShift p [] = Unit {0}
 CanShift p (c ∷ more) = IsNear p c.row c.constant × CanShift (with_constant c.row c.constant p) more
+
+-- each constant is in lowest terms, and fits, as all fractions are
+abbrev pub AreKept : List Change → Type 0
+AreKept to = All (λ t. IsKept t.constant) to
 
 -- the marks inside are those at the newest of the earlier corners
 abbrev pub IsAtMark : CornerView → Type 0

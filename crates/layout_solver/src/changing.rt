@@ -17,7 +17,7 @@ use primal_run::settle;
 use problem_core::Row;
 use std::alloc::Global;
 
-/// Adds attributes at 0.
+// Adds attributes at 0.
 fn add_attrs(c: &mut Corner, attrs: &[u32]) -> Result<(), OutOfMemory>
     requires marked { 0 < length c.old.before }
     requires room { CanTake (attrs_of c.old.problem) attrs.now }
@@ -35,7 +35,7 @@ fn add_attrs(c: &mut Corner, attrs: &[u32]) -> Result<(), OutOfMemory>
     Ok(())
 }
 
-/// Adds rows, and goes on to the best corner.
+// Adds rows, and goes on to the best corner.
 fn join(alloc: Global, c: &mut Corner, rows: &[Row], budget: u64) -> Result<(), RunStop>
     requires marked { 0 < length c.old.before }
     requires whole { IsWhole (with_more c.old.problem rows.now) }
@@ -55,7 +55,7 @@ fn join(alloc: Global, c: &mut Corner, rows: &[Row], budget: u64) -> Result<(), 
     settle(alloc, c, budget)
 }
 
-/// Moves the stays to the present values, and adds attributes at 0.
+// Moves the stays to the present values, and adds attributes at 0.
 fn widen(c: &mut Corner, attrs: &[u32]) -> Result<(), OutOfMemory>
     requires marked { 0 < length c.old.before }
     requires room { CanTake (attrs_of c.old.problem) attrs.now }

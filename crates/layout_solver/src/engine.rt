@@ -1,4 +1,4 @@
-// The engine.
+// The engine: a problem with its best values and the corner where they stand, and earlier ones to go back to.
 ghost use Rattle.std.specs.Prelude.{◌≡◌, ◌<◌, ◌-◌, ◌++◌, ℕ, [], ◌∷◌, true, false, length, take};
 ghost use Rattle.std.specs.Prelude.{All, AllPairs, Any, IfOk, IfErr, IfSome, IfNone, OnErr};
 ghost use Rattle.frac_core.specs.Fraction.{IsKept, IsLowest};
@@ -14,10 +14,10 @@ ghost use Rattle.certificates.specs.Errors.{IsErrorAt, IsLevelCost};
 ghost use Rattle.certificates.specs.OwnLevels.{IsOwnBest};
 ghost use Rattle.corner.specs.Changes.{FromAdded, scene_of};
 ghost use Rattle.corner_ends.specs.Runs.{FromHere, IsRun};
-ghost use Rattle.version_list.specs.declared.TheConstants.{MOST};
+ghost use Rattle.version_list.specs.declared.TheConstants.{VERSION_LIMIT};
 ghost use Rattle.layout_solver.specs.Layouts.{AreBest, IsBestValue, IsKeptLayout, IsKeptSolution};
 ghost use Rattle.layout_solver.specs.Layouts.{solution_of, with_added, zeros};
-ghost use Rattle.layout_solver.specs.Shifts.{CanShift, with_shifts};
+ghost use Rattle.layout_solver.specs.Shifts.{AreKept, CanShift, with_shifts};
 ghost use Rattle.layout_solver.specs.Removals.{CanLeave, HasRemoved, IsRemoveStop, stood, with_removed};
 ghost use Rattle.layout_solver.specs.Engines.{HasValues, HaveValues};
 ghost use Rattle.layout_solver.specs.ValuesUnique.{lists_are_one, one_list};
@@ -96,7 +96,7 @@ impl Engine {
     /// fit at the last corner of the path. `Spent`: the path has as many exchanges as the budget. After each
     /// stop the engine is as before.
     pub fn add(&mut self, attrs: &[u32], rows: &[Row], budget: u64) -> Result<(), RunStop>
-        requires room { length self.old.earlier < MOST }
+        requires room { length self.old.earlier < VERSION_LIMIT }
         requires whole { IsWhole (with_added self.old attrs.now rows.now) }
         requires rising { AreRising (self.old.values ++ zeros attrs.now) }
         ensures done { IfOk result (λ _. self.new.problem ≡ with_added self.old attrs.now rows.now) }
@@ -128,9 +128,10 @@ impl Engine {
     ///
     /// The stops are those of `add`.
     pub fn shift(&mut self, to: &[Change], budget: u64) -> Result<(), RunStop>
-        requires room { length self.old.earlier < MOST }
+        requires room { length self.old.earlier < VERSION_LIMIT }
         requires held { CanShift self.old.problem to.now }
         requires rising { AllPairs (λ a b. a.row < b.row) to.now }
+        requires kept { AreKept to.now }
         ensures done { IfOk result (λ _. self.new.problem ≡ with_shifts self.old to.now) }
         ensures path { IfOk result (λ _. (path : paths.Path)
             × IsRun true (with_shifts self.old to.now) (FromHere self.old.corner []) budget self.new.corner
@@ -161,7 +162,7 @@ impl Engine {
     /// last corner of the path. `Spent`: the path has as many exchanges as the budget. After each stop the
     /// engine is as before.
     pub fn remove(&mut self, rows: &[u32], attrs: &[u32], budget: u64) -> Result<(), RemoveStop>
-        requires room { length self.old.earlier < MOST }
+        requires room { length self.old.earlier < VERSION_LIMIT }
         requires leave { CanLeave (record { rows = rows.now; attrs = attrs.now }) self.old.problem }
         ensures done { IfOk result
             (λ _. self.new.problem ≡ with_removed self.old (record { rows = rows.now; attrs = attrs.now })) }
@@ -188,7 +189,7 @@ impl Engine {
     ///
     /// The stops are those of `add`.
     pub fn value_with(&mut self, rows: &[Row], attr: u32, budget: u64) -> Result<Frac, RunStop>
-        requires room { length self.old.earlier < MOST }
+        requires room { length self.old.earlier < VERSION_LIMIT }
         requires whole { IsWhole (with_added self.old [] rows.now) }
         requires attr { HasStay self.old.problem.stays attr }
         ensures value { IfOk result (IsBestValue (with_added self.old [] rows.now) attr) }

@@ -37,7 +37,7 @@ pub enum RemoveStop {
     OutOfMemory,
 }
 
-/// The stop while these rows are still held.
+// The stop while these rows are still held.
 fn held_stop(alloc: Global, still: &[u32], at: UnfitPath) -> RemoveStop
     ensures { IsUnfitOf still.now at result }
 {
@@ -47,7 +47,7 @@ fn held_stop(alloc: Global, still: &[u32], at: UnfitPath) -> RemoveStop
     }
 }
 
-/// Puts the mark behind the others, if it is none of a row's.
+// Puts the mark behind the others, if it is none of a row's.
 fn push_other(out: &mut Vec<Mark>, mark: Mark, id: u32) -> Result<(), OutOfMemory>
     ensures { IfOk result
         (λ _. out.new.items ≡ out.old.items ++ without_marks (id ∷ []) (mark ∷ [])) }
@@ -58,7 +58,7 @@ fn push_other(out: &mut Vec<Mark>, mark: Mark, id: u32) -> Result<(), OutOfMemor
     Ok(())
 }
 
-/// The marks inside but that of a row.
+// The marks inside but that of a row.
 fn marks_without(alloc: Global, c: &Corner, id: u32) -> Result<Vec<Mark>, OutOfMemory>
     ensures { IfOk result (λ marks. marks.items ≡ without_marks (id ∷ []) c.now.marks) }
 {
@@ -70,7 +70,7 @@ fn marks_without(alloc: Global, c: &Corner, id: u32) -> Result<Vec<Mark>, OutOfM
     Ok(out)
 }
 
-/// The path of no exchange at the corner without a row.
+// The path of no exchange at the corner without a row.
 fn path_without(alloc: Global, c: &Corner, id: u32) -> Result<Path, OutOfMemory>
     ensures { IfOk result (λ path. path ≡ record {
       dual = false;
@@ -81,7 +81,7 @@ fn path_without(alloc: Global, c: &Corner, id: u32) -> Result<Path, OutOfMemory>
     Path::of(alloc, false, &marks_without(alloc, c, id)?, &[])
 }
 
-/// Brings a mark of the next leaving row in.
+// Brings a mark of the next leaving row in.
 fn free_next(alloc: Global, c: &mut Corner, rows: &[u32], gone: usize) -> Result<(), RemoveStop>
     requires marked { 0 < length c.old.before }
     requires within { gone < length rows.now }
@@ -107,7 +107,7 @@ fn free_next(alloc: Global, c: &mut Corner, rows: &[u32], gone: usize) -> Result
     }
 }
 
-/// Takes the next leaving row out, of which a mark is inside.
+// Takes the next leaving row out, of which a mark is inside.
 fn drop_next(alloc: Global, c: &mut Corner, rows: &[u32], gone: usize) -> Result<(), RemoveStop>
     requires marked { 0 < length c.old.before }
     requires within { gone < length rows.now }
@@ -132,7 +132,7 @@ fn drop_next(alloc: Global, c: &mut Corner, rows: &[u32], gone: usize) -> Result
     }
 }
 
-/// Takes the next leaving row out.
+// Takes the next leaving row out.
 fn take_next(alloc: Global, c: &mut Corner, rows: &[u32], gone: usize) -> Result<(), RemoveStop>
     requires marked { 0 < length c.old.before }
     requires within { gone < length rows.now }
@@ -153,7 +153,7 @@ fn take_next(alloc: Global, c: &mut Corner, rows: &[u32], gone: usize) -> Result
     drop_next(alloc, c, rows, gone)
 }
 
-/// Takes rows out, one by one.
+// Takes rows out, one by one.
 fn drop_rows(alloc: Global, c: &mut Corner, rows: &[u32]) -> Result<(), RemoveStop>
     requires marked { 0 < length c.old.before }
     requires held { All (λ id. Any (λ r. r.id ≡ id) c.old.problem.rows) rows.now }
@@ -171,7 +171,7 @@ fn drop_rows(alloc: Global, c: &mut Corner, rows: &[u32]) -> Result<(), RemoveSt
     Ok(())
 }
 
-/// Takes attributes out that no row names.
+// Takes attributes out that no row names.
 fn drop_attrs(c: &mut Corner, attrs: &[u32]) -> Result<(), OutOfMemory>
     requires marked { 0 < length c.old.before }
     requires held { All (HasStay c.old.problem.stays) attrs.now }
@@ -187,7 +187,7 @@ fn drop_attrs(c: &mut Corner, attrs: &[u32]) -> Result<(), OutOfMemory>
     Ok(())
 }
 
-/// Goes on to the best corner, where the required rows have a solution.
+// Goes on to the best corner, where the required rows have a solution.
 fn settle_left(alloc: Global, c: &mut Corner, budget: u64) -> Result<(), RemoveStop>
     requires marked { 0 < length c.old.before }
     requires values { NoNegativeValue c.old.problem c.old.marks }
@@ -213,7 +213,7 @@ fn settle_left(alloc: Global, c: &mut Corner, budget: u64) -> Result<(), RemoveS
     }
 }
 
-/// Takes attributes out, and goes on to the best corner.
+// Takes attributes out, and goes on to the best corner.
 fn leave_attrs(alloc: Global, c: &mut Corner, attrs: &[u32], budget: u64) -> Result<(), RemoveStop>
     requires marked { 0 < length c.old.before }
     requires held { All (HasStay c.old.problem.stays) attrs.now }
@@ -241,8 +241,8 @@ fn leave_attrs(alloc: Global, c: &mut Corner, attrs: &[u32], budget: u64) -> Res
     }
 }
 
-/// Takes rows and attributes out where the stays stand at the present values, and goes on to the best
-/// corner.
+// Takes rows and attributes out where the stays stand at the present values, and goes on to the best
+// corner.
 fn take_out(
     alloc: Global,
     c: &mut Corner,

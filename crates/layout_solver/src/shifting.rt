@@ -1,6 +1,5 @@
 // The way of a corner to the best one of a problem with other constants.
 ghost use Rattle.std.specs.Prelude.{◌≡◌, ◌<◌, ℕ, List, [], length, true, All, AllPairs, Any, IfOk, IfErr};
-ghost use Rattle.frac_core.specs.Fraction.{IsKept};
 ghost use Rattle.problem_core.specs.Layout as layout;
 ghost use Rattle.problem_core.specs.Corners.{NoNegativeColumn, NoNegativeValue};
 ghost use Rattle.problem_core.specs.Paths.{IsPath};
@@ -11,7 +10,7 @@ ghost use Rattle.cert_core.specs.Paths as paths;
 ghost use Rattle.cert_core.specs.Stops.{IsPlain, IsStopOf};
 ghost use Rattle.corner_ends.specs.Runs.{FromHere, IsBestEnd, IsRun};
 ghost use Rattle.dual_run.specs.Leaving.{AreLowLines};
-ghost use Rattle.layout_solver.specs.Shifts.{CanShift, IsAtMark, shifted, with_constants};
+ghost use Rattle.layout_solver.specs.Shifts.{AreKept, CanShift, IsAtMark, shifted, with_constants};
 ghost use Rattle.layout_solver.specs.Starts.{IsMoved};
 
 use crate::engine::Change;
@@ -22,7 +21,7 @@ use frac_core::{Frac, OutOfMemory, Stop};
 use problem_core::{Quantity, Row, RowName, TableStop};
 use std::alloc::Global;
 
-/// The constant of a row.
+// The constant of a row.
 fn constant_of(rows: &[Row], id: u32) -> Frac
     requires held { Any (λ r. r.id ≡ id) rows.now }
     requires rising { AllPairs (λ r s. r.id < s.id) rows.now }
@@ -32,23 +31,14 @@ fn constant_of(rows: &[Row], id: u32) -> Frac
     rows[at].constant()
 }
 
-/// Shows that each constant fits.
-fn show_constants(to: &[Change])
-    ensures { All (λ t. IsKept t.constant) to.now }
-{
-    for change in to {
-        let _ = change.constant.num(); // for the proof: what a fraction keeps
-    }
-}
-
-/// The path of no exchange at the corner.
+// The path of no exchange at the corner.
 fn path_here(alloc: Global, c: &Corner) -> Result<Path, OutOfMemory>
     ensures { IfOk result (λ path. path ≡ record { dual = true; corner = c.now.marks; swaps = [] }) }
 {
     Path::of(alloc, true, &c.marks()?, &[])
 }
 
-/// The stop where a quantity does not fit once so many constants have changed.
+// The stop where a quantity does not fit once so many constants have changed.
 fn shifts_stop(alloc: Global, c: &Corner, quantity: Quantity, changed: u32) -> RunStop
     requires { IsPlain quantity }
     ensures { (p : layout.Problem) (old : List layout.Row) (what : what_type.What) → quantity ≡ Plain what
@@ -70,8 +60,8 @@ fn shifts_stop(alloc: Global, c: &Corner, quantity: Quantity, changed: u32) -> R
     }
 }
 
-/// Gives rows other constants, one by one, and lists the lines whose values are negative with them. A
-/// constant that a row has already is no change.
+// Gives rows other constants, one by one, and lists the lines whose values are negative with them. A
+// constant that a row has already is no change.
 fn shift_all(
     alloc: Global,
     c: &mut Corner,
@@ -83,6 +73,7 @@ fn shift_all(
     requires columns { NoNegativeColumn c.old.problem c.old.marks }
     requires near { CanShift c.old.problem to.now }
     requires rising { AllPairs (λ a b. a.row < b.row) to.now }
+    requires kept { AreKept to.now }
     requires low { AreLowLines c.old.problem c.old.marks low.old.items }
     ensures problem { IfOk result (λ _. c.new.problem ≡ with_constants to.now c.old.problem) }
     ensures marks { IfOk result (λ _. c.new.marks ≡ c.old.marks) }
@@ -103,7 +94,6 @@ fn shift_all(
         match shift(c, low, change.row, change.constant) {
             Ok(()) => (),
             Err(Stop::Refused(quantity)) => {
-                show_constants(to);
                 return Err(shifts_stop(alloc, c, quantity, changed));
             }
             Err(Stop::OutOfMemory) => return Err(RunStop::OutOfMemory),
@@ -125,6 +115,7 @@ pub(crate) fn alter(
     requires columns { NoNegativeColumn c.old.problem c.old.marks }
     requires near { CanShift c.old.problem to.now }
     requires rising { AllPairs (λ a b. a.row < b.row) to.now }
+    requires kept { AreKept to.now }
     ensures before { c.new.before ≡ c.old.before }
     ensures problem { IfOk result
         (λ _. IsMoved c.old [] (shifted to.now c.old.problem.rows) c.new.problem) }

@@ -17,7 +17,7 @@ use frac_core::{OutOfMemory, Stop};
 use problem_core::{Mark, Quantity, RowName, Side, TableStop};
 use std::alloc::Global;
 
-/// The row's mark on a side.
+// The row's mark on a side.
 fn mark_of(id: u32, side: Side) -> Mark
     ensures { result ≡ record { row = Held id; side = side } }
 {
@@ -36,7 +36,7 @@ pub fn is_free(c: &Corner, id: u32) -> bool
     c.is_inside(mark_of(id, Side::Under)) || c.is_inside(mark_of(id, Side::Over))
 }
 
-/// The path of no exchange at the corner after this one.
+// The path of no exchange at the corner after this one.
 fn freed_path(alloc: Global, c: &Corner, swap: Swap) -> Result<Path, OutOfMemory>
     requires { IsExchange c.now.problem c.now.marks swap }
     ensures { IfOk result (λ path. path ≡ record {
@@ -53,7 +53,7 @@ fn freed_path(alloc: Global, c: &Corner, swap: Swap) -> Result<Path, OutOfMemory
     Path::of(alloc, false, &marks, &[])
 }
 
-/// The stop where a quantity does not fit at the corner after the exchange.
+// The stop where a quantity does not fit at the corner after the exchange.
 fn unfit(alloc: Global, c: &Corner, id: u32, swap: Swap, quantity: Quantity) -> RunStop
     requires row { swap.enter.row ≡ Held id }
     requires stay { IsStayMover c.now.problem c.now.marks swap.enter swap.leave }

@@ -9,7 +9,7 @@ ghost use Rattle.marker_remove.specs.Freed.{IsStayMover};
 use corner::Corner;
 use problem_core::{Mark, RowName, What};
 
-/// The mark of a stay.
+// The mark of a stay.
 fn stay_mark(what: What) -> Option<Mark>
     ensures some { IfSome result (λ m. (what ≡ MarkOf m) × ((attr : ℕ) × (m.row ≡ StayOf attr))) }
     ensures none { IfNone result ((m : mark_type.Mark) (attr : ℕ) → what ≡ MarkOf m → m.row ≡ StayOf attr

@@ -18,7 +18,7 @@ pub(crate) struct Choice {
     pub front: Front,
 }
 
-/// The mark's front, where its column is negative.
+// The mark's front, where its column is negative.
 fn negative_front(c: &Corner, mark: Mark) -> Option<Front>
     requires { IsMarkOf c.now.problem mark }
     ensures some { IfSome result (λ _. IsNegative c.now.problem c.now.marks mark) }
@@ -27,15 +27,11 @@ fn negative_front(c: &Corner, mark: Mark) -> Option<Front>
     ensures none { IfNone result (HasNegativeColumn c.now.problem c.now.marks mark → ⊥) }
 {
     c.show_corner(); // for the proof: what a corner keeps
-    match c.front(mark) {
-        Some(front) => {
-            if is_below(front.reduced) {
-                Some(front)
-            } else {
-                None
-            }
-        }
-        None => None,
+    let front = c.front(mark)?;
+    if is_below(front.reduced) {
+        Some(front)
+    } else {
+        None
     }
 }
 
@@ -46,7 +42,7 @@ pub(crate) fn mark_at(row: RowName, side: Side) -> Mark
     Mark { row, side }
 }
 
-/// The mark of the line whose column is negative.
+// The mark of the line whose column is negative.
 fn negative_of(c: &Corner, row: RowName) -> Option<Choice>
     requires { IsNamed c.now.problem row }
     ensures some { IfSome result (IsChoice c.now.problem c.now.marks) }
@@ -55,14 +51,14 @@ fn negative_of(c: &Corner, row: RowName) -> Option<Choice>
     let (under, over) = (mark_at(row, Side::Under), mark_at(row, Side::Over));
     match negative_front(c, under) {
         Some(front) => Some(Choice { mark: under, front }),
-        None => match negative_front(c, over) {
-            Some(front) => Some(Choice { mark: over, front }),
-            None => None,
-        },
+        None => {
+            let front = negative_front(c, over)?;
+            Some(Choice { mark: over, front })
+        }
     }
 }
 
-/// The rank of a row.
+// The rank of a row.
 fn rank_of(c: &Corner, id: u32) -> u16 {
     let rows = c.rows();
     let at = rows.partition_point(|row| row.id() < id);
@@ -72,7 +68,7 @@ fn rank_of(c: &Corner, id: u32) -> u16 {
     }
 }
 
-/// Whether the first row is weaker: of the lower rank, and of equal ones the later one.
+// Whether the first row is weaker: of the lower rank, and of equal ones the later one.
 fn is_lower(c: &Corner, a: u32, b: u32) -> bool {
     let (first, second) = (rank_of(c, a), rank_of(c, b));
     first < second || first == second && a > b
@@ -88,7 +84,7 @@ pub(crate) fn is_weaker(c: &Corner, a: RowName, b: RowName) -> bool {
     }
 }
 
-/// Whether the first level is stronger.
+// Whether the first level is stronger.
 fn is_stronger(a: Level, b: Level) -> bool {
     match (a, b) {
         (Level::Priority(x), Level::Priority(y)) => x > y,
@@ -98,8 +94,8 @@ fn is_stronger(a: Level, b: Level) -> bool {
     }
 }
 
-/// Whether the first one enters before the other: the stronger level first, there the lower reduced cost, and
-/// of equal ones the weaker line.
+// Whether the first one enters before the other: the stronger level first, there the lower reduced cost, and
+// of equal ones the weaker line.
 fn enters_before(c: &Corner, a: Choice, b: Choice) -> bool {
     if a.front.level == b.front.level {
         a.front.reduced < b.front.reduced
@@ -109,7 +105,7 @@ fn enters_before(c: &Corner, a: Choice, b: Choice) -> bool {
     }
 }
 
-/// The one of the two that enters before the other.
+// The one of the two that enters before the other.
 fn better(c: &Corner, choice: Choice, found: Option<Choice>) -> Choice
     ensures { (result ≡ choice) ⊎ (found ≡ Some result) }
 {
@@ -125,14 +121,14 @@ fn better(c: &Corner, choice: Choice, found: Option<Choice>) -> Choice
     }
 }
 
-/// What is found so far, and the place of the next candidate.
+// What is found so far, and the place of the next candidate.
 #[derive(Drop)]
 struct Seen {
     found: Option<Choice>,
     next: usize,
 }
 
-/// Looks at a candidate, and unlists it where neither of its marks has a negative column.
+// Looks at a candidate, and unlists it where neither of its marks has a negative column.
 fn see(c: &mut Corner, found: Option<Choice>, i: usize) -> Seen
     requires within { i < length c.old.candidates }
     requires found { IfSome found (IsChoice c.old.problem c.old.marks) }

@@ -14,8 +14,8 @@ use crate::ties::{Ratio, Tied, earlier, ratio_of, smaller};
 use corner::Corner;
 use problem_core::{Mark, What};
 
-/// The ratio of what leaves, where one more is looked at that moves with the entering mark, and its ratio is
-/// not the one so far.
+// The ratio of what leaves, where one more is looked at that moves with the entering mark, and its ratio is
+// not the one so far.
 fn next_untied(
     c: &Corner,
     found: Option<Ratio>,
@@ -66,7 +66,7 @@ pub(crate) fn leaving_untied(c: &Corner, enter: Mark) -> Result<Mark, Tied>
     }
 }
 
-/// The ratio of what leaves, where one more is looked at that moves with the entering mark.
+// The ratio of what leaves, where one more is looked at that moves with the entering mark.
 fn next_first(
     c: &Corner,
     found: Option<Ratio>,

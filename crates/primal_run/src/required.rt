@@ -14,7 +14,7 @@ use corner::Corner;
 use corner_ends::{is_below, required_level};
 use problem_core::{Level, Mark, REQUIRED, RowName, Side};
 
-/// Whether it is the level of the required rows.
+// Whether it is the level of the required rows.
 fn is_required_level(level: Level) -> bool
     ensures { result ≡ true → level ≡ Priority REQUIRED }
 {
@@ -30,26 +30,22 @@ pub(crate) fn required_of(c: &Corner, found: Option<Choice>) -> Option<Mark>
     ensures { IfSome result (IsRequired c.now.problem c.now.marks) }
 {
     c.show_corner(); // for the proof: what a corner keeps
-    match found {
-        Some(choice) => {
-            if is_required_level(choice.front.level) {
-                Some(choice.mark)
-            } else {
-                None
-            }
-        }
-        None => None,
+    let choice = found?;
+    if is_required_level(choice.front.level) {
+        Some(choice.mark)
+    } else {
+        None
     }
 }
 
-/// A mark and its reduced cost at the level of the required rows.
+// A mark and its reduced cost at the level of the required rows.
 #[derive(Clone, Copy, Debug)]
 struct Lower {
     mark: Mark,
     reduced: i64,
 }
 
-/// The mark's reduced cost at the level of the required rows.
+// The mark's reduced cost at the level of the required rows.
 fn reduced_of(c: &Corner, mark: Mark) -> i64
     requires { IsMarkOf c.now.problem mark }
     ensures { IsReducedAt c.now.problem c.now.marks (Priority REQUIRED) mark result }
@@ -57,7 +53,7 @@ fn reduced_of(c: &Corner, mark: Mark) -> i64
     c.reduced(required_level(), mark)
 }
 
-/// The mark with its reduced cost, where this is below 0.
+// The mark with its reduced cost, where this is below 0.
 fn lower_at(c: &Corner, mark: Mark) -> Option<Lower>
     requires { IsMarkOf c.now.problem mark }
     ensures some { IfSome result (λ f. IsRequired c.now.problem c.now.marks f.mark) }
@@ -73,7 +69,7 @@ fn lower_at(c: &Corner, mark: Mark) -> Option<Lower>
     }
 }
 
-/// The mark of the line whose reduced cost is below 0.
+// The mark of the line whose reduced cost is below 0.
 fn lower_of(c: &Corner, row: RowName) -> Option<Lower>
     requires { IsNamed c.now.problem row }
     ensures some { IfSome result (λ f. IsRequired c.now.problem c.now.marks f.mark) }
@@ -85,7 +81,7 @@ fn lower_of(c: &Corner, row: RowName) -> Option<Lower>
     }
 }
 
-/// The lower one, and of equal ones that of the weaker line.
+// The lower one, and of equal ones that of the weaker line.
 fn lowest(c: &Corner, lower: Lower, found: Option<Lower>) -> Lower
     ensures { (result ≡ lower) ⊎ (found ≡ Some result) }
 {
@@ -103,7 +99,7 @@ fn lowest(c: &Corner, lower: Lower, found: Option<Lower>) -> Lower
     }
 }
 
-/// What is found where one more candidate is looked at.
+// What is found where one more candidate is looked at.
 fn next_lowest(c: &Corner, found: Option<Lower>, i: usize) -> Option<Lower>
     requires within { i < length c.now.candidates }
     requires found { IfSome found (λ f. IsRequired c.now.problem c.now.marks f.mark) }
@@ -130,8 +126,6 @@ pub(crate) fn required_pick(c: &Corner) -> Option<Mark>
     for i in 0..count {
         found = next_lowest(c, found, i);
     }
-    match found {
-        Some(lower) => Some(lower.mark),
-        None => None,
-    }
+    let lower = found?;
+    Some(lower.mark)
 }

@@ -18,7 +18,7 @@ use corner_ends::Trail;
 use frac_core::{OutOfMemory, Stop};
 use problem_core::Mark;
 
-/// The inside mark that leaves. The marks of the first corner are listed where two come to 0 together.
+// The inside mark that leaves. The marks of the first corner are listed where two come to 0 together.
 fn leaving_mark(trail: &mut Trail, c: &Corner, enter: Mark) -> Result<Mark, OutOfMemory>
     requires trail { (first : List MarkOfLine) × IsTrailOf false c.now.problem first trail.old c.now.marks }
     requires enter { MayEnter c.now.problem c.now.marks enter }

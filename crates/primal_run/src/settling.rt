@@ -19,8 +19,8 @@ use corner_ends::{Trail, conflict_stop, is_costly};
 use problem_core::Mark;
 use std::alloc::Global;
 
-/// The mark that enters where the required rows cost. A choice is one at the strongest level, so that only
-/// before a conflict all lines are looked at again.
+// The mark that enters where the required rows cost. A choice is one at the strongest level, so that only
+// before a conflict all lines are looked at again.
 fn required_entering(alloc: Global, c: &Corner, found: Option<Choice>) -> Result<Mark, RunStop>
     requires costs { CostsAbove c.now.problem c.now.marks 0 }
     requires found { IfSome found (IsChoice c.now.problem c.now.marks) }
@@ -37,19 +37,17 @@ fn required_entering(alloc: Global, c: &Corner, found: Option<Choice>) -> Result
     }
 }
 
-/// The mark of a choice.
+// The mark of a choice.
 fn mark_of(c: &Corner, found: Option<Choice>) -> Option<Mark>
     requires { IfSome found (IsChoice c.now.problem c.now.marks) }
     ensures some { IfSome result (IsNegative c.now.problem c.now.marks) }
     ensures none { result ≡ None → found ≡ None }
 {
-    match found {
-        Some(choice) => Some(choice.mark),
-        None => None,
-    }
+    let choice = found?;
+    Some(choice.mark)
 }
 
-/// The mark that enters next, and None at the end of the run.
+// The mark that enters next, and None at the end of the run.
 fn entering(alloc: Global, c: &mut Corner) -> Result<Option<Mark>, RunStop>
     ensures problem { c.new.problem ≡ c.old.problem }
     ensures marks { c.new.marks ≡ c.old.marks }
@@ -71,7 +69,7 @@ fn entering(alloc: Global, c: &mut Corner) -> Result<Option<Mark>, RunStop>
     Ok(mark_of(c, found))
 }
 
-/// Exchanges marks from the first one that enters to the end.
+// Exchanges marks from the first one that enters to the end.
 fn run_on(alloc: Global, c: &mut Corner, budget: u64, first: Mark) -> Result<(), RunStop>
     requires marked { 0 < length c.old.before }
     requires values { NoNegativeValue c.old.problem c.old.marks }

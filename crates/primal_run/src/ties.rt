@@ -26,7 +26,7 @@ pub(crate) struct Ratio {
     pub below: i128,
 }
 
-/// The number with the other sign.
+// The number with the other sign.
 fn opposite(z: i128) -> i128
     requires { unsigned_abs z ≤ 2 ^ 126 }
     ensures { result ≡ neg_ℤ z }
@@ -34,7 +34,7 @@ fn opposite(z: i128) -> i128
     -z
 }
 
-/// The scale of an inside mark's writing.
+// The scale of an inside mark's writing.
 fn scale(c: &Corner, m: Mark) -> i64
     requires inside { IsIn (corners.place m) c.now.marks }
     ensures is { IsScaleOf c.now.problem c.now.marks (MarkOf m) result }
@@ -67,7 +67,7 @@ pub(crate) fn ratio_of(c: &Corner, m: Mark, enter: Mark) -> Option<Ratio>
     })
 }
 
-/// What an inside mark counts at a mark of the run's first corner, times a number.
+// What an inside mark counts at a mark of the run's first corner, times a number.
 fn count(c: &Corner, m: Mark, f: Mark, by: i64) -> i128
     requires inside { IsIn (corners.place m) c.now.marks }
     requires first { IsMarkOf c.now.problem f }
@@ -84,7 +84,7 @@ fn count(c: &Corner, m: Mark, f: Mark, by: i64) -> i128
     opposite(product(coefficient_of(c, m, f), by))
 }
 
-/// The order of what two inside marks count at a mark of the run's first corner, each over its coefficient.
+// The order of what two inside marks count at a mark of the run's first corner, each over its coefficient.
 fn count_order(c: &Corner, a: Ratio, b: Ratio, f: Mark) -> Ordering
     requires a { IsIn (corners.place a.mark) c.now.marks }
     requires b { IsIn (corners.place b.mark) c.now.marks }
@@ -97,8 +97,8 @@ fn count_order(c: &Corner, a: Ratio, b: Ratio, f: Mark) -> Ordering
     count(c, b.mark, f, a.by).cmp(&count(c, a.mark, f, b.by))
 }
 
-/// Whether the first of two marks that come to 0 together leaves, by what they count at the marks of the
-/// run's first corner.
+// Whether the first of two marks that come to 0 together leaves, by what they count at the marks of the
+// run's first corner.
 fn breaks_tie(c: &Corner, a: Ratio, b: Ratio, enter: Mark, first: &[Mark]) -> bool
     requires a { IsRatioAt c.now.problem c.now.marks (corners.place enter) a }
     requires b { IsRatioAt c.now.problem c.now.marks (corners.place enter) b }

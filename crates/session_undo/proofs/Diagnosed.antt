@@ -7,7 +7,7 @@ use Rattle.std.proofs.lemmas.List.Elements.{All-weaker}
 use Rattle.std.proofs.lemmas.Result.{IfErr-weaker}
 use Rattle.view_tree.specs.Views.{ViewTree}
 use Rattle.problem_core.specs.Layout.{Row}
-use Rattle.version_list.specs.declared.TheConstants.{MOST}
+use Rattle.version_list.specs.declared.TheConstants.{VERSION_LIMIT}
 use Rattle.constraint_compile.specs.Meaning.{MetricList}
 use Rattle.layout_solver.specs.Layouts.{IsKeptLayout, Layout}
 use Rattle.diagnosis.specs.Diagnoses.{AreFindings, findings_of}
@@ -26,7 +26,7 @@ use Rattle.session_undo.specs.Kept.{IsKept, scene_at}
 use Rattle.session_undo.proofs.Reached.{reached}
 
 -- each attribute of a scene can be probed
-pub can-probe : (tree : ViewTree) (metrics : MetricList) (held : List Item) (next : ℕ) (l : Layout) → IsKept (scene_at tree metrics held next l) → length l.earlier < MOST → CanProbeAll l
+pub can-probe : (tree : ViewTree) (metrics : MetricList) (held : List Item) (next : ℕ) (l : Layout) → IsKept (scene_at tree metrics held next l) → length l.earlier < VERSION_LIMIT → CanProbeAll l
 can-probe tree metrics held next l kept room k d within = record {
   held = (k, get_or l.problem.stays k d, within, get_or_default l.problem.stays k (get_or l.problem.stays k d) d within, refl);
   few = omega (arith, kept.counted.few);

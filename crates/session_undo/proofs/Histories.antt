@@ -5,7 +5,7 @@ use Rattle.std.proofs.lemmas.List.Elements.{All-cons, All-head, All-same, All-ta
 use Rattle.view_tree.specs.Views.{ViewTree}
 use Rattle.constraint_compile.specs.Meaning.{MetricList}
 use Rattle.version_list.specs.Versions.{Versions}
-use Rattle.version_list.specs.declared.TheConstants.{MOST}
+use Rattle.version_list.specs.declared.TheConstants.{VERSION_LIMIT}
 use Rattle.layout_solver.specs.Layouts.{Layout, Solution, solution_of}
 use Rattle.session_undo.specs.declared.item.Item as declared
 use Rattle.session_undo.specs.declared.scene.past.Past.{Past}
@@ -26,7 +26,7 @@ module _ (items : List (List declared.Item)) (solutions : List Solution) (pasts 
   few-items = omega (arith, alike.items, alike.few)
 
   -- there is room for one more
-  pub few-solutions : length solutions < MOST
+  pub few-solutions : length solutions < VERSION_LIMIT
   few-solutions = omega (arith, alike.solutions, alike.few)
 
   pub more-items : (before : List (List declared.Item)) (now : List declared.Item) → before ≡ now ∷ items → length before ≡ 1 + length pasts

@@ -1,7 +1,7 @@
 -- A scene of what is held and the engine, once these are kept.
 use Rattle.std.proofs.Common.{◌≡◌, ◌∙◌, ◌≤◌, ◌∷◌, ℕ, List, length, take, sym, ap, arith}
 use Rattle.std.proofs.lemmas.List.{take_all}
-use Rattle.version_list.specs.declared.TheConstants.{MOST}
+use Rattle.version_list.specs.declared.TheConstants.{VERSION_LIMIT}
 use Rattle.session_undo.specs.declared.limits.TheConstants.{EARLIER}
 use Rattle.view_tree.specs.Views.{ViewTree}
 use Rattle.constraint_compile.specs.Meaning.{MetricList}
@@ -19,5 +19,5 @@ kept-scene tree metrics items kept next layout after same alike =
 
 -- a mark forgets none of so few
 pub marked-all : (before marked : List (List declared.Item)) (now : List declared.Item)
-    → length before ≤ EARLIER → marked ≡ take MOST (now ∷ before) → marked ≡ now ∷ before
-marked-all before marked now few is = is ∙ take_all MOST (now ∷ before) (omega (arith, few))
+    → length before ≤ EARLIER → marked ≡ take VERSION_LIMIT (now ∷ before) → marked ≡ now ∷ before
+marked-all before marked now few is = is ∙ take_all VERSION_LIMIT (now ∷ before) (omega (arith, few))

@@ -20,7 +20,7 @@ use Rattle.constraint_compile.specs.declared.stops.CompileStop.{CompileStop}
 use Rattle.constraint_compile.specs.declared.stops.CompileStop.TheVariants as stop
 use Rattle.layout_solver.specs.declared.engine.Change.{Change}
 use Rattle.layout_solver.specs.Layouts.{Layout}
-use Rattle.layout_solver.specs.Shifts.{shifted}
+use Rattle.layout_solver.specs.Shifts.{AreKept, shifted}
 use Rattle.session_undo.specs.declared.item.Item as declared
 use Rattle.session_undo.specs.Items.{Item, AreRows}
 use Rattle.session_undo.specs.Kept.{items_of, item_of, scene_at}
@@ -87,8 +87,8 @@ module _ (tree : ViewTree) (ms : MetricList) (held : List Item) (next : ℕ) (l 
   after : HasAfter name ms new same (AreRows new held) l.problem.rows constants
   after = rows-after name ms new same held l.problem.rows constants before own
 
-  pub changes-made : (to : List Change) → AreMoves l.problem.rows constants to → AreChangesFor (scene_at tree ms held next l) new to
-  changes-made to moves =
+  pub changes-made : (to : List Change) → AreMoves l.problem.rows constants to → AreKept to → AreChangesFor (scene_at tree ms held next l) new to
+  changes-made to moves kept =
       let changes : AreChanges l.problem.rows after.after to = moved-changes l.problem.rows after.after constants to after.changes moves in
       let rows : shifted to l.problem.rows ≡ after.after =
       changes-rows l.problem.rows after.after to changes (alike-rows new ms held after.after l.problem.rows after.are before) whole.rising in
@@ -101,6 +101,7 @@ module _ (tree : ViewTree) (ms : MetricList) (held : List Item) (next : ℕ) (l 
             (All-from_recursion (λ (r : Row). 0 < r.constant.den) after.after
             (above-zero l.problem.rows after.after constants after.changes (above new (naming name (forms_of held)) constants own) (recursion_from_All (λ (r : Row). 0 < r.constant.den) l.problem.rows dens)));
         rising = changes-rising l.problem.rows after.after to changes whole.rising;
+        kept = kept;
       }
 
   pub changes-far : Any (IsFar l.problem.rows) constants → MayLackChanges (scene_at tree ms held next l) new (stop.Limit limit.Constant)

@@ -4,6 +4,7 @@ use Rattle.std.specs.Prelude.{Option}
 use Rattle.std.specs.Prelude.{Some, None, IsSome, Bool, true, false, map, slice_index_or, All, AllPairs}
 use Rattle.std.specs.List.{list_any}
 use Rattle.std.specs.Option.{option_map}
+use Rattle.span_text.specs.Bytes.{point}
 use Rattle.frac_core.specs.Fraction.{Fraction}
 use Rattle.name_tables.specs.Names.{names_of, place_of, value_of}
 use Rattle.name_tables.specs.declared.stops.LimitWord.TheVariants as word
@@ -463,7 +464,7 @@ TriedSuggest old name attr value priority End =
 
 -- the view, a point and the attribute
 abbrev pub suggestion_name : List ℕ → AttrWord → List ℕ
-suggestion_name name attr = name ++ (46 ∷ word_text attr)
+suggestion_name name attr = name ++ (point ∷ word_text attr)
 
 abbrev pub ReleasesOf : State → List ℕ → AttrWord → (Scene → Reply → State → Type 0) → Reply → State → Type 0
 ReleasesOf old name attr End reply new =

@@ -9,7 +9,7 @@ use Rattle.constraint_compile.specs.declared.naming.RowConstant.{RowConstant}
 use Rattle.constraint_compile.specs.declared.stops.CompileStop.{CompileStop}
 use Rattle.constraint_compile.specs.declared.stops.CompileStop.TheVariants as stop
 use Rattle.layout_solver.specs.declared.engine.Change.{Change}
-use Rattle.layout_solver.specs.Shifts.{CanShift, shifted}
+use Rattle.layout_solver.specs.Shifts.{AreKept, CanShift, shifted}
 use Rattle.session_undo.specs.Items.{Item, OfWindow, OfView, Sized, OfLine, Suggested, AreRows, IsSmallItem}
 use Rattle.session_undo.specs.Scene.{Scene, problem_of}
 use Rattle.session_undo.specs.Machine.{AreNear}
@@ -65,6 +65,7 @@ pub record AreChangesFor (scene : Scene) (metrics : MetricList) (to : List Chang
   pub near : AreNear scene.rows (shifted to scene.rows)
   pub can : CanShift (problem_of scene) to
   pub rising : AllPairs (λ a b. a.row < b.row) to
+  pub kept : AreKept to
 
 -- why there are none: a constant isn't small after some term, or moves too far
 abbrev pub MayLackChanges : Scene → MetricList → CompileStop → Type 0

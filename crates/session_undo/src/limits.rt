@@ -1,4 +1,5 @@
 // How much a session may hold, and how far a run may go.
+use version_list::VERSION_LIMIT;
 use view_tree::VIEW_LIMIT;
 
 /// How many lines of groups a new session may hold.
@@ -7,8 +8,9 @@ pub const MOST_LINES: usize = 2_000;
 /// How many rows a session may hold.
 pub const MOST_ROWS: usize = 2_000;
 
-/// How many earlier scenes are kept.
-pub const EARLIER: usize = 32;
+/// How many earlier scenes are kept. A list of versions keeps one more: the scene before a command that is
+/// still tried.
+pub const EARLIER: usize = VERSION_LIMIT - 1;
 
 /// How many exchanges a run may make in a new session.
 pub const FIRST_BUDGET: u64 = 100_000;

@@ -1,4 +1,4 @@
-// Replies and refusals.
+// What a session says to a line: its replies, and the causes of its refusals.
 ghost use Rattle.std.specs.Prelude.{◌≡◌};
 ghost use Rattle.session_undo.specs.Adding.{refusal_of, answer_of, IsLeftAnswer, TellsStop};
 ghost use Rattle.session_undo.specs.Probed.{probe_refusal};
@@ -51,8 +51,8 @@ pub enum Refusal {
     /// The line leaves the grammar at this offset.
     #[error("the line leaves the grammar at offset {0}")]
     Syntax(usize),
-    /// This name must be that of a view or a metric, and isn't.
-    #[error("no view or metric has the name")]
+    /// Nothing has this name where a view, a metric, a group or a suggestion must have it.
+    #[error("nothing has the name")]
     Unknown(OwnedName),
     /// A view or a metric has this name.
     #[error("a view or a metric has the name")]

@@ -171,10 +171,8 @@ impl Scene {
         ensures none { IfNone result (slice_get self.now.scene.tree.views place ≡ None) }
     {
         let _count = self.tree.len(); // for the proof: what a tree keeps
-        match self.tree.at(place) {
-            Some(view) => Some(frame_of(&self.engine, view.id.0)),
-            None => None,
-        }
+        let view = self.tree.at(place)?;
+        Some(frame_of(&self.engine, view.id.0))
     }
 
     /// Left, top, width and height of a view, in window coordinates. There is none exactly where no view has
@@ -183,10 +181,8 @@ impl Scene {
         ensures some { IfSome result (IsFrameOf self.now.scene view.0) }
         ensures none { IfNone result (view_of self.now.scene.tree.views view.0 ≡ None) }
     {
-        match place_of(&self.tree, view) {
-            Some(place) => self.frame_at(place),
-            None => None,
-        }
+        let place = place_of(&self.tree, view)?;
+        self.frame_at(place)
     }
 
     /// Whether at least so many lines of groups are held.

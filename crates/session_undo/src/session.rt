@@ -55,14 +55,14 @@ impl Model for Session {
     ghost invariant = { λ s. AreWithin (limits_of s.limits) };
 }
 
-/// Metrics of which one is new or changed, and the changes to the constants that name it.
+// Metrics of which one is new or changed, and the changes to the constants that name it.
 #[derive(Drop)]
 struct NewMetrics {
     metrics: Metrics,
     to: Vec<Change>,
 }
 
-/// A line of a group that is to be held, and its rows.
+// A line of a group that is to be held, and its rows.
 #[derive(Drop)]
 struct NewLine {
     group: OwnedName,
@@ -170,7 +170,7 @@ impl Session {
         if self.has_all_views() {
             return Err(Refusal::Limit(LimitWord::Views));
         }
-        let _before = views.len();
+        let _before = views.len(); // for the proof: what a tree keeps
         let mut tree = views.copy()?;
         let first_view = match tree.add(name, above) {
             Ok(id) => id,

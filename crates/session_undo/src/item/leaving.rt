@@ -18,7 +18,7 @@ use std::alloc::Global;
 use version_list::VersionList;
 use view_tree::ViewId;
 
-/// Whether the item is a line of this group.
+// Whether the item is a line of this group.
 fn is_in_group(item: &Item, name: &[u8]) -> bool
     ensures { result ≡ is_in_group name.now (item_of item.now) }
 {
@@ -40,7 +40,7 @@ fn names_one(line: &Compiled, gone: &[u32]) -> bool
     false
 }
 
-/// Whether the item is one of these views, a line whose text names one of them, or a suggestion for one.
+// Whether the item is one of these views, a line whose text names one of them, or a suggestion for one.
 fn goes_with(item: &Item, gone: &[u32]) -> bool
     ensures { result ≡ goes_with gone.now (item_of item.now) }
 {

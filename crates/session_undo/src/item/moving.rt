@@ -4,6 +4,7 @@ ghost use Rattle.std.specs.Prelude.{IfOk, IfErr, IfSome, IfNone};
 ghost use Rattle.std.specs.List.{HoldsAt};
 ghost use Rattle.constraint_compile.specs.Naming.{naming, AreConstantsOf};
 ghost use Rattle.constraint_compile.specs.Stops.{IsConstantStop};
+ghost use Rattle.layout_solver.specs.Shifts.{AreKept};
 ghost use Rattle.session_undo.specs.Kept.{item_of, items_of};
 ghost use Rattle.session_undo.specs.Moving.{forms_in, forms_of, AreMoves, IsFar, IsPushed};
 
@@ -50,10 +51,7 @@ pub fn constants_naming(
 {
     let mut constants = Vec::new(alloc);
     for item in items {
-        let mut more = match item_constants(alloc, item, metrics, name) {
-            Ok(more) => more,
-            Err(stop) => return Err(stop),
-        };
+        let mut more = item_constants(alloc, item, metrics, name)?;
         if constants.append(&mut more).is_err() {
             return Err(CompileStop::OutOfMemory);
         }
@@ -81,7 +79,9 @@ fn push_change(
     ensures near { IfOk result
         (λ near. near ≡ true → IsPushed rows.now constant.now to.old.items to.new.items) }
     ensures far { IfOk result (λ near. near ≡ false → IsFar rows.now constant.now) }
+    ensures kept { IfOk result (λ _. AreKept to.old.items → AreKept to.new.items) }
 {
+    let _num = constant.constant.num(); // for the proof: what a fraction keeps
     let Some(place) = row_place(rows, constant.row) else {
         return Ok(true);
     };
@@ -107,6 +107,7 @@ pub fn moves(
 ) -> Result<Option<Vec<Change>>, OutOfMemory>
     requires { AllPairs (λ r s. r.id < s.id) rows.now }
     ensures some { IfOk result (λ o. IfSome o (λ to. AreMoves rows.now constants.now to.items)) }
+    ensures kept { IfOk result (λ o. IfSome o (λ to. AreKept to.items)) }
     ensures none { IfOk result (λ o. IfNone o (Any (IsFar rows.now) constants.now)) }
 {
     let mut to = Vec::new(alloc);

@@ -100,10 +100,7 @@ impl Scene {
         ensures stop { IfErr result (MayLackChanges self.now.scene metrics.now) }
     {
         self.engine.show_layout(); // for the proof: what an engine keeps
-        let constants = match constants_naming(self.alloc, self.items.as_slice(), metrics, name) {
-            Ok(constants) => constants,
-            Err(stop) => return Err(stop),
-        };
+        let constants = constants_naming(self.alloc, self.items.as_slice(), metrics, name)?;
         match moves(self.alloc, self.engine.rows(), &constants)? {
             Some(to) => Ok(to),
             None => Err(CompileStop::Limit(LimitWord::Constant)),

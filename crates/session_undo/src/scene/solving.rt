@@ -6,8 +6,8 @@ ghost use Rattle.cert_core.specs.Paths as paths;
 ghost use Rattle.layout_solver.specs.Begins.{IsRunFrom, IsStopFrom};
 ghost use Rattle.layout_solver.specs.Layouts.{AreBest, solution_of, with_added, zeros};
 ghost use Rattle.layout_solver.specs.Removals.{CanLeave, IsRemoveStop, stood, with_removed};
-ghost use Rattle.layout_solver.specs.Shifts.{CanShift, with_shifts};
-ghost use Rattle.version_list.specs.declared.TheConstants.{MOST};
+ghost use Rattle.layout_solver.specs.Shifts.{AreKept, CanShift, with_shifts};
+ghost use Rattle.version_list.specs.declared.TheConstants.{VERSION_LIMIT};
 ghost use Rattle.session_undo.specs.Adding.{from_corner, from_shifts, HasRun};
 
 use crate::item::Item;
@@ -25,7 +25,7 @@ pub fn take_more(
     budget: u64,
 ) -> Result<(), RunStop>
     requires marked { 0 < length items.old.before }
-    requires room { length engine.old.earlier < MOST }
+    requires room { length engine.old.earlier < VERSION_LIMIT }
     requires whole { IsWhole (with_added engine.old attrs.now rows.now) }
     requires rising { AreRising (engine.old.values ++ zeros attrs.now) }
     ensures done { OnOk result (engine.new.problem ≡ with_added engine.old attrs.now rows.now) }
@@ -59,9 +59,10 @@ pub fn take_constants(
     budget: u64,
 ) -> Result<(), RunStop>
     requires marked { 0 < length items.old.before }
-    requires room { length engine.old.earlier < MOST }
+    requires room { length engine.old.earlier < VERSION_LIMIT }
     requires held { CanShift engine.old.problem to.now }
     requires rising { AllPairs (λ a b. a.row < b.row) to.now }
+    requires kept { AreKept to.now }
     ensures done { OnOk result (engine.new.problem ≡ with_shifts engine.old to.now) }
     ensures best { OnOk result (AreBest engine.new.problem engine.new.values) }
     ensures run { IfOk result (λ _. (path : paths.Path)
@@ -93,7 +94,7 @@ pub fn take_out(
     budget: u64,
 ) -> Result<(), RemoveStop>
     requires marked { 0 < length items.old.before }
-    requires room { length engine.old.earlier < MOST }
+    requires room { length engine.old.earlier < VERSION_LIMIT }
     requires leave { CanLeave (record { rows = rows.now; attrs = attrs.now }) engine.old.problem }
     ensures done { OnOk result
         (engine.new.problem ≡ with_removed engine.old (record { rows = rows.now; attrs = attrs.now })) }

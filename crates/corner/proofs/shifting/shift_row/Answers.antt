@@ -42,8 +42,8 @@ returns-in_err-grow_line-clause-stop c =
     ) in
     search rules
 
-pub returns-in-Ok-clause-ok : goal.returns-in-Ok-clause-ok
-returns-in-Ok-clause-ok c =
+pub returns-clause-ok : goal.returns-clause-ok
+returns-clause-ok c =
     let t = lists_of c.args.table.now in
     let there : slice_index_or c.args.table.now.rows.items c.row_place-at.result c.get.result.now ≡ c.get.result.now = get_or_from_slice_get c.args.table.now.rows.items c.row_place-at.result c.get.result.now c.get.result.now c.get.ensures in
     let ratio : IsRatio c.difference-more.result (sum_num c.args.to (negsuc 0) (pos 1) (slice_index_or c.args.table.now.rows.items c.row_place-at.result c.get.result.now).constant) (sum_den c.args.to (pos 1) (slice_index_or c.args.table.now.rows.items c.row_place-at.result c.get.result.now).constant) =
@@ -52,4 +52,4 @@ returns-in-Ok-clause-ok c =
     shifted t (lists_of c.grow_line.new.table) (lists_of c.put_constant.new.table) c.row_place-at.result c.args.id c.args.to shift.0 c.difference-more.result c.get.result.now c.requires.kept.whole.rising c.row_place-at.ensures.within
     (c.row_place-at.ensures.is c.get.result.now) shift.1 c.difference-more.ensures.kept
     (subst (λ (w : ℕ). HaveGrown (lists_of c.args.table.now) w c.difference-more.result (lists_of c.grow_line.new.table)) c.line_slot-line.ensures.value c.in_ok-grow_line.ensures.ok)
-    (c.in-Ok.ensures.ok c.get.result.now)
+    (c.in_ok-put_constant.ensures.ok c.get.result.now)

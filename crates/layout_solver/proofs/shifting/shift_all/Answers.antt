@@ -37,7 +37,7 @@ returns-in-Err-Refused-clause-stop c =
     (rw c.in-Err-Refused.field-0-is at c.in-Err-Refused.ensures.stop))
     (λ what unfit. next_unfit c.args.c.now.problem c.loop-change.c.problem c.args.to.now c.loop-change.change-index c.loop-change.changed c.change-item.result c.loop-change-test.true c.change-item.is c.loop-change.invariant.shifted c.requires.rising c.show_corner.ensures.kept.whole.rising c.constant_of.result
     (subst (λ (rs : List Row). All (λ (r : Row). r.id ≡ c.change-item.result.row → r.constant ≡ c.constant_of.result) rs) c.rows.ensures c.constant_of.ensures) other c.args.c.now.marks what unfit)
-    (shifted_path c.args.c.now.problem c.args.to.now c.args.c.now.marks c.show_corner.ensures.kept c.requires.columns c.requires.near c.show_constants.ensures)
+    (shifted_path c.args.c.now.problem c.args.to.now c.args.c.now.marks c.show_corner.ensures.kept c.requires.columns c.requires.near c.requires.kept)
 
 pub loop-change-preserved : goal.loop-change-preserved
 loop-change-preserved c =

@@ -6,21 +6,22 @@ use Rattle.primal_run.proofs.entering.negative_front.Goals as goal
 
 pub returns-then-is_below-clause-some : goal.returns-then-is_below-clause-some
 returns-then-is_below-clause-some c =
-    let fits : SFits w64 c.in-Some.front.reduced = search rules in
+    let fits : SFits w64 c.in_ok-front.front.reduced = search rules in
     let low = simp to_z-of_z at c.is_below.ensures.yes in
-    front_below c.args.c.now.problem c.args.c.now.marks c.args.mark c.in-Some.front c.show_corner.ensures.kept c.requires c.in-Some.ensures.some (low c.if-is_below.true)
+    front_below c.args.c.now.problem c.args.c.now.marks c.args.mark c.in_ok-front.front c.show_corner.ensures.kept c.requires c.in_ok-front.ensures.some (low c.if-is_below.true)
 
 pub returns-else-is_below-clause-none : goal.returns-else-is_below-clause-none
 returns-else-is_below-clause-none c =
-    let fits : SFits w64 c.in-Some.front.reduced = search rules in
+    let fits : SFits w64 c.in_ok-front.front.reduced = search rules in
     let up = simp to_z-of_z at c.is_below.ensures.no in
-    front_above c.args.c.now.problem c.args.c.now.marks c.args.mark c.in-Some.front c.show_corner.ensures.kept c.requires c.in-Some.ensures.some (up c.if-is_below.false)
+    front_above c.args.c.now.problem c.args.c.now.marks c.args.mark c.in_ok-front.front c.show_corner.ensures.kept c.requires c.in_ok-front.ensures.some (up c.if-is_below.false)
 
-pub returns-in-None-clause-none : goal.returns-in-None-clause-none
-returns-in-None-clause-none c = no_front c.args.c.now.problem c.args.c.now.marks c.args.mark c.show_corner.ensures.kept c.requires c.in-None.ensures.none
+pub returns-in_err-front-clause-none : goal.returns-in_err-front-clause-none
+returns-in_err-front-clause-none c =
+    rw c.from_residual.ensures (no_front c.args.c.now.problem c.args.c.now.marks c.args.mark c.show_corner.ensures.kept c.requires c.in_err-front.ensures.none)
 
 pub returns-then-is_below-clause-below : goal.returns-then-is_below-clause-below
 returns-then-is_below-clause-below c =
-    let fits : SFits w64 c.in-Some.front.reduced = search rules in
+    let fits : SFits w64 c.in_ok-front.front.reduced = search rules in
     let low = simp to_z-of_z at c.is_below.ensures.yes in
     low c.if-is_below.true

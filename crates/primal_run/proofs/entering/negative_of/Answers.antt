@@ -8,5 +8,6 @@ negative_front-requires c = mark_is c.args.c.now.problem c.mark_at-under.result 
 pub negative_front-requires-in-None : goal.negative_front-requires-in-None
 negative_front-requires-in-None c = mark_is c.args.c.now.problem c.mark_at-over.result c.args.row Over c.mark_at-over.ensures c.requires
 
-pub returns-in-None-negative_front-clause-none : goal.returns-in-None-negative_front-clause-none
-returns-in-None-negative_front-clause-none c = no_negative c.args.c.now.problem c.args.c.now.marks c.args.row c.mark_at-under.result c.mark_at-over.result c.mark_at-under.ensures c.mark_at-over.ensures c.in-None.ensures.none c.in-None-negative_front.ensures.none
+pub returns-in_err-front-in-None-clause-none : goal.returns-in_err-front-in-None-clause-none
+returns-in_err-front-in-None-clause-none c =
+    rw c.from_residual.ensures (no_negative c.args.c.now.problem c.args.c.now.marks c.args.row c.mark_at-under.result c.mark_at-over.result c.mark_at-under.ensures c.mark_at-over.ensures c.in-None.ensures.none c.in_err-front-in-None.ensures.none)

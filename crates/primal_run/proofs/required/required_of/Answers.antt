@@ -5,5 +5,5 @@ use Rattle.primal_run.proofs.required.required_of.Goals as goal
 
 pub returns-then-is_required_level : goal.returns-then-is_required_level
 returns-then-is_required_level c =
-    choice_required c.args.c.now.problem c.args.c.now.marks c.in-Some.choice (c.is_required_level.ensures c.if-is_required_level.true)
-    (some_here c.args.found (IsChoice c.args.c.now.problem c.args.c.now.marks) c.in-Some.choice c.requires c.in-Some.is)
+    choice_required c.args.c.now.problem c.args.c.now.marks c.in_ok-choice.choice (c.is_required_level.ensures c.if-is_required_level.true)
+    (some_here c.args.found (IsChoice c.args.c.now.problem c.args.c.now.marks) c.in_ok-choice.choice c.requires c.in_ok-choice.was)

@@ -13,7 +13,7 @@ loop-i-preserved c = record {
       c.next_lowest-found.ensures.none c.loop-i.invariant.none;
 }
 
-pub returns-in-None-clause-none : goal.returns-in-None-clause-none
-returns-in-None-clause-none c =
-    none_required c.args.c.now.problem c.args.c.now.marks c.args.c.now.candidates c.show_corner.ensures.kept c.show_corner.ensures.candidates
-    (took_all (HasNoRequired c.args.c.now.problem c.args.c.now.marks) c.args.c.now.candidates c.loop-i.i (search rules) (none_here c.loop-i.found c.loop-i.found (All (HasNoRequired c.args.c.now.problem c.args.c.now.marks) (take c.loop-i.i c.args.c.now.candidates)) (All (HasNoRequired c.args.c.now.problem c.args.c.now.marks) (take c.loop-i.i c.args.c.now.candidates)) c.loop-i.invariant.none c.in-None.is))
+pub returns-in_err-lower-clause-none : goal.returns-in_err-lower-clause-none
+returns-in_err-lower-clause-none c =
+    rw c.from_residual.ensures (none_required c.args.c.now.problem c.args.c.now.marks c.args.c.now.candidates c.show_corner.ensures.kept c.show_corner.ensures.candidates
+    (took_all (HasNoRequired c.args.c.now.problem c.args.c.now.marks) c.args.c.now.candidates c.loop-i.i (search rules) (none_here c.loop-i.found c.loop-i.found (All (HasNoRequired c.args.c.now.problem c.args.c.now.marks) (take c.loop-i.i c.args.c.now.candidates)) (All (HasNoRequired c.args.c.now.problem c.args.c.now.marks) (take c.loop-i.i c.args.c.now.candidates)) c.loop-i.invariant.none c.in_err-lower.was)))

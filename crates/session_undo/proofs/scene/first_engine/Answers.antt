@@ -1,5 +1,5 @@
 use Rattle.std.proofs.Common.{◌∙◌, ◌<◌, ap, length, lit<, subst, sym, arith}
-use Rattle.version_list.specs.declared.TheConstants.{MOST}
+use Rattle.version_list.specs.declared.TheConstants.{VERSION_LIMIT}
 use Rattle.layout_solver.specs.Layouts.{Layout, Solution}
 use Rattle.session_undo.proofs.First.{first-forgotten}
 use Rattle.session_undo.proofs.Additions.{first-whole, first-rising}
@@ -9,7 +9,7 @@ pub add-requires : goal.add-requires
 add-requires c =
     rw c.deref.ensures.value
     (record {
-      room = subst (λ (l : Layout). length l.earlier < MOST) (sym c.in_ok-engine.ensures) (lit< tt);
+      room = subst (λ (l : Layout). length l.earlier < VERSION_LIMIT) (sym c.in_ok-engine.ensures) (lit< tt);
       whole = first-whole c.in_ok-engine.engine c.in_ok-rows.rows.items c.in_ok-engine.ensures c.in_ok-rows.ensures.rows c.in_ok-rows.ensures.each;
       rising = first-rising c.in_ok-engine.engine c.in_ok-engine.ensures;
     })

@@ -1,5 +1,5 @@
 use Rattle.std.proofs.Common.{◌≡◌, ◌∷◌, [], map, take, subst, sym}
-use Rattle.version_list.specs.declared.TheConstants.{MOST}
+use Rattle.version_list.specs.declared.TheConstants.{VERSION_LIMIT}
 use Rattle.corner.specs.Views.{CornerView}
 use Rattle.corner.proofs.CornerFacts.{mark_before, mark_kept}
 use Rattle.corner.specs.Changes.{scene_of}
@@ -9,10 +9,10 @@ use Rattle.corner.proofs.corner.Corner.mark.Goals as goal
 
 pub invariant_of-self : goal.invariant_of-self
 invariant_of-self c =
-    mark_kept c.self.inside.table c.mark.new.table c.self.inside.listed MOST c.self.invariant
+    mark_kept c.self.inside.table c.mark.new.table c.self.inside.listed VERSION_LIMIT c.self.invariant
     (subst (λ (v : CornerView). v.candidates ≡ []) (sym c.self.view_is) c.requires) c.mark.ensures.alike c.mark.ensures.now c.mark.ensures.before
 
 pub returns-clause-before : goal.returns-clause-before
 returns-clause-before c =
-    subst (λ (v : CornerView). map scene_at (lists_before c.mark.new.table) ≡ take MOST (scene_of v ∷ v.before)) c.self.view_is
-    (mark_before c.self.inside.table c.mark.new.table MOST c.mark.ensures.before)
+    subst (λ (v : CornerView). map scene_at (lists_before c.mark.new.table) ≡ take VERSION_LIMIT (scene_of v ∷ v.before)) c.self.view_is
+    (mark_before c.self.inside.table c.mark.new.table VERSION_LIMIT c.mark.ensures.before)

@@ -1,4 +1,7 @@
 use Rattle.std.proofs.Common.{subst, sym, refl}
+use Rattle.std.proofs.lemmas.List.Elements.{All-from_recursion}
+use Rattle.frac_core.specs.Fraction as fractions
+use Rattle.layout_solver.specs.declared.engine.Change.{Change}
 use Rattle.session_undo.specs.Machine.{IsFarSize, IsSolved}
 use Rattle.session_undo.specs.Scene.{History, Scene, with_window}
 use Rattle.session_undo.specs.Kept.{items_of, size_in, IsKept, scene_at}
@@ -30,6 +33,11 @@ take_constants-requires-clause-held c =
     (can-resize c.self.inside.metrics (items_of c.self.inside.items.items) c.self.inside.engine.problem c.args.size.now.width c.args.size.now.height (size_in c.args.held) c.self.invariant.0.scene.are_rows (rw (← c.self.view_is) at c.requires.some)
     c.show_layout.ensures.whole (c.den.ensures.kept.lowest.above, c.den-2.ensures.kept.lowest.above)
     (subst (λ (h : History). IsFarSize h.scene.held c.args.size.now.width c.args.size.now.height → ⊥) (sym c.self.view_is) c.requires.near))
+
+pub take_constants-requires-clause-kept : goal.take_constants-requires-clause-kept
+take_constants-requires-clause-kept c =
+    rw c.size_changes-to.ensures
+    (All-from_recursion (λ (t : Change). fractions.IsKept t.constant) (to_size c.args.held.first_row c.args.size.now.width c.args.size.now.height) (c.den.ensures.kept, (c.den-2.ensures.kept, tt)))
 
 pub invariant_of-self-2 : goal.invariant_of-self-2
 invariant_of-self-2 c = (

@@ -20,6 +20,7 @@ take_constants-requires c =
       room = few-solutions c.self.inside.items.before c.self.inside.engine.earlier c.self.inside.pasts.items c.self.invariant.1;
       held = are.can;
       rising = are.rising;
+      kept = are.kept;
     }
 
 pub returns-in_err-take_constants-clause-stop : goal.returns-in_err-take_constants-clause-stop

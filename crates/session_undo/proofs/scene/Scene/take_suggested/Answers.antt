@@ -1,4 +1,7 @@
 use Rattle.std.proofs.Common.{◌≡◌, subst, sym, refl, ap, length, arith}
+use Rattle.std.proofs.lemmas.List.Elements.{All-from_recursion}
+use Rattle.frac_core.specs.Fraction as fractions
+use Rattle.layout_solver.specs.declared.engine.Change.{Change}
 use Rattle.layout_solver.specs.Shifts.{CanShift, with_shifts}
 use Rattle.layout_solver.specs.Begins.{IsStopFrom}
 use Rattle.session_undo.specs.Adding.{IsNearSuggestion, from_shifts}
@@ -33,6 +36,7 @@ take_constants-requires c =
           (can-suggest c.args.again.view c.args.again.word c.self.inside.metrics (items_of c.self.inside.items.items) c.self.inside.engine.problem c.args.again.constant near.before c.self.invariant.0.scene.are_rows near.found
           c.show_layout.ensures.whole c.den-den.ensures.kept.lowest.above near.near);
       rising = suggested-rising c.args.again.row c.args.again.constant;
+      kept = All-from_recursion (λ (t : Change). fractions.IsKept t.constant) (to_suggested c.args.again.row c.args.again.constant) (c.den-den.ensures.kept, tt);
     }
 
 pub invariant_of-self-2 : goal.invariant_of-self-2
