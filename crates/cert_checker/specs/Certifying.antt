@@ -16,6 +16,8 @@ use Rattle.cert_core.specs.Claims.{BestLevel, multipliers_of}
 use Rattle.cert_checker.specs.LinePlaces.{names}
 use Rattle.cert_checker.specs.declared.verdict.Verdict.{Verdict}
 use Rattle.cert_checker.specs.declared.verdict.Verdict.TheVariants.{Yes, No, NoRoom}
+use Rattle.cert_checker.specs.declared.verdict.TheConstants.{BALANCE_CLAUSE, COLUMNS_CLAUSE}
+use Rattle.cert_checker.specs.declared.verdict.TheConstants.{FREE_CLAUSE, GIVEN_CLAUSE, REQUIRED_CLAUSE}
 
 -- ---- the clauses
 
@@ -95,13 +97,13 @@ IsBestVerdict p values levels Yes =
     × EachGiven values (AreFree p (multipliers_of p levels))
 IsBestVerdict p values levels (NoRoom n) = AreOfStays p values × IsFirstRowWithoutRoom p values n
 IsBestVerdict p values levels (No clause) =
-    ((clause ≡ 1) × (AreOfStays p values → ⊥))
-    ⊎ ((clause ≡ 2) × AreOfStays p values × HaveRoom p.rows values
+    ((clause ≡ GIVEN_CLAUSE) × (AreOfStays p values → ⊥))
+    ⊎ ((clause ≡ REQUIRED_CLAUSE) × AreOfStays p values × HaveRoom p.rows values
     × EachGiven values (λ x. Satisfies p x → ⊥))
-    ⊎ ((clause ≡ 3) × AreOfStays p values × HaveRoom p.rows values × EachGiven values (Satisfies p)
-    × (Balances p levels → ⊥))
-    ⊎ ((clause ≡ 4) × AreOfStays p values × HaveRoom p.rows values × EachGiven values (Satisfies p)
-    × Balances p levels × (AreNotNegative p (multipliers_of p levels) → ⊥))
-    ⊎ ((clause ≡ 5) × AreOfStays p values × HaveRoom p.rows values × EachGiven values (Satisfies p)
-    × Balances p levels × AreNotNegative p (multipliers_of p levels)
+    ⊎ ((clause ≡ BALANCE_CLAUSE) × AreOfStays p values × HaveRoom p.rows values
+    × EachGiven values (Satisfies p) × (Balances p levels → ⊥))
+    ⊎ ((clause ≡ COLUMNS_CLAUSE) × AreOfStays p values × HaveRoom p.rows values
+    × EachGiven values (Satisfies p) × Balances p levels × (AreNotNegative p (multipliers_of p levels) → ⊥))
+    ⊎ ((clause ≡ FREE_CLAUSE) × AreOfStays p values × HaveRoom p.rows values
+    × EachGiven values (Satisfies p) × Balances p levels × AreNotNegative p (multipliers_of p levels)
     × EachGiven values (λ x. AreFree p (multipliers_of p levels) x → ⊥))

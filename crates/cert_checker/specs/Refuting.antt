@@ -13,6 +13,7 @@ use Rattle.cert_core.specs.Claims.{times_of}
 use Rattle.cert_checker.specs.declared.refuting.TheConstants.{ROOM}
 use Rattle.cert_checker.specs.declared.verdict.Verdict.{Verdict}
 use Rattle.cert_checker.specs.declared.verdict.Verdict.TheVariants.{Yes, No, NoRoom}
+use Rattle.cert_checker.specs.declared.verdict.TheConstants.{CANCEL_CLAUSE, SIGNS_CLAUSE, SUM_CLAUSE}
 
 -- ---- the clauses
 
@@ -57,6 +58,6 @@ abbrev pub IsConflictVerdict : Problem → List By → Verdict → Type 0
 IsConflictVerdict p bys Yes = Cancels p bys × AreSigned p bys × HasRoom p bys × IsAboveZero p bys
 IsConflictVerdict p bys (NoRoom n) = Cancels p bys × AreSigned p bys × IsFirstWithoutRoom p bys n
 IsConflictVerdict p bys (No clause) =
-    ((clause ≡ 6) × (Cancels p bys → ⊥))
-    ⊎ ((clause ≡ 7) × Cancels p bys × (AreSigned p bys → ⊥))
-    ⊎ ((clause ≡ 8) × Cancels p bys × AreSigned p bys × HasRoom p bys × (IsAboveZero p bys → ⊥))
+    ((clause ≡ CANCEL_CLAUSE) × (Cancels p bys → ⊥))
+    ⊎ ((clause ≡ SIGNS_CLAUSE) × Cancels p bys × (AreSigned p bys → ⊥))
+    ⊎ ((clause ≡ SUM_CLAUSE) × Cancels p bys × AreSigned p bys × HasRoom p bys × (IsAboveZero p bys → ⊥))

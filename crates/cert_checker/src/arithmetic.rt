@@ -1,4 +1,4 @@
-// Products and sums in 128 bits.
+// Products and sums of 128 bits that cannot overflow where certificates are checked.
 ghost use Rattle.std.specs.Prelude.{◌≡◌, ◌^◌, ◌<◌, ◌≤◌, ◌+◌, ◌+ℤ◌, ◌-ℤ◌, ◌*ℤ◌, unsigned_abs};
 ghost use Rattle.frac_core.specs.Fraction.{IsFitting};
 

@@ -4,7 +4,7 @@ ghost use Rattle.std.specs.List.{HoldsAt};
 ghost use Rattle.std.specs.Ordering.{int_cmp};
 ghost use Rattle.problem_core.specs.Layout.{Assignment, Gives, IsBest, Satisfies, gap, line_of_stay, lines};
 ghost use Rattle.problem_core.specs.Certificates.{IsCertificate, Multipliers};
-ghost use Rattle.problem_core.specs.Gaps.{HasRoom, HasValue, value_of};
+ghost use Rattle.problem_core.specs.Gaps.{HasRoom, HasValue};
 ghost use Rattle.cert_core.specs.Claims.{multipliers_of};
 ghost use Rattle.cert_checker.specs.LineSums.{line_count};
 ghost use Rattle.cert_checker.specs.Certifying.{AreFree, AreNotNegative, AreOfStays, EachGiven, HaveRoom};
@@ -17,9 +17,11 @@ use crate::fronts::{Front, Sides, facts_of, fronts, whole_front};
 use crate::leveled::place_levels;
 use crate::places::Places;
 use crate::valued::{are_met, are_of_stays, first_without_room, row_sign};
-use crate::verdict::Verdict;
+use crate::verdict::{
+    BALANCE_CLAUSE, COLUMNS_CLAUSE, FREE_CLAUSE, GIVEN_CLAUSE, REQUIRED_CLAUSE, Verdict,
+};
 use cert_core::Best;
-use frac_core::{Frac, OutOfMemory};
+use frac_core::OutOfMemory;
 use problem_core::{Problem, Side, Stay, Values};
 use std::alloc::Global;
 use std::cmp::Ordering;
@@ -76,25 +78,13 @@ fn are_not_negative(p: &Problem, sides: &[Sides]) -> bool
     true
 }
 
-/// The attribute's value, 0 where it has none.
-fn value(values: &Values, attr: u32) -> Frac
-    ensures { result ≡ value_of values.now attr }
-{
-    for (number, value) in values.pairs() {
-        if *number == attr {
-            return *value;
-        }
-    }
-    Frac::zero()
-}
-
 /// The order of the value of the stay's attribute and its target.
 fn stay_sign(stay: &Stay, values: &Values) -> Ordering
     requires { HasValue values.now stay.now.attr }
     ensures { (level : ℕ) (x : Assignment) → Gives values.now x
         → result ≡ int_cmp (gap x (line_of_stay level stay.now)) (pos 0) }
 {
-    let value = value(values, stay.attr);
+    let value = values.value(stay.attr);
     let _ = value.den(); // for the proof: what a fraction keeps
     value.compare(&stay.target)
 }
@@ -163,14 +153,14 @@ fn judge(alloc: Global, p: &Problem, values: &Values, best: &Best) -> Result<Ver
     let _ = best.levels(); // for the proof: what a certificate keeps
     let places = Places::of(alloc, p)?;
     let Some(placed) = place_levels(alloc, p, &places, best)? else {
-        return Ok(Verdict::No(3));
+        return Ok(Verdict::No(BALANCE_CLAUSE));
     };
     let sides = fronts(alloc, p, &placed)?;
     if !are_not_negative(p, &sides) {
-        return Ok(Verdict::No(4));
+        return Ok(Verdict::No(COLUMNS_CLAUSE));
     }
     if !are_free(p, values, &sides) {
-        return Ok(Verdict::No(5));
+        return Ok(Verdict::No(FREE_CLAUSE));
     }
     Ok(Verdict::Yes)
 }
@@ -197,13 +187,13 @@ pub fn check_best(
     p.show_whole(); // for the proof: what a problem keeps
     let _ = best.levels(); // for the proof: what a certificate keeps
     if !are_of_stays(p, values) {
-        return Ok(Verdict::No(1));
+        return Ok(Verdict::No(GIVEN_CLAUSE));
     }
     if let Some(row) = first_without_room(p, values) {
         return Ok(Verdict::NoRoom(row));
     }
     if !are_met(p, values) {
-        return Ok(Verdict::No(2));
+        return Ok(Verdict::No(REQUIRED_CLAUSE));
     }
     judge(alloc, p, values, best)
 }

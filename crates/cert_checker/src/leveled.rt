@@ -36,10 +36,10 @@ fn level_place(p: &Problem, places: &Places, level: Level) -> Option<usize>
     p.show_whole(); // for the proof: what a problem keeps
     match level {
         Level::Priority(rank) => Some(REQUIRED as usize - rank as usize),
-        Level::Stay(attr) => match places.find(p, RowName::Stay(attr)) {
-            Some(at) => Some(FIRST_STAY + at - p.rows().len()),
-            None => None,
-        },
+        Level::Stay(attr) => {
+            let at = places.find(p, RowName::Stay(attr))?;
+            Some(FIRST_STAY + at - p.rows().len())
+        }
     }
 }
 

@@ -38,4 +38,7 @@ pub use judging::check_best;
 pub use laws::values_are_given;
 pub use path_laws::path_is_its_clauses;
 pub use refuting::check_conflict;
-pub use verdict::Verdict;
+pub use verdict::{
+    BALANCE_CLAUSE, CANCEL_CLAUSE, COLUMNS_CLAUSE, FREE_CLAUSE, GIVEN_CLAUSE, REQUIRED_CLAUSE,
+    SIGNS_CLAUSE, SUM_CLAUSE, Verdict,
+};

@@ -19,7 +19,7 @@ ghost use Rattle.cert_checker.specs.Required.{IsRequiredAt, IsSigned, Reaches, d
 use crate::arithmetic::{product, total};
 use crate::places::{Places, weigh};
 use crate::sums::{Weighted, cancel};
-use crate::verdict::Verdict;
+use crate::verdict::{CANCEL_CLAUSE, SIGNS_CLAUSE, SUM_CLAUSE, Verdict};
 use cert_core::{By, Conflict};
 use frac_core::OutOfMemory;
 use problem_core::{Problem, REQUIRED, Rel, least_common};
@@ -153,10 +153,8 @@ fn is_above_zero(p: &Problem, by: &[By], weighted: &[Weighted]) -> Result<bool, 
     ensures lost { IfErr result (IsFirstWithoutRoom p.now by.now) }
 {
     p.show_whole(); // for the proof: what a problem keeps
-    match common_denominator(p, weighted) {
-        Ok(common) => Ok(constants(p, weighted, common) > 0),
-        Err(row) => Err(row),
-    }
+    let common = common_denominator(p, weighted)?;
+    Ok(constants(p, weighted, common) > 0)
 }
 
 /// The verdict on multipliers whose lines are found.
@@ -172,14 +170,14 @@ fn judge(
 {
     p.show_whole(); // for the proof: what a problem keeps
     if !cancels(alloc, p, by, weighted)? {
-        return Ok(Verdict::No(6));
+        return Ok(Verdict::No(CANCEL_CLAUSE));
     }
     if !are_signed(p, weighted) {
-        return Ok(Verdict::No(7));
+        return Ok(Verdict::No(SIGNS_CLAUSE));
     }
     match is_above_zero(p, by, weighted) {
         Ok(true) => Ok(Verdict::Yes),
-        Ok(false) => Ok(Verdict::No(8)),
+        Ok(false) => Ok(Verdict::No(SUM_CLAUSE)),
         Err(row) => Ok(Verdict::NoRoom(row)),
     }
 }
@@ -201,6 +199,6 @@ pub fn check_conflict(alloc: Global, p: &Problem, c: &Conflict) -> Result<Verdic
     let places = Places::of(alloc, p)?;
     match weigh(alloc, p, &places, by)? {
         Some(weighted) => judge(alloc, p, by, &weighted),
-        None => Ok(Verdict::No(6)),
+        None => Ok(Verdict::No(CANCEL_CLAUSE)),
     }
 }

@@ -6,6 +6,7 @@ use Rattle.problem_core.specs.declared.parts.Mark.{Mark}
 use Rattle.problem_core.specs.declared.parts.RowName.{RowName}
 use Rattle.problem_core.specs.declared.parts.RowName.TheVariants.{Held}
 use Rattle.problem_core.specs.declared.parts.Side.{Side}
+use Rattle.problem_core.specs.declared.parts.Side.TheVariants.{Under, Over}
 use Rattle.problem_core.specs.declared.parts.Stay.{Stay}
 use Rattle.problem_core.specs.Layout.{Line, Problem, Row, line_of_row, lines, stay_lines}
 use Rattle.problem_core.specs.Kept.{IsWhole}
@@ -68,6 +69,11 @@ is_unwanted p wanted sides step are within not i = not ((are.each step.leave.at 
 -- another side of the line than that which is inside does not give way
 pub side_gives : (p : Problem) (wanted at : List Mark) (enter : Spot) (k : ℕ) (inside : Inside) (side : Side) → IsThere p at → IsLineAt p at (name_at p k) (Some inside) → MayGiveWay p wanted at (swap_of p (way_at p enter k side)) → inside.side ≡ side
 side_gives p wanted at enter k inside side there line may = one_side p at (name_at p k) inside.side side there line.0 may.exchange.leaves
+
+-- no mark of a line that is outside gives way
+pub outside_stays : (p : Problem) (wanted at : List Mark) (enter : Spot) (k : ℕ) (side : Side) → IsLineAt p at (name_at p k) None → MayGiveWay p wanted at (swap_of p (way_at p enter k side)) → ⊥
+outside_stays p wanted at enter k Under line may = line.under may.exchange.leaves
+outside_stays p wanted at enter k Over line may = line.over may.exchange.leaves
 
 -- none of the lines before gives way, so the one here is the first
 pub first_gives : (p : Problem) (wanted at : List Mark) (step : Step) → IsThere p at → step.leave.at < line_count p → MayGiveWay p wanted at (swap_of p step)

@@ -11,6 +11,8 @@ use Rattle.path_checker.specs.declared.way.Way.{Way}
 use Rattle.path_checker.specs.FirstLines.{HasUnfitFirst}
 use Rattle.path_checker.specs.PathClauses.{HoldToSound, IsPathVerdict}
 use Rattle.path_checker.specs.Ways.{AreFollowed, IsExchangeVerdict, IsWayAt}
+use Rattle.path_checker.specs.declared.verdict.TheConstants.{APART_CLAUSE, CORNER_CLAUSE}
+use Rattle.path_checker.specs.declared.verdict.TheConstants.{EXCHANGES_CLAUSE, SOUND_CLAUSE}
 
 -- x goes to its bound
 abbrev pub to_bound : Swap
@@ -50,13 +52,14 @@ pub record SomeWays : Type 0 where
 -- a lawful path, one without a corner, one with a swap that is no exchange, and one that comes back
 pub record SomeVerdicts : Type 0 where
   pub lawful : IsExchangeVerdict (single 5) (going (to_bound ∷ [])) Yes
-  pub no_mark : IsExchangeVerdict (single 5) (record { dual = false; corner = []; swaps = [] }) (No 9)
+  pub no_mark : IsExchangeVerdict (single 5) (record { dual = false; corner = []; swaps = [] })
+      (No CORNER_CLAUSE)
   pub no_mark_not : IsExchangeVerdict (single 5) (record { dual = false; corner = []; swaps = [] }) Yes → ⊥
-  pub no_exchange : IsExchangeVerdict (single 5) (going (from_bound ∷ [])) (No 10)
+  pub no_exchange : IsExchangeVerdict (single 5) (going (from_bound ∷ [])) (No EXCHANGES_CLAUSE)
   pub no_exchange_not : IsExchangeVerdict (single 5) (going (from_bound ∷ [])) Yes → ⊥
-  pub back : IsExchangeVerdict (single 5) (going (to_bound ∷ from_bound ∷ [])) (No 11)
+  pub back : IsExchangeVerdict (single 5) (going (to_bound ∷ from_bound ∷ [])) (No APART_CLAUSE)
   pub back_not : IsExchangeVerdict (single 5) (going (to_bound ∷ from_bound ∷ [])) Yes → ⊥
-  pub lawful_not : IsExchangeVerdict (single 5) (going (to_bound ∷ [])) (No 10) → ⊥
+  pub lawful_not : IsExchangeVerdict (single 5) (going (to_bound ∷ [])) (No EXCHANGES_CLAUSE) → ⊥
 
 -- where the row's over mark is inside, its value is below 0
 abbrev pub below_bound : Path
@@ -65,8 +68,8 @@ below_bound = record { dual = false; corner = over_row ∷ []; swaps = [] }
 -- a path without a negative value, and one with one
 pub record SomeValues : Type 0 where
   pub sound : HoldToSound (single 5) (going (to_bound ∷ [])) None
-  pub sound_not : IsPathVerdict (single 5) (going (to_bound ∷ [])) None (No 12) → ⊥
-  pub negative : IsPathVerdict (single 5) below_bound None (No 12)
+  pub sound_not : IsPathVerdict (single 5) (going (to_bound ∷ [])) None (No SOUND_CLAUSE) → ⊥
+  pub negative : IsPathVerdict (single 5) below_bound None (No SOUND_CLAUSE)
   pub negative_not : HoldToSound (single 5) below_bound None → ⊥
 
 -- the words of the first clauses hold in some small cases, and fail in others

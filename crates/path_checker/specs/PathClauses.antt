@@ -15,6 +15,8 @@ use Rattle.cert_core.specs.Stops.{AreNonnegativeBefore}
 use Rattle.path_checker.specs.declared.verdict.PathVerdict.{PathVerdict}
 use Rattle.path_checker.specs.declared.verdict.PathVerdict.TheVariants.{Yes, No, NoRoom}
 use Rattle.path_checker.specs.Room.{HasNoRoom}
+use Rattle.path_checker.specs.declared.verdict.TheConstants.{APART_CLAUSE, CALLED_CLAUSE, CORNER_CLAUSE}
+use Rattle.path_checker.specs.declared.verdict.TheConstants.{EXCHANGES_CLAUSE, SOUND_CLAUSE, UNFIT_CLAUSE}
 
 -- at each corner what has to hold there: on a primal path no value is negative, on a dual one no column
 abbrev pub AreSound : Bool → Problem → List Mark → List Swap → Type 0
@@ -95,9 +97,9 @@ abbrev pub IsPathVerdict : Problem → Path → Option Quantity → PathVerdict 
 IsPathVerdict p path unfit Yes = HoldToCalled p path unfit × DoesNotFit p path unfit
 IsPathVerdict p path unfit (NoRoom n) = HasNoRoom p path unfit n
 IsPathVerdict p path unfit (No clause) =
-    ((clause ≡ 9) × (IsCorner p path.corner → ⊥))
-    ⊎ ((clause ≡ 10) × IsCorner p path.corner × (AreExchanges p path.corner path.swaps → ⊥))
-    ⊎ ((clause ≡ 11) × HoldToExchanges p path × (AreApart path → ⊥))
-    ⊎ ((clause ≡ 12) × HoldToApart p path × (IsSoundPath p path unfit → ⊥))
-    ⊎ ((clause ≡ 13) × HoldToSound p path unfit × (IsCalledFor p path → ⊥))
-    ⊎ ((clause ≡ 14) × HoldToCalled p path unfit × (DoesNotFit p path unfit → ⊥))
+    ((clause ≡ CORNER_CLAUSE) × (IsCorner p path.corner → ⊥))
+    ⊎ ((clause ≡ EXCHANGES_CLAUSE) × IsCorner p path.corner × (AreExchanges p path.corner path.swaps → ⊥))
+    ⊎ ((clause ≡ APART_CLAUSE) × HoldToExchanges p path × (AreApart path → ⊥))
+    ⊎ ((clause ≡ SOUND_CLAUSE) × HoldToApart p path × (IsSoundPath p path unfit → ⊥))
+    ⊎ ((clause ≡ CALLED_CLAUSE) × HoldToSound p path unfit × (IsCalledFor p path → ⊥))
+    ⊎ ((clause ≡ UNFIT_CLAUSE) × HoldToCalled p path unfit × (DoesNotFit p path unfit → ⊥))

@@ -8,7 +8,7 @@ ghost use Rattle.path_checker.specs.Ways.{IsUsableWay};
 
 use crate::route::{comes_twice, sides_of};
 use crate::spots::names;
-use crate::verdict::PathVerdict;
+use crate::verdict::{APART_CLAUSE, CORNER_CLAUSE, EXCHANGES_CLAUSE, PathVerdict};
 use crate::way::{Way, WayStop, follow, to_corner};
 use cert_core::Path;
 use frac_core::OutOfMemory;
@@ -55,22 +55,22 @@ pub fn check_exchanges(alloc: Global, p: &Problem, path: &Path) -> Result<PathVe
 {
     p.show_whole(); // for the proof: what a problem keeps
     if path.corner().len() != p.rows().len() {
-        return Ok(PathVerdict::No(9));
+        return Ok(PathVerdict::No(CORNER_CLAUSE));
     }
     let names = names(alloc, p)?;
     let Some(wanted) = sides_of(alloc, &names, path.corner())? else {
-        return Ok(PathVerdict::No(9));
+        return Ok(PathVerdict::No(CORNER_CLAUSE));
     };
     let way = match arrive(alloc, p, &names, path, &wanted) {
         Ok(way) => way,
-        Err(stop) => return ended(stop, 9),
+        Err(stop) => return ended(stop, CORNER_CLAUSE),
     };
     let steps = match follow(alloc, p, &names, path, way) {
         Ok(steps) => steps,
-        Err(stop) => return ended(stop, 10),
+        Err(stop) => return ended(stop, EXCHANGES_CLAUSE),
     };
     if comes_twice(alloc, &wanted, &steps)? {
-        return Ok(PathVerdict::No(11));
+        return Ok(PathVerdict::No(APART_CLAUSE));
     }
     Ok(PathVerdict::Yes)
 }

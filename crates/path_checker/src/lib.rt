@@ -28,10 +28,9 @@
 //! corner, when no corner comes twice, and that the clauses of a path together are the path.
 //!
 //! In reading order: `spots` (marks by place), `table` (a corner's lines), `numbers` (lowest terms),
-//! `exchange`, `tests` (signs of values), `route` (which mark is brought in, and corners that come twice),
-//! `first` (the lines where the route begins), `way` (the way to the first corner and along the swaps),
-//! `check` (the first clauses), `laws`, `frame` (what a line costs), `stop`, `verdict` (the checker's
-//! answer).
+//! `exchange`, `signs` (of values), `route` (which mark is brought in, and corners that come twice), `first`
+//! (the lines where the route begins), `way` (the way to the first corner and along the swaps), `check` (the
+//! first clauses), `laws`, `frame` (what a line costs), `stop`, `verdict` (the checker's answer).
 #![tactic(auto)]
 
 mod check;
@@ -41,10 +40,10 @@ mod frame;
 mod laws;
 mod numbers;
 mod route;
+mod signs;
 mod spots;
 mod stop;
 mod table;
-mod tests;
 mod verdict;
 mod way;
 
@@ -62,11 +61,14 @@ pub use laws::{
 };
 pub use numbers::{Lowest, Ratio, Wide, combined, in_lowest_terms, moved_sign};
 pub use route::{bringing_in, comes_twice, is_one, moved, sides_of};
+pub use signs::{has_no_negative_value, is_down, is_on_side, is_up};
 pub use spots::{Spot, Step, names, spot_of, step_of};
 pub use stop::SumStop;
 pub use table::{Inside, Sum, turn};
-pub use tests::{has_no_negative_value, is_down, is_on_side, is_up};
-pub use verdict::PathVerdict;
+pub use verdict::{
+    APART_CLAUSE, CALLED_CLAUSE, CORNER_CLAUSE, EXCHANGES_CLAUSE, PathVerdict, SOUND_CLAUSE,
+    UNFIT_CLAUSE,
+};
 pub use way::{
     Kept, PATH_LIMIT, Way, WayStop, brought, first_sides, follow, lines_now, to_corner, told,
 };

@@ -161,9 +161,7 @@ fn gives_way(
     ensures some { IfSome result (MayGive lines.now wanted.now) }
     ensures none { IfNone result (NoneGives lines.now wanted.now enter at) }
 {
-    let Some(inside) = &lines[at] else {
-        return None;
-    };
+    let inside = lines[at].as_ref()?;
     let side = inside.side;
     let leave = Spot { at, side };
     let step = Step { enter, leave };

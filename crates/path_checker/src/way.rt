@@ -101,17 +101,14 @@ pub fn lines_now(alloc: Global, p: &Problem, kept: Kept) -> Result<Vec<Option<In
     }
 }
 
-/// The lines, or the stop after so many exchanges.
-pub fn told(
-    lines: Result<Vec<Option<Inside>>, SumStop>,
-    count: u32,
-) -> Result<Vec<Option<Inside>>, WayStop>
-    ensures ok { IfOk result (λ l. lines ≡ Ok l) }
+/// What is made of a corner, or the stop after so many exchanges.
+pub fn told<T>(made: Result<T, SumStop>, count: u32) -> Result<T, WayStop>
+    ensures ok { IfOk result (λ out. made ≡ Ok out) }
     ensures stop { IfErr result (λ stop. stop ≢ ways.OutOfMemory
-        → (stop ≡ ways.NoRoom count) × (lines ≡ Err (stops.Refused (record {})))) }
+        → (stop ≡ ways.NoRoom count) × (made ≡ Err (stops.Refused (record {})))) }
 {
-    match lines {
-        Ok(lines) => Ok(lines),
+    match made {
+        Ok(out) => Ok(out),
         Err(Stop::Refused(_)) => Err(WayStop::NoRoom(count)),
         Err(Stop::OutOfMemory) => Err(WayStop::OutOfMemory),
     }

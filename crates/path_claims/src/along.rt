@@ -11,8 +11,8 @@ ghost use Rattle.path_claims.specs.Journeys.{AreSoundAhead, IsClaim, IsOnRoute};
 ghost use Rattle.path_claims.specs.Stations.{IsSizedTable, IsTableAt, IsUsableStation};
 
 use crate::journey::Claim;
-use crate::stations::{Station, Table, station_after, table_now, told};
-use path_checker::{Step, WayStop, step_of};
+use crate::stations::{Station, Table, station_after, table_now};
+use path_checker::{Step, WayStop, step_of, told};
 use path_levels::{is_end, is_sound, may_swap};
 use std::alloc::Global;
 

@@ -7,6 +7,7 @@ ghost use Rattle.problem_core.specs.declared.stops.Quantity.{Quantity};
 ghost use Rattle.path_checker.specs.PathClauses.{HoldToApart, IsPathVerdict, row_of_terms};
 ghost use Rattle.path_checker.specs.Tables.{AreJudged};
 ghost use Rattle.path_checker.specs.Ways.{IsEnded, IsShortPath};
+ghost use Rattle.path_checker.specs.declared.verdict.TheConstants.{CORNER_CLAUSE};
 ghost use Rattle.path_claims.specs.Fits.{IsLastAfter, IsSizedLast, marks_after};
 ghost use Rattle.path_claims.specs.Journeys.{IsClaim};
 ghost use Rattle.path_claims.specs.Judging.{IsFound, IsSoundFrom, IsWalked, unjudged_from};
@@ -15,38 +16,41 @@ use crate::along::{Walked, is_sound_there, walk};
 use crate::journey::{Claim, to_first};
 use crate::last::{Fit, Last, fit_after, has_no_negative_before_after, is_sound_after};
 use crate::start::check_at_start;
-use crate::stations::{table_now, told};
+use crate::stations::table_now;
 use cert_core::Path;
 use frac_core::OutOfMemory;
-use path_checker::{PathVerdict, Step, WayStop, check_exchanges, names, sides_of};
+use path_checker::{
+    CALLED_CLAUSE, CORNER_CLAUSE, PathVerdict, SOUND_CLAUSE, Step, UNFIT_CLAUSE, WayStop,
+    check_exchanges, names, sides_of, told,
+};
 use path_levels::Frame;
 use problem_core::{Problem, Quantity, RowName};
 use std::alloc::Global;
 
 // The answer where the route ends early.
 fn ended(stop: WayStop) -> Result<PathVerdict, OutOfMemory>
-    ensures { IfOk result (IsEnded stop 9) }
+    ensures { IfOk result (IsEnded stop CORNER_CLAUSE) }
 {
     match stop {
-        WayStop::Fails => Ok(PathVerdict::No(9)),
+        WayStop::Fails => Ok(PathVerdict::No(CORNER_CLAUSE)),
         WayStop::NoRoom(count) => Ok(PathVerdict::NoRoom(count)),
         WayStop::OutOfMemory => Err(OutOfMemory),
     }
 }
 
-// The first clause from 12 on that fails, or that there is no room.
+// The first clause from SOUND_CLAUSE on that fails, or that there is no room.
 fn verdict(is_sound: bool, is_called_for: bool, fit: Fit, count: u32) -> PathVerdict
     ensures { (p : Problem) (path : Path) (unfit : Option Quantity)
         → IsFound p path unfit is_sound is_called_for fit count → IsPathVerdict p path unfit result }
 {
     if !is_sound {
-        return PathVerdict::No(12);
+        return PathVerdict::No(SOUND_CLAUSE);
     }
     if !is_called_for {
-        return PathVerdict::No(13);
+        return PathVerdict::No(CALLED_CLAUSE);
     }
     match fit {
-        Fit::Fits => PathVerdict::No(14),
+        Fit::Fits => PathVerdict::No(UNFIT_CLAUSE),
         Fit::Unfit => PathVerdict::Yes,
         Fit::NoRoom => PathVerdict::NoRoom(count),
     }

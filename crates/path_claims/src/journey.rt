@@ -10,10 +10,10 @@ ghost use Rattle.path_claims.specs.Journeys.{Brings, BringsNone, HasOneMore, IsC
 ghost use Rattle.path_claims.specs.Journeys.{IsUsableJourney, StopsAt};
 ghost use Rattle.path_claims.specs.Stations.{IsUsableStation};
 
-use crate::stations::{Station, Table, station_after, table_now, told};
+use crate::stations::{Station, Table, station_after, table_now};
 use cert_core::Path;
 use frac_core::OutOfMemory;
-use path_checker::{Spot, WayStop, bringing_in, first_sides, is_one, moved, spot_of};
+use path_checker::{Spot, WayStop, bringing_in, first_sides, is_one, moved, spot_of, told};
 use path_levels::Frame;
 use problem_core::{Problem, RowName, Side};
 use std::alloc::Global;

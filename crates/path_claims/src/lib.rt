@@ -36,4 +36,4 @@ pub use journey::{Claim, Journey, to_first};
 pub use last::fits::attrs_fit;
 pub use last::{Fit, Last, fit_after, has_no_negative_before_after, is_sound_after};
 pub use start::check_at_start;
-pub use stations::{Station, Table, first_table, station_after, table_after, table_now, told};
+pub use stations::{Station, Table, first_table, station_after, table_after, table_now};

@@ -51,9 +51,7 @@ fn stay_number(p: &Problem, attr: u32) -> Option<u32>
     ensures none { IfNone result ((k : ℕ) → IsLevelAt p.now (StayLevel attr) k → ⊥) }
 {
     p.show_whole(); // for the proof: what a problem keeps
-    let Some(at) = stay_of(p.stays(), attr) else {
-        return None;
-    };
+    let at = stay_of(p.stays(), attr)?;
     Some(FIRST_STAY + at as u32)
 }
 
@@ -75,16 +73,12 @@ fn place_of(p: &Problem, sum: Quantity) -> Option<Place>
 {
     match sum {
         Quantity::Terms { mark, first } => {
-            let Some(at) = row_number(mark) else {
-                return None;
-            };
+            let at = row_number(mark)?;
             let is_rows = false;
             Some(Place { is_rows, at, first })
         }
         Quantity::Rows { level, first } => {
-            let Some(at) = level_number(p, level) else {
-                return None;
-            };
+            let at = level_number(p, level)?;
             let is_rows = true;
             Some(Place { is_rows, at, first })
         }

@@ -50,9 +50,7 @@ fn level_of_stay(frame: &Frame, attr: u32) -> Option<usize>
         → IsLevelAt p (kinds.Stay attr) (number_at frame.now.levels.items k)) }
     ensures none { IfNone result ((p : Problem) → IsFrame p frame.now → IsEmptyLevel p (kinds.Stay attr)) }
 {
-    let Some(i) = line_named(&frame.lines, RowName::Stay(attr)) else {
-        return None;
-    };
+    let i = line_named(&frame.lines, RowName::Stay(attr))?;
     Some(frame.lines[i].level)
 }
 

@@ -8,6 +8,7 @@ ghost use Rattle.path_checker.specs.FirstLines.{AreFirstLines};
 ghost use Rattle.path_checker.specs.PathClauses.{AreSoundBefore, IsPathVerdict};
 ghost use Rattle.path_checker.specs.Route.{over_marks};
 ghost use Rattle.path_checker.specs.declared.verdict.PathVerdict.TheVariants.{No};
+ghost use Rattle.path_checker.specs.declared.verdict.TheConstants.{SOUND_CLAUSE, UNFIT_CLAUSE};
 ghost use Rattle.path_claims.specs.Begun.{IsBegunUntil, IsWholeBegun};
 ghost use Rattle.path_levels.specs.Frames.{IsFrame, IsSizedFrame};
 ghost use Rattle.path_levels.specs.Levels.{AreSizedLevels};
@@ -19,7 +20,7 @@ use crate::last::Fit;
 use crate::orders::{fit_before, judged_rows};
 use cert_core::Path;
 use frac_core::OutOfMemory;
-use path_checker::{Inside, PathVerdict, is_up};
+use path_checker::{Inside, PathVerdict, SOUND_CLAUSE, UNFIT_CLAUSE, is_up};
 use path_levels::{Frame, LevelSum, has_no_negative_column};
 use problem_core::{Problem, Quantity};
 use std::alloc::Global;
@@ -60,14 +61,14 @@ fn is_sound_there(
     are_up(lines, judged)
 }
 
-// The verdict on a path that holds to all clauses but 12 and 14, where the quantity fits.
+// The verdict on a path that holds to all clauses but SOUND_CLAUSE and UNFIT_CLAUSE, where the quantity fits.
 fn verdict_of_fitting(is_sound: bool) -> PathVerdict
-    ensures { (is_sound ≡ true → result ≡ No 14) × (is_sound ≡ false → result ≡ No 12) }
+    ensures { (is_sound ≡ true → result ≡ No UNFIT_CLAUSE) × (is_sound ≡ false → result ≡ No SOUND_CLAUSE) }
 {
     if is_sound {
-        PathVerdict::No(14)
+        PathVerdict::No(UNFIT_CLAUSE)
     } else {
-        PathVerdict::No(12)
+        PathVerdict::No(SOUND_CLAUSE)
     }
 }
 
@@ -92,10 +93,10 @@ fn verdict_until(
         return PathVerdict::NoRoom(0);
     }
     if !are_up(lines, judged_rows(p, named)) {
-        return PathVerdict::No(12);
+        return PathVerdict::No(SOUND_CLAUSE);
     }
     if fit == Fit::Fits {
-        return PathVerdict::No(14);
+        return PathVerdict::No(UNFIT_CLAUSE);
     }
     PathVerdict::Yes
 }

@@ -1,12 +1,10 @@
 // The lines and levels of a corner of the route.
-ghost use Rattle.std.specs.Prelude.{◌≡◌, ◌≢◌, ◌<◌, ◌+◌, ◌^◌, List, IfOk, IfErr, Ok, Err, Some, length};
+ghost use Rattle.std.specs.Prelude.{◌≡◌, ◌<◌, ◌+◌, ◌^◌, List, IfOk, IfErr, Some, length};
 ghost use Rattle.problem_core.specs.declared.parts.Mark.{Mark};
 ghost use Rattle.path_checker.specs.Route.{over_marks};
 ghost use Rattle.path_checker.specs.Sides.{IsWithin};
 ghost use Rattle.path_checker.specs.Tables.{AreSized};
 ghost use Rattle.frac_core.specs.Stops.{IsRefused};
-ghost use Rattle.frac_core.specs.declared.memory.Stop.TheVariants as stops;
-ghost use Rattle.path_checker.specs.declared.way.WayStop.TheVariants as ways;
 ghost use Rattle.path_levels.specs.Frames.{IsFrame, IsSizedFrame};
 ghost use Rattle.path_levels.specs.Levels.{AreLevels, AreSizedLevels};
 ghost use Rattle.path_levels.specs.Rows.{AreKept};
@@ -15,7 +13,7 @@ ghost use Rattle.path_claims.specs.Stations.{IsTableAt, IsUsableStation, LeadsTo
 
 use crate::last::fits::attrs_fit;
 use frac_core::{Stop, Unfit};
-use path_checker::{Inside, Step, SumStop, WayStop, after_exchange, first_lines};
+use path_checker::{Inside, Step, SumStop, after_exchange, first_lines};
 use path_levels::{Frame, LevelSum, Turn, first_levels, next_levels};
 use problem_core::Problem;
 use std::alloc::Global;
@@ -121,19 +119,6 @@ pub fn table_now(
     match station.step {
         Some(step) => table_after(alloc, p, frame, station.table, step),
         None => first_table(alloc, p, frame),
-    }
-}
-
-/// The table, or the stop after so many exchanges.
-pub fn told(table: Result<Table, SumStop>, count: u32) -> Result<Table, WayStop>
-    ensures ok { IfOk result (λ t. table ≡ Ok t) }
-    ensures stop { IfErr result (λ stop. stop ≢ ways.OutOfMemory
-        → (stop ≡ ways.NoRoom count) × (table ≡ Err (stops.Refused (record {})))) }
-{
-    match table {
-        Ok(table) => Ok(table),
-        Err(Stop::Refused(_)) => Err(WayStop::NoRoom(count)),
-        Err(Stop::OutOfMemory) => Err(WayStop::OutOfMemory),
     }
 }
 

@@ -1,4 +1,5 @@
-// The signs of columns.
+// The columns of outside marks at a corner: what a mark costs at each level, strongest first, and whether the
+// first of these costs that is not 0 is below 0.
 ghost use Rattle.std.specs.Prelude.{◌≡◌, ◌↔◌, ◌<◌, ◌^◌, ◌<ℤ◌, ℕ, pos, length, get_or, unsigned_abs, List};
 ghost use Rattle.std.specs.Prelude.{IsTrue, [], false};
 ghost use Rattle.problem_core.specs.Layout.{Problem};

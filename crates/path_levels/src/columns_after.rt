@@ -26,7 +26,7 @@ use path_checker::{Inside, Pivot, Spot, Step, Wide};
 use problem_core::Side;
 use std::alloc::Global;
 
-/// A level's row before it is divided, and its unit.
+// A level's row before it is divided, and its unit.
 #[derive(Debug, Drop)]
 struct WideLevel {
     unit: i64,

@@ -257,10 +257,8 @@ pub(crate) fn joined(
     let times = times(old.unit, line);
     let cost = joined_cost(old.cost, line, kept)?;
     let wide = joined_numbers(alloc, old, times, line, kept)?;
-    match in_lowest_terms(alloc, &wide) {
-        Ok(numbers) => Ok(with_numbers(old.unit, times, numbers, cost)),
-        Err(stop) => Err(stop),
-    }
+    let numbers = in_lowest_terms(alloc, &wide)?;
+    Ok(with_numbers(old.unit, times, numbers, cost))
 }
 
 // Whether a number fits.

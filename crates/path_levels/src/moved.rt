@@ -10,7 +10,7 @@ ghost use Rattle.path_levels.specs.declared.moved.TheConstants.{NUM_ROOM};
 use frac_core::{Frac, PART_BOUND, Unfit, gcd};
 use path_checker::Ratio;
 
-/// A fraction in lowest terms.
+// A fraction in lowest terms.
 #[derive(Clone, Copy, Debug)]
 struct Portion {
     num: i128,

@@ -49,10 +49,8 @@ fn side_after(lines: &[Option<Inside>], pivot: &Pivot, at: usize) -> Option<Side
     if at == pivot.step.leave.at {
         return None;
     }
-    match &lines[at] {
-        Some(inside) => Some(inside.side),
-        None => None,
-    }
+    let inside = lines[at].as_ref()?;
+    Some(inside.side)
 }
 
 // The line's number in the level's row, where a mark of this side is inside.

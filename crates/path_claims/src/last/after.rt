@@ -31,10 +31,8 @@ pub(crate) fn side_after(line: &Option<Inside>, step: Step, at: usize) -> Option
     if at == step.leave.at {
         return None;
     }
-    match line {
-        Some(inside) => Some(inside.side),
-        None => None,
-    }
+    let inside = line.as_ref()?;
+    Some(inside.side)
 }
 
 /// What moves a line's deviation: `own` times it has this number at the entering line, and this value before

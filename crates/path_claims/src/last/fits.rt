@@ -116,9 +116,7 @@ fn stay_place(p: &Problem, attr: u32) -> Option<StayPlace>
     ensures none { IfNone result (All (λ s. s.attr ≢ attr) p.now.stays) }
 {
     p.show_whole(); // for the proof: what a problem keeps
-    let Some(i) = stay_of(p.stays(), attr) else {
-        return None;
-    };
+    let i = stay_of(p.stays(), attr)?;
     let target = p.stays()[i].target;
     let at = p.rows().len() + i;
     Some(StayPlace { target, at })

@@ -186,7 +186,7 @@ fn stopped_fit(j: usize, first: usize) -> Fit
     if j == first { Fit::Unfit } else { Fit::NoRoom }
 }
 
-/// So many of a row's first terms.
+// So many of a row's first terms.
 #[derive(Clone, Copy, Debug)]
 struct Sought<'a> {
     row: &'a Row,

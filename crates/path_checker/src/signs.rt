@@ -1,4 +1,4 @@
-// What holds at a corner.
+// The signs of values at a corner.
 ghost use Rattle.std.specs.Prelude.{◌≡◌, ◌↔◌, ◌*ℤ◌, ◌≤ℤ◌, ℤ, pos, List};
 ghost use Rattle.std.specs.Prelude.{IsTrue};
 ghost use Rattle.std.specs.Ordering.{int_cmp};

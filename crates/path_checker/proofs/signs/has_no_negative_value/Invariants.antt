@@ -4,7 +4,7 @@ use Rattle.problem_core.specs.declared.parts.RowName.{RowName}
 use Rattle.problem_core.specs.Layout.{Problem}
 use Rattle.path_checker.specs.declared.table.Inside.{Inside}
 use Rattle.path_checker.specs.Tables.{IsLineAt, IsThere, IsUp}
-use Rattle.path_checker.proofs.tests.has_no_negative_value.Given as goal
+use Rattle.path_checker.proofs.signs.has_no_negative_value.Given as goal
 
 abbrev pub invariant-loop-line : goal.invariant-loop-line
 invariant-loop-line l = (k : ℕ) (d : Option Inside) → k < l.line-index → (p : Problem) (at : List Mark) (name : RowName) → IsThere p at

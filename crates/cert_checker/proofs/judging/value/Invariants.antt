@@ -1,6 +1,0 @@
-use Rattle.std.proofs.Common.{◌≡◌, drop}
-use Rattle.problem_core.specs.Gaps.{value_of}
-use Rattle.cert_checker.proofs.judging.value.Given as goal
-
-abbrev pub invariant-loop-number : goal.invariant-loop-number
-invariant-loop-number l = value_of l.fn.values l.attr ≡ value_of (drop l.number-index l.fn.values) l.attr
