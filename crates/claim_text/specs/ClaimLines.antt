@@ -77,6 +77,6 @@ claim_lines (IsBest values best) = best_lines values best
 claim_lines (IsConflict bys) = conflict_lines bys
 claim_lines (IsPath path unfit) = path_lines path ++ unfit_lines unfit
 
--- the lines of a claim, each ended by byte 10
+-- the lines of a claim, each ended by a newline
 abbrev pub claim_text : Claim → List ℕ
 claim_text c = text_of_lines (claim_lines c)

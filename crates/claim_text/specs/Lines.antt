@@ -2,6 +2,7 @@
 use Rattle.std.specs.Prelude.{ℕ, ◌<◌, ◌≤◌, List, [], ◌∷◌, ◌++◌, length, map, All, AllPairs, codes}
 use Rattle.std.specs.Prelude.{decimal}
 use Rattle.std.specs.Fmt.{signed_decimal}
+use Rattle.span_text.specs.Bytes.{colon, newline, space}
 use Rattle.frac_core.specs.Fraction.{IsKept}
 use Rattle.frac_core.specs.Text.{fraction_text}
 use Rattle.problem_core.specs.declared.parts.Rel.{Rel}
@@ -22,7 +23,7 @@ rel_word Ge = codes ">="
 
 -- `ATTR:BY`
 abbrev pub term_word : Term → List ℕ
-term_word t = decimal t.attr ++ 58 ∷ signed_decimal t.by
+term_word t = decimal t.attr ++ colon ∷ signed_decimal t.by
 
 -- `row ID RANK WEIGHT REL SCALE CONSTANT`, and a word for each term
 abbrev pub row_words : Row → List (List ℕ)
@@ -73,10 +74,10 @@ row_line r = line_of (row_words r)
 abbrev pub stay_line : Stay → List ℕ
 stay_line s = line_of (stay_words s)
 
--- the text of these lines, each ended by byte 10
+-- the text of these lines, each ended by a newline
 abbrev pub text_of_lines : List (List ℕ) → List ℕ
 text_of_lines [] = []
-text_of_lines (line ∷ more) = line ++ 10 ∷ text_of_lines more
+text_of_lines (line ∷ more) = line ++ newline ∷ text_of_lines more
 
 -- the rows, and then the stays
 abbrev pub problem_text : Problem → List ℕ
@@ -85,10 +86,10 @@ problem_text p = text_of_lines (map row_line p.rows ++ map stay_line p.stays)
 -- each of these words behind a space
 abbrev pub spaced : List (List ℕ) → List ℕ
 spaced [] = []
-spaced (w ∷ ws) = 32 ∷ w ++ spaced ws
+spaced (w ∷ ws) = space ∷ w ++ spaced ws
 
 -- what stands before the terms of a row's line
 abbrev pub head_line : Row → List ℕ
-head_line r = codes "row " ++ (decimal r.id ++ (32
-    ∷ (decimal r.rank ++ (32 ∷ (decimal r.weight ++ (32
-    ∷ (rel_word r.rel ++ (32 ∷ (decimal r.scale ++ (32 ∷ fraction_text r.constant))))))))))
+head_line r = codes "row " ++ (decimal r.id ++ (space
+    ∷ (decimal r.rank ++ (space ∷ (decimal r.weight ++ (space
+    ∷ (rel_word r.rel ++ (space ∷ (decimal r.scale ++ (space ∷ fraction_text r.constant))))))))))

@@ -1,6 +1,7 @@
 -- The lines of paths, and of quantities that don't fit.
 use Rattle.std.specs.Prelude.{ℕ, ◌<◌, ◌^◌, Bool, true, false, List, [], ◌∷◌, ◌++◌, map, codes, decimal}
 use Rattle.std.specs.Prelude.{Option, None, Some}
+use Rattle.span_text.specs.Bytes.{newline}
 use Rattle.problem_core.specs.declared.parts.Side.{Side}
 use Rattle.problem_core.specs.declared.parts.Side.TheVariants.{Under, Over}
 use Rattle.problem_core.specs.declared.parts.Mark.{Mark}
@@ -104,7 +105,7 @@ abbrev pub path_text : Path → List ℕ
 path_text p = text_of_lines (path_lines p)
 
 abbrev pub unfit_text : declared_quantity.Quantity → List ℕ
-unfit_text q = unfit_line q ++ 10 ∷ []
+unfit_text q = unfit_line q ++ newline ∷ []
 
 -- the path, and what doesn't fit at its last corner
 abbrev pub unfit_path_text : UnfitPath → List ℕ

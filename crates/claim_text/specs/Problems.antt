@@ -1,5 +1,6 @@
 -- Which texts are problems, and where a text stops to be one.
 use Rattle.std.specs.Prelude.{◌≡◌, ◌≢◌, ℕ, ◌+◌, ◌<◌, ◌⊎◌, true, List, [], ◌∷◌, ◌++◌, length, All, Contains}
+use Rattle.span_text.specs.Bytes.{hash}
 use Rattle.span_text.specs.Classes.{is_space}
 use Rattle.problem_core.specs.declared.parts.Stay.{Stay}
 use Rattle.problem_core.specs.Kept.{IsRow, IsStay}
@@ -14,7 +15,7 @@ use Rattle.claim_text.specs.Lines.{row_words, stay_words}
 
 -- spaces and tabs alone, or a line that begins with `#`
 abbrev pub IsPassedOver : List ℕ → Type 0
-IsPassedOver line = All (λ b. is_space b ≡ true) line ⊎ ((more : List ℕ) × (line ≡ 35 ∷ more))
+IsPassedOver line = All (λ b. is_space b ≡ true) line ⊎ ((more : List ℕ) × (line ≡ hash ∷ more))
 
 -- what a line says by itself
 abbrev pub Says : List ℕ → Item → Type 0

@@ -2,20 +2,22 @@
 use Rattle.std.specs.Prelude.{ℕ, ◌<◌, ◌≤◌, ◌==◌, List, length, All}
 use Rattle.std.specs.Char.{IsAsciiDigit}
 use Rattle.std.specs.List.{slice_split, join_with_byte}
+use Rattle.span_text.specs.Bytes.{space}
+use Rattle.span_text.specs.declared.limits.TheConstants.{WHOLE_DIGITS}
 
 -- what stands before, between and behind the bytes of this kind
 abbrev pub parts : ℕ → List ℕ → List (List ℕ)
 parts end text = slice_split (λ b. b == end) text
 
 abbrev pub words : List ℕ → List (List ℕ)
-words line = parts 32 line
+words line = parts space line
 
 -- the line of these words, with one space between two of them
 abbrev pub line_of : List (List ℕ) → List ℕ
-line_of ws = join_with_byte 32 ws
+line_of ws = join_with_byte space ws
 
 -- one to nineteen digits
 pub record AreDigits (word : List ℕ) : Type 0 where
   pub digits : All IsAsciiDigit word
   pub some : 0 < length word
-  pub few : length word ≤ 19
+  pub few : length word ≤ WHOLE_DIGITS

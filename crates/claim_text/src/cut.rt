@@ -42,10 +42,7 @@ fn first_line(text: &[u8]) -> Option<&[u8]>
     ensures { MatchOption result (lines text.now ≡ []) (λ line. (more : List (List ℕ))
         × (lines text.now ≡ line.now ∷ more)) }
 {
-    match lines(text).next() {
-        Some(line) => Some(line.bytes),
-        None => None,
-    }
+    Some(lines(text).next()?.bytes)
 }
 
 // The length of the first line of a text that isn't empty, with its end.

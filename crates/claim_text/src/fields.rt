@@ -2,6 +2,7 @@
 ghost use Rattle.std.specs.Prelude.{◌≡◌, ℕ, ◌<◌, ◌≤◌, ◌^◌, ◌∷◌, List, IfSome, IfNone, IsTrue, ◌↔◌, decimal};
 ghost use Rattle.frac_core.specs.Fraction.{Fraction, IsKept};
 ghost use Rattle.frac_core.specs.Text.{fraction_text};
+ghost use Rattle.span_text.specs.declared.limits.TheConstants.{WHOLE_DIGITS};
 ghost use Rattle.claim_text.specs.Lines.{rel_word};
 ghost use Rattle.problem_core.specs.declared.parts.Rel.{Rel};
 
@@ -12,14 +13,12 @@ use problem_core::Rel;
 
 // A whole number between these two.
 pub(crate) fn next_number(words: &mut Words, least: u64, most: u64) -> Option<u64>
-    requires { most < 10 ^ 19 }
+    requires { most < 10 ^ WHOLE_DIGITS }
     ensures some { IfSome result (λ n. (least ≤ n) × (n ≤ most) × (words.old ≡ decimal n ∷ words.new)) }
     ensures none { IfNone result ((n : ℕ) (more : List (List ℕ)) → least ≤ n → n ≤ most
         → words.old ≡ decimal n ∷ more → ⊥) }
 {
-    let Some(word) = words.next() else {
-        return None;
-    };
+    let word = words.next()?;
     natural(word, least, most)
 }
 
@@ -28,9 +27,7 @@ pub(crate) fn next_fraction(words: &mut Words) -> Option<Frac>
     ensures none { IfNone result ((f : Fraction) (more : List (List ℕ)) → IsKept f
         → words.old ≡ fraction_text f ∷ more → ⊥) }
 {
-    let Some(word) = words.next() else {
-        return None;
-    };
+    let word = words.next()?;
     fraction(word)
 }
 
@@ -54,9 +51,7 @@ pub(crate) fn next_relation(words: &mut Words) -> Option<Rel>
     ensures some { IfSome result (λ r. words.old ≡ rel_word r ∷ words.new) }
     ensures none { IfNone result ((r : Rel) (more : List (List ℕ)) → words.old ≡ rel_word r ∷ more → ⊥) }
 {
-    let Some(word) = words.next() else {
-        return None;
-    };
+    let word = words.next()?;
     relation(word)
 }
 

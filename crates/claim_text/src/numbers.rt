@@ -6,17 +6,20 @@ ghost use Rattle.std.specs.Str.Parse.{digits_value};
 ghost use Rattle.std.specs.Fmt.{signed_decimal};
 ghost use Rattle.frac_core.specs.Fraction.{Fraction, IsKept};
 ghost use Rattle.frac_core.specs.Text.{fraction_text};
+ghost use Rattle.span_text.specs.Bytes.{digit_0, minus};
+ghost use Rattle.span_text.specs.declared.limits.TheConstants.{WHOLE_DIGITS};
 ghost use Rattle.claim_text.specs.Words.{AreDigits};
 
 use crate::words::first_part;
 use frac_core::{Frac, PART_BOUND};
+use span_text::WHOLE_DIGITS;
 
 // The value of one to nineteen digits, leading zeros among them.
 fn digits(word: &[u8]) -> Option<u64>
     ensures some { IfSome result (λ n. AreDigits word.now × (n ≡ digits_value 10 word.now)) }
     ensures none { IfNone result (AreDigits word.now → ⊥) }
 {
-    if word.is_empty() || word.len() > 19 {
+    if word.is_empty() || word.len() > WHOLE_DIGITS {
         return None;
     }
     let mut value = 0;
@@ -31,15 +34,15 @@ fn digits(word: &[u8]) -> Option<u64>
 
 // Whether the word has a zero before other bytes.
 fn has_leading_zero(word: &[u8]) -> bool
-    ensures { IsTrue result ↔ ((1 < length word.now) × (slice_index word.now 0 ≡ 48)) }
+    ensures { IsTrue result ↔ ((1 < length word.now) × (slice_index word.now 0 ≡ digit_0)) }
 {
     word.len() > 1 && word.first() == Some(&b'0')
 }
 
 // A number of at most nineteen digits.
 fn plain_number(word: &[u8]) -> Option<u64>
-    ensures some { IfSome result (λ n. (n < 10 ^ 19) × (word.now ≡ decimal n)) }
-    ensures none { IfNone result ((n : ℕ) → n < 10 ^ 19 → word.now ≡ decimal n → ⊥) }
+    ensures some { IfSome result (λ n. (n < 10 ^ WHOLE_DIGITS) × (word.now ≡ decimal n)) }
+    ensures none { IfNone result ((n : ℕ) → n < 10 ^ WHOLE_DIGITS → word.now ≡ decimal n → ⊥) }
 {
     if has_leading_zero(word) {
         None
@@ -50,13 +53,11 @@ fn plain_number(word: &[u8]) -> Option<u64>
 
 // A whole number between these two.
 pub(crate) fn natural(word: &[u8], least: u64, most: u64) -> Option<u64>
-    requires { most < 10 ^ 19 }
+    requires { most < 10 ^ WHOLE_DIGITS }
     ensures some { IfSome result (λ n. (least ≤ n) × (n ≤ most) × (word.now ≡ decimal n)) }
     ensures none { IfNone result ((n : ℕ) → least ≤ n → n ≤ most → word.now ≡ decimal n → ⊥) }
 {
-    let Some(value) = plain_number(word) else {
-        return None;
-    };
+    let value = plain_number(word)?;
     if least <= value && value <= most {
         Some(value)
     } else {
@@ -66,8 +67,8 @@ pub(crate) fn natural(word: &[u8], least: u64, most: u64) -> Option<u64>
 
 // What follows a minus.
 fn after_minus(word: &[u8]) -> Option<&[u8]>
-    ensures some { IfSome result (λ size. word.now ≡ 45 ∷ size.now) }
-    ensures none { IfNone result ((size : List ℕ) → word.now ≡ 45 ∷ size → ⊥) }
+    ensures some { IfSome result (λ size. word.now ≡ minus ∷ size.now) }
+    ensures none { IfNone result ((size : List ℕ) → word.now ≡ minus ∷ size → ⊥) }
 {
     match word {
         [b'-', size @ ..] => Some(size),
@@ -82,14 +83,14 @@ pub(crate) fn integer(word: &[u8], most: u64) -> Option<i64>
     ensures none { IfNone result ((z : ℤ) → unsigned_abs z ≤ most → word.now ≡ signed_decimal z → ⊥) }
 {
     match after_minus(word) {
-        Some(size) => match natural(size, 1, most) {
-            Some(size) => Some(-(size as i64)),
-            None => None,
-        },
-        None => match natural(word, 0, most) {
-            Some(size) => Some(size as i64),
-            None => None,
-        },
+        Some(size) => {
+            let size = natural(size, 1, most)?;
+            Some(-(size as i64))
+        }
+        None => {
+            let size = natural(word, 0, most)?;
+            Some(size as i64)
+        }
     }
 }
 
@@ -104,9 +105,7 @@ fn lowest(num: i64, den: u64) -> Option<Frac>
     ensures kept { IfSome result IsKept }
     ensures none { IfNone result (IsKept (record { num = num; den = den }) → ⊥) }
 {
-    let Ok(made) = Frac::of(i128::from(num), i128::from(den)) else {
-        return None;
-    };
+    let made = Frac::of(i128::from(num), i128::from(den)).ok()?;
     if made.num() == num && made.den() == den as i64 {
         Some(made)
     } else {
@@ -120,9 +119,7 @@ fn whole(word: &[u8]) -> Option<Frac>
     ensures none { IfNone result ((f : Fraction) → IsKept f → f.den ≡ 1 → word.now ≡ signed_decimal f.num
         → ⊥) }
 {
-    let Some(num) = integer(word, FITTING) else {
-        return None;
-    };
+    let num = integer(word, FITTING)?;
     lowest(num, 1)
 }
 
@@ -133,12 +130,8 @@ fn quotient(above: &[u8], below: &[u8]) -> Option<Frac>
     ensures none { IfNone result ((f : Fraction) → IsKept f → 2 ≤ f.den → above.now ≡ signed_decimal f.num
         → below.now ≡ decimal f.den → ⊥) }
 {
-    let Some(num) = integer(above, FITTING) else {
-        return None;
-    };
-    let Some(den) = natural(below, 2, FITTING) else {
-        return None;
-    };
+    let num = integer(above, FITTING)?;
+    let den = natural(below, 2, FITTING)?;
     lowest(num, den)
 }
 

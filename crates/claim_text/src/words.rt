@@ -70,9 +70,7 @@ impl<'a> Words<'a> {
         ensures { MatchOption result ((self.old ≡ [])
             × (self.new ≡ [])) (λ word. self.old ≡ word.now ∷ self.new) }
     {
-        let Some(text) = self.rest else {
-            return None;
-        };
+        let text = self.rest?;
         let cut = first_part(text, b' ');
         self.rest = cut.rest;
         Some(cut.part)

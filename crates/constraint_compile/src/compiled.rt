@@ -1,4 +1,4 @@
-// Compiled lines.
+// What a line is compiled to: rows whose constants wait for the values of metrics.
 ghost use Rattle.std.specs.Prelude.{◌≡◌, ◌++◌, map, nat_eq, IfOk};
 ghost use Rattle.std.specs.List.{list_any};
 ghost use Rattle.std.specs.String.{string_bytes};

@@ -1,4 +1,4 @@
-// Visual formats, compiled.
+// Visual formats: what each asks of its views, and the rows that this makes.
 mod asks;
 mod checks;
 pub(crate) mod laws;
@@ -55,15 +55,16 @@ pub fn compile_format(
     metrics: &Metrics,
     format: &Format<'_>,
     align: Option<Align>,
-    first: u32,
+    first_row: u32,
 ) -> Result<Compiled, CompileStop>
-    requires first { 0 < first }
+    requires first { 0 < first_row }
     ensures compiled { IfOk result (IsCompiledFormat tree.now.views metrics.now
-        (meaning format.now) align first) }
-    ensures stop { IfErr result (MayStopFormat tree.now.views metrics.now (meaning format.now) align first) }
+        (meaning format.now) align first_row) }
+    ensures stop { IfErr result
+        (MayStopFormat tree.now.views metrics.now (meaning format.now) align first_row) }
 {
     let parts = parts_of(alloc, format, align)?;
-    let asked = checked(alloc, tree, metrics, format.axis, align, &parts, first)?;
-    let rows = rows_of(alloc, metrics, &asked.rows, first)?;
+    let asked = checked(alloc, tree, metrics, format.axis, align, &parts, first_row)?;
+    let rows = rows_of(alloc, metrics, &asked.rows, first_row)?;
     Ok(Compiled::of(rows, asked.views))
 }

@@ -66,10 +66,7 @@ fn names_of<'a>(
     ensures stop { IfErr result (λ e. (number : ℕ)
         → MayStop tree.now.views metrics.now (linear_view line.now) number e) }
 {
-    let terms = match resolve(alloc, tree, metrics, terms) {
-        Ok(terms) => terms,
-        Err(stop) => return Err(stop),
-    };
+    let terms = resolve(alloc, tree, metrics, terms)?;
     match resolve_rank(tree, metrics, &line.priority) {
         Ok(rank) => Ok(Names { terms, rank }),
         Err(name) => Err(CompileStop::Unknown(OwnedName::of(alloc, name.as_bytes())?)),
@@ -173,10 +170,7 @@ pub fn compile_line(
     ensures stop { IfErr result (MayStop tree.now.views metrics.now (linear_view line.now) id) }
 {
     let terms = signed_terms(alloc, line)?;
-    let names = match names_of(alloc, tree, metrics, &terms, line) {
-        Ok(names) => names,
-        Err(stop) => return Err(stop),
-    };
+    let names = names_of(alloc, tree, metrics, &terms, line)?;
     let strength = match strength_of(&names, line) {
         Ok(strength) => strength,
         Err(word) => return Err(CompileStop::Kind(word)),
@@ -191,8 +185,6 @@ pub fn compile_line(
         rel: line.rel,
     };
     let resolved = names.terms;
-    match row_of_addends(alloc, metrics, &resolved.added, head) {
-        Ok(row) => Ok(with_views(alloc, resolved.views, row)?),
-        Err(stop) => Err(stop),
-    }
+    let row = row_of_addends(alloc, metrics, &resolved.added, head)?;
+    Ok(with_views(alloc, resolved.views, row)?)
 }

@@ -49,8 +49,5 @@ pub(crate) fn rank_of_metric(value: Option<Frac>) -> Option<u16>
     ensures none { IfNone result ((r : ℕ) → value ≡ Some (record { num = pos r; den = 1 }) → IsPriority r
         → ⊥) }
 {
-    match value {
-        Some(f) => rank_of_fraction(f),
-        None => None,
-    }
+    rank_of_fraction(value?)
 }

@@ -60,13 +60,11 @@ fn constant_of(form: &RowForm, metrics: &Metrics) -> Option<RowConstant>
     ensures some { IfSome result (IsConstantOf metrics.now (form_view form.now)) }
     ensures none { IfNone result (AreSmallSteps metrics.now (form_view form.now).steps → ⊥) }
 {
-    match constant_now(form, metrics) {
-        Some(constant) => Some(RowConstant {
-            row: form.id,
-            constant,
-        }),
-        None => None,
-    }
+    let constant = constant_now(form, metrics)?;
+    Some(RowConstant {
+        row: form.id,
+        constant,
+    })
 }
 
 // The constants of the rows that name the metric, unless one is past the limit.

@@ -79,15 +79,9 @@ pub(crate) fn common(a: i128, b: i128, x: i128, y: i128) -> Option<Ratio>
         → unsigned_abs f.num < CONSTANT_LIMIT → f.den < CONSTANT_LIMIT → ⊥) }
 {
     let shares = reduced(b, y);
-    let Some(left) = bounded(a, shares.den) else {
-        return None;
-    };
-    let Some(right) = bounded(x, shares.num) else {
-        return None;
-    };
-    let Some(den) = bounded(b, shares.den) else {
-        return None;
-    };
+    let left = bounded(a, shares.den)?;
+    let right = bounded(x, shares.num)?;
+    let den = bounded(b, shares.den)?;
     Some(Ratio {
         num: left + right,
         den,

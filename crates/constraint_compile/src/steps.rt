@@ -148,9 +148,7 @@ fn moved(before: Progress, scale: u32, value: Ratio) -> Option<Frac>
     let change = change(scale, value);
     let num = scaled(scale, before.constant.num());
     let den = scaled(before.scale, before.constant.den());
-    let Some(sum) = common(num, den, change.num, change.den) else {
-        return None;
-    };
+    let sum = common(num, den, change.num, change.den)?;
     small_of(sum)
 }
 
@@ -182,9 +180,7 @@ fn after(metrics: &Metrics, names: &[String], before: Progress, step: &Step) -> 
         return Some(before);
     }
     let value = part_ratio(metrics, names, step.part);
-    let Some(constant) = moved(before, step.scale, value) else {
-        return None;
-    };
+    let constant = moved(before, step.scale, value)?;
     Some(Progress {
         scale: step.scale,
         constant,
@@ -207,10 +203,7 @@ pub(crate) fn constant_after(metrics: &Metrics, names: &[String], steps: &[Step]
         constant: Frac::zero(),
     };
     for step in steps {
-        let Some(next) = after(metrics, names, now, step) else {
-            return None;
-        };
-        now = next;
+        now = after(metrics, names, now, step)?;
     }
     Some(now.constant)
 }

@@ -1,4 +1,4 @@
-// Products and sums in 128 bits.
+// Products, sums and quotients of 128 bits that cannot overflow where a row is made.
 ghost use Rattle.std.specs.Prelude.{◌≡◌, ◌^◌, ◌<◌, ◌≤◌, ◌+◌, ◌*◌, ◌+ℤ◌, ◌*ℤ◌, ◌<ℤ◌, pos, unsigned_abs};
 ghost use Prim.Native.Nat.{◌∣◌};
 

@@ -37,9 +37,7 @@ fn mode_found(matches: &ArgMatches<'_>) -> Option<Mode>
     ensures some { IfSome result (IsFound (rows_of (found_of matches.now))) }
     ensures none { IfNone result ((mode : Mode) → IsFound (rows_of (found_of matches.now)) mode → ⊥) }
 {
-    let Some(name) = matches.get_str("MODE") else {
-        return None;
-    };
+    let name = matches.get_str("MODE")?;
     match matches.get_strs("NUMBER") {
         Some(numbers) => mode_said(name, numbers),
         None => mode_said(name, &[]),

@@ -60,12 +60,8 @@ fn made_mode(name: &str, seed: &str, views: &str) -> Option<Mode>
     if !is_make(name) {
         return None;
     }
-    let Some(seed) = seed_of(seed) else {
-        return None;
-    };
-    let Some(views) = views_of(views) else {
-        return None;
-    };
+    let seed = seed_of(seed)?;
+    let views = views_of(views)?;
     Some(Mode::Make { seed, views })
 }
 

@@ -92,6 +92,8 @@ pub fn term(is_negative: bool, text: &[u8]) -> Result<(ExprTerm<'_>, &[u8]), usi
 }
 
 // The next term of a sum and the text behind it, if the text begins with a sign.
+//
+// It matches where `?` would do: the toolchain's borrow checker has no rule yet for `?` over such a term.
 #[tactic(auto, unfolding(crate::specs::LineReading::next_at))]
 pub fn next_term(text: &[u8]) -> Result<Option<(ExprTerm<'_>, &[u8])>, usize>
     ensures shorter { IfOk result (λ next. IfSome next (λ p. length p.1.now < length text.now)) }

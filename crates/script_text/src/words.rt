@@ -1,5 +1,4 @@
-//! The words of the grammar that stand in tables.
-
+// The words of the grammar that stand in tables.
 ghost use Rattle.std.specs.Prelude.{◌≡◌};
 ghost use Rattle.span_text.specs.Gives.{Gives};
 ghost use Rattle.span_text.specs.Reading.{tried};

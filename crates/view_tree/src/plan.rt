@@ -128,10 +128,8 @@ fn plan_object<'v>(
         Some(children) => children,
         None => return Ok(1),
     };
-    match plan_elements(children, name, views) {
-        Ok(height) => Ok(height + 1),
-        Err(stop) => Err(stop),
-    }
+    let height = plan_elements(children, name, views)?;
+    Ok(height + 1)
 }
 
 // Appends the views of the objects in an array, and answers their height.

@@ -37,10 +37,8 @@ fn place_of_number(nodes: &[Node], id: u32) -> Option<usize>
 fn node_of(nodes: &[Node], id: u32) -> Option<Node>
     ensures { result ≡ find (λ node. node.id.0 == id) nodes.now }
 {
-    match place_of_number(nodes, id) {
-        Some(place) => Some(nodes[place]),
-        None => None,
-    }
+    let place = place_of_number(nodes, id)?;
+    Some(nodes[place])
 }
 
 // Whether the view is the root, or its parent is one of these.

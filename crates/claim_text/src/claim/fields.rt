@@ -29,14 +29,14 @@ fn row_name(word: &[u8]) -> Option<RowName>
     ensures none { IfNone result ((r : RowName) → IsRowName r → word.now ≡ row_word r → ⊥) }
 {
     match after_s(word) {
-        Some(attr) => match natural(attr, 1, NUMBER_LIMIT as u64) {
-            Some(attr) => Some(RowName::Stay(attr as u32)),
-            None => None,
-        },
-        None => match natural(word, 1, NUMBER_LIMIT as u64) {
-            Some(id) => Some(RowName::Held(id as u32)),
-            None => None,
-        },
+        Some(attr) => {
+            let attr = natural(attr, 1, NUMBER_LIMIT as u64)?;
+            Some(RowName::Stay(attr as u32))
+        }
+        None => {
+            let id = natural(word, 1, NUMBER_LIMIT as u64)?;
+            Some(RowName::Held(id as u32))
+        }
     }
 }
 
@@ -45,14 +45,14 @@ pub(crate) fn level_name(word: &[u8]) -> Option<Level>
     ensures none { IfNone result ((l : Level) → IsLevelName l → word.now ≡ level_word l → ⊥) }
 {
     match after_s(word) {
-        Some(attr) => match natural(attr, 1, NUMBER_LIMIT as u64) {
-            Some(attr) => Some(Level::Stay(attr as u32)),
-            None => None,
-        },
-        None => match natural(word, 0, REQUIRED as u64) {
-            Some(rank) => Some(Level::Priority(rank as u16)),
-            None => None,
-        },
+        Some(attr) => {
+            let attr = natural(attr, 1, NUMBER_LIMIT as u64)?;
+            Some(Level::Stay(attr as u32))
+        }
+        None => {
+            let rank = natural(word, 0, REQUIRED as u64)?;
+            Some(Level::Priority(rank as u16))
+        }
     }
 }
 
@@ -82,16 +82,10 @@ pub(crate) fn mark(word: &[u8]) -> Option<Mark>
     ensures some { IfSome result (λ m. IsRowName m.row × (word.now ≡ mark_text m)) }
     ensures none { IfNone result ((m : Mark) → IsRowName m.row → word.now ≡ mark_text m → ⊥) }
 {
-    let Some((row, last)) = before_last(word) else {
-        return None;
-    };
-    let Some(side) = side_of(last) else {
-        return None;
-    };
-    match row_name(row) {
-        Some(row) => Some(Mark { row, side }),
-        None => None,
-    }
+    let (row, last) = before_last(word)?;
+    let side = side_of(last)?;
+    let row = row_name(row)?;
+    Some(Mark { row, side })
 }
 
 pub(crate) fn next_mark(words: &mut Words) -> Option<Mark>
@@ -99,9 +93,7 @@ pub(crate) fn next_mark(words: &mut Words) -> Option<Mark>
     ensures none { IfNone result ((m : Mark) (more : List (List ℕ)) → IsRowName m.row
         → words.old ≡ mark_text m ∷ more → ⊥) }
 {
-    let Some(word) = words.next() else {
-        return None;
-    };
+    let word = words.next()?;
     mark(word)
 }
 
@@ -112,9 +104,7 @@ pub(crate) fn next_integer(words: &mut Words, most: u64) -> Option<i64>
     ensures none { IfNone result ((z : ℤ) (more : List (List ℕ)) → unsigned_abs z ≤ most
         → words.old ≡ signed_decimal z ∷ more → ⊥) }
 {
-    let Some(word) = words.next() else {
-        return None;
-    };
+    let word = words.next()?;
     integer(word, most)
 }
 
@@ -123,9 +113,7 @@ pub(crate) fn next_row_name(words: &mut Words) -> Option<RowName>
     ensures none { IfNone result ((r : RowName) (more : List (List ℕ)) → IsRowName r
         → words.old ≡ row_word r ∷ more → ⊥) }
 {
-    let Some(word) = words.next() else {
-        return None;
-    };
+    let word = words.next()?;
     row_name(word)
 }
 
@@ -134,9 +122,7 @@ pub(crate) fn next_level_name(words: &mut Words) -> Option<Level>
     ensures none { IfNone result ((l : Level) (more : List (List ℕ)) → IsLevelName l
         → words.old ≡ level_word l ∷ more → ⊥) }
 {
-    let Some(word) = words.next() else {
-        return None;
-    };
+    let word = words.next()?;
     level_name(word)
 }
 
@@ -148,8 +134,6 @@ pub(crate) fn next_nonzero(words: &mut Words, most: u64) -> Option<i64>
     ensures none { IfNone result ((z : ℤ) (more : List (List ℕ)) → unsigned_abs z ≤ most → z ≢ pos 0
         → words.old ≡ signed_decimal z ∷ more → ⊥) }
 {
-    let Some(number) = next_integer(words, most) else {
-        return None;
-    };
+    let number = next_integer(words, most)?;
     if number == 0 { None } else { Some(number) }
 }

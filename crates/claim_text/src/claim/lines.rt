@@ -33,12 +33,8 @@ pub(crate) fn read_value(line: &[u8]) -> Option<(u32, Frac)>
     if !next_is(&mut words, b"value") {
         return None;
     }
-    let Some(attr) = next_number(&mut words, 1, NUMBER_LIMIT as u64) else {
-        return None;
-    };
-    let Some(value) = next_fraction(&mut words) else {
-        return None;
-    };
+    let attr = next_number(&mut words, 1, NUMBER_LIMIT as u64)?;
+    let value = next_fraction(&mut words)?;
     match words.next() {
         None => Some((attr as u32, value)),
         Some(_) => None,
@@ -54,12 +50,8 @@ pub(crate) fn read_level(line: &[u8]) -> Option<LevelLine>
     if !next_is(&mut words, b"level") {
         return None;
     }
-    let Some(level) = next_level_name(&mut words) else {
-        return None;
-    };
-    let Some(scale) = next_integer(&mut words, FITTING) else {
-        return None;
-    };
+    let level = next_level_name(&mut words)?;
+    let scale = next_integer(&mut words, FITTING)?;
     match words.next() {
         None => Some(LevelLine { level, scale }),
         Some(_) => None,
@@ -75,15 +67,11 @@ pub(crate) fn read_by(line: &[u8]) -> Option<By>
     if !next_is(&mut words, b"by") {
         return None;
     }
-    let Some(times) = next_nonzero(&mut words, FITTING) else {
-        return None;
-    };
+    let times = next_nonzero(&mut words, FITTING)?;
     if !next_is(&mut words, b"row") {
         return None;
     }
-    let Some(row) = next_row_name(&mut words) else {
-        return None;
-    };
+    let row = next_row_name(&mut words)?;
     match words.next() {
         None => Some(By { row, times }),
         Some(_) => None,

@@ -51,9 +51,7 @@ pub(crate) fn read_kind(line: &[u8]) -> Option<bool>
     if !next_is(&mut words, b"path") {
         return None;
     }
-    let Some(kind) = words.next() else {
-        return None;
-    };
+    let kind = words.next()?;
     match words.next() {
         None => is_dual(kind),
         Some(_) => None,
@@ -68,9 +66,7 @@ fn read_in(line: &[u8]) -> Option<Mark>
     if !next_is(&mut words, b"in") {
         return None;
     }
-    let Some(mark) = next_mark(&mut words) else {
-        return None;
-    };
+    let mark = next_mark(&mut words)?;
     match words.next() {
         None => Some(mark),
         Some(_) => None,
@@ -85,12 +81,8 @@ fn read_swap(line: &[u8]) -> Option<Swap>
     if !next_is(&mut words, b"swap") {
         return None;
     }
-    let Some(enter) = next_mark(&mut words) else {
-        return None;
-    };
-    let Some(leave) = next_mark(&mut words) else {
-        return None;
-    };
+    let enter = next_mark(&mut words)?;
+    let leave = next_mark(&mut words)?;
     match words.next() {
         None => Some(Swap { enter, leave }),
         Some(_) => None,
@@ -104,20 +96,12 @@ fn what_of(kind: &[u8], name: &[u8]) -> Option<What>
         → kind.now ∷ name.now ∷ [] ≡ what_words w → ⊥) }
 {
     if kind == b"attr".as_slice() {
-        match natural(name, 1, NUMBER_LIMIT as u64) {
-            Some(attr) => Some(What::Attr(attr as u32)),
-            None => None,
-        }
+        let attr = natural(name, 1, NUMBER_LIMIT as u64)?;
+        Some(What::Attr(attr as u32))
     } else if kind == b"mark".as_slice() {
-        match mark(name) {
-            Some(mark) => Some(What::Mark(mark)),
-            None => None,
-        }
+        Some(What::Mark(mark(name)?))
     } else if kind == b"level".as_slice() {
-        match level_name(name) {
-            Some(level) => Some(What::Level(level)),
-            None => None,
-        }
+        Some(What::Level(level_name(name)?))
     } else {
         None
     }
@@ -179,16 +163,11 @@ fn quantity_of(what: What, words: &mut Words) -> Option<Quantity>
     let Some(word) = words.next() else {
         return Some(Quantity::Plain(what));
     };
-    let Some(first) = next_number(words, 1, (1 << 32) - 1) else {
-        return None;
-    };
+    let first = next_number(words, 1, u32::MAX as u64)?;
     if words.next().is_some() {
         return None;
     }
-    match part_of(word) {
-        Some(part) => of_part(what, part, first as u32),
-        None => None,
-    }
+    of_part(what, part_of(word)?, first as u32)
 }
 
 fn read_unfit(line: &[u8]) -> Option<Quantity>
@@ -200,16 +179,9 @@ fn read_unfit(line: &[u8]) -> Option<Quantity>
     if !next_is(&mut words, b"unfit") {
         return None;
     }
-    let Some(kind) = words.next() else {
-        return None;
-    };
-    let Some(name) = words.next() else {
-        return None;
-    };
-    match what_of(kind, name) {
-        Some(what) => quantity_of(what, &mut words),
-        None => None,
-    }
+    let kind = words.next()?;
+    let name = words.next()?;
+    quantity_of(what_of(kind, name)?, &mut words)
 }
 
 /// What a line of a path says, if it is in the form.

@@ -1,5 +1,6 @@
 // The text of paths, and of quantities that don't fit.
 ghost use Rattle.std.specs.Prelude.{◌≡◌, ◌++◌, ◌∷◌, [], IfOk, OnErr, string_bytes, map};
+ghost use Rattle.span_text.specs.Bytes.{newline};
 ghost use Rattle.claim_text.specs.Lines.{text_of_lines};
 ghost use Rattle.claim_text.specs.PathTexts.{mark_text, in_line, swap_line, path_text, path_lines};
 ghost use Rattle.claim_text.specs.PathTexts.{unfit_text, unfit_path_text, unfit_lines, kind_words, what_text};
@@ -24,7 +25,8 @@ fn put_mark(text: &mut String, mark: Mark) -> Result<(), OutOfMemory>
 }
 
 fn put_in(text: &mut String, mark: Mark) -> Result<(), OutOfMemory>
-    ensures { IfOk result (λ _. string_bytes text.new ≡ string_bytes text.old ++ (in_line mark ++ 10 ∷ [])) }
+    ensures { IfOk result (λ _. string_bytes text.new
+        ≡ string_bytes text.old ++ (in_line mark ++ newline ∷ [])) }
 {
     write!(text, "in ")?;
     put_mark(text, mark)?;
@@ -34,7 +36,7 @@ fn put_in(text: &mut String, mark: Mark) -> Result<(), OutOfMemory>
 
 fn put_swap(text: &mut String, swap: Swap) -> Result<(), OutOfMemory>
     ensures { IfOk result (λ _. string_bytes text.new
-        ≡ string_bytes text.old ++ (swap_line swap ++ 10 ∷ [])) }
+        ≡ string_bytes text.old ++ (swap_line swap ++ newline ∷ [])) }
 {
     write!(text, "swap ")?;
     put_mark(text, swap.enter)?;
@@ -66,7 +68,7 @@ fn put_swaps(text: &mut String, swaps: &[Swap]) -> Result<(), OutOfMemory>
 
 fn put_kind(text: &mut String, dual: bool) -> Result<(), OutOfMemory>
     ensures { IfOk result (λ _. string_bytes text.new
-        ≡ string_bytes text.old ++ (line_of (kind_words dual) ++ 10 ∷ [])) }
+        ≡ string_bytes text.old ++ (line_of (kind_words dual) ++ newline ∷ [])) }
 {
     if dual {
         writeln!(text, "path dual")?;

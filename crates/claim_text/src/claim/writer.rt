@@ -1,5 +1,6 @@
 // The text of claims.
 ghost use Rattle.std.specs.Prelude.{◌≡◌, ◌++◌, ◌∷◌, [], IfOk, OnErr, string_bytes, map};
+ghost use Rattle.span_text.specs.Bytes.{newline};
 ghost use Rattle.claim_text.specs.ClaimLines.{value_line, level_line, by_line};
 ghost use Rattle.claim_text.specs.Names.{row_word, level_word};
 ghost use Rattle.claim_text.specs.ClaimLines.{level_lines, lines_of_levels, best_lines, conflict_lines};
@@ -36,7 +37,7 @@ pub(crate) fn put_level_name(text: &mut String, level: Level) -> Result<(), OutO
 
 fn put_value(text: &mut String, pair: &(u32, Frac)) -> Result<(), OutOfMemory>
     ensures { IfOk result (λ _. string_bytes text.new
-        ≡ string_bytes text.old ++ (value_line pair.now ++ 10 ∷ [])) }
+        ≡ string_bytes text.old ++ (value_line pair.now ++ newline ∷ [])) }
 {
     let attr = pair.0;
     let value = pair.1;
@@ -48,7 +49,7 @@ fn put_value(text: &mut String, pair: &(u32, Frac)) -> Result<(), OutOfMemory>
 
 fn put_by(text: &mut String, by: &By) -> Result<(), OutOfMemory>
     ensures { IfOk result (λ _. string_bytes text.new
-        ≡ string_bytes text.old ++ (by_line by.now ++ 10 ∷ [])) }
+        ≡ string_bytes text.old ++ (by_line by.now ++ newline ∷ [])) }
 {
     let times = by.times;
     write!(text, "by {times} row ")?;
@@ -59,7 +60,7 @@ fn put_by(text: &mut String, by: &By) -> Result<(), OutOfMemory>
 
 fn put_level(text: &mut String, level: Level, scale: i64) -> Result<(), OutOfMemory>
     ensures { IfOk result (λ _. string_bytes text.new
-        ≡ string_bytes text.old ++ (level_line (record { level = level; scale = scale }) ++ 10 ∷ [])) }
+        ≡ string_bytes text.old ++ (level_line (record { level = level; scale = scale }) ++ newline ∷ [])) }
 {
     write!(text, "level ")?;
     put_level_name(text, level)?;

@@ -1,5 +1,6 @@
 // What a line of a problem says by itself.
 ghost use Rattle.std.specs.Prelude.{◌≡◌, ◌∷◌, List, ℕ, All, true, IfOk, IfSome, IfNone, IsTrue, ◌↔◌};
+ghost use Rattle.span_text.specs.Bytes.{hash};
 ghost use Rattle.span_text.specs.Classes.{is_space};
 ghost use Rattle.claim_text.specs.declared.problem.items.Item as item;
 ghost use Rattle.claim_text.specs.Problems.{IsPassedOver, Says};
@@ -26,7 +27,7 @@ fn is_blank(line: &[u8]) -> bool
 }
 
 fn is_comment(line: &[u8]) -> bool
-    ensures { IsTrue result ↔ ((more : List ℕ) × (line.now ≡ 35 ∷ more)) }
+    ensures { IsTrue result ↔ ((more : List ℕ) × (line.now ≡ hash ∷ more)) }
 {
     match line {
         [b'#', ..] => true,

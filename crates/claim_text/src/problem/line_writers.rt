@@ -1,6 +1,7 @@
 // The lines of rows and stays as text.
 ghost use Rattle.std.specs.Prelude.{◌≡◌, ◌++◌, ◌∷◌, [], IfOk, string_bytes, map};
 ghost use Rattle.frac_core.specs.Text.{fraction_text};
+ghost use Rattle.span_text.specs.Bytes.{newline, space};
 ghost use Rattle.claim_text.specs.Lines.{rel_word, term_word, row_line, stay_line, spaced, head_line};
 
 use frac_core::{Frac, OutOfMemory};
@@ -30,7 +31,8 @@ pub(crate) fn put_fraction(text: &mut String, f: Frac) -> Result<(), OutOfMemory
 }
 
 fn put_term(text: &mut String, term: &Term) -> Result<(), OutOfMemory>
-    ensures { IfOk result (λ _. string_bytes text.new ≡ string_bytes text.old ++ (32 ∷ term_word term.now)) }
+    ensures { IfOk result (λ _. string_bytes text.new
+        ≡ string_bytes text.old ++ (space ∷ term_word term.now)) }
 {
     let attr = term.attr;
     let by = term.by;
@@ -63,7 +65,7 @@ fn put_head(text: &mut String, row: &Row) -> Result<(), OutOfMemory>
 
 pub(crate) fn put_row(text: &mut String, row: &Row) -> Result<(), OutOfMemory>
     ensures { IfOk result (λ _. string_bytes text.new
-        ≡ string_bytes text.old ++ (row_line row.now ++ 10 ∷ [])) }
+        ≡ string_bytes text.old ++ (row_line row.now ++ newline ∷ [])) }
 {
     put_head(text, row)?;
     put_terms(text, row.terms())?;
@@ -73,7 +75,7 @@ pub(crate) fn put_row(text: &mut String, row: &Row) -> Result<(), OutOfMemory>
 
 pub(crate) fn put_stay(text: &mut String, stay: &Stay) -> Result<(), OutOfMemory>
     ensures { IfOk result (λ _. string_bytes text.new
-        ≡ string_bytes text.old ++ (stay_line stay.now ++ 10 ∷ [])) }
+        ≡ string_bytes text.old ++ (stay_line stay.now ++ newline ∷ [])) }
 {
     let attr = stay.attr;
     write!(text, "stay {attr} ")?;

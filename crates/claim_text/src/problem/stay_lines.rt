@@ -18,12 +18,8 @@ pub(crate) fn read_stay(line: &[u8]) -> Option<Stay>
     if !next_is(&mut words, b"stay") {
         return None;
     }
-    let Some(attr) = next_number(&mut words, 1, NUMBER_LIMIT as u64) else {
-        return None;
-    };
-    let Some(target) = next_fraction(&mut words) else {
-        return None;
-    };
+    let attr = next_number(&mut words, 1, NUMBER_LIMIT as u64)?;
+    let target = next_fraction(&mut words)?;
     match words.next() {
         None => Some(Stay {
             attr: attr as u32,

@@ -19,12 +19,8 @@ fn product(attr: &[u8], by: &[u8]) -> Option<Term>
     ensures none { IfNone result ((t : Term) → IsTerm t → attr.now ≡ decimal t.attr
         → by.now ≡ signed_decimal t.by → ⊥) }
 {
-    let Some(attr) = natural(attr, 1, NUMBER_LIMIT as u64) else {
-        return None;
-    };
-    let Some(by) = integer(by, COEFFICIENT_LIMIT) else {
-        return None;
-    };
+    let attr = natural(attr, 1, NUMBER_LIMIT as u64)?;
+    let by = integer(by, COEFFICIENT_LIMIT)?;
     if by == 0 {
         None
     } else {
@@ -40,10 +36,7 @@ fn term(word: &[u8]) -> Option<Term>
     ensures none { IfNone result ((t : Term) → IsTerm t → word.now ≡ term_word t → ⊥) }
 {
     let cut = first_part(word, b':');
-    match cut.rest {
-        None => None,
-        Some(by) => product(cut.part, by),
-    }
+    product(cut.part, cut.rest?)
 }
 
 // Whether the attribute is above those of all these terms.
@@ -62,9 +55,7 @@ fn next_term(terms: &[Term], word: &[u8]) -> Option<Term>
     if terms.len() == TERM_LIMIT {
         return None;
     }
-    let Some(term) = term(word) else {
-        return None;
-    };
+    let term = term(word)?;
     if is_above(terms, term.attr) {
         Some(term)
     } else {

@@ -174,15 +174,14 @@ fn ask_of<'a>(
     ensures stop { IfErr result (λ name. refusals.unknown_pred tree.now.views metrics.now
         (pred_meaning pred.now) ≡ Some name.now) }
 {
+    // not by `?`, which the borrow checker does not cover for what this returns
     let object = match object_of(tree, metrics, span.plus.word, pred.object) {
         Ok(object) => object,
         Err(name) => return Err(name),
     };
     let is_view_space = span.minus.is_some() && object.view.is_some();
-    let rank = match resolve_rank(tree, metrics, &pred.priority) {
-        Ok(Some(rank)) => rank,
-        Ok(None) => return Ok(without_rank(object.view, is_view_space)),
-        Err(name) => return Err(name),
+    let Some(rank) = resolve_rank(tree, metrics, &pred.priority)? else {
+        return Ok(without_rank(object.view, is_view_space));
     };
     let ask = Ask {
         plus: end_addend(tree, one(), span.plus),

@@ -45,11 +45,11 @@ pub(crate) fn row_count(tree: &Tree, parts: &[Part<'_>]) -> usize
 }
 
 // Whether one of so many rows has a number past the last one.
-fn is_past_numbers(first: u32, count: usize) -> bool
-    ensures yes { IsTrue result → IsPastNumbers first count }
-    ensures no { result ≡ false → IsPastNumbers first count → ⊥ }
+fn is_past_numbers(first_row: u32, count: usize) -> bool
+    ensures yes { IsTrue result → IsPastNumbers first_row count }
+    ensures no { result ≡ false → IsPastNumbers first_row count → ⊥ }
 {
-    count > 0 && (first >= NUMBER_LIMIT || count > (NUMBER_LIMIT - first) as usize)
+    count > 0 && (first_row >= NUMBER_LIMIT || count > (NUMBER_LIMIT - first_row) as usize)
 }
 
 // No use may be wrong.
@@ -82,12 +82,12 @@ pub(crate) fn checked<'a>(
     axis: Axis,
     align: Option<Align>,
     parts: &[Part<'a>],
-    first: u32,
+    first_row: u32,
 ) -> Result<Asked<'a>, CompileStop>
     ensures usable { OnOk result (IsUsableFormat tree.now.views metrics.now axis align
         (parts_view parts.now)) }
-    ensures numbers { OnOk result (IsPastNumbers first (stops.row_count tree.now.views (parts_view parts.now))
-        → ⊥) }
+    ensures numbers { OnOk result
+        (IsPastNumbers first_row (stops.row_count tree.now.views (parts_view parts.now)) → ⊥) }
     ensures count { IfOk result (λ a. length a.rows.items
         ≡ stops.row_count tree.now.views (parts_view parts.now)) }
     ensures asks { IfOk result (λ a. AreAsks tree.now.views metrics.now
@@ -96,17 +96,14 @@ pub(crate) fn checked<'a>(
     ensures views { IfOk result (λ a. numbers a.views.items
         ≡ parts_views tree.now.views (parts_view parts.now)) }
     ensures stop { IfErr result (MayStopBefore tree.now.views metrics.now axis align
-        (parts_view parts.now) first) }
+        (parts_view parts.now) first_row) }
 {
-    let asked = match resolve_parts(alloc, tree, metrics, parts) {
-        Ok(asked) => asked,
-        Err(stop) => return Err(stop),
-    };
+    let asked = resolve_parts(alloc, tree, metrics, parts)?;
     match used(axis, align, &asked) {
         Ok(()) => {}
         Err(word) => return Err(CompileStop::Kind(word)),
     }
-    if is_past_numbers(first, asked.rows.len()) {
+    if is_past_numbers(first_row, asked.rows.len()) {
         return Err(CompileStop::Limit(LimitWord::Rows));
     }
     Ok(asked)

@@ -134,15 +134,15 @@ pub(crate) fn rows_of(
     alloc: Global,
     metrics: &Metrics,
     asks: &[Ask<'_>],
-    first: u32,
+    first_row: u32,
 ) -> Result<Vec<RowForm>, CompileStop>
     requires kept { All IsKeptAsk asks.now }
-    requires first { 0 < first }
-    requires numbers { IsPastNumbers first (length asks.now) → ⊥ }
+    requires first { 0 < first_row }
+    requires numbers { IsPastNumbers first_row (length asks.now) → ⊥ }
     ensures forms { IfOk result (λ rows. AreForms rows.items) }
     ensures rows { IfOk result (λ rows. (views : List LiveView) (lines : List Linear)
         → AreAsks views metrics.now lines asks.now
-        → AreRowsOf views metrics.now lines first (map form_view rows.items)) }
+        → AreRowsOf views metrics.now lines first_row (map form_view rows.items)) }
     ensures stop { IfErr result (λ e. (views : List LiveView) (lines : List Linear)
         → AreAsks views metrics.now lines asks.now → HaveNoRows views metrics.now lines e) }
 {
@@ -150,12 +150,10 @@ pub(crate) fn rows_of(
         rows: Vec::new(alloc),
         limit: None,
     };
-    let mut id = first;
+    let mut id = first_row;
     for ask in asks {
-        match add_row(alloc, metrics, ask, id, &mut found) {
-            Ok(()) => id += 1,
-            Err(stop) => return Err(stop),
-        }
+        add_row(alloc, metrics, ask, id, &mut found)?;
+        id += 1;
     }
     match found.limit {
         Some(word) => Err(CompileStop::Limit(word)),

@@ -136,10 +136,7 @@ pub(crate) fn row_of_addends(
     ensures stop { IfErr result (λ e. (views : List LiveView) (terms : List Summand)
         → addends_view added.now ≡ addends views terms → IsRowStop views metrics.now terms e) }
 {
-    let sum = match coefficients_of(alloc, added) {
-        Ok(sum) => sum,
-        Err(stop) => return Err(stop),
-    };
+    let sum = coefficients_of(alloc, added)?;
     let named = named_steps(alloc, added, &sum.scales)?;
     if !is_constant_small(metrics, &named) {
         return Err(CompileStop::Limit(LimitWord::Constant));

@@ -194,9 +194,7 @@ fn whole_more(number: i64, share: &Share, attr: u32) -> Option<i64>
     ensures value { IfSome result (λ z. pos 2 *ℤ z ≡ with_share_number number 1 share.now attr) }
     ensures small { IfSome result (λ z. unsigned_abs z ≤ COEFFICIENT_LIMIT) }
 {
-    let Some(more) = half(times_halves(share.by.num(), halves(&share.of, attr))) else {
-        return None;
-    };
+    let more = half(times_halves(share.by.num(), halves(&share.of, attr)))?;
     let next = number + more;
     if next.unsigned_abs() > COEFFICIENT_LIMIT {
         return None;

@@ -11,6 +11,6 @@ none_above : (most : ℕ) (word : List ℕ) → most < 2 ^ 62 → ((size : List 
 none_above most word small front none (pos n) le same = none n (omega arith) le same
 none_above most word small front none (negsuc n) le same = front (decimal (suc n)) same
 
-pub returns-in-None-natural-clause-none : goal.returns-in-None-natural-clause-none
-returns-in-None-natural-clause-none c =
-    none_below c.args.most c.args.word.now c.in-Some.size.now c.requires c.in-Some.ensures.some c.in-None-natural.ensures.none
+pub returns-in_err-size-in-Some-clause-none : goal.returns-in_err-size-in-Some-clause-none
+returns-in_err-size-in-Some-clause-none c =
+    rw c.from_residual.ensures (none_below c.args.most c.args.word.now c.in-Some.size.now c.requires c.in-Some.ensures.some c.in_err-size-in-Some.ensures.none)

@@ -6,7 +6,7 @@ use Rattle.claim_text.proofs.numbers.quotient.Goals as goal
 
 pub returns-clause-none : goal.returns-clause-none
 returns-clause-none c =
-    let fits : SFits w64 c.in-Some.num = search rules in
+    let fits : SFits w64 c.in_ok-num.num = search rules in
     none_from c.lowest.result (λ none f kept more above below.
-    none (simp to_z-of_z (no_other f c.in-Some.num c.in-Some-natural.den c.args.above.now c.args.below.now kept c.in-Some.ensures.some.0 c.in-Some-natural.ensures.some.1
-    c.in-Some.ensures.some.1 c.in-Some-natural.ensures.some.2 above below))) c.lowest.ensures.none
+    none (simp to_z-of_z (no_other f c.in_ok-num.num c.in_ok-den.den c.args.above.now c.args.below.now kept c.in_ok-num.ensures.some.0 c.in_ok-den.ensures.some.1
+    c.in_ok-num.ensures.some.1 c.in_ok-den.ensures.some.2 above below))) c.lowest.ensures.none

@@ -6,5 +6,5 @@ use Rattle.claim_text.proofs.numbers.whole.Goals as goal
 
 pub returns-clause-none : goal.returns-clause-none
 returns-clause-none c =
-    let fits : SFits w64 c.in-Some.num = search rules in
-    none_from c.lowest.result (λ none f kept one is. none (simp to_z-of_z (whole_of f c.in-Some.num c.args.word.now kept (c.in-Some.ensures.some.0) c.in-Some.ensures.some.1 one is))) c.lowest.ensures.none
+    let fits : SFits w64 c.in_ok-num.num = search rules in
+    none_from c.lowest.result (λ none f kept one is. none (simp to_z-of_z (whole_of f c.in_ok-num.num c.args.word.now kept (c.in_ok-num.ensures.some.0) c.in_ok-num.ensures.some.1 one is))) c.lowest.ensures.none

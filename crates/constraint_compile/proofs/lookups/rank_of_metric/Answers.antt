@@ -12,5 +12,5 @@ through : (o : Option ℕ) (value : Option Fraction) (f : Fraction) → value �
 through (Some x) value f is none = tt
 through None value f is none = λ r e within. none r (inner f (record { num = pos r; den = 1 }) (sym is ∙ e)) within
 
-pub returns-in-Some-clause-none : goal.returns-in-Some-clause-none
-returns-in-Some-clause-none c = through c.rank_of_fraction.result c.args.value c.in-Some.f c.in-Some.is c.rank_of_fraction.ensures.none
+pub returns-clause-none : goal.returns-clause-none
+returns-clause-none c = through c.rank_of_fraction.result c.args.value c.in_ok-value.field-0 c.in_ok-value.was c.rank_of_fraction.ensures.none

@@ -38,8 +38,8 @@ none_then : (o : Option Fraction) {P Q : Type 0} → IfNone o P → (P → Q) �
 none_then (Some f) p then = p
 none_then None p then = then p
 
-pub returns-in_default-clause-none : goal.returns-in_default-clause-none
-returns-in_default-clause-none c = λ e p above num den constant small.
+pub returns-in_err-sum-clause-none : goal.returns-in_err-sum-clause-none
+returns-in_err-sum-clause-none c = rw c.from_residual.ensures (λ e p above num den constant small.
     let x_fits : SFits w128 c.change-change.result.num = search rules in
     let y_fits : SFits w128 c.change-change.result.den = search rules in
     let a_fits : SFits w128 c.scaled-num.result = record { sfits = c.scaled-num.type_inv } in
@@ -48,10 +48,10 @@ returns-in_default-clause-none c = λ e p above num den constant small.
     let den_fits : SFits w64 c.den.result = record { sfits = c.den.type_inv } in
     let a_is : c.scaled-num.result ≡ pos c.args.scale *ℤ c.num.result = simp (to_z-of_z, num_fits) at c.scaled-num.ensures.value in
     let b_is : c.scaled-den.result ≡ pos c.args.before.scale *ℤ c.den.result = simp (to_z-of_z, den_fits) at c.scaled-den.ensures.value in
-    let none : (f : Fraction) → IsLowest f → IsRatio f (c.scaled-num.result *ℤ c.change-change.result.den +ℤ c.change-change.result.num *ℤ c.scaled-den.result) (c.scaled-den.result *ℤ c.change-change.result.den) → unsigned_abs f.num < 2 ^ 40 → f.den < 2 ^ 40 → ⊥ = simp (to_z-of_z, x_fits, y_fits, a_fits, b_fits) at c.in_default.ensures.none in
+    let none : (f : Fraction) → IsLowest f → IsRatio f (c.scaled-num.result *ℤ c.change-change.result.den +ℤ c.change-change.result.num *ℤ c.scaled-den.result) (c.scaled-den.result *ℤ c.change-change.result.den) → unsigned_abs f.num < 2 ^ 40 → f.den < 2 ^ 40 → ⊥ = simp (to_z-of_z, x_fits, y_fits, a_fits, b_fits) at c.in_err-sum.ensures.none in
     none small.constant small.is_constant.lowest
     (moved_from c.args.scale c.args.before.scale e p c.args.before.constant c.args.value.num c.args.value.den c.scaled-num.result c.scaled-den.result c.change-change.result.num c.change-change.result.den small.constant (is_move c.args.scale c.args.before.scale e p c.args.before.constant c.args.value.num c.args.value.den c.scaled-num.result c.scaled-den.result c.change-change.result.num c.change-change.result.den c.num.result c.den.result c.requires.before.0 c.num.ensures.value c.den.ensures.value a_is b_is c.change-change.ensures above num den constant) (some_den p.den c.args.value.den c.requires.above den) small.is_constant)
-    small.num_small small.den_small
+    small.num_small small.den_small)
 
 pub returns-clause-constant : goal.returns-clause-constant
 returns-clause-constant c =
@@ -63,10 +63,10 @@ returns-clause-constant c =
     let den_fits : SFits w64 c.den.result = record { sfits = c.den.type_inv } in
     let a_is : c.scaled-num.result ≡ pos c.args.scale *ℤ c.num.result = simp (to_z-of_z, num_fits) at c.scaled-num.ensures.value in
     let b_is : c.scaled-den.result ≡ pos c.args.before.scale *ℤ c.den.result = simp (to_z-of_z, den_fits) at c.scaled-den.ensures.value in
-    let divided : IsDivided (c.scaled-num.result *ℤ c.change-change.result.den +ℤ c.change-change.result.num *ℤ c.scaled-den.result) (c.scaled-den.result *ℤ c.change-change.result.den) c.in-Some.sum.num c.in-Some.sum.den = simp (to_z-of_z, x_fits, y_fits, a_fits, b_fits) at c.in-Some.ensures.some in
+    let divided : IsDivided (c.scaled-num.result *ℤ c.change-change.result.den +ℤ c.change-change.result.num *ℤ c.scaled-den.result) (c.scaled-den.result *ℤ c.change-change.result.den) c.in_ok-sum.sum.num c.in_ok-sum.sum.den = simp (to_z-of_z, x_fits, y_fits, a_fits, b_fits) at c.in_ok-sum.ensures.some in
     both_then c.small_of.result c.small_of.ensures.lowest c.small_of.ensures.value (λ f lowest value e p above num den constant.
     moved_to c.args.scale c.args.before.scale e p c.args.before.constant c.args.value.num c.args.value.den c.scaled-num.result c.scaled-den.result c.change-change.result.num c.change-change.result.den f (is_move c.args.scale c.args.before.scale e p c.args.before.constant c.args.value.num c.args.value.den c.scaled-num.result c.scaled-den.result c.change-change.result.num c.change-change.result.den c.num.result c.den.result c.requires.before.0 c.num.ensures.value c.den.ensures.value a_is b_is c.change-change.ensures above num den constant) lowest
-    (whole_ratio f (c.scaled-num.result *ℤ c.change-change.result.den +ℤ c.change-change.result.num *ℤ c.scaled-den.result) (c.scaled-den.result *ℤ c.change-change.result.den) c.in-Some.sum.num c.in-Some.sum.den divided value))
+    (whole_ratio f (c.scaled-num.result *ℤ c.change-change.result.den +ℤ c.change-change.result.num *ℤ c.scaled-den.result) (c.scaled-den.result *ℤ c.change-change.result.den) c.in_ok-sum.sum.num c.in_ok-sum.sum.den divided value))
 
 pub returns-clause-none : goal.returns-clause-none
 returns-clause-none c =
@@ -78,8 +78,8 @@ returns-clause-none c =
     let den_fits : SFits w64 c.den.result = record { sfits = c.den.type_inv } in
     let a_is : c.scaled-num.result ≡ pos c.args.scale *ℤ c.num.result = simp (to_z-of_z, num_fits) at c.scaled-num.ensures.value in
     let b_is : c.scaled-den.result ≡ pos c.args.before.scale *ℤ c.den.result = simp (to_z-of_z, den_fits) at c.scaled-den.ensures.value in
-    let divided : IsDivided (c.scaled-num.result *ℤ c.change-change.result.den +ℤ c.change-change.result.num *ℤ c.scaled-den.result) (c.scaled-den.result *ℤ c.change-change.result.den) c.in-Some.sum.num c.in-Some.sum.den = simp (to_z-of_z, x_fits, y_fits, a_fits, b_fits) at c.in-Some.ensures.some in
+    let divided : IsDivided (c.scaled-num.result *ℤ c.change-change.result.den +ℤ c.change-change.result.num *ℤ c.scaled-den.result) (c.scaled-den.result *ℤ c.change-change.result.den) c.in_ok-sum.sum.num c.in_ok-sum.sum.den = simp (to_z-of_z, x_fits, y_fits, a_fits, b_fits) at c.in_ok-sum.ensures.some in
     none_then c.small_of.result c.small_of.ensures.none (λ none e p above num den constant small.
     none small.constant small.is_constant.lowest
-    (shared_ratio small.constant (c.scaled-num.result *ℤ c.change-change.result.den +ℤ c.change-change.result.num *ℤ c.scaled-den.result) (c.scaled-den.result *ℤ c.change-change.result.den) c.in-Some.sum.num c.in-Some.sum.den divided (moved_from c.args.scale c.args.before.scale e p c.args.before.constant c.args.value.num c.args.value.den c.scaled-num.result c.scaled-den.result c.change-change.result.num c.change-change.result.den small.constant (is_move c.args.scale c.args.before.scale e p c.args.before.constant c.args.value.num c.args.value.den c.scaled-num.result c.scaled-den.result c.change-change.result.num c.change-change.result.den c.num.result c.den.result c.requires.before.0 c.num.ensures.value c.den.ensures.value a_is b_is c.change-change.ensures above num den constant) (some_den p.den c.args.value.den c.requires.above den) small.is_constant))
+    (shared_ratio small.constant (c.scaled-num.result *ℤ c.change-change.result.den +ℤ c.change-change.result.num *ℤ c.scaled-den.result) (c.scaled-den.result *ℤ c.change-change.result.den) c.in_ok-sum.sum.num c.in_ok-sum.sum.den divided (moved_from c.args.scale c.args.before.scale e p c.args.before.constant c.args.value.num c.args.value.den c.scaled-num.result c.scaled-den.result c.change-change.result.num c.change-change.result.den small.constant (is_move c.args.scale c.args.before.scale e p c.args.before.constant c.args.value.num c.args.value.den c.scaled-num.result c.scaled-den.result c.change-change.result.num c.change-change.result.den c.num.result c.den.result c.requires.before.0 c.num.ensures.value c.den.ensures.value a_is b_is c.change-change.ensures above num den constant) (some_den p.den c.args.value.den c.requires.above den) small.is_constant))
     small.num_small small.den_small)

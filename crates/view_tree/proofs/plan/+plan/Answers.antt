@@ -1,6 +1,7 @@
 use Rattle.std.proofs.Common.{◌∙◌, ◌<◌, ◌≤◌, ◌^◌, Some, ap, arith, sym, length}
 use Rattle.std.specs.Prelude.{codes}
 use Rattle.std.proofs.lemmas.List.{length-map}
+use Rattle.std.proofs.lemmas.Result.{err_from_is_err_and}
 use Rattle.serde_json.specs.View.{items_view, view}
 use Rattle.view_tree.specs.JsonTrees.{branch, height_in, no_branches}
 use Rattle.view_tree.specs.Plans.{pair_of, pairs_of}
@@ -31,20 +32,22 @@ plan_object-returns-in-None-clause-planned t c = (
 
 pub plan_object-overflow_add-result : goal.plan_object-overflow_add-result
 plan_object-overflow_add-result t c =
-    let below = c.in-Ok.ensures.planned in
+    let below = c.in_ok-height.ensures.planned in
     let few : height_in below.0 ≤ length (pairs_of c.plan_elements.new.views.items) = low_height c.in-Some.name.now below.0 (pairs_of c.push.new.self.items) (pairs_of c.plan_elements.new.views.items) below.2 in
     let len : length c.plan_elements.new.views.items < 2 ^ 63 = omega (arith, c.plan_elements.new.views.ok.0, c.plan_elements.new.views.ok.1, c.plan_elements.new.views.small) in
     record { fits = omega (arith, few, len, below.3, length-map c.plan_elements.new.views.items pair_of) }
 
-pub plan_object-returns-in-Ok-clause-planned : goal.plan_object-returns-in-Ok-clause-planned
-plan_object-returns-in-Ok-clause-planned t c =
-    let below = c.in-Ok.ensures.planned in (
+pub plan_object-returns-clause-planned : goal.plan_object-returns-clause-planned
+plan_object-returns-clause-planned t c =
+    let below = c.in_ok-height.ensures.planned in (
       branch c.in-Some.name.now below.0,
       object_some c.args.is_outermost (view c.args.value.now) c.in-Some.name.now (view c.in-Some-get.children.now) below.0 (sym c.has_shape.ensures ∙ c.if-not-has_shape.false) c.in-Some.ensures c.in-Some-get.ensures below.1,
       pairs_object c.args.views.now.items c.push.new.self.items (record { name = c.in-Some.name; parent = c.args.parent }) below.0 (pairs_of c.plan_elements.new.views.items) c.in_ok-push.ensures.items below.2,
       omega (arith, below.3),
     )
 
-pub plan_object-returns-in-Err-clause-other : goal.plan_object-returns-in-Err-clause-other
-plan_object-returns-in-Err-clause-other t c = λ e.
-    object_other c.args.is_outermost (view c.args.value.now) c.in-Some.name.now (view c.in-Some-get.children.now) (sym c.has_shape.ensures ∙ c.if-not-has_shape.false) c.in-Some.ensures c.in-Some-get.ensures (c.in-Err.ensures.other e)
+pub plan_object-returns-in_err-height-clause-other : goal.plan_object-returns-in_err-height-clause-other
+plan_object-returns-in_err-height-clause-other t c =
+    let exit = err_from_is_err_and c.from_residual-in_err-height.result c.from_residual-in_err-height.ensures.1 in
+    rw (exit.1, exit.2) (λ e.
+    object_other c.args.is_outermost (view c.args.value.now) c.in-Some.name.now (view c.in-Some-get.children.now) (sym c.has_shape.ensures ∙ c.if-not-has_shape.false) c.in-Some.ensures c.in-Some-get.ensures (c.in_err-height.ensures.other e))

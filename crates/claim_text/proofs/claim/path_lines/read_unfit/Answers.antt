@@ -4,7 +4,7 @@ use Rattle.claim_text.specs.Words.{words}
 use Rattle.claim_text.proofs.PathWords.{no_what}
 use Rattle.claim_text.proofs.claim.path_lines.read_unfit.Goals as goal
 
-pub returns-in-None-clause-none : goal.returns-in-None-clause-none
-returns-in-None-clause-none c = λ q is same.
-    let front : words c.args.line.now ≡ codes "unfit" ∷ c.in-Some.kind.now ∷ c.in-Some-next.name.now ∷ c.next-2.new.self = search rules in
-    no_what q c.in-Some.kind.now c.in-Some-next.name.now c.next-2.new.self is (ap (λ (ws : List (List ℕ)). drop 1 ws) (sym front ∙ same)) c.in-None.ensures.none
+pub returns-in_err-what_of-clause-none : goal.returns-in_err-what_of-clause-none
+returns-in_err-what_of-clause-none c = rw c.from_residual-in_err-what_of.ensures (λ q is same.
+    let front : words c.args.line.now ≡ codes "unfit" ∷ c.in_ok-kind.kind.now ∷ c.in_ok-name.name.now ∷ c.next-2.new.self = search rules in
+    no_what q c.in_ok-kind.kind.now c.in_ok-name.name.now c.next-2.new.self is (ap (λ (ws : List (List ℕ)). drop 1 ws) (sym front ∙ same)) c.in_err-what_of.ensures.none)

@@ -3,4 +3,4 @@ use Rattle.claim_text.proofs.problem.term_words.next_term.Goals as goal
 
 pub returns-else-is_above-clause-none : goal.returns-else-is_above-clause-none
 returns-else-is_above-clause-none c = λ t are is.
-    not_above c.args.terms.now c.in-Some.term t c.args.word.now c.is_above.result c.in-Some.ensures.some.0 c.in-Some.ensures.some.1 c.is_above.ensures c.if-is_above.false are is
+    not_above c.args.terms.now c.in_ok-term.term t c.args.word.now c.is_above.result c.in_ok-term.ensures.some.0 c.in_ok-term.ensures.some.1 c.is_above.ensures c.if-is_above.false are is

@@ -6,22 +6,22 @@ use Rattle.constraint_compile.proofs.Asked.{asks_long, usable}
 use Rattle.constraint_compile.proofs.format.refusals.checked.Goals as goal
 
 pub returns-clause-count : goal.returns-clause-count
-returns-clause-count c = asks_long c.args.tree.now.views c.args.metrics.now (lines_of c.args.tree.now.views (parts_view c.args.parts.now)) c.in-Ok.asked.rows.items (c.in-Ok.ensures.asks c.in-Ok-used.ensures.ok.ranks)
+returns-clause-count c = asks_long c.args.tree.now.views c.args.metrics.now (lines_of c.args.tree.now.views (parts_view c.args.parts.now)) c.in_ok-asked.asked.rows.items (c.in_ok-asked.ensures.asks c.in-Ok.ensures.ok.ranks)
 
 pub returns-clause-usable : goal.returns-clause-usable
-returns-clause-usable c = usable c.args.tree.now.views c.args.metrics.now c.args.axis c.args.align (parts_view c.args.parts.now) c.in-Ok.asked c.in-Ok.ensures.known c.in-Ok.ensures.parent c.in-Ok.ensures.space c.in-Ok.ensures.asks c.in-Ok-used.ensures.ok
+returns-clause-usable c = usable c.args.tree.now.views c.args.metrics.now c.args.axis c.args.align (parts_view c.args.parts.now) c.in_ok-asked.asked c.in_ok-asked.ensures.known c.in_ok-asked.ensures.parent c.in_ok-asked.ensures.space c.in_ok-asked.ensures.asks c.in-Ok.ensures.ok
 
 pub returns-clause-numbers : goal.returns-clause-numbers
 returns-clause-numbers c =
-    let count : length c.in-Ok.asked.rows.items ≡ row_count c.args.tree.now.views (parts_view c.args.parts.now) = asks_long c.args.tree.now.views c.args.metrics.now (lines_of c.args.tree.now.views (parts_view c.args.parts.now)) c.in-Ok.asked.rows.items (c.in-Ok.ensures.asks c.in-Ok-used.ensures.ok.ranks) in
-    let len : c.len.result ≡ length c.in-Ok.asked.rows.items = c.len.ensures ∙ c.in-Ok.asked.rows.ok.0 in
-    subst (λ (n : ℕ). IsPastNumbers c.args.first n → ⊥) (len ∙ count) (c.if-is_past_numbers.ensures.no refl)
+    let count : length c.in_ok-asked.asked.rows.items ≡ row_count c.args.tree.now.views (parts_view c.args.parts.now) = asks_long c.args.tree.now.views c.args.metrics.now (lines_of c.args.tree.now.views (parts_view c.args.parts.now)) c.in_ok-asked.asked.rows.items (c.in_ok-asked.ensures.asks c.in-Ok.ensures.ok.ranks) in
+    let len : c.len.result ≡ length c.in_ok-asked.asked.rows.items = c.len.ensures ∙ c.in_ok-asked.asked.rows.ok.0 in
+    subst (λ (n : ℕ). IsPastNumbers c.args.first_row n → ⊥) (len ∙ count) (c.if-is_past_numbers.ensures.no refl)
 
 pub returns-then-is_past_numbers-clause-stop : goal.returns-then-is_past_numbers-clause-stop
 returns-then-is_past_numbers-clause-stop c =
-    let count : length c.in-Ok.asked.rows.items ≡ row_count c.args.tree.now.views (parts_view c.args.parts.now) = asks_long c.args.tree.now.views c.args.metrics.now (lines_of c.args.tree.now.views (parts_view c.args.parts.now)) c.in-Ok.asked.rows.items (c.in-Ok.ensures.asks c.in-Ok-used.ensures.ok.ranks) in
-    let len : c.len.result ≡ length c.in-Ok.asked.rows.items = c.len.ensures ∙ c.in-Ok.asked.rows.ok.0 in (
-      usable c.args.tree.now.views c.args.metrics.now c.args.axis c.args.align (parts_view c.args.parts.now) c.in-Ok.asked c.in-Ok.ensures.known c.in-Ok.ensures.parent c.in-Ok.ensures.space c.in-Ok.ensures.asks c.in-Ok-used.ensures.ok,
+    let count : length c.in_ok-asked.asked.rows.items ≡ row_count c.args.tree.now.views (parts_view c.args.parts.now) = asks_long c.args.tree.now.views c.args.metrics.now (lines_of c.args.tree.now.views (parts_view c.args.parts.now)) c.in_ok-asked.asked.rows.items (c.in_ok-asked.ensures.asks c.in-Ok.ensures.ok.ranks) in
+    let len : c.len.result ≡ length c.in_ok-asked.asked.rows.items = c.len.ensures ∙ c.in_ok-asked.asked.rows.ok.0 in (
+      usable c.args.tree.now.views c.args.metrics.now c.args.axis c.args.align (parts_view c.args.parts.now) c.in_ok-asked.asked c.in_ok-asked.ensures.known c.in_ok-asked.ensures.parent c.in_ok-asked.ensures.space c.in_ok-asked.ensures.asks c.in-Ok.ensures.ok,
       refl,
-      subst (IsPastNumbers c.args.first) (len ∙ count) (c.if-is_past_numbers.ensures.yes refl),
+      subst (IsPastNumbers c.args.first_row) (len ∙ count) (c.if-is_past_numbers.ensures.yes refl),
     )

@@ -9,6 +9,6 @@ use Rattle.constraint_compile.proofs.format.rows.rows_of.Given as goal
 abbrev pub invariant-loop-ask : goal.invariant-loop-ask
 invariant-loop-ask l = record {
   forms : AreForms l.found.rows.items;
-  found : (views : List LiveView) (lines : List Linear) → AreAsks views l.metrics lines (take l.ask-index l.asks) → IsFound views l.metrics lines l.first (map form_view l.found.rows.items) l.found.limit;
-  number : l.id ≡ l.first + l.ask-index;
+  found : (views : List LiveView) (lines : List Linear) → AreAsks views l.metrics lines (take l.ask-index l.asks) → IsFound views l.metrics lines l.first_row (map form_view l.found.rows.items) l.found.limit;
+  number : l.id ≡ l.first_row + l.ask-index;
 }

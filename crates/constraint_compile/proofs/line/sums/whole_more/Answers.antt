@@ -16,7 +16,7 @@ returns-clause-value c =
     let halves_fits : SFits w64 c.halves.result = record { sfits = c.halves.type_inv } in
     let times_fits : SFits w64 c.times_halves.result = record { sfits = c.times_halves.type_inv } in
     let times : c.times_halves.result ≡ c.args.share.now.by.num *ℤ coefficient c.args.attr (form c.args.share.now.of) = rw (c.num.ensures.value, c.halves.ensures.value) at (simp to_z-of_z at c.times_halves.ensures.value) in
-    let exact : c.in-Some.more *ℤ pos 2 ≡ c.times_halves.result = simp (to_z-of_z, times_fits) at c.in-Some.ensures.value in
-    let sum : SFits w64 (c.args.number +ℤ c.in-Some.more) = sum_fits c.args.number c.in-Some.more c.requires.number c.in-Some.ensures.small in
-    let more : SFits w64 c.in-Some.more = fits_signed_from_abs w64 c.in-Some.more (omega (arith, c.in-Some.ensures.small)) in
-    simp (to_z-of_z, c.ranges.number, more, sum) (whole_value c.args.number c.in-Some.more c.args.share.now.by.num (coefficient c.args.attr (form c.args.share.now.of)) c.args.share.now.by.den c.requires.den (rw times at exact))
+    let exact : c.in_ok-more.more *ℤ pos 2 ≡ c.times_halves.result = simp (to_z-of_z, times_fits) at c.in_ok-more.ensures.value in
+    let sum : SFits w64 (c.args.number +ℤ c.in_ok-more.more) = sum_fits c.args.number c.in_ok-more.more c.requires.number c.in_ok-more.ensures.small in
+    let more : SFits w64 c.in_ok-more.more = fits_signed_from_abs w64 c.in_ok-more.more (omega (arith, c.in_ok-more.ensures.small)) in
+    simp (to_z-of_z, c.ranges.number, more, sum) (whole_value c.args.number c.in_ok-more.more c.args.share.now.by.num (coefficient c.args.attr (form c.args.share.now.of)) c.args.share.now.by.den c.requires.den (rw times at exact))
