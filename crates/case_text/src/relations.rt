@@ -1,4 +1,4 @@
-// Relations as text.
+// Relations as scripts write them.
 use problem_core::Rel;
 
 /// The sign of a relation, as a script writes it.

@@ -2,6 +2,7 @@
 use Rattle.std.specs.Prelude.{◌≡◌, ◌⊎◌, ℕ, ◌+◌, Bool, true, false, List, [], ◌∷◌, ◌++◌, length, codes}
 use Rattle.std.specs.Prelude.{decimal}
 use Rattle.std.specs.Str.Lines.{lines}
+use Rattle.span_text.specs.Bytes.{newline}
 use Rattle.problem_core.specs.Layout.{Problem}
 use Rattle.cert_checker.specs.declared.verdict.Verdict.{Verdict}
 use Rattle.cert_checker.specs.declared.verdict.Verdict.TheVariants.{Yes, No, NoRoom}
@@ -55,10 +56,10 @@ IsAnswerTo all (Judged v) = IsJudged all v
 IsAnswerTo all (Bad n) = IsBad all n
 
 abbrev pub answer_text : Answer → List ℕ
-answer_text (Judged Yes) = codes "yes" ++ 10 ∷ []
-answer_text (Judged (No clause)) = codes "no " ++ (decimal clause ++ 10 ∷ [])
-answer_text (Judged (NoRoom place)) = codes "no room " ++ (decimal place ++ 10 ∷ [])
-answer_text (Bad n) = codes "bad " ++ (decimal n ++ 10 ∷ [])
+answer_text (Judged Yes) = codes "yes" ++ newline ∷ []
+answer_text (Judged (No clause)) = codes "no " ++ (decimal clause ++ newline ∷ [])
+answer_text (Judged (NoRoom place)) = codes "no room " ++ (decimal place ++ newline ∷ [])
+answer_text (Bad n) = codes "bad " ++ (decimal n ++ newline ∷ [])
 
 abbrev pub is_yes : Answer → Bool
 is_yes (Judged Yes) = true

@@ -1,6 +1,7 @@
 -- The text of what is found of a scene, and of the probe that stopped.
 use Rattle.std.specs.Prelude.{ℕ, Bool, true, false, cond, nat_eq, List, [], ◌∷◌, ◌++◌, codes, decimal}
 use Rattle.std.specs.Prelude.{Option, Some, None}
+use Rattle.span_text.specs.Bytes.{newline, point, space}
 use Rattle.frac_core.specs.Fraction.{Fraction}
 use Rattle.frac_core.specs.Text.{fraction_text}
 use Rattle.view_tree.specs.Attributes.{left_of, top_of, width_of, height_of}
@@ -18,7 +19,7 @@ word_at id attr =
 -- the view's name, a point and the word; where there is no word, the other name
 abbrev pub name_or : List ℕ → Option (List ℕ) → List ℕ → List ℕ
 name_or name None other = other
-name_or name (Some word) other = name ++ (46 ∷ word)
+name_or name (Some word) other = name ++ (point ∷ word)
 
 -- the name of an attribute of one of these views
 abbrev pub attr_name : List LiveView → ℕ → List ℕ
@@ -27,7 +28,7 @@ attr_name (v ∷ views) attr = name_or v.name (word_at v.id attr) (attr_name vie
 
 -- a word, a number or a name, and a value
 unfoldable pub found_line : List ℕ → List ℕ → Fraction → List ℕ
-found_line word name f = word ++ (name ++ (32 ∷ (fraction_text f ++ 10 ∷ [])))
+found_line word name f = word ++ (name ++ (space ∷ (fraction_text f ++ newline ∷ [])))
 
 -- `error P SUM`
 abbrev pub error_line : ℕ × Fraction → List ℕ
@@ -56,4 +57,4 @@ way_text false = codes " down"
 
 -- `probe NAME.ATTR up`, or `down`
 abbrev pub probe_line : List LiveView → ℕ → Bool → List ℕ
-probe_line views attr up = codes "probe " ++ (attr_name views attr ++ (way_text up ++ 10 ∷ []))
+probe_line views attr up = codes "probe " ++ (attr_name views attr ++ (way_text up ++ newline ∷ []))

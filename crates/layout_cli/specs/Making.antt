@@ -1,6 +1,7 @@
 -- What is written of a run of the script that is made.
 use Rattle.std.specs.Prelude.{◌≡◌, ℕ, ◌+◌, ◌-◌, ◌==◌, Bool, List, [], ◌∷◌, ◌++◌, length, codes, decimal, cond}
 use Rattle.std.specs.Str.Lines.{lines}
+use Rattle.span_text.specs.Bytes.{newline}
 use Rattle.make_script.specs.Script.{script}
 use Rattle.session_undo.specs.Scene.{Scene, State, first_state}
 use Rattle.session_undo.specs.Replies.{Reply, is_accepted}
@@ -21,7 +22,7 @@ Refuses old (line ∷ more) refused new = (reply : Reply) × (mid : State) × (r
 -- how many lines there were, how many were refused, and how many rows are held
 unfoldable pub summary_line : ℕ → ℕ → ℕ → List ℕ
 summary_line lines refused rows = codes "made lines " ++ (decimal lines ++ (codes " refused "
-    ++ (decimal refused ++ (codes " rows " ++ (decimal rows ++ 10 ∷ [])))))
+    ++ (decimal refused ++ (codes " rows " ++ (decimal rows ++ newline ∷ [])))))
 
 -- the line of the frame of the last view
 abbrev pub last_line : Scene → List ℕ

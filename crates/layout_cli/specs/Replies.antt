@@ -1,5 +1,6 @@
 -- The text of replies.
 use Rattle.std.specs.Prelude.{ℕ, Bool, List, [], ◌∷◌, ◌++◌, codes, decimal}
+use Rattle.span_text.specs.Bytes.{newline, point, space}
 use Rattle.frac_core.specs.Fraction.{Fraction}
 use Rattle.frac_core.specs.Text.{fraction_text}
 use Rattle.problem_core.specs.Gaps.{value_of}
@@ -51,12 +52,12 @@ kind_text kind.Tree = codes "tree"
 
 -- a space and the fraction
 unfoldable pub value_text : Fraction → List ℕ
-value_text f = 32 ∷ fraction_text f
+value_text f = space ∷ fraction_text f
 
 -- the name of a view, and its left, top, width and height
 unfoldable pub frame_line : List ℕ → Fraction → Fraction → Fraction → Fraction → List ℕ
-frame_line name left top width height = codes "frame "
-    ++ (name ++ (value_text left ++ (value_text top ++ (value_text width ++ (value_text height ++ 10 ∷ [])))))
+frame_line name left top width height = codes "frame " ++ (name
+    ++ (value_text left ++ (value_text top ++ (value_text width ++ (value_text height ++ newline ∷ [])))))
 
 abbrev pub frame_of : List (ℕ × Fraction) → LiveView → List ℕ
 frame_of values v = frame_line v.name (value_of values (left_of v.id)) (value_of values (top_of v.id))
@@ -64,7 +65,8 @@ frame_of values v = frame_line v.name (value_of values (left_of v.id)) (value_of
 
 -- `# ID NAME.ATTR`
 unfoldable pub name_line : ℕ → List ℕ → List ℕ → List ℕ
-name_line attr name word = codes "# " ++ (decimal attr ++ (32 ∷ (name ++ (46 ∷ (word ++ 10 ∷ [])))))
+name_line attr name word = codes "# "
+    ++ (decimal attr ++ (space ∷ (name ++ (point ∷ (word ++ newline ∷ [])))))
 
 -- the lines that name a view's attributes
 abbrev pub names_of : LiveView → List ℕ
@@ -79,7 +81,7 @@ text_of_each text [] = []
 text_of_each text (v ∷ more) = text v ++ text_of_each text more
 
 abbrev pub line_of : List ℕ → List ℕ
-line_of bytes = bytes ++ 10 ∷ []
+line_of bytes = bytes ++ newline ∷ []
 
 abbrev pub frames_text : Scene → List ℕ
 frames_text scene = text_of_each (frame_of scene.values) scene.tree.views ++ line_of (codes "ok")
@@ -100,7 +102,7 @@ conflict_text by = codes "refused 6 " ++ claim_text (IsConflict by)
 
 -- `still ID`
 abbrev pub still_line : ℕ → List ℕ
-still_line id = codes "still " ++ (decimal id ++ 10 ∷ [])
+still_line id = codes "still " ++ (decimal id ++ newline ∷ [])
 
 -- one line for each row that is still held
 abbrev pub still_text : List ℕ → List ℕ
@@ -136,13 +138,13 @@ refusal_text views Frames = []
 refusal_text views Rows = []
 refusal_text views (Certificate levels) = []
 refusal_text views (Diagnosed findings) = []
-refusal_text views (Outside at) = codes "refused 1 syntax " ++ (decimal at ++ 10 ∷ [])
-refusal_text views (Unknown name) = codes "refused 2 unknown " ++ (name ++ 10 ∷ [])
-refusal_text views (Taken name) = codes "refused 3 taken " ++ (name ++ 10 ∷ [])
-refusal_text views (Limit word) = codes "refused 4 limit " ++ (limit_text word ++ 10 ∷ [])
-refusal_text views (Kind word) = codes "refused 5 kind " ++ (kind_text word ++ 10 ∷ [])
+refusal_text views (Outside at) = codes "refused 1 syntax " ++ (decimal at ++ newline ∷ [])
+refusal_text views (Unknown name) = codes "refused 2 unknown " ++ (name ++ newline ∷ [])
+refusal_text views (Taken name) = codes "refused 3 taken " ++ (name ++ newline ∷ [])
+refusal_text views (Limit word) = codes "refused 4 limit " ++ (limit_text word ++ newline ∷ [])
+refusal_text views (Kind word) = codes "refused 5 kind " ++ (kind_text word ++ newline ∷ [])
 refusal_text views (Conflict by) = conflict_text by
-refusal_text views NoEarlier = codes "refused 9 " ++ (codes "undo" ++ 10 ∷ [])
+refusal_text views NoEarlier = codes "refused 9 " ++ (codes "undo" ++ newline ∷ [])
 refusal_text views (Overflow place path quantity) = overflow_text views place path quantity
 refusal_text views (Spent place path) = spent_text views place path
 refusal_text views (NoTarget attr up) = target_text views attr up

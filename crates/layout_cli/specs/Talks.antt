@@ -3,6 +3,7 @@ use Rattle.std.specs.Prelude.{◌≡◌, ◌⊎◌, ℕ, ◌+◌, ◌<◌, Bool,
 use Rattle.std.specs.Prelude.{length, Option, Some, None}
 use Rattle.std.specs.Str.Lines.{lines}
 use Rattle.std.specs.Io.KnownBytes.{Appends, Consumes, IsAtEnd}
+use Rattle.span_text.specs.Bytes.{newline}
 use Rattle.edge_io.specs.Feed.{Pending, IsUnended}
 use Rattle.edge_io.specs.declared.feed.TheConstants.{LINE_LIMIT}
 use Rattle.session_undo.specs.Scene.{State, first_state}
@@ -13,7 +14,7 @@ use Rattle.layout_cli.specs.Replies.{text_of}
 
 -- there is no byte, or the last one ends a line
 abbrev pub AreWholeLines : List ℕ → Type 0
-AreWholeLines bytes = (bytes ≡ []) ⊎ ((front : List ℕ) × (bytes ≡ front ++ 10 ∷ []))
+AreWholeLines bytes = (bytes ≡ []) ⊎ ((front : List ℕ) × (bytes ≡ front ++ newline ∷ []))
 
 -- what was written are the replies to the whole lines among these bytes, and no others
 pub record AnswersWhole (before now : Option (List ℕ)) (taken : List ℕ) : Type 0 where

@@ -1,6 +1,7 @@
 // The check of a claim on a problem.
 ghost use Rattle.std.specs.Prelude.{◌≡◌, ◌<◌, ◌-◌, ◌++◌, ◌∷◌, [], IfOk, decimal, length};
 ghost use Rattle.std.specs.Str.Lines.{lines};
+ghost use Rattle.span_text.specs.Bytes.{newline};
 ghost use Rattle.claim_text.specs.ClaimTexts.{HasNoMoreParts};
 ghost use Rattle.claim_text.specs.declared.limits.TheConstants.{TEXT_LIMIT};
 ghost use Rattle.layout_cli.specs.Checks.{IsAnswerTo, IsCheckOf, IsVerdictOn};
@@ -77,7 +78,7 @@ fn answer_to(alloc: Global, input: &[u8]) -> Result<Answer, OutOfMemory>
 
 // Some bytes, a number and the end of the line.
 fn number_line(alloc: Global, front: &[u8], number: u64) -> Result<Vec<u8>, OutOfMemory>
-    ensures { IfOk result (λ v. v.items ≡ front.now ++ (decimal number ++ 10 ∷ [])) }
+    ensures { IfOk result (λ v. v.items ≡ front.now ++ (decimal number ++ newline ∷ [])) }
 {
     let mut word = String::new(alloc);
     write!(word, "{number}")?;

@@ -25,7 +25,7 @@ impl From<AllocError> for InputStop {
     }
 }
 
-/// The most bytes of one pull.
+// The most bytes of one pull.
 const PIECE: usize = 4096;
 
 /// All that the source has left, which is at most `limit` bytes.

@@ -1,5 +1,6 @@
 // The text of what is found of a scene, and of the probe that stopped.
 ghost use Rattle.std.specs.Prelude.{◌≡◌, ◌<◌, ◌++◌, ◌∷◌, [], Some, None, slice_get, IfOk, IfSome, IfNone};
+ghost use Rattle.span_text.specs.Bytes.{newline, point, space};
 ghost use Rattle.frac_core.specs.Text.{fraction_text};
 ghost use Rattle.view_tree.specs.Views.{LiveView};
 ghost use Rattle.view_tree.specs.declared.limits.TheConstants.{ID_LIMIT};
@@ -34,7 +35,7 @@ fn word_of(view: ViewId, attr: u32) -> Option<&'static str>
 
 // Appends a name, a point and a word.
 fn push_name(out: &mut Vec<u8>, name: &str, word: &str) -> Result<(), OutOfMemory>
-    ensures { IfOk result (λ _. out.new.items ≡ out.old.items ++ (name.now ++ 46 ∷ word.now)) }
+    ensures { IfOk result (λ _. out.new.items ≡ out.old.items ++ (name.now ++ point ∷ word.now)) }
 {
     out.extend_from_slice(name.as_bytes())?;
     out.push(b'.')?;
@@ -81,7 +82,8 @@ pub(crate) fn push_attr(out: &mut Vec<u8>, tree: &Tree, attr: u32) -> Result<(),
 // Appends a space, a value and the end of the line.
 #[tactic(auto, unfolding(crate::specs::Replies::value_text))]
 fn push_end(out: &mut Vec<u8>, value: Wide) -> Result<(), OutOfMemory>
-    ensures { IfOk result (λ _. out.new.items ≡ out.old.items ++ (32 ∷ (fraction_text value ++ 10 ∷ []))) }
+    ensures { IfOk result (λ _. out.new.items
+        ≡ out.old.items ++ (space ∷ (fraction_text value ++ newline ∷ []))) }
 {
     push_value(out, value)?;
     out.push(b'\n')?;

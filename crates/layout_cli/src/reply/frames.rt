@@ -3,7 +3,7 @@ ghost use Rattle.std.specs.Prelude.{◌≡◌, ◌++◌, ◌∷◌, [], IfOk, So
 ghost use Rattle.view_tree.specs.Views.{LiveView};
 ghost use Rattle.layout_cli.specs.Replies.{value_text, frame_line, frame_of, text_of_each};
 
-use frac_core::{Frac, OutOfMemory, Wide, write_frac};
+use frac_core::{FRACTION_ROOM, Frac, OutOfMemory, Wide, write_frac};
 use session_undo::Scene;
 
 // Left, top, width and height of a view, in window coordinates.
@@ -15,15 +15,12 @@ pub(crate) struct Frame {
     pub height: Frac,
 }
 
-/// The room for a value as it is written.
-pub(crate) const VALUE_ROOM: usize = 82;
-
 /// Appends a space and a value.
 #[tactic(auto, unfolding(crate::specs::Replies::value_text))]
 pub(crate) fn push_value(out: &mut Vec<u8>, value: Wide) -> Result<(), OutOfMemory>
     ensures { IfOk result (λ _. out.new.items ≡ out.old.items ++ value_text value) }
 {
-    let mut text = [0; VALUE_ROOM];
+    let mut text = [0; FRACTION_ROOM];
     let end = write_frac(value, &mut text);
     out.push(b' ')?;
     out.extend_from_slice(&text[..end])?;

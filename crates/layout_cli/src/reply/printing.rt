@@ -4,13 +4,13 @@ ghost use Rattle.std.specs.Io.KnownBytes.{Appends};
 ghost use Rattle.edge_io.specs.Cause.{HasCause};
 ghost use Rattle.layout_cli.specs.Printing.{HasFront, line_at};
 ghost use Rattle.layout_cli.specs.Replies.{value_text, frame_line, frames_text};
-ghost use Rattle.layout_cli.specs.declared.reply.frames.TheConstants.{VALUE_ROOM};
+ghost use Rattle.frac_core.specs.declared.text.TheConstants.{FRACTION_ROOM};
 ghost use Rattle.layout_cli.specs.declared.reply.printing.TheConstants.{LINE_ROOM};
 ghost use Rattle.name_tables.specs.declared.stops.TheConstants.{NAME_LIMIT};
 
-use crate::reply::frames::{Frame, VALUE_ROOM, named};
+use crate::reply::frames::{Frame, named};
 use edge_io::{Failed, Sink, put_all};
-use frac_core::{Frac, Wide, write_frac};
+use frac_core::{FRACTION_ROOM, Frac, Wide, write_frac};
 use session_undo::{Scene, Session};
 
 // The room for the line of a frame: its words and spaces, a name, and four values.
@@ -30,11 +30,11 @@ fn write_bytes(line: &mut [u8; LINE_ROOM], at: usize, bytes: &[u8]) -> usize
 // Writes a space and a value.
 #[tactic(auto, unfolding(crate::specs::Replies::value_text))]
 fn write_value(line: &mut [u8; LINE_ROOM], at: usize, value: Frac) -> usize
-    requires { at + VALUE_ROOM + 1 ≤ LINE_ROOM }
-    ensures within { result ≤ at + VALUE_ROOM + 1 }
+    requires { at + FRACTION_ROOM + 1 ≤ LINE_ROOM }
+    ensures within { result ≤ at + FRACTION_ROOM + 1 }
     ensures text { take result line.new ≡ take at line.old ++ value_text value }
 {
-    let mut text = [0; VALUE_ROOM];
+    let mut text = [0; FRACTION_ROOM];
     let end = write_frac(Wide::from(value), &mut text);
     let at = write_bytes(line, at, b" ");
     write_bytes(line, at, &text[..end])

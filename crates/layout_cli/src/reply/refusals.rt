@@ -1,5 +1,6 @@
 // The text of refusals.
 ghost use Rattle.std.specs.Prelude.{◌≡◌, ◌++◌, ◌∷◌, [], IfOk, codes, decimal};
+ghost use Rattle.span_text.specs.Bytes.{newline};
 ghost use Rattle.session_undo.specs.Replies.{IsTold, place_of};
 ghost use Rattle.layout_cli.specs.Replies.{limit_text, kind_text, refusal_text, conflict_text};
 ghost use Rattle.layout_cli.specs.Replies.{overflow_text, place_text, spent_text, still_line, still_text};
@@ -50,7 +51,7 @@ fn kind_text(word: KindWord) -> &'static str
 
 /// Appends some bytes, a word and the end of the line.
 pub fn push_line(out: &mut Vec<u8>, front: &[u8], word: &[u8]) -> Result<(), OutOfMemory>
-    ensures { IfOk result (λ _. out.new.items ≡ out.old.items ++ (front.now ++ (word.now ++ 10 ∷ []))) }
+    ensures { IfOk result (λ _. out.new.items ≡ out.old.items ++ (front.now ++ (word.now ++ newline ∷ []))) }
 {
     out.extend_from_slice(front)?;
     out.extend_from_slice(word)?;
@@ -60,7 +61,7 @@ pub fn push_line(out: &mut Vec<u8>, front: &[u8], word: &[u8]) -> Result<(), Out
 
 fn push_outside(out: &mut Vec<u8>, at: usize) -> Result<(), OutOfMemory>
     ensures { IfOk result (λ _. out.new.items ≡ out.old.items
-        ++ (codes "refused 1 syntax " ++ (decimal at ++ 10 ∷ []))) }
+        ++ (codes "refused 1 syntax " ++ (decimal at ++ newline ∷ []))) }
 {
     let mut word = String::new(*out.allocator());
     write!(word, "{at}")?;
