@@ -1,4 +1,4 @@
-// Calls on views.
+// Calls on the tree of views, each told by what it gives.
 use frac_core::{Frac, OutOfMemory};
 use name_tables::Metrics;
 use std::alloc::Global;

@@ -2,13 +2,14 @@
 use crate::kinds::Answer;
 use cert_core::Path;
 use frac_core::OutOfMemory;
-use path_checker::PathVerdict;
+use path_checker::{PATH_LIMIT, PathVerdict};
 use path_claims::check_path;
 use problem_core::{Problem, Quantity};
 use std::alloc::Global;
 
-/// The greatest number of marks, and of exchanges, of a path that is judged.
-const LIMIT: usize = 1 << 29;
+// The greatest number of marks, and of exchanges, of a path that is judged: both together are below the
+// number that the checker counts.
+const LIMIT: usize = PATH_LIMIT / 4;
 
 // The verdict, or none on a path of too many parts. Nothing here needs a clause of `check_path`.
 fn verdict_on(

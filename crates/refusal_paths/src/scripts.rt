@@ -124,8 +124,6 @@ fn found_by(alloc: Global, session: Session, script: &str) -> Result<Vec<Found>,
 
 /// What is found of each refusal with a path, where a session takes the lines of a script.
 pub fn found_in(alloc: Global, script: &str) -> Result<Vec<Found>, OutOfMemory> {
-    match first_session(alloc) {
-        Ok(session) => found_by(alloc, session, script),
-        Err(OutOfMemory) => Err(OutOfMemory),
-    }
+    let session = first_session(alloc)?;
+    found_by(alloc, session, script)
 }
