@@ -4,6 +4,7 @@ ghost use Rattle.std.specs.Prelude.{◌≡◌, IfOk};
 use std::io;
 use std::io::{ErrorKind, Read, Write};
 
+/// A stream that fails once it is used.
 #[derive(Drop)]
 pub struct Broken {
     pub is_used: bool,

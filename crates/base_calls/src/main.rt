@@ -15,8 +15,11 @@
 //! add y                   Err(Full)
 //! ```
 //!
-//! In reading order: `cases` (the headings), `tables`, `views`, `sources`, `sinks`, `broken` (a stream that
-//! fails).
+//! What the answers keep: they stand in the order of the lines, and depend on the lines since their heading
+//! alone.
+//!
+//! In reading order: `tables`, `views`, `broken` (a stream that fails), `sources`, `sinks`, `cases` (the
+//! headings).
 #![tactic(auto)]
 
 mod broken;

@@ -10,6 +10,8 @@
 //! }
 //! ```
 //!
+//! What [`print_answers`] keeps: the status is 0 only where all that `printed` made of the input was written.
+//!
 //! In reading order: `escapes` (text lines, read and written), `program` (input, output and exit
 //! status), `relations` (texts that several of the programs print).
 #![tactic(auto)]

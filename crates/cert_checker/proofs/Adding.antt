@@ -8,7 +8,7 @@ use Rattle.problem_core.specs.Layout.{coefficient}
 use Rattle.frac_core.proofs.Integers.{mul-add_left}
 use Rattle.problem_core.proofs.Forms.{sum-more}
 use Rattle.cert_checker.specs.LineSums.{sum_at, IsAdded}
-use Rattle.cert_checker.proofs.Sizes.{size-add}
+use Rattle.frac_core.proofs.Numbers.{size-sum as size-add}
 
 step : (x y s k p w : ℤ) (times b : ℤ) → p ≡ x +ℤ times *ℤ s → w ≡ times *ℤ b → y ≡ p +ℤ w → y ≡ x +ℤ times *ℤ (s +ℤ b)
 step x y s k p w times b e f g = omega (arith, ints, e, f, g, mul-add_left times s b)

@@ -7,10 +7,11 @@ use Rattle.problem_core.specs.declared.parts.RowName.TheVariants.{Held, Stay as 
 use Rattle.problem_core.specs.declared.parts.Stay.{Stay}
 use Rattle.problem_core.specs.Layout.{Row, Line, Problem, lines}
 use Rattle.problem_core.specs.Kept.{IsWhole}
+use Rattle.problem_core.proofs.RowNames.{held-same, stay-same, held-not-stay}
 use Rattle.cert_checker.specs.LineSums.{line_count}
 use Rattle.cert_checker.specs.LinePlaces.{names}
-use Rattle.cert_checker.proofs.Indexes.{row_name, stay_name, held-same, stay-same, held-stay, length-lines, no_row, no_stay}
-use Rattle.cert_checker.proofs.Swapping.{AreApart}
+use Rattle.cert_checker.proofs.Indexes.{row_name, stay_name, length-lines, no_row, no_stay}
+use Rattle.cert_checker.proofs.Written.Swapping.{AreApart}
 
 rows-apart : (p : Problem) → IsWhole p → (i j : ℕ) → i < j → j < length p.rows → get_or (map (λ r. r.id) p.rows) i 0 ≡ get_or (map (λ r. r.id) p.rows) j 0 → i ≡ j
 rows-apart p w i j l m e =
@@ -36,7 +37,7 @@ names-apart p w i j e l m same =
           let to_j : get_or (names p) j e ≡ StayOf (get_or (map (λ s. s.attr) p.stays) (j - length p.rows) 0) =
           ap (λ (k : ℕ). get_or (names p) k e) (let q : j ≡ length p.rows + (j - length p.rows) = omega (arith, n) in q) ∙ stay_name p (j - length p.rows) e (omega (arith, m, n)) in
           elim (cases_lt i (length p.rows)) [
-            | inl o ↦ absurd (held-stay _ _ (sym (row_name p i e o) ∙ same ∙ to_j))
+            | inl o ↦ absurd (held-not-stay _ _ (sym (row_name p i e o) ∙ same ∙ to_j))
             | inr o ↦
                 let to_i : get_or (names p) i e ≡ StayOf (get_or (map (λ s. s.attr) p.stays) (i - length p.rows) 0) =
                 ap (λ (k : ℕ). get_or (names p) k e) (let q : i ≡ length p.rows + (i - length p.rows) = omega (arith, o) in q) ∙ stay_name p (i - length p.rows) e (omega (arith, l, m, n, o)) in

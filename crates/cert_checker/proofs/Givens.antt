@@ -3,11 +3,7 @@ use Rattle.std.proofs.Common.{◌≡◌, ℕ, zero, suc, ◌*◌, ◌<◌, cond,
 use Rattle.frac_core.specs.Fraction.{Fraction}
 use Rattle.frac_core.proofs.Integers.{mul_assoc_ℤ}
 use Rattle.problem_core.specs.Layout.{Assignment, Gives}
-
-some_product : (a b : ℕ) → 0 < a → 0 < b → 0 < a * b
-some_product zero b l m = absurd (omega (arith, l))
-some_product (suc a) zero l m = absurd (omega (arith, m))
-some_product (suc a) (suc b) l m = omega arith
+use Rattle.frac_core.proofs.Numbers.{product-above as some_product}
 
 with-value : (v : ℕ × Fraction) → 0 < v.1.den → Assignment → Assignment
 with-value v some x = record {

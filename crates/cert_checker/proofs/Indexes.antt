@@ -1,5 +1,5 @@
 -- An index of numbers, one number more at a time, and what it finds among a problem's lines.
-use Rattle.std.proofs.Common.{◌≡◌, ℕ, suc, ◌+◌, ◌-◌, ◌<◌, false, List, [], ◌∷◌, ◌++◌, map, length, take, get_or, Option, Some, None, BTreeMap, refl, sym, ap, subst, ◌∙◌, inl, inr, arith, Contains, MatchOption, IfSome, IfNone, pos}
+use Rattle.std.proofs.Common.{◌≡◌, ℕ, ◌+◌, ◌-◌, ◌<◌, false, List, [], ◌∷◌, ◌++◌, map, length, take, get_or, Option, Some, None, BTreeMap, sym, ap, subst, ◌∙◌, inl, inr, arith, Contains, MatchOption, IfSome, IfNone, pos}
 use Rattle.std.proofs.lemmas.Bool.Decides.{nat_tests}
 use Rattle.std.specs.Ordering.{nat_cmp}
 use Rattle.std.specs.BTreeMap.{Updates, is_at, get}
@@ -12,9 +12,11 @@ use Rattle.problem_core.specs.declared.parts.RowName.TheVariants.{Held, Stay as 
 use Rattle.problem_core.specs.declared.parts.Stay.{Stay}
 use Rattle.problem_core.specs.declared.parts.Rel.TheVariants.{Eq}
 use Rattle.problem_core.specs.Layout.{Row, Problem, lines, line_of_row, stay_lines}
+use Rattle.problem_core.proofs.RowNames.{held-not-stay, held-same, stay-same}
 use Rattle.cert_checker.specs.LineSums.{line_count}
 use Rattle.cert_checker.specs.LinePlaces.{IsIndex, names, name_at}
 use Rattle.cert_checker.proofs.LinePlaces.{row-at, stay-at}
+use Rattle.problem_core.proofs.Lines.{length-stays}
 
 apart : (x q : ℕ) → (x ≡ q → ⊥) → is_at (nat_cmp x) q ≡ false
 apart x q n = grind (arith, nat_tests)
@@ -51,10 +53,6 @@ no_row = record { id = 0; rank = 0; weight = 0; rel = Eq; scale = 0; constant = 
 pub no_stay : Stay
 no_stay = record { attr = 0; target = record { num = pos 0; den = 0 } }
 
-length-stays : (base : ℕ) (stays : List Stay) → length (stay_lines base stays) ≡ length stays
-length-stays base [] = refl
-length-stays base (s ∷ stays) = ap suc (length-stays (base + 1) stays)
-
 pub length-lines : (p : Problem) → length (lines p) ≡ line_count p
 length-lines p = omega (arith, length-append (map line_of_row p.rows) (stay_lines 1001 p.stays), length-map p.rows line_of_row, length-stays 1001 p.stays)
 
@@ -78,21 +76,6 @@ stay_found p attr k (l, e) =
     let m : k < length p.stays = omega (arith, l, length-map p.stays (λ (s : Stay). s.attr)) in
     (omega (arith, m), stay_name p k (Held 0) m ∙ ap StayOf e)
 
-number_of : RowName → ℕ
-number_of (Held id) = id
-number_of (StayOf attr) = attr
-
-pub held-same : (a b : ℕ) → Held a ≡ Held b → a ≡ b
-unfolding number_of
-held-same a b e = ap number_of e
-
-pub stay-same : (a b : ℕ) → StayOf a ≡ StayOf b → a ≡ b
-unfolding number_of
-stay-same a b e = ap number_of e
-
-pub held-stay : (a b : ℕ) → Held a ≡ StayOf b → ⊥
-held-stay a b e = cc
-
 has : (xs : List ℕ) (k q : ℕ) → k < length xs → get_or xs k 0 ≡ q → Contains xs q
 has xs k q l e = subst (Contains xs) e (Contains-get_or xs k 0 l)
 
@@ -103,14 +86,14 @@ row_missing p id none (k, l, e) =
           none (has (map (λ r. r.id) p.rows) k id (omega (arith, m, length-map p.rows (λ (r : Row). r.id))) (held-same _ id (sym (row_name p k (Held id) m) ∙ e)))
       | inr m ↦
           let j : k ≡ length p.rows + (k - length p.rows) = omega (arith, m) in
-          held-stay id (get_or (map (λ s. s.attr) p.stays) (k - length p.rows) 0)
+          held-not-stay id (get_or (map (λ s. s.attr) p.stays) (k - length p.rows) 0)
           (sym e ∙ ap (λ (n : ℕ). get_or (names p) n (Held id)) j ∙ stay_name p (k - length p.rows) (Held id) (omega (arith, l, m, length-names p)))
     ]
 
 pub stay_missing : (p : Problem) (attr : ℕ) → (Contains (map (λ s. s.attr) p.stays) attr → ⊥) → Contains (names p) (StayOf attr) → ⊥
 stay_missing p attr none (k, l, e) =
     elim (cases_lt k (length p.rows)) [
-      | inl m ↦ held-stay _ attr (sym (row_name p k (StayOf attr) m) ∙ e)
+      | inl m ↦ held-not-stay _ attr (sym (row_name p k (StayOf attr) m) ∙ e)
       | inr m ↦
           let j : k ≡ length p.rows + (k - length p.rows) = omega (arith, m) in
           let short : k - length p.rows < length p.stays = omega (arith, l, m, length-names p) in

@@ -21,7 +21,7 @@ use Rattle.problem_core.specs.Kept.{IsRow, IsWhole}
 use Rattle.problem_core.specs.Certificates.{HasSign, required, IsRefutation}
 use Rattle.frac_core.proofs.Integers.{zero-mul_ℤ, mul_positive, positive_from, shift_factor}
 use Rattle.problem_core.proofs.Forms.{each-impl, each-both, each-filter, mul-sum, product-shares, product-positive}
-use Rattle.problem_core.proofs.Conflicts.{by_required, sum-each}
+use Rattle.problem_core.proofs.Corners.Conflicts.{by_required, sum-each}
 use Rattle.cert_core.specs.declared.by.By.{By}
 use Rattle.cert_core.specs.Claims.{AreBys, times_of}
 use Rattle.cert_checker.specs.declared.sums.Weighted.{Weighted}
@@ -34,10 +34,10 @@ use Rattle.cert_checker.specs.Required.{IsRequiredAt, IsSigned, denominators, de
 use Rattle.cert_checker.specs.Refuting.{IsRequired, Cancels, HasRoom, IsFirstWithoutRoom, AreSigned, IsAboveZero, IsConflictVerdict}
 use Rattle.cert_checker.proofs.LinePlaces.{row-at}
 use Rattle.cert_checker.proofs.Indexes.{row_name, length-lines, length-names, no_row}
-use Rattle.cert_checker.proofs.Weighing.{no_weight, by-of, same-length, weighed-count, weighed-fit}
-use Rattle.cert_checker.proofs.Swapping.{exchanged, picked, picked-at}
+use Rattle.cert_checker.proofs.Written.Weighing.{no_weight, by-of, same-length, weighed-count, weighed-fit}
+use Rattle.cert_checker.proofs.Written.Swapping.{exchanged, picked, picked-at}
 use Rattle.cert_checker.proofs.Apart.{lines-apart, name-at}
-use Rattle.cert_checker.proofs.Naming.{times-none, times-found, written, weighed-name, held-place, required-named}
+use Rattle.cert_checker.proofs.Written.Naming.{times-none, times-found, written, weighed-name, held-place, required-named}
 
 sum-map : {A B : Type 0} (f : B → ℤ) (h : A → B) (xs : List A) → sum_of f (map h xs) ≡ sum_of (λ x. f (h x)) xs
 sum-map f h [] = refl
@@ -298,12 +298,6 @@ test-above z h = grind (arith, ints)
 
 pub above-test : (z : ℤ) → pos 0 <ℤ z → IsTrue (lt_z (pos 0) z)
 above-test z h = grind (arith, ints)
-
-pub false-true : false ≡ true → ⊥
-false-true e = cc
-
-pub no_both : (b : Bool) → b ≡ true → b ≡ false → ⊥
-no_both b e f = cc
 
 pub verdict-refutes : (p : Problem) (bys : List By) (v : Verdict) → IsConflictVerdict p bys v → v ≡ Yes → IsRefutation p (λ id. times_of bys (Held id))
 verdict-refutes p bys v h e =

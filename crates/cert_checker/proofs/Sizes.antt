@@ -1,20 +1,9 @@
 -- Sizes of sums.
-use Rattle.std.proofs.Common.{ℕ, ◌+◌, ◌<◌, ◌≤◌, ◌^◌, ◌*◌, ℤ, pos, negsuc, ◌+ℤ◌, ◌*ℤ◌, SFits, arith}
-use Rattle.std.specs.Int.{w64, w128}
+use Rattle.std.proofs.Common.{ℕ, ◌+◌, ◌<◌, ◌≤◌, ◌^◌, ◌*◌, ℤ, pos, ◌*ℤ◌, SFits, arith}
+use Rattle.std.specs.Int.{w128}
 use Rattle.std.proofs.lemmas.Int.{fits_signed_from_abs, unsigned_abs-mul}
-use Rattle.frac_core.specs.Fraction.{IsFitting}
 use Rattle.std.specs.Int.RustNames.{unsigned_abs}
-use borrow.Author.Differences.{ints}
 use Rattle.frac_core.proofs.Products.{most_product}
-
-pub size-add : (x y : ℤ) → unsigned_abs (x +ℤ y) ≤ unsigned_abs x + unsigned_abs y
-size-add (pos x) (pos y) = omega (arith, ints)
-size-add (pos x) (negsuc y) = omega (arith, ints)
-size-add (negsuc x) (pos y) = omega (arith, ints)
-size-add (negsuc x) (negsuc y) = omega (arith, ints)
-
-pub fits-w64 : (z : ℤ) → IsFitting z → SFits w64 z
-fits-w64 z h = fits_signed_from_abs w64 z (omega (arith, h))
 
 pub room-more : (x y b : ℕ) (i : ℕ) → x ≤ i * 2 ^ 89 → y ≤ x + 2 ^ 89 → y ≤ (i + 1) * 2 ^ 89
 room-more x y b i h k = omega arith

@@ -5,4 +5,4 @@ pub mod Refuting
 pub mod Certifying
 pub mod PlacedLevels
 pub mod Fronts
-pub mod PathClauses
+pub mod Laws

@@ -10,10 +10,10 @@ ghost use Rattle.cert_checker.specs.Fronts.{IsBlank, IsFront, IsReady, names_lin
 ghost use Rattle.cert_checker.specs.Fronts.{reduced as reduced_cost, weight_of_side};
 
 use crate::arithmetic::{difference, product, total};
-use crate::leveled::{FIRST_STAY, PlacedLevel};
+use crate::leveled::PlacedLevel;
 use crate::sums::Weighted;
 use frac_core::OutOfMemory;
-use problem_core::{Problem, REQUIRED, Rel, Side};
+use problem_core::{FIRST_STAY_LEVEL, Problem, REQUIRED, Rel, Side};
 use std::alloc::Global;
 
 /// The first level at which a column is not 0, and its sign there.
@@ -40,7 +40,7 @@ pub(crate) struct Sides {
     pub own: bool,
 }
 
-/// The front of a column when one more of its numbers is seen.
+// The front of a column when one more of its numbers is seen.
 fn keep(front: Option<Front>, level: usize, number: i128) -> Option<Front>
     ensures { (f : ℕ → ℤ) (seen : ℕ → Bool) → f level ≡ number → IsFront f seen front
         → IsFront f (λ k. seen k || nat_eq k level) result }
@@ -81,7 +81,7 @@ fn weight_at(facts: &Facts, level: usize) -> u16
     if facts.own == level { facts.weight } else { 0 }
 }
 
-/// The reduced cost of a side of the line at a level.
+// The reduced cost of a side of the line at a level.
 fn reduced(facts: &Facts, side: Side, level: usize, scale: i64, times: i64) -> i128
     requires facts { unsigned_abs facts.now.scale ≤ COEFFICIENT_LIMIT }
     requires above { pos 0 <ℤ scale }
@@ -116,14 +116,14 @@ pub(crate) fn facts_of(p: &Problem, at: usize) -> Facts
         };
     }
     Facts {
-        own: FIRST_STAY + at - rows.len(),
+        own: FIRST_STAY_LEVEL as usize + at - rows.len(),
         weight: 1,
         rel: Rel::Eq,
         scale: 1,
     }
 }
 
-/// The fronts of a line when its multiplier at one more level is seen.
+// The fronts of a line when its multiplier at one more level is seen.
 fn enter(sides: Sides, facts: &Facts, level: usize, scale: i64, times: i64) -> Sides
     requires facts { unsigned_abs facts.now.scale ≤ COEFFICIENT_LIMIT }
     requires above { pos 0 <ℤ scale }
@@ -150,7 +150,7 @@ fn enter(sides: Sides, facts: &Facts, level: usize, scale: i64, times: i64) -> S
     }
 }
 
-/// Sees one more level: the fronts of the lines that it names.
+// Sees one more level: the fronts of the lines that it names.
 fn enter_lines(p: &Problem, level: usize, scale: i64, weighted: &[Weighted], sides: &mut [Sides])
     requires count { length sides.old ≡ line_count p.now }
     requires below { All (λ w. (w.at < line_count p.now) × IsFitting w.times) weighted.now }
@@ -166,7 +166,7 @@ fn enter_lines(p: &Problem, level: usize, scale: i64, weighted: &[Weighted], sid
     }
 }
 
-/// The fronts of all lines when nothing is seen.
+// The fronts of all lines when nothing is seen.
 fn start(alloc: Global, p: &Problem) -> Result<Vec<Sides>, OutOfMemory>
     ensures count { IfOk result (λ v. length v.items ≡ line_count p.now) }
     ensures blank { IfOk result (λ v. All IsBlank v.items) }
@@ -184,7 +184,7 @@ fn start(alloc: Global, p: &Problem) -> Result<Vec<Sides>, OutOfMemory>
     Ok(sides)
 }
 
-/// Sees all placed levels.
+// Sees all placed levels.
 fn enter_levels(p: &Problem, placed: &[PlacedLevel], sides: &mut [Sides])
     requires placed { All (IsReady p.now) placed.now }
     requires count { length sides.old ≡ line_count p.now }
@@ -214,7 +214,7 @@ pub(crate) fn fronts(
     Ok(sides)
 }
 
-/// The front of a column when the line's own level is seen, where its number is above 0.
+// The front of a column when the line's own level is seen, where its number is above 0.
 fn keep_above(front: Option<Front>, level: usize) -> Option<Front>
     ensures { (f : ℕ → ℤ) (seen : ℕ → Bool) → pos 0 <ℤ f level → IsFront f seen front
         → IsFront f (λ k. seen k || nat_eq k level) result }

@@ -26,7 +26,7 @@ use problem_core::{Problem, Side, Stay, Values};
 use std::alloc::Global;
 use std::cmp::Ordering;
 
-/// The fronts of the whole columns of the line at a place.
+// The fronts of the whole columns of the line at a place.
 fn whole(p: &Problem, at: usize, sides: Sides) -> Sides
     requires { at < line_count p.now }
     ensures { (m : Multipliers) (seen : ℕ → ℕ → Bool) → AreKnown p.now m seen
@@ -40,7 +40,7 @@ fn whole(p: &Problem, at: usize, sides: Sides) -> Sides
     }
 }
 
-/// Whether the first number that is not 0 is below 0.
+// Whether the first number that is not 0 is below 0.
 fn is_below(front: Option<Front>) -> bool
     ensures { result ≡ has_negative front }
 {
@@ -50,7 +50,7 @@ fn is_below(front: Option<Front>) -> bool
     }
 }
 
-/// Whether the columns of the line at a place are not negative.
+// Whether the columns of the line at a place are not negative.
 fn is_not_negative(p: &Problem, at: usize, sides: Sides) -> bool
     requires { at < line_count p.now }
     ensures { (m : Multipliers) (seen : ℕ → ℕ → Bool) → AreKnown p.now m seen
@@ -64,7 +64,7 @@ fn is_not_negative(p: &Problem, at: usize, sides: Sides) -> bool
     !is_below(whole.over)
 }
 
-/// Whether no column is negative.
+// Whether no column is negative.
 fn are_not_negative(p: &Problem, sides: &[Sides]) -> bool
     requires { length sides.now ≡ line_count p.now }
     ensures { (m : Multipliers) (seen : ℕ → ℕ → Bool) → AreKnown p.now m seen
@@ -78,7 +78,7 @@ fn are_not_negative(p: &Problem, sides: &[Sides]) -> bool
     true
 }
 
-/// The order of the value of the stay's attribute and its target.
+// The order of the value of the stay's attribute and its target.
 fn stay_sign(stay: &Stay, values: &Values) -> Ordering
     requires { HasValue values.now stay.now.attr }
     ensures { (level : ℕ) (x : Assignment) → Gives values.now x
@@ -89,7 +89,7 @@ fn stay_sign(stay: &Stay, values: &Values) -> Ordering
     value.compare(&stay.target)
 }
 
-/// The order of the gap of the line at a place and 0.
+// The order of the gap of the line at a place and 0.
 fn line_sign(p: &Problem, at: usize, values: &Values) -> Ordering
     requires at { at < line_count p.now }
     requires values { AreOfStays p.now values.now }
@@ -105,7 +105,7 @@ fn line_sign(p: &Problem, at: usize, values: &Values) -> Ordering
     stay_sign(&p.stays()[at - rows.len()], values)
 }
 
-/// Whether a column is all 0.
+// Whether a column is all 0.
 fn is_zero(front: Option<Front>) -> bool
     ensures { result ≡ has_none front }
 {
@@ -115,7 +115,7 @@ fn is_zero(front: Option<Front>) -> bool
     }
 }
 
-/// Whether the column of the side that the order uses is all 0.
+// Whether the column of the side that the order uses is all 0.
 fn is_free(sides: Sides, sign: Ordering) -> bool
     ensures { result ≡ has_free sides sign }
 {
@@ -126,7 +126,7 @@ fn is_free(sides: Sides, sign: Ordering) -> bool
     }
 }
 
-/// Whether the column of each side that the values use is all 0.
+// Whether the column of each side that the values use is all 0.
 fn are_free(p: &Problem, values: &Values, sides: &[Sides]) -> bool
     requires values { AreOfStays p.now values.now }
     requires room { HaveRoom p.now.rows values.now }
@@ -142,7 +142,7 @@ fn are_free(p: &Problem, values: &Values, sides: &[Sides]) -> bool
     true
 }
 
-/// The verdict on a certificate's levels, where the values have room and meet the required rows.
+// The verdict on a certificate's levels, where the values have room and meet the required rows.
 fn judge(alloc: Global, p: &Problem, values: &Values, best: &Best) -> Result<Verdict, OutOfMemory>
     requires values { AreOfStays p.now values.now }
     requires room { HaveRoom p.now.rows values.now }

@@ -11,7 +11,7 @@ use crate::places::{Places, weigh};
 use crate::sums::{Weighted, cancel};
 use cert_core::{Best, BestLevel};
 use frac_core::OutOfMemory;
-use problem_core::{Level, Problem, REQUIRED, RowName};
+use problem_core::{FIRST_STAY_LEVEL, Level, Problem, REQUIRED, RowName};
 use std::alloc::Global;
 
 /// A level's place, strongest first, with its scale and the lines that it names.
@@ -22,10 +22,7 @@ pub(crate) struct PlacedLevel {
     pub weighted: Vec<Weighted>,
 }
 
-/// The level of the first stay, behind those of all ranks.
-pub(crate) const FIRST_STAY: usize = REQUIRED as usize + 1;
-
-/// The place of a level, strongest first, if it is one of the problem's.
+// The place of a level, strongest first, if it is one of the problem's.
 fn level_place(p: &Problem, places: &Places, level: Level) -> Option<usize>
     requires places { ArePlaces p.now places.now }
     requires place { IsPlace level }
@@ -38,13 +35,13 @@ fn level_place(p: &Problem, places: &Places, level: Level) -> Option<usize>
         Level::Priority(rank) => Some(REQUIRED as usize - rank as usize),
         Level::Stay(attr) => {
             let at = places.find(p, RowName::Stay(attr))?;
-            Some(FIRST_STAY + at - p.rows().len())
+            Some(FIRST_STAY_LEVEL as usize + at - p.rows().len())
         }
     }
 }
 
-/// A level with its place, if its scale is above 0, the problem has it and what it names, and its lines
-/// cancel.
+// A level with its place, if its scale is above 0, the problem has it and what it names, and its lines
+// cancel.
 fn place_level(
     alloc: Global,
     p: &Problem,
@@ -75,7 +72,7 @@ fn place_level(
     }))
 }
 
-/// Whether the lines that a level names cancel at each attribute.
+// Whether the lines that a level names cancel at each attribute.
 fn cancel_lines(
     alloc: Global,
     p: &Problem,
@@ -103,10 +100,10 @@ pub(crate) fn place_levels(
 {
     let mut placed = Vec::new(alloc);
     for level in best.levels() {
-        match place_level(alloc, p, places, level)? {
-            Some(next) => placed.push(next)?,
-            None => return Ok(None),
-        }
+        let Some(next) = place_level(alloc, p, places, level)? else {
+            return Ok(None);
+        };
+        placed.push(next)?;
     }
     Ok(Some(placed))
 }

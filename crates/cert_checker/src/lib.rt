@@ -16,10 +16,12 @@
 //! dual feasibility, and that the columns of the sides that the values use are all 0 is complementary
 //! slackness.
 //!
-//! In reading order: `verdict`; `arithmetic` (in 128 bits), `places` (of lines), `sums` (of lines by
-//! attribute), `refuting` (conflicts); `valued` (whose values they are, their room, the required rows),
-//! `leveled` (the levels of a certificate), `fronts`, `judging` (certificates); `laws`, and `path_laws` (the
-//! clauses of a lawful path, which `path_claims` checks).
+//! What holds on the way (`AreFronts` in `specs/Fronts.antt`): after each level that is read, the checker has
+//! of each column the first number that isn't 0 among the levels read so far.
+//!
+//! In reading order: `verdict`; `arithmetic` (in 128 bits), `sums` (of lines by attribute), `places` (of
+//! lines), `refuting` (conflicts); `valued` (whose values they are, their room, the required rows), `leveled`
+//! (the levels of a certificate), `fronts`, `judging` (certificates); `laws`.
 #![tactic(auto)]
 
 mod arithmetic;
@@ -27,7 +29,6 @@ mod fronts;
 mod judging;
 mod laws;
 mod leveled;
-mod path_laws;
 mod places;
 mod refuting;
 mod sums;
@@ -36,7 +37,6 @@ mod verdict;
 
 pub use judging::check_best;
 pub use laws::values_are_given;
-pub use path_laws::path_is_its_clauses;
 pub use refuting::check_conflict;
 pub use verdict::{
     BALANCE_CLAUSE, CANCEL_CLAUSE, COLUMNS_CLAUSE, FREE_CLAUSE, GIVEN_CLAUSE, REQUIRED_CLAUSE,

@@ -38,7 +38,7 @@ fn stay_numbers(alloc: Global, stays: &[Stay]) -> Result<Vec<u32>, OutOfMemory>
     Ok(numbers)
 }
 
-/// Where each number stands.
+// Where each number stands.
 fn index(alloc: Global, numbers: &[u32]) -> Result<BTreeMap<u32, usize>, OutOfMemory>
     ensures { IfOk result (IsIndex numbers.now) }
 {

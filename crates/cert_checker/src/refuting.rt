@@ -28,7 +28,7 @@ use std::alloc::Global;
 // What the common denominator of the constants of a refutation is below, so that their sum fits in 128 bits.
 pub(crate) const ROOM: u128 = 1 << 30;
 
-/// Whether each line is a required row.
+// Whether each line is a required row.
 fn are_required(p: &Problem, weighted: &[Weighted]) -> bool
     ensures { IsTrue result ↔ All (λ w. IsRequiredAt p.now w.at) weighted.now }
 {
@@ -36,7 +36,7 @@ fn are_required(p: &Problem, weighted: &[Weighted]) -> bool
     weighted.iter().all(|line| line.at < rows.len() && rows[line.at].rank() == REQUIRED)
 }
 
-/// Whether the relation allows the sign of the multiplier.
+// Whether the relation allows the sign of the multiplier.
 fn is_allowed(rel: Rel, times: i64) -> bool
     ensures { IsTrue result ↔ HasSign rel times }
 {
@@ -47,7 +47,7 @@ fn is_allowed(rel: Rel, times: i64) -> bool
     }
 }
 
-/// Whether each line is a row that allows its multiplier's sign.
+// Whether each line is a row that allows its multiplier's sign.
 fn are_signed(p: &Problem, weighted: &[Weighted]) -> bool
     ensures { IsTrue result ↔ All (IsSigned p.now) weighted.now }
 {
@@ -55,7 +55,7 @@ fn are_signed(p: &Problem, weighted: &[Weighted]) -> bool
     weighted.iter().all(|line| line.at < rows.len() && is_allowed(rows[line.at].rel(), line.times))
 }
 
-/// The denominator of the row's constant.
+// The denominator of the row's constant.
 fn denominator(p: &Problem, at: usize) -> u128
     requires { at < length p.now.rows }
     ensures value { result ≡ den_at p.now at }
@@ -66,8 +66,8 @@ fn denominator(p: &Problem, at: usize) -> u128
     row.constant().den() as u128
 }
 
-/// The least common denominator of the rows' constants, or the number of the first row with which it reaches
-/// [`ROOM`].
+// The least common denominator of the rows' constants, or the number of the first row with which it reaches
+// [`ROOM`].
 fn common_denominator(p: &Problem, weighted: &[Weighted]) -> Result<u128, u32>
     requires { All (λ w. IsRequiredAt p.now w.at) weighted.now }
     ensures room { IfOk result (λ d. d < ROOM) }
@@ -84,7 +84,7 @@ fn common_denominator(p: &Problem, weighted: &[Weighted]) -> Result<u128, u32>
     Ok(common)
 }
 
-/// The numerator of the row's constant.
+// The numerator of the row's constant.
 fn numerator(p: &Problem, at: usize) -> i64
     requires { at < length p.now.rows }
     ensures value { result ≡ num_at p.now at }
@@ -94,7 +94,7 @@ fn numerator(p: &Problem, at: usize) -> i64
     row.constant().num()
 }
 
-/// The multiplier times the numerator, times a share of the common denominator.
+// The multiplier times the numerator, times a share of the common denominator.
 fn scaled(times: i64, num: i64, share: u128) -> i128
     requires times { IsFitting times }
     requires num { IsFitting num }
@@ -105,7 +105,7 @@ fn scaled(times: i64, num: i64, share: u128) -> i128
     product(times, num) * share as i128
 }
 
-/// The sum of the rows' constants, each times its multiplier, over a common denominator.
+// The sum of the rows' constants, each times its multiplier, over a common denominator.
 fn constants(p: &Problem, weighted: &[Weighted], common: u128) -> i128
     requires rows { All (λ w. IsRequiredAt p.now w.at × IsFitting w.times) weighted.now }
     requires count { length weighted.now ≤ ROW_LIMIT }
@@ -121,7 +121,7 @@ fn constants(p: &Problem, weighted: &[Weighted], common: u128) -> i128
     sum
 }
 
-/// Whether there are multipliers, all of required rows, which cancel at each attribute.
+// Whether there are multipliers, all of required rows, which cancel at each attribute.
 fn cancels(
     alloc: Global,
     p: &Problem,
@@ -143,7 +143,7 @@ fn cancels(
     cancel(alloc, p, weighted)
 }
 
-/// Whether the sum of the constants is above 0, or the row at which there is no room for it.
+// Whether the sum of the constants is above 0, or the row at which there is no room for it.
 fn is_above_zero(p: &Problem, by: &[By], weighted: &[Weighted]) -> Result<bool, u32>
     requires by { AreBys by.now }
     requires weighted { AreWeighed p.now by.now weighted.now }
@@ -157,7 +157,7 @@ fn is_above_zero(p: &Problem, by: &[By], weighted: &[Weighted]) -> Result<bool, 
     Ok(constants(p, weighted, common) > 0)
 }
 
-/// The verdict on multipliers whose lines are found.
+// The verdict on multipliers whose lines are found.
 fn judge(
     alloc: Global,
     p: &Problem,
@@ -197,8 +197,8 @@ pub fn check_conflict(alloc: Global, p: &Problem, c: &Conflict) -> Result<Verdic
     p.show_whole(); // for the proof: what a problem keeps
     let by = c.by();
     let places = Places::of(alloc, p)?;
-    match weigh(alloc, p, &places, by)? {
-        Some(weighted) => judge(alloc, p, by, &weighted),
-        None => Ok(Verdict::No(CANCEL_CLAUSE)),
-    }
+    let Some(weighted) = weigh(alloc, p, &places, by)? else {
+        return Ok(Verdict::No(CANCEL_CLAUSE));
+    };
+    judge(alloc, p, by, &weighted)
 }

@@ -4,7 +4,7 @@ ghost use Rattle.std.specs.Prelude.{IsTrue, IfOk, OnOk, unsigned_abs};
 ghost use Rattle.std.specs.Ordering.{nat_cmp};
 ghost use Rattle.std.specs.BTreeMap.{IsOrdered, values};
 ghost use Rattle.frac_core.specs.Fraction.{IsFitting};
-ghost use Rattle.problem_core.specs.declared.limits.TheConstants.{ROW_LIMIT};
+ghost use Rattle.problem_core.specs.declared.limits.TheConstants.{ROW_LIMIT, TERM_LIMIT};
 ghost use Rattle.problem_core.specs.Kept.{IsWhole};
 ghost use Rattle.problem_core.specs.Layout.{coefficient, sum_of};
 ghost use Rattle.cert_checker.specs.LineSums.{sum_at, form_at, line_count, IsAdded, IsSmall};
@@ -22,7 +22,7 @@ pub struct Weighted {
     pub times: i64,
 }
 
-/// Adds a number to the sum of an attribute.
+// Adds a number to the sum of an attribute.
 fn add(sums: &mut BTreeMap<u32, i128>, attr: u32, more: i128) -> Result<(), OutOfMemory>
     requires sum { unsigned_abs (sum_at sums.old attr) < 2 ^ 126 }
     requires more { unsigned_abs more < 2 ^ 126 }
@@ -33,11 +33,11 @@ fn add(sums: &mut BTreeMap<u32, i128>, attr: u32, more: i128) -> Result<(), OutO
     Ok(())
 }
 
-/// Adds the terms, each times `times`, to the sums of their attributes.
+// Adds the terms, each times `times`, to the sums of their attributes.
 fn add_terms(sums: &mut BTreeMap<u32, i128>, terms: &[Term], times: i64) -> Result<(), OutOfMemory>
     requires times { IsFitting times }
     requires terms { All IsSmall terms.now }
-    requires count { length terms.now ≤ 32 }
+    requires count { length terms.now ≤ TERM_LIMIT }
     requires room { (v : ℕ) → unsigned_abs (sum_at sums.old v) < 2 ^ 110 }
     ensures sums { OnOk result ((v : ℕ) → sum_at sums.new v
         ≡ sum_at sums.old v +ℤ times *ℤ coefficient v terms.now) }
@@ -50,7 +50,7 @@ fn add_terms(sums: &mut BTreeMap<u32, i128>, terms: &[Term], times: i64) -> Resu
     Ok(())
 }
 
-/// Adds the line's form, each term times `times`, to the sums of its attributes.
+// Adds the line's form, each term times `times`, to the sums of its attributes.
 fn add_line(
     sums: &mut BTreeMap<u32, i128>,
     p: &Problem,
@@ -82,7 +82,7 @@ fn add_line(
     )
 }
 
-/// Whether each sum is 0.
+// Whether each sum is 0.
 fn are_zero(sums: &BTreeMap<u32, i128>) -> bool
     ensures all { IsTrue result ↔ All (λ s. s ≡ pos 0) (values sums.now) }
     ensures ordered { IsOrdered nat_cmp sums.now }

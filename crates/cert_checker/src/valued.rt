@@ -80,7 +80,7 @@ pub(crate) fn row_sign(row: &Row, values: &Values) -> Ordering
     }
 }
 
-/// Whether the relation holds where the gap has this order to 0.
+// Whether the relation holds where the gap has this order to 0.
 fn is_met(rel: Rel, sign: Ordering) -> bool
     ensures { result ≡ meets rel sign }
 {
@@ -91,7 +91,7 @@ fn is_met(rel: Rel, sign: Ordering) -> bool
     }
 }
 
-/// Whether the row is not required, or holds at the values.
+// Whether the row is not required, or holds at the values.
 fn holds(row: &Row, values: &Values) -> bool
     requires values { All (λ t. HasValue values.now t.attr) row.now.terms }
     requires room { HasRoom row.now values.now }

@@ -6,8 +6,8 @@ use Rattle.problem_core.specs.declared.parts.RowName.{RowName}
 use Rattle.problem_core.specs.declared.parts.RowName.TheVariants.{Held, Stay as StayOf}
 use Rattle.problem_core.specs.declared.parts.Level.{Level}
 use Rattle.problem_core.specs.declared.parts.Level.TheVariants.{Priority, Stay as StayLevel}
-use Rattle.problem_core.specs.declared.limits.TheConstants.{REQUIRED}
-use Rattle.problem_core.specs.Layout.{Problem, first_stay_level, sum_of}
+use Rattle.problem_core.specs.declared.limits.TheConstants.{FIRST_STAY_LEVEL, REQUIRED}
+use Rattle.problem_core.specs.Layout.{Problem, sum_of}
 use Rattle.problem_core.specs.Certificates.{Multipliers}
 use Rattle.cert_core.specs.declared.by.By.{By}
 
@@ -70,7 +70,7 @@ bys_of (l ∷ levels) level = cond (same_level l.level level) l.by (bys_of level
 -- in their order
 abbrev pub level_at : Problem → ℕ → Level
 level_at p k = cond (nat_lt REQUIRED k)
-    (StayLevel (slice_index_or (map (λ s. s.attr) p.stays) (k - first_stay_level) 0))
+    (StayLevel (slice_index_or (map (λ s. s.attr) p.stays) (k - FIRST_STAY_LEVEL) 0))
     (Priority (REQUIRED - k))
 
 -- the multipliers for each level of the problem

@@ -16,7 +16,7 @@ use Rattle.cert_core.specs.Paths.{Path}
 use Rattle.cert_core.specs.declared.stops.RunStop.{RunStop}
 use Rattle.cert_core.specs.declared.stops.RunStop.TheVariants.{Conflict, Unfit, Spent, OutOfMemory}
 use Rattle.problem_core.specs.Unfit.{IsUnfit, over_mark}
-use Rattle.problem_core.specs.Paths.{IsPath, IsEndOf, last_marks}
+use Rattle.problem_core.specs.Changes.Paths.{IsPath, IsEndOf, last_marks}
 
 -- ---- a conflict
 

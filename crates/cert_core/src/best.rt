@@ -30,6 +30,7 @@ impl Model for BestLevel {
 }
 
 impl BestLevel {
+    /// The level that the multipliers are for.
     pub fn level(&self) -> Level
         ensures { result ≡ self.now.level }
     {

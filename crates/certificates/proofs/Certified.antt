@@ -15,28 +15,29 @@ use Rattle.problem_core.specs.Kept.{IsWhole}
 use Rattle.problem_core.specs.Certificates.{IsCertificate, IsLexNonnegative, Multipliers, over_weight, under_weight, weight_at}
 use Rattle.problem_core.specs.Corners.{AreMultipliersAt, IsCorner, IsIn, NoNegativeColumn, NoNegativeValue, Point, StandsAt, assignment_at, column, one_column, place, place_of}
 use Rattle.problem_core.specs.Levels.{IsLevelAt, alone}
-use Rattle.problem_core.proofs.Ends.{end-IsCertificate}
+use Rattle.problem_core.proofs.Corners.Ends.{end-IsCertificate}
 use Rattle.problem_core.proofs.Forms.{each-both, each-impl, mul-sum}
 use Rattle.cert_core.specs.declared.by.By.{By}
 use Rattle.cert_core.specs.Claims.{BestLevel, bys_of, level_at, multipliers_of, scale_of, times_of}
 use Rattle.cert_checker.specs.Certifying.{Balances, HasLevel}
 use Rattle.cert_checker.specs.LinePlaces.{names}
-use Rattle.cert_checker.proofs.Levels.{found-level, written-level}
+use Rattle.cert_checker.proofs.Certificates.Levels.{found-level, written-level}
 use Rattle.corner_laws.specs.Equations.{IsLevelSum}
-use Rattle.corner_laws.proofs.ColumnsStay.{lex_alike}
-use Rattle.corner_laws.proofs.DualChoice.{unused-IsLevelSum}
-use Rattle.corner_laws.proofs.Ends.{all_up, decided, satisfies_there}
-use Rattle.corner_laws.proofs.Equal.{writing-sum}
-use Rattle.corner_laws.proofs.LowestForms.{marks_are_fixed}
+use Rattle.corner_laws.proofs.Swaps.ColumnsStay.{lex_alike}
+use Rattle.corner_laws.proofs.Swaps.DualChoice.{unused-IsLevelSum}
+use Rattle.corner_laws.proofs.PathEnds.Ends.{all_up, decided, satisfies_there}
+use Rattle.corner_laws.proofs.LevelCosts.Equal.{writing-sum}
+use Rattle.corner_laws.proofs.MarkWritings.LowestForms.{marks_are_fixed}
 use Rattle.corner.specs.Views.{IsKeptCorner, IsStronger}
 use Rattle.corner_ends.specs.Runs.{IsBestEnd}
-use Rattle.corner_ends.proofs.Fronts.{level_one, some_line}
+use Rattle.corner_ends.proofs.Fronts.{some_line}
 use Rattle.corner_ends.proofs.Signs.{columns_alike}
 use Rattle.certificates.specs.OwnLevels.{HasNoNeed, IsOwnBest, IsOwnLevel, nonzero_times}
 use Rattle.certificates.proofs.Places.{number_is, stay_there, used_level}
 use Rattle.certificates.proofs.MultiplierLists.{each_line, multiplied_rows, multiplied_times, names_different, nonzero_found, nonzero_rows}
-use Rattle.problem_core.proofs.Conflicts.{sum-each}
-use Rattle.cert_checker.proofs.Certified.{no_level}
+use Rattle.problem_core.proofs.Corners.Conflicts.{sum-each}
+use Rattle.cert_checker.proofs.Certificates.Certified.{no_level}
+use Rattle.corner_lines.proofs.LevelRows.StayRows.{level_one}
 
 -- ---- numbers that are those of a level over a factor
 

@@ -21,8 +21,9 @@ use Rattle.certificates.specs.OwnLevels.{HasNoNeed, IsOwnBest, IsOwnLevel, multi
 use Rattle.certificates.specs.Reading.{AreNumbersAt, IsPushed}
 use Rattle.certificates.proofs.Factors.{no_factor}
 use Rattle.certificates.proofs.MultiplierLists.{DifferentRows, all_different, each_line, multiplied_different, names_different, none_written, nonzero_different}
-use Rattle.certificates.proofs.Numbers.{numbers_exist, used_is_level}
-use Rattle.corner.proofs.RowPaths.{positive_is}
+use Rattle.certificates.proofs.Numbers.{numbers_exist}
+use Rattle.corner.proofs.Additions.RowPaths.{positive_is}
+use Rattle.corner.proofs.LevelFacts.LevelUseFacts.{used_level as used_is_level}
 
 -- ---- one level
 

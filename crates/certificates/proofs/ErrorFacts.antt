@@ -5,7 +5,7 @@ use Rattle.std.proofs.lemmas.List.Elements.{All-from_recursion, recursion_from_A
 use lib.IntN.{*ℤ_comm}
 use borrow.Author.Differences.{ints}
 use Rattle.frac_core.specs.Fraction.{Fraction, IsRatio}
-use Rattle.frac_core.proofs.Integers.{cancel_mul, mul_assoc_ℤ, mul_positive, mul-sub_left, mul-zero_ℤ}
+use Rattle.frac_core.proofs.Integers.{cancel_mul, mul_assoc_ℤ, mul-sub_left, mul-zero_ℤ}
 use Rattle.problem_core.specs.declared.parts.Mark.{Mark}
 use Rattle.problem_core.specs.declared.parts.Rel.{Rel}
 use Rattle.problem_core.specs.declared.parts.Rel.TheVariants.{Eq, Le, Ge}
@@ -14,25 +14,24 @@ use Rattle.problem_core.specs.declared.parts.RowName.TheVariants.{Held}
 use Rattle.problem_core.specs.declared.parts.Side.{Side}
 use Rattle.problem_core.specs.declared.parts.Side.TheVariants.{Under, Over}
 use Rattle.problem_core.specs.Layout.{Line, Problem, Row, above, below, common, cost, count_of, error, error_of, gap, line_of_row, lines, share, stay_lines, sum_of, value_at}
-use Rattle.problem_core.specs.Kept.{IsRow, IsStay, IsWhole}
+use Rattle.problem_core.specs.Kept.{IsRow, IsWhole}
 use Rattle.problem_core.specs.Certificates.{over_weight, under_weight, weight_at}
-use Rattle.problem_core.specs.Corners.{IsCorner, IsIn, NoNegativeValue, Point, StandsAt, assignment_at, attr_column, equation, marks_of, one_column, place, place_of}
+use Rattle.problem_core.specs.Corners.{IsCorner, IsIn, NoNegativeValue, Point, StandsAt, assignment_at, equation, marks_of, one_column, place, place_of}
 use Rattle.problem_core.specs.Levels.{IsCostAt, cost_at, line_cost, scales}
 use Rattle.problem_core.proofs.Forms.{each-both, each-impl, product-positive, product-shares}
-use Rattle.problem_core.proofs.Midpoints.{cancel}
+use Rattle.problem_core.proofs.Best.Midpoints.{cancel}
 use Rattle.problem_core.proofs.Wholes.{whole-IsProblem}
-use Rattle.corner_laws.proofs.Counting.{IsSmall, one_mark, rows_small, stays_small}
-use Rattle.corner_laws.proofs.Ends.{all_up, both_marks, decided}
-use Rattle.corner_laws.proofs.Gaps.{form_value, line_gap, shares}
-use Rattle.corner_laws.proofs.LevelExists.{cost_fixed}
-use Rattle.corner_laws.proofs.LowestForms.{marks_are_fixed}
-use Rattle.corner_laws.proofs.Rays.{above-zero}
+use Rattle.corner_laws.proofs.Counting.{IsSmall, one_mark}
+use Rattle.corner_laws.proofs.PathEnds.Ends.{all_up, both_marks, decided, line-gap-is as gap-there}
+use Rattle.corner_laws.proofs.LevelCosts.Gaps.{shares}
+use Rattle.corner_laws.proofs.LevelCosts.LevelExists.{cost_fixed}
+use Rattle.corner_laws.proofs.MarkWritings.LowestForms.{marks_are_fixed}
 use Rattle.corner_laws.proofs.ZeroColumns.{scales-above}
 use Rattle.corner.specs.Views.{HasValueAt}
 use Rattle.certificates.specs.Errors.{IsErrorAt, IsLack, IsLevelCost}
 use Rattle.certificates.proofs.Certified.{values_up}
-use Rattle.corner_laws.proofs.Linear.{zero-or-not}
-use Rattle.problem_core.proofs.Ends.{abs_same}
+use Rattle.corner_lines.proofs.Lines.LineWritings.{all-small as lines-small}
+use Rattle.frac_core.proofs.Numbers.{zero-or-not, as-natural as above-zero}
 
 -- ---- what a line lacks, by its deviations
 
@@ -89,16 +88,6 @@ natural : (z : ℤ) → pos 0 ≤ℤ z → (n : ℕ) × (z ≡ pos n)
 natural (pos n) h = (n, refl)
 natural (negsuc n) h = absurd h.le
 
-gap-step : (d : ℕ) (u o f g n one : ℤ) → pos d *ℤ ((u -ℤ o) +ℤ f) ≡ n *ℤ one → g ≡ pos d *ℤ f -ℤ n *ℤ one → g ≡ pos d *ℤ (o -ℤ u)
-gap-step d u o f g n one e h =
-    let a : pos d *ℤ ((u -ℤ o) +ℤ f) ≡ pos d *ℤ f -ℤ pos d *ℤ (o -ℤ u) = ap (λ (z : ℤ). pos d *ℤ z) (let k : (u -ℤ o) +ℤ f ≡ f -ℤ (o -ℤ u) = omega (arith, ints) in k) ∙ mul-sub_left (pos d) f (o -ℤ u) in
-    omega (arith, ints, a, e, h)
-
-gap-there : (x : Point) (l : Line) → value_at x.num (equation l) ≡ pos 0 → gap (assignment_at x) l ≡ pos l.den *ℤ (x.num (place_of l.name Over) -ℤ x.num (place_of l.name Under))
-gap-there x l e =
-    gap-step l.den (x.num (place_of l.name Under)) (x.num (place_of l.name Over)) (form_value x.num l) (gap (assignment_at x) l) l.num (x.num one_column) (line_gap x.num l e)
-    (ap (λ (z : ℤ). pos l.den *ℤ value_at (λ v. x.num (attr_column v)) l.form -ℤ l.num *ℤ z) (abs_same (x.num one_column) x.positive))
-
 abbrev OutsideNone : Point → List Mark → RowName → Side → Type 0
 OutsideNone x at name side = (IsIn (place_of name side) at → ⊥) → x.num (place_of name side) ≡ pos 0
 
@@ -128,9 +117,6 @@ deviations-of p at x l corner (small, (solves, ((up, op), (under, over)))) =
       one = one-none p at x l.name u.0 o.0 corner small under over u.1 o.1;
       gap_is = gap-there x l solves ∙ ap₂ (λ (a b : ℤ). pos l.den *ℤ (a -ℤ b)) o.1 u.1;
     }
-
-lines-small : (p : Problem) → IsWhole p → Each (λ l. IsSmall l.name) (lines p)
-lines-small p whole = rows_small p.rows (stay_lines 1001 p.stays) (recursion_from_All IsRow p.rows whole.rows) (stays_small 1001 p.stays (recursion_from_All IsStay p.stays whole.stays))
 
 pub deviations : (p : Problem) (at : List Mark) (x : Point) → IsWhole p → IsCorner p at → NoNegativeValue p at → StandsAt p at x → Each (Deviations x) (lines p)
 deviations p at x whole corner values stands =
@@ -247,11 +233,6 @@ row_mark p r m side held e = subst (λ (k : Mark). Contains (map place (marks_of
 
 pub row_kept : (rows : List Row) (r : Row) → All IsRow rows → Any (λ s. s ≡ r) rows → IsRow r
 row_kept rows r all (i, s, within, is, e) = subst IsRow (is ∙ e) (all i s within)
-
-pub product_above : (a b : ℤ) → pos 0 <ℤ a → pos 0 <ℤ b → pos 0 <ℤ (a *ℤ b)
-product_above (pos zero) b h k = absurd (omega (arith, ints, h))
-product_above (pos (suc a)) b h k = mul_positive (suc a) b (omega arith) k
-product_above (negsuc a) b h k = absurd h.lt
 
 pub row_error : (p : Problem) (at : List Mark) (r : Row) (under over lacking f : Fraction) → IsWhole p → IsCorner p at → NoNegativeValue p at → Any (λ s. s ≡ r) p.rows
     → HasValueAt p at (place_of (line_of_row r).name Under) under → HasValueAt p at (place_of (line_of_row r).name Over) over → 0 < over.den → 0 < lacking.den → IsLack r.rel under over lacking

@@ -1,18 +1,18 @@
 -- Numbers divided by the factor that they share.
-use Rattle.std.proofs.Common.{◌≡◌, ◌∙◌, ℕ, zero, suc, ◌*◌, ◌/◌, ◌<◌, ◌≤◌, List, [], ◌∷◌, ◌++◌, ◌+◌, length, take, get_or, ℤ, pos, negsuc, ◌*ℤ◌, ◌<ℤ◌, int_div, neg_ℤ, unsigned_abs, refl, sym, ap, ap₂, subst, arith, All, to_z}
+use Rattle.std.proofs.Common.{◌≡◌, ◌∙◌, ℕ, ◌*◌, ◌<◌, ◌≤◌, List, [], ◌∷◌, ◌++◌, ◌+◌, length, take, get_or, ℤ, pos, negsuc, ◌*ℤ◌, ◌<ℤ◌, unsigned_abs, refl, sym, ap, ap₂, subst, arith, All, to_z}
 use Rattle.std.specs.Int.{w64, ◌∣◌, IsGcd}
 use Rattle.std.specs.List.{AllByRecursion as Each}
 use Rattle.std.proofs.lemmas.Int.{to_z_pos, unsigned_abs-mul}
 use Rattle.std.proofs.lemmas.List.{take_all, take_more}
 use Rattle.std.proofs.lemmas.List.Elements.{All-from_recursion, All-nil, All-push, recursion_from_All}
 use Rattle.std.proofs.lemmas.Nat.Gcd.{dvd_refl, dvd_trans, le_of_dvd}
-use Rattle.std.proofs.Math.Nat.{div-mul_cancel, eq-zero_of_zero-dvd, mul-dvd-mul_right}
+use Rattle.std.proofs.Math.Nat.{mul-dvd-mul_right}
 use borrow.Author.Differences.{ints}
 use Rattle.frac_core.specs.Fraction.{IsFitting}
 use Rattle.cert_core.specs.declared.by.By.{By}
 use Rattle.certificates.specs.OwnLevels.{multiplied}
 use Rattle.certificates.proofs.MultiplierLists.{multiplied_append}
-use Rattle.corner_ends.proofs.ShownTimes.{one-left}
+use Rattle.frac_core.proofs.Numbers.{divisor-above as factor-some, only-one as one-left}
 
 times-factor : (k g : ℕ) (z y : ℤ) → pos g *ℤ z ≡ y → k ∣ unsigned_abs z → (k * g) ∣ unsigned_abs y
 times-factor k g z y e h =
@@ -32,17 +32,6 @@ no_factor g scale low all bys above e same greatest k h each =
     (greatest (k * g) (times-factor k g low scale e h)
     (subst (λ (bs : List By). All (λ b. (k * g) ∣ unsigned_abs b.times) bs) same
     (All-from_recursion (λ b. (k * g) ∣ unsigned_abs b.times) (multiplied g bys) (each-factor k g bys (recursion_from_All (λ b. k ∣ unsigned_abs b.times) bys each)))))
-
--- ---- one number
-
-quotient-below : (g n a : ℕ) → n * g ≡ suc a → pos g *ℤ neg_ℤ (pos n) ≡ negsuc a
-quotient-below g zero a e = absurd (omega (arith, e))
-quotient-below g (suc n) a e = omega (arith, ints, e)
-
-pub exact_quotient : (z d : ℤ) → pos 0 <ℤ d → unsigned_abs d ∣ unsigned_abs z → d *ℤ int_div z d ≡ z
-exact_quotient z (negsuc b) above h = absurd above.lt
-exact_quotient (pos a) (pos b) above h = ap pos (let e = div-mul_cancel b h in let turn : b * (a / b) ≡ a / b * b = omega arith in turn ∙ e)
-exact_quotient (negsuc a) (pos b) above h = quotient-below b (suc a / b) a (div-mul_cancel b h)
 
 -- ---- the greatest factor that all share
 
@@ -66,10 +55,6 @@ factored_none scale above = record {
     size-above (pos n) h = omega (arith, ints, h)
     size-above (negsuc n) h = absurd h.lt
 
-factor-some : (g n : ℕ) → 0 < n → g ∣ n → 0 < g
-factor-some zero n above h = absurd (let e = eq-zero_of_zero-dvd h in omega (arith, above, e))
-factor-some (suc g) n above h = omega arith
-
 last-of : (P : By → Type 0) (bys : List By) (b : By) → All P (bys ++ b ∷ []) → All P bys × P b
 last-of P bys b h =
     let r = parts bys (recursion_from_All P (bys ++ b ∷ []) h) in
@@ -92,10 +77,6 @@ factored_more scale bys i b factor g within is f (first, second, most) =
 
 pub factored_all : (scale : ℤ) (bys : List By) (i factor : ℕ) → length bys ≤ i → Factored scale (take i bys) factor → Factored scale bys factor
 factored_all scale bys i factor over h = subst (λ (bs : List By). Factored scale bs factor) (take_all i bys over) h
-
-pub by_positive : (z : ℤ) → pos 0 <ℤ z → pos (unsigned_abs z) ≡ z
-by_positive (pos n) h = refl
-by_positive (negsuc n) h = absurd h.lt
 
 -- the number in 64 bits
 pub factor_is : (scale : ℤ) (bys : List By) (factor : ℕ) → IsFitting scale → Factored scale bys factor → to_z w64 factor ≡ pos factor

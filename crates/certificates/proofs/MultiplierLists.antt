@@ -1,5 +1,5 @@
 -- Lists of multipliers.
-use Rattle.std.proofs.Common.{◌≡◌, ◌≢◌, ◌∙◌, ℕ, suc, Bool, true, false, cond, nat_eq, List, [], ◌∷◌, ◌++◌, map, ℤ, pos, negsuc, ◌+ℤ◌, ◌*ℤ◌, unsigned_abs, refl, sym, ap, ap₂, arith, AllPairs, Contains, eq-eqb, eqb-true, ne_eqb}
+use Rattle.std.proofs.Common.{◌≡◌, ◌≢◌, ◌∙◌, ℕ, suc, Bool, true, false, cond, nat_eq, List, [], ◌∷◌, ◌++◌, map, ℤ, pos, ◌+ℤ◌, ◌*ℤ◌, unsigned_abs, refl, sym, ap, ap₂, arith, AllPairs, Contains, eq-eqb, eqb-true, ne_eqb}
 use Rattle.std.specs.List.{AllByRecursion as Each}
 use Rattle.std.proofs.lemmas.List.Elements.{All-from_recursion}
 use Rattle.std.proofs.lemmas.List.Kept.{AllPairs-cons}
@@ -14,9 +14,10 @@ use Rattle.problem_core.proofs.Forms.{each-impl}
 use Rattle.cert_core.specs.declared.by.By.{By}
 use Rattle.cert_core.specs.Claims.{same_row, times_of}
 use Rattle.cert_checker.specs.LinePlaces.{names}
-use Rattle.cert_checker.proofs.Swapping.{same-true, same-false}
+use Rattle.cert_checker.proofs.Written.Swapping.{same-true, same-false}
 use Rattle.corner_laws.proofs.LinePlaces.{AllApart, AreApart, lines_apart}
 use Rattle.certificates.specs.OwnLevels.{multiplied, nonzero_times}
+use Rattle.frac_core.proofs.Numbers.{size-zero as none-is}
 
 abbrev by_of : RowName → ℤ → By
 by_of name z = record { row = name; times = z }
@@ -66,10 +67,6 @@ picked-next false n m y us = refl
 skipped : (b c : Bool) (y t : ℤ) → c ≡ false → cond b t (cond c y (pos 0) +ℤ t) ≡ t
 skipped true c y t e = refl
 skipped false c y t e = ap (λ (k : Bool). cond k y (pos 0) +ℤ t) e ∙ (let z : pos 0 +ℤ t ≡ t = omega (arith, ints) in z)
-
-none-is : (y : ℤ) → unsigned_abs y ≡ 0 → y ≡ pos 0
-none-is (pos n) e = ap pos e
-none-is (negsuc n) e = absurd (omega (arith, e))
 
 taken : (b c : Bool) (y t : ℤ) → (b ≡ true → y ≡ pos 0) → c ≡ true → t ≡ pos 0 → cond b t (cond c y (pos 0) +ℤ t) ≡ y
 taken true c y t zero-if e none = none ∙ sym (zero-if refl)

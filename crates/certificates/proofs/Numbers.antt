@@ -13,19 +13,17 @@ use Rattle.problem_core.specs.declared.parts.Stay.{Stay}
 use Rattle.problem_core.specs.declared.stops.What.TheVariants.{Level as LevelOf}
 use Rattle.problem_core.specs.Layout.{Line, Problem, Row, line_of_row, lines, stay_lines}
 use Rattle.problem_core.specs.Levels.{AreFitting, IsLevelAt, IsLevelWriting}
-use Rattle.corner_laws.proofs.Equal.{numbers_are_equal}
-use Rattle.corner_laws.proofs.LevelExists.{level_writing_exists}
+use Rattle.corner_laws.proofs.LevelCosts.Equal.{numbers_are_equal}
+use Rattle.corner_laws.proofs.LevelCosts.LevelExists.{level_writing_exists}
 use Rattle.cert_core.specs.declared.by.By.{By}
 use Rattle.cert_checker.specs.LinePlaces.{names}
-use Rattle.corner.specs.Views.{HasNumbers, IsInUse, IsKeptCorner, IsLevelOf, IsNamed}
-use Rattle.corner_ends.proofs.Fronts.{level_one}
+use Rattle.corner.specs.Views.{HasNumbers, IsKeptCorner, IsLevelOf, IsNamed}
 use Rattle.certificates.specs.OwnLevels.{nonzero_times}
 use Rattle.certificates.specs.Reading.{AreNumbersAt}
 use Rattle.certificates.proofs.MultiplierLists.{nonzero_append}
 use Rattle.corner_ends.proofs.RequiredTimes.{at-name}
-
-pub used_is_level : (p : Problem) (level : Level) → IsInUse p level → IsLevelOf p level
-used_is_level p level (i, x, within, is, h) = (x.level, h)
+use Rattle.problem_core.proofs.Lines.{later-line, stay-line}
+use Rattle.corner_lines.proofs.LevelRows.StayRows.{level_one}
 
 abbrev Alike : (RowName → ℤ) → (RowName → ℤ) → RowName → Type 0
 Alike y z name = y name ≡ z name
@@ -96,19 +94,6 @@ row-line [] ls i x within is = absurd (omega (arith, within))
 row-line (r ∷ rows) ls zero x within is = (0, line_of_row r, omega arith, refl, ap (λ (s : Row). Held s.id) is)
 row-line (r ∷ rows) ls (suc i) x within is =
     let t = row-line rows ls i x (omega (arith, within)) is in
-    (suc t.0, t.1, (let less = t.2 in omega (arith, less)), t.3, t.4)
-
-stay-line : (k : ℕ) (stays : List Stay) (i : ℕ) (x : Stay) → i < length stays → get_or stays i x ≡ x → Any (λ l. l.name ≡ StayOf x.attr) (stay_lines k stays)
-stay-line k [] i x within is = absurd (omega (arith, within))
-stay-line k (s ∷ stays) zero x within is = (0, _, omega arith, refl, ap (λ (t : Stay). StayOf t.attr) is)
-stay-line k (s ∷ stays) (suc i) x within is =
-    let t = stay-line (k + 1) stays i x (omega (arith, within)) is in
-    (suc t.0, t.1, (let less = t.2 in omega (arith, less)), t.3, t.4)
-
-later-line : (P : Line → Type 0) (rows : List Row) (ls : List Line) → Any P ls → Any P (map line_of_row rows ++ ls)
-later-line P [] ls h = h
-later-line P (r ∷ rows) ls h =
-    let t = later-line P rows ls h in
     (suc t.0, t.1, (let less = t.2 in omega (arith, less)), t.3, t.4)
 
 row_is_named : (p : Problem) (i : ℕ) (x : Row) → i < length p.rows → x ≡ get_or p.rows i x → IsNamed p (Held x.id)

@@ -12,11 +12,12 @@ use Rattle.problem_core.specs.Levels.{IsLevelAt}
 use Rattle.cert_core.specs.Claims.{level_at}
 use Rattle.cert_checker.specs.LinePlaces.{name_at}
 use Rattle.cert_checker.specs.LineSums.{line_count}
-use Rattle.cert_checker.proofs.Columns.{stay-line}
+use Rattle.cert_checker.proofs.Certificates.Columns.{stay-line}
 use Rattle.cert_checker.proofs.Indexes.{length-lines, no_stay, stay_name}
-use Rattle.cert_checker.proofs.Levels.{level-same, low-level, past-rows, priority-same, priority-stay, stay-has, stay-level, stay-place}
+use Rattle.cert_checker.proofs.Certificates.Levels.{level-same, low-level, past-rows, priority-same, priority-stay, stay-has, stay-level, stay-place}
 use Rattle.corner.specs.Views.{IsInUse}
-use Rattle.corner_ends.proofs.Fronts.{level_named, level_one}
+use Rattle.corner_ends.proofs.Fronts.{level_named}
+use Rattle.corner_lines.proofs.LevelRows.StayRows.{level_one}
 
 -- a stay's line at its place
 named-there : (p : Problem) (attr i : ℕ) (x : Line) → i < length (lines p) → get_or (lines p) i x ≡ x → x.name ≡ StayOf attr → (i < line_count p) × (name_at p i ≡ StayOf attr)

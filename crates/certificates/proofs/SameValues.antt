@@ -11,12 +11,14 @@ use Rattle.problem_core.specs.Layout.{AreSame, Assignment, Gives, HasStay, Line,
 use Rattle.problem_core.specs.Kept.{IsWhole}
 use Rattle.problem_core.specs.Certificates.{IsCertificate, Multipliers, over, under}
 use Rattle.problem_core.specs.Gaps.{HasValue}
-use Rattle.problem_core.proofs.Agreed.{agree-lines, cost-agree, error-agree, gap-agree}
+use Rattle.problem_core.proofs.Best.Agreed.{agree-lines, cost-agree, error-agree, gap-agree}
 use Rattle.problem_core.proofs.Forms.{each-both, each-impl}
-use Rattle.problem_core.proofs.Midpoints.{cancel}
+use Rattle.problem_core.proofs.Best.Midpoints.{cancel}
 use Rattle.cert_checker.specs.Certifying.{AreOfStays}
 use Rattle.certificates.specs.Errors.{IsErrorAt, IsLevelCost}
-use Rattle.corner_laws.proofs.Ends.{first-rows}
+use Rattle.corner_laws.proofs.PathEnds.Ends.{first-rows}
+use Rattle.frac_core.proofs.Numbers.{product-above as product-up}
+use Rattle.problem_core.proofs.Best.WindowRows.{has-rest as stay-first}
 
 -- ---- values
 
@@ -51,9 +53,6 @@ given_same p values x y e lowest g h =
 -- the values are those of the stays
 has-first : (v : ℕ × Fraction) (values : List (ℕ × Fraction)) (a : ℕ) → HasValue values a → HasValue (v ∷ values) a
 has-first v values a (k, w, within, is, e) = (suc k, w, omega (arith, within), is, e)
-
-stay-first : (s : Stay) (stays : List Stay) (a : ℕ) → HasStay stays a → HasStay (s ∷ stays) a
-stay-first s stays a (k, w, within, is, e) = (suc k, w, omega (arith, within), is, e)
 
 each-valued : (stays : List Stay) (values : List (ℕ × Fraction)) → map (λ v. v.0) values ≡ map (λ s. s.attr) stays → Each (λ s. HasValue values s.attr) stays
 each-valued [] values e = tt
@@ -152,11 +151,6 @@ pub ratio_moved : (f : Fraction) (a b D u v : ℕ) → 0 < v → 0 < v * D → a
 ratio_moved f a b D u v above all e h =
     let n = natural-num f b (v * D) all h in
     ap (λ (z : ℤ). z *ℤ pos (u * D)) n.1 ∙ ap pos (moved-ratio a b D u v n.0 f.den above e n.2)
-
-pub product-up : (a b : ℕ) → 0 < a → 0 < b → 0 < a * b
-product-up (suc a) (suc b) h k = omega arith
-product-up zero b h k = absurd (omega (arith, h))
-product-up (suc a) zero h k = absurd (omega (arith, k))
 
 pub same_error : (p : Problem) (x y : Assignment) (r : Row) (f : Fraction) → IsWhole p → AreSame p x y → Any (λ s. s ≡ r) p.rows → 0 < r.constant.den → 0 < r.scale → IsErrorAt y (line_of_row r) f → IsErrorAt x (line_of_row r) f
 same_error p x y r f whole same (i, s, within, is, e) den scale h =

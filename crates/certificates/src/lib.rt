@@ -12,11 +12,14 @@
 //! A corner's certificate is one in the sense of the checker ([`certified_is_accepted`]): it says yes, or
 //! that it has no room for some row's values. [`error`] reads what a row lacks.
 //!
-//! Linear programming's words: the multipliers of a level are its dual solution, so a certificate has one
-//! for each level at which one isn't 0.
+//! Linear programming's words: a corner with the best values is an optimal basis, and the multipliers of a
+//! level are its dual solution there; a certificate has one for each level at which one isn't 0.
 //!
-//! To read: `times` reads what is written of a level, `shares` divides by the common factor, and `levels`
-//! puts the levels together; `errors` reads what rows lack; `laws` says what the checker says of all this.
+//! What a certificate keeps (`IsOwnBest` in `specs/OwnLevels.antt`): its levels stand strongest first, each
+//! has a multiplier, and no factor is common to its scale and its multipliers.
+//!
+//! In reading order: `times` (what is written of a level), `shares` (the division by the common factor),
+//! `levels` (they are put together), `errors` (what rows lack), `laws` (what the checker says of all this).
 #![tactic(auto)]
 
 mod errors;

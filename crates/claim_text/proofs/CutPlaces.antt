@@ -1,16 +1,16 @@
 -- Places between lines.
-use Rattle.std.proofs.Common.{◌≡◌, ℕ, ◌+◌, ◌-◌, ◌<◌, ◌≤◌, ◌==◌, List, [], ◌∷◌, ◌++◌, length, take, drop, Bool, false, sym, ap, ◌∙◌, refl, arith, inl, inr, subst, zero, suc, zero-add, IsTrue}
-use Rattle.std.specs.Str.Lines.{lines, lines_of_parts, strip_carriage_return}
-use Rattle.std.proofs.lemmas.Bool.Decides.{nat_tests}
+use Rattle.std.proofs.Common.{◌≡◌, ℕ, ◌+◌, ◌-◌, ◌<◌, ◌≤◌, List, [], ◌∷◌, ◌++◌, length, take, drop, Bool, false, sym, ap, ◌∙◌, refl, arith, inl, inr, subst, zero, suc, zero-add, IsTrue, ◌==◌}
+use Rattle.std.specs.Str.Lines.{lines, strip_carriage_return, lines_of_parts}
 use Rattle.std.proofs.lemmas.Bool.{false≢true}
 use Rattle.std.proofs.lemmas.List.{append_assoc, append-nil, length-append, take_at, drop_at, take_all, drop_all, take-append-drop, length-drop, length-take-le, same_from_push}
 use Rattle.std.proofs.lemmas.List.Elements.{All-push}
-use Rattle.span_text.proofs.Cuts.{lines_at, first_part}
+use Rattle.span_text.proofs.TextCuts.Cuts.{lines_at, first_part}
 use Rattle.claim_text.specs.Cut.{BeginsClaim, IsWithoutOk, ok_line}
 use Rattle.claim_text.specs.CutLines.{IsWhole, IsLineLength, IsLastStart, IsPlace}
-use Rattle.claim_text.specs.Words.{parts}
 use Rattle.claim_text.proofs.Parts.{IsFree, whole_is}
-use Rattle.claim_text.proofs.Readings.{lines_count}
+use Rattle.claim_text.proofs.Problems.Readings.{lines_count}
+use Rattle.std.proofs.lemmas.Bool.Decides.{nat_tests}
+use Rattle.claim_text.specs.Words.{parts}
 
 -- ---- helpers
 
@@ -44,7 +44,6 @@ end_parts text at all =
     let left : drop at text ≡ [] = drop_all at text (omega (arith, all)) in
     sym (ap (λ l. lines l ++ lines (drop at text)) taken ∙ (ap (λ l. lines text ++ lines l) left ∙ append-nil (lines text)))
 
--- a text that isn't empty has a line
 by_parts : (text : List ℕ) (ps : List (List ℕ)) → parts 10 text ≡ ps → 0 < length text → (line : List ℕ) × (more : List (List ℕ)) × (lines text ≡ line ∷ more)
 by_parts text [] is some = let more = first_part (λ b. b == 10) text in let parts_are : parts 10 text ≡ more.0 ∷ more.1 = more.2 in absurd (cc)
 by_parts text (y ∷ []) is some =
@@ -55,10 +54,6 @@ by_parts text (y ∷ z ∷ zs) is some = (strip_carriage_return y, lines_of_part
 
 line_of_some : (text : List ℕ) → 0 < length text → (line : List ℕ) × (more : List (List ℕ)) × (lines text ≡ line ∷ more)
 line_of_some text some = by_parts text (parts 10 text) refl some
-
-some_line : (text : List ℕ) → 0 < length text → (line : List ℕ) × (more : List (List ℕ)) × (lines text ≡ line ∷ more)
-some_line [] some = absurd (omega (arith, some))
-some_line (b ∷ text) some = line_of_some (b ∷ text) some
 
 last_line_ok : (before front left : List (List ℕ)) → (line : List ℕ) × (more : List (List ℕ)) × (left ≡ line ∷ more) → ((line : List ℕ) (more : List (List ℕ)) → left ≡ line ∷ more → more ≡ [])
     → before ++ left ≡ front ++ ok_line ∷ [] → ((more : List (List ℕ)) → left ≡ ok_line ∷ more → ⊥) → ⊥
@@ -71,7 +66,7 @@ last_line_ok before front left has last is none =
 -- the last of the lines is the one at the last start
 last_is_ok : (text : List ℕ) (at : ℕ) (front : List (List ℕ)) → IsLastStart text at → lines (take at text) ++ lines (drop at text) ≡ front ++ ok_line ∷ [] → ((more : List (List ℕ)) → lines (drop at text) ≡ ok_line ∷ more → ⊥) → ⊥
 last_is_ok text at front last is none =
-    last_line_ok (lines (take at text)) front (lines (drop at text)) (some_line (drop at text) (omega (arith, length-drop at text, last.within))) last.last is none
+    last_line_ok (lines (take at text)) front (lines (drop at text)) (line_of_some (drop at text) (omega (arith, length-drop at text, last.within))) last.last is none
 
 -- ---- the length of a line
 

@@ -7,12 +7,11 @@ use Rattle.claim_text.specs.Lines.{row_words, stay_words}
 use Rattle.claim_text.specs.Words.{words}
 use Rattle.claim_text.specs.Problems.{Says, nothing_read}
 use Rattle.claim_text.specs.declared.problem.items.Item.{Item}
-use Rattle.claim_text.specs.ClaimTexts.{ReadFrom}
-use Rattle.claim_text.specs.ClaimTexts as claims
+use Rattle.claim_text.specs.Claims.ClaimTexts as claims
 use Rattle.claim_text.specs.ProblemForms.{IsFirstOutsideProblem}
 use Rattle.claim_text.specs.FormExamples.{SomeAreOutside}
-use Rattle.claim_text.proofs.ClaimForms.{claims-are-the-form}
-use Rattle.claim_text.proofs.ProblemForms.{problems-are-the-form}
+use Rattle.claim_text.proofs.Claims.ClaimForms.{claims-are-the-form}
+use Rattle.claim_text.proofs.Problems.ProblemForms.{problems-are-the-form}
 
 abbrev stray : List ℕ
 stray = 0 ∷ []

@@ -2,7 +2,7 @@
 use Rattle.std.proofs.Common.{◌≡◌, ℕ, ◌+◌, ◌<◌, ◌==◌, List, [], ◌∷◌, ◌++◌, length, take, drop, All, false, true, get_or, slice_index, sym, ap, ◌∙◌, arith}
 use Rattle.std.proofs.lemmas.List.Splits.{slice_split_at, slice_split_none, join_with_byte-slice_split}
 use Rattle.std.specs.List.{join_with_byte}
-use Rattle.span_text.proofs.Cuts.{first_part}
+use Rattle.span_text.proofs.TextCuts.Cuts.{first_part}
 use Rattle.std.proofs.lemmas.List.{drop_more, take-append-drop}
 use Rattle.std.proofs.lemmas.Bool.Decides.{nat_tests}
 use Rattle.claim_text.specs.Words.{parts}

@@ -4,14 +4,6 @@ use Rattle.std.specs.Prelude.{AllPairs}
 use Rattle.std.proofs.lemmas.List.{get_or_append_left, get_or_at, length-append}
 use Rattle.std.proofs.lemmas.List.Elements.{All-head, All-tail}
 
--- what each element of a longer list has, each of its front has
-pub All-front : {X : Type 0} (P : X → Type 0) (xs ys : List X) → All P (xs ++ ys) → All P xs
-All-front P xs ys all = λ k d lt. rw (get_or_append_left xs ys d k lt) at (all k d (omega (arith, length-append xs ys)))
-
-pub AllPairs-front : {X : Type 0} (R : X → X → Type 0) (xs ys : List X) → AllPairs R (xs ++ ys) → AllPairs R xs
-AllPairs-front R xs ys all = λ i j d lt in_range.
-    rw (get_or_append_left xs ys d i (omega arith), get_or_append_left xs ys d j in_range) at (all i j d lt (omega (arith, length-append xs ys)))
-
 pub All-at_end : {X : Type 0} (P : X → Type 0) (xs : List X) (y : X) → All P (xs ++ y ∷ []) → P y
 All-at_end P xs y all = rw (get_or_at xs y [] y (length xs) refl) at (all (length xs) y (omega (arith, length-append xs (y ∷ []))))
 

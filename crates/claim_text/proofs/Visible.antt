@@ -7,7 +7,7 @@ use Rattle.std.specs.List.{join_with_byte}
 use Rattle.std.specs.Str.Lines.{lines, strip_carriage_return}
 use Rattle.std.proofs.lemmas.Bool.Decides.{nat_tests}
 use Rattle.std.proofs.lemmas.List.Elements.{All-cons, All-nil, All-append, All-weaker, All-head, All-tail, All-map}
-use Rattle.span_text.proofs.Cuts.{lines_at}
+use Rattle.span_text.proofs.TextCuts.Cuts.{lines_at}
 use Rattle.frac_core.specs.Fraction.{Fraction, IsKept}
 use Rattle.frac_core.specs.Text.{fraction_text}
 use Rattle.problem_core.specs.declared.parts.Rel.{Rel}
@@ -19,8 +19,8 @@ use Rattle.problem_core.specs.Layout.{Row}
 use Rattle.claim_text.specs.Words.{words, line_of}
 use Rattle.claim_text.specs.Lines.{rel_word, term_word, row_words, stay_words, text_of_lines}
 use Rattle.claim_text.proofs.Parts.{IsFree, parts_one, parts_two}
-use Rattle.claim_text.proofs.Digits.{decimal_digits}
-use Rattle.claim_text.proofs.Lowest.{text_cases}
+use Rattle.claim_text.proofs.Numerals.Digits.{decimal_digits}
+use Rattle.claim_text.proofs.Numerals.Lowest.{text_cases}
 
 abbrev pub IsVisible : List ℕ → Type 0
 IsVisible w = All (λ b. 32 < b) w

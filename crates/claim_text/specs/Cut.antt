@@ -1,6 +1,6 @@
 -- The input of a check: the lines of a problem, and those of a claim.
 use Rattle.std.specs.Prelude.{◌≡◌, ◌⊎◌, ℕ, List, [], ◌∷◌, ◌++◌, All, codes}
-use Rattle.span_text.specs.Words.{words_of}
+use Rattle.span_text.specs.TextCuts.Words.{words_of}
 
 abbrev pub IsClaimWord : List ℕ → Type 0
 IsClaimWord w = (w ≡ codes "value") ⊎ ((w ≡ codes "best") ⊎ ((w ≡ codes "conflict") ⊎ (w ≡ codes "path")))

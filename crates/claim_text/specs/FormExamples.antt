@@ -1,6 +1,6 @@
 -- Lines outside the forms of claims and of problems.
 use Rattle.std.specs.Prelude.{ℕ, [], ◌∷◌}
-use Rattle.claim_text.specs.ClaimForms.{IsFirstOutside}
+use Rattle.claim_text.specs.Claims.ClaimForms.{IsFirstOutside}
 use Rattle.claim_text.specs.ProblemForms.{IsFirstOutsideProblem}
 
 -- no line is no claim, for want of `best`, and is a problem; a line of another byte is none

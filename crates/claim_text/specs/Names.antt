@@ -1,5 +1,6 @@
 -- The names of rows and of levels: their words, and the order in which they come.
 use Rattle.std.specs.Prelude.{◌≢◌, ℕ, ◌<◌, ◌≤◌, List, ◌∷◌, decimal}
+use Rattle.span_text.specs.Bytes.{lower_s}
 use Rattle.problem_core.specs.declared.parts.RowName.{RowName}
 use Rattle.problem_core.specs.declared.parts.RowName.TheVariants.{Held, Stay as StayRow}
 use Rattle.problem_core.specs.declared.parts.Level.{Level}
@@ -10,12 +11,12 @@ use Rattle.problem_core.specs.declared.limits.TheConstants.{REQUIRED}
 -- a row by its number, or the row of an attribute's stay behind an `s`
 abbrev pub row_word : RowName → List ℕ
 row_word (Held id) = decimal id
-row_word (StayRow attr) = 115 ∷ decimal attr
+row_word (StayRow attr) = lower_s ∷ decimal attr
 
 -- a priority, or the stay of an attribute behind an `s`
 abbrev pub level_word : Level → List ℕ
 level_word (Priority rank) = decimal rank
-level_word (StayLevel attr) = 115 ∷ decimal attr
+level_word (StayLevel attr) = lower_s ∷ decimal attr
 
 abbrev pub IsRowName : RowName → Type 0
 IsRowName (Held id) = IsNumber id

@@ -9,6 +9,7 @@ use Rattle.claim_text.specs.declared.problem.items.Item.{Item}
 use Rattle.claim_text.specs.declared.problem.items.Item.TheVariants.{Nothing, OfRow, OfStay}
 use Rattle.claim_text.specs.declared.limits.TheConstants.{TEXT_ROW_LIMIT, TEXT_STAY_LIMIT}
 use Rattle.claim_text.specs.Stops.{ReadStop}
+use Rattle.claim_text.specs.FirstBad.{IsFirstBad}
 use Rattle.frac_core.specs.declared.memory.Stop.TheVariants.{OutOfMemory, Refused}
 use Rattle.claim_text.specs.Words.{words}
 use Rattle.claim_text.specs.Lines.{row_words, stay_words}
@@ -76,18 +77,8 @@ pub record AreStayAttributes (lines : List (List ℕ)) (attrs : List ℕ) : Type
 abbrev pub Reads : List (List ℕ) → Problem → Type 0
 Reads all p = ReadFrom (HasStayLine all) nothing_read all p
 
--- The n-th line is the first, counted from 1, that may not follow those before it.
-pub record IsFirstBad (all : List (List ℕ)) (n : ℕ) : Type 0 where
-  pub before : List (List ℕ)
-  pub line : List ℕ
-  pub after : List (List ℕ)
-  pub parts : all ≡ before ++ line ∷ after
-  pub number : n ≡ length before + 1
-  pub so_far : Problem
-  pub reads : ReadFrom (HasStayLine all) nothing_read before so_far
-  pub bad : (new : Problem) → Step (HasStayLine all) so_far line new → ⊥
-
 -- where the text stops to be a problem, unless memory was wanting
 abbrev pub StopsAt : List (List ℕ) → ReadStop → Type 0
-StopsAt all (Refused bad) = IsFirstBad all bad.0
+StopsAt all (Refused bad) =
+    IsFirstBad (ReadFrom (HasStayLine all) nothing_read) (Step (HasStayLine all)) all bad.0
 StopsAt all OutOfMemory = Unit {0}

@@ -1,8 +1,7 @@
 // The cut of the input of a check into a problem and a claim.
-ghost use Rattle.std.specs.Prelude.{◌≡◌, ◌<◌, ◌≤◌, ◌++◌, ◌∷◌, [], All, List, ℕ, length, take, drop};
-ghost use Rattle.std.specs.Prelude.{codes, IsTrue, ◌↔◌, MatchOption};
+ghost use Rattle.std.specs.Prelude.{◌≡◌, ◌<◌, ◌≤◌, ◌∷◌, [], List, ℕ, length, drop};
+ghost use Rattle.std.specs.Prelude.{IsTrue, ◌↔◌, MatchOption};
 ghost use Rattle.std.specs.Str.Lines.{lines};
-ghost use Rattle.span_text.specs.Words.{words_of};
 ghost use Rattle.claim_text.specs.Cut.{IsClaimWord, BeginsClaim, IsClaimStart, IsWithoutOk, IsCut, ok_line};
 ghost use Rattle.claim_text.specs.CutLines.{IsLineLength, IsLastStart, IsPlace};
 ghost use Rattle.claim_text.specs.declared.limits.TheConstants.{TEXT_LIMIT};

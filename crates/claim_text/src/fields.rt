@@ -1,5 +1,5 @@
 // The next word of a line, as a number, a fraction or a fixed word.
-ghost use Rattle.std.specs.Prelude.{◌≡◌, ℕ, ◌<◌, ◌≤◌, ◌^◌, ◌∷◌, List, IfSome, IfNone, IsTrue, ◌↔◌, decimal};
+ghost use Rattle.std.specs.Prelude.{◌≡◌, ℕ, ◌<◌, ◌≤◌, ◌^◌, ◌∷◌, List, IfSome, IfNone, IsTrue, decimal};
 ghost use Rattle.frac_core.specs.Fraction.{Fraction, IsKept};
 ghost use Rattle.frac_core.specs.Text.{fraction_text};
 ghost use Rattle.span_text.specs.declared.limits.TheConstants.{WHOLE_DIGITS};
@@ -11,7 +11,7 @@ use crate::words::Words;
 use frac_core::Frac;
 use problem_core::Rel;
 
-// A whole number between these two.
+/// A whole number between these two.
 pub(crate) fn next_number(words: &mut Words, least: u64, most: u64) -> Option<u64>
     requires { most < 10 ^ WHOLE_DIGITS }
     ensures some { IfSome result (λ n. (least ≤ n) × (n ≤ most) × (words.old ≡ decimal n ∷ words.new)) }
@@ -55,7 +55,7 @@ pub(crate) fn next_relation(words: &mut Words) -> Option<Rel>
     relation(word)
 }
 
-// Whether the next word is this one.
+/// Whether the next word is this one.
 pub(crate) fn next_is(words: &mut Words, expected: &[u8]) -> bool
     ensures yes { IsTrue result → words.old ≡ expected.now ∷ words.new }
     ensures no { (more : List (List ℕ)) → words.old ≡ expected.now ∷ more → IsTrue result }

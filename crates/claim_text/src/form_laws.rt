@@ -1,7 +1,7 @@
 // Laws of the readers, each the contract of a function that does nothing.
-ghost use Rattle.claim_text.specs.ClaimForms.{ClaimsAreTheForm};
+ghost use Rattle.claim_text.specs.Claims.ClaimForms.{ClaimsAreTheForm};
 ghost use Rattle.claim_text.specs.FormExamples.{SomeAreOutside};
-ghost use Rattle.claim_text.specs.PathExamples.{SomePathsAreInside, SomePathsAreOutside};
+ghost use Rattle.claim_text.specs.Paths.PathExamples.{SomePathsAreInside, SomePathsAreOutside};
 ghost use Rattle.claim_text.specs.ProblemForms.{ProblemsAreTheForm};
 
 /// The lines that `read_claim` reads as a claim are exactly that claim's lines, and the line at which it

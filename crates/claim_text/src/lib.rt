@@ -5,7 +5,7 @@
 //! numbers without leading zeros, fractions in lowest terms; a problem may have comments and empty lines
 //! besides. To anything else it answers with the number of the first line outside the form.
 //!
-//! A `Claim` is what is said of a problem: that values are best, that its required rows are in conflict, or
+//! A [`Claim`] is what is said of a problem: that values are best, that its required rows are in conflict, or
 //! that a path from corner to corner is lawful:
 //!
 //! ```text
@@ -23,14 +23,21 @@
 //! swap s1+ 1-                  by one exchange
 //! ```
 //!
-//! `cut_input` cuts such an input in two, `read_problem` and `read_claim` read the parts, and `problem_text`
-//! and `cert_text` write them. The laws say that a text is read exactly where it is one that is written.
+//! [`cut_input`] cuts such an input in two, [`read_problem`] and [`read_claim`] read the parts, and
+//! [`problem_text`] and [`cert_text`] write them. The laws say that the lines that are read as a claim are
+//! exactly that claim's lines, that those read as a problem are exactly that problem's lines with some that
+//! are passed over, and that the line at which a reader stops is the first outside the form.
 //!
-//! Modules in reading order: `words`, `numbers` and `fields` (the parts of a line); `problem` (lines of rows
-//! and of stays, `problem::draft` while they are read, `problem::reader`, `problem::writer`); `claim` (the
-//! type, `claim::lines` and `claim::path_lines`, `claim::draft` and `claim::path_draft` while they are read,
-//! `claim::order`, `claim::reader`, `claim::writer`, `claim::path_writer`); `cut` (the input of a check);
-//! `limits` and `stops` (why a text was not read); `form_laws`.
+//! Invariant (`IsDraft`): while a claim is read, what was read has the order in which a claim is written:
+//! values by rising attribute, levels and rows each once and as `claim::order` has them.
+//!
+//! Modules in reading order: `limits` and `stops` (why a text was not read); `words`, `numbers` and `fields`
+//! (the parts of a line). `problem`, with `problem::term_words`, `problem::row_lines`, `problem::stay_lines`
+//! and `problem::items` (what a line says), `problem::attributes` (those that have stays), `problem::draft`
+//! (a problem while it is read), `problem::reader`, `problem::line_writers`, `problem::writer`. `claim` (the
+//! type), with `claim::fields`, `claim::path_lines` and `claim::lines` (what a line says), `claim::order` and
+//! `claim::seen` (the stays named so far), `claim::path_draft` and `claim::draft` (a claim while it is read),
+//! `claim::reader`, `claim::path_writer`, `claim::writer`. `cut` (the input of a check); `form_laws`.
 #![tactic(auto)]
 
 mod claim;

@@ -1,7 +1,6 @@
 // Numbers as they are written: without leading zeros, a sign only below 0, fractions in lowest terms.
-ghost use Rattle.std.specs.Prelude.{◌≡◌, ℕ, ℤ, ◌<◌, ◌≤◌, ◌^◌, ◌==◌, IfSome, IfNone, All, length, decimal};
-ghost use Rattle.std.specs.Prelude.{unsigned_abs, IsTrue, ◌↔◌, slice_index, List, ◌∷◌, pos};
-ghost use Rattle.std.specs.Char.{IsAsciiDigit};
+ghost use Rattle.std.specs.Prelude.{◌≡◌, ℕ, ℤ, ◌<◌, ◌≤◌, ◌^◌, ◌==◌, IfSome, IfNone, length, decimal};
+ghost use Rattle.std.specs.Prelude.{unsigned_abs, IsTrue, ◌↔◌, slice_index, List, ◌∷◌};
 ghost use Rattle.std.specs.Str.Parse.{digits_value};
 ghost use Rattle.std.specs.Fmt.{signed_decimal};
 ghost use Rattle.frac_core.specs.Fraction.{Fraction, IsKept};
@@ -51,7 +50,7 @@ fn plain_number(word: &[u8]) -> Option<u64>
     }
 }
 
-// A whole number between these two.
+/// A whole number between these two.
 pub(crate) fn natural(word: &[u8], least: u64, most: u64) -> Option<u64>
     requires { most < 10 ^ WHOLE_DIGITS }
     ensures some { IfSome result (λ n. (least ≤ n) × (n ≤ most) × (word.now ≡ decimal n)) }
@@ -76,7 +75,7 @@ fn after_minus(word: &[u8]) -> Option<&[u8]>
     }
 }
 
-// A whole number of this size at most.
+/// A whole number of this size at most.
 pub(crate) fn integer(word: &[u8], most: u64) -> Option<i64>
     requires { most < 2 ^ 62 }
     ensures some { IfSome result (λ z. (unsigned_abs z ≤ most) × (word.now ≡ signed_decimal z)) }
@@ -135,7 +134,7 @@ fn quotient(above: &[u8], below: &[u8]) -> Option<Frac>
     lowest(num, den)
 }
 
-// A fraction, as `p/q` or as `p` where q is 1.
+/// A fraction, as `p/q` or as `p` where q is 1.
 pub(crate) fn fraction(word: &[u8]) -> Option<Frac>
     ensures some { IfSome result (λ f. IsKept f × (word.now ≡ fraction_text f)) }
     ensures none { IfNone result ((f : Fraction) → IsKept f → word.now ≡ fraction_text f → ⊥) }

@@ -5,7 +5,7 @@ ghost use Rattle.claim_text.specs.Words.{parts, words};
 
 use std::marker::Model;
 
-// A part of a text before a byte, and what stands behind that byte.
+/// A part of a text before a byte, and what stands behind that byte.
 #[derive(Drop)]
 pub(crate) struct Cut<'a> {
     pub(crate) part: &'a [u8],
@@ -21,7 +21,7 @@ fn end_of_part(text: &[u8], end: u8) -> usize
     text.iter().position(|b| *b == end).unwrap_or(text.len())
 }
 
-// The part of a text before the first such byte.
+/// The part of a text before the first such byte.
 pub(crate) fn first_part(text: &[u8], end: u8) -> Cut<'_>
     ensures text { MatchOption result.rest (text.now ≡ result.part.now) (λ rest. text.now
         ≡ result.part.now ++ end ∷ rest.now) }
@@ -43,7 +43,7 @@ pub(crate) fn first_part(text: &[u8], end: u8) -> Cut<'_>
     }
 }
 
-// The words of a line that are left.
+/// The words of a line that are left.
 #[derive(Drop)]
 pub(crate) struct Words<'a> {
     rest: Option<&'a [u8]>,

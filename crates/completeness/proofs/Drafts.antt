@@ -3,22 +3,20 @@ use Rattle.std.proofs.Common.{◌≡◌, ◌∙◌, ℕ, zero, suc, ◌+◌, ◌
 use Rattle.frac_core.specs.Fraction.{Fraction, IsKept, IsUnfitRatio}
 use Rattle.problem_core.specs.declared.parts.Mark.{Mark}
 use Rattle.problem_core.specs.declared.parts.RowName.TheVariants.{Held}
-use Rattle.problem_core.specs.declared.stops.Quantity.{Quantity}
-use Rattle.problem_core.specs.declared.stops.Quantity.TheVariants.{Plain, Terms, Rows, Shifts}
 use Rattle.problem_core.specs.Gaps.{value_of}
 use Rattle.problem_core.specs.Layout.{HasStay, IsInConflict, Problem, Row}
-use Rattle.problem_core.specs.Paths.{IsPath, last_marks}
+use Rattle.problem_core.specs.Changes.Paths.{IsPath}
 use Rattle.problem_core.proofs.Refutations.{refutation-IsInConflict}
 use Rattle.problem_core.proofs.Wholes.{whole-IsProblem}
 use Rattle.cert_core.specs.Claims.{times_of}
 use Rattle.cert_core.specs.Paths.{Path}
-use Rattle.cert_core.specs.Stops.{IsStopOf, IsUnfitPath}
+use Rattle.cert_core.specs.Stops.{IsStopOf}
 use Rattle.cert_core.specs.declared.stops.UnfitPath.{UnfitPath}
 use Rattle.cert_core.specs.declared.stops.RunStop.{RunStop}
 use Rattle.cert_core.specs.declared.stops.RunStop.TheVariants as run
-use Rattle.corner_laws.specs.Laws.{AllFit, IsConflict}
-use Rattle.corner_laws.proofs.Complete.{stops_are_conflicts}
-use Rattle.corner_laws.proofs.Few.{last_corner, path_few}
+use Rattle.corner_laws.specs.Laws.{IsConflict}
+use Rattle.corner_laws.proofs.PathEnds.Complete.{stops_are_conflicts, unfit-none as unfit-there}
+use Rattle.corner_laws.proofs.PathEnds.Few.{path_few}
 use Rattle.layout_solver.specs.Begins.{FromStart}
 use Rattle.layout_solver.specs.Layouts.{Layout}
 use Rattle.layout_solver.specs.Removals.{FromRemoved, IsHeldPath, IsLeftStop, Leaving, without, without_rows}
@@ -56,13 +54,6 @@ unspent dual p budget path large lawful count =
 -- a stop with room is a conflict, or want of memory
 stops : (dual : Bool) (p : Problem) (before : List Row) (Begins : List Row → List Mark → Type 0) (budget : ℕ) (stop : RunStop) → HasRoom before budget p → IsStopOf dual p before Begins budget stop → IsConflict stop
 stops dual p before Begins budget stop room h = stops_are_conflicts dual p before Begins budget stop room.large.whole room.fits (enough budget p room.large) h
-
--- what doesn't fit is there at a corner
-unfit-there : (dual : Bool) (p : Problem) (before : List Row) (Begins : List Row → List Mark → Type 0) (path : Path) (q : Quantity) → AllFit p before → IsUnfitPath dual p before Begins path q → ⊥
-unfit-there dual p before Begins path (Plain what) fit h = fit (last_marks path.corner path.swaps) (Plain what) (last_corner dual p path.corner path.swaps h.1.corner h.1.lawful) h.2
-unfit-there dual p before Begins path (Terms mark j) fit h = fit path.corner (Terms mark j) h.2 h.4
-unfit-there dual p before Begins path (Rows level j) fit h = fit path.corner (Rows level j) h.2.corner h.3
-unfit-there dual p before Begins path (Shifts what j) fit h = fit path.corner (Shifts what j) h.2.corner h.3
 
 -- ---- drafts
 
@@ -157,13 +148,13 @@ probe-stops old l attr up stop room is has (f, beside, kept, h) =
     subst (λ (p : Problem). HasRoom p.rows old.budget (with_probe l attr f)) (sym is.problem) (subst (HasRoom old.scene.rows old.budget) (sym (same-probe old.scene l attr f is)) roomy) in
     stops false (with_probe l attr f) l.problem.rows (FromAdded (with_probe l attr f) l.corner (probe_row l attr f ∷ [])) old.budget stop same h
 
-probe-overflows : (old : State) (attr : ℕ) (up : Bool) (at : UnfitPath) → HasRoomToProbe old → IsProbedStop old.scene old.budget (attr, probed.Unfit up at) → ⊥
+probe-overflows : (old : State) (attr : ℕ) (up : Bool) (at : UnfitPath) → HasRoomToProbe old → IsProbedStop old.scene old.budget attr (probed.Unfit up at) → ⊥
 probe-overflows old attr up at room (l, is, (has, (called, stop))) = probe-stops old l attr up (run.Unfit at) room is has stop
 
-probe-spends : (old : State) (attr : ℕ) (up : Bool) (path : Path) → HasRoomToProbe old → IsProbedStop old.scene old.budget (attr, probed.Spent up path) → ⊥
+probe-spends : (old : State) (attr : ℕ) (up : Bool) (path : Path) → HasRoomToProbe old → IsProbedStop old.scene old.budget attr (probed.Spent up path) → ⊥
 probe-spends old attr up path room (l, is, (has, (called, stop))) = probe-stops old l attr up (run.Spent path) room is has stop
 
-lacks-target : (old : State) (attr : ℕ) (up : Bool) → HasRoomToProbe old → IsProbedStop old.scene old.budget (attr, probed.Target up) → ⊥
+lacks-target : (old : State) (attr : ℕ) (up : Bool) → HasRoomToProbe old → IsProbedStop old.scene old.budget attr (probed.Target up) → ⊥
 lacks-target old attr up room (l, is, (has, (called, none))) =
     room.wishes attr up (subst (λ (p : Problem). HasStay p.stays attr) is.problem has)
     (subst (λ (vs : List (ℕ × Fraction)). IsUnfitRatio (next_num up (value_of vs attr)) (pos (value_of vs attr).den)) is.values none)
@@ -191,7 +182,7 @@ draft-unspent old draft reply new large (inr h) = large-left old draft h.path la
 abbrev AreLarge : State → Type 0
 AreLarge old = (attr : ℕ) (f : Fraction) → IsProbed old.scene attr f → IsLarge old.budget (probe_problem old.scene attr f)
 
-probe-unspent : (old : State) (attr : ℕ) (up : Bool) (path : Path) → AreLarge old → IsProbedStop old.scene old.budget (attr, probed.Spent up path) → ⊥
+probe-unspent : (old : State) (attr : ℕ) (up : Bool) (path : Path) → AreLarge old → IsProbedStop old.scene old.budget attr (probed.Spent up path) → ⊥
 probe-unspent old attr up path large (l, is, (has, (called, (f, beside, kept, stop)))) =
     unspent false (with_probe l attr f) old.budget path
     (subst (IsLarge old.budget) (sym (same-probe old.scene l attr f is)) (large attr f (is-probed old.scene l attr up f is has beside kept))) stop.1.lawful stop.1.count

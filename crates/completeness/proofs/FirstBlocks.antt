@@ -15,10 +15,12 @@ use Rattle.problem_core.specs.Kept.{IsRow, IsStay, IsTerm, IsWhole}
 use Rattle.problem_core.specs.Window.{required_row, zero_fraction}
 use Rattle.problem_core.specs.Corners.{IsCorner, IsIn, Point, Solves, attr_column, equation, marks_of, one_column, place}
 use Rattle.corner_laws.proofs.Counting.{one_mark}
-use Rattle.corner_laws.proofs.Directions.{small-mark}
-use Rattle.corner_laws.proofs.Fits.{whole_is_kept}
+use Rattle.corner_laws.proofs.MarkWritings.Directions.{small-mark}
+use Rattle.corner_laws.proofs.MarkWritings.Fits.{whole_is_kept}
 use Rattle.corner_laws.proofs.ZeroColumns.{direction_zero}
 use Rattle.completeness.specs.Examples.{first, zero_stay}
+use Rattle.frac_core.proofs.Lists.{pairs-nil as pairs-none}
+use Rattle.corner_laws.proofs.Instances.UnitExamples.{one-not-zero as no-one}
 
 -- ---- it is whole
 
@@ -36,9 +38,6 @@ row-whole id attr rel a b c d = record {
 
 stay-whole : (attr : ℕ) → 0 < attr → attr ≤ 4 → IsStay (zero_stay attr)
 stay-whole attr a b = record { attr = (a, omega (arith, b)); target = whole_is_kept 0 (omega arith) }
-
-pub pairs-none : {X : Type 0} (R : X → X → Type 0) → AllPairs R []
-pairs-none R i j d less within = absurd (omega (arith, less, within))
 
 pub pairs : {X : Type 0} (R : X → X → Type 0) (x : X) (xs : List X) → Each (R x) xs → AllPairs R xs → AllPairs R (x ∷ xs)
 pairs R x xs h rest = AllPairs-cons R x xs (All-from_recursion (R x) xs h) rest
@@ -134,9 +133,6 @@ pub record IsBlock (at : List Mark) (b : ℕ) : Type 0 where
 
 zeros : Each (λ (n : ℕ). pos 0 ≡ pos 0) (1 ∷ 2 ∷ 3 ∷ 4 ∷ 5 ∷ 6 ∷ 7 ∷ 8 ∷ [])
 zeros = (refl, (refl, (refl, (refl, (refl, (refl, (refl, (refl, tt))))))))
-
-no-one : pos 1 ≢ pos 0
-no-one e = omega (arith, ints, e)
 
 solved : (x : Point) → Solves first x → Each (λ l. value_at x.num (equation l) ≡ pos 0) (lines first)
 solved x h = recursion_from_All (λ l. value_at x.num (equation l) ≡ pos 0) (lines first) h

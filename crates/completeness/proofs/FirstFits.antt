@@ -23,18 +23,19 @@ use Rattle.problem_core.specs.Window.{structural_rows, zero_fraction}
 use Rattle.problem_core.specs.Corners.{IsCorner, IsIn, Point, Solves, StandsAt, attr_column, column, equation, marks_of, one_column, place, place_of}
 use Rattle.problem_core.specs.Levels.{AreFitting, HasNoLevelWriting, IsCostAt, IsLevelWriting, alone, cost_at, line_cost, scales}
 use Rattle.problem_core.specs.Unfit.{HasNoWriting}
-use Rattle.problem_core.proofs.CornerFacts.{is_place}
+use Rattle.problem_core.proofs.Corners.CornerFacts.{is_place}
 use Rattle.problem_core.proofs.Forms.{each-impl, sum-zero}
 use Rattle.corner_laws.specs.Laws.{AllFit}
-use Rattle.corner_laws.proofs.Complete.{plain_alone}
+use Rattle.corner_laws.proofs.PathEnds.Complete.{plain_alone}
 use Rattle.corner_laws.proofs.Counting.{IsIn-from_is_place, is_place-from_IsIn}
-use Rattle.corner_laws.proofs.Exchanged.{neg-times}
-use Rattle.corner_laws.proofs.Fits.{one_factor, whole_is_kept}
+use Rattle.corner_laws.proofs.MarkWritings.Fits.{one_factor, whole_is_kept}
 use Rattle.corner_laws.proofs.WrittenValues.{contains_each}
 use Rattle.corner_laws.proofs.ZeroColumns.{not-in}
 use Rattle.completeness.specs.Examples.{first}
 use Rattle.completeness.proofs.FirstBlocks.{IsBlock, IsMark, block-1, block-2, block-3, block-4}
-use Rattle.corner_lines.proofs.LevelFits.{look_up}
+use Rattle.corner_lines.proofs.Costs.LevelFits.{look_up}
+use Rattle.frac_core.proofs.Numbers.{neg-times, one-times as once}
+use Rattle.frac_core.proofs.Bools.{bit-most as most-one}
 
 -- ---- sums of three marks
 
@@ -187,10 +188,6 @@ times_at at k (StayOf attr) = neg_ℤ (factor at k attr)
 abbrev reduced_at : List Mark → ℕ → ℕ → ℤ
 reduced_at at k c = look_up (λ side l. column (alone 1 (times_at at k)) side l k) (lines first) c
 
-pub most-one : (b : Bool) → cond b 1 0 ≤ 1
-most-one true = omega arith
-most-one false = omega arith
-
 over-one : (b k : ℕ) → over_of b k ≤ 1
 over-one b k = pick (nat_eq b 1) (nat_eq b 2)
   where
@@ -274,9 +271,6 @@ module _ (at : List Mark) (k b : ℕ) (h : IsBlock at b) where
 
 cancel-all : (f g h i a b c d : ℤ) → f *ℤ a +ℤ (g *ℤ b +ℤ (h *ℤ c +ℤ (i *ℤ d +ℤ (neg_ℤ f *ℤ a +ℤ (neg_ℤ g *ℤ b +ℤ (neg_ℤ h *ℤ c +ℤ (neg_ℤ i *ℤ d +ℤ pos 0))))))) ≡ pos 0
 cancel-all f g h i a b c d = omega (arith, ints, neg-times f a, neg-times g b, neg-times h c, neg-times i d)
-
-pub once : (z : ℤ) → pos 1 *ℤ z ≡ z
-once z = omega (arith, ints)
 
 module _ (at : List Mark) (k : ℕ) (corner : IsCorner first at) where
   abbrev Col : Side → Line → ℤ

@@ -21,17 +21,18 @@ use Rattle.problem_core.specs.Window.{zero_fraction}
 use Rattle.problem_core.specs.Corners.{IsCorner, IsIn, Point, Solves, StandsAt, attr_column, column, equation, marks_of, one_column, place, place_of}
 use Rattle.problem_core.specs.Levels.{AreFitting, HasNoLevelWriting, IsLevelWriting, alone, cost_at}
 use Rattle.problem_core.specs.Unfit.{AreOverFrom, HasNoWriting, changes, first_terms, lightened, over_mark, with_first_rows, without_weight}
-use Rattle.problem_core.proofs.CornerFacts.{is_place}
+use Rattle.problem_core.proofs.Corners.CornerFacts.{is_place}
 use Rattle.corner_laws.specs.Laws.{AllFit}
 use Rattle.corner_laws.proofs.Counting.{IsIn-from_is_place, is_place-from_IsIn}
-use Rattle.corner_laws.proofs.Exchanged.{neg-times}
-use Rattle.corner_laws.proofs.Fits.{one_factor, whole_is_kept}
-use Rattle.corner_laws.proofs.PathExamples.{alone-in}
+use Rattle.corner_laws.proofs.MarkWritings.Fits.{one_factor, whole_is_kept}
+use Rattle.corner_laws.proofs.Instances.PathExamples.{alone-in}
 use Rattle.corner_laws.proofs.WrittenValues.{contains_each}
 use Rattle.completeness.specs.Examples.{bare, lone, lone_row, zero_stay}
-use Rattle.completeness.proofs.FirstFits.{IsUnit, at-above, at-below, at-over, at-under, give, minus, most-one, multiplier, multiplier-unit, none, once, one, opposite, take, three, three-at, three-fits, unit-fits, weight_of, zero_point}
-use Rattle.corner_lines.proofs.LevelFits.{look_up}
-use Rattle.corner_lines.proofs.JoinedBegins.{nowhere}
+use Rattle.completeness.proofs.FirstFits.{IsUnit, at-above, at-below, at-over, at-under, give, minus, multiplier, multiplier-unit, none, one, opposite, take, three, three-at, three-fits, unit-fits, weight_of, zero_point}
+use Rattle.corner_lines.proofs.Costs.LevelFits.{look_up}
+use Rattle.corner_lines.proofs.ProblemChanges.JoinedBegins.{nowhere}
+use Rattle.frac_core.proofs.Numbers.{neg-times, one-times as once}
+use Rattle.frac_core.proofs.Bools.{bit-most as most-one}
 
 -- ---- they are whole
 

@@ -6,7 +6,6 @@ use Rattle.frac_core.specs.Fraction.{Fraction, Fits, IsLowest, IsRatio}
 use Rattle.problem_core.specs.declared.parts.Stay.{Stay}
 use Rattle.problem_core.specs.Layout.{Problem, Row}
 use Rattle.problem_core.specs.Window.{zero_fraction}
-use Rattle.constraint_compile.proofs.Shifts.{same_value}
 use Rattle.corner_laws.specs.Laws.{AllFit}
 use Rattle.corner_lines.specs.Removals.{without_row}
 use Rattle.layout_solver.specs.Removals.{CanLeave, Leaving, without_rows}
@@ -21,6 +20,7 @@ use Rattle.completeness.specs.States.{far_state, free_state, held_state}
 use Rattle.completeness.proofs.FirstFits.{IsUnit, minus, none, one}
 use Rattle.completeness.proofs.FirstSession.{no-cause}
 use Rattle.completeness.proofs.LoneFits.{bare-fits, bare-whole, lone-fits, lone-whole, only-attr, unit-kept}
+use Rattle.frac_core.proofs.Fitting.{same-value as same_value}
 
 -- ---- probes
 

@@ -11,10 +11,12 @@ use Rattle.problem_core.specs.declared.stops.What.TheVariants.{Attr}
 use Rattle.problem_core.specs.Layout.{Row, lines, value_at}
 use Rattle.problem_core.specs.Corners.{Agree, IsCorner, IsIn, Point, StandsAt, attr_column, equation, marks_of, one_column, place}
 use Rattle.corner_laws.specs.Laws.{AllFit}
-use Rattle.corner_laws.proofs.Examples.{no_writing}
+use Rattle.corner_laws.proofs.Instances.Examples.{no_writing}
 use Rattle.corner_laws.proofs.ZeroColumns.{not-in}
 use Rattle.completeness.specs.Examples.{steep, zero_stay}
-use Rattle.completeness.proofs.FirstBlocks.{pairs, pairs-none}
+use Rattle.completeness.proofs.FirstBlocks.{pairs}
+use Rattle.corner_laws.proofs.Instances.PathExamples.{same as agrees}
+use Rattle.frac_core.proofs.Lists.{pairs-nil as pairs-none}
 
 -- the width stands at its stay, and the height follows
 abbrev at : List Mark
@@ -82,9 +84,6 @@ over-is u o one a t e f h = omega (arith, ints, e, f, h)
 
 none-is : (z one : ℤ) → z ≡ pos 0 → z ≡ pos 0 *ℤ one
 none-is z one e = omega (arith, ints, e)
-
-agrees : (k z one : ℤ) → z ≡ k *ℤ one → k *ℤ one ≡ z *ℤ pos 1
-agrees k z one e = omega (arith, ints, e)
 
 module _ (y : Point) (h : StandsAt steep at y) where
   abbrev one : ℤ

@@ -1,16 +1,20 @@
 -- With room each line is answered.
-use Rattle.std.specs.Prelude.{◌≡◌, ◌≢◌, ◌⊎◌, ℕ, ◌^◌, ◌<◌, ◌≤◌, true, List, []}
+use Rattle.std.specs.Prelude.{◌≡◌, ◌≢◌, ◌⊎◌, ℕ, ◌<◌, ◌≤◌, true, List, []}
 use Rattle.frac_core.specs.Fraction.{Fraction}
-use Rattle.problem_core.specs.Layout.{Assignment, IsInConflict, Problem, Satisfies}
+use Rattle.problem_core.specs.Layout.{Assignment, IsInConflict, Problem, Row, Satisfies}
 use Rattle.cert_core.specs.declared.by.By.{By}
+use Rattle.corner_laws.specs.Laws.{AllFit}
 use Rattle.script_text.specs.Meaning.{Meaning}
 use Rattle.script_text.specs.Meaning as mean
+use Rattle.session_undo.specs.declared.limits.TheConstants.{BUDGET_LIMIT}
 use Rattle.session_undo.specs.Adding.{NoEnd, NoOther}
 use Rattle.session_undo.specs.Machine.{Finds, IsProblemOf, LeftSpends, MeaningStep, Poses, ProbeSpends}
 use Rattle.session_undo.specs.Machine.{Spends, Tried}
 use Rattle.session_undo.specs.Replies.{Conflict, Done, Reply, is_accepted}
-use Rattle.session_undo.specs.Scene.{Scene, State, first_state}
+use Rattle.session_undo.specs.Scene.{Scene, State, first_scene, first_state, problem_of}
+use Rattle.completeness.specs.Examples.{steep}
 use Rattle.completeness.specs.Room.{HasRoomToProbe, HasRoomToStep, IsLarge, IsProbed, probe_problem}
+use Rattle.completeness.specs.States.{held_state}
 
 -- ---- changes
 
@@ -66,7 +70,7 @@ ProbesAreAnswered = (old : State) (reply : Reply) (new : State) → HasRoomToPro
 abbrev pub NeedsNoRoom : State → Meaning → Type 0
 NeedsNoRoom old mean.Nothing = Unit {0}
 NeedsNoRoom old mean.Undo = old.earlier ≢ []
-NeedsNoRoom old (mean.Budget exchanges) = (0 < exchanges) × (exchanges ≤ 10 ^ 18)
+NeedsNoRoom old (mean.Budget exchanges) = (0 < exchanges) × (exchanges ≤ BUDGET_LIMIT)
 NeedsNoRoom old mean.Frames = Unit {0}
 NeedsNoRoom old mean.Rows = Unit {0}
 NeedsNoRoom old mean.Certify = Unit {0}
@@ -96,3 +100,18 @@ abbrev pub FirstMetricsAreAccepted : Type 0
 FirstMetricsAreAccepted = (name : List ℕ) (value : Fraction) (reply : Reply) (new : State)
     → MeaningStep first_state (mean.Metric name value) reply new
     → IsRefused first_state (mean.Metric name value) reply new ⊎ (reply ≡ Done)
+
+-- ---- room, where there is some and where there is none
+
+-- at each corner of the first scene's problem each quantity fits
+abbrev pub FirstSceneFits : Type 0
+FirstSceneFits = AllFit (problem_of first_scene) first_scene.rows
+
+-- where the height is 2^30 times a width that was 4096 before, some quantity doesn't fit at some corner
+abbrev pub SteepDoesNotFit : Type 0
+SteepDoesNotFit = (before : List Row) → AllFit steep before → ⊥
+
+-- where one attribute has a row, by a line of a group, there is room for the group's removal
+abbrev pub RemovalHasRoom : Type 0
+RemovalHasRoom = (p : Problem) → Poses held_state (mean.Remove []) p
+    → HasRoomToStep held_state (mean.Remove []) p

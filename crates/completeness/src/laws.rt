@@ -1,15 +1,13 @@
 // The laws of completeness, each the contract of a function that does nothing.
-ghost use Rattle.std.specs.Prelude.{List, []};
-ghost use Rattle.problem_core.specs.Layout.{Problem, Row};
-ghost use Rattle.corner_laws.specs.Laws.{AllFit};
+ghost use Rattle.std.specs.Prelude.{[]};
 ghost use Rattle.script_text.specs.Meaning as mean;
 ghost use Rattle.session_undo.specs.Machine.{Poses};
-ghost use Rattle.session_undo.specs.Scene.{first_scene, problem_of};
-ghost use Rattle.completeness.specs.Examples.{bare, steep};
+ghost use Rattle.completeness.specs.Examples.{bare};
 ghost use Rattle.completeness.specs.States.{far_state, free_state, held_state};
-ghost use Rattle.completeness.specs.Room.{HasRoomToProbe, HasRoomToStep};
-ghost use Rattle.completeness.specs.Laws.{ChangesAreAnswered, FirstMetricsAreAccepted};
+ghost use Rattle.completeness.specs.Room.{HasRoomToProbe};
+ghost use Rattle.completeness.specs.Laws.{ChangesAreAnswered, FirstMetricsAreAccepted, FirstSceneFits};
 ghost use Rattle.completeness.specs.Laws.{LargeBudgetsAreNeverSpent, OthersAreAccepted, ProbesAreAnswered};
+ghost use Rattle.completeness.specs.Laws.{RemovalHasRoom, SteepDoesNotFit};
 
 /// Where there is room for the problem of a command that makes a change, a cause is against it, or it is
 /// accepted where the required rows have a solution, and refused for their conflict where they have none.
@@ -36,12 +34,12 @@ pub fn large_budgets_are_never_spent()
 
 /// At each corner of the first scene's problem each quantity fits.
 pub fn first_scene_fits()
-    ensures { AllFit (problem_of first_scene) first_scene.rows }
+    ensures { FirstSceneFits }
 {}
 
 /// Where the height is 2^30 times a width that was 4096 before, some quantity doesn't fit at some corner.
 pub fn steep_problem_does_not_fit()
-    ensures { (before : List Row) → AllFit steep before → ⊥ }
+    ensures { SteepDoesNotFit }
 {}
 
 /// In the first session, with the budget that it has, a metric is accepted unless a cause is against it.
@@ -58,7 +56,6 @@ pub fn some_probes_have_room()
 
 /// Where one attribute has a row, by a line of a group, there is room for the group's removal.
 pub fn some_removals_have_room()
-    ensures has { (p : Problem) → Poses held_state (mean.Remove []) p
-        → HasRoomToStep held_state (mean.Remove []) p }
+    ensures has { RemovalHasRoom }
     ensures some { Poses held_state (mean.Remove []) bare }
 {}

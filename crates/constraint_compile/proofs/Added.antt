@@ -11,7 +11,7 @@ use Rattle.constraint_compile.specs.Meaning as meaning
 use Rattle.constraint_compile.specs.Meaning.{share, sum_at}
 use Rattle.constraint_compile.specs.Addends.{Addend, addend, addends, addends_view, sum_of, first_of}
 use Rattle.constraint_compile.specs.declared.addends.Addend as code
-use Rattle.constraint_compile.specs.Sums.{first_sum, HasTooMany, AreTerms}
+use Rattle.constraint_compile.specs.Coefficients.Sums.{first_sum, HasTooMany, AreTerms}
 use Rattle.constraint_compile.specs.Stops.{AreSmallSums}
 
 abbrev pub part_of : Addend → meaning.Part

@@ -10,7 +10,7 @@ use Rattle.constraint_compile.specs.Meaning as meaning
 use Rattle.constraint_compile.specs.Meaning.{sum_at}
 use Rattle.constraint_compile.specs.Addends.{Addend, addend_view, addends, addends_view}
 use Rattle.constraint_compile.specs.declared.addends.Addend as code
-use Rattle.constraint_compile.specs.Sums.{first_sum, AreScales, AreTerms}
+use Rattle.constraint_compile.specs.Coefficients.Sums.{first_sum, AreScales, AreTerms}
 use Rattle.constraint_compile.specs.Compiled as compiled
 use Rattle.constraint_compile.specs.Compiled.{last_scale}
 use Rattle.constraint_compile.specs.Keeps.{part_view, step_view, steps_view, metric_in, metric_name, is_metric, any_names_metric, HaveNames, AreScalesKept}
@@ -18,9 +18,10 @@ use Rattle.constraint_compile.specs.Stops.{AreSteps, IsSumRow}
 use Rattle.constraint_compile.specs.declared.steps.Step.{Step}
 use Rattle.constraint_compile.specs.declared.steps.Part.TheVariants as part
 use Rattle.constraint_compile.proofs.Added.{part_of, first_same, parts_same, same_count}
-use Rattle.constraint_compile.proofs.Beginnings.{zero_sum}
-use Rattle.constraint_compile.proofs.Constants.{last_more}
-use Rattle.constraint_compile.proofs.Asked.{neither}
+use Rattle.constraint_compile.proofs.Sums.Beginnings.{zero_sum}
+use Rattle.constraint_compile.proofs.RowConstants.Constants.{last_more}
+use Rattle.constraint_compile.proofs.Sums.Joint.{one_scale}
+use Rattle.frac_core.proofs.Bools.{neither}
 
 name_at : (added : List code.Addend) (i : ℕ) (a : code.Addend) → i < length added → a ≡ get_or added i a → get_or (map metric_name (addends_view added)) i [] ≡ metric_name (addend_view a)
 name_at added i a within is =
@@ -118,10 +119,6 @@ scales_kept added steps scales n are same k d within = (
 
     here : (get_or steps k d).scale ≡ get_or scales k 0
     here = sym (get_or-map (λ (s : Step). s.scale) steps k d 0 within) ∙ ap (λ (ks : List ℕ). get_or ks k 0) same
-
--- there is one scale
-pub one_scale : (b : ℕ → Fraction) (j k : ℕ) → IsScale b j → IsScale b k → j ≡ k
-one_scale b j k is_j is_k = omega (arith, is_j.least k is_k.above is_k.whole, is_k.least j is_j.above is_j.whole)
 
 pub terms_at : (b : ℕ → Fraction) (j k : ℕ) (terms : List RowTerm) → IsScale b j → IsScale b k → AreTerms b j terms → AreTerms b k terms
 terms_at b j k terms is_j is_k are = subst (λ (m : ℕ). AreTerms b m terms) (one_scale b j k is_j is_k) are

@@ -1,26 +1,8 @@
 -- What holds of the first elements of a list.
-use Rattle.std.proofs.Common.{ℕ, ◌+◌, ◌<◌, ◌≤◌, List, [], ◌∷◌, ◌++◌, length, take, take_all, get_or, All, sym, subst, ap, ◌∙◌, ℤ, pos, ◌≡◌, arith, ◌⊎◌, inl, inr}
-use Rattle.std.proofs.lemmas.List.{take_more}
-use Rattle.std.proofs.lemmas.Bool.{cases_eq}
+use Rattle.std.proofs.Common.{ℕ, ◌+◌, ◌<◌, List, [], ◌∷◌, ◌++◌, length, get_or, sym, subst, ap, ◌∙◌, ℤ, pos, ◌≡◌, arith, inl, inr}
 use Rattle.std.proofs.Math.ListN.{get_or-append}
 use Rattle.std.proofs.Math.Seq.{get_or-append_seam}
-use Rattle.std.proofs.lemmas.List.Elements.{All-push}
-
-pub all_more : {A : Type 0} (P : A → Type 0) (xs : List A) (i : ℕ) (x : A) → i < length xs → x ≡ get_or xs i x → All P (take i xs) → P x → All P (take (i + 1) xs)
-all_more {A} P xs i x within is all here =
-    subst (λ (ys : List A). All P ys) (sym (take_more xs i x within)) (All-push P (take i xs) (get_or xs i x) all (subst P is here))
-
-pub all_whole : {A : Type 0} (P : A → Type 0) (xs : List A) (i : ℕ) → length xs ≤ i → All P (take i xs) → All P xs
-all_whole {A} P xs i over all = subst (λ (ys : List A). All P ys) (take_all i xs over) all
-
-pub lt_or_eq : (i n : ℕ) → i < n + 1 → (i < n) ⊎ (i ≡ n)
-lt_or_eq i n h = elim (cases_eq i n) [
-  | inl same ↦ inr same
-  | inr other ↦ inl (apart i n h other)
-]
-  where
-    apart : (i n : ℕ) → i < n + 1 → (i ≡ n → ⊥) → i < n
-    apart i n h other = omega (arith, h, other)
+use Rattle.frac_core.proofs.Numbers.{less-or-here as lt_or_eq}
 
 -- what holds of the first elements of a list and of one more
 pub each_pushed_by : {A : Type 0} (P : ℕ → A → Type 0) (xs : List A) (n : ℕ) (x d : A) → length xs ≡ n → ((i : ℕ) → i < n → P i (get_or xs i d)) → P n x → (i : ℕ) → i < n + 1 → P i (get_or (xs ++ x ∷ []) i d)

@@ -11,11 +11,11 @@ use Rattle.problem_core.specs.Layout.{coefficient}
 use Rattle.problem_core.specs.Kept.{IsTerm}
 use Rattle.problem_core.proofs.Forms.{sum-append}
 use Rattle.constraint_compile.specs.Fractions.{IsOver}
-use Rattle.constraint_compile.specs.Shares.{IsOff}
-use Rattle.constraint_compile.specs.Sums.{IsSum, HasFirst, AreTerms, HasTooMany, attr_at, number_at}
-use Rattle.constraint_compile.proofs.Joint.{find_place}
-use Rattle.constraint_compile.proofs.Lists.{lt_or_eq}
-use Rattle.constraint_compile.proofs.Beginnings.{zero_left}
+use Rattle.constraint_compile.specs.Coefficients.Shares.{IsOff}
+use Rattle.constraint_compile.specs.Coefficients.Sums.{IsSum, HasFirst, AreTerms, HasTooMany, attr_at, number_at}
+use Rattle.constraint_compile.proofs.Sums.Joint.{find_place}
+use Rattle.constraint_compile.proofs.Sums.Beginnings.{zero_left}
+use Rattle.frac_core.proofs.Numbers.{less-or-here as lt_or_eq}
 
 pushed : (v : ℕ) (out : List Term) (t : Term) → coefficient v (out ++ t ∷ []) ≡ coefficient v out +ℤ cond (nat_eq t.attr v) t.by (pos 0)
 pushed v out t = sum-append (λ (e : Term). cond (nat_eq e.attr v) e.by (pos 0)) out (t ∷ []) ∙ ap (λ (z : ℤ). coefficient v out +ℤ z) (let e : cond (nat_eq t.attr v) t.by (pos 0) +ℤ pos 0 ≡ cond (nat_eq t.attr v) t.by (pos 0) = omega (arith, ints) in e)

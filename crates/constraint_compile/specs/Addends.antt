@@ -1,12 +1,13 @@
 -- What terms add to a row: to the coefficient of each attribute, and to the constant.
 use Rattle.std.specs.Prelude.{ℕ, List, map, take, ⊤}
 use Rattle.frac_core.specs.Fraction.{Fraction}
+use Rattle.problem_core.specs.Window.{zero_fraction}
 use Rattle.view_tree.specs.Views.{LiveView}
 use Rattle.script_text.specs.Meaning.{Term}
-use Rattle.constraint_compile.specs.Fractions.{zero_fraction, plus, total}
+use Rattle.constraint_compile.specs.Fractions.{plus, total}
 use Rattle.constraint_compile.specs.Meaning as meaning
 use Rattle.constraint_compile.specs.Meaning.{share, Part, Nothing, Number, Multiple}
-use Rattle.constraint_compile.specs.Shares.{share_fraction, AreHalves}
+use Rattle.constraint_compile.specs.Coefficients.Shares.{share_fraction, AreHalves}
 use Rattle.constraint_compile.specs.declared.addends.Addend as declared_addend
 use Rattle.constraint_compile.specs.declared.addends.Addend.TheVariants as code
 

@@ -2,11 +2,9 @@
 use Rattle.std.specs.Prelude.{◌≡◌, ℕ, ◌*◌, ◌<◌, ◌≤◌, List, [], ◌∷◌, ℤ, pos, neg_ℤ, ◌+ℤ◌, ◌*ℤ◌}
 use Rattle.std.specs.Prelude.{unsigned_abs}
 use Rattle.frac_core.specs.Fraction.{Fraction, IsLowest, IsRatio}
+use Rattle.problem_core.specs.Window.{zero_fraction}
 use Rattle.problem_core.specs.declared.limits.TheConstants.{COEFFICIENT_LIMIT}
 use Rattle.constraint_compile.specs.declared.limits.TheConstants.{CONSTANT_LIMIT}
-
-abbrev pub zero_fraction : Fraction
-zero_fraction = record { num = pos 0; den = 1 }
 
 abbrev pub plus : Fraction → Fraction → Fraction
 plus f g = record { num = f.num *ℤ pos g.den +ℤ g.num *ℤ pos f.den; den = f.den * g.den }

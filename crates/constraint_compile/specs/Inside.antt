@@ -1,6 +1,8 @@
 -- What a compiled line is made of.
-use Rattle.std.specs.Prelude.{◌<◌, ◌≤◌, List, map, length, All, AllPairs}
+use Rattle.std.specs.Prelude.{◌≡◌, ◌<◌, ◌≤◌, List, map, length, All, AllPairs}
 use Rattle.std.specs.String.{string_bytes}
+use Rattle.frac_core.specs.Fraction.{Fraction}
+use Rattle.problem_core.specs.Layout.{Row}
 use Rattle.problem_core.specs.Kept.{IsTerm}
 use Rattle.problem_core.specs.declared.limits.TheConstants.{NUMBER_LIMIT, REQUIRED, TERM_LIMIT}
 use Rattle.view_tree.specs.declared.view.ViewId.{ViewId}
@@ -18,6 +20,12 @@ form_view r = record {
   terms = r.terms.items;
   steps = steps_view (map string_bytes r.names.items) r.steps.items;
 }
+
+-- the row of this form with this constant
+abbrev pub IsRowWith : RowForm → Fraction → Row → Type 0
+IsRowWith form constant row = (row.id ≡ form.id) × (row.rank ≡ form.rank) × (row.weight ≡ form.weight)
+    × (row.rel ≡ form.rel) × (row.scale ≡ compiled.last_scale (form_view form).steps)
+    × (row.terms ≡ form.terms.items) × (row.constant ≡ constant)
 
 abbrev pub compiled_line : List RowForm → List ViewId → compiled.CompiledLine
 compiled_line rows views = record { rows = map form_view rows; views = map (λ v. v.0) views }

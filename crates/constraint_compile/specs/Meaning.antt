@@ -6,6 +6,7 @@ use Rattle.std.specs.Option.{option_or, option_map, option_to_list}
 use Rattle.frac_core.specs.Fraction.{Fraction}
 use Rattle.problem_core.specs.declared.parts.Term.{Term}
 use Rattle.problem_core.specs.Layout.{coefficient}
+use Rattle.problem_core.specs.Window.{zero_fraction}
 use Rattle.problem_core.specs.declared.limits.TheConstants.{REQUIRED, WEIGHT_LIMIT}
 use Rattle.name_tables.specs.Names.{value_of}
 use Rattle.view_tree.specs.Views.{LiveView, view_named}
@@ -17,7 +18,7 @@ use Rattle.script_text.specs.declared.words.AttrWord.TheVariants as word
 use Rattle.script_text.specs.Meaning.{Operand, Linear}
 use Rattle.script_text.specs.Meaning as mean
 use Rattle.view_tree.specs.Attributes.{left_of, top_of, width_of, height_of}
-use Rattle.constraint_compile.specs.Fractions.{zero_fraction, times, negated, total}
+use Rattle.constraint_compile.specs.Fractions.{times, negated, total}
 
 -- the metrics with their values
 abbrev pub MetricList : Type 0

@@ -1,6 +1,6 @@
 -- When a line isn't compiled.
 use Rattle.std.specs.Prelude.{◌≡◌, ℕ, ◌+◌, ◌<◌, ◌≤◌, true, false, List, [], ◌∷◌, length, map}
-use Rattle.std.specs.Prelude.{None, Some, slice_index_or, ⊤}
+use Rattle.std.specs.Prelude.{Bool, Option, None, Some, IfSome, IfNone, slice_index_or, ⊤}
 use Rattle.problem_core.specs.declared.limits.TheConstants.{NUMBER_LIMIT, TERM_LIMIT}
 use Rattle.name_tables.specs.declared.stops.LimitWord.{LimitWord}
 use Rattle.name_tables.specs.declared.stops.LimitWord.TheVariants as limit
@@ -9,7 +9,7 @@ use Rattle.script_text.specs.Meaning.{Term, Linear}
 use Rattle.constraint_compile.specs.Fractions.{IsScale, AreSmall}
 use Rattle.constraint_compile.specs.Meaning.{MetricList, part, terms_of, sum_at, first_unknown, unknown_among}
 use Rattle.constraint_compile.specs.Meaning.{has_view_number, IsRank, IsWeight, views_in}
-use Rattle.constraint_compile.specs.Sums.{first_sum, HasTooMany, AreTerms}
+use Rattle.constraint_compile.specs.Coefficients.Sums.{first_sum, HasTooMany, AreTerms}
 use Rattle.constraint_compile.specs.Compiled.{Step, RowForm, CompiledLine, AreSmallSteps, AreSmallForms}
 use Rattle.constraint_compile.specs.Compiled.{last_scale}
 use Rattle.constraint_compile.specs.declared.stops.CompileStop.{CompileStop}
@@ -33,6 +33,13 @@ IsWrongUse views metrics l kind.Priority = (has_view_number views (terms_of l) �
 IsWrongUse views metrics l kind.Weight = (has_view_number views (terms_of l) ≡ false)
     × HasRank views metrics l × (IsWeight l.weight → ⊥)
 IsWrongUse views metrics l _ = ⊥
+
+-- it is the first wrong use of the line for all views and metrics by which a view does or doesn't stand for a
+-- number, and the priority stands for this rank or for none
+abbrev pub IsWrongNamed : Bool → Option ℕ → Linear → KindWord → Type 0
+IsWrongNamed has_number rank l word = (views : List LiveView) (metrics : MetricList)
+    → has_number ≡ has_view_number views (terms_of l) → IfSome rank (IsRank views metrics l.priority)
+    → IfNone rank (HasRank views metrics l → ⊥) → IsWrongUse views metrics l word
 
 -- no use in the line is wrong
 pub record IsUsable (views : List LiveView) (metrics : MetricList) (l : Linear) : Type 0 where

@@ -1,7 +1,7 @@
 // What terms add to a row, with no name of a view left.
 ghost use Rattle.std.specs.Prelude.{◌≡◌, ℕ, IfSome, IfNone};
-ghost use Rattle.constraint_compile.specs.Fractions.{zero_fraction};
-ghost use Rattle.constraint_compile.specs.Shares.{share_fraction, AreHalves};
+ghost use Rattle.problem_core.specs.Window.{zero_fraction};
+ghost use Rattle.constraint_compile.specs.Coefficients.Shares.{share_fraction, AreHalves};
 ghost use Rattle.constraint_compile.specs.Addends.{addend_view, IsKept};
 
 use crate::attributes::Share;

@@ -1,5 +1,5 @@
 // The attributes that terms have.
-ghost use Rattle.std.specs.Prelude.{◌≡◌, ◌≢◌, ℕ, ◌<◌, ◌≤◌, [], ◌∷◌, pos, ◌*◌, ◌*ℤ◌, false, length};
+ghost use Rattle.std.specs.Prelude.{◌≡◌, ◌≢◌, ℕ, ◌<◌, ◌≤◌, pos, ◌*◌, ◌*ℤ◌, false, length};
 ghost use Rattle.problem_core.specs.Layout.{coefficient};
 ghost use Rattle.std.specs.Prelude.{slice_index_or, All, AllPairs, IsTrue, IfOk, IfSome, OnOk};
 ghost use Rattle.std.specs.Option.{option_map};
@@ -8,7 +8,7 @@ ghost use Rattle.problem_core.specs.Kept.{IsNumber};
 ghost use Rattle.view_tree.specs.declared.limits.TheConstants.{ID_LIMIT};
 ghost use Rattle.constraint_compile.specs.Meaning as meaning;
 ghost use Rattle.constraint_compile.specs.Addends.{addend_view, IsKept};
-ghost use Rattle.constraint_compile.specs.Shares.{form, share_fraction, AreHalves, IsOff};
+ghost use Rattle.constraint_compile.specs.Coefficients.Shares.{form, share_fraction, AreHalves, IsOff};
 
 use crate::addends::Addend;
 use frac_core::{Frac, OutOfMemory};

@@ -11,7 +11,7 @@ use std::alloc::Global;
 use std::marker::Model;
 use view_tree::ViewId;
 
-// A row without its constant. The steps name metrics by the places of their names.
+/// A row without its constant. The steps name metrics by the places of their names.
 #[derive(Debug, Drop)]
 pub(crate) struct RowForm {
     pub id: u32,

@@ -11,9 +11,9 @@ mod spans;
 
 ghost use Rattle.std.specs.Prelude.{◌≡◌, ◌<◌, IfOk, IfErr};
 ghost use Rattle.vfl_text.specs.View.{meaning};
-ghost use Rattle.constraint_compile.specs.FormatParts as parts;
-ghost use Rattle.constraint_compile.specs.FormatStops.{row_count};
-ghost use Rattle.constraint_compile.specs.FormatRows.{IsCompiledFormat, MayStopFormat};
+ghost use Rattle.constraint_compile.specs.Formats.FormatParts as parts;
+ghost use Rattle.constraint_compile.specs.Formats.FormatStops.{row_count};
+ghost use Rattle.constraint_compile.specs.Formats.FormatRows.{IsCompiledFormat, MayStopFormat};
 
 use crate::compiled::Compiled;
 use crate::format::lists::parts_of;

@@ -21,14 +21,15 @@
 //! A row is a constraint in linear programming's words; its rank is the priority of a goal, and its scale
 //! the factor that makes the coefficients whole.
 //!
-//! In reading order: `stops` (why there are no rows), `limits`, `compiled` (a line's rows and views). Names:
-//! `lookups`, `attributes`, `addends` (a term with no name left), `resolved` (the names of a line, each
-//! looked up once). Sums: `wide`, `ratios`, `steps` (a constant, step by step). `line`, with `line::signs`
-//! (all terms on one side), `line::sums`, `line::scales`, `line::nonzero` and `line::row_terms` (the
-//! coefficients), `line::parts` and `line::rows` (the row). `format`, with `format::parts`,
-//! `format::lists` and `format::spans` (what its text says), `format::checks`, `format::lines` and
-//! `format::asks` (what is asked for), `format::refusals`, `format::rows`, `format::laws`. Afterwards:
-//! `rows` (the constants at given metrics), `naming` (those that name a metric), `suggestion`.
+//! In reading order: `stops` (why there are no rows), `limits`. Sums: `wide`, `wide::ratios`, `steps` (a
+//! constant, step by step), `compiled` (a line's rows and views). Names: `addends` (a term with no name
+//! left), `attributes`, `resolved` with `resolved::lookups` (the names of a line, each looked up once).
+//! `line`, with `line::signs` (all terms on one side), `line::sums`, `line::scales`, `line::nonzero` and
+//! `line::row_terms` (the coefficients), `line::parts` and `line::rows` (the row). `format`, with
+//! `format::parts`, `format::spans` and `format::lists` (what its text says), `format::checks`,
+//! `format::lines` and `format::asks` (what is asked for), `format::refusals`, `format::rows`,
+//! `format::laws`. Afterwards: `rows` (the constants at given metrics), `naming` (those that name a metric),
+//! `suggestion`.
 #![tactic(auto)]
 
 mod addends;
@@ -37,9 +38,7 @@ mod compiled;
 mod format;
 mod limits;
 mod line;
-mod lookups;
 mod naming;
-mod ratios;
 mod resolved;
 mod rows;
 mod steps;

@@ -7,17 +7,17 @@ mod scales;
 pub(crate) mod signs;
 mod sums;
 
-ghost use Rattle.std.specs.Prelude.{◌≡◌, ◌≤◌, ◌<◌, ◌∷◌, [], ℕ, List, false, true, None, Some, All};
+ghost use Rattle.std.specs.Prelude.{◌≡◌, ◌≤◌, ◌<◌, ◌∷◌, [], ℕ, List, false, None, Some, All};
 ghost use Rattle.std.specs.Prelude.{length, IfOk, OnOk, IfErr, IfSome, IfNone};
 ghost use Rattle.problem_core.specs.declared.limits.TheConstants.{NUMBER_LIMIT};
 ghost use Rattle.view_tree.specs.Views.{LiveView};
 ghost use Rattle.script_text.specs.View.{terms_view, linear_view, object_view};
 ghost use Rattle.constraint_compile.specs.Meaning.{MetricList, terms_of, views_in, IsRank, IsWeight};
 ghost use Rattle.constraint_compile.specs.Meaning.{HasDenominator, has_view_number};
-ghost use Rattle.constraint_compile.specs.Stops.{AreKnown, IsUsable, IsWrongUse, IsCompiled, MayStop};
+ghost use Rattle.constraint_compile.specs.Stops.{AreKnown, IsWrongNamed, IsCompiled, MayStop};
 ghost use Rattle.constraint_compile.specs.Stops.{PassesLimit, HasRank};
 ghost use Rattle.constraint_compile.specs.Addends.{addends, addends_view, IsKept};
-ghost use Rattle.constraint_compile.specs.FormatLines.{numbers};
+ghost use Rattle.constraint_compile.specs.Formats.FormatLines.{numbers};
 ghost use Rattle.constraint_compile.specs.Inside.{form_view, IsForm};
 ghost use Rattle.constraint_compile.specs.declared.limits.TheConstants.{ADDEND_LIMIT};
 
@@ -97,11 +97,8 @@ fn strength_of(names: &Names<'_>, line: &Linear<'_>) -> Result<Strength, KindWor
     ensures numbers { OnOk result (names.now.terms.has_view_number ≡ false) }
     ensures rank { IfOk result (λ s. names.now.rank ≡ Some s.rank) }
     ensures weight { IfOk result (λ s. (s.weight ≡ line.now.weight) × IsWeight line.now.weight) }
-    ensures stop { IfErr result (λ word. (views : List LiveView) (metrics : MetricList)
-        → names.now.terms.has_view_number ≡ has_view_number views (terms_of (linear_view line.now))
-        → IfSome names.now.rank (IsRank views metrics (object_view line.now.priority))
-        → IfNone names.now.rank (HasRank views metrics (linear_view line.now) → ⊥)
-        → IsWrongUse views metrics (linear_view line.now) word) }
+    ensures stop { IfErr result
+        (IsWrongNamed names.now.terms.has_view_number names.now.rank (linear_view line.now)) }
 {
     let _rel = line.rel; // for the proof: what a line is made of
     if names.terms.has_view_number {
@@ -171,13 +168,8 @@ pub fn compile_line(
 {
     let terms = signed_terms(alloc, line)?;
     let names = names_of(alloc, tree, metrics, &terms, line)?;
-    let strength = match strength_of(&names, line) {
-        Ok(strength) => strength,
-        Err(word) => return Err(CompileStop::Kind(word)),
-    };
-    if let Err(word) = within_limits(id, &terms, line) {
-        return Err(CompileStop::Limit(word));
-    }
+    let strength = strength_of(&names, line)?;
+    within_limits(id, &terms, line)?;
     let head = Head {
         id,
         rank: strength.rank,

@@ -83,10 +83,10 @@ fn constants_naming(
     let mut constants = Vec::new(alloc);
     for form in forms {
         if names_metric(form, name) {
-            match constant_of(form, metrics) {
-                Some(constant) => constants.push(constant)?,
-                None => return Ok(None),
-            }
+            let Some(constant) = constant_of(form, metrics) else {
+                return Ok(None);
+            };
+            constants.push(constant)?;
         }
     }
     Ok(Some(constants))

@@ -1,10 +1,12 @@
 // What the names of a line stand for. Each is looked up once, in the order of the text.
-ghost use Rattle.std.specs.Prelude.{◌≡◌, ◌++◌, ◌∷◌, [], ◌||◌, ℕ, None, Some, All, map, IfOk, IfErr, OnOk};
+mod lookups;
+
+ghost use Rattle.std.specs.Prelude.{◌≡◌, ◌++◌, ◌∷◌, [], ◌||◌, ℕ, None, Some, All, IfOk, IfErr, OnOk};
 ghost use Rattle.std.specs.Prelude.{IfSome, IfNone, false};
 ghost use Rattle.script_text.specs.View.{term_view, terms_view, object_view};
 ghost use Rattle.constraint_compile.specs.Addends as addends;
 ghost use Rattle.constraint_compile.specs.Addends.{addend_view, addends_view, IsKept};
-ghost use Rattle.constraint_compile.specs.FormatLines.{numbers, option_numbers};
+ghost use Rattle.constraint_compile.specs.Formats.FormatLines.{numbers, option_numbers};
 ghost use Rattle.constraint_compile.specs.Meaning as meaning;
 ghost use Rattle.constraint_compile.specs.Meaning.{HasDenominator, IsRank, unknown_in, unknown_among};
 ghost use Rattle.constraint_compile.specs.Meaning.{unknown_object};
@@ -12,7 +14,7 @@ ghost use Rattle.constraint_compile.specs.Stops.{IsUnknownTerm};
 
 use crate::addends::Addend;
 use crate::attributes::{number_of, share_at};
-use crate::lookups::{is_view, rank_of_metric, rank_of_thousandths};
+use crate::resolved::lookups::{is_view, rank_of_metric, rank_of_thousandths};
 use crate::stops::CompileStop;
 use frac_core::OutOfMemory;
 use name_tables::{Metrics, OwnedName};

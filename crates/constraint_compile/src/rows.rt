@@ -1,5 +1,5 @@
 // The rows of compiled lines for given metrics.
-ghost use Rattle.std.specs.Prelude.{◌≡◌, ◌≤◌, ◌<◌, ℕ, List, length, map, IfOk, IfErr, IfSome, IfNone};
+ghost use Rattle.std.specs.Prelude.{◌≡◌, ◌≤◌, ◌<◌, ℕ, List, map, IfOk, IfErr, IfSome, IfNone};
 ghost use Rattle.std.specs.Prelude.{All, OnSome};
 ghost use Rattle.frac_core.specs.Fraction.{IsKept};
 ghost use Rattle.problem_core.specs.Kept.{IsRow};
@@ -7,7 +7,7 @@ ghost use Rattle.problem_core.specs.declared.limits.TheConstants.{COEFFICIENT_LI
 ghost use Rattle.constraint_compile.specs.Fractions.{IsConstant};
 ghost use Rattle.constraint_compile.specs.Compiled.{AreSmallSteps, AreSmallForms, AreRowsNow};
 ghost use Rattle.constraint_compile.specs.Compiled.{AreConstantsNow, IsRowNow, step_sum, last_scale};
-ghost use Rattle.constraint_compile.specs.Inside.{form_view, IsForm, AreForms};
+ghost use Rattle.constraint_compile.specs.Inside.{form_view, IsRowWith, IsForm, AreForms};
 ghost use Rattle.constraint_compile.specs.Keeps.{AreScalesKept, steps_view};
 ghost use Rattle.constraint_compile.specs.Stops.{IsConstantStop};
 
@@ -36,10 +36,7 @@ fn scale_of(steps: &[Step]) -> u32
 fn with_constant(alloc: Global, form: &RowForm, constant: Frac) -> Result<Row, OutOfMemory>
     requires { IsForm form.now }
     ensures constant { IsKept constant }
-    ensures row { IfOk result (λ r. (r.id ≡ form.now.id) × (r.rank ≡ form.now.rank)
-        × (r.weight ≡ form.now.weight) × (r.rel ≡ form.now.rel)
-        × (r.scale ≡ last_scale (form_view form.now).steps) × (r.terms ≡ form.now.terms.items)
-        × (r.constant ≡ constant)) }
+    ensures row { IfOk result (IsRowWith form.now constant) }
     ensures kept { IfOk result IsRow }
 {
     let _den = constant.den(); // for the proof: what a fraction keeps
@@ -76,10 +73,10 @@ fn row_now(alloc: Global, form: &RowForm, metrics: &Metrics) -> Result<Option<Ro
     ensures small { IfOk result (λ o. OnSome o (AreSmallSteps metrics.now (form_view form.now).steps)) }
     ensures none { IfOk result (λ o. IfNone o (AreSmallSteps metrics.now (form_view form.now).steps → ⊥)) }
 {
-    match constant_now(form, metrics) {
-        Some(constant) => Ok(Some(with_constant(alloc, form, constant)?)),
-        None => Ok(None),
-    }
+    let Some(constant) = constant_now(form, metrics) else {
+        return Ok(None);
+    };
+    Ok(Some(with_constant(alloc, form, constant)?))
 }
 
 fn rows_of(
@@ -95,10 +92,10 @@ fn rows_of(
 {
     let mut rows = Vec::with_capacity(alloc, forms.len())?;
     for form in forms {
-        match row_now(alloc, form, metrics)? {
-            Some(row) => rows.push(row)?,
-            None => return Ok(None),
-        }
+        let Some(row) = row_now(alloc, form, metrics)? else {
+            return Ok(None);
+        };
+        rows.push(row)?;
     }
     Ok(Some(rows))
 }
@@ -115,10 +112,10 @@ fn constants_of(
 {
     let mut constants = Vec::with_capacity(alloc, forms.len())?;
     for form in forms {
-        match constant_now(form, metrics) {
-            Some(constant) => constants.push(constant)?,
-            None => return Ok(None),
-        }
+        let Some(constant) = constant_now(form, metrics) else {
+            return Ok(None);
+        };
+        constants.push(constant)?;
     }
     Ok(Some(constants))
 }

@@ -1,20 +1,21 @@
 // The constant of a row, as a sum of numbers and of multiples of metrics.
-ghost use Rattle.std.specs.Prelude.{◌≡◌, ℕ, ◌<◌, ◌<ℤ◌, ◌≤◌, ◌*ℤ◌, ◌^◌, [], pos, neg_ℤ, map, slice_index_or};
+ghost use Rattle.std.specs.Prelude.{◌≡◌, ◌<◌, ◌<ℤ◌, ◌≤◌, ◌*ℤ◌, ◌^◌, [], pos, neg_ℤ, map, slice_index_or};
 ghost use Rattle.std.specs.Prelude.{IfSome, IfNone, IsTrue, unsigned_abs};
 ghost use Rattle.frac_core.specs.Fraction.{Fraction};
 ghost use Rattle.std.specs.String.{string_bytes};
 ghost use Rattle.problem_core.specs.declared.limits.TheConstants.{COEFFICIENT_LIMIT};
 ghost use Rattle.constraint_compile.specs.Fractions.{plus, times, HasSmallParts, IsConstant, IsSmallConstant};
-ghost use Rattle.constraint_compile.specs.Quotients.{IsReduced};
+ghost use Rattle.constraint_compile.specs.Coefficients.Quotients.{IsReduced};
 ghost use Rattle.constraint_compile.specs.Meaning.{part_value};
 ghost use Rattle.constraint_compile.specs.Compiled.{AreSmallSteps, step_sum, last_scale};
-ghost use Rattle.constraint_compile.specs.Keeps.{AreScalesKept, part_view, steps_view};
+ghost use Rattle.constraint_compile.specs.Keeps.{AreScalesKept, part_view, step_view, steps_view};
+ghost use Rattle.constraint_compile.specs.Progress.{IsAfter, IsPastAfter};
 ghost use Rattle.constraint_compile.specs.declared.steps.Part.TheVariants.{Nothing};
 ghost use Rattle.name_tables.specs.Names.{value_of};
 ghost use Rattle.constraint_compile.specs.declared.limits.TheConstants.{CONSTANT_LIMIT};
 
-use crate::ratios::{Ratio, common, reduced, small_of};
 use crate::wide::product;
+use crate::wide::ratios::{Ratio, common, reduced, small_of};
 use frac_core::Frac;
 use name_tables::Metrics;
 
@@ -166,14 +167,11 @@ fn after(metrics: &Metrics, names: &[String], before: Progress, step: &Step) -> 
     requires den_small { before.constant.den < CONSTANT_LIMIT }
     requires scale { (0 < step.now.scale) × (step.now.scale ≤ COEFFICIENT_LIMIT) }
     ensures scale { IfSome result (λ p. p.scale ≡ step.now.scale) }
-    ensures constant { IfSome result (λ p. (e : Fraction) → 0 < e.den
-        → IsConstant before.scale e before.constant
-        → IsConstant step.now.scale (plus e (part_value metrics.now
-        (part_view (map string_bytes names.now) step.now.part))) p.constant) }
+    ensures constant { IfSome result
+        (IsAfter metrics.now before (step_view (map string_bytes names.now) step.now)) }
     ensures small { IfSome result (λ p. HasSmallParts p.constant) }
-    ensures none { IfNone result ((e : Fraction) → 0 < e.den → IsConstant before.scale e before.constant
-        → IsSmallConstant step.now.scale (plus e (part_value metrics.now
-        (part_view (map string_bytes names.now) step.now.part))) → ⊥) }
+    ensures none { IfNone result
+        (IsPastAfter metrics.now before (step_view (map string_bytes names.now) step.now)) }
     ensures above { 0 < (part_value metrics.now (part_view (map string_bytes names.now) step.now.part)).den }
 {
     if is_still(before.scale, step) {

@@ -1,6 +1,7 @@
 // Why a line isn't compiled.
 use frac_core::OutOfMemory;
 use name_tables::{LimitWord, OwnedName};
+use std::alloc::AllocFailed;
 use thiserror::Error;
 
 /// The wrong uses, in the order in which they are tried.
@@ -57,5 +58,41 @@ impl From<OutOfMemory> for CompileStop {
 
     fn from(_: OutOfMemory) -> CompileStop {
         CompileStop::OutOfMemory
+    }
+}
+
+impl<T> From<AllocFailed<T>> for CompileStop
+where
+    T: Drop,
+{
+    ghost use Rattle.std.specs.Prelude.{◌≡◌};
+    ghost use Rattle.constraint_compile.specs.declared.stops.CompileStop.TheVariants as stop;
+
+    ghost from_gives = { λ _ e. e ≡ stop.OutOfMemory };
+
+    fn from(_: AllocFailed<T>) -> CompileStop {
+        CompileStop::OutOfMemory
+    }
+}
+
+impl From<KindWord> for CompileStop {
+    ghost use Rattle.std.specs.Prelude.{◌≡◌};
+    ghost use Rattle.constraint_compile.specs.declared.stops.CompileStop.TheVariants as stop;
+
+    ghost from_gives = { λ word e. e ≡ stop.Kind word };
+
+    fn from(word: KindWord) -> CompileStop {
+        CompileStop::Kind(word)
+    }
+}
+
+impl From<LimitWord> for CompileStop {
+    ghost use Rattle.std.specs.Prelude.{◌≡◌};
+    ghost use Rattle.constraint_compile.specs.declared.stops.CompileStop.TheVariants as stop;
+
+    ghost from_gives = { λ word e. e ≡ stop.Limit word };
+
+    fn from(word: LimitWord) -> CompileStop {
+        CompileStop::Limit(word)
     }
 }

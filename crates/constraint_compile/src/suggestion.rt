@@ -9,9 +9,9 @@ ghost use Rattle.constraint_compile.specs.Meaning.{IsRank, unknown_object};
 ghost use Rattle.constraint_compile.specs.Suggestions.{one_term, scale_of, suggested_row, suggested_priority};
 ghost use Rattle.constraint_compile.specs.Suggestions.{with_terms, IsSuggestion, MayLackRank};
 
-use crate::ratios::{Ratio, small_of};
 use crate::resolved::resolve_rank;
 use crate::stops::{CompileStop, KindWord};
+use crate::wide::ratios::{Ratio, small_of};
 use frac_core::{Frac, OutOfMemory};
 use name_tables::{Metrics, OwnedName};
 use problem_core::{Rel, Row, Term};

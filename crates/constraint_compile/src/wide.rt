@@ -1,4 +1,6 @@
 // Products, sums and quotients of 128 bits that cannot overflow where a row is made.
+pub(crate) mod ratios;
+
 ghost use Rattle.std.specs.Prelude.{◌≡◌, ◌^◌, ◌<◌, ◌≤◌, ◌+◌, ◌*◌, ◌+ℤ◌, ◌*ℤ◌, ◌<ℤ◌, pos, unsigned_abs};
 ghost use Prim.Native.Nat.{◌∣◌};
 
@@ -20,7 +22,7 @@ pub(crate) fn total(x: i128, y: i128) -> i128
     x + y
 }
 
-// The exact quotient.
+/// The exact quotient.
 pub(crate) fn quotient(number: i128, divisor: i128) -> i128
     requires above { pos 0 <ℤ divisor }
     requires divides { unsigned_abs divisor ∣ unsigned_abs number }

@@ -5,12 +5,12 @@ use Rattle.problem_core.specs.declared.parts.Side.{Side}
 use Rattle.problem_core.specs.declared.parts.RowName.{RowName}
 use Rattle.problem_core.specs.declared.stops.Quantity.{Quantity}
 use Rattle.problem_core.specs.declared.stops.Quantity.TheVariants.{Plain, Terms, Rows, Shifts}
-use Rattle.problem_core.specs.Stops.{TableStop}
+use Rattle.problem_core.specs.Changes.Stops.{TableStop}
 use Rattle.frac_core.specs.declared.memory.Stop.TheVariants.{Refused, OutOfMemory as NoMemory}
 use Rattle.problem_core.specs.Layout.{Row, Problem}
 use Rattle.frac_core.specs.Fraction.{Fraction}
 use Rattle.problem_core.specs.Corners.{HasNegativeColumn, attr_column}
-use Rattle.problem_core.specs.Begins.{BeginsWith}
+use Rattle.problem_core.specs.Changes.Begins.{BeginsWith}
 use Rattle.problem_core.specs.Unfit.{IsUnfitWhat}
 use Rattle.cert_core.specs.Stops.{IsStopOf}
 use Rattle.cert_core.specs.declared.stops.RunStop.{RunStop}

@@ -9,7 +9,7 @@ ghost use Rattle.problem_core.specs.Corners as corners;
 ghost use Rattle.problem_core.specs.Corners.{IsExchange, IsIn, NoNegativeValue, SameMarks, attr_column};
 ghost use Rattle.problem_core.specs.Corners.{Swap, exchanged};
 ghost use Rattle.frac_core.specs.declared.memory.Stop.TheVariants.{OutOfMemory as NoMemory};
-ghost use Rattle.problem_core.specs.Begins.{BeginsWith, without_marks};
+ghost use Rattle.problem_core.specs.Changes.Begins.{BeginsWith, without_marks};
 ghost use Rattle.problem_core.specs.declared.limits.TheConstants.{ROW_LIMIT};
 ghost use Rattle.problem_core.specs.Layout as layout;
 ghost use Rattle.problem_core.specs.declared.parts.RowName.TheVariants as row_names;
@@ -21,9 +21,9 @@ ghost use Rattle.problem_core.specs.declared.stops.What as what_type;
 ghost use Rattle.problem_core.specs.declared.stops.What.TheVariants.{Mark as MarkOf};
 ghost use Rattle.version_list.specs.declared.TheConstants.{VERSION_LIMIT};
 ghost use Rattle.corner.specs.Views.{AreCandidates, AreMovers, HasNoFront, HasNumbers};
-ghost use Rattle.corner.specs.Entries.{AreEntries};
-ghost use Rattle.corner.specs.Growing.{AreGrowersDear};
-ghost use Rattle.corner.specs.Lows.{ListsLow};
+ghost use Rattle.corner.specs.Reads.Entries.{AreEntries};
+ghost use Rattle.corner.specs.Reads.Growing.{AreGrowersDear};
+ghost use Rattle.corner.specs.Reads.Lows.{ListsLow};
 ghost use Rattle.corner.specs.Views.{HasValueAt};
 ghost use Rattle.corner.specs.Views.{IsCoefficientOf, IsFrontOf, IsInUse};
 ghost use Rattle.corner.specs.Views.{IsKeptCorner, IsLevelOf, IsMarkOf, IsNamed, IsOutside, IsReducedAt};
@@ -32,14 +32,14 @@ ghost use Rattle.corner.specs.Views.{IsStronger, IsWritten, MovesWith};
 ghost use Rattle.corner.specs.Changes.{HasNoNegative, HasStood, IsAddStop, IsAsBefore, IsRewound};
 ghost use Rattle.corner.specs.Changes.{IsUnfitStop, scene_of};
 ghost use Rattle.corner.specs.Changes.{with_attr, with_rows};
-ghost use Rattle.corner.specs.Shifting.{IsNear};
+ghost use Rattle.corner.specs.Shifts.Shifting.{IsNear};
 ghost use Rattle.corner_lines.specs.Removals.{IsFree, without_attr, without_row};
 ghost use Rattle.corner_lines.specs.Shifts.{with_constant};
-ghost use Rattle.corner.specs.NextLists.{AreMarksBy, AreMarksTurned};
-ghost use Rattle.corner.specs.Exchanges.{IsPair, IsPairStop};
-ghost use Rattle.corner.specs.TurnedLevels.{IsTurn, IsTurnStop};
-ghost use Rattle.corner.specs.Dropping.{AreLeftListed, dropped};
-ghost use Rattle.corner.specs.Leaving.{IsLeaver, IsLevelLeft, marks_left, problem_left};
+ghost use Rattle.corner.specs.Swaps.NextLists.{AreMarksBy, AreMarksTurned};
+ghost use Rattle.corner.specs.Swaps.Exchanges.{IsPair, IsPairStop};
+ghost use Rattle.corner.specs.Swaps.TurnedLevels.{IsTurn, IsTurnStop};
+ghost use Rattle.corner.specs.Removals.Dropping.{AreLeftListed, dropped};
+ghost use Rattle.corner.specs.Removals.Leaving.{IsLeaver, IsLevelLeft, marks_left, problem_left};
 ghost use Rattle.corner.specs.Tables.{Lists, lists_of, marks_at, problem_of};
 ghost use Rattle.corner.specs.Histories.{AreAlike, lists_before};
 ghost use Rattle.corner.specs.Invariants.{IsConsistent, IsEarlier, view_of};
@@ -105,6 +105,21 @@ fn rewound(table: &mut Table, listed: &mut Listed) -> TableStop
     Stop::OutOfMemory
 }
 
+// The stop of a change that is not made. After want of memory all goes back to the newest mark.
+fn not_made(table: &mut Table, listed: &mut Listed, stop: TableStop) -> TableStop
+    requires consistent { IsConsistent table.old listed.old }
+    requires marked { 0 < length table.old.rows.before }
+    ensures consistent { IsConsistent table.new listed.new }
+    ensures before { lists_before table.new ≡ lists_before table.old }
+    ensures stop { result ≡ stop }
+    ensures same { IsAsBefore (view_of table.old listed.old) (view_of table.new listed.new) result }
+{
+    match stop {
+        Stop::Refused(quantity) => Stop::Refused(quantity),
+        Stop::OutOfMemory => rewound(table, listed),
+    }
+}
+
 // Exchanges an outside line's mark for an inside line's.
 fn exchange_lines(table: &mut Table, listed: &mut Listed, pair: Pair) -> Result<(), TableStop>
     requires consistent { IsConsistent table.old listed.old }
@@ -122,8 +137,7 @@ fn exchange_lines(table: &mut Table, listed: &mut Listed, pair: Pair) -> Result<
             Ok(()) => Ok(()),
             Err(OutOfMemory) => Err(rewound(table, listed)),
         },
-        Err(Stop::OutOfMemory) => Err(rewound(table, listed)),
-        Err(Stop::Refused(quantity)) => Err(Stop::Refused(quantity)),
+        Err(stop) => Err(not_made(table, listed, stop)),
     }
 }
 
@@ -144,8 +158,7 @@ fn turn_line(table: &mut Table, listed: &mut Listed, line: u32, side: Side) -> R
             Ok(()) => Ok(()),
             Err(OutOfMemory) => Err(rewound(table, listed)),
         },
-        Err(Stop::OutOfMemory) => Err(rewound(table, listed)),
-        Err(Stop::Refused(quantity)) => Err(Stop::Refused(quantity)),
+        Err(stop) => Err(not_made(table, listed, stop)),
     }
 }
 
@@ -188,8 +201,7 @@ fn take_row(table: &mut Table, listed: &mut Listed, leaver: Leaver) -> Result<()
             Ok(()) => Ok(()),
             Err(OutOfMemory) => Err(rewound(table, listed)),
         },
-        Err(Stop::OutOfMemory) => Err(rewound(table, listed)),
-        Err(Stop::Refused(quantity)) => Err(Stop::Refused(quantity)),
+        Err(stop) => Err(not_made(table, listed, stop)),
     }
 }
 

@@ -15,24 +15,24 @@ ghost use Rattle.frac_core.specs.declared.memory.Stop as stop_type;
 ghost use Rattle.frac_core.specs.Stops.{IsRefused};
 ghost use Rattle.indexed_rows.specs.Matrices.{IsBelow};
 ghost use Rattle.corner.specs.Histories.{AreAlike, lists_before};
-ghost use Rattle.corner.specs.LevelChanges as level_changes;
-ghost use Rattle.corner.specs.LevelNumbers.{IsCost, IsSlotOfLine};
-ghost use Rattle.corner.specs.Exchanges as exchanges;
-ghost use Rattle.corner.specs.Exchanges.{IsChangeIn, cleared, exchanged_lists, filled, with_change};
-ghost use Rattle.corner.specs.Exchanges.{with_changes, with_row, with_standing, with_value};
-ghost use Rattle.corner.specs.Exchanges.{IsChangeBy, IsEnteringBy, IsEnteringValue, IsLevelStop};
-ghost use Rattle.corner.specs.Exchanges.{IsPair, IsPairStop, IsPivotAt, IsPivotOf, IsPivotStop};
+ghost use Rattle.corner.specs.Swaps.LevelChanges as level_changes;
+ghost use Rattle.corner.specs.Reads.LevelNumbers.{IsCost, IsSlotOfLine};
+ghost use Rattle.corner.specs.Swaps.Exchanges as exchanges;
+ghost use Rattle.corner.specs.Swaps.Exchanges.{IsChangeIn, cleared, exchanged_lists, filled, with_change};
+ghost use Rattle.corner.specs.Swaps.Exchanges.{with_changes, with_row, with_standing, with_value};
+ghost use Rattle.corner.specs.Swaps.Exchanges.{IsChangeBy, IsEnteringBy, IsEnteringValue, IsLevelStop};
+ghost use Rattle.corner.specs.Swaps.Exchanges.{IsPair, IsPairStop, IsPivotAt, IsPivotOf, IsPivotStop};
 ghost use Rattle.corner.specs.declared.table.TheConstants.{LEVELS};
-ghost use Rattle.corner.specs.Exchanges.{AreListedAfter, AreMarksAfter, ArePut, IsExchangeBy, IsExchangeOf};
-ghost use Rattle.corner.specs.Exchanges.{IsRestUntouched};
-ghost use Rattle.corner.specs.Exchanges.{IsStaySlot, IsValueAfter, IsWhatAt, moved};
+ghost use Rattle.corner.specs.Swaps.Exchanges.{AreListedAfter, AreMarksAfter, ArePut, IsExchangeBy};
+ghost use Rattle.corner.specs.Swaps.Exchanges.{IsExchangeOf};
+ghost use Rattle.corner.specs.Swaps.Exchanges.{IsRestUntouched};
+ghost use Rattle.corner.specs.Swaps.Exchanges.{IsStaySlot, IsValueAfter, IsWhatAt, moved};
 ghost use Rattle.corner.specs.Kept.{AreSlots, IsKept, IsSlot};
-ghost use Rattle.corner.specs.NextLists.{AreKeptChanges, IsKeptChange};
+ghost use Rattle.corner.specs.Swaps.NextLists.{AreKeptChanges, IsKeptChange};
 ghost use Rattle.corner.specs.Tables as tables;
 ghost use Rattle.corner.specs.Tables.{IsSign, entry, lists_of, problem_of};
-ghost use Rattle.corner.specs.Touched.{AreLevelsPut, CountsWhereStands, IsPut};
+ghost use Rattle.corner.specs.Swaps.Touched.{AreLevelsPut, CountsWhereStands, IsPut};
 
-use crate::joining::product;
 use crate::levels::Pair;
 use crate::levels::fitting::{Draft, does_level_fit};
 use crate::listing::Listed;
@@ -41,7 +41,7 @@ use crate::slots::{
     cost_share, is_level, is_stay, level_of, own_of, own_of_level, priority_at, side_at, side_in,
     sign, slot_at, unit_of, value_at, what_at,
 };
-use crate::sums::sum;
+use crate::sums::{product, sum};
 use crate::table::{Standing, Table};
 use crate::writings::what_sign;
 use frac_core::{Frac, OutOfMemory, PART_BOUND, Stop};

@@ -2,14 +2,13 @@
 ghost use Rattle.std.specs.Prelude.{◌≡◌, ◌<◌, ◌≤◌, ◌+◌, ◌-◌, ◌^◌, [], ◌∷◌, pos, length, IfOk, IfErr, OnOk};
 ghost use Rattle.std.specs.Prelude.{◌<ℤ◌, unsigned_abs};
 ghost use Rattle.frac_core.specs.Fraction.{IsFitting};
-ghost use Rattle.std.specs.Int.{IsGcd};
 ghost use Rattle.frac_core.specs.Fraction as fractions;
 ghost use Rattle.row_core.specs.Rows.{IsKeptRow, coefficient};
 ghost use Rattle.row_core.specs.Combinations.{IsFactor};
 ghost use Rattle.frac_core.specs.Stops.{IsRefused};
 ghost use Rattle.problem_core.specs.Layout.{HasStay};
 ghost use Rattle.problem_core.specs.Corners.{NoNegativeValue};
-ghost use Rattle.problem_core.specs.Begins.{BeginsWith};
+ghost use Rattle.problem_core.specs.Changes.Begins.{BeginsWith};
 ghost use Rattle.problem_core.specs.Kept.{IsNumber, IsRow, IsWhole};
 ghost use Rattle.problem_core.specs.Unfit.{first_terms, over_mark};
 ghost use Rattle.problem_core.specs.declared.parts.RowName.TheVariants.{Held};
@@ -24,14 +23,14 @@ ghost use Rattle.corner.specs.Histories.{HasSameHistory};
 ghost use Rattle.corner.specs.Changes.{IsAddStop, IsPathStop, with_rows};
 ghost use Rattle.corner.specs.Invariants.{seen_of};
 ghost use Rattle.corner.specs.Kept.{AreSlots, IsKept};
-ghost use Rattle.corner.specs.Parts.{IsPartlyKept, IsTermsStop, IsWithRow};
-ghost use Rattle.corner.specs.RowJoins.{AreAsBefore, ArePushed, IsPlaced, IsPushed};
-ghost use Rattle.corner.specs.RowJoins.{IsStandingOf};
-ghost use Rattle.corner.specs.RowSums.{AreTermFactors, IsSumRow, IsTermRow, IsTermValue};
-ghost use Rattle.corner.specs.RowSums.{IsUnfitTerm, term_of};
-ghost use Rattle.corner.specs.Joining.{IsStayForm, IsWithAttr, at_value, at_zero, slot_of_attr};
-ghost use Rattle.corner.specs.Joining.{slot_of_row, slot_of_stay, with_slot};
-ghost use Rattle.corner.specs.Stood.{AreFirstStood, IsStoodAt, with_present};
+ghost use Rattle.corner.specs.Additions.Parts.{IsPartlyKept, IsTermsStop, IsWithRow};
+ghost use Rattle.corner.specs.Additions.RowJoins.{AreAsBefore, ArePushed, IsPlaced, IsPushed};
+ghost use Rattle.corner.specs.Additions.RowJoins.{IsStandingOf};
+ghost use Rattle.corner.specs.Additions.RowSums.{AreTermFactors, IsSumRow, IsTermRow, IsTermValue};
+ghost use Rattle.corner.specs.Additions.RowSums.{IsUnfitTerm, term_of};
+ghost use Rattle.corner.specs.Additions.Joining.{IsStayForm, IsWithAttr, at_value, at_zero, slot_of_attr};
+ghost use Rattle.corner.specs.Additions.Joining.{slot_of_row, slot_of_stay, with_slot};
+ghost use Rattle.corner.specs.Shifts.Stood.{AreFirstStood, IsStoodAt, with_present};
 ghost use Rattle.std.specs.Prelude.{◌/◌, ◌*ℤ◌, ℤ, false, List, IfSome, IfNone};
 ghost use Rattle.frac_core.specs.declared.frac.TheConstants.{PART_BOUND};
 ghost use Rattle.indexed_rows.specs.Matrices.{IsBelow};
@@ -41,13 +40,17 @@ ghost use Rattle.problem_core.specs.Levels.{IsCostAt};
 ghost use Rattle.corner.specs.Histories.{AreAlike, lists_before};
 ghost use Rattle.corner.specs.Tables as tables;
 ghost use Rattle.corner.specs.Tables.{entry};
-ghost use Rattle.corner.specs.LevelNumbers.{IsCounted, share_of, side_share};
-ghost use Rattle.corner.specs.CostJoins.{AreAllJoined, AreCostsJoined, AreShareFactors, AreToJoin};
-ghost use Rattle.corner.specs.CostJoins.{AreUnitFactors, IsCostJoined, IsCostStop, IsCostsStop, IsCountOf};
-ghost use Rattle.corner.specs.CostJoins.{IsFreeLine, IsInUnit, IsJoinedCost, IsJoinedRow, IsJoining};
-ghost use Rattle.corner.specs.CostJoins.{IsJoinStop, IsLineStop, IsNextListed, IsRise, IsRiseAt, IsShared};
-ghost use Rattle.corner.specs.CostJoins.{IsShareStop, IsSignedCount, IsUnfitRise, IsUnitStop, home_at};
-ghost use Rattle.corner.specs.CostJoins.{with_cost, with_next};
+ghost use Rattle.corner.specs.Reads.LevelNumbers.{IsCounted, share_of, side_share};
+ghost use Rattle.corner.specs.Additions.CostJoins.{AreAllJoined, AreCostsJoined, AreShareFactors, AreToJoin};
+ghost use Rattle.corner.specs.Additions.CostJoins.{AreUnitFactors, IsCostJoined, IsCostStop, IsCostsStop};
+ghost use Rattle.corner.specs.Additions.CostJoins.{IsCountOf};
+ghost use Rattle.corner.specs.Additions.CostJoins.{IsFreeLine, IsInUnit, IsJoinedCost, IsJoinedRow};
+ghost use Rattle.corner.specs.Additions.CostJoins.{IsJoining};
+ghost use Rattle.corner.specs.Additions.CostJoins.{IsJoinStop, IsLineStop, IsNextListed, IsRise, IsRiseAt};
+ghost use Rattle.corner.specs.Additions.CostJoins.{IsShared};
+ghost use Rattle.corner.specs.Additions.CostJoins.{IsShareStop, IsSignedCount, IsUnfitRise, IsUnitStop};
+ghost use Rattle.corner.specs.Additions.CostJoins.{home_at};
+ghost use Rattle.corner.specs.Additions.CostJoins.{with_cost, with_next};
 
 use crate::exchange::turning::negated;
 use crate::exchange::{Change, named_row, named_sum, put_change};
@@ -59,9 +62,10 @@ use crate::slots::{
     attr_slot, costs, line_slot, own_of, priority_at, priority_level, put_number, share, side_at,
     side_in, sign, slot_at, value_at,
 };
+use crate::sums::product;
 use crate::table::{Owner, Priority, Slot, Standing, Table, next_slot, push_slot};
 use cert_core::RunStop;
-use frac_core::{Frac, OutOfMemory, PART_BOUND, Stop, gcd};
+use frac_core::{Frac, OutOfMemory, PART_BOUND, Stop, common_divisor};
 use problem_core::{Mark, Quantity, REQUIRED, Row, RowName, Side, Stay, TableStop, Term};
 use row_core::{Col, Factors, IntRow, Patch, RowStop, combine_but, combine_wide};
 use std::alloc::Global;
@@ -148,15 +152,6 @@ struct Sum {
     value: Frac,
 }
 
-/// The greatest common divisor of a number above 0 and another.
-pub(crate) fn common(a: i64, b: i64) -> i64
-    requires { pos 0 <ℤ a }
-    ensures above { pos 0 <ℤ result }
-    ensures divisor { IsGcd (unsigned_abs a) (unsigned_abs b) (unsigned_abs result) }
-{
-    gcd(a.unsigned_abs().into(), b.unsigned_abs().into()) as i64
-}
-
 // How often a sum's row and an attribute's are taken, so that both own numbers become one.
 fn term_factors(own: i64, attr_own: i64, by: i64) -> Factors
     requires own { pos 0 <ℤ own }
@@ -168,7 +163,7 @@ fn term_factors(own: i64, attr_own: i64, by: i64) -> Factors
     ensures n { IsFactor result.n }
     ensures factors { AreTermFactors own attr_own by result }
 {
-    let divisor = common(own, attr_own);
+    let divisor = common_divisor(own, attr_own);
     Factors {
         k: i128::from(over(attr_own, divisor)),
         n: product(over(own, divisor), by),
@@ -380,14 +375,6 @@ pub(crate) fn over(a: i64, divisor: i64) -> i64
     a / divisor
 }
 
-/// The product, which takes more room.
-pub(crate) fn product(a: i64, b: i64) -> i128
-    ensures value { result ≡ a *ℤ b }
-    ensures factor { IsFitting a → IsFitting b → IsFactor result }
-{
-    i128::from(a) * i128::from(b)
-}
-
 /// How the unit of a level's cost rises for a line: the new one, and how many times the old one it is.
 #[derive(Clone, Copy)]
 pub(crate) struct Rise {
@@ -402,8 +389,8 @@ pub(crate) fn risen(unit: i64, slot: Slot) -> Option<Rise>
     ensures some { IfSome result (IsRise slot unit) }
     ensures none { IfNone result (IsUnfitRise slot unit) }
 {
-    let part = over(slot.scale, common(slot.scale, slot.weight));
-    let times = over(part, common(part, unit));
+    let part = over(slot.scale, common_divisor(slot.scale, slot.weight));
+    let times = over(part, common_divisor(part, unit));
     let next = product(unit, times);
     if next.unsigned_abs() >= PART_BOUND {
         return None;
@@ -442,7 +429,7 @@ fn share_factors(own: i64, line_own: i64, count: i64, times: i64) -> Factors
     ensures n { IsFactor result.n }
     ensures factors { AreShareFactors own line_own count times result }
 {
-    let divisor = common(own, line_own);
+    let divisor = common_divisor(own, line_own);
     Factors {
         k: product(over(line_own, divisor), times),
         n: product(over(own, divisor), count),
@@ -499,7 +486,7 @@ fn unit_factors(own: i64, times: i64) -> Factors
     ensures n { IsFactor result.n }
     ensures factors { AreUnitFactors own times result }
 {
-    let divisor = common(own, times);
+    let divisor = common_divisor(own, times);
     let k = over(times, divisor);
     Factors {
         k: i128::from(k),

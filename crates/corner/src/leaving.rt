@@ -19,16 +19,17 @@ ghost use Rattle.problem_core.specs.declared.stops.Quantity.TheVariants.{Plain};
 ghost use Rattle.frac_core.specs.declared.memory.Stop.TheVariants.{Refused};
 ghost use Rattle.corner_laws.specs.Lifts.{HasOneIn};
 ghost use Rattle.corner.specs.Changes.{IsUnfitStop};
-ghost use Rattle.corner.specs.CostJoins.{AreShareFactors, IsLeastUnit};
+ghost use Rattle.corner.specs.Additions.CostJoins.{AreShareFactors, IsLeastUnit};
 ghost use Rattle.corner.specs.Kept.{AreSlots, IsKept};
-ghost use Rattle.corner.specs.Leaving.{AreLeftFitting, HasMultiple, IsFittingLeft, IsLeaver, IsLeftRow};
-ghost use Rattle.corner.specs.Leaving.{IsLeftStop, IsLeftUnit, IsLevelLeft, IsTimes, IsUnfitLeft};
-ghost use Rattle.corner.specs.Leaving.{left_count, marks_left, problem_left};
+ghost use Rattle.corner.specs.Removals.Leaving.{AreLeftFitting, HasMultiple, IsFittingLeft, IsLeaver};
+ghost use Rattle.corner.specs.Removals.Leaving.{IsLeftRow};
+ghost use Rattle.corner.specs.Removals.Leaving.{IsLeftStop, IsLeftUnit, IsLevelLeft, IsTimes, IsUnfitLeft};
+ghost use Rattle.corner.specs.Removals.Leaving.{left_count, marks_left, problem_left};
 ghost use Rattle.corner.specs.Tables as tables;
 ghost use Rattle.corner.specs.Tables.{lists_of, marks_at};
 
 use crate::exchange::{Change, named_row, named_sum, opposite};
-use crate::joining::{common, over, product, risen};
+use crate::joining::{over, risen};
 use crate::levels::Pair;
 use crate::levels::fitting::{
     Draft, SMALL_SCALE, are_small, does_line_fit, is_fitting, level_at, scale_of,
@@ -36,8 +37,9 @@ use crate::levels::fitting::{
 use crate::slots::{
     cost_share, line_slot, own_of, priority_at, priority_level, side_in, sign, slot_at, value_at,
 };
+use crate::sums::product;
 use crate::table::Table;
-use frac_core::{Frac, Stop};
+use frac_core::{Frac, Stop, common_divisor};
 use problem_core::{Quantity, Row, RowName, Side, TableStop, What};
 use row_core::{Col, Factors, IntRow, Patch, combine_but};
 use std::alloc::Global;
@@ -117,7 +119,7 @@ fn left_unit(table: &Table, leaver: Leaver) -> i64
     ensures { IsLeftUnit (lists_of table.now) leaver result }
 {
     let slot = slot_at(table, leaver.line);
-    let divisor = common(slot.scale, slot.weight);
+    let divisor = common_divisor(slot.scale, slot.weight);
     if divisor == slot.scale {
         priority_at(table, leaver.level).unit
     } else {
@@ -147,7 +149,7 @@ fn left_factors(own: i64, line_own: i64, count: i64) -> Factors
     ensures n { IsFactor result.n }
     ensures factors { AreShareFactors own line_own count (pos 1) result }
 {
-    let divisor = common(own, line_own);
+    let divisor = common_divisor(own, line_own);
     Factors {
         k: i128::from(over(line_own, divisor)),
         n: product(over(own, divisor), count),

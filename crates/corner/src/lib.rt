@@ -46,8 +46,8 @@
 //! `writings`, `levels` and `levels::growing` read what is written of attributes, marks and costs; `listing`
 //! lists lines, and `listing::lows` those with negative values; `marking` names the marks inside; `sums`
 //! adds, and `levels::fitting` tells what fits; `exchange` and `exchange::turning` go to the next corner,
-//! `joining` to that of a larger problem, `leaving`, with `leaving::freeing` and `leaving::dropping`, to that
-//! of a smaller one, `shifting` to that with another constant; and `corner` is what callers use.
+//! `joining` to that of a larger problem, `shifting` to that with another constant, `leaving`, with
+//! `leaving::freeing` and `leaving::dropping`, to that of a smaller one; and `corner` is what callers use.
 #![tactic(auto)]
 
 mod corner;

@@ -3,7 +3,7 @@ pub(crate) mod lows;
 
 ghost use Rattle.std.specs.Prelude.{◌≡◌, ◌+◌, ◌<◌, ℕ, [], length, Contains, IfSome, IfNone, OnOk, slice_get};
 ghost use Rattle.std.specs.Prelude.{slice_index_or};
-ghost use Rattle.corner.specs.Listing.{HasLeft, IsListed, IsWithout};
+ghost use Rattle.corner.specs.Reads.Listing.{HasLeft, IsListed, IsWithout};
 
 use frac_core::OutOfMemory;
 use std::alloc::Global;
@@ -18,7 +18,7 @@ pub(crate) struct Listed {
 
 impl Model for Listed {
     ghost use Rattle.std.specs.Prelude.{List, ℕ};
-    ghost use Rattle.corner.specs.Listing.{AreFlagged};
+    ghost use Rattle.corner.specs.Reads.Listing.{AreFlagged};
 
     ghost Value = { List ℕ };
 

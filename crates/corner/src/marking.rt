@@ -3,7 +3,7 @@ ghost use Rattle.std.specs.Prelude.{◌≡◌, ◌<◌, ◌++◌, [], ◌∷◌,
 ghost use Rattle.problem_core.specs.Unfit.{over_mark};
 ghost use Rattle.corner.specs.Tables.{IsListedOf, inside_of, lists_of, marks_over, problem_of, row_at};
 ghost use Rattle.corner.specs.Tables.{row_names, stay_names};
-ghost use Rattle.corner.specs.Listing.{IsListedBut};
+ghost use Rattle.corner.specs.Reads.Listing.{IsListedBut};
 ghost use Rattle.corner.specs.Kept.{AreSlots, AreStored};
 ghost use Rattle.corner.specs.Views.{IsNamed};
 ghost use Rattle.corner.specs.Changes.{IsPathStop};

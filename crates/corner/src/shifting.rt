@@ -12,11 +12,12 @@ ghost use Rattle.corner.specs.declared.table.Owner.TheVariants.{Line as LineSlot
 ghost use Rattle.corner.specs.declared.table.TheConstants.{LEVELS};
 ghost use Rattle.corner.specs.Histories.{AreAlike, lists_before};
 ghost use Rattle.corner.specs.Kept.{AreSlots, IsKept, IsSlot};
-ghost use Rattle.corner.specs.LevelNumbers.{IsSlotOfLine};
-ghost use Rattle.corner.specs.Shifting as shifting;
-ghost use Rattle.corner.specs.Shifting.{CanGrow, HaveGrown, IsGrowStop, IsGrown, IsLineStop, IsNear};
-ghost use Rattle.corner.specs.Shifting.{IsShifted, IsShiftedStop, IsThere, mark_growth, outside_growth};
-ghost use Rattle.corner.specs.Shifting.{with_constant_at};
+ghost use Rattle.corner.specs.Reads.LevelNumbers.{IsSlotOfLine};
+ghost use Rattle.corner.specs.Shifts.Shifting as shifting;
+ghost use Rattle.corner.specs.Shifts.Shifting.{CanGrow, HaveGrown, IsGrowStop, IsGrown, IsLineStop, IsNear};
+ghost use Rattle.corner.specs.Shifts.Shifting.{IsShifted, IsShiftedStop, IsThere, mark_growth};
+ghost use Rattle.corner.specs.Shifts.Shifting.{outside_growth};
+ghost use Rattle.corner.specs.Shifts.Shifting.{with_constant_at};
 ghost use Rattle.corner.specs.Tables as tables;
 ghost use Rattle.corner.specs.Tables.{lists_of, problem_of};
 

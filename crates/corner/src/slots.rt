@@ -15,10 +15,11 @@ ghost use Rattle.corner.specs.Tables as tables;
 ghost use Rattle.corner.specs.Tables.{IsSign, entry, lists_of, problem_of};
 ghost use Rattle.corner.specs.Invariants as invariants;
 ghost use Rattle.corner.specs.Kept.{AreSlots, HasCost, IsHeld, IsStayOwner, level_own};
-ghost use Rattle.corner.specs.Joining.{IsNumbered};
+ghost use Rattle.corner.specs.Additions.Joining.{IsNumbered};
 ghost use Rattle.corner.specs.Views.{IsLevelOf, IsNamed};
-ghost use Rattle.corner.specs.LevelNumbers.{IsCounted, count_of, share_of, side_share, unit_at};
-ghost use Rattle.corner_lines.specs.LineEquations.{sign_of, other_side};
+ghost use Rattle.corner.specs.Reads.LevelNumbers.{IsCounted, count_of, share_of, side_share, unit_at};
+ghost use Rattle.corner_laws.specs.Runs.{other_side};
+ghost use Rattle.corner_lines.specs.LineEquations.{sign_of};
 
 use crate::table::{ABSENT, LEVELS, Owner, Priority, Slot, Table};
 use frac_core::{Frac, OutOfMemory};

@@ -1,10 +1,18 @@
-// Sums of fractions.
+// Products, and sums of fractions.
 ghost use Rattle.std.specs.Prelude.{◌≡◌, ◌<ℤ◌, ◌*ℤ◌, ◌+ℤ◌, pos, true, IfOk, OnErr};
 ghost use Rattle.frac_core.specs.Fraction.{Fits, IsFitting, IsLowest, IsRatio, IsUnfitRatio, sum_den};
 ghost use Rattle.frac_core.specs.Fraction.{sum_num};
+ghost use Rattle.row_core.specs.Combinations.{IsFactor};
 
-use crate::joining::product;
 use frac_core::{Frac, Unfit};
+
+/// The product, which takes more room.
+pub(crate) fn product(a: i64, b: i64) -> i128
+    ensures value { result ≡ a *ℤ b }
+    ensures factor { IsFitting a → IsFitting b → IsFactor result }
+{
+    i128::from(a) * i128::from(b)
+}
 
 // Whether all are whole.
 fn are_whole(a: Frac, d: i64, t: Frac) -> bool

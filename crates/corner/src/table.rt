@@ -5,18 +5,18 @@ ghost use Rattle.version_list.specs.declared.TheConstants.{VERSION_LIMIT};
 ghost use Rattle.corner.specs.Tables.{Lists, lists_of};
 ghost use Rattle.corner.specs.Histories.{AreAlike, HasSameHistory, lists_before};
 ghost use Rattle.corner.specs.Kept.{IsKept};
-ghost use Rattle.corner.specs.Joining.{HasNoPast, with_level, with_slot};
+ghost use Rattle.corner.specs.Additions.Joining.{HasNoPast, with_level, with_slot};
 
 use frac_core::{Frac, OutOfMemory};
 use indexed_rows::IndexedRows;
-use problem_core::{REQUIRED, Rel, Row, RowName, Side, Stay};
+use problem_core::{FIRST_STAY_LEVEL, Rel, Row, RowName, Side, Stay};
 use row_core::IntRow;
 use std::alloc::Global;
 use version_list::VersionList;
 
 /// The first slots are those of the priority levels, by number; those from here on are in the order in
 /// which they came.
-pub(crate) const LEVELS: u32 = REQUIRED as u32 + 1;
+pub(crate) const LEVELS: u32 = FIRST_STAY_LEVEL;
 
 /// The slot of a number that has none.
 pub(crate) const ABSENT: u32 = 0;

@@ -15,13 +15,13 @@ ghost use Rattle.problem_core.specs.Corners.{attr_column, IsIn};
 ghost use Rattle.corner_lines.specs.LineEquations.{sign_of};
 ghost use Rattle.corner.specs.Tables as tables;
 ghost use Rattle.corner.specs.Tables.{AreMoved, IsOfLine, IsSign, entry, lists_of, marks_at};
-ghost use Rattle.corner.specs.Entries.{columns_but};
+ghost use Rattle.corner.specs.Reads.Entries.{columns_but};
 ghost use Rattle.corner.specs.Tables.{problem_of};
 ghost use Rattle.corner.specs.Tables.{sign_of_what};
 ghost use Rattle.corner.specs.Kept.{AreSlots, IsKept};
 ghost use Rattle.corner.specs.Invariants.{seen_of};
 ghost use Rattle.corner.specs.Views.{AreMovers, HasValueAt, IsMarkOf, IsNamed, IsOutside};
-ghost use Rattle.corner.specs.Entries.{AreEntries};
+ghost use Rattle.corner.specs.Reads.Entries.{AreEntries};
 ghost use Rattle.corner.specs.Views.{IsWritten};
 ghost use Rattle.corner.specs.Views.{IsCoefficientOf, IsScaleOf};
 

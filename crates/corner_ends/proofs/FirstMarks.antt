@@ -1,49 +1,26 @@
 -- The marks of a run's first corner, found from those of now and the exchanges.
-use Rattle.std.proofs.Common.{◌≡◌, ◌≢◌, ◌∙◌, inl, inr, ℕ, zero, suc, ◌+◌, ◌<◌, Bool, true, false, cond, nat_eq, List, [], ◌∷◌, ◌++◌, map, length, take, get_or, refl, sym, ap, subst, arith, All, Any, eq-eqb, ne_eqb}
+use Rattle.std.proofs.Common.{◌≡◌, ◌≢◌, ◌∙◌, inl, inr, ℕ, zero, suc, ◌+◌, ◌<◌, Bool, true, false, cond, List, [], ◌∷◌, ◌++◌, map, length, take, get_or, refl, sym, ap, subst, arith, All}
 use Rattle.std.specs.List.{AllByRecursion as Each}
-use Rattle.std.proofs.lemmas.Bool.{cases_Bool, cases_eq}
+use Rattle.std.proofs.lemmas.Bool.{cases_Bool}
 use Rattle.std.proofs.lemmas.List.Elements.{recursion_from_All}
 use Rattle.problem_core.specs.declared.parts.Mark.{Mark}
 use Rattle.problem_core.specs.declared.parts.RowName.{RowName}
 use Rattle.problem_core.specs.declared.parts.RowName.TheVariants.{Held, Stay as StayOf}
 use Rattle.problem_core.specs.declared.parts.Side.TheVariants.{Under, Over}
 use Rattle.problem_core.specs.declared.parts.Stay.{Stay}
-use Rattle.problem_core.specs.Layout.{Line, Problem, Row, line_of_row, line_of_stay, stay_lines}
+use Rattle.problem_core.specs.Layout.{Line, Problem, Row, line_of_row, stay_lines}
 use Rattle.problem_core.specs.Corners.{IsIn, Swap, exchanged, marks_of, place}
-use Rattle.problem_core.specs.Paths.{last_marks}
+use Rattle.problem_core.specs.Changes.Paths.{last_marks}
 use Rattle.corner_laws.proofs.Exchanged.{exchanged_in}
-use Rattle.corner_laws.proofs.RunPaths.{contains_in}
+use Rattle.corner_laws.proofs.RunSteps.RunPaths.{contains_in}
 use Rattle.corner.specs.Views.{IsNamed, in_order, is_mark}
 use Rattle.corner_ends.specs.Among.{lines_among, marks_among}
 use Rattle.corner_ends.specs.Begins.{AreExchanges, HasExchanged}
 use Rattle.corner_ends.proofs.MarkOrders.{kept_in}
-use Rattle.corner.proofs.MarkingFacts.{append_more}
-
--- ---- whether a mark is among others
-
-in-mark : (ms : List Mark) (c : ℕ) → IsIn c ms → is_mark ms c ≡ true
-in-mark [] c (k, within, is) = absurd (omega (arith, within))
-in-mark (m ∷ ms) c (zero, within, is) = ap (λ (b : Bool). cond b true (is_mark ms c)) (eq-eqb (place m) c is)
-in-mark (m ∷ ms) c (suc k, within, is) = past-mark (nat_eq (place m) c) (is_mark ms c) (in-mark ms c (k, omega (arith, within), is))
-  where
-    past-mark : (b d : Bool) → d ≡ true → cond b true d ≡ true
-    past-mark true d e = refl
-    past-mark false d e = e
-
-mark-in : (ms : List Mark) (c : ℕ) → is_mark ms c ≡ true → IsIn c ms
-mark-in [] c e = absurd (let f : false ≡ true = e in cc)
-mark-in (m ∷ ms) c e =
-    elim (cases_eq (place m) c) [
-      | inl same ↦ (0, omega arith, same)
-      | inr other ↦
-          let rest = mark-in ms c (sym (ap (λ (b : Bool). cond b true (is_mark ms c)) (ne_eqb (place m) c other)) ∙ e) in
-          (suc rest.0, (let within = rest.1 in omega (arith, within)), rest.2)
-    ]
-
-same-bool : (b d : Bool) → (b ≡ true → d ≡ true) → (d ≡ true → b ≡ true) → b ≡ d
-same-bool true d f g = sym (f refl)
-same-bool false true f g = g refl
-same-bool false false f g = refl
+use Rattle.corner.proofs.Readings.MarkingFacts.{append_more}
+use Rattle.frac_core.proofs.Bools.{bools-same as same-bool}
+use Rattle.problem_core.proofs.Lines.{past-rows, stay-line}
+use Rattle.corner.proofs.Readings.KeptFacts.{is_in as mark-in, in_is as in-mark}
 
 -- ---- what exchanges leave alone
 
@@ -163,15 +140,6 @@ all_among p first rows all e f ordered =
     ∙ sym (rows-among first p.rows (stay_lines 1001 p.stays)) ∙ sym ordered
 
 -- ---- names
-
-stay-line : (level : ℕ) (stays : List Stay) (k : ℕ) (s : Stay) → k < length stays → get_or stays k s ≡ s → Any (λ l. l.name ≡ StayOf s.attr) (stay_lines level stays)
-stay-line level [] k s lt e = absurd (omega (arith, lt))
-stay-line level (x ∷ stays) zero s lt e = (0, line_of_stay level x, omega arith, refl, ap (λ (y : Stay). StayOf y.attr) e)
-stay-line level (x ∷ stays) (suc k) s lt e = let i = stay-line (level + 1) stays k s (omega (arith, lt)) e in (suc i.0, i.1, (let less = i.2 in omega (arith, less)), i.3, i.4)
-
-past-rows : (name : RowName) (rows : List Row) (rest : List Line) → Any (λ l. l.name ≡ name) rest → Any (λ l. l.name ≡ name) (map line_of_row rows ++ rest)
-past-rows name [] rest h = h
-past-rows name (r ∷ rows) rest h = let i = past-rows name rows rest h in (suc i.0, i.1, (let less = i.2 in omega (arith, less)), i.3, i.4)
 
 pub stay_named : (p : Problem) (k : ℕ) (s : Stay) (name : RowName) → k < length p.stays → s ≡ get_or p.stays k s → name ≡ StayOf s.attr → IsNamed p name
 stay_named p k s name lt e same = subst (IsNamed p) (sym same) (past-rows (StayOf s.attr) p.rows (stay_lines 1001 p.stays) (stay-line 1001 p.stays k s lt (sym e)))

@@ -20,15 +20,16 @@ use Rattle.problem_core.specs.Corners.{HasNegativeColumn, IsCorner, IsIn, NoNega
 use Rattle.problem_core.specs.Levels.{IsLevelAt, IsLevelWriting}
 use Rattle.problem_core.specs.Rays.{HasRays}
 use Rattle.corner_laws.specs.Sums.{AreReducedAt}
-use Rattle.corner_laws.proofs.ColumnSigns.{mark_line, negative_by_reduced, none_negative_by_reduced, pick}
-use Rattle.corner_laws.proofs.Equal.{numbers_are_equal}
-use Rattle.corner_laws.proofs.LevelExists.{level_writing_exists}
-use Rattle.corner_lines.proofs.StayRows.{stay_stands_alone}
+use Rattle.corner_laws.proofs.RunSteps.ColumnSigns.{mark_line, negative_by_reduced, none_negative_by_reduced, pick}
+use Rattle.corner_laws.proofs.LevelCosts.Equal.{numbers_are_equal}
+use Rattle.corner_laws.proofs.LevelCosts.LevelExists.{level_writing_exists}
+use Rattle.corner_lines.proofs.LevelRows.StayRows.{level_one}
 use Rattle.corner.specs.declared.levels.Front.{Front}
 use Rattle.corner.specs.Views.{HasNoFront, IsFrontOf, IsInUse, IsKeptCorner, IsMarkOf, IsOutside, IsReducedAt}
 use Rattle.corner_ends.specs.Columns.{IsNegative, Reduced}
 use Rattle.corner_ends.proofs.Signs.{reduced_by_negative}
-use Rattle.corner.proofs.LowLines.{up_or_low}
+use Rattle.corner.proofs.Readings.LowLines.{up_or_low}
+use Rattle.frac_core.proofs.Orders.{three as order}
 
 -- ---- the reduced costs of all levels
 
@@ -117,12 +118,6 @@ level_named p k whole (i, x, within, is, e) =
       | inr (attr, name) ↦ (StayLevel attr, (i, x, within, is, (name, e)))
     ]
 
--- a level has one number
-pub level_one : (p : Problem) (level : Level) (j k : ℕ) → IsWhole p → IsLevelAt p level j → IsLevelAt p level k → j ≡ k
-level_one p (Priority rank) j k whole a b = omega (arith, a, b)
-level_one p (StayLevel attr) j k whole (i, x, within, is, (name, e)) b =
-    sym e ∙ pick (λ l. l.name ≡ StayOf attr → l.level ≡ k) (lines p) i x (recursion_from_All _ (lines p) (stay_stands_alone p attr k whole b).named) within is name
-
 pub used_line : (p : Problem) (level : Level) (k : ℕ) → IsWhole p → IsLevelAt p level k → IsInUse p level → Any (λ l. l.level ≡ k) (lines p)
 used_line p level k whole here (i, x, within, is, there) = (i, x, within, is, level_one p level x.level k whole there here)
 
@@ -175,16 +170,6 @@ front_below p at m f kept mark h low =
       outside = (mark, λ i. let zero = inside_zero p at r front.level m mark i in omega (arith, ints, zero, down));
       column = negative_by_reduced p at r.costs m kept.whole r.are mark (front.level, front.before, down);
     }
-
-pub order : (a b : ℕ) → (a < b) ⊎ ((a ≡ b) ⊎ (b < a))
-order zero zero = inr (inl refl)
-order zero (suc b) = inl (omega arith)
-order (suc a) zero = inr (inr (omega arith))
-order (suc a) (suc b) = elim (order a b) [
-  | inl h ↦ inl (omega (arith, h))
-  | inr (inl h) ↦ inr (inl (ap suc h))
-  | inr (inr h) ↦ inr (inr (omega (arith, h)))
-]
 
 up-here : (a b : ℕ) (costs : ℕ → ℤ) (front : ℤ) → a ≡ b → costs a ≡ front → costs b <ℤ pos 0 → pos 0 ≤ℤ front → ⊥
 up-here a b costs front e there low up = let g : costs b ≡ front = ap costs (sym e) ∙ there in omega (arith, ints, g, low, up)

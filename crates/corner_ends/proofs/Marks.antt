@@ -1,30 +1,20 @@
 -- Marks and lines.
-use Rattle.std.proofs.Common.{◌≡◌, ◌∙◌, ℕ, zero, suc, ◌+◌, ◌<◌, ◌≤◌, take, List, [], ◌∷◌, map, length, refl, sym, ap, subst, arith, All, Contains, slice_index_or, slice_get, IfSome, IfNone}
+use Rattle.std.proofs.Common.{◌≡◌, ◌∙◌, ℕ, zero, suc, ◌+◌, take, List, [], ◌∷◌, map, refl, sym, ap, subst, arith, All, Contains, slice_get, IfSome, IfNone}
 use Rattle.std.specs.declared.option.Option.{Option}
 use Rattle.std.specs.Prelude.{Some, None}
 use Rattle.std.specs.List.{AllByRecursion as Each}
-use Rattle.std.proofs.lemmas.List.{take_all}
 use Rattle.std.proofs.lemmas.List.Elements.{recursion_from_All, All-from_recursion}
 use Rattle.problem_core.specs.declared.parts.Mark.{Mark}
 use Rattle.problem_core.specs.declared.parts.Side.{Side}
 use Rattle.problem_core.specs.declared.parts.Side.TheVariants.{Under, Over}
 use Rattle.problem_core.specs.declared.parts.RowName.{RowName}
 use Rattle.problem_core.specs.declared.parts.RowName.TheVariants.{Held, Stay as StayOf}
-use Rattle.problem_core.specs.Layout.{Line, Problem, lines}
+use Rattle.problem_core.specs.Layout.{Problem, lines}
 use Rattle.problem_core.specs.Corners.{HasNegativeColumn, IsIn, marks_of, place, place_of}
 use Rattle.corner_laws.proofs.WrittenValues.{contains_each}
 use Rattle.corner.specs.Views.{IsKeptCorner, IsMarkOf, IsNamed}
 use Rattle.corner.specs.Changes.{HasNoNegative}
-
-line-mark : (ls : List Line) (i : ℕ) (x : Line) (side : Side) → i < length ls → slice_index_or ls i x ≡ x → Contains (map place (marks_of ls)) (place_of x.name side)
-line-mark [] i x side within is = absurd (omega (arith, within))
-line-mark (l ∷ ls) zero x Under within is = (0, omega arith, ap (λ (k : Line). place_of k.name Under) is)
-line-mark (l ∷ ls) zero x Over within is = (1, omega arith, ap (λ (k : Line). place_of k.name Over) is)
-line-mark (l ∷ ls) (suc i) x side within is =
-    let h = line-mark ls i x side (omega (arith, within)) is in (suc (suc h.0), (let less = h.1 in omega (arith, less)), h.2)
-
-pub named_mark : (p : Problem) (name : RowName) (side : Side) → IsNamed p name → IsMarkOf p (record { row = name; side = side })
-named_mark p name side (i, x, within, is, e) = subst (λ (n : RowName). IsMarkOf p (record { row = n; side = side })) e (line-mark (lines p) i x side within is)
+use Rattle.corner.proofs.Readings.ReadFacts.{named_in as named_mark}
 
 pub mark_is : (p : Problem) (m : Mark) (name : RowName) (side : Side) → m ≡ record { row = name; side = side } → IsNamed p name → IsMarkOf p m
 mark_is p m name side e named = subst (IsMarkOf p) (sym e) (named_mark p name side named)
@@ -111,6 +101,3 @@ pub took_more : {X : Type 0} (P : X → Type 0) (xs : List X) (i : ℕ) (x : X) 
 took_more P xs i x h e p =
     let n : suc i ≡ i + 1 = omega arith in
     subst (λ (k : ℕ). All P (take k xs)) n (All-from_recursion P (take (suc i) xs) (took_each P xs i x (recursion_from_All P (take i xs) h) e p))
-
-pub took_all : {X : Type 0} (P : X → Type 0) (xs : List X) (i : ℕ) → length xs ≤ i → All P (take i xs) → All P xs
-took_all P xs i over h = subst (All P) (take_all i xs over) h

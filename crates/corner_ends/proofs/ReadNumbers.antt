@@ -7,7 +7,7 @@ use Rattle.problem_core.specs.declared.stops.What.TheVariants.{Mark as MarkOf}
 use Rattle.problem_core.specs.Layout.{Problem, coefficient}
 use Rattle.problem_core.specs.Corners.{IsWritingOf, place}
 use Rattle.corner_laws.specs.Runs.{Writes, Writing}
-use Rattle.corner_laws.proofs.Equations.{writings_are_equal}
+use Rattle.corner_laws.proofs.MarkWritings.Equations.{writings_are_equal}
 use Rattle.corner.specs.Views.{IsCoefficientOf, IsKeptCorner, IsScaleOf}
 
 same-writing : (p : Problem) (at : List Mark) (c d : ℕ) (scale : ℕ) (form : List Term) (value : Fraction) (w : Writing) → IsKeptCorner p at → d ≡ c → IsWritingOf p at (λ x. x d) scale form value.num value.den → Writes p at c w

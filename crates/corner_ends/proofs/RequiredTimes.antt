@@ -1,11 +1,7 @@
 -- The multipliers of the required level, and what they refute.
-use Rattle.std.proofs.Common.{◌≡◌, ◌∙◌, inl, inr, ℕ, zero, suc, ◌+◌, ◌<◌, ◌≤◌, List, [], ◌∷◌, ◌++◌, map, length, take, get_or, ℤ, pos, negsuc, ◌*ℤ◌, ◌≤ℤ◌, ◌<ℤ◌, unsigned_abs, refl, sym, ap, subst, arith, All, Any, IfOk}
-use Rattle.std.specs.declared.result.Result.{Result}
-use Rattle.std.specs.declared.result.Result.TheVariants.{Ok, Err}
+use Rattle.std.proofs.Common.{◌≡◌, ◌∙◌, inl, inr, ℕ, zero, suc, ◌<◌, ◌≤◌, List, [], ◌∷◌, ◌++◌, map, length, get_or, ℤ, pos, ◌*ℤ◌, ◌≤ℤ◌, unsigned_abs, refl, sym, ap, subst, arith, All, Any}
 use Rattle.std.proofs.lemmas.Bool.{cases_lt}
-use Rattle.std.proofs.lemmas.List.{take_more, take_all}
-use Rattle.std.proofs.lemmas.List.Elements.{All-push, recursion_from_All, All-from_recursion}
-use borrow.Author.Differences.{ints}
+use Rattle.std.proofs.lemmas.List.Elements.{recursion_from_All, All-from_recursion}
 use Rattle.frac_core.specs.Fraction.{IsFitting}
 use Rattle.frac_core.specs.declared.frac.TheConstants.{PART_BOUND}
 use Rattle.problem_core.specs.declared.parts.Mark.{Mark}
@@ -18,18 +14,17 @@ use Rattle.problem_core.specs.Layout.{Line, Problem, Row, line_of_row, lines}
 use Rattle.problem_core.specs.Certificates.{IsRefutation}
 use Rattle.problem_core.specs.Corners.{AreMultipliersAt, column}
 use Rattle.problem_core.specs.Levels.{CostsAbove, IsLevelWriting}
-use Rattle.problem_core.specs.Paths.{NoNegativeRequired}
+use Rattle.problem_core.specs.Changes.Paths.{NoNegativeRequired}
 use Rattle.problem_core.proofs.Forms.{each-both, each-impl}
-use Rattle.corner_laws.proofs.ColumnsStay.{sums-AreMultipliersAt, together}
-use Rattle.corner_laws.proofs.DualChoice.{writing-IsLevelSum}
-use Rattle.corner_laws.proofs.Equal.{numbers_are_equal}
-use Rattle.corner_laws.proofs.LevelExists.{level_writing_exists}
-use Rattle.corner_laws.proofs.Refuting.{cost_refutes}
+use Rattle.corner_laws.proofs.Swaps.ColumnsStay.{sums-AreMultipliersAt, together}
+use Rattle.corner_laws.proofs.LevelCosts.Equal.{numbers_are_equal, writing-sum as writing-IsLevelSum}
+use Rattle.corner_laws.proofs.LevelCosts.LevelExists.{level_writing_exists}
+use Rattle.corner_laws.proofs.PathEnds.Refuting.{cost_refutes}
 use Rattle.corner.specs.Views.{HasNumbers, IsKeptCorner, IsNamed}
 use Rattle.corner_ends.specs.Shares.{AreRequiredTimes}
 use Rattle.corner_ends.proofs.Fronts.{level_0}
 use Rattle.corner_ends.proofs.Signs.{columns_alike}
-use Rattle.corner_lines.proofs.ColumnsBelow.{low_from}
+use Rattle.frac_core.proofs.Numbers.{up-carried as up-from}
 
 -- ---- rows and their lines
 
@@ -93,12 +88,6 @@ times_fit p at id n z kept row same (s, t, r, w, e) =
 
 -- ---- what they refute
 
-up-from : (s t : ℕ) (a b : ℤ) → 0 < s → pos s *ℤ b ≡ pos t *ℤ a → pos 0 ≤ℤ a → pos 0 ≤ℤ b
-up-from s t a (pos n) above e h = omega (arith, ints)
-up-from s t a (negsuc n) above e h =
-    let low : a <ℤ pos 0 = low_from t s (negsuc n) a above (sym e) (omega (arith, ints)) in
-    absurd (omega (arith, ints, low, h))
-
 -- the level has multipliers
 pub times_exist : (p : Problem) (at : List Mark) → IsKeptCorner p at → (y : ℕ → ℤ) × AreRequiredTimes p at y
 times_exist p at kept =
@@ -122,17 +111,6 @@ required_refuted p at kept above (q, is, up) =
     )
 
 -- ---- lists and results
-
-pub all_more : {X : Type 0} (P : X → Type 0) (xs : List X) (i : ℕ) (x : X) → i < length xs → x ≡ get_or xs i x → All P (take i xs) → P x → All P (take (i + 1) xs)
-all_more P xs i x within is before here =
-    subst (All P) (sym (take_more xs i x within)) (All-push P (take i xs) (get_or xs i x) before (subst P is here))
-
-pub all_done : {X : Type 0} (P : X → Type 0) (xs : List X) (i : ℕ) → length xs ≤ i → All P (take i xs) → All P xs
-all_done P xs i over all = subst (All P) (take_all i xs over) all
-
-pub ok_implies : {A E : Type 0} (r : Result A E) (P Q : A → Type 0) → ((x : A) → P x → Q x) → IfOk r P → IfOk r Q
-ok_implies (Ok x) P Q f h = f x h
-ok_implies (Err e) P Q f h = h
 
 pub same_within : {X : Type 0} (xs ys : List X) (i : ℕ) → xs ≡ ys → i < length xs → i < length ys
 same_within xs ys i e h = subst (λ (zs : List _). i < length zs) e h

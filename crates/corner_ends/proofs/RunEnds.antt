@@ -4,7 +4,7 @@ use Rattle.problem_core.specs.declared.parts.Mark.{Mark}
 use Rattle.problem_core.specs.Layout.{Problem}
 use Rattle.problem_core.specs.Corners.{NoNegativeColumn, NoNegativeValue, SameMarks, Swap}
 use Rattle.problem_core.specs.Levels.{CostsAbove}
-use Rattle.problem_core.specs.Paths.{IsEndOf, IsPath, last_marks}
+use Rattle.problem_core.specs.Changes.Paths.{IsEndOf, IsPath, last_marks}
 use Rattle.cert_core.specs.Paths.{Path}
 use Rattle.cert_core.specs.Stops.{IsStopOf}
 use Rattle.cert_core.specs.declared.stops.RunStop.{RunStop}

@@ -1,11 +1,9 @@
 -- The multipliers that a conflict shows: those of required rows, by rising number, none 0, without a common factor.
-use Rattle.std.proofs.Common.{◌≡◌, ◌∙◌, ◌⊎◌, ℕ, zero, suc, ◌+◌, ◌*◌, ◌/◌, ◌<◌, Bool, true, false, cond, nat_eq, List, [], ◌∷◌, ◌++◌, filter, length, take, get_or, ℤ, pos, negsuc, ◌+ℤ◌, ◌*ℤ◌, unsigned_abs, refl, sym, ap, ap₂, subst, arith, inl, inr, All, Any, eq-eqb, eqb-true}
+use Rattle.std.proofs.Common.{◌≡◌, ◌∙◌, ◌⊎◌, ℕ, zero, suc, ◌+◌, ◌*◌, ◌/◌, ◌<◌, Bool, true, false, cond, nat_eq, List, [], ◌∷◌, ◌++◌, filter, length, take, get_or, ℤ, pos, ◌+ℤ◌, ◌*ℤ◌, unsigned_abs, sym, ap, ap₂, subst, arith, inl, inr, All, Any, eq-eqb, eqb-true}
 use Rattle.std.specs.Int.{◌∣◌}
 use Rattle.std.specs.List.{AllByRecursion as Each}
 use Rattle.std.proofs.lemmas.List.{take_more}
 use Rattle.std.proofs.lemmas.List.Elements.{recursion_from_All, All-from_recursion, filter_passes}
-use Rattle.std.proofs.lemmas.Nat.Gcd.{le_of_dvd}
-use Rattle.std.proofs.Math.Nat.{eq-zero_of_zero-dvd}
 use borrow.Author.Differences.{ints}
 use Rattle.frac_core.proofs.Integers.{mul-add_left, mul-zero_ℤ, mul_assoc_ℤ, zero-mul_ℤ}
 use Rattle.problem_core.specs.declared.parts.RowName.{RowName}
@@ -18,16 +16,12 @@ use Rattle.cert_core.specs.Claims.{same_row, times_of}
 use Rattle.cert_core.specs.Stops.{IsShownConflict}
 use Rattle.corner_ends.specs.Shares.{AreShares, IsDivisor, IsGreatest}
 use Rattle.corner_ends.proofs.SharedTimes.{shares_refute}
-use Rattle.std.proofs.Math.Nat.{dvd-mul_right}
-use Rattle.std.proofs.lemmas.Int.{unsigned_abs-mul}
-use Rattle.corner_laws.proofs.LevelNumbers.{multiple}
+use Rattle.frac_core.proofs.Numbers.{only-one as one-left, zero-divides as none-size, divides-multiple}
+use Rattle.corner_laws.proofs.MarkWritings.Equations.{whole_share as multiple}
 
 each-parts : {A : Type 0} (P : A → Type 0) (xs ys : List A) → Each P (xs ++ ys) → Each P xs × Each P ys
 each-parts P [] ys h = (tt, h)
 each-parts P (x ∷ xs) ys h = let r = each-parts P xs ys h.1 in ((h.0, r.0), r.1)
-
-divides-multiple : (d : ℕ) (z y : ℤ) → z ≡ pos d *ℤ y → d ∣ unsigned_abs z
-divides-multiple d z y e = subst (λ (k : ℕ). d ∣ k) (sym (ap unsigned_abs e ∙ unsigned_abs-mul (pos d) y)) (dvd-mul_right d (unsigned_abs y))
 
 pub greatest_parts : (k : ℕ) (y : ℕ → ℤ) (rows : List Row) (i : ℕ) (r : Row) → i < length rows → r ≡ get_or rows i r → All (IsDivisor k y) (take (i + 1) rows) → All (IsDivisor k y) (take i rows) × IsDivisor k y r
 greatest_parts k y rows i r within is each =
@@ -64,21 +58,12 @@ multiple-of k (b ∷ by) name h =
     let rest = multiple-of k by name h.1 in
     (first.0 +ℤ rest.0, ap₂ ◌+ℤ◌ first.1 rest.1 ∙ sym (mul-add_left (pos k) first.0 rest.0))
 
-pub one-left : (k g : ℕ) → 0 < g → (k * g) ∣ g → k ≡ 1
-one-left zero g above h = absurd (let e = eq-zero_of_zero-dvd (subst (λ (n : ℕ). n ∣ g) (let z : 0 * g ≡ 0 = omega arith in z) h) in omega (arith, above, e))
-one-left (suc zero) g above h = refl
-one-left (suc (suc k)) g above h = absurd (let most = le_of_dvd above h in omega (arith, above, most))
-
 -- k times g divides each multiplier
 still-divides : (k g : ℕ) (y : ℕ → ℤ) (by : List By) (r : Row) → Each (λ b. k ∣ unsigned_abs b.times) by → (r.rank ≡ 1000 → pos g *ℤ times_of by (Held r.id) ≡ y r.id) → IsDivisor (k * g) y r
 still-divides k g y by r h e = λ rank.
     let m = multiple-of k by (Held r.id) h in
     divides-multiple (k * g) (y r.id) m.0
     (sym (e rank) ∙ ap (λ (z : ℤ). pos g *ℤ z) m.1 ∙ sym (mul_assoc_ℤ (pos g) (pos k) m.0) ∙ ap (λ (n : ℕ). pos n *ℤ m.0) (let turn : g * k ≡ k * g = omega arith in turn))
-
-none-size : (z : ℤ) → 0 ∣ unsigned_abs z → z ≡ pos 0
-none-size (pos n) h = (let e = eq-zero_of_zero-dvd h in ap pos e)
-none-size (negsuc n) h = absurd (let e = eq-zero_of_zero-dvd h in omega (arith, e))
 
 -- multipliers that are all 0 refute nothing
 not-all_zero : (p : Problem) (y : ℕ → ℤ) → IsRefutation p y → All (IsDivisor 0 y) p.rows → ⊥

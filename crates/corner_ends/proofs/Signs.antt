@@ -14,12 +14,12 @@ use Rattle.problem_core.specs.Rays.{HasRays}
 use Rattle.problem_core.proofs.Wholes.{whole-IsProblem}
 use Rattle.problem_core.proofs.Forms.{each-impl}
 use Rattle.corner_laws.specs.RunLaws.{AreReduced}
-use Rattle.corner_laws.proofs.ColumnsStay.{columns-of, sums-AreMultipliersAt, together}
-use Rattle.corner_laws.proofs.ColumnSigns.{pick}
-use Rattle.corner_laws.proofs.DualChoice.{has-sum}
-use Rattle.corner_laws.proofs.Unique.{multipliers_same}
-use Rattle.corner_lines.proofs.FrontSigns.{columns-multiple}
-use Rattle.corner_lines.proofs.ColumnsBelow.{none_from, low_from}
+use Rattle.corner_laws.proofs.Swaps.ColumnsStay.{columns-of, sums-AreMultipliersAt, together, column-alike as columns-multiple}
+use Rattle.corner_laws.proofs.RunSteps.ColumnSigns.{pick}
+use Rattle.corner_laws.proofs.Swaps.DualChoice.{has-sum}
+use Rattle.corner_laws.proofs.LevelCosts.Unique.{multipliers_same}
+use Rattle.corner_lines.proofs.ColumnsBelow.{low_from}
+use Rattle.frac_core.proofs.Numbers.{zero-carried as none_from}
 
 -- ---- by two lists of multipliers
 

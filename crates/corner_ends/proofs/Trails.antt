@@ -7,10 +7,10 @@ use Rattle.problem_core.specs.declared.stops.Quantity.TheVariants.{Plain, Terms,
 use Rattle.frac_core.specs.declared.memory.Stop.TheVariants.{Refused}
 use Rattle.problem_core.specs.Layout.{Problem}
 use Rattle.problem_core.specs.Corners.{IsIn, SameMarks, Swap, exchanged, place}
-use Rattle.problem_core.specs.Paths.{ArePathSwaps, IsEndOf, IsPath, IsSound, last_marks}
+use Rattle.problem_core.specs.Changes.Paths.{ArePathSwaps, IsEndOf, IsPath, IsSound, last_marks}
 use Rattle.corner_laws.specs.Runs.{AreDualSwaps, AreRunSwaps}
-use Rattle.corner_laws.proofs.DualRuns.{dual_run_is_path}
-use Rattle.corner_laws.proofs.RunPaths.{contains_in, run_is_path, same_stands, same_multipliers}
+use Rattle.corner_laws.proofs.RunSteps.DualRuns.{dual_run_is_path}
+use Rattle.corner_laws.proofs.RunSteps.RunPaths.{contains_in, run_is_path, same_stands}
 use Rattle.corner_laws.proofs.WrittenValues.{contains_each}
 use Rattle.corner.specs.Views.{IsKeptCorner}
 use Rattle.corner.specs.Changes.{IsUnfitStop}
@@ -20,8 +20,11 @@ use Rattle.cert_core.specs.Paths.{Path}
 use Rattle.corner_ends.specs.Begins.{AreExchanges, HasExchanged}
 use Rattle.corner_ends.specs.Runs.{FromHere}
 use Rattle.corner_ends.specs.Trails.{AreSwapsOf, HasRun}
-use Rattle.corner_ends.proofs.MarkOrders.{last_same, same_back, same_self, same_through, unfit_same}
+use Rattle.corner_ends.proofs.MarkOrders.{last_same, same_self, unfit_same}
 use Rattle.corner_ends.proofs.RunEnds.{spent_path}
+use Rattle.problem_core.proofs.Marks.{same-back as same_back, same-multipliers as same_multipliers}
+use Rattle.corner.proofs.Additions.RowPaths.{same_trans as same_through}
+use Rattle.corner_lines.proofs.LevelRows.SameLevels.{sound_same as sound-same}
 
 -- ---- a run of no exchange
 
@@ -42,17 +45,6 @@ run_lawful false p first at swaps run = run_is_path p first swaps run.whole run.
 ends-up : (dual : Bool) (p : Problem) (at : List Mark) (swaps : List Swap) → ArePathSwaps dual p at swaps → IsSound dual p (last_marks at swaps)
 ends-up dual p at [] h = h
 ends-up dual p at (s ∷ swaps) h = ends-up dual p (exchanged s at) swaps h.4
-
-sound-same : (dual : Bool) (p : Problem) (a b : List Mark) → SameMarks a b → IsSound dual p a → IsSound dual p b
-sound-same true p a b same (m, is, up) = (m, same_multipliers p b a m (λ v i. contains_in b a v same.1 i) is, up)
-sound-same false p a b same (x, stands, up) = (
-  x,
-  same_stands p b a x (λ v i. contains_in a b v same.0 i) stands,
-  λ i d within. up-at _ (same.1 i d within),
-)
-  where
-    up-at : (v : ℕ) → IsIn v a → pos 0 ≤ℤ x.num v
-    up-at v i = contains_each (λ c. pos 0 ≤ℤ x.num c) a v (recursion_from_All (λ m. pos 0 ≤ℤ x.num (place m)) a up) i
 
 pub run_sound : (dual : Bool) (p : Problem) (first at : List Mark) (swaps : List Swap) → HasRun dual p first swaps at → IsSound dual p at
 run_sound dual p first at swaps run = sound-same dual p (last_marks first swaps) at run.here (ends-up dual p first swaps (run_lawful dual p first at swaps run).lawful)

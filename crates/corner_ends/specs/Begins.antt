@@ -2,7 +2,7 @@
 use Rattle.std.specs.Prelude.{List, [], ◌∷◌}
 use Rattle.problem_core.specs.declared.parts.Mark.{Mark}
 use Rattle.problem_core.specs.Corners.{IsIn, SameMarks, Swap, exchanged, place}
-use Rattle.problem_core.specs.Paths.{last_marks}
+use Rattle.problem_core.specs.Changes.Paths.{last_marks}
 
 -- each exchange takes in a mark that is outside, and out one that is inside
 abbrev pub AreExchanges : List Mark → List Swap → Type 0

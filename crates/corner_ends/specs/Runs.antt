@@ -4,7 +4,7 @@ use Rattle.problem_core.specs.declared.parts.Mark.{Mark}
 use Rattle.problem_core.specs.Layout.{Problem, Row}
 use Rattle.problem_core.specs.Corners.{NoNegativeColumn, NoNegativeValue, SameMarks}
 use Rattle.problem_core.specs.Levels.{CostsAbove}
-use Rattle.problem_core.specs.Paths.{IsPath, last_marks}
+use Rattle.problem_core.specs.Changes.Paths.{IsPath, last_marks}
 use Rattle.cert_core.specs.Paths.{Path}
 
 -- no value is negative, no column is, and the required rows cost nothing

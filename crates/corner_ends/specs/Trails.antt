@@ -1,13 +1,20 @@
 -- The exchanges of a run so far, of either kind.
-use Rattle.std.specs.Prelude.{◌≡◌, Bool, true, false, List}
+use Rattle.std.specs.Prelude.{◌≡◌, ◌<◌, ◌++◌, ◌∷◌, [], ℕ, Bool, true, false, List, length}
+use Rattle.frac_core.specs.declared.memory.Stop.TheVariants.{Refused}
 use Rattle.problem_core.specs.declared.parts.Mark.{Mark}
+use Rattle.problem_core.specs.declared.stops.Quantity.{Quantity}
 use Rattle.problem_core.specs.Layout.{Problem}
 use Rattle.problem_core.specs.Kept.{IsWhole}
 use Rattle.problem_core.specs.Corners.{IsCorner, SameMarks, Swap}
-use Rattle.problem_core.specs.Paths.{IsSound, last_marks}
+use Rattle.problem_core.specs.Changes.Paths.{IsEndOf, IsSound, last_marks}
 use Rattle.problem_core.specs.Rays.{HasRays}
 use Rattle.corner_laws.specs.Runs.{AreDualSwaps, AreRunSwaps}
-use Rattle.corner.specs.Views.{in_order}
+use Rattle.cert_core.specs.Paths.{Path}
+use Rattle.cert_core.specs.Stops.{IsStopOf}
+use Rattle.cert_core.specs.declared.stops.RunStop.{RunStop}
+use Rattle.corner.specs.Changes.{IsUnfitStop}
+use Rattle.corner.specs.Views.{CornerView, in_order}
+use Rattle.corner_ends.specs.Runs.{FromHere}
 
 -- exchanges of a run, dual or primal, and the marks of its first corner, which are listed where they are
 -- known
@@ -40,3 +47,46 @@ pub record IsTrailOf (dual : Bool) (p : Problem) (first : List Mark) (trail : Tr
   pub swapped : HasRun dual p first trail.swaps at
   pub ordered : first ≡ in_order p first
   pub known : trail.is_known ≡ true → trail.corner ≡ first
+
+-- ---- what holds of a trail at a corner, whichever run it is of
+
+-- these are the marks of the run's first corner
+abbrev pub IsFirstCorner : CornerView → Trail → List Mark → Type 0
+IsFirstCorner c trail marks = (dual : Bool) (first : List Mark) → IsTrailOf dual c.problem first trail c.marks
+    → marks ≡ first
+
+-- the path goes from the run's first corner by these exchanges
+abbrev pub IsPathBy : CornerView → Trail → List Swap → Path → Type 0
+IsPathBy c trail swaps path = (dual : Bool) (first : List Mark) → IsTrailOf dual c.problem first trail c.marks
+    → path ≡ record { dual = dual; corner = first; swaps = swaps }
+
+-- where the run goes on by this exchange, the new trail is of it
+abbrev pub GoesOnBy : Trail → Swap → Trail → Type 0
+GoesOnBy old swap new = (dual : Bool) (p : Problem) (first at next : List Mark)
+    → IsTrailOf dual p first old at → HasRun dual p first (old.swaps ++ swap ∷ []) next
+    → IsTrailOf dual p first new next
+
+-- a run whose trail at one corner was the old one has the new one at the other
+abbrev pub StaysTrail : Bool → CornerView → Trail → CornerView → Trail → Type 0
+StaysTrail dual c old next new = (first : List Mark) → IsTrailOf dual c.problem first old c.marks
+    → IsTrailOf dual next.problem first new next.marks
+
+-- the run stops so where one exchange more is within the budget
+abbrev pub IsTrailStop : Bool → CornerView → Trail → RunStop → Type 0
+IsTrailStop dual c trail stop = (first : List Mark) → IsTrailOf dual c.problem first trail c.marks
+    → (budget : ℕ) → length trail.swaps < budget
+    → IsStopOf dual c.problem c.problem.rows (FromHere first) budget stop
+
+-- the run stops so where its exchanges are the budget's, and the corner is no end
+abbrev pub IsSpentStop : CornerView → Trail → RunStop → Type 0
+IsSpentStop c trail stop = (dual : Bool) (first : List Mark) → IsTrailOf dual c.problem first trail c.marks
+    → (IsEndOf dual c.problem c.marks → ⊥)
+    → IsStopOf dual c.problem c.problem.rows (FromHere first) (length trail.swaps) stop
+
+-- the run stops so where it goes on by this exchange, and the quantity does not fit there
+abbrev pub IsUnfitAfter : CornerView → Trail → Swap → Quantity → RunStop → Type 0
+IsUnfitAfter c trail swap quantity stop = (dual : Bool) (first next : List Mark)
+    → IsTrailOf dual c.problem first trail c.marks
+    → HasRun dual c.problem first (trail.swaps ++ swap ∷ []) next
+    → IsUnfitStop c.problem next (Refused quantity) → (budget : ℕ) → length trail.swaps < budget
+    → IsStopOf dual c.problem c.problem.rows (FromHere first) budget stop

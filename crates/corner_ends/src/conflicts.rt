@@ -1,16 +1,14 @@
 // The conflict that the multipliers of the required level show.
-ghost use Rattle.std.specs.Prelude.{◌≡◌, ◌≢◌, ◌⊎◌, ℕ, ℤ, ◌<◌, ◌/◌, neg_ℤ, ◌++◌, ◌∷◌, [], ◌*ℤ◌};
-ghost use Rattle.std.specs.Prelude.{pos, true, false, List, Any, All};
+ghost use Rattle.std.specs.Prelude.{◌≡◌, ◌≢◌, ◌⊎◌, ℕ, ◌<◌, ◌/◌, neg_ℤ, ◌*ℤ◌, pos, true, false, Any, All};
 ghost use Rattle.std.specs.Prelude.{IfOk, unsigned_abs};
 ghost use Rattle.std.specs.Int.{◌∣◌};
 ghost use Rattle.frac_core.specs.Fraction.{IsFitting};
 ghost use Rattle.frac_core.specs.declared.frac.TheConstants.{PART_BOUND};
-ghost use Rattle.problem_core.specs.Layout as layout;
 ghost use Rattle.problem_core.specs.Levels.{CostsAbove};
-ghost use Rattle.problem_core.specs.Paths.{NoNegativeRequired};
+ghost use Rattle.problem_core.specs.Changes.Paths.{NoNegativeRequired};
 ghost use Rattle.cert_core.specs.Stops.{IsShownConflict};
-ghost use Rattle.corner_ends.specs.Shares.{AreRequiredTimes, AreShares, IsConflictStop, IsDivisor};
-ghost use Rattle.corner_ends.specs.Shares.{IsGreatest};
+ghost use Rattle.corner_ends.specs.Shares.{AreLowestShares, ForRequiredTimes, HasNextShare, IsConflictStop};
+ghost use Rattle.corner_ends.specs.Shares.{IsDivisor, IsGreatest};
 
 use crate::costs::{is_below, required_level};
 use cert_core::{By, Conflict, RunStop};
@@ -22,7 +20,7 @@ use std::alloc::Global;
 // The multiplier of a row at the level of the required rows.
 fn multiplier(c: &Corner, row: &Row) -> i64
     requires { Any (λ r. r.id ≡ row.now.id) c.now.problem.rows }
-    ensures value { (y : ℕ → ℤ) → AreRequiredTimes c.now.problem c.now.marks y → result ≡ y row.now.id }
+    ensures value { ForRequiredTimes c.now (λ y. result ≡ y row.now.id) }
     ensures fits { IsFitting result }
 {
     c.show_corner(); // for the proof: what a corner keeps
@@ -51,10 +49,9 @@ fn shared_by(factor: u128, c: &Corner, row: &Row) -> u128
     requires small { factor < PART_BOUND }
     ensures small { result < PART_BOUND }
     ensures factor { result ∣ factor }
-    ensures times { (y : ℕ → ℤ) → AreRequiredTimes c.now.problem c.now.marks y
-        → IsDivisor result y row.now }
-    ensures greatest { (y : ℕ → ℤ) → AreRequiredTimes c.now.problem c.now.marks y → (k : ℕ) → k ∣ factor
-        → IsDivisor k y row.now → k ∣ result }
+    ensures times { ForRequiredTimes c.now (λ y. IsDivisor result y row.now) }
+    ensures greatest { ForRequiredTimes c.now
+        (λ y. (k : ℕ) → k ∣ factor → IsDivisor k y row.now → k ∣ result) }
 {
     if row.rank() == REQUIRED {
         shared(factor, multiplier(c, row))
@@ -67,11 +64,9 @@ fn shared_by(factor: u128, c: &Corner, row: &Row) -> u128
 fn common_factor(c: &Corner) -> u128
     ensures above { 0 < result }
     ensures small { result < PART_BOUND }
-    ensures divides { (y : ℕ → ℤ) → AreRequiredTimes c.now.problem c.now.marks y
-        → All (IsDivisor result y) c.now.problem.rows }
-    ensures greatest { (y : ℕ → ℤ) → AreRequiredTimes c.now.problem c.now.marks y
-        → All (IsDivisor 0 y) c.now.problem.rows
-        ⊎ IsGreatest result y c.now.problem.rows }
+    ensures divides { ForRequiredTimes c.now (λ y. All (IsDivisor result y) c.now.problem.rows) }
+    ensures greatest { ForRequiredTimes c.now
+        (λ y. All (IsDivisor 0 y) c.now.problem.rows ⊎ IsGreatest result y c.now.problem.rows) }
 {
     let mut factor = 0;
     for row in c.rows() {
@@ -134,12 +129,9 @@ fn share(times: i64, factor: u128) -> i64
 fn push_share(out: &mut Vec<By>, c: &Corner, row: &Row, factor: u128) -> Result<(), OutOfMemory>
     requires row { Any (λ r. r.id ≡ row.now.id) c.now.problem.rows }
     requires above { 0 < factor }
-    requires divides { (y : ℕ → ℤ) → AreRequiredTimes c.now.problem c.now.marks y
-        → IsDivisor factor y row.now }
-    ensures { IfOk result (λ _. (y : ℕ → ℤ) → AreRequiredTimes c.now.problem c.now.marks y
-        → (rows : List layout.Row) → All (λ r. r.id < row.now.id) rows
-        → AreShares y factor rows out.old.items
-        → AreShares y factor (rows ++ row.now ∷ []) out.new.items) }
+    requires divides { ForRequiredTimes c.now (λ y. IsDivisor factor y row.now) }
+    ensures { IfOk result
+        (λ _. ForRequiredTimes c.now (λ y. HasNextShare y factor row.now out.old.items out.new.items)) }
 {
     c.show_corner(); // for the proof: what a corner keeps
     if row.rank() == REQUIRED {
@@ -156,10 +148,8 @@ fn push_share(out: &mut Vec<By>, c: &Corner, row: &Row, factor: u128) -> Result<
 
 // The multipliers of the required rows without a common factor.
 fn shares(alloc: Global, c: &Corner) -> Result<Vec<By>, OutOfMemory>
-    ensures { IfOk result (λ out. (y : ℕ → ℤ) → AreRequiredTimes c.now.problem c.now.marks y
-        → (g : ℕ) × (0 < g)
-        × (All (IsDivisor 0 y) c.now.problem.rows ⊎ IsGreatest g y c.now.problem.rows)
-        × AreShares y g c.now.problem.rows out.items) }
+    ensures { IfOk result
+        (λ out. ForRequiredTimes c.now (λ y. AreLowestShares y c.now.problem.rows out.items)) }
 {
     c.show_corner(); // for the proof: what a corner keeps
     let factor = common_factor(c);

@@ -14,14 +14,16 @@
 //! }
 //! ```
 //!
-//! Linear programming's words: such an end is an optimal basis, and the multipliers of a conflict are Farkas
-//! multipliers; a column is a mark's reduced costs, level by level.
+//! Linear programming's words: such an end is an optimal basis, an exchange of marks is a pivot, and the
+//! multipliers of a conflict are Farkas multipliers; a column is a mark's reduced costs, level by level.
 //!
 //! The contracts of both kinds of run say with the same words what they answer (`Runs`): an end that is best
 //! (`IsBestEnd`), where a run begins (`FromHere`), and a lawful path within the budget (`IsRun`). What a run
-//! has done so far is a [`Trail`] (`IsTrailOf` in `specs/Trails.antt`), which its stops name. The lemmas here
-//! are those that the proofs of both kinds cite: on fronts and signs of columns, on marks in another order,
-//! on the exchanges so far, and on what stops a run.
+//! has done so far is a [`Trail`], which its stops name. What a trail keeps from exchange to exchange is in
+//! the clauses of its calls (`IsTrailOf`): its exchanges lead lawfully from the run's first corner to that of
+//! now, and where it lists marks, they are the first corner's. The lemmas here are those that the proofs of
+//! both kinds cite: on fronts and signs of columns, on marks in another order, on the exchanges so far, and
+//! on what stops a run.
 //!
 //! To read: `costs` tells what the required rows cost, `numbers` reads a coefficient, `conflicts` divides the
 //! multipliers by their common factor, `begins` finds the marks of a run's first corner from those of now and

@@ -1,13 +1,7 @@
 // The exchanges of a run so far, primal or dual, and the stops that name them.
-ghost use Rattle.std.specs.Prelude.{◌≡◌, ◌<◌, ◌≤◌, ◌+◌, ◌++◌, ◌∷◌, [], ℕ, Bool, List, length, true, false};
+ghost use Rattle.std.specs.Prelude.{◌≡◌, ◌<◌, ◌≤◌, ◌+◌, ◌++◌, ◌∷◌, [], Bool, length, true, false};
 ghost use Rattle.std.specs.Prelude.{IfOk};
-ghost use Rattle.problem_core.specs.Layout as layout;
-ghost use Rattle.problem_core.specs.Paths.{IsEndOf, IsSound};
-ghost use Rattle.problem_core.specs.declared.parts.Mark.{Mark as MarkOfLine};
-ghost use Rattle.frac_core.specs.declared.memory.Stop.TheVariants.{Refused};
-ghost use Rattle.cert_core.specs.Stops.{IsStopOf};
-ghost use Rattle.corner.specs.Changes.{IsUnfitStop};
-ghost use Rattle.corner_ends.specs.Runs.{FromHere};
+ghost use Rattle.problem_core.specs.Changes.Paths.{IsSound};
 
 use crate::begins::first_marks;
 use cert_core::{Path, RunStop, Swap, UnfitPath};
@@ -41,7 +35,8 @@ impl Model for Trail {
 }
 
 impl Trail {
-    ghost use Rattle.corner_ends.specs.Trails.{HasRun, IsTrailOf};
+    ghost use Rattle.corner_ends.specs.Trails.{GoesOnBy, IsFirstCorner, IsPathBy, IsSpentStop, IsTrailOf};
+    ghost use Rattle.corner_ends.specs.Trails.{IsUnfitAfter, StaysTrail};
 
     // The trail of these exchanges, which are none yet.
     fn begun(alloc: Global, dual: bool, c: &Corner, swaps: Vec<Swap>) -> Trail
@@ -96,9 +91,7 @@ impl Trail {
     pub fn push(&mut self, swap: Swap) -> Result<(), OutOfMemory>
         ensures swaps { IfOk result (λ _. self.new.swaps ≡ self.old.swaps ++ swap ∷ []) }
         ensures more { IfOk result (λ _. length self.new.swaps ≡ length self.old.swaps + 1) }
-        ensures trail { IfOk result (λ _. (dual : Bool) (p : layout.Problem) (first at new : List MarkOfLine)
-            → IsTrailOf dual p first self.old at → HasRun dual p first (self.old.swaps ++ swap ∷ []) new
-            → IsTrailOf dual p first self.new new) }
+        ensures trail { IfOk result (λ _. GoesOnBy self.old swap self.new) }
     {
         self.swaps.push(swap)?;
         Ok(())
@@ -106,8 +99,7 @@ impl Trail {
 
     // The marks of the first corner, found from the exchanges.
     fn first_corner(&self, c: &Corner) -> Result<Vec<Mark>, OutOfMemory>
-        ensures { IfOk result (λ marks. (dual : Bool) (first : List MarkOfLine)
-            → IsTrailOf dual c.now.problem first self.now c.now.marks → marks.items ≡ first) }
+        ensures { IfOk result (λ marks. IsFirstCorner c.now self.now marks.items) }
     {
         let marks = first_marks(self.alloc, c, &self.swaps)?;
         Ok(marks)
@@ -116,11 +108,8 @@ impl Trail {
     /// Lists the marks of the first corner, where they aren't listed yet.
     pub fn find_corner(&mut self, c: &Corner) -> Result<(), OutOfMemory>
         ensures swaps { self.new.swaps ≡ self.old.swaps }
-        ensures known { IfOk result (λ _. (dual : Bool) (first : List MarkOfLine)
-            → IsTrailOf dual c.now.problem first self.old c.now.marks → self.new.corner ≡ first) }
-        ensures trail { IfOk result (λ _. (dual : Bool) (first : List MarkOfLine)
-            → IsTrailOf dual c.now.problem first self.old c.now.marks
-            → IsTrailOf dual c.now.problem first self.new c.now.marks) }
+        ensures known { IfOk result (λ _. IsFirstCorner c.now self.old self.new.corner) }
+        ensures trail { IfOk result (λ _. (dual : Bool) → StaysTrail dual c.now self.old c.now self.new) }
     {
         if !self.is_known {
             self.corner = self.first_corner(c)?;
@@ -149,9 +138,7 @@ impl Trail {
 
     // The path so far.
     fn path(&mut self, c: &Corner) -> Result<Path, OutOfMemory>
-        ensures { IfOk result (λ path. (dual : Bool) (first : List MarkOfLine)
-            → IsTrailOf dual c.now.problem first self.old c.now.marks
-            → path ≡ record { dual = dual; corner = first; swaps = self.old.swaps }) }
+        ensures { IfOk result (IsPathBy c.now self.old self.old.swaps) }
     {
         self.find_corner(c)?;
         self.to_path()
@@ -159,9 +146,7 @@ impl Trail {
 
     // The path so far, with one exchange more.
     fn path_with(&mut self, c: &Corner, swap: Swap) -> Result<Path, OutOfMemory>
-        ensures { IfOk result (λ path. (dual : Bool) (first : List MarkOfLine)
-            → IsTrailOf dual c.now.problem first self.old c.now.marks
-            → path ≡ record { dual = dual; corner = first; swaps = self.old.swaps ++ swap ∷ [] }) }
+        ensures { IfOk result (IsPathBy c.now self.old (self.old.swaps ++ swap ∷ [])) }
     {
         self.find_corner(c)?;
         self.swaps.push(swap)?;
@@ -170,11 +155,7 @@ impl Trail {
 
     /// The stop where the exchanges are used up.
     pub fn spent(&mut self, c: &Corner) -> RunStop
-        ensures { (dual : Bool) (first : List MarkOfLine)
-            → IsTrailOf dual c.now.problem first self.old c.now.marks
-            → (IsEndOf dual c.now.problem c.now.marks → ⊥)
-            → IsStopOf dual c.now.problem c.now.problem.rows (FromHere first)
-            (length self.old.swaps) result }
+        ensures { IsSpentStop c.now self.old result }
     {
         match self.path(c) {
             Ok(path) => RunStop::Spent(path),
@@ -184,12 +165,7 @@ impl Trail {
 
     /// The stop where a quantity does not fit after one exchange more.
     pub fn unfit(&mut self, c: &Corner, swap: Swap, quantity: Quantity) -> RunStop
-        ensures { (dual : Bool) (first new : List MarkOfLine)
-            → IsTrailOf dual c.now.problem first self.old c.now.marks
-            → HasRun dual c.now.problem first (self.old.swaps ++ swap ∷ []) new
-            → IsUnfitStop c.now.problem new (Refused quantity)
-            → (budget : ℕ) → length self.old.swaps < budget
-            → IsStopOf dual c.now.problem c.now.problem.rows (FromHere first) budget result }
+        ensures { IsUnfitAfter c.now self.old swap quantity result }
     {
         match self.path_with(c, swap) {
             Ok(path) => RunStop::Unfit(UnfitPath { path, quantity }),

@@ -13,17 +13,15 @@ use Rattle.problem_core.specs.declared.parts.Stay.{Stay}
 use Rattle.problem_core.specs.Layout.{Problem, Row, Line, lines, line_of_row, stay_lines, coefficient, value_at}
 use Rattle.problem_core.specs.Kept.{IsWhole, IsRow, IsStay}
 use Rattle.problem_core.specs.Corners.{Point, StandsAt, Agree, IsIn, IsCorner, SameMarks, equation, marks_of, place, place_of, attr_column, one_column}
-use Rattle.problem_core.proofs.CornerFacts.{is_place, at_place}
+use Rattle.problem_core.proofs.Corners.CornerFacts.{is_place, at_place}
 use Rattle.problem_core.proofs.Forms.{value-plus, value-single, each-impl, each-both}
-use Rattle.problem_core.proofs.Tableaus.{unit_at}
+use Rattle.problem_core.proofs.Corners.Tableaus.{unit_at}
 use Rattle.frac_core.proofs.Integers.{mul-zero_ℤ, add-zero_ℤ, add-mul_right}
-use Rattle.corner_laws.proofs.Words.{Apart, IsWord, words_few}
+use Rattle.corner_laws.proofs.PathEnds.Words.{Apart, IsWord, words_few}
+use Rattle.frac_core.proofs.Bools.{or-later as or_later, count-other as cond_other, count-same as cond_same}
+use Rattle.frac_core.proofs.Lists.{pairs-rest as tail_pairs}
 
 -- ---- marks as places
-
-or_later : (b c : Bool) → c ≡ true → cond b true c ≡ true
-or_later true c h = refl
-or_later false c h = h
 
 pub is_place-from_IsIn : (c : ℕ) (ms : List Mark) → IsIn c ms → is_place ms c ≡ true
 is_place-from_IsIn c [] (k, within, is) = absurd (omega (arith, within))
@@ -44,12 +42,6 @@ IsIn-from_is_place c (m ∷ ms) h =
 
 abbrev pub IsSmall : RowName → Type 0
 IsSmall name = place_of name Under + 1 < attr_column 0
-
-pub cond_same : (a b : ℕ) (k : ℤ) → a ≡ b → cond (nat_eq a b) k (pos 0) ≡ k
-cond_same a b k e = ap (λ (t : Bool). cond t k (pos 0)) (eq-eqb a b e)
-
-pub cond_other : (a b : ℕ) (k : ℤ) → a ≢ b → cond (nat_eq a b) k (pos 0) ≡ pos 0
-cond_other a b k n = ap (λ (t : Bool). cond t k (pos 0)) (ne_eqb a b n)
 
 pub over_next : (name : RowName) → place_of name Over ≡ place_of name Under + 1
 over_next (Held id) = omega arith
@@ -251,9 +243,6 @@ differ p a (b ∷ cs) small k ks h = (
 -- by recursion: what holds of each pair
 pub head_pairs : {X : Type 0} (R : X → X → Type 0) (x : X) (xs : List X) → AllPairs R (x ∷ xs) → All (R x) xs
 head_pairs R x xs h = λ j d within. h 0 (suc j) d (omega arith) (omega (arith, within))
-
-pub tail_pairs : {X : Type 0} (R : X → X → Type 0) (x : X) (xs : List X) → AllPairs R (x ∷ xs) → AllPairs R xs
-tail_pairs R x xs h = λ i j d before within. h (suc i) (suc j) d (omega (arith, before)) (omega (arith, within))
 
 words-Apart : (p : Problem) (cs : List (List Mark)) → Each (λ l. IsSmall l.name) (lines p) → Each (IsCorner p) cs → AllPairs (λ a b. SameMarks a b → ⊥) cs → Apart (words (lines p) cs)
 words-Apart p [] small ks h = tt

@@ -1,15 +1,14 @@
 -- How writings change by an exchange.
 use Rattle.std.proofs.Common.{◌≡◌, ◌≢◌, ◌∙◌, ℕ, zero, suc, cond, nat_eq, List, [], ◌∷◌, ◌++◌, map, ℤ, pos, ◌+ℤ◌, ◌*ℤ◌, neg_ℤ, sym, ap, ap₂, arith, inl, inr, ◌⊎◌, Contains, eq-eqb, ne_eqb}
 use Rattle.std.proofs.lemmas.Bool.{cases_eq}
-use borrow.Author.Differences.{ints}
-use Rattle.frac_core.proofs.Integers.{add-mul_right, zero-mul_ℤ, sign_cases, add-zero_ℤ}
+use Rattle.frac_core.proofs.Integers.{sign_cases, add-zero_ℤ}
 use Rattle.problem_core.specs.declared.parts.Mark.{Mark}
 use Rattle.problem_core.specs.declared.parts.Term.{Term}
 use Rattle.problem_core.specs.Layout.{Problem, lines, coefficient, value_at}
 use Rattle.problem_core.specs.Corners.{IsIn, Swap, exchanged, marks_of, place}
 use Rattle.problem_core.proofs.Forms.{sum-append, times, coefficient-times, value-times}
-use Rattle.corner_laws.proofs.WrittenValues.{not_zero}
 pub use Rattle.corner_laws.specs.Equations.{IsEquationOf}
+use Rattle.frac_core.proofs.Numbers.{signed-not-zero as not_zero}
 
 -- ---- the marks after an exchange
 
@@ -50,13 +49,6 @@ combined_value n leave t scale g f l =
     ∙ ap₂ ◌+ℤ◌ (value-times n (pos g) f)
     (sum-append (λ e. e.by *ℤ n e.attr) (times (neg_ℤ t) l) (record { attr = leave; by = t *ℤ pos scale } ∷ [])
     ∙ ap (λ (z : ℤ). z +ℤ ((t *ℤ pos scale) *ℤ n leave +ℤ pos 0)) (value-times n (neg_ℤ t) l))
-
-pub neg-times : (t z : ℤ) → neg_ℤ t *ℤ z ≡ neg_ℤ (t *ℤ z)
-neg-times t z =
-    let a : (t +ℤ neg_ℤ t) *ℤ z ≡ t *ℤ z +ℤ neg_ℤ t *ℤ z = add-mul_right t (neg_ℤ t) z in
-    let o : t +ℤ neg_ℤ t ≡ pos 0 = omega (arith, ints) in
-    let n : (t +ℤ neg_ℤ t) *ℤ z ≡ pos 0 = ap (λ (k : ℤ). k *ℤ z) o ∙ zero-mul_ℤ z in
-    omega (arith, ints, a, n)
 
 -- whether the form's coefficient is 0, or the column is an outside mark's
 pub zero-or-out : (p : Problem) (at : List Mark) (form : List Term) (v : ℕ) → ((u : ℕ) → coefficient u form ≢ pos 0 → Contains (map place (marks_of (lines p))) u × (IsIn u at → ⊥)) → (coefficient v form ≡ pos 0) ⊎ (Contains (map place (marks_of (lines p))) v × (IsIn v at → ⊥))

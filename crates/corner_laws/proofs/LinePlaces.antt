@@ -1,15 +1,19 @@
 -- The columns of a whole problem's lines: all are different, and below those of attributes.
-use Rattle.std.proofs.Common.{◌≡◌, ◌≢◌, ◌∙◌, ℕ, zero, suc, ◌+◌, ◌<◌, ◌++◌, List, [], ◌∷◌, map, sym, ap, ap₂, arith, ℤ, pos, ◌+ℤ◌, All, AllPairs}
+use Rattle.std.proofs.Common.{◌≡◌, ◌≢◌, ◌∙◌, ℕ, ◌+◌, ◌<◌, ◌++◌, List, [], ◌∷◌, map, sym, ap, ap₂, arith, ℤ, pos, ◌+ℤ◌, AllPairs}
 use Rattle.std.specs.List.{AllByRecursion as Each}
-use Rattle.std.proofs.lemmas.List.Elements.{recursion_from_All}
+use Rattle.std.proofs.lemmas.List.Elements.{recursion_from_All, All-from_recursion}
 use Rattle.problem_core.specs.declared.parts.Side.TheVariants.{Under, Over}
 use Rattle.problem_core.specs.declared.parts.Stay.{Stay}
 use Rattle.problem_core.specs.Kept.{IsTerm, IsRow, IsStay, IsWhole}
 use Rattle.problem_core.specs.Layout.{Problem, Row, Line, lines, line_of_row, line_of_stay, stay_lines, sum_of}
-use Rattle.problem_core.specs.Corners.{place_of, attr_column}
+use Rattle.problem_core.specs.Corners.{place_of, attr_column, marks_of, place}
 use Rattle.problem_core.proofs.Forms.{sum-zero, each-impl, each-both}
-use Rattle.corner_laws.proofs.ZeroColumns.{each-joined}
 use Rattle.frac_core.proofs.Integers.{add-zero_ℤ, zero-add_ℤ}
+use Rattle.frac_core.proofs.Lists.{pairs-rest, each-joined}
+use Rattle.corner_laws.proofs.Counting.{head_pairs as pairs-first}
+use Rattle.problem_core.specs.declared.parts.Side.{Side}
+use Rattle.problem_core.specs.declared.parts.Mark.{Mark}
+use Rattle.std.proofs.lemmas.List.Kept.{AllPairs-cons}
 
 -- the columns of the lines' marks are below those of attributes
 pub record IsSmallLine (l : Line) : Type 0 where
@@ -40,7 +44,7 @@ apart-sym k l a = record {
   over_over = λ e. a.over_over (sym e);
 }
 
-small-row : (r : Row) → IsRow r → IsSmallLine (line_of_row r)
+pub small-row : (r : Row) → IsRow r → IsSmallLine (line_of_row r)
 small-row r h = record {
   under = omega (arith, h.number.1);
   over = omega (arith, h.number.1);
@@ -111,13 +115,6 @@ stay-stays : (n level : ℕ) (s : Stay) (stays : List Stay) → IsStay s → Eac
 stay-stays n level s [] h k ne = tt
 stay-stays n level s (t ∷ stays) h k ne = (stay-stay n level s t h k.0 ne.0, stay-stays n (level + 1) s stays h k.1 ne.1)
 
--- the first of a list with what holds of each two
-pub pairs-first : {X : Type 0} (R : X → X → Type 0) (x : X) (xs : List X) → AllPairs R (x ∷ xs) → All (R x) xs
-pairs-first R x xs h = λ k d within. h zero (suc k) d (omega arith) (omega (arith, within))
-
-pub pairs-rest : {X : Type 0} (R : X → X → Type 0) (x : X) (xs : List X) → AllPairs R (x ∷ xs) → AllPairs R xs
-pairs-rest R x xs h = λ i j d lt within. h (suc i) (suc j) d (omega (arith, lt)) (omega (arith, within))
-
 stays-apart : (level : ℕ) (stays : List Stay) → Each IsStay stays → AllPairs (λ s t. s.attr ≢ t.attr) stays → AllApart (stay_lines level stays)
 stays-apart level [] h k = tt
 stays-apart level (s ∷ stays) h k = (
@@ -169,3 +166,24 @@ sum-single g z (x ∷ ls) a = (
       (λ k h. ap₂ ◌+ℤ◌ (z k x (apart-sym x k h.0)) h.1 ∙ zero-add_ℤ (g k k))
       (each-both (AreApart x) (λ k. sum_of (g k) ls ≡ g k k) ls a.0 (sum-single g z ls a.1)),
 )
+
+-- ---- no mark comes twice
+
+apart-line : (l : Line) (ls : List Line) (side : Side) → Each (AreApart l) ls → Each (λ n. place_of l.name side ≢ place n) (marks_of ls)
+apart-line l [] side h = tt
+apart-line l (k ∷ ls) Under h = (h.0.under_under, (h.0.under_over, apart-line l ls Under h.1))
+apart-line l (k ∷ ls) Over h = (h.0.over_under, (h.0.over_over, apart-line l ls Over h.1))
+
+apart-marks : (ls : List Line) → Each IsSmallLine ls → AllApart ls → AllPairs (λ m n. place m ≢ place n) (marks_of ls)
+apart-marks [] small h = λ i j d less lt. absurd (omega (arith, less, lt))
+apart-marks (l ∷ ls) small h =
+    let under : Mark = record { row = l.name; side = Under } in
+    let over : Mark = record { row = l.name; side = Over } in
+    AllPairs-cons (λ (m n : Mark). place m ≢ place n) under (over ∷ marks_of ls)
+    (All-from_recursion (λ (n : Mark). place under ≢ place n) (over ∷ marks_of ls) (small.0.sides, apart-line l ls Under h.0))
+    (AllPairs-cons (λ (m n : Mark). place m ≢ place n) over (marks_of ls)
+    (All-from_recursion (λ (n : Mark). place over ≢ place n) (marks_of ls) (apart-line l ls Over h.0))
+    (apart-marks ls small.1 h.1))
+
+pub marks-apart : (p : Problem) → IsWhole p → AllPairs (λ m n. place m ≢ place n) (marks_of (lines p))
+marks-apart p whole = apart-marks (lines p) (lines_small p whole) (lines_apart p whole)

@@ -1,5 +1,5 @@
 -- Rays after an exchange, and what they show of writings.
-use Rattle.std.proofs.Common.{◌≡◌, ◌≢◌, ◌∙◌, ℕ, zero, suc, ◌<◌, cond, List, [], ◌∷◌, map, ℤ, pos, negsuc, ◌+ℤ◌, ◌*ℤ◌, neg_ℤ, ◌<ℤ◌, refl, sym, ap, ap₂, subst, arith, inl, inr, All, Contains, eq-eqb, ne_eqb}
+use Rattle.std.proofs.Common.{◌≡◌, ◌≢◌, ◌∙◌, ℕ, ◌<◌, List, [], map, ℤ, pos, negsuc, ◌+ℤ◌, ◌*ℤ◌, neg_ℤ, ◌<ℤ◌, sym, ap, ap₂, subst, arith, inl, inr, All, Contains}
 use Rattle.std.proofs.lemmas.Bool.{cases_eq}
 use Rattle.std.proofs.lemmas.List.Elements.{All-from_recursion, recursion_from_All}
 use lib.IntN.{*ℤ_comm}
@@ -11,8 +11,10 @@ use Rattle.problem_core.specs.Layout.{Problem, lines, coefficient, value_at}
 use Rattle.problem_core.specs.Corners.{Agree, Point, IsExchange, IsIn, Solves, StandsAt, Swap, equation, exchanged, marks_of, one_column, place}
 use Rattle.problem_core.proofs.Forms.{each-impl, each-both, value-plus, value-scaled, value-single}
 use Rattle.problem_core.specs.Rays.{IsRay, HasRays}
-use Rattle.corner_laws.proofs.WrittenValues.{contains_each, form_there, not_zero}
-use Rattle.corner_laws.proofs.Exchanged.{IsEquationOf, neg-times}
+use Rattle.corner_laws.proofs.WrittenValues.{contains_each, form_there}
+use Rattle.corner_laws.proofs.Exchanged.{IsEquationOf}
+use Rattle.frac_core.proofs.Numbers.{as-natural as above-zero, signed-not-zero as not_zero, neg-times}
+use Rattle.problem_core.proofs.Marks.{entered-in as enter_in, kept-in as kept_in}
 
 -- ---- a point moved along a ray
 
@@ -84,18 +86,6 @@ coefficients_same p at quantity s t f l k m x c ray stands r v w =
     cancel-right (pos t *ℤ coefficient c f) (pos s *ℤ coefficient c l) (ray c) r.here
     (mul_assoc_ℤ (pos t) (coefficient c f) (ray c) ∙ ap (λ (z : ℤ). pos t *ℤ z) (sym (ray_form p at c ray f r v.outside)) ∙ both
     ∙ ap (λ (z : ℤ). pos s *ℤ z) (ray_form p at c ray l r w.outside) ∙ sym (mul_assoc_ℤ (pos s) (coefficient c l) (ray c)))
-
--- ---- the marks after an exchange
-
-pub kept_in : (s : Swap) (at : List Mark) (c : ℕ) → IsIn c at → c ≢ place s.leave → IsIn c (exchanged s at)
-kept_in s [] c (k, within, is) ne = absurd (omega (arith, within))
-kept_in s (m ∷ ms) c (zero, within, is) ne = (0, omega arith, ap (λ b. place (cond b s.enter m)) (ne_eqb (place m) (place s.leave) (λ e. ne (sym is ∙ e))) ∙ is)
-kept_in s (m ∷ ms) c (suc k, within, is) ne = let i = kept_in s ms c (k, omega (arith, within), is) ne in (suc i.0, omega (arith, i.1), i.2)
-
-pub enter_in : (s : Swap) (at : List Mark) → IsIn (place s.leave) at → IsIn (place s.enter) (exchanged s at)
-enter_in s [] (k, within, is) = absurd (omega (arith, within))
-enter_in s (m ∷ ms) (zero, within, is) = (0, omega arith, ap (λ b. place (cond b s.enter m)) (eq-eqb (place m) (place s.leave) is))
-enter_in s (m ∷ ms) (suc k, within, is) = let i = enter_in s ms (k, omega (arith, within), is) in (suc i.0, omega (arith, i.1), i.2)
 
 -- ---- the leaving mark moves on the entering mark's ray
 
@@ -182,10 +172,6 @@ leaving-ray p at s b t leaves rb above = record {
       combined-zero 0 t (b (place m)) (b (place m)) none none)
       (recursion_from_All _ (marks_of (lines p)) rb.other));
 }
-
-pub above-zero : (z : ℤ) → pos 0 <ℤ z → (g : ℕ) × (0 < g) × (z ≡ pos g)
-above-zero (pos n) h = (n, omega (arith, ints, h), refl)
-above-zero (negsuc n) h = absurd h.lt
 
 -- a factor that takes the second number to the first, times a positive one
 pub factors : (a b : ℤ) → b ≢ pos 0 → (g : ℕ) × (t : ℤ) × (0 < g) × (pos g *ℤ a ≡ t *ℤ b)

@@ -1,5 +1,5 @@
 -- Writings at a corner: what is written has one value there.
-use Rattle.std.proofs.Common.{◌≡◌, ◌≢◌, ◌∙◌, ℕ, zero, suc, List, [], ◌∷◌, map, ℤ, pos, negsuc, ◌-ℤ◌, ◌*ℤ◌, neg_ℤ, ◌<ℤ◌, sym, ap, subst, arith, inl, inr, ◌⊎◌, Contains}
+use Rattle.std.proofs.Common.{◌≡◌, ◌≢◌, ◌∙◌, ℕ, zero, suc, List, [], ◌∷◌, map, ℤ, pos, negsuc, ◌-ℤ◌, ◌*ℤ◌, ◌<ℤ◌, sym, ap, subst, arith, inl, inr, Contains}
 use Rattle.std.specs.List.{AllByRecursion as Each}
 use Rattle.std.proofs.lemmas.List.Elements.{recursion_from_All}
 use lib.IntN.{*ℤ_comm}
@@ -11,15 +11,12 @@ use Rattle.problem_core.specs.Layout.{Problem, lines, coefficient, value_at}
 use Rattle.problem_core.specs.Corners.{Point, IsCorner, IsIn, StandsAt, marks_of, one_column, place}
 use Rattle.problem_core.proofs.Forms.{value-single}
 use Rattle.problem_core.specs.Unfit.{IsWritingOf}
+use Rattle.frac_core.proofs.Numbers.{signed-not-zero as not_zero}
 
 pub contains_each : (P : ℕ → Type 0) (ms : List Mark) (c : ℕ) → Each (λ m. P (place m)) ms → Contains (map place ms) c → P c
 contains_each P [] c h (k, within, is) = absurd (omega (arith, within))
 contains_each P (m ∷ ms) c h (zero, within, is) = subst P is h.0
 contains_each P (m ∷ ms) c h (suc k, within, is) = contains_each P ms c h.1 (k, omega (arith, within), is)
-
-pub not_zero : (z : ℤ) → (pos 0 <ℤ z) ⊎ (pos 0 <ℤ neg_ℤ z) → z ≢ pos 0
-not_zero z (inl h) e = absurd (omega (arith, ints, h, e))
-not_zero z (inr h) e = absurd (omega (arith, ints, h, e))
 
 -- each outside mark is 0 at the corner
 pub nothing_outside : (p : Problem) (at : List Mark) (x : Point) (v : ℕ) → StandsAt p at x → Contains (map place (marks_of (lines p))) v → (IsIn v at → ⊥) → x.num v ≡ pos 0

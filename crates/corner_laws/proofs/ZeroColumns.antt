@@ -1,11 +1,11 @@
 -- No outside mark's column is 0 at all levels.
-use Rattle.std.proofs.Common.{◌≡◌, ◌≢◌, ◌∙◌, ℕ, suc, ◌+◌, ◌*◌, ◌/◌, ◌<◌, ◌≤◌, Bool, false, cond, List, [], ◌∷◌, ◌++◌, map, ℤ, pos, negsuc, ◌+ℤ◌, ◌-ℤ◌, ◌*ℤ◌, neg_ℤ, ◌<ℤ◌, ◌≤ℤ◌, refl, sym, ap, ap₂, subst, arith, inl, inr, ◌⊎◌, All, Contains, eq-eqb, ne_eqb, true≢false}
+use Rattle.std.proofs.Common.{◌≡◌, ◌≢◌, ◌∙◌, ℕ, suc, ◌+◌, ◌*◌, ◌/◌, ◌<◌, ◌≤◌, Bool, false, cond, List, [], ◌∷◌, map, ℤ, pos, negsuc, ◌+ℤ◌, ◌-ℤ◌, ◌*ℤ◌, neg_ℤ, ◌<ℤ◌, ◌≤ℤ◌, refl, sym, ap, ap₂, subst, arith, inl, inr, ◌⊎◌, All, Contains, eq-eqb, ne_eqb, true≢false}
 use Rattle.std.specs.List.{AllByRecursion as Each}
 use Rattle.std.proofs.lemmas.Bool.{cases_eq, cases_Bool}
 use Rattle.std.proofs.lemmas.List.Elements.{All-from_recursion, recursion_from_All}
 use lib.IntN.{*ℤ_comm}
 use borrow.Author.Differences.{ints}
-use Rattle.frac_core.proofs.Integers.{cancel_mul, mul-zero_ℤ, zero-mul_ℤ, zero_from_mul, mul_not_negative, add-zero_ℤ}
+use Rattle.frac_core.proofs.Integers.{cancel_mul, mul-zero_ℤ, zero-mul_ℤ, zero_from_mul, mul_not_negative, add-zero_ℤ, zero-add_ℤ as plus-none}
 use Rattle.problem_core.specs.declared.parts.Mark.{Mark}
 use Rattle.problem_core.specs.declared.parts.Side.{Side}
 use Rattle.problem_core.specs.declared.parts.Side.TheVariants.{Under, Over}
@@ -18,15 +18,19 @@ use Rattle.problem_core.specs.Layout.{HasStay, IsCovered, IsProblem, Line, Probl
 use Rattle.problem_core.specs.Kept.{IsWhole, IsRow}
 use Rattle.problem_core.specs.Certificates.{Multipliers, under_weight, over_weight, weight_at}
 use Rattle.problem_core.specs.Corners.{Agree, AreMultipliersAt, IsCorner, IsIn, Point, StandsAt, attr_column, column, equation, marks_of, one_column, place, place_of}
-use Rattle.problem_core.proofs.CornerFacts.{is_place}
+use Rattle.problem_core.proofs.Corners.CornerFacts.{is_place}
 use Rattle.problem_core.proofs.Forms.{each-impl, each-both, sum-append, sum-zero, product-positive, value-plus, value-scaled}
-use Rattle.problem_core.proofs.Tableaus.{unit_at}
+use Rattle.problem_core.proofs.Corners.Tableaus.{unit_at}
 use Rattle.problem_core.proofs.Wholes.{whole-IsProblem}
 use Rattle.problem_core.specs.Levels.{cost_at, line_cost, scales}
 use Rattle.problem_core.specs.Rays.{IsRay}
 use Rattle.corner_laws.proofs.Counting.{IsIn-from_is_place, is_place-from_IsIn, IsSmall, bump, bump_one, bump_other, bump_under, cancels, one_mark, over_next, rows_small, stays_small, unit_value}
 use Rattle.corner_laws.proofs.WrittenValues.{contains_each}
-use Rattle.corner_laws.proofs.Gaps.{deviation, direction_cost, form_value, moved_columns, no_gap, shares}
+use Rattle.corner_laws.proofs.LevelCosts.Gaps.{deviation, direction_cost, form_value, moved_columns, no_gap, shares}
+use Rattle.frac_core.proofs.Numbers.{up-not-zero as not-above, share-above as positive-share}
+use Rattle.frac_core.proofs.Lists.{each-right as each-later, each-joined}
+use Rattle.problem_core.proofs.Lines.{under-none, over-none}
+use Rattle.problem_core.proofs.Refutations.{sum-not_negative as sum-up}
 
 -- ---- directions
 
@@ -235,17 +239,7 @@ costs-nothing p at m c n level problem is ray none =
 abbrev pub part : ℕ → (ℕ → ℤ) → ℕ → Line → ℤ
 part whole n level l = pos (whole / l.scale) *ℤ line_cost level n l
 
-pub under-none : (rel : Rel) → under_weight rel 0 ≡ 0
-under-none Eq = refl
-under-none Ge = refl
-under-none Le = refl
-
-pub over-none : (rel : Rel) → over_weight rel 0 ≡ 0
-over-none Eq = refl
-over-none Ge = refl
-over-none Le = refl
-
-weightless : (a b : ℕ) (u o : ℤ) → a ≡ 0 → b ≡ 0 → pos a *ℤ u +ℤ pos b *ℤ o ≡ pos 0
+pub weightless : (a b : ℕ) (u o : ℤ) → a ≡ 0 → b ≡ 0 → pos a *ℤ u +ℤ pos b *ℤ o ≡ pos 0
 weightless a b u o e f = ap₂ ◌+ℤ◌ (ap (λ (k : ℕ). pos k *ℤ u) e ∙ zero-mul_ℤ u) (ap (λ (k : ℕ). pos k *ℤ o) f ∙ zero-mul_ℤ o)
 
 pub part-other : (whole : ℕ) (n : ℕ → ℤ) (level : ℕ) (l : Line) → l.level ≢ level → part whole n level l ≡ pos 0
@@ -264,9 +258,6 @@ part-own whole n l = ap (λ (b : Bool). pos (whole / l.scale) *ℤ (pos (under_w
 later-none : (f : ℕ → Line → ℤ) (b c : ℕ) (stays : List Stay) → ((level : ℕ) (l : Line) → l.level ≢ level → f level l ≡ pos 0) → b < c → sum_of (f b) (stay_lines c stays) ≡ pos 0
 later-none f b c [] h lt = refl
 later-none f b c (s ∷ stays) h lt = ap₂ ◌+ℤ◌ (h b (line_of_stay c s) (λ e. absurd (omega (arith, lt, e)))) (later-none f b (c + 1) stays h (omega (arith, lt)))
-
-plus-none : (z : ℤ) → pos 0 +ℤ z ≡ z
-plus-none z = omega (arith, ints)
 
 head-none : (f : ℕ → Line → ℤ) (level b : ℕ) (s : Stay) (stays : List Stay) → ((level : ℕ) (l : Line) → l.level ≢ level → f level l ≡ pos 0) → b < level → sum_of (f level) (stay_lines b (s ∷ stays)) ≡ sum_of (f level) (stay_lines (b + 1) stays)
 head-none f level b s stays h lt = ap (λ (z : ℤ). z +ℤ sum_of (f level) (stay_lines (b + 1) stays)) (h level (line_of_stay b s) (λ e. absurd (omega (arith, lt, e)))) ∙ plus-none (sum_of (f level) (stay_lines (b + 1) stays))
@@ -289,12 +280,6 @@ only-stays f p h k =
 
 -- ---- signs
 
-pub positive-share : (whole k : ℕ) → 0 < whole → whole / k * k ≡ whole → 0 < whole / k
-positive-share whole k above e = elim (cases_eq (whole / k) 0) [
-  | inl z ↦ absurd (omega (arith, above, sym e ∙ ap (λ (q : ℕ). q * k) z))
-  | inr ne ↦ omega (arith, ne)
-]
-
 none-both : (q : ℕ) (u o : ℤ) → 0 < q → pos q *ℤ (pos 1 *ℤ u +ℤ pos 1 *ℤ o) ≡ pos 0 → u +ℤ o ≡ pos 0
 none-both q u o above e = let h : pos 1 *ℤ u +ℤ pos 1 *ℤ o ≡ pos 0 = zero_from_mul q (pos 1 *ℤ u +ℤ pos 1 *ℤ o) above e in omega (arith, ints, h)
 
@@ -310,14 +295,6 @@ alike u o e (inl (inr h)) = (omega (arith, ints, e), omega (arith, ints, h))
 alike u o e (inr h) = (h.0, omega (arith, ints, h.1))
 
 -- ---- all lines
-
-each-later : {X : Type 0} (P : X → Type 0) (xs ys : List X) → Each P (xs ++ ys) → Each P ys
-each-later P [] ys h = h
-each-later P (x ∷ xs) ys h = each-later P xs ys h.1
-
-pub each-joined : {X : Type 0} (P : X → Type 0) (xs ys : List X) → Each P xs → Each P ys → Each P (xs ++ ys)
-each-joined P [] ys h k = k
-each-joined P (x ∷ xs) ys h k = (h.0, each-joined P xs ys h.1 k)
 
 pub lines-known : (p : Problem) (at : List Mark) (c : ℕ) (n : ℕ → ℤ) → IsWhole p → Each (IsLine p at c n) (lines p)
 lines-known p at c n whole =
@@ -394,16 +371,13 @@ rest-none a b h k e = omega (arith, ints, h, k, e)
 no-deviation : (d f : ℤ) → d +ℤ f ≡ pos 0 → f ≡ pos 0 → d ≡ pos 0
 no-deviation d f e h = omega (arith, ints, e, h)
 
-weighed-none : (w : ℕ) (z : ℤ) → 0 < w → pos w *ℤ z ≡ pos 0 → z ≡ pos 0
-weighed-none w z above e = zero_from_mul w z above e
-
 by-rel : (w : ℕ) (rel : Rel) (u o : ℤ) → 0 < w → u ≡ o → pos 0 ≤ℤ o → pos (under_weight rel w) *ℤ u +ℤ pos (over_weight rel w) *ℤ o ≡ pos 0 → o ≡ pos 0
 by-rel w Eq u o above same up e =
     let a = mul_not_negative w u (subst (λ (z : ℤ). pos 0 ≤ℤ z) (sym same) up) in
     let b = mul_not_negative w o up in
-    weighed-none w o above (rest-none (pos w *ℤ u) (pos w *ℤ o) a b e)
-by-rel w Ge u o above same up e = sym same ∙ weighed-none w u above (let h : pos w *ℤ u +ℤ pos 0 *ℤ o ≡ pos 0 = e in omega (arith, ints, h, zero-mul_ℤ o))
-by-rel w Le u o above same up e = weighed-none w o above (let h : pos 0 *ℤ u +ℤ pos w *ℤ o ≡ pos 0 = e in omega (arith, ints, h, zero-mul_ℤ u))
+    zero_from_mul w o above (rest-none (pos w *ℤ u) (pos w *ℤ o) a b e)
+by-rel w Ge u o above same up e = sym same ∙ zero_from_mul w u above (let h : pos w *ℤ u +ℤ pos 0 *ℤ o ≡ pos 0 = e in omega (arith, ints, h, zero-mul_ℤ o))
+by-rel w Le u o above same up e = zero_from_mul w o above (let h : pos 0 *ℤ u +ℤ pos w *ℤ o ≡ pos 0 = e in omega (arith, ints, h, zero-mul_ℤ u))
 
 -- the line's marks move alike, not down
 pub record IsAlike (n : ℕ → ℤ) (l : Line) : Type 0 where
@@ -416,10 +390,6 @@ part-up whole n level l is =
     (both-up (pos (under_weight l.rel (weight_at l level)) *ℤ n (place_of l.name Under)) (pos (over_weight l.rel (weight_at l level)) *ℤ n (place_of l.name Over))
     (mul_not_negative (under_weight l.rel (weight_at l level)) (n (place_of l.name Under)) (subst (λ (z : ℤ). pos 0 ≤ℤ z) (sym is.same) is.up))
     (mul_not_negative (over_weight l.rel (weight_at l level)) (n (place_of l.name Over)) is.up))
-
-pub sum-up : {X : Type 0} (f : X → ℤ) (xs : List X) → Each (λ x. pos 0 ≤ℤ f x) xs → pos 0 ≤ℤ sum_of f xs
-sum-up f [] h = record { le = tt }
-sum-up f (x ∷ xs) h = both-up (f x) (sum_of f xs) h.0 (sum-up f xs h.1)
 
 pub each-none : {X : Type 0} (f : X → ℤ) (xs : List X) → Each (λ x. pos 0 ≤ℤ f x) xs → sum_of f xs ≡ pos 0 → Each (λ x. f x ≡ pos 0) xs
 each-none f [] h e = tt
@@ -450,9 +420,6 @@ stay-weights b (s ∷ stays) = (omega arith, stay-weights (b + 1) stays)
 marks-still : (n : ℕ → ℤ) (ls : List Line) → Each (λ l. (n (place_of l.name Under) ≡ pos 0) × (n (place_of l.name Over) ≡ pos 0)) ls → Each (λ m. n (place m) ≡ pos 0) (marks_of ls)
 marks-still n [] h = tt
 marks-still n (l ∷ ls) h = (h.0.0, (h.0.1, marks-still n ls h.1))
-
-not-above : (z : ℤ) → pos 0 <ℤ z → z ≡ pos 0 → ⊥
-not-above z h e = absurd (omega (arith, ints, h, e))
 
 -- at a corner no outside mark's column is 0 at all levels
 pub no_zero_column : (p : Problem) (at : List Mark) (m : Multipliers) (c : ℕ) (n : ℕ → ℤ) → IsWhole p → IsCorner p at → AreMultipliersAt p at m → Contains (map place (marks_of (lines p))) c → (IsIn c at → ⊥) → IsRay p at c n → IsZeroColumn p m c → ⊥

@@ -6,7 +6,7 @@ use Rattle.problem_core.specs.Corners.{IsCorner, SameMarks}
 use Rattle.problem_core.specs.declared.parts.Mark.{Mark}
 use Rattle.problem_core.specs.declared.stops.Quantity.TheVariants.{Terms}
 use Rattle.problem_core.specs.Unfit.{IsUnfit}
-use Rattle.problem_core.specs.Begins.{BeginsWith}
+use Rattle.problem_core.specs.Changes.Begins.{BeginsWith}
 use Rattle.corner_laws.specs.Laws.{AllFit, Anywhere, IsConflict}
 use Rattle.cert_core.specs.Stops.{IsPlain, IsStopOf}
 use Rattle.cert_core.specs.declared.stops.RunStop.{RunStop}

@@ -10,7 +10,7 @@ use Rattle.problem_core.specs.declared.parts.Mark.{Mark}
 use Rattle.problem_core.specs.declared.parts.Side.{Side}
 use Rattle.problem_core.specs.declared.parts.RowName.TheVariants.{Held}
 use Rattle.problem_core.specs.Levels.{CostsAbove, cost_at}
-use Rattle.problem_core.specs.Paths.{IsPath}
+use Rattle.problem_core.specs.Changes.Paths.{IsPath}
 use Rattle.problem_core.specs.Rays.{IsRay}
 use Rattle.corner_laws.specs.Laws.{HasZeroColumn, IsMarkAt}
 

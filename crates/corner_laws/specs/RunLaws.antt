@@ -6,7 +6,7 @@ use Rattle.problem_core.specs.Kept.{IsWhole}
 use Rattle.problem_core.specs.Certificates.{IsLexNonnegative}
 use Rattle.problem_core.specs.Corners.{HasNegativeColumn, IsCorner, IsIn, IsLexNegative, NoNegativeColumn}
 use Rattle.problem_core.specs.Corners.{NoNegativeValue, SameMarks, Swap, marks_of, place}
-use Rattle.problem_core.specs.Paths.{IsPath, NoNegativeRequired, last_marks}
+use Rattle.problem_core.specs.Changes.Paths.{IsPath, NoNegativeRequired, last_marks}
 use Rattle.problem_core.specs.Rays.{HasRays, IsRay}
 use Rattle.corner_laws.specs.Laws.{IsMarkAt}
 use Rattle.corner_laws.specs.Sums.{AreReducedAt}

@@ -8,7 +8,7 @@ use Rattle.problem_core.specs.declared.parts.Term.{Term}
 use Rattle.problem_core.specs.Layout.{Problem, coefficient}
 use Rattle.problem_core.specs.Corners.{HasNegativeColumn, HasNegativeValue, IsIn, IsWritingOf, Swap}
 use Rattle.problem_core.specs.Corners.{exchanged, place}
-use Rattle.problem_core.specs.Paths.{IsEndOf}
+use Rattle.problem_core.specs.Changes.Paths.{IsEndOf}
 use Rattle.problem_core.specs.Rays.{IsRay}
 use Rattle.problem_core.specs.declared.parts.Side.{Side}
 use Rattle.problem_core.specs.declared.parts.Side.TheVariants.{Under, Over}

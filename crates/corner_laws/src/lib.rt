@@ -6,7 +6,7 @@
 //! function's name. A proof elsewhere cites the lemma that proves it:
 //!
 //! ```text
-//! use Rattle.corner_laws.proofs.RunPaths.{run_grows}      -- that a run grows by one exchange, `RunGrows`
+//! use Rattle.corner_laws.proofs.RunSteps.RunPaths.{run_grows}  -- a run grows by an exchange, `RunGrows`
 //! ```
 //!
 //! The words, and what linear programming calls them:
@@ -16,8 +16,8 @@
 //! - a level's multipliers are its dual solution, and what they leave of a mark's cost is the mark's reduced
 //!   cost; each level has an objective, and levels are compared lexicographically, the strongest first;
 //! - a ray is a column of the tableau: how everything moves where one nonbasic variable grows;
-//! - an exchange is a pivot, and the rule for the mark that leaves, or on a dual path enters, is the
-//!   ratio test;
+//! - an exchange is a pivot; the rule for the mark that leaves is the ratio test, and on a dual path the one
+//!   for the mark that enters is the dual ratio test;
 //! - the tie rule of a primal run is the lexicographic one, by which the simplex method cannot cycle.
 //!
 //! In reading order: `writings` (of attributes and marks), `levels` (of levels' costs), `exchanges` (what

@@ -1,10 +1,7 @@
 -- Columns below 0, from one list of multipliers to another.
-use Rattle.std.proofs.Common.{◌≡◌, ◌∙◌, ℕ, ◌<◌, ℤ, pos, ◌*ℤ◌, ap, suc, negsuc, ◌-ℤ◌, ◌≤ℤ◌, ◌<ℤ◌, arith}
-use Rattle.frac_core.proofs.Integers.{mul-zero_ℤ, zero_from_mul, mul-sub_left, mul_positive, mul_not_negative}
+use Rattle.std.proofs.Common.{◌≡◌, ℕ, ◌<◌, ℤ, pos, ◌*ℤ◌, suc, negsuc, ◌-ℤ◌, ◌≤ℤ◌, ◌<ℤ◌, arith}
+use Rattle.frac_core.proofs.Integers.{mul-zero_ℤ, mul-sub_left, mul_positive, mul_not_negative}
 use borrow.Author.Differences.{ints}
-
-pub none_from : (s t : ℕ) (a b : ℤ) → 0 < s → pos s *ℤ b ≡ pos t *ℤ a → a ≡ pos 0 → b ≡ pos 0
-none_from s t a b above e h = zero_from_mul s b above (e ∙ ap (λ (z : ℤ). pos t *ℤ z) h ∙ mul-zero_ℤ (pos t))
 
 pub low_from : (s t : ℕ) (a b : ℤ) → 0 < t → pos s *ℤ b ≡ pos t *ℤ a → a <ℤ pos 0 → b <ℤ pos 0
 low_from s t a (negsuc b) above e h = omega (arith, ints)

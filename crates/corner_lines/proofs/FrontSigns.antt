@@ -1,39 +1,36 @@
 -- Fronts of columns.
-use Rattle.std.proofs.Common.{◌≡◌, ◌∙◌, ◌⊎◌, ℕ, zero, suc, ◌*◌, ◌<◌, List, [], ◌∷◌, ℤ, pos, ◌+ℤ◌, ◌-ℤ◌, ◌*ℤ◌, neg_ℤ, ◌<ℤ◌, ◌≤ℤ◌, refl, sym, ap, subst, arith, inl, inr, All, Any, mul-pos}
+use Rattle.std.proofs.Common.{◌≡◌, ◌∙◌, ◌⊎◌, ℕ, zero, suc, ◌*◌, ◌<◌, List, [], ◌∷◌, ℤ, pos, ◌+ℤ◌, ◌-ℤ◌, ◌*ℤ◌, ◌<ℤ◌, ◌≤ℤ◌, refl, sym, ap, subst, arith, inl, inr, All, Any, mul-pos}
 use Rattle.std.specs.List.{AllByRecursion as Each}
 use Rattle.std.specs.Int.{◌∣◌}
 use Rattle.std.proofs.lemmas.Bool.{cases_Bool}
 use Rattle.std.proofs.lemmas.List.Elements.{All-from_recursion, recursion_from_All}
-use lib.IntN.{*ℤ_comm}
 use borrow.Author.Differences.{ints}
-use Rattle.frac_core.proofs.Integers.{mul-add_left, mul-sub_left, mul-zero_ℤ, mul_assoc_ℤ, mul_left_comm_ℤ, mul_not_negative, mul_positive, sign_cases, zero_from_mul}
+use Rattle.frac_core.proofs.Integers.{mul-add_left, mul-sub_left, mul-zero_ℤ, mul_assoc_ℤ, mul_left_comm_ℤ, mul_not_negative, sign_cases, zero_from_mul}
 use Rattle.problem_core.specs.declared.parts.Mark.{Mark}
 use Rattle.problem_core.specs.declared.parts.Side.{Side}
 use Rattle.problem_core.specs.declared.parts.Side.TheVariants.{Under, Over}
 use Rattle.problem_core.specs.declared.parts.RowName.{RowName}
 use Rattle.problem_core.specs.Layout.{IsProblem, Line, Problem, lines}
 use Rattle.problem_core.specs.Kept.{IsWhole}
-use Rattle.problem_core.specs.Certificates.{IsLexNonnegative, Multipliers, over_weight, under_weight, weight_at}
+use Rattle.problem_core.specs.Certificates.{IsLexNonnegative, Multipliers, weight_at}
 use Rattle.problem_core.specs.Corners.{AreMultipliersAt, IsIn, IsLexNegative, column, marks_of, place, place_of}
 use Rattle.problem_core.specs.Rays.{HasRays}
-use Rattle.problem_core.proofs.CornerFacts.{is_place}
+use Rattle.problem_core.proofs.Corners.CornerFacts.{is_place}
 use Rattle.problem_core.proofs.Forms.{each-impl, each-both}
 use Rattle.problem_core.proofs.Wholes.{whole-IsProblem}
 use Rattle.corner_laws.specs.Units.{over_share, under_share}
-use Rattle.corner_laws.proofs.ColumnsStay.{each_marks}
+use Rattle.corner_laws.proofs.Swaps.ColumnsStay.{each_marks, column-alike as columns-multiple}
 use Rattle.corner_laws.proofs.Counting.{IsIn-from_is_place}
-use Rattle.corner_laws.proofs.Exchanged.{neg-times}
-use Rattle.corner_laws.proofs.LevelSizes.{no-over, no-share, no-under}
-use Rattle.corner_laws.proofs.Rises.{sign-from}
-use Rattle.corner_laws.proofs.Unique.{multipliers_same}
-use Rattle.corner_laws.proofs.WrittenValues.{contains_each, not_zero}
+use Rattle.corner_laws.proofs.LevelCosts.LevelSizes.{no-over, no-under}
+use Rattle.corner_laws.proofs.LevelCosts.Unique.{multipliers_same}
+use Rattle.corner_laws.proofs.WrittenValues.{contains_each}
 use Rattle.corner_laws.proofs.ZeroColumns.{not-in}
 use Rattle.corner_lines.specs.LineEquations.{IsOutsideLine}
-use Rattle.corner_lines.specs.LevelRows.{inside_number, reduced_number}
+use Rattle.corner_lines.specs.Levels.LevelRows.{inside_number, reduced_number}
 use Rattle.corner_lines.specs.Fronts.{AlikeCostsKeepSign, AlikeFrontsAreFronts, AreAlike, AreLevelRows, IsFront, NegativeFrontIsNegative, NoFrontIsNot, NoNegativeFronts, PositiveFrontIsNot, ReducedElsewhere, Rows, costs_of}
-use Rattle.corner_lines.proofs.LevelExchanges.{by-sides, inside-numbers}
-use Rattle.corner_lines.proofs.LevelCosts.{column-is, reduced-none}
-use Rattle.corner_laws.proofs.PathExamples.{zero-fits}
+use Rattle.corner_lines.proofs.LevelRows.LevelExchanges.{by-sides, inside-numbers}
+use Rattle.corner_lines.proofs.Costs.LevelCosts.{column-is, reduced-none}
+use Rattle.frac_core.proofs.Numbers.{low-times as times-negative, zero-up as zero-fits, no-product as no-share, signed-not-zero as not_zero, up-from as sign-from}
 
 -- ---- reduced costs where the line is not of the level
 
@@ -96,12 +93,6 @@ each-any Q (l ∷ ls) = (
   (λ q. (0, l, omega arith, refl, q)),
   each-impl (λ k. Q k → Any Q ls) (λ k. Q k → Any Q (l ∷ ls)) ls (λ k f q. let a = f q in (suc a.0, a.1, omega (arith, a.2), a.3, a.4)) (each-any Q ls),
 )
-
-times-negative : (k : ℕ) (z : ℤ) → 0 < k → z <ℤ pos 0 → (pos k *ℤ z) <ℤ pos 0
-times-negative k z above h =
-    let up : pos 0 <ℤ (pos k *ℤ neg_ℤ z) = mul_positive k (neg_ℤ z) above (omega (arith, ints, h)) in
-    let e : pos k *ℤ neg_ℤ z ≡ neg_ℤ (pos k *ℤ z) = *ℤ_comm (pos k) (neg_ℤ z) ∙ neg-times z (pos k) ∙ ap neg_ℤ (*ℤ_comm z (pos k)) in
-    omega (arith, ints, up, e)
 
 -- a front below 0
 pub negative_front_is_negative : NegativeFrontIsNegative
@@ -170,10 +161,6 @@ multiple-over k s t w y z e =
     let c : pos s *ℤ (pos k *ℤ z) ≡ pos t *ℤ (pos k *ℤ y) = mul_left_comm_ℤ (pos s) (pos k) z ∙ ap (λ (x : ℤ). pos k *ℤ x) e ∙ mul_left_comm_ℤ (pos k) (pos t) y in
     let d : pos s *ℤ pos (t * w) ≡ pos t *ℤ pos (s * w) = ap pos (omega arith) in
     omega (arith, ints, a, b, c, d)
-
-pub columns-multiple : (m n : Multipliers) (side : Side) (l : Line) (level : ℕ) → pos (m.scale level) *ℤ n.times level l.name ≡ pos (n.scale level) *ℤ m.times level l.name → pos (m.scale level) *ℤ column n side l level ≡ pos (n.scale level) *ℤ column m side l level
-columns-multiple m n Under l level e = multiple-under l.scale (m.scale level) (n.scale level) (under_weight l.rel (weight_at l level)) (m.times level l.name) (n.times level l.name) e
-columns-multiple m n Over l level e = multiple-over l.scale (m.scale level) (n.scale level) (over_weight l.rel (weight_at l level)) (m.times level l.name) (n.times level l.name) e
 
 -- the column by other multipliers, as a multiple of the costs
 column-alike : (p : Problem) (at : List Mark) (rows : Rows) (are : AreLevelRows p at rows) (m : Multipliers) (l : Line) (side : Side) (level : ℕ) → 0 < m.scale level → 0 < rows.own level * rows.unit level → Known p at rows are level l → IsOutsideLine at l.name

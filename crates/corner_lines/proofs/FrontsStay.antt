@@ -1,12 +1,11 @@
 -- Columns that keep their signs.
-use Rattle.std.proofs.Common.{◌≡◌, ◌≢◌, ◌∙◌, ℕ, ◌+◌, ◌*◌, ◌/◌, ◌<◌, Bool, cond, nat_eq, List, [], ◌∷◌, ◌++◌, map, length, ℤ, pos, ◌+ℤ◌, ◌-ℤ◌, ◌*ℤ◌, neg_ℤ, unsigned_abs, refl, sym, ap, ap₂, subst, arith, inl, inr, All, mul-pos, eq-eqb, ne_eqb}
+use Rattle.std.proofs.Common.{◌≡◌, ◌≢◌, ◌∙◌, ℕ, ◌+◌, ◌*◌, ◌/◌, ◌<◌, Bool, cond, nat_eq, List, [], ◌∷◌, ◌++◌, map, length, ℤ, pos, ◌+ℤ◌, ◌-ℤ◌, ◌*ℤ◌, neg_ℤ, unsigned_abs, refl, sym, ap, ap₂, subst, arith, All, mul-pos, eq-eqb, ne_eqb}
 use Rattle.std.specs.List.{AllByRecursion as Each}
 use Rattle.std.specs.Int.{◌∣◌}
-use Rattle.std.proofs.lemmas.Bool.{cases_eq}
 use Rattle.std.proofs.lemmas.List.Elements.{All-from_recursion, recursion_from_All}
 use borrow.Author.Differences.{ints}
 use Rattle.frac_core.proofs.Gauss.{Reduces, reduces}
-use Rattle.frac_core.proofs.Integers.{mul-add_left, mul-sub_left, mul-zero_ℤ, mul_assoc_ℤ, zero-mul_ℤ}
+use Rattle.frac_core.proofs.Integers.{mul-add_left, mul-sub_left, mul_assoc_ℤ, zero-mul_ℤ}
 use Rattle.problem_core.specs.declared.parts.Mark.{Mark}
 use Rattle.problem_core.specs.declared.parts.Side.{Side}
 use Rattle.problem_core.specs.declared.parts.Side.TheVariants.{Under, Over}
@@ -21,20 +20,21 @@ use Rattle.problem_core.specs.Levels.{alone}
 use Rattle.problem_core.proofs.Forms.{each-impl, each-both, sum-append}
 use Rattle.corner_laws.specs.Equations.{IsLevelSum}
 use Rattle.corner_laws.specs.Units.{IsLevelUnit, over_share, under_share}
-use Rattle.corner_laws.proofs.Equal.{all_same, writing-sum}
-use Rattle.corner_laws.proofs.LevelUnits.{no_weight}
-use Rattle.corner_laws.proofs.Unique.{same-name}
-use Rattle.corner_laws.proofs.ZeroColumns.{each-joined}
+use Rattle.corner_laws.proofs.LevelCosts.Equal.{all_same, writing-sum}
+use Rattle.corner_laws.proofs.LevelCosts.Unique.{same-name}
 use Rattle.corner_lines.specs.LineEquations.{IsOutsideLine}
-use Rattle.corner_lines.specs.LevelRows.{HasLevelRow, IsLevelMultiple, inside_number, reduced_number, sum_by}
-use Rattle.corner_lines.specs.LevelCosts.{IsSound}
+use Rattle.corner_lines.specs.Levels.LevelRows.{HasLevelRow, IsLevelMultiple, inside_number, reduced_number, sum_by}
+use Rattle.corner_lines.specs.Levels.LevelCosts.{IsSound}
 use Rattle.corner_lines.specs.Fronts.{AreAlike, ExchangedCostsAreAlike, GrownCostsAreAlike, JoinedCostsAreAlike, MovedLevelsStay, NewStayLeavesLevels, constantless, with_stay}
-use Rattle.corner_lines.proofs.LevelExchanges.{entering-number, exchanged-multiple, multiple-numbers, left-outside}
-use Rattle.corner_lines.proofs.LevelCosts.{column-is, reduced-none}
-use Rattle.corner_lines.proofs.LevelFits.{reduced-is, reduced_by, row-writing}
-use Rattle.corner_lines.proofs.LevelJoins.{cross-share, grown-over, grown-under, joined_row_is_multiple, whole-none}
-use Rattle.corner_lines.proofs.LevelSound.{seen-each, whole_is_sound}
-use Rattle.problem_core.proofs.Conflicts.{sum-each}
+use Rattle.corner_lines.proofs.LevelRows.LevelExchanges.{entering-number, exchanged-multiple, multiple-numbers, left-outside, kept as without-pivot}
+use Rattle.corner_lines.proofs.Costs.LevelCosts.{column-is, reduced-none}
+use Rattle.corner_lines.proofs.Costs.LevelFits.{reduced-is, reduced_by, row-writing}
+use Rattle.corner_lines.proofs.LevelRows.LevelJoins.{cross-share, grown-over, grown-under, joined_row_is_multiple, whole-none}
+use Rattle.corner_lines.proofs.LevelRows.LevelSound.{seen-each, whole_is_sound}
+use Rattle.problem_core.proofs.Corners.Conflicts.{sum-each}
+use Rattle.frac_core.proofs.Numbers.{share-above}
+use Rattle.frac_core.proofs.Lists.{each-joined}
+use Rattle.problem_core.proofs.Lines.{weight-none as no_weight}
 
 -- ---- a multiple as a sum of lines
 
@@ -105,12 +105,6 @@ alike-from p at level unit own size low z next sound rays is up upo mult h =
 
 -- ---- an exchange
 
-without-pivot : (k : ℕ) (y m e x : ℤ) → e ≡ pos 0 → y ≡ x → pos k *ℤ y +ℤ m *ℤ e ≡ pos k *ℤ x
-without-pivot k y m e x h same =
-    let a : m *ℤ e ≡ pos 0 = ap (λ (z : ℤ). m *ℤ z) h ∙ mul-zero_ℤ m in
-    let b : pos k *ℤ y ≡ pos k *ℤ x = ap (λ (z : ℤ). pos k *ℤ z) same in
-    omega (arith, ints, a, b)
-
 pub exchanged_costs_are_alike : ExchangedCostsAreAlike
 exchanged_costs_are_alike p at s level unit own size low number pivot next n ex is out enters rays h =
     All-from_recursion (λ l. IsOutsideLine at l.name → l.name ≢ s.enter.row → pivot l.name ≡ pos 0 → (side : Side) → AreAlike (reduced_number side level unit own (number l.name) l) (reduced_number side level unit low (next l.name) l)) (lines p)
@@ -142,12 +136,6 @@ grown-reduced Over level unit own t g y l r above d =
     let a = mul-add_left (pos (t / g)) (pos (own * over_share unit level l)) y in
     let b : pos (t / g) *ℤ pos (own * over_share unit level l) ≡ pos (own / g * over_share (t * unit) level l) = ap pos (cross-share t own g (over_share unit level l) r ∙ ap (λ (n : ℕ). own / g * n) (sym (grown-over t unit level l above d))) in
     omega (arith, ints, a, b)
-
-share-above : (t g : ℕ) → 0 < t → t / g * g ≡ t → 0 < t / g
-share-above t g above e = elim (cases_eq (t / g) 0) [
-  | inl z ↦ absurd (omega (arith, above, sym e ∙ ap (λ (q : ℕ). q * g) z))
-  | inr ne ↦ omega (arith, ne)
-]
 
 pub grown_costs_are_alike : GrownCostsAreAlike
 grown_costs_are_alike p level unit own t g y problem is above upo gcd =

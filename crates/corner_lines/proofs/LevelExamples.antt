@@ -7,24 +7,25 @@ use Rattle.std.proofs.Math.Nat.{one-dvd}
 use Rattle.std.proofs.lemmas.List.Elements.{All-from_recursion, recursion_from_All}
 use borrow.Author.Differences.{ints}
 use Rattle.frac_core.specs.Fraction.{IsFitting}
-use Rattle.frac_core.proofs.Integers.{zero-mul_ℤ}
 use Rattle.problem_core.specs.declared.parts.Side.TheVariants.{Under, Over}
 use Rattle.problem_core.specs.declared.parts.RowName.{RowName}
 use Rattle.problem_core.specs.declared.parts.RowName.TheVariants.{Held, Stay as StayOf}
 use Rattle.problem_core.specs.Layout.{Line, line_of_row, line_of_stay, lines}
 use Rattle.problem_core.specs.Certificates.{weight_at}
 use Rattle.problem_core.specs.Corners.{IsIn, place_of}
+use Rattle.problem_core.proofs.RowNames.{held-not-stay}
 use Rattle.corner_laws.specs.Examples.{at_least, single}
 use Rattle.corner_laws.specs.Units.{IsLevelUnit, over_share, under_share}
 use Rattle.corner_laws.proofs.Counting.{IsIn-from_is_place}
-use Rattle.corner_laws.proofs.LevelUnits.{no_weight}
 use Rattle.corner_laws.proofs.ZeroColumns.{not-in}
 use Rattle.corner_lines.specs.LineEquations.{IsOutsideLine}
-use Rattle.corner_lines.specs.LevelRows.{HasLevelRow}
+use Rattle.corner_lines.specs.Levels.LevelRows.{HasLevelRow}
 use Rattle.corner_lines.specs.Fronts.{AreLevelRows, IsFront, costs_of}
-use Rattle.corner_lines.specs.LevelExamples.{SingleHasFront, SingleIsUnfit, SumIsUnfit, below_two, single_rows, stay_falls, whole_number}
-use Rattle.corner_lines.proofs.LevelJoins.{free-number, one-divides}
-use Rattle.corner_laws.proofs.LevelFits.{times_there, cancelled}
+use Rattle.corner_lines.specs.Levels.LevelExamples.{SingleHasFront, SingleIsUnfit, SumIsUnfit, below_two, single_rows, stay_falls, whole_number}
+use Rattle.corner_lines.proofs.LevelRows.LevelJoins.{free-number, one-divides}
+use Rattle.corner_laws.proofs.Instances.LevelFits.{times_there, cancelled}
+use Rattle.corner_laws.proofs.Instances.DualExamples.{none-taken as no-sum}
+use Rattle.problem_core.proofs.Lines.{weight-none as no_weight}
 
 row-line : Line
 row-line = line_of_row (at_least 2)
@@ -55,9 +56,6 @@ no-row-over = not-in below_two (place_of (Held 1) Over) refl
 
 row-in : IsIn (place_of (Held 1) Under) below_two
 row-in = IsIn-from_is_place (place_of (Held 1) Under) below_two refl
-
-no-sum : (c : ℤ) → pos 0 *ℤ c +ℤ (pos 0 *ℤ c +ℤ pos 0) ≡ pos 0
-no-sum c = let h = zero-mul_ℤ c in omega (arith, ints, h)
 
 required-row : HasLevelRow (single 2) below_two 0 1 1 (λ name. cond (nat_eq 0 0) (stay_falls name) (pos 0))
 required-row = record {
@@ -91,14 +89,6 @@ level-rows (suc n) = (unit-one (suc n), empty-row n)
 
 -- ---- fronts
 
-attr-of : RowName → ℕ
-attr-of (Held id) = 0
-attr-of (StayOf attr) = 1
-
-held-not : (a b : ℕ) → Held a ≢ StayOf b
-unfolding attr-of
-held-not a b e = let h : 0 ≡ 1 = ap attr-of e in absurd (omega (arith, h))
-
 -- an under mark whose cost is 1 at the first level has no front below 0
 up-front : (costs : ℕ → ℤ) (level : ℕ) (front : ℤ) → costs 0 ≡ pos 1 → IsFront costs level front → front <ℤ pos 0 → ⊥
 up-front costs zero front e f low = let h = f.there in absurd (omega (arith, ints, e, h, low))
@@ -107,7 +97,7 @@ up-front costs (suc n) front e f low = let h = f.before 0 (omega arith) in absur
 pub single_has_front : SingleHasFront
 single_has_front = (
   level-rows,
-  both (λ l. l.name ≡ StayOf 1 → IsFront (costs_of single_rows Over l) 0 (negsuc 0)) (λ e. absurd (held-not 1 1 e)) (λ e. record { before = λ k less. absurd (omega (arith, less)); there = refl; some = λ e. omega (arith, ints, e) }),
+  both (λ l. l.name ≡ StayOf 1 → IsFront (costs_of single_rows Over l) 0 (negsuc 0)) (λ e. absurd (held-not-stay 1 1 e)) (λ e. record { before = λ k less. absurd (omega (arith, less)); there = refl; some = λ e. omega (arith, ints, e) }),
   λ level front f low.
       let fronts = recursion_from_All (λ l. l.name ≡ StayOf 1 → IsFront (costs_of single_rows Under l) level front) (lines (single 2)) f in
       up-front (costs_of single_rows Under (line_of_stay 1001 (record { attr = 1; target = record { num = pos 0; den = 1 } }))) level front refl (fronts.1.0 refl) low,

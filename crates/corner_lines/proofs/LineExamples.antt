@@ -13,9 +13,9 @@ use Rattle.problem_core.specs.declared.parts.Stay.{Stay}
 use Rattle.problem_core.specs.Layout.{Problem, lines, value_at}
 use Rattle.problem_core.specs.Corners.{IsIn, Point, Solves, StandsAt, attr_column, equation, marks_of, one_column, place, place_of}
 use Rattle.corner_laws.specs.Examples.{at_least, single, over_stay, under_row}
-use Rattle.corner_laws.proofs.Examples.{too_large}
-use Rattle.corner_laws.proofs.Fits.{whole_is_kept}
-use Rattle.corner_laws.proofs.PathExamples.{alone-in}
+use Rattle.corner_laws.proofs.Instances.Examples.{too_large}
+use Rattle.corner_laws.proofs.MarkWritings.Fits.{whole_is_kept}
+use Rattle.corner_laws.proofs.Instances.PathExamples.{alone-in}
 use Rattle.corner_lines.specs.LineEquations.{AreReduced, IsLineEquation, IsLineSum, IsOutsideLine, IsUnfitLine, deviation}
 use Rattle.corner_lines.specs.LineExchanges.{IsExchangedRow, IsPivotRow}
 use Rattle.corner_lines.specs.Joins.{HaveStood}

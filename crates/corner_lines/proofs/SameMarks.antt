@@ -6,12 +6,16 @@ use Rattle.std.proofs.lemmas.List.Elements.{recursion_from_All, All-from_recursi
 use Rattle.problem_core.specs.declared.parts.Mark.{Mark}
 use Rattle.problem_core.specs.declared.parts.RowName.{RowName}
 use Rattle.problem_core.specs.Layout.{Problem, lines}
-use Rattle.problem_core.specs.Corners.{IsCorner, IsIn, Point, SameMarks, StandsAt, marks_of, place}
+use Rattle.problem_core.specs.Corners.{IsCorner, IsIn, Point, SameMarks, StandsAt, marks_of, place, Swap, exchanged}
 use Rattle.problem_core.specs.Rays.{HasRays}
 use Rattle.problem_core.proofs.Forms.{each-both, each-impl}
-use Rattle.corner_laws.proofs.Counting.{head_pairs, tail_pairs}
+use Rattle.corner_laws.proofs.Counting.{head_pairs}
 use Rattle.corner_laws.proofs.WrittenValues.{contains_each}
 use Rattle.corner_lines.specs.LineEquations.{IsLineEquation, IsOutsideLine}
+use Rattle.corner_laws.proofs.RunSteps.RunPaths.{contains_in as over-there}
+use Rattle.frac_core.proofs.Lists.{pairs-rest as tail_pairs}
+use Rattle.corner_laws.proofs.Exchanged.{exchanged_in}
+use Rattle.problem_core.proofs.Marks.{entered-in, in-list, kept-in}
 
 -- ---- as many marks
 
@@ -72,10 +76,7 @@ no-more (m ∷ xs) ys apart h =
 
 -- ---- what holds in the other order
 
-over-there : (a b : List Mark) (c : ℕ) → All (λ m. IsIn (place m) b) a → IsIn c a → IsIn c b
-over-there a b c h i = contains_each (λ v. IsIn v b) a c (recursion_from_All (λ m. IsIn (place m) b) a h) i
-
-stands-there : (p : Problem) (a b : List Mark) (y : Point) → All (λ m. IsIn (place m) b) a → StandsAt p a y → StandsAt p b y
+pub stands-there : (p : Problem) (a b : List Mark) (y : Point) → All (λ m. IsIn (place m) b) a → StandsAt p a y → StandsAt p b y
 stands-there p a b y h stands = (
   stands.0,
   All-from_recursion (λ m. (IsIn (place m) b → ⊥) → y.num (place m) ≡ pos 0) (marks_of (lines p))
@@ -122,3 +123,18 @@ same_line p a b quantity own by num den same e = record {
   holds = e.holds;
   lowest = e.lowest;
 }
+
+-- ---- after an exchange
+
+exchanged-to : (s : Swap) (a b : List Mark) → All (λ m. IsIn (place m) b) a → IsIn (place s.leave) b → All (λ m. IsIn (place m) (exchanged s b)) (exchanged s a)
+exchanged-to s a b h leaves =
+    All-from_recursion (λ m. IsIn (place m) (exchanged s b)) (exchanged s a)
+    (each-impl (λ m. IsIn (place m) (exchanged s a)) _ (exchanged s a)
+    (λ m i. elim (exchanged_in s a (place m) i) [
+      | inl e ↦ subst (λ (v : ℕ). IsIn v (exchanged s b)) (sym e) (entered-in s b leaves)
+      | inr old ↦ kept-in s b (place m) (over-there a b (place m) h old.0) old.1
+    ])
+    (in-list (exchanged s a)))
+
+pub same_exchanged : (s : Swap) (a b : List Mark) → SameMarks a b → IsIn (place s.leave) a → IsIn (place s.leave) b → SameMarks (exchanged s a) (exchanged s b)
+same_exchanged s a b same x y = (exchanged-to s a b same.0 y, exchanged-to s b a same.1 x)

@@ -2,12 +2,13 @@
 use Rattle.std.specs.Prelude.{◌≡◌, ◌≢◌, ℕ, ◌+◌, ◌*◌, ◌/◌, ◌<◌, List, [], ◌∷◌, ◌++◌, length, map, ℤ, pos}
 use Rattle.std.specs.Prelude.{◌*ℤ◌, ◌≤ℤ◌, ◌<ℤ◌, All, Contains}
 use Rattle.std.specs.Int.{IsGcd}
+use Rattle.problem_core.specs.declared.limits.TheConstants.{FIRST_STAY_LEVEL}
 use Rattle.problem_core.specs.declared.parts.Side.{Side}
 use Rattle.problem_core.specs.declared.parts.RowName.{RowName}
 use Rattle.problem_core.specs.declared.parts.RowName.TheVariants.{Stay as StayOf}
 use Rattle.problem_core.specs.declared.parts.Stay.{Stay}
 use Rattle.problem_core.specs.declared.parts.Mark.{Mark}
-use Rattle.problem_core.specs.Layout.{IsProblem, Line, Problem, first_stay_level, lines}
+use Rattle.problem_core.specs.Layout.{IsProblem, Line, Problem, lines}
 use Rattle.problem_core.specs.Kept.{IsWhole}
 use Rattle.problem_core.specs.Certificates.{IsLexNonnegative, Multipliers}
 use Rattle.problem_core.specs.Corners.{AreMultipliersAt, HasNegativeColumn, NoNegativeColumn, Swap, column}
@@ -15,10 +16,11 @@ use Rattle.problem_core.specs.Corners.{exchanged, marks_of, place}
 use Rattle.problem_core.specs.Rays.{HasRays}
 use Rattle.corner_laws.specs.Units.{IsLevelUnit}
 use Rattle.corner_lines.specs.LineEquations.{IsOutsideLine}
-use Rattle.corner_lines.specs.LevelRows.{HasLevelRow, IsEnteringNumber, IsLevelExchange, reduced_number}
-use Rattle.corner_lines.specs.LevelJoins.{IsJoiningNumber, IsLevelJoin}
-use Rattle.corner_lines.specs.LevelCosts.{IsSound}
-use Rattle.corner_lines.specs.StayLevels.{turned}
+use Rattle.corner_lines.specs.Levels.LevelRows.{HasLevelRow, IsEnteringNumber, IsLevelExchange}
+use Rattle.corner_lines.specs.Levels.LevelRows.{reduced_number}
+use Rattle.corner_lines.specs.Levels.LevelJoins.{IsJoiningNumber, IsLevelJoin}
+use Rattle.corner_lines.specs.Levels.LevelCosts.{IsSound}
+use Rattle.corner_lines.specs.Levels.StayLevels.{turned}
 
 -- ---- the rows of all levels
 
@@ -163,7 +165,7 @@ with_stay p s = record { rows = p.rows; stays = p.stays ++ (s ∷ []) }
 
 -- the level that the stay has
 abbrev pub next_level : Problem → ℕ
-next_level p = first_stay_level + length p.stays
+next_level p = FIRST_STAY_LEVEL + length p.stays
 
 -- at other levels units and rows are as before
 abbrev pub NewStayLeavesLevels : Type 0

@@ -9,7 +9,7 @@ use Rattle.problem_core.specs.declared.parts.Term.{Term}
 use Rattle.problem_core.specs.declared.parts.Stay.{Stay}
 use Rattle.problem_core.specs.Layout.{Line, Problem, Row, lines}
 use Rattle.problem_core.specs.Corners.{attr_column, place}
-use Rattle.problem_core.specs.Begins.{BeginsWith}
+use Rattle.problem_core.specs.Changes.Begins.{BeginsWith}
 use Rattle.problem_core.specs.Unfit.{HasNoWriting, IsUnfitTerms, first_terms, over_mark, under_mark}
 use Rattle.corner_laws.specs.Lifts.{with_rows}
 use Rattle.corner_lines.specs.LineEquations.{HasValue, IsLineEquation, IsLineSum, deviation}

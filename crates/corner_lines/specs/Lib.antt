@@ -2,12 +2,11 @@ pub mod LineEquations
 pub mod LineLaws
 pub mod LineExchanges
 pub mod Joins
-pub mod LevelRows
-pub mod LevelJoins
-pub mod LevelCosts
-pub mod LevelFits
-pub mod StayLevels
+pub mod Levels
 pub mod Fronts
-pub mod LevelExamples
 pub mod Shifts
 pub mod Removals
+pub mod EquationLaws
+pub mod JoinLaws
+pub mod RemovalLaws
+pub mod ShiftLaws

@@ -10,6 +10,7 @@ use Rattle.problem_core.specs.declared.parts.Mark.{Mark}
 use Rattle.problem_core.specs.declared.parts.Term.{Term}
 use Rattle.problem_core.specs.Layout.{Line, Problem, lines, sum_of}
 use Rattle.problem_core.specs.Corners.{Point, Solves, StandsAt, IsIn, one_column, place_of}
+use Rattle.corner_laws.specs.Runs.{other_side}
 
 -- how far the line's left side is above its constant: the over deviation less the under one
 abbrev pub deviation : RowName → (ℕ → ℤ) → ℤ
@@ -71,10 +72,6 @@ IsUnfitLine p own by num den = (low : ℕ) (part : RowName → ℤ) (value : Fra
 abbrev pub sign_of : Side → ℤ
 sign_of Under = negsuc 0
 sign_of Over = pos 1
-
-abbrev pub other_side : Side → Side
-other_side Under = Over
-other_side Over = Under
 
 -- the sum of the lines' deviations, as a form of marks
 abbrev pub mark_form : (RowName → ℤ) → List Line → List Term

@@ -8,7 +8,8 @@ use Rattle.problem_core.specs.Layout.{Problem, coefficient, lines}
 use Rattle.problem_core.specs.Corners.{place_of}
 use Rattle.problem_core.specs.Unfit.{HasNoWriting, IsWritingOf}
 use Rattle.corner_lines.specs.LineEquations.{AreReduced, HasValue, IsLineEquation, IsLineSum, IsUnfitLine}
-use Rattle.corner_lines.specs.LineEquations.{deviation, inside_form, mark_form, other_side, sign_of}
+use Rattle.corner_laws.specs.Runs.{other_side}
+use Rattle.corner_lines.specs.LineEquations.{deviation, inside_form, mark_form, sign_of}
 
 -- ---- writings
 

@@ -4,7 +4,7 @@ use Rattle.problem_core.specs.declared.parts.Mark.{Mark}
 use Rattle.problem_core.specs.declared.parts.RowName.{RowName}
 use Rattle.problem_core.specs.declared.parts.RowName.TheVariants.{Held, Stay as StayOf}
 use Rattle.problem_core.specs.Layout.{HasStay, Problem}
-use Rattle.problem_core.specs.Begins.{without_marks}
+use Rattle.problem_core.specs.Changes.Begins.{without_marks}
 use Rattle.corner_lines.specs.LineEquations.{IsLineEquation}
 
 abbrev pub without_row : ℕ → Problem → Problem

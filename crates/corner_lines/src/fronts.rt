@@ -1,5 +1,5 @@
 // The laws of fronts, each the contract of a function that does nothing.
-ghost use Rattle.corner_lines.specs.LevelExamples.{SingleHasFront};
+ghost use Rattle.corner_lines.specs.Levels.LevelExamples.{SingleHasFront};
 ghost use Rattle.corner_lines.specs.Fronts.{AlikeCostsKeepSign, AlikeFrontsAreFronts};
 ghost use Rattle.corner_lines.specs.Fronts.{ExchangedCostsAreAlike, GrownCostsAreAlike};
 ghost use Rattle.corner_lines.specs.Fronts.{JoinedCostsAreAlike, MovedLevelsStay, NegativeFrontIsNegative};

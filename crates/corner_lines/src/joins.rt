@@ -1,152 +1,124 @@
 // The laws of a row that joins, each the contract of a function that does nothing.
-ghost use Rattle.std.specs.Prelude.{◌≡◌, ◌<◌, [], ℕ, List};
-ghost use Rattle.frac_core.specs.Fraction.{Fraction};
-ghost use Rattle.problem_core.specs.Layout.{HasStay, Problem, Row};
-ghost use Rattle.problem_core.specs.Kept.{IsNumber, IsWhole};
-ghost use Rattle.problem_core.specs.Corners.{IsCorner, attr_column, exchanged};
-ghost use Rattle.problem_core.specs.Begins.{BeginsWith};
-ghost use Rattle.problem_core.specs.Rays.{HasRays};
-ghost use Rattle.problem_core.specs.Unfit.{over_mark, under_mark};
-ghost use Rattle.problem_core.specs.declared.parts.Mark.{Mark};
-ghost use Rattle.problem_core.specs.declared.parts.RowName.TheVariants.{Held};
-ghost use Rattle.problem_core.specs.declared.parts.Stay.{Stay};
-ghost use Rattle.corner_lines.specs.LineEquations.{deviation};
-ghost use Rattle.corner_lines.specs.Joins.{BeginsWithMore};
-ghost use Rattle.corner_lines.specs.Joins.{AreToldUnfit, GivesDeviation, GoesOn, HasNoTerms, HoldUnder};
-ghost use Rattle.corner_lines.specs.Joins.{ComesToZero, HaveStood, HoldWithAttr, HoldWithRow};
-ghost use Rattle.corner_lines.specs.Joins.{IsLastToldUnfit, IsOwnDeviation, StaysAsWritten, over_joined};
-ghost use Rattle.corner_lines.specs.Joins.{under_joined, with_attr, with_row, with_stays};
+ghost use Rattle.corner_lines.specs.JoinLaws.{AttrIsOwnDeviation, AttrJoinsCorner, AttrJoinsRays};
+ghost use Rattle.corner_lines.specs.JoinLaws.{EquationsHoldWithAttr, EquationsHoldWithRow, JoinedHasRays};
+ghost use Rattle.corner_lines.specs.JoinLaws.{JoinedIsCorner, JoinedTurns, JoinedUnderHasRays};
+ghost use Rattle.corner_lines.specs.JoinLaws.{JoinedUnderIsCorner, JoinedUnderKeepsEquations};
+ghost use Rattle.corner_lines.specs.JoinLaws.{LastTermsAreUnfit, NoTermsAreZero, PathBeginsWithMore};
+ghost use Rattle.corner_lines.specs.JoinLaws.{PathBeginsWithNone, StoodClearsStays, StoodHasRays};
+ghost use Rattle.corner_lines.specs.JoinLaws.{StoodIsCorner, StoodKeepsAttrs, StoodKeepsRows, TermsAreUnfit};
+ghost use Rattle.corner_lines.specs.JoinLaws.{TermsGiveDeviation, TermsGoOn};
 
 /// A corner with a new row's over mark is a corner of the problem with the row.
 pub fn joined_is_corner()
-    ensures { (p : Problem) (at : List Mark) (r : Row) → IsWhole (with_row r p) → IsCorner p at
-        → IsCorner (with_row r p) (over_joined r at) }
+    ensures { JoinedIsCorner }
 {}
 
 /// Each outside mark can grow alone there too.
 pub fn joined_has_rays()
-    ensures { (p : Problem) (at : List Mark) (r : Row) → IsWhole (with_row r p) → HasRays p at
-        → HasRays (with_row r p) (over_joined r at) }
+    ensures { JoinedHasRays }
 {}
 
 /// All equations hold there in which the row doesn't stand.
 pub fn equations_hold_with_row()
-    ensures { (p : Problem) (at : List Mark) (r : Row) → IsWhole (with_row r p) → HoldWithRow p at r }
+    ensures { EquationsHoldWithRow }
 {}
 
 /// No terms have the sum 0.
 pub fn no_terms_are_zero()
-    ensures { (p : Problem) (at : List Mark) (r : Row) → HasNoTerms p at r }
+    ensures { NoTermsAreZero }
 {}
 
 /// The sum of a row's first terms goes on with the next attribute's equation.
 pub fn terms_go_on()
-    ensures { (p : Problem) (at : List Mark) (r : Row) → GoesOn p at r }
+    ensures { TermsGoOn }
 {}
 
 /// The sum of all terms gives the row's deviation.
 pub fn terms_give_deviation()
-    ensures { (p : Problem) (at : List Mark) (r : Row) → IsWhole (with_row r p)
-        → GivesDeviation (with_row r p) at r }
+    ensures { TermsGiveDeviation }
 {}
 
 /// A sum of the first terms that has no writing that fits is what a stop names.
 pub fn terms_are_unfit()
-    ensures { (p : Problem) (at : List Mark) (r : Row) → IsWhole (with_row r p) → AreToldUnfit p at r }
+    ensures { TermsAreUnfit }
 {}
 
 /// So is the whole sum less the constant, where the over mark has none.
 pub fn last_terms_are_unfit()
-    ensures { (p : Problem) (at : List Mark) (r : Row) → IsWhole (with_row r p) → IsLastToldUnfit p at r }
+    ensures { LastTermsAreUnfit }
 {}
 
 /// The row joins under by an exchange of its two marks.
 pub fn joined_turns()
-    ensures { (p : Problem) (at : List Mark) (r : Row) → IsWhole (with_row r p) → IsCorner p at
-        → exchanged (record { enter = under_mark r.id; leave = over_mark r.id }) (over_joined r at)
-        ≡ under_joined r at }
+    ensures { JoinedTurns }
 {}
 
 /// A corner with a new row's under mark is a corner too.
 pub fn joined_under_is_corner()
-    ensures { (p : Problem) (at : List Mark) (r : Row) → IsWhole (with_row r p) → IsCorner p at
-        → IsCorner (with_row r p) (under_joined r at) }
+    ensures { JoinedUnderIsCorner }
 {}
 
 /// Each outside mark can grow alone there.
 pub fn joined_under_has_rays()
-    ensures { (p : Problem) (at : List Mark) (r : Row) → IsWhole (with_row r p) → IsCorner p at
-        → HasRays p at → HasRays (with_row r p) (under_joined r at) }
+    ensures { JoinedUnderHasRays }
 {}
 
 /// All equations are as where the row is over.
 pub fn joined_under_keeps_equations()
-    ensures { (p : Problem) (at : List Mark) (r : Row) → IsWhole (with_row r p) → IsCorner p at
-        → HoldUnder p at r }
+    ensures { JoinedUnderKeepsEquations }
 {}
 
 /// A corner is one of the problem with a new attribute, whose stay is outside.
 pub fn attr_joins_corner()
-    ensures { (p : Problem) (at : List Mark) (attr : ℕ) (target : Fraction) → IsWhole p → IsNumber attr
-        → (HasStay p.stays attr → ⊥) → 0 < target.den → IsCorner p at
-        → IsCorner (with_attr attr target p) at }
+    ensures { AttrJoinsCorner }
 {}
 
 /// Each outside mark can grow alone there too.
 pub fn attr_joins_rays()
-    ensures { (p : Problem) (at : List Mark) (attr : ℕ) (target : Fraction) → IsWhole p → IsNumber attr
-        → (HasStay p.stays attr → ⊥) → 0 < target.den → HasRays p at
-        → HasRays (with_attr attr target p) at }
+    ensures { AttrJoinsRays }
 {}
 
 /// All equations hold there in which the new stay doesn't stand.
 pub fn equations_hold_with_attr()
-    ensures { (p : Problem) (at : List Mark) (attr : ℕ) (target : Fraction) → HoldWithAttr p at attr target }
+    ensures { EquationsHoldWithAttr }
 {}
 
 /// The new attribute is its stay's target and deviation.
 pub fn attr_is_own_deviation()
-    ensures { (p : Problem) (at : List Mark) (attr : ℕ) (target : Fraction) → IsWhole p → IsNumber attr
-        → (HasStay p.stays attr → ⊥) → 0 < target.den → IsCorner p at → IsOwnDeviation p at attr target }
+    ensures { AttrIsOwnDeviation }
 {}
 
 /// Where the stays move to the values at a corner, it stays one.
 pub fn stood_is_corner()
-    ensures { (p : Problem) (at : List Mark) (stays : List Stay) → IsWhole p → IsCorner p at
-        → HaveStood p at stays → IsCorner (with_stays stays p) at }
+    ensures { StoodIsCorner }
 {}
 
 /// Each outside mark can still grow alone.
 pub fn stood_has_rays()
-    ensures { (p : Problem) (at : List Mark) (stays : List Stay) → IsWhole p → IsCorner p at
-        → HaveStood p at stays → HasRays p at → HasRays (with_stays stays p) at }
+    ensures { StoodHasRays }
 {}
 
 /// The attributes' equations stay as they are.
 pub fn stood_keeps_attrs()
-    ensures { (p : Problem) (at : List Mark) (stays : List Stay) (attr : ℕ) → IsWhole p → IsCorner p at
-        → HaveStood p at stays → StaysAsWritten p at stays (λ x. x (attr_column attr)) }
+    ensures { StoodKeepsAttrs }
 {}
 
 /// So do those of rows' deviations.
 pub fn stood_keeps_rows()
-    ensures { (p : Problem) (at : List Mark) (stays : List Stay) (id : ℕ) → IsWhole p → IsCorner p at
-        → HaveStood p at stays → StaysAsWritten p at stays (deviation (Held id)) }
+    ensures { StoodKeepsRows }
 {}
 
 /// Those of the stays' deviations keep their numbers, and their values come to 0.
 pub fn stood_clears_stays()
-    ensures { (p : Problem) (at : List Mark) (stays : List Stay) (attr : ℕ) → IsWhole p → IsCorner p at
-        → HaveStood p at stays → HasStay p.stays attr → ComesToZero p at stays attr }
+    ensures { StoodClearsStays }
 {}
 
 /// Before a row joins, a path begins at the corner's own marks.
 pub fn path_begins_with_none()
-    ensures { (p : Problem) (at : List Mark) → IsCorner p at → BeginsWith p at [] [] at }
+    ensures { PathBeginsWithNone }
 {}
 
 /// Where rows have joined one by one, each with its mark that is not negative, a path begins.
 pub fn path_begins_with_more()
-    ensures { (p : Problem) (kept at : List Mark) (joined : List Row) (r : Row) → IsWhole (with_row r p)
-        → IsCorner p at → BeginsWith p kept joined [] at → BeginsWithMore p kept at joined r }
+    ensures { PathBeginsWithMore }
 {}

@@ -1,23 +1,31 @@
 // The laws of levels' rows, each the contract of a function that does nothing.
-ghost use Rattle.corner_lines.specs.LevelRows.{DividedRowIsRow, EquationIsPivot, ExchangedRowIsMultiple};
-ghost use Rattle.corner_lines.specs.LevelRows.{ExchangedRowIsRow, PivotIsSolved, TurnedRowIsMultiple};
-ghost use Rattle.corner_lines.specs.LevelRows.{TurnedRowIsRow, UntouchedRowStays};
-ghost use Rattle.corner_lines.specs.LevelJoins.{AllRowsHaveJoined, EmptyLevelHasRow, FreeRowChangesNothing};
-ghost use Rattle.corner_lines.specs.LevelJoins.{GrownRowIsRow, JoinedRowIsMultiple, JoinedRowIsRow};
-ghost use Rattle.corner_lines.specs.LevelJoins.{JoinedUnitIsUnit, JoiningRowsAreFree, LeftRowIsMultiple};
-ghost use Rattle.corner_lines.specs.LevelJoins.{LeftRowIsRow, OneRowMoreJoins, ShrunkRowIsRow};
-ghost use Rattle.corner_lines.specs.LevelCosts.{ExchangedCostIsCost, FirstRowsAreSound, JoinedCostIsCost};
-ghost use Rattle.corner_lines.specs.LevelCosts.{JoiningRowsCostNothing, LeftCostIsCost, OrderIsFree};
-ghost use Rattle.corner_lines.specs.LevelCosts.{TurnedCostIsCost, UnfitExchangedCost, UnfitJoinedCost};
-ghost use Rattle.corner_lines.specs.LevelCosts.{UnfitTurnedCost, WholeIsSound};
-ghost use Rattle.corner_lines.specs.LevelFits.{EnteringNumberFits, FittingRowHasWriting, LeavingNumberFits};
-ghost use Rattle.corner_lines.specs.LevelFits.{SmallRowFits, TurningNumberFits, UnfitMultipleHasNoWriting};
-ghost use Rattle.corner_lines.specs.LevelFits.{UnfitRowHasNoWriting};
-ghost use Rattle.corner_lines.specs.StayLevels.{InsideStayCosts, InsideStayFits, InsideStayHasRow};
-ghost use Rattle.corner_lines.specs.StayLevels.{InsideStayIsUnfit, OutsideStayCostsOne, OutsideStayFits};
-ghost use Rattle.corner_lines.specs.StayLevels.{OutsideStayHasRow, OutsideStayLevelFits, StayLevelFits};
-ghost use Rattle.corner_lines.specs.StayLevels.{StayLevelIsUnfit, StayStandsAlone};
-ghost use Rattle.corner_lines.specs.LevelExamples.{SingleIsUnfit, SumIsUnfit};
+ghost use Rattle.corner_lines.specs.Levels.LevelRows.{DividedRowIsRow, EquationIsPivot};
+ghost use Rattle.corner_lines.specs.Levels.LevelRows.{ExchangedRowIsMultiple};
+ghost use Rattle.corner_lines.specs.Levels.LevelRows.{ExchangedRowIsRow, PivotIsSolved, TurnedRowIsMultiple};
+ghost use Rattle.corner_lines.specs.Levels.LevelRows.{TurnedRowIsRow, UntouchedRowStays};
+ghost use Rattle.corner_lines.specs.Levels.LevelJoins.{AllRowsHaveJoined, EmptyLevelHasRow};
+ghost use Rattle.corner_lines.specs.Levels.LevelJoins.{FreeRowChangesNothing};
+ghost use Rattle.corner_lines.specs.Levels.LevelJoins.{GrownRowIsRow, JoinedRowIsMultiple, JoinedRowIsRow};
+ghost use Rattle.corner_lines.specs.Levels.LevelJoins.{JoinedUnitIsUnit, JoiningRowsAreFree};
+ghost use Rattle.corner_lines.specs.Levels.LevelJoins.{LeftRowIsMultiple};
+ghost use Rattle.corner_lines.specs.Levels.LevelJoins.{LeftRowIsRow, OneRowMoreJoins, ShrunkRowIsRow};
+ghost use Rattle.corner_lines.specs.Levels.LevelCosts.{ExchangedCostIsCost, FirstRowsAreSound};
+ghost use Rattle.corner_lines.specs.Levels.LevelCosts.{JoinedCostIsCost};
+ghost use Rattle.corner_lines.specs.Levels.LevelCosts.{JoiningRowsCostNothing, LeftCostIsCost, OrderIsFree};
+ghost use Rattle.corner_lines.specs.Levels.LevelCosts.{TurnedCostIsCost, UnfitExchangedCost, UnfitJoinedCost};
+ghost use Rattle.corner_lines.specs.Levels.LevelCosts.{UnfitTurnedCost, WholeIsSound};
+ghost use Rattle.corner_lines.specs.Levels.LevelFits.{EnteringNumberFits, FittingRowHasWriting};
+ghost use Rattle.corner_lines.specs.Levels.LevelFits.{LeavingNumberFits};
+ghost use Rattle.corner_lines.specs.Levels.LevelFits.{SmallRowFits, TurningNumberFits};
+ghost use Rattle.corner_lines.specs.Levels.LevelFits.{UnfitMultipleHasNoWriting};
+ghost use Rattle.corner_lines.specs.Levels.LevelFits.{UnfitRowHasNoWriting};
+ghost use Rattle.corner_lines.specs.Levels.StayLevels.{InsideStayCosts, InsideStayFits, InsideStayHasRow};
+ghost use Rattle.corner_lines.specs.Levels.StayLevels.{InsideStayIsUnfit, OutsideStayCostsOne};
+ghost use Rattle.corner_lines.specs.Levels.StayLevels.{OutsideStayFits};
+ghost use Rattle.corner_lines.specs.Levels.StayLevels.{OutsideStayHasRow, OutsideStayLevelFits};
+ghost use Rattle.corner_lines.specs.Levels.StayLevels.{StayLevelFits};
+ghost use Rattle.corner_lines.specs.Levels.StayLevels.{StayLevelIsUnfit, StayStandsAlone};
+ghost use Rattle.corner_lines.specs.Levels.LevelExamples.{SingleIsUnfit, SumIsUnfit};
 
 // ---- a row and its lowest terms
 

@@ -16,14 +16,17 @@
 //! laws say what the row becomes at an exchange, a turn, a join and a departure, what the level then costs,
 //! when it fits, and that the sign of a column is that of its first number that isn't 0, its front.
 //!
-//! Linear programming's words: such a row is one of the tableau, in which the slack and the surplus of a
-//! constraint, whose columns are opposite, share one. The row of a level is an objective row, from which the
-//! reduced costs of its marks follow.
+//! What a line equation keeps: `own` is above 0, only outside lines have a number that isn't 0, and 1 alone
+//! divides `own` and all the numbers.
+//!
+//! Linear programming's words: the marks inside a corner are its basis, and an exchange is a pivot. A line
+//! equation is a row of the tableau, in which the slack and the surplus of a constraint, whose columns are
+//! opposite, share one. The row of a level is an objective row, from which the reduced costs of its marks
+//! follow.
 //!
 //! In reading order: `equations` (writings, lowest terms, what does not fit, exchanges and what moves),
 //! `joins` (a row or an attribute joins, stays move), `removals` (they are taken out), `shifts` (a constant
-//! changes), `levels`, `fronts`.
-
+//! changes), `levels` (the rows of levels), `fronts` (the signs of columns).
 #![tactic(auto)]
 
 mod equations;

@@ -10,7 +10,8 @@ use Rattle.problem_core.specs.Layout.{Problem, common, cost, lines}
 use Rattle.cert_checker.specs.Certifying.{EachGiven}
 use Rattle.certificates.specs.Errors.{IsLevelCost}
 use Rattle.diagnosis.specs.Costs.{AreCosts}
-use Rattle.diagnosis.proofs.UnmetRows.{front-all, product-zero}
+use Rattle.diagnosis.proofs.UnmetRows.{front-all}
+use Rattle.frac_core.proofs.Numbers.{factor-zero as product-zero}
 
 pub costs_none : (p : Problem) (values : List (ℕ × Fraction)) → AreCosts p values 1000 []
 costs_none p values = record {

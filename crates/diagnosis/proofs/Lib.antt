@@ -2,15 +2,8 @@ pub mod Mixes
 pub mod Loosely
 pub mod Positions
 pub mod Nearest
-pub mod ProbeCosts
-pub mod ProbeWhole
-pub mod Probed
-pub mod ProbeStops
-pub mod ProbeRooms
+pub mod Probes
 pub mod UnmetRows
 pub mod MovingAttributes
 pub mod CostLists
-pub mod AmbiguityExamples
-pub mod UnmetExamples
-pub mod CostExamples
-pub mod ProbeExamples
+pub mod Examples

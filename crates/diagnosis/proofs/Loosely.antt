@@ -2,7 +2,7 @@
 use Rattle.std.proofs.Common.{◌≡◌, inl, inr, ℕ, zero, suc, ◌+◌, ◌*◌, ◌<◌, ◌≤◌, get_or, sym, ap, subst, arith, mul-le-mul_right}
 use Rattle.std.proofs.lemmas.Bool.{cases_eq, cases_order}
 use Rattle.problem_core.specs.Layout.{Assignment, IsBest, Problem, Satisfies, cost, error, line_of_row, lines}
-use Rattle.problem_core.proofs.Midpoints.{cancel}
+use Rattle.problem_core.proofs.Best.Midpoints.{cancel}
 use Rattle.diagnosis.specs.Ambiguity.{IsLooselyBest}
 use Rattle.diagnosis.proofs.Mixes.{cost_mix, line_error_mix, mix}
 

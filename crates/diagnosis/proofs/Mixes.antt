@@ -4,7 +4,7 @@ use borrow.Author.Differences.{ints}
 use Rattle.problem_core.specs.declared.parts.Term.{Term}
 use Rattle.problem_core.specs.Layout.{Assignment, Line, cost, error, error_of, gap, share, value_at}
 use Rattle.frac_core.proofs.Integers.{add-mul_right, diff-add, diff-mul, diff-neg, diff-pos, diff_eq, mul-add_left, neg-pos, on_1, on_3}
-use Rattle.problem_core.proofs.Midpoints.{count-mid, weighted-mid, error-mid}
+use Rattle.problem_core.proofs.Best.Midpoints.{count-mid, weighted-mid, error-mid}
 
 ruleset ring = (diff-add, diff-mul, diff-neg, diff-pos, neg-pos)
 

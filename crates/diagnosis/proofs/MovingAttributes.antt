@@ -14,7 +14,8 @@ use Rattle.diagnosis.specs.declared.probing.Answer.{Answer}
 use Rattle.diagnosis.specs.declared.probing.Answer.TheVariants.{Fixed, Moves}
 use Rattle.diagnosis.specs.Ambiguity.{IsAmbiguous}
 use Rattle.diagnosis.specs.Probes.{AreMoving, CanProbe, CanProbeAll, IsAnswer, listed}
-use Rattle.diagnosis.proofs.UnmetRows.{any-front, any-last, front-all}
+use Rattle.diagnosis.proofs.UnmetRows.{any-last, front-all}
+use Rattle.frac_core.proofs.Lists.{any-front}
 
 -- ---- the stays rise, as the values do
 

@@ -10,6 +10,7 @@ use Rattle.diagnosis.specs.Ambiguity.{GoesAbove, GoesBelow, IsAbove, IsAmbiguous
 use Rattle.diagnosis.proofs.Mixes.{mix, mix_reaches}
 use Rattle.diagnosis.proofs.Loosely.{mix_loosely}
 use Rattle.diagnosis.proofs.Positions.{IsLast, IsNext, above_place, below_place, down_to_last, last_from, next_from, place, reached_high, reached_low, up_to_next}
+use Rattle.frac_core.proofs.Numbers.{low-not-zero as no-zero-low, up-not-zero as no-zero-high, as-natural as natural-high, low-or-up, up-or-low, swap-last as turn-last}
 
 -- no loosely best assignment is nearer to t
 pub record IsNearest (p : Problem) (attr : ℕ) (t : Fraction) (x : Assignment) : Type 0 where
@@ -48,24 +49,11 @@ zero-nearer P Q d e none some above =
     product-up zero n h k = absurd (omega (arith, h))
     product-up (suc m) zero h k = absurd (omega (arith, k))
 
-up-or-low : (z : ℤ) → (pos 0 <ℤ z) ⊎ (z ≤ℤ pos 0)
-up-or-low (pos zero) = inr (omega (arith, ints))
-up-or-low (pos (suc n)) = inl (omega (arith, ints))
-up-or-low (negsuc n) = inr (omega (arith, ints))
-
-low-or-up : (z : ℤ) → (z <ℤ pos 0) ⊎ (pos 0 ≤ℤ z)
-low-or-up (pos n) = inr (omega (arith, ints))
-low-or-up (negsuc n) = inl (omega (arith, ints))
-
 -- ---- between two on both sides
 
 natural-low : (z : ℤ) → z <ℤ pos 0 → (a : ℕ) × (0 < a) × (z ≡ neg_ℤ (pos a))
 natural-low (pos n) h = absurd (omega (arith, ints, h))
 natural-low (negsuc n) h = (suc n, omega arith, refl)
-
-natural-high : (z : ℤ) → pos 0 <ℤ z → (b : ℕ) × (0 < b) × (z ≡ pos b)
-natural-high (pos n) h = (n, omega (arith, ints, h), refl)
-natural-high (negsuc n) h = absurd h.lt
 
 some-parts : (a b D E : ℕ) → 0 < b → 0 < D → 0 < b * D + a * E
 some-parts a (suc b) (suc D) E h k = omega arith
@@ -83,12 +71,6 @@ crossing p attr t x y best also low high =
     (mix (b.0 * x.den) (a.0 * y.den) some x y, mix_loosely p (b.0 * x.den) (a.0 * y.den) some x y best also, omega (arith, ints, reached))
 
 -- ---- the nearest one
-
-no-zero-low : (z : ℤ) → z <ℤ pos 0 → z ≢ pos 0
-no-zero-low z h e = absurd (omega (arith, ints, h, e))
-
-no-zero-high : (z : ℤ) → pos 0 <ℤ z → z ≢ pos 0
-no-zero-high z h e = absurd (omega (arith, ints, h, e))
 
 module _ (p : Problem) (attr : ℕ) (t : Fraction) (x : Assignment) (near : IsNearest p attr t x) where
   -- up: where some loosely best one is below t
@@ -110,9 +92,6 @@ module _ (p : Problem) (attr : ℕ) (t : Fraction) (x : Assignment) (near : IsNe
   none-lower y best high h = near.none y best (high-sizes (place attr t x) (place attr t y) x.den y.den high h)
 
 -- ---- against the present value
-
-turn-last : (a b c : ℤ) → (a *ℤ b) *ℤ c ≡ (a *ℤ c) *ℤ b
-turn-last a b c = mul_assoc_ℤ a b c ∙ ap (λ (z : ℤ). a *ℤ z) (*ℤ_comm b c) ∙ sym (mul_assoc_ℤ a c b)
 
 -- x reaches v, or is above it, or below
 against : (x : Assignment) (attr : ℕ) (v : Fraction) → Reaches x attr v ⊎ (IsAbove x attr v ⊎ IsBelow x attr v)

@@ -1,12 +1,11 @@
 -- Where an assignment stands to a value.
-use Rattle.std.proofs.Common.{◌≡◌, ◌∙◌, ℕ, zero, suc, ◌*◌, ◌<◌, ℤ, pos, negsuc, ◌+ℤ◌, ◌-ℤ◌, ◌*ℤ◌, ◌<ℤ◌, refl, sym, ap, ap₂, subst, arith}
+use Rattle.std.proofs.Common.{◌≡◌, ◌∙◌, ℕ, zero, suc, ◌*◌, ◌<◌, ℤ, pos, negsuc, ◌+ℤ◌, ◌-ℤ◌, ◌*ℤ◌, ◌<ℤ◌, refl, sym, ap, subst, arith}
 use borrow.Author.Differences.{ints}
-use lib.IntN.{*ℤ_comm}
 use Rattle.frac_core.proofs.Integers.{add-mul_right, diff-add, diff-mul, diff-neg, diff-pos, diff_eq, mul-sub_left, mul-zero_ℤ, mul_positive, neg-pos, on_2, positive_from}
 use Rattle.frac_core.specs.Fraction.{Fraction}
 use Rattle.problem_core.specs.Layout.{Assignment}
 use Rattle.diagnosis.specs.Ambiguity.{IsAbove, IsBelow, IsDownToLast, IsUpToNext, Reaches}
-use Rattle.certificates.proofs.SameValues.{product-up}
+use Rattle.frac_core.proofs.Numbers.{sub-mul_right as sub-right, product-above as product-up}
 
 ruleset ring = (diff-add, diff-mul, diff-neg, diff-pos, neg-pos)
 
@@ -106,9 +105,6 @@ reached_low attr v t x up some next e =
     (let split : (v.num +ℤ pos v.den) *ℤ pos x.den ≡ v.num *ℤ pos x.den +ℤ pos v.den *ℤ pos x.den = add-mul_right v.num (pos v.den) (pos x.den) in
     let more : 0 < v.den * x.den = product-up v.den x.den up x.positive in
     omega (arith, ints, e, split, more))
-
-sub-right : (a b c : ℤ) → (a -ℤ b) *ℤ c ≡ a *ℤ c -ℤ b *ℤ c
-sub-right a b c = *ℤ_comm (a -ℤ b) c ∙ mul-sub_left c a b ∙ ap₂ (λ (x y : ℤ). x -ℤ y) (*ℤ_comm c a) (*ℤ_comm c b)
 
 pub reached_high : (attr : ℕ) (v t : Fraction) (x : Assignment) → 0 < v.den → 0 < t.den → IsLast v t → Reaches x attr v → pos 0 <ℤ place attr t x
 reached_high attr v t x up some last e =

@@ -1,5 +1,5 @@
 -- The rows that do not hold, one more at a time.
-use Rattle.std.proofs.Common.{◌≡◌, ◌≢◌, ◌∙◌, ℕ, zero, suc, ◌+◌, ◌*◌, ◌<◌, ◌≤◌, List, [], ◌∷◌, ◌++◌, length, take, get_or, ℤ, pos, ◌*ℤ◌, inl, inr, refl, sym, ap, subst, arith, All, AllPairs, Any}
+use Rattle.std.proofs.Common.{◌≡◌, ◌≢◌, ◌∙◌, ℕ, suc, ◌+◌, ◌*◌, ◌<◌, ◌≤◌, List, [], ◌∷◌, ◌++◌, length, take, get_or, ℤ, pos, ◌*ℤ◌, inl, inr, refl, sym, ap, subst, arith, All, AllPairs, Any}
 use Rattle.std.specs.List.{AllByRecursion as Each}
 use Rattle.std.proofs.lemmas.Bool.{cases_order}
 use Rattle.std.proofs.lemmas.List.{get_or-take, get_or_default, length-take-le, take_all, take_more}
@@ -8,12 +8,14 @@ use Rattle.std.proofs.lemmas.List.Quantifiers.{all_pairs_push}
 use borrow.Author.Differences.{ints}
 use Rattle.frac_core.specs.Fraction.{Fraction, IsLowest, IsRatio}
 use Rattle.frac_core.proofs.Integers.{zero-mul_ℤ}
-use Rattle.frac_core.proofs.OneFraction.{same_fraction}
 use Rattle.problem_core.specs.Layout.{Problem, Row, error, line_of_row}
 use Rattle.problem_core.specs.Kept.{IsWhole}
 use Rattle.cert_checker.specs.Certifying.{EachGiven}
 use Rattle.certificates.specs.Errors.{IsErrorAt}
 use Rattle.diagnosis.specs.Unmet.{AreUnmet}
+use Rattle.frac_core.proofs.Numbers.{factor-zero as product-zero}
+use Rattle.frac_core.proofs.Lists.{any-front}
+use Rattle.frac_core.proofs.Made.{same_fraction}
 
 pub unmet_none : (values : List (ℕ × Fraction)) → AreUnmet [] values []
 unmet_none values = record {
@@ -26,11 +28,6 @@ unmet_none values = record {
 
 abbrev IsOf : List (ℕ × Fraction) → ℕ × Fraction → Row → Type 0
 IsOf values u r = (r.id ≡ u.0) × (r.rank < 1000) × EachGiven values (λ x. IsErrorAt x (line_of_row r) u.1)
-
-pub any-front : {X : Type 0} (P : X → Type 0) (rows : List X) (r : X) → Any P rows → Any P (rows ++ r ∷ [])
-any-front P [] r (k, x, within, is, h) = absurd (omega (arith, within))
-any-front P (s ∷ rows) r (zero, x, within, is, h) = (0, x, omega arith, is, h)
-any-front P (s ∷ rows) r (suc k, x, within, is, h) = let more = any-front P rows r (k, x, omega (arith, within), is, h) in (suc more.0, more.1, (let less = more.2 in omega (arith, less)), more.3, more.4)
 
 pub any-last : {X : Type 0} (P : X → Type 0) (rows : List X) (r : X) → P r → Any P (rows ++ r ∷ [])
 any-last P [] r h = (0, r, omega arith, refl, h)
@@ -109,10 +106,6 @@ row_rank p r whole (i, q, within, is, e) other =
     omega (arith, low, other)
 
 -- ---- a fraction of 0
-
-pub product-zero : (a b : ℕ) → 0 < b → a * b ≡ 0 → a ≡ 0
-product-zero zero b h e = refl
-product-zero (suc a) b h e = absurd (omega (arith, h, e))
 
 pub no_error : (values : List (ℕ × Fraction)) (r : Row) (f none : Fraction) → EachGiven values (λ x. IsErrorAt x (line_of_row r) f) → f ≡ none → IsLowest none → IsRatio none (pos 0) (pos 1) → EachGiven values (λ x. error x (line_of_row r) ≡ 0)
 no_error values r f none is same low ratio x gives =

@@ -138,10 +138,10 @@ listed attr Fixed = []
 listed attr (Moves f) = (attr, f) ∷ []
 
 -- a probe of this attribute, which is held, stops so; or memory is wanting
-abbrev pub IsStopAt : Layout → ℕ → ℕ × DiagnoseStop → Type 0
-IsStopAt l budget (attr, Unfit up at) = HasStay l.problem.stays attr
+abbrev pub IsStopAt : Layout → ℕ → ℕ → DiagnoseStop → Type 0
+IsStopAt l budget attr (Unfit up at) = HasStay l.problem.stays attr
     × IsDiagnoseStop l attr budget (Unfit up at)
-IsStopAt l budget (attr, Spent up path) = HasStay l.problem.stays attr
+IsStopAt l budget attr (Spent up path) = HasStay l.problem.stays attr
     × IsDiagnoseStop l attr budget (Spent up path)
-IsStopAt l budget (attr, Target up) = HasStay l.problem.stays attr × IsDiagnoseStop l attr budget (Target up)
-IsStopAt l budget (attr, OutOfMemory) = Unit {0}
+IsStopAt l budget attr (Target up) = HasStay l.problem.stays attr × IsDiagnoseStop l attr budget (Target up)
+IsStopAt l budget attr OutOfMemory = Unit {0}

@@ -7,7 +7,7 @@ ghost use Rattle.diagnosis.specs.Probes.{CanProbeAll, IsStopAt};
 use crate::lacking::unmet;
 use crate::moving::all_ambiguous;
 use crate::priorities::costs;
-use crate::probing::DiagnoseStop;
+use crate::probing::Stopped;
 use frac_core::{Frac, Wide};
 use layout_solver::Engine;
 use problem_core::{NUMBER_LIMIT, ROW_LIMIT, Row};
@@ -49,22 +49,14 @@ pub fn can_probe_all(e: &Engine) -> bool
 ///
 /// A stop comes with the number of the attribute whose probe stopped, which is 0 where memory is wanting
 /// before the first probe.
-pub fn diagnose(
-    alloc: Global,
-    e: &mut Engine,
-    budget: u64,
-) -> Result<Diagnosis, (u32, DiagnoseStop)>
+pub fn diagnose(alloc: Global, e: &mut Engine, budget: u64) -> Result<Diagnosis, Stopped>
     requires can { CanProbeAll e.old }
     ensures found { IfOk result (λ d. AreFindings e.old.problem e.old.values (findings_of d)) }
-    ensures stop { IfErr result (IsStopAt e.old budget) }
+    ensures stop { IfErr result (λ s. IsStopAt e.old budget s.attr s.stop) }
     ensures same { e.new ≡ e.old }
 {
-    let Ok(errors) = costs(alloc, e) else {
-        return Err((0, DiagnoseStop::OutOfMemory));
-    };
-    let Ok(unmet) = unmet(alloc, e) else {
-        return Err((0, DiagnoseStop::OutOfMemory));
-    };
+    let errors = costs(alloc, e)?;
+    let unmet = unmet(alloc, e)?;
     let moving = all_ambiguous(alloc, e, budget)?;
     Ok(Diagnosis {
         errors,

@@ -12,6 +12,9 @@
 //! unmet(alloc, &engine)?;                       // row 7 lacks 100 points
 //! ```
 //!
+//! [`diagnose`] finds all of this, a [`Diagnosis`]. Where a probe stops, [`Stopped`] says of which attribute,
+//! and why. What each call keeps is the engine: it is as before, whatever is answered.
+//!
 //! In linear programming's words [`ambiguous`] tells whether alternative optima differ at a variable, and a
 //! probe is one more goal, the weakest, that pushes it.
 //!
@@ -29,4 +32,4 @@ pub use diagnosing::{Diagnosis, can_probe_all, diagnose};
 pub use lacking::unmet;
 pub use moving::all_ambiguous;
 pub use priorities::costs;
-pub use probing::{Answer, DiagnoseStop, ambiguous};
+pub use probing::{Answer, DiagnoseStop, Stopped, ambiguous};

@@ -2,7 +2,7 @@
 ghost use Rattle.std.specs.Prelude.{◌≡◌, ◌<◌, ◌+◌, ◌++◌, length, take, IfOk, IfErr};
 ghost use Rattle.diagnosis.specs.Probes.{AreMoving, CanProbeAll, IsStopAt, listed};
 
-use crate::probing::{Answer, DiagnoseStop, ambiguous};
+use crate::probing::{Answer, DiagnoseStop, Stopped, ambiguous};
 use frac_core::{Frac, OutOfMemory};
 use layout_solver::Engine;
 use std::alloc::Global;
@@ -27,13 +27,13 @@ fn push_moving(
     e: &mut Engine,
     at: usize,
     budget: u64,
-) -> Result<(), (u32, DiagnoseStop)>
+) -> Result<(), Stopped>
     requires can { CanProbeAll e.old }
     requires within { at < length e.old.problem.stays }
     ensures moving { IfOk result (λ _.
         AreMoving e.old.problem e.old.values (take at e.old.problem.stays) out.old.items
         → AreMoving e.old.problem e.old.values (take (at + 1) e.old.problem.stays) out.new.items) }
-    ensures stop { IfErr result (IsStopAt e.old budget) }
+    ensures stop { IfErr result (λ s. IsStopAt e.old budget s.attr s.stop) }
     ensures same { e.new ≡ e.old }
 {
     e.show_layout(); // for the proof: what an engine keeps
@@ -41,9 +41,12 @@ fn push_moving(
     match ambiguous(alloc, e, attr, budget) {
         Ok(answer) => match push_answer(out, attr, answer) {
             Ok(()) => Ok(()),
-            Err(OutOfMemory) => Err((attr, DiagnoseStop::OutOfMemory)),
+            Err(OutOfMemory) => Err(Stopped {
+                attr,
+                stop: DiagnoseStop::OutOfMemory,
+            }),
         },
-        Err(stop) => Err((attr, stop)),
+        Err(stop) => Err(Stopped { attr, stop }),
     }
 }
 
@@ -55,11 +58,11 @@ pub fn all_ambiguous(
     alloc: Global,
     e: &mut Engine,
     budget: u64,
-) -> Result<Vec<(u32, Frac)>, (u32, DiagnoseStop)>
+) -> Result<Vec<(u32, Frac)>, Stopped>
     requires can { CanProbeAll e.old }
     ensures moving { IfOk result
         (λ out. AreMoving e.old.problem e.old.values e.old.problem.stays out.items) }
-    ensures stop { IfErr result (IsStopAt e.old budget) }
+    ensures stop { IfErr result (λ s. IsStopAt e.old budget s.attr s.stop) }
     ensures same { e.new ≡ e.old }
 {
     let mut out = Vec::new(alloc);

@@ -9,7 +9,7 @@ ghost use Rattle.diagnosis.specs.Probes.{CanProbe, IsAnswer, IsBeside, IsDiagnos
 ghost use Rattle.diagnosis.specs.Probes.{NoConflict, next_num, turned};
 
 use cert_core::{Path, RunStop, UnfitPath};
-use frac_core::{Frac, Unfit};
+use frac_core::{Frac, OutOfMemory, Unfit};
 use layout_solver::Engine;
 use problem_core::{Rel, Row, Term};
 use std::alloc::Global;
@@ -39,6 +39,37 @@ pub enum DiagnoseStop {
     /// Memory is wanting.
     #[error("memory is wanting")]
     OutOfMemory,
+}
+
+impl From<OutOfMemory> for DiagnoseStop {
+    ghost use Rattle.diagnosis.specs.declared.probing.DiagnoseStop.TheVariants.{OutOfMemory};
+
+    ghost from_gives = { λ _ stop. stop ≡ OutOfMemory };
+
+    fn from(_: OutOfMemory) -> DiagnoseStop {
+        DiagnoseStop::OutOfMemory
+    }
+}
+
+/// The attribute whose probe stopped, and why. The number is 0 where memory is wanting beside the probes.
+#[derive(Clone, Debug, Drop, Error)]
+#[error("the probe of attribute {attr} stopped: {stop}")]
+pub struct Stopped {
+    pub attr: u32,
+    pub stop: DiagnoseStop,
+}
+
+impl From<OutOfMemory> for Stopped {
+    ghost use Rattle.diagnosis.specs.declared.probing.DiagnoseStop.TheVariants.{OutOfMemory};
+
+    ghost from_gives = { λ _ stopped. stopped ≡ record { attr = 0; stop = OutOfMemory } };
+
+    fn from(_: OutOfMemory) -> Stopped {
+        Stopped {
+            attr: 0,
+            stop: DiagnoseStop::OutOfMemory,
+        }
+    }
 }
 
 // The value a point above, or below.
@@ -98,7 +129,7 @@ fn probe(
         return Err(DiagnoseStop::Target { up });
     };
     let terms = [Term { attr, by: 1 }];
-    let Ok(row) = Row::of(
+    let row = Row::of(
         alloc,
         next_number(e.rows()),
         0,
@@ -107,9 +138,7 @@ fn probe(
         1,
         target,
         &terms,
-    ) else {
-        return Err(DiagnoseStop::OutOfMemory);
-    };
+    )?;
     match e.value_with(&[row], attr, budget) {
         Ok(value) => {
             let _ = value.num(); // for the proof: what a fraction keeps

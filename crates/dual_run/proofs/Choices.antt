@@ -1,5 +1,5 @@
 -- The marks with which the leaving one grows, and the least of their columns over their numbers.
-use Rattle.std.proofs.Common.{◌≡◌, ◌≢◌, ◌∙◌, inl, inr, ℕ, ◌+◌, ◌<◌, ◌≤◌, List, length, slice_get, Some, ℤ, pos, ◌*ℤ◌, ◌-ℤ◌, ◌≤ℤ◌, ◌<ℤ◌, refl, sym, ap, subst, arith}
+use Rattle.std.proofs.Common.{◌≡◌, ◌∙◌, inl, inr, ℕ, ◌+◌, ◌<◌, ◌≤◌, List, length, slice_get, Some, ℤ, pos, ◌*ℤ◌, ◌-ℤ◌, ◌≤ℤ◌, ◌<ℤ◌, refl, sym, ap, subst, arith}
 use borrow.Author.Differences.{ints}
 use Rattle.std.proofs.lemmas.Bool.{cases_eq}
 use Rattle.std.proofs.lemmas.List.Elements.{All-from_recursion}
@@ -12,20 +12,23 @@ use Rattle.problem_core.specs.declared.stops.What.TheVariants.{Mark as MarkOf}
 use Rattle.problem_core.specs.Layout.{Line, Problem, coefficient, lines}
 use Rattle.problem_core.specs.Corners.{IsIn, IsWritingOf, place, place_of}
 use Rattle.corner_laws.specs.Runs.{IsDualSwap, Writes, Writing, other_mark, other_side}
-use Rattle.corner_laws.proofs.Directions.{each-of, ray_number}
-use Rattle.corner_laws.proofs.LowestForms.{column_has_writing}
-use Rattle.corner_laws.proofs.DualRuns.{other_mark_grows, up-some}
+use Rattle.corner_laws.proofs.MarkWritings.Directions.{each-of, ray_number}
+use Rattle.corner_laws.proofs.MarkWritings.LowestForms.{column_has_writing}
+use Rattle.corner_laws.proofs.RunSteps.DualRuns.{other_mark_grows, up-some}
 use Rattle.corner.specs.Views.{CornerView, IsKeptCorner, IsScaleOf, MovesWith}
-use Rattle.corner.specs.Entries.{AreBothOutside, AreEntries, HasEntry}
-use Rattle.corner_ends.proofs.Fronts.{order, reduced_at_all}
+use Rattle.corner.specs.Reads.Entries.{AreBothOutside, AreEntries, HasEntry}
+use Rattle.corner_ends.proofs.Fronts.{reduced_at_all}
 use Rattle.corner_ends.proofs.ReadNumbers.{scale_is}
-use Rattle.corner_ends.proofs.Marks.{got_holds, in_mark, named_mark, one_mark, same_got}
+use Rattle.corner_ends.proofs.Marks.{got_holds, in_mark, one_mark, same_got}
 use Rattle.dual_run.specs.declared.ratios.Choice.{Choice}
 use Rattle.dual_run.specs.Entering.{IsBeforeEntries, IsBeforeLine, IsBeforeMark, IsChoice, IsLesser, IsNoGreater, IsPositive}
 use Rattle.dual_run.specs.Leaving.{MayLeave}
 use Rattle.dual_run.proofs.Lesser.{lesser_self, lesser_through}
-use Rattle.dual_run.proofs.Lows.{mark_named, same_or_other}
+use Rattle.dual_run.proofs.Lows.{same_or_other}
 use Rattle.dual_run.proofs.Orders.{contains_got}
+use Rattle.frac_core.proofs.Numbers.{up-not-zero as up-not}
+use Rattle.frac_core.proofs.Orders.{three as order}
+use Rattle.corner.proofs.Readings.ReadFacts.{named_in as named_mark, mark_named}
 
 -- ---- one writing
 
@@ -67,9 +70,6 @@ before_choice p at leave a b m x e h =
 -- what is no greater than one choice is no greater than what that one is no greater than
 pub before_through : (p : Problem) (at : List Mark) (leave : Mark) (a b : Choice) (m : Mark) → IsChoice p at leave a → IsChoice p at leave b → IsNoGreater p at a b → IsBeforeMark p at leave b m → IsBeforeMark p at leave a m
 before_through p at leave a b m x y h g w writes up r = lesser_through r.costs (place a.mark) (place b.mark) (place m) a.by b.by (coefficient (place m) w.form) x.above y.above up (h r) (g w writes up r)
-
-up-not : (z : ℤ) → pos 0 <ℤ z → z ≢ pos 0
-up-not z up e = omega (arith, ints, up, e)
 
 pub line_through : (p : Problem) (at : List Mark) (leave : Mark) (a b : Choice) (name : RowName) → IsChoice p at leave a → IsChoice p at leave b → IsNoGreater p at a b → IsBeforeLine p at leave b name → IsBeforeLine p at leave a name
 line_through p at leave a b name x y h before side = before_through p at leave a b (record { row = name; side = side }) x y h (before side)

@@ -7,17 +7,18 @@ use Rattle.problem_core.specs.Layout.{Problem, lines}
 use Rattle.problem_core.specs.Certificates.{IsLexNonnegative}
 use Rattle.problem_core.specs.Corners.{NoNegativeColumn, place}
 use Rattle.problem_core.specs.Levels.{IsLevelAt}
-use Rattle.corner_laws.proofs.ColumnSigns.{negative_by_reduced}
+use Rattle.corner_laws.proofs.RunSteps.ColumnSigns.{negative_by_reduced}
 use Rattle.corner.specs.declared.levels.Front.{Front}
 use Rattle.corner.specs.Views.{HasNoFront, IsFrontOf, IsKeptCorner, IsMarkOf, IsStronger}
 use Rattle.corner_ends.specs.Columns.{Reduced}
-use Rattle.corner_ends.proofs.Fronts.{front_below, level_named, level_one, reduced_there, some_line}
+use Rattle.corner_ends.proofs.Fronts.{front_below, level_named, reduced_there, some_line}
 use Rattle.corner_ends.proofs.Signs.{not_both_signs}
 use Rattle.dual_run.specs.declared.ratios.Choice.{Choice}
 use Rattle.dual_run.specs.Entering.{IsNoGreater, IsPositive}
 use Rattle.dual_run.proofs.Lesser.{lex_at, lex_same, lex_times}
 use Rattle.dual_run.proofs.Orders.{both-zero, cost_there}
-use Rattle.corner.proofs.LowLines.{up_or_low}
+use Rattle.corner.proofs.Readings.LowLines.{up_or_low}
+use Rattle.corner_lines.proofs.LevelRows.StayRows.{level_one}
 
 not-none : (z : ℤ) → pos 0 ≤ℤ z → z ≢ pos 0 → pos 0 <ℤ z
 not-none (negsuc n) up some = absurd (omega (arith, ints, up))

@@ -5,7 +5,7 @@ use borrow.Author.Differences.{ints}
 use Rattle.frac_core.proofs.Integers.{diff-add, diff-mul, diff-neg, diff-pos, neg-pos, on_3, diff_eq, mul_not_negative, mul-zero_ℤ, zero_from_mul}
 use Rattle.problem_core.specs.Certificates.{IsLexNonnegative}
 use Rattle.dual_run.specs.Entering.{IsLesser}
-use Rattle.corner_lines.proofs.ColumnsBelow.{low_from}
+use Rattle.frac_core.proofs.Numbers.{minus-self-up as none-left, up-from}
 
 ruleset ring = (diff-add, diff-mul, diff-neg, diff-pos, neg-pos)
 
@@ -34,15 +34,6 @@ zeros a b c f h g up down e first second (suc n) none k less =
       | inr other ↦ before k (omega (arith, less, other))
     ]
 
-times-one : (z : ℤ) → pos 1 *ℤ z ≡ z
-times-one z = omega (arith, ints)
-
-up-from : (b : ℕ) (z : ℤ) → 0 < b → pos 0 ≤ℤ (pos b *ℤ z) → pos 0 ≤ℤ z
-up-from b (pos n) above up = omega (arith, ints)
-up-from b (negsuc n) above up =
-    let low : (pos b *ℤ negsuc n) <ℤ pos 0 = low_from 1 b (negsuc n) (pos b *ℤ negsuc n) above (times-one (pos b *ℤ negsuc n)) (omega (arith, ints)) in
-    absurd (omega (arith, ints, low, up))
-
 lex-sum : (a b c : ℕ) (f h g : ℕ → ℤ) → 0 < a → 0 < b → 0 < c → ((k : ℕ) → pos b *ℤ g k ≡ pos a *ℤ h k +ℤ pos c *ℤ f k) → IsLexNonnegative f → IsLexNonnegative h → IsLexNonnegative g
 lex-sum a b c f h g up middle down e first second n none =
     let before : (j : ℕ) → j < n → (f j ≡ pos 0) × (h j ≡ pos 0) = zeros a b c f h g up down e first second n none in
@@ -58,9 +49,6 @@ lesser_through costs x y z (pos a) (pos b) (pos c) up middle down f h =
 lesser_through costs x y z (negsuc a) b c up middle down f h = absurd (omega (arith, ints, up))
 lesser_through costs x y z (pos a) (negsuc b) c up middle down f h = absurd (omega (arith, ints, middle))
 lesser_through costs x y z (pos a) (pos b) (negsuc c) up middle down f h = absurd (omega (arith, ints, down))
-
-none-left : (a : ℤ) → pos 0 ≤ℤ (a -ℤ a)
-none-left a = omega (arith, ints)
 
 pub lesser_self : (costs : ℕ → ℕ → ℤ) (x : ℕ) (a : ℤ) → IsLesser costs x a x a
 lesser_self costs x a k none = none-left (a *ℤ costs k x)

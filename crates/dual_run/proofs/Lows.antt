@@ -1,12 +1,11 @@
 -- Marks whose values are negative.
-use Rattle.std.proofs.Common.{◌≡◌, ◌∙◌, ◌⊎◌, inl, inr, ℕ, zero, suc, ◌<◌, ◌++◌, List, [], ◌∷◌, ℤ, pos, negsuc, ◌*ℤ◌, ◌≤ℤ◌, ◌<ℤ◌, refl, sym, ap, subst, arith, All, Contains}
+use Rattle.std.proofs.Common.{◌≡◌, ◌∙◌, ◌⊎◌, inl, inr, zero, suc, ◌<◌, ◌++◌, List, [], ◌∷◌, ℤ, pos, negsuc, ◌*ℤ◌, ◌≤ℤ◌, ◌<ℤ◌, refl, sym, subst, arith, All, Contains}
 use Rattle.std.specs.List.{AllByRecursion as Each}
 use Rattle.std.proofs.lemmas.Bool.{cases_Bool}
 use Rattle.std.proofs.lemmas.List.Elements.{recursion_from_All, All-from_recursion}
 use borrow.Author.Differences.{ints}
 use lib.IntN.{*ℤ_comm}
 use Rattle.frac_core.specs.Fraction.{Fraction}
-use Rattle.frac_core.proofs.Integers.{mul_not_negative}
 use Rattle.problem_core.specs.declared.parts.Mark.{Mark}
 use Rattle.problem_core.specs.declared.parts.Side.{Side}
 use Rattle.problem_core.specs.declared.parts.Side.TheVariants.{Under, Over}
@@ -14,34 +13,29 @@ use Rattle.problem_core.specs.declared.parts.RowName.{RowName}
 use Rattle.problem_core.specs.Layout.{Problem, lines}
 use Rattle.problem_core.specs.Corners.{HasNegativeValue, IsIn, NoNegativeValue, Point, StandsAt, marks_of, one_column, place}
 use Rattle.problem_core.specs.Levels.{CostsAbove}
-use Rattle.problem_core.proofs.CornerFacts.{is_place}
+use Rattle.problem_core.proofs.Corners.CornerFacts.{is_place}
 use Rattle.problem_core.proofs.Forms.{each-impl}
 use Rattle.corner_laws.specs.Runs.{other_mark, other_side}
-use Rattle.corner_laws.proofs.ColumnSigns.{mark_line}
 use Rattle.corner_laws.proofs.Counting.{IsIn-from_is_place}
-use Rattle.corner_laws.proofs.DualRuns.{other_mark_grows}
-use Rattle.corner_laws.proofs.LowestForms.{column_has_writing, marks_are_fixed}
+use Rattle.corner_laws.proofs.RunSteps.DualRuns.{other_mark_grows}
+use Rattle.corner_laws.proofs.MarkWritings.LowestForms.{column_has_writing, marks_are_fixed}
 use Rattle.corner_laws.proofs.WrittenValues.{contains_each}
 use Rattle.corner_laws.proofs.ZeroColumns.{not-in}
 use Rattle.corner.specs.Views.{HasValueAt, IsKeptCorner, IsMarkOf, IsNamed}
-use Rattle.corner_ends.proofs.Marks.{in_mark, named_mark, one_mark}
+use Rattle.corner_ends.proofs.Marks.{in_mark}
 use Rattle.dual_run.specs.Leaving.{AreLowLines, HasNoLow, IsLow, MayLeave}
-use Rattle.corner.proofs.LowLines.{up_or_low}
-use Rattle.corner_ends.proofs.MarkOrders.{in_list}
+use Rattle.corner.proofs.Readings.LowLines.{up_or_low}
 use Rattle.corner_lines.proofs.ColumnsBelow.{low_from}
+use Rattle.frac_core.proofs.Numbers.{one-times as times-one, up-times}
+use Rattle.frac_core.proofs.Products.{above_zero as den-up}
+use Rattle.corner.proofs.Readings.ReadFacts.{mark_named, named_in as named_mark}
+use Rattle.problem_core.proofs.Marks.{in-list as in_list}
 
 -- ---- signs
-
-times-one : (z : ℤ) → pos 1 *ℤ z ≡ z
-times-one z = omega (arith, ints)
 
 down-times : (a o : ℤ) → a <ℤ pos 0 → pos 0 <ℤ o → (a *ℤ o) <ℤ pos 0
 down-times a (negsuc n) low up = absurd (omega (arith, ints, up))
 down-times a (pos n) low up = low_from 1 n a (a *ℤ pos n) (omega (arith, ints, up)) (times-one (a *ℤ pos n) ∙ *ℤ_comm a (pos n)) low
-
-up-times : (a o : ℤ) → pos 0 ≤ℤ a → pos 0 <ℤ o → pos 0 ≤ℤ (a *ℤ o)
-up-times a (negsuc n) up over = absurd (omega (arith, ints, over))
-up-times a (pos n) up over = subst (λ (z : ℤ). pos 0 ≤ℤ z) (*ℤ_comm (pos n) a) (mul_not_negative n a up)
 
 -- where a*x = b*y, and x and y are above 0
 pub same_sign : (a b x y : ℤ) → pos 0 <ℤ x → pos 0 <ℤ y → a *ℤ x ≡ b *ℤ y → a <ℤ pos 0 → b <ℤ pos 0
@@ -66,9 +60,6 @@ inside-low p at m x mark here low =
           let none : x.num (place m) ≡ pos 0 = contains_each (λ c. (IsIn c at → ⊥) → x.num c ≡ pos 0) (marks_of (lines p)) (place m) (recursion_from_All (λ n. (IsIn (place n) at → ⊥) → x.num (place n) ≡ pos 0) (marks_of (lines p)) here.1) mark (not-in at (place m) o) in
           absurd (omega (arith, ints, none, low))
     ]
-
-pub den-up : (d : ℕ) → 0 < d → pos 0 <ℤ pos d
-den-up d h = omega (arith, ints, h)
 
 pub low_value : (p : Problem) (at : List Mark) (m : Mark) (f : Fraction) → IsMarkOf p m → 0 < f.den → HasValueAt p at (place m) f → f.num <ℤ pos 0 → IsLow p at m
 low_value p at m f mark den (x, here, e) low =
@@ -116,12 +107,6 @@ pub outside_not_low : (p : Problem) (at : List Mark) (m : Mark) → IsMarkOf p m
 outside_not_low p at m mark out (x, stands, low) = out (inside-low p at m x mark stands low)
 
 -- ---- the listed lines
-
-pub mark_named : (p : Problem) (m : Mark) → IsMarkOf p m → IsNamed p m.row
-mark_named p m mark =
-    let found = mark_line (lines p) (place m) mark in
-    let same : record { row = found.2.name; side = found.0 } ≡ m = sym (one_mark m (record { row = found.2.name; side = found.0 }) found.5) in
-    (found.1, found.2, found.3, found.4, ap (λ (n : Mark). n.row) same)
 
 -- a line has one inside mark at most
 pub other_not_low : (p : Problem) (at : List Mark) (m : Mark) → IsKeptCorner p at → IsIn (place m) at → HasNegativeValue p at (other_mark m) → ⊥

@@ -1,5 +1,5 @@
 -- Marks that keep the sign of their value where others move.
-use Rattle.std.proofs.Common.{cond, ne_eqb, ◌≡◌, ◌≢◌, ◌∙◌, ◌⊎◌, inl, inr, ℕ, zero, suc, ◌<◌, List, [], ◌∷◌, map, ℤ, pos, negsuc, ◌*ℤ◌, ◌<ℤ◌, refl, sym, ap, subst, arith, All, Contains}
+use Rattle.std.proofs.Common.{◌≡◌, ◌≢◌, ◌∙◌, ◌⊎◌, inl, inr, ℕ, zero, suc, List, [], ◌∷◌, map, ℤ, pos, negsuc, ◌*ℤ◌, ◌<ℤ◌, refl, sym, ap, subst, arith, All, Contains}
 use Rattle.std.proofs.lemmas.Bool.{cases_eq}
 use Rattle.std.proofs.lemmas.List.Elements.{recursion_from_All, All-from_recursion}
 use borrow.Author.Differences.{ints}
@@ -17,20 +17,23 @@ use Rattle.problem_core.specs.Corners.{HasNegativeValue, IsIn, Point, SameMarks,
 use Rattle.problem_core.proofs.Forms.{each-impl}
 use Rattle.corner_laws.specs.Runs.{Writes, Writing, other_mark, other_side}
 use Rattle.corner_laws.proofs.Exchanged.{exchanged_in}
-use Rattle.corner_laws.proofs.LowestForms.{column_has_writing}
-use Rattle.corner_laws.proofs.RunPaths.{contains_in}
+use Rattle.corner_laws.proofs.MarkWritings.LowestForms.{column_has_writing}
+use Rattle.corner_laws.proofs.RunSteps.RunPaths.{contains_in}
 use Rattle.corner_laws.proofs.WrittenValues.{value_there}
 use Rattle.corner_lines.specs.Shifts.{IsShift, with_constant}
-use Rattle.corner_lines.proofs.Shifted.{raised, raised-other, same-marks, shift-small, shift_direction, unshift-solves}
-use Rattle.corner.proofs.MoverFacts.{moves_where}
+use Rattle.corner_lines.proofs.ProblemChanges.Shifted.{raised, raised-other, same-marks, shift-small, shift_direction, unshift-solves}
+use Rattle.corner.proofs.Readings.MoverFacts.{moves_where}
 use Rattle.corner.specs.Views.{IsKeptCorner, IsNamed, IsOutside, MovesWith}
-use Rattle.corner.specs.Lows.{IsListedIfLow, ListsLow}
-use Rattle.corner_ends.proofs.Marks.{in_mark, named_mark, one_mark}
+use Rattle.corner.specs.Reads.Lows.{IsListedIfLow, ListsLow}
+use Rattle.corner_ends.proofs.Marks.{in_mark, one_mark}
 use Rattle.dual_run.specs.Leaving.{AreLowLines, IsLow, ListsSwapped}
-use Rattle.dual_run.proofs.Lows.{mark_named, no_low_value, same_or_other, same_sign, den-up}
+use Rattle.dual_run.proofs.Lows.{no_low_value, same_or_other, same_sign}
 use Rattle.dual_run.proofs.Turns.{opposite_numbers}
-use Rattle.corner_lines.proofs.Dropped.{later-in}
-use Rattle.corner_lines.proofs.ColumnsBelow.{low_from}
+use Rattle.frac_core.proofs.Numbers.{low-times}
+use Rattle.problem_core.proofs.Marks.{kept-in as in_exchanged, later-in}
+use Rattle.corner.proofs.Shifts.ShiftLines.{shift_named as named_shifted}
+use Rattle.frac_core.proofs.Products.{above_zero as den-up}
+use Rattle.corner.proofs.Readings.ReadFacts.{named_in as named_mark, mark_named}
 
 -- ---- one mark
 
@@ -90,11 +93,6 @@ after_apart p at new s w c writes same none v some =
         | inr old ↦ out.1 old.0
       ],
     )
-
-in_exchanged : (s : Swap) (at : List Mark) (c : ℕ) → IsIn c at → c ≢ place s.leave → IsIn c (exchanged s at)
-in_exchanged s [] c (k, within, is) ne = absurd (omega (arith, within))
-in_exchanged s (m ∷ ms) c (zero, within, is) ne = (0, omega arith, ap (λ b. place (cond b s.enter m)) (ne_eqb (place m) (place s.leave) (λ e. ne (sym is ∙ e))) ∙ is)
-in_exchanged s (m ∷ ms) c (suc k, within, is) ne = let r = in_exchanged s ms c (k, omega (arith, within), is) ne in (suc r.0, (let less = r.1 in omega (arith, less)), r.2)
 
 -- the form of an inside mark after it has none that was inside before
 before_apart : (p : Problem) (at new : List Mark) (s : Swap) (w : Writing) (c : ℕ) → Writes p new c w → SameMarks new (exchanged s at) → coefficient (place s.leave) w.form ≡ pos 0 → IsApart p at w
@@ -213,12 +211,6 @@ record IsUnshifted (p : Problem) (at : List Mark) (id : ℕ) (y : Point) : Type 
   pub stands : StandsAt p (record { row = Held id; side = Over } ∷ at) point
   pub low : (v : ℕ) → v ≢ place_of (Held id) Over → y.num v <ℤ pos 0 → point.num v <ℤ pos 0
 
-times-one : (z : ℤ) → pos 1 *ℤ z ≡ z
-times-one z = omega (arith, ints)
-
-low-times : (d : ℕ) (z : ℤ) → 0 < d → z <ℤ pos 0 → (pos d *ℤ z) <ℤ pos 0
-low-times d z above low = low_from 1 d z (pos d *ℤ z) above (times-one (pos d *ℤ z)) low
-
 unshifted : (p : Problem) (at : List Mark) (id : ℕ) (from to more : Fraction) (y : Point) → IsKeptCorner p at → IsShift p id from to more → StandsAt (with_constant id to p) at y → IsUnshifted p at id y
 unshifted p at id from to more y kept s stands =
     let small = shift-small p id from to more kept.whole s in
@@ -257,11 +249,6 @@ over_apart p at id w c writes none v some =
     first-or : IsIn v (record { row = Held id; side = Over } ∷ at) → (place_of (Held id) Over ≡ v) ⊎ IsIn v at
     first-or (zero, within, is) = inl is
     first-or (suc k, within, is) = inr (k, omega (arith, within), is)
-
-pub named_shifted : (p : Problem) (id : ℕ) (to : Fraction) (name : RowName) → IsNamed p name → IsNamed (with_constant id to p) name
-named_shifted p id to name named =
-    mark_named (with_constant id to p) (record { row = name; side = Over })
-    (subst (λ (ms : List Mark). Contains (map place ms) (place_of name Over)) (sym (same-marks id to p)) (named_mark p name Over named))
 
 -- what moves with a mark does so whatever the constant
 moves_shifted : (p : Problem) (at : List Mark) (id : ℕ) (from to more : Fraction) (m n : Mark) → IsShift p id from to more → MovesWith p at m (MarkOf n) → MovesWith (with_constant id to p) at m (MarkOf n)

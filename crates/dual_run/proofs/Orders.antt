@@ -11,11 +11,13 @@ use Rattle.problem_core.specs.Kept.{IsWhole}
 use Rattle.problem_core.specs.Levels.{IsLevelAt}
 use Rattle.corner.specs.Views.{IsInUse, IsKeptCorner, IsMarkOf, IsReducedAt, IsStronger}
 use Rattle.corner_ends.specs.Columns.{Reduced}
-use Rattle.corner_ends.proofs.Fronts.{level_named, level_one, order, reduced_there, some_line, used_line}
+use Rattle.corner_ends.proofs.Fronts.{level_named, reduced_there, some_line, used_line}
 use Rattle.corner_ends.proofs.Marks.{got_holds, same_got}
 use Rattle.dual_run.specs.declared.ratios.Choice.{Choice}
 use Rattle.dual_run.specs.Entering.{AreLevels, IsNoGreater}
 use Rattle.dual_run.proofs.Lesser.{lex_at, lex_none}
+use Rattle.frac_core.proofs.Orders.{three as order}
+use Rattle.corner_lines.proofs.LevelRows.StayRows.{level_one}
 
 -- ---- items of a list
 

@@ -1,5 +1,5 @@
 -- The mark of a line with which the leaving one grows, and what the required rows decide.
-use Rattle.std.proofs.Common.{◌≡◌, ◌≢◌, ◌∙◌, inl, inr, ℕ, ◌<◌, List, slice_get, Some, ℤ, pos, neg_ℤ, ◌*ℤ◌, ◌-ℤ◌, ◌≤ℤ◌, ◌<ℤ◌, refl, sym, ap, subst, arith, All}
+use Rattle.std.proofs.Common.{◌≡◌, ◌≢◌, ◌∙◌, inl, inr, ℕ, List, slice_get, Some, ℤ, pos, neg_ℤ, ◌*ℤ◌, ◌-ℤ◌, ◌≤ℤ◌, ◌<ℤ◌, refl, sym, ap, subst, arith, All}
 use Rattle.std.proofs.lemmas.List.Elements.{recursion_from_All}
 use Rattle.std.proofs.Math.Nat.{eq-one_of_dvd-one}
 use borrow.Author.Differences.{ints}
@@ -15,21 +15,21 @@ use Rattle.problem_core.specs.Layout.{Line, Problem, coefficient, lines}
 use Rattle.problem_core.specs.Kept.{IsWhole}
 use Rattle.problem_core.specs.Corners.{IsIn, NoNegativeColumn, place, place_of}
 use Rattle.problem_core.specs.Levels.{IsLevelWriting}
-use Rattle.problem_core.proofs.Tableaus.{unit_at}
+use Rattle.problem_core.proofs.Corners.Tableaus.{unit_at}
 use Rattle.corner_laws.specs.Runs.{IsDualSwap, Writes, Writing, other_mark, other_side}
-use Rattle.corner_laws.proofs.ColumnSigns.{mark_line, pick}
-use Rattle.corner_laws.proofs.Counting.{IsSmall, cond_other}
-use Rattle.corner_laws.proofs.Directions.{entries-opposite}
-use Rattle.corner_laws.proofs.DualChoice.{unused-IsLevelSum}
-use Rattle.corner_laws.proofs.Equal.{numbers_are_equal}
-use Rattle.corner_laws.proofs.LowestForms.{column_has_writing}
-use Rattle.corner_lines.proofs.LineWritings.{all-small}
+use Rattle.corner_laws.proofs.RunSteps.ColumnSigns.{mark_line, pick}
+use Rattle.corner_laws.proofs.Counting.{IsSmall}
+use Rattle.corner_laws.proofs.MarkWritings.Directions.{entries-opposite}
+use Rattle.corner_laws.proofs.Swaps.DualChoice.{unused-IsLevelSum}
+use Rattle.corner_laws.proofs.LevelCosts.Equal.{numbers_are_equal}
+use Rattle.corner_laws.proofs.MarkWritings.LowestForms.{column_has_writing}
+use Rattle.corner_lines.proofs.Lines.LineWritings.{all-small}
 use Rattle.corner.specs.Views.{CornerView, IsKeptCorner, IsMarkOf, IsNamed, IsOutside, IsReducedAt, MovesWith}
-use Rattle.corner.specs.Entries.{AreBothOutside, AreEntries, HasEntry}
-use Rattle.corner.specs.Growing.{AreGrowersDear, GrowsWith}
+use Rattle.corner.specs.Reads.Entries.{AreBothOutside, AreEntries, HasEntry}
+use Rattle.corner.specs.Reads.Growing.{AreGrowersDear, GrowsWith}
 use Rattle.corner_ends.specs.Columns.{Reduced}
 use Rattle.corner_ends.proofs.Fronts.{any_there, reduced_there, some_line}
-use Rattle.corner_ends.proofs.Marks.{got_holds, in_mark, named_mark, one_mark}
+use Rattle.corner_ends.proofs.Marks.{got_holds, in_mark, one_mark}
 use Rattle.corner_ends.proofs.ReadNumbers.{coefficient_is}
 use Rattle.dual_run.specs.declared.ratios.Choice.{Choice}
 use Rattle.dual_run.specs.Entering.{AreDear, IsBeforeLine, IsBeforeMark, IsChoice, IsDear, IsDearMark, IsFree, NeverGrows}
@@ -37,7 +37,10 @@ use Rattle.dual_run.specs.Leaving.{MayLeave}
 use Rattle.dual_run.proofs.Choices.{choice_moves, choice_swaps, own_before, own_is_choice}
 use Rattle.dual_run.proofs.FrontOrders.{column-up, up-less}
 use Rattle.dual_run.proofs.Lesser.{lex_at}
-use Rattle.dual_run.proofs.Lows.{mark_named, same_or_other}
+use Rattle.dual_run.proofs.Lows.{same_or_other}
+use Rattle.frac_core.proofs.Numbers.{none-below as nothing-before}
+use Rattle.frac_core.proofs.Bools.{count-other as cond_other}
+use Rattle.corner.proofs.Readings.ReadFacts.{named_in as named_mark, mark_named}
 
 -- ---- the two marks of a line
 
@@ -138,9 +141,6 @@ free_cost p at m z kept mark cost low r = subst (λ (k : ℤ). k ≤ℤ pos 0) (
 
 none-between : (z : ℤ) → pos 0 ≤ℤ z → z ≤ℤ pos 0 → z ≡ pos 0
 none-between z up low = omega (arith, ints, up, low)
-
-nothing-before : (k : ℕ) → k < 0 → ⊥
-nothing-before k less = omega (arith, less)
 
 -- what costs there has the greater column
 free_before : (p : Problem) (at : List Mark) (leave : Mark) (f : Choice) (m : Mark) → IsKeptCorner p at → NoNegativeColumn p at → IsChoice p at leave f → IsFree p at f.mark → IsDearMark p at leave m → IsBeforeMark p at leave f m

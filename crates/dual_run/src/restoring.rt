@@ -54,7 +54,7 @@ fn unlist_all(c: &mut Corner)
 /// `Conflict`: the required rows have no solution, as the multipliers show. `Unfit`: a quantity does not fit
 /// at the path's last corner. `Spent`: the path has as many exchanges as the budget, and its last corner is
 /// no end. After a stop the caller goes back to the corner's newest mark. Only the given lines and those
-/// whose values change on the way are looked at for negative values. The dual simplex method is Lemke's.
+/// whose values change on the way are looked at for negative values.
 pub fn restore(alloc: Global, c: &mut Corner, low: Vec<RowName>, budget: u64) -> Result<(), RunStop>
     requires marked { 0 < length c.old.before }
     requires columns { NoNegativeColumn c.old.problem c.old.marks }

@@ -1,10 +1,8 @@
 // An exchange of a run.
-ghost use Rattle.std.specs.Prelude.{◌≡◌, ◌<◌, ◌+◌, ℕ, List, length, true, IfOk, IfErr};
+ghost use Rattle.std.specs.Prelude.{◌≡◌, ◌<◌, ◌+◌, List, length, true, IfOk, IfErr};
 ghost use Rattle.problem_core.specs.Corners.{NoNegativeColumn};
 ghost use Rattle.problem_core.specs.declared.parts.Mark.{Mark as MarkOfLine};
-ghost use Rattle.cert_core.specs.Stops.{IsStopOf};
-ghost use Rattle.corner_ends.specs.Runs.{FromHere};
-ghost use Rattle.corner_ends.specs.Trails.{IsTrailOf};
+ghost use Rattle.corner_ends.specs.Trails.{IsTrailOf, IsTrailStop, StaysTrail};
 ghost use Rattle.dual_run.specs.Leaving.{AreLowLines, MayLeave};
 
 use crate::entering::entering;
@@ -28,17 +26,12 @@ pub(crate) fn exchange(
     requires columns { NoNegativeColumn c.old.problem c.old.marks }
     requires leave { MayLeave c.old.problem c.old.marks leave }
     requires low { AreLowLines c.old.problem c.old.marks low.old.items }
-    ensures trail { IfOk result (λ _. (first : List MarkOfLine)
-        → IsTrailOf true c.old.problem first trail.old c.old.marks
-        → IsTrailOf true c.new.problem first trail.new c.new.marks) }
+    ensures trail { IfOk result (λ _. StaysTrail true c.old trail.old c.new trail.new) }
     ensures problem { IfOk result (λ _. c.new.problem ≡ c.old.problem) }
     ensures before { c.new.before ≡ c.old.before }
     ensures low { IfOk result (λ _. AreLowLines c.new.problem c.new.marks low.new.items) }
     ensures more { IfOk result (λ _. length trail.new.swaps ≡ length trail.old.swaps + 1) }
-    ensures stop { IfErr result (λ stop. (first : List MarkOfLine)
-        → IsTrailOf true c.old.problem first trail.old c.old.marks
-        → (budget : ℕ) → length trail.old.swaps < budget
-        → IsStopOf true c.old.problem c.old.problem.rows (FromHere first) budget stop) }
+    ensures stop { IfErr result (IsTrailStop true c.old trail.old) }
 {
     c.show_corner(); // for the proof: what a corner keeps
     let enter = entering(c, leave)?;

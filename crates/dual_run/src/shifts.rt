@@ -1,9 +1,10 @@
 // The change of a row's constant, with the lines whose values are negative with it.
 ghost use Rattle.std.specs.Prelude.{◌≡◌, ◌<◌, length, IfOk, IfErr, OnOk, OnErr};
+ghost use Rattle.problem_core.specs.Kept.{IsWhole};
 ghost use Rattle.problem_core.specs.declared.parts.RowName.TheVariants.{Held};
 ghost use Rattle.corner_lines.specs.Shifts.{with_constant};
 ghost use Rattle.corner.specs.Changes.{IsRewound, IsUnfitStop};
-ghost use Rattle.corner.specs.Shifting.{IsNear};
+ghost use Rattle.corner.specs.Shifts.Shifting.{IsNear};
 ghost use Rattle.corner.specs.Views.{IsNamed};
 ghost use Rattle.dual_run.specs.Leaving.{AreLowLines};
 
@@ -16,6 +17,7 @@ pub fn shift(c: &mut Corner, low: &mut Vec<RowName>, id: u32, to: Frac) -> Resul
     requires marked { 0 < length c.old.before }
     requires near { IsNear c.old.problem id to }
     ensures problem { IfOk result (λ _. c.new.problem ≡ with_constant id to c.old.problem) }
+    ensures whole { IfOk result (λ _. IsWhole c.new.problem) }
     ensures marks { IfOk result (λ _. c.new.marks ≡ c.old.marks) }
     ensures before { c.new.before ≡ c.old.before }
     ensures candidates { IfOk result (λ _. c.new.candidates ≡ c.old.candidates) }

@@ -1,6 +1,5 @@
 -- The lines that are still to come, as bytes come and lines go.
 use Rattle.std.proofs.Common.{◌≡◌, ℕ, ◌+◌, ◌-◌, ◌<◌, ◌≤◌, ◌==◌, ◌⊎◌, inl, inr, List, [], ◌∷◌, ◌++◌, length, take, Bool, cond, true, false, true≢false, nat_le, Option, None, refl, sym, ap, ◌∙◌, arith, slice_index, slice_range, subst, append_assoc}
-use Rattle.std.specs.List.{slice_split, onto_first}
 use Rattle.std.specs.Str.Lines.{lines, strip_carriage_return}
 use Rattle.std.proofs.lemmas.List.Splits.{slice_split_at, slice_split_none}
 use Rattle.std.proofs.lemmas.List.Elements.{All-nil, All-cons, All-append}
@@ -9,14 +8,7 @@ use Rattle.std.proofs.lemmas.Bool.Decides.{nat_tests, eqb_tells}
 use Rattle.edge_io.specs.Feed.{cut, IsUnended, given_as, pieces_of, long_first, to_come}
 use Rattle.edge_io.specs.Feeding.{Gives, Waits}
 use Rattle.edge_io.proofs.Buffers.{line_cut, front_of}
-
--- there is always a first part
-first_part : {X : Type 0} (p : X → Bool) (xs : List X) → (y : List X) × (ys : List (List X)) × (slice_split p xs ≡ y ∷ ys)
-first_part {X = X} p [] = ([], [], refl)
-first_part {X = X} p (x ∷ xs) = elim (p x) as (λ b. (y : List X) × (ys : List (List X)) × (cond b ([] ∷ slice_split p xs) (onto_first x (slice_split p xs)) ≡ y ∷ ys)) [
-  | true ↦ ([], slice_split p xs, refl)
-  | false ↦ let h = first_part p xs in rw h.2 (x ∷ h.0, h.1, refl)
-]
+use Rattle.span_text.proofs.TextCuts.Cuts.{first_part}
 
 pub lines_at : (xs ys : List ℕ) → IsUnended xs → lines (xs ++ 10 ∷ ys) ≡ strip_carriage_return xs ∷ lines ys
 lines_at xs ys none =

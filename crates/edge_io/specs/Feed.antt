@@ -2,6 +2,7 @@
 use Rattle.std.specs.Prelude.{◌≡◌, ℕ, ◌+◌, ◌≤◌, ◌==◌, Bool, true, false, cond, nat_le, List, [], ◌∷◌}
 use Rattle.std.specs.Prelude.{◌++◌, length, map, All, Option, Some, None}
 use Rattle.std.specs.Str.Lines.{lines}
+use Rattle.span_text.specs.Bytes.{newline}
 use Rattle.edge_io.specs.declared.feed.TheConstants.{LINE_LIMIT}
 
 -- the bytes that were taken and neither given nor given up, and whether the beginning of a line that is too
@@ -20,7 +21,7 @@ cut = record { bytes = []; is_cut = true }
 
 -- no byte ends a line
 abbrev pub IsUnended : List ℕ → Type 0
-IsUnended bytes = All (λ b. (b == 10) ≡ false) bytes
+IsUnended bytes = All (λ b. (b == newline) ≡ false) bytes
 
 -- no line ends in what is pending, and it is no longer than a line with a byte 13 at its end
 pub record IsOpen (p : Pending) : Type 0 where

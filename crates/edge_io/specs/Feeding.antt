@@ -3,6 +3,7 @@ use Rattle.std.specs.Prelude.{◌≡◌, ◌⊎◌, ℕ, ◌+◌, ◌<◌, ◌�
 use Rattle.std.specs.Prelude.{Option, Some, None, IfSome, IfNone}
 use Rattle.std.specs.Io.KnownBytes.{Consumes, IsAtEnd}
 use Rattle.std.specs.Str.Lines.{strip_carriage_return}
+use Rattle.span_text.specs.Bytes.{newline}
 use Rattle.edge_io.specs.Feed.{Pending, nothing, cut, IsUnended, IsOpen, given_as, to_come}
 use Rattle.edge_io.specs.declared.feed.Piece.{Piece}
 use Rattle.edge_io.specs.declared.feed.TheConstants.{LINE_LIMIT}
@@ -26,7 +27,7 @@ pub record Takes (old new : Pending) (left rest : Option (List ℕ)) (most count
 pub record Gives (old : Pending) (piece : Option (List ℕ)) (new : Pending) : Type 0 where
   pub line : List ℕ
   pub unended : IsUnended line
-  pub leaves : old.bytes ≡ line ++ 10 ∷ new.bytes
+  pub leaves : old.bytes ≡ line ++ newline ∷ new.bytes
   pub shorter : length new.bytes < length old.bytes
   pub closed : new.is_cut ≡ false
   pub given : piece ≡ cond old.is_cut None (given_as (strip_carriage_return line))

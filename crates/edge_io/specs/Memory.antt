@@ -1,6 +1,7 @@
 -- What the objects in memory hold, and what decides their answers.
-use Rattle.std.specs.Prelude.{◌≡◌, ◌↔◌, ℕ, ◌-◌, ◌+◌, ◌^◌, ◌≤◌, ◌⊎◌, ◌==◌, List, min, slice_index}
+use Rattle.std.specs.Prelude.{◌≡◌, ◌↔◌, ℕ, ◌-◌, ◌+◌, ◌≤◌, ◌⊎◌, ◌==◌, List, min, slice_index}
 use Rattle.std.specs.Prelude.{if◌then◌else◌, length, Result, IfOk, IsErr, Contains}
+use Rattle.edge_io.specs.Cause.{count_end}
 
 -- a source in memory: what is left, the greatest sizes, the calls that fail, and the next call's number
 pub record MemoryInput : Type 0 where
@@ -20,11 +21,11 @@ pub record MemoryOutput : Type 0 where
 
 -- the greatest size of a call: a missing or zero size means no bound
 abbrev pub size_of : List ℕ → ℕ → ℕ
-size_of sizes call = if slice_index sizes call == 0 then 2 ^ 64 - 1 else slice_index sizes call
+size_of sizes call = if slice_index sizes call == 0 then count_end else slice_index sizes call
 
 -- the number of the call after this one, up to the last number that the count has
 abbrev pub next_call : ℕ → ℕ
-next_call call = min (call + 1) (2 ^ 64 - 1)
+next_call call = min (call + 1) count_end
 
 -- A pull fails exactly where its call is listed, and else takes the most that it may. The call counts, and
 -- the lists stay.

@@ -3,6 +3,7 @@ ghost use Rattle.std.specs.Prelude.{◌≡◌, ◌≤◌, ◌<◌, ◌+◌, ◌-
 ghost use Rattle.std.specs.Prelude.{slice_range, IfOk, OnErr, IfSome, IfNone, None};
 ghost use Rattle.std.specs.Str.Lines.{strip_carriage_return};
 ghost use Rattle.std.specs.Io.KnownBytes.{Keeps, Consumes, IsAtEnd};
+ghost use Rattle.span_text.specs.Bytes.{newline};
 ghost use Rattle.edge_io.specs.Cause.{HasCause};
 ghost use Rattle.edge_io.specs.Feed.{nothing, given_as, IsOpen, IsUnended};
 ghost use Rattle.edge_io.specs.Feeding.{shown};
@@ -166,7 +167,7 @@ fn pull_behind<S: Source>(
 fn end_of_line(bytes: &[u8]) -> Option<usize>
     ensures within { IfSome result (λ i. i < length bytes.now) }
     ensures before { IfSome result (λ i. IsUnended (take i bytes.now)) }
-    ensures at { IfSome result (λ i. slice_index bytes.now i ≡ 10) }
+    ensures at { IfSome result (λ i. slice_index bytes.now i ≡ newline) }
     ensures none { IfNone result (IsUnended bytes.now) }
 {
     bytes.iter().position(|b| *b == b'\n')

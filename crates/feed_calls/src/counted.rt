@@ -3,6 +3,7 @@ ghost use Rattle.std.specs.Prelude.{◌≡◌};
 
 use edge_io::{Failed, Source};
 
+/// A source, and how often it was pulled from.
 #[derive(Drop)]
 pub struct Counted<S> {
     inner: S,

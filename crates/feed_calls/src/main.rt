@@ -9,8 +9,11 @@
 //! 97,10 0 - 8192          `a` and its end, in pulls of any size, none of which fails
 //! ```
 //!
-//! In reading order: `case` (the lines of the input), `counted` (a source that counts its pulls), `feeding`
-//! (what a feed gives).
+//! What the answers keep: they stand in the order of the lines, and each line has a source and a feed of its
+//! own, so none depends on another.
+//!
+//! In reading order: `counted` (a source that counts its pulls), `feeding` (what a feed gives), `case` (the
+//! lines of the input).
 #![tactic(auto)]
 
 mod case;

@@ -15,8 +15,11 @@
 //! format [button(>=50)]                row 33 1000 1 >= 1 50 7:1
 //! ```
 //!
-//! In reading order: `printing` (the lines of the input), `setting` (views, metrics and numbers), `text`
-//! (rows and refusals).
+//! What the answers keep: they stand in the order of the lines, and depend on the lines since all last began
+//! anew alone.
+//!
+//! In reading order: `setting` (views, metrics and numbers), `text` (rows and refusals), `printing` (the
+//! lines of the input).
 #![tactic(auto)]
 
 mod printing;

@@ -1,3 +1,4 @@
+pub mod Divisors
 pub mod Gauss
 pub mod Integers
 pub mod Made
@@ -7,3 +8,7 @@ pub mod Products
 pub mod Signs
 pub mod Quotients
 pub mod Results
+pub mod Bools
+pub mod Lists
+pub mod Numbers
+pub mod Fitting

@@ -95,7 +95,7 @@ none_fits p q size whole g are large f lowest ratio fits =
 the_fraction : ℤ → ℕ → Fraction
 the_fraction n d = record { num = n; den = d }
 
-same_parts : (f g : Fraction) → f.num ≡ g.num → f.den ≡ g.den → f ≡ g
+pub same_parts : (f g : Fraction) → f.num ≡ g.num → f.den ≡ g.den → f ≡ g
 unfolding the_fraction
 same_parts f g num den = ap₂ (λ (n : ℤ) (d : ℕ). the_fraction n d) num den
 

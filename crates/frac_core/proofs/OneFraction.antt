@@ -1,29 +1,11 @@
 -- A value is one fraction in lowest terms.
-use Rattle.std.proofs.Common.{◌≡◌, ℕ, ◌*◌, ◌<◌, sym, ap, ap₂, ◌∙◌, arith, mul-pos}
+use Rattle.std.proofs.Common.{◌≡◌, ℕ, ◌*◌, ◌<◌, sym, ap, ◌∙◌, arith, mul-pos}
 use Rattle.std.specs.Prelude.{ℤ, pos, ◌*ℤ◌}
-use Rattle.std.specs.Int.RustNames.{unsigned_abs}
-use lib.IntN.{*ℤ_comm}
-use Rattle.frac_core.specs.Fraction.{Fraction, IsLowest}
-use Rattle.frac_core.proofs.Gauss.{same_lowest}
-use Rattle.frac_core.proofs.Signs.{unsigned_abs-mul}
+use Rattle.frac_core.specs.Fraction.{Fraction}
 use Rattle.frac_core.proofs.Integers.{cancel_mul, mul_left_comm_ℤ}
 
 abbrev over : ℤ → ℕ → Fraction
 over n d = record { num = n; den = d }
-
--- two fractions in lowest terms with one value are one fraction
-pub same_fraction : (f g : Fraction) → IsLowest f → IsLowest g → f.num *ℤ pos g.den ≡ g.num *ℤ pos f.den
-    → f ≡ g
-same_fraction f g low_f low_g cross =
-    let sizes : unsigned_abs f.num * g.den ≡ unsigned_abs g.num * f.den =
-    sym (unsigned_abs-mul f.num g.den) ∙ ap unsigned_abs cross ∙ unsigned_abs-mul g.num f.den in
-    let same = same_lowest (unsigned_abs g.num) g.den
-    (unsigned_abs f.num) f.den low_g.above low_g.coprime low_f.coprime sizes in
-    let den : f.den ≡ g.den = same.1 in
-    let scaled : pos g.den *ℤ f.num ≡ pos g.den *ℤ g.num =
-    *ℤ_comm (pos g.den) f.num ∙ cross ∙ ap (λ (d : ℕ). g.num *ℤ pos d) den ∙ *ℤ_comm g.num (pos g.den) in
-    let num : f.num ≡ g.num = cancel_mul g.den f.num g.num low_g.above scaled in
-    ap₂ over num den
 
 shuffle : (z : ℤ) (m r n s : ℕ) → m * r ≡ n * s → pos m *ℤ (z *ℤ pos r) ≡ pos n *ℤ (z *ℤ pos s)
 shuffle z m r n s h = mul_left_comm_ℤ (pos m) z (pos r) ∙ ap (λ (k : ℕ). z *ℤ pos k) h

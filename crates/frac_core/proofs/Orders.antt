@@ -24,7 +24,7 @@ alike x y u v (both_below h k) = nat_cmp-below x y h ∙ sym (nat_cmp-below u v 
 alike x y u v (both_equal h k) = nat_cmp-equal x y h ∙ sym (nat_cmp-equal u v k)
 alike x y u v (both_above h k) = nat_cmp-above x y h ∙ sym (nat_cmp-above u v k)
 
-three : (x y : ℕ) → (x < y) ⊎ ((x ≡ y) ⊎ (y < x))
+pub three : (x y : ℕ) → (x < y) ⊎ ((x ≡ y) ⊎ (y < x))
 three x y = grind arith
 
 -- a number is below a multiple of b

@@ -25,7 +25,7 @@ mod order;
 mod text;
 mod wide;
 
-pub use divisor::gcd;
+pub use divisor::{common_divisor, gcd};
 pub use frac::{Frac, PART_BOUND, Unfit};
 pub use memory::{OutOfMemory, Stop};
 pub use order::cmp_wide;

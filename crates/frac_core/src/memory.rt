@@ -1,6 +1,7 @@
 // Want of memory as an error of its own.
 ghost use Rattle.std.specs.Prelude.{⊤, ◌≡◌};
 
+use crate::frac::Unfit;
 use std::alloc::{AllocError, AllocFailed};
 use std::fmt::Display;
 use thiserror::Error;
@@ -37,6 +38,16 @@ pub enum Stop<E> {
     Refused(E),
     #[error("memory is wanting")]
     OutOfMemory,
+}
+
+impl From<Unfit> for Stop<Unfit> {
+    ghost use Rattle.frac_core.specs.declared.memory.Stop.TheVariants.{Refused};
+
+    ghost from_gives = { λ cause stop. stop ≡ Refused cause };
+
+    fn from(cause: Unfit) -> Stop<Unfit> {
+        Stop::Refused(cause)
+    }
 }
 
 impl<E> From<OutOfMemory> for Stop<E> {

@@ -12,6 +12,7 @@ use Rattle.indexed_rows.specs.Indexes.{list_at}
 use Rattle.indexed_rows.proofs.Columns.{listed_within}
 use Rattle.indexed_rows.specs.Lists.{HasColumn, IsChangedAt, IsListedAt, IsRisingList, IsSameBut, IsWith, IsWithout}
 use Rattle.indexed_rows.specs.Walks.{IsBehind, IsNext, IsNextInBoth, IsRelisted, column_at}
+use Rattle.frac_core.proofs.Bools.{iff-through as both_ways}
 
 abbrev pub nothing : Term
 nothing = record { col = 0; by = pos 0 }
@@ -102,9 +103,6 @@ between_both c s t xs ys same = (
 )
 
 -- ---- w in the lists
-
-both_ways : {P Q R : Type 0} → P ↔ Q → Q ↔ R → P ↔ R
-both_ways f g = (λ p. g.0 (f.0 p), λ r. f.1 (g.1 r))
 
 turned : {P Q : Type 0} → P ↔ Q → Q ↔ P
 turned f = (f.1, f.0)

@@ -4,7 +4,7 @@ ghost use Rattle.indexed_rows.specs.Lists.{IsRisingList, IsWith, IsWithout};
 
 use frac_core::OutOfMemory;
 
-// Puts w where it belongs, if it isn't there.
+/// Puts w where it belongs, if it isn't there.
 pub(crate) fn put_in(list: &mut Vec<u32>, w: u32) -> Result<(), OutOfMemory>
     requires { IsRisingList list.old.items }
     ensures { OnOk result (IsWith w list.old.items list.new.items) }
@@ -15,7 +15,7 @@ pub(crate) fn put_in(list: &mut Vec<u32>, w: u32) -> Result<(), OutOfMemory>
     Ok(())
 }
 
-// Takes w out, if it is there.
+/// Takes w out, if it is there.
 pub(crate) fn take_out(list: &mut Vec<u32>, w: u32)
     requires { IsRisingList list.old.items }
     ensures { IsWithout w list.old.items list.new.items }

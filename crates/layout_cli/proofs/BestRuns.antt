@@ -11,9 +11,9 @@ use Rattle.script_text.specs.Meaning.{Meaning}
 use Rattle.script_text.specs.Meaning as mean
 use Rattle.constraint_compile.specs.Compiled.{CompiledLine}
 use Rattle.constraint_compile.specs.Stops.{IsCompiled, MayStop}
-use Rattle.constraint_compile.specs.FormatParts.{parts}
-use Rattle.constraint_compile.specs.FormatStops.{row_count}
-use Rattle.constraint_compile.specs.FormatRows.{IsCompiledFormat, MayStopFormat}
+use Rattle.constraint_compile.specs.Formats.FormatParts.{parts}
+use Rattle.constraint_compile.specs.Formats.FormatStops.{row_count}
+use Rattle.constraint_compile.specs.Formats.FormatRows.{IsCompiledFormat, MayStopFormat}
 use Rattle.constraint_compile.specs.declared.stops.CompileStop.{CompileStop}
 use Rattle.session_undo.specs.Scene.{Scene, State, IsBestScene, IsBestState, with_earlier}
 use Rattle.session_undo.specs.declared.limits.TheConstants.{EARLIER}

@@ -16,7 +16,7 @@ use Rattle.layout_cli.specs.Machine.{Step, Run, IsRunOf}
 use Rattle.layout_cli.specs.Printing.{HasFront}
 use Rattle.layout_cli.specs.Talks.{AreWholeLines, AnswersWhole, AnswersFirst, AnswersInPart, IsTalk, IsGivenAs, joined}
 use Rattle.layout_cli.proofs.Printed.{appends_none, front_then}
-use Rattle.path_levels.proofs.MultipleFacts.{bool_cases}
+use Rattle.path_levels.proofs.Exchanges.MultipleFacts.{bool_cases}
 
 and_assoc : (a b c : Bool) → ((a && b) && c) ≡ (a && (b && c))
 and_assoc true b c = refl

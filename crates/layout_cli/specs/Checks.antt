@@ -16,7 +16,7 @@ use Rattle.claim_text.specs.declared.claim.Claim.TheVariants.{IsBest, IsConflict
 use Rattle.claim_text.specs.Stops.{bad_line}
 use Rattle.claim_text.specs.Cut.{IsCut}
 use Rattle.claim_text.specs.Problems as problem
-use Rattle.claim_text.specs.ClaimTexts as claim
+use Rattle.claim_text.specs.Claims.ClaimTexts as claim
 use Rattle.layout_cli.specs.declared.checking.Answer.{Answer}
 use Rattle.layout_cli.specs.declared.checking.Answer.TheVariants.{Judged, Bad}
 

@@ -1,8 +1,9 @@
 -- What was written where a run of a mode ends.
-use Rattle.std.specs.Prelude.{◌≡◌, ℕ, ◌<◌, ◌≤◌, Bool, true, false, List, [], ◌∷◌, ◌++◌, length, Option}
-use Rattle.std.specs.Prelude.{IfSome}
+use Rattle.std.specs.Prelude.{◌≡◌, ◌⊎◌, ℕ, ◌<◌, ◌≤◌, Bool, true, false, List, [], ◌∷◌, ◌++◌, length, Option}
+use Rattle.std.specs.Prelude.{IfSome, String}
 use Rattle.std.specs.Io.KnownBytes.{Appends, Consumes}
 use Rattle.edge_io.specs.Cause.{Rose}
+use Rattle.program_words.specs.Words.{AreOther}
 use Rattle.program_words.specs.declared.mode.Mode.{Mode}
 use Rattle.program_words.specs.declared.mode.Mode.TheVariants.{Run}
 use Rattle.std.specs.declared.result.Result.{Result}
@@ -12,7 +13,7 @@ use Rattle.layout_cli.specs.declared.script.ScriptStop.{ScriptStop}
 use Rattle.layout_cli.specs.declared.script.ScriptStop.TheVariants as script
 use Rattle.layout_cli.specs.declared.program.Status.{Status}
 use Rattle.layout_cli.specs.declared.program.Status.TheVariants as status
-use Rattle.layout_cli.specs.Words.{input_of, limit_of}
+use Rattle.layout_cli.specs.Words.{NameMode, input_of, limit_of, usage_line}
 use Rattle.layout_cli.specs.Outputs.{IsOutputOf}
 use Rattle.layout_cli.specs.Printing.{HasFront}
 use Rattle.layout_cli.specs.Talks.{AnswersWhole, AnswersFirst, AnswersInPart}
@@ -57,6 +58,18 @@ AfterWriteFault mode left rest before now = IfWithin mode left (λ input. (text 
 abbrev pub AfterNoMemory : Mode → (left rest before now : Option (List ℕ)) → Type 0
 AfterNoMemory Run left rest before now = HasTaken left rest (AnswersFirst before now)
 AfterNoMemory mode left rest before now = Appends before now []
+
+-- ---- the same for any words
+
+-- where the sink failed: a front of the usage line for other words, or of what the mode of the words writes
+abbrev pub IsCutShort : {A : Type 0} → List (String A) → (left rest before now : Option (List ℕ)) → Type 0
+IsCutShort words left rest before now = (AreOther words × HasFront before now usage_line)
+    ⊎ NameMode words (λ mode. AfterWriteFault mode left rest before now)
+
+-- where memory was wanting: nothing, or the replies to some first whole lines in the mode of the words
+abbrev pub IsBrokenOff : {A : Type 0} → List (String A) → (left rest before now : Option (List ℕ)) → Type 0
+IsBrokenOff words left rest before now =
+    Appends before now [] ⊎ NameMode words (λ mode. AfterNoMemory mode left rest before now)
 
 -- ---- how a run may end
 

@@ -8,3 +8,4 @@ pub mod Printing
 pub mod Making
 pub mod Talks
 pub mod Ends
+pub mod Laws

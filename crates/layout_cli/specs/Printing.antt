@@ -4,7 +4,7 @@ use Rattle.std.specs.Io.KnownBytes.{Appends}
 use Rattle.frac_core.specs.Fraction.{Fraction}
 use Rattle.view_tree.specs.Views.{LiveView}
 use Rattle.session_undo.specs.Scene.{Scene}
-use Rattle.layout_cli.specs.Replies.{frame_of}
+use Rattle.layout_cli.specs.Replies.{frame_text}
 
 -- some first bytes of the text were appended
 abbrev pub HasFront : Option (List ℕ) → Option (List ℕ) → List ℕ → Type 0
@@ -12,7 +12,7 @@ HasFront before now text = (n : ℕ) × (n ≤ length text) × Appends before no
 
 abbrev pub frame_line_of : List (ℕ × Fraction) → Option LiveView → List ℕ
 frame_line_of values None = []
-frame_line_of values (Some v) = frame_of values v
+frame_line_of values (Some v) = frame_text values v
 
 -- the line of the frame of the view at this place, if there is one
 abbrev pub line_at : Scene → ℕ → List ℕ

@@ -15,9 +15,9 @@ use Rattle.cert_core.specs.declared.by.By.{By}
 use Rattle.cert_core.specs.Claims.{BestLevel}
 use Rattle.cert_core.specs.Paths.{Path}
 use Rattle.claim_text.specs.Lines.{problem_text}
-use Rattle.claim_text.specs.ClaimLines.{claim_text}
+use Rattle.claim_text.specs.Claims.ClaimLines.{claim_text}
 use Rattle.claim_text.specs.declared.claim.Claim.TheVariants.{IsBest, IsConflict}
-use Rattle.claim_text.specs.PathTexts.{path_text, unfit_text}
+use Rattle.claim_text.specs.Paths.PathTexts.{path_text, unfit_text}
 use Rattle.session_undo.specs.Scene.{Scene, problem_of}
 use Rattle.session_undo.specs.Replies.{Reply, Nothing, Done, Frames, Rows, Outside, Unknown, Taken, Limit}
 use Rattle.session_undo.specs.Replies.{Certificate, Kind, Conflict, NoEarlier, Overflow, Spent, Place, Step}
@@ -59,8 +59,8 @@ unfoldable pub frame_line : List ℕ → Fraction → Fraction → Fraction → 
 frame_line name left top width height = codes "frame " ++ (name
     ++ (value_text left ++ (value_text top ++ (value_text width ++ (value_text height ++ newline ∷ [])))))
 
-abbrev pub frame_of : List (ℕ × Fraction) → LiveView → List ℕ
-frame_of values v = frame_line v.name (value_of values (left_of v.id)) (value_of values (top_of v.id))
+abbrev pub frame_text : List (ℕ × Fraction) → LiveView → List ℕ
+frame_text values v = frame_line v.name (value_of values (left_of v.id)) (value_of values (top_of v.id))
     (value_of values (width_of v.id)) (value_of values (height_of v.id))
 
 -- `# ID NAME.ATTR`
@@ -84,7 +84,7 @@ abbrev pub line_of : List ℕ → List ℕ
 line_of bytes = bytes ++ newline ∷ []
 
 abbrev pub frames_text : Scene → List ℕ
-frames_text scene = text_of_each (frame_of scene.values) scene.tree.views ++ line_of (codes "ok")
+frames_text scene = text_of_each (frame_text scene.values) scene.tree.views ++ line_of (codes "ok")
 
 abbrev pub rows_text : Scene → List ℕ
 rows_text scene = text_of_each names_of scene.tree.views

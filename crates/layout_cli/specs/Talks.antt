@@ -84,6 +84,10 @@ abbrev pub OnceJoined : Answering → Option (List ℕ) → Pending → (Option 
 OnceJoined Was now next Is = (p : Pending) (before : Option (List ℕ)) (taken more : List ℕ)
     → Was p before now taken → next ≡ joined p more → Is before (taken ++ more)
 
+-- that is said of the bytes, and their whole lines have their replies
+abbrev pub AnswersSoFar : Answering → Pending → (now before : Option (List ℕ)) → List ℕ → Type 0
+AnswersSoFar Is p now before taken = Is p before now taken × AnswersWhole before now taken
+
 -- The feed stands for these bytes, which were taken and belong to no line that was given: it keeps them, or
 -- it gave up their beginning, which is that of a line that is too long.
 pub record StandsFor (p : Pending) (bytes : List ℕ) : Type 0 where

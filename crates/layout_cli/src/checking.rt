@@ -2,7 +2,7 @@
 ghost use Rattle.std.specs.Prelude.{◌≡◌, ◌<◌, ◌-◌, ◌++◌, ◌∷◌, [], IfOk, decimal, length};
 ghost use Rattle.std.specs.Str.Lines.{lines};
 ghost use Rattle.span_text.specs.Bytes.{newline};
-ghost use Rattle.claim_text.specs.ClaimTexts.{HasNoMoreParts};
+ghost use Rattle.claim_text.specs.Claims.ClaimTexts.{HasNoMoreParts};
 ghost use Rattle.claim_text.specs.declared.limits.TheConstants.{TEXT_LIMIT};
 ghost use Rattle.layout_cli.specs.Checks.{IsAnswerTo, IsCheckOf, IsVerdictOn};
 ghost use Rattle.layout_cli.specs.Checks.{answer_text, is_yes, verdict_of};

@@ -8,7 +8,7 @@ use std::alloc::{AllocError, Global};
 
 /// Why the input is not there.
 #[derive(Clone, Copy, Debug, PartialEq, Eq)]
-pub enum InputStop {
+pub(crate) enum InputStop {
     /// The source failed.
     Fault,
     /// The source gave more bytes than the limit.
@@ -29,7 +29,7 @@ impl From<AllocError> for InputStop {
 const PIECE: usize = 4096;
 
 /// All that the source has left, which is at most `limit` bytes.
-pub fn read_all<S: Source>(
+pub(crate) fn read_all<S: Source>(
     alloc: Global,
     source: &mut S,
     limit: usize,

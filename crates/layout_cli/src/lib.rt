@@ -16,6 +16,9 @@
 //! each [`Status`]; where the word is `run`, what is written is exactly what the machine of `session_undo`
 //! replies to the lines that were read.
 //!
+//! Invariant of a script's run (`IsTalk`): what was written are the replies to the whole lines that were
+//! taken, and the session is the one that these lines lead to.
+//!
 //! In reading order: `program` ([`run`]), `mode` (what each mode reads). For `run`: `script` (the loop over
 //! the pulls) with `script::talk` (a session that answers lines) and `script::answers` (one line); `reply`
 //! with `reply::refusals`, `reply::frames`, `reply::names`, `reply::found` (what a scene lacks, and probes)

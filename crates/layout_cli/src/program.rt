@@ -1,9 +1,9 @@
 // The program's run, over any source and sink.
-ghost use Rattle.std.specs.Prelude.{◌≡◌, ◌⊎◌, ℕ, List, Option, [], true, false};
+ghost use Rattle.std.specs.Prelude.{◌≡◌, ◌⊎◌, ℕ, List, Option, true, false};
 ghost use Rattle.std.specs.Io.KnownBytes.{Appends};
 ghost use Rattle.edge_io.specs.Cause.{Rose};
-ghost use Rattle.layout_cli.specs.Ends.{AfterNoMemory, AfterReadFault, AfterTooLong, AfterWriteFault};
-ghost use Rattle.layout_cli.specs.Ends.{HasOutput, IsEndOf, IsTooLong, outside};
+ghost use Rattle.layout_cli.specs.Ends.{AfterReadFault, AfterTooLong, HasOutput, IsBrokenOff, IsCutShort};
+ghost use Rattle.layout_cli.specs.Ends.{IsEndOf, IsTooLong, outside};
 ghost use Rattle.layout_cli.specs.Printing.{HasFront};
 ghost use Rattle.layout_cli.specs.Words.{NameMode, Pulls, usage_line};
 ghost use Rattle.program_words.specs.Words.{AreOther};
@@ -72,10 +72,8 @@ pub fn run<S: Source, K: Sink>(
     ensures after_read_fault { result ≡ Status.ReadFault → NameMode words.now (λ mode. Pulls mode
         × AfterReadFault mode (S.left source.old) (S.left source.new) (K.held sink.old) (K.held sink.new)) }
     ensures write_fault { result ≡ Status.WriteFault → Rose (K.faults sink.old) (K.faults sink.new) }
-    ensures after_write_fault { result ≡ Status.WriteFault
-        → (AreOther words.now × HasFront (K.held sink.old) (K.held sink.new) usage_line)
-        ⊎ NameMode words.now (λ mode.
-        AfterWriteFault mode (S.left source.old) (S.left source.new) (K.held sink.old) (K.held sink.new)) }
+    ensures after_write_fault { result ≡ Status.WriteFault → IsCutShort words.now
+        (S.left source.old) (S.left source.new) (K.held sink.old) (K.held sink.new) }
 
     // The source gave more than the limit. Exactly the replies to the whole lines within it were written.
     ensures too_long { result ≡ Status.TooLong → NameMode words.now (λ mode.
@@ -84,9 +82,8 @@ pub fn run<S: Source, K: Sink>(
         AfterTooLong mode (S.left source.old) (S.left source.new) (K.held sink.old) (K.held sink.new)) }
 
     // Exactly the replies to some first whole lines were written, or nothing.
-    ensures out_of_memory { result ≡ Status.OutOfMemory → Appends (K.held sink.old) (K.held sink.new) []
-        ⊎ NameMode words.now (λ mode.
-        AfterNoMemory mode (S.left source.old) (S.left source.new) (K.held sink.old) (K.held sink.new)) }
+    ensures out_of_memory { result ≡ Status.OutOfMemory → IsBrokenOff words.now
+        (S.left source.old) (S.left source.new) (K.held sink.old) (K.held sink.new) }
 {
     let mode = match mode_of(alloc, words) {
         Ok(Some(mode)) => mode,

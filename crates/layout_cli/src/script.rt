@@ -8,7 +8,7 @@ ghost use Rattle.edge_io.specs.Cause.{Rose};
 ghost use Rattle.edge_io.specs.Feed.{Pending, IsOpen, nothing};
 ghost use Rattle.layout_cli.specs.Ends.{IsScriptEnd, outside};
 ghost use Rattle.layout_cli.specs.Machine.{IsRunOf};
-ghost use Rattle.layout_cli.specs.Talks.{AnswersFirst, AnswersInPart, AnswersWhole, OnceJoined, OnceTaken};
+ghost use Rattle.layout_cli.specs.Talks.{AnswersFirst, AnswersInPart, AnswersSoFar, OnceJoined, OnceTaken};
 ghost use Rattle.layout_cli.specs.Talks.{TakesMore};
 ghost use Rattle.layout_cli.specs.declared.script.answers.AnswerStop.TheVariants as answer;
 ghost use Rattle.layout_cli.specs.declared.input.InputStop.TheVariants as input;
@@ -23,7 +23,7 @@ use std::alloc::Global;
 
 /// Why a script isn't answered to its end.
 #[derive(Clone, Copy, Debug, PartialEq, Eq)]
-pub enum ScriptStop {
+pub(crate) enum ScriptStop {
     /// The source failed.
     ReadFault,
     /// The source gave more bytes than the limit.
@@ -83,8 +83,7 @@ pub(crate) trait Answerer {
     /// Answers the lines that end in what is pending.
     fn answer_pending<K: Sink>(&mut self, feed: &mut Feed, sink: &mut K) -> Result<(), AnswerStop>
         ensures answered { OnOk result (OnceJoined (has_answered self.old) (K.held sink.old) feed.old
-            (λ before taken. has_answered self.new feed.new before (K.held sink.new) taken
-            × AnswersWhole before (K.held sink.new) taken)) }
+            (AnswersSoFar (has_answered self.new) feed.new (K.held sink.new))) }
         ensures ready { OnOk result (IsOpen feed.new) }
         ensures front { IsErrOf result AnswerStop.Fault → (left : Option (List ℕ))
             → OnceJoined (has_answered self.old) (K.held sink.old) feed.old

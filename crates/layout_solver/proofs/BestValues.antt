@@ -7,14 +7,14 @@ use Rattle.problem_core.specs.declared.parts.Stay.{Stay}
 use Rattle.problem_core.specs.Layout.{HasStay, Problem, Row}
 use Rattle.problem_core.specs.Kept.{IsWhole}
 use Rattle.problem_core.specs.Corners.{IsCorner, Point, assignment_at, attr_column, one_column}
-use Rattle.corner_laws.proofs.Ends.{end_is_best}
-use Rattle.corner_laws.proofs.LowestForms.{attrs_are_fixed}
+use Rattle.corner_laws.proofs.PathEnds.Ends.{end_is_best}
+use Rattle.corner_laws.proofs.MarkWritings.LowestForms.{attrs_are_fixed}
 use Rattle.corner.specs.Views.{CornerView, HasValueAt}
 use Rattle.corner_ends.specs.Runs.{IsBestEnd}
 use Rattle.certificates.proofs.ErrorFacts.{turned_value}
 use Rattle.layout_solver.specs.Layouts.{IsBestValue, stays_at, zeros}
 use Rattle.layout_solver.specs.Starts.{IsMoved}
-use Rattle.problem_core.proofs.Ends.{abs_same}
+use Rattle.problem_core.proofs.Corners.Ends.{abs_same}
 
 pub best_value : (p : Problem) (at : List Mark) (attr : ℕ) (f : Fraction) → IsWhole p → IsCorner p at → IsBestEnd p at → HasStay p.stays attr → HasValueAt p at (attr_column attr) f → IsBestValue p attr f
 best_value p at attr f whole corner end has (y, there, e) =

@@ -21,10 +21,10 @@ use Rattle.layout_solver.specs.Shifts.{CanShift, IsAtMark, shifted, with_shifts}
 use Rattle.layout_solver.specs.Starts.{CanTake, IsMoved, attrs_of}
 use Rattle.layout_solver.specs.ValuesUnique.{values_are_one}
 use Rattle.layout_solver.proofs.Earlier.{earlier_length, forgot_kept, kept_cons, same_solutions}
-use Rattle.layout_solver.proofs.Rooms.{added_room}
+use Rattle.layout_solver.proofs.Starts.Rooms.{added_room}
 use Rattle.layout_solver.proofs.Solved.{changed_rising, moved_is, solved_end, solved_values, these_values}
 use Rattle.layout_solver.proofs.Values.{values_exist}
-use Rattle.layout_solver.proofs.ShiftedProblems.{head-of}
+use Rattle.layout_solver.proofs.Shifts.ShiftedProblems.{head-of}
 
 pub some_values : (c : CornerView) → IsKeptCorner c.problem c.marks → HasValues (scene_of c)
 some_values c kept = let w = values_exist c kept.corner in (w.0, ∣ w.1 ∣₁)

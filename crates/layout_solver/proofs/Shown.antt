@@ -1,7 +1,5 @@
 -- What the corner of an engine shows of its values.
-use Rattle.std.proofs.Common.{◌≡◌, ◌∙◌, ℕ, ◌-◌, ◌≤◌, List, sym, ap, subst, arith, Any, IfOk}
-use Rattle.std.specs.declared.result.Result.{Result}
-use Rattle.std.specs.declared.result.Result.TheVariants.{Ok, Err}
+use Rattle.std.proofs.Common.{◌≡◌, ◌∙◌, ℕ, ◌-◌, ◌≤◌, List, sym, ap, subst, arith, Any}
 use Rattle.frac_core.specs.Fraction.{Fraction}
 use Rattle.problem_core.specs.declared.parts.Level.{Level}
 use Rattle.problem_core.specs.declared.parts.Level.TheVariants.{Priority, Stay as StayLevel}
@@ -23,10 +21,6 @@ use Rattle.layout_solver.specs.Layouts.{Layout}
 use Rattle.layout_solver.specs.Engines.{IsSolved, layout_of, HaveValues}
 use Rattle.layout_solver.proofs.Solved.{solved_values}
 use Rattle.layout_solver.proofs.Values.{given_here, numbers_here}
-
-pub ok_both : {A E : Type 0} (r : Result A E) (P Q R : A → Type 0) → ((x : A) → P x → Q x → R x) → IfOk r P → IfOk r Q → IfOk r R
-ok_both (Ok x) P Q R f h k = f x h k
-ok_both (Err e) P Q R f h k = h
 
 module _ (c : CornerView) (v : List (ℕ × Fraction)) (past : HaveValues c.before) (l : Layout) (s : IsSolved c v past) (view : layout_of c v past ≡ l) where
   -- what gives the values agrees with the corner's point

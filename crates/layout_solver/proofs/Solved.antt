@@ -15,8 +15,8 @@ use Rattle.layout_solver.specs.Engines.{AreItsValues, HaveValues, IsSolved, layo
 use Rattle.layout_solver.specs.Starts.{IsMoved, attrs_of}
 use Rattle.layout_solver.specs.ValuesUnique.{values_are_one, values_code}
 use Rattle.layout_solver.proofs.Earlier.{same_solutions}
-use Rattle.layout_solver.proofs.MovedProblems.{its_values}
-use Rattle.layout_solver.proofs.Rooms.{stays_rising}
+use Rattle.layout_solver.proofs.Starts.MovedProblems.{its_values}
+use Rattle.layout_solver.proofs.Starts.Rooms.{stays_rising}
 use Rattle.layout_solver.proofs.Values.{best_there, values_exist, values_fit}
 
 -- the values that a corner is said to have are its values

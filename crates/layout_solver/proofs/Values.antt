@@ -20,9 +20,8 @@ use Rattle.problem_core.specs.Kept.{IsWhole}
 use Rattle.problem_core.specs.Unfit.{HasNoWriting}
 use Rattle.problem_core.specs.Corners.{IsCorner, IsWritingOf, Point, StandsAt, assignment_at, attr_column, one_column}
 use Rattle.problem_core.proofs.Forms.{each-both, each-impl}
-use Rattle.corner_laws.proofs.Ends.{end_is_best}
-use Rattle.corner_laws.proofs.LowestForms.{lowest_exists}
-use Rattle.corner_laws.proofs.Rays.{above-zero}
+use Rattle.corner_laws.proofs.PathEnds.Ends.{end_is_best}
+use Rattle.corner_laws.proofs.MarkWritings.LowestForms.{lowest_exists}
 use Rattle.corner_laws.proofs.WrittenValues.{value_there}
 use Rattle.corner_laws.specs.Equations.{AreLowest}
 use Rattle.corner.specs.Views.{CornerView, HasValueAt, IsKeptCorner}
@@ -31,9 +30,10 @@ use Rattle.corner.specs.Changes.{scene_of}
 use Rattle.layout_solver.specs.Layouts.{AreBest}
 use Rattle.layout_solver.specs.Engines.{AreItsValues}
 use Rattle.layout_solver.specs.ValuesUnique.{IsFixed, fixed_attrs, one_number}
-use Rattle.corner_laws.proofs.BeginsUnique.{agree-both}
-use Rattle.corner_lines.proofs.MovedStays.{own-stays}
-use Rattle.problem_core.proofs.Ends.{abs_same}
+use Rattle.corner_laws.proofs.PathEnds.BeginsUnique.{agree-both}
+use Rattle.corner_lines.proofs.ProblemChanges.MovedStays.{own-stays}
+use Rattle.problem_core.proofs.Corners.Ends.{abs_same}
+use Rattle.frac_core.proofs.Numbers.{as-natural as above-zero}
 
 -- ---- a fraction in lowest terms
 

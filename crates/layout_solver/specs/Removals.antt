@@ -1,16 +1,17 @@
 -- Rows and attributes that leave.
-use Rattle.std.specs.Prelude.{◌≡◌, ◌≢◌, ◌⊎◌, ℕ, false, List, [], ◌∷◌, ◌++◌, All, AllPairs, Any, Contains}
+use Rattle.std.specs.Prelude.{◌≡◌, ◌≢◌, ◌⊎◌, ◌+◌, ℕ, false, List, [], ◌∷◌, ◌++◌, take}
+use Rattle.std.specs.Prelude.{All, AllPairs, Any, Contains}
 use Rattle.problem_core.specs.declared.parts.Mark.{Mark}
 use Rattle.problem_core.specs.Layout.{HasStay, Problem, Row}
 use Rattle.problem_core.specs.Corners.{NoNegativeValue}
-use Rattle.problem_core.specs.Begins.{ComesFrom}
+use Rattle.problem_core.specs.Changes.Begins.{ComesFrom}
 use Rattle.cert_core.specs.declared.stops.UnfitPath.{UnfitPath}
 use Rattle.cert_core.specs.Paths.{Path}
 use Rattle.corner_ends.specs.Runs.{FromHere, IsRun}
 use Rattle.cert_core.specs.declared.stops.RunStop.{RunStop}
 use Rattle.cert_core.specs.declared.stops.RunStop.TheVariants.{Unfit as UnfitRun, Spent as SpentRun}
 use Rattle.cert_core.specs.Stops.{IsStopOf}
-use Rattle.corner.specs.Views.{CornerView, in_order}
+use Rattle.corner.specs.Views.{CornerView, IsKeptCorner, in_order}
 use Rattle.corner_lines.specs.Removals.{without_attr, without_row}
 use Rattle.marker_remove.specs.Freed.{DoStand}
 use Rattle.layout_solver.specs.declared.removing.RemoveStop.{RemoveStop}
@@ -91,6 +92,17 @@ pub record HaveGone (p : Problem) (kept : List Mark) (leaving gone : List ℕ) (
   pub comes : ComesFrom p kept leaving gone c.marks
   pub values : NoNegativeValue c.problem c.marks
   pub standing : DoStand c.problem c.marks
+
+-- so many of these rows have gone, the first ones, and no other's mark was brought in; of the problem and the
+-- marks before that, this holds
+abbrev pub AfterGone : List ℕ → ℕ → CornerView → (Problem → List Mark → Type 0) → Type 0
+AfterGone rows gone c holds = (p : Problem) (kept : List Mark) → IsKeptCorner p kept
+    → AllPairs (λ a b. a ≢ b) rows → HaveGone p kept (take gone rows) (take gone rows) c → holds p kept
+
+-- the same where a mark of the next row was brought in too
+abbrev pub AfterFreed : List ℕ → ℕ → CornerView → (Problem → List Mark → Type 0) → Type 0
+AfterFreed rows gone c holds = (p : Problem) (kept : List Mark)
+    → HaveGone p kept (take (gone + 1) rows) (take gone rows) c → holds p kept
 
 -- the stop names these rows as still held, and this path
 abbrev pub IsUnfitOf : List ℕ → UnfitPath → RemoveStop → Type 0

@@ -1,8 +1,17 @@
 -- Constants that change.
-use Rattle.std.specs.Prelude.{◌≡◌, List, [], ◌∷◌, map, All}
+use Rattle.std.specs.Prelude.{◌≡◌, ℕ, true, List, [], ◌∷◌, map, All}
 use Rattle.frac_core.specs.Fraction.{IsKept}
 use Rattle.problem_core.specs.Layout.{Row, Problem}
-use Rattle.corner.specs.Shifting.{IsNear}
+use Rattle.problem_core.specs.declared.parts.Mark.{Mark}
+use Rattle.problem_core.specs.declared.stops.What.{What}
+use Rattle.problem_core.specs.declared.stops.Quantity.{Quantity}
+use Rattle.problem_core.specs.declared.stops.Quantity.TheVariants.{Plain, Shifts}
+use Rattle.problem_core.specs.Changes.Paths.{IsPath}
+use Rattle.problem_core.specs.Unfit.{IsUnfit}
+use Rattle.cert_core.specs.Stops.{IsStopOf}
+use Rattle.cert_core.specs.declared.stops.RunStop.{RunStop}
+use Rattle.corner_ends.specs.Runs.{FromHere}
+use Rattle.corner.specs.Shifts.Shifting.{IsNear}
 use Rattle.corner.specs.Views.{CornerView, Scene}
 use Rattle.corner_lines.specs.Shifts.{has_constant, with_constant}
 use Rattle.layout_solver.specs.declared.engine.Change.{Change}
@@ -34,3 +43,9 @@ AreKept to = All (λ t. IsKept t.constant) to
 abbrev pub IsAtMark : CornerView → Type 0
 IsAtMark c = (newest : Scene) × (rest : List Scene) × (c.before ≡ newest ∷ rest)
     × (c.marks ≡ newest.marks)
+
+-- where this does not fit at these marks once so many constants have changed, a dual run from them stops so
+abbrev pub IsShiftsStop : List Mark → Quantity → ℕ → RunStop → Type 0
+IsShiftsStop at quantity changed stop = (p : Problem) (old : List Row) (what : What) → quantity ≡ Plain what
+    → IsPath true p at [] → IsUnfit p old at (Shifts what changed)
+    → (budget : ℕ) → IsStopOf true p old (FromHere at) budget stop

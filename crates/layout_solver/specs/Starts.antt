@@ -1,11 +1,15 @@
 -- The problem that a run begins with.
-use Rattle.std.specs.Prelude.{◌≡◌, ◌≢◌, ℕ, ◌<◌, List, [], ◌∷◌, ◌++◌, length, map, All}
+use Rattle.std.specs.Prelude.{◌≡◌, ◌≢◌, ℕ, ◌<◌, false, List, [], ◌∷◌, ◌++◌, length, map, All}
 use Rattle.std.specs.List.{AllByRecursion as Each}
 use Rattle.frac_core.specs.Fraction.{Fraction, IsLowest}
 use Rattle.problem_core.specs.declared.limits.TheConstants.{ROW_LIMIT}
+use Rattle.problem_core.specs.declared.parts.Mark.{Mark}
 use Rattle.problem_core.specs.Layout.{Problem, Row}
 use Rattle.problem_core.specs.Kept.{IsNumber}
+use Rattle.cert_core.specs.Paths.{Path}
+use Rattle.corner.specs.Changes.{FromAdded}
 use Rattle.corner.specs.Views.{CornerView}
+use Rattle.corner_ends.specs.Runs.{IsRun}
 use Rattle.layout_solver.specs.Layouts.{AreValuesAt, stays_at, zeros}
 
 -- beside the attributes that are held there is room for these, none of which is one of them
@@ -24,3 +28,7 @@ pub record IsMoved (from : CornerView) (attrs : List ℕ) (rows : List Row) (p :
   pub lowest : All (λ v. IsLowest v.1) values
   pub stand : AreValuesAt from.problem from.marks values
   pub is : p ≡ record { rows = rows; stays = stays_at (values ++ zeros attrs) }
+
+-- a lawful path within the budget from where these rows have joined the kept marks to the last ones
+abbrev pub HasAdded : Problem → List Mark → List Row → ℕ → List Mark → Type 0
+HasAdded p kept rows budget last = (path : Path) × IsRun false p (FromAdded p kept rows []) budget last path

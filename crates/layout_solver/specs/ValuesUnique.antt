@@ -12,10 +12,11 @@ use Rattle.problem_core.specs.declared.parts.Mark.{Mark}
 use Rattle.problem_core.specs.declared.parts.Stay.{Stay}
 use Rattle.problem_core.specs.Layout.{Problem}
 use Rattle.problem_core.specs.Corners.{Agree, IsCorner, Point, StandsAt, attr_column, one_column}
-use Rattle.corner_laws.proofs.Rays.{above-zero}
+use Rattle.frac_core.proofs.Numbers.{as-natural as above-zero}
 use Rattle.corner.specs.Views.{HasValueAt, Scene}
 use Rattle.layout_solver.specs.Engines.{AreItsValues, HasValues, HaveValues}
-use Rattle.frac_core.proofs.OneFraction.{one_value, same_fraction}
+use Rattle.frac_core.proofs.OneFraction.{one_value}
+use Rattle.frac_core.proofs.Made.{same_fraction}
 
 -- ---- one value
 

@@ -3,12 +3,11 @@ ghost use Rattle.std.specs.Prelude.{◌≡◌, ◌<◌, ◌++◌, [], length, fa
 ghost use Rattle.problem_core.specs.Layout as layout;
 ghost use Rattle.problem_core.specs.Kept.{IsWhole};
 ghost use Rattle.problem_core.specs.Corners.{NoNegativeValue};
-ghost use Rattle.cert_core.specs.Paths as paths;
 ghost use Rattle.cert_core.specs.Stops.{IsStopOf};
 ghost use Rattle.corner.specs.Changes.{FromAdded, with_rows as with_more};
-ghost use Rattle.corner_ends.specs.Runs.{IsBestEnd, IsRun};
+ghost use Rattle.corner_ends.specs.Runs.{IsBestEnd};
 ghost use Rattle.layout_solver.specs.Layouts.{stays_at, zeros};
-ghost use Rattle.layout_solver.specs.Starts.{CanTake, IsMoved, attrs_of};
+ghost use Rattle.layout_solver.specs.Starts.{CanTake, HasAdded, IsMoved, attrs_of};
 
 use cert_core::RunStop;
 use corner::Corner;
@@ -44,8 +43,8 @@ fn join(alloc: Global, c: &mut Corner, rows: &[Row], budget: u64) -> Result<(), 
     ensures before { c.new.before ≡ c.old.before }
     ensures end { IfOk result (λ _. IsBestEnd c.new.problem c.new.marks) }
     ensures listed { IfOk result (λ _. c.new.candidates ≡ []) }
-    ensures path { IfOk result (λ _. (path : paths.Path) × IsRun false (with_more c.old.problem rows.now)
-        (FromAdded (with_more c.old.problem rows.now) c.old.marks rows.now []) budget c.new.marks path) }
+    ensures path { IfOk result
+        (λ _. HasAdded (with_more c.old.problem rows.now) c.old.marks rows.now budget c.new.marks) }
     ensures stop { IfErr result (IsStopOf false (with_more c.old.problem rows.now) c.old.problem.rows
         (FromAdded (with_more c.old.problem rows.now) c.old.marks rows.now) budget) }
 {
@@ -88,7 +87,7 @@ pub(crate) fn extend(
     ensures listed { IfOk result (λ _. c.new.candidates ≡ []) }
     ensures path { IfOk result (λ _. (p : layout.Problem)
         → IsMoved c.old attrs.now (c.old.problem.rows ++ rows.now) p
-        → (path : paths.Path) × IsRun false p (FromAdded p c.old.marks rows.now []) budget c.new.marks path) }
+        → HasAdded p c.old.marks rows.now budget c.new.marks) }
     ensures stop { IfErr result (λ stop. (p : layout.Problem)
         → IsMoved c.old attrs.now (c.old.problem.rows ++ rows.now) p
         → IsStopOf false p c.old.problem.rows (FromAdded p c.old.marks rows.now) budget stop) }

@@ -20,6 +20,7 @@ ghost use Rattle.layout_solver.specs.Layouts.{solution_of, with_added, zeros};
 ghost use Rattle.layout_solver.specs.Shifts.{AreKept, CanShift, with_shifts};
 ghost use Rattle.layout_solver.specs.Removals.{CanLeave, HasRemoved, IsRemoveStop, stood, with_removed};
 ghost use Rattle.layout_solver.specs.Engines.{HasValues, HaveValues};
+ghost use Rattle.layout_solver.specs.Starts.{HasAdded};
 ghost use Rattle.layout_solver.specs.ValuesUnique.{lists_are_one, one_list};
 
 use crate::changing::extend;
@@ -86,7 +87,7 @@ impl Engine {
         ensures rising { AreRising self.now.values }
         ensures earlier { All IsKeptSolution self.now.earlier }
     {
-        let _ = &self.corner;
+        let _ = &self.corner; // for the proof: what an engine keeps
     }
 
     /// Adds attributes at 0 and rows, with the stays at the present values, and goes on to the best values.
@@ -100,10 +101,8 @@ impl Engine {
         requires whole { IsWhole (with_added self.old attrs.now rows.now) }
         requires rising { AreRising (self.old.values ++ zeros attrs.now) }
         ensures done { IfOk result (λ _. self.new.problem ≡ with_added self.old attrs.now rows.now) }
-        ensures path { IfOk result (λ _. (path : paths.Path)
-            × IsRun false (with_added self.old attrs.now rows.now)
-            (FromAdded (with_added self.old attrs.now rows.now) self.old.corner rows.now [])
-            budget self.new.corner path) }
+        ensures path { IfOk result (λ _. HasAdded (with_added self.old attrs.now rows.now) self.old.corner
+            rows.now budget self.new.corner) }
         ensures stop { IfErr result (IsStopOf false (with_added self.old attrs.now rows.now)
             self.old.problem.rows
             (FromAdded (with_added self.old attrs.now rows.now) self.old.corner rows.now) budget) }

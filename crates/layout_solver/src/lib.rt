@@ -15,6 +15,10 @@
 //! each earlier one. The values are not stored. A corner fixes them ([`Engine::value`] reads them there), and
 //! ghost fields name them.
 //!
+//! What an [`Engine`] keeps ([`Engine::show_layout`]): the problem is whole; the values are its best ones, in
+//! lowest terms and by rising attribute; they stand at the corner, where no value and no column is negative
+//! and the required rows cost nothing. So it is with each earlier one.
+//!
 //! | Clause | Says |
 //! |---|---|
 //! | `show_layout`: `best` | the values are those of a best assignment; no other list is |
@@ -43,8 +47,9 @@
 //! engine.value(1);                            // 20
 //! ```
 //!
-//! Linear programming's words: `add` and `remove` go on by the primal simplex method from a feasible basis,
-//! `shift` by the dual one from a basis that is dual feasible.
+//! Linear programming's words: the values at a corner are a basic solution, the marks inside it are the
+//! basis, and an exchange of marks is a pivot. `add` and `remove` go on by the primal simplex method from a
+//! feasible basis, `shift` by the dual one from a basis that is dual feasible.
 //!
 //! To read: `reading` finds rows and stays. `changing`, `removing` and `shifting` have the ways of a corner
 //! to the best one of another problem, with more rows, with fewer, or with other constants; `trying` goes

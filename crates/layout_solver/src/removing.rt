@@ -3,16 +3,16 @@ ghost use Rattle.std.specs.Prelude.{◌≡◌, ◌≢◌, ◌<◌, ◌+◌, ◌+
 ghost use Rattle.std.specs.Prelude.{All, AllPairs, Any, Contains, IfOk, IfErr};
 ghost use Rattle.problem_core.specs.Layout as layout;
 ghost use Rattle.problem_core.specs.Layout.{HasStay};
-ghost use Rattle.problem_core.specs.Begins.{without_marks};
+ghost use Rattle.problem_core.specs.Changes.Begins.{without_marks};
 ghost use Rattle.problem_core.specs.Corners.{NoNegativeValue};
 ghost use Rattle.problem_core.specs.declared.parts.Mark.{Mark as MarkOfLine};
 ghost use Rattle.cert_core.specs.Paths as paths;
 ghost use Rattle.cert_core.specs.Stops.{IsStopOf};
 ghost use Rattle.corner_ends.specs.Runs.{IsBestEnd, IsRun};
-ghost use Rattle.corner.specs.Views.{IsKeptCorner};
 ghost use Rattle.marker_remove.specs.Freed.{DoStand, HasMarkIn};
-ghost use Rattle.layout_solver.specs.Removals.{CanLeave, HasRemoved, HaveGone, IsEndStop, IsRemoveStop};
-ghost use Rattle.layout_solver.specs.Removals.{IsStillStop, IsUnfitOf, without, without_attrs};
+ghost use Rattle.layout_solver.specs.Removals.{AfterFreed, AfterGone, CanLeave, HasRemoved, HaveGone};
+ghost use Rattle.layout_solver.specs.Removals.{IsEndStop, IsRemoveStop, IsStillStop, IsUnfitOf};
+ghost use Rattle.layout_solver.specs.Removals.{without, without_attrs};
 ghost use Rattle.layout_solver.specs.Starts.{IsMoved};
 
 use cert_core::{Path, RunStop, UnfitPath};
@@ -35,6 +35,16 @@ pub enum RemoveStop {
     Spent(Path),
     #[error("memory is wanting")]
     OutOfMemory,
+}
+
+impl From<OutOfMemory> for RemoveStop {
+    ghost use Rattle.layout_solver.specs.declared.removing.RemoveStop.TheVariants.{OutOfMemory};
+
+    ghost from_gives = { λ _ stop. stop ≡ OutOfMemory };
+
+    fn from(_: OutOfMemory) -> RemoveStop {
+        RemoveStop::OutOfMemory
+    }
 }
 
 // The stop while these rows are still held.
@@ -90,14 +100,10 @@ fn free_next(alloc: Global, c: &mut Corner, rows: &[u32], gone: usize) -> Result
     requires standing { DoStand c.old.problem c.old.marks }
     ensures before { c.new.before ≡ c.old.before }
     ensures inside { IfOk result (λ _. HasMarkIn c.new.marks (get_or rows.now gone 0)) }
-    ensures freed { IfOk result (λ _. (p : layout.Problem) (kept : List MarkOfLine) → IsKeptCorner p kept
-        → AllPairs (λ a b. a ≢ b) rows.now
-        → HaveGone p kept (take gone rows.now) (take gone rows.now) c.old
-        → HaveGone p kept (take (gone + 1) rows.now) (take gone rows.now) c.new) }
-    ensures stop { IfErr result (λ stop. (p : layout.Problem) (kept : List MarkOfLine) → IsKeptCorner p kept
-        → AllPairs (λ a b. a ≢ b) rows.now
-        → HaveGone p kept (take gone rows.now) (take gone rows.now) c.old
-        → IsStillStop p kept rows.now stop) }
+    ensures freed { IfOk result (λ _. AfterGone rows.now gone c.old
+        (λ p kept. HaveGone p kept (take (gone + 1) rows.now) (take gone rows.now) c.new)) }
+    ensures stop { IfErr result
+        (λ stop. AfterGone rows.now gone c.old (λ p kept. IsStillStop p kept rows.now stop)) }
 {
     c.show_corner(); // for the proof: what a corner keeps
     match free_row(alloc, c, rows[gone]) {
@@ -113,21 +119,19 @@ fn drop_next(alloc: Global, c: &mut Corner, rows: &[u32], gone: usize) -> Result
     requires within { gone < length rows.now }
     requires inside { HasMarkIn c.old.marks (get_or rows.now gone 0) }
     ensures before { c.new.before ≡ c.old.before }
-    ensures gone { IfOk result (λ _. (p : layout.Problem) (kept : List MarkOfLine)
-        → HaveGone p kept (take (gone + 1) rows.now) (take gone rows.now) c.old
-        → HaveGone p kept (take (gone + 1) rows.now) (take (gone + 1) rows.now) c.new) }
-    ensures stop { IfErr result (λ stop. (p : layout.Problem) (kept : List MarkOfLine)
-        → HaveGone p kept (take (gone + 1) rows.now) (take gone rows.now) c.old
-        → IsStillStop p kept rows.now stop) }
+    ensures gone { IfOk result (λ _. AfterFreed rows.now gone c.old
+        (λ p kept. HaveGone p kept (take (gone + 1) rows.now) (take (gone + 1) rows.now) c.new)) }
+    ensures stop { IfErr result
+        (λ stop. AfterFreed rows.now gone c.old (λ p kept. IsStillStop p kept rows.now stop)) }
 {
     c.show_corner(); // for the proof: what a corner keeps
     let id = rows[gone];
     match c.drop_row(id) {
         Ok(()) => Ok(()),
-        Err(Stop::Refused(quantity)) => match path_without(alloc, c, id) {
-            Ok(path) => Err(held_stop(alloc, &rows[gone + 1..], UnfitPath { path, quantity })),
-            Err(OutOfMemory) => Err(RemoveStop::OutOfMemory),
-        },
+        Err(Stop::Refused(quantity)) => {
+            let path = path_without(alloc, c, id)?;
+            Err(held_stop(alloc, &rows[gone + 1..], UnfitPath { path, quantity }))
+        }
         Err(Stop::OutOfMemory) => Err(RemoveStop::OutOfMemory),
     }
 }
@@ -140,14 +144,10 @@ fn take_next(alloc: Global, c: &mut Corner, rows: &[u32], gone: usize) -> Result
     requires values { NoNegativeValue c.old.problem c.old.marks }
     requires standing { DoStand c.old.problem c.old.marks }
     ensures before { c.new.before ≡ c.old.before }
-    ensures gone { IfOk result (λ _. (p : layout.Problem) (kept : List MarkOfLine) → IsKeptCorner p kept
-        → AllPairs (λ a b. a ≢ b) rows.now
-        → HaveGone p kept (take gone rows.now) (take gone rows.now) c.old
-        → HaveGone p kept (take (gone + 1) rows.now) (take (gone + 1) rows.now) c.new) }
-    ensures stop { IfErr result (λ stop. (p : layout.Problem) (kept : List MarkOfLine) → IsKeptCorner p kept
-        → AllPairs (λ a b. a ≢ b) rows.now
-        → HaveGone p kept (take gone rows.now) (take gone rows.now) c.old
-        → IsStillStop p kept rows.now stop) }
+    ensures gone { IfOk result (λ _. AfterGone rows.now gone c.old
+        (λ p kept. HaveGone p kept (take (gone + 1) rows.now) (take (gone + 1) rows.now) c.new)) }
+    ensures stop { IfErr result
+        (λ stop. AfterGone rows.now gone c.old (λ p kept. IsStillStop p kept rows.now stop)) }
 {
     free_next(alloc, c, rows, gone)?;
     drop_next(alloc, c, rows, gone)
@@ -232,13 +232,9 @@ fn leave_attrs(alloc: Global, c: &mut Corner, attrs: &[u32], budget: u64) -> Res
         → HaveGone p kept rows rows c.old
         → IsRemoveStop p kept (record { rows = rows; attrs = attrs.now }) budget stop) }
 {
-    match drop_attrs(c, attrs) {
-        Ok(()) => {
-            c.show_corner(); // for the proof: what a corner keeps
-            settle_left(alloc, c, budget)
-        }
-        Err(OutOfMemory) => Err(RemoveStop::OutOfMemory),
-    }
+    drop_attrs(c, attrs)?;
+    c.show_corner(); // for the proof: what a corner keeps
+    settle_left(alloc, c, budget)
 }
 
 // Takes rows and attributes out where the stays stand at the present values, and goes on to the best
@@ -292,11 +288,7 @@ pub(crate) fn shrink(
         → IsRemoveStop p c.old.marks (record { rows = rows.now; attrs = attrs.now }) budget stop) }
 {
     c.show_corner(); // for the proof: what a corner keeps
-    match c.stand() {
-        Ok(()) => {
-            c.show_corner(); // for the proof: what a corner keeps
-            take_out(alloc, c, rows, attrs, budget)
-        }
-        Err(OutOfMemory) => Err(RemoveStop::OutOfMemory),
-    }
+    c.stand()?;
+    c.show_corner(); // for the proof: what a corner keeps
+    take_out(alloc, c, rows, attrs, budget)
 }

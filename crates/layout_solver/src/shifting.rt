@@ -1,16 +1,13 @@
 // The way of a corner to the best one of a problem with other constants.
-ghost use Rattle.std.specs.Prelude.{◌≡◌, ◌<◌, ℕ, List, [], length, true, All, AllPairs, Any, IfOk, IfErr};
+ghost use Rattle.std.specs.Prelude.{◌≡◌, ◌<◌, ℕ, [], length, true, All, AllPairs, Any, IfOk, IfErr};
 ghost use Rattle.problem_core.specs.Layout as layout;
 ghost use Rattle.problem_core.specs.Corners.{NoNegativeColumn, NoNegativeValue};
-ghost use Rattle.problem_core.specs.Paths.{IsPath};
-ghost use Rattle.problem_core.specs.Unfit.{IsUnfit};
-ghost use Rattle.problem_core.specs.declared.stops.What as what_type;
-ghost use Rattle.problem_core.specs.declared.stops.Quantity.TheVariants.{Plain, Shifts};
 ghost use Rattle.cert_core.specs.Paths as paths;
 ghost use Rattle.cert_core.specs.Stops.{IsPlain, IsStopOf};
 ghost use Rattle.corner_ends.specs.Runs.{FromHere, IsBestEnd, IsRun};
 ghost use Rattle.dual_run.specs.Leaving.{AreLowLines};
-ghost use Rattle.layout_solver.specs.Shifts.{AreKept, CanShift, IsAtMark, shifted, with_constants};
+ghost use Rattle.layout_solver.specs.Shifts.{AreKept, CanShift, IsAtMark, IsShiftsStop, shifted};
+ghost use Rattle.layout_solver.specs.Shifts.{with_constants};
 ghost use Rattle.layout_solver.specs.Starts.{IsMoved};
 
 use crate::engine::Change;
@@ -41,9 +38,7 @@ fn path_here(alloc: Global, c: &Corner) -> Result<Path, OutOfMemory>
 // The stop where a quantity does not fit once so many constants have changed.
 fn shifts_stop(alloc: Global, c: &Corner, quantity: Quantity, changed: u32) -> RunStop
     requires { IsPlain quantity }
-    ensures { (p : layout.Problem) (old : List layout.Row) (what : what_type.What) → quantity ≡ Plain what
-        → IsPath true p c.now.marks [] → IsUnfit p old c.now.marks (Shifts what changed)
-        → (budget : ℕ) → IsStopOf true p old (FromHere c.now.marks) budget result }
+    ensures { IsShiftsStop c.now.marks quantity changed result }
 {
     let Quantity::Plain(what) = quantity else {
         unreachable!()
@@ -86,7 +81,6 @@ fn shift_all(
     c.show_corner(); // for the proof: what a corner keeps
     let mut changed = 0;
     for change in to {
-        c.show_corner(); // for the proof: what a corner keeps
         if constant_of(c.rows(), change.row) == change.constant {
             continue;
         }

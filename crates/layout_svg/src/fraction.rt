@@ -1,7 +1,7 @@
 // Fractions, read exactly, and written as decimals.
 use std::alloc::AllocError;
 
-/// The most digits of a part.
+// The most digits of a part.
 const DIGITS: usize = 13;
 
 /// A fraction, or a whole number over 1.

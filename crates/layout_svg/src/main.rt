@@ -8,6 +8,9 @@
 //! layout run < script | layout_svg > drawing.svg
 //! ```
 //!
+//! What a drawing keeps: it has each view of that reply once, in the reply's order, at its numbers rounded to
+//! thousandths.
+//!
 //! In reading order: `fraction` (read exactly, written as decimals), `frame` (the line of a frame), `reply`
 //! (the last reply to `frames`), `drawing`.
 #![tactic(auto)]
@@ -24,7 +27,7 @@ use std::io;
 use std::io::Write;
 use std::process::ExitCode;
 
-/// The greatest length of the input, in bytes.
+// The greatest length of the input, in bytes.
 const LIMIT: usize = 1_048_576;
 
 // What is printed for the input, and whether it is the drawing: otherwise it is a line that says why there is

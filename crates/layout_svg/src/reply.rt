@@ -4,7 +4,7 @@ use std::alloc::{AllocError, Global};
 
 /// Why there is no drawing.
 #[derive(Clone, Copy, Debug, PartialEq, Eq)]
-pub enum Fault {
+pub(crate) enum Fault {
     /// This line, counted from 1, begins as a frame and is none, or no frame of the window stands before it.
     Malformed(usize),
     /// There is no reply to `frames`, or one that doesn't end in `ok`.
@@ -37,7 +37,7 @@ fn take<'a>(
 }
 
 /// The frames of the last reply to `frames`, that of the window first.
-pub fn last_reply(alloc: Global, input: &str) -> Result<Vec<Frame<'_>>, Fault> {
+pub(crate) fn last_reply(alloc: Global, input: &str) -> Result<Vec<Frame<'_>>, Fault> {
     let mut frames = Vec::new(alloc);
     let mut is_open = false;
     for (place, line) in input.lines().enumerate() {

@@ -1,5 +1,6 @@
 -- The script that is made for a seed: lines for many views, drawn one after the other.
 use Rattle.std.specs.Prelude.{ℕ, zero, suc, ◌+◌, ◌-◌, List, [], ◌∷◌, ◌++◌, codes, decimal}
+use Rattle.span_text.specs.Bytes.{newline}
 use Rattle.make_script.specs.Draws.{next, drawn}
 use Rattle.make_script.specs.declared.texts.TheConstants.{HEIGHT_BOUND, LEAST_HEIGHT, LEAST_PRIORITY}
 use Rattle.make_script.specs.declared.texts.TheConstants.{LEAST_SUGGESTION, LEAST_WIDTH, LEFT_BOUND}
@@ -10,30 +11,32 @@ use Rattle.make_script.specs.declared.part.Part.TheVariants.{Views, Sizes, Stack
 
 -- `view vI`
 unfoldable pub view_line : ℕ → List ℕ
-view_line i = codes "view v" ++ (decimal i ++ 10 ∷ [])
+view_line i = codes "view v" ++ (decimal i ++ newline ∷ [])
 
 -- `vfl hI H:|-X-[vI(WIDTH@PRIORITY)]`
 unfoldable pub size_line : ℕ → ℕ → ℕ → ℕ → List ℕ
 size_line i x width priority = codes "vfl h" ++ (decimal i
     ++ (codes " H:|-" ++ (decimal x ++ (codes "-[v" ++ (decimal i
-    ++ (codes "(" ++ (decimal width ++ (codes "@" ++ (decimal priority ++ (codes ")]" ++ 10 ∷ []))))))))))
+    ++ (codes "(" ++ (decimal width ++ (codes "@" ++ (decimal priority
+    ++ (codes ")]" ++ newline ∷ []))))))))))
 
 -- `vfl tI V:[vJ(HEIGHT)]-8-[vI]`, where J is I less 1
 unfoldable pub stack_line : ℕ → ℕ → List ℕ
 stack_line i height = codes "vfl t" ++ (decimal i ++ (codes " V:[v"
     ++ (decimal (i - 1) ++ (codes "(" ++ (decimal height
-    ++ (codes ")]-8-[v" ++ (decimal i ++ (codes "]" ++ 10 ∷ []))))))))
+    ++ (codes ")]-8-[v" ++ (decimal i ++ (codes "]" ++ newline ∷ []))))))))
 
 -- `constrain eI vI.width >= vJ.width + MORE @PRIORITY`, where J is I less 1
 unfoldable pub width_line : ℕ → ℕ → ℕ → List ℕ
 width_line i more priority = codes "constrain e" ++ (decimal i
     ++ (codes " v" ++ (decimal i ++ (codes ".width >= v"
     ++ (decimal (i - 1) ++ (codes ".width + " ++ (decimal more
-    ++ (codes " @" ++ (decimal priority ++ 10 ∷ [])))))))))
+    ++ (codes " @" ++ (decimal priority ++ newline ∷ [])))))))))
 
 -- `suggest vI.width WIDTH`
 unfoldable pub suggestion_line : ℕ → ℕ → List ℕ
-suggestion_line i width = codes "suggest v" ++ (decimal i ++ (codes ".width " ++ (decimal width ++ 10 ∷ [])))
+suggestion_line i width = codes "suggest v" ++ (decimal i ++ (codes ".width " ++ (decimal width
+    ++ newline ∷ [])))
 
 -- the line of a part for the view of this number, drawn from this state
 abbrev pub line_of : Part → ℕ → ℕ → List ℕ

@@ -5,8 +5,8 @@
 //! make_script(7, 60, &mut out)?;                // appends the script of 60 views that the seed 7 draws
 //! ```
 //!
-//! Equal seeds and numbers of views give equal scripts, byte for byte (`script` in `specs/`). Want of memory
-//! leaves the text as it was.
+//! What [`make_script`] keeps: equal seeds and numbers of views give equal scripts, byte for byte (`script`
+//! in `specs/`), and want of memory leaves the text as it was.
 //!
 //! In reading order: `draws` (the generator), `part` (the parts that have a line for each of many views),
 //! `texts` (their lines), `script`.

@@ -1,54 +1,38 @@
 -- The marks after the exchange in order, and the path there.
-use Rattle.std.proofs.Common.{◌≡◌, ◌≢◌, ◌∙◌, ℕ, zero, suc, Bool, true, false, cond, List, [], ◌∷◌, filter, map, refl, sym, ap, subst, arith, AllPairs, Contains, inl, inr, eq-eqb, ne_eqb}
+use Rattle.std.proofs.Common.{◌≡◌, ◌≢◌, ◌∙◌, ℕ, zero, suc, Bool, true, false, cond, List, [], ◌∷◌, filter, map, refl, sym, ap, subst, arith, Contains, inl, inr}
 use Rattle.std.specs.List.{AllByRecursion as Each}
 use Rattle.std.proofs.lemmas.Bool.{cases_Bool, cases_eq}
 use Rattle.std.proofs.lemmas.List.Elements.{All-from_recursion, recursion_from_All}
-use Rattle.std.proofs.lemmas.List.Kept.{AllPairs-cons, AllPairs-filter}
+use Rattle.std.proofs.lemmas.List.Kept.{AllPairs-filter}
 use Rattle.problem_core.specs.declared.parts.Mark.{Mark}
 use Rattle.problem_core.specs.declared.parts.RowName.TheVariants.{Held}
-use Rattle.problem_core.specs.declared.parts.Side.TheVariants.{Under, Over}
+use Rattle.problem_core.specs.declared.parts.Side.TheVariants.{Over}
 use Rattle.problem_core.specs.declared.stops.What.{What}
 use Rattle.problem_core.specs.declared.stops.Quantity.{Quantity}
 use Rattle.problem_core.specs.declared.stops.Quantity.TheVariants.{Plain, Terms, Rows, Shifts}
 use Rattle.frac_core.specs.declared.memory.Stop.TheVariants.{Refused}
-use Rattle.problem_core.specs.Layout.{Line, Problem, lines}
+use Rattle.problem_core.specs.Layout.{Problem, lines}
 use Rattle.problem_core.specs.Corners.{IsCorner, IsExchange, IsIn, NoNegativeValue, SameMarks, Swap, exchanged, marks_of, place}
-use Rattle.problem_core.specs.Paths.{IsPath}
-use Rattle.problem_core.specs.Kept.{IsWhole}
 use Rattle.problem_core.specs.Unfit.{IsUnfitWhat}
 use Rattle.problem_core.proofs.Forms.{each-impl}
 use Rattle.cert_core.specs.Paths.{Path}
 use Rattle.corner_laws.proofs.Exchanged.{exchanged_in}
-use Rattle.corner_laws.proofs.LinePlaces.{AllApart, IsSmallLine, lines_apart, lines_small}
-use Rattle.corner_laws.proofs.Rays.{enter_in, kept_in}
-use Rattle.corner_laws.proofs.RunPaths.{contains_in}
+use Rattle.corner_laws.proofs.LinePlaces.{marks-apart as marks_apart}
+use Rattle.corner_laws.proofs.RunSteps.RunPaths.{contains_in}
 use Rattle.corner_laws.proofs.WrittenValues.{contains_each}
 use Rattle.corner.specs.Views.{IsKeptCorner, in_order, is_mark}
 use Rattle.corner.specs.Changes.{IsUnfitStop}
 use Rattle.corner_lines.proofs.SameMarks.{same_corner}
 use Rattle.corner_ends.specs.Begins.{HasExchanged}
-use Rattle.corner_ends.proofs.MarkOrders.{in_list, same_back, unfit_same}
+use Rattle.corner_ends.proofs.MarkOrders.{unfit_same}
 use Rattle.marker_remove.specs.Freed.{DoStand, HasMarkIn, IsFreedPath, IsStayMover}
 use Rattle.marker_remove.proofs.ZeroSwaps.{same_up}
-use Rattle.corner_lines.proofs.Dropped.{later-in}
-use Rattle.corner.proofs.NextFacts.{apart-line}
+use Rattle.frac_core.proofs.Bools.{bools-same as same_bool}
+use Rattle.corner_laws.proofs.Swaps.Pivots.{leave-gone as left-out}
+use Rattle.corner.proofs.Readings.KeptFacts.{is_in, in_is}
+use Rattle.problem_core.proofs.Marks.{entered-in as enter_in, same-back as same_back, kept-in as kept_in, later-in, in-list as in_list, no-swaps as path_here}
 
 -- ---- marks in order
-
-pub in_is : (ms : List Mark) (c : ℕ) → is_mark ms c ≡ true → IsIn c ms
-in_is [] c e = absurd (let f : false ≡ true = e in cc)
-in_is (m ∷ ms) c e = elim (cases_eq (place m) c) [
-  | inl q ↦ (0, omega arith, q)
-  | inr n ↦ let h = in_is ms c (sym (ap (λ (b : Bool). cond b true (is_mark ms c)) (ne_eqb (place m) c n)) ∙ e) in (suc h.0, (let less = h.1 in omega (arith, less)), h.2)
-]
-
-pub is_in : (ms : List Mark) (c : ℕ) → IsIn c ms → is_mark ms c ≡ true
-is_in [] c (k, within, is) = absurd (omega (arith, within))
-is_in (m ∷ ms) c (zero, within, is) = ap (λ (b : Bool). cond b true (is_mark ms c)) (eq-eqb (place m) c is)
-is_in (m ∷ ms) c (suc k, within, is) = elim (cases_eq (place m) c) [
-  | inl q ↦ ap (λ (b : Bool). cond b true (is_mark ms c)) (eq-eqb (place m) c q)
-  | inr n ↦ ap (λ (b : Bool). cond b true (is_mark ms c)) (ne_eqb (place m) c n) ∙ is_in ms c (k, omega (arith, within), is)
-]
 
 -- those of the list that are among the marks
 abbrev pub among : List Mark → List Mark → List Mark
@@ -79,24 +63,19 @@ among-only ms (m ∷ list) = elim (cases_Bool (is_mark ms (place m))) [
 -- where each of the marks is in the list
 pub same_among : (ms list : List Mark) → ((c : ℕ) → IsIn c ms → IsIn c list) → SameMarks (among ms list) ms
 same_among ms list all = (
-  All-from_recursion (λ m. IsIn (place m) ms) (among ms list) (each-impl (λ m. is_mark ms (place m) ≡ true) (λ m. IsIn (place m) ms) (among ms list) (λ m e. in_is ms (place m) e) (among-only ms list)),
-  All-from_recursion (λ m. IsIn (place m) (among ms list)) ms (each-impl (λ m. IsIn (place m) ms) (λ m. IsIn (place m) (among ms list)) ms (λ m i. among-all ms list (place m) (all (place m) i) (is_in ms (place m) i)) (in_list ms)),
+  All-from_recursion (λ m. IsIn (place m) ms) (among ms list) (each-impl (λ m. is_mark ms (place m) ≡ true) (λ m. IsIn (place m) ms) (among ms list) (λ m e. is_in ms (place m) e) (among-only ms list)),
+  All-from_recursion (λ m. IsIn (place m) (among ms list)) ms (each-impl (λ m. IsIn (place m) ms) (λ m. IsIn (place m) (among ms list)) ms (λ m i. among-all ms list (place m) (all (place m) i) (in_is ms (place m) i)) (in_list ms)),
 )
 
 same-filter : (f g : Mark → Bool) (xs : List Mark) → ((m : Mark) → f m ≡ g m) → filter f xs ≡ filter g xs
 same-filter f g [] h = refl
 same-filter f g (m ∷ xs) h = ap (λ (b : Bool). cond b (m ∷ filter f xs) (filter f xs)) (h m) ∙ ap (λ (ys : List Mark). cond (g m) (m ∷ ys) ys) (same-filter f g xs h)
 
-pub same_bool : (a b : Bool) → (a ≡ true → b ≡ true) → (b ≡ true → a ≡ true) → a ≡ b
-same_bool true b to back = sym (to refl)
-same_bool false true to back = back refl
-same_bool false false to back = refl
-
 -- the same marks are in one order
 pub one_order : (p : Problem) (a b : List Mark) → SameMarks a b → in_order p a ≡ in_order p b
 one_order p a b same =
     same-filter (λ m. is_mark a (place m)) (λ m. is_mark b (place m)) (marks_of (lines p))
-    (λ m. same_bool (is_mark a (place m)) (is_mark b (place m)) (λ e. is_in b (place m) (contains_in a b (place m) same.0 (in_is a (place m) e))) (λ e. is_in a (place m) (contains_in b a (place m) same.1 (in_is b (place m) e))))
+    (λ m. same_bool (is_mark a (place m)) (is_mark b (place m)) (λ e. in_is b (place m) (contains_in a b (place m) same.0 (is_in a (place m) e))) (λ e. in_is a (place m) (contains_in b a (place m) same.1 (is_in b (place m) e))))
 
 pub ordered_same : (p : Problem) (ms : List Mark) → IsCorner p ms → SameMarks (in_order p ms) ms
 ordered_same p ms corner =
@@ -109,12 +88,6 @@ ordered_again p ms corner = one_order p ms (in_order p ms) (same_back (in_order 
 
 abbrev pub back_of : Swap → Swap
 back_of s = record { enter = s.leave; leave = s.enter }
-
-left-out : (s : Swap) (at : List Mark) → (IsIn (place s.enter) at → ⊥) → IsIn (place s.leave) at → IsIn (place s.leave) (exchanged s at) → ⊥
-left-out s at enters leaves i = elim (exchanged_in s at (place s.leave) i) [
-  | inl e ↦ enters (subst (λ (c : ℕ). IsIn c at) e leaves)
-  | inr old ↦ old.1 refl
-]
 
 module _ (at first : List Mark) (s : Swap) (enters : IsIn (place s.enter) at → ⊥) (leaves : IsIn (place s.leave) at) (same : SameMarks first (exchanged s at)) where
   to-first : (c : ℕ) → IsIn c (exchanged s at) → IsIn c first
@@ -148,26 +121,6 @@ module _ (at first : List Mark) (s : Swap) (enters : IsIn (place s.enter) at →
   }
 
 -- ---- the path
-
-one-corner : (ms : List Mark) → AllPairs (λ a b. SameMarks a b → ⊥) (ms ∷ [])
-one-corner ms = AllPairs-cons (λ (a b : List Mark). SameMarks a b → ⊥) ms [] (All-from_recursion (λ b. SameMarks ms b → ⊥) [] tt) (λ i j d less within. absurd (omega (arith, within)))
-
-pub path_here : (p : Problem) (ms : List Mark) → IsCorner p ms → NoNegativeValue p ms → IsPath false p ms []
-path_here p ms corner up = record { corner = corner; apart = one-corner ms; lawful = up }
-
-apart-marks : (ls : List Line) → Each IsSmallLine ls → AllApart ls → AllPairs (λ m n. place m ≢ place n) (marks_of ls)
-apart-marks [] small h = λ i j d less lt. absurd (omega (arith, less, lt))
-apart-marks (l ∷ ls) small h =
-    let under : Mark = record { row = l.name; side = Under } in
-    let over : Mark = record { row = l.name; side = Over } in
-    AllPairs-cons (λ (m n : Mark). place m ≢ place n) under (over ∷ marks_of ls)
-    (All-from_recursion (λ (n : Mark). place under ≢ place n) (over ∷ marks_of ls) (small.0.sides, apart-line l ls Under h.0))
-    (AllPairs-cons (λ (m n : Mark). place m ≢ place n) over (marks_of ls)
-    (All-from_recursion (λ (n : Mark). place over ≢ place n) (marks_of ls) (apart-line l ls Over h.0))
-    (apart-marks ls small.1 h.1))
-
-marks_apart : (p : Problem) → IsWhole p → AllPairs (λ m n. place m ≢ place n) (marks_of (lines p))
-marks_apart p whole = apart-marks (lines p) (lines_small p whole) (lines_apart p whole)
 
 -- the path at the corner after the exchange
 pub freed_path : (p : Problem) (at : List Mark) (id : ℕ) (s : Swap) (path : Path) → IsKeptCorner p at → s.enter.row ≡ Held id → IsStayMover p at s.enter s.leave → IsExchange p at s → NoNegativeValue p at → DoStand p at

@@ -1,5 +1,5 @@
 -- The row `x >= k` where x stands at k: places 4, 5 of the row, 6, 7 of the stay.
-use Rattle.std.proofs.Common.{◌≡◌, ◌∙◌, ℕ, zero, suc, false, cond, nat_eq, List, [], ◌∷◌, map, ℤ, pos, negsuc, ◌+ℤ◌, ◌-ℤ◌, ◌*ℤ◌, ◌≤ℤ◌, refl, sym, ap, subst, arith, inl, inr, Contains}
+use Rattle.std.proofs.Common.{◌≡◌, ◌∙◌, ℕ, zero, suc, false, cond, nat_eq, List, [], ◌∷◌, map, ℤ, pos, negsuc, ◌+ℤ◌, ◌*ℤ◌, ◌≤ℤ◌, refl, sym, ap, subst, arith, inl, inr, Contains}
 use Rattle.std.proofs.lemmas.List.Elements.{All-from_recursion, recursion_from_All}
 use borrow.Author.Differences.{ints}
 use Rattle.problem_core.specs.declared.parts.Mark.{Mark}
@@ -13,19 +13,18 @@ use Rattle.problem_core.specs.declared.stops.Quantity.TheVariants.{Plain, Terms,
 use Rattle.problem_core.specs.Layout.{Problem, lines, value_at}
 use Rattle.problem_core.specs.Corners.{Agree, IsCorner, IsExchange, IsIn, IsWritingOf, NoNegativeValue, Point, Solves, StandsAt, attr_column, equation, exchanged, marks_of, one_column, place, place_of}
 use Rattle.problem_core.specs.Unfit.{IsUnfitWhat}
-use Rattle.problem_core.specs.Paths.{IsPath}
+use Rattle.problem_core.specs.Changes.Paths.{IsPath}
 use Rattle.cert_core.specs.declared.stops.RunStop.TheVariants.{Unfit}
 use Rattle.corner.specs.Views.{HasValueAt}
 use Rattle.corner_laws.specs.Examples.{over_row, over_stay}
-use Rattle.corner_laws.proofs.Examples.{no_writing}
-use Rattle.corner_laws.proofs.Fits.{one_factor, whole_is_kept, difference, difference-at, small-by}
-use Rattle.corner_laws.proofs.PathExamples.{alone-in, no, one-value}
-use Rattle.corner_laws.proofs.Rays.{enter_in}
-use Rattle.corner_laws.proofs.RunPaths.{contains_in}
+use Rattle.corner_laws.proofs.Instances.Examples.{no_writing}
+use Rattle.corner_laws.proofs.MarkWritings.Fits.{one_factor, whole_is_kept, difference, difference-at, small-by, attr-holds as five-holds}
+use Rattle.corner_laws.proofs.Instances.PathExamples.{alone-in, no, one-value}
+use Rattle.corner_laws.proofs.RunSteps.RunPaths.{contains_in}
 use Rattle.marker_remove.specs.Freed.{DoStand, IsFreeStop}
 use Rattle.marker_remove.specs.Instances.{SomeRowsCannotLeave, standing, unfit_at, x_over}
-use Rattle.marker_remove.proofs.FreedPaths.{path_here}
-use Rattle.corner_laws.proofs.BeginExamples.{one-same}
+use Rattle.corner_laws.proofs.Instances.BeginExamples.{one-same}
+use Rattle.problem_core.proofs.Marks.{entered-in as enter_in, no-swaps as path_here}
 
 -- ---- x at 2^42, with all deviations 0
 
@@ -132,9 +131,6 @@ what_of (Plain what) = what
 what_of (Terms mark j) = Attr 0
 what_of (Rows level j) = Attr 0
 what_of (Shifts what j) = Attr 0
-
-five-holds : (s t one a : ℤ) → pos 1 *ℤ s +ℤ (negsuc 0 *ℤ t +ℤ (negsuc 4 *ℤ one +ℤ (pos 1 *ℤ a +ℤ pos 0))) ≡ pos 0 → pos 1 *ℤ (pos 1 *ℤ a -ℤ (pos 1 *ℤ t +ℤ (negsuc 0 *ℤ s +ℤ pos 0))) ≡ pos 1 *ℤ (pos 5 *ℤ one)
-five-holds s t one a e = omega (arith, ints, e)
 
 -- x is the stay's over deviation less its under one, and 5
 x-writing : IsWritingOf (standing 5) (over_row ∷ []) (λ x. x (attr_column 1)) 1 (difference 7 6) (pos 5) 1

@@ -19,15 +19,17 @@ use Rattle.problem_core.specs.Corners.{IsIn, attr_column, equation, marks_of, pl
 use Rattle.problem_core.specs.Rays.{IsRay}
 use Rattle.problem_core.proofs.Forms.{each-both, each-impl}
 use Rattle.corner_laws.proofs.Counting.{sides_apart}
-use Rattle.corner_laws.proofs.Ends.{decided, first-rows}
-use Rattle.corner_laws.proofs.Gaps.{no_gap}
-use Rattle.corner_laws.proofs.WrittenValues.{contains_each, not_zero}
+use Rattle.corner_laws.proofs.PathEnds.Ends.{decided, first-rows}
+use Rattle.corner_laws.proofs.LevelCosts.Gaps.{no_gap}
+use Rattle.corner_laws.proofs.WrittenValues.{contains_each}
 use Rattle.corner_laws.proofs.ZeroColumns.{here-in}
-use Rattle.corner_lines.proofs.MarkForms.{same-name}
+use Rattle.corner_lines.proofs.Lines.MarkForms.{same-name}
 use Rattle.corner.specs.Views.{AreMovers, CornerView, IsKeptCorner, IsNamed, IsOutside, MovesWith}
 use Rattle.corner_ends.proofs.Marks.{contained, got_holds, mark_is}
 use Rattle.marker_remove.specs.Freed.{HasMarkIn, IsStayMover}
-use Rattle.corner.proofs.DroppedAttrLevels.{stays_part}
+use Rattle.corner.proofs.Attributes.DroppedAttrLevels.{stays_part}
+use Rattle.problem_core.proofs.RowNames.{held-not-stay as held-stay}
+use Rattle.frac_core.proofs.Numbers.{signed-not-zero as not_zero}
 
 -- ---- the lines of rows and of stays
 
@@ -89,9 +91,6 @@ single-still u o a e f h = omega (arith, ints, e, f, h)
 
 abbrev pub HasMarks : Problem → Line → Type 0
 HasMarks p l = Contains (map place (marks_of (lines p))) (place_of l.name Under) × Contains (map place (marks_of (lines p))) (place_of l.name Over)
-
-held-stay : (a b : ℕ) → Held a ≢ StayOf b
-held-stay a b e = cc
 
 module _ (p : Problem) (at : List Mark) (id : ℕ) (side : Side) (ray : ℕ → ℤ) (is : IsRay p at (place_of (Held id) side) ray) where
   outside-rests : (c : ℕ) → Contains (map place (marks_of (lines p))) c → (IsIn c at → ⊥) → c ≢ place_of (Held id) side → ray c ≡ pos 0

@@ -1,14 +1,14 @@
 -- A stay's mark is at 0 where the stays stand at the present values, and its exchange changes no value.
-use Rattle.std.proofs.Common.{◌≡◌, ◌≢◌, ◌∙◌, ℕ, ◌+◌, ◌++◌, List, [], ◌∷◌, map, ℤ, pos, ◌+ℤ◌, ◌-ℤ◌, ◌*ℤ◌, ◌<ℤ◌, ◌≤ℤ◌, sym, ap, subst, arith, Contains, inl, inr}
+use Rattle.std.proofs.Common.{◌≡◌, ◌∙◌, ℕ, ◌+◌, ◌++◌, List, [], ◌∷◌, map, ℤ, pos, ◌+ℤ◌, ◌-ℤ◌, ◌*ℤ◌, ◌<ℤ◌, ◌≤ℤ◌, sym, ap, subst, arith, Contains, inl, inr}
 use Rattle.std.specs.List.{AllByRecursion as Each}
 use Rattle.std.proofs.lemmas.Bool.{cases_eq}
 use Rattle.std.proofs.lemmas.List.Elements.{All-from_recursion, recursion_from_All}
 use lib.IntN.{*ℤ_comm}
 use borrow.Author.Differences.{ints}
-use Rattle.frac_core.proofs.Integers.{zero-mul_ℤ, zero_from_mul, mul-add_left}
+use Rattle.frac_core.proofs.Integers.{zero-mul_ℤ, zero_from_mul, mul-add_left, same_from_sub as sides-same}
 use Rattle.problem_core.specs.declared.parts.Mark.{Mark}
 use Rattle.problem_core.specs.declared.parts.RowName.{RowName}
-use Rattle.problem_core.specs.declared.parts.RowName.TheVariants.{Held, Stay as StayOf}
+use Rattle.problem_core.specs.declared.parts.RowName.TheVariants.{Stay as StayOf}
 use Rattle.problem_core.specs.declared.parts.Side.{Side}
 use Rattle.problem_core.specs.declared.parts.Side.TheVariants.{Under, Over}
 use Rattle.problem_core.specs.declared.parts.Stay.{Stay}
@@ -17,25 +17,20 @@ use Rattle.problem_core.specs.Layout.{Line, Problem, Row, line_of_row, line_of_s
 use Rattle.problem_core.specs.Corners.{Agree, IsCorner, IsExchange, IsIn, NoNegativeValue, Point, SameMarks, StandsAt, Swap, attr_column, equation, exchanged, marks_of, one_column, place, place_of}
 use Rattle.problem_core.proofs.Forms.{each-impl, each-both}
 use Rattle.corner_laws.proofs.Exchanged.{exchanged_in}
-use Rattle.corner_laws.proofs.Gaps.{line_gap}
-use Rattle.corner_laws.proofs.Rays.{cancel-right, enter_in, kept_in}
-use Rattle.corner_laws.proofs.RunPaths.{contains_in, same_stands}
+use Rattle.corner_laws.proofs.LevelCosts.Gaps.{line_gap}
+use Rattle.corner_laws.proofs.Rays.{cancel-right}
+use Rattle.corner_laws.proofs.RunSteps.RunPaths.{contains_in, same_stands}
 use Rattle.corner_laws.proofs.WrittenValues.{contains_each, nothing_outside}
-use Rattle.corner_lines.specs.LineEquations.{other_side}
-use Rattle.corner_lines.proofs.LineWritings.{Named, inside-named, named-mark, other-out}
+use Rattle.corner_laws.specs.Runs.{other_side}
+use Rattle.corner_lines.proofs.Lines.LineWritings.{Named, inside-named, named-mark, other-out}
 use Rattle.corner.specs.Views.{HasValueAt}
-use Rattle.corner_ends.proofs.MarkOrders.{in_list}
 use Rattle.marker_remove.specs.Freed.{DoStand, HasSameValues}
-use Rattle.corner.proofs.DroppedAttrLevels.{stays_part}
-use Rattle.corner_laws.proofs.PathExamples.{zero-fits}
+use Rattle.corner.proofs.Attributes.DroppedAttrLevels.{stays_part}
+use Rattle.problem_core.proofs.RowNames.{held-not-stay as held-stay, stay-same}
+use Rattle.frac_core.proofs.Numbers.{zero-up as zero-fits}
+use Rattle.problem_core.proofs.Marks.{entered-in as enter_in, kept-in as kept_in, in-list as in_list}
 
 -- ---- the stay of a name
-
-held-stay : (a b : ℕ) → Held a ≢ StayOf b
-held-stay a b e = cc
-
-stay-same : (a b : ℕ) → StayOf a ≡ StayOf b → a ≡ b
-stay-same a b e = cc
 
 named-stay : (a : ℕ) (rows : List Row) (ls : List Line) → Named (StayOf a) (map line_of_row rows ++ ls) → Named (StayOf a) ls
 named-stay a [] ls n = n
@@ -60,9 +55,6 @@ no-way d u o a n one gap value =
     let split : pos d *ℤ ((u -ℤ o) +ℤ a) ≡ pos d *ℤ (u -ℤ o) +ℤ pos d *ℤ a = mul-add_left (pos d) (u -ℤ o) a in
     let gap-a : pos d *ℤ ((u -ℤ o) +ℤ a) ≡ n *ℤ one = ap (λ (z : ℤ). pos d *ℤ ((u -ℤ o) +ℤ z)) (sym one-a) ∙ gap in
     omega (arith, ints, split, gap-a, value, *ℤ_comm (pos d) a)
-
-sides-same : (u o : ℤ) → u -ℤ o ≡ pos 0 → u ≡ o
-sides-same u o h = omega (arith, ints, h)
 
 -- the marks of a stay at its value are equal
 marks-same : (x : ℕ → ℤ) (k : ℕ) (s : Stay) → IsStay s → value_at x (equation (line_of_stay k s)) ≡ pos 0 → x (attr_column s.attr) *ℤ pos s.target.den ≡ s.target.num *ℤ x one_column → x (place_of (StayOf s.attr) Under) ≡ x (place_of (StayOf s.attr) Over)

@@ -9,7 +9,7 @@ use Rattle.problem_core.specs.declared.stops.What.TheVariants.{Mark as MarkOf}
 use Rattle.problem_core.specs.declared.stops.Quantity.TheVariants.{Plain}
 use Rattle.problem_core.specs.Layout.{Problem}
 use Rattle.problem_core.specs.Corners.{IsExchange, IsIn, SameMarks, Swap, attr_column, exchanged, place_of}
-use Rattle.problem_core.specs.Paths.{IsPath}
+use Rattle.problem_core.specs.Changes.Paths.{IsPath}
 use Rattle.problem_core.specs.Unfit.{IsUnfitWhat}
 use Rattle.cert_core.specs.Paths.{Path}
 use Rattle.cert_core.specs.declared.stops.RunStop.{RunStop}

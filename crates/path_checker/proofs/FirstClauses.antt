@@ -3,7 +3,7 @@ use Rattle.std.proofs.Common.{List, map, refl, sym, subst, inl, inr, Option}
 use Rattle.problem_core.specs.declared.parts.Side.{Side}
 use Rattle.problem_core.specs.Layout.{Problem}
 use Rattle.problem_core.specs.Kept.{IsWhole}
-use Rattle.problem_core.specs.Begins.{AreExchanges}
+use Rattle.problem_core.specs.Changes.Begins.{AreExchanges}
 use Rattle.problem_core.specs.Corners.{ArePairwiseDifferent, Swap, corners}
 use Rattle.cert_core.specs.Paths.{Path}
 use Rattle.path_checker.specs.declared.spots.Step.{Step}
@@ -11,8 +11,8 @@ use Rattle.path_checker.specs.declared.verdict.PathVerdict.TheVariants.{Yes, No}
 use Rattle.path_checker.specs.declared.way.Way.{Way}
 use Rattle.path_checker.specs.Sides.{ComesTwice}
 use Rattle.path_checker.specs.Tables.{AreSides, swap_of}
-use Rattle.path_checker.specs.Ways.{AreFollowed, IsArrived, IsExchangeVerdict}
-use Rattle.path_checker.proofs.SidesApart.{apart_by_sides}
+use Rattle.path_checker.specs.Walking.Ways.{AreFollowed, IsArrived, IsExchangeVerdict}
+use Rattle.path_checker.proofs.MarkSides.SidesApart.{apart_by_sides}
 
 pub comes_again : (p : Problem) (path : Path) (way : Way) (sides : List (Option Side)) (steps : List Step) → IsWhole p → IsArrived p path way → AreSides p path.corner sides → AreFollowed p path steps → ComesTwice sides steps → IsExchangeVerdict p path (No 11)
 comes_again p path way sides steps whole arrived are followed twice unfit =

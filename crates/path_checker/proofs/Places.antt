@@ -12,10 +12,10 @@ use Rattle.problem_core.specs.Layout.{Line, Problem, lines}
 use Rattle.problem_core.specs.Kept.{IsWhole}
 use Rattle.problem_core.specs.Corners.{marks_of, place, place_of}
 use Rattle.corner_laws.proofs.LinePlaces.{lines_apart}
-use Rattle.corner_lines.proofs.LineWritings.{Named, named-mark, own-named}
+use Rattle.corner_lines.proofs.Lines.LineWritings.{Named, named-mark, own-named}
 use Rattle.path_checker.specs.Numbers.{number_at}
 use Rattle.path_checker.specs.Tables.{line_count, name_at, numbers_of}
-use Rattle.path_checker.proofs.EnteringLine.{at_place, name_apart}
+use Rattle.path_checker.proofs.Exchanges.EnteringLine.{at_place, name_apart}
 
 abbrev pub any_line : Line
 any_line = record { name = Held 0; level = 0; weight = 0; rel = Eq; scale = 1; num = pos 0; den = 1; form = [] }

@@ -2,10 +2,10 @@
 use Rattle.std.proofs.Common.{Bool, true, false, ℕ, List, [], ◌∷◌, Option, None, Some}
 use Rattle.problem_core.specs.declared.parts.Mark.{Mark}
 use Rattle.problem_core.specs.Layout.{Problem}
-use Rattle.problem_core.specs.Begins.{AreExchanges}
+use Rattle.problem_core.specs.Changes.Begins.{AreExchanges}
 use Rattle.problem_core.specs.Corners.{Swap, exchanged}
-use Rattle.problem_core.specs.Paths.{ArePathSwaps}
-use Rattle.path_checker.specs.PathClauses.{AreCalledFor, AreShownSwaps, AreSound, AreSoundBefore, row_of_terms}
+use Rattle.problem_core.specs.Changes.Paths.{ArePathSwaps}
+use Rattle.path_checker.specs.PathClauses.{AreCalledFor, AreShownSwaps, AreSound, AreSoundBefore, PathIsItsClauses, row_of_terms}
 use Rattle.path_checker.specs.Laws.{YesIsPath}
 
 lawful : (dual : Bool) (p : Problem) (at : List Mark) (swaps : List Swap) → AreExchanges p at swaps → AreSound dual p at swaps → AreCalledFor dual p at swaps → ArePathSwaps dual p at swaps
@@ -35,6 +35,19 @@ clauses true p at swaps row h = (exchanges_of true p at swaps h, sound_of true p
 clauses false p at [] None h = (tt, h, tt)
 clauses false p at [] (Some id) h = (tt, h, tt)
 clauses false p at (s ∷ swaps) row h = (exchanges_of false p at (s ∷ swaps) h, sound_of false p at (s ∷ swaps) h, called_of false p at (s ∷ swaps) h)
+
+-- a path without a quantity
+pub path_is_its_clauses : PathIsItsClauses
+path_is_its_clauses dual p at swaps = (
+  λ h. record { corner = h.corner; apart = h.apart; lawful = lawful dual p at swaps h.exchanges h.sound h.called_for },
+  λ h. record {
+    corner = h.corner;
+    exchanges = exchanges_of dual p at swaps h.lawful;
+    apart = h.apart;
+    sound = sound_of dual p at swaps h.lawful;
+    called_for = called_of dual p at swaps h.lawful;
+  },
+)
 
 pub yes_is_path : YesIsPath
 yes_is_path p path unfit = (

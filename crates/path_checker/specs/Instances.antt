@@ -8,9 +8,9 @@ use Rattle.corner_laws.specs.Examples.{over_row, over_stay, single, under_row}
 use Rattle.path_checker.specs.declared.spots.Step.{Step}
 use Rattle.path_checker.specs.declared.verdict.PathVerdict.TheVariants.{Yes, No}
 use Rattle.path_checker.specs.declared.way.Way.{Way}
-use Rattle.path_checker.specs.FirstLines.{HasUnfitFirst}
+use Rattle.path_checker.specs.Walking.FirstLines.{HasUnfitFirst}
 use Rattle.path_checker.specs.PathClauses.{HoldToSound, IsPathVerdict}
-use Rattle.path_checker.specs.Ways.{AreFollowed, IsExchangeVerdict, IsWayAt}
+use Rattle.path_checker.specs.Walking.Ways.{AreFollowed, IsExchangeVerdict, IsWayAt}
 use Rattle.path_checker.specs.declared.verdict.TheConstants.{APART_CLAUSE, CORNER_CLAUSE}
 use Rattle.path_checker.specs.declared.verdict.TheConstants.{EXCHANGES_CLAUSE, SOUND_CLAUSE}
 

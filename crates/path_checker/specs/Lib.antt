@@ -1,15 +1,11 @@
 pub mod Stops
 pub mod Numbers
 pub mod Tables
-pub mod Carried
-pub mod CarriedLevels
-pub mod Pivots
+pub mod Exchanges
 pub mod Route
-pub mod FirstLines
-pub mod Ways
+pub mod Walking
 pub mod Room
 pub mod PathClauses
 pub mod Laws
 pub mod Sides
-pub mod Bringing
 pub mod Instances

@@ -54,9 +54,10 @@ pub record IsCombined (k : ℤ) (left : List ℤ) (m : ℤ) (right out : List �
   pub each : (at : ℕ) → at < length left
       → number_at out at ≡ k *ℤ number_at left at +ℤ m *ℤ number_at right at
 
-abbrev pub way : Bool → ℤ
-way true = negsuc 0
-way false = pos 1
+-- where it is true a number times it has the other sign
+abbrev pub flip_sign : Bool → ℤ
+flip_sign true = negsuc 0
+flip_sign false = pos 1
 
 -- each number times the factor, and another one at the place
 pub record IsReplaced (times : ℤ) (numbers : List ℤ) (at : ℕ) (number : ℤ) (out : List ℤ) : Type 0 where

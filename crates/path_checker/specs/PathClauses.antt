@@ -1,14 +1,14 @@
 -- The clauses of a path, and the checker's verdict on one.
-use Rattle.std.specs.Prelude.{◌≡◌, ◌⊎◌, ℕ, Bool, true, false, List, [], ◌∷◌, Option, None, Some}
+use Rattle.std.specs.Prelude.{◌≡◌, ◌⊎◌, ◌↔◌, ℕ, Bool, true, false, List, [], ◌∷◌, Option, None, Some}
 use Rattle.problem_core.specs.declared.parts.RowName.{RowName}
 use Rattle.problem_core.specs.declared.parts.RowName.TheVariants.{Held, Stay as StayOf}
 use Rattle.problem_core.specs.declared.parts.Mark.{Mark}
 use Rattle.problem_core.specs.declared.stops.Quantity.{Quantity}
 use Rattle.problem_core.specs.declared.stops.Quantity.TheVariants.{Plain, Terms, Rows, Shifts}
 use Rattle.problem_core.specs.Layout.{Problem}
-use Rattle.problem_core.specs.Begins.{AreExchanges}
+use Rattle.problem_core.specs.Changes.Begins.{AreExchanges}
 use Rattle.problem_core.specs.Corners.{ArePairwiseDifferent, IsCorner, Swap, corners, exchanged}
-use Rattle.problem_core.specs.Paths.{ArePathSwaps, IsEndOf, IsSound, MaySwap, last_marks}
+use Rattle.problem_core.specs.Changes.Paths.{ArePathSwaps, IsEndOf, IsPath, IsSound, MaySwap, last_marks}
 use Rattle.problem_core.specs.Unfit.{IsUnfitAt}
 use Rattle.cert_core.specs.Paths.{Path}
 use Rattle.cert_core.specs.Stops.{AreNonnegativeBefore}
@@ -28,6 +28,19 @@ abbrev pub AreCalledFor : Bool → Problem → List Mark → List Swap → Type 
 AreCalledFor dual p at [] = Unit {0}
 AreCalledFor dual p at (s ∷ swaps) = (IsEndOf dual p at → ⊥) × MaySwap dual p at s
     × AreCalledFor dual p (exchanged s at) swaps
+
+-- the clauses of a path by itself
+pub record AreClauses (dual : Bool) (p : Problem) (at : List Mark) (swaps : List Swap) : Type 0 where
+  pub corner : IsCorner p at
+  pub exchanges : AreExchanges p at swaps
+  pub apart : ArePairwiseDifferent (corners at swaps)
+  pub sound : AreSound dual p at swaps
+  pub called_for : AreCalledFor dual p at swaps
+
+-- a path is lawful exactly where its clauses hold
+abbrev pub PathIsItsClauses : Type 0
+PathIsItsClauses = (dual : Bool) (p : Problem) (at : List Mark) (swaps : List Swap)
+    → AreClauses dual p at swaps ↔ IsPath dual p at swaps
 
 abbrev pub held_number : RowName → Option ℕ
 held_number (Held id) = Some id

@@ -3,8 +3,8 @@ use Rattle.std.specs.Prelude.{◌≡◌, ◌⊎◌, List, [], ◌∷◌, ◌++�
 use Rattle.problem_core.specs.declared.parts.Mark.{Mark}
 use Rattle.problem_core.specs.Layout.{Problem}
 use Rattle.problem_core.specs.Corners.{IsExchange, IsIn, Swap, exchanged, place}
-use Rattle.problem_core.specs.Begins.{AreExchanges}
-use Rattle.problem_core.specs.Paths.{last_marks}
+use Rattle.problem_core.specs.Changes.Begins.{AreExchanges}
+use Rattle.problem_core.specs.Changes.Paths.{last_marks}
 use Rattle.problem_core.specs.Unfit.{over_mark}
 use Rattle.cert_core.specs.Paths.{Path}
 use Rattle.cert_core.specs.Stops.{ComesBefore}

@@ -5,7 +5,7 @@ use Rattle.problem_core.specs.declared.parts.Side.{Side}
 use Rattle.problem_core.specs.declared.parts.Mark.{Mark}
 use Rattle.problem_core.specs.Layout.{Problem}
 use Rattle.problem_core.specs.Kept.{IsWhole}
-use Rattle.problem_core.specs.Begins.{AreExchanges}
+use Rattle.problem_core.specs.Changes.Begins.{AreExchanges}
 use Rattle.problem_core.specs.Corners.{ArePairwiseDifferent, IsCorner, corners}
 use Rattle.path_checker.specs.declared.spots.Step.{Step}
 use Rattle.path_checker.specs.Tables.{AreSides, line_count, swap_of}

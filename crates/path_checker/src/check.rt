@@ -3,8 +3,9 @@ ghost use Rattle.std.specs.Prelude.{◌≡◌, ◌≢◌, ◌<◌, ◌≤◌, le
 ghost use Rattle.problem_core.specs.Corners.{place};
 ghost use Rattle.path_checker.specs.Tables.{AreSides, line_count, names_of};
 ghost use Rattle.path_checker.specs.declared.way.TheConstants.{PATH_LIMIT};
-ghost use Rattle.path_checker.specs.Ways.{IsArrived, IsEnded, IsExchangeVerdict, IsMarkStop, IsShortPath};
-ghost use Rattle.path_checker.specs.Ways.{IsUsableWay};
+ghost use Rattle.path_checker.specs.Walking.Ways.{IsArrived, IsEnded, IsExchangeVerdict, IsMarkStop};
+ghost use Rattle.path_checker.specs.Walking.Ways.{IsShortPath};
+ghost use Rattle.path_checker.specs.Walking.Ways.{IsUsableWay};
 
 use crate::route::{comes_twice, sides_of};
 use crate::spots::names;

@@ -5,15 +5,14 @@ ghost use Rattle.frac_core.specs.Stops.{IsRefused};
 ghost use Rattle.frac_core.specs.Fraction.{IsFitting, IsKept, IsRatio, IsUnfitRatio, sum_den, sum_num};
 ghost use Rattle.problem_core.specs.Window.{zero_fraction};
 ghost use Rattle.problem_core.specs.Layout.{Problem};
-ghost use Rattle.problem_core.specs.Corners.{IsExchange, IsIn, place};
-ghost use Rattle.problem_core.specs.declared.parts.RowName.{RowName};
+ghost use Rattle.problem_core.specs.Corners.{IsExchange};
 ghost use Rattle.problem_core.specs.declared.parts.Mark.{Mark};
-ghost use Rattle.path_checker.specs.Numbers.{AreFitting, IsCombined, IsReplaced, number_at, way};
-ghost use Rattle.path_checker.specs.Tables.{AreLines, AreSized, IsSized, IsSizedLine, IsSumOf, IsThere};
-ghost use Rattle.path_checker.specs.Tables.{name_at, swap_of};
-ghost use Rattle.path_checker.specs.Pivots.{AreNextLines, AreUnfitNext, HasUnfit, IsEnteredBy, IsNextLine};
-ghost use Rattle.path_checker.specs.Pivots.{IsLeavingBy, IsPivotAt, IsSolvedFrom, IsUnfitNext, LeadTo};
-ghost use Rattle.path_checker.specs.Pivots.{LeadToUnfit, next_marks};
+ghost use Rattle.path_checker.specs.Numbers.{AreFitting, IsCombined, IsReplaced, flip_sign, number_at};
+ghost use Rattle.path_checker.specs.Tables.{AreLines, AreSized, IsSized, IsSizedLine, IsThere, swap_of};
+ghost use Rattle.path_checker.specs.Exchanges.Pivots.{AreNextLines, AreUnfitNext, IsEnteringSum};
+ghost use Rattle.path_checker.specs.Exchanges.Pivots.{IsLeavingBy, IsNextLine, IsNextSum, IsSolvedFrom};
+ghost use Rattle.path_checker.specs.Exchanges.Pivots.{IsUnfitNext, IsUnfitNextSum, LeadTo, LeadToUnfit};
+ghost use Rattle.path_checker.specs.Exchanges.Pivots.{LeadsToUnfit};
 ghost use Rattle.frac_core.specs.declared.memory.Stop.TheVariants.{OutOfMemory};
 
 use crate::numbers::{Lowest, Wide, combined, in_lowest_terms};
@@ -53,7 +52,7 @@ fn replaced(old: i64, place: usize, at: usize, number: i64) -> i64
 // The number with the sign of a side.
 fn turned(number: i64, is_turned: bool) -> i64
     requires { IsFitting number }
-    ensures value { result ≡ way is_turned *ℤ number }
+    ensures value { result ≡ flip_sign is_turned *ℤ number }
     ensures fits { IsFitting result }
 {
     if is_turned { -number } else { number }
@@ -69,7 +68,7 @@ fn with_number(
 ) -> Result<Vec<i64>, SumStop>
     requires numbers { All IsFitting numbers.now }
     requires number { IsFitting number }
-    ensures value { IfOk result (λ out. IsReplaced (way is_turned) numbers.now at number out.items) }
+    ensures value { IfOk result (λ out. IsReplaced (flip_sign is_turned) numbers.now at number out.items) }
     ensures fits { IfOk result (λ out. All IsFitting out.items) }
     ensures memory { IfErr result (λ stop. stop ≡ OutOfMemory) }
 {
@@ -266,11 +265,8 @@ pub fn entering_sum(alloc: Global, pivot: &Pivot, enters: Frac) -> Result<Sum, S
     requires above { pos 0 <ℤ pivot.now.size }
     requires fits { AreFitting pivot.now.size pivot.now.by.items }
     ensures sized { IfOk result (IsSized (length pivot.now.by.items)) }
-    ensures sum { IfOk result (λ sum. (p : Problem) (at : List Mark) → IsPivotAt p at pivot.now
-        → IsEnteredBy pivot.now enters
-        → IsSumOf p (next_marks p pivot.now at) (name_at p pivot.now.step.enter.at) sum) }
-    ensures unfit { IfErr result (λ stop. IsRefused stop → (p : Problem) (at : List Mark)
-        → IsPivotAt p at pivot.now → IsEnteredBy pivot.now enters → HasUnfit p (next_marks p pivot.now at)) }
+    ensures sum { IfOk result (IsEnteringSum pivot.now enters) }
+    ensures unfit { IfErr result (λ stop. IsRefused stop → LeadsToUnfit pivot.now enters) }
 {
     let wide = entering(alloc, pivot)?;
     let numbers = in_lowest_terms(alloc, &wide)?;
@@ -284,19 +280,13 @@ pub fn carried_sum(alloc: Global, pivot: &Pivot, sum: &Sum, enters: Frac) -> Res
     requires enter { pivot.now.step.enter.at < length pivot.now.by.items }
     requires sized { IsSized (length pivot.now.by.items) sum.now }
     ensures sized { IfOk result (IsSized (length pivot.now.by.items)) }
-    ensures sum { IfOk result (λ next. (p : Problem) (at : List Mark) (name : RowName)
-        → IsPivotAt p at pivot.now → IsEnteredBy pivot.now enters → IsSumOf p at name sum.now
-        → IsSumOf p (next_marks p pivot.now at) name next) }
-    ensures unfit { IfErr result (λ stop. IsRefused stop → (p : Problem) (at : List Mark) (mark : Mark)
-        → IsPivotAt p at pivot.now → IsEnteredBy pivot.now enters → IsSumOf p at mark.row sum.now
-        → IsIn (place mark) (next_marks p pivot.now at) → HasUnfit p (next_marks p pivot.now at)) }
+    ensures sum { IfOk result (IsNextSum pivot.now enters sum.now) }
+    ensures unfit { IfErr result (λ stop. IsRefused stop → IsUnfitNextSum pivot.now enters sum.now) }
 {
     let wide = carried(alloc, pivot, sum)?;
     let numbers = in_lowest_terms(alloc, &wide)?;
     let number = number_of(&sum.by, pivot.step.enter.at);
-    let Ok(value) = Frac::mul_add(sum.value, number, sum.own, enters) else {
-        return Err(Stop::Refused(Unfit));
-    };
+    let value = Frac::mul_add(sum.value, number, sum.own, enters)?;
     Ok(sum_of(numbers, value))
 }
 
@@ -393,9 +383,7 @@ fn solved_lines(
         return Err(Stop::Refused(Unfit));
     }
     let pivot = solving(alloc, leaving, step)?;
-    let Ok(enters) = entering_value(&pivot) else {
-        return Err(Stop::Refused(Unfit));
-    };
+    let enters = entering_value(&pivot)?;
     exchanged_lines(alloc, &pivot, lines, enters)
 }
 

@@ -8,8 +8,8 @@ ghost use Rattle.problem_core.specs.Layout.{Row};
 ghost use Rattle.problem_core.specs.declared.parts.RowName.TheVariants.{Held};
 ghost use Rattle.problem_core.specs.declared.limits.TheConstants.{COEFFICIENT_LIMIT};
 ghost use Rattle.problem_core.specs.declared.parts.Term.{Term};
-ghost use Rattle.path_checker.specs.FirstLines.{HasUnfitTerms, IsOneTermMore, IsRowOf, IsTermTooMuch};
-ghost use Rattle.path_checker.specs.FirstLines.{AreFirstLines, HasUnfitFirst, HaveRoom, IsTermsSum};
+ghost use Rattle.path_checker.specs.Walking.FirstLines.{HasUnfitTerms, IsOneTermMore, IsRowOf, IsTermTooMuch};
+ghost use Rattle.path_checker.specs.Walking.FirstLines.{AreFirstLines, HasUnfitFirst, HaveRoom, IsTermsSum};
 ghost use Rattle.path_checker.specs.Numbers.{number_at};
 ghost use Rattle.path_checker.specs.Route.{over_marks};
 ghost use Rattle.path_checker.specs.Tables.{AreLines, AreSized, IsSumOf, line_count};
@@ -62,9 +62,7 @@ fn with_term(p: &Problem, sum: Terms, term: Term) -> Result<Terms, SumStop>
         return Err(Stop::Refused(Unfit));
     };
     let target = p.stays()[at].target;
-    let Ok(value) = Frac::mul_add(sum.value, term.by, 1, target) else {
-        return Err(Stop::Refused(Unfit));
-    };
+    let value = Frac::mul_add(sum.value, term.by, 1, target)?;
     let by = raised(sum.by, p.rows().len() + at, term.by);
     Ok(Terms { by, value })
 }
@@ -108,9 +106,7 @@ pub fn first_sum(alloc: Global, p: &Problem, r: &Row) -> Result<Sum, SumStop>
     p.show_whole(); // for the proof: what a problem keeps
     r.show_row(); // for the proof: what a row keeps
     let sum = terms_of(alloc, p, r)?;
-    let Ok(value) = Frac::mul_add(sum.value, -1, 1, r.constant()) else {
-        return Err(Stop::Refused(Unfit));
-    };
+    let value = Frac::mul_add(sum.value, -1, 1, r.constant())?;
     let by = sum.by;
     Ok(Sum { own: 1, by, value })
 }

@@ -1,12 +1,13 @@
 // The laws of the checker, each the contract of a function that does nothing.
-ghost use Rattle.path_checker.specs.Carried.{CarriedIsEquation, EnteringIsEquation, LeavingIsPivot};
-ghost use Rattle.path_checker.specs.Carried.{UnfitListIsUnfit};
-ghost use Rattle.path_checker.specs.CarriedLevels.{CarriedLevelIsRow};
-ghost use Rattle.path_checker.specs.Pivots.{SolvedIsPivot};
+ghost use Rattle.path_checker.specs.Exchanges.Carried.{CarriedIsEquation, EnteringIsEquation, LeavingIsPivot};
+ghost use Rattle.path_checker.specs.Exchanges.Carried.{UnfitListIsUnfit};
+ghost use Rattle.path_checker.specs.Exchanges.CarriedLevels.{CarriedLevelIsRow};
+ghost use Rattle.path_checker.specs.Exchanges.Pivots.{SolvedIsPivot};
 ghost use Rattle.path_checker.specs.Tables.{TurnedLinesAre};
 ghost use Rattle.path_checker.specs.Sides.{ApartBySides};
 ghost use Rattle.path_checker.specs.Laws.{BeginsThere, ExchangeNeedsNumber, NoneGivesWay, OneMarkOfLine};
 ghost use Rattle.path_checker.specs.Laws.{YesIsPath};
+ghost use Rattle.path_checker.specs.PathClauses.{PathIsItsClauses};
 ghost use Rattle.path_checker.specs.Instances.{SomePathsHold};
 
 /// The leaving line's numbers, solved for the entering line, are the pivot.
@@ -69,6 +70,11 @@ pub fn none_gives_way()
 /// Nor are marks among which there are both of a line.
 pub fn one_mark_of_line()
     ensures { OneMarkOfLine }
+{}
+
+/// A path is lawful exactly where its clauses hold.
+pub fn path_is_its_clauses()
+    ensures { PathIsItsClauses }
 {}
 
 /// The clauses of a path and its quantity hold exactly where it is a path, and the quantity doesn't fit at

@@ -11,9 +11,9 @@
 //! check_exchanges(alloc, &problem, &there_and_back)?    // PathVerdict::No(11): a corner comes twice
 //! ```
 //!
-//! A corner is kept as one `Option<Inside>` a line: None of a line that is outside, else which of its
-//! marks is inside and the equation of its deviation, in whole numbers without a common factor, each below
-//! 2^42 in size. The checker's route begins where the over marks of the held rows are inside
+//! What the kept lines of a corner keep: one `Option<Inside>` a line, None of a line that is outside, else
+//! which of its marks is inside and the equation of its deviation, in whole numbers without a common factor,
+//! each below 2^42 in size. The checker's route begins where the over marks of the held rows are inside
 //! (`first_lines`), brings in the marks of the path's first corner one by one (`to_corner`, by
 //! `bringing_in`), and goes along its swaps (`follow`). [`is_exchange`] is exact; [`after_exchange`] gives
 //! the next corner's lines, or something doesn't fit there, which the answer tells as `NoRoom` with the
@@ -27,16 +27,17 @@
 //! numbers are the next corner's equations, why a set of marks to which no inside mark gives way is no
 //! corner, when no corner comes twice, and that the clauses of a path together are the path.
 //!
-//! In reading order: `spots` (marks by place), `table` (a corner's lines), `numbers` (lowest terms),
-//! `exchange`, `signs` (of values), `route` (which mark is brought in, and corners that come twice), `first`
-//! (the lines where the route begins), `way` (the way to the first corner and along the swaps), `check` (the
-//! first clauses), `laws`, `frame` (what a line costs), `stop`, `verdict` (the checker's answer).
+//! In reading order: `spots` (marks by place), `table` (a corner's lines), `stop` (why a sum isn't made),
+//! `numbers` (lowest terms), `exchange`, `signs` (of values), `route` (which mark is brought in, and corners
+//! that come twice), `first` (the lines where the route begins), `way` (the way to the first corner and along
+//! the swaps), `verdict` (the checker's answer), `check` (the first clauses), `laws`, `costs` (what a line
+//! costs).
 #![tactic(auto)]
 
 mod check;
+mod costs;
 mod exchange;
 mod first;
-mod frame;
 mod laws;
 mod numbers;
 mod route;
@@ -48,16 +49,16 @@ mod verdict;
 mod way;
 
 pub use check::check_exchanges;
+pub use costs::weights;
 pub use exchange::{
     Pivot, after_exchange, carried, carried_sum, entering, entering_sum, entering_value,
     exchanged_lines, is_exchange, same, solving,
 };
 pub use first::{first_lines, first_sum, with_stays};
-pub use frame::weights;
 pub use laws::{
     apart_by_sides, begins_there, carried_is_equation, carried_level_is_row, entering_is_equation,
-    exchange_needs_number, leaving_is_pivot, none_gives_way, one_mark_of_line, solved_is_pivot,
-    some_paths_hold, turned_lines_are, unfit_list_is_unfit, yes_is_path,
+    exchange_needs_number, leaving_is_pivot, none_gives_way, one_mark_of_line, path_is_its_clauses,
+    solved_is_pivot, some_paths_hold, turned_lines_are, unfit_list_is_unfit, yes_is_path,
 };
 pub use numbers::{Lowest, Ratio, Wide, combined, in_lowest_terms, moved_sign};
 pub use route::{bringing_in, comes_twice, is_one, moved, sides_of};

@@ -6,7 +6,7 @@ ghost use Rattle.problem_core.specs.Kept.{IsWhole};
 ghost use Rattle.problem_core.specs.Corners.{IsCorner, IsIn, place};
 ghost use Rattle.std.specs.Prelude.{◌≢◌, AllPairs};
 ghost use Rattle.problem_core.specs.declared.parts.Mark.{Mark};
-ghost use Rattle.path_checker.specs.Bringing.{IsBringing, MayGive, NoneGives, NothingBrings};
+ghost use Rattle.path_checker.specs.Walking.Bringing.{IsBringing, MayGive, NoneGives, NothingBrings};
 ghost use Rattle.path_checker.specs.Sides.{ComesTwice, IsWithin, moved_sides, walk};
 ghost use Rattle.path_checker.specs.Tables.{AreSides, AreSized, names_of};
 

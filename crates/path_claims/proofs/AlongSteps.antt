@@ -4,9 +4,9 @@ use Rattle.std.proofs.lemmas.List.{length-take-le}
 use Rattle.problem_core.specs.declared.parts.Mark.{Mark}
 use Rattle.problem_core.specs.declared.stops.Quantity.{Quantity}
 use Rattle.problem_core.specs.Layout.{Problem}
-use Rattle.problem_core.specs.Begins.{AreExchanges}
+use Rattle.problem_core.specs.Changes.Begins.{AreExchanges}
 use Rattle.problem_core.specs.Corners.{IsExchange, SameMarks, Swap, exchanged}
-use Rattle.problem_core.specs.Paths.{IsEndOf, IsSound, MaySwap, last_marks}
+use Rattle.problem_core.specs.Changes.Paths.{IsEndOf, IsSound, MaySwap, last_marks}
 use Rattle.corner_laws.proofs.Rays.{rays_after}
 use Rattle.cert_core.specs.Paths.{Path}
 use Rattle.path_checker.specs.declared.spots.Step.{Step}
@@ -17,19 +17,21 @@ use Rattle.path_checker.specs.Room.{HasNoRoom}
 use Rattle.path_checker.specs.Route.{IsRoute, corner_after, over_marks}
 use Rattle.path_checker.specs.Sides.{IsWithin}
 use Rattle.path_checker.specs.Tables.{IsThere, line_count, swap_of}
-use Rattle.path_checker.specs.Ways.{IsBegun, IsMarkStop}
-use Rattle.path_checker.proofs.Following.{last_after, not_whole, take_next, exchange_there}
+use Rattle.path_checker.specs.Walking.Ways.{IsBegun, IsMarkStop}
+use Rattle.path_checker.proofs.Walking.Following.{last_after, not_whole, take_next, exchange_there}
 use Rattle.path_checker.proofs.Iffs.{never_true, yes}
 use Rattle.path_checker.proofs.Places.{mark_is_there}
-use Rattle.path_checker.proofs.WaySteps.{IsCounting, begun_more, counts_there, last_more, some_apart}
-use Rattle.path_checker.proofs.Walks.{split_there}
-use Rattle.path_levels.specs.declared.frame.Frame.{Frame}
+use Rattle.path_checker.proofs.Walking.WaySteps.{IsCounting, begun_more, counts_there, some_apart}
+use Rattle.path_checker.proofs.MarkSides.Walks.{split_there}
+use Rattle.path_levels.specs.declared.outline.Outline.{Outline}
 use Rattle.path_claims.specs.declared.stations.Station.{Station}
 use Rattle.path_claims.specs.declared.stations.Table.{Table}
 use Rattle.path_claims.specs.Journeys.{AreSoundAhead, IsOnRoute, LeadThere}
 use Rattle.path_claims.specs.Stations.{IsStation, IsStationBy, IsStuckAt, IsTableAt, IsUsableStation}
 use Rattle.path_claims.proofs.JourneySteps.{counting_at}
-use Rattle.path_claims.proofs.MarkOrders.{end_same, exchange_same, exchanges_same, last_same, may_same, same_back, sound_same}
+use Rattle.path_claims.proofs.MarkOrders.{end_same, exchange_same, exchanges_same, last_same, may_same}
+use Rattle.problem_core.proofs.Marks.{same-back as same_back, last-more as last_more}
+use Rattle.corner_lines.proofs.LevelRows.SameLevels.{sound_same}
 
 -- ---- exchanges
 
@@ -73,7 +75,7 @@ called_more dual p at (t ∷ done) s =
       λ h. (h.0.0, h.0.1, rest.1 (h.0.2, h.1)),
     )
 
-both_true : (a b : Bool) → IsTrue (a && b) ↔ (IsTrue a × IsTrue b)
+pub both_true : (a b : Bool) → IsTrue (a && b) ↔ (IsTrue a × IsTrue b)
 both_true true b = (λ h. (yes, h), λ h. h.1)
 both_true false b = (λ h. absurd (never_true h), λ h. absurd (never_true h.0))
 
@@ -87,17 +89,17 @@ both_are a b f g h =
 -- ---- as the code goes
 
 -- so many swaps are made, and whether all held at each corner before, and each swap was called for
-pub record IsWalkedTo (p : Problem) (path : Path) (frame : Frame) (i : ℕ) (station : Station) (sound called : Bool) : Type 0 where
-  pub route : IsOnRoute p path frame (take i path.swaps) station
-  pub usable : IsUsableStation frame station
+pub record IsWalkedTo (p : Problem) (path : Path) (outline : Outline) (i : ℕ) (station : Station) (sound called : Bool) : Type 0 where
+  pub route : IsOnRoute p path outline (take i path.swaps) station
+  pub usable : IsUsableStation outline station
   pub count : station.count ≤ length path.corner + i
   pub sound_is : IsTrue sound ↔ AreSoundAhead path.dual p path.corner (take i path.swaps)
   pub called_is : IsTrue called ↔ AreCalledFor path.dual p path.corner (take i path.swaps)
 
-route_more : (p : Problem) (path : Path) (frame : Frame) (i : ℕ) (d : Swap) (station next : Station) (table : Table) (step : Step) → (is : IsOnRoute p path frame (take i path.swaps) station) → i < length path.swaps → swap_of p step ≡ get_or path.swaps i d → IsWithin (line_count p) step
-    → IsTableAt p (corner_after p (is.brings ++ take i path.swaps)) frame table → IsExchange p (corner_after p (is.brings ++ take i path.swaps)) (swap_of p step) → next.table ≡ table → next.step ≡ Some step → next.count ≡ station.count + 1
-    → IsOnRoute p path frame (take (i + 1) path.swaps) next
-route_more p path frame i d station next table step is less swap_is within table_is ex same_table same_step count_is =
+route_more : (p : Problem) (path : Path) (outline : Outline) (i : ℕ) (d : Swap) (station next : Station) (table : Table) (step : Step) → (is : IsOnRoute p path outline (take i path.swaps) station) → i < length path.swaps → swap_of p step ≡ get_or path.swaps i d → IsWithin (line_count p) step
+    → IsTableAt p (corner_after p (is.brings ++ take i path.swaps)) outline table → IsExchange p (corner_after p (is.brings ++ take i path.swaps)) (swap_of p step) → next.table ≡ table → next.step ≡ Some step → next.count ≡ station.count + 1
+    → IsOnRoute p path outline (take (i + 1) path.swaps) next
+route_more p path outline i d station next table step is less swap_is within table_is ex same_table same_step count_is =
     let s : Swap = swap_of p step in
     let more : take (i + 1) path.swaps ≡ take i path.swaps ++ s ∷ [] = take_next path i d s less swap_is in
     let at : List Mark = corner_after p (is.brings ++ take i path.swaps) in
@@ -111,8 +113,8 @@ route_more p path frame i d station next table step is less swap_is within table
         corner = ex.corner;
         rays = rays_after p at s (mark_is_there p step.enter.at step.enter.side within.0) ex is.there.rays;
       });
-      station_is = subst (λ (ms : List Mark). IsStation p ms frame next) (sym corner_is)
-          (subst₂ (λ (k : Table) (o : Option Step). IsStationBy p (exchanged s at) frame k o) (sym same_table) (sym same_step) (record { before = at; table_is = table_is; exchange = ex; next = refl }));
+      station_is = subst (λ (ms : List Mark). IsStation p ms outline next) (sym corner_is)
+          (subst₂ (λ (k : Table) (o : Option Step). IsStationBy p (exchanged s at) outline k o) (sym same_table) (sym same_step) (record { before = at; table_is = table_is; exchange = ex; next = refl }));
       count = let a = length-append is.brings (take i path.swaps) in
           let b = length-append is.brings (take (i + 1) path.swaps) in
           let x : length (take i path.swaps) ≡ i = length-take-le i path.swaps (omega (arith, less)) in
@@ -125,11 +127,11 @@ route_more p path frame i d station next table step is less swap_is within table
     begun_last [] b s o some = begun_more b s o some
     begun_last (t ∷ a) b s o some = some
 
-pub walked_more : (p : Problem) (path : Path) (frame : Frame) (i : ℕ) (d : Swap) (station next : Station) (table : Table) (step : Step) (sound called now call : Bool) → IsWalkedTo p path frame i station sound called → HoldToExchanges p path → i < length path.swaps
-    → swap_of p step ≡ get_or path.swaps i d → IsWithin (line_count p) step → ((at : List Mark) → IsStation p at frame station → IsTableAt p at frame table) → ((at : List Mark) → IsTableAt p at frame table → IsTrue now ↔ IsSound path.dual p at)
-    → ((at : List Mark) → IsTableAt p at frame table → IsExchange p at (swap_of p step) → IsTrue call ↔ ((IsEndOf path.dual p at → ⊥) × MaySwap path.dual p at (swap_of p step))) → IsUsableStation frame next → next.table ≡ table → next.step ≡ Some step → next.count ≡ station.count + 1
-    → IsWalkedTo p path frame (i + 1) next (sound && now) (called && call)
-walked_more p path frame i d station next table step sound called now call is holds less swap_is within made says calls usable same_table same_step count_is =
+pub walked_more : (p : Problem) (path : Path) (outline : Outline) (i : ℕ) (d : Swap) (station next : Station) (table : Table) (step : Step) (sound called now call : Bool) → IsWalkedTo p path outline i station sound called → HoldToExchanges p path → i < length path.swaps
+    → swap_of p step ≡ get_or path.swaps i d → IsWithin (line_count p) step → ((at : List Mark) → IsStation p at outline station → IsTableAt p at outline table) → ((at : List Mark) → IsTableAt p at outline table → IsTrue now ↔ IsSound path.dual p at)
+    → ((at : List Mark) → IsTableAt p at outline table → IsExchange p at (swap_of p step) → IsTrue call ↔ ((IsEndOf path.dual p at → ⊥) × MaySwap path.dual p at (swap_of p step))) → IsUsableStation outline next → next.table ≡ table → next.step ≡ Some step → next.count ≡ station.count + 1
+    → IsWalkedTo p path outline (i + 1) next (sound && now) (called && call)
+walked_more p path outline i d station next table step sound called now call is holds less swap_is within made says calls usable same_table same_step count_is =
     let s : Swap = swap_of p step in
     let more : take (i + 1) path.swaps ≡ take i path.swaps ++ s ∷ [] = take_next path i d s less swap_is in
     let at : List Mark = corner_after p (is.route.brings ++ take i path.swaps) in
@@ -138,11 +140,11 @@ walked_more p path frame i d station next table step sound called now call is ho
     let back : SameMarks c at = same_back at c same in
     let ex_there : IsExchange p c s = subst (IsExchange p c) (sym swap_is) (swap_there p path i d less holds.exchanges) in
     let ex : IsExchange p at s = exchange_same p c at s back is.route.there.corner ex_there in
-    let table_is : IsTableAt p at frame table = made at is.route.station_is in
+    let table_is : IsTableAt p at outline table = made at is.route.station_is in
     let now_is = says at table_is in
     let call_is = calls at table_is ex in
     record {
-      route = route_more p path frame i d station next table step is.route less swap_is within table_is ex same_table same_step count_is;
+      route = route_more p path outline i d station next table step is.route less swap_is within table_is ex same_table same_step count_is;
       usable = usable;
       count = omega (arith, is.count, count_is);
       sound_is = subst (λ (ss : List Swap). IsTrue (sound && now) ↔ AreSoundAhead path.dual p path.corner ss) (sym more)
@@ -155,9 +157,9 @@ walked_more p path frame i d station next table step sound called now call is ho
 
 -- ---- where it stops
 
-pub no_room_on : (p : Problem) (path : Path) (frame : Frame) (i n : ℕ) (station : Station) (unfit : Option Quantity) → (is : IsOnRoute p path frame (take i path.swaps) station) → AreExchanges p path.corner path.swaps → i < length path.swaps → n ≡ station.count
+pub no_room_on : (p : Problem) (path : Path) (outline : Outline) (i n : ℕ) (station : Station) (unfit : Option Quantity) → (is : IsOnRoute p path outline (take i path.swaps) station) → AreExchanges p path.corner path.swaps → i < length path.swaps → n ≡ station.count
     → IsStuckAt p (corner_after p (is.brings ++ take i path.swaps)) station.step → HasNoRoom p path unfit n
-no_room_on p path frame i n station unfit is are less same stuck =
+no_room_on p path outline i n station unfit is are less same stuck =
     let done : List Swap = is.brings ++ take i path.swaps in
     let counting_is : IsCounting p done = counting_at p done station.step is.begun stuck in
     let long : length (take i path.swaps) ≡ i = length-take-le i path.swaps (omega (arith, less)) in
@@ -171,8 +173,8 @@ no_room_on p path frame i n station unfit is are less same stuck =
     }
 
 -- without a quantity, the last corner is as each other one
-pub no_room_end : (p : Problem) (path : Path) (frame : Frame) (n : ℕ) (station : Station) → (is : IsOnRoute p path frame path.swaps station) → AreExchanges p path.corner path.swaps → n ≡ station.count → IsStuckAt p (corner_after p (is.brings ++ path.swaps)) station.step → HasNoRoom p path None n
-no_room_end p path frame n station is are same stuck =
+pub no_room_end : (p : Problem) (path : Path) (outline : Outline) (n : ℕ) (station : Station) → (is : IsOnRoute p path outline path.swaps station) → AreExchanges p path.corner path.swaps → n ≡ station.count → IsStuckAt p (corner_after p (is.brings ++ path.swaps)) station.step → HasNoRoom p path None n
+no_room_end p path outline n station is are same stuck =
     let done : List Swap = is.brings ++ path.swaps in
     let counting_is : IsCounting p done = counting_at p done station.step is.begun stuck in
     let all : take (length path.swaps) path.swaps ≡ path.swaps = take_all (length path.swaps) path.swaps (omega arith) in

@@ -6,9 +6,9 @@ use Rattle.problem_core.specs.declared.parts.RowName.{RowName}
 use Rattle.problem_core.specs.declared.stops.Quantity.{Quantity}
 use Rattle.problem_core.specs.Layout.{Problem, Row}
 use Rattle.problem_core.specs.Kept.{IsWhole}
-use Rattle.problem_core.specs.Begins.{AreExchanges}
+use Rattle.problem_core.specs.Changes.Begins.{AreExchanges}
 use Rattle.problem_core.specs.Corners.{IsExchange, SameMarks, Swap, exchanged}
-use Rattle.problem_core.specs.Paths.{IsSound, last_marks}
+use Rattle.problem_core.specs.Changes.Paths.{IsSound, last_marks}
 use Rattle.cert_core.specs.Paths.{Path}
 use Rattle.cert_core.specs.Stops.{IsBefore}
 use Rattle.path_checker.specs.declared.spots.Step.{Step}
@@ -20,13 +20,12 @@ use Rattle.path_checker.specs.PathClauses.{AreSound, AreSoundBefore, IsPathVerdi
 use Rattle.path_checker.specs.Room.{CountsAtEnd, HasNoRoom, IsPartOf}
 use Rattle.path_checker.specs.Route.{IsRoute, IsWholeRoute, corner_after, over_marks}
 use Rattle.path_checker.specs.Tables.{AreJudged, name_at, swap_of}
-use Rattle.path_checker.specs.Ways.{IsBegun, IsEnded, IsMarkStop}
-use Rattle.path_checker.proofs.FirstLines.{count_lines, row_name, stay_name}
-use Rattle.path_checker.proofs.WayBegins.{any_row, any_stay}
-use Rattle.path_checker.proofs.Iffs.{never_true, yes}
+use Rattle.path_checker.specs.Walking.Ways.{IsBegun, IsEnded, IsMarkStop}
+use Rattle.path_checker.proofs.Walking.FirstLines.{count_lines, row_name, stay_name}
+use Rattle.path_checker.proofs.Walking.WayBegins.{any_row, any_stay}
 use Rattle.path_claims.specs.declared.along.Walked.{Walked}
-use Rattle.path_claims.specs.declared.journey.Claim.{Claim}
-use Rattle.path_levels.specs.declared.frame.Frame.{Frame}
+use Rattle.path_claims.specs.declared.journey.PathCase.{PathCase}
+use Rattle.path_levels.specs.declared.outline.Outline.{Outline}
 use Rattle.path_claims.specs.declared.last.Fit.{Fit}
 use Rattle.path_claims.specs.declared.last.Fit.TheVariants.{Fits, Unfit, NoRoom}
 use Rattle.path_claims.specs.declared.last.Last.{Last}
@@ -34,13 +33,15 @@ use Rattle.path_claims.specs.declared.stations.Station.{Station}
 use Rattle.path_claims.specs.declared.stations.Table.{Table}
 use Rattle.path_levels.specs.declared.sums.LevelSum.{LevelSum}
 use Rattle.path_claims.specs.Fits.{IsFitAt, IsLastAfter, marks_after}
-use Rattle.path_claims.specs.Journeys.{AreSoundAhead, IsClaim, IsOnRoute}
+use Rattle.path_claims.specs.Journeys.{AreSoundAhead, IsOnRoute, IsPathCase}
 use Rattle.path_claims.specs.Judging.{IsFitFor, IsFound, IsSoundFrom, IsWalked, unjudged_from}
 use Rattle.path_levels.specs.Levels.{AreLevels}
 use Rattle.path_levels.specs.Rows.{AreKept}
 use Rattle.path_claims.specs.Stations.{ComesBy, IsStation, IsStationBy, IsStuckAt, IsTableAt}
-use Rattle.path_claims.proofs.AlongSteps.{marks_same, no_room_end, route_is}
-use Rattle.path_claims.proofs.MarkOrders.{before_same, same_back, sound_same, unfit_same}
+use Rattle.path_claims.proofs.AlongSteps.{marks_same, no_room_end, route_is, both_true}
+use Rattle.path_claims.proofs.MarkOrders.{before_same, unfit_same}
+use Rattle.problem_core.proofs.Marks.{same-back as same_back}
+use Rattle.corner_lines.proofs.LevelRows.SameLevels.{sound_same}
 
 -- ---- rows that are judged
 
@@ -92,10 +93,6 @@ from_same : (dual : Bool) (p : Problem) (a b : List Mark) (row : Option ℕ) →
 from_same dual p a b None same h = sound_same dual p a b same h
 from_same dual p a b (Some id) same h = before_same p a b id same h
 
-both_true : (a b : Bool) → IsTrue (a && b) ↔ (IsTrue a × IsTrue b)
-both_true true b = (λ h. (yes, h), λ h. h.1)
-both_true false b = (λ h. absurd (never_true h), λ h. absurd (never_true h.0))
-
 -- the route's last corner is the path's, in some order
 pub sound_by_last : (dual : Bool) (p : Problem) (first at : List Mark) (swaps : List Swap) (row : Option ℕ) (ahead last : Bool) → SameMarks at (last_marks first swaps) → IsTrue ahead ↔ AreSoundAhead dual p first swaps → IsTrue last ↔ IsSoundFrom dual p at (unjudged_from dual swaps row)
     → IsTrue (ahead && last) ↔ AreSoundBefore dual p first swaps row
@@ -118,11 +115,11 @@ sound_by_all dual p first at swaps ahead last same f g =
 
 -- ---- the named quantity
 
-pub ended_same : (p : Problem) (path : Path) (frame : Frame) (station : Station) → (is : IsOnRoute p path frame path.swaps station) → AreExchanges p path.corner path.swaps → SameMarks (corner_after p (is.brings ++ path.swaps)) (last_marks path.corner path.swaps)
-ended_same p path frame station is are = marks_same p path is.brings path.swaps is.lead are
+pub ended_same : (p : Problem) (path : Path) (outline : Outline) (station : Station) → (is : IsOnRoute p path outline path.swaps station) → AreExchanges p path.corner path.swaps → SameMarks (corner_after p (is.brings ++ path.swaps)) (last_marks path.corner path.swaps)
+ended_same p path outline station is are = marks_same p path is.brings path.swaps is.lead are
 
-whole_is : (p : Problem) (path : Path) (frame : Frame) (station : Station) → (is : IsOnRoute p path frame path.swaps station) → AreExchanges p path.corner path.swaps → IsWholeRoute p path (is.brings ++ path.swaps)
-whole_is p path frame station is are =
+whole_is : (p : Problem) (path : Path) (outline : Outline) (station : Station) → (is : IsOnRoute p path outline path.swaps station) → AreExchanges p path.corner path.swaps → IsWholeRoute p path (is.brings ++ path.swaps)
+whole_is p path outline station is are =
     let all = take_all (length path.swaps) path.swaps (omega arith) in
     (subst (λ (ss : List Swap). IsRoute p path (is.brings ++ ss)) all (route_is p path is.brings (length path.swaps) is.lead (omega arith) are), (is.brings, refl, is.lead.same.1))
 
@@ -130,12 +127,12 @@ counts_part : (dual : Bool) (p : Problem) (done : List Swap) (named q : Quantity
 counts_part dual p [] named q o step begun is part = inl part
 counts_part dual p (s ∷ done) named q o step begun is part = part
 
-pub fit_by_last : (p : Problem) (path : Path) (frame : Frame) (station : Station) (step : Step) (named : Quantity) (fit : Fit) → (is : IsOnRoute p path frame path.swaps station) → AreExchanges p path.corner path.swaps → station.step ≡ Some step
+pub fit_by_last : (p : Problem) (path : Path) (outline : Outline) (station : Station) (step : Step) (named : Quantity) (fit : Fit) → (is : IsOnRoute p path outline path.swaps station) → AreExchanges p path.corner path.swaps → station.step ≡ Some step
     → IsFitAt p (corner_after p (is.brings ++ path.swaps)) named fit → IsFitFor p path (Some named) station.count fit
-fit_by_last p path frame station step named Fits is are step_is fits = λ unfit. fits (unfit_same p (last_marks path.corner path.swaps) (corner_after p (is.brings ++ path.swaps)) named (same_back (corner_after p (is.brings ++ path.swaps)) (last_marks path.corner path.swaps) (ended_same p path frame station is are)) unfit)
-fit_by_last p path frame station step named Unfit is are step_is unfit = unfit_same p (corner_after p (is.brings ++ path.swaps)) (last_marks path.corner path.swaps) named (ended_same p path frame station is are) unfit
-fit_by_last p path frame station step named NoRoom is are step_is part =
-    let whole : IsWholeRoute p path (is.brings ++ path.swaps) = whole_is p path frame station is are in
+fit_by_last p path outline station step named Fits is are step_is fits = λ unfit. fits (unfit_same p (last_marks path.corner path.swaps) (corner_after p (is.brings ++ path.swaps)) named (same_back (corner_after p (is.brings ++ path.swaps)) (last_marks path.corner path.swaps) (ended_same p path outline station is are)) unfit)
+fit_by_last p path outline station step named Unfit is are step_is unfit = unfit_same p (corner_after p (is.brings ++ path.swaps)) (last_marks path.corner path.swaps) named (ended_same p path outline station is are) unfit
+fit_by_last p path outline station step named NoRoom is are step_is part =
+    let whole : IsWholeRoute p path (is.brings ++ path.swaps) = whole_is p path outline station is are in
     record {
       done = is.brings ++ path.swaps;
       count = is.count;
@@ -147,19 +144,19 @@ fit_by_last p path frame station step named NoRoom is are step_is part =
 
 -- ---- by the exchange that leads there
 
-pub last_comes : (p : Problem) (at : List Mark) (frame : Frame) (table : Table) (o : Option Step) (step : Step) → o ≡ Some step → IsStationBy p at frame table o → ComesBy p at frame table step
-last_comes p at frame table o step is by = subst (IsStationBy p at frame table) is by
+pub last_comes : (p : Problem) (at : List Mark) (outline : Outline) (table : Table) (o : Option Step) (step : Step) → o ≡ Some step → IsStationBy p at outline table o → ComesBy p at outline table step
+last_comes p at outline table o step is by = subst (IsStationBy p at outline table) is by
 
-pub last_is : (p : Problem) (at : List Mark) (frame : Frame) (table : Table) (step : Step) (last : Last) → (comes : ComesBy p at frame table step) → last.frame.now ≡ frame → last.lines.now ≡ table.lines.items → last.levels.now ≡ table.levels.items → last.step ≡ step → IsLastAfter p comes.before last
-last_is p at frame table step last comes same_frame same_lines same_levels same_step = record {
-  kept = subst₂ (λ (f : Frame) (zs : List (Option Inside)). AreKept p comes.before f zs) (sym same_frame) (sym same_lines) comes.table_is.kept;
-  levels = subst₂ (λ (f : Frame) (zs : List LevelSum). AreLevels p comes.before f zs) (sym same_frame) (sym same_levels) comes.table_is.levels;
+pub last_is : (p : Problem) (at : List Mark) (outline : Outline) (table : Table) (step : Step) (last : Last) → (comes : ComesBy p at outline table step) → last.outline.now ≡ outline → last.lines.now ≡ table.lines.items → last.levels.now ≡ table.levels.items → last.step ≡ step → IsLastAfter p comes.before last
+last_is p at outline table step last comes same_outline same_lines same_levels same_step = record {
+  kept = subst₂ (λ (f : Outline) (zs : List (Option Inside)). AreKept p comes.before f zs) (sym same_outline) (sym same_lines) comes.table_is.kept;
+  levels = subst₂ (λ (f : Outline) (zs : List LevelSum). AreLevels p comes.before f zs) (sym same_outline) (sym same_levels) comes.table_is.levels;
   attrs = comes.table_is.attrs;
   exchange = subst (λ (s : Step). IsExchange p comes.before (swap_of p s)) (sym same_step) comes.exchange;
 }
 
-pub last_marks_are : (p : Problem) (at : List Mark) (frame : Frame) (table : Table) (step : Step) (last : Last) → (comes : ComesBy p at frame table step) → last.step ≡ step → marks_after p last comes.before ≡ at
-last_marks_are p at frame table step last comes same_step = ap (λ (s : Step). exchanged (swap_of p s) comes.before) same_step ∙ sym comes.next
+pub last_marks_are : (p : Problem) (at : List Mark) (outline : Outline) (table : Table) (step : Step) (last : Last) → (comes : ComesBy p at outline table step) → last.step ≡ step → marks_after p last comes.before ≡ at
+last_marks_are p at outline table step last comes same_step = ap (λ (s : Step). exchanged (swap_of p s) comes.before) same_step ∙ sym comes.next
 
 -- ---- no exchange at all
 
@@ -168,8 +165,8 @@ no_swaps [] [] o begun none = (refl, refl)
 no_swaps [] (s ∷ b) o begun none = absurd (begun none)
 no_swaps (s ∷ a) b o begun none = absurd (begun none)
 
-pub at_start_marks : (p : Problem) (path : Path) (frame : Frame) (station : Station) → IsOnRoute p path frame path.swaps station → station.step ≡ None → SameMarks path.corner (over_marks p)
-at_start_marks p path frame station is none =
+pub at_start_marks : (p : Problem) (path : Path) (outline : Outline) (station : Station) → IsOnRoute p path outline path.swaps station → station.step ≡ None → SameMarks path.corner (over_marks p)
+at_start_marks p path outline station is none =
     same_back (over_marks p) path.corner (subst (λ (ss : List Swap). SameMarks (corner_after p ss) path.corner) (no_swaps is.brings path.swaps station.step is.begun none).0 is.lead.same)
 
 -- ---- where the route ends early
@@ -190,38 +187,38 @@ no_room_then p path OutOfMemory n v h ended = absurd ended
 
 -- ---- all together
 
-pub found_after : (claim : Claim) (walked : Walked) (step : Step) (named : Quantity) (last : Last) (sound : Bool) (fit : Fit) → IsClaim claim → (is : IsWalked claim walked) → (e : walked.station.step ≡ Some step) → last.frame.now ≡ claim.frame.now → last.lines.now ≡ walked.station.table.lines.items → last.levels.now ≡ walked.station.table.levels.items → last.step ≡ step
-    → ((at : List Mark) → IsLastAfter claim.p.now at last → IsTrue sound ↔ IsSoundFrom claim.path.now.dual claim.p.now (marks_after claim.p.now last at) (unjudged_from claim.path.now.dual claim.path.now.swaps (row_of_terms (Some named))))
-    → ((at : List Mark) → IsLastAfter claim.p.now at last → IsFitAt claim.p.now (marks_after claim.p.now last at) named fit) → IsFound claim.p.now claim.path.now (Some named) (walked.is_sound && sound) walked.is_called_for fit walked.station.count
-found_after claim walked step named last sound fit is_claim is e same_frame same_lines same_levels same_step says fits =
-    let p : Problem = claim.p.now in
-    let path : Path = claim.path.now in
-    let exchanges = is_claim.holds.0.exchanges in
+pub found_after : (case : PathCase) (walked : Walked) (step : Step) (named : Quantity) (last : Last) (sound : Bool) (fit : Fit) → IsPathCase case → (is : IsWalked case walked) → (e : walked.station.step ≡ Some step) → last.outline.now ≡ case.outline.now → last.lines.now ≡ walked.station.table.lines.items → last.levels.now ≡ walked.station.table.levels.items → last.step ≡ step
+    → ((at : List Mark) → IsLastAfter case.p.now at last → IsTrue sound ↔ IsSoundFrom case.path.now.dual case.p.now (marks_after case.p.now last at) (unjudged_from case.path.now.dual case.path.now.swaps (row_of_terms (Some named))))
+    → ((at : List Mark) → IsLastAfter case.p.now at last → IsFitAt case.p.now (marks_after case.p.now last at) named fit) → IsFound case.p.now case.path.now (Some named) (walked.is_sound && sound) walked.is_called_for fit walked.station.count
+found_after case walked step named last sound fit is_case is e same_outline same_lines same_levels same_step says fits =
+    let p : Problem = case.p.now in
+    let path : Path = case.path.now in
+    let exchanges = is_case.holds.0.exchanges in
     let at : List Mark = corner_after p (is.arrived.brings ++ path.swaps) in
-    let comes : ComesBy p at claim.frame.now walked.station.table step = last_comes p at claim.frame.now walked.station.table walked.station.step step e is.arrived.station_is in
-    let after : IsLastAfter p comes.before last = last_is p at claim.frame.now walked.station.table step last comes same_frame same_lines same_levels same_step in
-    let there : marks_after p last comes.before ≡ at = last_marks_are p at claim.frame.now walked.station.table step last comes same_step in
+    let comes : ComesBy p at case.outline.now walked.station.table step = last_comes p at case.outline.now walked.station.table walked.station.step step e is.arrived.station_is in
+    let after : IsLastAfter p comes.before last = last_is p at case.outline.now walked.station.table step last comes same_outline same_lines same_levels same_step in
+    let there : marks_after p last comes.before ≡ at = last_marks_are p at case.outline.now walked.station.table step last comes same_step in
     record {
-      apart = is_claim.holds;
-      sound_is = sound_by_last path.dual p path.corner at path.swaps (row_of_terms (Some named)) walked.is_sound sound (ended_same p path claim.frame.now walked.station is.arrived exchanges) is.sound
+      apart = is_case.holds;
+      sound_is = sound_by_last path.dual p path.corner at path.swaps (row_of_terms (Some named)) walked.is_sound sound (ended_same p path case.outline.now walked.station is.arrived exchanges) is.sound
           (subst (λ (ms : List Mark). IsTrue sound ↔ IsSoundFrom path.dual p ms (unjudged_from path.dual path.swaps (row_of_terms (Some named)))) there (says comes.before after));
       called_is = is.called;
-      fit_is = fit_by_last p path claim.frame.now walked.station step named fit is.arrived exchanges e (subst (λ (ms : List Mark). IsFitAt p ms named fit) there (fits comes.before after));
+      fit_is = fit_by_last p path case.outline.now walked.station step named fit is.arrived exchanges e (subst (λ (ms : List Mark). IsFitAt p ms named fit) there (fits comes.before after));
     }
 
-pub found_there : (claim : Claim) (walked : Walked) (table : Table) (sound : Bool) (count : ℕ) → IsClaim claim → (is : IsWalked claim walked) → ((at : List Mark) → IsStation claim.p.now at claim.frame.now walked.station → IsTableAt claim.p.now at claim.frame.now table)
-    → ((at : List Mark) → IsTableAt claim.p.now at claim.frame.now table → IsTrue sound ↔ IsSound claim.path.now.dual claim.p.now at) → IsFound claim.p.now claim.path.now None (walked.is_sound && sound) walked.is_called_for Unfit count
-found_there claim walked table sound count is_claim is made says =
-    let p : Problem = claim.p.now in
-    let path : Path = claim.path.now in
-    let exchanges = is_claim.holds.0.exchanges in
+pub found_there : (case : PathCase) (walked : Walked) (table : Table) (sound : Bool) (count : ℕ) → IsPathCase case → (is : IsWalked case walked) → ((at : List Mark) → IsStation case.p.now at case.outline.now walked.station → IsTableAt case.p.now at case.outline.now table)
+    → ((at : List Mark) → IsTableAt case.p.now at case.outline.now table → IsTrue sound ↔ IsSound case.path.now.dual case.p.now at) → IsFound case.p.now case.path.now None (walked.is_sound && sound) walked.is_called_for Unfit count
+found_there case walked table sound count is_case is made says =
+    let p : Problem = case.p.now in
+    let path : Path = case.path.now in
+    let exchanges = is_case.holds.0.exchanges in
     let at : List Mark = corner_after p (is.arrived.brings ++ path.swaps) in
     record {
-      apart = is_claim.holds;
-      sound_is = sound_by_all path.dual p path.corner at path.swaps walked.is_sound sound (ended_same p path claim.frame.now walked.station is.arrived exchanges) is.sound (says at (made at is.arrived.station_is));
+      apart = is_case.holds;
+      sound_is = sound_by_all path.dual p path.corner at path.swaps walked.is_sound sound (ended_same p path case.outline.now walked.station is.arrived exchanges) is.sound (says at (made at is.arrived.station_is));
       called_is = is.called;
       fit_is = tt;
     }
 
-pub no_room_there : (claim : Claim) (walked : Walked) → IsClaim claim → (is : IsWalked claim walked) → ((at : List Mark) → IsStation claim.p.now at claim.frame.now walked.station → IsStuckAt claim.p.now at walked.station.step) → HasNoRoom claim.p.now claim.path.now None walked.station.count
-no_room_there claim walked is_claim is stuck = no_room_end claim.p.now claim.path.now claim.frame.now walked.station.count walked.station is.arrived is_claim.holds.0.exchanges refl (stuck _ is.arrived.station_is)
+pub no_room_there : (case : PathCase) (walked : Walked) → IsPathCase case → (is : IsWalked case walked) → ((at : List Mark) → IsStation case.p.now at case.outline.now walked.station → IsStuckAt case.p.now at walked.station.step) → HasNoRoom case.p.now case.path.now None walked.station.count
+no_room_there case walked is_case is stuck = no_room_end case.p.now case.path.now case.outline.now walked.station.count walked.station is.arrived is_case.holds.0.exchanges refl (stuck _ is.arrived.station_is)

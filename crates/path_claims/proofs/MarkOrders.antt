@@ -1,46 +1,22 @@
 -- What holds at a corner holds in another order of its marks.
-use Rattle.std.proofs.Common.{inl, inr, ℕ, zero, suc, Bool, true, false, List, [], ◌∷◌, ℤ, pos, ◌≤ℤ◌, sym, subst, arith, All, get_or}
+use Rattle.std.proofs.Common.{inl, inr, ℕ, zero, suc, Bool, true, false, List, [], ◌∷◌, pos, ◌≤ℤ◌, sym, subst, arith, get_or}
 use Rattle.std.specs.List.{AllByRecursion as Each}
-use Rattle.std.proofs.lemmas.List.Elements.{All-from_recursion, recursion_from_All}
+use Rattle.std.proofs.lemmas.List.Elements.{recursion_from_All}
 use Rattle.problem_core.specs.declared.parts.Mark.{Mark}
 use Rattle.problem_core.specs.declared.stops.Quantity.{Quantity}
 use Rattle.problem_core.specs.declared.stops.Quantity.TheVariants.{Plain, Terms, Rows, Shifts}
-use Rattle.problem_core.specs.declared.stops.What.{What}
-use Rattle.problem_core.specs.declared.stops.What.TheVariants.{Attr as AttrOf, Mark as MarkOf, Level as LevelOf}
 use Rattle.problem_core.specs.Layout.{Problem}
-use Rattle.problem_core.specs.Begins.{AreExchanges}
-use Rattle.problem_core.specs.Corners.{IsCorner, IsExchange, IsIn, NoNegativeColumn, NoNegativeValue, Point, SameMarks, Swap, attr_column, exchanged, place}
-use Rattle.problem_core.specs.Paths.{IsEndOf, IsSound, MaySwap, last_marks}
-use Rattle.problem_core.specs.Unfit.{AreOverFrom, HasNoWriting, IsUnfitAt, IsUnfitTerms, IsUnfitWhat, first_terms, with_first_rows}
-use Rattle.problem_core.proofs.Forms.{each-impl}
+use Rattle.problem_core.specs.Changes.Begins.{AreExchanges}
+use Rattle.problem_core.specs.Corners.{IsCorner, IsExchange, IsIn, Point, SameMarks, Swap, exchanged, place}
+use Rattle.problem_core.specs.Changes.Paths.{IsEndOf, MaySwap, last_marks}
+use Rattle.problem_core.specs.Unfit.{AreOverFrom, IsUnfitAt, IsUnfitTerms, first_terms, with_first_rows}
 use Rattle.cert_core.specs.Stops.{AreNonnegativeBefore, IsBefore}
-use Rattle.corner_laws.proofs.Exchanged.{exchanged_in}
-use Rattle.corner_laws.proofs.Rays.{enter_in, kept_in}
-use Rattle.corner_laws.proofs.RunPaths.{contains_in, same_stands, same_multipliers}
-use Rattle.corner_laws.proofs.WrittenValues.{contains_each}
-use Rattle.corner_laws.proofs.ZeroColumns.{all-marks}
-use Rattle.corner_lines.proofs.LevelExchanges.{by-sides}
-use Rattle.corner_lines.proofs.SameMarks.{same_corner}
-use Rattle.corner_laws.proofs.Pivots.{exchanged_apart, each-out}
-use Rattle.corner_lines.proofs.SameLevels.{same-writing, unfit-level}
-
--- ---- marks in another order
-
-pub same_back : (a b : List Mark) → SameMarks a b → SameMarks b a
-same_back a b h = (h.1, h.0)
-
-exchanged_to : (s : Swap) (a b : List Mark) → All (λ m. IsIn (place m) b) a → IsIn (place s.leave) b → All (λ m. IsIn (place m) (exchanged s b)) (exchanged s a)
-exchanged_to s a b h leaves =
-    All-from_recursion (λ m. IsIn (place m) (exchanged s b)) (exchanged s a)
-    (each-impl (λ m. IsIn (place m) (exchanged s a)) _ (exchanged s a)
-    (λ m i. elim (exchanged_in s a (place m) i) [
-      | inl e ↦ subst (λ (v : ℕ). IsIn v (exchanged s b)) (sym e) (enter_in s b leaves)
-      | inr old ↦ kept_in s b (place m) (contains_in a b (place m) h old.0) old.1
-    ])
-    (all-marks (exchanged s a)))
-
-pub same_exchanged : (s : Swap) (a b : List Mark) → SameMarks a b → IsIn (place s.leave) a → IsIn (place s.leave) b → SameMarks (exchanged s a) (exchanged s b)
-same_exchanged s a b same x y = (exchanged_to s a b same.0 y, exchanged_to s b a same.1 x)
+use Rattle.corner_laws.proofs.RunSteps.RunPaths.{contains_in, same_stands}
+use Rattle.corner_lines.proofs.LevelRows.LevelExchanges.{by-sides}
+use Rattle.corner_lines.proofs.SameMarks.{same_corner, same_exchanged}
+use Rattle.corner_laws.proofs.Swaps.Pivots.{exchanged_apart, each-out}
+use Rattle.corner_lines.proofs.LevelRows.SameLevels.{unfit-level, unfit_writing, what_same, values_same, columns_same}
+use Rattle.problem_core.proofs.Marks.{same-multipliers as same_multipliers}
 
 -- ---- the marks stay different
 
@@ -55,20 +31,6 @@ exchange_same p a b s same corner ex =
     }
 
 -- ---- what is judged at a corner
-
-values_same : (p : Problem) (a b : List Mark) → SameMarks a b → NoNegativeValue p a → NoNegativeValue p b
-values_same p a b same (x, stands, up) = (
-  x,
-  same_stands p b a x (λ v i. contains_in a b v same.0 i) stands,
-  λ i d within. contains_each (λ c. pos 0 ≤ℤ x.num c) a _ (recursion_from_All (λ m. pos 0 ≤ℤ x.num (place m)) a up) (same.1 i d within),
-)
-
-columns_same : (p : Problem) (a b : List Mark) → SameMarks a b → NoNegativeColumn p a → NoNegativeColumn p b
-columns_same p a b same (m, is, up) = (m, same_multipliers p b a m (λ v i. contains_in b a v same.1 i) is, up)
-
-pub sound_same : (dual : Bool) (p : Problem) (a b : List Mark) → SameMarks a b → IsSound dual p a → IsSound dual p b
-sound_same true p a b same h = columns_same p a b same h
-sound_same false p a b same h = values_same p a b same h
 
 pub end_same : (dual : Bool) (p : Problem) (a b : List Mark) → SameMarks a b → IsEndOf dual p a → IsEndOf dual p b
 end_same true p a b same (inl h) = inl (values_same p a b same h)
@@ -96,14 +58,6 @@ before_same p a b id same (x, stands, up) = (
 )
 
 -- ---- what does not fit
-
-unfit_writing : (p : Problem) (a b : List Mark) (quantity : (ℕ → ℤ) → ℤ) → SameMarks a b → HasNoWriting p a quantity → HasNoWriting p b quantity
-unfit_writing p a b quantity same h scale form value w = h scale form value (same-writing p b a quantity scale form value.num value.den (λ v i. contains_in a b v same.0 i) w)
-
-what_same : (p : Problem) (a b : List Mark) (what : What) → SameMarks a b → IsUnfitWhat p a what → IsUnfitWhat p b what
-what_same p a b (AttrOf attr) same h = (h.0, unfit_writing p a b (λ x. x (attr_column attr)) same h.1)
-what_same p a b (MarkOf m) same h = (contains_in a b (place m) same.0 h.0, unfit_writing p a b (λ x. x (place m)) same h.1)
-what_same p a b (LevelOf level) same h = (h.0, h.1, unfit-level p a b h.0 same h.2)
 
 over_same : (p : Problem) (a b : List Mark) (id : ℕ) → SameMarks a b → AreOverFrom p a id → AreOverFrom p b id
 over_same p a b id same h k d within less = contains_in a b _ same.0 (h k d within less)

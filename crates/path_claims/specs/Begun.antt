@@ -5,26 +5,26 @@ use Rattle.problem_core.specs.declared.stops.Quantity.TheVariants.{Plain, Terms,
 use Rattle.problem_core.specs.Layout.{Problem, Row}
 use Rattle.problem_core.specs.Unfit.{IsUnfitAt, over_mark}
 use Rattle.path_checker.specs.declared.table.Inside.{Inside}
-use Rattle.path_checker.specs.FirstLines.{AreFirstLines}
+use Rattle.path_checker.specs.Walking.FirstLines.{AreFirstLines}
 use Rattle.path_checker.specs.Room.{ComesBefore, IsPartial}
 use Rattle.path_checker.specs.Route.{over_marks}
 use Rattle.path_checker.specs.Tables.{AreSized}
 use Rattle.path_claims.specs.declared.begins.Begun.{Begun}
 use Rattle.path_claims.specs.declared.begins.Begun.TheVariants.{Whole, Until}
-use Rattle.path_levels.specs.declared.frame.Frame.{Frame}
+use Rattle.path_levels.specs.declared.outline.Outline.{Outline}
 use Rattle.path_levels.specs.declared.sums.LevelSum.{LevelSum}
 use Rattle.path_levels.specs.Levels.{AreLevels, AreSizedLevels}
 use Rattle.path_levels.specs.Rows.{AreKept}
 
 -- all lines and levels are made, and each sum of first terms or of first rows fits
-pub record IsWholeBegun (p : Problem) (frame : Frame) (lines : List (Option Inside)) (levels : List LevelSum)
-    : Type 0 where
-  pub kept : AreKept p (over_marks p) frame lines
+pub record IsWholeBegun (p : Problem) (outline : Outline) (lines : List (Option Inside))
+    (levels : List LevelSum) : Type 0 where
+  pub kept : AreKept p (over_marks p) outline lines
   pub sized : AreSized lines
-  pub count : length lines ≡ length frame.lines.items
-  pub levels_are : AreLevels p (over_marks p) frame levels
+  pub count : length lines ≡ length outline.lines.items
+  pub levels_are : AreLevels p (over_marks p) outline levels
   pub levels_sized : AreSizedLevels (length lines) levels
-  pub level_count : length levels ≡ length frame.levels.items
+  pub level_count : length levels ≡ length outline.levels.items
   pub fits : (sum : Quantity) → IsPartial sum → IsUnfitAt p (over_marks p) sum → ⊥
 
 -- the first n lines are those of all rows before the sum's
@@ -42,6 +42,6 @@ pub record IsBegunUntil (p : Problem) (lines : List (Option Inside)) (sum : Quan
   pub unfit : IsUnfitAt p (over_marks p) sum
   pub before : (q : Quantity) → ComesBefore p q sum → IsUnfitAt p (over_marks p) q → ⊥
 
-abbrev pub IsBegun : Problem → Frame → Begun → Type 0
-IsBegun p frame (Whole lines levels) = IsWholeBegun p frame lines.items levels.items
-IsBegun p frame (Until lines unfit) = IsBegunUntil p lines.items unfit
+abbrev pub IsBegun : Problem → Outline → Begun → Type 0
+IsBegun p outline (Whole lines levels) = IsWholeBegun p outline lines.items levels.items
+IsBegun p outline (Until lines unfit) = IsBegunUntil p lines.items unfit

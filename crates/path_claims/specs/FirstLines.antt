@@ -1,10 +1,22 @@
 -- The first lines of a level, before and after an exchange.
-use Rattle.std.specs.Prelude.{◌≡◌, ℕ, ◌<◌, nat_eq, List, length, filter, get_or}
+use Rattle.std.specs.Prelude.{◌≡◌, ℕ, ◌<◌, nat_eq, List, length, filter, get_or, Option}
 use Rattle.problem_core.specs.declared.parts.Mark.{Mark}
 use Rattle.problem_core.specs.Layout.{Problem}
-use Rattle.path_checker.specs.Tables.{line_count, name_at}
-use Rattle.path_levels.specs.declared.frame.LineFacts.{LineFacts}
+use Rattle.problem_core.specs.Levels.{IsLevelAt}
+use Rattle.problem_core.specs.declared.parts.Level.{Level}
+use Rattle.problem_core.specs.declared.stops.Quantity.TheVariants.{Rows}
+use Rattle.path_checker.specs.declared.exchange.Pivot.{Pivot}
+use Rattle.path_checker.specs.declared.table.Inside.{Inside}
+use Rattle.path_checker.specs.Tables.{IsLineAt, line_count, name_at}
+use Rattle.path_levels.specs.declared.outline.Outline.{Outline}
+use Rattle.path_levels.specs.declared.outline.LineFacts.{LineFacts}
+use Rattle.path_levels.specs.Outlines.{number_at}
+use Rattle.path_levels.specs.Rows.{AreKeptOf}
+use Rattle.path_claims.specs.declared.last.Fit.{Fit}
+use Rattle.path_claims.specs.declared.last.Last.{Last}
 use Rattle.path_claims.specs.declared.last.rows_after.FirstLines.{FirstLines}
+use Rattle.path_claims.specs.After.{AfterExchange}
+use Rattle.path_claims.specs.Fits.{IsFitAt}
 use Rattle.path_claims.specs.Sums.{IsUnfitLineAt}
 
 -- how many of the lines have the level at this place
@@ -23,3 +35,21 @@ pub record HasUnfitFirst (p : Problem) (at : List Mark) (facts : List LineFacts)
   pub within : k < line_count p
   pub first : IsFirstAt facts firsts k
   pub unfit : IsUnfitLineAt p at (name_at p k)
+
+-- ---- after an exchange
+
+-- these lines are as they are kept
+abbrev pub AreFirstAfter : Last → Pivot → FirstLines → List (Option Inside) → Type 0
+AreFirstAfter last pivot firsts next = (k : ℕ) (d : Option Inside) → k < length last.lines.now
+    → IsFirstAt last.outline.now.lines.items firsts k → (p : Problem)
+    → AfterExchange p pivot last.lines.now (λ at. IsLineAt p at (name_at p k) (get_or next k d))
+
+abbrev pub LeadsToUnfitFirst : Last → Pivot → FirstLines → Type 0
+LeadsToUnfitFirst last pivot firsts = (p : Problem) → AfterExchange p pivot last.lines.now
+    (λ at. HasUnfitFirst p at last.outline.now.lines.items firsts)
+
+-- how so many first rows of the level at the place stand at each corner at which their lines are kept
+abbrev pub IsRowsFit : Outline → List (Option Inside) → (place first : ℕ) → Fit → Type 0
+IsRowsFit outline lines place first fit = (p : Problem) (at : List Mark) (level : Level)
+    → AreKeptOf p at outline place first lines → IsLevelAt p level (number_at outline.levels.items place)
+    → IsFitAt p at (Rows level first) fit

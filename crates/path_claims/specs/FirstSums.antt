@@ -8,7 +8,7 @@ use Rattle.problem_core.specs.declared.stops.Quantity.TheVariants.{Terms}
 use Rattle.problem_core.specs.Layout.{Problem, Row}
 use Rattle.problem_core.specs.Unfit.{HasNoWriting, first_terms, over_mark}
 use Rattle.path_checker.specs.declared.table.Inside.{Inside}
-use Rattle.path_checker.specs.FirstLines.{AreFirstLines, IsTermsSum}
+use Rattle.path_checker.specs.Walking.FirstLines.{AreFirstLines, IsTermsSum}
 use Rattle.path_checker.specs.Route.{over_marks}
 use Rattle.frac_core.specs.declared.memory.Stop.{Stop}
 use Rattle.frac_core.specs.declared.memory.Stop.TheVariants.{Refused, OutOfMemory}

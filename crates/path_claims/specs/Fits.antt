@@ -9,7 +9,7 @@ use Rattle.problem_core.specs.Unfit.{IsUnfitAt, IsUnfitWhat}
 use Rattle.path_checker.specs.Room.{IsPartOf}
 use Rattle.path_checker.specs.Sides.{IsWithin}
 use Rattle.path_checker.specs.Tables.{AreSized, swap_of}
-use Rattle.path_levels.specs.Frames.{IsSizedFrame}
+use Rattle.path_levels.specs.Outlines.{IsSizedOutline}
 use Rattle.path_levels.specs.Levels.{AreLevels, AreSizedLevels}
 use Rattle.path_levels.specs.Rows.{AreKept}
 use Rattle.path_claims.specs.declared.last.Fit.{Fit}
@@ -24,13 +24,13 @@ IsFitAt p at named NoRoom = (q : Quantity) × IsPartOf p named q × IsUnfitAt p 
 
 -- ---- the corner after an exchange
 
--- lines and levels have the lengths that the frame says, and fit
+-- lines and levels have the lengths that the outline says, and fit
 pub record IsSizedLast (last : Last) : Type 0 where
-  pub frame : IsSizedFrame last.frame.now
+  pub outline : IsSizedOutline last.outline.now
   pub lines : AreSized last.lines.now
-  pub count : length last.lines.now ≡ length last.frame.now.lines.items
+  pub count : length last.lines.now ≡ length last.outline.now.lines.items
   pub levels : AreSizedLevels (length last.lines.now) last.levels.now
-  pub level_count : length last.levels.now ≡ length last.frame.now.levels.items
+  pub level_count : length last.levels.now ≡ length last.outline.now.levels.items
   pub step : IsWithin (length last.lines.now) last.step
 
 abbrev pub AllAttrsFit : Problem → List Mark → Type 0
@@ -38,8 +38,8 @@ AllAttrsFit p at = (attr : ℕ) → IsUnfitWhat p at (Attr attr) → ⊥
 
 -- lines and levels are those of the corner before, at which all attributes fit, and this is an exchange there
 pub record IsLastAfter (p : Problem) (at : List Mark) (last : Last) : Type 0 where
-  pub kept : AreKept p at last.frame.now last.lines.now
-  pub levels : AreLevels p at last.frame.now last.levels.now
+  pub kept : AreKept p at last.outline.now last.lines.now
+  pub levels : AreLevels p at last.outline.now last.levels.now
   pub attrs : AllAttrsFit p at
   pub exchange : IsExchange p at (swap_of p last.step)
 

@@ -1,28 +1,28 @@
--- What is found on the route of a lawful claim's path, and the verdict by it.
+-- What is found on the route of a path of whose clauses the first three hold, and the verdict by it.
 use Rattle.std.specs.Prelude.{◌↔◌, ℕ, Bool, true, false, IsTrue, List, [], ◌∷◌, Option, None, Some}
 use Rattle.problem_core.specs.declared.parts.Mark.{Mark}
 use Rattle.problem_core.specs.declared.stops.Quantity.{Quantity}
 use Rattle.problem_core.specs.Layout.{Problem}
 use Rattle.problem_core.specs.Corners.{Swap}
-use Rattle.problem_core.specs.Paths.{IsSound}
+use Rattle.problem_core.specs.Changes.Paths.{IsSound}
 use Rattle.cert_core.specs.Paths.{Path}
 use Rattle.cert_core.specs.Stops.{AreNonnegativeBefore}
-use Rattle.path_checker.specs.PathClauses.{DoesNotFit, HoldToApart, IsCalledFor, IsSoundPath}
+use Rattle.path_checker.specs.PathClauses.{DoesNotFit, HoldToApart, IsCalledFor, IsSoundPath, row_of_terms}
 use Rattle.path_checker.specs.Room.{HasNoRoom}
 use Rattle.path_claims.specs.declared.along.Walked.{Walked}
-use Rattle.path_claims.specs.declared.journey.Claim.{Claim}
+use Rattle.path_claims.specs.declared.journey.PathCase.{PathCase}
 use Rattle.path_claims.specs.declared.last.Fit.{Fit}
 use Rattle.path_claims.specs.declared.last.Fit.TheVariants.{Fits, Unfit, NoRoom}
 use Rattle.path_claims.specs.Journeys.{AreSoundAhead, IsOnRoute}
 use Rattle.path_claims.specs.Stations.{IsUsableStation}
 
 -- the last corner is come to, and all is known of the corners before it
-pub record IsWalked (claim : Claim) (walked : Walked) : Type 0 where
-  pub usable : IsUsableStation claim.frame.now walked.station
-  pub arrived : IsOnRoute claim.p.now claim.path.now claim.frame.now claim.path.now.swaps walked.station
+pub record IsWalked (case : PathCase) (walked : Walked) : Type 0 where
+  pub usable : IsUsableStation case.outline.now walked.station
+  pub arrived : IsOnRoute case.p.now case.path.now case.outline.now case.path.now.swaps walked.station
   pub sound : IsTrue walked.is_sound
-      ↔ AreSoundAhead claim.path.now.dual claim.p.now claim.path.now.corner claim.path.now.swaps
-  pub called : IsTrue walked.is_called_for ↔ IsCalledFor claim.p.now claim.path.now
+      ↔ AreSoundAhead case.path.now.dual case.p.now case.path.now.corner case.path.now.swaps
+  pub called : IsTrue walked.is_called_for ↔ IsCalledFor case.p.now case.path.now
 
 -- ---- the last corner
 
@@ -36,6 +36,11 @@ unjudged_from false (s ∷ swaps) row = None
 abbrev pub IsSoundFrom : Bool → Problem → List Mark → Option ℕ → Type 0
 IsSoundFrom dual p at None = IsSound dual p at
 IsSoundFrom dual p at (Some id) = AreNonnegativeBefore p at id
+
+-- the same where the path is shown with this quantity
+abbrev pub IsSoundLast : PathCase → Quantity → List Mark → Type 0
+IsSoundLast case named at = IsSoundFrom case.path.now.dual case.p.now at
+    (unjudged_from case.path.now.dual case.path.now.swaps (row_of_terms (Some named)))
 
 -- how the quantity stands there, or where no quantity is shown
 abbrev pub IsFitFor : Problem → Path → Option Quantity → ℕ → Fit → Type 0

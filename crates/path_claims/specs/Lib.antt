@@ -1,4 +1,5 @@
 pub mod Fits
+pub mod After
 pub mod Sums
 pub mod Attrs
 pub mod TermSums

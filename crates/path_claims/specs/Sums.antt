@@ -1,7 +1,7 @@
 -- Sums of any quantity at a corner, and after an exchange.
-use Rattle.std.specs.Prelude.{◌≡◌, ◌⊎◌, ◌≢◌, ℕ, ◌<◌, ◌≤◌, List, length, ℤ, pos, ◌<ℤ◌, unsigned_abs}
-use Rattle.std.specs.Prelude.{Option, None, Some}
-use Rattle.frac_core.specs.Fraction.{Fraction, IsFitting, IsKept}
+use Rattle.std.specs.Prelude.{◌≡◌, ◌⊎◌, ◌≢◌, ℕ, ◌<◌, ◌≤◌, List, length, ℤ, pos, ◌*ℤ◌, ◌<ℤ◌}
+use Rattle.std.specs.Prelude.{unsigned_abs, Option, None, Some}
+use Rattle.frac_core.specs.Fraction.{Fraction, IsFitting, IsKept, sum_den, sum_num}
 use Rattle.problem_core.specs.declared.parts.Side.{Side}
 use Rattle.problem_core.specs.declared.parts.Mark.{Mark}
 use Rattle.problem_core.specs.declared.parts.RowName.{RowName}
@@ -14,10 +14,10 @@ use Rattle.path_checker.specs.declared.exchange.Pivot.{Pivot}
 use Rattle.path_checker.specs.declared.table.Sum.{Sum}
 use Rattle.path_checker.specs.declared.table.Inside.{Inside}
 use Rattle.path_checker.specs.Numbers.{number_at}
-use Rattle.path_checker.specs.Pivots.{next_marks}
+use Rattle.path_checker.specs.Exchanges.Pivots.{next_marks}
 use Rattle.path_checker.specs.Tables.{IsSized, IsUp, line_count, name_at, numbers_of}
 use Rattle.path_claims.specs.declared.last.after.Share.{Share}
-use Rattle.path_levels.specs.Turns.{IsTurnPivot}
+use Rattle.path_levels.specs.Exchanges.Pivots.{IsExchangePivot}
 
 -- ---- which mark is inside
 
@@ -35,15 +35,25 @@ pub record IsQuantitySum (p : Problem) (at : List Mark) (quantity : (ℕ → ℤ
 
 -- what is known of a quantity before the exchange is so after it
 abbrev pub IsSumAfter : Pivot → Sum → Sum → Type 0
-IsSumAfter pivot sum next = (p : Problem) (at : List Mark) (quantity : (ℕ → ℤ) → ℤ) → IsTurnPivot p at pivot
-    → IsQuantitySum p at quantity sum → IsQuantitySum p (next_marks p pivot at) quantity next
+IsSumAfter pivot sum next = (p : Problem) (at : List Mark) (quantity : (ℕ → ℤ) → ℤ)
+    → IsExchangePivot p at pivot → IsQuantitySum p at quantity sum
+    → IsQuantitySum p (next_marks p pivot at) quantity next
 
 -- the quantity does not fit there
 abbrev pub IsUnfitAfter : Pivot → Sum → Type 0
-IsUnfitAfter pivot sum = (p : Problem) (at : List Mark) (quantity : (ℕ → ℤ) → ℤ) → IsTurnPivot p at pivot
-    → IsQuantitySum p at quantity sum → HasNoWriting p (next_marks p pivot at) quantity
+IsUnfitAfter pivot sum = (p : Problem) (at : List Mark) (quantity : (ℕ → ℤ) → ℤ)
+    → IsExchangePivot p at pivot → IsQuantitySum p at quantity sum
+    → HasNoWriting p (next_marks p pivot at) quantity
 
 -- ---- values
+
+-- the value of the sum after the exchange, as a ratio
+abbrev pub next_num : Pivot → Sum → ℤ
+next_num pivot sum = sum_num sum.value (number_at sum.by.items pivot.step.enter.at *ℤ pivot.times)
+    (sum.own *ℤ pivot.size) pivot.value
+
+abbrev pub next_den : Pivot → Sum → ℤ
+next_den pivot sum = sum_den sum.value (sum.own *ℤ pivot.size) pivot.value
 
 -- `own` times the line's deviation has this number at the entering line, and this value
 pub record IsShareOf (p : Problem) (at : List Mark) (name enter : RowName) (share : Share) : Type 0 where

@@ -1,12 +1,12 @@
 // The corner where a route begins.
 ghost use Rattle.std.specs.Prelude.{IfOk};
 ghost use Rattle.path_claims.specs.Begun.{IsBegun};
-ghost use Rattle.path_levels.specs.Frames.{IsFrame, IsSizedFrame};
+ghost use Rattle.path_levels.specs.Outlines.{IsOutline, IsSizedOutline};
 
 use crate::firsts::row_lines;
 use frac_core::{OutOfMemory, Stop};
 use path_checker::{Inside, with_stays};
-use path_levels::{Frame, LevelSum, first_levels};
+use path_levels::{LevelSum, Outline, first_levels};
 use problem_core::{Problem, Quantity};
 use std::alloc::Global;
 
@@ -25,10 +25,10 @@ pub enum Begun {
 }
 
 /// The corner where a route begins, as far as its sums fit.
-pub fn begin(alloc: Global, p: &Problem, frame: &Frame) -> Result<Begun, OutOfMemory>
-    requires frame { IsFrame p.now frame.now }
-    requires sized { IsSizedFrame frame.now }
-    ensures { IfOk result (IsBegun p.now frame.now) }
+pub fn begin(alloc: Global, p: &Problem, outline: &Outline) -> Result<Begun, OutOfMemory>
+    requires outline { IsOutline p.now outline.now }
+    requires sized { IsSizedOutline outline.now }
+    ensures { IfOk result (IsBegun p.now outline.now) }
 {
     p.show_whole(); // for the proof: what a problem keeps
     let made = row_lines(alloc, p)?;
@@ -37,7 +37,7 @@ pub fn begin(alloc: Global, p: &Problem, frame: &Frame) -> Result<Begun, OutOfMe
         return Ok(Begun::Until { lines, unfit });
     }
     let lines = with_stays(made.lines, p)?;
-    match first_levels(alloc, frame, &lines) {
+    match first_levels(alloc, outline, &lines) {
         Ok(levels) => Ok(Begun::Whole { lines, levels }),
         Err(Stop::Refused(rows)) => {
             let unfit = Quantity::Rows {

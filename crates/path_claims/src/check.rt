@@ -6,14 +6,14 @@ ghost use Rattle.problem_core.specs.declared.parts.Mark.{Mark};
 ghost use Rattle.problem_core.specs.declared.stops.Quantity.{Quantity};
 ghost use Rattle.path_checker.specs.PathClauses.{HoldToApart, IsPathVerdict, row_of_terms};
 ghost use Rattle.path_checker.specs.Tables.{AreJudged};
-ghost use Rattle.path_checker.specs.Ways.{IsEnded, IsShortPath};
+ghost use Rattle.path_checker.specs.Walking.Ways.{IsEnded, IsShortPath};
 ghost use Rattle.path_checker.specs.declared.verdict.TheConstants.{CORNER_CLAUSE};
 ghost use Rattle.path_claims.specs.Fits.{IsLastAfter, IsSizedLast, marks_after};
-ghost use Rattle.path_claims.specs.Journeys.{IsClaim};
-ghost use Rattle.path_claims.specs.Judging.{IsFound, IsSoundFrom, IsWalked, unjudged_from};
+ghost use Rattle.path_claims.specs.Journeys.{IsPathCase};
+ghost use Rattle.path_claims.specs.Judging.{IsFound, IsSoundLast, IsWalked, unjudged_from};
 
 use crate::along::{Walked, is_sound_there, walk};
-use crate::journey::{Claim, to_first};
+use crate::journey::{PathCase, to_first};
 use crate::last::{Fit, Last, fit_after, has_no_negative_before_after, is_sound_after};
 use crate::start::check_at_start;
 use crate::stations::table_now;
@@ -23,7 +23,7 @@ use path_checker::{
     CALLED_CLAUSE, CORNER_CLAUSE, PathVerdict, SOUND_CLAUSE, Step, UNFIT_CLAUSE, WayStop,
     check_exchanges, names, sides_of, told,
 };
-use path_levels::Frame;
+use path_levels::Outline;
 use problem_core::{Problem, Quantity, RowName};
 use std::alloc::Global;
 
@@ -96,47 +96,45 @@ fn rows_before(p: &Problem, id: u32) -> usize
 // Whether what has to hold at the last corner does, where it is shown with this quantity.
 fn is_sound_last(
     alloc: Global,
-    claim: Claim<'_>,
+    case: PathCase<'_>,
     last: Last<'_>,
     named: Quantity,
 ) -> Result<bool, OutOfMemory>
     requires { IsSizedLast last }
-    ensures { IfOk result (λ holds. (at : List Mark) → IsLastAfter claim.entry.p.now at last.entry
-        → IsTrue holds ↔ IsSoundFrom claim.entry.path.now.dual claim.entry.p.now
-        (marks_after claim.entry.p.now last.entry at)
-        (unjudged_from claim.entry.path.now.dual claim.entry.path.now.swaps (row_of_terms (Some named)))) }
+    ensures { IfOk result (λ holds. (at : List Mark) → IsLastAfter case.entry.p.now at last.entry
+        → IsTrue holds ↔ IsSoundLast case.entry named (marks_after case.entry.p.now last.entry at)) }
 {
-    match unjudged_row(claim.path, named) {
+    match unjudged_row(case.path, named) {
         Some(id) => {
-            let judged = rows_before(claim.p, id);
-            has_no_negative_before_after(alloc, last, judged, claim.p.rows().len())
+            let judged = rows_before(case.p, id);
+            has_no_negative_before_after(alloc, last, judged, case.p.rows().len())
         }
-        None => is_sound_after(alloc, claim.path.dual(), last),
+        None => is_sound_after(alloc, case.path.dual(), last),
     }
 }
 
 // The verdict by the last corner, which an exchange leads to, with a quantity.
 fn verdict_after(
     alloc: Global,
-    claim: Claim<'_>,
+    case: PathCase<'_>,
     walked: &Walked,
     step: Step,
     named: Quantity,
 ) -> Result<PathVerdict, OutOfMemory>
-    requires claim { IsClaim claim }
-    requires walked { IsWalked claim walked.now }
+    requires case { IsPathCase case }
+    requires walked { IsWalked case walked.now }
     requires step { walked.now.station.step ≡ Some step }
-    ensures { IfOk result (IsPathVerdict claim.entry.p.now claim.entry.path.now (Some named)) }
+    ensures { IfOk result (IsPathVerdict case.entry.p.now case.entry.path.now (Some named)) }
 {
     let table = &walked.station.table;
     let last = Last {
-        frame: claim.frame,
+        outline: case.outline,
         lines: &table.lines,
         levels: &table.levels,
         step,
     };
-    let is_sound = is_sound_last(alloc, claim, last, named)?;
-    let fit = fit_after(alloc, claim.p, last, named)?;
+    let is_sound = is_sound_last(alloc, case, last, named)?;
+    let fit = fit_after(alloc, case.p, last, named)?;
     let all_sound = walked.is_sound & is_sound;
     Ok(verdict(all_sound, walked.is_called_for, fit, walked.station.count))
 }
@@ -144,50 +142,50 @@ fn verdict_after(
 // The verdict by the last corner, where no quantity is shown.
 fn verdict_there(
     alloc: Global,
-    claim: Claim<'_>,
+    case: PathCase<'_>,
     walked: Walked,
 ) -> Result<PathVerdict, OutOfMemory>
-    requires claim { IsClaim claim }
-    requires walked { IsWalked claim walked }
-    ensures { IfOk result (IsPathVerdict claim.entry.p.now claim.entry.path.now None) }
+    requires case { IsPathCase case }
+    requires walked { IsWalked case walked }
+    ensures { IfOk result (IsPathVerdict case.entry.p.now case.entry.path.now None) }
 {
     let count = walked.station.count;
     let is_called_for = walked.is_called_for;
     let sound_ahead = walked.is_sound;
     let table = match told(
-        table_now(alloc, claim.p, claim.frame, walked.station),
+        table_now(alloc, case.p, case.outline, walked.station),
         count,
     ) {
         Ok(table) => table,
         Err(stop) => return ended(stop),
     };
-    let all_sound = sound_ahead & is_sound_there(claim, &table);
+    let all_sound = sound_ahead & is_sound_there(case, &table);
     Ok(verdict(all_sound, is_called_for, Fit::Unfit, count))
 }
 
 // The verdict on a path of whose clauses the first three hold.
 fn judged(
     alloc: Global,
-    claim: Claim<'_>,
+    case: PathCase<'_>,
     unfit: Option<Quantity>,
 ) -> Result<PathVerdict, OutOfMemory>
-    requires { IsClaim claim }
-    ensures { IfOk result (IsPathVerdict claim.entry.p.now claim.entry.path.now unfit) }
+    requires { IsPathCase case }
+    ensures { IfOk result (IsPathVerdict case.entry.p.now case.entry.path.now unfit) }
 {
-    let station = match to_first(alloc, claim) {
+    let station = match to_first(alloc, case) {
         Ok(station) => station,
         Err(stop) => return ended(stop),
     };
-    let walked = match walk(alloc, claim, station) {
+    let walked = match walk(alloc, case, station) {
         Ok(walked) => walked,
         Err(stop) => return ended(stop),
     };
     let Some(named) = unfit else {
-        return verdict_there(alloc, claim, walked);
+        return verdict_there(alloc, case, walked);
     };
     match walked.station.step {
-        Some(step) => verdict_after(alloc, claim, &walked, step, named),
-        None => check_at_start(alloc, claim.p, claim.frame, claim.path, named),
+        Some(step) => verdict_after(alloc, case, &walked, step, named),
+        None => check_at_start(alloc, case.p, case.outline, case.path, named),
     }
 }
 
@@ -207,15 +205,15 @@ fn check_rest(
     let Some(wanted) = sides_of(alloc, &names, path.corner())? else {
         unreachable!();
     };
-    let frame = Frame::of(alloc, p)?;
-    let claim = Claim {
+    let outline = Outline::of(alloc, p)?;
+    let case = PathCase {
         p,
-        frame: &frame,
+        outline: &outline,
         path,
         names: &names,
         wanted: &wanted,
     };
-    judged(alloc, claim, unfit)
+    judged(alloc, case, unfit)
 }
 
 /// The verdict on a path, shown with a quantity that does not fit at its last corner, or with none.

@@ -6,7 +6,7 @@ ghost use Rattle.problem_core.specs.Unfit.{over_mark};
 ghost use Rattle.frac_core.specs.Fraction.{IsKept};
 ghost use Rattle.problem_core.specs.Kept.{IsTerm};
 ghost use Rattle.problem_core.specs.Layout.{HasStay};
-ghost use Rattle.path_checker.specs.FirstLines.{IsRowOf};
+ghost use Rattle.path_checker.specs.Walking.FirstLines.{IsRowOf};
 ghost use Rattle.path_checker.specs.Route.{over_marks};
 ghost use Rattle.path_checker.specs.Tables.{IsSumOf};
 ghost use Rattle.path_claims.specs.FirstSums.{AllSumsFit, AreMadeUntil, DoFitBefore, IsFirstUnfitSum};
@@ -58,10 +58,7 @@ fn with_term(p: &Problem, value: Frac, term: Term) -> Result<Frac, Unfit>
 {
     p.show_whole(); // for the proof: what a problem keeps
     let target = target_of(p.stays(), term.attr);
-    let Ok(next) = Frac::mul_add(value, term.by, 1, target) else {
-        return Err(Unfit);
-    };
-    Ok(next)
+    Frac::mul_add(value, term.by, 1, target)
 }
 
 // How many first terms of a row have no sum that fits where the route begins, unless all such sums fit.

@@ -3,10 +3,11 @@ ghost use Rattle.std.specs.Prelude.{◌≡◌, ◌<◌, ◌≤◌, ◌+◌, ◌^
 ghost use Rattle.cert_core.specs.Paths.{Path};
 ghost use Rattle.path_checker.specs.Sides.{moved_sides};
 ghost use Rattle.path_checker.specs.Tables.{line_count};
-ghost use Rattle.path_checker.specs.Ways.{IsMarkStop};
+ghost use Rattle.path_checker.specs.Walking.Ways.{IsMarkStop};
 ghost use Rattle.path_checker.specs.declared.spots.Step.{Step};
-ghost use Rattle.path_levels.specs.declared.frame.Frame.{Frame};
-ghost use Rattle.path_claims.specs.Journeys.{Brings, BringsNone, HasOneMore, IsClaim, IsJourneyAt, IsOnRoute};
+ghost use Rattle.path_levels.specs.declared.outline.Outline.{Outline};
+ghost use Rattle.path_claims.specs.Journeys.{Brings, BringsNone, HasOneMore, IsJourneyAt, IsPathCase};
+ghost use Rattle.path_claims.specs.Journeys.{IsOnRoute};
 ghost use Rattle.path_claims.specs.Journeys.{IsUsableJourney, StopsAt};
 ghost use Rattle.path_claims.specs.Stations.{IsUsableStation};
 
@@ -14,16 +15,16 @@ use crate::stations::{Station, Table, station_after, table_now};
 use cert_core::Path;
 use frac_core::OutOfMemory;
 use path_checker::{Spot, WayStop, bringing_in, first_sides, is_one, moved, spot_of, told};
-use path_levels::Frame;
+use path_levels::Outline;
 use problem_core::{Problem, RowName, Side};
 use std::alloc::Global;
 
-/// A path of a problem, with the problem's frame and its lines' names, and which mark of each line is inside
-/// at the path's first corner.
+/// A path of a problem, with the problem's outline and its lines' names, and which mark of each line is
+/// inside at the path's first corner.
 #[derive(Clone, Copy)]
-pub struct Claim<'a> {
+pub struct PathCase<'a> {
     pub p: &'a Problem,
-    pub frame: &'a Frame,
+    pub outline: &'a Outline,
     pub path: &'a Path,
     pub names: &'a [RowName],
     pub wanted: &'a [Option<Side>],
@@ -39,31 +40,31 @@ pub struct Journey {
 // The exchange that brings a mark of the path's first corner in, and what is kept of the corner after it.
 fn brought(
     alloc: Global,
-    claim: Claim<'_>,
+    case: PathCase<'_>,
     station: Station,
     enter: Spot,
 ) -> Result<Station, WayStop>
-    requires claim { IsClaim claim }
-    requires usable { IsUsableStation claim.frame.now station }
-    requires enter { enter.at < line_count claim.p.now }
+    requires case { IsPathCase case }
+    requires usable { IsUsableStation case.outline.now station }
+    requires enter { enter.at < line_count case.p.now }
     requires count { station.count + 1 < 2 ^ 32 }
-    ensures usable { IfOk result (IsUsableStation claim.entry.frame.now) }
+    ensures usable { IfOk result (IsUsableStation case.entry.outline.now) }
     ensures count { IfOk result (λ next. next.count ≡ station.count + 1) }
-    ensures brought { IfOk result (Brings claim.entry enter station) }
-    ensures stop { IfErr result (BringsNone claim.entry enter station) }
+    ensures brought { IfOk result (Brings case.entry enter station) }
+    ensures stop { IfErr result (BringsNone case.entry enter station) }
 {
     let count = station.count;
-    let table = told(table_now(alloc, claim.p, claim.frame, station), count)?;
-    let Some(step) = bringing_in(&table.lines, claim.wanted, enter) else {
+    let table = told(table_now(alloc, case.p, case.outline, station), count)?;
+    let Some(step) = bringing_in(&table.lines, case.wanted, enter) else {
         return Err(WayStop::Fails);
     };
     Ok(station_after(table, step, count))
 }
 
 // The corner after an exchange, with which mark of each line is inside.
-fn journey_after(sides: Vec<Option<Side>>, station: Station, frame: &Frame) -> Journey
-    requires usable { IsUsableStation frame.now station }
-    requires sides { length sides.items ≡ length frame.now.lines.items }
+fn journey_after(sides: Vec<Option<Side>>, station: Station, outline: &Outline) -> Journey
+    requires usable { IsUsableStation outline.now station }
+    requires sides { length sides.items ≡ length outline.now.lines.items }
     ensures station { result.station ≡ station }
     ensures sides { (step : Step) → station.step ≡ Some step
         → result.sides.items ≡ moved_sides step sides.items }
@@ -79,33 +80,33 @@ fn journey_after(sides: Vec<Option<Side>>, station: Station, frame: &Frame) -> J
 // The way on, where a mark of the path's first corner is inside, unless it was.
 fn with_mark(
     alloc: Global,
-    claim: Claim<'_>,
+    case: PathCase<'_>,
     journey: Journey,
     enter: Spot,
 ) -> Result<Journey, WayStop>
-    requires claim { IsClaim claim }
-    requires usable { IsUsableJourney claim.p.now claim.frame.now journey }
-    requires enter { enter.at < line_count claim.p.now }
+    requires case { IsPathCase case }
+    requires usable { IsUsableJourney case.p.now case.outline.now journey }
+    requires enter { enter.at < line_count case.p.now }
     requires count { journey.station.count + 1 < 2 ^ 32 }
-    ensures usable { IfOk result (IsUsableJourney claim.entry.p.now claim.entry.frame.now) }
+    ensures usable { IfOk result (IsUsableJourney case.entry.p.now case.entry.outline.now) }
     ensures count { IfOk result (λ next. next.station.count ≤ journey.station.count + 1) }
-    ensures next { IfOk result (HasOneMore claim.entry journey enter) }
-    ensures stop { IfErr result (StopsAt claim.entry journey enter) }
+    ensures next { IfOk result (HasOneMore case.entry journey enter) }
+    ensures stop { IfErr result (StopsAt case.entry journey enter) }
 {
     if is_one(journey.sides[enter.at], Some(enter.side)) {
         return Ok(journey);
     }
     let sides = journey.sides;
-    let station = brought(alloc, claim, journey.station, enter)?;
-    Ok(journey_after(sides, station, claim.frame))
+    let station = brought(alloc, case, journey.station, enter)?;
+    Ok(journey_after(sides, station, case.outline))
 }
 
 // Where the route begins.
 fn first_journey(alloc: Global, p: &Problem) -> Result<Journey, OutOfMemory>
-    ensures usable { IfOk result (λ journey. (frame : Frame) → IsUsableJourney p.now frame journey) }
+    ensures usable { IfOk result (λ journey. (outline : Outline) → IsUsableJourney p.now outline journey) }
     ensures count { IfOk result (λ journey. journey.station.count ≡ 0) }
-    ensures journey { IfOk result (λ journey. (path : Path) (frame : Frame)
-        → IsJourneyAt p.now path frame [] path.corner journey) }
+    ensures journey { IfOk result (λ journey. (path : Path) (outline : Outline)
+        → IsJourneyAt p.now path outline [] path.corner journey) }
 {
     p.show_whole(); // for the proof: what a problem keeps
     let sides = first_sides(alloc, p)?;
@@ -119,20 +120,20 @@ fn first_journey(alloc: Global, p: &Problem) -> Result<Journey, OutOfMemory>
 }
 
 /// What is kept of the path's first corner, unless something that counts does not fit on the way there.
-pub fn to_first(alloc: Global, claim: Claim<'_>) -> Result<Station, WayStop>
-    requires { IsClaim claim }
-    ensures usable { IfOk result (IsUsableStation claim.entry.frame.now) }
-    ensures count { IfOk result (λ station. station.count ≤ length claim.entry.path.now.corner) }
-    ensures arrived { IfOk result (IsOnRoute claim.entry.p.now claim.entry.path.now
-        claim.entry.frame.now []) }
-    ensures stop { IfErr result (IsMarkStop claim.entry.p.now claim.entry.path.now) }
+pub fn to_first(alloc: Global, case: PathCase<'_>) -> Result<Station, WayStop>
+    requires { IsPathCase case }
+    ensures usable { IfOk result (IsUsableStation case.entry.outline.now) }
+    ensures count { IfOk result (λ station. station.count ≤ length case.entry.path.now.corner) }
+    ensures arrived { IfOk result (IsOnRoute case.entry.p.now case.entry.path.now
+        case.entry.outline.now []) }
+    ensures stop { IfErr result (IsMarkStop case.entry.p.now case.entry.path.now) }
 {
-    let mut journey = first_journey(alloc, claim.p)?;
-    for mark in claim.path.corner() {
-        let Some(enter) = spot_of(claim.names, *mark) else {
+    let mut journey = first_journey(alloc, case.p)?;
+    for mark in case.path.corner() {
+        let Some(enter) = spot_of(case.names, *mark) else {
             return Err(WayStop::Fails);
         };
-        journey = with_mark(alloc, claim, journey, enter)?;
+        journey = with_mark(alloc, case, journey, enter)?;
     }
     Ok(journey.station)
 }

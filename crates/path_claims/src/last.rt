@@ -8,13 +8,13 @@ mod terms;
 
 ghost use Rattle.std.specs.Prelude.{◌≡◌, ◌↔◌, ℕ, List, IfOk, IsTrue, length};
 ghost use Rattle.problem_core.specs.Layout.{Problem};
-ghost use Rattle.problem_core.specs.Paths.{IsSound};
+ghost use Rattle.problem_core.specs.Changes.Paths.{IsSound};
 ghost use Rattle.problem_core.specs.declared.parts.Mark.{Mark};
 ghost use Rattle.cert_core.specs.Stops.{AreNonnegativeBefore};
 ghost use Rattle.problem_core.specs.declared.stops.Quantity.TheVariants as quantities;
-ghost use Rattle.path_checker.specs.Pivots.{next_marks};
+ghost use Rattle.path_checker.specs.Exchanges.Pivots.{next_marks};
 ghost use Rattle.path_checker.specs.Tables.{AreJudged, line_count};
-ghost use Rattle.path_levels.specs.Turns.{IsSizedPivot, IsTurnPivot};
+ghost use Rattle.path_levels.specs.Exchanges.Pivots.{IsExchangePivot, IsSizedPivot};
 ghost use Rattle.path_claims.specs.Fits.{IsFitAt, IsLastAfter, IsSizedLast, marks_after};
 
 use crate::last::after::are_up_after;
@@ -24,7 +24,7 @@ use crate::last::sums_after::level_fit;
 use crate::last::terms::{FirstTerms, terms_fit};
 use frac_core::{OutOfMemory, Stop};
 use path_checker::{Inside, Pivot, Step};
-use path_levels::{Frame, LevelSum, Turn, has_no_negative_column_after, pivot_of};
+use path_levels::{LevelSum, LineExchange, Outline, has_no_negative_column_after, pivot_of};
 use problem_core::{Problem, Quantity, What};
 use std::alloc::Global;
 
@@ -39,7 +39,7 @@ pub enum Fit {
 /// The corner after an exchange: the lines and the levels before it.
 #[derive(Clone, Copy, Debug)]
 pub struct Last<'a> {
-    pub frame: &'a Frame,
+    pub outline: &'a Outline,
     pub lines: &'a [Option<Inside>],
     pub levels: &'a [LevelSum],
     pub step: Step,
@@ -58,7 +58,7 @@ fn what_fit(
     requires pivot { IsSizedPivot (length last.lines.now) pivot.now }
     requires step { pivot.now.step ≡ last.step }
     ensures { IfOk result (λ fit. (at : List Mark) → IsLastAfter p.now at last.entry
-        → IsTurnPivot p.now at pivot.now
+        → IsExchangePivot p.now at pivot.now
         → IsFitAt p.now (next_marks p.now pivot.now at) (quantities.Plain what) fit) }
 {
     match what {
@@ -81,7 +81,7 @@ fn quantity_fit(
     requires pivot { IsSizedPivot (length last.lines.now) pivot.now }
     requires step { pivot.now.step ≡ last.step }
     ensures { IfOk result (λ fit. (at : List Mark) → IsLastAfter p.now at last.entry
-        → IsTurnPivot p.now at pivot.now → IsFitAt p.now (next_marks p.now pivot.now at) named fit) }
+        → IsExchangePivot p.now at pivot.now → IsFitAt p.now (next_marks p.now pivot.now at) named fit) }
 {
     match named {
         Quantity::Plain(what) => what_fit(alloc, p, last, pivot, what),
@@ -123,7 +123,12 @@ pub fn is_sound_after(alloc: Global, dual: bool, last: Last<'_>) -> Result<bool,
 {
     if dual {
         let (lines, step) = (last.lines, last.step);
-        return has_no_negative_column_after(alloc, last.frame, Turn { lines, step }, last.levels);
+        return has_no_negative_column_after(
+            alloc,
+            last.outline,
+            LineExchange { lines, step },
+            last.levels,
+        );
     }
     match pivot_of(alloc, last.lines, last.step) {
         Ok(pivot) => Ok(are_up_after(last.lines, &pivot, last.lines.len(), last.lines.len())),

@@ -9,9 +9,16 @@
 //! ```
 //!
 //! A corner on the route is a [`Station`]: its lines (`path_checker`) and the rows of its levels
-//! (`path_levels`), or those of the corner before it with the exchange that leads there. So each number of a
-//! route's corners fits, but those of the last one, which may be what the path is to show: there only what
-//! is asked for is made.
+//! (`path_levels`), or those of the corner before it with the exchange that leads there.
+//!
+//! Linear programming's words: a corner is a basic solution, the marks inside are its basis, and an exchange
+//! is a pivot of the tableau, of which the lines are the rows and the levels' rows the objective rows. What
+//! has to hold at each corner is that it is feasible, on a dual path dual feasible; an end is an optimal
+//! corner or one that shows that there is no feasible one; and an exchange is called for where the pricing,
+//! or the dual ratio test, may choose it.
+//!
+//! What a station keeps: each number of its table fits. So do all numbers of a route's corners but those of
+//! the last one, which may be what the path is to show: there only what is asked for is made.
 //!
 //! In reading order: `check` (the verdict), `journey` and `along` (the route, by `stations`), `start` (a
 //! path that is the corner where the route begins, by `begins`, `firsts`, `orders`), `last` (the corner
@@ -32,7 +39,7 @@ mod stations;
 
 pub use along::{Walked, is_sound_there, walk};
 pub use check::check_path;
-pub use journey::{Claim, Journey, to_first};
+pub use journey::{Journey, PathCase, to_first};
 pub use last::fits::attrs_fit;
 pub use last::{Fit, Last, fit_after, has_no_negative_before_after, is_sound_after};
 pub use start::check_at_start;

@@ -12,8 +12,9 @@ ghost use Rattle.path_claims.specs.Orders.{IsFirstOf, IsFitBefore, IsJudgedTo, I
 
 use crate::last::Fit;
 use crate::last::fits::stay_of;
-use path_levels::FIRST_STAY;
-use problem_core::{Level, Mark, Problem, Quantity, REQUIRED, Row, RowName, Side};
+use problem_core::{
+    FIRST_STAY_LEVEL, Level, Mark, Problem, Quantity, REQUIRED, Row, RowName, Side,
+};
 
 /// Where a sum stands: at the number of its row or level, by how many it sums.
 #[derive(Clone, Copy, Debug, PartialEq, Eq)]
@@ -52,7 +53,7 @@ fn stay_number(p: &Problem, attr: u32) -> Option<u32>
 {
     p.show_whole(); // for the proof: what a problem keeps
     let at = stay_of(p.stays(), attr)?;
-    Some(FIRST_STAY + at as u32)
+    Some(FIRST_STAY_LEVEL + at as u32)
 }
 
 // The number of a level.

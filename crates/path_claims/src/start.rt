@@ -4,13 +4,13 @@ ghost use Rattle.std.specs.Prelude.{IsTrue, true, false};
 ghost use Rattle.problem_core.specs.Layout.{Problem};
 ghost use Rattle.problem_core.specs.Corners.{IsCorner, SameMarks};
 ghost use Rattle.problem_core.specs.Kept.{IsWhole};
-ghost use Rattle.path_checker.specs.FirstLines.{AreFirstLines};
+ghost use Rattle.path_checker.specs.Walking.FirstLines.{AreFirstLines};
 ghost use Rattle.path_checker.specs.PathClauses.{AreSoundBefore, IsPathVerdict};
 ghost use Rattle.path_checker.specs.Route.{over_marks};
 ghost use Rattle.path_checker.specs.declared.verdict.PathVerdict.TheVariants.{No};
 ghost use Rattle.path_checker.specs.declared.verdict.TheConstants.{SOUND_CLAUSE, UNFIT_CLAUSE};
 ghost use Rattle.path_claims.specs.Begun.{IsBegunUntil, IsWholeBegun};
-ghost use Rattle.path_levels.specs.Frames.{IsFrame, IsSizedFrame};
+ghost use Rattle.path_levels.specs.Outlines.{IsOutline, IsSizedOutline};
 ghost use Rattle.path_levels.specs.Levels.{AreSizedLevels};
 ghost use Rattle.path_claims.specs.Orders.{IsJudgedTo};
 ghost use Rattle.path_claims.specs.Starts.{AreUpTo, IsAtStart};
@@ -21,7 +21,7 @@ use crate::orders::{fit_before, judged_rows};
 use cert_core::Path;
 use frac_core::OutOfMemory;
 use path_checker::{Inside, PathVerdict, SOUND_CLAUSE, UNFIT_CLAUSE, is_up};
-use path_levels::{Frame, LevelSum, has_no_negative_column};
+use path_levels::{LevelSum, Outline, has_no_negative_column};
 use problem_core::{Problem, Quantity};
 use std::alloc::Global;
 
@@ -42,21 +42,21 @@ fn are_up(lines: &[Option<Inside>], count: usize) -> bool
 // Whether what has to hold at the corner does, where all is made, and so many rows are judged.
 fn is_sound_there(
     dual: bool,
-    frame: &Frame,
+    outline: &Outline,
     lines: &[Option<Inside>],
     levels: &[LevelSum],
     judged: usize,
 ) -> bool
-    requires frame { IsSizedFrame frame.now }
-    requires count { length lines.now ≡ length frame.now.lines.items }
+    requires outline { IsSizedOutline outline.now }
+    requires count { length lines.now ≡ length outline.now.lines.items }
     requires levels { AreSizedLevels (length lines.now) levels.now }
-    requires level_count { length levels.now ≡ length frame.now.levels.items }
+    requires level_count { length levels.now ≡ length outline.now.levels.items }
     requires judged { judged ≤ length lines.now }
-    ensures { (p : Problem) (row : Option ℕ) → IsWhole p → IsWholeBegun p frame.now lines.now levels.now
+    ensures { (p : Problem) (row : Option ℕ) → IsWhole p → IsWholeBegun p outline.now lines.now levels.now
         → IsJudgedTo p row judged → IsTrue result ↔ AreSoundBefore dual p (over_marks p) [] row }
 {
     if dual {
-        return has_no_negative_column(frame, lines, levels);
+        return has_no_negative_column(outline, lines, levels);
     }
     are_up(lines, judged)
 }
@@ -105,22 +105,22 @@ fn verdict_until(
 pub fn check_at_start(
     alloc: Global,
     p: &Problem,
-    frame: &Frame,
+    outline: &Outline,
     path: &Path,
     named: Quantity,
 ) -> Result<PathVerdict, OutOfMemory>
-    requires frame { IsFrame p.now frame.now }
-    requires sized { IsSizedFrame frame.now }
+    requires outline { IsOutline p.now outline.now }
+    requires sized { IsSizedOutline outline.now }
     requires swaps { path.now.swaps ≡ [] }
     requires corner { IsCorner p.now path.now.corner }
     requires marks { SameMarks path.now.corner (over_marks p.now) }
     ensures { IfOk result (IsPathVerdict p.now path.now (Some named)) }
 {
     p.show_whole(); // for the proof: what a problem keeps
-    match begin(alloc, p, frame)? {
+    match begin(alloc, p, outline)? {
         Begun::Whole { lines, levels } => {
             let judged = judged_rows(p, named);
-            let is_sound = is_sound_there(path.dual(), frame, &lines, &levels, judged);
+            let is_sound = is_sound_there(path.dual(), outline, &lines, &levels, judged);
             Ok(verdict_of_fitting(is_sound))
         }
         Begun::Until { lines, unfit } => Ok(verdict_until(p, path, named, &lines, unfit)),

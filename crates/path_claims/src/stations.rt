@@ -5,7 +5,7 @@ ghost use Rattle.path_checker.specs.Route.{over_marks};
 ghost use Rattle.path_checker.specs.Sides.{IsWithin};
 ghost use Rattle.path_checker.specs.Tables.{AreSized};
 ghost use Rattle.frac_core.specs.Stops.{IsRefused};
-ghost use Rattle.path_levels.specs.Frames.{IsFrame, IsSizedFrame};
+ghost use Rattle.path_levels.specs.Outlines.{IsOutline, IsSizedOutline};
 ghost use Rattle.path_levels.specs.Levels.{AreLevels, AreSizedLevels};
 ghost use Rattle.path_levels.specs.Rows.{AreKept};
 ghost use Rattle.path_claims.specs.Stations.{HasUnfitRows, HasUnfitSum, IsSizedTable, IsStation, IsStuckAt};
@@ -14,7 +14,7 @@ ghost use Rattle.path_claims.specs.Stations.{IsTableAt, IsUsableStation, LeadsTo
 use crate::last::fits::attrs_fit;
 use frac_core::{Stop, Unfit};
 use path_checker::{Inside, Step, SumStop, after_exchange, first_lines};
-use path_levels::{Frame, LevelSum, Turn, first_levels, next_levels};
+use path_levels::{LevelSum, LineExchange, Outline, first_levels, next_levels};
 use problem_core::Problem;
 use std::alloc::Global;
 
@@ -39,19 +39,19 @@ pub struct Station {
 fn begun_levels(
     alloc: Global,
     p: &Problem,
-    frame: &Frame,
+    outline: &Outline,
     lines: &[Option<Inside>],
 ) -> Result<Vec<LevelSum>, SumStop>
-    requires sized { IsSizedFrame frame.now }
+    requires sized { IsSizedOutline outline.now }
     requires lines { AreSized lines.now }
-    requires kept { AreKept p.now (over_marks p.now) frame.now lines.now }
-    requires count { length lines.now ≡ length frame.now.lines.items }
+    requires kept { AreKept p.now (over_marks p.now) outline.now lines.now }
+    requires count { length lines.now ≡ length outline.now.lines.items }
     ensures sized { IfOk result (λ levels. AreSizedLevels (length lines.now) levels.items) }
-    ensures count { IfOk result (λ levels. length levels.items ≡ length frame.now.levels.items) }
-    ensures levels { IfOk result (λ levels. AreLevels p.now (over_marks p.now) frame.now levels.items) }
+    ensures count { IfOk result (λ levels. length levels.items ≡ length outline.now.levels.items) }
+    ensures levels { IfOk result (λ levels. AreLevels p.now (over_marks p.now) outline.now levels.items) }
     ensures unfit { IfErr result (λ stop. IsRefused stop → HasUnfitRows p.now) }
 {
-    match first_levels(alloc, frame, lines) {
+    match first_levels(alloc, outline, lines) {
         Ok(levels) => Ok(levels),
         Err(Stop::Refused(_)) => Err(Stop::Refused(Unfit)),
         Err(Stop::OutOfMemory) => Err(Stop::OutOfMemory),
@@ -59,16 +59,16 @@ fn begun_levels(
 }
 
 /// The table of the corner where the route begins, or a sum of first terms or rows does not fit there.
-pub fn first_table(alloc: Global, p: &Problem, frame: &Frame) -> Result<Table, SumStop>
-    requires frame { IsFrame p.now frame.now }
-    requires sized { IsSizedFrame frame.now }
-    ensures sized { IfOk result (IsSizedTable frame.now) }
-    ensures table { IfOk result (IsTableAt p.now (over_marks p.now) frame.now) }
+pub fn first_table(alloc: Global, p: &Problem, outline: &Outline) -> Result<Table, SumStop>
+    requires outline { IsOutline p.now outline.now }
+    requires sized { IsSizedOutline outline.now }
+    ensures sized { IfOk result (IsSizedTable outline.now) }
+    ensures table { IfOk result (IsTableAt p.now (over_marks p.now) outline.now) }
     ensures unfit { IfErr result (λ stop. IsRefused stop → HasUnfitSum p.now) }
 {
     p.show_whole(); // for the proof: what a problem keeps
     let lines = first_lines(alloc, p)?;
-    let levels = begun_levels(alloc, p, frame, &lines)?;
+    let levels = begun_levels(alloc, p, outline, &lines)?;
     Ok(Table { lines, levels })
 }
 
@@ -76,23 +76,23 @@ pub fn first_table(alloc: Global, p: &Problem, frame: &Frame) -> Result<Table, S
 pub fn table_after(
     alloc: Global,
     p: &Problem,
-    frame: &Frame,
+    outline: &Outline,
     table: Table,
     step: Step,
 ) -> Result<Table, SumStop>
-    requires frame { IsFrame p.now frame.now }
-    requires frame_sized { IsSizedFrame frame.now }
-    requires table { IsSizedTable frame.now table }
+    requires outline { IsOutline p.now outline.now }
+    requires outline_sized { IsSizedOutline outline.now }
+    requires table { IsSizedTable outline.now table }
     requires step { IsWithin (length table.lines.items) step }
-    ensures sized { IfOk result (IsSizedTable frame.now) }
-    ensures next { IfOk result (LeadsToTable p.now frame.now table step) }
-    ensures unfit { IfErr result (λ stop. IsRefused stop → LeadsToUnfitTable p.now frame.now table step) }
+    ensures sized { IfOk result (IsSizedTable outline.now) }
+    ensures next { IfOk result (LeadsToTable p.now outline.now table step) }
+    ensures unfit { IfErr result (λ stop. IsRefused stop → LeadsToUnfitTable p.now outline.now table step) }
 {
-    let turn = Turn {
+    let exchange = LineExchange {
         lines: &table.lines,
         step,
     };
-    let levels = next_levels(alloc, frame, turn, &table.levels)?;
+    let levels = next_levels(alloc, outline, exchange, &table.levels)?;
     let lines = after_exchange(alloc, table.lines, step)?;
     if !attrs_fit(p, &lines) {
         return Err(Stop::Refused(Unfit));
@@ -104,21 +104,21 @@ pub fn table_after(
 pub fn table_now(
     alloc: Global,
     p: &Problem,
-    frame: &Frame,
+    outline: &Outline,
     station: Station,
 ) -> Result<Table, SumStop>
-    requires frame { IsFrame p.now frame.now }
-    requires sized { IsSizedFrame frame.now }
-    requires usable { IsUsableStation frame.now station }
-    ensures sized { IfOk result (IsSizedTable frame.now) }
-    ensures table { IfOk result (λ table. (at : List Mark) → IsStation p.now at frame.now station
-        → IsTableAt p.now at frame.now table) }
+    requires outline { IsOutline p.now outline.now }
+    requires sized { IsSizedOutline outline.now }
+    requires usable { IsUsableStation outline.now station }
+    ensures sized { IfOk result (IsSizedTable outline.now) }
+    ensures table { IfOk result (λ table. (at : List Mark) → IsStation p.now at outline.now station
+        → IsTableAt p.now at outline.now table) }
     ensures unfit { IfErr result (λ stop. IsRefused stop → (at : List Mark)
-        → IsStation p.now at frame.now station → IsStuckAt p.now at station.step) }
+        → IsStation p.now at outline.now station → IsStuckAt p.now at station.step) }
 {
     match station.step {
-        Some(step) => table_after(alloc, p, frame, station.table, step),
-        None => first_table(alloc, p, frame),
+        Some(step) => table_after(alloc, p, outline, station.table, step),
+        None => first_table(alloc, p, outline),
     }
 }
 

@@ -2,7 +2,7 @@
 use Rattle.std.proofs.Common.{◌<◌, ◌^◌, ℤ, pos, arith, ◌*ℤ◌, ◌<ℤ◌, unsigned_abs, SFits, w64}
 use borrow.Author.Differences.{ints}
 use Rattle.frac_core.specs.Fraction.{IsFitting}
-use Rattle.path_levels.proofs.JoinShares.{unit_bound}
+use Rattle.path_levels.proofs.Joining.JoinShares.{unit_bound}
 
 fits-word : (z : ℤ) → unsigned_abs z < 2 ^ 42 → SFits w64 z
 fits-word z h = omega (arith, ints, h)

@@ -1,13 +1,11 @@
--- The levels at all places of a frame: their numbers, their lines, and whether their first rows fit.
-use Rattle.std.proofs.Common.{◌≡◌, ◌∙◌, ℕ, suc, ◌+◌, ◌-◌, ◌<◌, ◌≤◌, ◌++◌, Bool, true, false, true≢false, cond, nat_eq, List, [], ◌∷◌, length, filter, get_or, ne_eqb, sym, ap, subst, arith, inl, inr, Option}
+-- The levels at all places of an outline: their numbers, their lines, and whether their first rows fit.
+use Rattle.std.proofs.Common.{◌≡◌, ◌∙◌, ℕ, suc, ◌+◌, ◌-◌, ◌<◌, ◌≤◌, ◌++◌, Bool, true, false, cond, nat_eq, List, [], ◌∷◌, length, filter, get_or, ne_eqb, sym, ap, subst, arith, inl, inr, Option}
 use Rattle.std.specs.List.{AllPairs}
 use Rattle.std.proofs.lemmas.Bool.{cases_eq, cases_lt}
 use Rattle.std.proofs.lemmas.List.{get_or_append_left, get_or_push}
 use Rattle.problem_core.specs.declared.parts.Level.{Level}
 use Rattle.problem_core.specs.declared.parts.Level.TheVariants.{Priority, Stay as StayLevel}
 use Rattle.problem_core.specs.declared.parts.Mark.{Mark}
-use Rattle.problem_core.specs.declared.parts.RowName.{RowName}
-use Rattle.problem_core.specs.declared.parts.RowName.TheVariants.{Held, Stay as StayOf}
 use Rattle.problem_core.specs.declared.stops.Quantity.TheVariants.{Rows}
 use Rattle.problem_core.specs.Kept.{IsWhole}
 use Rattle.problem_core.specs.Layout.{Line, Problem, Row, line_of_stay, lines}
@@ -15,38 +13,24 @@ use Rattle.problem_core.specs.Levels.{IsLevelAt}
 use Rattle.problem_core.specs.Unfit.{IsUnfitRows}
 use Rattle.path_checker.specs.Room.{ComesBefore}
 use Rattle.path_checker.specs.declared.table.Inside.{Inside}
-use Rattle.path_checker.proofs.FirstLines.{count_lines, row_at}
-use Rattle.path_levels.specs.declared.frame.Frame.{Frame}
-use Rattle.path_levels.specs.declared.frame.LevelFacts.{LevelFacts}
-use Rattle.path_levels.specs.declared.frame.LineFacts.{LineFacts}
+use Rattle.path_checker.proofs.Walking.FirstLines.{count_lines, row_at}
+use Rattle.path_levels.specs.declared.outline.Outline.{Outline}
+use Rattle.path_levels.specs.declared.outline.LevelFacts.{LevelFacts}
+use Rattle.path_levels.specs.declared.outline.LineFacts.{LineFacts}
 use Rattle.frac_core.specs.declared.memory.Stop.TheVariants.{Refused, OutOfMemory}
 use Rattle.path_levels.specs.declared.sums.LevelSum.{LevelSum}
-use Rattle.path_levels.specs.Frames.{AreLevelFacts, IsFrame, number_at}
+use Rattle.path_levels.specs.Outlines.{AreLevelFacts, IsOutline, number_at}
 use Rattle.path_levels.specs.Levels.{AreLevels}
 use Rattle.path_levels.specs.Rows.{AllRowsFit, AreFittingRows, AreKept, AreKeptOf, IsFirstOfAll, IsFirstUnfit, IsLevelsStop, IsRowsStop, IsRowsSum, RowsStop, level_size}
-use Rattle.path_levels.proofs.FrameParts.{number_is, stay_at}
-use Rattle.path_levels.proofs.PartLines.{facts_at}
+use Rattle.path_levels.proofs.OutlineParts.{number_is, stay_at}
+use Rattle.path_levels.proofs.Parts.PartLines.{facts_at}
 use Rattle.path_checker.proofs.Places.{any_line}
-use Rattle.path_checker.proofs.WayBegins.{any_stay}
-use Rattle.path_levels.proofs.MultipleFacts.{any_level}
+use Rattle.path_checker.proofs.Walking.WayBegins.{any_stay}
+use Rattle.path_levels.proofs.Exchanges.MultipleFacts.{any_level}
+use Rattle.problem_core.proofs.RowNames.{held-not-stay as not_held, stay-same as same_attr}
+use Rattle.corner_lines.proofs.LevelRows.StayRows.{level_one as number_unique}
 
 -- ---- the number of a level
-
-is_held : RowName → Bool
-is_held (Held id) = true
-is_held (StayOf attr) = false
-
-not_held : (id attr : ℕ) → Held id ≡ StayOf attr → ⊥
-unfolding is_held
-not_held id attr e = true≢false (ap is_held e)
-
-attr_of : RowName → ℕ
-attr_of (Held id) = 0
-attr_of (StayOf attr) = attr
-
-same_attr : (a b : ℕ) → StayOf a ≡ StayOf b → a ≡ b
-unfolding attr_of
-same_attr a b e = ap attr_of e
 
 any_row : Row
 any_row = record { id = 0; rank = 0; weight = 0; rel = any_line.rel; scale = 1; constant = any_stay.target; terms = [] }
@@ -75,21 +59,7 @@ level_unique p (StayLevel a) (StayLevel b) k h g =
     let e : s.0 ≡ t.0 = omega (arith, s.2, t.2) in
     ap StayLevel (sym s.3 ∙ ap (λ (i : ℕ). (get_or p.stays i any_stay).attr) e ∙ t.3)
 
--- a level has one number
-pub number_unique : (p : Problem) (level : Level) (k n : ℕ) → IsWhole p → IsLevelAt p level k → IsLevelAt p level n → k ≡ n
-number_unique p (Priority r) k n whole h g = omega (arith, h, g)
-number_unique p (StayLevel a) k n whole h g =
-    let s = stay_of_level p a k h in
-    let t = stay_of_level p a n g in
-    elim (cases_lt s.0 t.0) [
-      | inl less ↦ absurd (whole.apart s.0 t.0 any_stay less t.1 (s.3 ∙ sym t.3))
-      | inr from ↦ elim (cases_lt t.0 s.0) [
-        | inl more ↦ absurd (whole.apart t.0 s.0 any_stay more s.1 (t.3 ∙ sym s.3))
-        | inr to ↦ omega (arith, from, to, s.2, t.2)
-      ]
-    ]
-
--- the level at a place of the frame has the number there
+-- the level at a place of the outline has the number there
 level_at : (p : Problem) (levels : List LevelFacts) (place : ℕ) (d : LevelFacts) → AreLevelFacts p levels → place < length levels → d ≡ get_or levels place d → IsLevelAt p d.level (number_at levels place)
 level_at p levels place d are within is =
     subst (IsLevelAt p d.level) (sym (number_is levels place d within ∙ ap (λ (f : LevelFacts). f.number) (sym is)))
@@ -98,8 +68,8 @@ level_at p levels place d are within is =
 stay_number : (p : Problem) (attr k : ℕ) → IsLevelAt p (StayLevel attr) k → 1000 < k
 stay_number p attr k h = let s = stay_of_level p attr k h in omega (arith, s.2)
 
-pub stays_high : (frame : Frame) (place attr : ℕ) (d : LevelFacts) → place < length frame.levels.items → d ≡ get_or frame.levels.items place d → d.level ≡ StayLevel attr → (p : Problem) → IsFrame p frame → 1000 < number_at frame.levels.items place
-stays_high frame place attr d within is level p are = stay_number p attr (number_at frame.levels.items place) (subst (λ (l : Level). IsLevelAt p l (number_at frame.levels.items place)) level (level_at p frame.levels.items place d are.levels_are within is))
+pub stays_high : (outline : Outline) (place attr : ℕ) (d : LevelFacts) → place < length outline.levels.items → d ≡ get_or outline.levels.items place d → d.level ≡ StayLevel attr → (p : Problem) → IsOutline p outline → 1000 < number_at outline.levels.items place
+stays_high outline place attr d within is level p are = stay_number p attr (number_at outline.levels.items place) (subst (λ (l : Level). IsLevelAt p l (number_at outline.levels.items place)) level (level_at p outline.levels.items place d are.levels_are within is))
 
 -- ---- the lines of a level
 
@@ -132,21 +102,21 @@ has_line level (l ∷ ls) h =
           (suc k.0, omega (arith, k.1), k.2)
     ]
 
--- the level of a line is in the frame
-pub placed_level : (p : Problem) (frame : Frame) (level : ℕ) → IsFrame p frame → 1 ≤ level_size p level → (place : ℕ) × (place < length frame.levels.items) × (number_at frame.levels.items place ≡ level)
-placed_level p frame level is some =
+-- the level of a line is in the outline
+pub placed_level : (p : Problem) (outline : Outline) (level : ℕ) → IsOutline p outline → 1 ≤ level_size p level → (place : ℕ) × (place < length outline.levels.items) × (number_at outline.levels.items place ≡ level)
+placed_level p outline level is some =
     let k = has_line level (lines p) some in
-    let f = facts_at frame.levels.items (lines p) frame.lines.items k.0 any_line any_facts is.lines_are k.1 in
-    ((get_or frame.lines.items k.0 any_facts).level, f.level, f.number ∙ k.2)
+    let f = facts_at outline.levels.items (lines p) outline.lines.items k.0 any_line any_facts is.lines_are k.1 in
+    ((get_or outline.lines.items k.0 any_facts).level, f.level, f.number ∙ k.2)
   where
     any_facts : LineFacts
     any_facts = record { name = any_line.name; level = 0; under = any_line.num; over = any_line.num; scale = any_line.num }
 
 -- ---- kept at a place
 
-pub kept_of : (p : Problem) (at : List Mark) (frame : Frame) (place most : ℕ) (kept : List (Option Inside)) → AreKept p at frame kept → AreKeptOf p at frame place most kept
-kept_of p at frame place most kept is = record {
-  frame_is = is.frame_is;
+pub kept_of : (p : Problem) (at : List Mark) (outline : Outline) (place most : ℕ) (kept : List (Option Inside)) → AreKept p at outline kept → AreKeptOf p at outline place most kept
+kept_of p at outline place most kept is = record {
+  outline_is = is.outline_is;
   there = is.there;
   count = is.lines_are.count;
   each = λ k d f within here less. is.lines_are.each k d within;
@@ -155,17 +125,17 @@ kept_of p at frame place most kept is = record {
 -- ---- all levels
 
 -- the rows of the levels at the first n places are made
-pub record AreRowsTo (frame : Frame) (kept : List (Option Inside)) (n : ℕ) (levels : List LevelSum) : Type 0 where
-  pub rows : (p : Problem) (at : List Mark) → AreKept p at frame kept → (k : ℕ) (d : LevelSum) → k < n → IsRowsSum p at frame k 4294967295 (get_or levels k d)
-  pub fits : (p : Problem) (at : List Mark) → AreKept p at frame kept → (k : ℕ) → k < n → (level : Level) → IsLevelAt p level (number_at frame.levels.items k) → AreFittingRows p at level 4294967295
+pub record AreRowsTo (outline : Outline) (kept : List (Option Inside)) (n : ℕ) (levels : List LevelSum) : Type 0 where
+  pub rows : (p : Problem) (at : List Mark) → AreKept p at outline kept → (k : ℕ) (d : LevelSum) → k < n → IsRowsSum p at outline k 4294967295 (get_or levels k d)
+  pub fits : (p : Problem) (at : List Mark) → AreKept p at outline kept → (k : ℕ) → k < n → (level : Level) → IsLevelAt p level (number_at outline.levels.items k) → AreFittingRows p at level 4294967295
 
-pub one_more_level : (frame : Frame) (kept : List (Option Inside)) (n : ℕ) (levels : List LevelSum) (sum : LevelSum) → length levels ≡ n → AreRowsTo frame kept n levels
-    → ((p : Problem) (at : List Mark) → AreKeptOf p at frame n 4294967295 kept → IsRowsSum p at frame n 4294967295 sum) → AreRowsTo frame kept (n + 1) (levels ++ sum ∷ [])
-one_more_level frame kept n levels sum count old new = record {
+pub one_more_level : (outline : Outline) (kept : List (Option Inside)) (n : ℕ) (levels : List LevelSum) (sum : LevelSum) → length levels ≡ n → AreRowsTo outline kept n levels
+    → ((p : Problem) (at : List Mark) → AreKeptOf p at outline n 4294967295 kept → IsRowsSum p at outline n 4294967295 sum) → AreRowsTo outline kept (n + 1) (levels ++ sum ∷ [])
+one_more_level outline kept n levels sum count old new = record {
   rows = λ p at are k d less.
       elim (cases_eq k n) [
-        | inl e ↦ subst (IsRowsSum p at frame k 4294967295) (sym (get_or_push levels sum d k (count ∙ sym e))) (here p at are k e)
-        | inr ne ↦ subst (IsRowsSum p at frame k 4294967295) (sym (get_or_append_left levels (sum ∷ []) d k (omega (arith, less, ne, count)))) (old.rows p at are k d (omega (arith, less, ne)))
+        | inl e ↦ subst (IsRowsSum p at outline k 4294967295) (sym (get_or_push levels sum d k (count ∙ sym e))) (here p at are k e)
+        | inr ne ↦ subst (IsRowsSum p at outline k 4294967295) (sym (get_or_append_left levels (sum ∷ []) d k (omega (arith, less, ne, count)))) (old.rows p at are k d (omega (arith, less, ne)))
       ];
   fits = λ p at are k less level there.
       elim (cases_eq k n) [
@@ -174,26 +144,26 @@ one_more_level frame kept n levels sum count old new = record {
       ];
 }
   where
-    here : (p : Problem) (at : List Mark) → AreKept p at frame kept → (k : ℕ) → k ≡ n → IsRowsSum p at frame k 4294967295 sum
-    here p at are k e = subst (λ (m : ℕ). IsRowsSum p at frame m 4294967295 sum) (sym e) (new p at (kept_of p at frame n 4294967295 kept are))
+    here : (p : Problem) (at : List Mark) → AreKept p at outline kept → (k : ℕ) → k ≡ n → IsRowsSum p at outline k 4294967295 sum
+    here p at are k e = subst (λ (m : ℕ). IsRowsSum p at outline m 4294967295 sum) (sym e) (new p at (kept_of p at outline n 4294967295 kept are))
 
-pub are_levels : (frame : Frame) (kept : List (Option Inside)) (n : ℕ) (levels : List LevelSum) (p : Problem) (at : List Mark) → length levels ≡ n → n ≡ length frame.levels.items → AreRowsTo frame kept n levels → AreKept p at frame kept → AreLevels p at frame levels
-are_levels frame kept n levels p at count whole rows are = record {
+pub are_levels : (outline : Outline) (kept : List (Option Inside)) (n : ℕ) (levels : List LevelSum) (p : Problem) (at : List Mark) → length levels ≡ n → n ≡ length outline.levels.items → AreRowsTo outline kept n levels → AreKept p at outline kept → AreLevels p at outline levels
+are_levels outline kept n levels p at count whole rows are = record {
   count = count ∙ whole;
-  each = λ k d within. (rows.rows p at are k d (omega (arith, within, whole))).whole (size_within p (number_at frame.levels.items k) are.there.whole);
+  each = λ k d within. (rows.rows p at are k d (omega (arith, within, whole))).whole (size_within p (number_at outline.levels.items k) are.there.whole);
 }
 
 -- the first rows of the level at a place fit
-fits_there : (p : Problem) (at : List Mark) (frame : Frame) (kept : List (Option Inside)) (n : ℕ) (levels : List LevelSum) (level : Level) (j k place : ℕ) → AreRowsTo frame kept n levels → AreKept p at frame kept
-    → place < n → number_at frame.levels.items place ≡ k → IsLevelAt p level k → j ≤ level_size p k → IsUnfitRows p at level j → ⊥
-fits_there p at frame kept n levels level j k place rows are less is there most unfit =
+fits_there : (p : Problem) (at : List Mark) (outline : Outline) (kept : List (Option Inside)) (n : ℕ) (levels : List LevelSum) (level : Level) (j k place : ℕ) → AreRowsTo outline kept n levels → AreKept p at outline kept
+    → place < n → number_at outline.levels.items place ≡ k → IsLevelAt p level k → j ≤ level_size p k → IsUnfitRows p at level j → ⊥
+fits_there p at outline kept n levels level j k place rows are less is there most unfit =
     let size = size_within p k are.there.whole in
     rows.fits p at are place less level (subst (IsLevelAt p level) (sym is) there) j (omega (arith, most, size)) unfit
 
-pub all_fit : (frame : Frame) (kept : List (Option Inside)) (n : ℕ) (levels : List LevelSum) (p : Problem) (at : List Mark) → n ≡ length frame.levels.items → AreRowsTo frame kept n levels → AreKept p at frame kept → AllRowsFit p at
-all_fit frame kept n levels p at whole rows are level j (k, there, low, high, none) =
-    let place = placed_level p frame k are.frame_is (omega (arith, low, high)) in
-    fits_there p at frame kept n levels level j k place.0 rows are (omega (arith, place.1, whole)) place.2 there high (k, there, low, high, none)
+pub all_fit : (outline : Outline) (kept : List (Option Inside)) (n : ℕ) (levels : List LevelSum) (p : Problem) (at : List Mark) → n ≡ length outline.levels.items → AreRowsTo outline kept n levels → AreKept p at outline kept → AllRowsFit p at
+all_fit outline kept n levels p at whole rows are level j (k, there, low, high, none) =
+    let place = placed_level p outline k are.outline_is (omega (arith, low, high)) in
+    fits_there p at outline kept n levels level j k place.0 rows are (omega (arith, place.1, whole)) place.2 there high (k, there, low, high, none)
 
 -- ---- the first that does not fit
 
@@ -210,28 +180,28 @@ lower_place levels a b d rising in_a in_b less =
       ]
     ]
 
-earlier_fits : (frame : Frame) (kept : List (Option Inside)) (n : ℕ) (levels : List LevelSum) (p : Problem) (at : List Mark) (level other : Level) (i : ℕ) → n < length frame.levels.items → AreRowsTo frame kept n levels → AreKept p at frame kept
-    → (b : ℕ) → b ≡ number_at frame.levels.items n → (a : ℕ) → IsLevelAt p other a → a < b → IsUnfitRows p at other i → ⊥
-earlier_fits frame kept n levels p at level other i within rows are b b_is a there less (k, at_k, low, high, none) =
+earlier_fits : (outline : Outline) (kept : List (Option Inside)) (n : ℕ) (levels : List LevelSum) (p : Problem) (at : List Mark) (level other : Level) (i : ℕ) → n < length outline.levels.items → AreRowsTo outline kept n levels → AreKept p at outline kept
+    → (b : ℕ) → b ≡ number_at outline.levels.items n → (a : ℕ) → IsLevelAt p other a → a < b → IsUnfitRows p at other i → ⊥
+earlier_fits outline kept n levels p at level other i within rows are b b_is a there less (k, at_k, low, high, none) =
     let same : k ≡ a = number_unique p other k a are.there.whole at_k there in
-    let place = placed_level p frame k are.frame_is (omega (arith, low, high)) in
-    let before : place.0 < n = lower_place frame.levels.items place.0 n any_level are.frame_is.levels_are.rising place.1 within (omega (arith, place.2, same, less, b_is)) in
-    fits_there p at frame kept n levels other i k place.0 rows are before place.2 at_k high (k, at_k, low, high, none)
+    let place = placed_level p outline k are.outline_is (omega (arith, low, high)) in
+    let before : place.0 < n = lower_place outline.levels.items place.0 n any_level are.outline_is.levels_are.rising place.1 within (omega (arith, place.2, same, less, b_is)) in
+    fits_there p at outline kept n levels other i k place.0 rows are before place.2 at_k high (k, at_k, low, high, none)
 
-first_of_all : (frame : Frame) (kept : List (Option Inside)) (n : ℕ) (levels : List LevelSum) (p : Problem) (at : List Mark) (level : Level) (j : ℕ) → n < length frame.levels.items → AreRowsTo frame kept n levels → AreKept p at frame kept
-    → IsLevelAt p level (number_at frame.levels.items n) × (j ≤ 4294967295) × IsFirstUnfit p at level j → IsFirstOfAll p at level j
-first_of_all frame kept n levels p at level j within rows are (here, most, first) = record {
+first_of_all : (outline : Outline) (kept : List (Option Inside)) (n : ℕ) (levels : List LevelSum) (p : Problem) (at : List Mark) (level : Level) (j : ℕ) → n < length outline.levels.items → AreRowsTo outline kept n levels → AreKept p at outline kept
+    → IsLevelAt p level (number_at outline.levels.items n) × (j ≤ 4294967295) × IsFirstUnfit p at level j → IsFirstOfAll p at level j
+first_of_all outline kept n levels p at level j within rows are (here, most, first) = record {
   unfit = first.unfit;
   before = before;
 }
   where
     before : (other : Level) (i : ℕ) → ComesBefore p (Rows other i) (Rows level j) → IsUnfitRows p at other i → ⊥
     before other i (a, b, at_a, at_b, inl less) unfit =
-        earlier_fits frame kept n levels p at level other i within rows are b (number_unique p level b (number_at frame.levels.items n) are.there.whole at_b here) a at_a less unfit
+        earlier_fits outline kept n levels p at level other i within rows are b (number_unique p level b (number_at outline.levels.items n) are.there.whole at_b here) a at_a less unfit
     before other i (a, b, at_a, at_b, inr (same, less)) unfit =
         first.before i less (subst (λ (l : Level). IsUnfitRows p at l i) (level_unique p other level b (subst (IsLevelAt p other) same at_a) at_b) unfit)
 
-pub levels_stop : (frame : Frame) (kept : List (Option Inside)) (n : ℕ) (levels : List LevelSum) (stop : RowsStop) → n < length frame.levels.items → AreRowsTo frame kept n levels
-    → IsRowsStop frame n 4294967295 kept stop → IsLevelsStop frame kept stop
-levels_stop frame kept n levels (Refused bad) within rows is = λ p at are. first_of_all frame kept n levels p at bad.level bad.first within rows are (is p at (kept_of p at frame n 4294967295 kept are))
-levels_stop frame kept n levels OutOfMemory within rows is = tt
+pub levels_stop : (outline : Outline) (kept : List (Option Inside)) (n : ℕ) (levels : List LevelSum) (stop : RowsStop) → n < length outline.levels.items → AreRowsTo outline kept n levels
+    → IsRowsStop outline n 4294967295 kept stop → IsLevelsStop outline kept stop
+levels_stop outline kept n levels (Refused bad) within rows is = λ p at are. first_of_all outline kept n levels p at bad.level bad.first within rows are (is p at (kept_of p at outline n 4294967295 kept are))
+levels_stop outline kept n levels OutOfMemory within rows is = tt

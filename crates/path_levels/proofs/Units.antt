@@ -3,10 +3,11 @@ use Rattle.std.proofs.Common.{◌≡◌, ℕ, ◌*◌, ◌/◌, ◌<◌, ◌≤�
 use Rattle.std.specs.Int.{IsGcd}
 use Rattle.std.proofs.Math.Nat.{div-le_self}
 use borrow.Author.Differences.{ints}
-use Rattle.corner_lines.specs.LevelJoins.{IsLeastMultiple}
-use Rattle.path_levels.specs.declared.frame.LineFacts.{LineFacts}
+use Rattle.corner_lines.specs.Levels.LevelJoins.{IsLeastMultiple}
+use Rattle.path_levels.specs.declared.outline.LineFacts.{LineFacts}
 use Rattle.path_levels.specs.Joins.{IsRise, IsWeightOf}
-use Rattle.corner_lines.proofs.Units.{size_above, part_above, least_multiple}
+use Rattle.corner_lines.proofs.LevelRows.Units.{part_above, least_multiple}
+use Rattle.frac_core.proofs.Divisors.{size_above}
 
 -- ---- what the code finds
 

@@ -8,10 +8,10 @@ use Rattle.problem_core.specs.Layout.{Problem}
 use Rattle.problem_core.specs.Corners.{HasNegativeColumn}
 use Rattle.path_checker.specs.Numbers.{number_at}
 use Rattle.path_checker.specs.Tables.{name_at}
-use Rattle.path_levels.specs.declared.frame.LineFacts.{LineFacts}
+use Rattle.path_levels.specs.declared.outline.LineFacts.{LineFacts}
 use Rattle.path_levels.specs.declared.sums.LevelSum.{LevelSum}
 use Rattle.path_levels.specs.declared.columns.Units.{Units}
-use Rattle.path_levels.specs.Frames.{IsSizedFacts}
+use Rattle.path_levels.specs.Outlines.{IsSizedFacts}
 use Rattle.path_levels.specs.Levels.{IsSizedLevel}
 
 -- what a deviation on this side costs

@@ -8,11 +8,12 @@ use Rattle.frac_core.specs.Fraction.{sum_num}
 use Rattle.problem_core.specs.declared.limits.TheConstants.{COEFFICIENT_LIMIT}
 use Rattle.problem_core.specs.declared.parts.Side.{Side}
 use Rattle.problem_core.specs.declared.parts.Side.TheVariants.{Under, Over}
-use Rattle.corner_lines.specs.LevelJoins.{IsLeastMultiple}
+use Rattle.corner_lines.specs.Levels.LevelJoins.{IsLeastMultiple}
+use Rattle.path_checker.specs.declared.numbers.Wide.{Wide}
 use Rattle.path_checker.specs.declared.table.Inside.{Inside}
 use Rattle.path_checker.specs.Numbers.{AreFitting, AreLowest, AreUnfit, IsCombined, number_at}
-use Rattle.path_levels.specs.declared.frame.Frame.{Frame}
-use Rattle.path_levels.specs.declared.frame.LineFacts.{LineFacts}
+use Rattle.path_levels.specs.declared.outline.Outline.{Outline}
+use Rattle.path_levels.specs.declared.outline.LineFacts.{LineFacts}
 use Rattle.path_levels.specs.declared.joins.Draft.{Draft}
 use Rattle.path_levels.specs.declared.sums.LevelSum.{LevelSum}
 
@@ -51,6 +52,12 @@ IsJoinedList old f (Some inside) times own out = (own ≡ inside.sum.own *ℤ ol
     × IsCombined (inside.sum.own *ℤ pos times) old.by.items
     (counted_number inside.side f (times * unsigned_abs old.unit) (unsigned_abs old.own))
     inside.sum.by.items out
+
+-- the same by the kept row's own unit, where this mark is inside
+abbrev pub IsJoinedWide : LevelSum → LineFacts → Inside → (times : ℤ) → Wide → Type 0
+IsJoinedWide old f inside times w = IsCombined (inside.sum.own *ℤ times) old.by.items
+    (counted_number inside.side f (unsigned_abs times * unsigned_abs old.unit) (unsigned_abs old.own))
+    inside.sum.by.items w.by.items
 
 -- the cost with the line's
 abbrev pub IsJoinedCost : Fraction → LineFacts → Option Inside → Fraction → Type 0
@@ -100,17 +107,17 @@ AreFittingCosts f (Some inside) unit own number =
     IsFitting (pos (side_count Under f unit own) +ℤ pos (side_count Over f unit own))
 
 -- those of the line at a place, where it is of the level
-abbrev pub IsFittingAt : Frame → List (Option Inside) → (place : ℕ) → Draft → ℕ → Type 0
-IsFittingAt frame kept place draft k = (f : LineFacts) (d : Option Inside)
-    → (get_or frame.lines.items k f).level ≡ place
-    → AreFittingCosts (get_or frame.lines.items k f) (get_or kept k d) (unsigned_abs draft.unit)
+abbrev pub IsFittingAt : Outline → List (Option Inside) → (place : ℕ) → Draft → ℕ → Type 0
+IsFittingAt outline kept place draft k = (f : LineFacts) (d : Option Inside)
+    → (get_or outline.lines.items k f).level ≡ place
+    → AreFittingCosts (get_or outline.lines.items k f) (get_or kept k d) (unsigned_abs draft.unit)
     (unsigned_abs draft.own) (number_at draft.by.items k)
 
 -- of the lines before a place
-abbrev pub AreFittingTo : Frame → List (Option Inside) → (place upto : ℕ) → Draft → Type 0
-AreFittingTo frame kept place upto draft = (k : ℕ) → k < upto → IsFittingAt frame kept place draft k
+abbrev pub AreFittingTo : Outline → List (Option Inside) → (place upto : ℕ) → Draft → Type 0
+AreFittingTo outline kept place upto draft = (k : ℕ) → k < upto → IsFittingAt outline kept place draft k
 
 -- and the scale
-abbrev pub IsFittingTo : Frame → List (Option Inside) → (place upto : ℕ) → Draft → Type 0
-IsFittingTo frame kept place upto draft = IsFitting (draft.own *ℤ draft.unit)
-    × AreFittingTo frame kept place upto draft
+abbrev pub IsFittingTo : Outline → List (Option Inside) → (place upto : ℕ) → Draft → Type 0
+IsFittingTo outline kept place upto draft = IsFitting (draft.own *ℤ draft.unit)
+    × AreFittingTo outline kept place upto draft

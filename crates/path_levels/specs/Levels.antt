@@ -5,13 +5,14 @@ use Rattle.problem_core.specs.declared.parts.Mark.{Mark}
 use Rattle.problem_core.specs.declared.parts.Level.{Level}
 use Rattle.problem_core.specs.declared.stops.What.TheVariants.{Level as LevelOf}
 use Rattle.problem_core.specs.Layout.{Problem, lines}
+use Rattle.problem_core.specs.Levels.{HasNoLevelWriting}
 use Rattle.problem_core.specs.Unfit.{IsUnfitWhat}
 use Rattle.corner_lines.specs.LineEquations.{IsOutsideLine}
-use Rattle.corner_lines.specs.LevelFits.{IsFittingRow, IsLevelThere}
+use Rattle.corner_lines.specs.Levels.LevelFits.{IsFittingRow, IsLevelThere}
 use Rattle.path_checker.specs.Tables.{line_count, numbers_of}
-use Rattle.path_levels.specs.declared.frame.Frame.{Frame}
+use Rattle.path_levels.specs.declared.outline.Outline.{Outline}
 use Rattle.path_levels.specs.declared.sums.LevelSum.{LevelSum}
-use Rattle.path_levels.specs.Frames.{number_at}
+use Rattle.path_levels.specs.Outlines.{number_at}
 
 -- the sum has a number for each of so many lines, and its scale and its numbers fit
 pub record IsSizedLevel (count : ℕ) (sum : LevelSum) : Type 0 where
@@ -34,11 +35,20 @@ pub record IsLevelSum (p : Problem) (at : List Mark) (level : ℕ) (sum : LevelS
   pub inside : All (λ l. IsOutsideLine at l.name ⊎ (numbers_of (lines p) sum.by.items l.name ≡ pos 0))
       (lines p)
 
--- each level of the frame is as it is kept
-pub record AreLevels (p : Problem) (at : List Mark) (frame : Frame) (levels : List LevelSum) : Type 0 where
-  pub count : length levels ≡ length frame.levels.items
-  pub each : (k : ℕ) (d : LevelSum) → k < length frame.levels.items
-      → IsLevelSum p at (number_at frame.levels.items k) (get_or levels k d)
+-- each level of the outline is as it is kept
+pub record AreLevels (p : Problem) (at : List Mark) (outline : Outline) (levels : List LevelSum)
+    : Type 0 where
+  pub count : length levels ≡ length outline.levels.items
+  pub each : (k : ℕ) (d : LevelSum) → k < length outline.levels.items
+      → IsLevelSum p at (number_at outline.levels.items k) (get_or levels k d)
+
+-- it is the row of the level at a place of the outline
+abbrev pub IsSumAt : Problem → List Mark → Outline → ℕ → LevelSum → Type 0
+IsSumAt p at outline place sum = IsLevelSum p at (number_at outline.levels.items place) sum
+
+-- no row of that level fits
+abbrev pub HasNoSumAt : Outline → ℕ → Problem → List Mark → Type 0
+HasNoSumAt outline place p at = HasNoLevelWriting p at (number_at outline.levels.items place)
 
 -- the cost of some level does not fit
 abbrev pub HasUnfitLevel : Problem → List Mark → Type 0

@@ -1,7 +1,8 @@
 -- A level that has its first lines alone.
-use Rattle.std.specs.Prelude.{◌≡◌, ℕ, ◌<◌, ◌≤◌, List, length, map, get_or, slice_index_or, pos, All, Option}
+use Rattle.std.specs.Prelude.{◌≡◌, ℕ, ◌+◌, ◌<◌, ◌≤◌, List, length, map, get_or, slice_index_or, pos, All}
+use Rattle.std.specs.Prelude.{Option}
 use Rattle.problem_core.specs.Window.{zero_fraction}
-use Rattle.corner_lines.specs.StayLevels.{turned}
+use Rattle.corner_lines.specs.Levels.StayLevels.{turned}
 use Rattle.problem_core.specs.declared.limits.TheConstants.{REQUIRED}
 use Rattle.problem_core.specs.declared.parts.Mark.{Mark}
 use Rattle.problem_core.specs.Layout.{Problem}
@@ -9,10 +10,10 @@ use Rattle.problem_core.specs.Levels.{HasNoLevelWriting}
 use Rattle.problem_core.specs.Unfit.{with_first_rows}
 use Rattle.path_checker.specs.declared.table.Inside.{Inside}
 use Rattle.path_checker.specs.Tables.{IsLineAt, IsThere, line_count, name_at}
-use Rattle.path_levels.specs.declared.frame.Frame.{Frame}
-use Rattle.path_levels.specs.declared.frame.LineFacts.{LineFacts}
+use Rattle.path_levels.specs.declared.outline.Outline.{Outline}
+use Rattle.path_levels.specs.declared.outline.LineFacts.{LineFacts}
 use Rattle.path_levels.specs.declared.sums.LevelSum.{LevelSum}
-use Rattle.path_levels.specs.Frames.{IsFrame, number_at}
+use Rattle.path_levels.specs.Outlines.{IsOutline, number_at}
 use Rattle.path_levels.specs.Levels.{IsLevelSum}
 use Rattle.path_levels.specs.Rows.{level_place}
 
@@ -32,31 +33,39 @@ pub record IsStaySum (inside : Inside) (sum : LevelSum) : Type 0 where
   pub cost : sum.cost ≡ record { num = turned inside.side inside.sum.value.num; den = inside.sum.value.den }
 
 -- the place of the line's level
-abbrev pub level_there : Frame → ℕ → ℕ
-level_there frame at = slice_index_or (map (λ f. f.level) frame.lines.items) at 0
+abbrev pub level_there : Outline → ℕ → ℕ
+level_there outline at = slice_index_or (map (λ f. f.level) outline.lines.items) at 0
 
 -- the rows of the level from a place on have no weight
 abbrev pub part : Problem → (level upto : ℕ) → Problem
 part p level upto = with_first_rows level (level_place p level upto) p
 
 -- the level at the place is one of rows, and each line of it before another place is kept
-pub record IsPartKept (p : Problem) (at : List Mark) (frame : Frame) (place upto : ℕ)
+pub record IsPartKept (p : Problem) (at : List Mark) (outline : Outline) (place upto : ℕ)
     (kept : List (Option Inside)) : Type 0 where
-  pub frame_is : IsFrame p frame
+  pub outline_is : IsOutline p outline
   pub there : IsThere p at
-  pub within : place < length frame.levels.items
-  pub held : number_at frame.levels.items place ≤ REQUIRED
+  pub within : place < length outline.levels.items
+  pub held : number_at outline.levels.items place ≤ REQUIRED
   pub count : length kept ≡ line_count p
   pub each : (k : ℕ) (d : Option Inside) (f : LineFacts) → k < upto → k < line_count p
-      → (get_or frame.lines.items k f).level ≡ place → IsLineAt p at (name_at p k) (get_or kept k d)
+      → (get_or outline.lines.items k f).level ≡ place → IsLineAt p at (name_at p k) (get_or kept k d)
 
 -- the sum is the row of the level with these lines
-abbrev pub IsPartSum : Problem → List Mark → Frame → (place upto : ℕ) → LevelSum → Type 0
-IsPartSum p at frame place upto sum = IsLevelSum (part p (number_at frame.levels.items place) upto) at
-    (number_at frame.levels.items place) sum
+abbrev pub IsPartSum : Problem → List Mark → Outline → (place upto : ℕ) → LevelSum → Type 0
+IsPartSum p at outline place upto sum = IsLevelSum (part p (number_at outline.levels.items place) upto) at
+    (number_at outline.levels.items place) sum
+
+-- what holds where the line at a place, and those of its level before it, are kept, and the sum is the row of
+-- the level with those before it
+abbrev pub WithPart : Outline → List (Option Inside) → (at : ℕ) → LevelSum
+    → (Problem → List Mark → ℕ → Type 0) → Type 0
+WithPart outline lines at old holds = (p : Problem) (marks : List Mark) (place : ℕ)
+    → level_there outline at ≡ place → IsPartKept p marks outline place (at + 1) lines
+    → IsPartSum p marks outline place at old → holds p marks place
 
 -- it does not fit
-abbrev pub IsPartUnfit : Problem → List Mark → Frame → (place upto : ℕ) → Type 0
-IsPartUnfit p at frame place upto =
-    HasNoLevelWriting (part p (number_at frame.levels.items place) upto) at
-    (number_at frame.levels.items place)
+abbrev pub IsPartUnfit : Problem → List Mark → Outline → (place upto : ℕ) → Type 0
+IsPartUnfit p at outline place upto =
+    HasNoLevelWriting (part p (number_at outline.levels.items place) upto) at
+    (number_at outline.levels.items place)

@@ -10,13 +10,13 @@ use Rattle.problem_core.specs.Levels.{IsLevelAt}
 use Rattle.path_checker.specs.declared.table.Inside.{Inside}
 use Rattle.path_checker.specs.Room.{ComesBefore}
 use Rattle.path_checker.specs.Tables.{AreLines, IsLineAt, IsThere, line_count, name_at}
-use Rattle.path_levels.specs.declared.frame.Frame.{Frame}
-use Rattle.path_levels.specs.declared.frame.LineFacts.{LineFacts}
+use Rattle.path_levels.specs.declared.outline.Outline.{Outline}
+use Rattle.path_levels.specs.declared.outline.LineFacts.{LineFacts}
 use Rattle.path_levels.specs.declared.sums.LevelSum.{LevelSum}
 use Rattle.frac_core.specs.declared.memory.Stop.{Stop}
 use Rattle.frac_core.specs.declared.memory.Stop.TheVariants.{Refused, OutOfMemory}
 use Rattle.path_levels.specs.declared.rows.UnfitRows.{UnfitRows}
-use Rattle.path_levels.specs.Frames.{IsFrame, number_at}
+use Rattle.path_levels.specs.Outlines.{IsOutline, number_at}
 use Rattle.path_levels.specs.Levels.{IsLevelSum}
 
 -- how many lines of this level there are, and how many of them are among the first k lines
@@ -27,20 +27,21 @@ abbrev pub level_place : Problem → ℕ → ℕ → ℕ
 level_place p level k = length (filter (λ l. nat_eq l.level level) (take k (lines p)))
 
 -- the corner's lines are kept
-pub record AreKept (p : Problem) (at : List Mark) (frame : Frame) (kept : List (Option Inside)) : Type 0 where
-  pub frame_is : IsFrame p frame
+pub record AreKept (p : Problem) (at : List Mark) (outline : Outline) (kept : List (Option Inside))
+    : Type 0 where
+  pub outline_is : IsOutline p outline
   pub there : IsThere p at
   pub lines_are : AreLines p at kept
 
 -- of the first so many lines of the level each one is kept
-pub record AreKeptOf (p : Problem) (at : List Mark) (frame : Frame) (place most : ℕ)
+pub record AreKeptOf (p : Problem) (at : List Mark) (outline : Outline) (place most : ℕ)
     (kept : List (Option Inside)) : Type 0 where
-  pub frame_is : IsFrame p frame
+  pub outline_is : IsOutline p outline
   pub there : IsThere p at
   pub count : length kept ≡ line_count p
   pub each : (k : ℕ) (d : Option Inside) (f : LineFacts) → k < line_count p
-      → (get_or frame.lines.items k f).level ≡ place
-      → level_place p (number_at frame.levels.items place) k < most
+      → (get_or outline.lines.items k f).level ≡ place
+      → level_place p (number_at outline.levels.items place) k < most
       → IsLineAt p at (name_at p k) (get_or kept k d)
 
 -- the level's first rows fit, up to so many
@@ -71,24 +72,24 @@ abbrev pub unfit_rows : Level → ℕ → RowsStop
 unfit_rows level first = Refused (record { level = level; first = first })
 
 -- why the rows of all levels are not made
-abbrev pub IsLevelsStop : Frame → List (Option Inside) → RowsStop → Type 0
-IsLevelsStop frame kept (Refused rows) = (p : Problem) (at : List Mark) → AreKept p at frame kept
+abbrev pub IsLevelsStop : Outline → List (Option Inside) → RowsStop → Type 0
+IsLevelsStop outline kept (Refused rows) = (p : Problem) (at : List Mark) → AreKept p at outline kept
     → IsFirstOfAll p at rows.level rows.first
-IsLevelsStop frame kept OutOfMemory = Unit {0}
+IsLevelsStop outline kept OutOfMemory = Unit {0}
 
 -- ---- one level
 
 -- the sum is the row of the level at the place, where so many lines are all of it, and its first rows fit
-pub record IsRowsSum (p : Problem) (at : List Mark) (frame : Frame) (place most : ℕ) (sum : LevelSum)
+pub record IsRowsSum (p : Problem) (at : List Mark) (outline : Outline) (place most : ℕ) (sum : LevelSum)
     : Type 0 where
-  pub whole : level_size p (number_at frame.levels.items place) ≤ most
-      → IsLevelSum p at (number_at frame.levels.items place) sum
-  pub fitting : (level : Level) → IsLevelAt p level (number_at frame.levels.items place)
+  pub whole : level_size p (number_at outline.levels.items place) ≤ most
+      → IsLevelSum p at (number_at outline.levels.items place) sum
+  pub fitting : (level : Level) → IsLevelAt p level (number_at outline.levels.items place)
       → AreFittingRows p at level most
 
 -- why the row of the level at the place is not made
-abbrev pub IsRowsStop : Frame → ℕ → ℕ → List (Option Inside) → RowsStop → Type 0
-IsRowsStop frame place most kept (Refused rows) = (p : Problem) (at : List Mark)
-    → AreKeptOf p at frame place most kept → IsLevelAt p rows.level (number_at frame.levels.items place)
+abbrev pub IsRowsStop : Outline → ℕ → ℕ → List (Option Inside) → RowsStop → Type 0
+IsRowsStop outline place most kept (Refused rows) = (p : Problem) (at : List Mark)
+    → AreKeptOf p at outline place most kept → IsLevelAt p rows.level (number_at outline.levels.items place)
     × (rows.first ≤ most) × IsFirstUnfit p at rows.level rows.first
-IsRowsStop frame place most kept OutOfMemory = Unit {0}
+IsRowsStop outline place most kept OutOfMemory = Unit {0}

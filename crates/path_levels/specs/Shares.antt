@@ -7,7 +7,7 @@ use Rattle.problem_core.specs.declared.parts.Side.{Side}
 use Rattle.problem_core.specs.declared.parts.Side.TheVariants.{Under, Over}
 use Rattle.path_checker.specs.declared.exchange.Pivot.{Pivot}
 use Rattle.path_checker.specs.Numbers.{number_at}
-use Rattle.path_levels.specs.declared.frame.LineFacts.{LineFacts}
+use Rattle.path_levels.specs.declared.outline.LineFacts.{LineFacts}
 use Rattle.path_levels.specs.declared.sums.LevelSum.{LevelSum}
 
 -- a cost is from 0 to the greatest weight, a scale from 1 to the greatest one

@@ -1,20 +1,17 @@
 // A level's row after an exchange, before it is divided.
-ghost use Rattle.std.specs.Prelude.{◌≡◌, ◌<◌, ◌^◌, ◌*ℤ◌, ◌+ℤ◌, ◌<ℤ◌, pos, length, unsigned_abs, List};
+ghost use Rattle.std.specs.Prelude.{◌≡◌, ◌<◌, ◌^◌, ◌*ℤ◌, ◌+ℤ◌, ◌<ℤ◌, pos, length, unsigned_abs};
 ghost use Rattle.std.specs.Prelude.{All, IfOk, IfErr};
 ghost use Rattle.std.specs.Int.{◌∣◌};
 ghost use Rattle.frac_core.specs.Fraction.{IsFitting};
-ghost use Rattle.problem_core.specs.Layout.{Problem};
-ghost use Rattle.problem_core.specs.declared.parts.Mark.{Mark};
 ghost use Rattle.path_checker.specs.Numbers.{IsFactor, number_at as in_list};
-ghost use Rattle.path_checker.specs.Pivots.{next_marks};
 ghost use Rattle.frac_core.specs.declared.memory.Stop.TheVariants as stops;
-ghost use Rattle.path_levels.specs.Frames.{IsFrame, IsSizedFrame, number_at};
-ghost use Rattle.path_levels.specs.Levels.{IsLevelSum, IsSizedLevel};
+ghost use Rattle.path_levels.specs.Outlines.{IsSizedOutline};
+ghost use Rattle.path_levels.specs.Levels.{IsSizedLevel};
 ghost use Rattle.path_levels.specs.Shares.{IsScaled, IsSmallFacts, before_of, entering_of, stood_of};
-ghost use Rattle.path_levels.specs.Carried.{AreSharing, IsCarriedBy, IsCommonOf};
-ghost use Rattle.path_levels.specs.Turns.{IsMultipleAt, IsSizedPivot, IsTurnPivot, IsWideLevel};
+ghost use Rattle.path_levels.specs.Exchanges.Carried.{AreSharing, IsCarriedBy, IsCommonOf};
+ghost use Rattle.path_levels.specs.Exchanges.Pivots.{IsNextMultiple, IsSizedPivot, IsWideLevel};
 
-use crate::frame::{Frame, LineFacts};
+use crate::outline::{LineFacts, Outline};
 use crate::shares::stood_number;
 use crate::sums::LevelSum;
 use frac_core::gcd;
@@ -153,25 +150,22 @@ fn put_together(
 /// The row of the level at a place after an exchange, before it is divided.
 pub fn next_level_numbers(
     alloc: Global,
-    frame: &Frame,
+    outline: &Outline,
     pivot: &Pivot,
     place: usize,
     sum: &LevelSum,
 ) -> Result<Wide, SumStop>
-    requires frame { IsSizedFrame frame.now }
-    requires pivot { IsSizedPivot (length frame.now.lines.items) pivot.now }
-    requires place { place < length frame.now.levels.items }
-    requires sum { IsSizedLevel (length frame.now.lines.items) sum.now }
-    ensures sized { IfOk result (IsWideLevel (length frame.now.lines.items) sum.now.unit) }
-    ensures next { IfOk result (λ wide. (p : Problem) (at : List Mark) → IsFrame p frame.now
-        → IsTurnPivot p at pivot.now → IsLevelSum p at (number_at frame.now.levels.items place) sum.now
-        → IsMultipleAt p (next_marks p pivot.now at) (number_at frame.now.levels.items place)
-        sum.now.unit wide) }
+    requires outline { IsSizedOutline outline.now }
+    requires pivot { IsSizedPivot (length outline.now.lines.items) pivot.now }
+    requires place { place < length outline.now.levels.items }
+    requires sum { IsSizedLevel (length outline.now.lines.items) sum.now }
+    ensures sized { IfOk result (IsWideLevel (length outline.now.lines.items) sum.now.unit) }
+    ensures next { IfOk result (IsNextMultiple outline.now pivot.now place sum.now) }
     ensures memory { IfErr result (λ stop. stop ≡ stops.OutOfMemory) }
 {
-    let n = entering_number(&frame.lines[pivot.step.enter.at], pivot, place, sum);
+    let n = entering_number(&outline.lines[pivot.step.enter.at], pivot, place, sum);
     let factors = factors_of(pivot.size, n);
-    let leaves = &frame.lines[pivot.step.leave.at];
+    let leaves = &outline.lines[pivot.step.leave.at];
     let leaving = leaving_number(leaves, pivot, place, sum, factors);
     put_together(alloc, pivot, sum, factors, leaving)
 }

@@ -1,20 +1,18 @@
 // The columns of outside marks at a corner: what a mark costs at each level, strongest first, and whether the
 // first of these costs that is not 0 is below 0.
-ghost use Rattle.std.specs.Prelude.{◌≡◌, ◌↔◌, ◌<◌, ◌^◌, ◌<ℤ◌, ℕ, pos, length, get_or, unsigned_abs, List};
+ghost use Rattle.std.specs.Prelude.{◌≡◌, ◌↔◌, ◌<◌, ◌^◌, ◌<ℤ◌, ℕ, pos, length, get_or, unsigned_abs};
 ghost use Rattle.std.specs.Prelude.{IsTrue, [], false};
-ghost use Rattle.problem_core.specs.Layout.{Problem};
 ghost use Rattle.problem_core.specs.Corners.{HasNegativeColumn, NoNegativeColumn};
-ghost use Rattle.problem_core.specs.declared.parts.Mark.{Mark};
 ghost use Rattle.path_checker.specs.Tables.{mark_of};
-ghost use Rattle.path_levels.specs.Frames.{IsSizedFrame};
-ghost use Rattle.path_levels.specs.Levels.{AreLevels, AreSizedLevels, IsSizedLevel};
-ghost use Rattle.path_levels.specs.Rows.{AreKept};
+ghost use Rattle.path_levels.specs.Outlines.{IsSizedOutline};
+ghost use Rattle.path_levels.specs.Levels.{AreSizedLevels, IsSizedLevel};
 ghost use Rattle.path_levels.specs.Costs.{AreSmall, HasLine, HasNegative, IsNegativeFirst, IsPriced};
 ghost use Rattle.path_levels.specs.Costs.{cost_in, cost_of, counted as counted_at, reduced_by};
 ghost use Rattle.path_levels.specs.Costs.{share_of, weight_of};
 ghost use Rattle.path_levels.specs.declared.sums.LevelSum.{LevelSum as KeptSum};
+ghost use Rattle.path_levels.specs.Kept.{WithLevels};
 
-use crate::frame::{Frame, LineFacts};
+use crate::outline::{LineFacts, Outline};
 use crate::sums::LevelSum;
 use path_checker::{Inside, Spot};
 use problem_core::Side;
@@ -116,56 +114,59 @@ fn is_negative_first(facts: &LineFacts, levels: &[LevelSum], spot: Spot) -> bool
 
 /// Whether the column of a mark is negative at the corner.
 pub fn is_negative_column(
-    frame: &Frame,
+    outline: &Outline,
     lines: &[Option<Inside>],
     levels: &[LevelSum],
     spot: Spot,
 ) -> bool
-    requires frame { IsSizedFrame frame.now }
-    requires count { length lines.now ≡ length frame.now.lines.items }
+    requires outline { IsSizedOutline outline.now }
+    requires count { length lines.now ≡ length outline.now.lines.items }
     requires levels { AreSizedLevels (length lines.now) levels.now }
-    requires level_count { length levels.now ≡ length frame.now.levels.items }
+    requires level_count { length levels.now ≡ length outline.now.levels.items }
     requires spot { spot.at < length lines.now }
-    ensures { (p : Problem) (at : List Mark) → AreKept p at frame.now lines.now
-        → AreLevels p at frame.now levels.now → IsTrue result ↔ HasNegativeColumn p at (mark_of p spot) }
+    ensures { WithLevels outline.now lines.now levels.now
+        (λ p at. IsTrue result ↔ HasNegativeColumn p at (mark_of p spot)) }
 {
     match &lines[spot.at] {
         Some(_) => false,
-        None => is_negative_first(&frame.lines[spot.at], levels, spot),
+        None => is_negative_first(&outline.lines[spot.at], levels, spot),
     }
 }
 
 // Whether the column of a mark of the line is negative.
 fn has_negative_column(
-    frame: &Frame,
+    outline: &Outline,
     lines: &[Option<Inside>],
     levels: &[LevelSum],
     at: usize,
 ) -> bool
-    requires frame { IsSizedFrame frame.now }
-    requires count { length lines.now ≡ length frame.now.lines.items }
+    requires outline { IsSizedOutline outline.now }
+    requires count { length lines.now ≡ length outline.now.lines.items }
     requires levels { AreSizedLevels (length lines.now) levels.now }
-    requires level_count { length levels.now ≡ length frame.now.levels.items }
+    requires level_count { length levels.now ≡ length outline.now.levels.items }
     requires at { at < length lines.now }
-    ensures { (p : Problem) (marks : List Mark) → AreKept p marks frame.now lines.now
-        → AreLevels p marks frame.now levels.now → IsTrue result ↔ HasNegative p marks at }
+    ensures { WithLevels outline.now lines.now levels.now
+        (λ p marks. IsTrue result ↔ HasNegative p marks at) }
 {
     let (under, over) = (Side::Under, Side::Over);
-    is_negative_column(frame, lines, levels, Spot { at, side: under })
-        || is_negative_column(frame, lines, levels, Spot { at, side: over })
+    is_negative_column(outline, lines, levels, Spot { at, side: under })
+        || is_negative_column(outline, lines, levels, Spot { at, side: over })
 }
 
 /// Whether no column is negative at the corner.
-pub fn has_no_negative_column(frame: &Frame, lines: &[Option<Inside>], levels: &[LevelSum]) -> bool
-    requires frame { IsSizedFrame frame.now }
-    requires count { length lines.now ≡ length frame.now.lines.items }
+pub fn has_no_negative_column(
+    outline: &Outline,
+    lines: &[Option<Inside>],
+    levels: &[LevelSum],
+) -> bool
+    requires outline { IsSizedOutline outline.now }
+    requires count { length lines.now ≡ length outline.now.lines.items }
     requires levels { AreSizedLevels (length lines.now) levels.now }
-    requires level_count { length levels.now ≡ length frame.now.levels.items }
-    ensures { (p : Problem) (at : List Mark) → AreKept p at frame.now lines.now
-        → AreLevels p at frame.now levels.now → IsTrue result ↔ NoNegativeColumn p at }
+    requires level_count { length levels.now ≡ length outline.now.levels.items }
+    ensures { WithLevels outline.now lines.now levels.now (λ p at. IsTrue result ↔ NoNegativeColumn p at) }
 {
     for at in 0..lines.len() {
-        if has_negative_column(frame, lines, levels, at) {
+        if has_negative_column(outline, lines, levels, at) {
             return false;
         }
     }

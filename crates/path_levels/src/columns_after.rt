@@ -1,25 +1,23 @@
 // The signs of columns after an exchange, where not all has to fit.
-ghost use Rattle.std.specs.Prelude.{◌≡◌, ◌↔◌, ◌<◌, ℕ, length, get_or, List, IfOk, IsTrue, [], false, true};
+ghost use Rattle.std.specs.Prelude.{◌≡◌, ◌↔◌, ◌<◌, ℕ, length, get_or, IfOk, IsTrue, [], false, true};
 ghost use Rattle.std.specs.Prelude.{All};
-ghost use Rattle.problem_core.specs.Layout.{Problem};
-ghost use Rattle.problem_core.specs.Corners.{IsExchange, IsIn, NoNegativeColumn, exchanged, place_of};
-ghost use Rattle.problem_core.specs.declared.parts.Mark.{Mark};
+ghost use Rattle.problem_core.specs.Corners.{IsIn, NoNegativeColumn, place_of};
 ghost use Rattle.corner_lines.specs.LineEquations.{IsOutsideLine};
-ghost use Rattle.path_checker.specs.Pivots.{next_marks};
 ghost use Rattle.path_checker.specs.Sides.{IsWithin};
-ghost use Rattle.path_checker.specs.Tables.{AreLines, AreSized, IsThere, name_at, swap_of};
-ghost use Rattle.path_levels.specs.Frames.{IsFrame, IsSizedFrame};
-ghost use Rattle.path_levels.specs.Levels.{AreLevels, AreSizedLevels};
-ghost use Rattle.path_levels.specs.Rows.{AreKept};
+ghost use Rattle.path_checker.specs.Tables.{AreSized, name_at};
+ghost use Rattle.path_levels.specs.Outlines.{IsSizedOutline};
+ghost use Rattle.path_levels.specs.Levels.{AreSizedLevels};
 ghost use Rattle.path_levels.specs.Costs.{HasNegative, IsNegativeFirst, IsPriced};
-ghost use Rattle.path_levels.specs.Turns.{IsSizedPivot, IsTurnPivot};
-ghost use Rattle.path_levels.specs.WideCosts.{AreWideAt, HasWideLine, IsSizedWide, IsWideNegative, wide_cost};
+ghost use Rattle.path_levels.specs.Exchanges.Pivots.{IsSizedPivot};
+ghost use Rattle.path_levels.specs.Exchanges.WideCosts.{AreWideAt, HasWideLine, IsSizedWide, IsWideNegative};
+ghost use Rattle.path_levels.specs.Exchanges.WideCosts.{AreNextWide, wide_cost};
 ghost use Rattle.path_levels.specs.declared.columns_after.WideLevel.{WideLevel as KeptWide};
+ghost use Rattle.path_levels.specs.Kept.{AfterStep, WithLevels, WithLines, WithOutline};
 
 use crate::columns::{Units, cost};
-use crate::frame::{Frame, LineFacts};
+use crate::levels_after::LineExchange;
+use crate::outline::{LineFacts, Outline};
 use crate::sums::LevelSum;
-use crate::turns::Turn;
 use crate::{next_level_numbers, pivot_of};
 use frac_core::{OutOfMemory, Stop};
 use path_checker::{Inside, Pivot, Spot, Step, Wide};
@@ -44,22 +42,20 @@ fn wide_level(unit: i64, wide: Wide) -> WideLevel
 // The rows of all levels after an exchange, before they are divided.
 fn wide_levels(
     alloc: Global,
-    frame: &Frame,
+    outline: &Outline,
     pivot: &Pivot,
     levels: &[LevelSum],
 ) -> Result<Vec<WideLevel>, OutOfMemory>
-    requires frame { IsSizedFrame frame.now }
-    requires pivot { IsSizedPivot (length frame.now.lines.items) pivot.now }
-    requires levels { AreSizedLevels (length frame.now.lines.items) levels.now }
-    requires count { length levels.now ≡ length frame.now.levels.items }
-    ensures sized { IfOk result (λ next. All (IsSizedWide (length frame.now.lines.items)) next.items) }
-    ensures next { IfOk result (λ next. (p : Problem) (at : List Mark) → IsTurnPivot p at pivot.now
-        → IsFrame p frame.now → AreLevels p at frame.now levels.now
-        → AreWideAt p (next_marks p pivot.now at) frame.now next.items) }
+    requires outline { IsSizedOutline outline.now }
+    requires pivot { IsSizedPivot (length outline.now.lines.items) pivot.now }
+    requires levels { AreSizedLevels (length outline.now.lines.items) levels.now }
+    requires count { length levels.now ≡ length outline.now.levels.items }
+    ensures sized { IfOk result (λ next. All (IsSizedWide (length outline.now.lines.items)) next.items) }
+    ensures next { IfOk result (λ next. AreNextWide outline.now pivot.now levels.now next.items) }
 {
     let mut out = Vec::with_capacity(alloc, levels.len())?;
     for (place, sum) in levels.iter().enumerate() {
-        let Ok(wide) = next_level_numbers(alloc, frame, pivot, place, sum) else {
+        let Ok(wide) = next_level_numbers(alloc, outline, pivot, place, sum) else {
             return Err(OutOfMemory);
         };
         out.push(wide_level(sum.unit, wide))?;
@@ -113,12 +109,10 @@ fn has_negative_first_after(facts: &LineFacts, next: &[WideLevel], at: usize) ->
 fn is_outside_after(lines: &[Option<Inside>], step: Step, at: usize) -> bool
     requires at { at < length lines.now }
     requires step { IsWithin (length lines.now) step }
-    ensures outside { result ≡ true → (p : Problem) (marks : List Mark) → IsThere p marks
-        → AreLines p marks lines.now → IsExchange p marks (swap_of p step)
-        → IsOutsideLine (exchanged (swap_of p step) marks) (name_at p at) }
-    ensures inside { result ≡ false → (p : Problem) (marks : List Mark) → IsThere p marks
-        → AreLines p marks lines.now → IsExchange p marks (swap_of p step)
-        → (side : Side) × IsIn (place_of (name_at p at) side) (exchanged (swap_of p step) marks) }
+    ensures outside { result ≡ true → WithLines lines.now
+        (AfterStep step (λ p marks. IsOutsideLine marks (name_at p at))) }
+    ensures inside { result ≡ false → WithLines lines.now
+        (AfterStep step (λ p marks. (side : Side) × IsIn (place_of (name_at p at) side) marks)) }
 {
     if at == step.enter.at {
         return false;
@@ -135,24 +129,22 @@ fn is_outside_after(lines: &[Option<Inside>], step: Step, at: usize) -> bool
 // Whether the column of a mark of the line is negative after the exchange, where these are the levels' rows
 // there.
 fn has_negative_after(
-    frame: &Frame,
+    outline: &Outline,
     lines: &[Option<Inside>],
     step: Step,
     next: &[WideLevel],
     at: usize,
 ) -> bool
-    requires frame { IsSizedFrame frame.now }
-    requires count { length lines.now ≡ length frame.now.lines.items }
+    requires outline { IsSizedOutline outline.now }
+    requires count { length lines.now ≡ length outline.now.lines.items }
     requires step { IsWithin (length lines.now) step }
     requires next { All (IsSizedWide (length lines.now)) next.now }
     requires at { at < length lines.now }
-    ensures { (p : Problem) (marks : List Mark) → AreKept p marks frame.now lines.now
-        → IsExchange p marks (swap_of p step)
-        → AreWideAt p (exchanged (swap_of p step) marks) frame.now next.now
-        → IsTrue result ↔ HasNegative p (exchanged (swap_of p step) marks) at }
+    ensures { WithOutline outline.now lines.now (AfterStep step
+        (λ p marks. AreWideAt p marks outline.now next.now → IsTrue result ↔ HasNegative p marks at)) }
 {
     if is_outside_after(lines, step, at) {
-        has_negative_first_after(&frame.lines[at], next, at)
+        has_negative_first_after(&outline.lines[at], next, at)
     } else {
         false
     }
@@ -160,22 +152,20 @@ fn has_negative_after(
 
 // Whether no column is negative after the exchange, where these are the levels' rows there.
 fn has_no_negative_after(
-    frame: &Frame,
+    outline: &Outline,
     lines: &[Option<Inside>],
     step: Step,
     next: &[WideLevel],
 ) -> bool
-    requires frame { IsSizedFrame frame.now }
-    requires count { length lines.now ≡ length frame.now.lines.items }
+    requires outline { IsSizedOutline outline.now }
+    requires count { length lines.now ≡ length outline.now.lines.items }
     requires step { IsWithin (length lines.now) step }
     requires next { All (IsSizedWide (length lines.now)) next.now }
-    ensures { (p : Problem) (at : List Mark) → AreKept p at frame.now lines.now
-        → IsExchange p at (swap_of p step)
-        → AreWideAt p (exchanged (swap_of p step) at) frame.now next.now
-        → IsTrue result ↔ NoNegativeColumn p (exchanged (swap_of p step) at) }
+    ensures { WithOutline outline.now lines.now (AfterStep step
+        (λ p at. AreWideAt p at outline.now next.now → IsTrue result ↔ NoNegativeColumn p at)) }
 {
     for at in 0..lines.len() {
-        if has_negative_after(frame, lines, step, next, at) {
+        if has_negative_after(outline, lines, step, next, at) {
             return false;
         }
     }
@@ -185,26 +175,24 @@ fn has_no_negative_after(
 /// Whether no column is negative after an exchange, whether or not all fits there.
 pub fn has_no_negative_column_after(
     alloc: Global,
-    frame: &Frame,
-    turn: Turn<'_>,
+    outline: &Outline,
+    exchange: LineExchange<'_>,
     levels: &[LevelSum],
 ) -> Result<bool, OutOfMemory>
-    requires frame { IsSizedFrame frame.now }
-    requires lines { AreSized turn.lines.now }
-    requires count { length turn.lines.now ≡ length frame.now.lines.items }
-    requires step { IsWithin (length turn.lines.now) turn.step }
-    requires levels { AreSizedLevels (length turn.lines.now) levels.now }
-    requires level_count { length levels.now ≡ length frame.now.levels.items }
-    ensures { IfOk result (λ holds. (p : Problem) (at : List Mark)
-        → AreKept p at frame.now turn.entry.lines.now → AreLevels p at frame.now levels.now
-        → IsExchange p at (swap_of p turn.entry.step)
-        → IsTrue holds ↔ NoNegativeColumn p (exchanged (swap_of p turn.entry.step) at)) }
+    requires outline { IsSizedOutline outline.now }
+    requires lines { AreSized exchange.lines.now }
+    requires count { length exchange.lines.now ≡ length outline.now.lines.items }
+    requires step { IsWithin (length exchange.lines.now) exchange.step }
+    requires levels { AreSizedLevels (length exchange.lines.now) levels.now }
+    requires level_count { length levels.now ≡ length outline.now.levels.items }
+    ensures { IfOk result (λ holds. WithLevels outline.now exchange.entry.lines.now levels.now
+        (AfterStep exchange.entry.step (λ p at. IsTrue holds ↔ NoNegativeColumn p at))) }
 {
-    let pivot = match pivot_of(alloc, turn.lines, turn.step) {
+    let pivot = match pivot_of(alloc, exchange.lines, exchange.step) {
         Ok(pivot) => pivot,
         Err(Stop::Refused(_)) => return Ok(true),
         Err(Stop::OutOfMemory) => return Err(OutOfMemory),
     };
-    let next = wide_levels(alloc, frame, &pivot, levels)?;
-    Ok(has_no_negative_after(frame, turn.lines, turn.step, &next))
+    let next = wide_levels(alloc, outline, &pivot, levels)?;
+    Ok(has_no_negative_after(outline, exchange.lines, exchange.step, &next))
 }

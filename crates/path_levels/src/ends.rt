@@ -1,33 +1,33 @@
 // What is judged at a corner of a path.
-ghost use Rattle.std.specs.Prelude.{◌≡◌, ◌↔◌, ◌<◌, ◌<ℤ◌, pos, length, get_or, slice_index_or, List, IsTrue};
+ghost use Rattle.std.specs.Prelude.{◌≡◌, ◌↔◌, ◌<◌, ◌<ℤ◌, pos, length, slice_index_or, List, IsTrue};
 ghost use Rattle.std.specs.Prelude.{Option, None, true};
 ghost use Rattle.problem_core.specs.Layout.{Problem};
 ghost use Rattle.problem_core.specs.Corners.{IsExchange};
 ghost use Rattle.problem_core.specs.Levels.{CostsAbove};
-ghost use Rattle.problem_core.specs.Paths.{IsEndOf, IsSound, MaySwap, NoNegativeRequired};
+ghost use Rattle.problem_core.specs.Changes.Paths.{IsEndOf, IsSound, MaySwap, NoNegativeRequired};
 ghost use Rattle.problem_core.specs.declared.parts.Mark.{Mark};
 ghost use Rattle.path_checker.specs.Sides.{IsWithin};
 ghost use Rattle.path_checker.specs.Tables.{swap_of};
-ghost use Rattle.path_levels.specs.Frames.{IsSizedFrame};
+ghost use Rattle.path_levels.specs.Outlines.{IsSizedOutline};
 ghost use Rattle.path_levels.specs.Levels.{AreLevels, AreSizedLevels, IsSizedLevel};
 ghost use Rattle.path_levels.specs.Rows.{AreKept};
 ghost use Rattle.path_levels.specs.Costs.{HasLine, IsPriced, cost_in};
 ghost use Rattle.path_levels.specs.Required.{HasRequired, IsBelow};
-ghost use Rattle.path_levels.specs.declared.sums.LevelSum.{LevelSum as KeptSum};
 ghost use Rattle.path_checker.specs.declared.table.Inside.{Inside as Kept};
+ghost use Rattle.path_levels.specs.Kept.{WithFirstRow, WithLevels};
 
 use crate::columns::{cost_at, has_no_negative_column, is_negative_column};
-use crate::frame::{Frame, LineFacts};
+use crate::outline::{LineFacts, Outline};
 use crate::sums::LevelSum;
 use frac_core::Frac;
 use path_checker::{Inside, Spot, Step, has_no_negative_value, is_down};
 use problem_core::Side;
 
 // Whether the strongest level is that of the required rows.
-fn has_required(frame: &Frame) -> bool
-    ensures { IsTrue result ↔ HasRequired frame.now }
+fn has_required(outline: &Outline) -> bool
+    ensures { IsTrue result ↔ HasRequired outline.now }
 {
-    match frame.levels.first() {
+    match outline.levels.first() {
         Some(facts) => facts.number == 0,
         None => false,
     }
@@ -41,24 +41,22 @@ fn is_above(cost: Frac) -> bool
 }
 
 // Whether the required rows cost, where this is the row of the first level.
-fn is_costly(frame: &Frame, sum: &LevelSum) -> bool
-    ensures required { result ≡ true → HasRequired frame.now }
-    ensures above { (p : Problem) (at : List Mark) (lines : List (Option Kept)) (levels : List KeptSum)
-        (d : KeptSum) → AreKept p at frame.now lines → AreLevels p at frame.now levels
-        → get_or levels 0 d ≡ sum.now
-        → IsTrue result ↔ CostsAbove p at 0 }
+fn is_costly(outline: &Outline, sum: &LevelSum) -> bool
+    ensures required { result ≡ true → HasRequired outline.now }
+    ensures above { (p : Problem) (at : List Mark) (lines : List (Option Kept))
+        → WithFirstRow p at outline.now lines sum.now (IsTrue result ↔ CostsAbove p at 0) }
 {
-    has_required(frame) && is_above(sum.cost)
+    has_required(outline) && is_above(sum.cost)
 }
 
 // Whether the required rows cost.
-fn costs_above(frame: &Frame, levels: &[LevelSum]) -> bool
-    requires { length levels.now ≡ length frame.now.levels.items }
-    ensures { (p : Problem) (at : List Mark) (lines : List (Option Kept)) → AreKept p at frame.now lines
-        → AreLevels p at frame.now levels.now → IsTrue result ↔ CostsAbove p at 0 }
+fn costs_above(outline: &Outline, levels: &[LevelSum]) -> bool
+    requires { length levels.now ≡ length outline.now.levels.items }
+    ensures { (p : Problem) (at : List Mark) (lines : List (Option Kept)) → AreKept p at outline.now lines
+        → AreLevels p at outline.now levels.now → IsTrue result ↔ CostsAbove p at 0 }
 {
     match levels.first() {
-        Some(sum) => is_costly(frame, sum),
+        Some(sum) => is_costly(outline, sum),
         None => false,
     }
 }
@@ -97,16 +95,15 @@ fn is_line_below(line: &Option<Inside>, facts: &LineFacts, at: usize, sum: &Leve
 }
 
 // Whether no mark costs less than nothing at the first level, whose row this is.
-fn has_no_negative_required(frame: &Frame, lines: &[Option<Inside>], sum: &LevelSum) -> bool
-    requires frame { IsSizedFrame frame.now }
-    requires count { length lines.now ≡ length frame.now.lines.items }
+fn has_no_negative_required(outline: &Outline, lines: &[Option<Inside>], sum: &LevelSum) -> bool
+    requires outline { IsSizedOutline outline.now }
+    requires count { length lines.now ≡ length outline.now.lines.items }
     requires sum { IsSizedLevel (length lines.now) sum.now }
-    ensures { (p : Problem) (at : List Mark) (levels : List KeptSum) (d : KeptSum)
-        → AreKept p at frame.now lines.now → AreLevels p at frame.now levels → get_or levels 0 d ≡ sum.now
-        → HasRequired frame.now → IsTrue result ↔ NoNegativeRequired p at }
+    ensures { (p : Problem) (at : List Mark) → WithFirstRow p at outline.now lines.now sum.now
+        (HasRequired outline.now → IsTrue result ↔ NoNegativeRequired p at) }
 {
     for at in 0..lines.len() {
-        if is_line_below(&lines[at], &frame.lines[at], at, sum) {
+        if is_line_below(&lines[at], &outline.lines[at], at, sum) {
             return false;
         }
     }
@@ -114,50 +111,52 @@ fn has_no_negative_required(frame: &Frame, lines: &[Option<Inside>], sum: &Level
 }
 
 // Whether the required rows cost, and no mark costs less than nothing at their level.
-fn is_refuted(frame: &Frame, lines: &[Option<Inside>], levels: &[LevelSum]) -> bool
-    requires frame { IsSizedFrame frame.now }
-    requires count { length lines.now ≡ length frame.now.lines.items }
+fn is_refuted(outline: &Outline, lines: &[Option<Inside>], levels: &[LevelSum]) -> bool
+    requires outline { IsSizedOutline outline.now }
+    requires count { length lines.now ≡ length outline.now.lines.items }
     requires levels { AreSizedLevels (length lines.now) levels.now }
-    requires level_count { length levels.now ≡ length frame.now.levels.items }
-    ensures { (p : Problem) (at : List Mark) → AreKept p at frame.now lines.now
-        → AreLevels p at frame.now levels.now
-        → IsTrue result ↔ (CostsAbove p at 0 × NoNegativeRequired p at) }
+    requires level_count { length levels.now ≡ length outline.now.levels.items }
+    ensures { WithLevels outline.now lines.now levels.now
+        (λ p at. IsTrue result ↔ (CostsAbove p at 0 × NoNegativeRequired p at)) }
 {
     match levels.first() {
-        Some(sum) => is_costly(frame, sum) && has_no_negative_required(frame, lines, sum),
+        Some(sum) => is_costly(outline, sum) && has_no_negative_required(outline, lines, sum),
         None => false,
     }
 }
 
 /// Whether what has to hold at each corner of a path does.
-pub fn is_sound(dual: bool, frame: &Frame, lines: &[Option<Inside>], levels: &[LevelSum]) -> bool
-    requires frame { IsSizedFrame frame.now }
-    requires count { length lines.now ≡ length frame.now.lines.items }
+pub fn is_sound(
+    dual: bool,
+    outline: &Outline,
+    lines: &[Option<Inside>],
+    levels: &[LevelSum],
+) -> bool
+    requires outline { IsSizedOutline outline.now }
+    requires count { length lines.now ≡ length outline.now.lines.items }
     requires levels { AreSizedLevels (length lines.now) levels.now }
-    requires level_count { length levels.now ≡ length frame.now.levels.items }
-    ensures { (p : Problem) (at : List Mark) → AreKept p at frame.now lines.now
-        → AreLevels p at frame.now levels.now → IsTrue result ↔ IsSound dual p at }
+    requires level_count { length levels.now ≡ length outline.now.levels.items }
+    ensures { WithLevels outline.now lines.now levels.now (λ p at. IsTrue result ↔ IsSound dual p at) }
 {
     if dual {
-        has_no_negative_column(frame, lines, levels)
+        has_no_negative_column(outline, lines, levels)
     } else {
         has_no_negative_value(lines)
     }
 }
 
 /// Whether a path may end at the corner.
-pub fn is_end(dual: bool, frame: &Frame, lines: &[Option<Inside>], levels: &[LevelSum]) -> bool
-    requires frame { IsSizedFrame frame.now }
-    requires count { length lines.now ≡ length frame.now.lines.items }
+pub fn is_end(dual: bool, outline: &Outline, lines: &[Option<Inside>], levels: &[LevelSum]) -> bool
+    requires outline { IsSizedOutline outline.now }
+    requires count { length lines.now ≡ length outline.now.lines.items }
     requires levels { AreSizedLevels (length lines.now) levels.now }
-    requires level_count { length levels.now ≡ length frame.now.levels.items }
-    ensures { (p : Problem) (at : List Mark) → AreKept p at frame.now lines.now
-        → AreLevels p at frame.now levels.now → IsTrue result ↔ IsEndOf dual p at }
+    requires level_count { length levels.now ≡ length outline.now.levels.items }
+    ensures { WithLevels outline.now lines.now levels.now (λ p at. IsTrue result ↔ IsEndOf dual p at) }
 {
     if dual {
-        has_no_negative_value(lines) || costs_above(frame, levels)
+        has_no_negative_value(lines) || costs_above(outline, levels)
     } else {
-        has_no_negative_column(frame, lines, levels) || is_refuted(frame, lines, levels)
+        has_no_negative_column(outline, lines, levels) || is_refuted(outline, lines, levels)
     }
 }
 
@@ -165,23 +164,22 @@ pub fn is_end(dual: bool, frame: &Frame, lines: &[Option<Inside>], levels: &[Lev
 /// out.
 pub fn may_swap(
     dual: bool,
-    frame: &Frame,
+    outline: &Outline,
     lines: &[Option<Inside>],
     levels: &[LevelSum],
     step: Step,
 ) -> bool
-    requires frame { IsSizedFrame frame.now }
-    requires count { length lines.now ≡ length frame.now.lines.items }
+    requires outline { IsSizedOutline outline.now }
+    requires count { length lines.now ≡ length outline.now.lines.items }
     requires levels { AreSizedLevels (length lines.now) levels.now }
-    requires level_count { length levels.now ≡ length frame.now.levels.items }
+    requires level_count { length levels.now ≡ length outline.now.levels.items }
     requires step { IsWithin (length lines.now) step }
-    ensures { (p : Problem) (at : List Mark) → AreKept p at frame.now lines.now
-        → AreLevels p at frame.now levels.now → IsExchange p at (swap_of p step)
-        → IsTrue result ↔ MaySwap dual p at (swap_of p step) }
+    ensures { WithLevels outline.now lines.now levels.now (λ p at. IsExchange p at (swap_of p step)
+        → IsTrue result ↔ MaySwap dual p at (swap_of p step)) }
 {
     if dual {
         is_down(&lines[step.leave.at])
     } else {
-        is_negative_column(frame, lines, levels, step.enter)
+        is_negative_column(outline, lines, levels, step.enter)
     }
 }

@@ -1,26 +1,25 @@
 // A line that joins the row of its level.
 ghost use Rattle.std.specs.Prelude.{◌≡◌, ◌*◌, ◌/◌, ◌<◌, ◌≤◌, ◌^◌, pos, ◌*ℤ◌, ◌<ℤ◌, ◌≤ℤ◌};
 ghost use Rattle.std.specs.Prelude.{ℕ, ◌+ℤ◌, ◌-ℤ◌, ◌↔◌, All, IsTrue, unsigned_abs, length, IfOk, IfErr};
-ghost use Rattle.std.specs.Int.{IsGcd};
 ghost use Rattle.frac_core.specs.Stops.{IsRefused};
 ghost use Rattle.frac_core.specs.Fraction.{IsFitting};
 ghost use Rattle.path_checker.specs.Numbers.{IsCombined, IsFactor};
 ghost use Rattle.path_checker.specs.Tables.{IsSized, IsSizedLine};
 ghost use Rattle.frac_core.specs.declared.memory.Stop.TheVariants.{OutOfMemory};
-ghost use Rattle.path_levels.specs.Frames.{IsSizedFacts};
+ghost use Rattle.path_levels.specs.Outlines.{IsSizedFacts};
 ghost use Rattle.path_levels.specs.Levels.{IsSizedLevel};
 ghost use Rattle.path_levels.specs.Joins.{HasNoDraft, IsDraft, IsJoinedCost, IsJoinedList, IsRise};
 ghost use Rattle.path_levels.specs.Joins.{AreFittingCosts, AreFittingTo, IsFittingAt, IsFittingTo};
 ghost use Rattle.path_levels.specs.Joins.{IsUnfitJoinedCost, IsWeightOf};
-ghost use Rattle.path_levels.specs.Joins.{cost_number, counted_number};
-ghost use Rattle.path_levels.specs.Frames.{IsSizedFrame};
+ghost use Rattle.path_levels.specs.Joins.{IsJoinedWide, cost_number, counted_number};
+ghost use Rattle.path_levels.specs.Outlines.{IsSizedOutline};
 ghost use Rattle.problem_core.specs.declared.limits.TheConstants.{COEFFICIENT_LIMIT, WEIGHT_LIMIT};
 ghost use Rattle.problem_core.specs.declared.parts.Side.TheVariants.{Under, Over};
 
 use crate::carried;
-use crate::frame::{Frame, LineFacts};
+use crate::outline::{LineFacts, Outline};
 use crate::sums::LevelSum;
-use frac_core::{Frac, PART_BOUND, Stop, Unfit, gcd};
+use frac_core::{Frac, PART_BOUND, common_divisor};
 use path_checker::{Inside, Lowest, SumStop, Wide, combined, in_lowest_terms};
 use problem_core::Side;
 use std::alloc::Global;
@@ -32,15 +31,6 @@ pub(crate) struct Draft {
     pub own: i64,
     pub by: Vec<i64>,
     pub cost: Frac,
-}
-
-// The greatest common divisor of a number above 0 and another.
-fn common(a: i64, b: i64) -> i64
-    requires { pos 0 <ℤ a }
-    ensures above { pos 0 <ℤ result }
-    ensures divisor { IsGcd (unsigned_abs a) (unsigned_abs b) (unsigned_abs result) }
-{
-    gcd(a.unsigned_abs().into(), b.unsigned_abs().into()) as i64
 }
 
 // The number over one of its divisors, both above 0.
@@ -71,8 +61,8 @@ fn times(unit: i64, line: LineFacts) -> i64
     ensures rise { IsRise line (unsigned_abs unit) (unsigned_abs result) }
     ensures above { pos 0 <ℤ result }
 {
-    let part = over(line.scale, common(line.scale, weight(line)));
-    over(part, common(part, unit))
+    let part = over(line.scale, common_divisor(line.scale, weight(line)));
+    over(part, common_divisor(part, unit))
 }
 
 // What a deviation with this cost counts in this unit.
@@ -152,9 +142,7 @@ fn with_sum(
     requires facts { (levels : ℕ) × IsSizedFacts levels line }
     requires inside { IsSized (length old.now.by.items) inside.now.sum }
     ensures own { IfOk result (λ w. w.own ≡ inside.now.sum.own *ℤ old.now.own) }
-    ensures by { IfOk result (λ w. IsCombined (inside.now.sum.own *ℤ times) old.now.by.items
-        (counted_number inside.now.side line (unsigned_abs times * unsigned_abs old.now.unit)
-        (unsigned_abs old.now.own)) inside.now.sum.by.items w.by.items) }
+    ensures by { IfOk result (IsJoinedWide old.now line inside.now times) }
     ensures memory { IfErr result (λ stop. stop ≡ OutOfMemory) }
 {
     let unit = carried::product(times, old.unit);
@@ -211,15 +199,8 @@ fn joined_cost(old: Frac, line: LineFacts, kept: &Option<Inside>) -> Result<Frac
     let Some(inside) = kept else {
         return Ok(old);
     };
-    match Frac::mul_add(
-        old,
-        cost_of(inside.side, line),
-        line.scale,
-        inside.sum.value,
-    ) {
-        Ok(cost) => Ok(cost),
-        Err(_) => Err(Stop::Refused(Unfit)),
-    }
+    let cost = cost_of(inside.side, line);
+    Ok(Frac::mul_add(old, cost, line.scale, inside.sum.value)?)
 }
 
 // The row with these numbers and this cost.
@@ -325,23 +306,23 @@ fn is_scale_fitting(draft: &Draft) -> bool
 
 // Whether the reduced costs of the line at a place fit, where it is of the level.
 fn is_line_fitting(
-    frame: &Frame,
+    outline: &Outline,
     lines: &[Option<Inside>],
     place: usize,
     draft: &Draft,
     at: usize,
 ) -> bool
-    requires frame { IsSizedFrame frame.now }
+    requires outline { IsSizedOutline outline.now }
     requires at { at < length lines.now }
-    requires count { length lines.now ≡ length frame.now.lines.items }
+    requires count { length lines.now ≡ length outline.now.lines.items }
     requires numbers { length draft.now.by.items ≡ length lines.now }
     requires unit { pos 0 <ℤ draft.now.unit }
     requires own { pos 0 <ℤ draft.now.own }
     requires fits { All IsFitting draft.now.by.items }
     requires scale { IsFitting (draft.now.own *ℤ draft.now.unit) }
-    ensures { IsTrue result ↔ IsFittingAt frame.now lines.now place draft.now at }
+    ensures { IsTrue result ↔ IsFittingAt outline.now lines.now place draft.now at }
 {
-    let line = frame.lines[at];
+    let line = outline.lines[at];
     if line.level != place {
         return true;
     }
@@ -350,24 +331,24 @@ fn is_line_fitting(
 
 // Whether the reduced costs of the level's lines before the place fit.
 fn are_lines_fitting(
-    frame: &Frame,
+    outline: &Outline,
     lines: &[Option<Inside>],
     place: usize,
     draft: &Draft,
     upto: usize,
 ) -> bool
-    requires frame { IsSizedFrame frame.now }
+    requires outline { IsSizedOutline outline.now }
     requires upto { upto ≤ length lines.now }
-    requires count { length lines.now ≡ length frame.now.lines.items }
+    requires count { length lines.now ≡ length outline.now.lines.items }
     requires numbers { length draft.now.by.items ≡ length lines.now }
     requires unit { pos 0 <ℤ draft.now.unit }
     requires own { pos 0 <ℤ draft.now.own }
     requires fits { All IsFitting draft.now.by.items }
     requires scale { IsFitting (draft.now.own *ℤ draft.now.unit) }
-    ensures { IsTrue result ↔ AreFittingTo frame.now lines.now place upto draft.now }
+    ensures { IsTrue result ↔ AreFittingTo outline.now lines.now place upto draft.now }
 {
     for at in 0..upto {
-        if !is_line_fitting(frame, lines, place, draft, at) {
+        if !is_line_fitting(outline, lines, place, draft, at) {
             return false;
         }
     }
@@ -376,22 +357,22 @@ fn are_lines_fitting(
 
 /// Whether the row fits, where the level has its lines before the place.
 pub(crate) fn does_fit(
-    frame: &Frame,
+    outline: &Outline,
     lines: &[Option<Inside>],
     place: usize,
     draft: &Draft,
     upto: usize,
 ) -> bool
-    requires frame { IsSizedFrame frame.now }
+    requires outline { IsSizedOutline outline.now }
     requires upto { upto ≤ length lines.now }
-    requires count { length lines.now ≡ length frame.now.lines.items }
+    requires count { length lines.now ≡ length outline.now.lines.items }
     requires numbers { length draft.now.by.items ≡ length lines.now }
     requires unit { pos 0 <ℤ draft.now.unit }
     requires small { unsigned_abs draft.now.unit < 2 ^ 72 }
     requires own { pos 0 <ℤ draft.now.own }
     requires own_fits { IsFitting draft.now.own }
     requires fits { All IsFitting draft.now.by.items }
-    ensures { IsTrue result ↔ IsFittingTo frame.now lines.now place upto draft.now }
+    ensures { IsTrue result ↔ IsFittingTo outline.now lines.now place upto draft.now }
 {
-    is_scale_fitting(draft) && are_lines_fitting(frame, lines, place, draft, upto)
+    is_scale_fitting(draft) && are_lines_fitting(outline, lines, place, draft, upto)
 }

@@ -6,9 +6,9 @@
 //! [`may_swap`] judge a corner by them; `path_claims` puts these answers together to the check of a path.
 //!
 //! ```
-//! let frame = Frame::of(alloc, &problem)?;                   // its lines, and its levels, strongest first
-//! let levels = first_levels(alloc, &frame, &lines)?;         // one row a level
-//! has_no_negative_column(&frame, &lines, &levels)            // whether the corner is at its best
+//! let outline = Outline::of(alloc, &problem)?;               // its lines, and its levels, strongest first
+//! let levels = first_levels(alloc, &outline, &lines)?;       // one row a level
+//! has_no_negative_column(&outline, &lines, &levels)          // whether the corner is at its best
 //! ```
 //!
 //! Linear programming's words: the rows of the levels are the objective rows of the tableau, one for each
@@ -16,35 +16,36 @@
 //! where it is feasible, on a dual path dual feasible. An exchange is called for where the pricing and the
 //! ratio test, or the dual ratio test, may choose it.
 //!
-//! A row has one number a line, each below 2^42 in size, 0 at inside lines, and its own unit is above 0.
-//! Want of room is never silent: a row is refused only where no writing of it fits.
+//! What a level's row keeps: one number a line, each below 2^42 in size, 0 at inside lines; its unit and its
+//! own number are above 0, and their product is below 2^42. Want of room is never silent: a row is refused
+//! only where no writing of it fits.
 //!
-//! In reading order: `frame` (lines and levels in order), `sums` (a level's row), `rows` (levels line by
-//! line, by `joins` and `stays`), `turns` (after an exchange, by `pivots`, `moved`, `carried`, `shares`),
-//! `columns`, `columns_after` (signs), `ends` (what is judged at a corner).
+//! In reading order: `outline` (lines and levels in order), `sums` (a level's row), `rows` (levels line by
+//! line, by `joins` and `stays`), `levels_after` (rows after an exchange, by `pivots`, `moved`, `carried`,
+//! `shares`), `columns`, `columns_after` (signs), `ends` (what is judged at a corner).
 #![tactic(auto)]
 
 mod carried;
 mod columns;
 mod columns_after;
 mod ends;
-mod frame;
 mod joins;
+mod levels_after;
 mod moved;
+mod outline;
 mod pivots;
 mod rows;
 mod shares;
 mod stays;
 mod sums;
-mod turns;
 
 pub use carried::next_level_numbers;
 pub use columns::{has_no_negative_column, is_negative_column};
 pub use columns_after::has_no_negative_column_after;
 pub use ends::{is_end, is_sound, may_swap};
-pub use frame::{FIRST_STAY, Frame, LevelFacts, LineFacts};
+pub use levels_after::{LineExchange, next_level, next_levels};
 pub use moved::moved_value;
+pub use outline::{LevelFacts, LineFacts, Outline};
 pub use pivots::pivot_of;
 pub use rows::{RowsStop, UnfitRows, first_levels, level_of_lines};
 pub use sums::LevelSum;
-pub use turns::{Turn, next_level, next_levels};

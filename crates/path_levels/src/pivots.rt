@@ -1,16 +1,15 @@
 // The pivot of an exchange at a corner, of two lines or of the two marks of one.
-ghost use Rattle.std.specs.Prelude.{◌≡◌, ◌≢◌, ◌<◌, ◌↔◌, pos, length, set, true, List};
+ghost use Rattle.std.specs.Prelude.{◌≡◌, ◌≢◌, ◌<◌, ◌↔◌, pos, length, set, true};
 ghost use Rattle.std.specs.Prelude.{IfOk, IfErr, IsTrue};
-ghost use Rattle.problem_core.specs.Layout.{Problem};
 ghost use Rattle.problem_core.specs.Corners.{IsExchange};
-ghost use Rattle.problem_core.specs.declared.parts.Mark.{Mark};
 ghost use Rattle.path_checker.specs.Numbers.{number_at};
-ghost use Rattle.path_checker.specs.Pivots.{IsSolvedFrom};
+ghost use Rattle.path_checker.specs.Exchanges.Pivots.{IsSolvedFrom};
 ghost use Rattle.path_checker.specs.Sides.{IsWithin};
-ghost use Rattle.path_checker.specs.Tables.{AreLines, AreSized, IsSized, IsThere, swap_of};
+ghost use Rattle.path_checker.specs.Tables.{AreSized, IsSized, swap_of};
 ghost use Rattle.frac_core.specs.Stops.{IsRefused};
 ghost use Rattle.frac_core.specs.declared.memory.Stop.TheVariants as stops;
-ghost use Rattle.path_levels.specs.Turns.{IsSizedPivot, IsTurnPivot, IsTurnedFrom};
+ghost use Rattle.path_levels.specs.Exchanges.Pivots.{IsExchangePivot, IsSizedPivot, IsTurnedFrom};
+ghost use Rattle.path_levels.specs.Kept.{WithLines};
 
 use frac_core::{Stop, Unfit};
 use path_checker::{Inside, Pivot, Step, Sum, SumStop, solving};
@@ -78,10 +77,10 @@ pub fn pivot_of(alloc: Global, lines: &[Option<Inside>], step: Step) -> Result<P
     requires step { IsWithin (length lines.now) step }
     ensures step { IfOk result (λ pivot. pivot.step ≡ step) }
     ensures sized { IfOk result (IsSizedPivot (length lines.now)) }
-    ensures pivot { IfOk result (λ pivot. (p : Problem) (at : List Mark) → IsThere p at
-        → AreLines p at lines.now → IsExchange p at (swap_of p step) → IsTurnPivot p at pivot) }
-    ensures unfit { IfErr result (λ stop. IsRefused stop → (p : Problem) (at : List Mark) → IsThere p at
-        → AreLines p at lines.now → IsExchange p at (swap_of p step) → ⊥) }
+    ensures pivot { IfOk result (λ pivot. WithLines lines.now
+        (λ p at. IsExchange p at (swap_of p step) → IsExchangePivot p at pivot)) }
+    ensures unfit { IfErr result (λ stop. IsRefused stop
+        → WithLines lines.now (λ p at. IsExchange p at (swap_of p step) → ⊥)) }
 {
     match &lines[step.leave.at] {
         Some(inside) => pivot_from(alloc, &inside.sum, step),

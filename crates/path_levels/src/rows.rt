@@ -4,24 +4,24 @@ ghost use Rattle.problem_core.specs.declared.limits.TheConstants.{REQUIRED};
 ghost use Rattle.problem_core.specs.Layout.{Problem};
 ghost use Rattle.problem_core.specs.declared.parts.Mark.{Mark};
 ghost use Rattle.path_checker.specs.Tables.{AreSized};
-ghost use Rattle.path_levels.specs.Frames.{IsSizedFrame};
+ghost use Rattle.path_levels.specs.Outlines.{IsSizedOutline};
 ghost use Rattle.path_levels.specs.Levels.{AreLevels, AreSizedLevels, IsSizedLevel};
 ghost use Rattle.std.specs.Prelude.{◌+◌, ◌<ℤ◌, ◌*ℤ◌, pos, ℕ, All};
 ghost use Rattle.frac_core.specs.Stops.{IsRefused};
 ghost use Rattle.frac_core.specs.Fraction.{IsFitting};
 ghost use Rattle.frac_core.specs.declared.memory.Stop.TheVariants as stops;
-ghost use Rattle.path_levels.specs.Frames.{IsFrame, number_at};
-ghost use Rattle.path_levels.specs.Parts.{IsEmptySum, IsPartKept, IsPartSum, IsPartUnfit};
-ghost use Rattle.path_levels.specs.Parts.{level_there};
+ghost use Rattle.path_levels.specs.Outlines.{IsOutline, number_at};
+ghost use Rattle.path_levels.specs.Parts.{IsEmptySum, IsPartSum, IsPartUnfit, WithPart};
 ghost use Rattle.std.specs.Prelude.{◌≢◌, take, IfSome, IfNone};
 ghost use Rattle.std.specs.List.{HoldsAt};
 ghost use Rattle.path_checker.specs.Tables.{IsSizedLine};
 ghost use Rattle.path_levels.specs.StaySums.{IsStayRow, IsUnfitStay};
-ghost use Rattle.path_levels.specs.Rows.{AllRowsFit, AreKept, AreKeptOf, IsLevelsStop, IsRowsStop, IsRowsSum};
+ghost use Rattle.path_levels.specs.Rows.{AllRowsFit, AreKeptOf, IsLevelsStop, IsRowsStop, IsRowsSum};
 ghost use Rattle.path_levels.specs.Rows.{unfit_rows};
+ghost use Rattle.path_levels.specs.Kept.{WithOutline};
 
-use crate::frame::{Frame, LineFacts};
 use crate::joins::{Draft, does_fit, joined};
+use crate::outline::{LineFacts, Outline};
 use crate::stays::inside_stay;
 use crate::sums::LevelSum;
 use frac_core::{Frac, OutOfMemory, Stop, Unfit};
@@ -41,27 +41,29 @@ pub struct UnfitRows {
 /// Why the rows of levels are not made: first rows of a level do not fit, or memory is wanting.
 pub type RowsStop = Stop<UnfitRows>;
 
+/// No level has more lines.
+const ALL_LINES: u32 = u32::MAX;
+
 /// The rows of all levels at a corner, each line by line, or the first sum of first rows that does not fit
 /// there.
 pub fn first_levels(
     alloc: Global,
-    frame: &Frame,
+    outline: &Outline,
     lines: &[Option<Inside>],
 ) -> Result<Vec<LevelSum>, RowsStop>
-    requires frame { IsSizedFrame frame.now }
+    requires outline { IsSizedOutline outline.now }
     requires lines { AreSized lines.now }
-    requires count { length lines.now ≡ length frame.now.lines.items }
+    requires count { length lines.now ≡ length outline.now.lines.items }
     ensures sized { IfOk result (λ levels. AreSizedLevels (length lines.now) levels.items) }
-    ensures count { IfOk result (λ levels. length levels.items ≡ length frame.now.levels.items) }
-    ensures levels { IfOk result (λ levels. (p : Problem) (at : List Mark) → AreKept p at frame.now lines.now
-        → AreLevels p at frame.now levels.items) }
-    ensures fits { IfOk result (λ levels. (p : Problem) (at : List Mark) → AreKept p at frame.now lines.now
-        → AllRowsFit p at) }
-    ensures unfit { IfErr result (IsLevelsStop frame.now lines.now) }
+    ensures count { IfOk result (λ levels. length levels.items ≡ length outline.now.levels.items) }
+    ensures levels { IfOk result (λ levels. WithOutline outline.now lines.now
+        (λ p at. AreLevels p at outline.now levels.items)) }
+    ensures fits { IfOk result (λ levels. WithOutline outline.now lines.now AllRowsFit) }
+    ensures unfit { IfErr result (IsLevelsStop outline.now lines.now) }
 {
-    let mut levels = Vec::with_capacity(alloc, frame.levels.len())?;
-    for place in 0..frame.levels.len() {
-        levels.push(level_of_lines(alloc, frame, lines, place, u32::MAX)?)?;
+    let mut levels = Vec::with_capacity(alloc, outline.levels.len())?;
+    for place in 0..outline.levels.len() {
+        levels.push(level_of_lines(alloc, outline, lines, place, ALL_LINES)?)?;
     }
     Ok(levels)
 }
@@ -69,23 +71,23 @@ pub fn first_levels(
 /// The row of the level at a place, of its first lines, at most so many; or how many of them do not fit.
 pub fn level_of_lines(
     alloc: Global,
-    frame: &Frame,
+    outline: &Outline,
     lines: &[Option<Inside>],
     place: usize,
     most: u32,
 ) -> Result<LevelSum, RowsStop>
-    requires frame { IsSizedFrame frame.now }
+    requires outline { IsSizedOutline outline.now }
     requires lines { AreSized lines.now }
-    requires count { length lines.now ≡ length frame.now.lines.items }
-    requires place { place < length frame.now.levels.items }
+    requires count { length lines.now ≡ length outline.now.lines.items }
+    requires place { place < length outline.now.levels.items }
     ensures sized { IfOk result (IsSizedLevel (length lines.now)) }
     ensures row { IfOk result (λ sum. (p : Problem) (at : List Mark)
-        → AreKeptOf p at frame.now place most lines.now → IsRowsSum p at frame.now place most sum) }
-    ensures unfit { IfErr result (IsRowsStop frame.now place most lines.now) }
+        → AreKeptOf p at outline.now place most lines.now → IsRowsSum p at outline.now place most sum) }
+    ensures unfit { IfErr result (IsRowsStop outline.now place most lines.now) }
 {
-    match frame.levels[place].level {
-        Level::Priority(_) => rows_level(alloc, frame, lines, place, most),
-        Level::Stay(_) => stay_level(alloc, frame, lines, place, most),
+    match outline.levels[place].level {
+        Level::Priority(_) => rows_level(alloc, outline, lines, place, most),
+        Level::Stay(_) => stay_level(alloc, outline, lines, place, most),
     }
 }
 
@@ -117,29 +119,25 @@ fn zeros(alloc: Global, count: usize) -> Result<Vec<i64>, OutOfMemory>
 // The row of a level with one line more.
 fn with_line(
     alloc: Global,
-    frame: &Frame,
+    outline: &Outline,
     lines: &[Option<Inside>],
     at: usize,
     old: &LevelSum,
 ) -> Result<LevelSum, SumStop>
-    requires frame { IsSizedFrame frame.now }
+    requires outline { IsSizedOutline outline.now }
     requires lines { AreSized lines.now }
-    requires count { length lines.now ≡ length frame.now.lines.items }
+    requires count { length lines.now ≡ length outline.now.lines.items }
     requires at { at < length lines.now }
     requires old { IsSizedLevel (length lines.now) old.now }
     ensures sized { IfOk result (IsSizedLevel (length lines.now)) }
-    ensures row { IfOk result (λ sum. (p : Problem) (marks : List Mark) (place : ℕ)
-        → level_there frame.now at ≡ place → IsPartKept p marks frame.now place (at + 1) lines.now
-        → IsPartSum p marks frame.now place at old.now
-        → IsPartSum p marks frame.now place (at + 1) sum) }
-    ensures unfit { IfErr result (λ stop. IsRefused stop → (p : Problem) (marks : List Mark) (place : ℕ)
-        → level_there frame.now at ≡ place → IsPartKept p marks frame.now place (at + 1) lines.now
-        → IsPartSum p marks frame.now place at old.now
-        → IsPartUnfit p marks frame.now place (at + 1)) }
+    ensures row { IfOk result (λ sum. WithPart outline.now lines.now at old.now
+        (λ p marks place. IsPartSum p marks outline.now place (at + 1) sum)) }
+    ensures unfit { IfErr result (λ stop. IsRefused stop → WithPart outline.now lines.now at old.now
+        (λ p marks place. IsPartUnfit p marks outline.now place (at + 1))) }
 {
-    let line = frame.lines[at];
+    let line = outline.lines[at];
     let draft = joined(alloc, old, line, &lines[at])?;
-    if does_fit(frame, lines, line.level, &draft, at + 1) {
+    if does_fit(outline, lines, line.level, &draft, at + 1) {
         Ok(fitting_sum(draft))
     } else {
         Err(Stop::Refused(Unfit))
@@ -178,31 +176,31 @@ fn rows_stop(stop: SumStop, level: Level, first: u32) -> RowsStop
 // The row of a level of rows, of its first ones.
 fn rows_level(
     alloc: Global,
-    frame: &Frame,
+    outline: &Outline,
     lines: &[Option<Inside>],
     place: usize,
     most: u32,
 ) -> Result<LevelSum, RowsStop>
-    requires frame { IsSizedFrame frame.now }
+    requires outline { IsSizedOutline outline.now }
     requires lines { AreSized lines.now }
-    requires count { length lines.now ≡ length frame.now.lines.items }
-    requires place { place < length frame.now.levels.items }
+    requires count { length lines.now ≡ length outline.now.lines.items }
+    requires place { place < length outline.now.levels.items }
     ensures sized { IfOk result (IsSizedLevel (length lines.now)) }
     ensures row { IfOk result (λ sum. (p : Problem) (at : List Mark)
-        → number_at frame.now.levels.items place ≤ REQUIRED
-        → AreKeptOf p at frame.now place most lines.now → IsRowsSum p at frame.now place most sum) }
-    ensures unfit { IfErr result (λ stop. ((p : Problem) → IsFrame p frame.now
-        → number_at frame.now.levels.items place ≤ REQUIRED)
-        → IsRowsStop frame.now place most lines.now stop) }
+        → number_at outline.now.levels.items place ≤ REQUIRED
+        → AreKeptOf p at outline.now place most lines.now → IsRowsSum p at outline.now place most sum) }
+    ensures unfit { IfErr result (λ stop. ((p : Problem) → IsOutline p outline.now
+        → number_at outline.now.levels.items place ≤ REQUIRED)
+        → IsRowsStop outline.now place most lines.now stop) }
 {
     let mut sum = empty_level(alloc, lines.len())?;
     let mut first = 0;
     for at in 0..lines.len() {
-        if frame.lines[at].level == place && first < most {
+        if outline.lines[at].level == place && first < most {
             first += 1;
-            match with_line(alloc, frame, lines, at, &sum) {
+            match with_line(alloc, outline, lines, at, &sum) {
                 Ok(next) => sum = next,
-                Err(stop) => return Err(rows_stop(stop, frame.levels[place].level, first)),
+                Err(stop) => return Err(rows_stop(stop, outline.levels[place].level, first)),
             }
         }
     }
@@ -235,24 +233,24 @@ fn stay_sum(alloc: Global, count: usize, line: &Option<Inside>) -> Result<LevelS
 // The row of a stay's level, of its one line, or of none.
 fn stay_level(
     alloc: Global,
-    frame: &Frame,
+    outline: &Outline,
     lines: &[Option<Inside>],
     place: usize,
     most: u32,
 ) -> Result<LevelSum, RowsStop>
-    requires frame { IsSizedFrame frame.now }
+    requires outline { IsSizedOutline outline.now }
     requires lines { AreSized lines.now }
-    requires count { length lines.now ≡ length frame.now.lines.items }
-    requires place { place < length frame.now.levels.items }
+    requires count { length lines.now ≡ length outline.now.lines.items }
+    requires place { place < length outline.now.levels.items }
     ensures sized { IfOk result (IsSizedLevel (length lines.now)) }
     ensures row { IfOk result (λ sum. (p : Problem) (at : List Mark)
-        → REQUIRED < number_at frame.now.levels.items place
-        → AreKeptOf p at frame.now place most lines.now → IsRowsSum p at frame.now place most sum) }
-    ensures unfit { IfErr result (λ stop. ((p : Problem) → IsFrame p frame.now
-        → REQUIRED < number_at frame.now.levels.items place)
-        → IsRowsStop frame.now place most lines.now stop) }
+        → REQUIRED < number_at outline.now.levels.items place
+        → AreKeptOf p at outline.now place most lines.now → IsRowsSum p at outline.now place most sum) }
+    ensures unfit { IfErr result (λ stop. ((p : Problem) → IsOutline p outline.now
+        → REQUIRED < number_at outline.now.levels.items place)
+        → IsRowsStop outline.now place most lines.now stop) }
 {
-    let Some(at) = first_line(&frame.lines, place) else {
+    let Some(at) = first_line(&outline.lines, place) else {
         return Ok(empty_level(alloc, lines.len())?);
     };
     if most == 0 {
@@ -260,6 +258,6 @@ fn stay_level(
     }
     match stay_sum(alloc, lines.len(), &lines[at]) {
         Ok(sum) => Ok(sum),
-        Err(stop) => Err(rows_stop(stop, frame.levels[place].level, 1)),
+        Err(stop) => Err(rows_stop(stop, outline.levels[place].level, 1)),
     }
 }

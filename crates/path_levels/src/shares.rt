@@ -5,7 +5,7 @@ ghost use Rattle.problem_core.specs.declared.limits.TheConstants.{WEIGHT_LIMIT};
 ghost use Rattle.path_levels.specs.Shares.{IsScaled, IsSmallFacts, counted_of, reduced_of, share_of};
 ghost use Rattle.path_levels.specs.Shares.{stood_of, weight_on};
 
-use crate::frame::LineFacts;
+use crate::outline::LineFacts;
 use crate::sums::LevelSum;
 use frac_core::PART_BOUND;
 use problem_core::Side;

@@ -1,7 +1,7 @@
 // The equation of an inside stay, as the row of its level.
 ghost use Rattle.std.specs.Prelude.{◌≡◌, ◌↔◌, ◌*ℤ◌, pos, length, map, All, IsTrue, IfOk, IfErr, OnErr};
 ghost use Rattle.frac_core.specs.Fraction.{IsFitting, IsKept};
-ghost use Rattle.corner_lines.specs.StayLevels.{turned as turned_by};
+ghost use Rattle.corner_lines.specs.Levels.StayLevels.{turned as turned_by};
 ghost use Rattle.path_checker.specs.Tables.{IsSized};
 ghost use Rattle.frac_core.specs.Stops.{IsRefused};
 ghost use Rattle.path_levels.specs.Levels.{IsSizedLevel};
@@ -66,9 +66,7 @@ pub(crate) fn inside_stay(alloc: Global, inside: &Inside) -> Result<LevelSum, Su
         → ⊥) }
 {
     let own = inside.sum.own;
-    let Ok(cost) = turned_value(inside.side, inside.sum.value) else {
-        return Err(Stop::Refused(Unfit));
-    };
+    let cost = turned_value(inside.side, inside.sum.value)?;
     if !does_twice_fit(own) {
         return Err(Stop::Refused(Unfit));
     }

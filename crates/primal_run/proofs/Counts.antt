@@ -18,16 +18,16 @@ use Rattle.problem_core.specs.declared.parts.Term.{Term}
 use Rattle.problem_core.specs.Layout.{Problem, coefficient}
 use Rattle.problem_core.specs.Corners.{IsIn, IsWritingOf, one_column, place}
 use Rattle.corner_laws.specs.Runs.{BreaksTie, FallsFirst, Writes, Writing, count_at}
-use Rattle.corner_laws.proofs.Equations.{writings_are_equal}
-use Rattle.corner_laws.proofs.Exchanged.{neg-times}
-use Rattle.corner_laws.proofs.FirstToLeave.{none_inside}
-use Rattle.corner_laws.proofs.PrimalChoice.{interchange}
+use Rattle.corner_laws.proofs.MarkWritings.Equations.{writings_are_equal}
+use Rattle.corner_laws.proofs.RunSteps.FirstToLeave.{none_inside}
+use Rattle.corner_laws.proofs.Swaps.PrimalChoice.{interchange}
 use Rattle.corner_laws.proofs.WrittenValues.{value_there}
 use Rattle.corner.specs.Views.{HasValueAt, IsKeptCorner, IsScaleOf, MovesWith}
 use Rattle.corner_ends.proofs.ReadNumbers.{scale_is}
 use Rattle.primal_run.specs.declared.ties.Ratio.{Ratio}
 use Rattle.primal_run.specs.Leaving.{FallsBefore, IsEarlier, IsFirstOf, IsRatioAt, NeverFalls}
-use Rattle.corner_laws.proofs.RunPaths.{turned-low}
+use Rattle.frac_core.proofs.Numbers.{mul-neg as turned, neg-times}
+use Rattle.corner_laws.proofs.RunSteps.RunCosts.{turned-up as turned-low}
 
 -- ---- one writing
 
@@ -177,10 +177,6 @@ precedes a (pos b) p (pos q) f (pos g) P Q R b_above q_above g_above both h k =
 precedes a (negsuc b) p q f g P Q R b_above q_above g_above both h k = absurd (omega (arith, ints, b_above))
 precedes a (pos b) p (negsuc q) f g P Q R b_above q_above g_above both h k = absurd (omega (arith, ints, q_above))
 precedes a (pos b) p (pos q) f (negsuc g) P Q R b_above q_above g_above both h k = absurd (omega (arith, ints, g_above))
-
--- x times a number below 0, by that number's size
-turned : (x z : ℤ) → x *ℤ neg_ℤ z ≡ neg_ℤ (x *ℤ z)
-turned x z = *ℤ_comm x (neg_ℤ z) ∙ neg-times z x ∙ ap neg_ℤ (*ℤ_comm z x)
 
 -- d*p < c*q says of the sizes that c over p is less than d over q
 to-precedes : (x y a b : ℤ) (P Q : Type 0) → (P → Q) → ((y *ℤ a) <ℤ (x *ℤ b)) ⊎ ((y *ℤ a ≡ x *ℤ b) × P) → Precedes x (neg_ℤ a) y (neg_ℤ b) Q

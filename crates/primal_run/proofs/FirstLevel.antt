@@ -11,10 +11,10 @@ use Rattle.problem_core.specs.Layout.{Line, Problem, lines}
 use Rattle.problem_core.specs.Certificates.{Multipliers}
 use Rattle.problem_core.specs.Corners.{column, HasNegativeColumn, IsIn, NoNegativeColumn, marks_of, place, place_of}
 use Rattle.problem_core.specs.Levels.{CostsAbove, IsLevelWriting}
-use Rattle.problem_core.specs.Paths.{NoNegativeRequired}
+use Rattle.problem_core.specs.Changes.Paths.{NoNegativeRequired}
 use Rattle.problem_core.proofs.Forms.{each-impl}
 use Rattle.problem_core.proofs.Wholes.{whole-IsProblem}
-use Rattle.corner_laws.proofs.ColumnSigns.{negative_by_reduced, pick, mark_line, required_by_reduced}
+use Rattle.corner_laws.proofs.RunSteps.ColumnSigns.{negative_by_reduced, pick, mark_line, required_by_reduced}
 use Rattle.corner_laws.specs.RunLaws.{AreReduced}
 use Rattle.corner.specs.Views.{AreCandidates, IsKeptCorner, IsMarkOf, IsOutside, IsReducedAt}
 use Rattle.primal_run.specs.Entering.{HasNoRequired, IsChoice, IsRequired, MayEnter}
@@ -24,8 +24,9 @@ use Rattle.corner_ends.specs.Columns.{IsNegative, Reduced}
 use Rattle.corner_ends.proofs.Fronts.{any_there, each_mark, inside_zero, none_negative, reduced_at_all, reduced_same, some_line}
 use Rattle.corner_ends.proofs.Marks.{contained}
 use Rattle.corner_ends.proofs.Signs.{columns_alike, mark_column, not_both_signs}
-use Rattle.corner.proofs.LowLines.{up_or_low}
+use Rattle.corner.proofs.Readings.LowLines.{up_or_low}
 use Rattle.corner_lines.proofs.ColumnsBelow.{low_from}
+use Rattle.frac_core.proofs.Numbers.{one-times as times-one, none-below as nothing-before}
 
 -- ---- marks that are negative there
 
@@ -59,9 +60,6 @@ first-cost p at r m z kept mark there =
       | inl used ↦ let t = any_there p at 0 m z there in inl (reduced_same p at r 0 m t.0 t.1 t.2 kept.whole kept.rays used mark t.3 ∙ sym t.4)
       | inr none ↦ inr (r.unused 0 none (place m))
     ]
-
-nothing-before : (k : ℕ) → k < 0 → ⊥
-nothing-before k h = omega (arith, h)
 
 pub none_required : (p : Problem) (at : List Mark) (names : List RowName) → IsKeptCorner p at → AreCandidates p at names → All (HasNoRequired p at) names → NoNegativeRequired p at
 none_required p at names kept listed none =
@@ -98,9 +96,6 @@ first_is q c v = refl
 
 abbrev column_0 : Multipliers → Side → Line → ℤ
 column_0 q side l = column q side l 0
-
-times-one : (z : ℤ) → pos 1 *ℤ z ≡ z
-times-one z = omega (arith, ints)
 
 -- a mark that is negative at the first level, by any multipliers
 not_required : (p : Problem) (at : List Mark) (costs : ℕ → ℕ → ℤ) (m : Mark) → IsKeptCorner p at → AreReduced p at costs → IsMarkOf p m → costs 0 (place m) <ℤ pos 0 → NoNegativeRequired p at → ⊥

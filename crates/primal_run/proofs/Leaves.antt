@@ -1,10 +1,9 @@
 -- The mark that leaves.
-use Rattle.std.proofs.Common.{◌≡◌, ◌≢◌, ◌∙◌, inl, inr, ℕ, zero, suc, ◌+◌, ◌<◌, List, [], ◌∷◌, ◌++◌, map, take, slice_get, ℤ, pos, negsuc, ◌*ℤ◌, ◌≤ℤ◌, ◌<ℤ◌, neg_ℤ, refl, ap, subst, arith, Contains}
+use Rattle.std.proofs.Common.{◌≡◌, ◌≢◌, ◌∙◌, inl, inr, ℕ, zero, suc, ◌+◌, List, [], ◌∷◌, ◌++◌, map, take, slice_get, ℤ, pos, negsuc, ◌*ℤ◌, ◌≤ℤ◌, ◌<ℤ◌, neg_ℤ, refl, ap, subst, arith, Contains}
 use Rattle.std.specs.Prelude.{Some, None}
 use Rattle.std.proofs.lemmas.List.Elements.{All-from_recursion}
 use borrow.Author.Differences.{ints}
-use Rattle.frac_core.proofs.Integers.{mul-zero_ℤ, mul_positive, mul_not_negative}
-use lib.IntN.{*ℤ_comm}
+use Rattle.frac_core.proofs.Integers.{mul-zero_ℤ, mul_positive}
 use Rattle.problem_core.specs.declared.parts.Mark.{Mark}
 use Rattle.problem_core.specs.declared.stops.What.{What}
 use Rattle.problem_core.specs.declared.stops.What.TheVariants.{Mark as MarkOf}
@@ -13,17 +12,17 @@ use Rattle.problem_core.specs.Corners.{IsIn, place}
 use Rattle.problem_core.specs.Rays.{IsRay}
 use Rattle.problem_core.proofs.Forms.{each-impl}
 use Rattle.corner_laws.specs.Runs.{FallsFirst, IsFirstToLeave, Writes, Writing}
-use Rattle.corner_laws.proofs.ColumnSigns.{some_mark_falls}
-use Rattle.corner_laws.proofs.Directions.{writing_moves}
-use Rattle.corner_laws.proofs.Exchanged.{neg-times}
-use Rattle.corner_laws.proofs.LowestForms.{column_has_writing}
+use Rattle.corner_laws.proofs.RunSteps.ColumnSigns.{some_mark_falls}
+use Rattle.corner_laws.proofs.MarkWritings.Directions.{writing_moves}
+use Rattle.corner_laws.proofs.MarkWritings.LowestForms.{column_has_writing}
 use Rattle.corner.specs.Views.{AreMovers, CornerView, IsKeptCorner, IsOutside, MovesWith}
 use Rattle.primal_run.specs.declared.ties.Ratio.{Ratio}
 use Rattle.primal_run.specs.Entering.{MayEnter}
 use Rattle.primal_run.specs.Leaving.{IsFirstOf, IsRatioAt, NeverFalls}
-use Rattle.corner_ends.proofs.MarkOrders.{in_list}
 use Rattle.corner_ends.proofs.Marks.{contained, in_mark}
-use Rattle.corner.proofs.LowLines.{up_or_low}
+use Rattle.corner.proofs.Readings.LowLines.{up_or_low}
+use Rattle.frac_core.proofs.Numbers.{low-not-zero as low-some, low-back as low-left, neg-times}
+use Rattle.problem_core.proofs.Marks.{in-list as in_list}
 
 -- one item more
 pub took_next : {X : Type 0} (xs : List X) (i : ℕ) (x : X) → slice_get xs i ≡ Some x → take i xs ++ x ∷ [] ≡ take (i + 1) xs
@@ -33,16 +32,6 @@ took_next xs i x e = let n : suc i ≡ i + 1 = omega arith in subst (λ (k : ℕ
     next [] i x e = absurd (let none : None ≡ Some x = e in cc)
     next (y ∷ xs) zero x e = let g : Some y ≡ Some x = e in let same : x ≡ y = cc in ap (λ z. z ∷ []) same
     next (y ∷ xs) (suc i) x e = ap (λ zs. y ∷ zs) (next xs i x e)
-
--- s*a = b*r, s and r above 0
-low-left : (s : ℕ) (a b r : ℤ) → 0 < s → pos 0 <ℤ r → pos s *ℤ a ≡ b *ℤ r → a <ℤ pos 0 → b <ℤ pos 0
-low-left s a (negsuc b) r up above e h = omega (arith, ints)
-low-left s (pos a) (pos b) r up above e h = absurd (omega (arith, ints, h))
-low-left s (negsuc a) (pos b) r up above e h =
-    let not : pos 0 ≤ℤ (pos b *ℤ r) = mul_not_negative b r (omega (arith, ints, above)) in
-    let some : pos 0 <ℤ (pos s *ℤ pos (suc a)) = mul_positive s (pos (suc a)) up (omega (arith, ints)) in
-    let opposite : pos s *ℤ negsuc a ≡ neg_ℤ (pos s *ℤ pos (suc a)) = *ℤ_comm (pos s) (negsuc a) ∙ neg-times (pos (suc a)) (pos s) ∙ ap neg_ℤ (*ℤ_comm (pos (suc a)) (pos s)) in
-    absurd (omega (arith, ints, not, some, opposite, e))
 
 some-left : (s : ℕ) (a b r : ℤ) → pos 0 <ℤ r → pos s *ℤ a ≡ b *ℤ r → b <ℤ pos 0 → a ≢ pos 0
 some-left s a (pos b) r above e h = absurd (omega (arith, ints, h))
@@ -80,9 +69,6 @@ falling p at enter m ray kept r i down =
       writes = w.4;
       low = low-left w.0 (ray (place m)) (coefficient (place enter) w.1) (ray (place enter)) w.4.scale_positive r.here (writing_moves p at (place m) w.0 w.1 w.2 w.3 (place enter) ray kept.corner w.4 r) down;
     }
-
-low-some : (z : ℤ) → z <ℤ pos 0 → z ≢ pos 0
-low-some z h e = omega (arith, ints, h, e)
 
 moved : (v : CornerView) (enter : Mark) (whats : List What) (ray : ℕ → ℤ) (m : Mark) → AreMovers v enter whats → IsRay v.problem v.marks (place enter) ray → IsIn (place m) v.marks → ray (place m) <ℤ pos 0 → Contains whats (MarkOf m)
 moved v enter whats ray m are r i down = are.all (MarkOf m) (place m, (i, refl), (ray, r, low-some (ray (place m)) down))

@@ -3,13 +3,13 @@ use Rattle.std.proofs.Common.{false, List, [], ◌∷◌, ◌++◌}
 use Rattle.problem_core.specs.declared.parts.Mark.{Mark}
 use Rattle.problem_core.specs.Layout.{Problem}
 use Rattle.problem_core.specs.Corners.{IsIn, SameMarks, Swap, exchanged, place}
-use Rattle.problem_core.specs.Paths.{last_marks}
+use Rattle.problem_core.specs.Changes.Paths.{last_marks}
 use Rattle.corner_laws.specs.Runs.{AreRunSwaps, IsFirstToLeave, IsRunSwap}
-use Rattle.corner_laws.proofs.RunPaths.{order_is_free, run_grows}
+use Rattle.corner_laws.proofs.RunSteps.RunPaths.{order_is_free, run_grows}
 use Rattle.corner_ends.specs.Trails.{HasRun}
-use Rattle.corner_ends.proofs.MarkOrders.{same_back}
 use Rattle.corner_ends.proofs.Trails.{run_more}
 use Rattle.primal_run.specs.Entering.{MayEnter}
+use Rattle.problem_core.proofs.Marks.{same-back as same_back}
 
 -- the next exchange
 next-swap : (p : Problem) (first at : List Mark) (s : Swap) → MayEnter p at s.enter → IsIn (place s.leave) at → IsFirstToLeave p first at s → IsRunSwap p first at s

@@ -140,7 +140,7 @@ fn see(c: &mut Corner, found: Option<Choice>, i: usize) -> Seen
     ensures nearer { length c.new.candidates - result.next < length c.old.candidates - i }
 {
     c.show_corner(); // for the proof: what a corner keeps
-    let _count = c.candidates();
+    let _count = c.candidates(); // for the proof: so many fit in a usize
     let row = c.candidate(i);
     match negative_of(c, row) {
         Some(choice) => Seen {
@@ -154,8 +154,8 @@ fn see(c: &mut Corner, found: Option<Choice>, i: usize) -> Seen
     }
 }
 
-/// The mark that enters: of the strongest level at which a column is negative. Lines without one are
-/// unlisted.
+/// A mark with a negative column, if one is listed: of those that are listed the one that enters before all
+/// others. No clause says which of several. Lines without one are unlisted.
 pub(crate) fn pick(c: &mut Corner) -> Option<Choice>
     ensures problem { c.new.problem ≡ c.old.problem }
     ensures marks { c.new.marks ≡ c.old.marks }

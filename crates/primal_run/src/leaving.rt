@@ -1,14 +1,13 @@
 // The inside mark that leaves.
-ghost use Rattle.std.specs.Prelude.{◌++◌, ◌∷◌, [], List, All, IfOk};
+ghost use Rattle.std.specs.Prelude.{List, All, IfOk};
 ghost use Rattle.problem_core.specs.Corners as corners;
 ghost use Rattle.problem_core.specs.Corners.{IsIn};
 ghost use Rattle.problem_core.specs.declared.parts.Mark.{Mark as MarkOfLine};
-ghost use Rattle.problem_core.specs.declared.stops.What.{What as WhatOf};
 ghost use Rattle.problem_core.specs.declared.stops.What.TheVariants.{Mark as MarkOf};
 ghost use Rattle.corner_laws.specs.Runs.{IsFirstToLeave};
 ghost use Rattle.corner.specs.Views.{IsMarkOf, IsOutside, MovesWith};
 ghost use Rattle.primal_run.specs.Entering.{MayEnter};
-ghost use Rattle.primal_run.specs.Leaving.{IsFirstOf, IsRatioOrNone};
+ghost use Rattle.primal_run.specs.Leaving.{IsNextFirst, IsRatioOrNone};
 
 use crate::ties::{Ratio, Tied, earlier, ratio_of, smaller};
 use corner::Corner;
@@ -26,9 +25,8 @@ fn next_untied(
     requires moves { MovesWith c.now.problem c.now.marks enter what }
     requires found { IsRatioOrNone c.now.problem c.now.marks (corners.place enter) found }
     ensures ratio { IfOk result (IsRatioOrNone c.now.problem c.now.marks (corners.place enter)) }
-    ensures first { IfOk result (λ next. (first : List MarkOfLine) (list : List WhatOf)
-        → IsFirstOf c.now.problem c.now.marks (corners.place enter) first list found
-        → IsFirstOf c.now.problem c.now.marks (corners.place enter) first (list ++ what ∷ []) next) }
+    ensures first { IfOk result (λ next. (first : List MarkOfLine)
+        → IsNextFirst c.now.problem c.now.marks (corners.place enter) first what found next) }
 {
     c.show_corner(); // for the proof: what a corner keeps
     let What::Mark(m) = what else {
@@ -79,9 +77,7 @@ fn next_first(
     requires first { All (IsMarkOf c.now.problem) first.now }
     requires found { IsRatioOrNone c.now.problem c.now.marks (corners.place enter) found }
     ensures ratio { IsRatioOrNone c.now.problem c.now.marks (corners.place enter) result }
-    ensures first { (list : List WhatOf)
-        → IsFirstOf c.now.problem c.now.marks (corners.place enter) first.now list found
-        → IsFirstOf c.now.problem c.now.marks (corners.place enter) first.now (list ++ what ∷ []) result }
+    ensures first { IsNextFirst c.now.problem c.now.marks (corners.place enter) first.now what found result }
 {
     c.show_corner(); // for the proof: what a corner keeps
     let What::Mark(m) = what else {

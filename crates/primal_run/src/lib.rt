@@ -22,14 +22,14 @@
 //!
 //! What holds before each exchange (`IsTrailOf`): the first corner had no negative value, and in each
 //! exchange so far that mark left which was the first to come to 0, where the marks of the first corner
-//! decide between equal ones. By that rule no corner comes twice. Which mark with a negative column enters
-//! is free: it is one of the strongest level, there of the lowest reduced cost, and of equal ones that of
-//! the weakest line, since then what a stronger line asks for need not be put right again.
+//! decide between equal ones. By that rule no corner comes twice. Any mark with a negative column may enter,
+//! and no clause says which of several does. The code takes one of the strongest level, there of the lowest
+//! reduced cost, and of equal ones that of the weakest line: what a stronger line asks for need not be put
+//! right again then.
 //!
-//! Linear programming's words: the choice of the mark that enters is the pricing, by the lowest reduced
-//! cost, and that of the mark that leaves is the ratio test. The rule between equal ones is the
-//! lexicographic one. There is no first phase apart: what the required rows lack is the cost of the
-//! strongest level.
+//! Linear programming's words: an exchange is a pivot, the choice of the mark that enters is the pricing, and
+//! that of the mark that leaves is the ratio test. The rule between equal ones is the lexicographic one.
+//! There is no first phase apart: what the required rows lack is the cost of the strongest level.
 //!
 //! To read: `entering` finds the mark that enters, `required` does so where the required rows cost; `ties`
 //! tells which of two marks comes to 0 first, `leaving` which of all; `runs` makes an exchange; and

@@ -5,7 +5,7 @@ ghost use Rattle.std.specs.Prelude.{slice_get, Some, None};
 ghost use Rattle.problem_core.specs.declared.limits.TheConstants.{REQUIRED};
 ghost use Rattle.problem_core.specs.declared.parts.Level.TheVariants.{Priority};
 ghost use Rattle.problem_core.specs.declared.parts.RowName.{RowName as RowNameOf};
-ghost use Rattle.problem_core.specs.Paths.{NoNegativeRequired};
+ghost use Rattle.problem_core.specs.Changes.Paths.{NoNegativeRequired};
 ghost use Rattle.corner.specs.Views.{IsMarkOf, IsNamed, IsReducedAt};
 ghost use Rattle.primal_run.specs.Entering.{HasNoRequired, IsChoice, IsRequired};
 
@@ -115,7 +115,8 @@ fn next_lowest(c: &Corner, found: Option<Lower>, i: usize) -> Option<Lower>
     }
 }
 
-/// The mark with the lowest reduced cost at the level of the required rows, if one is below 0.
+/// A mark with a reduced cost below 0 at the level of the required rows, if there is one: that with the
+/// lowest. No clause says which of several.
 pub(crate) fn required_pick(c: &Corner) -> Option<Mark>
     ensures some { IfSome result (IsRequired c.now.problem c.now.marks) }
     ensures none { IfNone result (NoNegativeRequired c.now.problem c.now.marks) }

@@ -1,14 +1,12 @@
 // An exchange of a run.
-ghost use Rattle.std.specs.Prelude.{◌≡◌, ◌<◌, ◌+◌, ℕ, List, length, false, IfOk, IfErr};
+ghost use Rattle.std.specs.Prelude.{◌≡◌, ◌<◌, ◌+◌, List, length, false, IfOk, IfErr};
 ghost use Rattle.problem_core.specs.Corners as corners;
 ghost use Rattle.problem_core.specs.Corners.{IsIn};
 ghost use Rattle.problem_core.specs.declared.parts.Mark.{Mark as MarkOfLine};
 ghost use Rattle.problem_core.specs.declared.stops.What.TheVariants.{Mark as MarkOf};
 ghost use Rattle.corner_laws.specs.Runs.{IsFirstToLeave};
-ghost use Rattle.cert_core.specs.Stops.{IsStopOf};
 ghost use Rattle.corner.specs.Views.{MovesWith};
-ghost use Rattle.corner_ends.specs.Runs.{FromHere};
-ghost use Rattle.corner_ends.specs.Trails.{IsTrailOf};
+ghost use Rattle.corner_ends.specs.Trails.{IsTrailOf, IsTrailStop, StaysTrail};
 ghost use Rattle.primal_run.specs.Entering.{MayEnter};
 
 use crate::leaving::{leaving, leaving_untied};
@@ -23,9 +21,7 @@ fn leaving_mark(trail: &mut Trail, c: &Corner, enter: Mark) -> Result<Mark, OutO
     requires trail { (first : List MarkOfLine) × IsTrailOf false c.now.problem first trail.old c.now.marks }
     requires enter { MayEnter c.now.problem c.now.marks enter }
     ensures swaps { trail.new.swaps ≡ trail.old.swaps }
-    ensures trail { IfOk result (λ _. (first : List MarkOfLine)
-        → IsTrailOf false c.now.problem first trail.old c.now.marks
-        → IsTrailOf false c.now.problem first trail.new c.now.marks) }
+    ensures trail { IfOk result (λ _. StaysTrail false c.now trail.old c.now trail.new) }
     ensures inside { IfOk result (λ m. IsIn (corners.place m) c.now.marks) }
     ensures moves { IfOk result (λ m. MovesWith c.now.problem c.now.marks enter (MarkOf m)) }
     ensures first { IfOk result (λ m. (first : List MarkOfLine)
@@ -44,16 +40,11 @@ pub(crate) fn exchange(trail: &mut Trail, c: &mut Corner, enter: Mark) -> Result
     requires marked { 0 < length c.old.before }
     requires trail { (first : List MarkOfLine) × IsTrailOf false c.old.problem first trail.old c.old.marks }
     requires enter { MayEnter c.old.problem c.old.marks enter }
-    ensures trail { IfOk result (λ _. (first : List MarkOfLine)
-        → IsTrailOf false c.old.problem first trail.old c.old.marks
-        → IsTrailOf false c.new.problem first trail.new c.new.marks) }
+    ensures trail { IfOk result (λ _. StaysTrail false c.old trail.old c.new trail.new) }
     ensures problem { IfOk result (λ _. c.new.problem ≡ c.old.problem) }
     ensures before { c.new.before ≡ c.old.before }
     ensures more { IfOk result (λ _. length trail.new.swaps ≡ length trail.old.swaps + 1) }
-    ensures stop { IfErr result (λ stop. (first : List MarkOfLine)
-        → IsTrailOf false c.old.problem first trail.old c.old.marks
-        → (budget : ℕ) → length trail.old.swaps < budget
-        → IsStopOf false c.old.problem c.old.problem.rows (FromHere first) budget stop) }
+    ensures stop { IfErr result (IsTrailStop false c.old trail.old) }
 {
     c.show_corner(); // for the proof: what a corner keeps
     let leave = leaving_mark(trail, c, enter)?;

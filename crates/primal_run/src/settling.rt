@@ -102,8 +102,8 @@ fn run_on(alloc: Global, c: &mut Corner, budget: u64, first: Mark) -> Result<(),
 ///
 /// `Conflict`: the required rows have no solution, as the multipliers show. `Unfit`: a quantity does not fit
 /// at the path's last corner. `Spent`: the path has as many exchanges as the budget, and its last corner is
-/// no end. After a stop the caller goes back to the corner's newest mark. The lexicographic rule against
-/// cycles is that of Dantzig, Orden and Wolfe.
+/// no end. After a stop the caller goes back to the corner's newest mark. Against cycles stands the
+/// lexicographic rule of the simplex method.
 pub fn settle(alloc: Global, c: &mut Corner, budget: u64) -> Result<(), RunStop>
     requires marked { 0 < length c.old.before }
     requires values { NoNegativeValue c.old.problem c.old.marks }

@@ -1,14 +1,14 @@
 // How much of an entering mark takes an inside mark's value to 0, and which of two marks falls first.
-ghost use Rattle.std.specs.Prelude.{◌≡◌, ◌≤◌, ◌^◌, ◌*ℤ◌, neg_ℤ, pos, true, false, map};
+ghost use Rattle.std.specs.Prelude.{◌≡◌, ◌≤◌, ◌^◌, ◌*ℤ◌, neg_ℤ, pos, true, false};
 ghost use Rattle.std.specs.Prelude.{All, List, unsigned_abs, IfOk, IfSome, IfNone};
-ghost use Rattle.std.specs.Ordering.{int_cmp};
 ghost use Rattle.problem_core.specs.Corners as corners;
 ghost use Rattle.problem_core.specs.Corners.{IsIn};
-ghost use Rattle.corner_laws.specs.Runs.{BreaksTie, Writes, Writing, count_at};
+ghost use Rattle.corner_laws.specs.Runs.{Writes, Writing, count_at};
 ghost use Rattle.problem_core.specs.declared.parts.Mark.{Mark as MarkOfLine};
 ghost use Rattle.problem_core.specs.declared.stops.What.TheVariants.{Mark as MarkOf};
 ghost use Rattle.corner.specs.Views.{IsMarkOf, IsOutside, IsScaleOf};
-ghost use Rattle.primal_run.specs.Leaving.{IsEarlier, IsRatioAt, NeverFalls};
+ghost use Rattle.primal_run.specs.Leaving as leaving;
+ghost use Rattle.primal_run.specs.Leaving.{ForWritings, IsEarlier, IsRatioAt, NeverFalls, WinsTie};
 
 use corner::Corner;
 use corner_ends::{coefficient_of, is_below, product};
@@ -89,10 +89,8 @@ fn count_order(c: &Corner, a: Ratio, b: Ratio, f: Mark) -> Ordering
     requires a { IsIn (corners.place a.mark) c.now.marks }
     requires b { IsIn (corners.place b.mark) c.now.marks }
     requires first { IsMarkOf c.now.problem f }
-    ensures { (v w : Writing) → Writes c.now.problem c.now.marks (corners.place a.mark) v
-        → Writes c.now.problem c.now.marks (corners.place b.mark) w
-        → result ≡ int_cmp (count_at (corners.place b.mark) w (corners.place f) *ℤ a.by)
-        (count_at (corners.place a.mark) v (corners.place f) *ℤ b.by) }
+    ensures { ForWritings c.now.problem c.now.marks a.mark b.mark
+        (λ v w. result ≡ leaving.count_order f a v b w) }
 {
     count(c, b.mark, f, a.by).cmp(&count(c, a.mark, f, b.by))
 }
@@ -103,16 +101,10 @@ fn breaks_tie(c: &Corner, a: Ratio, b: Ratio, enter: Mark, first: &[Mark]) -> bo
     requires a { IsRatioAt c.now.problem c.now.marks (corners.place enter) a }
     requires b { IsRatioAt c.now.problem c.now.marks (corners.place enter) b }
     requires first { All (IsMarkOf c.now.problem) first.now }
-    ensures yes { result ≡ true → (v w : Writing)
-        → Writes c.now.problem c.now.marks (corners.place a.mark) v
-        → Writes c.now.problem c.now.marks (corners.place b.mark) w
-        → BreaksTie (corners.place enter) (corners.place a.mark) v (corners.place b.mark) w
-        (map corners.place first.now) }
-    ensures no { result ≡ false → (v w : Writing)
-        → Writes c.now.problem c.now.marks (corners.place a.mark) v
-        → Writes c.now.problem c.now.marks (corners.place b.mark) w
-        → BreaksTie (corners.place enter) (corners.place b.mark) w (corners.place a.mark) v
-        (map corners.place first.now) }
+    ensures yes { result ≡ true
+        → WinsTie c.now.problem c.now.marks (corners.place enter) first.now a.mark b.mark }
+    ensures no { result ≡ false
+        → WinsTie c.now.problem c.now.marks (corners.place enter) first.now b.mark a.mark }
 {
     c.show_corner(); // for the proof: what a corner keeps
     for f in first {

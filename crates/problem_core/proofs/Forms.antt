@@ -1,5 +1,5 @@
 -- Sums of integers over lists, and linear forms: a form all of whose coefficients are 0 has the value 0.
-use Rattle.std.proofs.Common.{◌≡◌, ℕ, zero, suc, ◌*◌, ◌/◌, ◌<◌, ◌≤◌, max, Bool, true, false, cond, nat_eq, List, [], ◌∷◌, ◌++◌, map, filter, length, take, get_or, ◌+◌, ℤ, pos, ◌+ℤ◌, ◌-ℤ◌, ◌*ℤ◌, neg_ℤ, refl, sym, ap, ap₂, ◌∙◌, inl, inr, arith, eq-eqb, ne_eqb, mul-div_cancel, mul-pos}
+use Rattle.std.proofs.Common.{◌≡◌, ℕ, zero, suc, ◌*◌, ◌/◌, ◌<◌, ◌≤◌, max, Bool, cond, nat_eq, List, [], ◌∷◌, ◌++◌, map, filter, length, take, get_or, ◌+◌, ℤ, pos, ◌+ℤ◌, ◌-ℤ◌, ◌*ℤ◌, neg_ℤ, refl, sym, ap, ap₂, ◌∙◌, inl, inr, arith, ne_eqb, mul-div_cancel, mul-pos}
 use Rattle.std.proofs.lemmas.List.{take_more}
 use Rattle.std.specs.List.{AllByRecursion as Each}
 use Rattle.std.proofs.lemmas.List.Elements.{recursion_from_All, All-from_recursion, All-filter}
@@ -8,6 +8,7 @@ use borrow.Author.Differences.{ints}
 use Rattle.problem_core.specs.declared.parts.Term.{Term}
 use Rattle.problem_core.specs.Layout.{sum_of, product_of, coefficient, value_at}
 use Rattle.frac_core.proofs.Integers.{mul-add_left, add-mul_right, mul_assoc_ℤ, mul_left_comm_ℤ, zero-mul_ℤ, mul-zero_ℤ, zero-add_ℤ, add-zero_ℤ, gap-share}
+use Rattle.frac_core.proofs.Bools.{count-same as at_same, cond-mul}
 
 -- ---- sums
 
@@ -46,9 +47,6 @@ below-add zero f g h e = refl
 below-add (suc n) f g h e = omega (arith, ints, e n, below-add n f g h e)
 
 -- ---- one entry
-
-at_same : (u v : ℕ) (k : ℤ) → u ≡ v → cond (nat_eq u v) k (pos 0) ≡ k
-at_same u v k e = rw (eq-eqb u v e) refl
 
 at_other : (u v : ℕ) (k : ℤ) → (u ≡ v → ⊥) → cond (nat_eq u v) k (pos 0) ≡ pos 0
 at_other u v k e = rw (ne_eqb u v e) refl
@@ -91,10 +89,6 @@ value-zero n form h =
 -- k times a form
 abbrev pub times : ℤ → List Term → List Term
 times k form = map (λ e. record { attr = e.attr; by = k *ℤ e.by }) form
-
-cond-mul : (b : Bool) (k x : ℤ) → cond b (k *ℤ x) (pos 0) ≡ k *ℤ cond b x (pos 0)
-cond-mul true k x = refl
-cond-mul false k x = sym (mul-zero_ℤ k)
 
 pub coefficient-times : (v : ℕ) (k : ℤ) (form : List Term) → coefficient v (times k form) ≡ k *ℤ coefficient v form
 coefficient-times v k [] = sym (mul-zero_ℤ k)

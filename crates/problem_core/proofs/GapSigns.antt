@@ -1,5 +1,5 @@
 -- The sign of a gap from the sum of the terms over a common denominator of the values.
-use Rattle.std.proofs.Common.{◌≡◌, ℕ, zero, suc, ◌*◌, ◌/◌, ◌<◌, ◌≤◌, ◌^◌, List, [], ◌∷◌, ℤ, pos, neg_ℤ, ◌+ℤ◌, ◌-ℤ◌, ◌*ℤ◌, ◌<ℤ◌, sym, ap, ap₂, subst, ◌∙◌, inl, inr, arith, All, unsigned_abs, Result, Ok, Err, OnErr, mul-le-mul_left, mul-le-mul_right}
+use Rattle.std.proofs.Common.{◌≡◌, ℕ, suc, ◌*◌, ◌/◌, ◌<◌, ◌≤◌, ◌^◌, List, [], ◌∷◌, ℤ, pos, neg_ℤ, ◌+ℤ◌, ◌-ℤ◌, ◌*ℤ◌, ◌<ℤ◌, sym, ap, ap₂, subst, ◌∙◌, inl, inr, arith, All, unsigned_abs, Result, Ok, Err, OnErr, mul-le-mul_left, mul-le-mul_right}
 use Rattle.std.proofs.lemmas.Bool.{cases_lt}
 use Rattle.std.specs.Int.{◌∣◌}
 use Rattle.std.specs.Ordering.{int_cmp}
@@ -17,6 +17,7 @@ use Rattle.problem_core.specs.Layout.{Row, Assignment, Gives, gap, line_of_row, 
 use Rattle.problem_core.specs.Gaps.{HasValue, HasRoom, HasRoomOver, value_of, value_dens, times_common, scaled_sum}
 use Rattle.problem_core.proofs.Forms.{each-impl, each-both}
 use Rattle.problem_core.proofs.Lookups.{given-value}
+use Rattle.frac_core.proofs.Numbers.{divisor-above, pos-mul-neg as neg_left}
 
 ruleset ring = (diff-add, diff-mul, diff-neg, diff-pos, neg-pos)
 
@@ -52,9 +53,6 @@ pub gap-over : (whole q d : ℕ) (v s p : ℤ) → v *ℤ pos whole ≡ s *ℤ p
 gap-over whole q d v s p e = left_gap whole q d v p ∙ ap (λ (z : ℤ). pos q *ℤ z -ℤ p *ℤ pos (d * whole)) e ∙ right_gap whole q d s p
 
 -- ---- the order
-
-neg_left : (w : ℕ) (g : ℤ) → pos w *ℤ neg_ℤ g ≡ neg_ℤ (pos w *ℤ g)
-neg_left w g = on_2 (λ g h. pos w *ℤ neg_ℤ g ≡ neg_ℤ (pos w *ℤ g)) (λ a a' b b'. simp ring (diff_eq _ _ _ _ (omega arith))) g g
 
 neg_diff : (d : ℕ) (a b : ℤ) → neg_ℤ (pos d *ℤ (a -ℤ b)) ≡ pos d *ℤ (b -ℤ a)
 neg_diff d = on_2 (λ a b. neg_ℤ (pos d *ℤ (a -ℤ b)) ≡ pos d *ℤ (b -ℤ a)) (λ a a' b b'. simp ring (diff_eq _ _ _ _ (omega arith)))
@@ -127,10 +125,6 @@ share-le a b c some h =
       | inl l ↦ absurd (omega (arith, h, some, mul-le-mul_right c (let m : suc b ≤ a = omega (arith, l) in m)))
       | inr l ↦ l
     ]
-
-divisor-above : (x d : ℕ) → 0 < d → x ∣ d → 0 < x
-divisor-above zero d some h = absurd (omega (arith, some, div-mul_cancel zero h))
-divisor-above (suc x) d some h = omega arith
 
 -- over a greater denominator a value is greater
 greater : (f : Fraction) (d m : ℕ) → 0 < f.den → d ≤ m → f.den ∣ d → f.den ∣ m → unsigned_abs (times_common f d) ≤ unsigned_abs (times_common f m)

@@ -29,7 +29,7 @@ signed Le (pos zero) share (negsuc n) h e = omega (arith, ints)
 signed Le (pos (suc m)) share (negsuc n) h e = absurd (omega (arith, ints))
 signed Le (negsuc m) share (negsuc n) h e = both_negative m (share * suc n)
 
-sum-not_negative : {A : Type 0} (f : A → ℤ) (xs : List A) → Each (λ x. pos 0 ≤ℤ f x) xs → pos 0 ≤ℤ sum_of f xs
+pub sum-not_negative : {A : Type 0} (f : A → ℤ) (xs : List A) → Each (λ x. pos 0 ≤ℤ f x) xs → pos 0 ≤ℤ sum_of f xs
 sum-not_negative f [] h = omega (arith, ints)
 sum-not_negative f (x ∷ xs) h = omega (arith, ints, h.0, sum-not_negative f xs h.1)
 

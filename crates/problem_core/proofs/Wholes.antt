@@ -6,7 +6,7 @@ use Rattle.problem_core.specs.declared.parts.Stay.{Stay}
 use Rattle.problem_core.specs.Layout.{Problem, IsProblem, IsProper, lines, stay_lines}
 use Rattle.problem_core.specs.Kept.{IsRow, IsStay, IsWhole}
 use Rattle.problem_core.proofs.Forms.{each-impl}
-use Rattle.problem_core.proofs.Agreed.{each-lines}
+use Rattle.problem_core.proofs.Best.Agreed.{each-lines}
 
 stays-positive : (base : ℕ) (stays : List Stay) → Each IsStay stays → Each (λ l. (0 < l.scale) × (0 < l.den)) (stay_lines base stays)
 stays-positive base [] h = tt

@@ -9,7 +9,7 @@ use Rattle.problem_core.specs.declared.parts.RowName.{RowName}
 use Rattle.problem_core.specs.declared.parts.RowName.TheVariants.{Held, Stay as StayOf}
 use Rattle.problem_core.specs.declared.parts.Term.{Term}
 use Rattle.problem_core.specs.declared.parts.Stay.{Stay}
-use Rattle.problem_core.specs.declared.limits.TheConstants.{REQUIRED}
+use Rattle.problem_core.specs.declared.limits.TheConstants.{FIRST_STAY_LEVEL, REQUIRED}
 
 -- ---- words for sums
 
@@ -72,10 +72,6 @@ pub record Problem : Type 0 where
 abbrev pub rank_level : ℕ → ℕ
 rank_level rank = REQUIRED - rank
 
--- the level of the first stay, behind those of all ranks
-abbrev pub first_stay_level : ℕ
-first_stay_level = REQUIRED + 1
-
 -- a row or a stay with its name and its level: that of its rank for a row, and for the stays, in their order,
 -- those from the first stay's on
 pub record Line : Type 0 where
@@ -118,7 +114,7 @@ stay_lines level [] = []
 stay_lines level (s ∷ rest) = line_of_stay level s ∷ stay_lines (level + 1) rest
 
 abbrev pub lines : Problem → List Line
-lines p = map line_of_row p.rows ++ stay_lines first_stay_level p.stays
+lines p = map line_of_row p.rows ++ stay_lines FIRST_STAY_LEVEL p.stays
 
 -- what the type of a problem promises: no scale and no denominator is 0
 abbrev pub IsProblem : Problem → Type 0

@@ -1,4 +1,5 @@
 pub mod Layout
+pub mod Laws
 pub mod Kept
 pub mod Common
 pub mod Gaps
@@ -8,7 +9,5 @@ pub mod Certificates
 pub mod Corners
 pub mod Levels
 pub mod Unfit
-pub mod Stops
-pub mod Paths
-pub mod Begins
+pub mod Changes
 pub mod Rays

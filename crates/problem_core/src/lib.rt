@@ -25,8 +25,8 @@
 //! each has a stay, one alone; there are at most [`ROW_LIMIT`] rows and as many stays.
 //!
 //! In reading order: `limits`, `parts` (relations, terms, stays, marks, levels), `row`, `problem`, `values`
-//! (of attributes), `gaps` (the sign of a row's gap), `places` (marks by number), `stops` (what doesn't fit
-//! at a corner), `common` (least common multiples), `laws`: what is best by what reasons, each the contract
+//! (of attributes), `common` (least common multiples), `gaps` (the sign of a row's gap), `places` (marks by
+//! number), `stops` (what doesn't fit at a corner), `laws`: what is best by what reasons, each the contract
 //! of a function that does nothing.
 #![tactic(auto)]
 
@@ -50,7 +50,8 @@ pub use laws::{
     window_is_best,
 };
 pub use limits::{
-    COEFFICIENT_LIMIT, GAP_ROOM, MARKS, NUMBER_LIMIT, REQUIRED, ROW_LIMIT, TERM_LIMIT, WEIGHT_LIMIT,
+    COEFFICIENT_LIMIT, FIRST_STAY_LEVEL, GAP_ROOM, MARKS, NUMBER_LIMIT, REQUIRED, ROW_LIMIT,
+    TERM_LIMIT, WEIGHT_LIMIT,
 };
 pub use parts::{Level, Mark, Rel, RowName, Side, Stay, Term};
 pub use places::{mark_at, place};

@@ -3,6 +3,9 @@
 /// The rank of required rows, which is the greatest one.
 pub const REQUIRED: u16 = 1000;
 
+/// The level of the first stay, and the count of those before it, which the ranks have.
+pub const FIRST_STAY_LEVEL: u32 = REQUIRED as u32 + 1;
+
 /// The greatest weight of a row.
 pub const WEIGHT_LIMIT: u16 = 1000;
 

@@ -5,6 +5,7 @@ use Rattle.std.specs.Str.Parse.{IsNumeral, digits_value}
 use Rattle.clap.specs.Words.{App, Rule, Row, Text, all_of, fault_of, first_of, matches_of, new_app}
 use Rattle.clap.specs.Words.{new_rule, with_rule}
 use Rattle.clap.specs.declared.builder.action.ArgAction.TheVariants.{Append}
+use Rattle.span_text.specs.Bytes.{minus}
 use Rattle.program_words.specs.declared.mode.Mode.{Mode}
 use Rattle.program_words.specs.declared.mode.Mode.TheVariants.{Run, Check, Make}
 use Rattle.program_words.specs.declared.numbers.TheConstants.{LEAST_VIEWS, MOST_VIEWS, SEED_DIGITS}
@@ -66,7 +67,7 @@ AreOther words = (mode : Mode) → AreWordsOf words mode → ⊥
 -- the word doesn't begin with a hyphen
 abbrev pub IsPlain : Text → Type 0
 IsPlain [] = ⊤
-IsPlain (d ∷ ds) = (d == 45) ≡ false
+IsPlain (d ∷ ds) = (d == minus) ≡ false
 
 abbrev pub ArePlain : List Text → Type 0
 ArePlain [] = ⊤

@@ -8,9 +8,10 @@
 //! mode_of(alloc, &words)?                       // of `--help`: None
 //! ```
 //!
-//! Words ask for one mode at most ([`mode_is_unique`]).
+//! What [`mode_of`] keeps: words ask for one [`Mode`] at most ([`mode_is_unique`]), and its answer is that
+//! one, or `None` where they ask for none.
 //!
-//! In reading order: `mode` (the modes, and what MODE and the NUMBERs say), `numbers` (numbers as words),
+//! In reading order: `numbers` (numbers as words), `mode` (the modes, and what MODE and the NUMBERs say),
 //! `command` (the words, read by `clap`), `laws`.
 #![tactic(auto)]
 

@@ -1,22 +1,23 @@
 // Numbers as words.
 ghost use Rattle.std.specs.Prelude.{◌≡◌, ℕ, IfSome, IfNone, IsTrue, ◌↔◌, slice_index};
+ghost use Rattle.span_text.specs.Bytes.{plus};
 ghost use Rattle.program_words.specs.Words.{IsWritten, AreViews};
 ghost use Rattle.program_words.specs.declared.numbers.TheConstants.{SEED_DIGITS};
 
-/// The most digits of a seed.
+// The most digits of a seed.
 const SEED_DIGITS: usize = 20;
 
-/// The most digits of a number of views.
+// The most digits of a number of views.
 const VIEWS_DIGITS: usize = 3;
 
-/// The least number of views of a script that is made.
+// The least number of views of a script that is made.
 const LEAST_VIEWS: u64 = 2;
 
-/// The greatest number of views of a script that is made.
+// The greatest number of views of a script that is made.
 const MOST_VIEWS: u64 = 120;
 
 fn begins_with_plus(word: &str) -> bool
-    ensures { IsTrue result ↔ (slice_index word.now 0 ≡ 43) }
+    ensures { IsTrue result ↔ (slice_index word.now 0 ≡ plus) }
 {
     word.as_bytes().first() == Some(&b'+')
 }

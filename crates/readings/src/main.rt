@@ -8,8 +8,11 @@
 //! 8.                      left 0: all of it begins a number, and a digit is missing
 //! ```
 //!
-//! In reading order: `printing` (the headings), `parts` (of lines), `formats`, `commands` (lines of a
-//! script), `blocks` (whole texts).
+//! What the readings keep: they stand in the order of the texts, and each depends on its own text and heading
+//! alone.
+//!
+//! In reading order: `parts` (of lines), `formats`, `commands` (lines of a script), `blocks` (whole texts),
+//! `printing` (the headings).
 #![tactic(auto)]
 
 mod blocks;

@@ -21,6 +21,10 @@
 //! ```text
 //! awk 'FNR == 1 {print "== " FILENAME} {print}' FOLDER/* | out/refusal_paths
 //! ```
+//!
+//! In reading order: `kinds` (what stopped, and what is said of its path), `steps` (of a session), `held` and
+//! `posed` (the problem that a path speaks of), `judging` (the verdict), `scripts` (line by line), `tally`
+//! (counts), `cases` (the scripts of the input).
 #![tactic(auto)]
 
 mod cases;

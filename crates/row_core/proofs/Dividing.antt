@@ -1,5 +1,5 @@
 -- The divisor of a sum's numbers, and the row that is divided by it.
-use Rattle.std.proofs.Common.{◌≡◌, ◌≢◌, ℕ, zero, suc, ◌+◌, ◌<◌, ◌≤◌, ◌^◌, ◌++◌, length, true, false, cond, List, [], ◌∷◌, ℤ, pos, negsuc, Bool, ◌+ℤ◌, ◌*ℤ◌, sym, subst, ap, ◌∙◌, arith, ◌⊎◌, inl, inr, All}
+use Rattle.std.proofs.Common.{◌≡◌, ◌≢◌, ℕ, zero, suc, ◌+◌, ◌<◌, ◌≤◌, ◌^◌, ◌++◌, length, List, [], ◌∷◌, ℤ, pos, ◌+ℤ◌, ◌*ℤ◌, sym, subst, ap, ◌∙◌, arith, ◌⊎◌, inl, inr, All}
 use Prim.Native.Nat.{◌∣◌}
 use Rattle.std.specs.Prelude.{unsigned_abs}
 use Rattle.std.specs.Int.{IsGcd}
@@ -10,7 +10,7 @@ use Rattle.std.proofs.lemmas.Nat.Gcd.{dvd_trans, dvd-zero, le_of_dvd}
 use Rattle.std.proofs.Math.Nat.{eq-zero_of_zero-dvd, one-dvd}
 use borrow.Author.Differences.{ints}
 use Rattle.frac_core.specs.Fraction.{IsFitting}
-use Rattle.frac_core.proofs.Integers.{mul-zero_ℤ, add-zero_ℤ}
+use Rattle.frac_core.proofs.Integers.{add-zero_ℤ}
 use Rattle.row_core.specs.declared.walk.Sum.{Sum}
 use Rattle.row_core.specs.declared.walk.Place.{Place}
 use Rattle.row_core.specs.Rows.{Term, coefficient, IsRising, AllNonzero, AllFit}
@@ -18,6 +18,8 @@ use Rattle.row_core.specs.Walks.{AreRead, IsFirst, IsEnd, DividesWhole, IsDiviso
 use Rattle.row_core.proofs.Places.{absent, at-here, at-elsewhere}
 use Rattle.row_core.proofs.Sums.{at as number_of, sum-push}
 use Rattle.row_core.proofs.Walks.{before_first, past_end, floor_below}
+use Rattle.frac_core.proofs.Numbers.{divides-zero as divides_none, times-zero as times_none, zero-divides as size_some}
+use Rattle.frac_core.proofs.Bools.{bit-most as added_once}
 
 -- ---- the divisor
 
@@ -39,9 +41,6 @@ gcd_small zero (suc b) g n is a_small b_small =
 gcd_small (suc a) b g n is a_small b_small =
     let le : g ≤ suc a = le_of_dvd (omega arith) is.0 in
     omega (arith, le, a_small)
-
-divides_none : (d : ℕ) (z : ℤ) → z ≡ pos 0 → d ∣ unsigned_abs z
-divides_none d z none = subst (λ (y : ℤ). d ∣ unsigned_abs y) (sym none) (dvd-zero d)
 
 -- a column below one, or the first that is read
 pub split : (c floor col : ℕ) → c < col + 1 → (c < floor) ⊎ (((floor ≤ c) × (c < col)) ⊎ (c ≡ col))
@@ -80,16 +79,8 @@ divisor_ends r p sum at g r_rising p_rising is end c =
       | inr from ↦ divides_none g (whole sum r p c) (past_end r p sum at is.floor c r_rising p_rising is.are end from)
     ]
 
-added_once : (b : Bool) → cond b 1 0 ≤ 1
-added_once true = omega arith
-added_once false = omega arith
-
 pub steps_within : (r p : List Term) (sum : Sum) (at : Place) (floor : ℕ) → AreRead r p sum at floor → steps at ≤ length r + (length p + 1)
 steps_within r p sum at floor are = omega (arith, are.left.within, are.right.within, added_once at.is_added)
-
-size_some : (z : ℤ) → 0 ∣ unsigned_abs z → z ≡ pos 0
-size_some (pos n) none = ap pos (eq-zero_of_zero-dvd none)
-size_some (negsuc n) none = let no : suc n ≡ 0 = eq-zero_of_zero-dvd none in absurd (omega (arith, no))
 
 pub divisor_of_none : (whole : ℕ → ℤ) (g : ℕ) → DividesWhole g whole → g ≡ 0 → IsDivisor (pos 1) whole
 divisor_of_none whole g divides none = record {
@@ -118,9 +109,6 @@ pub record IsDividedSoFar (r p : List Term) (sum : Sum) (at : Place) (divisor : 
 -- what is behind all terms
 none_behind : (out : List Term) (floor c : ℕ) → All (λ t. t.col < floor) out → floor ≤ c → coefficient c out ≡ pos 0
 none_behind out floor c below from = absent c out (λ k d within same. absurd (omega (arith, below k d within, same, from)))
-
-times_none : (g z : ℤ) → z ≡ pos 0 → g *ℤ z ≡ pos 0
-times_none g z none = ap (λ (y : ℤ). g *ℤ y) none ∙ mul-zero_ℤ g
 
 same_none : (g v w : ℤ) → v ≡ pos 0 → w ≡ pos 0 → g *ℤ v ≡ w
 same_none g v w none absent = times_none g v none ∙ sym absent

@@ -14,6 +14,7 @@ use Rattle.row_core.specs.Walks.{DividesWhole, IsDivisor}
 use Rattle.frac_core.specs.declared.frac.TheConstants.{PART_BOUND}
 use Rattle.row_core.proofs.Places.{coefficient_at, of_coefficients}
 use Rattle.frac_core.proofs.Quotients.{positive_is, above_bound}
+use Rattle.frac_core.proofs.Numbers.{size-of-zero as size_none}
 
 -- the divided row is in lowest terms
 pub divided_lowest : (g : ℤ) (out : List Term) (whole : ℕ → ℤ) → IsDivisor g whole → ((c : ℕ) → g *ℤ coefficient c out ≡ whole c) → IsRising out → AllNonzero out → IsLowestRow out
@@ -49,9 +50,6 @@ size_of_multiple f z w e = sym (ap unsigned_abs e) ∙ unsigned_abs-mul (pos f) 
 factor_divides : (row : List Term) (whole : ℕ → ℤ) → (red : IsReduced row whole) → DividesWhole red.factor whole
 factor_divides row whole red c =
     subst (λ (m : ℕ). red.factor ∣ m) (sym (size_of_multiple red.factor (coefficient c row) (whole c) (red.same c))) (dvd-mul_right red.factor (unsigned_abs (coefficient c row)))
-
-size_none : (z : ℤ) → z ≡ pos 0 → unsigned_abs z ≡ 0
-size_none z e = ap unsigned_abs e
 
 -- where a number is the bound times the divisor or more, no row in lowest terms fits
 pub none_fits : (g : ℤ) (whole : ℕ → ℤ) (c : ℕ) → IsDivisor g whole → unsigned_abs g * PART_BOUND ≤ unsigned_abs (whole c) → IsUnfit whole

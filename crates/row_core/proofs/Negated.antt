@@ -12,6 +12,7 @@ use Rattle.frac_core.specs.Fraction.{IsFitting}
 use Rattle.row_core.specs.Rows.{Term, coefficient, IsRising, IsKeptRow}
 use Rattle.row_core.proofs.Sums.{at}
 use Rattle.frac_core.proofs.Quotients.{size_opposite}
+use Rattle.frac_core.proofs.Numbers.{zero-minus as less_is}
 
 abbrev pub opposite : Term → Term
 opposite t = record { col = t.col; by = neg_ℤ t.by }
@@ -89,9 +90,6 @@ turned_all [] zero end = refl
 turned_all [] (suc i) end = refl
 turned_all (x ∷ row) zero end = absurd (end (omega arith))
 turned_all (x ∷ row) (suc i) end = ap (λ (rest : List Term). opposite x ∷ rest) (turned_all row i (λ less. end (omega (arith, less))))
-
-less_is : (z : ℤ) → pos 0 -ℤ z ≡ neg_ℤ z
-less_is z = omega (arith, ints)
 
 less_size : (z : ℤ) → IsFitting z → unsigned_abs (pos 0 -ℤ z) < 9223372036854775808
 less_size z fits = rw (less_is z, size_opposite z) (omega (arith, fits))

@@ -12,6 +12,7 @@ use Rattle.row_core.specs.declared.walk.RowsRead.{RowsRead}
 use Rattle.row_core.specs.Walks.{IsRowRead, IsSumRead, HasNext, IsSmallProduct, IsRead, AreRead, IsFirst, IsEnd, column_at, whole, whole_of, steps}
 use Rattle.row_core.proofs.Places.{absent, coefficient_at}
 use Rattle.row_core.proofs.Patches.{none_either}
+use Rattle.frac_core.proofs.Bools.{count-other as not_here, true-not-false as differ}
 
 abbrev pub nothing : Term
 nothing = record { col = 0; by = pos 0 }
@@ -58,9 +59,6 @@ pub either : (b : Bool) → (b ≡ true) ⊎ (b ≡ false)
 either true = inl refl
 either false = inr refl
 
-not_here : (c a : ℕ) (z : ℤ) → c ≢ a → cond (nat_eq c a) z (pos 0) ≡ pos 0
-not_here c a z other = ap (λ (b : Bool). cond b z (pos 0)) (ne_eqb c a other)
-
 no_extra : (r p : List Term) (sum : Sum) (at : Place) (floor c : ℕ) → AreRead r p sum at floor → floor ≤ c → (at.is_added ≡ false → c < sum.at.0) → cond (nat_eq c sum.at.0) sum.extra (pos 0) ≡ pos 0
 no_extra r p sum at floor c are le past =
     elim (either at.is_added) [
@@ -92,9 +90,6 @@ pub before_first : (r p : List Term) (sum : Sum) (at : Place) (floor col c : ℕ
 before_first r p sum at floor col c r_rising p_rising are first le less =
     gap r p sum at floor c r_rising p_rising are le
     (λ within. omega (arith, less, first.left within)) (λ within. omega (arith, less, first.right within)) (λ waits. omega (arith, less, first.waiting waits))
-
-differ : true ≡ false → ⊥
-differ e = cc
 
 pub past_end : (r p : List Term) (sum : Sum) (at : Place) (floor c : ℕ) → IsRising r → IsRising p → AreRead r p sum at floor → IsEnd r p at → floor ≤ c → whole sum r p c ≡ pos 0
 past_end r p sum at floor c r_rising p_rising are end le =

@@ -4,7 +4,7 @@ use Rattle.row_core.specs.Rows.{Term, combination}
 use Rattle.row_core.specs.declared.entry.Factors.{Factors}
 use Rattle.row_core.specs.declared.entry.Patch.{Patch}
 
--- what the product of two fitting numbers is
+-- what the product of two fitting numbers is: 2^84 is the square of PART_BOUND
 abbrev pub IsFactor : ℤ → Type 0
 IsFactor k = unsigned_abs k < 2 ^ 84
 

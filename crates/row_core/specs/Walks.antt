@@ -7,6 +7,7 @@ use Rattle.frac_core.specs.Fraction.{IsFitting}
 use Rattle.frac_core.specs.declared.frac.TheConstants.{PART_BOUND}
 use Rattle.row_core.specs.Rows.{Term, coefficient, combination}
 use Rattle.row_core.specs.Combinations.{IsFactor}
+use Rattle.row_core.specs.declared.walk.TheConstants.{NARROW_FACTOR, NARROW_PRODUCT}
 use Rattle.row_core.specs.declared.walk.Sum.{Sum}
 use Rattle.row_core.specs.declared.walk.Place.{Place}
 use Rattle.row_core.specs.declared.walk.RowsRead.{RowsRead}
@@ -107,15 +108,15 @@ pub record IsReading (r p : List Term) (sum : Sum) (at : Place) (x : Reading) : 
   pub read : (floor : ℕ) → AreRead r p sum at floor → AreRead r p sum x.next (x.col + 1)
   pub further : steps at < steps x.next
 
--- small enough for its product with a fitting number to have 62 bits
+-- small enough for its product with a fitting number to be below NARROW_PRODUCT
 abbrev pub IsNarrow : ℤ → Type 0
-IsNarrow k = unsigned_abs k < 2 ^ 19
+IsNarrow k = unsigned_abs k < NARROW_FACTOR
 
 -- all its numbers have 64 bits where those of the rows fit
 pub record IsNarrowSum (sum : Sum) : Type 0 where
   pub k : IsNarrow sum.k
   pub n : IsNarrow sum.n
-  pub extra : unsigned_abs sum.extra < 2 ^ 61
+  pub extra : unsigned_abs sum.extra < NARROW_PRODUCT
 
 -- all numbers of the sum of these rows have 64 bits
 pub record HasNarrowProducts (sum : Sum) (r p : List Term) : Type 0 where

@@ -11,7 +11,7 @@ ghost use Rattle.frac_core.specs.Stops.{IsRefused};
 
 use crate::divide::{divided, divisor_of};
 use crate::entry::{Col, Entry, Factors, Patch, RowStop};
-use crate::walk::{Narrow, Sum, Wide, Width, patched, plain};
+use crate::walk::{NARROW_FACTOR, NARROW_PRODUCT, Narrow, Sum, Wide, Width, patched, plain};
 use frac_core::OutOfMemory;
 use std::alloc::Global;
 use std::marker::Model;
@@ -65,9 +65,9 @@ fn lowest<W: Width>(alloc: Global, r: &[Entry], p: &[Entry], sum: Sum) -> Result
 fn is_narrow(sum: Sum) -> bool
     ensures { IsTrue result → IsNarrowSum sum }
 {
-    sum.k.unsigned_abs() < 1 << 19
-        && sum.n.unsigned_abs() < 1 << 19
-        && sum.extra.unsigned_abs() < 1 << 61
+    sum.k.unsigned_abs() < NARROW_FACTOR
+        && sum.n.unsigned_abs() < NARROW_FACTOR
+        && sum.extra.unsigned_abs() < NARROW_PRODUCT
 }
 
 // The same of two rows in lowest terms.

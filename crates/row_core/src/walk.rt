@@ -7,8 +7,15 @@ ghost use Rattle.row_core.specs.Combinations.{IsFactor};
 ghost use Rattle.row_core.specs.Walks.{IsSmallProduct, IsFactorOf, HasSmallProducts, HasNext, alone};
 ghost use Rattle.row_core.specs.Walks.{IsRowRead, IsSumRead, IsReading, IsNarrow, IsNarrowSum, IsRead, IsEnd};
 ghost use Rattle.row_core.specs.Walks.{HasNarrowProducts, column_at, whole_of};
+ghost use Rattle.row_core.specs.declared.walk.TheConstants.{NARROW_PRODUCT};
 
 use crate::entry::{Col, Entry, Factors, Patch};
+
+/// Below this a factor's product with a number that fits is below [`NARROW_PRODUCT`].
+pub(crate) const NARROW_FACTOR: u128 = 1 << 19;
+
+/// Of numbers below this, two and then one more can be added in 64 bits.
+pub(crate) const NARROW_PRODUCT: u128 = 1 << 61;
 
 /// A sum of multiples of two rows and of a number at one column, perhaps without another column.
 #[derive(Clone, Copy, Debug, PartialEq, Eq)]
@@ -291,7 +298,7 @@ fn narrow_product(k: i128, by: i64) -> i64
     requires k { IsNarrow k }
     requires by { IsFitting by }
     ensures value { result ≡ k *ℤ by }
-    ensures small { unsigned_abs result < 2 ^ 61 }
+    ensures small { unsigned_abs result < NARROW_PRODUCT }
 {
     k as i64 * by
 }

@@ -35,7 +35,7 @@ fn object(text: &[u8]) -> Result<(Option<Object<'_>>, &[u8]), usize>
     }
 }
 
-// The priority, where one is written.
+/// The priority, where one is written.
 #[tactic(auto, unfolding(crate::specs::LineReading::priority_at))]
 pub fn priority(text: &[u8]) -> Result<(Option<Object<'_>>, &[u8]), usize>
     ensures { Gives (λ p. (object_view p.0, p.1.now)) result (priority_at text.now) }
@@ -77,7 +77,7 @@ fn linear(alloc: Global, text: &[u8]) -> Result<(Linear<'_>, &[u8]), PartStop>
     Ok((line, text))
 }
 
-// What follows the word `constrain`.
+/// What follows the word `constrain`.
 #[tactic(auto, unfolding(crate::specs::LineReading::constrain_at))]
 pub fn constrain(alloc: Global, text: &[u8]) -> Result<Command<'_>, PartStop>
     ensures { GivesOrMemory view result (constrain_at text.now) }

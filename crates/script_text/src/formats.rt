@@ -28,7 +28,7 @@ fn format_line<'a>(
     })
 }
 
-// What follows the word `vfl`.
+/// What follows the word `vfl`.
 #[tactic(auto, unfolding(crate::specs::LineReading::vfl_at))]
 pub fn vfl(alloc: Global, text: &[u8]) -> Result<Command<'_>, PartStop>
     ensures { GivesOrMemory view result (vfl_at text.now) }

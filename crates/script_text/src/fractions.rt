@@ -17,7 +17,7 @@ fn signed(is_negative: bool, size: u32) -> i128
     }
 }
 
-// p over q in lowest terms, below 0 if that is said.
+/// p over q in lowest terms, below 0 if that is said.
 pub fn signed_ratio(is_negative: bool, p: u32, q: u32) -> Frac
     requires { 0 < q }
     ensures { result ≡ lowest is_negative p q }
@@ -28,7 +28,7 @@ pub fn signed_ratio(is_negative: bool, p: u32, q: u32) -> Frac
     }
 }
 
-// A number of thousandths.
+/// A number of thousandths.
 pub fn signed_number(is_negative: bool, thousandths: u32) -> Frac
     ensures { result ≡ decimal is_negative thousandths }
 {

@@ -42,7 +42,10 @@
 //! would follow another, and behind the first word where more follows. The text of a tree begins at the first
 //! byte behind these and is all that follows, whatever its bytes; what it says isn't read here.
 //!
-//! In reading order: `command` (what a line says), `words` (the words of the grammar), `fractions` (numbers
+//! What [`read_line`] keeps: a line has a reading or a place where it leaves the grammar
+//! ([`line_reads_or_leaves`]), one of these and no other ([`reading_is_unique`], [`offset_is_unique`]).
+//!
+//! In reading order: `words` (the words of the grammar), `command` (what a line says), `fractions` (numbers
 //! and ratios as fractions), `terms` and `sums` (expressions), `constraint`, `formats` and `suggestions`
 //! (the lines of `constrain`, `vfl`, `suggest` and `release`), `lines` (all others, and [`read_line`]),
 //! `laws`.

@@ -49,7 +49,7 @@ fn suggestion<'a>(
     })
 }
 
-// What follows the word `suggest`.
+/// What follows the word `suggest`.
 #[tactic(auto, unfolding(crate::specs::LineReading::suggest_at))]
 pub fn suggest(text: &[u8]) -> Result<Command<'_>, PartStop>
     ensures { GivesOrMemory view result (suggest_at text.now) }
@@ -62,7 +62,7 @@ pub fn suggest(text: &[u8]) -> Result<Command<'_>, PartStop>
     }
 }
 
-// What follows the word `release`.
+/// What follows the word `release`.
 #[tactic(auto, unfolding(crate::specs::LineReading::release_at))]
 pub fn release(text: &[u8]) -> Result<Command<'_>, PartStop>
     ensures { GivesOrMemory view result (release_at text.now) }

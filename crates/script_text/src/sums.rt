@@ -45,7 +45,7 @@ fn sum_from<'a>(
     }
 }
 
-// An expression's terms in the order in which they are written, and the text behind them.
+/// An expression's terms in the order in which they are written, and the text behind them.
 #[tactic(auto, unfolding(crate::specs::LineReading::expression_at))]
 pub fn expression(alloc: Global, text: &[u8]) -> Result<(Vec<ExprTerm<'_>>, &[u8]), PartStop>
     ensures { GivesOrMemory (λ p. (terms_view p.0.items, p.1.now)) result (expression_at text.now) }

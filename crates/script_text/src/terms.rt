@@ -78,7 +78,7 @@ fn multiplied(
     }
 }
 
-// A term behind its sign.
+/// A term behind its sign.
 #[tactic(auto, unfolding(crate::specs::LineReading::term_at))]
 pub fn term(is_negative: bool, text: &[u8]) -> Result<(ExprTerm<'_>, &[u8]), usize>
     ensures within { IfOk result (λ p. length p.1.now ≤ length text.now) }
@@ -91,9 +91,9 @@ pub fn term(is_negative: bool, text: &[u8]) -> Result<(ExprTerm<'_>, &[u8]), usi
     multiplied(is_negative, multiple, text)
 }
 
-// The next term of a sum and the text behind it, if the text begins with a sign.
-//
-// It matches where `?` would do: the toolchain's borrow checker has no rule yet for `?` over such a term.
+/// The next term of a sum and the text behind it, if the text begins with a sign.
+///
+/// It matches where `?` would do: the toolchain's borrow checker has no rule yet for `?` over such a term.
 #[tactic(auto, unfolding(crate::specs::LineReading::next_at))]
 pub fn next_term(text: &[u8]) -> Result<Option<(ExprTerm<'_>, &[u8])>, usize>
     ensures shorter { IfOk result (λ next. IfSome next (λ p. length p.1.now < length text.now)) }
@@ -114,7 +114,7 @@ pub fn next_term(text: &[u8]) -> Result<Option<(ExprTerm<'_>, &[u8])>, usize>
     }
 }
 
-// The first term of a sum, which has a sign of its own where it is below 0.
+/// The first term of a sum, which has a sign of its own where it is below 0.
 #[tactic(auto, unfolding(crate::specs::LineReading::first_at))]
 pub fn first_term(text: &[u8]) -> Result<(ExprTerm<'_>, &[u8]), usize>
     ensures within { IfOk result (λ p. length p.1.now ≤ length text.now) }

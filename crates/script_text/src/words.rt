@@ -73,7 +73,7 @@ impl AttrWord {
     }
 }
 
-// The first word of a line and the text at once behind it.
+/// The first word of a line and the text at once behind it.
 pub fn first_word(text: &[u8]) -> Result<(Keyword, &[u8]), usize>
     ensures { Gives (λ p. (p.0, p.1.now)) result (tried all_words text.now) }
 {
@@ -95,7 +95,7 @@ pub fn first_word(text: &[u8]) -> Result<(Keyword, &[u8]), usize>
     or_else(b"view", Keyword::View, text, found)
 }
 
-// The attribute's word and the text at once behind it.
+/// The attribute's word and the text at once behind it.
 pub fn attribute_word(text: &[u8]) -> Result<(AttrWord, &[u8]), usize>
     ensures { Gives (λ p. (p.0, p.1.now)) result (tried attributes text.now) }
 {
@@ -111,7 +111,7 @@ pub fn attribute_word(text: &[u8]) -> Result<(AttrWord, &[u8]), usize>
     or_else(b"left", AttrWord::Left, text, found)
 }
 
-// The alignment's word and the text at once behind it.
+/// The alignment's word and the text at once behind it.
 pub fn align_word(text: &[u8]) -> Result<(Align, &[u8]), usize>
     ensures { Gives (λ p. (p.0, p.1.now)) result (tried alignments text.now) }
 {

@@ -14,6 +14,7 @@ use Rattle.diagnosis.specs.Diagnoses.{AreFindings, findings_of}
 use Rattle.diagnosis.specs.Probes.{CanProbeAll, IsStopAt}
 use Rattle.diagnosis.specs.declared.diagnosing.Diagnosis.{Diagnosis}
 use Rattle.diagnosis.specs.declared.probing.DiagnoseStop.{DiagnoseStop}
+use Rattle.diagnosis.specs.declared.probing.Stopped.{Stopped}
 use Rattle.diagnosis.specs.declared.probing.DiagnoseStop.TheVariants as probed
 use Rattle.session_undo.specs.declared.reply.Reply.TheVariants as good
 use Rattle.session_undo.specs.Machine.{Diagnoses}
@@ -23,7 +24,7 @@ use Rattle.session_undo.specs.Scene.{State}
 use Rattle.session_undo.specs.Diagnosing.{AreFindingsOf, IsProbedStop}
 use Rattle.session_undo.specs.Items.{Item}
 use Rattle.session_undo.specs.Kept.{IsKept, scene_at}
-use Rattle.session_undo.proofs.Reached.{reached}
+use Rattle.session_undo.proofs.Engines.Reached.{reached}
 
 -- each attribute of a scene can be probed
 pub can-probe : (tree : ViewTree) (metrics : MetricList) (held : List Item) (next : ℕ) (l : Layout) → IsKept (scene_at tree metrics held next l) → length l.earlier < VERSION_LIMIT → CanProbeAll l
@@ -36,18 +37,18 @@ can-probe tree metrics held next l kept room k d within = record {
 }
 
 module _ (tree : ViewTree) (metrics : MetricList) (held : List Item) (next : ℕ) (l : Layout) where
-  pub found-scene : (r : Result Diagnosis (ℕ × DiagnoseStop)) → IfOk r (λ d. AreFindings l.problem l.values (findings_of d)) → IfOk r (λ d. AreFindingsOf (scene_at tree metrics held next l) (findings_of d))
+  pub found-scene : (r : Result Diagnosis Stopped) → IfOk r (λ d. AreFindings l.problem l.values (findings_of d)) → IfOk r (λ d. AreFindingsOf (scene_at tree metrics held next l) (findings_of d))
   found-scene r h = h
 
-  pub stop-scene : (budget : ℕ) (r : Result Diagnosis (ℕ × DiagnoseStop)) → IsKeptLayout l → IfErr r (IsStopAt l budget) → IfErr r (IsProbedStop (scene_at tree metrics held next l) budget)
-  stop-scene budget r kept h = IfErr-weaker r (IsStopAt l budget) (IsProbedStop (scene_at tree metrics held next l) budget) (λ stop is. (l, record { problem = refl; values = refl; reached = reached l kept }, is)) h
+  pub stop-scene : (budget : ℕ) (r : Result Diagnosis Stopped) → IsKeptLayout l → IfErr r (λ s. IsStopAt l budget s.attr s.stop) → IfErr r (λ s. IsProbedStop (scene_at tree metrics held next l) budget s.attr s.stop)
+  stop-scene budget r kept h = IfErr-weaker r (λ s. IsStopAt l budget s.attr s.stop) (λ s. IsProbedStop (scene_at tree metrics held next l) budget s.attr s.stop) (λ s is. (l, record { problem = refl; values = refl; reached = reached l kept }, is)) h
 
 -- ---- what is answered
 
 pub found-answer : (old new : State) (d : Diagnosis) → AreFindingsOf old.scene (findings_of d) → new ≡ old → Diagnoses old (accepted (good.Diagnosed d)) new
 found-answer old new d are same = inl (record { findings = findings_of d; are = are; told = (refl, same) })
 
-pub stop-answer : (old : State) (attr : ℕ) (stop : DiagnoseStop) → IsProbedStop old.scene old.budget (attr, stop) → MayRefuse (λ reply. Diagnoses old reply old) (probe_refusal attr stop)
+pub stop-answer : (old : State) (attr : ℕ) (stop : DiagnoseStop) → IsProbedStop old.scene old.budget attr stop → MayRefuse (λ reply. Diagnoses old reply old) (probe_refusal attr stop)
 stop-answer old attr (probed.Unfit up at) h = inr (inl (record { attr = attr; up = up; at = at; stopped = h; refused = (refl, refl) }))
 stop-answer old attr (probed.Spent up path) h = inr (inr (inl (record { attr = attr; up = up; path = path; stopped = h; refused = (refl, refl) })))
 stop-answer old attr (probed.Target up) h = inr (inr (inr (record { attr = attr; up = up; stopped = h; refused = (refl, refl) })))

@@ -2,11 +2,10 @@
 use Rattle.std.proofs.Common.{◌≡◌, ℕ, List, [], ◌∷◌, refl, ap, ap₂, ◌∙◌, subst, sym, lit<, pos, ◌<◌, ◌-◌, length, take, arith}
 use Rattle.std.specs.Prelude.{◌*ℤ◌}
 use Rattle.std.proofs.lemmas.List.Elements.{All-from_recursion}
-use Rattle.std.proofs.Math.Nat.{one-dvd}
 use Rattle.frac_core.specs.Fraction.{Fraction, IsLowest}
-use Rattle.problem_core.specs.Window.{zero_fraction, structural_rows}
+use Rattle.problem_core.specs.Window.{structural_rows}
 use Rattle.problem_core.specs.Layout.{Problem, Assignment, IsProblem, lines}
-use Rattle.problem_core.proofs.WindowRows.{first-IsBest}
+use Rattle.problem_core.proofs.Best.WindowRows.{first-IsBest}
 use Rattle.view_tree.specs.Views.{ViewTree, window}
 use Rattle.constraint_compile.specs.Meaning.{MetricList}
 use Rattle.layout_solver.specs.Layouts.{Layout, Solution, AreBest, solution_of, stays_at}
@@ -18,10 +17,8 @@ use Rattle.session_undo.specs.declared.scene.past.Past.{Past}
 use Rattle.session_undo.specs.Scene.{Scene, new_values, first_scene}
 use Rattle.session_undo.specs.Attributes.{IsCounted}
 use Rattle.session_undo.specs.Kept.{AreAlike, IsItem, IsKept, IsKeptHistory, history_at, scene_at, IsNamed}
-use Rattle.session_undo.proofs.BestValues.{best-unique}
-
-zero-IsLowest : IsLowest zero_fraction
-zero-IsLowest = record { above = lit< tt; coprime = (one-dvd 0, one-dvd 1, λ d a b. b) }
+use Rattle.session_undo.proofs.Engines.BestValues.{best-unique}
+use Rattle.problem_core.proofs.Sides.{zero-lowest as zero-IsLowest}
 
 abbrev pub first_problem : Problem
 first_problem = record { rows = structural_rows; stays = stays_at (new_values 0) }

@@ -3,8 +3,8 @@ use Rattle.std.proofs.Common.{◌≡◌, ℕ, zero, suc, ◌<◌, ◌≤◌, Lis
 use Rattle.std.specs.List.{Contains}
 use Rattle.std.proofs.lemmas.Bool.{cases_eq}
 use Rattle.std.proofs.lemmas.List.{length-map, get_or-map}
-use Rattle.std.proofs.lemmas.List.Elements.{All-from_recursion, All-append, All-head, All-tail, All-weaker, All-map}
-use Rattle.view_tree.proofs.DropLemmas.{pairs-tail}
+use Rattle.std.proofs.lemmas.List.Elements.{All-from_recursion, All-append, All-head, All-tail, All-weaker}
+use Rattle.frac_core.proofs.Lists.{pairs-nil, pairs-rest as pairs-tail}
 
 -- ---- pairs
 
@@ -13,9 +13,6 @@ pairs-cons R x xs here rest zero zero d less within = absurd (omega (arith, less
 pairs-cons R x xs here rest zero (suc j) d less within = here j d (omega (arith, within))
 pairs-cons R x xs here rest (suc i) zero d less within = absurd (omega (arith, less))
 pairs-cons R x xs here rest (suc i) (suc j) d less within = rest i j d (omega (arith, less)) (omega (arith, within))
-
-pub pairs-nil : {X : Type 0} (R : X → X → Type 0) → AllPairs R []
-pairs-nil R i j d less within = absurd (omega (arith, within))
 
 pub four-rising : {X : Type 0} (f : X → ℕ) (a b c d : X) → f a < f b → f b < f c → f c < f d → AllPairs (λ x y. f x < f y) (a ∷ b ∷ c ∷ d ∷ [])
 four-rising f a b c d ab bc cd =
@@ -33,13 +30,6 @@ rising-append f (x ∷ xs) ys n old new below above =
     (λ k d within. old zero (suc k) d (omega arith) (omega (arith, within)))
     (All-weaker (λ y. n ≤ f y) (λ y. f x < f y) (λ y h. let first : f x < n = All-head (λ z. f z < n) x xs below in omega (arith, first, h)) ys above))
     (rising-append f xs ys n (pairs-tail (λ x y. f x < f y) x xs old) new (All-tail (λ z. f z < n) x xs below) above)
-
-pub pairs-map : {X Y : Type 0} (f : X → Y) (R : Y → Y → Type 0) (xs : List X) → AllPairs (λ x y. R (f x) (f y)) xs → AllPairs R (map f xs)
-pairs-map f R [] h = pairs-nil R
-pairs-map f R (x ∷ xs) h =
-    pairs-cons R (f x) (map f xs)
-    (All-map (R (f x)) f xs (λ k d within. h zero (suc k) d (omega arith) (omega (arith, within))))
-    (pairs-map f R xs (pairs-tail (λ x y. R (f x) (f y)) x xs h))
 
 -- ---- back along a map
 

@@ -40,6 +40,7 @@ use Rattle.layout_solver.specs.declared.removing.RemoveStop.{RemoveStop}
 use Rattle.layout_solver.specs.declared.removing.RemoveStop.TheVariants as removal
 use Rattle.session_undo.specs.declared.reply.Refusal.{Refusal}
 use Rattle.session_undo.specs.declared.reply.Refusal.TheVariants as refusal
+use Rattle.session_undo.specs.declared.row_numbers.TheConstants.{SIZE_ROWS, VIEW_ROWS}
 use Rattle.session_undo.specs.Attributes.{IsNextLine}
 use Rattle.session_undo.specs.Items.{has_size, suggestion_of, view_items}
 use Rattle.session_undo.specs.Moving.{AreChangesFor}
@@ -124,7 +125,7 @@ abbrev pub views_draft : Scene → ViewTree → ℕ → ℕ → Scene
 views_draft old tree id count = record old {
   tree = tree;
   held = old.held ++ view_items old.next_row id count;
-  next_row = old.next_row + 2 * count;
+  next_row = old.next_row + VIEW_ROWS * count;
   stays = moved old.stays old.values ++ new_stays_from id count;
 }
 
@@ -147,7 +148,7 @@ pub record IsFreeView (old : State) (name parent : List ℕ) (new : ViewTree) (i
   pub short : length name ≤ NAME_LIMIT
   pub room : HasAllViews old → ⊥
   pub high : IsDeep old.scene.tree parent → ⊥
-  pub rows : IsCrowded old 2 → ⊥
+  pub rows : IsCrowded old VIEW_ROWS → ⊥
   pub tree_is : new ≡ tree.with_view old.scene.tree name above.id
   pub id_is : id ≡ old.scene.tree.next
 
@@ -159,7 +160,7 @@ pub record IsFreeTree (old : State) (text : List ℕ) (new : ViewTree) (id count
   pub goes : GoesIn old.scene.tree tree parent
   pub free : AreFree old.scene.tree old.scene.metrics [] (names tree.branch)
   pub within : IsWithin old.scene.tree parent tree.branch
-  pub rows : IsCrowded old (2 * size tree.branch) → ⊥
+  pub rows : IsCrowded old (VIEW_ROWS * size tree.branch) → ⊥
   pub tree_is : new ≡ with_branch old.scene.tree parent tree.branch
   pub id_is : id ≡ old.scene.tree.next
   pub count_is : count ≡ size tree.branch
@@ -175,7 +176,7 @@ pub record IsFreeMetric (old : State) (name : List ℕ) (value : Fraction) (new 
 
 -- there is room for this size of the window
 pub record IsFreeSize (old : State) (width height : Fraction) : Type 0 where
-  pub room : (has_size old.scene.held ≡ false) × IsCrowded old 2 → ⊥
+  pub room : (has_size old.scene.held ≡ false) × IsCrowded old SIZE_ROWS → ⊥
   pub near : IsFarSize old.scene.held width height → ⊥
 
 -- the view of this name is not the window, and these go with it

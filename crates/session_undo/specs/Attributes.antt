@@ -15,9 +15,9 @@ abbrev pub view_attributes : ℕ → List ℕ
 view_attributes id = left_of id ∷ top_of id ∷ width_of id ∷ height_of id ∷ []
 
 -- those of all views, in order
-abbrev pub attributes_of : List LiveView → List ℕ
-attributes_of [] = []
-attributes_of (v ∷ views) = view_attributes v.id ++ attributes_of views
+abbrev pub all_attributes : List LiveView → List ℕ
+all_attributes [] = []
+all_attributes (v ∷ views) = view_attributes v.id ++ all_attributes views
 
 -- those of so many views, of which the first has this number: that of each later one is 1 more
 abbrev pub attributes_from : ℕ → ℕ → List ℕ
@@ -57,14 +57,14 @@ AreNumberedFrom n (f ∷ forms) = (f.id ≡ n) × AreNumberedFrom (n + 1) forms
 pub record IsNextLine (views : List LiveView) (next : ℕ) (line : CompiledLine) : Type 0 where
   pub numbers : AreNumberedFrom next line.rows
   pub ranks : All (λ f. 0 < f.rank) line.rows
-  pub attributes : All (λ f. All (λ t. Contains (attributes_of views) t.attr) f.terms) line.rows
+  pub attributes : All (λ f. All (λ t. Contains (all_attributes views) t.attr) f.terms) line.rows
   pub owned : AreOwned views line
 
 -- there are so many views more, whose numbers go up one by one from this one, and are above all others
 pub record IsGrown (old new : List LiveView) (id count : ℕ) : Type 0 where
   pub more : List LiveView
   pub are : new ≡ old ++ more
-  pub attributes : attributes_of more ≡ attributes_from id count
+  pub attributes : all_attributes more ≡ attributes_from id count
   pub above : All (λ v. v.id < id) old
   pub few : length new ≤ VIEW_LIMIT
   pub small : id + count ≤ ID_LIMIT
@@ -72,7 +72,7 @@ pub record IsGrown (old new : List LiveView) (id count : ℕ) : Type 0 where
 -- the stays are those of the views' attributes, and the rows, which aren't too many, have numbers below the
 -- next one and ranks above 0
 pub record IsCounted (views : List LiveView) (next_row : ℕ) (problem : Problem) : Type 0 where
-  pub stays : map (λ s. s.attr) problem.stays ≡ attributes_of views
+  pub stays : map (λ s. s.attr) problem.stays ≡ all_attributes views
   pub below : All (λ r. r.id < next_row) problem.rows
   pub ranks : All (λ r. 0 < r.rank) problem.rows
   pub few : length problem.rows ≤ MOST_ROWS

@@ -18,5 +18,5 @@ abbrev pub AreFindingsOf : Scene → Findings → Type 0
 AreFindingsOf scene f = AreFindings (problem_of scene) scene.values f
 
 -- a probe of this attribute stops so
-abbrev pub IsProbedStop : Scene → ℕ → ℕ × DiagnoseStop → Type 0
-IsProbedStop scene budget stop = (l : Layout) × IsLayoutOf scene l × IsStopAt l budget stop
+abbrev pub IsProbedStop : Scene → ℕ → ℕ → DiagnoseStop → Type 0
+IsProbedStop scene budget attr stop = (l : Layout) × IsLayoutOf scene l × IsStopAt l budget attr stop

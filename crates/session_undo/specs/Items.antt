@@ -13,6 +13,7 @@ use Rattle.script_text.specs.declared.words.AttrWord.TheVariants as attr
 use Rattle.constraint_compile.specs.Compiled.{CompiledLine, AreRowsNow, AreSmallForms}
 use Rattle.constraint_compile.specs.Suggestions.{suggested_row}
 use Rattle.constraint_compile.specs.declared.suggestion.Suggestion.{Suggestion}
+use Rattle.session_undo.specs.declared.row_numbers.TheConstants.{VIEW_ROWS}
 
 -- the window, whose left and top are 0 and whose width and height are at least 0; a view, whose width and
 -- height are at least 0, with the number of its first row and its own; the window's width and height, with
@@ -33,16 +34,16 @@ view_rows first_row id =
     ∷ required_row (first_row + 1) (height_of id) Ge zero_fraction ∷ []
 
 -- the rows of so many views, of which the first has these numbers of its first row and its own: those of each
--- later one are 2 and 1 more
+-- later one are `VIEW_ROWS` and 1 more
 abbrev pub rows_of_views : ℕ → ℕ → ℕ → List Row
 rows_of_views first_row id zero = []
 rows_of_views first_row id (suc count) =
-    view_rows first_row id ++ rows_of_views (first_row + 2) (id + 1) count
+    view_rows first_row id ++ rows_of_views (first_row + VIEW_ROWS) (id + 1) count
 
 -- these views
 abbrev pub view_items : ℕ → ℕ → ℕ → List Item
 view_items first_row id zero = []
-view_items first_row id (suc count) = OfView first_row id ∷ view_items (first_row + 2) (id + 1) count
+view_items first_row id (suc count) = OfView first_row id ∷ view_items (first_row + VIEW_ROWS) (id + 1) count
 
 abbrev pub size_rows : ℕ → Fraction → Fraction → List Row
 size_rows first_row width height =

@@ -20,7 +20,7 @@ use Rattle.constraint_compile.specs.Suggestions.{IsSuggestion}
 use Rattle.session_undo.specs.Items.{Item, Size, OfWindow, OfView, Sized, OfLine, Suggested}
 use Rattle.session_undo.specs.Items.{AreItemRows, AreRows}
 use Rattle.session_undo.specs.Scene.{History, Scene, Limits, State, problem_of}
-use Rattle.session_undo.specs.Attributes.{AreOwned, IsCounted, MayBeAdded, attributes_of}
+use Rattle.session_undo.specs.Attributes.{AreOwned, IsCounted, MayBeAdded, all_attributes}
 use Rattle.session_undo.specs.declared.limits.TheConstants.{EARLIER, MOST_ROWS}
 use Rattle.problem_core.specs.declared.limits.TheConstants.{NUMBER_LIMIT}
 use Rattle.view_tree.specs.declared.limits.TheConstants.{ID_LIMIT, VIEW_LIMIT}
@@ -116,7 +116,7 @@ pub record IsNextItem (scene : Scene) (item : Item) (more : List Row) : Type 0 w
   pub own : AreItemRows scene.metrics item more
   pub is : IsItem item
   pub named : IsNamed scene.tree.views item
-  pub may : MayBeAdded (attributes_of scene.tree.views) scene.next_row more
+  pub may : MayBeAdded (all_attributes scene.tree.views) scene.next_row more
   pub below : All (λ r. r.id < scene.next_row + length more) more
   pub ranks : All (λ r. 0 < r.rank) more
   pub room : length scene.rows + length more ≤ MOST_ROWS

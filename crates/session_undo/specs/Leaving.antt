@@ -6,6 +6,7 @@ use Rattle.problem_core.specs.declared.parts.Stay.{Stay}
 use Rattle.problem_core.specs.Layout.{Problem}
 use Rattle.view_tree.specs.Drops.{is_among}
 use Rattle.view_tree.specs.Drops as tree
+use Rattle.session_undo.specs.declared.row_numbers.TheConstants.{HEIGHT_ROW, LEFT_ROW, TOP_ROW, WIDTH_ROW}
 use Rattle.session_undo.specs.Attributes.{view_attributes}
 use Rattle.script_text.specs.declared.words.AttrWord.{AttrWord}
 use Rattle.session_undo.specs.Items.{Item, OfWindow, OfView, Sized, OfLine, Suggested, is_suggestion}
@@ -36,7 +37,7 @@ staying goes held = filter (λ item. not (goes item)) held
 -- ---- numbers of rows and of attributes
 
 abbrev pub item_numbers : Item → List ℕ
-item_numbers OfWindow = 1 ∷ 2 ∷ 3 ∷ 4 ∷ []
+item_numbers OfWindow = LEFT_ROW ∷ TOP_ROW ∷ WIDTH_ROW ∷ HEIGHT_ROW ∷ []
 item_numbers (OfView first_row id) = first_row ∷ (first_row + 1) ∷ []
 item_numbers (Sized first_row width height) = first_row ∷ (first_row + 1) ∷ []
 item_numbers (OfLine name line) = map (λ f. f.id) line.rows

@@ -41,9 +41,9 @@ use Rattle.constraint_compile.specs.declared.suggestion.Suggestion.{Suggestion}
 use Rattle.constraint_compile.specs.Compiled.{CompiledLine, IsFittingSum}
 use Rattle.constraint_compile.specs.Fractions.{plus, negated, IsConstant, IsSmallConstant}
 use Rattle.constraint_compile.specs.Stops.{IsCompiled, MayStop}
-use Rattle.constraint_compile.specs.FormatParts.{parts}
-use Rattle.constraint_compile.specs.FormatStops.{row_count}
-use Rattle.constraint_compile.specs.FormatRows.{IsCompiledFormat, MayStopFormat}
+use Rattle.constraint_compile.specs.Formats.FormatParts.{parts}
+use Rattle.constraint_compile.specs.Formats.FormatStops.{row_count}
+use Rattle.constraint_compile.specs.Formats.FormatRows.{IsCompiledFormat, MayStopFormat}
 use Rattle.constraint_compile.specs.declared.stops.CompileStop.{CompileStop}
 use Rattle.constraint_compile.specs.declared.stops.CompileStop.TheVariants as stop
 use Rattle.name_tables.specs.declared.metrics.TheConstants.{METRIC_LIMIT}
@@ -51,6 +51,7 @@ use Rattle.name_tables.specs.declared.stops.TheConstants.{NAME_LIMIT}
 use Rattle.problem_core.specs.declared.limits.TheConstants.{NUMBER_LIMIT}
 use Rattle.view_tree.specs.declared.limits.TheConstants.{DEPTH_LIMIT, ID_LIMIT}
 use Rattle.session_undo.specs.declared.limits.TheConstants.{BUDGET_LIMIT}
+use Rattle.session_undo.specs.declared.row_numbers.TheConstants.{SIZE_ROWS, VIEW_ROWS}
 use Rattle.session_undo.specs.Items.{IsSmallItem, Item, Size, line_count, has_size, size_of, without_constant}
 use Rattle.session_undo.specs.Items.{suggestion_of}
 use Rattle.session_undo.specs.Scene.{Scene, State, with_view, with_metric, with_window, with_line, problem_of}
@@ -106,6 +107,10 @@ pub record IsSolved (scene draft : Scene) (budget : ℕ) (path : Path) (new : Sc
   pub start : Start
   pub begins : IsStart scene new.rows start
   pub run : IsRunFrom start (problem_of new) budget path new.values
+
+-- some path leads to it
+abbrev pub HasSolved : Scene → Scene → ℕ → Scene → Type 0
+HasSolved scene draft budget new = (path : Path) × IsSolved scene draft budget path new
 
 -- the run to the draft stops so
 pub record IsStopped (scene draft : Scene) (budget : ℕ) (stop : RunStop) : Type 0 where
@@ -228,7 +233,7 @@ pub record ProbeOverflows (old : State) (reply : Reply) (new : State) : Type 0 w
   pub attr : ℕ
   pub up : Bool
   pub at : UnfitPath
-  pub stopped : IsProbedStop old.scene old.budget (attr, probed.Unfit up at)
+  pub stopped : IsProbedStop old.scene old.budget attr (probed.Unfit up at)
   pub refused : Keeps (Overflow (Probe attr up) at.path at.quantity) old reply new
 
 -- a probe's path has just the budget's exchanges, and its last corner is no end
@@ -236,14 +241,14 @@ pub record ProbeSpends (old : State) (reply : Reply) (new : State) : Type 0 wher
   pub attr : ℕ
   pub up : Bool
   pub path : Path
-  pub stopped : IsProbedStop old.scene old.budget (attr, probed.Spent up path)
+  pub stopped : IsProbedStop old.scene old.budget attr (probed.Spent up path)
   pub refused : Keeps (Spent (Probe attr up) path) old reply new
 
 -- the value that a probe wishes doesn't fit
 pub record LacksTarget (old : State) (reply : Reply) (new : State) : Type 0 where
   pub attr : ℕ
   pub up : Bool
-  pub stopped : IsProbedStop old.scene old.budget (attr, probed.Target up)
+  pub stopped : IsProbedStop old.scene old.budget attr (probed.Target up)
   pub refused : Keeps (NoTarget attr up) old reply new
 
 -- what is found of the scene is told, or why a probe stops
@@ -331,7 +336,7 @@ TriedView old name parent End =
     (Unless (NAME_LIMIT < length name) (Limit word.Name) old
     (Unless (HasAllViews old) (Limit word.Views) old
     (Unless (IsDeep old.scene.tree parent) (Limit word.Depth) old
-    (Unless (IsCrowded old 2) (Limit word.Rows) old
+    (Unless (IsCrowded old VIEW_ROWS) (Limit word.Rows) old
     (AddsView old name parent End))))))
 
 -- the tree of JSON text has another shape
@@ -342,7 +347,7 @@ IsMisshapen text = (d : Data) × IsJson text d × (tree_of d ≡ None)
 abbrev pub TriedBranch : State → ℕ → Branch → (Scene → Reply → State → Type 0) → Reply → State → Type 0
 TriedBranch old parent b End =
     UnlessAny (PassesTreeLimit old.scene.tree parent b) Limit old
-    (Unless (IsCrowded old (2 * size b)) (Limit word.Rows) old
+    (Unless (IsCrowded old (VIEW_ROWS * size b)) (Limit word.Rows) old
     (End (with_branch old.scene parent b)))
 
 abbrev pub AddsBranch : State → JsonTree → (Scene → Reply → State → Type 0) → Reply → State → Type 0
@@ -374,7 +379,7 @@ TriedMetric old name value End =
 abbrev pub TriedWindow : State → Fraction → Fraction → (Scene → Reply → State → Type 0) → Reply → State
     → Type 0
 TriedWindow old width height End =
-    Unless ((has_size old.scene.held ≡ false) × IsCrowded old 2) (Limit word.Rows) old
+    Unless ((has_size old.scene.held ≡ false) × IsCrowded old SIZE_ROWS) (Limit word.Rows) old
     (Unless (IsFarSize old.scene.held width height) (Limit word.Constant) old
     (End (with_window old.scene width height)))
 

@@ -22,6 +22,7 @@ use Rattle.session_undo.specs.Items.{Item, OfWindow, OfView, Sized, OfLine, Sugg
 use Rattle.session_undo.specs.Items.{resized, suggested_again, view_items}
 use Rattle.session_undo.specs.Attributes.{attributes_from}
 use Rattle.session_undo.specs.declared.limits.TheConstants.{EARLIER, FIRST_BUDGET, MOST_LINES, MOST_ROWS}
+use Rattle.session_undo.specs.declared.row_numbers.TheConstants.{FIRST_FREE_ROW, SIZE_ROWS, VIEW_ROWS}
 
 -- the views, the metrics in order of definition, what is held in order of acceptance, the number that the
 -- next row takes, the rows by rising number, the stays, and the values by their attributes' numbers
@@ -56,6 +57,10 @@ pub record State : Type 0 where
 abbrev pub with_earlier : Scene → List Scene → List Scene
 with_earlier scene earlier = take EARLIER (scene ∷ earlier)
 
+-- after a step the earlier scenes are these
+abbrev pub Remembers : History → History → Type 0
+Remembers old new = new.earlier ≡ with_earlier old.scene old.earlier
+
 abbrev pub problem_of : Scene → Problem
 problem_of scene = record { rows = scene.rows; stays = scene.stays }
 
@@ -86,7 +91,7 @@ abbrev pub with_view : Scene → List ℕ → ℕ → Scene
 with_view old name parent = record old {
   tree = tree.with_view old.tree name parent;
   held = old.held ++ OfView old.next_row old.tree.next ∷ [];
-  next_row = old.next_row + 2;
+  next_row = old.next_row + VIEW_ROWS;
   stays = moved old.stays old.values ++ new_stays old.tree.next;
 }
 
@@ -95,7 +100,7 @@ abbrev pub with_branch : Scene → ℕ → Branch → Scene
 with_branch old parent b = record old {
   tree = branches.with_branch old.tree parent b;
   held = old.held ++ view_items old.next_row old.tree.next (size b);
-  next_row = old.next_row + 2 * size b;
+  next_row = old.next_row + VIEW_ROWS * size b;
   stays = moved old.stays old.values ++ new_stays_from old.tree.next (size b);
 }
 
@@ -115,7 +120,7 @@ held_with_size false n width height held = held ++ Sized n width height ∷ []
 held_with_size true n width height held = resized width height held
 
 abbrev pub next_with_size : Bool → ℕ → ℕ
-next_with_size false n = n + 2
+next_with_size false n = n + SIZE_ROWS
 next_with_size true n = n
 
 abbrev pub with_window : Scene → Fraction → Fraction → Scene
@@ -178,7 +183,7 @@ first_scene = record {
   tree = record { views = window ∷ []; next = 1 };
   metrics = [];
   held = OfWindow ∷ [];
-  next_row = 5;
+  next_row = FIRST_FREE_ROW;
   rows = structural_rows;
   stays = new_stays 0;
   values = new_values 0;

@@ -18,19 +18,21 @@
 //! (`specs/Machine.antt`): which causes refuse a command, in their order, and what scene an accepted one
 //! leads to.
 //!
-//! What a [`Scene`] keeps (`IsKeptHistory`): the engine's problem is that of the rows of what is held, at
+//! Invariant of a [`Scene`] (`IsKeptHistory`): the engine's problem is that of the rows of what is held, at
 //! this scene and at each earlier one that is kept; and so its values are best (`layout_solver`).
 //!
-//! In reading order: `reply`, `limits`, `changes`; `item` is what is held, with `rows` (its rows), `coming`,
-//! `leaving`, `moving` and `suggesting` (what a change does to it); `scene` is what it comes to, with `past`
-//! (earlier scenes), `frames`, `values`, `drafts` (problems that no engine has taken), `problems` (those of a
-//! scene's changes), `solving` (the engine's changes) and `steps` (the scene's); then `session`.
+//! In reading order: `reply`, `limits`, `row_numbers`, `changes`; `item` is what is held, with `rows` (its
+//! rows), `coming`, `leaving`, `moving` and `suggesting` (what a change does to it); `scene` is what it comes
+//! to, with `past` (earlier scenes), `frames`, `values`, `drafts` (problems that no engine has taken),
+//! `problems` (those of a scene's changes), `solving` (the engine's changes) and `steps` (the scene's); then
+//! `session`.
 #![tactic(auto)]
 
 mod changes;
 mod item;
 mod limits;
 mod reply;
+mod row_numbers;
 mod scene;
 mod session;
 

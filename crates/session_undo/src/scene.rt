@@ -18,14 +18,15 @@ ghost use Rattle.session_undo.specs.Scene.{new_stays};
 
 use crate::changes::is_near_size;
 use crate::item::leaving::has_group;
-use crate::item::rows::window_rows;
+use crate::item::rows::structural_rows;
 use crate::item::suggesting::suggestion_of;
 use crate::item::{Item, WindowSize, has_size, line_count, size_of};
 use crate::limits::{EARLIER, FIRST_BUDGET};
+use crate::row_numbers::FIRST_FREE_ROW;
 use crate::scene::frames::{frame_of, place_of};
 use crate::scene::past::Past;
 use constraint_compile::Suggestion;
-use diagnosis::{DiagnoseStop, Diagnosis, diagnose};
+use diagnosis::{Diagnosis, Stopped, diagnose};
 use frac_core::{Frac, OutOfMemory};
 use layout_solver::Engine;
 use name_tables::Metrics;
@@ -84,7 +85,7 @@ fn first_engine(alloc: Global) -> Result<Engine, OutOfMemory>
     ensures earlier { IfOk result (λ engine. engine.earlier ≡ []) }
 {
     let mut engine = Engine::new(alloc)?;
-    let rows = window_rows(alloc)?;
+    let rows = structural_rows(alloc)?;
     // The first run needs no exchange, and all numbers fit, so it is memory that is wanting.
     let Ok(()) = engine.add(&[1, 2, 3, 4], &rows, FIRST_BUDGET) else {
         return Err(OutOfMemory);
@@ -126,7 +127,7 @@ impl Scene {
             tree,
             metrics,
             items,
-            next_row: 5,
+            next_row: FIRST_FREE_ROW,
             engine,
             pasts,
             alloc,
@@ -231,9 +232,9 @@ impl Scene {
 
     /// All that the layout lacks and leaves open. The scene is as before. A stop comes with the number of the
     /// attribute whose probe stopped.
-    pub fn diagnose(&mut self, budget: u64) -> Result<Diagnosis, (u32, DiagnoseStop)>
+    pub fn diagnose(&mut self, budget: u64) -> Result<Diagnosis, Stopped>
         ensures found { IfOk result (λ d. AreFindingsOf self.old.scene (findings_of d)) }
-        ensures stop { IfErr result (IsProbedStop self.old.scene budget) }
+        ensures stop { IfErr result (λ s. IsProbedStop self.old.scene budget s.attr s.stop) }
         ensures same { self.new ≡ self.old }
     {
         self.engine.show_layout(); // for the proof: what an engine keeps

@@ -2,6 +2,7 @@
 ghost use Rattle.std.specs.Prelude.{◌≡◌, ◌<◌, ◌≤◌, ◌⊎◌, true, false, length, None, IsSome};
 ghost use Rattle.std.specs.Prelude.{Option, Some, ℕ, IfOk, IfErr, IfSome, IfNone, OnOk, OnErr};
 ghost use Rattle.session_undo.specs.declared.limits.TheConstants.{BUDGET_LIMIT};
+ghost use Rattle.session_undo.specs.declared.row_numbers.TheConstants.{SIZE_ROWS};
 
 use crate::changes::{fits_after, parent_or_window, put_metric};
 use crate::item::WindowSize;
@@ -10,6 +11,7 @@ use crate::item::rows::small_line_rows;
 use crate::item::suggesting::{NewSuggestion, suggestion_name};
 use crate::limits::{BUDGET_LIMIT, FIRST_BUDGET, FIRST_LIMITS, Limits};
 use crate::reply::{NoEarlier, Refusal, Reply, answer_of, left_answer, probe_refusal};
+use crate::row_numbers::{SIZE_ROWS, VIEW_ROWS};
 use crate::scene::Scene;
 use crate::scene::values::values_of;
 use constraint_compile::{
@@ -76,7 +78,7 @@ impl Session {
     ghost use Rattle.view_tree.specs.Views.{view_of};
     ghost use Rattle.constraint_compile.specs.Compiled.{AreRowsNow, AreSmallForms};
     ghost use Rattle.constraint_compile.specs.Stops.{IsCompiled};
-    ghost use Rattle.constraint_compile.specs.FormatRows.{IsCompiledFormat};
+    ghost use Rattle.constraint_compile.specs.Formats.FormatRows.{IsCompiledFormat};
     ghost use Rattle.session_undo.specs.Attributes.{IsGrown, IsNextLine};
     ghost use Rattle.session_undo.specs.Frames.{IsFrameOf};
     ghost use Rattle.session_undo.specs.Scene.{first_state, with_line, with_window, with_metric};
@@ -180,7 +182,7 @@ impl Session {
             Err(TreeStop::Unknown(_)) => unreachable!(),
             Err(TreeStop::Syntax | TreeStop::Shape) => unreachable!(),
         };
-        if self.is_crowded(2) {
+        if self.is_crowded(VIEW_ROWS as usize) {
             return Err(Refusal::Limit(LimitWord::Rows));
         }
         let _after = tree.len(); // for the proof: what a tree keeps
@@ -213,7 +215,7 @@ impl Session {
             Err(TreeStop::OutOfMemory) => return Err(Refusal::OutOfMemory),
         };
         let _after = tree.len(); // for the proof: what a tree keeps
-        if self.is_crowded(2 * count as usize) {
+        if self.is_crowded(VIEW_ROWS as usize * count as usize) {
             return Err(Refusal::Limit(LimitWord::Rows));
         }
         // The tree has at least one view.
@@ -322,10 +324,11 @@ impl Session {
 
     // Whether the window has no size, and there is no room for the rows of one.
     fn has_no_room_for_size(&self) -> bool
-        ensures yes { result ≡ true → (has_size self.now.scene.held ≡ false) × IsCrowded self.now 2 }
-        ensures no { result ≡ false → (has_size self.now.scene.held ≡ false) × IsCrowded self.now 2 → ⊥ }
+        ensures yes { result ≡ true → (has_size self.now.scene.held ≡ false) × IsCrowded self.now SIZE_ROWS }
+        ensures no { result ≡ false
+            → (has_size self.now.scene.held ≡ false) × IsCrowded self.now SIZE_ROWS → ⊥ }
     {
-        !self.scene.has_size() && self.is_crowded(2)
+        !self.scene.has_size() && self.is_crowded(SIZE_ROWS as usize)
     }
 
     // The limit that a further line of this group would pass, rows left out.
@@ -782,7 +785,7 @@ impl Session {
     {
         match self.scene.diagnose(self.budget) {
             Ok(found) => Ok(Reply::Diagnosed(found)),
-            Err((attr, stop)) => Err(probe_refusal(attr, stop)),
+            Err(stopped) => Err(probe_refusal(stopped.attr, stopped.stop)),
         }
     }
 

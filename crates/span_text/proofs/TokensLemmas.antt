@@ -154,7 +154,7 @@ abbrev pub table_outside : {K : Type 0} → (ℕ → Bool) → List (List ℕ ×
 table_outside d [] = false
 table_outside d (w ∷ ws) = word_outside d w.0
 
-not_true : (b : Bool) → not b ≡ true → b ≡ false
+pub not_true : (b : Bool) → not b ≡ true → b ≡ false
 not_true true e = absurd cc
 not_true false e = refl
 

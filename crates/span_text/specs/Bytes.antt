@@ -94,6 +94,9 @@ lower_a = 97
 abbrev pub lower_i : ℕ
 lower_i = 105
 
+abbrev pub lower_s : ℕ
+lower_s = 115
+
 abbrev pub lower_w : ℕ
 lower_w = 119
 

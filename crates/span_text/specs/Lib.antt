@@ -1,16 +1,12 @@
 pub mod Bytes
 pub mod Classes
-pub mod Cutting
+pub mod TextCuts
 pub mod Digits
 pub mod Gives
 pub mod GivesOrMemory
 pub mod Language
-pub mod Lines
 pub mod Loops
 pub mod Multiples
-pub mod NextTokens
 pub mod Objects
 pub mod Reading
-pub mod Slices
 pub mod Tokens
-pub mod Words

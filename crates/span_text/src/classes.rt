@@ -2,12 +2,14 @@
 ghost use Rattle.std.specs.Prelude.{◌≡◌};
 ghost use Rattle.span_text.specs.Classes as class;
 
+/// A space or a tab.
 pub fn is_space(b: u8) -> bool
     ensures { result ≡ class.is_space b }
 {
     b == b' ' || b == b'\t'
 }
 
+/// A digit from 0 to 9.
 pub fn is_digit(b: u8) -> bool
     ensures { result ≡ class.is_digit b }
 {

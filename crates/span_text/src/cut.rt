@@ -1,7 +1,7 @@
 // A script cut into lines, and a line cut into tokens.
 ghost use Rattle.std.specs.Prelude.{◌≡◌};
 ghost use Rattle.std.specs.Str.Lines.{lines};
-ghost use Rattle.span_text.specs.Lines.{lines_left};
+ghost use Rattle.span_text.specs.TextCuts.Lines.{lines_left};
 
 use crate::line::Lines;
 use crate::token::Tokens;

@@ -8,14 +8,16 @@
 //! pieces::literal(b"in", b"if")                     // Err(1): no text goes on at the last byte
 //! ```
 //!
-//! A reader takes a text and gives what it read with the rest, which is never longer. An error is the count
-//! of the bytes that are left where no text of the grammar goes on, so of two errors the smaller one came
-//! further.
+//! A reader takes a text and gives what it read with the rest. An error is the count of the bytes that are
+//! left where no text of the grammar goes on, so of two errors the smaller one came further.
 //!
-//! In reading order: `line` (the lines of a script), `cut` and `token` (the tokens of a line, more coarsely
-//! than any grammar), `word` (its first word); `stop` (why a part wasn't read), `limits` (of numbers),
-//! `classes` (of bytes), `pieces` (the smallest readers), `numbers`, `names`, `multiples` (a number or a
-//! ratio), `object` (a number or a name).
+//! What every reader keeps: it gives what the grammar in `specs/` gives of the same text, and the rest is
+//! never longer than that text. [`Lines`] and [`Tokens`] hand out their slices in the order of the text.
+//!
+//! In reading order: `line` (the lines of a script), `classes` (of bytes), `pieces` (the smallest readers),
+//! `token` and `cut` (the tokens of a line, more coarsely than any grammar), `word` (its first word); `stop`
+//! (why a part wasn't read), `limits` (of numbers), `names`, `numbers`, `multiples` (a number or a ratio),
+//! `object` (a number or a name).
 #![tactic(auto)]
 
 mod classes;
@@ -32,7 +34,7 @@ mod token;
 mod word;
 
 pub use cut::{lines, tokens};
-pub use limits::{DECIMALS, NUMBER_DIGITS, RATIO_DIGITS, UNIT, WHOLE_DIGITS};
+pub use limits::{DECIMALS, HUNDREDTH, NUMBER_DIGITS, RATIO_DIGITS, TENTH, UNIT, WHOLE_DIGITS};
 pub use line::{Line, Lines};
 pub use multiples::{Multiple, number_or_ratio};
 pub use object::Object;

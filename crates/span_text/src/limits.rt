@@ -3,6 +3,12 @@
 /// One, in thousandths.
 pub const UNIT: u32 = 1000;
 
+/// What the first digit behind a point counts, in thousandths.
+pub const TENTH: u32 = 100;
+
+/// What the second digit behind a point counts, in thousandths.
+pub const HUNDREDTH: u32 = 10;
+
 /// How many digits a number may have in front of its point.
 pub const NUMBER_DIGITS: usize = 6;
 

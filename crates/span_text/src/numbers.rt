@@ -7,7 +7,7 @@ ghost use Rattle.span_text.specs.Tokens.{below_at, number_bound, ratio_at};
 ghost use Rattle.span_text.specs.declared.limits.TheConstants.{DECIMALS, NUMBER_DIGITS, RATIO_DIGITS};
 ghost use Rattle.span_text.specs.declared.limits.TheConstants.{UNIT, WHOLE_DIGITS};
 
-use crate::limits::{DECIMALS, NUMBER_DIGITS, RATIO_DIGITS, UNIT, WHOLE_DIGITS};
+use crate::limits::{DECIMALS, HUNDREDTH, NUMBER_DIGITS, RATIO_DIGITS, TENTH, UNIT, WHOLE_DIGITS};
 use crate::{classes, names, pieces};
 
 // The value and the count of digits, and the text at once behind them.
@@ -57,8 +57,8 @@ fn in_thousandths(value: u64, count: usize) -> u32
 {
     match count {
         0 => value as u32 * UNIT,
-        1 => value as u32 * 100,
-        2 => value as u32 * 10,
+        1 => value as u32 * TENTH,
+        2 => value as u32 * HUNDREDTH,
         _ => value as u32,
     }
 }

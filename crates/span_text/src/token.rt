@@ -3,7 +3,7 @@ ghost use Rattle.std.specs.Prelude.{◌≡◌, ◌<◌, ◌≤◌, ◌-◌, leng
 ghost use Rattle.std.specs.Str.{IsCharBoundary};
 ghost use Rattle.span_text.specs.Reading.{back, starts};
 ghost use Rattle.span_text.specs.Classes.{is_space, is_word};
-ghost use Rattle.span_text.specs.Cutting.{IsToken, IsOther, begins_relation};
+ghost use Rattle.span_text.specs.TextCuts.Cutting.{IsToken, IsOther, begins_relation};
 
 use crate::pieces;
 
@@ -26,7 +26,7 @@ pub struct Tokens<'a> {
 
 impl<'a> Iterator for Tokens<'a> {
     ghost use Rattle.std.specs.Iterator.{at_most};
-    ghost use Rattle.span_text.specs.NextTokens.{NextToken};
+    ghost use Rattle.span_text.specs.TextCuts.NextTokens.{NextToken};
 
     type Item = Token<'a>;
 

@@ -15,6 +15,7 @@ use std::alloc::Global;
 use std::collections::VecDeque;
 use std::mem;
 
+/// What going back to one mark needs: the elements that were replaced since, and those that left.
 #[derive(Drop)]
 pub struct Log<T> {
     // How many of the elements of now have a place that the mark had, too: the first ones.
@@ -52,7 +53,7 @@ impl<T> Log<T> {
     }
 }
 
-// Whether going back restores the place `at` already, or drops it.
+/// Whether going back restores the place `at` already, or drops it.
 pub fn is_kept<T>(logs: &VecDeque<Log<T>>, slot: usize, at: usize) -> bool
     ensures kept { IsTrue result → (items : List T) (value : T)
         → versions (slice_set items at value) logs.now.items ≡ versions items logs.now.items }
@@ -64,7 +65,7 @@ pub fn is_kept<T>(logs: &VecDeque<Log<T>>, slot: usize, at: usize) -> bool
     }
 }
 
-// Puts `value` at a place, and what was there into the log.
+/// Puts `value` at a place, and what was there into the log.
 pub fn replace_at<T: Drop>(
     log: &mut Log<T>,
     items: &mut Vec<T>,
@@ -98,7 +99,7 @@ pub fn replace_at<T: Drop>(
     Ok(())
 }
 
-// Puts a clone in the place of an element that going back needs, so that the place may be written.
+/// Puts a clone in the place of an element that going back needs, so that the place may be written.
 pub fn own<T: Clone + Drop>(
     logs: &mut VecDeque<Log<T>>,
     items: &mut Vec<T>,
@@ -143,7 +144,7 @@ fn old_log<T: Drop>(logs: &mut VecDeque<Log<T>>, spare: &mut Option<Log<T>>) -> 
     mem::replace(spare, None)
 }
 
-// An empty log, with memory that there is.
+/// An empty log, with memory that there is.
 pub fn empty_log<T: Drop>(
     logs: &mut VecDeque<Log<T>>,
     spare: &mut Option<Log<T>>,
@@ -167,7 +168,7 @@ pub fn empty_log<T: Drop>(
     }
 }
 
-// Whether a place came after the newest mark.
+/// Whether a place came after the newest mark.
 pub fn is_past<T>(logs: &VecDeque<Log<T>>, at: usize) -> bool
     ensures items { IsTrue result → (items : List T)
         → versions (remove items at) logs.now.items ≡ versions items logs.now.items }
@@ -181,7 +182,7 @@ pub fn is_past<T>(logs: &VecDeque<Log<T>>, at: usize) -> bool
     }
 }
 
-// Takes the element at a place out, and puts it into the log.
+/// Takes the element at a place out, and puts it into the log.
 pub fn take_out<T: Drop>(
     log: &mut Log<T>,
     items: &mut Vec<T>,
@@ -213,7 +214,7 @@ pub fn take_out<T: Drop>(
     Ok(())
 }
 
-// Gives back the elements that the log has, the last one first, and drops those that came after the mark.
+/// Gives back the elements that the log has, the last one first, and drops those that came after the mark.
 pub fn restore<T: Drop>(log: Log<T>, items: &mut Vec<T>, slots: &mut Vec<usize>)
     requires log { IsLogOf slots.old.items log }
     requires lengths { length slots.old.items ≡ length items.old.items }

@@ -15,8 +15,8 @@ use Rattle.span_text.proofs.PieceLemmas.{Lives, begins, Only, Never, or_answers,
 use Rattle.span_text.proofs.WordsLemmas.{words_answers, tried_reads}
 use Rattle.span_text.proofs.TokensLemmas.{words_never, bind_assoc, bind_cond, end_lives, blanks_lives, sign_lives, name_lives, number_lives, left_lives, right_lives, blanks_answers, sign_answers, name_answers, number_answers, lit_only, lit_never, one_only, one_never, or_only, or_never, end_never, words_only}
 use Rattle.span_text.proofs.Factors.{blanks_never}
-use Rattle.span_text.proofs.LoopLemmas.{loop_answers}
-use Rattle.span_text.proofs.BoundedLoops.{bounded_answers, bounded_loop_lives}
+use Rattle.span_text.proofs.Loops.LoopLemmas.{loop_answers}
+use Rattle.span_text.proofs.Loops.BoundedLoops.{bounded_answers, bounded_loop_lives}
 use Rattle.vfl_text.specs.declared.parts.Axis.{Axis}
 use Rattle.vfl_text.specs.declared.parts.Axis.TheVariants as axis
 use Rattle.vfl_text.specs.Formats.{PredMeaning, SpacingMeaning, Flush, Standard, Given, ItemMeaning, FormatMeaning}

@@ -8,8 +8,8 @@ use Rattle.span_text.specs.Tokens.{Blanks, Sign, Name, Number}
 use Rattle.span_text.specs.Loops.{Rounds, Loop}
 use Rattle.span_text.specs.Objects as object
 use Rattle.span_text.specs.Objects.{Meant}
-use Rattle.span_text.proofs.LoopLemmas.{Once}
-use Rattle.span_text.proofs.OnceLemmas.{OnceIn, once_go, once_end, once_or, once_sign, once_name, once_number, once_words, once_blanks}
+use Rattle.span_text.proofs.Loops.LoopLemmas.{Once}
+use Rattle.span_text.proofs.Loops.OnceLemmas.{OnceIn, once_go, once_end, once_or, once_sign, once_name, once_number, once_words, once_blanks}
 use Rattle.vfl_text.specs.Formats.{PredMeaning, SpacingMeaning, Flush, Standard, Given, ItemMeaning, FormatMeaning}
 use Rattle.vfl_text.specs.Grammar.{relations, Value, Object, pred, Priority, Ruled, Pred, PredRound, Preds, item, View, single, Spaced, Connection, with_item, with_end, Next, Round}
 

@@ -2,7 +2,6 @@
 use Rattle.std.proofs.Common.{◌≡◌, ℕ, zero, suc, pos, ◌+◌, ◌-◌, ◌*◌, ◌<◌, ◌≤◌, ◌^◌, true, List, [], ◌∷◌, ◌++◌, length, Option, Some, None, inl, inr, sym, subst, arith, length-append}
 use Rattle.std.specs.Prelude.{neg_ℤ}
 use Rattle.std.proofs.Math.Nat.{pow-succ', pow-le-pow_right, mul-le-mul_right}
-use Rattle.std.proofs.lemmas.Bool.Decides.{nat_tests}
 use Rattle.problem_core.specs.declared.parts.Rel as relation
 use Rattle.problem_core.specs.declared.parts.Rel.TheVariants as rel
 use Rattle.span_text.specs.Language.{Rel, Or, End, Words, AllIn}
@@ -18,6 +17,7 @@ use Rattle.vfl_text.specs.Formats.{PredMeaning, SpacingMeaning, Flush, Standard,
 use Rattle.vfl_text.specs.Grammar.{relations, Value, Object, pred, Priority, Ruled, Pred, PredRound, Preds, item, View, single, Spaced, Connection, with_item, with_end, Next, Round, Orientation, FromParent, started, FormatText}
 use Rattle.vfl_text.specs.Writable.{IsName, IsObject, IsValue, IsPred, ArePreds, IsSpacing, AreSpacings, IsEnd, AreItems, IsWritable}
 use Rattle.vfl_text.proofs.FormatTexts.{value_is_object}
+use Rattle.span_text.proofs.DigitLemmas.{digit_below as digit_small}
 
 -- A text of a construct whose value has the property, and what follows.
 abbrev Holds : {A B : Type 0} → (A → Type 0) → (A → Rel B) → B → Type 0
@@ -28,9 +28,6 @@ sign_holds c F s v (t, e, (x, u, f, a, n, h)) = (u, h)
 
 name_holds : {A : Type 0} (F : List ℕ → Rel A) (s : List ℕ) (v : A) → Name F s v → Holds IsName F v
 name_holds F s v (b, t, e, l, (x, u, f, a, n, (g, w, i, c, m, h))) = (b ∷ x, w, (l, a), h)
-
-digit_small : (b : ℕ) → is_digit b ≡ true → b - 48 < 10
-digit_small b e = grind (arith, nat_tests)
 
 digits_room : (a d p n : ℕ) → d < 10 → n < (10 * a + d + 1) * p → n < (a + 1) * (10 * p)
 digits_room a d p n le h = let m : (10 * a + d + 1) * p ≤ (10 * a + 10) * p = mul-le-mul_right p (omega arith) in omega arith

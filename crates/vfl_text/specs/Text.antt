@@ -9,7 +9,7 @@ use Rattle.span_text.specs.Bytes.{at_sign, bar, comma, digit_0, left_bracket, le
 use Rattle.span_text.specs.Bytes.{right_bracket, right_paren}
 use Rattle.span_text.specs.Objects as object
 use Rattle.span_text.specs.Objects.{Meant}
-use Rattle.span_text.specs.declared.limits.TheConstants.{UNIT}
+use Rattle.span_text.specs.declared.limits.TheConstants.{HUNDREDTH, TENTH, UNIT}
 use Rattle.vfl_text.specs.declared.parts.Axis.{Axis}
 use Rattle.vfl_text.specs.declared.parts.Axis.TheVariants as axis
 use Rattle.vfl_text.specs.Formats.{PredMeaning, SpacingMeaning, Flush, Standard, Given, ItemMeaning}
@@ -17,9 +17,9 @@ use Rattle.vfl_text.specs.Formats.{FormatMeaning}
 
 -- thousandths below one as decimals, the fewest there can be
 unfoldable pub decimals_text : ℕ → List ℕ
-decimals_text f = if f == 0 then [] else point ∷ (digit_0 + f / 100) ∷
-    (if f % 100 == 0 then [] else (digit_0 + f / 10 % 10) ∷
-    (if f % 10 == 0 then [] else (digit_0 + f % 10) ∷ []))
+decimals_text f = if f == 0 then [] else point ∷ (digit_0 + f / TENTH) ∷
+    (if f % TENTH == 0 then [] else (digit_0 + f / HUNDREDTH % 10) ∷
+    (if f % HUNDREDTH == 0 then [] else (digit_0 + f % HUNDREDTH) ∷ []))
 
 unfoldable pub number_text : ℕ → List ℕ
 number_text n = decimal (n / UNIT) ++ decimals_text (n % UNIT)

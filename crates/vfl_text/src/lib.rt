@@ -7,13 +7,15 @@
 //! read(alloc, "H:[a)")                          // Stop::Refused(SyntaxAt(4)): 4 bytes begin some format
 //! ```
 //!
-//! A text has one reading at most. A [`Format`] says what was written and no more: what a name stands for,
-//! and what the usual space is, `constraint_compile` says. Its names are slices of the text. Between its
-//! views it has one connection fewer than views.
+//! A [`Format`] says what was written and no more: what a name stands for, and what the usual space is,
+//! `constraint_compile` says. Its names are slices of the text.
+//!
+//! What [`read`] and [`write`] keep: a text has one reading at most, a format that was read has one
+//! connection fewer than views between its views, and its canonical text is read as that format again.
 //!
 //! In reading order: `parts` (what a format is made of), `preds` (sizes and spaces in parentheses), `views`
-//! (views and connections), `chain` (a whole format), `text` (a format and its text), `writer` (its
-//! canonical text).
+//! (views and connections), `chain` (a whole format), `writer` (its canonical text), `text` (a format and its
+//! text).
 #![tactic(auto)]
 
 mod chain;

@@ -47,7 +47,7 @@ pub fn value(text: &[u8]) -> Result<(Object<'_>, &[u8]), usize>
     }
 }
 
-/// A name or a number, which may be below 0, and the text behind it.
+// A name or a number, which may be below 0, and the text behind it.
 #[tactic(auto, unfolding(crate::specs::Reading::object_at))]
 fn object(text: &[u8]) -> Result<(Object<'_>, &[u8]), usize>
     ensures shorter { IfOk result (λ p. length p.1.now < length text.now) }
@@ -126,7 +126,7 @@ fn begins_with_relation(text: &[u8]) -> bool
     matches!(text, [b'<' | b'=' | b'>', ..])
 }
 
-/// A predicate, and the text behind it.
+// A predicate, and the text behind it.
 #[tactic(auto, unfolding(crate::specs::Reading::pred_at))]
 fn predicate(text: &[u8]) -> Result<(Pred<'_>, &[u8]), usize>
     ensures shorter { IfOk result (λ p. length p.1.now < length text.now) }

@@ -14,7 +14,7 @@ use crate::parts::{Axis, Format, Item, Pred, Spacing};
 use frac_core::OutOfMemory;
 use itoa::Buffer;
 use problem_core::Rel;
-use span_text::{Object, UNIT};
+use span_text::{HUNDREDTH, Object, TENTH, UNIT};
 use std::alloc::Global;
 
 fn digit(value: u32) -> u8
@@ -33,15 +33,15 @@ fn write_decimals(thousandths: u32, text: &mut Vec<u8>) -> Result<(), OutOfMemor
         return Ok(());
     }
     text.push(b'.')?;
-    text.push(digit(thousandths / 100))?;
-    if thousandths % 100 == 0 {
+    text.push(digit(thousandths / TENTH))?;
+    if thousandths % TENTH == 0 {
         return Ok(());
     }
-    text.push(digit(thousandths / 10 % 10))?;
-    if thousandths % 10 == 0 {
+    text.push(digit(thousandths / HUNDREDTH % 10))?;
+    if thousandths % HUNDREDTH == 0 {
         return Ok(());
     }
-    text.push(digit(thousandths % 10))?;
+    text.push(digit(thousandths % HUNDREDTH))?;
     Ok(())
 }
 

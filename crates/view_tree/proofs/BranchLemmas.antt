@@ -16,7 +16,7 @@ use Rattle.view_tree.specs.JsonTrees.{Branch, branch, Branches, no_branches, mor
 use Rattle.view_tree.specs.Plans.{AreNew, grown, number_of, pairs, pairs_in}
 use Rattle.view_tree.specs.Stops.{IsNewView, is_full}
 use Rattle.view_tree.specs.Views.{IsAtDepth, IsTree, LiveView, ViewTree, view_named, view_of, with_view}
-use Rattle.view_tree.proofs.ViewLemmas.{IsAtDepth-append, IsAtDepth-push, IsTree-with_view}
+use Rattle.view_tree.proofs.ViewLemmas.{IsAtDepth-append, IsAtDepth-push, IsTree-with_view, none_first as or_none}
 
 -- ---- counts
 
@@ -102,9 +102,6 @@ or-right false b h = h
 none : {X : Type 0} (o : Option X) → is_some o ≡ false → o ≡ None
 none None h = refl
 none (Some x) h = absurd (true≢false h)
-
-or_none : {X : Type 0} (o p : Option X) → o ≡ None → option_or o p ≡ p
-or_none o p is = rw is refl
 
 or_some : {X : Type 0} (o p : Option X) → IsSome o → option_or o p ≡ o
 or_some None p h = absurd (true≢false (sym h))

@@ -1,10 +1,9 @@
 -- The views that go with a view, and the tree that is left.
-use Rattle.std.proofs.Common.{◌≡◌, ◌≢◌, ◌||◌, ℕ, zero, suc, ◌+◌, ◌<◌, ◌≤◌, Bool, true, false, cond, not, List, [], ◌∷◌, ◌++◌, Option, None, Some, All, AllPairs, filter, get_or, length, map, nat_eq, remove, slice_get, refl, sym, ap, subst, ◌∙◌, ◌-◌, true≢false, unwrap_or, arith, add-one, append_assoc, append-nil, drop}
+use Rattle.std.proofs.Common.{◌≡◌, ◌≢◌, ◌||◌, ℕ, zero, suc, ◌+◌, ◌<◌, ◌≤◌, Bool, true, false, cond, not, List, [], ◌∷◌, ◌++◌, Option, None, Some, All, AllPairs, filter, length, map, nat_eq, remove, slice_get, refl, sym, ap, subst, ◌∙◌, ◌-◌, true≢false, unwrap_or, arith, add-one, append_assoc, append-nil, drop}
 use Rattle.std.proofs.lemmas.Bool.{eqb-true}
 use Rattle.std.proofs.lemmas.Grind.{common_steps}
-use Rattle.std.proofs.lemmas.List.{get_or-map, length-map}
-use Rattle.std.proofs.lemmas.List.Elements.{All-filter, All-from_recursion, All-map, filter_passes, recursion_from_All}
-use Rattle.std.proofs.lemmas.List.Kept.{AllPairs-cons, AllPairs-filter}
+use Rattle.std.proofs.lemmas.List.Elements.{All-filter, All-from_recursion, filter_passes, recursion_from_All}
+use Rattle.std.proofs.lemmas.List.Kept.{AllPairs-filter}
 use Rattle.std.proofs.lemmas.Option.{none-some}
 use Rattle.std.specs.List.{AllByRecursion}
 use Rattle.std.specs.Option.{option_map, option_map_or}
@@ -13,6 +12,9 @@ use Rattle.view_tree.specs.Nodes.{AreKept, live_view, tree_of}
 use Rattle.view_tree.specs.Views.{AreAbove, HasParent, IsAtDepth, IsTree, LiveView, ViewTree, view_of, window}
 use Rattle.view_tree.specs.declared.tree.Node.{Node}
 use Rattle.view_tree.proofs.BranchLemmas.{or-right}
+use Rattle.frac_core.proofs.Bools.{nat_eq-self as same, or-false}
+use Rattle.frac_core.proofs.Lists.{pairs-unmapped, pairs-map}
+use Rattle.span_text.proofs.TokensLemmas.{not_true as kept-out}
 
 -- ---- numbers among others
 
@@ -21,13 +23,6 @@ other n m less = grind (arith, common_steps, less)
 
 other-back : (n m : ℕ) → m < n → nat_eq n m ≡ false
 other-back n m less = grind (arith, common_steps, less)
-
-same : (n : ℕ) → nat_eq n n ≡ true
-same n = grind (arith, common_steps)
-
-pub or-false : (b : Bool) → (b || false) ≡ b
-or-false true = refl
-or-false false = refl
 
 pub or-assoc : (a b c : Bool) → (a || (b || c)) ≡ ((a || b) || c)
 or-assoc true b c = refl
@@ -125,21 +120,6 @@ module _ (root : ℕ) where
 
 -- ---- what is left
 
-pub pairs-tail : {X : Type 0} (R : X → X → Type 0) (x : X) (xs : List X) → AllPairs R (x ∷ xs) → AllPairs R xs
-pairs-tail R x xs h i j d less within = h (suc i) (suc j) d (omega (arith, less)) (omega (arith, within))
-
-pairs-map : {X Y : Type 0} (f : X → Y) (R : Y → Y → Type 0) (xs : List X) → AllPairs (λ x y. R (f x) (f y)) xs → AllPairs R (map f xs)
-pairs-map f R [] h = λ i j d less within. absurd (omega (arith, within))
-pairs-map f R (x ∷ xs) h =
-    AllPairs-cons R (f x) (map f xs)
-    (All-map (R (f x)) f xs (λ k d within. h zero (suc k) d (omega arith) (omega (arith, within))))
-    (pairs-map f R xs (pairs-tail (λ x y. R (f x) (f y)) x xs h))
-
-pub pairs-unmapped : {X Y : Type 0} (f : X → Y) (R : Y → Y → Type 0) (xs : List X) → AllPairs R (map f xs) → AllPairs (λ x y. R (f x) (f y)) xs
-pairs-unmapped f R xs h i j d less within =
-    subst (λ (y : _). R (f (get_or xs i d)) y) (get_or-map f xs j d (f d) within)
-    (subst (λ (y : _). R y (get_or (map f xs) j (f d))) (get_or-map f xs i d (f d) (omega (arith, less, within))) (h i j (f d) less (omega (arith, within, length-map xs f))))
-
 pub shorter : {X : Type 0} (p : X → Bool) (xs : List X) → length (filter p xs) ≤ length xs
 shorter p [] = omega arith
 shorter p (x ∷ xs) = by (p x) (shorter p xs)
@@ -147,10 +127,6 @@ shorter p (x ∷ xs) = by (p x) (shorter p xs)
     by : (b : Bool) → length (filter p xs) ≤ length xs → length (cond b (x ∷ filter p xs) (filter p xs)) ≤ length (x ∷ xs)
     by true h = omega (arith, h)
     by false h = omega (arith, h)
-
-kept-out : (b : Bool) → not b ≡ true → b ≡ false
-kept-out true h = sym h
-kept-out false h = refl
 
 module _ (go : ℕ → Bool) where
   abbrev pub left : List LiveView → List LiveView
@@ -227,7 +203,7 @@ module _ (go : ℕ → Bool) where
 
 -- ---- a view whose parent goes doesn't stay
 
-found-each : (P : LiveView → Type 0) (id : ℕ) (views : List LiveView) (v : LiveView) → view_of views id ≡ Some v → AllByRecursion P views → P v × (v.id ≡ id)
+pub found-each : (P : LiveView → Type 0) (id : ℕ) (views : List LiveView) (v : LiveView) → view_of views id ≡ Some v → AllByRecursion P views → P v × (v.id ≡ id)
 found-each P id [] v is h = absurd (none-some v is)
 found-each P id (w ∷ views) v is h = by (nat_eq w.id id) refl is (λ e. found-each P id views v e h.1)
   where

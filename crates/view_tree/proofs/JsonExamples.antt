@@ -67,17 +67,17 @@ read_empty : read empty_object ≡ Some (object no_members)
 unfolding serde_json_on_literals
 read_empty = refl
 
-read_two : read two_views ≡ Some two_value
+pub read_two : read two_views ≡ Some two_value
 unfolding serde_json_on_literals
 read_two = refl
 
 json_empty : IsJson empty_object (object no_members)
 json_empty = record { utf8 = ascii empty_object refl; value = read_empty }
 
-json_two : IsJson two_views two_value
+pub json_two : IsJson two_views two_value
 json_two = record { utf8 = ascii two_views refl; value = read_two }
 
-text_two : IsTreeText two_views two_tree
+pub text_two : IsTreeText two_views two_tree
 text_two = record { value = two_value; json = json_two; shape = refl }
 
 -- both views go in, numbered 1 and 2, the second below the first
@@ -86,7 +86,7 @@ pub both_views : with_branch bare 0 two_tree.branch
 both_views = refl
 
 -- the tree of a text is one
-one_tree : (tree : JsonTree) → IsTreeText two_views tree → two_tree ≡ tree
+pub one_tree : (tree : JsonTree) → IsTreeText two_views tree → two_tree ≡ tree
 one_tree tree text = ap (λ o. unwrap_or o two_tree) (ap tree_of (one_value two_views two_value text.value read_two text.json) ∙ text.shape)
 
 -- ---- what is no JSON

@@ -21,7 +21,7 @@ some_first : {X Y : Type 0} (f : X → Y) (o p : Option X) (y : Y) → option_ma
 some_first f None p y h = absurd (none-some y h)
 some_first f (Some x) p y h = h
 
-none_first : {X : Type 0} (o p : Option X) → o ≡ None → option_or o p ≡ p
+pub none_first : {X : Type 0} (o p : Option X) → o ≡ None → option_or o p ≡ p
 none_first o p none = rw none refl
 
 pub HasParent-append : (views more : List LiveView) (id : ℕ) (parent : Option ℕ) → HasParent views id parent → HasParent (views ++ more) id parent

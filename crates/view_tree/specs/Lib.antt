@@ -6,3 +6,4 @@ pub mod Nodes
 pub mod Plans
 pub mod Stops
 pub mod Views
+pub mod Laws

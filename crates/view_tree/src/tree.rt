@@ -325,7 +325,7 @@ impl Tree {
             return Err(TreeStop::Unknown(None));
         }
         let gone = self.subtree(id)?;
-        self.len();
+        self.len(); // for the proof: what a tree keeps
         self.drop_views(&gone);
         Ok(gone.len() as u32)
     }

@@ -1,7 +1,6 @@
 // A claim while it is read.
-ghost use Rattle.std.specs.Prelude.{◌≡◌, ◌<◌, ◌++◌, ◌∷◌, [], ℕ, All, AllPairs, IfOk, IfSome, IfNone, IsTrue};
+ghost use Rattle.std.specs.Prelude.{◌≡◌, ◌<◌, ◌++◌, ◌∷◌, [], All, AllPairs, IfOk, IfSome, IfNone, IsTrue};
 ghost use Rattle.std.specs.Prelude.{◌↔◌, true, false, List, map};
-ghost use Rattle.frac_core.specs.Fraction.{Fraction};
 ghost use Rattle.problem_core.specs.Kept.{AreRising};
 ghost use Rattle.problem_core.specs.declared.parts.RowName.{RowName};
 ghost use Rattle.problem_core.specs.declared.parts.Level.{Level};
@@ -56,7 +55,7 @@ pub(crate) struct ClaimDraft {
 }
 
 impl Model for ClaimDraft {
-    ghost use Rattle.claim_text.specs.ClaimTexts as claims;
+    ghost use Rattle.claim_text.specs.Claims.ClaimTexts as claims;
 
     ghost Value = { claims.Draft };
 
@@ -130,14 +129,15 @@ fn best_of(alloc: Global, levels: &[EndedLevel]) -> Result<Best, OutOfMemory>
 impl ClaimDraft {
     ghost use Rattle.cert_core.specs.Claims.{BestLevel};
     ghost use Rattle.claim_text.specs.declared.claim.lines.ClaimLine as item;
-    ghost use Rattle.claim_text.specs.ClaimTexts as claims;
+    ghost use Rattle.claim_text.specs.Claims.ClaimTexts as claims;
     ghost use Rattle.problem_core.specs.declared.parts.Level as level;
-    ghost use Rattle.claim_text.specs.Seen.{AreRowKeys, AreLevelKeys, AreSeen};
-    ghost use Rattle.claim_text.specs.Seen.{levels_of, rows_of, marked_rows};
-    ghost use Rattle.claim_text.specs.ClaimTexts.{nothing_read, closed, HasLevels, HasBys, IsStage};
-    ghost use Rattle.claim_text.specs.ClaimTexts.{stage_with, MayFollow, with_line, Step, Ends, IsDraft};
+    ghost use Rattle.claim_text.specs.Claims.Seen.{AreRowKeys, AreLevelKeys, AreSeen};
+    ghost use Rattle.claim_text.specs.Claims.Seen.{levels_of, rows_of, marked_rows};
+    ghost use Rattle.claim_text.specs.Claims.ClaimTexts.{nothing_read, closed, HasLevels, HasBys, IsStage};
+    ghost use Rattle.claim_text.specs.Claims.ClaimTexts.{stage_with, MayFollow, with_line, Step, Ends};
+    ghost use Rattle.claim_text.specs.Claims.ClaimTexts.{IsDraft};
     ghost use Rattle.claim_text.specs.Names.{IsRowBefore, IsLevelBefore};
-    ghost use Rattle.claim_text.specs.PathForms as forms;
+    ghost use Rattle.claim_text.specs.Paths.PathForms as forms;
 
     pub(crate) fn new(alloc: Global) -> ClaimDraft
         ensures { result ≡ nothing_read }
@@ -257,7 +257,7 @@ impl ClaimDraft {
         }
     }
 
-    // Ends the level that is open.
+    /// Ends the level that is open.
     pub(crate) fn close(&mut self, alloc: Global) -> Result<(), OutOfMemory>
         ensures { IfOk result (λ _. self.new ≡ record {
           stage = self.old.stage;

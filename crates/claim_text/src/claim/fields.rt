@@ -2,11 +2,12 @@
 ghost use Rattle.std.specs.Prelude.{◌≡◌, ◌≢◌, pos, ◌<◌, ◌≤◌, ◌^◌, ◌++◌, ◌∷◌, [], ℕ, ℤ, List, IfSome, IfNone};
 ghost use Rattle.std.specs.Prelude.{unsigned_abs};
 ghost use Rattle.std.specs.Fmt.{signed_decimal};
+ghost use Rattle.span_text.specs.Bytes.{lower_s};
 ghost use Rattle.problem_core.specs.declared.parts.RowName.{RowName};
 ghost use Rattle.problem_core.specs.declared.parts.Level.{Level};
 ghost use Rattle.problem_core.specs.declared.parts.Side.{Side};
 ghost use Rattle.problem_core.specs.declared.parts.Mark.{Mark};
-ghost use Rattle.claim_text.specs.PathTexts.{side_word, mark_text};
+ghost use Rattle.claim_text.specs.Paths.PathTexts.{side_word, mark_text};
 ghost use Rattle.claim_text.specs.Names.{row_word, level_word, IsRowName, IsLevelName};
 
 use crate::numbers::{integer, natural};
@@ -15,8 +16,8 @@ use problem_core::{Level, Mark, NUMBER_LIMIT, REQUIRED, RowName, Side};
 
 // What follows an `s`.
 fn after_s(word: &[u8]) -> Option<&[u8]>
-    ensures some { IfSome result (λ rest. word.now ≡ 115 ∷ rest.now) }
-    ensures none { IfNone result ((rest : List ℕ) → word.now ≡ 115 ∷ rest → ⊥) }
+    ensures some { IfSome result (λ rest. word.now ≡ lower_s ∷ rest.now) }
+    ensures none { IfNone result ((rest : List ℕ) → word.now ≡ lower_s ∷ rest → ⊥) }
 {
     match word {
         [b's', rest @ ..] => Some(rest),

@@ -4,9 +4,10 @@ ghost use Rattle.frac_core.specs.Fraction.{Fraction};
 ghost use Rattle.cert_core.specs.declared.by.By.{By};
 ghost use Rattle.claim_text.specs.declared.claim.lines.LevelLine.{LevelLine};
 ghost use Rattle.claim_text.specs.declared.claim.lines.ClaimLine as item;
-ghost use Rattle.claim_text.specs.ClaimTexts.{Says};
+ghost use Rattle.claim_text.specs.Claims.ClaimTexts.{Says};
 ghost use Rattle.claim_text.specs.Words.{words};
-ghost use Rattle.claim_text.specs.ClaimLines.{value_words, level_words, by_words, IsValue, IsLevelLine, IsBy};
+ghost use Rattle.claim_text.specs.Claims.ClaimLines.{value_words, level_words, by_words, IsValue};
+ghost use Rattle.claim_text.specs.Claims.ClaimLines.{IsLevelLine, IsBy};
 
 use crate::claim::fields::{next_integer, next_level_name, next_nonzero, next_row_name};
 use crate::claim::path_lines::{PathLine, read_kind, read_path_line};
@@ -78,7 +79,7 @@ pub(crate) fn read_by(line: &[u8]) -> Option<By>
     }
 }
 
-// Whether the line is this one word.
+/// Whether the line is this one word.
 pub(crate) fn is_word(line: &[u8], word: &[u8]) -> bool
     ensures { IsTrue result ↔ (words line.now ≡ word.now ∷ []) }
 {

@@ -1,7 +1,7 @@
 // The order in which rows and levels come.
 ghost use Rattle.std.specs.Prelude.{All, AllPairs, IsTrue, ◌↔◌, map};
 ghost use Rattle.claim_text.specs.Names.{IsRowBefore, IsLevelBefore};
-ghost use Rattle.claim_text.specs.Seen.{AreRowKeys};
+ghost use Rattle.claim_text.specs.Claims.Seen.{AreRowKeys};
 
 use cert_core::By;
 use problem_core::{Level, Mark, RowName};

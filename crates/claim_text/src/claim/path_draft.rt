@@ -1,7 +1,7 @@
 // A path while it is read.
 ghost use Rattle.std.specs.Prelude.{◌≡◌, [], None, All, IfOk, IsTrue, ◌↔◌, map};
 ghost use Rattle.claim_text.specs.Names.{IsRowBefore};
-ghost use Rattle.claim_text.specs.Seen.{AreRowKeys};
+ghost use Rattle.claim_text.specs.Claims.Seen.{AreRowKeys};
 ghost use Rattle.claim_text.specs.declared.claim.Claim.TheVariants.{IsPath};
 
 use crate::claim::Claim;
@@ -24,7 +24,7 @@ pub(crate) struct PathDraft {
 }
 
 impl Model for PathDraft {
-    ghost use Rattle.claim_text.specs.PathForms as forms;
+    ghost use Rattle.claim_text.specs.Paths.PathForms as forms;
 
     ghost Value = { forms.PathDraft };
 
@@ -33,8 +33,8 @@ impl Model for PathDraft {
 }
 
 impl PathDraft {
-    ghost use Rattle.claim_text.specs.PathForms.{path_begun, path_of, with_part};
-    ghost use Rattle.claim_text.specs.PathForms.{PartMayFollow, IsPathWritten};
+    ghost use Rattle.claim_text.specs.Paths.PathForms.{path_begun, path_of, with_part};
+    ghost use Rattle.claim_text.specs.Paths.PathForms.{PartMayFollow, IsPathWritten};
 
     /// A path of which the kind alone was read.
     pub(crate) fn new(alloc: Global, dual: bool) -> PathDraft

@@ -1,15 +1,15 @@
 // The lines of paths.
-ghost use Rattle.std.specs.Prelude.{◌≡◌, ℕ, ◌++◌, ◌∷◌, [], Bool, List, IfSome, IfNone, decimal};
+ghost use Rattle.std.specs.Prelude.{◌≡◌, ◌++◌, ◌∷◌, [], Bool, IfSome, IfNone, decimal};
 ghost use Rattle.problem_core.specs.Corners as corners;
 ghost use Rattle.problem_core.specs.declared.parts.Mark.{Mark};
 ghost use Rattle.problem_core.specs.declared.stops.Quantity as quantity;
 ghost use Rattle.problem_core.specs.declared.stops.What as what;
 ghost use Rattle.claim_text.specs.Names.{IsRowName};
-ghost use Rattle.claim_text.specs.PathForms.{SaysPart, part_word};
+ghost use Rattle.claim_text.specs.Paths.PathForms.{SaysPart, part_word};
 ghost use Rattle.claim_text.specs.declared.claim.path_lines.Part.{Part};
-ghost use Rattle.claim_text.specs.PathTexts.{kind_word, kind_words, in_words, swap_words, what_words};
-ghost use Rattle.claim_text.specs.PathTexts.{quantity_words, unfit_words, mark_text};
-ghost use Rattle.claim_text.specs.PathTexts.{IsSwapName, IsWhatName, IsCount, IsQuantityName};
+ghost use Rattle.claim_text.specs.Paths.PathTexts.{kind_word, kind_words, in_words, swap_words, what_words};
+ghost use Rattle.claim_text.specs.Paths.PathTexts.{quantity_words, unfit_words};
+ghost use Rattle.claim_text.specs.Paths.PathTexts.{IsSwapName, IsWhatName, IsCount, IsQuantityName};
 ghost use Rattle.claim_text.specs.Words.{words};
 ghost use Rattle.claim_text.specs.declared.claim.path_lines.PathLine as item;
 

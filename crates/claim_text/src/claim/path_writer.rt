@@ -1,10 +1,12 @@
 // The text of paths, and of quantities that don't fit.
 ghost use Rattle.std.specs.Prelude.{◌≡◌, ◌++◌, ◌∷◌, [], IfOk, OnErr, string_bytes, map};
 ghost use Rattle.span_text.specs.Bytes.{newline};
+ghost use Rattle.claim_text.specs.Texts.{Adds};
 ghost use Rattle.claim_text.specs.Lines.{text_of_lines};
-ghost use Rattle.claim_text.specs.PathTexts.{mark_text, in_line, swap_line, path_text, path_lines};
-ghost use Rattle.claim_text.specs.PathTexts.{unfit_text, unfit_path_text, unfit_lines, kind_words, what_text};
-ghost use Rattle.claim_text.specs.PathTexts.{quantity_text};
+ghost use Rattle.claim_text.specs.Paths.PathTexts.{mark_text, in_line, swap_line, path_text, path_lines};
+ghost use Rattle.claim_text.specs.Paths.PathTexts.{unfit_text, unfit_path_text, unfit_lines, kind_words};
+ghost use Rattle.claim_text.specs.Paths.PathTexts.{what_text};
+ghost use Rattle.claim_text.specs.Paths.PathTexts.{quantity_text};
 ghost use Rattle.claim_text.specs.Words.{line_of};
 
 use crate::claim::writer::{put_level_name, put_row_name};
@@ -14,7 +16,7 @@ use problem_core::{Mark, Quantity, Side, What};
 use std::alloc::Global;
 
 fn put_mark(text: &mut String, mark: Mark) -> Result<(), OutOfMemory>
-    ensures { IfOk result (λ _. string_bytes text.new ≡ string_bytes text.old ++ mark_text mark) }
+    ensures { IfOk result (λ _. Adds text.old text.new (mark_text mark)) }
 {
     put_row_name(text, mark.row)?;
     match mark.side {
@@ -25,8 +27,7 @@ fn put_mark(text: &mut String, mark: Mark) -> Result<(), OutOfMemory>
 }
 
 fn put_in(text: &mut String, mark: Mark) -> Result<(), OutOfMemory>
-    ensures { IfOk result (λ _. string_bytes text.new
-        ≡ string_bytes text.old ++ (in_line mark ++ newline ∷ [])) }
+    ensures { IfOk result (λ _. Adds text.old text.new (in_line mark ++ newline ∷ [])) }
 {
     write!(text, "in ")?;
     put_mark(text, mark)?;
@@ -35,8 +36,7 @@ fn put_in(text: &mut String, mark: Mark) -> Result<(), OutOfMemory>
 }
 
 fn put_swap(text: &mut String, swap: Swap) -> Result<(), OutOfMemory>
-    ensures { IfOk result (λ _. string_bytes text.new
-        ≡ string_bytes text.old ++ (swap_line swap ++ newline ∷ [])) }
+    ensures { IfOk result (λ _. Adds text.old text.new (swap_line swap ++ newline ∷ [])) }
 {
     write!(text, "swap ")?;
     put_mark(text, swap.enter)?;
@@ -47,8 +47,7 @@ fn put_swap(text: &mut String, swap: Swap) -> Result<(), OutOfMemory>
 }
 
 fn put_corner(text: &mut String, marks: &[Mark]) -> Result<(), OutOfMemory>
-    ensures { IfOk result (λ _. string_bytes text.new
-        ≡ string_bytes text.old ++ text_of_lines (map in_line marks.now)) }
+    ensures { IfOk result (λ _. Adds text.old text.new (text_of_lines (map in_line marks.now))) }
 {
     for mark in marks {
         put_in(text, *mark)?;
@@ -57,8 +56,7 @@ fn put_corner(text: &mut String, marks: &[Mark]) -> Result<(), OutOfMemory>
 }
 
 fn put_swaps(text: &mut String, swaps: &[Swap]) -> Result<(), OutOfMemory>
-    ensures { IfOk result (λ _. string_bytes text.new
-        ≡ string_bytes text.old ++ text_of_lines (map swap_line swaps.now)) }
+    ensures { IfOk result (λ _. Adds text.old text.new (text_of_lines (map swap_line swaps.now))) }
 {
     for swap in swaps {
         put_swap(text, *swap)?;
@@ -67,8 +65,7 @@ fn put_swaps(text: &mut String, swaps: &[Swap]) -> Result<(), OutOfMemory>
 }
 
 fn put_kind(text: &mut String, dual: bool) -> Result<(), OutOfMemory>
-    ensures { IfOk result (λ _. string_bytes text.new
-        ≡ string_bytes text.old ++ (line_of (kind_words dual) ++ newline ∷ [])) }
+    ensures { IfOk result (λ _. Adds text.old text.new (line_of (kind_words dual) ++ newline ∷ [])) }
 {
     if dual {
         writeln!(text, "path dual")?;
@@ -79,7 +76,7 @@ fn put_kind(text: &mut String, dual: bool) -> Result<(), OutOfMemory>
 }
 
 fn put_path(text: &mut String, path: &Path) -> Result<(), OutOfMemory>
-    ensures { IfOk result (λ _. string_bytes text.new ≡ string_bytes text.old ++ path_text path.now) }
+    ensures { IfOk result (λ _. Adds text.old text.new (path_text path.now)) }
 {
     put_kind(text, path.dual())?;
     put_corner(text, path.corner())?;
@@ -87,7 +84,7 @@ fn put_path(text: &mut String, path: &Path) -> Result<(), OutOfMemory>
 }
 
 fn put_what(text: &mut String, what: What) -> Result<(), OutOfMemory>
-    ensures { IfOk result (λ _. string_bytes text.new ≡ string_bytes text.old ++ what_text what) }
+    ensures { IfOk result (λ _. Adds text.old text.new (what_text what)) }
 {
     match what {
         What::Attr(attr) => write!(text, "attr {attr}")?,
@@ -104,7 +101,7 @@ fn put_what(text: &mut String, what: What) -> Result<(), OutOfMemory>
 }
 
 fn put_words(text: &mut String, quantity: Quantity) -> Result<(), OutOfMemory>
-    ensures { IfOk result (λ _. string_bytes text.new ≡ string_bytes text.old ++ quantity_text quantity) }
+    ensures { IfOk result (λ _. Adds text.old text.new (quantity_text quantity)) }
 {
     match quantity {
         Quantity::Plain(what) => put_what(text, what)?,
@@ -125,7 +122,7 @@ fn put_words(text: &mut String, quantity: Quantity) -> Result<(), OutOfMemory>
 }
 
 fn put_unfit(text: &mut String, quantity: Quantity) -> Result<(), OutOfMemory>
-    ensures { IfOk result (λ _. string_bytes text.new ≡ string_bytes text.old ++ unfit_text quantity) }
+    ensures { IfOk result (λ _. Adds text.old text.new (unfit_text quantity)) }
 {
     write!(text, "unfit ")?;
     put_words(text, quantity)?;
@@ -135,8 +132,7 @@ fn put_unfit(text: &mut String, quantity: Quantity) -> Result<(), OutOfMemory>
 
 // The line of the quantity, if there is one.
 fn put_unfit_lines(text: &mut String, unfit: Option<Quantity>) -> Result<(), OutOfMemory>
-    ensures { IfOk result (λ _. string_bytes text.new
-        ≡ string_bytes text.old ++ text_of_lines (unfit_lines unfit)) }
+    ensures { IfOk result (λ _. Adds text.old text.new (text_of_lines (unfit_lines unfit))) }
 {
     match unfit {
         Some(quantity) => put_unfit(text, quantity),

@@ -3,9 +3,9 @@ ghost use Rattle.std.specs.Prelude.{◌≡◌, ◌<◌, length, IfOk, IfErr, Mat
 ghost use Rattle.std.specs.Str.Lines.{lines};
 ghost use Rattle.frac_core.specs.declared.memory.Stop.TheVariants.{OutOfMemory};
 ghost use Rattle.claim_text.specs.declared.claim.Claim as claim;
-ghost use Rattle.claim_text.specs.ClaimLines.{claim_text};
-ghost use Rattle.claim_text.specs.ClaimTexts.{IsRead, LinesStopAt, Reads, StopsAt, IsWritten};
-ghost use Rattle.claim_text.specs.ClaimTexts.{HasNoMoreParts};
+ghost use Rattle.claim_text.specs.Claims.ClaimLines.{claim_text};
+ghost use Rattle.claim_text.specs.Claims.ClaimTexts.{IsRead, LinesStopAt, Reads, StopsAt, IsWritten};
+ghost use Rattle.claim_text.specs.Claims.ClaimTexts.{HasNoMoreParts};
 ghost use Rattle.claim_text.specs.declared.limits.TheConstants.{TEXT_LIMIT};
 
 use crate::claim::Claim;

@@ -1,5 +1,5 @@
 // The stays that a claim has named so far.
-ghost use Rattle.std.specs.Prelude.{◌≡◌, ◌∷◌, [], ◌++◌, IfOk, List};
+ghost use Rattle.std.specs.Prelude.{◌∷◌, [], ◌++◌, IfOk, List};
 
 use crate::claim::lines::ClaimLine;
 use crate::claim::path_lines::PathLine;
@@ -19,7 +19,7 @@ pub(crate) struct Seen {
 
 ghost use Rattle.problem_core.specs.declared.parts.RowName.{RowName};
 ghost use Rattle.problem_core.specs.declared.parts.Level.{Level};
-ghost use Rattle.claim_text.specs.Seen.{AreRowKeys, AreLevelKeys};
+ghost use Rattle.claim_text.specs.Claims.Seen.{AreRowKeys, AreLevelKeys};
 
 // No attribute.
 fn no_keys(alloc: Global) -> BTreeMap<u32, u32>
@@ -55,8 +55,8 @@ fn note_level(keys: &mut BTreeMap<u32, u32>, level: Level) -> Result<(), OutOfMe
 }
 
 impl Seen {
-    ghost use Rattle.claim_text.specs.Seen.{AreSeen};
-    ghost use Rattle.claim_text.specs.ClaimTexts.{Draft, MayFollow, nothing_read, with_line};
+    ghost use Rattle.claim_text.specs.Claims.Seen.{AreSeen};
+    ghost use Rattle.claim_text.specs.Claims.ClaimTexts.{Draft, MayFollow, nothing_read, with_line};
 
     pub(crate) fn new(alloc: Global) -> Seen
         ensures { AreSeen nothing_read result }

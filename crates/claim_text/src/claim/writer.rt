@@ -1,11 +1,13 @@
 // The text of claims.
 ghost use Rattle.std.specs.Prelude.{◌≡◌, ◌++◌, ◌∷◌, [], IfOk, OnErr, string_bytes, map};
 ghost use Rattle.span_text.specs.Bytes.{newline};
-ghost use Rattle.claim_text.specs.ClaimLines.{value_line, level_line, by_line};
+ghost use Rattle.claim_text.specs.Texts.{Adds};
+ghost use Rattle.claim_text.specs.Claims.ClaimLines.{value_line, level_line, by_line};
 ghost use Rattle.claim_text.specs.Names.{row_word, level_word};
-ghost use Rattle.claim_text.specs.ClaimLines.{level_lines, lines_of_levels, best_lines, conflict_lines};
+ghost use Rattle.claim_text.specs.Claims.ClaimLines.{level_lines, lines_of_levels, best_lines};
+ghost use Rattle.claim_text.specs.Claims.ClaimLines.{conflict_lines};
 ghost use Rattle.claim_text.specs.Lines.{text_of_lines};
-ghost use Rattle.claim_text.specs.ClaimLines.{claim_text};
+ghost use Rattle.claim_text.specs.Claims.ClaimLines.{claim_text};
 
 use crate::claim::Claim;
 use crate::claim::path_writer::path_claim_text;
@@ -16,7 +18,7 @@ use problem_core::{Level, RowName, Values};
 use std::alloc::Global;
 
 pub(crate) fn put_row_name(text: &mut String, row: RowName) -> Result<(), OutOfMemory>
-    ensures { IfOk result (λ _. string_bytes text.new ≡ string_bytes text.old ++ row_word row) }
+    ensures { IfOk result (λ _. Adds text.old text.new (row_word row)) }
 {
     match row {
         RowName::Held(id) => write!(text, "{id}")?,
@@ -26,7 +28,7 @@ pub(crate) fn put_row_name(text: &mut String, row: RowName) -> Result<(), OutOfM
 }
 
 pub(crate) fn put_level_name(text: &mut String, level: Level) -> Result<(), OutOfMemory>
-    ensures { IfOk result (λ _. string_bytes text.new ≡ string_bytes text.old ++ level_word level) }
+    ensures { IfOk result (λ _. Adds text.old text.new (level_word level)) }
 {
     match level {
         Level::Priority(rank) => write!(text, "{rank}")?,
@@ -36,8 +38,7 @@ pub(crate) fn put_level_name(text: &mut String, level: Level) -> Result<(), OutO
 }
 
 fn put_value(text: &mut String, pair: &(u32, Frac)) -> Result<(), OutOfMemory>
-    ensures { IfOk result (λ _. string_bytes text.new
-        ≡ string_bytes text.old ++ (value_line pair.now ++ newline ∷ [])) }
+    ensures { IfOk result (λ _. Adds text.old text.new (value_line pair.now ++ newline ∷ [])) }
 {
     let attr = pair.0;
     let value = pair.1;
@@ -48,8 +49,7 @@ fn put_value(text: &mut String, pair: &(u32, Frac)) -> Result<(), OutOfMemory>
 }
 
 fn put_by(text: &mut String, by: &By) -> Result<(), OutOfMemory>
-    ensures { IfOk result (λ _. string_bytes text.new
-        ≡ string_bytes text.old ++ (by_line by.now ++ newline ∷ [])) }
+    ensures { IfOk result (λ _. Adds text.old text.new (by_line by.now ++ newline ∷ [])) }
 {
     let times = by.times;
     write!(text, "by {times} row ")?;
@@ -59,8 +59,8 @@ fn put_by(text: &mut String, by: &By) -> Result<(), OutOfMemory>
 }
 
 fn put_level(text: &mut String, level: Level, scale: i64) -> Result<(), OutOfMemory>
-    ensures { IfOk result (λ _. string_bytes text.new
-        ≡ string_bytes text.old ++ (level_line (record { level = level; scale = scale }) ++ newline ∷ [])) }
+    ensures { IfOk result (λ _. Adds text.old text.new
+        (level_line (record { level = level; scale = scale }) ++ newline ∷ [])) }
 {
     write!(text, "level ")?;
     put_level_name(text, level)?;
@@ -69,8 +69,7 @@ fn put_level(text: &mut String, level: Level, scale: i64) -> Result<(), OutOfMem
 }
 
 fn put_bys(text: &mut String, bys: &[By]) -> Result<(), OutOfMemory>
-    ensures { IfOk result (λ _. string_bytes text.new
-        ≡ string_bytes text.old ++ text_of_lines (map by_line bys.now)) }
+    ensures { IfOk result (λ _. Adds text.old text.new (text_of_lines (map by_line bys.now))) }
 {
     for by in bys {
         put_by(text, by)?;
@@ -79,8 +78,7 @@ fn put_bys(text: &mut String, bys: &[By]) -> Result<(), OutOfMemory>
 }
 
 fn put_values(text: &mut String, values: &[(u32, Frac)]) -> Result<(), OutOfMemory>
-    ensures { IfOk result (λ _. string_bytes text.new
-        ≡ string_bytes text.old ++ text_of_lines (map value_line values.now)) }
+    ensures { IfOk result (λ _. Adds text.old text.new (text_of_lines (map value_line values.now))) }
 {
     for pair in values {
         put_value(text, pair)?;
@@ -90,16 +88,14 @@ fn put_values(text: &mut String, values: &[(u32, Frac)]) -> Result<(), OutOfMemo
 
 // The line of a level, and those of its multipliers.
 fn put_whole_level(text: &mut String, level: &BestLevel) -> Result<(), OutOfMemory>
-    ensures { IfOk result (λ _. string_bytes text.new
-        ≡ string_bytes text.old ++ text_of_lines (level_lines level.now)) }
+    ensures { IfOk result (λ _. Adds text.old text.new (text_of_lines (level_lines level.now))) }
 {
     put_level(text, level.level(), level.scale())?;
     put_bys(text, level.by())
 }
 
 fn put_levels(text: &mut String, levels: &[BestLevel]) -> Result<(), OutOfMemory>
-    ensures { IfOk result (λ _. string_bytes text.new
-        ≡ string_bytes text.old ++ text_of_lines (lines_of_levels levels.now)) }
+    ensures { IfOk result (λ _. Adds text.old text.new (text_of_lines (lines_of_levels levels.now))) }
 {
     for level in levels {
         put_whole_level(text, level)?;
@@ -108,8 +104,7 @@ fn put_levels(text: &mut String, levels: &[BestLevel]) -> Result<(), OutOfMemory
 }
 
 fn put_best(text: &mut String, values: &Values, best: &Best) -> Result<(), OutOfMemory>
-    ensures { IfOk result (λ _. string_bytes text.new
-        ≡ string_bytes text.old ++ text_of_lines (best_lines values.now best.now)) }
+    ensures { IfOk result (λ _. Adds text.old text.new (text_of_lines (best_lines values.now best.now))) }
 {
     put_values(text, values.pairs())?;
     writeln!(text, "best")?;
@@ -117,8 +112,7 @@ fn put_best(text: &mut String, values: &Values, best: &Best) -> Result<(), OutOf
 }
 
 fn put_conflict(text: &mut String, conflict: &Conflict) -> Result<(), OutOfMemory>
-    ensures { IfOk result (λ _. string_bytes text.new
-        ≡ string_bytes text.old ++ text_of_lines (conflict_lines conflict.now)) }
+    ensures { IfOk result (λ _. Adds text.old text.new (text_of_lines (conflict_lines conflict.now))) }
 {
     writeln!(text, "conflict")?;
     put_bys(text, conflict.by())

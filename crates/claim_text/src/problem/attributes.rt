@@ -1,5 +1,5 @@
 // The attributes that have stays in a text.
-ghost use Rattle.std.specs.Prelude.{◌≡◌, IfOk, IsTrue, ◌↔◌, List, ℕ, ◌∷◌, [], ◌++◌, Contains};
+ghost use Rattle.std.specs.Prelude.{IfOk, IsTrue, ◌↔◌, List, ℕ, ◌∷◌, [], ◌++◌, Contains};
 ghost use Rattle.std.specs.Str.Lines.{lines};
 ghost use Rattle.claim_text.specs.Problems.{AreStayAttributes};
 ghost use Rattle.claim_text.specs.Sets.{HaveSame};

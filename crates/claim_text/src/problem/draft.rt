@@ -1,5 +1,5 @@
 // A problem while it is read.
-ghost use Rattle.std.specs.Prelude.{◌≡◌, ◌≢◌, ◌<◌, [], ℕ, All, IfOk, IfErr, IsTrue, ◌↔◌, Contains, true};
+ghost use Rattle.std.specs.Prelude.{◌≡◌, ◌≢◌, ◌<◌, [], All, IfOk, IsTrue, ◌↔◌, Contains, true};
 ghost use Rattle.std.specs.Prelude.{false, length};
 ghost use Rattle.problem_core.specs.Layout as layout;
 ghost use Rattle.problem_core.specs.Kept.{IsWhole};

@@ -52,8 +52,8 @@ pub(crate) fn read_item(alloc: Global, line: &[u8]) -> Result<Option<Item>, OutO
     if let Some(stay) = read_stay(line) {
         return Ok(Some(Item::OfStay(stay)));
     }
-    match read_row(alloc, line)? {
-        Some(row) => Ok(Some(Item::OfRow(row))),
-        None => Ok(None),
-    }
+    let Some(row) = read_row(alloc, line)? else {
+        return Ok(None);
+    };
+    Ok(Some(Item::OfRow(row)))
 }

@@ -1,7 +1,8 @@
 // The lines of rows and stays as text.
-ghost use Rattle.std.specs.Prelude.{◌≡◌, ◌++◌, ◌∷◌, [], IfOk, string_bytes, map};
+ghost use Rattle.std.specs.Prelude.{◌≡◌, ◌++◌, ◌∷◌, [], IfOk, map};
 ghost use Rattle.frac_core.specs.Text.{fraction_text};
 ghost use Rattle.span_text.specs.Bytes.{newline, space};
+ghost use Rattle.claim_text.specs.Texts.{Adds};
 ghost use Rattle.claim_text.specs.Lines.{rel_word, term_word, row_line, stay_line, spaced, head_line};
 
 use frac_core::{Frac, OutOfMemory};
@@ -18,7 +19,7 @@ fn relation_text(rel: Rel) -> &'static str
 }
 
 pub(crate) fn put_fraction(text: &mut String, f: Frac) -> Result<(), OutOfMemory>
-    ensures { IfOk result (λ _. string_bytes text.new ≡ string_bytes text.old ++ fraction_text f) }
+    ensures { IfOk result (λ _. Adds text.old text.new (fraction_text f)) }
 {
     let num = f.num();
     let den = f.den();
@@ -31,8 +32,7 @@ pub(crate) fn put_fraction(text: &mut String, f: Frac) -> Result<(), OutOfMemory
 }
 
 fn put_term(text: &mut String, term: &Term) -> Result<(), OutOfMemory>
-    ensures { IfOk result (λ _. string_bytes text.new
-        ≡ string_bytes text.old ++ (space ∷ term_word term.now)) }
+    ensures { IfOk result (λ _. Adds text.old text.new (space ∷ term_word term.now)) }
 {
     let attr = term.attr;
     let by = term.by;
@@ -41,8 +41,7 @@ fn put_term(text: &mut String, term: &Term) -> Result<(), OutOfMemory>
 }
 
 fn put_terms(text: &mut String, terms: &[Term]) -> Result<(), OutOfMemory>
-    ensures { IfOk result (λ _. string_bytes text.new
-        ≡ string_bytes text.old ++ spaced (map term_word terms.now)) }
+    ensures { IfOk result (λ _. Adds text.old text.new (spaced (map term_word terms.now))) }
 {
     for term in terms {
         put_term(text, term)?;
@@ -52,7 +51,7 @@ fn put_terms(text: &mut String, terms: &[Term]) -> Result<(), OutOfMemory>
 
 // What stands before the terms of a row.
 fn put_head(text: &mut String, row: &Row) -> Result<(), OutOfMemory>
-    ensures { IfOk result (λ _. string_bytes text.new ≡ string_bytes text.old ++ head_line row.now) }
+    ensures { IfOk result (λ _. Adds text.old text.new (head_line row.now)) }
 {
     let id = row.id();
     let rank = row.rank();
@@ -64,8 +63,7 @@ fn put_head(text: &mut String, row: &Row) -> Result<(), OutOfMemory>
 }
 
 pub(crate) fn put_row(text: &mut String, row: &Row) -> Result<(), OutOfMemory>
-    ensures { IfOk result (λ _. string_bytes text.new
-        ≡ string_bytes text.old ++ (row_line row.now ++ newline ∷ [])) }
+    ensures { IfOk result (λ _. Adds text.old text.new (row_line row.now ++ newline ∷ [])) }
 {
     put_head(text, row)?;
     put_terms(text, row.terms())?;
@@ -74,8 +72,7 @@ pub(crate) fn put_row(text: &mut String, row: &Row) -> Result<(), OutOfMemory>
 }
 
 pub(crate) fn put_stay(text: &mut String, stay: &Stay) -> Result<(), OutOfMemory>
-    ensures { IfOk result (λ _. string_bytes text.new
-        ≡ string_bytes text.old ++ (stay_line stay.now ++ newline ∷ [])) }
+    ensures { IfOk result (λ _. Adds text.old text.new (stay_line stay.now ++ newline ∷ [])) }
 {
     let attr = stay.attr;
     write!(text, "stay {attr} ")?;

@@ -1,5 +1,5 @@
 // The words of the terms of a row.
-ghost use Rattle.std.specs.Prelude.{◌≡◌, ℕ, ◌<◌, ◌≤◌, ◌++◌, ◌∷◌, [], All, List, IfOk, IfSome, IfNone, IsTrue};
+ghost use Rattle.std.specs.Prelude.{◌≡◌, ◌<◌, ◌++◌, ◌∷◌, [], All, List, IfOk, IfSome, IfNone, IsTrue};
 ghost use Rattle.std.specs.Prelude.{◌↔◌, decimal, map};
 ghost use Rattle.std.specs.Fmt.{signed_decimal};
 ghost use Rattle.problem_core.specs.Kept.{IsTerm};
@@ -63,7 +63,7 @@ fn next_term(terms: &[Term], word: &[u8]) -> Option<Term>
     }
 }
 
-// The terms that the words say.
+/// The terms that the words say.
 pub(crate) fn read_terms(alloc: Global, words: &mut Words) -> Result<Option<Vec<Term>>, OutOfMemory>
     ensures some { IfOk result (λ found. IfSome found (λ v. AreTerms v.items
         × (words.old ≡ map term_word v.items))) }

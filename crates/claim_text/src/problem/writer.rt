@@ -1,5 +1,6 @@
 // The text of problems.
 ghost use Rattle.std.specs.Prelude.{◌≡◌, ◌++◌, IfOk, OnErr, string_bytes, map};
+ghost use Rattle.claim_text.specs.Texts.{Adds};
 ghost use Rattle.claim_text.specs.Lines.{problem_text, text_of_lines, row_line, stay_line};
 
 use crate::problem::line_writers::{put_row, put_stay};
@@ -8,8 +9,7 @@ use problem_core::{Problem, Row, Stay};
 use std::alloc::Global;
 
 fn put_rows(text: &mut String, rows: &[Row]) -> Result<(), OutOfMemory>
-    ensures { IfOk result (λ _. string_bytes text.new
-        ≡ string_bytes text.old ++ text_of_lines (map row_line rows.now)) }
+    ensures { IfOk result (λ _. Adds text.old text.new (text_of_lines (map row_line rows.now))) }
 {
     for row in rows {
         put_row(text, row)?;
@@ -18,8 +18,7 @@ fn put_rows(text: &mut String, rows: &[Row]) -> Result<(), OutOfMemory>
 }
 
 fn put_stays(text: &mut String, stays: &[Stay]) -> Result<(), OutOfMemory>
-    ensures { IfOk result (λ _. string_bytes text.new
-        ≡ string_bytes text.old ++ text_of_lines (map stay_line stays.now)) }
+    ensures { IfOk result (λ _. Adds text.old text.new (text_of_lines (map stay_line stays.now))) }
 {
     for stay in stays {
         put_stay(text, stay)?;

@@ -1,7 +1,7 @@
 // What the names of a format lead to, and which way its alignment runs.
 ghost use Rattle.std.specs.Prelude.{◌≡◌};
 ghost use Rattle.std.specs.Option.{option_map};
-ghost use Rattle.constraint_compile.specs.FormatRefusals as refusals;
+ghost use Rattle.constraint_compile.specs.Formats.FormatRefusals as refusals;
 
 use script_text::Align;
 use vfl_text::Axis;

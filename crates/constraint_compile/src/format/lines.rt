@@ -7,8 +7,8 @@ ghost use Rattle.script_text.specs.Grammar as grammar;
 ghost use Rattle.script_text.specs.Meaning as mean;
 ghost use Rattle.constraint_compile.specs.Addends.{addend, addend_view, IsKept};
 ghost use Rattle.constraint_compile.specs.Fractions as fractions;
-ghost use Rattle.constraint_compile.specs.FormatLines as lines;
-ghost use Rattle.constraint_compile.specs.FormatRefusals as refusals;
+ghost use Rattle.constraint_compile.specs.Formats.FormatLines as lines;
+ghost use Rattle.constraint_compile.specs.Formats.FormatRefusals as refusals;
 ghost use Rattle.view_tree.specs.Views.{view_named};
 ghost use Rattle.view_tree.specs.declared.limits.TheConstants.{ID_LIMIT};
 

@@ -1,9 +1,9 @@
 // The parts of a format, in the order of its text. After an error nothing is said of what was appended.
-ghost use Rattle.std.specs.Prelude.{◌≡◌, ◌++◌, ◌∷◌, [], ◌≤◌, ◌<◌, IfOk, OnOk, length};
+ghost use Rattle.std.specs.Prelude.{◌≡◌, ◌++◌, ◌∷◌, [], ◌<◌, IfOk, OnOk, length};
 ghost use Rattle.vfl_text.specs.View.{pred_meaning, pred_meanings, spacing_meaning, spacing_meanings};
 ghost use Rattle.vfl_text.specs.View.{end_meaning, item_meaning, item_meanings, meaning};
-ghost use Rattle.constraint_compile.specs.FormatParts as parts;
-ghost use Rattle.constraint_compile.specs.FormatViews.{span_view, part_view, parts_view};
+ghost use Rattle.constraint_compile.specs.Formats.FormatParts as parts;
+ghost use Rattle.constraint_compile.specs.Formats.FormatViews.{span_view, parts_view};
 
 use crate::format::parts::{Part, Span};
 use crate::format::spans::{aligned_word, between, inside_far, inside_near, off, size};
@@ -179,7 +179,7 @@ fn push_align<'a>(
 }
 
 /// What the format says, in the order of its text, with the alignment behind it.
-#[tactic(auto, unfolding(crate::specs::FormatParts::parts))]
+#[tactic(auto, unfolding(crate::specs::Formats::FormatParts::parts))]
 pub(crate) fn parts_of<'a>(
     alloc: Global,
     format: &Format<'a>,

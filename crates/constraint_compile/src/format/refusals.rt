@@ -1,12 +1,12 @@
 // Why a format is refused, before its rows are made.
-ghost use Rattle.std.specs.Prelude.{◌≡◌, ◌≤◌, ◌+◌, ◌∷◌, ℕ, List, false, All, length, IsTrue};
+ghost use Rattle.std.specs.Prelude.{◌≡◌, ◌≤◌, ◌+◌, ◌∷◌, List, false, All, length, IsTrue};
 ghost use Rattle.std.specs.Prelude.{IfOk, IfErr, OnOk};
-ghost use Rattle.constraint_compile.specs.Asks.{IsKeptAsk, AreAsks, IsUsableAsked, IsWrongAsked};
-ghost use Rattle.constraint_compile.specs.FormatLines.{lines_of, numbers, parts_views};
-ghost use Rattle.constraint_compile.specs.FormatStops as stops;
-ghost use Rattle.constraint_compile.specs.FormatStops.{IsPastNumbers, IsUsableFormat, MayStopBefore};
-ghost use Rattle.constraint_compile.specs.FormatViews.{part_view, parts_view};
-ghost use Rattle.constraint_compile.specs.FormatParts.{Part as FormatPart};
+ghost use Rattle.constraint_compile.specs.Formats.Asks.{IsKeptAsk, AreAsks, IsUsableAsked, IsWrongAsked};
+ghost use Rattle.constraint_compile.specs.Formats.FormatLines.{lines_of, numbers, parts_views};
+ghost use Rattle.constraint_compile.specs.Formats.FormatStops as stops;
+ghost use Rattle.constraint_compile.specs.Formats.FormatStops.{IsPastNumbers, IsUsableFormat, MayStopBefore};
+ghost use Rattle.constraint_compile.specs.Formats.FormatViews.{part_view, parts_view};
+ghost use Rattle.constraint_compile.specs.Formats.FormatParts.{Part as FormatPart};
 
 use crate::format::asks::{Asked, resolve_parts};
 use crate::format::checks::is_along;
@@ -99,10 +99,7 @@ pub(crate) fn checked<'a>(
         (parts_view parts.now) first_row) }
 {
     let asked = resolve_parts(alloc, tree, metrics, parts)?;
-    match used(axis, align, &asked) {
-        Ok(()) => {}
-        Err(word) => return Err(CompileStop::Kind(word)),
-    }
+    used(axis, align, &asked)?;
     if is_past_numbers(first_row, asked.rows.len()) {
         return Err(CompileStop::Limit(LimitWord::Rows));
     }

@@ -1,17 +1,19 @@
 // The rows of a format, one after the other.
-ghost use Rattle.std.specs.Prelude.{◌≡◌, ℕ, ◌<◌, ◌≤◌, ◌+◌, ◌++◌, ◌∷◌, [], List, map, length, IfOk, OnOk};
+ghost use Rattle.std.specs.Prelude.{◌≡◌, ◌<◌, ◌≤◌, ◌+◌, ◌++◌, ◌∷◌, [], List, map, length, IfOk, OnOk};
 ghost use Rattle.std.specs.Prelude.{IfErr, All};
 ghost use Rattle.problem_core.specs.declared.limits.TheConstants.{NUMBER_LIMIT};
 ghost use Rattle.script_text.specs.Meaning.{Linear};
 ghost use Rattle.view_tree.specs.Views.{LiveView};
 ghost use Rattle.constraint_compile.specs.Addends.{IsKept};
-ghost use Rattle.constraint_compile.specs.Asks.{added, IsKeptAsk, IsAsk, AreAsks};
+ghost use Rattle.constraint_compile.specs.Formats.Asks.{added, IsKeptAsk, IsAsk, AreAsks};
 ghost use Rattle.constraint_compile.specs.Meaning.{terms_of};
 ghost use Rattle.constraint_compile.specs.Stops.{IsRowStop};
 ghost use Rattle.constraint_compile.specs.Inside.{form_view, IsForm, AreForms};
-ghost use Rattle.constraint_compile.specs.FormatRows.{IsRowWithin, AreRowsOf};
-ghost use Rattle.constraint_compile.specs.FormatFound.{IsFound, EndsRows, HaveNoRows, IsLater, noted};
-ghost use Rattle.constraint_compile.specs.FormatStops.{IsPastNumbers};
+ghost use Rattle.constraint_compile.specs.Formats.FormatRows.{IsRowWithin, AreRowsOf};
+ghost use Rattle.constraint_compile.specs.Formats.FormatFound.{IsFoundWith, EndsRows, HaveNoRows, IsLater};
+ghost use Rattle.constraint_compile.specs.Formats.FormatFound.{noted};
+ghost use Rattle.constraint_compile.specs.Formats.FormatStops.{IsPastNumbers};
+ghost use Rattle.constraint_compile.specs.declared.format.rows.TheConstants.{TERM_COUNT};
 ghost use Rattle.constraint_compile.specs.declared.stops.CompileStop.TheVariants.{OutOfMemory as NoMemory};
 
 use crate::addends::Addend;
@@ -24,7 +26,7 @@ use name_tables::{LimitWord, Metrics};
 use std::alloc::Global;
 use std::slice;
 
-// The rows so far, or the first limit that one of them passes.
+/// The rows so far, or the first limit that one of them passes.
 #[derive(Drop)]
 pub(crate) struct Found {
     pub rows: Vec<RowForm>,
@@ -34,15 +36,15 @@ pub(crate) struct Found {
 // Every row of a format has this weight.
 const WEIGHT: u16 = 1;
 
-// A row that is asked for has at most two ends and what stands between them.
-const TERM_COUNT: usize = 3;
+/// A row that is asked for has at most two ends and what stands between them.
+pub(crate) const TERM_COUNT: usize = 3;
 
 // What the row adds on its left side.
 fn addends_of<'a>(alloc: Global, ask: &Ask<'a>) -> Result<Vec<Addend<'a>>, OutOfMemory>
     requires { IsKeptAsk ask.now }
     ensures added { IfOk result (λ out. out.items ≡ added ask.now) }
     ensures kept { IfOk result (λ out. All IsKept out.items) }
-    ensures few { IfOk result (λ out. length out.items ≤ 3) }
+    ensures few { IfOk result (λ out. length out.items ≤ TERM_COUNT) }
 {
     let mut out = Vec::with_capacity(alloc, TERM_COUNT)?;
     out.extend_from_slice(slice::from_ref(&ask.plus))?;
@@ -78,10 +80,7 @@ fn push_row(rows: &mut Vec<RowForm>, row: RowForm) -> Result<(), CompileStop>
     ensures pushed { OnOk result (rows.new.items ≡ rows.old.items ++ row ∷ []) }
     ensures stop { IfErr result (λ e. e ≡ NoMemory) }
 {
-    match rows.push(row) {
-        Ok(()) => Ok(()),
-        Err(_) => Err(CompileStop::OutOfMemory),
-    }
+    Ok(rows.push(row)?)
 }
 
 // Keeps in mind that a row passes a limit, unless it is the first of all.
@@ -114,11 +113,7 @@ fn add_row(
     requires number { (0 < id) × (id < NUMBER_LIMIT) }
     requires forms { AreForms found.old.rows.items }
     ensures forms { OnOk result (AreForms found.new.rows.items) }
-    ensures found { OnOk result ((views : List LiveView) (lines : List Linear) (l : Linear) (first : ℕ)
-        → IsAsk views metrics.now l ask.now → id ≡ first + length lines
-        → IsFound views metrics.now lines first (map form_view found.old.rows.items) found.old.limit
-        → IsFound views metrics.now (lines ++ l ∷ []) first (map form_view found.new.rows.items)
-        found.new.limit) }
+    ensures found { OnOk result (IsFoundWith metrics.now ask.now id found.old found.new) }
     ensures stop { IfErr result (λ e. (views : List LiveView) (l : Linear) → IsAsk views metrics.now l ask.now
         → EndsRows views metrics.now (l ∷ []) e) }
 {

@@ -1,7 +1,7 @@
 // What the rows of a format measure.
 ghost use Rattle.std.specs.Prelude.{◌≡◌};
-ghost use Rattle.constraint_compile.specs.FormatParts as parts;
-ghost use Rattle.constraint_compile.specs.FormatViews.{end_view, span_view};
+ghost use Rattle.constraint_compile.specs.Formats.FormatParts as parts;
+ghost use Rattle.constraint_compile.specs.Formats.FormatViews.{end_view, span_view};
 
 use crate::format::parts::{End, Owner, Span};
 use script_text::{Align, AttrWord};

@@ -1,12 +1,12 @@
 // Which coefficients of a sum are not 0, whatever their size.
 ghost use Rattle.std.specs.Prelude.{◌≡◌, ◌≢◌, ◌≤◌, ◌<◌, ◌+◌, ◌*◌, ◌^◌, ◌+ℤ◌, ◌*ℤ◌, ℕ, pos, unsigned_abs};
-ghost use Rattle.std.specs.Prelude.{true, false, length, map, IsTrue, IfOk, OnOk, All, AllPairs};
+ghost use Rattle.std.specs.Prelude.{true, false, length, IsTrue, IfOk, OnOk, All, AllPairs};
 ghost use Rattle.problem_core.specs.declared.limits.TheConstants.{TERM_LIMIT};
 ghost use Rattle.constraint_compile.specs.Fractions.{total};
 ghost use Rattle.constraint_compile.specs.Addends.{addend_view, addends_view, sum_of, IsKept};
-ghost use Rattle.constraint_compile.specs.Shares.{IsOff};
-ghost use Rattle.constraint_compile.specs.Sums.{HasTooMany};
-ghost use Rattle.constraint_compile.specs.Pieces.{piece_value, IsPiece, AreDoubled, HasFound};
+ghost use Rattle.constraint_compile.specs.Coefficients.Shares.{IsOff};
+ghost use Rattle.constraint_compile.specs.Coefficients.Sums.{HasTooMany};
+ghost use Rattle.constraint_compile.specs.Coefficients.Pieces.{piece_value, IsPiece, AreDoubled, HasFound};
 ghost use Rattle.constraint_compile.specs.declared.limits.TheConstants.{ADDEND_LIMIT};
 
 use crate::addends::Addend;
@@ -23,9 +23,12 @@ pub(crate) struct Piece {
     pub den: i64,
 }
 
-// Each addend has a denominator below 2^43. So a sum of as many as there may be that isn't 0 is past their
-// number in size after this many doublings.
-const ROUNDS: u32 = 43 * ADDEND_LIMIT as u32 + 8;
+/// The denominator of a piece is at most 2 to this power: it is twice that of a fraction, or 1.
+pub(crate) const DEN_BITS: u32 = 43;
+
+// A sum of as many pieces as there may be that isn't 0 is past their number in size after this many
+// doublings.
+const ROUNDS: u32 = DEN_BITS * ADDEND_LIMIT as u32 + 8;
 
 // What an addend has of an attribute.
 fn piece_of(addend: &Addend<'_>, attr: u32) -> Piece

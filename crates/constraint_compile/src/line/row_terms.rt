@@ -1,9 +1,9 @@
 // The terms of a row.
-ghost use Rattle.std.specs.Prelude.{◌≡◌, ℕ, ◌<◌, ◌+◌, length, All, AllPairs, IfOk, OnOk};
+ghost use Rattle.std.specs.Prelude.{ℕ, ◌<◌, ◌+◌, length, All, AllPairs, IfOk, OnOk};
 ghost use Rattle.frac_core.specs.Fraction.{Fraction};
 ghost use Rattle.problem_core.specs.Kept.{IsNumber};
 ghost use Rattle.problem_core.specs.declared.limits.TheConstants.{TERM_LIMIT};
-ghost use Rattle.constraint_compile.specs.Sums.{AreKept, IsSum, HasFirst, AreTerms, HasTooMany};
+ghost use Rattle.constraint_compile.specs.Coefficients.Sums.{AreKept, IsSum, HasFirst, AreTerms, HasTooMany};
 
 use crate::line::sums::Sum;
 use frac_core::OutOfMemory;

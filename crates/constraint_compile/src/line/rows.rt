@@ -8,7 +8,7 @@ ghost use Rattle.script_text.specs.Meaning.{Term as Summand};
 ghost use Rattle.constraint_compile.specs.Fractions.{IsScale};
 ghost use Rattle.constraint_compile.specs.Meaning.{MetricList, IsWeight};
 ghost use Rattle.constraint_compile.specs.Addends.{addends, addends_view, sum_of, IsKept};
-ghost use Rattle.constraint_compile.specs.Sums.{AreTerms, AreScales, HasTooMany};
+ghost use Rattle.constraint_compile.specs.Coefficients.Sums.{AreTerms, AreScales, HasTooMany};
 ghost use Rattle.constraint_compile.specs.Stops.{AreSteps, IsSumRow, IsWithinLimits, IsRowStop};
 ghost use Rattle.constraint_compile.specs.Compiled.{AreSmallSteps};
 ghost use Rattle.constraint_compile.specs.Keeps.{AreScalesKept, steps_view};

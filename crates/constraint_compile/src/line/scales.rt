@@ -1,11 +1,12 @@
 // The scales of ever longer sums.
-ghost use Rattle.std.specs.Prelude.{◌≡◌, ◌≤◌, ◌<◌, ◌+◌, ℕ, pos, length, All, IfOk, IfSome, IfNone};
-ghost use Rattle.frac_core.specs.Fraction.{Fraction};
-ghost use Rattle.constraint_compile.specs.Fractions.{AreSmall, zero_fraction};
-ghost use Rattle.constraint_compile.specs.Addends.{addend_view, addends_view, sum_of, first_of, with_addend};
+ghost use Rattle.std.specs.Prelude.{◌≡◌, ◌<◌, ◌+◌, ℕ, pos, length, All, IfOk, IfSome, IfNone};
+ghost use Rattle.problem_core.specs.Window.{zero_fraction};
+ghost use Rattle.constraint_compile.specs.Fractions.{AreSmall};
+ghost use Rattle.constraint_compile.specs.Addends.{addend_view, addends_view, sum_of, first_of};
 ghost use Rattle.constraint_compile.specs.Addends.{IsKept};
-ghost use Rattle.constraint_compile.specs.Shares.{IsOff};
-ghost use Rattle.constraint_compile.specs.Sums.{AreKept, IsSum, AreScales};
+ghost use Rattle.constraint_compile.specs.Coefficients.Shares.{IsOff};
+ghost use Rattle.constraint_compile.specs.Coefficients.Sums.{AreKept, IsSum, AreScales, IsSumWithAddend};
+ghost use Rattle.constraint_compile.specs.Coefficients.Sums.{IsPastWithAddend};
 
 use crate::addends::Addend;
 use crate::line::sums::{Sum, added};
@@ -29,22 +30,15 @@ fn with_more(
     requires kept { AreKept attrs.now sum.scale sum.numbers.items }
     requires addend { IsKept addend.now }
     ensures kept { IfOk result (λ o. IfSome o (λ next. AreKept attrs.now next.scale next.numbers.items)) }
-    ensures sum { IfOk result (λ o. IfSome o (λ next. (b : ℕ → Fraction)
-        → IsSum b attrs.now sum.scale sum.numbers.items
-        → ((v : ℕ) → IsOff attrs.now v → ((addend_view addend.now).share v).num ≡ pos 0)
-        → IsSum (with_addend b (addend_view addend.now)) attrs.now next.scale next.numbers.items)) }
-    ensures past { IfOk result (λ o. IfNone o ((b : ℕ → Fraction)
-        → IsSum b attrs.now sum.scale sum.numbers.items
-        → ((v : ℕ) → IsOff attrs.now v → ((addend_view addend.now).share v).num ≡ pos 0)
-        → AreSmall (with_addend b (addend_view addend.now)) → ⊥)) }
+    ensures sum { IfOk result (λ o. IfSome o (λ next. IsSumWithAddend attrs.now (addend_view addend.now)
+        sum.scale sum.numbers.items next.scale next.numbers.items)) }
+    ensures past { IfOk result (λ o. IfNone o (IsPastWithAddend attrs.now (addend_view addend.now)
+        sum.scale sum.numbers.items)) }
 {
     let Some(share) = addend.share() else {
         return Ok(Some(sum));
     };
-    match added(alloc, attrs, &sum, &share)? {
-        Some(next) => Ok(Some(next)),
-        None => Ok(None),
-    }
+    added(alloc, attrs, &sum, &share)
 }
 
 // The sum of nothing.
@@ -79,10 +73,10 @@ pub(crate) fn scales_of(
     let mut sum = no_sum(alloc, attrs)?;
     let mut scales = Vec::with_capacity(alloc, added.len())?;
     for addend in added {
-        match with_more(alloc, attrs, sum, addend)? {
-            Some(next) => sum = next,
-            None => return Ok(None),
-        }
+        let Some(next) = with_more(alloc, attrs, sum, addend)? else {
+            return Ok(None);
+        };
+        sum = next;
         scales.push(sum.scale)?;
     }
     Ok(Some(Scaled { sum, scales }))

@@ -1,5 +1,5 @@
 // The terms of both sides of a line, brought to one side.
-ghost use Rattle.std.specs.Prelude.{◌≡◌, ◌++◌, ◌∷◌, [], map, IfOk};
+ghost use Rattle.std.specs.Prelude.{◌≡◌, ◌++◌, map, IfOk};
 ghost use Rattle.script_text.specs.View.{term_view, terms_view, linear_view};
 ghost use Rattle.constraint_compile.specs.Fractions as fractions;
 ghost use Rattle.constraint_compile.specs.Meaning.{minus, terms_of};

@@ -1,14 +1,16 @@
 // Sums of terms, over a common scale.
 ghost use Rattle.std.specs.Prelude.{◌≡◌, ℕ, ◌<◌, ◌≤◌, ◌*◌, ◌^◌, ◌+ℤ◌, ◌*ℤ◌, ◌<ℤ◌, pos, length, if◌then◌else◌};
-ghost use Rattle.std.specs.Prelude.{◌==◌, All, AllPairs, IfOk, IfSome, IfNone, unsigned_abs};
+ghost use Rattle.std.specs.Prelude.{◌==◌, All, IfOk, IfSome, IfNone, unsigned_abs};
 ghost use Prim.Native.Nat.{◌∣◌};
 ghost use Rattle.frac_core.specs.declared.frac.TheConstants.{PART_BOUND};
 ghost use Rattle.problem_core.specs.Layout.{coefficient};
 ghost use Rattle.problem_core.specs.declared.limits.TheConstants.{COEFFICIENT_LIMIT};
-ghost use Rattle.constraint_compile.specs.Shares.{form, AreHalves};
-ghost use Rattle.constraint_compile.specs.Sums.{AreKept, IsSumWithShare, IsPastWithShare, IsDivisor};
-ghost use Rattle.constraint_compile.specs.Sums.{AreDivided, IsPast, AreWhole, attr_at, number_at};
-ghost use Rattle.constraint_compile.specs.Sums.{with_share_number};
+ghost use Rattle.constraint_compile.specs.Coefficients.Shares.{form, AreHalves};
+ghost use Rattle.constraint_compile.specs.Coefficients.Sums.{AreKept, IsSumWithShare, IsPastWithShare};
+ghost use Rattle.constraint_compile.specs.Coefficients.Sums.{IsDivisor};
+ghost use Rattle.constraint_compile.specs.Coefficients.Sums.{AreDivided, IsPast, AreWhole, attr_at};
+ghost use Rattle.constraint_compile.specs.Coefficients.Sums.{number_at};
+ghost use Rattle.constraint_compile.specs.Coefficients.Sums.{with_share_number};
 
 use crate::attributes::{Doubled, Share};
 use crate::wide::{product, quotient, total};
@@ -31,7 +33,7 @@ fn at(term: Term, attr: u32) -> i64
     if term.attr == attr { term.by } else { 0 }
 }
 
-// How many halves of an attribute there are.
+/// How many halves of an attribute there are.
 pub(crate) fn halves(of: &Doubled, attr: u32) -> i64
     requires { AreHalves of.now }
     ensures value { result ≡ coefficient attr (form of.now) }
@@ -40,7 +42,7 @@ pub(crate) fn halves(of: &Doubled, attr: u32) -> i64
     at(of.edge, attr) + at(of.size, attr)
 }
 
-// A quotient and its rest.
+/// A quotient and its rest.
 #[derive(Clone, Copy, Debug)]
 pub(crate) struct Division {
     pub whole: i64,
@@ -79,7 +81,7 @@ fn scaled_halves(of: &Doubled, attr: u32, scale: u32) -> i64
     i64::from(scale) * halves(of, attr)
 }
 
-// Twice the denominator.
+/// Twice the denominator.
 pub(crate) fn double_den(f: Frac) -> i64
     ensures value { result ≡ pos (f.den * 2) }
     ensures small { unsigned_abs result < 2 ^ 44 }
@@ -153,10 +155,10 @@ fn divided(alloc: Global, wide: &[i128], divisor: i128) -> Result<Option<Vec<i64
 {
     let mut out = Vec::with_capacity(alloc, wide.len())?;
     for number in wide {
-        match small_quotient(*number, divisor) {
-            Some(small) => out.push(small)?,
-            None => return Ok(None),
-        }
+        let Some(small) = small_quotient(*number, divisor) else {
+            return Ok(None);
+        };
+        out.push(small)?;
     }
     Ok(Some(out))
 }
@@ -216,10 +218,10 @@ fn whole_numbers(
 {
     let mut out = Vec::with_capacity(alloc, attrs.len())?;
     for place in 0..attrs.len() {
-        match whole_more(numbers[place], share, attrs[place]) {
-            Some(next) => out.push(next)?,
-            None => return Ok(None),
-        }
+        let Some(next) = whole_more(numbers[place], share, attrs[place]) else {
+            return Ok(None);
+        };
+        out.push(next)?;
     }
     Ok(Some(out))
 }
@@ -266,13 +268,13 @@ fn rescaled(
     if scale > u128::from(COEFFICIENT_LIMIT) {
         return Ok(None);
     }
-    match divided(alloc, &wide, divisor as i128)? {
-        Some(numbers) => Ok(Some(Sum {
-            scale: scale as u32,
-            numbers,
-        })),
-        None => Ok(None),
-    }
+    let Some(numbers) = divided(alloc, &wide, divisor as i128)? else {
+        return Ok(None);
+    };
+    Ok(Some(Sum {
+        scale: scale as u32,
+        numbers,
+    }))
 }
 
 /// The sum with a share more, unless the scale or a number would be past the limit.

@@ -6,10 +6,10 @@ ghost use Rattle.problem_core.specs.Layout.{HasStay};
 ghost use Rattle.problem_core.specs.declared.parts.Stay as stay_type;
 ghost use Rattle.corner_lines.specs.Removals.{IsFree};
 ghost use Rattle.corner.specs.declared.table.TheConstants.{LEVELS};
-ghost use Rattle.corner.specs.Dropping.{AreLeftListed, dropped, dropped_attr, with_left};
+ghost use Rattle.corner.specs.Removals.Dropping.{AreLeftListed, dropped, dropped_attr, with_left};
 ghost use Rattle.corner.specs.Histories.{AreAlike, lists_before};
 ghost use Rattle.corner.specs.Kept.{AreSlots, IsKept};
-ghost use Rattle.corner.specs.Leaving.{IsLeaver, IsLevelLeft};
+ghost use Rattle.corner.specs.Removals.Leaving.{IsLeaver, IsLevelLeft};
 ghost use Rattle.corner.specs.Tables.{lists_of, problem_of};
 
 use crate::exchange::put_change;

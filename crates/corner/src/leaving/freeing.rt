@@ -1,6 +1,6 @@
 // Slots that are of nothing.
 ghost use Rattle.std.specs.Prelude.{◌≡◌, ◌<◌, length, OnOk};
-ghost use Rattle.corner.specs.Dropping.{freed};
+ghost use Rattle.corner.specs.Removals.Dropping.{freed};
 ghost use Rattle.corner.specs.Histories.{AreAlike, lists_before};
 ghost use Rattle.corner.specs.Tables.{lists_of};
 

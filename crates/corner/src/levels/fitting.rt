@@ -7,11 +7,12 @@ ghost use Rattle.problem_core.specs.Kept.{IsRow, IsWhole};
 ghost use Rattle.problem_core.specs.Layout.{rank_level};
 ghost use Rattle.corner_laws.specs.LevelLaws.{small_number};
 ghost use Rattle.corner.specs.declared.table.TheConstants.{LEVELS};
-ghost use Rattle.corner.specs.Fitting as fitting;
-ghost use Rattle.corner.specs.Fitting.{AreFittingCosts, AreFittingLines, HasFittingRow, HasNoFittingRow};
-ghost use Rattle.corner.specs.Fitting.{IsFittingLine};
+ghost use Rattle.corner.specs.Reads.Fitting as fitting;
+ghost use Rattle.corner.specs.Reads.Fitting.{AreFittingCosts, AreFittingLines, HasFittingRow};
+ghost use Rattle.corner.specs.Reads.Fitting.{HasNoFittingRow};
+ghost use Rattle.corner.specs.Reads.Fitting.{IsFittingLine};
 ghost use Rattle.corner.specs.Kept.{AreSlots};
-ghost use Rattle.corner.specs.LevelNumbers.{IsCounted};
+ghost use Rattle.corner.specs.Reads.LevelNumbers.{IsCounted};
 ghost use Rattle.corner.specs.Tables as tables;
 ghost use Rattle.corner.specs.Tables.{lists_of, problem_of};
 

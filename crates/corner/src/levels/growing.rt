@@ -2,10 +2,10 @@
 ghost use Rattle.std.specs.Prelude.{◌≡◌, ◌≢◌, ◌<◌, ◌^◌, length, true};
 ghost use Rattle.problem_core.specs.Corners as corners;
 ghost use Rattle.problem_core.specs.Corners.{IsIn};
-ghost use Rattle.corner.specs.Growing as growing;
-ghost use Rattle.corner.specs.Growing.{AreGrowersDear, IsEntryDear, IsRowDear};
+ghost use Rattle.corner.specs.Reads.Growing as growing;
+ghost use Rattle.corner.specs.Reads.Growing.{AreGrowersDear, IsEntryDear, IsRowDear};
 ghost use Rattle.corner.specs.Kept.{IsKept};
-ghost use Rattle.corner.specs.LevelNumbers.{IsLevelSlot, IsSlotOfLine};
+ghost use Rattle.corner.specs.Reads.LevelNumbers.{IsLevelSlot, IsSlotOfLine};
 ghost use Rattle.corner.specs.Tables.{lists_of, marks_at, problem_of, row_at};
 ghost use Rattle.corner.specs.Views.{IsLevelOf};
 

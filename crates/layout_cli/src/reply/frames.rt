@@ -1,7 +1,7 @@
 // The text of frames.
 ghost use Rattle.std.specs.Prelude.{◌≡◌, ◌++◌, ◌∷◌, [], IfOk, Some, None, slice_get};
 ghost use Rattle.view_tree.specs.Views.{LiveView};
-ghost use Rattle.layout_cli.specs.Replies.{value_text, frame_line, frame_of, text_of_each};
+ghost use Rattle.layout_cli.specs.Replies.{value_text, frame_line, frame_text, text_of_each};
 
 use frac_core::{FRACTION_ROOM, Frac, OutOfMemory, Wide, write_frac};
 use session_undo::Scene;
@@ -59,7 +59,7 @@ pub(crate) fn named(frame: &[Frac; 4]) -> Frame
 /// Appends the line that shows the frame of the view at a place, if a view is there.
 pub(crate) fn push_at(out: &mut Vec<u8>, scene: &Scene, place: usize) -> Result<(), OutOfMemory>
     ensures line { IfOk result (λ _. (v : LiveView) → slice_get scene.now.scene.tree.views place ≡ Some v
-        → out.new.items ≡ out.old.items ++ frame_of scene.now.scene.values v) }
+        → out.new.items ≡ out.old.items ++ frame_text scene.now.scene.values v) }
     ensures none { IfOk result (λ _. slice_get scene.now.scene.tree.views place ≡ None
         → out.new.items ≡ out.old.items) }
 {
@@ -75,7 +75,7 @@ pub(crate) fn push_at(out: &mut Vec<u8>, scene: &Scene, place: usize) -> Result<
 /// Appends the frames of all views.
 pub fn push_frames(out: &mut Vec<u8>, scene: &Scene) -> Result<(), OutOfMemory>
     ensures { IfOk result (λ _. out.new.items
-        ≡ out.old.items ++ text_of_each (frame_of scene.now.scene.values) scene.now.scene.tree.views) }
+        ≡ out.old.items ++ text_of_each (frame_text scene.now.scene.values) scene.now.scene.tree.views) }
 {
     for place in 0..scene.tree().len() {
         push_at(out, scene, place)?;

@@ -23,7 +23,7 @@ use std::alloc::{AllocError, Global};
 
 /// Why a line has no whole reply.
 #[derive(Clone, Copy, Debug, PartialEq, Eq)]
-pub enum AnswerStop {
+pub(crate) enum AnswerStop {
     /// The sink failed.
     Fault,
     /// Memory was wanting.

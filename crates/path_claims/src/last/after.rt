@@ -4,14 +4,13 @@ ghost use Rattle.std.specs.Prelude.{List, IsTrue};
 ghost use Rattle.std.specs.Ordering.{int_cmp};
 ghost use Rattle.frac_core.specs.Fraction.{IsFitting, sum_num};
 ghost use Rattle.problem_core.specs.Layout.{Problem};
-ghost use Rattle.problem_core.specs.Corners.{IsExchange, exchanged};
 ghost use Rattle.problem_core.specs.declared.parts.Mark.{Mark};
 ghost use Rattle.path_checker.specs.Numbers.{IsFactor, number_at};
-ghost use Rattle.path_checker.specs.Pivots.{next_marks};
-ghost use Rattle.path_checker.specs.Tables.{AreLines, AreSized, IsLineAt, IsSizedLine, IsThere, IsUp};
-ghost use Rattle.path_checker.specs.Tables.{line_count, name_at, swap_of};
+ghost use Rattle.path_checker.specs.Tables.{AreLines, AreSized, IsSizedLine, IsUp};
+ghost use Rattle.path_checker.specs.Tables.{name_at};
 ghost use Rattle.path_claims.specs.Sums.{AreUpAfter, IsShareOf, IsSideAt, IsSizedShare};
-ghost use Rattle.path_levels.specs.Turns.{IsSizedPivot, IsTurnPivot};
+ghost use Rattle.path_levels.specs.Exchanges.Pivots.{IsExchangePivot, IsSizedPivot};
+ghost use Rattle.path_claims.specs.After.{AfterStepWithLine, AfterWithLine, WithLine};
 
 use frac_core::Frac;
 use path_checker::{Inside, Pivot, Ratio, Step, is_on_side, moved_sign};
@@ -20,10 +19,7 @@ use std::cmp::Ordering;
 
 /// Which mark of the line is inside after the exchange.
 pub(crate) fn side_after(line: &Option<Inside>, step: Step, at: usize) -> Option<Side>
-    ensures { (p : Problem) (marks : List Mark) → IsThere p marks → IsExchange p marks (swap_of p step)
-        → step.enter.at < line_count p → step.leave.at < line_count p → at < line_count p
-        → IsLineAt p marks (name_at p at) line.now
-        → IsSideAt (exchanged (swap_of p step) marks) (name_at p at) result }
+    ensures { AfterStepWithLine step at line.now (λ p marks. IsSideAt marks (name_at p at) result) }
 {
     if at == step.enter.at {
         return Some(step.enter.side);
@@ -66,9 +62,8 @@ pub(crate) fn share_of(line: &Option<Inside>, count: usize, enter: usize, at: us
     requires sized { IsSizedLine count line.now }
     requires enter { enter < count }
     ensures sized { IsSizedShare result }
-    ensures share { (p : Problem) (marks : List Mark) → IsThere p marks → count ≡ line_count p
-        → at < line_count p → IsLineAt p marks (name_at p at) line.now
-        → IsShareOf p marks (name_at p at) (name_at p enter) result }
+    ensures share { WithLine count at line.now
+        (λ p marks. IsShareOf p marks (name_at p at) (name_at p enter) result) }
 {
     match line {
         Some(inside) => Share {
@@ -139,9 +134,8 @@ fn sign_after(share: Share, pivot: &Pivot) -> Ordering
 fn is_up_after(line: &Option<Inside>, pivot: &Pivot, count: usize, at: usize) -> bool
     requires sized { IsSizedLine count line.now }
     requires pivot { IsSizedPivot count pivot.now }
-    ensures { (p : Problem) (marks : List Mark) → IsTurnPivot p marks pivot.now → count ≡ line_count p
-        → at < line_count p → IsLineAt p marks (name_at p at) line.now
-        → IsTrue result ↔ IsUp p (next_marks p pivot.now marks) (name_at p at) }
+    ensures { AfterWithLine pivot.now count at line.now
+        (λ p marks. IsTrue result ↔ IsUp p marks (name_at p at)) }
 {
     match side_after(line, pivot.step, at) {
         Some(side) => is_on_side(
@@ -163,9 +157,8 @@ fn is_fine_after(
     requires sized { IsSizedLine count line.now }
     requires pivot { IsSizedPivot count pivot.now }
     ensures free { judged ≡ false → result ≡ true }
-    ensures up { judged ≡ true → (p : Problem) (marks : List Mark) → IsTurnPivot p marks pivot.now
-        → count ≡ line_count p → at < line_count p → IsLineAt p marks (name_at p at) line.now
-        → IsTrue result ↔ IsUp p (next_marks p pivot.now marks) (name_at p at) }
+    ensures up { judged ≡ true → AfterWithLine pivot.now count at line.now
+        (λ p marks. IsTrue result ↔ IsUp p marks (name_at p at)) }
 {
     if judged {
         is_up_after(line, pivot, count, at)
@@ -190,8 +183,8 @@ pub(crate) fn are_up_after(
 ) -> bool
     requires sized { AreSized lines.now }
     requires pivot { IsSizedPivot (length lines.now) pivot.now }
-    ensures { (p : Problem) (marks : List Mark) → IsTurnPivot p marks pivot.now → AreLines p marks lines.now
-        → IsTrue result ↔ AreUpAfter p marks pivot.now judged rows }
+    ensures { (p : Problem) (marks : List Mark) → IsExchangePivot p marks pivot.now
+        → AreLines p marks lines.now → IsTrue result ↔ AreUpAfter p marks pivot.now judged rows }
 {
     for (at, line) in lines.iter().enumerate() {
         if !is_fine_after(line, pivot, lines.len(), at, is_judged(at, judged, rows)) {

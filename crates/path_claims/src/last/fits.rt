@@ -3,36 +3,35 @@ ghost use Rattle.std.specs.Prelude.{◌≡◌, ◌≢◌, ◌↔◌, ◌<◌, tr
 ghost use Rattle.std.specs.Prelude.{IfSome, IfNone, IsTrue};
 ghost use Rattle.std.specs.List.{HoldsAt};
 ghost use Rattle.problem_core.specs.Layout.{Problem};
-ghost use Rattle.problem_core.specs.Corners.{IsExchange, IsIn, attr_column, exchanged, place_of};
+ghost use Rattle.problem_core.specs.Corners.{IsIn, attr_column, place_of};
 ghost use Rattle.problem_core.specs.Unfit.{HasNoWriting, IsUnfitWhat};
 ghost use Rattle.problem_core.specs.declared.parts.Mark.{Mark};
 ghost use Rattle.problem_core.specs.declared.parts.Stay.{Stay};
 ghost use Rattle.problem_core.specs.declared.stops.What.TheVariants.{Attr, Mark as MarkOf};
 ghost use Rattle.problem_core.specs.declared.stops.Quantity.TheVariants.{Plain};
-ghost use Rattle.path_checker.specs.Pivots.{HasUnfit, next_marks};
-ghost use Rattle.path_checker.specs.Tables.{AreLines, AreSized, IsLineAt, IsSized, IsSizedLine, IsThere};
+ghost use Rattle.path_checker.specs.Exchanges.Pivots.{HasUnfit};
+ghost use Rattle.path_checker.specs.Tables.{AreLines, AreSized, IsSized, IsSizedLine, IsThere};
 ghost use Rattle.path_checker.specs.Tables.{line_count};
-ghost use Rattle.path_checker.specs.Tables.{name_at, swap_of};
+ghost use Rattle.path_checker.specs.Tables.{name_at};
 ghost use Rattle.frac_core.specs.Stops.{IsRefused};
 ghost use Rattle.path_claims.specs.Fits.{AllAttrsFit, IsFitAt};
 ghost use Rattle.path_claims.specs.Attrs.{IsAttrAfter, IsAttrBefore, IsFittingStay, IsSizedMade};
 ghost use Rattle.path_claims.specs.Attrs.{IsStayAt, IsUnfitBefore, IsUnfitStay};
-ghost use Rattle.path_levels.specs.Turns.{IsSizedPivot, IsTurnPivot};
+ghost use Rattle.path_levels.specs.Exchanges.Pivots.{IsSizedPivot};
+ghost use Rattle.path_claims.specs.After.{AfterExchange, AfterFittingAttrs, AfterStepWithLine};
 
 use crate::last::Fit;
 use crate::last::after::side_after;
 use crate::last::line_sums::{line_after, next_sum, unit_sum, with_value};
-use frac_core::{Frac, OutOfMemory, Stop, Unfit};
+use frac_core::{Frac, OutOfMemory, Stop};
 use path_checker::{Inside, Pivot, Step, Sum, SumStop, names, spot_of};
 use problem_core::{Mark, Problem, Side, Stay};
 use std::alloc::Global;
 
 /// Whether this mark of the line is inside after the exchange.
 pub(crate) fn is_inside_after(line: &Option<Inside>, step: Step, at: usize, side: Side) -> bool
-    ensures { (p : Problem) (marks : List Mark) → IsThere p marks → IsExchange p marks (swap_of p step)
-        → step.enter.at < line_count p → step.leave.at < line_count p → at < line_count p
-        → IsLineAt p marks (name_at p at) line.now
-        → IsTrue result ↔ IsIn (place_of (name_at p at) side) (exchanged (swap_of p step) marks) }
+    ensures { AfterStepWithLine step at line.now
+        (λ p marks. IsTrue result ↔ IsIn (place_of (name_at p at) side) marks) }
 {
     match side_after(line, step, at) {
         Some(inside) => inside == side,
@@ -51,9 +50,8 @@ pub(crate) fn mark_fit(
     requires count { length lines.now ≡ line_count p.now }
     requires lines { AreSized lines.now }
     requires pivot { IsSizedPivot (length lines.now) pivot.now }
-    ensures { IfOk result (λ fit. (marks : List Mark) → IsTurnPivot p.now marks pivot.now
-        → AreLines p.now marks lines.now
-        → IsFitAt p.now (next_marks p.now pivot.now marks) (Plain (MarkOf mark)) fit) }
+    ensures { IfOk result (λ fit. AfterExchange p.now pivot.now lines.now
+        (λ marks. IsFitAt p.now marks (Plain (MarkOf mark)) fit)) }
 {
     let names = names(alloc, p)?;
     let Some(spot) = spot_of(&names, mark) else {
@@ -94,9 +92,7 @@ fn attr_before(
 {
     match line {
         Some(inside) => {
-            let Ok(value) = Frac::mul_add(target, 1, 1, inside.sum.value) else {
-                return Err(Stop::Refused(Unfit));
-            };
+            let value = Frac::mul_add(target, 1, 1, inside.sum.value)?;
             with_value(alloc, &inside.sum, value)
         }
         None => unit_sum(alloc, count, at, target),
@@ -134,12 +130,10 @@ pub(crate) fn attr_after(
     requires lines { AreSized lines.now }
     requires pivot { IsSizedPivot (length lines.now) pivot.now }
     ensures sized { IfOk result (IsSizedMade (length lines.now)) }
-    ensures attr { IfOk result (λ made. (marks : List Mark) → IsTurnPivot p.now marks pivot.now
-        → AreLines p.now marks lines.now → IsAttrAfter p.now (next_marks p.now pivot.now marks) attr made) }
-    ensures unfit { IfErr result (λ stop. IsRefused stop → (marks : List Mark)
-        → IsTurnPivot p.now marks pivot.now
-        → AreLines p.now marks lines.now → AllAttrsFit p.now marks
-        → IsUnfitWhat p.now (next_marks p.now pivot.now marks) (Attr attr)) }
+    ensures attr { IfOk result (λ made. AfterExchange p.now pivot.now lines.now
+        (λ marks. IsAttrAfter p.now marks attr made)) }
+    ensures unfit { IfErr result (λ stop. IsRefused stop → AfterFittingAttrs p.now pivot.now lines.now
+        (λ marks. IsUnfitWhat p.now marks (Attr attr))) }
 {
     let Some(stay) = stay_place(p, attr) else {
         return Ok(None);
@@ -160,9 +154,8 @@ pub(crate) fn attr_fit(
     requires count { length lines.now ≡ line_count p.now }
     requires lines { AreSized lines.now }
     requires pivot { IsSizedPivot (length lines.now) pivot.now }
-    ensures { IfOk result (λ fit. (marks : List Mark) → IsTurnPivot p.now marks pivot.now
-        → AreLines p.now marks lines.now → AllAttrsFit p.now marks
-        → IsFitAt p.now (next_marks p.now pivot.now marks) (Plain (Attr attr)) fit) }
+    ensures { IfOk result (λ fit. AfterFittingAttrs p.now pivot.now lines.now
+        (λ marks. IsFitAt p.now marks (Plain (Attr attr)) fit)) }
 {
     match attr_after(alloc, p, lines, pivot, attr) {
         Ok(_) => Ok(Fit::Fits),

@@ -1,20 +1,17 @@
 // The sum of a quantity after an exchange, whatever else fits there.
-ghost use Rattle.std.specs.Prelude.{◌≡◌, ◌<◌, ◌*ℤ◌, length, List, IfOk, IfErr, OnErr};
+ghost use Rattle.std.specs.Prelude.{◌≡◌, length, IfOk, IfErr, OnErr};
 ghost use Rattle.frac_core.specs.Stops.{IsRefused};
-ghost use Rattle.frac_core.specs.Fraction.{IsKept, IsRatio, IsUnfitRatio, sum_den, sum_num};
-ghost use Rattle.problem_core.specs.Layout.{Problem};
-ghost use Rattle.problem_core.specs.declared.parts.Mark.{Mark};
+ghost use Rattle.frac_core.specs.Fraction.{IsKept, IsRatio, IsUnfitRatio};
 ghost use Rattle.corner_lines.specs.LineEquations.{deviation};
-ghost use Rattle.path_checker.specs.Numbers.{number_at};
-ghost use Rattle.path_checker.specs.Pivots.{next_marks};
-ghost use Rattle.path_checker.specs.Tables.{IsLineAt, IsSized, IsSizedLine, IsThere, line_count, name_at};
+ghost use Rattle.path_checker.specs.Tables.{IsLineAt, IsSized, IsSizedLine, name_at};
 ghost use Rattle.frac_core.specs.declared.memory.Stop.TheVariants.{OutOfMemory};
 ghost use Rattle.path_claims.specs.Sums.{IsCopy, IsKeptLine, IsQuantitySum, IsSumAfter, IsUnfitAfter};
-ghost use Rattle.path_claims.specs.Sums.{IsUnfitLineAt, IsUnitList, IsUnitSum};
-ghost use Rattle.path_levels.specs.Turns.{IsSizedPivot, IsTurnPivot};
+ghost use Rattle.path_claims.specs.Sums.{IsUnfitLineAt, IsUnitList, IsUnitSum, next_den, next_num};
+ghost use Rattle.path_levels.specs.Exchanges.Pivots.{IsSizedPivot};
+ghost use Rattle.path_claims.specs.After.{AfterWithLine, WithLine};
 
 use crate::last::after::{number_of, own_number, ratio_of, side_after};
-use frac_core::{Frac, Stop, Unfit};
+use frac_core::{Frac, Unfit};
 use path_checker::{Inside, Lowest, Pivot, Sum, SumStop, carried, in_lowest_terms};
 use path_levels::moved_value;
 use std::alloc::Global;
@@ -68,15 +65,10 @@ pub(crate) fn unit_sum(alloc: Global, count: usize, at: usize, value: Frac) -> R
 fn next_value(pivot: &Pivot, sum: &Sum) -> Result<Frac, Unfit>
     requires pivot { IsSizedPivot (length sum.now.by.items) pivot.now }
     requires sum { IsSized (length sum.now.by.items) sum.now }
-    ensures value { IfOk result (λ f. IsRatio f
-        (sum_num sum.now.value (number_at sum.now.by.items pivot.now.step.enter.at *ℤ pivot.now.times)
-        (sum.now.own *ℤ pivot.now.size) pivot.now.value)
-        (sum_den sum.now.value (sum.now.own *ℤ pivot.now.size) pivot.now.value)) }
+    ensures value { IfOk result
+        (λ f. IsRatio f (next_num pivot.now sum.now) (next_den pivot.now sum.now)) }
     ensures kept { IfOk result IsKept }
-    ensures unfit { OnErr result (IsUnfitRatio
-        (sum_num sum.now.value (number_at sum.now.by.items pivot.now.step.enter.at *ℤ pivot.now.times)
-        (sum.now.own *ℤ pivot.now.size) pivot.now.value)
-        (sum_den sum.now.value (sum.now.own *ℤ pivot.now.size) pivot.now.value)) }
+    ensures unfit { OnErr result (IsUnfitRatio (next_num pivot.now sum.now) (next_den pivot.now sum.now)) }
 {
     let number = number_of(&sum.by, pivot.step.enter.at);
     let ratio = ratio_of(pivot, number, sum.own);
@@ -110,9 +102,7 @@ pub(crate) fn next_sum(alloc: Global, pivot: &Pivot, sum: &Sum) -> Result<Sum, S
     }
     let wide = carried(alloc, pivot, sum)?;
     let numbers = in_lowest_terms(alloc, &wide)?;
-    let Ok(value) = next_value(pivot, sum) else {
-        return Err(Stop::Refused(Unfit));
-    };
+    let value = next_value(pivot, sum)?;
     Ok(sum_of(numbers, value))
 }
 
@@ -125,9 +115,8 @@ pub(crate) fn line_before(
 ) -> Result<Sum, SumStop>
     requires { IsSizedLine count line.now }
     ensures sized { IfOk result (IsSized count) }
-    ensures sum { IfOk result (λ sum. (p : Problem) (marks : List Mark) → IsThere p marks
-        → count ≡ line_count p → at < line_count p → IsLineAt p marks (name_at p at) line.now
-        → IsQuantitySum p marks (deviation (name_at p at)) sum) }
+    ensures sum { IfOk result (λ sum. WithLine count at line.now
+        (λ p marks. IsQuantitySum p marks (deviation (name_at p at)) sum)) }
     ensures memory { IfErr result (λ stop. stop ≡ OutOfMemory) }
 {
     match line {
@@ -148,13 +137,10 @@ pub(crate) fn line_after(
     requires pivot { IsSizedPivot count pivot.now }
     ensures sized { IfOk result (IsSizedLine count) }
     ensures kept { IfOk result IsKeptLine }
-    ensures line { IfOk result (λ next. (p : Problem) (marks : List Mark) → IsTurnPivot p marks pivot.now
-        → count ≡ line_count p → at < line_count p → IsLineAt p marks (name_at p at) line.now
-        → IsLineAt p (next_marks p pivot.now marks) (name_at p at) next) }
-    ensures unfit { IfErr result (λ stop. IsRefused stop → (p : Problem) (marks : List Mark)
-        → IsTurnPivot p marks pivot.now → count ≡ line_count p → at < line_count p
-        → IsLineAt p marks (name_at p at) line.now
-        → IsUnfitLineAt p (next_marks p pivot.now marks) (name_at p at)) }
+    ensures line { IfOk result (λ next. AfterWithLine pivot.now count at line.now
+        (λ p marks. IsLineAt p marks (name_at p at) next)) }
+    ensures unfit { IfErr result (λ stop. IsRefused stop → AfterWithLine pivot.now count at line.now
+        (λ p marks. IsUnfitLineAt p marks (name_at p at))) }
 {
     let Some(side) = side_after(line, pivot.step, at) else {
         return Ok(None);

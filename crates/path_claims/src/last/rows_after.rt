@@ -1,20 +1,20 @@
 // How the sum of a level's first rows stands after an exchange.
-ghost use Rattle.std.specs.Prelude.{◌≡◌, ◌<◌, ◌≢◌, ℕ, cond, nat_eq, true, false, length, take, get_or};
+ghost use Rattle.std.specs.Prelude.{◌≡◌, ◌<◌, ◌≢◌, ℕ, cond, nat_eq, true, false, length, take};
 ghost use Rattle.std.specs.Prelude.{List, Option, IfOk, IfErr, IfSome, IfNone};
 ghost use Rattle.problem_core.specs.Layout.{Problem};
-ghost use Rattle.problem_core.specs.Levels.{IsLevelAt};
 ghost use Rattle.problem_core.specs.declared.parts.Mark.{Mark};
 ghost use Rattle.problem_core.specs.declared.parts.Level.{Level};
 ghost use Rattle.problem_core.specs.declared.stops.Quantity.TheVariants as quantities;
-ghost use Rattle.path_checker.specs.Pivots.{next_marks};
-ghost use Rattle.path_checker.specs.Tables.{AreLines, AreSized, IsLineAt, IsSizedLine, name_at};
+ghost use Rattle.path_checker.specs.Exchanges.Pivots.{next_marks};
+ghost use Rattle.path_checker.specs.Tables.{AreSized, IsLineAt, IsSizedLine, name_at};
 ghost use Rattle.frac_core.specs.Stops.{IsRefused};
 ghost use Rattle.path_checker.specs.declared.table.Inside.{Inside};
-ghost use Rattle.path_claims.specs.FirstLines.{HasUnfitFirst, IsFirstAt, size_in};
+ghost use Rattle.path_claims.specs.FirstLines.{AreFirstAfter, IsFirstAt, IsRowsFit, LeadsToUnfitFirst};
+ghost use Rattle.path_claims.specs.FirstLines.{size_in};
 ghost use Rattle.path_claims.specs.Fits.{IsFitAt, IsLastAfter, IsSizedLast};
-ghost use Rattle.path_levels.specs.Frames.{IsSizedFrame, number_at};
-ghost use Rattle.path_levels.specs.Rows.{AreKeptOf};
-ghost use Rattle.path_levels.specs.Turns.{IsSizedPivot, IsTurnPivot};
+ghost use Rattle.path_levels.specs.Outlines.{IsSizedOutline};
+ghost use Rattle.path_levels.specs.Exchanges.Pivots.{IsExchangePivot, IsSizedPivot};
+ghost use Rattle.path_claims.specs.After.{AfterExchange};
 ghost use Rattle.path_claims.specs.declared.last.Fit.TheVariants as fits;
 
 use crate::last::line_sums::line_after;
@@ -22,7 +22,7 @@ use crate::last::{Fit, Last};
 use crate::places::place_of_level;
 use frac_core::{OutOfMemory, Stop};
 use path_checker::{Inside, Pivot, SumStop};
-use path_levels::{Frame, LineFacts, level_of_lines};
+use path_levels::{LineFacts, Outline, level_of_lines};
 use problem_core::Level;
 use std::alloc::Global;
 
@@ -80,15 +80,12 @@ fn first_line(
     requires pivot { IsSizedPivot (length last.lines.now) pivot.now }
     requires at { at < length last.lines.now }
     ensures sized { IfOk result (IsSizedLine (length last.entry.lines.now)) }
-    ensures line { IfOk result (λ next. IsFirstAt last.entry.frame.now.lines.items firsts at
-        → (p : Problem) (marks : List Mark) → IsTurnPivot p marks pivot.now
-        → AreLines p marks last.entry.lines.now
-        → IsLineAt p (next_marks p pivot.now marks) (name_at p at) next) }
-    ensures unfit { IfErr result (λ stop. IsRefused stop → (p : Problem) (marks : List Mark)
-        → IsTurnPivot p marks pivot.now → AreLines p marks last.entry.lines.now
-        → HasUnfitFirst p (next_marks p pivot.now marks) last.entry.frame.now.lines.items firsts) }
+    ensures line { IfOk result (λ next. IsFirstAt last.entry.outline.now.lines.items firsts at
+        → (p : Problem) → AfterExchange p pivot.now last.entry.lines.now
+        (λ marks. IsLineAt p marks (name_at p at) next)) }
+    ensures unfit { IfErr result (λ stop. IsRefused stop → LeadsToUnfitFirst last.entry pivot.now firsts) }
 {
-    if !is_first(&last.frame.lines, firsts, at) {
+    if !is_first(&last.outline.lines, firsts, at) {
         return Ok(None);
     }
     line_after(alloc, &last.lines[at], pivot, last.lines.len(), at)
@@ -105,14 +102,8 @@ fn first_lines(
     requires pivot { IsSizedPivot (length last.lines.now) pivot.now }
     ensures count { IfOk result (λ next. length next.items ≡ length last.entry.lines.now) }
     ensures sized { IfOk result (λ next. AreSized next.items) }
-    ensures lines { IfOk result (λ next. (k : ℕ) (d : Option Inside) → k < length last.entry.lines.now
-        → IsFirstAt last.entry.frame.now.lines.items firsts k
-        → (p : Problem) (marks : List Mark) → IsTurnPivot p marks pivot.now
-        → AreLines p marks last.entry.lines.now
-        → IsLineAt p (next_marks p pivot.now marks) (name_at p k) (get_or next.items k d)) }
-    ensures unfit { IfErr result (λ stop. IsRefused stop → (p : Problem) (marks : List Mark)
-        → IsTurnPivot p marks pivot.now → AreLines p marks last.entry.lines.now
-        → HasUnfitFirst p (next_marks p pivot.now marks) last.entry.frame.now.lines.items firsts) }
+    ensures lines { IfOk result (λ next. AreFirstAfter last.entry pivot.now firsts next.items) }
+    ensures unfit { IfErr result (λ stop. IsRefused stop → LeadsToUnfitFirst last.entry pivot.now firsts) }
 {
     let count = last.lines.len();
     let mut next = Vec::with_capacity(alloc, count)?;
@@ -137,21 +128,18 @@ fn stop_of(count: u32, first: u32) -> Fit
 // How the sum of a level's first rows stands at a corner of which their lines are kept.
 fn rows_at(
     alloc: Global,
-    frame: &Frame,
+    outline: &Outline,
     lines: &[Option<Inside>],
     place: usize,
     first: u32,
 ) -> Result<Fit, OutOfMemory>
-    requires frame { IsSizedFrame frame.now }
+    requires outline { IsSizedOutline outline.now }
     requires lines { AreSized lines.now }
-    requires count { length lines.now ≡ length frame.now.lines.items }
-    requires place { place < length frame.now.levels.items }
-    ensures { IfOk result (λ fit. (p : Problem) (at : List Mark) (level : Level)
-        → AreKeptOf p at frame.now place first lines.now
-        → IsLevelAt p level (number_at frame.now.levels.items place)
-        → IsFitAt p at (quantities.Rows level first) fit) }
+    requires count { length lines.now ≡ length outline.now.lines.items }
+    requires place { place < length outline.now.levels.items }
+    ensures { IfOk result (IsRowsFit outline.now lines.now place first) }
 {
-    match level_of_lines(alloc, frame, lines, place, first) {
+    match level_of_lines(alloc, outline, lines, place, first) {
         Ok(_) => Ok(Fit::Fits),
         Err(Stop::Refused(rows)) => Ok(stop_of(rows.first, first)),
         Err(Stop::OutOfMemory) => Err(OutOfMemory),
@@ -169,17 +157,17 @@ pub(crate) fn rows_fit(
     requires last { IsSizedLast last }
     requires pivot { IsSizedPivot (length last.lines.now) pivot.now }
     ensures { IfOk result (λ fit. (p : Problem) (at : List Mark) → IsLastAfter p at last.entry
-        → IsTurnPivot p at pivot.now
+        → IsExchangePivot p at pivot.now
         → IsFitAt p (next_marks p pivot.now at) (quantities.Rows level first) fit) }
 {
-    let Some(place) = place_of_level(last.frame, level) else {
+    let Some(place) = place_of_level(last.outline, level) else {
         return Ok(Fit::Fits);
     };
-    let Some(end) = end_of_first(&last.frame.lines, place, first as usize) else {
+    let Some(end) = end_of_first(&last.outline.lines, place, first as usize) else {
         return Ok(Fit::Fits);
     };
     match first_lines(alloc, last, pivot, FirstLines { place, end }) {
-        Ok(lines) => rows_at(alloc, last.frame, &lines, place, first),
+        Ok(lines) => rows_at(alloc, last.outline, &lines, place, first),
         Err(Stop::Refused(_)) => Ok(Fit::NoRoom),
         Err(Stop::OutOfMemory) => Err(OutOfMemory),
     }

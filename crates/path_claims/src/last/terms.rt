@@ -1,6 +1,6 @@
 // The sum of a row's first terms after an exchange.
 ghost use Rattle.std.specs.Prelude.{◌≡◌, ◌≢◌, ◌+◌, ◌<◌, ◌≤◌, ◌^◌, ◌*ℤ◌, pos, negsuc, true, false};
-ghost use Rattle.std.specs.Prelude.{◌↔◌, length, List, All, IfOk, IfErr, IfSome, IfNone, IsTrue};
+ghost use Rattle.std.specs.Prelude.{◌↔◌, length, All, IfOk, IfErr, IfSome, IfNone, IsTrue};
 ghost use Rattle.std.specs.List.{HoldsAt};
 ghost use Rattle.problem_core.specs.Layout.{Problem};
 ghost use Rattle.problem_core.specs.declared.stops.Quantity.TheVariants as quantities;
@@ -9,26 +9,26 @@ ghost use Rattle.frac_core.specs.Fraction.{IsFitting, IsKept, IsUnfitRatio, sum_
 ghost use Rattle.problem_core.specs.Layout.{HasStay};
 ghost use Rattle.problem_core.specs.Corners.{IsIn, attr_column, place};
 ghost use Rattle.problem_core.specs.declared.parts.Mark.{Mark};
-ghost use Rattle.path_checker.specs.Pivots.{next_marks};
-ghost use Rattle.path_checker.specs.Tables.{AreLines, AreSized, IsSized, line_count};
+ghost use Rattle.path_checker.specs.Tables.{AreSized, IsSized, line_count};
 ghost use Rattle.frac_core.specs.declared.memory.Stop.TheVariants as stops;
-ghost use Rattle.path_claims.specs.Fits.{AllAttrsFit, IsFitAt};
+ghost use Rattle.path_claims.specs.Fits.{IsFitAt};
 ghost use Rattle.path_claims.specs.Sums.{IsQuantitySum, IsUnitSum};
 ghost use Rattle.path_claims.specs.TermSums.{AreKnownTerms, IsAttrStop, IsMoreStop, IsTermMore, IsTermUnfit};
 ghost use Rattle.path_claims.specs.TermSums.{AreOverAt, IsLessFitting, IsRowFit, IsTermsStop, terms_of};
 ghost use Rattle.path_claims.specs.declared.last.Fit.TheVariants as fits;
-ghost use Rattle.path_checker.specs.FirstLines.{IsRowOf};
+ghost use Rattle.path_checker.specs.Walking.FirstLines.{IsRowOf};
 ghost use Rattle.problem_core.specs.Unfit.{over_mark};
 ghost use Rattle.path_claims.specs.declared.last.terms.TermsStop.TheVariants as ends;
 ghost use Rattle.problem_core.specs.Window.{zero_fraction};
 ghost use Rattle.path_checker.specs.Numbers.{IsCombined};
-ghost use Rattle.path_levels.specs.Turns.{IsSizedPivot, IsTurnPivot};
+ghost use Rattle.path_levels.specs.Exchanges.Pivots.{IsSizedPivot};
+ghost use Rattle.path_claims.specs.After.{AfterExchange, AfterFittingAttrs};
 
 use crate::last::Fit;
 use crate::last::after::pair;
 use crate::last::fits::{attr_after, is_inside_after};
 use crate::last::line_sums::{sum_of, unit_sum};
-use frac_core::{Frac, OutOfMemory, Stop, Unfit};
+use frac_core::{Frac, OutOfMemory, Stop};
 use path_checker::{Inside, Pivot, Sum, SumStop, Wide, combined, in_lowest_terms};
 use problem_core::{Mark, Problem, Row, RowName, Side, Term};
 use std::alloc::Global;
@@ -54,9 +54,7 @@ fn plus_term(alloc: Global, sum: &Sum, by: i64, more: &Sum) -> Result<Sum, SumSt
 {
     let wide = joined_numbers(alloc, sum, by, more)?;
     let numbers = in_lowest_terms(alloc, &wide)?;
-    let Ok(value) = Frac::mul_add(sum.value, by, 1, more.value) else {
-        return Err(Stop::Refused(Unfit));
-    };
+    let value = Frac::mul_add(sum.value, by, 1, more.value)?;
     Ok(sum_of(numbers, value))
 }
 
@@ -122,12 +120,10 @@ fn attr_of_term(
     requires pivot { IsSizedPivot (length lines.now) pivot.now }
     requires stay { HasStay p.now.stays attr }
     ensures sized { IfOk result (IsSized (length lines.now)) }
-    ensures attr { IfOk result (λ sum. (marks : List Mark) → IsTurnPivot p.now marks pivot.now
-        → AreLines p.now marks lines.now
-        → IsQuantitySum p.now (next_marks p.now pivot.now marks) (λ x. x (attr_column attr)) sum) }
-    ensures stop { IfErr result (λ stop. (marks : List Mark) → IsTurnPivot p.now marks pivot.now
-        → AreLines p.now marks lines.now → AllAttrsFit p.now marks
-        → IsAttrStop p.now (next_marks p.now pivot.now marks) attr stop) }
+    ensures attr { IfOk result (λ sum. AfterExchange p.now pivot.now lines.now
+        (λ marks. IsQuantitySum p.now marks (λ x. x (attr_column attr)) sum)) }
+    ensures stop { IfErr result (λ stop. AfterFittingAttrs p.now pivot.now lines.now
+        (λ marks. IsAttrStop p.now marks attr stop)) }
 {
     match attr_after(alloc, p, lines, pivot, attr) {
         Ok(Some(sum)) => Ok(sum),
@@ -150,12 +146,10 @@ pub(crate) fn terms_after(
     requires pivot { IsSizedPivot (length lines.now) pivot.now }
     requires terms { AreKnownTerms p.now terms.now }
     ensures kept { IfOk result (λ sum. IsKept sum.value) }
-    ensures sum { IfOk result (λ sum. (marks : List Mark) → IsTurnPivot p.now marks pivot.now
-        → AreLines p.now marks lines.now → AllAttrsFit p.now marks
-        → IsQuantitySum p.now (next_marks p.now pivot.now marks) (terms_of terms.now) sum) }
-    ensures stop { IfErr result (λ stop. (marks : List Mark) → IsTurnPivot p.now marks pivot.now
-        → AreLines p.now marks lines.now → AllAttrsFit p.now marks
-        → IsTermsStop p.now (next_marks p.now pivot.now marks) terms.now stop) }
+    ensures sum { IfOk result (λ sum. AfterFittingAttrs p.now pivot.now lines.now
+        (λ marks. IsQuantitySum p.now marks (terms_of terms.now) sum)) }
+    ensures stop { IfErr result (λ stop. AfterFittingAttrs p.now pivot.now lines.now
+        (λ marks. IsTermsStop p.now marks terms.now stop)) }
 {
     let mut sum = no_terms(alloc, lines.len())?;
     for (at, term) in terms.iter().enumerate() {
@@ -206,9 +200,8 @@ fn some_fit(
     requires pivot { IsSizedPivot (length lines.now) pivot.now }
     requires terms { AreKnownTerms p.now sought.row.now.terms }
     requires first { sought.first ≤ length sought.row.now.terms }
-    ensures { IfOk result (λ fit. (marks : List Mark) → IsTurnPivot p.now marks pivot.now
-        → AreLines p.now marks lines.now → AllAttrsFit p.now marks
-        → IsRowFit p.now (next_marks p.now pivot.now marks) sought.entry.row.now sought.entry.first fit) }
+    ensures { IfOk result (λ fit. AfterFittingAttrs p.now pivot.now lines.now
+        (λ marks. IsRowFit p.now marks sought.entry.row.now sought.entry.first fit)) }
 {
     let terms = sought.row.terms();
     match terms_after(alloc, p, lines, pivot, &terms[..sought.first]) {
@@ -232,10 +225,9 @@ fn whole_fit(
     requires pivot { IsSizedPivot (length lines.now) pivot.now }
     requires terms { AreKnownTerms p.now r.now.terms }
     requires row { IsRowOf p.now r.now }
-    ensures { IfOk result (λ fit. (marks : List Mark) → IsTurnPivot p.now marks pivot.now
-        → AreLines p.now marks lines.now → AllAttrsFit p.now marks
-        → IsIn (place (over_mark r.now.id)) (next_marks p.now pivot.now marks)
-        → IsRowFit p.now (next_marks p.now pivot.now marks) r.now (length r.now.terms + 1) fit) }
+    ensures { IfOk result (λ fit. AfterFittingAttrs p.now pivot.now lines.now
+        (λ marks. IsIn (place (over_mark r.now.id)) marks
+        → IsRowFit p.now marks r.now (length r.now.terms + 1) fit)) }
 {
     r.show_row(); // for the proof: what a row keeps
     match terms_after(alloc, p, lines, pivot, r.terms()) {
@@ -274,8 +266,8 @@ fn over_row(rows: &[Row], mark: Mark) -> Option<usize>
 // Whether the rows from a place on, of so many, are over after the exchange.
 fn are_over_from(lines: &[Option<Inside>], pivot: &Pivot, from: usize, rows: usize) -> bool
     requires rows { rows ≤ length lines.now }
-    ensures { (p : Problem) (marks : List Mark) → IsTurnPivot p marks pivot.now → AreLines p marks lines.now
-        → IsTrue result ↔ AreOverAt p (next_marks p pivot.now marks) from rows }
+    ensures { (p : Problem) → AfterExchange p pivot.now lines.now
+        (λ marks. IsTrue result ↔ AreOverAt p marks from rows) }
 {
     for at in from..rows {
         if !is_inside_after(&lines[at], pivot.step, at, Side::Over) {
@@ -303,9 +295,8 @@ pub(crate) fn terms_fit(
     requires count { length lines.now ≡ line_count p.now }
     requires lines { AreSized lines.now }
     requires pivot { IsSizedPivot (length lines.now) pivot.now }
-    ensures { IfOk result (λ fit. (marks : List Mark) → IsTurnPivot p.now marks pivot.now
-        → AreLines p.now marks lines.now → AllAttrsFit p.now marks
-        → IsFitAt p.now (next_marks p.now pivot.now marks) (quantities.Terms sum.mark sum.first) fit) }
+    ensures { IfOk result (λ fit. AfterFittingAttrs p.now pivot.now lines.now
+        (λ marks. IsFitAt p.now marks (quantities.Terms sum.mark sum.first) fit)) }
 {
     p.show_whole(); // for the proof: what a problem keeps
     let rows = p.rows();

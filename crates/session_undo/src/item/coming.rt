@@ -6,8 +6,10 @@ ghost use Rattle.session_undo.specs.Attributes.{attributes_from, view_attributes
 ghost use Rattle.session_undo.specs.Items.{view_items};
 ghost use Rattle.session_undo.specs.Kept.{items_of};
 ghost use Rattle.session_undo.specs.declared.limits.TheConstants.{EARLIER};
+ghost use Rattle.session_undo.specs.declared.row_numbers.TheConstants.{VIEW_ROWS};
 
 use crate::item::Item;
+use crate::row_numbers::VIEW_ROWS;
 use frac_core::OutOfMemory;
 use std::alloc::Global;
 use version_list::VersionList;
@@ -56,7 +58,7 @@ pub fn push_views(
     count: u32,
 ) -> Result<(), OutOfMemory>
     requires few { length items.old.before ≤ EARLIER }
-    requires rows { first_row + 2 * count ≤ NUMBER_LIMIT }
+    requires rows { first_row + VIEW_ROWS * count ≤ NUMBER_LIMIT }
     requires ids { id + count ≤ ID_LIMIT }
     ensures items { OnOk result
         (items_of items.new.items ≡ items_of items.old.items ++ view_items first_row id count) }
@@ -79,7 +81,7 @@ pub fn push_views(
                 return Err(OutOfMemory);
             }
         }
-        row += 2;
+        row += VIEW_ROWS;
         next += 1;
         left -= 1;
     }

@@ -10,6 +10,7 @@ ghost use Rattle.session_undo.specs.declared.limits.TheConstants.{EARLIER};
 use crate::item::Item;
 use crate::item::coming::view_attributes;
 use crate::item::suggesting::is_suggestion;
+use crate::row_numbers::{HEIGHT_ROW, LEFT_ROW, TOP_ROW, WIDTH_ROW};
 use crate::scene::past::remove_item;
 use constraint_compile::Compiled;
 use frac_core::OutOfMemory;
@@ -70,7 +71,7 @@ pub fn push_numbers(numbers: &mut Vec<u32>, item: &Item) -> Result<(), OutOfMemo
     ensures { IfOk result (λ _. numbers.new.items ≡ numbers.old.items ++ item_numbers (item_of item.now)) }
 {
     match item {
-        Item::OfWindow => numbers.extend_from_slice(&[1, 2, 3, 4])?,
+        Item::OfWindow => numbers.extend_from_slice(&[LEFT_ROW, TOP_ROW, WIDTH_ROW, HEIGHT_ROW])?,
         Item::OfView { first_row, .. } | Item::Sized { first_row, .. } => {
             numbers.push(*first_row)?;
             numbers.push(*first_row + 1)?;

@@ -5,11 +5,13 @@ ghost use Rattle.problem_core.specs.declared.limits.TheConstants.{NUMBER_LIMIT};
 ghost use Rattle.problem_core.specs.Kept.{IsNumber, IsRow};
 ghost use Rattle.problem_core.specs.Window.{required_row, structural_rows};
 ghost use Rattle.view_tree.specs.declared.limits.TheConstants.{ID_LIMIT};
+ghost use Rattle.session_undo.specs.declared.row_numbers.TheConstants.{VIEW_ROWS};
 ghost use Rattle.session_undo.specs.Items.{rows_of_views, size_rows};
 ghost use Rattle.constraint_compile.specs.Compiled.{AreRowsNow, AreSmallForms};
 ghost use Rattle.constraint_compile.specs.Suggestions.{suggested_row, IsSuggestion};
 
 use crate::item::WindowSize;
+use crate::row_numbers::{HEIGHT_ROW, LEFT_ROW, TOP_ROW, VIEW_ROWS, WIDTH_ROW};
 use constraint_compile::{CompileStop, Compiled, Suggestion};
 use frac_core::{Frac, OutOfMemory};
 use name_tables::Metrics;
@@ -41,16 +43,16 @@ fn pair(alloc: Global, one: Row, other: Row) -> Result<Vec<Row>, OutOfMemory>
     Ok(rows)
 }
 
-/// The rows of the window.
-pub fn window_rows(alloc: Global) -> Result<Vec<Row>, OutOfMemory>
+/// The rows that the window always has: its left and top are 0, its width and height at least 0.
+pub fn structural_rows(alloc: Global) -> Result<Vec<Row>, OutOfMemory>
     ensures rows { IfOk result (λ rows. rows.items ≡ structural_rows) }
     ensures each { IfOk result (λ rows. All IsRow rows.items) }
 {
     let mut rows = Vec::new(alloc);
-    rows.push(required(alloc, 1, 1, Rel::Eq, Frac::zero())?)?;
-    rows.push(required(alloc, 2, 2, Rel::Eq, Frac::zero())?)?;
-    rows.push(required(alloc, 3, 3, Rel::Ge, Frac::zero())?)?;
-    rows.push(required(alloc, 4, 4, Rel::Ge, Frac::zero())?)?;
+    rows.push(required(alloc, LEFT_ROW, 1, Rel::Eq, Frac::zero())?)?;
+    rows.push(required(alloc, TOP_ROW, 2, Rel::Eq, Frac::zero())?)?;
+    rows.push(required(alloc, WIDTH_ROW, 3, Rel::Ge, Frac::zero())?)?;
+    rows.push(required(alloc, HEIGHT_ROW, 4, Rel::Ge, Frac::zero())?)?;
     Ok(rows)
 }
 
@@ -62,7 +64,7 @@ pub fn view_rows(
     count: u32,
 ) -> Result<Vec<Row>, OutOfMemory>
     requires first_row { 0 < first_row }
-    requires rows { first_row + 2 * count ≤ NUMBER_LIMIT }
+    requires rows { first_row + VIEW_ROWS * count ≤ NUMBER_LIMIT }
     requires ids { id + count ≤ ID_LIMIT }
     ensures rows { IfOk result (λ rows. rows.items ≡ rows_of_views first_row id count) }
     ensures each { IfOk result (λ rows. All IsRow rows.items) }
@@ -77,7 +79,7 @@ pub fn view_rows(
         let height = required(alloc, row + 1, attrs.height, Rel::Ge, Frac::zero())?;
         rows.push(width)?;
         rows.push(height)?;
-        row += 2;
+        row += VIEW_ROWS;
         next += 1;
         left -= 1;
     }

@@ -10,6 +10,7 @@ ghost use Rattle.constraint_compile.specs.Naming.{AreSameBut};
 ghost use Rattle.layout_solver.specs.Layouts.{stays_at};
 ghost use Rattle.layout_solver.specs.Shifts.{shifted};
 ghost use Rattle.session_undo.specs.declared.limits.TheConstants.{MOST_ROWS};
+ghost use Rattle.session_undo.specs.declared.row_numbers.TheConstants.{SIZE_ROWS, VIEW_ROWS};
 ghost use Rattle.session_undo.specs.Adding.{IsNearSuggestion, IsNextSuggestion, metrics_draft, views_draft};
 ghost use Rattle.session_undo.specs.Attributes.{IsGrown, IsNextLine};
 ghost use Rattle.session_undo.specs.Items as held;
@@ -80,8 +81,8 @@ impl Scene {
     pub fn views_problem(&self, new: &NewViews) -> Result<Problem, OutOfMemory>
         requires grown { IsGrown self.now.scene.tree.views new.now.tree.views new.now.first_view.0
             new.now.count }
-        requires room { length self.now.scene.rows + 2 * new.now.count ≤ MOST_ROWS }
-        requires number { self.now.scene.next_row + 2 * new.now.count ≤ NUMBER_LIMIT }
+        requires room { length self.now.scene.rows + VIEW_ROWS * new.now.count ≤ MOST_ROWS }
+        requires number { self.now.scene.next_row + VIEW_ROWS * new.now.count ≤ NUMBER_LIMIT }
         ensures { IfOk result
             (IsProblemOf (views_draft self.now.scene new.now.tree new.now.first_view.0 new.now.count)) }
     {
@@ -119,7 +120,7 @@ impl Scene {
     // The problem where the window has a size for the first time.
     fn first_size_problem(&self, size: &WindowSize) -> Result<Problem, OutOfMemory>
         requires none { has_size self.now.scene.held ≡ false }
-        requires room { length self.now.scene.rows + 2 ≤ MOST_ROWS }
+        requires room { length self.now.scene.rows + SIZE_ROWS ≤ MOST_ROWS }
         requires number { self.now.scene.next_row < NUMBER_LIMIT }
         ensures { IfOk result (IsProblemOf (with_window self.now.scene size.now.width size.now.height)) }
     {
@@ -139,7 +140,8 @@ impl Scene {
 
     /// The problem with this size of the window. The first takes two rows, for which there is to be room.
     pub fn size_problem(&self, size: &WindowSize) -> Result<Problem, OutOfMemory>
-        requires room { has_size self.now.scene.held ≡ false → length self.now.scene.rows + 2 ≤ MOST_ROWS }
+        requires room { has_size self.now.scene.held ≡ false
+            → length self.now.scene.rows + SIZE_ROWS ≤ MOST_ROWS }
         requires number { has_size self.now.scene.held ≡ false → self.now.scene.next_row < NUMBER_LIMIT }
         ensures { IfOk result (IsProblemOf (with_window self.now.scene size.now.width size.now.height)) }
     {

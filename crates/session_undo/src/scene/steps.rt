@@ -4,19 +4,19 @@ ghost use Rattle.std.specs.Prelude.{◌≡◌, ◌≢◌, ◌<◌, ◌≤◌, �
 ghost use Rattle.std.specs.Prelude.{All, IfOk, IfErr, OnOk, OnErr};
 ghost use Rattle.problem_core.specs.Kept.{IsRow};
 ghost use Rattle.problem_core.specs.declared.limits.TheConstants.{NUMBER_LIMIT};
-ghost use Rattle.cert_core.specs.Paths as paths;
 ghost use Rattle.view_tree.specs.Drops.{AreGoing};
 ghost use Rattle.constraint_compile.specs.Compiled.{AreRowsNow};
 ghost use Rattle.session_undo.specs.declared.limits.TheConstants.{MOST_ROWS};
+ghost use Rattle.session_undo.specs.declared.row_numbers.TheConstants.{SIZE_ROWS, VIEW_ROWS};
 ghost use Rattle.session_undo.specs.Adding.{IsNearSuggestion, IsNextSuggestion, metrics_draft, views_draft};
 ghost use Rattle.session_undo.specs.Adding.{IsNoConflict, LeaveStopsAt, StopsAt};
 ghost use Rattle.session_undo.specs.Attributes.{IsGrown, IsNextLine};
 ghost use Rattle.session_undo.specs.Items.{has_size, size_of};
 ghost use Rattle.session_undo.specs.Kept.{IsNextItem, is_leaving, item_of, size_in};
 ghost use Rattle.session_undo.specs.Leaving.{without_group, without_items, without_suggestion, without_views};
-ghost use Rattle.session_undo.specs.Machine.{HasLeft, IsFarSize, IsSolved};
+ghost use Rattle.session_undo.specs.Machine.{HasLeft, HasSolved, IsFarSize};
 ghost use Rattle.session_undo.specs.Moving.{AreChangesFor};
-ghost use Rattle.session_undo.specs.Scene.{with_earlier, with_item, with_line, with_suggested};
+ghost use Rattle.session_undo.specs.Scene.{Remembers, with_item, with_line, with_suggested};
 ghost use Rattle.session_undo.specs.Scene.{with_suggestion, with_window};
 
 use crate::changes::size_changes;
@@ -25,6 +25,7 @@ use crate::item::leaving::{Leaver, attributes_in, leaving_numbers, take_leaving_
 use crate::item::rows::{size_rows, suggestion_rows, view_rows};
 use crate::item::suggesting::suggest_again;
 use crate::item::{HeldSize, Item, WindowSize, resize_first, size_of};
+use crate::row_numbers::VIEW_ROWS;
 use crate::scene::Scene;
 use crate::scene::past::{Past, keep, push_item};
 use crate::scene::solving::{take_constants, take_more, take_out};
@@ -42,12 +43,11 @@ impl Scene {
     fn take_item(&mut self, item: Item, rows: &[Row], budget: u64) -> Result<(), RunStop>
         requires next { IsNextItem self.old.scene (item_of item) rows.now }
         requires number { self.old.scene.next_row + length rows.now ≤ NUMBER_LIMIT }
-        ensures solved { IfOk result (λ _. (path : paths.Path)
-            × IsSolved self.old.scene (with_item self.old.scene (item_of item) (length rows.now)) budget path
-            self.new.scene) }
+        ensures solved { IfOk result (λ _. HasSolved self.old.scene
+            (with_item self.old.scene (item_of item) (length rows.now)) budget self.new.scene) }
         ensures stop { IfErr result
             (StopsAt self.old.scene (with_item self.old.scene (item_of item) (length rows.now)) budget) }
-        ensures earlier { OnOk result (self.new.earlier ≡ with_earlier self.old.scene self.old.earlier) }
+        ensures earlier { OnOk result (Remembers self.old self.new) }
         ensures same { OnErr result (self.new ≡ self.old) }
     {
         self.engine.show_layout(); // for the proof: what an engine keeps
@@ -66,7 +66,7 @@ impl Scene {
             self.new.scene) }
         ensures stop { IfErr result
             (LeaveStopsAt self.old.scene (without_items self.old.scene (is_leaving leaver.entry)) budget) }
-        ensures earlier { OnOk result (self.new.earlier ≡ with_earlier self.old.scene self.old.earlier) }
+        ensures earlier { OnOk result (Remembers self.old self.new) }
         ensures same { OnErr result (self.new ≡ self.old) }
     {
         self.engine.show_layout(); // for the proof: what an engine keeps
@@ -85,15 +85,14 @@ impl Scene {
     /// Takes views that come, in one step.
     pub fn take_views(&mut self, new: NewViews, budget: u64) -> Result<(), RunStop>
         requires grown { IsGrown self.old.scene.tree.views new.tree.views new.first_view.0 new.count }
-        requires room { length self.old.scene.rows + 2 * new.count ≤ MOST_ROWS }
-        requires number { self.old.scene.next_row + 2 * new.count ≤ NUMBER_LIMIT }
-        ensures solved { IfOk result (λ _. (path : paths.Path)
-            × IsSolved self.old.scene (views_draft self.old.scene new.tree new.first_view.0 new.count) budget
-            path self.new.scene) }
+        requires room { length self.old.scene.rows + VIEW_ROWS * new.count ≤ MOST_ROWS }
+        requires number { self.old.scene.next_row + VIEW_ROWS * new.count ≤ NUMBER_LIMIT }
+        ensures solved { IfOk result (λ _. HasSolved self.old.scene
+            (views_draft self.old.scene new.tree new.first_view.0 new.count) budget self.new.scene) }
         ensures stop { IfErr result
             (StopsAt self.old.scene (views_draft self.old.scene new.tree new.first_view.0 new.count) budget) }
         ensures free { IfErr result IsNoConflict }
-        ensures earlier { OnOk result (self.new.earlier ≡ with_earlier self.old.scene self.old.earlier) }
+        ensures earlier { OnOk result (Remembers self.old self.new) }
         ensures same { OnErr result (self.new ≡ self.old) }
     {
         self.engine.show_layout(); // for the proof: what an engine keeps
@@ -102,7 +101,7 @@ impl Scene {
         let attrs = attributes_from(self.alloc, new.first_view.0, new.count)?;
         push_views(&mut self.items, first_row, new.first_view.0, new.count)?;
         take_more(&mut self.engine, &mut self.items, &attrs, &rows, budget)?;
-        self.next_row = first_row + 2 * new.count;
+        self.next_row = first_row + VIEW_ROWS * new.count;
         let past = Past::with_tree(mem::replace(&mut self.tree, new.tree), first_row);
         keep(&mut self.items, &mut self.engine, &mut self.pasts, past);
         Ok(())
@@ -116,10 +115,10 @@ impl Scene {
         budget: u64,
     ) -> Result<(), RunStop>
         requires { AreChangesFor self.old.scene metrics to.now }
-        ensures solved { IfOk result (λ _. (path : paths.Path)
-            × IsSolved self.old.scene (metrics_draft self.old.scene metrics) budget path self.new.scene) }
+        ensures solved { IfOk result
+            (λ _. HasSolved self.old.scene (metrics_draft self.old.scene metrics) budget self.new.scene) }
         ensures stop { IfErr result (StopsAt self.old.scene (metrics_draft self.old.scene metrics) budget) }
-        ensures earlier { OnOk result (self.new.earlier ≡ with_earlier self.old.scene self.old.earlier) }
+        ensures earlier { OnOk result (Remembers self.old self.new) }
         ensures same { OnErr result (self.new ≡ self.old) }
     {
         self.engine.show_layout(); // for the proof: what an engine keeps
@@ -133,14 +132,13 @@ impl Scene {
     // The window has a size for the first time, which takes two rows.
     fn size_first(&mut self, size: &WindowSize, budget: u64) -> Result<(), RunStop>
         requires none { has_size self.old.scene.held ≡ false }
-        requires room { length self.old.scene.rows + 2 ≤ MOST_ROWS }
-        requires number { self.old.scene.next_row + 2 ≤ NUMBER_LIMIT }
-        ensures solved { IfOk result (λ _. (path : paths.Path)
-            × IsSolved self.old.scene (with_window self.old.scene size.now.width size.now.height) budget path
-            self.new.scene) }
+        requires room { length self.old.scene.rows + SIZE_ROWS ≤ MOST_ROWS }
+        requires number { self.old.scene.next_row + SIZE_ROWS ≤ NUMBER_LIMIT }
+        ensures solved { IfOk result (λ _. HasSolved self.old.scene
+            (with_window self.old.scene size.now.width size.now.height) budget self.new.scene) }
         ensures stop { IfErr result
             (StopsAt self.old.scene (with_window self.old.scene size.now.width size.now.height) budget) }
-        ensures earlier { OnOk result (self.new.earlier ≡ with_earlier self.old.scene self.old.earlier) }
+        ensures earlier { OnOk result (Remembers self.old self.new) }
         ensures same { OnErr result (self.new ≡ self.old) }
     {
         let _count = self.tree.len(); // for the proof: what a tree keeps
@@ -157,12 +155,11 @@ impl Scene {
     fn size_again(&mut self, held: HeldSize, size: &WindowSize, budget: u64) -> Result<(), RunStop>
         requires some { size_of self.old.scene.held ≡ Some (size_in held) }
         requires near { IsFarSize self.old.scene.held size.now.width size.now.height → ⊥ }
-        ensures solved { IfOk result (λ _. (path : paths.Path)
-            × IsSolved self.old.scene (with_window self.old.scene size.now.width size.now.height) budget path
-            self.new.scene) }
+        ensures solved { IfOk result (λ _. HasSolved self.old.scene
+            (with_window self.old.scene size.now.width size.now.height) budget self.new.scene) }
         ensures stop { IfErr result
             (StopsAt self.old.scene (with_window self.old.scene size.now.width size.now.height) budget) }
-        ensures earlier { OnOk result (self.new.earlier ≡ with_earlier self.old.scene self.old.earlier) }
+        ensures earlier { OnOk result (Remembers self.old self.new) }
         ensures same { OnErr result (self.new ≡ self.old) }
     {
         self.engine.show_layout(); // for the proof: what an engine keeps
@@ -177,15 +174,16 @@ impl Scene {
 
     /// Takes this size of the window. The first takes two rows, for which there is to be room.
     pub fn take_size(&mut self, size: &WindowSize, budget: u64) -> Result<(), RunStop>
-        requires room { has_size self.old.scene.held ≡ false → length self.old.scene.rows + 2 ≤ MOST_ROWS }
-        requires number { has_size self.old.scene.held ≡ false → self.old.scene.next_row + 2 ≤ NUMBER_LIMIT }
+        requires room { has_size self.old.scene.held ≡ false
+            → length self.old.scene.rows + SIZE_ROWS ≤ MOST_ROWS }
+        requires number { has_size self.old.scene.held ≡ false
+            → self.old.scene.next_row + SIZE_ROWS ≤ NUMBER_LIMIT }
         requires near { IsFarSize self.old.scene.held size.now.width size.now.height → ⊥ }
-        ensures solved { IfOk result (λ _. (path : paths.Path)
-            × IsSolved self.old.scene (with_window self.old.scene size.now.width size.now.height) budget path
-            self.new.scene) }
+        ensures solved { IfOk result (λ _. HasSolved self.old.scene
+            (with_window self.old.scene size.now.width size.now.height) budget self.new.scene) }
         ensures stop { IfErr result
             (StopsAt self.old.scene (with_window self.old.scene size.now.width size.now.height) budget) }
-        ensures earlier { OnOk result (self.new.earlier ≡ with_earlier self.old.scene self.old.earlier) }
+        ensures earlier { OnOk result (Remembers self.old self.new) }
         ensures same { OnErr result (self.new ≡ self.old) }
     {
         match size_of(self.items.as_slice()) {
@@ -207,10 +205,10 @@ impl Scene {
         requires next { IsNextLine self.old.scene.tree.views self.old.scene.next_row line }
         requires room { length self.old.scene.rows + length rows.now ≤ MOST_ROWS }
         requires number { self.old.scene.next_row + length rows.now ≤ NUMBER_LIMIT }
-        ensures solved { IfOk result (λ _. (path : paths.Path)
-            × IsSolved self.old.scene (with_line self.old.scene group line) budget path self.new.scene) }
+        ensures solved { IfOk result
+            (λ _. HasSolved self.old.scene (with_line self.old.scene group line) budget self.new.scene) }
         ensures stop { IfErr result (StopsAt self.old.scene (with_line self.old.scene group line) budget) }
-        ensures earlier { OnOk result (self.new.earlier ≡ with_earlier self.old.scene self.old.earlier) }
+        ensures earlier { OnOk result (Remembers self.old self.new) }
         ensures same { OnErr result (self.new ≡ self.old) }
     {
         self.take_item(Item::OfLine { group, line }, rows, budget)
@@ -221,10 +219,10 @@ impl Scene {
         requires next { IsNextSuggestion self.old.scene new }
         requires room { length self.old.scene.rows + 1 ≤ MOST_ROWS }
         requires number { self.old.scene.next_row < NUMBER_LIMIT }
-        ensures solved { IfOk result (λ _. (path : paths.Path)
-            × IsSolved self.old.scene (with_suggestion self.old.scene new) budget path self.new.scene) }
+        ensures solved { IfOk result
+            (λ _. HasSolved self.old.scene (with_suggestion self.old.scene new) budget self.new.scene) }
         ensures stop { IfErr result (StopsAt self.old.scene (with_suggestion self.old.scene new) budget) }
-        ensures earlier { OnOk result (self.new.earlier ≡ with_earlier self.old.scene self.old.earlier) }
+        ensures earlier { OnOk result (Remembers self.old self.new) }
         ensures same { OnErr result (self.new ≡ self.old) }
     {
         let _count = self.tree.len(); // for the proof: what a tree keeps
@@ -235,12 +233,11 @@ impl Scene {
     /// Takes another constant in the row of a suggestion that is held.
     pub fn take_suggested(&mut self, again: Suggestion, budget: u64) -> Result<(), RunStop>
         requires { IsNearSuggestion self.old.scene again }
-        ensures solved { IfOk result (λ _. (path : paths.Path)
-            × IsSolved self.old.scene (with_suggested self.old.scene again.view again.word again.constant)
-            budget path self.new.scene) }
+        ensures solved { IfOk result (λ _. HasSolved self.old.scene
+            (with_suggested self.old.scene again.view again.word again.constant) budget self.new.scene) }
         ensures stop { IfErr result (StopsAt self.old.scene
             (with_suggested self.old.scene again.view again.word again.constant) budget) }
-        ensures earlier { OnOk result (self.new.earlier ≡ with_earlier self.old.scene self.old.earlier) }
+        ensures earlier { OnOk result (Remembers self.old self.new) }
         ensures same { OnErr result (self.new ≡ self.old) }
     {
         self.engine.show_layout(); // for the proof: what an engine keeps
@@ -262,7 +259,7 @@ impl Scene {
             (λ _. HasLeft self.old.scene (without_group self.old.scene name.now) budget self.new.scene) }
         ensures stop { IfErr result
             (LeaveStopsAt self.old.scene (without_group self.old.scene name.now) budget) }
-        ensures earlier { OnOk result (self.new.earlier ≡ with_earlier self.old.scene self.old.earlier) }
+        ensures earlier { OnOk result (Remembers self.old self.new) }
         ensures same { OnErr result (self.new ≡ self.old) }
     {
         self.take_items_out(Leaver::Group(name), budget)
@@ -280,7 +277,7 @@ impl Scene {
             self.new.scene) }
         ensures stop { IfErr result
             (LeaveStopsAt self.old.scene (without_suggestion self.old.scene view.0 word) budget) }
-        ensures earlier { OnOk result (self.new.earlier ≡ with_earlier self.old.scene self.old.earlier) }
+        ensures earlier { OnOk result (Remembers self.old self.new) }
         ensures same { OnErr result (self.new ≡ self.old) }
     {
         self.take_items_out(Leaver::Suggestion(view.0, word), budget)
@@ -293,7 +290,7 @@ impl Scene {
             (λ _. HasLeft self.old.scene (without_views self.old.scene gone.now) budget self.new.scene) }
         ensures stop { IfErr result
             (LeaveStopsAt self.old.scene (without_views self.old.scene gone.now) budget) }
-        ensures earlier { OnOk result (self.new.earlier ≡ with_earlier self.old.scene self.old.earlier) }
+        ensures earlier { OnOk result (Remembers self.old self.new) }
         ensures same { OnErr result (self.new ≡ self.old) }
     {
         self.engine.show_layout(); // for the proof: what an engine keeps

@@ -1,7 +1,7 @@
 use Rattle.std.proofs.Common.{◌∙◌, sym, SFits}
 use Rattle.std.specs.Int.{w128}
 use Rattle.std.proofs.lemmas.Int.{to_z-of_z}
-use Rattle.cert_checker.proofs.Columns.{or-true, or-false}
+use Rattle.cert_checker.proofs.Certificates.Columns.{or-true, or-false}
 use Rattle.cert_checker.proofs.fronts.enter.Goals as goal
 
 pub returns-then-sides : goal.returns-then-sides

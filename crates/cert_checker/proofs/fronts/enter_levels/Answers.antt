@@ -3,10 +3,10 @@ use Rattle.std.specs.Int.{w64}
 use Rattle.std.proofs.lemmas.Int.{to_z-of_z}
 use Rattle.cert_checker.specs.declared.leveled.PlacedLevel.{PlacedLevel}
 use Rattle.cert_checker.specs.Fronts.{AreFronts, AreOfLevel, IsReady, seen_by}
-use Rattle.cert_checker.proofs.Sizes.{fits-w64}
-use Rattle.cert_checker.proofs.Valuing.{all-item}
-use Rattle.cert_checker.proofs.FrontLoops.{blank-fronts, fronts-more}
+use Rattle.cert_checker.proofs.Certificates.Valuing.{all-item}
+use Rattle.cert_checker.proofs.Certificates.FrontLoops.{blank-fronts, fronts-more}
 use Rattle.cert_checker.proofs.fronts.enter_levels.Goals as goal
+use Rattle.frac_core.proofs.Fitting.{fits-word as fits-w64}
 
 pub loop-q-init : goal.loop-q-init
 loop-q-init c = record { count = c.requires.count; fronts = λ m are. blank-fronts c.args.p.now m c.args.sides.now c.requires.count c.requires.blank }

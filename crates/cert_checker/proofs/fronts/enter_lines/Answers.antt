@@ -6,9 +6,9 @@ use Rattle.problem_core.specs.declared.parts.Side.TheVariants.{Under, Over}
 use Rattle.cert_checker.specs.declared.sums.Weighted.{Weighted}
 use Rattle.cert_checker.specs.declared.fronts.Sides.{Sides}
 use Rattle.cert_checker.specs.Fronts.{AreFronts, HasFronts, names_line, reduced}
-use Rattle.cert_checker.proofs.Sizes.{fits-w64}
-use Rattle.cert_checker.proofs.FrontLoops.{fronts-step, fronts-start}
+use Rattle.cert_checker.proofs.Certificates.FrontLoops.{fronts-step, fronts-start}
 use Rattle.cert_checker.proofs.fronts.enter_lines.Goals as goal
+use Rattle.frac_core.proofs.Fitting.{fits-word as fits-w64}
 
 none : Weighted
 none = record { at = 0; times = pos 0 }

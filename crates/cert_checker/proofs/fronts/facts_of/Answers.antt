@@ -1,6 +1,6 @@
 use Rattle.std.proofs.Common.{◌≡◌, ◌≤◌, ◌+◌, ◌-◌, ◌∙◌, ap, pos, length, arith}
 use Rattle.problem_core.specs.Layout.{Line}
-use Rattle.cert_checker.proofs.Columns.{stay-line}
+use Rattle.cert_checker.proofs.Certificates.Columns.{stay-line}
 use Rattle.cert_checker.proofs.fronts.facts_of.Goals as goal
 
 pub returns : goal.returns

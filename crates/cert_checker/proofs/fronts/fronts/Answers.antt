@@ -1,7 +1,7 @@
 use Rattle.std.proofs.Common.{◌∙◌, List, sym, subst, drop, length}
 use Rattle.cert_checker.specs.declared.fronts.Sides.{Sides}
 use Rattle.cert_checker.specs.Fronts.{AreFronts, seen_by}
-use Rattle.cert_checker.proofs.FrontLoops.{written-back}
+use Rattle.cert_checker.proofs.Certificates.FrontLoops.{written-back}
 use Rattle.cert_checker.proofs.fronts.fronts.Goals as goal
 
 pub returns-clause-fronts : goal.returns-clause-fronts

@@ -2,7 +2,7 @@ use Rattle.std.proofs.Common.{◌≡◌, ◌<◌, ◌^◌, ◌*◌, ◌∙◌, a
 use Rattle.std.specs.Int.{w64, w128}
 use Rattle.std.proofs.lemmas.Int.{to_z-of_z, to_z_pos}
 use Rattle.cert_checker.specs.Fronts.{weight_of_side}
-use Rattle.cert_checker.proofs.Columns.{pos-mul}
+use Rattle.cert_checker.proofs.Certificates.Columns.{pos-mul}
 use Rattle.cert_checker.proofs.fronts.reduced.Goals as goal
 
 pub returns-in-Under : goal.returns-in-Under

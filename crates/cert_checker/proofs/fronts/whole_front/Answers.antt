@@ -1,5 +1,5 @@
 use Rattle.std.proofs.Common.{◌<◌, ◌∙◌, sym, arith}
-use Rattle.cert_checker.proofs.FrontLoops.{front-own}
+use Rattle.cert_checker.proofs.Certificates.FrontLoops.{front-own}
 use Rattle.cert_checker.proofs.fronts.whole_front.Goals as goal
 
 pub returns-then-named : goal.returns-then-named

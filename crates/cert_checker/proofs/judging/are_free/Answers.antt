@@ -5,10 +5,10 @@ use Rattle.problem_core.specs.Certificates.{under, over}
 use Rattle.cert_checker.specs.LineSums.{line_count}
 use Rattle.cert_checker.specs.Certifying.{IsFree}
 use Rattle.cert_checker.proofs.Indexes.{length-lines, no_row}
-use Rattle.cert_checker.proofs.Refuted.{false-true, no_both}
-use Rattle.cert_checker.proofs.Wholes.{free-is, no_sides}
-use Rattle.cert_checker.proofs.Certified.{frees-are, are-frees}
+use Rattle.cert_checker.proofs.Certificates.Wholes.{free-is, no_sides}
+use Rattle.cert_checker.proofs.Certificates.Certified.{frees-are, are-frees}
 use Rattle.cert_checker.proofs.judging.are_free.Goals as goal
+use Rattle.frac_core.proofs.Bools.{not-both as no_both, false-not-true as false-true}
 
 pub returns-then-not-is_free : goal.returns-then-not-is_free
 unfolding no_sides

@@ -4,10 +4,10 @@ use Rattle.problem_core.specs.Layout.{Line, lines, line_of_row}
 use Rattle.cert_checker.specs.LineSums.{line_count}
 use Rattle.cert_checker.specs.Certifying.{IsNotNegative}
 use Rattle.cert_checker.proofs.Indexes.{length-lines, no_row}
-use Rattle.cert_checker.proofs.Refuted.{false-true}
-use Rattle.cert_checker.proofs.Wholes.{no_sides}
-use Rattle.cert_checker.proofs.Certified.{not-Negatives, negatives-not}
+use Rattle.cert_checker.proofs.Certificates.Wholes.{no_sides}
+use Rattle.cert_checker.proofs.Certificates.Certified.{not-Negatives, negatives-not}
 use Rattle.cert_checker.proofs.judging.are_not_negative.Goals as goal
+use Rattle.frac_core.proofs.Bools.{false-not-true as false-true}
 
 pub returns-then-not-is_not_negative : goal.returns-then-not-is_not_negative
 unfolding no_sides

@@ -1,5 +1,5 @@
 use Rattle.std.proofs.lemmas.Result.{IfOk-weaker}
-use Rattle.cert_checker.proofs.Certified.{rows-valued, yes-certifies, yes-best}
+use Rattle.cert_checker.proofs.Certificates.Certified.{rows-valued, yes-certifies, yes-best}
 use Rattle.cert_checker.proofs.judging.check_best.Goals as goal
 
 pub first_without_room-requires : goal.first_without_room-requires

@@ -1,8 +1,8 @@
 use Rattle.std.proofs.Common.{◌∙◌, sym, get_or}
 use Rattle.problem_core.specs.Layout.{lines}
-use Rattle.cert_checker.proofs.Refuted.{false-true}
-use Rattle.cert_checker.proofs.Wholes.{negative-under, negative-over, not-Negative, not-true, true-not}
+use Rattle.cert_checker.proofs.Certificates.Wholes.{negative-under, negative-over, not-Negative, not-true, true-not}
 use Rattle.cert_checker.proofs.judging.is_not_negative.Goals as goal
+use Rattle.frac_core.proofs.Bools.{false-not-true as false-true}
 
 pub returns-then-is_below : goal.returns-then-is_below
 returns-then-is_below c = λ m seen known fronts d. (

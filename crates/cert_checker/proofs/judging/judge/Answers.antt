@@ -2,9 +2,9 @@ use Rattle.std.proofs.Common.{refl, inl, inr}
 use Rattle.cert_core.specs.Claims.{multipliers_of}
 use Rattle.cert_checker.specs.Fronts.{AreFronts, seen_by}
 use Rattle.cert_checker.specs.PlacedLevels.{ArePlaced}
-use Rattle.cert_checker.proofs.Refuted.{no_both}
-use Rattle.cert_checker.proofs.Certified.{balances-each, placed-balance, placed-ready, placed-levels, placed-known}
+use Rattle.cert_checker.proofs.Certificates.Certified.{balances-each, placed-balance, placed-ready, placed-levels, placed-known}
 use Rattle.cert_checker.proofs.judging.judge.Goals as goal
+use Rattle.frac_core.proofs.Bools.{not-both as no_both}
 
 pub returns-in_default : goal.returns-in_default
 returns-in_default c =

@@ -2,8 +2,8 @@ use Rattle.std.proofs.Common.{◌≡◌, ◌≤◌, ◌-◌, length, arith, All,
 use Rattle.problem_core.specs.Layout.{Row}
 use Rattle.problem_core.specs.declared.parts.Stay.{Stay}
 use Rattle.problem_core.specs.Gaps.{HasRoom, HasValue}
-use Rattle.cert_checker.proofs.Valuing.{all-item}
-use Rattle.cert_checker.proofs.Certified.{rows-valued, row-signed, stay-signed}
+use Rattle.cert_checker.proofs.Certificates.Valuing.{all-item}
+use Rattle.cert_checker.proofs.Certificates.Certified.{rows-valued, row-signed, stay-signed}
 use Rattle.cert_checker.proofs.judging.line_sign.Goals as goal
 
 pub row_sign-requires-clause-values : goal.row_sign-requires-clause-values

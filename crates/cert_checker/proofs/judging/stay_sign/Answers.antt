@@ -1,5 +1,5 @@
 use Rattle.std.proofs.Common.{◌<◌, ◌∙◌}
-use Rattle.cert_checker.proofs.Certified.{stay-order}
+use Rattle.cert_checker.proofs.Certificates.Certified.{stay-order}
 use Rattle.cert_checker.proofs.judging.stay_sign.Goals as goal
 
 pub returns : goal.returns

@@ -4,7 +4,7 @@ use Rattle.cert_checker.proofs.Indexes.{length-lines}
 use Rattle.cert_checker.proofs.Apart.{name-at}
 use Rattle.std.proofs.Common.{◌≡◌, ◌∙◌, ℕ, false, pos, ap, sym, arith}
 use Rattle.problem_core.specs.declared.parts.RowName.TheVariants.{Held}
-use Rattle.cert_checker.proofs.Wholes.{whole-under, whole-over}
+use Rattle.cert_checker.proofs.Certificates.Wholes.{whole-under, whole-over}
 use Rattle.cert_checker.proofs.judging.whole.Goals as goal
 
 pub returns : goal.returns

@@ -1,7 +1,7 @@
 use Rattle.std.proofs.lemmas.Result.{IfOk-weaker}
 use Rattle.cert_checker.proofs.Refuted.{lines-count}
-use Rattle.cert_checker.proofs.Weighing.{weighed-fit}
-use Rattle.cert_checker.proofs.Levels.{level-cancel}
+use Rattle.cert_checker.proofs.Written.Weighing.{weighed-fit}
+use Rattle.cert_checker.proofs.Certificates.Levels.{level-cancel}
 use Rattle.cert_checker.proofs.leveled.cancel_lines.Goals as goal
 
 pub cancel-requires-clause-weighted : goal.cancel-requires-clause-weighted

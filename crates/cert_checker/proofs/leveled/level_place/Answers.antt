@@ -1,5 +1,5 @@
 use Rattle.std.proofs.Common.{arith}
-use Rattle.cert_checker.proofs.Levels.{past-rows, stay-place, stay-has, no-stay}
+use Rattle.cert_checker.proofs.Certificates.Levels.{past-rows, stay-place, stay-has, no-stay}
 use Rattle.cert_checker.proofs.leveled.level_place.Goals as goal
 
 pub overflow_sub-result-in-Stay : goal.overflow_sub-result-in-Stay

@@ -2,7 +2,7 @@ use Rattle.std.proofs.Common.{◌<ℤ◌, pos, arith, SFits}
 use Rattle.std.specs.Int.{w64}
 use Rattle.std.proofs.lemmas.Int.{to_z-of_z, ints}
 use Rattle.cert_checker.specs.LinePlaces.{AreWeighed}
-use Rattle.cert_checker.proofs.Levels.{weighed-known}
+use Rattle.cert_checker.proofs.Certificates.Levels.{weighed-known}
 use Rattle.cert_checker.proofs.leveled.place_level.Goals as goal
 
 pub returns-in_default-2-clause-none : goal.returns-in_default-2-clause-none

@@ -6,9 +6,9 @@ use Rattle.problem_core.specs.declared.parts.RowName.TheVariants.{Held}
 use Rattle.cert_core.specs.declared.by.By.{By}
 use Rattle.cert_checker.specs.declared.sums.Weighted.{Weighted}
 use Rattle.cert_checker.specs.LinePlaces.{by_at}
-use Rattle.cert_checker.proofs.Sizes.{fits-w64}
-use Rattle.cert_checker.proofs.Weighing.{weighed-more}
+use Rattle.cert_checker.proofs.Written.Weighing.{weighed-more}
 use Rattle.cert_checker.proofs.places.weigh.Goals as goal
+use Rattle.frac_core.proofs.Fitting.{fits-word as fits-w64}
 
 none : By
 none = record { row = Held 0; times = pos 0 }

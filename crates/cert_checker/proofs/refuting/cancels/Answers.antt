@@ -1,10 +1,11 @@
 use Rattle.std.proofs.Common.{length, sym, refl}
 use Rattle.std.proofs.lemmas.Bool.{eqb-false}
 use Rattle.std.proofs.lemmas.Result.{IfOk-weaker}
-use Rattle.cert_checker.proofs.Refuted.{cancels-iff, not_empty, lines-count, false-true}
-use Rattle.cert_checker.proofs.Weighing.{weighed-fit}
-use Rattle.cert_checker.proofs.Naming.{named-required}
+use Rattle.cert_checker.proofs.Refuted.{cancels-iff, not_empty, lines-count}
+use Rattle.cert_checker.proofs.Written.Weighing.{weighed-fit}
+use Rattle.cert_checker.proofs.Written.Naming.{named-required}
 use Rattle.cert_checker.proofs.refuting.cancels.Goals as goal
+use Rattle.frac_core.proofs.Bools.{false-not-true as false-true}
 
 pub cancel-requires-clause-weighted : goal.cancel-requires-clause-weighted
 cancel-requires-clause-weighted c = weighed-fit c.args.p.now c.args.by.now c.args.weighted.now c.requires.weighted c.requires.by

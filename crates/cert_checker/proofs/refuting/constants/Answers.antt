@@ -3,9 +3,10 @@ use Rattle.std.specs.Int.{w64, w128}
 use Rattle.std.proofs.lemmas.Int.{to_z-of_z}
 use Rattle.cert_checker.specs.declared.sums.Weighted.{Weighted}
 use Rattle.cert_checker.specs.Required.{den_at, num_at}
-use Rattle.cert_checker.proofs.Sizes.{fits-w64, sum-room}
+use Rattle.cert_checker.proofs.Sizes.{sum-room}
 use Rattle.cert_checker.proofs.refuting.constants.Goals as goal
 use Rattle.problem_core.proofs.Forms.{sum-more}
+use Rattle.frac_core.proofs.Fitting.{fits-word as fits-w64}
 
 none : Weighted
 none = record { at = 0; times = pos 0 }

@@ -3,7 +3,7 @@ use Rattle.std.proofs.Common.{pos, ◌<ℤ◌, subst, sym, SFits}
 use Rattle.std.specs.Int.{w128}
 use Rattle.std.proofs.lemmas.Int.{to_z-of_z}
 use Rattle.std.proofs.lemmas.Result.{err_from_is_err_and}
-use Rattle.cert_checker.proofs.Naming.{required-named}
+use Rattle.cert_checker.proofs.Written.Naming.{required-named}
 use Rattle.cert_checker.proofs.refuting.is_above_zero.Goals as goal
 
 pub constants-requires-clause-rows : goal.constants-requires-clause-rows

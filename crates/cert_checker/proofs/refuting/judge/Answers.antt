@@ -1,6 +1,7 @@
 use Rattle.std.proofs.Common.{refl, inl, inr}
-use Rattle.cert_checker.proofs.Refuted.{signs-from, signs-back, no_both}
+use Rattle.cert_checker.proofs.Refuted.{signs-from, signs-back}
 use Rattle.cert_checker.proofs.refuting.judge.Goals as goal
+use Rattle.frac_core.proofs.Bools.{not-both as no_both}
 
 pub returns-then-not-branch : goal.returns-then-not-branch
 returns-then-not-branch c = inl (refl, λ h. no_both c.in_ok-cancels.field-0 (c.in_ok-cancels.ensures.cancels.1 h) c.if-not-branch.true)

@@ -4,10 +4,11 @@ use Rattle.std.proofs.lemmas.Int.{to_z-of_z}
 use Rattle.cert_checker.specs.declared.sums.Weighted.{Weighted}
 use Rattle.problem_core.specs.Layout.{coefficient, sum_of}
 use Rattle.cert_checker.specs.LineSums.{sum_at, form_at}
-use Rattle.cert_checker.proofs.Sizes.{fits-w64, room-more}
+use Rattle.cert_checker.proofs.Sizes.{room-more}
 use Rattle.cert_checker.proofs.Zeros.{sums-zero, values-zero, empty-sums}
 use Rattle.cert_checker.proofs.sums.cancel.Goals as goal
 use Rattle.problem_core.proofs.Forms.{sum-more}
+use Rattle.frac_core.proofs.Fitting.{fits-word as fits-w64}
 
 pub loop-line-init : goal.loop-line-init
 loop-line-init c = record {

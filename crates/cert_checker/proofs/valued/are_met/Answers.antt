@@ -1,9 +1,10 @@
 use Rattle.std.proofs.Common.{◌≡◌, refl, All}
 use Rattle.problem_core.specs.Layout.{Row, error, line_of_row}
 use Rattle.problem_core.specs.Gaps.{HasRoom, HasValue}
-use Rattle.cert_checker.proofs.Valuing.{all-item, all-more, all-whole}
-use Rattle.cert_checker.proofs.Refuted.{false-true}
+use Rattle.cert_checker.proofs.Certificates.Valuing.{all-item}
 use Rattle.cert_checker.proofs.valued.are_met.Goals as goal
+use Rattle.frac_core.proofs.Bools.{false-not-true as false-true}
+use Rattle.frac_core.proofs.Lists.{all-whole, all-more}
 
 pub holds-requires-clause-values : goal.holds-requires-clause-values
 holds-requires-clause-values c =

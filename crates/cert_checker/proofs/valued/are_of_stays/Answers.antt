@@ -1,5 +1,5 @@
-use Rattle.cert_checker.proofs.Refuted.{false-true}
 use Rattle.cert_checker.proofs.valued.are_of_stays.Goals as goal
+use Rattle.frac_core.proofs.Bools.{false-not-true as false-true}
 
 pub returns-then-not-have_values : goal.returns-then-not-have_values
 returns-then-not-have_values c = (

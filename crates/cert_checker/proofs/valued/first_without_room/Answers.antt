@@ -4,7 +4,7 @@ use Rattle.std.proofs.lemmas.List.Elements.{All-more}
 use Rattle.problem_core.specs.Layout.{Row}
 use Rattle.problem_core.specs.Gaps.{HasRoom, HasValue}
 use Rattle.cert_checker.specs.Certifying.{HaveRoom}
-use Rattle.cert_checker.proofs.Valuing.{on-err, on-ok}
+use Rattle.cert_checker.proofs.Certificates.Valuing.{on-err, on-ok}
 use Rattle.cert_checker.proofs.valued.first_without_room.Goals as goal
 
 pub gap_sign-requires : goal.gap_sign-requires

@@ -1,9 +1,10 @@
 use Rattle.std.proofs.Common.{refl, ℕ}
 use Rattle.frac_core.specs.Fraction.{Fraction}
 use Rattle.problem_core.specs.Layout.{HasStay}
-use Rattle.cert_checker.proofs.Valuing.{all-item, all-more, all-whole}
-use Rattle.cert_checker.proofs.Refuted.{false-true}
+use Rattle.cert_checker.proofs.Certificates.Valuing.{all-item}
 use Rattle.cert_checker.proofs.valued.have_stays.Goals as goal
+use Rattle.frac_core.proofs.Bools.{false-not-true as false-true}
+use Rattle.frac_core.proofs.Lists.{all-whole, all-more}
 
 pub loop-attr-preserved : goal.loop-attr-preserved
 loop-attr-preserved c =

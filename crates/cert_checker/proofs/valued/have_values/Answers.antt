@@ -1,9 +1,10 @@
 use Rattle.std.proofs.Common.{refl}
 use Rattle.problem_core.specs.declared.parts.Stay.{Stay}
 use Rattle.problem_core.specs.Gaps.{HasValue}
-use Rattle.cert_checker.proofs.Valuing.{all-item, all-more, all-whole}
-use Rattle.cert_checker.proofs.Refuted.{false-true}
+use Rattle.cert_checker.proofs.Certificates.Valuing.{all-item}
 use Rattle.cert_checker.proofs.valued.have_values.Goals as goal
+use Rattle.frac_core.proofs.Bools.{false-not-true as false-true}
+use Rattle.frac_core.proofs.Lists.{all-whole, all-more}
 
 pub loop-stay-preserved : goal.loop-stay-preserved
 loop-stay-preserved c =

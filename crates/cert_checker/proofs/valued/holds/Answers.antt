@@ -1,5 +1,5 @@
 use Rattle.problem_core.specs.Layout.{gap, line_of_row}
-use Rattle.cert_checker.proofs.Valuing.{is-met}
+use Rattle.cert_checker.proofs.Certificates.Valuing.{is-met}
 use Rattle.cert_checker.proofs.valued.holds.Goals as goal
 
 pub returns : goal.returns

@@ -1,8 +1,8 @@
 use Rattle.std.proofs.Common.{rules, ◌≡◌, SFits, ℤ, pos, ◌*ℤ◌, ◌<ℤ◌, sym, subst}
 use Rattle.std.specs.Int.{w64, w128}
 use Rattle.std.proofs.lemmas.Int.{to_z-of_z}
-use Rattle.certificates.proofs.ErrorFacts.{product_above}
 use Rattle.certificates.proofs.errors.over_scale.Goals as goal
+use Rattle.frac_core.proofs.Numbers.{product-up as product_above}
 
 pub of-requires-clause-q : goal.of-requires-clause-q
 of-requires-clause-q c =

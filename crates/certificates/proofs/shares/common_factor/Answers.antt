@@ -6,7 +6,7 @@ use Rattle.problem_core.specs.declared.parts.RowName.TheVariants.{Held}
 use Rattle.cert_core.specs.declared.by.By.{By}
 use Rattle.certificates.proofs.Factors.{Factored, factor_is, factored_all, factored_more, factored_none}
 use Rattle.certificates.proofs.shares.common_factor.Goals as goal
-use Rattle.corner.proofs.LevelReadFacts.{fitting_sfits}
+use Rattle.frac_core.proofs.Fitting.{fits-word as fitting_sfits}
 
 abbrev no-by : By
 no-by = record { row = Held 0; times = pos 0 }

@@ -1,8 +1,8 @@
 use Rattle.std.proofs.Common.{◌∙◌, ◌*ℤ◌, ℤ, ap, arith}
 use Rattle.std.specs.Int.{w64}
 use Rattle.std.proofs.lemmas.Int.{fits_signed_from_abs, quot_fits, quot_is}
-use Rattle.certificates.proofs.Factors.{exact_quotient}
 use Rattle.certificates.proofs.shares.share.Goals as goal
+use Rattle.frac_core.proofs.Quotients.{exact_quotient}
 
 pub returns-clause-value : goal.returns-clause-value
 returns-clause-value c =

@@ -7,9 +7,10 @@ use Rattle.frac_core.specs.Fraction.{IsFitting}
 use Rattle.problem_core.specs.declared.parts.RowName.TheVariants.{Held}
 use Rattle.cert_core.specs.declared.by.By.{By}
 use Rattle.certificates.specs.OwnLevels.{multiplied}
-use Rattle.certificates.proofs.Factors.{by_positive, share_more}
+use Rattle.certificates.proofs.Factors.{share_more}
 use Rattle.certificates.proofs.shares.shares.Goals as goal
-use Rattle.corner.proofs.LevelReadFacts.{fitting_sfits}
+use Rattle.frac_core.proofs.Fitting.{fits-word as fitting_sfits}
+use Rattle.frac_core.proofs.Numbers.{pos-size as by_positive}
 
 abbrev no-by : By
 no-by = record { row = Held 0; times = pos 0 }

@@ -1,5 +1,5 @@
 use Rattle.claim_text.proofs.FormExamples.{some-are-outside}
-use Rattle.claim_text.proofs.PathExamples.{some-paths-are-inside, some-paths-are-outside}
+use Rattle.claim_text.proofs.Paths.PathExamples.{some-paths-are-inside, some-paths-are-outside}
 use Rattle.claim_text.proofs.form_laws.some_lines_are_outside.Goals as goal
 
 pub returns-clause-some : goal.returns-clause-some

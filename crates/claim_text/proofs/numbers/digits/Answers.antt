@@ -2,7 +2,7 @@ use Rattle.std.proofs.Common.{rules, arith, take, length, ◌≤◌, get_or}
 use Rattle.std.specs.Char.{IsAsciiDigit}
 use Rattle.std.proofs.lemmas.Grind.{common_steps}
 use Rattle.std.proofs.lemmas.List.Elements.{All-more}
-use Rattle.claim_text.proofs.Digits.{short_value, next_digit}
+use Rattle.claim_text.proofs.Numerals.Digits.{short_value, next_digit}
 use Rattle.claim_text.proofs.numbers.digits.Goals as goal
 
 pub overflow_mul-value : goal.overflow_mul-value

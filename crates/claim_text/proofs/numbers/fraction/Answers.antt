@@ -1,5 +1,5 @@
 use Rattle.claim_text.proofs.Maybe.{none_from}
-use Rattle.claim_text.proofs.Lowest.{whole_none, quotient_none}
+use Rattle.claim_text.proofs.Numerals.Lowest.{whole_none, quotient_none}
 use Rattle.claim_text.proofs.numbers.fraction.Goals as goal
 
 pub returns-in-None-clause-none : goal.returns-in-None-clause-none

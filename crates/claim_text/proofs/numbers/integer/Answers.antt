@@ -1,6 +1,6 @@
 use Rattle.std.proofs.Common.{◌≡◌, ℕ, ℤ, pos, negsuc, suc, ◌<◌, ◌≤◌, ◌^◌, decimal, unsigned_abs, List, ◌∷◌, arith}
 use Rattle.std.specs.Fmt.{signed_decimal}
-use Rattle.claim_text.proofs.Digits.{no_minus}
+use Rattle.claim_text.proofs.Numerals.Digits.{no_minus}
 use Rattle.claim_text.proofs.numbers.integer.Goals as goal
 
 none_below : (most : ℕ) (word size : List ℕ) → most < 2 ^ 62 → word ≡ 45 ∷ size → ((n : ℕ) → 1 ≤ n → n ≤ most → size ≡ decimal n → ⊥) → (z : ℤ) → unsigned_abs z ≤ most → word ≡ signed_decimal z → ⊥

@@ -3,7 +3,7 @@ use Rattle.std.specs.Int.{w128}
 use Rattle.std.proofs.lemmas.Int.{to_z-of_z}
 use Rattle.frac_core.specs.Fraction.{IsRatio}
 use Rattle.claim_text.proofs.Maybe.{of_value, of_error}
-use Rattle.claim_text.proofs.Lowest.{made_is, ratio_at}
+use Rattle.claim_text.proofs.Numerals.Lowest.{made_is, ratio_at}
 use Rattle.claim_text.proofs.numbers.lowest.Goals as goal
 use Rattle.claim_text.proofs.numbers.lowest.Goals.{else-num-via-then-num+else-den, else-num-via-else-num}
 

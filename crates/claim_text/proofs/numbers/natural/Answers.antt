@@ -1,5 +1,5 @@
 use Rattle.std.proofs.Common.{arith, ◌≡◌, sym, ◌∙◌}
-use Rattle.claim_text.proofs.Digits.{same_value}
+use Rattle.claim_text.proofs.Numerals.Digits.{same_value}
 use Rattle.claim_text.proofs.numbers.natural.Goals as goal
 use Rattle.claim_text.proofs.numbers.natural.Goals.{else-least-value-via-then-least-value+else-value-most, else-least-value-via-else-least-value}
 

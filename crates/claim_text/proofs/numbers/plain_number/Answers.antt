@@ -1,7 +1,7 @@
 use Rattle.std.proofs.Common.{◌≡◌, ℕ, ◌<◌, ◌^◌, ◌↔◌, List, length, get_or, ◌≤◌, Bool, true, false, IsTrue, IfSome, IfNone, decimal, Option, Some, None, rules, arith, ap, ◌∙◌, sym}
 use Rattle.std.specs.Str.Parse.{digits_value}
 use Rattle.claim_text.specs.Words.{AreDigits}
-use Rattle.claim_text.proofs.Digits.{leads, written, short_value, decimal_digits}
+use Rattle.claim_text.proofs.Numerals.Digits.{leads, written, short_value, decimal_digits}
 use Rattle.claim_text.proofs.numbers.plain_number.Goals as goal
 
 abbrev Leads : List ℕ → Bool → Type 0

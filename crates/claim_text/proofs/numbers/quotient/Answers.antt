@@ -1,7 +1,7 @@
 use Rattle.std.proofs.Common.{SFits, w64, rules}
 use Rattle.std.proofs.lemmas.Int.{to_z-of_z}
 use Rattle.claim_text.proofs.Maybe.{none_from}
-use Rattle.claim_text.proofs.Lowest.{no_other}
+use Rattle.claim_text.proofs.Numerals.Lowest.{no_other}
 use Rattle.claim_text.proofs.numbers.quotient.Goals as goal
 
 pub returns-clause-none : goal.returns-clause-none

@@ -1,8 +1,8 @@
 use Rattle.std.proofs.Common.{◌≡◌, pos}
 use Rattle.constraint_compile.specs.Addends.{addend_view}
 use Rattle.constraint_compile.specs.declared.addends.Addend.{Addend}
-use Rattle.constraint_compile.proofs.Lists.{all_more, all_whole}
 use Rattle.constraint_compile.proofs.attributes.attributes.Goals as goal
+use Rattle.frac_core.proofs.Lists.{all-whole as all_whole, all-more as all_more}
 
 pub loop-addend-preserved : goal.loop-addend-preserved
 loop-addend-preserved c = record {

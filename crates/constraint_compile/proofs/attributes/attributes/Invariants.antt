@@ -1,7 +1,7 @@
 use Rattle.std.proofs.Common.{◌≡◌, ℕ, ◌<◌, take, pos, All, AllPairs}
 use Rattle.problem_core.specs.Kept.{IsNumber}
 use Rattle.constraint_compile.specs.Addends.{addend_view}
-use Rattle.constraint_compile.specs.Shares.{IsOff}
+use Rattle.constraint_compile.specs.Coefficients.Shares.{IsOff}
 use Rattle.constraint_compile.proofs.attributes.attributes.Given as goal
 
 abbrev pub invariant-loop-addend : goal.invariant-loop-addend

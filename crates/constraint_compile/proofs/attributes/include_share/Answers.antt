@@ -1,4 +1,4 @@
-use Rattle.constraint_compile.proofs.NoParts.{no_part}
+use Rattle.constraint_compile.proofs.Sums.NoParts.{no_part}
 use Rattle.constraint_compile.proofs.attributes.include_share.Goals as goal
 
 pub returns-clause-off : goal.returns-clause-off

@@ -1,6 +1,6 @@
 use Rattle.std.proofs.lemmas.List.Elements.{All-push}
 use Rattle.constraint_compile.specs.Inside.{IsForm}
-use Rattle.constraint_compile.proofs.Forms.{same_more}
+use Rattle.constraint_compile.proofs.RowConstants.Forms.{same_more}
 use Rattle.constraint_compile.proofs.compiled.copy_forms.Goals as goal
 
 pub loop-form-preserved : goal.loop-form-preserved

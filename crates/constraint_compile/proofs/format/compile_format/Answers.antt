@@ -1,12 +1,12 @@
 use Rattle.std.proofs.Common.{rules, List, subst, sym}
 use Rattle.vfl_text.specs.View.{meaning}
-use Rattle.constraint_compile.specs.FormatRows.{MayStopFormat}
+use Rattle.constraint_compile.specs.Formats.FormatRows.{MayStopFormat}
 use Rattle.constraint_compile.specs.declared.format.parts.Part.{Part}
-use Rattle.constraint_compile.specs.FormatLines.{lines_of}
-use Rattle.constraint_compile.specs.FormatStops.{row_count, IsPastNumbers, IsUsableFormat}
-use Rattle.constraint_compile.specs.Asks.{AreAsks}
-use Rattle.constraint_compile.specs.FormatViews.{parts_view}
-use Rattle.constraint_compile.proofs.Numbered.{parts_stop}
+use Rattle.constraint_compile.specs.Formats.FormatLines.{lines_of}
+use Rattle.constraint_compile.specs.Formats.FormatStops.{row_count, IsPastNumbers, IsUsableFormat}
+use Rattle.constraint_compile.specs.Formats.Asks.{AreAsks}
+use Rattle.constraint_compile.specs.Formats.FormatViews.{parts_view}
+use Rattle.constraint_compile.proofs.Formats.Numbered.{parts_stop}
 use Rattle.constraint_compile.proofs.format.compile_format.Goals as goal
 
 pub returns-in_err-rows-clause-stop : goal.returns-in_err-rows-clause-stop

@@ -3,7 +3,7 @@ use Rattle.std.specs.String.{string_bytes}
 use Rattle.constraint_compile.specs.Compiled as compiled
 use Rattle.constraint_compile.specs.Keeps.{step_view}
 use Rattle.constraint_compile.specs.Naming.{is_multiple}
-use Rattle.constraint_compile.proofs.Named.{any_mapped}
+use Rattle.constraint_compile.proofs.RowConstants.Named.{any_mapped}
 use Rattle.constraint_compile.proofs.naming.names_metric.Goals as goal
 
 pub returns : goal.returns

@@ -4,8 +4,8 @@ use Rattle.std.proofs.lemmas.List.Elements.{All-map}
 use Rattle.script_text.specs.View.{term_view}
 use Rattle.script_text.specs.declared.command.ExprTerm.{ExprTerm}
 use Rattle.constraint_compile.specs.Meaning.{HasDenominator}
-use Rattle.constraint_compile.proofs.Lists.{all_more, all_whole}
 use Rattle.constraint_compile.proofs.resolved.resolve.Goals as goal
+use Rattle.frac_core.proofs.Lists.{all-whole as all_whole, all-more as all_more}
 
 pub loop-term-preserved : goal.loop-term-preserved
 loop-term-preserved c = record {

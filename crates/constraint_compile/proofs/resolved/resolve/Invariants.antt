@@ -2,7 +2,7 @@ use Rattle.std.proofs.Common.{◌≡◌, ◌++◌, ◌||◌, take, drop, All}
 use Rattle.script_text.specs.View.{term_view, terms_view}
 use Rattle.script_text.specs.declared.command.ExprTerm.{ExprTerm}
 use Rattle.constraint_compile.specs.Addends.{addends, addends_view, IsKept}
-use Rattle.constraint_compile.specs.FormatLines.{numbers}
+use Rattle.constraint_compile.specs.Formats.FormatLines.{numbers}
 use Rattle.constraint_compile.specs.Meaning.{HasDenominator, unknown_among, views_in, has_view_number}
 use Rattle.constraint_compile.proofs.resolved.resolve.Given as goal
 

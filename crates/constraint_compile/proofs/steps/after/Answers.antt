@@ -6,7 +6,7 @@ use Rattle.constraint_compile.specs.Meaning.{MetricList, part_value}
 use Rattle.constraint_compile.specs.Keeps.{part_view}
 use Rattle.constraint_compile.specs.declared.steps.Part.{Part}
 use Rattle.constraint_compile.specs.declared.steps.Part.TheVariants.{Nothing}
-use Rattle.constraint_compile.proofs.Totals.{plus-zero}
+use Rattle.constraint_compile.proofs.Sums.Totals.{plus-zero}
 use Rattle.constraint_compile.proofs.steps.after.Goals as goal
 
 same_constant : (metrics : MetricList) (names : List (List ℕ)) (k j : ℕ) (p : Part) (e c : Fraction) → (j ≡ k) × (p ≡ Nothing) → IsConstant k e c → IsConstant j (plus e (part_value metrics (part_view names p))) c

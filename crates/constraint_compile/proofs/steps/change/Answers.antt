@@ -1,7 +1,7 @@
 use Rattle.std.proofs.Common.{◌≡◌, ◌<◌, ◌≤◌, ◌^◌, ℤ, ◌*ℤ◌, SFits, arith, unsigned_abs, rules}
 use Rattle.std.specs.Int.{w64, w128}
 use Rattle.std.proofs.lemmas.Int.{to_z-of_z, fits_signed_mul}
-use Rattle.constraint_compile.specs.Quotients.{IsReduced}
+use Rattle.constraint_compile.specs.Coefficients.Quotients.{IsReduced}
 use Rattle.constraint_compile.proofs.steps.change.Goals as goal
 
 product_fits : (x y : ℤ) → unsigned_abs x ≤ 2 ^ 30 → unsigned_abs y < 2 ^ 88 → SFits w128 (x *ℤ y)

@@ -4,7 +4,7 @@ use Rattle.std.proofs.Math.ListN.{get_or-map}
 use Rattle.std.proofs.lemmas.List.{length-map}
 use Rattle.constraint_compile.specs.Keeps.{step_view, steps_view}
 use Rattle.constraint_compile.specs.declared.steps.Step.{Step}
-use Rattle.constraint_compile.proofs.Constants.{more_after, stops_after}
+use Rattle.constraint_compile.proofs.RowConstants.Constants.{more_after, stops_after}
 use Rattle.constraint_compile.proofs.steps.constant_after.Goals as goal
 
 step_at : (names : List (List ℕ)) (steps : List Step) (i : ℕ) (s : Step) → s ≡ get_or steps i s → step_view names s ≡ get_or (steps_view names steps) i (step_view names s)

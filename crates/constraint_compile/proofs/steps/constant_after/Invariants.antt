@@ -1,7 +1,7 @@
 use Rattle.std.proofs.Common.{map}
 use Rattle.std.specs.String.{string_bytes}
 use Rattle.constraint_compile.specs.Keeps.{steps_view}
-use Rattle.constraint_compile.proofs.Constants.{IsAfter}
+use Rattle.constraint_compile.proofs.RowConstants.Constants.{IsAfter}
 use Rattle.constraint_compile.proofs.steps.constant_after.Given as goal
 
 abbrev pub invariant-loop-step : goal.invariant-loop-step

@@ -5,8 +5,8 @@ use borrow.Author.Differences.{ints}
 use Rattle.std.proofs.lemmas.Int.{to_z-of_z}
 use Rattle.frac_core.specs.Fraction.{Fraction, IsLowest, IsRatio}
 use Rattle.constraint_compile.specs.Fractions.{IsConstant}
-use Rattle.constraint_compile.specs.Quotients.{IsDivided, IsReduced}
-use Rattle.constraint_compile.proofs.Shifts.{IsMove, moved_to, moved_from, whole_ratio, shared_ratio}
+use Rattle.constraint_compile.specs.Coefficients.Quotients.{IsDivided, IsReduced}
+use Rattle.constraint_compile.proofs.RowConstants.Shifts.{IsMove, moved_to, moved_from, whole_ratio, shared_ratio}
 use Rattle.constraint_compile.proofs.steps.moved.Goals as goal
 
 pub common-requires-clause-apart : goal.common-requires-clause-apart

@@ -2,7 +2,7 @@ use Rattle.std.proofs.Common.{◌<◌, ◌^◌, ◌*ℤ◌, pos, IfSome, IfNone,
 use Rattle.std.specs.Int.RustNames.{unsigned_abs}
 use Rattle.frac_core.specs.Fraction.{Fraction, IsLowest, IsRatio}
 use Rattle.constraint_compile.specs.Suggestions.{scale_of}
-use Rattle.constraint_compile.proofs.SuggestedConstants.{some-constant, small-constant, no-constant}
+use Rattle.constraint_compile.proofs.RowConstants.SuggestedConstants.{some-constant, small-constant, no-constant}
 use Rattle.constraint_compile.proofs.suggestion.suggested_constant.Goals as goal
 
 pub returns-clause-constant : goal.returns-clause-constant

@@ -1,10 +1,10 @@
-use Rattle.corner.specs.Exchanges.{IsExchangeOf}
+use Rattle.corner.specs.Swaps.Exchanges.{IsExchangeOf}
 use Rattle.corner.specs.Tables.{lists_of}
-use Rattle.corner.proofs.NextConsistent.{exchanged_consistent, exchanged_seen, marked_next}
+use Rattle.corner.proofs.Swaps.NextConsistent.{exchanged_consistent, exchanged_seen, marked_next}
 use Rattle.corner.proofs.corner.exchange_lines.Goals as goal
 
 pub rewound-requires-clause-marked : goal.rewound-requires-clause-marked
-rewound-requires-clause-marked c = marked_next c.args.table.now c.put_exchange.new.table c.requires.consistent.alike c.requires.marked c.in-Err.ensures.before
+rewound-requires-clause-marked c = marked_next c.args.table.now c.put_exchange.new.table c.requires.consistent.alike c.requires.marked c.in-Err-put_exchange.ensures.before
 
 pub returns-in-Ok-put_exchange-clause-consistent : goal.returns-in-Ok-put_exchange-clause-consistent
 returns-in-Ok-put_exchange-clause-consistent c =

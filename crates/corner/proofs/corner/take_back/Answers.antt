@@ -1,7 +1,7 @@
 use Rattle.std.proofs.Common.{subst, sym}
 use Rattle.corner.specs.Histories.{lists_before}
 use Rattle.corner.specs.Invariants.{IsConsistent}
-use Rattle.corner.proofs.CornerAttrs.{back_consistent}
+use Rattle.corner.proofs.Attributes.CornerAttrs.{back_consistent}
 use Rattle.corner.proofs.corner.take_back.Goals as goal
 
 pub returns-clause-consistent : goal.returns-clause-consistent

@@ -1,12 +1,12 @@
 use Rattle.std.proofs.Common.{◌∙◌, ap}
 use Rattle.corner.specs.Tables.{lists_of, marks_at, problem_of}
-use Rattle.corner.proofs.DroppedConsistent.{drop_consistent}
-use Rattle.corner.proofs.DroppedKept.{IsDrop, drop_marks, going}
-use Rattle.corner.proofs.NextConsistent.{marked_next}
+use Rattle.corner.proofs.Removals.DroppedConsistent.{drop_consistent}
+use Rattle.corner.proofs.Removals.DroppedKept.{IsDrop, drop_marks, going}
+use Rattle.corner.proofs.Swaps.NextConsistent.{marked_next}
 use Rattle.corner.proofs.corner.take_row.Goals as goal
 
 pub rewound-requires-clause-marked : goal.rewound-requires-clause-marked
-rewound-requires-clause-marked c = marked_next c.args.table.now c.put_left.new.table c.requires.consistent.alike c.requires.marked c.in-Err.ensures.before
+rewound-requires-clause-marked c = marked_next c.args.table.now c.put_left.new.table c.requires.consistent.alike c.requires.marked c.in-Err-put_left.ensures.before
 
 pub returns-in-Ok-put_left-clause-consistent : goal.returns-in-Ok-put_left-clause-consistent
 returns-in-Ok-put_left-clause-consistent c =

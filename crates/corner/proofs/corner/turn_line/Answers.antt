@@ -1,9 +1,11 @@
+use Rattle.std.proofs.Common.{subst, sym}
+use Rattle.corner.specs.Swaps.TurnedLevels.{IsTurnStop}
 use Rattle.corner.specs.Tables.{lists_of}
-use Rattle.corner.proofs.NextConsistent.{marked_next, turned_consistent, turned_seen}
+use Rattle.corner.proofs.Swaps.NextConsistent.{marked_next, turned_consistent, turned_seen}
 use Rattle.corner.proofs.corner.turn_line.Goals as goal
 
 pub rewound-requires-clause-marked : goal.rewound-requires-clause-marked
-rewound-requires-clause-marked c = marked_next c.args.table.now c.put_turn.new.table c.requires.consistent.alike c.requires.marked c.in-Err.ensures.before
+rewound-requires-clause-marked c = marked_next c.args.table.now c.put_turn.new.table c.requires.consistent.alike c.requires.marked c.in-Err-put_turn.ensures.before
 
 pub returns-in-Ok-put_turn-clause-consistent : goal.returns-in-Ok-put_turn-clause-consistent
 returns-in-Ok-put_turn-clause-consistent c =
@@ -12,3 +14,6 @@ returns-in-Ok-put_turn-clause-consistent c =
 
 pub returns-in-Ok-put_turn-clause-problem : goal.returns-in-Ok-put_turn-clause-problem
 returns-in-Ok-put_turn-clause-problem c = (turned_seen (lists_of c.args.table.now) (lists_of c.put_turn.new.table) c.args.line c.args.side c.in-Ok.change c.in-Ok-put_turn.ensures.lists).problem
+
+pub returns-in-Err-clause-stop : goal.returns-in-Err-clause-stop
+returns-in-Err-clause-stop c = subst (IsTurnStop (lists_of c.args.table.now) c.args.line c.args.side) (sym c.not_made.ensures.stop) c.in-Err.ensures.stop

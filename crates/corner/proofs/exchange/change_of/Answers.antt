@@ -1,5 +1,5 @@
 use Rattle.corner.specs.Tables.{lists_of}
-use Rattle.corner.proofs.TouchedFacts.{standing_rows}
+use Rattle.corner.proofs.Pivots.TouchedFacts.{standing_rows}
 use Rattle.corner.proofs.exchange.change_of.Goals as goal
 
 pub level_change-requires-clause-rows : goal.level_change-requires-clause-rows

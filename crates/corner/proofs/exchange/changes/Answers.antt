@@ -1,5 +1,5 @@
 use Rattle.corner.specs.Tables.{lists_of}
-use Rattle.corner.proofs.TouchedFacts.{all_gone, one_gone}
+use Rattle.corner.proofs.Pivots.TouchedFacts.{all_gone, one_gone}
 use Rattle.corner.proofs.exchange.changes.Goals as goal
 
 pub loop-w-preserved : goal.loop-w-preserved

@@ -1,5 +1,5 @@
 use Rattle.corner.specs.Tables.{lists_of}
-use Rattle.corner.proofs.TouchedFacts.{AreGone}
+use Rattle.corner.proofs.Pivots.TouchedFacts.{AreGone}
 use Rattle.corner.proofs.exchange.changes.Given as goal
 
 abbrev pub invariant-loop-w : goal.invariant-loop-w

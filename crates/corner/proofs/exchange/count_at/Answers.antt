@@ -2,10 +2,10 @@ use Rattle.std.proofs.Common.{◌*ℤ◌, ℤ, pos, rules, sym, subst, SFits}
 use Rattle.std.specs.Int.{w64}
 use Rattle.corner_lines.specs.LineEquations.{sign_of}
 use Rattle.corner.specs.Tables.{lists_of}
-use Rattle.corner.specs.LevelNumbers.{IsCost, IsLinesSlot, count_of}
-use Rattle.corner.proofs.LevelReadFacts.{counted}
-use Rattle.corner.proofs.LevelCounts.{share_small}
-use Rattle.corner.proofs.LevelWords.{product_is}
+use Rattle.corner.specs.Reads.LevelNumbers.{IsCost, IsLinesSlot, count_of}
+use Rattle.corner.proofs.LevelFacts.LevelReadFacts.{counted}
+use Rattle.corner.proofs.LevelFacts.LevelCounts.{share_small}
+use Rattle.corner.proofs.LevelFacts.LevelWords.{product_is}
 use Rattle.corner.proofs.exchange.count_at.Goals as goal
 
 pub cost_share-requires-clause-counted : goal.cost_share-requires-clause-counted

@@ -3,10 +3,10 @@ use Rattle.std.specs.Int.{w64}
 use Rattle.frac_core.specs.Fraction.{IsFitting}
 use Rattle.corner.specs.Tables.{entry, lists_of}
 use Rattle.corner.specs.Kept.{level_own}
-use Rattle.corner.specs.LevelNumbers.{IsCost}
-use Rattle.corner.specs.LevelChanges.{count_by}
-use Rattle.corner.proofs.LevelSwaps.{enter_line, entering_there}
-use Rattle.corner.proofs.LevelWords.{product_fits, rest_cost, rest_fits, rest_is}
+use Rattle.corner.specs.Reads.LevelNumbers.{IsCost}
+use Rattle.corner.specs.Swaps.LevelChanges.{count_by}
+use Rattle.corner.proofs.Pivots.LevelSwaps.{enter_line, entering_there}
+use Rattle.corner.proofs.LevelFacts.LevelWords.{product_fits, rest_cost, rest_fits, rest_is}
 use Rattle.corner.proofs.exchange.entering_at.Goals as goal
 
 pub count_at-comes-requires-clause-line : goal.count_at-comes-requires-clause-line

@@ -2,10 +2,10 @@ use Rattle.std.proofs.Common.{rules, SFits, w64, ◌∙◌, sym, ap}
 use Rattle.std.proofs.lemmas.Int.{to_z-of_z}
 use Rattle.frac_core.specs.Fraction.{IsFitting}
 use Rattle.row_core.specs.Rows.{coefficient}
-use Rattle.corner.specs.Exchanges.{signed}
+use Rattle.corner.specs.Swaps.Exchanges.{signed}
 use Rattle.corner.specs.Tables.{lists_of}
-use Rattle.corner.proofs.EnteringLines.{entering_is}
-use Rattle.corner.proofs.LineSlots.{read_row}
+use Rattle.corner.proofs.Pivots.EnteringLines.{entering_is}
+use Rattle.corner.proofs.Pivots.LineSlots.{read_row}
 use Rattle.corner.proofs.exchange.entering_change.Goals as goal
 
 pub returns : goal.returns

@@ -1,7 +1,7 @@
 use Rattle.std.proofs.Common.{rules, SFits, w64, ◌≡◌, ◌∙◌, ◌*ℤ◌, ℤ, pos, sym, ap, ap₂, subst, unsigned_abs}
 use Rattle.std.proofs.lemmas.Int.{to_z-of_z}
 use Rattle.problem_core.specs.declared.parts.Side.{Side}
-use Rattle.problem_core.specs.Stops.{TableStop}
+use Rattle.problem_core.specs.Changes.Stops.{TableStop}
 use Rattle.frac_core.specs.declared.memory.Stop.TheVariants.{Refused}
 use Rattle.problem_core.specs.declared.stops.Quantity.TheVariants.{Plain}
 use Rattle.frac_core.specs.Fraction.{IsKept, IsLowest}
@@ -10,10 +10,11 @@ use Rattle.problem_core.specs.declared.stops.What.{What}
 use Rattle.problem_core.specs.declared.stops.What.TheVariants.{Mark as MarkOf}
 use Rattle.corner.specs.Changes.{IsUnfitStop}
 use Rattle.corner.specs.Tables.{entry, lists_of, problem_of}
-use Rattle.corner.specs.Exchanges.{IsEntering, IsPair, marks_after, signed}
-use Rattle.corner.proofs.PivotFacts.{AreNumbers, enter_owner, entering, entering_unfit, err_all, ok_both, size_above}
+use Rattle.corner.specs.Swaps.Exchanges.{IsEntering, IsPair, marks_after, signed}
+use Rattle.corner.proofs.Pivots.PivotFacts.{AreNumbers, enter_owner, entering, entering_unfit, size_above}
 use Rattle.corner.proofs.exchange.entering_value.Goals as goal
-use Rattle.frac_core.proofs.Results.{ok_implies}
+use Rattle.frac_core.proofs.Results.{ok_implies, err_implies as err_all}
+use Rattle.frac_core.proofs.Lists.{ok-both as ok_both}
 
 is-size : (c : goal.After-value_at) → c.size.result ≡ pos (unsigned_abs (entry (lists_of c.args.table.now) c.args.pair.leave c.args.pair.enter))
 is-size c = (simp (to_z-of_z, c.ranges.by) at c.size.ensures.value) ∙ ap (λ (z : ℤ). pos (unsigned_abs z)) c.requires.by

@@ -1,6 +1,6 @@
 use Rattle.std.proofs.Common.{refl}
 use Rattle.corner.specs.Tables.{lists_of}
-use Rattle.corner.proofs.TouchedFacts.{made_exchange}
+use Rattle.corner.proofs.Pivots.TouchedFacts.{made_exchange}
 use Rattle.corner.proofs.exchange.exchange_of.Goals as goal
 
 pub returns-clause-ok : goal.returns-clause-ok

@@ -3,11 +3,12 @@ use Rattle.std.specs.Int.{w64}
 use Rattle.corner.specs.declared.table.Slot.{Slot}
 use Rattle.corner.specs.declared.table.TheConstants.{LEVELS}
 use Rattle.corner.specs.Tables.{entry, lists_of, slot_at}
-use Rattle.corner.specs.LevelChanges.{count_by}
-use Rattle.corner.proofs.MarkFacts.{not_both}
-use Rattle.corner.proofs.TouchedFacts.{home_rows, no_zero, untouched_by, zero_by}
+use Rattle.corner.specs.Swaps.LevelChanges.{count_by}
+use Rattle.corner.proofs.Pivots.TouchedFacts.{no_zero, untouched_by, zero_by}
 use Rattle.corner.proofs.exchange.is_touched.Goals as goal
 use Rattle.corner.proofs.exchange.is_touched.Goals.{then-is_level, else-is_level}
+use Rattle.frac_core.proofs.Bools.{not-both as not_both}
+use Rattle.corner.proofs.LevelFacts.LevelCounts.{home_has_rows as home_rows}
 
 pub returns-then-count_at-ne0-clause-rows : goal.returns-then-count_at-ne0-clause-rows
 returns-then-count_at-ne0-clause-rows c =

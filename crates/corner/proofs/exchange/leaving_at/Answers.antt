@@ -3,10 +3,10 @@ use Rattle.std.specs.Int.{w64}
 use Rattle.frac_core.specs.Fraction.{IsFitting}
 use Rattle.corner.specs.Tables.{lists_of, standing_at}
 use Rattle.corner.specs.Kept.{level_own}
-use Rattle.corner.specs.LevelChanges.{count_by, leaving_at, side_or}
-use Rattle.corner.proofs.LevelReadFacts.{fitting_cost}
-use Rattle.corner.proofs.LevelSwaps.{leave_line, leaving_there, side_there}
-use Rattle.corner.proofs.LevelWords.{product_fits, product_is}
+use Rattle.corner.specs.Swaps.LevelChanges.{count_by, leaving_at, side_or}
+use Rattle.corner.proofs.LevelFacts.LevelReadFacts.{fitting_cost}
+use Rattle.corner.proofs.Pivots.LevelSwaps.{leave_line, leaving_there, side_there}
+use Rattle.corner.proofs.LevelFacts.LevelWords.{product_fits, product_is}
 use Rattle.corner.proofs.exchange.leaving_at.Goals as goal
 
 pub count_at-goes-requires-clause-line : goal.count_at-goes-requires-clause-line

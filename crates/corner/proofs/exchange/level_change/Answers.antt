@@ -7,10 +7,10 @@ use Rattle.problem_core.specs.declared.stops.What.TheVariants.{Level as LevelOf}
 use Rattle.problem_core.specs.declared.stops.Quantity.TheVariants.{Plain}
 use Rattle.frac_core.specs.declared.memory.Stop.TheVariants.{Refused}
 use Rattle.corner.specs.declared.levels.fitting.Draft.{Draft}
-use Rattle.corner.specs.Exchanges.{marks_after}
-use Rattle.corner.specs.LevelChanges.{IsStopOf}
+use Rattle.corner.specs.Swaps.Exchanges.{marks_after}
+use Rattle.corner.specs.Swaps.LevelChanges.{IsStopOf}
 use Rattle.corner.specs.Tables.{lists_of, priority_at}
-use Rattle.corner.proofs.LevelCosts.{IsDraftOf, change_after, draft_unfit, level_stop, unit_above, unit_fits}
+use Rattle.corner.proofs.Pivots.LevelCosts.{IsDraftOf, change_after, draft_unfit, level_stop, unit_above, unit_fits}
 use Rattle.corner.proofs.exchange.level_change.Goals as goal
 
 pub does_level_fit-requires-clause-unit : goal.does_level_fit-requires-clause-unit

@@ -2,23 +2,22 @@ use Rattle.std.proofs.Common.{rules, SFits, to_z, of_z, ◌≡◌, ◌∙◌, �
 use Rattle.std.specs.Int.{w64, w128}
 use Rattle.std.proofs.lemmas.Int.{to_z-of_z}
 use Rattle.frac_core.specs.Fraction.{IsFitting}
-use Rattle.problem_core.specs.Stops.{TableStop}
+use Rattle.problem_core.specs.Changes.Stops.{TableStop}
 use Rattle.row_core.specs.Rows.{IsKeptRow, IsReduced, IsUnfit}
 use Rattle.row_core.specs.Combinations.{IsFactor, combination_but}
 use Rattle.row_core.specs.declared.entry.Factors.{Factors}
 use Rattle.row_core.specs.declared.entry.Patch.{Patch}
 use Rattle.frac_core.specs.Stops.{IsRefused}
 use Rattle.corner.specs.Changes.{IsUnfitStop}
-use Rattle.corner.specs.Exchanges.{IsPivotStop, marks_after, signed}
-use Rattle.corner.specs.LevelChanges.{level_sum}
+use Rattle.corner.specs.Swaps.Exchanges.{IsPivotStop, marks_after, signed}
+use Rattle.corner.specs.Swaps.LevelChanges.{level_sum}
 use Rattle.corner.specs.Tables.{lists_of, problem_of}
-use Rattle.corner.proofs.PivotFacts.{err_all}
-use Rattle.corner.proofs.LineSlots.{err_of, ok_of, read_row}
-use Rattle.corner.proofs.LevelSwaps.{size_of}
-use Rattle.corner.proofs.LevelWords.{negated_factor, negated_is}
-use Rattle.corner.proofs.LevelCosts.{AreSumNumbers, row_stop, sum_reduced, sum_unfit}
+use Rattle.corner.proofs.Pivots.LineSlots.{err_of, ok_of, read_row}
+use Rattle.corner.proofs.Pivots.LevelSwaps.{size_of}
+use Rattle.corner.proofs.LevelFacts.LevelWords.{negated_factor, negated_is}
+use Rattle.corner.proofs.Pivots.LevelCosts.{AreSumNumbers, row_stop, sum_reduced, sum_unfit}
 use Rattle.corner.proofs.exchange.level_row.Goals as goal
-use Rattle.frac_core.proofs.Results.{ok_implies}
+use Rattle.frac_core.proofs.Results.{ok_implies, err_implies as err_all}
 
 pub combine_but-requires-clause-n : goal.combine_but-requires-clause-n
 combine_but-requires-clause-n c =

@@ -3,16 +3,15 @@ use Rattle.std.specs.Int.{w64}
 use Rattle.std.proofs.lemmas.Int.{to_z-of_z}
 use Rattle.frac_core.specs.Fraction.{IsFitting}
 use Rattle.corner_lines.specs.LineEquations.{sign_of}
-use Rattle.corner.specs.Exchanges.{IsPivotStop}
-use Rattle.corner.specs.LevelChanges.{IsLevelValue, entering_at}
+use Rattle.corner.specs.Swaps.Exchanges.{IsPivotStop}
+use Rattle.corner.specs.Swaps.LevelChanges.{IsLevelValue, entering_at}
 use Rattle.corner.specs.Tables.{lists_of, priority_at}
 use Rattle.corner.specs.Kept.{level_own}
-use Rattle.corner.proofs.LevelReadFacts.{fitting_cost}
-use Rattle.corner.proofs.LevelWords.{product_fits, product_is}
-use Rattle.corner.proofs.PivotFacts.{err_all}
-use Rattle.corner.proofs.LevelCosts.{minus_sign, scale_above, scale_fits, unfit_of, value_of, value_stop}
+use Rattle.corner.proofs.LevelFacts.LevelReadFacts.{fitting_cost}
+use Rattle.corner.proofs.LevelFacts.LevelWords.{product_fits, product_is}
+use Rattle.corner.proofs.Pivots.LevelCosts.{minus_sign, scale_above, scale_fits, unfit_of, value_of, value_stop}
 use Rattle.corner.proofs.exchange.level_value.Goals as goal
-use Rattle.frac_core.proofs.Results.{ok_implies}
+use Rattle.frac_core.proofs.Results.{ok_implies, err_implies as err_all}
 
 pub overflow_mul-own_of_level : goal.overflow_mul-own_of_level
 overflow_mul-own_of_level c =

@@ -1,6 +1,6 @@
-use Rattle.corner.specs.Exchanges.{IsWhatAt}
+use Rattle.corner.specs.Swaps.Exchanges.{IsWhatAt}
 use Rattle.corner.specs.Tables.{lists_of}
-use Rattle.corner.proofs.LineSlots.{what_there}
+use Rattle.corner.proofs.Pivots.LineSlots.{what_there}
 use Rattle.corner.proofs.exchange.line_change.Goals as goal
 
 there : (c : goal.After-what_at-what) → IsWhatAt (lists_of c.args.table.now) c.args.w c.what_at-what.result

@@ -4,11 +4,11 @@ use Rattle.std.proofs.lemmas.Result.{err_from_is_err_and}
 use Rattle.frac_core.specs.Fraction.{IsFitting}
 use Rattle.row_core.specs.Rows.{coefficient}
 use Rattle.problem_core.specs.Corners.{Swap}
-use Rattle.problem_core.specs.Stops.{TableStop}
+use Rattle.problem_core.specs.Changes.Stops.{TableStop}
 use Rattle.corner.specs.Changes.{IsUnfitStop}
-use Rattle.corner.specs.Exchanges.{IsOwnerRow, IsPivotAt, marks_after}
+use Rattle.corner.specs.Swaps.Exchanges.{IsOwnerRow, IsPivotAt, marks_after}
 use Rattle.corner.specs.Tables.{lists_of, problem_of, slot_at, standing_at}
-use Rattle.corner.proofs.LineSlots.{moved_change, moved_large, what_row}
+use Rattle.corner.proofs.Pivots.LineSlots.{moved_change, moved_large, what_row}
 use Rattle.corner.proofs.exchange.moved_line.Goals as goal
 
 pub returns-clause-ok : goal.returns-clause-ok

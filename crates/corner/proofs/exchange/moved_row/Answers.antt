@@ -2,15 +2,14 @@ use Rattle.std.proofs.Common.{rules, SFits, w64, ◌≡◌, ◌∙◌, inl, inr,
 use Rattle.std.proofs.lemmas.Int.{to_z-of_z}
 use Rattle.frac_core.specs.Fraction.{IsFitting}
 use Rattle.problem_core.specs.Corners.{Swap}
-use Rattle.problem_core.specs.Stops.{TableStop}
+use Rattle.problem_core.specs.Changes.Stops.{TableStop}
 use Rattle.row_core.specs.Rows.{IsKeptRow, IsReduced}
 use Rattle.corner.specs.Changes.{IsUnfitStop}
-use Rattle.corner.specs.Exchanges.{IsPivotAt, marks_after, moved, signed}
+use Rattle.corner.specs.Swaps.Exchanges.{IsPivotAt, marks_after, moved, signed}
 use Rattle.corner.specs.Tables.{entry, lists_of, problem_of}
-use Rattle.corner.proofs.PivotFacts.{err_all}
-use Rattle.corner.proofs.LineSlots.{err_of, ok_of, read_row, reduced_moved, unfit_moved, what_stop}
+use Rattle.corner.proofs.Pivots.LineSlots.{err_of, ok_of, read_row, reduced_moved, unfit_moved, what_stop}
 use Rattle.corner.proofs.exchange.moved_row.Goals as goal
-use Rattle.frac_core.proofs.Results.{ok_implies}
+use Rattle.frac_core.proofs.Results.{ok_implies, err_implies as err_all}
 
 pub size-requires : goal.size-requires
 size-requires c =

@@ -2,14 +2,13 @@ use Rattle.std.proofs.Common.{rules, SFits, w64, ◌≡◌, ◌∙◌, ◌*ℤ�
 use Rattle.std.proofs.lemmas.Int.{to_z-of_z}
 use Rattle.frac_core.specs.Fraction.{IsKept, IsLowest}
 use Rattle.problem_core.specs.Corners.{Swap}
-use Rattle.problem_core.specs.Stops.{TableStop}
+use Rattle.problem_core.specs.Changes.Stops.{TableStop}
 use Rattle.corner.specs.Changes.{IsUnfitStop}
-use Rattle.corner.specs.Exchanges.{IsPivotAt, IsValueAfter, marks_after, moved_by}
+use Rattle.corner.specs.Swaps.Exchanges.{IsPivotAt, IsValueAfter, marks_after, moved_by}
 use Rattle.corner.specs.Tables.{lists_of, problem_of}
-use Rattle.corner.proofs.PivotFacts.{err_all}
-use Rattle.corner.proofs.LineSlots.{own_above, unfit_after, value_after, what_moves, what_stop}
+use Rattle.corner.proofs.Pivots.LineSlots.{own_above, unfit_after, value_after, what_moves, what_stop}
 use Rattle.corner.proofs.exchange.moved_value.Goals as goal
-use Rattle.frac_core.proofs.Results.{ok_implies}
+use Rattle.frac_core.proofs.Results.{ok_implies, err_implies as err_all}
 
 pub named_sum-requires-clause-above : goal.named_sum-requires-clause-above
 named_sum-requires-clause-above c =

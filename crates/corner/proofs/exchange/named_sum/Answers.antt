@@ -1,5 +1,5 @@
 use Rattle.std.proofs.lemmas.Int.{to_z-of_z}
-use Rattle.corner.proofs.SumTurns.{nothing-added}
+use Rattle.corner.proofs.Basics.SumTurns.{nothing-added}
 use Rattle.corner.proofs.exchange.named_sum.Goals as goal
 
 pub returns-then-is_nothing-clause-ok : goal.returns-then-is_nothing-clause-ok

@@ -2,11 +2,11 @@ use Rattle.std.proofs.Common.{rules, SFits, w64, ◌*ℤ◌, pos, sym, subst}
 use Rattle.std.proofs.lemmas.Int.{to_z-of_z}
 use Rattle.std.proofs.lemmas.Result.{err_from_is_err_and}
 use Rattle.frac_core.specs.Fraction.{IsFitting}
-use Rattle.problem_core.specs.Stops.{TableStop}
+use Rattle.problem_core.specs.Changes.Stops.{TableStop}
 use Rattle.corner.specs.Changes.{IsUnfitStop}
-use Rattle.corner.specs.Exchanges.{marks_after}
+use Rattle.corner.specs.Swaps.Exchanges.{marks_after}
 use Rattle.corner.specs.Tables.{lists_of, problem_of}
-use Rattle.corner.proofs.PivotFacts.{enter_within, entering_large}
+use Rattle.corner.proofs.Pivots.PivotFacts.{enter_within, entering_large}
 use Rattle.corner.proofs.exchange.pivot_with.Goals as goal
 
 pub check_stay-requires-clause-within : goal.check_stay-requires-clause-within

@@ -1,8 +1,8 @@
 use Rattle.std.proofs.Common.{All, List, sym, subst}
 use Rattle.corner.specs.declared.exchange.Change.{Change}
-use Rattle.corner.specs.Exchanges.{IsChangeBy}
+use Rattle.corner.specs.Swaps.Exchanges.{IsChangeBy}
 use Rattle.corner.specs.Tables.{lists_of}
-use Rattle.corner.proofs.TouchedFacts.{all_pushed, on_ok}
+use Rattle.corner.proofs.Pivots.TouchedFacts.{all_pushed, on_ok}
 use Rattle.corner.proofs.exchange.push_change.Goals as goal
 
 pub returns-clause-changes : goal.returns-clause-changes

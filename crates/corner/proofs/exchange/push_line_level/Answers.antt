@@ -2,10 +2,11 @@ use Rattle.std.proofs.Common.{List, inr, subst}
 use Rattle.corner.specs.declared.exchange.Change.{Change}
 use Rattle.corner.specs.declared.table.Slot.{Slot}
 use Rattle.corner.specs.Tables.{lists_of}
-use Rattle.corner.specs.Touched.{AreLevelsPut, IsPut}
-use Rattle.corner.proofs.TouchedFacts.{home_put, on_ok_so}
+use Rattle.corner.specs.Swaps.Touched.{AreLevelsPut, IsPut}
+use Rattle.corner.proofs.Pivots.TouchedFacts.{home_put}
 use Rattle.corner.proofs.exchange.push_line_level.Goals as goal
 use Rattle.corner.proofs.exchange.push_line_level.Goals.{else-is_touched-via-then-is_touched+else-not-is_last, else-is_touched-via-else-is_touched}
+use Rattle.corner.proofs.Additions.RowPlaced.{on_ok as on_ok_so}
 
 pub returns-then-not-is_last-clause-put : goal.returns-then-not-is_last-clause-put
 returns-then-not-is_last-clause-put c =

@@ -1,10 +1,10 @@
 use Rattle.std.proofs.Common.{ℕ}
-use Rattle.corner.specs.Exchanges.{IsRestUntouched}
+use Rattle.corner.specs.Swaps.Exchanges.{IsRestUntouched}
 use Rattle.corner.specs.Tables.{lists_of}
-use Rattle.corner.specs.Touched.{AreLevelsPut, IsPut}
-use Rattle.corner.proofs.TouchedFacts.{more_put, on_ok_both, rest_untouched}
+use Rattle.corner.specs.Swaps.Touched.{AreLevelsPut, IsPut}
+use Rattle.corner.proofs.Pivots.TouchedFacts.{more_put, on_ok_both, rest_untouched}
 use Rattle.corner.proofs.exchange.push_touched.Goals as goal
-use Rattle.corner.proofs.LevelSwaps.{enter_line, leave_line}
+use Rattle.corner.proofs.Pivots.LevelSwaps.{enter_line, leave_line}
 
 pub push_line_level-requires-clause-line : goal.push_line_level-requires-clause-line
 push_line_level-requires-clause-line c = enter_line (lists_of c.args.table.now) c.args.pivot.now.pair c.requires.pivot.0 c.requires.pivot.1.pair

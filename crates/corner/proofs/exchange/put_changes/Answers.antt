@@ -1,5 +1,5 @@
 use Rattle.std.proofs.Common.{rules, ◌≡◌, ◌++◌, [], ◌∷◌, subst}
-use Rattle.corner.proofs.PutFacts.{ArePutSoFar, one_more}
+use Rattle.corner.proofs.Swaps.PutFacts.{ArePutSoFar, one_more}
 use Rattle.corner.proofs.exchange.put_changes.Goals as goal
 
 pub loop-change-preserved : goal.loop-change-preserved

@@ -1,5 +1,5 @@
 use Rattle.std.proofs.Common.{length}
-use Rattle.corner.proofs.PutFacts.{ArePutSoFar}
+use Rattle.corner.proofs.Swaps.PutFacts.{ArePutSoFar}
 use Rattle.corner.proofs.exchange.put_changes.Given as goal
 
 abbrev pub invariant-loop-change : goal.invariant-loop-change

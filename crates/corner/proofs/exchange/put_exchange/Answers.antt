@@ -2,12 +2,12 @@ use Rattle.corner.specs.Kept.{AreStored}
 use Rattle.std.proofs.Common.{◌<◌, Result, Ok, Err, OnOk, length, sym, subst}
 use Rattle.problem_core.specs.Corners.{SameMarks}
 use Rattle.corner.specs.Kept.{AreSlots, IsKept}
-use Rattle.corner.specs.Exchanges.{AreListedAfter, AreMarksAfter, marks_after}
-use Rattle.corner.specs.NextLists.{AreKeptChanges}
+use Rattle.corner.specs.Swaps.Exchanges.{AreListedAfter, AreMarksAfter, marks_after}
+use Rattle.corner.specs.Swaps.NextLists.{AreKeptChanges}
 use Rattle.corner.specs.Tables.{IsListedOf, Lists, lists_of, marks_at, row_at}
-use Rattle.corner.proofs.PivotFacts.{enter_within}
-use Rattle.corner.proofs.ExchangedKept.{exchanged_after, exchanged_kept, slots_same}
-use Rattle.corner.proofs.ListedFacts.{listed_after}
+use Rattle.corner.proofs.Pivots.PivotFacts.{enter_within}
+use Rattle.corner.proofs.Swaps.ExchangedKept.{exchanged_after, exchanged_kept, slots_same}
+use Rattle.corner.proofs.Swaps.ListedFacts.{listed_after}
 use Rattle.corner.proofs.exchange.put_exchange.Goals as goal
 
 on-ok : {T E : Type 0} (r : Result T E) (P : Type 0) → P → OnOk r P

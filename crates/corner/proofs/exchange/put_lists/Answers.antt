@@ -1,7 +1,7 @@
 use Rattle.std.proofs.Common.{◌∙◌, sym, ap, subst}
 use Rattle.corner.specs.Kept.{AreSlots}
 use Rattle.corner.specs.Tables.{Lists, lists_of}
-use Rattle.corner.proofs.PutFacts.{change_there, changes_keep, changes_slots, cleared_slots}
+use Rattle.corner.proofs.Swaps.PutFacts.{change_there, changes_keep, changes_slots, cleared_slots}
 use Rattle.corner.proofs.exchange.put_lists.Goals as goal
 
 pub fill_slot-requires-clause-slots : goal.fill_slot-requires-clause-slots

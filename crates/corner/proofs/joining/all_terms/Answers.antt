@@ -1,8 +1,8 @@
 use Rattle.std.proofs.Common.{◌∙◌}
 use Rattle.corner.specs.Tables.{lists_of}
-use Rattle.corner.proofs.PivotFacts.{is-zero}
-use Rattle.corner.proofs.RowTerms.{start_sum}
+use Rattle.corner.proofs.Additions.RowTerms.{start_sum}
 use Rattle.corner.proofs.joining.all_terms.Goals as goal
+use Rattle.corner.proofs.Corners.NewTables.{zero_is as is-zero}
 
 pub loop-i-init : goal.loop-i-init
 loop-i-init c =

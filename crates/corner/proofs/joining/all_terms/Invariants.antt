@@ -1,6 +1,6 @@
 use Rattle.problem_core.specs.Unfit.{first_terms}
 use Rattle.corner.specs.Tables.{lists_of}
-use Rattle.corner.specs.RowSums.{IsSumRow}
+use Rattle.corner.specs.Additions.RowSums.{IsSumRow}
 use Rattle.corner.proofs.joining.all_terms.Given as goal
 
 abbrev pub invariant-loop-i : goal.invariant-loop-i

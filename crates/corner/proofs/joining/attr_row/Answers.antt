@@ -2,7 +2,7 @@ use Rattle.std.proofs.Common.{◌∙◌, ◌+◌, ap, refl, subst, sym}
 use Rattle.frac_core.specs.Stops.{IsRefused}
 use Rattle.frac_core.specs.declared.frac.Unfit.{Unfit}
 use Rattle.frac_core.specs.declared.memory.Stop.{Stop}
-use Rattle.corner.proofs.RowPlaced.{stay_there}
+use Rattle.corner.proofs.Additions.RowPlaced.{stay_there}
 use Rattle.corner.proofs.joining.attr_row.Goals as goal
 
 pub unreachable-requires : goal.unreachable-requires

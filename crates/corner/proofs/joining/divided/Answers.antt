@@ -1,13 +1,12 @@
 use Rattle.std.proofs.Common.{rules, [], ◌∷◌, SFits, w64, ◌∙◌, inl, inr, ℕ, pos, ap}
 use Rattle.std.specs.Int.{w128}
 use Rattle.std.proofs.lemmas.Int.{to_z-of_z}
-use Rattle.corner.specs.CostJoins.{IsInUnit, IsUnitStop}
+use Rattle.corner.specs.Additions.CostJoins.{IsInUnit, IsUnitStop}
 use Rattle.row_core.specs.Rows.{IsKeptRow, coefficient}
-use Rattle.corner.proofs.PivotFacts.{err_all}
-use Rattle.corner.proofs.LineSlots.{err_of, ok_of}
-use Rattle.corner.proofs.CostRows.{unfit_unit, unit_row}
+use Rattle.corner.proofs.Pivots.LineSlots.{err_of, ok_of}
+use Rattle.corner.proofs.Costs.CostRows.{unfit_unit, unit_row}
 use Rattle.corner.proofs.joining.divided.Goals as goal
-use Rattle.frac_core.proofs.Results.{ok_implies}
+use Rattle.frac_core.proofs.Results.{ok_implies, err_implies as err_all}
 
 pub returns-clause-ok : goal.returns-clause-ok
 returns-clause-ok c =

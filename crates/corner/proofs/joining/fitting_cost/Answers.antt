@@ -4,10 +4,10 @@ use Rattle.corner.specs.declared.levels.fitting.Draft.{Draft}
 use Rattle.corner.specs.declared.table.TheConstants.{LEVELS}
 use Rattle.corner.specs.declared.table.Priority.{Priority}
 use Rattle.corner.specs.Tables.{lists_of, priority_at}
-use Rattle.corner.specs.Fitting.{HasFittingRow, HasNoFittingRow}
-use Rattle.corner.specs.CostJoins.{home_at}
-use Rattle.corner.proofs.CostFound.{found, found_below}
-use Rattle.corner.proofs.CostFits.{draft_same, fitting_joined, found_count_small, unfit_joined}
+use Rattle.corner.specs.Reads.Fitting.{HasFittingRow, HasNoFittingRow}
+use Rattle.corner.specs.Additions.CostJoins.{home_at}
+use Rattle.corner.proofs.Costs.CostFound.{found, found_below}
+use Rattle.corner.proofs.Costs.CostFits.{draft_same, fitting_joined, found_count_small, unfit_joined}
 use Rattle.corner.proofs.joining.fitting_cost.Goals as goal
 
 pub priority_at-requires-clause-level : goal.priority_at-requires-clause-level

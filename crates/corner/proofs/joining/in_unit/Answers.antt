@@ -1,6 +1,6 @@
 use Rattle.std.proofs.Common.{w64, to_z, SFits, ap}
 use Rattle.std.proofs.lemmas.Int.{to_z-of_z}
-use Rattle.corner.proofs.CostRows.{same_unit}
+use Rattle.corner.proofs.Costs.CostRows.{same_unit}
 use Rattle.corner.proofs.joining.in_unit.Goals as goal
 
 pub returns-then-times-eq1-clause-ok : goal.returns-then-times-eq1-clause-ok

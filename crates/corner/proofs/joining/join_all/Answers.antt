@@ -1,10 +1,10 @@
 use Rattle.corner.specs.Changes.{IsAddStop}
 use Rattle.corner.specs.Invariants.{seen_of}
 use Rattle.corner.specs.Tables.{lists_of}
-use Rattle.corner.proofs.PartFacts.{kept_part}
-use Rattle.corner.proofs.PivotFacts.{err_all}
-use Rattle.corner.proofs.AddedRows.{costs_add_stop, pushed_to_join}
+use Rattle.corner.proofs.Additions.PartFacts.{kept_part}
+use Rattle.corner.proofs.Additions.AddedRows.{costs_add_stop, pushed_to_join}
 use Rattle.corner.proofs.joining.join_all.Goals as goal
+use Rattle.frac_core.proofs.Results.{err_implies as err_all}
 
 pub push_rows-requires-clause-kept : goal.push_rows-requires-clause-kept
 push_rows-requires-clause-kept c = kept_part (lists_of c.args.table.now) c.requires.kept

@@ -4,14 +4,14 @@ use Rattle.corner.specs.declared.table.TheConstants.{LEVELS}
 use Rattle.corner.specs.declared.table.Slot.{Slot}
 use Rattle.corner.specs.declared.table.Priority.{Priority}
 use Rattle.corner.specs.Tables.{lists_of, priority_at}
-use Rattle.corner.specs.CostJoins.{IsJoinStop}
+use Rattle.corner.specs.Additions.CostJoins.{IsJoinStop}
 use Rattle.problem_core.specs.declared.parts.Level.TheVariants.{Priority as PriorityLevel}
 use Rattle.problem_core.specs.declared.stops.Quantity.TheVariants.{Rows}
 use Rattle.frac_core.specs.declared.memory.Stop.TheVariants.{Refused}
-use Rattle.corner.proofs.LevelReadFacts.{fitting_sfits}
-use Rattle.corner.proofs.CostFound.{passed_on}
-use Rattle.corner.proofs.CostEnds.{joined_below, joined_kept, joining_below, joining_few, stop_is}
+use Rattle.corner.proofs.Costs.CostFound.{passed_on}
+use Rattle.corner.proofs.Costs.CostEnds.{joined_below, joined_kept, joining_below, joining_few, stop_is}
 use Rattle.corner.proofs.joining.join_cost.Goals as goal
+use Rattle.frac_core.proofs.Fitting.{fits-word as fitting_sfits}
 
 pub priority_at-requires-clause-level : goal.priority_at-requires-clause-level
 priority_at-requires-clause-level c = subst (λ (slot : Slot). slot.home < LEVELS) (sym c.slot_at-slot.ensures) (joining_below (lists_of c.args.table.now) c.requires.joins.0 c.args.line c.requires.kept c.requires.joins.1)

@@ -3,9 +3,9 @@ use Rattle.problem_core.specs.declared.parts.RowName.TheVariants.{Held}
 use Rattle.problem_core.specs.Layout.{Row}
 use Rattle.corner.specs.Tables.{line_slot, lists_of, problem_of}
 use Rattle.corner.specs.Views.{IsNamed}
-use Rattle.corner.specs.CostJoins.{AreToJoin, IsCostsStop}
-use Rattle.corner.proofs.CostFound.{passed_on}
-use Rattle.corner.proofs.CostLoops.{here_joins, joins_at, last_kept, step_joined, step_joins, step_kept, step_stop, to_join_named}
+use Rattle.corner.specs.Additions.CostJoins.{AreToJoin, IsCostsStop}
+use Rattle.corner.proofs.Costs.CostFound.{passed_on}
+use Rattle.corner.proofs.Costs.CostLoops.{here_joins, joins_at, last_kept, step_joined, step_joins, step_kept, step_stop, to_join_named}
 use Rattle.corner.proofs.joining.join_costs.Goals as goal
 
 pub line_slot-line-requires-clause-row : goal.line_slot-line-requires-clause-row

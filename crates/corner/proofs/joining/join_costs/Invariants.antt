@@ -1,8 +1,8 @@
 use Rattle.std.proofs.Common.{◌≡◌, ◌++◌, List, drop, take}
 use Rattle.problem_core.specs.Layout.{Row}
 use Rattle.corner.specs.Histories.{AreAlike, lists_before}
-use Rattle.corner.specs.Parts.{IsPartlyKept}
-use Rattle.corner.specs.CostJoins.{AreCostsJoined, AreToJoin}
+use Rattle.corner.specs.Additions.Parts.{IsPartlyKept}
+use Rattle.corner.specs.Additions.CostJoins.{AreCostsJoined, AreToJoin}
 use Rattle.corner.specs.Tables.{lists_of}
 use Rattle.corner.proofs.joining.join_costs.Given as goal
 

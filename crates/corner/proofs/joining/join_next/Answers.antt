@@ -1,8 +1,8 @@
 use Rattle.cert_core.specs.declared.stops.RunStop.TheVariants.{OutOfMemory}
 use Rattle.corner.specs.Tables.{lists_of}
-use Rattle.corner.specs.CostJoins.{IsLineStop}
-use Rattle.corner.proofs.CostFound.{passed_on}
-use Rattle.corner.proofs.CostEnds.{cost_joined_kept, line_stop, row_listed, same_slots}
+use Rattle.corner.specs.Additions.CostJoins.{IsLineStop}
+use Rattle.corner.proofs.Costs.CostFound.{passed_on}
+use Rattle.corner.proofs.Costs.CostEnds.{cost_joined_kept, line_stop, row_listed, same_slots}
 use Rattle.corner.proofs.joining.join_next.Goals as goal
 
 pub list_row-requires-clause-slots : goal.list_row-requires-clause-slots

@@ -6,11 +6,11 @@ use Rattle.problem_core.specs.declared.parts.Side.{Side}
 use Rattle.corner_lines.specs.LineEquations.{sign_of}
 use Rattle.corner.specs.declared.table.Slot.{Slot}
 use Rattle.corner.specs.Tables.{lists_of}
-use Rattle.corner.specs.LevelNumbers.{IsCounted, share_of, side_share}
-use Rattle.corner.specs.CostJoins.{IsCostStop}
-use Rattle.corner.proofs.LevelReadFacts.{fitting_sfits}
-use Rattle.corner.proofs.CostFound.{found, found_counted, found_share_unfit, passed_on, signed_fits}
+use Rattle.corner.specs.Reads.LevelNumbers.{IsCounted, share_of, side_share}
+use Rattle.corner.specs.Additions.CostJoins.{IsCostStop}
+use Rattle.corner.proofs.Costs.CostFound.{found, found_counted, found_share_unfit, passed_on, signed_fits}
 use Rattle.corner.proofs.joining.joined_cost.Goals as goal
+use Rattle.frac_core.proofs.Fitting.{fits-word as fitting_sfits}
 
 pub counted-requires : goal.counted-requires
 counted-requires c =

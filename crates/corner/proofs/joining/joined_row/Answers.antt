@@ -4,13 +4,14 @@ use Rattle.row_core.specs.Rows.{coefficient}
 use Rattle.corner.specs.declared.table.TheConstants.{LEVELS}
 use Rattle.corner.specs.declared.table.Slot.{Slot}
 use Rattle.corner.specs.Tables.{lists_of, priority_at, row_at}
-use Rattle.corner.proofs.CostTerms.{IsCostRow}
+use Rattle.corner.proofs.Costs.CostTerms.{IsCostRow}
 use Rattle.row_core.specs.Rows.{IsKeptRow}
-use Rattle.corner.proofs.LevelReadFacts.{fitting_sfits}
-use Rattle.corner.specs.CostJoins.{IsCostStop, IsInUnit, IsJoinedRow, IsUnitStop, home_at}
-use Rattle.corner.proofs.PivotFacts.{err_all, ok_both}
-use Rattle.corner.proofs.CostFound.{found, found_below, found_level, found_old, found_own, found_row, found_share_stop, found_size, found_unit_stop, passed_on}
+use Rattle.corner.specs.Additions.CostJoins.{IsCostStop, IsInUnit, IsJoinedRow, IsUnitStop, home_at}
+use Rattle.corner.proofs.Costs.CostFound.{found, found_below, found_level, found_old, found_own, found_row, found_share_stop, found_size, found_unit_stop, passed_on}
 use Rattle.corner.proofs.joining.joined_row.Goals as goal
+use Rattle.frac_core.proofs.Fitting.{fits-word as fitting_sfits}
+use Rattle.frac_core.proofs.Lists.{ok-both as ok_both}
+use Rattle.frac_core.proofs.Results.{err_implies as err_all}
 
 pub cost_row-requires-clause-level : goal.cost_row-requires-clause-level
 cost_row-requires-clause-level c =

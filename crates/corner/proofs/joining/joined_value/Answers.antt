@@ -4,12 +4,11 @@ use Rattle.frac_core.specs.Fraction.{Fraction, IsRatio, IsUnfitRatio, sum_den, s
 use Rattle.problem_core.specs.Levels.{IsCostAt}
 use Rattle.corner.specs.declared.table.Slot.{Slot}
 use Rattle.corner.specs.Tables.{lists_of, marks_at, standing_at}
-use Rattle.corner.specs.CostJoins.{IsCostStop, home_at, with_next}
-use Rattle.corner.proofs.PivotFacts.{err_all}
-use Rattle.corner.proofs.CostFound.{found, found_below}
-use Rattle.corner.proofs.CostValues.{found_cost, found_unfit}
+use Rattle.corner.specs.Additions.CostJoins.{IsCostStop, home_at, with_next}
+use Rattle.corner.proofs.Costs.CostFound.{found, found_below}
+use Rattle.corner.proofs.Costs.CostValues.{found_cost, found_unfit}
 use Rattle.corner.proofs.joining.joined_value.Goals as goal
-use Rattle.frac_core.proofs.Results.{ok_implies}
+use Rattle.frac_core.proofs.Results.{ok_implies, err_implies as err_all}
 
 pub value_at-cost-requires-clause-within : goal.value_at-cost-requires-clause-within
 value_at-cost-requires-clause-within c =

@@ -2,13 +2,14 @@ use Rattle.std.proofs.Common.{refl, ap, length}
 use Rattle.frac_core.specs.Fraction.{IsKept}
 use Rattle.problem_core.specs.declared.parts.RowName.TheVariants.{Held}
 use Rattle.corner_lines.specs.LineEquations.{deviation}
-use Rattle.corner.specs.RowSums.{IsSumRow}
-use Rattle.corner.specs.Parts.{IsTermsStop}
+use Rattle.corner.specs.Additions.RowSums.{IsSumRow}
+use Rattle.corner.specs.Additions.Parts.{IsTermsStop}
 use Rattle.corner.specs.Tables.{lists_of}
-use Rattle.corner.proofs.PivotFacts.{err_all, ok_both}
-use Rattle.corner.proofs.RowTerms.{constant_unfit, less_value, stop_of}
+use Rattle.corner.proofs.Additions.RowTerms.{constant_unfit, less_value, stop_of}
 use Rattle.corner.proofs.joining.less_constant.Goals as goal
 use Rattle.std.proofs.Common.{◌∙◌, ◌+◌}
+use Rattle.frac_core.proofs.Lists.{ok-both as ok_both}
+use Rattle.frac_core.proofs.Results.{err_implies as err_all}
 
 pub returns-clause-value : goal.returns-clause-value
 returns-clause-value c =

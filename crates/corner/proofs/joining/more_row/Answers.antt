@@ -2,12 +2,13 @@ use Rattle.std.proofs.Common.{rules, SFits, w64, ◌∙◌, ◌<ℤ◌, pos, ref
 use Rattle.std.proofs.lemmas.Int.{to_z-of_z}
 use Rattle.row_core.specs.Rows.{IsKeptRow}
 use Rattle.row_core.proofs.Lowest.{reduced_same, unfit_same}
-use Rattle.corner.specs.RowSums.{HasTermFactors, IsTermRow}
+use Rattle.corner.specs.Additions.RowSums.{HasTermFactors, IsTermRow}
 use Rattle.corner.specs.Tables.{entry, lists_of, row_at}
-use Rattle.corner.proofs.LineSlots.{read_row}
-use Rattle.corner.proofs.PivotFacts.{err_all, ok_both}
-use Rattle.corner.proofs.RowTerms.{attr_above, factors_of, patched_same}
+use Rattle.corner.proofs.Pivots.LineSlots.{read_row}
+use Rattle.corner.proofs.Additions.RowTerms.{attr_above, factors_of, patched_same}
 use Rattle.corner.proofs.joining.more_row.Goals as goal
+use Rattle.frac_core.proofs.Lists.{ok-both as ok_both}
+use Rattle.frac_core.proofs.Results.{err_implies as err_all}
 
 pub term_factors-factors-requires-clause-attr : goal.term_factors-factors-requires-clause-attr
 term_factors-factors-requires-clause-attr c =

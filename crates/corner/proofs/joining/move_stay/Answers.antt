@@ -1,5 +1,5 @@
 use Rattle.corner.specs.Tables.{lists_of, problem_of}
-use Rattle.corner.proofs.AttrLevels.{stay_named}
+use Rattle.corner.proofs.Attributes.AttrLevels.{stay_named}
 use Rattle.corner.proofs.joining.move_stay.Goals as goal
 
 pub line_slot-line-requires-clause-row : goal.line_slot-line-requires-clause-row

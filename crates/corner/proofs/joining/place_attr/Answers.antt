@@ -1,6 +1,6 @@
 use Rattle.std.proofs.Common.{◌≡◌, ◌+◌, [], ◌∷◌, ap, arith, length, pos}
-use Rattle.corner.proofs.AttrJoins.{count_two}
-use Rattle.corner.proofs.AttrRows.{form_within}
+use Rattle.corner.proofs.Attributes.AttrJoins.{count_two}
+use Rattle.corner.proofs.Attributes.AttrRows.{form_within}
 use Rattle.corner.proofs.joining.place_attr.Goals as goal
 
 pub put-requires-clause-columns : goal.put-requires-clause-columns

@@ -3,8 +3,8 @@ use Rattle.row_core.specs.Rows.{IsKeptRow}
 use Rattle.problem_core.specs.declared.parts.RowName.TheVariants.{Held}
 use Rattle.corner_lines.specs.LineEquations.{deviation}
 use Rattle.corner.specs.Tables.{lists_of}
-use Rattle.corner.proofs.RowPlaced.{on_ok, placed}
-use Rattle.corner.proofs.RowTerms.{sum_below}
+use Rattle.corner.proofs.Additions.RowPlaced.{on_ok, placed}
+use Rattle.corner.proofs.Additions.RowTerms.{sum_below}
 use Rattle.corner.proofs.joining.place_row.Goals as goal
 
 pub push_slot-requires-clause-columns : goal.push_slot-requires-clause-columns

@@ -1,5 +1,5 @@
 use Rattle.corner.specs.Tables.{lists_of}
-use Rattle.corner.proofs.AttrLevels.{attr_kept}
+use Rattle.corner.proofs.Attributes.AttrLevels.{attr_kept}
 use Rattle.corner.proofs.joining.push_attr.Goals as goal
 
 pub returns-clause-kept : goal.returns-clause-kept

@@ -2,7 +2,7 @@ use Rattle.std.proofs.Common.{rules}
 use Rattle.frac_core.specs.Fraction.{IsKept}
 use Rattle.row_core.specs.Rows.{IsKeptRow}
 use Rattle.corner.specs.Tables.{lists_of}
-use Rattle.corner.proofs.RowJoins.{row_joins, row_kept_part}
+use Rattle.corner.proofs.Additions.RowJoins.{row_joins, row_kept_part}
 use Rattle.corner.proofs.joining.push_row.Goals as goal
 
 pub returns-clause-joined : goal.returns-clause-joined

@@ -1,13 +1,14 @@
 use Rattle.std.proofs.Common.{◌+◌, List, drop, refl, subst, take, []}
-use Rattle.problem_core.specs.Begins.{BeginsWith}
+use Rattle.problem_core.specs.Changes.Begins.{BeginsWith}
 use Rattle.problem_core.specs.Layout.{Row}
-use Rattle.corner_lines.proofs.JoinedBegins.{begins_none}
+use Rattle.corner_lines.proofs.ProblemChanges.JoinedBegins.{begins_none}
 use Rattle.corner.specs.Changes.{IsPathStop}
-use Rattle.corner.specs.RowJoins.{ArePushed}
+use Rattle.corner.specs.Additions.RowJoins.{ArePushed}
 use Rattle.corner.specs.Tables.{lists_of, marks_at, problem_of}
-use Rattle.corner.proofs.RowPaths.{begins_one, none_pushed, one_pushed}
-use Rattle.corner.proofs.RowStops.{add_stop, history_trans, loop_whole, next_rows, rest_rows, stopped, this_row, values_one}
+use Rattle.corner.proofs.Additions.RowPaths.{begins_one, none_pushed, one_pushed}
+use Rattle.corner.proofs.Additions.RowStops.{add_stop, loop_whole, next_rows, rest_rows, stopped, this_row, values_one}
 use Rattle.corner.proofs.joining.push_rows.Goals as goal
+use Rattle.corner.proofs.Stays.StoodTables.{same_again as history_trans}
 
 pub loop-i-init : goal.loop-i-init
 loop-i-init c = record {

@@ -1,9 +1,9 @@
 use Rattle.std.proofs.Common.{[], take}
-use Rattle.problem_core.specs.Begins.{BeginsWith}
+use Rattle.problem_core.specs.Changes.Begins.{BeginsWith}
 use Rattle.problem_core.specs.Corners.{NoNegativeValue}
 use Rattle.corner.specs.Histories.{HasSameHistory}
-use Rattle.corner.specs.Parts.{IsPartlyKept}
-use Rattle.corner.specs.RowJoins.{ArePushed}
+use Rattle.corner.specs.Additions.Parts.{IsPartlyKept}
+use Rattle.corner.specs.Additions.RowJoins.{ArePushed}
 use Rattle.corner.specs.Tables.{lists_of, marks_at, problem_of}
 use Rattle.corner.proofs.joining.push_rows.Given as goal
 

@@ -4,9 +4,9 @@ use Rattle.corner.specs.declared.table.TheConstants.{LEVELS}
 use Rattle.corner.specs.declared.table.Slot.{Slot}
 use Rattle.corner.specs.declared.table.Priority.{Priority}
 use Rattle.corner.specs.Tables.{lists_of, priority_at}
-use Rattle.corner.specs.LevelNumbers.{IsCounted}
-use Rattle.corner.specs.CostJoins.{IsUnfitRise}
-use Rattle.corner.proofs.CostEnds.{joining_below, joining_counted, joining_unit, rise_stop}
+use Rattle.corner.specs.Reads.LevelNumbers.{IsCounted}
+use Rattle.corner.specs.Additions.CostJoins.{IsUnfitRise}
+use Rattle.corner.proofs.Costs.CostEnds.{joining_below, joining_counted, joining_unit, rise_stop}
 use Rattle.corner.proofs.joining.rise_at.Goals as goal
 
 pub priority_at-requires-clause-level : goal.priority_at-requires-clause-level

@@ -1,7 +1,7 @@
 use Rattle.std.proofs.Common.{rules, SFits, w64}
 use Rattle.std.specs.Int.{w128}
 use Rattle.std.proofs.lemmas.Int.{to_z-of_z}
-use Rattle.corner.proofs.CostUnits.{share_factors}
+use Rattle.corner.proofs.Costs.CostUnits.{share_factors}
 use Rattle.corner.proofs.joining.share_factors.Goals as goal
 
 pub returns-clause-factors : goal.returns-clause-factors
@@ -10,14 +10,14 @@ returns-clause-factors c =
     let l : SFits w64 c.args.line_own = c.ranges.line_own in
     let n : SFits w64 c.args.count = c.ranges.count in
     let t : SFits w64 c.args.times = c.ranges.times in
-    let d : SFits w64 c.common-divisor.result = search rules in
+    let d : SFits w64 c.common_divisor-divisor.result = search rules in
     let a : SFits w64 c.over.result = search rules in
     let b : SFits w64 c.over-2.result = search rules in
     let p : SFits w128 c.product.result = search rules in
     let q : SFits w128 c.product-2.result = search rules in
     simp to_z-of_z
-    (share_factors c.args.own c.args.line_own c.args.count c.args.times (record { k = c.product.result; n = c.product-2.result }) c.common-divisor.result c.over.result c.over-2.result
-    c.requires.own c.requires.line (simp to_z-of_z at c.common-divisor.ensures.divisor) (simp to_z-of_z at c.over.ensures.value) (simp to_z-of_z at c.over-2.ensures.value) (simp to_z-of_z at c.product.ensures.value) (simp to_z-of_z at c.product-2.ensures.value))
+    (share_factors c.args.own c.args.line_own c.args.count c.args.times (record { k = c.product.result; n = c.product-2.result }) c.common_divisor-divisor.result c.over.result c.over-2.result
+    c.requires.own c.requires.line (simp to_z-of_z at c.common_divisor-divisor.ensures.divisor) (simp to_z-of_z at c.over.ensures.value) (simp to_z-of_z at c.over-2.ensures.value) (simp to_z-of_z at c.product.ensures.value) (simp to_z-of_z at c.product-2.ensures.value))
 
 pub returns-clause-k : goal.returns-clause-k
 returns-clause-k c =

@@ -3,7 +3,7 @@ use Rattle.std.proofs.lemmas.Option.{get_or_from_slice_get}
 use Rattle.std.proofs.lemmas.Result.{on_ok_weaker}
 use Rattle.problem_core.specs.declared.parts.Stay.{Stay}
 use Rattle.corner.specs.Tables.{lists_of, problem_of, standing_at}
-use Rattle.corner.proofs.AttrLevels.{stay_named}
+use Rattle.corner.proofs.Attributes.AttrLevels.{stay_named}
 use Rattle.corner.proofs.joining.stand_stay.Goals as goal
 
 pub line_slot-line-requires-clause-row : goal.line_slot-line-requires-clause-row

@@ -1,6 +1,6 @@
 use Rattle.std.proofs.Common.{rules, ◌<◌, length}
 use Rattle.corner.specs.Tables.{lists_of}
-use Rattle.corner.proofs.StoodTables.{first_are_slots, next_stood, same_again}
+use Rattle.corner.proofs.Stays.StoodTables.{first_are_slots, next_stood, same_again}
 use Rattle.corner.proofs.joining.stand_stays.Goals as goal
 
 pub stand_stay-requires-clause-slots : goal.stand_stay-requires-clause-slots

@@ -1,6 +1,6 @@
 use Rattle.corner.specs.Tables.{lists_of}
 use Rattle.corner.specs.Histories.{HasSameHistory}
-use Rattle.corner.specs.Stood.{AreFirstStood}
+use Rattle.corner.specs.Shifts.Stood.{AreFirstStood}
 use Rattle.corner.proofs.joining.stand_stays.Given as goal
 
 abbrev pub invariant-loop-i : goal.invariant-loop-i

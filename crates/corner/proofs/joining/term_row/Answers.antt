@@ -1,12 +1,12 @@
 use Rattle.std.proofs.Common.{◌∙◌, inl, inr, refl, sym, subst}
-use Rattle.problem_core.specs.Stops.{TableStop}
+use Rattle.problem_core.specs.Changes.Stops.{TableStop}
 use Rattle.problem_core.specs.Unfit.{first_terms}
-use Rattle.corner.specs.Parts.{IsTermsStop}
+use Rattle.corner.specs.Additions.Parts.{IsTermsStop}
 use Rattle.corner.specs.Tables.{lists_of}
-use Rattle.corner.proofs.LineSlots.{err_of}
-use Rattle.corner.proofs.PivotFacts.{err_all}
-use Rattle.corner.proofs.RowTerms.{own_above, row_unfit, stop_of, terms_covered, terms_fit}
+use Rattle.corner.proofs.Pivots.LineSlots.{err_of}
+use Rattle.corner.proofs.Additions.RowTerms.{own_above, row_unfit, stop_of, terms_covered, terms_fit}
 use Rattle.corner.proofs.joining.term_row.Goals as goal
+use Rattle.frac_core.proofs.Results.{err_implies as err_all}
 
 pub more_row-requires-clause-attr : goal.more_row-requires-clause-attr
 more_row-requires-clause-attr c = terms_covered (lists_of c.args.table.now) c.args.row.now c.args.i _ c.terms.result.now c.terms.ensures c.requires.whole c.requires.within

@@ -1,10 +1,10 @@
 use Rattle.std.proofs.Common.{rules, SFits, w64, ◌∙◌, refl, slice_index_or, pos}
 use Rattle.std.proofs.lemmas.Int.{to_z-of_z}
-use Rattle.corner.specs.Parts.{IsTermsStop}
+use Rattle.corner.specs.Additions.Parts.{IsTermsStop}
 use Rattle.corner.specs.Tables.{lists_of}
-use Rattle.corner.proofs.PivotFacts.{err_all}
-use Rattle.corner.proofs.RowTerms.{stop_of, terms_covered, terms_fit, value_unfit}
+use Rattle.corner.proofs.Additions.RowTerms.{stop_of, terms_covered, terms_fit, value_unfit}
 use Rattle.corner.proofs.joining.term_value.Goals as goal
+use Rattle.frac_core.proofs.Results.{err_implies as err_all}
 
 pub attr_slot-requires-clause-attr : goal.attr_slot-requires-clause-attr
 attr_slot-requires-clause-attr c = terms_covered (lists_of c.args.table.now) c.args.row.now c.args.i _ c.terms.result.now c.terms.ensures c.requires.whole c.requires.within

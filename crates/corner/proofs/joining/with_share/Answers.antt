@@ -2,14 +2,13 @@ use Rattle.std.proofs.Common.{rules, SFits, w64, ◌∙◌, inl, inr, ℕ, ap, r
 use Rattle.std.specs.Int.{w128}
 use Rattle.std.proofs.lemmas.Int.{to_z-of_z}
 use Rattle.corner.specs.Tables.{lists_of}
-use Rattle.corner.specs.CostJoins.{IsShared, IsShareStop}
+use Rattle.corner.specs.Additions.CostJoins.{IsShared, IsShareStop}
 use Rattle.row_core.specs.Rows.{IsKeptRow, coefficient}
 use Rattle.corner.specs.declared.table.Slot.{Slot}
-use Rattle.corner.proofs.PivotFacts.{err_all}
-use Rattle.corner.proofs.LineSlots.{err_of, ok_of, read_row}
-use Rattle.corner.proofs.CostRows.{shared_row, unfit_share}
+use Rattle.corner.proofs.Pivots.LineSlots.{err_of, ok_of, read_row}
+use Rattle.corner.proofs.Costs.CostRows.{shared_row, unfit_share}
 use Rattle.corner.proofs.joining.with_share.Goals as goal
-use Rattle.frac_core.proofs.Results.{ok_implies}
+use Rattle.frac_core.proofs.Results.{ok_implies, err_implies as err_all}
 
 pub returns-clause-ok : goal.returns-clause-ok
 returns-clause-ok c =

@@ -1,5 +1,5 @@
 use Rattle.corner.specs.Tables.{lists_of}
-use Rattle.corner.proofs.RowTerms.{with_more}
+use Rattle.corner.proofs.Additions.RowTerms.{with_more}
 use Rattle.corner.proofs.joining.with_term.Goals as goal
 
 pub returns-clause-sum : goal.returns-clause-sum

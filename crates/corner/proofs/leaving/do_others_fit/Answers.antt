@@ -2,12 +2,12 @@ use Rattle.std.proofs.Common.{rules, ◌≡◌, ◌≢◌, ◌-◌, ◌<◌, len
 use Rattle.problem_core.specs.declared.parts.RowName.TheVariants.{Held}
 use Rattle.corner.specs.Tables.{line_slot, lists_of, problem_of, slot_at}
 use Rattle.corner.specs.Views.{IsNamed}
-use Rattle.corner.specs.LevelNumbers.{IsCounted}
-use Rattle.corner.specs.Fitting.{IsFittingLine}
-use Rattle.corner.proofs.MarkingFacts.{row_named}
-use Rattle.corner.proofs.FittingLoops.{counted_named}
-use Rattle.corner.proofs.LeavingFits.{FitsOther}
-use Rattle.corner.proofs.LeavingUnits.{next-to}
+use Rattle.corner.specs.Reads.LevelNumbers.{IsCounted}
+use Rattle.corner.specs.Reads.Fitting.{IsFittingLine}
+use Rattle.corner.proofs.Readings.MarkingFacts.{row_named}
+use Rattle.corner.proofs.LevelFacts.FittingLoops.{counted_named}
+use Rattle.corner.proofs.Removals.LeavingFits.{FitsOther}
+use Rattle.corner.proofs.Removals.LeavingUnits.{next-to}
 use Rattle.corner.proofs.leaving.do_others_fit.Goals as goal
 use Rattle.corner.proofs.leaving.do_others_fit.Goals.{then-level_at-draft+then-id+else-not-does_line_fit, else-level_at-draft, else-level_at-draft-via-then-level_at-draft+else-id, else-level_at-draft-via-else-level_at-draft}
 

@@ -1,6 +1,6 @@
 use Rattle.corner.specs.Tables.{lists_of}
-use Rattle.corner.proofs.LeavingFits.{FitsOther}
-use Rattle.corner.proofs.LeavingUnits.{AllTo}
+use Rattle.corner.proofs.Removals.LeavingFits.{FitsOther}
+use Rattle.corner.proofs.Removals.LeavingUnits.{AllTo}
 use Rattle.corner.proofs.leaving.do_others_fit.Given as goal
 
 abbrev pub invariant-loop-row : goal.invariant-loop-row

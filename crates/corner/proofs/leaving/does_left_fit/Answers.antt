@@ -5,8 +5,8 @@ use Rattle.frac_core.specs.Fraction.{IsFitting}
 use Rattle.row_core.specs.Rows.{coefficient}
 use Rattle.corner_laws.specs.LevelLaws.{small_number}
 use Rattle.corner.specs.Tables.{lists_of}
-use Rattle.corner.specs.Leaving.{AreLeftFitting}
-use Rattle.corner.proofs.LeavingFits.{draft_left, fits_left, small_left, unfit_left}
+use Rattle.corner.specs.Removals.Leaving.{AreLeftFitting}
+use Rattle.corner.proofs.Removals.LeavingFits.{draft_left, fits_left, small_left, unfit_left}
 use Rattle.corner.proofs.leaving.does_left_fit.Goals as goal
 
 pub returns-then-are_small-clause-fits : goal.returns-then-are_small-clause-fits

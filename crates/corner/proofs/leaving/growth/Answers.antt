@@ -1,9 +1,9 @@
 use Rattle.std.proofs.Common.{rules, SFits, w64, ◌≡◌, ◌<◌, ◌^◌, ◌*ℤ◌, ◌-ℤ◌, ℤ, pos, sym, ap, subst, unsigned_abs}
 use Rattle.std.specs.Int.{w128}
 use Rattle.std.proofs.lemmas.Int.{to_z-of_z}
-use Rattle.corner.proofs.LevelReadFacts.{fitting_sfits}
-use Rattle.corner.proofs.LeavingEnds.{factor_fits, factor_sfits, growth_small, growth_times}
+use Rattle.corner.proofs.Removals.LeavingEnds.{factor_fits, factor_sfits, growth_small, growth_times}
 use Rattle.corner.proofs.leaving.growth.Goals as goal
+use Rattle.frac_core.proofs.Fitting.{fits-word as fitting_sfits}
 
 from-is : (c : goal.After-from) → c.from.result ≡ c.args.own *ℤ (c.args.times -ℤ pos 1)
 from-is c =

@@ -1,6 +1,6 @@
 use Rattle.std.proofs.Common.{ap}
 use Rattle.corner.specs.Tables.{lists_of}
-use Rattle.corner.proofs.LeavingEnds.{leaver_is, leaver_name}
+use Rattle.corner.proofs.Removals.LeavingEnds.{leaver_is, leaver_name}
 use Rattle.corner.proofs.leaving.leaver_of.Goals as goal
 
 pub line_slot-line-requires-clause-row : goal.line_slot-line-requires-clause-row

@@ -3,8 +3,8 @@ use Rattle.std.proofs.lemmas.Int.{to_z-of_z}
 use Rattle.frac_core.specs.Fraction.{IsFitting}
 use Rattle.corner.specs.declared.table.Slot.{Slot}
 use Rattle.corner.specs.Tables.{lists_of}
-use Rattle.corner.specs.LevelNumbers.{IsCounted, count_of, unit_at}
-use Rattle.corner.proofs.LeavingEnds.{count_fits, its_counted}
+use Rattle.corner.specs.Reads.LevelNumbers.{IsCounted, count_of, unit_at}
+use Rattle.corner.proofs.Removals.LeavingEnds.{count_fits, its_counted}
 use Rattle.corner.proofs.leaving.leaving_count.Goals as goal
 
 pub cost_share-requires-clause-counted : goal.cost_share-requires-clause-counted

@@ -2,11 +2,11 @@ use Rattle.std.proofs.Common.{rules, ◌≡◌, ◌+◌, ◌-◌, ◌∙◌, pos
 use Rattle.corner.specs.declared.table.Priority.{Priority}
 use Rattle.corner.specs.Tables.{lists_of}
 use Rattle.corner.specs.Changes.{IsUnfitStop}
-use Rattle.corner.specs.Leaving.{IsLeftStop, marks_left, problem_left}
-use Rattle.corner.proofs.PivotFacts.{err_all}
-use Rattle.corner.proofs.LeavingRows.{its_level, rows_left_is}
-use Rattle.corner.proofs.LeavingCosts.{left_stop, none_left}
+use Rattle.corner.specs.Removals.Leaving.{IsLeftStop, marks_left, problem_left}
+use Rattle.corner.proofs.Removals.LeavingRows.{its_level, rows_left_is}
+use Rattle.corner.proofs.Removals.LeavingCosts.{left_stop, none_left}
 use Rattle.corner.proofs.leaving.left_level.Goals as goal
+use Rattle.frac_core.proofs.Results.{err_implies as err_all}
 
 pub priority_at-rows-requires-clause-level : goal.priority_at-rows-requires-clause-level
 priority_at-rows-requires-clause-level c = its_level (lists_of c.args.table.now) c.requires.leaver.0 c.args.leaver (record { kept = c.requires.kept; is = c.requires.leaver.1 })

@@ -4,14 +4,13 @@ use Rattle.std.proofs.lemmas.Int.{to_z-of_z}
 use Rattle.row_core.specs.Rows.{IsKeptRow}
 use Rattle.corner_lines.specs.LineEquations.{sign_of}
 use Rattle.corner.specs.Tables.{lists_of}
-use Rattle.corner.specs.Leaving.{IsLeftRow, IsLeftStop, left_count}
-use Rattle.corner.proofs.PivotFacts.{err_all}
-use Rattle.corner.proofs.LineSlots.{err_of, ok_of, read_row}
-use Rattle.corner.proofs.LevelReadFacts.{fitting_cost}
-use Rattle.corner.proofs.LevelWords.{product_fits, product_is}
-use Rattle.corner.proofs.LeavingEnds.{level_above, line_above, made_row, made_unfit, signed_cost}
+use Rattle.corner.specs.Removals.Leaving.{IsLeftRow, IsLeftStop, left_count}
+use Rattle.corner.proofs.Pivots.LineSlots.{err_of, ok_of, read_row}
+use Rattle.corner.proofs.LevelFacts.LevelReadFacts.{fitting_cost}
+use Rattle.corner.proofs.LevelFacts.LevelWords.{product_fits, product_is}
+use Rattle.corner.proofs.Removals.LeavingEnds.{level_above, line_above, made_row, made_unfit, signed_cost}
 use Rattle.corner.proofs.leaving.left_row.Goals as goal
-use Rattle.frac_core.proofs.Results.{ok_implies}
+use Rattle.frac_core.proofs.Results.{ok_implies, err_implies as err_all}
 
 pub overflow_mul-count : goal.overflow_mul-count
 overflow_mul-count c =

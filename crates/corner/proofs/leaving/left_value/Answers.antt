@@ -4,13 +4,12 @@ use Rattle.frac_core.specs.Fraction.{Fraction, IsFitting, IsRatio, IsUnfitRatio,
 use Rattle.problem_core.specs.Levels.{IsCostAt}
 use Rattle.corner.specs.declared.table.Priority.{Priority}
 use Rattle.corner.specs.Tables.{lists_of, standing_at}
-use Rattle.corner.specs.Leaving.{IsLeftStop, marks_left, problem_left}
-use Rattle.corner.proofs.PivotFacts.{err_all}
-use Rattle.corner.proofs.LeavingRows.{its_level, its_place}
-use Rattle.corner.proofs.LeavingCosts.{left_cost_is, left_cost_unfit}
-use Rattle.corner.proofs.LeavingEnds.{unit_fits, unit_up}
+use Rattle.corner.specs.Removals.Leaving.{IsLeftStop, marks_left, problem_left}
+use Rattle.corner.proofs.Removals.LeavingRows.{its_level, its_place}
+use Rattle.corner.proofs.Removals.LeavingCosts.{left_cost_is, left_cost_unfit}
+use Rattle.corner.proofs.Removals.LeavingEnds.{unit_fits, unit_up}
 use Rattle.corner.proofs.leaving.left_value.Goals as goal
-use Rattle.frac_core.proofs.Results.{ok_implies}
+use Rattle.frac_core.proofs.Results.{ok_implies, err_implies as err_all}
 
 pub value_at-cost-requires-clause-within : goal.value_at-cost-requires-clause-within
 value_at-cost-requires-clause-within c =

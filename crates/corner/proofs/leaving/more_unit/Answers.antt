@@ -4,9 +4,9 @@ use Rattle.problem_core.specs.declared.parts.RowName.TheVariants.{Held}
 use Rattle.corner.specs.declared.table.Slot.{Slot}
 use Rattle.corner.specs.Tables.{line_slot, lists_of, problem_of, slot_at}
 use Rattle.corner.specs.Views.{IsNamed}
-use Rattle.corner.specs.CostJoins.{IsUnfitRise}
-use Rattle.corner.specs.LevelNumbers.{IsCounted}
-use Rattle.corner.proofs.LeavingEnds.{more_never, row_counted, row_name}
+use Rattle.corner.specs.Additions.CostJoins.{IsUnfitRise}
+use Rattle.corner.specs.Reads.LevelNumbers.{IsCounted}
+use Rattle.corner.proofs.Removals.LeavingEnds.{more_never, row_counted, row_name}
 use Rattle.corner.proofs.leaving.more_unit.Goals as goal
 
 pub line_slot-requires-clause-row : goal.line_slot-requires-clause-row

@@ -1,10 +1,10 @@
 use Rattle.std.proofs.Common.{rules, SFits, w64, ◌≡◌, true, false, ℕ, ap, subst, unsigned_abs, refl}
 use Rattle.std.proofs.lemmas.Int.{to_z-of_z}
 use Rattle.corner.specs.Tables.{lists_of}
-use Rattle.corner.specs.Leaving.{IsLeftRow, IsLeftStop}
-use Rattle.corner.proofs.CostFound.{passed_on}
-use Rattle.corner.proofs.LeavingCosts.{some_left, unfit_stop}
-use Rattle.corner.proofs.LeavingEnds.{left_unit_above, left_unit_fits}
+use Rattle.corner.specs.Removals.Leaving.{IsLeftRow, IsLeftStop}
+use Rattle.corner.proofs.Costs.CostFound.{passed_on}
+use Rattle.corner.proofs.Removals.LeavingCosts.{some_left, unfit_stop}
+use Rattle.corner.proofs.Removals.LeavingEnds.{left_unit_above, left_unit_fits}
 use Rattle.corner.proofs.leaving.rest_level.Goals as goal
 
 pub does_left_fit-requires-clause-unit : goal.does_left_fit-requires-clause-unit

@@ -2,9 +2,9 @@ use Rattle.std.proofs.Common.{rules, ◌≡◌, ◌≢◌, ◌<◌, ◌≤◌, �
 use Rattle.problem_core.specs.Layout.{Row}
 use Rattle.problem_core.specs.declared.parts.RowName.TheVariants.{Held}
 use Rattle.corner.specs.Tables.{line_slot, lists_of, slot_at}
-use Rattle.corner.specs.CostJoins.{IsLeastUnit}
-use Rattle.corner.proofs.LeavingUnits.{IsUnitTo, no_rows_yet, other_row_passes, row_room, unit_of_all}
-use Rattle.corner.proofs.LeavingEnds.{among, room_fits, unit_step}
+use Rattle.corner.specs.Additions.CostJoins.{IsLeastUnit}
+use Rattle.corner.proofs.Removals.LeavingUnits.{IsUnitTo, no_rows_yet, other_row_passes, row_room, unit_of_all}
+use Rattle.corner.proofs.Removals.LeavingEnds.{among, room_fits, unit_step}
 use Rattle.corner.proofs.leaving.rest_unit.Goals as goal
 use Rattle.corner.proofs.leaving.rest_unit.Goals.{then-level_at-leaver+then-id-leaver, else-level_at-leaver, else-level_at-leaver-via-then-level_at-leaver+else-id-leaver, else-level_at-leaver-via-else-level_at-leaver}
 

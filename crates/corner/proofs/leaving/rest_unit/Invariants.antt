@@ -1,4 +1,4 @@
-use Rattle.corner.proofs.LeavingUnits.{IsUnitTo}
+use Rattle.corner.proofs.Removals.LeavingUnits.{IsUnitTo}
 use Rattle.corner.proofs.leaving.rest_unit.Given as goal
 
 abbrev pub invariant-loop-row : goal.invariant-loop-row

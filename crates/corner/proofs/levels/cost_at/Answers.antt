@@ -1,7 +1,7 @@
 use Rattle.std.proofs.Common.{sym, subst}
 use Rattle.problem_core.specs.Levels.{IsCostAt}
 use Rattle.corner.specs.Tables.{lists_of, marks_at, problem_of}
-use Rattle.corner.proofs.LevelCostFacts.{level_cost}
+use Rattle.corner.proofs.LevelFacts.LevelCostFacts.{level_cost}
 use Rattle.corner.proofs.levels.cost_at.Goals as goal
 
 pub returns : goal.returns

@@ -1,9 +1,9 @@
 use Rattle.std.proofs.Common.{arith}
 use Rattle.corner.specs.Tables.{lists_of}
-use Rattle.corner.specs.LevelNumbers.{HasReducedAt}
-use Rattle.corner.proofs.LevelFrontFacts.{before_in, none_in, none_more}
-use Rattle.corner.proofs.MarkFacts.{not_both}
+use Rattle.corner.specs.Reads.LevelNumbers.{HasReducedAt}
+use Rattle.corner.proofs.LevelFacts.LevelFrontFacts.{before_in, none_in, none_more}
 use Rattle.corner.proofs.levels.first_in_column.Goals as goal
+use Rattle.frac_core.proofs.Bools.{not-both as not_both}
 
 pub returns-then-has_reduced-clause-some : goal.returns-then-has_reduced-clause-some
 returns-then-has_reduced-clause-some c = record {

@@ -1,6 +1,6 @@
 use Rattle.std.proofs.Common.{◌<◌, ℕ, slice_index_or}
 use Rattle.corner.specs.Tables.{lists_of}
-use Rattle.corner.specs.LevelNumbers.{HasReducedAt}
+use Rattle.corner.specs.Reads.LevelNumbers.{HasReducedAt}
 use Rattle.corner.proofs.levels.first_in_column.Given as goal
 
 abbrev pub invariant-loop-l : goal.invariant-loop-l

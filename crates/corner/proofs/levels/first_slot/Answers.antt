@@ -1,10 +1,10 @@
 use Rattle.std.proofs.Common.{◌<◌, ◌≤◌, subst, sym, length}
 use Rattle.corner.specs.declared.table.Slot.{Slot}
 use Rattle.corner.specs.Tables.{lists_of}
-use Rattle.corner.specs.LevelNumbers.{HasReducedAt, IsFirstInColumn, IsFirstSlot, IsNoneInColumn}
-use Rattle.corner.proofs.MarkFacts.{not_both}
-use Rattle.corner.proofs.LevelFrontFacts.{column_before_home, column_is_first, home_alone, home_before_column, home_within, none_at_all, none_so, some_so}
+use Rattle.corner.specs.Reads.LevelNumbers.{HasReducedAt, IsFirstInColumn, IsFirstSlot, IsNoneInColumn}
+use Rattle.corner.proofs.LevelFacts.LevelFrontFacts.{column_before_home, column_is_first, home_alone, home_before_column, home_within, none_at_all, none_so, some_so}
 use Rattle.corner.proofs.levels.first_slot.Goals as goal
+use Rattle.frac_core.proofs.Bools.{not-both as not_both}
 
 pub has_reduced-requires-clause-within : goal.has_reduced-requires-clause-within
 has_reduced-requires-clause-within c = subst (λ (s : Slot). s.home < length c.args.table.now.slots.items) (sym c.slot_at-home.ensures) (home_within (lists_of c.args.table.now) c.args.line c.requires.kept c.requires.line)

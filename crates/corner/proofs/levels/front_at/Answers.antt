@@ -1,5 +1,5 @@
 use Rattle.corner.specs.Tables.{lists_of}
-use Rattle.corner.proofs.LevelFrontFacts.{level_there}
+use Rattle.corner.proofs.LevelFacts.LevelFrontFacts.{level_there}
 use Rattle.corner.proofs.levels.front_at.Goals as goal
 
 pub returns-clause-level : goal.returns-clause-level

@@ -2,11 +2,11 @@ use Rattle.std.proofs.Common.{rules, ◌∙◌, ℕ, ap, subst, sym, SFits}
 use Rattle.std.specs.Int.{w64}
 use Rattle.std.proofs.lemmas.Int.{to_z-of_z}
 use Rattle.corner.specs.Tables.{lists_of, problem_of}
-use Rattle.corner.specs.LevelNumbers.{HasReducedAt, IsFirstSlot, IsSlotOfLine, reduced_at}
-use Rattle.corner.proofs.ReadFacts.{mark_named}
-use Rattle.corner.proofs.LevelReadFacts.{named_line_slot}
-use Rattle.corner.proofs.LevelFrontFacts.{cost_level}
-use Rattle.corner.proofs.LevelUseFacts.{is_front, no_front, used_level}
+use Rattle.corner.specs.Reads.LevelNumbers.{HasReducedAt, IsFirstSlot, IsSlotOfLine, reduced_at}
+use Rattle.corner.proofs.Readings.ReadFacts.{mark_named}
+use Rattle.corner.proofs.LevelFacts.LevelReadFacts.{named_line_slot}
+use Rattle.corner.proofs.LevelFacts.LevelFrontFacts.{cost_level}
+use Rattle.corner.proofs.LevelFacts.LevelUseFacts.{is_front, no_front, used_level}
 use Rattle.corner.proofs.levels.front_of.Goals as goal
 
 pub line_slot-line-requires-clause-row : goal.line_slot-line-requires-clause-row

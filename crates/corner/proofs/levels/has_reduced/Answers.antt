@@ -1,5 +1,5 @@
 use Rattle.corner.specs.Tables.{lists_of}
-use Rattle.corner.proofs.LevelFrontFacts.{cost_level}
+use Rattle.corner.proofs.LevelFacts.LevelFrontFacts.{cost_level}
 use Rattle.corner.proofs.levels.has_reduced.Goals as goal
 
 pub reduced_of-requires-clause-level : goal.reduced_of-requires-clause-level

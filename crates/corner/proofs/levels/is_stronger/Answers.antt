@@ -1,6 +1,6 @@
 use Rattle.std.proofs.Common.{rules, ◌<◌, ◌≤◌, subst}
 use Rattle.corner.specs.Tables.{level_slot, lists_of}
-use Rattle.corner.proofs.UsedLevels.{stronger_slot, weaker_slot}
+use Rattle.corner.proofs.LevelFacts.UsedLevels.{stronger_slot, weaker_slot}
 use Rattle.corner.proofs.levels.is_stronger.Goals as goal
 
 pub returns-clause-yes : goal.returns-clause-yes

@@ -2,8 +2,8 @@ use Rattle.std.proofs.Common.{rules, ◌≡◌, ◌∙◌, ◌*ℤ◌, ℤ, ap, 
 use Rattle.std.specs.Int.{w64}
 use Rattle.std.proofs.lemmas.Int.{to_z-of_z}
 use Rattle.corner.specs.Tables.{lists_of}
-use Rattle.corner.specs.LevelNumbers.{IsCost, own_cost}
-use Rattle.corner.proofs.LevelReadFacts.{cost_fits, cost_sfits, cost_small, counted, home_level}
+use Rattle.corner.specs.Reads.LevelNumbers.{IsCost, own_cost}
+use Rattle.corner.proofs.LevelFacts.LevelReadFacts.{cost_fits, cost_sfits, cost_small, counted, home_level}
 use Rattle.corner.proofs.levels.own_cost.Goals as goal
 
 pub level_own-requires-clause-level : goal.level_own-requires-clause-level

@@ -1,8 +1,8 @@
 use Rattle.std.proofs.Common.{sym, subst}
 use Rattle.corner.specs.Tables.{lists_of, problem_of}
-use Rattle.corner.specs.LevelNumbers.{IsSlotOfLine}
-use Rattle.corner.proofs.ReadFacts.{mark_named}
-use Rattle.corner.proofs.LevelReadFacts.{named_line_slot}
+use Rattle.corner.specs.Reads.LevelNumbers.{IsSlotOfLine}
+use Rattle.corner.proofs.Readings.ReadFacts.{mark_named}
+use Rattle.corner.proofs.LevelFacts.LevelReadFacts.{named_line_slot}
 use Rattle.corner.proofs.levels.reduced_at.Goals as goal
 
 pub line_slot-requires-clause-row : goal.line_slot-requires-clause-row

@@ -4,8 +4,8 @@ use Rattle.std.proofs.lemmas.Int.{to_z-of_z}
 use Rattle.corner_lines.specs.LineEquations.{sign_of}
 use Rattle.corner.specs.declared.table.Slot.{Slot}
 use Rattle.corner.specs.Tables.{lists_of, slot_at}
-use Rattle.corner.specs.LevelNumbers.{own_cost}
-use Rattle.corner.proofs.LevelReadFacts.{added, added_fits, reduced_elsewhere, reduced_there}
+use Rattle.corner.specs.Reads.LevelNumbers.{own_cost}
+use Rattle.corner.proofs.LevelFacts.LevelReadFacts.{added, added_fits, reduced_elsewhere, reduced_there}
 use Rattle.corner.proofs.levels.reduced_of.Goals as goal
 
 pub own_cost-requires-clause-line : goal.own_cost-requires-clause-line

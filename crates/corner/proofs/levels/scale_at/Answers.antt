@@ -3,9 +3,10 @@ use Rattle.std.specs.Int.{w64}
 use Rattle.std.proofs.lemmas.Int.{to_z-of_z}
 use Rattle.corner.specs.declared.table.Slot.{Slot}
 use Rattle.corner.specs.Tables.{lists_of}
-use Rattle.corner.specs.LevelNumbers.{own_at, unit_at}
-use Rattle.corner.proofs.LevelReadFacts.{fitting_fits, fitting_sfits, level_home, scale_fits}
+use Rattle.corner.specs.Reads.LevelNumbers.{own_at, unit_at}
+use Rattle.corner.proofs.LevelFacts.LevelReadFacts.{level_home, scale_fits}
 use Rattle.corner.proofs.levels.scale_at.Goals as goal
+use Rattle.frac_core.proofs.Fitting.{fits-signed as fitting_fits, fits-word as fitting_sfits}
 
 pub overflow_mul-result : goal.overflow_mul-result
 overflow_mul-result c =

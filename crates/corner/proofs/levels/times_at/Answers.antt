@@ -4,9 +4,9 @@ use Rattle.std.proofs.lemmas.Int.{to_z-of_z}
 use Rattle.corner_lines.specs.LineEquations.{sign_of}
 use Rattle.corner.specs.declared.table.Slot.{Slot}
 use Rattle.corner.specs.Tables.{lists_of, slot_at}
-use Rattle.corner.specs.LevelNumbers.{own_cost}
-use Rattle.corner.proofs.LevelFrontFacts.{level_within}
-use Rattle.corner.proofs.LevelReadFacts.{negated, negated_small, times_inside}
+use Rattle.corner.specs.Reads.LevelNumbers.{own_cost}
+use Rattle.corner.proofs.LevelFacts.LevelFrontFacts.{level_within}
+use Rattle.corner.proofs.LevelFacts.LevelReadFacts.{negated, negated_small, times_inside}
 use Rattle.corner.proofs.levels.times_at.Goals as goal
 
 pub outside_times-requires-clause-within : goal.outside_times-requires-clause-within

@@ -2,7 +2,7 @@ use Rattle.problem_core.specs.declared.parts.Level.{Level}
 use Rattle.std.proofs.Common.{rules, ◌≡◌, ◌∙◌, ◌++◌, ◌∷◌, [], ◌+◌, ◌-◌, ◌<◌, ◌≤◌, ap, arith, length, slice_index_or, sym, subst}
 use Rattle.corner.specs.Tables.{lists_of}
 use Rattle.corner.specs.declared.table.TheConstants.{LEVELS}
-use Rattle.corner.proofs.UsedLevels.{AreUsedBelow, all_used, push_priority, push_stay, skip_priority}
+use Rattle.corner.proofs.LevelFacts.UsedLevels.{AreUsedBelow, all_used, push_priority, push_stay, skip_priority}
 use Rattle.corner.proofs.levels.used.Goals.{then-priority_at-gt0+in_ok-push, else-priority_at-gt0}
 use Rattle.corner.proofs.levels.used.Goals as goal
 

@@ -1,6 +1,6 @@
 use Rattle.std.proofs.Common.{◌+◌}
 use Rattle.corner.specs.Tables.{lists_of}
-use Rattle.corner.proofs.UsedLevels.{AreUsedBelow}
+use Rattle.corner.proofs.LevelFacts.UsedLevels.{AreUsedBelow}
 use Rattle.corner.proofs.levels.used.Given as goal
 
 abbrev pub invariant-loop-level : goal.invariant-loop-level

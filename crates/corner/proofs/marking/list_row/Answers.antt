@@ -1,9 +1,9 @@
 use Rattle.std.proofs.Common.{rules, ◌≡◌, ◌<◌, ◌≤◌, ◌∙◌, ◌+◌, ◌++◌, ◌∷◌, [], length, take, slice_index_or, subst, sym, List}
 use Rattle.std.proofs.lemmas.Option.{get_or_from_slice_get}
 use Rattle.row_core.specs.Rows.{Term}
-use Rattle.corner.specs.Listing.{IsListedBut}
+use Rattle.corner.specs.Reads.Listing.{IsListedBut}
 use Rattle.corner.specs.Tables.{IsListedOf, lists_of, row_at}
-use Rattle.corner.proofs.ListFacts.{one_gone, take_all, take_next}
+use Rattle.corner.proofs.Basics.ListFacts.{one_gone, take_all, take_next}
 use Rattle.corner.proofs.marking.list_row.Goals as goal
 
 pub loop-e-preserved : goal.loop-e-preserved

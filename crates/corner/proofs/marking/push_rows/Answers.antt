@@ -2,7 +2,7 @@ use Rattle.std.proofs.Common.{rules, ◌≡◌, ◌∙◌, ◌++◌, ◌<◌, �
 use Rattle.problem_core.specs.declared.parts.RowName.TheVariants.{Held}
 use Rattle.corner.specs.Tables.{inside_of, lists_of, problem_of}
 use Rattle.corner.specs.Views.{IsNamed}
-use Rattle.corner.proofs.MarkingFacts.{append_more, inside_more, map_next, row_named}
+use Rattle.corner.proofs.Readings.MarkingFacts.{append_more, inside_more, map_next, row_named}
 use Rattle.corner.proofs.marking.push_rows.Goals as goal
 
 pub push_inside-requires-clause-row : goal.push_inside-requires-clause-row

@@ -1,11 +1,11 @@
 use Rattle.std.proofs.Common.{rules, ◌∙◌, ap}
 use Rattle.std.proofs.lemmas.Result.{on_ok_weaker}
 use Rattle.corner.specs.declared.table.Slot.{Slot}
-use Rattle.corner.specs.Shifting.{IsLineStop, home_growth}
+use Rattle.corner.specs.Shifts.Shifting.{IsLineStop, home_growth}
 use Rattle.corner.specs.Tables.{lists_of}
-use Rattle.corner.proofs.GrownInside.{both_grown, home_slot, home_slots, home_stop, line_owner, mark_stop}
-use Rattle.corner.proofs.PivotFacts.{err_all}
+use Rattle.corner.proofs.Shifts.GrownInside.{both_grown, home_slot, home_slots, home_stop, line_owner, mark_stop}
 use Rattle.corner.proofs.shifting.grow_inside.Goals as goal
+use Rattle.frac_core.proofs.Results.{err_implies as err_all}
 
 pub returns-in_err-grow_home-clause-stop : goal.returns-in_err-grow_home-clause-stop
 returns-in_err-grow_home-clause-stop c =

@@ -4,11 +4,11 @@ use Rattle.std.proofs.lemmas.Int.{to_z-of_z}
 use Rattle.std.proofs.lemmas.Result.{on_ok_weaker}
 use Rattle.frac_core.specs.Fraction.{IsFitting}
 use Rattle.corner.specs.declared.shifting.Growth.{Growth}
-use Rattle.corner.specs.Shifting.{IsGrowStop, IsGrown, outside_growth, over_at}
+use Rattle.corner.specs.Shifts.Shifting.{IsGrowStop, IsGrown, outside_growth, over_at}
 use Rattle.corner.specs.Tables.{lists_of, priority_at}
-use Rattle.corner.proofs.GrownSlots.{growth_is, level_number, level_scale}
-use Rattle.corner.proofs.PivotFacts.{err_all}
+use Rattle.corner.proofs.Shifts.GrownSlots.{growth_is, level_number, level_scale}
 use Rattle.corner.proofs.shifting.grow_level.Goals as goal
+use Rattle.frac_core.proofs.Results.{err_implies as err_all}
 
 scale : (c : goal.After-grow-arg-1) → to_z w64 (of_z w64 (to_z w64 (of_z w64 c.own_of_level.result) *ℤ to_z w64 (of_z w64 c.priority_at.result.unit))) ≡ over_at (lists_of c.args.table.now) c.args.l
 scale c =

@@ -3,12 +3,12 @@ use Rattle.std.specs.Int.{w64}
 use Rattle.std.proofs.lemmas.Int.{to_z-of_z}
 use Rattle.std.proofs.lemmas.Result.{on_ok_weaker}
 use Rattle.corner.specs.declared.shifting.Growth.{Growth}
-use Rattle.corner.specs.Exchanges.{IsWhatAt}
-use Rattle.corner.specs.Shifting.{IsGrowStop, IsGrown, outside_growth}
+use Rattle.corner.specs.Swaps.Exchanges.{IsWhatAt}
+use Rattle.corner.specs.Shifts.Shifting.{IsGrowStop, IsGrown, outside_growth}
 use Rattle.corner.specs.Tables.{lists_of}
-use Rattle.corner.proofs.GrownSlots.{growth_is, over_above, there_above, value_number, what_found}
-use Rattle.corner.proofs.PivotFacts.{err_all}
+use Rattle.corner.proofs.Shifts.GrownSlots.{growth_is, over_above, there_above, value_number, what_found}
 use Rattle.corner.proofs.shifting.grow_value.Goals as goal
+use Rattle.frac_core.proofs.Results.{err_implies as err_all}
 
 there : (c : goal.After-grow-arg-1) → IsWhatAt (lists_of c.args.table.now) c.args.w c.what_at-what.result
 there c =

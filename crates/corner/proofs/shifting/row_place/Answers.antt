@@ -1,6 +1,6 @@
 use Rattle.std.proofs.Common.{rules, ltb}
 use Rattle.std.proofs.lemmas.List.Sorted.{IsPartitionPoint-from_clause, IsPartitionedBy-ltb}
-use Rattle.corner.proofs.GrownRows.{found_in}
+use Rattle.corner.proofs.Shifts.GrownRows.{found_in}
 use Rattle.corner.proofs.shifting.row_place.Goals as goal
 
 pub returns-clause-within : goal.returns-clause-within

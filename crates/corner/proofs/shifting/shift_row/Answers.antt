@@ -4,12 +4,12 @@ use Rattle.frac_core.specs.Fraction.{Fraction, IsRatio, sum_den, sum_num}
 use Rattle.problem_core.specs.declared.parts.RowName.TheVariants.{Held}
 use Rattle.problem_core.specs.Layout.{Row}
 use Rattle.corner.specs.declared.table.TheConstants.{LEVELS}
-use Rattle.corner.specs.LevelNumbers.{IsSlotOfLine}
-use Rattle.corner.specs.Shifting.{HaveGrown, IsLineStop, IsShiftedStop}
+use Rattle.corner.specs.Reads.LevelNumbers.{IsSlotOfLine}
+use Rattle.corner.specs.Shifts.Shifting.{HaveGrown, IsLineStop, IsShiftedStop}
 use Rattle.corner.specs.Tables.{lists_of, problem_of, slot_at}
-use Rattle.corner.proofs.GrownInside.{held_named, home_low}
-use Rattle.corner.proofs.GrownRows.{shift_there, shifted}
-use Rattle.corner.proofs.LevelReadFacts.{named_line_slot}
+use Rattle.corner.proofs.Shifts.GrownInside.{held_named, home_low}
+use Rattle.corner.proofs.Shifts.GrownRows.{shift_there, shifted}
+use Rattle.corner.proofs.LevelFacts.LevelReadFacts.{named_line_slot}
 use Rattle.corner.proofs.shifting.shift_row.Goals as goal
 
 pub line_slot-line-requires-clause-row : goal.line_slot-line-requires-clause-row

@@ -2,7 +2,7 @@ use Rattle.std.proofs.Common.{◌≡◌, ℕ, ◌+◌, ◌^◌, ◌<◌, arith, 
 use Rattle.problem_core.specs.declared.parts.Stay.{Stay}
 use Rattle.corner.specs.Tables.{attr_slot, lists_of, problem_of}
 use Rattle.corner.specs.Views.{IsLevelOf}
-use Rattle.corner.proofs.SlotFacts.{any_is, level_stay}
+use Rattle.corner.proofs.Readings.SlotFacts.{any_is, level_stay}
 use Rattle.corner.proofs.slots.level_slot.Goals as goal
 
 pub attr_slot-requires-clause-attr : goal.attr_slot-requires-clause-attr

@@ -2,7 +2,7 @@ use Rattle.std.proofs.Common.{rules, ◌≡◌, ◌∙◌, ℤ, pos, subst, IfOk
 use Rattle.std.specs.Int.{w128}
 use Rattle.std.proofs.lemmas.Int.{to_z-of_z}
 use Rattle.frac_core.specs.Fraction.{IsRatio, IsUnfitRatio, sum_num}
-use Rattle.corner.proofs.WholeSums.{whole_den, whole_num}
+use Rattle.corner.proofs.Basics.WholeSums.{whole_den, whole_num}
 use Rattle.corner.proofs.sums.sum.Goals as goal
 
 pub returns-then-are_whole-clause-value : goal.returns-then-are_whole-clause-value

@@ -1,4 +1,4 @@
-use Rattle.corner.proofs.HistoryFacts.{forgotten}
+use Rattle.corner.proofs.Corners.HistoryFacts.{forgotten}
 use Rattle.corner.proofs.table.forget.Goals as goal
 
 pub returns-clause-before : goal.returns-clause-before

@@ -1,4 +1,4 @@
-use Rattle.corner.proofs.HistoryFacts.{marked, marked_alike}
+use Rattle.corner.proofs.Corners.HistoryFacts.{marked, marked_alike}
 use Rattle.corner.proofs.table.mark.Goals as goal
 
 pub returns-clause-alike : goal.returns-clause-alike

@@ -1,7 +1,7 @@
 use Rattle.std.proofs.Common.{◌≡◌, ◌∙◌, ◌<◌, ap, arith, length, subst, sym}
 use Rattle.corner.specs.declared.table.TheConstants.{LEVELS}
 use Rattle.corner.specs.Kept.{IsKept}
-use Rattle.corner.proofs.NewTables.{levels_kept, levels_rows, levels_stays, matrix_count, slot_count}
+use Rattle.corner.proofs.Corners.NewTables.{levels_kept, levels_rows, levels_stays, matrix_count, slot_count}
 use Rattle.corner.proofs.table.new_table.Goals as goal
 
 pub push_level-requires : goal.push_level-requires

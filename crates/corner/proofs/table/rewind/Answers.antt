@@ -1,4 +1,4 @@
-use Rattle.corner.proofs.HistoryFacts.{rewound}
+use Rattle.corner.proofs.Corners.HistoryFacts.{rewound}
 use Rattle.corner.proofs.table.rewind.Goals as goal
 
 pub returns-clause-now : goal.returns-clause-now

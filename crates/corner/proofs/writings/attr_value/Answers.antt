@@ -2,7 +2,7 @@ use Rattle.std.proofs.Common.{◌∙◌, ap, subst, sym}
 use Rattle.problem_core.specs.Corners.{attr_column}
 use Rattle.corner.specs.Tables.{lists_of, marks_at, problem_of, standing_at}
 use Rattle.corner.specs.Views.{HasValueAt}
-use Rattle.corner.proofs.ReadFacts.{value_attr}
+use Rattle.corner.proofs.Readings.ReadFacts.{value_attr}
 use Rattle.corner.proofs.writings.attr_value.Goals as goal
 
 pub returns : goal.returns

@@ -4,10 +4,10 @@ use Rattle.std.proofs.lemmas.Int.{to_z-of_z}
 use Rattle.corner_lines.specs.LineEquations.{sign_of}
 use Rattle.corner.specs.Tables.{entry, line_slot, lists_of, marks_at, problem_of}
 use Rattle.corner.specs.Views.{IsCoefficientOf}
-use Rattle.corner.proofs.MarkFacts.{not_both}
-use Rattle.corner.proofs.ReadFacts.{mark_named}
-use Rattle.corner.proofs.WritingFacts.{held_what, other_what, own_what}
+use Rattle.corner.proofs.Readings.ReadFacts.{mark_named}
+use Rattle.corner.proofs.Readings.WritingFacts.{held_what, other_what, own_what}
 use Rattle.corner.proofs.writings.coefficient.Goals as goal
+use Rattle.frac_core.proofs.Bools.{not-both as not_both}
 
 pub what_slot-w-requires-clause-what : goal.what_slot-w-requires-clause-what
 what_slot-w-requires-clause-what c = held_what (lists_of c.args.table.now) c.args.what c.requires.kept c.requires.what

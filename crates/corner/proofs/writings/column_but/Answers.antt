@@ -1,6 +1,6 @@
 use Rattle.std.proofs.Common.{rules, ◌≡◌, ◌∙◌, ◌+◌, ◌<◌, ◌≤◌, suc, slice_index_or, ap, subst, sym, arith}
 use Rattle.row_core.specs.Rows.{Term}
-use Rattle.corner.proofs.EntryFacts.{before_but, behind_but, same_default}
+use Rattle.corner.proofs.Readings.EntryFacts.{before_but, behind_but, same_default}
 use Rattle.corner.proofs.writings.column_but.Goals as goal
 
 pub returns-then-at-from : goal.returns-then-at-from

@@ -3,7 +3,7 @@ use Rattle.std.specs.Int.{w64}
 use Rattle.std.proofs.lemmas.Int.{to_z-of_z}
 use Rattle.corner.specs.Tables.{entry, lists_of, marks_at, problem_of}
 use Rattle.corner.specs.Views.{IsScaleOf}
-use Rattle.corner.proofs.WritingFacts.{held_what, scale_of}
+use Rattle.corner.proofs.Readings.WritingFacts.{held_what, scale_of}
 use Rattle.corner.proofs.writings.denominator.Goals as goal
 
 pub what_slot-requires-clause-what : goal.what_slot-requires-clause-what

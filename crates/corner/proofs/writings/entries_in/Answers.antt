@@ -1,12 +1,12 @@
 use Rattle.std.proofs.Common.{◌≡◌, ◌∙◌, suc, map, length, [], ap, sym, arith}
 use Rattle.std.proofs.lemmas.Option.{get_or_from_slice_get}
 use Rattle.corner.specs.Tables.{lists_of, problem_of, row_at}
-use Rattle.corner.specs.Entries.{columns_but}
-use Rattle.corner.proofs.CornerFacts.{map_length}
-use Rattle.corner.proofs.EntryFacts.{count_but, entries_are, line_at, row_has, row_in, row_kept, slot_in}
-use Rattle.corner.proofs.ReadFacts.{mark_named}
-use Rattle.corner.proofs.WritingFacts.{in_mark}
+use Rattle.corner.specs.Reads.Entries.{columns_but}
+use Rattle.corner.proofs.Readings.EntryFacts.{count_but, entries_are, line_at, row_has, row_in, row_kept, slot_in}
+use Rattle.corner.proofs.Readings.ReadFacts.{mark_named}
+use Rattle.corner.proofs.Readings.WritingFacts.{in_mark}
 use Rattle.corner.proofs.writings.entries_in.Goals as goal
+use Rattle.frac_core.proofs.Lists.{length-mapped as map_length}
 
 pub line_slot-requires-clause-row : goal.line_slot-requires-clause-row
 line_slot-requires-clause-row c = mark_named (problem_of (lists_of c.args.table.now)) c.args.mark (in_mark (lists_of c.args.table.now) c.args.mark c.requires.kept c.requires.inside)

@@ -4,10 +4,10 @@ use Rattle.row_core.specs.Rows.{Term}
 use Rattle.indexed_rows.specs.Lists.{HasColumn}
 use Rattle.problem_core.specs.declared.parts.RowName.{RowName}
 use Rattle.corner.specs.Tables.{lists_of, problem_of, row_at}
-use Rattle.corner.specs.Entries.{columns_but}
-use Rattle.corner.proofs.EntryFacts.{column_slot, count_but, entry_at, few_columns, line_at, row_has, row_in, row_kept, slot_in}
-use Rattle.corner.proofs.ReadFacts.{mark_named}
-use Rattle.corner.proofs.WritingFacts.{in_mark}
+use Rattle.corner.specs.Reads.Entries.{columns_but}
+use Rattle.corner.proofs.Readings.EntryFacts.{column_slot, count_but, entry_at, few_columns, line_at, row_has, row_in, row_kept, slot_in}
+use Rattle.corner.proofs.Readings.ReadFacts.{mark_named}
+use Rattle.corner.proofs.Readings.WritingFacts.{in_mark}
 use Rattle.corner.proofs.writings.entry_in.Goals as goal
 
 pub line_slot-w-requires-clause-row : goal.line_slot-w-requires-clause-row

@@ -1,7 +1,7 @@
 use Rattle.std.proofs.Common.{◌∙◌, sym}
 use Rattle.corner.specs.Tables.{lists_of, problem_of}
-use Rattle.corner.proofs.MarkFacts.{inside_stands, stands_inside}
-use Rattle.corner.proofs.ReadFacts.{mark_named}
+use Rattle.corner.proofs.Readings.MarkFacts.{inside_stands, stands_inside}
+use Rattle.corner.proofs.Readings.ReadFacts.{mark_named}
 use Rattle.corner.proofs.writings.is_inside.Goals as goal
 
 pub stands_in-requires-clause-row : goal.stands_in-requires-clause-row

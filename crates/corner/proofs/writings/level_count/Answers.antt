@@ -1,7 +1,7 @@
 use Rattle.std.proofs.Common.{rules, ltb, arith}
 use Rattle.std.proofs.lemmas.Bool.{ltb-false, ltb-true}
 use Rattle.std.proofs.lemmas.List.Sorted.{IsPartitionPoint-from_clause, IsPartitionedBy-ltb}
-use Rattle.corner.proofs.MoverFacts.{never_falls}
+use Rattle.corner.proofs.Readings.MoverFacts.{never_falls}
 use Rattle.corner.specs.declared.table.TheConstants.{LEVELS}
 use Rattle.corner.proofs.writings.level_count.Goals as goal
 

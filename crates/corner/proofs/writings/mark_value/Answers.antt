@@ -2,7 +2,7 @@ use Rattle.std.proofs.Common.{◌∙◌, ap, subst, sym}
 use Rattle.problem_core.specs.Corners.{place}
 use Rattle.corner.specs.Tables.{lists_of, marks_at, problem_of, standing_at}
 use Rattle.corner.specs.Views.{HasValueAt}
-use Rattle.corner.proofs.ReadFacts.{mark_named, value_inside, value_outside, zero_value}
+use Rattle.corner.proofs.Readings.ReadFacts.{mark_named, value_inside, value_outside, zero_value}
 use Rattle.corner.proofs.writings.mark_value.Goals as goal
 
 pub stands_in-requires-clause-row : goal.stands_in-requires-clause-row

@@ -2,7 +2,7 @@ use Rattle.std.proofs.Common.{List, ℕ, subst, sym}
 use Rattle.std.proofs.lemmas.List.{take_rest}
 use Rattle.corner.specs.declared.table.TheConstants.{LEVELS}
 use Rattle.corner.specs.Tables.{AreMoved, lists_of}
-use Rattle.corner.proofs.MoverFacts.{above_in_drop, drop_above, drop_has, drop_rises}
+use Rattle.corner.proofs.Readings.MoverFacts.{above_in_drop, drop_above, drop_has, drop_rises}
 use Rattle.corner.proofs.writings.moved.Goals as goal
 
 pub returns-clause-moved : goal.returns-clause-moved

@@ -2,8 +2,8 @@ use Rattle.std.proofs.Common.{rules, ◌≡◌, ◌∙◌, ap, subst, sym, Some,
 use Rattle.problem_core.specs.declared.parts.Side.{Side}
 use Rattle.problem_core.specs.declared.stops.What.TheVariants.{Mark as MarkOf}
 use Rattle.corner.specs.Tables.{AreMoved, lists_of, problem_of, slot_at, standing_at}
-use Rattle.corner.proofs.MovedFacts.{count_is, first_of, nth_is, nth_thing, some_side}
-use Rattle.corner.proofs.ReadFacts.{mark_named}
+use Rattle.corner.proofs.Readings.MovedFacts.{count_is, first_of, nth_is, nth_thing, some_side}
+use Rattle.corner.proofs.Readings.ReadFacts.{mark_named}
 use Rattle.corner.proofs.writings.mover.Goals as goal
 
 pub line_slot-line-requires-clause-row : goal.line_slot-line-requires-clause-row

@@ -1,11 +1,11 @@
 use Rattle.std.proofs.Common.{rules, ◌≡◌, ◌∙◌, ap, refl, subst, sym, None, map, [], ◌∷◌}
 use Rattle.problem_core.specs.declared.stops.What.TheVariants.{Mark as MarkOf}
-use Rattle.corner_lines.specs.LineEquations.{other_side}
+use Rattle.corner_laws.specs.Runs.{other_side}
 use Rattle.corner.specs.Tables.{AreMoved, lists_of, problem_of, standing_at}
-use Rattle.corner.proofs.CornerFacts.{map_length}
-use Rattle.corner.proofs.MovedFacts.{moved_are, some_side, thing, turned_are}
-use Rattle.corner.proofs.ReadFacts.{mark_named}
+use Rattle.corner.proofs.Readings.MovedFacts.{moved_are, some_side, thing, turned_are}
+use Rattle.corner.proofs.Readings.ReadFacts.{mark_named}
 use Rattle.corner.proofs.writings.movers.Goals as goal
+use Rattle.frac_core.proofs.Lists.{length-mapped as map_length}
 
 pub line_slot-line-requires-clause-row : goal.line_slot-line-requires-clause-row
 line_slot-line-requires-clause-row c = mark_named (problem_of (lists_of c.args.table.now)) c.args.mark c.requires.outside.0

@@ -2,8 +2,8 @@ use Rattle.std.proofs.Common.{rules, ◌≡◌, ap, sym}
 use Rattle.problem_core.specs.Corners.{place}
 use Rattle.corner_ends.proofs.FirstMarks.{IsElsewhere, mark_entered, mark_left, mark_stays}
 use Rattle.corner_ends.proofs.Marks.{one_mark}
-use Rattle.corner_ends.proofs.RequiredTimes.{all_done, all_more}
 use Rattle.corner_ends.proofs.begins.was_inside.Goals as goal
+use Rattle.frac_core.proofs.Lists.{all-whole as all_done, all-more as all_more}
 
 pub returns-then-eq : goal.returns-then-eq
 returns-then-eq c = λ first run.

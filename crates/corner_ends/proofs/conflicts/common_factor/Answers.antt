@@ -3,10 +3,11 @@ use Rattle.std.proofs.lemmas.List.Elements.{All-take}
 use Rattle.std.proofs.lemmas.Nat.Gcd.{dvd-zero}
 use Rattle.std.proofs.Math.Nat.{one-dvd}
 use Rattle.corner_ends.specs.Shares.{IsDivisor}
-use Rattle.corner_ends.proofs.RequiredTimes.{all_done, all_more, same_item, same_past, same_within}
+use Rattle.corner_ends.proofs.RequiredTimes.{same_item, same_past, same_within}
 use Rattle.corner_ends.proofs.SharedTimes.{divisors_weaker}
 use Rattle.corner_ends.proofs.ShownTimes.{greatest_parts}
 use Rattle.corner_ends.proofs.conflicts.common_factor.Goals as goal
+use Rattle.frac_core.proofs.Lists.{all-whole as all_done, all-more as all_more}
 
 pub loop-row-preserved : goal.loop-row-preserved
 loop-row-preserved c = record {

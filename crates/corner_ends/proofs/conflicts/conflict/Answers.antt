@@ -2,9 +2,10 @@ use Rattle.std.proofs.Common.{◌≡◌, ◌∙◌, List, sym, subst}
 use Rattle.cert_core.specs.declared.by.By.{By}
 use Rattle.cert_core.specs.Claims.{AreBys}
 use Rattle.cert_core.specs.Stops.{IsShownConflict}
-use Rattle.corner_ends.proofs.RequiredTimes.{ok_implies, required_refuted, times_exist}
+use Rattle.corner_ends.proofs.RequiredTimes.{required_refuted, times_exist}
 use Rattle.corner_ends.proofs.ShownTimes.{shown_conflict}
 use Rattle.corner_ends.proofs.conflicts.conflict.Goals as goal
+use Rattle.frac_core.proofs.Results.{ok_implies}
 
 pub returns : goal.returns
 returns c =

@@ -1,4 +1,4 @@
-use Rattle.corner_laws.proofs.Complete.{plain_alone}
+use Rattle.corner_laws.proofs.PathEnds.Complete.{plain_alone}
 use Rattle.corner_laws.proofs.changes.plain_alone.Goals as goal
 
 pub returns : goal.returns

@@ -1,4 +1,4 @@
-use Rattle.corner_laws.proofs.Complete.{stops_anywhere}
+use Rattle.corner_laws.proofs.PathEnds.Complete.{stops_anywhere}
 use Rattle.corner_laws.proofs.changes.stops_are_conflicts.Goals as goal
 
 pub returns : goal.returns

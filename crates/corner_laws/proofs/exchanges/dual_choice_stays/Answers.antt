@@ -1,4 +1,4 @@
-use Rattle.corner_laws.proofs.DualChoice.{dual_choice_stays}
+use Rattle.corner_laws.proofs.Swaps.DualChoice.{dual_choice_stays}
 use Rattle.corner_laws.proofs.exchanges.dual_choice_stays.Goals as goal
 
 pub returns : goal.returns

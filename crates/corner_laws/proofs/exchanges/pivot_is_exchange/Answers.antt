@@ -1,4 +1,4 @@
-use Rattle.corner_laws.proofs.Pivots.{pivot_is_exchange}
+use Rattle.corner_laws.proofs.Swaps.Pivots.{pivot_is_exchange}
 use Rattle.corner_laws.proofs.exchanges.pivot_is_exchange.Goals as goal
 
 pub returns : goal.returns

@@ -1,4 +1,4 @@
-use Rattle.corner_laws.proofs.PrimalChoice.{primal_choice_stays}
+use Rattle.corner_laws.proofs.Swaps.PrimalChoice.{primal_choice_stays}
 use Rattle.corner_laws.proofs.exchanges.primal_choice_stays.Goals as goal
 
 pub returns : goal.returns

@@ -1,4 +1,4 @@
-use Rattle.corner_laws.proofs.LevelUnits.{common_share_is_unit}
+use Rattle.corner_laws.proofs.LevelCosts.LevelUnits.{common_share_is_unit}
 use Rattle.corner_laws.proofs.levels.common_share_is_unit.Goals as goal
 
 pub returns : goal.returns

@@ -1,4 +1,4 @@
-use Rattle.corner_laws.proofs.LevelExists.{level_writing_exists}
+use Rattle.corner_laws.proofs.LevelCosts.LevelExists.{level_writing_exists}
 use Rattle.corner_laws.proofs.levels.level_writing_exists.Goals as goal
 
 pub returns : goal.returns

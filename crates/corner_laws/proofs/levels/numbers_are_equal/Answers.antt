@@ -1,4 +1,4 @@
-use Rattle.corner_laws.proofs.Equal.{numbers_are_equal}
+use Rattle.corner_laws.proofs.LevelCosts.Equal.{numbers_are_equal}
 use Rattle.corner_laws.proofs.levels.numbers_are_equal.Goals as goal
 
 pub returns : goal.returns

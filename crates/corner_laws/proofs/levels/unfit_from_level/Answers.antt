@@ -1,4 +1,4 @@
-use Rattle.corner_laws.proofs.Equal.{unfit_from_level}
+use Rattle.corner_laws.proofs.LevelCosts.Equal.{unfit_from_level}
 use Rattle.corner_laws.proofs.levels.unfit_from_level.Goals as goal
 
 pub returns : goal.returns

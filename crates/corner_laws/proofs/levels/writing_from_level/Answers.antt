@@ -1,4 +1,4 @@
-use Rattle.corner_laws.proofs.Equal.{writing_from_level}
+use Rattle.corner_laws.proofs.LevelCosts.Equal.{writing_from_level}
 use Rattle.corner_laws.proofs.levels.writing_from_level.Goals as goal
 
 pub returns : goal.returns

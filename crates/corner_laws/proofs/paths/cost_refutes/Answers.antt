@@ -1,4 +1,4 @@
-use Rattle.corner_laws.proofs.Refuting.{cost_refutes}
+use Rattle.corner_laws.proofs.PathEnds.Refuting.{cost_refutes}
 use Rattle.corner_laws.proofs.paths.cost_refutes.Goals as goal
 
 pub returns : goal.returns

@@ -1,4 +1,4 @@
-use Rattle.corner_laws.proofs.Ends.{end_is_best}
+use Rattle.corner_laws.proofs.PathEnds.Ends.{end_is_best}
 use Rattle.corner_laws.proofs.paths.end_is_best.Goals as goal
 
 pub returns : goal.returns

@@ -1,4 +1,4 @@
-use Rattle.corner_laws.proofs.Few.{path_few}
+use Rattle.corner_laws.proofs.PathEnds.Few.{path_few}
 use Rattle.corner_laws.proofs.paths.paths_are_few.Goals as goal
 
 pub returns : goal.returns

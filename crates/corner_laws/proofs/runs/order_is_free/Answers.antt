@@ -1,4 +1,4 @@
-use Rattle.corner_laws.proofs.RunPaths.{order_is_free}
+use Rattle.corner_laws.proofs.RunSteps.RunPaths.{order_is_free}
 use Rattle.corner_laws.proofs.runs.order_is_free.Goals as goal
 
 pub returns : goal.returns

@@ -1,4 +1,4 @@
-use Rattle.corner_laws.proofs.ColumnSigns.{required_by_reduced}
+use Rattle.corner_laws.proofs.RunSteps.ColumnSigns.{required_by_reduced}
 use Rattle.corner_laws.proofs.runs.required_by_reduced.Goals as goal
 
 pub returns : goal.returns

@@ -1,4 +1,4 @@
-use Rattle.corner_laws.proofs.RunPaths.{run_grows}
+use Rattle.corner_laws.proofs.RunSteps.RunPaths.{run_grows}
 use Rattle.corner_laws.proofs.runs.run_grows.Goals as goal
 
 pub returns : goal.returns

@@ -1,4 +1,4 @@
-use Rattle.corner_laws.proofs.RunPaths.{run_is_path}
+use Rattle.corner_laws.proofs.RunSteps.RunPaths.{run_is_path}
 use Rattle.corner_laws.proofs.runs.run_is_path.Goals as goal
 
 pub returns : goal.returns

@@ -1,4 +1,4 @@
-use Rattle.corner_laws.proofs.ColumnSigns.{some_mark_falls}
+use Rattle.corner_laws.proofs.RunSteps.ColumnSigns.{some_mark_falls}
 use Rattle.corner_laws.proofs.runs.some_mark_falls.Goals as goal
 
 pub returns : goal.returns

@@ -1,4 +1,4 @@
-use Rattle.corner_laws.proofs.Equations.{ray_is_column}
+use Rattle.corner_laws.proofs.MarkWritings.Equations.{ray_is_column}
 use Rattle.corner_laws.proofs.writings.ray_is_column.Goals as goal
 
 pub returns : goal.returns

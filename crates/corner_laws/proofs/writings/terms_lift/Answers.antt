@@ -1,4 +1,4 @@
-use Rattle.corner_laws.proofs.TermLifts.{terms_lift}
+use Rattle.corner_laws.proofs.MarkWritings.TermLifts.{terms_lift}
 use Rattle.corner_laws.proofs.writings.terms_lift.Goals as goal
 
 pub returns : goal.returns

@@ -1,4 +1,4 @@
-use Rattle.corner_laws.proofs.Equations.{unfit_from_equation}
+use Rattle.corner_laws.proofs.MarkWritings.Equations.{unfit_from_equation}
 use Rattle.corner_laws.proofs.writings.unfit_from_equation.Goals as goal
 
 pub returns : goal.returns

@@ -1,4 +1,4 @@
-use Rattle.corner_laws.proofs.Equations.{writing_from_equation}
+use Rattle.corner_laws.proofs.MarkWritings.Equations.{writing_from_equation}
 use Rattle.corner_laws.proofs.writings.writing_from_equation.Goals as goal
 
 pub returns : goal.returns

@@ -1,4 +1,4 @@
-use Rattle.corner_laws.proofs.Directions.{writing_is_row}
+use Rattle.corner_laws.proofs.MarkWritings.Directions.{writing_is_row}
 use Rattle.corner_laws.proofs.writings.writing_is_row.Goals as goal
 
 pub returns : goal.returns

@@ -1,4 +1,4 @@
-use Rattle.corner_laws.proofs.Equations.{writings_are_equal}
+use Rattle.corner_laws.proofs.MarkWritings.Equations.{writings_are_equal}
 use Rattle.corner_laws.proofs.writings.writings_are_equal.Goals as goal
 
 pub returns : goal.returns

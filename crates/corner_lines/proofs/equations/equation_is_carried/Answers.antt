@@ -1,4 +1,4 @@
-use Rattle.corner_lines.proofs.LineCarried.{carried}
+use Rattle.corner_lines.proofs.Lines.LineCarried.{carried}
 use Rattle.corner_lines.proofs.equations.equation_is_carried.Goals as goal
 
 pub returns : goal.returns

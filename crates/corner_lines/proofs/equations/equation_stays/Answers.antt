@@ -1,4 +1,4 @@
-use Rattle.corner_lines.proofs.LineExchanges.{line_stays}
+use Rattle.corner_lines.proofs.Lines.LineExchanges.{line_stays}
 use Rattle.corner_lines.proofs.equations.equation_stays.Goals as goal
 
 pub returns : goal.returns

@@ -1,4 +1,4 @@
-use Rattle.corner_lines.proofs.LineWritings.{mark_coefficients}
+use Rattle.corner_lines.proofs.Lines.LineWritings.{mark_coefficients}
 use Rattle.corner_lines.proofs.equations.line_has_numbers.Goals as goal
 
 pub returns : goal.returns

@@ -1,4 +1,4 @@
-use Rattle.corner_lines.proofs.LineWritings.{line_value, line_writing}
+use Rattle.corner_lines.proofs.Lines.LineWritings.{line_value, line_writing}
 use Rattle.corner_lines.proofs.equations.line_is_written.Goals as goal
 
 pub returns : goal.returns

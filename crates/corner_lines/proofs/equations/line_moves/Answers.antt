@@ -1,4 +1,4 @@
-use Rattle.corner_lines.proofs.LineMoves.{line_moves}
+use Rattle.corner_lines.proofs.Lines.LineMoves.{line_moves}
 use Rattle.corner_lines.proofs.equations.line_moves.Goals as goal
 
 pub returns : goal.returns

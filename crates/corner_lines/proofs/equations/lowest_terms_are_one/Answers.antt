@@ -1,4 +1,4 @@
-use Rattle.corner_lines.proofs.LineTerms.{only_terms}
+use Rattle.corner_lines.proofs.Lines.LineTerms.{only_terms}
 use Rattle.corner_lines.proofs.equations.lowest_terms_are_one.Goals as goal
 
 pub returns : goal.returns

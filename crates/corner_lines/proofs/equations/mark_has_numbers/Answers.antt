@@ -1,4 +1,4 @@
-use Rattle.corner_lines.proofs.LineWritings.{inside_coefficients, other_coefficient}
+use Rattle.corner_lines.proofs.Lines.LineWritings.{inside_coefficients, other_coefficient}
 use Rattle.corner_lines.proofs.equations.mark_has_numbers.Goals as goal
 
 pub returns : goal.returns

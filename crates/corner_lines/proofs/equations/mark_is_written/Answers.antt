@@ -1,4 +1,4 @@
-use Rattle.corner_lines.proofs.LineWritings.{mark_value, mark_writing}
+use Rattle.corner_lines.proofs.Lines.LineWritings.{mark_value, mark_writing}
 use Rattle.corner_lines.proofs.equations.mark_is_written.Goals as goal
 
 pub returns : goal.returns

@@ -1,4 +1,4 @@
-use Rattle.corner_lines.proofs.LineMoves.{mark_moves}
+use Rattle.corner_lines.proofs.Lines.LineMoves.{mark_moves}
 use Rattle.corner_lines.proofs.equations.mark_moves.Goals as goal
 
 pub returns : goal.returns

@@ -1,4 +1,4 @@
-use Rattle.corner_lines.proofs.LineUnfits.{mark_unfit}
+use Rattle.corner_lines.proofs.Lines.LineUnfits.{mark_unfit}
 use Rattle.corner_lines.proofs.equations.mark_unfit_from_line.Goals as goal
 
 pub returns : goal.returns

@@ -1,4 +1,4 @@
-use Rattle.corner_lines.proofs.LineExchanges.{resolved}
+use Rattle.corner_lines.proofs.Lines.LineExchanges.{resolved}
 use Rattle.corner_lines.proofs.equations.pivot_is_resolved.Goals as goal
 
 pub returns : goal.returns

@@ -1,4 +1,4 @@
-use Rattle.corner_lines.proofs.LineMoves.{turn_is_exchange}
+use Rattle.corner_lines.proofs.Lines.LineMoves.{turn_is_exchange}
 use Rattle.corner_lines.proofs.equations.turn_is_exchange.Goals as goal
 
 pub returns : goal.returns

@@ -1,4 +1,4 @@
-use Rattle.corner_lines.proofs.LineExchanges.{line_turns}
+use Rattle.corner_lines.proofs.Lines.LineExchanges.{line_turns}
 use Rattle.corner_lines.proofs.equations.turn_keeps_equations.Goals as goal
 
 pub returns : goal.returns

@@ -1,4 +1,4 @@
-use Rattle.corner_lines.proofs.LineUnfits.{line_unfit}
+use Rattle.corner_lines.proofs.Lines.LineUnfits.{line_unfit}
 use Rattle.corner_lines.proofs.equations.unfit_from_line.Goals as goal
 
 pub returns : goal.returns

@@ -1,4 +1,4 @@
-use Rattle.corner_lines.proofs.NewStays.{attr_line}
+use Rattle.corner_lines.proofs.ProblemChanges.NewStays.{attr_line}
 use Rattle.corner_lines.proofs.joins.attr_is_own_deviation.Goals as goal
 
 pub returns : goal.returns

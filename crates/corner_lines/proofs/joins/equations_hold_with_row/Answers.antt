@@ -1,4 +1,4 @@
-use Rattle.corner_lines.proofs.JoinedLines.{old_line}
+use Rattle.corner_lines.proofs.ProblemChanges.JoinedLines.{old_line}
 use Rattle.corner_lines.proofs.joins.equations_hold_with_row.Goals as goal
 
 pub returns : goal.returns

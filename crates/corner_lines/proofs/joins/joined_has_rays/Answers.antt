@@ -1,4 +1,4 @@
-use Rattle.corner_lines.proofs.JoinedRows.{joined_rays}
+use Rattle.corner_lines.proofs.ProblemChanges.JoinedRows.{joined_rays}
 use Rattle.corner_lines.proofs.joins.joined_has_rays.Goals as goal
 
 pub returns : goal.returns

@@ -1,4 +1,4 @@
-use Rattle.corner_lines.proofs.JoinedRows.{joined_corner}
+use Rattle.corner_lines.proofs.ProblemChanges.JoinedRows.{joined_corner}
 use Rattle.corner_lines.proofs.joins.joined_is_corner.Goals as goal
 
 pub returns : goal.returns

@@ -1,4 +1,4 @@
-use Rattle.corner_lines.proofs.JoinedLines.{joined_turns}
+use Rattle.corner_lines.proofs.ProblemChanges.JoinedLines.{joined_turns}
 use Rattle.corner_lines.proofs.joins.joined_turns.Goals as goal
 
 pub returns : goal.returns

@@ -1,4 +1,4 @@
-use Rattle.corner_lines.proofs.JoinedUnder.{under_corner}
+use Rattle.corner_lines.proofs.ProblemChanges.JoinedUnder.{under_corner}
 use Rattle.corner_lines.proofs.joins.joined_under_is_corner.Goals as goal
 
 pub returns : goal.returns

@@ -1,4 +1,4 @@
-use Rattle.corner_lines.proofs.JoinedUnder.{under_line}
+use Rattle.corner_lines.proofs.ProblemChanges.JoinedUnder.{under_line}
 use Rattle.corner_lines.proofs.joins.joined_under_keeps_equations.Goals as goal
 
 pub returns : goal.returns

@@ -1,4 +1,4 @@
-use Rattle.corner_lines.proofs.JoinedLines.{no_terms}
+use Rattle.corner_lines.proofs.ProblemChanges.JoinedLines.{no_terms}
 use Rattle.corner_lines.proofs.joins.no_terms_are_zero.Goals as goal
 
 pub returns : goal.returns

@@ -1,4 +1,4 @@
-use Rattle.corner_lines.proofs.JoinedBegins.{begins_more}
+use Rattle.corner_lines.proofs.ProblemChanges.JoinedBegins.{begins_more}
 use Rattle.corner_lines.proofs.joins.path_begins_with_more.Goals as goal
 
 pub returns : goal.returns

@@ -1,4 +1,4 @@
-use Rattle.corner_lines.proofs.MovedStays.{stood_stay}
+use Rattle.corner_lines.proofs.ProblemChanges.MovedStays.{stood_stay}
 use Rattle.corner_lines.proofs.joins.stood_clears_stays.Goals as goal
 
 pub returns : goal.returns

@@ -1,4 +1,4 @@
-use Rattle.corner_lines.proofs.MovedStays.{attr_unmoved, stood_line}
+use Rattle.corner_lines.proofs.ProblemChanges.MovedStays.{attr_unmoved, stood_line}
 use Rattle.problem_core.specs.Corners.{attr_column}
 use Rattle.corner_lines.proofs.joins.stood_keeps_attrs.Goals as goal
 

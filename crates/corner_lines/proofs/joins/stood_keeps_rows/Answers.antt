@@ -1,6 +1,6 @@
 use Rattle.problem_core.specs.declared.parts.RowName.TheVariants.{Held}
 use Rattle.corner_lines.specs.LineEquations.{deviation}
-use Rattle.corner_lines.proofs.MovedStays.{held_unmoved, stood_line}
+use Rattle.corner_lines.proofs.ProblemChanges.MovedStays.{held_unmoved, stood_line}
 use Rattle.corner_lines.proofs.joins.stood_keeps_rows.Goals as goal
 
 pub returns : goal.returns

@@ -1,4 +1,4 @@
-use Rattle.corner_lines.proofs.JoinedLines.{terms_unfit}
+use Rattle.corner_lines.proofs.ProblemChanges.JoinedLines.{terms_unfit}
 use Rattle.corner_lines.proofs.joins.terms_are_unfit.Goals as goal
 
 pub returns : goal.returns

@@ -1,5 +1,5 @@
-use Rattle.corner_lines.proofs.JoinedLines.{gives_deviation}
-use Rattle.corner_lines.proofs.JoinedRows.{den-positive}
+use Rattle.corner_lines.proofs.ProblemChanges.JoinedLines.{gives_deviation}
+use Rattle.corner_lines.proofs.ProblemChanges.JoinedRows.{den-positive}
 use Rattle.corner_lines.proofs.joins.terms_give_deviation.Goals as goal
 
 pub returns : goal.returns

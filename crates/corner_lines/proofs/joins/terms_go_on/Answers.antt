@@ -1,4 +1,4 @@
-use Rattle.corner_lines.proofs.JoinedLines.{goes_on}
+use Rattle.corner_lines.proofs.ProblemChanges.JoinedLines.{goes_on}
 use Rattle.corner_lines.proofs.joins.terms_go_on.Goals as goal
 
 pub returns : goal.returns

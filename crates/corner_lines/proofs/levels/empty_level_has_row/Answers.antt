@@ -1,4 +1,4 @@
-use Rattle.corner_lines.proofs.LevelJoins.{empty_level_has_row}
+use Rattle.corner_lines.proofs.LevelRows.LevelJoins.{empty_level_has_row}
 use Rattle.corner_lines.proofs.levels.empty_level_has_row.Goals as goal
 
 pub returns : goal.returns

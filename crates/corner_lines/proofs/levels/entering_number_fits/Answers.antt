@@ -1,4 +1,4 @@
-use Rattle.corner_lines.proofs.LevelTakes.{entering_number_fits}
+use Rattle.corner_lines.proofs.Costs.LevelTakes.{entering_number_fits}
 use Rattle.corner_lines.proofs.levels.entering_number_fits.Goals as goal
 
 pub returns : goal.returns

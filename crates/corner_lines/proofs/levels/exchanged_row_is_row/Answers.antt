@@ -1,4 +1,4 @@
-use Rattle.corner_lines.proofs.LevelExchanges.{exchanged_row_is_row}
+use Rattle.corner_lines.proofs.LevelRows.LevelExchanges.{exchanged_row_is_row}
 use Rattle.corner_lines.proofs.levels.exchanged_row_is_row.Goals as goal
 
 pub returns : goal.returns

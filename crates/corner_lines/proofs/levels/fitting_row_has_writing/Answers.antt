@@ -1,4 +1,4 @@
-use Rattle.corner_lines.proofs.LevelFits.{fitting_row_has_writing}
+use Rattle.corner_lines.proofs.Costs.LevelFits.{fitting_row_has_writing}
 use Rattle.corner_lines.proofs.levels.fitting_row_has_writing.Goals as goal
 
 pub returns : goal.returns

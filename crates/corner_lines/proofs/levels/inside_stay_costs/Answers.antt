@@ -1,4 +1,4 @@
-use Rattle.corner_lines.proofs.StayFits.{inside_stay_costs}
+use Rattle.corner_lines.proofs.Costs.StayFits.{inside_stay_costs}
 use Rattle.corner_lines.proofs.levels.inside_stay_costs.Goals as goal
 
 pub returns : goal.returns

@@ -1,4 +1,4 @@
-use Rattle.corner_lines.proofs.LevelJoinCosts.{joining_rows_cost_nothing}
+use Rattle.corner_lines.proofs.Costs.LevelJoinCosts.{joining_rows_cost_nothing}
 use Rattle.corner_lines.proofs.levels.joining_rows_cost_nothing.Goals as goal
 
 pub returns : goal.returns

@@ -1,4 +1,4 @@
-use Rattle.corner_lines.proofs.LevelTakes.{leaving_number_fits}
+use Rattle.corner_lines.proofs.Costs.LevelTakes.{leaving_number_fits}
 use Rattle.corner_lines.proofs.levels.leaving_number_fits.Goals as goal
 
 pub returns : goal.returns

@@ -1,4 +1,4 @@
-use Rattle.corner_lines.proofs.LevelJoinCosts.{left_cost_is_cost}
+use Rattle.corner_lines.proofs.Costs.LevelJoinCosts.{left_cost_is_cost}
 use Rattle.corner_lines.proofs.levels.left_cost_is_cost.Goals as goal
 
 pub returns : goal.returns

@@ -1,4 +1,4 @@
-use Rattle.corner_lines.proofs.StayRows.{outside_stay_has_row}
+use Rattle.corner_lines.proofs.LevelRows.StayRows.{outside_stay_has_row}
 use Rattle.corner_lines.proofs.levels.outside_stay_has_row.Goals as goal
 
 pub returns : goal.returns

@@ -1,4 +1,4 @@
-use Rattle.corner_lines.proofs.StayFits.{outside_stay_level_fits}
+use Rattle.corner_lines.proofs.Costs.StayFits.{outside_stay_level_fits}
 use Rattle.corner_lines.proofs.levels.outside_stay_level_fits.Goals as goal
 
 pub returns : goal.returns

@@ -1,4 +1,4 @@
-use Rattle.corner_lines.proofs.LinePivots.{pivot_is_solved}
+use Rattle.corner_lines.proofs.Lines.LinePivots.{pivot_is_solved}
 use Rattle.corner_lines.proofs.levels.pivot_is_solved.Goals as goal
 
 pub returns : goal.returns

@@ -1,4 +1,4 @@
-use Rattle.corner_lines.proofs.StayFits.{stay_level_is_unfit}
+use Rattle.corner_lines.proofs.Costs.StayFits.{stay_level_is_unfit}
 use Rattle.corner_lines.proofs.levels.stay_level_is_unfit.Goals as goal
 
 pub returns : goal.returns

@@ -1,4 +1,4 @@
-use Rattle.corner_lines.proofs.StayRows.{stay_stands_alone}
+use Rattle.corner_lines.proofs.LevelRows.StayRows.{stay_stands_alone}
 use Rattle.corner_lines.proofs.levels.stay_stands_alone.Goals as goal
 
 pub returns : goal.returns

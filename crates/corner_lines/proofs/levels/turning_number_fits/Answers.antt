@@ -1,4 +1,4 @@
-use Rattle.corner_lines.proofs.LevelTakes.{turning_number_fits}
+use Rattle.corner_lines.proofs.Costs.LevelTakes.{turning_number_fits}
 use Rattle.corner_lines.proofs.levels.turning_number_fits.Goals as goal
 
 pub returns : goal.returns

@@ -1,4 +1,4 @@
-use Rattle.corner_lines.proofs.LevelSound.{whole_is_sound}
+use Rattle.corner_lines.proofs.LevelRows.LevelSound.{whole_is_sound}
 use Rattle.corner_lines.proofs.levels.whole_is_sound.Goals as goal
 
 pub returns : goal.returns

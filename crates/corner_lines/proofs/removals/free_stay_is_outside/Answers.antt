@@ -1,4 +1,4 @@
-use Rattle.corner_lines.proofs.DroppedAttr.{stay-out}
+use Rattle.corner_lines.proofs.ProblemChanges.DroppedAttr.{stay-out}
 use Rattle.corner_lines.proofs.removals.free_stay_is_outside.Goals as goal
 
 pub returns : goal.returns

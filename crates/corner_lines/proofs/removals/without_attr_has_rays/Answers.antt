@@ -1,4 +1,4 @@
-use Rattle.corner_lines.proofs.DroppedAttr.{attr_left_rays}
+use Rattle.corner_lines.proofs.ProblemChanges.DroppedAttr.{attr_left_rays}
 use Rattle.corner_lines.proofs.removals.without_attr_has_rays.Goals as goal
 
 pub returns : goal.returns

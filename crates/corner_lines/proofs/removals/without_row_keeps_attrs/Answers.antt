@@ -1,4 +1,4 @@
-use Rattle.corner_lines.proofs.Dropped.{attr_without, left_line}
+use Rattle.corner_lines.proofs.ProblemChanges.Dropped.{attr_without, left_line}
 use Rattle.problem_core.specs.Corners.{attr_column}
 use Rattle.corner_lines.proofs.removals.without_row_keeps_attrs.Goals as goal
 

@@ -1,5 +1,5 @@
 use Rattle.corner_lines.specs.LineEquations.{deviation}
-use Rattle.corner_lines.proofs.Dropped.{deviation_without, left_line}
+use Rattle.corner_lines.proofs.ProblemChanges.Dropped.{deviation_without, left_line}
 use Rattle.corner_lines.proofs.removals.without_row_keeps_lines.Goals as goal
 
 pub returns : goal.returns

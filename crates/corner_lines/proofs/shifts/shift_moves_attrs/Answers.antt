@@ -1,4 +1,4 @@
-use Rattle.corner_lines.proofs.Shifted.{attr_still, shift-small, shift_line}
+use Rattle.corner_lines.proofs.ProblemChanges.Shifted.{attr_still, shift-small, shift_line}
 use Rattle.problem_core.specs.Corners.{attr_column}
 use Rattle.corner_lines.proofs.shifts.shift_moves_attrs.Goals as goal
 

@@ -1,5 +1,5 @@
 use Rattle.corner_lines.specs.LineEquations.{deviation}
-use Rattle.corner_lines.proofs.Shifted.{deviation_still, shift_line}
+use Rattle.corner_lines.proofs.ProblemChanges.Shifted.{deviation_still, shift_line}
 use Rattle.corner_lines.proofs.shifts.shift_moves_lines.Goals as goal
 
 pub returns : goal.returns

@@ -1,4 +1,4 @@
-use Rattle.corner_lines.proofs.Shifted.{shift_own}
+use Rattle.corner_lines.proofs.ProblemChanges.Shifted.{shift_own}
 use Rattle.corner_lines.proofs.shifts.shift_moves_row.Goals as goal
 
 pub returns : goal.returns

@@ -1,4 +1,4 @@
-use Rattle.corner_lines.proofs.Shifted.{shift_rays}
+use Rattle.corner_lines.proofs.ProblemChanges.Shifted.{shift_rays}
 use Rattle.corner_lines.proofs.shifts.shifted_has_rays.Goals as goal
 
 pub returns : goal.returns

@@ -1,4 +1,4 @@
-use Rattle.diagnosis.proofs.ProbeRooms.{all_can}
+use Rattle.diagnosis.proofs.Probes.ProbeRooms.{all_can}
 use Rattle.diagnosis.proofs.diagnosing.can_probe_all.Goals as goal
 
 pub returns-clause-yes : goal.returns-clause-yes

@@ -1,5 +1,5 @@
 use Rattle.std.proofs.Common.{get_or}
-use Rattle.diagnosis.proofs.ProbeStops.{stop_at}
+use Rattle.diagnosis.proofs.Probes.ProbeStops.{stop_at}
 use Rattle.diagnosis.proofs.MovingAttributes.{can_next, next_listed, stays_rise}
 use Rattle.diagnosis.proofs.moving.push_moving.Goals as goal
 

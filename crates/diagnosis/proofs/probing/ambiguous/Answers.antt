@@ -2,8 +2,8 @@ use Rattle.std.proofs.Common.{true, false, subst}
 use Rattle.std.proofs.lemmas.Result.{err_from_is_err_and}
 use Rattle.layout_solver.specs.Layouts.{Layout}
 use Rattle.diagnosis.specs.Probes.{IsStopped, IsTried}
-use Rattle.diagnosis.proofs.Probed.{Read, tried_down_moves, tried_fixed, tried_up_moves, tried_up_stays}
-use Rattle.diagnosis.proofs.ProbeStops.{called_for, up_called_for}
+use Rattle.diagnosis.proofs.Probes.Probed.{Read, tried_down_moves, tried_fixed, tried_up_moves, tried_up_stays}
+use Rattle.diagnosis.proofs.Probes.ProbeStops.{called_for, up_called_for}
 use Rattle.diagnosis.proofs.probing.ambiguous.Goals as goal
 
 pub returns-in_err-above-clause-stop : goal.returns-in_err-above-clause-stop

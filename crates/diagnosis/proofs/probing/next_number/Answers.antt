@@ -1,6 +1,6 @@
 use Rattle.std.proofs.Common.{◌∙◌, ◌+◌, ◌-◌, ◌<◌, ℕ, length, sym, ap, arith}
 use Rattle.std.proofs.lemmas.Option.{get_or_from_slice_get, slice_get_within}
-use Rattle.diagnosis.proofs.ProbeWhole.{next_is}
+use Rattle.diagnosis.proofs.Probes.ProbeWhole.{next_is}
 use Rattle.diagnosis.proofs.probing.next_number.Goals as goal
 
 pub returns-in-Some : goal.returns-in-Some

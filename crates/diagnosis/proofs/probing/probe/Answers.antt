@@ -6,10 +6,10 @@ use Rattle.layout_solver.specs.Layouts.{IsBestValue, with_added}
 use Rattle.cert_core.specs.Stops.{IsStopOf}
 use Rattle.corner.specs.Changes.{FromAdded}
 use Rattle.diagnosis.specs.Probes.{IsBeside, IsStopped, next_num, next_number}
-use Rattle.diagnosis.proofs.Probed.{value_is}
-use Rattle.diagnosis.proofs.ProbeStops.{stop_not_conflict, stopped}
-use Rattle.diagnosis.proofs.ProbeWhole.{made_row, probe_whole}
+use Rattle.diagnosis.proofs.Probes.ProbeStops.{stop_not_conflict, stopped}
+use Rattle.diagnosis.proofs.Probes.ProbeWhole.{made_row, probe_whole}
 use Rattle.diagnosis.proofs.probing.probe.Goals as goal
+use Rattle.problem_core.proofs.Sides.{value-is as value_is}
 
 pub returns-in_default-clause-stop : goal.returns-in_default-clause-stop
 returns-in_default-clause-stop c = (
@@ -24,16 +24,16 @@ of-requires-clause-row c =
 
 pub value_with-requires-clause-whole : goal.value_with-requires-clause-whole
 value_with-requires-clause-whole c =
-    subst (λ (r : Row). IsWhole (with_added c.args.e.now [] (r ∷ []))) (sym (c.in-Ok.ensures ∙ made_row c.args.e.now c.args.attr c.next_number.result c.in-Some.target (c.next_number.ensures ∙ ap next_number c.rows.ensures)))
+    subst (λ (r : Row). IsWhole (with_added c.args.e.now [] (r ∷ []))) (sym (c.in_ok-row.ensures ∙ made_row c.args.e.now c.args.attr c.next_number.result c.in-Some.target (c.next_number.ensures ∙ ap next_number c.rows.ensures)))
     (probe_whole c.args.e.now c.args.attr c.in-Some.target c.show_layout.ensures.whole c.show_layout.ensures.best.attributes c.show_layout.ensures.kept c.in-Some.ensures.kept c.requires.can).1
 
-pub returns-in-Ok-value_with-clause-value : goal.returns-in-Ok-value_with-clause-value
-returns-in-Ok-value_with-clause-value c = (
+pub returns-in-Ok-clause-value : goal.returns-in-Ok-clause-value
+returns-in-Ok-clause-value c = (
   c.in-Some.target,
   subst (λ (v : Fraction). IsBeside c.args.up v c.in-Some.target) (value_is c.args.e.now.values c.args.attr c.value_at.result c.show_layout.ensures.rising c.value_at.ensures) c.in-Some.ensures.some,
   c.in-Some.ensures.kept,
   (probe_whole c.args.e.now c.args.attr c.in-Some.target c.show_layout.ensures.whole c.show_layout.ensures.best.attributes c.show_layout.ensures.kept c.in-Some.ensures.kept c.requires.can).1,
-  subst (λ (r : Row). IsBestValue (with_added c.args.e.now [] (r ∷ [])) c.args.attr c.in-Ok-value_with.value) (c.in-Ok.ensures ∙ made_row c.args.e.now c.args.attr c.next_number.result c.in-Some.target (c.next_number.ensures ∙ ap next_number c.rows.ensures)) c.in-Ok-value_with.ensures.value,
+  subst (λ (r : Row). IsBestValue (with_added c.args.e.now [] (r ∷ [])) c.args.attr c.in-Ok.value) (c.in_ok-row.ensures ∙ made_row c.args.e.now c.args.attr c.next_number.result c.in-Some.target (c.next_number.ensures ∙ ap next_number c.rows.ensures)) c.in-Ok.ensures.value,
 )
 
 pub stop_of-requires : goal.stop_of-requires
@@ -41,7 +41,7 @@ stop_of-requires c =
     stop_not_conflict c.args.e.now c.args.attr c.in-Some.target c.args.budget c.in-Err.stop c.show_layout.ensures.best
     (probe_whole c.args.e.now c.args.attr c.in-Some.target c.show_layout.ensures.whole c.show_layout.ensures.best.attributes c.show_layout.ensures.kept c.in-Some.ensures.kept c.requires.can).1
     (subst (λ (r : Row). IsStopOf false (with_added c.args.e.now [] (r ∷ [])) c.args.e.now.problem.rows (FromAdded (with_added c.args.e.now [] (r ∷ [])) c.args.e.now.corner (r ∷ [])) c.args.budget c.in-Err.stop)
-    (c.in-Ok.ensures ∙ made_row c.args.e.now c.args.attr c.next_number.result c.in-Some.target (c.next_number.ensures ∙ ap next_number c.rows.ensures)) c.in-Err.ensures.stop)
+    (c.in_ok-row.ensures ∙ made_row c.args.e.now c.args.attr c.next_number.result c.in-Some.target (c.next_number.ensures ∙ ap next_number c.rows.ensures)) c.in-Err.ensures.stop)
 
 pub returns-clause-stop : goal.returns-clause-stop
 returns-clause-stop c =
@@ -50,4 +50,4 @@ returns-clause-stop c =
     (subst (λ (v : Fraction). IsBeside c.args.up v c.in-Some.target) (value_is c.args.e.now.values c.args.attr c.value_at.result c.show_layout.ensures.rising c.value_at.ensures) c.in-Some.ensures.some)
     c.in-Some.ensures.kept
     (subst (λ (r : Row). IsStopOf false (with_added c.args.e.now [] (r ∷ [])) c.args.e.now.problem.rows (FromAdded (with_added c.args.e.now [] (r ∷ [])) c.args.e.now.corner (r ∷ [])) c.args.budget c.in-Err.stop)
-    (c.in-Ok.ensures ∙ made_row c.args.e.now c.args.attr c.next_number.result c.in-Some.target (c.next_number.ensures ∙ ap next_number c.rows.ensures)) c.in-Err.ensures.stop))
+    (c.in_ok-row.ensures ∙ made_row c.args.e.now c.args.attr c.next_number.result c.in-Some.target (c.next_number.ensures ∙ ap next_number c.rows.ensures)) c.in-Err.ensures.stop))

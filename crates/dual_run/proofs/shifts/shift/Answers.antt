@@ -3,8 +3,9 @@ use Rattle.problem_core.specs.declared.parts.RowName.TheVariants.{Held}
 use Rattle.problem_core.specs.Layout.{Problem}
 use Rattle.corner.specs.Views.{IsNamed}
 use Rattle.corner_ends.proofs.RequiredTimes.{row_named}
-use Rattle.dual_run.proofs.Moved.{lows_shifted, named_shifted}
+use Rattle.dual_run.proofs.Moved.{lows_shifted}
 use Rattle.dual_run.proofs.shifts.shift.Goals as goal
+use Rattle.corner.proofs.Shifts.ShiftLines.{shift_named as named_shifted}
 
 pub list_low-requires : goal.list_low-requires
 list_low-requires c =

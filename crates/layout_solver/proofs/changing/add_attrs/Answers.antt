@@ -1,6 +1,6 @@
 use Rattle.std.proofs.Common.{get_or}
 use Rattle.layout_solver.specs.Starts.{attrs_of}
-use Rattle.layout_solver.proofs.MovedProblems.{next_room, no_stay}
+use Rattle.layout_solver.proofs.Starts.MovedProblems.{next_room, no_stay}
 use Rattle.layout_solver.proofs.changing.add_attrs.Goals as goal
 
 pub add_attr-requires-clause-fresh : goal.add_attr-requires-clause-fresh

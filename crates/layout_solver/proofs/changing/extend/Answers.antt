@@ -7,7 +7,7 @@ use Rattle.cert_core.specs.Stops.{IsStopOf}
 use Rattle.corner.specs.Changes.{FromAdded, with_rows}
 use Rattle.corner_ends.specs.Runs.{IsRun}
 use Rattle.layout_solver.specs.Starts.{IsMoved}
-use Rattle.layout_solver.proofs.MovedProblems.{moved_path, moved_stop, moved_up, with_more}
+use Rattle.layout_solver.proofs.Starts.MovedProblems.{moved_path, moved_stop, moved_up, with_more}
 use Rattle.layout_solver.proofs.changing.extend.Goals as goal
 
 pub join-requires-clause-whole : goal.join-requires-clause-whole

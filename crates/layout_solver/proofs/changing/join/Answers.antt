@@ -4,7 +4,7 @@ use Rattle.cert_core.specs.Paths.{Path}
 use Rattle.cert_core.specs.Stops.{IsStopOf}
 use Rattle.corner.specs.Changes.{FromAdded, with_rows}
 use Rattle.corner_ends.specs.Runs.{FromHere, IsRun}
-use Rattle.layout_solver.proofs.Beginnings.{HasJoined, path_there, stop_there, values_there}
+use Rattle.layout_solver.proofs.Starts.Beginnings.{HasJoined, path_there, stop_there, values_there}
 use Rattle.layout_solver.proofs.changing.join.Goals as goal
 
 pub settle-requires-clause-values : goal.settle-requires-clause-values

@@ -2,7 +2,7 @@ use Rattle.std.proofs.Common.{◌≡◌, ◌++◌}
 use Rattle.std.proofs.lemmas.Result.{IfOk-weaker}
 use Rattle.layout_solver.specs.Layouts.{stays_at, zeros}
 use Rattle.layout_solver.specs.Starts.{IsMoved}
-use Rattle.layout_solver.proofs.MovedProblems.{stood_moved}
+use Rattle.layout_solver.proofs.Starts.MovedProblems.{stood_moved}
 use Rattle.layout_solver.proofs.changing.widen.Goals as goal
 
 pub returns-clause-moved : goal.returns-clause-moved

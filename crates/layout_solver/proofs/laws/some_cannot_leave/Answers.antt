@@ -1,4 +1,4 @@
-use Rattle.layout_solver.proofs.Instances.{some_cannot_leave}
+use Rattle.layout_solver.proofs.Removals.Instances.{some_cannot_leave}
 use Rattle.layout_solver.proofs.laws.some_cannot_leave.Goals as goal
 
 pub returns : goal.returns

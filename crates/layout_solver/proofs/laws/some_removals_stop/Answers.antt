@@ -1,4 +1,4 @@
-use Rattle.layout_solver.proofs.Instances.{some_removals_stop}
+use Rattle.layout_solver.proofs.Removals.Instances.{some_removals_stop}
 use Rattle.layout_solver.proofs.laws.some_removals_stop.Goals as goal
 
 pub returns : goal.returns

@@ -1,5 +1,5 @@
 use Rattle.std.proofs.Common.{◌∙◌}
-use Rattle.layout_solver.proofs.LeftRows.{attrs_next, next_free, next_stay}
+use Rattle.layout_solver.proofs.Removals.LeftRows.{attrs_next, next_free, next_stay}
 use Rattle.layout_solver.proofs.removing.drop_attrs.Goals as goal
 
 pub drop_attr-requires-clause-free : goal.drop_attr-requires-clause-free

@@ -1,5 +1,5 @@
 use Rattle.std.proofs.Common.{refl}
-use Rattle.layout_solver.proofs.LeftEnds.{gone_first, next_held}
+use Rattle.layout_solver.proofs.Removals.LeftEnds.{gone_first, next_held}
 use Rattle.layout_solver.proofs.removing.drop_rows.Goals as goal
 
 pub loop-gone-init : goal.loop-gone-init

@@ -3,7 +3,7 @@ use Rattle.cert_core.specs.declared.stops.RunStop.TheVariants.{Unfit as UnfitRun
 use Rattle.marker_remove.specs.Freed.{IsFreeStop}
 use Rattle.std.proofs.lemmas.List.{take_rest}
 use Rattle.layout_solver.specs.Removals.{IsUnfitOf}
-use Rattle.layout_solver.proofs.LeftEnds.{row_freed, unfit_freed}
+use Rattle.layout_solver.proofs.Removals.LeftEnds.{row_freed, unfit_freed}
 use Rattle.layout_solver.proofs.removing.free_next.Goals as goal
 
 pub returns-in-Ok-clause-freed : goal.returns-in-Ok-clause-freed

@@ -1,5 +1,5 @@
 use Rattle.std.proofs.Common.{◌≡◌, take, ◌∷◌, []}
-use Rattle.problem_core.specs.Begins.{without_marks}
+use Rattle.problem_core.specs.Changes.Begins.{without_marks}
 use Rattle.layout_solver.proofs.removing.marks_without.Given as goal
 
 abbrev pub invariant-loop-mark : goal.invariant-loop-mark

@@ -1,7 +1,7 @@
 use Rattle.std.proofs.Common.{false, subst}
 use Rattle.cert_core.specs.Stops.{IsStopOf}
 use Rattle.corner_ends.specs.Runs.{FromHere}
-use Rattle.layout_solver.proofs.LeftEnds.{no_conflict}
+use Rattle.layout_solver.proofs.Removals.LeftEnds.{no_conflict}
 use Rattle.layout_solver.proofs.removing.settle_left.Goals as goal
 
 pub unreachable-requires : goal.unreachable-requires

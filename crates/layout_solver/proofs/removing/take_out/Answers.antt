@@ -3,8 +3,8 @@ use Rattle.std.proofs.lemmas.Result.{IfErr-weaker, IfOk-weaker, err_from_is_err_
 use Rattle.problem_core.specs.declared.parts.Stay.{Stay}
 use Rattle.problem_core.specs.Layout.{HasStay, Problem, error, line_of_row}
 use Rattle.layout_solver.specs.Removals.{without, without_attrs}
-use Rattle.layout_solver.proofs.LeftEnds.{still_stop}
-use Rattle.layout_solver.proofs.LeftRows.{left_free, rows_all, stays_same}
+use Rattle.layout_solver.proofs.Removals.LeftEnds.{still_stop}
+use Rattle.layout_solver.proofs.Removals.LeftRows.{left_free, rows_all, stays_same}
 use Rattle.layout_solver.proofs.removing.take_out.Goals as goal
 
 pub leave_attrs-requires-clause-held : goal.leave_attrs-requires-clause-held

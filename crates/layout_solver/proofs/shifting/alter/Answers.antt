@@ -6,8 +6,8 @@ use Rattle.cert_core.specs.Stops.{IsStopOf}
 use Rattle.corner_ends.specs.Runs.{FromHere, IsRun}
 use Rattle.layout_solver.specs.Shifts.{shifted}
 use Rattle.layout_solver.specs.Starts.{IsMoved}
-use Rattle.layout_solver.proofs.Alterations.{altered, altered_stop, restored_path, restored_stop, stood_low}
-use Rattle.layout_solver.proofs.ShiftedProblems.{columns_stood, columns_there, near_rows, still_newest}
+use Rattle.layout_solver.proofs.Shifts.Alterations.{altered, altered_stop, restored_path, restored_stop, stood_low}
+use Rattle.layout_solver.proofs.Shifts.ShiftedProblems.{columns_stood, columns_there, near_rows, still_newest}
 use Rattle.layout_solver.proofs.shifting.alter.Goals as goal
 
 pub shift_all-requires-clause-newest : goal.shift_all-requires-clause-newest

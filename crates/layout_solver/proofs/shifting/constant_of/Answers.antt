@@ -1,7 +1,7 @@
 use Rattle.std.proofs.Common.{ltb, rules}
 use Rattle.std.proofs.lemmas.List.Sorted.{IsPartitionPoint-from_clause, IsPartitionedBy-ltb}
 use Rattle.problem_core.specs.Layout.{Row}
-use Rattle.layout_solver.proofs.ConstantReads.{found_constants, found_within, rising_ids}
+use Rattle.layout_solver.proofs.Shifts.ConstantReads.{found_constants, found_within, rising_ids}
 use Rattle.layout_solver.proofs.shifting.constant_of.Goals as goal
 
 pub bounds-rows-at : goal.bounds-rows-at

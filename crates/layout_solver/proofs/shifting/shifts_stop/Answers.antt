@@ -1,4 +1,4 @@
-use Rattle.layout_solver.proofs.ShiftedProblems.{path_stop}
+use Rattle.layout_solver.proofs.Shifts.ShiftedProblems.{path_stop}
 use Rattle.layout_solver.proofs.shifting.shifts_stop.Goals as goal
 
 pub returns-in-Ok : goal.returns-in-Ok

@@ -2,7 +2,7 @@ use Rattle.std.proofs.Common.{[], ◌++◌, subst}
 use Rattle.problem_core.specs.Layout.{Problem}
 use Rattle.layout_solver.specs.Layouts.{IsBestValue}
 use Rattle.layout_solver.proofs.BestValues.{best_value, moved_stay}
-use Rattle.layout_solver.proofs.MovedProblems.{one_problem}
+use Rattle.layout_solver.proofs.Starts.MovedProblems.{one_problem}
 use Rattle.layout_solver.proofs.trying.tried.Goals as goal
 
 pub attr_value-requires : goal.attr_value-requires

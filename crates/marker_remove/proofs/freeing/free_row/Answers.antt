@@ -2,12 +2,12 @@ use Rattle.std.proofs.Common.{rules, ◌≡◌, subst, sym}
 use Rattle.problem_core.specs.Layout.{Problem}
 use Rattle.problem_core.specs.Corners.{NoNegativeValue, Swap, exchanged}
 use Rattle.corner.specs.Views.{CornerView}
-use Rattle.corner_ends.proofs.MarkOrders.{same_back}
 use Rattle.marker_remove.specs.Freed.{DoStand}
 use Rattle.marker_remove.proofs.FreedPaths.{freed_inside}
 use Rattle.marker_remove.proofs.StayMoves.{row_outside, some_mover}
 use Rattle.marker_remove.proofs.ZeroSwaps.{same_up, same_values}
 use Rattle.marker_remove.proofs.freeing.free_row.Goals as goal
+use Rattle.problem_core.proofs.Marks.{same-back as same_back}
 
 pub leaving-leave-requires-clause-outside : goal.leaving-leave-requires-clause-outside
 leaving-leave-requires-clause-outside c = row_outside c.args.c.now.problem c.args.c.now.marks c.args.id c.mark_of-enter.result c.mark_of-enter.ensures c.requires.held (c.is_free.ensures.no c.if-is_free.false)

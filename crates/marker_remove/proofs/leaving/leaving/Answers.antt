@@ -1,7 +1,8 @@
 use Rattle.std.proofs.Common.{arith}
-use Rattle.corner_ends.proofs.Marks.{took_all, took_more}
+use Rattle.corner_ends.proofs.Marks.{took_more}
 use Rattle.marker_remove.proofs.StayMoves.{IsNoStay, stay_found, stays_run_out}
 use Rattle.marker_remove.proofs.leaving.leaving.Goals as goal
+use Rattle.frac_core.proofs.Lists.{all-whole as took_all}
 
 pub mover-requires-clause-within : goal.mover-requires-clause-within
 mover-requires-clause-within c =

@@ -1,5 +1,5 @@
-use Rattle.path_checker.proofs.Leading.{ok_then}
-use Rattle.path_checker.proofs.Pigeons.{arrives}
+use Rattle.path_checker.proofs.Exchanges.Leading.{ok_then}
+use Rattle.path_checker.proofs.MarkSides.Pigeons.{arrives}
 use Rattle.path_checker.proofs.check.arrive.Goals as goal
 
 pub returns-clause-arrived : goal.returns-clause-arrived

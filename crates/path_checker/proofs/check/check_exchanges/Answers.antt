@@ -6,7 +6,7 @@ use Rattle.path_checker.specs.Sides.{ComesTwice}
 use Rattle.path_checker.specs.Tables.{AreSides, names_of}
 use Rattle.path_checker.proofs.FirstClauses.{all_hold, comes_again}
 use Rattle.path_checker.proofs.Iffs.{right_then, wrong_then}
-use Rattle.path_checker.proofs.WayLines.{some_says}
+use Rattle.path_checker.proofs.Walking.WayLines.{some_says}
 use Rattle.path_checker.proofs.check.check_exchanges.Goals as goal
 
 pub returns-then-branch : goal.returns-then-branch

@@ -1,10 +1,10 @@
 use Rattle.std.proofs.Common.{◌≡◌, ◌∙◌, ◌++◌, List, Option, take, drop, length, rules, subst, true, false}
 use Rattle.path_checker.specs.declared.table.Inside.{Inside}
 use Rattle.path_checker.specs.Tables.{IsTurned}
-use Rattle.path_checker.specs.Pivots.{LeadTo, LeadToUnfit}
+use Rattle.path_checker.specs.Exchanges.Pivots.{LeadTo, LeadToUnfit}
 use Rattle.path_checker.proofs.Iffs.{right_then, wrong_then}
-use Rattle.path_checker.proofs.Leading.{err_then, ok_then, turn_leads, turned_sized}
-use Rattle.path_checker.proofs.Walks.{settled}
+use Rattle.path_checker.proofs.Exchanges.Leading.{err_then, ok_then, turn_leads, turned_sized}
+use Rattle.path_checker.proofs.MarkSides.Walks.{settled}
 use Rattle.path_checker.proofs.exchange.after_exchange.Goals as goal
 
 pub returns-then-is_turn-clause-next : goal.returns-then-is_turn-clause-next

@@ -1,5 +1,5 @@
 use Rattle.std.proofs.lemmas.Result.{err_from_is_err_and}
-use Rattle.path_checker.proofs.NextLines.{entering_from, entering_unfit_from}
+use Rattle.path_checker.proofs.Exchanges.NextLines.{entering_from, entering_unfit_from}
 use Rattle.path_checker.proofs.exchange.entering_sum.Goals as goal
 
 pub returns-in_err-numbers-clause-unfit : goal.returns-in_err-numbers-clause-unfit

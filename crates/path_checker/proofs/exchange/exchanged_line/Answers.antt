@@ -1,12 +1,12 @@
 use Rattle.std.proofs.Common.{ℕ, None, Some, sym, subst}
 use Rattle.std.proofs.lemmas.Result.{err_from_is_err_and}
 use Rattle.problem_core.specs.Corners.{IsIn, place_of}
-use Rattle.corner_laws.proofs.Rays.{enter_in}
 use Rattle.corner_lines.specs.LineEquations.{IsOutsideLine}
-use Rattle.path_checker.specs.Pivots.{next_marks}
+use Rattle.path_checker.specs.Exchanges.Pivots.{next_marks}
 use Rattle.path_checker.specs.Tables.{IsLineAt, IsSumOf, name_at, swap_of}
-use Rattle.path_checker.proofs.NextLines.{leaving_outside, still_inside, still_outside}
+use Rattle.path_checker.proofs.Exchanges.NextLines.{leaving_outside, still_inside, still_outside}
 use Rattle.path_checker.proofs.exchange.exchanged_line.Goals as goal
+use Rattle.problem_core.proofs.Marks.{entered-in as enter_in}
 
 pub returns-in_err-sum-clause-unfit : goal.returns-in_err-sum-clause-unfit
 returns-in_err-sum-clause-unfit c =

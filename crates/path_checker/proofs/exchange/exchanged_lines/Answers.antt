@@ -2,7 +2,7 @@ use Rattle.std.proofs.Common.{◌≡◌, ◌∙◌, ◌<◌, ◌++◌, [], ◌�
 use Rattle.std.proofs.lemmas.List.{get_or_default, length_push}
 use Rattle.std.proofs.lemmas.Result.{err_from_is_err_and}
 use Rattle.path_checker.specs.declared.table.Inside.{Inside}
-use Rattle.path_checker.specs.Pivots.{IsNextLine}
+use Rattle.path_checker.specs.Exchanges.Pivots.{IsNextLine}
 use Rattle.path_checker.specs.Tables.{IsLineAt, IsSizedLine, line_count, name_at}
 use Rattle.path_checker.proofs.Iffs.{one_more}
 use Rattle.path_checker.proofs.exchange.exchanged_lines.Goals as goal

@@ -1,7 +1,7 @@
 use Rattle.std.proofs.Common.{ℕ, ◌≡◌, ◌<◌, get_or, length, Option}
 use Rattle.path_checker.specs.declared.table.Inside.{Inside}
 use Rattle.path_checker.specs.Tables.{IsSizedLine}
-use Rattle.path_checker.specs.Pivots.{IsNextLine}
+use Rattle.path_checker.specs.Exchanges.Pivots.{IsNextLine}
 use Rattle.path_checker.proofs.exchange.exchanged_lines.Given as goal
 
 abbrev pub invariant-loop-at : goal.invariant-loop-at

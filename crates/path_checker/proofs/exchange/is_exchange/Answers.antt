@@ -1,7 +1,7 @@
 use Rattle.std.proofs.Common.{rules, ◌≡◌, ◌≢◌, ◌∙◌, ◌<◌, false, arith, sym, subst, Some}
 use Rattle.path_checker.specs.Tables.{IsLineAt, line_count, name_at}
 use Rattle.path_checker.proofs.Iffs.{either, never}
-use Rattle.path_checker.proofs.Exchanging.{other_iff, other_leaves, turn_iff}
+use Rattle.path_checker.proofs.Exchanges.Exchanging.{other_iff, other_leaves, turn_iff}
 use Rattle.path_checker.proofs.exchange.is_exchange.Goals as goal
 
 pub returns-then-eq : goal.returns-then-eq

@@ -1,6 +1,6 @@
 use Rattle.std.proofs.Common.{◌∙◌, refl, sym}
 use Rattle.std.proofs.lemmas.List.{get_or_default}
-use Rattle.path_checker.proofs.Leading.{err_then, nothing_leaves, ok_then}
+use Rattle.path_checker.proofs.Exchanges.Leading.{err_then, nothing_leaves, ok_then}
 use Rattle.path_checker.proofs.exchange.solved_at.Goals as goal
 
 pub returns-in-Some-clause-next : goal.returns-in-Some-clause-next

@@ -3,8 +3,8 @@ use Rattle.std.proofs.lemmas.Result.{err_from_is_err_and}
 use Rattle.problem_core.specs.declared.parts.Side.TheVariants.{Over}
 use Rattle.problem_core.specs.Layout.{Row}
 use Rattle.path_checker.specs.declared.table.Inside.{Inside}
-use Rattle.path_checker.specs.FirstLines.{AreFirstLines}
-use Rattle.path_checker.proofs.FirstLines.{held_line, one_line_more}
+use Rattle.path_checker.specs.Walking.FirstLines.{AreFirstLines}
+use Rattle.path_checker.proofs.Walking.FirstLines.{held_line, one_line_more}
 use Rattle.path_checker.proofs.first.held_lines.Goals as goal
 
 pub loop-r-preserved : goal.loop-r-preserved

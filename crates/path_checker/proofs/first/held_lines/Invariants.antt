@@ -1,4 +1,4 @@
-use Rattle.path_checker.specs.FirstLines.{AreFirstLines}
+use Rattle.path_checker.specs.Walking.FirstLines.{AreFirstLines}
 use Rattle.path_checker.proofs.first.held_lines.Given as goal
 
 abbrev pub invariant-loop-r : goal.invariant-loop-r

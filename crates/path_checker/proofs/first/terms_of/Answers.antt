@@ -2,9 +2,9 @@ use Rattle.std.proofs.Common.{◌≡◌, ◌∙◌, ◌+◌, List, length, sym, 
 use Rattle.frac_core.specs.Fraction.{Fraction}
 use Rattle.problem_core.specs.declared.parts.Stay.{Stay}
 use Rattle.problem_core.specs.Layout.{Row}
-use Rattle.path_checker.specs.FirstLines.{IsTermsSum}
+use Rattle.path_checker.specs.Walking.FirstLines.{IsTermsSum}
 use Rattle.path_checker.specs.Tables.{line_count}
-use Rattle.path_checker.proofs.FirstLines.{count_lines, no_terms_yet, zero_is}
+use Rattle.path_checker.proofs.Walking.FirstLines.{count_lines, no_terms_yet, zero_is}
 use Rattle.path_checker.proofs.first.terms_of.Goals as goal
 
 pub loop-term-init : goal.loop-term-init

@@ -1,4 +1,4 @@
-use Rattle.path_checker.specs.FirstLines.{IsTermsSum}
+use Rattle.path_checker.specs.Walking.FirstLines.{IsTermsSum}
 use Rattle.path_checker.proofs.first.terms_of.Given as goal
 
 abbrev pub invariant-loop-term : goal.invariant-loop-term

@@ -1,10 +1,10 @@
 use Rattle.std.proofs.Common.{◌≡◌, ◌++◌, ◌+◌, ℕ, [], ◌∷◌, List, length, arith, sym, ap, subst, Option, None}
 use Rattle.problem_core.specs.declared.parts.Stay.{Stay}
 use Rattle.path_checker.specs.declared.table.Inside.{Inside}
-use Rattle.path_checker.specs.FirstLines.{AreFirstLines}
+use Rattle.path_checker.specs.Walking.FirstLines.{AreFirstLines}
 use Rattle.path_checker.specs.Route.{over_marks}
 use Rattle.path_checker.specs.Tables.{line_count}
-use Rattle.path_checker.proofs.FirstLines.{count_lines, first_are_lines, lines_sized, one_line_more, outside_line}
+use Rattle.path_checker.proofs.Walking.FirstLines.{count_lines, first_are_lines, lines_sized, one_line_more, outside_line}
 use Rattle.path_checker.proofs.first.with_stays.Goals as goal
 
 all_made : (c : goal.After-loop) → AreFirstLines c.args.p.now (line_count c.args.p.now) c.loop.out.items

@@ -1,5 +1,5 @@
 use Rattle.std.proofs.Common.{length, ◌+◌}
-use Rattle.path_checker.specs.FirstLines.{AreFirstLines}
+use Rattle.path_checker.specs.Walking.FirstLines.{AreFirstLines}
 use Rattle.path_checker.proofs.first.with_stays.Given as goal
 
 abbrev pub invariant-loop : goal.invariant-loop

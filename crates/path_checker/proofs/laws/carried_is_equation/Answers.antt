@@ -1,4 +1,4 @@
-use Rattle.path_checker.proofs.CarriedSums.{carried_is_equation}
+use Rattle.path_checker.proofs.Exchanges.CarriedSums.{carried_is_equation}
 use Rattle.path_checker.proofs.laws.carried_is_equation.Goals as goal
 
 pub returns : goal.returns

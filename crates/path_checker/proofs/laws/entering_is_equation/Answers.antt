@@ -1,4 +1,4 @@
-use Rattle.path_checker.proofs.EnteringLine.{entering_is_equation}
+use Rattle.path_checker.proofs.Exchanges.EnteringLine.{entering_is_equation}
 use Rattle.path_checker.proofs.laws.entering_is_equation.Goals as goal
 
 pub returns : goal.returns

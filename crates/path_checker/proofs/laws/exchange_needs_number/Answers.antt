@@ -1,4 +1,4 @@
-use Rattle.path_checker.proofs.Bringing.{exchange_needs_number}
+use Rattle.path_checker.proofs.Walking.Bringing.{exchange_needs_number}
 use Rattle.path_checker.proofs.laws.exchange_needs_number.Goals as goal
 
 pub returns : goal.returns

@@ -1,4 +1,4 @@
-use Rattle.path_checker.proofs.CarriedSums.{leaving_is_pivot}
+use Rattle.path_checker.proofs.Exchanges.CarriedSums.{leaving_is_pivot}
 use Rattle.path_checker.proofs.laws.leaving_is_pivot.Goals as goal
 
 pub returns : goal.returns

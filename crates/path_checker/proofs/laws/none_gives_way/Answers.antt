@@ -1,4 +1,4 @@
-use Rattle.path_checker.proofs.Bringing.{none_gives_way}
+use Rattle.path_checker.proofs.Walking.Bringing.{none_gives_way}
 use Rattle.path_checker.proofs.laws.none_gives_way.Goals as goal
 
 pub returns : goal.returns

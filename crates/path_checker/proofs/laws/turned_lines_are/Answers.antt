@@ -1,4 +1,4 @@
-use Rattle.path_checker.proofs.Turning.{turned_lines_are}
+use Rattle.path_checker.proofs.Exchanges.Turning.{turned_lines_are}
 use Rattle.path_checker.proofs.laws.turned_lines_are.Goals as goal
 
 pub returns : goal.returns

@@ -1,4 +1,4 @@
-use Rattle.path_checker.proofs.Unfits.{unfit_list_is_unfit}
+use Rattle.path_checker.proofs.Arithmetic.Unfits.{unfit_list_is_unfit}
 use Rattle.path_checker.proofs.laws.unfit_list_is_unfit.Goals as goal
 
 pub returns : goal.returns

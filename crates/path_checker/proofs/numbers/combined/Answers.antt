@@ -3,7 +3,7 @@ use Rattle.std.specs.Prelude.{slice_index_or}
 use Rattle.std.specs.Int.{w64, w128}
 use Rattle.std.proofs.lemmas.Int.{to_z-of_z}
 use Rattle.path_checker.specs.Numbers.{number_at}
-use Rattle.path_checker.proofs.LowestTerms.{combined_more, factor_product}
+use Rattle.path_checker.proofs.Arithmetic.LowestTerms.{combined_more, factor_product}
 use Rattle.path_checker.proofs.numbers.combined.Goals as goal
 
 pub both-requires-clause-left : goal.both-requires-clause-left

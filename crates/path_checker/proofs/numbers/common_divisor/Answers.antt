@@ -3,7 +3,7 @@ use Rattle.std.specs.Prelude.{unsigned_abs, slice_index_or}
 use Rattle.std.specs.Int.{w128, IsGcd}
 use Rattle.std.proofs.lemmas.Int.{to_z-of_z}
 use Rattle.std.proofs.lemmas.List.{take_all}
-use Rattle.path_checker.proofs.LowestTerms.{IsDivisorSoFar, divisor_starts, divisor_more}
+use Rattle.path_checker.proofs.Arithmetic.LowestTerms.{IsDivisorSoFar, divisor_starts, divisor_more}
 use Rattle.path_checker.proofs.numbers.common_divisor.Goals as goal
 
 pub loop-number-init : goal.loop-number-init

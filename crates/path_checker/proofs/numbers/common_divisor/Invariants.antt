@@ -1,5 +1,5 @@
 use Rattle.std.proofs.Common.{take}
-use Rattle.path_checker.proofs.LowestTerms.{IsDivisorSoFar}
+use Rattle.path_checker.proofs.Arithmetic.LowestTerms.{IsDivisorSoFar}
 use Rattle.path_checker.proofs.numbers.common_divisor.Given as goal
 
 abbrev pub invariant-loop-number : goal.invariant-loop-number

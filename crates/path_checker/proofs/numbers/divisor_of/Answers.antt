@@ -1,7 +1,7 @@
 use Rattle.std.proofs.Common.{arith}
 use Rattle.std.specs.Int.{w128}
 use Rattle.std.proofs.lemmas.Int.{to_z-of_z, to_z_pos}
-use Rattle.path_checker.proofs.LowestTerms.{common_is}
+use Rattle.path_checker.proofs.Arithmetic.LowestTerms.{common_is}
 use Rattle.path_checker.proofs.numbers.divisor_of.Goals as goal
 
 pub returns : goal.returns

@@ -5,7 +5,7 @@ use Rattle.std.proofs.lemmas.Int.{to_z-of_z}
 use Rattle.std.proofs.lemmas.Result.{err_from_is_err_and}
 use Rattle.frac_core.specs.declared.frac.TheConstants.{PART_BOUND}
 use Rattle.path_checker.specs.Numbers.{IsCommonDivisor, HasTooLarge}
-use Rattle.path_checker.proofs.LowestTerms.{divided_lowest, unfit_own, unfit_part}
+use Rattle.path_checker.proofs.Arithmetic.LowestTerms.{divided_lowest, unfit_own, unfit_part}
 use Rattle.path_checker.proofs.numbers.in_lowest_terms.Goals as goal
 
 pub fitting_quotient-requires-clause-divides : goal.fitting_quotient-requires-clause-divides

@@ -3,8 +3,9 @@ use Rattle.std.specs.Int.{w128}
 use Rattle.std.specs.Ordering.{int_cmp}
 use Rattle.std.proofs.lemmas.Int.{to_z-of_z}
 use Rattle.frac_core.proofs.Integers.{zero-add_ℤ}
-use Rattle.path_checker.proofs.Moves.{moved_order, neg_fits, positive_product}
+use Rattle.path_checker.proofs.Arithmetic.Moves.{moved_order, neg_fits}
 use Rattle.path_checker.proofs.numbers.moved_sign.Goals as goal
+use Rattle.frac_core.proofs.Numbers.{product-up as positive_product}
 
 pub cmp_wide-requires-clause-d : goal.cmp_wide-requires-clause-d
 cmp_wide-requires-clause-d c =

@@ -5,7 +5,7 @@ use Rattle.std.proofs.lemmas.Int.{to_z-of_z}
 use Rattle.std.proofs.lemmas.List.{take_all}
 use Rattle.std.proofs.lemmas.List.Elements.{All-push}
 use Rattle.frac_core.specs.Fraction.{IsFitting}
-use Rattle.path_checker.proofs.LowestTerms.{quotients_more}
+use Rattle.path_checker.proofs.Arithmetic.LowestTerms.{quotients_more}
 use Rattle.path_checker.proofs.numbers.quotients.Goals as goal
 
 pub fitting_quotient-requires-clause-divides : goal.fitting_quotient-requires-clause-divides

@@ -3,7 +3,7 @@ use Rattle.std.proofs.lemmas.Bool.{cases_eq}
 use Rattle.path_checker.specs.declared.spots.Spot.{Spot}
 use Rattle.path_checker.specs.Route.{MayGiveWay}
 use Rattle.path_checker.specs.Tables.{line_count, mark_of, name_at}
-use Rattle.path_checker.proofs.GivingWay.{first_gives, no_line_gives}
+use Rattle.path_checker.proofs.Walking.GivingWay.{first_gives, no_line_gives}
 use Rattle.path_checker.proofs.route.bringing_in.Goals as goal
 
 pub returns-in-Some-clause-some : goal.returns-in-Some-clause-some

@@ -1,5 +1,5 @@
 use Rattle.std.proofs.Common.{ℕ, ◌<◌}
-use Rattle.path_checker.specs.Bringing.{NoneGives}
+use Rattle.path_checker.specs.Walking.Bringing.{NoneGives}
 use Rattle.path_checker.proofs.route.bringing_in.Given as goal
 
 abbrev pub invariant-loop-at : goal.invariant-loop-at

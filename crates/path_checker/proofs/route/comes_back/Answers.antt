@@ -2,7 +2,7 @@ use Rattle.std.proofs.Common.{◌≡◌, ◌∙◌, ◌++◌, List, Option, Any,
 use Rattle.problem_core.specs.declared.parts.Side.{Side}
 use Rattle.path_checker.specs.Sides.{walk}
 use Rattle.path_checker.proofs.Iffs.{always, right_then, wrong_then}
-use Rattle.path_checker.proofs.Walks.{goes_on, reaches, settled}
+use Rattle.path_checker.proofs.MarkSides.Walks.{goes_on, reaches, settled}
 use Rattle.path_checker.proofs.route.comes_back.Goals as goal
 
 pub returns-then-is_same : goal.returns-then-is_same

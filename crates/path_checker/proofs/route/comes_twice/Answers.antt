@@ -2,7 +2,7 @@ use Rattle.std.proofs.Common.{◌≡◌, ◌∙◌, ◌++◌, List, Option, Any,
 use Rattle.problem_core.specs.declared.parts.Side.{Side}
 use Rattle.path_checker.specs.Sides.{ComesTwice, walk}
 use Rattle.path_checker.proofs.Iffs.{always, right_then, wrong_then}
-use Rattle.path_checker.proofs.Walks.{comes_now, settled, twice_on}
+use Rattle.path_checker.proofs.MarkSides.Walks.{comes_now, settled, twice_on}
 use Rattle.path_checker.proofs.route.comes_twice.Goals as goal
 
 pub returns-then-back : goal.returns-then-back

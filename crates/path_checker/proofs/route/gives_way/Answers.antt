@@ -3,7 +3,7 @@ use Rattle.std.specs.Prelude.{slice_index_or}
 use Rattle.problem_core.specs.declared.parts.Side.{Side}
 use Rattle.problem_core.specs.Corners.{IsExchange}
 use Rattle.path_checker.specs.Tables.{IsLineAt, line_count, name_at, swap_of}
-use Rattle.path_checker.proofs.GivingWay.{is_unwanted, outside_stays, side_gives, wanted_stays, way_at}
+use Rattle.path_checker.proofs.Walking.GivingWay.{is_unwanted, outside_stays, side_gives, wanted_stays, way_at}
 use Rattle.path_checker.proofs.Iffs.{right_then, wrong_then}
 use Rattle.path_checker.proofs.route.gives_way.Goals as goal
 

@@ -1,4 +1,4 @@
-use Rattle.path_checker.proofs.Walks.{moved_length}
+use Rattle.path_checker.proofs.MarkSides.Walks.{moved_length}
 use Rattle.path_checker.proofs.route.moved.Goals as goal
 
 pub returns-clause-count : goal.returns-clause-count

@@ -3,9 +3,9 @@ use Rattle.std.proofs.lemmas.List.{take_more}
 use Rattle.problem_core.specs.declared.parts.Side.{Side}
 use Rattle.problem_core.specs.declared.parts.Mark.{Mark}
 use Rattle.problem_core.specs.Corners.{IsCorner, place}
-use Rattle.path_checker.proofs.TakenMarks.{apart_more}
+use Rattle.path_checker.proofs.MarkSides.TakenMarks.{apart_more}
 use Rattle.path_checker.specs.Tables.{AreSides}
-use Rattle.path_checker.proofs.Walks.{settled, split_there}
+use Rattle.path_checker.proofs.MarkSides.Walks.{settled, split_there}
 use Rattle.path_checker.proofs.route.sides_of.Goals as goal
 
 pub returns-then-not-take_mark-clause-none : goal.returns-then-not-take_mark-clause-none

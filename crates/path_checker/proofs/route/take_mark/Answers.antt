@@ -1,7 +1,7 @@
 use Rattle.std.proofs.Common.{◌≡◌, true, false, true≢false, Option, None, Some, is_some, rules, refl, sym}
 use Rattle.std.specs.Prelude.{slice_index_or}
 use Rattle.problem_core.specs.declared.parts.Side.{Side}
-use Rattle.path_checker.proofs.TakenMarks.{no_line, one_more_taken, taken_line, was_free}
+use Rattle.path_checker.proofs.MarkSides.TakenMarks.{no_line, one_more_taken, taken_line, was_free}
 use Rattle.path_checker.proofs.route.take_mark.Goals as goal
 
 some_of : (o : Option Side) → is_some o ≡ true → (side : Side) × (o ≡ Some side)

@@ -3,7 +3,7 @@ use Rattle.std.proofs.lemmas.Bool.{cases_eq}
 use Rattle.std.proofs.lemmas.List.{get_or_default}
 use Rattle.path_checker.specs.Tables.{IsLineAt, line_count, name_at}
 use Rattle.path_checker.proofs.Iffs.{always, never, right_then, wrong_then}
-use Rattle.path_checker.proofs.ValueSigns.{all_up, judged_all}
+use Rattle.path_checker.proofs.Arithmetic.ValueSigns.{all_up, judged_all}
 use Rattle.path_checker.proofs.signs.has_no_negative_value.Goals as goal
 
 pub returns-then-not-is_up : goal.returns-then-not-is_up

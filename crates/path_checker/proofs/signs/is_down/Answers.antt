@@ -1,5 +1,5 @@
 use Rattle.path_checker.proofs.Iffs.{not_then}
-use Rattle.path_checker.proofs.ValueSigns.{down_iff}
+use Rattle.path_checker.proofs.Arithmetic.ValueSigns.{down_iff}
 use Rattle.path_checker.proofs.signs.is_down.Goals as goal
 
 pub returns : goal.returns

@@ -1,7 +1,7 @@
 use Rattle.std.proofs.Common.{Some, subst}
 use Rattle.path_checker.specs.Tables.{IsLineAt}
 use Rattle.path_checker.proofs.Iffs.{through}
-use Rattle.path_checker.proofs.ValueSigns.{value_sign}
+use Rattle.path_checker.proofs.Arithmetic.ValueSigns.{value_sign}
 use Rattle.path_checker.proofs.signs.is_up.Goals as goal
 
 pub returns-in-Some : goal.returns-in-Some

@@ -4,8 +4,8 @@ use Rattle.path_checker.specs.declared.table.Inside.{Inside}
 use Rattle.path_checker.specs.declared.spots.Spot.{Spot}
 use Rattle.path_checker.specs.Sides.{IsWithin}
 use Rattle.path_checker.specs.Tables.{line_count}
-use Rattle.path_checker.specs.Bringing.{IsBringing, NothingBrings}
-use Rattle.path_checker.proofs.WayLines.{bring_stuck, brings_in, brings_nothing, err_says, ok_says}
+use Rattle.path_checker.specs.Walking.Bringing.{IsBringing, NothingBrings}
+use Rattle.path_checker.proofs.Walking.WayLines.{bring_stuck, brings_in, brings_nothing, err_says, ok_says}
 use Rattle.path_checker.proofs.way.brought.Goals as goal
 
 step_within : (c : goal.After-kept_after) → IsWithin (line_count c.args.p.now) c.in-Some.step

@@ -1,10 +1,10 @@
 use Rattle.std.proofs.Common.{◌≡◌, ◌++◌, ◌+◌, ℕ, [], ◌∷◌, List, length, arith, sym, ap, subst, Option, None}
 use Rattle.problem_core.specs.declared.parts.Side.{Side}
 use Rattle.problem_core.specs.declared.parts.Stay.{Stay}
-use Rattle.path_checker.specs.Ways.{AreFirstSides}
+use Rattle.path_checker.specs.Walking.Ways.{AreFirstSides}
 use Rattle.path_checker.specs.Tables.{line_count}
-use Rattle.path_checker.proofs.FirstLines.{count_lines}
-use Rattle.path_checker.proofs.WayBegins.{any_stay, one_side_more, stay_none}
+use Rattle.path_checker.proofs.Walking.FirstLines.{count_lines}
+use Rattle.path_checker.proofs.Walking.WayBegins.{any_stay, one_side_more, stay_none}
 use Rattle.path_checker.proofs.way.first_sides.Goals as goal
 
 pub loop-preserved : goal.loop-preserved

@@ -1,5 +1,5 @@
 use Rattle.std.proofs.Common.{length, ◌+◌}
-use Rattle.path_checker.specs.Ways.{AreFirstSides}
+use Rattle.path_checker.specs.Walking.Ways.{AreFirstSides}
 use Rattle.path_checker.proofs.way.first_sides.Given as goal
 
 abbrev pub invariant-loop : goal.invariant-loop

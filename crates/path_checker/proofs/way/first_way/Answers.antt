@@ -1,5 +1,5 @@
 use Rattle.std.proofs.Common.{refl, None}
-use Rattle.path_checker.proofs.WayBegins.{way_begins}
+use Rattle.path_checker.proofs.Walking.WayBegins.{way_begins}
 use Rattle.path_checker.proofs.way.first_way.Goals as goal
 
 pub returns-clause-way : goal.returns-clause-way

@@ -1,12 +1,12 @@
 use Rattle.std.proofs.Common.{◌≡◌, ◌∙◌, ◌+◌, ◌<◌, List, length, get_or, take, refl, sym, ap, subst, rules, nat_eq, false}
 use Rattle.std.proofs.lemmas.Result.{err_from_is_err_and}
 use Rattle.problem_core.specs.Corners.{IsExchange, Swap}
-use Rattle.problem_core.specs.Paths.{last_marks}
+use Rattle.problem_core.specs.Changes.Paths.{last_marks}
 use Rattle.path_checker.specs.declared.spots.Step.{Step}
 use Rattle.path_checker.specs.Tables.{AreLines, swap_of}
-use Rattle.path_checker.proofs.Following.{IsFollowed, corner_there, follow_begins, followed_more, further_on, no_exchange_here, no_room_after, no_room_before, no_step, not_last, step_is, swap_stuck}
+use Rattle.path_checker.proofs.Walking.Following.{IsFollowed, corner_there, follow_begins, followed_more, further_on, no_exchange_here, no_room_after, no_room_before, no_step, not_last, step_is, swap_stuck}
 use Rattle.path_checker.proofs.Iffs.{right_then, wrong_then}
-use Rattle.path_checker.proofs.WayLines.{err_says, ok_says}
+use Rattle.path_checker.proofs.Walking.WayLines.{err_says, ok_says}
 use Rattle.path_checker.proofs.way.follow.Goals as goal
 
 pub returns-in_err-lines-clause-stop : goal.returns-in_err-lines-clause-stop

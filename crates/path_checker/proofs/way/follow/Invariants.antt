@@ -1,4 +1,4 @@
-use Rattle.path_checker.proofs.Following.{IsFollowed}
+use Rattle.path_checker.proofs.Walking.Following.{IsFollowed}
 use Rattle.path_checker.proofs.way.follow.Given as goal
 
 abbrev pub invariant-loop-at : goal.invariant-loop-at

@@ -2,8 +2,8 @@ use Rattle.std.proofs.Common.{◌+◌, ◌<◌, List, length, sym, subst, Option
 use Rattle.problem_core.specs.declared.parts.Side.{Side}
 use Rattle.problem_core.specs.declared.parts.Side.TheVariants.{Over}
 use Rattle.problem_core.specs.Layout.{Row}
-use Rattle.path_checker.specs.Ways.{AreFirstSides}
-use Rattle.path_checker.proofs.WayBegins.{any_row, held_over, one_side_more}
+use Rattle.path_checker.specs.Walking.Ways.{AreFirstSides}
+use Rattle.path_checker.proofs.Walking.WayBegins.{any_row, held_over, one_side_more}
 use Rattle.path_checker.proofs.way.held_sides.Goals as goal
 
 pub loop-preserved : goal.loop-preserved

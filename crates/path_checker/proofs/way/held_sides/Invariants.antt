@@ -1,4 +1,4 @@
-use Rattle.path_checker.specs.Ways.{AreFirstSides}
+use Rattle.path_checker.specs.Walking.Ways.{AreFirstSides}
 use Rattle.path_checker.proofs.way.held_sides.Given as goal
 
 abbrev pub invariant-loop : goal.invariant-loop

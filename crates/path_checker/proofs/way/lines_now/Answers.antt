@@ -1,5 +1,5 @@
-use Rattle.path_checker.proofs.Leading.{err_then, ok_then}
-use Rattle.path_checker.proofs.WayLines.{lines_first, stuck_after}
+use Rattle.path_checker.proofs.Exchanges.Leading.{err_then, ok_then}
+use Rattle.path_checker.proofs.Walking.WayLines.{lines_first, stuck_after}
 use Rattle.path_checker.proofs.way.lines_now.Goals as goal
 
 pub returns-in-Some-clause-unfit : goal.returns-in-Some-clause-unfit

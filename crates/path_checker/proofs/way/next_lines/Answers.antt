@@ -1,5 +1,5 @@
-use Rattle.path_checker.proofs.Leading.{err_then}
-use Rattle.path_checker.proofs.WayLines.{err_says}
+use Rattle.path_checker.proofs.Exchanges.Leading.{err_then}
+use Rattle.path_checker.proofs.Walking.WayLines.{err_says}
 use Rattle.path_checker.proofs.way.next_lines.Goals as goal
 
 pub returns-clause-stop : goal.returns-clause-stop

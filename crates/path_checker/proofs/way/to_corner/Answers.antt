@@ -1,6 +1,6 @@
 use Rattle.std.proofs.Common.{arith}
 use Rattle.std.proofs.lemmas.Result.{err_from_is_err_and}
-use Rattle.path_checker.proofs.WayBegins.{next_mark, no_spot, way_more}
+use Rattle.path_checker.proofs.Walking.WayBegins.{next_mark, no_spot, way_more}
 use Rattle.path_checker.proofs.way.to_corner.Goals as goal
 
 pub returns-in_default-clause-stop : goal.returns-in_default-clause-stop

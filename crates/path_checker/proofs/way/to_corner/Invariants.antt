@@ -1,6 +1,6 @@
 use Rattle.std.proofs.Common.{take, drop, ◌≤◌}
 use Rattle.path_checker.specs.Tables.{line_count}
-use Rattle.path_checker.specs.Ways.{IsUsableWay, IsWayAt}
+use Rattle.path_checker.specs.Walking.Ways.{IsUsableWay, IsWayAt}
 use Rattle.path_checker.proofs.way.to_corner.Given as goal
 
 abbrev pub invariant-loop-mark : goal.invariant-loop-mark

@@ -4,7 +4,7 @@ use Rattle.std.proofs.lemmas.List.{get_or_default}
 use Rattle.std.proofs.lemmas.Result.{err_from_is_err_and}
 use Rattle.path_checker.specs.declared.way.Kept.{Kept}
 use Rattle.path_checker.proofs.Iffs.{right_then, wrong_then}
-use Rattle.path_checker.proofs.WaySteps.{mark_came, mark_stopped, mark_was_inside}
+use Rattle.path_checker.proofs.Walking.WaySteps.{mark_came, mark_stopped, mark_was_inside}
 use Rattle.path_checker.proofs.way.with_mark.Goals as goal
 
 pub returns-then-is_one-clause-next : goal.returns-then-is_one-clause-next

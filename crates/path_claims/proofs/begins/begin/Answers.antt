@@ -4,8 +4,9 @@ use Rattle.path_checker.specs.Route.{over_marks}
 use Rattle.path_claims.specs.FirstSums.{AreMade, AreMadeUntil}
 use Rattle.path_levels.specs.Levels.{AreSizedLevels}
 use Rattle.path_levels.specs.Rows.{AreKept, IsLevelsStop}
-use Rattle.path_claims.proofs.BegunParts.{begun_until_rows, begun_until_terms, begun_whole, frame_count, kept_there}
+use Rattle.path_claims.proofs.Beginning.BegunParts.{begun_until_rows, begun_until_terms, begun_whole, kept_there}
 use Rattle.path_claims.proofs.begins.begin.Goals as goal
+use Rattle.path_claims.proofs.StationTables.{outline_long as outline_count}
 
 pub returns-in-Some : goal.returns-in-Some
 returns-in-Some c =
@@ -14,22 +15,22 @@ returns-in-Some c =
 
 pub first_levels-requires-clause-count : goal.first_levels-requires-clause-count
 first_levels-requires-clause-count c =
-    ap (λ (ls : List (Option Inside)). length ls) c.deref.ensures.value ∙ c.in_ok-lines.ensures.count ∙ sym (frame_count c.args.p.now c.args.frame.now c.requires.frame)
+    ap (λ (ls : List (Option Inside)). length ls) c.deref.ensures.value ∙ c.in_ok-lines.ensures.count ∙ sym (outline_count c.args.p.now c.args.outline.now c.requires.outline)
 
 pub returns-in-Ok : goal.returns-in-Ok
 returns-in-Ok c =
     let made : AreMade c.args.p.now (length c.args.p.now.rows) c.in_ok-made.made.lines.items = subst (AreMadeUntil c.args.p.now c.in_ok-made.made.lines.items) c.in_default.is c.in_ok-made.ensures in
-    let kept : AreKept c.args.p.now (over_marks c.args.p.now) c.args.frame.now c.deref.result.now =
-    subst (AreKept c.args.p.now (over_marks c.args.p.now) c.args.frame.now) (sym c.deref.ensures.value) (kept_there c.args.p.now c.args.frame.now c.in_ok-lines.lines.items c.show_whole.ensures c.requires.frame c.in_ok-lines.ensures.lines) in
-    begun_whole c.args.p.now c.args.frame.now c.in_ok-made.made.lines.items c.in_ok-lines.lines.items c.in-Ok.levels.items c.show_whole.ensures c.requires.frame made c.in_ok-lines.ensures.sized c.in_ok-lines.ensures.lines
+    let kept : AreKept c.args.p.now (over_marks c.args.p.now) c.args.outline.now c.deref.result.now =
+    subst (AreKept c.args.p.now (over_marks c.args.p.now) c.args.outline.now) (sym c.deref.ensures.value) (kept_there c.args.p.now c.args.outline.now c.in_ok-lines.lines.items c.show_whole.ensures c.requires.outline c.in_ok-lines.ensures.lines) in
+    begun_whole c.args.p.now c.args.outline.now c.in_ok-made.made.lines.items c.in_ok-lines.lines.items c.in-Ok.levels.items c.show_whole.ensures c.requires.outline made c.in_ok-lines.ensures.sized c.in_ok-lines.ensures.lines
     (subst (λ (ls : List (Option Inside)). AreSizedLevels (length ls) c.in-Ok.levels.items) c.deref.ensures.value c.in-Ok.ensures.sized) c.in-Ok.ensures.count
     (c.in-Ok.ensures.levels c.args.p.now (over_marks c.args.p.now) kept) (c.in-Ok.ensures.fits c.args.p.now (over_marks c.args.p.now) kept)
 
 pub returns-in-Err-Refused : goal.returns-in-Err-Refused
 returns-in-Err-Refused c =
     let made : AreMade c.args.p.now (length c.args.p.now.rows) c.in_ok-made.made.lines.items = subst (AreMadeUntil c.args.p.now c.in_ok-made.made.lines.items) c.in_default.is c.in_ok-made.ensures in
-    let kept : AreKept c.args.p.now (over_marks c.args.p.now) c.args.frame.now c.deref.result.now =
-    subst (AreKept c.args.p.now (over_marks c.args.p.now) c.args.frame.now) (sym c.deref.ensures.value) (kept_there c.args.p.now c.args.frame.now c.in_ok-lines.lines.items c.show_whole.ensures c.requires.frame c.in_ok-lines.ensures.lines) in
-    let stop = subst (IsLevelsStop c.args.frame.now c.deref.result.now) c.in-Err-Refused.field-0-is c.in-Err-Refused.ensures.unfit in
+    let kept : AreKept c.args.p.now (over_marks c.args.p.now) c.args.outline.now c.deref.result.now =
+    subst (AreKept c.args.p.now (over_marks c.args.p.now) c.args.outline.now) (sym c.deref.ensures.value) (kept_there c.args.p.now c.args.outline.now c.in_ok-lines.lines.items c.show_whole.ensures c.requires.outline c.in_ok-lines.ensures.lines) in
+    let stop = subst (IsLevelsStop c.args.outline.now c.deref.result.now) c.in-Err-Refused.field-0-is c.in-Err-Refused.ensures.unfit in
     begun_until_rows c.args.p.now c.in_ok-made.made.lines.items c.in_ok-lines.lines.items c.in-Err-Refused.rows.level c.in-Err-Refused.rows.first c.show_whole.ensures made c.in_ok-lines.ensures.lines
     (stop c.args.p.now (over_marks c.args.p.now) kept)

@@ -6,7 +6,7 @@ use Rattle.path_claims.proofs.check.judged.Goals as goal
 
 pub returns-in-Some-step : goal.returns-in-Some-step
 returns-in-Some-step c =
-    subst (λ (o : Option Quantity). IfOk c.verdict_after.result (IsPathVerdict c.args.claim.p.now c.args.claim.path.now o)) (sym c.in-Some.is) c.verdict_after.ensures
+    subst (λ (o : Option Quantity). IfOk c.verdict_after.result (IsPathVerdict c.args.case.p.now c.args.case.path.now o)) (sym c.in-Some.is) c.verdict_after.ensures
 
 pub check_at_start-requires-clause-marks : goal.check_at_start-requires-clause-marks
-check_at_start-requires-clause-marks c = at_start_marks c.args.claim.p.now c.args.claim.path.now c.args.claim.frame.now c.in-Ok-walk.walked.station c.in-Ok-walk.ensures.arrived c.in-None.is
+check_at_start-requires-clause-marks c = at_start_marks c.args.case.p.now c.args.case.path.now c.args.case.outline.now c.in-Ok-walk.walked.station c.in-Ok-walk.ensures.arrived c.in-None.is

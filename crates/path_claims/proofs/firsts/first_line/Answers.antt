@@ -1,7 +1,7 @@
 use Rattle.std.proofs.Common.{◌+◌, List, length, ap}
 use Rattle.path_checker.proofs.Stops.{is_refused}
 use Rattle.problem_core.specs.declared.parts.Term.{Term}
-use Rattle.path_claims.proofs.FirstSums.{last_is_first, sums_fit}
+use Rattle.path_claims.proofs.Beginning.FirstSums.{last_is_first, sums_fit}
 use Rattle.path_claims.proofs.firsts.first_line.Goals as goal
 
 pub returns-in-Ok-clause-fit : goal.returns-in-Ok-clause-fit

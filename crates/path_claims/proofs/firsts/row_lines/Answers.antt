@@ -2,7 +2,7 @@ use Rattle.std.proofs.Common.{◌∙◌, ◌+◌, ◌<◌, List, length, get_or,
 use Rattle.problem_core.specs.Layout.{Row}
 use Rattle.path_checker.specs.declared.table.Inside.{Inside}
 use Rattle.path_claims.specs.FirstSums.{AreMade}
-use Rattle.path_claims.proofs.FirstSums.{one_more_made}
+use Rattle.path_claims.proofs.Beginning.FirstSums.{one_more_made}
 use Rattle.path_claims.proofs.firsts.row_lines.Goals as goal
 
 pub loop-r-preserved : goal.loop-r-preserved

@@ -1,9 +1,9 @@
 use Rattle.std.proofs.Common.{◌≡◌, ◌+◌, ◌<◌, ℕ, List, length, get_or, pos, refl, sym, ap, subst, arith}
 use Rattle.problem_core.specs.declared.parts.Term.{Term}
 use Rattle.problem_core.specs.Layout.{HasStay}
-use Rattle.path_checker.proofs.FirstLines.{zero_is}
+use Rattle.path_checker.proofs.Walking.FirstLines.{zero_is}
 use Rattle.path_claims.specs.FirstSums.{DoFitBefore, IsTermsValue, IsUnfitSum}
-use Rattle.path_claims.proofs.FirstSums.{no_terms_value, none_before, one_more_fits, term_has_stay, value_fits}
+use Rattle.path_claims.proofs.Beginning.FirstSums.{no_terms_value, none_before, one_more_fits, term_has_stay, value_fits}
 use Rattle.path_claims.proofs.firsts.unfit_terms.Goals as goal
 
 abbrev no_term : Term

@@ -2,17 +2,17 @@ use Rattle.std.proofs.Common.{◌≡◌, ap, List, length, subst, arith}
 use Rattle.problem_core.specs.declared.parts.Mark.{Mark}
 use Rattle.problem_core.specs.declared.parts.Stay.{Stay}
 use Rattle.problem_core.specs.Layout.{Row}
-use Rattle.path_checker.proofs.FirstLines.{count_lines}
-use Rattle.path_checker.proofs.Leading.{ok_then}
+use Rattle.path_checker.proofs.Walking.FirstLines.{count_lines}
+use Rattle.path_checker.proofs.Exchanges.Leading.{ok_then}
 use Rattle.path_checker.proofs.Stops.{is_refused}
 use Rattle.path_claims.specs.Fits.{IsFitAt}
-use Rattle.path_levels.specs.Turns.{IsTurnPivot}
-use Rattle.path_claims.proofs.SignsAfter.{same_next}
+use Rattle.path_levels.specs.Exchanges.Pivots.{IsExchangePivot}
+use Rattle.path_claims.proofs.LastCorner.SignsAfter.{same_next}
 use Rattle.path_claims.proofs.last.fit_after.Goals as goal
 
 pub returns-in-Ok : goal.returns-in-Ok
 returns-in-Ok c = ok_then c.quantity_fit.result (λ fit h at is.
-    let turn : IsTurnPivot c.args.p.now at c.in-Ok.pivot = c.in-Ok.ensures.pivot c.args.p.now at is.kept.there is.kept.lines_are is.exchange in
+    let turn : IsExchangePivot c.args.p.now at c.in-Ok.pivot = c.in-Ok.ensures.pivot c.args.p.now at is.kept.there is.kept.lines_are is.exchange in
     subst (λ (next : List Mark). IsFitAt c.args.p.now next c.args.named fit) (same_next c.args.p.now c.args.last c.in-Ok.pivot at c.in-Ok.ensures.step) (h at is turn)) c.quantity_fit.ensures
 
 pub returns-then-last-rows : goal.returns-then-last-rows

@@ -1,11 +1,11 @@
 use Rattle.path_checker.proofs.Stops.{is_refused}
-use Rattle.path_levels.specs.Turns.{IsTurnPivot}
-use Rattle.path_claims.proofs.SignsAfter.{before_iff}
+use Rattle.path_levels.specs.Exchanges.Pivots.{IsExchangePivot}
+use Rattle.path_claims.proofs.LastCorner.SignsAfter.{before_iff}
 use Rattle.path_claims.proofs.last.has_no_negative_before_after.Goals as goal
 
 pub returns-in-Ok : goal.returns-in-Ok
 returns-in-Ok c = λ p at id is judged.
-    let turn : IsTurnPivot p at c.in-Ok.pivot = c.in-Ok.ensures.pivot p at is.kept.there is.kept.lines_are is.exchange in
+    let turn : IsExchangePivot p at c.in-Ok.pivot = c.in-Ok.ensures.pivot p at is.kept.there is.kept.lines_are is.exchange in
     before_iff p at c.args.last c.in-Ok.pivot id c.args.judged c.args.rows c.are_up_after.result turn c.in-Ok.ensures.step judged (c.are_up_after.ensures p at turn is.kept.lines_are)
 
 pub returns-in-Err-Refused : goal.returns-in-Err-Refused

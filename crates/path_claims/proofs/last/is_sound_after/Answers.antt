@@ -1,10 +1,10 @@
 use Rattle.std.proofs.Common.{◌≡◌, ◌↔◌, Bool, IsTrue, true, false, sym, subst, rules}
-use Rattle.problem_core.specs.Paths.{IsSound}
-use Rattle.path_checker.proofs.Leading.{ok_then}
+use Rattle.problem_core.specs.Changes.Paths.{IsSound}
+use Rattle.path_checker.proofs.Exchanges.Leading.{ok_then}
 use Rattle.path_checker.proofs.Stops.{is_refused}
 use Rattle.path_claims.specs.Fits.{marks_after}
-use Rattle.path_levels.specs.Turns.{IsTurnPivot}
-use Rattle.path_claims.proofs.SignsAfter.{sound_iff}
+use Rattle.path_levels.specs.Exchanges.Pivots.{IsExchangePivot}
+use Rattle.path_claims.proofs.LastCorner.SignsAfter.{sound_iff}
 use Rattle.path_claims.proofs.last.is_sound_after.Goals as goal
 
 pub returns-then-dual : goal.returns-then-dual
@@ -15,7 +15,7 @@ returns-then-dual c =
 pub returns-in-Ok : goal.returns-in-Ok
 returns-in-Ok c = λ p at is.
     let primal : c.args.dual ≡ false = search rules in
-    let turn : IsTurnPivot p at c.in-Ok.pivot = c.in-Ok.ensures.pivot p at is.kept.there is.kept.lines_are is.exchange in
+    let turn : IsExchangePivot p at c.in-Ok.pivot = c.in-Ok.ensures.pivot p at is.kept.there is.kept.lines_are is.exchange in
     sound_iff p at c.args.last c.in-Ok.pivot _ _ c.args.dual c.are_up_after.result primal turn c.in-Ok.ensures.step is.kept.lines_are.count (c.are_up_after.ensures p at turn is.kept.lines_are)
 
 pub returns-in-Err-Refused : goal.returns-in-Err-Refused

@@ -4,8 +4,8 @@ use Rattle.problem_core.specs.declared.stops.What.{What}
 use Rattle.problem_core.specs.declared.stops.Quantity.{Quantity}
 use Rattle.problem_core.specs.declared.stops.Quantity.TheVariants.{Plain, Shifts}
 use Rattle.problem_core.specs.Layout.{Problem}
-use Rattle.path_checker.specs.Pivots.{next_marks}
-use Rattle.path_checker.proofs.Leading.{ok_then}
+use Rattle.path_checker.specs.Exchanges.Pivots.{next_marks}
+use Rattle.path_checker.proofs.Exchanges.Leading.{ok_then}
 use Rattle.path_claims.specs.declared.last.Fit.{Fit}
 use Rattle.path_claims.specs.declared.last.Fit.TheVariants.{Fits, Unfit, NoRoom}
 use Rattle.path_claims.specs.Fits.{IsFitAt}

@@ -3,10 +3,10 @@ use Rattle.problem_core.specs.declared.parts.Mark.{Mark}
 use Rattle.problem_core.specs.declared.stops.What.{What}
 use Rattle.problem_core.specs.declared.stops.What.TheVariants.{Level as LevelOf}
 use Rattle.problem_core.specs.declared.stops.Quantity.TheVariants.{Plain}
-use Rattle.path_checker.specs.Pivots.{next_marks}
-use Rattle.path_checker.proofs.Leading.{ok_then}
+use Rattle.path_checker.specs.Exchanges.Pivots.{next_marks}
+use Rattle.path_checker.proofs.Exchanges.Leading.{ok_then}
 use Rattle.path_claims.specs.Fits.{IsFitAt}
-use Rattle.path_claims.proofs.SignsAfter.{same_next}
+use Rattle.path_claims.proofs.LastCorner.SignsAfter.{same_next}
 use Rattle.path_claims.proofs.last.what_fit.Goals as goal
 
 pub returns-in-Attr : goal.returns-in-Attr

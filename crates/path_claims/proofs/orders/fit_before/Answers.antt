@@ -1,6 +1,6 @@
 use Rattle.std.proofs.Common.{◌≢◌, rules}
 use Rattle.path_checker.proofs.Iffs.{wrong_then}
-use Rattle.path_claims.proofs.SumOrders.{placed_after}
+use Rattle.path_claims.proofs.Beginning.SumOrders.{placed_after}
 use Rattle.path_claims.proofs.orders.fit_before.Goals as goal
 
 pub returns-else-is_before : goal.returns-else-is_before

@@ -1,4 +1,4 @@
-use Rattle.path_claims.proofs.SumOrders.{judged_of}
+use Rattle.path_claims.proofs.Beginning.SumOrders.{judged_of}
 use Rattle.path_claims.proofs.orders.judged_rows.Goals as goal
 
 pub returns-in-Held : goal.returns-in-Held

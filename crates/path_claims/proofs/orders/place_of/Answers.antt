@@ -1,4 +1,4 @@
-use Rattle.path_claims.proofs.SumOrders.{no_over_place}
+use Rattle.path_claims.proofs.Beginning.SumOrders.{no_over_place}
 use Rattle.path_claims.proofs.orders.place_of.Goals as goal
 
 pub returns-in_err-at-in-Terms-clause-none : goal.returns-in_err-at-in-Terms-clause-none

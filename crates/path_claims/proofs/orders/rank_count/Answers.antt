@@ -1,6 +1,6 @@
 use Rattle.std.proofs.Common.{◌≡◌, ◌∙◌, nat_eq, List, length, filter, take_all, ap, arith}
 use Rattle.problem_core.specs.Layout.{Row}
-use Rattle.path_claims.proofs.SumOrders.{rank_size}
+use Rattle.path_claims.proofs.Beginning.SumOrders.{rank_size}
 use Rattle.path_claims.proofs.orders.rank_count.Goals as goal
 
 pub returns : goal.returns

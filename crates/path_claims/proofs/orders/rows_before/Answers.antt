@@ -1,6 +1,6 @@
 use Rattle.std.proofs.Common.{◌∙◌, ◌<◌, List, length, get_or, ap, subst, arith}
 use Rattle.problem_core.specs.Layout.{Row}
-use Rattle.path_claims.proofs.SumOrders.{rest_after}
+use Rattle.path_claims.proofs.Beginning.SumOrders.{rest_after}
 use Rattle.path_claims.proofs.orders.rows_before.Goals as goal
 
 pub returns-then-id-clause-after : goal.returns-then-id-clause-after

@@ -1,4 +1,4 @@
-use Rattle.path_claims.proofs.SumOrders.{no_stay_number, stay_number_there}
+use Rattle.path_claims.proofs.Beginning.SumOrders.{no_stay_number, stay_number_there}
 use Rattle.path_claims.proofs.orders.stay_number.Goals as goal
 
 pub returns-in_err-at-clause-none : goal.returns-in_err-at-clause-none

@@ -1,6 +1,6 @@
 use Rattle.path_checker.specs.Route.{over_marks}
 use Rattle.path_checker.proofs.Iffs.{through}
-use Rattle.path_claims.proofs.StartVerdicts.{dual_sound, primal_by, sound_before, whole_lines}
+use Rattle.path_claims.proofs.Beginning.StartVerdicts.{dual_sound, primal_by, sound_before, whole_lines}
 use Rattle.path_claims.proofs.start.is_sound_there.Goals as goal
 
 pub returns-then-dual : goal.returns-then-dual
@@ -10,5 +10,5 @@ returns-then-dual c = λ p row whole begun to.
 pub returns : goal.returns
 returns c = λ p row whole begun to.
     primal_by c.args.dual c.are_up.result p row c.if-dual.false
-    (through c.are_up.result (c.are_up.ensures p whole (whole_lines p c.args.frame.now c.args.lines.now c.args.levels.now begun))
-    (sound_before p row c.args.judged _ c.args.lines.now whole to c.requires.judged (whole_lines p c.args.frame.now c.args.lines.now c.args.levels.now begun)))
+    (through c.are_up.result (c.are_up.ensures p whole (whole_lines p c.args.outline.now c.args.lines.now c.args.levels.now begun))
+    (sound_before p row c.args.judged _ c.args.lines.now whole to c.requires.judged (whole_lines p c.args.outline.now c.args.lines.now c.args.levels.now begun)))

@@ -1,7 +1,7 @@
 use Rattle.std.proofs.Common.{◌≡◌, ◌∙◌, ◌<◌, ℕ, pos, arith, SFits, subst, unsigned_abs}
 use Rattle.std.specs.Int.{w64, IsGcd}
 use Rattle.std.proofs.lemmas.Int.{fits_signed_from_abs, to_z-of_z, to_z_pos}
-use Rattle.path_levels.proofs.CarriedFacts.{common_at, common_small}
+use Rattle.path_levels.proofs.Exchanges.CarriedFacts.{common_at, common_small}
 use Rattle.path_levels.proofs.carried.common_of.Goals as goal
 
 pub overflow_cast-result : goal.overflow_cast-result

@@ -1,8 +1,8 @@
 use Rattle.std.proofs.Common.{◌≡◌, ◌*ℤ◌, SFits}
 use Rattle.std.specs.Int.{w64}
 use Rattle.std.proofs.lemmas.Int.{to_z-of_z}
-use Rattle.path_levels.specs.Carried.{IsCommonOf}
-use Rattle.path_levels.proofs.CarriedFacts.{sharing}
+use Rattle.path_levels.specs.Exchanges.Carried.{IsCommonOf}
+use Rattle.path_levels.proofs.Exchanges.CarriedFacts.{sharing}
 use Rattle.path_levels.proofs.carried.factors_of.Goals as goal
 
 pub quotient-requires-clause-divides : goal.quotient-requires-clause-divides

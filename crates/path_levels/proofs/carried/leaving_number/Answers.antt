@@ -3,7 +3,7 @@ use Rattle.std.specs.Int.{w64, w128}
 use Rattle.path_checker.specs.Numbers.{number_at}
 use Rattle.std.proofs.lemmas.Int.{to_z-of_z}
 use Rattle.std.proofs.lemmas.List.{get_or_default}
-use Rattle.path_levels.proofs.CarriedFacts.{both_fits, both_size}
+use Rattle.path_levels.proofs.Exchanges.CarriedFacts.{both_fits, both_size}
 use Rattle.path_levels.proofs.carried.leaving_number.Goals as goal
 
 pub overflow_add-result : goal.overflow_add-result

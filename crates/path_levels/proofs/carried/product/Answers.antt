@@ -1,7 +1,7 @@
 use Rattle.std.proofs.Common.{◌≡◌, ◌<◌, ◌^◌, ◌*ℤ◌, SFits, unsigned_abs}
 use Rattle.std.specs.Int.{w128}
 use Rattle.std.proofs.lemmas.Int.{to_z-of_z}
-use Rattle.path_levels.proofs.CarriedFacts.{product_fits, product_size}
+use Rattle.path_levels.proofs.Exchanges.CarriedFacts.{product_fits, product_size}
 use Rattle.frac_core.proofs.Products.{pair_size}
 use Rattle.path_levels.proofs.carried.product.Goals as goal
 

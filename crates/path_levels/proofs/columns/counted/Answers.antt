@@ -1,7 +1,7 @@
 use Rattle.std.proofs.Common.{arith, rules, SFits}
 use Rattle.std.specs.Int.{w64}
 use Rattle.std.proofs.lemmas.Int.{to_z-of_z}
-use Rattle.path_levels.proofs.CostSizes.{counted_small}
+use Rattle.path_levels.proofs.Counting.CostSizes.{counted_small}
 use Rattle.path_levels.proofs.columns.counted.Goals as goal
 
 pub overflow_mul-result : goal.overflow_mul-result

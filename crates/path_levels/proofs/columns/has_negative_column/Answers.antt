@@ -1,7 +1,7 @@
 use Rattle.problem_core.specs.declared.parts.Side.{Side}
 use Rattle.problem_core.specs.Corners.{HasNegativeColumn}
-use Rattle.path_levels.proofs.LineCosts.{over_is, under_is}
-use Rattle.path_levels.proofs.OwnColumns.{mark_at}
+use Rattle.path_levels.proofs.Judging.LineCosts.{over_is, under_is}
+use Rattle.path_levels.proofs.Judging.OwnColumns.{mark_at}
 use Rattle.path_levels.proofs.columns.has_negative_column.Goals as goal
 
 pub returns-then-is_negative_column : goal.returns-then-is_negative_column

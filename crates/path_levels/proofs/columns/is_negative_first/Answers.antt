@@ -5,7 +5,7 @@ use Rattle.std.proofs.lemmas.List.{get_or_default}
 use lib.Signed.{lt_z}
 use mir.Val.{of_z}
 use Rattle.path_levels.specs.Costs.{cost_in}
-use Rattle.path_levels.proofs.FirstSigns.{below_iff, decided_first}
+use Rattle.path_levels.proofs.Judging.FirstSigns.{below_iff, decided_first}
 use Rattle.path_levels.proofs.columns.is_negative_first.Goals as goal
 
 pub returns-then-cost-ne0-clause-first : goal.returns-then-cost-ne0-clause-first

@@ -1,8 +1,8 @@
 use Rattle.std.proofs.Common.{ℕ, get_or, length}
 use Rattle.problem_core.specs.declared.parts.Side.{Side}
 use Rattle.path_levels.specs.Costs.{IsNegativeFirst}
-use Rattle.path_levels.specs.WideCosts.{wide_cost}
-use Rattle.path_levels.proofs.LineCosts.{over_is, under_is}
+use Rattle.path_levels.specs.Exchanges.WideCosts.{wide_cost}
+use Rattle.path_levels.proofs.Judging.LineCosts.{over_is, under_is}
 use Rattle.path_levels.proofs.columns_after.has_negative_first_after.Goals as goal
 
 pub returns-then-is_negative_first_after-clause-first : goal.returns-then-is_negative_first_after-clause-first

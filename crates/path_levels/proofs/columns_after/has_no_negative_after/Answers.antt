@@ -4,7 +4,7 @@ use Rattle.problem_core.specs.Corners.{exchanged}
 use Rattle.path_checker.specs.Tables.{line_count, swap_of}
 use Rattle.path_checker.proofs.Iffs.{always, never, right_then, wrong_then}
 use Rattle.path_levels.specs.Costs.{HasNegative}
-use Rattle.path_levels.proofs.AfterCosts.{there_after, wide_all}
+use Rattle.path_levels.proofs.Judging.AfterCosts.{there_after, wide_all}
 use Rattle.path_levels.proofs.columns_after.has_no_negative_after.Goals as goal
 
 pub returns-then-has_negative_after : goal.returns-then-has_negative_after
@@ -14,7 +14,7 @@ returns-then-has_negative_after c = λ p marks kept ex wide.
     let yes : c.has_negative_after.result ≡ true = search rules in
     never false refl
     (λ none.
-    (wide_all p (exchanged (swap_of p c.args.step) marks) c.args.frame.now c.args.next.now (there_after p marks c.args.step kept.there enter ex) kept.frame_is wide).1 none c.loop-at.at within
+    (wide_all p (exchanged (swap_of p c.args.step) marks) c.args.outline.now c.args.next.now (there_after p marks c.args.step kept.there enter ex) kept.outline_is wide).1 none c.loop-at.at within
     (right_then c.has_negative_after.result yes (c.has_negative_after.ensures p marks kept ex wide)))
 
 pub loop-at-preserved : goal.loop-at-preserved
@@ -30,5 +30,5 @@ pub returns : goal.returns
 returns c = λ p marks kept ex wide.
     let enter : c.args.step.enter.at < line_count p = let h = kept.lines_are.count in omega (arith, c.requires.step, h) in
     always true refl
-    ((wide_all p (exchanged (swap_of p c.args.step) marks) c.args.frame.now c.args.next.now (there_after p marks c.args.step kept.there enter ex) kept.frame_is wide).0
+    ((wide_all p (exchanged (swap_of p c.args.step) marks) c.args.outline.now c.args.next.now (there_after p marks c.args.step kept.there enter ex) kept.outline_is wide).0
     (λ k within negative. c.loop-at.invariant k (let h = kept.lines_are.count in omega (arith, within, h, c.loop-at-test.false)) p marks kept ex wide negative))

@@ -5,9 +5,9 @@ use Rattle.problem_core.specs.Corners.{IsExchange, exchanged}
 use Rattle.path_checker.specs.Tables.{swap_of}
 use Rattle.path_levels.specs.Costs.{HasNegative}
 use Rattle.path_levels.specs.Rows.{AreKept}
-use Rattle.path_levels.specs.WideCosts.{AreWideAt}
+use Rattle.path_levels.specs.Exchanges.WideCosts.{AreWideAt}
 use Rattle.path_levels.proofs.columns_after.has_no_negative_after.Given as goal
 
 abbrev pub invariant-loop-at : goal.invariant-loop-at
-invariant-loop-at l = (k : ℕ) → k < l.at → (p : Problem) (marks : List Mark) → AreKept p marks l.frame l.lines → IsExchange p marks (swap_of p l.step) → AreWideAt p (exchanged (swap_of p l.step) marks) l.frame l.next
+invariant-loop-at l = (k : ℕ) → k < l.at → (p : Problem) (marks : List Mark) → AreKept p marks l.outline l.lines → IsExchange p marks (swap_of p l.step) → AreWideAt p (exchanged (swap_of p l.step) marks) l.outline l.next
     → HasNegative p (exchanged (swap_of p l.step) marks) k → ⊥

@@ -4,8 +4,8 @@ use Rattle.std.proofs.lemmas.Int.{to_z-of_z}
 use Rattle.std.proofs.lemmas.List.{get_or_default}
 use lib.Signed.{lt_z}
 use mir.Val.{of_z}
-use Rattle.path_levels.specs.WideCosts.{wide_cost}
-use Rattle.path_levels.proofs.FirstSigns.{below_iff, decided_first}
+use Rattle.path_levels.specs.Exchanges.WideCosts.{wide_cost}
+use Rattle.path_levels.proofs.Judging.FirstSigns.{below_iff, decided_first}
 use Rattle.path_levels.proofs.columns_after.is_negative_first_after.Goals as goal
 
 pub returns-then-cost-ne0-clause-first : goal.returns-then-cost-ne0-clause-first

@@ -1,6 +1,6 @@
 use Rattle.std.proofs.Common.{◌≡◌, ℕ, ◌<◌, pos, get_or}
 use Rattle.path_levels.specs.declared.columns_after.WideLevel.{WideLevel}
-use Rattle.path_levels.specs.WideCosts.{wide_cost}
+use Rattle.path_levels.specs.Exchanges.WideCosts.{wide_cost}
 use Rattle.path_levels.proofs.columns_after.is_negative_first_after.Given as goal
 
 abbrev pub invariant-loop-place : goal.invariant-loop-place

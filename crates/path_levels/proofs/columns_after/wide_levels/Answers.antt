@@ -4,14 +4,14 @@ use Rattle.std.proofs.lemmas.Int.{to_z-of_z}
 use Rattle.std.proofs.lemmas.List.{length_push}
 use Rattle.problem_core.specs.declared.parts.Mark.{Mark}
 use Rattle.problem_core.specs.Layout.{Problem}
-use Rattle.path_checker.specs.Pivots.{next_marks}
+use Rattle.path_checker.specs.Exchanges.Pivots.{next_marks}
 use Rattle.path_checker.proofs.Iffs.{one_more}
 use Rattle.path_levels.specs.declared.columns_after.WideLevel.{WideLevel}
-use Rattle.path_levels.specs.Frames.{IsFrame, number_at}
+use Rattle.path_levels.specs.Outlines.{IsOutline, number_at}
 use Rattle.path_levels.specs.Levels.{AreLevels, IsLevelSum}
-use Rattle.path_levels.specs.Turns.{IsTurnPivot}
-use Rattle.path_levels.specs.WideCosts.{IsSizedWide, IsWideAt}
-use Rattle.path_levels.proofs.AfterCosts.{sized_wide, wide_at}
+use Rattle.path_levels.specs.Exchanges.Pivots.{IsExchangePivot}
+use Rattle.path_levels.specs.Exchanges.WideCosts.{IsSizedWide, IsWideAt}
+use Rattle.path_levels.proofs.Judging.AfterCosts.{sized_wide, wide_at}
 use Rattle.path_levels.proofs.columns_after.wide_levels.Goals as goal
 
 pub loop-place-preserved : goal.loop-place-preserved
@@ -21,14 +21,14 @@ loop-place-preserved c =
     let pushed : c.push.new.self.items ≡ c.loop-place.out.items ++ c.wide_level.result ∷ [] = search rules in
     record {
       length_is = rw pushed (omega (arith, length_push c.loop-place.out.items c.wide_level.result, c.loop-place.invariant.length_is));
-      sized = rw pushed (one_more (λ (k : ℕ) (d : WideLevel) (x : WideLevel). IsSizedWide (length c.args.frame.now.lines.items) x) c.loop-place.out.items c.wide_level.result c.loop-place.place c.loop-place.invariant.length_is c.loop-place.invariant.sized
-          (λ d. sized_wide (length c.args.frame.now.lines.items) c.index-levels-place.result.unit c.in-Ok.wide c.wide_level.result unit c.wide_level.ensures.wide c.in-Ok.ensures.sized));
-      each = rw pushed (one_more (λ (k : ℕ) (d : WideLevel) (x : WideLevel). (p : Problem) (at : List Mark) → IsTurnPivot p at c.args.pivot.now → IsFrame p c.args.frame.now → AreLevels p at c.args.frame.now c.args.levels.now
-          → IsWideAt p (next_marks p c.args.pivot.now at) (number_at c.args.frame.now.levels.items k) x) c.loop-place.out.items c.wide_level.result c.loop-place.place c.loop-place.invariant.length_is c.loop-place.invariant.each
+      sized = rw pushed (one_more (λ (k : ℕ) (d : WideLevel) (x : WideLevel). IsSizedWide (length c.args.outline.now.lines.items) x) c.loop-place.out.items c.wide_level.result c.loop-place.place c.loop-place.invariant.length_is c.loop-place.invariant.sized
+          (λ d. sized_wide (length c.args.outline.now.lines.items) c.index-levels-place.result.unit c.in-Ok.wide c.wide_level.result unit c.wide_level.ensures.wide c.in-Ok.ensures.sized));
+      each = rw pushed (one_more (λ (k : ℕ) (d : WideLevel) (x : WideLevel). (p : Problem) (at : List Mark) → IsExchangePivot p at c.args.pivot.now → IsOutline p c.args.outline.now → AreLevels p at c.args.outline.now c.args.levels.now
+          → IsWideAt p (next_marks p c.args.pivot.now at) (number_at c.args.outline.now.levels.items k) x) c.loop-place.out.items c.wide_level.result c.loop-place.place c.loop-place.invariant.length_is c.loop-place.invariant.each
           (λ d p at turn is sums.
-          let sum : IsLevelSum p at (number_at c.args.frame.now.levels.items c.loop-place.place) c.index-levels-place.result =
-          subst (IsLevelSum p at (number_at c.args.frame.now.levels.items c.loop-place.place)) (sym c.index-levels-place.is) (sums.each c.loop-place.place c.index-levels-place.result (omega (arith, c.loop-place-test.true, sums.count))) in
-          wide_at p (next_marks p c.args.pivot.now at) (number_at c.args.frame.now.levels.items c.loop-place.place) c.index-levels-place.result.unit c.in-Ok.wide c.wide_level.result unit c.wide_level.ensures.wide
+          let sum : IsLevelSum p at (number_at c.args.outline.now.levels.items c.loop-place.place) c.index-levels-place.result =
+          subst (IsLevelSum p at (number_at c.args.outline.now.levels.items c.loop-place.place)) (sym c.index-levels-place.is) (sums.each c.loop-place.place c.index-levels-place.result (omega (arith, c.loop-place-test.true, sums.count))) in
+          wide_at p (next_marks p c.args.pivot.now at) (number_at c.args.outline.now.levels.items c.loop-place.place) c.index-levels-place.result.unit c.in-Ok.wide c.wide_level.result unit c.wide_level.ensures.wide
           sum.there.unit_is (c.in-Ok.ensures.next p at is turn sum)));
     }
 

@@ -1,6 +1,6 @@
 use Rattle.std.proofs.Common.{◌≡◌, false, refl, get_or, length}
 use Rattle.path_checker.proofs.Iffs.{never}
-use Rattle.path_levels.proofs.LevelEnds.{first_is, never_without, none_first}
+use Rattle.path_levels.proofs.Judging.LevelEnds.{first_is, never_without, none_first}
 use Rattle.path_levels.proofs.ends.costs_above.Goals as goal
 
 pub returns-in-Some : goal.returns-in-Some
@@ -11,4 +11,4 @@ returns-in-Some c = λ p at lines kept sums.
 pub returns-in-None : goal.returns-in-None
 returns-in-None c = λ p at lines kept sums.
     let none : length c.args.levels.now ≡ 0 = none_first c.args.levels.now c.in-None.ensures.value in
-    never false refl (never_without p at c.args.frame.now lines c.args.levels.now kept sums none)
+    never false refl (never_without p at c.args.outline.now lines c.args.levels.now kept sums none)

@@ -1,6 +1,6 @@
 use Rattle.std.proofs.Common.{Bool, IsTrue, ◌↔◌, sym, subst}
-use Rattle.problem_core.specs.Paths.{IsEndOf}
-use Rattle.path_levels.proofs.LevelEnds.{or_else, or_then}
+use Rattle.problem_core.specs.Changes.Paths.{IsEndOf}
+use Rattle.path_levels.proofs.Judging.LevelEnds.{or_else, or_then}
 use Rattle.path_levels.proofs.ends.is_end.Goals as goal
 
 pub returns-then-has_no_negative_value : goal.returns-then-has_no_negative_value

@@ -1,6 +1,6 @@
 use Rattle.std.proofs.Common.{◌≡◌, false, refl, get_or, length}
 use Rattle.path_checker.proofs.Iffs.{never}
-use Rattle.path_levels.proofs.LevelEnds.{and_else, and_then, first_is, never_without, none_first}
+use Rattle.path_levels.proofs.Judging.LevelEnds.{and_else, and_then, first_is, never_without, none_first}
 use Rattle.path_levels.proofs.ends.is_refuted.Goals as goal
 
 pub returns-then-is_costly : goal.returns-then-is_costly
@@ -17,4 +17,4 @@ returns-else-is_costly c = λ p at kept sums.
 pub returns-in-None : goal.returns-in-None
 returns-in-None c = λ p at kept sums.
     let none : length c.args.levels.now ≡ 0 = none_first c.args.levels.now c.in-None.ensures.value in
-    never false refl (λ both. never_without p at c.args.frame.now c.args.lines.now c.args.levels.now kept sums none both.0)
+    never false refl (λ both. never_without p at c.args.outline.now c.args.lines.now c.args.levels.now kept sums none both.0)

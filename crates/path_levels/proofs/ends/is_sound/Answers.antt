@@ -1,5 +1,5 @@
 use Rattle.std.proofs.Common.{Bool, IsTrue, ◌↔◌, sym, subst}
-use Rattle.problem_core.specs.Paths.{IsSound}
+use Rattle.problem_core.specs.Changes.Paths.{IsSound}
 use Rattle.path_levels.proofs.ends.is_sound.Goals as goal
 
 pub returns-then-dual : goal.returns-then-dual

@@ -1,7 +1,7 @@
 use Rattle.std.proofs.Common.{◌≡◌, ◌∙◌, ◌*◌, ◌/◌, ◌*ℤ◌, ◌<◌, ◌^◌, ap, subst, sym, pos, unsigned_abs, SFits}
 use Rattle.std.specs.Int.{w128}
 use Rattle.std.proofs.lemmas.Int.{to_z-of_z}
-use Rattle.path_levels.proofs.JoinShares.{counted_is, counted_small, unit_bound, widened}
+use Rattle.path_levels.proofs.Joining.JoinShares.{counted_is, counted_small, unit_bound, widened}
 use Rattle.path_levels.proofs.joins.count.Goals as goal
 
 pub share-requires-clause-small : goal.share-requires-clause-small

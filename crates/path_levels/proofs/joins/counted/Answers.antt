@@ -2,7 +2,7 @@ use Rattle.std.proofs.Common.{◌∙◌, ◌-ℤ◌, ◌<◌, ◌^◌, ap, subst
 use Rattle.std.specs.Int.{w128}
 use Rattle.std.proofs.lemmas.Int.{to_z-of_z}
 use Rattle.frac_core.proofs.Integers.{zero-add_ℤ}
-use Rattle.path_levels.proofs.JoinShares.{as_factor, small_sfits, widened}
+use Rattle.path_levels.proofs.Joining.JoinShares.{as_factor, small_sfits, widened}
 use Rattle.path_levels.proofs.joins.counted.Goals as goal
 use Rattle.frac_core.proofs.Quotients.{size_opposite}
 

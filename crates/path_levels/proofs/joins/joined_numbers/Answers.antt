@@ -1,7 +1,7 @@
 use Rattle.std.proofs.Common.{◌<ℤ◌, ℤ, pos, sym, subst}
-use Rattle.path_checker.proofs.Moves.{positive_product}
 use Rattle.path_levels.proofs.joins.joined_numbers.Goals as goal
 use Rattle.frac_core.proofs.Results.{ok_implies}
+use Rattle.frac_core.proofs.Numbers.{product-up as positive_product}
 
 pub returns-in-Some-clause-above : goal.returns-in-Some-clause-above
 returns-in-Some-clause-above c =

@@ -2,7 +2,7 @@ use Rattle.std.proofs.Common.{◌≡◌, ◌*ℤ◌, SFits}
 use Rattle.std.specs.Int.{w128}
 use Rattle.std.proofs.lemmas.Int.{to_z-of_z}
 use lib.Signed.{quot_z}
-use Rattle.path_levels.proofs.JoinShares.{quotient_sfits, share_is, share_small, small_sfits, widened}
+use Rattle.path_levels.proofs.Joining.JoinShares.{quotient_sfits, share_is, share_small, small_sfits, widened}
 use Rattle.path_levels.proofs.joins.share.Goals as goal
 
 pub returns : goal.returns

@@ -1,7 +1,7 @@
 use Rattle.std.proofs.Common.{◌∙◌, SFits, arith}
 use Rattle.std.specs.Int.{w64, w128}
 use Rattle.std.proofs.lemmas.Int.{to_z-of_z}
-use Rattle.path_levels.proofs.JoinShares.{positive_product}
+use Rattle.path_levels.proofs.Joining.JoinShares.{positive_product}
 use Rattle.path_levels.proofs.joins.with_numbers.Goals as goal
 
 pub product-requires-clause-small : goal.product-requires-clause-small

@@ -3,11 +3,11 @@ use Rattle.std.specs.Int.{w128}
 use Rattle.std.proofs.lemmas.Int.{to_z-of_z, unsigned_abs-mul}
 use Rattle.frac_core.specs.Fraction.{IsFitting}
 use Rattle.path_checker.specs.Numbers.{IsCombined}
-use Rattle.path_checker.proofs.Moves.{positive_product}
 use Rattle.path_levels.specs.Joins.{counted_number}
-use Rattle.path_levels.proofs.CarriedFacts.{own_small}
-use Rattle.path_levels.proofs.JoinShares.{risen_scale, unit_bound}
+use Rattle.path_levels.proofs.Exchanges.CarriedFacts.{own_small}
+use Rattle.path_levels.proofs.Joining.JoinShares.{risen_scale, unit_bound}
 use Rattle.path_levels.proofs.joins.with_sum.Goals as goal
+use Rattle.frac_core.proofs.Numbers.{product-up as positive_product}
 
 pub product-unit-requires-clause-small : goal.product-unit-requires-clause-small
 product-unit-requires-clause-small c = simp (to_z-of_z, c.ranges.times) (omega (arith, c.requires.times))

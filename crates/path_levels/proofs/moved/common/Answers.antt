@@ -5,7 +5,7 @@ use Rattle.std.proofs.lemmas.Int.{to_z-of_z, fits_signed_from_abs, to_z_pos}
 use Rattle.std.proofs.lemmas.Nat.Gcd.{le_of_dvd}
 use Rattle.std.proofs.Math.Nat.{eq-zero_of_zero-dvd}
 use Rattle.path_levels.proofs.moved.common.Goals as goal
-use Rattle.path_checker.proofs.SolvedPivots.{some_up}
+use Rattle.frac_core.proofs.Divisors.{size_above as some_up}
 
 above_of_dvd : (d n : ℕ) → d ∣ n → 0 < n → 0 < d
 above_of_dvd zero n h some = let none : n ≡ 0 = eq-zero_of_zero-dvd h in absurd (omega (arith, none, some))

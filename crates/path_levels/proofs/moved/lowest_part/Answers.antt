@@ -1,7 +1,7 @@
 use Rattle.std.proofs.Common.{◌≡◌, ◌*ℤ◌, unsigned_abs, SFits}
 use Rattle.std.specs.Int.{w128, IsGcd}
 use Rattle.std.proofs.lemmas.Int.{to_z-of_z}
-use Rattle.path_levels.proofs.MovedValues.{lowest_part_is}
+use Rattle.path_levels.proofs.Exchanges.MovedValues.{lowest_part_is}
 use Rattle.path_levels.proofs.moved.lowest_part.Goals as goal
 
 pub quotient-requires-clause-divides : goal.quotient-requires-clause-divides

@@ -1,12 +1,12 @@
 use Rattle.std.proofs.Common.{◌≡◌, ◌*ℤ◌, ◌<ℤ◌, ℤ, pos, sym, subst, subst₂, SFits, rules}
 use Rattle.std.specs.Int.{w128}
 use Rattle.std.proofs.lemmas.Int.{to_z-of_z}
-use Rattle.path_checker.proofs.Leading.{ok_then}
-use Rattle.path_checker.proofs.Moves.{positive_product}
+use Rattle.path_checker.proofs.Exchanges.Leading.{ok_then}
 use Rattle.path_levels.proofs.Results.{onerr_then}
-use Rattle.path_levels.specs.Moved.{IsLowestPart}
-use Rattle.path_levels.proofs.MovedValues.{moved_ratio, moved_unfit}
+use Rattle.path_levels.specs.Exchanges.Moved.{IsLowestPart}
+use Rattle.path_levels.proofs.Exchanges.MovedValues.{moved_ratio, moved_unfit}
 use Rattle.path_levels.proofs.moved.moved_value.Goals as goal
+use Rattle.frac_core.proofs.Numbers.{product-up as positive_product}
 
 pub lowest_part-requires : goal.lowest_part-requires
 lowest_part-requires c =

@@ -1,7 +1,7 @@
 use Rattle.std.proofs.Common.{◌≡◌, ◌∙◌, ℤ, pos, subst, SFits}
 use Rattle.std.specs.Int.{w64, w128}
 use Rattle.std.proofs.lemmas.Int.{to_z-of_z}
-use Rattle.path_levels.specs.Moved.{IsLowestPart}
+use Rattle.path_levels.specs.Exchanges.Moved.{IsLowestPart}
 use Rattle.path_levels.proofs.moved.rests_of.Goals as goal
 
 pub returns : goal.returns

@@ -5,9 +5,9 @@ use Rattle.std.specs.Prelude.{IfOk, OnErr}
 use Rattle.path_levels.proofs.Results.{ok_both}
 use Rattle.frac_core.specs.Fraction.{IsRatio, IsUnfitRatio}
 use Rattle.frac_core.proofs.Products.{pair_size}
-use Rattle.path_checker.proofs.Moves.{positive_product}
-use Rattle.path_levels.proofs.MovedValues.{right_fits, sum_fits}
+use Rattle.path_levels.proofs.Exchanges.MovedValues.{right_fits, sum_fits}
 use Rattle.path_levels.proofs.moved.summed.Goals as goal
+use Rattle.frac_core.proofs.Numbers.{product-up as positive_product}
 
 pub product-whole-requires : goal.product-whole-requires
 product-whole-requires c =

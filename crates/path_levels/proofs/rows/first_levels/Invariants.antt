@@ -7,5 +7,5 @@ abbrev pub invariant-loop-place : goal.invariant-loop-place
 invariant-loop-place l = record {
   count : length l.levels.items ≡ l.place;
   sized : AreSizedLevels (length l.fn.lines) l.levels.items;
-  rows : AreRowsTo l.fn.frame l.fn.lines l.place l.levels.items;
+  rows : AreRowsTo l.fn.outline l.fn.lines l.place l.levels.items;
 }

@@ -2,7 +2,7 @@ use Rattle.std.proofs.Common.{◌≡◌, ◌∙◌, ◌*ℤ◌, ℤ, pos, rules,
 use Rattle.std.specs.Int.{w64}
 use Rattle.std.proofs.lemmas.Int.{to_z-of_z}
 use Rattle.path_levels.specs.Shares.{counted_of, share_of}
-use Rattle.path_levels.proofs.ShareFacts.{counted_fits, counted_small, own_times, unit_fits}
+use Rattle.path_levels.proofs.Counting.ShareFacts.{counted_fits, counted_small, own_times, unit_fits}
 use Rattle.path_levels.proofs.shares.counted.Goals as goal
 
 pub share-requires-clause-fits : goal.share-requires-clause-fits

@@ -2,7 +2,7 @@ use Rattle.std.proofs.Common.{◌≡◌, ◌∙◌, ◌-ℤ◌, ◌+ℤ◌, ℤ,
 use Rattle.std.specs.Int.{w64}
 use Rattle.std.proofs.lemmas.Int.{to_z-of_z}
 use Rattle.path_levels.specs.Shares.{counted_of, reduced_of}
-use Rattle.path_levels.proofs.ShareFacts.{fits_test, minus_fits, plus_fits, reduced_over, reduced_under}
+use Rattle.path_levels.proofs.Counting.ShareFacts.{fits_test, minus_fits, plus_fits, reduced_over, reduced_under}
 use Rattle.path_levels.proofs.shares.has_fitting_cost.Goals.{in-Under, in-Over}
 use Rattle.path_levels.proofs.shares.has_fitting_cost.Goals as goal
 

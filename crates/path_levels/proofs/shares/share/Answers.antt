@@ -3,7 +3,7 @@ use Rattle.std.specs.Prelude.{FitsSigned}
 use Rattle.std.specs.Int.{w64}
 use Rattle.std.proofs.lemmas.Int.{quot_fits, quot_is, to_z-of_z}
 use Rattle.path_levels.specs.Shares.{weight_on}
-use Rattle.path_levels.proofs.ShareFacts.{share_here, share_ints, share_small, weight_most, weight_up, weighted_fits}
+use Rattle.path_levels.proofs.Counting.ShareFacts.{share_here, share_ints, share_small, weight_most, weight_up, weighted_fits}
 use Rattle.path_levels.proofs.shares.share.Goals as goal
 
 pub overflow_mul-result : goal.overflow_mul-result

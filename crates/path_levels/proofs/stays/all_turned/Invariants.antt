@@ -1,5 +1,5 @@
 use Rattle.std.proofs.Common.{◌≡◌, map, take}
-use Rattle.corner_lines.specs.StayLevels.{turned as turned_by}
+use Rattle.corner_lines.specs.Levels.StayLevels.{turned as turned_by}
 use Rattle.path_levels.proofs.stays.all_turned.Given as goal
 
 abbrev pub invariant-loop-number : goal.invariant-loop-number

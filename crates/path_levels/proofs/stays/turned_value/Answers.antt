@@ -2,8 +2,8 @@ use Rattle.std.proofs.Common.{◌≡◌, ◌∙◌, ap, subst₂, SFits, pos, �
 use Rattle.std.specs.Int.{w128}
 use Rattle.std.proofs.lemmas.Int.{to_z-of_z}
 use Rattle.frac_core.specs.Fraction.{IsRatio, IsUnfitRatio}
-use Rattle.corner_lines.specs.StayLevels.{turned as turned_by}
-use Rattle.path_levels.proofs.TurnedValues.{made_ok, none_unfit}
+use Rattle.corner_lines.specs.Levels.StayLevels.{turned as turned_by}
+use Rattle.path_levels.proofs.StayLines.TurnedValues.{made_ok, none_unfit}
 use Rattle.path_levels.proofs.stays.turned_value.Goals as goal
 
 -- what is said of the parts as they are passed is said of the turned value's

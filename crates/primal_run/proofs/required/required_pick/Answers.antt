@@ -1,9 +1,10 @@
 use Rattle.std.proofs.Common.{rules, ◌+◌, All, take, slice_get, ◌≡◌, Some}
 use Rattle.problem_core.specs.declared.parts.RowName.{RowName}
 use Rattle.primal_run.specs.Entering.{HasNoRequired}
-use Rattle.corner_ends.proofs.Marks.{none_here, none_more, took_all, took_more}
+use Rattle.corner_ends.proofs.Marks.{none_here, none_more, took_more}
 use Rattle.primal_run.proofs.FirstLevel.{none_required}
 use Rattle.primal_run.proofs.required.required_pick.Goals as goal
+use Rattle.frac_core.proofs.Lists.{all-whole as took_all}
 
 pub loop-i-preserved : goal.loop-i-preserved
 loop-i-preserved c = record {

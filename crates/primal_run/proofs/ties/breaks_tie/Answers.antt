@@ -16,7 +16,7 @@ returns-in-Less-clause-yes c = λ _ v w h g.
     (c.loop-f.invariant.ab v w h g)
 
 pub returns-in-Greater-clause-no : goal.returns-in-Greater-clause-no
-returns-in-Greater-clause-no c = λ _ v w h g.
+returns-in-Greater-clause-no c = λ _ w v g h.
     here_at (BreaksTie (place c.args.enter) (place c.args.b.mark) w (place c.args.a.mark) v (map place c.args.first.now)) (place c.args.enter) (place c.args.b.mark) (place c.args.a.mark) c.loop-f.f-index w v c.args.first.now c.loop-f-test.true
     (less_numbers _ _ _ _ _ _ (by_numbers c.args.c.now.problem c.args.c.now.marks (place c.args.enter) c.args.b w c.show_corner.ensures.kept c.requires.b g) (by_numbers c.args.c.now.problem c.args.c.now.marks (place c.args.enter) c.args.a v c.show_corner.ensures.kept c.requires.a h) (int_ranked _ _ Greater (c.in-Greater.ensures v w h g)))
     (c.loop-f.invariant.ba v w h g)
@@ -32,4 +32,4 @@ loop-f-preserved c = record {
 }
 
 pub returns-clause-no : goal.returns-clause-no
-returns-clause-no c = λ _ v w h g. c.loop-f.invariant.ba v w h g (ended (place c.args.enter) (place c.args.b.mark) (place c.args.a.mark) c.loop-f.f-index w v c.args.first.now c.loop-f-test.false)
+returns-clause-no c = λ _ w v g h. c.loop-f.invariant.ba v w h g (ended (place c.args.enter) (place c.args.b.mark) (place c.args.a.mark) c.loop-f.f-index w v c.args.first.now c.loop-f-test.false)

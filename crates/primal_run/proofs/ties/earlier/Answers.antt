@@ -23,4 +23,4 @@ returns-then-breaks_tie c =
 pub returns-else-breaks_tie : goal.returns-else-breaks_tie
 returns-else-breaks_tie c =
     earlier_b c.args.c.now.problem c.args.c.now.marks (place c.args.enter) c.args.first.now c.args.a c.args.b c.show_corner.ensures.kept c.requires.a c.requires.b
-    (inr (sym (int_ranked (c.args.a.above *ℤ c.args.b.below) (c.args.b.above *ℤ c.args.a.below) Equal (search rules)), c.breaks_tie.ensures.no c.if-breaks_tie.false c.requires.a.w c.requires.b.w c.requires.a.writes c.requires.b.writes))
+    (inr (sym (int_ranked (c.args.a.above *ℤ c.args.b.below) (c.args.b.above *ℤ c.args.a.below) Equal (search rules)), c.breaks_tie.ensures.no c.if-breaks_tie.false c.requires.b.w c.requires.a.w c.requires.b.writes c.requires.a.writes))

@@ -1,4 +1,4 @@
-use Rattle.problem_core.proofs.Agreed.{costless-IsBest}
+use Rattle.problem_core.proofs.Best.Agreed.{costless-IsBest}
 use Rattle.problem_core.proofs.laws.costless_is_best.Goals as goal
 
 pub returns : goal.returns

@@ -1,4 +1,4 @@
-use Rattle.problem_core.proofs.Agreed.{errorless-IsBest}
+use Rattle.problem_core.proofs.Best.Agreed.{errorless-IsBest}
 use Rattle.problem_core.proofs.laws.errorless_is_best.Goals as goal
 
 pub returns : goal.returns

@@ -1,4 +1,4 @@
-use Rattle.problem_core.proofs.WindowRows.{first-IsBest}
+use Rattle.problem_core.proofs.Best.WindowRows.{first-IsBest}
 use Rattle.problem_core.proofs.laws.first_scene_is_best.Goals as goal
 
 pub returns : goal.returns

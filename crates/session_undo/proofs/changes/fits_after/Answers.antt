@@ -1,4 +1,4 @@
-use Rattle.session_undo.proofs.Nears.{less-num, less-den}
+use Rattle.session_undo.proofs.Constants.Nears.{less-num, less-den}
 use Rattle.session_undo.proofs.changes.fits_after.Goals as goal
 
 pub returns-in-Ok-clause-yes : goal.returns-in-Ok-clause-yes

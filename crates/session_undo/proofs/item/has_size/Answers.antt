@@ -1,7 +1,7 @@
 use Rattle.std.proofs.Common.{◌≡◌, ◌∙◌, true, false, sym, rules}
 use Rattle.session_undo.specs.Items.{is_size}
 use Rattle.session_undo.specs.Kept.{item_of}
-use Rattle.session_undo.proofs.ItemRows.{size-more, size-at}
+use Rattle.session_undo.proofs.HeldRows.ItemRows.{size-more, size-at}
 use Rattle.session_undo.proofs.item.has_size.Goals as goal
 
 pub returns-then-is_size : goal.returns-then-is_size

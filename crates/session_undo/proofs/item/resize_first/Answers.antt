@@ -4,9 +4,9 @@ use Rattle.std.proofs.lemmas.Result.{on_ok_weaker}
 use Rattle.session_undo.specs.declared.item.Item as declared
 use Rattle.session_undo.specs.Items.{has_size}
 use Rattle.session_undo.specs.Kept.{items_of}
-use Rattle.session_undo.proofs.ItemRows.{size-more}
+use Rattle.session_undo.proofs.HeldRows.ItemRows.{size-more}
 use Rattle.session_undo.proofs.KeptScenes.{marked-all}
-use Rattle.session_undo.proofs.Resized.{resized-at, unsized}
+use Rattle.session_undo.proofs.Constants.Resized.{resized-at, unsized}
 use Rattle.session_undo.proofs.item.resize_first.Goals as goal
 
 pub loop-place-init : goal.loop-place-init

@@ -2,8 +2,8 @@ use Rattle.std.proofs.Common.{◌≡◌, ◌∙◌, List, Some, Option, true, fa
 use Rattle.session_undo.specs.declared.item.Item as declared
 use Rattle.session_undo.specs.Items.{Size, is_size, has_size}
 use Rattle.session_undo.specs.Kept.{item_of, items_of, size_in}
-use Rattle.session_undo.proofs.ItemRows.{size-more}
-use Rattle.session_undo.proofs.Resized.{no-size, own-at}
+use Rattle.session_undo.proofs.HeldRows.ItemRows.{size-more}
+use Rattle.session_undo.proofs.Constants.Resized.{no-size, own-at}
 use Rattle.session_undo.proofs.item.size_of.Goals as goal
 
 pub returns-then-is_size-clause-some : goal.returns-then-is_size-clause-some

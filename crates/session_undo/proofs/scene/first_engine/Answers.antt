@@ -2,7 +2,7 @@ use Rattle.std.proofs.Common.{◌∙◌, ◌<◌, ap, length, lit<, subst, sym, 
 use Rattle.version_list.specs.declared.TheConstants.{VERSION_LIMIT}
 use Rattle.layout_solver.specs.Layouts.{Layout, Solution}
 use Rattle.session_undo.proofs.First.{first-forgotten}
-use Rattle.session_undo.proofs.Additions.{first-whole, first-rising}
+use Rattle.session_undo.proofs.Engines.Additions.{first-whole, first-rising}
 use Rattle.session_undo.proofs.scene.first_engine.Goals as goal
 
 pub add-requires : goal.add-requires

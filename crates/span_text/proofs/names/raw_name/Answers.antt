@@ -1,5 +1,5 @@
 use Rattle.std.proofs.lemmas.Str.{IsUtf8-from_ascii}
-use Rattle.span_text.proofs.Ascii.{name_ascii}
+use Rattle.span_text.proofs.TextCuts.Ascii.{name_ascii}
 use Rattle.span_text.proofs.names.raw_name.Goals as goal
 
 pub unreachable-requires : goal.unreachable-requires

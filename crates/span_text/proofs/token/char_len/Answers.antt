@@ -1,5 +1,5 @@
 use Rattle.std.proofs.Common.{rules}
-use Rattle.span_text.proofs.TokenCuts.{other_is, cut_boundary}
+use Rattle.span_text.proofs.TextCuts.TokenCuts.{other_is, cut_boundary}
 use Rattle.span_text.proofs.token.char_len.Goals as goal
 
 pub returns-clause-boundary : goal.returns-clause-boundary

@@ -1,7 +1,7 @@
 use Rattle.std.proofs.Common.{arith, rules, ◌≡◌, length}
 use Rattle.span_text.specs.Classes.{is_word}
 use Rattle.span_text.specs.Reading.{front}
-use Rattle.span_text.proofs.TokenCuts.{front_none, run_boundary, run_token, relation_boundary, other_some}
+use Rattle.span_text.proofs.TextCuts.TokenCuts.{front_none, run_boundary, run_token, relation_boundary, other_some}
 use Rattle.span_text.proofs.token.token_len.Goals as goal
 
 pub char_len-requires-clause-no_word : goal.char_len-requires-clause-no_word

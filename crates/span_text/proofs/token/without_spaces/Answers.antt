@@ -1,4 +1,4 @@
-use Rattle.span_text.proofs.TokenCuts.{spaces_utf8}
+use Rattle.span_text.proofs.TextCuts.TokenCuts.{spaces_utf8}
 use Rattle.std.proofs.Common.{subst, sym}
 use Rattle.std.specs.Str.{IsUtf8}
 use Rattle.span_text.proofs.token.without_spaces.Goals as goal

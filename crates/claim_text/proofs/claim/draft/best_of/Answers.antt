@@ -1,4 +1,4 @@
-use Rattle.claim_text.proofs.ClaimReadings.{fresh_level}
+use Rattle.claim_text.proofs.Claims.ClaimReadings.{fresh_level}
 use Rattle.claim_text.proofs.claim.draft.best_of.Goals as goal
 
 pub push-requires-clause-fresh : goal.push-requires-clause-fresh

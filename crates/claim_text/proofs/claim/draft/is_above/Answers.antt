@@ -1,6 +1,6 @@
 use Rattle.std.proofs.Common.{◌<◌, length, get_or, arith, ◌-◌}
 use Rattle.std.proofs.lemmas.Bool.Decides.{nat_tests}
-use Rattle.claim_text.proofs.SeenStays.{values_below, less_is}
+use Rattle.claim_text.proofs.Claims.SeenStays.{values_below, less_is}
 use Rattle.claim_text.proofs.claim.draft.is_above.Goals as goal
 
 pub returns : goal.returns

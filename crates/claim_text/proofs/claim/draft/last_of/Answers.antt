@@ -2,7 +2,7 @@ use Rattle.std.proofs.Common.{◌<◌, ◌++◌, ◌∷◌, [], ◌∙◌, lengt
 use Rattle.std.proofs.lemmas.Bool.Decides.{nat_tests}
 use Rattle.problem_core.specs.declared.parts.Level.{Level}
 use Rattle.cert_core.specs.Claims.{BestLevel}
-use Rattle.claim_text.proofs.SeenStays.{last_level}
+use Rattle.claim_text.proofs.Claims.SeenStays.{last_level}
 use Rattle.claim_text.proofs.claim.draft.last_of.Goals as goal
 
 pub returns-clause-some : goal.returns-clause-some

@@ -3,7 +3,7 @@ use Rattle.std.proofs.lemmas.Bool.Decides.{nat_tests}
 use Rattle.problem_core.specs.declared.parts.RowName.TheVariants.{Held}
 use Rattle.problem_core.specs.declared.parts.Side.TheVariants.{Under}
 use Rattle.problem_core.specs.declared.parts.Mark.{Mark}
-use Rattle.claim_text.proofs.SeenStays.{row_decided, rows_before}
+use Rattle.claim_text.proofs.Claims.SeenStays.{row_decided, rows_before}
 use Rattle.claim_text.proofs.claim.order.are_marks_before.Goals as goal
 
 pub returns-in-Stay : goal.returns-in-Stay

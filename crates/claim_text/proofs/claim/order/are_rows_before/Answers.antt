@@ -2,7 +2,7 @@ use Rattle.std.proofs.Common.{◌<◌, ◌-◌, length, pos, arith}
 use Rattle.std.proofs.lemmas.Bool.Decides.{nat_tests}
 use Rattle.problem_core.specs.declared.parts.RowName.TheVariants.{Held}
 use Rattle.cert_core.specs.declared.by.By.{By}
-use Rattle.claim_text.proofs.SeenStays.{row_decided, rows_before}
+use Rattle.claim_text.proofs.Claims.SeenStays.{row_decided, rows_before}
 use Rattle.claim_text.proofs.claim.order.are_rows_before.Goals as goal
 
 pub returns-in-Stay : goal.returns-in-Stay

@@ -1,5 +1,5 @@
 use Rattle.std.proofs.Common.{arith, [], List, ℕ, drop, sym, ap, ◌∙◌}
-use Rattle.claim_text.proofs.PathWords.{no_part_word, two_parts, counted}
+use Rattle.claim_text.proofs.Paths.PathWords.{no_part_word, two_parts, counted}
 use Rattle.claim_text.proofs.claim.path_lines.quantity_of.Goals as goal
 
 pub returns-in_err-first-clause-none : goal.returns-in_err-first-clause-none

@@ -1,8 +1,8 @@
 use Rattle.std.proofs.Common.{rules, ◌≡◌, ◌∷◌, List, ℕ, drop, ap, sym, ◌∙◌}
 use Rattle.std.specs.Prelude.{codes}
 use Rattle.claim_text.specs.Words.{words}
-use Rattle.claim_text.specs.PathTexts.{mark_text}
-use Rattle.claim_text.proofs.PathWords.{no_leave}
+use Rattle.claim_text.specs.Paths.PathTexts.{mark_text}
+use Rattle.claim_text.proofs.Paths.PathWords.{no_leave}
 use Rattle.claim_text.proofs.claim.path_lines.read_swap.Goals as goal
 
 pub returns-in_err-enter-clause-none : goal.returns-in_err-enter-clause-none

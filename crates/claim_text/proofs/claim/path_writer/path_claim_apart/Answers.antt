@@ -1,5 +1,5 @@
 use Rattle.std.proofs.Common.{string_bytes}
-use Rattle.claim_text.specs.PathTexts.{path_lines, unfit_lines}
+use Rattle.claim_text.specs.Paths.PathTexts.{path_lines, unfit_lines}
 use Rattle.claim_text.proofs.Texts.{problem_text_is}
 use Rattle.claim_text.proofs.claim.path_writer.path_claim_apart.Goals as goal
 

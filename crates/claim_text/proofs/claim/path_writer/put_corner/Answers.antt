@@ -1,7 +1,7 @@
 use Rattle.std.proofs.Common.{string_bytes}
 use Rattle.problem_core.specs.declared.parts.RowName.TheVariants.{Held}
 use Rattle.problem_core.specs.declared.parts.Side.TheVariants.{Under}
-use Rattle.claim_text.specs.PathTexts.{in_line}
+use Rattle.claim_text.specs.Paths.PathTexts.{in_line}
 use Rattle.claim_text.proofs.Texts.{text_more}
 use Rattle.claim_text.proofs.claim.path_writer.put_corner.Goals as goal
 

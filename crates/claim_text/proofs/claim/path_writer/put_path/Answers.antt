@@ -1,7 +1,7 @@
 use Rattle.std.proofs.Common.{map, string_bytes}
 use Rattle.std.proofs.lemmas.Result.{IfOk-weaker}
 use Rattle.claim_text.specs.Words.{line_of}
-use Rattle.claim_text.specs.PathTexts.{in_line, kind_words, swap_line}
+use Rattle.claim_text.specs.Paths.PathTexts.{in_line, kind_words, swap_line}
 use Rattle.claim_text.proofs.Texts.{three_parts}
 use Rattle.claim_text.proofs.claim.path_writer.put_path.Goals as goal
 

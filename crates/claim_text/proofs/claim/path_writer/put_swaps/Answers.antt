@@ -1,5 +1,5 @@
 use Rattle.std.proofs.Common.{string_bytes}
-use Rattle.claim_text.specs.PathTexts.{swap_line}
+use Rattle.claim_text.specs.Paths.PathTexts.{swap_line}
 use Rattle.claim_text.proofs.Texts.{text_item}
 use Rattle.claim_text.proofs.claim.path_writer.put_swaps.Goals as goal
 

@@ -1,10 +1,10 @@
 use Rattle.std.proofs.Common.{arith}
 use Rattle.std.proofs.lemmas.Result.{err_from_is_err_and}
-use Rattle.claim_text.proofs.ClaimRoundTrip.{read_is, lines_stop_is, not_early}
-use Rattle.claim_text.specs.ClaimTexts.{nothing_read}
-use Rattle.claim_text.proofs.Readings.{lines_count}
-use Rattle.claim_text.proofs.ClaimReadings.{draft_read, draft_nothing}
-use Rattle.claim_text.proofs.ClaimForms.{few-parts}
+use Rattle.claim_text.proofs.Claims.ClaimRoundTrip.{read_is, lines_stop_is, not_early}
+use Rattle.claim_text.specs.Claims.ClaimTexts.{nothing_read}
+use Rattle.claim_text.proofs.Problems.Readings.{lines_count}
+use Rattle.claim_text.proofs.Claims.ClaimReadings.{draft_read, draft_nothing}
+use Rattle.claim_text.proofs.Claims.ClaimForms.{few-parts}
 use Rattle.claim_text.proofs.claim.reader.read_claim.Goals as goal
 
 pub finish-requires : goal.finish-requires

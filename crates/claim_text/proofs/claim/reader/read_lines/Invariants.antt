@@ -1,8 +1,8 @@
 use Rattle.std.proofs.Common.{◌≡◌, ◌++◌, List, ℕ, length}
 use Rattle.std.specs.Str.Lines.{lines}
-use Rattle.span_text.specs.Lines.{lines_left}
-use Rattle.claim_text.specs.ClaimTexts.{ReadFrom, nothing_read}
-use Rattle.claim_text.specs.Seen.{AreSeen}
+use Rattle.span_text.specs.TextCuts.Lines.{lines_left}
+use Rattle.claim_text.specs.Claims.ClaimTexts.{ReadFrom, nothing_read}
+use Rattle.claim_text.specs.Claims.Seen.{AreSeen}
 use Rattle.claim_text.proofs.claim.reader.read_lines.Given as goal
 
 abbrev pub invariant-loop-line : goal.invariant-loop-line

@@ -2,9 +2,9 @@ use Rattle.std.proofs.Common.{string_bytes, map, codes, ◌++◌, ◌∷◌, []}
 use Rattle.std.proofs.lemmas.Result.{IfOk-weaker}
 use Rattle.claim_text.specs.Words.{line_of}
 use Rattle.claim_text.specs.Lines.{text_of_lines}
-use Rattle.claim_text.specs.ClaimLines.{value_line, best_words, lines_of_levels, best_lines}
+use Rattle.claim_text.specs.Claims.ClaimLines.{value_line, best_words, lines_of_levels, best_lines}
 use Rattle.claim_text.proofs.Texts.{text_of_lines-append}
-use Rattle.claim_text.proofs.LevelTexts.{best_put}
+use Rattle.claim_text.proofs.Claims.LevelTexts.{best_put}
 use Rattle.claim_text.proofs.claim.writer.put_best.Goals as goal
 
 pub returns : goal.returns

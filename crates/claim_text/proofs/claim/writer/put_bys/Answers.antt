@@ -1,6 +1,6 @@
 use Rattle.std.proofs.Common.{string_bytes, pos}
 use Rattle.problem_core.specs.declared.parts.RowName.TheVariants.{Held}
-use Rattle.claim_text.specs.ClaimLines.{by_line}
+use Rattle.claim_text.specs.Claims.ClaimLines.{by_line}
 use Rattle.claim_text.proofs.Texts.{text_more}
 use Rattle.claim_text.proofs.claim.writer.put_bys.Goals as goal
 

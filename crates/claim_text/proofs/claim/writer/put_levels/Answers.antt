@@ -1,5 +1,5 @@
 use Rattle.std.proofs.Common.{string_bytes}
-use Rattle.claim_text.proofs.LevelTexts.{levels_item}
+use Rattle.claim_text.proofs.Claims.LevelTexts.{levels_item}
 use Rattle.claim_text.proofs.claim.writer.put_levels.Goals as goal
 
 pub loop-level-preserved : goal.loop-level-preserved

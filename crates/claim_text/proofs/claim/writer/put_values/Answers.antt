@@ -1,5 +1,5 @@
 use Rattle.std.proofs.Common.{string_bytes}
-use Rattle.claim_text.specs.ClaimLines.{value_line}
+use Rattle.claim_text.specs.Claims.ClaimLines.{value_line}
 use Rattle.claim_text.proofs.Texts.{text_item}
 use Rattle.claim_text.proofs.claim.writer.put_values.Goals as goal
 

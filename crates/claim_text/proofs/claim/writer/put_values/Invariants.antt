@@ -1,6 +1,6 @@
 use Rattle.std.proofs.Common.{◌≡◌, ◌++◌, take, map, string_bytes}
 use Rattle.claim_text.specs.Lines.{text_of_lines}
-use Rattle.claim_text.specs.ClaimLines.{value_line}
+use Rattle.claim_text.specs.Claims.ClaimLines.{value_line}
 use Rattle.claim_text.proofs.claim.writer.put_values.Given as goal
 
 abbrev pub invariant-loop-pair : goal.invariant-loop-pair

@@ -1,4 +1,4 @@
-use Rattle.claim_text.proofs.StayAttributes.{attributes_more, attributes_same}
+use Rattle.claim_text.proofs.Problems.StayAttributes.{attributes_more, attributes_same}
 use Rattle.claim_text.proofs.problem.attributes.add_attribute.Goals as goal
 
 pub returns-in_ok-push-in-Some : goal.returns-in_ok-push-in-Some

@@ -1,6 +1,6 @@
 use Rattle.std.proofs.Common.{◌≡◌, ◌++◌, List, ℕ}
 use Rattle.std.specs.Str.Lines.{lines}
-use Rattle.span_text.specs.Lines.{lines_left}
+use Rattle.span_text.specs.TextCuts.Lines.{lines_left}
 use Rattle.claim_text.specs.Problems.{AreStayAttributes}
 use Rattle.claim_text.proofs.problem.attributes.attributes_in_order.Given as goal
 

@@ -1,5 +1,5 @@
 use Rattle.std.proofs.lemmas.Result.{IfOk-weaker}
-use Rattle.claim_text.proofs.StayAttributes.{attributes_sorted}
+use Rattle.claim_text.proofs.Problems.StayAttributes.{attributes_sorted}
 use Rattle.claim_text.proofs.problem.attributes.stay_attributes.Goals as goal
 
 pub returns : goal.returns

@@ -3,7 +3,7 @@ use Rattle.std.specs.Prelude.{Contains}
 use Rattle.std.specs.Str.Lines.{lines}
 use Rattle.claim_text.specs.Problems.{nothing_read}
 use Rattle.claim_text.proofs.LineLists.{line_more, line_number, length_more}
-use Rattle.claim_text.proofs.Readings.{lines_count, first_bad, all_read, read_more}
+use Rattle.claim_text.proofs.Problems.Readings.{lines_count, first_bad, all_read, read_more}
 use Rattle.claim_text.proofs.problem.reader.read_lines.Goals as goal
 
 pub overflow_add-number : goal.overflow_add-number

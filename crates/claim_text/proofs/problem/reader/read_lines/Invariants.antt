@@ -1,7 +1,7 @@
 use Rattle.std.proofs.Common.{◌≡◌, ◌++◌, List, ℕ, length}
 use Rattle.std.specs.Prelude.{Contains}
 use Rattle.std.specs.Str.Lines.{lines}
-use Rattle.span_text.specs.Lines.{lines_left}
+use Rattle.span_text.specs.TextCuts.Lines.{lines_left}
 use Rattle.claim_text.specs.Problems.{ReadFrom, nothing_read}
 use Rattle.claim_text.proofs.problem.reader.read_lines.Given as goal
 

@@ -1,7 +1,7 @@
 use Rattle.std.proofs.Common.{◌∙◌}
 use Rattle.std.proofs.lemmas.Result.{err_from_is_err_and}
-use Rattle.claim_text.proofs.Readings.{whole_read}
-use Rattle.claim_text.proofs.RoundTrip.{read_is, stop_is}
+use Rattle.claim_text.proofs.Problems.Readings.{whole_read}
+use Rattle.claim_text.proofs.Problems.RoundTrip.{read_is, stop_is}
 use Rattle.claim_text.proofs.problem.reader.read_problem.Goals as goal
 
 pub finish-requires : goal.finish-requires

@@ -1,6 +1,6 @@
 use Rattle.std.proofs.Common.{map, ◌∙◌}
 use Rattle.claim_text.specs.Lines.{term_word}
-use Rattle.claim_text.proofs.Heads.{head_of, head_is, words_in_two}
+use Rattle.claim_text.proofs.Problems.Heads.{head_of, head_is, words_in_two}
 use Rattle.claim_text.proofs.problem.row_lines.read_row.Goals as goal
 
 pub returns-in_default-clause-none : goal.returns-in_default-clause-none

@@ -1,4 +1,4 @@
-use Rattle.claim_text.proofs.Terms.{not_above}
+use Rattle.claim_text.proofs.Problems.Terms.{not_above}
 use Rattle.claim_text.proofs.problem.term_words.next_term.Goals as goal
 
 pub returns-else-is_above-clause-none : goal.returns-else-is_above-clause-none

@@ -1,6 +1,6 @@
 use Rattle.std.proofs.Common.{rules, ap, sym, ◌∙◌, SFits, w64, to_z}
 use Rattle.std.proofs.lemmas.Int.{to_z-of_z}
-use Rattle.claim_text.proofs.Terms.{product_none}
+use Rattle.claim_text.proofs.Problems.Terms.{product_none}
 use Rattle.claim_text.proofs.problem.term_words.product.Goals as goal
 
 pub returns-then-by-eq0-clause-none : goal.returns-then-by-eq0-clause-none

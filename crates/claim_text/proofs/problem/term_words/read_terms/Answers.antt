@@ -1,4 +1,4 @@
-use Rattle.claim_text.proofs.Terms.{stuck}
+use Rattle.claim_text.proofs.Problems.Terms.{stuck}
 use Rattle.claim_text.proofs.problem.term_words.read_terms.Goals as goal
 
 pub returns-in_default-next_term-clause-none : goal.returns-in_default-next_term-clause-none

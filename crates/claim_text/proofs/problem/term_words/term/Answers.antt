@@ -1,5 +1,5 @@
 use Rattle.claim_text.proofs.Maybe.{none_from}
-use Rattle.claim_text.proofs.Terms.{no_colon, colon}
+use Rattle.claim_text.proofs.Problems.Terms.{no_colon, colon}
 use Rattle.claim_text.proofs.problem.term_words.term.Goals as goal
 
 pub returns-in_err-cut-clause-none : goal.returns-in_err-cut-clause-none

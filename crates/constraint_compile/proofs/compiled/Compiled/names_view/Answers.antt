@@ -1,5 +1,5 @@
 use Rattle.std.proofs.Common.{◌∙◌}
-use Rattle.constraint_compile.proofs.Forms.{any_number}
+use Rattle.constraint_compile.proofs.RowConstants.Forms.{any_number}
 use Rattle.constraint_compile.proofs.compiled.Compiled.names_view.Goals as goal
 
 pub returns : goal.returns

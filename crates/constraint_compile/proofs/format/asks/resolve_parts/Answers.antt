@@ -2,15 +2,16 @@ use Rattle.std.proofs.Common.{◌+◌, ◌++◌, List, [], take, All, inl, inr, 
 use Rattle.std.proofs.lemmas.List.Elements.{All-append}
 use Rattle.std.specs.Option.{option_to_list}
 use Rattle.script_text.specs.Meaning.{Linear}
-use Rattle.constraint_compile.specs.Asks.{IsKeptAsk, AreAsks}
-use Rattle.constraint_compile.specs.FormatLines.{lines_of, numbers, option_numbers}
-use Rattle.constraint_compile.specs.FormatRefusals.{lacks_parent, has_view_space}
-use Rattle.constraint_compile.specs.FormatViews.{parts_view}
+use Rattle.constraint_compile.specs.Formats.Asks.{IsKeptAsk, AreAsks}
+use Rattle.constraint_compile.specs.Formats.FormatLines.{lines_of, numbers, option_numbers}
+use Rattle.constraint_compile.specs.Formats.FormatRefusals.{lacks_parent, has_view_space}
+use Rattle.constraint_compile.specs.Formats.FormatViews.{parts_view}
 use Rattle.constraint_compile.specs.declared.format.parts.Part.{Part}
 use Rattle.constraint_compile.specs.declared.format.parts.Part.TheVariants.{View}
-use Rattle.constraint_compile.proofs.Asked.{asks_append, known_more, views_more, any_more, neither, either}
-use Rattle.constraint_compile.proofs.Numbered.{lines_more, ranks_at}
+use Rattle.constraint_compile.proofs.Formats.Asked.{asks_append, known_more, views_more, any_more, either}
+use Rattle.constraint_compile.proofs.Formats.Numbered.{lines_more, ranks_at}
 use Rattle.constraint_compile.proofs.format.asks.resolve_parts.Goals as goal
+use Rattle.frac_core.proofs.Bools.{neither}
 
 abbrev none : Part
 none = View (record { ref_ptr = (0, 0); now = [] })

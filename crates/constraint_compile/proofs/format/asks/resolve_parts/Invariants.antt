@@ -1,9 +1,9 @@
 use Rattle.std.proofs.Common.{◌≡◌, ◌++◌, ◌||◌, take, drop, All, IsTrue, false}
 use Rattle.std.specs.List.{list_any}
-use Rattle.constraint_compile.specs.Asks.{IsKeptAsk, AreAsks}
-use Rattle.constraint_compile.specs.FormatLines.{lines_of, numbers, parts_views}
-use Rattle.constraint_compile.specs.FormatRefusals.{unknown_parts, lacks_parent, has_view_space, HaveRanks}
-use Rattle.constraint_compile.specs.FormatViews.{parts_view}
+use Rattle.constraint_compile.specs.Formats.Asks.{IsKeptAsk, AreAsks}
+use Rattle.constraint_compile.specs.Formats.FormatLines.{lines_of, numbers, parts_views}
+use Rattle.constraint_compile.specs.Formats.FormatRefusals.{unknown_parts, lacks_parent, has_view_space, HaveRanks}
+use Rattle.constraint_compile.specs.Formats.FormatViews.{parts_view}
 use Rattle.constraint_compile.proofs.format.asks.resolve_parts.Given as goal
 
 abbrev pub invariant-loop-part : goal.invariant-loop-part

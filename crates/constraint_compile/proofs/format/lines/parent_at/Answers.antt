@@ -1,4 +1,4 @@
-use Rattle.constraint_compile.proofs.Parents.{parent_found}
+use Rattle.constraint_compile.proofs.Formats.Parents.{parent_found}
 use Rattle.constraint_compile.proofs.format.lines.parent_at.Goals as goal
 
 pub returns-clause-some : goal.returns-clause-some

@@ -1,8 +1,8 @@
 use Rattle.std.proofs.Common.{◌≡◌, ◌++◌, drop}
 use Rattle.std.specs.Prelude.{IsUtf8}
 use Rattle.vfl_text.specs.View.{item_meanings}
-use Rattle.constraint_compile.specs.FormatParts.{aligned_parts}
-use Rattle.constraint_compile.specs.FormatViews.{parts_view}
+use Rattle.constraint_compile.specs.Formats.FormatParts.{aligned_parts}
+use Rattle.constraint_compile.specs.Formats.FormatViews.{parts_view}
 use Rattle.constraint_compile.proofs.format.lists.push_aligned.Given as goal
 
 abbrev pub invariant-loop-item : goal.invariant-loop-item

@@ -1,8 +1,8 @@
 use Rattle.std.proofs.Common.{◌≡◌, ◌++◌, drop}
 use Rattle.std.specs.Prelude.{IsUtf8}
 use Rattle.vfl_text.specs.View.{spacing_meanings, item_meanings}
-use Rattle.constraint_compile.specs.FormatParts.{chain_parts, last_name}
-use Rattle.constraint_compile.specs.FormatViews.{parts_view}
+use Rattle.constraint_compile.specs.Formats.FormatParts.{chain_parts, last_name}
+use Rattle.constraint_compile.specs.Formats.FormatViews.{parts_view}
 use Rattle.constraint_compile.proofs.format.lists.push_chain.Given as goal
 
 abbrev pub invariant-loop-i : goal.invariant-loop-i

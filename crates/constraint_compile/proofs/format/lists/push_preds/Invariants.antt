@@ -1,7 +1,7 @@
 use Rattle.std.proofs.Common.{◌≡◌, ◌++◌, drop}
 use Rattle.vfl_text.specs.View.{pred_meanings}
-use Rattle.constraint_compile.specs.FormatParts.{asks}
-use Rattle.constraint_compile.specs.FormatViews.{span_view, parts_view}
+use Rattle.constraint_compile.specs.Formats.FormatParts.{asks}
+use Rattle.constraint_compile.specs.Formats.FormatViews.{span_view, parts_view}
 use Rattle.constraint_compile.proofs.format.lists.push_preds.Given as goal
 
 abbrev pub invariant-loop-pred : goal.invariant-loop-pred

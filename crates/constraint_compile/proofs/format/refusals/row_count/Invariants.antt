@@ -1,6 +1,6 @@
 use Rattle.std.proofs.Common.{◌≡◌, ◌+◌, ◌≤◌, drop}
-use Rattle.constraint_compile.specs.FormatStops.{row_count}
-use Rattle.constraint_compile.specs.FormatViews.{parts_view}
+use Rattle.constraint_compile.specs.Formats.FormatStops.{row_count}
+use Rattle.constraint_compile.specs.Formats.FormatViews.{parts_view}
 use Rattle.constraint_compile.proofs.format.refusals.row_count.Given as goal
 
 abbrev pub invariant-loop-part : goal.invariant-loop-part

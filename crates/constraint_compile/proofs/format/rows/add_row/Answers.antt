@@ -5,8 +5,8 @@ use Rattle.std.proofs.lemmas.Result.{on_ok_weaker}
 use Rattle.name_tables.specs.declared.stops.LimitWord.{LimitWord}
 use Rattle.constraint_compile.specs.Compiled as compiled
 use Rattle.constraint_compile.specs.Inside.{form_view, IsForm}
-use Rattle.constraint_compile.specs.FormatFound.{IsFound}
-use Rattle.constraint_compile.proofs.Numbered.{found_row, found_stop}
+use Rattle.constraint_compile.specs.Formats.FormatFound.{IsFound}
+use Rattle.constraint_compile.proofs.Formats.Numbered.{found_row, found_stop}
 use Rattle.constraint_compile.proofs.format.rows.add_row.Goals as goal
 
 pub returns-in-Ok-clause-forms : goal.returns-in-Ok-clause-forms

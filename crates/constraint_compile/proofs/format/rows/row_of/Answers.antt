@@ -2,7 +2,7 @@ use Rattle.std.proofs.Common.{◌≡◌, ℕ, List, Result, Ok, Err, IfOk, IfErr
 use Rattle.view_tree.specs.Views.{LiveView}
 use Rattle.script_text.specs.Meaning.{Linear, Term}
 use Rattle.constraint_compile.specs.Addends.{addends, addends_view}
-use Rattle.constraint_compile.specs.Asks.{added, IsAsk}
+use Rattle.constraint_compile.specs.Formats.Asks.{added, IsAsk}
 use Rattle.constraint_compile.specs.declared.addends.Addend as code
 use Rattle.constraint_compile.specs.declared.format.asks.Ask.{Ask}
 use Rattle.constraint_compile.specs.declared.compiled.RowForm.{RowForm}
@@ -10,7 +10,7 @@ use Rattle.constraint_compile.specs.declared.stops.CompileStop.{CompileStop}
 use Rattle.constraint_compile.specs.Meaning.{MetricList, terms_of}
 use Rattle.constraint_compile.specs.Stops.{IsSumRow, IsWithinLimits, IsRowStop}
 use Rattle.constraint_compile.specs.Inside.{form_view}
-use Rattle.constraint_compile.specs.FormatRows.{IsRowWithin}
+use Rattle.constraint_compile.specs.Formats.FormatRows.{IsRowWithin}
 use Rattle.constraint_compile.proofs.format.rows.row_of.Goals as goal
 
 within : (metrics : MetricList) (a : Ask) (items : List code.Addend) (id : ℕ) (o : Result RowForm CompileStop) → items ≡ added a

@@ -2,11 +2,11 @@ use Rattle.std.proofs.Common.{◌≡◌, ◌+◌, ◌<◌, ◌^◌, List, length
 use Rattle.std.proofs.lemmas.Result.{err_from_is_err_and}
 use Rattle.script_text.specs.Meaning.{Linear}
 use Rattle.name_tables.specs.declared.stops.LimitWord.{LimitWord}
-use Rattle.constraint_compile.specs.Asks.{AreAsks}
+use Rattle.constraint_compile.specs.Formats.Asks.{AreAsks}
 use Rattle.constraint_compile.specs.Inside.{form_view}
-use Rattle.constraint_compile.specs.FormatFound.{IsFound, HaveNoRows}
-use Rattle.constraint_compile.proofs.Asked.{no_asks, asks_long, line_of_last, line_of_place, HasLine, below_limit}
-use Rattle.constraint_compile.proofs.Numbered.{found_passes, line_ends}
+use Rattle.constraint_compile.specs.Formats.FormatFound.{IsFound, HaveNoRows}
+use Rattle.constraint_compile.proofs.Formats.Asked.{no_asks, asks_long, line_of_last, line_of_place, HasLine, below_limit}
+use Rattle.constraint_compile.proofs.Formats.Numbered.{found_passes, line_ends}
 use Rattle.constraint_compile.proofs.format.rows.rows_of.Goals as goal
 
 pub add_row-requires-clause-number : goal.add_row-requires-clause-number

@@ -1,9 +1,9 @@
 use Rattle.std.proofs.Common.{◌≡◌, ◌+◌, List, take, map}
 use Rattle.script_text.specs.Meaning.{Linear}
 use Rattle.view_tree.specs.Views.{LiveView}
-use Rattle.constraint_compile.specs.Asks.{AreAsks}
+use Rattle.constraint_compile.specs.Formats.Asks.{AreAsks}
 use Rattle.constraint_compile.specs.Inside.{form_view, AreForms}
-use Rattle.constraint_compile.specs.FormatFound.{IsFound}
+use Rattle.constraint_compile.specs.Formats.FormatFound.{IsFound}
 use Rattle.constraint_compile.proofs.format.rows.rows_of.Given as goal
 
 abbrev pub invariant-loop-ask : goal.invariant-loop-ask

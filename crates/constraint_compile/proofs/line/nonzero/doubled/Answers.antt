@@ -1,8 +1,8 @@
 use Rattle.std.proofs.Common.{◌+ℤ◌, take, SFits, arith, pos}
 use Rattle.std.specs.Int.{w64}
 use Rattle.std.proofs.lemmas.Int.{to_z-of_z, fits_signed_from_abs}
-use Rattle.constraint_compile.specs.Pieces.{AreDoubled}
-use Rattle.constraint_compile.proofs.Doubles.{doubled_at, doubled_small}
+use Rattle.constraint_compile.specs.Coefficients.Pieces.{AreDoubled}
+use Rattle.constraint_compile.proofs.Sums.Doubles.{doubled_at, doubled_small}
 use Rattle.constraint_compile.proofs.line.nonzero.doubled.Goals as goal
 
 pub loop-piece-preserved : goal.loop-piece-preserved

@@ -1,8 +1,8 @@
 use Rattle.std.proofs.Common.{◌≡◌, ◌≤◌, ◌<◌, ◌^◌, ◌+ℤ◌, ◌*ℤ◌, pos, SFits, arith, unsigned_abs, refl}
 use Rattle.std.specs.Int.{w64}
 use Rattle.std.proofs.lemmas.Int.{to_z-of_z, fits_signed_from_abs}
-use Rattle.constraint_compile.specs.Pieces.{AreDoubled}
-use Rattle.constraint_compile.proofs.Doubles.{IsRound, first_round, round_small, round_more, round_past, round_last}
+use Rattle.constraint_compile.specs.Coefficients.Pieces.{AreDoubled}
+use Rattle.constraint_compile.proofs.Sums.Doubles.{IsRound, first_round, round_small, round_more, round_past, round_last}
 use Rattle.constraint_compile.proofs.line.nonzero.is_zero.Goals as goal
 
 pub loop-round-init : goal.loop-round-init

@@ -1,4 +1,4 @@
-use Rattle.constraint_compile.proofs.Doubles.{IsRound}
+use Rattle.constraint_compile.proofs.Sums.Doubles.{IsRound}
 use Rattle.constraint_compile.proofs.line.nonzero.is_zero.Given as goal
 
 abbrev pub invariant-loop-round : goal.invariant-loop-round

@@ -1,5 +1,5 @@
 use Rattle.constraint_compile.specs.Addends.{addends_view, sum_of}
-use Rattle.constraint_compile.specs.Pieces.{HasFound}
+use Rattle.constraint_compile.specs.Coefficients.Pieces.{HasFound}
 use Rattle.constraint_compile.proofs.line.nonzero.nonzero.Given as goal
 
 abbrev pub invariant-loop-place : goal.invariant-loop-place

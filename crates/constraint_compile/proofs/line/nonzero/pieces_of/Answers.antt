@@ -1,7 +1,7 @@
 use Rattle.std.proofs.lemmas.List.Elements.{All-push}
 use Rattle.constraint_compile.specs.Addends.{Addend, addends_view}
-use Rattle.constraint_compile.specs.Pieces.{IsPiece, piece_value}
-use Rattle.constraint_compile.proofs.Doubles.{values_more, values_whole, same_length, same_total}
+use Rattle.constraint_compile.specs.Coefficients.Pieces.{IsPiece, piece_value}
+use Rattle.constraint_compile.proofs.Sums.Doubles.{values_more, values_whole, same_length, same_total}
 use Rattle.constraint_compile.proofs.line.nonzero.pieces_of.Goals as goal
 
 pub returns-clause-total : goal.returns-clause-total

@@ -1,6 +1,6 @@
 use Rattle.std.proofs.Common.{◌≡◌, map, take, All}
 use Rattle.constraint_compile.specs.Addends.{addends_view}
-use Rattle.constraint_compile.specs.Pieces.{piece_value, IsPiece}
+use Rattle.constraint_compile.specs.Coefficients.Pieces.{piece_value, IsPiece}
 use Rattle.constraint_compile.proofs.line.nonzero.pieces_of.Given as goal
 
 abbrev pub invariant-loop-addend : goal.invariant-loop-addend

@@ -3,7 +3,7 @@ use Rattle.std.specs.Int.{w64}
 use Rattle.std.proofs.lemmas.List.{get_or_default}
 use Rattle.std.proofs.lemmas.Int.{to_z-of_z, fits_signed_from_abs}
 use Rattle.problem_core.specs.declared.parts.Term.{Term}
-use Rattle.constraint_compile.specs.Sums.{attr_at, number_at}
+use Rattle.constraint_compile.specs.Coefficients.Sums.{attr_at, number_at}
 use Rattle.constraint_compile.proofs.RowTerms.{appended}
 use Rattle.constraint_compile.proofs.line.row_terms.keep.Goals as goal
 

@@ -1,4 +1,4 @@
-use Rattle.constraint_compile.specs.Sums.{HasFirst}
+use Rattle.constraint_compile.specs.Coefficients.Sums.{HasFirst}
 use Rattle.constraint_compile.proofs.line.row_terms.row_terms.Given as goal
 
 abbrev pub invariant-loop-place : goal.invariant-loop-place

@@ -1,6 +1,6 @@
 use Rattle.std.proofs.Common.{rules}
 use Rattle.constraint_compile.specs.Addends.{addends_view, sum_of}
-use Rattle.constraint_compile.specs.Sums.{HasTooMany}
+use Rattle.constraint_compile.specs.Coefficients.Sums.{HasTooMany}
 use Rattle.constraint_compile.proofs.Added.{AreSmallFirst, many_is, few_is, past_is}
 use Rattle.constraint_compile.proofs.Lines.{terms_at}
 use Rattle.constraint_compile.proofs.line.rows.coefficients_of.Goals as goal

@@ -1,4 +1,4 @@
-use Rattle.constraint_compile.proofs.Beginnings.{zero_sum, zero_kept}
+use Rattle.constraint_compile.proofs.Sums.Beginnings.{zero_sum, zero_kept}
 use Rattle.std.proofs.Common.{arith}
 use Rattle.constraint_compile.proofs.line.scales.no_sum.Goals as goal
 

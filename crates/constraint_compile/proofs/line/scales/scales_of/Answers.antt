@@ -1,18 +1,18 @@
 use Rattle.std.proofs.Common.{◌≡◌, ℕ, ◌+◌, ◌++◌, ◌∷◌, [], pos, sym, subst}
 use Rattle.constraint_compile.specs.Addends.{addend_view, addends_view, first_of, with_addend}
 use Rattle.constraint_compile.specs.declared.addends.Addend.{Addend}
-use Rattle.constraint_compile.specs.Shares.{IsOff}
-use Rattle.constraint_compile.specs.Sums.{AreKept, IsSum}
-use Rattle.constraint_compile.proofs.Beginnings.{AreSame, sum_same, small_same, same_addend, scales_more}
+use Rattle.constraint_compile.specs.Coefficients.Shares.{IsOff}
+use Rattle.constraint_compile.specs.Coefficients.Sums.{AreKept, IsSum}
+use Rattle.constraint_compile.proofs.Sums.Beginnings.{AreSame, sum_same, small_same, same_addend, scales_more}
 use Rattle.constraint_compile.proofs.line.scales.scales_of.Goals as goal
 
-pub returns-in-None-clause-past : goal.returns-in-None-clause-past
-returns-in-None-clause-past c = λ all.
+pub returns-in_default-clause-past : goal.returns-in_default-clause-past
+returns-in_default-clause-past c = λ all.
     let off : (v : ℕ) → IsOff c.args.attrs.now v → ((addend_view c.addend-item.result).share v).num ≡ pos 0 = λ v is.
     subst (λ (a : Addend). ((addend_view a).share v).num ≡ pos 0) (sym c.addend-item.is) (c.requires.off v is c.loop-addend.addend-index c.addend-item.result c.loop-addend-test.true) in
     let same : AreSame (with_addend (first_of (addends_view c.args.added.now) c.loop-addend.addend-index) (addend_view c.addend-item.result)) (first_of (addends_view c.args.added.now) (c.loop-addend.addend-index + 1)) =
     same_addend c.args.added.now c.loop-addend.addend-index c.addend-item.result c.loop-addend-test.true c.addend-item.is in
-    let past = rw c.in-None.is at c.in_ok-next.ensures.past in
+    let past = rw c.in_default.is at c.in_ok-next.ensures.past in
     past (first_of (addends_view c.args.added.now) c.loop-addend.addend-index) c.loop-addend.invariant.sum off
     (small_same (first_of (addends_view c.args.added.now) (c.loop-addend.addend-index + 1)) (with_addend (first_of (addends_view c.args.added.now) c.loop-addend.addend-index) (addend_view c.addend-item.result))
     (λ v. sym (same v)) (all c.loop-addend.addend-index c.loop-addend-test.true))

@@ -1,5 +1,5 @@
 use Rattle.constraint_compile.specs.Addends.{addends_view, first_of}
-use Rattle.constraint_compile.specs.Sums.{AreKept, IsSum, AreScales}
+use Rattle.constraint_compile.specs.Coefficients.Sums.{AreKept, IsSum, AreScales}
 use Rattle.constraint_compile.proofs.line.scales.scales_of.Given as goal
 
 abbrev pub invariant-loop-addend : goal.invariant-loop-addend

@@ -4,8 +4,9 @@ use Rattle.std.proofs.lemmas.Int.{to_z-of_z, fits_signed_from_abs}
 use borrow.Author.Differences.{ints}
 use Rattle.frac_core.specs.Fraction.{IsKept, IsFitting}
 use Rattle.constraint_compile.specs.Fractions.{negated}
-use Rattle.constraint_compile.proofs.Lowest.{one_lowest, negated_kept}
+use Rattle.constraint_compile.proofs.Lowest.{negated_kept}
 use Rattle.constraint_compile.proofs.line.signs.negated.Goals as goal
+use Rattle.frac_core.proofs.Made.{same_fraction as one_lowest}
 
 opposite_fits : (z : ℤ) → IsFitting z → SFits w128 (pos 0 -ℤ z)
 opposite_fits z h = fits_signed_from_abs w128 _ (omega (arith, ints, h))

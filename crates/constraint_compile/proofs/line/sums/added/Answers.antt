@@ -1,6 +1,6 @@
 use Rattle.std.proofs.Common.{◌≡◌, ℕ, subst}
-use Rattle.constraint_compile.specs.Sums.{AreKept, IsSum, AreWhole}
-use Rattle.constraint_compile.proofs.Wholes.{whole_sum, whole_kept}
+use Rattle.constraint_compile.specs.Coefficients.Sums.{AreKept, IsSum, AreWhole}
+use Rattle.constraint_compile.proofs.Sums.Wholes.{whole_sum, whole_kept}
 use Rattle.constraint_compile.proofs.line.sums.added.Goals as goal
 
 pub returns-in-Some-clause-kept : goal.returns-in-Some-clause-kept

@@ -2,7 +2,7 @@ use Rattle.std.proofs.Common.{◌≡◌, ℕ, pos, get_or, SFits, rules, subst}
 use Rattle.std.specs.Prelude.{unsigned_abs}
 use Rattle.std.specs.Int.{w128, IsGcd}
 use Rattle.std.proofs.lemmas.Int.{to_z-of_z}
-use Rattle.constraint_compile.proofs.Divisors.{divisor_more}
+use Rattle.constraint_compile.proofs.Sums.Divisors.{divisor_more}
 use Rattle.constraint_compile.proofs.line.sums.common_divisor.Goals as goal
 
 pub loop-number-preserved : goal.loop-number-preserved

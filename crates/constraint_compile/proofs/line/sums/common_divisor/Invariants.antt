@@ -1,5 +1,5 @@
 use Rattle.std.proofs.Common.{take}
-use Rattle.constraint_compile.specs.Sums.{IsDivisor}
+use Rattle.constraint_compile.specs.Coefficients.Sums.{IsDivisor}
 use Rattle.constraint_compile.proofs.line.sums.common_divisor.Given as goal
 
 abbrev pub invariant-loop-number : goal.invariant-loop-number

@@ -2,7 +2,7 @@ use Rattle.std.proofs.Common.{◌≡◌, ℕ, ◌<◌, ◌≤◌, ◌^◌, ◌++
 use Rattle.std.specs.Int.{w64, w128}
 use Rattle.std.proofs.lemmas.Int.{to_z-of_z}
 use Rattle.std.proofs.lemmas.List.Elements.{All-push}
-use Rattle.constraint_compile.specs.Sums.{number_at}
+use Rattle.constraint_compile.specs.Coefficients.Sums.{number_at}
 use Rattle.constraint_compile.proofs.Lists.{each_pushed_by}
 use Rattle.constraint_compile.proofs.line.sums.divided.Goals as goal
 
@@ -15,7 +15,7 @@ pub loop-number-preserved : goal.loop-number-preserved
 loop-number-preserved c =
     let element : SFits w128 (get_or c.args.wide.now c.loop-number.number-index (pos 0)) = search rules in
     let fits : SFits w64 c.in-Some.small = search rules in
-    let items : c.push.new.self.items ≡ c.loop-number.out.items ++ c.in-Some.small ∷ [] = simp to_z-of_z at c.in_ok-push-in-Some.ensures.items in
+    let items : c.push.new.self.items ≡ c.loop-number.out.items ++ c.in-Some.small ∷ [] = simp to_z-of_z at c.in_ok-push.ensures.items in
     let here : c.args.divisor *ℤ c.in-Some.small ≡ number_at c.args.wide.now c.loop-number.number-index = simp (to_z-of_z, c.ranges.divisor, element) at c.in-Some.ensures.value in
     let before : (i : ℕ) → i < c.loop-number.number-index → c.args.divisor *ℤ number_at c.loop-number.out.items i ≡ number_at c.args.wide.now i = simp (to_z-of_z, c.ranges.divisor) at c.loop-number.invariant.each in
     rw items (record {

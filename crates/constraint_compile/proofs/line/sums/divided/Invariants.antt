@@ -1,5 +1,5 @@
 use Rattle.std.proofs.Common.{◌≡◌, ℕ, ◌<◌, ◌≤◌, ◌^◌, ◌*ℤ◌, length, All, unsigned_abs}
-use Rattle.constraint_compile.specs.Sums.{number_at}
+use Rattle.constraint_compile.specs.Coefficients.Sums.{number_at}
 use Rattle.constraint_compile.proofs.line.sums.divided.Given as goal
 
 abbrev pub invariant-loop-number : goal.invariant-loop-number

@@ -1,5 +1,5 @@
 use Rattle.std.proofs.Common.{◌≡◌, ℕ, ◌<◌, ◌≤◌, ◌^◌, ◌*ℤ◌, pos, length, All, unsigned_abs}
-use Rattle.constraint_compile.specs.Sums.{attr_at, number_at, with_share_number}
+use Rattle.constraint_compile.specs.Coefficients.Sums.{attr_at, number_at, with_share_number}
 use Rattle.constraint_compile.proofs.line.sums.whole_numbers.Given as goal
 
 abbrev pub invariant-loop-place : goal.invariant-loop-place

@@ -2,7 +2,7 @@ use Rattle.std.proofs.Common.{◌≡◌, ◌++◌, ◌∷◌, [], length-append,
 use Rattle.std.specs.Int.{w64, w128}
 use Rattle.std.proofs.lemmas.List.{get_or_default}
 use Rattle.std.proofs.lemmas.Int.{to_z-of_z, fits_signed_from_abs}
-use Rattle.constraint_compile.specs.Sums.{attr_at, number_at, with_share_number}
+use Rattle.constraint_compile.specs.Coefficients.Sums.{attr_at, number_at, with_share_number}
 use Rattle.constraint_compile.proofs.Lists.{each_pushed}
 use Rattle.constraint_compile.proofs.line.sums.widened.Goals as goal
 

@@ -1,5 +1,5 @@
 use Rattle.std.proofs.Common.{◌≡◌, ℕ, ◌<◌, length}
-use Rattle.constraint_compile.specs.Sums.{attr_at, number_at, with_share_number}
+use Rattle.constraint_compile.specs.Coefficients.Sums.{attr_at, number_at, with_share_number}
 use Rattle.constraint_compile.proofs.line.sums.widened.Given as goal
 
 abbrev pub invariant-loop-place : goal.invariant-loop-place

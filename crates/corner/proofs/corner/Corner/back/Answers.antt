@@ -1,4 +1,4 @@
-use Rattle.corner.proofs.CornerFacts.{back_kept}
+use Rattle.corner.proofs.Corners.CornerFacts.{back_kept}
 use Rattle.corner.proofs.corner.Corner.back.Goals as goal
 
 pub invariant_of-self : goal.invariant_of-self

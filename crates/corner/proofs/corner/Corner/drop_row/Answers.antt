@@ -1,11 +1,11 @@
 use Rattle.std.proofs.Common.{◌≡◌, ◌∙◌, ℕ, [], ◌∷◌, Any, ap₂, subst, sym, Result, Ok, Err, OnOk, IfOk, IfErr}
-use Rattle.problem_core.specs.Begins.{without_marks}
+use Rattle.problem_core.specs.Changes.Begins.{without_marks}
 use Rattle.problem_core.specs.declared.parts.RowName.TheVariants.{Held}
 use Rattle.corner_lines.specs.Removals.{without_row}
 use Rattle.corner.specs.Changes.{IsUnfitStop}
 use Rattle.corner.specs.Tables.{lists_of, marks_at, problem_of}
 use Rattle.corner.specs.Views.{CornerView}
-use Rattle.corner.proofs.DroppedTables.{inside_row}
+use Rattle.corner.proofs.Removals.DroppedTables.{inside_row}
 use Rattle.corner.proofs.corner.Corner.drop_row.Goals as goal
 
 ok-with : {T E : Type 0} (r : Result T E) (P Q : Type 0) → (P → Q) → OnOk r P → IfOk r (λ x. Q)

@@ -1,5 +1,5 @@
 use Rattle.std.proofs.Common.{◌≡◌, ◌-◌, length, map, take, subst}
-use Rattle.corner.proofs.CornerFacts.{forget_before, forget_kept}
+use Rattle.corner.proofs.Corners.CornerFacts.{forget_before, forget_kept}
 use Rattle.corner.specs.Views.{CornerView}
 use Rattle.corner.specs.Histories.{lists_before}
 use Rattle.corner.specs.Tables.{scene_at}

@@ -1,7 +1,7 @@
 use Rattle.std.proofs.Common.{◌≡◌, ◌∷◌, [], map, take, subst, sym}
 use Rattle.version_list.specs.declared.TheConstants.{VERSION_LIMIT}
 use Rattle.corner.specs.Views.{CornerView}
-use Rattle.corner.proofs.CornerFacts.{mark_before, mark_kept}
+use Rattle.corner.proofs.Corners.CornerFacts.{mark_before, mark_kept}
 use Rattle.corner.specs.Changes.{scene_of}
 use Rattle.corner.specs.Histories.{lists_before}
 use Rattle.corner.specs.Tables.{scene_at}

@@ -4,7 +4,7 @@ use Rattle.corner.specs.Changes.{IsUnfitStop}
 use Rattle.corner.specs.Views.{CornerView}
 use Rattle.corner.specs.Tables.{lists_of}
 use Rattle.corner.specs.Invariants.{IsEarlier}
-use Rattle.corner.proofs.ShiftTables.{shifted_consistent, shifted_marks, shifted_stop}
+use Rattle.corner.proofs.Shifts.ShiftTables.{shifted_consistent, shifted_marks, shifted_stop}
 use Rattle.corner.proofs.corner.Corner.shift.Goals as goal
 
 pub invariant_of-self : goal.invariant_of-self

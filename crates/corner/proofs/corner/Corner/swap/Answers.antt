@@ -2,16 +2,16 @@ use Rattle.std.proofs.Common.{◌≡◌, ◌≢◌, Result, Ok, Err, IfOk, IfErr
 use Rattle.problem_core.specs.declared.stops.What.TheVariants.{Mark as MarkOf}
 use Rattle.problem_core.specs.Corners.{IsExchange, IsIn, SameMarks, exchanged, place}
 use Rattle.corner.specs.Changes.{IsUnfitStop}
-use Rattle.corner.specs.Exchanges.{IsPair, IsPairStop}
-use Rattle.corner.specs.NextLists.{AreMarksBy, AreMarksTurned}
-use Rattle.corner.specs.TurnedLevels.{IsTurn, IsTurnStop}
+use Rattle.corner.specs.Swaps.Exchanges.{IsPair, IsPairStop}
+use Rattle.corner.specs.Swaps.NextLists.{AreMarksBy, AreMarksTurned}
+use Rattle.corner.specs.Swaps.TurnedLevels.{IsTurn, IsTurnStop}
 use Rattle.corner.specs.Tables.{lists_of, marks_at, problem_of}
 use Rattle.corner.specs.Views.{CornerView, IsOutside, MovesWith}
-use Rattle.corner.proofs.MarkFacts.{not_both}
-use Rattle.corner.proofs.ReadFacts.{mark_named}
-use Rattle.corner.proofs.WritingFacts.{in_mark}
-use Rattle.corner.proofs.NextConsistent.{swap_exchange, swap_pair, swap_turn}
+use Rattle.corner.proofs.Readings.ReadFacts.{mark_named}
+use Rattle.corner.proofs.Readings.WritingFacts.{in_mark}
+use Rattle.corner.proofs.Swaps.NextConsistent.{swap_exchange, swap_pair, swap_turn}
 use Rattle.corner.proofs.corner.Corner.swap.Goals as goal
+use Rattle.frac_core.proofs.Bools.{not-both as not_both}
 
 ok-with : {T E : Type 0} (r : Result T E) (P Q : Type 0) → (P → Q) → OnOk r P → IfOk r (λ x. Q)
 ok-with (Ok x) P Q f p = f p

@@ -4,9 +4,9 @@ use Rattle.corner.specs.Views.{CornerView}
 use Rattle.corner.specs.Changes.{HasNoNegative}
 use Rattle.corner.specs.Invariants.{name_of, names_of}
 use Rattle.corner.specs.Tables.{lists_of, slot_at}
-use Rattle.corner.proofs.CornerFacts.{map_length}
-use Rattle.corner.proofs.ListFacts.{get_mapped, unlist_kept}
+use Rattle.corner.proofs.Basics.ListFacts.{get_mapped, unlist_kept}
 use Rattle.corner.proofs.corner.Corner.unlist.Goals as goal
+use Rattle.frac_core.proofs.Lists.{length-mapped as map_length}
 
 pub invariant_of-self : goal.invariant_of-self
 invariant_of-self c =

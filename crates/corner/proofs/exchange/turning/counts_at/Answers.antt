@@ -5,10 +5,10 @@ use Rattle.frac_core.specs.Fraction.{IsFitting}
 use Rattle.problem_core.specs.declared.parts.Side.TheVariants.{Under, Over}
 use Rattle.corner.specs.declared.table.Slot.{Slot}
 use Rattle.corner.specs.Tables.{lists_of}
-use Rattle.corner.specs.LevelNumbers.{IsCost, IsLinesSlot, count_of}
-use Rattle.corner.proofs.LevelReadFacts.{added, added_fits, counted}
-use Rattle.corner.proofs.LevelCounts.{count_cost}
-use Rattle.corner.proofs.TurnedChanges.{counts_there, turn_line}
+use Rattle.corner.specs.Reads.LevelNumbers.{IsCost, IsLinesSlot, count_of}
+use Rattle.corner.proofs.LevelFacts.LevelReadFacts.{added, added_fits, counted}
+use Rattle.corner.proofs.LevelFacts.LevelCounts.{count_cost}
+use Rattle.corner.proofs.Swaps.TurnedChanges.{counts_there, turn_line}
 use Rattle.corner.proofs.exchange.turning.counts_at.Goals as goal
 
 pub cost_share-requires-clause-counted : goal.cost_share-requires-clause-counted

@@ -1,6 +1,6 @@
 use Rattle.std.proofs.Common.{rules, refl}
 use Rattle.frac_core.specs.Fraction.{IsKept}
-use Rattle.corner.proofs.Opposites.{opposite_is, opposite_there}
+use Rattle.corner.proofs.Basics.Opposites.{opposite_is, opposite_there}
 use Rattle.corner.proofs.exchange.turning.negated.Goals as goal
 
 pub returns-in-Ok : goal.returns-in-Ok

@@ -3,10 +3,10 @@ use Rattle.std.proofs.Common.{◌<◌, ◌∙◌, Result, Ok, Err, OnOk, length,
 use Rattle.row_core.specs.Rows.{Term}
 use Rattle.problem_core.specs.Corners.{SameMarks}
 use Rattle.corner.specs.Kept.{AreSlots, IsKept}
-use Rattle.corner.specs.Exchanges.{marks_after}
-use Rattle.corner.specs.NextLists.{AreMarksTurned}
+use Rattle.corner.specs.Swaps.Exchanges.{marks_after}
+use Rattle.corner.specs.Swaps.NextLists.{AreMarksTurned}
 use Rattle.corner.specs.Tables.{IsListedOf, Lists, lists_of, marks_at, row_at}
-use Rattle.corner.proofs.TurnedFacts.{turn_slot, turned_after, turned_count, turned_in, turned_kept, turned_row}
+use Rattle.corner.proofs.Swaps.TurnedFacts.{turn_slot, turned_after, turned_count, turned_in, turned_kept, turned_row}
 use Rattle.corner.proofs.exchange.turning.put_turn.Goals as goal
 
 on-ok : {T E : Type 0} (r : Result T E) (P : Type 0) → P → OnOk r P

@@ -11,9 +11,9 @@ use Rattle.corner.specs.declared.levels.fitting.Draft.{Draft}
 use Rattle.corner.specs.declared.table.Slot.{Slot}
 use Rattle.corner.specs.declared.table.TheConstants.{LEVELS}
 use Rattle.corner.specs.Tables.{lists_of, priority_at, slot_at}
-use Rattle.corner.specs.TurnedLevels.{IsHomeStop, IsTurnStop}
-use Rattle.corner.proofs.LevelCosts.{unit_above, unit_fits}
-use Rattle.corner.proofs.TurnedChanges.{IsTurnDraft, turn_draft_stop, turned_change}
+use Rattle.corner.specs.Swaps.TurnedLevels.{IsHomeStop, IsTurnStop}
+use Rattle.corner.proofs.Pivots.LevelCosts.{unit_above, unit_fits}
+use Rattle.corner.proofs.Swaps.TurnedChanges.{IsTurnDraft, turn_draft_stop, turned_change}
 use Rattle.corner.proofs.exchange.turning.turned_level.Goals as goal
 
 pub does_level_fit-requires-clause-unit : goal.does_level_fit-requires-clause-unit

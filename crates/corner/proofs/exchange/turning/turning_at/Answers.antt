@@ -5,10 +5,10 @@ use Rattle.corner_lines.specs.LineEquations.{sign_of}
 use Rattle.corner.specs.declared.table.Slot.{Slot}
 use Rattle.corner.specs.Tables.{lists_of, slot_at}
 use Rattle.corner.specs.Kept.{level_own}
-use Rattle.corner.specs.TurnedLevels.{counts_at, turning_at}
-use Rattle.corner.proofs.LevelReadFacts.{fitting_cost}
-use Rattle.corner.proofs.LevelWords.{double_fits, double_is, product_fits}
-use Rattle.corner.proofs.TurnedChanges.{counted_there, turning_there}
+use Rattle.corner.specs.Swaps.TurnedLevels.{counts_at, turning_at}
+use Rattle.corner.proofs.LevelFacts.LevelReadFacts.{fitting_cost}
+use Rattle.corner.proofs.LevelFacts.LevelWords.{double_fits, double_is, product_fits}
+use Rattle.corner.proofs.Swaps.TurnedChanges.{counted_there, turning_there}
 use Rattle.corner.proofs.exchange.turning.turning_at.Goals as goal
 
 pub overflow_mul-result : goal.overflow_mul-result

@@ -5,13 +5,12 @@ use Rattle.frac_core.specs.Fraction.{IsFitting}
 use Rattle.corner.specs.declared.table.Slot.{Slot}
 use Rattle.corner.specs.declared.table.TheConstants.{LEVELS}
 use Rattle.corner.specs.Tables.{lists_of, priority_at}
-use Rattle.corner.specs.TurnedLevels.{IsLineStop, IsTurnedValue, counts_at}
-use Rattle.corner.proofs.PivotFacts.{err_all}
-use Rattle.corner.proofs.LevelReadFacts.{fitting_cost, negated}
-use Rattle.corner.proofs.LevelCosts.{unit_above, unit_fits}
-use Rattle.corner.proofs.TurnedChanges.{turn_cost_stop, turned_value_of}
+use Rattle.corner.specs.Swaps.TurnedLevels.{IsLineStop, IsTurnedValue, counts_at}
+use Rattle.corner.proofs.LevelFacts.LevelReadFacts.{fitting_cost, negated}
+use Rattle.corner.proofs.Pivots.LevelCosts.{unit_above, unit_fits}
+use Rattle.corner.proofs.Swaps.TurnedChanges.{turn_cost_stop, turned_value_of}
 use Rattle.corner.proofs.exchange.turning.turning_cost.Goals as goal
-use Rattle.frac_core.proofs.Results.{ok_implies}
+use Rattle.frac_core.proofs.Results.{ok_implies, err_implies as err_all}
 
 pub named_sum-requires-clause-d : goal.named_sum-requires-clause-d
 named_sum-requires-clause-d c =

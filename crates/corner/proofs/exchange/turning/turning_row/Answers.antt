@@ -1,7 +1,7 @@
 use Rattle.std.proofs.Common.{rules, SFits, to_z, of_z, ◌≡◌, ◌∙◌, inl, inr, pos, refl, sym, ap, subst}
 use Rattle.std.specs.Int.{w128}
 use Rattle.std.proofs.lemmas.Int.{to_z-of_z}
-use Rattle.problem_core.specs.Stops.{TableStop}
+use Rattle.problem_core.specs.Changes.Stops.{TableStop}
 use Rattle.row_core.specs.Rows.{IsReduced, IsUnfit}
 use Rattle.row_core.specs.Combinations.{combination_but}
 use Rattle.row_core.specs.declared.entry.Factors.{Factors}
@@ -9,14 +9,13 @@ use Rattle.row_core.specs.declared.entry.Patch.{Patch}
 use Rattle.frac_core.specs.Stops.{IsRefused}
 use Rattle.corner.specs.declared.table.Slot.{Slot}
 use Rattle.corner.specs.Changes.{IsUnfitStop}
-use Rattle.corner.specs.Exchanges.{marks_after}
+use Rattle.corner.specs.Swaps.Exchanges.{marks_after}
 use Rattle.corner.specs.Tables.{entry, lists_of, problem_of, row_at}
-use Rattle.corner.specs.TurnedLevels.{IsTurnStop, turned_sum}
-use Rattle.corner.proofs.PivotFacts.{err_all}
-use Rattle.corner.proofs.LineSlots.{err_of, ok_of, read_row}
-use Rattle.corner.proofs.TurnedChanges.{AreTurnNumbers, turn_reduced, turn_row_stop}
+use Rattle.corner.specs.Swaps.TurnedLevels.{IsTurnStop, turned_sum}
+use Rattle.corner.proofs.Pivots.LineSlots.{err_of, ok_of, read_row}
+use Rattle.corner.proofs.Swaps.TurnedChanges.{AreTurnNumbers, turn_reduced, turn_row_stop}
 use Rattle.corner.proofs.exchange.turning.turning_row.Goals as goal
-use Rattle.frac_core.proofs.Results.{ok_implies}
+use Rattle.frac_core.proofs.Results.{ok_implies, err_implies as err_all}
 
 abbrev factors : goal.After-named_row → Factors
 factors c = record { k = to_z w128 (of_z w128 c.from.result); n = to_z w128 (of_z w128 c.from-2.result) }

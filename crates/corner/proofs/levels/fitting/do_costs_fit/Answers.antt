@@ -1,9 +1,9 @@
 use Rattle.std.proofs.Common.{rules, ◌≡◌, ◌+ℤ◌, ◌-ℤ◌, true}
 use Rattle.frac_core.specs.Fraction.{IsFitting}
 use Rattle.problem_core.specs.declared.parts.Side.TheVariants.{Under, Over}
-use Rattle.corner.specs.Fitting.{counted}
-use Rattle.corner.proofs.MarkFacts.{not_both}
+use Rattle.corner.specs.Reads.Fitting.{counted}
 use Rattle.corner.proofs.levels.fitting.do_costs_fit.Goals as goal
+use Rattle.frac_core.proofs.Bools.{not-both as not_both}
 
 pub returns-then-is_fitting-clause-fit : goal.returns-then-is_fitting-clause-fit
 returns-then-is_fitting-clause-fit c e =

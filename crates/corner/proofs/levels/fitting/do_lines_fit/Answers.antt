@@ -2,10 +2,10 @@ use Rattle.std.proofs.Common.{rules, ◌≡◌, ◌≢◌, ◌+◌, ◌-◌, ◌
 use Rattle.problem_core.specs.declared.parts.RowName.TheVariants.{Held}
 use Rattle.corner.specs.Tables.{line_slot, lists_of, problem_of, slot_at}
 use Rattle.corner.specs.Views.{IsNamed}
-use Rattle.corner.specs.LevelNumbers.{IsCounted}
-use Rattle.corner.specs.Fitting.{IsFittingLine}
-use Rattle.corner.proofs.MarkingFacts.{row_named}
-use Rattle.corner.proofs.FittingLoops.{AreFittingSoFar, another_level, counted_named, one_joined}
+use Rattle.corner.specs.Reads.LevelNumbers.{IsCounted}
+use Rattle.corner.specs.Reads.Fitting.{IsFittingLine}
+use Rattle.corner.proofs.Readings.MarkingFacts.{row_named}
+use Rattle.corner.proofs.LevelFacts.FittingLoops.{AreFittingSoFar, another_level, counted_named, one_joined}
 use Rattle.corner.proofs.levels.fitting.do_lines_fit.Goals as goal
 use Rattle.corner.proofs.levels.fitting.do_lines_fit.Goals.{then-level_at-draft+else-joined-draft+else-not-does_line_fit, else-level_at-draft}
 

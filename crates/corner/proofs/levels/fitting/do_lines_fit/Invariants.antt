@@ -1,5 +1,5 @@
 use Rattle.corner.specs.Tables.{lists_of}
-use Rattle.corner.proofs.FittingLoops.{AreFittingSoFar}
+use Rattle.corner.proofs.LevelFacts.FittingLoops.{AreFittingSoFar}
 use Rattle.corner.proofs.levels.fitting.do_lines_fit.Given as goal
 
 abbrev pub invariant-loop-row : goal.invariant-loop-row

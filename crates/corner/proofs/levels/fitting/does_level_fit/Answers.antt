@@ -4,7 +4,7 @@ use Rattle.frac_core.specs.Fraction.{IsFitting}
 use Rattle.row_core.specs.Rows.{coefficient}
 use Rattle.corner_laws.specs.LevelLaws.{small_number}
 use Rattle.corner.specs.Tables.{lists_of}
-use Rattle.corner.proofs.FittingRows.{fits_by_lines, fits_if_small, unfit_by_lines}
+use Rattle.corner.proofs.LevelFacts.FittingRows.{fits_by_lines, fits_if_small, unfit_by_lines}
 use Rattle.corner.proofs.levels.fitting.does_level_fit.Goals as goal
 
 pub returns-then-are_small-clause-fits : goal.returns-then-are_small-clause-fits

@@ -2,9 +2,9 @@ use Rattle.std.proofs.Common.{rules, ◌≡◌, ◌<◌, ◌^◌, ◌*ℤ◌, �
 use Rattle.std.specs.Int.{w128}
 use Rattle.frac_core.specs.Fraction.{IsFitting}
 use Rattle.row_core.specs.Rows.{coefficient}
-use Rattle.corner.specs.Fitting.{line_size}
+use Rattle.corner.specs.Reads.Fitting.{line_size}
 use Rattle.corner.specs.Tables.{lists_of, slot_at}
-use Rattle.corner.proofs.FittingRows.{small_size}
+use Rattle.corner.proofs.LevelFacts.FittingRows.{small_size}
 use Rattle.corner.proofs.levels.fitting.line_at.Goals as goal
 
 pub returns-clause-small : goal.returns-clause-small

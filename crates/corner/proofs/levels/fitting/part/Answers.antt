@@ -1,8 +1,8 @@
 use Rattle.std.proofs.Common.{rules, SFits, ◌≡◌, ◌∙◌, ap, cond, pos, sym, Bool}
 use Rattle.std.specs.Int.{w128}
 use Rattle.std.proofs.lemmas.Int.{to_z-of_z}
-use Rattle.corner.specs.Fitting.{counted}
-use Rattle.corner.proofs.FittingRows.{counted_if}
+use Rattle.corner.specs.Reads.Fitting.{counted}
+use Rattle.corner.proofs.LevelFacts.FittingRows.{counted_if}
 use Rattle.corner.proofs.levels.fitting.part.Goals as goal
 
 pub returns-then-costs-clause-value : goal.returns-then-costs-clause-value

@@ -1,9 +1,9 @@
 use Rattle.std.proofs.Common.{subst, ℕ}
-use Rattle.corner.specs.Growing.{IsRowDear}
+use Rattle.corner.specs.Reads.Growing.{IsRowDear}
 use Rattle.corner.specs.Tables.{lists_of, problem_of, row_at}
-use Rattle.corner.proofs.GrowingFacts.{growers_dear}
-use Rattle.corner.proofs.ReadFacts.{mark_named}
-use Rattle.corner.proofs.WritingFacts.{in_mark}
+use Rattle.corner.proofs.LevelFacts.GrowingFacts.{growers_dear}
+use Rattle.corner.proofs.Readings.ReadFacts.{mark_named}
+use Rattle.corner.proofs.Readings.WritingFacts.{in_mark}
 use Rattle.corner.proofs.levels.growing.are_growers_dear.Goals as goal
 
 pub line_slot-w-requires-clause-row : goal.line_slot-w-requires-clause-row

@@ -2,10 +2,10 @@ use Rattle.std.proofs.Common.{rules, ◌≡◌, ◌<◌, ◌≤◌, ◌∙◌, �
 use Rattle.std.proofs.lemmas.Option.{get_or_from_slice_get}
 use Rattle.std.proofs.lemmas.List.Elements.{All-push}
 use Rattle.row_core.specs.Rows.{IsKeptRow, Term}
-use Rattle.corner.specs.Growing.{IsEntryDear, IsRowDear}
+use Rattle.corner.specs.Reads.Growing.{IsEntryDear, IsRowDear}
 use Rattle.corner.specs.Tables.{lists_of, row_at}
-use Rattle.corner.proofs.GrowingFacts.{entry_line}
-use Rattle.corner.proofs.ListFacts.{take_all, take_next}
+use Rattle.corner.proofs.LevelFacts.GrowingFacts.{entry_line}
+use Rattle.corner.proofs.Basics.ListFacts.{take_all, take_next}
 use Rattle.corner.proofs.levels.growing.is_row_dear.Goals as goal
 
 pub is_entry_dear-requires-clause-line : goal.is_entry_dear-requires-clause-line

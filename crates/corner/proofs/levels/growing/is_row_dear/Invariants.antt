@@ -1,5 +1,5 @@
 use Rattle.std.proofs.Common.{take}
-use Rattle.corner.specs.Growing.{IsRowDear}
+use Rattle.corner.specs.Reads.Growing.{IsRowDear}
 use Rattle.corner.specs.Tables.{lists_of, row_at}
 use Rattle.corner.proofs.levels.growing.is_row_dear.Given as goal
 

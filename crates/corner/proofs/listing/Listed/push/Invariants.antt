@@ -1,5 +1,5 @@
 use Rattle.std.proofs.Common.{◌≡◌, ◌+◌, ◌-◌, length}
-use Rattle.corner.specs.Listing.{AreFlagged}
+use Rattle.corner.specs.Reads.Listing.{AreFlagged}
 use Rattle.corner.proofs.listing.Listed.push.Given as goal
 
 abbrev pub invariant-loop-self : goal.invariant-loop-self

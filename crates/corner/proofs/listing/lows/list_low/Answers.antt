@@ -1,7 +1,7 @@
 use Rattle.std.proofs.Common.{rules, ◌≡◌, ◌∙◌, sym, None}
 use Rattle.corner.specs.Tables.{lists_of}
-use Rattle.corner.proofs.LowLines.{inside_listed, outside_listed}
-use Rattle.corner.proofs.MovedFacts.{some_side}
+use Rattle.corner.proofs.Readings.LowLines.{inside_listed, outside_listed}
+use Rattle.corner.proofs.Readings.MovedFacts.{some_side}
 use Rattle.corner.proofs.listing.lows.list_low.Goals as goal
 
 pub returns-then-is_some : goal.returns-then-is_some

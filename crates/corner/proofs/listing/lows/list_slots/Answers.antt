@@ -1,7 +1,7 @@
 use Rattle.std.proofs.Common.{subst}
-use Rattle.corner.specs.Lows.{ListsSlot}
+use Rattle.corner.specs.Reads.Lows.{ListsSlot}
 use Rattle.corner.specs.Tables.{lists_of}
-use Rattle.corner.proofs.LowLines.{all_first, none_first, one_first}
+use Rattle.corner.proofs.Readings.LowLines.{all_first, none_first, one_first}
 use Rattle.corner.proofs.listing.lows.list_slots.Goals as goal
 
 pub loop-i-init : goal.loop-i-init

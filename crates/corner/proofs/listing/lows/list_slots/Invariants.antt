@@ -1,5 +1,5 @@
 use Rattle.corner.specs.Tables.{lists_of}
-use Rattle.corner.proofs.LowLines.{ListsFirst}
+use Rattle.corner.proofs.Readings.LowLines.{ListsFirst}
 use Rattle.corner.proofs.listing.lows.list_slots.Given as goal
 
 abbrev pub invariant-loop-i : goal.invariant-loop-i

@@ -1,6 +1,6 @@
 use Rattle.std.proofs.Common.{◌≡◌, ◌∙◌, ◌++◌, ◌∷◌, List, ℕ, ap, sym, arith}
 use Rattle.std.proofs.lemmas.List.{append-nil}
-use Rattle.session_undo.proofs.Chains.{ok-map}
+use Rattle.session_undo.proofs.Commands.Chains.{ok-map}
 use Rattle.layout_cli.specs.Found.{attr_name}
 use Rattle.layout_cli.proofs.EachView.{view_there}
 use Rattle.layout_cli.proofs.FoundLines.{name_found, name_none, name_skip}

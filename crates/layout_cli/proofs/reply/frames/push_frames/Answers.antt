@@ -1,5 +1,5 @@
 use Rattle.std.proofs.Common.{arith}
-use Rattle.layout_cli.specs.Replies.{frame_of}
+use Rattle.layout_cli.specs.Replies.{frame_text}
 use Rattle.layout_cli.proofs.EachView.{text_more, view_there}
 use Rattle.layout_cli.proofs.reply.frames.push_frames.Goals as goal
 
@@ -10,6 +10,6 @@ loop-place-preserved c =
     record {
       within = omega (arith, c.loop-place-test.true);
       is_end = c.loop-place.invariant.is_end;
-      text = text_more (frame_of c.args.scene.now.scene.values) views c.loop-place.place there.0 c.args.out.now.items c.loop-place.out.items c.push_at.new.out.items
+      text = text_more (frame_text c.args.scene.now.scene.values) views c.loop-place.place there.0 c.args.out.now.items c.loop-place.out.items c.push_at.new.out.items
           there.1 c.loop-place.invariant.text (c.in_ok-push_at.ensures.line there.0 there.1);
     }

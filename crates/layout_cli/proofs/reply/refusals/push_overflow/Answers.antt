@@ -1,6 +1,6 @@
 use Rattle.std.proofs.Common.{◌≡◌, ◌++◌, codes}
-use Rattle.claim_text.specs.PathTexts.{unfit_path_text}
-use Rattle.session_undo.proofs.Chains.{ok-map}
+use Rattle.claim_text.specs.Paths.PathTexts.{unfit_path_text}
+use Rattle.session_undo.proofs.Commands.Chains.{ok-map}
 use Rattle.session_undo.specs.Replies.{place_of}
 use Rattle.layout_cli.specs.Replies.{line_of, overflow_text, place_text}
 use Rattle.layout_cli.proofs.Texts.{three_appended}

@@ -1,7 +1,7 @@
 use Rattle.script_text.specs.View.{view}
 use Rattle.session_undo.specs.Replies.{Reply}
 use Rattle.session_undo.specs.Machine.{MeaningStep}
-use Rattle.session_undo.proofs.Chains.{err-map}
+use Rattle.session_undo.proofs.Commands.Chains.{err-map}
 use Rattle.layout_cli.specs.Machine.{Step}
 use Rattle.layout_cli.proofs.Told.{step-read}
 use Rattle.layout_cli.proofs.script.answers.step.Goals as goal

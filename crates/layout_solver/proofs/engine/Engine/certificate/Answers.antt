@@ -4,9 +4,10 @@ use Rattle.cert_core.specs.Claims.{multipliers_of}
 use Rattle.cert_checker.specs.Certifying.{Balances}
 use Rattle.certificates.specs.Accepted.{IsCertified}
 use Rattle.certificates.specs.OwnLevels.{IsOwnBest}
-use Rattle.layout_solver.proofs.Shown.{ok_both, shown_certified, shown_own}
+use Rattle.layout_solver.proofs.Shown.{shown_certified, shown_own}
 use Rattle.layout_solver.proofs.engine.Engine.certificate.Goals as goal
-use Rattle.corner_ends.proofs.RequiredTimes.{ok_implies}
+use Rattle.frac_core.proofs.Lists.{ok-both as ok_both}
+use Rattle.frac_core.proofs.Results.{ok_implies}
 
 pub returns-clause-own : goal.returns-clause-own
 returns-clause-own c =

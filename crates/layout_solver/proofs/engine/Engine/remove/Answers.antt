@@ -1,6 +1,6 @@
 use Rattle.std.proofs.Common.{rules}
 use Rattle.layout_solver.proofs.Changes.{changed_before, changed_earlier, marked_values, refused_before, refused_same, refused_solved, refused_values, some_values}
-use Rattle.layout_solver.proofs.LeftChanges.{marked_leave, marked_satisfied, removed_is, removed_path, removed_solved, removed_stop}
+use Rattle.layout_solver.proofs.Removals.LeftChanges.{marked_leave, marked_satisfied, removed_is, removed_path, removed_solved, removed_stop}
 use Rattle.layout_solver.proofs.engine.Engine.remove.Goals as goal
 
 pub shrink-result-requires-clause-values : goal.shrink-result-requires-clause-values

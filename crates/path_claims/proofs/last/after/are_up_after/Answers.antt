@@ -1,7 +1,7 @@
 use Rattle.std.proofs.Common.{◌≡◌, ◌∙◌, ◌<◌, ◌≤◌, ◌⊎◌, ℕ, rules, arith, sym, ap, subst, inl, inr, false, true, true≢false, None, get_or, refl}
 use Rattle.std.proofs.lemmas.Bool.{cases_Bool, cases_eq}
 use Rattle.std.proofs.lemmas.List.{get_or_default}
-use Rattle.path_checker.specs.Pivots.{next_marks}
+use Rattle.path_checker.specs.Exchanges.Pivots.{next_marks}
 use Rattle.path_checker.specs.Tables.{IsLineAt, IsUp, line_count, name_at}
 use Rattle.path_checker.proofs.Iffs.{always, never, right_then, wrong_then}
 use Rattle.path_claims.proofs.last.after.are_up_after.Goals as goal

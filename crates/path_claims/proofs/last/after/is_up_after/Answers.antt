@@ -1,11 +1,11 @@
 use Rattle.std.proofs.Common.{Some, subst, inl, inr, refl, true}
 use Rattle.std.proofs.lemmas.Bool.{cases_Bool}
-use Rattle.path_checker.specs.Pivots.{next_marks}
+use Rattle.path_checker.specs.Exchanges.Pivots.{next_marks}
 use Rattle.path_checker.specs.Tables.{name_at}
 use Rattle.path_checker.proofs.Iffs.{always, through}
-use Rattle.path_checker.proofs.ValueSigns.{outside_is_up}
+use Rattle.path_checker.proofs.Arithmetic.ValueSigns.{outside_is_up}
 use Rattle.path_claims.specs.Sums.{IsShareOf, IsSideAt}
-use Rattle.path_claims.proofs.SumsAfter.{up_moved, up_turned}
+use Rattle.path_claims.proofs.LastCorner.SumsAfter.{up_moved, up_turned}
 use Rattle.path_claims.proofs.last.after.is_up_after.Goals as goal
 
 pub returns-in-Some : goal.returns-in-Some

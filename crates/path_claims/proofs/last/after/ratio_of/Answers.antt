@@ -1,8 +1,8 @@
 use Rattle.std.proofs.Common.{◌≡◌, ◌*ℤ◌, ◌<ℤ◌, ℤ, pos, sym, subst, SFits, rules}
 use Rattle.std.specs.Int.{w128}
 use Rattle.std.proofs.lemmas.Int.{to_z-of_z}
-use Rattle.path_checker.proofs.Moves.{positive_product}
 use Rattle.path_claims.proofs.last.after.ratio_of.Goals as goal
+use Rattle.frac_core.proofs.Numbers.{product-up as positive_product}
 
 pub returns-clause-above : goal.returns-clause-above
 returns-clause-above c =

@@ -3,7 +3,7 @@ use Rattle.std.specs.Int.{w64}
 use Rattle.std.proofs.lemmas.Int.{to_z-of_z}
 use Rattle.path_checker.specs.Numbers.{number_at}
 use Rattle.path_checker.specs.Tables.{IsLineAt, name_at}
-use Rattle.path_claims.proofs.SumsAfter.{inside_share, outside_share}
+use Rattle.path_claims.proofs.LastCorner.SumsAfter.{inside_share, outside_share}
 use Rattle.path_claims.proofs.last.after.share_of.Goals as goal
 
 pub returns-in-Some-clause-share : goal.returns-in-Some-clause-share

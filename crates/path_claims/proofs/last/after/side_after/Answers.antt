@@ -1,6 +1,6 @@
 use Rattle.std.proofs.Common.{None, Some, subst, sym}
 use Rattle.path_checker.specs.Tables.{IsLineAt, name_at}
-use Rattle.path_claims.proofs.SumsAfter.{entered, left, stayed_in, stayed_out}
+use Rattle.path_claims.proofs.LastCorner.SumsAfter.{entered, left, stayed_in, stayed_out}
 use Rattle.path_claims.proofs.last.after.side_after.Goals as goal
 
 pub returns-then-at-step : goal.returns-then-at-step

@@ -2,7 +2,7 @@ use Rattle.std.proofs.Common.{ℕ, ◌<◌, length, sym, subst, rules, arith}
 use Rattle.std.proofs.lemmas.Result.{err_from_is_err_and}
 use Rattle.problem_core.specs.Corners.{attr_column}
 use Rattle.path_checker.specs.Tables.{IsSized, IsSizedLine}
-use Rattle.path_claims.proofs.AttrsAfter.{has_stay, line_is, stay_within}
+use Rattle.path_claims.proofs.LastCorner.AttrsAfter.{has_stay, line_is, stay_within}
 use Rattle.path_claims.proofs.last.fits.attr_after.Goals as goal
 
 pub bounds-lines-stay : goal.bounds-lines-stay

@@ -1,21 +1,24 @@
 use Rattle.std.proofs.Common.{ℕ, None, Some, subst}
+use Rattle.std.proofs.lemmas.Result.{err_from_is_err_and}
 use Rattle.path_checker.specs.Tables.{IsLineAt, name_at}
-use Rattle.path_checker.proofs.Leading.{ok_then}
+use Rattle.path_checker.proofs.Exchanges.Leading.{ok_then}
 use Rattle.path_claims.specs.Sums.{IsUnitSum}
-use Rattle.path_claims.proofs.QuantitiesAfter.{unit_equation, unit_sized}
-use Rattle.path_claims.proofs.AttrsAfter.{inside_attr_sum, inside_attr_unfit, outside_attr, stay_within}
+use Rattle.path_claims.proofs.LastCorner.QuantitiesAfter.{unit_equation, unit_sized}
+use Rattle.path_claims.proofs.LastCorner.AttrsAfter.{inside_attr_sum, inside_attr_unfit, outside_attr, stay_within}
 use Rattle.path_claims.proofs.last.fits.attr_before.Goals as goal
 
-pub returns-in_default-clause-unfit : goal.returns-in_default-clause-unfit
-returns-in_default-clause-unfit c = λ same p marks attr there count is line.
+pub returns-in_err-value-in-Some-clause-unfit : goal.returns-in_err-value-in-Some-clause-unfit
+returns-in_err-value-in-Some-clause-unfit c =
+    let exit = err_from_is_err_and c.from_residual.result c.from_residual.ensures.1 in
+    rw (exit.1, exit.2) (λ same p marks attr there count is line.
     let kept : IsLineAt p marks (name_at p c.args.at) (Some c.in-Some.inside) = subst (IsLineAt p marks (name_at p c.args.at)) c.in-Some.is line in
-    inside_attr_unfit p marks attr c.args.at c.args.target c.in-Some.inside there is kept c.in_default.ensures.unfit
+    inside_attr_unfit p marks attr c.args.at c.args.target c.in-Some.inside there is kept c.in_err-value-in-Some.ensures.unfit)
 
-pub returns-in-Ok-clause-attr : goal.returns-in-Ok-clause-attr
-returns-in-Ok-clause-attr c =
+pub returns-in_ok-value-in-Some-clause-attr : goal.returns-in_ok-value-in-Some-clause-attr
+returns-in_ok-value-in-Some-clause-attr c =
     ok_then c.with_value.result (λ next copy p marks attr there count is line.
     let kept : IsLineAt p marks (name_at p c.args.at) (Some c.in-Some.inside) = subst (IsLineAt p marks (name_at p c.args.at)) c.in-Some.is line in
-    inside_attr_sum p marks attr c.args.at c.args.target c.in-Ok.value c.in-Some.inside next there is kept c.in-Ok.ensures.lowest.above c.in-Ok.ensures.value copy) c.with_value.ensures.copy
+    inside_attr_sum p marks attr c.args.at c.args.target c.in_ok-value-in-Some.value c.in-Some.inside next there is kept c.in_ok-value-in-Some.ensures.lowest.above c.in_ok-value-in-Some.ensures.value copy) c.with_value.ensures.copy
 
 pub returns-in-None-clause-sized : goal.returns-in-None-clause-sized
 returns-in-None-clause-sized c = ok_then c.unit_sum.result (λ next unit. unit_sized c.args.count c.args.at c.args.target next unit) c.unit_sum.ensures.unit

@@ -1,9 +1,9 @@
-use Rattle.path_checker.specs.Pivots.{next_marks}
+use Rattle.path_checker.specs.Exchanges.Pivots.{next_marks}
 use Rattle.path_checker.proofs.Stops.{is_refused}
-use Rattle.path_claims.proofs.SumsAfter.{corner_after}
-use Rattle.path_claims.proofs.AttrsAfter.{attr_after_fits}
+use Rattle.path_claims.proofs.LastCorner.AttrsAfter.{attr_after_fits}
 use Rattle.path_claims.proofs.last.fits.attr_fit.Goals.{in-Ok, in-Err-Refused, in-Err-OutOfMemory}
 use Rattle.path_claims.proofs.last.fits.attr_fit.Goals as goal
+use Rattle.path_levels.proofs.Exchanges.FitFacts.{next_is_there as corner_after}
 
 pub returns : goal.returns
 returns c = elim c.match-attr_after.branch [

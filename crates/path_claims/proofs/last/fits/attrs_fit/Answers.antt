@@ -3,7 +3,7 @@ use Rattle.std.proofs.lemmas.Bool.{cases_eq}
 use Rattle.problem_core.specs.declared.parts.Stay.{Stay}
 use Rattle.problem_core.specs.Corners.{attr_column}
 use Rattle.problem_core.specs.Unfit.{HasNoWriting}
-use Rattle.path_claims.proofs.AttrsAfter.{all_stays_fit}
+use Rattle.path_claims.proofs.LastCorner.AttrsAfter.{all_stays_fit}
 use Rattle.path_claims.proofs.last.fits.attrs_fit.Goals as goal
 
 pub returns-then-not-stay_fits_at-clause-unfit : goal.returns-then-not-stay_fits_at-clause-unfit

@@ -3,8 +3,8 @@ use Rattle.problem_core.specs.Corners.{exchanged}
 use Rattle.path_checker.specs.Tables.{name_at, swap_of}
 use Rattle.path_checker.proofs.Iffs.{through}
 use Rattle.path_claims.specs.Sums.{IsSideAt}
-use Rattle.path_claims.proofs.AttrsAfter.{side_same}
-use Rattle.path_claims.proofs.SumsAfter.{step_there}
+use Rattle.path_claims.proofs.LastCorner.AttrsAfter.{side_same}
+use Rattle.path_claims.proofs.LastCorner.SumsAfter.{step_there}
 use Rattle.path_claims.proofs.last.fits.is_inside_after.Goals as goal
 
 pub returns-in-Some : goal.returns-in-Some

@@ -1,13 +1,13 @@
 use Rattle.std.proofs.Common.{◌≡◌, ◌≢◌, ◌<◌, ◌↔◌, List, All, IsTrue, true, false, sym, subst, rules}
 use Rattle.problem_core.specs.declared.parts.RowName.{RowName}
 use Rattle.problem_core.specs.Corners.{IsIn, place_of}
-use Rattle.path_checker.specs.Pivots.{next_marks}
+use Rattle.path_checker.specs.Exchanges.Pivots.{next_marks}
 use Rattle.path_checker.specs.Tables.{IsLineAt, IsSpotOf, line_count, name_at, names_of}
 use Rattle.path_checker.proofs.Iffs.{right_then, wrong_then}
 use Rattle.path_checker.proofs.Stops.{is_refused}
-use Rattle.path_claims.proofs.SumsAfter.{corner_after}
-use Rattle.path_claims.proofs.AttrsAfter.{mark_in_fits, mark_in_unfit, mark_out, spot_within, unknown_mark}
+use Rattle.path_claims.proofs.LastCorner.AttrsAfter.{mark_in_fits, mark_in_unfit, mark_out, spot_within, unknown_mark}
 use Rattle.path_claims.proofs.last.fits.mark_fit.Goals as goal
+use Rattle.path_levels.proofs.Exchanges.FitFacts.{next_is_there as corner_after}
 
 pub returns-in_default : goal.returns-in_default
 returns-in_default c = λ marks turn lines unfit.

@@ -1,7 +1,7 @@
 use Rattle.std.proofs.Common.{Option, sym, subst}
 use Rattle.path_checker.specs.declared.table.Inside.{Inside}
 use Rattle.path_claims.specs.Attrs.{IsFittingStay, IsUnfitStay}
-use Rattle.path_claims.proofs.AttrsAfter.{inside_stay_fits, inside_stay_unfit, outside_stay_fits}
+use Rattle.path_claims.proofs.LastCorner.AttrsAfter.{inside_stay_fits, inside_stay_unfit, outside_stay_fits}
 use Rattle.path_claims.proofs.last.fits.stay_fits.Goals as goal
 
 pub returns-in_default-clause-fits : goal.returns-in_default-clause-fits

@@ -4,9 +4,9 @@ use Rattle.problem_core.specs.declared.parts.Stay.{Stay}
 use Rattle.problem_core.specs.Layout.{Row}
 use Rattle.problem_core.specs.Corners.{attr_column}
 use Rattle.problem_core.specs.Unfit.{HasNoWriting}
-use Rattle.path_checker.proofs.FirstLines.{count_lines}
+use Rattle.path_checker.proofs.Walking.FirstLines.{count_lines}
 use Rattle.path_claims.specs.Attrs.{IsStayAt}
-use Rattle.path_claims.proofs.AttrsAfter.{line_is, stay_at_place, stay_is_unfit, stay_within}
+use Rattle.path_claims.proofs.LastCorner.AttrsAfter.{line_is, stay_at_place, stay_is_unfit, stay_within}
 use Rattle.path_claims.proofs.last.fits.stay_fits_at.Goals as goal
 
 pub bounds-lines-at : goal.bounds-lines-at

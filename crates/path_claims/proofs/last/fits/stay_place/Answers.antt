@@ -2,7 +2,7 @@ use Rattle.std.proofs.Common.{◌≡◌, ◌∙◌, ◌+◌, ◌<◌, List, leng
 use Rattle.problem_core.specs.declared.parts.Stay.{Stay}
 use Rattle.problem_core.specs.Layout.{Row}
 use Rattle.path_claims.specs.Attrs.{IsStayAt}
-use Rattle.path_claims.proofs.AttrsAfter.{stay_at_place}
+use Rattle.path_claims.proofs.LastCorner.AttrsAfter.{stay_at_place}
 use Rattle.path_claims.proofs.last.fits.stay_place.Goals as goal
 
 pub returns-clause-some : goal.returns-clause-some

@@ -1,11 +1,11 @@
 use Rattle.std.proofs.Common.{ℕ, sym, subst}
 use Rattle.std.proofs.lemmas.Result.{err_from_is_err_and}
 use Rattle.corner_lines.specs.LineEquations.{deviation}
-use Rattle.path_checker.specs.Pivots.{next_marks}
+use Rattle.path_checker.specs.Exchanges.Pivots.{next_marks}
 use Rattle.path_checker.specs.Tables.{name_at}
 use Rattle.path_claims.specs.Sums.{IsSideAt}
-use Rattle.path_levels.specs.Turns.{IsSizedPivot}
-use Rattle.path_claims.proofs.QuantitiesAfter.{line_sum_is, line_unfit_after}
+use Rattle.path_levels.specs.Exchanges.Pivots.{IsSizedPivot}
+use Rattle.path_claims.proofs.LastCorner.QuantitiesAfter.{line_sum_is, line_unfit_after}
 use Rattle.path_claims.proofs.last.line_sums.line_after.Goals as goal
 
 pub returns-in_default-clause-line : goal.returns-in_default-clause-line

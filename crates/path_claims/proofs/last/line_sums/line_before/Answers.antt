@@ -1,11 +1,11 @@
 use Rattle.std.proofs.Common.{ℕ, ℤ, None, Some, sym, subst}
 use Rattle.corner_lines.specs.LineEquations.{IsLineSum, deviation}
 use Rattle.path_checker.specs.Tables.{IsLineAt, IsSized, IsSizedLine, name_at}
-use Rattle.path_checker.proofs.FirstLines.{units}
-use Rattle.path_checker.proofs.Leading.{ok_then}
+use Rattle.path_checker.proofs.Walking.FirstLines.{units}
+use Rattle.path_checker.proofs.Exchanges.Leading.{ok_then}
 use Rattle.path_claims.specs.Sums.{IsUnitSum}
-use Rattle.path_claims.proofs.QuantitiesAfter.{copied_sized, copied_sum, unit_equation, unit_sized}
-use Rattle.path_claims.proofs.SumsAfter.{unit_line}
+use Rattle.path_claims.proofs.LastCorner.QuantitiesAfter.{copied_sized, copied_sum, unit_equation, unit_sized}
+use Rattle.path_claims.proofs.LastCorner.SumsAfter.{unit_line}
 use Rattle.path_claims.proofs.last.line_sums.line_before.Goals as goal
 
 pub returns-in-Some-clause-sized : goal.returns-in-Some-clause-sized

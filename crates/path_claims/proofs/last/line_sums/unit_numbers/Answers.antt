@@ -2,7 +2,7 @@ use Rattle.std.proofs.Common.{◌≡◌, ◌+◌, ◌++◌, [], ◌∷◌, ℤ, 
 use Rattle.std.specs.Int.{w64}
 use Rattle.std.proofs.lemmas.Int.{to_z-of_z}
 use Rattle.path_claims.specs.Sums.{IsUnitList}
-use Rattle.path_claims.proofs.UnitLists.{one_unit_more}
+use Rattle.path_claims.proofs.LastCorner.UnitLists.{one_unit_more}
 use Rattle.path_claims.proofs.last.line_sums.unit_numbers.Goals as goal
 
 pub loop-place-preserved : goal.loop-place-preserved

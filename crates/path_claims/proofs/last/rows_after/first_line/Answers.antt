@@ -1,7 +1,7 @@
 use Rattle.std.proofs.Common.{◌≡◌, ◌<◌, ℕ, List, true, subst, rules}
 use Rattle.path_checker.specs.Tables.{line_count}
-use Rattle.path_checker.proofs.Leading.{err_then, ok_then}
-use Rattle.path_levels.specs.declared.frame.LineFacts.{LineFacts}
+use Rattle.path_checker.proofs.Exchanges.Leading.{err_then, ok_then}
+use Rattle.path_levels.specs.declared.outline.LineFacts.{LineFacts}
 use Rattle.path_claims.specs.FirstLines.{IsFirstAt}
 use Rattle.path_claims.proofs.last.rows_after.first_line.Goals as goal
 
@@ -14,9 +14,9 @@ returns-clause-line c =
 
 pub returns-clause-unfit : goal.returns-clause-unfit
 returns-clause-unfit c =
-    let list : c.deref.result.now ≡ c.args.last.frame.now.lines.items = search rules in
+    let list : c.deref.result.now ≡ c.args.last.outline.now.lines.items = search rules in
     let up : c.is_first.result ≡ true = search rules in
-    let first : IsFirstAt c.args.last.frame.now.lines.items c.args.firsts c.args.at = subst (λ (fs : List LineFacts). IsFirstAt fs c.args.firsts c.args.at) list (c.is_first.ensures.yes up) in
+    let first : IsFirstAt c.args.last.outline.now.lines.items c.args.firsts c.args.at = subst (λ (fs : List LineFacts). IsFirstAt fs c.args.firsts c.args.at) list (c.is_first.ensures.yes up) in
     err_then c.line_after.result (λ stop h same p marks turn lines.
     let within : c.args.at < line_count p = subst (λ (n : ℕ). c.args.at < n) lines.count c.requires.at in
     record {

@@ -3,7 +3,7 @@ use Rattle.std.proofs.lemmas.Bool.{cases_eq}
 use Rattle.std.proofs.lemmas.List.{get_or_append_left, get_or_push}
 use Rattle.std.proofs.lemmas.Result.{err_from_is_err_and}
 use Rattle.path_checker.specs.declared.table.Inside.{Inside}
-use Rattle.path_checker.specs.Pivots.{next_marks}
+use Rattle.path_checker.specs.Exchanges.Pivots.{next_marks}
 use Rattle.path_checker.specs.Tables.{IsLineAt, IsSizedLine, name_at}
 use Rattle.path_claims.specs.FirstLines.{IsFirstAt}
 use Rattle.path_claims.proofs.last.rows_after.first_lines.Goals as goal
@@ -34,7 +34,7 @@ loop-at-preserved c =
             | inl e ↦
                 subst (IsLineAt p (next_marks p c.args.pivot.now marks) (name_at p k)) (sym (new k d e))
                 (subst (λ (i : ℕ). IsLineAt p (next_marks p c.args.pivot.now marks) (name_at p i) c.in_ok-first_line.field-0) (sym e)
-                (c.in_ok-first_line.ensures.line (subst (IsFirstAt c.args.last.frame.now.lines.items c.args.firsts) e first) p marks turn lines))
+                (c.in_ok-first_line.ensures.line (subst (IsFirstAt c.args.last.outline.now.lines.items c.args.firsts) e first) p marks turn lines))
             | inr ne ↦
                 let before : k < c.loop-at.at = omega (arith, less, ne) in
                 subst (IsLineAt p (next_marks p c.args.pivot.now marks) (name_at p k)) (sym (old k d before)) (c.loop-at.invariant.lines k d before first p marks turn lines)

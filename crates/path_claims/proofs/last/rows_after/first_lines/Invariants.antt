@@ -2,16 +2,16 @@ use Rattle.std.proofs.Common.{◌≡◌, ◌<◌, ℕ, List, length, get_or, Opt
 use Rattle.problem_core.specs.declared.parts.Mark.{Mark}
 use Rattle.problem_core.specs.Layout.{Problem}
 use Rattle.path_checker.specs.declared.table.Inside.{Inside}
-use Rattle.path_checker.specs.Pivots.{next_marks}
+use Rattle.path_checker.specs.Exchanges.Pivots.{next_marks}
 use Rattle.path_checker.specs.Tables.{AreLines, IsLineAt, IsSizedLine, name_at}
 use Rattle.path_claims.specs.FirstLines.{IsFirstAt}
-use Rattle.path_levels.specs.Turns.{IsTurnPivot}
+use Rattle.path_levels.specs.Exchanges.Pivots.{IsExchangePivot}
 use Rattle.path_claims.proofs.last.rows_after.first_lines.Given as goal
 
 abbrev pub invariant-loop-at : goal.invariant-loop-at
 invariant-loop-at l = record {
   count : length l.next.items ≡ l.at;
   sized : (k : ℕ) (d : Option Inside) → k < l.at → IsSizedLine (length l.last.lines.now) (get_or l.next.items k d);
-  lines : (k : ℕ) (d : Option Inside) → k < l.at → IsFirstAt l.last.frame.now.lines.items l.firsts k → (p : Problem) (marks : List Mark) → IsTurnPivot p marks l.pivot → AreLines p marks l.last.lines.now
+  lines : (k : ℕ) (d : Option Inside) → k < l.at → IsFirstAt l.last.outline.now.lines.items l.firsts k → (p : Problem) (marks : List Mark) → IsExchangePivot p marks l.pivot → AreLines p marks l.last.lines.now
       → IsLineAt p (next_marks p l.pivot marks) (name_at p k) (get_or l.next.items k d);
 }

@@ -2,7 +2,7 @@ use Rattle.std.proofs.Common.{◌≡◌, ◌<◌, ◌≤◌, ℕ, true, false, s
 use Rattle.std.proofs.lemmas.Bool.{cases_eq}
 use Rattle.problem_core.specs.declared.parts.Side.TheVariants.{Over}
 use Rattle.problem_core.specs.Corners.{IsIn, place_of}
-use Rattle.path_checker.specs.Pivots.{next_marks}
+use Rattle.path_checker.specs.Exchanges.Pivots.{next_marks}
 use Rattle.path_checker.specs.Tables.{IsLineAt, line_count, name_at}
 use Rattle.path_checker.proofs.Iffs.{always, never, right_then, wrong_then}
 use Rattle.path_claims.proofs.last.terms.are_over_from.Goals as goal

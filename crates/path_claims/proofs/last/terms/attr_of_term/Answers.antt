@@ -1,5 +1,5 @@
 use Rattle.std.proofs.Common.{subst, refl}
-use Rattle.path_checker.specs.Pivots.{next_marks}
+use Rattle.path_checker.specs.Exchanges.Pivots.{next_marks}
 use Rattle.path_checker.proofs.Stops.{is_refused}
 use Rattle.path_claims.specs.Attrs.{IsAttrAfter}
 use Rattle.path_claims.proofs.last.terms.attr_of_term.Goals as goal

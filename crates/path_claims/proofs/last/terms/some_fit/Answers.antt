@@ -1,12 +1,12 @@
 use Rattle.std.proofs.Common.{List, take, subst}
 use Rattle.problem_core.specs.declared.parts.Term.{Term}
-use Rattle.path_checker.specs.Pivots.{next_marks}
+use Rattle.path_checker.specs.Exchanges.Pivots.{next_marks}
 use Rattle.path_claims.specs.Sums.{IsQuantitySum}
 use Rattle.path_claims.specs.TermSums.{IsTermsStop, terms_of}
-use Rattle.path_claims.proofs.SumsAfter.{corner_after}
-use Rattle.path_claims.proofs.TermsEnd.{attr_part, first_fits, terms_part}
+use Rattle.path_claims.proofs.LastCorner.TermsEnd.{attr_part, first_fits, terms_part}
 use Rattle.path_claims.proofs.last.terms.some_fit.Goals.{in-Ok, in-Err-UnfitAttr, in-Err-UnfitTerms, in-Err-OutOfMemory}
 use Rattle.path_claims.proofs.last.terms.some_fit.Goals as goal
+use Rattle.path_levels.proofs.Exchanges.FitFacts.{next_is_there as corner_after}
 
 pub returns : goal.returns
 returns c = elim c.match-terms_after.branch [

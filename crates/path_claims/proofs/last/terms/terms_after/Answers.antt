@@ -7,14 +7,14 @@ use Rattle.std.proofs.lemmas.Result.{err_from_is_err_and}
 use Rattle.problem_core.specs.declared.parts.Term.{Term}
 use Rattle.problem_core.specs.Window.{zero_fraction}
 use Rattle.problem_core.specs.Corners.{attr_column}
-use Rattle.path_checker.specs.Pivots.{next_marks}
+use Rattle.path_checker.specs.Exchanges.Pivots.{next_marks}
 use Rattle.path_checker.specs.Tables.{IsSized}
 use Rattle.path_claims.specs.Sums.{IsQuantitySum}
 use Rattle.path_claims.specs.TermSums.{IsTermMore, terms_of}
-use Rattle.path_claims.proofs.SumsAfter.{corner_after}
-use Rattle.path_claims.proofs.QuantitiesAfter.{unit_sized}
-use Rattle.path_claims.proofs.TermsAfter.{attr_stops, more_stops, no_terms_yet, same_quantity, terms_more}
+use Rattle.path_claims.proofs.LastCorner.QuantitiesAfter.{unit_sized}
+use Rattle.path_claims.proofs.LastCorner.TermsAfter.{attr_stops, more_stops, no_terms_yet, same_quantity, terms_more}
 use Rattle.path_claims.proofs.last.terms.terms_after.Goals as goal
+use Rattle.path_levels.proofs.Exchanges.FitFacts.{next_is_there as corner_after}
 
 abbrev none : Term
 none = record { attr = 0; by = pos 0 }

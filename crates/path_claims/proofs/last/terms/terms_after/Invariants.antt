@@ -1,16 +1,16 @@
 use Rattle.std.proofs.Common.{List, length, take}
 use Rattle.frac_core.specs.Fraction.{IsKept}
 use Rattle.problem_core.specs.declared.parts.Mark.{Mark}
-use Rattle.path_checker.specs.Pivots.{next_marks}
+use Rattle.path_checker.specs.Exchanges.Pivots.{next_marks}
 use Rattle.path_checker.specs.Tables.{AreLines, IsSized}
 use Rattle.path_claims.specs.Sums.{IsQuantitySum}
 use Rattle.path_claims.specs.TermSums.{terms_of}
-use Rattle.path_levels.specs.Turns.{IsTurnPivot}
+use Rattle.path_levels.specs.Exchanges.Pivots.{IsExchangePivot}
 use Rattle.path_claims.proofs.last.terms.terms_after.Given as goal
 
 abbrev pub invariant-loop-at : goal.invariant-loop-at
 invariant-loop-at l = record {
   sized : IsSized (length l.lines) l.sum;
   kept : IsKept l.sum.value;
-  sum : (marks : List Mark) → IsTurnPivot l.p marks l.pivot → AreLines l.p marks l.lines → IsQuantitySum l.p (next_marks l.p l.pivot marks) (terms_of (take l.at l.terms)) l.sum;
+  sum : (marks : List Mark) → IsExchangePivot l.p marks l.pivot → AreLines l.p marks l.lines → IsQuantitySum l.p (next_marks l.p l.pivot marks) (terms_of (take l.at l.terms)) l.sum;
 }

@@ -5,11 +5,11 @@ use Rattle.problem_core.specs.declared.parts.Term.{Term}
 use Rattle.problem_core.specs.Layout.{Row}
 use Rattle.problem_core.specs.Corners.{IsIn, place}
 use Rattle.problem_core.specs.Unfit.{AreOverFrom, over_mark}
-use Rattle.path_checker.specs.Pivots.{next_marks}
+use Rattle.path_checker.specs.Exchanges.Pivots.{next_marks}
 use Rattle.path_checker.proofs.Iffs.{right_then, wrong_then}
-use Rattle.path_checker.proofs.Leading.{ok_then}
+use Rattle.path_checker.proofs.Exchanges.Leading.{ok_then}
 use Rattle.path_claims.specs.TermSums.{AreKnownTerms, AreOverAt, IsRowFit}
-use Rattle.path_claims.proofs.RowsOver.{fit_named, named_row, over_at, over_from}
+use Rattle.path_claims.proofs.LastCorner.RowsOver.{fit_named, named_row, over_at, over_from}
 use Rattle.path_claims.proofs.last.terms.terms_fit.Goals as goal
 
 abbrev any : Row

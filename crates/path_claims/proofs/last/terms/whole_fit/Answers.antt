@@ -2,12 +2,12 @@ use Rattle.std.proofs.Common.{◌≡◌, List, true, false, subst, rules}
 use Rattle.frac_core.specs.Fraction.{Fraction, IsUnfitRatio, sum_den, sum_num}
 use Rattle.std.proofs.Common.{pos, negsuc}
 use Rattle.problem_core.specs.declared.parts.Term.{Term}
-use Rattle.path_checker.specs.Pivots.{next_marks}
+use Rattle.path_checker.specs.Exchanges.Pivots.{next_marks}
 use Rattle.path_claims.specs.Sums.{IsQuantitySum}
 use Rattle.path_claims.specs.TermSums.{IsLessFitting, IsTermsStop, terms_of}
-use Rattle.path_claims.proofs.SumsAfter.{corner_after}
-use Rattle.path_claims.proofs.TermsEnd.{last_fits, last_unfit, whole_attr_part, whole_terms_part}
+use Rattle.path_claims.proofs.LastCorner.TermsEnd.{last_fits, last_unfit, whole_attr_part, whole_terms_part}
 use Rattle.path_claims.proofs.last.terms.whole_fit.Goals as goal
+use Rattle.path_levels.proofs.Exchanges.FitFacts.{next_is_there as corner_after}
 
 pub returns-then-less_fits : goal.returns-then-less_fits
 returns-then-less_fits c = λ marks turn lines attrs inside none.

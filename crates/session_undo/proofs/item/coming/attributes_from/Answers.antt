@@ -1,6 +1,6 @@
 use Rattle.std.proofs.Common.{◌≡◌, ◌-◌, suc, refl, arith}
 use Rattle.session_undo.specs.Attributes.{attributes_from}
-use Rattle.session_undo.proofs.ViewsCome.{from-step, from-done}
+use Rattle.session_undo.proofs.Views.ViewsCome.{from-step, from-done}
 use Rattle.session_undo.proofs.item.coming.attributes_from.Goals as goal
 
 pub loop-left-init : goal.loop-left-init

@@ -3,10 +3,10 @@ use Rattle.session_undo.specs.declared.item.Item as declared
 use Rattle.session_undo.specs.declared.item.Item.TheVariants as kind
 use Rattle.session_undo.specs.Items.{view_items}
 use Rattle.session_undo.specs.Kept.{items_of}
-use Rattle.session_undo.proofs.ItemRows.{items-more}
+use Rattle.session_undo.proofs.HeldRows.ItemRows.{items-more}
 use Rattle.session_undo.proofs.Histories.{refused-items}
 use Rattle.session_undo.proofs.KeptScenes.{marked-all}
-use Rattle.session_undo.proofs.ViewsCome.{items-step, items-done}
+use Rattle.session_undo.proofs.Views.ViewsCome.{items-step, items-done}
 use Rattle.session_undo.proofs.item.coming.push_views.Goals as goal
 
 pub loop-left-init : goal.loop-left-init

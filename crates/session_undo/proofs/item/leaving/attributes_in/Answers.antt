@@ -1,4 +1,4 @@
-use Rattle.session_undo.proofs.LeavingItems.{attributes-next}
+use Rattle.session_undo.proofs.Removals.LeavingItems.{attributes-next}
 use Rattle.session_undo.proofs.item.leaving.attributes_in.Goals as goal
 
 pub loop-id-preserved : goal.loop-id-preserved

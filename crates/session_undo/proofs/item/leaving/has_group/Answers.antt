@@ -1,7 +1,7 @@
 use Rattle.std.proofs.Common.{◌≡◌, ◌∙◌, true, false, sym, rules}
 use Rattle.session_undo.specs.Leaving.{is_in_group}
 use Rattle.session_undo.specs.Kept.{item_of}
-use Rattle.session_undo.proofs.LeavingItems.{any-next, any-at}
+use Rattle.session_undo.proofs.Removals.LeavingItems.{any-next, any-at}
 use Rattle.session_undo.proofs.item.leaving.has_group.Goals as goal
 
 pub returns-then-is_in_group : goal.returns-then-is_in_group

@@ -3,7 +3,7 @@ use Rattle.session_undo.specs.declared.item.Item as declared
 use Rattle.session_undo.specs.Leaving.{item_numbers}
 use Rattle.session_undo.specs.Kept.{IsItem, is_leaving, item_of}
 use Rattle.session_undo.proofs.Lists.{all-unmapped}
-use Rattle.session_undo.proofs.LeavingItems.{numbers-go, numbers-stay}
+use Rattle.session_undo.proofs.Removals.LeavingItems.{numbers-go, numbers-stay}
 use Rattle.session_undo.proofs.item.leaving.leaving_numbers.Goals.{then-is_leaving+in_ok-push_numbers, else-is_leaving}
 use Rattle.session_undo.proofs.item.leaving.leaving_numbers.Goals as goal
 

@@ -1,7 +1,7 @@
 use Rattle.std.proofs.Common.{◌≡◌, ◌∙◌, ℕ, suc, ◌-◌, true, false, length, sym, ap, arith}
 use Rattle.session_undo.specs.Kept.{is_leaving, item_of, items_of}
 use Rattle.session_undo.proofs.KeptScenes.{marked-all}
-use Rattle.session_undo.proofs.LeavingItems.{left_at, left-all, left-go, left-stay, staying-is}
+use Rattle.session_undo.proofs.Removals.LeavingItems.{left_at, left-all, left-go, left-stay, staying-is}
 use Rattle.session_undo.proofs.item.leaving.take_leaving_out.Goals as goal
 
 pub loop-place-init : goal.loop-place-init

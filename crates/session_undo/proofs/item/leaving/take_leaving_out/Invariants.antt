@@ -1,6 +1,6 @@
 use Rattle.std.proofs.Common.{◌≡◌, ◌≤◌, ◌∷◌, length}
 use Rattle.session_undo.specs.Kept.{is_leaving}
-use Rattle.session_undo.proofs.LeavingItems.{left_at}
+use Rattle.session_undo.proofs.Removals.LeavingItems.{left_at}
 use Rattle.session_undo.proofs.item.leaving.take_leaving_out.Given as goal
 
 abbrev pub invariant-loop-place : goal.invariant-loop-place

@@ -3,7 +3,7 @@ use Rattle.std.proofs.lemmas.Result.{err_from_is_err_and}
 use Rattle.constraint_compile.specs.Naming.{naming}
 use Rattle.session_undo.specs.Kept.{item_of, items_of}
 use Rattle.session_undo.specs.Moving.{forms_in, forms_of}
-use Rattle.session_undo.proofs.MetricChanges.{constants-next, item-small, stop-among}
+use Rattle.session_undo.proofs.Constants.MetricChanges.{constants-next, item-small, stop-among}
 use Rattle.session_undo.proofs.item.moving.constants_naming.Goals as goal
 
 pub loop-item-preserved : goal.loop-item-preserved

@@ -1,5 +1,5 @@
 use Rattle.std.proofs.Common.{◌≡◌, true, rules}
-use Rattle.session_undo.proofs.NearMoves.{moves-next}
+use Rattle.session_undo.proofs.Constants.NearMoves.{moves-next}
 use Rattle.session_undo.proofs.item.moving.moves.Goals as goal
 
 pub loop-constant-preserved : goal.loop-constant-preserved

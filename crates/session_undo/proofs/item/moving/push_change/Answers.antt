@@ -5,7 +5,7 @@ use Rattle.constraint_compile.specs.Compiled.{IsFittingSum}
 use Rattle.constraint_compile.specs.Fractions.{plus, negated}
 use Rattle.layout_solver.specs.declared.engine.Change.{Change}
 use Rattle.layout_solver.specs.Shifts.{AreKept}
-use Rattle.session_undo.proofs.NearMoves.{held-moved, held-still}
+use Rattle.session_undo.proofs.Constants.NearMoves.{held-moved, held-still}
 use Rattle.session_undo.proofs.item.moving.push_change.Goals as goal
 
 pub returns-in_ok-push-clause-near : goal.returns-in_ok-push-clause-near

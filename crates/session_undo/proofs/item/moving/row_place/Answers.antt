@@ -1,7 +1,7 @@
 use Rattle.std.proofs.Common.{rules}
 use Rattle.std.proofs.lemmas.List.Sorted.{answers_always}
 use Rattle.problem_core.specs.Layout.{Row}
-use Rattle.session_undo.proofs.RowPlaces.{searched}
+use Rattle.session_undo.proofs.Constants.RowPlaces.{searched}
 use Rattle.session_undo.proofs.item.moving.row_place.Goals as goal
 
 -- the closure gives a row's number

@@ -3,7 +3,7 @@ use Rattle.std.proofs.lemmas.List.Elements.{All-from_recursion}
 use Rattle.problem_core.specs.Kept.{IsRow}
 use Rattle.problem_core.specs.Layout.{Row}
 use Rattle.session_undo.specs.Items.{size_rows}
-use Rattle.session_undo.proofs.Chains.{ok-map}
+use Rattle.session_undo.proofs.Commands.Chains.{ok-map}
 use Rattle.session_undo.proofs.item.rows.size_rows.Goals as goal
 
 pub returns-clause-rows : goal.returns-clause-rows

@@ -7,7 +7,7 @@ use Rattle.std.proofs.lemmas.List.Elements.{All-from_recursion}
 use Rattle.view_tree.specs.Attributes.{height_of, width_of}
 use Rattle.session_undo.specs.Items.{rows_of_views}
 use Rattle.session_undo.proofs.Lists.{each-snoc}
-use Rattle.session_undo.proofs.ViewsCome.{rows-step, rows-done}
+use Rattle.session_undo.proofs.Views.ViewsCome.{rows-step, rows-done}
 use Rattle.session_undo.proofs.item.rows.view_rows.Goals as goal
 
 pub loop-left-init : goal.loop-left-init

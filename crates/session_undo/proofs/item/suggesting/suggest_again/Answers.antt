@@ -6,8 +6,8 @@ use Rattle.session_undo.specs.declared.item.Item as declared
 use Rattle.session_undo.specs.Items.{is_suggestion}
 use Rattle.session_undo.specs.Kept.{items_of}
 use Rattle.session_undo.proofs.KeptScenes.{marked-all}
-use Rattle.session_undo.proofs.LeavingItems.{any-next}
-use Rattle.session_undo.proofs.SuggestionItems.{again-at, unsuggested}
+use Rattle.session_undo.proofs.Removals.LeavingItems.{any-next}
+use Rattle.session_undo.proofs.Suggestions.SuggestionItems.{again-at, unsuggested}
 use Rattle.session_undo.proofs.item.suggesting.suggest_again.Goals as goal
 
 pub loop-place-init : goal.loop-place-init

@@ -3,8 +3,8 @@ use Rattle.std.specs.List.{list_any}
 use Rattle.session_undo.specs.declared.item.Item as declared
 use Rattle.session_undo.specs.Items.{is_suggestion}
 use Rattle.session_undo.specs.Kept.{item_of, items_of}
-use Rattle.session_undo.proofs.LeavingItems.{any-next}
-use Rattle.session_undo.proofs.SuggestionItems.{no-suggestion, own-at}
+use Rattle.session_undo.proofs.Removals.LeavingItems.{any-next}
+use Rattle.session_undo.proofs.Suggestions.SuggestionItems.{no-suggestion, own-at}
 use Rattle.session_undo.proofs.item.suggesting.suggestion_of.Goals as goal
 
 pub returns-then-is_suggestion : goal.returns-then-is_suggestion

@@ -4,7 +4,7 @@ use Rattle.constraint_compile.specs.Naming.{AreSameBut}
 use Rattle.layout_solver.specs.Shifts.{AreKept}
 use Rattle.session_undo.specs.Kept.{items_of}
 use Rattle.session_undo.specs.Scene.{History}
-use Rattle.session_undo.proofs.MetricChanges.{changes-far, changes-lack, changes-made}
+use Rattle.session_undo.proofs.Constants.MetricChanges.{changes-far, changes-lack, changes-made}
 use Rattle.session_undo.proofs.scene.Scene.changes_for.Goals as goal
 
 pub returns-in_err-constants-clause-stop : goal.returns-in_err-constants-clause-stop

@@ -1,10 +1,10 @@
 use Rattle.std.proofs.Common.{◌≡◌, ◌∙◌, ap, map}
 use Rattle.layout_solver.specs.Shifts.{shifted}
 use Rattle.session_undo.specs.Items.{without_constant}
-use Rattle.session_undo.proofs.AlikeRows.{alike-shapes}
-use Rattle.session_undo.proofs.Reached.{settled}
-use Rattle.session_undo.proofs.ShiftedRows.{shifted-alike}
-use Rattle.session_undo.proofs.Wholes.{renewed-whole}
+use Rattle.session_undo.proofs.Constants.AlikeRows.{alike-shapes}
+use Rattle.session_undo.proofs.Engines.Reached.{settled}
+use Rattle.session_undo.proofs.Constants.ShiftedRows.{shifted-alike}
+use Rattle.session_undo.proofs.Engines.Wholes.{renewed-whole}
 use Rattle.session_undo.proofs.scene.Scene.constants_problem.Goals as goal
 
 pub with_rows-requires : goal.with_rows-requires

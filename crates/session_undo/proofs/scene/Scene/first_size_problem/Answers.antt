@@ -6,8 +6,8 @@ use Rattle.session_undo.specs.Items.{Item, Sized, has_size}
 use Rattle.session_undo.specs.Kept.{IsNextItem, items_of, scene_at}
 use Rattle.session_undo.specs.Machine.{IsProblemOf}
 use Rattle.session_undo.specs.Scene.{History, Scene, with_item, with_window}
-use Rattle.session_undo.proofs.Chains.{ok-map}
-use Rattle.session_undo.proofs.NextItems.{size-draft, size-next}
+use Rattle.session_undo.proofs.Commands.Chains.{ok-map}
+use Rattle.session_undo.proofs.HeldRows.NextItems.{size-draft, size-next}
 use Rattle.session_undo.proofs.scene.Scene.first_size_problem.Goals as goal
 
 pub item_problem-requires : goal.item_problem-requires

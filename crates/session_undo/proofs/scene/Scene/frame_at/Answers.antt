@@ -1,5 +1,5 @@
 use Rattle.std.proofs.Common.{sym}
-use Rattle.session_undo.proofs.Places.{view-small, view-stays}
+use Rattle.session_undo.proofs.Views.Places.{view-small, view-stays}
 use Rattle.session_undo.proofs.scene.Scene.frame_at.Goals as goal
 
 pub frame_of-requires-clause-small : goal.frame_of-requires-clause-small

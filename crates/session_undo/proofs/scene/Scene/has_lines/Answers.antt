@@ -1,5 +1,5 @@
 use Rattle.std.proofs.Common.{◌<◌, length, arith}
-use Rattle.session_undo.proofs.ItemRows.{few-lines}
+use Rattle.session_undo.proofs.HeldRows.ItemRows.{few-lines}
 use Rattle.session_undo.proofs.scene.Scene.has_lines.Goals as goal
 
 pub returns-then-len-count-clause-no : goal.returns-then-len-count-clause-no

@@ -5,8 +5,8 @@ use Rattle.session_undo.specs.Items.{Item}
 use Rattle.session_undo.specs.Kept.{IsNextItem, items_of, scene_at}
 use Rattle.session_undo.specs.Machine.{IsProblemOf}
 use Rattle.session_undo.specs.Scene.{History, with_item}
-use Rattle.session_undo.proofs.Chains.{ok-map}
-use Rattle.session_undo.proofs.NextItems.{item-posed, item-whole}
+use Rattle.session_undo.proofs.Commands.Chains.{ok-map}
+use Rattle.session_undo.proofs.HeldRows.NextItems.{item-posed, item-whole}
 use Rattle.session_undo.proofs.scene.Scene.item_problem.Goals as goal
 
 pub with_more-requires : goal.with_more-requires

@@ -4,8 +4,8 @@ use Rattle.layout_solver.specs.Removals.{with_removed}
 use Rattle.session_undo.specs.Machine.{IsProblemOf}
 use Rattle.session_undo.specs.Leaving.{numbers_of, without_items}
 use Rattle.session_undo.specs.Kept.{is_leaving, items_of, scene_at}
-use Rattle.session_undo.proofs.LeavingScenes.{group-can, group-poses}
-use Rattle.session_undo.proofs.Chains.{ok-map}
+use Rattle.session_undo.proofs.Removals.LeavingScenes.{group-can, group-poses}
+use Rattle.session_undo.proofs.Commands.Chains.{ok-map}
 use Rattle.session_undo.proofs.scene.Scene.left_items_problem.Goals as goal
 
 pub with_less-requires : goal.with_less-requires

@@ -4,8 +4,8 @@ use Rattle.layout_solver.specs.Removals.{with_removed}
 use Rattle.session_undo.specs.Machine.{IsProblemOf}
 use Rattle.session_undo.specs.Leaving.{attributes_in, goes_with, numbers_of, without_views}
 use Rattle.session_undo.specs.Kept.{items_of, scene_at}
-use Rattle.session_undo.proofs.LeavingScenes.{gone-small, views-can, views-pose}
-use Rattle.session_undo.proofs.Chains.{ok-map}
+use Rattle.session_undo.proofs.Removals.LeavingScenes.{gone-small, views-can, views-pose}
+use Rattle.session_undo.proofs.Commands.Chains.{ok-map}
 use Rattle.session_undo.proofs.scene.Scene.left_problem.Goals as goal
 
 pub with_less-requires : goal.with_less-requires

@@ -4,8 +4,8 @@ use Rattle.session_undo.specs.Items.{Item, OfLine}
 use Rattle.session_undo.specs.Kept.{IsNextItem}
 use Rattle.session_undo.specs.Machine.{IsProblemOf}
 use Rattle.session_undo.specs.Scene.{Scene, with_item, with_line}
-use Rattle.session_undo.proofs.Chains.{ok-map}
-use Rattle.session_undo.proofs.NextItems.{count-draft, line-next}
+use Rattle.session_undo.proofs.Commands.Chains.{ok-map}
+use Rattle.session_undo.proofs.HeldRows.NextItems.{count-draft, line-next}
 use Rattle.session_undo.proofs.scene.Scene.line_problem.Goals as goal
 
 pub item_problem-requires : goal.item_problem-requires

@@ -7,8 +7,8 @@ use Rattle.session_undo.specs.Adding.{metrics_draft}
 use Rattle.session_undo.specs.Kept.{items_of, scene_at}
 use Rattle.session_undo.specs.Machine.{IsProblemOf}
 use Rattle.session_undo.specs.Moving.{AreChangesFor}
-use Rattle.session_undo.proofs.Chains.{ok-map}
-use Rattle.session_undo.proofs.Solved.{metric-posed}
+use Rattle.session_undo.proofs.Commands.Chains.{ok-map}
+use Rattle.session_undo.proofs.Engines.Solved.{metric-posed}
 use Rattle.session_undo.proofs.scene.Scene.metrics_problem.Goals as goal
 
 pub returns : goal.returns

@@ -2,7 +2,7 @@ use Rattle.std.proofs.Common.{ap, arith}
 use Rattle.version_list.specs.Versions.{Versions}
 use Rattle.session_undo.specs.declared.item.Item as declared
 use Rattle.session_undo.proofs.First.{first-alike, first-history, first-history-kept}
-use Rattle.session_undo.proofs.Additions.{first-counted}
+use Rattle.session_undo.proofs.Engines.Additions.{first-counted}
 use Rattle.session_undo.proofs.scene.Scene.new.Goals as goal
 
 pub invariant_of-result : goal.invariant_of-result

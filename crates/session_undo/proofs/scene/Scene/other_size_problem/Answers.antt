@@ -5,9 +5,9 @@ use Rattle.layout_solver.specs.Shifts.{shifted}
 use Rattle.session_undo.specs.Scene.{with_window}
 use Rattle.session_undo.specs.Machine.{IsProblemOf}
 use Rattle.session_undo.specs.Kept.{items_of, scene_at, size_in}
-use Rattle.session_undo.proofs.Resized.{size-number, to_size}
-use Rattle.session_undo.proofs.Solved.{again-posed}
-use Rattle.session_undo.proofs.Chains.{ok-map}
+use Rattle.session_undo.proofs.Constants.Resized.{size-number, to_size}
+use Rattle.session_undo.proofs.Engines.Solved.{again-posed}
+use Rattle.session_undo.proofs.Commands.Chains.{ok-map}
 use Rattle.session_undo.proofs.scene.Scene.other_size_problem.Goals as goal
 
 pub size_changes-requires : goal.size_changes-requires

@@ -5,9 +5,9 @@ use Rattle.layout_solver.specs.declared.engine.Change.{Change}
 use Rattle.session_undo.specs.Machine.{IsFarSize, IsSolved}
 use Rattle.session_undo.specs.Scene.{History, Scene, with_window}
 use Rattle.session_undo.specs.Kept.{items_of, size_in, IsKept, scene_at}
-use Rattle.session_undo.proofs.Solved.{again-stops, again-solved, again-kept}
-use Rattle.session_undo.proofs.Additions.{counted-shifted}
-use Rattle.session_undo.proofs.Resized.{can-resize, size-number, to_size}
+use Rattle.session_undo.proofs.Engines.Solved.{again-stops, again-solved, again-kept}
+use Rattle.session_undo.proofs.Engines.Additions.{counted-shifted}
+use Rattle.session_undo.proofs.Constants.Resized.{can-resize, size-number, to_size}
 use Rattle.cert_core.specs.Paths.{Path}
 use Rattle.session_undo.proofs.Histories.{few-items, more-items, more-solutions, next-history, kept-earlier, refused-items, refused-same, unchanged-IsKept, unchanged-AreAlike}
 use Rattle.session_undo.proofs.KeptScenes.{kept-scene}

@@ -4,11 +4,11 @@ use Rattle.cert_core.specs.Paths.{Path}
 use Rattle.session_undo.specs.declared.limits.TheConstants.{MOST_ROWS}
 use Rattle.session_undo.specs.Kept.{items_of, scene_at}
 use Rattle.session_undo.specs.Machine.{IsSolved}
-use Rattle.session_undo.proofs.Chains.{ok-map, stop-map}
+use Rattle.session_undo.proofs.Commands.Chains.{ok-map, stop-map}
 use Rattle.session_undo.specs.Adding.{StopsAt}
 use Rattle.session_undo.specs.Items.{Sized}
 use Rattle.session_undo.specs.Scene.{History, Scene, with_item, with_window}
-use Rattle.session_undo.proofs.NextItems.{size-draft, size-next}
+use Rattle.session_undo.proofs.HeldRows.NextItems.{size-draft, size-next}
 use Rattle.session_undo.proofs.scene.Scene.size_first.Goals as goal
 
 pub take_item-requires : goal.take_item-requires

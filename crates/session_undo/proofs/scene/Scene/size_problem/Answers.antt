@@ -1,7 +1,7 @@
 use Rattle.std.proofs.Common.{◌≡◌, false}
 use Rattle.session_undo.specs.Items.{has_size}
 use Rattle.session_undo.specs.Kept.{items_of}
-use Rattle.session_undo.proofs.Resized.{none-held}
+use Rattle.session_undo.proofs.Constants.Resized.{none-held}
 use Rattle.session_undo.proofs.scene.Scene.size_problem.Goals as goal
 
 pub first_size_problem-requires-clause-none : goal.first_size_problem-requires-clause-none

@@ -6,9 +6,9 @@ use Rattle.session_undo.specs.Scene.{History, with_suggested}
 use Rattle.session_undo.specs.Machine.{IsProblemOf}
 use Rattle.session_undo.specs.Adding.{IsNearSuggestion}
 use Rattle.session_undo.specs.Kept.{items_of, scene_at}
-use Rattle.session_undo.proofs.SuggestionItems.{to_suggested}
-use Rattle.session_undo.proofs.SuggestionScenes.{suggested-posed}
-use Rattle.session_undo.proofs.Chains.{ok-map}
+use Rattle.session_undo.proofs.Suggestions.SuggestionItems.{to_suggested}
+use Rattle.session_undo.proofs.Suggestions.SuggestionScenes.{suggested-posed}
+use Rattle.session_undo.proofs.Commands.Chains.{ok-map}
 use Rattle.session_undo.proofs.scene.Scene.suggested_problem.Goals as goal
 
 pub returns : goal.returns

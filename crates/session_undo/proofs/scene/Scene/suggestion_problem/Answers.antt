@@ -7,9 +7,9 @@ use Rattle.session_undo.specs.Items.{Item, Suggested}
 use Rattle.session_undo.specs.Kept.{IsNextItem, items_of, scene_at}
 use Rattle.session_undo.specs.Machine.{IsProblemOf}
 use Rattle.session_undo.specs.Scene.{History, Scene, with_item, with_suggestion}
-use Rattle.session_undo.proofs.Chains.{ok-map}
-use Rattle.session_undo.proofs.NextItems.{count-draft, suggestion-next}
-use Rattle.session_undo.proofs.SuggestionScenes.{suggestion-own}
+use Rattle.session_undo.proofs.Commands.Chains.{ok-map}
+use Rattle.session_undo.proofs.HeldRows.NextItems.{count-draft, suggestion-next}
+use Rattle.session_undo.proofs.Suggestions.SuggestionScenes.{suggestion-own}
 use Rattle.session_undo.proofs.scene.Scene.suggestion_problem.Goals as goal
 
 pub suggestion_rows-requires : goal.suggestion_rows-requires

@@ -5,11 +5,11 @@ use Rattle.cert_core.specs.Paths.{Path}
 use Rattle.session_undo.specs.Kept.{item_of, items_of, IsKept, IsNextItem, scene_at}
 use Rattle.session_undo.specs.Machine.{IsSolved}
 use Rattle.session_undo.specs.Scene.{History, Scene, with_item}
-use Rattle.session_undo.proofs.Additions.{still-rising}
+use Rattle.session_undo.proofs.Engines.Additions.{still-rising}
 use Rattle.session_undo.proofs.Histories.{few-items, few-solutions, more-items, more-solutions, next-history, kept-earlier, refused-items, refused-same, unchanged-IsKept, unchanged-AreAlike}
-use Rattle.session_undo.proofs.ItemRows.{items-more}
+use Rattle.session_undo.proofs.HeldRows.ItemRows.{items-more}
 use Rattle.session_undo.proofs.KeptScenes.{kept-scene}
-use Rattle.session_undo.proofs.NextItems.{item-kept, item-solved, item-stops, item-whole}
+use Rattle.session_undo.proofs.HeldRows.NextItems.{item-kept, item-solved, item-stops, item-whole}
 use Rattle.session_undo.proofs.scene.Scene.take_item.Goals as goal
 
 pub returns-in_err-take_more-clause-stop : goal.returns-in_err-take_more-clause-stop

@@ -1,6 +1,6 @@
 use Rattle.session_undo.specs.Kept.{is_leaving, items_of, IsKept, scene_at}
 use Rattle.session_undo.specs.Leaving.{without_items}
-use Rattle.session_undo.proofs.LeavingScenes.{group-can, group-kept, group-left, group-stops}
+use Rattle.session_undo.proofs.Removals.LeavingScenes.{group-can, group-kept, group-left, group-stops}
 use Rattle.std.proofs.Common.{subst, refl, ap, length, arith}
 use Rattle.session_undo.specs.Scene.{Scene}
 use Rattle.session_undo.specs.Machine.{HasLeft}

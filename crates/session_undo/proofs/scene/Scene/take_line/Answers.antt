@@ -4,8 +4,8 @@ use Rattle.session_undo.specs.Adding.{StopsAt}
 use Rattle.session_undo.specs.Items.{OfLine}
 use Rattle.session_undo.specs.Machine.{IsSolved}
 use Rattle.session_undo.specs.Scene.{Scene, with_item, with_line}
-use Rattle.session_undo.proofs.Chains.{ok-map, stop-map}
-use Rattle.session_undo.proofs.NextItems.{count-draft, line-next}
+use Rattle.session_undo.proofs.Commands.Chains.{ok-map, stop-map}
+use Rattle.session_undo.proofs.HeldRows.NextItems.{count-draft, line-next}
 use Rattle.session_undo.proofs.scene.Scene.take_line.Goals as goal
 
 pub take_item-requires : goal.take_item-requires

@@ -5,10 +5,10 @@ use Rattle.session_undo.specs.Kept.{items_of, IsKept, scene_at}
 use Rattle.session_undo.specs.Machine.{IsSolved}
 use Rattle.session_undo.specs.Moving.{AreChangesFor}
 use Rattle.session_undo.specs.Scene.{History, Scene}
-use Rattle.session_undo.proofs.Additions.{counted-shifted}
+use Rattle.session_undo.proofs.Engines.Additions.{counted-shifted}
 use Rattle.session_undo.proofs.Histories.{few-items, few-solutions, more-items, more-solutions, next-history, kept-earlier, refused-items, refused-same, unchanged-IsKept, unchanged-AreAlike}
 use Rattle.session_undo.proofs.KeptScenes.{kept-scene, marked-all}
-use Rattle.session_undo.proofs.Solved.{metric-stops, metric-solved, metric-kept}
+use Rattle.session_undo.proofs.Engines.Solved.{metric-stops, metric-solved, metric-kept}
 use Rattle.std.proofs.lemmas.Result.{err_from_is_err_and}
 use Rattle.session_undo.proofs.scene.Scene.take_metrics.Goals as goal
 

@@ -1,7 +1,7 @@
 use Rattle.std.proofs.Common.{◌≡◌, false}
 use Rattle.session_undo.specs.Items.{has_size}
 use Rattle.session_undo.specs.Kept.{items_of}
-use Rattle.session_undo.proofs.Resized.{none-held}
+use Rattle.session_undo.proofs.Constants.Resized.{none-held}
 use Rattle.session_undo.proofs.scene.Scene.take_size.Goals as goal
 
 pub size_first-requires-clause-none : goal.size_first-requires-clause-none

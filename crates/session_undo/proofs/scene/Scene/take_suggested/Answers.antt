@@ -7,9 +7,9 @@ use Rattle.layout_solver.specs.Begins.{IsStopFrom}
 use Rattle.session_undo.specs.Adding.{IsNearSuggestion, from_shifts}
 use Rattle.session_undo.specs.Scene.{History, Scene, with_suggested}
 use Rattle.session_undo.specs.Kept.{items_of, scene_at, IsKept}
-use Rattle.session_undo.proofs.Additions.{counted-shifted}
-use Rattle.session_undo.proofs.SuggestionItems.{can-suggest, suggested-rising, to_suggested}
-use Rattle.session_undo.proofs.SuggestionScenes.{suggested-kept, suggested-solved, suggested-stops}
+use Rattle.session_undo.proofs.Engines.Additions.{counted-shifted}
+use Rattle.session_undo.proofs.Suggestions.SuggestionItems.{can-suggest, suggested-rising, to_suggested}
+use Rattle.session_undo.proofs.Suggestions.SuggestionScenes.{suggested-kept, suggested-solved, suggested-stops}
 use Rattle.session_undo.specs.Machine.{IsSolved}
 use Rattle.cert_core.specs.Paths.{Path}
 use Rattle.session_undo.proofs.Histories.{few-items, few-solutions, more-items, more-solutions, next-history, kept-earlier, refused-items, refused-same, unchanged-IsKept, unchanged-AreAlike}

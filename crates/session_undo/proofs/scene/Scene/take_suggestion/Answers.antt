@@ -4,12 +4,12 @@ use Rattle.cert_core.specs.Paths.{Path}
 use Rattle.session_undo.specs.declared.limits.TheConstants.{MOST_ROWS}
 use Rattle.session_undo.specs.Kept.{items_of, scene_at}
 use Rattle.session_undo.specs.Machine.{IsSolved}
-use Rattle.session_undo.proofs.Chains.{ok-map, stop-map}
+use Rattle.session_undo.proofs.Commands.Chains.{ok-map, stop-map}
 use Rattle.session_undo.specs.Adding.{IsNextSuggestion, StopsAt}
 use Rattle.session_undo.specs.Items.{Suggested}
 use Rattle.session_undo.specs.Scene.{History, Scene, with_item, with_suggestion}
-use Rattle.session_undo.proofs.NextItems.{count-draft, suggestion-next}
-use Rattle.session_undo.proofs.SuggestionScenes.{suggestion-own}
+use Rattle.session_undo.proofs.HeldRows.NextItems.{count-draft, suggestion-next}
+use Rattle.session_undo.proofs.Suggestions.SuggestionScenes.{suggestion-own}
 use Rattle.session_undo.proofs.scene.Scene.take_suggestion.Goals as goal
 
 pub suggestion_rows-requires : goal.suggestion_rows-requires

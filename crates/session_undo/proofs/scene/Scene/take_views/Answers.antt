@@ -6,11 +6,11 @@ use Rattle.session_undo.specs.Kept.{items_of, IsKept, IsNamed, scene_at}
 use Rattle.session_undo.specs.Scene.{History, Scene}
 use Rattle.session_undo.specs.Machine.{IsSolved}
 use Rattle.session_undo.specs.Adding.{views_draft}
-use Rattle.session_undo.proofs.ItemRows.{all-named-append}
-use Rattle.session_undo.proofs.Solved.{views-stops, views-free, views-solved, views-kept}
-use Rattle.session_undo.proofs.Attributes.{stays-below}
-use Rattle.session_undo.proofs.Reached.{settled}
-use Rattle.session_undo.proofs.ViewsCome.{views-whole, views-rising, counted-views}
+use Rattle.session_undo.proofs.HeldRows.ItemRows.{all-named-append}
+use Rattle.session_undo.proofs.Engines.Solved.{views-stops, views-free, views-solved, views-kept}
+use Rattle.session_undo.proofs.Views.Attributes.{stays-below}
+use Rattle.session_undo.proofs.Engines.Reached.{settled}
+use Rattle.session_undo.proofs.Views.ViewsCome.{views-whole, views-rising, counted-views}
 use Rattle.session_undo.proofs.Histories.{few-items, few-solutions, more-items, more-solutions, next-history, kept-earlier, refused-items, refused-same, unchanged-IsKept, unchanged-AreAlike}
 use Rattle.session_undo.proofs.KeptScenes.{kept-scene}
 use Rattle.std.proofs.lemmas.Result.{err_from_is_err_and}

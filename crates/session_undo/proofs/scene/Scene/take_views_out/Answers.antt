@@ -1,5 +1,5 @@
 use Rattle.session_undo.specs.Kept.{items_of, IsKept, scene_at}
-use Rattle.session_undo.proofs.LeavingScenes.{gone-small, views-can, views-kept, views-left, views-stop}
+use Rattle.session_undo.proofs.Removals.LeavingScenes.{gone-small, views-can, views-kept, views-left, views-stop}
 use Rattle.std.proofs.Common.{◌∙◌, ap, subst, refl, length, arith}
 use Rattle.view_tree.specs.Drops as drops
 use Rattle.session_undo.specs.Leaving.{without_views}

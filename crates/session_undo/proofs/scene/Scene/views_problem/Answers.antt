@@ -6,10 +6,10 @@ use Rattle.session_undo.specs.Scene.{History}
 use Rattle.session_undo.specs.Machine.{IsProblemOf}
 use Rattle.session_undo.specs.Adding.{views_draft}
 use Rattle.session_undo.specs.Kept.{items_of, scene_at}
-use Rattle.session_undo.proofs.Solved.{views-posed}
-use Rattle.session_undo.proofs.Reached.{settled}
-use Rattle.session_undo.proofs.ViewsCome.{views-whole}
-use Rattle.session_undo.proofs.Chains.{ok-map}
+use Rattle.session_undo.proofs.Engines.Solved.{views-posed}
+use Rattle.session_undo.proofs.Engines.Reached.{settled}
+use Rattle.session_undo.proofs.Views.ViewsCome.{views-whole}
+use Rattle.session_undo.proofs.Commands.Chains.{ok-map}
 use Rattle.session_undo.proofs.scene.Scene.views_problem.Goals as goal
 
 pub view_rows-requires : goal.view_rows-requires

@@ -1,4 +1,4 @@
-use Rattle.session_undo.proofs.ShiftedRows.{next-either}
+use Rattle.session_undo.proofs.Constants.ShiftedRows.{next-either}
 use Rattle.session_undo.proofs.scene.drafts.constant_after.Goals as goal
 
 pub loop-change-preserved : goal.loop-change-preserved

@@ -1,6 +1,6 @@
 use Rattle.std.proofs.Common.{◌∙◌, ◌++◌, ◌∷◌, [], List, ap, sym, refl}
 use Rattle.problem_core.specs.declared.parts.Stay.{Stay}
-use Rattle.session_undo.proofs.Moves.{stay, moved-next}
+use Rattle.session_undo.proofs.Engines.Moves.{stay, moved-next}
 use Rattle.session_undo.proofs.scene.drafts.moved_stays.Goals as goal
 
 pub loop-stay-preserved : goal.loop-stay-preserved

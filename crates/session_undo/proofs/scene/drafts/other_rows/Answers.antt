@@ -1,7 +1,7 @@
 use Rattle.std.proofs.Common.{◌≡◌, ◌∷◌, ◌++◌, [], false, true, not, rules}
 use Rattle.problem_core.specs.Layout.{Row}
 use Rattle.view_tree.specs.Drops.{is_among}
-use Rattle.session_undo.proofs.LeavingItems.{kept-next, left-next}
+use Rattle.session_undo.proofs.Removals.LeavingItems.{kept-next, left-next}
 use Rattle.session_undo.proofs.scene.drafts.other_rows.Goals.{then-not-contains+in_ok-with_constant+in_ok-push, else-not-contains}
 use Rattle.session_undo.proofs.scene.drafts.other_rows.Goals as goal
 

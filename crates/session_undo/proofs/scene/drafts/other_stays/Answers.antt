@@ -1,7 +1,7 @@
 use Rattle.std.proofs.Common.{◌≡◌, ◌∷◌, ◌++◌, [], false, true, not, rules}
 use Rattle.problem_core.specs.declared.parts.Stay.{Stay}
 use Rattle.view_tree.specs.Drops.{is_among}
-use Rattle.session_undo.proofs.LeavingItems.{kept-next, left-next}
+use Rattle.session_undo.proofs.Removals.LeavingItems.{kept-next, left-next}
 use Rattle.session_undo.proofs.scene.drafts.other_stays.Goals.{then-not-contains+in_ok-push, else-not-contains}
 use Rattle.session_undo.proofs.scene.drafts.other_stays.Goals as goal
 

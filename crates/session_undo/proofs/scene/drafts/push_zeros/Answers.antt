@@ -3,7 +3,7 @@ use Rattle.frac_core.specs.Fraction.{Fraction}
 use Rattle.problem_core.specs.declared.parts.Stay.{Stay}
 use Rattle.problem_core.specs.Window.{zero_fraction}
 use Rattle.layout_solver.specs.Layouts.{stays_at, zeros}
-use Rattle.session_undo.proofs.Moves.{stay, zeros-next}
+use Rattle.session_undo.proofs.Engines.Moves.{stay, zeros-next}
 use Rattle.session_undo.proofs.scene.drafts.push_zeros.Goals as goal
 
 pub loop-attr-preserved : goal.loop-attr-preserved

@@ -4,7 +4,7 @@ use Rattle.problem_core.specs.Kept.{IsRow}
 use Rattle.problem_core.specs.Layout.{Row}
 use Rattle.session_undo.specs.Items.{at_constant}
 use Rattle.session_undo.proofs.Lists.{each-snoc}
-use Rattle.session_undo.proofs.ShiftedRows.{shifted-next, shifted-none}
+use Rattle.session_undo.proofs.Constants.ShiftedRows.{shifted-next, shifted-none}
 use Rattle.session_undo.proofs.scene.drafts.rows_after.Goals as goal
 
 pub loop-row-preserved : goal.loop-row-preserved

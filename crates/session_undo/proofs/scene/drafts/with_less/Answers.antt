@@ -1,10 +1,10 @@
 use Rattle.std.proofs.Common.{◌≡◌, ◌∙◌, refl, sym}
 use Rattle.layout_solver.specs.Layouts.{stays_at}
-use Rattle.session_undo.proofs.LeavingProblems.{without-is}
-use Rattle.session_undo.proofs.LeavingWhole.{less-whole}
-use Rattle.session_undo.proofs.Moves.{moved-is}
-use Rattle.session_undo.proofs.Reached.{settled}
-use Rattle.session_undo.proofs.Wholes.{renewed-whole}
+use Rattle.session_undo.proofs.Removals.LeavingProblems.{without-is}
+use Rattle.session_undo.proofs.Removals.LeavingWhole.{less-whole}
+use Rattle.session_undo.proofs.Engines.Moves.{moved-is}
+use Rattle.session_undo.proofs.Engines.Reached.{settled}
+use Rattle.session_undo.proofs.Engines.Wholes.{renewed-whole}
 use Rattle.session_undo.proofs.scene.drafts.with_less.Goals as goal
 
 pub of-requires : goal.of-requires

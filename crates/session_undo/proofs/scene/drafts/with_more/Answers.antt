@@ -2,7 +2,7 @@ use Rattle.std.proofs.Common.{◌≡◌, ◌∙◌, ◌++◌, List, ap, refl}
 use Rattle.problem_core.specs.declared.parts.Stay.{Stay}
 use Rattle.problem_core.specs.Layout.{Row}
 use Rattle.layout_solver.specs.Layouts.{stays_at, zeros}
-use Rattle.session_undo.proofs.Moves.{moved-added}
+use Rattle.session_undo.proofs.Engines.Moves.{moved-added}
 use Rattle.session_undo.proofs.scene.drafts.with_more.Goals as goal
 
 pub of-requires : goal.of-requires

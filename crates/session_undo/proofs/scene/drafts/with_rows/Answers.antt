@@ -1,6 +1,6 @@
 use Rattle.std.proofs.Common.{◌≡◌, ◌∙◌, refl}
 use Rattle.layout_solver.specs.Layouts.{stays_at}
-use Rattle.session_undo.proofs.Moves.{moved-is}
+use Rattle.session_undo.proofs.Engines.Moves.{moved-is}
 use Rattle.session_undo.proofs.scene.drafts.with_rows.Goals as goal
 
 pub of-requires : goal.of-requires

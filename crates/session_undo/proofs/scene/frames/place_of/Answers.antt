@@ -1,5 +1,5 @@
 use Rattle.std.proofs.Common.{arith}
-use Rattle.session_undo.proofs.Places.{view-at, view-further}
+use Rattle.session_undo.proofs.Views.Places.{view-at, view-further}
 use Rattle.session_undo.proofs.scene.frames.place_of.Goals as goal
 
 pub returns-then-is_at-clause-some : goal.returns-then-is_at-clause-some

@@ -1,5 +1,5 @@
 use Rattle.session_undo.specs.Adding.{from_shifts}
-use Rattle.session_undo.proofs.Reached.{run-to}
+use Rattle.session_undo.proofs.Engines.Reached.{run-to}
 use Rattle.session_undo.proofs.scene.solving.take_constants.Goals as goal
 
 pub returns-in-Ok-clause-run : goal.returns-in-Ok-clause-run

@@ -1,4 +1,4 @@
-use Rattle.session_undo.proofs.Reached.{reached}
+use Rattle.session_undo.proofs.Engines.Reached.{reached}
 use Rattle.session_undo.proofs.scene.solving.take_out.Goals as goal
 
 pub returns-in-Ok-clause-run : goal.returns-in-Ok-clause-run

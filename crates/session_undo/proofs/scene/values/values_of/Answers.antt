@@ -1,7 +1,7 @@
 use Rattle.std.proofs.Common.{◌≡◌, ◌∙◌, ◌++◌, ◌∷◌, [], List, ℕ, ap, sym, refl, subst}
 use Rattle.std.specs.Prelude.{IfOk}
 use Rattle.frac_core.specs.Fraction.{Fraction}
-use Rattle.session_undo.proofs.Moves.{pair, valued-all, valued-next}
+use Rattle.session_undo.proofs.Engines.Moves.{pair, valued-all, valued-next}
 use Rattle.session_undo.proofs.scene.values.values_of.Goals as goal
 
 pub loop-stay-preserved : goal.loop-stay-preserved

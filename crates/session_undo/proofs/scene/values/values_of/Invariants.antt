@@ -1,5 +1,5 @@
 use Rattle.std.proofs.Common.{◌≡◌, take}
-use Rattle.session_undo.proofs.Moves.{valued}
+use Rattle.session_undo.proofs.Engines.Moves.{valued}
 use Rattle.session_undo.proofs.scene.values.values_of.Given as goal
 
 abbrev pub invariant-loop-stay : goal.invariant-loop-stay

@@ -6,10 +6,10 @@ use Rattle.session_undo.specs.declared.reply.Reply as answer
 use Rattle.session_undo.specs.Machine.{TriedTree, SolvesFree}
 use Rattle.session_undo.specs.Adding.{NoEnd, views_draft}
 use Rattle.session_undo.specs.Kept.{session_at}
-use Rattle.session_undo.proofs.Steps.{refuses, free-accepted, free-refused, answer-same, after}
-use Rattle.session_undo.proofs.TreeChains.{tree-causes, tree-passed}
-use Rattle.session_undo.proofs.Chains.{ok-map, err-map}
-use Rattle.session_undo.proofs.Additions.{room-fits, room-numbers}
+use Rattle.session_undo.proofs.Commands.Steps.{refuses, free-accepted, free-refused, answer-same, after}
+use Rattle.session_undo.proofs.Commands.TreeChains.{tree-causes, tree-passed}
+use Rattle.session_undo.proofs.Commands.Chains.{ok-map, err-map}
+use Rattle.session_undo.proofs.Engines.Additions.{room-fits, room-numbers}
 use Rattle.session_undo.proofs.session.Session.add_tree.Goals as goal
 
 pub returns-in_err-new-clause-refused : goal.returns-in_err-new-clause-refused

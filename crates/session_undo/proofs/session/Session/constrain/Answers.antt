@@ -5,9 +5,9 @@ use Rattle.session_undo.specs.declared.reply.Reply as answer
 use Rattle.session_undo.specs.Scene.{with_line}
 use Rattle.session_undo.specs.Machine.{TriedConstraint, Solves}
 use Rattle.session_undo.specs.Adding.{NoEnd}
-use Rattle.session_undo.proofs.Steps.{refuses}
-use Rattle.session_undo.proofs.Chains.{ok-map, err-map}
-use Rattle.session_undo.proofs.LineStops.{constraint-passed, constraint-causes}
+use Rattle.session_undo.proofs.Commands.Steps.{refuses}
+use Rattle.session_undo.proofs.Commands.Chains.{ok-map, err-map}
+use Rattle.session_undo.proofs.Commands.LineStops.{constraint-passed, constraint-causes}
 use Rattle.session_undo.proofs.session.Session.constrain.Goals as goal
 
 pub returns-clause-accepted : goal.returns-clause-accepted

@@ -1,7 +1,7 @@
 use Rattle.script_text.specs.View.{linear_view}
 use Rattle.session_undo.specs.Replies.{Done}
 use Rattle.session_undo.specs.Machine.{PosesDraft}
-use Rattle.session_undo.proofs.LineStops.{constraint-passed}
+use Rattle.session_undo.proofs.Commands.LineStops.{constraint-passed}
 use Rattle.session_undo.proofs.session.Session.constraint_problem.Goals as goal
 
 pub returns-clause-posed : goal.returns-clause-posed

@@ -2,7 +2,7 @@ use Rattle.std.proofs.Common.{ap}
 use Rattle.session_undo.specs.Kept.{session_at}
 use Rattle.session_undo.specs.Scene.{History}
 use Rattle.session_undo.proofs.Diagnosed.{found-answer, stop-answer}
-use Rattle.session_undo.proofs.Steps.{after}
+use Rattle.session_undo.proofs.Commands.Steps.{after}
 use Rattle.session_undo.proofs.session.Session.diagnose.Goals as goal
 use Rattle.session_undo.proofs.session.Session.diagnose.Goals.{in-Ok, in-Err}
 
@@ -21,5 +21,5 @@ returns-clause-refused c =
     elim c.match-diagnose.branch [
       | in-Ok w ↦ rw w.result-is tt
       | in-Err w ↦ rw (w.result-is, w.probe_refusal.ensures, ← c.self.view_is)
-          (stop-answer old w.in-Err.attr w.in-Err.stop w.in-Err.ensures.stop)
+          (stop-answer old w.in-Err.stopped.attr w.in-Err.stopped.stop w.in-Err.ensures.stop)
     ]

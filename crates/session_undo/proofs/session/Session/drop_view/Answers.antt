@@ -5,9 +5,9 @@ use Rattle.session_undo.specs.Leaving.{without_views}
 use Rattle.session_undo.specs.Machine.{LeavesFree, TriedDrop}
 use Rattle.session_undo.specs.Adding.{NoEnd}
 use Rattle.session_undo.specs.Kept.{session_at}
-use Rattle.session_undo.proofs.Steps.{refuses, after}
-use Rattle.session_undo.proofs.Chains.{ok-map, err-map}
-use Rattle.session_undo.proofs.LeavingSteps.{dropped-causes, dropped-passed, left-accepted, left-refused, left-same}
+use Rattle.session_undo.proofs.Commands.Steps.{refuses, after}
+use Rattle.session_undo.proofs.Commands.Chains.{ok-map, err-map}
+use Rattle.session_undo.proofs.Removals.LeavingSteps.{dropped-causes, dropped-passed, left-accepted, left-refused, left-same}
 use Rattle.session_undo.proofs.session.Session.drop_view.Goals as goal
 
 pub returns-in_err-gone-clause-refused : goal.returns-in_err-gone-clause-refused

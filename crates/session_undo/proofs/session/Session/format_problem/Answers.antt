@@ -1,7 +1,7 @@
 use Rattle.vfl_text.specs.View.{meaning}
 use Rattle.session_undo.specs.Replies.{Done}
 use Rattle.session_undo.specs.Machine.{PosesDraft}
-use Rattle.session_undo.proofs.LineStops.{format-passed}
+use Rattle.session_undo.proofs.Commands.LineStops.{format-passed}
 use Rattle.session_undo.proofs.session.Session.format_problem.Goals as goal
 
 pub returns-clause-posed : goal.returns-clause-posed

@@ -1,4 +1,4 @@
-use Rattle.session_undo.proofs.Steps.{stop-kind-limited, stop-kind, stop-limit-limited, stop-limit}
+use Rattle.session_undo.proofs.Commands.Steps.{stop-kind-limited, stop-kind, stop-limit-limited, stop-limit}
 use Rattle.session_undo.proofs.session.Session.line_refusal.Goals as goal
 
 pub returns-in-Some : goal.returns-in-Some

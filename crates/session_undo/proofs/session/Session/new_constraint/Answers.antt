@@ -2,15 +2,15 @@ use Rattle.std.proofs.Common.{◌≡◌, subst, sym}
 use Rattle.constraint_compile.specs.Compiled.{CompiledLine}
 use Rattle.script_text.specs.View.{linear_view}
 use Rattle.constraint_compile.specs.Stops.{IsCompiled, MayStop}
-use Rattle.session_undo.proofs.SmallLines.{line-small}
-use Rattle.session_undo.proofs.NextLines.{constrain-next}
+use Rattle.session_undo.proofs.HeldRows.SmallLines.{line-small}
+use Rattle.session_undo.proofs.HeldRows.NextLines.{constrain-next}
 use Rattle.session_undo.specs.Scene.{State}
 use Rattle.session_undo.specs.Replies.{Reply}
 use Rattle.session_undo.specs.Machine.{TriedConstraint}
 use Rattle.session_undo.specs.Adding.{AddStop, StopStep, NoEnd}
-use Rattle.session_undo.proofs.Steps.{refuses}
-use Rattle.session_undo.proofs.Chains.{ok-map, err-map}
-use Rattle.session_undo.proofs.LineStops.{constraint-full, constraint-stopped}
+use Rattle.session_undo.proofs.Commands.Steps.{refuses}
+use Rattle.session_undo.proofs.Commands.Chains.{ok-map, err-map}
+use Rattle.session_undo.proofs.Commands.LineStops.{constraint-full, constraint-stopped}
 use Rattle.session_undo.proofs.session.Session.new_constraint.Goals as goal
 
 pub returns-in-Ok-clause-is : goal.returns-in-Ok-clause-is

@@ -1,21 +1,21 @@
 use Rattle.std.proofs.Common.{◌≡◌, ◌+◌, arith, length, subst, sym}
 use Rattle.std.proofs.lemmas.List.{length-map}
 use Rattle.view_tree.specs.Views.{IsTree}
-use Rattle.session_undo.proofs.FormatOwners.{format-owned}
+use Rattle.session_undo.proofs.HeldRows.FormatOwners.{format-owned}
 use Rattle.constraint_compile.specs.Compiled.{CompiledLine}
 use Rattle.vfl_text.specs.View.{spacing_meaning, spacing_meanings, item_meaning, item_meanings, meaning}
-use Rattle.constraint_compile.specs.FormatParts.{parts}
-use Rattle.constraint_compile.specs.FormatStops.{row_count}
-use Rattle.constraint_compile.specs.FormatRows.{IsCompiledFormat, MayStopFormat}
-use Rattle.session_undo.proofs.SmallLines.{format-small}
-use Rattle.session_undo.proofs.NextLines.{format-next}
+use Rattle.constraint_compile.specs.Formats.FormatParts.{parts}
+use Rattle.constraint_compile.specs.Formats.FormatStops.{row_count}
+use Rattle.constraint_compile.specs.Formats.FormatRows.{IsCompiledFormat, MayStopFormat}
+use Rattle.session_undo.proofs.HeldRows.SmallLines.{format-small}
+use Rattle.session_undo.proofs.HeldRows.NextLines.{format-next}
 use Rattle.session_undo.specs.Scene.{State}
 use Rattle.session_undo.specs.Replies.{Reply}
 use Rattle.session_undo.specs.Machine.{TriedFormat}
 use Rattle.session_undo.specs.Adding.{AddStop, StopStep, NoEnd}
-use Rattle.session_undo.proofs.Steps.{refuses}
-use Rattle.session_undo.proofs.Chains.{ok-map, err-map}
-use Rattle.session_undo.proofs.LineStops.{format-full, format-stopped}
+use Rattle.session_undo.proofs.Commands.Steps.{refuses}
+use Rattle.session_undo.proofs.Commands.Chains.{ok-map, err-map}
+use Rattle.session_undo.proofs.Commands.LineStops.{format-full, format-stopped}
 use Rattle.session_undo.proofs.session.Session.new_format.Goals as goal
 
 pub returns-in-Ok-clause-is : goal.returns-in-Ok-clause-is

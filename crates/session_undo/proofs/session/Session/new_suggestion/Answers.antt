@@ -6,8 +6,8 @@ use Rattle.session_undo.specs.Adding.{IsFreeSuggestion, IsSuggestionFor, NoEnd, 
 use Rattle.session_undo.specs.Machine.{TriedSuggest}
 use Rattle.session_undo.specs.Replies.{Reply}
 use Rattle.session_undo.specs.Kept.{session_at}
-use Rattle.session_undo.proofs.Chains.{ok-map, err-map}
-use Rattle.session_undo.proofs.SuggestionSteps.{step-causes, view-found}
+use Rattle.session_undo.proofs.Commands.Chains.{ok-map, err-map}
+use Rattle.session_undo.proofs.Suggestions.SuggestionSteps.{step-causes, view-found}
 use Rattle.session_undo.proofs.session.Session.new_suggestion.Goals as goal
 
 pub returns-clause-made : goal.returns-clause-made

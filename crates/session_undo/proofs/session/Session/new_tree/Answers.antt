@@ -2,8 +2,8 @@ use Rattle.std.proofs.Common.{refl}
 use Rattle.view_tree.specs.JsonStops.{IsGrown}
 use Rattle.session_undo.specs.Adding.{NoEnd}
 use Rattle.session_undo.specs.Kept.{session_at}
-use Rattle.session_undo.proofs.Attributes.{grown-branch}
-use Rattle.session_undo.proofs.TreeChains.{crowded-tree, first-number, first-there, free-tree, limited-tree, no-taken, no-unknown, taken-tree, tree-misshapen, tree-outside, unknown-tree}
+use Rattle.session_undo.proofs.Views.Attributes.{grown-branch}
+use Rattle.session_undo.proofs.Commands.TreeChains.{crowded-tree, first-number, first-there, free-tree, limited-tree, no-taken, no-unknown, taken-tree, tree-misshapen, tree-outside, unknown-tree}
 use Rattle.session_undo.proofs.session.Session.new_tree.Goals as goal
 
 pub returns-in-Err-Syntax-clause-refused : goal.returns-in-Err-Syntax-clause-refused

@@ -4,8 +4,8 @@ use Rattle.view_tree.specs.declared.stops.TreeStop.TheVariants.{Unknown, Taken}
 use Rattle.session_undo.specs.Machine.{IsTaken}
 use Rattle.session_undo.specs.Kept.{session_at}
 use Rattle.session_undo.specs.Adding.{NoEnd}
-use Rattle.session_undo.proofs.Attributes.{grown-view}
-use Rattle.session_undo.proofs.Chains.{IsAsked, found-live, view-full, view-free}
+use Rattle.session_undo.proofs.Views.Attributes.{grown-view}
+use Rattle.session_undo.proofs.Commands.Chains.{IsAsked, found-live, view-full, view-free}
 use Rattle.session_undo.proofs.session.Session.new_view.Goals as goal
 
 pub unreachable-requires : goal.unreachable-requires

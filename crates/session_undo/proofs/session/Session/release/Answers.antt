@@ -5,10 +5,10 @@ use Rattle.session_undo.specs.Leaving.{without_suggestion}
 use Rattle.session_undo.specs.Machine.{LeavesFree, TriedRelease}
 use Rattle.session_undo.specs.Adding.{NoEnd}
 use Rattle.session_undo.specs.Kept.{session_at}
-use Rattle.session_undo.proofs.Steps.{refuses, after}
-use Rattle.session_undo.proofs.Chains.{ok-map, err-map}
-use Rattle.session_undo.proofs.LeavingSteps.{left-accepted, left-refused, left-same}
-use Rattle.session_undo.proofs.SuggestionSteps.{release-causes, release-passed}
+use Rattle.session_undo.proofs.Commands.Steps.{refuses, after}
+use Rattle.session_undo.proofs.Commands.Chains.{ok-map, err-map}
+use Rattle.session_undo.proofs.Removals.LeavingSteps.{left-accepted, left-refused, left-same}
+use Rattle.session_undo.proofs.Suggestions.SuggestionSteps.{release-causes, release-passed}
 use Rattle.session_undo.proofs.session.Session.release.Goals as goal
 
 pub returns-in_err-view-clause-refused : goal.returns-in_err-view-clause-refused

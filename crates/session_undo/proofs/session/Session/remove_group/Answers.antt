@@ -5,9 +5,9 @@ use Rattle.std.specs.List.{list_any}
 use Rattle.session_undo.specs.Leaving.{is_in_group, without_group}
 use Rattle.session_undo.specs.Machine.{LeavesFree, TriedRemove}
 use Rattle.session_undo.specs.Kept.{session_at}
-use Rattle.session_undo.proofs.Steps.{after}
-use Rattle.session_undo.proofs.Chains.{ok-map, err-map}
-use Rattle.session_undo.proofs.LeavingSteps.{left-accepted, left-refused, left-same, removed-passed, removed-unknown}
+use Rattle.session_undo.proofs.Commands.Steps.{after}
+use Rattle.session_undo.proofs.Commands.Chains.{ok-map, err-map}
+use Rattle.session_undo.proofs.Removals.LeavingSteps.{left-accepted, left-refused, left-same, removed-passed, removed-unknown}
 use Rattle.session_undo.proofs.session.Session.remove_group.Goals as goal
 
 pub returns-clause-accepted : goal.returns-clause-accepted

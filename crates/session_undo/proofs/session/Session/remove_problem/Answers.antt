@@ -5,7 +5,7 @@ use Rattle.session_undo.specs.Leaving.{is_in_group}
 use Rattle.session_undo.specs.Machine.{PosesDraft}
 use Rattle.session_undo.specs.Adding.{NoEnd}
 use Rattle.session_undo.specs.Kept.{session_at}
-use Rattle.session_undo.proofs.LeavingSteps.{removed-passed, removed-unknown}
+use Rattle.session_undo.proofs.Removals.LeavingSteps.{removed-passed, removed-unknown}
 use Rattle.session_undo.proofs.session.Session.remove_problem.Goals as goal
 
 pub returns-then-not-has_group-clause-refused : goal.returns-then-not-has_group-clause-refused

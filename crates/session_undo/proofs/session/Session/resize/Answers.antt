@@ -3,9 +3,9 @@ use Rattle.session_undo.specs.declared.reply.Reply as answer
 use Rattle.session_undo.specs.Machine.{TriedWindow, Solves}
 use Rattle.session_undo.specs.Scene.{with_window}
 use Rattle.session_undo.specs.Kept.{session_at}
-use Rattle.session_undo.proofs.Steps.{run-accepted, run-refused, answer-same, after}
-use Rattle.session_undo.proofs.Chains.{window-causes, window-passed, ok-map, err-map}
-use Rattle.session_undo.proofs.Additions.{room-fits, room-numbers}
+use Rattle.session_undo.proofs.Commands.Steps.{run-accepted, run-refused, answer-same, after}
+use Rattle.session_undo.proofs.Commands.Chains.{window-causes, window-passed, ok-map, err-map}
+use Rattle.session_undo.proofs.Engines.Additions.{room-fits, room-numbers}
 use Rattle.session_undo.proofs.session.Session.resize.Goals as goal
 
 pub returns-in-Some-clause-refused : goal.returns-in-Some-clause-refused

@@ -4,8 +4,8 @@ use Rattle.session_undo.specs.declared.reply.Reply as answer
 use Rattle.session_undo.specs.Machine.{TriedMetric, Solves}
 use Rattle.session_undo.specs.Adding.{NoEnd, metrics_draft}
 use Rattle.session_undo.specs.Kept.{session_at}
-use Rattle.session_undo.proofs.Steps.{refuses, run-accepted, run-refused, answer-same, after}
-use Rattle.session_undo.proofs.Chains.{metric-causes, metric-passed, ok-map, err-map}
+use Rattle.session_undo.proofs.Commands.Steps.{refuses, run-accepted, run-refused, answer-same, after}
+use Rattle.session_undo.proofs.Commands.Chains.{metric-causes, metric-passed, ok-map, err-map}
 use Rattle.session_undo.proofs.session.Session.set_metric.Goals as goal
 
 pub returns-in_err-new-clause-refused : goal.returns-in_err-new-clause-refused

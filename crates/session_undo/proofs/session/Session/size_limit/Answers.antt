@@ -1,7 +1,7 @@
 use Rattle.std.proofs.Common.{refl}
 use Rattle.session_undo.specs.Kept.{session_at}
 use Rattle.session_undo.specs.Adding.{NoEnd}
-use Rattle.session_undo.proofs.Chains.{window-far}
+use Rattle.session_undo.proofs.Commands.Chains.{window-far}
 use Rattle.session_undo.proofs.session.Session.size_limit.Goals as goal
 
 pub returns-then-is_far-clause-full : goal.returns-then-is_far-clause-full

@@ -2,8 +2,8 @@ use Rattle.std.proofs.Common.{◌+◌, ◌≤◌, ◌^◌, arith}
 use Rattle.session_undo.specs.Replies.{Done}
 use Rattle.session_undo.specs.Machine.{PosesDraft}
 use Rattle.session_undo.specs.Kept.{session_at}
-use Rattle.session_undo.proofs.Chains.{window-passed}
-use Rattle.session_undo.proofs.Additions.{room-fits, room-numbers}
+use Rattle.session_undo.proofs.Commands.Chains.{window-passed}
+use Rattle.session_undo.proofs.Engines.Additions.{room-fits, room-numbers}
 use Rattle.session_undo.proofs.session.Session.size_problem.Goals as goal
 
 pub returns-clause-posed : goal.returns-clause-posed

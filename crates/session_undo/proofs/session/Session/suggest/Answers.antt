@@ -5,9 +5,9 @@ use Rattle.session_undo.specs.declared.reply.Reply as answer
 use Rattle.session_undo.specs.Scene.{with_suggestion, with_suggested}
 use Rattle.session_undo.specs.Machine.{Solves, TriedSuggest}
 use Rattle.session_undo.specs.Adding.{IsFirstSuggestion, IsLaterSuggestion, NoEnd}
-use Rattle.session_undo.proofs.Steps.{refuses}
-use Rattle.session_undo.proofs.Chains.{ok-map, err-map}
-use Rattle.session_undo.proofs.SuggestionSteps.{first-next, first-passed, later-near, later-passed, suggest-causes}
+use Rattle.session_undo.proofs.Commands.Steps.{refuses}
+use Rattle.session_undo.proofs.Commands.Chains.{ok-map, err-map}
+use Rattle.session_undo.proofs.Suggestions.SuggestionSteps.{first-next, first-passed, later-near, later-passed, suggest-causes}
 use Rattle.session_undo.proofs.session.Session.suggest.Goals as goal
 
 pub returns-in-First-clause-accepted : goal.returns-in-First-clause-accepted

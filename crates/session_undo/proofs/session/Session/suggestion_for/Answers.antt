@@ -5,7 +5,7 @@ use Rattle.session_undo.specs.Items.{suggestion_of}
 use Rattle.session_undo.specs.Adding.{NoEnd}
 use Rattle.session_undo.specs.Machine.{Suggests}
 use Rattle.session_undo.specs.Replies.{Limit}
-use Rattle.session_undo.proofs.SuggestionSteps.{held-step, no-priority, ranked-step}
+use Rattle.session_undo.proofs.Suggestions.SuggestionSteps.{held-step, no-priority, ranked-step}
 use Rattle.session_undo.proofs.session.Session.suggestion_for.Goals as goal
 
 pub returns-in-Err-clause-refused : goal.returns-in-Err-clause-refused

@@ -2,7 +2,7 @@ use Rattle.std.proofs.Common.{refl}
 use Rattle.session_undo.specs.Replies.{Done}
 use Rattle.session_undo.specs.Machine.{PosesScene}
 use Rattle.session_undo.specs.Kept.{session_at}
-use Rattle.session_undo.proofs.Steps.{latest-earlier, undo-takes}
+use Rattle.session_undo.proofs.Commands.Steps.{latest-earlier, undo-takes}
 use Rattle.session_undo.proofs.session.Session.undo_problem.Goals as goal
 
 pub returns-clause-posed : goal.returns-clause-posed

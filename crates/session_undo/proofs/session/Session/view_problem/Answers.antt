@@ -3,8 +3,8 @@ use Rattle.session_undo.specs.Replies.{Done}
 use Rattle.session_undo.specs.Machine.{IsProblemOf, PosesDraft}
 use Rattle.session_undo.specs.Adding.{views_draft}
 use Rattle.session_undo.specs.Kept.{session_at}
-use Rattle.session_undo.proofs.Chains.{view-passed}
-use Rattle.session_undo.proofs.Additions.{room-fits, room-numbers}
+use Rattle.session_undo.proofs.Commands.Chains.{view-passed}
+use Rattle.session_undo.proofs.Engines.Additions.{room-fits, room-numbers}
 use Rattle.session_undo.proofs.session.Session.view_problem.Goals as goal
 
 pub returns-clause-posed : goal.returns-clause-posed

@@ -1,7 +1,7 @@
 use Rattle.std.proofs.Common.{arith, rules, ◌≡◌, ◌<◌, false, ◌++◌, length, refl, sym, subst, ap, ◌∙◌}
 use Rattle.span_text.specs.Classes.{is_space}
 use Rattle.span_text.specs.Reading.{front, starts}
-use Rattle.span_text.proofs.TokenCuts.{IsEnd, end_of_end, spaces_end, back_starts, back_within, no_rest, front_inside, front_back, slice_at_end}
+use Rattle.span_text.proofs.TextCuts.TokenCuts.{IsEnd, end_of_end, spaces_end, back_starts, back_within, no_rest, front_inside, front_back, slice_at_end}
 use Rattle.std.proofs.lemmas.List.{take-append-drop}
 use Rattle.span_text.proofs.token.TokensIterator.next.Goals as goal
 

@@ -1,4 +1,4 @@
-use Rattle.claim_text.proofs.ClaimReadings.{bys_kept, levels_kept}
+use Rattle.claim_text.proofs.Claims.ClaimReadings.{bys_kept, levels_kept}
 use Rattle.claim_text.proofs.claim.draft.ClaimDraft.finish.Goals as goal
 
 pub conflict-requires : goal.conflict-requires

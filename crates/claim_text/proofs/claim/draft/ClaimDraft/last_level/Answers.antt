@@ -1,6 +1,6 @@
 use Rattle.std.proofs.Common.{ap, sym, ◌∙◌}
-use Rattle.claim_text.specs.ClaimTexts.{Draft}
-use Rattle.claim_text.proofs.SeenStays.{bys_last}
+use Rattle.claim_text.specs.Claims.ClaimTexts.{Draft}
+use Rattle.claim_text.proofs.Claims.SeenStays.{bys_last}
 use Rattle.claim_text.proofs.claim.draft.ClaimDraft.last_level.Goals as goal
 
 pub returns-in-Bys-clause-some : goal.returns-in-Bys-clause-some

@@ -1,5 +1,5 @@
-use Rattle.claim_text.specs.ClaimTexts.{closed}
-use Rattle.claim_text.proofs.SeenStays.{level_decided, levels_before}
+use Rattle.claim_text.specs.Claims.ClaimTexts.{closed}
+use Rattle.claim_text.proofs.Claims.SeenStays.{level_decided, levels_before}
 use Rattle.claim_text.proofs.claim.draft.ClaimDraft.levels_are_before.Goals as goal
 
 pub returns-in-Stay : goal.returns-in-Stay

@@ -1,4 +1,4 @@
-use Rattle.claim_text.proofs.ClaimDrafts.{may_not}
+use Rattle.claim_text.proofs.Claims.ClaimDrafts.{may_not}
 use Rattle.claim_text.proofs.claim.draft.ClaimDraft.take_line.Goals as goal
 
 pub returns-then-not-may_follow-clause-refused : goal.returns-then-not-may_follow-clause-refused

@@ -1,4 +1,4 @@
-use Rattle.claim_text.proofs.SeenStays.{level_noted}
+use Rattle.claim_text.proofs.Claims.SeenStays.{level_noted}
 use Rattle.claim_text.proofs.claim.seen.Seen.note.Goals as goal
 
 pub returns-in-OfLevel : goal.returns-in-OfLevel

@@ -1,4 +1,4 @@
-use Rattle.claim_text.proofs.SeenStays.{mark_noted}
+use Rattle.claim_text.proofs.Claims.SeenStays.{mark_noted}
 use Rattle.claim_text.proofs.claim.seen.Seen.note_part.Goals as goal
 
 pub returns-in-OfIn : goal.returns-in-OfIn

@@ -1,5 +1,5 @@
 use Rattle.std.proofs.lemmas.List.Sorted.{searched, IsNonDecreasingBy-from_sort}
-use Rattle.claim_text.proofs.StayAttributes.{search_tells}
+use Rattle.claim_text.proofs.Problems.StayAttributes.{search_tells}
 use Rattle.claim_text.proofs.problem.attributes.Attributes.contains.Goals as goal
 
 pub returns : goal.returns

@@ -1,5 +1,5 @@
 use Rattle.std.specs.Prelude.{Contains}
-use Rattle.claim_text.proofs.Refused.{covered_alone}
+use Rattle.claim_text.proofs.Problems.Refused.{covered_alone}
 use Rattle.claim_text.proofs.problem.draft.Draft.row_may_follow.Goals as goal
 
 pub returns : goal.returns

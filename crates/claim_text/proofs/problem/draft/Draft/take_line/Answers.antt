@@ -1,5 +1,5 @@
 use Rattle.claim_text.specs.Problems.{Says}
-use Rattle.claim_text.proofs.Refused.{may_not}
+use Rattle.claim_text.proofs.Problems.Refused.{may_not}
 use Rattle.claim_text.proofs.problem.draft.Draft.take_line.Goals as goal
 
 pub returns-then-not-may_follow-clause-refused : goal.returns-then-not-may_follow-clause-refused

@@ -1,0 +1,217 @@
+-- Which texts are claims, and where a text stops to be one.
+use Rattle.std.specs.Prelude.{◌≡◌, ℕ, ◌+◌, ◌<◌, ◌≤◌, ◌⊎◌, List, [], ◌∷◌, ◌++◌, length, All, AllPairs}
+use Rattle.frac_core.specs.Fraction.{Fraction, IsFitting}
+use Rattle.cert_core.specs.declared.by.By.{By}
+use Rattle.cert_core.specs.Claims.{BestLevel}
+use Rattle.claim_text.specs.declared.claim.lines.ClaimLine.{ClaimLine}
+use Rattle.claim_text.specs.declared.claim.lines.ClaimLine.TheVariants.{OfValue, OfBest, OfConflict, OfLevel}
+use Rattle.claim_text.specs.declared.claim.lines.ClaimLine.TheVariants.{OfBy, OfPath, OfPart}
+use Rattle.claim_text.specs.declared.claim.draft.Stage.{Stage}
+use Rattle.claim_text.specs.declared.claim.draft.Stage.TheVariants.{Values, Levels, Bys, Conflict, Path}
+use Rattle.claim_text.specs.declared.claim.Claim.{Claim}
+use Rattle.claim_text.specs.declared.claim.Claim.TheVariants.{IsBest, IsConflict, IsPath}
+use Rattle.claim_text.specs.Stops.{ReadStop}
+use Rattle.claim_text.specs.FirstBad.{IsFirstBad}
+use Rattle.frac_core.specs.declared.memory.Stop.TheVariants.{OutOfMemory, Refused}
+use Rattle.claim_text.specs.Words.{words}
+use Rattle.claim_text.specs.Claims.ClaimLines.{value_words, level_words, by_words, best_words, conflict_words}
+use Rattle.claim_text.specs.Claims.ClaimLines.{IsValue, IsLevelLine, IsBy}
+use Rattle.claim_text.specs.Names.{IsLevelName, IsRowBefore, IsLevelBefore}
+use Rattle.claim_text.specs.declared.claim.path_lines.PathLine.{PathLine}
+use Rattle.claim_text.specs.Paths.PathTexts.{kind_words}
+use Rattle.claim_text.specs.Paths.PathForms.{PathDraft, SaysPart, PartMayFollow, path_begun, with_part}
+use Rattle.claim_text.specs.Paths.PathForms.{path_of}
+use Rattle.claim_text.specs.Paths.PathForms.{IsPathWritten}
+
+-- what a line says by itself
+abbrev pub Says : List ℕ → ClaimLine → Type 0
+Says line (OfValue v) = IsValue v × (words line ≡ value_words v)
+Says line OfBest = words line ≡ best_words
+Says line OfConflict = words line ≡ conflict_words
+Says line (OfLevel l) = IsLevelLine l × (words line ≡ level_words l)
+Says line (OfBy b) = IsBy b × (words line ≡ by_words b)
+Says line (OfPath dual) = words line ≡ kind_words dual
+Says line (OfPart part) = SaysPart line part
+
+-- ---- reading line by line
+
+-- what was read: values, levels that have ended, and the multipliers of the level that is open or of a
+-- conflict; a path stands in its stage
+pub record Draft : Type 0 where
+  pub stage : Stage
+  pub values : List (ℕ × Fraction)
+  pub levels : List BestLevel
+  pub bys : List By
+
+abbrev pub nothing_read : Draft
+nothing_read = record { stage = Values; values = []; levels = []; bys = [] }
+
+-- the levels, the open one with its multipliers among them
+abbrev pub closed : Stage → List BestLevel → List By → List BestLevel
+closed Values levels bys = levels
+closed Levels levels bys = levels
+closed (Bys l) levels bys = levels ++ record { level = l.level; scale = l.scale; by = bys } ∷ []
+closed Conflict levels bys = levels
+closed (Path d) levels bys = levels
+
+abbrev pub HasLevels : Stage → Type 0
+HasLevels Values = ⊥
+HasLevels Levels = Unit {0}
+HasLevels (Bys l) = Unit {0}
+HasLevels Conflict = ⊥
+HasLevels (Path d) = ⊥
+
+abbrev pub HasBys : Stage → Type 0
+HasBys Values = ⊥
+HasBys Levels = ⊥
+HasBys (Bys l) = Unit {0}
+HasBys Conflict = Unit {0}
+HasBys (Path d) = ⊥
+
+-- a line that says this may follow what was read
+abbrev pub MayFollow : Draft → ClaimLine → Type 0
+MayFollow old (OfValue v) = (old.stage ≡ Values) × All (λ u. u.0 < v.0) old.values
+MayFollow old OfBest = old.stage ≡ Values
+MayFollow old OfConflict = (old.stage ≡ Values) × (old.values ≡ [])
+MayFollow old (OfLevel l) = HasLevels old.stage × All (λ k.
+    IsLevelBefore k.level l.level) (closed old.stage old.levels old.bys)
+MayFollow old (OfBy b) = HasBys old.stage × All (λ k. IsRowBefore k.row b.row) old.bys
+MayFollow old (OfPath dual) = (old.stage ≡ Values) × (old.values ≡ [])
+MayFollow old (OfPart part) = (d : PathDraft) × (old.stage ≡ Path d) × PartMayFollow d part
+
+-- the path with one part more
+abbrev pub stage_with : Stage → PathLine → Stage
+stage_with Values part = Values
+stage_with Levels part = Levels
+stage_with (Bys l) part = Bys l
+stage_with Conflict part = Conflict
+stage_with (Path d) part = Path (with_part d part)
+
+abbrev pub with_line : Draft → ClaimLine → Draft
+with_line old (OfValue v) = record {
+  stage = old.stage;
+  values = old.values
+      ++ v ∷ [];
+  levels = old.levels;
+  bys = old.bys;
+}
+with_line old OfBest = record { stage = Levels; values = old.values; levels = old.levels; bys = old.bys }
+with_line old OfConflict = record {
+  stage = Conflict;
+  values = old.values;
+  levels = old.levels;
+  bys = old.bys;
+}
+with_line old (OfLevel l) = record {
+  stage = Bys l;
+  values = old.values;
+  levels = closed old.stage old.levels old.bys;
+  bys = [];
+}
+with_line old (OfBy b) = record {
+  stage = old.stage;
+  values = old.values;
+  levels = old.levels;
+  bys = old.bys
+      ++ b ∷ [];
+}
+with_line old (OfPath dual) = record {
+  stage = Path (path_begun dual);
+  values = old.values;
+  levels = old.levels;
+  bys = old.bys;
+}
+with_line old (OfPart part) = record {
+  stage = stage_with old.stage part;
+  values = old.values;
+  levels = old.levels;
+  bys = old.bys;
+}
+
+pub record Step (old : Draft) (line : List ℕ) (new : Draft) : Type 0 where
+  pub item : ClaimLine
+  pub says : Says line item
+  pub may : MayFollow old item
+  pub is : new ≡ with_line old item
+
+abbrev pub ReadFrom : Draft → List (List ℕ) → Draft → Type 0
+ReadFrom old [] new = new ≡ old
+ReadFrom old (line ∷ more) new = (mid : Draft) × Step old line mid × ReadFrom mid more new
+
+-- what was read is all of the claim
+abbrev pub Ends : Draft → Claim → Type 0
+Ends d (IsBest values best) = HasLevels d.stage × (values ≡ d.values) × (best ≡ closed d.stage d.levels d.bys)
+Ends d (IsConflict bys) = (d.stage ≡ Conflict) × (bys ≡ d.bys)
+Ends d (IsPath path unfit) = (read : PathDraft) × (d.stage ≡ Path read) × (path ≡ path_of read)
+    × (unfit ≡ read.unfit)
+
+-- the lines say the claim
+abbrev pub Reads : List (List ℕ) → Claim → Type 0
+Reads all claim = (last : Draft) × ReadFrom nothing_read all last × Ends last claim
+
+-- The text ends before the line that says which claim it is, after all but the n-th line.
+pub record EndsEarly (all : List (List ℕ)) (n : ℕ) : Type 0 where
+  pub number : n ≡ length all + 1
+  pub so_far : Draft
+  pub reads : ReadFrom nothing_read all so_far
+  pub waits : so_far.stage ≡ Values
+
+-- where the text stops to be a claim, unless memory was wanting
+abbrev pub StopsAt : List (List ℕ) → ReadStop → Type 0
+StopsAt all (Refused bad) = IsFirstBad (ReadFrom nothing_read) Step all bad.0 ⊎ EndsEarly all bad.0
+StopsAt all OutOfMemory = Unit {0}
+
+-- ---- what the reader of lines tells
+
+pub record IsRead (all : List (List ℕ)) (draft : Draft) (count : ℕ) : Type 0 where
+  pub reads : ReadFrom nothing_read all draft
+  pub count_is : count ≡ length all
+
+abbrev pub LinesStopAt : List (List ℕ) → ReadStop → Type 0
+LinesStopAt all (Refused bad) = IsFirstBad (ReadFrom nothing_read) Step all bad.0
+LinesStopAt all OutOfMemory = Unit {0}
+
+-- ---- what a draft keeps
+
+-- rows with multipliers as they are read
+pub record AreRead (bys : List By) : Type 0 where
+  pub each : All IsBy bys
+  pub order : AllPairs (λ a b. IsRowBefore a.row b.row) bys
+
+pub record IsLevelRead (l : BestLevel) : Type 0 where
+  pub level : IsLevelName l.level
+  pub scale : IsFitting l.scale
+  pub by : AreRead l.by
+
+abbrev pub IsStage : Stage → Type 0
+IsStage Values = Unit {0}
+IsStage Levels = Unit {0}
+IsStage (Bys l) = IsLevelLine l
+IsStage Conflict = Unit {0}
+IsStage (Path d) = IsPathWritten (path_of d) d.unfit
+
+pub record IsDraft (d : Draft) : Type 0 where
+  pub stage : IsStage d.stage
+  pub values : AllPairs (λ u v. u.0 < v.0) d.values
+  pub levels : All IsLevelRead (closed d.stage d.levels d.bys)
+  pub level_order : AllPairs (λ k l. IsLevelBefore k.level l.level) (closed d.stage d.levels d.bys)
+  pub bys : AreRead d.bys
+
+-- ---- the claims that are written so that they are read back
+
+pub record IsBestWritten (pairs : List (ℕ × Fraction)) (best : List BestLevel) : Type 0 where
+  pub values : All IsValue pairs
+  pub rising : AllPairs (λ u v. u.0 < v.0) pairs
+  pub levels : All IsLevelRead best
+  pub level_order : AllPairs (λ k l. IsLevelBefore k.level l.level) best
+
+abbrev pub IsWritten : Claim → Type 0
+IsWritten (IsBest values best) = IsBestWritten values best
+IsWritten (IsConflict bys) = AreRead bys
+IsWritten (IsPath path unfit) = IsPathWritten path unfit
+
+-- a path has no more marks and exchanges than this
+abbrev pub HasNoMoreParts : Claim → ℕ → Type 0
+HasNoMoreParts (IsBest values best) n = Unit {0}
+HasNoMoreParts (IsConflict bys) n = Unit {0}
+HasNoMoreParts (IsPath path unfit) n = length path.corner + length path.swaps ≤ n

@@ -1,0 +1,4 @@
+-- Which lines are paths, with lines inside and outside the form.
+pub mod PathTexts
+pub mod PathForms
+pub mod PathExamples

@@ -1,0 +1,26 @@
+-- The parts of a format without where their names lie in memory.
+use Rattle.std.specs.Prelude.{List, map, Option, Some, None}
+use Rattle.vfl_text.specs.View.{pred_meaning}
+use Rattle.constraint_compile.specs.declared.format.parts.End as declared_end
+use Rattle.constraint_compile.specs.declared.format.parts.Span as declared_span
+use Rattle.constraint_compile.specs.declared.format.parts.Part as declared_part
+use Rattle.constraint_compile.specs.declared.format.parts.Part.TheVariants as part
+use Rattle.constraint_compile.specs.Formats.FormatParts.{End, Span, Part, View, Bar, Asks}
+
+abbrev pub end_view : declared_end.End → End
+end_view e = record { owner = e.owner; view = e.view.now; word = e.word }
+
+abbrev pub minus_view : Option declared_end.End → Option End
+minus_view None = None
+minus_view (Some e) = Some (end_view e)
+
+abbrev pub span_view : declared_span.Span → Span
+span_view s = record { plus = end_view s.plus; minus = minus_view s.minus }
+
+abbrev pub part_view : declared_part.Part → Part
+part_view (part.View name) = View name.now
+part_view (part.Bar name) = Bar name.now
+part_view (part.Asks span pred) = Asks (span_view span) (pred_meaning pred)
+
+abbrev pub parts_view : List declared_part.Part → List Part
+parts_view ps = map part_view ps

@@ -1,0 +1,141 @@
+-- What is seen of a corner when an attribute joins, and after want of memory.
+use Rattle.std.proofs.Common.{◌≡◌, ◌∙◌, ℕ, zero, suc, ◌<◌, ◌≤◌, ◌⊎◌, ◌+◌, ◌++◌, List, [], ◌∷◌, map, length, refl, sym, ap, ap₂, subst, arith, inl, inr, slice_index_or, All, Any, pos}
+use Rattle.std.proofs.lemmas.List.{get_or_past}
+use Rattle.frac_core.specs.Fraction.{Fraction}
+use Rattle.frac_core.specs.Fraction as fractions
+use Rattle.problem_core.specs.declared.parts.Rel.TheVariants.{Eq}
+use Rattle.problem_core.specs.declared.parts.RowName.TheVariants.{Held, Stay as StayOf}
+use Rattle.row_core.specs.Rows.{Term}
+use Rattle.problem_core.specs.declared.parts.Mark.{Mark}
+use Rattle.problem_core.specs.declared.parts.Stay.{Stay}
+use Rattle.problem_core.specs.declared.parts.RowName.{RowName}
+use Rattle.problem_core.specs.Layout.{HasStay, Line, Problem, Row, line_of_row, stay_lines}
+use Rattle.problem_core.specs.Kept.{IsNumber, IsRow, IsWhole}
+use Rattle.corner_lines.specs.Joins.{with_attr}
+use Rattle.corner.specs.declared.table.Owner.TheVariants.{Level as LevelSlot}
+use Rattle.corner.specs.declared.table.Priority.{Priority}
+use Rattle.corner.specs.declared.table.Slot.{Slot}
+use Rattle.corner.specs.declared.table.Standing.{Standing}
+use Rattle.corner.specs.declared.table.Table.{Table}
+use Rattle.corner.specs.Views.{AreCandidates, IsNamed}
+use Rattle.corner.specs.Tables.{Lists, lists_of, marks_at, problem_of, scene_at, slot_at}
+use Rattle.corner.specs.Kept.{IsKept}
+use Rattle.corner.specs.Histories.{AreAlike, HasSameHistory, lists_before, side_by_side}
+use Rattle.corner.specs.Invariants.{IsConsistent, IsEarlier, name_of, names_of}
+use Rattle.corner.specs.Additions.Joining.{IsWithAttr, slot_of_attr, slot_of_stay}
+use Rattle.corner.proofs.Attributes.AttrColumns.{negative_before, negative_mark}
+use Rattle.corner.proofs.Attributes.AttrJoins.{count_two, joined, named_more, old_slot}
+use Rattle.corner.proofs.Attributes.AttrLevels.{attr_kept, attr_marks, attr_problem, joined_is}
+use Rattle.corner.proofs.Attributes.AttrRows.{below_or}
+
+pub past_same : (t u : Table) → HasSameHistory t u → lists_before u ≡ lists_before t
+past_same t u h =
+    ap (λ x. side_by_side x u.stays.before u.slots.before u.standings.before u.matrix.before u.attr_slots.before u.row_slots.before u.priorities.before) h.rows
+    ∙ ap (λ x. side_by_side t.rows.before x u.slots.before u.standings.before u.matrix.before u.attr_slots.before u.row_slots.before u.priorities.before) h.stays
+    ∙ ap (λ x. side_by_side t.rows.before t.stays.before x u.standings.before u.matrix.before u.attr_slots.before u.row_slots.before u.priorities.before) h.slots
+    ∙ ap (λ x. side_by_side t.rows.before t.stays.before t.slots.before x u.matrix.before u.attr_slots.before u.row_slots.before u.priorities.before) h.standings
+    ∙ ap (λ x. side_by_side t.rows.before t.stays.before t.slots.before t.standings.before x u.attr_slots.before u.row_slots.before u.priorities.before) h.matrix
+    ∙ ap (λ x. side_by_side t.rows.before t.stays.before t.slots.before t.standings.before t.matrix.before x u.row_slots.before u.priorities.before) h.attr_slots
+    ∙ ap (λ x. side_by_side t.rows.before t.stays.before t.slots.before t.standings.before t.matrix.before t.attr_slots.before x u.priorities.before) h.row_slots
+    ∙ ap (λ x. side_by_side t.rows.before t.stays.before t.slots.before t.standings.before t.matrix.before t.attr_slots.before t.row_slots.before x) h.priorities
+
+pub alike_same : (t u : Table) → HasSameHistory t u → AreAlike t → AreAlike u
+alike_same t u h a = record {
+  stays = ap length h.stays ∙ a.stays ∙ sym (ap length h.rows);
+  slots = ap length h.slots ∙ a.slots ∙ sym (ap length h.rows);
+  standings = ap length h.standings ∙ a.standings ∙ sym (ap length h.rows);
+  matrix = ap length h.matrix ∙ a.matrix ∙ sym (ap length h.rows);
+  attr_slots = ap length h.attr_slots ∙ a.attr_slots ∙ sym (ap length h.rows);
+  row_slots = ap length h.row_slots ∙ a.row_slots ∙ sym (ap length h.rows);
+  priorities = ap length h.priorities ∙ a.priorities ∙ sym (ap length h.rows);
+}
+
+rows_marked : (rs : List (List Row)) (ss : List (List Stay)) (ls : List (List Slot)) (vs : List (List Standing)) (ms : List (List (List Term))) (bs ds : List (List ℕ)) (ps : List (List Priority)) → 0 < length (map scene_at (side_by_side rs ss ls vs ms bs ds ps)) → 0 < length rs
+rows_marked [] ss ls vs ms bs ds ps h = h
+rows_marked (r ∷ rs) ss ls vs ms bs ds ps h = omega arith
+
+pub marked_rows : (t : Table) → 0 < length (map scene_at (lists_before t)) → 0 < length t.rows.before
+marked_rows t h = rows_marked t.rows.before t.stays.before t.slots.before t.standings.before t.matrix.before t.attr_slots.before t.row_slots.before t.priorities.before h
+
+-- ---- back at the newest mark
+
+head_of : (ls : List Lists) (t : Lists) (rest : List Lists) → ls ≡ t ∷ rest → All IsEarlier ls → IsEarlier t
+head_of ls t rest e h = subst (All IsEarlier) e h 0 t (omega arith)
+
+pub back_consistent : (t : Table) (before rest : List Lists) → AreAlike t → lists_before t ≡ before → before ≡ lists_of t ∷ rest → All IsEarlier before → IsConsistent t []
+back_consistent t before rest alike same head all =
+    let here = head_of before (lists_of t) rest head all in
+    record {
+      alike = alike;
+      before = subst (All IsEarlier) (sym same) all;
+      kept = here.kept;
+      slots = λ k x lt. absurd (omega (arith, lt));
+      named = λ k x lt. absurd (omega (arith, lt));
+      candidates = here.candidates;
+    }
+
+-- ---- the names of listed slots
+
+abbrev held_number : RowName → ℕ
+held_number (Held id) = id
+held_number (StayOf attr) = 0
+
+abbrev stay_number : RowName → ℕ
+stay_number (Held id) = 0
+stay_number (StayOf attr) = attr + 1
+
+stay_not_held : (attr : ℕ) → StayOf attr ≡ Held 0 → ⊥
+stay_not_held attr e = let k : attr + 1 ≡ 0 = ap stay_number e in absurd (omega (arith, k))
+
+above_zero : (id : ℕ) → 0 < id → id ≡ 0 → ⊥
+above_zero id h e = absurd (omega (arith, h, e))
+
+no_stay : (level : ℕ) (stays : List Stay) → Any (λ l. l.name ≡ Held 0) (stay_lines level stays) → ⊥
+no_stay level [] h = absurd (omega (arith, h.2))
+no_stay level (s ∷ stays) (zero, y, lt, e, h) = stay_not_held s.attr (ap (λ (l : Line). l.name) e ∙ h)
+no_stay level (s ∷ stays) (suc k, y, lt, e, h) = no_stay (level + 1) stays (k, y, omega (arith, lt), e, h)
+
+zero_row : (rows : List Row) (rest : List Line) → All IsRow rows → (Any (λ l. l.name ≡ Held 0) rest → ⊥) → Any (λ l. l.name ≡ Held 0) (map line_of_row rows ++ rest) → ⊥
+zero_row [] rest all none h = none h
+zero_row (r ∷ rows) rest all none (zero, y, lt, e, h) = above_zero r.id (all zero r (omega arith)).number.0 (ap held_number (ap (λ (l : Line). l.name) e ∙ h))
+zero_row (r ∷ rows) rest all none (suc k, y, lt, e, h) = zero_row rows rest (λ i x within. all (suc i) x (omega (arith, within))) none (k, y, omega (arith, lt), e, h)
+
+pub not_zero : (p : Problem) → IsWhole p → IsNamed p (Held 0) → ⊥
+not_zero p whole h = zero_row p.rows (stay_lines 1001 p.stays) whole.rows (λ i. no_stay 1001 p.stays i) h
+
+-- a slot whose name is a line's is one of the lists'
+listed_within : (t : Lists) (w : ℕ) → IsKept t → IsNamed (problem_of t) (name_of (slot_at t w).owner) → (w < length t.slots) ⊎ (length t.slots ≤ w) → w < length t.slots
+listed_within t w kept named (inl lt) = lt
+listed_within t w kept named (inr past) =
+    absurd (not_zero (problem_of t) kept.whole (subst (λ (s : Slot). IsNamed (problem_of t) (name_of s.owner)) (get_or_past t.slots w (record { owner = LevelSlot; home = 0; weight = pos 1; scale = pos 1; rel = Eq }) past) named))
+
+names_kept : (t : Lists) (attr : ℕ) (target : Fraction) (m : List (List Term)) (a : List ℕ) (ws : List ℕ) → IsKept t → All (IsNamed (problem_of t)) (names_of t ws) → names_of (joined t attr target m a) ws ≡ names_of t ws
+names_kept t attr target m a [] kept named = refl
+names_kept t attr target m a (w ∷ ws) kept named =
+    ap₂ (λ (n : RowName) (ns : List RowName). n ∷ ns)
+    (ap (λ (s : Slot). name_of s.owner) (old_slot t attr target m a w (listed_within t w kept (named zero (name_of (slot_at t w).owner) (omega arith)) (below_or w (length t.slots)))))
+    (names_kept t attr target m a ws kept (λ k x lt. named (suc k) x (omega (arith, lt))))
+
+pub attr_names : (t u : Lists) (attr : ℕ) (target : Fraction) (ws : List ℕ) → IsKept t → All (IsNamed (problem_of t)) (names_of t ws) → IsWithAttr attr target t u → names_of u ws ≡ names_of t ws
+attr_names t u attr target ws kept named h = ap (λ (l : Lists). names_of l ws) (joined_is t u attr target h) ∙ names_kept t attr target u.matrix u.attr_slots ws kept named
+
+pub attr_consistent : (t u : Table) (attr : ℕ) (target : Fraction) (ws : List ℕ) → IsConsistent t ws → HasSameHistory t u → IsNumber attr → fractions.IsKept target → (HasStay t.stays.items attr → ⊥) → length t.stays.items < 4096 → IsWithAttr attr target (lists_of t) (lists_of u) → IsConsistent u ws
+attr_consistent t u attr target ws c past is_number value fresh few h =
+    let p : Problem = problem_of (lists_of t) in
+    let names = attr_names (lists_of t) (lists_of u) attr target ws c.kept c.named h in
+    let count : length u.slots.items ≡ length t.slots.items + 2 =
+    ap length h.slots ∙ count_two t.slots.items (slot_of_attr attr (length t.slots.items)) (slot_of_stay attr (length t.slots.items + 1)) in
+    let problem : problem_of (lists_of u) ≡ with_attr attr target p = attr_problem (lists_of t) (lists_of u) attr target h in
+    let marks : marks_at (lists_of u) ≡ marks_at (lists_of t) = attr_marks (lists_of t) (lists_of u) attr target c.kept is_number value fresh few h in
+    record {
+      alike = alike_same t u past c.alike;
+      before = subst (All IsEarlier) (sym (past_same t u past)) c.before;
+      kept = attr_kept (lists_of t) (lists_of u) attr target c.kept is_number value fresh few h;
+      slots = λ k x lt. let s = c.slots k x lt in (s.0, omega (arith, s.1, count));
+      named = subst (λ (ns : List RowName). All (IsNamed (problem_of (lists_of u))) ns) (sym names)
+          (subst (λ (q : Problem). All (IsNamed q) (names_of (lists_of t) ws)) (sym problem) (λ k x lt. named_more p attr target (slice_index_or (names_of (lists_of t) ws) k x) (c.named k x lt)));
+      candidates = subst (λ (ns : List RowName). AreCandidates (problem_of (lists_of u)) (marks_at (lists_of u)) ns) (sym names)
+          (subst (λ (q : Problem). AreCandidates q (marks_at (lists_of u)) (names_of (lists_of t) ws)) (sym problem)
+          (subst (λ (at : List Mark). AreCandidates (with_attr attr target p) at (names_of (lists_of t) ws)) (sym marks)
+          (λ m out negative. let n = negative_before p (marks_at (lists_of t)) attr target m c.kept.whole fresh negative in c.candidates m (negative_mark p (marks_at (lists_of t)) m n, out.1) n)));
+    }

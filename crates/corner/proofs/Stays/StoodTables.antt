@@ -1,0 +1,98 @@
+-- The tables while the stays move, and what is seen of them then.
+use Rattle.std.proofs.Common.{◌≡◌, ◌∙◌, ℕ, ◌+◌, ◌<◌, List, map, length, refl, sym, ap, subst, inl, inr, pos, slice_index_or, All, Contains}
+use Rattle.problem_core.specs.Window.{zero_fraction}
+use Rattle.problem_core.specs.declared.parts.Mark.{Mark}
+use Rattle.problem_core.specs.declared.parts.Stay.{Stay}
+use Rattle.problem_core.specs.Layout.{Problem}
+use Rattle.problem_core.specs.Corners.{place}
+use Rattle.corner_lines.specs.Joins.{with_stays}
+use Rattle.corner.specs.declared.table.Table.{Table}
+use Rattle.corner.specs.Views.{AreCandidates, IsNamed}
+use Rattle.corner.specs.Changes.{HasStood}
+use Rattle.corner.specs.Tables.{Lists, lists_of, marks_at, problem_of, standing_at}
+use Rattle.corner.specs.Kept.{AreSlots, IsKept, IsSlot}
+use Rattle.corner.specs.Histories.{HasSameHistory}
+use Rattle.corner.specs.Invariants.{IsConsistent, IsEarlier, names_of, view_of}
+use Rattle.corner.specs.Shifts.Stood.{AreFirstStood, IsStoodAt, stay_slot, with_moved, with_present}
+use Rattle.corner.proofs.Attributes.CornerAttrs.{alike_same, past_same}
+use Rattle.corner.proofs.Stays.StoodColumns.{negative_seen}
+use Rattle.corner.proofs.Stays.StoodKept.{attr_same, first_slots, have_stood, named_after, seen_alike, stood_kept, stood_marks}
+use Rattle.corner.proofs.Stays.StoodLines.{AreSeenAlike, marks_seen}
+use Rattle.corner.proofs.Stays.StoodLists.{one_moves, one_rests}
+
+-- ---- the loop
+
+pub same_again : (s t u : Table) → HasSameHistory s t → HasSameHistory t u → HasSameHistory s u
+same_again s t u a b = record {
+  rows = b.rows ∙ a.rows;
+  stays = b.stays ∙ a.stays;
+  slots = b.slots ∙ a.slots;
+  standings = b.standings ∙ a.standings;
+  matrix = b.matrix ∙ a.matrix;
+  attr_slots = b.attr_slots ∙ a.attr_slots;
+  row_slots = b.row_slots ∙ a.row_slots;
+  priorities = b.priorities ∙ a.priorities;
+}
+
+pub first_are_slots : (n : ℕ) (t u : Lists) → AreSlots t → AreFirstStood n t u → AreSlots u
+first_are_slots n t u slots h = subst AreSlots (sym h.0) (first_slots n t u.stays u.standings slots h.1)
+
+next_attr : (n attr : ℕ) (t u : Lists) (r : Stay) → n < length t.stays → AreFirstStood n t u → (slice_index_or u.stays n r).attr ≡ attr → (slice_index_or t.stays n r).attr ≡ attr
+next_attr n attr t u r within h is = sym (attr_same n t u.stays u.standings h.1 n r within) ∙ is
+
+pub next_stood : (n : ℕ) (t u v : Lists) → IsKept t → n < length t.stays → AreFirstStood n t u → IsStoodAt n u v → AreFirstStood (n + 1) t v
+next_stood n t u v kept within h (attr, is, inl (none, same)) =
+    let r : Stay = record { attr = 0; target = zero_fraction } in
+    let own = next_attr n attr t u r within h (is r) in
+    let there : (standing_at (with_moved u.stays u.standings t) (stay_slot t attr)).value.num ≡ pos 0 = subst (λ (w : Lists). (standing_at w (stay_slot w attr)).value.num ≡ pos 0) h.0 none in
+    subst (AreFirstStood (n + 1) t) (sym same) (
+      h.0,
+      one_rests t n u.stays u.standings r kept within
+          (subst (λ (a : ℕ). (standing_at (with_moved u.stays u.standings t) (stay_slot t a)).value.num ≡ pos 0) (sym own) there) h.1,
+    )
+next_stood n t u v kept within h (attr, is, inr moved) =
+    let r : Stay = record { attr = 0; target = zero_fraction } in
+    let own = next_attr n attr t u r within h (is r) in
+    subst (AreFirstStood (n + 1) t) (sym (moved ∙ ap (λ (w : Lists). with_present w n attr) h.0))
+    (refl, one_moves t n attr u.stays u.standings r kept within own h.1)
+
+-- ---- what is seen
+
+pub stood_consistent : (t u : Table) (ws : List ℕ) → IsConsistent t ws → HasSameHistory t u → AreFirstStood (length t.stays.items) (lists_of t) (lists_of u) → IsConsistent u ws
+stood_consistent t u ws c past h =
+    let old : Lists = lists_of t in
+    let new : Lists = with_moved u.stays.items u.standings.items old in
+    let p : Problem = problem_of old in
+    let q : Problem = with_stays u.stays.items p in
+    let alike : AreSeenAlike q p = seen_alike (length t.stays.items) old u.stays.items u.standings.items h.1 in
+    let marks = stood_marks old u.stays.items u.standings.items h.1 in
+    let now : lists_of u ≡ new = h.0 in
+    let candidates : AreCandidates q (marks_at new) (names_of old ws) =
+    subst (λ (ms : List Mark). AreCandidates q ms (names_of old ws)) (sym marks)
+    (λ m out negative. c.candidates m
+    (subst (λ (ms : List Mark). Contains (map place ms) (place m)) (marks_seen q p alike) out.0, out.1)
+    (negative_seen q p (marks_at old) m alike negative)) in
+    record {
+      alike = alike_same t u past c.alike;
+      before = subst (All IsEarlier) (sym (past_same t u past)) c.before;
+      kept = subst IsKept (sym now) (stood_kept old u.stays.items u.standings.items c.kept h.1);
+      slots = subst (λ (l : Lists). All (IsSlot l) ws) (sym now) c.slots;
+      named = subst (λ (l : Lists). All (IsNamed (problem_of l)) (names_of l ws)) (sym now)
+          (λ k x lt. named_after (length t.stays.items) old u.stays.items u.standings.items h.1 (slice_index_or (names_of old ws) k x) (c.named k x lt));
+      candidates = subst (λ (l : Lists). AreCandidates (problem_of l) (marks_at l) (names_of l ws)) (sym now) candidates;
+    }
+
+pub stood_same_marks : (t u : Lists) → AreFirstStood (length t.stays) t u → marks_at u ≡ marks_at t
+stood_same_marks t u h = ap marks_at h.0 ∙ stood_marks t u.stays u.standings h.1
+
+pub stood_names : (t u : Lists) (ws : List ℕ) → AreFirstStood (length t.stays) t u → names_of u ws ≡ names_of t ws
+stood_names t u ws h = ap (λ (l : Lists). names_of l ws) h.0
+
+pub has_stood : (t u : Table) (ws vs : List ℕ) → IsKept (lists_of t) → AreFirstStood (length t.stays.items) (lists_of t) (lists_of u) → HasStood (view_of t ws) (view_of u vs)
+has_stood t u ws vs kept h =
+    let stood = have_stood (lists_of t) u.stays.items u.standings.items kept h.1 in
+    record {
+      rows = ap (λ (l : Lists). l.rows) h.0;
+      attrs = stood.same;
+      targets = stood.values;
+    }

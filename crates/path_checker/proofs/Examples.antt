@@ -1,0 +1,4 @@
+-- Small cases of the words of a path.
+pub mod SideExamples
+pub mod WayExamples
+pub mod Instances

@@ -1,0 +1,5 @@
+-- The marks of a corner by their lines, and corners that are different.
+pub mod SidesApart
+pub mod TakenMarks
+pub mod Pigeons
+pub mod Walks

@@ -1,0 +1,128 @@
+-- Where the way to a path's first corner begins, and how it goes on.
+use Rattle.std.proofs.Common.{◌≡◌, ◌≢◌, ◌∙◌, ◌↔◌, ℕ, zero, suc, ◌+◌, ◌<◌, ◌++◌, List, [], ◌∷◌, length, map, take, drop, get_or, pos, All, refl, sym, ap, ap₂, subst, subst₂, arith, inl, inr, Option, None, Some, length-append}
+use Rattle.std.specs.Prelude.{slice_index_or}
+use Rattle.std.proofs.lemmas.Bool.{cases_eq}
+use Rattle.std.proofs.lemmas.List.{get_or_append_left, get_or_push, length-map, take_more}
+use Rattle.problem_core.specs.declared.parts.Mark.{Mark}
+use Rattle.problem_core.specs.declared.parts.RowName.{RowName}
+use Rattle.problem_core.specs.declared.parts.RowName.TheVariants.{Held, Stay as StayOf}
+use Rattle.problem_core.specs.declared.parts.Side.{Side}
+use Rattle.problem_core.specs.declared.parts.Rel.TheVariants.{Eq}
+use Rattle.problem_core.specs.declared.parts.Side.TheVariants.{Under, Over}
+use Rattle.problem_core.specs.declared.parts.Stay.{Stay}
+use Rattle.problem_core.specs.Kept.{IsWhole}
+use Rattle.problem_core.specs.Layout.{Line, Problem, Row, lines}
+use Rattle.problem_core.specs.Corners.{IsCorner, IsIn, place, place_of}
+use Rattle.problem_core.specs.Unfit.{over_mark}
+use Rattle.cert_core.specs.Paths.{Path}
+use Rattle.path_checker.specs.declared.spots.Spot.{Spot}
+use Rattle.path_checker.specs.declared.spots.Step.{Step}
+use Rattle.path_checker.specs.declared.way.Way.{Way}
+use Rattle.path_checker.specs.Route.{over_marks}
+use Rattle.path_checker.specs.Tables.{AreSides, IsSpotOf, line_count, mark_of, name_at, names_of}
+use Rattle.path_checker.specs.Walking.Ways.{AreFirstSides, IsKeptBy, IsNextMark, IsWayAt}
+use Rattle.path_checker.proofs.Walking.FirstCorner.{begins_there}
+use Rattle.path_checker.proofs.Walking.FirstLines.{over_in, row_name, stay_name, stay_outside}
+use Rattle.path_checker.proofs.MarkSides.TakenMarks.{no_line}
+use Rattle.path_checker.proofs.MarkSides.Walks.{first_of_rest, split_there}
+use Rattle.problem_core.proofs.Sides.{none-not-some as none_some, some-same as some_same}
+
+-- ---- the over marks by lines
+
+pub one_side_more : (p : Problem) (n : ℕ) (sides : List (Option Side)) (o : Option Side) → AreFirstSides p n sides → ((side : Side) → (o ≡ Some side) ↔ IsIn (place_of (name_at p n) side) (over_marks p)) → AreFirstSides p (n + 1) (sides ++ o ∷ [])
+one_side_more p n sides o is here = record {
+  count = let l = length-append sides (o ∷ []) in omega (arith, l, is.count);
+  each = λ k side less.
+      elim (cases_eq k n) [
+        | inl e ↦ subst₂ (λ (m : ℕ) (x : Option Side). (x ≡ Some side) ↔ IsIn (place_of (name_at p m) side) (over_marks p)) (sym e) (sym (get_or_push sides o None k (is.count ∙ sym e))) (here side)
+        | inr ne ↦ subst (λ (x : Option Side). (x ≡ Some side) ↔ IsIn (place_of (name_at p k) side) (over_marks p)) (sym (get_or_append_left sides (o ∷ []) None k (omega (arith, less, ne, is.count)))) (is.each k side (omega (arith, less, ne)))
+      ];
+}
+
+under_not_in : (rows : List Row) (id : ℕ) → IsIn (place_of (Held id) Under) (map (λ (r : Row). over_mark r.id) rows) → ⊥
+under_not_in [] id (k, within, is) = absurd (omega (arith, within))
+under_not_in (x ∷ rows) id (zero, within, is) = absurd (omega (arith, is))
+under_not_in (x ∷ rows) id (suc k, within, is) = under_not_in rows id (k, omega (arith, within), is)
+
+over_is_under : (a b : Side) → a ≡ Over → b ≡ Under → a ≡ b → ⊥
+over_is_under a b x y e = subst is_over (sym x ∙ e ∙ y) tt
+  where
+    is_over : Side → Type 0
+    is_over Under = ⊥
+    is_over Over = Unit {0}
+
+pub held_over : (p : Problem) (k : ℕ) (r : Row) (side : Side) → k < length p.rows → (Some Over ≡ Some side) ↔ IsIn (place_of (name_at p k) side) (over_marks p)
+held_over p k r side within =
+    let name : name_at p k ≡ Held (get_or p.rows k r).id = row_name p k r within in
+    subst (λ (n : RowName). (Some Over ≡ Some side) ↔ IsIn (place_of n side) (over_marks p)) (sym name) (which side)
+  where
+    which : (side : Side) → (Some Over ≡ Some side) ↔ IsIn (place_of (Held (get_or p.rows k r).id) side) (over_marks p)
+    which Under = (λ e. absurd (over_is_under Over Under refl refl (some_same Over Under e)), λ i. absurd (under_not_in p.rows (get_or p.rows k r).id i))
+    which Over = (λ e. over_in p k r within, λ i. refl)
+
+pub stay_none : (p : Problem) (i : ℕ) (s : Stay) (side : Side) → i < length p.stays → (None ≡ Some side) ↔ IsIn (place_of (name_at p (length p.rows + i)) side) (over_marks p)
+stay_none p i s side within = (
+  λ e. absurd (none_some side e),
+  λ i_in. absurd (out side (subst (λ (n : RowName). IsIn (place_of n side) (over_marks p)) (stay_name p i s within) i_in)),
+)
+  where
+    out : (side : Side) → IsIn (place_of (StayOf (get_or p.stays i s).attr) side) (over_marks p) → ⊥
+    out Under = (stay_outside p (get_or p.stays i s).attr).under
+    out Over = (stay_outside p (get_or p.stays i s).attr).over
+
+-- ---- where the route begins
+
+pub way_begins : (p : Problem) (path : Path) (way : Way) → IsWhole p → way.kept.step ≡ None → way.kept.count ≡ 0 → AreFirstSides p (line_count p) way.sides.items → IsWayAt p path [] path.corner way
+way_begins p path way whole step_is count_is sides = record {
+  done = [];
+  count = sym count_is;
+  begun = step_is;
+  there = begins_there p whole;
+  kept = subst (λ (o : Option Step). IsKeptBy p (over_marks p) way.kept.lines.items o) (sym step_is) refl;
+  sides = record { count = sides.count; each = sides.each };
+  goes_on = λ more goes. goes;
+  inside = λ k d within. absurd (omega (arith, within));
+  wanted = λ k d within. absurd (omega (arith, within));
+  new = tt;
+}
+
+-- ---- the next mark
+
+pub spot_is : (p : Problem) (names : List RowName) (m : Mark) (spot : Spot) → names ≡ names_of p → IsSpotOf names m spot → (spot.at < line_count p) × (m ≡ mark_of p spot)
+spot_is p names m spot same is = (
+  omega (arith, is.0, ap (λ (z : List RowName). length z) same, length-map (lines p) (λ (l : Line). l.name)),
+  sym (ap₂ (λ (n : RowName) (s : Side). record { row = n; side = s }) (ap (λ (z : List RowName). slice_index_or z spot.at (Held 0)) (sym same) ∙ is.1) is.2),
+)
+
+pub mark_in : (at : List Mark) (k : ℕ) (d : Mark) → k < length at → IsIn (place (get_or at k d)) at
+mark_in [] k d within = absurd (omega (arith, within))
+mark_in (x ∷ at) zero d within = (0, omega arith, refl)
+mark_in (x ∷ at) (suc k) d within = let i = mark_in at k d (omega (arith, within)) in (suc i.0, omega (arith, i.1), i.2)
+
+pub any_row : Row
+any_row = record { id = 0; rank = 0; weight = 0; rel = Eq; scale = 1; constant = record { num = pos 0; den = 1 }; terms = [] }
+
+abbrev pub any_stay : Stay
+any_stay = record { attr = 0; target = record { num = pos 0; den = 1 } }
+
+pub next_mark : (p : Problem) (path : Path) (items : List Mark) (names : List RowName) (i : ℕ) (d : Mark) (way : Way) (sides : List (Option Side)) (enter : Spot) → items ≡ path.corner → names ≡ names_of p → i < length items → AreSides p path.corner sides
+    → IsSpotOf names (get_or items i d) enter → IsWayAt p path (take i path.corner) (drop i path.corner) way → IsNextMark p path (take i path.corner) (get_or path.corner i d) (drop (i + 1) path.corner) way sides enter
+next_mark p path items names i d way sides enter same named within are spot is =
+    let here : i < length path.corner = subst (λ (ms : List Mark). i < length ms) same within in
+    record {
+      mark = (spot_is p names (get_or path.corner i d) enter named (subst (λ (ms : List Mark). IsSpotOf names (get_or ms i d) enter) same spot)).1;
+      wanted = mark_in path.corner i d here;
+      sides_are = are;
+      way_is = subst (λ (ms : List Mark). IsWayAt p path (take i path.corner) ms way) (first_of_rest path.corner i d here) is;
+    }
+
+pub no_spot : (p : Problem) (path : Path) (items : List Mark) (names : List RowName) (i : ℕ) (d : Mark) → items ≡ path.corner → names ≡ names_of p → i < length items → All (λ n. n ≢ (get_or items i d).row) names → IsCorner p path.corner → ⊥
+no_spot p path items names i d same named within none corner =
+    let here : i < length path.corner = subst (λ (ms : List Mark). i < length ms) same within in
+    no_line p names (take i path.corner) (drop (i + 1) path.corner) (get_or path.corner i d) named (subst (λ (ms : List Mark). All (λ n. n ≢ (get_or ms i d).row) names) same none)
+    (subst (IsCorner p) (split_there path.corner i d here) corner)
+
+pub way_more : (p : Problem) (path : Path) (items : List Mark) (i : ℕ) (d : Mark) (way : Way) → items ≡ path.corner → i < length items → IsWayAt p path (take i path.corner ++ get_or path.corner i d ∷ []) (drop (i + 1) path.corner) way
+    → IsWayAt p path (take (i + 1) path.corner) (drop (i + 1) path.corner) way
+way_more p path items i d way same within is =
+    subst (λ (ms : List Mark). IsWayAt p path ms (drop (i + 1) path.corner) way) (sym (take_more path.corner i d (subst (λ (ms : List Mark). i < length ms) same within))) is

@@ -1,0 +1,4 @@
+-- What an exchange does to the equations and sums of lines.
+pub mod Carried
+pub mod CarriedLevels
+pub mod Pivots

@@ -1,0 +1,41 @@
+-- What holds after an exchange, of a corner whose lines are kept.
+use Rattle.std.specs.Prelude.{◌≡◌, ℕ, ◌<◌, List, Option}
+use Rattle.problem_core.specs.declared.parts.Mark.{Mark}
+use Rattle.problem_core.specs.Layout.{Problem}
+use Rattle.problem_core.specs.Corners.{IsExchange, exchanged}
+use Rattle.path_checker.specs.declared.exchange.Pivot.{Pivot}
+use Rattle.path_checker.specs.declared.spots.Step.{Step}
+use Rattle.path_checker.specs.declared.table.Inside.{Inside}
+use Rattle.path_checker.specs.Exchanges.Pivots.{next_marks}
+use Rattle.path_checker.specs.Tables.{AreLines, IsLineAt, IsThere, line_count, name_at, swap_of}
+use Rattle.path_levels.specs.Exchanges.Pivots.{IsExchangePivot}
+use Rattle.path_claims.specs.Fits.{AllAttrsFit}
+
+-- it holds at the corner after the exchange with this pivot, of each corner with these lines
+abbrev pub AfterExchange : Problem → Pivot → List (Option Inside) → (List Mark → Type 0) → Type 0
+AfterExchange p pivot lines holds = (at : List Mark) → IsExchangePivot p at pivot → AreLines p at lines
+    → holds (next_marks p pivot at)
+
+-- the same, of each at which all attributes fit
+abbrev pub AfterFittingAttrs : Problem → Pivot → List (Option Inside) → (List Mark → Type 0) → Type 0
+AfterFittingAttrs p pivot lines holds = (at : List Mark) → IsExchangePivot p at pivot → AreLines p at lines
+    → AllAttrsFit p at → holds (next_marks p pivot at)
+
+-- ---- of the line at a place, of so many
+
+-- it holds at each corner at which this is kept of the line
+abbrev pub WithLine : (count at : ℕ) → Option Inside → (Problem → List Mark → Type 0) → Type 0
+WithLine count at line holds = (p : Problem) (marks : List Mark) → IsThere p marks → count ≡ line_count p
+    → at < line_count p → IsLineAt p marks (name_at p at) line → holds p marks
+
+-- it holds after the exchange with this pivot, of each such corner
+abbrev pub AfterWithLine : Pivot → (count at : ℕ) → Option Inside → (Problem → List Mark → Type 0) → Type 0
+AfterWithLine pivot count at line holds = (p : Problem) (marks : List Mark) → IsExchangePivot p marks pivot
+    → count ≡ line_count p → at < line_count p → IsLineAt p marks (name_at p at) line
+    → holds p (next_marks p pivot marks)
+
+-- it holds after the exchange by these places, of each such corner
+abbrev pub AfterStepWithLine : Step → (at : ℕ) → Option Inside → (Problem → List Mark → Type 0) → Type 0
+AfterStepWithLine step at line holds = (p : Problem) (marks : List Mark) → IsThere p marks
+    → IsExchange p marks (swap_of p step) → step.enter.at < line_count p → step.leave.at < line_count p
+    → at < line_count p → IsLineAt p marks (name_at p at) line → holds p (exchanged (swap_of p step) marks)

@@ -1,9 +1,0 @@
-use Rattle.std.proofs.Common.{◌≡◌, ◌+◌, length}
-use Rattle.path_levels.specs.FrameParts.{AreLevelsTo}
-use Rattle.path_levels.proofs.frame.levels_of.Given as goal
-
-abbrev pub invariant-loop-stay : goal.invariant-loop-stay
-invariant-loop-stay l = record {
-  levels : AreLevelsTo l.p (length l.fn.ranks.items) l.stay-index l.levels.items;
-  number : l.number ≡ 1001 + l.stay-index;
-}

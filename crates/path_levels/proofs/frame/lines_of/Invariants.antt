@@ -1,9 +1,0 @@
-use Rattle.std.proofs.Common.{◌≡◌, ◌+◌, length}
-use Rattle.path_levels.specs.FrameParts.{AreFactsTo}
-use Rattle.path_levels.proofs.frame.lines_of.Given as goal
-
-abbrev pub invariant-loop-stay : goal.invariant-loop-stay
-invariant-loop-stay l = record {
-  facts : AreFactsTo l.p l.levels (length l.p.rows + l.stay-index) l.lines.items;
-  level : l.level ≡ l.ranks + l.stay-index;
-}

@@ -1,5 +1,0 @@
-use Rattle.path_levels.specs.FrameParts.{AreFactsTo}
-use Rattle.path_levels.proofs.frame.row_lines.Given as goal
-
-abbrev pub invariant-loop-r : goal.invariant-loop-r
-invariant-loop-r l = AreFactsTo l.p l.levels l.r-index l.lines.items

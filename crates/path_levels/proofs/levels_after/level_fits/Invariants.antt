@@ -1,0 +1,12 @@
+use Rattle.std.proofs.Common.{ℕ, ◌<◌, ◌*ℤ◌, get_or}
+use Rattle.frac_core.specs.Fraction.{IsFitting}
+use Rattle.path_checker.specs.Numbers.{number_at}
+use Rattle.path_levels.specs.declared.outline.LineFacts.{LineFacts}
+use Rattle.path_levels.specs.Exchanges.FitsAfter.{IsFitLine, side_of_after}
+use Rattle.path_levels.proofs.levels_after.level_fits.Given as goal
+
+abbrev pub invariant-loop-at : goal.invariant-loop-at
+invariant-loop-at l = record {
+  scale : IsFitting (l.sum.own *ℤ l.sum.unit);
+  each : (k : ℕ) (d : LineFacts) → k < l.at → IsFitLine (get_or l.outline.lines.items k d) (side_of_after l.lines l.pivot k) l.place l.sum (number_at l.sum.by.items k);
+}

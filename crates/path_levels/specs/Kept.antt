@@ -1,0 +1,40 @@
+-- What holds at a corner whose lines, or also its levels, are kept, and at the one after an exchange there.
+use Rattle.std.specs.Prelude.{◌≡◌, ℕ, List, get_or, Option}
+use Rattle.problem_core.specs.declared.parts.Mark.{Mark}
+use Rattle.problem_core.specs.Layout.{Problem}
+use Rattle.problem_core.specs.Corners.{IsExchange, exchanged}
+use Rattle.path_checker.specs.declared.spots.Step.{Step}
+use Rattle.path_checker.specs.declared.table.Inside.{Inside}
+use Rattle.path_checker.specs.Tables.{AreLines, IsThere, swap_of}
+use Rattle.path_levels.specs.declared.outline.Outline.{Outline}
+use Rattle.path_levels.specs.declared.sums.LevelSum.{LevelSum}
+use Rattle.path_levels.specs.Levels.{AreLevels, IsSumAt}
+use Rattle.path_levels.specs.Rows.{AreKept}
+
+-- where the exchange can be made it holds at the corner after it
+abbrev pub AfterStep : Step → (Problem → List Mark → Type 0) → Problem → List Mark → Type 0
+AfterStep step holds p at = IsExchange p at (swap_of p step) → holds p (exchanged (swap_of p step) at)
+
+-- it holds at each corner with these lines
+abbrev pub WithLines : List (Option Inside) → (Problem → List Mark → Type 0) → Type 0
+WithLines lines holds = (p : Problem) (at : List Mark) → IsThere p at → AreLines p at lines → holds p at
+
+-- the same of a problem with this outline
+abbrev pub WithOutline : Outline → List (Option Inside) → (Problem → List Mark → Type 0) → Type 0
+WithOutline outline lines holds = (p : Problem) (at : List Mark) → AreKept p at outline lines → holds p at
+
+-- the same where these are the levels' rows
+abbrev pub WithLevels : Outline → List (Option Inside) → List LevelSum → (Problem → List Mark → Type 0)
+    → Type 0
+WithLevels outline lines levels holds = (p : Problem) (at : List Mark) → AreKept p at outline lines
+    → AreLevels p at outline levels → holds p at
+
+-- the same where this is the row of the level at a place
+abbrev pub WithRow : Outline → List (Option Inside) → ℕ → LevelSum → (Problem → List Mark → Type 0) → Type 0
+WithRow outline lines place sum holds = (p : Problem) (at : List Mark) → AreKept p at outline lines
+    → IsSumAt p at outline place sum → holds p at
+
+-- at the corner with these lines, whatever the levels' rows are, where this is the first of them
+abbrev pub WithFirstRow : Problem → List Mark → Outline → List (Option Inside) → LevelSum → Type 0 → Type 0
+WithFirstRow p at outline lines sum holds = (levels : List LevelSum) (d : LevelSum)
+    → AreKept p at outline lines → AreLevels p at outline levels → get_or levels 0 d ≡ sum → holds

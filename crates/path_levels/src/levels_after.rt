@@ -1,0 +1,249 @@
+// The rows of levels after an exchange.
+ghost use Rattle.std.specs.Prelude.{◌≡◌, ◌<◌, ◌^◌, ◌*ℤ◌, ◌↔◌};
+ghost use Rattle.std.specs.Prelude.{length, IfOk, IfErr, IfSome, IfNone, IsTrue};
+ghost use Rattle.std.specs.Prelude.{◌<ℤ◌, pos, unsigned_abs};
+ghost use Rattle.frac_core.specs.Stops.{IsRefused};
+ghost use Rattle.frac_core.specs.Fraction.{IsFitting};
+ghost use Rattle.path_checker.specs.Numbers.{IsFactor};
+ghost use Rattle.path_checker.specs.Sides.{IsWithin};
+ghost use Rattle.path_checker.specs.Tables.{AreSized};
+ghost use Rattle.path_levels.specs.Outlines.{IsSizedOutline};
+ghost use Rattle.path_levels.specs.Levels.{AreLevels, AreSizedLevels, HasUnfitLevel};
+ghost use Rattle.path_levels.specs.Levels.{HasNoSumAt, IsSizedLevel, IsSumAt};
+ghost use Rattle.path_levels.specs.Shares.{IsScaled, IsSmallFacts, entering_of, shown_of};
+ghost use Rattle.path_levels.specs.Exchanges.Pivots.{IsSizedPivot};
+ghost use Rattle.path_levels.specs.Exchanges.FitsAfter.{IsCostStop, IsFitLevel, IsFitLine, IsMadeLevel};
+ghost use Rattle.path_levels.specs.Exchanges.FitsAfter.{IsMovedCost};
+ghost use Rattle.path_levels.specs.Exchanges.FitsAfter.{side_of_after};
+ghost use Rattle.path_levels.specs.Kept.{AfterStep, WithLevels, WithRow};
+
+use crate::carried::{entering_number, next_level_numbers, product};
+use crate::moved::moved_value;
+use crate::outline::{LineFacts, Outline};
+use crate::pivots::pivot_of;
+use crate::shares::{has_fitting_cost, stood_number};
+use crate::sums::LevelSum;
+use frac_core::{Frac, PART_BOUND, Stop, Unfit};
+use path_checker::{Inside, Lowest, Pivot, Ratio, Step, SumStop, in_lowest_terms};
+use problem_core::Side;
+use std::alloc::Global;
+
+/// An exchange at a corner with these lines.
+#[derive(Clone, Copy, Debug)]
+pub struct LineExchange<'a> {
+    pub lines: &'a [Option<Inside>],
+    pub step: Step,
+}
+
+// Which mark of the line at a place is inside after the exchange.
+fn side_after(lines: &[Option<Inside>], pivot: &Pivot, at: usize) -> Option<Side>
+    requires { at < length lines.now }
+    ensures { result ≡ side_of_after lines.now pivot.now at }
+{
+    if at == pivot.step.enter.at {
+        return Some(pivot.step.enter.side);
+    }
+    if at == pivot.step.leave.at {
+        return None;
+    }
+    let inside = lines[at].as_ref()?;
+    Some(inside.side)
+}
+
+// The line's number in the level's row, where a mark of this side is inside.
+fn shown_number(
+    line: &LineFacts,
+    inside: Option<Side>,
+    place: usize,
+    sum: &LevelSum,
+    number: i64,
+) -> i64
+    requires line { IsSmallFacts line.now }
+    requires sum { IsScaled sum.now }
+    requires number { IsFitting number }
+    ensures value { result ≡ shown_of line.now inside place sum.now number }
+    ensures small { unsigned_abs result < 2 ^ 52 }
+{
+    match inside {
+        Some(side) => stood_number(line, side, place, sum),
+        None => number,
+    }
+}
+
+// Whether both reduced costs of the line fit, if it is of the level.
+fn line_fits(
+    line: &LineFacts,
+    inside: Option<Side>,
+    place: usize,
+    sum: &LevelSum,
+    number: i64,
+) -> bool
+    requires line { IsSmallFacts line.now }
+    requires sum { IsScaled sum.now }
+    requires number { IsFitting number }
+    ensures { IsTrue result ↔ IsFitLine line.now inside place sum.now number }
+{
+    if line.level != place {
+        return true;
+    }
+    let shown = shown_number(line, inside, place, sum, number);
+    has_fitting_cost(line, Side::Under, place, sum, shown)
+        && has_fitting_cost(line, Side::Over, place, sum, shown)
+}
+
+// Whether the scale fits.
+fn scale_fits(sum: &LevelSum) -> bool
+    requires own { IsFitting sum.now.own }
+    requires unit { IsFitting sum.now.unit }
+    ensures { IsTrue result ↔ IsFitting (sum.now.own *ℤ sum.now.unit) }
+{
+    product(sum.own, sum.unit).unsigned_abs() < PART_BOUND
+}
+
+// Whether the row fits after the exchange.
+fn level_fits(
+    outline: &Outline,
+    lines: &[Option<Inside>],
+    pivot: &Pivot,
+    place: usize,
+    sum: &LevelSum,
+) -> bool
+    requires outline { IsSizedOutline outline.now }
+    requires count { length lines.now ≡ length outline.now.lines.items }
+    requires sum { IsMadeLevel (length lines.now) sum.now }
+    ensures { IsTrue result ↔ IsFitLevel outline.now lines.now pivot.now place sum.now }
+{
+    if !scale_fits(sum) {
+        return false;
+    }
+    for (at, line) in outline.lines.iter().enumerate() {
+        if !line_fits(line, side_after(lines, pivot, at), place, sum, sum.by[at]) {
+            return false;
+        }
+    }
+    true
+}
+
+// The number, if it fits.
+fn fitting(number: i64) -> Option<i64>
+    ensures some { IfSome result (λ n. (n ≡ number) × IsFitting n) }
+    ensures none { IfNone result (IsFitting number → ⊥) }
+{
+    if u128::from(number.unsigned_abs()) >= PART_BOUND {
+        return None;
+    }
+    Some(number)
+}
+
+// By how much of the pivot's value the level's cost moves, where the entering line has this number.
+fn ratio_of(n: i64, pivot: &Pivot, sum: &LevelSum) -> Ratio
+    requires n { IsFitting n }
+    requires pivot { IsSizedPivot (length sum.now.by.items) pivot.now }
+    requires sum { IsSizedLevel (length sum.now.by.items) sum.now }
+    ensures times { result.times ≡ n *ℤ pivot.now.times }
+    ensures over { result.over ≡ (sum.now.own *ℤ sum.now.unit) *ℤ pivot.now.size }
+    ensures times_fit { IsFactor result.times }
+    ensures over_fit { IsFactor result.over }
+    ensures above { pos 0 <ℤ result.over }
+{
+    Ratio {
+        times: product(n, pivot.times),
+        over: product(sum.own * sum.unit, pivot.size),
+    }
+}
+
+// The level's cost after the exchange, of which the entering line has these facts.
+fn cost_after(
+    line: &LineFacts,
+    pivot: &Pivot,
+    place: usize,
+    sum: &LevelSum,
+) -> Result<Frac, SumStop>
+    requires line { IsSmallFacts line.now }
+    requires pivot { IsSizedPivot (length sum.now.by.items) pivot.now }
+    requires sum { IsSizedLevel (length sum.now.by.items) sum.now }
+    ensures cost { IfOk result
+        (IsMovedCost (entering_of line.now pivot.now place sum.now) pivot.now sum.now) }
+    ensures stop { IfErr result
+        (IsCostStop (entering_of line.now pivot.now place sum.now) pivot.now sum.now) }
+{
+    let Some(n) = fitting(entering_number(line, pivot, place, sum)) else {
+        return Err(Stop::Refused(Unfit));
+    };
+    Ok(moved_value(sum.cost, ratio_of(n, pivot, sum), pivot.value)?)
+}
+
+// A row in lowest terms with its cost.
+fn level_with(unit: i64, numbers: Lowest, cost: Frac) -> LevelSum
+    ensures unit { result.unit ≡ unit }
+    ensures own { result.own ≡ numbers.own }
+    ensures by { result.by.items ≡ numbers.by.items }
+    ensures cost { result.cost ≡ cost }
+{
+    LevelSum {
+        unit,
+        own: numbers.own,
+        by: numbers.by,
+        cost,
+    }
+}
+
+/// The row of the level at a place after an exchange, or its cost does not fit there.
+pub fn next_level(
+    alloc: Global,
+    outline: &Outline,
+    exchange: LineExchange<'_>,
+    place: usize,
+    sum: &LevelSum,
+) -> Result<LevelSum, SumStop>
+    requires outline { IsSizedOutline outline.now }
+    requires lines { AreSized exchange.lines.now }
+    requires count { length exchange.lines.now ≡ length outline.now.lines.items }
+    requires step { IsWithin (length exchange.lines.now) exchange.step }
+    requires place { place < length outline.now.levels.items }
+    requires sum { IsSizedLevel (length exchange.lines.now) sum.now }
+    ensures sized { IfOk result (IsSizedLevel (length exchange.entry.lines.now)) }
+    ensures next { IfOk result (λ next. WithRow outline.now exchange.entry.lines.now place sum.now
+        (AfterStep exchange.entry.step (λ p at. IsSumAt p at outline.now place next))) }
+    ensures unfit { IfErr result (λ stop. IsRefused stop
+        → WithRow outline.now exchange.entry.lines.now place sum.now
+        (AfterStep exchange.entry.step (HasNoSumAt outline.now place))) }
+{
+    let pivot = pivot_of(alloc, exchange.lines, exchange.step)?;
+    let wide = next_level_numbers(alloc, outline, &pivot, place, sum)?;
+    let numbers = in_lowest_terms(alloc, &wide)?;
+    let cost = cost_after(&outline.lines[exchange.step.enter.at], &pivot, place, sum)?;
+    let next = level_with(sum.unit, numbers, cost);
+    if !level_fits(outline, exchange.lines, &pivot, place, &next) {
+        return Err(Stop::Refused(Unfit));
+    }
+    Ok(next)
+}
+
+/// The rows of all levels after an exchange, or the cost of one of them does not fit there.
+pub fn next_levels(
+    alloc: Global,
+    outline: &Outline,
+    exchange: LineExchange<'_>,
+    levels: &[LevelSum],
+) -> Result<Vec<LevelSum>, SumStop>
+    requires outline { IsSizedOutline outline.now }
+    requires lines { AreSized exchange.lines.now }
+    requires count { length exchange.lines.now ≡ length outline.now.lines.items }
+    requires step { IsWithin (length exchange.lines.now) exchange.step }
+    requires levels { AreSizedLevels (length exchange.lines.now) levels.now }
+    requires level_count { length levels.now ≡ length outline.now.levels.items }
+    ensures sized { IfOk result (λ next. AreSizedLevels (length exchange.entry.lines.now) next.items) }
+    ensures level_count { IfOk result (λ next. length next.items ≡ length outline.now.levels.items) }
+    ensures next { IfOk result (λ next. WithLevels outline.now exchange.entry.lines.now levels.now
+        (AfterStep exchange.entry.step (λ p at. AreLevels p at outline.now next.items))) }
+    ensures unfit { IfErr result (λ stop. IsRefused stop
+        → WithLevels outline.now exchange.entry.lines.now levels.now
+        (AfterStep exchange.entry.step HasUnfitLevel)) }
+{
+    let mut out = Vec::with_capacity(alloc, levels.len())?;
+    for (place, sum) in levels.iter().enumerate() {
+        out.push(next_level(alloc, outline, exchange, place, sum)?)?;
+    }
+    Ok(out)
+}

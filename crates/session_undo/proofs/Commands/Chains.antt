@@ -1,0 +1,270 @@
+-- The steps of commands, whose earlier causes don't hold.
+use Rattle.std.proofs.Common.{◌≡◌, ℕ, ◌<◌, ◌≤◌, Bool, true, false, cond, nat_eq, is_some, List, [], ◌∷◌, length, Some, None, IsSome, refl, sym, ap, ◌∙◌, subst, arith, inl, inr, true≢false, eq-eqb}
+use Rattle.std.specs.Prelude.{IfOk, IfErr}
+use Rattle.std.specs.declared.option.Option.{Option}
+use Rattle.std.specs.declared.result.Result.{Result}
+use Rattle.std.specs.declared.result.Result.TheVariants.{Ok, Err}
+use Rattle.std.specs.Option.{option_map}
+use Rattle.std.specs.Str.{bytes_eq}
+use Rattle.std.proofs.lemmas.Option.{none-some, same_Some}
+use Rattle.frac_core.specs.Fraction.{Fraction}
+use Rattle.problem_core.specs.Layout.{Row}
+use Rattle.name_tables.specs.declared.stops.LimitWord.{LimitWord}
+use Rattle.name_tables.specs.declared.stops.LimitWord.TheVariants as word
+use Rattle.view_tree.specs.Views.{LiveView, ViewTree, view_of, view_named, IsAtDepth}
+use Rattle.view_tree.specs.Views as tree
+use Rattle.view_tree.specs.Stops.{IsNewView, is_full}
+use Rattle.view_tree.proofs.ViewLemmas.{IsAtDepth-unique, room}
+use Rattle.constraint_compile.specs.Meaning.{MetricList}
+use Rattle.constraint_compile.specs.declared.stops.CompileStop.TheVariants as stop
+use Rattle.layout_solver.specs.declared.engine.Change.{Change}
+use Rattle.layout_solver.specs.Shifts.{shifted}
+use Rattle.session_undo.specs.declared.reply.Refusal.{Refusal}
+use Rattle.session_undo.specs.Replies.{Reply, Unknown, Taken, Limit, MayRefuse}
+use Rattle.session_undo.specs.Scene.{Scene, State, AreDraftRows, with_window, metrics_with}
+use Rattle.session_undo.specs.Machine.{IsTaken, IsDeep, IsCrowded, IsFarSize, AreNear, AreTooMany, TriedView, TriedMetric, TriedWindow, UnlessFar, HasAllViews}
+use Rattle.session_undo.specs.Items.{has_size}
+use Rattle.session_undo.specs.Adding.{NoEnd, IsFreeView, IsFreeMetric, views_draft, metrics_draft}
+use Rattle.session_undo.specs.Kept.{AreWithin}
+use Rattle.session_undo.specs.Moving.{MayLackChanges}
+use Rattle.session_undo.proofs.HeldRows.ItemRows.{rows-small}
+use Rattle.session_undo.proofs.Commands.Steps.{refuses}
+use Rattle.session_undo.proofs.Suggestions.SuggestionSteps.{view-found}
+
+pub ok-map : {T E : Type 0} (P Q : T → Type 0) (r : Result T E) → ((x : T) → P x → Q x) → IfOk r P → IfOk r Q
+ok-map P Q (Ok x) to h = to x h
+ok-map P Q (Err e) to h = h
+
+pub stop-map : {T E : Type 0} (P Q : E → Type 0) (r : Result T E) → ((e : E) → P e → Q e) → IfErr r P → IfErr r Q
+stop-map P Q (Ok x) to h = h
+stop-map P Q (Err e) to h = to e h
+
+pub err-map : {T : Type 0} (F G : Reply → Type 0) (r : Result T Refusal) → ((reply : Reply) → F reply → G reply) → IfErr r (MayRefuse F) → IfErr r (MayRefuse G)
+err-map F G (Ok x) to h = h
+err-map F G (Err e) to h = refuses F G e to h
+
+-- ---- views
+
+tail-none : {X : Type 0} (b : Bool) (x : X) (o : Option X) → cond b (Some x) o ≡ None → o ≡ None
+tail-none true x o h = absurd (none-some x (sym h))
+tail-none false x o h = h
+
+here : {X : Type 0} (m n : ℕ) (x : X) (o : Option X) → n ≡ m → cond (nat_eq m n) (Some x) o ≡ None → ⊥
+here m n x o is none = none-some x (sym none ∙ ap (λ (b : Bool). cond b (Some x) o) (eq-eqb m n (sym is)))
+
+-- a view that is found by its name is live
+pub found-live : (views : List LiveView) (name : List ℕ) (id : ℕ) → Some id ≡ option_map (λ v. v.id) (view_named views name) → view_of views id ≡ None → ⊥
+found-live [] name id found none = none-some id (sym found)
+found-live (v ∷ views) name id found none =
+    elim (bytes_eq name v.name) as (λ b. Some id ≡ option_map (λ w. w.id) (cond b (Some v) (view_named views name)) → ⊥) [
+      | true ↦ λ h. here v.id id v (view_of views id) (same_Some id v.id h) none
+      | false ↦ λ h. found-live views name id h (tail-none (nat_eq v.id id) v (view_of views id) none)
+    ] found
+
+not-deep : (t : ViewTree) (parent : List ℕ) (above : LiveView) (level : ℕ) → view_named t.views parent ≡ Some above → IsAtDepth t.views above.id level → level < 32 → IsDeep t parent → ⊥
+not-deep t parent above level is on high (w, l, w_is, on_2, deep) =
+    let same : w ≡ above = same_Some w above (sym w_is ∙ is) in
+    let levels : l ≡ level = IsAtDepth-unique t.views above.id l level (subst (λ (u : LiveView). IsAtDepth t.views u.id l) same on_2) on in
+    omega (arith, levels, high, deep)
+
+pub not-some : {X : Type 0} (o : Option X) → o ≡ None → IsSome o → ⊥
+not-some None is some = true≢false (sym some)
+not-some (Some x) is some = absurd (none-some x (sym is))
+
+not-none : {X : Type 0} (o : Option X) (x : X) → o ≡ Some x → o ≡ None → ⊥
+not-none o x is none = none-some x (sym none ∙ is)
+
+pub not-both : (b : Bool) → b ≡ false → b ≡ true → ⊥
+not-both true e f = true≢false e
+not-both false e f = true≢false (sym f)
+
+pub unfound : {X Y Z : Type 0} (f : X → Z) (g : Y → Z) (r : Option X) (o : Option Y) → option_map f r ≡ option_map g o → false ≡ is_some r → o ≡ None
+unfound f g None None e h = refl
+unfound f g None (Some y) e h = absurd (none-some (g y) e)
+unfound f g (Some x) o e h = absurd (true≢false (sym h))
+
+-- ---- the causes against a view
+
+module _ (old : State) (name parent : List ℕ) (End : Scene → Reply → State → Type 0) where
+  pub view-unknown : view_named old.scene.tree.views parent ≡ None → TriedView old name parent End (Unknown parent) old
+  view-unknown none = inl (none, refl, refl)
+
+  -- there is such a view
+  abbrev pub IsFound : Type 0
+  IsFound = view_named old.scene.tree.views parent ≡ None → ⊥
+
+  pub view-taken : IsFound → IsTaken old.scene name → TriedView old name parent End (Taken name) old
+  view-taken found taken = inr (found, inl (taken, refl, refl))
+
+  pub view-long : IsFound → (IsTaken old.scene name → ⊥) → 64 < length name → TriedView old name parent End (Limit word.Name) old
+  view-long found free long = inr (found, inr (free, inl (long, refl, refl)))
+
+  pub view-many : IsFound → (IsTaken old.scene name → ⊥) → length name ≤ 64 → HasAllViews old → TriedView old name parent End (Limit word.Views) old
+  view-many found free short many = inr (found, inr (free, inr ((λ long. omega (arith, short, long)), inl (many, refl, refl))))
+
+  pub view-deep : IsFound → (IsTaken old.scene name → ⊥) → length name ≤ 64 → (HasAllViews old → ⊥) → IsDeep old.scene.tree parent → TriedView old name parent End (Limit word.Depth) old
+  view-deep found free short few deep = inr (found, inr (free, inr ((λ long. omega (arith, short, long)), inr (few, inl (deep, refl, refl)))))
+
+  pub view-crowded : IsFound → (IsTaken old.scene name → ⊥) → length name ≤ 64 → (HasAllViews old → ⊥) → (IsDeep old.scene.tree parent → ⊥) → IsCrowded old 2 → TriedView old name parent End (Limit word.Rows) old
+  view-crowded found free short few high crowded = inr (found, inr (free, inr ((λ long. omega (arith, short, long)), inr (few, inr (high, inl (crowded, refl, refl))))))
+
+  pub view-passed : (t : ViewTree) (id : ℕ) (reply : Reply) (new : State) → IsFreeView old name parent t id → End (views_draft old.scene t id 1) reply new → TriedView old name parent End reply new
+  view-passed t id reply new is end =
+      inr (
+        not-none (view_named old.scene.tree.views parent) is.above is.found,
+        inr (
+          is.free,
+          inr (
+            (λ long. omega (arith, is.short, long)),
+            inr (
+              is.room,
+              inr (
+                is.high,
+                inr (
+                  is.rows,
+                  (
+                    is.above,
+                    is.found,
+                    subst (λ (u : ViewTree). End (views_draft old.scene u old.scene.tree.next 1) reply new) is.tree_is (subst (λ (n : ℕ). End (views_draft old.scene t n 1) reply new) is.id_is end),
+                  ),
+                ),
+              ),
+            ),
+          ),
+        ),
+      )
+
+  -- a cause stays one for whatever end
+  pub view-causes : (reply : Reply) (new : State) → TriedView old name parent NoEnd reply new → TriedView old name parent End reply new
+  view-causes reply new (inl h) = inl h
+  view-causes reply new (inr (a, inl h)) = inr (a, inl h)
+  view-causes reply new (inr (a, inr (b, inl h))) = inr (a, inr (b, inl h))
+  view-causes reply new (inr (a, inr (b, inr (c, inl h)))) = inr (a, inr (b, inr (c, inl h)))
+  view-causes reply new (inr (a, inr (b, inr (c, inr (d, inl h))))) = inr (a, inr (b, inr (c, inr (d, inl h))))
+  view-causes reply new (inr (a, inr (b, inr (c, inr (d, inr (e, inl h)))))) = inr (a, inr (b, inr (c, inr (d, inr (e, inl h)))))
+  view-causes reply new (inr (a, inr (b, inr (c, inr (d, inr (e, inr (f, (above, named, never)))))))) = absurd never
+
+-- ---- what the tree says of a view that is to be made
+
+few-views : (s : State) → length s.scene.tree.views < s.limits.views → is_full s.scene.tree ≡ false → HasAllViews s → ⊥
+few-views s less h (inl many) = omega (arith, less, many)
+few-views s less h (inr last) = omega (arith, (room s.scene.tree h).1, last)
+
+-- what is known of a view's name when the tree is asked
+pub record IsAsked (old : State) (name parent : List ℕ) (above : ℕ) : Type 0 where
+  pub found : Some above ≡ option_map (λ v. v.id) (view_named old.scene.tree.views parent)
+  pub free : IsTaken old.scene name → ⊥
+  pub short : length name ≤ 64
+  pub few : length old.scene.tree.views < old.limits.views
+  pub within : AreWithin old.limits
+
+asked-found : (old : State) (name parent : List ℕ) (above : ℕ) → IsAsked old name parent above → view_named old.scene.tree.views parent ≡ None → ⊥
+asked-found old name parent above asked =
+    let v = view-found (view_named old.scene.tree.views parent) above asked.found in
+    not-none (view_named old.scene.tree.views parent) v.0 v.1
+
+asked-high : (old : State) (name parent : List ℕ) (above : ℕ) → IsAsked old name parent above → IsNewView old.scene.tree name above → IsDeep old.scene.tree parent → ⊥
+asked-high old name parent above asked fresh =
+    let v = view-found (view_named old.scene.tree.views parent) above asked.found in
+    let on = subst (λ (n : ℕ). (level : ℕ) × IsAtDepth old.scene.tree.views n level × (level < 32)) (sym v.2) fresh.high in
+    not-deep old.scene.tree parent v.0 on.0 v.1 on.1 on.2
+
+pub view-full : (old : State) (name parent : List ℕ) (above : ℕ) (End : Scene → Reply → State → Type 0) → IsAsked old name parent above → IsNewView old.scene.tree name above → IsCrowded old 2
+    → TriedView old name parent End (Limit word.Rows) old
+view-full old name parent above End asked fresh crowded =
+    view-crowded old name parent End (asked-found old name parent above asked) asked.free asked.short (few-views old asked.few fresh.room) (asked-high old name parent above asked fresh) crowded
+
+pub view-free : (old : State) (name parent : List ℕ) (above id : ℕ) (new : ViewTree) → IsAsked old name parent above → IsNewView old.scene.tree name above → (IsCrowded old 2 → ⊥) → new ≡ tree.with_view old.scene.tree name above
+    → id ≡ old.scene.tree.next → IsFreeView old name parent new id
+view-free old name parent above id new asked fresh room new_is id_is =
+    let v = view-found (view_named old.scene.tree.views parent) above asked.found in
+    record {
+      above = v.0;
+      found = v.1;
+      free = asked.free;
+      short = asked.short;
+      room = few-views old asked.few fresh.room;
+      high = asked-high old name parent above asked fresh;
+      rows = room;
+      tree_is = new_is ∙ ap (λ (n : ℕ). tree.with_view old.scene.tree name n) (sym v.2);
+      id_is = id_is;
+    }
+
+-- ---- metrics
+
+module _ (old : State) (name : List ℕ) (value : Fraction) (End : Scene → Reply → State → Type 0) where
+  pub metric-passed : (ms : MetricList) (to : List Change) (reply : Reply) (new : State) → IsFreeMetric old name value ms to → End (metrics_draft old.scene ms) reply new → TriedMetric old name value End reply new
+  metric-passed ms to reply new is end =
+      inr (
+        is.free,
+        inr (
+          (λ long. omega (arith, is.short, long)),
+          inr (
+            is.room,
+            subst (λ (m : MetricList). UnlessFar old (metrics_draft old.scene m) (End (metrics_draft old.scene m)) reply new) is.new_is
+                (inr ((λ no. no (rows-small ms old.scene.held (shifted to old.scene.rows) is.changes.rows)), (shifted to old.scene.rows, is.changes.rows, inr ((λ far. far is.changes.near), end)))),
+          ),
+        ),
+      )
+
+  pub metric-causes : (reply : Reply) (new : State) → TriedMetric old name value NoEnd reply new → TriedMetric old name value End reply new
+  metric-causes reply new (inl h) = inl h
+  metric-causes reply new (inr (a, inl h)) = inr (a, inl h)
+  metric-causes reply new (inr (a, inr (b, inl h))) = inr (a, inr (b, inl h))
+  metric-causes reply new (inr (a, inr (b, inr (c, inl h)))) = inr (a, inr (b, inr (c, inl h)))
+  metric-causes reply new (inr (a, inr (b, inr (c, inr (d, (rows, are, inl h)))))) = inr (a, inr (b, inr (c, inr (d, (rows, are, inl h)))))
+  metric-causes reply new (inr (a, inr (b, inr (c, inr (d, (rows, are, inr (e, never))))))) = absurd never
+
+-- what is known of a metric when its rows are made
+pub record IsNamed (old : State) (name : List ℕ) (value : Fraction) (ms : MetricList) : Type 0 where
+  pub free : view_named old.scene.tree.views name ≡ None
+  pub short : length name ≤ 64
+  pub room : AreTooMany old.scene.metrics name → ⊥
+  pub new_is : ms ≡ metrics_with old.scene.metrics name value
+
+named-far : (old : State) (name : List ℕ) (value : Fraction) (ms : MetricList) (End : Scene → Reply → State → Type 0) → IsNamed old name value ms
+    → UnlessFar old (metrics_draft old.scene ms) (End (metrics_draft old.scene ms)) (Limit word.Constant) old → TriedMetric old name value End (Limit word.Constant) old
+named-far old name value ms End is h =
+    inr (
+      not-some (view_named old.scene.tree.views name) is.free,
+      inr (
+        (λ long. omega (arith, is.short, long)),
+        inr (is.room, subst (λ (m : MetricList). UnlessFar old (metrics_draft old.scene m) (End (metrics_draft old.scene m)) (Limit word.Constant) old) is.new_is h),
+      ),
+    )
+
+metric-far : (old : State) (name : List ℕ) (value : Fraction) (ms : MetricList) (End : Scene → Reply → State → Type 0) (rows : List Row) → IsNamed old name value ms → AreDraftRows (metrics_draft old.scene ms) rows
+    → (AreNear old.scene.rows rows → ⊥) → TriedMetric old name value End (Limit word.Constant) old
+metric-far old name value ms End rows is are far =
+    named-far old name value ms End is (inr ((λ no. no (rows-small ms old.scene.held rows are)), (rows, are, inl (far, refl, refl))))
+
+pub metric-lacks : (old : State) (name : List ℕ) (value : Fraction) (ms : MetricList) (End : Scene → Reply → State → Type 0) (limit : LimitWord) → IsNamed old name value ms → MayLackChanges old.scene ms (stop.Limit limit)
+    → TriedMetric old name value End (Limit limit) old
+metric-lacks old name value ms End word.Constant is (inl lacks) = named-far old name value ms End is (inl (lacks, refl, refl))
+metric-lacks old name value ms End word.Constant is (inr (rows, are, far)) = metric-far old name value ms End rows is are far
+metric-lacks old name value ms End word.Line is lacks = absurd lacks
+metric-lacks old name value ms End word.Name is lacks = absurd lacks
+metric-lacks old name value ms End word.Views is lacks = absurd lacks
+metric-lacks old name value ms End word.Depth is lacks = absurd lacks
+metric-lacks old name value ms End word.Metrics is lacks = absurd lacks
+metric-lacks old name value ms End word.Lines is lacks = absurd lacks
+metric-lacks old name value ms End word.Rows is lacks = absurd lacks
+metric-lacks old name value ms End word.Terms is lacks = absurd lacks
+metric-lacks old name value ms End word.Attributes is lacks = absurd lacks
+metric-lacks old name value ms End word.Coefficient is lacks = absurd lacks
+metric-lacks old name value ms End word.Budget is lacks = absurd lacks
+
+-- ---- the window
+
+module _ (old : State) (w h : Fraction) (End : Scene → Reply → State → Type 0) (room : (has_size old.scene.held ≡ false) × IsCrowded old 2 → ⊥) where
+  pub window-far : IsFarSize old.scene.held w h → TriedWindow old w h End (Limit word.Constant) old
+  window-far far = inr (room, inl (far, refl, refl))
+
+  pub window-passed : (reply : Reply) (new : State) → (IsFarSize old.scene.held w h → ⊥) → End (with_window old.scene w h) reply new → TriedWindow old w h End reply new
+  window-passed reply new near end = inr (room, inr (near, end))
+
+-- a cause stays one for whatever end
+pub window-causes : (old : State) (w h : Fraction) (End : Scene → Reply → State → Type 0) (reply : Reply) (new : State) → TriedWindow old w h NoEnd reply new → TriedWindow old w h End reply new
+window-causes old w h End reply new (inl x) = inl x
+window-causes old w h End reply new (inr (a, inl x)) = inr (a, inl x)
+window-causes old w h End reply new (inr (a, inr (b, never))) = absurd never
