@@ -1,3 +1,4 @@
+-- The classes of bytes.
 use Rattle.std.specs.Prelude.{ℕ, Bool, ◌&&◌, ◌||◌, nat_le, nat_lt, ◌==◌}
 use Rattle.span_text.specs.Bytes.{digit_0, digit_9, lower_a, lower_z, upper_a, upper_z}
 use Rattle.span_text.specs.Bytes.{space, tab, underscore}

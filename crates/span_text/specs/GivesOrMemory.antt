@@ -1,3 +1,4 @@
+-- The same of a reader that may also want memory.
 use Rattle.std.specs.Prelude.{◌≡◌, ℕ, Result, Ok, Err}
 use Rattle.span_text.specs.declared.stop.PartStop.{PartStop}
 use Rattle.span_text.specs.declared.stop.PartStop.TheVariants.{Left, OutOfMemory}

@@ -502,4 +502,3 @@ turned_count t line side change = ap (λ (x : Lists). length x.slots) (turned_ov
 
 pub turned_row : (t : Lists) (line : ℕ) (side : Side) (s : Swap) (change : Option Change) → AreSlots t → IsTurn t line side s → IsTurnBy t line side change → row_at (turned_lists t line side change) line ≡ row_at t line
 turned_row t line side s change slots h by = (turned_at t line side s change slots h by).rows line (turn_slot t line side s slots h).0
-

@@ -51,8 +51,8 @@ both-true false b e f = e
 apart : (a b : Fraction) (r : Bool) → r ≡ (int_eq a.num b.num && nat_eq a.den b.den) → r ≡ false → a ≢ b
 apart a b r is off same =
     let yes : (int_eq a.num b.num && nat_eq a.den b.den) ≡ true =
-      both-true (int_eq a.num b.num) (nat_eq a.den b.den)
-      ((Decides-int_eq a.num b.num).1 (ap (λ (f : Fraction). f.num) same)) (eq-eqb a.den b.den (ap (λ (f : Fraction). f.den) same)) in
+    both-true (int_eq a.num b.num) (nat_eq a.den b.den)
+    ((Decides-int_eq a.num b.num).1 (ap (λ (f : Fraction). f.num) same)) (eq-eqb a.den b.den (ap (λ (f : Fraction). f.den) same)) in
     let never : false ≡ true = sym off ∙ is ∙ yes in
     absurd (cc)
 
