@@ -1,5 +1,5 @@
 // The first number of each column that is not 0.
-ghost use Rattle.std.specs.Prelude.{◌≡◌, ℕ, ◌<◌, ◌≤◌, ◌^◌, Bool, false, ◌||◌, ◌&&◌, cond, nat_eq, IfOk};
+ghost use Rattle.std.specs.Prelude.{◌≡◌, ℕ, ◌<◌, ◌≤◌, Bool, false, ◌||◌, ◌&&◌, cond, nat_eq, IfOk};
 ghost use Rattle.std.specs.Prelude.{length, All, ℤ, pos, ◌<ℤ◌, nat_abs, unsigned_abs};
 ghost use Rattle.frac_core.specs.Fraction.{IsFitting};
 ghost use Rattle.problem_core.specs.Certificates.{Multipliers};

@@ -1,10 +1,10 @@
 // The check of a certificate.
-ghost use Rattle.std.specs.Prelude.{◌≡◌, ℕ, ◌<◌, ◌↔◌, length, pos, All, IsTrue, IfOk, ℤ, Bool};
+ghost use Rattle.std.specs.Prelude.{◌≡◌, ℕ, ◌<◌, ◌↔◌, length, pos, IsTrue, IfOk, Bool};
 ghost use Rattle.std.specs.List.{HoldsAt};
 ghost use Rattle.std.specs.Ordering.{int_cmp};
 ghost use Rattle.problem_core.specs.Layout.{Assignment, Gives, IsBest, Satisfies, gap, line_of_stay, lines};
 ghost use Rattle.problem_core.specs.Certificates.{IsCertificate, Multipliers};
-ghost use Rattle.problem_core.specs.Gaps.{HasRoom, HasValue};
+ghost use Rattle.problem_core.specs.Gaps.{HasValue};
 ghost use Rattle.cert_core.specs.Claims.{multipliers_of};
 ghost use Rattle.cert_checker.specs.LineSums.{line_count};
 ghost use Rattle.cert_checker.specs.Certifying.{AreFree, AreNotNegative, AreOfStays, EachGiven, HaveRoom};

@@ -1,10 +1,9 @@
 // The levels of a certificate, with the places of their lines.
-ghost use Rattle.std.specs.Prelude.{◌≡◌, ℕ, ◌<◌, ◌≤◌, ◌+◌, ◌↔◌, length, pos, ◌<ℤ◌, ◌*ℤ◌, All, IsTrue, IfOk};
+ghost use Rattle.std.specs.Prelude.{◌≡◌, ◌<◌, ◌+◌, ◌↔◌, All, IsTrue, IfOk};
 ghost use Rattle.std.specs.Prelude.{IfSome, IfNone};
-ghost use Rattle.problem_core.specs.Layout.{coefficient, sum_of};
-ghost use Rattle.cert_core.specs.Claims.{AreBys, AreLevels, IsLevel, IsPlace, level_at};
-ghost use Rattle.cert_checker.specs.Certifying.{Balances, HasLevel};
-ghost use Rattle.cert_checker.specs.LinePlaces.{ArePlaces, AreWeighed, names};
+ghost use Rattle.cert_core.specs.Claims.{IsLevel, IsPlace, level_at};
+ghost use Rattle.cert_checker.specs.Certifying.{HasLevel};
+ghost use Rattle.cert_checker.specs.LinePlaces.{ArePlaces, AreWeighed};
 ghost use Rattle.cert_checker.specs.PlacedLevels.{ArePlaced, BalancesAt, CancelAt, IsPlaced};
 
 use crate::places::{Places, weigh};

@@ -1,5 +1,5 @@
 // The places of rows and stays among the lines of a problem, rows before stays.
-ghost use Rattle.std.specs.Prelude.{◌≡◌, ℕ, ◌<◌, Contains, All, IfOk, IfSome, IfNone, List, map, length};
+ghost use Rattle.std.specs.Prelude.{◌≡◌, ◌<◌, Contains, All, IfOk, IfSome, IfNone, map};
 ghost use Rattle.cert_core.specs.Claims.{AreBys};
 ghost use Rattle.cert_checker.specs.LineSums.{line_count};
 ghost use Rattle.cert_checker.specs.LinePlaces.{IsIndex, ArePlaces, names, name_at, AreWeighed};

@@ -1,5 +1,5 @@
 // The check of a conflict's multipliers.
-ghost use Rattle.std.specs.Prelude.{◌≡◌, ℕ, ◌<◌, ◌≤◌, ◌^◌, ◌/◌, ◌↔◌, pos, ◌*ℤ◌, length, All, IsTrue, IfOk};
+ghost use Rattle.std.specs.Prelude.{◌≡◌, ◌<◌, ◌≤◌, ◌^◌, ◌/◌, ◌↔◌, pos, ◌*ℤ◌, length, All, IsTrue, IfOk};
 ghost use Rattle.std.specs.Prelude.{IfErr, unsigned_abs};
 ghost use Rattle.problem_core.specs.Common.{IsLeastCommon};
 ghost use Rattle.frac_core.specs.Fraction.{IsFitting};
@@ -13,7 +13,6 @@ ghost use Rattle.cert_checker.specs.declared.refuting.TheConstants.{ROOM};
 ghost use Rattle.cert_checker.specs.LinePlaces.{AreWeighed};
 ghost use Rattle.cert_checker.specs.Refuting.{Cancels, HasRoom, IsAboveZero, IsConflictVerdict};
 ghost use Rattle.cert_checker.specs.Refuting.{IsFirstWithoutRoom};
-ghost use Rattle.cert_checker.specs.LineSums.{line_count};
 ghost use Rattle.cert_checker.specs.Required.{IsRequiredAt, IsSigned, Reaches, denominators, den_at, num_at};
 
 use crate::arithmetic::{product, total};

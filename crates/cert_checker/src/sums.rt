@@ -5,7 +5,6 @@ ghost use Rattle.std.specs.Ordering.{nat_cmp};
 ghost use Rattle.std.specs.BTreeMap.{IsOrdered, values};
 ghost use Rattle.frac_core.specs.Fraction.{IsFitting};
 ghost use Rattle.problem_core.specs.declared.limits.TheConstants.{ROW_LIMIT, TERM_LIMIT};
-ghost use Rattle.problem_core.specs.Kept.{IsWhole};
 ghost use Rattle.problem_core.specs.Layout.{coefficient, sum_of};
 ghost use Rattle.cert_checker.specs.LineSums.{sum_at, form_at, line_count, IsAdded, IsSmall};
 

@@ -1,5 +1,5 @@
 // The values that a certificate speaks of: whose they are, their room, and the required rows.
-ghost use Rattle.std.specs.Prelude.{◌≡◌, ℕ, ◌↔◌, pos, All, IsTrue, IfSome, IfNone};
+ghost use Rattle.std.specs.Prelude.{◌≡◌, ◌↔◌, pos, All, IsTrue, IfSome, IfNone};
 ghost use Rattle.std.specs.Ordering.{int_cmp};
 ghost use Rattle.problem_core.specs.Layout.{Assignment, Gives, HasStay, Satisfies, error, gap, line_of_row};
 ghost use Rattle.problem_core.specs.Gaps.{HasRoom, HasValue};

@@ -1,5 +1,5 @@
 // The levels of a corner's certificate.
-ghost use Rattle.std.specs.Prelude.{◌≡◌, ◌∷◌, ◌++◌, [], All, IfOk, OnOk};
+ghost use Rattle.std.specs.Prelude.{All, IfOk, OnOk};
 ghost use Rattle.problem_core.specs.Certificates.{IsCertificate};
 ghost use Rattle.problem_core.specs.Corners.{Point, StandsAt, assignment_at};
 ghost use Rattle.cert_core.specs.Claims.{multipliers_of};

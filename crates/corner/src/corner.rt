@@ -1,5 +1,5 @@
 // A problem and one of its corners.
-ghost use Rattle.std.specs.Prelude.{◌≡◌, ◌≢◌, ◌<◌, ◌≤◌, ◌↔◌, ◌-◌, ◌+◌, ◌++◌, ℕ, List, [], ◌∷◌, pos, length};
+ghost use Rattle.std.specs.Prelude.{◌≡◌, ◌<◌, ◌≤◌, ◌↔◌, ◌-◌, ◌+◌, ℕ, List, [], ◌∷◌, pos, length};
 ghost use Rattle.std.specs.Prelude.{false, take, true, All, AllPairs, Any, Contains, IfOk, IfErr, IfSome};
 ghost use Rattle.std.specs.Prelude.{IfNone};
 ghost use Rattle.std.specs.Prelude.{OnErr, OnOk, slice_get, Some};
@@ -16,7 +16,6 @@ ghost use Rattle.problem_core.specs.declared.parts.RowName.TheVariants as row_na
 ghost use Rattle.problem_core.specs.Levels.{IsCostAt, IsLevelAt};
 ghost use Rattle.problem_core.specs.declared.parts.Level as level_type;
 ghost use Rattle.problem_core.specs.declared.parts.RowName as row_type;
-ghost use Rattle.problem_core.specs.declared.parts.Side.TheVariants.{Over};
 ghost use Rattle.problem_core.specs.declared.stops.What as what_type;
 ghost use Rattle.problem_core.specs.declared.stops.What.TheVariants.{Mark as MarkOf};
 ghost use Rattle.version_list.specs.declared.TheConstants.{VERSION_LIMIT};

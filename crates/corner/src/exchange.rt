@@ -1,7 +1,7 @@
 // Exchanges of an outside line for an inside one.
 pub(crate) mod turning;
 
-ghost use Rattle.std.specs.Prelude.{◌≡◌, ◌≢◌, ◌⊎◌, ◌<◌, ◌≤◌, ◌*ℤ◌, ◌<ℤ◌, neg_ℤ, ℕ, pos};
+ghost use Rattle.std.specs.Prelude.{◌≡◌, ◌≢◌, ◌⊎◌, ◌<◌, ◌*ℤ◌, ◌<ℤ◌, neg_ℤ, ℕ, pos};
 ghost use Rattle.std.specs.Prelude.{true, length, false, unsigned_abs, IfOk, IfErr, OnOk, OnErr, Ok, Err};
 ghost use Rattle.std.specs.Prelude.{All};
 ghost use Rattle.frac_core.specs.Fraction as fraction;
@@ -30,7 +30,7 @@ ghost use Rattle.corner.specs.Swaps.Exchanges.{IsStaySlot, IsValueAfter, IsWhatA
 ghost use Rattle.corner.specs.Kept.{AreSlots, IsKept, IsSlot};
 ghost use Rattle.corner.specs.Swaps.NextLists.{AreKeptChanges, IsKeptChange};
 ghost use Rattle.corner.specs.Tables as tables;
-ghost use Rattle.corner.specs.Tables.{IsSign, entry, lists_of, problem_of};
+ghost use Rattle.corner.specs.Tables.{IsSign, entry, lists_of};
 ghost use Rattle.corner.specs.Swaps.Touched.{AreLevelsPut, CountsWhereStands, IsPut};
 
 use crate::levels::Pair;

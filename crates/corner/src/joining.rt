@@ -31,7 +31,7 @@ ghost use Rattle.corner.specs.Additions.RowSums.{IsUnfitTerm, term_of};
 ghost use Rattle.corner.specs.Additions.Joining.{IsStayForm, IsWithAttr, at_value, at_zero, slot_of_attr};
 ghost use Rattle.corner.specs.Additions.Joining.{slot_of_row, slot_of_stay, with_slot};
 ghost use Rattle.corner.specs.Shifts.Stood.{AreFirstStood, IsStoodAt, with_present};
-ghost use Rattle.std.specs.Prelude.{◌/◌, ◌*ℤ◌, ℤ, false, List, IfSome, IfNone};
+ghost use Rattle.std.specs.Prelude.{◌/◌, ℤ, false, List, IfSome, IfNone};
 ghost use Rattle.frac_core.specs.declared.frac.TheConstants.{PART_BOUND};
 ghost use Rattle.indexed_rows.specs.Matrices.{IsBelow};
 ghost use Rattle.problem_core.specs.declared.limits.TheConstants.{REQUIRED, ROW_LIMIT};

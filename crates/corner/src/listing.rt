@@ -1,7 +1,7 @@
 // The lines that may have a negative column.
 pub(crate) mod lows;
 
-ghost use Rattle.std.specs.Prelude.{◌≡◌, ◌+◌, ◌<◌, ℕ, [], length, Contains, IfSome, IfNone, OnOk, slice_get};
+ghost use Rattle.std.specs.Prelude.{◌≡◌, ◌<◌, ℕ, [], length, Contains, IfSome, IfNone, OnOk, slice_get};
 ghost use Rattle.std.specs.Prelude.{slice_index_or};
 ghost use Rattle.corner.specs.Reads.Listing.{HasLeft, IsListed, IsWithout};
 

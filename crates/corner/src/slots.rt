@@ -1,6 +1,6 @@
 // The slots of lines, attributes and levels.
-ghost use Rattle.std.specs.Prelude.{◌≡◌, ◌<◌, ◌≤◌, ◌-◌, ◌*◌, ◌*ℤ◌, ◌^◌, ◌↔◌};
-ghost use Rattle.std.specs.Prelude.{ℕ, ℤ, pos, cond, length, slice_index_or, true, unsigned_abs, Some, OnOk};
+ghost use Rattle.std.specs.Prelude.{◌≡◌, ◌<◌, ◌≤◌, ◌-◌, ◌*◌, ◌↔◌};
+ghost use Rattle.std.specs.Prelude.{ℕ, pos, cond, length, slice_index_or, true, Some, OnOk};
 ghost use Rattle.frac_core.specs.Fraction.{IsFitting};
 ghost use Rattle.problem_core.specs.Layout.{HasStay};
 ghost use Rattle.problem_core.specs.declared.limits.TheConstants.{REQUIRED};

@@ -1,5 +1,5 @@
 // Which of two columns over their numbers is the lesser.
-ghost use Rattle.std.specs.Prelude.{◌≡◌, ℕ, pos, ◌*ℤ◌, ◌<ℤ◌, true, false, IfOk};
+ghost use Rattle.std.specs.Prelude.{◌≡◌, ℕ, ◌*ℤ◌, true, false, IfOk};
 ghost use Rattle.std.specs.Ordering.{int_cmp};
 ghost use Rattle.std.specs.declared.cmp.Ordering.TheVariants.{Less as IsLess, Greater as IsGreater};
 ghost use Rattle.problem_core.specs.Corners as corners;

@@ -1,11 +1,10 @@
 // The change of a row's constant, with the lines whose values are negative with it.
-ghost use Rattle.std.specs.Prelude.{◌≡◌, ◌<◌, length, IfOk, IfErr, OnOk, OnErr};
+ghost use Rattle.std.specs.Prelude.{◌≡◌, ◌<◌, length, IfOk, IfErr, OnErr};
 ghost use Rattle.problem_core.specs.Kept.{IsWhole};
 ghost use Rattle.problem_core.specs.declared.parts.RowName.TheVariants.{Held};
 ghost use Rattle.corner_lines.specs.Shifts.{with_constant};
 ghost use Rattle.corner.specs.Changes.{IsRewound, IsUnfitStop};
 ghost use Rattle.corner.specs.Shifts.Shifting.{IsNear};
-ghost use Rattle.corner.specs.Views.{IsNamed};
 ghost use Rattle.dual_run.specs.Leaving.{AreLowLines};
 
 use corner::Corner;

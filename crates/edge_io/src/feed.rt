@@ -52,7 +52,7 @@ impl Model for Feed {
 
 impl Feed {
     ghost use Rattle.std.specs.Borrow.{sem};
-    ghost use Rattle.edge_io.specs.Feeding.{Takes, Waits};
+    ghost use Rattle.edge_io.specs.Feeding.{Takes};
     ghost use Rattle.edge_io.specs.Lending.{GivesNext, GivesLast};
 
     /// A feed with nothing pending.

@@ -25,6 +25,12 @@ impl From<AllocError> for Stop {
     }
 }
 
+impl From<OutOfMemory> for Stop {
+    fn from(_: OutOfMemory) -> Stop {
+        Stop::OutOfMemory
+    }
+}
+
 // The words of a run.
 fn run_words(alloc: Global) -> Result<Vec<String>, OutOfMemory> {
     let mut words = Vec::new(alloc);
@@ -34,9 +40,7 @@ fn run_words(alloc: Global) -> Result<Vec<String>, OutOfMemory> {
 
 // Runs a script to its end.
 fn run_screen<K: Sink>(alloc: Global, script: &[u8], sink: &mut K) -> Result<(), Stop> {
-    let Ok(words) = run_words(alloc) else {
-        return Err(Stop::OutOfMemory);
-    };
+    let words = run_words(alloc)?;
     let bytes = script.to_vec(alloc)?;
     let mut source = MemorySource::new(bytes, Vec::new(alloc), Vec::new(alloc));
     match run(alloc, &words, &mut source, sink) {

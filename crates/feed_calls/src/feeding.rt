@@ -1,5 +1,5 @@
 // What a feed gives.
-ghost use Rattle.std.specs.Prelude.{IsOk, OnOk, IfOk};
+ghost use Rattle.std.specs.Prelude.{OnOk};
 ghost use Rattle.edge_io.specs.Feed.{IsOpen};
 
 use edge_io::{Failed, Feed, Piece, Source};

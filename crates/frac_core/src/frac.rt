@@ -1,6 +1,6 @@
 // A fraction whose parts fit.
-ghost use Rattle.std.specs.Prelude.{◌≡◌, ℕ, ◌<◌, ◌^◌, ℤ, pos, ◌<ℤ◌, IfOk, OnErr, if◌then◌else◌, neg_ℤ};
-ghost use Rattle.std.specs.Prelude.{◌*ℤ◌, ◌+ℤ◌, ◌/◌, unsigned_abs};
+ghost use Rattle.std.specs.Prelude.{◌≡◌, ◌<◌, ◌^◌, ℤ, pos, ◌<ℤ◌, IfOk, OnErr, if◌then◌else◌, neg_ℤ};
+ghost use Rattle.std.specs.Prelude.{◌*ℤ◌, ◌/◌, unsigned_abs};
 ghost use Rattle.std.specs.Int.{IsGcd};
 ghost use Rattle.frac_core.specs.Fraction.{Fraction, IsLowest, Fits, IsFitting, IsKept, IsRatio};
 ghost use Rattle.frac_core.specs.Fraction.{IsUnfitRatio, fraction_order, sum_num, sum_den};

@@ -1,5 +1,5 @@
 // Fractions as text, `p/q` or `p`.
-ghost use Rattle.std.specs.Prelude.{◌≡◌, ◌+◌, ◌≤◌, ◌++◌, length, take, drop};
+ghost use Rattle.std.specs.Prelude.{◌≡◌, ◌+◌, ◌≤◌, ◌++◌, length, take};
 ghost use Rattle.frac_core.specs.Text.{fraction_text};
 ghost use Rattle.frac_core.specs.declared.text.TheConstants.{FRACTION_ROOM};
 

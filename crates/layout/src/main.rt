@@ -10,12 +10,16 @@
 //! it is another, 2 for other words, 3 and 4 where reading or writing failed, 5 for want of memory, 6 for an
 //! input past its limit.
 //!
-//! All that it does stands in `layout_cli`. Here are the words, the streams and the status.
+//! All that it does stands in `layout_cli`. Here are the words, the streams and the status, whose numbers
+//! `exits` has.
 #![tactic(auto)]
+
+mod exits;
 
 ghost use Rattle.std.specs.Prelude.{◌≡◌};
 ghost use Rattle.layout.specs.Exit.{exit_code};
 
+use crate::exits::{DONE, OUT_OF_MEMORY, READ_FAULT, REFUSED, TOO_LONG, USAGE, WRITE_FAULT};
 use edge_io::{StdSink, StdSource};
 use frac_core::OutOfMemory;
 use layout_cli::{Status, run};
@@ -28,13 +32,13 @@ fn exit_status(status: Status) -> u8
     ensures { result ≡ exit_code status }
 {
     match status {
-        Status::Done => 0,
-        Status::Refused => 1,
-        Status::Usage => 2,
-        Status::ReadFault => 3,
-        Status::WriteFault => 4,
-        Status::OutOfMemory => 5,
-        Status::TooLong => 6,
+        Status::Done => DONE,
+        Status::Refused => REFUSED,
+        Status::Usage => USAGE,
+        Status::ReadFault => READ_FAULT,
+        Status::WriteFault => WRITE_FAULT,
+        Status::OutOfMemory => OUT_OF_MEMORY,
+        Status::TooLong => TOO_LONG,
     }
 }
 

@@ -5,7 +5,7 @@ mod names;
 pub(crate) mod printing;
 pub(crate) mod refusals;
 
-ghost use Rattle.std.specs.Prelude.{◌≡◌, ◌≤◌, ◌+◌, ◌++◌, IfOk, OnOk, IsOk, codes, string_bytes, vec_len};
+ghost use Rattle.std.specs.Prelude.{◌≡◌, ◌≤◌, ◌+◌, ◌++◌, IfOk, OnOk, IsOk, codes, vec_len};
 ghost use Rattle.std.specs.Prelude.{vec_capacity};
 ghost use Rattle.layout_cli.specs.Replies.{text_of, frames_text, rows_text, names_of, text_of_each, line_of};
 ghost use Rattle.layout_cli.specs.Replies.{certificate_text, diagnosis_text};

@@ -7,7 +7,6 @@ ghost use Rattle.problem_core.specs.Changes.Begins.{without_marks};
 ghost use Rattle.problem_core.specs.Corners.{NoNegativeValue};
 ghost use Rattle.problem_core.specs.declared.parts.Mark.{Mark as MarkOfLine};
 ghost use Rattle.cert_core.specs.Paths as paths;
-ghost use Rattle.cert_core.specs.Stops.{IsStopOf};
 ghost use Rattle.corner_ends.specs.Runs.{IsBestEnd, IsRun};
 ghost use Rattle.marker_remove.specs.Freed.{DoStand, HasMarkIn};
 ghost use Rattle.layout_solver.specs.Removals.{AfterFreed, AfterGone, CanLeave, HasRemoved, HaveGone};

@@ -1,5 +1,5 @@
 // The stay's mark that leaves.
-ghost use Rattle.std.specs.Prelude.{◌≡◌, ℕ, true, false, IfSome, IfNone};
+ghost use Rattle.std.specs.Prelude.{◌≡◌, ℕ, IfSome, IfNone};
 ghost use Rattle.problem_core.specs.declared.parts.Mark as mark_type;
 ghost use Rattle.problem_core.specs.declared.parts.RowName.TheVariants.{Stay as StayOf};
 ghost use Rattle.problem_core.specs.declared.stops.What.TheVariants.{Mark as MarkOf};

@@ -6,7 +6,7 @@ ghost use Rattle.problem_core.specs.declared.parts.Mark.{Mark};
 ghost use Rattle.path_checker.specs.Tables.{AreSized};
 ghost use Rattle.path_levels.specs.Outlines.{IsSizedOutline};
 ghost use Rattle.path_levels.specs.Levels.{AreLevels, AreSizedLevels, IsSizedLevel};
-ghost use Rattle.std.specs.Prelude.{◌+◌, ◌<ℤ◌, ◌*ℤ◌, pos, ℕ, All};
+ghost use Rattle.std.specs.Prelude.{◌+◌, ◌<ℤ◌, ◌*ℤ◌, pos, All};
 ghost use Rattle.frac_core.specs.Stops.{IsRefused};
 ghost use Rattle.frac_core.specs.Fraction.{IsFitting};
 ghost use Rattle.frac_core.specs.declared.memory.Stop.TheVariants as stops;

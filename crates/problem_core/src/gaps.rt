@@ -1,12 +1,12 @@
 // The sign of a row's gap.
-ghost use Rattle.std.specs.Prelude.{◌≡◌, ℕ, ◌<◌, ◌≤◌, ◌^◌, ◌+◌, ◌+ℤ◌, ◌*ℤ◌, pos, length, map, All, IfOk};
+ghost use Rattle.std.specs.Prelude.{◌≡◌, ℕ, ◌<◌, ◌≤◌, ◌^◌, ◌+◌, ◌+ℤ◌, ◌*ℤ◌, pos, length, All, IfOk};
 ghost use Rattle.std.specs.Prelude.{OnOk, OnErr, unsigned_abs};
 ghost use Rattle.std.specs.Int.{◌∣◌};
 ghost use Rattle.std.specs.Ordering.{int_cmp};
 ghost use Rattle.frac_core.specs.declared.frac.TheConstants.{PART_BOUND};
 ghost use Rattle.problem_core.specs.Common.{IsLeastCommon};
 ghost use Rattle.problem_core.specs.Layout.{Assignment, Gives, gap, line_of_row};
-ghost use Rattle.problem_core.specs.Gaps.{HasRoom, HasRoomOver, HasValue, scaled_sum, times_common};
+ghost use Rattle.problem_core.specs.Gaps.{HasRoom, HasValue, scaled_sum, times_common};
 ghost use Rattle.problem_core.specs.Gaps.{value_dens, value_of};
 ghost use Rattle.problem_core.specs.declared.limits.TheConstants.{COEFFICIENT_LIMIT, GAP_ROOM, TERM_LIMIT};
 

@@ -1,7 +1,7 @@
 // The columns of marks.
 ghost use Rattle.std.specs.Prelude.{◌≡◌, ◌≤◌, ◌<◌, ◌+◌, ◌*◌, ◌%◌, IfSome, IfNone};
 ghost use Rattle.problem_core.specs.Corners as corners;
-ghost use Rattle.problem_core.specs.Corners.{place_of, side_number};
+ghost use Rattle.problem_core.specs.Corners.{side_number};
 ghost use Rattle.problem_core.specs.declared.limits.TheConstants.{MARKS};
 
 use crate::parts::{Mark, RowName, Side};

@@ -1,7 +1,6 @@
 // Rows: a relation of a sum of attributes and a constant, with a rank and a weight.
 ghost use Rattle.std.specs.Prelude.{◌≡◌, ◌<ℤ◌, pos, nat_abs, IfOk};
 ghost use Rattle.problem_core.specs.Kept.{IsRow};
-ghost use Rattle.frac_core.specs.Fraction.{IsKept};
 
 use crate::parts::{Rel, Term};
 use frac_core::{Frac, OutOfMemory};

@@ -1,5 +1,5 @@
 // The columns by which two rows differ.
-ghost use Rattle.std.specs.Prelude.{◌≡◌, ℕ, ◌≤◌, length, IfOk};
+ghost use Rattle.std.specs.Prelude.{IfOk};
 ghost use Rattle.row_core.specs.Rows.{IsKeptRow};
 ghost use Rattle.row_core.specs.Changes.{AreColumnsBut, IsNoted};
 

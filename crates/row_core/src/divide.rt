@@ -1,5 +1,5 @@
 // The division of a sum's numbers by their greatest common divisor.
-ghost use Rattle.std.specs.Prelude.{◌≡◌, ℕ, ℤ, ◌*◌, ◌<◌, ◌≤◌, ◌^◌, ◌*ℤ◌, ◌<ℤ◌, pos, unsigned_abs, IfOk};
+ghost use Rattle.std.specs.Prelude.{◌≡◌, ℕ, ℤ, ◌*◌, ◌<◌, ◌^◌, ◌*ℤ◌, ◌<ℤ◌, pos, unsigned_abs, IfOk};
 ghost use Rattle.std.specs.Prelude.{IfErr, IfSome, IfNone};
 ghost use Prim.Native.Nat.{◌∣◌};
 ghost use Rattle.frac_core.specs.Fraction.{IsFitting};

@@ -1,5 +1,5 @@
 // Rows in lowest terms.
-ghost use Rattle.std.specs.Prelude.{◌≡◌, ℕ, ℤ, List, IfOk, IfErr, IfSome, IfNone, IsTrue, ◌↔◌, ◌<◌, ◌≢◌, pos};
+ghost use Rattle.std.specs.Prelude.{◌≡◌, ℕ, List, IfOk, IfErr, IfSome, IfNone, IsTrue, ◌↔◌, ◌<◌, ◌≢◌, pos};
 ghost use Rattle.std.specs.Prelude.{neg_ℤ, [], ◌∷◌, length, All};
 ghost use Rattle.std.specs.List.{HoldsAt};
 ghost use Rattle.frac_core.specs.Fraction.{IsFitting};

@@ -1,5 +1,5 @@
 // The readers of a linear constraint.
-ghost use Rattle.std.specs.Prelude.{◌≡◌, ◌<◌, ◌^◌, IfOk};
+ghost use Rattle.std.specs.Prelude.{◌<◌};
 ghost use Rattle.span_text.specs.Gives.{Gives};
 ghost use Rattle.span_text.specs.GivesOrMemory.{GivesOrMemory};
 ghost use Rattle.script_text.specs.LineReading.{relation_at, object_at, priority_at, weight_at, linear_at};

@@ -1,5 +1,4 @@
 // The readers of suggestions.
-ghost use Rattle.std.specs.Prelude.{◌≡◌};
 ghost use Rattle.span_text.specs.GivesOrMemory.{GivesOrMemory};
 ghost use Rattle.span_text.specs.Gives.{Gives};
 ghost use Rattle.script_text.specs.LineReading.{view_word_at, suggestion_at, suggest_at, release_at};

@@ -1,9 +1,7 @@
 // The readers of an expression's terms.
-ghost use Rattle.std.specs.Prelude.{◌≡◌, ◌<◌, ◌≤◌, IfOk, IfSome, length};
+ghost use Rattle.std.specs.Prelude.{◌<◌, ◌≤◌, IfOk, IfSome, length};
 ghost use Rattle.span_text.specs.Gives.{Gives};
-ghost use Rattle.span_text.specs.Reading.{tried};
 ghost use Rattle.span_text.specs.Multiples.{IsSmall};
-ghost use Rattle.script_text.specs.Grammar.{attributes};
 ghost use Rattle.script_text.specs.LineReading.{attribute_at, variable_at, product_at, multiplied_at};
 ghost use Rattle.script_text.specs.LineReading.{term_at, next_at, first_at};
 ghost use Rattle.script_text.specs.View.{operand_view, term_view, next_view};

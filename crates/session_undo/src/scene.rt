@@ -17,6 +17,7 @@ ghost use Rattle.session_undo.specs.Kept.{own_or};
 ghost use Rattle.session_undo.specs.Scene.{new_stays};
 
 use crate::changes::is_near_size;
+use crate::item::coming::view_attributes;
 use crate::item::leaving::has_group;
 use crate::item::rows::structural_rows;
 use crate::item::suggesting::suggestion_of;
@@ -87,7 +88,7 @@ fn first_engine(alloc: Global) -> Result<Engine, OutOfMemory>
     let mut engine = Engine::new(alloc)?;
     let rows = structural_rows(alloc)?;
     // The first run needs no exchange, and all numbers fit, so it is memory that is wanting.
-    let Ok(()) = engine.add(&[1, 2, 3, 4], &rows, FIRST_BUDGET) else {
+    let Ok(()) = engine.add(&view_attributes(0), &rows, FIRST_BUDGET) else {
         return Err(OutOfMemory);
     };
     engine.forget();

@@ -1,5 +1,5 @@
 // The session, and what each command does to it.
-ghost use Rattle.std.specs.Prelude.{◌≡◌, ◌<◌, ◌≤◌, ◌⊎◌, true, false, length, None, IsSome};
+ghost use Rattle.std.specs.Prelude.{◌≡◌, ◌<◌, ◌≤◌, ◌⊎◌, true, false, length, None};
 ghost use Rattle.std.specs.Prelude.{Option, Some, ℕ, IfOk, IfErr, IfSome, IfNone, OnOk, OnErr};
 ghost use Rattle.session_undo.specs.declared.limits.TheConstants.{BUDGET_LIMIT};
 ghost use Rattle.session_undo.specs.declared.row_numbers.TheConstants.{SIZE_ROWS};
@@ -76,12 +76,12 @@ impl Session {
     ghost use Rattle.script_text.specs.View.{view, linear_view};
     ghost use Rattle.vfl_text.specs.View.{meaning};
     ghost use Rattle.view_tree.specs.Views.{view_of};
-    ghost use Rattle.constraint_compile.specs.Compiled.{AreRowsNow, AreSmallForms};
+    ghost use Rattle.constraint_compile.specs.Compiled.{AreSmallForms};
     ghost use Rattle.constraint_compile.specs.Stops.{IsCompiled};
     ghost use Rattle.constraint_compile.specs.Formats.FormatRows.{IsCompiledFormat};
     ghost use Rattle.session_undo.specs.Attributes.{IsGrown, IsNextLine};
     ghost use Rattle.session_undo.specs.Frames.{IsFrameOf};
-    ghost use Rattle.session_undo.specs.Scene.{first_state, with_line, with_window, with_metric};
+    ghost use Rattle.session_undo.specs.Scene.{first_state, with_line};
     ghost use Rattle.session_undo.specs.Scene.{with_suggestion, with_suggested};
     ghost use Rattle.session_undo.specs.Replies.{MayRefuse, Accepting, Refusing, Done, Limit};
     ghost use Rattle.session_undo.specs.Replies as reply;

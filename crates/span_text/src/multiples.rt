@@ -1,5 +1,5 @@
 // A number or a ratio.
-ghost use Rattle.std.specs.Prelude.{◌≡◌, ◌^◌, ◌<◌, ◌≤◌, IfOk, length};
+ghost use Rattle.std.specs.Prelude.{◌^◌, ◌<◌, ◌≤◌, IfOk, length};
 ghost use Rattle.span_text.specs.Gives.{Gives};
 ghost use Rattle.span_text.specs.Tokens.{below_at, number_bound};
 ghost use Rattle.span_text.specs.Multiples.{number_end_at, multiple_at, IsSmall};

@@ -1,5 +1,5 @@
 // Names, words and signs, with the spaces behind them.
-ghost use Rattle.std.specs.Prelude.{◌≡◌, ◌<◌, ◌≤◌, IfOk, length};
+ghost use Rattle.std.specs.Prelude.{◌<◌, ◌≤◌, IfOk, length};
 ghost use Rattle.span_text.specs.Gives.{Gives};
 ghost use Rattle.span_text.specs.Tokens.{tail_at, word_at, name_at, raw_name_at, sign_at};
 

@@ -1,5 +1,5 @@
 // The tokens of a line, more coarsely than any grammar cuts it.
-ghost use Rattle.std.specs.Prelude.{◌≡◌, ◌<◌, ◌≤◌, ◌-◌, length, take, drop, false, true};
+ghost use Rattle.std.specs.Prelude.{◌≡◌, ◌<◌, ◌≤◌, ◌-◌, length, take, drop, false};
 ghost use Rattle.std.specs.Str.{IsCharBoundary};
 ghost use Rattle.span_text.specs.Reading.{back, starts};
 ghost use Rattle.span_text.specs.Classes.{is_space, is_word};

@@ -1,5 +1,5 @@
 // A whole format: its direction, and the chain of views and connections between its ends.
-ghost use Rattle.std.specs.Prelude.{◌≡◌, ◌<◌, ◌≤◌, IfOk, IfErr, length, ◌+◌};
+ghost use Rattle.std.specs.Prelude.{◌≡◌, ◌<◌, IfOk, IfErr, length, ◌+◌};
 ghost use Rattle.span_text.specs.Gives.{Gives};
 ghost use Rattle.span_text.specs.GivesOrMemory.{GivesOrMemory};
 ghost use Rattle.span_text.specs.Loops.{loop_at};

@@ -9,7 +9,7 @@ ghost use Rattle.span_text.specs.Tokens.{number_bound};
 ghost use Rattle.vfl_text.specs.Grammar.{relations};
 ghost use Rattle.vfl_text.specs.Reading.{value_at, object_at, priority_at, ruled_at, pred_at, pred_round_at};
 ghost use Rattle.vfl_text.specs.Reading.{preds_at, is_compare};
-ghost use Rattle.vfl_text.specs.View.{pred_meaning, pred_meanings, priority_meaning};
+ghost use Rattle.vfl_text.specs.View.{pred_meaning, pred_meanings};
 
 use crate::parts::Pred;
 use problem_core::Rel;

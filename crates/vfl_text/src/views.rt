@@ -1,6 +1,5 @@
 // What a format is a chain of: views in brackets, and the connections between them.
 ghost use Rattle.std.specs.Prelude.{◌≡◌, ◌<◌, ◌≤◌, IfOk, IfErr, length};
-ghost use Rattle.span_text.specs.Gives.{Gives};
 ghost use Rattle.span_text.specs.GivesOrMemory.{GivesOrMemory};
 ghost use Rattle.span_text.specs.Objects.{meant};
 ghost use Rattle.span_text.specs.declared.stop.PartStop.TheVariants as stop;

@@ -1,5 +1,5 @@
 // The canonical text of a format. What is written is put behind a text; after an error nothing is said of it.
-ghost use Rattle.std.specs.Prelude.{◌≡◌, ◌<◌, ◌+◌, ◌++◌, ◌∷◌, OnOk, length, drop};
+ghost use Rattle.std.specs.Prelude.{◌≡◌, ◌<◌, ◌+◌, ◌++◌, OnOk, length};
 ghost use Rattle.span_text.specs.Bytes.{digit_0};
 ghost use Rattle.span_text.specs.Objects.{meant};
 ghost use Rattle.span_text.specs.declared.limits.TheConstants.{UNIT};

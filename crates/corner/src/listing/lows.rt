@@ -1,6 +1,5 @@
 // The lines whose marks have negative values.
 ghost use Rattle.std.specs.Prelude.{◌≡◌, ◌↔◌, ◌<◌, length, true, All, OnOk};
-ghost use Rattle.problem_core.specs.declared.parts.RowName as row_type;
 ghost use Rattle.corner.specs.Kept.{AreSlots, IsKept};
 ghost use Rattle.corner.specs.Reads.Lows.{IsLowSlot, ListsLow, ListsSlot, ListsSlots};
 ghost use Rattle.corner.specs.Tables.{lists_of, marks_at, problem_of};

@@ -48,11 +48,12 @@ pub fn structural_rows(alloc: Global) -> Result<Vec<Row>, OutOfMemory>
     ensures rows { IfOk result (λ rows. rows.items ≡ structural_rows) }
     ensures each { IfOk result (λ rows. All IsRow rows.items) }
 {
+    let attrs = ViewId(0).attributes();
     let mut rows = Vec::new(alloc);
-    rows.push(required(alloc, LEFT_ROW, 1, Rel::Eq, Frac::zero())?)?;
-    rows.push(required(alloc, TOP_ROW, 2, Rel::Eq, Frac::zero())?)?;
-    rows.push(required(alloc, WIDTH_ROW, 3, Rel::Ge, Frac::zero())?)?;
-    rows.push(required(alloc, HEIGHT_ROW, 4, Rel::Ge, Frac::zero())?)?;
+    rows.push(required(alloc, LEFT_ROW, attrs.left, Rel::Eq, Frac::zero())?)?;
+    rows.push(required(alloc, TOP_ROW, attrs.top, Rel::Eq, Frac::zero())?)?;
+    rows.push(required(alloc, WIDTH_ROW, attrs.width, Rel::Ge, Frac::zero())?)?;
+    rows.push(required(alloc, HEIGHT_ROW, attrs.height, Rel::Ge, Frac::zero())?)?;
     Ok(rows)
 }
 

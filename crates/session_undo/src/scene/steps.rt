@@ -70,12 +70,8 @@ impl Scene {
         ensures same { OnErr result (self.new ≡ self.old) }
     {
         self.engine.show_layout(); // for the proof: what an engine keeps
-        let Ok(rows) = leaving_numbers(self.alloc, self.items.as_slice(), leaver) else {
-            return Err(RemoveStop::OutOfMemory);
-        };
-        let Ok(()) = take_leaving_out(&mut self.items, leaver) else {
-            return Err(RemoveStop::OutOfMemory);
-        };
+        let rows = leaving_numbers(self.alloc, self.items.as_slice(), leaver)?;
+        take_leaving_out(&mut self.items, leaver)?;
         take_out(&mut self.engine, &mut self.items, &rows, &[], budget)?;
         let past = Past::alike(self.next_row);
         keep(&mut self.items, &mut self.engine, &mut self.pasts, past);
@@ -295,20 +291,11 @@ impl Scene {
     {
         self.engine.show_layout(); // for the proof: what an engine keeps
         let _count = self.tree.len(); // for the proof: what a tree keeps
-        let Ok(rows) = leaving_numbers(self.alloc, self.items.as_slice(), Leaver::Views(gone))
-        else {
-            return Err(RemoveStop::OutOfMemory);
-        };
-        let Ok(attrs) = attributes_in(self.alloc, gone) else {
-            return Err(RemoveStop::OutOfMemory);
-        };
-        let Ok(mut tree) = self.tree.copy() else {
-            return Err(RemoveStop::OutOfMemory);
-        };
+        let rows = leaving_numbers(self.alloc, self.items.as_slice(), Leaver::Views(gone))?;
+        let attrs = attributes_in(self.alloc, gone)?;
+        let mut tree = self.tree.copy()?;
         tree.drop_views(gone);
-        let Ok(()) = take_leaving_out(&mut self.items, Leaver::Views(gone)) else {
-            return Err(RemoveStop::OutOfMemory);
-        };
+        take_leaving_out(&mut self.items, Leaver::Views(gone))?;
         take_out(&mut self.engine, &mut self.items, &rows, &attrs, budget)?;
         let past = Past::with_tree(mem::replace(&mut self.tree, tree), self.next_row);
         keep(&mut self.items, &mut self.engine, &mut self.pasts, past);

@@ -7,7 +7,7 @@ use Rattle.session_undo.proofs.scene.first_engine.Goals as goal
 
 pub add-requires : goal.add-requires
 add-requires c =
-    rw c.deref.ensures.value
+    rw (c.deref.ensures.value, c.view_attributes.ensures)
     (record {
       room = subst (λ (l : Layout). length l.earlier < VERSION_LIMIT) (sym c.in_ok-engine.ensures) (lit< tt);
       whole = first-whole c.in_ok-engine.engine c.in_ok-rows.rows.items c.in_ok-engine.ensures c.in_ok-rows.ensures.rows c.in_ok-rows.ensures.each;
@@ -20,7 +20,7 @@ forget-requires c = rw c.in-Ok.ensures.earlier (omega arith)
 pub returns-clause-problem : goal.returns-clause-problem
 returns-clause-problem c =
     ap (λ (s : Solution). s.problem) c.forget.ensures.solution
-    ∙ (rw (c.deref.ensures.value, c.in_ok-rows.ensures.rows, c.in_ok-engine.ensures) at c.in-Ok.ensures.done)
+    ∙ (rw (c.deref.ensures.value, c.view_attributes.ensures, c.in_ok-rows.ensures.rows, c.in_ok-engine.ensures) at c.in-Ok.ensures.done)
 
 pub returns-clause-earlier : goal.returns-clause-earlier
 returns-clause-earlier c =
