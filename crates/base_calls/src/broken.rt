@@ -11,6 +11,7 @@ pub struct Broken {
 }
 
 impl Broken {
+    // The one byte, and a failure from then on.
     fn step(&mut self) -> io::Result<usize>
         ensures { IfOk result (λ n. n ≡ 1) }
     {

@@ -39,6 +39,7 @@ fn put_puts<K: Sink>(out: &mut String, sink: &mut K, calls: &str) -> Result<(), 
     Ok(())
 }
 
+// Appends what a sink holds, or nothing where that is no text.
 fn put_held(out: &mut String, bytes: &[u8]) -> Result<(), OutOfMemory> {
     let text = std::str::from_utf8(bytes).unwrap_or("");
     Ok(writeln!(out, "holds {text}")?)

@@ -3,6 +3,7 @@ use frac_core::{Frac, OutOfMemory};
 use name_tables::{Metrics, NameStop, Names, OwnedName};
 use std::alloc::Global;
 
+// The place that a word says, and 0 where it says none.
 fn place_of(word: &str) -> usize {
     word.parse::<usize>().unwrap_or(0)
 }
@@ -66,6 +67,7 @@ fn name_and_value(words: &str) -> (&str, Option<Frac>) {
     (name, value.ok())
 }
 
+// Appends what a call answers that changes the metrics.
 fn put_changed(out: &mut String, answer: Result<(), NameStop>) -> Result<(), OutOfMemory> {
     Ok(writeln!(out, "{answer:?}")?)
 }

@@ -4,6 +4,7 @@ use name_tables::Metrics;
 use std::alloc::Global;
 use view_tree::{Tree, TreeStop, ViewId};
 
+// The number that a word says, and 0 where it says none.
 fn number_of(word: &str) -> u32 {
     word.parse::<u32>().unwrap_or(0)
 }
@@ -81,6 +82,7 @@ fn put_id(out: &mut String, id: Option<ViewId>) -> Result<(), OutOfMemory> {
     Ok(writeln!(out, "{id:?}")?)
 }
 
+// Appends the name of the view at a place, or that there is none.
 fn put_name(out: &mut String, tree: &Tree, place: u32) -> Result<(), OutOfMemory> {
     match tree.at(place as usize) {
         Some(view) => {

@@ -12,6 +12,7 @@ enum Before {
     Digit(u8),
 }
 
+// The value of a hexadecimal digit, whose letters are small ones.
 fn digit(byte: u8) -> u8 {
     match byte {
         b'a'..=b'f' => (byte - b'a').wrapping_add(10),
@@ -19,6 +20,7 @@ fn digit(byte: u8) -> u8 {
     }
 }
 
+// What a byte behind a backslash stands for: itself, but for three letters.
 fn named(byte: u8) -> u8 {
     match byte {
         b'n' => b'\n',
@@ -41,7 +43,7 @@ fn put_byte(out: &mut Vec<u8>, before: Before, byte: u8) -> Result<Before, OutOf
     Ok(Before::Nothing)
 }
 
-/// Appends the bytes that a text line stands for.
+/// Appends the bytes that a text line stands for, its end among them unless a backslash takes it away.
 pub fn put_escaped(out: &mut Vec<u8>, line: &str) -> Result<(), OutOfMemory> {
     let mut before = Before::Nothing;
     for byte in line.as_bytes() {
@@ -53,7 +55,8 @@ pub fn put_escaped(out: &mut Vec<u8>, line: &str) -> Result<(), OutOfMemory> {
     Ok(())
 }
 
-/// Appends bytes as lines of text. A last line without an end gets a backslash and an end.
+/// Appends bytes as lines of text. A last line without an end gets a backslash and an end. Instead of bytes
+/// that are no text a line says so.
 pub fn put_text(out: &mut String, bytes: &[u8]) -> Result<(), OutOfMemory> {
     let text = std::str::from_utf8(bytes).unwrap_or("bytes that are no text\n");
     write!(out, "{text}")?;

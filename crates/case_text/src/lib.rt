@@ -1,8 +1,8 @@
 //! The input of programs that try calls of the library over many cases, for their stored runs.
 //!
 //! A line that begins with `=` is a heading. Each other line is text, with its end, in which `\n`, `\r`,
-//! `\t`, `\\` and `\x` with two hexadecimal digits stand for one byte; a text line whose last byte is `\`
-//! has no end.
+//! `\t`, `\\` and `\x` with two hexadecimal digits, `a` to `f` small, stand for one byte; a text line that
+//! ends in another `\` has no end.
 //!
 //! ```
 //! fn main(rt: HostRuntime) -> ExitCode {

@@ -39,6 +39,7 @@ pub record Balances (p : Problem) (levels : List BestLevel) : Type 0 where
   pub cancel : (k v : ℕ) → sum_of (λ l. (multipliers_of p levels).times k l.name
       *ℤ coefficient v l.form) (lines p) ≡ pos 0
 
+-- neither column of the line is lexicographically negative
 abbrev pub IsNotNegative : Multipliers → Line → Type 0
 IsNotNegative m l = IsLexNonnegative (under m l) × IsLexNonnegative (over m l)
 
@@ -59,6 +60,7 @@ pub record AreFree (p : Problem) (m : Multipliers) (x : Assignment) : Type 0 whe
 
 -- ---- room
 
+-- each of the rows has room for its gap at the values
 abbrev pub HaveRoom : List Row → List (ℕ × Fraction) → Type 0
 HaveRoom rows values = All (λ r. HasRoom r values) rows
 

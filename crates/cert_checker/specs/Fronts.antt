@@ -20,7 +20,7 @@ use Rattle.cert_checker.specs.declared.sums.Weighted.{Weighted}
 use Rattle.cert_checker.specs.LineSums.{line_count}
 use Rattle.cert_checker.specs.LinePlaces.{name_at}
 
--- of the levels that were seen
+-- the front of a column, as far as the levels that were seen tell
 abbrev pub IsFront : (ℕ → ℤ) → (ℕ → Bool) → Option Front → Type 0
 IsFront f seen None = (k : ℕ) → seen k ≡ true → f k ≡ pos 0
 IsFront f seen (Some q) =
@@ -28,6 +28,7 @@ IsFront f seen (Some q) =
     × (q.negative ≡ false → pos 0 <ℤ f q.level)
     × ((k : ℕ) → seen k ≡ true → k < q.level → f k ≡ pos 0)
 
+-- what one point on a side costs, where these are the relation and the weight
 abbrev pub weight_of_side : Rel → Side → ℕ → ℕ
 weight_of_side rel Under weight = under_weight rel weight
 weight_of_side rel Over weight = over_weight rel weight
@@ -93,7 +94,7 @@ pub record HasOwnNumber (f : ℕ → ℤ) (facts : Facts) (side : Side) : Type 0
   pub free : weight_of_side facts.rel side facts.weight ≡ 0 → f facts.own ≡ pos 0
   pub costed : 0 < weight_of_side facts.rel side facts.weight → pos 0 <ℤ f facts.own
 
--- of all levels
+-- the front of a column, of all its levels
 abbrev pub IsColumnFront : (ℕ → ℤ) → Option Front → Type 0
 IsColumnFront f None = (k : ℕ) → f k ≡ pos 0
 IsColumnFront f (Some q) =
@@ -106,6 +107,7 @@ abbrev pub is_below : Option Front → Bool
 is_below None = false
 is_below (Some q) = q.negative
 
+-- whether there is no front, and so no number that isn't 0
 abbrev pub is_zero : Option Front → Bool
 is_zero None = true
 is_zero (Some q) = false
@@ -120,6 +122,7 @@ abbrev pub HasFrontsAt : Problem → Multipliers → (ℕ → ℕ → Bool) → 
 HasFrontsAt p m seen at sides = HoldsAt (λ l. HasFronts (under m l) (over m l) (seen at) l.level sides)
     (lines p) at
 
+-- the fronts of the line's whole columns
 abbrev pub HasColumnFronts : Multipliers → Line → Sides → Type 0
 HasColumnFronts m l sides = IsColumnFront (under m l) sides.under × IsColumnFront (over m l) sides.over
 

@@ -15,13 +15,16 @@ abbrev pub IsIndex : List ℕ → BTreeMap ℕ ℕ → Type 0
 IsIndex numbers places = (q : ℕ) → MatchOption (get nat_cmp places q) (Contains numbers q
     → ⊥) (λ k. (k < length numbers) × (slice_index_or numbers k 0 ≡ q))
 
+-- where each row stands among the rows, by its number, and each stay among the stays, by its attribute
 pub record ArePlaces (p : Problem) (places : Places) : Type 0 where
   pub rows : IsIndex (map (λ r. r.id) p.rows) places.rows
   pub stays : IsIndex (map (λ s. s.attr) p.stays) places.stays
 
+-- the names of the lines, in their order
 abbrev pub names : Problem → List RowName
 names p = map (λ l. l.name) (lines p)
 
+-- the name of the line at a place
 abbrev pub name_at : Problem → ℕ → RowName
 name_at p k = slice_index_or (names p) k (Held 0)
 

@@ -16,9 +16,11 @@ pub record IsAdded (old new : BTreeMap ℕ ℤ) (attr : ℕ) (more : ℤ) : Type
   pub here : sum_at new attr ≡ sum_at old attr +ℤ more
   pub others : (v : ℕ) → v ≢ attr → sum_at new v ≡ sum_at old v
 
+-- the term's coefficient is within its limit
 abbrev pub IsSmall : Term → Type 0
 IsSmall t = unsigned_abs t.by ≤ COEFFICIENT_LIMIT
 
+-- how many lines the problem has
 abbrev pub line_count : Problem → ℕ
 line_count p = length p.rows + length p.stays
 

@@ -18,6 +18,7 @@ pub record BalancesAt (p : Problem) (l : BestLevel) : Type 0 where
   pub rows : All (λ b. Contains (names p) b.row) l.by
   pub cancel : CancelAt p l
 
+-- this is the level at its place, with its lines at theirs, and it balances
 pub record IsPlaced (p : Problem) (l : BestLevel) (q : PlacedLevel) : Type 0 where
   pub place : level_at p q.level ≡ l.level
   pub scale : q.scale ≡ l.scale

@@ -27,9 +27,11 @@ pub record Cancels (p : Problem) (bys : List By) : Type 0 where
   pub named : All (λ b. IsRequired p b.row) bys
   pub cancel : (v : ℕ) → sum_of (λ r. times_of bys (Held r.id) *ℤ coefficient v r.terms) (required p) ≡ pos 0
 
+-- each required row's relation allows the sign of its multiplier
 abbrev pub AreSigned : Problem → List By → Type 0
 AreSigned p bys = All (λ r. HasSign r.rel (times_of bys (Held r.id))) (required p)
 
+-- the constants of the required rows, each times its multiplier, add up to more than 0
 abbrev pub IsAboveZero : Problem → List By → Type 0
 IsAboveZero p bys = pos 0 <ℤ sum_of (λ r. times_of bys (Held r.id)
     *ℤ (r.constant.num *ℤ pos (product_of (λ s. s.constant.den) (required p) / r.constant.den))) (required p)

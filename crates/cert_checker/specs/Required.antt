@@ -18,16 +18,19 @@ pub record IsSigned (p : Problem) (w : Weighted) : Type 0 where
   pub row : w.at < length p.rows
   pub sign : HoldsAt (λ r. HasSign r.rel w.times) p.rows w.at
 
--- the constant of the row at a place
+-- the denominator of the constant of the row at a place
 abbrev pub den_at : Problem → ℕ → ℕ
 den_at p k = slice_index_or (map (λ r. r.constant.den) p.rows) k 1
 
+-- the numerator of the constant of the row at a place
 abbrev pub num_at : Problem → ℕ → ℤ
 num_at p k = slice_index_or (map (λ r. r.constant.num) p.rows) k (pos 0)
 
+-- the number of the row at a place
 abbrev pub id_at : Problem → ℕ → ℕ
 id_at p k = slice_index_or (map (λ r. r.id) p.rows) k 0
 
+-- the denominators of the constants of the rows that have multipliers
 abbrev pub denominators : Problem → List Weighted → List ℕ
 denominators p ws = map (λ w. den_at p w.at) ws
 

@@ -66,6 +66,7 @@ fn keep(front: Option<Front>, level: usize, number: i128) -> Option<Front>
     }
 }
 
+// What one point on a side costs, where these are the relation and the weight.
 fn weight_of(rel: Rel, side: Side, weight: u16) -> u16
     ensures { result ≡ weight_of_side rel side weight }
 {
@@ -75,6 +76,7 @@ fn weight_of(rel: Rel, side: Side, weight: u16) -> u16
     }
 }
 
+// The line's weight at a level: 0 at each but its own.
 fn weight_at(facts: &Facts, level: usize) -> u16
     ensures { result ≡ cond (nat_eq facts.now.own level) facts.now.weight 0 }
 {

@@ -50,6 +50,7 @@ fn index(alloc: Global, numbers: &[u32]) -> Result<BTreeMap<u32, usize>, OutOfMe
 }
 
 impl Places {
+    /// The places of all rows and stays of the problem.
     pub(crate) fn of(alloc: Global, p: &Problem) -> Result<Places, OutOfMemory>
         ensures { IfOk result (ArePlaces p.now) }
     {

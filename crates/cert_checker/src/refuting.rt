@@ -24,7 +24,7 @@ use frac_core::OutOfMemory;
 use problem_core::{Problem, REQUIRED, Rel, least_common};
 use std::alloc::Global;
 
-// What the common denominator of the constants of a refutation is below, so that their sum fits in 128 bits.
+/// What the common denominator of the constants of a refutation is below, so that their sum fits in 128 bits.
 pub(crate) const ROOM: u128 = 1 << 30;
 
 // Whether each line is a required row.

@@ -21,6 +21,7 @@ fn has_stay(stays: &[Stay], attr: u32) -> bool
     stays.iter().any(|stay| stay.attr == attr)
 }
 
+// Whether each attribute with a stay has a value.
 fn have_values(stays: &[Stay], values: &Values) -> bool
     ensures { IsTrue result ↔ All (λ s. HasValue values.now s.attr) stays.now }
 {
@@ -32,6 +33,7 @@ fn have_values(stays: &[Stay], values: &Values) -> bool
     true
 }
 
+// Whether each attribute with a value has a stay.
 fn have_stays(values: &Values, stays: &[Stay]) -> bool
     ensures { IsTrue result ↔ All (λ v. HasStay stays.now v.0) values.now }
 {

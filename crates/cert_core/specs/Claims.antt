@@ -18,6 +18,7 @@ pub record AreBys (bys : List By) : Type 0 where
   pub fitting : All (λ b. IsFitting b.times) bys
   pub apart : AllPairs (λ b c. b.row ≢ c.row) bys
 
+-- a level, its scale, and the multipliers of lines there
 pub record BestLevel : Type 0 where
   pub level : Level
   pub scale : ℤ
@@ -28,6 +29,7 @@ abbrev pub IsPlace : Level → Type 0
 IsPlace (Priority rank) = rank ≤ REQUIRED
 IsPlace (StayLevel attr) = Unit {0}
 
+-- the level may be named, its scale and its multipliers fit, and no row stands twice among them
 pub record IsLevel (l : BestLevel) : Type 0 where
   pub place : IsPlace l.level
   pub scale : IsFitting l.scale
@@ -40,6 +42,7 @@ pub record AreLevels (levels : List BestLevel) : Type 0 where
 
 -- ---- what they stand for
 
+-- whether two rows have the same name
 abbrev pub same_row : RowName → RowName → Bool
 same_row (Held a) (Held b) = nat_eq a b
 same_row (Held a) (StayOf b) = false
@@ -50,6 +53,7 @@ same_row (StayOf a) (StayOf b) = nat_eq a b
 abbrev pub times_of : List By → RowName → ℤ
 times_of bys row = sum_of (λ b. cond (same_row b.row row) b.times (pos 0)) bys
 
+-- whether two levels are the same
 abbrev pub same_level : Level → Level → Bool
 same_level (Priority a) (Priority b) = nat_eq a b
 same_level (Priority a) (StayLevel b) = false

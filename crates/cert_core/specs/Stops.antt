@@ -20,7 +20,7 @@ use Rattle.problem_core.specs.Changes.Paths.{IsPath, IsEndOf, last_marks}
 
 -- ---- a conflict
 
--- the first names a row of a lesser number
+-- the first names a row, the second one of a greater number or a stay
 abbrev pub ComesBefore : RowName → RowName → Type 0
 ComesBefore (Held a) (Held b) = a < b
 ComesBefore (Held a) (StayOf b) = Unit {0}

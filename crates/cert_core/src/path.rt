@@ -56,7 +56,8 @@ impl Path {
         })
     }
 
-    /// Whether it takes out marks with negative values, and not in marks with negative columns.
+    /// Whether it is a dual path, which takes out marks with negative values; a primal one brings in marks
+    /// with negative columns.
     pub fn dual(&self) -> bool
         ensures { result ≡ self.now.dual }
     {

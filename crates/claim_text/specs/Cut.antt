@@ -2,6 +2,7 @@
 use Rattle.std.specs.Prelude.{◌≡◌, ◌⊎◌, ℕ, List, [], ◌∷◌, ◌++◌, All, codes}
 use Rattle.span_text.specs.TextCuts.Words.{words_of}
 
+-- one of the four words with which a claim may begin
 abbrev pub IsClaimWord : List ℕ → Type 0
 IsClaimWord w = (w ≡ codes "value") ⊎ ((w ≡ codes "best") ⊎ ((w ≡ codes "conflict") ⊎ (w ≡ codes "path")))
 
@@ -14,6 +15,7 @@ abbrev pub IsClaimStart : List (List ℕ) → Type 0
 IsClaimStart [] = Unit {0}
 IsClaimStart (line ∷ more) = BeginsClaim line
 
+-- the line `ok`
 abbrev pub ok_line : List ℕ
 ok_line = codes "ok"
 

@@ -16,6 +16,7 @@ use Rattle.problem_core.specs.Layout.{Row, Problem}
 use Rattle.claim_text.specs.Words.{line_of}
 use Rattle.claim_text.specs.declared.problem.row_lines.Head.{Head}
 
+-- the sign of a relation
 abbrev pub rel_word : Rel → List ℕ
 rel_word Eq = codes "=="
 rel_word Le = codes "<="
@@ -39,6 +40,7 @@ abbrev pub head_words : Head → List (List ℕ)
 head_words h = codes "row" ∷ decimal h.id ∷ decimal h.rank ∷ decimal h.weight ∷ rel_word h.rel
     ∷ decimal h.scale ∷ fraction_text h.constant ∷ []
 
+-- the numbers before the terms are within their limits, and the constant is in lowest terms and fits
 pub record IsHead (h : Head) : Type 0 where
   pub number : IsNumber h.id
   pub rank : h.rank ≤ REQUIRED
@@ -68,9 +70,11 @@ row_from h terms = record {
 
 -- ---- texts
 
+-- the line of a row
 abbrev pub row_line : Row → List ℕ
 row_line r = line_of (row_words r)
 
+-- the line of a stay
 abbrev pub stay_line : Stay → List ℕ
 stay_line s = line_of (stay_words s)
 

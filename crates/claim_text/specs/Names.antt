@@ -18,10 +18,13 @@ abbrev pub level_word : Level → List ℕ
 level_word (Priority rank) = decimal rank
 level_word (StayLevel attr) = lower_s ∷ decimal attr
 
+-- the row may be named: its number, or that of its stay's attribute, is within the limits
 abbrev pub IsRowName : RowName → Type 0
 IsRowName (Held id) = IsNumber id
 IsRowName (StayRow attr) = IsNumber attr
 
+-- the level may be named: its rank is at most that of required rows, or the number of its stay's attribute is
+-- within the limits
 abbrev pub IsLevelName : Level → Type 0
 IsLevelName (Priority rank) = rank ≤ REQUIRED
 IsLevelName (StayLevel attr) = IsNumber attr

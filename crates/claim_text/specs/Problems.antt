@@ -31,15 +31,18 @@ pub record RowMayFollow (HasStay : ℕ → Type 0) (old : Problem) (r : Row) : T
   pub covered : All (λ t. HasStay t.attr) r.terms
   pub room : length old.rows < TEXT_ROW_LIMIT
 
+-- the stay may follow what was read: its attribute has none yet, and there is room for one more
 pub record StayMayFollow (old : Problem) (s : Stay) : Type 0 where
   pub fresh : All (λ q. q.attr ≢ s.attr) old.stays
   pub room : length old.stays < TEXT_STAY_LIMIT
 
+-- what a line says may follow what was read, where these attributes have stays in the text
 abbrev pub MayFollow : (ℕ → Type 0) → Problem → Item → Type 0
 MayFollow HasStay old Nothing = Unit {0}
 MayFollow HasStay old (OfRow r) = RowMayFollow HasStay old r
 MayFollow HasStay old (OfStay s) = StayMayFollow old s
 
+-- what was read, with what a line says
 abbrev pub with_item : Problem → Item → Problem
 with_item old Nothing = old
 with_item old (OfRow r) = record { rows = old.rows ++ r ∷ []; stays = old.stays }
@@ -52,14 +55,17 @@ pub record Step (HasStay : ℕ → Type 0) (old : Problem) (line : List ℕ) (ne
   pub may : MayFollow HasStay old item
   pub is : new ≡ with_item old item
 
+-- the lines, one after the other, lead from what was read before them to this
 abbrev pub ReadFrom : (ℕ → Type 0) → Problem → List (List ℕ) → Problem → Type 0
 ReadFrom HasStay old [] new = new ≡ old
 ReadFrom HasStay old (line ∷ more) new = (mid : Problem) × Step HasStay old line mid
     × ReadFrom HasStay mid more new
 
+-- what was read before the first line: no row, and no stay
 abbrev pub nothing_read : Problem
 nothing_read = record { rows = []; stays = [] }
 
+-- the line is a stay of the attribute
 abbrev pub IsStayOf : List ℕ → ℕ → Type 0
 IsStayOf line attr = (s : Stay) × Says line (OfStay s) × (s.attr ≡ attr)
 

@@ -9,6 +9,7 @@ use Rattle.span_text.specs.declared.limits.TheConstants.{WHOLE_DIGITS}
 abbrev pub parts : ℕ → List ℕ → List (List ℕ)
 parts end text = slice_split (λ b. b == end) text
 
+-- the words of a line, cut at each single space
 abbrev pub words : List ℕ → List (List ℕ)
 words line = parts space line
 

@@ -14,7 +14,8 @@ use cert_core::{Best, Conflict, Path};
 use problem_core::{Quantity, Values};
 
 /// What is claimed of a problem: that values are best, with a certificate; that its required rows are in
-/// conflict; or that a path from corner to corner is lawful, and a quantity doesn't fit at its end.
+/// conflict; or that a path from corner to corner is lawful, and where a quantity is named, that it doesn't
+/// fit at the path's end.
 #[derive(Drop)]
 pub enum Claim {
     IsBest { values: Values, best: Best },

@@ -22,6 +22,7 @@ pub(crate) fn next_number(words: &mut Words, least: u64, most: u64) -> Option<u6
     natural(word, least, most)
 }
 
+/// The fraction that the next word writes, if it is in the form.
 pub(crate) fn next_fraction(words: &mut Words) -> Option<Frac>
     ensures some { IfSome result (λ f. IsKept f × (words.old ≡ fraction_text f ∷ words.new)) }
     ensures none { IfNone result ((f : Fraction) (more : List (List ℕ)) → IsKept f
@@ -47,6 +48,7 @@ fn relation(word: &[u8]) -> Option<Rel>
     }
 }
 
+/// The relation that the next word writes, if it is one.
 pub(crate) fn next_relation(words: &mut Words) -> Option<Rel>
     ensures some { IfSome result (λ r. words.old ≡ rel_word r ∷ words.new) }
     ensures none { IfNone result ((r : Rel) (more : List (List ℕ)) → words.old ≡ rel_word r ∷ more → ⊥) }

@@ -7,6 +7,7 @@ use Rattle.problem_core.specs.declared.parts.Stay.{Stay}
 use Rattle.problem_core.specs.Layout.{Problem, Row}
 use Rattle.problem_core.specs.Window.{structural_rows, zero_fraction}
 
+-- the stay of this attribute, at 0
 abbrev pub zero_stay : ℕ → Stay
 zero_stay attr = record { attr = attr; target = zero_fraction }
 
@@ -51,8 +52,10 @@ lone_row n = record {
   terms = record { attr = 1; by = pos 1 } ∷ [];
 }
 
+-- the problem of that row, with attribute 1 at 0 before
 abbrev pub lone : ℤ → Problem
 lone n = record { rows = lone_row n ∷ []; stays = zero_stay 1 ∷ [] }
 
+-- the problem of no row, with attribute 1 at 0 before
 abbrev pub bare : Problem
 bare = record { rows = []; stays = zero_stay 1 ∷ [] }

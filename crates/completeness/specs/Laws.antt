@@ -66,7 +66,8 @@ abbrev pub ProbesAreAnswered : Type 0
 ProbesAreAnswered = (old : State) (reply : Reply) (new : State) → HasRoomToProbe old
     → MeaningStep old mean.Diagnose reply new → Finds old reply new
 
--- a blank line or a comment, a question, `undo` with an earlier scene, a budget within its limits
+-- a blank line or a comment, a question other than `diagnose`, `undo` with an earlier scene, a budget within
+-- its limits
 abbrev pub NeedsNoRoom : State → Meaning → Type 0
 NeedsNoRoom old mean.Nothing = Unit {0}
 NeedsNoRoom old mean.Undo = old.earlier ≢ []

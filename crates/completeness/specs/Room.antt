@@ -58,7 +58,7 @@ probe_problem scene attr f = with_probe (layout_in scene) attr f
 abbrev pub value_in : Scene → ℕ → Fraction
 value_in scene attr = value_of scene.values attr
 
--- the attribute has a stay, and f is its value and 1, or less 1
+-- the attribute has a stay, and f, which is in lowest terms and fits, is its value and 1, or less 1
 pub record IsProbed (scene : Scene) (attr : ℕ) (f : Fraction) : Type 0 where
   pub stays : HasStay scene.stays attr
   pub kept : IsKept f

@@ -37,6 +37,7 @@ free_state = state_of [] [] zero_fraction
 abbrev pub far_state : State
 far_state = state_of [] [] (record { num = pos (PART_BOUND - 1); den = 1 })
 
+-- the row that attribute 1 is 0, of the least priority, as its line is compiled
 abbrev pub lone_form : RowForm
 lone_form = record {
   id = 1;

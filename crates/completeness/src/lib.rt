@@ -4,6 +4,9 @@
 //! Each law is the contract of a function that does nothing; its statement stands in `specs/` under the
 //! function's name.
 //!
+//! What holds of each law: the room that it speaks of is room for numbers and exchanges, never for memory;
+//! the machine of `session_undo` has no reply to want of memory.
+//!
 //! ```
 //! pub fn large_budgets_are_never_spent()        // no run uses up a budget of at least 4^N
 //!     ensures { LargeBudgetsAreNeverSpent }

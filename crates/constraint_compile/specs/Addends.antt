@@ -20,6 +20,7 @@ pub record Addend : Type 0 where
 abbrev pub addend : List LiveView → Term → Addend
 addend views t = record { share = (λ v. share views v t); part = meaning.part t }
 
+-- what the terms add, in order
 abbrev pub addends : List LiveView → List Term → List Addend
 addends views terms = map (addend views) terms
 
@@ -37,21 +38,25 @@ with_addend b a v = plus (b v) (a.share v)
 
 -- ---- as the code has them
 
+-- how often the addend has each attribute
 abbrev pub share_in : declared_addend.Addend → ℕ → Fraction
 share_in (code.Attr s) = share_fraction s
 share_in (code.Number by) = λ v. zero_fraction
 share_in (code.Multiple by name) = λ v. zero_fraction
 share_in code.Nothing = λ v. zero_fraction
 
+-- what the addend adds to the constant
 abbrev pub part_in : declared_addend.Addend → Part
 part_in (code.Attr s) = Nothing
 part_in (code.Number by) = Number by
 part_in (code.Multiple by name) = Multiple by name.now
 part_in code.Nothing = Nothing
 
+-- what the addend adds in all
 abbrev pub addend_view : declared_addend.Addend → Addend
 addend_view a = record { share = share_in a; part = part_in a }
 
+-- what the addends add, in order
 abbrev pub addends_view : List declared_addend.Addend → List Addend
 addends_view added = map addend_view added
 

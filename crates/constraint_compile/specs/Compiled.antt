@@ -32,6 +32,7 @@ pub record RowForm : Type 0 where
   pub terms : List Term
   pub steps : List Step
 
+-- the rows of a line, and the numbers of the views that its text names
 pub record CompiledLine : Type 0 where
   pub rows : List RowForm
   pub views : List ℕ

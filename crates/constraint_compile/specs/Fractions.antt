@@ -6,12 +6,15 @@ use Rattle.problem_core.specs.Window.{zero_fraction}
 use Rattle.problem_core.specs.declared.limits.TheConstants.{COEFFICIENT_LIMIT}
 use Rattle.constraint_compile.specs.declared.limits.TheConstants.{CONSTANT_LIMIT}
 
+-- the sum, over the product of the denominators
 abbrev pub plus : Fraction → Fraction → Fraction
 plus f g = record { num = f.num *ℤ pos g.den +ℤ g.num *ℤ pos f.den; den = f.den * g.den }
 
+-- the product of the numerators over that of the denominators
 abbrev pub times : Fraction → Fraction → Fraction
 times f g = record { num = f.num *ℤ g.num; den = f.den * g.den }
 
+-- the fraction with the other sign
 abbrev pub negated : Fraction → Fraction
 negated f = record { num = neg_ℤ f.num; den = f.den }
 

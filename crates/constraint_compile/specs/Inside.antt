@@ -11,6 +11,7 @@ use Rattle.constraint_compile.specs.Meaning.{IsWeight}
 use Rattle.constraint_compile.specs.Keeps.{steps_view, AreScalesKept}
 use Rattle.constraint_compile.specs.declared.compiled.RowForm.{RowForm}
 
+-- a row without its constant, with the names of the metrics in its steps
 abbrev pub form_view : RowForm → compiled.RowForm
 form_view r = record {
   id = r.id;
@@ -27,9 +28,11 @@ IsRowWith form constant row = (row.id ≡ form.id) × (row.rank ≡ form.rank) �
     × (row.rel ≡ form.rel) × (row.scale ≡ compiled.last_scale (form_view form).steps)
     × (row.terms ≡ form.terms.items) × (row.constant ≡ constant)
 
+-- the line of these rows and these views
 abbrev pub compiled_line : List RowForm → List ViewId → compiled.CompiledLine
 compiled_line rows views = record { rows = map form_view rows; views = map (λ v. v.0) views }
 
+-- what each row of a compiled line keeps, whatever its constant
 pub record IsForm (r : RowForm) : Type 0 where
   pub number : (0 < r.id) × (r.id < NUMBER_LIMIT)
   pub rank : r.rank ≤ REQUIRED
@@ -39,5 +42,6 @@ pub record IsForm (r : RowForm) : Type 0 where
   pub count : length r.terms.items ≤ TERM_LIMIT
   pub scales : AreScalesKept r.steps.items
 
+-- the same of each of the rows
 abbrev pub AreForms : List RowForm → Type 0
 AreForms rows = All IsForm rows

@@ -26,11 +26,12 @@ MetricList = List (List ℕ × Fraction)
 
 -- ---- attributes
 
--- so many times the edge, and so many times the size, of a view along one direction
+-- so many times the left, and so many times the width, of a view
 abbrev pub horizontal : ℕ → ℕ → ℕ → List Term
 horizontal view edge size = record { attr = left_of view; by = pos edge }
     ∷ record { attr = width_of view; by = pos size } ∷ []
 
+-- so many times the top, and so many times the height, of a view
 abbrev pub vertical : ℕ → ℕ → ℕ → List Term
 vertical view edge size = record { attr = top_of view; by = pos edge }
     ∷ record { attr = height_of view; by = pos size } ∷ []
@@ -62,6 +63,7 @@ HasDenominator t = 0 < t.by.den
 abbrev pub terms_of : Linear → List mean.Term
 terms_of l = l.left ++ map minus l.right
 
+-- how often so many times an attribute of the view has the attribute v; 0 where there is no view
 abbrev pub share_in : Option LiveView → Fraction → AttrWord → ℕ → Fraction
 share_in None by word v = zero_fraction
 share_in (Some view) by word v = record {
@@ -75,6 +77,7 @@ share_of views v by (mean.Attr name word) = share_in (view_named views name) by 
 share_of views v by (mean.Metric name) = zero_fraction
 share_of views v by mean.One = zero_fraction
 
+-- how often the term has the attribute v
 abbrev pub share : List LiveView → ℕ → mean.Term → Fraction
 share views v t = share_of views v t.by t.of
 
@@ -90,18 +93,22 @@ pub data Part : Type 0 where
   Number : Fraction → Part
   Multiple : Fraction → List ℕ → Part
 
+-- what so many times an operand adds to the constant
 abbrev pub part_of : Fraction → Operand → Part
 part_of by (mean.Attr name word) = Nothing
 part_of by (mean.Metric name) = Multiple by name
 part_of by mean.One = Number by
 
+-- what the term adds to the constant
 abbrev pub part : mean.Term → Part
 part t = part_of t.by t.of
 
+-- so many times the metric's value, and 0 where there is no metric
 abbrev pub value_in : Option Fraction → Fraction → Fraction
 value_in None by = zero_fraction
 value_in (Some value) by = times by value
 
+-- what the part adds to the constant for these metrics
 abbrev pub part_value : MetricList → Part → Fraction
 part_value metrics Nothing = zero_fraction
 part_value metrics (Number by) = by
@@ -117,6 +124,7 @@ constant_sum metrics parts = total (part_value metrics) parts
 abbrev pub is_named : List LiveView → MetricList → List ℕ → Bool
 is_named views metrics name = is_some (view_named views name) || is_some (value_of metrics name)
 
+-- the name, unless the fact holds
 abbrev pub unless : Bool → List ℕ → Option (List ℕ)
 unless true name = None
 unless false name = Some name
@@ -127,18 +135,19 @@ unknown_in views metrics (mean.Attr name word) = unless (is_some (view_named vie
 unknown_in views metrics (mean.Metric name) = unless (is_named views metrics name) name
 unknown_in views metrics mean.One = None
 
+-- the name in an object or a priority that is no view's and no metric's
 abbrev pub unknown_object : List LiveView → MetricList → Option Meant → Option (List ℕ)
 unknown_object views metrics (Some (object.Name name)) = unless (is_named views metrics name) name
 unknown_object views metrics (Some (object.Number z)) = None
 unknown_object views metrics None = None
 
--- the first such name among the terms
+-- the first name in the terms that must be a view's or a metric's, and isn't
 abbrev pub unknown_among : List LiveView → MetricList → List mean.Term → Option (List ℕ)
 unknown_among views metrics [] = None
 unknown_among views metrics (t ∷ ts) = option_or (unknown_in views metrics t.of)
     (unknown_among views metrics ts)
 
--- the first such name in the line
+-- the first such name in the terms and the priority of the line
 abbrev pub first_unknown : List LiveView → MetricList → Linear → Option (List ℕ)
 first_unknown views metrics l = option_or (unknown_among views metrics (terms_of l))
     (unknown_object views metrics l.priority)
@@ -149,6 +158,7 @@ is_view_number views (mean.Attr name word) = false
 is_view_number views (mean.Metric name) = is_some (view_named views name)
 is_view_number views mean.One = false
 
+-- in one of the terms a view stands for a number
 abbrev pub has_view_number : List LiveView → List mean.Term → Bool
 has_view_number views terms = list_any (λ t. is_view_number views t.of) terms
 
@@ -156,6 +166,7 @@ has_view_number views terms = list_any (λ t. is_view_number views t.of) terms
 abbrev pub IsPriority : ℕ → Type 0
 IsPriority r = (0 < r) × (r ≤ REQUIRED)
 
+-- w is a weight that a row may have: from 1 up to the limit
 abbrev pub IsWeight : ℕ → Type 0
 IsWeight w = (0 < w) × (w ≤ WEIGHT_LIMIT)
 

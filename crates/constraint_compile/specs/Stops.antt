@@ -22,6 +22,7 @@ use Rattle.constraint_compile.specs.declared.limits.TheConstants.{ADDEND_LIMIT}
 abbrev pub AreKnown : List LiveView → MetricList → Linear → Type 0
 AreKnown views metrics l = first_unknown views metrics l ≡ None
 
+-- the line's priority stands for a rank
 abbrev pub HasRank : List LiveView → MetricList → Linear → Type 0
 HasRank views metrics l = (rank : ℕ) × IsRank views metrics l.priority rank
 
@@ -41,7 +42,7 @@ IsWrongNamed has_number rank l word = (views : List LiveView) (metrics : MetricL
     → has_number ≡ has_view_number views (terms_of l) → IfSome rank (IsRank views metrics l.priority)
     → IfNone rank (HasRank views metrics l → ⊥) → IsWrongUse views metrics l word
 
--- no use in the line is wrong
+-- each name of the line is known, and no use in it is wrong
 pub record IsUsable (views : List LiveView) (metrics : MetricList) (l : Linear) : Type 0 where
   pub known : AreKnown views metrics l
   pub numbers : has_view_number views (terms_of l) ≡ false

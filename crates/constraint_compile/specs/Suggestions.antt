@@ -19,6 +19,7 @@ use Rattle.constraint_compile.specs.declared.stops.KindWord.TheVariants as kind
 use Rattle.constraint_compile.specs.declared.suggestion.Suggestion.{Suggestion}
 use Rattle.constraint_compile.specs.declared.suggestion.TheConstants.{USUAL_RANK}
 
+-- so many times the attribute of this number
 abbrev pub one_term : ℕ → ℕ → Term
 one_term attr by = record { attr = attr; by = pos by }
 
@@ -60,6 +61,7 @@ with_terms s terms = record {
   terms = terms;
 }
 
+-- the row of a suggestion: its attribute, so many times as makes its halves whole, is the constant
 abbrev pub suggested_row : Suggestion → Row
 suggested_row s = with_terms s (suggested_terms s.view s.word)
 

@@ -66,6 +66,7 @@ pub(crate) fn constant_now(form: &RowForm, metrics: &Metrics) -> Option<Frac>
     constant_after(metrics, &form.names, &form.steps)
 }
 
+// The row for these metrics, unless its constant is past the limit after a step.
 fn row_now(alloc: Global, form: &RowForm, metrics: &Metrics) -> Result<Option<Row>, OutOfMemory>
     requires { IsForm form.now }
     ensures row { IfOk result (λ o. IfSome o (IsRowNow metrics.now (form_view form.now))) }
@@ -79,6 +80,7 @@ fn row_now(alloc: Global, form: &RowForm, metrics: &Metrics) -> Result<Option<Ro
     Ok(Some(with_constant(alloc, form, constant)?))
 }
 
+// The rows for these metrics, in order, unless the constant of one is past the limit after a step.
 fn rows_of(
     alloc: Global,
     forms: &[RowForm],
@@ -100,6 +102,7 @@ fn rows_of(
     Ok(Some(rows))
 }
 
+// The rows' constants for these metrics, in order, unless one is past the limit after a step.
 fn constants_of(
     alloc: Global,
     forms: &[RowForm],

@@ -4,6 +4,7 @@ pub(crate) mod ratios;
 ghost use Rattle.std.specs.Prelude.{◌≡◌, ◌^◌, ◌<◌, ◌≤◌, ◌+◌, ◌*◌, ◌+ℤ◌, ◌*ℤ◌, ◌<ℤ◌, pos, unsigned_abs};
 ghost use Prim.Native.Nat.{◌∣◌};
 
+/// The product of two numbers below 2^44 in size, which is below 2^88 in size.
 pub(crate) fn product(x: i64, y: i64) -> i128
     requires x { unsigned_abs x < 2 ^ 44 }
     requires y { unsigned_abs y < 2 ^ 44 }
@@ -13,6 +14,7 @@ pub(crate) fn product(x: i64, y: i64) -> i128
     i128::from(x) * i128::from(y)
 }
 
+/// The sum of two numbers below 2^125 in size.
 pub(crate) fn total(x: i128, y: i128) -> i128
     requires x { unsigned_abs x < 2 ^ 125 }
     requires y { unsigned_abs y < 2 ^ 125 }

@@ -26,6 +26,7 @@ IsUnfitStop p marks (Refused (Rows level j)) = ⊥
 IsUnfitStop p marks (Refused (Shifts what j)) = ⊥
 IsUnfitStop p marks NoMemory = Unit {0}
 
+-- the scene of now
 abbrev pub scene_of : CornerView → Scene
 scene_of v = record { problem = v.problem; marks = v.marks }
 
@@ -54,6 +55,7 @@ FromAdded p kept rows rest at = (joined : List Row) × (joined ++ rest ≡ rows)
     × BeginsWith p kept joined rest at
     × (at ≡ in_order p at)
 
+-- the problem with these rows behind its own
 abbrev pub with_rows : Problem → List Row → Problem
 with_rows p rows = record { rows = p.rows ++ rows; stays = p.stays }
 
@@ -67,7 +69,7 @@ IsAddStop old rows (Unfit at) = IsPartial at.quantity
     (FromAdded (with_rows old.problem rows) old.marks rows) 0 (Unfit at)
 IsAddStop old rows OutOfMemory = Unit {0}
 
--- the quantity, with the path to where these rows are still to join
+-- want of memory, or the quantity, with the path to where these rows are still to join
 abbrev pub IsPathStop : Lists → List Row → TableStop → RunStop → Type 0
 IsPathStop t rest stop (Conflict by) = ⊥
 IsPathStop t rest stop (Spent path) = ⊥
@@ -75,6 +77,7 @@ IsPathStop t rest stop (Unfit at) = (stop ≡ Refused at.quantity)
     × (at.path ≡ record { dual = false; corner = marks_over t rest; swaps = [] })
 IsPathStop t rest stop OutOfMemory = Unit {0}
 
+-- the problem with an attribute more, whose stay is the last one
 abbrev pub with_attr : Problem → ℕ → Fraction → Problem
 with_attr p attr target = record {
   rows = p.rows;

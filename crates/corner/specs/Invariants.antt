@@ -12,6 +12,7 @@ use Rattle.corner.specs.Tables.{Lists, lists_of, marks_at, problem_of, scene_at,
 use Rattle.corner.specs.Kept.{IsKept, IsSlot}
 use Rattle.corner.specs.Histories.{AreAlike, lists_before}
 
+-- a line's name, of an attribute that of its stay, and of all else that of row 0, which is no row's
 abbrev pub name_of : Owner → RowName
 name_of LevelSlot = Held 0
 name_of (AttrSlot attr) = StayOf attr
@@ -25,6 +26,7 @@ names_of t slots = map (λ w. name_of (slot_at t w).owner) slots
 abbrev pub order_of : Lists → List Owner
 order_of t = map (λ s. s.owner) (drop LEVELS t.slots)
 
+-- what is seen of the corner that the table keeps, where these slots are listed
 abbrev pub view_of : Table → List ℕ → CornerView
 view_of t listed = record {
   problem = problem_of (lists_of t);

@@ -48,6 +48,7 @@ pub record IsLineSlot (t : Lists) (l : Line) : Type 0 where
   pub scale : (slot_at t (line_slot t l.name)).scale ≡ pos l.scale
   pub rel : (slot_at t (line_slot t l.name)).rel ≡ l.rel
 
+-- the attribute has a slot, which says that it is the attribute's
 pub record IsAttrSlot (t : Lists) (attr : ℕ) : Type 0 where
   pub slot : IsSlot t (attr_slot t attr)
   pub owner : (slot_at t (attr_slot t attr)).owner ≡ AttrSlot attr
@@ -82,6 +83,7 @@ pub record AreStored (t : Lists) : Type 0 where
   pub few : length t.slots < 2 ^ 32
   pub empty : (w : ℕ) → LEVELS ≤ w → (slot_at t w).owner ≡ LevelSlot → row_at t w ≡ []
 
+-- what the slot is of is a stay's line
 abbrev pub IsStayOwner : Owner → Type 0
 IsStayOwner LevelSlot = ⊥
 IsStayOwner (AttrSlot attr) = ⊥
@@ -114,6 +116,7 @@ IsLineRow t name (Some side) = IsEquationAt t (deviation name) (line_slot t name
 IsLineRow t name None = (row_at t (line_slot t name) ≡ [])
     × ((standing_at t (line_slot t name)).value ≡ zero_fraction)
 
+-- the attribute's row and its value are an equation of it
 abbrev pub IsAttrRow : Lists → ℕ → Type 0
 IsAttrRow t attr = IsEquationAt t (λ x. x (attr_column attr)) (attr_slot t attr)
     (standing_at t (attr_slot t attr)).value.num (standing_at t (attr_slot t attr)).value.den

@@ -42,6 +42,7 @@ pub record Lists : Type 0 where
   pub row_slots : List ℕ
   pub priorities : List priority_type.Priority
 
+-- the lists as they are now
 abbrev pub lists_of : Table → Lists
 lists_of t = record {
   rows = t.rows.items;
@@ -56,6 +57,7 @@ lists_of t = record {
 
 -- ---- by slot
 
+-- what the slot says; past the last one it is of nothing
 abbrev pub slot_at : Lists → ℕ → Slot
 slot_at t w = slice_index_or t.slots w (record {
   owner = LevelSlot;
@@ -65,12 +67,15 @@ slot_at t w = slice_index_or t.slots w (record {
   rel = Eq;
 })
 
+-- the slot's side, if it is an inside line's, and its value; past the last one no side, and 0
 abbrev pub standing_at : Lists → ℕ → Standing
 standing_at t w = slice_index_or t.standings w (record { side = None; value = zero_fraction })
 
+-- the unit of a level's cost, and how many rows the level has; past the last level 1 and none
 abbrev pub priority_at : Lists → ℕ → priority_type.Priority
 priority_at t k = slice_index_or t.priorities k (record { unit = pos 1; rows = 0 })
 
+-- the slot's row, with nothing in it past the last slot
 abbrev pub row_at : Lists → ℕ → List Term
 row_at t w = slice_index_or t.matrix w []
 
@@ -91,6 +96,7 @@ pub record IsListedOf (w : ℕ) (row : List Term) (old new : List ℕ) : Type 0 
 
 -- ---- by name
 
+-- the slot that is listed for the attribute, 0 where none is
 abbrev pub attr_slot : Lists → ℕ → ℕ
 attr_slot t attr = slice_index_or t.attr_slots attr 0
 
@@ -104,6 +110,7 @@ abbrev pub level_slot : Lists → Level → ℕ
 level_slot t (Priority rank) = rank_level rank
 level_slot t (StayLevel attr) = attr_slot t attr + 1
 
+-- the slot of an attribute, of a mark's line, or of a level's cost
 abbrev pub what_slot : Lists → What → ℕ
 what_slot t (AttrOf attr) = attr_slot t attr
 what_slot t (MarkOf m) = line_slot t m.row
@@ -114,21 +121,25 @@ what_slot t (LevelOf level) = level_slot t level
 abbrev pub number : Lists → ℕ → RowName → ℤ
 number t w name = cond (nat_eq (line_slot t name) w) (pos 0) (neg_ℤ (entry t w (line_slot t name)))
 
+-- both are under, or both are over
 abbrev pub same_side : Side → Side → Bool
 same_side Under Under = true
 same_side Under Over = false
 same_side Over Under = false
 same_side Over Over = true
 
+-- there is a side, and it is this one
 abbrev pub is_side : Option Side → Side → Bool
 is_side None s = false
 is_side (Some t) s = same_side t s
 
+-- it is a mark of the line
 abbrev pub IsOfLine : What → RowName → Type 0
 IsOfLine (AttrOf attr) name = ⊥
 IsOfLine (MarkOf m) name = m.row ≡ name
 IsOfLine (LevelOf level) name = ⊥
 
+-- 1 or -1
 abbrev pub IsSign : ℤ → Type 0
 IsSign z = (z ≡ pos 1) ⊎ (z ≡ neg_ℤ (pos 1))
 
@@ -144,9 +155,11 @@ stands_in t m = is_side (standing_at t (line_slot t m.row)).side m.side
 
 -- ---- what they stand for
 
+-- the problem of the lists' rows and stays
 abbrev pub problem_of : Lists → Problem
 problem_of t = record { rows = t.rows; stays = t.stays }
 
+-- the marks inside, in the order of the lines
 abbrev pub marks_at : Lists → List Mark
 marks_at t = filter (stands_in t) (marks_of (lines (problem_of t)))
 
@@ -157,9 +170,11 @@ inside_of t (name ∷ names) =
     filter (stands_in t) (record { row = name; side = Under } ∷ record { row = name; side = Over } ∷ [])
     ++ inside_of t names
 
+-- the rows' names, in their order
 abbrev pub row_names : Lists → List RowName
 row_names t = map (λ r. Held r.id) t.rows
 
+-- the stays' names, in their order
 abbrev pub stay_names : Lists → List RowName
 stay_names t = map (λ s. StayOf s.attr) t.stays
 
@@ -168,5 +183,6 @@ abbrev pub marks_over : Lists → List Row → List Mark
 marks_over t rest = inside_of t (row_names t)
     ++ (map (λ r. over_mark r.id) rest ++ inside_of t (stay_names t))
 
+-- the problem of the lists, with the marks inside
 abbrev pub scene_at : Lists → Scene
 scene_at t = record { problem = problem_of t; marks = marks_at t }

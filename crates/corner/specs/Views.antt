@@ -38,6 +38,7 @@ pub record CornerView : Type 0 where
 
 -- ---- what is kept
 
+-- the column c is that of one of the marks
 abbrev pub is_mark : List Mark → ℕ → Bool
 is_mark [] c = false
 is_mark (m ∷ ms) c = cond (nat_eq (place m) c) true (is_mark ms c)
@@ -54,9 +55,11 @@ pub record IsKeptCorner (p : Problem) (at : List Mark) : Type 0 where
   pub rays : HasRays p at
   pub fits : (what : What) → IsUnfitWhat p at what → ⊥
 
+-- the mark is one of the problem's
 abbrev pub IsMarkOf : Problem → Mark → Type 0
 IsMarkOf p m = Contains (map place (marks_of (lines p))) (place m)
 
+-- the mark is one of the problem's, and isn't inside
 abbrev pub IsOutside : Problem → List Mark → Mark → Type 0
 IsOutside p at m = IsMarkOf p m × (IsIn (place m) at → ⊥)
 
@@ -85,6 +88,7 @@ IsColumnOf p at (Attr attr) c = HasStay p.stays attr × (c ≡ attr_column attr)
 IsColumnOf p at (MarkOf m) c = IsIn (place m) at × (c ≡ place m)
 IsColumnOf p at (LevelOf level) c = ⊥
 
+-- an attribute with a stay, or a mark inside
 abbrev pub IsWritten : Problem → List Mark → What → Type 0
 IsWritten p at what = (c : ℕ) × IsColumnOf p at what c
 
@@ -93,6 +97,7 @@ abbrev pub MovesWith : Problem → List Mark → Mark → What → Type 0
 MovesWith p at m what = (c : ℕ) × IsColumnOf p at what c
     × ((ray : ℕ → ℤ) × IsRay p at (place m) ray × (ray c ≢ pos 0))
 
+-- what its slot is of: the attribute, the mark's line, or a level
 abbrev pub owner_of : What → Owner
 owner_of (Attr attr) = AttrSlot attr
 owner_of (MarkOf m) = LineSlot m.row
@@ -110,9 +115,11 @@ HasWriting p at what Has = (c : ℕ) × IsColumnOf p at what c
     × ((scale : ℕ) × (form : List Term) × (value : Fraction)
     × IsWritingOf p at (λ x. x c) scale form value.num value.den × Has scale form)
 
+-- z is the scale of its writing
 abbrev pub IsScaleOf : Problem → List Mark → What → ℤ → Type 0
 IsScaleOf p at what z = HasWriting p at what (λ scale form. z ≡ pos scale)
 
+-- z is the mark's coefficient in its writing
 abbrev pub IsCoefficientOf : Problem → List Mark → What → Mark → ℤ → Type 0
 IsCoefficientOf p at what m z = HasWriting p at what (λ scale form. z ≡ coefficient (place m) form)
 
@@ -124,6 +131,7 @@ HasNumbers p at level Have = (k : ℕ) × IsLevelAt p level k
     × ((scale : ℕ) × (times : RowName → ℤ) × (reduced : ℕ → ℤ) × IsLevelWriting p at k scale times reduced
     × Have scale times reduced)
 
+-- z is the mark's reduced cost in the writing of the level's cost
 abbrev pub IsReducedAt : Problem → List Mark → Level → Mark → ℤ → Type 0
 IsReducedAt p at level m z = HasNumbers p at level (λ scale times reduced. z ≡ reduced (place m))
 

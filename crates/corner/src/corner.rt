@@ -69,7 +69,7 @@ use std::alloc::Global;
 use std::marker::Model;
 
 /// A problem and the marks inside at one of its corners, with earlier ones. How they are kept is not seen:
-/// all that can be asked follows from these two.
+/// each value, writing and cost follows from these two.
 #[derive(Drop)]
 pub struct Corner {
     table: Table,

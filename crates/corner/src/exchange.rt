@@ -64,6 +64,7 @@ struct Pivot {
     value: Frac,
 }
 
+// The stop of what does not fit.
 fn unfit(what: What) -> TableStop
     ensures { result ≡ Refused (Plain what) }
 {
@@ -650,7 +651,7 @@ fn put_row(table: &mut Table, at: u32, row: IntRow) -> Result<(), OutOfMemory>
     table.matrix.put(at, row)
 }
 
-// Puts a value in place of a slot's, where it is another.
+/// Puts a value in place of a slot's, where it is another.
 pub(crate) fn put_value(table: &mut Table, at: u32, value: Frac) -> Result<(), OutOfMemory>
     requires slots { AreSlots (lists_of table.old) }
     requires within { at < length table.old.slots.items }

@@ -190,7 +190,7 @@ fn more_row(table: &Table, at: u32, sum: &IntRow, term: Term) -> Result<IntRow, 
     combine_but(table.alloc, sum, table.matrix.row(a), factors, but)
 }
 
-// The sum of a row's first terms, with the row over.
+// The stop that names the sum of a row's first terms, with the row over.
 fn terms_stop(id: u32, first: usize) -> TableStop
     requires { first < 2 ^ 32 }
     ensures { result ≡ Refused (Terms (over_mark id) first) }
@@ -315,6 +315,7 @@ fn standing_of(deviation: Frac) -> Standing
     }
 }
 
+// What a row's slot says.
 fn slot_of(row: &Row) -> Slot
     requires { IsRow row.now }
     ensures { result ≡ slot_of_row row.now }
@@ -328,6 +329,7 @@ fn slot_of(row: &Row) -> Slot
     }
 }
 
+// An equal row.
 fn copy_of(row: &Row) -> Result<Row, OutOfMemory>
     ensures { IfOk result (λ copy. copy ≡ row.now) }
 {
@@ -536,7 +538,7 @@ fn in_unit(
     divided(table, &row, l, times, stop)
 }
 
-// The number of rows of the line's level when it has joined, of which it is the last.
+// The stop that names the cost of the first rows of the line's level, of which there are so many.
 fn rows_stop(slot: Slot, rows: u32) -> TableStop
     requires { slot.home ≤ REQUIRED }
     ensures { result ≡ Refused (Rows (PriorityLevel (REQUIRED - slot.home)) rows) }

@@ -270,7 +270,7 @@ fn does_left_fit(table: &Table, leaver: Leaver, unit: i64, row: &IntRow) -> bool
     do_others_fit(table, draft, leaver.id, row)
 }
 
-// The cost of the level.
+// The stop that names the cost of the level.
 fn level_stop(level: u32) -> TableStop
     requires { level ≤ REQUIRED }
     ensures { result ≡ Refused (Plain (LevelOf (PriorityLevel (REQUIRED - level)))) }

@@ -161,6 +161,7 @@ fn has_cost(table: &Table, w: u32) -> bool
     is_level(w) || is_stay(table, w)
 }
 
+// The front with this reduced cost at the level of a slot.
 fn front_at(table: &Table, l: u32, reduced: i64) -> Front
     requires kept { IsKept (lists_of table.now) }
     requires within { l < length table.now.slots.items }

@@ -27,6 +27,7 @@ fn push_inside(table: &Table, row: RowName, out: &mut Vec<Mark>) -> Result<(), O
     Ok(())
 }
 
+// Puts the inside marks of the rows behind the others.
 fn push_rows(table: &Table, out: &mut Vec<Mark>) -> Result<(), OutOfMemory>
     requires slots { AreSlots (lists_of table.now) }
     ensures { OnOk result (out.new.items ≡ out.old.items ++ inside_of (lists_of table.now)
@@ -38,6 +39,7 @@ fn push_rows(table: &Table, out: &mut Vec<Mark>) -> Result<(), OutOfMemory>
     Ok(())
 }
 
+// Puts the inside marks of the stays behind the others.
 fn push_stays(table: &Table, out: &mut Vec<Mark>) -> Result<(), OutOfMemory>
     requires slots { AreSlots (lists_of table.now) }
     ensures { OnOk result (out.new.items ≡ out.old.items ++ inside_of (lists_of table.now)
@@ -62,8 +64,8 @@ fn push_over(rows: &[Row], out: &mut Vec<Mark>) -> Result<(), OutOfMemory>
     Ok(())
 }
 
-/// The marks inside with the over marks of the rows that are still to join, by row number with the stays
-/// last.
+/// The marks inside of the rows, the over marks of these rows, which are still to join, and the marks inside
+/// of the stays.
 pub(crate) fn marks_with(table: &Table, rest: &[Row]) -> Result<Vec<Mark>, OutOfMemory>
     requires slots { AreSlots (lists_of table.now) }
     ensures { IfOk result (λ marks. marks.items ≡ marks_over (lists_of table.now) rest.now) }

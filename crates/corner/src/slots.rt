@@ -59,7 +59,7 @@ pub(crate) fn line_slot(table: &Table, row: RowName) -> u32
     }
 }
 
-/// The slot of an attribute, or of an inside mark's line.
+/// The slot of an attribute, of a mark's line, or of a level's cost.
 pub(crate) fn what_slot(table: &Table, what: What) -> u32
     requires slots { AreSlots (lists_of table.now) }
     requires what { IsHeld (problem_of (lists_of table.now)) what }
@@ -295,7 +295,7 @@ pub(crate) fn put_number(
     slots.put(number as usize, slot)
 }
 
-/// The name of the line of a slot.
+/// The name of a slot's line, of an attribute's slot that of its stay, and of all else that of row 0.
 pub(crate) fn name_at(table: &Table, w: u32) -> RowName
     requires { w < length table.now.slots.items }
     ensures { result ≡ invariants.name_of (tables.slot_at (lists_of table.now) w).owner }

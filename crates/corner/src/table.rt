@@ -96,6 +96,7 @@ pub(crate) fn new_table(alloc: Global) -> Result<Table, OutOfMemory>
     Ok(table)
 }
 
+// Puts the slot of a level behind the last one, with no row.
 fn push_level(table: &mut Table, level: u32) -> Result<(), OutOfMemory>
     requires room { length table.old.matrix.rows < 2 ^ 32 }
     ensures past { HasSameHistory table.old table.new }

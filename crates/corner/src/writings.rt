@@ -208,7 +208,7 @@ fn is_of_line(what: What, row: RowName) -> bool
     }
 }
 
-// The number with another sign where the product of the two is below 0.
+// The number, with the other sign where the two signs are the same.
 fn turned(by: i64, a: i64, b: i64) -> i64
     requires by { IsFitting by }
     requires a { IsSign a }

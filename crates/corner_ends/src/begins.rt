@@ -64,6 +64,7 @@ fn push_line(
     push_mark(c, swaps, mark_at(row, Side::Over), out)
 }
 
+// Puts the marks of the rows behind the others that were inside the first corner.
 fn push_rows(c: &Corner, swaps: &[Swap], out: &mut Vec<Mark>) -> Result<(), OutOfMemory>
     ensures { OnOk result ((first : List MarkOfLine) → HasExchanged first swaps.now c.now.marks
         → out.new.items ≡ out.old.items ++ lines_among first (map (λ r. Held r.id) c.now.problem.rows)) }
@@ -74,6 +75,7 @@ fn push_rows(c: &Corner, swaps: &[Swap], out: &mut Vec<Mark>) -> Result<(), OutO
     Ok(())
 }
 
+// Puts the marks of the stays behind the others that were inside the first corner.
 fn push_stays(c: &Corner, swaps: &[Swap], out: &mut Vec<Mark>) -> Result<(), OutOfMemory>
     ensures { OnOk result ((first : List MarkOfLine) → HasExchanged first swaps.now c.now.marks
         → out.new.items ≡ out.old.items ++ lines_among first (map (λ s. StayOf s.attr) c.now.problem.stays)) }

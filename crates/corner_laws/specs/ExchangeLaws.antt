@@ -38,8 +38,8 @@ PrimalChoiceStays = (p : Problem) (at : List Mark) (s : Swap) (w : Writings) →
     → IsMarkAt p (place s.enter) → (IsIn (place s.enter) at → ⊥) → IsIn (place s.leave) at
     → AreWritings p at w → IsPrimalChoice at s w → NoNegativeValue p at → NoNegativeValue p (exchanged s at)
 
--- the dual ratio rule: where the mark with the least column over its number in the leaving mark's row enters,
--- no column is negative at the next corner
+-- the dual ratio rule: where the mark enters that has the least column over the size of its number in the
+-- leaving mark's row, no column is negative at the next corner
 abbrev pub ColumnsStay : Type 0
 ColumnsStay = (p : Problem) (at : List Mark) (s : Swap) (scale : ℕ → ℕ) (times : ℕ → RowName → ℤ)
     (reduced : ℕ → ℕ → ℤ) (row : RowName → ℤ) (entry : ℕ → ℤ) → IsWhole p → HasRays p at

@@ -16,6 +16,7 @@ abbrev pub HasZeroColumn : Problem → Multipliers → ℕ → Type 0
 HasZeroColumn p m c = (side : Side) → All (λ l. place_of l.name side ≡ c → (level : ℕ)
     → column m side l level ≡ pos 0) (lines p)
 
+-- the column c is that of a mark of the problem
 abbrev pub IsMarkAt : Problem → ℕ → Type 0
 IsMarkAt p c = Contains (map place (marks_of (lines p))) c
 

@@ -44,8 +44,7 @@ WritingFromLevel = (p : Problem) (at : List Mark) (level scale : ℕ) (times : R
     (low : ℕ) (part : RowName → ℤ) (rest : ℕ → ℤ) → IsLevelSum p at level scale times reduced
     → AreLowestNumbers p scale times reduced low part rest → IsLevelWriting p at level low part rest
 
--- the same of a level: where the lowest terms of its numbers or its cost do not fit, it has no writing that
--- fits
+-- where the lowest terms of a level's numbers or its cost do not fit, it has no writing that fits
 abbrev pub UnfitFromLevel : Type 0
 UnfitFromLevel = (p : Problem) (at : List Mark) (level scale : ℕ) (times : RowName → ℤ) (reduced : ℕ → ℤ)
     → IsProblem p → HasRays p at → IsLevelSum p at level scale times reduced
@@ -93,6 +92,7 @@ LevelFits = (p : Problem) (at : List Mark) (level unit own : ℕ) (by : RowName 
 abbrev pub small_scale : ℕ
 small_scale = COEFFICIENT_LIMIT
 
+-- the bound of such multipliers
 abbrev pub small_number : ℕ
 small_number = PART_BOUND / 2
 

@@ -5,6 +5,7 @@ use Rattle.problem_core.specs.Layout.{Problem, Row, lines}
 use Rattle.problem_core.specs.Corners.{IsIn, marks_of, place}
 use Rattle.problem_core.specs.Unfit.{over_mark, under_mark}
 
+-- the problem with these rows behind its own
 abbrev pub with_rows : List Row → Problem → Problem
 with_rows more p = record { rows = p.rows ++ more; stays = p.stays }
 

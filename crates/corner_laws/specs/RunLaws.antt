@@ -19,7 +19,7 @@ RunIsPath = (p : Problem) (first : List Mark) (swaps : List Swap) → IsWhole p 
     → HasRays p first → NoNegativeValue p first → AreRunSwaps p first first swaps
     → IsPath false p first swaps
 
--- by one exchange more at its last corner
+-- a run grows by one exchange more at its last corner
 abbrev pub RunGrows : Type 0
 RunGrows = (p : Problem) (first at : List Mark) (swaps : List Swap) (s : Swap) → AreRunSwaps p first at swaps
     → IsRunSwap p first (last_marks at swaps) s → AreRunSwaps p first at (swaps ++ s ∷ [])
@@ -37,19 +37,23 @@ SomeMarkFalls = (p : Problem) (at : List Mark) (enter : Mark) (ray : ℕ → ℤ
 
 -- ---- columns by the reduced costs of all levels
 
+-- the reduced costs of each level
 abbrev pub AreReduced : Problem → List Mark → (ℕ → ℕ → ℤ) → Type 0
 AreReduced p at reduced = (level : ℕ) → AreReducedAt p at level (reduced level)
 
+-- a mark's column is negative where its reduced costs are, strongest level first
 abbrev pub NegativeByReduced : Type 0
 NegativeByReduced = (p : Problem) (at : List Mark) (reduced : ℕ → ℕ → ℤ) (m : Mark) → IsWhole p
     → AreReduced p at reduced → IsMarkAt p (place m) → IsLexNegative (λ level. reduced level (place m))
     → HasNegativeColumn p at m
 
+-- no column is negative where no mark's reduced costs are
 abbrev pub NoneNegativeByReduced : Type 0
 NoneNegativeByReduced = (p : Problem) (at : List Mark) (reduced : ℕ → ℕ → ℤ) → AreReduced p at reduced
     → All (λ m. IsLexNonnegative (λ level. reduced level (place m))) (marks_of (lines p))
     → NoNegativeColumn p at
 
+-- no column is negative at the level of the required rows where no reduced cost is below 0 there
 abbrev pub RequiredByReduced : Type 0
 RequiredByReduced = (p : Problem) (at : List Mark) (reduced : ℕ → ℕ → ℤ) → AreReduced p at reduced
     → All (λ m. pos 0 ≤ℤ reduced 0 (place m)) (marks_of (lines p)) → NoNegativeRequired p at
@@ -61,10 +65,12 @@ abbrev pub DualRunIsPath : Type 0
 DualRunIsPath = (p : Problem) (at : List Mark) (swaps : List Swap) → IsWhole p → IsCorner p at → HasRays p at
     → NoNegativeColumn p at → AreDualSwaps p at swaps → IsPath true p at swaps
 
+-- a dual run grows by one exchange more at its last corner
 abbrev pub DualRunGrows : Type 0
 DualRunGrows = (p : Problem) (at : List Mark) (swaps : List Swap) (s : Swap) → AreDualSwaps p at swaps
     → IsDualSwap p (last_marks at swaps) s → AreDualSwaps p at (swaps ++ s ∷ [])
 
+-- the order of the marks at which the exchange is made is free
 abbrev pub DualOrderIsFree : Type 0
 DualOrderIsFree = (p : Problem) (at other : List Mark) (s : Swap) → SameMarks at other → IsDualSwap p at s
     → IsDualSwap p other s

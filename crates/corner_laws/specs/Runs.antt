@@ -33,7 +33,7 @@ abbrev pub count_at : ℕ → Writing → ℕ → ℤ
 count_at c w f = cond (nat_eq f c) (pos w.scale) (neg_ℤ (coefficient f w.form))
 
 -- at the first of these columns at which they differ, what c counts there over its coefficient of the
--- entering mark is nearer to 0 than what d counts over its own; both coefficients are below 0
+-- entering mark is greater than what d counts over its own; both coefficients are below 0
 abbrev pub BreaksTie : ℕ → ℕ → Writing → ℕ → Writing → List ℕ → Type 0
 BreaksTie enter c v d w [] = Unit {0}
 BreaksTie enter c v d w (f ∷ fs) =
@@ -71,6 +71,7 @@ pub record IsRunSwap (p : Problem) (first at : List Mark) (s : Swap) : Type 0 wh
   pub column : HasNegativeColumn p at s.enter
   pub first_to_leave : IsFirstToLeave p first at s
 
+-- each is such an exchange at the corner that those before it lead to
 abbrev pub AreRunSwaps : Problem → List Mark → List Mark → List Swap → Type 0
 AreRunSwaps p first at [] = Unit {0}
 AreRunSwaps p first at (s ∷ swaps) = IsRunSwap p first at s × AreRunSwaps p first (exchanged s at) swaps
@@ -91,10 +92,12 @@ pub record IsDualSwap (p : Problem) (at : List Mark) (s : Swap) : Type 0 where
   pub levels : (level : ℕ) → AreReducedAt p at level (reduced level)
   pub choice : IsDualChoice p (place s.enter) leaving.form reduced
 
+-- each is such an exchange at the corner that those before it lead to
 abbrev pub AreDualSwaps : Problem → List Mark → List Swap → Type 0
 AreDualSwaps p at [] = Unit {0}
 AreDualSwaps p at (s ∷ swaps) = IsDualSwap p at s × AreDualSwaps p (exchanged s at) swaps
 
+-- over for under, and under for over
 abbrev pub other_side : Side → Side
 other_side Under = Over
 other_side Over = Under

@@ -29,7 +29,7 @@ AreLevelSums p at scale times reduced = (level : ℕ)
     → IsLevelSum p at level (scale level) (times level) (reduced level)
 
 -- in the leaving mark's row the entering one has a number of the other sign; and of all marks with such a
--- number it has the least column over its number
+-- number it has the least column over the size of its number
 pub record IsLeastRatio (p : Problem) (s : Swap) (entry : ℕ → ℤ) (reduced : ℕ → ℕ → ℤ) : Type 0 where
   pub leaving : pos 0 <ℤ entry (place s.leave)
   pub entering : entry (place s.enter) <ℤ pos 0
@@ -60,12 +60,13 @@ pub record Writings : Type 0 where
   pub num : ℕ → ℤ
   pub den : ℕ → ℕ
 
+-- they are the writings of the marks inside
 abbrev pub AreWritings : Problem → List Mark → Writings → Type 0
 AreWritings p at w = All (λ m. IsWritingOf p at (λ x. x (place m)) (w.scale (place m)) (w.form (place m))
     (w.num (place m)) (w.den (place m))) at
 
 -- of the inside marks that fall where the entering one grows, the leaving one has the least value times its
--- scale over its coefficient
+-- scale over the size of its coefficient
 abbrev pub IsPrimalChoice : List Mark → Swap → Writings → Type 0
 IsPrimalChoice at s w =
     (coefficient (place s.enter) (w.form (place s.leave)) <ℤ pos 0)

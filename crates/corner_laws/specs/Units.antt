@@ -24,10 +24,11 @@ pub record IsCommonShare (p : Problem) (level unit : ℕ) (divisor : Line → �
   pub common : All (λ l. l.level ≡ level → (l.scale / divisor l) ∣ unit) (lines p)
   pub least : (n : ℕ) → All (λ l. l.level ≡ level → (l.scale / divisor l) ∣ n) (lines p) → unit ∣ n
 
--- what a deviation of the line counts where the level's cost is taken `unit` times
+-- what an under deviation of the line counts where the level's cost is taken `unit` times
 abbrev pub under_share : ℕ → ℕ → Line → ℕ
 under_share unit level l = under_weight l.rel (unit * weight_at l level / l.scale)
 
+-- what an over deviation counts there
 abbrev pub over_share : ℕ → ℕ → Line → ℕ
 over_share unit level l = over_weight l.rel (unit * weight_at l level / l.scale)
 

@@ -19,8 +19,7 @@ pub fn writing_from_level()
     ensures { WritingFromLevel }
 {}
 
-/// The same of a level: where the lowest terms of its numbers or its cost do not fit, it has no writing that
-/// fits.
+/// Where the lowest terms of a level's numbers or its cost do not fit, it has no writing that fits.
 pub fn unfit_from_level()
     ensures { UnfitFromLevel }
 {}

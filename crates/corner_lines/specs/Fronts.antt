@@ -30,6 +30,7 @@ pub record Rows : Type 0 where
   pub own : ℕ → ℕ
   pub number : ℕ → RowName → ℤ
 
+-- each level has this unit, and a row with these numbers
 abbrev pub AreLevelRows : Problem → List Mark → Rows → Type 0
 AreLevelRows p at rows = (level : ℕ) → IsLevelUnit p level (rows.unit level)
     × HasLevelRow p at level (rows.unit level) (rows.own level) (rows.number level)
@@ -58,23 +59,26 @@ abbrev pub IsFrontOf : Problem → Rows → Mark → ℕ → ℤ → Type 0
 IsFrontOf p rows mark level front =
     All (λ l. l.name ≡ mark.row → IsFront (costs_of rows mark.side l) level front) (lines p)
 
+-- the outside mark's reduced cost is 0 at each level
 abbrev pub HasNoFront : Problem → Rows → Mark → Type 0
 HasNoFront p rows mark =
     All (λ l. l.name ≡ mark.row → (level : ℕ) → costs_of rows mark.side l level ≡ pos 0) (lines p)
 
+-- an outside mark with a front below 0 has a negative column
 abbrev pub NegativeFrontIsNegative : Type 0
 NegativeFrontIsNegative = (p : Problem) (at : List Mark) (rows : Rows) (mark : Mark) (level : ℕ) (front : ℤ)
     → IsProblem p → AreLevelRows p at rows → Contains (map place (marks_of (lines p))) (place mark)
     → IsOutsideLine at mark.row → IsFrontOf p rows mark level front → front <ℤ pos 0
     → HasNegativeColumn p at mark
 
--- whatever multipliers the corner's are
+-- the column of one with a front above 0 is not negative, whatever multipliers the corner's are
 abbrev pub PositiveFrontIsNot : Type 0
 PositiveFrontIsNot = (p : Problem) (at : List Mark) (rows : Rows) (mark : Mark) (level : ℕ) (front : ℤ)
     (m : Multipliers) → IsWhole p → HasRays p at → AreLevelRows p at rows → IsOutsideLine at mark.row
     → IsFrontOf p rows mark level front → pos 0 <ℤ front → AreMultipliersAt p at m
     → All (λ l. l.name ≡ mark.row → IsLexNonnegative (column m mark.side l)) (lines p)
 
+-- nor is that of one without a front
 abbrev pub NoFrontIsNot : Type 0
 NoFrontIsNot = (p : Problem) (at : List Mark) (rows : Rows) (mark : Mark) (m : Multipliers)
     → IsWhole p → HasRays p at → AreLevelRows p at rows → IsOutsideLine at mark.row → HasNoFront p rows mark
@@ -98,10 +102,13 @@ pub record AreAlike (a b : ℤ) : Type 0 where
   pub right_positive : 0 < right
   pub same : pos left *ℤ b ≡ pos right *ℤ a
 
+-- costs that are not negative, strongest level first, stay so where each becomes a positive multiple
+-- of itself
 abbrev pub AlikeCostsKeepSign : Type 0
 AlikeCostsKeepSign = (costs next : ℕ → ℤ) → ((level : ℕ) → AreAlike (costs level) (next level))
     → IsLexNonnegative costs → IsLexNonnegative next
 
+-- and their front stays at its level, and becomes a positive multiple of itself
 abbrev pub AlikeFrontsAreFronts : Type 0
 AlikeFrontsAreFronts = (costs next : ℕ → ℤ) (level : ℕ) (front : ℤ)
     → ((level : ℕ) → AreAlike (costs level) (next level)) → IsFront costs level front

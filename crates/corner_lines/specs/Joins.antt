@@ -14,10 +14,11 @@ use Rattle.problem_core.specs.Unfit.{HasNoWriting, IsUnfitTerms, first_terms, ov
 use Rattle.corner_laws.specs.Lifts.{with_rows}
 use Rattle.corner_lines.specs.LineEquations.{HasValue, IsLineEquation, IsLineSum, deviation}
 
--- the problem with the row, and the marks with its over mark
+-- the problem with the row
 abbrev pub with_row : Row → Problem → Problem
 with_row r p = with_rows (r ∷ []) p
 
+-- the marks with the row's over mark
 abbrev pub over_joined : Row → List Mark → List Mark
 over_joined r at = at ++ (over_mark r.id ∷ [])
 
@@ -95,10 +96,11 @@ IsLastToldUnfit p at r = HasNoWriting (with_row r p) (over_joined r at) (λ x. x
 
 -- ---- an attribute joins
 
--- its stay is the last one
+-- the attribute's stay, at this target
 abbrev pub new_stay : ℕ → Fraction → Stay
 new_stay attr target = record { attr = attr; target = target }
 
+-- the problem with the attribute, whose stay is the last one
 abbrev pub with_attr : ℕ → Fraction → Problem → Problem
 with_attr attr target p = record { rows = p.rows; stays = p.stays ++ (new_stay attr target ∷ []) }
 
@@ -116,6 +118,7 @@ IsOwnDeviation p at attr target = (by : RowName → ℤ) → by (StayOf attr) �
 
 -- ---- stays move to the present values
 
+-- the problem with these stays
 abbrev pub with_stays : List Stay → Problem → Problem
 with_stays stays p = record { rows = p.rows; stays = stays }
 

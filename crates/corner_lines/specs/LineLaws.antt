@@ -77,6 +77,7 @@ IsUnfitValue num den = (f : Fraction) → IsLowest f → IsRatio f num (pos den)
 
 -- ---- marks in another order
 
+-- each equation at the first marks is one at the others
 abbrev pub HoldInOtherOrder : Problem → List Mark → List Mark → Type 0
 HoldInOtherOrder p at other = (quantity : (ℕ → ℤ) → ℤ) (own : ℕ) (by : RowName → ℤ) (num : ℤ) (den : ℕ)
     → IsLineEquation p at quantity own by num den → IsLineEquation p other quantity own by num den

@@ -7,6 +7,7 @@ use Rattle.problem_core.specs.Layout.{HasStay, Problem}
 use Rattle.problem_core.specs.Changes.Begins.{without_marks}
 use Rattle.corner_lines.specs.LineEquations.{IsLineEquation}
 
+-- the problem without the row
 abbrev pub without_row : ℕ → Problem → Problem
 without_row id p = record { rows = filter (λ r. cond (nat_eq r.id id) false true) p.rows; stays = p.stays }
 
@@ -18,6 +19,7 @@ HoldsWithoutRow p at id quantity = (own : ℕ) (by : RowName → ℤ) (num : ℤ
 
 -- ---- an attribute that no row names is taken out
 
+-- the problem without the attribute's stay
 abbrev pub without_attr : ℕ → Problem → Problem
 without_attr attr p =
     record { rows = p.rows; stays = filter (λ s. cond (nat_eq s.attr attr) false true) p.stays }

@@ -7,6 +7,7 @@ use Rattle.problem_core.specs.declared.parts.RowName.TheVariants.{Held}
 use Rattle.problem_core.specs.Layout.{Problem, Row}
 use Rattle.corner_lines.specs.LineEquations.{IsLineEquation, deviation}
 
+-- the row with this constant, if its number is `id`, and else as it is
 abbrev pub has_constant : ℕ → Fraction → Row → Row
 has_constant id f r = cond (nat_eq r.id id) (record {
   id = r.id;

@@ -19,28 +19,33 @@ pub record IsLooselyBest (p : Problem) (x : Assignment) : Type 0 where
 
 -- ---- values
 
--- x gives the attribute this value; more; less; at most this and 1; at least this less 1
+-- x gives the attribute this value
 abbrev pub Reaches : Assignment → ℕ → Fraction → Type 0
 Reaches x attr f = x.num attr *ℤ pos f.den ≡ f.num *ℤ pos x.den
 
+-- x gives the attribute more than this value
 abbrev pub IsAbove : Assignment → ℕ → Fraction → Type 0
 IsAbove x attr f = (f.num *ℤ pos x.den) <ℤ (x.num attr *ℤ pos f.den)
 
+-- x gives it less
 abbrev pub IsBelow : Assignment → ℕ → Fraction → Type 0
 IsBelow x attr f = (x.num attr *ℤ pos f.den) <ℤ (f.num *ℤ pos x.den)
 
+-- x gives it at most this value and 1
 abbrev pub IsUpToNext : Assignment → ℕ → Fraction → Type 0
 IsUpToNext x attr f = (x.num attr *ℤ pos f.den) ≤ℤ ((f.num +ℤ pos f.den) *ℤ pos x.den)
 
+-- x gives it at least this value less 1
 abbrev pub IsDownToLast : Assignment → ℕ → Fraction → Type 0
 IsDownToLast x attr f = ((f.num -ℤ pos f.den) *ℤ pos x.den) ≤ℤ (x.num attr *ℤ pos f.den)
 
 -- ---- what moves
 
--- some loosely best assignment gives the attribute more than v; less
+-- some loosely best assignment gives the attribute more than v
 abbrev pub GoesAbove : Problem → ℕ → Fraction → Type 0
 GoesAbove p attr v = (x : Assignment) × IsLooselyBest p x × IsAbove x attr v
 
+-- some loosely best assignment gives the attribute less than v
 abbrev pub GoesBelow : Problem → ℕ → Fraction → Type 0
 GoesBelow p attr v = (x : Assignment) × IsLooselyBest p x × IsBelow x attr v
 
@@ -54,7 +59,7 @@ pub record IsLeastDown (p : Problem) (attr : ℕ) (v f : Fraction) : Type 0 wher
   pub reached : (x : Assignment) × IsLooselyBest p x × Reaches x attr f × IsDownToLast x attr v
   pub least : (y : Assignment) → IsLooselyBest p y → IsDownToLast y attr v → IsBelow y attr f → ⊥
 
--- the attribute moves from v to f: up where something above v is reached, down otherwise
+-- the attribute moves from v to f: up where something above v is reached, else down where something below is
 abbrev pub IsMove : Problem → ℕ → Fraction → Fraction → Type 0
 IsMove p attr v f = (GoesAbove p attr v × IsGreatestUp p attr v f)
     ⊎ ((GoesAbove p attr v → ⊥) × GoesBelow p attr v × IsLeastDown p attr v f)

@@ -15,6 +15,7 @@ pub record Findings : Type 0 where
   pub unmet : List (ℕ × Fraction)
   pub moving : List (ℕ × Fraction)
 
+-- the findings that a diagnosis tells
 abbrev pub findings_of : Diagnosis → Findings
 findings_of d = record { errors = d.errors.items; unmet = d.unmet.items; moving = d.moving.items }
 

@@ -5,6 +5,7 @@ use Rattle.problem_core.specs.declared.limits.TheConstants.{REQUIRED}
 use Rattle.problem_core.specs.declared.parts.Rel.TheVariants.{Eq, Le}
 use Rattle.problem_core.specs.Layout.{Problem, Row}
 
+-- a whole number as a value
 abbrev pub whole : ℕ → Fraction
 whole n = record { num = pos n; den = 1 }
 
@@ -24,6 +25,7 @@ zero_row = record {
   terms = record { attr = 1; by = pos 1 } ∷ [];
 }
 
+-- the attribute 1 at 0, where that row requires it
 abbrev pub held : Problem
 held = record { rows = zero_row ∷ []; stays = record { attr = 1; target = whole 0 } ∷ [] }
 
@@ -39,9 +41,11 @@ cap_row = record {
   terms = record { attr = 1; by = pos 1 } ∷ [];
 }
 
+-- the attribute 1 at 0, where that row lets it move down alone
 abbrev pub capped : Problem
 capped = record { rows = cap_row ∷ []; stays = record { attr = 1; target = whole 0 } ∷ [] }
 
+-- the value a point below 0
 abbrev pub minus_one : Fraction
 minus_one = record { num = negsuc 0; den = 1 }
 

@@ -182,7 +182,7 @@ fn turns(c: &Corner, leave: Mark, own: Mark) -> bool
     }
 }
 
-/// The mark that enters. Mostly it is the leaving one's other mark, as the required rows alone decide.
+/// The mark that enters. Where the required rows alone decide, it is the leaving one's other mark.
 pub(crate) fn entering(c: &Corner, leave: Mark) -> Result<Mark, OutOfMemory>
     requires columns { NoNegativeColumn c.now.problem c.now.marks }
     requires leave { MayLeave c.now.problem c.now.marks leave }

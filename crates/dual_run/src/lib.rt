@@ -3,8 +3,8 @@
 //! [`restore`] goes to the best values again after constants have changed. A mark with a negative value
 //! leaves. Of the outside marks with which it grows that one enters whose column over its number is the
 //! least, level by level, so no column becomes negative. With the leaving mark the other one of its line
-//! grows, so there always is one. Mostly it is this one: where it costs nothing at the level of the required
-//! rows and all others cost there, nothing else is compared. Where the required rows cost, the multipliers of
+//! grows, so there always is one. This one enters, and nothing else is compared, where it costs nothing at
+//! the level of the required rows and all others cost there. Where the required rows cost, the multipliers of
 //! their level show that they have no solution.
 //!
 //! ```

@@ -3,7 +3,8 @@ use Rattle.std.specs.Prelude.{◌≡◌, ◌↔◌, ℕ, ◌-◌, ◌+◌, ◌�
 use Rattle.std.specs.Prelude.{if◌then◌else◌, length, Result, IfOk, IsErr, Contains}
 use Rattle.edge_io.specs.Cause.{count_end}
 
--- a source in memory: what is left, the greatest sizes, the calls that fail, and the next call's number
+-- a source in memory: what is left, the greatest sizes, the calls that fail, the next call's number, and the
+-- count of faults
 pub record MemoryInput : Type 0 where
   pub left : List ℕ
   pub sizes : List ℕ
@@ -11,7 +12,8 @@ pub record MemoryInput : Type 0 where
   pub call : ℕ
   pub faults : ℕ
 
--- a sink in memory: what it holds, its room, the calls that fail, and the next call's number
+-- a sink in memory: what it holds, its room, the calls that fail, the next call's number, and the count of
+-- faults
 pub record MemoryOutput : Type 0 where
   pub held : List ℕ
   pub room : ℕ

@@ -7,6 +7,8 @@
 //! frames
 //! ```
 //!
+//! What a run keeps: each script has a session of its own, so what one says reaches no other.
+//!
 //! All is in `screens`.
 #![tactic(auto)]
 

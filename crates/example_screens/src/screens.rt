@@ -49,7 +49,8 @@ fn run_screen<K: Sink>(alloc: Global, script: &[u8], sink: &mut K) -> Result<(),
     }
 }
 
-/// Runs each script of the text, below its first line.
+/// Runs each script of the text: its first line, which begins with `#: `, is written, and below it what
+/// its run writes. What stands before the first of these lines is run without one.
 pub fn run_screens<K: Sink>(alloc: Global, text: &str, sink: &mut K) -> Result<(), Stop> {
     let mut script = Vec::new(alloc);
     for line in text.lines() {

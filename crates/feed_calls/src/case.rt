@@ -5,6 +5,7 @@ use edge_io::{Feed, MemorySource};
 use frac_core::OutOfMemory;
 use std::alloc::Global;
 
+// The number that a word writes, or 0 where it writes none.
 fn number(word: &str) -> usize {
     word.parse::<usize>().unwrap_or(0)
 }
@@ -23,7 +24,8 @@ fn bytes_of(alloc: Global, list: &str) -> Result<Vec<u8>, OutOfMemory> {
     Ok(bytes)
 }
 
-// A source of these bytes, of which each pull takes at most so many.
+// A source of these bytes. `words` are the greatest size of its pulls, and the number of one that fails or
+// `-`.
 fn source_of(alloc: Global, list: &str, words: &str) -> Result<MemorySource, OutOfMemory> {
     let bytes = bytes_of(alloc, list)?;
     let (size, fail) = words.split_once(" ").unwrap_or((words, "-"));

@@ -8,6 +8,7 @@ use frac_core::OutOfMemory;
 // The longest line that is shown byte by byte.
 const SHOWN: usize = 8;
 
+// Appends what a piece is: the bytes of a short line, the length of another, or that the line was too long.
 fn put_piece(out: &mut String, piece: Piece<'_>) -> Result<(), OutOfMemory> {
     match piece {
         Piece::Line(line) if line.len() > SHOWN => {

@@ -7,6 +7,7 @@ use Rattle.std.specs.Ordering.{int_cmp}
 use Rattle.std.specs.declared.cmp.Ordering.{Ordering}
 use Rattle.frac_core.specs.declared.frac.TheConstants.{PART_BOUND}
 
+-- a numerator with the sign, and a denominator
 pub record Fraction : Type 0 where
   pub num : ℤ
   pub den : ℕ
@@ -46,5 +47,6 @@ fraction_order f g = int_cmp (f.num *ℤ pos g.den) (g.num *ℤ pos f.den)
 abbrev pub sum_num : Fraction → ℤ → ℤ → Fraction → ℤ
 sum_num a n d t = a.num *ℤ (d *ℤ pos t.den) +ℤ n *ℤ (t.num *ℤ pos a.den)
 
+-- a denominator of a + (n/d)*t, whatever n is
 abbrev pub sum_den : Fraction → ℤ → Fraction → ℤ
 sum_den a d t = pos a.den *ℤ (d *ℤ pos t.den)

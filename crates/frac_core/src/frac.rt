@@ -37,7 +37,7 @@ impl Model for Frac {
     ghost invariant = { λ f. IsKept (record { num = f.num; den = f.den }) };
 }
 
-// The size of a number with its sign.
+// The number of this size with its sign.
 fn signed(is_negative: bool, size: u64) -> i64
     requires { size < PART_BOUND }
     ensures { result ≡ (if is_negative then neg_ℤ (pos size) else pos size) }

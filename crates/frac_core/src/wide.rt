@@ -54,12 +54,14 @@ impl Wide {
         }
     }
 
+    /// The numerator, which has the fraction's sign.
     pub(crate) fn num(&self) -> i128
         ensures { result ≡ self.now.num }
     {
         self.num
     }
 
+    /// The denominator.
     pub(crate) fn den(&self) -> u128
         ensures { result ≡ self.now.den }
     {

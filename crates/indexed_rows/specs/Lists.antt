@@ -5,6 +5,7 @@ use Rattle.std.specs.Global.{Vec}
 use Rattle.row_core.specs.Rows.{Term}
 use Rattle.indexed_rows.specs.Indexes.{list_at}
 
+-- each slot is below all later ones
 abbrev pub IsRisingList : List ℕ → Type 0
 IsRisingList list = AllPairs (λ v w. v < w) list
 

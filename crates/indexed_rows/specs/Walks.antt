@@ -4,6 +4,7 @@ use Rattle.std.specs.Global.{Vec}
 use Rattle.row_core.specs.Rows.{Term}
 use Rattle.indexed_rows.specs.Lists.{IsListedAt}
 
+-- the column at the row's place i, 0 past its end
 abbrev pub column_at : List Term → ℕ → ℕ
 column_at row i = (slice_index_or row i (record { col = 0; by = pos 0 })).col
 

@@ -51,6 +51,7 @@ enum Turn {
     Both,
 }
 
+// Which of the rows, one of which is not at its end, has the next column.
 fn next_turn(old: &[Entry], new: &[Entry], at: Place) -> Turn
     requires old { at.old ≤ length old.now }
     requires new { at.new ≤ length new.now }

@@ -6,6 +6,7 @@ use Rattle.layout_cli.specs.declared.program.Status.TheVariants.{OutOfMemory, To
 use Rattle.layout.specs.declared.exits.TheConstants.{DONE, REFUSED, USAGE, READ_FAULT, WRITE_FAULT}
 use Rattle.layout.specs.declared.exits.TheConstants.{OUT_OF_MEMORY, TOO_LONG}
 
+-- the exit status of each way in which a run ends
 abbrev pub exit_code : Status → ℕ
 exit_code Done = DONE
 exit_code Refused = REFUSED

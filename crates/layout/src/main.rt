@@ -10,6 +10,9 @@
 //! it is another, 2 for other words, 3 and 4 where reading or writing failed, 5 for want of memory, 6 for an
 //! input past its limit.
 //!
+//! What the status keeps (`exit_code` in `specs/Exit.antt`): each way in which a run ends has a number of its
+//! own.
+//!
 //! All that it does stands in `layout_cli`. Here are the words, the streams and the status, whose numbers
 //! `exits` has.
 #![tactic(auto)]

@@ -26,6 +26,7 @@ verdict_of on_path.Yes = Yes
 verdict_of (on_path.No clause) = No clause
 verdict_of (on_path.NoRoom exchanges) = NoRoom exchanges
 
+-- the verdict on a claim about the problem: on best values, on a conflict, or on a path
 abbrev pub IsVerdictOn : Problem → Claim → Verdict → Type 0
 IsVerdictOn p (IsBest values best) v = IsBestVerdict p values best v
 IsVerdictOn p (IsConflict bys) v = IsConflictVerdict p bys v
@@ -51,16 +52,19 @@ pub record IsBad (all : List (List ℕ)) (n : ℕ) : Type 0 where
   pub bad : problem.StopsAt before (bad_line n) ⊎ ((p : Problem) × problem.Reads before p × (m : ℕ)
       × claim.StopsAt after (bad_line m) × (n ≡ length before + m))
 
+-- the check of these lines answers so: with the verdict, or with the number of the first bad line
 abbrev pub IsAnswerTo : List (List ℕ) → Answer → Type 0
 IsAnswerTo all (Judged v) = IsJudged all v
 IsAnswerTo all (Bad n) = IsBad all n
 
+-- the line of the answer: `yes`, `no N`, `no room N` or `bad N`
 abbrev pub answer_text : Answer → List ℕ
 answer_text (Judged Yes) = codes "yes" ++ newline ∷ []
 answer_text (Judged (No clause)) = codes "no " ++ (decimal clause ++ newline ∷ [])
 answer_text (Judged (NoRoom place)) = codes "no room " ++ (decimal place ++ newline ∷ [])
 answer_text (Bad n) = codes "bad " ++ (decimal n ++ newline ∷ [])
 
+-- whether the answer is `yes`
 abbrev pub is_yes : Answer → Bool
 is_yes (Judged Yes) = true
 is_yes (Judged (No clause)) = false

@@ -28,7 +28,7 @@ IfWithin mode left P = IfSome (input_of mode left) (λ input. (length input ≤ 
 abbrev pub IsTooLong : Mode → (left : Option (List ℕ)) → Type 0
 IsTooLong mode left = IfSome (input_of mode left) (λ input. limit_of mode < length input)
 
--- the whole input was read, it is within the limit, and what was written is the mode's output for it
+-- the mode's input is within the limit, and what was written is the mode's output for the whole of it
 abbrev pub HasOutput : Mode → (left before now : Option (List ℕ)) → Bool → Type 0
 HasOutput mode left before now good = IfWithin mode left (λ input. (text : List ℕ)
     × IsOutputOf mode input text good × Appends before now text)
@@ -80,6 +80,7 @@ pub record Outside : Type 0 where
   pub held : Option (List ℕ)
   pub writes_failed : ℕ
 
+-- what is outside, of these parts
 abbrev pub outside : Option (List ℕ) → ℕ → Option (List ℕ) → ℕ → Outside
 outside left reads_failed held writes_failed = record {
   left = left;

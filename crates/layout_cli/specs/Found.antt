@@ -47,10 +47,12 @@ abbrev pub line_of_each : (ℕ × Fraction → List ℕ) → List (ℕ × Fracti
 line_of_each line [] = []
 line_of_each line (pair ∷ more) = line pair ++ line_of_each line more
 
+-- the lines of what is found: the errors, then the unmet rows, then the ambiguous attributes
 abbrev pub findings_text : List LiveView → Findings → List ℕ
 findings_text views f = line_of_each error_line f.errors
     ++ (line_of_each unmet_line f.unmet ++ line_of_each (moving_line views) f.moving)
 
+-- a probe's direction, behind a space
 abbrev pub way_text : Bool → List ℕ
 way_text true = codes " up"
 way_text false = codes " down"

@@ -10,6 +10,7 @@ use Rattle.layout_cli.specs.Replies.{frame_text}
 abbrev pub HasFront : Option (List ℕ) → Option (List ℕ) → List ℕ → Type 0
 HasFront before now text = (n : ℕ) × (n ≤ length text) × Appends before now (take n text)
 
+-- the line of the view's frame, or nothing without a view
 abbrev pub frame_line_of : List (ℕ × Fraction) → Option LiveView → List ℕ
 frame_line_of values None = []
 frame_line_of values (Some v) = frame_text values v

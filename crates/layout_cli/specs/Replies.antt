@@ -26,6 +26,7 @@ use Rattle.session_undo.specs.Replies.{Diagnosed, NoTarget, Probe}
 use Rattle.diagnosis.specs.Diagnoses.{Findings}
 use Rattle.layout_cli.specs.Found.{findings_text, probe_line}
 
+-- the word that names a limit
 abbrev pub limit_text : LimitWord → List ℕ
 limit_text word.Line = codes "line"
 limit_text word.Name = codes "name"
@@ -40,6 +41,7 @@ limit_text word.Coefficient = codes "coefficient"
 limit_text word.Constant = codes "constant"
 limit_text word.Budget = codes "budget"
 
+-- the word that names a wrong use
 abbrev pub kind_text : KindWord → List ℕ
 kind_text kind.Align = codes "align"
 kind_text kind.Parent = codes "parent"
@@ -59,6 +61,7 @@ unfoldable pub frame_line : List ℕ → Fraction → Fraction → Fraction → 
 frame_line name left top width height = codes "frame " ++ (name
     ++ (value_text left ++ (value_text top ++ (value_text width ++ (value_text height ++ newline ∷ [])))))
 
+-- the line of a view's frame at these values
 abbrev pub frame_text : List (ℕ × Fraction) → LiveView → List ℕ
 frame_text values v = frame_line v.name (value_of values (left_of v.id)) (value_of values (top_of v.id))
     (value_of values (width_of v.id)) (value_of values (height_of v.id))
@@ -80,12 +83,15 @@ abbrev pub text_of_each : (LiveView → List ℕ) → List LiveView → List ℕ
 text_of_each text [] = []
 text_of_each text (v ∷ more) = text v ++ text_of_each text more
 
+-- these bytes, ended as a line
 abbrev pub line_of : List ℕ → List ℕ
 line_of bytes = bytes ++ newline ∷ []
 
+-- the frame of each view, a line each, and `ok`
 abbrev pub frames_text : Scene → List ℕ
 frames_text scene = text_of_each (frame_text scene.values) scene.tree.views ++ line_of (codes "ok")
 
+-- the names of the views' attributes, the rows and stays, and `ok`
 abbrev pub rows_text : Scene → List ℕ
 rows_text scene = text_of_each names_of scene.tree.views
     ++ (problem_text (problem_of scene) ++ line_of (codes "ok"))
@@ -115,10 +121,12 @@ place_text views Step = []
 place_text views (Still ids) = still_text ids
 place_text views (Probe attr up) = probe_line views attr up
 
+-- a quantity doesn't fit: what had stopped, the path, and the quantity
 abbrev pub overflow_text : List LiveView → Place → Path → Quantity → List ℕ
 overflow_text views place path quantity = line_of (codes "refused 7 overflow")
     ++ (place_text views place ++ (path_text path ++ unfit_text quantity))
 
+-- the exchanges are used up: what had stopped, and the path
 abbrev pub spent_text : List LiveView → Place → Path → List ℕ
 spent_text views place path = line_of (codes "refused 8 spent") ++ (place_text views place ++ path_text path)
 
@@ -127,6 +135,7 @@ abbrev pub target_text : List LiveView → ℕ → Bool → List ℕ
 target_text views attr up = line_of (codes "refused 7 overflow")
     ++ (probe_line views attr up ++ line_of (codes "unfit target"))
 
+-- the lines of what is found of the scene, and `ok`
 abbrev pub diagnosis_text : Scene → Findings → List ℕ
 diagnosis_text scene findings = findings_text scene.tree.views findings ++ line_of (codes "ok")
 

@@ -51,7 +51,7 @@ pub fn run<S: Source, K: Sink>(
     source: &mut S,
     sink: &mut K,
 ) -> Status
-    // The whole input was read, and what was written is what the mode that the words name answers it.
+    // What was written is what the mode that the words name answers the whole of its input.
     ensures done { result ≡ Status.Done → NameMode words.now (λ mode.
         HasOutput mode (S.left source.old) (K.held sink.old) (K.held sink.new) true) }
     ensures refused { result ≡ Status.Refused → NameMode words.now (λ mode.

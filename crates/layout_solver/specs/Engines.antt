@@ -22,13 +22,16 @@ abbrev pub HaveValues : List Scene → Type 0
 HaveValues [] = Unit {0}
 HaveValues (s ∷ before) = HasValues s × HaveValues before
 
+-- the corner with these values, as a solution
 abbrev pub solution_at : Scene → List (ℕ × Fraction) → Solution
 solution_at s values = record { problem = s.problem; values = values; corner = s.marks }
 
+-- the solutions of corners that have values
 abbrev pub solutions_at : (before : List Scene) → HaveValues before → List Solution
 solutions_at [] have = []
 solutions_at (s ∷ before) have = solution_at s have.0.0 ∷ solutions_at before have.1
 
+-- the layout of a corner that has these values, and whose earlier ones have theirs
 abbrev pub layout_of : (c : CornerView) → List (ℕ × Fraction) → HaveValues c.before → Layout
 layout_of c values earlier = record {
   problem = c.problem;

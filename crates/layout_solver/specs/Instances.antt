@@ -25,9 +25,11 @@ second = record {
   terms = record { attr = 1; by = pos 1 } ∷ [];
 }
 
+-- the problem with that row more
 abbrev pub with_second : Problem → Problem
 with_second p = record { rows = p.rows ++ (second ∷ []); stays = p.stays }
 
+-- what leaves: these rows and these attributes
 abbrev pub leaving : List ℕ → List ℕ → Leaving
 leaving rows attrs = record { rows = rows; attrs = attrs }
 
@@ -49,6 +51,7 @@ both_over = over_row ∷ over_second ∷ []
 abbrev pub below_bound : Path
 below_bound = record { dual = false; corner = under_row ∷ []; swaps = [] }
 
+-- what stops some removals, and what is no such stop
 pub record SomeRemovalsStop : Type 0 where
   -- a mark of the row has come in, or the second row has gone, while the first is still held
   pub freed : IsHeldPath (standing PART_BOUND) (over_stay ∷ []) (1 ∷ []) (1 ∷ []) x_over

@@ -30,6 +30,7 @@ pub record Layout : Type 0 where
   pub corner : List Mark
   pub earlier : List Solution
 
+-- the solution of now
 abbrev pub solution_of : Layout → Solution
 solution_of l = record { problem = l.problem; values = l.values; corner = l.corner }
 
@@ -47,6 +48,7 @@ pub record IsKeptSolution (s : Solution) : Type 0 where
   pub values : AreValuesAt s.problem s.corner s.values
   pub end : IsBestEnd s.problem s.corner
 
+-- the solution of now keeps this; of the earlier ones nothing is said
 abbrev pub IsKeptLayout : Layout → Type 0
 IsKeptLayout l = IsKeptSolution (solution_of l)
 

@@ -33,6 +33,7 @@ pub record Leaving : Type 0 where
   pub rows : List ℕ
   pub attrs : List ℕ
 
+-- the problem without all that leaves
 abbrev pub without : Leaving → Problem → Problem
 without l p = without_attrs l.attrs (without_rows l.rows p)
 
@@ -86,7 +87,8 @@ with_removed old l = without l (stood old)
 
 -- ---- on the way
 
--- of the leaving rows these have gone from the problem at the marks that were kept, and no value is negative
+-- of the leaving rows these have gone from the problem at the marks that were kept, no value is negative, and
+-- the stays stand at the values
 pub record HaveGone (p : Problem) (kept : List Mark) (leaving gone : List ℕ) (c : CornerView) : Type 0 where
   pub problem : c.problem ≡ without_rows gone p
   pub comes : ComesFrom p kept leaving gone c.marks

@@ -18,6 +18,7 @@ CanTake held [] = Unit {0}
 CanTake held (a ∷ attrs) =
     IsNumber a × Each (λ h. h ≢ a) held × (length held < ROW_LIMIT) × CanTake (held ++ (a ∷ [])) attrs
 
+-- the attributes of the stays, in order
 abbrev pub attrs_of : Problem → List ℕ
 attrs_of p = map (λ s. s.attr) p.stays
 

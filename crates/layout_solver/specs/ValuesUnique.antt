@@ -20,6 +20,7 @@ use Rattle.frac_core.proofs.Made.{same_fraction}
 
 -- ---- one value
 
+-- the last two of three factors change places
 swap-last : (a u v : ℤ) → (a *ℤ u) *ℤ v ≡ (a *ℤ v) *ℤ u
 swap-last a u v = mul_assoc_ℤ a u v ∙ ap (λ (z : ℤ). a *ℤ z) (*ℤ_comm u v) ∙ sym (mul_assoc_ℤ a v u)
 
@@ -33,6 +34,7 @@ both-agree p x y a b c above hx hy =
     ∙ ap (λ (z : ℤ). z *ℤ pos a) hy ∙ swap-last y (pos c) (pos a)
     ∙ *ℤ_comm (y *ℤ pos a) (pos c))
 
+-- fractions of what agrees with one number are equal by their cross products
 numbers-agree : (f g : Fraction) (p p1 x x1 y y1 : ℤ) → pos 0 <ℤ p1 → pos 0 <ℤ x1 → pos 0 <ℤ y1
     → p *ℤ x1 ≡ x *ℤ p1 → p *ℤ y1 ≡ y *ℤ p1
     → x *ℤ pos f.den ≡ f.num *ℤ x1 → y *ℤ pos g.den ≡ g.num *ℤ y1 → f.num *ℤ pos g.den ≡ g.num *ℤ pos f.den
@@ -50,6 +52,7 @@ numbers-agree f g p p1 x x1 y y1 above_p above_x above_y hx hy given_f given_g =
 abbrev pub IsFixed : Problem → List Mark → Point → ℕ → Type 0
 IsFixed p at x c = (y : Point) → StandsAt p at y → Agree c x y
 
+-- a column that the corner fixes has one value there
 pub one_number : (p : Problem) (at : List Mark) (x : Point) (c : ℕ) (f g : Fraction) → IsFixed p at x c
     → IsLowest f → IsLowest g → HasValueAt p at c f → HasValueAt p at c g → f ≡ g
 one_number p at x c f g fixed low_f low_g u v =
@@ -60,9 +63,11 @@ one_number p at x c f g fixed low_f low_g u v =
 
 -- ---- one list
 
+-- an attribute with its value
 abbrev pair : ℕ → Fraction → ℕ × Fraction
 pair n f = (n, f)
 
+-- two lists of values of attributes that the corner fixes are one
 same-values : (p : Problem) (at : List Mark) (x : Point) (stays : List Stay) (u v : List (ℕ × Fraction))
     → map (λ w. w.0) u ≡ map (λ s. s.attr) stays → map (λ w. w.0) v ≡ map (λ s. s.attr) stays
     → Each (λ w. IsLowest w.1) u → Each (λ w. IsLowest w.1) v
@@ -86,11 +91,13 @@ same-values p at x (s ∷ stays) (a ∷ u) (b ∷ v) at_u at_v low_u low_v given
     ap₂ (λ (w : ℕ × Fraction) (ws : List (ℕ × Fraction)). w ∷ ws) (ap₂ pair (head_u ∙ sym head_v) number)
     (same-values p at x stays u v tail_u tail_v low_u.1 low_v.1 given_u.1 given_v.1 fixed.1)
 
+-- a corner fixes each attribute that has a stay
 pub fixed_attrs : (p : Problem) (at : List Mark) (corner : IsCorner p at)
     → Each (λ s. IsFixed p at corner.point (attr_column s.attr)) p.stays
 fixed_attrs p at corner = recursion_from_All (λ s. IsFixed p at corner.point (attr_column s.attr)) p.stays
     (λ k d within y stands. corner.attrs_fixed y stands k d within)
 
+-- two lists that are the corner's values are one
 pub values_are_one : (c : Scene) (u v : List (ℕ × Fraction)) → AreItsValues c u → AreItsValues c v
     → u ≡ v
 values_are_one c u v a b =
@@ -102,22 +109,27 @@ values_are_one c u v a b =
 
 -- ---- the fact has one proof
 
+-- a fraction is stored as the pair of its parts
 abbrev pub fraction_code : Coded Fraction
 fraction_code = code_by (ℤ × ℕ) (coded× coded_ℤ coded_ℕ) (λ f. (f.num, f.den))
     (λ w. record { num = w.0; den = w.1 }) (λ _. refl)
 
+-- a list of values is stored so too, element by element
 abbrev pub values_code : Coded (List (ℕ × Fraction))
 values_code = coded_list (coded× coded_ℕ fraction_code)
 
+-- the values, with the fact that they are the corner's
 abbrev with_proof : (c : Scene) (u : List (ℕ × Fraction)) → ∥ AreItsValues c u ∥₁ → HasValues c
 with_proof c u s = (u, s)
 
+-- equal values with that fact are equal, whatever its proofs are
 same-pair : (c : Scene) (u v : List (ℕ × Fraction)) (s : ∥ AreItsValues c u ∥₁)
     (t : ∥ AreItsValues c v ∥₁) → u ≡ v → with_proof c u s ≡ with_proof c v t
 same-pair c u v s t e =
     subst (λ (w : List (ℕ × Fraction)). (r : ∥ AreItsValues c w ∥₁) → with_proof c u s ≡ with_proof c w r) e
     (λ r. ap (with_proof c u) (∥∥₁_prop s r)) t
 
+-- all proofs that a corner has values are equal
 pub one_list : (c : Scene) → IsProp (HasValues c)
 one_list c a b =
     same-pair c a.0 b.0 a.1 b.1
@@ -126,6 +138,7 @@ one_list c a b =
 
 -- ---- the earlier corners' facts have one proof
 
+-- so are all proofs that each of the earlier corners has
 pub lists_are_one : (before : List Scene) → IsProp (HaveValues before)
 lists_are_one [] a b = refl
 lists_are_one (s ∷ before) a b =

@@ -154,8 +154,8 @@ impl Engine {
 
     /// Takes rows and attributes out, with the stays at the present values, and goes on to the best values.
     /// The rows leave in this order, and each that names a leaving attribute is one of them. The path begins
-    /// at the corner that was kept, where exchanges that change no value bring a mark of each leaving row in,
-    /// and these marks are taken out.
+    /// at the corner that was kept, where exchanges bring a mark of each leaving row in, and these marks are
+    /// taken out.
     ///
     /// There is no conflict. `Unfit`: a quantity does not fit, while the rows in `still` are held, or at the
     /// last corner of the path. `Spent`: the path has as many exchanges as the budget. After each stop the

@@ -9,6 +9,7 @@ fn put_place(out: &mut String, frame: &Frame<'_>) -> Result<(), AllocError> {
     put_attribute(out, "y", frame.top)
 }
 
+// Appends the attributes that say how large the frame is.
 fn put_size(out: &mut String, frame: &Frame<'_>) -> Result<(), AllocError> {
     put_attribute(out, "width", frame.width)?;
     put_attribute(out, "height", frame.height)

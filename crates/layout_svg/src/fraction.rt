@@ -12,6 +12,7 @@ pub struct Fraction {
     pub den: u64,
 }
 
+// The number that the text writes, if it has digits alone, and not too many.
 fn digits(text: &str) -> Option<u64> {
     if text.is_empty() || text.len() > DIGITS || !text.bytes().all(|b| b.is_ascii_digit()) {
         return None;
@@ -19,7 +20,7 @@ fn digits(text: &str) -> Option<u64> {
     text.parse::<u64>().ok()
 }
 
-/// The fraction that the text writes.
+/// The fraction that the text writes, as `p/q` or as `p`, of at most 13 digits each, where q isn't 0.
 pub fn read_fraction(text: &str) -> Option<Fraction> {
     let (is_negative, size) = match text.strip_prefix('-') {
         Some(size) => (true, size),

@@ -11,6 +11,7 @@ pub struct Frame<'a> {
     pub height: Fraction,
 }
 
+// Whether the text has letters, digits and `_` alone, no digit first.
 fn is_name(text: &str) -> bool {
     text.bytes().all(|b| b.is_ascii_alphanumeric() || b == b'_')
         && text.bytes().next().is_some_and(|b| !b.is_ascii_digit())
@@ -24,7 +25,7 @@ fn size(text: &str) -> Option<Fraction> {
     }
 }
 
-/// The frame that the line says.
+/// The frame that the line says, if it says one whose width and height aren't negative.
 pub fn read_frame(line: &str) -> Option<Frame<'_>> {
     let mut words = line.split(' ');
     if words.next() != Some("frame") {

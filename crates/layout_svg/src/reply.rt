@@ -5,7 +5,8 @@ use std::alloc::{AllocError, Global};
 /// Why there is no drawing.
 #[derive(Clone, Copy, Debug, PartialEq, Eq)]
 pub(crate) enum Fault {
-    /// This line, counted from 1, begins as a frame and is none, or no frame of the window stands before it.
+    /// This line, counted from 1, begins as a frame and is none, or it is the first of a reply and not the
+    /// window's, or the window's and not the first.
     Malformed(usize),
     /// There is no reply to `frames`, or one that doesn't end in `ok`.
     NotWhole,

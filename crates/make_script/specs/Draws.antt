@@ -1,6 +1,7 @@
 -- The generator: its states, and the numbers that are drawn from them.
 use Rattle.std.specs.Prelude.{ℕ, ◌+◌, ◌*◌, ◌/◌, ◌%◌, ◌^◌}
 
+-- the state after this one
 abbrev pub next : ℕ → ℕ
 next state = (5 * state + 7) % 2 ^ 64
 

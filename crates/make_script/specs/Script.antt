@@ -66,12 +66,15 @@ abbrev pub after : Part → ℕ → ℕ → ℕ
 after part zero s = s
 after part (suc more) s = after part more (state_after part s)
 
+-- the state after the sizes of the script
 abbrev pub sized : ℕ → ℕ → ℕ
 sized seed views = after Sizes views seed
 
+-- the state after the stacks of the script, which come behind the sizes
 abbrev pub stacked : ℕ → ℕ → ℕ
 stacked seed views = after Stacks (views - 1) (sized seed views)
 
+-- the state after the widths of the script, which come behind the stacks
 abbrev pub widened : ℕ → ℕ → ℕ
 widened seed views = after Widths (views - 1) (stacked seed views)
 

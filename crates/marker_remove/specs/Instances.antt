@@ -19,7 +19,7 @@ standing k = record {
   stays = record { attr = 1; target = record { num = pos k; den = 1 } } ∷ [];
 }
 
--- the quantity does not fit at these marks
+-- that the quantity does not fit at these marks, as a stop says it
 abbrev pub unfit_at : List Mark → Quantity → UnfitPath
 unfit_at at quantity = record {
   path = record { dual = false; corner = at; swaps = [] };

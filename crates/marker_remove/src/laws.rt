@@ -1,4 +1,4 @@
-// That some rows cannot leave, and most can.
+// That a row may have a stop where it leaves, and instances in which the same is none.
 ghost use Rattle.marker_remove.specs.Instances.{SomeRowsCannotLeave};
 
 /// The row `x >= 2^42` where x stands there has a stop: x does not fit once a mark of the row is in. The same

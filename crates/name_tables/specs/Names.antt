@@ -19,6 +19,7 @@ pub record NameList : Type 0 where
 abbrev pub place_of : List (List ℕ) → List ℕ → Option ℕ
 place_of names name = position (bytes_eq name) names
 
+-- no name stands twice
 abbrev pub AreDistinct : List (List ℕ) → Type 0
 AreDistinct names = AllPairs (λ a b. a ≢ b) names
 
@@ -43,9 +44,11 @@ IsWithout old name new =
 -- ---- values under names
 
 module _ {V : Type 0} where
+  -- the names, in order
   abbrev pub names_of : List (List ℕ × V) → List (List ℕ)
   names_of entries = keys_of entries
 
+  -- the values, in order
   abbrev pub values_of : List (List ℕ × V) → List V
   values_of entries = map.values_of entries
 

@@ -42,6 +42,7 @@ abbrev pub PathIsItsClauses : Type 0
 PathIsItsClauses = (dual : Bool) (p : Problem) (at : List Mark) (swaps : List Swap)
     → AreClauses dual p at swaps ↔ IsPath dual p at swaps
 
+-- the number of a held row; a stay has none
 abbrev pub held_number : RowName → Option ℕ
 held_number (Held id) = Some id
 held_number (StayOf attr) = None
@@ -75,31 +76,37 @@ pub record IsShownPath (p : Problem) (path : Path) (unfit : Option Quantity) : T
   pub apart : ArePairwiseDifferent (corners path.corner path.swaps)
   pub lawful : AreShownSwaps path.dual p path.corner path.swaps (row_of_terms unfit)
 
--- the first two clauses
+-- the clauses before 11: the first two
 pub record HoldToExchanges (p : Problem) (path : Path) : Type 0 where
   pub corner : IsCorner p path.corner
   pub exchanges : AreExchanges p path.corner path.swaps
 
+-- clause 11: no corner of the path comes twice
 abbrev pub AreApart : Path → Type 0
 AreApart path = ArePairwiseDifferent (corners path.corner path.swaps)
 
+-- clause 12: at each corner what has to hold there, but for the values that are not judged with this quantity
 abbrev pub IsSoundPath : Problem → Path → Option Quantity → Type 0
 IsSoundPath p path unfit = AreSoundBefore path.dual p path.corner path.swaps (row_of_terms unfit)
 
+-- clause 13: no corner before the last is an end, and each exchange is called for
 abbrev pub IsCalledFor : Problem → Path → Type 0
 IsCalledFor p path = AreCalledFor path.dual p path.corner path.swaps
 
+-- clause 14: the quantity does not fit at the last corner; it holds where the path is shown with none
 abbrev pub DoesNotFit : Problem → Path → Option Quantity → Type 0
 DoesNotFit p path None = Unit {0}
 DoesNotFit p path (Some named) = IsUnfitAt p (last_marks path.corner path.swaps) named
 
--- the clauses before 12, 13 and 14
+-- the clauses before 12
 abbrev pub HoldToApart : Problem → Path → Type 0
 HoldToApart p path = HoldToExchanges p path × AreApart path
 
+-- the clauses before 13
 abbrev pub HoldToSound : Problem → Path → Option Quantity → Type 0
 HoldToSound p path unfit = HoldToApart p path × IsSoundPath p path unfit
 
+-- the clauses before 14
 abbrev pub HoldToCalled : Problem → Path → Option Quantity → Type 0
 HoldToCalled p path unfit = HoldToSound p path unfit × IsCalledFor p path
 

@@ -52,6 +52,7 @@ IsInRows p level j (Terms mark i) = ⊥
 IsInRows p level j (Rows other i) = (other ≡ level) × (i < j)
 IsInRows p level j (Shifts what i) = ⊥
 
+-- q is part of the named sum: the same sum of fewer, or an attribute or a mark that it sums
 abbrev pub IsPartOf : Problem → Quantity → Quantity → Type 0
 IsPartOf p (Plain what) q = ⊥
 IsPartOf p (Terms mark j) q = IsInTerms p mark j q
@@ -92,12 +93,13 @@ abbrev pub CountsAtEnd : Bool → Problem → List Swap → Quantity → Quantit
 CountsAtEnd dual p [] named q = IsPartOf p named q ⊎ (IsPartial q × IsEarlier dual p named q)
 CountsAtEnd dual p (s ∷ done) named q = IsPartOf p named q
 
--- the route leads in n exchanges to a corner at which a quantity that counts does not fit
+-- the quantity counts at the corner to which these exchanges of the route lead
 abbrev pub Counts : Problem → Path → Option Quantity → List Swap → Quantity → Type 0
 Counts p path None done q = CountsOnTheWay done q
 Counts p path (Some named) done q = ((IsWholeRoute p path done → ⊥) × CountsOnTheWay done q)
     ⊎ (IsWholeRoute p path done × CountsAtEnd path.dual p done named q)
 
+-- the route leads in n exchanges to a corner at which a quantity that counts does not fit
 pub record HasNoRoom (p : Problem) (path : Path) (unfit : Option Quantity) (n : ℕ) : Type 0 where
   pub done : List Swap
   pub count : length done ≡ n

@@ -9,6 +9,7 @@ use Rattle.problem_core.specs.Unfit.{over_mark}
 use Rattle.cert_core.specs.Paths.{Path}
 use Rattle.cert_core.specs.Stops.{ComesBefore}
 
+-- the marks inside where a route begins: the over marks of all held rows
 abbrev pub over_marks : Problem → List Mark
 over_marks p = map (λ r. over_mark r.id) p.rows
 
@@ -46,5 +47,6 @@ abbrev pub EndsBy : List Mark → List Swap → List Mark → List Swap → Type
 EndsBy wanted swaps at done = (brings : List Swap) × (done ≡ brings ++ swaps)
     × All (λ m. IsIn (place m) (last_marks at brings)) wanted
 
+-- these are all exchanges of the route for the path
 abbrev pub IsWholeRoute : Problem → Path → List Swap → Type 0
 IsWholeRoute p path done = IsRoute p path done × EndsBy path.corner path.swaps (over_marks p) done

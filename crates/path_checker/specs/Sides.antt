@@ -19,6 +19,7 @@ abbrev pub walk : List (Option Side) → List Step → List (List (Option Side))
 walk sides [] = []
 walk sides (step ∷ steps) = moved_sides step sides ∷ walk (moved_sides step sides) steps
 
+-- both places of the exchange are those of lines, of which there are so many
 abbrev pub IsWithin : ℕ → Step → Type 0
 IsWithin count step = (step.enter.at < count) × (step.leave.at < count)
 

@@ -18,15 +18,19 @@ use Rattle.path_checker.specs.declared.table.Sum.{Sum}
 use Rattle.path_checker.specs.declared.table.Inside.{Inside}
 use Rattle.path_checker.specs.Numbers.{AreFitting}
 
+-- how many lines the problem has
 abbrev pub line_count : Problem → ℕ
 line_count p = length (lines p)
 
+-- the name of the line at a place
 abbrev pub name_at : Problem → ℕ → RowName
 name_at p at = slice_index_or (map (λ l. l.name) (lines p)) at (Held 0)
 
+-- the mark at a spot: of the line at its place, on its side
 abbrev pub mark_of : Problem → Spot → Mark
 mark_of p spot = record { row = name_at p spot.at; side = spot.side }
 
+-- the exchange of the marks at a step's two spots
 abbrev pub swap_of : Problem → Step → Swap
 swap_of p step = record { enter = mark_of p step.enter; leave = mark_of p step.leave }
 
@@ -67,6 +71,7 @@ pub record AreLines (p : Problem) (at : List Mark) (kept : List (Option Inside))
   pub count : length kept ≡ line_count p
   pub each : (k : ℕ) (d : Option Inside) → k < line_count p → IsLineAt p at (name_at p k) (get_or kept k d)
 
+-- the line is outside, or its sum fits and has a number for each of so many lines
 abbrev pub IsSizedLine : ℕ → Option Inside → Type 0
 IsSizedLine count None = Unit {0}
 IsSizedLine count (Some inside) = IsSized count inside.sum
@@ -77,6 +82,7 @@ AreSized kept = (k : ℕ) (d : Option Inside) → k < length kept → IsSizedLin
 
 -- ---- the two marks of a line are exchanged
 
+-- the line is outside before and after, or the mark of this side is inside now, with the same sum
 abbrev pub IsTurnedLine : Side → Option Inside → Option Inside → Type 0
 IsTurnedLine side None None = Unit {0}
 IsTurnedLine side None (Some next) = ⊥
@@ -89,6 +95,7 @@ pub record IsTurned (at : ℕ) (side : Side) (old next : List (Option Inside)) :
   pub here : (d : Option Inside) → IsTurnedLine side (get_or old at d) (get_or next at d)
   pub others : (k : ℕ) (d : Option Inside) → k ≢ at → get_or next k d ≡ get_or old k d
 
+-- after the exchange of a line's two marks the lines so turned are those of the corner
 abbrev pub TurnedLinesAre : Type 0
 TurnedLinesAre = (p : Problem) (at : List Mark) (step : Step) (old next : List (Option Inside))
     → IsThere p at → step.enter.at < line_count p → step.enter.at ≡ step.leave.at
@@ -115,6 +122,7 @@ pub record AreSides (p : Problem) (at : List Mark) (sides : List (Option Side)) 
   pub each : (k : ℕ) (side : Side) → k < line_count p
       → (slice_index_or sides k None ≡ Some side) ↔ IsIn (place_of (name_at p k) side) at
 
+-- the names of all lines, in order
 abbrev pub names_of : Problem → List RowName
 names_of p = map (λ l. l.name) (lines p)
 

@@ -35,7 +35,7 @@ pub fn is_up(line: &Option<Inside>) -> bool
     }
 }
 
-/// Whether the value of this inside mark of the line is negative.
+/// Whether the value of the line's inside mark is negative, where it has one.
 pub fn is_down(line: &Option<Inside>) -> bool
     ensures { (p : Problem) (at : List Mark) (mark : Mark) → IsThere p at → IsLineAt p at mark.row line.now
         → IsIn (place mark) at → IsTrue result ↔ HasNegativeValue p at mark }

@@ -1,4 +1,4 @@
-// The way to a path's first corner.
+// The way to a path's first corner, and along its swaps.
 ghost use Rattle.std.specs.Prelude.{◌≡◌, ◌≢◌, ◌<◌, ◌≤◌, ◌+◌, ◌^◌, [], List, length};
 ghost use Rattle.std.specs.Prelude.{IfOk, IfErr, Ok, Err, Some, false};
 ghost use Rattle.problem_core.specs.Layout.{Problem};

@@ -41,12 +41,13 @@ IsAttrAfter p at attr (Some sum) = IsQuantitySum p at (λ x. x (attr_column attr
 abbrev pub IsEmptyLevel : Problem → Level → Type 0
 IsEmptyLevel p level = (k : ℕ) → IsLevelAt p level k → All (λ l. l.level ≢ k) (lines p)
 
--- the attribute fits, wherever this is its stay's line and target, or it does not
+-- the attribute fits, wherever this is its stay's line and target
 abbrev pub IsFittingStay : Fraction → Option Inside → Type 0
 IsFittingStay target line = (p : Problem) (marks : List Mark) (attr at : ℕ) → IsThere p marks
     → IsStayAt p attr at target → IsLineAt p marks (name_at p at) line
     → HasNoWriting p marks (λ x. x (attr_column attr)) → ⊥
 
+-- the attribute does not fit, wherever this is its stay's line and target
 abbrev pub IsUnfitStay : Fraction → Option Inside → Type 0
 IsUnfitStay target line = (p : Problem) (marks : List Mark) (attr at : ℕ) → IsThere p marks
     → IsStayAt p attr at target → IsLineAt p marks (name_at p at) line

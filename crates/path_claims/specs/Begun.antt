@@ -42,6 +42,7 @@ pub record IsBegunUntil (p : Problem) (lines : List (Option Inside)) (sum : Quan
   pub unfit : IsUnfitAt p (over_marks p) sum
   pub before : (q : Quantity) → ComesBefore p q sum → IsUnfitAt p (over_marks p) q → ⊥
 
+-- all of the corner where the route begins, or its lines before the first sum that does not fit
 abbrev pub IsBegun : Problem → Outline → Begun → Type 0
 IsBegun p outline (Whole lines levels) = IsWholeBegun p outline lines.items levels.items
 IsBegun p outline (Until lines unfit) = IsBegunUntil p lines.items unfit

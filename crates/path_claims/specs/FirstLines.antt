@@ -44,6 +44,7 @@ AreFirstAfter last pivot firsts next = (k : ℕ) (d : Option Inside) → k < len
     → IsFirstAt last.outline.now.lines.items firsts k → (p : Problem)
     → AfterExchange p pivot last.lines.now (λ at. IsLineAt p at (name_at p k) (get_or next k d))
 
+-- after the exchange the inside mark of one of these lines does not fit
 abbrev pub LeadsToUnfitFirst : Last → Pivot → FirstLines → Type 0
 LeadsToUnfitFirst last pivot firsts = (p : Problem) → AfterExchange p pivot last.lines.now
     (λ at. HasUnfitFirst p at last.outline.now.lines.items firsts)

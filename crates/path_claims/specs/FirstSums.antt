@@ -26,11 +26,12 @@ IsTermsValue p r j value = (by : List ℤ) × IsTermsSum p r j by value
 abbrev pub IsUnfitSum : Problem → Row → ℕ → Type 0
 IsUnfitSum p r j = HasNoWriting p (over_marks p) (first_terms r j)
 
--- the value with the term, wherever it is the next one, and where it does not fit
+-- the value of the sum with the term, wherever it is the next one
 abbrev pub IsNextValue : Problem → Term → Fraction → Fraction → Type 0
 IsNextValue p term value next = (r : Row) (j : ℕ) (d : Term) → j < length r.terms → get_or r.terms j d ≡ term
     → IsTermsValue p r j value → IsTermsValue p r (j + 1) next
 
+-- the sum with the term does not fit, wherever it is the next one
 abbrev pub IsNextTooMuch : Problem → Term → Fraction → Type 0
 IsNextTooMuch p term value = (r : Row) (j : ℕ) (d : Term) → j < length r.terms → get_or r.terms j d ≡ term
     → IsTermsValue p r j value → IsUnfitSum p r (j + 1)

@@ -33,6 +33,7 @@ pub record IsSizedLast (last : Last) : Type 0 where
   pub level_count : length last.levels.now ≡ length last.outline.now.levels.items
   pub step : IsWithin (length last.lines.now) last.step
 
+-- each attribute fits at the corner
 abbrev pub AllAttrsFit : Problem → List Mark → Type 0
 AllAttrsFit p at = (attr : ℕ) → IsUnfitWhat p at (Attr attr) → ⊥
 
@@ -43,5 +44,6 @@ pub record IsLastAfter (p : Problem) (at : List Mark) (last : Last) : Type 0 whe
   pub attrs : AllAttrsFit p at
   pub exchange : IsExchange p at (swap_of p last.step)
 
+-- the marks inside after the last exchange
 abbrev pub marks_after : Problem → Last → List Mark → List Mark
 marks_after p last at = exchanged (swap_of p last.step) at

@@ -38,6 +38,7 @@ abbrev pub IsBroughtTo : PathCase → List Mark → Spot → (station next : Sta
 IsBroughtTo case at enter station next = IsBroughtBy case.p.now case.path.now.corner at enter
     (λ ms. IsStation case.p.now ms case.outline.now next) station.count next.count next.step
 
+-- so it is at each corner of which this is the station
 abbrev pub Brings : PathCase → Spot → Station → Station → Type 0
 Brings case enter station next = (at : List Mark) → IsStation case.p.now at case.outline.now station
     → IsBroughtTo case at enter station next
@@ -59,6 +60,7 @@ IsJourneyAt p path outline before rest journey =
     IsRouteAt p path (λ at. IsStation p at outline journey.station) before rest journey.station.count
     journey.station.step journey.sides.items
 
+-- the journey's station is usable, and there is an entry for each line
 pub record IsUsableJourney (p : Problem) (outline : Outline) (journey : Journey) : Type 0 where
   pub station : IsUsableStation outline journey.station
   pub sides : length journey.sides.items ≡ line_count p
@@ -70,11 +72,13 @@ pub record IsMarkNext (p : Problem) (path : Path) (outline : Outline) (before : 
   pub wanted : IsIn (place m) path.corner
   pub journey_is : IsJourneyAt p path outline before (m ∷ rest) journey
 
+-- this is the journey once the mark is inside too, wherever the mark is the next one
 abbrev pub HasOneMore : PathCase → Journey → Spot → Journey → Type 0
 HasOneMore case journey enter next = (before : List Mark) (m : Mark) (rest : List Mark)
     → IsMarkNext case.p.now case.path.now case.outline.now before m rest journey enter
     → IsJourneyAt case.p.now case.path.now case.outline.now (before ++ m ∷ []) rest next
 
+-- the route stops so at the mark, wherever the mark is the next one
 abbrev pub StopsAt : PathCase → Journey → Spot → WayStop → Type 0
 StopsAt case journey enter stop = (before : List Mark) (m : Mark) (rest : List Mark)
     → IsMarkNext case.p.now case.path.now case.outline.now before m rest journey enter

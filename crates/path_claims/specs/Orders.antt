@@ -21,7 +21,7 @@ IsPlaceOf p (Terms mark j) place = (place.is_rows ≡ false) × (mark ≡ over_m
 IsPlaceOf p (Rows level j) place = (place.is_rows ≡ true) × IsLevelAt p level place.at × (j ≡ place.first)
 IsPlaceOf p (Shifts what j) place = ⊥
 
--- at the same row or level it sums fewer
+-- it is of an earlier row or level, or of the same and sums fewer
 abbrev pub IsLower : Place → Place → Type 0
 IsLower a b = (a.at < b.at) ⊎ ((a.at ≡ b.at) × (a.first < b.first))
 

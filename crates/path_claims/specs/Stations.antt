@@ -66,13 +66,16 @@ abbrev pub IsStationBy : Problem → List Mark → Outline → Table → Option 
 IsStationBy p at outline table None = at ≡ over_marks p
 IsStationBy p at outline table (Some step) = ComesBy p at outline table step
 
+-- the station is that of the corner
 abbrev pub IsStation : Problem → List Mark → Outline → Station → Type 0
 IsStation p at outline station = IsStationBy p at outline station.table station.step
 
+-- before an exchange the table has the outline's lengths and fits, and both of the exchange's lines are in it
 abbrev pub IsUsableBy : Outline → Table → Option Step → Type 0
 IsUsableBy outline table None = Unit {0}
 IsUsableBy outline table (Some step) = IsSizedTable outline table × IsWithin (length table.lines.items) step
 
+-- so it is with the table and the exchange of the station
 abbrev pub IsUsableStation : Outline → Station → Type 0
 IsUsableStation outline station = IsUsableBy outline station.table station.step
 

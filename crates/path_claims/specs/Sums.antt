@@ -21,6 +21,7 @@ use Rattle.path_levels.specs.Exchanges.Pivots.{IsExchangePivot}
 
 -- ---- which mark is inside
 
+-- the line is outside, or its mark of this side is inside
 abbrev pub IsSideAt : List Mark → RowName → Option Side → Type 0
 IsSideAt at name None = IsOutsideLine at name
 IsSideAt at name (Some side) = IsIn (place_of name side) at
@@ -47,11 +48,12 @@ IsUnfitAfter pivot sum = (p : Problem) (at : List Mark) (quantity : (ℕ → ℤ
 
 -- ---- values
 
--- the value of the sum after the exchange, as a ratio
+-- the value of the sum after the exchange, as a ratio: its numerator
 abbrev pub next_num : Pivot → Sum → ℤ
 next_num pivot sum = sum_num sum.value (number_at sum.by.items pivot.step.enter.at *ℤ pivot.times)
     (sum.own *ℤ pivot.size) pivot.value
 
+-- and its denominator
 abbrev pub next_den : Pivot → Sum → ℤ
 next_den pivot sum = sum_den sum.value (sum.own *ℤ pivot.size) pivot.value
 
@@ -61,6 +63,7 @@ pub record IsShareOf (p : Problem) (at : List Mark) (name enter : RowName) (shar
   pub sum : IsLineSum p at (deviation name) (unsigned_abs share.own) by share.value.num share.value.den
   pub number : by enter ≡ share.number
 
+-- the share's own number is above 0, and both of its numbers fit
 pub record IsSizedShare (share : Share) : Type 0 where
   pub above : pos 0 <ℤ share.own
   pub own_fits : IsFitting share.own
@@ -91,6 +94,7 @@ pub record IsUnitSum (count at : ℕ) (value : Fraction) (sum : Sum) : Type 0 wh
   pub by : IsUnitList count at sum.by.items
   pub value_is : sum.value ≡ value
 
+-- the line is outside, or the value of its sum is in lowest terms and fits
 abbrev pub IsKeptLine : Option Inside → Type 0
 IsKeptLine None = Unit {0}
 IsKeptLine (Some inside) = IsKept inside.sum.value

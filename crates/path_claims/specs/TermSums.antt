@@ -18,14 +18,16 @@ use Rattle.path_claims.specs.declared.last.Fit.{Fit}
 use Rattle.path_claims.specs.declared.last.Fit.TheVariants.{Fits, Unfit, NoRoom}
 use Rattle.path_claims.specs.Sums.{IsQuantitySum}
 
+-- the quantity that these terms add up to
 abbrev pub terms_of : List Term → (ℕ → ℤ) → ℤ
 terms_of terms x = sum_of (λ t. t.by *ℤ x (attr_column t.attr)) terms
 
--- the quantity and `by` times the other
+-- this is the sum of the quantity and `by` times the other
 abbrev pub IsTermMore : Sum → ℤ → Sum → Sum → Type 0
 IsTermMore sum by more next = (p : Problem) (at : List Mark) (q u : (ℕ → ℤ) → ℤ) → IsThere p at
     → IsQuantitySum p at q sum → IsQuantitySum p at u more → IsQuantitySum p at (λ x. q x +ℤ by *ℤ u x) next
 
+-- the quantity and `by` times the other, added up, do not fit
 abbrev pub IsTermUnfit : Sum → ℤ → Sum → Type 0
 IsTermUnfit sum by more = (p : Problem) (at : List Mark) (q u : (ℕ → ℤ) → ℤ) → IsThere p at
     → IsQuantitySum p at q sum → IsQuantitySum p at u more → HasNoWriting p at (λ x. q x +ℤ by *ℤ u x)

@@ -32,6 +32,7 @@ abbrev pub reduced_by : Side → ℕ → ℤ → ℤ
 reduced_by Under count y = pos count -ℤ y
 reduced_by Over count y = pos count +ℤ y
 
+-- the reduced cost of the line's outside mark on this side, at the level at a place
 abbrev pub cost_of : Side → (place unit own : ℕ) → LineFacts → ℤ → ℤ
 cost_of side place unit own facts y = reduced_by side (counted side place unit own facts) y
 

@@ -66,6 +66,7 @@ IsJoinedCost old f (Some inside) cost = IsLowest cost × Fits cost
     × IsRatio cost (sum_num old (cost_number inside.side f) f.scale inside.sum.value)
     (sum_den old f.scale inside.sum.value)
 
+-- a mark of the line is inside, and the cost with the line's does not fit
 abbrev pub IsUnfitJoinedCost : Fraction → LineFacts → Option Inside → Type 0
 IsUnfitJoinedCost old f None = ⊥
 IsUnfitJoinedCost old f (Some inside) =

@@ -22,10 +22,12 @@ pub record IsSizedLevel (count : ℕ) (sum : LevelSum) : Type 0 where
   pub scale : IsFitting (sum.own *ℤ sum.unit)
   pub fits : All IsFitting sum.by.items
 
+-- so it is with the sum of each level
 abbrev pub AreSizedLevels : ℕ → List LevelSum → Type 0
 AreSizedLevels count levels = All (IsSizedLevel count) levels
 
--- it is the row of the level with this number at the corner, and the cost there; all of it fits
+-- it is the row of the level with this number at the corner, and the cost there; scale, numbers and reduced
+-- costs fit
 pub record IsLevelSum (p : Problem) (at : List Mark) (level : ℕ) (sum : LevelSum) : Type 0 where
   pub sized : IsSizedLevel (line_count p) sum
   pub there : IsLevelThere p at level (unsigned_abs sum.unit) (unsigned_abs sum.own)

@@ -12,6 +12,7 @@ use Rattle.path_levels.specs.Outlines.{IsFactsOf, number_at}
 abbrev pub HasNumber : List LevelFacts → ℕ → Type 0
 HasNumber levels number = Any (λ f. f.number ≡ number) levels
 
+-- it is the level of a rank's rows, with a number below n
 abbrev pub IsRankLevel : ℕ → LevelFacts → Type 0
 IsRankLevel n f = (f.number < n) × ((rank : ℕ) × (f.level ≡ Priority rank) × (f.number + rank ≡ REQUIRED))
 

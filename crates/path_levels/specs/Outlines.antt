@@ -22,6 +22,7 @@ pub record IsFactsOf (levels : List LevelFacts) (l : Line) (facts : LineFacts) :
   pub level : facts.level < length levels
   pub number : number_at levels facts.level ≡ l.level
 
+-- the facts of these lines, in order
 abbrev pub AreFactsOf : List LevelFacts → List Line → List LineFacts → Type 0
 AreFactsOf levels [] [] = Unit {0}
 AreFactsOf levels [] (f ∷ facts) = ⊥
@@ -33,6 +34,7 @@ pub record AreLevelFacts (p : Problem) (levels : List LevelFacts) : Type 0 where
   pub each : All (λ f. IsLevelAt p f.level f.number) levels
   pub rising : AllPairs (λ f g. f.number < g.number) levels
 
+-- the facts of the problem's lines, its levels, and how many rows it has
 pub record IsOutline (p : Problem) (outline : Outline) : Type 0 where
   pub lines_are : AreFactsOf outline.levels.items (lines p) outline.lines.items
   pub levels_are : AreLevelFacts p outline.levels.items
@@ -47,5 +49,6 @@ pub record IsSizedFacts (levels : ℕ) (facts : LineFacts) : Type 0 where
   pub scale : (pos 0 <ℤ facts.scale) × (facts.scale ≤ℤ pos COEFFICIENT_LIMIT)
   pub level : facts.level < levels
 
+-- so it is with each line of the outline, and its level is one of the outline's
 abbrev pub IsSizedOutline : Outline → Type 0
 IsSizedOutline outline = All (IsSizedFacts (length outline.levels.items)) outline.lines.items

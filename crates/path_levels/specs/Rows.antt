@@ -19,10 +19,11 @@ use Rattle.path_levels.specs.declared.rows.UnfitRows.{UnfitRows}
 use Rattle.path_levels.specs.Outlines.{IsOutline, number_at}
 use Rattle.path_levels.specs.Levels.{IsLevelSum}
 
--- how many lines of this level there are, and how many of them are among the first k lines
+-- how many lines of this level there are
 abbrev pub level_size : Problem → ℕ → ℕ
 level_size p level = length (filter (λ l. nat_eq l.level level) (lines p))
 
+-- how many of them are among the first k lines
 abbrev pub level_place : Problem → ℕ → ℕ → ℕ
 level_place p level k = length (filter (λ l. nat_eq l.level level) (take k (lines p)))
 
@@ -48,12 +49,12 @@ pub record AreKeptOf (p : Problem) (at : List Mark) (outline : Outline) (place m
 abbrev pub AreFittingRows : Problem → List Mark → Level → ℕ → Type 0
 AreFittingRows p at level most = (j : ℕ) → j ≤ most → IsUnfitRows p at level j → ⊥
 
--- the first so many rows of the level at the place do not fit, and fewer do
+-- the first so many rows of the level do not fit, and fewer do
 pub record IsFirstUnfit (p : Problem) (at : List Mark) (level : Level) (j : ℕ) : Type 0 where
   pub unfit : IsUnfitRows p at level j
   pub before : (i : ℕ) → i < j → IsUnfitRows p at level i → ⊥
 
--- the rows of all levels before do fit
+-- the first so many rows of the level do not fit, and all sums of first rows that come before do
 pub record IsFirstOfAll (p : Problem) (at : List Mark) (level : Level) (j : ℕ) : Type 0 where
   pub unfit : IsUnfitRows p at level j
   pub before : (other : Level) (i : ℕ) → ComesBefore p (Rows other i) (Rows level j)

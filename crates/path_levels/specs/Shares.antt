@@ -22,6 +22,7 @@ pub record IsScaled (sum : LevelSum) : Type 0 where
   pub own : pos 0 <ℤ sum.own
   pub scale : IsFitting (sum.own *ℤ sum.unit)
 
+-- what the line's deviation on this side costs
 abbrev pub weight_on : Side → LineFacts → ℤ
 weight_on Under facts = facts.under
 weight_on Over facts = facts.over
@@ -31,6 +32,7 @@ abbrev pub share_of : LineFacts → Side → ℕ → ℤ → ℕ
 share_of facts side place unit = cond (nat_eq facts.level place)
     (unsigned_abs unit * unsigned_abs (weight_on side facts) / unsigned_abs facts.scale) 0
 
+-- the same, times the own number of the level's row
 abbrev pub counted_of : LineFacts → Side → ℕ → LevelSum → ℕ
 counted_of facts side place sum = unsigned_abs sum.own * share_of facts side place sum.unit
 

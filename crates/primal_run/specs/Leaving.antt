@@ -23,6 +23,7 @@ pub record IsRatioAt (p : Problem) (at : List Mark) (c : ℕ) (r : Ratio) : Type
   pub below : r.below ≡ neg_ℤ (pos w.den *ℤ r.by)
   pub positive : pos 0 <ℤ r.below
 
+-- there is no ratio, or it is such a one
 abbrev pub IsRatioOrNone : Problem → List Mark → ℕ → Option Ratio → Type 0
 IsRatioOrNone p at c None = Unit {0}
 IsRatioOrNone p at c (Some r) = IsRatioAt p at c r
@@ -35,7 +36,7 @@ NeverFalls p at c m = (w : Writing) → Writes p at (place m) w → coefficient 
 abbrev pub ForWritings : Problem → List Mark → Mark → Mark → (Writing → Writing → Type 0) → Type 0
 ForWritings p at m n holds = (v w : Writing) → Writes p at (place m) v → Writes p at (place n) w → holds v w
 
--- the mark falls to 0 no later than the other one
+-- the mark falls to 0 before the other one, or with it and breaks the tie
 abbrev pub FallsBefore : Problem → List Mark → ℕ → List Mark → Mark → Mark → Type 0
 FallsBefore p at c first m n = ForWritings p at m n
     (λ v w. FallsFirst (map place first) c (place m) v (place n) w)
@@ -50,14 +51,14 @@ abbrev pub count_order : Mark → Ratio → Writing → Ratio → Writing → Or
 count_order f a v b w = int_cmp (count_at (place b.mark) w (place f) *ℤ a.by)
     (count_at (place a.mark) v (place f) *ℤ b.by)
 
--- this ratio is one of the two, and its mark falls to 0 no later than either
+-- it is a ratio, whose mark falls to 0 before both of these, or with one and breaks the tie
 pub record IsEarlier (p : Problem) (at : List Mark) (c : ℕ) (first : List Mark) (a b best : Ratio)
     : Type 0 where
   pub ratio : IsRatioAt p at c best
   pub before_a : FallsBefore p at c first best.mark a.mark
   pub before_b : FallsBefore p at c first best.mark b.mark
 
--- no mark among these falls to 0 before m
+-- each other mark among these that falls does so after m, or with it and doesn't win the tie
 abbrev pub IsFirst : Problem → List Mark → ℕ → List Mark → List What → Mark → Type 0
 IsFirst p at c first list m = All (λ x. (n : Mark) → x ≡ MarkOf n → (w : Writing) → Writes p at (place n) w
     → coefficient c w.form <ℤ pos 0 → FallsBefore p at c first m n) list

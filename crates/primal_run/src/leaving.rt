@@ -44,7 +44,8 @@ fn next_untied(
     }
 }
 
-/// The inside mark that comes to 0 first where a mark enters, and no two come to 0 together.
+/// The inside mark that comes to 0 first where a mark enters, unless two that are compared come to 0
+/// together.
 pub(crate) fn leaving_untied(c: &Corner, enter: Mark) -> Result<Mark, Tied>
     requires enter { MayEnter c.now.problem c.now.marks enter }
     ensures inside { IfOk result (λ m. IsIn (corners.place m) c.now.marks) }

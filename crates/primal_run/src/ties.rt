@@ -121,7 +121,7 @@ fn breaks_tie(c: &Corner, a: Ratio, b: Ratio, enter: Mark, first: &[Mark]) -> bo
 #[derive(Clone, Copy, Debug)]
 pub(crate) struct Tied;
 
-/// The smaller one of two ratios.
+/// The smaller one of two ratios, unless they are equal.
 pub(crate) fn smaller(c: &Corner, a: Ratio, b: Ratio, enter: Mark) -> Result<Ratio, Tied>
     requires a { IsRatioAt c.now.problem c.now.marks (corners.place enter) a }
     requires b { IsRatioAt c.now.problem c.now.marks (corners.place enter) b }

@@ -10,9 +10,11 @@ use Rattle.problem_core.specs.declared.limits.TheConstants.{REQUIRED}
 
 -- ---- conflict
 
+-- the required rows of the problem
 abbrev pub required : Problem → List Row
 required p = filter (λ r. nat_eq r.rank REQUIRED) p.rows
 
+-- the relation allows a multiplier of this sign
 abbrev pub HasSign : Rel → ℤ → Type 0
 HasSign Eq y = Unit {0}
 HasSign Ge y = pos 0 ≤ℤ y
@@ -33,25 +35,28 @@ pub record Multipliers : Type 0 where
   pub scale : ℕ → ℕ
   pub times : ℕ → RowName → ℤ
 
--- what one point below, and above, costs at a level
+-- what one point below costs, where these are the relation and the weight
 abbrev pub under_weight : Rel → ℕ → ℕ
 under_weight Eq w = w
 under_weight Ge w = w
 under_weight Le w = 0
 
+-- what one point above costs, where these are the relation and the weight
 abbrev pub over_weight : Rel → ℕ → ℕ
 over_weight Eq w = w
 over_weight Ge w = 0
 over_weight Le w = w
 
+-- the line's weight at a level: 0 at each but its own
 abbrev pub weight_at : Line → ℕ → ℕ
 weight_at l level = cond (nat_eq l.level level) l.weight 0
 
--- the reduced costs of the two sides of a line, level by level
+-- the reduced cost of the line's under side at a level
 abbrev pub under : Multipliers → Line → ℕ → ℤ
 under m l level = pos (m.scale level * under_weight l.rel (weight_at l level))
     -ℤ pos l.scale *ℤ m.times level l.name
 
+-- the reduced cost of the line's over side at a level
 abbrev pub over : Multipliers → Line → ℕ → ℤ
 over m l level = pos (m.scale level * over_weight l.rel (weight_at l level))
     +ℤ pos l.scale *ℤ m.times level l.name
@@ -64,6 +69,8 @@ constant m ls level = sum_of (λ l. m.times level l.name *ℤ (l.num *ℤ pos (s
 abbrev pub IsLexNonnegative : (ℕ → ℤ) → Type 0
 IsLexNonnegative column = (level : ℕ) → ((k : ℕ) → k < level → column k ≡ pos 0) → pos 0 ≤ℤ column level
 
+-- what shows that x is best: it satisfies the problem, no scale is 0, the forms cancel at each level, no
+-- column is lexicographically negative, and the column of each side that x uses is all 0
 pub record IsCertificate (p : Problem) (x : Assignment) (m : Multipliers) : Type 0 where
   pub required : Satisfies p x
   pub scales : (level : ℕ) → 0 < m.scale level

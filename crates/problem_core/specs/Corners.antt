@@ -1,5 +1,5 @@
 -- Corners: points of the attributes and the deviations, the problem's equations, corners, writings, exchanges
--- and paths.
+-- and reduced costs.
 use Rattle.std.specs.Prelude.{◌≡◌, ◌≢◌, ℕ, zero, suc, ◌+◌, ◌*◌, ◌<◌, cond, nat_eq, List, [], ◌∷◌, map}
 use Rattle.std.specs.Prelude.{length, ℤ, pos, negsuc, ◌-ℤ◌, ◌*ℤ◌, neg_ℤ, nat_abs, ◌≤ℤ◌, ◌<ℤ◌, All, AllPairs}
 use Rattle.std.specs.Prelude.{Any, Contains}
@@ -15,21 +15,25 @@ use Rattle.problem_core.specs.Certificates.{Multipliers, under, over}
 use Rattle.problem_core.specs.Certificates.{IsLexNonnegative}
 use Rattle.problem_core.specs.declared.limits.TheConstants.{MARKS}
 
+-- what a side adds to the column of a mark
 abbrev pub side_number : Side → ℕ
 side_number Under = 0
 side_number Over = 1
 
+-- the column of the mark of a row, or of a stay, on this side
 abbrev pub place_of : RowName → Side → ℕ
 place_of (Held id) s = 4 * id + side_number s
 place_of (StayOf attr) s = 4 * attr + 2 + side_number s
 
+-- the column of a mark
 abbrev pub place : Mark → ℕ
 place m = place_of m.row m.side
 
--- the column of an attribute, and the column whose number is the common denominator
+-- the column of an attribute
 abbrev pub attr_column : ℕ → ℕ
 attr_column attr = MARKS + attr
 
+-- the column whose number is a point's common denominator
 abbrev pub one_column : ℕ
 one_column = 2 * MARKS
 
@@ -46,6 +50,7 @@ equation l =
     ∷ record { attr = one_column; by = neg_ℤ l.num }
     ∷ map (λ e. record { attr = attr_column e.attr; by = pos l.den *ℤ e.by }) l.form
 
+-- the point is a solution: each line's equation holds there
 abbrev pub Solves : Problem → Point → Type 0
 Solves p x = All (λ l. value_at x.num (equation l) ≡ pos 0) (lines p)
 
@@ -54,6 +59,7 @@ abbrev pub marks_of : List Line → List Mark
 marks_of [] = []
 marks_of (l ∷ ls) = record { row = l.name; side = Under } ∷ record { row = l.name; side = Over } ∷ marks_of ls
 
+-- the column is that of one of these marks
 abbrev pub IsIn : ℕ → List Mark → Type 0
 IsIn c marks = Contains (map place marks) c
 
@@ -62,6 +68,7 @@ abbrev pub StandsAt : Problem → List Mark → Point → Type 0
 StandsAt p inside x = Solves p x × All (λ m. (IsIn (place m) inside → ⊥) → x.num (place m) ≡ pos 0)
     (marks_of (lines p))
 
+-- the two points have the same value at the column
 abbrev pub Agree : ℕ → Point → Point → Type 0
 Agree c x y = x.num c *ℤ y.num one_column ≡ y.num c *ℤ x.num one_column
 
@@ -76,8 +83,8 @@ pub record IsCorner (p : Problem) (inside : List Mark) : Type 0 where
       → All (λ m. Agree (place m) point y) (marks_of (lines p))
   pub attrs_fixed : (y : Point) → StandsAt p inside y → All (λ s. Agree (attr_column s.attr) point y) p.stays
 
--- in each solution `scale` times the quantity is the sum of the form of outside marks and of a constant; the
--- constant is `num / den`, the others are in joint lowest terms
+-- in each solution the quantity is the form of outside marks over `scale`, and `num / den`, its value at the
+-- corner; the scale and the form are in joint lowest terms
 pub record IsWritingOf (p : Problem) (at : List Mark) (quantity : (ℕ → ℤ) → ℤ) (scale : ℕ) (form : List Term)
     (num : ℤ) (den : ℕ) : Type 0 where
   pub scale_positive : 0 < scale
@@ -89,6 +96,7 @@ pub record IsWritingOf (p : Problem) (at : List Mark) (quantity : (ℕ → ℤ) 
   pub lowest : (k : ℕ) → ((v : ℕ) → (z : ℤ) × (coefficient v form ≡ pos k *ℤ z)) → (n : ℕ) × (scale ≡ k * n)
       → k ≡ 1
 
+-- an exchange: the mark that enters, and the one that leaves
 pub record Swap : Type 0 where
   pub enter : Mark
   pub leave : Mark
@@ -98,6 +106,7 @@ abbrev pub exchanged : Swap → List Mark → List Mark
 exchanged s [] = []
 exchanged s (m ∷ ms) = cond (nat_eq (place m) (place s.leave)) s.enter m ∷ exchanged s ms
 
+-- the corners along the exchanges, by their marks, the first one and the last among them
 abbrev pub corners : List Mark → List Swap → List (List Mark)
 corners at [] = at ∷ []
 corners at (s ∷ swaps) = at ∷ corners (exchanged s at) swaps
@@ -106,6 +115,7 @@ corners at (s ∷ swaps) = at ∷ corners (exchanged s at) swaps
 abbrev pub SameMarks : List Mark → List Mark → Type 0
 SameMarks a b = All (λ m. IsIn (place m) b) a × All (λ m. IsIn (place m) a) b
 
+-- no two of the corners have the same marks
 abbrev pub ArePairwiseDifferent : List (List Mark) → Type 0
 ArePairwiseDifferent cs = AllPairs (λ a b. SameMarks a b → ⊥) cs
 
@@ -127,10 +137,12 @@ pub record AreMultipliersAt (p : Problem) (inside : List Mark) (m : Multipliers)
 abbrev pub IsLexNegative : (ℕ → ℤ) → Type 0
 IsLexNegative f = (level : ℕ) × ((k : ℕ) → k < level → f k ≡ pos 0) × (f level <ℤ pos 0)
 
+-- by multipliers of the corner, no mark's column is lexicographically negative
 abbrev pub NoNegativeColumn : Problem → List Mark → Type 0
 NoNegativeColumn p inside = (m : Multipliers) × AreMultipliersAt p inside m
     × ((side : Side) → All (λ l. IsLexNonnegative (column m side l)) (lines p))
 
+-- no inside mark has a negative value at the corner
 abbrev pub NoNegativeValue : Problem → List Mark → Type 0
 NoNegativeValue p inside = (x : Point) × StandsAt p inside x × All (λ m. pos 0 ≤ℤ x.num (place m)) inside
 
@@ -139,6 +151,7 @@ abbrev pub HasNegativeColumn : Problem → List Mark → Mark → Type 0
 HasNegativeColumn p inside mark = (m : Multipliers) × AreMultipliersAt p inside m
     × Any (λ l. (place_of l.name mark.side ≡ place mark) × IsLexNegative (column m mark.side l)) (lines p)
 
+-- the mark's value at the corner is negative
 abbrev pub HasNegativeValue : Problem → List Mark → Mark → Type 0
 HasNegativeValue p inside mark = (x : Point) × StandsAt p inside x × (x.num (place mark) <ℤ pos 0)
 
@@ -148,6 +161,7 @@ pub record IsExchange (p : Problem) (at : List Mark) (s : Swap) : Type 0 where
   pub leaves : IsIn (place s.leave) at
   pub corner : IsCorner p (exchanged s at)
 
+-- a number above 0 has a size above 0
 pub abs_positive : (z : ℤ) → pos 0 <ℤ z → 0 < nat_abs z
 abs_positive (pos zero) h = absurd h.lt
 abs_positive (pos (suc n)) h = zero-lt-suc n

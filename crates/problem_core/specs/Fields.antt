@@ -1,9 +1,10 @@
--- What the fields of rows, problems and values stand for.
+-- What the fields of rows and problems stand for.
 use Rattle.std.specs.Prelude.{nat_abs}
 use Rattle.problem_core.specs.declared.row.Row.TheInside.{Inside}
 use Rattle.problem_core.specs.declared.problem.Problem.TheInside.{Inside as ProblemInside}
 use Rattle.problem_core.specs.Layout.{Row, Problem}
 
+-- the row that a row's fields stand for
 abbrev pub row_of : Inside → Row
 row_of r = record {
   id = r.id;
@@ -15,5 +16,6 @@ row_of r = record {
   terms = r.terms.items;
 }
 
+-- the problem that a problem's fields stand for
 abbrev pub problem_of : ProblemInside → Problem
 problem_of p = record { rows = p.rows.items; stays = p.stays.items }

@@ -32,8 +32,10 @@ abbrev pub HasRoom : Row → List (ℕ × Fraction) → Type 0
 HasRoom r values = (d : ℕ) × (0 < d) × (d < GAP_ROOM)
     × All (λ t. HasRoomOver d (value_of values t.attr)) r.terms
 
+-- the denominators of the values of the terms' attributes
 abbrev pub value_dens : List (ℕ × Fraction) → List Term → List ℕ
 value_dens values terms = map (λ t. (value_of values t.attr).den) terms
 
+-- the sum of the terms at the values, times the common denominator d
 abbrev pub scaled_sum : List (ℕ × Fraction) → ℕ → List Term → ℤ
 scaled_sum values d terms = sum_of (λ t. t.by *ℤ times_common (value_of values t.attr) d) terms

@@ -18,6 +18,8 @@ pub record IsTerm (t : Term) : Type 0 where
   pub nonzero : t.by ≢ pos 0
   pub small : unsigned_abs t.by ≤ COEFFICIENT_LIMIT
 
+-- what each row keeps: its numbers, its terms and their count are within the limits, the constant is in
+-- lowest terms and fits, and the terms come by rising attribute
 pub record IsRow (r : Row) : Type 0 where
   pub number : IsNumber r.id
   pub rank : r.rank ≤ REQUIRED
@@ -28,10 +30,13 @@ pub record IsRow (r : Row) : Type 0 where
   pub rising : AllPairs (λ s t. s.attr < t.attr) r.terms
   pub count : length r.terms ≤ TERM_LIMIT
 
+-- what each stay keeps: its attribute's number is within the limits, its target is in lowest terms and fits
 pub record IsStay (s : Stay) : Type 0 where
   pub attr : IsNumber s.attr
   pub target : IsKept s.target
 
+-- what each problem keeps: rows by rising number, at most one stay for an attribute and one for each of those
+-- in rows, no more rows or stays than the limit, and what each of these keeps
 pub record IsWhole (p : Problem) : Type 0 where
   pub rows : All IsRow p.rows
   pub stays : All IsStay p.stays

@@ -13,23 +13,27 @@ use Rattle.problem_core.specs.declared.limits.TheConstants.{FIRST_STAY_LEVEL, RE
 
 -- ---- words for sums
 
+-- the sum of what f gives for each element
 abbrev pub sum_of : {A : Type 0} → (A → ℤ) → List A → ℤ
 sum_of f [] = pos 0
 sum_of f (x ∷ xs) = f x +ℤ sum_of f xs
 
+-- the same, where f gives counts
 abbrev pub count_of : {A : Type 0} → (A → ℕ) → List A → ℕ
 count_of f [] = 0
 count_of f (x ∷ xs) = f x + count_of f xs
 
+-- the product of what f gives for each element, 1 where there is none
 abbrev pub product_of : {A : Type 0} → (A → ℕ) → List A → ℕ
 product_of f [] = 1
 product_of f (x ∷ xs) = f x * product_of f xs
 
--- how far z is above 0, and how far below
+-- how far z is above 0, 0 where it isn't
 abbrev pub above : ℤ → ℕ
 above (pos n) = n
 above (negsuc n) = 0
 
+-- how far z is below 0, 0 where it isn't
 abbrev pub below : ℤ → ℕ
 below (pos n) = 0
 below (negsuc n) = n + 1
@@ -64,6 +68,7 @@ pub record Row : Type 0 where
   pub constant : Fraction
   pub terms : List Term
 
+-- rows, and stays, of which earlier ones are stronger
 pub record Problem : Type 0 where
   pub rows : List Row
   pub stays : List Stay
@@ -84,6 +89,7 @@ pub record Line : Type 0 where
   pub den : ℕ
   pub form : List Term
 
+-- the row as a line, at the level of its rank
 abbrev pub line_of_row : Row → Line
 line_of_row r = record {
   name = Held r.id;
@@ -109,14 +115,16 @@ line_of_stay level s = record {
   form = record { attr = s.attr; by = pos 1 } ∷ [];
 }
 
+-- the stays as lines, the first at this level, and each other one level further
 abbrev pub stay_lines : ℕ → List Stay → List Line
 stay_lines level [] = []
 stay_lines level (s ∷ rest) = line_of_stay level s ∷ stay_lines (level + 1) rest
 
+-- the lines of a problem: its rows, then its stays
 abbrev pub lines : Problem → List Line
 lines p = map line_of_row p.rows ++ stay_lines FIRST_STAY_LEVEL p.stays
 
--- what the type of a problem promises: no scale and no denominator is 0
+-- no scale and no denominator is 0, as the type of a problem promises
 abbrev pub IsProblem : Problem → Type 0
 IsProblem p = All (λ l. (0 < l.scale) × (0 < l.den)) (lines p)
 
@@ -126,6 +134,7 @@ IsProblem p = All (λ l. (0 < l.scale) × (0 < l.den)) (lines p)
 abbrev pub gap : Assignment → Line → ℤ
 gap x l = pos l.den *ℤ value_at x.num l.form -ℤ l.num *ℤ pos x.den
 
+-- of a gap: its size at `==`, what it lacks to 0 at `>=`, what it has above 0 at `<=`
 abbrev pub error_of : Rel → ℤ → ℕ
 error_of Eq g = above g + below g
 error_of Ge g = below g
@@ -158,12 +167,15 @@ IsLess p x y =
 
 -- ---- the best assignment
 
+-- each required row has no error at x
 abbrev pub Satisfies : Problem → Assignment → Type 0
 Satisfies p x = All (λ r. r.rank ≡ REQUIRED → error x (line_of_row r) ≡ 0) p.rows
 
+-- no assignment satisfies the problem
 abbrev pub IsInConflict : Problem → Type 0
 IsInConflict p = (x : Assignment) → Satisfies p x → ⊥
 
+-- x satisfies the problem, and no assignment is less
 abbrev pub IsBest : Problem → Assignment → Type 0
 IsBest p x = Satisfies p x × ((y : Assignment) → IsLess p y x → ⊥)
 

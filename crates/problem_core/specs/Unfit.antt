@@ -16,9 +16,11 @@ use Rattle.problem_core.specs.Corners.{IsIn, attr_column, place}
 pub use Rattle.problem_core.specs.Corners.{IsWritingOf}
 use Rattle.problem_core.specs.Levels.{IsLevelAt, HasNoLevelWriting}
 
+-- the over mark of the held row of this number
 abbrev pub over_mark : ℕ → Mark
 over_mark id = record { row = Held id; side = Over }
 
+-- the under mark of the held row of this number
 abbrev pub under_mark : ℕ → Mark
 under_mark id = record { row = Held id; side = Under }
 
@@ -55,6 +57,7 @@ IsUnfitTerms p at mark j = Any (λ r. (mark ≡ over_mark r.id) × AreOverFrom p
 
 -- ---- the first rows of a level
 
+-- the row, but of weight 0
 abbrev pub without_weight : Row → Row
 without_weight r = record {
   id = r.id;
@@ -72,6 +75,7 @@ lightened level j [] = []
 lightened level j (r ∷ rows) = cond (nat_eq (rank_level r.rank) level)
     (cond (nat_eq j 0) (without_weight r) r ∷ lightened level (j - 1) rows) (r ∷ lightened level j rows)
 
+-- the problem in which the rows of this level after the first j have no weight
 abbrev pub with_first_rows : ℕ → ℕ → Problem → Problem
 with_first_rows level j p = record { rows = lightened level j p.rows; stays = p.stays }
 
@@ -92,6 +96,7 @@ IsUnfitAt p at (Shifts what j) = IsUnfitWhat p at what
 
 -- ---- in a step's problem, where these are the rows before
 
+-- no row before has this number
 abbrev pub IsNew : List Row → ℕ → Type 0
 IsNew old id = All (λ r. r.id ≢ id) old
 
@@ -100,6 +105,7 @@ abbrev pub IsNewAt : List Row → ℕ → List Row → Type 0
 IsNewAt old j rows = (before : List Row) × (r : Row) × (after : List Row) × (rows ≡ before ++ (r ∷ after))
     × (length before + 1 ≡ j) × IsNew old r.id
 
+-- whether two constants are the same, part by part
 abbrev pub same_constant : Fraction → Fraction → Bool
 same_constant f g = cond (nat_eq f.den g.den) (nat_eq (nat_abs (f.num -ℤ g.num)) 0) false
 
@@ -117,6 +123,7 @@ first_shifted j (o ∷ old) [] = []
 first_shifted j (o ∷ old) (r ∷ rows) = cond (same_constant o.constant r.constant)
     (o ∷ first_shifted j old rows) (cond (nat_eq j 0) o r ∷ first_shifted (j - 1) old rows)
 
+-- the problem with the rows as they were, but with its first j changed constants
 abbrev pub with_first_shifts : List Row → ℕ → Problem → Problem
 with_first_shifts old j p = record { rows = first_shifted j old p.rows; stays = p.stays }
 

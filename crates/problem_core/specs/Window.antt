@@ -7,6 +7,7 @@ use Rattle.problem_core.specs.declared.parts.Stay.{Stay}
 use Rattle.problem_core.specs.Layout.{Row}
 use Rattle.problem_core.specs.declared.limits.TheConstants.{REQUIRED}
 
+-- the fraction 0
 abbrev pub zero_fraction : Fraction
 zero_fraction = record { num = pos 0; den = 1 }
 
@@ -45,6 +46,7 @@ abbrev pub window_rows : Fraction → Fraction → List Row
 window_rows w h = structural_rows
     ++ (required_row 5 window_width Eq w ∷ required_row 6 window_height Eq h ∷ [])
 
+-- left and top with the value 0, width and height with those that are given
 abbrev pub window_values : Fraction → Fraction → List (ℕ × Fraction)
 window_values w h = (window_left, zero_fraction) ∷ (window_top, zero_fraction)
     ∷ (window_width, w) ∷ (window_height, h) ∷ []

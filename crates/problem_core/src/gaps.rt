@@ -24,6 +24,7 @@ use thiserror::Error;
 #[error("the values of the row's attributes are too large over one denominator")]
 pub struct NoRoom;
 
+// The value's denominator.
 fn denominator(value: &Frac) -> u128
     ensures value { result ≡ value.now.den }
     ensures above { 0 < result }
@@ -64,6 +65,7 @@ fn scaled(value: &Frac, common: u128) -> Result<i64, NoRoom>
     Ok(product as i64)
 }
 
+// A coefficient times a value over the common denominator.
 fn product(by: i64, scaled: i64) -> i128
     requires by { unsigned_abs by ≤ COEFFICIENT_LIMIT }
     requires scaled { unsigned_abs scaled < GAP_ROOM }
@@ -73,6 +75,7 @@ fn product(by: i64, scaled: i64) -> i128
     i128::from(by) * i128::from(scaled)
 }
 
+// The sum so far, with one product more.
 fn total(x: i128, y: i128) -> i128
     requires x { unsigned_abs x < 2 ^ 126 }
     requires y { unsigned_abs y < 2 ^ 93 }

@@ -13,9 +13,11 @@ use Rattle.program_words.specs.declared.numbers.TheConstants.{VIEWS_DIGITS}
 
 -- ---- the command
 
+-- the argument MODE
 abbrev pub mode_rule : Rule
 mode_rule = new_rule (codes "MODE")
 
+-- the argument NUMBER, which may come again
 abbrev pub number_rule : Rule
 number_rule = record (new_rule (codes "NUMBER")) { action = Some Append }
 
@@ -55,6 +57,7 @@ abbrev pub AskFor : List Text → Mode → Type 0
 AskFor words mode = (fault_of program (codes "layout" ∷ words) ≡ [])
     × IsFound (matches_of program (codes "layout" ∷ words)) mode
 
+-- the same of the bytes of these strings
 abbrev pub AreWordsOf : {A : Type 0} → List (String A) → Mode → Type 0
 AreWordsOf words mode = AskFor (map string_bytes words) mode
 
@@ -69,6 +72,7 @@ abbrev pub IsPlain : Text → Type 0
 IsPlain [] = ⊤
 IsPlain (d ∷ ds) = (d == minus) ≡ false
 
+-- none of the words begins with a hyphen
 abbrev pub ArePlain : List Text → Type 0
 ArePlain [] = ⊤
 ArePlain (word ∷ more) = IsPlain word × ArePlain more

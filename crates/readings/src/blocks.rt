@@ -26,6 +26,7 @@ fn put_stop(out: &mut String, stop: ReadStop) -> Result<(), OutOfMemory> {
     }
 }
 
+// Appends how many rows and stays a problem has, and the problem as it is written.
 fn put_written(alloc: Global, out: &mut String, problem: &Problem) -> Result<(), OutOfMemory> {
     let (rows, stays) = (problem.rows().len(), problem.stays().len());
     writeln!(out, "{rows} rows and {stays} stays")?;
@@ -58,6 +59,7 @@ fn claim_of(alloc: Global, text: &[u8]) -> Result<Claim, ReadStop> {
     read_claim(alloc, text)
 }
 
+// What a claim is.
 fn kind_of(claim: &Claim) -> &'static str {
     match claim {
         Claim::IsBest { .. } => "values and a certificate",
@@ -66,6 +68,7 @@ fn kind_of(claim: &Claim) -> &'static str {
     }
 }
 
+// Appends what a claim is, and the claim as it is written.
 fn put_claimed(alloc: Global, out: &mut String, claim: &Claim) -> Result<(), OutOfMemory> {
     let kind = kind_of(claim);
     writeln!(out, "{kind}")?;

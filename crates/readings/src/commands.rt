@@ -42,6 +42,7 @@ fn put_terms(out: &mut String, terms: &[ExprTerm<'_>]) -> Result<(), OutOfMemory
     Ok(())
 }
 
+// Appends the priority, if one is written.
 fn put_priority(out: &mut String, priority: Option<Object<'_>>) -> Result<(), OutOfMemory> {
     match priority {
         None => Ok(()),
@@ -73,6 +74,7 @@ fn put_tree(out: &mut String, text: &[u8], start: usize) -> Result<(), OutOfMemo
     put_text(out, text)
 }
 
+// Appends the alignment, if one is written.
 fn put_align(out: &mut String, align: Option<Align>) -> Result<(), OutOfMemory> {
     match align {
         Some(align) => {

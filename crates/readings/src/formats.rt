@@ -17,6 +17,7 @@ pub fn put_written(
     put_text(out, &text)
 }
 
+// The bytes as a text, which is empty where they are none.
 fn text_of(bytes: &[u8]) -> &str {
     std::str::from_utf8(bytes).unwrap_or("")
 }
@@ -36,6 +37,7 @@ pub fn put_format(alloc: Global, out: &mut String, text: &[u8]) -> Result<(), Ou
     }
 }
 
+// How many predicates a connection has.
 fn count_of(spacing: &Spacing<'_>) -> usize {
     match spacing {
         Spacing::Given(preds) => preds.len(),

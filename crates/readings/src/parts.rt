@@ -3,6 +3,7 @@ use case_text::put_text;
 use frac_core::OutOfMemory;
 use span_text::{PartStop, names, numbers, pieces, tokens};
 
+// The bytes as a text, or words that say that they are none.
 fn text_of(bytes: &[u8]) -> &str {
     std::str::from_utf8(bytes).unwrap_or("bytes that are no text")
 }

@@ -50,6 +50,7 @@ fn put_case(alloc: Global, out: &mut String, kind: &str, line: &str) -> Result<(
     put_reading(alloc, out, kind, bytes.strip_suffix(b"\n").unwrap_or(bytes))
 }
 
+// Whether the texts of the kind are read as one.
 fn is_block(kind: &str) -> bool {
     matches!(kind, "problem" | "claim" | "cut" | "lines")
 }

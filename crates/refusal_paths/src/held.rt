@@ -23,6 +23,7 @@ fn value_of(session: &Session, attr: u32) -> Option<Frac> {
     session.engine().value(attr)
 }
 
+// The stays, each at the value that its attribute has.
 fn stays_at_values(alloc: Global, session: &Session) -> Result<Vec<Stay>, OutOfMemory> {
     let mut stays = Vec::new(alloc);
     for stay in stays_of(session) {

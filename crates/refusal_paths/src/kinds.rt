@@ -42,6 +42,7 @@ pub struct Found {
     pub answer: Answer,
 }
 
+/// The place of a stop, without the rows that are still held and without the attribute of a probe.
 pub fn place_of(place: &StopPlace) -> Place {
     match place {
         StopPlace::Step => Place::Step,
@@ -50,6 +51,7 @@ pub fn place_of(place: &StopPlace) -> Place {
     }
 }
 
+/// The kind of the quantity that doesn't fit; none means that the exchanges are used up.
 pub fn kind_of(unfit: Option<Quantity>) -> Kind {
     match unfit {
         None => Kind::Spent,
@@ -71,6 +73,7 @@ pub fn place_text(place: Place) -> &'static str {
     }
 }
 
+/// The word of a kind.
 pub fn kind_text(kind: Kind) -> &'static str {
     match kind {
         Kind::Spent => "spent",

@@ -16,6 +16,9 @@
 //! Behind each script, and behind `== all` for all of them, stand counts by kind and verdict, as
 //! `= spent yes 1`.
 //!
+//! What always holds: a refused line leaves its session as before, so the problem beside a path is made of
+//! what was held when the line came.
+//!
 //! A folder of scripts is judged by
 //!
 //! ```text

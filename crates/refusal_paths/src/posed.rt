@@ -23,10 +23,12 @@ fn problem_of(alloc: Global, text: &[u8]) -> Result<Option<Problem>, OutOfMemory
     }
 }
 
+// Appends the lines of rows.
 fn put_rows(text: &mut Vec<u8>, rows: &[Row]) -> Result<(), OutOfMemory> {
     rows_text(rows, &[], text)
 }
 
+// Appends the lines of stays.
 fn put_stays(text: &mut Vec<u8>, stays: &[Stay]) -> Result<(), OutOfMemory> {
     rows_text(&[], stays, text)
 }
@@ -43,6 +45,7 @@ fn problem_with(
     problem_of(alloc, &text)
 }
 
+// The row of this number, if there is one.
 fn row_of(rows: &[Row], id: u32) -> Option<&Row> {
     for row in rows {
         if row.id() == id {
@@ -52,6 +55,7 @@ fn row_of(rows: &[Row], id: u32) -> Option<&Row> {
     None
 }
 
+// Whether the row is held with another constant.
 fn is_new(held: &Held, row: &Row) -> bool {
     match row_of(&held.rows, row.id()) {
         Some(before) => before.constant() != row.constant(),

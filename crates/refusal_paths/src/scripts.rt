@@ -42,6 +42,7 @@ fn answer_to(
     answer_on(alloc, &problem, stop.path, stop.unfit)
 }
 
+// What is found where a line stopped with a path.
 fn found_at(
     alloc: Global,
     session: &Session,

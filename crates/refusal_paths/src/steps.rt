@@ -5,6 +5,7 @@ use script_text::{Command, read_line};
 use session_undo::{Refusal, Reply, Session};
 use std::alloc::Global;
 
+/// A session that has taken no line.
 pub fn first_session(alloc: Global) -> Result<Session, OutOfMemory> {
     Session::new(alloc)
 }

@@ -4,8 +4,10 @@ use crate::kinds::{Answer, Found, Kind, Place, kind_text, place_text};
 use frac_core::OutOfMemory;
 use path_checker::PathVerdict;
 
+// The places, in the order of the counts.
 const PLACES: [Place; 3] = [Place::Step, Place::Still, Place::Probe];
 
+// The kinds, in the order of the counts.
 const KINDS: [Kind; 8] = [
     Kind::Spent,
     Kind::Attr,
@@ -17,8 +19,10 @@ const KINDS: [Kind; 8] = [
     Kind::Target,
 ];
 
+// The words of answers, in the order of the counts.
 const WORDS: [&str; 5] = ["yes", "no room", "no", "unread", "no path"];
 
+// Appends the line of a refusal.
 fn put_found(out: &mut String, found: Found) -> Result<(), OutOfMemory> {
     let number = found.number;
     let place = place_text(found.place);
@@ -47,6 +51,7 @@ fn word_of(answer: Answer) -> &'static str {
     }
 }
 
+// How many of these were found.
 fn count(list: &[Found], place: Place, kind: Kind, word: &str) -> usize {
     let mut sum: usize = 0;
     for found in list {
@@ -57,6 +62,7 @@ fn count(list: &[Found], place: Place, kind: Kind, word: &str) -> usize {
     sum
 }
 
+// Appends how many of these were found, where there is one.
 fn put_count(
     out: &mut String,
     list: &[Found],
@@ -73,6 +79,7 @@ fn put_count(
     Ok(())
 }
 
+// Appends the counts of a kind, answer by answer.
 fn put_kind(out: &mut String, list: &[Found], place: Place, kind: Kind) -> Result<(), OutOfMemory> {
     for word in WORDS {
         put_count(out, list, place, kind, word)?;
@@ -80,6 +87,7 @@ fn put_kind(out: &mut String, list: &[Found], place: Place, kind: Kind) -> Resul
     Ok(())
 }
 
+// Appends the counts of a place, kind by kind.
 fn put_place(out: &mut String, list: &[Found], place: Place) -> Result<(), OutOfMemory> {
     for kind in KINDS {
         put_kind(out, list, place, kind)?;

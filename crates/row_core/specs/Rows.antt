@@ -9,6 +9,7 @@ pub record Term : Type 0 where
   pub col : ℕ
   pub by : ℤ
 
+-- the sum of what f gives for each element
 abbrev pub sum_of : {A : Type 0} → (A → ℤ) → List A → ℤ
 sum_of f [] = pos 0
 sum_of f (x ∷ xs) = f x +ℤ sum_of f xs
@@ -21,12 +22,15 @@ coefficient c row = sum_of (λ t. cond (nat_eq t.col c) t.by (pos 0)) row
 abbrev pub IsRising : List Term → Type 0
 IsRising row = AllPairs (λ s t. s.col < t.col) row
 
+-- no number is 0
 abbrev pub AllNonzero : List Term → Type 0
 AllNonzero row = All (λ t. t.by ≢ pos 0) row
 
+-- each number fits
 abbrev pub AllFit : List Term → Type 0
 AllFit row = All (λ t. IsFitting t.by) row
 
+-- d divides each number
 abbrev pub DividesAll : ℕ → List Term → Type 0
 DividesAll d row = All (λ t. d ∣ unsigned_abs t.by) row
 

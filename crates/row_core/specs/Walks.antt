@@ -22,6 +22,7 @@ pub record IsFactorOf (k : ℤ) (row : List Term) : Type 0 where
   pub factor : IsFactor k
   pub room : All (λ t. IsFitting t.by) row ⊎ (unsigned_abs k ≤ 1)
 
+-- each factor is such a one of its row, and what is added is no larger than a factor may be
 pub record HasSmallProducts (sum : Sum) (r p : List Term) : Type 0 where
   pub left : IsFactorOf sum.k r
   pub right : IsFactorOf sum.n p
@@ -36,6 +37,7 @@ whole_of sum c z =
 abbrev pub whole : Sum → List Term → List Term → ℕ → ℤ
 whole sum r p c = whole_of sum c (combination sum.k r sum.n p c)
 
+-- the column at the row's place i, 0 past its end
 abbrev pub column_at : List Term → ℕ → ℕ
 column_at row i = (slice_index_or row i (record { col = 0; by = pos 0 })).col
 
@@ -124,6 +126,7 @@ pub record HasNarrowProducts (sum : Sum) (r p : List Term) : Type 0 where
   pub left : All (λ t. IsFitting t.by) r
   pub right : All (λ t. IsFitting t.by) p
 
+-- d divides each of the numbers
 abbrev pub DividesWhole : ℕ → (ℕ → ℤ) → Type 0
 DividesWhole d whole = (c : ℕ) → d ∣ unsigned_abs (whole c)
 

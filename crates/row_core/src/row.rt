@@ -70,7 +70,7 @@ fn is_narrow(sum: Sum) -> bool
         && sum.extra.unsigned_abs() < NARROW_PRODUCT
 }
 
-// The same of two rows in lowest terms.
+// The row in lowest terms with the coefficients of the sum, of rows that are in lowest terms.
 fn combined(alloc: Global, r: &[Entry], p: &[Entry], sum: Sum) -> Result<IntRow, RowStop>
     requires r { IsKeptRow r.now }
     requires p { IsKeptRow p.now }

@@ -315,7 +315,7 @@ fn narrow_both(sum: Sum, left: i64, right: i64) -> i64
     narrow_product(sum.k, left) + narrow_product(sum.n, right)
 }
 
-// The same in 64 bits.
+// The number that the sum has at a column where the rows have these ones, in 64 bits.
 fn narrow_total(sum: Sum, left: i64, right: i64, col: u64) -> i64
     requires narrow { IsNarrowSum sum }
     requires left { IsFitting left }

@@ -12,6 +12,7 @@ fn draw(seed: &mut u64, limit: u64) -> u64 {
     (*seed >> 33).checked_rem(limit).unwrap_or(0)
 }
 
+// One of the words, by the seed, which moves on.
 fn drawn(seed: &mut u64, words: &[&'static str]) -> &'static str {
     let place = draw(seed, words.len() as u64) as usize;
     match words.get(place) {

@@ -13,6 +13,9 @@
 //! Below a heading `== session` stand the lines that a session takes, as `sessions` says. Below `== table`
 //! stands a script of which each read and each write fails in turn, as `table` says.
 //!
+//! What always holds: no case knows of another. Each has a session of its own, or a source and a sink for
+//! each of its runs.
+//!
 //! ```text
 //! = run ; pulls 1
 //! window 320 480          each reply is printed, then how the run ended and how often it pulled

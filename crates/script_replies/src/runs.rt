@@ -36,6 +36,7 @@ fn number_after(options: &str, name: &str) -> Option<usize> {
     None
 }
 
+// Whether the name stands among the options.
 fn has_option(options: &str, name: &str) -> bool {
     for word in options.split_whitespace() {
         if word == name {
@@ -54,6 +55,7 @@ pub fn words_of(alloc: Global, words: &str) -> Result<Vec<String>, OutOfMemory> 
     Ok(list)
 }
 
+// The greatest size of each pull, where the options say one.
 fn sizes_of(alloc: Global, options: &str, len: usize) -> Result<Vec<usize>, OutOfMemory> {
     match number_after(options, "pulls") {
         Some(size) => Ok(vec![in alloc; size; len.saturating_add(1)]?),
@@ -61,6 +63,7 @@ fn sizes_of(alloc: Global, options: &str, len: usize) -> Result<Vec<usize>, OutO
     }
 }
 
+// The numbers of the pulls that fail.
 fn fails_of(alloc: Global, options: &str) -> Result<Vec<u64>, OutOfMemory> {
     let mut calls = Vec::new(alloc);
     if let Some(call) = number_after(options, "fails") {
@@ -81,6 +84,7 @@ fn with_inner(alloc: Global, text: &str, times: usize) -> Result<Vec<u8>, OutOfM
     Ok(whole)
 }
 
+// The input of a run, by what the options say of the text.
 fn input_of(alloc: Global, options: &str, text: &[u8]) -> Result<Vec<u8>, OutOfMemory> {
     match number_after(options, "inner") {
         Some(times) => with_inner(alloc, std::str::from_utf8(text).unwrap_or(""), times),
@@ -88,6 +92,7 @@ fn input_of(alloc: Global, options: &str, text: &[u8]) -> Result<Vec<u8>, OutOfM
     }
 }
 
+// The source of a run in memory, by the options.
 fn source_of(alloc: Global, options: &str, text: &[u8]) -> Result<Counted, OutOfMemory> {
     let whole = input_of(alloc, options, text)?;
     let sizes = sizes_of(alloc, options, whole.len())?;
@@ -152,6 +157,7 @@ struct Case<'a> {
     text: &'a [u8],
 }
 
+// Appends how a run in memory ends, and how often its source was pulled.
 fn put_counted(alloc: Global, out: &mut String, case: Case<'_>) -> Result<(), OutOfMemory> {
     let mut source = source_of(alloc, case.options, case.text)?;
     let room = number_after(case.options, "room").unwrap_or(65_536);
@@ -162,6 +168,7 @@ fn put_counted(alloc: Global, out: &mut String, case: Case<'_>) -> Result<(), Ou
     Ok(writeln!(out, "-- {pulls} pulls")?)
 }
 
+// Appends how a run over a reader and a writer of std ends.
 fn put_standard(alloc: Global, out: &mut String, case: Case<'_>) -> Result<(), OutOfMemory> {
     match number_after(case.options, "room") {
         Some(room) => {

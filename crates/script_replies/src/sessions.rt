@@ -18,6 +18,7 @@ use problem_core::Problem;
 use session_undo::{Refusal, Reply, Session};
 use std::alloc::Global;
 
+// Appends what a line is answered.
 fn put_answer(
     alloc: Global,
     out: &mut String,

@@ -24,6 +24,7 @@ enum Fault {
     FailingPut,
 }
 
+// A list of one call.
 fn one_call(alloc: Global, call: usize) -> Result<Vec<u64>, OutOfMemory> {
     Ok(vec![in alloc; call as u64; 1]?)
 }

@@ -31,11 +31,13 @@ all_words = (codes "view", key.View) ∷ (codes "tree", key.Tree) ∷ (codes "dr
     ∷ (codes "frames", key.Frames) ∷ (codes "rows", key.Rows) ∷ (codes "diagnose", key.Diagnose)
     ∷ (codes "certify", key.Certify) ∷ []
 
+-- the alignments as they are written
 unfoldable pub alignments : List (List ℕ × Align)
 alignments = (codes "left", align.Left) ∷ (codes "right", align.Right) ∷ (codes "top", align.Top)
     ∷ (codes "bottom", align.Bottom) ∷ (codes "centerX", align.CenterX) ∷ (codes "centerY", align.CenterY)
     ∷ []
 
+-- the attributes as they are written
 unfoldable pub attributes : List (List ℕ × AttrWord)
 attributes = (codes "left", attr.Left) ∷ (codes "top", attr.Top) ∷ (codes "width", attr.Width)
     ∷ (codes "height", attr.Height) ∷ (codes "right", attr.Right) ∷ (codes "bottom", attr.Bottom)
@@ -63,9 +65,11 @@ decimal is_negative n = lowest is_negative n UNIT
 abbrev pub Attribute : {A : Type 0} → (List ℕ → AttrWord → Rel A) → Rel A
 Attribute F = RawName (λ n. Lit (codes ".") (Words attributes (λ w. Tail (F n w))))
 
+-- an attribute of a view, or the name of a metric
 abbrev pub Variable : {A : Type 0} → (Operand → Rel A) → Rel A
 Variable F = Or (Attribute (λ n w. F (mean.Attr n w))) (Name (λ n. F (mean.Metric n)))
 
+-- so many times the operand
 abbrev pub times : Fraction → Operand → Term
 times by of = record { by = by; of = of }
 
@@ -86,19 +90,24 @@ abbrev pub Expression : {A : Type 0} → (List Term → Rel A) → Rel A
 Expression F = Or (Sign minus (TermText true (λ t. Loop (Behind F) (t ∷ []))))
     (TermText false (λ t. Loop (Behind F) (t ∷ [])))
 
+-- a relation, and the blanks behind it
 abbrev pub Relation : {A : Type 0} → (parts.Rel → Rel A) → Rel A
 Relation F = Words relations (λ r. Blanks (F r))
 
+-- `@` and a name or a number, or no priority
 abbrev pub Priority : {A : Type 0} → (Option Meant → Rel A) → Rel A
 Priority F = Or (Sign at_sign (Or (Name (λ n. F (Some (object.Name n))))
     (Number (λ n. F (Some (object.Number (pos n))))))) (F None)
 
+-- `weight` and a whole number, or the weight 1
 abbrev pub Weight : {A : Type 0} → (ℕ → Rel A) → Rel A
 Weight F = Or (Word (codes "weight") (Whole (λ n. F n))) (F 1)
 
+-- the line of these two sides, this relation, this priority and this weight
 abbrev pub linear : List Term → parts.Rel → List Term → Option Meant → ℕ → Linear
 linear l r e p w = record { left = l; rel = r; right = e; priority = p; weight = w }
 
+-- two expressions with a relation between them, and perhaps a priority and a weight
 abbrev pub LinearText : (Linear → Rel Meaning) → Rel Meaning
 LinearText F = Expression (λ l. Relation (λ r. Expression (λ e.
     Priority (λ p. Weight (λ w. F (linear l r e p w))))))
@@ -115,6 +124,7 @@ Made {M} f F s v = (m : M) × F s m × (v ≡ f m)
 abbrev pub FormatLine : List ℕ → Option Align → Rel Meaning
 FormatLine n a = Made (mean.Vfl n a) FormatText
 
+-- any byte
 abbrev pub is_any : ℕ → Bool
 is_any b = true
 
@@ -148,6 +158,7 @@ Arguments len key.Certify = End mean.Certify
 abbrev pub Any : {A : Type 0} → A → Rel A
 Any a s v = v ≡ a
 
+-- a byte other than a space or a tab
 abbrev pub is_no_space : ℕ → Bool
 is_no_space b = not (is_space b)
 

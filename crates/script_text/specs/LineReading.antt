@@ -25,24 +25,31 @@ use Rattle.script_text.specs.declared.words.AttrWord.{AttrWord}
 use Rattle.script_text.specs.declared.words.Keyword.{Keyword}
 use Rattle.script_text.specs.declared.words.Keyword.TheVariants as key
 
+-- the first byte of `align`
 abbrev pub is_a : ℕ → Bool
 is_a b = b == lower_a
 
+-- the first byte of `in`
 abbrev pub is_i : ℕ → Bool
 is_i b = b == lower_i
 
+-- the first byte of `weight`
 abbrev pub is_w : ℕ → Bool
 is_w b = b == lower_w
 
+-- the sign in front of a term that is added
 abbrev pub is_plus : ℕ → Bool
 is_plus b = b == plus
 
+-- the sign between a multiplier and a variable
 abbrev pub is_star : ℕ → Bool
 is_star b = b == star
 
+-- the byte with which a comment begins
 abbrev pub is_hash : ℕ → Bool
 is_hash b = b == hash
 
+-- what follows the word `view`: a name, and perhaps `in` and the parent's name
 unfoldable pub view_at : List ℕ → Result Meaning ℕ
 view_at s = do
   name ← name_at s
@@ -68,6 +75,7 @@ named_at f s = do
   _ ← end_at name.1
   Ok (f name.0)
 
+-- what follows the word `metric`: a name, perhaps -, and a value
 unfoldable pub metric_at : List ℕ → Result Meaning ℕ
 metric_at s = do
   name ← name_at s
@@ -82,6 +90,7 @@ metric_at s = do
         _ ← end_at value.1
         Ok (mean.Metric name.0 (decimal false value.0)))
 
+-- what follows the word `window`: a width and a height
 unfoldable pub window_at : List ℕ → Result Meaning ℕ
 window_at s = do
   width ← number_at s
@@ -89,17 +98,20 @@ window_at s = do
   _ ← end_at height.1
   Ok (mean.Window (decimal false width.0) (decimal false height.0))
 
+-- what follows the word `budget`: a whole number
 unfoldable pub budget_at : List ℕ → Result Meaning ℕ
 budget_at s = do
   value ← whole_at s
   _ ← end_at value.1
   Ok (mean.Budget value.0)
 
+-- nothing more, with this meaning
 unfoldable pub bare_at : Meaning → List ℕ → Result Meaning ℕ
 bare_at m s = do
   _ ← end_at s
   Ok m
 
+-- an attribute of the view of this name, from the point on
 unfoldable pub attribute_at : List ℕ → List ℕ → Result (Operand × List ℕ) ℕ
 attribute_at name s = do
   rest ← lit_at (codes ".") s
@@ -107,14 +119,17 @@ attribute_at name s = do
   rest ← tail_at word.1
   Ok (mean.Attr name word.0, rest)
 
+-- an attribute of a view, or the name of a metric
 unfoldable pub variable_at : List ℕ → Result (Operand × List ℕ) ℕ
 variable_at s = do
   name ← raw_name_at s
   if starts is_point name.1 then attribute_at name.0 name.1 else Ok (mean.Metric name.0, skip name.1)
 
+-- so many times the operand that was read, and the text behind it
 abbrev pub with_by : Fraction → Operand × List ℕ → Result (Term × List ℕ) ℕ
 with_by by o = Ok (times by o.0, o.1)
 
+-- so many times a variable
 unfoldable pub product_at : Fraction → List ℕ → Result (Term × List ℕ) ℕ
 product_at by s = variable_at s >>= with_by by
 
@@ -125,11 +140,13 @@ multiplied_at is_negative (multiple.Number n) s = if starts is_star s
     else Ok (times (decimal is_negative n) mean.One, s)
 multiplied_at is_negative (multiple.Ratio p q) s = sign_at star s >>= product_at (lowest is_negative p q)
 
+-- a term behind its sign
 unfoldable pub term_at : Bool → List ℕ → Result (Term × List ℕ) ℕ
 term_at is_negative s = if starts is_letter s
     then product_at (lowest is_negative 1 1) s
     else multiple_at s >>= λ m. multiplied_at is_negative m.0 m.1
 
+-- this is the next term, and the text behind it
 abbrev pub some_term : Term × List ℕ → Result (Option (Term × List ℕ)) ℕ
 some_term t = Ok (Some t)
 
@@ -139,42 +156,54 @@ next_at s = if starts is_plus s
     then sign_at plus s >>= term_at false >>= some_term
     else (if starts is_minus s then sign_at minus s >>= term_at true >>= some_term else Ok None)
 
+-- where a next term was read, what g reads behind it; otherwise these terms, and the text
 abbrev pub go_on : (List Term → List ℕ → Result (List Term × List ℕ) ℕ) → List Term → List ℕ
     → Option (Term × List ℕ) → Result (List Term × List ℕ) ℕ
 go_on g terms s None = Ok (terms, s)
 go_on g terms s (Some t) = g (terms ++ t.0 ∷ []) t.1
 
+-- behind some terms: a next one and what g reads behind it, or the end of the sum
 unfoldable pub behind_at : (List Term → List ℕ → Result (List Term × List ℕ) ℕ) → List Term → List ℕ
     → Result (List Term × List ℕ) ℕ
 behind_at g terms s = next_at s >>= go_on g terms s
 
+-- the first term of a sum, perhaps with - in front
 unfoldable pub first_at : List ℕ → Result (Term × List ℕ) ℕ
 first_at s = if starts is_minus s then sign_at minus s >>= term_at true else term_at false s
 
+-- terms with + and - between them, and perhaps - in front
 unfoldable pub expression_at : List ℕ → Result (List Term × List ℕ) ℕ
 expression_at s = first_at s >>= λ t. loop_at behind_at (t.0 ∷ []) t.1
 
+-- the relation that was read, and the text behind its blanks
 abbrev pub with_blanks : Rel × List ℕ → Result (Rel × List ℕ) ℕ
 with_blanks r = Ok (r.0, skip r.1)
 
+-- a relation, and the blanks behind it
 unfoldable pub relation_at : List ℕ → Result (Rel × List ℕ) ℕ
 relation_at s = tried relations s >>= with_blanks
 
+-- the object that is this name, and the text behind it
 abbrev pub named_object : List ℕ × List ℕ → Result (Option Meant × List ℕ) ℕ
 named_object n = Ok (Some (object.Name n.0), n.1)
 
+-- the object that is this number of thousandths, and the text behind it
 abbrev pub number_object : ℕ × List ℕ → Result (Option Meant × List ℕ) ℕ
 number_object n = Ok (Some (object.Number (pos n.0)), n.1)
 
+-- a name or a number
 unfoldable pub object_at : List ℕ → Result (Option Meant × List ℕ) ℕ
 object_at s = if starts is_letter s then name_at s >>= named_object else number_at s >>= number_object
 
+-- `@` and a name or a number, or no priority
 unfoldable pub priority_at : List ℕ → Result (Option Meant × List ℕ) ℕ
 priority_at s = if starts is_at s then sign_at at_sign s >>= object_at else Ok (None, s)
 
+-- `weight` and a whole number, or the weight 1
 unfoldable pub weight_at : List ℕ → Result (ℕ × List ℕ) ℕ
 weight_at s = if starts is_w s then word_at (codes "weight") s >>= whole_at else Ok (1, s)
 
+-- two expressions with a relation between them, and perhaps a priority and a weight
 unfoldable pub linear_at : List ℕ → Result (Linear × List ℕ) ℕ
 linear_at s = do
   left ← expression_at s
@@ -184,6 +213,7 @@ linear_at s = do
   weight ← weight_at priority.1
   Ok (linear left.0 rel.0 right.0 priority.0 weight.0, weight.1)
 
+-- what follows the word `constrain`: a group's name and a linear constraint
 unfoldable pub constrain_at : List ℕ → Result Meaning ℕ
 constrain_at s = do
   group ← name_at s
@@ -191,9 +221,11 @@ constrain_at s = do
   _ ← end_at line.1
   Ok (mean.Constrain group.0 line.0)
 
+-- a format of this group with this alignment
 unfoldable pub format_line_at : List ℕ → Option Align → List ℕ → Result Meaning ℕ
 format_line_at n a s = format_at s >>= λ f. Ok (mean.Vfl n a f)
 
+-- what follows the word `vfl`: a group's name, perhaps an alignment, and a format
 unfoldable pub vfl_at : List ℕ → Result Meaning ℕ
 vfl_at s = do
   group ← name_at s
@@ -214,6 +246,7 @@ view_word_at s = do
   rest ← tail_at word.1
   Ok ((name.0, word.0), rest)
 
+-- for this attribute of the view of this name a value, and perhaps a priority
 unfoldable pub suggestion_at : List ℕ → AttrWord → Bool → List ℕ → Result Meaning ℕ
 suggestion_at name word is_negative s = do
   value ← number_at s
@@ -221,6 +254,7 @@ suggestion_at name word is_negative s = do
   _ ← end_at priority.1
   Ok (mean.Suggest name word (decimal is_negative value.0) priority.0)
 
+-- what follows the word `suggest`: an attribute of a view, perhaps -, a value, and perhaps a priority
 unfoldable pub suggest_at : List ℕ → Result Meaning ℕ
 suggest_at s = do
   of ← view_word_at s
@@ -230,12 +264,14 @@ suggest_at s = do
         suggestion_at of.0.0 of.0.1 true rest)
       else suggestion_at of.0.0 of.0.1 false of.1
 
+-- what follows the word `release`: an attribute of a view
 unfoldable pub release_at : List ℕ → Result Meaning ℕ
 release_at s = do
   of ← view_word_at s
   _ ← end_at of.1
   Ok (mean.Release of.0.0 of.0.1)
 
+-- what follows the first word of a line of this length
 abbrev pub arguments_at : ℕ → Keyword → List ℕ → Result Meaning ℕ
 arguments_at len key.View s = view_at s
 arguments_at len key.Tree s = tree_at len s
@@ -259,12 +295,14 @@ unfoldable pub apart_at : List ℕ → Result (List ℕ) ℕ
 apart_at [] = Ok []
 apart_at (b ∷ s) = if is_space b then Ok (skip (b ∷ s)) else Err (length (b ∷ s))
 
+-- in a line of this length, a command whose first word is one of these
 unfoldable pub command_at : List (List ℕ × Keyword) → ℕ → List ℕ → Result Meaning ℕ
 command_at words len s = do
   word ← tried words s
   rest ← apart_at word.1
   arguments_at len word.0 rest
 
+-- a line of this length behind the blanks in front of it: a comment, a command, or nothing
 unfoldable pub content_at : List (List ℕ × Keyword) → ℕ → List ℕ → Result Meaning ℕ
 content_at words len s = if starts is_hash s
     then (do
@@ -272,5 +310,6 @@ content_at words len s = if starts is_hash s
       Ok mean.Nothing)
     else (if starts is_any s then command_at words len s else bare_at mean.Nothing s)
 
+-- what a line means, or how many of its bytes are left where the reading ends
 unfoldable pub line_at : List (List ℕ × Keyword) → List ℕ → Result Meaning ℕ
 line_at words s = content_at words (length s) (skip s)

@@ -18,6 +18,8 @@ pub record Term : Type 0 where
   pub by : Fraction
   pub of : Operand
 
+-- a linear constraint: the terms of its sides, in order, its relation, its priority, if one is written,
+-- and its weight
 pub record Linear : Type 0 where
   pub left : List Term
   pub rel : Rel
@@ -25,6 +27,7 @@ pub record Linear : Type 0 where
   pub priority : Option Meant
   pub weight : ℕ
 
+-- a command, or nothing where the line is blank or a comment
 pub data Meaning : Type 0 where
   Nothing : Meaning
   View : List ℕ → Option (List ℕ) → Meaning

@@ -12,25 +12,31 @@ use Rattle.script_text.specs.declared.command.Linear as declared_linear
 use Rattle.script_text.specs.declared.command.Command.{Command}
 use Rattle.script_text.specs.declared.command.Command.TheVariants as command
 
+-- what an operand means
 abbrev pub operand_view : declared_operand.Operand → mean.Operand
 operand_view (operand.Attr name word) = mean.Attr name.now word
 operand_view (operand.Metric name) = mean.Metric name.now
 operand_view operand.One = mean.One
 
+-- what a term means
 abbrev pub term_view : ExprTerm → mean.Term
 term_view t = record { by = t.by; of = operand_view t.of }
 
+-- what the terms mean, in order
 abbrev pub terms_view : List ExprTerm → List mean.Term
 terms_view ts = map term_view ts
 
+-- what the next term means, and the text behind it, if there is one
 abbrev pub next_view : Option (ExprTerm × Bor (List ℕ)) → Option (mean.Term × List ℕ)
 next_view None = None
 next_view (Some p) = Some (term_view p.0, p.1.now)
 
+-- what an object means, if there is one
 abbrev pub object_view : Option Object → Option Meant
 object_view None = None
 object_view (Some o) = Some (meant o)
 
+-- what a linear constraint means
 abbrev pub linear_view : declared_linear.Linear → mean.Linear
 linear_view l = record {
   left = terms_view l.left.items;
@@ -40,10 +46,12 @@ linear_view l = record {
   weight = l.weight;
 }
 
+-- the name, if there is one
 abbrev pub name_view : Option (Bor (List ℕ)) → Option (List ℕ)
 name_view None = None
 name_view (Some t) = Some t.now
 
+-- what a command means
 abbrev pub view : Command → mean.Meaning
 view command.Nothing = mean.Nothing
 view (command.View name parent) = mean.View name.now (name_view parent)

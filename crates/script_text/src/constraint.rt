@@ -12,6 +12,7 @@ use problem_core::Rel;
 use span_text::{Object, PartStop, names, numbers, pieces};
 use std::alloc::Global;
 
+// A relation, and the blanks behind it.
 #[tactic(auto, unfolding(crate::specs::LineReading::relation_at))]
 fn relation(text: &[u8]) -> Result<(Rel, &[u8]), usize>
     ensures { Gives (λ p. (p.0, p.1.now)) result (relation_at text.now) }
@@ -47,6 +48,7 @@ pub fn priority(text: &[u8]) -> Result<(Option<Object<'_>>, &[u8]), usize>
     }
 }
 
+// The weight, which is 1 where none is written.
 #[tactic(auto, unfolding(crate::specs::LineReading::weight_at))]
 fn weight(text: &[u8]) -> Result<(u64, &[u8]), usize>
     ensures { Gives (λ p. (p.0, p.1.now)) result (weight_at text.now) }

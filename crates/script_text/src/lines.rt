@@ -197,6 +197,7 @@ fn apart(text: &[u8]) -> Result<&[u8], usize>
     }
 }
 
+// A command, in a line of this length.
 #[tactic(auto, unfolding(crate::specs::LineReading::command_at))]
 fn command(alloc: Global, len: usize, text: &[u8]) -> Result<Command<'_>, PartStop>
     ensures { GivesOrMemory view result (command_at all_words len text.now) }
@@ -222,6 +223,7 @@ fn content(alloc: Global, len: usize, text: &[u8]) -> Result<Command<'_>, PartSt
     }
 }
 
+// What a line says.
 #[tactic(auto, unfolding(crate::specs::LineReading::line_at))]
 fn any_line(alloc: Global, line: &[u8]) -> Result<Command<'_>, PartStop>
     ensures { GivesOrMemory view result (line_at all_words line.now) }

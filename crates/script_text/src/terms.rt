@@ -24,6 +24,7 @@ fn attribute<'a>(name: &'a str, text: &'a [u8]) -> Result<(Operand<'a>, &'a [u8]
     Ok((Operand::Attr { view: name, word }, text))
 }
 
+// An attribute of a view, or the name of a metric.
 #[tactic(auto, unfolding(crate::specs::LineReading::variable_at))]
 fn variable(text: &[u8]) -> Result<(Operand<'_>, &[u8]), usize>
     ensures within { IfOk result (λ p. length p.1.now ≤ length text.now) }

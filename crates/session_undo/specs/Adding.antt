@@ -104,6 +104,7 @@ StopsAt scene draft budget (run.Unfit at) = IsStopped scene draft budget (run.Un
 StopsAt scene draft budget (run.Spent path) = IsStopped scene draft budget (run.Spent path)
 StopsAt scene draft budget run.OutOfMemory = Unit {0}
 
+-- the run's stop is no conflict
 abbrev pub IsNoConflict : RunStop → Type 0
 IsNoConflict (run.Conflict by) = ⊥
 IsNoConflict (run.Unfit at) = Unit {0}
@@ -129,6 +130,7 @@ views_draft old tree id count = record old {
   stays = moved old.stays old.values ++ new_stays_from id count;
 }
 
+-- with these metrics
 abbrev pub metrics_draft : Scene → MetricList → Scene
 metrics_draft old metrics = record old { metrics = metrics; stays = moved old.stays old.values }
 
@@ -274,19 +276,21 @@ UnlessFull old group F =
     Unless (NAME_LIMIT < length group) (Limit word.Name) old
     (Unless (HasAllLines old) (Limit word.Lines) old F)
 
--- the first of these limits that it passes, and that it passes none
+-- the first of these limits that it passes
 abbrev pub IsGroupLimit : State → List ℕ → LimitWord → Type 0
 IsGroupLimit old group limit = UnlessFull old group (λ reply new. ⊥) (Limit limit) old
 
+-- it passes none of these limits
 abbrev pub IsGroupFree : State → List ℕ → Type 0
 IsGroupFree old group = (NAME_LIMIT < length group → ⊥) × (HasAllLines old → ⊥)
 
--- the same with the limit of rows
+-- the first that it passes of these and the limit of rows
 abbrev pub IsLineLimit : State → List ℕ → ℕ → LimitWord → Type 0
 IsLineLimit old group count limit =
     UnlessFull old group (Unless (IsCrowded old count) (Limit word.Rows) old (λ reply new. ⊥))
     (Limit limit) old
 
+-- it passes none of these, nor the limit of rows
 abbrev pub IsLineFree : State → List ℕ → ℕ → Type 0
 IsLineFree old group count = IsGroupFree old group × (IsCrowded old count → ⊥)
 

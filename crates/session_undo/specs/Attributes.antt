@@ -44,6 +44,7 @@ IsClose views named id =
 abbrev pub HasOwner : List LiveView → List ℕ → ℕ → Type 0
 HasOwner views named attr = (id : ℕ) × IsClose views named id × Contains (view_attributes id) attr
 
+-- so it is with each attribute that the line's rows have
 abbrev pub AreOwned : List LiveView → CompiledLine → Type 0
 AreOwned views line = All (λ f. All (λ t. HasOwner views line.views t.attr) f.terms) line.rows
 

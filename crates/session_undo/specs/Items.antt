@@ -45,6 +45,7 @@ abbrev pub view_items : ℕ → ℕ → ℕ → List Item
 view_items first_row id zero = []
 view_items first_row id (suc count) = OfView first_row id ∷ view_items (first_row + VIEW_ROWS) (id + 1) count
 
+-- the window's width and height are these
 abbrev pub size_rows : ℕ → Fraction → Fraction → List Row
 size_rows first_row width height =
     required_row first_row (width_of 0) Eq width ∷ required_row (first_row + 1) (height_of 0) Eq height ∷ []
@@ -74,6 +75,7 @@ IsSmallItem metrics (Suggested s) = Unit {0}
 
 -- ---- kinds
 
+-- the item is a line of a group
 abbrev pub is_line : Item → Bool
 is_line OfWindow = false
 is_line (OfView first_row id) = false
@@ -85,6 +87,7 @@ is_line (Suggested s) = false
 abbrev pub line_count : List Item → ℕ
 line_count held = length (filter is_line held)
 
+-- the item is the window's size
 abbrev pub is_size : Item → Bool
 is_size OfWindow = false
 is_size (OfView first_row id) = false
@@ -117,6 +120,7 @@ pub record Size : Type 0 where
   pub width : Fraction
   pub height : Fraction
 
+-- the item's size, where it is the window's
 abbrev pub own_size : Item → Option Size
 own_size OfWindow = None
 own_size (OfView first_row id) = None
@@ -132,6 +136,7 @@ size_of (item ∷ more) = cond (is_size item) (own_size item) (size_of more)
 
 -- ---- suggestions
 
+-- the words of attributes as they are written, numbered
 abbrev pub word_number : AttrWord → ℕ
 word_number attr.Left = 0
 word_number attr.Top = 1
@@ -152,6 +157,7 @@ is_suggestion view word (Sized first_row width height) = false
 is_suggestion view word (OfLine group line) = false
 is_suggestion view word (Suggested s) = nat_eq s.view view && nat_eq (word_number s.word) (word_number word)
 
+-- the item's suggestion, where it is one
 abbrev pub own_suggestion : Item → Option Suggestion
 own_suggestion OfWindow = None
 own_suggestion (OfView first_row id) = None
@@ -194,5 +200,6 @@ at_constant constant r = record {
   terms = r.terms;
 }
 
+-- the row with 0 in place of its constant
 abbrev pub without_constant : Row → Row
 without_constant r = at_constant zero_fraction r

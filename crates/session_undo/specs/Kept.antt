@@ -27,6 +27,7 @@ use Rattle.view_tree.specs.declared.limits.TheConstants.{ID_LIMIT, VIEW_LIMIT}
 
 -- ---- items
 
+-- what an item of the code stands for
 abbrev pub item_of : declared.Item → Item
 item_of kind.OfWindow = OfWindow
 item_of (kind.OfView first_row id) = OfView first_row id
@@ -34,9 +35,11 @@ item_of (kind.Sized first_row width height) = Sized first_row width height
 item_of (kind.OfLine group line) = OfLine group line
 item_of (kind.Suggested s) = Suggested s
 
+-- the same of each, in order
 abbrev pub items_of : List declared.Item → List Item
 items_of items = map item_of items
 
+-- what a held size of the code stands for
 abbrev pub size_in : HeldSize → Size
 size_in s = record { first_row = s.first_row; width = s.size.width; height = s.size.height }
 
@@ -76,6 +79,7 @@ scene_of tree metrics held next_row problem values = record {
   values = values;
 }
 
+-- the same, with the problem and the values of a layout
 abbrev pub scene_at : ViewTree → MetricList → List Item → ℕ → Layout → Scene
 scene_at tree metrics held next_row layout =
     scene_of tree metrics held next_row layout.problem layout.values
@@ -133,10 +137,11 @@ pub record IsKeptHistory (history : History) : Type 0 where
   pub scene : IsKept history.scene
   pub earlier : All IsKept history.earlier
 
+-- what the limits of the code stand for
 abbrev pub limits_of : declared_limits.Limits → Limits
 limits_of l = record { views = l.views; lines = l.lines; rows = l.rows }
 
--- as many views as a tree has room for, and no more rows than a problem has
+-- as many views as a tree has room for, and no more rows than a session may hold
 pub record AreWithin (limits : Limits) : Type 0 where
   pub views : limits.views ≡ VIEW_LIMIT
   pub rows : limits.rows ≤ MOST_ROWS

@@ -36,6 +36,7 @@ staying goes held = filter (λ item. not (goes item)) held
 
 -- ---- numbers of rows and of attributes
 
+-- the numbers of an item's rows, in order
 abbrev pub item_numbers : Item → List ℕ
 item_numbers OfWindow = LEFT_ROW ∷ TOP_ROW ∷ WIDTH_ROW ∷ HEIGHT_ROW ∷ []
 item_numbers (OfView first_row id) = first_row ∷ (first_row + 1) ∷ []
@@ -75,7 +76,7 @@ without_group old group = without_items old (is_in_group group)
 abbrev pub without_suggestion : Scene → ℕ → AttrWord → Scene
 without_suggestion old view word = without_items old (is_suggestion view word)
 
--- without these views, their rows, stays and suggestions, and the lines that name one of them
+-- without these views, their stays and suggestions, and the lines that name one of them
 abbrev pub without_views : Scene → List ℕ → Scene
 without_views old gone = record old {
   tree = tree.without old.tree gone;

@@ -147,7 +147,7 @@ pub record Spends (draft : Scene) (old : State) (reply : Reply) (new : State) : 
   pub stopped : IsStopped old.scene draft old.budget (run.Spent path)
   pub refused : Keeps (Spent Step path) old reply new
 
--- the draft, whose required rows have a solution, is solved, or there is no change
+-- the draft is solved, or there is no change, and no conflict is told
 abbrev pub SolvesFree : State → Scene → Reply → State → Type 0
 SolvesFree old draft reply new =
     Accepts draft old reply new ⊎ Overflows draft old reply new ⊎ Spends draft old reply new
@@ -266,7 +266,7 @@ IsTaken scene name = IsSome (view_named scene.tree.views name) ⊎ IsSome (value
 abbrev pub HasAllViews : State → Type 0
 HasAllViews s = (s.limits.views ≤ length s.scene.tree.views) ⊎ (ID_LIMIT ≤ s.scene.tree.next)
 
--- a view in this one would be below the last level
+-- a view in this one would be at a depth past the limit
 abbrev pub IsDeep : ViewTree → List ℕ → Type 0
 IsDeep tree parent =
     (above : LiveView) × (level : ℕ) × (view_named tree.views parent ≡ Some above)
@@ -324,11 +324,13 @@ parent_name (Some name) = name
 
 -- ---- views, metrics, the window
 
+-- the scene with the view in its parent is the draft
 abbrev pub AddsView : State → List ℕ → List ℕ → (Scene → Reply → State → Type 0) → Reply → State → Type 0
 AddsView old name parent End reply new =
     (above : LiveView) × (view_named old.scene.tree.views parent ≡ Some above)
     × End (with_view old.scene name above.id) reply new
 
+-- a view of this name, in the parent of that name
 abbrev pub TriedView : State → List ℕ → List ℕ → (Scene → Reply → State → Type 0) → Reply → State → Type 0
 TriedView old name parent End =
     Unless (view_named old.scene.tree.views parent ≡ None) (Unknown parent) old
@@ -350,10 +352,12 @@ TriedBranch old parent b End =
     (Unless (IsCrowded old (VIEW_ROWS * size b)) (Limit word.Rows) old
     (End (with_branch old.scene parent b)))
 
+-- the branch of the tree, below the view in which it goes
 abbrev pub AddsBranch : State → JsonTree → (Scene → Reply → State → Type 0) → Reply → State → Type 0
 AddsBranch old tree End reply new =
     (parent : ℕ) × GoesIn old.scene.tree tree parent × TriedBranch old parent tree.branch End reply new
 
+-- the tree of the text: its parent, its names, its branch
 abbrev pub AddsTree : State → List ℕ → (Scene → Reply → State → Type 0) → Reply → State → Type 0
 AddsTree old text End reply new =
     (tree : JsonTree) × IsTreeText text tree
@@ -368,6 +372,7 @@ TriedTree old text start End =
     (Unless (IsMisshapen text) (Kind kind.Tree) old
     (AddsTree old text End))
 
+-- this value of a metric
 abbrev pub TriedMetric : State → List ℕ → Fraction → (Scene → Reply → State → Type 0) → Reply → State → Type 0
 TriedMetric old name value End =
     Unless (IsSome (view_named old.scene.tree.views name)) (Taken name) old
@@ -376,6 +381,7 @@ TriedMetric old name value End =
     (UnlessFar old (with_metric old.scene name value)
     (End (with_metric old.scene name value)))))
 
+-- this size of the window
 abbrev pub TriedWindow : State → Fraction → Fraction → (Scene → Reply → State → Type 0) → Reply → State
     → Type 0
 TriedWindow old width height End =
@@ -385,6 +391,7 @@ TriedWindow old width height End =
 
 -- ---- lines of groups
 
+-- the scene with a line of the group that is so compiled is the draft
 abbrev pub AddsLine : State → List ℕ → (CompiledLine → Type 0) → (Scene → Reply → State → Type 0) → Reply
     → State → Type 0
 AddsLine old group Is End reply new =
@@ -402,6 +409,7 @@ TriedLine old group count May Is End =
     (UnlessAny (λ limit. May (stop.Limit limit)) Limit old
     (AddsLine old group Is End))))))
 
+-- a linear line, which has one row
 abbrev pub TriedConstraint : State → List ℕ → Linear → (Scene → Reply → State → Type 0) → Reply → State
     → Type 0
 TriedConstraint old group line =
@@ -409,6 +417,7 @@ TriedConstraint old group line =
     (MayStop old.scene.tree.views old.scene.metrics line old.scene.next_row)
     (IsCompiled old.scene.tree.views old.scene.metrics line old.scene.next_row)
 
+-- a format, with so many rows as it asks for
 abbrev pub TriedFormat : State → List ℕ → Option Align → FormatMeaning → (Scene → Reply → State → Type 0)
     → Reply → State → Type 0
 TriedFormat old group align format =
@@ -459,6 +468,7 @@ SuggestsFor old name attr value priority End reply new =
     × (rank : ℕ) × IsRank old.scene.tree.views old.scene.metrics (suggested_priority priority) rank
     × Suggests old view.id attr value priority rank (suggestion_of view.id attr old.scene.held) End reply new
 
+-- a suggestion of this value for an attribute of the view, with this priority or none written
 abbrev pub TriedSuggest : State → List ℕ → AttrWord → Fraction → Option Meant
     → (Scene → Reply → State → Type 0) → Reply → State → Type 0
 TriedSuggest old name attr value priority End =
@@ -471,17 +481,20 @@ TriedSuggest old name attr value priority End =
 abbrev pub suggestion_name : List ℕ → AttrWord → List ℕ
 suggestion_name name attr = name ++ (point ∷ word_text attr)
 
+-- the view of this name, whose suggestion of this attribute leaves if one is held
 abbrev pub ReleasesOf : State → List ℕ → AttrWord → (Scene → Reply → State → Type 0) → Reply → State → Type 0
 ReleasesOf old name attr End reply new =
     (view : LiveView) × (view_named old.scene.tree.views name ≡ Some view)
     × Unless (suggestion_of view.id attr old.scene.held ≡ None) (Unknown (suggestion_name name attr)) old
     (End (without_suggestion old.scene view.id attr)) reply new
 
+-- the release of an attribute of a view from its suggestion
 abbrev pub TriedRelease : State → List ℕ → AttrWord → (Scene → Reply → State → Type 0) → Reply → State
     → Type 0
 TriedRelease old name attr End =
     Unless (view_named old.scene.tree.views name ≡ None) (Unknown name) old (ReleasesOf old name attr End)
 
+-- the removal of a group's lines
 abbrev pub TriedRemove : State → List ℕ → (Scene → Reply → State → Type 0) → Reply → State → Type 0
 TriedRemove old group End =
     Unless (list_any (is_in_group group) old.scene.held ≡ false) (Unknown group) old
@@ -491,11 +504,13 @@ TriedRemove old group End =
 abbrev pub IsOfWindow : Scene → List ℕ → Type 0
 IsOfWindow scene name = option_map (λ v. v.id) (view_named scene.tree.views name) ≡ Some 0
 
+-- the scene without the view and all that go with it is the draft
 abbrev pub DropsView : State → List ℕ → (Scene → Reply → State → Type 0) → Reply → State → Type 0
 DropsView old name End reply new =
     (root : LiveView) × (gone : List ℕ) × (view_named old.scene.tree.views name ≡ Some root)
     × AreGoing old.scene.tree.views root.id gone × End (without_views old.scene gone) reply new
 
+-- the removal of a view with all that go with it, where it isn't the window
 abbrev pub TriedDrop : State → List ℕ → (Scene → Reply → State → Type 0) → Reply → State → Type 0
 TriedDrop old name End =
     Unless (view_named old.scene.tree.views name ≡ None) (Unknown name) old
@@ -504,6 +519,7 @@ TriedDrop old name End =
 
 -- ---- commands
 
+-- so many exchanges for each run from now on
 abbrev pub TriedBudget : State → ℕ → (Reply → State → Reply → State → Type 0) → Reply → State → Type 0
 TriedBudget old exchanges Other =
     Unless ((exchanges ≡ 0) ⊎ (BUDGET_LIMIT < exchanges)) (Limit word.Budget) old
@@ -521,9 +537,11 @@ TakesBack old Other reply new =
     (scene : Scene) × (earlier : List Scene) × (old.earlier ≡ scene ∷ earlier)
     × Other Done (record old { scene = scene; earlier = earlier }) reply new
 
+-- going back to the latest earlier scene
 abbrev pub TriedUndo : State → (Reply → State → Reply → State → Type 0) → Reply → State → Type 0
 TriedUndo old Other = Unless (old.earlier ≡ []) NoEarlier old (TakesBack old Other)
 
+-- each command, by its meaning
 abbrev pub Tried : State → Meaning → (Scene → Reply → State → Type 0)
     → (Reply → State → Reply → State → Type 0) → Reply → State → Type 0
 Tried old mean.Nothing End Other = Other Nothing old

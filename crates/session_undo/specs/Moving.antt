@@ -24,6 +24,7 @@ forms_in (Sized first_row width height) = []
 forms_in (OfLine group line) = line.rows
 forms_in (Suggested s) = []
 
+-- those of all these items, in order
 abbrev pub forms_of : List Item → List RowForm
 forms_of [] = []
 forms_of (item ∷ more) = forms_in item ++ forms_of more
@@ -43,6 +44,7 @@ IsMoved rows c = All (λ r. r.id ≡ c.row → (r.constant ≢ c.constant)
 abbrev pub IsFar : List Row → RowConstant → Type 0
 IsFar rows c = Any (λ r. (r.id ≡ c.row) × (IsFittingSum (plus c.constant (negated r.constant)) → ⊥)) rows
 
+-- the change of a row's constant to this one
 abbrev pub change_to : RowConstant → Change
 change_to c = record { row = c.row; constant = c.constant }
 

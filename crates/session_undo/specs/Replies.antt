@@ -24,6 +24,7 @@ pub data Place : Type 0 where
   Still : List ℕ → Place
   Probe : ℕ → Bool → Place
 
+-- what a stop's place in the code stands for
 abbrev pub place_of : StopPlace → Place
 place_of place.Step = Step
 place_of (place.Still ids) = Still ids.items
@@ -72,6 +73,7 @@ is_accepted (Overflow place path quantity) = false
 is_accepted (Spent place path) = false
 is_accepted (NoTarget attr up) = false
 
+-- what a reply of the code to an accepted command stands for
 abbrev pub accepted : answer.Reply → Reply
 accepted good.Silent = Nothing
 accepted good.Done = Done

@@ -61,6 +61,7 @@ with_earlier scene earlier = take EARLIER (scene ∷ earlier)
 abbrev pub Remembers : History → History → Type 0
 Remembers old new = new.earlier ≡ with_earlier old.scene old.earlier
 
+-- the problem of the scene's rows and stays
 abbrev pub problem_of : Scene → Problem
 problem_of scene = record { rows = scene.rows; stays = scene.stays }
 
@@ -76,6 +77,7 @@ new_values id =
     (left_of id, zero_fraction) ∷ (top_of id, zero_fraction) ∷ (width_of id, zero_fraction)
     ∷ (height_of id, zero_fraction) ∷ []
 
+-- the stays of these attributes, at 0
 abbrev pub new_stays : ℕ → List Stay
 new_stays id = stays_at (new_values id)
 
@@ -86,7 +88,7 @@ new_stays_from id count = stays_at (zeros (attributes_from id count))
 -- In each draft that follows the stays have moved to the values before. Its rows and values are still those
 -- before.
 
--- with a view more, and its two rows
+-- with a view more, whose two rows have the next numbers
 abbrev pub with_view : Scene → List ℕ → ℕ → Scene
 with_view old name parent = record old {
   tree = tree.with_view old.tree name parent;
@@ -110,6 +112,7 @@ metrics_with metrics name value =
     cond (is_some (place_of (names_of metrics) name)) (with_value metrics name value)
     (metrics ++ (name, value) ∷ [])
 
+-- with this value of the metric of this name
 abbrev pub with_metric : Scene → List ℕ → Fraction → Scene
 with_metric old name value =
     record old { metrics = metrics_with old.metrics name value; stays = moved old.stays old.values }
@@ -119,10 +122,12 @@ abbrev pub held_with_size : Bool → ℕ → Fraction → Fraction → List Item
 held_with_size false n width height held = held ++ Sized n width height ∷ []
 held_with_size true n width height held = resized width height held
 
+-- the number that the next row takes then
 abbrev pub next_with_size : Bool → ℕ → ℕ
 next_with_size false n = n + SIZE_ROWS
 next_with_size true n = n
 
+-- with this size of the window
 abbrev pub with_window : Scene → Fraction → Fraction → Scene
 with_window old width height = record old {
   held = held_with_size (has_size old.held) old.next_row width height old.held;
@@ -153,10 +158,11 @@ with_suggested old view word constant = record old {
   stays = moved old.stays old.values;
 }
 
--- the rows that a draft stands for, and the problem of these rows
+-- the rows that a draft stands for
 abbrev pub AreDraftRows : Scene → List Row → Type 0
 AreDraftRows draft rows = AreRows draft.metrics draft.held rows
 
+-- the problem of a draft, where these are its rows
 abbrev pub draft_problem : Scene → List Row → Problem
 draft_problem draft rows = record { rows = rows; stays = draft.stays }
 
@@ -189,9 +195,11 @@ first_scene = record {
   values = new_values 0;
 }
 
+-- the limits of a new session
 abbrev pub first_limits : Limits
 first_limits = record { views = VIEW_LIMIT; lines = MOST_LINES; rows = MOST_ROWS }
 
+-- a new session
 abbrev pub first_state : State
 first_state =
     record { scene = first_scene; earlier = []; budget = FIRST_BUDGET; limits = first_limits }

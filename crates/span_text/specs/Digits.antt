@@ -15,9 +15,12 @@ abbrev pub Nonzero : {A : Type 0} → ℕ → ℕ → (ℕ → Rel A) → Rel A
 Nonzero n a F s v = (x : List ℕ) × (t : List ℕ) × (s ≡ x ++ t) × AllIn is_digit x × (length x ≤ n)
     × NotStart is_digit t × (digits a x ≡ 0 → ⊥) × F (digits a x) t v
 
+-- the digits end here: the value a of all and the text behind them, or an error where that value is 0
 abbrev pub ended : ℕ → List ℕ → Result (ℕ × List ℕ) ℕ
 ended a s = if a == 0 then Err (length s) else Ok (a, s)
 
+-- RATIO behind its slash, where digits of the value a were read and n more may follow: the value of all,
+-- which isn't 0, and the text at once behind them
 unfoldable pub nonzero_at : ℕ → ℕ → List ℕ → Result (ℕ × List ℕ) ℕ
 nonzero_at n a [] = ended a []
 nonzero_at zero a (b ∷ s) = if is_digit b then Err (length (b ∷ s)) else ended a (b ∷ s)

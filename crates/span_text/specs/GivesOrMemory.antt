@@ -1,8 +1,9 @@
--- The same of a reader that may also want memory.
+-- What a reader gives that may also want memory, beside reading the list.
 use Rattle.std.specs.Prelude.{◌≡◌, ℕ, Result, Ok, Err}
 use Rattle.span_text.specs.declared.stop.PartStop.{PartStop}
 use Rattle.span_text.specs.declared.stop.PartStop.TheVariants.{Left, OutOfMemory}
 
+-- The error of a reader is that of reading the list, or memory ran out.
 abbrev pub LeavesOrMemory : {Y : Type 0} → PartStop → Result Y ℕ → Type 0
 LeavesOrMemory (Left m) read = read ≡ Err m
 LeavesOrMemory OutOfMemory read = Unit {0}

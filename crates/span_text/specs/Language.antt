@@ -3,6 +3,7 @@ use Rattle.span_text.specs.Classes.{is_byte}
 use Rattle.std.specs.Prelude.{◌≡◌, ℕ, ◌≤◌, Bool, true, false, ◌&&◌, List, [], ◌∷◌, ◌++◌, length, take, Result}
 use Rattle.std.specs.Prelude.{Ok, Err, ◌⊎◌}
 
+-- a relation between a whole text and what it means
 abbrev pub Rel : Type 0 → Type 1
 Rel A = List ℕ → A → Type 0
 
@@ -46,10 +47,11 @@ Run c F s v = (x : List ℕ) × (t : List ℕ) × (s ≡ x ++ t) × AllIn c x ×
 abbrev pub Not : {A : Type 0} → (ℕ → Bool) → Rel A → Rel A
 Not c F s v = NotStart c s × F s v
 
+-- a text of F, or one of G
 abbrev pub Or : {A : Type 0} → Rel A → Rel A → Rel A
 Or F G s v = F s v ⊎ G s v
 
--- the same with at most n bytes
+-- at most n bytes of the class, as many as stand there, and then a text of F at those
 abbrev pub Few : {A : Type 0} → (ℕ → Bool) → ℕ → (List ℕ → Rel A) → Rel A
 Few c n F s v = (x : List ℕ) × (t : List ℕ) × (s ≡ x ++ t) × AllIn c x × (length x ≤ n) × NotStart c t
     × F x t v

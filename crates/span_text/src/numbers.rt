@@ -10,7 +10,7 @@ ghost use Rattle.span_text.specs.declared.limits.TheConstants.{UNIT, WHOLE_DIGIT
 use crate::limits::{DECIMALS, HUNDREDTH, NUMBER_DIGITS, RATIO_DIGITS, TENTH, UNIT, WHOLE_DIGITS};
 use crate::{classes, names, pieces};
 
-// The value and the count of digits, and the text at once behind them.
+/// The value and the count of digits, and the text at once behind them.
 #[derive(Drop)]
 pub(crate) struct DigitRun<'a> {
     pub(crate) value: u64,
@@ -18,7 +18,7 @@ pub(crate) struct DigitRun<'a> {
     pub(crate) rest: &'a [u8],
 }
 
-// At most `most` digits, at least one.
+/// The digits that the text begins with, at most `most`. None is an error, and so is one more.
 pub(crate) fn digits(text: &[u8], most: usize) -> Result<DigitRun<'_>, usize>
     requires { (0 < most) × (most ≤ WHOLE_DIGITS) }
     ensures gives { Gives (λ x. (x.value, x.count, x.rest.now)) result (valued_at (most - 1) text.now) }
@@ -63,6 +63,9 @@ fn in_thousandths(value: u64, count: usize) -> u32
     }
 }
 
+/// The number in thousandths whose digits in front of the point have the value `whole`, read from the point
+/// on, and the text behind it. An error where anything but a point and one to [`DECIMALS`] digits follows, or
+/// a letter, a digit or `_` behind these.
 #[tactic(auto, unfolding(crate::specs::Tokens::decimals_at))]
 pub(crate) fn decimals(text: &[u8], whole: u32) -> Result<(u32, &[u8]), usize>
     requires { whole < 10 ^ NUMBER_DIGITS }
@@ -76,6 +79,8 @@ pub(crate) fn decimals(text: &[u8], whole: u32) -> Result<(u32, &[u8]), usize>
     Ok((whole * UNIT + in_thousandths(part.value, part.count), text))
 }
 
+/// The number in thousandths without a point whose digits have the value `whole`, and the text behind it. An
+/// error where the text begins with a point, a letter, a digit or `_`.
 #[tactic(auto, unfolding(crate::specs::Tokens::no_decimals_at))]
 pub(crate) fn no_decimals(text: &[u8], whole: u32) -> Result<(u32, &[u8]), usize>
     requires { whole < 10 ^ NUMBER_DIGITS }
@@ -124,7 +129,8 @@ pub struct RatioRead<'a> {
     pub rest: &'a [u8],
 }
 
-// The digits of a ratio's lower part, whose value isn't 0, and the text at once behind them.
+/// The value of a ratio's lower digits, at most [`RATIO_DIGITS`], and the text at once behind them. An error
+/// where there is none, where there are more, or where all are 0.
 #[tactic(auto, unfolding(crate::specs::Digits::nonzero_at))]
 pub(crate) fn nonzero(text: &[u8]) -> Result<(u32, &[u8]), usize>
     ensures small { IfOk result (λ x. (0 < x.0) × (x.0 < 10 ^ RATIO_DIGITS)) }

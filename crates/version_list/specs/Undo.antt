@@ -72,8 +72,8 @@ abbrev pub IsMarked : {T : Type 0} → List (Log T) → ℕ → Type 0
 IsMarked [] at = ⊥
 IsMarked (log ∷ logs) at = at < log.len
 
--- the fields of a list: a slot for each element, logs of these, room for one more mark, and space for each
--- earlier version
+-- the fields of a list: a slot for each element, logs of these, no more than the limit, room for that many,
+-- and space for each
 pub record IsSound
     {T : Type 0} (items : List T) (slots : List ℕ) (stack : List (Log T)) (capacity space : ℕ) : Type 0 where
   pub lengths : length slots ≡ length items

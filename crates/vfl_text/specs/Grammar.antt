@@ -14,9 +14,11 @@ use Rattle.vfl_text.specs.declared.parts.Axis.TheVariants as axis
 use Rattle.vfl_text.specs.Formats.{PredMeaning, SpacingMeaning, Flush, Standard, Given, ItemMeaning}
 use Rattle.vfl_text.specs.Formats.{FormatMeaning}
 
+-- `rel`: each relation as it is written, with its meaning
 abbrev pub relations : List (List ℕ × relation.Rel)
 relations = (codes "==", rel.Eq) ∷ (codes "<=", rel.Le) ∷ (codes ">=", rel.Ge) ∷ []
 
+-- the directions of a `format`, each as it is written, with its meaning
 abbrev pub axes : List (List ℕ × Axis)
 axes = (codes "H", axis.H) ∷ (codes "V", axis.V) ∷ []
 
@@ -28,6 +30,7 @@ Value F = Or (Name (λ n. F (object.Name n))) (Number (λ n. F (object.Number (p
 abbrev pub Object : {A : Type 0} → (Meant → Rel A) → Rel A
 Object F = Or (Sign minus (Number (λ n. F (object.Number (neg_ℤ (pos n)))))) (Value F)
 
+-- the meaning of a `pred` of these parts
 abbrev pub pred : relation.Rel → Meant → Option Meant → PredMeaning
 pred r o p = record { rel = r; object = o; priority = p }
 
@@ -52,6 +55,7 @@ PredRound F G ps = Pred (λ p. Or (Sign comma (G (ps ++ p ∷ []))) (Sign right_
 abbrev pub Preds : {A : Type 0} → (List PredMeaning → Rel A) → Rel A
 Preds F = Sign left_paren (Loop (PredRound F) [])
 
+-- the meaning of an `item` of this name and these predicates
 abbrev pub item : List ℕ → List PredMeaning → ItemMeaning
 item n ps = record { name = n; sizes = ps }
 
@@ -60,6 +64,7 @@ abbrev pub View : {A : Type 0} → (ItemMeaning → Rel A) → Rel A
 View F = Sign left_bracket (Name (λ n. Or (Preds (λ ps. Sign right_bracket (F (item n ps))))
     (Sign right_bracket (F (item n [])))))
 
+-- the meaning of a NAME or NUMBER alone in a `connection`: one predicate, with == and no priority
 abbrev pub single : Meant → List PredMeaning
 single o = pred rel.Eq o None ∷ []
 
@@ -68,9 +73,11 @@ abbrev pub Spaced : {A : Type 0} → (SpacingMeaning → Rel A) → Rel A
 Spaced F = Or (Preds (λ ps. Sign minus (F (Given ps))))
     (Or (Value (λ o. Sign minus (F (Given (single o))))) (F Standard))
 
+-- `connection`: "-" and what stands behind it, or nothing
 abbrev pub Connection : {A : Type 0} → (SpacingMeaning → Rel A) → Rel A
 Connection F = Or (Sign minus (Spaced F)) (F Flush)
 
+-- the meaning of a `format` with one more connection and one more view behind the others
 abbrev pub with_item : FormatMeaning → SpacingMeaning → ItemMeaning → FormatMeaning
 with_item f g i = record {
   axis = f.axis;
@@ -81,6 +88,7 @@ with_item f g i = record {
   to_parent = f.to_parent;
 }
 
+-- the meaning of a `format` with this connection to the parent at its end
 abbrev pub with_end : FormatMeaning → SpacingMeaning → FormatMeaning
 with_end f g = record {
   axis = f.axis;
@@ -106,8 +114,10 @@ Orientation F = Or (Words axes (λ a. Blanks (Sign colon (F a)))) (F axis.H)
 abbrev pub FromParent : {A : Type 0} → (Option SpacingMeaning → Rel A) → Rel A
 FromParent F = Or (Sign bar (Connection (λ g. F (Some g)))) (F None)
 
+-- the meaning of a `format` that has come to its first view
 abbrev pub started : Axis → Option SpacingMeaning → ItemMeaning → FormatMeaning
 started a g i = record { axis = a; from_parent = g; items = i ∷ []; spacings = []; to_parent = None }
 
+-- the whole text is a `format`, maybe with spaces in front, and means this
 unfoldable pub FormatText : Rel FormatMeaning
 FormatText = Blanks (Orientation (λ a. FromParent (λ g. View (λ i. Loop Round (started a g i)))))

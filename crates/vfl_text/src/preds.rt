@@ -16,7 +16,7 @@ use problem_core::Rel;
 use span_text::{Object, PartStop, names, numbers, pieces};
 use std::alloc::Global;
 
-// A number of thousandths with its sign.
+// A number of thousandths that isn't below 0.
 fn above_zero(thousandths: u32) -> i32
     requires { thousandths < number_bound }
     ensures { result ≡ pos thousandths }
@@ -24,6 +24,7 @@ fn above_zero(thousandths: u32) -> i32
     thousandths as i32
 }
 
+// The same with `-` in front.
 fn below_zero(thousandths: u32) -> i32
     requires { thousandths < number_bound }
     ensures { result ≡ neg_ℤ (pos thousandths) }

@@ -163,7 +163,7 @@ fn is_plain(object: Object<'_>) -> bool
     }
 }
 
-// Whether a connection is written without parentheses and relation.
+// Whether this predicate, alone in a connection, is written without parentheses and relation.
 fn is_simple(pred: &Pred<'_>) -> bool
     ensures { result ≡ is_simple (pred_meaning pred.now) }
 {

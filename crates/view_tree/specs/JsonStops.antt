@@ -38,6 +38,7 @@ pub record IsFirstHeld (t : ViewTree) (metrics : List (List ℕ × Fraction)) (a
   pub free : AreFree t metrics [] before
   pub held : is_held t metrics before name ≡ true
 
+-- no name is longer than a view's may be
 abbrev pub AreShort : List (List ℕ) → Type 0
 AreShort all = All (λ name. length name ≤ NAME_LIMIT) all
 

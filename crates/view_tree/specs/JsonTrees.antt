@@ -13,6 +13,7 @@ use Rattle.view_tree.specs.Views.{LiveView, ViewTree}
 
 -- ---- a view with those in it
 
+-- a branch is a view's name, and the branches of the views in it, in order
 mutual
   pub data Branch : Type 0 where
     branch : List ℕ → Branches → Branch
@@ -69,6 +70,7 @@ abbrev pub is_name : List ℕ → Bool
 is_name [] = false
 is_name (b ∷ bs) = is_letter b && list_all is_word bs
 
+-- the bytes, if they are a name
 abbrev pub named : List ℕ → Option (List ℕ)
 named s = if is_name s then Some s else None
 
@@ -81,6 +83,7 @@ abbrev pub is_member : Bool → List ℕ → Bool
 is_member is_outermost key = bytes_eq key (codes "name") || (bytes_eq key (codes "children")
     || (is_outermost && bytes_eq key (codes "in")))
 
+-- whether an object may have each of these members
 abbrev pub are_members : Bool → Members → Bool
 are_members is_outermost no_members = true
 are_members is_outermost (member k d ms) = is_member is_outermost k && are_members is_outermost ms
@@ -103,6 +106,7 @@ abbrev mutual
   children_of no_members = Some no_branches
   children_of (member k d ms) = if bytes_eq (codes "children") k then elements_of d else children_of ms
 
+  -- the branches of the objects in an array, in order; a value of another shape has none
   pub elements_of : Data → Option Branches
   elements_of null = None
   elements_of (boolean b) = None
@@ -111,6 +115,7 @@ abbrev mutual
   elements_of (array ds) = branches_of ds
   elements_of (object ms) = None
 
+  -- the branch of each value, in order, if each has one
   pub branches_of : Items → Option Branches
   branches_of no_items = Some no_branches
   branches_of (item d ds) = option_and_then (λ b. option_map (more b) (branches_of ds)) (branch_of false d)

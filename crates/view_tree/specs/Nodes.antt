@@ -4,9 +4,11 @@ use Rattle.std.specs.Option.{option_map}
 use Rattle.view_tree.specs.Views.{LiveView, ViewTree, IsAtDepth, IsTree}
 use Rattle.view_tree.specs.declared.tree.Node.{Node}
 
+-- the live view of an entry: a name, and what is kept under it
 abbrev pub live_view : List ℕ × Node → LiveView
 live_view e = record { id = e.1.id.0; name = e.0; parent = option_map (λ p. p.0) e.1.parent }
 
+-- the tree of these entries, where this number is the next view's
 abbrev pub tree_of : List (List ℕ × Node) → ℕ → ViewTree
 tree_of entries next = record { views = map live_view entries; next = next }
 

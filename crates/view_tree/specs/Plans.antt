@@ -16,12 +16,15 @@ abbrev mutual
   pairs_in parent no_branches = []
   pairs_in parent (more b bs) = pairs parent b ++ pairs_in parent bs
 
+-- the name of a view to be made, and that of its parent
 abbrev pub pair_of : Planned → List ℕ × List ℕ
 pair_of p = (p.name.now, p.parent.now)
 
+-- the names of the views to be made, in order, each with that of its parent
 abbrev pub pairs_of : List Planned → List (List ℕ × List ℕ)
 pairs_of ps = map pair_of ps
 
+-- the names of the views to be made, in order
 abbrev pub names_of_plan : List Planned → List (List ℕ)
 names_of_plan ps = map (λ p. p.name.now) ps
 
@@ -31,7 +34,7 @@ pub record IsPlanOf (plan : Plan) (tree : JsonTree) : Type 0 where
   pub pairs : pairs_of plan.views.items ≡ pairs tree.place tree.branch
   pub height : plan.height ≡ height tree.branch
 
--- the number of the view of this name
+-- the number of the live view of this name, and 0 where there is none
 abbrev pub number_of : ViewTree → List ℕ → ℕ
 number_of t name = option_map_or (λ v. v.id) (view_named t.views name) 0
 

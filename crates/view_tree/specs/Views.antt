@@ -18,13 +18,15 @@ pub record ViewTree : Type 0 where
   pub views : List LiveView
   pub next : ℕ
 
+-- the window, whose number is 0 and which has no parent
 abbrev pub window : LiveView
 window = record { id = 0; name = codes "window"; parent = None }
 
--- the live view with this number, and the one with this name
+-- the live view with this number
 abbrev pub view_of : List LiveView → ℕ → Option LiveView
 view_of views id = find (λ v. nat_eq v.id id) views
 
+-- the live view with this name
 abbrev pub view_named : List LiveView → List ℕ → Option LiveView
 view_named views name = find (λ v. bytes_eq name v.name) views
 

@@ -13,14 +13,14 @@ use serde_json::{Map, Value};
 use span_text::names;
 use std::alloc::{AllocFailed, Global};
 
-// A view to be made, and the name of its parent.
+/// A view to be made, and the name of its parent.
 #[derive(Clone, Copy, Debug)]
 pub(crate) struct Planned<'v> {
     pub name: &'v str,
     pub parent: &'v str,
 }
 
-// What a JSON value makes: views in preorder, and their height, below the view of the name `place`.
+/// What a JSON value makes: views in preorder, and their height, below the view of the name `place`.
 #[derive(Debug, Drop)]
 pub(crate) struct Plan<'v> {
     pub place: &'v str,
@@ -28,10 +28,10 @@ pub(crate) struct Plan<'v> {
     pub height: usize,
 }
 
-// Why there is no plan.
+/// Why there is no plan.
 #[derive(Clone, Copy, Debug, PartialEq, Eq)]
 pub(crate) enum PlanStop {
-    // The value has another shape.
+    /// The value has another shape.
     Shape,
     OutOfMemory,
 }
@@ -154,7 +154,7 @@ fn plan_elements<'v>(
     Ok(height)
 }
 
-// The plan of a JSON value.
+/// The plan of a JSON value. `Shape` where the value has another shape than a tree.
 pub(crate) fn plan_of(alloc: Global, value: &Value) -> Result<Plan<'_>, PlanStop>
     ensures planned { IfOk result (λ plan. (tree : JsonTree) × (tree_of (view value.now) ≡ Some tree)
         × IsPlanOf plan tree) }

@@ -9,7 +9,7 @@ pub enum TreeStop {
     /// The text of a tree isn't JSON.
     #[error("the text of the tree isn't JSON")]
     Syntax,
-    /// The tree is of another shape.
+    /// The tree is of another shape, or the window was to be dropped.
     #[error("this isn't the shape of a tree")]
     Shape,
     /// A view that must be live isn't.
@@ -21,6 +21,7 @@ pub enum TreeStop {
     /// A limit would be passed.
     #[error("a limit would be passed")]
     Limit(LimitWord),
+    /// Memory is wanting.
     #[error("memory is wanting")]
     OutOfMemory,
 }

@@ -18,7 +18,7 @@ use name_tables::{LimitWord, NAME_LIMIT, NameMap};
 use std::alloc::Global;
 use std::marker::Model;
 
-// What is kept under a view's name.
+/// What is kept under a view's name.
 #[derive(Clone, Copy, Debug)]
 pub(crate) struct Node {
     id: ViewId,
@@ -128,12 +128,12 @@ impl Tree {
         Some(node.id)
     }
 
-    // Where the table takes its memory.
+    /// Where the table takes its memory.
     pub(crate) fn allocator(&self) -> Global {
         self.table.allocator()
     }
 
-    // The number that the next view takes.
+    /// The number that the next view takes.
     pub(crate) fn next_number(&self) -> u32
         ensures next { result ≡ self.now.next }
         ensures within { self.now.next ≤ ID_LIMIT }
@@ -141,7 +141,7 @@ impl Tree {
         self.next
     }
 
-    // The depth of a live view.
+    /// The depth of a live view, the window being at 1. There is none where the view isn't live.
     pub(crate) fn depth(&self, id: ViewId) -> Option<u32>
         ensures depth { IfSome result (IsAtDepth self.now.views id.0) }
         ensures dead { IfNone result (view_of self.now.views id.0 ≡ None) }
@@ -159,7 +159,7 @@ impl Tree {
         node_of(self.table.values(), id.0)
     }
 
-    // Whether a live view has the name.
+    /// Whether a live view has the name.
     pub(crate) fn has_name(&self, name: &str) -> bool
         ensures { result ≡ is_some (view_named self.now.views name.now) }
     {

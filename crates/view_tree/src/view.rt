@@ -1,6 +1,6 @@
 // A view as a caller sees it.
 
-/// The number of a view. The window's is 0, and none is used twice.
+/// The number of a view. The window's is 0, and no two live views have the same.
 #[derive(Clone, Copy, Debug, PartialEq, Eq)]
 pub struct ViewId(pub u32);
 

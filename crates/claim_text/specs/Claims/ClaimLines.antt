@@ -18,9 +18,11 @@ use Rattle.claim_text.specs.Paths.PathTexts.{path_lines, unfit_lines}
 abbrev pub value_words : ℕ × Fraction → List (List ℕ)
 value_words v = codes "value" ∷ decimal v.0 ∷ fraction_text v.1 ∷ []
 
+-- `best`
 abbrev pub best_words : List (List ℕ)
 best_words = codes "best" ∷ []
 
+-- `conflict`
 abbrev pub conflict_words : List (List ℕ)
 conflict_words = codes "conflict" ∷ []
 
@@ -34,14 +36,17 @@ by_words b = codes "by" ∷ signed_decimal b.times ∷ codes "row" ∷ row_word 
 
 -- ---- what the parts are
 
+-- the attribute's number is within the limits, and the value is in lowest terms and fits
 pub record IsValue (v : ℕ × Fraction) : Type 0 where
   pub attr : IsNumber v.0
   pub value : IsKept v.1
 
+-- the level may be named, and its scale fits
 pub record IsLevelLine (l : LevelLine) : Type 0 where
   pub level : IsLevelName l.level
   pub scale : IsFitting l.scale
 
+-- the row may be named, and its multiplier fits and isn't 0
 pub record IsBy (b : By) : Type 0 where
   pub row : IsRowName b.row
   pub times : IsFitting b.times
@@ -49,12 +54,15 @@ pub record IsBy (b : By) : Type 0 where
 
 -- ---- texts
 
+-- the line of an attribute's value
 abbrev pub value_line : ℕ × Fraction → List ℕ
 value_line v = line_of (value_words v)
 
+-- the line of a level and its scale
 abbrev pub level_line : LevelLine → List ℕ
 level_line l = line_of (level_words l)
 
+-- the line of a multiplier
 abbrev pub by_line : By → List ℕ
 by_line b = line_of (by_words b)
 
@@ -62,16 +70,20 @@ by_line b = line_of (by_words b)
 abbrev pub level_lines : BestLevel → List (List ℕ)
 level_lines l = level_line (record { level = l.level; scale = l.scale }) ∷ map by_line l.by
 
+-- the lines of several levels, one level's after the other's
 abbrev pub lines_of_levels : List BestLevel → List (List ℕ)
 lines_of_levels [] = []
 lines_of_levels (l ∷ more) = level_lines l ++ lines_of_levels more
 
+-- the lines of values with a certificate
 abbrev pub best_lines : List (ℕ × Fraction) → List BestLevel → List (List ℕ)
 best_lines values best = map value_line values ++ line_of best_words ∷ lines_of_levels best
 
+-- the lines of a conflict
 abbrev pub conflict_lines : List By → List (List ℕ)
 conflict_lines bys = line_of conflict_words ∷ map by_line bys
 
+-- the lines of a claim
 abbrev pub claim_lines : Claim → List (List ℕ)
 claim_lines (IsBest values best) = best_lines values best
 claim_lines (IsConflict bys) = conflict_lines bys

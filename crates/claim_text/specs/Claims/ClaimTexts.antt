@@ -43,6 +43,7 @@ pub record Draft : Type 0 where
   pub levels : List BestLevel
   pub bys : List By
 
+-- what was read before the first line
 abbrev pub nothing_read : Draft
 nothing_read = record { stage = Values; values = []; levels = []; bys = [] }
 
@@ -54,6 +55,7 @@ closed (Bys l) levels bys = levels ++ record { level = l.level; scale = l.scale;
 closed Conflict levels bys = levels
 closed (Path d) levels bys = levels
 
+-- the stage is one at which a level may come
 abbrev pub HasLevels : Stage → Type 0
 HasLevels Values = ⊥
 HasLevels Levels = Unit {0}
@@ -61,6 +63,7 @@ HasLevels (Bys l) = Unit {0}
 HasLevels Conflict = ⊥
 HasLevels (Path d) = ⊥
 
+-- the stage is one at which a multiplier may come
 abbrev pub HasBys : Stage → Type 0
 HasBys Values = ⊥
 HasBys Levels = ⊥
@@ -87,6 +90,7 @@ stage_with (Bys l) part = Bys l
 stage_with Conflict part = Conflict
 stage_with (Path d) part = Path (with_part d part)
 
+-- what was read, with what a line says
 abbrev pub with_line : Draft → ClaimLine → Draft
 with_line old (OfValue v) = record {
   stage = old.stage;
@@ -128,12 +132,14 @@ with_line old (OfPart part) = record {
   bys = old.bys;
 }
 
+-- after what was read before the line comes this
 pub record Step (old : Draft) (line : List ℕ) (new : Draft) : Type 0 where
   pub item : ClaimLine
   pub says : Says line item
   pub may : MayFollow old item
   pub is : new ≡ with_line old item
 
+-- the lines, one after the other, lead from what was read before them to this
 abbrev pub ReadFrom : Draft → List (List ℕ) → Draft → Type 0
 ReadFrom old [] new = new ≡ old
 ReadFrom old (line ∷ more) new = (mid : Draft) × Step old line mid × ReadFrom mid more new
@@ -163,10 +169,12 @@ StopsAt all OutOfMemory = Unit {0}
 
 -- ---- what the reader of lines tells
 
+-- the lines lead to this draft, and there are so many
 pub record IsRead (all : List (List ℕ)) (draft : Draft) (count : ℕ) : Type 0 where
   pub reads : ReadFrom nothing_read all draft
   pub count_is : count ≡ length all
 
+-- the first line that may not follow those before it, unless memory was wanting
 abbrev pub LinesStopAt : List (List ℕ) → ReadStop → Type 0
 LinesStopAt all (Refused bad) = IsFirstBad (ReadFrom nothing_read) Step all bad.0
 LinesStopAt all OutOfMemory = Unit {0}
@@ -178,11 +186,13 @@ pub record AreRead (bys : List By) : Type 0 where
   pub each : All IsBy bys
   pub order : AllPairs (λ a b. IsRowBefore a.row b.row) bys
 
+-- a level as it is read: it may be named, its scale fits, and its rows with multipliers are as they are read
 pub record IsLevelRead (l : BestLevel) : Type 0 where
   pub level : IsLevelName l.level
   pub scale : IsFitting l.scale
   pub by : AreRead l.by
 
+-- what a stage keeps: the open level may be named and its scale fits; the path is one that is written
 abbrev pub IsStage : Stage → Type 0
 IsStage Values = Unit {0}
 IsStage Levels = Unit {0}
@@ -190,6 +200,7 @@ IsStage (Bys l) = IsLevelLine l
 IsStage Conflict = Unit {0}
 IsStage (Path d) = IsPathWritten (path_of d) d.unfit
 
+-- what was read has the order of a claim: values by rising attribute, and levels and rows as they are read
 pub record IsDraft (d : Draft) : Type 0 where
   pub stage : IsStage d.stage
   pub values : AllPairs (λ u v. u.0 < v.0) d.values
@@ -199,12 +210,14 @@ pub record IsDraft (d : Draft) : Type 0 where
 
 -- ---- the claims that are written so that they are read back
 
+-- values by rising attribute, and levels in their order, all within their limits
 pub record IsBestWritten (pairs : List (ℕ × Fraction)) (best : List BestLevel) : Type 0 where
   pub values : All IsValue pairs
   pub rising : AllPairs (λ u v. u.0 < v.0) pairs
   pub levels : All IsLevelRead best
   pub level_order : AllPairs (λ k l. IsLevelBefore k.level l.level) best
 
+-- the parts of the claim are in their order and within their limits
 abbrev pub IsWritten : Claim → Type 0
 IsWritten (IsBest values best) = IsBestWritten values best
 IsWritten (IsConflict bys) = AreRead bys

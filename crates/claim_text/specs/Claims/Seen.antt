@@ -17,15 +17,19 @@ abbrev pub AreKeys : {A : Type 0} → (A → ℕ → Type 0) → List A → BTre
 AreKeys MayPrecede xs keys = (attr : ℕ) → MatchOption (get nat_cmp keys attr)
     (All (λ x. MayPrecede x attr) xs) (λ _. All (λ x. MayPrecede x attr) xs → ⊥)
 
+-- the keys are the attributes of the stays among these rows
 abbrev pub AreRowKeys : List RowName → BTreeMap ℕ ℕ → Type 0
 AreRowKeys rows keys = AreKeys (λ row attr. IsRowBefore row (StayRow attr)) rows keys
 
+-- the keys are the attributes of the stays among these levels
 abbrev pub AreLevelKeys : List Level → BTreeMap ℕ ℕ → Type 0
 AreLevelKeys levels keys = AreKeys (λ level attr. IsLevelBefore level (StayLevel attr)) levels keys
 
+-- the rows that have multipliers at the open level, or in a conflict
 abbrev pub rows_of : Draft → List RowName
 rows_of d = map (λ b. b.row) d.bys
 
+-- the levels so far, the open one among them
 abbrev pub levels_of : Draft → List Level
 levels_of d = map (λ l. l.level) (closed d.stage d.levels d.bys)
 
@@ -37,6 +41,7 @@ marked_rows (Bys l) = []
 marked_rows Conflict = []
 marked_rows (Path d) = map (λ m. m.row) d.corner
 
+-- the stays that were named: by multipliers of the open list, by a path's first corner, and by levels
 pub record AreSeen (d : Draft) (seen : Seen) : Type 0 where
   pub rows : AreRowKeys (rows_of d) seen.rows
   pub marks : AreRowKeys (marked_rows d.stage) seen.marks

@@ -18,6 +18,7 @@ SaysPart line (OfIn m) = IsRowName m.row × (words line ≡ in_words m)
 SaysPart line (OfSwap s) = IsSwapName s × (words line ≡ swap_words s)
 SaysPart line (OfUnfit q) = IsQuantityName q × (words line ≡ unfit_words q)
 
+-- the word for the first terms, rows or changed constants of what is named
 abbrev pub part_word : Part → List ℕ
 part_word Terms = codes "terms"
 part_word Rows = codes "rows"
@@ -30,9 +31,11 @@ pub record PathDraft : Type 0 where
   pub swaps : List Swap
   pub unfit : Option Quantity
 
+-- a path of which the kind alone was read
 abbrev pub path_begun : Bool → PathDraft
 path_begun dual = record { dual = dual; corner = []; swaps = []; unfit = None }
 
+-- the path that was read, without a quantity
 abbrev pub path_of : PathDraft → Path
 path_of d = record { dual = d.dual; corner = d.corner; swaps = d.swaps }
 
@@ -42,6 +45,7 @@ PartMayFollow d (OfIn m) = (d.swaps ≡ []) × (d.unfit ≡ None) × All (λ k. 
 PartMayFollow d (OfSwap s) = d.unfit ≡ None
 PartMayFollow d (OfUnfit q) = d.unfit ≡ None
 
+-- what was read of a path, with what a line says
 abbrev pub with_part : PathDraft → PathLine → PathDraft
 with_part d (OfIn m) = record {
   dual = d.dual;
@@ -59,6 +63,7 @@ with_part d (OfSwap s) = record {
 }
 with_part d (OfUnfit q) = record { dual = d.dual; corner = d.corner; swaps = d.swaps; unfit = Some q }
 
+-- no quantity, or one that may be named
 abbrev pub IsQuantityWritten : Option Quantity → Type 0
 IsQuantityWritten None = Unit {0}
 IsQuantityWritten (Some q) = IsQuantityName q

@@ -19,6 +19,7 @@ use Rattle.claim_text.specs.Names.{row_word, level_word, IsRowName, IsLevelName}
 
 -- ---- words
 
+-- the sign of a side
 abbrev pub side_word : Side → List ℕ
 side_word Under = codes "-"
 side_word Over = codes "+"
@@ -27,6 +28,7 @@ side_word Over = codes "+"
 abbrev pub mark_text : Mark → List ℕ
 mark_text m = row_word m.row ++ side_word m.side
 
+-- the word for a dual path, or for a primal one
 abbrev pub kind_word : Bool → List ℕ
 kind_word true = codes "dual"
 kind_word false = codes "primal"
@@ -43,11 +45,13 @@ in_words m = codes "in" ∷ mark_text m ∷ []
 abbrev pub swap_words : Swap → List (List ℕ)
 swap_words s = codes "swap" ∷ mark_text s.enter ∷ mark_text s.leave ∷ []
 
+-- `attr ATTR`, `mark MARK` or `level LEVEL`
 abbrev pub what_words : declared_what.What → List (List ℕ)
 what_words (what.Attr attr) = codes "attr" ∷ decimal attr ∷ []
 what_words (what.Mark mark) = codes "mark" ∷ mark_text mark ∷ []
 what_words (what.Level level) = codes "level" ∷ level_word level ∷ []
 
+-- what is named; and behind it, where first ones are counted, of which kind and how many
 abbrev pub quantity_words : declared_quantity.Quantity → List (List ℕ)
 quantity_words (quantity.Plain w) = what_words w
 quantity_words (quantity.Terms mark first) =
@@ -62,6 +66,7 @@ unfit_words q = codes "unfit" ∷ quantity_words q
 
 -- ---- what the parts are
 
+-- the attribute, the mark's row or the level may be named
 abbrev pub IsWhatName : declared_what.What → Type 0
 IsWhatName (what.Attr attr) = IsNumber attr
 IsWhatName (what.Mark mark) = IsRowName mark.row
@@ -71,24 +76,29 @@ IsWhatName (what.Level level) = IsLevelName level
 abbrev pub IsCount : ℕ → Type 0
 IsCount first = (0 < first) × (first < 2 ^ 32)
 
+-- the quantity may be named: what it is of, and where first ones are counted, their count
 abbrev pub IsQuantityName : declared_quantity.Quantity → Type 0
 IsQuantityName (quantity.Plain w) = IsWhatName w
 IsQuantityName (quantity.Terms mark first) = IsRowName mark.row × IsCount first
 IsQuantityName (quantity.Rows level first) = IsLevelName level × IsCount first
 IsQuantityName (quantity.Shifts w first) = IsWhatName w × IsCount first
 
+-- the rows of both marks may be named
 pub record IsSwapName (s : Swap) : Type 0 where
   pub enter : IsRowName s.enter.row
   pub leave : IsRowName s.leave.row
 
 -- ---- texts
 
+-- the line of a mark inside
 abbrev pub in_line : Mark → List ℕ
 in_line m = line_of (in_words m)
 
+-- the line of an exchange
 abbrev pub swap_line : Swap → List ℕ
 swap_line s = line_of (swap_words s)
 
+-- the line of a quantity that doesn't fit
 abbrev pub unfit_line : declared_quantity.Quantity → List ℕ
 unfit_line q = line_of (unfit_words q)
 
@@ -101,9 +111,11 @@ abbrev pub unfit_lines : Option declared_quantity.Quantity → List (List ℕ)
 unfit_lines None = []
 unfit_lines (Some q) = unfit_line q ∷ []
 
+-- the lines of a path, each ended by a newline
 abbrev pub path_text : Path → List ℕ
 path_text p = text_of_lines (path_lines p)
 
+-- the line of a quantity that doesn't fit, ended by a newline
 abbrev pub unfit_text : declared_quantity.Quantity → List ℕ
 unfit_text q = unfit_line q ++ newline ∷ []
 
@@ -113,11 +125,13 @@ unfit_path_text at = path_text at.path ++ unfit_text at.quantity
 
 -- ---- what a quantity is written as
 
+-- what is named, its words with a space between
 abbrev pub what_text : declared_what.What → List ℕ
 what_text (what.Attr attr) = codes "attr " ++ decimal attr
 what_text (what.Mark mark) = codes "mark " ++ mark_text mark
 what_text (what.Level level) = codes "level " ++ level_word level
 
+-- a quantity, its words with a space between each two
 abbrev pub quantity_text : declared_quantity.Quantity → List ℕ
 quantity_text (quantity.Plain w) = what_text w
 quantity_text (quantity.Terms mark first) = what_text (what.Mark mark) ++ (codes " terms " ++ decimal first)

@@ -139,6 +139,7 @@ impl ClaimDraft {
     ghost use Rattle.claim_text.specs.Names.{IsRowBefore, IsLevelBefore};
     ghost use Rattle.claim_text.specs.Paths.PathForms as forms;
 
+    /// What was read before the first line.
     pub(crate) fn new(alloc: Global) -> ClaimDraft
         ensures { result ≡ nothing_read }
     {
@@ -292,6 +293,7 @@ impl ClaimDraft {
         Ok(())
     }
 
+    // Adds what a line says; whether it may follow isn't asked here.
     fn put(&mut self, alloc: Global, line: ClaimLine) -> Result<(), OutOfMemory>
         ensures { IfOk result (λ _. self.new ≡ with_line self.old line) }
     {

@@ -25,6 +25,7 @@ fn after_s(word: &[u8]) -> Option<&[u8]>
     }
 }
 
+// The row that the word names, if it names one.
 fn row_name(word: &[u8]) -> Option<RowName>
     ensures some { IfSome result (λ r. IsRowName r × (word.now ≡ row_word r)) }
     ensures none { IfNone result ((r : RowName) → IsRowName r → word.now ≡ row_word r → ⊥) }
@@ -41,6 +42,7 @@ fn row_name(word: &[u8]) -> Option<RowName>
     }
 }
 
+/// The level that the word names, if it names one.
 pub(crate) fn level_name(word: &[u8]) -> Option<Level>
     ensures some { IfSome result (λ l. IsLevelName l × (word.now ≡ level_word l)) }
     ensures none { IfNone result ((l : Level) → IsLevelName l → word.now ≡ level_word l → ⊥) }
@@ -79,6 +81,7 @@ fn side_of(byte: u8) -> Option<Side>
     }
 }
 
+/// The mark that the word names, if it names one.
 pub(crate) fn mark(word: &[u8]) -> Option<Mark>
     ensures some { IfSome result (λ m. IsRowName m.row × (word.now ≡ mark_text m)) }
     ensures none { IfNone result ((m : Mark) → IsRowName m.row → word.now ≡ mark_text m → ⊥) }
@@ -89,6 +92,7 @@ pub(crate) fn mark(word: &[u8]) -> Option<Mark>
     Some(Mark { row, side })
 }
 
+/// The mark that the next word names, if it names one.
 pub(crate) fn next_mark(words: &mut Words) -> Option<Mark>
     ensures some { IfSome result (λ m. IsRowName m.row × (words.old ≡ mark_text m ∷ words.new)) }
     ensures none { IfNone result ((m : Mark) (more : List (List ℕ)) → IsRowName m.row
@@ -109,6 +113,7 @@ pub(crate) fn next_integer(words: &mut Words, most: u64) -> Option<i64>
     integer(word, most)
 }
 
+/// The row that the next word names, if it names one.
 pub(crate) fn next_row_name(words: &mut Words) -> Option<RowName>
     ensures some { IfSome result (λ r. IsRowName r × (words.old ≡ row_word r ∷ words.new)) }
     ensures none { IfNone result ((r : RowName) (more : List (List ℕ)) → IsRowName r
@@ -118,6 +123,7 @@ pub(crate) fn next_row_name(words: &mut Words) -> Option<RowName>
     row_name(word)
 }
 
+/// The level that the next word names, if it names one.
 pub(crate) fn next_level_name(words: &mut Words) -> Option<Level>
     ensures some { IfSome result (λ l. IsLevelName l × (words.old ≡ level_word l ∷ words.new)) }
     ensures none { IfNone result ((l : Level) (more : List (List ℕ)) → IsLevelName l

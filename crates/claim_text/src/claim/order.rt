@@ -7,6 +7,7 @@ use cert_core::By;
 use problem_core::{Level, Mark, RowName};
 use std::collections::BTreeMap;
 
+// Whether the second row may stand behind the first.
 fn is_row_before(a: RowName, b: RowName) -> bool
     ensures { IsTrue result ↔ IsRowBefore a b }
 {
@@ -18,6 +19,7 @@ fn is_row_before(a: RowName, b: RowName) -> bool
     }
 }
 
+/// Whether the second level may stand behind the first.
 pub(crate) fn is_level_before(a: Level, b: Level) -> bool
     ensures { IsTrue result ↔ IsLevelBefore a b }
 {

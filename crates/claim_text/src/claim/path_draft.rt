@@ -76,6 +76,7 @@ impl PathDraft {
         }
     }
 
+    /// Adds what a line says; whether it may follow isn't asked here.
     pub(crate) fn put(&mut self, line: PathLine) -> Result<(), OutOfMemory>
         ensures { IfOk result (λ _. self.new ≡ with_part self.old line) }
     {

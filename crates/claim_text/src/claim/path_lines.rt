@@ -58,6 +58,7 @@ pub(crate) fn read_kind(line: &[u8]) -> Option<bool>
     }
 }
 
+// The mark inside that a line says.
 fn read_in(line: &[u8]) -> Option<Mark>
     ensures some { IfSome result (λ m. IsRowName m.row × (words line.now ≡ in_words m)) }
     ensures none { IfNone result ((m : Mark) → IsRowName m.row → words line.now ≡ in_words m → ⊥) }
@@ -73,6 +74,7 @@ fn read_in(line: &[u8]) -> Option<Mark>
     }
 }
 
+// The exchange that a line says.
 fn read_swap(line: &[u8]) -> Option<Swap>
     ensures some { IfSome result (λ s. IsSwapName s × (words line.now ≡ swap_words s)) }
     ensures none { IfNone result ((s : corners.Swap) → IsSwapName s → words line.now ≡ swap_words s → ⊥) }
@@ -170,6 +172,7 @@ fn quantity_of(what: What, words: &mut Words) -> Option<Quantity>
     of_part(what, part_of(word)?, first as u32)
 }
 
+// The quantity of which a line says that it doesn't fit.
 fn read_unfit(line: &[u8]) -> Option<Quantity>
     ensures some { IfSome result (λ q. IsQuantityName q × (words line.now ≡ unfit_words q)) }
     ensures none { IfNone result ((q : quantity.Quantity) → IsQuantityName q

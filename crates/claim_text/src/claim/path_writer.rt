@@ -26,6 +26,7 @@ fn put_mark(text: &mut String, mark: Mark) -> Result<(), OutOfMemory>
     Ok(())
 }
 
+// Appends the line of a mark inside.
 fn put_in(text: &mut String, mark: Mark) -> Result<(), OutOfMemory>
     ensures { IfOk result (λ _. Adds text.old text.new (in_line mark ++ newline ∷ [])) }
 {
@@ -46,6 +47,7 @@ fn put_swap(text: &mut String, swap: Swap) -> Result<(), OutOfMemory>
     Ok(())
 }
 
+// Appends a line for each mark inside.
 fn put_corner(text: &mut String, marks: &[Mark]) -> Result<(), OutOfMemory>
     ensures { IfOk result (λ _. Adds text.old text.new (text_of_lines (map in_line marks.now))) }
 {
@@ -64,6 +66,7 @@ fn put_swaps(text: &mut String, swaps: &[Swap]) -> Result<(), OutOfMemory>
     Ok(())
 }
 
+// Appends the first line of a path.
 fn put_kind(text: &mut String, dual: bool) -> Result<(), OutOfMemory>
     ensures { IfOk result (λ _. Adds text.old text.new (line_of (kind_words dual) ++ newline ∷ [])) }
 {
@@ -100,6 +103,7 @@ fn put_what(text: &mut String, what: What) -> Result<(), OutOfMemory>
     Ok(())
 }
 
+// Appends what stands behind `unfit` in the line of a quantity.
 fn put_words(text: &mut String, quantity: Quantity) -> Result<(), OutOfMemory>
     ensures { IfOk result (λ _. Adds text.old text.new (quantity_text quantity)) }
 {

@@ -58,6 +58,7 @@ impl Seen {
     ghost use Rattle.claim_text.specs.Claims.Seen.{AreSeen};
     ghost use Rattle.claim_text.specs.Claims.ClaimTexts.{Draft, MayFollow, nothing_read, with_line};
 
+    /// What was seen before the first line: no stay.
     pub(crate) fn new(alloc: Global) -> Seen
         ensures { AreSeen nothing_read result }
     {

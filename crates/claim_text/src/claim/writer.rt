@@ -17,6 +17,7 @@ use frac_core::{Frac, OutOfMemory};
 use problem_core::{Level, RowName, Values};
 use std::alloc::Global;
 
+/// Appends the name of a row: its number, or that of a stay's attribute behind an `s`.
 pub(crate) fn put_row_name(text: &mut String, row: RowName) -> Result<(), OutOfMemory>
     ensures { IfOk result (λ _. Adds text.old text.new (row_word row)) }
 {
@@ -27,6 +28,7 @@ pub(crate) fn put_row_name(text: &mut String, row: RowName) -> Result<(), OutOfM
     Ok(())
 }
 
+/// Appends the name of a level: its rank, or the number of a stay's attribute behind an `s`.
 pub(crate) fn put_level_name(text: &mut String, level: Level) -> Result<(), OutOfMemory>
     ensures { IfOk result (λ _. Adds text.old text.new (level_word level)) }
 {

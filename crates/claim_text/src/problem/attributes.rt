@@ -29,6 +29,7 @@ impl Model for Attributes {
 }
 
 impl Attributes {
+    // The set of these attributes.
     fn of(mut attrs: Vec<u32>) -> Result<Attributes, OutOfMemory>
         ensures { IfOk result (λ a. HaveSame attrs.items a) }
     {
@@ -36,6 +37,7 @@ impl Attributes {
         Ok(Attributes { sorted: attrs })
     }
 
+    /// Whether the attribute is in the set.
     pub(crate) fn contains(&self, attr: u32) -> bool
         ensures { IsTrue result ↔ Contains self.now attr }
     {

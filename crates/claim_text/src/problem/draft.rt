@@ -59,6 +59,7 @@ impl Draft {
     ghost use Rattle.claim_text.specs.Problems.{nothing_read, Step, MayFollow, RowMayFollow, StayMayFollow};
     ghost use Rattle.claim_text.specs.Problems.{with_item};
 
+    /// What was read before the first line: no row, and no stay.
     pub(crate) fn new(alloc: Global) -> Draft
         ensures { result ≡ nothing_read }
     {
@@ -110,6 +111,7 @@ impl Draft {
         }
     }
 
+    // Adds what a line says; whether it may follow isn't asked here.
     fn put(&mut self, item: Item) -> Result<(), OutOfMemory>
         ensures { IfOk result (λ _. self.new ≡ with_item self.old item) }
     {

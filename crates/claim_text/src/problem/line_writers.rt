@@ -18,6 +18,7 @@ fn relation_text(rel: Rel) -> &'static str
     }
 }
 
+/// Appends a fraction, as `p/q` or as `p` where q is 1.
 pub(crate) fn put_fraction(text: &mut String, f: Frac) -> Result<(), OutOfMemory>
     ensures { IfOk result (λ _. Adds text.old text.new (fraction_text f)) }
 {
@@ -31,6 +32,7 @@ pub(crate) fn put_fraction(text: &mut String, f: Frac) -> Result<(), OutOfMemory
     Ok(())
 }
 
+// Appends a term, behind a space.
 fn put_term(text: &mut String, term: &Term) -> Result<(), OutOfMemory>
     ensures { IfOk result (λ _. Adds text.old text.new (space ∷ term_word term.now)) }
 {
@@ -62,6 +64,7 @@ fn put_head(text: &mut String, row: &Row) -> Result<(), OutOfMemory>
     put_fraction(text, row.constant())
 }
 
+/// Appends the line of a row, with its end.
 pub(crate) fn put_row(text: &mut String, row: &Row) -> Result<(), OutOfMemory>
     ensures { IfOk result (λ _. Adds text.old text.new (row_line row.now ++ newline ∷ [])) }
 {
@@ -71,6 +74,7 @@ pub(crate) fn put_row(text: &mut String, row: &Row) -> Result<(), OutOfMemory>
     Ok(())
 }
 
+/// Appends the line of a stay, with its end.
 pub(crate) fn put_stay(text: &mut String, stay: &Stay) -> Result<(), OutOfMemory>
     ensures { IfOk result (λ _. Adds text.old text.new (stay_line stay.now ++ newline ∷ [])) }
 {

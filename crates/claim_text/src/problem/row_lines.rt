@@ -24,6 +24,7 @@ struct Head {
     constant: Frac,
 }
 
+// What the words before the terms say, if they are in the form.
 fn read_head(words: &mut Words) -> Option<Head>
     ensures some { IfSome result (λ h. IsHead h × (words.old ≡ head_words h ++ words.new)) }
     ensures none { IfNone result ((h : Head) (more : List (List ℕ)) → IsHead h

@@ -8,15 +8,17 @@ use Rattle.constraint_compile.specs.Coefficients.Sums.{attr_at}
 use Rattle.constraint_compile.specs.declared.line.nonzero.Piece.{Piece}
 use Rattle.constraint_compile.specs.declared.line.nonzero.TheConstants.{DEN_BITS}
 
+-- the fraction that the piece is
 abbrev pub piece_value : Piece → Fraction
 piece_value p = record { num = p.num; den = unsigned_abs p.den }
 
+-- both parts of the piece are within their bounds, and its denominator is above 0
 pub record IsPiece (p : Piece) : Type 0 where
   pub num : unsigned_abs p.num < 2 ^ 44
   pub above : pos 0 <ℤ p.den
   pub den : unsigned_abs p.den ≤ 2 ^ DEN_BITS
 
--- twice the sum of the pieces is the whole number and the sum of the rests, each of which is less than 1 in
+-- twice the sum of the pieces is the whole number and the sum of the rests, which is at most their count in
 -- size
 pub record AreDoubled (pieces : List Piece) (whole : ℤ) (rests : List Piece) : Type 0 where
   pub long : length rests ≡ length pieces

@@ -7,6 +7,7 @@ use Rattle.problem_core.specs.Kept.{IsNumber}
 use Rattle.constraint_compile.specs.declared.attributes.Doubled.{Doubled}
 use Rattle.constraint_compile.specs.declared.attributes.Share.{Share}
 
+-- the edge and the size as terms
 abbrev pub form : Doubled → List Term
 form d = d.edge ∷ d.size ∷ []
 
@@ -14,6 +15,7 @@ form d = d.edge ∷ d.size ∷ []
 abbrev pub share_fraction : Share → ℕ → Fraction
 share_fraction s v = record { num = s.by.num *ℤ coefficient v (form s.of); den = s.by.den * 2 }
 
+-- the edge and the size have attributes' numbers, and factors of at most 2 in size
 pub record AreHalves (d : Doubled) : Type 0 where
   pub edge_number : IsNumber d.edge.attr
   pub size_number : IsNumber d.size.attr

@@ -15,9 +15,11 @@ use Rattle.constraint_compile.specs.Fractions.{plus, IsOver, IsScale, AreSmall}
 use Rattle.constraint_compile.specs.Coefficients.Shares.{IsOff, share_fraction, form}
 use Rattle.constraint_compile.specs.declared.attributes.Share.{Share}
 
+-- the attribute at a place, and 0 past the end
 abbrev pub attr_at : List ℕ → ℕ → ℕ
 attr_at attrs i = slice_index_or attrs i 0
 
+-- the number at a place, and 0 past the end
 abbrev pub number_at : List ℤ → ℕ → ℤ
 number_at numbers i = slice_index_or numbers i (pos 0)
 
@@ -70,11 +72,13 @@ IsPastWithShare attrs s scale numbers = (b : ℕ → Fraction) → IsSum b attrs
 abbrev pub IsCoveredAddend : List ℕ → Addend → Type 0
 IsCoveredAddend attrs a = (v : ℕ) → IsOff attrs v → (a.share v).num ≡ pos 0
 
--- the same of an addend
+-- whatever coefficients the numbers over the scale are, the next numbers over the next scale are those with
+-- the addend more
 abbrev pub IsSumWithAddend : List ℕ → Addend → ℕ → List ℤ → ℕ → List ℤ → Type 0
 IsSumWithAddend attrs a scale numbers next_scale next = (b : ℕ → Fraction) → IsSum b attrs scale numbers
     → IsCoveredAddend attrs a → IsSum (with_addend b a) attrs next_scale next
 
+-- whatever coefficients the numbers over the scale are, those with the addend more aren't small
 abbrev pub IsPastWithAddend : List ℕ → Addend → ℕ → List ℤ → Type 0
 IsPastWithAddend attrs a scale numbers = (b : ℕ → Fraction) → IsSum b attrs scale numbers
     → IsCoveredAddend attrs a → AreSmall (with_addend b a) → ⊥

@@ -18,6 +18,7 @@ use Rattle.constraint_compile.specs.declared.format.parts.Owner.TheVariants as o
 use Rattle.constraint_compile.specs.Formats.FormatParts.{End, Span, Part, View, Bar, Asks}
 use Rattle.constraint_compile.specs.Formats.FormatRefusals.{parent_of}
 
+-- the name of the view, or an empty one where there is no view
 abbrev pub name_in : Option LiveView → List ℕ
 name_in None = []
 name_in (Some v) = v.name
@@ -27,6 +28,7 @@ abbrev pub name_of : List LiveView → Option ℕ → List ℕ
 name_of views None = []
 name_of views (Some id) = name_in (view_of views id)
 
+-- the name of the view whose attribute an end is: the view of this name, or its parent
 abbrev pub owner_name : List LiveView → Owner → List ℕ → List ℕ
 owner_name views owner.Itself name = name
 owner_name views owner.Parent name = name_of views (parent_of views name)
@@ -35,6 +37,7 @@ owner_name views owner.Parent name = name_of views (parent_of views name)
 abbrev pub end_term : List LiveView → End → Term
 end_term views e = record { by = decimal false UNIT; of = mean.Attr (owner_name views e.owner e.view) e.word }
 
+-- the attribute of the second end, once, if there is one
 abbrev pub minus_terms : List LiveView → Option End → List Term
 minus_terms views None = []
 minus_terms views (Some e) = end_term views e ∷ []
@@ -72,24 +75,30 @@ lines_of views (Asks span pred ∷ ps) = line_of views span pred ∷ lines_of vi
 
 -- ---- the views that the text names
 
+-- the numbers of the views, in order
 abbrev pub numbers : List ViewId → List ℕ
 numbers ids = map (λ id. id.0) ids
 
+-- the number of the view, if there is one
 abbrev pub option_numbers : Option ViewId → List ℕ
 option_numbers id = option_to_list (option_map (λ v. v.0) id)
 
+-- the number of the live view of this name, if there is one
 abbrev pub number_of : List LiveView → List ℕ → List ℕ
 number_of views name = option_to_list (option_map (λ v. v.id) (view_named views name))
 
+-- the number of the live view that an object names, if it names one
 abbrev pub object_views : List LiveView → Meant → List ℕ
 object_views views (object.Number z) = []
 object_views views (object.Name name) = number_of views name
 
+-- the number of the live view that the text of a part names, if it names one; a bar names none
 abbrev pub part_views : List LiveView → Part → List ℕ
 part_views views (View name) = number_of views name
 part_views views (Bar name) = []
 part_views views (Asks span pred) = object_views views pred.object
 
+-- the numbers of the live views that the text of the parts names, in order
 abbrev pub parts_views : List LiveView → List Part → List ℕ
 parts_views views [] = []
 parts_views views (p ∷ ps) = part_views views p ++ parts_views views ps

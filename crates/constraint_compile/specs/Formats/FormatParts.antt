@@ -33,21 +33,26 @@ pub data Part : Type 0 where
 
 -- ---- what is measured
 
+-- the edge at which a view begins in this direction
 abbrev pub near : Axis → AttrWord
 near axis.H = word.Left
 near axis.V = word.Top
 
+-- the edge at which a view ends in this direction
 abbrev pub far : Axis → AttrWord
 far axis.H = word.Right
 far axis.V = word.Bottom
 
+-- the size of a view in this direction
 abbrev pub extent : Axis → AttrWord
 extent axis.H = word.Width
 extent axis.V = word.Height
 
+-- this attribute of the view of this name
 abbrev pub own : List ℕ → AttrWord → End
 own name w = record { owner = owner.Itself; view = name; word = w }
 
+-- this attribute of the parent of the view of this name
 abbrev pub parents : List ℕ → AttrWord → End
 parents name w = record { owner = owner.Parent; view = name; word = w }
 
@@ -77,6 +82,7 @@ off w before name = record { plus = own name w; minus = Some (own before w) }
 abbrev pub exactly : ℕ → PredMeaning
 exactly n = record { rel = rel.Eq; object = object.Number (pos n); priority = None }
 
+-- for each predicate a row that measures this
 abbrev pub asks : Span → List PredMeaning → List Part
 asks s ps = map (Asks s) ps
 
@@ -86,6 +92,7 @@ spacing_parts s usual Flush = Asks s (exactly 0) ∷ []
 spacing_parts s usual Standard = Asks s (exactly usual) ∷ []
 spacing_parts s usual (Given ps) = asks s ps
 
+-- the name of an item's view, and the rows of its size
 abbrev pub item_parts : Axis → ItemMeaning → List Part
 item_parts a i = View i.name ∷ asks (size a i.name) i.sizes
 
@@ -96,16 +103,19 @@ chain_parts a before (g ∷ gs) [] = []
 chain_parts a before (g ∷ gs) (i ∷ is) = spacing_parts (between a before i.name) USUAL_BETWEEN g
     ++ (item_parts a i ++ chain_parts a i.name gs is)
 
+-- the parent's bar in front of the view of this name, and the connection to it, if there is one
 abbrev pub front_parts : Axis → List ℕ → Option SpacingMeaning → List Part
 front_parts a name None = []
 front_parts a name (Some g) = Bar name ∷ spacing_parts (inside_near a name) USUAL_INSIDE g
 
+-- the parent's bar behind the view of this name, and the connection to it, if there is one
 abbrev pub back_parts : Axis → List ℕ → Option SpacingMeaning → List Part
 back_parts a name None = []
 back_parts a name (Some g) = Bar name ∷ spacing_parts (inside_far a name) USUAL_INSIDE g
 
 -- ---- alignment
 
+-- the attribute that an alignment names
 abbrev pub aligned_word : Align → AttrWord
 aligned_word align.Left = word.Left
 aligned_word align.Right = word.Right
@@ -119,6 +129,7 @@ abbrev pub aligned_parts : AttrWord → List ℕ → List ItemMeaning → List P
 aligned_parts w before [] = []
 aligned_parts w before (i ∷ is) = Asks (off w before i.name) (exactly 0) ∷ aligned_parts w i.name is
 
+-- the rows of the alignment, if there is one, of the views behind the one of this name
 abbrev pub align_parts : Option Align → List ℕ → List ItemMeaning → List Part
 align_parts None first is = []
 align_parts (Some a) first is = aligned_parts (aligned_word a) first is
@@ -130,6 +141,7 @@ abbrev pub last_name : List ℕ → List ItemMeaning → List ℕ
 last_name name [] = name
 last_name name (i ∷ is) = last_name i.name is
 
+-- what the format and the alignment say where these are the items, and nothing where there is none
 abbrev pub parts_over : FormatMeaning → Option Align → List ItemMeaning → List Part
 parts_over f align [] = []
 parts_over f align (i ∷ is) =
@@ -139,5 +151,6 @@ parts_over f align (i ∷ is) =
     ++ (back_parts f.axis (last_name i.name is) f.to_parent
     ++ align_parts align i.name is)))
 
+-- all that the format says, in the order of its text, and the rows of the alignment behind that
 unfoldable pub parts : FormatMeaning → Option Align → List Part
 parts f align = parts_over f align f.items

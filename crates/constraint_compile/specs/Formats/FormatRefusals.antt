@@ -15,17 +15,18 @@ use Rattle.constraint_compile.specs.Formats.FormatParts.{Part, View, Bar, Asks}
 
 -- ---- unknown names
 
--- the name in the object or the priority that is no view's and no metric's
+-- the first name in the object and the priority that is no view's and no metric's
 abbrev pub unknown_pred : List LiveView → MetricList → PredMeaning → Option (List ℕ)
 unknown_pred views metrics p = option_or (unknown_object views metrics (Some p.object))
     (unknown_object views metrics p.priority)
 
+-- the first name in a part that must be a view's or a metric's, and isn't
 abbrev pub unknown_part : List LiveView → MetricList → Part → Option (List ℕ)
 unknown_part views metrics (View name) = unless (is_some (view_named views name)) name
 unknown_part views metrics (Bar name) = None
 unknown_part views metrics (Asks span pred) = unknown_pred views metrics pred
 
--- the first such name
+-- the first such name in the parts
 abbrev pub unknown_parts : List LiveView → MetricList → List Part → Option (List ℕ)
 unknown_parts views metrics [] = None
 unknown_parts views metrics (p ∷ ps) = option_or (unknown_part views metrics p)
@@ -44,6 +45,7 @@ runs_along axis.V align.Bottom = true
 runs_along axis.V align.CenterY = true
 runs_along axis.V _ = false
 
+-- there is an alignment, and it runs along the direction of the format
 abbrev pub is_along : Axis → Option Align → Bool
 is_along a None = false
 is_along a (Some w) = runs_along a w
@@ -59,6 +61,7 @@ lacks_parent views (View name) = false
 lacks_parent views (Bar name) = is_none (parent_of views name)
 lacks_parent views (Asks span pred) = false
 
+-- the object names a view
 abbrev pub is_view_object : List LiveView → Meant → Bool
 is_view_object views (object.Name name) = is_some (view_named views name)
 is_view_object views (object.Number z) = false
@@ -69,12 +72,13 @@ has_view_space views (View name) = false
 has_view_space views (Bar name) = false
 has_view_space views (Asks span pred) = is_some span.minus && is_view_object views pred.object
 
--- each priority stands for a rank
+-- where the part asks for a row, the row's priority stands for a rank
 abbrev pub HasRank : List LiveView → MetricList → Part → Type 0
 HasRank views metrics (View name) = ⊤
 HasRank views metrics (Bar name) = ⊤
 HasRank views metrics (Asks span pred) = (r : ℕ) × IsRank views metrics pred.priority r
 
+-- each priority in the parts stands for a rank
 abbrev pub HaveRanks : List LiveView → MetricList → List Part → Type 0
 HaveRanks views metrics [] = ⊤
 HaveRanks views metrics (p ∷ ps) = HasRank views metrics p × HaveRanks views metrics ps

@@ -21,7 +21,7 @@ use Rattle.constraint_compile.specs.declared.stops.KindWord.TheVariants as kind
 abbrev pub row_count : List LiveView → List Part → ℕ
 row_count views parts = length (lines_of views parts)
 
--- one of so many rows, numbered from the first number, has a number past the last one
+-- one of so many rows, numbered from the first number, has a number that isn't below the limit
 pub record IsPastNumbers (first count : ℕ) : Type 0 where
   pub some : 0 < count
   pub past : NUMBER_LIMIT < first + count

@@ -33,6 +33,7 @@ fn exactly<'a>(thousandths: u16) -> Pred<'a>
     }
 }
 
+// Appends a row that measures so many thousandths, required.
 fn push_exactly<'a>(
     out: &mut Vec<Part<'a>>,
     span: Span<'a>,
@@ -46,6 +47,7 @@ fn push_exactly<'a>(
     Ok(())
 }
 
+// Appends a row for each of the predicates.
 fn push_preds<'a>(
     out: &mut Vec<Part<'a>>,
     span: Span<'a>,
@@ -60,6 +62,7 @@ fn push_preds<'a>(
     Ok(())
 }
 
+// Appends the rows of a connection; the space that is usual there is in thousandths.
 fn push_spacing<'a>(
     out: &mut Vec<Part<'a>>,
     span: Span<'a>,
@@ -77,6 +80,7 @@ fn push_spacing<'a>(
     }
 }
 
+// Appends the name of an item's view, and the rows of its size.
 fn push_item<'a>(out: &mut Vec<Part<'a>>, axis: Axis, item: &Item<'a>) -> Result<(), OutOfMemory>
     ensures { OnOk result (parts_view out.new.items
         ≡ parts_view out.old.items ++ parts.item_parts axis (item_meaning item.now)) }
@@ -114,6 +118,7 @@ fn push_chain<'a>(
     Ok(before)
 }
 
+// Appends the parent's bar in front of the view, and the connection to it, if there is one.
 fn push_front<'a>(
     out: &mut Vec<Part<'a>>,
     axis: Axis,
@@ -130,6 +135,7 @@ fn push_front<'a>(
     Ok(())
 }
 
+// Appends the parent's bar behind the view, and the connection to it, if there is one.
 fn push_back<'a>(
     out: &mut Vec<Part<'a>>,
     axis: Axis,
@@ -146,6 +152,7 @@ fn push_back<'a>(
     Ok(())
 }
 
+// Appends the rows by which each view is aligned with the one before it.
 fn push_aligned<'a>(
     out: &mut Vec<Part<'a>>,
     word: AttrWord,
@@ -163,6 +170,7 @@ fn push_aligned<'a>(
     Ok(())
 }
 
+// Appends the rows of the alignment, if there is one.
 fn push_align<'a>(
     out: &mut Vec<Part<'a>>,
     align: Option<Align>,

@@ -45,6 +45,7 @@ fn piece_of(addend: &Addend<'_>, attr: u32) -> Piece
     }
 }
 
+// What each addend has of the attribute, in order.
 fn pieces_of(alloc: Global, added: &[Addend<'_>], attr: u32) -> Result<Vec<Piece>, OutOfMemory>
     requires { All IsKept added.now }
     ensures total { IfOk result (λ pieces. total piece_value pieces.items
@@ -59,7 +60,7 @@ fn pieces_of(alloc: Global, added: &[Addend<'_>], attr: u32) -> Result<Vec<Piece
     Ok(pieces)
 }
 
-// Twice a piece: a whole number, and a piece that is less than 1 in size.
+// Twice a piece: a whole number, and a piece that is at most 1 in size.
 #[derive(Clone, Copy, Debug)]
 struct TwoPieces {
     whole: i64,
@@ -106,6 +107,7 @@ fn doubled(alloc: Global, pieces: &[Piece]) -> Result<Double, OutOfMemory>
     Ok(Double { whole, rests })
 }
 
+// Twice the whole number, and so many more.
 fn twice_with(whole: i64, more: i64) -> i64
     requires whole { unsigned_abs whole ≤ ADDEND_LIMIT }
     requires more { unsigned_abs more ≤ 2 ^ 51 }
@@ -114,6 +116,7 @@ fn twice_with(whole: i64, more: i64) -> i64
     2 * whole + more
 }
 
+// Whether the whole number is past the greatest number of pieces in size.
 fn is_past(whole: i64) -> bool
     ensures yes { IsTrue result → ADDEND_LIMIT < unsigned_abs whole }
     ensures no { result ≡ false → unsigned_abs whole ≤ ADDEND_LIMIT }

@@ -11,6 +11,7 @@ use crate::steps::{Part, Step};
 use frac_core::OutOfMemory;
 use std::alloc::Global;
 
+// The metric of which the addend is a multiple, or an empty name.
 fn metric_of(alloc: Global, addend: &Addend<'_>) -> Result<String, OutOfMemory>
     ensures { IfOk result (λ name. string_bytes name ≡ metric_name (addend_view addend.now)) }
 {

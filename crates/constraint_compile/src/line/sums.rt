@@ -25,6 +25,7 @@ pub(crate) struct Sum {
     pub numbers: Vec<i64>,
 }
 
+// How often a term has the attribute.
 fn at(term: Term, attr: u32) -> i64
     requires { unsigned_abs term.by ≤ 2 }
     ensures value { result ≡ (if term.attr == attr then term.by else pos 0) }
@@ -49,6 +50,7 @@ pub(crate) struct Division {
     pub rest: i64,
 }
 
+/// The quotient of a number below 2^45 in size, and the rest, which is below the denominator in size.
 pub(crate) fn split(num: i64, den: i64) -> Division
     requires num { unsigned_abs num < 2 ^ 45 }
     requires den { pos 0 <ℤ den }
@@ -62,6 +64,7 @@ pub(crate) fn split(num: i64, den: i64) -> Division
     }
 }
 
+/// A fraction's numerator times a count of halves of at most 4 in size, which is below 2^44 in size.
 pub(crate) fn times_halves(num: i64, halves: i64) -> i64
     requires num { unsigned_abs num < PART_BOUND }
     requires halves { unsigned_abs halves ≤ 4 }

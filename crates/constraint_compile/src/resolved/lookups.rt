@@ -9,6 +9,7 @@ use problem_core::REQUIRED;
 use span_text::UNIT;
 use view_tree::Tree;
 
+/// Whether a live view has the name.
 pub(crate) fn is_view(tree: &Tree, name: &str) -> bool
     ensures { result ≡ is_some (view_named tree.now.views name.now) }
 {

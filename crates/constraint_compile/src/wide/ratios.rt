@@ -93,6 +93,7 @@ pub(crate) fn common(a: i128, b: i128, x: i128, y: i128) -> Option<Ratio>
     })
 }
 
+// Whether both parts are below the limit of constants in size.
 fn is_small(constant: Frac) -> bool
     ensures yes { IsTrue result → HasSmallParts constant }
     ensures no { result ≡ false → unsigned_abs constant.num < CONSTANT_LIMIT → constant.den < CONSTANT_LIMIT

@@ -101,10 +101,12 @@ abbrev pub shared_whole : Lists → List Term → ℕ → ℤ → ℕ → ℤ �
 shared_whole t old line times k n c =
     cond (nat_eq c line) (pos 0) ((pos k *ℤ times) *ℤ coefficient c old +ℤ n *ℤ entry t line c)
 
+-- a factor above 0 times this row is the level's row with the line's, by such k and n
 abbrev pub IsShared : Lists → List Term → ℕ → ℤ → ℤ → List Term → Type 0
 IsShared t old line count times row = (k : ℕ) × (n : ℤ) × IsShare t old line count k n
     × IsReduced row (shared_whole t old line times k n)
 
+-- want of memory, or this stop, where the level's row with the line's doesn't fit in lowest terms
 abbrev pub IsShareStop : Lists → List Term → ℕ → ℤ → ℤ → TableStop → TableStop → Type 0
 IsShareStop t old line count times stop e = (e ≡ NoMemory) ⊎ ((e ≡ stop)
     × ((k : ℕ) × (n : ℤ) × IsShare t old line count k n × IsUnfit (shared_whole t old line times k n)))
@@ -114,13 +116,16 @@ pub record IsUnitPart (row : List Term) (l : ℕ) (times : ℤ) (k : ℕ) (own :
   pub above : 0 < k
   pub same : own *ℤ times ≡ pos k *ℤ coefficient l row
 
+-- k times the row's numbers, but at the level itself `own`
 abbrev pub unit_whole : List Term → ℕ → ℕ → ℤ → ℕ → ℤ
 unit_whole row l k own c = cond (nat_eq c l) own (pos k *ℤ coefficient c row)
 
+-- up to a factor above 0 the new row is the level's where its cost is taken so many times
 abbrev pub IsInUnit : List Term → ℕ → ℤ → List Term → Type 0
 IsInUnit row l times new = (k : ℕ) × (own : ℤ) × IsUnitPart row l times k own
     × IsReduced new (unit_whole row l k own)
 
+-- want of memory, or this stop, where that row doesn't fit in lowest terms
 abbrev pub IsUnitStop : List Term → ℕ → ℤ → TableStop → TableStop → Type 0
 IsUnitStop row l times stop e = (e ≡ NoMemory) ⊎ ((e ≡ stop)
     × ((k : ℕ) × (own : ℤ) × IsUnitPart row l times k own × IsUnfit (unit_whole row l k own)))

@@ -91,9 +91,11 @@ at_zero = record { side = None; value = zero_fraction }
 abbrev pub at_value : Fraction → Standing
 at_value value = record { side = None; value = value }
 
+-- what the slot w says where it is the attribute's
 abbrev pub slot_of_attr : ℕ → ℕ → Slot
 slot_of_attr attr w = record { owner = AttrSlot attr; home = w; weight = pos 1; scale = pos 1; rel = Eq }
 
+-- what the slot w says where it is that of the attribute's stay: its home is itself
 abbrev pub slot_of_stay : ℕ → ℕ → Slot
 slot_of_stay attr w = record {
   owner = LineSlot (StayOf attr);
@@ -103,6 +105,7 @@ slot_of_stay attr w = record {
   rel = Eq;
 }
 
+-- what the row's slot says: its home is the slot of the row's level
 abbrev pub slot_of_row : Row → Slot
 slot_of_row r = record {
   owner = LineSlot (Held r.id);

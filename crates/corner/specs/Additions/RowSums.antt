@@ -47,14 +47,17 @@ abbrev pub term_number : Lists → List Term → parts.Term → Factors → ℕ 
 term_number t sum term factors c = cond (nat_eq c (attr_slot t term.attr)) (pos 0)
     (factors.k *ℤ coefficient c sum +ℤ factors.n *ℤ entry t (attr_slot t term.attr) c)
 
+-- the factors for the sum, whose own number stands at this slot, and the term
 abbrev pub HasTermFactors : Lists → ℕ → List Term → parts.Term → Factors → Type 0
 HasTermFactors t at sum term factors = AreTermFactors (coefficient at sum)
     (entry t (attr_slot t term.attr) (attr_slot t term.attr)) term.by factors
 
+-- the row of the sum with the term more, which is in lowest terms and fits
 abbrev pub IsTermRow : Lists → ℕ → List Term → parts.Term → List Term → Type 0
 IsTermRow t at sum term row = IsKeptRow row × ((factors : Factors) × HasTermFactors t at sum term factors
     × IsReduced row (term_number t sum term factors))
 
+-- the row of the sum with the term more doesn't fit in lowest terms
 abbrev pub IsUnfitTerm : Lists → ℕ → List Term → parts.Term → Type 0
 IsUnfitTerm t at sum term = (factors : Factors) × HasTermFactors t at sum term factors
     × IsUnfit (term_number t sum term factors)

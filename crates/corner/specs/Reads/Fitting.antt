@@ -51,10 +51,12 @@ IsFittingDraft t draft row at unit own =
 
 -- ---- in contracts, at each list of these marks
 
+-- all this fits
 abbrev pub HasFittingRow : Lists → Draft → List Term → Type 0
 HasFittingRow t draft row = (at : List Mark) (unit own : ℕ) → IsDraftAt t draft row at unit own
     → IsFittingDraft t draft row at unit own
 
+-- not all of it fits
 abbrev pub HasNoFittingRow : Lists → Draft → List Term → Type 0
 HasNoFittingRow t draft row = (at : List Mark) (unit own : ℕ) → IsDraftAt t draft row at unit own
     → IsFittingDraft t draft row at unit own → ⊥
@@ -83,11 +85,13 @@ pub record AreFittingCosts (rel : Rel) (size times : ℤ) : Type 0 where
 abbrev pub line_size : Lists → Draft → List Term → ℕ → ℤ
 line_size t draft row w = coefficient draft.level row *ℤ pos (share_of (slot_at t w) draft.unit)
 
+-- both reduced costs fit of the line of slot w
 abbrev pub IsFittingLine : Lists → Draft → List Term → ℕ → Type 0
 IsFittingLine t draft row w = AreFittingCosts (slot_at t w).rel (line_size t draft row w)
     (number_by (slot_at t w).rel (side_after t draft.pair w) (neg_ℤ (coefficient w row))
     (line_size t draft row w))
 
+-- the first of the two where the condition is true, and else the second
 abbrev pub either : Bool → Type 0 → Type 0 → Type 0
 either true A B = A
 either false A B = B

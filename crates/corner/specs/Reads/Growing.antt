@@ -37,8 +37,10 @@ abbrev pub growing_side : ℤ → Side → Side
 growing_side (pos n) side = other_side side
 growing_side (negsuc n) side = side
 
+-- the entry is the slot's own, or its line's mark with which the inside one grows has a reduced cost above 0
 abbrev pub IsEntryDear : Lists → ℕ → Side → ℕ → Term → Type 0
 IsEntryDear t w side l e = e.col ≢ w → pos 0 <ℤ reduced_at t l e.col (growing_side e.by side)
 
+-- so it is with each entry of the row
 abbrev pub IsRowDear : Lists → ℕ → Side → ℕ → List Term → Type 0
 IsRowDear t w side l row = All (IsEntryDear t w side l) row

@@ -25,9 +25,11 @@ use Rattle.corner.specs.Kept.{HasCost, level_own}
 abbrev pub IsSlotOfLevel : Lists → ℕ → ℕ → Type 0
 IsSlotOfLevel t w k = (level : Level) × IsLevelAt (problem_of t) level k × (level_slot t level ≡ w)
 
+-- the slot is that of a level
 abbrev pub IsLevelSlot : Lists → ℕ → Type 0
 IsLevelSlot t w = (k : ℕ) × IsSlotOfLevel t w k
 
+-- the slot is that of a line of the problem
 abbrev pub IsSlotOfLine : Lists → ℕ → Type 0
 IsSlotOfLine t w = Any (λ l. line_slot t l.name ≡ w) (lines (problem_of t))
 
@@ -37,6 +39,7 @@ IsLinesSlot t slot = (w : ℕ) × IsSlotOfLine t w × (slot_at t w ≡ slot)
 
 -- ---- scales
 
+-- the number where a mark is inside, and else 1
 abbrev pub own_inside : Option Side → ℤ → ℤ
 own_inside None z = pos 1
 own_inside (Some side) z = z
@@ -83,6 +86,7 @@ IsCost z = unsigned_abs z < PART_BOUND * WEIGHT_LIMIT
 
 -- ---- a line's number at the level of a slot
 
+-- the number where a mark is inside, with the other sign of an under mark, and else 0
 abbrev pub turned_inside : Option Side → ℤ → ℤ
 turned_inside None z = pos 0
 turned_inside (Some side) z = turned side z
@@ -97,10 +101,12 @@ abbrev pub inside_times : Lists → ℕ → ℕ → Side → ℤ
 inside_times t l w side =
     cond (nat_eq (slot_at t w).home l) (neg_ℤ (sign_of side *ℤ own_cost t (slot_at t w) side)) (pos 0)
 
+-- that of a line with this mark inside, or with none
 abbrev pub times_by : Lists → Option Side → ℕ → ℕ → ℤ
 times_by t None l w = outside_times t l w
 times_by t (Some side) l w = inside_times t l w side
 
+-- that of the line of slot w as it stands
 abbrev pub times_at : Lists → ℕ → ℕ → ℤ
 times_at t l w = times_by t (standing_at t w).side l w
 
@@ -116,6 +122,7 @@ reduced_at t l w side =
 abbrev pub HasReducedAt : Lists → ℕ → Side → ℕ → Type 0
 HasReducedAt t w side l = HasCost t l × (reduced_at t l w side ≢ pos 0)
 
+-- the first slot of a level at which the mark has a reduced cost
 pub record IsFirstSlot (t : Lists) (w : ℕ) (side : Side) (l : ℕ) : Type 0 where
   pub there : HasReducedAt t w side l
   pub first : (m : ℕ) → m < l → HasReducedAt t w side m → ⊥
@@ -125,6 +132,7 @@ pub record IsFirstInColumn (t : Lists) (w : ℕ) (side : Side) (l : ℕ) : Type 
   pub there : HasReducedAt t w side l
   pub first : (m : ℕ) → m < l → entry t m w ≢ pos 0 → HasReducedAt t w side m → ⊥
 
+-- no slot in whose row w stands is that of a level at which the mark has a reduced cost
 abbrev pub IsNoneInColumn : Lists → ℕ → Side → Type 0
 IsNoneInColumn t w side = (m : ℕ) → entry t m w ≢ pos 0 → HasReducedAt t w side m → ⊥
 

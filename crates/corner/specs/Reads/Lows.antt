@@ -33,6 +33,7 @@ pub record ListsLow (p : Problem) (at : List Mark) (row : RowName) (old new : Li
 
 -- ---- by slots
 
+-- there is a side
 abbrev pub IsSide : Option Side → Type 0
 IsSide None = ⊥
 IsSide (Some side) = Unit {0}
@@ -41,6 +42,7 @@ IsSide (Some side) = Unit {0}
 abbrev pub IsLowSlot : Lists → ℕ → Type 0
 IsLowSlot t w = IsSide (standing_at t w).side × ((standing_at t w).value.num <ℤ pos 0)
 
+-- the name of what the slot is of
 abbrev pub name_at : Lists → ℕ → RowName
 name_at t w = name_of (slot_at t w).owner
 

@@ -36,10 +36,11 @@ pub record IsLeaver (t : Lists) (r : Row) (leaver : Leaver) : Type 0 where
   pub side_is : (standing_at t leaver.line).side ≡ Some leaver.side
   pub level_is : leaver.level ≡ rank_level r.rank
 
--- what is left of the problem, and of the marks inside
+-- what is left of the problem
 abbrev pub problem_left : Lists → Leaver → Problem
 problem_left t leaver = without_row leaver.id (problem_of t)
 
+-- what is left of the marks inside
 abbrev pub marks_left : Lists → Leaver → List Mark
 marks_left t leaver = without_marks (leaver.id ∷ []) (marks_at t)
 
@@ -109,6 +110,7 @@ IsFittingLeft t leaver unit row = (size own : ℕ) → unit ≡ pos size → coe
     → IsFittingRow (problem_left t leaver) (marks_left t leaver) leaver.level size own
     (row_number t leaver.level row)
 
+-- they do not all fit without it
 abbrev pub IsUnfitLeft : Lists → Leaver → ℤ → List Term → Type 0
 IsUnfitLeft t leaver unit row = (size own : ℕ) → unit ≡ pos size → coefficient leaver.level row ≡ pos own
     → IsFittingRow (problem_left t leaver) (marks_left t leaver) leaver.level size own

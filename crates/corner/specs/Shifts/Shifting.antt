@@ -40,6 +40,7 @@ sign_there (AttrSlot attr) side = pos 1
 sign_there (LineSlot name) None = pos 1
 sign_there (LineSlot name) (Some side) = sign_of side
 
+-- the sign of the slot's inside mark, 1 of all else
 abbrev pub sign_at : Lists → ℕ → ℤ
 sign_at t w = sign_there (slot_at t w).owner (standing_at t w).side
 
@@ -62,10 +63,12 @@ home_growth t line side = record {
   d = unit_at t (slot_at t line).home;
 }
 
+-- where the line is inside: that of its mark, that of its level's cost, and 0 of all else
 abbrev pub inside_growth : Lists → ℕ → Side → ℕ → Growth
 inside_growth t line side w = cond (nat_eq w line) (mark_growth side)
     (cond (nat_eq w (slot_at t line).home) (home_growth t line side) (record { n = pos 0; d = pos 1 }))
 
+-- how many times the difference a slot's value grows where the line has this mark inside, or none
 abbrev pub growth_by : Lists → ℕ → Option Side → ℕ → Growth
 growth_by t line None w = outside_growth t line w
 growth_by t line (Some side) w = inside_growth t line side w
@@ -144,6 +147,7 @@ pub record AreGrown (t : Lists) (line : ℕ) (more : Fraction) (standings : List
   pub others : (w : ℕ) → (growth_at t line w).n ≡ pos 0
       → slice_index_or standings w (record { side = None; value = zero_fraction }) ≡ standing_at t w
 
+-- the new lists have such standings, and all else as before
 abbrev pub HaveGrown : Lists → ℕ → Fraction → Lists → Type 0
 HaveGrown t line more new = AreGrown t line more new.standings × (new ≡ with_standings new.standings t)
 
@@ -157,9 +161,11 @@ IsLineStop t line more NoMemory = Unit {0}
 
 -- ---- a row's constant
 
+-- each slot's value has grown with the row's constant
 abbrev pub AreShifted : Lists → ℕ → Fraction → List Standing → Type 0
 AreShifted t id more standings = AreGrown t (line_slot t (Held id)) more standings
 
+-- want of memory, or what a slot's value grows to with the row's constant doesn't fit
 abbrev pub IsShiftStop : Lists → ℕ → Fraction → TableStop → Type 0
 IsShiftStop t id more stop = IsLineStop t (line_slot t (Held id)) more stop
 

@@ -69,6 +69,7 @@ pub record HaveFirstStood (n : ℕ) (t : Lists) (stays : List Stay) (standings :
   pub others : (w : ℕ) → IsNoFirst t n w → standing_at (with_moved stays standings t) w ≡ standing_at t w
   pub values : All (λ s. fractions.IsKept s.value) standings
 
+-- the new lists have such stays and standings, and all else as before
 abbrev pub AreFirstStood : ℕ → Lists → Lists → Type 0
 AreFirstStood n old new = (new ≡ with_moved new.stays new.standings old)
     × HaveFirstStood n old new.stays new.standings

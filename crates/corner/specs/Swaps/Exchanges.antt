@@ -51,6 +51,7 @@ pub record IsPair (t : Lists) (pair : Pair) (s : Swap) : Type 0 where
   pub inside : (standing_at t pair.leave).side ≡ Some s.leave.side
   pub stands : entry t pair.leave pair.enter ≢ pos 0
 
+-- the marks inside after the exchange
 abbrev pub marks_after : Lists → Swap → List Mark
 marks_after t s = exchanged s (marks_at t)
 
@@ -80,10 +81,11 @@ abbrev pub IsOutsideSlot : Lists → ℕ → Type 0
 IsOutsideSlot t c = IsSlot t c × ((standing_at t c).side ≡ None)
     × ((name : RowName) × ((slot_at t c).owner ≡ LineSlot name))
 
--- besides the slot itself, lines that are outside after the exchange alone stand in the row
+-- the slot of a line that is outside after the exchange: the leaving one, or one that was and doesn't enter
 abbrev pub IsOutsideAfter : Lists → Pair → ℕ → Type 0
 IsOutsideAfter t pair c = (c ≡ pair.leave) ⊎ ((c ≢ pair.enter) × IsOutsideSlot t c)
 
+-- besides the slot w itself, lines that are outside after the exchange alone stand in the row
 abbrev pub AreOutsideAfter : Lists → Pair → ℕ → List Term → Type 0
 AreOutsideAfter t pair w row = (c : ℕ) → coefficient c row ≢ pos 0 → c ≢ w → IsOutsideAfter t pair c
 
@@ -146,6 +148,7 @@ IsWhat (AttrSlot attr) side what = what ≡ AttrOf attr
 IsWhat (LineSlot name) None what = ⊥
 IsWhat (LineSlot name) (Some side) what = what ≡ MarkOf (record { row = name; side = side })
 
+-- the slot w is of this: of an attribute, or of an inside line's mark
 abbrev pub IsWhatAt : Lists → ℕ → What → Type 0
 IsWhatAt t w what = IsWhat (slot_at t w).owner (standing_at t w).side what
 
@@ -170,16 +173,20 @@ IsValueAfter t pivot w what f = IsRatio f
 abbrev pub IsPairStop : Lists → Pair → TableStop → Type 0
 IsPairStop t pair stop = (s : Swap) → IsPair t pair s → IsUnfitStop (problem_of t) (marks_after t s) stop
 
+-- the same, for each exchange with this pivot
 abbrev pub IsPivotStop : Lists → Pivot → TableStop → Type 0
 IsPivotStop t pivot stop = (s : Swap) → IsPivotAt t pivot s
     → IsUnfitStop (problem_of t) (marks_after t s) stop
 
+-- the entering mark comes to this value
 abbrev pub IsEnteringValue : Lists → Pair → Fraction → Type 0
 IsEnteringValue t pair value = (s : Swap) → IsPair t pair s → IsEntering t pair s value
 
+-- the pivot is that of the two lines
 abbrev pub IsPivotOf : Lists → Pair → Pivot → Type 0
 IsPivotOf t pair pivot = (s : Swap) → IsPair t pair s → IsPivotAt t pivot s
 
+-- the slot is of a stay's line
 abbrev pub IsStaySlot : Lists → ℕ → Type 0
 IsStaySlot t w = IsStayOwner (slot_at t w).owner
 
@@ -217,9 +224,11 @@ pub record IsEnteringChange (t : Lists) (pair : Pair) (s : Swap) (change : Chang
       (sign_of s.enter.side *ℤ change.value.num) change.value.den
   pub room : IsStayOwner (slot_at t pair.enter).owner → IsFitting (pos 2 *ℤ coefficient pair.enter change.row)
 
+-- the new row and value of a slot that is none of the two lines', for each exchange with this pivot
 abbrev pub IsChangeBy : Lists → Pivot → Change → Type 0
 IsChangeBy t pivot change = (s : Swap) → IsPivotAt t pivot s → IsChangeOf t pivot.pair s change
 
+-- the entering line's row and value, for each exchange with this pivot
 abbrev pub IsEnteringBy : Lists → Pivot → Change → Type 0
 IsEnteringBy t pivot change = (s : Swap) → IsPivotAt t pivot s → IsEnteringChange t pivot.pair s change
 
@@ -233,6 +242,7 @@ pub record IsExchangeOf (t : Lists) (made : Exchange) (s : Swap) : Type 0 where
 
 -- ---- lists with other rows and values
 
+-- the slot has this standing
 abbrev pub with_standing : Lists → ℕ → Standing → Lists
 with_standing t w standing = record {
   rows = t.rows;
@@ -245,6 +255,7 @@ with_standing t w standing = record {
   priorities = t.priorities;
 }
 
+-- the slot has this row
 abbrev pub with_row : Lists → ℕ → List Term → Lists
 with_row t w row = record {
   rows = t.rows;
@@ -290,9 +301,11 @@ exchanged_lists t made =
 
 -- ---- turns
 
+-- the value with the other sign
 abbrev pub opposite : Fraction → Fraction
 opposite f = record { num = neg_ℤ f.num; den = f.den }
 
+-- the change, if there is one, is that of a slot, and in its row stand slots
 abbrev pub AreChangesIn : Lists → Option Change → Type 0
 AreChangesIn t None = Unit {0}
 AreChangesIn t (Some change) = IsChangeIn t change
@@ -314,15 +327,17 @@ abbrev pub ArePut : Lists → Pair → List Change → Type 0
 ArePut t pair changes = (w : ℕ) → w ≢ pair.leave → entry t w pair.enter ≢ pos 0
     → Any (λ change. change.at ≡ w) changes
 
--- neither line counts or stands at the slots without a change
+-- the entering line doesn't stand at the slots without a change, and neither line counts at such a level
 abbrev pub IsRestUntouched : Lists → Pivot → List Change → Type 0
 IsRestUntouched t pivot changes = (s : Swap) → IsPivotAt t pivot s → (w : ℕ) → w < length t.slots
     → w ≢ pivot.pair.enter → w ≢ pivot.pair.leave → All (λ change. change.at ≢ w) changes
     → IsUntouched t pivot.pair s w
 
+-- it has these slots, and is what each exchange of them makes of the rows and values
 abbrev pub IsExchangeBy : Lists → Pair → Exchange → Type 0
 IsExchangeBy t pair made = (made.pair ≡ pair) × ((s : Swap) → IsPair t pair s → IsExchangeOf t made s)
 
+-- the marks inside are those after the exchange
 abbrev pub AreMarksAfter : Lists → Exchange → Lists → Type 0
 AreMarksAfter t made u = (s : Swap) → IsExchangeOf t made s → SameMarks (marks_at u) (marks_after t s)
 

@@ -33,12 +33,14 @@ use Rattle.corner.specs.Swaps.TurnedLevels.{IsTurn}
 abbrev pub IsKeptChange : Change → Type 0
 IsKeptChange change = IsKeptRow change.row × fractions.IsKept change.value
 
+-- so are those of the entering line and of all slots that change
 pub record AreKeptChanges (made : Exchange) : Type 0 where
   pub entering : IsKeptChange made.entering
   pub changes : All IsKeptChange made.changes.items
 
 -- ---- lists that are kept at marks which may stand in another order
 
+-- the lists with these standings and rows
 abbrev pub over : Lists → List Standing → List (List Term) → Lists
 over t v m = record {
   rows = t.rows;
@@ -96,8 +98,10 @@ pub record IsKeptBy (t : Lists) (at : List Mark) : Type 0 where
 
 -- ---- in contracts, for each exchange or turn of these slots
 
+-- the marks inside are those after the exchange
 abbrev pub AreMarksBy : Lists → Pair → Lists → Type 0
 AreMarksBy t pair u = (s : Swap) → IsPair t pair s → SameMarks (marks_at u) (marks_after t s)
 
+-- the marks inside are those after the turn
 abbrev pub AreMarksTurned : Lists → ℕ → Side → Lists → Type 0
 AreMarksTurned t line side u = (s : Swap) → IsTurn t line side s → SameMarks (marks_at u) (marks_after t s)

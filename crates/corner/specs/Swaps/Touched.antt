@@ -17,6 +17,7 @@ abbrev pub CountsWhereStands : Lists → ℕ → ℕ → Side → Type 0
 CountsWhereStands t enter w side = (level : ℕ) → level < LEVELS → entry t level enter ≡ pos 0
     → CountsNothing t w side level
 
+-- one of the changes is that of the slot
 abbrev pub IsPut : List Change → ℕ → Type 0
 IsPut changes w = Any (λ change. change.at ≡ w) changes
 

@@ -75,6 +75,7 @@ IsHomeStop t line stop = IsStopOf (slot_at t line).home stop
 
 -- ---- in contracts, for each turn of the slot
 
+-- the change has the row of the line's level and its cost after the turn
 abbrev pub IsTurnedBy : Lists → ℕ → Side → Change → Type 0
 IsTurnedBy t line side change = (s : Swap) → IsTurn t line side s → IsTurnedLevel t line s change
 
@@ -88,5 +89,6 @@ abbrev pub IsTurnStop : Lists → ℕ → Side → TableStop → Type 0
 IsTurnStop t line side stop = (s : Swap) → IsTurn t line side s
     → IsUnfitStop (problem_of t) (marks_after t s) stop
 
+-- the same, whichever mark of the line enters
 abbrev pub IsLineStop : Lists → ℕ → TableStop → Type 0
 IsLineStop t line stop = (side : Side) → IsTurnStop t line side stop

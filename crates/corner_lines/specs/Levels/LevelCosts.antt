@@ -21,15 +21,18 @@ use Rattle.corner_lines.specs.Levels.LevelJoins.{level_count}
 
 -- ---- a problem some rows of which may have no weight yet
 
+-- no name comes twice
 abbrev pub AreDifferent : List RowName → Type 0
 AreDifferent [] = Unit {0}
 AreDifferent (n ∷ ns) = All (λ m. n ≢ m) ns × AreDifferent ns
 
+-- no scale and no denominator is 0, the lines' names differ, and no weight is above the limit
 pub record IsSound (p : Problem) : Type 0 where
   pub problem : IsProblem p
   pub names : AreDifferent (map (λ l. l.name) (lines p))
   pub weights : All (λ l. l.weight ≤ WEIGHT_LIMIT) (lines p)
 
+-- a whole problem is sound
 abbrev pub WholeIsSound : Type 0
 WholeIsSound = (p : Problem) → IsWhole p → IsSound p
 
@@ -103,6 +106,7 @@ abbrev pub IsUnfitStep : Fraction → ℤ → ℕ → Fraction → Type 0
 IsUnfitStep cost n whole value = (next : Fraction) → IsLowest next
     → IsRatio next (sum_num cost n (pos whole) value) (sum_den cost (pos whole) value) → Fits next → ⊥
 
+-- where the sum after an exchange doesn't fit, the level has no writing that fits
 abbrev pub UnfitExchangedCost : Type 0
 UnfitExchangedCost = (p : Problem) (at : List Mark) (s : Swap) (level unit own size : ℕ)
     (number pivot : RowName → ℤ) (n : ℤ) (cost value : Fraction)
@@ -111,6 +115,7 @@ UnfitExchangedCost = (p : Problem) (at : List Mark) (s : Swap) (level unit own s
     → IsCostAt p at level cost → HasDeviation p (exchanged s at) s.enter.row value
     → IsUnfitStep cost n (own * unit) value → HasNoLevelWriting p (exchanged s at) level
 
+-- nor has it where that after a turn doesn't
 abbrev pub UnfitTurnedCost : Type 0
 UnfitTurnedCost = (p : Problem) (at : List Mark) (s : Swap) (level unit own size : ℕ)
     (number line : RowName → ℤ) (n : ℤ) (cost value : Fraction)
@@ -119,6 +124,7 @@ UnfitTurnedCost = (p : Problem) (at : List Mark) (s : Swap) (level unit own size
     → IsCostAt p at level cost → HasDeviation p (exchanged s at) s.enter.row value
     → IsUnfitStep cost n (own * unit) value → HasNoLevelWriting p (exchanged s at) level
 
+-- nor has it where that after a join doesn't
 abbrev pub UnfitJoinedCost : Type 0
 UnfitJoinedCost = (p q : Problem) (at : List Mark) (level unit own : ℕ) (number : RowName → ℤ)
     (name : RowName) (side : Side) (size : ℕ) (line : RowName → ℤ) (n : ℤ) (cost value : Fraction)

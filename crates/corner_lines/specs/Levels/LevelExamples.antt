@@ -11,9 +11,11 @@ use Rattle.corner_lines.specs.Levels.LevelRows.{IsUnfitRow}
 use Rattle.corner_lines.specs.Levels.LevelCosts.{IsUnfitStep}
 use Rattle.corner_lines.specs.Fronts.{AreLevelRows, IsFrontOf, Rows}
 
+-- the under mark of the stay
 abbrev pub under_stay : Mark
 under_stay = record { row = StayOf 1; side = Under }
 
+-- the corner with the row's under mark inside
 abbrev pub below_two : List Mark
 below_two = under_row ∷ []
 
@@ -22,6 +24,7 @@ abbrev pub stay_falls : RowName → ℤ
 stay_falls (Held id) = pos 0
 stay_falls (StayOf attr) = negsuc 0
 
+-- there the required level has this row, and each other level a row of zeros, all in units of 1
 abbrev pub single_rows : Rows
 single_rows = record {
   unit = λ level. 1;
@@ -40,10 +43,11 @@ abbrev pub SingleIsUnfit : Type 0
 SingleIsUnfit = IsUnfitRow (single 2) below_two PART_BOUND stay_falls
     × (IsUnfitRow (single 2) below_two 1 stay_falls → ⊥)
 
+-- n as a fraction
 abbrev pub whole_number : ℤ → Fraction
 whole_number n = record { num = n; den = 1 }
 
--- 0 and n times 1 over 1
+-- 0 and the bound times 1 doesn't fit, and 0 and 1 times 1 does
 abbrev pub SumIsUnfit : Type 0
 SumIsUnfit = IsUnfitStep (whole_number (pos 0)) (pos PART_BOUND) 1 (whole_number (pos 1))
     × (IsUnfitStep (whole_number (pos 0)) (pos 1) 1 (whole_number (pos 1)) → ⊥)

@@ -38,11 +38,13 @@ pub record IsLevelThere (p : Problem) (at : List Mark) (level unit own : ℕ) (n
   pub cost_is : IsCostAt p at level cost
   pub lowest : IsLowest cost
 
+-- where a level's row and its cost fit, it has a writing that fits
 abbrev pub FittingRowHasWriting : Type 0
 FittingRowHasWriting = (p : Problem) (at : List Mark) (level unit own : ℕ) (number : RowName → ℤ)
     (cost : Fraction) → IsLevelThere p at level unit own number cost
     → IsFittingRow p at level unit own number → Fits cost → HasNoLevelWriting p at level → ⊥
 
+-- where they do not both fit, it has none
 abbrev pub UnfitRowHasNoWriting : Type 0
 UnfitRowHasNoWriting = (p : Problem) (at : List Mark) (level unit own : ℕ) (number : RowName → ℤ)
     (cost : Fraction) → IsLevelThere p at level unit own number cost
@@ -57,6 +59,7 @@ UnfitMultipleHasNoWriting = (p : Problem) (at : List Mark) (level unit own : ℕ
 
 -- ---- numbers that fit without a look at each line
 
+-- a level's row fits where its scale and the outside lines' numbers are small
 abbrev pub SmallRowFits : Type 0
 SmallRowFits = (p : Problem) (at : List Mark) (level unit own : ℕ) (number : RowName → ℤ) → IsSound p
     → own * unit < small_scale
@@ -65,11 +68,13 @@ SmallRowFits = (p : Problem) (at : List Mark) (level unit own : ℕ) (number : R
 
 -- ---- the numbers that an exchange takes
 
+-- that of the entering line fits where the level's row does
 abbrev pub EnteringNumberFits : Type 0
 EnteringNumberFits = (p : Problem) (at : List Mark) (s : Swap) (level unit own : ℕ) (number : RowName → ℤ)
     (n : ℤ) → IsExchange p at s → IsFittingRow p at level unit own number → IsOutsideLine at s.enter.row
     → IsEnteringNumber p s.enter level unit own number n → IsFitting n
 
+-- so does that of a turn
 abbrev pub TurningNumberFits : Type 0
 TurningNumberFits = (p : Problem) (at : List Mark) (s : Swap) (level unit own : ℕ) (number : RowName → ℤ)
     (n : ℤ) → IsExchange p at s → IsFittingRow p at level unit own number → s.enter.row ≡ s.leave.row

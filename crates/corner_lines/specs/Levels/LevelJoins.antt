@@ -20,6 +20,7 @@ use Rattle.corner_lines.specs.Levels.LevelRows.{inside_number, sum_by}
 
 -- ---- a level without a line
 
+-- a level at which no line has a weight has the unit 1 and a row of zeros
 abbrev pub EmptyLevelHasRow : Type 0
 EmptyLevelHasRow = (p : Problem) (at : List Mark) (level : ℕ) → All (λ l. weight_at l level ≡ 0) (lines p)
     → IsLevelUnit p level 1 × HasLevelRow p at level 1 1 (λ name. pos 0)
@@ -42,6 +43,7 @@ pub record IsLeastMultiple (a b multiple : ℕ) : Type 0 where
 
 -- ---- a line that gets its weight
 
+-- the line without its weight
 abbrev pub weightless : Line → Line
 weightless l = record {
   name = l.name;
@@ -58,6 +60,7 @@ weightless l = record {
 abbrev pub IsLineBefore : RowName → Line → Line → Type 0
 IsLineBefore name l m = ((l ≡ m) × (m.name ≢ name)) ⊎ ((l ≡ weightless m) × (m.name ≡ name))
 
+-- so are the lines of the first list as those of the second, one by one
 abbrev pub AreLinesBefore : RowName → List Line → List Line → Type 0
 AreLinesBefore name [] [] = Unit {0}
 AreLinesBefore name [] (m ∷ ms) = ⊥
@@ -87,6 +90,7 @@ abbrev pub IsJoiningNumber : Problem → RowName → Side → (level unit own : 
 IsJoiningNumber q name side level unit own n =
     All (λ l. l.name ≡ name → n ≡ neg_ℤ (inside_number side level unit own l)) (lines q)
 
+-- the level's numbers with the line's weight, before they are divided
 abbrev pub JoinedRowIsMultiple : Type 0
 JoinedRowIsMultiple = (p q : Problem) (at : List Mark) (level unit own : ℕ) (number : RowName → ℤ)
     (name : RowName) (side : Side) (size k : ℕ) (line : RowName → ℤ) (n m : ℤ)
@@ -95,6 +99,7 @@ JoinedRowIsMultiple = (p q : Problem) (at : List Mark) (level unit own : ℕ) (n
     → (by : RowName → ℤ) × IsLevelMultiple q at level unit (k * own) by
     × All (λ l. IsOutsideLine at l.name → by l.name ≡ sum_by k number m line l.name) (lines q)
 
+-- divided to lowest terms they are the level's row
 abbrev pub JoinedRowIsRow : Type 0
 JoinedRowIsRow = (p q : Problem) (at : List Mark) (level unit own : ℕ) (number : RowName → ℤ)
     (name : RowName) (side : Side) (size k low : ℕ) (line next : RowName → ℤ) (n m : ℤ)
@@ -111,6 +116,7 @@ FreeRowChangesNothing = (p q : Problem) (at : List Mark) (level unit own : ℕ) 
 
 -- ---- the rows of a change
 
+-- how many of the rows are of the level
 abbrev pub level_count : ℕ → List Row → ℕ
 level_count level rows = length (filter (λ r. nat_eq (rank_level r.rank) level) rows)
 
@@ -151,6 +157,7 @@ abbrev pub IsLeavingCount : Problem → RowName → Side → (level unit own : �
 IsLeavingCount p name side level unit own n =
     All (λ l. l.name ≡ name → n ≡ inside_number side level unit own l) (lines p)
 
+-- the level's numbers without the line's weight, before they are divided
 abbrev pub LeftRowIsMultiple : Type 0
 LeftRowIsMultiple = (p q : Problem) (at : List Mark) (level unit own : ℕ) (number : RowName → ℤ)
     (name : RowName) (side : Side) (size k : ℕ) (line : RowName → ℤ) (n m : ℤ)
@@ -159,6 +166,7 @@ LeftRowIsMultiple = (p q : Problem) (at : List Mark) (level unit own : ℕ) (num
     → (by : RowName → ℤ) × IsLevelMultiple q at level unit (k * own) by
     × All (λ l. IsOutsideLine at l.name → by l.name ≡ sum_by k number m line l.name) (lines q)
 
+-- divided to lowest terms they are the level's row
 abbrev pub LeftRowIsRow : Type 0
 LeftRowIsRow = (p q : Problem) (at : List Mark) (level unit own : ℕ) (number : RowName → ℤ)
     (name : RowName) (side : Side) (size k low : ℕ) (line next : RowName → ℤ) (n m : ℤ)

@@ -43,6 +43,7 @@ pub record HasLevelRow (p : Problem) (at : List Mark) (level unit own : ℕ) (nu
     pub row : IsLevelRow p at level unit own by
     pub outside : All (λ l. IsOutsideLine at l.name → by l.name ≡ number l.name) (lines p)
 
+-- a level's row divided to lowest terms is its row
 abbrev pub DividedRowIsRow : Type 0
 DividedRowIsRow = (p : Problem) (at : List Mark) (level unit own low : ℕ) (by number : RowName → ℤ)
     → IsLevelMultiple p at level unit own by → IsDividedRow p at own by low number
@@ -118,6 +119,7 @@ ExchangedRowIsMultiple = (p : Problem) (at : List Mark) (s : Swap) (level unit o
     × All (λ l. IsOutsideLine (exchanged s at) l.name
     → by l.name ≡ exchanged_sum k number m pivot s.leave.row extra l.name) (lines p)
 
+-- divided to lowest terms they are the level's row
 abbrev pub ExchangedRowIsRow : Type 0
 ExchangedRowIsRow = (p : Problem) (at : List Mark) (s : Swap) (level unit own size k low : ℕ)
     (number pivot next : RowName → ℤ) (n m extra : ℤ)
@@ -135,6 +137,7 @@ IsTurningNumber p s level unit own n =
     All (λ l. l.name ≡ s.leave.row → n ≡ inside_number s.leave.side level unit own l
     -ℤ inside_number s.enter.side level unit own l) (lines p)
 
+-- the numbers after it, before they are divided
 abbrev pub TurnedRowIsMultiple : Type 0
 TurnedRowIsMultiple = (p : Problem) (at : List Mark) (s : Swap) (level unit own size k : ℕ)
     (number line : RowName → ℤ) (n m : ℤ) → IsLevelExchange p at s level unit own number size line
@@ -142,6 +145,7 @@ TurnedRowIsMultiple = (p : Problem) (at : List Mark) (s : Swap) (level unit own 
     → (by : RowName → ℤ) × IsLevelMultiple p (exchanged s at) level unit (k * own) by
     × All (λ l. IsOutsideLine (exchanged s at) l.name → by l.name ≡ sum_by k number m line l.name) (lines p)
 
+-- divided to lowest terms they are the level's row
 abbrev pub TurnedRowIsRow : Type 0
 TurnedRowIsRow = (p : Problem) (at : List Mark) (s : Swap) (level unit own size k low : ℕ)
     (number line next : RowName → ℤ) (n m : ℤ) → IsLevelExchange p at s level unit own number size line
@@ -173,6 +177,7 @@ abbrev pub line_numbers : RowName → ℕ → (RowName → ℤ) → RowName → 
 line_numbers line own by name =
     cond (nat_eq (place_of name Under) (place_of line Under)) (neg_ℤ (pos own)) (by name)
 
+-- the equation of an inside line is the pivot of that line alone
 abbrev pub EquationIsPivot : Type 0
 EquationIsPivot = (p : Problem) (at : List Mark) (mark : Mark) (own : ℕ) (by : RowName → ℤ) (num : ℤ)
     (den : ℕ) → IsWhole p → IsCorner p at → IsIn (place mark) at

@@ -25,6 +25,7 @@ abbrev pub turned : Side → ℤ → ℤ
 turned Under z = neg_ℤ z
 turned Over z = z
 
+-- at the level of a stay no other line stands
 abbrev pub StayStandsAlone : Type 0
 StayStandsAlone = (p : Problem) (attr level : ℕ) → IsWhole p → IsLevelAt p (StayLevel attr) level
     → IsStayLevel p level attr
@@ -40,11 +41,13 @@ pub record IsInsideStay (p : Problem) (at : List Mark) (level attr : ℕ) (side 
   pub lowest : (k : ℕ) → k ∣ own
       → All (λ l. IsOutsideLine at l.name → k ∣ unsigned_abs (line l.name)) (lines p) → k ≡ 1
 
+-- its equation is the row of its level, in units of 1, turned for an under mark
 abbrev pub InsideStayHasRow : Type 0
 InsideStayHasRow = (p : Problem) (at : List Mark) (level attr : ℕ) (side : Side) (own : ℕ)
     (line : RowName → ℤ) → IsInsideStay p at level attr side own line
     → IsLevelUnit p level 1 × HasLevelRow p at level 1 own (λ name. turned side (line name))
 
+-- its level costs its deviation, with the other sign where its under mark is inside
 abbrev pub InsideStayCosts : Type 0
 InsideStayCosts = (p : Problem) (at : List Mark) (level attr : ℕ) (side : Side) (own : ℕ) (line : RowName → ℤ)
     (value : Fraction) → IsInsideStay p at level attr side own line → HasDeviation p at (StayOf attr) value
@@ -65,11 +68,12 @@ InsideStayIsUnfit = (p : Problem) (at : List Mark) (level attr : ℕ) (side : Si
     → HasDeviation p at (StayOf attr) value → IsLowest value
     → (IsFitting (pos (2 * own)) → ⊥) → HasNoLevelWriting p at level
 
--- the level of a stay outside has a row of zeros, which fits
+-- the level of a stay outside has the unit 1 and a row of zeros
 abbrev pub OutsideStayHasRow : Type 0
 OutsideStayHasRow = (p : Problem) (at : List Mark) (level attr : ℕ) → IsStayLevel p level attr
     → IsOutsideLine at (StayOf attr) → IsLevelUnit p level 1 × HasLevelRow p at level 1 1 (λ name. pos 0)
 
+-- that level has a writing that fits
 abbrev pub OutsideStayFits : Type 0
 OutsideStayFits = (p : Problem) (at : List Mark) (level attr : ℕ) → IsWhole p → IsCorner p at → HasRays p at
     → IsStayLevel p level attr → IsOutsideLine at (StayOf attr) → HasNoLevelWriting p at level → ⊥
@@ -82,6 +86,7 @@ OutsideStayCostsOne = (p : Problem) (level attr : ℕ) → IsStayLevel p level a
 
 -- ---- the same of the stay's level as a quantity
 
+-- that of a stay inside is not what doesn't fit where its equation and twice its own number fit
 abbrev pub StayLevelFits : Type 0
 StayLevelFits = (p : Problem) (at : List Mark) (level attr : ℕ) (side : Side) (own : ℕ) (line : RowName → ℤ)
     (value : Fraction) → IsInsideStay p at level attr side own line → HasRays p at
@@ -89,12 +94,14 @@ StayLevelFits = (p : Problem) (at : List Mark) (level attr : ℕ) (side : Side) 
     → All (λ l. IsOutsideLine at l.name → IsFitting (line l.name)) (lines p)
     → IsFitting (pos (2 * own)) → IsUnfitWhat p at (LevelOf (StayLevel attr)) → ⊥
 
+-- and it is where twice that number does not
 abbrev pub StayLevelIsUnfit : Type 0
 StayLevelIsUnfit = (p : Problem) (at : List Mark) (level attr : ℕ) (side : Side) (own : ℕ)
     (line : RowName → ℤ) (value : Fraction) → IsInsideStay p at level attr side own line → HasRays p at
     → HasDeviation p at (StayOf attr) value → IsLowest value → IsLevelAt p (StayLevel attr) level
     → (IsFitting (pos (2 * own)) → ⊥) → IsUnfitWhat p at (LevelOf (StayLevel attr))
 
+-- that of a stay outside never is
 abbrev pub OutsideStayLevelFits : Type 0
 OutsideStayLevelFits = (p : Problem) (at : List Mark) (attr : ℕ) → IsWhole p → IsCorner p at → HasRays p at
     → IsOutsideLine at (StayOf attr) → IsUnfitWhat p at (LevelOf (StayLevel attr)) → ⊥

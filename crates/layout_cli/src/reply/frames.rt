@@ -6,7 +6,7 @@ ghost use Rattle.layout_cli.specs.Replies.{value_text, frame_line, frame_text, t
 use frac_core::{FRACTION_ROOM, Frac, OutOfMemory, Wide, write_frac};
 use session_undo::Scene;
 
-// Left, top, width and height of a view, in window coordinates.
+/// Left, top, width and height of a view, in window coordinates.
 #[derive(Clone, Copy, Debug, PartialEq, Eq)]
 pub(crate) struct Frame {
     pub left: Frac,
@@ -43,7 +43,7 @@ fn push_frame(out: &mut Vec<u8>, name: &str, frame: &Frame) -> Result<(), OutOfM
     Ok(())
 }
 
-// The parts of a frame by their names.
+/// A frame by the names of its parts, which are left, top, width and height.
 pub(crate) fn named(frame: &[Frac; 4]) -> Frame
     ensures { frame.now ≡ result.left ∷ result.top ∷ result.width ∷ result.height ∷ [] }
 {

@@ -69,7 +69,7 @@ abbrev pub IsNextSum : Pivot → Fraction → Sum → Sum → Type 0
 IsNextSum pivot enters sum next = (p : Problem) (at : List Mark) (name : RowName) → IsPivotAt p at pivot
     → IsEnteredBy pivot enters → IsSumOf p at name sum → IsSumOf p (next_marks p pivot at) name next
 
--- a mark that is inside there does not fit, wherever this is its line's sum before
+-- something does not fit there, wherever this was the sum of a line whose mark is inside there
 abbrev pub IsUnfitNextSum : Pivot → Fraction → Sum → Type 0
 IsUnfitNextSum pivot enters sum = (p : Problem) (at : List Mark) (mark : Mark) → IsPivotAt p at pivot
     → IsEnteredBy pivot enters → IsSumOf p at mark.row sum → IsIn (place mark) (next_marks p pivot at)
@@ -91,7 +91,7 @@ IsNextLine pivot enters k old next = (p : Problem) (at : List Mark) → IsPivotA
     → IsEnteredBy pivot enters → k < line_count p → IsLineAt p at (name_at p k) old
     → IsLineAt p (next_marks p pivot at) (name_at p k) next
 
--- a mark does not fit at the next corner
+-- something does not fit at the next corner, wherever this is kept of the line at the place
 abbrev pub IsUnfitNext : Pivot → Fraction → ℕ → Option Inside → Type 0
 IsUnfitNext pivot enters k old = (p : Problem) (at : List Mark) → IsPivotAt p at pivot
     → IsEnteredBy pivot enters → k < line_count p → IsLineAt p at (name_at p k) old
@@ -102,6 +102,7 @@ abbrev pub AreNextLines : Pivot → Fraction → List (Option Inside) → List (
 AreNextLines pivot enters kept next = (p : Problem) (at : List Mark) → IsPivotAt p at pivot
     → IsEnteredBy pivot enters → AreLines p at kept → AreLines p (next_marks p pivot at) next
 
+-- something does not fit at the next corner, wherever these lines are kept
 abbrev pub AreUnfitNext : Pivot → Fraction → List (Option Inside) → Type 0
 AreUnfitNext pivot enters kept = (p : Problem) (at : List Mark) → IsPivotAt p at pivot
     → IsEnteredBy pivot enters → AreLines p at kept → HasUnfit p (next_marks p pivot at)

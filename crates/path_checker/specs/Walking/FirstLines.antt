@@ -12,6 +12,7 @@ use Rattle.path_checker.specs.declared.table.Inside.{Inside}
 use Rattle.path_checker.specs.Route.{over_marks}
 use Rattle.path_checker.specs.Tables.{IsLineAt, line_count, name_at, numbers_of}
 
+-- the row is one of the problem's
 abbrev pub IsRowOf : Problem → Row → Type 0
 IsRowOf p r = Any (λ s. s ≡ r) p.rows
 

@@ -47,6 +47,7 @@ abbrev pub IsKeptBy : Problem → List Mark → List (Option Inside) → Option 
 IsKeptBy p at lines None = at ≡ over_marks p
 IsKeptBy p at lines (Some step) = IsBefore p at lines step
 
+-- this is what is kept of the corner
 abbrev pub IsKept : Problem → List Mark → Kept → Type 0
 IsKept p at kept = IsKeptBy p at kept.lines.items kept.step
 
@@ -55,6 +56,7 @@ abbrev pub IsStepFor : ℕ → List (Option Inside) → Option Step → Type 0
 IsStepFor count lines None = Unit {0}
 IsStepFor count lines (Some step) = (length lines ≡ count) × IsWithin count step
 
+-- that, and the sums of the kept lines fit
 pub record IsUsable (count : ℕ) (kept : Kept) : Type 0 where
   pub sized : AreSized kept.lines.items
   pub step : IsStepFor count kept.lines.items kept.step
@@ -129,6 +131,7 @@ abbrev pub IsWayAt : Problem → Path → (before rest : List Mark) → Way → 
 IsWayAt p path before rest way =
     IsRouteAt p path (λ at. IsKept p at way.kept) before rest way.kept.count way.kept.step way.sides.items
 
+-- what is kept of the corner is usable, and there is an entry for each of so many lines
 pub record IsUsableWay (count : ℕ) (way : Way) : Type 0 where
   pub kept : IsUsable count way.kept
   pub sides : length way.sides.items ≡ count
@@ -147,10 +150,12 @@ pub record IsNextMark (p : Problem) (path : Path) (before : List Mark) (m : Mark
   pub sides_are : AreSides p path.corner sides
   pub way_is : IsWayAt p path before (m ∷ rest) way
 
+-- this is the way once the mark is inside too, wherever the mark is the next one
 abbrev pub HasMarkMore : Problem → Way → List (Option Side) → Spot → Way → Type 0
 HasMarkMore p way sides enter next = (path : Path) (before : List Mark) (m : Mark) (rest : List Mark)
     → IsNextMark p path before m rest way sides enter → IsWayAt p path (before ++ m ∷ []) rest next
 
+-- the way stops so at the mark, wherever the mark is the next one
 abbrev pub StopsAtMark : Problem → Way → List (Option Side) → Spot → WayStop → Type 0
 StopsAtMark p way sides enter stop = (path : Path) (before : List Mark) (m : Mark) (rest : List Mark)
     → IsNextMark p path before m rest way sides enter → IsMarkStop p path stop

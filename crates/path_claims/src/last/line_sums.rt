@@ -28,7 +28,7 @@ fn copied(alloc: Global, numbers: &[i64]) -> Result<Vec<i64>, SumStop>
     Ok(out)
 }
 
-// The numbers of a sum, with another value.
+/// The numbers of a sum, with another value.
 pub(crate) fn with_value(alloc: Global, sum: &Sum, value: Frac) -> Result<Sum, SumStop>
     ensures copy { IfOk result (IsCopy sum.now value) }
     ensures kept { IfOk result (λ next. IsKept next.value) }

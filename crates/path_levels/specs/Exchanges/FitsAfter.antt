@@ -13,6 +13,7 @@ use Rattle.path_levels.specs.declared.outline.LineFacts.{LineFacts}
 use Rattle.path_levels.specs.declared.sums.LevelSum.{LevelSum}
 use Rattle.path_levels.specs.Shares.{reduced_of, shown_of}
 
+-- which mark of the line is inside, if one is
 abbrev pub side_of : Option Inside → Option Side
 side_of None = None
 side_of (Some inside) = Some inside.side
@@ -36,6 +37,7 @@ pub record IsMadeLevel (count : ℕ) (sum : LevelSum) : Type 0 where
   pub own_fits : IsFitting sum.own
   pub fits : All IsFitting sum.by.items
 
+-- the scale of the level's row fits, and both reduced costs of each line of the level
 pub record IsFitLevel (outline : Outline) (lines : List (Option Inside)) (pivot : Pivot) (place : ℕ)
     (sum : LevelSum) : Type 0 where
   pub scale : IsFitting (sum.own *ℤ sum.unit)
@@ -45,9 +47,11 @@ pub record IsFitLevel (outline : Outline) (lines : List (Option Inside)) (pivot 
 
 -- ---- the cost
 
+-- the level's cost after the exchange, as a ratio: its numerator
 abbrev pub moved_num : ℤ → Pivot → LevelSum → ℤ
 moved_num n pivot sum = sum_num sum.cost (n *ℤ pivot.times) ((sum.own *ℤ sum.unit) *ℤ pivot.size) pivot.value
 
+-- and its denominator
 abbrev pub moved_den : Pivot → LevelSum → ℤ
 moved_den pivot sum = sum_den sum.cost ((sum.own *ℤ sum.unit) *ℤ pivot.size) pivot.value
 

@@ -16,5 +16,6 @@ pub record IsLowestPart (num den low_num low_den : ℤ) : Type 0 where
 abbrev pub joint_num : Fraction → ℤ → ℤ → ℤ
 joint_num base num den = base.num *ℤ den +ℤ num *ℤ pos base.den
 
+-- the denominator of that sum
 abbrev pub joint_den : Fraction → ℤ → ℤ
 joint_den base den = pos base.den *ℤ den

@@ -20,6 +20,7 @@ use Rattle.path_levels.specs.Exchanges.Pivots.{IsExchangePivot, IsMultipleAt, Is
 abbrev pub IsSizedWide : ℕ → WideLevel → Type 0
 IsSizedWide count level = IsWideLevel count level.unit level.wide
 
+-- the level's row is sized, and has a number for the line at the place
 abbrev pub HasWideLine : ℕ → WideLevel → Type 0
 HasWideLine at level = (at < length level.wide.by.items) × IsSizedWide (length level.wide.by.items) level
 
@@ -39,6 +40,7 @@ pub record IsWideAt (p : Problem) (at : List Mark) (number : ℕ) (level : WideL
   pub unit_is : IsLevelUnit p number (unsigned_abs level.unit)
   pub row : IsMultipleAt p at number level.unit level.wide
 
+-- so it is with each level of the outline
 pub record AreWideAt (p : Problem) (at : List Mark) (outline : Outline) (next : List WideLevel) : Type 0 where
   pub count : length next ≡ length outline.levels.items
   pub each : (k : ℕ) (d : WideLevel) → k < length outline.levels.items

@@ -27,10 +27,12 @@ pub record BeginsWith (p : Problem) (kept : List Mark) (joined rest : List Row)
 
 -- ---- after a removal
 
+-- whether the name is that of the held row of this number
 abbrev pub is_row : ℕ → RowName → Bool
 is_row id (Held n) = nat_eq n id
 is_row id (StayOf attr) = false
 
+-- whether the name is that of one of these held rows
 abbrev pub is_one_of : List ℕ → RowName → Bool
 is_one_of [] name = false
 is_one_of (id ∷ ids) name = cond (is_row id name) true (is_one_of ids name)
@@ -39,6 +41,7 @@ is_one_of (id ∷ ids) name = cond (is_row id name) true (is_one_of ids name)
 abbrev pub without_marks : List ℕ → List Mark → List Mark
 without_marks ids at = filter (λ m. cond (is_one_of ids m.row) false true) at
 
+-- each is an exchange at the corner to which those before it lead
 abbrev pub AreExchanges : Problem → List Mark → List Swap → Type 0
 AreExchanges p at [] = Unit {0}
 AreExchanges p at (s ∷ swaps) = IsExchange p at s × AreExchanges p (exchanged s at) swaps

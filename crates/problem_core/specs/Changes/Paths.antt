@@ -30,6 +30,7 @@ abbrev pub MaySwap : Bool → Problem → List Mark → Swap → Type 0
 MaySwap true p at s = HasNegativeValue p at s.leave
 MaySwap false p at s = HasNegativeColumn p at s.enter
 
+-- each corner along them is sound, none before the last is an end, and the path may make each exchange
 abbrev pub ArePathSwaps : Bool → Problem → List Mark → List Swap → Type 0
 ArePathSwaps dual p at [] = IsSound dual p at
 ArePathSwaps dual p at (s ∷ swaps) = IsSound dual p at × (IsEndOf dual p at → ⊥) × IsExchange p at s

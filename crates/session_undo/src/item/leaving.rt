@@ -1,4 +1,4 @@
-// What leaves a scene: a group of lines, or a view with all below it.
+// What leaves a scene: a group of lines, a suggestion, or a view with all below it.
 ghost use Rattle.std.specs.Prelude.{◌≡◌, ◌∷◌, ◌++◌, ◌<◌, ◌≤◌, length, All, IfOk, OnOk, OnErr, nat_eq};
 ghost use Rattle.std.specs.List.{list_any};
 ghost use Rattle.view_tree.specs.declared.limits.TheConstants.{ID_LIMIT};

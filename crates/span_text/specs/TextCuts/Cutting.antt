@@ -6,6 +6,7 @@ use Rattle.span_text.specs.Bytes.{equals, greater, less}
 use Rattle.span_text.specs.Language.{AllIn, NotStart}
 use Rattle.span_text.specs.Classes.{is_space, is_word}
 
+-- `==`, `<=` or `>=` stands in front
 abbrev pub begins_relation : List ℕ → Bool
 begins_relation [] = false
 begins_relation (b ∷ []) = false
@@ -17,10 +18,11 @@ pub record IsRun (text rest : List ℕ) : Type 0 where
   pub inside : AllIn is_word text
   pub longest : NotStart is_word rest
 
+-- one of the relations `==`, `<=` and `>=`
 abbrev pub IsRelation : List ℕ → Type 0
 IsRelation text = (length text ≡ 2) × (begins_relation text ≡ true)
 
--- one character with which neither a run nor a relation begins
+-- one character that is no space, with which neither a run nor a relation begins
 pub record IsOther (text rest : List ℕ) : Type 0 where
   pub character : ℕ
   pub encoded : text ≡ encode_utf8 character

@@ -7,6 +7,7 @@ use Rattle.span_text.specs.declared.line.Line.{Line}
 use Rattle.span_text.specs.declared.line.Lines.{Lines}
 use Rattle.span_text.specs.TextCuts.Slices.{IsSliceAt}
 
+-- the lines that are still to come
 abbrev pub lines_left : Lines → List (List ℕ)
 lines_left l = lines l.rest.now
 
