@@ -2,8 +2,6 @@
 use Rattle.std.proofs.Common.{Ordering, Result, Ok, Err, IfSome, IfNone, ◌≡◌, ◌≢◌, ℕ, zero, suc, ◌+◌, ◌-◌, ◌<◌, ◌≤◌, ◌++◌, length, take, get_or, true, false, nat_eq, List, [], ◌∷◌, ℤ, pos, sym, refl, subst, ap, ◌∙◌, arith, ◌⊎◌, inl, inr, All}
 use Rattle.std.proofs.lemmas.Bool.Decides.{nat_tests}
 use Rattle.std.proofs.lemmas.Bool.{cases_order, cases_lt}
-use Rattle.std.proofs.lemmas.List.{take_more, get_or_default, get_or-take, length-take-le}
-use Rattle.std.proofs.lemmas.List.Quantifiers.{all_pairs_push}
 use borrow.Author.Differences.{ints}
 use Rattle.std.specs.Result.{result_ok}
 use Rattle.std.specs.List.{HoldsAt}
@@ -76,17 +74,6 @@ of_coefficients P none (x ∷ row) rising all c =
       | inr elsewhere ↦
           let whole : coefficient c row ≡ coefficient c (x ∷ row) = omega (arith, ints, at-elsewhere c x elsewhere) in
           subst P whole (of_coefficients P none row (rising_tail x row rising) (all_tail (λ t. P t.by) x row all) c)
-    ]
-
-below_last : (row : List Term) (k m : ℕ) (d : Term) (left right : ℕ) → k ≤ m → m < length row → (get_or row m d).col ≡ left → left < right → IsRising row → (get_or row k d).col < right
-below_last row k m d left right le within last less rising =
-    elim (cases_lt k m) [
-      | inl before ↦
-          let step : (get_or row k d).col < (get_or row m d).col = rising k m d before within in
-          omega (arith, step, last, less)
-      | inr ge ↦
-          let same : k ≡ m = omega (arith, le, ge) in
-          rw same (omega (arith, last, less))
     ]
 
 comparisons_rise : (row : List Term) (q : ℕ) → IsRising row → IsNonDecreasingBy (λ t. ordering_index (nat_cmp t.col q)) row
