@@ -7,7 +7,7 @@ ghost use Rattle.problem_core.specs.Layout.{HasStay};
 ghost use Rattle.problem_core.specs.Kept.{IsWhole, IsNumber};
 ghost use Rattle.problem_core.specs.Corners as corners;
 ghost use Rattle.problem_core.specs.Corners.{IsExchange, IsIn, NoNegativeValue, SameMarks, attr_column};
-ghost use Rattle.problem_core.specs.Corners.{Swap, exchanged};
+ghost use Rattle.problem_core.specs.Corners.{exchanged};
 ghost use Rattle.frac_core.specs.declared.memory.Stop.TheVariants.{OutOfMemory as NoMemory};
 ghost use Rattle.problem_core.specs.Changes.Begins.{BeginsWith, without_marks};
 ghost use Rattle.problem_core.specs.declared.limits.TheConstants.{ROW_LIMIT};
@@ -35,8 +35,8 @@ ghost use Rattle.corner.specs.Shifts.Shifting.{IsNear};
 ghost use Rattle.corner_lines.specs.Removals.{IsFree, without_attr, without_row};
 ghost use Rattle.corner_lines.specs.Shifts.{with_constant};
 ghost use Rattle.corner.specs.Swaps.NextLists.{AreMarksBy, AreMarksTurned};
-ghost use Rattle.corner.specs.Swaps.Exchanges.{IsPair, IsPairStop};
-ghost use Rattle.corner.specs.Swaps.TurnedLevels.{IsTurn, IsTurnStop};
+ghost use Rattle.corner.specs.Swaps.Exchanges.{CanExchange, IsPairStop};
+ghost use Rattle.corner.specs.Swaps.TurnedLevels.{CanTurnTo, IsTurnStop};
 ghost use Rattle.corner.specs.Removals.Dropping.{AreLeftListed, dropped};
 ghost use Rattle.corner.specs.Removals.Leaving.{IsLeaver, IsLevelLeft, marks_left, problem_left};
 ghost use Rattle.corner.specs.Tables.{Lists, lists_of, marks_at, problem_of};
@@ -123,7 +123,7 @@ fn not_made(table: &mut Table, listed: &mut Listed, stop: TableStop) -> TableSto
 fn exchange_lines(table: &mut Table, listed: &mut Listed, pair: Pair) -> Result<(), TableStop>
     requires consistent { IsConsistent table.old listed.old }
     requires marked { 0 < length table.old.rows.before }
-    requires pair { (s : Swap) × IsPair (lists_of table.old) pair s }
+    requires pair { CanExchange (lists_of table.old) pair }
     ensures consistent { IsConsistent table.new listed.new }
     ensures before { lists_before table.new ≡ lists_before table.old }
     ensures problem { OnOk result (problem_of (lists_of table.new) ≡ problem_of (lists_of table.old)) }
@@ -144,7 +144,7 @@ fn exchange_lines(table: &mut Table, listed: &mut Listed, pair: Pair) -> Result<
 fn turn_line(table: &mut Table, listed: &mut Listed, line: u32, side: Side) -> Result<(), TableStop>
     requires consistent { IsConsistent table.old listed.old }
     requires marked { 0 < length table.old.rows.before }
-    requires turn { (s : Swap) × IsTurn (lists_of table.old) line side s }
+    requires turn { CanTurnTo (lists_of table.old) line side }
     ensures consistent { IsConsistent table.new listed.new }
     ensures before { lists_before table.new ≡ lists_before table.old }
     ensures problem { OnOk result (problem_of (lists_of table.new) ≡ problem_of (lists_of table.old)) }

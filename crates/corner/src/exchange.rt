@@ -21,8 +21,8 @@ ghost use Rattle.corner.specs.Swaps.Exchanges as exchanges;
 ghost use Rattle.corner.specs.Swaps.Exchanges.{IsChangeIn, cleared, exchanged_lists, filled, with_change};
 ghost use Rattle.corner.specs.Swaps.Exchanges.{with_changes, with_row, with_standing, with_value};
 ghost use Rattle.corner.specs.Swaps.Exchanges.{IsChangeBy, IsEnteringBy, IsEnteringValue, IsLevelStop};
-ghost use Rattle.corner.specs.Swaps.Exchanges.{IsPair, IsPairStop, IsPivotAt, IsPivotOf, IsPivotStop};
-ghost use Rattle.corner.specs.declared.table.TheConstants.{LEVELS};
+ghost use Rattle.corner.specs.Swaps.Exchanges.{CanExchange, CanPivot, IsCostedLevel, IsPairStop, IsPivotOf};
+ghost use Rattle.corner.specs.Swaps.Exchanges.{IsPivotStop};
 ghost use Rattle.corner.specs.Swaps.Exchanges.{AreListedAfter, AreMarksAfter, ArePut, IsExchangeBy};
 ghost use Rattle.corner.specs.Swaps.Exchanges.{IsExchangeOf};
 ghost use Rattle.corner.specs.Swaps.Exchanges.{IsRestUntouched};
@@ -181,7 +181,7 @@ fn size(number: i64) -> i64
 // The value that the entering mark comes to.
 fn entering_value(table: &Table, pair: Pair, by: i64) -> Result<Frac, TableStop>
     requires kept { IsKept (lists_of table.now) }
-    requires pair { (s : Swap) × IsPair (lists_of table.now) pair s }
+    requires pair { CanExchange (lists_of table.now) pair }
     requires by { by ≡ entry (lists_of table.now) pair.leave pair.enter }
     requires fits { IsFitting by }
     ensures ok { IfOk result (IsEnteringValue (lists_of table.now) pair) }
@@ -197,7 +197,7 @@ fn entering_value(table: &Table, pair: Pair, by: i64) -> Result<Frac, TableStop>
 // The pivot, unless the entering line is a stay whose level has no room.
 fn pivot_with(table: &Table, pair: Pair, by: i64, value: Frac) -> Result<Pivot, TableStop>
     requires kept { IsKept (lists_of table.now) }
-    requires pair { (s : Swap) × IsPair (lists_of table.now) pair s }
+    requires pair { CanExchange (lists_of table.now) pair }
     requires by { by ≡ entry (lists_of table.now) pair.leave pair.enter }
     requires fits { IsFitting by }
     requires entering { IsEnteringValue (lists_of table.now) pair value }
@@ -213,7 +213,7 @@ fn pivot_with(table: &Table, pair: Pair, by: i64, value: Frac) -> Result<Pivot, 
 // What the exchange makes of the entering line, or the mark or the stay's level that does not fit.
 fn pivot_of(table: &Table, pair: Pair) -> Result<Pivot, TableStop>
     requires kept { IsKept (lists_of table.now) }
-    requires pair { (s : Swap) × IsPair (lists_of table.now) pair s }
+    requires pair { CanExchange (lists_of table.now) pair }
     ensures pair { IfOk result (λ pivot. pivot.pair ≡ pair) }
     ensures ok { IfOk result (IsPivotOf (lists_of table.now) pair) }
     ensures stop { IfErr result (IsPairStop (lists_of table.now) pair) }
@@ -241,7 +241,7 @@ fn count_at(table: &Table, l: u32, line: u32, side: Side) -> i64
 // The row of an attribute or an inside line in which the entering line is replaced by its own row.
 fn moved_row(table: &Table, pivot: &Pivot, w: u32, what: What) -> Result<IntRow, TableStop>
     requires kept { IsKept (lists_of table.now) }
-    requires pivot { (s : Swap) × IsPivotAt (lists_of table.now) pivot.now s }
+    requires pivot { CanPivot (lists_of table.now) pivot.now }
     requires slot { IsSlot (lists_of table.now) w }
     requires other { w ≢ pivot.now.pair.leave }
     requires stands { entry (lists_of table.now) w pivot.now.pair.enter ≢ pos 0 }
@@ -265,7 +265,7 @@ fn moved_row(table: &Table, pivot: &Pivot, w: u32, what: What) -> Result<IntRow,
 // The value that it comes to.
 fn moved_value(table: &Table, pivot: &Pivot, w: u32, what: What) -> Result<Frac, TableStop>
     requires kept { IsKept (lists_of table.now) }
-    requires pivot { (s : Swap) × IsPivotAt (lists_of table.now) pivot.now s }
+    requires pivot { CanPivot (lists_of table.now) pivot.now }
     requires slot { IsSlot (lists_of table.now) w }
     requires other { w ≢ pivot.now.pair.leave }
     requires stands { entry (lists_of table.now) w pivot.now.pair.enter ≢ pos 0 }
@@ -288,7 +288,7 @@ fn moved_value(table: &Table, pivot: &Pivot, w: u32, what: What) -> Result<Frac,
 // The change, unless the line is a stay whose level has no room.
 fn moved_line(table: &Table, pivot: &Pivot, what: What, change: Change) -> Result<Change, TableStop>
     requires kept { IsKept (lists_of table.now) }
-    requires pivot { (s : Swap) × IsPivotAt (lists_of table.now) pivot.now s }
+    requires pivot { CanPivot (lists_of table.now) pivot.now }
     requires slot { IsSlot (lists_of table.now) change.at }
     requires other { change.at ≢ pivot.now.pair.leave }
     requires stands { entry (lists_of table.now) change.at pivot.now.pair.enter ≢ pos 0 }
@@ -308,7 +308,7 @@ fn moved_line(table: &Table, pivot: &Pivot, what: What, change: Change) -> Resul
 // The change of an attribute or an inside line in whose row the entering line stands.
 fn line_change(table: &Table, pivot: &Pivot, w: u32) -> Result<Change, TableStop>
     requires kept { IsKept (lists_of table.now) }
-    requires pivot { (s : Swap) × IsPivotAt (lists_of table.now) pivot.now s }
+    requires pivot { CanPivot (lists_of table.now) pivot.now }
     requires slot { IsSlot (lists_of table.now) w }
     requires other { w ≢ pivot.now.pair.leave }
     requires stands { entry (lists_of table.now) w pivot.now.pair.enter ≢ pos 0 }
@@ -325,9 +325,8 @@ fn line_change(table: &Table, pivot: &Pivot, w: u32) -> Result<Change, TableStop
 // The entering line's number in a level's row, with what the line counts from now on.
 fn entering_at(table: &Table, pivot: &Pivot, l: u32) -> i64
     requires kept { IsKept (lists_of table.now) }
-    requires pivot { (s : Swap) × IsPivotAt (lists_of table.now) pivot.now s }
-    requires level { l < LEVELS }
-    requires rows { (tables.priority_at (lists_of table.now) l).rows ≢ 0 }
+    requires pivot { CanPivot (lists_of table.now) pivot.now }
+    requires level { IsCostedLevel (lists_of table.now) l }
     ensures value { result ≡ level_changes.entering_at (lists_of table.now) pivot.now.pair l }
     ensures fits { IsFitting result }
 {
@@ -339,9 +338,8 @@ fn entering_at(table: &Table, pivot: &Pivot, l: u32) -> i64
 // What the leaving line counted in a level's row.
 fn leaving_at(table: &Table, pivot: &Pivot, l: u32) -> i64
     requires kept { IsKept (lists_of table.now) }
-    requires pivot { (s : Swap) × IsPivotAt (lists_of table.now) pivot.now s }
-    requires level { l < LEVELS }
-    requires rows { (tables.priority_at (lists_of table.now) l).rows ≢ 0 }
+    requires pivot { CanPivot (lists_of table.now) pivot.now }
+    requires level { IsCostedLevel (lists_of table.now) l }
     ensures value { result ≡ level_changes.leaving_at (lists_of table.now) pivot.now.pair l }
     ensures fits { IsFitting result }
 {
@@ -359,9 +357,8 @@ fn level_row(
     stop: TableStop,
 ) -> Result<IntRow, TableStop>
     requires kept { IsKept (lists_of table.now) }
-    requires pivot { (s : Swap) × IsPivotAt (lists_of table.now) pivot.now s }
-    requires level { l < LEVELS }
-    requires rows { (tables.priority_at (lists_of table.now) l).rows ≢ 0 }
+    requires pivot { CanPivot (lists_of table.now) pivot.now }
+    requires level { IsCostedLevel (lists_of table.now) l }
     requires entering { c ≡ level_changes.entering_at (lists_of table.now) pivot.now.pair l }
     requires fits { IsFitting c }
     requires stop { level_changes.IsStopOf l stop }
@@ -393,9 +390,8 @@ fn level_value(
     stop: TableStop,
 ) -> Result<Frac, TableStop>
     requires kept { IsKept (lists_of table.now) }
-    requires pivot { (s : Swap) × IsPivotAt (lists_of table.now) pivot.now s }
-    requires level { l < LEVELS }
-    requires rows { (tables.priority_at (lists_of table.now) l).rows ≢ 0 }
+    requires pivot { CanPivot (lists_of table.now) pivot.now }
+    requires level { IsCostedLevel (lists_of table.now) l }
     requires entering { c ≡ level_changes.entering_at (lists_of table.now) pivot.now.pair l }
     requires fits { IsFitting c }
     requires stop { level_changes.IsStopOf l stop }
@@ -415,9 +411,8 @@ fn level_value(
 // The change of a level in whose cost the entering line stands or comes, or the leaving one stood.
 fn level_change(table: &Table, pivot: &Pivot, l: u32) -> Result<Change, TableStop>
     requires kept { IsKept (lists_of table.now) }
-    requires pivot { (s : Swap) × IsPivotAt (lists_of table.now) pivot.now s }
-    requires level { l < LEVELS }
-    requires rows { (tables.priority_at (lists_of table.now) l).rows ≢ 0 }
+    requires pivot { CanPivot (lists_of table.now) pivot.now }
+    requires level { IsCostedLevel (lists_of table.now) l }
     ensures at { IfOk result (λ change. change.at ≡ l) }
     ensures ok { IfOk result (IsChangeBy (lists_of table.now) pivot.now) }
     ensures row_kept { IfOk result (λ change. IsKeptRow change.row) }
@@ -444,7 +439,7 @@ fn level_change(table: &Table, pivot: &Pivot, l: u32) -> Result<Change, TableSto
 // The change of a slot in whose row the entering line stands.
 fn change_of(table: &Table, pivot: &Pivot, w: u32) -> Result<Change, TableStop>
     requires kept { IsKept (lists_of table.now) }
-    requires pivot { (s : Swap) × IsPivotAt (lists_of table.now) pivot.now s }
+    requires pivot { CanPivot (lists_of table.now) pivot.now }
     requires within { w < length table.now.slots.items }
     requires other { w ≢ pivot.now.pair.leave }
     requires stands { entry (lists_of table.now) w pivot.now.pair.enter ≢ pos 0 }
@@ -462,7 +457,7 @@ fn change_of(table: &Table, pivot: &Pivot, w: u32) -> Result<Change, TableStop>
 // Puts the change of a slot behind the others, unless it is the leaving line's.
 fn push_change(table: &Table, pivot: &Pivot, w: u32, out: &mut Vec<Change>) -> Result<(), TableStop>
     requires kept { IsKept (lists_of table.now) }
-    requires pivot { (s : Swap) × IsPivotAt (lists_of table.now) pivot.now s }
+    requires pivot { CanPivot (lists_of table.now) pivot.now }
     requires within { w < length table.now.slots.items }
     requires stands { entry (lists_of table.now) w pivot.now.pair.enter ≢ pos 0 }
     requires changes { All (IsChangeBy (lists_of table.now) pivot.now) out.old.items }
@@ -475,16 +470,15 @@ fn push_change(table: &Table, pivot: &Pivot, w: u32, out: &mut Vec<Change>) -> R
         return Ok(());
     }
     let change = change_of(table, pivot, w)?;
-    out.push(change).map_err(|_| Stop::OutOfMemory)
+    Ok(out.push(change)?)
 }
 
 // Whether the level of a line is touched by what the line counts there, and not by its row.
 fn is_touched(table: &Table, pair: Pair, line: u32, side: Side) -> bool
     requires kept { IsKept (lists_of table.now) }
     requires line { IsSlotOfLine (lists_of table.now) line }
-    ensures level { result ≡ true → (tables.slot_at (lists_of table.now) line).home < LEVELS }
-    ensures rows { result ≡ true → (tables.priority_at (lists_of table.now)
-        (tables.slot_at (lists_of table.now) line).home).rows ≢ 0 }
+    ensures level { result ≡ true → IsCostedLevel (lists_of table.now)
+        (tables.slot_at (lists_of table.now) line).home }
     ensures untouched { result ≡ false → CountsWhereStands (lists_of table.now) pair.enter line side }
 {
     let home = slot_at(table, line).home;
@@ -506,9 +500,8 @@ fn is_last(changes: &[Change], w: u32) -> bool
 // Puts the change of a level behind the others.
 fn push_level(table: &Table, pivot: &Pivot, l: u32, out: &mut Vec<Change>) -> Result<(), TableStop>
     requires kept { IsKept (lists_of table.now) }
-    requires pivot { (s : Swap) × IsPivotAt (lists_of table.now) pivot.now s }
-    requires level { l < LEVELS }
-    requires rows { (tables.priority_at (lists_of table.now) l).rows ≢ 0 }
+    requires pivot { CanPivot (lists_of table.now) pivot.now }
+    requires level { IsCostedLevel (lists_of table.now) l }
     requires changes { All (IsChangeBy (lists_of table.now) pivot.now) out.old.items }
     ensures changes { OnOk result (All (IsChangeBy (lists_of table.now) pivot.now) out.new.items) }
     ensures keeps { OnOk result ((v : ℕ) → IsPut out.old.items v → IsPut out.new.items v) }
@@ -516,7 +509,7 @@ fn push_level(table: &Table, pivot: &Pivot, l: u32, out: &mut Vec<Change>) -> Re
     ensures stop { IfErr result (IsPivotStop (lists_of table.now) pivot.now) }
 {
     let change = level_change(table, pivot, l)?;
-    out.push(change).map_err(|_| Stop::OutOfMemory)
+    Ok(out.push(change)?)
 }
 
 // Puts the change of a line's level behind the others where what the line counts there alone touches it. Two
@@ -529,7 +522,7 @@ fn push_line_level(
     out: &mut Vec<Change>,
 ) -> Result<(), TableStop>
     requires kept { IsKept (lists_of table.now) }
-    requires pivot { (s : Swap) × IsPivotAt (lists_of table.now) pivot.now s }
+    requires pivot { CanPivot (lists_of table.now) pivot.now }
     requires line { IsSlotOfLine (lists_of table.now) line }
     requires changes { All (IsChangeBy (lists_of table.now) pivot.now) out.old.items }
     ensures changes { OnOk result (All (IsChangeBy (lists_of table.now) pivot.now) out.new.items) }
@@ -549,7 +542,7 @@ fn push_line_level(
 // The levels that change though the entering line has no number there.
 fn push_touched(table: &Table, pivot: &Pivot, out: &mut Vec<Change>) -> Result<(), TableStop>
     requires kept { IsKept (lists_of table.now) }
-    requires pivot { (s : Swap) × IsPivotAt (lists_of table.now) pivot.now s }
+    requires pivot { CanPivot (lists_of table.now) pivot.now }
     requires changes { All (IsChangeBy (lists_of table.now) pivot.now) out.old.items }
     requires stands { ArePut (lists_of table.now) pivot.now.pair out.old.items }
     ensures changes { OnOk result (All (IsChangeBy (lists_of table.now) pivot.now) out.new.items) }
@@ -564,7 +557,7 @@ fn push_touched(table: &Table, pivot: &Pivot, out: &mut Vec<Change>) -> Result<(
 // The changes of all rows but those of the two lines.
 fn changes(table: &Table, pivot: &Pivot) -> Result<Vec<Change>, TableStop>
     requires kept { IsKept (lists_of table.now) }
-    requires pivot { (s : Swap) × IsPivotAt (lists_of table.now) pivot.now s }
+    requires pivot { CanPivot (lists_of table.now) pivot.now }
     ensures changes { IfOk result (λ out. All (IsChangeBy (lists_of table.now) pivot.now) out.items) }
     ensures rest { IfOk result (λ out. IsRestUntouched (lists_of table.now) pivot.now out.items) }
     ensures stop { IfErr result (IsPivotStop (lists_of table.now) pivot.now) }
@@ -588,7 +581,7 @@ fn turned_row(row: IntRow, by: i64) -> IntRow
 // The entering line's row and value.
 fn entering_change(table: &Table, pivot: &Pivot) -> Result<Change, OutOfMemory>
     requires kept { IsKept (lists_of table.now) }
-    requires pivot { (s : Swap) × IsPivotAt (lists_of table.now) pivot.now s }
+    requires pivot { CanPivot (lists_of table.now) pivot.now }
     ensures ok { IfOk result (IsEnteringBy (lists_of table.now) pivot.now) }
 {
     let row = table.matrix.row(pivot.pair.leave).copy()?;
@@ -610,7 +603,7 @@ pub(crate) struct Exchange {
 /// The rows and values after an exchange.
 pub(crate) fn exchange_of(table: &Table, pair: Pair) -> Result<Exchange, TableStop>
     requires kept { IsKept (lists_of table.now) }
-    requires pair { (s : Swap) × IsPair (lists_of table.now) pair s }
+    requires pair { CanExchange (lists_of table.now) pair }
     ensures ok { IfOk result (IsExchangeBy (lists_of table.now) pair) }
     ensures stop { IfErr result (IsPairStop (lists_of table.now) pair) }
 {

@@ -46,7 +46,8 @@ ghost use Rattle.corner.specs.Additions.CostJoins.{AreUnitFactors, IsCostJoined,
 ghost use Rattle.corner.specs.Additions.CostJoins.{IsCountOf};
 ghost use Rattle.corner.specs.Additions.CostJoins.{IsFreeLine, IsInUnit, IsJoinedCost, IsJoinedRow};
 ghost use Rattle.corner.specs.Additions.CostJoins.{IsJoining};
-ghost use Rattle.corner.specs.Additions.CostJoins.{IsJoinStop, IsLineStop, IsNextListed, IsRise, IsRiseAt};
+ghost use Rattle.corner.specs.Additions.CostJoins.{IsJoinStop, IsLineCostStop, IsNextListed, IsRise};
+ghost use Rattle.corner.specs.Additions.CostJoins.{IsRiseAt};
 ghost use Rattle.corner.specs.Additions.CostJoins.{IsShared};
 ghost use Rattle.corner.specs.Additions.CostJoins.{IsShareStop, IsSignedCount, IsUnfitRise, IsUnitStop};
 ghost use Rattle.corner.specs.Additions.CostJoins.{home_at};
@@ -152,20 +153,22 @@ struct Sum {
     value: Frac,
 }
 
-// How often a sum's row and an attribute's are taken, so that both own numbers become one.
-fn term_factors(own: i64, attr_own: i64, by: i64) -> Factors
+/// How often two rows are taken, the second one `by` times, so that both own numbers become one.
+pub(crate) fn common_factors(own: i64, other: i64, by: i64) -> Factors
     requires own { pos 0 <ℤ own }
-    requires attr { pos 0 <ℤ attr_own }
+    requires other { pos 0 <ℤ other }
     requires own_fits { IsFitting own }
-    requires attr_fits { IsFitting attr_own }
-    requires by_fits { IsFitting by }
-    ensures k { IsFactor result.k }
+    requires other_fits { IsFitting other }
+    requires by { IsFitting by }
+    ensures k { IsFitting result.k }
+    ensures above { pos 0 <ℤ result.k }
     ensures n { IsFactor result.n }
-    ensures factors { AreTermFactors own attr_own by result }
+    ensures factors { AreTermFactors own other by result }
+    ensures share { AreShareFactors own other by (pos 1) result }
 {
-    let divisor = common_divisor(own, attr_own);
+    let divisor = common_divisor(own, other);
     Factors {
-        k: i128::from(over(attr_own, divisor)),
+        k: i128::from(over(other, divisor)),
         n: product(over(own, divisor), by),
     }
 }
@@ -181,7 +184,7 @@ fn more_row(table: &Table, at: u32, sum: &IntRow, term: Term) -> Result<IntRow, 
         → IsUnfitTerm (lists_of table.now) at sum.now term) }
 {
     let a = attr_slot(table, term.attr);
-    let factors = term_factors(sum.entry(Col(u64::from(at))), own_of(table, a), term.by);
+    let factors = common_factors(sum.entry(Col(u64::from(at))), own_of(table, a), term.by);
     let but = Patch {
         without: Col(u64::from(a)),
         at: Col(u64::from(at)),
@@ -333,7 +336,7 @@ fn slot_of(row: &Row) -> Slot
 fn copy_of(row: &Row) -> Result<Row, OutOfMemory>
     ensures { IfOk result (λ copy. copy ≡ row.now) }
 {
-    row.clone().map_err(|_| OutOfMemory)
+    Ok(row.clone()?)
 }
 
 // Puts a row with its deviation in the next slot.
@@ -817,7 +820,7 @@ fn join_next(table: &mut Table, listed: &mut Listed, line: u32) -> Result<(), Ru
     ensures listed { OnOk result (IsNextListed (lists_of table.new) line listed.old listed.new) }
     ensures before { lists_before table.new ≡ lists_before table.old }
     ensures alike { AreAlike table.old → AreAlike table.new }
-    ensures stop { IfErr result (IsLineStop (lists_of table.old) line) }
+    ensures stop { IfErr result (IsLineCostStop (lists_of table.old) line) }
 {
     match join_cost(table, line) {
         Ok(true) => Ok(list_row(table, line, listed)?),

@@ -19,7 +19,7 @@ ghost use Rattle.problem_core.specs.declared.stops.Quantity.TheVariants.{Plain};
 ghost use Rattle.frac_core.specs.declared.memory.Stop.TheVariants.{Refused};
 ghost use Rattle.corner_laws.specs.Lifts.{HasOneIn};
 ghost use Rattle.corner.specs.Changes.{IsUnfitStop};
-ghost use Rattle.corner.specs.Additions.CostJoins.{AreShareFactors, IsLeastUnit};
+ghost use Rattle.corner.specs.Additions.CostJoins.{IsLeastUnit};
 ghost use Rattle.corner.specs.Kept.{AreSlots, IsKept};
 ghost use Rattle.corner.specs.Removals.Leaving.{AreLeftFitting, HasMultiple, IsFittingLeft, IsLeaver};
 ghost use Rattle.corner.specs.Removals.Leaving.{IsLeftRow};
@@ -29,7 +29,7 @@ ghost use Rattle.corner.specs.Tables as tables;
 ghost use Rattle.corner.specs.Tables.{lists_of, marks_at};
 
 use crate::exchange::{Change, named_row, named_sum, opposite};
-use crate::joining::{over, risen};
+use crate::joining::{common_factors, over, risen};
 use crate::levels::Pair;
 use crate::levels::fitting::{
     Draft, SMALL_SCALE, are_small, does_line_fit, is_fitting, level_at, scale_of,
@@ -37,7 +37,6 @@ use crate::levels::fitting::{
 use crate::slots::{
     cost_share, line_slot, own_of, priority_at, priority_level, side_in, sign, slot_at, value_at,
 };
-use crate::sums::product;
 use crate::table::Table;
 use frac_core::{Frac, Stop, common_divisor};
 use problem_core::{Quantity, Row, RowName, Side, TableStop, What};
@@ -137,25 +136,6 @@ fn leaving_count(table: &Table, leaver: Leaver) -> i64
     cost_share(table, slot_at(table, leaver.line), leaver.side)
 }
 
-// How often the level's row and the line's are taken, so that the line's own number goes out.
-fn left_factors(own: i64, line_own: i64, count: i64) -> Factors
-    requires own { pos 0 <ℤ own }
-    requires line { pos 0 <ℤ line_own }
-    requires own_fits { IsFitting own }
-    requires line_fits { IsFitting line_own }
-    requires count { IsFitting count }
-    ensures k { IsFitting result.k }
-    ensures above { pos 0 <ℤ result.k }
-    ensures n { IsFactor result.n }
-    ensures factors { AreShareFactors own line_own count (pos 1) result }
-{
-    let divisor = common_divisor(own, line_own);
-    Factors {
-        k: i128::from(over(line_own, divisor)),
-        n: product(over(own, divisor), count),
-    }
-}
-
 // What `k` times the level's own number grows by where its cost is taken so many times less.
 fn growth(k: i128, own: i64, times: i64) -> i128
     requires k { IsFitting k }
@@ -191,7 +171,7 @@ fn left_row(table: &Table, leaver: Leaver, unit: i64, stop: TableStop) -> Result
 {
     let own = own_of(table, leaver.level);
     let count = leaving_count(table, leaver) * sign(leaver.side);
-    let Factors { k, n } = left_factors(own, own_of(table, leaver.line), opposite(count));
+    let Factors { k, n } = common_factors(own, own_of(table, leaver.line), opposite(count));
     let but = Patch {
         without: Col(u64::from(leaver.line)),
         at: Col(u64::from(leaver.level)),

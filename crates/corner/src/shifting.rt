@@ -14,7 +14,8 @@ ghost use Rattle.corner.specs.Histories.{AreAlike, lists_before};
 ghost use Rattle.corner.specs.Kept.{AreSlots, IsKept, IsSlot};
 ghost use Rattle.corner.specs.Reads.LevelNumbers.{IsSlotOfLine};
 ghost use Rattle.corner.specs.Shifts.Shifting as shifting;
-ghost use Rattle.corner.specs.Shifts.Shifting.{CanGrow, HaveGrown, IsGrowStop, IsGrown, IsLineStop, IsNear};
+ghost use Rattle.corner.specs.Shifts.Shifting.{CanGrow, HaveGrown, IsGrowStop, IsGrown};
+ghost use Rattle.corner.specs.Shifts.Shifting.{IsGrownValueStop, IsNear};
 ghost use Rattle.corner.specs.Shifts.Shifting.{IsShifted, IsShiftedStop, IsThere, mark_growth};
 ghost use Rattle.corner.specs.Shifts.Shifting.{outside_growth};
 ghost use Rattle.corner.specs.Shifts.Shifting.{with_constant_at};
@@ -169,7 +170,7 @@ fn grow_inside(table: &mut Table, line: u32, side: Side, more: Frac) -> Result<(
     requires level { (tables.slot_at (lists_of table.old) line).home < LEVELS }
     requires more { fraction.IsKept more }
     ensures ok { OnOk result (HaveGrown (lists_of table.old) line more (lists_of table.new)) }
-    ensures stop { IfErr result (IsLineStop (lists_of table.old) line more) }
+    ensures stop { IfErr result (IsGrownValueStop (lists_of table.old) line more) }
     ensures before { lists_before table.new ≡ lists_before table.old }
     ensures alike { AreAlike table.old → AreAlike table.new }
 {
@@ -245,7 +246,7 @@ fn grow_outside(table: &mut Table, line: u32, more: Frac) -> Result<(), TableSto
     requires within { line < length table.old.slots.items }
     requires outside { (tables.standing_at (lists_of table.old) line).side ≡ None }
     ensures ok { OnOk result (HaveGrown (lists_of table.old) line more (lists_of table.new)) }
-    ensures stop { IfErr result (IsLineStop (lists_of table.old) line more) }
+    ensures stop { IfErr result (IsGrownValueStop (lists_of table.old) line more) }
     ensures before { lists_before table.new ≡ lists_before table.old }
     ensures alike { AreAlike table.old → AreAlike table.new }
 {
@@ -265,7 +266,7 @@ fn grow_line(table: &mut Table, line: u32, more: Frac) -> Result<(), TableStop>
     requires level { (tables.slot_at (lists_of table.old) line).home < LEVELS }
     requires more { fraction.IsKept more }
     ensures ok { OnOk result (HaveGrown (lists_of table.old) line more (lists_of table.new)) }
-    ensures stop { IfErr result (IsLineStop (lists_of table.old) line more) }
+    ensures stop { IfErr result (IsGrownValueStop (lists_of table.old) line more) }
     ensures before { lists_before table.new ≡ lists_before table.old }
     ensures alike { AreAlike table.old → AreAlike table.new }
 {

@@ -55,33 +55,33 @@ pub record IsFront (costs : ℕ → ℤ) (level : ℕ) (front : ℤ) : Type 0 wh
   pub some : front ≢ pos 0
 
 -- the front of an outside mark
-abbrev pub IsFrontOf : Problem → Rows → Mark → ℕ → ℤ → Type 0
-IsFrontOf p rows mark level front =
+abbrev pub IsFrontIn : Problem → Rows → Mark → ℕ → ℤ → Type 0
+IsFrontIn p rows mark level front =
     All (λ l. l.name ≡ mark.row → IsFront (costs_of rows mark.side l) level front) (lines p)
 
 -- the outside mark's reduced cost is 0 at each level
-abbrev pub HasNoFront : Problem → Rows → Mark → Type 0
-HasNoFront p rows mark =
+abbrev pub HasNoFrontIn : Problem → Rows → Mark → Type 0
+HasNoFrontIn p rows mark =
     All (λ l. l.name ≡ mark.row → (level : ℕ) → costs_of rows mark.side l level ≡ pos 0) (lines p)
 
 -- an outside mark with a front below 0 has a negative column
 abbrev pub NegativeFrontIsNegative : Type 0
 NegativeFrontIsNegative = (p : Problem) (at : List Mark) (rows : Rows) (mark : Mark) (level : ℕ) (front : ℤ)
     → IsProblem p → AreLevelRows p at rows → Contains (map place (marks_of (lines p))) (place mark)
-    → IsOutsideLine at mark.row → IsFrontOf p rows mark level front → front <ℤ pos 0
+    → IsOutsideLine at mark.row → IsFrontIn p rows mark level front → front <ℤ pos 0
     → HasNegativeColumn p at mark
 
 -- the column of one with a front above 0 is not negative, whatever multipliers the corner's are
 abbrev pub PositiveFrontIsNot : Type 0
 PositiveFrontIsNot = (p : Problem) (at : List Mark) (rows : Rows) (mark : Mark) (level : ℕ) (front : ℤ)
     (m : Multipliers) → IsWhole p → HasRays p at → AreLevelRows p at rows → IsOutsideLine at mark.row
-    → IsFrontOf p rows mark level front → pos 0 <ℤ front → AreMultipliersAt p at m
+    → IsFrontIn p rows mark level front → pos 0 <ℤ front → AreMultipliersAt p at m
     → All (λ l. l.name ≡ mark.row → IsLexNonnegative (column m mark.side l)) (lines p)
 
 -- nor is that of one without a front
 abbrev pub NoFrontIsNot : Type 0
 NoFrontIsNot = (p : Problem) (at : List Mark) (rows : Rows) (mark : Mark) (m : Multipliers)
-    → IsWhole p → HasRays p at → AreLevelRows p at rows → IsOutsideLine at mark.row → HasNoFront p rows mark
+    → IsWhole p → HasRays p at → AreLevelRows p at rows → IsOutsideLine at mark.row → HasNoFrontIn p rows mark
     → AreMultipliersAt p at m
     → All (λ l. l.name ≡ mark.row → IsLexNonnegative (column m mark.side l)) (lines p)
 

@@ -3,4 +3,3 @@ pub mod ProbeCosts
 pub mod ProbeWhole
 pub mod Probed
 pub mod ProbeStops
-pub mod ProbeRooms

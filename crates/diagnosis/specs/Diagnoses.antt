@@ -1,8 +1,7 @@
 -- What is found of a layout.
-use Rattle.std.specs.Prelude.{ℕ, ◌<◌, List, length, All}
+use Rattle.std.specs.Prelude.{ℕ, List}
 use Rattle.frac_core.specs.Fraction.{Fraction}
-use Rattle.problem_core.specs.declared.limits.TheConstants.{NUMBER_LIMIT, ROW_LIMIT}
-use Rattle.problem_core.specs.Layout.{Problem, Row}
+use Rattle.problem_core.specs.Layout.{Problem}
 use Rattle.diagnosis.specs.Costs.{AreCosts}
 use Rattle.diagnosis.specs.Probes.{AreMoving}
 use Rattle.diagnosis.specs.Unmet.{AreUnmet}
@@ -24,8 +23,3 @@ pub record AreFindings (p : Problem) (values : List (ℕ × Fraction)) (f : Find
   pub errors : AreCosts p values 1 f.errors
   pub unmet : AreUnmet p.rows values f.unmet
   pub moving : AreMoving p values p.stays f.moving
-
--- one row more has room among the rows, a number above theirs, and a rank below theirs
-pub record LeaveRoom (rows : List Row) : Type 0 where
-  pub few : length rows < ROW_LIMIT
-  pub each : All (λ r. (0 < r.rank) × (r.id < NUMBER_LIMIT)) rows

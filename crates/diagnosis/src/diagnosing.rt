@@ -1,7 +1,6 @@
 // All that is found of a layout.
-ghost use Rattle.std.specs.Prelude.{◌≡◌, ◌<◌, true, false, length, IfOk, IfErr};
-ghost use Rattle.version_list.specs.declared.TheConstants.{VERSION_LIMIT};
-ghost use Rattle.diagnosis.specs.Diagnoses.{AreFindings, LeaveRoom, findings_of};
+ghost use Rattle.std.specs.Prelude.{◌≡◌, IfOk, IfErr};
+ghost use Rattle.diagnosis.specs.Diagnoses.{AreFindings, findings_of};
 ghost use Rattle.diagnosis.specs.Probes.{CanProbeAll, IsStopAt};
 
 use crate::lacking::unmet;
@@ -10,7 +9,6 @@ use crate::priorities::costs;
 use crate::probing::Stopped;
 use frac_core::{Frac, Wide};
 use layout_solver::Engine;
-use problem_core::{NUMBER_LIMIT, ROW_LIMIT, Row};
 use std::alloc::Global;
 
 /// What a layout lacks, and what it leaves open.
@@ -23,26 +21,6 @@ pub struct Diagnosis {
     pub unmet: Vec<(u32, Wide)>,
     /// The attributes that move, by number, with the values that they reach.
     pub moving: Vec<(u32, Frac)>,
-}
-
-fn leave_room(rows: &[Row]) -> bool
-    ensures yes { result ≡ true → LeaveRoom rows.now }
-    ensures no { result ≡ false → LeaveRoom rows.now → ⊥ }
-{
-    rows.len() < ROW_LIMIT
-        && rows
-            .iter()
-            .all(|row| row.rank() > 0 && row.id() < NUMBER_LIMIT)
-}
-
-/// Whether each attribute can be probed: there is room for a row more, with a number above those of all rows
-/// and a rank below theirs.
-pub fn can_probe_all(e: &Engine) -> bool
-    requires { length e.now.earlier < VERSION_LIMIT }
-    ensures yes { result ≡ true → CanProbeAll e.now }
-    ensures no { result ≡ false → LeaveRoom e.now.problem.rows → ⊥ }
-{
-    leave_room(e.rows())
 }
 
 /// All that a layout lacks and leaves open. The engine is as before.

@@ -28,7 +28,7 @@ mod moving;
 mod priorities;
 mod probing;
 
-pub use diagnosing::{Diagnosis, can_probe_all, diagnose};
+pub use diagnosing::{Diagnosis, diagnose};
 pub use lacking::unmet;
 pub use moving::all_ambiguous;
 pub use priorities::costs;

@@ -11,7 +11,8 @@ use Rattle.row_core.proofs.Places.{all_tail}
 use Rattle.indexed_rows.specs.Indexes.{list_at}
 use Rattle.indexed_rows.proofs.Columns.{listed_within}
 use Rattle.indexed_rows.specs.Lists.{HasColumn, IsChangedAt, IsListedAt, IsRisingList, IsSameBut, IsWith, IsWithout}
-use Rattle.indexed_rows.specs.Walks.{IsBehind, IsNext, IsNextInBoth, IsRelisted, column_at}
+use Rattle.row_core.specs.Walks.{column_at}
+use Rattle.indexed_rows.specs.Walks.{IsBehind, IsNext, IsNextInBoth, IsRelisted}
 use Rattle.frac_core.proofs.Bools.{iff-through as both_ways}
 
 abbrev pub nothing : Term

@@ -1,12 +1,9 @@
 -- The walk over the old and the new row of a slot, by rising columns.
-use Rattle.std.specs.Prelude.{◌≡◌, ℕ, ◌<◌, ◌≤◌, List, ◌++◌, length, take, drop, slice_index_or, All, pos}
+use Rattle.std.specs.Prelude.{◌≡◌, ℕ, ◌<◌, ◌≤◌, List, ◌++◌, length, take, drop, All}
 use Rattle.std.specs.Global.{Vec}
 use Rattle.row_core.specs.Rows.{Term}
+use Rattle.row_core.specs.Walks.{column_at}
 use Rattle.indexed_rows.specs.Lists.{IsListedAt}
-
--- the column at the row's place i, 0 past its end
-abbrev pub column_at : List Term → ℕ → ℕ
-column_at row i = (slice_index_or row i (record { col = 0; by = pos 0 })).col
 
 -- the row has a place i, and its column there is below that of the other row at j
 pub record IsNext (row : List Term) (i : ℕ) (other : List Term) (j : ℕ) : Type 0 where

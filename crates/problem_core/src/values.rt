@@ -54,11 +54,4 @@ impl Values {
         }
         Frac::zero()
     }
-
-    /// Shows that the attributes of all values rise.
-    pub fn show_rising(&self)
-        ensures { AreRising self.now }
-    {
-        let _ = &self.pairs; // for the proof: what values keep
-    }
 }

@@ -43,7 +43,7 @@ gcd_small (suc a) b g n is a_small b_small =
     omega (arith, le, a_small)
 
 -- a column below one, or the first that is read
-pub split : (c floor col : ℕ) → c < col + 1 → (c < floor) ⊎ (((floor ≤ c) × (c < col)) ⊎ (c ≡ col))
+split : (c floor col : ℕ) → c < col + 1 → (c < floor) ⊎ (((floor ≤ c) × (c < col)) ⊎ (c ≡ col))
 split c floor col less =
     elim (cases_lt c floor) [
       | inl below ↦ inl below

@@ -1,4 +1,3 @@
-pub mod Noted
 pub mod Dividing
 pub mod Divisors
 pub mod Lowest

@@ -2,8 +2,6 @@
 use Rattle.std.proofs.Common.{Ordering, Result, Ok, Err, IfSome, IfNone, ◌≡◌, ◌≢◌, ℕ, zero, suc, ◌+◌, ◌-◌, ◌<◌, ◌≤◌, ◌++◌, length, take, get_or, true, false, nat_eq, List, [], ◌∷◌, ℤ, pos, sym, refl, subst, ap, ◌∙◌, arith, ◌⊎◌, inl, inr, All}
 use Rattle.std.proofs.lemmas.Bool.Decides.{nat_tests}
 use Rattle.std.proofs.lemmas.Bool.{cases_order, cases_lt}
-use Rattle.std.proofs.lemmas.List.{take_more, get_or_default, get_or-take, length-take-le}
-use Rattle.std.proofs.lemmas.List.Quantifiers.{all_pairs_push}
 use borrow.Author.Differences.{ints}
 use Rattle.std.specs.Result.{result_ok}
 use Rattle.std.specs.List.{HoldsAt}
@@ -77,28 +75,6 @@ of_coefficients P none (x ∷ row) rising all c =
           let whole : coefficient c row ≡ coefficient c (x ∷ row) = omega (arith, ints, at-elsewhere c x elsewhere) in
           subst P whole (of_coefficients P none row (rising_tail x row rising) (all_tail (λ t. P t.by) x row all) c)
     ]
-
-below_last : (row : List Term) (k m : ℕ) (d : Term) (left right : ℕ) → k ≤ m → m < length row → (get_or row m d).col ≡ left → left < right → IsRising row → (get_or row k d).col < right
-below_last row k m d left right le within last less rising =
-    elim (cases_lt k m) [
-      | inl before ↦
-          let step : (get_or row k d).col < (get_or row m d).col = rising k m d before within in
-          omega (arith, step, last, less)
-      | inr ge ↦
-          let same : k ≡ m = omega (arith, le, ge) in
-          rw same (omega (arith, last, less))
-    ]
-
--- the first terms and one more
-pub rising_more : (row : List Term) (i : ℕ) (left right : Term) → 1 ≤ i → i < length row → left ≡ get_or row (i - 1) left → right ≡ get_or row i right → left.col < right.col → IsRising (take i row) → IsRising (take (i + 1) row)
-rising_more row i left right some within left_is right_is less rising =
-    let size : length (take i row) ≡ i = length-take-le i row (omega (arith, within)) in
-    let next : take (i + 1) row ≡ take i row ++ right ∷ [] = take_more row i right within ∙ ap (λ (x : Term). take i row ++ x ∷ []) (sym right_is) in
-    let last : (d : Term) → (get_or (take i row) (i - 1) d).col ≡ left.col =
-    λ d. ap (λ (t : Term). t.col) (get_or-take i row (i - 1) d (omega (arith, some)) ∙ get_or_default row (i - 1) d left (omega (arith, within)) ∙ sym left_is) in
-    let below : (k : ℕ) (d : Term) → k < length (take i row) → (get_or (take i row) k d).col < right.col =
-    λ k d inside. below_last (take i row) k (i - 1) d left.col right.col (omega (arith, inside, size)) (omega (arith, size, some)) (last d) less rising in
-    subst IsRising (sym next) (all_pairs_push (λ x y. x.col < y.col) (take i row) right rising below)
 
 comparisons_rise : (row : List Term) (q : ℕ) → IsRising row → IsNonDecreasingBy (λ t. ordering_index (nat_cmp t.col q)) row
 comparisons_rise row q rising i j d le within =

@@ -1,4 +1,3 @@
-pub mod Changes
 pub mod Combinations
 pub mod Rows
 pub mod Walks

@@ -13,18 +13,15 @@
 //! the pivot's own.
 //!
 //! To read: `entry` (columns and entries), `row` (rows and their combinations), `walk` (the columns of two
-//! rows from the lowest up), `divide` (the division of a sum by its divisor), `changes` (the columns by
-//! which two rows differ).
+//! rows from the lowest up), `divide` (the division of a sum by its divisor).
 //!
 //! Invariant: the columns of a row rise, its numbers are not 0, fit, and have no common divisor but 1.
 #![tactic(auto)]
 
-mod changes;
 mod divide;
 mod entry;
 mod row;
 mod walk;
 
-pub use changes::{ColumnChanges, column_changes};
 pub use entry::{Col, Entry, Factors, Patch, RowStop};
-pub use row::{IntRow, are_rising, combine, combine_but, combine_wide};
+pub use row::{IntRow, combine, combine_but, combine_wide};

@@ -1,5 +1,5 @@
 // Rows in lowest terms.
-ghost use Rattle.std.specs.Prelude.{◌≡◌, ℕ, List, IfOk, IfErr, IfSome, IfNone, IsTrue, ◌↔◌, ◌<◌, ◌≢◌, pos};
+ghost use Rattle.std.specs.Prelude.{◌≡◌, ℕ, List, IfOk, IfErr, IfSome, IfNone, IsTrue, ◌<◌, ◌≢◌, pos};
 ghost use Rattle.std.specs.Prelude.{neg_ℤ, [], ◌∷◌, length, All};
 ghost use Rattle.std.specs.List.{HoldsAt};
 ghost use Rattle.frac_core.specs.Fraction.{IsFitting};
@@ -31,19 +31,6 @@ impl Model for IntRow {
     ghost view = { λ row. row.entries.items };
 
     ghost invariant = { λ row. IsKeptRow row.entries.items };
-}
-
-/// Whether each column is below all later ones.
-pub fn are_rising(entries: &[Entry]) -> bool
-    ensures { IsTrue result ↔ IsRising entries.now }
-{
-    for i in 1..entries.len() {
-        let (left, right) = (entries[i - 1], entries[i]);
-        if left.col.0 >= right.col.0 {
-            return false;
-        }
-    }
-    true
 }
 
 // The row in lowest terms with the coefficients of the sum.

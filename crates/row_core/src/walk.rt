@@ -149,8 +149,8 @@ fn read_rows(r: &[Entry], p: &[Entry], at: Place, col: u64) -> RowsRead
     }
 }
 
-/// Reads the two rows at the lowest column that has not been read, unless there is none.
-pub(crate) fn next_of_rows(r: &[Entry], p: &[Entry], at: Place) -> Option<RowsRead>
+// Reads the two rows at the lowest column that has not been read, unless there is none.
+fn next_of_rows(r: &[Entry], p: &[Entry], at: Place) -> Option<RowsRead>
     requires r_rising { IsRising r.now }
     requires p_rising { IsRising p.now }
     requires left { at.left ≤ length r.now }

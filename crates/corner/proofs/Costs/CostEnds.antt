@@ -36,7 +36,7 @@ use Rattle.corner.specs.Kept.{AreSlots}
 use Rattle.frac_core.specs.Stops.{IsRefused}
 use Rattle.corner.specs.Additions.RowJoins.{AreAsBefore}
 use Rattle.corner.specs.Tables.{IsListedOf, marks_over, row_at}
-use Rattle.corner.specs.Additions.CostJoins.{IsCostJoined, IsJoinedCost, IsLineStop, IsNextListed}
+use Rattle.corner.specs.Additions.CostJoins.{IsCostJoined, IsJoinedCost, IsLineCostStop, IsNextListed}
 use Rattle.corner.proofs.Costs.CostFits.{next_count}
 use Rattle.corner.proofs.Costs.CostKept.{cost_kept, cost_marks, next_within}
 use Rattle.corner_laws.proofs.LevelCosts.LevelLifts.{either-count as both-kept}
@@ -175,7 +175,7 @@ pub same_slots : (t u : Lists) (stop : TableStop) → AreSlots t → AreAsBefore
 same_slots t u (Refused quantity) slots same is = subst AreSlots (sym same) slots
 same_slots t u NoMemory slots same is = absurd is
 
-pub line_stop : (t u : Lists) (line : ℕ) (stop : TableStop) (result : RunStop) → IsJoinStop t line stop → AreAsBefore t u stop → IsPathStop u [] stop result → IsLineStop t line result
+pub line_stop : (t u : Lists) (line : ℕ) (stop : TableStop) (result : RunStop) → IsJoinStop t line stop → AreAsBefore t u stop → IsPathStop u [] stop result → IsLineCostStop t line result
 line_stop t u line stop (Conflict by) h same path = absurd path
 line_stop t u line stop (Spent p) h same path = absurd path
 line_stop t u line stop OutOfMemory h same path = tt

@@ -38,7 +38,7 @@ use Rattle.corner.specs.declared.table.Owner.TheVariants.{Line as LineSlot}
 use Rattle.corner.specs.Kept.{IsKept}
 use Rattle.corner.proofs.Attributes.AttrJoins.{nowhere}
 use Rattle.corner.specs.Additions.Parts.{IsPartlyKept}
-use Rattle.corner.specs.Additions.CostJoins.{AreCostsJoined, AreToJoin, IsCostJoined, IsCostsStop, IsJoining, IsLineListed, IsLineStop, IsNextListed, home_at, with_cost}
+use Rattle.corner.specs.Additions.CostJoins.{AreCostsJoined, AreToJoin, IsCostJoined, IsCostsStop, IsJoining, IsLineListed, IsLineCostStop, IsNextListed, home_at, with_cost}
 use Rattle.corner.proofs.Readings.MarkingFacts.{marks_inside, append_more}
 use Rattle.corner.proofs.Readings.SlotFacts.{named_slot}
 use Rattle.corner.proofs.Additions.PartFacts.{part_kept}
@@ -181,7 +181,7 @@ all_kept t done kept h =
 
 -- where one of them stops
 pub costs_stop : (t0 t : Lists) (first done : List Row) (r : Row) (rest rows : List Row) (listed old : List ℕ) (stop : RunStop) → rows ≡ done ++ (r ∷ rest) → IsPartlyKept t → AreToJoin t (first ++ done) (r ∷ rest) → AreCostsJoined done t0 listed t old
-    → IsLineStop t (line_slot t (Held r.id)) stop → IsCostsStop t0 first rows stop
+    → IsLineCostStop t (line_slot t (Held r.id)) stop → IsCostsStop t0 first rows stop
 costs_stop t0 t first done r rest rows listed old (Conflict by) parts kept h same stop = absurd stop
 costs_stop t0 t first done r rest rows listed old (Spent path) parts kept h same stop = absurd stop
 costs_stop t0 t first done r rest rows listed old OutOfMemory parts kept h same stop = tt
@@ -235,10 +235,10 @@ step_kept t u first rows i r line kept lt e at c h =
     cost_joined_kept t u r line kept (joins_at t (first ++ take i rows) r (drop (i + 1) rows) line at here) c
 
 pub step_stop : (t0 t : Lists) (first rows : List Row) (i : ℕ) (r : Row) (line : ℕ) (listed old : List ℕ) (stop : RunStop) → IsPartlyKept t → i < length rows → r ≡ slice_index_or rows i r → line ≡ line_slot t (Held r.id) → AreToJoin t (first ++ take i rows) (drop i rows)
-    → AreCostsJoined (take i rows) t0 listed t old → IsLineStop t line stop → IsCostsStop t0 first rows stop
+    → AreCostsJoined (take i rows) t0 listed t old → IsLineCostStop t line stop → IsCostsStop t0 first rows stop
 step_stop t0 t first rows i r line listed old stop kept lt e at h same is =
     costs_stop t0 t first (take i rows) r (drop (i + 1) rows) rows listed old stop (sym (ap (λ (xs : List Row). take i rows ++ xs) (sym (this_row rows i r lt e)) ∙ take_drop rows i)) kept (here_joins t first rows i r lt e h) same
-    (subst (λ (w : ℕ). IsLineStop t w stop) at is)
+    (subst (λ (w : ℕ). IsLineCostStop t w stop) at is)
 
 pub last_kept : (t : Lists) (first rows : List Row) (i : ℕ) → IsPartlyKept t → length rows ≤ i → AreToJoin t (first ++ take i rows) (drop i rows) → IsKept t
 last_kept t first rows i kept le h = all_kept t (first ++ take i rows) kept (subst (AreToJoin t (first ++ take i rows)) (none-left rows i le) h)

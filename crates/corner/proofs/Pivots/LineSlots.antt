@@ -32,7 +32,7 @@ use Rattle.corner.specs.Tables.{Lists, attr_slot, entry, line_slot, marks_at, nu
 use Rattle.corner.specs.Kept.{IsEquationAt, IsKept, IsLineRow, IsOwned, IsSlot, IsStayOwner}
 use Rattle.corner.specs.Views.{IsNamed}
 use Rattle.corner.proofs.Readings.FreeSlots.{not_free}
-use Rattle.corner.specs.Swaps.Exchanges.{AreOutsideAfter, IsChangeOf, IsEntering, IsEquationBy, IsOutsideAfter, IsOutsideSlot, IsOwnerRow, IsPair, IsWhat, IsWhatAt, marks_after, moved, moved_by, row_number, IsPivotAt, IsValueAfter, signed}
+use Rattle.corner.specs.Swaps.Exchanges.{AreOutsideAfter, IsChangeOf, IsEntering, IsEquationBy, IsOutsideAfter, IsOutsideSlot, IsOwnerRow, IsPair, IsWhatOf, IsWhatAt, marks_after, moved, moved_by, row_number, IsPivotAt, IsValueAfter, signed}
 use Rattle.corner.proofs.Readings.SlotFacts.{any_is, named_slot}
 use Rattle.corner.proofs.Readings.MarkFacts.{same_mark, stands_inside}
 use Rattle.corner.proofs.Readings.ReadFacts.{attr_equation, inside_equation}
@@ -132,7 +132,7 @@ line-moving t pair s w name side kept are slot nl apart owner inside =
       unfit = λ h. (there, mark_has_none (problem_of t) (marks_after t s) name side kept.whole (pair_exchange t pair s kept are).corner there h);
     }
 
-moving-what : (t : Lists) (pair : Pair) (s : Swap) (w : ℕ) (what : What) (o : Owner) (i : Option Side) → IsKept t → IsPair t pair s → IsSlot t w → w ≢ pair.leave → IsNoOutside t w → (slot_at t w).owner ≡ o → (standing_at t w).side ≡ i → IsWhat o i what
+moving-what : (t : Lists) (pair : Pair) (s : Swap) (w : ℕ) (what : What) (o : Owner) (i : Option Side) → IsKept t → IsPair t pair s → IsSlot t w → w ≢ pair.leave → IsNoOutside t w → (slot_at t w).owner ≡ o → (standing_at t w).side ≡ i → IsWhatOf o i what
     → HasMoving t pair s w what
 moving-what t pair s w what LevelSlot i kept are slot nl apart owner inside is = absurd is
 moving-what t pair s w what (AttrSlot attr) i kept are slot nl apart owner inside is = subst (HasMoving t pair s w) (sym is) (attr-moving t pair s w attr kept are slot nl apart owner)
@@ -156,7 +156,7 @@ what_there t w c what side kept slot some inside attr line =
         → ((r : Side) → (standing_at t w).side ≡ Some r → side ≡ r)
         → ((attr : ℕ) → (slot_at t w).owner ≡ AttrSlot attr → what ≡ AttrOf attr)
         → ((name : RowName) → (slot_at t w).owner ≡ LineSlot name → what ≡ MarkOf (record { row = name; side = side }))
-        → IsWhat o i what
+        → IsWhatOf o i what
     there LevelSlot i owned owner e apart inside attr line = absurd (owned owner)
     there (AttrSlot a) i owned owner e apart inside attr line = attr a owner
     there (LineSlot name) None owned owner e apart inside attr line = absurd (apart (slot, e, (name, owner)))

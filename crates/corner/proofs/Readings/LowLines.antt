@@ -14,7 +14,7 @@ use Rattle.corner.specs.Views.{IsNamed}
 use Rattle.corner.specs.Tables.{AreMoved, Lists, entry, line_slot, marks_at, problem_of, slot_at, standing_at}
 use Rattle.corner.specs.Invariants.{name_of}
 use Rattle.corner.specs.Kept.{IsKept, IsOwned, IsSlot}
-use Rattle.corner.specs.Reads.Lows.{IsListedIfLow, IsLowSlot, IsSide, ListsLow, ListsSlot, ListsSlots, name_at}
+use Rattle.corner.specs.Reads.Lows.{IsListedIfLow, IsLowSlot, HasSide, ListsLow, ListsSlot, ListsSlots, name_at}
 use Rattle.corner.proofs.Attributes.AttrLevels.{stay_named}
 use Rattle.corner.proofs.Readings.FreeSlots.{not_free}
 use Rattle.corner.proofs.Readings.MarkFacts.{inside_stands}
@@ -93,7 +93,7 @@ line_name t m kept i = ap name_of (line_owner t m.row kept.slots (mark_named (pr
 if_low : (t : Lists) (m : Mark) (new : List RowName) → IsKept t → IsIn (place m) (marks_at t) → (IsLowSlot t (line_slot t m.row) → Contains new (name_at t (line_slot t m.row))) → IsListedIfLow (problem_of t) (marks_at t) new m
 if_low t m new kept i h = elim (up_or_low (standing_at t (line_slot t m.row)).value.num) [
   | inl up ↦ inr ((standing_at t (line_slot t m.row)).value, (inside_equation t m kept (in_mark t m kept i) (inside_stands t m i)).2.den_positive, value_inside t m kept (in_mark t m kept i) (inside_stands t m i), up)
-  | inr low ↦ inl (subst (Contains new) (line_name t m kept i) (h (subst IsSide (sym (inside_side t m i)) tt, low)))
+  | inr low ↦ inl (subst (Contains new) (line_name t m kept i) (h (subst HasSide (sym (inside_side t m i)) tt, low)))
 ]
 
 abbrev row_of : RowName → What → RowName

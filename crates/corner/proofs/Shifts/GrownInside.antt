@@ -27,7 +27,7 @@ use Rattle.corner.specs.Swaps.Exchanges.{with_value}
 use Rattle.corner.specs.Additions.Joining.{at_zero}
 use Rattle.corner.specs.Kept.{AreSlots, IsKept, IsLineSlot, IsSlot, home_of}
 use Rattle.corner.specs.Reads.LevelNumbers.{IsSlotOfLine, count_of, unit_at}
-use Rattle.corner.specs.Shifts.Shifting.{AreGrown, HaveGrown, IsGrowStop, IsGrowth, IsGrown, IsLineStop, IsThere, growth_at, growth_by, home_growth, inside_growth, mark_growth, with_standings}
+use Rattle.corner.specs.Shifts.Shifting.{AreGrown, HaveGrown, IsGrowStop, IsGrowth, IsGrown, IsGrownValueStop, IsThere, growth_at, growth_by, home_growth, inside_growth, mark_growth, with_standings}
 use Rattle.corner.specs.Tables.{Lists, line_slot, problem_of, slot_at, standing_at}
 use Rattle.corner.specs.Swaps.TurnedLevels.{IsTurn, counts_at}
 use Rattle.corner.specs.Views.{IsNamed}
@@ -290,7 +290,7 @@ some-unfit : (a t : Fraction) (by : Growth) → fractions.IsKept a → IsUnfitRa
 some-unfit a t by kept unfit none = unfit a kept.lowest (nothing-added a t by.n by.d (inl none)) kept.fits
 
 pub home_stop : (t : Lists) (line : ℕ) (side : Side) (more : Fraction) (stop : TableStop) → IsKept t → IsSlot t line → (standing_at t line).side ≡ Some side → (slot_at t line).home < LEVELS
-    → IsGrowStop t (slot_at t line).home (home_growth t line side) more stop → IsLineStop t line more stop
+    → IsGrowStop t (slot_at t line).home (home_growth t line side) more stop → IsGrownValueStop t line more stop
 home_stop t line side more NoMemory kept slot inside low stop = tt
 home_stop t line side more (Refused quantity) kept slot inside low (what, there, names, unfit) =
     let home : ℕ = (slot_at t line).home in
@@ -306,7 +306,7 @@ home_stop t line side more (Refused quantity) kept slot inside low (what, there,
     )
 
 pub mark_stop : (t u : Lists) (line : ℕ) (side : Side) (more : Fraction) (stop : TableStop) → IsKept t → IsSlot t line → (standing_at t line).side ≡ Some side → (slot_at t line).home < LEVELS
-    → IsGrown t (slot_at t line).home (home_growth t line side) more u → IsGrowStop u line (mark_growth side) more stop → IsLineStop t line more stop
+    → IsGrown t (slot_at t line).home (home_growth t line side) more u → IsGrowStop u line (mark_growth side) more stop → IsGrownValueStop t line more stop
 mark_stop t u line side more NoMemory kept slot inside low grown stop = tt
 mark_stop t u line side more (Refused quantity) kept slot inside low (cost, cost-kept, cost-is, first) (what, there, names, unfit) =
     let high : LEVELS ≤ line = slot.0 in

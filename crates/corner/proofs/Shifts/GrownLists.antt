@@ -19,10 +19,10 @@ use Rattle.corner.specs.declared.shifting.Growth.{Growth}
 use Rattle.corner.specs.declared.table.Owner.{Owner}
 use Rattle.corner.specs.declared.table.Owner.TheVariants.{Level as LevelSlot, Attr as AttrSlot, Line as LineSlot}
 use Rattle.corner.specs.declared.table.Standing.{Standing}
-use Rattle.corner.specs.Swaps.Exchanges.{IsWhat}
+use Rattle.corner.specs.Swaps.Exchanges.{IsWhatOf}
 use Rattle.corner.specs.Kept.{AreSlots, IsKept}
 use Rattle.corner.specs.Additions.Joining.{at_zero}
-use Rattle.corner.specs.Shifts.Shifting.{CanGrow, HaveGrown, IsGrowStop, IsGrowth, IsGrown, IsLineStop, IsThere, growth_at, growth_by, outside_growth, sign_at, sign_there, with_standings}
+use Rattle.corner.specs.Shifts.Shifting.{CanGrow, HaveGrown, IsGrowStop, IsGrowth, IsGrown, IsGrownValueStop, IsThere, growth_at, growth_by, outside_growth, sign_at, sign_there, with_standings}
 use Rattle.corner.specs.Tables.{IsSign, Lists, entry, slot_at, standing_at}
 use Rattle.corner.proofs.Shifts.GrownSlots.{can_grow}
 use Rattle.corner.proofs.Basics.ListFacts.{further}
@@ -234,17 +234,17 @@ column_within n w t slots h all within is = let lt = all n 0 within in omega (ar
 
 -- where sides are as before, the same is at the slot
 pub there_before : (t : Lists) (standings : List Standing) (w : ℕ) (what : What) → (slice_index_or standings w at_zero).side ≡ (standing_at t w).side → IsThere (with_standings standings t) w what → IsThere t w what
-there_before t standings w what e is = (is.0, λ high. subst (λ (i : Option Side). IsWhat (slot_at t w).owner i what) e (is.1 high))
+there_before t standings w what e is = (is.0, λ high. subst (λ (i : Option Side). IsWhatOf (slot_at t w).owner i what) e (is.1 high))
 
 pub there_after : (t : Lists) (standings : List Standing) (w : ℕ) (what : What) → (slice_index_or standings w at_zero).side ≡ (standing_at t w).side → IsThere t w what → IsThere (with_standings standings t) w what
-there_after t standings w what e is = (is.0, λ high. subst (λ (i : Option Side). IsWhat (slot_at t w).owner i what) (sym e) (is.1 high))
+there_after t standings w what e is = (is.0, λ high. subst (λ (i : Option Side). IsWhatOf (slot_at t w).owner i what) (sym e) (is.1 high))
 
 pub grows_after : (t : Lists) (standings : List Standing) (w : ℕ) → (slice_index_or standings w at_zero).side ≡ (standing_at t w).side → CanGrow t w → CanGrow (with_standings standings t) w
 grows_after t standings w e h = record { fits = h.fits; above = h.above; what = h.what; there = there_after t standings w h.what e h.there }
 
 -- the next slot's stop
 pub next_stop : (n w : ℕ) (t : Lists) (line : ℕ) (more : Fraction) (slots : List ℕ) (u : Lists) (stop : TableStop) → IsKept t → (standing_at t line).side ≡ None → IsColumnOf t.matrix line slots
-    → n < length slots → w ≡ slice_index_or slots n 0 → w < length t.slots → AreFirstGrown n t line more slots u → IsGrowStop u w (outside_growth u line w) more stop → IsLineStop t line more stop
+    → n < length slots → w ≡ slice_index_or slots n 0 → w < length t.slots → AreFirstGrown n t line more slots u → IsGrowStop u w (outside_growth u line w) more stop → IsGrownValueStop t line more stop
 next_stop n w t line more slots u NoMemory kept outside column within is below h stop = tt
 next_stop n w t line more slots u (Refused quantity) kept outside column within is below h (what, there, names, unfit) = (
   w,

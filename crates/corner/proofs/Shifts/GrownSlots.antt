@@ -16,7 +16,7 @@ use Rattle.corner.specs.declared.shifting.Growth.{Growth}
 use Rattle.corner.specs.declared.table.Owner.{Owner}
 use Rattle.corner.specs.declared.table.Owner.TheVariants.{Level as LevelSlot, Attr as AttrSlot, Line as LineSlot}
 use Rattle.corner.specs.declared.table.TheConstants.{LEVELS}
-use Rattle.corner.specs.Swaps.Exchanges.{IsWhat, IsWhatAt}
+use Rattle.corner.specs.Swaps.Exchanges.{IsWhatOf, IsWhatAt}
 use Rattle.corner.specs.Kept.{AreSlots, IsAttrRow, IsKept, IsLineRow, IsOwned, IsSlot, level_own}
 use Rattle.corner.specs.Shifts.Shifting.{CanGrow, IsThere, over_at, sign_at, sign_there}
 use Rattle.corner.specs.Tables.{Lists, attr_slot, entry, line_slot, priority_at, problem_of, sign_of_what, slot_at, standing_at}
@@ -34,7 +34,7 @@ use Rattle.corner.proofs.Readings.SlotFacts.{any_is}
 
 -- ---- what is at the slot
 
-sign-there : (o : Owner) (i : Option Side) (what : What) → IsWhat o i what → sign_of_what what ≡ sign_there o i
+sign-there : (o : Owner) (i : Option Side) (what : What) → IsWhatOf o i what → sign_of_what what ≡ sign_there o i
 sign-there LevelSlot i what is = absurd is
 sign-there (AttrSlot attr) i what is = ap sign_of_what is
 sign-there (LineSlot name) None what is = absurd is
@@ -54,11 +54,11 @@ pub what_found : (t : Lists) (w : ℕ) (there what : What) (side : Side) → IsW
     → IsWhatAt t w what
 what_found t w there what side is inside attr line = found (slot_at t w).owner (standing_at t w).side is inside attr line
   where
-    found : (o : Owner) (i : Option Side) → IsWhat o i there
+    found : (o : Owner) (i : Option Side) → IsWhatOf o i there
         → ((r : Side) → i ≡ Some r → side ≡ r)
         → ((attr : ℕ) → o ≡ AttrSlot attr → what ≡ AttrOf attr)
         → ((name : RowName) → o ≡ LineSlot name → what ≡ MarkOf (record { row = name; side = side }))
-        → IsWhat o i what
+        → IsWhatOf o i what
     found LevelSlot i is inside attr line = absurd is
     found (AttrSlot a) i is inside attr line = attr a refl
     found (LineSlot name) None is inside attr line = absurd is
@@ -68,7 +68,7 @@ what_found t w there what side is inside attr line = found (slot_at t w).owner (
 pub mark_found : (t : Lists) (w : ℕ) (name : RowName) (side : Side) (what : What) → (slot_at t w).owner ≡ LineSlot name → (standing_at t w).side ≡ Some side
     → what ≡ MarkOf (record { row = name; side = side }) → IsWhatAt t w what
 mark_found t w name side what owner inside is =
-    subst (λ (o : Owner). IsWhat o (standing_at t w).side what) (sym owner) (subst (λ (i : Option Side). IsWhat (LineSlot name) i what) (sym inside) is)
+    subst (λ (o : Owner). IsWhatOf o (standing_at t w).side what) (sym owner) (subst (λ (i : Option Side). IsWhatOf (LineSlot name) i what) (sym inside) is)
 
 pub there_above : (t : Lists) (w : ℕ) (what : What) → LEVELS ≤ w → IsWhatAt t w what → IsThere t w what
 there_above t w what high is = ((λ low. absurd (omega (arith, low, high))), (λ h. is))
@@ -155,7 +155,7 @@ line-own t w name side kept owner inside =
 owner-grows : (t : Lists) (w : ℕ) (o : Owner) (i : Option Side) → IsKept t → IsSlot t w → IsNoOutside t w → ((slot_at t w).owner ≡ LevelSlot → ⊥) → IsOwned t w o → (slot_at t w).owner ≡ o → (standing_at t w).side ≡ i → CanGrow t w
 owner-grows t w LevelSlot i kept slot apart some owned owner inside = absurd (some owner)
 owner-grows t w (AttrSlot attr) i kept slot apart some owned owner inside =
-    slot-grows t w (AttrOf attr) kept slot.0 (attr-own t w attr kept owned.0 owned.1) (subst (λ (o : Owner). IsWhat o (standing_at t w).side (AttrOf attr)) (sym owner) refl)
+    slot-grows t w (AttrOf attr) kept slot.0 (attr-own t w attr kept owned.0 owned.1) (subst (λ (o : Owner). IsWhatOf o (standing_at t w).side (AttrOf attr)) (sym owner) refl)
 owner-grows t w (LineSlot name) None kept slot apart some owned owner inside = absurd (apart (slot, inside, (name, owner)))
 owner-grows t w (LineSlot name) (Some side) kept slot apart some owned owner inside =
     slot-grows t w (MarkOf (record { row = name; side = side })) kept slot.0 (line-own t w name side kept owner inside)

@@ -36,7 +36,7 @@ use Rattle.corner.specs.declared.table.TheConstants.{LEVELS}
 use Rattle.corner.specs.Tables.{Lists, attr_slot, entry, is_side, line_slot, marks_at, number, problem_of, row_at, slot_at, standing_at, stands_in}
 use Rattle.corner.specs.Kept.{IsAttrRow, IsAttrSlot, IsKept, IsLineRow, IsOwned}
 use Rattle.corner.specs.Changes.{IsUnfitStop}
-use Rattle.corner.specs.Swaps.Exchanges.{IsWhat}
+use Rattle.corner.specs.Swaps.Exchanges.{IsWhatOf}
 use Rattle.corner.specs.Shifts.Shifting.{AreShifted, IsShiftStop, growth_at, mark_growth, sign_at, sign_there, with_shifted}
 use Rattle.corner.specs.Views.{IsNamed}
 use Rattle.corner.proofs.Readings.KeptFacts.{filter_same}
@@ -313,7 +313,7 @@ level_unfit t id from to more k h low some unfit =
       unfit_shifted_cost (problem_of t) (marks_at t) id from to more k l.unit l.own l.numbers.by (standing_at t k).value (shift_here t id from to more h) l.least l.numbers.row l.cost (level_unfit_growth t id from to more k h low some unfit),
     )
 
-slot-unfit : (t : Lists) (id : ℕ) (from to more : Fraction) (w : ℕ) (o : Owner) (i : Option Side) (what : What) → IsShiftOf t id from to more → IsOwned t w o → (standing_at t w).side ≡ i → IsWhat o i what → (growth_at t (line_slot t (Held id)) w).n ≢ pos 0 → IsUnfitGrowth t id w more
+slot-unfit : (t : Lists) (id : ℕ) (from to more : Fraction) (w : ℕ) (o : Owner) (i : Option Side) (what : What) → IsShiftOf t id from to more → IsOwned t w o → (standing_at t w).side ≡ i → IsWhatOf o i what → (growth_at t (line_slot t (Held id)) w).n ≢ pos 0 → IsUnfitGrowth t id w more
     → IsUnfitWhat (with_constant id to (problem_of t)) (marks_at t) what
 slot-unfit t id from to more w LevelSlot i what h owned e is some unfit = absurd is
 slot-unfit t id from to more w (AttrSlot attr) i what h owned e is some unfit =

@@ -265,13 +265,13 @@ IsCostsStop t first rows (Unfit at) =
     × IsUnfitRows (problem_of t) (marks_at t) (PriorityLevel r.rank) j))
 IsCostsStop t first rows OutOfMemory = Unit {0}
 
--- the same of one line
-abbrev pub IsLineStop : Lists → ℕ → RunStop → Type 0
-IsLineStop t line (Conflict by) = ⊥
-IsLineStop t line (Spent path) = ⊥
-IsLineStop t line (Unfit at) = (at.path ≡ record { dual = false; corner = marks_over t []; swaps = [] })
+-- the same, with the cost of the first rows of the line's level up to its own row
+abbrev pub IsLineCostStop : Lists → ℕ → RunStop → Type 0
+IsLineCostStop t line (Conflict by) = ⊥
+IsLineCostStop t line (Spent path) = ⊥
+IsLineCostStop t line (Unfit at) = (at.path ≡ record { dual = false; corner = marks_over t []; swaps = [] })
     × IsJoinStop t line (Refused at.quantity)
-IsLineStop t line OutOfMemory = Unit {0}
+IsLineCostStop t line OutOfMemory = Unit {0}
 
 -- the rows have joined the corner one by one, and then their levels
 pub record AreAllJoined (rows : List Row) (t : Lists) (old : List ℕ) (u : Lists) (new : List ℕ) : Type 0 where

@@ -34,13 +34,13 @@ pub record ListsLow (p : Problem) (at : List Mark) (row : RowName) (old new : Li
 -- ---- by slots
 
 -- there is a side
-abbrev pub IsSide : Option Side → Type 0
-IsSide None = ⊥
-IsSide (Some side) = Unit {0}
+abbrev pub HasSide : Option Side → Type 0
+HasSide None = ⊥
+HasSide (Some side) = Unit {0}
 
 -- the slot has an inside mark, whose value is negative
 abbrev pub IsLowSlot : Lists → ℕ → Type 0
-IsLowSlot t w = IsSide (standing_at t w).side × ((standing_at t w).value.num <ℤ pos 0)
+IsLowSlot t w = HasSide (standing_at t w).side × ((standing_at t w).value.num <ℤ pos 0)
 
 -- the name of what the slot is of
 abbrev pub name_at : Lists → ℕ → RowName

@@ -152,12 +152,12 @@ abbrev pub HaveGrown : Lists → ℕ → Fraction → Lists → Type 0
 HaveGrown t line more new = AreGrown t line more new.standings × (new ≡ with_standings new.standings t)
 
 -- want of memory, or what a slot's value grows to does not fit
-abbrev pub IsLineStop : Lists → ℕ → Fraction → TableStop → Type 0
-IsLineStop t line more (Refused quantity) = (w : ℕ) × (what : What) × (w < length t.slots)
+abbrev pub IsGrownValueStop : Lists → ℕ → Fraction → TableStop → Type 0
+IsGrownValueStop t line more (Refused quantity) = (w : ℕ) × (what : What) × (w < length t.slots)
     × ((growth_at t line w).n ≢ pos 0) × IsThere t w what × (quantity ≡ Plain what)
     × IsUnfitRatio (sum_num (standing_at t w).value (growth_at t line w).n (growth_at t line w).d more)
     (sum_den (standing_at t w).value (growth_at t line w).d more)
-IsLineStop t line more NoMemory = Unit {0}
+IsGrownValueStop t line more NoMemory = Unit {0}
 
 -- ---- a row's constant
 
@@ -167,7 +167,7 @@ AreShifted t id more standings = AreGrown t (line_slot t (Held id)) more standin
 
 -- want of memory, or what a slot's value grows to with the row's constant doesn't fit
 abbrev pub IsShiftStop : Lists → ℕ → Fraction → TableStop → Type 0
-IsShiftStop t id more stop = IsLineStop t (line_slot t (Held id)) more stop
+IsShiftStop t id more stop = IsGrownValueStop t (line_slot t (Held id)) more stop
 
 -- the row at this place has another constant
 abbrev pub with_constant_at : Lists → ℕ → Row → Fraction → Lists

@@ -51,6 +51,10 @@ pub record IsPair (t : Lists) (pair : Pair) (s : Swap) : Type 0 where
   pub inside : (standing_at t pair.leave).side ≡ Some s.leave.side
   pub stands : entry t pair.leave pair.enter ≢ pos 0
 
+-- there is an exchange of these slots
+abbrev pub CanExchange : Lists → Pair → Type 0
+CanExchange t pair = (s : Swap) × IsPair t pair s
+
 -- the marks inside after the exchange
 abbrev pub marks_after : Lists → Swap → List Mark
 marks_after t s = exchanged s (marks_at t)
@@ -141,16 +145,24 @@ pub record IsPivotAt (t : Lists) (pivot : Pivot) (s : Swap) : Type 0 where
   pub lowest : IsLowest pivot.value
   pub room : IsStayOwner (slot_at t pivot.pair.enter).owner → IsFitting (pos 2 *ℤ pivot.by)
 
+-- there is an exchange with this pivot
+abbrev pub CanPivot : Lists → Pivot → Type 0
+CanPivot t pivot = (s : Swap) × IsPivotAt t pivot s
+
+-- the level of a priority, whose cost has rows
+abbrev pub IsCostedLevel : Lists → ℕ → Type 0
+IsCostedLevel t l = (l < LEVELS) × ((priority_at t l).rows ≢ 0)
+
 -- what a slot is of: an attribute, or an inside line's mark
-abbrev pub IsWhat : Owner → Option Side → What → Type 0
-IsWhat LevelSlot side what = ⊥
-IsWhat (AttrSlot attr) side what = what ≡ AttrOf attr
-IsWhat (LineSlot name) None what = ⊥
-IsWhat (LineSlot name) (Some side) what = what ≡ MarkOf (record { row = name; side = side })
+abbrev pub IsWhatOf : Owner → Option Side → What → Type 0
+IsWhatOf LevelSlot side what = ⊥
+IsWhatOf (AttrSlot attr) side what = what ≡ AttrOf attr
+IsWhatOf (LineSlot name) None what = ⊥
+IsWhatOf (LineSlot name) (Some side) what = what ≡ MarkOf (record { row = name; side = side })
 
 -- the slot w is of this: of an attribute, or of an inside line's mark
 abbrev pub IsWhatAt : Lists → ℕ → What → Type 0
-IsWhatAt t w what = IsWhat (slot_at t w).owner (standing_at t w).side what
+IsWhatAt t w what = IsWhatOf (slot_at t w).owner (standing_at t w).side what
 
 -- the coefficients of a slot's row in which the entering line is replaced by its own row
 abbrev pub moved : Lists → Pair → ℕ → ℕ → ℤ

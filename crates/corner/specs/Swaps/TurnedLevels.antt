@@ -41,6 +41,10 @@ pub record IsTurnedLevel (t : Lists) (line : ℕ) (s : Swap) (change : Change) :
   pub outside : (c : ℕ) → coefficient c change.row ≢ pos 0 → c ≢ change.at → IsOutsideSlot t c
   pub level_is : IsLevelBy t (marks_after t s) change.at change.row change.value
 
+-- the line's mark of this side can come in place of the other
+abbrev pub CanTurnTo : Lists → ℕ → Side → Type 0
+CanTurnTo t line side = (s : Swap) × IsTurn t line side s
+
 -- one of the line's marks is inside
 abbrev pub CanTurn : Lists → ℕ → Type 0
 CanTurn t line = (side : Side) × (s : Swap) × IsTurn t line side s
@@ -90,5 +94,5 @@ IsTurnStop t line side stop = (s : Swap) → IsTurn t line side s
     → IsUnfitStop (problem_of t) (marks_after t s) stop
 
 -- the same, whichever mark of the line enters
-abbrev pub IsLineStop : Lists → ℕ → TableStop → Type 0
-IsLineStop t line stop = (side : Side) → IsTurnStop t line side stop
+abbrev pub IsAnyTurnStop : Lists → ℕ → TableStop → Type 0
+IsAnyTurnStop t line stop = (side : Side) → IsTurnStop t line side stop

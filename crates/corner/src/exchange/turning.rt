@@ -3,7 +3,6 @@ ghost use Rattle.std.specs.Prelude.{◌≡◌, ◌<◌, length, pos, IfErr, IfOk
 ghost use Rattle.frac_core.specs.Fraction as fraction;
 ghost use Rattle.frac_core.specs.Fraction.{IsFitting};
 ghost use Rattle.row_core.specs.Rows.{IsKeptRow, IsReduced};
-ghost use Rattle.problem_core.specs.Corners.{Swap};
 ghost use Rattle.corner.specs.declared.table.TheConstants.{LEVELS};
 ghost use Rattle.corner.specs.Swaps.Exchanges as exchanges;
 ghost use Rattle.corner.specs.Swaps.Exchanges.{AreChangesIn};
@@ -13,7 +12,7 @@ ghost use Rattle.corner.specs.Tables as tables;
 ghost use Rattle.corner.specs.Swaps.NextLists.{AreMarksTurned};
 ghost use Rattle.corner.specs.Tables.{IsListedOf, lists_of};
 ghost use Rattle.corner.specs.Swaps.TurnedLevels as turned;
-ghost use Rattle.corner.specs.Swaps.TurnedLevels.{IsTurn, IsTurnBy, IsTurnStop, IsTurnedBy};
+ghost use Rattle.corner.specs.Swaps.TurnedLevels.{CanTurnTo, IsTurnBy, IsTurnStop, IsTurnedBy};
 
 use crate::exchange::{Change, named_row, named_sum, put_change, put_standing};
 use crate::levels::Pair;
@@ -44,7 +43,7 @@ fn counts_at(table: &Table, line: u32) -> i64
 // What the line counted in its level's row, less what it counts from now on.
 fn turning_at(table: &Table, line: u32, side: Side, count: i64) -> i64
     requires kept { IsKept (lists_of table.now) }
-    requires turn { (s : Swap) × IsTurn (lists_of table.now) line side s }
+    requires turn { CanTurnTo (lists_of table.now) line side }
     requires level { (tables.slot_at (lists_of table.now) line).home < LEVELS }
     requires count { count ≡ pos (turned.counts_at (lists_of table.now) line) }
     requires fits { IsFitting count }
@@ -63,7 +62,7 @@ fn turning_row(
     stop: TableStop,
 ) -> Result<IntRow, TableStop>
     requires kept { IsKept (lists_of table.now) }
-    requires turn { (s : Swap) × IsTurn (lists_of table.now) line side s }
+    requires turn { CanTurnTo (lists_of table.now) line side }
     requires level { (tables.slot_at (lists_of table.now) line).home < LEVELS }
     requires count { count ≡ pos (turned.counts_at (lists_of table.now) line) }
     requires fits { IsFitting count }
@@ -96,7 +95,7 @@ fn turning_cost(table: &Table, line: u32, count: i64, stop: TableStop) -> Result
     requires stop { turned.IsHomeStop (lists_of table.now) line stop }
     ensures ok { IfOk result (turned.IsTurnedValue (lists_of table.now) line) }
     ensures kept { IfOk result fraction.IsKept }
-    ensures stop { IfErr result (turned.IsLineStop (lists_of table.now) line) }
+    ensures stop { IfErr result (turned.IsAnyTurnStop (lists_of table.now) line) }
 {
     let home = slot_at(table, line).home;
     named_sum(
@@ -111,7 +110,7 @@ fn turning_cost(table: &Table, line: u32, count: i64, stop: TableStop) -> Result
 // The level of a line whose mark of this side comes in place of the other.
 fn turned_level(table: &Table, line: u32, side: Side) -> Result<Change, TableStop>
     requires kept { IsKept (lists_of table.now) }
-    requires turn { (s : Swap) × IsTurn (lists_of table.now) line side s }
+    requires turn { CanTurnTo (lists_of table.now) line side }
     requires level { (tables.slot_at (lists_of table.now) line).home < LEVELS }
     ensures ok { IfOk result (IsTurnedBy (lists_of table.now) line side) }
     ensures stop { IfErr result (IsTurnStop (lists_of table.now) line side) }
@@ -142,7 +141,7 @@ fn turned_level(table: &Table, line: u32, side: Side) -> Result<Change, TableSto
 /// The change of the level of a line that turns to this side, which a stay's needs not.
 pub(crate) fn turn_of(table: &Table, line: u32, side: Side) -> Result<Option<Change>, TableStop>
     requires kept { IsKept (lists_of table.now) }
-    requires turn { (s : Swap) × IsTurn (lists_of table.now) line side s }
+    requires turn { CanTurnTo (lists_of table.now) line side }
     ensures ok { IfOk result (IsTurnBy (lists_of table.now) line side) }
     ensures stop { IfErr result (IsTurnStop (lists_of table.now) line side) }
 {
@@ -197,7 +196,7 @@ pub(crate) fn put_turn(
     change: Option<Change>,
 ) -> Result<(), OutOfMemory>
     requires kept { IsKept (lists_of table.old) }
-    requires turn { (s : Swap) × IsTurn (lists_of table.old) line side s }
+    requires turn { CanTurnTo (lists_of table.old) line side }
     requires change { IsTurnBy (lists_of table.old) line side change }
     ensures lists { OnOk result (lists_of table.new
         ≡ exchanges.turned_lists (lists_of table.old) line side change) }

@@ -9,7 +9,7 @@ use Rattle.problem_core.specs.declared.parts.RowName.TheVariants.{Held, Stay as 
 use Rattle.corner_laws.specs.Examples.{over_stay, single, under_row}
 use Rattle.corner_lines.specs.Levels.LevelRows.{IsUnfitRow}
 use Rattle.corner_lines.specs.Levels.LevelCosts.{IsUnfitStep}
-use Rattle.corner_lines.specs.Fronts.{AreLevelRows, IsFrontOf, Rows}
+use Rattle.corner_lines.specs.Fronts.{AreLevelRows, IsFrontIn, Rows}
 
 -- the under mark of the stay
 abbrev pub under_stay : Mark
@@ -35,8 +35,8 @@ single_rows = record {
 -- the stay's over mark has a front below 0, its under mark has none
 abbrev pub SingleHasFront : Type 0
 SingleHasFront = AreLevelRows (single 2) below_two single_rows
-    × IsFrontOf (single 2) single_rows over_stay 0 (negsuc 0)
-    × ((level : ℕ) (front : ℤ) → IsFrontOf (single 2) single_rows under_stay level front → front <ℤ pos 0 → ⊥)
+    × IsFrontIn (single 2) single_rows over_stay 0 (negsuc 0)
+    × ((level : ℕ) (front : ℤ) → IsFrontIn (single 2) single_rows under_stay level front → front <ℤ pos 0 → ⊥)
 
 -- a row with a number 1 does not fit where its own number does not, and fits where that is 1
 abbrev pub SingleIsUnfit : Type 0

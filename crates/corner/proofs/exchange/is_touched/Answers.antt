@@ -10,10 +10,10 @@ use Rattle.corner.proofs.exchange.is_touched.Goals.{then-is_level, else-is_level
 use Rattle.frac_core.proofs.Bools.{not-both as not_both}
 use Rattle.corner.proofs.LevelFacts.LevelCounts.{home_has_rows as home_rows}
 
-pub returns-then-count_at-ne0-clause-rows : goal.returns-then-count_at-ne0-clause-rows
-returns-then-count_at-ne0-clause-rows c =
+pub returns-then-count_at-ne0-clause-level : goal.returns-then-count_at-ne0-clause-level
+returns-then-count_at-ne0-clause-level c =
     let lt : (slot_at (lists_of c.args.table.now) c.args.line).home < LEVELS = search rules in
-    λ e. home_rows (lists_of c.args.table.now) c.args.line c.requires.kept c.requires.line lt
+    λ e. (lt, home_rows (lists_of c.args.table.now) c.args.line c.requires.kept c.requires.line lt)
 
 pub returns-then-count_at-ne0-clause-untouched : goal.returns-then-count_at-ne0-clause-untouched
 returns-then-count_at-ne0-clause-untouched c = λ off.

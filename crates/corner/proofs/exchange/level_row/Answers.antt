@@ -87,7 +87,7 @@ returns-clause-stop c =
     (λ stop h s at. elim h [
       | inl e ↦ subst (λ (x : TableStop). IsUnfitStop (problem_of (lists_of c.args.table.now)) (marks_after (lists_of c.args.table.now) s) x) (sym e) tt
       | inr (e, made) ↦
-          row_stop t c.args.pivot.now c.args.l stop c.requires.kept c.requires.level c.requires.rows (e ∙ c.requires.stop)
+          row_stop t c.args.pivot.now c.args.l stop c.requires.kept c.requires.level.0 c.requires.level.1 (e ∙ c.requires.stop)
           (sum_unfit t c.args.pivot.now.pair c.args.l (factors c) (patch c) c.row-r.result.now c.row-p.result.now (numbers c)
           (err_of c.combine_but.result made.0 (λ (x : _). IsRefused x → IsUnfit (combination_but (factors c) c.row-r.result.now c.row-p.result.now (patch c))) made.1 c.combine_but.ensures.unfit made.2)) s at
     ])

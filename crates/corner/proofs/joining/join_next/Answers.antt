@@ -1,6 +1,6 @@
 use Rattle.cert_core.specs.declared.stops.RunStop.TheVariants.{OutOfMemory}
 use Rattle.corner.specs.Tables.{lists_of}
-use Rattle.corner.specs.Additions.CostJoins.{IsLineStop}
+use Rattle.corner.specs.Additions.CostJoins.{IsLineCostStop}
 use Rattle.corner.proofs.Costs.CostFound.{passed_on}
 use Rattle.corner.proofs.Costs.CostEnds.{cost_joined_kept, line_stop, row_listed, same_slots}
 use Rattle.corner.proofs.joining.join_next.Goals as goal
@@ -12,7 +12,7 @@ pub list_row-requires-clause-stored : goal.list_row-requires-clause-stored
 list_row-requires-clause-stored c = (cost_joined_kept (lists_of c.args.table.now) (lists_of c.join_cost.new.table) c.requires.joins.0 c.args.line c.requires.kept c.requires.joins.1 c.in-Ok-true.ensures.joined).stored
 
 pub returns-in_err-list_row-in-Ok-true-clause-stop : goal.returns-in_err-list_row-in-Ok-true-clause-stop
-returns-in_err-list_row-in-Ok-true-clause-stop c = passed_on c.from_residual.result OutOfMemory (IsLineStop (lists_of c.args.table.now) c.args.line) c.from_residual.ensures.1 tt
+returns-in_err-list_row-in-Ok-true-clause-stop c = passed_on c.from_residual.result OutOfMemory (IsLineCostStop (lists_of c.args.table.now) c.args.line) c.from_residual.ensures.1 tt
 
 pub added_stop-requires : goal.added_stop-requires
 added_stop-requires c = record { slots = same_slots (lists_of c.args.table.now) (lists_of c.join_cost.new.table) c.in-Err.stop c.requires.kept.slots c.in-Err.ensures.same }

@@ -19,13 +19,13 @@ overflow_mul-count c =
     product_fits c.leaving_count.result c.sign.result (pos (left_count (lists_of c.args.table.now) c.args.leaver)) (sign_of c.args.leaver.side) a b c.leaving_count.ensures.value c.sign.ensures.value
     (fitting_cost (pos (left_count (lists_of c.args.table.now) c.args.leaver) *ℤ sign_of c.args.leaver.side) (signed_cost (lists_of c.args.table.now) c.requires.leaver.0 c.args.leaver (record { kept = c.requires.kept; is = c.requires.leaver.1 })))
 
-pub left_factors-k-requires-clause-own : goal.left_factors-k-requires-clause-own
-left_factors-k-requires-clause-own c =
+pub common_factors-k-requires-clause-own : goal.common_factors-k-requires-clause-own
+common_factors-k-requires-clause-own c =
     let o : SFits w64 c.own_of-own.result = search rules in
     simp to_z-of_z (subst (λ (z : ℤ). pos 0 <ℤ z) (sym c.own_of-own.ensures.value) (level_above (lists_of c.args.table.now) c.requires.leaver.0 c.args.leaver (record { kept = c.requires.kept; is = c.requires.leaver.1 })))
 
-pub left_factors-k-requires-clause-line : goal.left_factors-k-requires-clause-line
-left_factors-k-requires-clause-line c =
+pub common_factors-k-requires-clause-other : goal.common_factors-k-requires-clause-other
+common_factors-k-requires-clause-other c =
     let o : SFits w64 c.own_of.result = search rules in
     simp to_z-of_z (subst (λ (z : ℤ). pos 0 <ℤ z) (sym c.own_of.ensures.value) (line_above (lists_of c.args.table.now) c.requires.leaver.0 c.args.leaver (record { kept = c.requires.kept; is = c.requires.leaver.1 })))
 
@@ -44,8 +44,8 @@ returns-clause-ok c =
     let l : SFits w64 c.own_of.result = search rules in
     let n : SFits w64 c.opposite.result = search rules in
     let t : SFits w64 c.times_of.result = search rules in
-    let k : SFits w128 c.left_factors-k.result.k = search rules in
-    let m : SFits w128 c.left_factors-k.result.n = search rules in
+    let k : SFits w128 c.common_factors-k.result.k = search rules in
+    let m : SFits w128 c.common_factors-k.result.n = search rules in
     let g : SFits w128 c.growth.result = search rules in
     let a : SFits w64 c.leaving_count.result = search rules in
     let b : SFits w64 c.sign.result = search rules in
@@ -55,14 +55,14 @@ returns-clause-ok c =
     (fitting_cost (pos (left_count (lists_of c.args.table.now) c.args.leaver) *ℤ sign_of c.args.leaver.side) (signed_cost (lists_of c.args.table.now) c.requires.leaver.0 c.args.leaver (record { kept = c.requires.kept; is = c.requires.leaver.1 })))) in
     let times = simp to_z-of_z at c.times_of.ensures.times in
     ok_implies c.named_row.result _ (IsLeftRow (lists_of c.args.table.now) c.args.leaver (unsigned_abs c.args.unit))
-    (λ row e. made_row (lists_of c.args.table.now) c.requires.leaver.0 c.args.leaver c.args.unit c.own_of-own.result c.own_of.result c.opposite.result c.times_of.result c.left_factors-k.result _ c.row-level.result.now c.row-line.result.now row (record { kept = c.requires.kept; is = c.requires.leaver.1 })
+    (λ row e. made_row (lists_of c.args.table.now) c.requires.leaver.0 c.args.leaver c.args.unit c.own_of-own.result c.own_of.result c.opposite.result c.times_of.result c.common_factors-k.result _ c.row-level.result.now c.row-line.result.now row (record { kept = c.requires.kept; is = c.requires.leaver.1 })
     (simp to_z-of_z at (ok_of c.combine_but.result row _ e c.combine_but.ensures.value))
     (record {
       left_unit = c.requires.unit;
       own_is = c.own_of-own.ensures.value;
       line_is = c.own_of.ensures.value;
       count_is = count;
-      factors = simp to_z-of_z at c.left_factors-k.ensures.factors;
+      factors = simp to_z-of_z at c.common_factors-k.ensures.share;
       size = times.0;
       times_is = times.1;
       times_above = times.2;
@@ -83,8 +83,8 @@ returns-clause-err c =
     let l : SFits w64 c.own_of.result = search rules in
     let n : SFits w64 c.opposite.result = search rules in
     let t : SFits w64 c.times_of.result = search rules in
-    let k : SFits w128 c.left_factors-k.result.k = search rules in
-    let m : SFits w128 c.left_factors-k.result.n = search rules in
+    let k : SFits w128 c.common_factors-k.result.k = search rules in
+    let m : SFits w128 c.common_factors-k.result.n = search rules in
     let g : SFits w128 c.growth.result = search rules in
     let a : SFits w64 c.leaving_count.result = search rules in
     let b : SFits w64 c.sign.result = search rules in
@@ -98,14 +98,14 @@ returns-clause-err c =
       | inl e ↦ inl e
       | inr (e, made) ↦ inr (
         e,
-        made_unfit (lists_of c.args.table.now) c.requires.leaver.0 c.args.leaver c.args.unit c.own_of-own.result c.own_of.result c.opposite.result c.times_of.result c.left_factors-k.result _ c.row-level.result.now c.row-line.result.now (record { kept = c.requires.kept; is = c.requires.leaver.1 })
+        made_unfit (lists_of c.args.table.now) c.requires.leaver.0 c.args.leaver c.args.unit c.own_of-own.result c.own_of.result c.opposite.result c.times_of.result c.common_factors-k.result _ c.row-level.result.now c.row-line.result.now (record { kept = c.requires.kept; is = c.requires.leaver.1 })
             (simp to_z-of_z at (err_of c.combine_but.result made.0 _ made.1 c.combine_but.ensures.unfit made.2))
             (record {
               left_unit = c.requires.unit;
               own_is = c.own_of-own.ensures.value;
               line_is = c.own_of.ensures.value;
               count_is = count;
-              factors = simp to_z-of_z at c.left_factors-k.ensures.factors;
+              factors = simp to_z-of_z at c.common_factors-k.ensures.share;
               size = times.0;
               times_is = times.1;
               times_above = times.2;

@@ -1,7 +1,7 @@
 use Rattle.std.proofs.Common.{rules, ◌∙◌, ap}
 use Rattle.std.proofs.lemmas.Result.{on_ok_weaker}
 use Rattle.corner.specs.declared.table.Slot.{Slot}
-use Rattle.corner.specs.Shifts.Shifting.{IsLineStop, home_growth}
+use Rattle.corner.specs.Shifts.Shifting.{IsGrownValueStop, home_growth}
 use Rattle.corner.specs.Tables.{lists_of}
 use Rattle.corner.proofs.Shifts.GrownInside.{both_grown, home_slot, home_slots, home_stop, line_owner, mark_stop}
 use Rattle.corner.proofs.shifting.grow_inside.Goals as goal
@@ -9,7 +9,7 @@ use Rattle.frac_core.proofs.Results.{err_implies as err_all}
 
 pub returns-in_err-grow_home-clause-stop : goal.returns-in_err-grow_home-clause-stop
 returns-in_err-grow_home-clause-stop c =
-    let stop : IsLineStop (lists_of c.args.table.now) c.args.line c.args.more c.in_err-grow_home.field-0.0 =
+    let stop : IsGrownValueStop (lists_of c.args.table.now) c.args.line c.args.more c.in_err-grow_home.field-0.0 =
     home_stop (lists_of c.args.table.now) c.args.line c.args.side c.args.more c.in_err-grow_home.field-0.0 c.requires.kept c.requires.slot c.requires.inside c.requires.level c.in_err-grow_home.ensures.stop in
     search rules
 
@@ -35,7 +35,7 @@ returns-clause-ok c =
 
 pub returns-clause-stop : goal.returns-clause-stop
 returns-clause-stop c =
-    err_all c.grow_mark.result _ (IsLineStop (lists_of c.args.table.now) c.args.line c.args.more)
+    err_all c.grow_mark.result _ (IsGrownValueStop (lists_of c.args.table.now) c.args.line c.args.more)
     (λ stop h. mark_stop (lists_of c.args.table.now) (lists_of c.grow_home.new.table) c.args.line c.args.side c.args.more stop c.requires.kept c.requires.slot c.requires.inside c.requires.level
     c.in_ok-grow_home.ensures.ok h)
     c.grow_mark.ensures.stop

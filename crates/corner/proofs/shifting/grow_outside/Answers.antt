@@ -1,5 +1,5 @@
 use Rattle.std.proofs.Common.{rules, ◌≡◌, ◌∙◌, ◌<◌, ◌≤◌, ℕ, ◌+◌, List, length, refl, ap, subst, arith, slice_index_or}
-use Rattle.corner.specs.Shifts.Shifting.{IsLineStop}
+use Rattle.corner.specs.Shifts.Shifting.{IsGrownValueStop}
 use Rattle.corner.specs.Tables.{lists_of}
 use Rattle.corner.proofs.Shifts.GrownLists.{AreFirstGrown, all_grown, column_now, column_within, first_slots, next_grown, next_grows, next_stop, none_grown, one_column}
 use Rattle.corner.proofs.shifting.grow_outside.Goals as goal
@@ -34,7 +34,7 @@ returns-in_err-grow_slot-clause-stop c =
     let lt : c.loop-i.i < length c.column-count.result.now = search rules in
     let h = (c.loop-i.invariant.grown c.column-count.result.now c.column-count.ensures.value).1 in
     let is = column_now c.loop-i.i t (lists_of c.loop-i.table) c.args.line c.args.more c.column-count.result.now c.column.result.now c.column-count.ensures.value c.column.ensures.value h in
-    let stop : IsLineStop (lists_of c.args.table.now) c.args.line c.args.more c.in_err-grow_slot.field-0.0 =
+    let stop : IsGrownValueStop (lists_of c.args.table.now) c.args.line c.args.more c.in_err-grow_slot.field-0.0 =
     next_stop c.loop-i.i (slice_index_or c.column.result.now c.loop-i.i 0) t c.args.line c.args.more c.column-count.result.now (lists_of c.loop-i.table) c.in_err-grow_slot.field-0.0 c.requires.kept c.requires.outside c.column-count.ensures.value lt is
     (column_within c.loop-i.i (slice_index_or c.column.result.now c.loop-i.i 0) t c.column-count.result.now c.requires.kept.slots c.column-count.ensures.slots lt is) h c.in_err-grow_slot.ensures.stop in
     search rules

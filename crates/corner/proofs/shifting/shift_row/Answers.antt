@@ -5,7 +5,7 @@ use Rattle.problem_core.specs.declared.parts.RowName.TheVariants.{Held}
 use Rattle.problem_core.specs.Layout.{Row}
 use Rattle.corner.specs.declared.table.TheConstants.{LEVELS}
 use Rattle.corner.specs.Reads.LevelNumbers.{IsSlotOfLine}
-use Rattle.corner.specs.Shifts.Shifting.{HaveGrown, IsLineStop, IsShiftedStop}
+use Rattle.corner.specs.Shifts.Shifting.{HaveGrown, IsGrownValueStop, IsShiftedStop}
 use Rattle.corner.specs.Tables.{lists_of, problem_of, slot_at}
 use Rattle.corner.proofs.Shifts.GrownInside.{held_named, home_low}
 use Rattle.corner.proofs.Shifts.GrownRows.{shift_there, shifted}
@@ -38,7 +38,7 @@ returns-in_err-grow_line-clause-stop c =
       c.difference-more.result,
       shift.1,
       c.difference-more.ensures.kept,
-      subst (λ (w : ℕ). IsLineStop (lists_of c.args.table.now) w c.difference-more.result c.in_err-grow_line.field-0.0) c.line_slot-line.ensures.value c.in_err-grow_line.ensures.stop,
+      subst (λ (w : ℕ). IsGrownValueStop (lists_of c.args.table.now) w c.difference-more.result c.in_err-grow_line.field-0.0) c.line_slot-line.ensures.value c.in_err-grow_line.ensures.stop,
     ) in
     search rules
 

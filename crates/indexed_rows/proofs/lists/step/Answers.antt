@@ -1,6 +1,7 @@
 use Rattle.std.proofs.Common.{◌≡◌, ◌∙◌, ℕ, ◌<◌, length, refl, sym, subst, ap}
 use Rattle.row_core.specs.Rows.{Term}
-use Rattle.indexed_rows.specs.Walks.{IsNext, column_at}
+use Rattle.row_core.specs.Walks.{column_at}
+use Rattle.indexed_rows.specs.Walks.{IsNext}
 use Rattle.indexed_rows.proofs.Relisting.{has_list, read_at, old_step, new_step, both_step, same_with, same_without}
 use Rattle.indexed_rows.proofs.lists.step.Goals as goal
 

@@ -5,7 +5,7 @@ use Rattle.frac_core.specs.Fraction.{IsFitting}
 use Rattle.corner.specs.declared.table.Slot.{Slot}
 use Rattle.corner.specs.declared.table.TheConstants.{LEVELS}
 use Rattle.corner.specs.Tables.{lists_of, priority_at}
-use Rattle.corner.specs.Swaps.TurnedLevels.{IsLineStop, IsTurnedValue, counts_at}
+use Rattle.corner.specs.Swaps.TurnedLevels.{IsAnyTurnStop, IsTurnedValue, counts_at}
 use Rattle.corner.proofs.LevelFacts.LevelReadFacts.{fitting_cost, negated}
 use Rattle.corner.proofs.Pivots.LevelCosts.{unit_above, unit_fits}
 use Rattle.corner.proofs.Swaps.TurnedChanges.{turn_cost_stop, turned_value_of}
@@ -46,7 +46,7 @@ returns-clause-ok c =
 
 pub returns-clause-stop : goal.returns-clause-stop
 returns-clause-stop c =
-    err_all c.named_sum.result _ (IsLineStop (lists_of c.args.table.now) c.args.line)
+    err_all c.named_sum.result _ (IsAnyTurnStop (lists_of c.args.table.now) c.args.line)
     (λ stop h side s turn. turn_cost_stop (lists_of c.args.table.now) c.args.line side c.slot_at-home.result.home c.value_at.result c.value_at-2.result (to_z w64 (of_z w64 (pos 0 -ℤ to_z w64 (of_z w64 c.args.count)))) (to_z w64 (of_z w64 c.priority_at.result.unit)) stop c.requires.kept c.requires.level (h.0 ∙ c.requires.stop)
     (ap (λ (s : Slot). s.home) (sym c.slot_at-home.ensures)) c.value_at.ensures c.value_at-2.ensures (number c) (scale c) h.1 s turn)
     c.named_sum.ensures.err
