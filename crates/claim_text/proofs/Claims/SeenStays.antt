@@ -31,7 +31,7 @@ use Rattle.problem_core.specs.declared.parts.Mark.{Mark}
 use Rattle.claim_text.specs.declared.claim.seen.Seen.{Seen}
 use Rattle.claim_text.specs.Claims.ClaimTexts.{MayFollow, with_line}
 use Rattle.claim_text.specs.Claims.Seen.{AreKeys, AreRowKeys, AreLevelKeys, AreSeen, levels_of, marked_rows}
-use Rattle.claim_text.specs.Claims.ClaimTexts.{HasLevels, stage_with}
+use Rattle.claim_text.specs.Claims.ClaimTexts.{TakesLevels, stage_with}
 use Rattle.claim_text.proofs.Rising.{All-at_end, All-last}
 use Rattle.frac_core.proofs.Lists.{all-front as All-front}
 
@@ -159,7 +159,7 @@ open_last levels final = map-append (λ (l : BestLevel). l.level) levels (final 
 -- ---- a level more
 
 -- where levels may come no mark was named
-no_marks : (s : Stage) → HasLevels s → marked_rows s ≡ []
+no_marks : (s : Stage) → TakesLevels s → marked_rows s ≡ []
 no_marks Values h = absurd h
 no_marks Levels h = refl
 no_marks (Bys l) h = refl
@@ -172,7 +172,7 @@ pub level_noted : {T E : Type 0} (r : Result T E) (item : ClaimLine) (l : LevelL
 level_noted (Ok x) item l old rows levels is empty h = λ d may seen.
     let named : map (λ l. l.level) (closed d.stage d.levels d.bys ++ record { level = l.level; scale = l.scale; by = [] } ∷ []) ≡ levels_of d ++ l.level ∷ [] =
     open_last (closed d.stage d.levels d.bys) (record { level = l.level; scale = l.scale; by = [] }) in
-    let has : HasLevels d.stage = (subst (λ (i : ClaimLine). MayFollow d i) is may).0 in
+    let has : TakesLevels d.stage = (subst (λ (i : ClaimLine). MayFollow d i) is may).0 in
     subst (λ (i : ClaimLine). AreSeen (with_line d i) (record { rows = rows; levels = levels; marks = old.marks })) (sym is)
     (record {
       rows = empty;
