@@ -1,5 +1,5 @@
 -- Which texts are problems, and where a text stops to be one.
-use Rattle.std.specs.Prelude.{◌≡◌, ◌≢◌, ℕ, ◌+◌, ◌<◌, ◌⊎◌, true, List, [], ◌∷◌, ◌++◌, length, All, Contains}
+use Rattle.std.specs.Prelude.{◌≡◌, ◌≢◌, ℕ, ◌<◌, ◌⊎◌, true, List, [], ◌∷◌, ◌++◌, length, All, Contains}
 use Rattle.span_text.specs.Bytes.{hash}
 use Rattle.span_text.specs.Classes.{is_space}
 use Rattle.problem_core.specs.declared.parts.Stay.{Stay}

@@ -16,7 +16,7 @@ use Rattle.problem_core.specs.Common.{IsLeastCommon}
 use Rattle.problem_core.specs.Layout.{Row, Assignment, Gives, gap, line_of_row, value_at}
 use Rattle.problem_core.specs.Gaps.{HasValue, HasGapRoom, HasRoomOver, value_of, value_dens, times_common, scaled_sum}
 use Rattle.problem_core.proofs.Forms.{each-impl, each-both}
-use Rattle.problem_core.proofs.Lookups.{given-value}
+use Rattle.problem_core.proofs.GapFacts.Lookups.{given-value}
 use Rattle.frac_core.proofs.Numbers.{divisor-above, pos-mul-neg as neg_left}
 
 ruleset ring = (diff-add, diff-mul, diff-neg, diff-pos, neg-pos)
