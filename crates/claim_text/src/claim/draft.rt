@@ -2,6 +2,7 @@
 ghost use Rattle.std.specs.Prelude.{◌≡◌, ◌<◌, ◌++◌, ◌∷◌, [], All, AllPairs, IfOk, IfSome, IfNone, IsTrue};
 ghost use Rattle.std.specs.Prelude.{◌↔◌, true, false, List, map};
 ghost use Rattle.problem_core.specs.Kept.{AreRising};
+ghost use Rattle.cert_core.specs.Claims.{AreBys, AreLevels};
 ghost use Rattle.problem_core.specs.declared.parts.RowName.{RowName};
 ghost use Rattle.problem_core.specs.declared.parts.Level.{Level};
 
@@ -94,8 +95,6 @@ impl EndedLevel {
     }
 }
 
-ghost use Rattle.cert_core.specs.Claims.{AreBys, AreLevels};
-
 fn level_of(line: &LevelLine) -> Level
     ensures { result ≡ line.now.level }
 {
@@ -119,7 +118,7 @@ fn best_of(alloc: Global, levels: &[EndedLevel]) -> Result<Best, OutOfMemory>
     requires { AreLevels levels.now }
     ensures { IfOk result (λ b. b ≡ levels.now) }
 {
-    let mut best = Best::new(alloc)?;
+    let mut best = Best::new(alloc);
     for ended in levels {
         best.push(ended.level(), ended.scale(), ended.by())?;
     }
@@ -258,8 +257,8 @@ impl ClaimDraft {
         }
     }
 
-    /// Ends the level that is open.
-    pub(crate) fn close(&mut self, alloc: Global) -> Result<(), OutOfMemory>
+    // Ends the level that is open.
+    fn close(&mut self, alloc: Global) -> Result<(), OutOfMemory>
         ensures { IfOk result (λ _. self.new ≡ record {
           stage = self.old.stage;
           values = self.old.values;
