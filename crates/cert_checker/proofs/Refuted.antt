@@ -31,7 +31,7 @@ use Rattle.cert_checker.specs.LineSums.{line_count, form_at}
 use Rattle.cert_checker.specs.LinePlaces.{names, name_at, by_at, AreWeighed}
 use Rattle.problem_core.specs.Common.{IsLeastCommon}
 use Rattle.cert_checker.specs.Required.{IsRequiredAt, IsSigned, denominators, den_at, num_at, Reaches}
-use Rattle.cert_checker.specs.Refuting.{IsRequired, Cancels, HasRoom, IsFirstWithoutRoom, AreSigned, IsAboveZero, IsConflictVerdict}
+use Rattle.cert_checker.specs.Refuting.{IsRequired, Cancels, HasSumRoom, IsFirstWithoutRoom, AreSigned, IsAboveZero, IsConflictVerdict}
 use Rattle.cert_checker.proofs.LinePlaces.{row-at}
 use Rattle.cert_checker.proofs.Indexes.{row_name, length-lines, length-names, no_row}
 use Rattle.cert_checker.proofs.Written.Weighing.{no_weight, by-of, same-length, weighed-count, weighed-fit}
@@ -130,7 +130,7 @@ signs-back p whole bys ws are ok all signed k d l =
 
 -- ---- room
 
-pub room-from : (p : Problem) → IsWhole p → (bys : List By) (ws : List Weighted) → AreWeighed p bys ws → (d : ℕ) → d < 2 ^ 30 → IsLeastCommon (denominators p ws) d → HasRoom p bys
+pub room-from : (p : Problem) → IsWhole p → (bys : List By) (ws : List Weighted) → AreWeighed p bys ws → (d : ℕ) → d < 2 ^ 30 → IsLeastCommon (denominators p ws) d → HasSumRoom p bys
 room-from p whole bys ws are d small least = (
   d,
   least.above,

@@ -11,7 +11,7 @@ use Rattle.problem_core.specs.declared.parts.Level.TheVariants.{Priority, Stay a
 use Rattle.problem_core.specs.Layout.{Row, Line, Problem, Assignment, Gives, Satisfies, HasStay, coefficient}
 use Rattle.problem_core.specs.Layout.{sum_of, lines, gap}
 use Rattle.problem_core.specs.Certificates.{Multipliers, IsLexNonnegative, under, over}
-use Rattle.problem_core.specs.Gaps.{HasValue, HasRoom}
+use Rattle.problem_core.specs.Gaps.{HasValue, HasGapRoom}
 use Rattle.cert_core.specs.Claims.{BestLevel, multipliers_of}
 use Rattle.cert_checker.specs.LinePlaces.{names}
 use Rattle.cert_checker.specs.declared.verdict.Verdict.{Verdict}
@@ -61,16 +61,16 @@ pub record AreFree (p : Problem) (m : Multipliers) (x : Assignment) : Type 0 whe
 -- ---- room
 
 -- each of the rows has room for its gap at the values
-abbrev pub HaveRoom : List Row → List (ℕ × Fraction) → Type 0
-HaveRoom rows values = All (λ r. HasRoom r values) rows
+abbrev pub HaveGapRoom : List Row → List (ℕ × Fraction) → Type 0
+HaveGapRoom rows values = All (λ r. HasGapRoom r values) rows
 
 -- n is the number of the first row without room
 abbrev pub IsFirstRowWithoutRoom : Problem → List (ℕ × Fraction) → ℕ → Type 0
 IsFirstRowWithoutRoom p values n =
     (k : ℕ)
     × (k < length p.rows)
-    × HoldsAt (λ r. (r.id ≡ n) × (HasRoom r values → ⊥)) p.rows k
-    × HaveRoom (take k p.rows) values
+    × HoldsAt (λ r. (r.id ≡ n) × (HasGapRoom r values → ⊥)) p.rows k
+    × HaveGapRoom (take k p.rows) values
 
 -- ---- signs
 
@@ -92,7 +92,7 @@ EachGiven values P = (x : Assignment) → Gives values x → P x
 abbrev pub IsBestVerdict : Problem → List (ℕ × Fraction) → List BestLevel → Verdict → Type 0
 IsBestVerdict p values levels Yes =
     AreOfStays p values
-    × HaveRoom p.rows values
+    × HaveGapRoom p.rows values
     × EachGiven values (Satisfies p)
     × Balances p levels
     × AreNotNegative p (multipliers_of p levels)
@@ -100,12 +100,12 @@ IsBestVerdict p values levels Yes =
 IsBestVerdict p values levels (NoRoom n) = AreOfStays p values × IsFirstRowWithoutRoom p values n
 IsBestVerdict p values levels (No clause) =
     ((clause ≡ GIVEN_CLAUSE) × (AreOfStays p values → ⊥))
-    ⊎ ((clause ≡ REQUIRED_CLAUSE) × AreOfStays p values × HaveRoom p.rows values
+    ⊎ ((clause ≡ REQUIRED_CLAUSE) × AreOfStays p values × HaveGapRoom p.rows values
     × EachGiven values (λ x. Satisfies p x → ⊥))
-    ⊎ ((clause ≡ BALANCE_CLAUSE) × AreOfStays p values × HaveRoom p.rows values
+    ⊎ ((clause ≡ BALANCE_CLAUSE) × AreOfStays p values × HaveGapRoom p.rows values
     × EachGiven values (Satisfies p) × (Balances p levels → ⊥))
-    ⊎ ((clause ≡ COLUMNS_CLAUSE) × AreOfStays p values × HaveRoom p.rows values
+    ⊎ ((clause ≡ COLUMNS_CLAUSE) × AreOfStays p values × HaveGapRoom p.rows values
     × EachGiven values (Satisfies p) × Balances p levels × (AreNotNegative p (multipliers_of p levels) → ⊥))
-    ⊎ ((clause ≡ FREE_CLAUSE) × AreOfStays p values × HaveRoom p.rows values
+    ⊎ ((clause ≡ FREE_CLAUSE) × AreOfStays p values × HaveGapRoom p.rows values
     × EachGiven values (Satisfies p) × Balances p levels × AreNotNegative p (multipliers_of p levels)
     × EachGiven values (λ x. AreFree p (multipliers_of p levels) x → ⊥))

@@ -1,7 +1,7 @@
 -- The first number of a column that is not 0.
-use Rattle.std.specs.Prelude.{◌≡◌, ℕ, ◌*◌, ◌<◌, ◌≤◌, Bool, true, false, ◌&&◌, cond, nat_eq, List, length}
+use Rattle.std.specs.Prelude.{◌≡◌, ℕ, ◌*◌, ◌<◌, ◌≤◌, Bool, true, false, ◌||◌, ◌&&◌, cond, nat_eq, List}
 use Rattle.std.specs.Prelude.{ℤ, pos, ◌-ℤ◌, ◌+ℤ◌, ◌*ℤ◌, ◌<ℤ◌, nat_abs, unsigned_abs, Option, Some, None, All}
-use Rattle.std.specs.Prelude.{slice_index_or}
+use Rattle.std.specs.Prelude.{length, slice_index_or}
 use Rattle.std.specs.List.{HoldsAt, list_any}
 use Rattle.std.specs.declared.cmp.Ordering.{Ordering}
 use Rattle.std.specs.declared.cmp.Ordering.TheVariants.{Less, Equal, Greater}
@@ -27,6 +27,10 @@ IsFront f seen (Some q) =
     (q.negative ≡ true → f q.level <ℤ pos 0)
     × (q.negative ≡ false → pos 0 <ℤ f q.level)
     × ((k : ℕ) → seen k ≡ true → k < q.level → f k ≡ pos 0)
+
+-- whether a level is seen, where these are and one more
+abbrev pub seen_with : (ℕ → Bool) → ℕ → ℕ → Bool
+seen_with seen level k = seen k || nat_eq k level
 
 -- what one point on a side costs, where these are the relation and the weight
 abbrev pub weight_of_side : Rel → Side → ℕ → ℕ
@@ -56,6 +60,12 @@ pub record HasFronts (f g : ℕ → ℤ) (seen : ℕ → Bool) (own : ℕ) (side
   pub above : IsFront g seen sides.over
   pub own_seen : sides.own ≡ seen own
 
+-- the line's fronts, once its multiplier at one more level is seen
+abbrev pub HasSeen : Facts → ℕ → ℕ → ℤ → Sides → Sides → Type 0
+HasSeen facts level scale times old new = (f g : ℕ → ℤ) (seen : ℕ → Bool)
+    → f level ≡ reduced facts Under level scale times → g level ≡ reduced facts Over level scale times
+    → HasFronts f g seen facts.own old → HasFronts f g (seen_with seen level) facts.own new
+
 -- the fronts of all lines
 pub record AreFronts (p : Problem) (m : Multipliers) (seen : ℕ → ℕ → Bool) (sides : List Sides) : Type 0 where
   pub count : length sides ≡ line_count p
@@ -72,6 +82,11 @@ pub record AreOfLevel (p : Problem) (m : Multipliers) (level : ℕ) (scale : ℤ
 -- whether the line at the place is named
 abbrev pub names_line : ℕ → List Weighted → Bool
 names_line at ws = list_any (λ w. nat_eq w.at at) ws
+
+-- the fronts of all lines, once the multipliers at one more level are seen
+abbrev pub HaveSeen : Problem → ℕ → ℤ → List Weighted → List Sides → List Sides → Type 0
+HaveSeen p level scale ws old new = (m : Multipliers) (seen : ℕ → ℕ → Bool) → AreOfLevel p m level scale ws
+    → AreFronts p m seen old → AreFronts p m (λ at k. seen at k || (names_line at ws && nat_eq k level)) new
 
 -- whether a placed level names the line at the level k
 abbrev pub seen_by : List PlacedLevel → ℕ → ℕ → Bool
@@ -93,6 +108,13 @@ pub record IsBlank (s : Sides) : Type 0 where
 pub record HasOwnNumber (f : ℕ → ℤ) (facts : Facts) (side : Side) : Type 0 where
   pub free : weight_of_side facts.rel side facts.weight ≡ 0 → f facts.own ≡ pos 0
   pub costed : 0 < weight_of_side facts.rel side facts.weight → pos 0 <ℤ f facts.own
+
+-- the front of a side's column, once its number at the line's own level counts even where no multiplier there
+-- was seen
+abbrev pub CountsOwn : Facts → Side → Bool → Option Front → Option Front → Type 0
+CountsOwn facts side named old new = (f : ℕ → ℤ) (seen : ℕ → Bool) → named ≡ seen facts.own
+    → (seen facts.own ≡ false → HasOwnNumber f facts side) → IsFront f seen old
+    → IsFront f (seen_with seen facts.own) new
 
 -- the front of a column, of all its levels
 abbrev pub IsColumnFront : (ℕ → ℤ) → Option Front → Type 0

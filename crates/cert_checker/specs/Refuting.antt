@@ -38,10 +38,10 @@ IsAboveZero p bys = pos 0 <ℤ sum_of (λ r. times_of bys (Held r.id)
 
 -- ---- room
 
--- the constants of the named rows have a common denominator for which there is room
-abbrev pub HasRoom : Problem → List By → Type 0
-HasRoom p bys = (d : ℕ) × (0 < d) × (d < ROOM) × All (λ b.
-    All (λ r. b.row ≡ Held r.id → r.constant.den ∣ d) p.rows) bys
+-- the constants of the named rows have a common denominator for which their sum has room
+abbrev pub HasSumRoom : Problem → List By → Type 0
+HasSumRoom p bys = (d : ℕ) × (0 < d) × (d < ROOM)
+    × All (λ b. All (λ r. b.row ≡ Held r.id → r.constant.den ∣ d) p.rows) bys
 
 -- the row n is the first with which the rows named so far have none
 abbrev pub IsFirstWithoutRoom : Problem → List By → ℕ → Type 0
@@ -49,17 +49,17 @@ IsFirstWithoutRoom p bys n =
     (k : ℕ)
     × (k < length bys)
     × HoldsAt (λ b. b.row ≡ Held n) bys k
-    × HasRoom p (take k bys)
-    × (HasRoom p (take (k + 1) bys) → ⊥)
+    × HasSumRoom p (take k bys)
+    × (HasSumRoom p (take (k + 1) bys) → ⊥)
 
 -- ---- the verdict
 
 -- clause 6 is that the rows cancel, 7 that their signs are allowed, and 8, after the test of room, that the
 -- constants' sum is above 0
 abbrev pub IsConflictVerdict : Problem → List By → Verdict → Type 0
-IsConflictVerdict p bys Yes = Cancels p bys × AreSigned p bys × HasRoom p bys × IsAboveZero p bys
+IsConflictVerdict p bys Yes = Cancels p bys × AreSigned p bys × HasSumRoom p bys × IsAboveZero p bys
 IsConflictVerdict p bys (NoRoom n) = Cancels p bys × AreSigned p bys × IsFirstWithoutRoom p bys n
 IsConflictVerdict p bys (No clause) =
     ((clause ≡ CANCEL_CLAUSE) × (Cancels p bys → ⊥))
     ⊎ ((clause ≡ SIGNS_CLAUSE) × Cancels p bys × (AreSigned p bys → ⊥))
-    ⊎ ((clause ≡ SUM_CLAUSE) × Cancels p bys × AreSigned p bys × HasRoom p bys × (IsAboveZero p bys → ⊥))
+    ⊎ ((clause ≡ SUM_CLAUSE) × Cancels p bys × AreSigned p bys × HasSumRoom p bys × (IsAboveZero p bys → ⊥))

@@ -1,12 +1,12 @@
 // The first number of each column that is not 0.
-ghost use Rattle.std.specs.Prelude.{◌≡◌, ℕ, ◌<◌, ◌≤◌, Bool, false, ◌||◌, ◌&&◌, cond, nat_eq, IfOk};
+ghost use Rattle.std.specs.Prelude.{◌≡◌, ℕ, ◌<◌, ◌≤◌, Bool, cond, nat_eq, IfOk};
 ghost use Rattle.std.specs.Prelude.{length, All, ℤ, pos, ◌<ℤ◌, nat_abs, unsigned_abs};
 ghost use Rattle.frac_core.specs.Fraction.{IsFitting};
 ghost use Rattle.problem_core.specs.Certificates.{Multipliers};
 ghost use Rattle.problem_core.specs.declared.limits.TheConstants.{COEFFICIENT_LIMIT};
 ghost use Rattle.cert_checker.specs.LineSums.{line_count};
-ghost use Rattle.cert_checker.specs.Fronts.{AreFacts, AreFronts, AreOfLevel, HasFronts, HasOwnNumber};
-ghost use Rattle.cert_checker.specs.Fronts.{IsBlank, IsFront, IsReady, names_line, seen_by};
+ghost use Rattle.cert_checker.specs.Fronts.{AreFacts, AreFronts, AreOfLevel, CountsOwn, HasSeen, HaveSeen};
+ghost use Rattle.cert_checker.specs.Fronts.{IsBlank, IsFront, IsReady, seen_by, seen_with};
 ghost use Rattle.cert_checker.specs.Fronts.{reduced as reduced_cost, weight_of_side};
 
 use crate::arithmetic::{difference, product, total};
@@ -43,7 +43,7 @@ pub(crate) struct Sides {
 // The front of a column when one more of its numbers is seen.
 fn keep(front: Option<Front>, level: usize, number: i128) -> Option<Front>
     ensures { (f : ℕ → ℤ) (seen : ℕ → Bool) → f level ≡ number → IsFront f seen front
-        → IsFront f (λ k. seen k || nat_eq k level) result }
+        → IsFront f (seen_with seen level) result }
 {
     if number == 0 {
         return front;
@@ -131,11 +131,7 @@ fn enter(sides: Sides, facts: &Facts, level: usize, scale: i64, times: i64) -> S
     requires above { pos 0 <ℤ scale }
     requires scale { IsFitting scale }
     requires times { IsFitting times }
-    ensures { (f g : ℕ → ℤ) (seen : ℕ → Bool) → f level
-        ≡ reduced_cost facts.now Side.Under level (nat_abs scale) times
-        → g level ≡ reduced_cost facts.now Side.Over level (nat_abs scale) times
-        → HasFronts f g seen facts.now.own sides → HasFronts f g (λ k. seen k
-        || nat_eq k level) facts.now.own result }
+    ensures { HasSeen facts.now level (nat_abs scale) times sides result }
 {
     Sides {
         under: keep(
@@ -158,9 +154,7 @@ fn enter_lines(p: &Problem, level: usize, scale: i64, weighted: &[Weighted], sid
     requires below { All (λ w. (w.at < line_count p.now) × IsFitting w.times) weighted.now }
     requires fits { IsFitting scale }
     requires above { pos 0 <ℤ scale }
-    ensures { (m : Multipliers) (seen : ℕ → ℕ → Bool) → AreOfLevel p.now m level scale weighted.now
-        → AreFronts p.now m seen sides.old
-        → AreFronts p.now m (λ at k. seen at k || (names_line at weighted.now && nat_eq k level)) sides.new }
+    ensures { HaveSeen p.now level scale weighted.now sides.old sides.new }
 {
     for line in weighted {
         let facts = facts_of(p, line.at);
@@ -219,7 +213,7 @@ pub(crate) fn fronts(
 // The front of a column when the line's own level is seen, where its number is above 0.
 fn keep_above(front: Option<Front>, level: usize) -> Option<Front>
     ensures { (f : ℕ → ℤ) (seen : ℕ → Bool) → pos 0 <ℤ f level → IsFront f seen front
-        → IsFront f (λ k. seen k || nat_eq k level) result }
+        → IsFront f (seen_with seen level) result }
 {
     match front {
         None => Some(Front {
@@ -246,9 +240,7 @@ pub(crate) fn whole_front(
     facts: &Facts,
     side: Side,
 ) -> Option<Front>
-    ensures { (f : ℕ → ℤ) (seen : ℕ → Bool) → named ≡ seen facts.now.own
-        → (seen facts.now.own ≡ false → HasOwnNumber f facts.now side) → IsFront f seen front
-        → IsFront f (λ k. seen k || nat_eq k facts.now.own) result }
+    ensures { CountsOwn facts.now side named front result }
 {
     if named {
         return front;

@@ -7,7 +7,7 @@ ghost use Rattle.problem_core.specs.Certificates.{IsCertificate, Multipliers};
 ghost use Rattle.problem_core.specs.Gaps.{HasValue};
 ghost use Rattle.cert_core.specs.Claims.{multipliers_of};
 ghost use Rattle.cert_checker.specs.LineSums.{line_count};
-ghost use Rattle.cert_checker.specs.Certifying.{AreFree, AreNotNegative, AreOfStays, EachGiven, HaveRoom};
+ghost use Rattle.cert_checker.specs.Certifying.{AreFree, AreNotNegative, AreOfStays, EachGiven, HaveGapRoom};
 ghost use Rattle.cert_checker.specs.Certifying.{IsBestVerdict, IsNotNegative};
 ghost use Rattle.cert_checker.specs.Fronts.{AreFronts, AreKnown, HasColumnFronts, HasFrontsAt};
 ghost use Rattle.cert_checker.specs.Fronts.{is_below as has_negative, is_free as has_free};
@@ -93,7 +93,7 @@ fn stay_sign(stay: &Stay, values: &Values) -> Ordering
 fn line_sign(p: &Problem, at: usize, values: &Values) -> Ordering
     requires at { at < line_count p.now }
     requires values { AreOfStays p.now values.now }
-    requires room { HaveRoom p.now.rows values.now }
+    requires room { HaveGapRoom p.now.rows values.now }
     ensures { (x : Assignment) → Gives values.now x
         → HoldsAt (λ l. result ≡ int_cmp (gap x l) (pos 0)) (lines p.now) at }
 {
@@ -129,7 +129,7 @@ fn is_free(sides: Sides, sign: Ordering) -> bool
 // Whether the column of each side that the values use is all 0.
 fn are_free(p: &Problem, values: &Values, sides: &[Sides]) -> bool
     requires values { AreOfStays p.now values.now }
-    requires room { HaveRoom p.now.rows values.now }
+    requires room { HaveGapRoom p.now.rows values.now }
     requires count { length sides.now ≡ line_count p.now }
     ensures { (m : Multipliers) (seen : ℕ → ℕ → Bool) (x : Assignment) → AreKnown p.now m seen
         → AreFronts p.now m seen sides.now → Gives values.now x → IsTrue result ↔ AreFree p.now m x }
@@ -145,7 +145,7 @@ fn are_free(p: &Problem, values: &Values, sides: &[Sides]) -> bool
 // The verdict on a certificate's levels, where the values have room and meet the required rows.
 fn judge(alloc: Global, p: &Problem, values: &Values, best: &Best) -> Result<Verdict, OutOfMemory>
     requires values { AreOfStays p.now values.now }
-    requires room { HaveRoom p.now.rows values.now }
+    requires room { HaveGapRoom p.now.rows values.now }
     requires met { EachGiven values.now (Satisfies p.now) }
     ensures { IfOk result (IsBestVerdict p.now values.now best.now) }
 {

@@ -1,5 +1,5 @@
 // The levels of a certificate, with the places of their lines.
-ghost use Rattle.std.specs.Prelude.{◌≡◌, ◌<◌, ◌+◌, ◌↔◌, All, IsTrue, IfOk};
+ghost use Rattle.std.specs.Prelude.{◌≡◌, ◌+◌, ◌↔◌, All, IsTrue, IfOk};
 ghost use Rattle.std.specs.Prelude.{IfSome, IfNone};
 ghost use Rattle.cert_core.specs.Claims.{IsLevel, IsPlace, level_at};
 ghost use Rattle.cert_checker.specs.Certifying.{HasLevel};

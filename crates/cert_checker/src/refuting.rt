@@ -11,7 +11,7 @@ ghost use Rattle.frac_core.specs.declared.frac.TheConstants.{PART_BOUND};
 ghost use Rattle.problem_core.specs.declared.limits.TheConstants.{ROW_LIMIT};
 ghost use Rattle.cert_checker.specs.declared.refuting.TheConstants.{ROOM};
 ghost use Rattle.cert_checker.specs.LinePlaces.{AreWeighed};
-ghost use Rattle.cert_checker.specs.Refuting.{Cancels, HasRoom, IsAboveZero, IsConflictVerdict};
+ghost use Rattle.cert_checker.specs.Refuting.{Cancels, HasSumRoom, IsAboveZero, IsConflictVerdict};
 ghost use Rattle.cert_checker.specs.Refuting.{IsFirstWithoutRoom};
 ghost use Rattle.cert_checker.specs.Required.{IsRequiredAt, IsSigned, Reaches, denominators, den_at, num_at};
 
@@ -147,7 +147,7 @@ fn is_above_zero(p: &Problem, by: &[By], weighted: &[Weighted]) -> Result<bool, 
     requires by { AreBys by.now }
     requires weighted { AreWeighed p.now by.now weighted.now }
     requires rows { All (λ w. IsRequiredAt p.now w.at) weighted.now }
-    ensures room { IfOk result (λ _. HasRoom p.now by.now) }
+    ensures room { IfOk result (λ _. HasSumRoom p.now by.now) }
     ensures above { IfOk result (λ yes. IsTrue yes ↔ IsAboveZero p.now by.now) }
     ensures lost { IfErr result (IsFirstWithoutRoom p.now by.now) }
 {

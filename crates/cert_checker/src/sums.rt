@@ -1,5 +1,5 @@
 // Sums of rows, each times its multiplier, by attribute.
-ghost use Rattle.std.specs.Prelude.{◌≡◌, ℕ, ◌+◌, ◌*◌, ◌^◌, ◌<◌, ◌≤◌, ◌↔◌, length, ℤ, pos, ◌+ℤ◌, ◌*ℤ◌, All};
+ghost use Rattle.std.specs.Prelude.{◌≡◌, ℕ, ◌+◌, ◌*◌, ◌^◌, ◌<◌, ◌≤◌, ◌↔◌, length, pos, ◌+ℤ◌, ◌*ℤ◌, All};
 ghost use Rattle.std.specs.Prelude.{IsTrue, IfOk, OnOk, unsigned_abs};
 ghost use Rattle.std.specs.Ordering.{nat_cmp};
 ghost use Rattle.std.specs.BTreeMap.{IsOrdered, values};

@@ -2,9 +2,10 @@
 ghost use Rattle.std.specs.Prelude.{◌≡◌, ◌↔◌, pos, All, IsTrue, IfSome, IfNone};
 ghost use Rattle.std.specs.Ordering.{int_cmp};
 ghost use Rattle.problem_core.specs.Layout.{Assignment, Gives, HasStay, Satisfies, error, gap, line_of_row};
-ghost use Rattle.problem_core.specs.Gaps.{HasRoom, HasValue};
+ghost use Rattle.problem_core.specs.Gaps.{HasGapRoom, HasValue};
 ghost use Rattle.problem_core.specs.declared.limits.TheConstants.{REQUIRED};
-ghost use Rattle.cert_checker.specs.Certifying.{AreOfStays, HaveRoom, IsFirstRowWithoutRoom, is_met as meets};
+ghost use Rattle.cert_checker.specs.Certifying.{AreOfStays, HaveGapRoom, IsFirstRowWithoutRoom};
+ghost use Rattle.cert_checker.specs.Certifying.{is_met as meets};
 
 use problem_core::{Problem, REQUIRED, Rel, Row, Stay, Values, gap_sign};
 use std::cmp::Ordering;
@@ -59,7 +60,7 @@ pub(crate) fn are_of_stays(p: &Problem, values: &Values) -> bool
 /// The number of the first row without room for its gap.
 pub(crate) fn first_without_room(p: &Problem, values: &Values) -> Option<u32>
     requires { All (λ r. All (λ t. HasValue values.now t.attr) r.terms) p.now.rows }
-    ensures room { IfNone result (HaveRoom p.now.rows values.now) }
+    ensures room { IfNone result (HaveGapRoom p.now.rows values.now) }
     ensures first { IfSome result (IsFirstRowWithoutRoom p.now values.now) }
 {
     for row in p.rows() {
@@ -73,7 +74,7 @@ pub(crate) fn first_without_room(p: &Problem, values: &Values) -> Option<u32>
 /// The order of the row's gap and 0.
 pub(crate) fn row_sign(row: &Row, values: &Values) -> Ordering
     requires values { All (λ t. HasValue values.now t.attr) row.now.terms }
-    requires room { HasRoom row.now values.now }
+    requires room { HasGapRoom row.now values.now }
     ensures { (x : Assignment) → Gives values.now x → result ≡ int_cmp (gap x (line_of_row row.now)) (pos 0) }
 {
     match gap_sign(row, values) {
@@ -96,7 +97,7 @@ fn is_met(rel: Rel, sign: Ordering) -> bool
 // Whether the row is not required, or holds at the values.
 fn holds(row: &Row, values: &Values) -> bool
     requires values { All (λ t. HasValue values.now t.attr) row.now.terms }
-    requires room { HasRoom row.now values.now }
+    requires room { HasGapRoom row.now values.now }
     ensures { (x : Assignment) → Gives values.now x
         → IsTrue result ↔ (row.now.rank ≡ REQUIRED → error x (line_of_row row.now) ≡ 0) }
 {
@@ -109,7 +110,7 @@ fn holds(row: &Row, values: &Values) -> bool
 /// Whether each required row holds at the values.
 pub(crate) fn are_met(p: &Problem, values: &Values) -> bool
     requires values { All (λ r. All (λ t. HasValue values.now t.attr) r.terms) p.now.rows }
-    requires room { HaveRoom p.now.rows values.now }
+    requires room { HaveGapRoom p.now.rows values.now }
     ensures { (x : Assignment) → Gives values.now x → IsTrue result ↔ Satisfies p.now x }
 {
     for row in p.rows() {

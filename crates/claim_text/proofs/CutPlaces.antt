@@ -6,7 +6,7 @@ use Rattle.std.proofs.lemmas.List.{append_assoc, append-nil, length-append, take
 use Rattle.std.proofs.lemmas.List.Elements.{All-push}
 use Rattle.span_text.proofs.TextCuts.Cuts.{lines_at, first_part}
 use Rattle.claim_text.specs.Cut.{BeginsClaim, IsWithoutOk, ok_line}
-use Rattle.claim_text.specs.CutLines.{IsWhole, IsLineLength, IsLastStart, IsPlace}
+use Rattle.claim_text.specs.CutLines.{EndsBetweenLines, IsLineLength, IsLastStart, IsCutPlace}
 use Rattle.claim_text.proofs.Parts.{IsFree, whole_is}
 use Rattle.claim_text.proofs.Problems.Readings.{lines_count}
 use Rattle.std.proofs.lemmas.Bool.Decides.{nat_tests}
@@ -14,7 +14,7 @@ use Rattle.claim_text.specs.Words.{parts}
 
 -- ---- helpers
 
-both_whole : (a b : List ℕ) → IsWhole a → IsWhole b → IsWhole (a ++ b)
+both_whole : (a b : List ℕ) → EndsBetweenLines a → EndsBetweenLines b → EndsBetweenLines (a ++ b)
 both_whole a b whole_a whole_b more =
     ap lines (append_assoc a b more) ∙ (whole_a (b ++ more) ∙ (ap (λ l. lines a ++ l) (whole_b more) ∙ (sym (append_assoc (lines a) (lines b) (lines more)) ∙ sym (ap (λ l. l ++ lines more) (whole_a b)))))
 
@@ -32,7 +32,7 @@ line_here_is text part rest n line more free is taken left lines_are =
     let tails : lines rest ≡ more = cc in
     (ap lines taken ∙ (lines_at part [] free ∙ ap (λ l. l ∷ []) heads), ap lines left ∙ tails)
 
-still_whole : (text : List ℕ) (at count : ℕ) {n : ℕ} → IsPlace text at count → IsLineLength (drop at text) n → IsWhole (take at text)
+still_whole : (text : List ℕ) (at count : ℕ) {n : ℕ} → IsCutPlace text at count → IsLineLength (drop at text) n → EndsBetweenLines (take at text)
 still_whole text at count {n = n} place next = elim place.whole [
   | inl whole ↦ whole
   | inr all ↦ absurd (omega (arith, all, length-drop at text, next.some, next.within))
@@ -70,7 +70,7 @@ last_is_ok text at front last is none =
 
 -- ---- the length of a line
 
-line_whole : (part : List ℕ) → IsFree 10 part → IsWhole (part ++ 10 ∷ [])
+line_whole : (part : List ℕ) → IsFree 10 part → EndsBetweenLines (part ++ 10 ∷ [])
 line_whole part free more =
     ap lines (append_assoc part (10 ∷ []) more) ∙ (lines_at part more free ∙ sym (ap (λ l. l ++ lines more) (lines_at part [] free)))
 
@@ -83,32 +83,32 @@ line_ended text part rest n free is count =
     record {
       some = omega (arith, n_is, length-append part (10 ∷ []));
       within = omega (arith, count);
-      whole = inl (subst IsWhole (sym taken) (line_whole part free));
+      whole = inl (subst EndsBetweenLines (sym taken) (line_whole part free));
       here = λ line more lines_are. line_here_is text part rest n line more free is taken left lines_are;
     }
 
 -- ---- places
 
-pub place_more : (text line : List ℕ) (more : List (List ℕ)) (at count n : ℕ) → IsPlace text at count → IsLineLength (drop at text) n → lines (drop at text) ≡ line ∷ more → (BeginsClaim line → ⊥) → IsPlace text (at + n) (count + 1)
+pub place_more : (text line : List ℕ) (more : List (List ℕ)) (at count n : ℕ) → IsCutPlace text at count → IsLineLength (drop at text) n → lines (drop at text) ≡ line ∷ more → (BeginsClaim line → ⊥) → IsCutPlace text (at + n) (count + 1)
 place_more text line more at count n place next lines_are none =
-    let whole : IsWhole (take at text) = still_whole text at count place next in
+    let whole : EndsBetweenLines (take at text) = still_whole text at count place next in
     let taken : take (at + n) text ≡ take at text ++ take n (drop at text) = take_more_bytes text at n place.within in
     let said : lines (take (at + n) text) ≡ lines (take at text) ++ line ∷ [] = ap lines taken ∙ (whole (take n (drop at text)) ∙ ap (λ l. lines (take at text) ++ l) ((next.here line more lines_are).0)) in
     record {
       within = omega (arith, next.within, length-drop at text, place.within);
       whole = elim next.whole [
-        | inl part ↦ inl (subst IsWhole (sym taken) (both_whole (take at text) (take n (drop at text)) whole part))
+        | inl part ↦ inl (subst EndsBetweenLines (sym taken) (both_whole (take at text) (take n (drop at text)) whole part))
         | inr all ↦ inr (omega (arith, all, length-drop at text, place.within))
       ];
       count_is = omega (arith, ap length said, length-append (lines (take at text)) (line ∷ []), place.count_is);
       before = rw said (All-push (λ (l : List ℕ). BeginsClaim l → ⊥) (lines (take at text)) line place.before none);
     }
 
-pub place_fits : (text : List ℕ) (at count : ℕ) → IsPlace text at count → count ≤ length text + 1
+pub place_fits : (text : List ℕ) (at count : ℕ) → IsCutPlace text at count → count ≤ length text + 1
 place_fits text at count place = omega (arith, place.count_is, lines_count (take at text), length-take-le at text place.within, place.within)
 
 -- the lines before a place, and those behind it
-pub place_parts : (text : List ℕ) (at count : ℕ) → IsPlace text at count → lines text ≡ lines (take at text) ++ lines (drop at text)
+pub place_parts : (text : List ℕ) (at count : ℕ) → IsCutPlace text at count → lines text ≡ lines (take at text) ++ lines (drop at text)
 place_parts text at count place = elim place.whole [
   | inl whole ↦ ap lines (sym (take-append-drop at text)) ∙ whole (drop at text)
   | inr all ↦ end_parts text at all
@@ -116,12 +116,12 @@ place_parts text at count place = elim place.whole [
 
 -- ---- the last line
 
-pub last_more : (text : List ℕ) (at n : ℕ) → at < length text → IsWhole (take at text) → IsLineLength (drop at text) n → (at + n ≡ length text → ⊥) → (at + n < length text) × IsWhole (take (at + n) text)
+pub last_more : (text : List ℕ) (at n : ℕ) → at < length text → EndsBetweenLines (take at text) → IsLineLength (drop at text) n → (at + n ≡ length text → ⊥) → (at + n < length text) × EndsBetweenLines (take (at + n) text)
 last_more text at n lt whole next not_all =
     let taken : take (at + n) text ≡ take at text ++ take n (drop at text) = take_more_bytes text at n (omega (arith, lt)) in (
       omega (arith, next.within, length-drop at text, lt, not_all),
       elim next.whole [
-        | inl part ↦ subst IsWhole (sym taken) (both_whole (take at text) (take n (drop at text)) whole part)
+        | inl part ↦ subst EndsBetweenLines (sym taken) (both_whole (take at text) (take n (drop at text)) whole part)
         | inr all ↦ absurd (not_all (omega (arith, all, length-drop at text, lt)))
       ],
     )

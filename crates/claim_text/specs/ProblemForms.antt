@@ -6,7 +6,7 @@ use Rattle.problem_core.specs.Layout.{Problem}
 use Rattle.claim_text.specs.declared.limits.TheConstants.{TEXT_ROW_LIMIT, TEXT_STAY_LIMIT}
 use Rattle.claim_text.specs.Stops.{bad_line}
 use Rattle.claim_text.specs.Lines.{row_line, stay_line}
-use Rattle.claim_text.specs.Problems.{HasStayLine, IsPassedOver, Reads, StopsAt}
+use Rattle.claim_text.specs.Problems.{HasStayLine, IsPassedOver, Reads, IsProblemStop}
 
 -- the rows, and then the stays
 abbrev pub problem_lines : Problem → List (List ℕ)
@@ -57,8 +57,8 @@ pub record IsFirstOutsideProblem (all : List (List ℕ)) (n : ℕ) : Type 0 wher
 pub record ProblemsAreTheForm : Type 0 where
   pub read : (all : List (List ℕ)) (p : Problem) → Reads all p → AreProblemLines all p
   pub form : (all : List (List ℕ)) (p : Problem) → AreProblemLines all p → Reads all p
-  pub stop : (all : List (List ℕ)) (n : ℕ) → StopsAt all (bad_line n) → IsFirstOutsideProblem all n
-  pub outside : (all : List (List ℕ)) (n : ℕ) → IsFirstOutsideProblem all n → StopsAt all (bad_line n)
+  pub stop : (all : List (List ℕ)) (n : ℕ) → IsProblemStop all (bad_line n) → IsFirstOutsideProblem all n
+  pub outside : (all : List (List ℕ)) (n : ℕ) → IsFirstOutsideProblem all n → IsProblemStop all (bad_line n)
   pub one : (all : List (List ℕ)) (m n : ℕ) → IsFirstOutsideProblem all m → IsFirstOutsideProblem all n
       → m ≡ n
   pub apart : (all : List (List ℕ)) (p : Problem) (n : ℕ) → AreProblemLines all p

@@ -1,5 +1,5 @@
 -- Which texts are problems, and where a text stops to be one.
-use Rattle.std.specs.Prelude.{◌≡◌, ◌≢◌, ℕ, ◌+◌, ◌<◌, ◌⊎◌, true, List, [], ◌∷◌, ◌++◌, length, All, Contains}
+use Rattle.std.specs.Prelude.{◌≡◌, ◌≢◌, ℕ, ◌<◌, ◌⊎◌, true, List, [], ◌∷◌, ◌++◌, length, All, Contains}
 use Rattle.span_text.specs.Bytes.{hash}
 use Rattle.span_text.specs.Classes.{is_space}
 use Rattle.problem_core.specs.declared.parts.Stay.{Stay}
@@ -84,7 +84,7 @@ abbrev pub Reads : List (List ℕ) → Problem → Type 0
 Reads all p = ReadFrom (HasStayLine all) nothing_read all p
 
 -- where the text stops to be a problem, unless memory was wanting
-abbrev pub StopsAt : List (List ℕ) → ReadStop → Type 0
-StopsAt all (Refused bad) =
+abbrev pub IsProblemStop : List (List ℕ) → ReadStop → Type 0
+IsProblemStop all (Refused bad) =
     IsFirstBad (ReadFrom (HasStayLine all) nothing_read) (Step (HasStayLine all)) all bad.0
-StopsAt all OutOfMemory = Unit {0}
+IsProblemStop all OutOfMemory = Unit {0}

@@ -3,7 +3,7 @@ ghost use Rattle.std.specs.Prelude.{◌≡◌, ◌<◌, ◌≤◌, ◌∷◌, []
 ghost use Rattle.std.specs.Prelude.{IsTrue, ◌↔◌, MatchOption};
 ghost use Rattle.std.specs.Str.Lines.{lines};
 ghost use Rattle.claim_text.specs.Cut.{IsClaimWord, BeginsClaim, IsClaimStart, IsWithoutOk, IsCut, ok_line};
-ghost use Rattle.claim_text.specs.CutLines.{IsLineLength, IsLastStart, IsPlace};
+ghost use Rattle.claim_text.specs.CutLines.{IsLineLength, IsLastStart, IsCutPlace};
 ghost use Rattle.claim_text.specs.declared.limits.TheConstants.{TEXT_LIMIT};
 
 use crate::words::first_part;
@@ -65,7 +65,7 @@ struct ClaimStart {
 // The first line with which a claim may begin.
 fn claim_start(input: &[u8]) -> ClaimStart
     requires { length input.now < TEXT_LIMIT }
-    ensures place { IsPlace input.now result.at result.count }
+    ensures place { IsCutPlace input.now result.at result.count }
     ensures starts { IsClaimStart (lines (drop result.at input.now)) }
 {
     let mut at = 0;

@@ -1,5 +1,5 @@
 // A fraction whose parts fit.
-ghost use Rattle.std.specs.Prelude.{◌≡◌, ◌<◌, ◌^◌, ℤ, pos, ◌<ℤ◌, IfOk, OnErr, if◌then◌else◌, neg_ℤ};
+ghost use Rattle.std.specs.Prelude.{◌≡◌, ◌<◌, ◌^◌, pos, ◌<ℤ◌, IfOk, OnErr, if◌then◌else◌, neg_ℤ};
 ghost use Rattle.std.specs.Prelude.{◌*ℤ◌, ◌/◌, unsigned_abs};
 ghost use Rattle.std.specs.Int.{IsGcd};
 ghost use Rattle.frac_core.specs.Fraction.{Fraction, IsLowest, Fits, IsFitting, IsKept, IsRatio};

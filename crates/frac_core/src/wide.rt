@@ -1,5 +1,5 @@
 // A fraction for printing, whose parts need not fit.
-ghost use Rattle.std.specs.Prelude.{◌≡◌, ◌<◌, ◌^◌, ℤ, pos, neg_ℤ, ◌<ℤ◌, if◌then◌else◌};
+ghost use Rattle.std.specs.Prelude.{◌≡◌, ◌<◌, ◌^◌, pos, neg_ℤ, ◌<ℤ◌, if◌then◌else◌};
 ghost use Rattle.frac_core.specs.Fraction.{Fraction, IsLowest, IsRatio};
 
 use crate::divisor::gcd;

@@ -49,8 +49,8 @@ pub record IsBad (all : List (List ℕ)) (n : ℕ) : Type 0 where
   pub before : List (List ℕ)
   pub after : List (List ℕ)
   pub cut : IsCut all before after
-  pub bad : problem.StopsAt before (bad_line n) ⊎ ((p : Problem) × problem.Reads before p × (m : ℕ)
-      × claim.StopsAt after (bad_line m) × (n ≡ length before + m))
+  pub bad : problem.IsProblemStop before (bad_line n) ⊎ ((p : Problem) × problem.Reads before p × (m : ℕ)
+      × claim.IsClaimStop after (bad_line m) × (n ≡ length before + m))
 
 -- the check of these lines answers so: with the verdict, or with the number of the first bad line
 abbrev pub IsAnswerTo : List (List ℕ) → Answer → Type 0

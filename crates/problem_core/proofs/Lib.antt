@@ -6,10 +6,7 @@ pub mod Best
 pub mod Lowest
 pub mod Worked
 pub mod Wholes
-pub mod Multiples
-pub mod Lookups
-pub mod Amounts
-pub mod GapSigns
+pub mod GapFacts
 pub mod Sides
 pub mod Lines
 pub mod Marks

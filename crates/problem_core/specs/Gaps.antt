@@ -28,8 +28,8 @@ HasRoomOver d f = (f.den ∣ d) × (unsigned_abs (times_common f d) < GAP_ROOM)
 
 -- the values of the row's attributes have a common denominator for which a gap has room, and each of them
 -- times it is as small
-abbrev pub HasRoom : Row → List (ℕ × Fraction) → Type 0
-HasRoom r values = (d : ℕ) × (0 < d) × (d < GAP_ROOM)
+abbrev pub HasGapRoom : Row → List (ℕ × Fraction) → Type 0
+HasGapRoom r values = (d : ℕ) × (0 < d) × (d < GAP_ROOM)
     × All (λ t. HasRoomOver d (value_of values t.attr)) r.terms
 
 -- the denominators of the values of the terms' attributes

@@ -6,7 +6,7 @@ ghost use Rattle.std.specs.Ordering.{int_cmp};
 ghost use Rattle.frac_core.specs.declared.frac.TheConstants.{PART_BOUND};
 ghost use Rattle.problem_core.specs.Common.{IsLeastCommon};
 ghost use Rattle.problem_core.specs.Layout.{Assignment, Gives, gap, line_of_row};
-ghost use Rattle.problem_core.specs.Gaps.{HasRoom, HasValue, scaled_sum, times_common};
+ghost use Rattle.problem_core.specs.Gaps.{HasGapRoom, HasValue, scaled_sum, times_common};
 ghost use Rattle.problem_core.specs.Gaps.{value_dens, value_of};
 ghost use Rattle.problem_core.specs.declared.limits.TheConstants.{COEFFICIENT_LIMIT, GAP_ROOM, TERM_LIMIT};
 
@@ -122,8 +122,8 @@ pub fn gap_sign(row: &Row, values: &Values) -> Result<Ordering, NoRoom>
     requires { All (λ t. HasValue values.now t.attr) row.now.terms }
     ensures sign { IfOk result (λ o. (x : Assignment) → Gives values.now x
         → o ≡ int_cmp (gap x (line_of_row row.now)) (pos 0)) }
-    ensures room { OnOk result (HasRoom row.now values.now) }
-    ensures none { OnErr result (HasRoom row.now values.now → ⊥) }
+    ensures room { OnOk result (HasGapRoom row.now values.now) }
+    ensures none { OnErr result (HasGapRoom row.now values.now → ⊥) }
 {
     row.show_row(); // for the proof: what a row keeps
     let terms = row.terms();

@@ -13,8 +13,8 @@ use Rattle.problem_core.specs.Layout.{Row, Line, Problem, Assignment, Gives, IsB
 use Rattle.problem_core.specs.Kept.{IsWhole}
 use Rattle.problem_core.specs.Certificates.{Multipliers, IsCertificate, under, over}
 use Rattle.problem_core.specs.Gaps.{HasValue, value_of}
-use Rattle.problem_core.proofs.Lookups.{given-value}
-use Rattle.problem_core.proofs.GapSigns.{same-order, gap-over}
+use Rattle.problem_core.proofs.GapFacts.Lookups.{given-value}
+use Rattle.problem_core.proofs.GapFacts.GapSigns.{same-order, gap-over}
 use Rattle.problem_core.proofs.Best.Duality.{certificate-IsBest}
 use Rattle.problem_core.proofs.Wholes.{whole-IsProblem}
 use Rattle.cert_core.specs.declared.by.By.{By}

@@ -18,7 +18,7 @@ use Rattle.claim_text.specs.declared.claim.Claim.TheVariants.{IsBest, IsConflict
 use Rattle.claim_text.specs.Stops.{bad_line}
 use Rattle.claim_text.specs.Words.{line_of, words}
 use Rattle.claim_text.specs.Claims.ClaimLines.{IsValue, best_lines, best_words, by_line, conflict_words, level_line, lines_of_levels, value_line}
-use Rattle.claim_text.specs.Claims.ClaimTexts.{Draft, Ends, HasBys, HasLevels, IsBestWritten, IsDraft, IsLevelRead, MayFollow, ReadFrom, Reads, Says, Step, StopsAt, closed, nothing_read, with_line}
+use Rattle.claim_text.specs.Claims.ClaimTexts.{Draft, Ends, TakesBys, TakesLevels, IsBestWritten, IsDraft, IsLevelRead, MayFollow, ReadFrom, Reads, Says, Step, IsClaimStop, closed, nothing_read, with_line}
 use Rattle.claim_text.specs.Names.{IsLevelBefore}
 use Rattle.std.proofs.Common.{Bool, Option, suc}
 use Rattle.std.specs.Str.Lines.{lines}
@@ -73,7 +73,7 @@ one-level levels l bys = levels-more levels (level_of l bys ∷ []) ∙ ap (λ (
 best-more : (values : List (ℕ × Fraction)) (xs ys zs : List (List ℕ)) → zs ≡ xs ++ ys → (map value_line values ++ line_of best_words ∷ xs) ++ ys ≡ map value_line values ++ line_of best_words ∷ zs
 best-more values xs ys zs e = append_assoc (map value_line values) (line_of best_words ∷ xs) ys ∙ ap (λ (ls : List (List ℕ)). map value_line values ++ line_of best_words ∷ ls) (sym e)
 
-has-levels : (s : Stage) (values : List (ℕ × Fraction)) (levels : List BestLevel) (bys : List By) → HasLevels s → stage_lines s values levels bys ≡ best_lines values (closed s levels bys)
+has-levels : (s : Stage) (values : List (ℕ × Fraction)) (levels : List BestLevel) (bys : List By) → TakesLevels s → stage_lines s values levels bys ≡ best_lines values (closed s levels bys)
 has-levels Values values levels bys h = absurd h
 has-levels Levels values levels bys h = refl
 has-levels (Bys l) values levels bys h = refl
@@ -83,7 +83,7 @@ has-levels (Path d) values levels bys h = absurd h
 level-more : (values : List (ℕ × Fraction)) (levels : List BestLevel) (l : LevelLine) → best_lines values levels ++ level_line l ∷ [] ≡ best_lines values (levels ++ level_of l [] ∷ [])
 level-more values levels l = best-more values (lines_of_levels levels) (level_line l ∷ []) (lines_of_levels (levels ++ level_of l [] ∷ [])) (one-level levels l [])
 
-by-more : (s : Stage) (values : List (ℕ × Fraction)) (levels : List BestLevel) (bys : List By) (b : By) → HasBys s → stage_lines s values levels bys ++ by_line b ∷ [] ≡ stage_lines s values levels (bys ++ b ∷ [])
+by-more : (s : Stage) (values : List (ℕ × Fraction)) (levels : List BestLevel) (bys : List By) (b : By) → TakesBys s → stage_lines s values levels bys ++ by_line b ∷ [] ≡ stage_lines s values levels (bys ++ b ∷ [])
 by-more Values values levels bys b h = absurd h
 by-more Levels values levels bys b h = absurd h
 by-more (Bys l) values levels bys b h =
@@ -94,7 +94,7 @@ by-more (Bys l) values levels bys b h =
 by-more Conflict values levels bys b h = ap (λ (ls : List (List ℕ)). line_of conflict_words ∷ ls) (sym (map-append by_line bys (b ∷ [])))
 by-more (Path d) values levels bys b h = absurd h
 
-same-start : (s : Stage) (levels : List BestLevel) (bys more : List By) → HasBys s → IsStart s levels more
+same-start : (s : Stage) (levels : List BestLevel) (bys more : List By) → TakesBys s → IsStart s levels more
 same-start Values levels bys more h = absurd h
 same-start Levels levels bys more h = absurd h
 same-start (Bys l) levels bys more h = tt
@@ -174,7 +174,7 @@ module _ (d : Draft) (ls : List (List ℕ)) (line : List ℕ) (h : Says-so d ls)
     start = tt;
   }
 
-  of-level : (l : LevelLine) → Says line (OfLevel l) → HasLevels d.stage → Says-so (with_line d (OfLevel l)) (ls ++ line ∷ [])
+  of-level : (l : LevelLine) → Says line (OfLevel l) → TakesLevels d.stage → Says-so (with_line d (OfLevel l)) (ls ++ line ∷ [])
   of-level l says has = record {
     lines = then d.stage (level_line l) refl (line-is line _ says.1) ∙ ap (λ (xs : List (List ℕ)). xs ++ level_line l ∷ []) (has-levels d.stage d.values d.levels d.bys has)
         ∙ level-more d.values (closed d.stage d.levels d.bys) l;
@@ -182,7 +182,7 @@ module _ (d : Draft) (ls : List (List ℕ)) (line : List ℕ) (h : Says-so d ls)
     start = tt;
   }
 
-  of-by : (b : By) → Says line (OfBy b) → HasBys d.stage → Says-so (with_line d (OfBy b)) (ls ++ line ∷ [])
+  of-by : (b : By) → Says line (OfBy b) → TakesBys d.stage → Says-so (with_line d (OfBy b)) (ls ++ line ∷ [])
   of-by b says has = record {
     lines = then d.stage (by_line b) refl (line-is line _ says.1) ∙ by-more d.stage d.values d.levels d.bys b has;
     values = h.values;
@@ -232,7 +232,7 @@ best-of d = IsBest d.values (closed d.stage d.levels d.bys)
 written : (d : Draft) (all : List (List ℕ)) → Says-so d all → IsDraft d → IsBestWritten d.values (closed d.stage d.levels d.bys)
 written d all h is = record { values = h.values; rising = is.values; levels = is.levels; level_order = is.level_order }
 
-whole-best : (d : Draft) (all : List (List ℕ)) → Says-so d all → IsDraft d → HasLevels d.stage → AreLinesOf all (IsBest d.values (closed d.stage d.levels d.bys))
+whole-best : (d : Draft) (all : List (List ℕ)) → Says-so d all → IsDraft d → TakesLevels d.stage → AreLinesOf all (IsBest d.values (closed d.stage d.levels d.bys))
 whole-best d all h is has = (written d all h is, h.lines ∙ has-levels d.stage d.values d.levels d.bys has)
 
 whole-conflict : (d : Draft) (all : List (List ℕ)) → Says-so d all → IsDraft d → d.stage ≡ Conflict → AreLinesOf all (IsConflict d.bys)
@@ -270,8 +270,8 @@ draft-front all d h is Values stage = (
   where
     none : AllPairs (λ (k l : BestLevel). IsLevelBefore k.level l.level) []
     none i j x less within = absurd (omega (arith, less, within))
-draft-front all d h is Levels stage = all-front all (best-of d) (whole-best d all h is (subst HasLevels (sym stage) tt))
-draft-front all d h is (Bys l) stage = all-front all (best-of d) (whole-best d all h is (subst HasLevels (sym stage) tt))
+draft-front all d h is Levels stage = all-front all (best-of d) (whole-best d all h is (subst TakesLevels (sym stage) tt))
+draft-front all d h is (Bys l) stage = all-front all (best-of d) (whole-best d all h is (subst TakesLevels (sym stage) tt))
 draft-front all d h is Conflict stage = all-front all (IsConflict d.bys) (whole-conflict d all h is stage)
 draft-front all d h is (Path p) stage = all-front all (IsPath (path_of p) p.unfit) (whole-path d all h is p stage)
 
@@ -294,8 +294,8 @@ bad-leaves before line d read bad front =
     bad cut.2.0 (subst (λ (m : Draft). Step m line cut.2.0) same cut.2.1)
 
 open-none : (d : Draft) (c : Claim) → d.stage ≡ Values → Ends d c → ⊥
-open-none d (IsBest values best) stage (has, same, levels) = subst HasLevels stage has
-open-none d (IsConflict bys) stage (is, same) = let e : Conflict ≡ Values = sym is ∙ stage in subst HasBys e tt
+open-none d (IsBest values best) stage (has, same, levels) = subst TakesLevels stage has
+open-none d (IsConflict bys) stage (is, same) = let e : Conflict ≡ Values = sym is ∙ stage in subst TakesBys e tt
 open-none d (IsPath path unfit) stage (p, is, same, quantity) = let e : Path p ≡ Values = sym is ∙ stage in cc
 
 early-leaves : (all : List (List ℕ)) (d : Draft) → ReadFrom nothing_read all d → d.stage ≡ Values → (c : Claim) → AreLinesOf all c → ⊥
@@ -304,7 +304,7 @@ early-leaves all d read stage c are =
     let same : whole.0 ≡ d = one_reading all nothing_read whole.0 d whole.1 read in
     open-none d c stage (subst (λ (m : Draft). Ends m c) same whole.2)
 
-stop-outside : (all : List (List ℕ)) (n : ℕ) → StopsAt all (bad_line n) → IsFirstOutside all n
+stop-outside : (all : List (List ℕ)) (n : ℕ) → IsClaimStop all (bad_line n) → IsFirstOutside all n
 stop-outside all n (inl bad) = record {
   before = bad.before;
   after = bad.line ∷ bad.after;
@@ -325,12 +325,12 @@ stop-outside all n (inr early) = record {
 -- a front that isn't all of a claim waits for `best`
 waits : (all : List (List ℕ)) (d : Draft) → ReadFrom nothing_read all d → ((c : Claim) → AreLinesOf all c → ⊥) → (s : Stage) → d.stage ≡ s → d.stage ≡ Values
 waits all d read none Values stage = stage
-waits all d read none Levels stage = absurd (none (best-of d) (whole-best d all (all-so all d read) (kept all d read) (subst HasLevels (sym stage) tt)))
-waits all d read none (Bys l) stage = absurd (none (best-of d) (whole-best d all (all-so all d read) (kept all d read) (subst HasLevels (sym stage) tt)))
+waits all d read none Levels stage = absurd (none (best-of d) (whole-best d all (all-so all d read) (kept all d read) (subst TakesLevels (sym stage) tt)))
+waits all d read none (Bys l) stage = absurd (none (best-of d) (whole-best d all (all-so all d read) (kept all d read) (subst TakesLevels (sym stage) tt)))
 waits all d read none Conflict stage = absurd (none (IsConflict d.bys) (whole-conflict d all (all-so all d read) (kept all d read) stage))
 waits all d read none (Path p) stage = absurd (none (IsPath (path_of p) p.unfit) (whole-path d all (all-so all d read) (kept all d read) p stage))
 
-outside-at : (all before after : List (List ℕ)) (n : ℕ) → all ≡ before ++ after → n ≡ length before + 1 → IsFront before → LeavesForm before after → StopsAt all (bad_line n)
+outside-at : (all before after : List (List ℕ)) (n : ℕ) → all ≡ before ++ after → n ≡ length before + 1 → IsFront before → LeavesForm before after → IsClaimStop all (bad_line n)
 outside-at all before [] n parts number front leaves =
     let read = front-read before front in
     let same : before ≡ all = sym (append-nil before) ∙ sym parts in
@@ -399,7 +399,7 @@ one-outside all m n h k =
 apart-outside : (all : List (List ℕ)) (c : Claim) (n : ℕ) → AreLinesOf all c → IsFirstOutside all n → ⊥
 apart-outside all c n are h = clash (outside-at all h.before h.after n h.parts h.number h.front h.leaves)
   where
-    clash : StopsAt all (bad_line n) → ⊥
+    clash : IsClaimStop all (bad_line n) → ⊥
     clash (inl bad) = let read = form-read all c are in no_bad_line all read.0 n read.1 bad
     clash (inr early) = early-leaves all early.so_far early.reads early.waits c are
 

@@ -24,7 +24,7 @@ use Rattle.frac_core.specs.declared.memory.Stop.TheVariants.{OutOfMemory, Refuse
 use Rattle.claim_text.specs.Words.{line_of}
 use Rattle.claim_text.specs.Claims.ClaimLines.{value_words, level_words, by_words, best_words, conflict_words, value_line, level_line, by_line, lines_of_levels, claim_lines, claim_text, IsValue, IsLevelLine, IsBy}
 use Rattle.claim_text.specs.Names.{row_word, level_word, IsRowName, IsLevelName}
-use Rattle.claim_text.specs.Claims.ClaimTexts.{Draft, Step, ReadFrom, nothing_read, closed, HasLevels, HasBys, AreRead, IsLevelRead, Ends, Reads, StopsAt, IsWritten, IsRead, LinesStopAt}
+use Rattle.claim_text.specs.Claims.ClaimTexts.{Draft, Step, ReadFrom, nothing_read, closed, TakesLevels, TakesBys, AreRead, IsLevelRead, Ends, Reads, IsClaimStop, IsWritten, IsRead, LinesStopAt}
 use Rattle.claim_text.specs.Names.{IsRowBefore, IsLevelBefore}
 use Rattle.std.proofs.Common.{Bool, true, false, Option, None, Some}
 use Rattle.problem_core.specs.declared.parts.Side.{Side}
@@ -177,7 +177,7 @@ value_step done v is above = record {
   is = refl;
 }
 
-by_step : (stage : Stage) (values : List (ℕ × Fraction)) (levels : List BestLevel) (done : List By) (b : By) → HasBys stage → IsBy b → All (λ k. IsRowBefore k.row b.row) done
+by_step : (stage : Stage) (values : List (ℕ × Fraction)) (levels : List BestLevel) (done : List By) (b : By) → TakesBys stage → IsBy b → All (λ k. IsRowBefore k.row b.row) done
     → Step (record { stage = stage; values = values; levels = levels; bys = done }) (by_line b) (record { stage = stage; values = values; levels = levels; bys = done ++ b ∷ [] })
 by_step stage values levels done b has is before = record {
   item = OfBy b;
@@ -186,7 +186,7 @@ by_step stage values levels done b has is before = record {
   is = refl;
 }
 
-level_step : (old : Draft) (l : LevelLine) → HasLevels old.stage → IsLevelLine l → All (λ k. IsLevelBefore k.level l.level) (closed old.stage old.levels old.bys)
+level_step : (old : Draft) (l : LevelLine) → TakesLevels old.stage → IsLevelLine l → All (λ k. IsLevelBefore k.level l.level) (closed old.stage old.levels old.bys)
     → Step old (level_line l) (record { stage = Bys l; values = old.values; levels = closed old.stage old.levels old.bys; bys = [] })
 level_step old l has is before = record {
   item = OfLevel l;
@@ -214,7 +214,7 @@ read_values done (v ∷ todo) are order =
 bys_from : Stage → List (ℕ × Fraction) → List BestLevel → List By → Draft
 bys_from stage values levels bys = record { stage = stage; values = values; levels = levels; bys = bys }
 
-read_bys : (stage : Stage) (values : List (ℕ × Fraction)) (levels : List BestLevel) (done todo : List By) → HasBys stage → AreRead (done ++ todo) → ReadFrom (bys_from stage values levels done) (map by_line todo) (bys_from stage values levels (done ++ todo))
+read_bys : (stage : Stage) (values : List (ℕ × Fraction)) (levels : List BestLevel) (done todo : List By) → TakesBys stage → AreRead (done ++ todo) → ReadFrom (bys_from stage values levels done) (map by_line todo) (bys_from stage values levels (done ++ todo))
 unfolding bys_from
 read_bys stage values levels done [] has are = ap (bys_from stage values levels) (append-nil done)
 read_bys stage values levels done (b ∷ todo) has are =
@@ -226,8 +226,8 @@ read_bys stage values levels done (b ∷ todo) has are =
     (bys_from stage values levels (done ++ b ∷ []), by_step stage values levels done b has (All-at_end IsBy done b (All-front IsBy (done ++ b ∷ []) todo each)) (All-last (λ (a : By) (c : By). IsRowBefore a.row c.row) done b front), rw joined at rest)
 
 -- the levels are read from any stage in which levels may come; what was closed before comes first
-read_levels : (old : Draft) (done todo : List BestLevel) → HasLevels old.stage → closed old.stage old.levels old.bys ≡ done → All IsLevelRead (done ++ todo) → AllPairs (λ k l. IsLevelBefore k.level l.level) (done ++ todo)
-    → (last : Draft) × ReadFrom old (lines_of_levels todo) last × HasLevels last.stage × (last.values ≡ old.values) × (closed last.stage last.levels last.bys ≡ done ++ todo)
+read_levels : (old : Draft) (done todo : List BestLevel) → TakesLevels old.stage → closed old.stage old.levels old.bys ≡ done → All IsLevelRead (done ++ todo) → AllPairs (λ k l. IsLevelBefore k.level l.level) (done ++ todo)
+    → (last : Draft) × ReadFrom old (lines_of_levels todo) last × TakesLevels last.stage × (last.values ≡ old.values) × (closed last.stage last.levels last.bys ≡ done ++ todo)
 unfolding bys_from
 read_levels old done [] has is are order = (old, refl, has, refl, is ∙ sym (append-nil done))
 read_levels old done (l ∷ todo) has is are order =
@@ -384,19 +384,19 @@ one_path d e same = cc
 
 ends_one : (last : Draft) (c d : Claim) → Ends last c → Ends last d → d ≡ c
 ends_one last (IsBest v b) (IsBest w e) of_c of_d = ap₂ IsBest (of_d.1 ∙ sym of_c.1) (of_d.2 ∙ sym of_c.2)
-ends_one last (IsBest v b) (IsConflict e) of_c of_d = absurd (subst HasLevels of_d.0 of_c.0)
-ends_one last (IsBest v b) (IsPath p q) of_c of_d = absurd (subst HasLevels of_d.1 of_c.0)
-ends_one last (IsConflict b) (IsBest w e) of_c of_d = absurd (subst HasLevels of_c.0 of_d.0)
+ends_one last (IsBest v b) (IsConflict e) of_c of_d = absurd (subst TakesLevels of_d.0 of_c.0)
+ends_one last (IsBest v b) (IsPath p q) of_c of_d = absurd (subst TakesLevels of_d.1 of_c.0)
+ends_one last (IsConflict b) (IsBest w e) of_c of_d = absurd (subst TakesLevels of_c.0 of_d.0)
 ends_one last (IsConflict b) (IsConflict e) of_c of_d = ap IsConflict (of_d.1 ∙ sym of_c.1)
-ends_one last (IsConflict b) (IsPath p q) of_c of_d = absurd (let same : Conflict ≡ Path of_d.0 = sym of_c.0 ∙ of_d.1 in subst HasBys same tt)
-ends_one last (IsPath p q) (IsBest w e) of_c of_d = absurd (subst HasLevels of_c.1 of_d.0)
-ends_one last (IsPath p q) (IsConflict e) of_c of_d = absurd (let same : Conflict ≡ Path of_c.0 = sym of_d.0 ∙ of_c.1 in subst HasBys same tt)
+ends_one last (IsConflict b) (IsPath p q) of_c of_d = absurd (let same : Conflict ≡ Path of_d.0 = sym of_c.0 ∙ of_d.1 in subst TakesBys same tt)
+ends_one last (IsPath p q) (IsBest w e) of_c of_d = absurd (subst TakesLevels of_c.1 of_d.0)
+ends_one last (IsPath p q) (IsConflict e) of_c of_d = absurd (let same : Conflict ≡ Path of_c.0 = sym of_d.0 ∙ of_c.1 in subst TakesBys same tt)
 ends_one last (IsPath p q) (IsPath r s) of_c of_d =
     let same : of_d.0 ≡ of_c.0 = one_path of_d.0 of_c.0 (sym of_d.1 ∙ of_c.1) in
     ap₂ IsPath (of_d.2 ∙ (ap path_of same ∙ sym of_c.2)) (of_d.3 ∙ (ap (λ (d : PathDraft). d.unfit) same ∙ sym of_c.3))
 
 never_open : (last : Draft) (c : Claim) → Ends last c → last.stage ≡ Values → ⊥
-never_open last (IsBest v b) ends waits = subst HasLevels waits ends.0
+never_open last (IsBest v b) ends waits = subst TakesLevels waits ends.0
 never_open last (IsConflict b) ends waits = let same : Conflict ≡ Values = sym ends.0 ∙ waits in cc
 never_open last (IsPath p q) ends waits = let same : Path ends.0 ≡ Values = sym ends.1 ∙ waits in cc
 
@@ -406,7 +406,7 @@ read_is c d text read is text_is =
     let same : read.0 ≡ written.0 = one_reading (lines text) nothing_read read.0 written.0 read.1 written.1 in
     ends_one written.0 c d written.2 (rw same at read.2)
 
-pub stop_is : (c : Claim) (stop : ReadStop) (text : List ℕ) → StopsAt (lines text) stop → IsWritten c → text ≡ claim_text c → stop ≡ OutOfMemory
+pub stop_is : (c : Claim) (stop : ReadStop) (text : List ℕ) → IsClaimStop (lines text) stop → IsWritten c → text ≡ claim_text c → stop ≡ OutOfMemory
 stop_is c (Refused bad_at) text (inl bad) is text_is =
     let written : Reads (lines text) c = rw text_is (reads_back c is) in
     absurd (no_bad_line (lines text) written.0 bad_at.0 written.1 bad)

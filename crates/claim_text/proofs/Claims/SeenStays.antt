@@ -30,8 +30,8 @@ use Rattle.claim_text.specs.Paths.PathForms.{PathDraft}
 use Rattle.problem_core.specs.declared.parts.Mark.{Mark}
 use Rattle.claim_text.specs.declared.claim.seen.Seen.{Seen}
 use Rattle.claim_text.specs.Claims.ClaimTexts.{MayFollow, with_line}
-use Rattle.claim_text.specs.Claims.Seen.{AreKeys, AreRowKeys, AreLevelKeys, AreSeen, levels_of, marked_rows}
-use Rattle.claim_text.specs.Claims.ClaimTexts.{HasLevels, stage_with}
+use Rattle.claim_text.specs.Claims.Seen.{AreKeys, AreRowKeys, AreLevelKeys, AreSeen, MayStandBehind, levels_of, marked_rows}
+use Rattle.claim_text.specs.Claims.ClaimTexts.{TakesLevels, stage_with}
 use Rattle.claim_text.proofs.Rising.{All-at_end, All-last}
 use Rattle.frac_core.proofs.Lists.{all-front as All-front}
 
@@ -104,16 +104,23 @@ priority_before (StayLevel a) (StayLevel b) rank h k = absurd k
 pub values_below : (values : List (ℕ × Fraction)) (attr : ℕ) (d : ℕ × Fraction) → AllPairs (λ u v. u.0 < v.0) values → (get_or values (length values - 1) d).0 < attr → All (λ v. v.0 < attr) values
 values_below values attr d rising last = last_all (λ u v. u.0 < v.0) (λ v. v.0 < attr) values d (λ u v l m. omega (arith, l, m)) rising last
 
-pub rows_before : {A : Type 0} (f : A → RowName) (xs : List A) (row : RowName) (id : ℕ) (d : A) → row ≡ Held id → AllPairs (λ a b. IsRowBefore (f a) (f b)) xs → IsRowBefore (f (get_or xs (length xs - 1) d)) row → All (λ x. IsRowBefore (f x) row) xs
-rows_before f xs row id d e order last =
-    subst (λ (r : RowName). All (λ x. IsRowBefore (f x) r) xs) (sym e)
-    (last_all (λ a b. IsRowBefore (f a) (f b)) (λ b. IsRowBefore (f b) (Held id)) xs d (λ a b h k. held_before (f a) (f b) id h k) order (subst (IsRowBefore (f (get_or xs (length xs - 1) d))) e last))
+rows_before : {A : Type 0} (f : A → RowName) (xs : List A) (id : ℕ) (d : A) → AllPairs (λ a b. IsRowBefore (f a) (f b)) xs → IsRowBefore (f (get_or xs (length xs - 1) d)) (Held id) → All (λ x. IsRowBefore (f x) (Held id)) xs
+rows_before f xs id d order last =
+    last_all (λ a b. IsRowBefore (f a) (f b)) (λ b. IsRowBefore (f b) (Held id)) xs d (λ a b h k. held_before (f a) (f b) id h k) order last
 
-pub row_decided : {A : Type 0} (f : A → RowName) (xs : List A) (d : A) (keys : BTreeMap ℕ ℕ) (row : RowName) (attr : ℕ) (b : Bool) → row ≡ StayRow attr → AreRowKeys (map f xs) keys → b ≡ is_some (get nat_cmp keys attr) → IsTrue (not b) ↔ All (λ x. IsRowBefore (f x) row) xs
-row_decided f xs d keys row attr b e are is =
-    let both = decided (All (λ r. IsRowBefore r (StayRow attr)) (map f xs)) (get nat_cmp keys attr) b is (are attr) in (
-      λ h. subst (λ (r : RowName). All (λ x. IsRowBefore (f x) r) xs) (sym e) (map_all (λ r. IsRowBefore r (StayRow attr)) f xs (both.0 h)),
-      λ all. both.1 (all_map (λ r. IsRowBefore r (StayRow attr)) f xs d (subst (λ (r : RowName). All (λ x. IsRowBefore (f x) r) xs) e all)),
+no_key : (T : Type 0) (o : Option ℕ) → MatchOption o T (λ _. T → ⊥) → (o ≡ None) ↔ T
+no_key T None t = (λ h. t, λ h. refl)
+no_key T (Some k) none = (λ h. absurd (let g : true ≡ false = ap is_some h in cc), λ t. absurd (none t))
+
+pub rows_behind : {A : Type 0} (f : A → RowName) (xs : List A) (d : A) (keys : BTreeMap ℕ ℕ) (last row : RowName) → 0 < length xs → AllPairs (λ a b. IsRowBefore (f a) (f b)) xs → AreRowKeys (map f xs) keys → last ≡ f (get_or xs (length xs - 1) d) → MayStandBehind keys last row ↔ All (λ x. IsRowBefore (f x) row) xs
+rows_behind f xs d keys last (Held id) some order are is = (
+  λ h. rows_before f xs id d order (subst (λ (r : RowName). IsRowBefore r (Held id)) is h),
+  λ all. subst (λ (r : RowName). IsRowBefore r (Held id)) (sym is) (all (length xs - 1) d (omega (arith, some))),
+)
+rows_behind f xs d keys last (StayRow attr) some order are is =
+    let both = no_key (All (λ r. IsRowBefore r (StayRow attr)) (map f xs)) (get nat_cmp keys attr) (are attr) in (
+      λ h. map_all (λ r. IsRowBefore r (StayRow attr)) f xs (both.0 h),
+      λ all. both.1 (all_map (λ r. IsRowBefore r (StayRow attr)) f xs d all),
     )
 
 no_level : BestLevel
@@ -159,7 +166,7 @@ open_last levels final = map-append (λ (l : BestLevel). l.level) levels (final 
 -- ---- a level more
 
 -- where levels may come no mark was named
-no_marks : (s : Stage) → HasLevels s → marked_rows s ≡ []
+no_marks : (s : Stage) → TakesLevels s → marked_rows s ≡ []
 no_marks Values h = absurd h
 no_marks Levels h = refl
 no_marks (Bys l) h = refl
@@ -172,7 +179,7 @@ pub level_noted : {T E : Type 0} (r : Result T E) (item : ClaimLine) (l : LevelL
 level_noted (Ok x) item l old rows levels is empty h = λ d may seen.
     let named : map (λ l. l.level) (closed d.stage d.levels d.bys ++ record { level = l.level; scale = l.scale; by = [] } ∷ []) ≡ levels_of d ++ l.level ∷ [] =
     open_last (closed d.stage d.levels d.bys) (record { level = l.level; scale = l.scale; by = [] }) in
-    let has : HasLevels d.stage = (subst (λ (i : ClaimLine). MayFollow d i) is may).0 in
+    let has : TakesLevels d.stage = (subst (λ (i : ClaimLine). MayFollow d i) is may).0 in
     subst (λ (i : ClaimLine). AreSeen (with_line d i) (record { rows = rows; levels = levels; marks = old.marks })) (sym is)
     (record {
       rows = empty;

@@ -13,7 +13,7 @@ use Rattle.claim_text.specs.declared.problem.items.Item.TheVariants.{Nothing, Of
 use Rattle.claim_text.specs.Stops.{bad_line}
 use Rattle.claim_text.specs.Words.{words}
 use Rattle.claim_text.specs.Lines.{row_line, row_words, stay_line, stay_words}
-use Rattle.claim_text.specs.Problems.{HasStayLine, IsPassedOver, MayFollow, ReadFrom, Reads, Says, Step, StopsAt, nothing_read, with_item}
+use Rattle.claim_text.specs.Problems.{HasStayLine, IsPassedOver, MayFollow, ReadFrom, Reads, Says, Step, IsProblemStop, nothing_read, with_item}
 use Rattle.claim_text.specs.ProblemForms.{AreParts, AreProblemLines, IsFirstOutsideProblem, IsProblemFront, ProblemsAreTheForm, Shows, problem_lines}
 use Rattle.claim_text.proofs.Problems.Readings.{read_more, whole_read}
 use Rattle.claim_text.proofs.Claims.ClaimForms.{longer, same-number, line-is}
@@ -248,7 +248,7 @@ bad-leaves all before line d read bad (p, are, shows) =
     let same : cut.0 ≡ d = one_reading (HasStayLine all) before nothing_read cut.0 d cut.1 read in
     bad cut.2.0 (subst (λ (m : Problem). Step (HasStayLine all) m line cut.2.0) same cut.2.1)
 
-stop-outside : (all : List (List ℕ)) (n : ℕ) → StopsAt all (bad_line n) → IsFirstOutsideProblem all n
+stop-outside : (all : List (List ℕ)) (n : ℕ) → IsProblemStop all (bad_line n) → IsFirstOutsideProblem all n
 stop-outside all n bad = record {
   before = bad.before;
   line = bad.line;
@@ -259,7 +259,7 @@ stop-outside all n bad = record {
   leaves = bad-leaves all bad.before bad.line bad.so_far bad.reads bad.bad;
 }
 
-outside-stop : (all : List (List ℕ)) (n : ℕ) → IsFirstOutsideProblem all n → StopsAt all (bad_line n)
+outside-stop : (all : List (List ℕ)) (n : ℕ) → IsFirstOutsideProblem all n → IsProblemStop all (bad_line n)
 outside-stop all n h =
     let p : Problem = h.front.0 in
     let read : ReadFrom (HasStayLine all) nothing_read h.before p = front-read all h.before p h.front.1 h.front.2 in

@@ -11,7 +11,7 @@ use Rattle.problem_core.specs.Layout.{Row, Problem, HasStay as HasStayIn, IsCove
 use Rattle.claim_text.specs.declared.problem.items.Item.TheVariants.{OfRow, OfStay}
 use Rattle.claim_text.specs.Words.{words}
 use Rattle.claim_text.specs.Lines.{row_words, stay_words, row_line, stay_line, problem_text}
-use Rattle.claim_text.specs.Problems.{with_item, Step, ReadFrom, Reads, nothing_read, HasStayLine, StopsAt}
+use Rattle.claim_text.specs.Problems.{with_item, Step, ReadFrom, Reads, nothing_read, HasStayLine, IsProblemStop}
 use Rattle.claim_text.specs.FirstBad.{IsFirstBad}
 use Rattle.claim_text.specs.Stops.{ReadStop}
 use Rattle.frac_core.specs.declared.memory.Stop.TheVariants.{OutOfMemory, Refused}
@@ -165,6 +165,6 @@ read_is p q text read whole rows stays is =
     let all : lines text ≡ lines (problem_text p) = ap lines is in
     one_reading (HasStayLine (lines (problem_text p))) (lines (problem_text p)) nothing_read q p (rw all at read) (reads_back p whole rows stays)
 
-pub stop_is : (p : Problem) (stop : ReadStop) (text : List ℕ) → StopsAt (lines text) stop → IsWhole p → length p.rows ≤ 2001 → length p.stays ≤ 800 → text ≡ problem_text p → stop ≡ OutOfMemory
+pub stop_is : (p : Problem) (stop : ReadStop) (text : List ℕ) → IsProblemStop (lines text) stop → IsWhole p → length p.rows ≤ 2001 → length p.stays ≤ 800 → text ≡ problem_text p → stop ≡ OutOfMemory
 stop_is p (Refused bad) text at whole rows stays is = absurd (no_bad_line (lines text) p bad.0 (rw is (reads_back p whole rows stays)) at)
 stop_is p OutOfMemory text at whole rows stays is = refl

@@ -3,7 +3,7 @@ use Rattle.std.specs.Prelude.{◌≡◌, ℕ, ◌+◌, List, [], ◌∷◌, ◌+
 use Rattle.claim_text.specs.declared.claim.Claim.{Claim}
 use Rattle.claim_text.specs.Stops.{bad_line}
 use Rattle.claim_text.specs.Claims.ClaimLines.{claim_lines}
-use Rattle.claim_text.specs.Claims.ClaimTexts.{IsWritten, Reads, StopsAt}
+use Rattle.claim_text.specs.Claims.ClaimTexts.{IsWritten, Reads, IsClaimStop}
 
 -- the claim is one that is written, and these are its lines
 abbrev pub AreLinesOf : List (List ℕ) → Claim → Type 0
@@ -32,7 +32,7 @@ pub record IsFirstOutside (all : List (List ℕ)) (n : ℕ) : Type 0 where
 pub record ClaimsAreTheForm : Type 0 where
   pub read : (all : List (List ℕ)) (c : Claim) → Reads all c → AreLinesOf all c
   pub form : (all : List (List ℕ)) (c : Claim) → AreLinesOf all c → Reads all c
-  pub stop : (all : List (List ℕ)) (n : ℕ) → StopsAt all (bad_line n) → IsFirstOutside all n
-  pub outside : (all : List (List ℕ)) (n : ℕ) → IsFirstOutside all n → StopsAt all (bad_line n)
+  pub stop : (all : List (List ℕ)) (n : ℕ) → IsClaimStop all (bad_line n) → IsFirstOutside all n
+  pub outside : (all : List (List ℕ)) (n : ℕ) → IsFirstOutside all n → IsClaimStop all (bad_line n)
   pub one : (all : List (List ℕ)) (m n : ℕ) → IsFirstOutside all m → IsFirstOutside all n → m ≡ n
   pub apart : (all : List (List ℕ)) (c : Claim) (n : ℕ) → AreLinesOf all c → IsFirstOutside all n → ⊥

@@ -56,29 +56,29 @@ closed Conflict levels bys = levels
 closed (Path d) levels bys = levels
 
 -- the stage is one at which a level may come
-abbrev pub HasLevels : Stage → Type 0
-HasLevels Values = ⊥
-HasLevels Levels = Unit {0}
-HasLevels (Bys l) = Unit {0}
-HasLevels Conflict = ⊥
-HasLevels (Path d) = ⊥
+abbrev pub TakesLevels : Stage → Type 0
+TakesLevels Values = ⊥
+TakesLevels Levels = Unit {0}
+TakesLevels (Bys l) = Unit {0}
+TakesLevels Conflict = ⊥
+TakesLevels (Path d) = ⊥
 
 -- the stage is one at which a multiplier may come
-abbrev pub HasBys : Stage → Type 0
-HasBys Values = ⊥
-HasBys Levels = ⊥
-HasBys (Bys l) = Unit {0}
-HasBys Conflict = Unit {0}
-HasBys (Path d) = ⊥
+abbrev pub TakesBys : Stage → Type 0
+TakesBys Values = ⊥
+TakesBys Levels = ⊥
+TakesBys (Bys l) = Unit {0}
+TakesBys Conflict = Unit {0}
+TakesBys (Path d) = ⊥
 
 -- a line that says this may follow what was read
 abbrev pub MayFollow : Draft → ClaimLine → Type 0
 MayFollow old (OfValue v) = (old.stage ≡ Values) × All (λ u. u.0 < v.0) old.values
 MayFollow old OfBest = old.stage ≡ Values
 MayFollow old OfConflict = (old.stage ≡ Values) × (old.values ≡ [])
-MayFollow old (OfLevel l) = HasLevels old.stage × All (λ k.
-    IsLevelBefore k.level l.level) (closed old.stage old.levels old.bys)
-MayFollow old (OfBy b) = HasBys old.stage × All (λ k. IsRowBefore k.row b.row) old.bys
+MayFollow old (OfLevel l) = TakesLevels old.stage
+    × All (λ k. IsLevelBefore k.level l.level) (closed old.stage old.levels old.bys)
+MayFollow old (OfBy b) = TakesBys old.stage × All (λ k. IsRowBefore k.row b.row) old.bys
 MayFollow old (OfPath dual) = (old.stage ≡ Values) × (old.values ≡ [])
 MayFollow old (OfPart part) = (d : PathDraft) × (old.stage ≡ Path d) × PartMayFollow d part
 
@@ -146,7 +146,8 @@ ReadFrom old (line ∷ more) new = (mid : Draft) × Step old line mid × ReadFro
 
 -- what was read is all of the claim
 abbrev pub Ends : Draft → Claim → Type 0
-Ends d (IsBest values best) = HasLevels d.stage × (values ≡ d.values) × (best ≡ closed d.stage d.levels d.bys)
+Ends d (IsBest values best) = TakesLevels d.stage × (values ≡ d.values)
+    × (best ≡ closed d.stage d.levels d.bys)
 Ends d (IsConflict bys) = (d.stage ≡ Conflict) × (bys ≡ d.bys)
 Ends d (IsPath path unfit) = (read : PathDraft) × (d.stage ≡ Path read) × (path ≡ path_of read)
     × (unfit ≡ read.unfit)
@@ -163,9 +164,9 @@ pub record EndsEarly (all : List (List ℕ)) (n : ℕ) : Type 0 where
   pub waits : so_far.stage ≡ Values
 
 -- where the text stops to be a claim, unless memory was wanting
-abbrev pub StopsAt : List (List ℕ) → ReadStop → Type 0
-StopsAt all (Refused bad) = IsFirstBad (ReadFrom nothing_read) Step all bad.0 ⊎ EndsEarly all bad.0
-StopsAt all OutOfMemory = Unit {0}
+abbrev pub IsClaimStop : List (List ℕ) → ReadStop → Type 0
+IsClaimStop all (Refused bad) = IsFirstBad (ReadFrom nothing_read) Step all bad.0 ⊎ EndsEarly all bad.0
+IsClaimStop all OutOfMemory = Unit {0}
 
 -- ---- what the reader of lines tells
 

@@ -1,9 +1,9 @@
 -- The stays that a claim has named so far.
-use Rattle.std.specs.Prelude.{ℕ, List, [], map, All, MatchOption}
+use Rattle.std.specs.Prelude.{◌≡◌, ℕ, List, [], None, map, All, MatchOption}
 use Rattle.std.specs.Ordering.{nat_cmp}
 use Rattle.std.specs.BTreeMap.{BTreeMap, get}
 use Rattle.problem_core.specs.declared.parts.RowName.{RowName}
-use Rattle.problem_core.specs.declared.parts.RowName.TheVariants.{Stay as StayRow}
+use Rattle.problem_core.specs.declared.parts.RowName.TheVariants.{Held, Stay as StayRow}
 use Rattle.problem_core.specs.declared.parts.Level.{Level}
 use Rattle.problem_core.specs.declared.parts.Level.TheVariants.{Stay as StayLevel}
 use Rattle.claim_text.specs.declared.claim.seen.Seen.{Seen}
@@ -20,6 +20,11 @@ AreKeys MayPrecede xs keys = (attr : ℕ) → MatchOption (get nat_cmp keys attr
 -- the keys are the attributes of the stays among these rows
 abbrev pub AreRowKeys : List RowName → BTreeMap ℕ ℕ → Type 0
 AreRowKeys rows keys = AreKeys (λ row attr. IsRowBefore row (StayRow attr)) rows keys
+
+-- the row may stand behind rows of which this is the last, where the stays among them are the keys
+abbrev pub MayStandBehind : BTreeMap ℕ ℕ → RowName → RowName → Type 0
+MayStandBehind keys last (Held id) = IsRowBefore last (Held id)
+MayStandBehind keys last (StayRow attr) = get nat_cmp keys attr ≡ None
 
 -- the keys are the attributes of the stays among these levels
 abbrev pub AreLevelKeys : List Level → BTreeMap ℕ ℕ → Type 0

@@ -2,6 +2,7 @@
 ghost use Rattle.std.specs.Prelude.{◌≡◌, ◌<◌, ◌++◌, ◌∷◌, [], All, AllPairs, IfOk, IfSome, IfNone, IsTrue};
 ghost use Rattle.std.specs.Prelude.{◌↔◌, true, false, List, map};
 ghost use Rattle.problem_core.specs.Kept.{AreRising};
+ghost use Rattle.cert_core.specs.Claims.{AreBys, AreLevels};
 ghost use Rattle.problem_core.specs.declared.parts.RowName.{RowName};
 ghost use Rattle.problem_core.specs.declared.parts.Level.{Level};
 
@@ -94,8 +95,6 @@ impl EndedLevel {
     }
 }
 
-ghost use Rattle.cert_core.specs.Claims.{AreBys, AreLevels};
-
 fn level_of(line: &LevelLine) -> Level
     ensures { result ≡ line.now.level }
 {
@@ -133,9 +132,9 @@ impl ClaimDraft {
     ghost use Rattle.problem_core.specs.declared.parts.Level as level;
     ghost use Rattle.claim_text.specs.Claims.Seen.{AreRowKeys, AreLevelKeys, AreSeen};
     ghost use Rattle.claim_text.specs.Claims.Seen.{levels_of, rows_of, marked_rows};
-    ghost use Rattle.claim_text.specs.Claims.ClaimTexts.{nothing_read, closed, HasLevels, HasBys, IsStage};
+    ghost use Rattle.claim_text.specs.Claims.ClaimTexts.{nothing_read, closed, TakesLevels, TakesBys};
     ghost use Rattle.claim_text.specs.Claims.ClaimTexts.{stage_with, MayFollow, with_line, Step, Ends};
-    ghost use Rattle.claim_text.specs.Claims.ClaimTexts.{IsDraft};
+    ghost use Rattle.claim_text.specs.Claims.ClaimTexts.{IsDraft, IsStage};
     ghost use Rattle.claim_text.specs.Names.{IsRowBefore, IsLevelBefore};
     ghost use Rattle.claim_text.specs.Paths.PathForms as forms;
 
@@ -157,14 +156,14 @@ impl ClaimDraft {
         matches!(self.stage, Stage::Values)
     }
 
-    fn has_levels(&self) -> bool
-        ensures { IsTrue result ↔ HasLevels self.now.stage }
+    fn takes_levels(&self) -> bool
+        ensures { IsTrue result ↔ TakesLevels self.now.stage }
     {
         matches!(self.stage, Stage::Levels | Stage::Bys(_))
     }
 
-    fn has_bys(&self) -> bool
-        ensures { IsTrue result ↔ HasBys self.now.stage }
+    fn takes_bys(&self) -> bool
+        ensures { IsTrue result ↔ TakesBys self.now.stage }
     {
         matches!(self.stage, Stage::Conflict | Stage::Bys(_))
     }
@@ -186,9 +185,9 @@ impl ClaimDraft {
     fn by_may_follow(&self, keys: &BTreeMap<u32, u32>, row: RowName) -> bool
         requires order { AllPairs (λ a b. IsRowBefore a.row b.row) self.now.bys }
         requires keys { AreRowKeys (rows_of self.now) keys.now }
-        ensures { IsTrue result ↔ (HasBys self.now.stage × All (λ b. IsRowBefore b.row row) self.now.bys) }
+        ensures { IsTrue result ↔ (TakesBys self.now.stage × All (λ b. IsRowBefore b.row row) self.now.bys) }
     {
-        self.has_bys() && are_rows_before(keys, &self.bys, row)
+        self.takes_bys() && are_rows_before(keys, &self.bys, row)
     }
 
     // The last level, which is the open one where one is.
@@ -224,10 +223,10 @@ impl ClaimDraft {
         requires order { AllPairs (λ k l. IsLevelBefore k.level l.level)
             (closed self.now.stage self.now.levels self.now.bys) }
         requires keys { AreLevelKeys (levels_of self.now) keys.now }
-        ensures { IsTrue result ↔ (HasLevels self.now.stage
+        ensures { IsTrue result ↔ (TakesLevels self.now.stage
             × All (λ l. IsLevelBefore l.level level) (closed self.now.stage self.now.levels self.now.bys)) }
     {
-        self.has_levels() && self.levels_are_before(keys, level)
+        self.takes_levels() && self.levels_are_before(keys, level)
     }
 
     fn part_may_follow(&self, keys: &BTreeMap<u32, u32>, part: &PathLine) -> bool
@@ -258,8 +257,8 @@ impl ClaimDraft {
         }
     }
 
-    /// Ends the level that is open.
-    pub(crate) fn close(&mut self, alloc: Global) -> Result<(), OutOfMemory>
+    // Ends the level that is open.
+    fn close(&mut self, alloc: Global) -> Result<(), OutOfMemory>
         ensures { IfOk result (λ _. self.new ≡ record {
           stage = self.old.stage;
           values = self.old.values;
@@ -370,7 +369,7 @@ impl ClaimDraft {
         if let Stage::Path(path) = &self.stage {
             return Ok(Some(path.claim(alloc)?));
         }
-        if !self.has_levels() {
+        if !self.takes_levels() {
             return Ok(Some(Claim::IsConflict(self.conflict(alloc)?)));
         }
         self.close(alloc)?;

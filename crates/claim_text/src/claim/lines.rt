@@ -25,8 +25,8 @@ pub(crate) struct LevelLine {
     pub(crate) scale: i64,
 }
 
-/// The attribute and the value that a line says.
-pub(crate) fn read_value(line: &[u8]) -> Option<(u32, Frac)>
+// The attribute and the value that a line says.
+fn read_value(line: &[u8]) -> Option<(u32, Frac)>
     ensures some { IfSome result (λ v. IsValue v × (words line.now ≡ value_words v)) }
     ensures none { IfNone result ((v : ℕ × Fraction) → IsValue v → words line.now ≡ value_words v → ⊥) }
 {
@@ -42,8 +42,8 @@ pub(crate) fn read_value(line: &[u8]) -> Option<(u32, Frac)>
     }
 }
 
-/// The level and the scale that a line says.
-pub(crate) fn read_level(line: &[u8]) -> Option<LevelLine>
+// The level and the scale that a line says.
+fn read_level(line: &[u8]) -> Option<LevelLine>
     ensures some { IfSome result (λ l. IsLevelLine l × (words line.now ≡ level_words l)) }
     ensures none { IfNone result ((l : LevelLine) → IsLevelLine l → words line.now ≡ level_words l → ⊥) }
 {
@@ -59,8 +59,8 @@ pub(crate) fn read_level(line: &[u8]) -> Option<LevelLine>
     }
 }
 
-/// The row and the multiplier that a line says.
-pub(crate) fn read_by(line: &[u8]) -> Option<By>
+// The row and the multiplier that a line says.
+fn read_by(line: &[u8]) -> Option<By>
     ensures some { IfSome result (λ b. IsBy b × (words line.now ≡ by_words b)) }
     ensures none { IfNone result ((b : By) → IsBy b → words line.now ≡ by_words b → ⊥) }
 {
@@ -79,8 +79,8 @@ pub(crate) fn read_by(line: &[u8]) -> Option<By>
     }
 }
 
-/// Whether the line is this one word.
-pub(crate) fn is_word(line: &[u8], word: &[u8]) -> bool
+// Whether the line is this one word.
+fn is_word(line: &[u8], word: &[u8]) -> bool
     ensures { IsTrue result ↔ (words line.now ≡ word.now ∷ []) }
 {
     let mut words = Words::of(line);

@@ -1,7 +1,7 @@
 // The order in which rows and levels come.
 ghost use Rattle.std.specs.Prelude.{All, AllPairs, IsTrue, ◌↔◌, map};
 ghost use Rattle.claim_text.specs.Names.{IsRowBefore, IsLevelBefore};
-ghost use Rattle.claim_text.specs.Claims.Seen.{AreRowKeys};
+ghost use Rattle.claim_text.specs.Claims.Seen.{AreRowKeys, MayStandBehind};
 
 use cert_core::By;
 use problem_core::{Level, Mark, RowName};
@@ -31,19 +31,26 @@ pub(crate) fn is_level_before(a: Level, b: Level) -> bool
     }
 }
 
+// Whether the row may stand behind rows of which this is the last, and whose stays are the keys.
+fn may_stand_behind(keys: &BTreeMap<u32, u32>, last: RowName, row: RowName) -> bool
+    ensures { IsTrue result ↔ MayStandBehind keys.now last row }
+{
+    match row {
+        RowName::Held(_) => is_row_before(last, row),
+        RowName::Stay(attr) => !keys.contains_key(&attr),
+    }
+}
+
 /// Whether the row may stand behind all these, whose stays are the keys.
 pub(crate) fn are_rows_before(keys: &BTreeMap<u32, u32>, bys: &[By], row: RowName) -> bool
     requires order { AllPairs (λ a b. IsRowBefore a.row b.row) bys.now }
     requires keys { AreRowKeys (map (λ b. b.row) bys.now) keys.now }
     ensures { IsTrue result ↔ All (λ b. IsRowBefore b.row row) bys.now }
 {
-    if let RowName::Stay(attr) = row {
-        return !keys.contains_key(&attr);
-    }
     if bys.is_empty() {
         return true;
     }
-    is_row_before(bys[bys.len() - 1].row, row)
+    may_stand_behind(keys, bys[bys.len() - 1].row, row)
 }
 
 /// Whether the row may stand behind those of all these marks, whose stays are the keys.
@@ -52,11 +59,8 @@ pub(crate) fn are_marks_before(keys: &BTreeMap<u32, u32>, marks: &[Mark], row: R
     requires keys { AreRowKeys (map (λ m. m.row) marks.now) keys.now }
     ensures { IsTrue result ↔ All (λ m. IsRowBefore m.row row) marks.now }
 {
-    if let RowName::Stay(attr) = row {
-        return !keys.contains_key(&attr);
-    }
     if marks.is_empty() {
         return true;
     }
-    is_row_before(marks[marks.len() - 1].row, row)
+    may_stand_behind(keys, marks[marks.len() - 1].row, row)
 }

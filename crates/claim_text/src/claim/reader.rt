@@ -4,7 +4,7 @@ ghost use Rattle.std.specs.Str.Lines.{lines};
 ghost use Rattle.frac_core.specs.declared.memory.Stop.TheVariants.{OutOfMemory};
 ghost use Rattle.claim_text.specs.declared.claim.Claim as claim;
 ghost use Rattle.claim_text.specs.Claims.ClaimLines.{claim_text};
-ghost use Rattle.claim_text.specs.Claims.ClaimTexts.{IsRead, LinesStopAt, Reads, StopsAt, IsWritten};
+ghost use Rattle.claim_text.specs.Claims.ClaimTexts.{IsRead, LinesStopAt, Reads, IsClaimStop, IsWritten};
 ghost use Rattle.claim_text.specs.Claims.ClaimTexts.{HasNoMoreParts};
 ghost use Rattle.claim_text.specs.declared.limits.TheConstants.{TEXT_LIMIT};
 
@@ -48,7 +48,7 @@ fn read_lines(alloc: Global, text: &[u8]) -> Result<ReadLines, ReadStop>
 pub fn read_claim(alloc: Global, text: &[u8]) -> Result<Claim, ReadStop>
     requires { length text.now < TEXT_LIMIT }
     ensures read { IfOk result (Reads (lines text.now)) }
-    ensures stop { IfErr result (StopsAt (lines text.now)) }
+    ensures stop { IfErr result (IsClaimStop (lines text.now)) }
     ensures few { IfOk result (λ c. HasNoMoreParts c (length text.now)) }
     // What was written is read.
     ensures written { (c : claim.Claim) → IsWritten c → text.now ≡ claim_text c

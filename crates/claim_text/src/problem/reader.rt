@@ -6,7 +6,7 @@ ghost use Rattle.problem_core.specs.Layout as layout;
 ghost use Rattle.problem_core.specs.Kept.{IsWhole};
 ghost use Rattle.claim_text.specs.Lines.{problem_text};
 ghost use Rattle.claim_text.specs.declared.limits.TheConstants.{TEXT_LIMIT, TEXT_ROW_LIMIT, TEXT_STAY_LIMIT};
-ghost use Rattle.claim_text.specs.Problems.{Reads, StopsAt, AreStayAttributes};
+ghost use Rattle.claim_text.specs.Problems.{Reads, IsProblemStop, AreStayAttributes};
 
 use crate::problem::attributes::{Attributes, stay_attributes};
 use crate::problem::draft::Draft;
@@ -21,7 +21,7 @@ fn read_lines(alloc: Global, covered: &Attributes, text: &[u8]) -> Result<Draft,
     requires short { length text.now < TEXT_LIMIT }
     requires covered { AreStayAttributes (lines text.now) covered.now }
     ensures read { IfOk result (Reads (lines text.now)) }
-    ensures stop { IfErr result (StopsAt (lines text.now)) }
+    ensures stop { IfErr result (IsProblemStop (lines text.now)) }
 {
     let mut draft = Draft::new(alloc);
     let mut number = 0;
@@ -41,7 +41,7 @@ fn read_lines(alloc: Global, covered: &Attributes, text: &[u8]) -> Result<Draft,
 pub fn read_problem(alloc: Global, text: &[u8]) -> Result<Problem, ReadStop>
     requires { length text.now < TEXT_LIMIT }
     ensures read { IfOk result (Reads (lines text.now)) }
-    ensures stop { IfErr result (StopsAt (lines text.now)) }
+    ensures stop { IfErr result (IsProblemStop (lines text.now)) }
     // What was written is read.
     ensures written { (p : layout.Problem) → IsWhole p → length p.rows ≤ TEXT_ROW_LIMIT
         → length p.stays ≤ TEXT_STAY_LIMIT → text.now ≡ problem_text p

@@ -7,7 +7,7 @@ use Rattle.frac_core.specs.Fraction.{Fraction, IsKept, IsLowest}
 use Rattle.problem_core.specs.Layout.{Assignment, Gives, IsBest, above, below, error, gap, line_of_row}
 use Rattle.problem_core.specs.Kept.{AreRising, IsWhole}
 use Rattle.problem_core.specs.Gaps.{HasValue, value_of}
-use Rattle.problem_core.proofs.Lookups.{given-value}
+use Rattle.problem_core.proofs.GapFacts.Lookups.{given-value}
 use Rattle.problem_core.proofs.Wholes.{whole-IsProblem}
 use Rattle.layout_solver.specs.Layouts.{AreBest, IsBestValue, Layout, stays_at, zeros}
 use Rattle.diagnosis.specs.Ambiguity.{GoesAbove, GoesBelow, IsAmbiguous, IsLooselyBest, IsMove, Reaches}

@@ -7,7 +7,7 @@ use borrow.Author.Differences.{ints}
 use Rattle.std.specs.Ordering.{int_cmp}
 use Rattle.frac_core.specs.Fraction.{Fraction, sum_num}
 use Rattle.frac_core.proofs.Integers.{mul_assoc_ℤ}
-use Rattle.problem_core.proofs.GapSigns.{same-order}
+use Rattle.problem_core.proofs.GapFacts.GapSigns.{same-order}
 use Rattle.frac_core.proofs.Numbers.{neg-times as neg_times}
 
 minus_minus : (x y : ℤ) → x +ℤ y ≡ x -ℤ neg_ℤ y

@@ -1,7 +1,7 @@
 use Rattle.std.proofs.Common.{◌≡◌, ◌≤◌, ◌-◌, length, arith, All, get_or}
 use Rattle.problem_core.specs.Layout.{Row}
 use Rattle.problem_core.specs.declared.parts.Stay.{Stay}
-use Rattle.problem_core.specs.Gaps.{HasRoom, HasValue}
+use Rattle.problem_core.specs.Gaps.{HasGapRoom, HasValue}
 use Rattle.cert_checker.proofs.Certificates.Valuing.{all-item}
 use Rattle.cert_checker.proofs.Certificates.Certified.{rows-valued, row-signed, stay-signed}
 use Rattle.cert_checker.proofs.judging.line_sign.Goals as goal
@@ -12,7 +12,7 @@ row_sign-requires-clause-values c =
 
 pub row_sign-requires-clause-room : goal.row_sign-requires-clause-room
 row_sign-requires-clause-room c =
-    all-item (λ (r : Row). HasRoom r c.args.values.now) c.args.p.now.rows c.args.at c.index-rows-at.result (rw c.rows-rows.ensures at c.if-at-rows.true) (rw c.rows-rows.ensures at c.index-rows-at.is) c.requires.room
+    all-item (λ (r : Row). HasGapRoom r c.args.values.now) c.args.p.now.rows c.args.at c.index-rows-at.result (rw c.rows-rows.ensures at c.if-at-rows.true) (rw c.rows-rows.ensures at c.index-rows-at.is) c.requires.room
 
 pub stay_sign-requires : goal.stay_sign-requires
 stay_sign-requires c =

@@ -3,7 +3,7 @@ use Rattle.std.proofs.lemmas.List.{get_or_default}
 use Rattle.problem_core.specs.Layout.{Row}
 use Rattle.cert_checker.specs.declared.sums.Weighted.{Weighted}
 use Rattle.cert_checker.specs.Required.{id_at, den_at}
-use Rattle.problem_core.proofs.Multiples.{least-none, least-more}
+use Rattle.problem_core.proofs.GapFacts.Multiples.{least-none, least-more}
 use Rattle.cert_checker.proofs.Multiples.{id-at}
 use Rattle.cert_checker.proofs.refuting.common_denominator.Goals as goal
 

@@ -1,6 +1,6 @@
 use Rattle.std.proofs.Common.{◌≡◌, refl, All}
 use Rattle.problem_core.specs.Layout.{Row, error, line_of_row}
-use Rattle.problem_core.specs.Gaps.{HasRoom, HasValue}
+use Rattle.problem_core.specs.Gaps.{HasGapRoom, HasValue}
 use Rattle.cert_checker.proofs.Certificates.Valuing.{all-item}
 use Rattle.cert_checker.proofs.valued.are_met.Goals as goal
 use Rattle.frac_core.proofs.Bools.{false-not-true as false-true}
@@ -12,7 +12,7 @@ holds-requires-clause-values c =
 
 pub holds-requires-clause-room : goal.holds-requires-clause-room
 holds-requires-clause-room c =
-    all-item (λ (r : Row). HasRoom r c.args.values.now) c.args.p.now.rows c.loop-row.row-index c.row-item.result (rw c.rows-row-items.ensures at c.loop-row-test.true) (rw c.rows-row-items.ensures at c.row-item.is) c.requires.room
+    all-item (λ (r : Row). HasGapRoom r c.args.values.now) c.args.p.now.rows c.loop-row.row-index c.row-item.result (rw c.rows-row-items.ensures at c.loop-row-test.true) (rw c.rows-row-items.ensures at c.row-item.is) c.requires.room
 
 pub loop-row-preserved : goal.loop-row-preserved
 loop-row-preserved c = λ x gives.

@@ -1,5 +1,5 @@
 use Rattle.frac_core.proofs.Gauss.{reduces}
-use Rattle.problem_core.proofs.Multiples.{multiple-above, multiple-left, multiple-right, multiple-least}
+use Rattle.problem_core.proofs.GapFacts.Multiples.{multiple-above, multiple-left, multiple-right, multiple-least}
 use Rattle.problem_core.proofs.common.least_common.Goals as goal
 
 pub nonzero_div-result : goal.nonzero_div-result

@@ -5,7 +5,7 @@ use Rattle.std.proofs.lemmas.Nat.Gcd.{le_of_dvd}
 use Rattle.problem_core.specs.declared.parts.Term.{Term}
 use Rattle.problem_core.specs.Common.{IsLeastCommon}
 use Rattle.problem_core.specs.Gaps.{value_dens, value_of}
-use Rattle.problem_core.proofs.Multiples.{least-none, least-more}
+use Rattle.problem_core.proofs.GapFacts.Multiples.{least-none, least-more}
 use Rattle.problem_core.proofs.gaps.common_denominator.Goals as goal
 
 none : Term

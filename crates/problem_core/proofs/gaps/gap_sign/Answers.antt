@@ -2,7 +2,7 @@ use Rattle.std.proofs.Common.{◌≡◌, ◌∙◌, pos, ◌*ℤ◌, SFits, rule
 use Rattle.std.specs.Int.{w128}
 use Rattle.std.specs.Ordering.{int_cmp}
 use Rattle.std.proofs.lemmas.Int.{to_z-of_z}
-use Rattle.problem_core.proofs.GapSigns.{sign-is, room-is, large-none, sums-none, on_err}
+use Rattle.problem_core.proofs.GapFacts.GapSigns.{sign-is, room-is, large-none, sums-none, on_err}
 use Rattle.problem_core.proofs.gaps.gap_sign.Goals as goal
 
 pub returns-clause-room : goal.returns-clause-room

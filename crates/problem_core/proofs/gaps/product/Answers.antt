@@ -1,7 +1,7 @@
 use Rattle.std.proofs.Common.{◌≡◌, ◌*ℤ◌, SFits}
 use Rattle.std.specs.Int.{w128}
 use Rattle.std.proofs.lemmas.Int.{to_z-of_z}
-use Rattle.problem_core.proofs.Amounts.{term-size, term-fits}
+use Rattle.problem_core.proofs.GapFacts.Amounts.{term-size, term-fits}
 use Rattle.problem_core.proofs.gaps.product.Goals as goal
 
 pub overflow_mul-result : goal.overflow_mul-result

@@ -5,7 +5,7 @@ use Rattle.std.proofs.lemmas.List.Elements.{All-more}
 use Rattle.problem_core.specs.declared.parts.Term.{Term}
 use Rattle.problem_core.specs.Gaps.{value_of, times_common}
 use Rattle.problem_core.proofs.Forms.{sum-more}
-use Rattle.problem_core.proofs.Amounts.{small-fits, sum-room}
+use Rattle.problem_core.proofs.GapFacts.Amounts.{small-fits, sum-room}
 use Rattle.problem_core.proofs.gaps.sum_over.Goals as goal
 
 none : Term

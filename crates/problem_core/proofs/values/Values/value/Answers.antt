@@ -1,6 +1,6 @@
 use Rattle.std.proofs.Common.{◌≡◌, ◌∙◌, ℕ, ap, sym, pos, ℤ, ap₂}
 use Rattle.frac_core.specs.Fraction.{Fraction}
-use Rattle.problem_core.proofs.Lookups.{look-at, look-next, look-end}
+use Rattle.problem_core.proofs.GapFacts.Lookups.{look-at, look-next, look-end}
 use Rattle.problem_core.proofs.values.Values.value.Goals as goal
 
 zeros : (f : Fraction) → f.num ≡ pos 0 → f.den ≡ 1 → f ≡ record { num = pos 0; den = 1 }

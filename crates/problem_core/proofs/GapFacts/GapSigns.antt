@@ -14,9 +14,9 @@ use Rattle.frac_core.proofs.Integers.{diff_eq, diff-add, diff-mul, diff-neg, dif
 use Rattle.problem_core.specs.declared.parts.Term.{Term}
 use Rattle.problem_core.specs.Common.{IsLeastCommon}
 use Rattle.problem_core.specs.Layout.{Row, Assignment, Gives, gap, line_of_row, value_at}
-use Rattle.problem_core.specs.Gaps.{HasValue, HasRoom, HasRoomOver, value_of, value_dens, times_common, scaled_sum}
+use Rattle.problem_core.specs.Gaps.{HasValue, HasGapRoom, HasRoomOver, value_of, value_dens, times_common, scaled_sum}
 use Rattle.problem_core.proofs.Forms.{each-impl, each-both}
-use Rattle.problem_core.proofs.Lookups.{given-value}
+use Rattle.problem_core.proofs.GapFacts.Lookups.{given-value}
 use Rattle.frac_core.proofs.Numbers.{divisor-above, pos-mul-neg as neg_left}
 
 ruleset ring = (diff-add, diff-mul, diff-neg, diff-pos, neg-pos)
@@ -106,7 +106,7 @@ sign-is r values d some divides has x gives =
 
 -- ---- room
 
-pub room-is : (r : Row) (values : List (ℕ × Fraction)) (d : ℕ) → d < 2 ^ 62 → IsLeastCommon (value_dens values r.terms) d → All (λ t. unsigned_abs (times_common (value_of values t.attr) d) < 2 ^ 62) r.terms → HasRoom r values
+pub room-is : (r : Row) (values : List (ℕ × Fraction)) (d : ℕ) → d < 2 ^ 62 → IsLeastCommon (value_dens values r.terms) d → All (λ t. unsigned_abs (times_common (value_of values t.attr) d) < 2 ^ 62) r.terms → HasGapRoom r values
 room-is r values d small least fits = (
   d,
   least.above,
@@ -115,7 +115,7 @@ room-is r values d small least fits = (
       (each-both _ _ r.terms (each-listed values d r.terms (recursion_from_All (λ x. x ∣ d) (value_dens values r.terms) least.common)) (recursion_from_All (λ t. unsigned_abs (times_common (value_of values t.attr) d) < 2 ^ 62) r.terms fits)),
 )
 
-pub large-none : (r : Row) (values : List (ℕ × Fraction)) (d : ℕ) → 2 ^ 62 ≤ d → ((m : ℕ) → 0 < m → All (λ t. (value_of values t.attr).den ∣ m) r.terms → d ≤ m) → HasRoom r values → ⊥
+pub large-none : (r : Row) (values : List (ℕ × Fraction)) (d : ℕ) → 2 ^ 62 ≤ d → ((m : ℕ) → 0 < m → All (λ t. (value_of values t.attr).den ∣ m) r.terms → d ≤ m) → HasGapRoom r values → ⊥
 large-none r values d large least (m, some, small, room) =
     omega (arith, large, small, least m some (All-weaker (λ t. HasRoomOver m (value_of values t.attr)) (λ t. (value_of values t.attr).den ∣ m) (λ t h. h.0) r.terms room))
 
@@ -132,7 +132,7 @@ greater f d m some l e k =
     let shares : d / f.den ≤ m / f.den = share-le (d / f.den) (m / f.den) f.den some (subst (λ (t : ℕ). t ≤ m / f.den * f.den) (sym (div-mul_cancel f.den e)) (subst (λ (t : ℕ). d ≤ t) (sym (div-mul_cancel f.den k)) l)) in
     omega (arith, unsigned_abs-mul f.num (pos (d / f.den)), unsigned_abs-mul f.num (pos (m / f.den)), mul-le-mul_left (unsigned_abs f.num) shares)
 
-pub sums-none : (r : Row) (values : List (ℕ × Fraction)) (d : ℕ) → IsLeastCommon (value_dens values r.terms) d → (All (λ t. unsigned_abs (times_common (value_of values t.attr) d) < 2 ^ 62) r.terms → ⊥) → HasRoom r values → ⊥
+pub sums-none : (r : Row) (values : List (ℕ × Fraction)) (d : ℕ) → IsLeastCommon (value_dens values r.terms) d → (All (λ t. unsigned_abs (times_common (value_of values t.attr) d) < 2 ^ 62) r.terms → ⊥) → HasGapRoom r values → ⊥
 sums-none r values d least none (m, some, small, room) =
     let each = each-both _ _ r.terms (each-listed values d r.terms (recursion_from_All (λ x. x ∣ d) (value_dens values r.terms) least.common)) (recursion_from_All (λ t. HasRoomOver m (value_of values t.attr)) r.terms room) in
     let divides : d ∣ m = least.least m (listed-each values m r.terms (each-impl (λ t. HasRoomOver m (value_of values t.attr)) (λ t. (value_of values t.attr).den ∣ m) r.terms (λ t h. h.0) (recursion_from_All (λ t. HasRoomOver m (value_of values t.attr)) r.terms room))) in
