@@ -68,6 +68,13 @@ impl MemorySource {
             faults: 0,
         }
     }
+
+    /// How often it was pulled.
+    pub fn calls(&self) -> u64
+        ensures { result ≡ self.now.call }
+    {
+        self.calls
+    }
 }
 
 impl Source for MemorySource {

@@ -1,5 +1,4 @@
 // The cases of the input and what each leads to.
-use crate::counted::Counted;
 use crate::feeding::{put_feed, put_last};
 use edge_io::{Feed, MemorySource};
 use frac_core::OutOfMemory;
@@ -42,10 +41,10 @@ fn put_case(alloc: Global, out: &mut String, case: &str) -> Result<(), OutOfMemo
     writeln!(out, "= {case}")?;
     let (front, most) = case.rsplit_once(" ").unwrap_or((case, ""));
     let (list, words) = front.split_once(" ").unwrap_or((front, ""));
-    let mut source = Counted::new(source_of(alloc, list, words)?);
+    let mut source = source_of(alloc, list, words)?;
     let mut feed = Feed::new(alloc)?;
     put_feed(out, &mut feed, &mut source, number(most))?;
-    let pulls = source.pulls();
+    let pulls = source.calls();
     writeln!(out, "pulls {pulls}")?;
     put_last(out, &mut feed)
 }

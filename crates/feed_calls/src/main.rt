@@ -12,12 +12,10 @@
 //! What the answers keep: they stand in the order of the lines, and each line has a source and a feed of its
 //! own, so none depends on another.
 //!
-//! In reading order: `counted` (a source that counts its pulls), `feeding` (what a feed gives), `case` (the
-//! lines of the input).
+//! In reading order: `feeding` (what a feed gives), `case` (the lines of the input).
 #![tactic(auto)]
 
 mod case;
-mod counted;
 mod feeding;
 
 use crate::case::printed;

@@ -13,15 +13,17 @@ use Rattle.layout_cli.specs.Making.{IsMade}
 use Rattle.layout_cli.specs.Printing.{HasFront}
 use Rattle.layout_cli.specs.declared.program.Status.{Status}
 use Rattle.layout_cli.specs.declared.program.Status.TheVariants as status
-use Rattle.layout_cli.specs.declared.script.answers.AnswerStop.{AnswerStop}
-use Rattle.layout_cli.specs.declared.script.answers.AnswerStop.TheVariants as answer
+use Rattle.edge_io.specs.declared.traits.Failed.{Failed}
+use Rattle.frac_core.specs.declared.memory.Stop.{Stop}
+use Rattle.frac_core.specs.declared.memory.Stop.TheVariants as answer
+use Rattle.layout_cli.specs.Talks.{sink_failed}
 use Rattle.layout_cli.specs.declared.input.InputStop.{InputStop}
 use Rattle.layout_cli.specs.declared.input.InputStop.TheVariants as input
 use Rattle.layout_cli.specs.declared.script.ScriptStop.{ScriptStop}
 use Rattle.layout_cli.specs.declared.script.ScriptStop.TheVariants as script
 
-abbrev pub FromAnswer : AnswerStop → ScriptStop → Type 0
-FromAnswer s e = (s ≡ answer.Fault → e ≡ script.WriteFault) × (s ≡ answer.OutOfMemory → e ≡ script.OutOfMemory)
+abbrev pub FromAnswer : Stop Failed → ScriptStop → Type 0
+FromAnswer s e = (s ≡ sink_failed → e ≡ script.WriteFault) × (s ≡ answer.OutOfMemory → e ≡ script.OutOfMemory)
 
 abbrev pub FromInput : InputStop → ScriptStop → Type 0
 FromInput s e = (s ≡ input.Fault → e ≡ script.ReadFault) × (s ≡ input.TooLong → e ≡ script.TooLong) × (s ≡ input.OutOfMemory → e ≡ script.OutOfMemory)
@@ -35,10 +37,10 @@ end_as old new r e is end = subst (λ (x : Result Bool ScriptStop). IsScriptEnd 
 err_as : (old new : Outside) (e kind : ScriptStop) → e ≡ kind → IsScriptEnd old new (Err kind) → IsScriptEnd old new (Err e)
 err_as old new e kind is end = subst (λ (x : ScriptStop). IsScriptEnd old new (Err x)) (sym is) end
 
-pub answer_ends : (old new : Outside) (s : AnswerStop) (e : ScriptStop) → FromAnswer s e
-    → (s ≡ answer.Fault → Rose old.writes_failed new.writes_failed × AfterWriteFault mode.Run old.left new.left old.held new.held)
+pub answer_ends : (old new : Outside) (s : Stop Failed) (e : ScriptStop) → FromAnswer s e
+    → (s ≡ sink_failed → Rose old.writes_failed new.writes_failed × AfterWriteFault mode.Run old.left new.left old.held new.held)
     → (s ≡ answer.OutOfMemory → AfterNoMemory mode.Run old.left new.left old.held new.held) → IsScriptEnd old new (Err e)
-answer_ends old new answer.Fault e from write memory = err_as old new e script.WriteFault (from.0 refl) (write refl)
+answer_ends old new (answer.Refused failed) e from write memory = err_as old new e script.WriteFault (from.0 refl) (write refl)
 answer_ends old new answer.OutOfMemory e from write memory = err_as old new e script.OutOfMemory (from.1 refl) (memory refl)
 
 pub input_ends : (old new : Outside) (s : InputStop) (e : ScriptStop) → FromInput s e

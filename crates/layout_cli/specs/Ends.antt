@@ -89,6 +89,14 @@ outside left reads_failed held writes_failed = record {
   writes_failed = writes_failed;
 }
 
+-- This holds from what was outside before to what is: from one source and sink to others, by what tells of a
+-- source and of a sink what it has left or holds, and how often it has failed.
+abbrev pub LeadsOutside : {A B : Type 0} → (A → Option (List ℕ)) → (A → ℕ) → (B → Option (List ℕ)) → (B → ℕ)
+    → (old new : A × B) → (Outside → Outside → Type 0) → Type 0
+LeadsOutside left reads_failed held writes_failed old new Leads =
+    Leads (outside (left old.0) (reads_failed old.0) (held old.1) (writes_failed old.1))
+    (outside (left new.0) (reads_failed new.0) (held new.1) (writes_failed new.1))
+
 -- from what was outside before to what is, the run of a mode may end so
 abbrev pub IsEndOf : Mode → Outside → Outside → Status → Type 0
 IsEndOf mode old new status.Done = HasOutput mode old.left old.held new.held true

@@ -72,8 +72,8 @@ name_line attr name word = codes "# "
     ++ (decimal attr ++ (space ∷ (name ++ (point ∷ (word ++ newline ∷ [])))))
 
 -- the lines that name a view's attributes
-abbrev pub names_of : LiveView → List ℕ
-names_of v = name_line (left_of v.id) v.name (codes "left")
+abbrev pub name_lines : LiveView → List ℕ
+name_lines v = name_line (left_of v.id) v.name (codes "left")
     ++ (name_line (top_of v.id) v.name (codes "top")
     ++ (name_line (width_of v.id) v.name (codes "width")
     ++ name_line (height_of v.id) v.name (codes "height")))
@@ -93,12 +93,12 @@ frames_text scene = text_of_each (frame_text scene.values) scene.tree.views ++ l
 
 -- the names of the views' attributes, the rows and stays, and `ok`
 abbrev pub rows_text : Scene → List ℕ
-rows_text scene = text_of_each names_of scene.tree.views
+rows_text scene = text_of_each name_lines scene.tree.views
     ++ (problem_text (problem_of scene) ++ line_of (codes "ok"))
 
 -- the lines of `rows`, the values, and the multipliers of each level
 abbrev pub certificate_text : Scene → List BestLevel → List ℕ
-certificate_text scene levels = text_of_each names_of scene.tree.views
+certificate_text scene levels = text_of_each name_lines scene.tree.views
     ++ (problem_text (problem_of scene)
     ++ (claim_text (IsBest scene.values levels) ++ line_of (codes "ok")))
 

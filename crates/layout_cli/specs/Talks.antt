@@ -6,6 +6,9 @@ use Rattle.std.specs.Io.KnownBytes.{Appends, Consumes, IsAtEnd}
 use Rattle.span_text.specs.Bytes.{newline}
 use Rattle.edge_io.specs.Feed.{Pending, IsUnended}
 use Rattle.edge_io.specs.declared.feed.TheConstants.{LINE_LIMIT}
+use Rattle.edge_io.specs.declared.traits.Failed.{Failed}
+use Rattle.frac_core.specs.declared.memory.Stop.{Stop}
+use Rattle.frac_core.specs.declared.memory.Stop.TheVariants.{Refused}
 use Rattle.session_undo.specs.Scene.{State, first_state}
 use Rattle.session_undo.specs.Replies.{Reply, is_accepted}
 use Rattle.layout_cli.specs.Machine.{Step, Run, IsRunOf}
@@ -52,6 +55,10 @@ pub record AnswersInPart (before now left : Option (List ℕ)) (taken : List ℕ
   pub written : HasFront before now text
 
 -- ---- one line
+
+-- why a line has no whole reply: the sink failed
+abbrev pub sink_failed : Stop Failed
+sink_failed = Refused (record {})
 
 -- The line gets a reply, which was written, and leads to the new session. It is good where it was before, and
 -- the reply is no refusal.

@@ -3,7 +3,7 @@ ghost use Rattle.std.specs.Prelude.{◌≡◌, ◌⊎◌, ℕ, List, Option, tru
 ghost use Rattle.std.specs.Io.KnownBytes.{Appends};
 ghost use Rattle.edge_io.specs.Cause.{Rose};
 ghost use Rattle.layout_cli.specs.Ends.{AfterReadFault, AfterTooLong, HasOutput, IsBrokenOff, IsCutShort};
-ghost use Rattle.layout_cli.specs.Ends.{IsEndOf, IsTooLong, outside};
+ghost use Rattle.layout_cli.specs.Ends.{IsEndOf, IsTooLong, LeadsOutside, outside};
 ghost use Rattle.layout_cli.specs.Printing.{HasFront};
 ghost use Rattle.layout_cli.specs.Words.{NameMode, Pulls, usage_line};
 ghost use Rattle.program_words.specs.Words.{AreOther};
@@ -99,9 +99,8 @@ pub fn run<S: Source, K: Sink>(
 
 // Answers a script line by line.
 fn run_script<S: Source, K: Sink>(alloc: Global, source: &mut S, sink: &mut K) -> Status
-    ensures { IsEndOf Run
-        (outside (S.left source.old) (S.faults source.old) (K.held sink.old) (K.faults sink.old))
-        (outside (S.left source.new) (S.faults source.new) (K.held sink.new) (K.faults sink.new)) result }
+    ensures { LeadsOutside S.left S.faults K.held K.faults (source.old, sink.old) (source.new, sink.new)
+        (λ old new. IsEndOf Run old new result) }
 {
     match talk_over(alloc, source, sink) {
         Ok(true) => Status::Done,
@@ -115,9 +114,8 @@ fn run_script<S: Source, K: Sink>(alloc: Global, source: &mut S, sink: &mut K) -
 
 // Reads a problem and a claim, and puts the checker's verdict.
 fn run_check<S: Source, K: Sink>(alloc: Global, source: &mut S, sink: &mut K) -> Status
-    ensures { IsEndOf Check
-        (outside (S.left source.old) (S.faults source.old) (K.held sink.old) (K.faults sink.old))
-        (outside (S.left source.new) (S.faults source.new) (K.held sink.new) (K.faults sink.new)) result }
+    ensures { LeadsOutside S.left S.faults K.held K.faults (source.old, sink.old) (source.new, sink.new)
+        (λ old new. IsEndOf Check old new result) }
 {
     let input = match read_all(alloc, source, CHECK_LIMIT) {
         Ok(input) => input,

@@ -7,8 +7,8 @@ pub(crate) mod refusals;
 
 ghost use Rattle.std.specs.Prelude.{◌≡◌, ◌≤◌, ◌+◌, ◌++◌, IfOk, OnOk, IsOk, codes, vec_len};
 ghost use Rattle.std.specs.Prelude.{vec_capacity};
-ghost use Rattle.layout_cli.specs.Replies.{text_of, frames_text, rows_text, names_of, text_of_each, line_of};
-ghost use Rattle.layout_cli.specs.Replies.{certificate_text, diagnosis_text};
+ghost use Rattle.layout_cli.specs.Replies.{text_of, frames_text, rows_text, name_lines, text_of_each};
+ghost use Rattle.layout_cli.specs.Replies.{certificate_text, diagnosis_text, line_of};
 ghost use Rattle.diagnosis.specs.Diagnoses.{findings_of};
 ghost use Rattle.session_undo.specs.Replies.{accepted, IsChange, Tells};
 ghost use Rattle.layout_cli.specs.declared.reply.TheConstants.{OK_LENGTH};
@@ -37,7 +37,7 @@ fn push_ok(out: &mut Vec<u8>) -> Result<(), OutOfMemory>
 
 fn push_names(session: &Session, out: &mut Vec<u8>) -> Result<(), OutOfMemory>
     ensures { IfOk result (λ _. out.new.items ≡ out.old.items
-        ++ text_of_each names_of session.now.scene.tree.views) }
+        ++ text_of_each name_lines session.now.scene.tree.views) }
 {
     let mut text = String::new(*out.allocator());
     put_names(&mut text, session.state().tree())?;

@@ -6,19 +6,19 @@ ghost use Rattle.std.specs.Prelude.{◌≡◌, ◌≤◌, ◌∷◌, [], Bool, �
 ghost use Rattle.std.specs.Io.KnownBytes.{Appends, Consumes, IsAtEnd, Keeps};
 ghost use Rattle.edge_io.specs.Cause.{Rose};
 ghost use Rattle.edge_io.specs.Feed.{Pending, IsOpen, nothing};
-ghost use Rattle.layout_cli.specs.Ends.{IsScriptEnd, outside};
+ghost use Rattle.frac_core.specs.declared.memory.Stop.TheVariants.{OutOfMemory as NoMemory};
+ghost use Rattle.layout_cli.specs.Ends.{IsScriptEnd, LeadsOutside};
 ghost use Rattle.layout_cli.specs.Machine.{IsRunOf};
 ghost use Rattle.layout_cli.specs.Talks.{AnswersFirst, AnswersInPart, AnswersSoFar, OnceJoined, OnceTaken};
-ghost use Rattle.layout_cli.specs.Talks.{TakesMore};
-ghost use Rattle.layout_cli.specs.declared.script.answers.AnswerStop.TheVariants as answer;
+ghost use Rattle.layout_cli.specs.Talks.{TakesMore, sink_failed};
 ghost use Rattle.layout_cli.specs.declared.input.InputStop.TheVariants as input;
 ghost use Rattle.layout_cli.specs.declared.script.ScriptStop.TheVariants as stop;
 
 use crate::input::InputStop;
 use crate::mode::INPUT_LIMIT;
 use crate::script::answers::AnswerStop;
-use edge_io::{Feed, Sink, Source};
-use frac_core::OutOfMemory;
+use edge_io::{Failed, Feed, Sink, Source};
+use frac_core::{OutOfMemory, Stop};
 use std::alloc::Global;
 
 /// Why a script isn't answered to its end.
@@ -43,13 +43,13 @@ impl From<OutOfMemory> for ScriptStop {
 }
 
 impl From<AnswerStop> for ScriptStop {
-    ghost from_gives = { λ s e. (s ≡ answer.Fault → e ≡ stop.WriteFault)
-        × (s ≡ answer.OutOfMemory → e ≡ stop.OutOfMemory) };
+    ghost from_gives = { λ s e. (s ≡ sink_failed → e ≡ stop.WriteFault)
+        × (s ≡ NoMemory → e ≡ stop.OutOfMemory) };
 
     fn from(stop: AnswerStop) -> Self {
         match stop {
-            AnswerStop::Fault => ScriptStop::WriteFault,
-            AnswerStop::OutOfMemory => ScriptStop::OutOfMemory,
+            Stop::Refused(Failed) => ScriptStop::WriteFault,
+            Stop::OutOfMemory => ScriptStop::OutOfMemory,
         }
     }
 }
@@ -85,12 +85,12 @@ pub(crate) trait Answerer {
         ensures answered { OnOk result (OnceJoined (has_answered self.old) (K.held sink.old) feed.old
             (AnswersSoFar (has_answered self.new) feed.new (K.held sink.new))) }
         ensures ready { OnOk result (IsOpen feed.new) }
-        ensures front { IsErrOf result AnswerStop.Fault → (left : Option (List ℕ))
+        ensures front { IsErrOf result sink_failed → (left : Option (List ℕ))
             → OnceJoined (has_answered self.old) (K.held sink.old) feed.old
             (λ before. AnswersInPart before (K.held sink.new) left) }
-        ensures fault { IsErrOf result AnswerStop.Fault → Rose (K.faults sink.old) (K.faults sink.new) }
+        ensures fault { IsErrOf result sink_failed → Rose (K.faults sink.old) (K.faults sink.new) }
         ensures later { K.faults sink.old ≤ K.faults sink.new }
-        ensures first { IsErrOf result AnswerStop.OutOfMemory
+        ensures first { IsErrOf result NoMemory
             → OnceJoined (has_answered self.old) (K.held sink.old) feed.old
             (λ before. AnswersFirst before (K.held sink.new)) };
 
@@ -100,11 +100,11 @@ pub(crate) trait Answerer {
         ensures whole { OnOk result (OnceTaken (has_answered self.old) (K.held sink.old) feed.old
             (λ before taken. (text : List ℕ) × IsRunOf taken text (good self.new)
             × Appends before (K.held sink.new) text)) }
-        ensures front { IsErrOf result AnswerStop.Fault → (left : Option (List ℕ)) → IsAtEnd left
+        ensures front { IsErrOf result sink_failed → (left : Option (List ℕ)) → IsAtEnd left
             → OnceTaken (has_answered self.old) (K.held sink.old) feed.old
             (λ before. AnswersInPart before (K.held sink.new) left) }
-        ensures fault { IsErrOf result AnswerStop.Fault → Rose (K.faults sink.old) (K.faults sink.new) }
-        ensures first { IsErrOf result AnswerStop.OutOfMemory
+        ensures fault { IsErrOf result sink_failed → Rose (K.faults sink.old) (K.faults sink.new) }
+        ensures first { IsErrOf result NoMemory
             → OnceTaken (has_answered self.old) (K.held sink.old) feed.old
             (λ before. AnswersFirst before (K.held sink.new)) };
 }
@@ -146,9 +146,8 @@ pub(crate) fn answer_script<S: Source, K: Sink, T: Answerer>(
     sink: &mut K,
 ) -> Result<bool, ScriptStop>
     requires { T.has_answered talk.old nothing (K.held sink.old) (K.held sink.old) [] }
-    ensures { IsScriptEnd
-        (outside (S.left source.old) (S.faults source.old) (K.held sink.old) (K.faults sink.old))
-        (outside (S.left source.new) (S.faults source.new) (K.held sink.new) (K.faults sink.new)) result }
+    ensures { LeadsOutside S.left S.faults K.held K.faults (source.old, sink.old) (source.new, sink.new)
+        (λ old new. IsScriptEnd old new result) }
 {
     let mut feed = Feed::new(alloc)?;
     let mut room = INPUT_LIMIT;

@@ -1,7 +1,7 @@
 // The lines that name the attributes of a scene.
 ghost use Rattle.std.specs.Prelude.{◌≡◌, ◌<◌, ◌++◌, IfOk, None, string_bytes};
 ghost use Rattle.view_tree.specs.declared.limits.TheConstants.{ID_LIMIT};
-ghost use Rattle.layout_cli.specs.Replies.{name_line, names_of, text_of_each};
+ghost use Rattle.layout_cli.specs.Replies.{name_line, name_lines, text_of_each};
 
 use frac_core::OutOfMemory;
 use view_tree::{Tree, ViewId};
@@ -19,7 +19,7 @@ fn put_name(text: &mut String, attr: u32, name: &str, word: &str) -> Result<(), 
 fn put_names_of(text: &mut String, view: ViewId, name: &str) -> Result<(), OutOfMemory>
     requires { view.0 < ID_LIMIT }
     ensures { IfOk result (λ _. string_bytes text.new
-        ≡ string_bytes text.old ++ names_of (record { id = view.0; name = name.now; parent = None })) }
+        ≡ string_bytes text.old ++ name_lines (record { id = view.0; name = name.now; parent = None })) }
 {
     let of = view.attributes();
     put_name(text, of.left, name, "left")?;
@@ -31,7 +31,7 @@ fn put_names_of(text: &mut String, view: ViewId, name: &str) -> Result<(), OutOf
 /// Appends the names of the attributes of all views.
 pub fn put_names(text: &mut String, tree: &Tree) -> Result<(), OutOfMemory>
     ensures { IfOk result (λ _. string_bytes text.new
-        ≡ string_bytes text.old ++ text_of_each names_of tree.now.views) }
+        ≡ string_bytes text.old ++ text_of_each name_lines tree.now.views) }
 {
     for place in 0..tree.len() {
         match tree.at(place) {

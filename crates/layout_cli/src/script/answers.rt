@@ -2,57 +2,27 @@
 ghost use Rattle.std.specs.Prelude.{◌≡◌, ◌≤◌, [], true, IfOk, IfErr, IsErrOf, OnOk, OnErr, vec_capacity};
 ghost use Rattle.std.specs.Io.KnownBytes.{Appends};
 ghost use Rattle.edge_io.specs.Cause.{Rose};
+ghost use Rattle.frac_core.specs.declared.memory.Stop.TheVariants.{OutOfMemory as NoMemory};
 ghost use Rattle.layout_cli.specs.Machine.{Step};
 ghost use Rattle.layout_cli.specs.Printing.{HasFront};
 ghost use Rattle.layout_cli.specs.Replies.{text_of};
-ghost use Rattle.layout_cli.specs.Talks.{IsAnswered, IsAnsweredInPart};
+ghost use Rattle.layout_cli.specs.Talks.{IsAnswered, IsAnsweredInPart, sink_failed};
 ghost use Rattle.layout_cli.specs.declared.reply.TheConstants.{OK_LENGTH};
-ghost use Rattle.layout_cli.specs.declared.script.answers.AnswerStop.TheVariants as stop;
 ghost use Rattle.session_undo.specs.Replies.{accepted, IsChange, MayRefuse, Tells};
 ghost use Rattle.session_undo.specs.Replies as reply;
 
 use crate::reply::printing::print_frames;
 use crate::reply::{OK_LENGTH, reply_text};
 use edge_io::{Failed, LINE_LIMIT, Sink, put_all};
-use frac_core::{OutOfMemory, Stop};
+use frac_core::Stop;
 use name_tables::LimitWord;
 use script_text::read_line;
 use session_undo::{Refusal, Reply, Session};
 use span_text::SyntaxAt;
-use std::alloc::{AllocError, Global};
+use std::alloc::Global;
 
-/// Why a line has no whole reply.
-#[derive(Clone, Copy, Debug, PartialEq, Eq)]
-pub(crate) enum AnswerStop {
-    /// The sink failed.
-    Fault,
-    /// Memory was wanting.
-    OutOfMemory,
-}
-
-impl From<AllocError> for AnswerStop {
-    ghost from_gives = { λ _ e. e ≡ stop.OutOfMemory };
-
-    fn from(_: AllocError) -> Self {
-        AnswerStop::OutOfMemory
-    }
-}
-
-impl From<OutOfMemory> for AnswerStop {
-    ghost from_gives = { λ _ e. e ≡ stop.OutOfMemory };
-
-    fn from(_: OutOfMemory) -> Self {
-        AnswerStop::OutOfMemory
-    }
-}
-
-impl From<Failed> for AnswerStop {
-    ghost from_gives = { λ _ e. e ≡ stop.Fault };
-
-    fn from(_: Failed) -> Self {
-        AnswerStop::Fault
-    }
-}
+/// Why a line has no whole reply: the sink failed, or memory was wanting.
+pub(crate) type AnswerStop = Stop<Failed>;
 
 /// Does what a line says.
 pub(crate) fn step(alloc: Global, session: &mut Session, line: &[u8]) -> Result<Reply, Refusal>
@@ -82,12 +52,12 @@ pub(crate) fn put_reply<K: Sink>(
     requires room { OK_LENGTH ≤ vec_capacity text.old }
     ensures put { OnOk result (Tells (λ told.
         Appends (K.held sink.old) (K.held sink.new) (text_of session.now.scene told)) reply.now) }
-    ensures front { IsErrOf result AnswerStop.Fault → Tells (λ told.
+    ensures front { IsErrOf result sink_failed → Tells (λ told.
         HasFront (K.held sink.old) (K.held sink.new) (text_of session.now.scene told)) reply.now }
-    ensures fault { IsErrOf result AnswerStop.Fault → Rose (K.faults sink.old) (K.faults sink.new) }
+    ensures fault { IsErrOf result sink_failed → Rose (K.faults sink.old) (K.faults sink.new) }
     ensures later { K.faults sink.old ≤ K.faults sink.new }
-    ensures unwritten { IsErrOf result AnswerStop.OutOfMemory → sink.new ≡ sink.old }
-    ensures unchanged { IsErrOf result AnswerStop.OutOfMemory → IsChange reply.now → ⊥ }
+    ensures unwritten { IsErrOf result NoMemory → sink.new ≡ sink.old }
+    ensures unchanged { IsErrOf result NoMemory → IsChange reply.now → ⊥ }
 {
     if let Ok(Reply::Frames) = reply {
         print_frames(session, sink)?;
@@ -108,12 +78,12 @@ pub(crate) fn answer<K: Sink>(
 ) -> Result<bool, AnswerStop>
     ensures told { IfOk result
         (IsAnswered session.old line.now session.new (K.held sink.old) (K.held sink.new) true) }
-    ensures front { IsErrOf result AnswerStop.Fault
+    ensures front { IsErrOf result sink_failed
         → IsAnsweredInPart session.old line.now (K.held sink.old) (K.held sink.new) }
-    ensures fault { IsErrOf result AnswerStop.Fault → Rose (K.faults sink.old) (K.faults sink.new) }
+    ensures fault { IsErrOf result sink_failed → Rose (K.faults sink.old) (K.faults sink.new) }
     ensures later { K.faults sink.old ≤ K.faults sink.new }
-    ensures unwritten { IsErrOf result AnswerStop.OutOfMemory → sink.new ≡ sink.old }
-    ensures same { IsErrOf result AnswerStop.OutOfMemory → session.new ≡ session.old }
+    ensures unwritten { IsErrOf result NoMemory → sink.new ≡ sink.old }
+    ensures same { IsErrOf result NoMemory → session.new ≡ session.old }
 {
     text.clear();
     text.reserve(OK_LENGTH)?;
@@ -130,11 +100,11 @@ pub(crate) fn refuse_long<K: Sink>(
 ) -> Result<(), AnswerStop>
     ensures put { OnOk result (Appends (K.held sink.old) (K.held sink.new)
         (text_of session.now.scene (reply.Limit LimitWord.Line))) }
-    ensures front { IsErrOf result AnswerStop.Fault → HasFront (K.held sink.old) (K.held sink.new)
+    ensures front { IsErrOf result sink_failed → HasFront (K.held sink.old) (K.held sink.new)
         (text_of session.now.scene (reply.Limit LimitWord.Line)) }
-    ensures fault { IsErrOf result AnswerStop.Fault → Rose (K.faults sink.old) (K.faults sink.new) }
+    ensures fault { IsErrOf result sink_failed → Rose (K.faults sink.old) (K.faults sink.new) }
     ensures later { K.faults sink.old ≤ K.faults sink.new }
-    ensures unwritten { IsErrOf result AnswerStop.OutOfMemory → sink.new ≡ sink.old }
+    ensures unwritten { IsErrOf result NoMemory → sink.new ≡ sink.old }
 {
     text.clear();
     text.reserve(OK_LENGTH)?;

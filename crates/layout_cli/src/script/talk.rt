@@ -2,8 +2,9 @@
 ghost use Rattle.std.specs.Prelude.{◌≡◌, ◌≤◌, true, List, ℕ, IfOk, OnOk, IsErrOf};
 ghost use Rattle.edge_io.specs.Cause.{Rose};
 ghost use Rattle.edge_io.specs.Feeding.{shown};
-ghost use Rattle.layout_cli.specs.Ends.{IsScriptEnd, outside};
-ghost use Rattle.layout_cli.specs.Talks.{IsAnswered, IsAnsweredInPart, IsGivenAs, IsTalk};
+ghost use Rattle.frac_core.specs.declared.memory.Stop.TheVariants.{OutOfMemory as NoMemory};
+ghost use Rattle.layout_cli.specs.Ends.{IsScriptEnd, LeadsOutside};
+ghost use Rattle.layout_cli.specs.Talks.{IsAnswered, IsAnsweredInPart, IsGivenAs, IsTalk, sink_failed};
 ghost use Rattle.session_undo.specs.Scene.{first_state};
 
 use crate::script::answers::{AnswerStop, answer, refuse_long};
@@ -38,12 +39,12 @@ impl Talk {
         ensures told { OnOk result ((line : List ℕ) → IsGivenAs (shown piece.entry) line
             → IsAnswered self.old.session line self.new.session (K.held sink.old) (K.held sink.new)
             self.old.is_good self.new.is_good) }
-        ensures front { IsErrOf result AnswerStop.Fault → (line : List ℕ) → IsGivenAs (shown piece.entry) line
+        ensures front { IsErrOf result sink_failed → (line : List ℕ) → IsGivenAs (shown piece.entry) line
             → IsAnsweredInPart self.old.session line (K.held sink.old) (K.held sink.new) }
-        ensures fault { IsErrOf result AnswerStop.Fault → Rose (K.faults sink.old) (K.faults sink.new) }
+        ensures fault { IsErrOf result sink_failed → Rose (K.faults sink.old) (K.faults sink.new) }
         ensures later { K.faults sink.old ≤ K.faults sink.new }
-        ensures unwritten { IsErrOf result AnswerStop.OutOfMemory → sink.new ≡ sink.old }
-        ensures same { IsErrOf result AnswerStop.OutOfMemory → self.new.session ≡ self.old.session }
+        ensures unwritten { IsErrOf result NoMemory → sink.new ≡ sink.old }
+        ensures same { IsErrOf result NoMemory → self.new.session ≡ self.old.session }
     {
         match piece {
             Piece::Line(line) => {
@@ -89,9 +90,8 @@ pub(crate) fn talk_over<S: Source, K: Sink>(
     source: &mut S,
     sink: &mut K,
 ) -> Result<bool, ScriptStop>
-    ensures { IsScriptEnd
-        (outside (S.left source.old) (S.faults source.old) (K.held sink.old) (K.faults sink.old))
-        (outside (S.left source.new) (S.faults source.new) (K.held sink.new) (K.faults sink.new)) result }
+    ensures { LeadsOutside S.left S.faults K.held K.faults (source.old, sink.old) (source.new, sink.new)
+        (λ old new. IsScriptEnd old new result) }
 {
     let mut talk = Talk::new(alloc)?;
     answer_script(alloc, &mut talk, source, sink)

@@ -1,7 +1,8 @@
 use Rattle.std.proofs.Common.{◌∙◌, Err, ap, arith}
 use Rattle.std.proofs.lemmas.Result.{err_from_is_err_and}
 use Rattle.layout_cli.specs.Ends.{Outside}
-use Rattle.layout_cli.specs.declared.script.answers.AnswerStop.{AnswerStop}
+use Rattle.edge_io.specs.declared.traits.Failed.{Failed}
+use Rattle.frac_core.specs.declared.memory.Stop.{Stop}
 use Rattle.layout_cli.specs.declared.input.InputStop.{InputStop}
 use Rattle.layout_cli.specs.declared.script.ScriptStop.{ScriptStop}
 use Rattle.layout_cli.specs.declared.script.ScriptStop.TheVariants as stop
@@ -59,10 +60,10 @@ returns-in_err-answer_pending g c =
     let exit = err_from_is_err_and c.from_residual-in_err-answer_pending.result c.from_residual-in_err-answer_pending.ensures.1 in
     end_as old new c.from_residual-in_err-answer_pending.result exit.0 exit.1 (answer_ends old new c.in_err-answer_pending.field-0.0 exit.0 exit.2
     (λ is. (
-      rose_later _ _ _ i.writes (t.fault (ap (λ (e : AnswerStop). Err e) is)),
-      way_breaks _ _ _ _ _ _ _ _ _ _ _ (g.T.Answerer.has_answered c.loop-feed.talk) i.way more (t.front (ap (λ (e : AnswerStop). Err e) is)),
+      rose_later _ _ _ i.writes (t.fault (ap (λ (e : Stop Failed). Err e) is)),
+      way_breaks _ _ _ _ _ _ _ _ _ _ _ (g.T.Answerer.has_answered c.loop-feed.talk) i.way more (t.front (ap (λ (e : Stop Failed). Err e) is)),
     ))
-    (λ is. way_stops _ _ _ _ _ _ _ _ _ _ _ (g.T.Answerer.has_answered c.loop-feed.talk) i.way more (t.first (ap (λ (e : AnswerStop). Err e) is))))
+    (λ is. way_stops _ _ _ _ _ _ _ _ _ _ _ (g.T.Answerer.has_answered c.loop-feed.talk) i.way more (t.first (ap (λ (e : Stop Failed). Err e) is))))
 
 pub returns-in_err-answer_last : goal.returns-in_err-answer_last
 returns-in_err-answer_last g c =
@@ -74,11 +75,11 @@ returns-in_err-answer_last g c =
     let way = way_closes _ _ _ _ _ _ _ _ _ _ (g.T.Answerer.has_answered c.loop-feed.talk) i.way more c.if-branch.false in
     let exit = err_from_is_err_and c.from_residual-in_err-answer_last.result c.from_residual-in_err-answer_last.ensures.1 in
     end_as old new c.from_residual-in_err-answer_last.result exit.0 exit.1 (answer_ends old new c.in_err-answer_last.field-0.0 exit.0 exit.2
-    (λ is. let breaks = t.front (ap (λ (e : AnswerStop). Err e) is) in (
-      rose_later _ _ _ i.writes (t.fault (ap (λ (e : AnswerStop). Err e) is)),
+    (λ is. let breaks = t.front (ap (λ (e : Stop Failed). Err e) is) in (
+      rose_later _ _ _ i.writes (t.fault (ap (λ (e : Stop Failed). Err e) is)),
       way_breaks_last _ _ _ _ _ _ _ way (breaks (g.S.Source.left c.take_more.new.source) (more.at_end c.if-branch.false).1 (g.K.Sink.held c.args.sink.now)),
     ))
-    (λ is. let first = t.first (ap (λ (e : AnswerStop). Err e) is) in
+    (λ is. let first = t.first (ap (λ (e : Stop Failed). Err e) is) in
     way_stops_last _ _ _ _ _ _ _ way (first (g.K.Sink.held c.args.sink.now))))
 
 pub returns : goal.returns

@@ -1,5 +1,5 @@
 use Rattle.std.proofs.Common.{arith, string_bytes, sym}
-use Rattle.layout_cli.specs.Replies.{names_of}
+use Rattle.layout_cli.specs.Replies.{name_lines}
 use Rattle.layout_cli.proofs.EachView.{text_more, some_view}
 use Rattle.layout_cli.proofs.reply.names.put_names.Goals.{in-Some+in_ok-put_names_of-in-Some, in-None}
 use Rattle.layout_cli.proofs.reply.names.put_names.Goals as goal
@@ -11,7 +11,7 @@ loop-place-preserved c = record {
   text = elim c.match-at.branch [
     | in-Some+in_ok-put_names_of-in-Some w ↦
         rw w.text-is
-        (text_more names_of c.args.tree.now.views c.loop-place.place _ (string_bytes c.args.text.now) (string_bytes c.loop-place.text) (string_bytes w.put_names_of.new.text) (sym w.in-Some.ensures) c.loop-place.invariant.text w.in_ok-put_names_of-in-Some.ensures)
+        (text_more name_lines c.args.tree.now.views c.loop-place.place _ (string_bytes c.args.text.now) (string_bytes c.loop-place.text) (string_bytes w.put_names_of.new.text) (sym w.in-Some.ensures) c.loop-place.invariant.text w.in_ok-put_names_of-in-Some.ensures)
     | in-None w ↦ absurd (some_view c.args.tree.now.views c.loop-place.place (rw c.len-place-end.ensures.len at c.loop-place-test.true) (sym w.in-None.ensures))
   ];
 }

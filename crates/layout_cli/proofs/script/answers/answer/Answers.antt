@@ -4,7 +4,8 @@ use Rattle.std.proofs.lemmas.Result.{err_from_is_err_and}
 use Rattle.session_undo.specs.Replies.{Reply}
 use Rattle.layout_cli.specs.Printing.{HasFront}
 use Rattle.layout_cli.specs.Replies.{text_of}
-use Rattle.layout_cli.specs.declared.script.answers.AnswerStop.{AnswerStop}
+use Rattle.edge_io.specs.declared.traits.Failed.{Failed}
+use Rattle.frac_core.specs.declared.memory.Stop.{Stop}
 use Rattle.layout_cli.proofs.Answered.{passed_on, step_told}
 use Rattle.layout_cli.proofs.Told.{unchanged}
 use Rattle.layout_cli.proofs.script.answers.answer.Goals as goal
@@ -16,7 +17,7 @@ returns-in_err-put_reply-clause-front g c =
     let exit = err_from_is_err_and c.from_residual-in_err-put_reply.result c.from_residual-in_err-put_reply.ensures.1 in
     let told = step_told c.args.session.now new c.args.line.now (λ (reply : Reply). HasFront (g.K.Sink.held c.args.sink.now) (g.K.Sink.held c.put_reply.new.sink) (text_of new.scene reply)) c.step-reply.result
     c.step-reply.ensures.accepted c.step-reply.ensures.refused c.step-reply.ensures.same
-    (c.in_err-put_reply.ensures.front (ap (λ (e : AnswerStop). Err e) (passed_on _ _ exit.0 _ exit.1 exit.2 is))) in
+    (c.in_err-put_reply.ensures.front (ap (λ (e : Stop Failed). Err e) (passed_on _ _ exit.0 _ exit.1 exit.2 is))) in
     (told.0, new, told.1, told.2)
 
 pub returns-in_err-put_reply-clause-same : goal.returns-in_err-put_reply-clause-same
@@ -24,7 +25,7 @@ returns-in_err-put_reply-clause-same g c =
     λ is.
     let exit = err_from_is_err_and c.from_residual-in_err-put_reply.result c.from_residual-in_err-put_reply.ensures.1 in
     unchanged c.args.session.now c.step-reply.new.session c.args.line.now c.step-reply.result c.step-reply.ensures.accepted c.step-reply.ensures.same
-    (c.in_err-put_reply.ensures.unchanged (ap (λ (e : AnswerStop). Err e) (passed_on _ _ exit.0 _ exit.1 exit.2 is)))
+    (c.in_err-put_reply.ensures.unchanged (ap (λ (e : Stop Failed). Err e) (passed_on _ _ exit.0 _ exit.1 exit.2 is)))
 
 pub returns-clause-told : goal.returns-clause-told
 returns-clause-told g c =

@@ -3,7 +3,8 @@ use Rattle.std.specs.Prelude.{IfSome, IfNone, Option}
 use Rattle.std.proofs.lemmas.Result.{err_from_is_err_and}
 use Rattle.edge_io.specs.Feeding.{Gives, Waits, shown}
 use Rattle.edge_io.specs.declared.feed.Piece.{Piece}
-use Rattle.layout_cli.specs.declared.script.answers.AnswerStop.{AnswerStop}
+use Rattle.edge_io.specs.declared.traits.Failed.{Failed}
+use Rattle.frac_core.specs.declared.memory.Stop.{Stop}
 use Rattle.layout_cli.proofs.Answered.{passed_on}
 use Rattle.layout_cli.proofs.Talks.{talk_answers, talk_breaks, talk_first, talk_takes, talk_waits, talk_whole}
 use Rattle.layout_cli.proofs.script.talk.TalkAnswerer.answer_pending.Goals as goal
@@ -23,13 +24,13 @@ returns-in_err-answer-clause-front g c =
     subst (λ (r : Option Piece). IfSome r (λ piece. Gives c.loop-piece.feed (shown piece) c.next.follows.lender-at-none)) c.in-Some.is c.next.follows.holds-at-none.some in
     let exit = err_from_is_err_and c.from_residual.result c.from_residual.ensures.1 in
     λ is left p before taken more talk joins. talk_breaks before _ _ left _ _ _ _ _ _ (c.loop-piece.invariant.talk before _ (talk_takes before _ taken more p _ _ _ talk joins)) gives
-    (c.in_err-answer.ensures.front (ap (λ (e : AnswerStop). Err e) (passed_on _ _ exit.0 _ exit.1 exit.2 is)))
+    (c.in_err-answer.ensures.front (ap (λ (e : Stop Failed). Err e) (passed_on _ _ exit.0 _ exit.1 exit.2 is)))
 
 pub returns-in_err-answer-clause-first : goal.returns-in_err-answer-clause-first
 returns-in_err-answer-clause-first g c =
     let exit = err_from_is_err_and c.from_residual.result c.from_residual.ensures.1 in
     λ is p before taken more talk joins.
-    rw (c.in_err-answer.ensures.unwritten (ap (λ (e : AnswerStop). Err e) (passed_on _ _ exit.0 _ exit.1 exit.2 is)))
+    rw (c.in_err-answer.ensures.unwritten (ap (λ (e : Stop Failed). Err e) (passed_on _ _ exit.0 _ exit.1 exit.2 is)))
     (talk_first before _ _ _ _ _ (c.loop-piece.invariant.talk before _ (talk_takes before _ taken more p _ _ _ talk joins)))
 
 pub returns-clause-answered : goal.returns-clause-answered
