@@ -15,9 +15,9 @@ use Rattle.problem_core.specs.declared.parts.Rel.TheVariants.{Eq, Le, Ge}
 use Rattle.problem_core.specs.declared.parts.Term.{Term}
 use Rattle.problem_core.specs.declared.parts.Stay.{Stay}
 use Rattle.problem_core.specs.Kept.{IsRow, IsStay, IsTerm}
-use Rattle.problem_core.specs.Layout.{Row}
+use Rattle.problem_core.specs.Layout.{Row, rel_word}
 use Rattle.claim_text.specs.Words.{words, line_of}
-use Rattle.claim_text.specs.Lines.{rel_word, term_word, row_words, stay_words, text_of_lines}
+use Rattle.claim_text.specs.Lines.{term_word, row_words, stay_words, text_of_lines}
 use Rattle.claim_text.proofs.Parts.{IsFree, parts_one, parts_two}
 use Rattle.claim_text.proofs.Numerals.Digits.{decimal_digits}
 use Rattle.claim_text.proofs.Numerals.Lowest.{text_cases}

@@ -5,22 +5,14 @@ use Rattle.std.specs.Fmt.{signed_decimal}
 use Rattle.span_text.specs.Bytes.{colon, newline, space}
 use Rattle.frac_core.specs.Fraction.{IsKept}
 use Rattle.frac_core.specs.Text.{fraction_text}
-use Rattle.problem_core.specs.declared.parts.Rel.{Rel}
-use Rattle.problem_core.specs.declared.parts.Rel.TheVariants.{Eq, Le, Ge}
 use Rattle.problem_core.specs.declared.parts.Term.{Term}
 use Rattle.problem_core.specs.declared.parts.Stay.{Stay}
 use Rattle.problem_core.specs.Kept.{IsNumber, IsTerm}
 use Rattle.problem_core.specs.declared.limits.TheConstants.{COEFFICIENT_LIMIT, REQUIRED, TERM_LIMIT}
 use Rattle.problem_core.specs.declared.limits.TheConstants.{WEIGHT_LIMIT}
-use Rattle.problem_core.specs.Layout.{Row, Problem}
+use Rattle.problem_core.specs.Layout.{Row, Problem, rel_word}
 use Rattle.claim_text.specs.Words.{line_of}
 use Rattle.claim_text.specs.declared.problem.row_lines.Head.{Head}
-
--- the sign of a relation
-abbrev pub rel_word : Rel → List ℕ
-rel_word Eq = codes "=="
-rel_word Le = codes "<="
-rel_word Ge = codes ">="
 
 -- `ATTR:BY`
 abbrev pub term_word : Term → List ℕ

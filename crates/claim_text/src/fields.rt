@@ -3,7 +3,7 @@ ghost use Rattle.std.specs.Prelude.{◌≡◌, ℕ, ◌<◌, ◌≤◌, ◌^◌,
 ghost use Rattle.frac_core.specs.Fraction.{Fraction, IsKept};
 ghost use Rattle.frac_core.specs.Text.{fraction_text};
 ghost use Rattle.span_text.specs.declared.limits.TheConstants.{WHOLE_DIGITS};
-ghost use Rattle.claim_text.specs.Lines.{rel_word};
+ghost use Rattle.problem_core.specs.Layout.{rel_word};
 ghost use Rattle.problem_core.specs.declared.parts.Rel.{Rel};
 
 use crate::numbers::{fraction, natural};

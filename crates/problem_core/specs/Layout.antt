@@ -1,6 +1,6 @@
 -- Layout problems: assignments, rows, stays, errors, vectors of errors, and the best assignment.
 use Rattle.std.specs.Prelude.{◌≡◌, ℕ, ◌+◌, ◌-◌, ◌*◌, ◌/◌, ◌<◌, ◌≤◌, cond, nat_eq, List, [], ◌∷◌, ◌++◌, map, ℤ}
-use Rattle.std.specs.Prelude.{pos, negsuc, ◌+ℤ◌, ◌-ℤ◌, ◌*ℤ◌, All}
+use Rattle.std.specs.Prelude.{pos, negsuc, ◌+ℤ◌, ◌-ℤ◌, ◌*ℤ◌, All, codes}
 use Rattle.std.specs.List.{Any}
 use Rattle.frac_core.specs.Fraction.{Fraction}
 use Rattle.problem_core.specs.declared.parts.Rel.{Rel}
@@ -57,6 +57,12 @@ abbrev pub value_at : (ℕ → ℤ) → List Term → ℤ
 value_at n form = sum_of (λ e. e.by *ℤ n e.attr) form
 
 -- ---- rows and problems
+
+-- the sign of a relation
+abbrev pub rel_word : Rel → List ℕ
+rel_word Eq = codes "=="
+rel_word Le = codes "<="
+rel_word Ge = codes ">="
 
 -- the constraint `terms rel constant`, whose coefficients are scale times those that were written
 pub record Row : Type 0 where

@@ -1,4 +1,7 @@
 // The parts of a layout problem that are plain data.
+ghost use Rattle.std.specs.Prelude.{◌≡◌};
+ghost use Rattle.problem_core.specs.Layout.{rel_word};
+
 use frac_core::Frac;
 
 /// The relation of a row's left side to its constant.
@@ -7,6 +10,19 @@ pub enum Rel {
     Eq,
     Le,
     Ge,
+}
+
+impl Rel {
+    /// The sign, as a line of a script or of a problem has it.
+    pub fn word(self) -> &'static str
+        ensures { result.now ≡ rel_word self }
+    {
+        match self {
+            Rel::Eq => "==",
+            Rel::Le => "<=",
+            Rel::Ge => ">=",
+        }
+    }
 }
 
 /// The two deviations of a row from its constant.

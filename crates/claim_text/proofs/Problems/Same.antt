@@ -14,11 +14,11 @@ use Rattle.problem_core.specs.declared.parts.Rel.TheVariants.{Eq, Le, Ge}
 use Rattle.problem_core.specs.declared.parts.Term.{Term}
 use Rattle.problem_core.specs.declared.parts.Stay.{Stay}
 use Rattle.problem_core.specs.Kept.{IsRow, IsStay, IsTerm}
-use Rattle.problem_core.specs.Layout.{Row}
+use Rattle.problem_core.specs.Layout.{Row, rel_word}
 use Rattle.claim_text.specs.declared.problem.items.Item.{Item}
 use Rattle.claim_text.specs.declared.problem.items.Item.TheVariants.{Nothing, OfRow, OfStay}
 use Rattle.claim_text.specs.Words.{words}
-use Rattle.claim_text.specs.Lines.{rel_word, row_words, stay_words, term_word}
+use Rattle.claim_text.specs.Lines.{row_words, stay_words, term_word}
 use Rattle.claim_text.specs.Problems.{Says, IsPassedOver}
 use Rattle.claim_text.proofs.Parts.{parts_two, cut_is, not_whole, parts_one}
 use Rattle.claim_text.proofs.Numerals.Digits.{same_value, same_integer}

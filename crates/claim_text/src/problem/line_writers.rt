@@ -3,20 +3,10 @@ ghost use Rattle.std.specs.Prelude.{◌≡◌, ◌++◌, ◌∷◌, [], IfOk, ma
 ghost use Rattle.frac_core.specs.Text.{fraction_text};
 ghost use Rattle.span_text.specs.Bytes.{newline, space};
 ghost use Rattle.claim_text.specs.Texts.{Adds};
-ghost use Rattle.claim_text.specs.Lines.{rel_word, term_word, row_line, stay_line, spaced, head_line};
+ghost use Rattle.claim_text.specs.Lines.{term_word, row_line, stay_line, spaced, head_line};
 
 use frac_core::{Frac, OutOfMemory};
-use problem_core::{Rel, Row, Stay, Term};
-
-fn relation_text(rel: Rel) -> &'static str
-    ensures { result.now ≡ rel_word rel }
-{
-    match rel {
-        Rel::Eq => "==",
-        Rel::Le => "<=",
-        Rel::Ge => ">=",
-    }
-}
+use problem_core::{Row, Stay, Term};
 
 /// Appends a fraction, as `p/q` or as `p` where q is 1.
 pub(crate) fn put_fraction(text: &mut String, f: Frac) -> Result<(), OutOfMemory>
@@ -58,7 +48,7 @@ fn put_head(text: &mut String, row: &Row) -> Result<(), OutOfMemory>
     let id = row.id();
     let rank = row.rank();
     let weight = row.weight();
-    let rel = relation_text(row.rel());
+    let rel = row.rel().word();
     let scale = row.scale();
     write!(text, "row {id} {rank} {weight} {rel} {scale} ")?;
     put_fraction(text, row.constant())

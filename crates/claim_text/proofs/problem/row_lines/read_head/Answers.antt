@@ -1,6 +1,6 @@
 use Rattle.std.proofs.Common.{rules, ◌∷◌, decimal}
 use Rattle.frac_core.specs.Text.{fraction_text}
-use Rattle.claim_text.specs.Lines.{rel_word}
+use Rattle.problem_core.specs.Layout.{rel_word}
 use Rattle.claim_text.proofs.problem.row_lines.read_head.Goals as goal
 
 pub returns-in_err-weight-clause-none : goal.returns-in_err-weight-clause-none
