@@ -12,14 +12,11 @@
 //!
 //! What [`print_answers`] keeps: the status is 0 only where all that `printed` made of the input was written.
 //!
-//! In reading order: `escapes` (text lines, read and written), `program` (input, output and exit
-//! status), `relations` (texts that several of the programs print).
+//! In reading order: `escapes` (text lines, read and written), `program` (input, output and exit status).
 #![tactic(auto)]
 
 mod escapes;
 mod program;
-mod relations;
 
 pub use escapes::{put_escaped, put_text};
 pub use program::print_answers;
-pub use relations::relation_text;

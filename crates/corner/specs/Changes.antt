@@ -15,6 +15,7 @@ use Rattle.problem_core.specs.Unfit.{IsUnfitWhat}
 use Rattle.cert_core.specs.Stops.{IsStopOf}
 use Rattle.cert_core.specs.declared.stops.RunStop.{RunStop}
 use Rattle.cert_core.specs.declared.stops.RunStop.TheVariants.{Conflict, Unfit, Spent, OutOfMemory}
+use Rattle.corner_laws.specs.Lifts.{with_rows}
 use Rattle.corner.specs.Views.{CornerView, HasValueAt, Scene, in_order}
 use Rattle.corner.specs.Tables.{Lists, marks_over}
 
@@ -55,18 +56,14 @@ FromAdded p kept rows rest at = (joined : List Row) × (joined ++ rest ≡ rows)
     × BeginsWith p kept joined rest at
     × (at ≡ in_order p at)
 
--- the problem with these rows behind its own
-abbrev pub with_rows : Problem → List Row → Problem
-with_rows p rows = record { rows = p.rows ++ rows; stays = p.stays }
-
 -- want of memory, or a sum of a new row's terms or of a level's new rows that does not fit, with the path to
 -- it
 abbrev pub IsAddStop : CornerView → List Row → RunStop → Type 0
 IsAddStop old rows (Conflict by) = ⊥
 IsAddStop old rows (Spent path) = ⊥
 IsAddStop old rows (Unfit at) = IsPartial at.quantity
-    × IsStopOf false (with_rows old.problem rows) old.problem.rows
-    (FromAdded (with_rows old.problem rows) old.marks rows) 0 (Unfit at)
+    × IsStopOf false (with_rows rows old.problem) old.problem.rows
+    (FromAdded (with_rows rows old.problem) old.marks rows) 0 (Unfit at)
 IsAddStop old rows OutOfMemory = Unit {0}
 
 -- want of memory, or the quantity, with the path to where these rows are still to join
@@ -76,13 +73,6 @@ IsPathStop t rest stop (Spent path) = ⊥
 IsPathStop t rest stop (Unfit at) = (stop ≡ Refused at.quantity)
     × (at.path ≡ record { dual = false; corner = marks_over t rest; swaps = [] })
 IsPathStop t rest stop OutOfMemory = Unit {0}
-
--- the problem with an attribute more, whose stay is the last one
-abbrev pub with_attr : Problem → ℕ → Fraction → Problem
-with_attr p attr target = record {
-  rows = p.rows;
-  stays = p.stays ++ (record { attr = attr; target = target } ∷ []);
-}
 
 -- the problems have the same rows and attributes, and the new one's stays stand at the old one's values
 pub record HasStood (old new : CornerView) : Type 0 where

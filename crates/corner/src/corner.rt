@@ -30,7 +30,8 @@ ghost use Rattle.corner.specs.Views.{IsScaleOf, IsSettled};
 ghost use Rattle.corner.specs.Views.{IsStronger, IsWritten, MovesWith};
 ghost use Rattle.corner.specs.Changes.{HasNoNegative, HasStood, IsAddStop, IsAsBefore, IsRewound};
 ghost use Rattle.corner.specs.Changes.{IsUnfitStop, scene_of};
-ghost use Rattle.corner.specs.Changes.{with_attr, with_rows};
+ghost use Rattle.corner_laws.specs.Lifts.{with_rows};
+ghost use Rattle.corner_lines.specs.Joins.{with_attr};
 ghost use Rattle.corner.specs.Shifts.Shifting.{IsNear};
 ghost use Rattle.corner_lines.specs.Removals.{IsFree, without_attr, without_row};
 ghost use Rattle.corner_lines.specs.Shifts.{with_constant};
@@ -518,7 +519,7 @@ impl Corner {
         requires number { IsNumber attr }
         requires fresh { HasStay self.old.problem.stays attr → ⊥ }
         requires room { length self.old.problem.stays < ROW_LIMIT }
-        ensures problem { IfOk result (λ _. self.new.problem ≡ with_attr self.old.problem attr target) }
+        ensures problem { IfOk result (λ _. self.new.problem ≡ with_attr attr target self.old.problem) }
         ensures marks { IfOk result (λ _. self.new.marks ≡ self.old.marks) }
         ensures before { self.new.before ≡ self.old.before }
         ensures candidates { IfOk result (λ _. self.new.candidates ≡ self.old.candidates) }
@@ -541,9 +542,9 @@ impl Corner {
     /// that of the newest mark.
     pub fn add_rows(&mut self, rows: &[Row]) -> Result<(), RunStop>
         requires marked { 0 < length self.old.before }
-        requires whole { IsWhole (with_rows self.old.problem rows.now) }
+        requires whole { IsWhole (with_rows rows.now self.old.problem) }
         requires values { NoNegativeValue self.old.problem self.old.marks }
-        ensures problem { IfOk result (λ _. self.new.problem ≡ with_rows self.old.problem rows.now) }
+        ensures problem { IfOk result (λ _. self.new.problem ≡ with_rows rows.now self.old.problem) }
         ensures marks { IfOk result
             (λ _. BeginsWith self.new.problem self.old.marks rows.now [] self.new.marks) }
         ensures before { self.new.before ≡ self.old.before }

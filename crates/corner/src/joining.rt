@@ -20,7 +20,8 @@ ghost use Rattle.corner_lines.specs.LineEquations.{deviation as deviation_of};
 ghost use Rattle.corner.specs.Tables.{lists_of, marks_at, priority_at as level_at, problem_of, row_at};
 ghost use Rattle.corner.specs.declared.table.TheConstants.{LEVELS};
 ghost use Rattle.corner.specs.Histories.{HasSameHistory};
-ghost use Rattle.corner.specs.Changes.{IsAddStop, IsPathStop, with_rows};
+ghost use Rattle.corner_laws.specs.Lifts.{with_rows};
+ghost use Rattle.corner.specs.Changes.{IsAddStop, IsPathStop};
 ghost use Rattle.corner.specs.Invariants.{seen_of};
 ghost use Rattle.corner.specs.Kept.{AreSlots, IsKept};
 ghost use Rattle.corner.specs.Additions.Parts.{IsPartlyKept, IsTermsStop, IsWithRow};
@@ -792,7 +793,7 @@ fn added_stop(table: &Table, rest: &[Row], stop: TableStop) -> RunStop
 // Adds all rows as such.
 fn push_rows(table: &mut Table, rows: &[Row]) -> Result<(), RunStop>
     requires kept { IsPartlyKept (lists_of table.old) }
-    requires whole { IsWhole (with_rows (problem_of (lists_of table.old)) rows.now) }
+    requires whole { IsWhole (with_rows rows.now (problem_of (lists_of table.old))) }
     requires values { NoNegativeValue (problem_of (lists_of table.old)) (marks_at (lists_of table.old)) }
     ensures past { HasSameHistory table.old table.new }
     ensures lists { OnOk result (ArePushed rows.now (lists_of table.old) (lists_of table.new)) }
@@ -852,7 +853,7 @@ fn join_costs(table: &mut Table, listed: &mut Listed, rows: &[Row]) -> Result<()
 /// Adds rows as such, and then to the costs of their levels.
 pub(crate) fn join_all(table: &mut Table, listed: &mut Listed, rows: &[Row]) -> Result<(), RunStop>
     requires kept { IsKept (lists_of table.old) }
-    requires whole { IsWhole (with_rows (problem_of (lists_of table.old)) rows.now) }
+    requires whole { IsWhole (with_rows rows.now (problem_of (lists_of table.old))) }
     requires values { NoNegativeValue (problem_of (lists_of table.old)) (marks_at (lists_of table.old)) }
     ensures joined { OnOk result (AreAllJoined rows.now (lists_of table.old) listed.old
         (lists_of table.new) listed.new) }

@@ -1,5 +1,4 @@
 // Rows and refusals as text.
-use case_text::relation_text;
 use constraint_compile::{CompileStop, KindWord};
 use frac_core::{Frac, OutOfMemory};
 use name_tables::LimitWord;
@@ -21,7 +20,7 @@ pub fn put_row(out: &mut String, row: &Row) -> Result<(), OutOfMemory> {
     let id = row.id();
     let rank = row.rank();
     let weight = row.weight();
-    let rel = relation_text(row.rel());
+    let rel = row.rel().word();
     let scale = row.scale();
     write!(out, "row {id} {rank} {weight} {rel} {scale} ")?;
     put_fraction(out, row.constant())?;

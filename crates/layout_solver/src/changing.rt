@@ -4,7 +4,8 @@ ghost use Rattle.problem_core.specs.Layout as layout;
 ghost use Rattle.problem_core.specs.Kept.{IsWhole};
 ghost use Rattle.problem_core.specs.Corners.{NoNegativeValue};
 ghost use Rattle.cert_core.specs.Stops.{IsStopOf};
-ghost use Rattle.corner.specs.Changes.{FromAdded, with_rows as with_more};
+ghost use Rattle.corner_laws.specs.Lifts.{with_rows as with_more};
+ghost use Rattle.corner.specs.Changes.{FromAdded};
 ghost use Rattle.corner_ends.specs.Runs.{IsBestEnd};
 ghost use Rattle.layout_solver.specs.Layouts.{stays_at, zeros};
 ghost use Rattle.layout_solver.specs.Starts.{CanTake, HasAdded, IsMoved, attrs_of};
@@ -37,16 +38,16 @@ fn add_attrs(c: &mut Corner, attrs: &[u32]) -> Result<(), OutOfMemory>
 // Adds rows, and goes on to the best corner.
 fn join(alloc: Global, c: &mut Corner, rows: &[Row], budget: u64) -> Result<(), RunStop>
     requires marked { 0 < length c.old.before }
-    requires whole { IsWhole (with_more c.old.problem rows.now) }
+    requires whole { IsWhole (with_more rows.now c.old.problem) }
     requires values { NoNegativeValue c.old.problem c.old.marks }
-    ensures problem { IfOk result (λ _. c.new.problem ≡ with_more c.old.problem rows.now) }
+    ensures problem { IfOk result (λ _. c.new.problem ≡ with_more rows.now c.old.problem) }
     ensures before { c.new.before ≡ c.old.before }
     ensures end { IfOk result (λ _. IsBestEnd c.new.problem c.new.marks) }
     ensures listed { IfOk result (λ _. c.new.candidates ≡ []) }
     ensures path { IfOk result
-        (λ _. HasAdded (with_more c.old.problem rows.now) c.old.marks rows.now budget c.new.marks) }
-    ensures stop { IfErr result (IsStopOf false (with_more c.old.problem rows.now) c.old.problem.rows
-        (FromAdded (with_more c.old.problem rows.now) c.old.marks rows.now) budget) }
+        (λ _. HasAdded (with_more rows.now c.old.problem) c.old.marks rows.now budget c.new.marks) }
+    ensures stop { IfErr result (IsStopOf false (with_more rows.now c.old.problem) c.old.problem.rows
+        (FromAdded (with_more rows.now c.old.problem) c.old.marks rows.now) budget) }
 {
     c.show_corner(); // for the proof: what a corner keeps
     c.add_rows(rows)?;

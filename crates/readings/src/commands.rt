@@ -1,6 +1,6 @@
 // Lines of a script: their readings, part by part.
 use crate::formats::put_written;
-use case_text::{put_text, relation_text};
+use case_text::put_text;
 use frac_core::{Frac, OutOfMemory, Stop};
 use script_text::{Align, AttrWord, Command, ExprTerm, Linear, Operand, read_line};
 use span_text::{Object, SyntaxAt};
@@ -53,7 +53,7 @@ fn put_priority(out: &mut String, priority: Option<Object<'_>>) -> Result<(), Ou
 
 fn put_linear(out: &mut String, line: &Linear<'_>) -> Result<(), OutOfMemory> {
     put_terms(out, line.left())?;
-    let rel = relation_text(line.rel);
+    let rel = line.rel.word();
     write!(out, " {rel}")?;
     put_terms(out, line.right())?;
     put_priority(out, line.priority)?;

@@ -21,12 +21,11 @@
 //! window 320 480          each reply is printed, then how the run ended and how often it pulled
 //! ```
 //!
-//! In reading order: `cases` (the headings), `runs`, `counted` (a source that counts its pulls), `table`;
-//! `sessions`, `steps` (one step, and what a check says of it), `drawing` (drawn lines).
+//! In reading order: `cases` (the headings), `runs`, `table`; `sessions`, `steps` (one step, and what a check
+//! says of it), `drawing` (drawn lines).
 #![tactic(auto)]
 
 mod cases;
-mod counted;
 mod drawing;
 mod runs;
 mod sessions;

@@ -1,5 +1,4 @@
 // Runs over sources and sinks in memory, and over std's.
-use crate::counted::Counted;
 use case_text::put_text;
 use edge_io::{MemorySink, MemorySource, Sink, Source, StdSink, StdSource};
 use frac_core::OutOfMemory;
@@ -93,14 +92,11 @@ fn input_of(alloc: Global, options: &str, text: &[u8]) -> Result<Vec<u8>, OutOfM
 }
 
 // The source of a run in memory, by the options.
-fn source_of(alloc: Global, options: &str, text: &[u8]) -> Result<Counted, OutOfMemory> {
+fn source_of(alloc: Global, options: &str, text: &[u8]) -> Result<MemorySource, OutOfMemory> {
     let whole = input_of(alloc, options, text)?;
     let sizes = sizes_of(alloc, options, whole.len())?;
     let fails = fails_of(alloc, options)?;
-    Ok(Counted {
-        inner: MemorySource::new(whole, sizes, fails),
-        pulls: 0,
-    })
+    Ok(MemorySource::new(whole, sizes, fails))
 }
 
 /// A run that writes to memory.
@@ -164,7 +160,7 @@ fn put_counted(alloc: Global, out: &mut String, case: Case<'_>) -> Result<(), Ou
     let mut sink = MemorySink::new(alloc, room, Vec::new(alloc))?;
     let ended = ended_in_memory(alloc, case.words, &mut source, &mut sink)?;
     put_ended(out, &ended)?;
-    let pulls = source.pulls;
+    let pulls = source.calls();
     Ok(writeln!(out, "-- {pulls} pulls")?)
 }
 

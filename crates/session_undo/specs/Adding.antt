@@ -98,18 +98,11 @@ abbrev pub from_shifts : Layout → Start
 from_shifts l = record { dual = true; before = l.problem.rows; joining = []; kept = l.corner }
 
 -- why the run from the scene to the draft stops, where memory may be wanting
-abbrev pub StopsAt : Scene → Scene → ℕ → RunStop → Type 0
-StopsAt scene draft budget (run.Conflict by) = IsStopped scene draft budget (run.Conflict by)
-StopsAt scene draft budget (run.Unfit at) = IsStopped scene draft budget (run.Unfit at)
-StopsAt scene draft budget (run.Spent path) = IsStopped scene draft budget (run.Spent path)
-StopsAt scene draft budget run.OutOfMemory = Unit {0}
-
--- the run's stop is no conflict
-abbrev pub IsNoConflict : RunStop → Type 0
-IsNoConflict (run.Conflict by) = ⊥
-IsNoConflict (run.Unfit at) = Unit {0}
-IsNoConflict (run.Spent path) = Unit {0}
-IsNoConflict run.OutOfMemory = Unit {0}
+abbrev pub RunStopsAt : Scene → Scene → ℕ → RunStop → Type 0
+RunStopsAt scene draft budget (run.Conflict by) = IsStopped scene draft budget (run.Conflict by)
+RunStopsAt scene draft budget (run.Unfit at) = IsStopped scene draft budget (run.Unfit at)
+RunStopsAt scene draft budget (run.Spent path) = IsStopped scene draft budget (run.Spent path)
+RunStopsAt scene draft budget run.OutOfMemory = Unit {0}
 
 -- no draft comes to its end
 abbrev pub NoEnd : Scene → Reply → State → Type 0

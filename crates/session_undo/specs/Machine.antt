@@ -269,8 +269,8 @@ HasAllViews s = (s.limits.views ≤ length s.scene.tree.views) ⊎ (ID_LIMIT ≤
 -- a view in this one would be at a depth past the limit
 abbrev pub IsDeep : ViewTree → List ℕ → Type 0
 IsDeep tree parent =
-    (above : LiveView) × (level : ℕ) × (view_named tree.views parent ≡ Some above)
-    × IsAtDepth tree.views above.id level × (DEPTH_LIMIT ≤ level)
+    (above : LiveView) × (depth : ℕ) × (view_named tree.views parent ≡ Some above)
+    × IsAtDepth tree.views above.id depth × (DEPTH_LIMIT ≤ depth)
 
 -- so many more rows would be too many, or one would have too great a number
 abbrev pub IsCrowded : State → ℕ → Type 0

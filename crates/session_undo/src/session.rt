@@ -360,7 +360,7 @@ impl Session {
     }
 
     // The line, with its rows and room for them.
-    fn with_rows(&self, group: &str, line: Compiled) -> Result<NewLine, Refusal>
+    fn new_line(&self, group: &str, line: Compiled) -> Result<NewLine, Refusal>
         requires small { AreSmallForms self.now.scene.metrics line.rows }
         requires next { IsNextLine self.now.scene.tree.views self.now.scene.next_row line }
         ensures line { IfOk result (λ new. new.line ≡ line) }
@@ -419,7 +419,7 @@ impl Session {
     {
         let (tree, metrics) = (self.scene.tree(), self.scene.metrics());
         match compile_line(self.alloc, tree, metrics, line, self.scene.next_row()) {
-            Ok(compiled) => self.with_rows(group, compiled),
+            Ok(compiled) => self.new_line(group, compiled),
             Err(stop) => Err(self.line_refusal(group, 1, stop)),
         }
     }
@@ -460,7 +460,7 @@ impl Session {
             align,
             self.scene.next_row(),
         ) {
-            Ok(compiled) => self.with_rows(group, compiled),
+            Ok(compiled) => self.new_line(group, compiled),
             Err(stop) => {
                 let count = format_row_count(self.alloc, tree, format, align)?;
                 Err(self.line_refusal(group, count, stop))

@@ -18,13 +18,13 @@ use Rattle.problem_core.specs.Changes.Begins.{BeginsWith, IsJoined}
 use Rattle.problem_core.specs.Corners.{NoNegativeValue, IsIn, Point, place}
 use Rattle.problem_core.specs.Unfit.{IsNewAt, IsUnfitRows, over_mark}
 use Rattle.problem_core.specs.Changes.Paths.{IsPath}
-use Rattle.corner_laws.specs.Lifts.{HasOneIn}
+use Rattle.corner_laws.specs.Lifts.{HasOneIn, with_rows}
 use Rattle.corner_laws.proofs.Counting.{head_pairs}
 use Rattle.corner_lines.specs.Levels.LevelJoins.{level_count}
 use Rattle.corner.specs.declared.table.Priority.{Priority}
 use Rattle.corner.specs.declared.table.Slot.{Slot}
 use Rattle.corner.specs.declared.table.Table.{Table}
-use Rattle.corner.specs.Changes.{IsAddStop, with_rows}
+use Rattle.corner.specs.Changes.{IsAddStop}
 use Rattle.corner.specs.Views.{in_order}
 use Rattle.corner.specs.Histories.{AreAlike, lists_before}
 use Rattle.corner.specs.Invariants.{IsConsistent, IsEarlier, names_of, seen_of}
@@ -129,8 +129,8 @@ shown : (t mid : Lists) (rows done : List Row) (r : Row) (rest : List Row) (j : 
     → j ≡ level_count (1000 - r.rank) (t.rows ++ done) + 1 → IsUnfitRows (problem_of mid) (marks_at mid) (PriorityLevel r.rank) j
     → IsAddStop (seen_of t) rows (Unfit (record { path = record { dual = false; corner = marks_at mid; swaps = [] }; quantity = Rows (PriorityLevel r.rank) j }))
 shown t mid rows done r rest j pushed begins kept values parts count unfit =
-    let p : Problem = with_rows (problem_of t) rows in
-    let same : problem_of mid ≡ with_rows (problem_of t) rows = problem_so_far rows t mid pushed in
+    let p : Problem = with_rows rows (problem_of t) in
+    let same : problem_of mid ≡ with_rows rows (problem_of t) = problem_so_far rows t mid pushed in
     let all : mid.rows ≡ (t.rows ++ done) ++ (r ∷ rest) = pushed.rows ∙ ap (λ (xs : List Row). t.rows ++ xs) parts ∙ sym (append_more t.rows done (r ∷ rest)) in
     let new : All (λ (s : Row). s.id ≢ r.id) t.rows = All-from_recursion (λ (s : Row). s.id ≢ r.id) t.rows
     (left-of (λ (s : Row). s.id ≢ r.id) t.rows done (before-ids (t.rows ++ done) r rest (subst (λ (xs : List Row). AllPairs (λ r s. r.id < s.id) xs) all kept.whole.rising))) in
@@ -206,7 +206,7 @@ added_consistent t u rows old new c alike before h =
     let b : Lists = lists_of u in
     let slots : u.slots.items ≡ t.slots.items ++ map slot_of_row rows = h.joined.slots ∙ h.pushed.slots in
     let all : u.rows.items ≡ t.rows.items ++ rows = h.joined.rows_same ∙ h.pushed.rows in
-    let problem : problem_of (lists_of u) ≡ with_rows (problem_of (lists_of t)) rows = ap₂ (λ (xs : List Row) (ys : List Stay). record { rows = xs; stays = ys }) all (h.joined.stays ∙ h.pushed.stays) in
+    let problem : problem_of (lists_of u) ≡ with_rows rows (problem_of (lists_of t)) = ap₂ (λ (xs : List Row) (ys : List Stay). record { rows = xs; stays = ys }) all (h.joined.stays ∙ h.pushed.stays) in
     let longer : length t.slots.items ≤ length u.slots.items = subst (λ (xs : List Slot). length t.slots.items ≤ length xs) (sym slots) (longer-than t.slots.items (map slot_of_row rows)) in
     let was : Each (IsSlot (lists_of t)) old = recursion_from_All (IsSlot (lists_of t)) old c.slots in
     let each : Each (IsSlot (lists_of u)) new = each-contained (IsSlot (lists_of u)) new
@@ -243,7 +243,7 @@ added_consistent t u rows old new c alike before h =
     any_more P (x ∷ xs) ys ls (zero, d, lt, e, h) = (0, d, omega arith, e, h)
     any_more P (x ∷ xs) ys ls (suc k, d, lt, e, h) = let i = any_more P xs ys ls (k, d, omega (arith, lt), e, h) in (suc i.0, i.1, omega (arith, i.2), i.3, i.4)
 
-    all_named : (p : Problem) (more : List Row) (name : RowName) → IsNamed p name → IsNamed (with_rows p more) name
+    all_named : (p : Problem) (more : List Row) (name : RowName) → IsNamed p name → IsNamed (with_rows more p) name
     all_named p more name h = any_more (λ l. l.name ≡ name) p.rows more (stay_lines 1001 p.stays) h
 
     longer-than : (xs ys : List Slot) → length xs ≤ length (xs ++ ys)

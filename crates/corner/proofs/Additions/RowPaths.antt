@@ -16,7 +16,7 @@ use Rattle.corner_lines.proofs.ProblemChanges.JoinedBegins.{begins_more}
 use Rattle.corner_lines.proofs.ProblemChanges.JoinedRows.{in-parts, new-in, old-in}
 use Rattle.corner.specs.declared.table.Slot.{Slot}
 use Rattle.corner.specs.Views.{IsNamed}
-use Rattle.corner.specs.Changes.{with_rows}
+use Rattle.corner_laws.specs.Lifts.{with_rows}
 use Rattle.corner.specs.Tables.{Lists, line_slot, marks_at, problem_of, row_at, standing_at}
 use Rattle.corner.specs.Additions.Parts.{IsPartlyKept, IsWithRow}
 use Rattle.corner.specs.Additions.Joining.{slot_of_row}
@@ -75,7 +75,7 @@ none_pushed t = record {
 }
 
 -- the problem with the rows so far
-pub problem_so_far : (more : List Row) (t u : Lists) → ArePushed more t u → problem_of u ≡ with_rows (problem_of t) more
+pub problem_so_far : (more : List Row) (t u : Lists) → ArePushed more t u → problem_of u ≡ with_rows more (problem_of t)
 problem_so_far more t u h = ap₂ (λ (rows : List Row) (stays : List Stay). record { rows = rows; stays = stays }) h.rows h.stays
 
 pub named_so_far : (more : List Row) (t u : Lists) (name : RowName) → ArePushed more t u → IsNamed (problem_of t) name → IsNamed (problem_of u) name

@@ -24,7 +24,7 @@ use Rattle.problem_core.specs.declared.stops.Quantity.{Quantity}
 use Rattle.problem_core.specs.declared.stops.Quantity.TheVariants.{Plain, Terms, Rows, Shifts}
 use Rattle.problem_core.specs.Changes.Stops.{TableStop}
 use Rattle.frac_core.specs.declared.memory.Stop.TheVariants.{Refused}
-use Rattle.corner_laws.specs.Lifts.{AreJoined}
+use Rattle.corner_laws.specs.Lifts.{AreJoined, with_rows}
 use Rattle.corner_laws.proofs.Counting.{head_pairs}
 use Rattle.corner_laws.proofs.MarkWritings.TermLifts.{terms_lift}
 use Rattle.corner_laws.proofs.WrittenValues.{contains_each}
@@ -32,7 +32,7 @@ use Rattle.corner_lines.specs.Joins.{over_joined, with_row}
 use Rattle.corner_lines.proofs.ProblemChanges.JoinedRows.{fresh-mark, in-parts, joined_corner, old-in}
 use Rattle.corner_lines.proofs.SameMarks.{same_corner, stands-there as stands_there}
 use Rattle.corner.specs.Views.{in_order}
-use Rattle.corner.specs.Changes.{IsAddStop, IsPathStop, with_rows}
+use Rattle.corner.specs.Changes.{IsAddStop, IsPathStop}
 use Rattle.corner.specs.Invariants.{seen_of}
 use Rattle.corner.specs.Tables.{Lists, inside_of, marks_at, marks_over, problem_of, row_names, stands_in, stay_names}
 use Rattle.corner.specs.Kept.{AreSlots}
@@ -107,26 +107,26 @@ over_step t r rest slots whole =
 then_rest : (rows : List Row) (r : Row) (rest : List Row) (stays : List Stay) → IsWhole (record { rows = rows ++ (r ∷ rest); stays = stays }) → IsWhole (record { rows = (rows ++ (r ∷ [])) ++ rest; stays = stays })
 then_rest rows r rest stays h = subst (λ (x : List Row). IsWhole (record { rows = x; stays = stays })) (sym (append_more rows (r ∷ []) rest)) h
 
-first_whole : (p : Problem) (r : Row) (rest : List Row) → IsWhole (with_rows p (r ∷ rest)) → IsWhole (with_row r p)
+first_whole : (p : Problem) (r : Row) (rest : List Row) → IsWhole (with_rows (r ∷ rest) p) → IsWhole (with_row r p)
 first_whole p r rest h = whole_front (p.rows ++ (r ∷ [])) rest p.stays (then_rest p.rows r rest p.stays h)
 
-over_marks : (rest : List Row) (t : Lists) → AreSlots t → IsWhole (with_rows (problem_of t) rest) → marks_over t rest ≡ marks_at (rest_over rest t)
+over_marks : (rest : List Row) (t : Lists) → AreSlots t → IsWhole (with_rows rest (problem_of t)) → marks_over t rest ≡ marks_at (rest_over rest t)
 over_marks [] t slots whole = marks_inside t
 over_marks (r ∷ rest) t slots whole =
     let one = first_whole (problem_of t) r rest whole in
     sym (over_step t r rest slots one)
     ∙ over_marks rest (over_pushed r t) (slots_pushed t r (record { side = Some Over; value = zero_fraction }) [] (with_number r.id (length t.slots) t.row_slots) (next_of t r slots one)) (then_rest t.rows r rest t.stays whole)
 
-over_problem : (rest : List Row) (t : Lists) → problem_of (rest_over rest t) ≡ with_rows (problem_of t) rest
+over_problem : (rest : List Row) (t : Lists) → problem_of (rest_over rest t) ≡ with_rows rest (problem_of t)
 over_problem [] t = ap (λ (x : List Row). record { rows = x; stays = t.stays }) (sym (append_none t.rows))
 over_problem (r ∷ rest) t = over_problem rest (over_pushed r t) ∙ ap (λ (x : List Row). record { rows = x; stays = t.stays }) (append_more t.rows (r ∷ []) rest)
 
-pub over_ordered : (rest : List Row) (t : Lists) → AreSlots t → IsWhole (with_rows (problem_of t) rest) → marks_over t rest ≡ in_order (with_rows (problem_of t) rest) (marks_over t rest)
+pub over_ordered : (rest : List Row) (t : Lists) → AreSlots t → IsWhole (with_rows rest (problem_of t)) → marks_over t rest ≡ in_order (with_rows rest (problem_of t)) (marks_over t rest)
 over_ordered rest t slots whole =
     over_marks rest t slots whole ∙ marks_ordered (rest_over rest t)
     ∙ ap₂ (λ (p : Problem) (ms : List Mark). in_order p ms) (over_problem rest t) (sym (over_marks rest t slots whole))
 
-over_apart : (rest : List Row) (t : Lists) → AreSlots t → IsWhole (with_rows (problem_of t) rest) → AllPairs (λ m n. place m ≢ place n) (marks_over t rest)
+over_apart : (rest : List Row) (t : Lists) → AreSlots t → IsWhole (with_rows rest (problem_of t)) → AllPairs (λ m n. place m ≢ place n) (marks_over t rest)
 over_apart rest t slots whole =
     subst (λ (ms : List Mark). AllPairs (λ m n. place m ≢ place n) ms) (sym (over_marks rest t slots whole))
     (marks_different (rest_over rest t) (subst IsWhole (sym (over_problem rest t)) whole))
@@ -294,17 +294,17 @@ more_begun p kept more rest at id r whole le h =
     }
 
 -- all of them are
-rest_begun : (p : Problem) (kept : List Mark) (more done rest : List Row) (at : List Mark) (id : ℕ) → IsWhole (with_rows p rest) → Each (λ r. id ≤ r.id) rest → IsBegun p kept more done at id
-    → IsBegun (with_rows p rest) kept more (done ++ rest) (at ++ map (λ r. over_mark r.id) rest) id
+rest_begun : (p : Problem) (kept : List Mark) (more done rest : List Row) (at : List Mark) (id : ℕ) → IsWhole (with_rows rest p) → Each (λ r. id ≤ r.id) rest → IsBegun p kept more done at id
+    → IsBegun (with_rows rest p) kept more (done ++ rest) (at ++ map (λ r. over_mark r.id) rest) id
 rest_begun p kept more done [] at id whole later h =
-    subst (λ (ms : List Mark). IsBegun (with_rows p []) kept more (done ++ []) ms id) (sym (append_none at))
-    (subst (λ (rows : List Row). IsBegun (with_rows p []) kept more rows at id) (sym (append_none done))
+    subst (λ (ms : List Mark). IsBegun (with_rows [] p) kept more (done ++ []) ms id) (sym (append_none at))
+    (subst (λ (rows : List Row). IsBegun (with_rows [] p) kept more rows at id) (sym (append_none done))
     (subst (λ (rows : List Row). IsBegun (record { rows = rows; stays = p.stays }) kept more done at id) (sym (append_none p.rows)) h))
 rest_begun p kept more done (r ∷ rest) at id whole later h =
     let one = first_whole p r rest whole in
     let all = rest_begun (with_row r p) kept more (done ++ (r ∷ [])) rest (over_joined r at) id (then_rest p.rows r rest p.stays whole) later.1 (more_begun p kept more done at id r one later.0 h) in
-    subst (λ (ms : List Mark). IsBegun (with_rows p (r ∷ rest)) kept more (done ++ (r ∷ rest)) ms id) (append_more at (over_mark r.id ∷ []) (map (λ r. over_mark r.id) rest))
-    (subst (λ (rows : List Row). IsBegun (with_rows p (r ∷ rest)) kept more rows ((at ++ (over_mark r.id ∷ [])) ++ map (λ r. over_mark r.id) rest) id) (append_more done (r ∷ []) rest)
+    subst (λ (ms : List Mark). IsBegun (with_rows (r ∷ rest) p) kept more (done ++ (r ∷ rest)) ms id) (append_more at (over_mark r.id ∷ []) (map (λ r. over_mark r.id) rest))
+    (subst (λ (rows : List Row). IsBegun (with_rows (r ∷ rest) p) kept more rows ((at ++ (over_mark r.id ∷ [])) ++ map (λ r. over_mark r.id) rest) id) (append_more done (r ∷ []) rest)
     (subst (λ (rows : List Row). IsBegun (record { rows = rows; stays = p.stays }) kept more ((done ++ (r ∷ [])) ++ rest) ((at ++ (over_mark r.id ∷ [])) ++ map (λ r. over_mark r.id) rest) id) (append_more p.rows (r ∷ []) rest) all))
 
 -- the order of the marks is free
@@ -319,18 +319,18 @@ other_order p kept more rest a b id same apart h = record {
   before = moved_all (λ m. IsBefore id m.row → pos 0 ≤ℤ h.point.num (place m)) a b same h.before;
 }
 
-pub begun_over : (t : Lists) (kept : List Mark) (more rest : List Row) (id : ℕ) → AreSlots t → IsWhole (with_rows (problem_of t) rest) → Each (λ r. id ≤ r.id) rest → IsCorner (problem_of t) (marks_at t) → BeginsWith (problem_of t) kept more [] (marks_at t) → NoNegativeValue (problem_of t) (marks_at t)
-    → IsBegun (with_rows (problem_of t) rest) kept more rest (marks_over t rest) id
+pub begun_over : (t : Lists) (kept : List Mark) (more rest : List Row) (id : ℕ) → AreSlots t → IsWhole (with_rows rest (problem_of t)) → Each (λ r. id ≤ r.id) rest → IsCorner (problem_of t) (marks_at t) → BeginsWith (problem_of t) kept more [] (marks_at t) → NoNegativeValue (problem_of t) (marks_at t)
+    → IsBegun (with_rows rest (problem_of t)) kept more rest (marks_over t rest) id
 begun_over t kept more rest id slots whole later corner b values =
-    other_order (with_rows (problem_of t) rest) kept more rest (marks_at t ++ map (λ r. over_mark r.id) rest) (marks_over t rest) id (over_same t rest) (over_apart rest t slots whole)
+    other_order (with_rows rest (problem_of t)) kept more rest (marks_at t ++ map (λ r. over_mark r.id) rest) (marks_over t rest) id (over_same t rest) (over_apart rest t slots whole)
     (rest_begun (problem_of t) kept more [] rest (marks_at t) id whole later (start_begun (problem_of t) kept more (marks_at t) id corner b values))
 
 pub begun_begins : (p : Problem) (kept : List Mark) (more rest : List Row) (at : List Mark) (id : ℕ) → IsBegun p kept more rest at id → BeginsWith p kept more rest at
 begun_begins p kept more rest at id h = record { news = h.news; marks = h.marks; point = h.point; stands = h.stands; each = h.each }
 
 -- the sum of its terms doesn't fit there either
-pub terms_over : (t : Lists) (r : Row) (rest : List Row) (mark : Mark) (j : ℕ) → IsWhole (with_rows (problem_of t) (r ∷ rest)) → IsCorner (with_rows (problem_of t) (r ∷ rest)) (marks_over t (r ∷ rest)) → IsUnfitTerms (with_row r (problem_of t)) (over_joined r (marks_at t)) mark j
-    → IsUnfitTerms (with_rows (problem_of t) (r ∷ rest)) (marks_over t (r ∷ rest)) mark j
+pub terms_over : (t : Lists) (r : Row) (rest : List Row) (mark : Mark) (j : ℕ) → IsWhole (with_rows (r ∷ rest) (problem_of t)) → IsCorner (with_rows (r ∷ rest) (problem_of t)) (marks_over t (r ∷ rest)) → IsUnfitTerms (with_row r (problem_of t)) (over_joined r (marks_at t)) mark j
+    → IsUnfitTerms (with_rows (r ∷ rest) (problem_of t)) (marks_over t (r ∷ rest)) mark j
 terms_over t r rest mark j whole corner unfit =
     let p : Problem = problem_of t in
     let at : List Mark = marks_over t (r ∷ rest) in
@@ -360,21 +360,21 @@ later_ids (x ∷ xs) r rest h = later_ids xs r rest (tail_pairs (λ (a b : Row).
 -- what is known where the row does not join
 pub record IsStopped (t0 t : Lists) (rows more : List Row) (r : Row) (rest : List Row) : Type 0 where
   pub parts : more ++ (r ∷ rest) ≡ rows
-  pub whole : IsWhole (with_rows (problem_of t0) rows)
+  pub whole : IsWhole (with_rows rows (problem_of t0))
   pub lists : ArePushed more t0 t
   pub kept : IsPartlyKept t
   pub begins : BeginsWith (problem_of t) (marks_at t0) more [] (marks_at t)
   pub values : NoNegativeValue (problem_of t) (marks_at t)
 
-all_problem : (t0 t : Lists) (rows more : List Row) (r : Row) (rest : List Row) → IsStopped t0 t rows more r rest → with_rows (problem_of t) (r ∷ rest) ≡ with_rows (problem_of t0) rows
+all_problem : (t0 t : Lists) (rows more : List Row) (r : Row) (rest : List Row) → IsStopped t0 t rows more r rest → with_rows (r ∷ rest) (problem_of t) ≡ with_rows rows (problem_of t0)
 all_problem t0 t rows more r rest s =
-    ap (λ (p : Problem). with_rows p (r ∷ rest)) (problem_so_far more t0 t s.lists)
+    ap (λ (p : Problem). with_rows (r ∷ rest) p) (problem_so_far more t0 t s.lists)
     ∙ ap (λ (x : List Row). record { rows = x; stays = t0.stays }) (append_more t0.rows more (r ∷ rest) ∙ ap (λ (x : List Row). t0.rows ++ x) s.parts)
 
-stop_whole : (t0 t : Lists) (rows more : List Row) (r : Row) (rest : List Row) → IsStopped t0 t rows more r rest → IsWhole (with_rows (problem_of t) (r ∷ rest))
+stop_whole : (t0 t : Lists) (rows more : List Row) (r : Row) (rest : List Row) → IsStopped t0 t rows more r rest → IsWhole (with_rows (r ∷ rest) (problem_of t))
 stop_whole t0 t rows more r rest s = subst IsWhole (sym (all_problem t0 t rows more r rest s)) s.whole
 
-stop_begun : (t0 t : Lists) (rows more : List Row) (r : Row) (rest : List Row) → (s : IsStopped t0 t rows more r rest) → IsBegun (with_rows (problem_of t) (r ∷ rest)) (marks_at t0) more (r ∷ rest) (marks_over t (r ∷ rest)) r.id
+stop_begun : (t0 t : Lists) (rows more : List Row) (r : Row) (rest : List Row) → (s : IsStopped t0 t rows more r rest) → IsBegun (with_rows (r ∷ rest) (problem_of t)) (marks_at t0) more (r ∷ rest) (marks_over t (r ∷ rest)) r.id
 stop_begun t0 t rows more r rest s =
     let whole = stop_whole t0 t rows more r rest s in
     begun_over t (marks_at t0) more (r ∷ rest) r.id s.kept.slots whole (later_ids t.rows r rest whole.rising) s.kept.corner s.begins s.values
@@ -392,8 +392,8 @@ unfit_path t0 t rows more r rest (Plain what) s h = absurd h
 unfit_path t0 t rows more r rest (Rows level j) s h = absurd h
 unfit_path t0 t rows more r rest (Shifts what j) s h = absurd h
 unfit_path t0 t rows more r rest (Terms mark j) s (e, unfit) =
-    let p : Problem = with_rows (problem_of t) (r ∷ rest) in
-    let q : Problem = with_rows (problem_of t0) rows in
+    let p : Problem = with_rows (r ∷ rest) (problem_of t) in
+    let q : Problem = with_rows rows (problem_of t0) in
     let same : p ≡ q = all_problem t0 t rows more r rest s in
     let at : List Mark = marks_over t (r ∷ rest) in
     let whole = stop_whole t0 t rows more r rest s in
@@ -426,11 +426,11 @@ add_stop t0 t u rows more r rest stop (Unfit at) s h same path =
 
 -- ---- the loop
 
-pub loop_whole : (t0 t : Lists) (rows : List Row) (i : ℕ) (r : Row) → ArePushed (take i rows) t0 t → IsWhole (with_rows (problem_of t0) rows) → i < length rows → drop i rows ≡ r ∷ drop (i + 1) rows → IsWhole (with_row r (problem_of t))
+pub loop_whole : (t0 t : Lists) (rows : List Row) (i : ℕ) (r : Row) → ArePushed (take i rows) t0 t → IsWhole (with_rows rows (problem_of t0)) → i < length rows → drop i rows ≡ r ∷ drop (i + 1) rows → IsWhole (with_row r (problem_of t))
 loop_whole t0 t rows i r h whole lt e =
     let parts : take i rows ++ (r ∷ drop (i + 1) rows) ≡ rows = ap (λ (x : List Row). take i rows ++ x) (sym e) ∙ take_drop rows i in
-    let all : with_rows (problem_of t) (r ∷ drop (i + 1) rows) ≡ with_rows (problem_of t0) rows =
-    ap (λ (p : Problem). with_rows p (r ∷ drop (i + 1) rows)) (problem_so_far (take i rows) t0 t h)
+    let all : with_rows (r ∷ drop (i + 1) rows) (problem_of t) ≡ with_rows rows (problem_of t0) =
+    ap (λ (p : Problem). with_rows (r ∷ drop (i + 1) rows) p) (problem_so_far (take i rows) t0 t h)
     ∙ ap (λ (x : List Row). record { rows = x; stays = t0.stays }) (append_more t0.rows (take i rows) (r ∷ drop (i + 1) rows) ∙ ap (λ (x : List Row). t0.rows ++ x) parts) in
     first_whole (problem_of t) r (drop (i + 1) rows) (subst IsWhole (sym all) whole)
 
@@ -443,7 +443,7 @@ rest_rows rows i r lt e = take_all (drop i rows) (length rows - i) (sym (length-
 pub next_rows : (rows : List Row) (i : ℕ) (r : Row) → i < length rows → r ≡ slice_index_or rows i r → take i rows ++ (r ∷ []) ≡ take (i + 1) rows
 next_rows rows i r lt e = ap (λ (x : Row). take i rows ++ (x ∷ [])) e ∙ sym (take_next rows i r lt)
 
-pub stopped : (t0 t : Lists) (rows : List Row) (i : ℕ) (r : Row) → ArePushed (take i rows) t0 t → IsWhole (with_rows (problem_of t0) rows) → i < length rows → r ≡ slice_index_or rows i r
+pub stopped : (t0 t : Lists) (rows : List Row) (i : ℕ) (r : Row) → ArePushed (take i rows) t0 t → IsWhole (with_rows rows (problem_of t0)) → i < length rows → r ≡ slice_index_or rows i r
     → IsPartlyKept t → BeginsWith (problem_of t) (marks_at t0) (take i rows) [] (marks_at t) → NoNegativeValue (problem_of t) (marks_at t) → IsStopped t0 t rows (take i rows) r (drop (i + 1) rows)
 stopped t0 t rows i r lists whole lt e kept begins values = record {
   parts = ap (λ (x : List Row). take i rows ++ x) (sym (this_row rows i r lt e)) ∙ take_drop rows i;

@@ -20,7 +20,8 @@ use Rattle.cert_core.specs.declared.stops.RunStop.TheVariants.{Conflict, Unfit, 
 use Rattle.corner_laws.proofs.PathEnds.Complete.{plain_alone}
 use Rattle.corner_laws.proofs.WrittenValues.{contains_each}
 use Rattle.corner.specs.Views.{CornerView, IsKeptCorner, in_order}
-use Rattle.corner.specs.Changes.{FromAdded, with_rows}
+use Rattle.corner_laws.specs.Lifts.{with_rows}
+use Rattle.corner.specs.Changes.{FromAdded}
 use Rattle.corner_ends.specs.Runs.{FromHere, IsRun}
 use Rattle.corner_laws.proofs.PathEnds.BeginsUnique.{agree-both, stands-before}
 use Rattle.frac_core.proofs.Numbers.{neg-times}
@@ -63,7 +64,7 @@ kept-up q kept y corner stands (x, there, up) =
     (λ m h. still-up (x.num (place m)) (y.num (place m)) (x.num one_column) (y.num one_column) x.positive y.positive h.1 (agree m h.0))
     (each-both _ _ kept (recursion_from_All (λ m. Contains (map place (marks_of (lines q))) (place m)) kept corner.marks) (recursion_from_All (λ m. pos 0 ≤ℤ x.num (place m)) kept up))
 
-pub joined_values : (q : Problem) (rows : List Row) (kept at : List Mark) → IsWhole (with_rows q rows) → IsCorner q kept → NoNegativeValue q kept → BeginsWith (with_rows q rows) kept rows [] at → NoNegativeValue (with_rows q rows) at
+pub joined_values : (q : Problem) (rows : List Row) (kept at : List Mark) → IsWhole (with_rows rows q) → IsCorner q kept → NoNegativeValue q kept → BeginsWith (with_rows rows q) kept rows [] at → NoNegativeValue (with_rows rows q) at
 joined_values q rows kept at whole corner up h =
     let all : rows ≡ rows ++ [] = sym (append-nil rows) in
     let before : StandsAt q kept h.point =
@@ -120,18 +121,18 @@ stop_added p old kept mid rows budget OutOfMemory from h = tt
 -- ---- a corner at which rows have joined
 
 pub record HasJoined (old new : CornerView) (rows : List Row) : Type 0 where
-  pub whole : IsWhole (with_rows old.problem rows)
+  pub whole : IsWhole (with_rows rows old.problem)
   pub kept : IsKeptCorner old.problem old.marks
   pub values : NoNegativeValue old.problem old.marks
-  pub problem : new.problem ≡ with_rows old.problem rows
+  pub problem : new.problem ≡ with_rows rows old.problem
   pub begins : BeginsWith new.problem old.marks rows [] new.marks
   pub ordered : new.marks ≡ in_order new.problem new.marks
 
-begins-there : (old new : CornerView) (rows : List Row) → HasJoined old new rows → BeginsWith (with_rows old.problem rows) old.marks rows [] new.marks
+begins-there : (old new : CornerView) (rows : List Row) → HasJoined old new rows → BeginsWith (with_rows rows old.problem) old.marks rows [] new.marks
 begins-there old new rows h = subst (λ (q : Problem). BeginsWith q old.marks rows [] new.marks) h.problem h.begins
 
-from-there : (old new : CornerView) (rows : List Row) → HasJoined old new rows → FromAdded (with_rows old.problem rows) old.marks rows [] new.marks
-from-there old new rows h = from_added (with_rows old.problem rows) old.marks new.marks rows (begins-there old new rows h) (subst (λ (q : Problem). new.marks ≡ in_order q new.marks) h.problem h.ordered)
+from-there : (old new : CornerView) (rows : List Row) → HasJoined old new rows → FromAdded (with_rows rows old.problem) old.marks rows [] new.marks
+from-there old new rows h = from_added (with_rows rows old.problem) old.marks new.marks rows (begins-there old new rows h) (subst (λ (q : Problem). new.marks ≡ in_order q new.marks) h.problem h.ordered)
 
 pub values_there : (old new : CornerView) (rows : List Row) → HasJoined old new rows → NoNegativeValue new.problem new.marks
 values_there old new rows h =
@@ -139,13 +140,13 @@ values_there old new rows h =
     (joined_values old.problem rows old.marks new.marks h.whole h.kept.corner h.values (begins-there old new rows h))
 
 pub path_there : (old new : CornerView) (rows : List Row) (budget : ℕ) (last : List Mark) → HasJoined old new rows → (path : Path) × IsRun false new.problem (λ at. at ≡ new.marks) budget last path
-    → (path : Path) × IsRun false (with_rows old.problem rows) (FromAdded (with_rows old.problem rows) old.marks rows []) budget last path
+    → (path : Path) × IsRun false (with_rows rows old.problem) (FromAdded (with_rows rows old.problem) old.marks rows []) budget last path
 path_there old new rows budget last h run =
-    run_added (with_rows old.problem rows) old.marks new.marks last rows budget (from-there old new rows h)
+    run_added (with_rows rows old.problem) old.marks new.marks last rows budget (from-there old new rows h)
     (subst (λ (q : Problem). (path : Path) × IsRun false q (λ at. at ≡ new.marks) budget last path) h.problem run)
 
 pub stop_there : (old new : CornerView) (rows : List Row) (budget : ℕ) (stop : RunStop) → HasJoined old new rows → IsStopOf false new.problem new.problem.rows (FromHere new.marks) budget stop
-    → IsStopOf false (with_rows old.problem rows) old.problem.rows (FromAdded (with_rows old.problem rows) old.marks rows) budget stop
+    → IsStopOf false (with_rows rows old.problem) old.problem.rows (FromAdded (with_rows rows old.problem) old.marks rows) budget stop
 stop_there old new rows budget stop h stops =
-    stop_added (with_rows old.problem rows) old.problem.rows old.marks new.marks rows budget stop (from-there old new rows h)
+    stop_added (with_rows rows old.problem) old.problem.rows old.marks new.marks rows budget stop (from-there old new rows h)
     (subst (λ (q : Problem). IsStopOf false q q.rows (FromHere new.marks) budget stop) h.problem stops)

@@ -14,7 +14,8 @@ use Rattle.cert_core.specs.Paths.{Path}
 use Rattle.cert_core.specs.Stops.{IsStopOf}
 use Rattle.cert_core.specs.declared.stops.RunStop.{RunStop}
 use Rattle.corner.specs.Views.{CornerView, HasValueAt, IsKeptCorner}
-use Rattle.corner.specs.Changes.{FromAdded, HasStood, with_rows, scene_of}
+use Rattle.corner_laws.specs.Lifts.{with_rows}
+use Rattle.corner.specs.Changes.{FromAdded, HasStood, scene_of}
 use Rattle.corner_ends.specs.Runs.{IsRun}
 use Rattle.layout_solver.specs.Layouts.{stays_at, zeros}
 use Rattle.layout_solver.specs.Engines.{AreItsValues}
@@ -36,13 +37,13 @@ one_problem from attrs rows p q corner m n =
     m.is ∙ ap (λ (vs : List (ℕ × Fraction)). made rows (stays_at (vs ++ zeros attrs))) (values_are_one (scene_of from) m.values n.values (its_values from attrs rows p corner m) (its_values from attrs rows q corner n)) ∙ sym n.is
 
 -- with more rows
-pub with_more : (from : CornerView) (attrs : List ℕ) (rows more : List Row) (p : Problem) → IsMoved from attrs rows p → IsMoved from attrs (rows ++ more) (with_rows p more)
+pub with_more : (from : CornerView) (attrs : List ℕ) (rows more : List Row) (p : Problem) → IsMoved from attrs rows p → IsMoved from attrs (rows ++ more) (with_rows more p)
 with_more from attrs rows more p m = record {
   values = m.values;
   attributes = m.attributes;
   lowest = m.lowest;
   stand = m.stand;
-  is = ap (λ (q : Problem). with_rows q more) m.is;
+  is = ap (λ (q : Problem). with_rows more q) m.is;
 }
 
 -- ---- stays that have stood, with attributes at 0
@@ -92,18 +93,18 @@ next_room held attrs i d within h = subst (CanTake held) (drop_more attrs i d wi
 -- ---- the answers of a run over the moved problem
 
 module _ (from mid : CornerView) (attrs : List ℕ) (base : List Row) (kept : List Mark) (corner : IsCorner from.problem from.marks) (moved : IsMoved from attrs base mid.problem) (marks : mid.marks ≡ kept) (rows : List Row) (budget : ℕ) where
-  same-problem : (p : Problem) → IsMoved from attrs (base ++ rows) p → with_rows mid.problem rows ≡ p
-  same-problem p m = one_problem from attrs (base ++ rows) (with_rows mid.problem rows) p corner (with_more from attrs base rows mid.problem moved) m
+  same-problem : (p : Problem) → IsMoved from attrs (base ++ rows) p → with_rows rows mid.problem ≡ p
+  same-problem p m = one_problem from attrs (base ++ rows) (with_rows rows mid.problem) p corner (with_more from attrs base rows mid.problem moved) m
 
-  pub moved_path : (last : List Mark) → (path : Path) × IsRun false (with_rows mid.problem rows) (FromAdded (with_rows mid.problem rows) mid.marks rows []) budget last path
+  pub moved_path : (last : List Mark) → (path : Path) × IsRun false (with_rows rows mid.problem) (FromAdded (with_rows rows mid.problem) mid.marks rows []) budget last path
       → (p : Problem) → IsMoved from attrs (base ++ rows) p → (path : Path) × IsRun false p (FromAdded p kept rows []) budget last path
   moved_path last run p m =
       subst (λ (q : Problem). (path : Path) × IsRun false q (FromAdded q kept rows []) budget last path) (same-problem p m)
-      (subst (λ (ms : List Mark). (path : Path) × IsRun false (with_rows mid.problem rows) (FromAdded (with_rows mid.problem rows) ms rows []) budget last path) marks run)
+      (subst (λ (ms : List Mark). (path : Path) × IsRun false (with_rows rows mid.problem) (FromAdded (with_rows rows mid.problem) ms rows []) budget last path) marks run)
 
-  pub moved_stop : (stop : RunStop) → IsStopOf false (with_rows mid.problem rows) mid.problem.rows (FromAdded (with_rows mid.problem rows) mid.marks rows) budget stop
+  pub moved_stop : (stop : RunStop) → IsStopOf false (with_rows rows mid.problem) mid.problem.rows (FromAdded (with_rows rows mid.problem) mid.marks rows) budget stop
       → (p : Problem) → IsMoved from attrs (base ++ rows) p → IsStopOf false p base (FromAdded p kept rows) budget stop
   moved_stop stop h p m =
       subst (λ (q : Problem). IsStopOf false q base (FromAdded q kept rows) budget stop) (same-problem p m)
-      (subst (λ (ms : List Mark). IsStopOf false (with_rows mid.problem rows) base (FromAdded (with_rows mid.problem rows) ms rows) budget stop) marks
-      (subst (λ (rs : List Row). IsStopOf false (with_rows mid.problem rows) rs (FromAdded (with_rows mid.problem rows) mid.marks rows) budget stop) (ap (λ (q : Problem). q.rows) moved.is) h))
+      (subst (λ (ms : List Mark). IsStopOf false (with_rows rows mid.problem) base (FromAdded (with_rows rows mid.problem) ms rows) budget stop) marks
+      (subst (λ (rs : List Row). IsStopOf false (with_rows rows mid.problem) rs (FromAdded (with_rows rows mid.problem) mid.marks rows) budget stop) (ap (λ (q : Problem). q.rows) moved.is) h))

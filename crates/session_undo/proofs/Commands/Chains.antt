@@ -61,11 +61,11 @@ found-live (v ∷ views) name id found none =
       | false ↦ λ h. found-live views name id h (tail-none (nat_eq v.id id) v (view_of views id) none)
     ] found
 
-not-deep : (t : ViewTree) (parent : List ℕ) (above : LiveView) (level : ℕ) → view_named t.views parent ≡ Some above → IsAtDepth t.views above.id level → level < 32 → IsDeep t parent → ⊥
-not-deep t parent above level is on high (w, l, w_is, on_2, deep) =
+not-deep : (t : ViewTree) (parent : List ℕ) (above : LiveView) (depth : ℕ) → view_named t.views parent ≡ Some above → IsAtDepth t.views above.id depth → depth < 32 → IsDeep t parent → ⊥
+not-deep t parent above depth is on high (w, d, w_is, on_2, deep) =
     let same : w ≡ above = same_Some w above (sym w_is ∙ is) in
-    let levels : l ≡ level = IsAtDepth-unique t.views above.id l level (subst (λ (u : LiveView). IsAtDepth t.views u.id l) same on_2) on in
-    omega (arith, levels, high, deep)
+    let depths : d ≡ depth = IsAtDepth-unique t.views above.id d depth (subst (λ (u : LiveView). IsAtDepth t.views u.id d) same on_2) on in
+    omega (arith, depths, high, deep)
 
 pub not-some : {X : Type 0} (o : Option X) → o ≡ None → IsSome o → ⊥
 not-some None is some = true≢false (sym some)
@@ -166,7 +166,7 @@ asked-found old name parent above asked =
 asked-high : (old : State) (name parent : List ℕ) (above : ℕ) → IsAsked old name parent above → IsNewView old.scene.tree name above → IsDeep old.scene.tree parent → ⊥
 asked-high old name parent above asked fresh =
     let v = view-found (view_named old.scene.tree.views parent) above asked.found in
-    let on = subst (λ (n : ℕ). (level : ℕ) × IsAtDepth old.scene.tree.views n level × (level < 32)) (sym v.2) fresh.high in
+    let on = subst (λ (n : ℕ). (depth : ℕ) × IsAtDepth old.scene.tree.views n depth × (depth < 32)) (sym v.2) fresh.high in
     not-deep old.scene.tree parent v.0 on.0 v.1 on.1 on.2
 
 pub view-full : (old : State) (name parent : List ℕ) (above : ℕ) (End : Scene → Reply → State → Type 0) → IsAsked old name parent above → IsNewView old.scene.tree name above → IsCrowded old 2

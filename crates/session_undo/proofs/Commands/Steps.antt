@@ -18,7 +18,8 @@ use Rattle.std.specs.declared.result.Result.TheVariants.{Ok, Err}
 use Rattle.session_undo.specs.Replies.{Reply, Done, Limit, Kind, MayRefuse, accepted}
 use Rattle.session_undo.specs.Scene.{History, Scene, State, with_earlier, with_line}
 use Rattle.session_undo.specs.Machine.{TriedUndo, Unless, UnlessAny, Keeps, IsSolved, Solves, SolvesFree, TriedLine, AddsLine, IsCrowded}
-use Rattle.session_undo.specs.Adding.{refusal_of, answer_of, StopsAt, IsNoConflict, NoEnd, UnlessFull, AddStop, StopStep, IsGroupLimit, IsGroupFree, IsLineLimit, IsLineFree, IsFreeLine}
+use Rattle.diagnosis.specs.Probes.{NoConflict}
+use Rattle.session_undo.specs.Adding.{refusal_of, answer_of, RunStopsAt, NoEnd, UnlessFull, AddStop, StopStep, IsGroupLimit, IsGroupFree, IsLineLimit, IsLineFree, IsFreeLine}
 
 -- what refuses for a narrower relation refuses for a wider one
 pub refuses : (F G : Reply → Type 0) (r : Refusal) → ((reply : Reply) → F reply → G reply) → MayRefuse F r → MayRefuse G r
@@ -57,14 +58,14 @@ run-accepts : (draft : Scene) (old : State) (history : History) → Solved draft
 run-accepts draft old history solved kept = inl (record { done = refl; path = solved.0; solved = solved.1; kept = kept-after old history kept })
 
 -- what stops the engine on a draft's problem refuses the draft
-free-refuses : (draft : Scene) (old : State) (stop : RunStop) → StopsAt old.scene draft old.budget stop → IsNoConflict stop
+free-refuses : (draft : Scene) (old : State) (stop : RunStop) → RunStopsAt old.scene draft old.budget stop → NoConflict stop
     → MayRefuse (λ reply. SolvesFree old draft reply old) (refusal_of stop)
 free-refuses draft old (run.Conflict by) stopped free = absurd free
 free-refuses draft old (run.Unfit at) stopped free = inr (inl (record { at = at; stopped = stopped; refused = (refl, refl) }))
 free-refuses draft old (run.Spent path) stopped free = inr (inr (record { path = path; stopped = stopped; refused = (refl, refl) }))
 free-refuses draft old run.OutOfMemory stopped free = tt
 
-stop-refuses : (draft : Scene) (old : State) (stop : RunStop) → StopsAt old.scene draft old.budget stop
+stop-refuses : (draft : Scene) (old : State) (stop : RunStop) → RunStopsAt old.scene draft old.budget stop
     → MayRefuse (λ reply. Solves old draft reply old) (refusal_of stop)
 stop-refuses draft old (run.Conflict by) stopped =
     inl (record { by = by; rows = stopped.rows; are = stopped.are; shown = stopped.stops; refused = (refl, refl) })
@@ -80,7 +81,7 @@ module _ (draft : Scene) (old : State) (history : History) where
   free-accepted (Ok done) solved kept = run-accepts draft old history solved kept
   free-accepted (Err stop) solved kept = tt
 
-  pub free-refused : (end : Result (Unit {0}) RunStop) → IfErr end (StopsAt old.scene draft old.budget) → IfErr end IsNoConflict
+  pub free-refused : (end : Result (Unit {0}) RunStop) → IfErr end (RunStopsAt old.scene draft old.budget) → IfErr end NoConflict
       → IfErr (answer_of end) (MayRefuse (λ reply. SolvesFree old draft reply old))
   free-refused (Ok done) stops free = tt
   free-refused (Err stop) stops free = free-refuses draft old stop stops free
@@ -90,7 +91,7 @@ module _ (draft : Scene) (old : State) (history : History) where
   run-accepted (Ok done) solved kept = inr (run-accepts draft old history solved kept)
   run-accepted (Err stop) solved kept = tt
 
-  pub run-refused : (end : Result (Unit {0}) RunStop) → IfErr end (StopsAt old.scene draft old.budget)
+  pub run-refused : (end : Result (Unit {0}) RunStop) → IfErr end (RunStopsAt old.scene draft old.budget)
       → IfErr (answer_of end) (MayRefuse (λ reply. Solves old draft reply old))
   run-refused (Ok done) stops = tt
   run-refused (Err stop) stops = stop-refuses draft old stop stops

@@ -18,10 +18,11 @@ use Rattle.layout_solver.specs.Begins.{Start, IsRunFrom, IsStopFrom}
 use Rattle.layout_solver.specs.declared.engine.Change.{Change}
 use Rattle.layout_solver.specs.Layouts.{Layout, AreBest, IsKeptLayout, stays_at, zeros, with_added}
 use Rattle.layout_solver.specs.Shifts.{shifted, with_shifts}
+use Rattle.diagnosis.specs.Probes.{NoConflict}
 use Rattle.session_undo.specs.Items.{Item, Size, AreRows, rows_of_views, view_items, has_size, resized, size_of, without_constant}
 use Rattle.session_undo.specs.Scene.{Scene, moved, AreDraftRows, with_window}
 use Rattle.session_undo.specs.Machine.{IsProblemOf, IsSolved, IsStart, IsStopped}
-use Rattle.session_undo.specs.Adding.{StopsAt, IsNoConflict, from_corner, from_shifts, views_draft, metrics_draft}
+use Rattle.session_undo.specs.Adding.{RunStopsAt, from_corner, from_shifts, views_draft, metrics_draft}
 use Rattle.session_undo.specs.Attributes.{IsCounted, attributes_from}
 use Rattle.session_undo.specs.Kept.{IsItem, IsKept, IsNamed, scene_at}
 use Rattle.session_undo.proofs.HeldRows.ItemRows.{all-resized-IsItem, all-resized-IsNamed}
@@ -56,7 +57,7 @@ solved-at scene draft held next l start budget held_is next_is stays_is are best
 )
 
 -- what stops the engine stops the draft
-over-stops : (scene draft : Scene) (budget : ℕ) (s : RunStop) → IsStopped scene draft budget s → StopsAt scene draft budget s
+over-stops : (scene draft : Scene) (budget : ℕ) (s : RunStop) → IsStopped scene draft budget s → RunStopsAt scene draft budget s
 over-stops scene draft budget (run.Conflict by) h = h
 over-stops scene draft budget (run.Unfit at) h = h
 over-stops scene draft budget (run.Spent path) h = h
@@ -64,7 +65,7 @@ over-stops scene draft budget run.OutOfMemory h = tt
 
 pub stops-at : (scene draft : Scene) (rows : List Row) (start : Start) (stays : List Stay) (budget : ℕ) (s : RunStop)
     → AreDraftRows draft rows → draft.stays ≡ stays → IsStart scene rows start
-    → IsStopFrom start (record { rows = rows; stays = stays }) budget s → StopsAt scene draft budget s
+    → IsStopFrom start (record { rows = rows; stays = stays }) budget s → RunStopsAt scene draft budget s
 stops-at scene draft rows start stays budget s are is begins stops =
     over-stops scene draft budget s (record {
       rows = rows;
@@ -102,7 +103,7 @@ module _ (tree : ViewTree) (ms : MetricList) (held : List Item) (next : ℕ) (l 
   moves = moved-is l.problem.stays l.values is.attributes is.rising
 
   pub shift-stops : (draft : Scene) (to : List Change) (budget : ℕ) (s : RunStop) → AreDraftRows draft (shifted to l.problem.rows) → draft.stays ≡ stays_at l.values → IsStopFrom (from_shifts l) (with_shifts l to) budget s
-      → StopsAt (scene_at tree ms held next l) draft budget s
+      → RunStopsAt (scene_at tree ms held next l) draft budget s
   shift-stops draft to budget s are same stops =
       stops-at (scene_at tree ms held next l) draft (shifted to l.problem.rows) (from_shifts l) (stays_at l.values) budget s are same (shift-start (shifted to l.problem.rows) to refl) stops
 
@@ -115,7 +116,7 @@ module _ (tree : ViewTree) (ms : MetricList) (held : List Item) (next : ℕ) (l 
   views-move id n = moved-added l.problem.stays l.values (attributes_from id n) is.attributes is.rising
 
   pub views-stops : (new_tree : ViewTree) (id n : ℕ) (more : List Row) (budget : ℕ) (s : RunStop) → more ≡ rows_of_views next id n → IsStopFrom (from_corner l more) (with_added l (attributes_from id n) more) budget s
-      → StopsAt (scene_at tree ms held next l) (views_draft (scene_at tree ms held next l) new_tree id n) budget s
+      → RunStopsAt (scene_at tree ms held next l) (views_draft (scene_at tree ms held next l) new_tree id n) budget s
   views-stops new_tree id n more budget s more_is stops =
       stops-at (scene_at tree ms held next l) (views_draft (scene_at tree ms held next l) new_tree id n) (l.problem.rows ++ more) (from_corner l more) (stays_at (l.values ++ zeros (attributes_from id n))) budget s
       (views-are id n more more_is) (views-move id n) (kept-start (l.problem.rows ++ more) more refl) stops
@@ -158,9 +159,9 @@ module _ (tree : ViewTree) (ms : MetricList) (held : List Item) (next : ℕ) (l 
       subst (AreRows ms (resized w h held)) (sym (rows_is new.problem (with_shifts l (to_size size.first_row w h)) done)) (again-rows w h size some)
 
   pub again-stops : (w h : Fraction) (size : Size) (budget : ℕ) (s : RunStop) → size_of held ≡ Some size → IsStopFrom (from_shifts l) (with_shifts l (to_size size.first_row w h)) budget s
-      → StopsAt (scene_at tree ms held next l) (with_window (scene_at tree ms held next l) w h) budget s
+      → RunStopsAt (scene_at tree ms held next l) (with_window (scene_at tree ms held next l) w h) budget s
   again-stops w h size budget s some stops =
-      subst (λ (d : Scene). StopsAt (scene_at tree ms held next l) d budget s) (sym (again-draft-is w h (some-held held size some)))
+      subst (λ (d : Scene). RunStopsAt (scene_at tree ms held next l) d budget s) (sym (again-draft-is w h (some-held held size some)))
       (shift-stops (again-draft w h) (to_size size.first_row w h) budget s (again-rows w h size some) moves stops)
 
   pub again-solved : (items : List Item) (new : Layout) (w h : Fraction) (size : Size) (budget : ℕ) → size_of held ≡ Some size → new.problem ≡ with_shifts l (to_size size.first_row w h)
@@ -184,7 +185,7 @@ module _ (tree : ViewTree) (ms : MetricList) (held : List Item) (next : ℕ) (l 
     metric-are : (new : Layout) → new.problem ≡ with_shifts l to → AreRows new_ms held new.problem.rows
     metric-are new done = subst (AreRows new_ms held) (sym (rows_is new.problem (with_shifts l to) done)) are
 
-    pub metric-stops : (budget : ℕ) (s : RunStop) → IsStopFrom (from_shifts l) (with_shifts l to) budget s → StopsAt (scene_at tree ms held next l) (metrics_draft (scene_at tree ms held next l) new_ms) budget s
+    pub metric-stops : (budget : ℕ) (s : RunStop) → IsStopFrom (from_shifts l) (with_shifts l to) budget s → RunStopsAt (scene_at tree ms held next l) (metrics_draft (scene_at tree ms held next l) new_ms) budget s
     metric-stops budget s stops = shift-stops (metrics_draft (scene_at tree ms held next l) new_ms) to budget s are moves stops
 
     pub metric-solved : (new : Layout) (budget : ℕ) → new.problem ≡ with_shifts l to → AreBest new.problem new.values → RunShifts new budget
@@ -227,7 +228,7 @@ module _ (tree : ViewTree) (ms : MetricList) (held : List Item) (next : ℕ) (l 
 
 pub views-free : (l : Layout) (next id n budget : ℕ) (more : List Row) (s : RunStop) → IsWhole l.problem → AreBest l.problem l.values
     → IsWhole (with_added l (attributes_from id n) more) → All (λ s. s.attr ≤ 4 * id) l.problem.stays → more ≡ rows_of_views next id n
-    → IsStopFrom (from_corner l more) (with_added l (attributes_from id n) more) budget s → IsNoConflict s
+    → IsStopFrom (from_corner l more) (with_added l (attributes_from id n) more) budget s → NoConflict s
 views-free l next id n budget more (run.Conflict by) whole best new_whole before more_is shown =
     views-possible l.problem best.best.0 (stays_at (l.values ++ zeros (attributes_from id n))) next id n best.best.1.0 whole.covered before
     (subst (λ (rs : List Row). IsInConflict (record { rows = l.problem.rows ++ rs; stays = stays_at (l.values ++ zeros (attributes_from id n)) })) more_is

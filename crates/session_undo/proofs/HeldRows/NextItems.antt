@@ -16,7 +16,7 @@ use Rattle.constraint_compile.specs.declared.suggestion.Suggestion.{Suggestion}
 use Rattle.layout_solver.specs.Begins.{IsRunFrom, IsStopFrom}
 use Rattle.layout_solver.specs.Layouts.{Layout, AreBest, IsKeptLayout, stays_at, with_added, zeros}
 use Rattle.session_undo.specs.declared.limits.TheConstants.{MOST_ROWS}
-use Rattle.session_undo.specs.Adding.{IsNextSuggestion, StopsAt, from_corner}
+use Rattle.session_undo.specs.Adding.{IsNextSuggestion, RunStopsAt, from_corner}
 use Rattle.session_undo.specs.Attributes.{IsNextLine, all_attributes}
 use Rattle.session_undo.specs.Items.{AreRows, Item, OfLine, Sized, Suggested, has_size, size_rows}
 use Rattle.session_undo.specs.Kept.{IsItem, IsKept, IsNamed, IsNextItem, scene_at}
@@ -41,7 +41,7 @@ module _ (tree : ViewTree) (ms : MetricList) (held : List Item) (next : ℕ) (l 
   with-rows rows joined = subst (AreRows ms (held ++ item ∷ [])) (sym joined) (rows-more ms held item l.problem.rows more kept.are_rows fits.own)
 
   pub item-stops : (budget : ℕ) (stop : RunStop) → IsStopFrom (from_corner l more) (with_added l [] more) budget stop
-      → StopsAt (scene_at tree ms held next l) (with_item (scene_at tree ms held next l) item (length more)) budget stop
+      → RunStopsAt (scene_at tree ms held next l) (with_item (scene_at tree ms held next l) item (length more)) budget stop
   item-stops budget stop stops =
       stops-at (scene_at tree ms held next l) (with_item (scene_at tree ms held next l) item (length more)) (l.problem.rows ++ more) (from_corner l more) (stays_at (l.values ++ zeros [])) budget stop
       (with-rows (l.problem.rows ++ more) refl) (still tree ms held next l kept sound)

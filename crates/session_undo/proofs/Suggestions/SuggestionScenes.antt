@@ -17,7 +17,7 @@ use Rattle.layout_solver.specs.Shifts.{shifted, with_shifts}
 use Rattle.session_undo.specs.Items.{Item, AreRows, suggestion_of, suggested_again}
 use Rattle.session_undo.specs.Scene.{Scene, with_suggested}
 use Rattle.session_undo.specs.Machine.{IsProblemOf, IsSolved}
-use Rattle.session_undo.specs.Adding.{IsNextSuggestion, StopsAt, from_shifts}
+use Rattle.session_undo.specs.Adding.{IsNextSuggestion, RunStopsAt, from_shifts}
 use Rattle.session_undo.specs.Attributes.{IsCounted}
 use Rattle.session_undo.specs.Kept.{IsKept, scene_at}
 use Rattle.session_undo.proofs.Engines.Solved.{solved-at, is, shift-start, moves, shift-stops}
@@ -61,7 +61,7 @@ module _ (tree : ViewTree) (ms : MetricList) (held : List Item) (next : ℕ) (l 
     again-are rows shifts = subst (AreRows ms (suggested_again view word c held)) (sym shifts) again-rows
 
     pub suggested-stops : (budget : ℕ) (stop : RunStop) → IsStopFrom (from_shifts l) (with_shifts l (to_suggested s.row c)) budget stop
-        → StopsAt (scene_at tree ms held next l) (with_suggested (scene_at tree ms held next l) view word c) budget stop
+        → RunStopsAt (scene_at tree ms held next l) (with_suggested (scene_at tree ms held next l) view word c) budget stop
     suggested-stops budget stop stops =
         shift-stops tree ms held next l kept sound (with_suggested (scene_at tree ms held next l) view word c) (to_suggested s.row c) budget stop again-rows (moves tree ms held next l kept sound) stops
 

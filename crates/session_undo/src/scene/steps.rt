@@ -6,10 +6,11 @@ ghost use Rattle.problem_core.specs.Kept.{IsRow};
 ghost use Rattle.problem_core.specs.declared.limits.TheConstants.{NUMBER_LIMIT};
 ghost use Rattle.view_tree.specs.Drops.{AreGoing};
 ghost use Rattle.constraint_compile.specs.Compiled.{AreRowsNow};
+ghost use Rattle.diagnosis.specs.Probes.{NoConflict};
 ghost use Rattle.session_undo.specs.declared.limits.TheConstants.{MOST_ROWS};
 ghost use Rattle.session_undo.specs.declared.row_numbers.TheConstants.{SIZE_ROWS, VIEW_ROWS};
 ghost use Rattle.session_undo.specs.Adding.{IsNearSuggestion, IsNextSuggestion, metrics_draft, views_draft};
-ghost use Rattle.session_undo.specs.Adding.{IsNoConflict, LeaveStopsAt, StopsAt};
+ghost use Rattle.session_undo.specs.Adding.{LeaveStopsAt, RunStopsAt};
 ghost use Rattle.session_undo.specs.Attributes.{IsGrown, IsNextLine};
 ghost use Rattle.session_undo.specs.Items.{has_size, size_of};
 ghost use Rattle.session_undo.specs.Kept.{IsNextItem, is_leaving, item_of, size_in};
@@ -46,7 +47,7 @@ impl Scene {
         ensures solved { IfOk result (λ _. HasSolved self.old.scene
             (with_item self.old.scene (item_of item) (length rows.now)) budget self.new.scene) }
         ensures stop { IfErr result
-            (StopsAt self.old.scene (with_item self.old.scene (item_of item) (length rows.now)) budget) }
+            (RunStopsAt self.old.scene (with_item self.old.scene (item_of item) (length rows.now)) budget) }
         ensures earlier { OnOk result (Remembers self.old self.new) }
         ensures same { OnErr result (self.new ≡ self.old) }
     {
@@ -85,9 +86,9 @@ impl Scene {
         requires number { self.old.scene.next_row + VIEW_ROWS * new.count ≤ NUMBER_LIMIT }
         ensures solved { IfOk result (λ _. HasSolved self.old.scene
             (views_draft self.old.scene new.tree new.first_view.0 new.count) budget self.new.scene) }
-        ensures stop { IfErr result
-            (StopsAt self.old.scene (views_draft self.old.scene new.tree new.first_view.0 new.count) budget) }
-        ensures free { IfErr result IsNoConflict }
+        ensures stop { IfErr result (RunStopsAt self.old.scene
+            (views_draft self.old.scene new.tree new.first_view.0 new.count) budget) }
+        ensures free { IfErr result NoConflict }
         ensures earlier { OnOk result (Remembers self.old self.new) }
         ensures same { OnErr result (self.new ≡ self.old) }
     {
@@ -113,7 +114,8 @@ impl Scene {
         requires { AreChangesFor self.old.scene metrics to.now }
         ensures solved { IfOk result
             (λ _. HasSolved self.old.scene (metrics_draft self.old.scene metrics) budget self.new.scene) }
-        ensures stop { IfErr result (StopsAt self.old.scene (metrics_draft self.old.scene metrics) budget) }
+        ensures stop { IfErr result
+            (RunStopsAt self.old.scene (metrics_draft self.old.scene metrics) budget) }
         ensures earlier { OnOk result (Remembers self.old self.new) }
         ensures same { OnErr result (self.new ≡ self.old) }
     {
@@ -133,7 +135,7 @@ impl Scene {
         ensures solved { IfOk result (λ _. HasSolved self.old.scene
             (with_window self.old.scene size.now.width size.now.height) budget self.new.scene) }
         ensures stop { IfErr result
-            (StopsAt self.old.scene (with_window self.old.scene size.now.width size.now.height) budget) }
+            (RunStopsAt self.old.scene (with_window self.old.scene size.now.width size.now.height) budget) }
         ensures earlier { OnOk result (Remembers self.old self.new) }
         ensures same { OnErr result (self.new ≡ self.old) }
     {
@@ -154,7 +156,7 @@ impl Scene {
         ensures solved { IfOk result (λ _. HasSolved self.old.scene
             (with_window self.old.scene size.now.width size.now.height) budget self.new.scene) }
         ensures stop { IfErr result
-            (StopsAt self.old.scene (with_window self.old.scene size.now.width size.now.height) budget) }
+            (RunStopsAt self.old.scene (with_window self.old.scene size.now.width size.now.height) budget) }
         ensures earlier { OnOk result (Remembers self.old self.new) }
         ensures same { OnErr result (self.new ≡ self.old) }
     {
@@ -178,7 +180,7 @@ impl Scene {
         ensures solved { IfOk result (λ _. HasSolved self.old.scene
             (with_window self.old.scene size.now.width size.now.height) budget self.new.scene) }
         ensures stop { IfErr result
-            (StopsAt self.old.scene (with_window self.old.scene size.now.width size.now.height) budget) }
+            (RunStopsAt self.old.scene (with_window self.old.scene size.now.width size.now.height) budget) }
         ensures earlier { OnOk result (Remembers self.old self.new) }
         ensures same { OnErr result (self.new ≡ self.old) }
     {
@@ -203,7 +205,7 @@ impl Scene {
         requires number { self.old.scene.next_row + length rows.now ≤ NUMBER_LIMIT }
         ensures solved { IfOk result
             (λ _. HasSolved self.old.scene (with_line self.old.scene group line) budget self.new.scene) }
-        ensures stop { IfErr result (StopsAt self.old.scene (with_line self.old.scene group line) budget) }
+        ensures stop { IfErr result (RunStopsAt self.old.scene (with_line self.old.scene group line) budget) }
         ensures earlier { OnOk result (Remembers self.old self.new) }
         ensures same { OnErr result (self.new ≡ self.old) }
     {
@@ -217,7 +219,7 @@ impl Scene {
         requires number { self.old.scene.next_row < NUMBER_LIMIT }
         ensures solved { IfOk result
             (λ _. HasSolved self.old.scene (with_suggestion self.old.scene new) budget self.new.scene) }
-        ensures stop { IfErr result (StopsAt self.old.scene (with_suggestion self.old.scene new) budget) }
+        ensures stop { IfErr result (RunStopsAt self.old.scene (with_suggestion self.old.scene new) budget) }
         ensures earlier { OnOk result (Remembers self.old self.new) }
         ensures same { OnErr result (self.new ≡ self.old) }
     {
@@ -231,7 +233,7 @@ impl Scene {
         requires { IsNearSuggestion self.old.scene again }
         ensures solved { IfOk result (λ _. HasSolved self.old.scene
             (with_suggested self.old.scene again.view again.word again.constant) budget self.new.scene) }
-        ensures stop { IfErr result (StopsAt self.old.scene
+        ensures stop { IfErr result (RunStopsAt self.old.scene
             (with_suggested self.old.scene again.view again.word again.constant) budget) }
         ensures earlier { OnOk result (Remembers self.old self.new) }
         ensures same { OnErr result (self.new ≡ self.old) }

@@ -5,7 +5,7 @@ use Rattle.session_undo.specs.declared.limits.TheConstants.{MOST_ROWS}
 use Rattle.session_undo.specs.Kept.{items_of, scene_at}
 use Rattle.session_undo.specs.Machine.{IsSolved}
 use Rattle.session_undo.proofs.Commands.Chains.{ok-map, stop-map}
-use Rattle.session_undo.specs.Adding.{StopsAt}
+use Rattle.session_undo.specs.Adding.{RunStopsAt}
 use Rattle.session_undo.specs.Items.{Sized}
 use Rattle.session_undo.specs.Scene.{History, Scene, with_item, with_window}
 use Rattle.session_undo.proofs.HeldRows.NextItems.{size-draft, size-next}
@@ -27,6 +27,6 @@ returns-clause-solved c =
 pub returns-clause-stop : goal.returns-clause-stop
 returns-clause-stop c =
     rw (← c.self.view_is)
-    (stop-map (StopsAt (scene_at c.self.inside.tree c.self.inside.metrics (items_of c.self.inside.items.items) c.self.inside.next_row c.self.inside.engine) (with_item (scene_at c.self.inside.tree c.self.inside.metrics (items_of c.self.inside.items.items) c.self.inside.next_row c.self.inside.engine) (Sized c.self.inside.next_row c.args.size.now.width c.args.size.now.height) (length c.in_ok-rows.rows.items)) c.args.budget) (StopsAt (scene_at c.self.inside.tree c.self.inside.metrics (items_of c.self.inside.items.items) c.self.inside.next_row c.self.inside.engine) (with_window (scene_at c.self.inside.tree c.self.inside.metrics (items_of c.self.inside.items.items) c.self.inside.next_row c.self.inside.engine) c.args.size.now.width c.args.size.now.height) c.args.budget) c.take_item.result
-    (λ stop stops. subst (λ (d : Scene). StopsAt (scene_at c.self.inside.tree c.self.inside.metrics (items_of c.self.inside.items.items) c.self.inside.next_row c.self.inside.engine) d c.args.budget stop) (size-draft (scene_at c.self.inside.tree c.self.inside.metrics (items_of c.self.inside.items.items) c.self.inside.next_row c.self.inside.engine) c.args.size.now.width c.args.size.now.height c.in_ok-rows.rows.items (rw (← c.self.view_is) at c.requires.none) c.in_ok-rows.ensures.rows) stops)
+    (stop-map (RunStopsAt (scene_at c.self.inside.tree c.self.inside.metrics (items_of c.self.inside.items.items) c.self.inside.next_row c.self.inside.engine) (with_item (scene_at c.self.inside.tree c.self.inside.metrics (items_of c.self.inside.items.items) c.self.inside.next_row c.self.inside.engine) (Sized c.self.inside.next_row c.args.size.now.width c.args.size.now.height) (length c.in_ok-rows.rows.items)) c.args.budget) (RunStopsAt (scene_at c.self.inside.tree c.self.inside.metrics (items_of c.self.inside.items.items) c.self.inside.next_row c.self.inside.engine) (with_window (scene_at c.self.inside.tree c.self.inside.metrics (items_of c.self.inside.items.items) c.self.inside.next_row c.self.inside.engine) c.args.size.now.width c.args.size.now.height) c.args.budget) c.take_item.result
+    (λ stop stops. subst (λ (d : Scene). RunStopsAt (scene_at c.self.inside.tree c.self.inside.metrics (items_of c.self.inside.items.items) c.self.inside.next_row c.self.inside.engine) d c.args.budget stop) (size-draft (scene_at c.self.inside.tree c.self.inside.metrics (items_of c.self.inside.items.items) c.self.inside.next_row c.self.inside.engine) c.args.size.now.width c.args.size.now.height c.in_ok-rows.rows.items (rw (← c.self.view_is) at c.requires.none) c.in_ok-rows.ensures.rows) stops)
     (rw (← c.self.view_is, c.deref.ensures.value) at c.take_item.ensures.stop))

@@ -1,6 +1,6 @@
 use Rattle.std.proofs.Common.{length, subst}
 use Rattle.cert_core.specs.Paths.{Path}
-use Rattle.session_undo.specs.Adding.{StopsAt}
+use Rattle.session_undo.specs.Adding.{RunStopsAt}
 use Rattle.session_undo.specs.Items.{OfLine}
 use Rattle.session_undo.specs.Machine.{IsSolved}
 use Rattle.session_undo.specs.Scene.{Scene, with_item, with_line}
@@ -19,5 +19,5 @@ returns-clause-solved c =
 
 pub returns-clause-stop : goal.returns-clause-stop
 returns-clause-stop c =
-    stop-map (StopsAt c.args.self.now.scene (with_item c.args.self.now.scene (OfLine c.args.group c.args.line) (length c.args.rows.now)) c.args.budget) (StopsAt c.args.self.now.scene (with_line c.args.self.now.scene c.args.group c.args.line) c.args.budget) c.take_item.result
-    (λ stop stops. subst (λ (d : Scene). StopsAt c.args.self.now.scene d c.args.budget stop) (count-draft c.args.self.now.scene (OfLine c.args.group c.args.line) (length c.args.rows.now) (length c.args.line.rows) c.requires.rows.long) stops) c.take_item.ensures.stop
+    stop-map (RunStopsAt c.args.self.now.scene (with_item c.args.self.now.scene (OfLine c.args.group c.args.line) (length c.args.rows.now)) c.args.budget) (RunStopsAt c.args.self.now.scene (with_line c.args.self.now.scene c.args.group c.args.line) c.args.budget) c.take_item.result
+    (λ stop stops. subst (λ (d : Scene). RunStopsAt c.args.self.now.scene d c.args.budget stop) (count-draft c.args.self.now.scene (OfLine c.args.group c.args.line) (length c.args.rows.now) (length c.args.line.rows) c.requires.rows.long) stops) c.take_item.ensures.stop

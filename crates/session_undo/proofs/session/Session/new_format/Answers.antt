@@ -22,17 +22,17 @@ pub returns-in-Ok-clause-is : goal.returns-in-Ok-clause-is
 returns-in-Ok-clause-is c =
     let is : IsCompiledFormat c.args.self.now.scene.tree.views c.args.self.now.scene.metrics (meaning c.args.format.now) c.args.align c.args.self.now.scene.next_row c.in-Ok.compiled =
     subst (λ (s : State). IsCompiledFormat s.scene.tree.views s.scene.metrics (meaning c.args.format.now) c.args.align s.scene.next_row c.in-Ok.compiled) c.self.view_is (rw (c.tree-tree.ensures, c.metrics-metrics.ensures, c.next_row.ensures.value) at c.in-Ok.ensures.compiled) in
-    ok-map (λ new. new.line ≡ c.in-Ok.compiled) (λ new. IsCompiledFormat c.args.self.now.scene.tree.views c.args.self.now.scene.metrics (meaning c.args.format.now) c.args.align c.args.self.now.scene.next_row new.line) c.with_rows.result (λ new same. subst (λ (l : CompiledLine). IsCompiledFormat c.args.self.now.scene.tree.views c.args.self.now.scene.metrics (meaning c.args.format.now) c.args.align c.args.self.now.scene.next_row l) (sym same) is) c.with_rows.ensures.line
+    ok-map (λ new. new.line ≡ c.in-Ok.compiled) (λ new. IsCompiledFormat c.args.self.now.scene.tree.views c.args.self.now.scene.metrics (meaning c.args.format.now) c.args.align c.args.self.now.scene.next_row new.line) c.new_line.result (λ new same. subst (λ (l : CompiledLine). IsCompiledFormat c.args.self.now.scene.tree.views c.args.self.now.scene.metrics (meaning c.args.format.now) c.args.align c.args.self.now.scene.next_row l) (sym same) is) c.new_line.ensures.line
 
 pub returns-in-Ok-clause-refused : goal.returns-in-Ok-clause-refused
 returns-in-Ok-clause-refused c =
     let is : IsCompiledFormat c.args.self.now.scene.tree.views c.args.self.now.scene.metrics (meaning c.args.format.now) c.args.align c.args.self.now.scene.next_row c.in-Ok.compiled =
     subst (λ (s : State). IsCompiledFormat s.scene.tree.views s.scene.metrics (meaning c.args.format.now) c.args.align s.scene.next_row c.in-Ok.compiled) c.self.view_is (rw (c.tree-tree.ensures, c.metrics-metrics.ensures, c.next_row.ensures.value) at c.in-Ok.ensures.compiled) in
-    err-map (λ (reply : Reply). AddStop c.args.self.now c.args.group.now c.in-Ok.compiled reply c.args.self.now) (λ (reply : Reply). TriedFormat c.args.self.now c.args.group.now c.args.align (meaning c.args.format.now) NoEnd reply c.args.self.now) c.with_rows.result
-    (λ reply step. format-full c.args.self.now c.args.group.now c.args.align (meaning c.args.format.now) NoEnd c.in-Ok.compiled reply c.args.self.now is step) c.with_rows.ensures.refused
+    err-map (λ (reply : Reply). AddStop c.args.self.now c.args.group.now c.in-Ok.compiled reply c.args.self.now) (λ (reply : Reply). TriedFormat c.args.self.now c.args.group.now c.args.align (meaning c.args.format.now) NoEnd reply c.args.self.now) c.new_line.result
+    (λ reply step. format-full c.args.self.now c.args.group.now c.args.align (meaning c.args.format.now) NoEnd c.in-Ok.compiled reply c.args.self.now is step) c.new_line.ensures.refused
 
-pub with_rows-requires : goal.with_rows-requires
-with_rows-requires c =
+pub new_line-requires : goal.new_line-requires
+new_line-requires c =
     let is : IsCompiledFormat c.args.self.now.scene.tree.views c.args.self.now.scene.metrics (meaning c.args.format.now) c.args.align c.args.self.now.scene.next_row c.in-Ok.compiled =
     subst (λ (s : State). IsCompiledFormat s.scene.tree.views s.scene.metrics (meaning c.args.format.now) c.args.align s.scene.next_row c.in-Ok.compiled) c.self.view_is (rw (c.tree-tree.ensures, c.metrics-metrics.ensures, c.next_row.ensures.value) at c.in-Ok.ensures.compiled) in
     let whole : IsTree c.args.self.now.scene.tree = subst (λ (s : State). IsTree s.scene.tree) c.self.view_is (rw c.tree-tree.ensures at c.len-count.ensures.tree) in

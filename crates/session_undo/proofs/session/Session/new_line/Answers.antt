@@ -1,6 +1,6 @@
 use Rattle.std.proofs.Common.{◌≡◌, ◌∙◌, length, rules}
 use Rattle.session_undo.proofs.Commands.Steps.{add-limited}
-use Rattle.session_undo.proofs.session.Session.with_rows.Goals as goal
+use Rattle.session_undo.proofs.session.Session.new_line.Goals as goal
 
 pub returns-in-Some-clause-refused : goal.returns-in-Some-clause-refused
 returns-in-Some-clause-refused c =
