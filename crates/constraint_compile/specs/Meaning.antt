@@ -72,14 +72,14 @@ share_in (Some view) by word v = record {
 }
 
 -- how often so many times an operand has the attribute v
-abbrev pub share_of : List LiveView → ℕ → Fraction → Operand → Fraction
-share_of views v by (mean.Attr name word) = share_in (view_named views name) by word v
-share_of views v by (mean.Metric name) = zero_fraction
-share_of views v by mean.One = zero_fraction
+abbrev pub operand_share : List LiveView → ℕ → Fraction → Operand → Fraction
+operand_share views v by (mean.Attr name word) = share_in (view_named views name) by word v
+operand_share views v by (mean.Metric name) = zero_fraction
+operand_share views v by mean.One = zero_fraction
 
 -- how often the term has the attribute v
 abbrev pub share : List LiveView → ℕ → mean.Term → Fraction
-share views v t = share_of views v t.by t.of
+share views v t = operand_share views v t.by t.of
 
 -- the coefficient of the attribute v in a sum of terms
 abbrev pub sum_at : List LiveView → List mean.Term → ℕ → Fraction
@@ -113,10 +113,6 @@ abbrev pub part_value : MetricList → Part → Fraction
 part_value metrics Nothing = zero_fraction
 part_value metrics (Number by) = by
 part_value metrics (Multiple by name) = value_in (value_of metrics name) by
-
--- the constant in a sum of terms
-abbrev pub constant_sum : MetricList → List Part → Fraction
-constant_sum metrics parts = total (part_value metrics) parts
 
 -- ---- names
 

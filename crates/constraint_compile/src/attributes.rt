@@ -31,7 +31,8 @@ pub(crate) struct Share {
     pub of: Doubled,
 }
 
-fn times(attr: u32, by: u8) -> Term
+/// So many times an attribute.
+pub(crate) fn times(attr: u32, by: u8) -> Term
     ensures { result ≡ record { attr = attr; by = pos by } }
 {
     Term {
@@ -83,7 +84,7 @@ fn twice(view: ViewId, word: AttrWord) -> Doubled
 }
 
 /// The number of a view.
-pub(crate) fn number_of(tree: &Tree, name: &str) -> Option<ViewId>
+pub(crate) fn id_named(tree: &Tree, name: &str) -> Option<ViewId>
     ensures id { option_map (λ id. id.0) result
         ≡ option_map (λ v. v.id) (view_named tree.now.views name.now) }
     ensures within { IfSome result (λ id. id.0 < ID_LIMIT) }

@@ -13,7 +13,7 @@ ghost use Rattle.constraint_compile.specs.Meaning.{unknown_object};
 ghost use Rattle.constraint_compile.specs.Stops.{IsUnknownTerm};
 
 use crate::addends::Addend;
-use crate::attributes::{number_of, share_at};
+use crate::attributes::{id_named, share_at};
 use crate::resolved::lookups::{is_view, rank_of_metric, rank_of_thousandths};
 use crate::stops::CompileStop;
 use frac_core::OutOfMemory;
@@ -50,7 +50,7 @@ fn look_up<'a>(tree: &Tree, metrics: &Metrics, term: &ExprTerm<'a>) -> Result<Fo
 {
     let _den = term.by.den(); // for the proof: what a fraction keeps
     match term.of {
-        Operand::Attr { view, word } => match number_of(tree, view) {
+        Operand::Attr { view, word } => match id_named(tree, view) {
             Some(id) => Ok(Found {
                 addend: Addend::Attr(share_at(term.by, id, word)),
                 view: Some(id),

@@ -9,6 +9,7 @@ ghost use Rattle.constraint_compile.specs.Meaning.{IsRank, unknown_object};
 ghost use Rattle.constraint_compile.specs.Suggestions.{one_term, scale_of, suggested_row, suggested_priority};
 ghost use Rattle.constraint_compile.specs.Suggestions.{with_terms, IsSuggestion, MayLackRank};
 
+use crate::attributes::times;
 use crate::resolved::resolve_rank;
 use crate::stops::{CompileStop, KindWord};
 use crate::wide::ratios::{Ratio, small_of};
@@ -44,16 +45,6 @@ fn scale_of(word: AttrWord) -> u8
         AttrWord::CenterX | AttrWord::CenterY => 2,
         AttrWord::Left | AttrWord::Top | AttrWord::Width | AttrWord::Height => 1,
         AttrWord::Right | AttrWord::Bottom | AttrWord::Leading | AttrWord::Trailing => 1,
-    }
-}
-
-// So many times an attribute.
-fn times(attr: u32, by: u8) -> Term
-    ensures { result ≡ one_term attr by }
-{
-    Term {
-        attr,
-        by: i64::from(by),
     }
 }
 

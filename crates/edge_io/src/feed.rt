@@ -1,7 +1,6 @@
 // A source cut into lines, of which none is kept that is too long.
 ghost use Rattle.std.specs.Prelude.{◌≡◌, ◌≤◌, ◌<◌, ◌+◌, ◌-◌, ◌++◌, ℕ, List, cond, length, take, slice_index};
 ghost use Rattle.std.specs.Prelude.{slice_range, IfOk, OnErr, IfSome, IfNone, None};
-ghost use Rattle.std.specs.Str.Lines.{strip_carriage_return};
 ghost use Rattle.std.specs.Io.KnownBytes.{Keeps, Consumes, IsAtEnd};
 ghost use Rattle.span_text.specs.Bytes.{newline};
 ghost use Rattle.edge_io.specs.Cause.{HasCause};
@@ -10,6 +9,7 @@ ghost use Rattle.edge_io.specs.Feeding.{shown};
 
 use crate::{Failed, Source};
 use frac_core::OutOfMemory;
+use span_text::without_return;
 use std::alloc::Global;
 use std::marker::Model;
 
@@ -171,16 +171,6 @@ fn end_of_line(bytes: &[u8]) -> Option<usize>
     ensures none { IfNone result (IsUnended bytes.now) }
 {
     bytes.iter().position(|b| *b == b'\n')
-}
-
-// The bytes without a carriage return at their end.
-fn without_return(bytes: &[u8]) -> &[u8]
-    ensures { result.now ≡ strip_carriage_return bytes.now }
-{
-    match bytes {
-        [front @ .., b'\r'] => front,
-        _ => bytes,
-    }
 }
 
 // How a line is given, of which the beginning was given up or wasn't.

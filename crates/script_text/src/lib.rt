@@ -63,6 +63,7 @@ mod terms;
 mod words;
 
 pub use command::{Command, ExprTerm, Linear, Operand};
+pub use fractions::signed_number;
 pub use laws::{line_reads_or_leaves, offset_is_unique, reading_is_unique};
 pub use lines::read_line;
 pub use words::{Align, AttrWord};

@@ -35,7 +35,7 @@ mod word;
 
 pub use cut::{lines, tokens};
 pub use limits::{DECIMALS, HUNDREDTH, NUMBER_DIGITS, RATIO_DIGITS, TENTH, UNIT, WHOLE_DIGITS};
-pub use line::{Line, Lines};
+pub use line::{Line, Lines, without_return};
 pub use multiples::{Multiple, number_or_ratio};
 pub use object::Object;
 pub use stop::{PartStop, SyntaxAt};

@@ -4,7 +4,7 @@ ghost use Rattle.std.specs.Prelude.{◌≡◌, ◌≤◌, ◌==◌, length, ℕ,
 ghost use Rattle.span_text.specs.Gives.{Gives};
 ghost use Rattle.span_text.specs.Reading.{lit_at, front, back, not_at, end_at, starts, either, read_word};
 ghost use Rattle.span_text.specs.Tokens.{is_point};
-ghost use Rattle.span_text.specs.Classes.{is_space, is_word, is_digit, is_letter};
+ghost use Rattle.span_text.specs.Classes.{is_space, is_word, is_letter};
 
 use crate::classes;
 
@@ -123,16 +123,6 @@ pub fn begins(text: &[u8], byte: u8) -> bool
 {
     match text {
         [b, ..] => *b == byte,
-        [] => false,
-    }
-}
-
-/// Whether the text begins with a digit.
-pub fn begins_with_digit(text: &[u8]) -> bool
-    ensures { result ≡ starts is_digit text.now }
-{
-    match text {
-        [b, ..] => classes::is_digit(*b),
         [] => false,
     }
 }

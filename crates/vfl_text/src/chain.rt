@@ -1,10 +1,9 @@
 // A whole format: its direction, and the chain of views and connections between its ends.
-ghost use Rattle.std.specs.Prelude.{◌≡◌, ◌<◌, IfOk, IfErr, length, ◌+◌};
+ghost use Rattle.std.specs.Prelude.{◌≡◌, ◌<◌, IfOk, length, ◌+◌};
 ghost use Rattle.span_text.specs.Gives.{Gives};
 ghost use Rattle.span_text.specs.GivesOrMemory.{GivesOrMemory};
 ghost use Rattle.span_text.specs.Loops.{loop_at};
 ghost use Rattle.span_text.specs.Reading.{starts, tried};
-ghost use Rattle.span_text.specs.declared.stop.PartStop.TheVariants as stop;
 ghost use Rattle.vfl_text.specs.Grammar.{axes, started, with_item};
 ghost use Rattle.vfl_text.specs.Reading.{is_axis, is_more, orientation_at, from_parent_at, parent_at};
 ghost use Rattle.vfl_text.specs.Reading.{round_at, format_at};
@@ -13,7 +12,7 @@ ghost use Rattle.vfl_text.specs.View.{meaning, spacing_meaning, end_meaning, ite
 use crate::parts::{Axis, Format, Item, Spacing};
 use crate::views;
 use span_text::{PartStop, names, pieces};
-use std::alloc::Global;
+use std::alloc::{AllocError, Global};
 
 // A direction, and the text at once behind it.
 fn axis_letter(text: &[u8]) -> Result<(Axis, &[u8]), usize>
@@ -87,10 +86,9 @@ fn begun<'a>(
     axis: Axis,
     from_parent: Option<Spacing<'a>>,
     item: Item<'a>,
-) -> Result<Format<'a>, PartStop>
-    ensures ok { IfOk result (λ f. meaning f ≡ started axis (end_meaning from_parent.entry)
+) -> Result<Format<'a>, AllocError>
+    ensures { IfOk result (λ f. meaning f ≡ started axis (end_meaning from_parent.entry)
         (item_meaning item.entry)) }
-    ensures err { IfErr result (λ e. e ≡ stop.OutOfMemory) }
 {
     let mut items = Vec::new(alloc);
     items.push(item)?;
@@ -108,11 +106,10 @@ fn joined<'a>(
     format: Format<'a>,
     spacing: Spacing<'a>,
     item: Item<'a>,
-) -> Result<Format<'a>, PartStop>
+) -> Result<Format<'a>, AllocError>
     ensures ok { IfOk result (λ f. meaning f
         ≡ with_item (meaning format.entry) (spacing_meaning spacing.entry) (item_meaning item.entry)) }
     ensures grows { IfOk result (λ f. length f.items.items ≡ length format.entry.items.items + 1) }
-    ensures err { IfErr result (λ e. e ≡ stop.OutOfMemory) }
 {
     let Format {
         axis,

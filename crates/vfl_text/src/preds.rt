@@ -16,8 +16,8 @@ use problem_core::Rel;
 use span_text::{Object, PartStop, names, numbers, pieces};
 use std::alloc::Global;
 
-// A number of thousandths that isn't below 0.
-fn above_zero(thousandths: u32) -> i32
+// A number of thousandths without a sign.
+fn plus(thousandths: u32) -> i32
     requires { thousandths < number_bound }
     ensures { result ≡ pos thousandths }
 {
@@ -25,7 +25,7 @@ fn above_zero(thousandths: u32) -> i32
 }
 
 // The same with `-` in front.
-fn below_zero(thousandths: u32) -> i32
+fn minus(thousandths: u32) -> i32
     requires { thousandths < number_bound }
     ensures { result ≡ neg_ℤ (pos thousandths) }
 {
@@ -43,7 +43,7 @@ pub fn value(text: &[u8]) -> Result<(Object<'_>, &[u8]), usize>
         Ok((Object::Name { text: name }, rest))
     } else {
         let (thousandths, rest) = numbers::number(text)?;
-        let thousandths = above_zero(thousandths);
+        let thousandths = plus(thousandths);
         Ok((Object::Number { thousandths }, rest))
     }
 }
@@ -57,7 +57,7 @@ fn object(text: &[u8]) -> Result<(Object<'_>, &[u8]), usize>
     if pieces::begins(text, b'-') {
         let rest = names::sign(b'-', text)?;
         let (thousandths, rest) = numbers::number(rest)?;
-        let thousandths = below_zero(thousandths);
+        let thousandths = minus(thousandths);
         Ok((Object::Number { thousandths }, rest))
     } else {
         value(text)

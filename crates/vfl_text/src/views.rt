@@ -1,8 +1,7 @@
 // What a format is a chain of: views in brackets, and the connections between them.
-ghost use Rattle.std.specs.Prelude.{◌≡◌, ◌<◌, ◌≤◌, IfOk, IfErr, length};
+ghost use Rattle.std.specs.Prelude.{◌≡◌, ◌<◌, ◌≤◌, IfOk, length};
 ghost use Rattle.span_text.specs.GivesOrMemory.{GivesOrMemory};
 ghost use Rattle.span_text.specs.Objects.{meant};
-ghost use Rattle.span_text.specs.declared.stop.PartStop.TheVariants as stop;
 ghost use Rattle.vfl_text.specs.Grammar.{single};
 ghost use Rattle.vfl_text.specs.Reading.{item_at, spaced_at, spacing_at};
 ghost use Rattle.vfl_text.specs.View.{pred_meanings, item_meaning, spacing_meaning};
@@ -11,7 +10,7 @@ use crate::parts::{Item, Pred, Spacing};
 use crate::preds;
 use problem_core::Rel;
 use span_text::{Object, PartStop, names, pieces};
-use std::alloc::Global;
+use std::alloc::{AllocError, Global};
 
 /// A view in brackets, and the text behind it.
 #[tactic(auto, unfolding(crate::specs::Reading::item_at))]
@@ -33,9 +32,8 @@ pub fn view(alloc: Global, text: &[u8]) -> Result<(Item<'_>, &[u8]), PartStop>
 }
 
 // The list of the one predicate that an object without parentheses means.
-fn alone(alloc: Global, object: Object<'_>) -> Result<Vec<Pred<'_>>, PartStop>
-    ensures ok { IfOk result (λ v. pred_meanings v.items ≡ single (meant object.entry)) }
-    ensures err { IfErr result (λ e. e ≡ stop.OutOfMemory) }
+fn alone(alloc: Global, object: Object<'_>) -> Result<Vec<Pred<'_>>, AllocError>
+    ensures { IfOk result (λ v. pred_meanings v.items ≡ single (meant object.entry)) }
 {
     let mut preds = Vec::new(alloc);
     preds.push(Pred {

@@ -13,7 +13,7 @@ use Rattle.frac_core.specs.Fraction.{Fraction}
 use Rattle.name_tables.specs.Names.{value_of}
 use Rattle.view_tree.specs.JsonStops.{AreFree, IsWithin, has_room, is_held}
 use Rattle.view_tree.specs.JsonTrees.{Branch, branch, Branches, no_branches, more, height, height_in, names, names_in, size, size_in, views_of, views_in, with_branch}
-use Rattle.view_tree.specs.Plans.{AreNew, grown, number_of, pairs, pairs_in}
+use Rattle.view_tree.specs.Plans.{AreNew, grown, id_named, pairs, pairs_in}
 use Rattle.view_tree.specs.Stops.{IsNewView, is_full}
 use Rattle.view_tree.specs.Views.{IsAtDepth, IsTree, LiveView, ViewTree, view_named, view_of, with_view}
 use Rattle.view_tree.proofs.ViewLemmas.{IsAtDepth-append, IsAtDepth-push, IsTree-with_view, none_first as or_none}
@@ -162,7 +162,7 @@ module _ (t : ViewTree) (metrics : List (List ℕ × Fraction)) where
     tree : IsTree u
     frees : Frees u before
     some : IsSome (view_named u.views up)
-    number : number_of u up ≡ parent
+    number : id_named u up ≡ parent
     live : IsSome (view_of u.views parent)
     on : IsAtDepth u.views parent depth
     within : depth + tall ≤ 32
@@ -212,10 +212,10 @@ module _ (t : ViewTree) (metrics : List (List ℕ × Fraction)) where
     high = (depth, h.on, omega (arith, h.within));
   }
 
-  number-named : (u : ViewTree) (n : List ℕ) (v : LiveView) → view_named u.views n ≡ Some v → number_of u n ≡ v.id
+  number-named : (u : ViewTree) (n : List ℕ) (v : LiveView) → view_named u.views n ≡ Some v → id_named u n ≡ v.id
   number-named u n v e = ap (λ o. option_map_or (λ (w : LiveView). w.id) o 0) e
 
-  number_some : (u : ViewTree) (n : List ℕ) (id : ℕ) → IsSome (view_named u.views n) → number_of u n ≡ id → option_map (λ v. v.id) (view_named u.views n) ≡ Some id
+  number_some : (u : ViewTree) (n : List ℕ) (id : ℕ) → IsSome (view_named u.views n) → id_named u n ≡ id → option_map (λ v. v.id) (view_named u.views n) ≡ Some id
   number_some u n id some is = by (view_named u.views n) some is
     where
       by : (o : Option LiveView) → IsSome o → option_map_or (λ v. v.id) o 0 ≡ id → option_map (λ v. v.id) o ≡ Some id
@@ -250,8 +250,8 @@ module _ (t : ViewTree) (metrics : List (List ℕ × Fraction)) where
   same_tree : (w u : ViewTree) → w.views ≡ u.views → w.next ≡ u.next → w ≡ u
   same_tree w u e f = λ i. record { views = e i; next = f i }
 
-  same_first : (u : ViewTree) (name up : List ℕ) (parent : ℕ) (ps : List (List ℕ × List ℕ)) (w : ViewTree) → number_of u up ≡ parent → grown (with_view u name parent) ps ≡ w
-      → grown (with_view u name (number_of u up)) ps ≡ w
+  same_first : (u : ViewTree) (name up : List ℕ) (parent : ℕ) (ps : List (List ℕ × List ℕ)) (w : ViewTree) → id_named u up ≡ parent → grown (with_view u name parent) ps ≡ w
+      → grown (with_view u name (id_named u up)) ps ≡ w
   same_first u name up parent ps w is e = ap (λ p. grown (with_view u name p) ps) is ∙ e
 
   same_both : (u mid w : ViewTree) (ps qs rest : List (List ℕ × List ℕ)) → grown u (ps ++ (qs ++ rest)) ≡ grown mid (qs ++ rest) → grown mid (qs ++ rest) ≡ grown w rest
@@ -341,7 +341,7 @@ module _ (t : ViewTree) (metrics : List (List ℕ × Fraction)) where
         )
 
 -- the branch of a tree that goes in and passes no limit
-goes_in : (t : ViewTree) (n : List ℕ) (parent : ℕ) → option_map (λ v. v.id) (view_named t.views n) ≡ Some parent → IsSome (view_named t.views n) × (number_of t n ≡ parent)
+goes_in : (t : ViewTree) (n : List ℕ) (parent : ℕ) → option_map (λ v. v.id) (view_named t.views n) ≡ Some parent → IsSome (view_named t.views n) × (id_named t n ≡ parent)
 goes_in t n parent h = by (view_named t.views n) h
   where
     by : (o : Option LiveView) → option_map (λ v. v.id) o ≡ Some parent → IsSome o × (option_map_or (λ v. v.id) o 0 ≡ parent)

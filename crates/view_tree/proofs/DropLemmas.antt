@@ -8,7 +8,7 @@ use Rattle.std.proofs.lemmas.Option.{none-some}
 use Rattle.std.specs.List.{AllByRecursion}
 use Rattle.std.specs.Option.{option_map, option_map_or}
 use Rattle.view_tree.specs.Drops.{AreGoing, goes, is_among}
-use Rattle.view_tree.specs.Nodes.{AreKept, live_view, tree_of}
+use Rattle.view_tree.specs.Nodes.{AreKept, live_view, kept_tree}
 use Rattle.view_tree.specs.Views.{AreAbove, HasParent, IsAtDepth, IsTree, LiveView, ViewTree, view_of, window}
 use Rattle.view_tree.specs.declared.tree.Node.{Node}
 use Rattle.view_tree.proofs.BranchLemmas.{or-right}
@@ -186,8 +186,8 @@ module _ (go : ℕ → Bool) where
       by true rest = rest
       by false rest = ap (λ vs. live_view e ∷ vs) rest
 
-  pub tree_of-left : (es : List (List ℕ × Node)) (next : ℕ) → tree_of (filter (λ e. not (go e.1.id.0)) es) next ≡ record (tree_of es next) { views = left (map live_view es) }
-  tree_of-left es next = ap (λ views. record { views = views; next = next }) (map-left es)
+  pub kept_tree-left : (es : List (List ℕ × Node)) (next : ℕ) → kept_tree (filter (λ e. not (go e.1.id.0)) es) next ≡ record (kept_tree es next) { views = left (map live_view es) }
+  kept_tree-left es next = ap (λ views. record { views = views; next = next }) (map-left es)
 
   pub AreKept-left : (es : List (List ℕ × Node)) (next : ℕ) → AreKept es next → go 0 ≡ false → ((id p : ℕ) → HasParent (map live_view es) id (Some p) → go id ≡ false → go p ≡ false)
       → AreKept (filter (λ e. not (go e.1.id.0)) es) next
@@ -197,7 +197,7 @@ module _ (go : ℕ → Bool) where
       IsAtDepth-left (map live_view es) closed _ _ (kept-out _ (filter_passes keeps es k d l))
       (All-filter keeps (λ e. IsAtDepth (map live_view es) e.1.id.0 e.1.depth) es h.depths k d l) in
       record {
-        tree = subst IsTree (sym (tree_of-left es next)) (IsTree-left (tree_of es next) h.tree stays closed);
+        tree = subst IsTree (sym (kept_tree-left es next)) (IsTree-left (kept_tree es next) h.tree stays closed);
         depths = subst (λ views. All (λ e. IsAtDepth views e.1.id.0 e.1.depth) (filter keeps es)) (sym (map-left es)) depths;
       }
 

@@ -17,7 +17,7 @@ use Rattle.name_tables.specs.declared.stops.LimitWord.TheVariants.{Name, Views, 
 use Rattle.serde_json.specs.Data.{Data}
 use Rattle.view_tree.specs.JsonStops.{AreFree, AreShort, GoesIn, IsFirstHeld, IsGrown, IsWithin, MayStayOut, PassesTreeLimit, has_room, is_held}
 use Rattle.view_tree.specs.JsonTrees.{IsJson, IsTreeText, JsonTree, names, size, tree_of}
-use Rattle.view_tree.specs.Plans.{AreNew, IsPlanOf, grown, names_of_plan, number_of, pair_of, pairs_of}
+use Rattle.view_tree.specs.Plans.{AreNew, IsPlanOf, grown, names_of_plan, id_named, pair_of, pairs_of}
 use Rattle.view_tree.specs.Stops.{IsNewView, PassesLimit}
 use Rattle.view_tree.specs.Views.{AreAbove, IsAtDepth, IsTree, LiveView, ViewTree, view_named, view_of, with_view}
 use Rattle.view_tree.specs.declared.stops.TreeStop.TheVariants as stop
@@ -109,9 +109,9 @@ pairs_left (p ∷ ps) (suc i) d h =
 -- the next view may be added, and those after it then
 pub record Next (u : ViewTree) (ps : List Planned) (i : ℕ) (p : Planned) : Type 0 where
   pub live : IsSome (view_named u.views p.parent.now)
-  pub new : IsNewView u p.name.now (number_of u p.parent.now)
-  pub rest : AreNew (with_view u p.name.now (number_of u p.parent.now)) (drop (i + 1) (pairs_of ps))
-  pub same : grown (with_view u p.name.now (number_of u p.parent.now)) (drop (i + 1) (pairs_of ps)) ≡ grown u (drop i (pairs_of ps))
+  pub new : IsNewView u p.name.now (id_named u p.parent.now)
+  pub rest : AreNew (with_view u p.name.now (id_named u p.parent.now)) (drop (i + 1) (pairs_of ps))
+  pub same : grown (with_view u p.name.now (id_named u p.parent.now)) (drop (i + 1) (pairs_of ps)) ≡ grown u (drop i (pairs_of ps))
 
 pub next : (u : ViewTree) (ps : List Planned) (i : ℕ) (d : Planned) → i < length ps → AreNew u (drop i (pairs_of ps)) → Next u ps i (get_or ps i d)
 next u ps i d h are =
@@ -213,7 +213,7 @@ limit_passed t name parent new Views h = true≢false (sym h.1 ∙ new.room)
 limit_passed t name parent new Depth h = omega (arith, IsAtDepth-unique t.views parent h.2.0 new.high.0 h.2.1 new.high.1, h.2.2, new.high.2)
 limit_passed t name parent new _ h = h
 
-pub is_parent : (t : ViewTree) (up : List ℕ) (parent : ℕ) → Some parent ≡ option_map (λ v. v.id) (view_named t.views up) → number_of t up ≡ parent
+pub is_parent : (t : ViewTree) (up : List ℕ) (parent : ℕ) → Some parent ≡ option_map (λ v. v.id) (view_named t.views up) → id_named t up ≡ parent
 is_parent t up parent e = by (view_named t.views up) e
   where
     by : (o : Option LiveView) → Some parent ≡ option_map (λ v. v.id) o → option_map_or (λ v. v.id) o 0 ≡ parent

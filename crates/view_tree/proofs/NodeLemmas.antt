@@ -13,7 +13,7 @@ use Rattle.std.specs.Map.{lookup, values_of}
 use Rattle.std.specs.Option.{option_map}
 use Rattle.std.specs.Str.{bytes_eq}
 use Rattle.name_tables.specs.Names.{names_of, place_of}
-use Rattle.view_tree.specs.Nodes.{AreKept, live_view, tree_of}
+use Rattle.view_tree.specs.Nodes.{AreKept, live_view, kept_tree}
 use Rattle.view_tree.specs.Views.{IsAtDepth, IsTree, LiveView, ViewTree, view_named, view_of, window, with_view}
 use Rattle.view_tree.specs.Stops.{IsNewView}
 use Rattle.view_tree.proofs.ViewLemmas.{IsAtDepth-append, IsAtDepth-unique, IsAtDepth-push, IsTree-window, IsTree-with_view}
@@ -90,16 +90,16 @@ module _ (es : List (List ℕ × Node)) (next : ℕ) (name : List ℕ) (node : N
   entry : List ℕ × Node
   entry = (name, node)
 
-  same_views : map live_view (es ++ (name, node) ∷ []) ≡ (with_view (tree_of es next) name parent).views
+  same_views : map live_view (es ++ (name, node) ∷ []) ≡ (with_view (kept_tree es next) name parent).views
   same_views = map-append live_view es ((name, node) ∷ []) ∙ ap (λ v. map live_view es ++ v ∷ []) same
     where
       same : live_view (name, node) ≡ record { id = next; name = name; parent = Some parent }
       same = λ i. record { id = id i; name = name; parent = below i }
 
-  pub tree_of-push : tree_of (es ++ (name, node) ∷ []) (next + 1) ≡ with_view (tree_of es next) name parent
-  tree_of-push = ap (λ views. record { views = views; next = next + 1 }) same_views
+  pub kept_tree-push : kept_tree (es ++ (name, node) ∷ []) (next + 1) ≡ with_view (kept_tree es next) name parent
+  kept_tree-push = ap (λ views. record { views = views; next = next + 1 }) same_views
 
-  pub AreKept-push : (above : ℕ) → AreKept es next → IsNewView (tree_of es next) name parent → IsAtDepth (map live_view es) parent above → node.depth ≡ above + 1
+  pub AreKept-push : (above : ℕ) → AreKept es next → IsNewView (kept_tree es next) name parent → IsAtDepth (map live_view es) parent above → node.depth ≡ above + 1
       → AreKept (es ++ (name, node) ∷ []) (next + 1)
   AreKept-push above kept new on depth =
       let views : List LiveView = map live_view es in
@@ -107,7 +107,7 @@ module _ (es : List (List ℕ × Node)) (next : ℕ) (name : List ℕ) (node : N
       let pushed : IsAtDepth (views ++ live_view (name, node) ∷ []) node.id.0 node.depth =
       subst (IsAtDepth (views ++ live_view (name, node) ∷ []) node.id.0) (sym depth) (IsAtDepth-push views (live_view (name, node)) parent above below highest on) in
       record {
-        tree = subst IsTree (sym tree_of-push) (IsTree-with_view (tree_of es next) name parent kept.tree new);
+        tree = subst IsTree (sym kept_tree-push) (IsTree-with_view (kept_tree es next) name parent kept.tree new);
         depths = rw (map-append live_view es ((name, node) ∷ []))
             (All-push (λ e. IsAtDepth (views ++ live_view (name, node) ∷ []) e.1.id.0 e.1.depth) es (name, node)
             (λ k d l. IsAtDepth-append views (live_view (name, node) ∷ []) _ _ (kept.depths k d l)) pushed);
@@ -146,7 +146,7 @@ depths-back views later (e ∷ es) h g = (
   depths-back views later es h.1 g.1,
 )
 
-module _ (es : List (List ℕ × Node)) (next : ℕ) (t : ViewTree) (later : List LiveView) (count : ℕ) (is : tree_of es next ≡ record { views = t.views ++ later; next = t.next + count }) (counted : length later ≡ count) where
+module _ (es : List (List ℕ × Node)) (next : ℕ) (t : ViewTree) (later : List LiveView) (count : ℕ) (is : kept_tree es next ≡ record { views = t.views ++ later; next = t.next + count }) (counted : length later ≡ count) where
   grown_views : map live_view es ≡ t.views ++ later
   grown_views = ap (λ (u : ViewTree). u.views) is
 
@@ -163,8 +163,8 @@ module _ (es : List (List ℕ × Node)) (next : ℕ) (t : ViewTree) (later : Lis
       let more : next ≡ t.next + count = ap (λ (u : ViewTree). u.next) is in
       omega (arith, more)
 
-  pub tree_of-cut : tree_of (take (length es - count) es) (next - count) ≡ t
-  tree_of-cut = λ i. record { views = views-cut i; next = next-cut i }
+  pub kept_tree-cut : kept_tree (take (length es - count) es) (next - count) ≡ t
+  kept_tree-cut = λ i. record { views = views-cut i; next = next-cut i }
 
   pub AreKept-cut : IsTree t → AreKept es next → AreKept (take (length es - count) es) (next - count)
   AreKept-cut whole kept =
@@ -180,13 +180,6 @@ module _ (es : List (List ℕ × Node)) (next : ℕ) (t : ViewTree) (later : Lis
       (recursion_from_All (λ w. (depth : ℕ) × IsAtDepth t.views w.id depth × (depth ≤ 32)) (map live_view left) depths)
       (recursion_from_All (λ e. IsAtDepth (t.views ++ later) e.1.id.0 e.1.depth) left were)) in
       record {
-        tree = subst IsTree (sym tree_of-cut) whole;
+        tree = subst IsTree (sym kept_tree-cut) whole;
         depths = subst (λ (views : List LiveView). All (λ e. IsAtDepth views e.1.id.0 e.1.depth) left) (sym views-cut) are;
       }
-
-module _ (es : List (List ℕ × Node)) (next : ℕ) (t : ViewTree) (name : List ℕ) (parent : ℕ) (is : tree_of es next ≡ with_view t name parent) where
-  pub tree_of-back : tree_of (take (length es - 1) es) (next - 1) ≡ t
-  tree_of-back = tree_of-cut es next t (record { id = t.next; name = name; parent = Some parent } ∷ []) 1 is refl
-
-  pub AreKept-back : IsTree t → AreKept es next → AreKept (take (length es - 1) es) (next - 1)
-  AreKept-back = AreKept-cut es next t (record { id = t.next; name = name; parent = Some parent } ∷ []) 1 is refl

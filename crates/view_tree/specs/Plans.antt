@@ -35,19 +35,19 @@ pub record IsPlanOf (plan : Plan) (tree : JsonTree) : Type 0 where
   pub height : plan.height ≡ height tree.branch
 
 -- the number of the live view of this name, and 0 where there is none
-abbrev pub number_of : ViewTree → List ℕ → ℕ
-number_of t name = option_map_or (λ v. v.id) (view_named t.views name) 0
+abbrev pub id_named : ViewTree → List ℕ → ℕ
+id_named t name = option_map_or (λ v. v.id) (view_named t.views name) 0
 
 -- the tree with these views more, one after another
 abbrev pub grown : ViewTree → List (List ℕ × List ℕ) → ViewTree
 grown t [] = t
-grown t (p ∷ ps) = grown (with_view t p.0 (number_of t p.1)) ps
+grown t (p ∷ ps) = grown (with_view t p.0 (id_named t p.1)) ps
 
 -- each of them may be added after those before it
 abbrev pub AreNew : ViewTree → List (List ℕ × List ℕ) → Type 0
 AreNew t [] = Unit {0}
-AreNew t (p ∷ ps) = IsSome (view_named t.views p.1) × IsNewView t p.0 (number_of t p.1)
-    × AreNew (with_view t p.0 (number_of t p.1)) ps
+AreNew t (p ∷ ps) = IsSome (view_named t.views p.1) × IsNewView t p.0 (id_named t p.1)
+    × AreNew (with_view t p.0 (id_named t p.1)) ps
 
 -- so many views were added to a tree
 pub record IsGrownBy (t : ViewTree) (count : ℕ) : Type 0 where

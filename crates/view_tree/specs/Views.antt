@@ -64,11 +64,3 @@ with_view t name parent = record {
       ++ record { id = t.next; name = name; parent = Some parent } ∷ [];
   next = t.next + 1;
 }
-
--- the last view was added to a tree
-pub record IsAdded (t : ViewTree) : Type 0 where
-  pub before : ViewTree
-  pub name : List ℕ
-  pub parent : ℕ
-  pub whole : IsTree before
-  pub is : t ≡ with_view before name parent

@@ -9,17 +9,17 @@ ghost use Rattle.name_tables.specs.declared.stops.TheConstants.{NAME_LIMIT};
 ghost use Rattle.view_tree.specs.JsonStops.{AreFree, IsFirstHeld, IsGrown, IsWithin, MayStayOut};
 ghost use Rattle.view_tree.specs.JsonStops.{PassesTreeLimit, has_room, is_held};
 ghost use Rattle.view_tree.specs.JsonTrees.{IsJson, JsonTree};
-ghost use Rattle.view_tree.specs.Plans.{AreNew, IsPlanOf, grown, names_of_plan, number_of, pairs_of};
+ghost use Rattle.view_tree.specs.Plans.{AreNew, IsPlanOf, grown, names_of_plan, id_named, pairs_of};
 ghost use Rattle.view_tree.specs.Stops.{IsNewView};
 ghost use Rattle.view_tree.specs.declared.limits.TheConstants.{DEPTH_LIMIT};
 ghost use Rattle.view_tree.specs.Views.{IsAtDepth, IsTree, view_named, view_of, with_view};
 
 use crate::limits::{DEPTH_LIMIT, ID_LIMIT, VIEW_LIMIT};
-use crate::plan::{Plan, PlanStop, Planned, plan_of};
+use crate::plan::{Plan, Planned, plan_of};
 use crate::stops::TreeStop;
 use crate::tree::Tree;
 use crate::view::ViewId;
-use frac_core::OutOfMemory;
+use frac_core::{OutOfMemory, Stop};
 use name_tables::{LimitWord, Metrics, NAME_LIMIT, NameMap, OwnedName};
 use serde_json::Value;
 use std::alloc::Global;
@@ -125,9 +125,9 @@ impl Tree {
     // Adds a view that may be added.
     fn add_planned(&mut self, view: &Planned<'_>) -> Result<(), OutOfMemory>
         requires live { IsSome (view_named self.old.views view.now.parent.now) }
-        requires new { IsNewView self.old view.now.name.now (number_of self.old view.now.parent.now) }
+        requires new { IsNewView self.old view.now.name.now (id_named self.old view.now.parent.now) }
         ensures added { OnOk result (self.new
-            ≡ with_view self.old view.now.name.now (number_of self.old view.now.parent.now)) }
+            ≡ with_view self.old view.now.name.now (id_named self.old view.now.parent.now)) }
         ensures unchanged { OnErr result (self.new ≡ self.old) }
     {
         let Some(parent) = self.find(view.parent) else {
@@ -185,8 +185,8 @@ impl Tree {
         };
         let plan = match plan_of(alloc, &value) {
             Ok(plan) => plan,
-            Err(PlanStop::Shape) => return Err(TreeStop::Shape),
-            Err(PlanStop::OutOfMemory) => return Err(TreeStop::OutOfMemory),
+            Err(Stop::Refused(_)) => return Err(TreeStop::Shape),
+            Err(Stop::OutOfMemory) => return Err(TreeStop::OutOfMemory),
         };
         let Some(parent) = self.find(plan.place) else {
             let name = OwnedName::of(alloc, plan.place.as_bytes())?;

@@ -5,7 +5,8 @@
 //! let mut tree = Tree::new(alloc)?;             // the window, ViewId(0)
 //! let card = tree.add("card", ViewId(0))?;      // ViewId(1)
 //! tree.add("title", card)?;                     // ViewId(2)
-//! tree.drop_subtree(card)?;                     // 2 views, whose numbers aren't used again
+//! let gone = tree.subtree(card)?;               // `card` and `title`
+//! tree.drop_views(&gone);                       // their numbers aren't used again
 //! // 2 views: `list`, ViewId(3), and in it `row`, ViewId(4)
 //! tree.add_json(br#"{"name": "list", "children": [{"name": "row"}]}"#, &metrics)?;
 //! ```

@@ -3,15 +3,16 @@ ghost use Rattle.std.specs.Prelude.{◌≡◌, ◌++◌, IfOk, IfErr, None, Some
 ghost use Rattle.std.specs.Option.{option_map, option_map_or};
 ghost use Rattle.serde_json.specs.Find.{as_object};
 ghost use Rattle.serde_json.specs.View.{members_view, view};
+ghost use Rattle.frac_core.specs.Stops.{IsRefused};
 ghost use Rattle.view_tree.specs.JsonTrees.{Branch, Branches, JsonTree};
 ghost use Rattle.view_tree.specs.JsonTrees.{are_members, branch_of, elements_of, height, height_in};
 ghost use Rattle.view_tree.specs.JsonTrees.{is_member, is_name, name_under, place_of, tree_of};
 ghost use Rattle.view_tree.specs.Plans.{IsPlanOf, pairs, pairs_in, pairs_of};
 
-use frac_core::OutOfMemory;
+use frac_core::Stop;
 use serde_json::{Map, Value};
 use span_text::names;
-use std::alloc::{AllocFailed, Global};
+use std::alloc::Global;
 
 /// A view to be made, and the name of its parent.
 #[derive(Clone, Copy, Debug)]
@@ -28,24 +29,9 @@ pub(crate) struct Plan<'v> {
     pub height: usize,
 }
 
-/// Why there is no plan.
+/// The value has another shape than a tree.
 #[derive(Clone, Copy, Debug, PartialEq, Eq)]
-pub(crate) enum PlanStop {
-    /// The value has another shape.
-    Shape,
-    OutOfMemory,
-}
-
-impl<T: Drop> From<AllocFailed<T>> for PlanStop {
-    ghost use Rattle.std.specs.Prelude.{◌≡◌};
-    ghost use Rattle.view_tree.specs.declared.plan.PlanStop.TheVariants.{OutOfMemory as NoMemory};
-
-    ghost from_gives = { λ _ stop. stop ≡ NoMemory };
-
-    fn from(_: AllocFailed<T>) -> PlanStop {
-        PlanStop::OutOfMemory
-    }
-}
+pub(crate) struct Misshapen;
 
 // Whether the text is a name.
 fn is_name(text: &str) -> bool
@@ -111,17 +97,17 @@ fn plan_object<'v>(
     is_outermost: bool,
     parent: &'v str,
     views: &mut Vec<Planned<'v>>,
-) -> Result<usize, PlanStop>
+) -> Result<usize, Stop<Misshapen>>
     ensures planned { IfOk result (λ high. (b : Branch) × (branch_of is_outermost (view value.now) ≡ Some b)
         × (pairs_of views.new.items ≡ pairs_of views.old.items ++ pairs parent.now b) × (high ≡ height b)) }
-    ensures other { IfErr result (λ stop. stop ≡ PlanStop.Shape
+    ensures other { IfErr result (λ stop. IsRefused stop
         → branch_of is_outermost (view value.now) ≡ None) }
 {
     if !has_shape(value, is_outermost) {
-        return Err(PlanStop::Shape);
+        return Err(Stop::Refused(Misshapen));
     }
     let Some(name) = name_under(value, "name") else {
-        return Err(PlanStop::Shape);
+        return Err(Stop::Refused(Misshapen));
     };
     views.push(Planned { name, parent })?;
     let children = match value.get("children") {
@@ -138,14 +124,14 @@ fn plan_elements<'v>(
     value: &'v Value,
     parent: &'v str,
     views: &mut Vec<Planned<'v>>,
-) -> Result<usize, PlanStop>
+) -> Result<usize, Stop<Misshapen>>
     ensures planned { IfOk result (λ high. (bs : Branches) × (elements_of (view value.now) ≡ Some bs)
         × (pairs_of views.new.items ≡ pairs_of views.old.items ++ pairs_in parent.now bs)
         × (high ≡ height_in bs)) }
-    ensures other { IfErr result (λ stop. stop ≡ PlanStop.Shape → elements_of (view value.now) ≡ None) }
+    ensures other { IfErr result (λ stop. IsRefused stop → elements_of (view value.now) ≡ None) }
 {
     let Some(elements) = value.as_array() else {
-        return Err(PlanStop::Shape);
+        return Err(Stop::Refused(Misshapen));
     };
     let mut height: usize = 0;
     for element in elements {
@@ -154,14 +140,14 @@ fn plan_elements<'v>(
     Ok(height)
 }
 
-/// The plan of a JSON value. `Shape` where the value has another shape than a tree.
-pub(crate) fn plan_of(alloc: Global, value: &Value) -> Result<Plan<'_>, PlanStop>
+/// The plan of a JSON value.
+pub(crate) fn plan_of(alloc: Global, value: &Value) -> Result<Plan<'_>, Stop<Misshapen>>
     ensures planned { IfOk result (λ plan. (tree : JsonTree) × (tree_of (view value.now) ≡ Some tree)
         × IsPlanOf plan tree) }
-    ensures other { IfErr result (λ stop. stop ≡ PlanStop.Shape → tree_of (view value.now) ≡ None) }
+    ensures other { IfErr result (λ stop. IsRefused stop → tree_of (view value.now) ≡ None) }
 {
     let Some(place) = place(value) else {
-        return Err(PlanStop::Shape);
+        return Err(Stop::Refused(Misshapen));
     };
     let mut views = Vec::new(alloc);
     let height = plan_object(value, true, place, &mut views)?;

@@ -9,7 +9,7 @@ pub enum TreeStop {
     /// The text of a tree isn't JSON.
     #[error("the text of the tree isn't JSON")]
     Syntax,
-    /// The tree is of another shape, or the window was to be dropped.
+    /// The value of the text has another shape.
     #[error("this isn't the shape of a tree")]
     Shape,
     /// A view that must be live isn't.

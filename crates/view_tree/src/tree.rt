@@ -4,11 +4,11 @@ ghost use Rattle.std.specs.Prelude.{filter, find, not, position};
 ghost use Rattle.std.specs.Prelude.{IfOk, IfSome, OnErr, OnOk, IfErr, IfNone, is_some, length, slice_get};
 ghost use Rattle.std.specs.Option.{option_map, option_map_or, option_and_then};
 ghost use Rattle.view_tree.specs.Plans.{IsGrownBy};
-ghost use Rattle.view_tree.specs.Views.{LiveView, ViewTree, IsTree, IsAtDepth, HasParent, IsAdded};
+ghost use Rattle.view_tree.specs.Views.{LiveView, ViewTree, IsTree, IsAtDepth, HasParent};
 ghost use Rattle.view_tree.specs.Views.{view_of, view_named, with_view, window};
 ghost use Rattle.view_tree.specs.Stops.{IsNewView, MayStop, is_full};
 ghost use Rattle.view_tree.specs.declared.limits.TheConstants.{DEPTH_LIMIT, ID_LIMIT};
-ghost use Rattle.view_tree.specs.Drops.{AreGoing, IsDropped, MayStay, goes, is_among, without};
+ghost use Rattle.view_tree.specs.Drops.{AreGoing, goes, is_among, without};
 
 use crate::limits::{DEPTH_LIMIT, ID_LIMIT, VIEW_LIMIT};
 use crate::stops::TreeStop;
@@ -87,11 +87,11 @@ pub struct Tree {
 
 impl Model for Tree {
     ghost use Rattle.view_tree.specs.Views.{ViewTree};
-    ghost use Rattle.view_tree.specs.Nodes.{tree_of, AreKept};
+    ghost use Rattle.view_tree.specs.Nodes.{kept_tree, AreKept};
 
     ghost Value = { ViewTree };
 
-    ghost view = { λ t. tree_of t.table t.next };
+    ghost view = { λ t. kept_tree t.table t.next };
 
     ghost invariant = { λ t. AreKept t.table t.next };
 }
@@ -248,29 +248,6 @@ impl Tree {
         Ok(id)
     }
 
-    /// The number that a new view of this name below this parent would take.
-    ///
-    /// It stops where `add` would be refused, at the same cause.
-    pub fn id_below(&self, name: &str, parent: ViewId) -> Result<ViewId, TreeStop>
-        ensures id { IfOk result (λ id. id.0 ≡ self.now.next) }
-        ensures small { IfOk result (λ id. id.0 < ID_LIMIT) }
-        ensures new { OnOk result (IsNewView self.now name.now parent.0) }
-        ensures refused { IfErr result (MayStop self.now name.now parent.0) }
-    {
-        self.depth_below(name, parent)?;
-        Ok(ViewId(self.next))
-    }
-
-    /// Takes out the view that was added last. It takes no memory, and its number is free again.
-    pub fn take_back(&mut self)
-        requires { IsAdded self.old }
-        ensures { (before : ViewTree) (name : List ℕ) (parent : ℕ)
-            → self.old ≡ with_view before name parent → self.new ≡ before }
-    {
-        self.table.truncate(self.table.len() - 1);
-        self.next -= 1;
-    }
-
     /// Takes out the views that were added last, so many as `count`. It takes no memory, and their numbers
     /// are free again.
     pub fn take_back_views(&mut self, count: usize)
@@ -301,33 +278,13 @@ impl Tree {
         Ok(gone)
     }
 
-    /// Takes out the views of these numbers, which are a view and all below it. It takes no memory.
+    /// Takes out the views of these numbers, which are a view and all below it. It takes no memory, and the
+    /// numbers aren't used again.
     pub fn drop_views(&mut self, gone: &[u32])
         requires { (root : ℕ) × (root ≢ 0) × AreGoing self.old.views root gone.now }
         ensures { self.new ≡ without self.old gone.now }
     {
         drop_nodes(&mut self.table, gone);
-    }
-
-    /// Takes a view out with all below it, and answers how many they were. Their numbers aren't used again.
-    ///
-    /// `Shape` for the window, otherwise `Unknown` where the view isn't live. After a refusal all is as
-    /// before.
-    pub fn drop_subtree(&mut self, id: ViewId) -> Result<u32, TreeStop>
-        ensures dropped { IfOk result (IsDropped self.old id.0 self.new) }
-        ensures refused { IfErr result (MayStay self.old id.0) }
-        ensures unchanged { OnErr result (self.new ≡ self.old) }
-    {
-        if id.0 == 0 {
-            return Err(TreeStop::Shape);
-        }
-        if self.node(id).is_none() {
-            return Err(TreeStop::Unknown(None));
-        }
-        let gone = self.subtree(id)?;
-        self.len(); // for the proof: what a tree keeps
-        self.drop_views(&gone);
-        Ok(gone.len() as u32)
     }
 
     /// The same tree.

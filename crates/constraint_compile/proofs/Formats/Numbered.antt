@@ -16,7 +16,7 @@ use Rattle.vfl_text.specs.Formats.{FormatMeaning}
 use Rattle.script_text.specs.declared.words.Align.{Align}
 use Rattle.constraint_compile.specs.declared.format.parts.Part as declared_part
 use Rattle.constraint_compile.specs.Formats.FormatViews.{part_view, parts_view}
-use Rattle.constraint_compile.specs.Formats.FormatRefusals.{HasRank, HaveRanks}
+use Rattle.constraint_compile.specs.Formats.FormatRefusals.{HasPartRank, HaveRanks}
 use Rattle.constraint_compile.specs.Formats.FormatStops.{row_count, IsPastNumbers, IsUsableFormat}
 use Rattle.constraint_compile.specs.Formats.FormatParts.{Part, View, Bar, Asks, parts}
 use Rattle.constraint_compile.specs.Formats.FormatLines.{lines_of, line_of}
@@ -200,7 +200,7 @@ lines_more views ps i d within = ap (λ (qs : List declared_part.Part). lines_of
 pub rest_at : (ps : List declared_part.Part) (i : ℕ) (d : declared_part.Part) → i < length ps → parts_view (drop i ps) ≡ part_view (get_or ps i d) ∷ parts_view (drop (i + 1) ps)
 rest_at ps i d within = ap parts_view (drop_more ps i d within)
 
-pub ranks_at : (views : List LiveView) (metrics : MetricList) (ps : List declared_part.Part) (i : ℕ) (d : declared_part.Part) → i < length ps → HaveRanks views metrics (parts_view ps) → HasRank views metrics (part_view (get_or ps i d))
+pub ranks_at : (views : List LiveView) (metrics : MetricList) (ps : List declared_part.Part) (i : ℕ) (d : declared_part.Part) → i < length ps → HaveRanks views metrics (parts_view ps) → HasPartRank views metrics (part_view (get_or ps i d))
 ranks_at views metrics (p ∷ ps) zero d within ranks = ranks.0
 ranks_at views metrics (p ∷ ps) (suc i) d within ranks = ranks_at views metrics ps i d (omega (arith, within)) ranks.1
 ranks_at views metrics [] i d within ranks = absurd (omega (arith, within))

@@ -73,12 +73,12 @@ has_view_space views (Bar name) = false
 has_view_space views (Asks span pred) = is_some span.minus && is_view_object views pred.object
 
 -- where the part asks for a row, the row's priority stands for a rank
-abbrev pub HasRank : List LiveView → MetricList → Part → Type 0
-HasRank views metrics (View name) = ⊤
-HasRank views metrics (Bar name) = ⊤
-HasRank views metrics (Asks span pred) = (r : ℕ) × IsRank views metrics pred.priority r
+abbrev pub HasPartRank : List LiveView → MetricList → Part → Type 0
+HasPartRank views metrics (View name) = ⊤
+HasPartRank views metrics (Bar name) = ⊤
+HasPartRank views metrics (Asks span pred) = (r : ℕ) × IsRank views metrics pred.priority r
 
 -- each priority in the parts stands for a rank
 abbrev pub HaveRanks : List LiveView → MetricList → List Part → Type 0
 HaveRanks views metrics [] = ⊤
-HaveRanks views metrics (p ∷ ps) = HasRank views metrics p × HaveRanks views metrics ps
+HaveRanks views metrics (p ∷ ps) = HasPartRank views metrics p × HaveRanks views metrics ps

@@ -17,7 +17,7 @@ ghost use Rattle.constraint_compile.specs.Formats.FormatViews.{span_view, part_v
 ghost use Rattle.constraint_compile.specs.Meaning as meaning;
 
 use crate::addends::Addend;
-use crate::attributes::{number_of, share_at};
+use crate::attributes::{id_named, share_at};
 use crate::format::checks::parent_of;
 use crate::format::lines::{end_addend, minus_number, minus_one, one};
 use crate::format::parts::{Part, Span};
@@ -76,7 +76,7 @@ fn object_of<'a>(
             view: None,
         }),
         Object::Name { text } => {
-            if let Some(id) = number_of(tree, text) {
+            if let Some(id) = id_named(tree, text) {
                 return Ok(Subtracted {
                     addend: Addend::Attr(share_at(minus_one(), id, word)),
                     view: Some(id),
@@ -169,7 +169,7 @@ fn ask_of<'a>(
     ensures parent { IfOk result (λ f. f.lacks_parent ≡ false) }
     ensures space { IfOk result (λ f. f.is_view_space ≡ refusals.has_view_space tree.now.views
         (parts.Asks (span_view span.now) (pred_meaning pred.now))) }
-    ensures rank { IfOk result (λ f. IsTrue f.lacks_rank → refusals.HasRank tree.now.views metrics.now
+    ensures rank { IfOk result (λ f. IsTrue f.lacks_rank → refusals.HasPartRank tree.now.views metrics.now
         (parts.Asks (span_view span.now) (pred_meaning pred.now)) → ⊥) }
     ensures stop { IfErr result (λ name. refusals.unknown_pred tree.now.views metrics.now
         (pred_meaning pred.now) ≡ Some name.now) }
@@ -212,7 +212,7 @@ fn look_up<'a>(tree: &Tree, metrics: &Metrics, part: &Part<'a>) -> Result<Found<
     ensures space { IfOk result (λ f. f.is_view_space
         ≡ refusals.has_view_space tree.now.views (part_view part.now)) }
     ensures rank { IfOk result (λ f. IsTrue f.lacks_rank
-        → refusals.HasRank tree.now.views metrics.now (part_view part.now) → ⊥) }
+        → refusals.HasPartRank tree.now.views metrics.now (part_view part.now) → ⊥) }
     ensures stop { IfErr result (λ name. refusals.unknown_part tree.now.views metrics.now (part_view part.now)
         ≡ Some name.now) }
 {

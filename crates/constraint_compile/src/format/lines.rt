@@ -1,6 +1,5 @@
 // What the ends of the rows of a format add.
-ghost use Rattle.std.specs.Prelude.{◌≡◌, ◌<◌, [], false, IfSome, IfNone, Some, pos, neg_ℤ};
-ghost use Rattle.std.specs.Prelude.{if◌then◌else◌};
+ghost use Rattle.std.specs.Prelude.{◌≡◌, ◌<◌, [], false, IfSome, IfNone, Some};
 ghost use Rattle.std.specs.Option.{option_map};
 ghost use Rattle.span_text.specs.declared.limits.TheConstants.{UNIT};
 ghost use Rattle.script_text.specs.Grammar as grammar;
@@ -13,40 +12,20 @@ ghost use Rattle.view_tree.specs.Views.{view_named};
 ghost use Rattle.view_tree.specs.declared.limits.TheConstants.{ID_LIMIT};
 
 use crate::addends::Addend;
-use crate::attributes::{number_of, share_at};
+use crate::attributes::{id_named, share_at};
 use crate::format::checks::parent_of;
 use crate::format::parts::{End, Owner};
 use crate::line::signs::negated;
 use frac_core::Frac;
+use script_text::signed_number;
 use span_text::UNIT;
 use view_tree::{Tree, ViewId};
-
-// The number of this size with its sign.
-fn signed(is_negative: bool, size: u32) -> i128
-    ensures { result ≡ (if is_negative then neg_ℤ (pos size) else pos size) }
-{
-    if is_negative {
-        -i128::from(size)
-    } else {
-        i128::from(size)
-    }
-}
-
-// So many thousandths, with a sign.
-fn decimal(is_negative: bool, size: u32) -> Frac
-    ensures { result ≡ grammar.decimal is_negative size }
-{
-    match Frac::of(signed(is_negative, size), i128::from(UNIT)) {
-        Ok(fraction) => fraction,
-        Err(_) => unreachable!(),
-    }
-}
 
 // So many thousandths.
 fn number(thousandths: i32) -> Frac
     ensures { result ≡ lines.number thousandths }
 {
-    decimal(thousandths < 0, thousandths.unsigned_abs())
+    signed_number(thousandths < 0, thousandths.unsigned_abs())
 }
 
 /// What a number of thousandths subtracts.
@@ -60,7 +39,7 @@ pub(crate) fn minus_number(thousandths: i32) -> Frac
 pub(crate) fn one() -> Frac
     ensures { result ≡ grammar.decimal false UNIT }
 {
-    decimal(false, UNIT)
+    signed_number(false, UNIT)
 }
 
 /// An attribute is subtracted once.
@@ -89,10 +68,10 @@ fn view_of(tree: &Tree, end: End<'_>) -> Option<ViewId>
     ensures within { IfSome result (λ id. id.0 < ID_LIMIT) }
 {
     match end.owner {
-        Owner::Itself => number_of(tree, end.view),
+        Owner::Itself => id_named(tree, end.view),
         Owner::Parent => match parent_at(tree, end.view) {
             Some(id) => Some(id),
-            None => number_of(tree, ""),
+            None => id_named(tree, ""),
         },
     }
 }

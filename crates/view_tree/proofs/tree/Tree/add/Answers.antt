@@ -1,5 +1,5 @@
 use Rattle.std.proofs.Common.{refl, subst, sym, map}
-use Rattle.view_tree.specs.Nodes.{live_view, tree_of}
+use Rattle.view_tree.specs.Nodes.{live_view, kept_tree}
 use Rattle.view_tree.specs.Stops.{IsNewView}
 use Rattle.view_tree.specs.Views.{IsAtDepth, ViewTree}
 use Rattle.view_tree.proofs.NodeLemmas.{AreKept-push, unnamed}
@@ -7,13 +7,13 @@ use Rattle.view_tree.proofs.tree.Tree.add.Goals as goal
 
 pub add-requires : goal.add-requires
 add-requires c =
-    let new : IsNewView (tree_of c.self.inside.table c.self.inside.next) c.args.name.now c.args.parent.0 =
+    let new : IsNewView (kept_tree c.self.inside.table c.self.inside.next) c.args.name.now c.args.parent.0 =
     subst (λ t. IsNewView t c.args.name.now c.args.parent.0) (sym c.self.view_is) c.in_ok-depth.ensures.new in
     unnamed c.args.name.now c.self.inside.table new.free
 
 pub invariant_of-self-2 : goal.invariant_of-self-2
 invariant_of-self-2 c =
-    let new : IsNewView (tree_of c.self.inside.table c.self.inside.next) c.args.name.now c.args.parent.0 =
+    let new : IsNewView (kept_tree c.self.inside.table c.self.inside.next) c.args.name.now c.args.parent.0 =
     subst (λ t. IsNewView t c.args.name.now c.args.parent.0) (sym c.self.view_is) c.in_ok-depth.ensures.new in
     let above = c.in_ok-depth.ensures.depth in
     let on : IsAtDepth (map live_view c.self.inside.table) c.args.parent.0 above.0 =

@@ -1,5 +1,5 @@
 use Rattle.std.proofs.Common.{◌∙◌, ◌+◌, ap, drop, get_or, subst, sym}
-use Rattle.view_tree.specs.Plans.{AreNew, grown, number_of, pairs_of}
+use Rattle.view_tree.specs.Plans.{AreNew, grown, id_named, pairs_of}
 use Rattle.view_tree.proofs.JsonLemmas.{Next, grows_by, next, unplanned}
 use Rattle.view_tree.proofs.tree.Tree.add_all.Goals as goal
 
@@ -16,5 +16,5 @@ loop-view-preserved c =
     record {
       new = subst (λ w. AreNew w (drop (c.loop-view.view-index + 1) (pairs_of c.args.views.now))) (sym c.in-Ok.ensures.added) n.rest;
       same = ap (λ w. grown w (drop (c.loop-view.view-index + 1) (pairs_of c.args.views.now))) c.in-Ok.ensures.added ∙ n.same ∙ c.loop-view.invariant.same;
-      later = grows_by c.args.self.now c.loop-view.self c.add_planned.new.self c.loop-view.invariant.later.0 p.name.now (number_of c.loop-view.self p.parent.now) c.loop-view.invariant.later.1 c.in-Ok.ensures.added;
+      later = grows_by c.args.self.now c.loop-view.self c.add_planned.new.self c.loop-view.invariant.later.0 p.name.now (id_named c.loop-view.self p.parent.now) c.loop-view.invariant.later.1 c.in-Ok.ensures.added;
     }

@@ -2,7 +2,7 @@ use Rattle.std.proofs.Common.{ℕ, subst, sym, map}
 use Rattle.view_tree.specs.Drops.{AreGoing, is_among}
 use Rattle.view_tree.specs.Nodes.{live_view}
 use Rattle.view_tree.specs.Views.{ViewTree}
-use Rattle.view_tree.proofs.DropLemmas.{AreKept-left, closed, tree_of-left, window-stays}
+use Rattle.view_tree.proofs.DropLemmas.{AreKept-left, closed, kept_tree-left, window-stays}
 use Rattle.view_tree.proofs.tree.Tree.drop_views.Goals as goal
 
 pub invariant_of-self : goal.invariant_of-self
@@ -15,4 +15,4 @@ invariant_of-self c =
     (closed (map live_view c.self.inside.table) root c.args.gone.now are))
 
 pub returns : goal.returns
-returns c = rw (← c.self.view_is, c.drop_nodes.ensures) (tree_of-left (is_among c.args.gone.now) c.self.inside.table c.self.inside.next)
+returns c = rw (← c.self.view_is, c.drop_nodes.ensures) (kept_tree-left (is_among c.args.gone.now) c.self.inside.table c.self.inside.next)

@@ -3,7 +3,7 @@ use Rattle.std.specs.Option.{option_map}
 use Rattle.std.specs.Str.{bytes_eq}
 use Rattle.view_tree.specs.Views.{LiveView, view_named, IsTree}
 use Rattle.view_tree.specs.declared.view.ViewId.{ViewId}
-use Rattle.constraint_compile.proofs.attributes.number_of.Goals as goal
+use Rattle.constraint_compile.proofs.attributes.id_named.Goals as goal
 
 within : (o : Option ViewId) (w : Option LiveView) → option_map (λ id. id.0) o ≡ option_map (λ v. v.id) w → IfSome w (λ v. v.id < 2 ^ 29) → IfSome o (λ id. id.0 < 2 ^ 29)
 within None w same small = tt
