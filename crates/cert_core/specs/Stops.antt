@@ -47,12 +47,19 @@ abbrev pub AreNonnegativeBefore : Problem → List Mark → ℕ → Type 0
 AreNonnegativeBefore p at id = (x : Point) × StandsAt p at x
     × All (λ m. IsBefore id m.row → pos 0 ≤ℤ x.num (place m)) at
 
--- the quantity is no partial one
+-- an attribute, a mark or a level
 abbrev pub IsPlain : Quantity → Type 0
 IsPlain (Plain what) = Unit {0}
 IsPlain (Terms mark j) = ⊥
 IsPlain (Rows level j) = ⊥
 IsPlain (Shifts what j) = ⊥
+
+-- a sum of a row's first terms or of a level's first rows
+abbrev pub IsPartial : Quantity → Type 0
+IsPartial (Plain what) = ⊥
+IsPartial (Terms mark j) = Unit {0}
+IsPartial (Rows level j) = Unit {0}
+IsPartial (Shifts what j) = ⊥
 
 -- `Begins rest at`: a path may begin at these marks while the rows `rest` are still to join
 

@@ -13,7 +13,7 @@ use Rattle.corner_laws.specs.Laws.{IsMarkAt}
 use Rattle.corner_lines.specs.LineEquations.{IsLineEquation, deviation}
 use Rattle.path_checker.specs.Route.{MayGiveWay, over_marks}
 use Rattle.path_checker.specs.Tables.{IsThere}
-use Rattle.path_checker.specs.PathClauses.{DoesNotFit, IsPathVerdict, IsShownPath}
+use Rattle.path_checker.specs.PathClauses.{EndsInUnfit, IsPathVerdict, IsShownPath}
 use Rattle.path_checker.specs.declared.verdict.PathVerdict.TheVariants.{Yes}
 
 -- an entering line that does not stand in the leaving line's equation makes no exchange
@@ -41,4 +41,4 @@ BeginsThere = (p : Problem) → IsWhole p → IsThere p (over_marks p)
 -- the answer is Yes exactly for a path at whose last corner the quantity does not fit
 abbrev pub YesIsPath : Type 0
 YesIsPath = (p : Problem) (path : Path) (unfit : Option Quantity)
-    → IsPathVerdict p path unfit Yes ↔ (IsShownPath p path unfit × DoesNotFit p path unfit)
+    → IsPathVerdict p path unfit Yes ↔ (IsShownPath p path unfit × EndsInUnfit p path unfit)

@@ -94,9 +94,9 @@ abbrev pub IsCalledFor : Problem → Path → Type 0
 IsCalledFor p path = AreCalledFor path.dual p path.corner path.swaps
 
 -- clause 14: the quantity does not fit at the last corner; it holds where the path is shown with none
-abbrev pub DoesNotFit : Problem → Path → Option Quantity → Type 0
-DoesNotFit p path None = Unit {0}
-DoesNotFit p path (Some named) = IsUnfitAt p (last_marks path.corner path.swaps) named
+abbrev pub EndsInUnfit : Problem → Path → Option Quantity → Type 0
+EndsInUnfit p path None = Unit {0}
+EndsInUnfit p path (Some named) = IsUnfitAt p (last_marks path.corner path.swaps) named
 
 -- the clauses before 12
 abbrev pub HoldToApart : Problem → Path → Type 0
@@ -114,7 +114,7 @@ HoldToCalled p path unfit = HoldToSound p path unfit × IsCalledFor p path
 -- has to hold at each corner does; 13: no corner before the last is an end, and each exchange is called for;
 -- 14: the quantity does not fit at the last corner. The first that fails is named, unless there is no room
 abbrev pub IsPathVerdict : Problem → Path → Option Quantity → PathVerdict → Type 0
-IsPathVerdict p path unfit Yes = HoldToCalled p path unfit × DoesNotFit p path unfit
+IsPathVerdict p path unfit Yes = HoldToCalled p path unfit × EndsInUnfit p path unfit
 IsPathVerdict p path unfit (NoRoom n) = HasNoRoom p path unfit n
 IsPathVerdict p path unfit (No clause) =
     ((clause ≡ CORNER_CLAUSE) × (IsCorner p path.corner → ⊥))
@@ -122,4 +122,4 @@ IsPathVerdict p path unfit (No clause) =
     ⊎ ((clause ≡ APART_CLAUSE) × HoldToExchanges p path × (AreApart path → ⊥))
     ⊎ ((clause ≡ SOUND_CLAUSE) × HoldToApart p path × (IsSoundPath p path unfit → ⊥))
     ⊎ ((clause ≡ CALLED_CLAUSE) × HoldToSound p path unfit × (IsCalledFor p path → ⊥))
-    ⊎ ((clause ≡ UNFIT_CLAUSE) × HoldToCalled p path unfit × (DoesNotFit p path unfit → ⊥))
+    ⊎ ((clause ≡ UNFIT_CLAUSE) × HoldToCalled p path unfit × (EndsInUnfit p path unfit → ⊥))

@@ -11,26 +11,13 @@ use Rattle.problem_core.specs.Levels.{IsLevelAt}
 use Rattle.problem_core.specs.Corners.{Swap}
 use Rattle.problem_core.specs.Unfit.{IsUnfitAt, over_mark}
 use Rattle.cert_core.specs.Paths.{Path}
+use Rattle.cert_core.specs.Stops.{IsPartial, IsPlain}
 use Rattle.path_checker.specs.Route.{IsRoute, IsWholeRoute, corner_after}
-
--- a sum of a row's first terms or of a level's first rows
-abbrev pub IsPartial : Quantity → Type 0
-IsPartial (Plain what) = ⊥
-IsPartial (Terms mark j) = Unit {0}
-IsPartial (Rows level j) = Unit {0}
-IsPartial (Shifts what j) = ⊥
-
--- an attribute, a mark or a level
-abbrev pub IsWhat : Quantity → Type 0
-IsWhat (Plain what) = Unit {0}
-IsWhat (Terms mark j) = ⊥
-IsWhat (Rows level j) = ⊥
-IsWhat (Shifts what j) = ⊥
 
 -- before the last corner of a path with a quantity, and at each of one without
 abbrev pub CountsOnTheWay : List Swap → Quantity → Type 0
 CountsOnTheWay [] q = IsPartial q
-CountsOnTheWay (s ∷ done) q = IsWhat q
+CountsOnTheWay (s ∷ done) q = IsPlain q
 
 -- the same sum of fewer, or one of the attributes that it sums
 abbrev pub IsInTerms : Problem → Mark → ℕ → Quantity → Type 0

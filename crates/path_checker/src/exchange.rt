@@ -7,19 +7,19 @@ ghost use Rattle.problem_core.specs.Window.{zero_fraction};
 ghost use Rattle.problem_core.specs.Layout.{Problem};
 ghost use Rattle.problem_core.specs.Corners.{IsExchange};
 ghost use Rattle.problem_core.specs.declared.parts.Mark.{Mark};
-ghost use Rattle.path_checker.specs.Numbers.{AreFitting, IsCombined, IsReplaced, flip_sign, number_at};
+ghost use Rattle.path_checker.specs.Numbers.{AreFitting, IsCombined, IsFactor, IsReplaced};
+ghost use Rattle.path_checker.specs.Numbers.{flip_sign, number_at};
 ghost use Rattle.path_checker.specs.Tables.{AreLines, AreSized, IsSized, IsSizedLine, IsThere, swap_of};
 ghost use Rattle.path_checker.specs.Exchanges.Pivots.{AreNextLines, AreUnfitNext, IsEnteringSum};
 ghost use Rattle.path_checker.specs.Exchanges.Pivots.{IsLeavingBy, IsNextLine, IsNextSum, IsSolvedFrom};
 ghost use Rattle.path_checker.specs.Exchanges.Pivots.{IsUnfitNext, IsUnfitNextSum, LeadTo, LeadToUnfit};
 ghost use Rattle.path_checker.specs.Exchanges.Pivots.{LeadsToUnfit};
-ghost use Rattle.frac_core.specs.declared.memory.Stop.TheVariants.{OutOfMemory};
 
 use crate::numbers::{Lowest, Wide, combined, in_lowest_terms};
 use crate::spots::Step;
 use crate::stop::SumStop;
 use crate::table::{Inside, Sum, turn};
-use frac_core::{Frac, Stop, Unfit};
+use frac_core::{Frac, OutOfMemory, Stop, Unfit};
 use std::alloc::Global;
 
 /// An exchange with the leaving line's sum, solved for the entering line: `size` times what the entering
@@ -65,12 +65,11 @@ fn with_number(
     is_turned: bool,
     at: usize,
     number: i64,
-) -> Result<Vec<i64>, SumStop>
+) -> Result<Vec<i64>, OutOfMemory>
     requires numbers { All IsFitting numbers.now }
     requires number { IsFitting number }
     ensures value { IfOk result (λ out. IsReplaced (flip_sign is_turned) numbers.now at number out.items) }
     ensures fits { IfOk result (λ out. All IsFitting out.items) }
-    ensures memory { IfErr result (λ stop. stop ≡ OutOfMemory) }
 {
     let mut out = Vec::with_capacity(alloc, numbers.len())?;
     for (place, old) in numbers.iter().enumerate() {
@@ -108,12 +107,11 @@ fn may_enter(inside: &Inside, step: Step) -> bool
 }
 
 /// The pivot of an exchange of two lines: the leaving line's equation, solved for the entering line.
-pub fn solving(alloc: Global, leaving: &Sum, step: Step) -> Result<Pivot, SumStop>
+pub fn solving(alloc: Global, leaving: &Sum, step: Step) -> Result<Pivot, OutOfMemory>
     requires enter { step.enter.at < length leaving.now.by.items }
     requires sized { IsSized (length leaving.now.by.items) leaving.now }
     requires some { number_at leaving.now.by.items step.enter.at ≢ pos 0 }
-    ensures solved { IfOk result (IsSolvedFrom leaving.now step) }
-    ensures memory { IfErr result (λ stop. stop ≡ OutOfMemory) }
+    ensures { IfOk result (IsSolvedFrom leaving.now step) }
 {
     let number = number_of(&leaving.by, step.enter.at);
     let is_below = is_negative(number);
@@ -124,8 +122,8 @@ pub fn solving(alloc: Global, leaving: &Sum, step: Step) -> Result<Pivot, SumSto
     Ok(pivot_with(step, size, by, leaving.value, times))
 }
 
-// The number at a place.
-fn number_of(by: &[i64], at: usize) -> i64
+/// The number at a place.
+pub fn number_of(by: &[i64], at: usize) -> i64
     requires { at < length by.now }
     ensures { result ≡ number_at by.now at }
 {
@@ -159,19 +157,19 @@ fn pivot_with(step: Step, size: i64, by: Vec<i64>, value: Frac, times: i64) -> P
     }
 }
 
-// The product of two fitting numbers.
-fn pair_product(x: i64, y: i64) -> i128
+/// The product of two fitting numbers.
+pub fn pair_product(x: i64, y: i64) -> i128
     requires x { IsFitting x }
     requires y { IsFitting y }
-    ensures { result ≡ x *ℤ y }
+    ensures value { result ≡ x *ℤ y }
+    ensures small { IsFactor result }
 {
     i128::from(x) * i128::from(y)
 }
 
 // The numbers in 128 bits.
-fn widened(alloc: Global, numbers: &[i64]) -> Result<Vec<i128>, SumStop>
-    ensures value { IfOk result (λ out. out.items ≡ numbers.now) }
-    ensures memory { IfErr result (λ stop. stop ≡ OutOfMemory) }
+fn widened(alloc: Global, numbers: &[i64]) -> Result<Vec<i128>, OutOfMemory>
+    ensures { IfOk result (λ out. out.items ≡ numbers.now) }
 {
     let mut out = Vec::with_capacity(alloc, numbers.len())?;
     for number in numbers {
@@ -181,7 +179,7 @@ fn widened(alloc: Global, numbers: &[i64]) -> Result<Vec<i128>, SumStop>
 }
 
 /// The numbers of an inside line's sum after an exchange of two lines: the entering line's is put in.
-pub fn carried(alloc: Global, pivot: &Pivot, sum: &Sum) -> Result<Wide, SumStop>
+pub fn carried(alloc: Global, pivot: &Pivot, sum: &Sum) -> Result<Wide, OutOfMemory>
     requires enter { pivot.now.step.enter.at < length sum.now.by.items }
     requires pivot { AreFitting pivot.now.size pivot.now.by.items }
     requires sum { AreFitting sum.now.own sum.now.by.items }
@@ -189,7 +187,6 @@ pub fn carried(alloc: Global, pivot: &Pivot, sum: &Sum) -> Result<Wide, SumStop>
     ensures own { IfOk result (λ w. w.own ≡ pivot.now.size *ℤ sum.now.own) }
     ensures by { IfOk result (λ w. IsCombined pivot.now.size sum.now.by.items
         (number_at sum.now.by.items pivot.now.step.enter.at) pivot.now.by.items w.by.items) }
-    ensures memory { IfErr result (λ stop. stop ≡ OutOfMemory) }
 {
     let size = i128::from(pivot.size);
     let number = i128::from(sum.by[pivot.step.enter.at]);
@@ -200,29 +197,16 @@ pub fn carried(alloc: Global, pivot: &Pivot, sum: &Sum) -> Result<Wide, SumStop>
 }
 
 /// The pivot as the entering line's sum.
-pub fn entering(alloc: Global, pivot: &Pivot) -> Result<Wide, SumStop>
+pub fn entering(alloc: Global, pivot: &Pivot) -> Result<Wide, OutOfMemory>
     requires { AreFitting pivot.now.size pivot.now.by.items }
     ensures own { IfOk result (λ w. w.own ≡ pivot.now.size) }
     ensures by { IfOk result (λ w. IsReplaced (pos 1) pivot.now.by.items pivot.now.step.enter.at (pos 0)
         w.by.items) }
-    ensures memory { IfErr result (λ stop. stop ≡ OutOfMemory) }
 {
     let by = with_number(alloc, &pivot.by, false, pivot.step.enter.at, 0)?;
     Ok(Wide {
         own: i128::from(pivot.size),
         by: widened(alloc, &by)?,
-    })
-}
-
-/// The numbers of a sum that stays.
-pub fn same(alloc: Global, sum: &Sum) -> Result<Wide, SumStop>
-    ensures own { IfOk result (λ w. w.own ≡ sum.now.own) }
-    ensures by { IfOk result (λ w. w.by.items ≡ sum.now.by.items) }
-    ensures memory { IfErr result (λ stop. stop ≡ OutOfMemory) }
-{
-    Ok(Wide {
-        own: i128::from(sum.own),
-        by: widened(alloc, &sum.by)?,
     })
 }
 
@@ -247,8 +231,8 @@ pub fn entering_value(pivot: &Pivot) -> Result<Frac, Unfit>
     Frac::mul_add(Frac::zero(), pivot.times, pivot.size, pivot.value)
 }
 
-// Numbers and a value.
-fn sum_of(numbers: Lowest, value: Frac) -> Sum
+/// Numbers and a value.
+pub fn sum_of(numbers: Lowest, value: Frac) -> Sum
     ensures own { result.own ≡ numbers.own }
     ensures by { result.by.items ≡ numbers.by.items }
     ensures value { result.value ≡ value }
@@ -354,8 +338,8 @@ fn is_turn(step: Step) -> bool
     step.enter.at == step.leave.at
 }
 
-// Whether the number at the place is not 0.
-fn stands(by: &[i64], at: usize) -> bool
+/// Whether the number at the place is not 0.
+pub fn stands(by: &[i64], at: usize) -> bool
     requires { at < length by.now }
     ensures { IsTrue result ↔ (number_at by.now at ≢ pos 0) }
 {

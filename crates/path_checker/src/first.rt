@@ -13,7 +13,6 @@ ghost use Rattle.path_checker.specs.Walking.FirstLines.{AreFirstLines, HasUnfitF
 ghost use Rattle.path_checker.specs.Numbers.{number_at};
 ghost use Rattle.path_checker.specs.Route.{over_marks};
 ghost use Rattle.path_checker.specs.Tables.{AreLines, AreSized, IsSumOf, line_count};
-ghost use Rattle.frac_core.specs.declared.memory.Stop.TheVariants as stops;
 
 use crate::stop::SumStop;
 use crate::table::{Inside, Sum};
@@ -28,8 +27,8 @@ struct Terms {
     value: Frac,
 }
 
-// The place of the attribute's stay among the stays.
-fn stay_of(stays: &[Stay], attr: u32) -> Option<usize>
+/// The place of the attribute's stay among the stays.
+pub fn stay_of(stays: &[Stay], attr: u32) -> Option<usize>
     ensures within { IfSome result (λ k. k < length stays.now) }
     ensures found { IfSome result (HoldsAt (λ s. s.attr ≡ attr) stays.now) }
     ensures none { IfNone result (All (λ s. s.attr ≢ attr) stays.now) }
@@ -67,11 +66,10 @@ fn with_term(p: &Problem, sum: Terms, term: Term) -> Result<Terms, SumStop>
     Ok(Terms { by, value })
 }
 
-// The number 0 for each line.
-fn zeros(alloc: Global, count: usize) -> Result<Vec<i64>, SumStop>
+/// So many zeros.
+pub fn zeros(alloc: Global, count: usize) -> Result<Vec<i64>, OutOfMemory>
     ensures count { IfOk result (λ out. length out.items ≡ count) }
     ensures zeros { IfOk result (λ out. All (λ z. z ≡ pos 0) out.items) }
-    ensures memory { IfErr result (λ stop. stop ≡ stops.OutOfMemory) }
 {
     let mut out = Vec::with_capacity(alloc, count)?;
     for _ in 0..count {

@@ -52,15 +52,15 @@ pub use check::check_exchanges;
 pub use costs::weights;
 pub use exchange::{
     Pivot, after_exchange, carried, carried_sum, entering, entering_sum, entering_value,
-    exchanged_lines, is_exchange, same, solving,
+    exchanged_lines, is_exchange, number_of, pair_product, solving, stands, sum_of,
 };
-pub use first::{first_lines, first_sum, with_stays};
+pub use first::{first_lines, first_sum, stay_of, with_stays, zeros};
 pub use laws::{
     apart_by_sides, begins_there, carried_is_equation, carried_level_is_row, entering_is_equation,
     exchange_needs_number, leaving_is_pivot, none_gives_way, one_mark_of_line, path_is_its_clauses,
     solved_is_pivot, some_paths_hold, turned_lines_are, unfit_list_is_unfit, yes_is_path,
 };
-pub use numbers::{Lowest, Ratio, Wide, combined, in_lowest_terms, moved_sign};
+pub use numbers::{Lowest, Ratio, Wide, combined, in_lowest_terms, moved_sign, quotient};
 pub use route::{bringing_in, comes_twice, is_one, moved, sides_of};
 pub use signs::{has_no_negative_value, is_down, is_on_side, is_up};
 pub use spots::{Spot, Step, names, spot_of, step_of};

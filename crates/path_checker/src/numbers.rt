@@ -7,10 +7,9 @@ ghost use Rattle.frac_core.specs.Stops.{IsRefused};
 ghost use Rattle.frac_core.specs.Fraction.{IsFitting, sum_num};
 ghost use Rattle.path_checker.specs.Numbers.{AreFitting, AreLowest, AreUnfit, DividesAll, HasTooLarge};
 ghost use Rattle.path_checker.specs.Numbers.{IsCombined, IsCommonDivisor, IsFactor, IsSmallProduct};
-ghost use Rattle.frac_core.specs.declared.memory.Stop.TheVariants.{OutOfMemory};
 
 use crate::stop::SumStop;
-use frac_core::{Frac, PART_BOUND, Stop, Unfit, cmp_wide, gcd};
+use frac_core::{Frac, OutOfMemory, PART_BOUND, Stop, Unfit, cmp_wide, gcd};
 use std::alloc::Global;
 use std::cmp::Ordering;
 
@@ -51,8 +50,8 @@ fn divisor_of(own: i128, by: &[i128]) -> i128
     common_divisor(own, by) as i128
 }
 
-// The exact quotient.
-fn quotient(number: i128, divisor: i128) -> i128
+/// The exact quotient.
+pub fn quotient(number: i128, divisor: i128) -> i128
     requires above { pos 0 <ℤ divisor }
     requires divides { unsigned_abs divisor ∣ unsigned_abs number }
     ensures { divisor *ℤ result ≡ number }
@@ -137,14 +136,13 @@ pub fn combined(
     left: &[i64],
     m: i128,
     right: &[i64],
-) -> Result<Vec<i128>, SumStop>
+) -> Result<Vec<i128>, OutOfMemory>
     requires k { IsFactor k }
     requires left { All IsFitting left.now }
     requires m { IsFactor m }
     requires right { All IsFitting right.now }
     requires count { length left.now ≡ length right.now }
-    ensures value { IfOk result (λ out. IsCombined k left.now m right.now out.items) }
-    ensures memory { IfErr result (λ stop. stop ≡ OutOfMemory) }
+    ensures { IfOk result (λ out. IsCombined k left.now m right.now out.items) }
 {
     let mut out = Vec::with_capacity(alloc, left.len())?;
     for (at, number) in left.iter().enumerate() {

@@ -215,11 +215,10 @@ pub fn first_sides(alloc: Global, p: &Problem) -> Result<Vec<Option<Side>>, OutO
 }
 
 // Where the route begins.
-fn first_way(alloc: Global, p: &Problem) -> Result<Way, WayStop>
+fn first_way(alloc: Global, p: &Problem) -> Result<Way, OutOfMemory>
     ensures usable { IfOk result (IsUsableWay (line_count p.now)) }
     ensures count { IfOk result (λ way. way.kept.count ≡ 0) }
     ensures way { IfOk result (λ way. (path : Path) → IsWayAt p.now path [] path.corner way) }
-    ensures stop { IfErr result (λ stop. stop ≡ ways.OutOfMemory) }
 {
     p.show_whole(); // for the proof: what a problem keeps
     let sides = first_sides(alloc, p)?;

@@ -1,5 +1,5 @@
 -- What holds after an exchange, of a corner whose lines are kept.
-use Rattle.std.specs.Prelude.{◌≡◌, ℕ, ◌<◌, List, Option}
+use Rattle.std.specs.Prelude.{◌≡◌, ℕ, ◌<◌, List, length, Option}
 use Rattle.problem_core.specs.declared.parts.Mark.{Mark}
 use Rattle.problem_core.specs.Layout.{Problem}
 use Rattle.problem_core.specs.Corners.{IsExchange, exchanged}
@@ -7,9 +7,15 @@ use Rattle.path_checker.specs.declared.exchange.Pivot.{Pivot}
 use Rattle.path_checker.specs.declared.spots.Step.{Step}
 use Rattle.path_checker.specs.declared.table.Inside.{Inside}
 use Rattle.path_checker.specs.Exchanges.Pivots.{next_marks}
-use Rattle.path_checker.specs.Tables.{AreLines, IsLineAt, IsThere, line_count, name_at, swap_of}
-use Rattle.path_levels.specs.Exchanges.Pivots.{IsExchangePivot}
+use Rattle.path_checker.specs.Tables.{AreLines, AreSized, IsLineAt, IsThere, line_count, name_at, swap_of}
+use Rattle.path_levels.specs.Exchanges.Pivots.{IsExchangePivot, IsSizedPivot}
 use Rattle.path_claims.specs.Fits.{AllAttrsFit}
+
+-- each line of the problem is kept, and its sum and the pivot have a number for each line
+pub record IsSizedExchange (p : Problem) (lines : List (Option Inside)) (pivot : Pivot) : Type 0 where
+  pub count : length lines ≡ line_count p
+  pub lines_are : AreSized lines
+  pub pivot_is : IsSizedPivot (length lines) pivot
 
 -- it holds at the corner after the exchange with this pivot, of each corner with these lines
 abbrev pub AfterExchange : Problem → Pivot → List (Option Inside) → (List Mark → Type 0) → Type 0

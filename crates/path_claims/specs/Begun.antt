@@ -6,7 +6,8 @@ use Rattle.problem_core.specs.Layout.{Problem, Row}
 use Rattle.problem_core.specs.Unfit.{IsUnfitAt, over_mark}
 use Rattle.path_checker.specs.declared.table.Inside.{Inside}
 use Rattle.path_checker.specs.Walking.FirstLines.{AreFirstLines}
-use Rattle.path_checker.specs.Room.{ComesBefore, IsPartial}
+use Rattle.cert_core.specs.Stops.{IsPartial}
+use Rattle.path_checker.specs.Room.{ComesBefore}
 use Rattle.path_checker.specs.Route.{over_marks}
 use Rattle.path_checker.specs.Tables.{AreSized}
 use Rattle.path_claims.specs.declared.begins.Begun.{Begun}

@@ -7,7 +7,7 @@ use Rattle.problem_core.specs.Corners.{Swap}
 use Rattle.problem_core.specs.Changes.Paths.{IsSound}
 use Rattle.cert_core.specs.Paths.{Path}
 use Rattle.cert_core.specs.Stops.{AreNonnegativeBefore}
-use Rattle.path_checker.specs.PathClauses.{DoesNotFit, HoldToApart, IsCalledFor, IsSoundPath, row_of_terms}
+use Rattle.path_checker.specs.PathClauses.{EndsInUnfit, HoldToApart, IsCalledFor, IsSoundPath, row_of_terms}
 use Rattle.path_checker.specs.Room.{HasNoRoom}
 use Rattle.path_claims.specs.declared.along.Walked.{Walked}
 use Rattle.path_claims.specs.declared.journey.PathCase.{PathCase}
@@ -44,8 +44,8 @@ IsSoundLast case named at = IsSoundFrom case.path.now.dual case.p.now at
 
 -- how the quantity stands there, or where no quantity is shown
 abbrev pub IsFitFor : Problem → Path → Option Quantity → ℕ → Fit → Type 0
-IsFitFor p path unfit count Fits = DoesNotFit p path unfit → ⊥
-IsFitFor p path unfit count Unfit = DoesNotFit p path unfit
+IsFitFor p path unfit count Fits = EndsInUnfit p path unfit → ⊥
+IsFitFor p path unfit count Unfit = EndsInUnfit p path unfit
 IsFitFor p path unfit count NoRoom = HasNoRoom p path unfit count
 
 -- the clauses from 12 on

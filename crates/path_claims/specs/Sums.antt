@@ -95,9 +95,9 @@ pub record IsUnitSum (count at : ℕ) (value : Fraction) (sum : Sum) : Type 0 wh
   pub value_is : sum.value ≡ value
 
 -- the line is outside, or the value of its sum is in lowest terms and fits
-abbrev pub IsKeptLine : Option Inside → Type 0
-IsKeptLine None = Unit {0}
-IsKeptLine (Some inside) = IsKept inside.sum.value
+abbrev pub HasFittingValue : Option Inside → Type 0
+HasFittingValue None = Unit {0}
+HasFittingValue (Some inside) = IsKept inside.sum.value
 
 -- the line's inside mark does not fit
 abbrev pub IsUnfitLineAt : Problem → List Mark → RowName → Type 0

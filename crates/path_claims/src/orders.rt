@@ -11,7 +11,7 @@ ghost use Rattle.path_checker.specs.PathClauses.{row_of_terms};
 ghost use Rattle.path_claims.specs.Orders.{IsFirstOf, IsFitBefore, IsJudgedTo, IsPlaceOf, IsSizeOf, Precedes};
 
 use crate::last::Fit;
-use crate::last::fits::stay_of;
+use path_checker::stay_of;
 use problem_core::{
     FIRST_STAY_LEVEL, Level, Mark, Problem, Quantity, REQUIRED, Row, RowName, Side,
 };

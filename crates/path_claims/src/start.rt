@@ -11,7 +11,7 @@ ghost use Rattle.path_checker.specs.declared.verdict.PathVerdict.TheVariants.{No
 ghost use Rattle.path_checker.specs.declared.verdict.TheConstants.{SOUND_CLAUSE, UNFIT_CLAUSE};
 ghost use Rattle.path_claims.specs.Begun.{IsBegunUntil, IsWholeBegun};
 ghost use Rattle.path_levels.specs.Outlines.{IsOutline, IsSizedOutline};
-ghost use Rattle.path_levels.specs.Levels.{AreSizedLevels};
+ghost use Rattle.path_levels.specs.Levels.{IsSizedCorner};
 ghost use Rattle.path_claims.specs.Orders.{IsJudgedTo};
 ghost use Rattle.path_claims.specs.Starts.{AreUpTo, IsAtStart};
 
@@ -47,10 +47,7 @@ fn is_sound_there(
     levels: &[LevelSum],
     judged: usize,
 ) -> bool
-    requires outline { IsSizedOutline outline.now }
-    requires count { length lines.now ≡ length outline.now.lines.items }
-    requires levels { AreSizedLevels (length lines.now) levels.now }
-    requires level_count { length levels.now ≡ length outline.now.levels.items }
+    requires corner { IsSizedCorner outline.now lines.now levels.now }
     requires judged { judged ≤ length lines.now }
     ensures { (p : Problem) (row : Option ℕ) → IsWhole p → IsWholeBegun p outline.now lines.now levels.now
         → IsJudgedTo p row judged → IsTrue result ↔ AreSoundBefore dual p (over_marks p) [] row }

@@ -183,9 +183,11 @@ sized_facts : (levels : List LevelFacts) (l : Line) (f : LineFacts) → IsSmallL
 sized_facts levels l f small is =
     let low = low_weight l.rel l.weight small.weight in
     record {
-      under = small_number f.under (under_weight l.rel l.weight) is.under low.0;
-      over = small_number f.over (over_weight l.rel l.weight) is.over low.1;
-      scale = (let a = small.above in omega (arith, ints, is.scale, a), let b = small.scale in omega (arith, ints, is.scale, b));
+      priced = record {
+        under = small_number f.under (under_weight l.rel l.weight) is.under low.0;
+        over = small_number f.over (over_weight l.rel l.weight) is.over low.1;
+        scale = (let a = small.above in omega (arith, ints, is.scale, a), let b = small.scale in omega (arith, ints, is.scale, b));
+      };
       level = is.level;
     }
 

@@ -1,5 +1,5 @@
 -- What outside marks cost at the levels of a corner, by places.
-use Rattle.std.specs.Prelude.{◌≡◌, ℕ, suc, ◌*◌, ◌^◌, ◌/◌, ◌<◌, cond, nat_eq, List, length, ℤ, pos}
+use Rattle.std.specs.Prelude.{◌≡◌, ℕ, ◌*◌, ◌^◌, ◌<◌, cond, nat_eq, List, length, ℤ, pos}
 use Rattle.std.specs.Prelude.{◌+ℤ◌, ◌-ℤ◌, ◌<ℤ◌, unsigned_abs}
 use Rattle.problem_core.specs.declared.parts.Side.{Side}
 use Rattle.problem_core.specs.declared.parts.Side.TheVariants.{Under, Over}
@@ -11,19 +11,10 @@ use Rattle.path_checker.specs.Tables.{name_at}
 use Rattle.path_levels.specs.declared.outline.LineFacts.{LineFacts}
 use Rattle.path_levels.specs.declared.sums.LevelSum.{LevelSum}
 use Rattle.path_levels.specs.declared.columns.Units.{Units}
-use Rattle.path_levels.specs.Outlines.{IsSizedFacts}
+use Rattle.path_levels.specs.Shares.{share_of}
 use Rattle.path_levels.specs.Levels.{IsSizedLevel}
 
--- what a deviation on this side costs
-abbrev pub weight_of : Side → LineFacts → ℤ
-weight_of Under facts = facts.under
-weight_of Over facts = facts.over
-
--- what it counts at the line's level, where the level's cost is taken `unit` times
-abbrev pub share_of : Side → ℕ → LineFacts → ℕ
-share_of side unit facts = unit * unsigned_abs (weight_of side facts) / unsigned_abs facts.scale
-
--- the same `own` times, at the level at a place
+-- what a deviation on this side counts at the level at a place, whose cost is taken `own * unit` times
 abbrev pub counted : Side → (place unit own : ℕ) → LineFacts → ℕ
 counted side place unit own facts = cond (nat_eq facts.level place) (own * share_of side unit facts) 0
 
@@ -49,10 +40,6 @@ pub record IsNegativeFirst (count : ℕ) (costs : ℕ → ℤ) : Type 0 where
   pub below : costs place <ℤ pos 0
 
 -- ---- sizes
-
--- the costs and the scale of the line have their sizes
-abbrev pub IsPriced : LineFacts → Type 0
-IsPriced facts = IsSizedFacts (suc facts.level) facts
 
 -- before it is divided, after an exchange, a row's scale is below this in size
 abbrev pub AreSmall : Units → Type 0

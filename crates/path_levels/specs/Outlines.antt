@@ -43,10 +43,14 @@ pub record IsOutline (p : Problem) (outline : Outline) : Type 0 where
 -- ---- what is kept without a problem
 
 -- a cost is from 0 to the greatest weight, a scale from 1 to the greatest one
-pub record IsSizedFacts (levels : ℕ) (facts : LineFacts) : Type 0 where
+pub record IsPriced (facts : LineFacts) : Type 0 where
   pub under : (pos 0 ≤ℤ facts.under) × (facts.under ≤ℤ pos WEIGHT_LIMIT)
   pub over : (pos 0 ≤ℤ facts.over) × (facts.over ≤ℤ pos WEIGHT_LIMIT)
   pub scale : (pos 0 <ℤ facts.scale) × (facts.scale ≤ℤ pos COEFFICIENT_LIMIT)
+
+-- and the line's level is one of so many
+pub record IsSizedFacts (levels : ℕ) (facts : LineFacts) : Type 0 where
+  pub priced : IsPriced facts
   pub level : facts.level < levels
 
 -- so it is with each line of the outline, and its level is one of the outline's

@@ -1,20 +1,13 @@
 -- What a line counts in a level's row, by what is kept of it.
-use Rattle.std.specs.Prelude.{ℕ, ◌*◌, ◌/◌, cond, nat_eq, ℤ, pos, ◌-ℤ◌, ◌+ℤ◌, ◌*ℤ◌, ◌<ℤ◌, ◌≤ℤ◌, neg_ℤ}
+use Rattle.std.specs.Prelude.{ℕ, ◌*◌, ◌/◌, cond, nat_eq, ℤ, pos, ◌-ℤ◌, ◌+ℤ◌, ◌*ℤ◌, ◌<ℤ◌, neg_ℤ}
 use Rattle.std.specs.Prelude.{unsigned_abs, Option, None, Some}
 use Rattle.frac_core.specs.Fraction.{IsFitting}
-use Rattle.problem_core.specs.declared.limits.TheConstants.{COEFFICIENT_LIMIT, WEIGHT_LIMIT}
 use Rattle.problem_core.specs.declared.parts.Side.{Side}
 use Rattle.problem_core.specs.declared.parts.Side.TheVariants.{Under, Over}
 use Rattle.path_checker.specs.declared.exchange.Pivot.{Pivot}
 use Rattle.path_checker.specs.Numbers.{number_at}
 use Rattle.path_levels.specs.declared.outline.LineFacts.{LineFacts}
 use Rattle.path_levels.specs.declared.sums.LevelSum.{LevelSum}
-
--- a cost is from 0 to the greatest weight, a scale from 1 to the greatest one
-pub record IsSmallFacts (facts : LineFacts) : Type 0 where
-  pub under : (pos 0 ≤ℤ facts.under) × (facts.under ≤ℤ pos WEIGHT_LIMIT)
-  pub over : (pos 0 ≤ℤ facts.over) × (facts.over ≤ℤ pos WEIGHT_LIMIT)
-  pub scale : (pos 0 <ℤ facts.scale) × (facts.scale ≤ℤ pos COEFFICIENT_LIMIT)
 
 -- the unit and the row's own number are above 0, and their product fits
 pub record IsScaled (sum : LevelSum) : Type 0 where
@@ -27,14 +20,17 @@ abbrev pub weight_on : Side → LineFacts → ℤ
 weight_on Under facts = facts.under
 weight_on Over facts = facts.over
 
--- what a deviation on this side counts in units of the level at the place
-abbrev pub share_of : LineFacts → Side → ℕ → ℤ → ℕ
-share_of facts side place unit = cond (nat_eq facts.level place)
-    (unsigned_abs unit * unsigned_abs (weight_on side facts) / unsigned_abs facts.scale) 0
+-- what it counts at the line's level, where the level's cost is taken `unit` times
+abbrev pub share_of : Side → ℕ → LineFacts → ℕ
+share_of side unit facts = unit * unsigned_abs (weight_on side facts) / unsigned_abs facts.scale
+
+-- what it counts at the level at the place
+abbrev pub share_at : LineFacts → Side → ℕ → ℤ → ℕ
+share_at facts side place unit = cond (nat_eq facts.level place) (share_of side (unsigned_abs unit) facts) 0
 
 -- the same, times the own number of the level's row
 abbrev pub counted_of : LineFacts → Side → ℕ → LevelSum → ℕ
-counted_of facts side place sum = unsigned_abs sum.own * share_of facts side place sum.unit
+counted_of facts side place sum = unsigned_abs sum.own * share_at facts side place sum.unit
 
 -- the line's number in the level's row where its mark of this side is inside
 abbrev pub stood_of : LineFacts → Side → ℕ → LevelSum → ℤ

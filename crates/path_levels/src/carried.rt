@@ -1,26 +1,25 @@
 // A level's row after an exchange, before it is divided.
 ghost use Rattle.std.specs.Prelude.{◌≡◌, ◌<◌, ◌^◌, ◌*ℤ◌, ◌+ℤ◌, ◌<ℤ◌, pos, length, unsigned_abs};
-ghost use Rattle.std.specs.Prelude.{All, IfOk, IfErr};
+ghost use Rattle.std.specs.Prelude.{All, IfOk};
 ghost use Rattle.std.specs.Int.{◌∣◌};
 ghost use Rattle.frac_core.specs.Fraction.{IsFitting};
 ghost use Rattle.path_checker.specs.Numbers.{IsFactor, number_at as in_list};
-ghost use Rattle.frac_core.specs.declared.memory.Stop.TheVariants as stops;
-ghost use Rattle.path_levels.specs.Outlines.{IsSizedOutline};
+ghost use Rattle.path_levels.specs.Outlines.{IsPriced, IsSizedOutline};
 ghost use Rattle.path_levels.specs.Levels.{IsSizedLevel};
-ghost use Rattle.path_levels.specs.Shares.{IsScaled, IsSmallFacts, before_of, entering_of, stood_of};
+ghost use Rattle.path_levels.specs.Shares.{IsScaled, before_of, entering_of, stood_of};
 ghost use Rattle.path_levels.specs.Exchanges.Carried.{AreSharing, IsCarriedBy, IsCommonOf};
 ghost use Rattle.path_levels.specs.Exchanges.Pivots.{IsNextMultiple, IsSizedPivot, IsWideLevel};
 
 use crate::outline::{LineFacts, Outline};
 use crate::shares::stood_number;
 use crate::sums::LevelSum;
-use frac_core::gcd;
-use path_checker::{Pivot, SumStop, Wide, combined};
+use frac_core::{OutOfMemory, gcd};
+use path_checker::{Pivot, Wide, combined};
 use std::alloc::Global;
 
 // The entering line's number in the level's row before the exchange.
 fn number_before(line: &LineFacts, pivot: &Pivot, place: usize, sum: &LevelSum) -> i64
-    requires line { IsSmallFacts line.now }
+    requires line { IsPriced line.now }
     requires sum { IsScaled sum.now }
     requires enter { pivot.now.step.enter.at < length sum.now.by.items }
     requires fits { All IsFitting sum.now.by.items }
@@ -35,7 +34,7 @@ fn number_before(line: &LineFacts, pivot: &Pivot, place: usize, sum: &LevelSum) 
 
 /// The same less what the line counts from now on.
 pub fn entering_number(line: &LineFacts, pivot: &Pivot, place: usize, sum: &LevelSum) -> i64
-    requires line { IsSmallFacts line.now }
+    requires line { IsPriced line.now }
     requires sum { IsScaled sum.now }
     requires enter { pivot.now.step.enter.at < length sum.now.by.items }
     requires fits { All IsFitting sum.now.by.items }
@@ -106,7 +105,7 @@ fn leaving_number(
     sum: &LevelSum,
     factors: Factors,
 ) -> i128
-    requires line { IsSmallFacts line.now }
+    requires line { IsPriced line.now }
     requires sum { IsScaled sum.now }
     requires leave { pivot.now.step.leave.at < length pivot.now.by.items }
     requires fits { All IsFitting pivot.now.by.items }
@@ -128,7 +127,7 @@ fn put_together(
     sum: &LevelSum,
     factors: Factors,
     leaving: i128,
-) -> Result<Wide, SumStop>
+) -> Result<Wide, OutOfMemory>
     requires pivot { IsSizedPivot (length sum.now.by.items) pivot.now }
     requires sum { IsSizedLevel (length sum.now.by.items) sum.now }
     requires above { pos 0 <ℤ factors.row }
@@ -137,7 +136,6 @@ fn put_together(
     requires leaving { unsigned_abs leaving < 2 ^ 96 }
     ensures sized { IfOk result (IsWideLevel (length sum.now.by.items) sum.now.unit) }
     ensures carried { IfOk result (IsCarriedBy pivot.now sum.now factors leaving) }
-    ensures memory { IfErr result (λ stop. stop ≡ stops.OutOfMemory) }
 {
     let (row, factor) = (i128::from(factors.row), i128::from(factors.pivot));
     let mut by = combined(alloc, row, &sum.by, factor, &pivot.by)?;
@@ -154,14 +152,13 @@ pub fn next_level_numbers(
     pivot: &Pivot,
     place: usize,
     sum: &LevelSum,
-) -> Result<Wide, SumStop>
+) -> Result<Wide, OutOfMemory>
     requires outline { IsSizedOutline outline.now }
     requires pivot { IsSizedPivot (length outline.now.lines.items) pivot.now }
     requires place { place < length outline.now.levels.items }
     requires sum { IsSizedLevel (length outline.now.lines.items) sum.now }
     ensures sized { IfOk result (IsWideLevel (length outline.now.lines.items) sum.now.unit) }
     ensures next { IfOk result (IsNextMultiple outline.now pivot.now place sum.now) }
-    ensures memory { IfErr result (λ stop. stop ≡ stops.OutOfMemory) }
 {
     let n = entering_number(&outline.lines[pivot.step.enter.at], pivot, place, sum);
     let factors = factors_of(pivot.size, n);

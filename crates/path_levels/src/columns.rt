@@ -4,15 +4,16 @@ ghost use Rattle.std.specs.Prelude.{◌≡◌, ◌↔◌, ◌<◌, ◌^◌, ◌<
 ghost use Rattle.std.specs.Prelude.{IsTrue, [], false};
 ghost use Rattle.problem_core.specs.Corners.{HasNegativeColumn, NoNegativeColumn};
 ghost use Rattle.path_checker.specs.Tables.{mark_of};
-ghost use Rattle.path_levels.specs.Outlines.{IsSizedOutline};
-ghost use Rattle.path_levels.specs.Levels.{AreSizedLevels, IsSizedLevel};
-ghost use Rattle.path_levels.specs.Costs.{AreSmall, HasLine, HasNegative, IsNegativeFirst, IsPriced};
+ghost use Rattle.path_levels.specs.Outlines.{IsPriced};
+ghost use Rattle.path_levels.specs.Levels.{IsSizedCorner, IsSizedLevel};
+ghost use Rattle.path_levels.specs.Costs.{AreSmall, HasLine, HasNegative, IsNegativeFirst};
 ghost use Rattle.path_levels.specs.Costs.{cost_in, cost_of, counted as counted_at, reduced_by};
-ghost use Rattle.path_levels.specs.Costs.{share_of, weight_of};
+ghost use Rattle.path_levels.specs.Shares.{share_of};
 ghost use Rattle.path_levels.specs.declared.sums.LevelSum.{LevelSum as KeptSum};
 ghost use Rattle.path_levels.specs.Kept.{WithLevels};
 
 use crate::outline::{LineFacts, Outline};
+use crate::shares::weight_on;
 use crate::sums::LevelSum;
 use path_checker::{Inside, Spot};
 use problem_core::Side;
@@ -24,22 +25,12 @@ pub(crate) struct Units {
     pub own: u128,
 }
 
-// What a deviation of the line on this side costs.
-fn weight(facts: &LineFacts, side: Side) -> i64
-    ensures { result ≡ weight_of side facts.now }
-{
-    match side {
-        Side::Under => facts.under,
-        Side::Over => facts.over,
-    }
-}
-
-// What it counts at the line's level.
+// What a deviation of the line on this side counts at the line's level.
 fn share(facts: &LineFacts, side: Side, unit: i64) -> u128
     requires { pos 0 <ℤ facts.now.scale }
     ensures { result ≡ share_of side (unsigned_abs unit) facts.now }
 {
-    let weight = u128::from(weight(facts, side).unsigned_abs());
+    let weight = u128::from(weight_on(facts, side).unsigned_abs());
     u128::from(unit.unsigned_abs()) * weight / u128::from(facts.scale.unsigned_abs())
 }
 
@@ -119,10 +110,7 @@ pub fn is_negative_column(
     levels: &[LevelSum],
     spot: Spot,
 ) -> bool
-    requires outline { IsSizedOutline outline.now }
-    requires count { length lines.now ≡ length outline.now.lines.items }
-    requires levels { AreSizedLevels (length lines.now) levels.now }
-    requires level_count { length levels.now ≡ length outline.now.levels.items }
+    requires corner { IsSizedCorner outline.now lines.now levels.now }
     requires spot { spot.at < length lines.now }
     ensures { WithLevels outline.now lines.now levels.now
         (λ p at. IsTrue result ↔ HasNegativeColumn p at (mark_of p spot)) }
@@ -140,10 +128,7 @@ fn has_negative_column(
     levels: &[LevelSum],
     at: usize,
 ) -> bool
-    requires outline { IsSizedOutline outline.now }
-    requires count { length lines.now ≡ length outline.now.lines.items }
-    requires levels { AreSizedLevels (length lines.now) levels.now }
-    requires level_count { length levels.now ≡ length outline.now.levels.items }
+    requires corner { IsSizedCorner outline.now lines.now levels.now }
     requires at { at < length lines.now }
     ensures { WithLevels outline.now lines.now levels.now
         (λ p marks. IsTrue result ↔ HasNegative p marks at) }
@@ -159,10 +144,7 @@ pub fn has_no_negative_column(
     lines: &[Option<Inside>],
     levels: &[LevelSum],
 ) -> bool
-    requires outline { IsSizedOutline outline.now }
-    requires count { length lines.now ≡ length outline.now.lines.items }
-    requires levels { AreSizedLevels (length lines.now) levels.now }
-    requires level_count { length levels.now ≡ length outline.now.levels.items }
+    requires { IsSizedCorner outline.now lines.now levels.now }
     ensures { WithLevels outline.now lines.now levels.now (λ p at. IsTrue result ↔ NoNegativeColumn p at) }
 {
     for at in 0..lines.len() {

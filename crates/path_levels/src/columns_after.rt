@@ -5,9 +5,9 @@ ghost use Rattle.problem_core.specs.Corners.{IsIn, NoNegativeColumn, place_of};
 ghost use Rattle.corner_lines.specs.LineEquations.{IsOutsideLine};
 ghost use Rattle.path_checker.specs.Sides.{IsWithin};
 ghost use Rattle.path_checker.specs.Tables.{AreSized, name_at};
-ghost use Rattle.path_levels.specs.Outlines.{IsSizedOutline};
+ghost use Rattle.path_levels.specs.Outlines.{IsPriced, IsSizedOutline};
 ghost use Rattle.path_levels.specs.Levels.{AreSizedLevels};
-ghost use Rattle.path_levels.specs.Costs.{HasNegative, IsNegativeFirst, IsPriced};
+ghost use Rattle.path_levels.specs.Costs.{HasNegative, IsNegativeFirst};
 ghost use Rattle.path_levels.specs.Exchanges.Pivots.{IsSizedPivot};
 ghost use Rattle.path_levels.specs.Exchanges.WideCosts.{AreWideAt, HasWideLine, IsSizedWide, IsWideNegative};
 ghost use Rattle.path_levels.specs.Exchanges.WideCosts.{AreNextWide, wide_cost};
@@ -55,9 +55,7 @@ fn wide_levels(
 {
     let mut out = Vec::with_capacity(alloc, levels.len())?;
     for (place, sum) in levels.iter().enumerate() {
-        let Ok(wide) = next_level_numbers(alloc, outline, pivot, place, sum) else {
-            return Err(OutOfMemory);
-        };
+        let wide = next_level_numbers(alloc, outline, pivot, place, sum)?;
         out.push(wide_level(sum.unit, wide))?;
     }
     Ok(out)

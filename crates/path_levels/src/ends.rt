@@ -8,10 +8,10 @@ ghost use Rattle.problem_core.specs.Changes.Paths.{IsEndOf, IsSound, MaySwap, No
 ghost use Rattle.problem_core.specs.declared.parts.Mark.{Mark};
 ghost use Rattle.path_checker.specs.Sides.{IsWithin};
 ghost use Rattle.path_checker.specs.Tables.{swap_of};
-ghost use Rattle.path_levels.specs.Outlines.{IsSizedOutline};
-ghost use Rattle.path_levels.specs.Levels.{AreLevels, AreSizedLevels, IsSizedLevel};
+ghost use Rattle.path_levels.specs.Outlines.{IsPriced, IsSizedOutline};
+ghost use Rattle.path_levels.specs.Levels.{AreLevels, IsSizedCorner, IsSizedLevel};
 ghost use Rattle.path_levels.specs.Rows.{AreKept};
-ghost use Rattle.path_levels.specs.Costs.{HasLine, IsPriced, cost_in};
+ghost use Rattle.path_levels.specs.Costs.{HasLine, cost_in};
 ghost use Rattle.path_levels.specs.Required.{HasRequired, IsBelow};
 ghost use Rattle.path_checker.specs.declared.table.Inside.{Inside as Kept};
 ghost use Rattle.path_levels.specs.Kept.{WithFirstRow, WithLevels};
@@ -112,10 +112,7 @@ fn has_no_negative_required(outline: &Outline, lines: &[Option<Inside>], sum: &L
 
 // Whether the required rows cost, and no mark costs less than nothing at their level.
 fn is_refuted(outline: &Outline, lines: &[Option<Inside>], levels: &[LevelSum]) -> bool
-    requires outline { IsSizedOutline outline.now }
-    requires count { length lines.now ≡ length outline.now.lines.items }
-    requires levels { AreSizedLevels (length lines.now) levels.now }
-    requires level_count { length levels.now ≡ length outline.now.levels.items }
+    requires { IsSizedCorner outline.now lines.now levels.now }
     ensures { WithLevels outline.now lines.now levels.now
         (λ p at. IsTrue result ↔ (CostsAbove p at 0 × NoNegativeRequired p at)) }
 {
@@ -132,10 +129,7 @@ pub fn is_sound(
     lines: &[Option<Inside>],
     levels: &[LevelSum],
 ) -> bool
-    requires outline { IsSizedOutline outline.now }
-    requires count { length lines.now ≡ length outline.now.lines.items }
-    requires levels { AreSizedLevels (length lines.now) levels.now }
-    requires level_count { length levels.now ≡ length outline.now.levels.items }
+    requires { IsSizedCorner outline.now lines.now levels.now }
     ensures { WithLevels outline.now lines.now levels.now (λ p at. IsTrue result ↔ IsSound dual p at) }
 {
     if dual {
@@ -147,10 +141,7 @@ pub fn is_sound(
 
 /// Whether a path may end at the corner.
 pub fn is_end(dual: bool, outline: &Outline, lines: &[Option<Inside>], levels: &[LevelSum]) -> bool
-    requires outline { IsSizedOutline outline.now }
-    requires count { length lines.now ≡ length outline.now.lines.items }
-    requires levels { AreSizedLevels (length lines.now) levels.now }
-    requires level_count { length levels.now ≡ length outline.now.levels.items }
+    requires { IsSizedCorner outline.now lines.now levels.now }
     ensures { WithLevels outline.now lines.now levels.now (λ p at. IsTrue result ↔ IsEndOf dual p at) }
 {
     if dual {
@@ -169,10 +160,7 @@ pub fn may_swap(
     levels: &[LevelSum],
     step: Step,
 ) -> bool
-    requires outline { IsSizedOutline outline.now }
-    requires count { length lines.now ≡ length outline.now.lines.items }
-    requires levels { AreSizedLevels (length lines.now) levels.now }
-    requires level_count { length levels.now ≡ length outline.now.levels.items }
+    requires corner { IsSizedCorner outline.now lines.now levels.now }
     requires step { IsWithin (length lines.now) step }
     ensures { WithLevels outline.now lines.now levels.now (λ p at. IsExchange p at (swap_of p step)
         → IsTrue result ↔ MaySwap dual p at (swap_of p step)) }

@@ -1,12 +1,11 @@
 // A line that joins the row of its level.
 ghost use Rattle.std.specs.Prelude.{◌≡◌, ◌*◌, ◌/◌, ◌<◌, ◌≤◌, ◌^◌, pos, ◌*ℤ◌, ◌<ℤ◌, ◌≤ℤ◌};
-ghost use Rattle.std.specs.Prelude.{ℕ, ◌+ℤ◌, ◌-ℤ◌, ◌↔◌, All, IsTrue, unsigned_abs, length, IfOk, IfErr};
+ghost use Rattle.std.specs.Prelude.{◌+ℤ◌, ◌-ℤ◌, ◌↔◌, All, IsTrue, unsigned_abs, length, IfOk, IfErr};
 ghost use Rattle.frac_core.specs.Stops.{IsRefused};
 ghost use Rattle.frac_core.specs.Fraction.{IsFitting};
 ghost use Rattle.path_checker.specs.Numbers.{IsCombined, IsFactor};
 ghost use Rattle.path_checker.specs.Tables.{IsSized, IsSizedLine};
-ghost use Rattle.frac_core.specs.declared.memory.Stop.TheVariants.{OutOfMemory};
-ghost use Rattle.path_levels.specs.Outlines.{IsSizedFacts};
+ghost use Rattle.path_levels.specs.Outlines.{IsPriced};
 ghost use Rattle.path_levels.specs.Levels.{IsSizedLevel};
 ghost use Rattle.path_levels.specs.Joins.{HasNoDraft, IsDraft, IsJoinedCost, IsJoinedList, IsRise};
 ghost use Rattle.path_levels.specs.Joins.{AreFittingCosts, AreFittingTo, IsFittingAt, IsFittingTo};
@@ -19,7 +18,7 @@ ghost use Rattle.problem_core.specs.declared.parts.Side.TheVariants.{Under, Over
 use crate::carried;
 use crate::outline::{LineFacts, Outline};
 use crate::sums::LevelSum;
-use frac_core::{Frac, PART_BOUND, common_divisor};
+use frac_core::{Frac, OutOfMemory, PART_BOUND, common_divisor};
 use path_checker::{Inside, Lowest, SumStop, Wide, combined, in_lowest_terms};
 use problem_core::Side;
 use std::alloc::Global;
@@ -100,7 +99,7 @@ fn count(unit: i128, own: i64, cost: i64, scale: i64) -> i128
 
 // What the line's deviation counts in the level's row where this mark is inside, with the other sign.
 fn counted(side: Side, line: LineFacts, unit: i128, own: i64) -> i128
-    requires facts { (levels : ℕ) × IsSizedFacts levels line }
+    requires facts { IsPriced line }
     requires unit { pos 0 <ℤ unit }
     requires own { pos 0 <ℤ own }
     requires scale { unsigned_abs (own *ℤ unit) < 2 ^ 72 }
@@ -114,13 +113,12 @@ fn counted(side: Side, line: LineFacts, unit: i128, own: i64) -> i128
 }
 
 // The numbers of a level in the new unit.
-fn grown(alloc: Global, old: &LevelSum, times: i64) -> Result<Wide, SumStop>
+fn grown(alloc: Global, old: &LevelSum, times: i64) -> Result<Wide, OutOfMemory>
     requires old { IsSizedLevel (length old.now.by.items) old.now }
     requires above { pos 0 <ℤ times }
     requires times { unsigned_abs times ≤ COEFFICIENT_LIMIT }
     ensures own { IfOk result (λ w. w.own ≡ old.now.own) }
     ensures by { IfOk result (λ w. IsCombined times old.now.by.items (pos 0) old.now.by.items w.by.items) }
-    ensures memory { IfErr result (λ stop. stop ≡ OutOfMemory) }
 {
     Ok(Wide {
         own: i128::from(old.own),
@@ -135,15 +133,14 @@ fn with_sum(
     times: i64,
     line: LineFacts,
     inside: &Inside,
-) -> Result<Wide, SumStop>
+) -> Result<Wide, OutOfMemory>
     requires old { IsSizedLevel (length old.now.by.items) old.now }
     requires above { pos 0 <ℤ times }
     requires times { unsigned_abs times ≤ COEFFICIENT_LIMIT }
-    requires facts { (levels : ℕ) × IsSizedFacts levels line }
+    requires facts { IsPriced line }
     requires inside { IsSized (length old.now.by.items) inside.now.sum }
     ensures own { IfOk result (λ w. w.own ≡ inside.now.sum.own *ℤ old.now.own) }
     ensures by { IfOk result (IsJoinedWide old.now line inside.now times) }
-    ensures memory { IfErr result (λ stop. stop ≡ OutOfMemory) }
 {
     let unit = carried::product(times, old.unit);
     let number = counted(inside.side, line, unit, old.own);
@@ -161,16 +158,15 @@ fn joined_numbers(
     times: i64,
     line: LineFacts,
     kept: &Option<Inside>,
-) -> Result<Wide, SumStop>
+) -> Result<Wide, OutOfMemory>
     requires old { IsSizedLevel (length old.now.by.items) old.now }
     requires above { pos 0 <ℤ times }
     requires times { unsigned_abs times ≤ COEFFICIENT_LIMIT }
-    requires facts { (levels : ℕ) × IsSizedFacts levels line }
+    requires facts { IsPriced line }
     requires kept { IsSizedLine (length old.now.by.items) kept.now }
     ensures list { IfOk result
         (λ w. IsJoinedList old.now line kept.now (unsigned_abs times) w.own w.by.items) }
     ensures above { IfOk result (λ w. pos 0 <ℤ w.own) }
-    ensures memory { IfErr result (λ stop. stop ≡ OutOfMemory) }
 {
     match kept {
         Some(inside) => with_sum(alloc, old, times, line, inside),
@@ -180,7 +176,7 @@ fn joined_numbers(
 
 // What the line's deviation costs where this mark is inside.
 fn cost_of(side: Side, line: LineFacts) -> i64
-    requires { (levels : ℕ) × IsSizedFacts levels line }
+    requires { IsPriced line }
     ensures value { result ≡ cost_number side line }
     ensures fits { IsFitting result }
 {
@@ -192,7 +188,7 @@ fn cost_of(side: Side, line: LineFacts) -> i64
 
 // The cost with a deviation of the line.
 fn joined_cost(old: Frac, line: LineFacts, kept: &Option<Inside>) -> Result<Frac, SumStop>
-    requires facts { (levels : ℕ) × IsSizedFacts levels line }
+    requires facts { IsPriced line }
     ensures ok { IfOk result (IsJoinedCost old line kept.now) }
     ensures unfit { IfErr result (λ stop. IsRefused stop → IsUnfitJoinedCost old line kept.now) }
 {
@@ -230,7 +226,7 @@ pub(crate) fn joined(
     kept: &Option<Inside>,
 ) -> Result<Draft, SumStop>
     requires old { IsSizedLevel (length old.now.by.items) old.now }
-    requires facts { (levels : ℕ) × IsSizedFacts levels line }
+    requires facts { IsPriced line }
     requires kept { IsSizedLine (length old.now.by.items) kept.now }
     ensures ok { IfOk result (IsDraft old.now line kept.now) }
     ensures unfit { IfErr result (λ stop. IsRefused stop → HasNoDraft old.now line kept.now) }
@@ -280,7 +276,7 @@ fn are_both_fitting(under: i128, over: i128, number: i64) -> bool
 
 // Whether both reduced costs of the line fit, where it has this number if it is outside.
 fn are_fitting(line: LineFacts, kept: &Option<Inside>, unit: i128, own: i64, number: i64) -> bool
-    requires facts { (levels : ℕ) × IsSizedFacts levels line }
+    requires facts { IsPriced line }
     requires unit { pos 0 <ℤ unit }
     requires own { pos 0 <ℤ own }
     requires small { unsigned_abs (own *ℤ unit) < 2 ^ 72 }

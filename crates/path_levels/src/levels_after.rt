@@ -7,10 +7,10 @@ ghost use Rattle.frac_core.specs.Fraction.{IsFitting};
 ghost use Rattle.path_checker.specs.Numbers.{IsFactor};
 ghost use Rattle.path_checker.specs.Sides.{IsWithin};
 ghost use Rattle.path_checker.specs.Tables.{AreSized};
-ghost use Rattle.path_levels.specs.Outlines.{IsSizedOutline};
+ghost use Rattle.path_levels.specs.Outlines.{IsPriced, IsSizedOutline};
 ghost use Rattle.path_levels.specs.Levels.{AreLevels, AreSizedLevels, HasUnfitLevel};
 ghost use Rattle.path_levels.specs.Levels.{HasNoSumAt, IsSizedLevel, IsSumAt};
-ghost use Rattle.path_levels.specs.Shares.{IsScaled, IsSmallFacts, entering_of, shown_of};
+ghost use Rattle.path_levels.specs.Shares.{IsScaled, entering_of, shown_of};
 ghost use Rattle.path_levels.specs.Exchanges.Pivots.{IsSizedPivot};
 ghost use Rattle.path_levels.specs.Exchanges.FitsAfter.{IsCostStop, IsFitLevel, IsFitLine, IsMadeLevel};
 ghost use Rattle.path_levels.specs.Exchanges.FitsAfter.{IsMovedCost};
@@ -58,7 +58,7 @@ fn shown_number(
     sum: &LevelSum,
     number: i64,
 ) -> i64
-    requires line { IsSmallFacts line.now }
+    requires line { IsPriced line.now }
     requires sum { IsScaled sum.now }
     requires number { IsFitting number }
     ensures value { result ≡ shown_of line.now inside place sum.now number }
@@ -78,7 +78,7 @@ fn line_fits(
     sum: &LevelSum,
     number: i64,
 ) -> bool
-    requires line { IsSmallFacts line.now }
+    requires line { IsPriced line.now }
     requires sum { IsScaled sum.now }
     requires number { IsFitting number }
     ensures { IsTrue result ↔ IsFitLine line.now inside place sum.now number }
@@ -159,7 +159,7 @@ fn cost_after(
     place: usize,
     sum: &LevelSum,
 ) -> Result<Frac, SumStop>
-    requires line { IsSmallFacts line.now }
+    requires line { IsPriced line.now }
     requires pivot { IsSizedPivot (length sum.now.by.items) pivot.now }
     requires sum { IsSizedLevel (length sum.now.by.items) sum.now }
     ensures cost { IfOk result

@@ -1,14 +1,14 @@
 // A value that moves by a multiple of another one.
 ghost use Rattle.std.specs.Prelude.{◌≡◌, ◌<◌, ◌≤◌, ◌^◌, ◌+ℤ◌, ◌*ℤ◌, ◌<ℤ◌, pos, unsigned_abs, IfOk, OnErr};
 ghost use Rattle.frac_core.specs.declared.frac.TheConstants.{PART_BOUND};
-ghost use Rattle.std.specs.Int.{◌∣◌, IsGcd};
+ghost use Rattle.std.specs.Int.{IsGcd};
 ghost use Rattle.frac_core.specs.Fraction.{IsKept, IsRatio, IsUnfitRatio, sum_den, sum_num};
 ghost use Rattle.path_checker.specs.Numbers.{IsFactor};
 ghost use Rattle.path_levels.specs.Exchanges.Moved.{IsLowestPart, joint_den, joint_num};
 ghost use Rattle.path_levels.specs.declared.moved.TheConstants.{NUM_ROOM};
 
 use frac_core::{Frac, PART_BOUND, Unfit, gcd};
-use path_checker::Ratio;
+use path_checker::{Ratio, quotient};
 
 // A fraction in lowest terms.
 #[derive(Clone, Copy, Debug)]
@@ -19,18 +19,6 @@ struct Portion {
 
 // What the numerator of the difference of two fitting fractions is at most.
 const NUM_ROOM: u128 = 2 * (PART_BOUND - 1) * (PART_BOUND - 1);
-
-// The exact quotient.
-fn quotient(number: i128, divisor: i128) -> i128
-    requires above { pos 0 <ℤ divisor }
-    requires divides { unsigned_abs divisor ∣ unsigned_abs number }
-    ensures { divisor *ℤ result ≡ number }
-{
-    if divisor == 1 {
-        return number;
-    }
-    number / divisor
-}
 
 // The greatest common divisor of a number and one above 0.
 fn common(number: i128, whole: i128) -> i128

@@ -1,25 +1,28 @@
 // The pivot of an exchange at a corner, of two lines or of the two marks of one.
-ghost use Rattle.std.specs.Prelude.{◌≡◌, ◌≢◌, ◌<◌, ◌↔◌, pos, length, set, true};
-ghost use Rattle.std.specs.Prelude.{IfOk, IfErr, IsTrue};
+ghost use Rattle.std.specs.Prelude.{◌≡◌, ◌≢◌, ◌<◌, pos, length, set, true};
+ghost use Rattle.std.specs.Prelude.{IfOk, IfErr};
 ghost use Rattle.problem_core.specs.Corners.{IsExchange};
 ghost use Rattle.path_checker.specs.Numbers.{number_at};
 ghost use Rattle.path_checker.specs.Exchanges.Pivots.{IsSolvedFrom};
 ghost use Rattle.path_checker.specs.Sides.{IsWithin};
 ghost use Rattle.path_checker.specs.Tables.{AreSized, IsSized, swap_of};
 ghost use Rattle.frac_core.specs.Stops.{IsRefused};
-ghost use Rattle.frac_core.specs.declared.memory.Stop.TheVariants as stops;
 ghost use Rattle.path_levels.specs.Exchanges.Pivots.{IsExchangePivot, IsSizedPivot, IsTurnedFrom};
 ghost use Rattle.path_levels.specs.Kept.{WithLines};
 
-use frac_core::{Stop, Unfit};
-use path_checker::{Inside, Pivot, Step, Sum, SumStop, solving};
+use frac_core::{OutOfMemory, Stop, Unfit};
+use path_checker::{Inside, Pivot, Step, Sum, SumStop, solving, stands};
 use std::alloc::Global;
 
 // The list with another number at the place.
-fn with_number(alloc: Global, numbers: &[i64], at: usize, number: i64) -> Result<Vec<i64>, SumStop>
+fn with_number(
+    alloc: Global,
+    numbers: &[i64],
+    at: usize,
+    number: i64,
+) -> Result<Vec<i64>, OutOfMemory>
     requires { at < length numbers.now }
-    ensures value { IfOk result (λ out. out.items ≡ set numbers.now at number) }
-    ensures memory { IfErr result (λ stop. stop ≡ stops.OutOfMemory) }
+    ensures { IfOk result (λ out. out.items ≡ set numbers.now at number) }
 {
     let mut out = Vec::with_capacity(alloc, numbers.len())?;
     out.extend_from_slice(numbers)?;
@@ -28,11 +31,10 @@ fn with_number(alloc: Global, numbers: &[i64], at: usize, number: i64) -> Result
 }
 
 // The pivot of an exchange of the two marks of one line: the line's own equation.
-fn turning(alloc: Global, sum: &Sum, step: Step) -> Result<Pivot, SumStop>
+fn turning(alloc: Global, sum: &Sum, step: Step) -> Result<Pivot, OutOfMemory>
     requires enter { step.enter.at < length sum.now.by.items }
     requires sized { IsSized (length sum.now.by.items) sum.now }
-    ensures turned { IfOk result (IsTurnedFrom sum.now step) }
-    ensures memory { IfErr result (λ stop. stop ≡ stops.OutOfMemory) }
+    ensures { IfOk result (IsTurnedFrom sum.now step) }
 {
     let by = with_number(alloc, &sum.by, step.enter.at, -sum.own)?;
     Ok(Pivot {
@@ -45,14 +47,6 @@ fn turning(alloc: Global, sum: &Sum, step: Step) -> Result<Pivot, SumStop>
     })
 }
 
-// Whether the number at the place is not 0.
-fn stands(by: &[i64], at: usize) -> bool
-    requires { at < length by.now }
-    ensures { IsTrue result ↔ (number_at by.now at ≢ pos 0) }
-{
-    by[at] != 0
-}
-
 // The pivot of an exchange with the leaving line's sum.
 fn pivot_from(alloc: Global, sum: &Sum, step: Step) -> Result<Pivot, SumStop>
     requires enter { step.enter.at < length sum.now.by.items }
@@ -63,12 +57,12 @@ fn pivot_from(alloc: Global, sum: &Sum, step: Step) -> Result<Pivot, SumStop>
         × (number_at sum.now.by.items step.enter.at ≡ pos 0)) }
 {
     if step.enter.at == step.leave.at {
-        return turning(alloc, sum, step);
+        return Ok(turning(alloc, sum, step)?);
     }
     if !stands(&sum.by, step.enter.at) {
         return Err(Stop::Refused(Unfit));
     }
-    solving(alloc, sum, step)
+    Ok(solving(alloc, sum, step)?)
 }
 
 /// The pivot of an exchange, of two lines or of the two marks of one. Unfit where it is none.

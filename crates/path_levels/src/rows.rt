@@ -25,7 +25,7 @@ use crate::outline::{LineFacts, Outline};
 use crate::stays::inside_stay;
 use crate::sums::LevelSum;
 use frac_core::{Frac, OutOfMemory, Stop, Unfit};
-use path_checker::{Inside, SumStop};
+use path_checker::{Inside, SumStop, zeros};
 use problem_core::Level;
 use std::alloc::Global;
 use thiserror::Error;
@@ -102,18 +102,6 @@ fn empty_level(alloc: Global, count: usize) -> Result<LevelSum, OutOfMemory>
         by: zeros(alloc, count)?,
         cost: Frac::zero(),
     })
-}
-
-// So many zeros.
-fn zeros(alloc: Global, count: usize) -> Result<Vec<i64>, OutOfMemory>
-    ensures count { IfOk result (λ out. length out.items ≡ count) }
-    ensures zero { IfOk result (λ out. All (λ z. z ≡ pos 0) out.items) }
-{
-    let mut out = Vec::with_capacity(alloc, count)?;
-    for _ in 0..count {
-        out.push(0)?;
-    }
-    Ok(out)
 }
 
 // The row of a level with one line more.

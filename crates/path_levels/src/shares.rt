@@ -2,7 +2,8 @@
 ghost use Rattle.std.specs.Prelude.{◌≡◌, ◌<◌, ◌^◌, ◌↔◌, ◌*◌, ◌≤◌, ◌<ℤ◌, pos, unsigned_abs, IsTrue};
 ghost use Rattle.frac_core.specs.Fraction.{IsFitting};
 ghost use Rattle.problem_core.specs.declared.limits.TheConstants.{WEIGHT_LIMIT};
-ghost use Rattle.path_levels.specs.Shares.{IsScaled, IsSmallFacts, counted_of, reduced_of, share_of};
+ghost use Rattle.path_levels.specs.Outlines.{IsPriced};
+ghost use Rattle.path_levels.specs.Shares.{IsScaled, counted_of, reduced_of, share_at};
 ghost use Rattle.path_levels.specs.Shares.{stood_of, weight_on};
 
 use crate::outline::LineFacts;
@@ -10,8 +11,8 @@ use crate::sums::LevelSum;
 use frac_core::PART_BOUND;
 use problem_core::Side;
 
-// What a deviation on this side costs.
-fn weight_on(line: &LineFacts, side: Side) -> i64
+/// What a deviation on this side costs.
+pub(crate) fn weight_on(line: &LineFacts, side: Side) -> i64
     ensures { result ≡ weight_on side line.now }
 {
     match side {
@@ -22,11 +23,11 @@ fn weight_on(line: &LineFacts, side: Side) -> i64
 
 // What a deviation on this side counts in units of the level at the place.
 fn share(line: &LineFacts, side: Side, place: usize, unit: i64) -> i64
-    requires line { IsSmallFacts line.now }
+    requires line { IsPriced line.now }
     requires above { pos 0 <ℤ unit }
     requires fits { IsFitting unit }
-    ensures value { result ≡ pos (share_of line.now side place unit) }
-    ensures small { share_of line.now side place unit ≤ unsigned_abs unit * WEIGHT_LIMIT }
+    ensures value { result ≡ pos (share_at line.now side place unit) }
+    ensures small { share_at line.now side place unit ≤ unsigned_abs unit * WEIGHT_LIMIT }
 {
     if line.level != place {
         return 0;
@@ -36,7 +37,7 @@ fn share(line: &LineFacts, side: Side, place: usize, unit: i64) -> i64
 
 /// The same as often as the level's row is taken.
 pub fn counted(line: &LineFacts, side: Side, place: usize, sum: &LevelSum) -> i64
-    requires line { IsSmallFacts line.now }
+    requires line { IsPriced line.now }
     requires sum { IsScaled sum.now }
     ensures value { result ≡ pos (counted_of line.now side place sum.now) }
     ensures small { counted_of line.now side place sum.now < 2 ^ 52 }
@@ -46,7 +47,7 @@ pub fn counted(line: &LineFacts, side: Side, place: usize, sum: &LevelSum) -> i6
 
 /// The line's number in the level's row where its mark of this side is inside.
 pub fn stood_number(line: &LineFacts, side: Side, place: usize, sum: &LevelSum) -> i64
-    requires line { IsSmallFacts line.now }
+    requires line { IsPriced line.now }
     requires sum { IsScaled sum.now }
     ensures value { result ≡ stood_of line.now side place sum.now }
     ensures small { unsigned_abs result < 2 ^ 52 }
@@ -66,7 +67,7 @@ pub fn has_fitting_cost(
     sum: &LevelSum,
     number: i64,
 ) -> bool
-    requires line { IsSmallFacts line.now }
+    requires line { IsPriced line.now }
     requires sum { IsScaled sum.now }
     requires number { unsigned_abs number < 2 ^ 52 }
     ensures { IsTrue result ↔ IsFitting (reduced_of line.now side place sum.now number) }

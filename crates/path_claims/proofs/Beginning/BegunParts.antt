@@ -11,7 +11,8 @@ use Rattle.problem_core.specs.Layout.{Problem, Row, lines}
 use Rattle.problem_core.specs.Unfit.{AreOverFrom, IsUnfitAt, IsUnfitTerms, over_mark}
 use Rattle.path_checker.specs.declared.table.Inside.{Inside}
 use Rattle.path_checker.specs.Walking.FirstLines.{IsRowOf}
-use Rattle.path_checker.specs.Room.{ComesBefore, IsPartial}
+use Rattle.cert_core.specs.Stops.{IsPartial}
+use Rattle.path_checker.specs.Room.{ComesBefore}
 use Rattle.path_checker.specs.Route.{over_marks}
 use Rattle.path_checker.specs.Tables.{AreLines, AreSized}
 use Rattle.path_checker.proofs.Walking.FirstCorner.{begins_there}

@@ -31,7 +31,7 @@ use Rattle.corner_lines.specs.LineEquations.{IsLineEquation, IsLineSum, mark_for
 use Rattle.corner_lines.proofs.ProblemChanges.JoinedLines.{past-terms, same-writing}
 use Rattle.corner_lines.proofs.Lines.LineWritings.{line_writing}
 use Rattle.path_checker.specs.Walking.FirstLines.{IsRowOf}
-use Rattle.path_checker.specs.Room.{IsPartial}
+use Rattle.cert_core.specs.Stops.{IsPartial}
 use Rattle.path_checker.specs.Route.{over_marks}
 use Rattle.path_checker.specs.Tables.{name_at}
 use Rattle.path_checker.proofs.Walking.FirstCorner.{begins_there}

@@ -15,7 +15,8 @@ use Rattle.path_checker.specs.declared.verdict.PathVerdict.{PathVerdict}
 use Rattle.path_checker.specs.declared.verdict.PathVerdict.TheVariants.{Yes, No, NoRoom as NoRoomFor}
 use Rattle.path_checker.specs.Walking.FirstLines.{AreFirstLines}
 use Rattle.path_checker.specs.PathClauses.{AreSoundBefore, HoldToApart, IsPathVerdict, IsSoundPath, row_of_terms}
-use Rattle.path_checker.specs.Room.{ComesBefore, CountsAtEnd, HasNoRoom, IsPartial, IsSumOf}
+use Rattle.cert_core.specs.Stops.{IsPartial}
+use Rattle.path_checker.specs.Room.{ComesBefore, CountsAtEnd, HasNoRoom, IsSumOf}
 use Rattle.path_checker.specs.Route.{GoesBy, over_marks}
 use Rattle.path_checker.specs.Tables.{AreJudged, IsThere, IsUp, line_count, name_at}
 use Rattle.path_checker.proofs.Walking.FirstCorner.{begins_there}

@@ -31,7 +31,7 @@ use Rattle.path_claims.specs.Fits.{AllAttrsFit}
 use Rattle.path_checker.specs.Exchanges.Pivots.{HasUnfit}
 use Rattle.std.proofs.Math.Nat.{eq-one_of_dvd-one}
 use Rattle.corner_lines.proofs.Lines.LineWritings.{line_writing, no-side}
-use Rattle.path_claims.specs.Sums.{IsCopy, IsKeptLine, IsQuantitySum, IsSideAt, IsUnfitLineAt}
+use Rattle.path_claims.specs.Sums.{IsCopy, HasFittingValue, IsQuantitySum, IsSideAt, IsUnfitLineAt}
 use Rattle.path_claims.proofs.LastCorner.QuantitiesAfter.{copied_sum, form_fits, mark_fits, quantity_fits}
 use Rattle.path_checker.proofs.Walking.WayBegins.{any_stay}
 use Rattle.frac_core.proofs.Numbers.{one-times as one_times}
@@ -143,7 +143,7 @@ unknown_mark p at mark there none inside =
     none k.0 (Held 0) (omega (arith, k.1, length-map (lines p) (λ (l : Line). l.name))) k.2
 
 -- where the line is as it is kept, its inside mark fits
-pub line_fits : (p : Problem) (at : List Mark) (name : RowName) (side : Side) (line : Option Inside) → IsThere p at → IsLineAt p at name line → IsKeptLine line → IsIn (place_of name side) at → HasNoWriting p at (λ x. x (place_of name side)) → ⊥
+pub line_fits : (p : Problem) (at : List Mark) (name : RowName) (side : Side) (line : Option Inside) → IsThere p at → IsLineAt p at name line → HasFittingValue line → IsIn (place_of name side) at → HasNoWriting p at (λ x. x (place_of name side)) → ⊥
 line_fits p at name side None there out kept inside none = no-side at name side out inside
 line_fits p at name side (Some one) there line kept inside none =
     mark_fits p at name one there line kept (subst (λ (s : Side). HasNoWriting p at (λ x. x (place_of name s))) (one_side p at name side one.side there inside line.0) none)
@@ -162,7 +162,7 @@ spot_within p mark spot is = omega (arith, is.0, length-map (lines p) (λ (l : L
 pub mark_out : (p : Problem) (at : List Mark) (mark : Mark) (spot : Spot) → IsSpotOf (names_of p) mark spot → (IsIn (place_of (name_at p spot.at) spot.side) at → ⊥) → IsUnfitWhat p at (MarkOf mark) → ⊥
 mark_out p at mark spot is out unfit = out (subst (λ (c : ℕ). IsIn c at) (sym (spot_place p mark spot is)) unfit.0)
 
-pub mark_in_fits : (p : Problem) (at : List Mark) (mark : Mark) (spot : Spot) (line : Option Inside) → IsThere p at → IsSpotOf (names_of p) mark spot → IsLineAt p at (name_at p spot.at) line → IsKeptLine line → IsUnfitWhat p at (MarkOf mark) → ⊥
+pub mark_in_fits : (p : Problem) (at : List Mark) (mark : Mark) (spot : Spot) (line : Option Inside) → IsThere p at → IsSpotOf (names_of p) mark spot → IsLineAt p at (name_at p spot.at) line → HasFittingValue line → IsUnfitWhat p at (MarkOf mark) → ⊥
 mark_in_fits p at mark spot line there is here kept unfit =
     line_fits p at (name_at p spot.at) spot.side line there here kept (subst (λ (c : ℕ). IsIn c at) (sym (spot_place p mark spot is)) unfit.0)
     (subst (λ (c : ℕ). HasNoWriting p at (λ x. x c)) (sym (spot_place p mark spot is)) unfit.1)

@@ -5,7 +5,7 @@ ghost use Rattle.std.specs.Ordering.{int_cmp};
 ghost use Rattle.frac_core.specs.Fraction.{IsFitting, sum_num};
 ghost use Rattle.problem_core.specs.Layout.{Problem};
 ghost use Rattle.problem_core.specs.declared.parts.Mark.{Mark};
-ghost use Rattle.path_checker.specs.Numbers.{IsFactor, number_at};
+ghost use Rattle.path_checker.specs.Numbers.{IsFactor};
 ghost use Rattle.path_checker.specs.Tables.{AreLines, AreSized, IsSizedLine, IsUp};
 ghost use Rattle.path_checker.specs.Tables.{name_at};
 ghost use Rattle.path_claims.specs.Sums.{AreUpAfter, IsShareOf, IsSideAt, IsSizedShare};
@@ -13,7 +13,7 @@ ghost use Rattle.path_levels.specs.Exchanges.Pivots.{IsExchangePivot, IsSizedPiv
 ghost use Rattle.path_claims.specs.After.{AfterStepWithLine, AfterWithLine, WithLine};
 
 use frac_core::Frac;
-use path_checker::{Inside, Pivot, Ratio, Step, is_on_side, moved_sign};
+use path_checker::{Inside, Pivot, Ratio, Step, is_on_side, moved_sign, number_of, pair_product};
 use problem_core::Side;
 use std::cmp::Ordering;
 
@@ -49,14 +49,6 @@ pub(crate) fn own_number(at: usize, enter: usize) -> i64
     if at == enter { 1 } else { 0 }
 }
 
-/// The number at a place.
-pub(crate) fn number_of(by: &[i64], at: usize) -> i64
-    requires { at < length by.now }
-    ensures { result ≡ number_at by.now at }
-{
-    by[at]
-}
-
 /// The line's share.
 pub(crate) fn share_of(line: &Option<Inside>, count: usize, enter: usize, at: usize) -> Share
     requires sized { IsSizedLine count line.now }
@@ -79,16 +71,6 @@ pub(crate) fn share_of(line: &Option<Inside>, count: usize, enter: usize, at: us
     }
 }
 
-/// The product of two fitting numbers.
-pub(crate) fn pair(x: i64, y: i64) -> i128
-    requires x { IsFitting x }
-    requires y { IsFitting y }
-    ensures value { result ≡ x *ℤ y }
-    ensures small { IsFactor result }
-{
-    i128::from(x) * i128::from(y)
-}
-
 /// By what times the leaving line's value a share moves.
 pub(crate) fn ratio_of(pivot: &Pivot, number: i64, own: i64) -> Ratio
     requires number { IsFitting number }
@@ -104,8 +86,8 @@ pub(crate) fn ratio_of(pivot: &Pivot, number: i64, own: i64) -> Ratio
     ensures above { pos 0 <ℤ result.over }
 {
     Ratio {
-        times: pair(number, pivot.times),
-        over: pair(own, pivot.size),
+        times: pair_product(number, pivot.times),
+        over: pair_product(own, pivot.size),
     }
 }
 

@@ -1,7 +1,6 @@
 // How marks and attributes stand after an exchange.
 ghost use Rattle.std.specs.Prelude.{◌≡◌, ◌≢◌, ◌↔◌, ◌<◌, true, false, length, get_or, List, All, IfOk, IfErr};
 ghost use Rattle.std.specs.Prelude.{IfSome, IfNone, IsTrue};
-ghost use Rattle.std.specs.List.{HoldsAt};
 ghost use Rattle.problem_core.specs.Layout.{Problem};
 ghost use Rattle.problem_core.specs.Corners.{IsIn, attr_column, place_of};
 ghost use Rattle.problem_core.specs.Unfit.{HasNoWriting, IsUnfitWhat};
@@ -10,21 +9,20 @@ ghost use Rattle.problem_core.specs.declared.parts.Stay.{Stay};
 ghost use Rattle.problem_core.specs.declared.stops.What.TheVariants.{Attr, Mark as MarkOf};
 ghost use Rattle.problem_core.specs.declared.stops.Quantity.TheVariants.{Plain};
 ghost use Rattle.path_checker.specs.Exchanges.Pivots.{HasUnfit};
-ghost use Rattle.path_checker.specs.Tables.{AreLines, AreSized, IsSized, IsSizedLine, IsThere};
+ghost use Rattle.path_checker.specs.Tables.{AreLines, IsSized, IsSizedLine, IsThere};
 ghost use Rattle.path_checker.specs.Tables.{line_count};
 ghost use Rattle.path_checker.specs.Tables.{name_at};
 ghost use Rattle.frac_core.specs.Stops.{IsRefused};
 ghost use Rattle.path_claims.specs.Fits.{AllAttrsFit, IsFitAt};
 ghost use Rattle.path_claims.specs.Attrs.{IsAttrAfter, IsAttrBefore, IsFittingStay, IsSizedMade};
 ghost use Rattle.path_claims.specs.Attrs.{IsStayAt, IsUnfitBefore, IsUnfitStay};
-ghost use Rattle.path_levels.specs.Exchanges.Pivots.{IsSizedPivot};
-ghost use Rattle.path_claims.specs.After.{AfterExchange, AfterFittingAttrs, AfterStepWithLine};
+ghost use Rattle.path_claims.specs.After.{AfterExchange, AfterFittingAttrs, AfterStepWithLine, IsSizedExchange};
 
 use crate::last::Fit;
 use crate::last::after::side_after;
 use crate::last::line_sums::{line_after, next_sum, unit_sum, with_value};
 use frac_core::{Frac, OutOfMemory, Stop};
-use path_checker::{Inside, Pivot, Step, Sum, SumStop, names, spot_of};
+use path_checker::{Inside, Pivot, Step, Sum, SumStop, names, spot_of, stay_of};
 use problem_core::{Mark, Problem, Side, Stay};
 use std::alloc::Global;
 
@@ -47,9 +45,7 @@ pub(crate) fn mark_fit(
     pivot: &Pivot,
     mark: Mark,
 ) -> Result<Fit, OutOfMemory>
-    requires count { length lines.now ≡ line_count p.now }
-    requires lines { AreSized lines.now }
-    requires pivot { IsSizedPivot (length lines.now) pivot.now }
+    requires { IsSizedExchange p.now lines.now pivot.now }
     ensures { IfOk result (λ fit. AfterExchange p.now pivot.now lines.now
         (λ marks. IsFitAt p.now marks (Plain (MarkOf mark)) fit)) }
 {
@@ -68,15 +64,6 @@ pub(crate) fn mark_fit(
     }
 }
 
-/// The place of the attribute's stay among the stays.
-pub(crate) fn stay_of(stays: &[Stay], attr: u32) -> Option<usize>
-    ensures within { IfSome result (λ k. k < length stays.now) }
-    ensures found { IfSome result (HoldsAt (λ s. s.attr ≡ attr) stays.now) }
-    ensures none { IfNone result (All (λ s. s.attr ≢ attr) stays.now) }
-{
-    stays.iter().position(|s| s.attr == attr)
-}
-
 // The sum of the attribute whose stay has this target, at the corner before.
 fn attr_before(
     alloc: Global,
@@ -93,9 +80,9 @@ fn attr_before(
     match line {
         Some(inside) => {
             let value = Frac::mul_add(target, 1, 1, inside.sum.value)?;
-            with_value(alloc, &inside.sum, value)
+            Ok(with_value(alloc, &inside.sum, value)?)
         }
-        None => unit_sum(alloc, count, at, target),
+        None => Ok(unit_sum(alloc, count, at, target)?),
     }
 }
 
@@ -126,9 +113,7 @@ pub(crate) fn attr_after(
     pivot: &Pivot,
     attr: u32,
 ) -> Result<Option<Sum>, SumStop>
-    requires count { length lines.now ≡ line_count p.now }
-    requires lines { AreSized lines.now }
-    requires pivot { IsSizedPivot (length lines.now) pivot.now }
+    requires { IsSizedExchange p.now lines.now pivot.now }
     ensures sized { IfOk result (IsSizedMade (length lines.now)) }
     ensures attr { IfOk result (λ made. AfterExchange p.now pivot.now lines.now
         (λ marks. IsAttrAfter p.now marks attr made)) }
@@ -151,9 +136,7 @@ pub(crate) fn attr_fit(
     pivot: &Pivot,
     attr: u32,
 ) -> Result<Fit, OutOfMemory>
-    requires count { length lines.now ≡ line_count p.now }
-    requires lines { AreSized lines.now }
-    requires pivot { IsSizedPivot (length lines.now) pivot.now }
+    requires { IsSizedExchange p.now lines.now pivot.now }
     ensures { IfOk result (λ fit. AfterFittingAttrs p.now pivot.now lines.now
         (λ marks. IsFitAt p.now marks (Plain (Attr attr)) fit)) }
 {

@@ -4,22 +4,20 @@ ghost use Rattle.frac_core.specs.Stops.{IsRefused};
 ghost use Rattle.frac_core.specs.Fraction.{IsKept, IsRatio, IsUnfitRatio};
 ghost use Rattle.corner_lines.specs.LineEquations.{deviation};
 ghost use Rattle.path_checker.specs.Tables.{IsLineAt, IsSized, IsSizedLine, name_at};
-ghost use Rattle.frac_core.specs.declared.memory.Stop.TheVariants.{OutOfMemory};
-ghost use Rattle.path_claims.specs.Sums.{IsCopy, IsKeptLine, IsQuantitySum, IsSumAfter, IsUnfitAfter};
+ghost use Rattle.path_claims.specs.Sums.{IsCopy, HasFittingValue, IsQuantitySum, IsSumAfter, IsUnfitAfter};
 ghost use Rattle.path_claims.specs.Sums.{IsUnfitLineAt, IsUnitList, IsUnitSum, next_den, next_num};
 ghost use Rattle.path_levels.specs.Exchanges.Pivots.{IsSizedPivot};
 ghost use Rattle.path_claims.specs.After.{AfterWithLine, WithLine};
 
-use crate::last::after::{number_of, own_number, ratio_of, side_after};
-use frac_core::{Frac, Unfit};
-use path_checker::{Inside, Lowest, Pivot, Sum, SumStop, carried, in_lowest_terms};
+use crate::last::after::{own_number, ratio_of, side_after};
+use frac_core::{Frac, OutOfMemory, Unfit};
+use path_checker::{Inside, Pivot, Sum, SumStop, carried, in_lowest_terms, number_of, sum_of};
 use path_levels::moved_value;
 use std::alloc::Global;
 
 // The same numbers.
-fn copied(alloc: Global, numbers: &[i64]) -> Result<Vec<i64>, SumStop>
-    ensures value { IfOk result (λ out. out.items ≡ numbers.now) }
-    ensures memory { IfErr result (λ stop. stop ≡ OutOfMemory) }
+fn copied(alloc: Global, numbers: &[i64]) -> Result<Vec<i64>, OutOfMemory>
+    ensures { IfOk result (λ out. out.items ≡ numbers.now) }
 {
     let mut out = Vec::with_capacity(alloc, numbers.len())?;
     for number in numbers {
@@ -29,10 +27,9 @@ fn copied(alloc: Global, numbers: &[i64]) -> Result<Vec<i64>, SumStop>
 }
 
 /// The numbers of a sum, with another value.
-pub(crate) fn with_value(alloc: Global, sum: &Sum, value: Frac) -> Result<Sum, SumStop>
+pub(crate) fn with_value(alloc: Global, sum: &Sum, value: Frac) -> Result<Sum, OutOfMemory>
     ensures copy { IfOk result (IsCopy sum.now value) }
     ensures kept { IfOk result (λ next. IsKept next.value) }
-    ensures memory { IfErr result (λ stop. stop ≡ OutOfMemory) }
 {
     let _ = value.num(); // for the proof: what a fraction keeps
     let by = copied(alloc, &sum.by)?;
@@ -41,9 +38,8 @@ pub(crate) fn with_value(alloc: Global, sum: &Sum, value: Frac) -> Result<Sum, S
 }
 
 // A line by itself.
-fn unit_numbers(alloc: Global, count: usize, at: usize) -> Result<Vec<i64>, SumStop>
-    ensures value { IfOk result (λ out. IsUnitList count at out.items) }
-    ensures memory { IfErr result (λ stop. stop ≡ OutOfMemory) }
+fn unit_numbers(alloc: Global, count: usize, at: usize) -> Result<Vec<i64>, OutOfMemory>
+    ensures { IfOk result (λ out. IsUnitList count at out.items) }
 {
     let mut out = Vec::with_capacity(alloc, count)?;
     for place in 0..count {
@@ -53,9 +49,13 @@ fn unit_numbers(alloc: Global, count: usize, at: usize) -> Result<Vec<i64>, SumS
 }
 
 /// The deviation of the line at a place and this value.
-pub(crate) fn unit_sum(alloc: Global, count: usize, at: usize, value: Frac) -> Result<Sum, SumStop>
-    ensures unit { IfOk result (IsUnitSum count at value) }
-    ensures memory { IfErr result (λ stop. stop ≡ OutOfMemory) }
+pub(crate) fn unit_sum(
+    alloc: Global,
+    count: usize,
+    at: usize,
+    value: Frac,
+) -> Result<Sum, OutOfMemory>
+    ensures { IfOk result (IsUnitSum count at value) }
 {
     let by = unit_numbers(alloc, count, at)?;
     Ok(Sum { own: 1, by, value })
@@ -75,19 +75,6 @@ fn next_value(pivot: &Pivot, sum: &Sum) -> Result<Frac, Unfit>
     moved_value(sum.value, ratio, pivot.value)
 }
 
-/// Numbers and a value.
-pub(crate) fn sum_of(numbers: Lowest, value: Frac) -> Sum
-    ensures own { result.own ≡ numbers.own }
-    ensures by { result.by.items ≡ numbers.by.items }
-    ensures value { result.value ≡ value }
-{
-    Sum {
-        own: numbers.own,
-        by: numbers.by,
-        value,
-    }
-}
-
 /// The sum of a quantity after an exchange.
 pub(crate) fn next_sum(alloc: Global, pivot: &Pivot, sum: &Sum) -> Result<Sum, SumStop>
     requires pivot { IsSizedPivot (length sum.now.by.items) pivot.now }
@@ -98,7 +85,7 @@ pub(crate) fn next_sum(alloc: Global, pivot: &Pivot, sum: &Sum) -> Result<Sum, S
     ensures unfit { IfErr result (λ stop. IsRefused stop → IsUnfitAfter pivot.now sum.now) }
 {
     if pivot.is_turn {
-        return with_value(alloc, sum, sum.value);
+        return Ok(with_value(alloc, sum, sum.value)?);
     }
     let wide = carried(alloc, pivot, sum)?;
     let numbers = in_lowest_terms(alloc, &wide)?;
@@ -112,12 +99,11 @@ pub(crate) fn line_before(
     line: &Option<Inside>,
     count: usize,
     at: usize,
-) -> Result<Sum, SumStop>
+) -> Result<Sum, OutOfMemory>
     requires { IsSizedLine count line.now }
     ensures sized { IfOk result (IsSized count) }
     ensures sum { IfOk result (λ sum. WithLine count at line.now
         (λ p marks. IsQuantitySum p marks (deviation (name_at p at)) sum)) }
-    ensures memory { IfErr result (λ stop. stop ≡ OutOfMemory) }
 {
     match line {
         Some(inside) => with_value(alloc, &inside.sum, inside.sum.value),
@@ -136,7 +122,7 @@ pub(crate) fn line_after(
     requires line { IsSizedLine count line.now }
     requires pivot { IsSizedPivot count pivot.now }
     ensures sized { IfOk result (IsSizedLine count) }
-    ensures kept { IfOk result IsKeptLine }
+    ensures kept { IfOk result HasFittingValue }
     ensures line { IfOk result (λ next. AfterWithLine pivot.now count at line.now
         (λ p marks. IsLineAt p marks (name_at p at) next)) }
     ensures unfit { IfErr result (λ stop. IsRefused stop → AfterWithLine pivot.now count at line.now

@@ -9,8 +9,7 @@ ghost use Rattle.frac_core.specs.Fraction.{IsFitting, IsKept, IsUnfitRatio, sum_
 ghost use Rattle.problem_core.specs.Layout.{HasStay};
 ghost use Rattle.problem_core.specs.Corners.{IsIn, attr_column, place};
 ghost use Rattle.problem_core.specs.declared.parts.Mark.{Mark};
-ghost use Rattle.path_checker.specs.Tables.{AreSized, IsSized, line_count};
-ghost use Rattle.frac_core.specs.declared.memory.Stop.TheVariants as stops;
+ghost use Rattle.path_checker.specs.Tables.{IsSized};
 ghost use Rattle.path_claims.specs.Fits.{IsFitAt};
 ghost use Rattle.path_claims.specs.Sums.{IsQuantitySum, IsUnitSum};
 ghost use Rattle.path_claims.specs.TermSums.{AreKnownTerms, IsAttrStop, IsMoreStop, IsTermMore, IsTermUnfit};
@@ -18,18 +17,17 @@ ghost use Rattle.path_claims.specs.TermSums.{AreOverAt, IsLessFitting, IsRowFit,
 ghost use Rattle.path_claims.specs.declared.last.Fit.TheVariants as fits;
 ghost use Rattle.path_checker.specs.Walking.FirstLines.{IsRowOf};
 ghost use Rattle.problem_core.specs.Unfit.{over_mark};
-ghost use Rattle.path_claims.specs.declared.last.terms.TermsStop.TheVariants as ends;
 ghost use Rattle.problem_core.specs.Window.{zero_fraction};
 ghost use Rattle.path_checker.specs.Numbers.{IsCombined};
-ghost use Rattle.path_levels.specs.Exchanges.Pivots.{IsSizedPivot};
-ghost use Rattle.path_claims.specs.After.{AfterExchange, AfterFittingAttrs};
+ghost use Rattle.path_claims.specs.After.{AfterExchange, AfterFittingAttrs, IsSizedExchange};
 
 use crate::last::Fit;
-use crate::last::after::pair;
 use crate::last::fits::{attr_after, is_inside_after};
-use crate::last::line_sums::{sum_of, unit_sum};
+use crate::last::line_sums::unit_sum;
 use frac_core::{Frac, OutOfMemory, Stop};
-use path_checker::{Inside, Pivot, Sum, SumStop, Wide, combined, in_lowest_terms};
+use path_checker::{
+    Inside, Pivot, Sum, SumStop, Wide, combined, in_lowest_terms, pair_product, sum_of,
+};
 use problem_core::{Mark, Problem, Row, RowName, Side, Term};
 use std::alloc::Global;
 
@@ -40,6 +38,16 @@ pub(crate) enum TermsStop {
     UnfitAttr(u32),
     UnfitTerms(usize),
     OutOfMemory,
+}
+
+impl From<OutOfMemory> for TermsStop {
+    ghost use Rattle.path_claims.specs.declared.last.terms.TermsStop.TheVariants.{OutOfMemory};
+
+    ghost from_gives = { λ _ stop. stop ≡ OutOfMemory };
+
+    fn from(_: OutOfMemory) -> TermsStop {
+        TermsStop::OutOfMemory
+    }
 }
 
 // `sum + by * more`, unless a part does not fit.
@@ -59,34 +67,29 @@ fn plus_term(alloc: Global, sum: &Sum, by: i64, more: &Sum) -> Result<Sum, SumSt
 }
 
 // The numbers of a sum and of `by` times another one.
-fn joined_numbers(alloc: Global, sum: &Sum, by: i64, more: &Sum) -> Result<Wide, SumStop>
+fn joined_numbers(alloc: Global, sum: &Sum, by: i64, more: &Sum) -> Result<Wide, OutOfMemory>
     requires sum { IsSized (length sum.now.by.items) sum.now }
     requires more { IsSized (length sum.now.by.items) more.now }
     requires by { IsFitting by }
     ensures own { IfOk result (λ w. w.own ≡ more.now.own *ℤ sum.now.own) }
     ensures by { IfOk result (λ w. IsCombined more.now.own sum.now.by.items (sum.now.own *ℤ by)
         more.now.by.items w.by.items) }
-    ensures memory { IfErr result (λ stop. stop ≡ stops.OutOfMemory) }
 {
-    let times = pair(sum.own, by);
+    let times = pair_product(sum.own, by);
     Ok(Wide {
-        own: pair(more.own, sum.own),
+        own: pair_product(more.own, sum.own),
         by: combined(alloc, i128::from(more.own), &sum.by, times, &more.by)?,
     })
 }
 
 // The sum of no terms.
-fn no_terms(alloc: Global, count: usize) -> Result<Sum, TermsStop>
+fn no_terms(alloc: Global, count: usize) -> Result<Sum, OutOfMemory>
     ensures kept { IfOk result (λ sum. IsKept sum.value) }
     ensures unit { IfOk result (IsUnitSum count count zero_fraction) }
-    ensures stop { IfErr result (λ stop. stop ≡ ends.OutOfMemory) }
 {
     let zero = Frac::zero();
     let _ = zero.num(); // for the proof: what a fraction keeps
-    match unit_sum(alloc, count, count, zero) {
-        Ok(sum) => Ok(sum),
-        Err(_) => Err(TermsStop::OutOfMemory),
-    }
+    unit_sum(alloc, count, count, zero)
 }
 
 // The sum with one term more, which is the term at this place.
@@ -115,9 +118,7 @@ fn attr_of_term(
     pivot: &Pivot,
     attr: u32,
 ) -> Result<Sum, TermsStop>
-    requires count { length lines.now ≡ line_count p.now }
-    requires lines { AreSized lines.now }
-    requires pivot { IsSizedPivot (length lines.now) pivot.now }
+    requires exchange { IsSizedExchange p.now lines.now pivot.now }
     requires stay { HasStay p.now.stays attr }
     ensures sized { IfOk result (IsSized (length lines.now)) }
     ensures attr { IfOk result (λ sum. AfterExchange p.now pivot.now lines.now
@@ -141,9 +142,7 @@ pub(crate) fn terms_after(
     pivot: &Pivot,
     terms: &[Term],
 ) -> Result<Sum, TermsStop>
-    requires count { length lines.now ≡ line_count p.now }
-    requires lines { AreSized lines.now }
-    requires pivot { IsSizedPivot (length lines.now) pivot.now }
+    requires exchange { IsSizedExchange p.now lines.now pivot.now }
     requires terms { AreKnownTerms p.now terms.now }
     ensures kept { IfOk result (λ sum. IsKept sum.value) }
     ensures sum { IfOk result (λ sum. AfterFittingAttrs p.now pivot.now lines.now
@@ -195,9 +194,7 @@ fn some_fit(
     pivot: &Pivot,
     sought: Sought<'_>,
 ) -> Result<Fit, OutOfMemory>
-    requires count { length lines.now ≡ line_count p.now }
-    requires lines { AreSized lines.now }
-    requires pivot { IsSizedPivot (length lines.now) pivot.now }
+    requires exchange { IsSizedExchange p.now lines.now pivot.now }
     requires terms { AreKnownTerms p.now sought.row.now.terms }
     requires first { sought.first ≤ length sought.row.now.terms }
     ensures { IfOk result (λ fit. AfterFittingAttrs p.now pivot.now lines.now
@@ -220,9 +217,7 @@ fn whole_fit(
     pivot: &Pivot,
     r: &Row,
 ) -> Result<Fit, OutOfMemory>
-    requires count { length lines.now ≡ line_count p.now }
-    requires lines { AreSized lines.now }
-    requires pivot { IsSizedPivot (length lines.now) pivot.now }
+    requires exchange { IsSizedExchange p.now lines.now pivot.now }
     requires terms { AreKnownTerms p.now r.now.terms }
     requires row { IsRowOf p.now r.now }
     ensures { IfOk result (λ fit. AfterFittingAttrs p.now pivot.now lines.now
@@ -292,9 +287,7 @@ pub(crate) fn terms_fit(
     pivot: &Pivot,
     sum: FirstTerms,
 ) -> Result<Fit, OutOfMemory>
-    requires count { length lines.now ≡ line_count p.now }
-    requires lines { AreSized lines.now }
-    requires pivot { IsSizedPivot (length lines.now) pivot.now }
+    requires { IsSizedExchange p.now lines.now pivot.now }
     ensures { IfOk result (λ fit. AfterFittingAttrs p.now pivot.now lines.now
         (λ marks. IsFitAt p.now marks (quantities.Terms sum.mark sum.first) fit)) }
 {

@@ -13,7 +13,7 @@ use Rattle.path_levels.specs.declared.outline.LineFacts.{LineFacts}
 use Rattle.path_levels.specs.declared.outline.LevelFacts.{LevelFacts}
 use Rattle.path_levels.specs.declared.sums.LevelSum.{LevelSum}
 use Rattle.path_levels.specs.Outlines.{AreFactsOf, AreLevelFacts, IsFactsOf, number_at}
-use Rattle.path_levels.specs.Shares.{reduced_of, share_of, stood_of, weight_on}
+use Rattle.path_levels.specs.Shares.{reduced_of, share_at, stood_of, weight_on}
 use Rattle.path_levels.proofs.Counting.ShareFacts.{share_here, share_none}
 use Rattle.problem_core.proofs.Lines.{own-weight as own_weight, weight-none as no_weight}
 use Rattle.path_levels.proofs.Joining.JoinRows.{zero-over as zero_over}
@@ -64,7 +64,7 @@ pub level_own : (levels : List LevelFacts) (place : ℕ) (l : Line) (f : LineFac
 level_own levels place l f is e = sym is.number ∙ ap (number_at levels) e
 
 share_line : (side : Side) (p : Problem) (levels : List LevelFacts) (place : ℕ) (l : Line) (f : LineFacts) (d : LevelFacts) (unit : ℤ) → AreLevelFacts p levels → place < length levels → IsFactsOf levels l f
-    → share_of f side place unit ≡ line_share side (unsigned_abs unit) (number_at levels place) l
+    → share_at f side place unit ≡ line_share side (unsigned_abs unit) (number_at levels place) l
 share_line side p levels place l f d unit are within is =
     elim (cases_eq f.level place) [
       | inl e ↦ share_here f side place unit e ∙ share_own side levels l f unit (number_at levels place) is (level_own levels place l f is e)

@@ -11,15 +11,15 @@ use Rattle.problem_core.specs.declared.parts.Side.{Side}
 use Rattle.problem_core.specs.declared.parts.Side.TheVariants.{Under, Over}
 use Rattle.path_levels.specs.declared.outline.LineFacts.{LineFacts}
 use Rattle.path_levels.specs.declared.sums.LevelSum.{LevelSum}
-use Rattle.path_levels.specs.Outlines.{IsSizedFacts}
-use Rattle.path_levels.specs.Shares.{IsScaled, IsSmallFacts, counted_of, reduced_of, share_of, weight_on}
+use Rattle.path_levels.specs.Outlines.{IsPriced}
+use Rattle.path_levels.specs.Shares.{IsScaled, counted_of, reduced_of, share_at, weight_on}
 use Rattle.path_levels.proofs.Joining.JoinShares.{cost-size as abs_most}
 
-pub weight_up : (side : Side) (f : LineFacts) → IsSmallFacts f → pos 0 ≤ℤ weight_on side f
+pub weight_up : (side : Side) (f : LineFacts) → IsPriced f → pos 0 ≤ℤ weight_on side f
 weight_up Under f h = h.under.0
 weight_up Over f h = h.over.0
 
-pub weight_most : (side : Side) (f : LineFacts) → IsSmallFacts f → unsigned_abs (weight_on side f) ≤ 1000
+pub weight_most : (side : Side) (f : LineFacts) → IsPriced f → unsigned_abs (weight_on side f) ≤ 1000
 weight_most Under f h = abs_most f.under h.under.0 h.under.1
 weight_most Over f h = abs_most f.over h.over.0 h.over.1
 
@@ -32,10 +32,10 @@ share_ints (negsuc u) w s a b c = absurd (omega (arith, ints, a))
 share_ints (pos u) (negsuc w) s a b c = absurd (omega (arith, ints, b))
 share_ints (pos u) (pos w) (negsuc s) a b c = absurd (omega (arith, ints, c))
 
-pub share_here : (f : LineFacts) (side : Side) (place : ℕ) (unit : ℤ) → f.level ≡ place → share_of f side place unit ≡ unsigned_abs unit * unsigned_abs (weight_on side f) / unsigned_abs f.scale
+pub share_here : (f : LineFacts) (side : Side) (place : ℕ) (unit : ℤ) → f.level ≡ place → share_at f side place unit ≡ unsigned_abs unit * unsigned_abs (weight_on side f) / unsigned_abs f.scale
 share_here f side place unit e = ap (λ (b : Bool). cond b (unsigned_abs unit * unsigned_abs (weight_on side f) / unsigned_abs f.scale) 0) (eq-eqb f.level place e)
 
-pub share_none : (f : LineFacts) (side : Side) (place : ℕ) (unit : ℤ) → f.level ≢ place → share_of f side place unit ≡ 0
+pub share_none : (f : LineFacts) (side : Side) (place : ℕ) (unit : ℤ) → f.level ≢ place → share_at f side place unit ≡ 0
 share_none f side place unit ne = ap (λ (b : Bool). cond b (unsigned_abs unit * unsigned_abs (weight_on side f) / unsigned_abs f.scale) 0) (ne_eqb f.level place ne)
 
 product_most : (u w s : ℕ) → w ≤ 1000 → u * w / s ≤ u * 1000
@@ -44,7 +44,7 @@ product_most u w s most =
     let b : u * w ≤ u * 1000 = mul-le-mul (omega arith) most in
     omega (arith, a, b)
 
-pub share_small : (f : LineFacts) (side : Side) (place : ℕ) (unit : ℤ) → IsSmallFacts f → share_of f side place unit ≤ unsigned_abs unit * 1000
+pub share_small : (f : LineFacts) (side : Side) (place : ℕ) (unit : ℤ) → IsPriced f → share_at f side place unit ≤ unsigned_abs unit * 1000
 share_small f side place unit small =
     elim (cases_eq f.level place) [
       | inl e ↦ subst (λ (n : ℕ). n ≤ unsigned_abs unit * 1000) (sym (share_here f side place unit e)) (product_most (unsigned_abs unit) (unsigned_abs (weight_on side f)) (unsigned_abs f.scale) (weight_most side f small))
@@ -67,14 +67,14 @@ unit_fits sum is = one_of (unsigned_abs sum.own) (unsigned_abs sum.unit) 4398046
 scaled_most : (a u s : ℕ) → a * u < 4398046511104 → s ≤ u * 1000 → a * s < 4503599627370496
 scaled_most a u s less most = let h : a * s ≤ a * (u * 1000) = mul-le-mul (omega arith) most in omega (arith, h, less)
 
-pub counted_small : (f : LineFacts) (side : Side) (place : ℕ) (sum : LevelSum) → IsSmallFacts f → IsScaled sum → counted_of f side place sum < 4503599627370496
-counted_small f side place sum small is = scaled_most (unsigned_abs sum.own) (unsigned_abs sum.unit) (share_of f side place sum.unit) (scale_size sum is) (share_small f side place sum.unit small)
+pub counted_small : (f : LineFacts) (side : Side) (place : ℕ) (sum : LevelSum) → IsPriced f → IsScaled sum → counted_of f side place sum < 4503599627370496
+counted_small f side place sum small is = scaled_most (unsigned_abs sum.own) (unsigned_abs sum.unit) (share_at f side place sum.unit) (scale_size sum is) (share_small f side place sum.unit small)
 
 pub own_times : (own : ℤ) (s : ℕ) → pos 0 <ℤ own → own *ℤ pos s ≡ pos (unsigned_abs own * s)
 own_times (pos n) s up = refl
 own_times (negsuc n) s up = absurd (omega (arith, ints, up))
 
-pub counted_fits : (f : LineFacts) (side : Side) (place : ℕ) (sum : LevelSum) → IsSmallFacts f → IsScaled sum → FitsSigned w64 (pos (counted_of f side place sum))
+pub counted_fits : (f : LineFacts) (side : Side) (place : ℕ) (sum : LevelSum) → IsPriced f → IsScaled sum → FitsSigned w64 (pos (counted_of f side place sum))
 counted_fits f side place sum small is = fits_signed_from_abs w64 (pos (counted_of f side place sum)) (let h = counted_small f side place sum small is in omega (arith, h))
 
 pub minus_fits : (n : ℕ) (z : ℤ) → n < 4503599627370496 → unsigned_abs z < 4503599627370496 → FitsSigned w64 (pos n -ℤ z)
@@ -93,6 +93,3 @@ reduced_under f side place sum number e = subst (λ (s : Side). reduced_of f s p
 
 pub reduced_over : (f : LineFacts) (side : Side) (place : ℕ) (sum : LevelSum) (number : ℤ) → side ≡ Over → reduced_of f side place sum number ≡ pos (counted_of f side place sum) +ℤ number
 reduced_over f side place sum number e = subst (λ (s : Side). reduced_of f s place sum number ≡ pos (counted_of f s place sum) +ℤ number) (sym e) refl
-
-pub small_facts : (count : ℕ) (f : LineFacts) → IsSizedFacts count f → IsSmallFacts f
-small_facts count f is = record { under = is.under; over = is.over; scale = is.scale }

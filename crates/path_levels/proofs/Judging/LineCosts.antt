@@ -25,7 +25,8 @@ use Rattle.path_levels.specs.declared.outline.LineFacts.{LineFacts}
 use Rattle.path_levels.specs.declared.sums.LevelSum.{LevelSum}
 use Rattle.path_levels.specs.Levels.{AreLevels}
 use Rattle.path_levels.specs.Rows.{AreKept}
-use Rattle.path_levels.specs.Costs.{HasNegative, IsNegativeFirst, cost_in, cost_of, counted, share_of}
+use Rattle.path_levels.specs.Costs.{HasNegative, IsNegativeFirst, cost_in, cost_of, counted}
+use Rattle.path_levels.specs.Shares.{share_of}
 use Rattle.path_levels.specs.Outlines.{AreLevelFacts, IsFactsOf, IsOutline, number_at}
 use Rattle.path_levels.proofs.Judging.FirstSigns.{IsRising, first_by_places, first_same, rising_same}
 use Rattle.path_levels.proofs.Judging.OwnColumns.{are_multipliers, inner_column, line_at, mark_at, none_negative, outer_negative, own_multipliers, row_is_multiple}

@@ -4,8 +4,8 @@ use Rattle.std.proofs.lemmas.Int.{to_z-of_z}
 use Rattle.frac_core.proofs.Products.{pair_fits}
 use Rattle.path_checker.proofs.exchange.pair_product.Goals as goal
 
-pub returns : goal.returns
-returns c =
+pub returns-clause-value : goal.returns-clause-value
+returns-clause-value c =
     let x_is : c.from.result ≡ c.args.x = simp (to_z-of_z, c.ranges.x) at c.from.ensures in
     let y_is : c.from-2.result ≡ c.args.y = simp (to_z-of_z, c.ranges.y) at c.from-2.ensures in
     let x_fits : SFits w128 c.from.result = record { sfits = c.from.type_inv } in

@@ -22,14 +22,14 @@ solving-requires-clause-some c =
 pub returns-in_err-enters-clause-unfit : goal.returns-in_err-enters-clause-unfit
 returns-in_err-enters-clause-unfit c =
     let exit = err_from_is_err_and c.from_residual-in_err-enters.result c.from_residual-in_err-enters.ensures.1 in
-    rw (exit.1, exit.2) (λ same left. value_leads_to_unfit c.args.step c.args.lines.now c.args.leaving.now c.in_ok-pivot.pivot c.requires.enter c.in_ok-pivot.ensures.solved c.in_err-enters.ensures.unfit left)
+    rw (exit.1, exit.2) (λ same left. value_leads_to_unfit c.args.step c.args.lines.now c.args.leaving.now c.in_ok-pivot.pivot c.requires.enter c.in_ok-pivot.ensures c.in_err-enters.ensures.unfit left)
 
 pub returns-clause-next : goal.returns-clause-next
 returns-clause-next c =
-    let entered : IsEnteredBy c.in_ok-pivot.pivot c.in_ok-enters.enters = (c.in_ok-enters.ensures.kept.lowest.above, c.in_ok-enters.ensures.ratio c.in_ok-pivot.ensures.solved.no_turn) in
-    ok_then c.exchanged_lines.result (λ next made left. leads c.args.step c.args.lines.now next.items c.args.leaving.now c.in_ok-pivot.pivot c.in_ok-enters.enters c.requires.enter c.in_ok-pivot.ensures.solved entered made left) c.exchanged_lines.ensures.lines
+    let entered : IsEnteredBy c.in_ok-pivot.pivot c.in_ok-enters.enters = (c.in_ok-enters.ensures.kept.lowest.above, c.in_ok-enters.ensures.ratio c.in_ok-pivot.ensures.no_turn) in
+    ok_then c.exchanged_lines.result (λ next made left. leads c.args.step c.args.lines.now next.items c.args.leaving.now c.in_ok-pivot.pivot c.in_ok-enters.enters c.requires.enter c.in_ok-pivot.ensures entered made left) c.exchanged_lines.ensures.lines
 
 pub returns-clause-unfit : goal.returns-clause-unfit
 returns-clause-unfit c =
-    let entered : IsEnteredBy c.in_ok-pivot.pivot c.in_ok-enters.enters = (c.in_ok-enters.ensures.kept.lowest.above, c.in_ok-enters.ensures.ratio c.in_ok-pivot.ensures.solved.no_turn) in
-    err_then c.exchanged_lines.result (λ stop unfit same left. leads_to_unfit c.args.step c.args.lines.now c.args.leaving.now c.in_ok-pivot.pivot c.in_ok-enters.enters c.requires.enter c.in_ok-pivot.ensures.solved entered (unfit same) left) c.exchanged_lines.ensures.unfit
+    let entered : IsEnteredBy c.in_ok-pivot.pivot c.in_ok-enters.enters = (c.in_ok-enters.ensures.kept.lowest.above, c.in_ok-enters.ensures.ratio c.in_ok-pivot.ensures.no_turn) in
+    err_then c.exchanged_lines.result (λ stop unfit same left. leads_to_unfit c.args.step c.args.lines.now c.args.leaving.now c.in_ok-pivot.pivot c.in_ok-enters.enters c.requires.enter c.in_ok-pivot.ensures entered (unfit same) left) c.exchanged_lines.ensures.unfit

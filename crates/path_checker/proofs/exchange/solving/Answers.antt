@@ -17,8 +17,8 @@ size_up false z below above ne = let h : pos 0 <ℤ z = some_above z ne (above r
 times_turned : (z : ℤ) → negsuc 0 *ℤ z ≡ neg_ℤ z
 times_turned z = omega (arith, ints)
 
-pub returns-clause-solved : goal.returns-clause-solved
-returns-clause-solved c =
+pub returns : goal.returns
+returns c =
     let list : c.deref.result.now ≡ c.args.leaving.now.by.items = search rules in
     let number_is : c.number_of-number.result ≡ number_at c.args.leaving.now.by.items c.args.step.enter.at = c.number_of-number.ensures ∙ ap (λ (zs : List ℤ). number_at zs c.args.step.enter.at) list in
     let number : SFits w64 c.number_of-number.result = record { sfits = c.number_of-number.type_inv } in

@@ -1,18 +1,16 @@
-use Rattle.std.proofs.Common.{get_or, length, rules, sym, subst, SFits}
+use Rattle.std.proofs.Common.{rules, sym, subst, SFits}
 use Rattle.std.specs.Int.{w64, w128}
 use Rattle.std.proofs.lemmas.Int.{to_z-of_z}
 use Rattle.path_checker.proofs.Exchanges.Leading.{ok_then}
 use Rattle.path_levels.specs.Exchanges.Carried.{AreSharing}
-use Rattle.path_levels.specs.Shares.{IsSmallFacts}
+use Rattle.path_levels.specs.Outlines.{IsPriced}
 use Rattle.path_levels.proofs.Exchanges.MultipleFacts.{multiple_there}
-use Rattle.path_levels.proofs.Counting.ShareFacts.{small_facts}
 use Rattle.path_levels.proofs.carried.next_level_numbers.Goals as goal
 
 pub leaving_number-leaving-requires-clause-line : goal.leaving_number-leaving-requires-clause-line
 leaving_number-leaving-requires-clause-line c =
-    subst IsSmallFacts (sym c.index-leaves.ensures)
-    (small_facts (length c.args.outline.now.levels.items) (get_or c.args.outline.now.lines.items c.args.pivot.now.step.leave.at c.index-leaves.result.now)
-    (c.requires.outline c.args.pivot.now.step.leave.at c.index-leaves.result.now c.requires.pivot.leave_at))
+    subst IsPriced (sym c.index-leaves.ensures)
+    (c.requires.outline c.args.pivot.now.step.leave.at c.index-leaves.result.now c.requires.pivot.leave_at).priced
 
 pub returns-clause-next : goal.returns-clause-next
 returns-clause-next c =

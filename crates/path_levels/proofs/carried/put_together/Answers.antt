@@ -24,7 +24,7 @@ made c =
     let factor_fits : SFits w128 c.from-factor.result = record { sfits = c.from-factor.type_inv } in
     let left : c.deref.result.now ≡ c.args.sum.now.by.items = search rules in
     let right : c.deref-2.result.now ≡ c.args.pivot.now.by.items = search rules in
-    let raw : IsCombined c.from-row.result c.deref.result.now c.from-factor.result c.deref-2.result.now c.in_ok-by.by.items = simp to_z-of_z at c.in_ok-by.ensures.value in
+    let raw : IsCombined c.from-row.result c.deref.result.now c.from-factor.result c.deref-2.result.now c.in_ok-by.by.items = simp to_z-of_z at c.in_ok-by.ensures in
     (rw (row_is, factor_is, left, right) at raw, simp to_z-of_z at c.product-own.ensures.value)
 
 pub returns-clause-sized : goal.returns-clause-sized

@@ -22,14 +22,14 @@ loop-place-preserved c =
     record {
       length_is = rw pushed (omega (arith, length_push c.loop-place.out.items c.wide_level.result, c.loop-place.invariant.length_is));
       sized = rw pushed (one_more (λ (k : ℕ) (d : WideLevel) (x : WideLevel). IsSizedWide (length c.args.outline.now.lines.items) x) c.loop-place.out.items c.wide_level.result c.loop-place.place c.loop-place.invariant.length_is c.loop-place.invariant.sized
-          (λ d. sized_wide (length c.args.outline.now.lines.items) c.index-levels-place.result.unit c.in-Ok.wide c.wide_level.result unit c.wide_level.ensures.wide c.in-Ok.ensures.sized));
+          (λ d. sized_wide (length c.args.outline.now.lines.items) c.index-levels-place.result.unit c.in_ok-wide.wide c.wide_level.result unit c.wide_level.ensures.wide c.in_ok-wide.ensures.sized));
       each = rw pushed (one_more (λ (k : ℕ) (d : WideLevel) (x : WideLevel). (p : Problem) (at : List Mark) → IsExchangePivot p at c.args.pivot.now → IsOutline p c.args.outline.now → AreLevels p at c.args.outline.now c.args.levels.now
           → IsWideAt p (next_marks p c.args.pivot.now at) (number_at c.args.outline.now.levels.items k) x) c.loop-place.out.items c.wide_level.result c.loop-place.place c.loop-place.invariant.length_is c.loop-place.invariant.each
           (λ d p at turn is sums.
           let sum : IsLevelSum p at (number_at c.args.outline.now.levels.items c.loop-place.place) c.index-levels-place.result =
           subst (IsLevelSum p at (number_at c.args.outline.now.levels.items c.loop-place.place)) (sym c.index-levels-place.is) (sums.each c.loop-place.place c.index-levels-place.result (omega (arith, c.loop-place-test.true, sums.count))) in
-          wide_at p (next_marks p c.args.pivot.now at) (number_at c.args.outline.now.levels.items c.loop-place.place) c.index-levels-place.result.unit c.in-Ok.wide c.wide_level.result unit c.wide_level.ensures.wide
-          sum.there.unit_is (c.in-Ok.ensures.next p at is turn sum)));
+          wide_at p (next_marks p c.args.pivot.now at) (number_at c.args.outline.now.levels.items c.loop-place.place) c.index-levels-place.result.unit c.in_ok-wide.wide c.wide_level.result unit c.wide_level.ensures.wide
+          sum.there.unit_is (c.in_ok-wide.ensures.next p at is turn sum)));
     }
 
 pub returns-clause-next : goal.returns-clause-next

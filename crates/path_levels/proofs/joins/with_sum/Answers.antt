@@ -74,5 +74,5 @@ returns-clause-by c =
     let raw : c.counted-number.result ≡ counted_number c.args.inside.now.side c.args.line (unsigned_abs c.product-unit.result) (unsigned_abs c.args.old.now.own) = simp to_z-of_z at c.counted-number.ensures.value in
     let number_is : c.counted-number.result ≡ counted_number c.args.inside.now.side c.args.line (unsigned_abs c.args.times * unsigned_abs c.args.old.now.unit) (unsigned_abs c.args.old.now.own) =
     raw ∙ ap (λ (n : ℕ). counted_number c.args.inside.now.side c.args.line n (unsigned_abs c.args.old.now.own)) (ap unsigned_abs unit_is ∙ unsigned_abs-mul c.args.times c.args.old.now.unit) in
-    let made : IsCombined c.product-factor.result c.deref.result.now c.counted-number.result c.deref-2.result.now c.in_ok-combined.field-0.items = simp to_z-of_z at c.in_ok-combined.ensures.value in
+    let made : IsCombined c.product-factor.result c.deref.result.now c.counted-number.result c.deref-2.result.now c.in_ok-combined.field-0.items = simp to_z-of_z at c.in_ok-combined.ensures in
     rw (← factor_is, ← number_is, ← c.deref.ensures.value, ← c.deref-2.ensures.value) made

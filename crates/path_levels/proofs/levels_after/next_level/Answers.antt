@@ -1,12 +1,12 @@
-use Rattle.std.proofs.Common.{◌≡◌, ◌∙◌, length, get_or, true, false, rules, SFits, sym, subst, refl, arith}
+use Rattle.std.proofs.Common.{◌≡◌, ◌∙◌, length, true, false, rules, SFits, sym, subst, refl, arith}
 use Rattle.std.specs.Int.{w64}
 use Rattle.std.proofs.lemmas.Int.{to_z-of_z}
 use Rattle.std.proofs.lemmas.Result.{err_from_is_err_and}
 use Rattle.path_checker.proofs.Iffs.{right_then, wrong_then}
 use Rattle.path_levels.specs.Exchanges.FitsAfter.{IsFitLevel, IsMadeLevel}
-use Rattle.path_levels.specs.Shares.{IsSmallFacts, entering_of}
+use Rattle.path_levels.specs.Outlines.{IsPriced}
+use Rattle.path_levels.specs.Shares.{entering_of}
 use Rattle.path_levels.proofs.Exchanges.NextLevels.{IsMadeFrom, made_from, made_level, next_cost_unfit, next_is, next_row_unfit, next_unfit}
-use Rattle.path_levels.proofs.Counting.ShareFacts.{small_facts}
 use Rattle.path_levels.proofs.levels_after.next_level.Goals as goal
 
 pub returns-in_err-numbers-clause-unfit : goal.returns-in_err-numbers-clause-unfit
@@ -17,9 +17,8 @@ returns-in_err-numbers-clause-unfit c =
 
 pub cost_after-requires-clause-line : goal.cost_after-requires-clause-line
 cost_after-requires-clause-line c =
-    subst IsSmallFacts (sym c.index.ensures)
-    (small_facts (length c.args.outline.now.levels.items) (get_or c.args.outline.now.lines.items c.args.exchange.step.enter.at c.index.result.now)
-    (c.requires.outline c.args.exchange.step.enter.at c.index.result.now (omega (arith, c.requires.step.0, c.requires.count))))
+    subst IsPriced (sym c.index.ensures)
+    (c.requires.outline c.args.exchange.step.enter.at c.index.result.now (omega (arith, c.requires.step.0, c.requires.count))).priced
 
 pub returns-in_err-cost-clause-unfit : goal.returns-in_err-cost-clause-unfit
 returns-in_err-cost-clause-unfit c =

@@ -1,7 +1,7 @@
 use Rattle.std.proofs.Common.{◌≡◌, ◌∙◌, ◌*ℤ◌, ℤ, pos, rules, SFits, to_z, of_z, ap}
 use Rattle.std.specs.Int.{w64}
 use Rattle.std.proofs.lemmas.Int.{to_z-of_z}
-use Rattle.path_levels.specs.Shares.{counted_of, share_of}
+use Rattle.path_levels.specs.Shares.{counted_of, share_at}
 use Rattle.path_levels.proofs.Counting.ShareFacts.{counted_fits, counted_small, own_times, unit_fits}
 use Rattle.path_levels.proofs.shares.counted.Goals as goal
 
@@ -16,9 +16,9 @@ overflow_mul-result c =
     let unit : SFits w64 c.args.sum.now.unit = search rules in
     let unit_is : to_z w64 (of_z w64 c.args.sum.now.unit) ≡ c.args.sum.now.unit = to_z-of_z w64 c.args.sum.now.unit unit in
     let result : SFits w64 c.share.result = record { sfits = c.share.type_inv } in
-    let value : c.share.result ≡ pos (share_of c.args.line.now c.args.side c.args.place c.args.sum.now.unit) = rw unit_is at c.share.ensures.value in
+    let value : c.share.result ≡ pos (share_at c.args.line.now c.args.side c.args.place c.args.sum.now.unit) = rw unit_is at c.share.ensures.value in
     let product : SFits w64 (c.args.sum.now.own *ℤ c.share.result) =
-    rw (value, own_times c.args.sum.now.own (share_of c.args.line.now c.args.side c.args.place c.args.sum.now.unit) c.requires.sum.own)
+    rw (value, own_times c.args.sum.now.own (share_at c.args.line.now c.args.side c.args.place c.args.sum.now.unit) c.requires.sum.own)
     (counted_fits c.args.line.now c.args.side c.args.place c.args.sum.now c.requires.line c.requires.sum) in
     simp to_z-of_z product
 
@@ -28,9 +28,9 @@ returns-clause-value c =
     let unit : SFits w64 c.args.sum.now.unit = search rules in
     let unit_is : to_z w64 (of_z w64 c.args.sum.now.unit) ≡ c.args.sum.now.unit = to_z-of_z w64 c.args.sum.now.unit unit in
     let result : SFits w64 c.share.result = record { sfits = c.share.type_inv } in
-    let value : c.share.result ≡ pos (share_of c.args.line.now c.args.side c.args.place c.args.sum.now.unit) = rw unit_is at c.share.ensures.value in
+    let value : c.share.result ≡ pos (share_at c.args.line.now c.args.side c.args.place c.args.sum.now.unit) = rw unit_is at c.share.ensures.value in
     let product : c.args.sum.now.own *ℤ c.share.result ≡ pos (counted_of c.args.line.now c.args.side c.args.place c.args.sum.now) =
-    ap (λ (z : ℤ). c.args.sum.now.own *ℤ z) value ∙ own_times c.args.sum.now.own (share_of c.args.line.now c.args.side c.args.place c.args.sum.now.unit) c.requires.sum.own in
+    ap (λ (z : ℤ). c.args.sum.now.own *ℤ z) value ∙ own_times c.args.sum.now.own (share_at c.args.line.now c.args.side c.args.place c.args.sum.now.unit) c.requires.sum.own in
     let fits : SFits w64 (c.args.sum.now.own *ℤ c.share.result) = rw product (counted_fits c.args.line.now c.args.side c.args.place c.args.sum.now c.requires.line c.requires.sum) in
     simp to_z-of_z product
 

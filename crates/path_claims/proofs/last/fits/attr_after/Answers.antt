@@ -19,7 +19,7 @@ offset_bounds-lines-stay c =
 pub attr_before-requires : goal.attr_before-requires
 attr_before-requires c =
     let within = stay_within c.args.p.now c.args.attr c.in-Some.stay.at c.in-Some.stay.target c.in-Some.ensures.some in
-    subst (IsSizedLine (length c.args.lines.now)) (sym c.index-lines-stay.is) (c.requires.lines c.in-Some.stay.at c.index-lines-stay.result (omega (arith, within, c.requires.count)))
+    subst (IsSizedLine (length c.args.lines.now)) (sym c.index-lines-stay.is) (c.requires.lines_are c.in-Some.stay.at c.index-lines-stay.result (omega (arith, within, c.requires.count)))
 
 pub returns-in_err-before-clause-unfit : goal.returns-in_err-before-clause-unfit
 returns-in_err-before-clause-unfit c =

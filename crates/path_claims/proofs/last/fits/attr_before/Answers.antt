@@ -1,7 +1,6 @@
 use Rattle.std.proofs.Common.{ℕ, None, Some, subst}
 use Rattle.std.proofs.lemmas.Result.{err_from_is_err_and}
 use Rattle.path_checker.specs.Tables.{IsLineAt, name_at}
-use Rattle.path_checker.proofs.Exchanges.Leading.{ok_then}
 use Rattle.path_claims.specs.Sums.{IsUnitSum}
 use Rattle.path_claims.proofs.LastCorner.QuantitiesAfter.{unit_equation, unit_sized}
 use Rattle.path_claims.proofs.LastCorner.AttrsAfter.{inside_attr_sum, inside_attr_unfit, outside_attr, stay_within}
@@ -14,18 +13,16 @@ returns-in_err-value-in-Some-clause-unfit c =
     let kept : IsLineAt p marks (name_at p c.args.at) (Some c.in-Some.inside) = subst (IsLineAt p marks (name_at p c.args.at)) c.in-Some.is line in
     inside_attr_unfit p marks attr c.args.at c.args.target c.in-Some.inside there is kept c.in_err-value-in-Some.ensures.unfit)
 
-pub returns-in_ok-value-in-Some-clause-attr : goal.returns-in_ok-value-in-Some-clause-attr
-returns-in_ok-value-in-Some-clause-attr c =
-    ok_then c.with_value.result (λ next copy p marks attr there count is line.
+pub returns-in_ok-with_value-in-Some-clause-attr : goal.returns-in_ok-with_value-in-Some-clause-attr
+returns-in_ok-with_value-in-Some-clause-attr c = λ p marks attr there count is line.
     let kept : IsLineAt p marks (name_at p c.args.at) (Some c.in-Some.inside) = subst (IsLineAt p marks (name_at p c.args.at)) c.in-Some.is line in
-    inside_attr_sum p marks attr c.args.at c.args.target c.in_ok-value-in-Some.value c.in-Some.inside next there is kept c.in_ok-value-in-Some.ensures.lowest.above c.in_ok-value-in-Some.ensures.value copy) c.with_value.ensures.copy
+    inside_attr_sum p marks attr c.args.at c.args.target c.in_ok-value-in-Some.value c.in-Some.inside c.in_ok-with_value-in-Some.field-0 there is kept c.in_ok-value-in-Some.ensures.lowest.above c.in_ok-value-in-Some.ensures.value c.in_ok-with_value-in-Some.ensures.copy
 
-pub returns-in-None-clause-sized : goal.returns-in-None-clause-sized
-returns-in-None-clause-sized c = ok_then c.unit_sum.result (λ next unit. unit_sized c.args.count c.args.at c.args.target next unit) c.unit_sum.ensures.unit
+pub returns-in_ok-unit_sum-in-None-clause-sized : goal.returns-in_ok-unit_sum-in-None-clause-sized
+returns-in_ok-unit_sum-in-None-clause-sized c = unit_sized c.args.count c.args.at c.args.target c.in_ok-unit_sum-in-None.field-0 c.in_ok-unit_sum-in-None.ensures
 
-pub returns-in-None-clause-attr : goal.returns-in-None-clause-attr
-returns-in-None-clause-attr c =
-    ok_then c.unit_sum.result (λ next unit p marks attr there count is line.
+pub returns-in_ok-unit_sum-in-None-clause-attr : goal.returns-in_ok-unit_sum-in-None-clause-attr
+returns-in_ok-unit_sum-in-None-clause-attr c = λ p marks attr there count is line.
     let out : IsLineAt p marks (name_at p c.args.at) None = subst (IsLineAt p marks (name_at p c.args.at)) c.in-None.is line in
-    unit_equation p marks c.args.at next _ c.args.target there (stay_within p attr c.args.at c.args.target is) (subst (λ (n : ℕ). IsUnitSum n c.args.at c.args.target next) count unit)
-    (outside_attr p marks attr c.args.at c.args.target there is out)) c.unit_sum.ensures.unit
+    unit_equation p marks c.args.at c.in_ok-unit_sum-in-None.field-0 _ c.args.target there (stay_within p attr c.args.at c.args.target is) (subst (λ (n : ℕ). IsUnitSum n c.args.at c.args.target c.in_ok-unit_sum-in-None.field-0) count c.in_ok-unit_sum-in-None.ensures)
+    (outside_attr p marks attr c.args.at c.args.target there is out)

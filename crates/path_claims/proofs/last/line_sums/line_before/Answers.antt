@@ -20,7 +20,7 @@ returns-in-Some-clause-sum c =
     copied_sum p marks (deviation (name_at p c.args.at)) c.in-Some.inside.sum next c.in-Some.inside.sum.value copy kept.1.sized kept.1.equation) c.with_value.ensures.copy
 
 pub returns-in-None-clause-sized : goal.returns-in-None-clause-sized
-returns-in-None-clause-sized c = ok_then c.unit_sum.result (λ next unit. unit_sized c.args.count c.args.at c.zero.result next unit) c.unit_sum.ensures.unit
+returns-in-None-clause-sized c = ok_then c.unit_sum.result (λ next unit. unit_sized c.args.count c.args.at c.zero.result next unit) c.unit_sum.ensures
 
 pub returns-in-None-clause-sum : goal.returns-in-None-clause-sum
 returns-in-None-clause-sum c =
@@ -29,4 +29,4 @@ returns-in-None-clause-sum c =
     let line_is : IsLineSum p marks (deviation (name_at p c.args.at)) 1 (units p c.args.at) c.zero.result.num c.zero.result.den =
     subst (λ (d : ℕ). IsLineSum p marks (deviation (name_at p c.args.at)) 1 (units p c.args.at) c.zero.result.num d) (sym c.zero.ensures.den)
     (subst (λ (z : ℤ). IsLineSum p marks (deviation (name_at p c.args.at)) 1 (units p c.args.at) z 1) (sym c.zero.ensures.num) (unit_line p marks c.args.at there.whole within out)) in
-    unit_equation p marks c.args.at next (deviation (name_at p c.args.at)) c.zero.result there within (subst (λ (n : ℕ). IsUnitSum n c.args.at c.zero.result next) count unit) line_is) c.unit_sum.ensures.unit
+    unit_equation p marks c.args.at next (deviation (name_at p c.args.at)) c.zero.result there within (subst (λ (n : ℕ). IsUnitSum n c.args.at c.zero.result next) count unit) line_is) c.unit_sum.ensures

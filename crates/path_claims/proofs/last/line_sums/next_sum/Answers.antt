@@ -1,16 +1,15 @@
 use Rattle.std.proofs.Common.{◌≡◌, ◌∙◌, ◌<ℤ◌, ℤ, pos, length, false, sym, subst, rules}
 use Rattle.std.proofs.lemmas.Result.{err_from_is_err_and}
-use Rattle.path_checker.proofs.Exchanges.Leading.{ok_then}
 use Rattle.path_checker.proofs.Exchanges.NextLines.{sized_from}
 use Rattle.path_claims.proofs.LastCorner.QuantitiesAfter.{copied_sized, list_unfit_after, moved_after, turned_after, value_unfit_after}
 use Rattle.path_claims.proofs.last.line_sums.next_sum.Goals as goal
 use Rattle.frac_core.proofs.Numbers.{product-up as positive_product}
 
 pub returns-then-pivot-clause-sized : goal.returns-then-pivot-clause-sized
-returns-then-pivot-clause-sized c = ok_then c.with_value.result (λ next copy. copied_sized (length c.args.sum.now.by.items) c.args.sum.now next c.args.sum.now.value copy c.requires.sum) c.with_value.ensures.copy
+returns-then-pivot-clause-sized c = copied_sized (length c.args.sum.now.by.items) c.args.sum.now c.in_ok-with_value.field-0 c.args.sum.now.value c.in_ok-with_value.ensures.copy c.requires.sum
 
 pub returns-then-pivot-clause-next : goal.returns-then-pivot-clause-next
-returns-then-pivot-clause-next c = ok_then c.with_value.result (λ next copy. turned_after c.args.pivot.now c.args.sum.now next c.if-pivot.true copy) c.with_value.ensures.copy
+returns-then-pivot-clause-next c = turned_after c.args.pivot.now c.args.sum.now c.in_ok-with_value.field-0 c.if-pivot.true c.in_ok-with_value.ensures.copy
 
 pub in_lowest_terms-requires : goal.in_lowest_terms-requires
 in_lowest_terms-requires c =

@@ -27,7 +27,7 @@ loop-at-init c = record {
   sized = unit_sized (length c.args.lines.now) (length c.args.lines.now) zero_fraction c.in_ok-sum.sum c.in_ok-sum.ensures.unit;
   kept = c.in_ok-sum.ensures.kept;
   sum = λ marks turn lines.
-      no_terms_yet c.args.p.now (next_marks c.args.p.now c.args.pivot.now marks) c.args.terms.now c.in_ok-sum.sum (length c.args.lines.now) c.requires.count c.in_ok-sum.ensures.unit (corner_after c.args.p.now marks c.args.pivot.now turn);
+      no_terms_yet c.args.p.now (next_marks c.args.p.now c.args.pivot.now marks) c.args.terms.now c.in_ok-sum.sum (length c.args.lines.now) c.requires.exchange.count c.in_ok-sum.ensures.unit (corner_after c.args.p.now marks c.args.pivot.now turn);
 }
 
 pub returns-in_err-more-clause-stop : goal.returns-in_err-more-clause-stop
