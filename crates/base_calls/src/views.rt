@@ -2,7 +2,7 @@
 use frac_core::{Frac, OutOfMemory};
 use name_tables::Metrics;
 use std::alloc::Global;
-use view_tree::{Tree, TreeStop, ViewId};
+use view_tree::{Tree, TreeStop, ViewId, ViewStop};
 
 // The number that a word says, and 0 where it says none.
 fn number_of(word: &str) -> u32 {
@@ -10,7 +10,7 @@ fn number_of(word: &str) -> u32 {
 }
 
 // The call alone: nothing here needs a clause of it.
-fn added(tree: &mut Tree, name: &str, parent: u32) -> Result<ViewId, TreeStop> {
+fn added(tree: &mut Tree, name: &str, parent: u32) -> Result<ViewId, ViewStop> {
     tree.add(name, ViewId(parent))
 }
 

@@ -159,8 +159,8 @@ abbrev pub has_view_number : List LiveView → List mean.Term → Bool
 has_view_number views terms = list_any (λ t. is_view_number views t.of) terms
 
 -- r is the rank of a row that is asked for, or of a required one
-abbrev pub IsPriority : ℕ → Type 0
-IsPriority r = (0 < r) × (r ≤ REQUIRED)
+abbrev pub IsRowRank : ℕ → Type 0
+IsRowRank r = (0 < r) × (r ≤ REQUIRED)
 
 -- w is a weight that a row may have: from 1 up to the limit
 abbrev pub IsWeight : ℕ → Type 0
@@ -169,9 +169,9 @@ IsWeight w = (0 < w) × (w ≤ WEIGHT_LIMIT)
 -- the rank that a priority stands for
 abbrev pub IsRank : List LiveView → MetricList → Option Meant → ℕ → Type 0
 IsRank views metrics None r = r ≡ REQUIRED
-IsRank views metrics (Some (object.Number z)) r = (z ≡ pos (r * UNIT)) × IsPriority r
+IsRank views metrics (Some (object.Number z)) r = (z ≡ pos (r * UNIT)) × IsRowRank r
 IsRank views metrics (Some (object.Name name)) r = (view_named views name ≡ None)
-    × (value_of metrics name ≡ Some (record { num = pos r; den = 1 })) × IsPriority r
+    × (value_of metrics name ≡ Some (record { num = pos r; den = 1 })) × IsRowRank r
 
 -- the number of the view that an operand names
 abbrev pub view_in : List LiveView → Operand → List ℕ

@@ -11,7 +11,8 @@ ghost use Rattle.std.specs.Prelude.{◌≡◌, ◌≤◌, ◌<◌, ◌∷◌, []
 ghost use Rattle.std.specs.Prelude.{length, IfOk, OnOk, IfErr, IfSome, IfNone};
 ghost use Rattle.problem_core.specs.declared.limits.TheConstants.{NUMBER_LIMIT};
 ghost use Rattle.view_tree.specs.Views.{LiveView};
-ghost use Rattle.script_text.specs.View.{terms_view, linear_view, object_view};
+ghost use Rattle.span_text.specs.Objects.{object_view};
+ghost use Rattle.script_text.specs.View.{terms_view, linear_view};
 ghost use Rattle.constraint_compile.specs.Meaning.{MetricList, terms_of, views_in, IsRank, IsWeight};
 ghost use Rattle.constraint_compile.specs.Meaning.{HasDenominator, has_view_number};
 ghost use Rattle.constraint_compile.specs.Stops.{AreKnown, IsWrongNamed, IsCompiled, MayStop};

@@ -3,7 +3,8 @@ mod lookups;
 
 ghost use Rattle.std.specs.Prelude.{◌≡◌, ◌++◌, ◌∷◌, [], ◌||◌, ℕ, None, Some, All, IfOk, IfErr, OnOk};
 ghost use Rattle.std.specs.Prelude.{IfSome, IfNone, false};
-ghost use Rattle.script_text.specs.View.{term_view, terms_view, object_view};
+ghost use Rattle.span_text.specs.Objects.{object_view};
+ghost use Rattle.script_text.specs.View.{term_view, terms_view};
 ghost use Rattle.constraint_compile.specs.Addends as addends;
 ghost use Rattle.constraint_compile.specs.Addends.{addend_view, addends_view, IsKept};
 ghost use Rattle.constraint_compile.specs.Formats.FormatLines.{numbers, option_numbers};

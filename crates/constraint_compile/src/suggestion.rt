@@ -3,7 +3,7 @@ ghost use Rattle.std.specs.Prelude.{◌≡◌, ◌<◌, ◌≤◌, ◌*ℤ◌, p
 ghost use Rattle.std.specs.Prelude.{IfOk, IfErr, OnOk, IfSome, IfNone, OnSome};
 ghost use Rattle.frac_core.specs.Fraction.{IsFitting};
 ghost use Rattle.problem_core.specs.Kept.{IsNumber, IsTerm};
-ghost use Rattle.script_text.specs.View.{object_view};
+ghost use Rattle.span_text.specs.Objects.{object_view};
 ghost use Rattle.constraint_compile.specs.Fractions.{negated, IsConstant, IsSmallConstant};
 ghost use Rattle.constraint_compile.specs.Meaning.{IsRank, unknown_object};
 ghost use Rattle.constraint_compile.specs.Suggestions.{one_term, scale_of, suggested_row, suggested_priority};

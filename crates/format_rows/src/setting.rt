@@ -2,7 +2,7 @@
 use frac_core::{Frac, OutOfMemory};
 use name_tables::{Metrics, NameStop};
 use std::alloc::Global;
-use view_tree::{Tree, TreeStop};
+use view_tree::{Tree, ViewStop};
 
 /// The views, the metrics, and how rows are numbered.
 #[derive(Drop)]
@@ -33,7 +33,7 @@ impl Setting {
         };
         match self.tree.add(name, above) {
             Ok(_) => Ok(true),
-            Err(TreeStop::OutOfMemory) => Err(OutOfMemory),
+            Err(ViewStop::OutOfMemory) => Err(OutOfMemory),
             Err(_) => Ok(false),
         }
     }

@@ -1,8 +1,7 @@
 -- What the reading of a line means, whatever the place of its names in memory.
 use Rattle.std.specs.Prelude.{ℕ, List, map, Option, Some, None}
 use Rattle.std.specs.Borrow.{Bor}
-use Rattle.span_text.specs.Objects.{Meant, meant}
-use Rattle.span_text.specs.declared.object.Object.{Object}
+use Rattle.span_text.specs.Objects.{object_view}
 use Rattle.vfl_text.specs.View.{meaning}
 use Rattle.script_text.specs.Meaning as mean
 use Rattle.script_text.specs.declared.command.Operand as declared_operand
@@ -30,11 +29,6 @@ terms_view ts = map term_view ts
 abbrev pub next_view : Option (ExprTerm × Bor (List ℕ)) → Option (mean.Term × List ℕ)
 next_view None = None
 next_view (Some p) = Some (term_view p.0, p.1.now)
-
--- what an object means, if there is one
-abbrev pub object_view : Option Object → Option Meant
-object_view None = None
-object_view (Some o) = Some (meant o)
 
 -- what a linear constraint means
 abbrev pub linear_view : declared_linear.Linear → mean.Linear

@@ -4,7 +4,8 @@ ghost use Rattle.span_text.specs.Gives.{Gives};
 ghost use Rattle.span_text.specs.GivesOrMemory.{GivesOrMemory};
 ghost use Rattle.script_text.specs.LineReading.{relation_at, object_at, priority_at, weight_at, linear_at};
 ghost use Rattle.script_text.specs.LineReading.{constrain_at};
-ghost use Rattle.script_text.specs.View.{object_view, linear_view, view};
+ghost use Rattle.span_text.specs.Objects.{object_view};
+ghost use Rattle.script_text.specs.View.{linear_view, view};
 
 use crate::command::{Command, Linear};
 use crate::sums::expression;

@@ -13,7 +13,7 @@ use Rattle.view_tree.specs.JsonStops.{AreFree, GoesIn, IsWithin}
 use Rattle.frac_core.specs.Fraction.{Fraction}
 use Rattle.problem_core.specs.Kept.{IsRow}
 use Rattle.problem_core.specs.Layout.{Row}
-use Rattle.constraint_compile.specs.Meaning.{MetricList, IsPriority, IsRank, unknown_object}
+use Rattle.constraint_compile.specs.Meaning.{MetricList, IsRowRank, IsRank, unknown_object}
 use Rattle.constraint_compile.specs.Compiled.{CompiledLine, AreRowsNow, IsFittingSum}
 use Rattle.constraint_compile.specs.Fractions.{plus, negated, IsConstant, IsSmallConstant}
 use Rattle.constraint_compile.specs.Suggestions.{scale_of, suggested_priority}
@@ -186,7 +186,7 @@ pub record IsGoing (scene : Scene) (name gone : List ℕ) : Type 0 where
 -- the suggestion's row has the next number, its rank is one that a priority stands for, and its view is there
 pub record IsNextSuggestion (scene : Scene) (s : Suggestion) : Type 0 where
   pub row : s.row ≡ scene.next_row
-  pub rank : IsPriority s.rank
+  pub rank : IsRowRank s.rank
   pub name : List ℕ
   pub view : LiveView
   pub found : view_named scene.tree.views name ≡ Some view

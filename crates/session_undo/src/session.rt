@@ -27,7 +27,7 @@ use span_text::Object;
 use std::alloc::Global;
 use std::marker::Model;
 use vfl_text::Format;
-use view_tree::{TreeStop, ViewId};
+use view_tree::{TreeStop, ViewId, ViewStop};
 
 // Whether a run may not be allowed so many exchanges.
 fn is_no_budget(exchanges: u64) -> bool
@@ -99,7 +99,7 @@ impl Session {
     ghost use Rattle.constraint_compile.specs.Fractions.{negated, plus};
     ghost use Rattle.constraint_compile.specs.Meaning.{IsRank, unknown_object};
     ghost use Rattle.constraint_compile.specs.Suggestions.{suggested_priority};
-    ghost use Rattle.script_text.specs.View.{object_view};
+    ghost use Rattle.span_text.specs.Objects.{object_view};
     ghost use Rattle.span_text.specs.Objects.{Meant};
     ghost use Rattle.session_undo.specs.Adding.{AddStop, StopStep, NoEnd, NoOther};
     ghost use Rattle.session_undo.specs.Adding.{IsFreeView, IsFreeTree, IsFreeMetric};
@@ -176,11 +176,10 @@ impl Session {
         let mut tree = views.copy()?;
         let first_view = match tree.add(name, above) {
             Ok(id) => id,
-            Err(TreeStop::Limit(word)) => return Err(Refusal::Limit(word)),
-            Err(TreeStop::OutOfMemory) => return Err(Refusal::OutOfMemory),
-            Err(TreeStop::Taken(_)) => unreachable!(),
-            Err(TreeStop::Unknown(_)) => unreachable!(),
-            Err(TreeStop::Syntax | TreeStop::Shape) => unreachable!(),
+            Err(ViewStop::Limit(word)) => return Err(Refusal::Limit(word)),
+            Err(ViewStop::OutOfMemory) => return Err(Refusal::OutOfMemory),
+            Err(ViewStop::Taken) => unreachable!(),
+            Err(ViewStop::Unknown) => unreachable!(),
         };
         if self.is_crowded(VIEW_ROWS as usize) {
             return Err(Refusal::Limit(LimitWord::Rows));
@@ -207,10 +206,8 @@ impl Session {
             Ok(count) => count,
             Err(TreeStop::Syntax) => return Err(Refusal::Syntax(start)),
             Err(TreeStop::Shape) => return Err(Refusal::Kind(KindWord::Tree)),
-            Err(TreeStop::Unknown(Some(name))) => return Err(Refusal::Unknown(name)),
-            Err(TreeStop::Taken(Some(name))) => return Err(Refusal::Taken(name)),
-            Err(TreeStop::Unknown(None)) => unreachable!(),
-            Err(TreeStop::Taken(None)) => unreachable!(),
+            Err(TreeStop::Unknown(name)) => return Err(Refusal::Unknown(name)),
+            Err(TreeStop::Taken(name)) => return Err(Refusal::Taken(name)),
             Err(TreeStop::Limit(word)) => return Err(Refusal::Limit(word)),
             Err(TreeStop::OutOfMemory) => return Err(Refusal::OutOfMemory),
         };

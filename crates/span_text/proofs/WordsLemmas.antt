@@ -3,9 +3,36 @@ use Rattle.std.proofs.Common.{◌≡◌, ℕ, Bool, true, ◌&&◌, ◌≤◌, L
 use Rattle.std.proofs.lemmas.Bool.Decides.{eqb_tells}
 use Rattle.span_text.specs.Language.{Rel, Lit, Words, Begins, Answers, are_bytes, are_words}
 use Rattle.span_text.specs.Classes.{is_byte}
-use Rattle.span_text.specs.Reading.{◌>>=◌, lit_at, apart, all_apart, is_free, after, stepped, with_word, words_at, either, tried}
+use Rattle.span_text.specs.Reading.{◌>>=◌, lit_at, apart, all_apart, is_free, with_word, either, tried}
 use Rattle.span_text.proofs.Answering.{halt, step}
 use Rattle.span_text.proofs.PieceLemmas.{and_parts, bytes_before, agree_same, lit_answers}
+
+-- ---- a table read byte by byte
+
+-- these words, and in front of them what is left of one more behind this byte, if it begins with it
+abbrev pub tail_of : {K : Type 0} → ℕ → List ℕ → K → List (List ℕ × K) → List (List ℕ × K)
+tail_of b [] k ws = ws
+tail_of b (c ∷ w) k ws = if b == c then (w, k) ∷ ws else ws
+
+-- what is left of the words behind this byte, of those that begin with it
+abbrev pub after : {K : Type 0} → ℕ → List (List ℕ × K) → List (List ℕ × K)
+after b [] = []
+after b (w ∷ ws) = tail_of b w.0 w.1 (after b ws)
+
+-- the answer r where words are left behind the byte b, and an error at b where none is
+abbrev pub stepped : {K : Type 0} → List (List ℕ × K) → ℕ → List ℕ → Result (K × List ℕ) ℕ
+    → Result (K × List ℕ) ℕ
+stepped [] b s r = Err (length (b ∷ s))
+stepped (w ∷ ws) b s r = r
+
+-- a word of a table in which none begins another, told byte by byte: its meaning, and the text behind it
+unfoldable pub words_at : {K : Type 0} → List (List ℕ × K) → List ℕ → Result (K × List ℕ) ℕ
+words_at [] s = Err (length s)
+words_at (w ∷ []) s = lit_at w.0 s >>= with_word w.1
+words_at (w ∷ u ∷ ws) [] = Err 0
+words_at (w ∷ u ∷ ws) (b ∷ s) = stepped (after b (w ∷ u ∷ ws)) b s (words_at (after b (w ∷ u ∷ ws)) s)
+
+-- ---- that this is the same as trying each word
 
 and_made : (a b : Bool) → a ≡ true → b ≡ true → (a && b) ≡ true
 and_made a b e f = rw (e, f) refl

@@ -1,7 +1,6 @@
 -- A format without where its names and lists lie in memory.
 use Rattle.std.specs.Prelude.{List, map, Option, Some, None}
-use Rattle.span_text.specs.declared.object.Object.{Object}
-use Rattle.span_text.specs.Objects.{Meant, meant}
+use Rattle.span_text.specs.Objects.{meant, object_view}
 use Rattle.vfl_text.specs.declared.parts.Pred.{Pred}
 use Rattle.vfl_text.specs.declared.parts.Spacing.{Spacing}
 use Rattle.vfl_text.specs.declared.parts.Spacing.TheVariants as spacing
@@ -10,14 +9,9 @@ use Rattle.vfl_text.specs.declared.parts.Format.{Format}
 use Rattle.vfl_text.specs.Formats.{PredMeaning, SpacingMeaning, Flush, Standard, Given, ItemMeaning}
 use Rattle.vfl_text.specs.Formats.{FormatMeaning}
 
--- the meaning of a priority, where there is one
-abbrev pub priority_meaning : Option Object → Option Meant
-priority_meaning None = None
-priority_meaning (Some p) = Some (meant p)
-
 -- the meaning of a predicate
 abbrev pub pred_meaning : Pred → PredMeaning
-pred_meaning p = record { rel = p.rel; object = meant p.object; priority = priority_meaning p.priority }
+pred_meaning p = record { rel = p.rel; object = meant p.object; priority = object_view p.priority }
 
 -- the meanings of predicates, in order
 abbrev pub pred_meanings : List Pred → List PredMeaning

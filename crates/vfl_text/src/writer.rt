@@ -1,13 +1,13 @@
 // The canonical text of a format. What is written is put behind a text; after an error nothing is said of it.
 ghost use Rattle.std.specs.Prelude.{◌≡◌, ◌<◌, ◌+◌, ◌++◌, OnOk, length};
 ghost use Rattle.span_text.specs.Bytes.{digit_0};
-ghost use Rattle.span_text.specs.Objects.{meant};
+ghost use Rattle.span_text.specs.Objects.{meant, object_view};
 ghost use Rattle.span_text.specs.declared.limits.TheConstants.{UNIT};
 ghost use Rattle.vfl_text.specs.Text.{decimals_text, number_text, object_text, relation_text, priority_text};
 ghost use Rattle.vfl_text.specs.Text.{pred_text, more_text, preds_text, list_text, sizes_text, item_text};
 ghost use Rattle.vfl_text.specs.Text.{is_plain, is_simple, given_text, spacing_text, axis_text, from_text};
 ghost use Rattle.vfl_text.specs.Text.{to_text, chain_text, views_text, format_text};
-ghost use Rattle.vfl_text.specs.View.{pred_meaning, pred_meanings, priority_meaning, item_meaning};
+ghost use Rattle.vfl_text.specs.View.{pred_meaning, pred_meanings, item_meaning};
 ghost use Rattle.vfl_text.specs.View.{item_meanings, spacing_meaning, spacing_meanings, end_meaning, meaning};
 
 use crate::parts::{Axis, Format, Item, Pred, Spacing};
@@ -85,7 +85,7 @@ fn write_relation(rel: Rel, text: &mut Vec<u8>) -> Result<(), OutOfMemory>
 
 fn write_priority(priority: Option<Object<'_>>, text: &mut Vec<u8>) -> Result<(), OutOfMemory>
     ensures { OnOk result (text.new.items ≡ text.old.items
-        ++ priority_text (priority_meaning priority.entry)) }
+        ++ priority_text (object_view priority.entry)) }
 {
     if let Some(object) = priority {
         text.push(b'@')?;

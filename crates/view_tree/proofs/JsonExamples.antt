@@ -124,10 +124,10 @@ outer_place = refl
 abbrev nothing : ViewTree
 nothing = record { views = []; next = 0 }
 
-pub unknown_holds : MayStayOut nothing gap two_views (Unknown (Some (codes "window")))
+pub unknown_holds : MayStayOut nothing gap two_views (Unknown (codes "window"))
 unknown_holds = (two_tree, text_two, refl, refl)
 
-pub unknown_fails : MayStayOut bare gap two_views (Unknown (Some (codes "window"))) → ⊥
+pub unknown_fails : MayStayOut bare gap two_views (Unknown (codes "window")) → ⊥
 unknown_fails h = none-some window (sym h.2 ∙ ap (λ (tree : JsonTree). view_named bare.views tree.place) (sym (one_tree h.0 h.1)))
 
 -- ---- names that are taken
@@ -156,11 +156,11 @@ module _ (t : ViewTree) (metrics : List (List ℕ × Fraction)) where
   free_is_not_held all name free first =
       true≢false (sym first.held ∙ none_held [] first.before name first.later (subst (AreFree t metrics []) first.split free))
 
-pub taken_fails : (name : List ℕ) → MayStayOut bare gap two_views (Taken (Some name)) → ⊥
+pub taken_fails : (name : List ℕ) → MayStayOut bare gap two_views (Taken name) → ⊥
 taken_fails name h =
     let same : two_tree ≡ h.0 = one_tree h.0 h.1 in
-    free_is_not_held bare gap (codes "p" ∷ codes "q" ∷ []) h.3.0 free_names
-    (subst (λ (tree : JsonTree). IsFirstHeld bare gap (names tree.branch) h.3.0) (sym same) h.3.1)
+    free_is_not_held bare gap (codes "p" ∷ codes "q" ∷ []) name free_names
+    (subst (λ (tree : JsonTree). IsFirstHeld bare gap (names tree.branch) name) (sym same) h.3)
 
 -- ---- limits
 

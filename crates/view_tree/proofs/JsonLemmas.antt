@@ -238,9 +238,9 @@ module _ (t : ViewTree) (metrics : List (List ℕ × Fraction)) (text : List ℕ
   placed : IsSome (view_named t.views read.tree.place)
   placed = some_mapped (λ (v : LiveView). v.id) (view_named t.views read.tree.place) parent goes
 
-  pub taken_by : (views : List Planned) → views ≡ plan.views.items → (name : List ℕ) → IsFirstHeld t metrics (names_of_plan views) name → (held : Option (List ℕ)) → held ≡ Some name
+  pub taken_by : (views : List Planned) → views ≡ plan.views.items → (name : List ℕ) → IsFirstHeld t metrics (names_of_plan views) name → (held : List ℕ) → held ≡ name
       → MayStayOut t metrics text (stop.Taken held)
-  taken_by views are name first held is = (read.tree, read.from_text, placed, (name, subst (λ ns. IsFirstHeld t metrics ns name) (ap names_of_plan are ∙ names_are plan read.tree read.planned) first, is))
+  taken_by views are name first held is = (read.tree, read.from_text, placed, subst (λ n. IsFirstHeld t metrics (names read.tree.branch) n) (sym is) (subst (λ ns. IsFirstHeld t metrics ns name) (ap names_of_plan are ∙ names_are plan read.tree read.planned) first))
 
   free_names : (views : List Planned) → views ≡ plan.views.items → AreFree t metrics [] (names_of_plan views) → AreFree t metrics [] (names read.tree.branch)
   free_names views are free = subst (AreFree t metrics []) (ap names_of_plan are ∙ names_are plan read.tree read.planned) free

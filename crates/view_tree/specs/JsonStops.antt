@@ -80,11 +80,11 @@ pub record IsGrown (old : ViewTree) (metrics : List (List ℕ × Fraction)) (tex
 abbrev pub MayStayOut : ViewTree → List (List ℕ × Fraction) → List ℕ → TreeStop → Type 0
 MayStayOut t metrics text Syntax = (d : Data) → IsJson text d → ⊥
 MayStayOut t metrics text Shape = (d : Data) × IsJson text d × (tree_of d ≡ None)
-MayStayOut t metrics text (Unknown held) = (tree : JsonTree) × IsTreeText text tree
-    × (view_named t.views tree.place ≡ None) × (held ≡ Some tree.place)
-MayStayOut t metrics text (Taken held) = (tree : JsonTree) × IsTreeText text tree
+MayStayOut t metrics text (Unknown name) = (tree : JsonTree) × IsTreeText text tree
+    × (view_named t.views tree.place ≡ None) × (name ≡ tree.place)
+MayStayOut t metrics text (Taken name) = (tree : JsonTree) × IsTreeText text tree
     × IsSome (view_named t.views tree.place)
-    × ((name : List ℕ) × IsFirstHeld t metrics (names tree.branch) name × (held ≡ Some name))
+    × IsFirstHeld t metrics (names tree.branch) name
 MayStayOut t metrics text (Limit word) = (tree : JsonTree) × IsTreeText text tree
     × ((parent : ℕ) × GoesIn t tree parent × AreFree t metrics [] (names tree.branch)
     × PassesTreeLimit t parent tree.branch word)

@@ -6,8 +6,8 @@ use Rattle.name_tables.specs.declared.stops.LimitWord.TheVariants.{Name, Views, 
 use Rattle.name_tables.specs.declared.stops.TheConstants.{NAME_LIMIT}
 use Rattle.view_tree.specs.Views.{ViewTree, IsAtDepth, view_named, view_of}
 use Rattle.view_tree.specs.declared.limits.TheConstants.{DEPTH_LIMIT, ID_LIMIT, VIEW_LIMIT}
-use Rattle.view_tree.specs.declared.stops.TreeStop.{TreeStop}
-use Rattle.view_tree.specs.declared.stops.TreeStop.TheVariants.{Unknown, Taken, Limit, OutOfMemory}
+use Rattle.view_tree.specs.declared.stops.ViewStop.{ViewStop}
+use Rattle.view_tree.specs.declared.stops.ViewStop.TheVariants.{Unknown, Taken, Limit, OutOfMemory}
 
 -- there are as many views as there may be, or no number is left
 abbrev pub is_full : ViewTree → Bool
@@ -30,11 +30,9 @@ PassesLimit t name parent Depth = (length name ≤ NAME_LIMIT) × (is_full t ≡
 PassesLimit t name parent _ = ⊥
 
 -- when a view that is to be added may be refused
-abbrev pub MayStop : ViewTree → List ℕ → ℕ → TreeStop → Type 0
-MayStop t name parent (Unknown held) = (held ≡ None) × (view_of t.views parent ≡ None)
-MayStop t name parent (Taken held) = (held ≡ None) × IsSome (view_of t.views parent)
-    × IsSome (view_named t.views name)
+abbrev pub MayStop : ViewTree → List ℕ → ℕ → ViewStop → Type 0
+MayStop t name parent Unknown = view_of t.views parent ≡ None
+MayStop t name parent Taken = IsSome (view_of t.views parent) × IsSome (view_named t.views name)
 MayStop t name parent (Limit word) = IsSome (view_of t.views parent) × (view_named t.views name ≡ None)
     × PassesLimit t name parent word
 MayStop t name parent OutOfMemory = IsNewView t name parent
-MayStop t name parent _ = ⊥

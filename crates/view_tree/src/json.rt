@@ -16,7 +16,7 @@ ghost use Rattle.view_tree.specs.Views.{IsAtDepth, IsTree, view_named, view_of, 
 
 use crate::limits::{DEPTH_LIMIT, ID_LIMIT, VIEW_LIMIT};
 use crate::plan::{Plan, Planned, plan_of};
-use crate::stops::TreeStop;
+use crate::stops::{TreeStop, ViewStop};
 use crate::tree::Tree;
 use crate::view::ViewId;
 use frac_core::{OutOfMemory, Stop};
@@ -135,11 +135,10 @@ impl Tree {
         };
         match self.add(view.name, parent) {
             Ok(_) => Ok(()),
-            Err(TreeStop::OutOfMemory) => Err(OutOfMemory),
-            Err(TreeStop::Syntax | TreeStop::Shape) => unreachable!(),
-            Err(TreeStop::Unknown(_)) => unreachable!(),
-            Err(TreeStop::Taken(_)) => unreachable!(),
-            Err(TreeStop::Limit(_)) => unreachable!(),
+            Err(ViewStop::OutOfMemory) => Err(OutOfMemory),
+            Err(ViewStop::Unknown) => unreachable!(),
+            Err(ViewStop::Taken) => unreachable!(),
+            Err(ViewStop::Limit(_)) => unreachable!(),
         }
     }
 
@@ -190,11 +189,11 @@ impl Tree {
         };
         let Some(parent) = self.find(plan.place) else {
             let name = OwnedName::of(alloc, plan.place.as_bytes())?;
-            return Err(TreeStop::Unknown(Some(name)));
+            return Err(TreeStop::Unknown(name));
         };
         if let Some(name) = self.first_held(&plan.views, metrics)? {
             let name = OwnedName::of(alloc, name.as_bytes())?;
-            return Err(TreeStop::Taken(Some(name)));
+            return Err(TreeStop::Taken(name));
         }
         if let Some(word) = self.plan_limit(&plan, parent) {
             return Err(TreeStop::Limit(word));

@@ -32,6 +32,6 @@ mod view;
 pub use attributes::Attributes;
 pub use laws::{depth_is_unique, numbers_rise};
 pub use limits::{DEPTH_LIMIT, ID_LIMIT, VIEW_LIMIT};
-pub use stops::TreeStop;
+pub use stops::{TreeStop, ViewStop};
 pub use tree::Tree;
 pub use view::{View, ViewId};

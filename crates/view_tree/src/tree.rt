@@ -11,7 +11,7 @@ ghost use Rattle.view_tree.specs.declared.limits.TheConstants.{DEPTH_LIMIT, ID_L
 ghost use Rattle.view_tree.specs.Drops.{AreGoing, goes, is_among, without};
 
 use crate::limits::{DEPTH_LIMIT, ID_LIMIT, VIEW_LIMIT};
-use crate::stops::TreeStop;
+use crate::stops::ViewStop;
 use crate::view::{View, ViewId};
 use frac_core::OutOfMemory;
 use name_tables::{LimitWord, NAME_LIMIT, NameMap};
@@ -193,25 +193,25 @@ impl Tree {
     }
 
     // The depth of a new view below this parent, or the first cause that there is against it.
-    fn depth_below(&self, name: &str, parent: ViewId) -> Result<u32, TreeStop>
+    fn depth_below(&self, name: &str, parent: ViewId) -> Result<u32, ViewStop>
         ensures depth { IfOk result (λ depth. (above : ℕ) × IsAtDepth self.now.views parent.0 above
             × (depth ≡ above + 1)) }
         ensures low { IfOk result (λ depth. depth ≤ DEPTH_LIMIT) }
         ensures new { OnOk result (IsNewView self.now name.now parent.0) }
         ensures refused { IfErr result (MayStop self.now name.now parent.0) }
     {
-        let above = self.node(parent).ok_or(TreeStop::Unknown(None))?;
+        let above = self.node(parent).ok_or(ViewStop::Unknown)?;
         if self.has_name(name) {
-            return Err(TreeStop::Taken(None));
+            return Err(ViewStop::Taken);
         }
         if name.len() > NAME_LIMIT {
-            return Err(TreeStop::Limit(LimitWord::Name));
+            return Err(ViewStop::Limit(LimitWord::Name));
         }
         if self.is_full() {
-            return Err(TreeStop::Limit(LimitWord::Views));
+            return Err(ViewStop::Limit(LimitWord::Views));
         }
         if above.depth >= DEPTH_LIMIT {
-            return Err(TreeStop::Limit(LimitWord::Depth));
+            return Err(ViewStop::Limit(LimitWord::Depth));
         }
         Ok(above.depth + 1)
     }
@@ -229,7 +229,7 @@ impl Tree {
     /// first limit that would be passed: `Name` past [`NAME_LIMIT`] bytes, `Views` at [`VIEW_LIMIT`] live
     /// views or at the number [`ID_LIMIT`], `Depth` below a parent at [`DEPTH_LIMIT`]. After a refusal all is
     /// as before.
-    pub fn add(&mut self, name: &str, parent: ViewId) -> Result<ViewId, TreeStop>
+    pub fn add(&mut self, name: &str, parent: ViewId) -> Result<ViewId, ViewStop>
         ensures id { IfOk result (λ id. id.0 ≡ self.old.next) }
         ensures new { OnOk result (IsNewView self.old name.now parent.0) }
         ensures added { OnOk result (self.new ≡ with_view self.old name.now parent.0) }

@@ -84,17 +84,17 @@ abbrev pub option_numbers : Option ViewId → List ℕ
 option_numbers id = option_to_list (option_map (λ v. v.0) id)
 
 -- the number of the live view of this name, if there is one
-abbrev pub number_of : List LiveView → List ℕ → List ℕ
-number_of views name = option_to_list (option_map (λ v. v.id) (view_named views name))
+abbrev pub ids_named : List LiveView → List ℕ → List ℕ
+ids_named views name = option_to_list (option_map (λ v. v.id) (view_named views name))
 
 -- the number of the live view that an object names, if it names one
 abbrev pub object_views : List LiveView → Meant → List ℕ
 object_views views (object.Number z) = []
-object_views views (object.Name name) = number_of views name
+object_views views (object.Name name) = ids_named views name
 
 -- the number of the live view that the text of a part names, if it names one; a bar names none
 abbrev pub part_views : List LiveView → Part → List ℕ
-part_views views (View name) = number_of views name
+part_views views (View name) = ids_named views name
 part_views views (Bar name) = []
 part_views views (Asks span pred) = object_views views pred.object
 

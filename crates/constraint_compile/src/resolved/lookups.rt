@@ -2,7 +2,7 @@
 ghost use Rattle.std.specs.Prelude.{◌≡◌, ℕ, ◌*◌, pos, Some, is_some, IfSome, IfNone};
 ghost use Rattle.span_text.specs.declared.limits.TheConstants.{UNIT};
 ghost use Rattle.view_tree.specs.Views.{view_named};
-ghost use Rattle.constraint_compile.specs.Meaning.{IsPriority};
+ghost use Rattle.constraint_compile.specs.Meaning.{IsRowRank};
 
 use frac_core::Frac;
 use problem_core::REQUIRED;
@@ -18,8 +18,8 @@ pub(crate) fn is_view(tree: &Tree, name: &str) -> bool
 
 /// The rank that this number of thousandths is.
 pub(crate) fn rank_of_thousandths(thousandths: i32) -> Option<u16>
-    ensures some { IfSome result (λ r. (thousandths ≡ pos (r * UNIT)) × IsPriority r) }
-    ensures none { IfNone result ((r : ℕ) → thousandths ≡ pos (r * UNIT) → IsPriority r → ⊥) }
+    ensures some { IfSome result (λ r. (thousandths ≡ pos (r * UNIT)) × IsRowRank r) }
+    ensures none { IfNone result ((r : ℕ) → thousandths ≡ pos (r * UNIT) → IsRowRank r → ⊥) }
 {
     if thousandths <= 0 {
         return None;
@@ -33,8 +33,8 @@ pub(crate) fn rank_of_thousandths(thousandths: i32) -> Option<u16>
 
 // The rank that the fraction is.
 fn rank_of_fraction(f: Frac) -> Option<u16>
-    ensures some { IfSome result (λ r. (f ≡ record { num = pos r; den = 1 }) × IsPriority r) }
-    ensures none { IfNone result ((r : ℕ) → f ≡ record { num = pos r; den = 1 } → IsPriority r → ⊥) }
+    ensures some { IfSome result (λ r. (f ≡ record { num = pos r; den = 1 }) × IsRowRank r) }
+    ensures none { IfNone result ((r : ℕ) → f ≡ record { num = pos r; den = 1 } → IsRowRank r → ⊥) }
 {
     let num = f.num();
     if f.den() == 1 && num > 0 && num <= i64::from(REQUIRED) {
@@ -46,8 +46,8 @@ fn rank_of_fraction(f: Frac) -> Option<u16>
 
 /// The rank that the metric's value is, where the metric is there.
 pub(crate) fn rank_of_metric(value: Option<Frac>) -> Option<u16>
-    ensures some { IfSome result (λ r. (value ≡ Some (record { num = pos r; den = 1 })) × IsPriority r) }
-    ensures none { IfNone result ((r : ℕ) → value ≡ Some (record { num = pos r; den = 1 }) → IsPriority r
+    ensures some { IfSome result (λ r. (value ≡ Some (record { num = pos r; den = 1 })) × IsRowRank r) }
+    ensures none { IfNone result ((r : ℕ) → value ≡ Some (record { num = pos r; den = 1 }) → IsRowRank r
         → ⊥) }
 {
     rank_of_fraction(value?)

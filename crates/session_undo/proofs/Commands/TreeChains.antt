@@ -160,20 +160,13 @@ module _ (old : State) (text : List ℕ) where
     count_is = grown.counted;
   }
 
-  pub no-unknown : MayStayOut old.scene.tree old.scene.metrics text (stays.Unknown None) → ⊥
-  no-unknown (tree, read, none, is) = none-some tree.place is
-
-  pub no-taken : MayStayOut old.scene.tree old.scene.metrics text (stays.Taken None) → ⊥
-  no-taken (tree, read, some, (name, first, is)) = none-some name is
-
   module _ (start : ℕ) (End : Scene → Reply → State → Type 0) where
-    pub unknown-tree : (name : List ℕ) → MayStayOut old.scene.tree old.scene.metrics text (stays.Unknown (Some name)) → TriedTree old text start End (Unknown name) old
+    pub unknown-tree : (name : List ℕ) → MayStayOut old.scene.tree old.scene.metrics text (stays.Unknown name) → TriedTree old text start End (Unknown name) old
     unknown-tree name (tree, read, none, is) =
-        subst (λ (n : List ℕ). TriedTree old text start End (Unknown n) old) (sym (same_Some name tree.place is)) (tree-unknown old text start End tree read none)
+        subst (λ (n : List ℕ). TriedTree old text start End (Unknown n) old) (sym is) (tree-unknown old text start End tree read none)
 
-    pub taken-tree : (name : List ℕ) → MayStayOut old.scene.tree old.scene.metrics text (stays.Taken (Some name)) → TriedTree old text start End (Taken name) old
-    taken-tree name (tree, read, some, (held, first, is)) =
-        subst (λ (n : List ℕ). TriedTree old text start End (Taken n) old) (sym (same_Some name held is)) (tree-taken old text start End tree held read some first)
+    pub taken-tree : (name : List ℕ) → MayStayOut old.scene.tree old.scene.metrics text (stays.Taken name) → TriedTree old text start End (Taken name) old
+    taken-tree name (tree, read, some, first) = tree-taken old text start End tree name read some first
 
     pub limited-tree : (limit : LimitWord) → MayStayOut old.scene.tree old.scene.metrics text (stays.Limit limit) → TriedTree old text start End (Limit limit) old
     limited-tree limit (tree, read, (parent, goes, free, passes)) = tree-limited old text start End tree parent limit read goes free passes

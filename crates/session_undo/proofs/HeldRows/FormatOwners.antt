@@ -18,7 +18,7 @@ use Rattle.script_text.specs.Meaning as mean
 use Rattle.constraint_compile.specs.Meaning.{HasDenominator, MetricList, minus, terms_of, view_in, views_in}
 use Rattle.constraint_compile.specs.Compiled.{RowForm, CompiledLine}
 use Rattle.constraint_compile.specs.Formats.FormatParts.{End, Span, Part, View, Bar, Asks, parts, parts_over, asks, spacing_parts, item_parts, chain_parts, front_parts, back_parts, aligned_parts, align_parts, aligned_word, last_name, own, parents, size, between, inside_near, inside_far, near, far, extent}
-use Rattle.constraint_compile.specs.Formats.FormatLines.{line_of, lines_of, minus_terms, name_in, name_of, number_of, object_term, object_views, owner_name, part_views, parts_views}
+use Rattle.constraint_compile.specs.Formats.FormatLines.{line_of, lines_of, minus_terms, name_in, name_of, ids_named, object_term, object_views, owner_name, part_views, parts_views}
 use Rattle.constraint_compile.specs.Formats.FormatRefusals.{lacks_parent, parent_of}
 use Rattle.constraint_compile.specs.Formats.FormatRows.{AreRowsOf, IsCompiledFormat}
 use Rattle.session_undo.specs.Attributes.{AreOwned, HasOwner, IsClose}
@@ -91,16 +91,16 @@ module _ (t : ViewTree) (tree : IsTree t) where
 
     -- the view of this name is named
     abbrev Known : List ℕ → Type 0
-    Known name = Each (λ id. Contains named id) (number_of t.views name)
+    Known name = Each (λ id. Contains named id) (ids_named t.views name)
 
     -- the view of the end is close
     abbrev IsCloseEnd : End → Type 0
-    IsCloseEnd e = Each Close (number_of t.views (owner_name t.views e.owner e.view))
+    IsCloseEnd e = Each Close (ids_named t.views (owner_name t.views e.owner e.view))
 
     own-close : (name : List ℕ) (w : AttrWord) → Known name → IsCloseEnd (own name w)
-    own-close name w known = each-map (λ id. Contains named id) Close (λ id h. inl h) (number_of t.views name) known
+    own-close name w known = each-map (λ id. Contains named id) Close (λ id h. inl h) (ids_named t.views name) known
 
-    close-found : (child pid : ℕ) (q : Option LiveView) → Contains named child → HasParent t.views child (Some pid) → view_of t.views pid ≡ q → (q ≡ None → ⊥) → Each Close (number_of t.views (name_in q))
+    close-found : (child pid : ℕ) (q : Option LiveView) → Contains named child → HasParent t.views child (Some pid) → view_of t.views pid ≡ q → (q ≡ None → ⊥) → Each Close (ids_named t.views (name_in q))
     close-found child pid None known has is live = absurd (live refl)
     close-found child pid (Some q) known has is live =
         let found = found-each (λ v. ⊤) pid t.views q is (all-true t.views) in
@@ -111,14 +111,14 @@ module _ (t : ViewTree) (tree : IsTree t) where
         all-true [] = tt
         all-true (v ∷ views) = (tt, all-true views)
 
-    close-up : (u w : LiveView) (p : Option ℕ) → Contains named u.id → view_of t.views u.id ≡ Some w → w.parent ≡ p → is_none p ≡ false → Each Close (number_of t.views (name_of t.views p))
+    close-up : (u w : LiveView) (p : Option ℕ) → Contains named u.id → view_of t.views u.id ≡ Some w → w.parent ≡ p → is_none p ≡ false → Each Close (ids_named t.views (name_of t.views p))
     close-up u w None known found up has = absurd (true≢false has)
     close-up u w (Some pid) known found up has =
         let parent : HasParent t.views u.id (Some pid) = ap (option_map (λ (v : LiveView). v.parent)) found ∙ ap Some up in
         close-found u.id pid (view_of t.views pid) known parent refl (λ none. parent-lives u.id pid w found parent none)
 
     close-at : (u : LiveView) (w : Option LiveView) → Contains named u.id → view_of t.views u.id ≡ w → is_none (option_and_then (λ v. v.parent) w) ≡ false
-        → Each Close (number_of t.views (name_of t.views (option_and_then (λ v. v.parent) w)))
+        → Each Close (ids_named t.views (name_of t.views (option_and_then (λ v. v.parent) w)))
     close-at u None known found has = absurd (true≢false has)
     close-at u (Some w) known found has = close-up u w w.parent known found refl has
 
@@ -126,7 +126,7 @@ module _ (t : ViewTree) (tree : IsTree t) where
     parent_in o = option_and_then (λ id. option_and_then (λ v. v.parent) (view_of t.views id)) (option_map (λ v. v.id) o)
 
     close-parent : (u : Option LiveView) → Each (λ id. Contains named id) (option_to_list (option_map (λ v. v.id) u)) → is_none (parent_in u) ≡ false
-        → Each Close (number_of t.views (name_of t.views (parent_in u)))
+        → Each Close (ids_named t.views (name_of t.views (parent_in u)))
     close-parent None known has = absurd (true≢false has)
     close-parent (Some u) known has = close-at u (view_of t.views u.id) known.0 refl has
 
@@ -142,19 +142,19 @@ module _ (t : ViewTree) (tree : IsTree t) where
     object-close : (w : AttrWord) (o : Meant) → Each (λ id. Contains named id) (object_views t.views o) → Each Close (views_in t.views (minus (object_term t.views w o) ∷ []))
     object-close w (object.Number z) h = tt
     object-close w (object.Name name) h = elim (is_some (view_named t.views name)) as (λ b. Each Close (view_in t.views (if b then mean.Attr name w else mean.Metric name) ++ [])) [
-      | true ↦ each-join Close (number_of t.views name) [] (each-map (λ id. Contains named id) Close (λ id g. inl g) (number_of t.views name) h) tt
+      | true ↦ each-join Close (ids_named t.views name) [] (each-map (λ id. Contains named id) Close (λ id g. inl g) (ids_named t.views name) h) tt
       | false ↦ tt
     ]
 
     rest-close : (w : AttrWord) (o : Meant) (e : Option End) → IsCloseMinus e → Each (λ id. Contains named id) (object_views t.views o)
         → Each Close (views_in t.views (map minus (minus_terms t.views e ++ object_term t.views w o ∷ [])))
     rest-close w o None h g = object-close w o g
-    rest-close w o (Some e) h g = each-join Close (number_of t.views (owner_name t.views e.owner e.view)) (views_in t.views (minus (object_term t.views w o) ∷ [])) h (object-close w o g)
+    rest-close w o (Some e) h g = each-join Close (ids_named t.views (owner_name t.views e.owner e.view)) (views_in t.views (minus (object_term t.views w o) ∷ [])) h (object-close w o g)
 
     line-close : (s : Span) (p : PredMeaning) → IsCloseEnd s.plus → IsCloseMinus s.minus → Each (λ id. Contains named id) (object_views t.views p.object)
         → Each Close (views_in t.views (terms_of (line_of t.views s p)))
     line-close s p plus less object =
-        each-join Close (number_of t.views (owner_name t.views s.plus.owner s.plus.view)) (views_in t.views (map minus (minus_terms t.views s.minus ++ object_term t.views s.plus.word p.object ∷ []))) plus
+        each-join Close (ids_named t.views (owner_name t.views s.plus.owner s.plus.view)) (views_in t.views (map minus (minus_terms t.views s.minus ++ object_term t.views s.plus.word p.object ∷ []))) plus
         (rest-close s.plus.word p.object s.minus less object)
 
     abbrev IsClosePart : Part → Type 0

@@ -10,7 +10,7 @@ use Rattle.span_text.specs.Objects.{Meant}
 use Rattle.span_text.specs.Objects as object
 use Rattle.view_tree.specs.Views.{LiveView}
 use Rattle.script_text.specs.Meaning as mean
-use Rattle.constraint_compile.specs.Meaning.{MetricList, IsRank, IsPriority}
+use Rattle.constraint_compile.specs.Meaning.{MetricList, IsRank, IsRowRank}
 use Rattle.constraint_compile.specs.Compiled.{RowForm, AreRowsNow}
 use Rattle.constraint_compile.specs.Formats.FormatRows.{AreRowsOf}
 use Rattle.session_undo.specs.Items.{rows_of_views, size_rows}
@@ -21,7 +21,7 @@ HasRank r = 0 < r.rank
 abbrev pub FormHasRank : RowForm → Type 0
 FormHasRank f = 0 < f.rank
 
-pub rank-in-thousand : (views : List LiveView) (ms : MetricList) (priority : Option Meant) (rank : ℕ) → IsRank views ms priority rank → IsPriority rank
+pub rank-in-thousand : (views : List LiveView) (ms : MetricList) (priority : Option Meant) (rank : ℕ) → IsRank views ms priority rank → IsRowRank rank
 rank-in-thousand views ms None rank is = (omega (arith, is), omega (arith, is))
 rank-in-thousand views ms (Some (object.Number z)) rank is = is.1
 rank-in-thousand views ms (Some (object.Name name)) rank is = is.2

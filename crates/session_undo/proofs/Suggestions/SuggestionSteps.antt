@@ -3,9 +3,8 @@ use Rattle.std.proofs.Common.{◌≡◌, ℕ, false, true≢false, is_some, List
 use Rattle.std.specs.Option.{option_map}
 use Rattle.std.proofs.lemmas.Option.{none-some, same_Some}
 use Rattle.frac_core.specs.Fraction.{Fraction}
-use Rattle.span_text.specs.Objects.{Meant}
+use Rattle.span_text.specs.Objects.{Meant, object_view}
 use Rattle.span_text.specs.declared.object.Object.{Object}
-use Rattle.script_text.specs.View.{object_view}
 use Rattle.script_text.specs.declared.words.AttrWord.{AttrWord}
 use Rattle.view_tree.specs.Views.{LiveView, view_named}
 use Rattle.constraint_compile.specs.Meaning.{IsRank, unknown_object}

@@ -1,6 +1,7 @@
 use Rattle.std.proofs.Common.{◌≡◌, ◌∙◌, sym, false}
 use Rattle.std.proofs.lemmas.Result.{err_from_is_err_and}
-use Rattle.script_text.specs.View.{linear_view, object_view}
+use Rattle.span_text.specs.Objects.{object_view}
+use Rattle.script_text.specs.View.{linear_view}
 use Rattle.constraint_compile.specs.Meaning.{IsRank, has_view_number, terms_of}
 use Rattle.constraint_compile.proofs.line.compile_line.Goals as goal
 

@@ -1,14 +1,14 @@
 use Rattle.std.proofs.Common.{◌≡◌, ℕ, pos, Option, Some, None, IfNone, sym, ◌∙◌}
 use Rattle.frac_core.specs.Fraction.{Fraction}
-use Rattle.constraint_compile.specs.Meaning.{IsPriority}
+use Rattle.constraint_compile.specs.Meaning.{IsRowRank}
 use Rattle.constraint_compile.proofs.resolved.lookups.rank_of_metric.Goals as goal
 
 inner : (f g : Fraction) → Some f ≡ Some g → f ≡ g
 inner f g e = cc
 
 through : (o : Option ℕ) (value : Option Fraction) (f : Fraction) → value ≡ Some f
-    → IfNone o ((r : ℕ) → f ≡ record { num = pos r; den = 1 } → IsPriority r → ⊥)
-    → IfNone o ((r : ℕ) → value ≡ Some (record { num = pos r; den = 1 }) → IsPriority r → ⊥)
+    → IfNone o ((r : ℕ) → f ≡ record { num = pos r; den = 1 } → IsRowRank r → ⊥)
+    → IfNone o ((r : ℕ) → value ≡ Some (record { num = pos r; den = 1 }) → IsRowRank r → ⊥)
 through (Some x) value f is none = tt
 through None value f is none = λ r e within. none r (inner f (record { num = pos r; den = 1 }) (sym is ∙ e)) within
 

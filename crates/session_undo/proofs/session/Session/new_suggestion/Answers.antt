@@ -1,5 +1,5 @@
 use Rattle.std.proofs.Common.{ℕ, sym, subst}
-use Rattle.script_text.specs.View.{object_view}
+use Rattle.span_text.specs.Objects.{object_view}
 use Rattle.view_tree.specs.Views.{view_named}
 use Rattle.session_undo.specs.declared.item.suggesting.NewSuggestion.{NewSuggestion}
 use Rattle.session_undo.specs.Adding.{IsFreeSuggestion, IsSuggestionFor, NoEnd, SuggestStep}

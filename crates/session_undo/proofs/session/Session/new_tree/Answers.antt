@@ -3,7 +3,7 @@ use Rattle.view_tree.specs.JsonStops.{IsGrown}
 use Rattle.session_undo.specs.Adding.{NoEnd}
 use Rattle.session_undo.specs.Kept.{session_at}
 use Rattle.session_undo.proofs.Views.Attributes.{grown-branch}
-use Rattle.session_undo.proofs.Commands.TreeChains.{crowded-tree, first-number, first-there, free-tree, limited-tree, no-taken, no-unknown, taken-tree, tree-misshapen, tree-outside, unknown-tree}
+use Rattle.session_undo.proofs.Commands.TreeChains.{crowded-tree, first-number, first-there, free-tree, limited-tree, taken-tree, tree-misshapen, tree-outside, unknown-tree}
 use Rattle.session_undo.proofs.session.Session.new_tree.Goals as goal
 
 pub returns-in-Err-Syntax-clause-refused : goal.returns-in-Err-Syntax-clause-refused
@@ -16,25 +16,15 @@ returns-in-Err-Shape-clause-refused c =
     let old = (session_at c.self.inside.scene c.self.inside.budget c.self.inside.limits) in
     rw (← c.self.view_is) (tree-misshapen old c.args.text.now c.args.start NoEnd (rw c.in-Err-Shape.field-0-is at c.in-Err-Shape.ensures.refused))
 
-pub returns-in-Err-Unknown-Some-clause-refused : goal.returns-in-Err-Unknown-Some-clause-refused
-returns-in-Err-Unknown-Some-clause-refused c =
+pub returns-in-Err-Unknown-clause-refused : goal.returns-in-Err-Unknown-clause-refused
+returns-in-Err-Unknown-clause-refused c =
     let old = (session_at c.self.inside.scene c.self.inside.budget c.self.inside.limits) in
-    rw (← c.self.view_is) (unknown-tree old c.args.text.now c.args.start NoEnd c.in-Err-Unknown-Some.name (rw (c.in-Err-Unknown-Some.field-0-is, c.in-Err-Unknown-Some.field-0-0-is, c.in_ok-tree.ensures, c.tree-views.ensures) at c.in-Err-Unknown-Some.ensures.refused))
+    rw (← c.self.view_is) (unknown-tree old c.args.text.now c.args.start NoEnd c.in-Err-Unknown.name (rw (c.in-Err-Unknown.field-0-is, c.in_ok-tree.ensures, c.tree-views.ensures) at c.in-Err-Unknown.ensures.refused))
 
-pub returns-in-Err-Taken-Some-clause-refused : goal.returns-in-Err-Taken-Some-clause-refused
-returns-in-Err-Taken-Some-clause-refused c =
+pub returns-in-Err-Taken-clause-refused : goal.returns-in-Err-Taken-clause-refused
+returns-in-Err-Taken-clause-refused c =
     let old = (session_at c.self.inside.scene c.self.inside.budget c.self.inside.limits) in
-    rw (← c.self.view_is) (taken-tree old c.args.text.now c.args.start NoEnd c.in-Err-Taken-Some.name (rw (c.in-Err-Taken-Some.field-0-is, c.in-Err-Taken-Some.field-0-0-is, c.in_ok-tree.ensures, c.tree-views.ensures, c.metrics.ensures) at c.in-Err-Taken-Some.ensures.refused))
-
-pub unreachable-requires : goal.unreachable-requires
-unreachable-requires c =
-    let old = (session_at c.self.inside.scene c.self.inside.budget c.self.inside.limits) in
-    no-unknown old c.args.text.now (rw (c.in-Err-Unknown-None.field-0-is, c.in-Err-Unknown-None.field-0-0-is, c.in_ok-tree.ensures, c.tree-views.ensures) at c.in-Err-Unknown-None.ensures.refused)
-
-pub unreachable-requires-in-Err-Taken-None : goal.unreachable-requires-in-Err-Taken-None
-unreachable-requires-in-Err-Taken-None c =
-    let old = (session_at c.self.inside.scene c.self.inside.budget c.self.inside.limits) in
-    no-taken old c.args.text.now (rw (c.in-Err-Taken-None.field-0-is, c.in-Err-Taken-None.field-0-0-is, c.in_ok-tree.ensures, c.tree-views.ensures, c.metrics.ensures) at c.in-Err-Taken-None.ensures.refused)
+    rw (← c.self.view_is) (taken-tree old c.args.text.now c.args.start NoEnd c.in-Err-Taken.name (rw (c.in-Err-Taken.field-0-is, c.in_ok-tree.ensures, c.tree-views.ensures, c.metrics.ensures) at c.in-Err-Taken.ensures.refused))
 
 pub returns-in-Err-Limit-clause-refused : goal.returns-in-Err-Limit-clause-refused
 returns-in-Err-Limit-clause-refused c =
@@ -46,8 +36,8 @@ returns-then-is_crowded-clause-refused c =
     let old = (session_at c.self.inside.scene c.self.inside.budget c.self.inside.limits) in
     rw (← c.self.view_is) (crowded-tree old c.args.text.now c.args.start NoEnd c.add_json.new.self c.in-Ok.count (rw (c.in_ok-tree.ensures, c.tree-views.ensures, c.metrics.ensures) at c.in-Ok.ensures.grown) (rw (← c.self.view_is) at (c.if-is_crowded.ensures.yes refl)))
 
-pub unreachable-requires-in_default : goal.unreachable-requires-in_default
-unreachable-requires-in_default c =
+pub unreachable-requires : goal.unreachable-requires
+unreachable-requires c =
     let old = (session_at c.self.inside.scene c.self.inside.budget c.self.inside.limits) in
     let grown : IsGrown old.scene.tree old.scene.metrics c.args.text.now c.add_json.new.self c.in-Ok.count = (rw (c.in_ok-tree.ensures, c.tree-views.ensures, c.metrics.ensures) at c.in-Ok.ensures.grown) in
     first-there old.scene.tree c.add_json.new.self grown.parent c.len-before.result grown.tree.branch grown.grown (rw c.tree-views.ensures at c.len-before.ensures.len) c.in_default.ensures

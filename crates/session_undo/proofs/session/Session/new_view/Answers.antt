@@ -1,6 +1,6 @@
 use Rattle.std.proofs.Common.{inl, refl}
 use Rattle.view_tree.specs.Stops.{MayStop}
-use Rattle.view_tree.specs.declared.stops.TreeStop.TheVariants.{Unknown, Taken}
+use Rattle.view_tree.specs.declared.stops.ViewStop.TheVariants.{Unknown, Taken}
 use Rattle.session_undo.specs.Machine.{IsTaken}
 use Rattle.session_undo.specs.Kept.{session_at}
 use Rattle.session_undo.specs.Adding.{NoEnd}
@@ -11,16 +11,16 @@ use Rattle.session_undo.proofs.session.Session.new_view.Goals as goal
 pub unreachable-requires : goal.unreachable-requires
 unreachable-requires c =
     let old = (session_at c.self.inside.scene c.self.inside.budget c.self.inside.limits) in
-    let stop : MayStop old.scene.tree c.args.name.now c.in-Some.above.0 (Taken c.in-Err-Taken.field-0-0) =
+    let stop : MayStop old.scene.tree c.args.name.now c.in-Some.above.0 Taken =
     rw (c.in-Err-Taken.field-0-is, c.in_ok-tree.ensures, c.tree-views.ensures) at c.in-Err-Taken.ensures.refused in
     let free : IsTaken old.scene c.args.name.now → ⊥ = rw (← c.self.view_is) at (c.if-is_taken.ensures.no refl) in
-    free (inl stop.2)
+    free (inl stop.1)
 
 pub unreachable-requires-in-Err-Unknown : goal.unreachable-requires-in-Err-Unknown
 unreachable-requires-in-Err-Unknown c =
-    let stop : MayStop c.self.inside.scene.scene.tree c.args.name.now c.in-Some.above.0 (Unknown c.in-Err-Unknown.field-0-0) =
+    let stop : MayStop c.self.inside.scene.scene.tree c.args.name.now c.in-Some.above.0 Unknown =
     rw (c.in-Err-Unknown.field-0-is, c.in_ok-tree.ensures, c.tree-views.ensures) at c.in-Err-Unknown.ensures.refused in
-    found-live c.self.inside.scene.scene.tree.views c.args.parent.now c.in-Some.above.0 (rw c.tree-views.ensures at c.in-Some.ensures) stop.1
+    found-live c.self.inside.scene.scene.tree.views c.args.parent.now c.in-Some.above.0 (rw c.tree-views.ensures at c.in-Some.ensures) stop
 
 pub returns-then-is_crowded-clause-refused : goal.returns-then-is_crowded-clause-refused
 returns-then-is_crowded-clause-refused c =

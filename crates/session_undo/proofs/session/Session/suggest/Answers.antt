@@ -1,5 +1,5 @@
 use Rattle.std.proofs.lemmas.Result.{err_from_is_err_and}
-use Rattle.script_text.specs.View.{object_view}
+use Rattle.span_text.specs.Objects.{object_view}
 use Rattle.session_undo.specs.Replies.{Reply, accepted}
 use Rattle.session_undo.specs.declared.reply.Reply as answer
 use Rattle.session_undo.specs.Scene.{with_suggestion, with_suggested}

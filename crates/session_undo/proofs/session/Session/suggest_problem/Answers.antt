@@ -1,5 +1,5 @@
 use Rattle.std.proofs.Common.{◌+◌, ◌≤◌, ◌^◌, arith}
-use Rattle.script_text.specs.View.{object_view}
+use Rattle.span_text.specs.Objects.{object_view}
 use Rattle.session_undo.specs.Replies.{Done}
 use Rattle.session_undo.specs.Machine.{PosesDraft}
 use Rattle.session_undo.specs.Adding.{IsFirstSuggestion, IsLaterSuggestion}

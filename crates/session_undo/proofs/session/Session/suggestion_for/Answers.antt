@@ -1,6 +1,5 @@
 use Rattle.std.proofs.Common.{◌≡◌, Option, Some, None, false, is_some, sym, subst, rules}
-use Rattle.span_text.specs.Objects.{Meant}
-use Rattle.script_text.specs.View.{object_view}
+use Rattle.span_text.specs.Objects.{Meant, object_view}
 use Rattle.session_undo.specs.Items.{suggestion_of}
 use Rattle.session_undo.specs.Adding.{NoEnd}
 use Rattle.session_undo.specs.Machine.{Suggests}

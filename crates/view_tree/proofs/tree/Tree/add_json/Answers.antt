@@ -1,4 +1,4 @@
-use Rattle.std.proofs.Common.{◌∙◌, IfNone, IfSome, Some, [], ap, arith, subst, sym}
+use Rattle.std.proofs.Common.{◌∙◌, IfNone, IfSome, [], arith, subst, sym}
 use Rattle.serde_json.specs.View.{view}
 use Rattle.view_tree.specs.JsonStops.{AreFree, IsFirstHeld, IsWithin}
 use Rattle.view_tree.specs.JsonTrees.{IsJson}
@@ -13,8 +13,8 @@ returns-in-Some-2-clause-refused c =
     let json : IsJson c.args.json.now (view c.in-Some.value) = subst (λ o. IfSome o (λ v. IsJson c.args.json.now (view v))) c.in-Some.is c.in_ok-value.ensures.json in
     let read : Reads c.args.json.now c.in-Ok.plan = reads c.args.json.now (view c.in-Some.value) c.in-Ok.plan json c.in-Ok.ensures.planned in
     let first : IsFirstHeld c.args.self.now c.args.metrics.now (names_of_plan c.deref.result.now) c.in-Some-2.name.now = subst (λ o. IfSome o (λ n. IsFirstHeld c.args.self.now c.args.metrics.now (names_of_plan c.deref.result.now) n.now)) c.in-Some-2.is c.in_ok-name-2.ensures.held in
-    taken_by c.args.self.now c.args.metrics.now c.args.json.now c.in-Ok.plan read c.in-Some-find.parent.0 c.in-Some-find.ensures c.deref.result.now c.deref.ensures.value c.in-Some-2.name.now first (Some c.in_ok-name-3.name)
-    (ap Some (c.in_ok-name-3.ensures ∙ c.as_bytes-in-Some-2.ensures.value))
+    taken_by c.args.self.now c.args.metrics.now c.args.json.now c.in-Ok.plan read c.in-Some-find.parent.0 c.in-Some-find.ensures c.deref.result.now c.deref.ensures.value c.in-Some-2.name.now first c.in_ok-name-3.name
+    (c.in_ok-name-3.ensures ∙ c.as_bytes-in-Some-2.ensures.value)
 
 pub plan_limit-requires : goal.plan_limit-requires
 plan_limit-requires c = IsSome-view_of c.args.self.now.views c.in-Ok.plan.place.now c.in-Some-find.parent.0 (sym c.in-Some-find.ensures)
