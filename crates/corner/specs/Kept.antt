@@ -3,7 +3,7 @@ use Rattle.std.specs.Prelude.{◌≡◌, ◌≢◌, ◌⊎◌, ℕ, ◌^◌, ◌
 use Rattle.std.specs.Prelude.{length}
 use Rattle.std.specs.Prelude.{ℤ, pos, ◌*ℤ◌, All, Any, AllPairs, Some, None}
 use Rattle.std.specs.declared.option.Option.{Option}
-use Rattle.frac_core.specs.Fraction.{Fraction, IsFitting}
+use Rattle.frac_core.specs.Fraction.{IsFitting}
 use Rattle.frac_core.specs.Fraction as fractions
 use Rattle.row_core.specs.Rows.{IsKeptRow}
 use Rattle.problem_core.specs.declared.parts.RowName.{RowName}

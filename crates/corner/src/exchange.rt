@@ -39,7 +39,7 @@ use crate::listing::Listed;
 use crate::marking::list_row;
 use crate::slots::{
     cost_share, is_level, is_stay, level_of, own_of, own_of_level, priority_at, side_at, side_in,
-    sign, slot_at, unit_of, value_at, what_at,
+    sign, slot_at, value_at, what_at,
 };
 use crate::sums::{product, sum};
 use crate::table::{Standing, Table};

@@ -1,5 +1,5 @@
 -- The coefficients of a row whose columns rise.
-use Rattle.std.proofs.Common.{Ordering, Result, Ok, Err, IfSome, IfNone, ◌≡◌, ◌≢◌, ℕ, zero, suc, ◌+◌, ◌-◌, ◌<◌, ◌≤◌, ◌++◌, length, take, get_or, true, false, nat_eq, List, [], ◌∷◌, ℤ, pos, sym, refl, subst, ap, ◌∙◌, arith, ◌⊎◌, inl, inr, All}
+use Rattle.std.proofs.Common.{Ordering, Result, Ok, Err, IfSome, IfNone, ◌≡◌, ◌≢◌, ℕ, zero, suc, ◌-◌, ◌<◌, ◌≤◌, length, get_or, true, false, nat_eq, List, [], ◌∷◌, ℤ, pos, sym, refl, subst, arith, ◌⊎◌, inl, inr, All}
 use Rattle.std.proofs.lemmas.Bool.Decides.{nat_tests}
 use Rattle.std.proofs.lemmas.Bool.{cases_order, cases_lt}
 use borrow.Author.Differences.{ints}

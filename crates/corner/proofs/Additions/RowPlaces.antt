@@ -16,7 +16,6 @@ use Rattle.problem_core.specs.Layout.{Line, Problem, Row, line_of_row, lines, st
 use Rattle.problem_core.specs.Kept.{IsRow, IsWhole}
 use Rattle.problem_core.specs.Corners.{IsIn, SameMarks, marks_of, place, place_of}
 use Rattle.corner_laws.proofs.MarkWritings.Lifts.{each_drop, each_put}
-use Rattle.corner_laws.proofs.MarkWritings.Lifts as lifts
 use Rattle.corner_lines.specs.Joins.{with_row}
 use Rattle.corner_lines.proofs.ProblemChanges.JoinedRows.{fresh-names, new-in, old-in}
 use Rattle.corner.specs.declared.table.Owner.{Owner}

@@ -22,7 +22,7 @@ use Rattle.problem_core.specs.declared.parts.Level.TheVariants.{Priority, Stay a
 use Rattle.problem_core.specs.declared.stops.What.{What}
 use Rattle.problem_core.specs.declared.stops.What.TheVariants.{Attr as AttrOf, Mark as MarkOf, Level as LevelOf}
 use Rattle.problem_core.specs.Layout as layout
-use Rattle.problem_core.specs.Layout.{HasStay, Line, Problem, lines}
+use Rattle.problem_core.specs.Layout.{Problem, lines}
 use Rattle.problem_core.specs.Kept.{IsWhole}
 use Rattle.problem_core.specs.Window.{zero_fraction}
 use Rattle.problem_core.proofs.Forms.{each-impl, each-both}

@@ -12,7 +12,7 @@ use Rattle.problem_core.specs.declared.parts.RowName.TheVariants.{Held}
 use Rattle.problem_core.specs.declared.parts.Side.{Side}
 use Rattle.problem_core.specs.declared.parts.Side.TheVariants.{Under, Over}
 use Rattle.problem_core.specs.Changes.Begins.{without_marks}
-use Rattle.problem_core.specs.Layout.{IsProblem, Line, Problem, Row, line_of_row, lines, stay_lines, sum_of}
+use Rattle.problem_core.specs.Layout.{Line, Problem, Row, line_of_row, lines, stay_lines, sum_of}
 use Rattle.problem_core.specs.Layout as layout
 use Rattle.problem_core.specs.Certificates.{Multipliers, over_weight, under_weight, weight_at}
 use Rattle.problem_core.specs.Corners.{AreMultipliersAt, HasNegativeColumn, IsIn, IsLexNegative, column, place, place_of}

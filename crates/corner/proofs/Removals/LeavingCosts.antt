@@ -3,7 +3,7 @@ use Rattle.std.proofs.Common.{◌≡◌, ◌≢◌, ◌∙◌, ℕ, ◌+◌, ◌
 use Rattle.std.specs.List.{AllByRecursion as Each, filter}
 use Rattle.std.proofs.lemmas.List.Elements.{All-from_recursion}
 use borrow.Author.Differences.{ints}
-use Rattle.frac_core.specs.Fraction.{Fraction, IsFitting, IsRatio, IsUnfitRatio, sum_den, sum_num}
+use Rattle.frac_core.specs.Fraction.{Fraction, IsRatio, IsUnfitRatio, sum_den, sum_num}
 use Rattle.frac_core.specs.Fraction as fractions
 use Rattle.row_core.specs.Rows.{Term, coefficient, IsKeptRow}
 use Rattle.indexed_rows.proofs.Indexing.{none_kept}

@@ -17,7 +17,7 @@ use Rattle.problem_core.specs.declared.parts.Side.TheVariants.{Under, Over}
 use Rattle.problem_core.specs.declared.parts.RowName.{RowName}
 use Rattle.problem_core.specs.declared.parts.RowName.TheVariants.{Held}
 use Rattle.problem_core.specs.Layout as layout
-use Rattle.problem_core.specs.Layout.{IsProblem, Line, Problem, Row, line_of_row, lines, stay_lines}
+use Rattle.problem_core.specs.Layout.{Line, Problem, Row, line_of_row, lines, stay_lines}
 use Rattle.problem_core.specs.Corners.{IsCorner, IsIn, place_of}
 use Rattle.problem_core.specs.Certificates.{over_weight, under_weight, weight_at}
 use Rattle.problem_core.specs.Rays.{HasRays}

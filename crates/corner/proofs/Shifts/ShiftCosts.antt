@@ -1,5 +1,5 @@
 -- What a level costs where a row's constant changes: it grows by the row's number in the level's row.
-use Rattle.std.proofs.Common.{◌≡◌, ◌≢◌, ◌∙◌, ℕ, ◌*◌, ◌/◌, ◌<◌, List, [], ◌∷◌, map, refl, sym, ap, ap₂, subst, arith, inl, inr, ℤ, pos, negsuc, ◌+ℤ◌, ◌-ℤ◌, ◌*ℤ◌, neg_ℤ, Contains, mul-pos}
+use Rattle.std.proofs.Common.{◌≡◌, ◌∙◌, ℕ, ◌*◌, ◌/◌, ◌<◌, List, [], ◌∷◌, map, refl, sym, ap, ap₂, subst, arith, inl, inr, ℤ, pos, ◌+ℤ◌, ◌-ℤ◌, ◌*ℤ◌, neg_ℤ, Contains, mul-pos}
 use Rattle.std.specs.List.{AllByRecursion as Each}
 use Rattle.std.specs.Int.{◌∣◌}
 use Rattle.std.proofs.lemmas.Bool.{cases_Bool}
@@ -33,7 +33,7 @@ use Rattle.corner_lines.specs.Shifts.{IsShift, with_constant}
 use Rattle.corner_lines.proofs.Costs.LevelCosts.{column-is, cost-ratio, cost-step, reduced-none, step-solves}
 use Rattle.corner_lines.proofs.LevelRows.LevelExchanges.{inside-numbers}
 use Rattle.corner_lines.proofs.Costs.LevelPlaces.{cost_everywhere}
-use Rattle.corner_lines.proofs.ProblemChanges.Shifted.{held-named, names-sum, raised, raised-deviation, raised-other, shift-small, unshift-solves, unshifted, raised-sum}
+use Rattle.corner_lines.proofs.ProblemChanges.Shifted.{held-named, names-sum, raised-other, shift-small, unshift-solves, unshifted, raised-sum}
 use Rattle.corner_lines.proofs.ProblemChanges.ShiftedCorner.{shift_corner}
 use Rattle.corner.proofs.Shifts.ShiftLines.{row_seen_alike, shift_seen, shift_whole, unit_seen}
 use Rattle.corner.proofs.Stays.StoodLines.{scales_seen}

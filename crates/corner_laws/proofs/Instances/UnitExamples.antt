@@ -5,7 +5,7 @@ use Rattle.std.proofs.lemmas.List.Elements.{All-from_recursion, recursion_from_A
 use Rattle.std.proofs.lemmas.Nat.Gcd.{IsGcd-from_mod, IsGcd-from_zero, dvd_antisymm, dvd_refl, le_of_dvd}
 use Rattle.std.proofs.Math.Nat.{dvd-mul_right, one-dvd}
 use Rattle.problem_core.specs.declared.parts.Rel.TheVariants.{Eq, Ge}
-use Rattle.problem_core.specs.declared.parts.RowName.TheVariants.{Held, Stay as StayOf}
+use Rattle.problem_core.specs.declared.parts.RowName.TheVariants.{Stay as StayOf}
 use Rattle.problem_core.specs.declared.parts.Side.TheVariants.{Under, Over}
 use Rattle.problem_core.specs.Layout.{Line, Problem, coefficient, lines}
 use Rattle.problem_core.specs.Certificates.{weight_at}

@@ -10,7 +10,7 @@ use Rattle.frac_core.specs.Fraction.{Fraction, IsRatio, sum_den, sum_num}
 use Rattle.frac_core.proofs.Integers.{add-mul_right, cancel_mul, diff_eq, mul-add_left, mul-sub_left, mul-zero_ℤ, mul_assoc_ℤ, mul_left_comm_ℤ, mul_positive, on_2, zero-mul_ℤ, zero_from_mul, diff-add, diff-mul, diff-neg, diff-pos, neg-pos}
 use Rattle.problem_core.specs.declared.parts.Mark.{Mark}
 use Rattle.problem_core.specs.declared.parts.RowName.{RowName}
-use Rattle.problem_core.specs.declared.parts.RowName.TheVariants.{Held, Stay as StayOf}
+use Rattle.problem_core.specs.declared.parts.RowName.TheVariants.{Held}
 use Rattle.problem_core.specs.declared.parts.Side.TheVariants.{Under, Over}
 use Rattle.problem_core.specs.declared.parts.Stay.{Stay}
 use Rattle.problem_core.specs.declared.parts.Term.{Term}

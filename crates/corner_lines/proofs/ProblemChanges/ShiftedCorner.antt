@@ -8,7 +8,7 @@ use borrow.Author.Differences.{ints}
 use Rattle.frac_core.specs.Fraction.{Fraction}
 use Rattle.frac_core.proofs.Integers.{diff_eq, mul-add_left, mul-sub_left, mul-zero_ℤ, mul_positive, on_2, zero-add_ℤ, add-zero_ℤ, zero_from_mul, diff-add, diff-mul, diff-neg, diff-pos, neg-pos}
 use Rattle.problem_core.specs.declared.parts.Mark.{Mark}
-use Rattle.problem_core.specs.declared.parts.RowName.TheVariants.{Held, Stay as StayOf}
+use Rattle.problem_core.specs.declared.parts.RowName.TheVariants.{Held}
 use Rattle.problem_core.specs.declared.parts.Side.{Side}
 use Rattle.problem_core.specs.declared.parts.Side.TheVariants.{Under, Over}
 use Rattle.problem_core.specs.declared.parts.Stay.{Stay}
