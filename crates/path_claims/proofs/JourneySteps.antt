@@ -31,7 +31,7 @@ use Rattle.path_claims.specs.declared.journey.PathCase.{PathCase}
 use Rattle.path_claims.specs.declared.journey.Journey.{Journey}
 use Rattle.path_claims.specs.declared.stations.Station.{Station}
 use Rattle.path_claims.specs.declared.stations.Table.{Table}
-use Rattle.path_claims.specs.Journeys.{Brings, BringsNone, HasOneMore, IsBroughtTo, IsJourneyAt, IsPathCase, IsMarkNext, IsOnRoute, IsJourneyStop}
+use Rattle.path_claims.specs.Journeys.{Brings, BringsNone, HasOneMore, IsBroughtTo, IsJourneyAt, IsPathCase, IsMarkNext, IsOnRoute, StopsAt}
 use Rattle.path_levels.specs.Outlines.{IsOutline}
 use Rattle.path_claims.specs.Stations.{IsSizedTable, IsStation, IsStationBy, IsStuckAt, IsTableAt, IsUsableBy, IsUsableStation}
 use Rattle.path_claims.proofs.StationTables.{outline_long}
@@ -75,7 +75,7 @@ stops_there case journey enter (NoRoom n) before m rest is within out stops = λ
     (counting_at case.p.now is.journey_is.done journey.station.step is.journey_is.begun (stops.1 (corner_after case.p.now is.journey_is.done) is.journey_is.kept))
 stops_there case journey enter OutOfMemory before m rest is within out stops = tt
 
-pub mark_stopped : (case : PathCase) (journey : Journey) (enter : Spot) (stop : WayStop) → enter.at < line_count case.p.now → (slice_index_or journey.sides.items enter.at None ≡ Some enter.side → ⊥) → BringsNone case enter journey.station stop → IsJourneyStop case journey enter stop
+pub mark_stopped : (case : PathCase) (journey : Journey) (enter : Spot) (stop : WayStop) → enter.at < line_count case.p.now → (slice_index_or journey.sides.items enter.at None ≡ Some enter.side → ⊥) → BringsNone case enter journey.station stop → StopsAt case journey enter stop
 mark_stopped case journey enter stop within out stops before m rest is =
     stops_there case journey enter stop before m rest is within
     (λ i. out ((inside_by_sides case.p.now (corner_after case.p.now is.journey_is.done) journey.sides.items m enter is.journey_is.sides is.mark within).1 i)) stops

@@ -79,8 +79,8 @@ HasOneMore case journey enter next = (before : List Mark) (m : Mark) (rest : Lis
     → IsJourneyAt case.p.now case.path.now case.outline.now (before ++ m ∷ []) rest next
 
 -- the route stops so at the mark, wherever the mark is the next one
-abbrev pub IsJourneyStop : PathCase → Journey → Spot → WayStop → Type 0
-IsJourneyStop case journey enter stop = (before : List Mark) (m : Mark) (rest : List Mark)
+abbrev pub StopsAt : PathCase → Journey → Spot → WayStop → Type 0
+StopsAt case journey enter stop = (before : List Mark) (m : Mark) (rest : List Mark)
     → IsMarkNext case.p.now case.path.now case.outline.now before m rest journey enter
     → IsMarkStop case.p.now case.path.now stop
 

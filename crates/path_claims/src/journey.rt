@@ -8,7 +8,7 @@ ghost use Rattle.path_checker.specs.declared.spots.Step.{Step};
 ghost use Rattle.path_levels.specs.declared.outline.Outline.{Outline};
 ghost use Rattle.path_claims.specs.Journeys.{Brings, BringsNone, HasOneMore, IsJourneyAt, IsPathCase};
 ghost use Rattle.path_claims.specs.Journeys.{IsOnRoute};
-ghost use Rattle.path_claims.specs.Journeys.{IsUsableJourney, IsJourneyStop};
+ghost use Rattle.path_claims.specs.Journeys.{IsUsableJourney, StopsAt};
 ghost use Rattle.path_claims.specs.Stations.{IsUsableStation};
 
 use crate::stations::{Station, Table, station_after, table_now};
@@ -91,7 +91,7 @@ fn with_mark(
     ensures usable { IfOk result (IsUsableJourney case.entry.p.now case.entry.outline.now) }
     ensures count { IfOk result (λ next. next.station.count ≤ journey.station.count + 1) }
     ensures next { IfOk result (HasOneMore case.entry journey enter) }
-    ensures stop { IfErr result (IsJourneyStop case.entry journey enter) }
+    ensures stop { IfErr result (StopsAt case.entry journey enter) }
 {
     if is_one(journey.sides[enter.at], Some(enter.side)) {
         return Ok(journey);
