@@ -16,7 +16,8 @@ ghost use Rattle.frac_core.specs.Stops.{IsRefused};
 ghost use Rattle.path_claims.specs.Fits.{AllAttrsFit, IsFitAt};
 ghost use Rattle.path_claims.specs.Attrs.{IsAttrAfter, IsAttrBefore, IsFittingStay, IsSizedMade};
 ghost use Rattle.path_claims.specs.Attrs.{IsStayAt, IsUnfitBefore, IsUnfitStay};
-ghost use Rattle.path_claims.specs.After.{AfterExchange, AfterFittingAttrs, AfterStepWithLine, IsSizedExchange};
+ghost use Rattle.path_claims.specs.After.{AfterExchange, AfterFittingAttrs, AfterStepWithLine};
+ghost use Rattle.path_claims.specs.After.{IsSizedExchange};
 
 use crate::last::Fit;
 use crate::last::after::side_after;
