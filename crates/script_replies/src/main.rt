@@ -13,6 +13,9 @@
 //! Below a heading `== session` stand the lines that a session takes, as `sessions` says. Below `== table`
 //! stands a script of which each read and each write fails in turn, as `table` says.
 //!
+//! Among the runs stand the example screens and the scripts that the pages show, each below a comment `#: `
+//! that says what it is.
+//!
 //! What always holds: no case knows of another. Each has a session of its own, or a source and a sink for
 //! each of its runs.
 //!
