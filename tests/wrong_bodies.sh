@@ -5,13 +5,16 @@
 set -e
 cd "$(dirname "$0")/.."
 for crate in "${@:-none}"; do
-    [ -d "tests/wrong_bodies/$crate" ] && [ ! -e "crates/$crate/must-fail" ] || {
+    if [ ! -d "tests/wrong_bodies/$crate" ]; then
         echo "usage: tests/wrong_bodies.sh CRATE.., each of $(ls tests/wrong_bodies | xargs)" >&2
         exit 2
-    }
+    elif [ -e "crates/$crate/must-fail" ]; then
+        echo "crates/$crate/must-fail is left of a run that was ended: remove it first" >&2
+        exit 2
+    fi
 done
 trap 'for crate in "$@"; do rm -rf "crates/$crate/must-fail"; done' EXIT
 for crate in "$@"; do
-    cp -r "tests/wrong_bodies/$crate" "crates/$crate/must-fail"
+    cp -rT "tests/wrong_bodies/$crate" "crates/$crate/must-fail"
 done
 rt must-fail "$@"
