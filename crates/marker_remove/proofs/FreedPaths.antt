@@ -26,7 +26,7 @@ use Rattle.corner_lines.proofs.SameMarks.{same_corner}
 use Rattle.corner_ends.specs.Begins.{HasExchanged}
 use Rattle.corner_ends.proofs.MarkOrders.{unfit_same}
 use Rattle.marker_remove.specs.Freed.{DoStand, HasMarkIn, IsFreedPath, IsStayMover}
-use Rattle.marker_remove.proofs.ZeroSwaps.{same_up}
+use Rattle.marker_remove.proofs.ZeroSwaps.{no_value, same_up}
 use Rattle.frac_core.proofs.Bools.{bools-same as same_bool}
 use Rattle.corner_laws.proofs.Swaps.Pivots.{leave-gone as left-out}
 use Rattle.corner.proofs.Readings.KeptFacts.{is_in, in_is}
@@ -134,7 +134,7 @@ freed_path p at id s path kept row stay ex up standing e =
     (record {
       kind = refl;
       none = refl;
-      freed = (s, record { row = row; stay = (stay.attr, stay.stay); exchange = ex; marks = back });
+      freed = (s, record { row = row; stay = (stay.attr, stay.stay); exchange = ex; same = no_value p at s stay.attr kept.whole kept.corner standing stay.stay ex.leaves; marks = back });
       ordered = ordered_again p (exchanged s at) ex.corner;
       lawful = path_here p (in_order p (exchanged s at)) corner (same_up p at (in_order p (exchanged s at)) s stay.attr kept.whole kept.corner standing stay.stay ex back up);
     })

@@ -13,16 +13,19 @@ use Rattle.problem_core.specs.declared.stops.Quantity.TheVariants.{Plain, Terms,
 use Rattle.problem_core.specs.Layout.{Problem, lines, value_at}
 use Rattle.problem_core.specs.Corners.{Agree, IsCorner, IsExchange, IsIn, IsWritingOf, NoNegativeValue, Point, Solves, StandsAt, attr_column, equation, exchanged, marks_of, one_column, place, place_of}
 use Rattle.problem_core.specs.Unfit.{IsUnfitWhat}
+use Rattle.problem_core.specs.Changes.Begins.{ChangesNoValue}
 use Rattle.problem_core.specs.Changes.Paths.{IsPath}
 use Rattle.cert_core.specs.declared.stops.RunStop.TheVariants.{Unfit}
 use Rattle.corner.specs.Views.{HasValueAt}
-use Rattle.corner_laws.specs.Examples.{over_row, over_stay}
-use Rattle.corner_laws.proofs.Instances.Examples.{no_writing}
+use Rattle.corner_laws.specs.Examples.{over_row, over_stay, single}
+use Rattle.corner_laws.proofs.Instances.Examples.{bound-stands, bound_point as stayed_point, no_writing}
 use Rattle.corner_laws.proofs.MarkWritings.Fits.{one_factor, whole_is_kept, difference, difference-at, small-by, attr-holds as five-holds}
 use Rattle.corner_laws.proofs.Instances.PathExamples.{alone-in, no, one-value}
 use Rattle.corner_laws.proofs.RunSteps.RunPaths.{contains_in}
 use Rattle.marker_remove.specs.Freed.{DoStand, IsFreeStop}
-use Rattle.marker_remove.specs.Instances.{SomeRowsCannotLeave, standing, unfit_at, x_over}
+use Rattle.marker_remove.proofs.Crossing.{whole, whole_stands, whole_unfit, whole_values}
+use Rattle.marker_remove.proofs.ZeroSwaps.{next_stands}
+use Rattle.marker_remove.specs.Instances.{SomeRowsCannotLeave, row_for_stay, standing, unfit_at, x_over}
 use Rattle.corner_laws.proofs.Instances.BeginExamples.{one-same}
 use Rattle.problem_core.proofs.Marks.{entered-in as enter_in, no-swaps as path_here}
 
@@ -102,6 +105,23 @@ row_exchange = record {
   corner = row_corner;
 }
 
+-- the stay's mark is at 0 where the row's are, so that it changes no value
+at-zero : (u o p q one a : ℤ) → u ≡ pos 0 → o ≡ pos 0 → p ≡ pos 0
+    → pos 1 *ℤ u +ℤ (negsuc 0 *ℤ o +ℤ (negsuc 4398046511103 *ℤ one +ℤ (pos 1 *ℤ a +ℤ pos 0))) ≡ pos 0
+    → pos 1 *ℤ p +ℤ (negsuc 0 *ℤ q +ℤ (negsuc 4398046511103 *ℤ one +ℤ (pos 1 *ℤ a +ℤ pos 0))) ≡ pos 0
+    → q ≡ pos 0
+at-zero u o p q one a e f g h k = omega (arith, ints, e, f, g, h, k)
+
+pub row_same : ChangesNoValue (standing 4398046511104) (over_stay ∷ []) (record { enter = over_row; leave = over_stay })
+row_same x h =
+    let z = recursion_from_All (λ n. (IsIn (place n) (over_stay ∷ []) → ⊥) → x.num (place n) ≡ pos 0) (marks_of (lines (standing 4398046511104))) h.1 in
+    let e = recursion_from_All (λ l. value_at x.num (equation l) ≡ pos 0) (lines (standing 4398046511104)) h.0 in
+    let u = z.0 (alone-in over_stay 4 (no 4 7 (inl (omega arith)))) in
+    let o = z.1.0 (alone-in over_stay 5 (no 5 7 (inl (omega arith)))) in
+    let p = z.1.1.0 (alone-in over_stay 6 (no 6 7 (inl (omega arith)))) in
+    next_stands (standing 4398046511104) (over_stay ∷ []) (record { enter = over_row; leave = over_stay }) x h
+    (at-zero (x.num 4) (x.num 5) (x.num 6) (x.num 7) (x.num one_column) (x.num (attr_column 1)) u o p e.0 e.1.0)
+
 pub x_unfit : IsUnfitWhat (standing 4398046511104) (over_row ∷ []) (Attr 1)
 x_unfit = (
   (0, record { attr = 1; target = record { num = pos 4398046511104; den = 1 } }, omega arith, refl, refl),
@@ -113,7 +133,7 @@ unfit = (
   record {
     kind = refl;
     none = refl;
-    freed = (record { enter = over_row; leave = over_stay }, record { row = refl; stay = (1, refl); exchange = row_exchange; marks = one-same over_row });
+    freed = (record { enter = over_row; leave = over_stay }, record { row = refl; stay = (1, refl); exchange = row_exchange; same = row_same; marks = one-same over_row });
     ordered = refl;
     lawful = path_here (standing 4398046511104) (over_row ∷ []) row_corner (values over_row (record { le = tt }));
   },
@@ -175,6 +195,13 @@ other_row (path, bad) =
     let freed = path.freed.1 in
     second-place s.enter freed.row (sym (in-one (place s.enter) over_row (contains_in (exchanged s (over_stay ∷ [])) (over_row ∷ []) (place s.enter) freed.marks.0 (enter_in s (over_stay ∷ []) freed.exchange.leaves))))
 
+-- where the stay is at 0 and x at 2^42, the exchange takes x to 0
+moved : ChangesNoValue (single 4398046511104) (over_stay ∷ []) row_for_stay → ⊥
+moved h =
+    let z = recursion_from_All (λ n. (IsIn (place n) (over_row ∷ []) → ⊥) → (stayed_point 4398046511104).num (place n) ≡ pos 0) (marks_of (lines (single 4398046511104))) (h (stayed_point 4398046511104) bound-stands).1 in
+    let e : pos 4398046511104 ≡ pos 0 = z.1.1.1.0 (alone-in over_row 7 (no 7 5 (inr (omega arith)))) in
+    absurd (omega (arith, ints, e))
+
 pub some_rows_cannot_leave : SomeRowsCannotLeave
 some_rows_cannot_leave = record {
   values = values over_stay (record { le = tt });
@@ -183,4 +210,10 @@ some_rows_cannot_leave = record {
   fits = fits;
   other_row = other_row;
   not_freed = not_freed;
+  same = row_same;
+  moved = moved;
+  whole = whole;
+  whole_values = whole_values;
+  whole_stands = whole_stands;
+  whole_unfit = whole_unfit;
 }

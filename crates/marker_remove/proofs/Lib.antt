@@ -1,4 +1,5 @@
 pub mod StayMoves
 pub mod ZeroSwaps
 pub mod FreedPaths
+pub mod Crossing
 pub mod Instances

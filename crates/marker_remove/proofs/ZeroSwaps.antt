@@ -13,6 +13,7 @@ use Rattle.problem_core.specs.declared.parts.Side.{Side}
 use Rattle.problem_core.specs.declared.parts.Side.TheVariants.{Under, Over}
 use Rattle.problem_core.specs.declared.parts.Stay.{Stay}
 use Rattle.problem_core.specs.Kept.{IsStay, IsWhole}
+use Rattle.problem_core.specs.Changes.Begins.{ChangesNoValue}
 use Rattle.problem_core.specs.Layout.{Line, Problem, Row, line_of_row, line_of_stay, lines, stay_lines, value_at}
 use Rattle.problem_core.specs.Corners.{Agree, IsCorner, IsExchange, IsIn, NoNegativeValue, Point, SameMarks, StandsAt, Swap, attr_column, equation, exchanged, marks_of, one_column, place, place_of}
 use Rattle.problem_core.proofs.Forms.{each-impl, each-both}
@@ -117,9 +118,9 @@ module _ (p : Problem) (at : List Mark) (whole : IsWhole p) (corner : IsCorner p
 
 -- ---- an exchange for a mark at 0
 
--- a point that stands at the corner stands at the next one
-next-stands : (p : Problem) (at : List Mark) (s : Swap) (x : Point) → StandsAt p at x → x.num (place s.leave) ≡ pos 0 → StandsAt p (exchanged s at) x
-next-stands p at s x stands none = (
+-- a point at which the leaving mark is 0 stands at the next corner too
+pub next_stands : (p : Problem) (at : List Mark) (s : Swap) (x : Point) → StandsAt p at x → x.num (place s.leave) ≡ pos 0 → StandsAt p (exchanged s at) x
+next_stands p at s x stands none = (
   stands.0,
   All-from_recursion (λ m. (IsIn (place m) (exchanged s at) → ⊥) → x.num (place m) ≡ pos 0) (marks_of (lines p))
       (each-impl (λ m. (IsIn (place m) at → ⊥) → x.num (place m) ≡ pos 0) (λ m. (IsIn (place m) (exchanged s at) → ⊥) → x.num (place m) ≡ pos 0) (marks_of (lines p))
@@ -130,10 +131,13 @@ next-stands p at s x stands none = (
       (recursion_from_All (λ m. (IsIn (place m) at → ⊥) → x.num (place m) ≡ pos 0) (marks_of (lines p)) stands.1)),
 )
 
+pub no_value : (p : Problem) (at : List Mark) (s : Swap) (a : ℕ) → IsWhole p → IsCorner p at → DoStand p at → s.leave.row ≡ StayOf a → IsIn (place s.leave) at → ChangesNoValue p at s
+no_value p at s a whole corner standing e leaves x stands = next_stands p at s x stands (zero_there p at whole corner standing s.leave a x e leaves stands)
+
 pub same_values : (p : Problem) (at new : List Mark) (s : Swap) (a : ℕ) → IsWhole p → IsCorner p at → DoStand p at → s.leave.row ≡ StayOf a → IsIn (place s.leave) at → SameMarks (exchanged s at) new → HasSameValues p at new
 same_values p at new s a whole corner standing e leaves same c f (x, stands, value) = (
   x,
-  same_stands p new (exchanged s at) x (λ v i. contains_in (exchanged s at) new v same.0 i) (next-stands p at s x stands (zero_there p at whole corner standing s.leave a x e leaves stands)),
+  same_stands p new (exchanged s at) x (λ v i. contains_in (exchanged s at) new v same.0 i) (no_value p at s a whole corner standing e leaves x stands),
   value,
 )
 
@@ -152,7 +156,7 @@ same_up p at new s a whole corner standing e ex same (x, stands, up) = (
 )
   where
     next : StandsAt p (exchanged s at) x
-    next = next-stands p at s x stands (zero_there p at whole corner standing s.leave a x e ex.leaves stands)
+    next = no_value p at s a whole corner standing e ex.leaves x stands
 
     enter-in : Contains (map place (marks_of (lines p))) (place s.enter)
     enter-in = contains_each (λ c. Contains (map place (marks_of (lines p))) c) (exchanged s at) (place s.enter) (recursion_from_All (λ m. Contains (map place (marks_of (lines p))) (place m)) (exchanged s at) ex.corner.marks) (enter_in s at ex.leaves)

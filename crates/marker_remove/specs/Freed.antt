@@ -9,6 +9,7 @@ use Rattle.problem_core.specs.declared.stops.What.TheVariants.{Mark as MarkOf}
 use Rattle.problem_core.specs.declared.stops.Quantity.TheVariants.{Plain}
 use Rattle.problem_core.specs.Layout.{Problem}
 use Rattle.problem_core.specs.Corners.{IsExchange, IsIn, SameMarks, Swap, attr_column, exchanged, place_of}
+use Rattle.problem_core.specs.Changes.Begins.{ChangesNoValue}
 use Rattle.problem_core.specs.Changes.Paths.{IsPath}
 use Rattle.problem_core.specs.Unfit.{IsUnfitWhat}
 use Rattle.cert_core.specs.Paths.{Path}
@@ -30,11 +31,12 @@ pub record IsStayMover (p : Problem) (at : List Mark) (enter leave : Mark) : Typ
   pub stay : leave.row ≡ StayOf attr
   pub moves : MovesWith p at enter (MarkOf leave)
 
--- the exchange brings a mark of the row in, against a stay's, and leads to these marks
+-- the exchange brings a mark of the row in, against a stay's, changes no value, and leads to these marks
 pub record IsFreed (p : Problem) (at : List Mark) (id : ℕ) (new : List Mark) (s : Swap) : Type 0 where
   pub row : s.enter.row ≡ Held id
   pub stay : (attr : ℕ) × (s.leave.row ≡ StayOf attr)
   pub exchange : IsExchange p at s
+  pub same : ChangesNoValue p at s
   pub marks : SameMarks (exchanged s at) new
 
 -- each column has the same value

@@ -17,7 +17,7 @@
 //! Linear programming's words: a slack or surplus variable of the row that is to leave becomes basic, by a
 //! degenerate pivot. The Cassowary solvers call it the row's marker.
 //!
-//! To read: `leaving` finds the stay's mark, and `freeing` exchanges it. `laws` has a row that cannot
+//! To read: `leaving` finds the stay's mark, and `freeing` exchanges it. `laws` has rows that cannot
 //! leave, and what is no such stop.
 #![tactic(auto)]
 

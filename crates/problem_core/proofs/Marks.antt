@@ -4,7 +4,7 @@ use Rattle.std.proofs.lemmas.Bool.{cases_Bool}
 use Rattle.std.specs.List.{AllByRecursion as Each}
 use Rattle.problem_core.proofs.Forms.{each-impl}
 use Rattle.problem_core.specs.Certificates.{Multipliers}
-use Rattle.problem_core.specs.Changes.Begins.{AreExchanges, is_one_of, without_marks}
+use Rattle.problem_core.specs.Changes.Begins.{AreExchanges, ChangeNoValue, ChangesNoValue, is_one_of, without_marks}
 use Rattle.problem_core.specs.Changes.Paths.{IsPath, last_marks}
 use Rattle.problem_core.specs.Corners.{AreMultipliersAt, ArePairwiseDifferent, IsCorner, IsExchange, IsIn, NoNegativeValue, SameMarks, Swap, exchanged, place}
 use Rattle.problem_core.specs.Layout.{Problem}
@@ -61,3 +61,7 @@ mark-there P (m ∷ ms) c h (suc k, within, is) = mark-there P ms c h.1 (k, omeg
 pub exchanges-more : (p : Problem) (at : List Mark) (swaps : List Swap) (s : Swap) → AreExchanges p at swaps → IsExchange p (last_marks at swaps) s → AreExchanges p at (swaps ++ s ∷ [])
 exchanges-more p at [] s h ex = (ex, tt)
 exchanges-more p at (t ∷ swaps) s h ex = (h.0, exchanges-more p (exchanged t at) swaps s h.1 ex)
+
+pub changes-more : (p : Problem) (at : List Mark) (swaps : List Swap) (s : Swap) → ChangeNoValue p at swaps → ChangesNoValue p (last_marks at swaps) s → ChangeNoValue p at (swaps ++ s ∷ [])
+changes-more p at [] s h same = (same, tt)
+changes-more p at (t ∷ swaps) s h same = (h.0, changes-more p (exchanged t at) swaps s h.1 same)

@@ -67,6 +67,7 @@ comes_from = record {
   rows = All-from_recursion (λ (s : Swap). is_one_of (1 ∷ []) s.enter.row ≡ true) [] tt;
   apart = λ i j d less within. absurd (omega (arith, within));
   exchanges = tt;
+  same = tt;
   marks = empty-same;
 }
 

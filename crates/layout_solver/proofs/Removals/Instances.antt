@@ -17,7 +17,7 @@ use Rattle.cert_core.specs.declared.stops.RunStop.TheVariants.{Unfit as UnfitRun
 use Rattle.corner_laws.specs.Examples.{at_least, over_row, over_second, over_stay, single, under_row}
 use Rattle.corner_laws.proofs.Instances.StopExamples.{spent_stops}
 use Rattle.marker_remove.specs.Instances.{standing, x_over}
-use Rattle.marker_remove.proofs.Instances.{row_exchange, row_path, x_fits, x_unfit}
+use Rattle.marker_remove.proofs.Instances.{row_exchange, row_path, row_same, x_fits, x_unfit}
 use Rattle.layout_solver.specs.declared.removing.RemoveStop.TheVariants.{Unfit, Spent}
 use Rattle.layout_solver.specs.Removals.{CanLeave, FromRemoved, IsHeldPath, IsRemoveStop, without_rows}
 use Rattle.layout_solver.specs.Instances.{SomeCannotLeave, SomeRemovalsStop, below_bound, both_over, leaving, second, with_second}
@@ -109,6 +109,7 @@ comes p leaving = record {
   rows = no-frees leaving;
   apart = no-swaps;
   exchanges = tt;
+  same = tt;
   marks = one-same over_row;
 }
 
@@ -118,6 +119,7 @@ comes-below p leaving = record {
   rows = no-frees leaving;
   apart = no-swaps;
   exchanges = tt;
+  same = tt;
   marks = one-same under_row;
 }
 
@@ -135,6 +137,7 @@ comes-freed = record {
   rows = All-from_recursion (λ (s : Swap). is_one_of (1 ∷ []) s.enter.row ≡ true) (record { enter = over_row; leave = over_stay } ∷ []) (refl, tt);
   apart = λ i j d less within. absurd (omega (arith, less, within));
   exchanges = (row_exchange, tt);
+  same = (row_same, tt);
   marks = one-same over_row;
 }
 

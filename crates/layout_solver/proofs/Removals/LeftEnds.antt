@@ -15,10 +15,10 @@ use Rattle.problem_core.specs.declared.stops.What.{What}
 use Rattle.problem_core.specs.declared.stops.Quantity.{Quantity}
 use Rattle.problem_core.specs.declared.stops.Quantity.TheVariants.{Plain, Terms, Rows, Shifts}
 use Rattle.frac_core.specs.declared.memory.Stop.TheVariants.{Refused}
-use Rattle.problem_core.specs.Changes.Begins.{ComesFrom, without_marks}
+use Rattle.problem_core.specs.Changes.Begins.{ChangesNoValue, ComesFrom, without_marks}
 use Rattle.problem_core.specs.Layout.{Assignment, Line, Problem, Row, Satisfies, line_of_row, line_of_stay, lines, stay_lines, value_at}
 use Rattle.problem_core.specs.Kept.{IsWhole}
-use Rattle.problem_core.specs.Corners.{IsExchange, IsIn, NoNegativeValue, Swap, equation, marks_of, place, place_of}
+use Rattle.problem_core.specs.Corners.{IsCorner, IsExchange, IsIn, NoNegativeValue, Swap, equation, marks_of, place, place_of}
 use Rattle.problem_core.specs.Changes.Paths.{IsPath}
 use Rattle.problem_core.proofs.Refutations.{refutation-IsInConflict}
 use Rattle.problem_core.proofs.Wholes.{whole-IsProblem}
@@ -74,10 +74,10 @@ held_path p q kept at leaving gone still path (Shifts what j) all is e comes ord
 
 module _ (p : Problem) (kept : List Mark) (rows : List ℕ) (i : ℕ) (within : i < length rows) where
   -- a mark of it is in
-  pub row_freed : (old new : CornerView) (freed : Option Swap) → IsKeptCorner p kept → AllPairs (λ a b. a ≢ b) rows
+  pub row_freed : (old new : CornerView) (freed : Option Swap) → IsCorner old.problem old.marks → IsKeptCorner p kept → AllPairs (λ a b. a ≢ b) rows
       → IfSome freed (IsFreed old.problem old.marks (get_or rows i 0) new.marks) → IfNone freed (new ≡ old) → new.problem ≡ old.problem → HasSameValues old.problem old.marks new.marks → NoNegativeValue new.problem new.marks
       → HaveGone p kept (take i rows) (take i rows) old → HaveGone p kept (take (i + 1) rows) (take i rows) new
-  row_freed old new freed k apart some none problem same up h = record {
+  row_freed old new freed here k apart some none problem same up h = record {
     problem = problem ∙ h.problem;
     comes = subst (λ (ids : List ℕ). ComesFrom p kept ids (take i rows) new.marks) (sym (take_more rows i 0 within)) (come freed some none);
     values = up;
@@ -87,20 +87,22 @@ module _ (p : Problem) (kept : List Mark) (rows : List ℕ) (i : ℕ) (within : 
       come : (o : Option Swap) → IfSome o (IsFreed old.problem old.marks (get_or rows i 0) new.marks) → IfNone o (new ≡ old) → ComesFrom p kept (take i rows ++ get_or rows i 0 ∷ []) (take i rows) new.marks
       come (Some s) f n =
           comes_freed p kept old.marks new.marks (take i rows) (take i rows) (get_or rows i 0) s k.corner k.rays (not_before rows i apart within) (not_before rows i apart within) f.row
-          (subst (λ (q : Problem). IsExchange q old.marks s) h.problem f.exchange) f.marks h.comes
+          (subst (λ (q : Problem). IsCorner q old.marks) h.problem here) (subst (λ (q : Problem). IsExchange q old.marks s) h.problem f.exchange)
+          (subst (λ (q : Problem). ChangesNoValue q old.marks s) h.problem f.same) f.marks h.comes
       come None f n = subst (λ (c : CornerView). ComesFrom p kept (take i rows ++ get_or rows i 0 ∷ []) (take i rows) c.marks) (sym n) (comes_more p kept old.marks (take i rows) (get_or rows i 0 ∷ []) (take i rows) h.comes)
 
   -- or something does not fit there
-  pub unfit_freed : (c : CornerView) (at : UnfitPath) (stop : RemoveStop) → IsKeptCorner p kept → AllPairs (λ a b. a ≢ b) rows → IsFreeStop c.problem c.marks (get_or rows i 0) (UnfitRun at)
+  pub unfit_freed : (c : CornerView) (at : UnfitPath) (stop : RemoveStop) → IsCorner c.problem c.marks → IsKeptCorner p kept → AllPairs (λ a b. a ≢ b) rows → IsFreeStop c.problem c.marks (get_or rows i 0) (UnfitRun at)
       → HaveGone p kept (take i rows) (take i rows) c → IsUnfitOf (drop i rows) at stop → IsStillStop p kept rows stop
-  unfit_freed c at (Spent path) k apart f h of = absurd of
-  unfit_freed c at OutOfMemory k apart f h of = tt
-  unfit_freed c at (Unfit still other) k apart f h of =
+  unfit_freed c at (Spent path) here k apart f h of = absurd of
+  unfit_freed c at OutOfMemory here k apart f h of = tt
+  unfit_freed c at (Unfit still other) here k apart f h of =
       let s : Swap = f.0.freed.0 in
       let is = f.0.freed.1 in
       let comes : ComesFrom p kept (take i rows ++ get_or rows i 0 ∷ []) (take i rows) at.path.corner =
       comes_freed p kept c.marks at.path.corner (take i rows) (take i rows) (get_or rows i 0) f.0.freed.0 k.corner k.rays (not_before rows i apart within) (not_before rows i apart within) is.row
-      (subst (λ (q : Problem). IsExchange q c.marks f.0.freed.0) h.problem is.exchange) is.marks h.comes in
+      (subst (λ (q : Problem). IsCorner q c.marks) h.problem here) (subst (λ (q : Problem). IsExchange q c.marks f.0.freed.0) h.problem is.exchange)
+      (subst (λ (q : Problem). ChangesNoValue q c.marks f.0.freed.0) h.problem is.same) is.marks h.comes in
       let all : ComesFrom p kept rows (take i rows) at.path.corner =
       subst (λ (ids : List ℕ). ComesFrom p kept ids (take i rows) at.path.corner) (ap (λ (ids : List ℕ). ids ++ drop (i + 1) rows) (sym (take_more rows i 0 within)) ∙ all_of rows (i + 1))
       (comes_more p kept at.path.corner (take i rows ++ get_or rows i 0 ∷ []) (drop (i + 1) rows) (take i rows) comes) in

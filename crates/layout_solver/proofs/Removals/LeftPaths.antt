@@ -5,18 +5,20 @@ use Rattle.std.proofs.lemmas.List.Elements.{All-from_recursion, recursion_from_A
 use Rattle.std.proofs.lemmas.List.Kept.{AllPairs-cons}
 use Rattle.problem_core.specs.declared.parts.Mark.{Mark}
 use Rattle.problem_core.specs.declared.parts.RowName.TheVariants.{Held}
-use Rattle.problem_core.specs.Changes.Begins.{AreExchanges, ComesFrom, is_one_of, without_marks}
+use Rattle.problem_core.specs.Changes.Begins.{AreExchanges, ChangesNoValue, ComesFrom, is_one_of, without_marks}
 use Rattle.problem_core.specs.Layout.{Problem, lines}
 use Rattle.problem_core.specs.Corners.{IsCorner, IsExchange, IsIn, SameMarks, Swap, exchanged, marks_of, place}
 use Rattle.problem_core.specs.Changes.Paths.{last_marks}
 use Rattle.problem_core.specs.Rays.{HasRays}
 use Rattle.corner_laws.proofs.Counting.{head_pairs}
-use Rattle.corner_laws.proofs.Swaps.Pivots.{pivot_is_exchange}
+use Rattle.corner_laws.proofs.Swaps.Pivots.{leave-gone, pivot_is_exchange}
 use Rattle.corner_laws.proofs.Rays.{pivot_nonzero, rays_after}
 use Rattle.corner_laws.proofs.RunSteps.RunPaths.{contains_in}
+use Rattle.corner_laws.proofs.WrittenValues.{contains_each, nothing_outside}
+use Rattle.marker_remove.proofs.ZeroSwaps.{next_stands}
 use Rattle.layout_solver.specs.Removals.{without_rows}
-use Rattle.layout_solver.proofs.Removals.LeftMarks.{after_drop, after_free, far_in, mark_was, none_gone, one_last, one_more, ray_gone, was_in}
-use Rattle.problem_core.proofs.Marks.{exchanges-more as exchanges_more, same-back as same_back, last-more as last_more}
+use Rattle.layout_solver.proofs.Removals.LeftMarks.{after_drop, after_free, far_in, mark_was, none_gone, one_last, one_more, ray_gone, stands_gone, was_in}
+use Rattle.problem_core.proofs.Marks.{changes-more, exchanges-more as exchanges_more, same-back as same_back, last-more as last_more}
 use Rattle.corner_lines.proofs.Costs.LevelTakes.{entering-mark as entered_mark}
 use Rattle.frac_core.proofs.Lists.{pairs-rest as tail_pairs}
 use Rattle.corner.proofs.Additions.RowPaths.{same_trans as same_through}
@@ -39,6 +41,14 @@ lifted p at full gone s corner rays same far ex =
     let ray = rays (place s.enter) mark out in
     pivot_is_exchange p full s ray.0 corner mark out leaves ray.1
     (pivot_nonzero (without_rows gone p) at s ray.0 left ex (ray_gone gone p at full (place s.enter) ray.0 same ray.1))
+
+-- and it changes no value there, if it changes none where they have gone
+lifted-same : (p : Problem) (at full : List Mark) (gone : List ℕ) (s : Swap) → IsCorner (without_rows gone p) at → SameMarks at (without_marks gone full) → IsExchange (without_rows gone p) at s → ChangesNoValue (without_rows gone p) at s → ChangesNoValue p full s
+lifted-same p at full gone s corner same ex still x stands =
+    let mark : Contains (map place (marks_of (lines (without_rows gone p)))) (place s.leave) =
+    contains_each (λ v. Contains (map place (marks_of (lines (without_rows gone p)))) v) at (place s.leave) (recursion_from_All (λ m. Contains (map place (marks_of (lines (without_rows gone p)))) (place m)) at corner.marks) ex.leaves in
+    next_stands p full s x stands
+    (nothing_outside (without_rows gone p) (exchanged s at) x (place s.leave) (still x (stands_gone gone p at full x same stands)) mark (leave-gone s at ex.enters ex.leaves))
 
 -- ---- lists
 
@@ -67,12 +77,13 @@ comes_here p kept = record {
   rows = λ i d within. absurd (omega (arith, within));
   apart = λ i j d less within. absurd (omega (arith, within));
   exchanges = tt;
+  same = tt;
   marks = none_gone kept;
 }
 
 -- one exchange more frees a row that is none of those before
-pub comes_freed : (p : Problem) (kept at new : List Mark) (leaving gone : List ℕ) (id : ℕ) (s : Swap) → IsCorner p kept → HasRays p kept → is_one_of leaving (Held id) ≡ false → is_one_of gone (Held id) ≡ false → s.enter.row ≡ Held id → IsExchange (without_rows gone p) at s → SameMarks (exchanged s at) new → ComesFrom p kept leaving gone at → ComesFrom p kept (leaving ++ id ∷ []) gone new
-comes_freed p kept at new leaving gone id s corner rays fresh far row ex same h =
+pub comes_freed : (p : Problem) (kept at new : List Mark) (leaving gone : List ℕ) (id : ℕ) (s : Swap) → IsCorner p kept → HasRays p kept → is_one_of leaving (Held id) ≡ false → is_one_of gone (Held id) ≡ false → s.enter.row ≡ Held id → IsCorner (without_rows gone p) at → IsExchange (without_rows gone p) at s → ChangesNoValue (without_rows gone p) at s → SameMarks (exchanged s at) new → ComesFrom p kept leaving gone at → ComesFrom p kept (leaving ++ id ∷ []) gone new
+comes_freed p kept at new leaving gone id s corner rays fresh far row here ex still same h =
     let full : List Mark = last_marks kept h.frees in
     let there = last_corner p kept h.frees corner rays h.exchanges in
     let out : is_one_of gone s.enter.row ≡ false = ap (is_one_of gone) row ∙ far in
@@ -85,6 +96,7 @@ comes_freed p kept at new leaving gone id s corner rays fresh far row ex same h 
           (all-weaker (λ t. is_one_of leaving t.enter.row ≡ true) (λ t. t.enter.row ≢ s.enter.row) h.frees
           (λ t e q. absurd (true≢false (sym e ∙ ap (is_one_of leaving) (q ∙ row) ∙ fresh))) h.rows);
       exchanges = exchanges_more p kept h.frees s h.exchanges up;
+      same = changes-more p kept h.frees s h.same (lifted-same p at (last_marks kept h.frees) gone s here h.marks ex still);
       marks = subst (λ (ms : List Mark). SameMarks new (without_marks gone ms)) (sym (last_more kept h.frees s))
           (same_through new (exchanged s at) (without_marks gone (exchanged s (last_marks kept h.frees))) (same_back (exchanged s at) new same)
           (after_free at (last_marks kept h.frees) gone s h.marks out ex.leaves));
@@ -97,6 +109,7 @@ comes_more p kept at leaving more gone h = record {
   rows = all-weaker (λ t. is_one_of leaving t.enter.row ≡ true) (λ t. is_one_of (leaving ++ more) t.enter.row ≡ true) h.frees (λ t e. one_more leaving more t.enter.row e) h.rows;
   apart = h.apart;
   exchanges = h.exchanges;
+  same = h.same;
   marks = h.marks;
 }
 
@@ -107,5 +120,6 @@ comes_dropped p kept at leaving gone id h = record {
   rows = h.rows;
   apart = h.apart;
   exchanges = h.exchanges;
+  same = h.same;
   marks = after_drop at (last_marks kept h.frees) gone id h.marks;
 }

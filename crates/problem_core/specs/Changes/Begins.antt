@@ -46,11 +46,21 @@ abbrev pub AreExchanges : Problem → List Mark → List Swap → Type 0
 AreExchanges p at [] = Unit {0}
 AreExchanges p at (s ∷ swaps) = IsExchange p at s × AreExchanges p (exchanged s at) swaps
 
--- exchanges, at most one for each leaving row, bring a mark of it in; then the marks of the rows that are
--- gone are taken out
+-- the exchange changes no value: what stands at the corner stands at the next one too
+abbrev pub ChangesNoValue : Problem → List Mark → Swap → Type 0
+ChangesNoValue p at s = (x : Point) → StandsAt p at x → StandsAt p (exchanged s at) x
+
+-- each changes no value at the corner to which those before it lead
+abbrev pub ChangeNoValue : Problem → List Mark → List Swap → Type 0
+ChangeNoValue p at [] = Unit {0}
+ChangeNoValue p at (s ∷ swaps) = ChangesNoValue p at s × ChangeNoValue p (exchanged s at) swaps
+
+-- exchanges that change no value, at most one for each leaving row, bring a mark of it in; then the marks of
+-- the rows that are gone are taken out
 pub record ComesFrom (p : Problem) (kept : List Mark) (leaving gone : List ℕ) (at : List Mark) : Type 0 where
   pub frees : List Swap
   pub rows : All (λ s. is_one_of leaving s.enter.row ≡ true) frees
   pub apart : AllPairs (λ s t. s.enter.row ≢ t.enter.row) frees
   pub exchanges : AreExchanges p kept frees
+  pub same : ChangeNoValue p kept frees
   pub marks : SameMarks at (without_marks gone (last_marks kept frees))

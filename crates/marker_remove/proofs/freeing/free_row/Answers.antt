@@ -1,11 +1,12 @@
-use Rattle.std.proofs.Common.{rules, ◌≡◌, subst, sym}
+use Rattle.std.proofs.Common.{rules, ◌≡◌, ap, subst, sym}
+use Rattle.problem_core.specs.declared.parts.Mark.{Mark}
 use Rattle.problem_core.specs.Layout.{Problem}
 use Rattle.problem_core.specs.Corners.{NoNegativeValue, Swap, exchanged}
 use Rattle.corner.specs.Views.{CornerView}
 use Rattle.marker_remove.specs.Freed.{DoStand}
 use Rattle.marker_remove.proofs.FreedPaths.{freed_inside}
 use Rattle.marker_remove.proofs.StayMoves.{row_outside, some_mover}
-use Rattle.marker_remove.proofs.ZeroSwaps.{same_up, same_values}
+use Rattle.marker_remove.proofs.ZeroSwaps.{no_value, same_up, same_values}
 use Rattle.marker_remove.proofs.freeing.free_row.Goals as goal
 use Rattle.problem_core.proofs.Marks.{same-back as same_back}
 
@@ -27,6 +28,16 @@ pub unfit-requires-clause-standing : goal.unfit-requires-clause-standing
 unfit-requires-clause-standing c =
     let same : c.swap.new.self ≡ c.args.c.now = search rules in
     subst (λ (v : CornerView). DoStand v.problem v.marks) (sym same) c.requires.standing
+
+pub returns-in-Ok-clause-some : goal.returns-in-Ok-clause-some
+returns-in-Ok-clause-some c =
+    let s : Swap = record { enter = c.mark_of-enter.result; leave = c.leaving-leave.result } in record {
+      row = ap (λ (m : Mark). m.row) c.mark_of-enter.ensures;
+      stay = (c.leaving-leave.ensures.attr, c.leaving-leave.ensures.stay);
+      exchange = c.in-Ok.ensures.exchange;
+      same = no_value c.args.c.now.problem c.args.c.now.marks (record { enter = c.mark_of-enter.result; leave = c.leaving-leave.result }) c.leaving-leave.ensures.attr c.show_corner.ensures.kept.whole c.show_corner.ensures.kept.corner c.requires.standing c.leaving-leave.ensures.stay c.leaving-leave.ensures.moves.1.0;
+      marks = same_back c.swap.new.self.marks (exchanged s c.args.c.now.marks) c.in-Ok.ensures.marks;
+    }
 
 pub returns-in-Ok-clause-inside : goal.returns-in-Ok-clause-inside
 returns-in-Ok-clause-inside c =
