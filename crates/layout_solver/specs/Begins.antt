@@ -1,5 +1,5 @@
 -- Where the path of a change begins, and where it ends.
-use Rattle.std.specs.Prelude.{ℕ, Bool, true, false, List, []}
+use Rattle.std.specs.Prelude.{◌≡◌, ℕ, Bool, true, false, List, []}
 use Rattle.frac_core.specs.Fraction.{Fraction}
 use Rattle.problem_core.specs.declared.parts.Mark.{Mark}
 use Rattle.problem_core.specs.Layout.{Row, Problem}
@@ -7,11 +7,13 @@ use Rattle.cert_core.specs.Paths.{Path}
 use Rattle.cert_core.specs.Stops.{IsStopOf}
 use Rattle.cert_core.specs.declared.stops.RunStop.{RunStop}
 use Rattle.corner.specs.Changes.{FromAdded}
+use Rattle.corner.specs.Views.{in_order}
 use Rattle.corner_ends.specs.Runs.{FromHere, IsBestEnd, IsRun}
 use Rattle.layout_solver.specs.Layouts.{GivesAt}
 
--- the marks are an end, at which the attributes have these values
+-- the marks, by row number with the stays last, are an end, at which the attributes have these values
 pub record IsReached (p : Problem) (at : List Mark) (values : List (ℕ × Fraction)) : Type 0 where
+  pub ordered : at ≡ in_order p at
   pub end : IsBestEnd p at
   pub gives : GivesAt p at values
 

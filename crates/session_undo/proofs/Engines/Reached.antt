@@ -56,9 +56,9 @@ given l h k d within =
 gives : (l : Layout) → IsKeptLayout l → GivesAt l.problem l.corner l.values
 gives l h = (h.corner.corner.point, h.corner.corner.stands, given l h)
 
--- the kept corner is an end at which the attributes have the values
+-- the kept corner is an end, in order, at which the attributes have the values
 pub reached : (l : Layout) → IsKeptLayout l → IsReached l.problem l.corner l.values
-reached l h = record { end = h.end; gives = gives l h }
+reached l h = record { ordered = h.corner.ordered; end = h.end; gives = gives l h }
 
 -- a run to the kept corner leads to the values
 pub run-to : (l : Layout) (p : Problem) (s : Start) (budget : ℕ) → IsKeptLayout l → l.problem ≡ p
