@@ -1,7 +1,8 @@
 -- Three rows that lean on each other: places 4, 5 of `3000000 y >= 2 x`, 8, 9 of `1500000 y >= x`, 12, 13 of
 -- `1500000 x + y >= 0`, 6, 7 of the stay of x, 10, 11 of that of y.
-use Rattle.std.proofs.Common.{◌≡◌, ◌≢◌, ℕ, zero, suc, ◌+◌, ◌<◌, ◌≤◌, cond, nat_eq, List, [], ◌∷◌, map, ℤ, pos, negsuc, ◌+ℤ◌, ◌*ℤ◌, ◌≤ℤ◌, refl, sym, arith, inl, inr, AllPairs, Contains}
+use Rattle.std.proofs.Common.{◌≡◌, ◌≢◌, ℕ, zero, suc, ◌+◌, ◌<◌, ◌≤◌, ◌⊎◌, Bool, true, false, cond, nat_eq, List, [], ◌∷◌, map, ℤ, pos, negsuc, ◌+ℤ◌, ◌-ℤ◌, ◌*ℤ◌, ◌≤ℤ◌, refl, sym, arith, inl, inr, AllPairs, Contains, true≢false, ne_eqb}
 use Rattle.std.specs.Int.RustNames.{unsigned_abs}
+use Rattle.std.proofs.lemmas.Bool.{cases_eq}
 use Rattle.std.proofs.lemmas.List.Elements.{All-from_recursion, recursion_from_All}
 use Rattle.std.proofs.lemmas.List.Kept.{AllPairs-cons}
 use borrow.Author.Differences.{ints}
@@ -13,7 +14,7 @@ use Rattle.problem_core.specs.declared.parts.Term.{Term}
 use Rattle.problem_core.specs.declared.stops.What.TheVariants.{Mark as MarkOf}
 use Rattle.problem_core.specs.Kept.{IsRow, IsStay, IsTerm, IsWhole}
 use Rattle.problem_core.specs.Layout.{HasStay, IsCovered, Row, coefficient, lines, value_at}
-use Rattle.problem_core.specs.Corners.{Agree, IsCorner, IsExchange, IsIn, NoNegativeValue, Point, SameMarks, Solves, StandsAt, Swap, attr_column, equation, marks_of, one_column, place}
+use Rattle.problem_core.specs.Corners.{Agree, IsCorner, IsExchange, IsIn, IsWritingOf, NoNegativeValue, Point, SameMarks, Solves, StandsAt, Swap, attr_column, equation, marks_of, one_column, place}
 use Rattle.problem_core.specs.Changes.Begins.{ChangesNoValue}
 use Rattle.problem_core.specs.Rays.{IsRay}
 use Rattle.problem_core.specs.Unfit.{IsUnfitWhat, over_mark}
@@ -22,7 +23,7 @@ use Rattle.cert_core.specs.declared.stops.RunStop.TheVariants.{Unfit}
 use Rattle.corner.specs.Views.{HasValueAt}
 use Rattle.corner_laws.specs.Examples.{over_stay}
 use Rattle.corner_laws.proofs.MarkWritings.Directions.{writing_moves}
-use Rattle.corner_laws.proofs.MarkWritings.Fits.{whole_is_kept}
+use Rattle.corner_laws.proofs.MarkWritings.Fits.{one_factor, whole_is_kept}
 use Rattle.corner_laws.proofs.Instances.PathExamples.{no}
 use Rattle.marker_remove.specs.Freed.{DoStand, IsFreeStop}
 use Rattle.marker_remove.specs.Instances.{crossing, first_over, leaning, over_second_stay, through_origin}
@@ -279,6 +280,63 @@ same y h =
     let x0 : y.num (attr_column 1) ≡ pos 0 = both-zero (y.num 8) (y.num 9) (y.num 12) (y.num 13) (y.num one_column) (y.num (attr_column 1)) (y.num (attr_column 2)) e.1.0 e.1.1.0 u2 o2 u3 o3 in
     next_stands crossing leaning second_for_stay y h
     (over-zero (y.num 6) (y.num 7) (y.num one_column) (y.num (attr_column 1)) e.1.1.1.0 b1 x0)
+
+-- ---- what fits before
+
+-- the row 1 is over by twice as much as row 2
+abbrev twice : List Term
+twice = record { attr = 4; by = pos 1 } ∷ record { attr = 8; by = negsuc 1 } ∷ record { attr = 9; by = pos 2 } ∷ []
+
+sum-off : (a b c : Bool) → a ≡ false → b ≡ false → c ≡ false → cond a (pos 1) (pos 0) +ℤ (cond b (negsuc 1) (pos 0) +ℤ (cond c (pos 2) (pos 0) +ℤ pos 0)) ≡ pos 0
+sum-off true b c e f g = absurd (true≢false e)
+sum-off false true c e f g = absurd (true≢false f)
+sum-off false false true e f g = absurd (true≢false g)
+sum-off false false false e f g = refl
+
+sum-small : (a b c : Bool) → IsFitting (cond a (pos 1) (pos 0) +ℤ (cond b (negsuc 1) (pos 0) +ℤ (cond c (pos 2) (pos 0) +ℤ pos 0)))
+sum-small true true true = omega arith
+sum-small true true false = omega arith
+sum-small true false true = omega arith
+sum-small true false false = omega arith
+sum-small false true true = omega arith
+sum-small false true false = omega arith
+sum-small false false true = omega arith
+sum-small false false false = omega arith
+
+twice-at : (v : ℕ) → coefficient v twice ≢ pos 0 → (v ≡ 4) ⊎ ((v ≡ 8) ⊎ (v ≡ 9))
+twice-at v some = elim (cases_eq 4 v) [
+  | inl e ↦ inl (sym e)
+  | inr a ↦ elim (cases_eq 8 v) [
+    | inl e ↦ inr (inl (sym e))
+    | inr b ↦ elim (cases_eq 9 v) [
+      | inl e ↦ inr (inr (sym e))
+      | inr c ↦ absurd (some (sum-off (nat_eq 4 v) (nat_eq 8 v) (nat_eq 9 v) (ne_eqb 4 v a) (ne_eqb 8 v b) (ne_eqb 9 v c)))
+    ]
+  ]
+]
+
+twice-holds : (u1 o1 u2 o2 one x y : ℤ) → Row1 u1 o1 one x y → Row2 u2 o2 one x y
+    → pos 1 *ℤ (pos 1 *ℤ o1 -ℤ (pos 1 *ℤ u1 +ℤ (negsuc 1 *ℤ u2 +ℤ (pos 2 *ℤ o2 +ℤ pos 0)))) ≡ pos 1 *ℤ (pos 0 *ℤ one)
+twice-holds u1 o1 u2 o2 one x y h k = omega (arith, ints, h, k)
+
+twice-writing : IsWritingOf crossing leaning (λ x. x 5) 1 twice (pos 0) 1
+twice-writing = record {
+  scale_positive = omega arith;
+  den_positive = omega arith;
+  outside = λ v some. elim (twice-at v some) [
+    | inl e ↦ ((0, omega arith, sym e), out-leaning v (λ q. absurd (omega (arith, e, q))) (λ q. absurd (omega (arith, e, q))) (λ q. absurd (omega (arith, e, q))))
+    | inr r ↦ elim r [
+      | inl e ↦ ((2, omega arith, sym e), out-leaning v (λ q. absurd (omega (arith, e, q))) (λ q. absurd (omega (arith, e, q))) (λ q. absurd (omega (arith, e, q))))
+      | inr e ↦ ((3, omega arith, sym e), out-leaning v (λ q. absurd (omega (arith, e, q))) (λ q. absurd (omega (arith, e, q))) (λ q. absurd (omega (arith, e, q))))
+    ]
+  ];
+  holds = λ x h. let e = recursion_from_All (λ l. value_at x.num (equation l) ≡ pos 0) (lines crossing) h in
+      twice-holds (x.num 4) (x.num 5) (x.num 8) (x.num 9) (x.num one_column) (x.num (attr_column 1)) (x.num (attr_column 2)) e.0 e.1.0;
+  lowest = λ k each whole. one_factor k whole.0 whole.1;
+}
+
+pub whole_fits : IsUnfitWhat crossing leaning (MarkOf (over_mark 1)) → ⊥
+whole_fits (inside, none) = none 1 twice (record { num = pos 0; den = 1 }) twice-writing (omega arith) (λ v. sum-small (nat_eq 4 v) (nat_eq 8 v) (nat_eq 9 v)) (whole_is_kept 0 (omega arith))
 
 -- ---- what does not fit there
 

@@ -23,7 +23,7 @@ use Rattle.corner_laws.proofs.MarkWritings.Fits.{one_factor, whole_is_kept, diff
 use Rattle.corner_laws.proofs.Instances.PathExamples.{alone-in, no, one-value}
 use Rattle.corner_laws.proofs.RunSteps.RunPaths.{contains_in}
 use Rattle.marker_remove.specs.Freed.{DoStand, IsFreeStop}
-use Rattle.marker_remove.proofs.Crossing.{whole, whole_stands, whole_unfit, whole_values}
+use Rattle.marker_remove.proofs.Crossing.{whole, whole_fits, whole_stands, whole_unfit, whole_values}
 use Rattle.marker_remove.proofs.ZeroSwaps.{next_stands}
 use Rattle.marker_remove.specs.Instances.{SomeRowsCannotLeave, row_for_stay, standing, unfit_at, x_over}
 use Rattle.corner_laws.proofs.Instances.BeginExamples.{one-same}
@@ -215,5 +215,6 @@ some_rows_cannot_leave = record {
   whole = whole;
   whole_values = whole_values;
   whole_stands = whole_stands;
+  whole_fits = whole_fits;
   whole_unfit = whole_unfit;
 }

@@ -14,7 +14,7 @@ use Rattle.problem_core.specs.Kept.{IsWhole}
 use Rattle.problem_core.specs.Layout.{Problem, Row}
 use Rattle.problem_core.specs.Corners.{NoNegativeValue, Swap}
 use Rattle.problem_core.specs.Changes.Begins.{ChangesNoValue}
-use Rattle.problem_core.specs.Unfit.{over_mark}
+use Rattle.problem_core.specs.Unfit.{IsUnfitWhat, over_mark}
 use Rattle.cert_core.specs.declared.stops.UnfitPath.{UnfitPath}
 use Rattle.cert_core.specs.declared.stops.RunStop.TheVariants.{Unfit}
 use Rattle.corner_laws.specs.Examples.{at_least, over_row, over_stay, single}
@@ -90,8 +90,9 @@ pub record SomeRowsCannotLeave : Type 0 where
       → IsFreeStop p at id (Unfit (unfit_at at quantity)) → ⊥
   pub same : ChangesNoValue (standing PART_BOUND) (over_stay ∷ []) row_for_stay
   pub moved : ChangesNoValue (single PART_BOUND) (over_stay ∷ []) row_for_stay → ⊥
-  -- the same of a problem that the types hold
+  -- the same of a problem that the types hold, in which the mark fits before
   pub whole : IsWhole crossing
   pub whole_values : NoNegativeValue crossing leaning
   pub whole_stands : DoStand crossing leaning
+  pub whole_fits : IsUnfitWhat crossing leaning (MarkOf (over_mark 1)) → ⊥
   pub whole_unfit : IsFreeStop crossing leaning 2 (Unfit first_over)
