@@ -1,12 +1,12 @@
 -- An index of numbers, one number more at a time, and what it finds among a problem's lines.
-use Rattle.std.proofs.Common.{◌≡◌, ℕ, ◌+◌, ◌-◌, ◌<◌, false, List, [], ◌∷◌, ◌++◌, map, length, take, get_or, Option, Some, None, BTreeMap, sym, ap, subst, ◌∙◌, inl, inr, arith, Contains, MatchOption, IfSome, IfNone, pos}
-use Rattle.std.proofs.lemmas.Bool.Decides.{nat_tests}
+use Rattle.std.proofs.Common.{◌≡◌, ℕ, ◌+◌, ◌-◌, ◌<◌, List, [], ◌∷◌, ◌++◌, map, length, take, get_or, Option, Some, None, BTreeMap, sym, ap, subst, ◌∙◌, inl, inr, arith, Contains, MatchOption, IfSome, IfNone, pos}
 use Rattle.std.specs.Ordering.{nat_cmp}
-use Rattle.std.specs.BTreeMap.{Updates, is_at, get}
+use Rattle.std.specs.BTreeMap.{Updates, get}
 use Rattle.std.proofs.lemmas.Bool.{cases_eq, cases_lt}
 use Rattle.std.proofs.lemmas.List.{take_more, length-map, get_or_append_left, length-take-le, length-append, get_or-map}
 use Rattle.std.proofs.Math.Seq.{get_or-append_seam}
 use Rattle.std.proofs.lemmas.List.Elements.{Contains-push_cases, Contains-get_or}
+use Rattle.frac_core.proofs.Orders.{not-at}
 use Rattle.problem_core.specs.declared.parts.RowName.{RowName}
 use Rattle.problem_core.specs.declared.parts.RowName.TheVariants.{Held, Stay as StayOf}
 use Rattle.problem_core.specs.declared.parts.Stay.{Stay}
@@ -17,9 +17,6 @@ use Rattle.cert_checker.specs.LineSums.{line_count}
 use Rattle.cert_checker.specs.LinePlaces.{IsIndex, names, name_at}
 use Rattle.cert_checker.proofs.LinePlaces.{row-at, stay-at}
 use Rattle.problem_core.proofs.Lines.{length-stays}
-
-apart : (x q : ℕ) → (x ≡ q → ⊥) → is_at (nat_cmp x) q ≡ false
-apart x q n = grind (arith, nat_tests)
 
 abbrev Found : List ℕ → ℕ → ℕ → Type 0
 Found xs q k = (k < length xs) × (get_or xs k 0 ≡ q)
@@ -36,7 +33,7 @@ push m n xs x u is q =
           let here : Found (xs ++ x ∷ []) q (length xs) = (omega (arith, length-append xs (x ∷ [])), get_or-append_seam xs x [] 0 ∙ e) in
           subst (λ (o : Option ℕ). MatchOption o (Contains (xs ++ x ∷ []) q → ⊥) (Found (xs ++ x ∷ []) q)) (sym found) here
       | inr e ↦
-          subst (λ (o : Option ℕ). MatchOption o (Contains (xs ++ x ∷ []) q → ⊥) (Found (xs ++ x ∷ []) q)) (sym (u.2 q (apart x q e))) (kept xs x q (get nat_cmp m q) e (is q))
+          subst (λ (o : Option ℕ). MatchOption o (Contains (xs ++ x ∷ []) q → ⊥) (Found (xs ++ x ∷ []) q)) (sym (u.2 q (not-at x q e))) (kept xs x q (get nat_cmp m q) e (is q))
     ]
 
 pub index-more : (m n : BTreeMap ℕ ℕ) (xs : List ℕ) (i : ℕ) → i < length xs → Updates nat_cmp m n (get_or xs i 0) (Some i) → IsIndex (take i xs) m → IsIndex (take (i + 1) xs) n

@@ -9,7 +9,7 @@ use Rattle.frac_core.proofs.Integers.{mul-zero_ℤ, zero_from_mul}
 use Rattle.problem_core.specs.declared.parts.Term.{Term}
 use Rattle.problem_core.specs.Layout.{coefficient}
 use Rattle.problem_core.specs.Kept.{IsTerm}
-use Rattle.problem_core.proofs.Forms.{sum-append}
+use Rattle.frac_core.proofs.Sums.{sum-append}
 use Rattle.constraint_compile.specs.Fractions.{IsOver}
 use Rattle.constraint_compile.specs.Coefficients.Shares.{IsOff}
 use Rattle.constraint_compile.specs.Coefficients.Sums.{IsSum, HasFirst, AreTerms, HasTooMany, attr_at, number_at}

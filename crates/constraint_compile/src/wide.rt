@@ -1,8 +1,7 @@
-// Products, sums and quotients of 128 bits that cannot overflow where a row is made.
+// Products and sums of 128 bits that cannot overflow where a row is made.
 pub(crate) mod ratios;
 
-ghost use Rattle.std.specs.Prelude.{◌≡◌, ◌^◌, ◌<◌, ◌≤◌, ◌+◌, ◌*◌, ◌+ℤ◌, ◌*ℤ◌, ◌<ℤ◌, pos, unsigned_abs};
-ghost use Prim.Native.Nat.{◌∣◌};
+ghost use Rattle.std.specs.Prelude.{◌≡◌, ◌^◌, ◌<◌, ◌≤◌, ◌+◌, ◌*◌, ◌+ℤ◌, ◌*ℤ◌, unsigned_abs};
 
 /// The product of two numbers below 2^44 in size, which is below 2^88 in size.
 pub(crate) fn product(x: i64, y: i64) -> i128
@@ -22,16 +21,4 @@ pub(crate) fn total(x: i128, y: i128) -> i128
     ensures size { unsigned_abs result ≤ unsigned_abs x + unsigned_abs y }
 {
     x + y
-}
-
-/// The exact quotient.
-pub(crate) fn quotient(number: i128, divisor: i128) -> i128
-    requires above { pos 0 <ℤ divisor }
-    requires divides { unsigned_abs divisor ∣ unsigned_abs number }
-    ensures { divisor *ℤ result ≡ number }
-{
-    if divisor == 1 {
-        return number;
-    }
-    number / divisor
 }

@@ -16,7 +16,8 @@ use Rattle.problem_core.specs.declared.parts.RowName.{RowName}
 use Rattle.problem_core.specs.declared.parts.RowName.TheVariants.{Held, Stay as StayOf}
 use Rattle.problem_core.specs.Layout.{Row, Problem, sum_of, coefficient, product_of}
 use Rattle.problem_core.specs.Certificates.{IsRefutation, HasSign, required}
-use Rattle.problem_core.proofs.Forms.{sum-append, each-impl, each-both, each-filter}
+use Rattle.frac_core.proofs.Sums.{sum-append}
+use Rattle.problem_core.proofs.Forms.{each-impl, each-both, each-filter}
 use Rattle.cert_core.specs.declared.by.By.{By}
 use Rattle.cert_core.specs.Claims.{times_of, same_row}
 use Rattle.cert_core.specs.Stops.{ComesBefore}

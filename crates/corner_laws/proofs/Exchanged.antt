@@ -6,7 +6,8 @@ use Rattle.problem_core.specs.declared.parts.Mark.{Mark}
 use Rattle.problem_core.specs.declared.parts.Term.{Term}
 use Rattle.problem_core.specs.Layout.{Problem, lines, coefficient, value_at}
 use Rattle.problem_core.specs.Corners.{IsIn, Swap, exchanged, marks_of, place}
-use Rattle.problem_core.proofs.Forms.{sum-append, times, coefficient-times, value-times}
+use Rattle.frac_core.proofs.Sums.{sum-append}
+use Rattle.problem_core.proofs.Forms.{times, coefficient-times, value-times}
 pub use Rattle.corner_laws.specs.Equations.{IsEquationOf}
 use Rattle.frac_core.proofs.Numbers.{signed-not-zero as not_zero}
 

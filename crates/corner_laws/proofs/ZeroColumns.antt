@@ -19,7 +19,8 @@ use Rattle.problem_core.specs.Kept.{IsWhole, IsRow}
 use Rattle.problem_core.specs.Certificates.{Multipliers, under_weight, over_weight, weight_at}
 use Rattle.problem_core.specs.Corners.{Agree, AreMultipliersAt, IsCorner, IsIn, Point, StandsAt, attr_column, column, equation, marks_of, one_column, place, place_of}
 use Rattle.problem_core.proofs.Corners.CornerFacts.{is_place}
-use Rattle.problem_core.proofs.Forms.{each-impl, each-both, sum-append, sum-zero, product-positive, value-plus, value-scaled}
+use Rattle.frac_core.proofs.Sums.{sum-append}
+use Rattle.problem_core.proofs.Forms.{each-impl, each-both, sum-zero, product-positive, value-plus, value-scaled}
 use Rattle.problem_core.proofs.Corners.Tableaus.{unit_at}
 use Rattle.problem_core.proofs.Wholes.{whole-IsProblem}
 use Rattle.problem_core.specs.Levels.{cost_at, line_cost, scales}

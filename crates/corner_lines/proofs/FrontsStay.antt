@@ -17,7 +17,8 @@ use Rattle.problem_core.specs.Certificates.{weight_at}
 use Rattle.problem_core.specs.Corners.{IsIn, column, exchanged, place_of}
 use Rattle.problem_core.specs.Rays.{HasRays}
 use Rattle.problem_core.specs.Levels.{alone}
-use Rattle.problem_core.proofs.Forms.{each-impl, each-both, sum-append}
+use Rattle.frac_core.proofs.Sums.{sum-append}
+use Rattle.problem_core.proofs.Forms.{each-impl, each-both}
 use Rattle.corner_laws.specs.Equations.{IsLevelSum}
 use Rattle.corner_laws.specs.Units.{IsLevelUnit, over_share, under_share}
 use Rattle.corner_laws.proofs.LevelCosts.Equal.{all_same, writing-sum}

@@ -6,6 +6,7 @@ pub mod OneFraction
 pub mod Orders
 pub mod Products
 pub mod Signs
+pub mod Sums
 pub mod Quotients
 pub mod Results
 pub mod Bools

@@ -188,9 +188,6 @@ rest-less (suc o) u m h k = omega (arith, k)
 pub none-below : (k : ℕ) → k < 0 → ⊥
 none-below k h = omega (arith, h)
 
-pub up-not-neg : (z : ℤ) → pos 0 ≤ℤ z → pos 0 <ℤ neg_ℤ z → ⊥
-up-not-neg z up down = absurd (omega (arith, ints, up, down))
-
 pub up-not-low : (z : ℤ) → pos 0 ≤ℤ z → z <ℤ pos 0 → ⊥
 up-not-low z up low = omega (arith, ints, up, low)
 

@@ -1,6 +1,7 @@
 -- The order of quotients, by their whole parts and by what is left.
-use Rattle.std.proofs.Common.{Ordering, ◌≡◌, ◌≢◌, ℕ, zero, suc, ◌+◌, ◌*◌, ◌/◌, ◌%◌, ◌<◌, ◌≤◌, ◌⊎◌, inl, inr, refl, sym, ◌∙◌, ap, ap₂, arith, mul-pos}
+use Rattle.std.proofs.Common.{Ordering, ◌≡◌, ◌≢◌, ℕ, zero, suc, ◌+◌, ◌*◌, ◌/◌, ◌%◌, ◌<◌, ◌≤◌, ◌⊎◌, inl, inr, false, refl, sym, ◌∙◌, ap, ap₂, arith, mul-pos}
 use Rattle.std.specs.Ordering.{nat_cmp}
+use Rattle.std.specs.BTreeMap.{is_at}
 use Rattle.std.proofs.lemmas.Bool.Decides.{nat_tests}
 use Rattle.std.proofs.Math.Nat.{div-add-mod, mul-lt-mul_of_pos_right, mul-le-mul_right}
 
@@ -12,6 +13,9 @@ nat_cmp-above x y h = grind (arith, nat_tests)
 
 nat_cmp-equal : (x y : ℕ) → x ≡ y → nat_cmp x y ≡ Ordering.Equal
 nat_cmp-equal x y h = grind (arith, nat_tests)
+
+pub not-at : (x q : ℕ) → x ≢ q → is_at (nat_cmp x) q ≡ false
+not-at x q n = grind (arith, nat_tests)
 
 -- the order of two numbers is that of two others which lie alike
 data Alike (x y u v : ℕ) : Type 0 where

@@ -1,5 +1,5 @@
 -- Fractions in lowest terms.
-use Rattle.std.specs.Prelude.{◌≡◌, ℕ, ◌<◌, ℤ, pos}
+use Rattle.std.specs.Prelude.{◌≡◌, ℕ, ◌<◌, ◌^◌, ℤ, pos}
 use Rattle.std.specs.Int.{IsGcd}
 use Rattle.std.specs.Int.RustNames.{unsigned_abs}
 use Rattle.std.specs.Prelude.{◌*ℤ◌, ◌+ℤ◌}
@@ -34,6 +34,10 @@ IsRatio f p q = f.num *ℤ q ≡ p *ℤ pos f.den
 -- a whole number below the bound in size
 abbrev pub IsFitting : ℤ → Type 0
 IsFitting z = unsigned_abs z < PART_BOUND
+
+-- what the product of two fitting numbers is: 2^84 is the square of PART_BOUND
+abbrev pub IsFactor : ℤ → Type 0
+IsFactor k = unsigned_abs k < 2 ^ 84
 
 -- p over q in lowest terms does not fit
 abbrev pub IsUnfitRatio : ℤ → ℤ → Type 0

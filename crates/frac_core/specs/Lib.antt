@@ -1,3 +1,4 @@
 pub mod Fraction
 pub mod Stops
+pub mod Sums
 pub mod Text

@@ -13,7 +13,7 @@
 //! What the type keeps (`IsKept`): the denominator is above 0, there is no common factor but 1, and both
 //! parts fit.
 //!
-//! To read: `divisor` (the greatest common divisor), `frac`, `order` (the order of quotients whose cross
+//! To read: `divisor` (the greatest common divisor, exact quotients), `frac`, `order` (the order of quotients whose cross
 //! products may be too large for 128 bits), `wide` (fractions for printing, which need not fit), `text`
 //! (fractions as text), `memory` (want of memory as an error of its own, for all crates).
 #![tactic(auto)]
@@ -25,7 +25,7 @@ mod order;
 mod text;
 mod wide;
 
-pub use divisor::{common_divisor, gcd};
+pub use divisor::{common_divisor, gcd, quotient};
 pub use frac::{Frac, PART_BOUND, Unfit};
 pub use memory::{OutOfMemory, Stop};
 pub use order::cmp_wide;

@@ -4,6 +4,7 @@ use Rattle.std.specs.Str.Lines.{lines, strip_carriage_return}
 use Rattle.std.specs.Io.KnownBytes.{Appends, Consumes, IsAtEnd}
 use Rattle.std.proofs.lemmas.List.{append-nil}
 use Rattle.std.proofs.lemmas.List.Elements.{All-nil, All-append}
+use Rattle.std.proofs.lemmas.Bool.{cases_Bool}
 use Rattle.std.proofs.lemmas.Bool.Decides.{leb_tells}
 use Rattle.edge_io.specs.Feed.{Pending, nothing, cut, given_as, IsUnended}
 use Rattle.edge_io.specs.Feeding.{Gives, Waits}
@@ -16,7 +17,6 @@ use Rattle.layout_cli.specs.Machine.{Step, Run, IsRunOf}
 use Rattle.layout_cli.specs.Printing.{HasFront}
 use Rattle.layout_cli.specs.Talks.{AreWholeLines, AnswersWhole, AnswersFirst, AnswersInPart, IsTalk, IsGivenAs, joined}
 use Rattle.layout_cli.proofs.Printed.{appends_none, front_then}
-use Rattle.path_levels.proofs.Exchanges.MultipleFacts.{bool_cases}
 
 and_assoc : (a b c : Bool) → ((a && b) && c) ≡ (a && (b && c))
 and_assoc true b c = refl
@@ -149,7 +149,7 @@ talk_waits before held taken p next good last talk waits =
       run = talk.run;
       written = talk.written;
     }) in
-    elim (bool_cases p.is_cut) [
+    elim (cases_Bool p.is_cut) [
       | inl is ↦ gives_up (omega (arith, length-append s.gone p.bytes, s.long is)) (waits.long (inl is))
       | inr is ↦ elim (leb_tells (length p.bytes) 4097) [
         | inl small ↦ subst (λ (q : Pending). IsTalk before held taken q good last) (sym (waits.short is small.1)) talk

@@ -2,16 +2,13 @@
 use Rattle.std.specs.Prelude.{◌≡◌, ℕ, ◌*◌, ◌<◌, ◌≤◌, ◌^◌, List, map, ℤ, pos, ◌+ℤ◌, ◌*ℤ◌, ◌<ℤ◌, unsigned_abs}
 use Rattle.std.specs.Prelude.{◌≢◌, Bool, true, false, negsuc, All, length, slice_index_or}
 use Rattle.std.specs.Int.{◌∣◌}
+pub use Rattle.frac_core.specs.Fraction.{IsFactor}
 use Rattle.frac_core.specs.Fraction.{IsFitting}
 use Rattle.frac_core.specs.declared.frac.TheConstants.{PART_BOUND}
 
 -- the number of the line at a place
 abbrev pub number_at : List ℤ → ℕ → ℤ
 number_at numbers at = slice_index_or numbers at (pos 0)
-
--- what the product of two fitting numbers is below in size
-abbrev pub IsFactor : ℤ → Type 0
-IsFactor k = unsigned_abs k < 2 ^ 84
 
 -- small enough for the sum of two such products to have 128 bits
 abbrev pub IsSmallProduct : ℤ → ℤ → Type 0

@@ -60,7 +60,7 @@ pub use laws::{
     exchange_needs_number, leaving_is_pivot, none_gives_way, one_mark_of_line, path_is_its_clauses,
     solved_is_pivot, some_paths_hold, turned_lines_are, unfit_list_is_unfit, yes_is_path,
 };
-pub use numbers::{Lowest, Ratio, Wide, combined, in_lowest_terms, moved_sign, quotient};
+pub use numbers::{Lowest, Ratio, Wide, combined, in_lowest_terms, moved_sign};
 pub use route::{bringing_in, comes_twice, is_one, moved, sides_of};
 pub use signs::{has_no_negative_value, is_down, is_on_side, is_up};
 pub use spots::{Spot, Step, names, spot_of, step_of};

@@ -9,7 +9,7 @@ ghost use Rattle.path_checker.specs.Numbers.{AreFitting, AreLowest, AreUnfit, Di
 ghost use Rattle.path_checker.specs.Numbers.{IsCombined, IsCommonDivisor, IsFactor, IsSmallProduct};
 
 use crate::stop::SumStop;
-use frac_core::{Frac, OutOfMemory, PART_BOUND, Stop, Unfit, cmp_wide, gcd};
+use frac_core::{Frac, OutOfMemory, PART_BOUND, Stop, Unfit, cmp_wide, gcd, quotient};
 use std::alloc::Global;
 use std::cmp::Ordering;
 
@@ -48,18 +48,6 @@ fn divisor_of(own: i128, by: &[i128]) -> i128
     ensures { IsCommonDivisor own by.now result }
 {
     common_divisor(own, by) as i128
-}
-
-/// The exact quotient.
-pub fn quotient(number: i128, divisor: i128) -> i128
-    requires above { pos 0 <ℤ divisor }
-    requires divides { unsigned_abs divisor ∣ unsigned_abs number }
-    ensures { divisor *ℤ result ≡ number }
-{
-    if divisor == 1 {
-        return number;
-    }
-    number / divisor
 }
 
 // The quotient, where it fits.

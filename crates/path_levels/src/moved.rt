@@ -7,8 +7,8 @@ ghost use Rattle.path_checker.specs.Numbers.{IsFactor};
 ghost use Rattle.path_levels.specs.Exchanges.Moved.{IsLowestPart, joint_den, joint_num};
 ghost use Rattle.path_levels.specs.declared.moved.TheConstants.{NUM_ROOM};
 
-use frac_core::{Frac, PART_BOUND, Unfit, gcd};
-use path_checker::{Ratio, quotient};
+use frac_core::{Frac, PART_BOUND, Unfit, gcd, quotient};
+use path_checker::Ratio;
 
 // A fraction in lowest terms.
 #[derive(Clone, Copy, Debug)]

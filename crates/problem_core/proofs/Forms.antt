@@ -9,6 +9,7 @@ use Rattle.problem_core.specs.declared.parts.Term.{Term}
 use Rattle.problem_core.specs.Layout.{sum_of, product_of, coefficient, value_at}
 use Rattle.frac_core.proofs.Integers.{mul-add_left, add-mul_right, mul_assoc_ℤ, mul_left_comm_ℤ, zero-mul_ℤ, mul-zero_ℤ, zero-add_ℤ, add-zero_ℤ, gap-share}
 use Rattle.frac_core.proofs.Bools.{count-same as at_same, cond-mul}
+use Rattle.frac_core.proofs.Sums.{sum-append, sum-push}
 
 -- ---- sums
 
@@ -19,10 +20,6 @@ sum-cong f g (x ∷ xs) h = ap₂ ◌+ℤ◌ (h x) (sum-cong f g xs h)
 pub sum-zero : {A : Type 0} (f : A → ℤ) (xs : List A) → Each (λ x. f x ≡ pos 0) xs → sum_of f xs ≡ pos 0
 sum-zero f [] h = refl
 sum-zero f (x ∷ xs) h = ap₂ ◌+ℤ◌ h.0 (sum-zero f xs h.1)
-
-pub sum-append : {A : Type 0} (f : A → ℤ) (xs ys : List A) → sum_of f (xs ++ ys) ≡ sum_of f xs +ℤ sum_of f ys
-sum-append f [] ys = omega (arith, ints)
-sum-append f (x ∷ xs) ys = omega (arith, ints, sum-append f xs ys)
 
 pub sum-add : {A : Type 0} (f g : A → ℤ) (xs : List A) → sum_of (λ x. f x +ℤ g x) xs ≡ sum_of f xs +ℤ sum_of g xs
 sum-add f g [] = refl
@@ -207,4 +204,4 @@ product-positive f (x ∷ xs) h = mul-pos h.0 (product-positive f xs h.1)
 -- a sum over one element more
 pub sum-more : {A : Type 0} (f : A → ℤ) (xs : List A) (i : ℕ) (d : A) → i < length xs → sum_of f (take (i + 1) xs) ≡ sum_of f (take i xs) +ℤ f (get_or xs i d)
 sum-more f xs i d l =
-    ap (sum_of f) (take_more xs i d l) ∙ sum-append f (take i xs) (get_or xs i d ∷ []) ∙ ap (λ (t : ℤ). sum_of f (take i xs) +ℤ t) (let e : f (get_or xs i d) +ℤ pos 0 ≡ f (get_or xs i d) = omega (arith, ints) in e)
+    ap (sum_of f) (take_more xs i d l) ∙ sum-push f (take i xs) (get_or xs i d)

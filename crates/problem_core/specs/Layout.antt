@@ -3,6 +3,7 @@ use Rattle.std.specs.Prelude.{◌≡◌, ℕ, ◌+◌, ◌-◌, ◌*◌, ◌/◌
 use Rattle.std.specs.Prelude.{pos, negsuc, ◌+ℤ◌, ◌-ℤ◌, ◌*ℤ◌, All, codes}
 use Rattle.std.specs.List.{Any}
 use Rattle.frac_core.specs.Fraction.{Fraction}
+pub use Rattle.frac_core.specs.Sums.{sum_of}
 use Rattle.problem_core.specs.declared.parts.Rel.{Rel}
 use Rattle.problem_core.specs.declared.parts.Rel.TheVariants.{Eq, Le, Ge}
 use Rattle.problem_core.specs.declared.parts.RowName.{RowName}
@@ -11,14 +12,9 @@ use Rattle.problem_core.specs.declared.parts.Term.{Term}
 use Rattle.problem_core.specs.declared.parts.Stay.{Stay}
 use Rattle.problem_core.specs.declared.limits.TheConstants.{FIRST_STAY_LEVEL, REQUIRED}
 
--- ---- words for sums
+-- ---- words for sums, beside `sum_of`
 
--- the sum of what f gives for each element
-abbrev pub sum_of : {A : Type 0} → (A → ℤ) → List A → ℤ
-sum_of f [] = pos 0
-sum_of f (x ∷ xs) = f x +ℤ sum_of f xs
-
--- the same, where f gives counts
+-- the sum of what f gives for each element, where f gives counts
 abbrev pub count_of : {A : Type 0} → (A → ℕ) → List A → ℕ
 count_of f [] = 0
 count_of f (x ∷ xs) = f x + count_of f xs

@@ -1,9 +1,7 @@
 pub mod Dividing
-pub mod Divisors
 pub mod Lowest
 pub mod Negated
 pub mod Patches
 pub mod Places
 pub mod Sizes
-pub mod Sums
 pub mod Walks

@@ -10,7 +10,7 @@ use Rattle.std.proofs.lemmas.List.{get_or-map, length-map}
 use Rattle.std.proofs.lemmas.List.Elements.{All-map}
 use Rattle.frac_core.specs.Fraction.{IsFitting}
 use Rattle.row_core.specs.Rows.{Term, coefficient, IsRising, IsKeptRow}
-use Rattle.row_core.proofs.Sums.{at}
+use Rattle.row_core.proofs.Places.{number_of}
 use Rattle.frac_core.proofs.Quotients.{size_opposite}
 use Rattle.frac_core.proofs.Numbers.{zero-minus as less_is}
 
@@ -27,12 +27,12 @@ neg_sum x y = omega (arith, ints)
 neg_none : (z : ℤ) → neg_ℤ z ≡ pos 0 → z ≡ pos 0
 neg_none z none = omega (arith, ints, none)
 
-at-opposite : (c : ℕ) (t : Term) → at c (opposite t) ≡ neg_ℤ (at c t)
+at-opposite : (c : ℕ) (t : Term) → number_of c (opposite t) ≡ neg_ℤ (number_of c t)
 at-opposite c t = cond-opposite (nat_eq t.col c) t.by
 
 pub coefficient-opposite : (c : ℕ) (row : List Term) → coefficient c (map opposite row) ≡ neg_ℤ (coefficient c row)
 coefficient-opposite c [] = refl
-coefficient-opposite c (x ∷ row) = ap₂ ◌+ℤ◌ (at-opposite c x) (coefficient-opposite c row) ∙ neg_sum (at c x) (coefficient c row)
+coefficient-opposite c (x ∷ row) = ap₂ ◌+ℤ◌ (at-opposite c x) (coefficient-opposite c row) ∙ neg_sum (number_of c x) (coefficient c row)
 
 -- an element of the mapped row
 after_map : (row : List Term) (k : ℕ) (d : Term) → k < length row → get_or (map opposite row) k (opposite d) ≡ opposite (get_or row k d)

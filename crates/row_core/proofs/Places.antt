@@ -1,5 +1,5 @@
 -- The coefficients of a row whose columns rise.
-use Rattle.std.proofs.Common.{Ordering, Result, Ok, Err, IfSome, IfNone, ◌≡◌, ◌≢◌, ℕ, zero, suc, ◌-◌, ◌<◌, ◌≤◌, length, get_or, true, false, nat_eq, List, [], ◌∷◌, ℤ, pos, sym, refl, subst, arith, ◌⊎◌, inl, inr, All}
+use Rattle.std.proofs.Common.{Ordering, Result, Ok, Err, IfSome, IfNone, ◌≡◌, ◌≢◌, ℕ, zero, suc, ◌-◌, ◌<◌, ◌≤◌, length, get_or, true, false, cond, nat_eq, List, [], ◌∷◌, ℤ, pos, sym, refl, subst, arith, ◌⊎◌, inl, inr, All}
 use Rattle.std.proofs.lemmas.Bool.Decides.{nat_tests}
 use Rattle.std.proofs.lemmas.Bool.{cases_order, cases_lt}
 use borrow.Author.Differences.{ints}
@@ -9,7 +9,6 @@ use Rattle.std.specs.List.Sorted.{IsSearchInRange, IsBinarySearchResult, IsNonDe
 use Rattle.std.specs.Ordering.{nat_cmp, ordering_index}
 use Rattle.std.proofs.lemmas.Cmp.{ranked}
 use Rattle.row_core.specs.Rows.{Term, coefficient, IsRising}
-use Rattle.row_core.proofs.Sums.{at}
 
 pub rising_tail : (x : Term) (row : List Term) → IsRising (x ∷ row) → IsRising row
 rising_tail x row rising = λ i j d less within. rising (suc i) (suc j) d (omega arith) (omega arith)
@@ -20,12 +19,16 @@ rising_head x row rising = λ k d within. rising zero (suc k) d (omega arith) (o
 pub all_tail : (P : Term → Type 0) (x : Term) (row : List Term) → All P (x ∷ row) → All P row
 all_tail P x row all = λ k d within. all (suc k) d (omega arith)
 
-pub at-here : (c : ℕ) (t : Term) → t.col ≡ c → at c t ≡ t.by
+-- the part of a term in the coefficient of the column c
+abbrev pub number_of : ℕ → Term → ℤ
+number_of c t = cond (nat_eq t.col c) t.by (pos 0)
+
+pub at-here : (c : ℕ) (t : Term) → t.col ≡ c → number_of c t ≡ t.by
 at-here c t e =
     let test : nat_eq t.col c ≡ true = grind (arith, nat_tests) in
     rw test refl
 
-pub at-elsewhere : (c : ℕ) (t : Term) → t.col ≢ c → at c t ≡ pos 0
+pub at-elsewhere : (c : ℕ) (t : Term) → t.col ≢ c → number_of c t ≡ pos 0
 at-elsewhere c t e =
     let test : nat_eq t.col c ≡ false = grind (arith, nat_tests) in
     rw test refl
@@ -34,7 +37,7 @@ at-elsewhere c t e =
 pub absent : (c : ℕ) (row : List Term) → All (λ t. t.col ≢ c) row → coefficient c row ≡ pos 0
 absent c [] all = refl
 absent c (x ∷ row) all =
-    let first : at c x ≡ pos 0 = at-elsewhere c x (all zero x (omega arith)) in
+    let first : number_of c x ≡ pos 0 = at-elsewhere c x (all zero x (omega arith)) in
     let rest : coefficient c row ≡ pos 0 = absent c row (all_tail (λ t. t.col ≢ c) x row all) in
     omega (arith, ints, first, rest)
 
@@ -50,7 +53,7 @@ coefficient_at (x ∷ row) zero d rising within =
 coefficient_at (x ∷ row) (suc k) d rising within =
     let inside : k < length row = omega arith in
     let less : x.col < (get_or row k d).col = rising_head x row rising k d inside in
-    let first : at (get_or row k d).col x ≡ pos 0 = at-elsewhere (get_or row k d).col x (omega (arith, less)) in
+    let first : number_of (get_or row k d).col x ≡ pos 0 = at-elsewhere (get_or row k d).col x (omega (arith, less)) in
     let rest : coefficient (get_or row k d).col row ≡ (get_or row k d).by = coefficient_at row k d (rising_tail x row rising) inside in
     omega (arith, ints, first, rest)
 

@@ -2,14 +2,14 @@
 use Rattle.std.proofs.Common.{Option, Some, None, IfSome, ◌≡◌, ◌≢◌, ℕ, ◌+◌, ◌<◌, ◌≤◌, length, get_or, Bool, true, false, cond, nat_eq, List, ℤ, pos, ◌+ℤ◌, ◌*ℤ◌, sym, refl, ap, ap₂, ◌∙◌, arith, ◌⊎◌, inl, inr, ne_eqb, eq-eqb}
 use Rattle.std.specs.Prelude.{◌&&◌, unsigned_abs}
 use Rattle.std.proofs.lemmas.List.{get_or_default}
-use Rattle.std.proofs.lemmas.Bool.{cases_lt}
+use Rattle.std.proofs.lemmas.Bool.{cases_Bool, cases_lt}
 use Rattle.std.proofs.lemmas.Bool.Decides.{nat_tests}
 use Rattle.frac_core.proofs.Integers.{mul-zero_ℤ, add-zero_ℤ}
 use Rattle.row_core.specs.declared.walk.Sum.{Sum}
 use Rattle.row_core.specs.declared.walk.Place.{Place}
 use Rattle.row_core.specs.Rows.{Term, coefficient, IsRising, combination}
 use Rattle.row_core.specs.declared.walk.RowsRead.{RowsRead}
-use Rattle.row_core.specs.Walks.{IsRowRead, IsSumRead, HasNext, IsSmallProduct, IsRead, AreRead, IsFirst, IsEnd, column_at, whole, whole_of, steps}
+use Rattle.row_core.specs.Walks.{IsRowRead, IsSumRead, HasNext, HasRisingRows, IsSmallProduct, IsRead, AreRead, IsFirst, IsEnd, column_at, whole, whole_of, steps}
 use Rattle.row_core.proofs.Places.{absent, coefficient_at}
 use Rattle.row_core.proofs.Patches.{none_either}
 use Rattle.frac_core.proofs.Bools.{count-other as not_here, true-not-false as differ}
@@ -55,13 +55,9 @@ no_number row i floor c rising is le past =
       | inr from ↦ absurd (omega (arith, col, same, past (omega (arith, from, inside)), rises_from row i k rising from inside))
     ])
 
-pub either : (b : Bool) → (b ≡ true) ⊎ (b ≡ false)
-either true = inl refl
-either false = inr refl
-
-no_extra : (r p : List Term) (sum : Sum) (at : Place) (floor c : ℕ) → AreRead r p sum at floor → floor ≤ c → (at.is_added ≡ false → c < sum.at.0) → cond (nat_eq c sum.at.0) sum.extra (pos 0) ≡ pos 0
-no_extra r p sum at floor c are le past =
-    elim (either at.is_added) [
+no_extra : (sum : Sum) (at : Place) (floor c : ℕ) → AreRead sum at floor → floor ≤ c → (at.is_added ≡ false → c < sum.at.0) → cond (nat_eq c sum.at.0) sum.extra (pos 0) ≡ pos 0
+no_extra sum at floor c are le past =
+    elim (cases_Bool at.is_added) [
       | inl added ↦
           elim (are.added added) [
             | inl below ↦ not_here c sum.at.0 sum.extra (λ e. absurd (omega (arith, e, below, le)))
@@ -79,25 +75,25 @@ no_combination k n r p c left right =
     ap₂ (λ (x y : ℤ). k *ℤ x +ℤ n *ℤ y) left right ∙ ap₂ ◌+ℤ◌ (mul-zero_ℤ k) (mul-zero_ℤ n)
 
 -- a column that is left out by the rows and by the number at one column
-pub gap : (r p : List Term) (sum : Sum) (at : Place) (floor c : ℕ) → IsRising r → IsRising p → AreRead r p sum at floor → floor ≤ c
-    → (at.left < length r → c < column_at r at.left) → (at.right < length p → c < column_at p at.right) → (at.is_added ≡ false → c < sum.at.0) → whole sum r p c ≡ pos 0
-gap r p sum at floor c r_rising p_rising are le left right waiting =
-    none_whole sum c (combination sum.k r sum.n p c)
-    (no_combination sum.k sum.n r p c (no_number r at.left floor c r_rising are.left le left) (no_number p at.right floor c p_rising are.right le right))
-    (no_extra r p sum at floor c are le waiting)
+pub gap : (sum : Sum) (at : Place) (floor c : ℕ) → HasRisingRows sum → AreRead sum at floor → floor ≤ c
+    → (at.left < length sum.r.now → c < column_at sum.r.now at.left) → (at.right < length sum.p.now → c < column_at sum.p.now at.right) → (at.is_added ≡ false → c < sum.at.0) → whole sum c ≡ pos 0
+gap sum at floor c rising are le left right waiting =
+    none_whole sum c (combination sum.k sum.r.now sum.n sum.p.now c)
+    (no_combination sum.k sum.n sum.r.now sum.p.now c (no_number sum.r.now at.left floor c rising.left are.left le left) (no_number sum.p.now at.right floor c rising.right are.right le right))
+    (no_extra sum at floor c are le waiting)
 
-pub before_first : (r p : List Term) (sum : Sum) (at : Place) (floor col c : ℕ) → IsRising r → IsRising p → AreRead r p sum at floor → IsFirst r p sum at col → floor ≤ c → c < col → whole sum r p c ≡ pos 0
-before_first r p sum at floor col c r_rising p_rising are first le less =
-    gap r p sum at floor c r_rising p_rising are le
+pub before_first : (sum : Sum) (at : Place) (floor col c : ℕ) → HasRisingRows sum → AreRead sum at floor → IsFirst sum at col → floor ≤ c → c < col → whole sum c ≡ pos 0
+before_first sum at floor col c rising are first le less =
+    gap sum at floor c rising are le
     (λ within. omega (arith, less, first.left within)) (λ within. omega (arith, less, first.right within)) (λ waits. omega (arith, less, first.waiting waits))
 
-pub past_end : (r p : List Term) (sum : Sum) (at : Place) (floor c : ℕ) → IsRising r → IsRising p → AreRead r p sum at floor → IsEnd r p at → floor ≤ c → whole sum r p c ≡ pos 0
-past_end r p sum at floor c r_rising p_rising are end le =
-    gap r p sum at floor c r_rising p_rising are le
+pub past_end : (sum : Sum) (at : Place) (floor c : ℕ) → HasRisingRows sum → AreRead sum at floor → IsEnd sum at → floor ≤ c → whole sum c ≡ pos 0
+past_end sum at floor c rising are end le =
+    gap sum at floor c rising are le
     (λ within. absurd (omega (arith, within, end.left))) (λ within. absurd (omega (arith, within, end.right))) (λ waits. absurd (differ (sym end.added ∙ waits)))
 
-pub floor_below : (r p : List Term) (sum : Sum) (at : Place) (floor col : ℕ) → AreRead r p sum at floor → IsFirst r p sum at col → floor ≤ col
-floor_below r p sum at floor col are first =
+pub floor_below : (sum : Sum) (at : Place) (floor col : ℕ) → AreRead sum at floor → IsFirst sum at col → floor ≤ col
+floor_below sum at floor col are first =
     elim first.one [
       | inl left ↦ omega (arith, left.1, are.left.behind at.left (omega arith) left.0)
       | inr (inl right) ↦ omega (arith, right.1, are.right.behind at.right (omega arith) right.0)
@@ -105,8 +101,8 @@ floor_below r p sum at floor col are first =
     ]
 
 -- nothing has been read at the start
-pub starts : (r p : List Term) (sum : Sum) (at : Place) → at.left ≡ 0 → at.right ≡ 0 → (at.is_added ≡ true → sum.extra ≡ pos 0) → AreRead r p sum at 0
-starts r p sum at left right added = record {
+pub starts : (sum : Sum) (at : Place) → at.left ≡ 0 → at.right ≡ 0 → (at.is_added ≡ true → sum.extra ≡ pos 0) → AreRead sum at 0
+starts sum at left right added = record {
   left = record { within = omega (arith, left); before = λ m less. absurd (omega (arith, left, less)); behind = λ m from inside. omega arith };
   right = record { within = omega (arith, right); before = λ m less. absurd (omega (arith, right, less)); behind = λ m from inside. omega arith };
   added = λ is. inr (added is);
@@ -129,9 +125,9 @@ whole_elsewhere sum c z stays other =
     sym (ap₂ (λ (b d : Bool). cond b (pos 0) (z +ℤ cond d sum.extra (pos 0))) stays (ne_eqb c sum.at.0 other) ∙ add-zero_ℤ z)
 
 -- the next place where the number at one column had been added before
-read_added : (r p : List Term) (sum : Sum) (at next : Place) (floor col : ℕ) → AreRead r p sum at floor → floor ≤ col → at.is_added ≡ true → next.is_added ≡ at.is_added
-    → IsRead r next.left (col + 1) → IsRead p next.right (col + 1) → AreRead r p sum next (col + 1)
-read_added r p sum at next floor col are le added same r_read p_read = record {
+read_added : (sum : Sum) (at next : Place) (floor col : ℕ) → AreRead sum at floor → floor ≤ col → at.is_added ≡ true → next.is_added ≡ at.is_added
+    → IsRead sum.r.now next.left (col + 1) → IsRead sum.p.now next.right (col + 1) → AreRead sum next (col + 1)
+read_added sum at next floor col are le added same r_read p_read = record {
   left = r_read;
   right = p_read;
   added = λ is.
@@ -142,9 +138,9 @@ read_added r p sum at next floor col are le added same r_read p_read = record {
   waiting = λ waits. absurd (differ (sym (same ∙ added) ∙ waits));
 }
 
-read_waiting : (r p : List Term) (sum : Sum) (at next : Place) (col : ℕ) → IsFirst r p sum at col → at.is_added ≡ false → next.is_added ≡ nat_eq col sum.at.0
-    → IsRead r next.left (col + 1) → IsRead p next.right (col + 1) → AreRead r p sum next (col + 1)
-read_waiting r p sum at next col first waits same r_read p_read = record {
+read_waiting : (sum : Sum) (at next : Place) (col : ℕ) → IsFirst sum at col → at.is_added ≡ false → next.is_added ≡ nat_eq col sum.at.0
+    → IsRead sum.r.now next.left (col + 1) → IsRead sum.p.now next.right (col + 1) → AreRead sum next (col + 1)
+read_waiting sum at next col first waits same r_read p_read = record {
   left = r_read;
   right = p_read;
   added = λ is. inl (added_now col sum.at.0 (sym same ∙ is));
@@ -161,10 +157,10 @@ count_here : (col at : ℕ) → col ≡ at → ◌≡◌ {A = ℕ} (cond (nat_eq
 count_here col at here = ap (λ (d : Bool). cond d 1 0) (eq-eqb col at here)
 
 -- more has been read than before
-further_added : (r p : List Term) (sum : Sum) (at next : Place) (col : ℕ) → IsFirst r p sum at col → at.is_added ≡ true → next.is_added ≡ at.is_added → at.left ≤ next.left → at.right ≤ next.right
-    → (at.left < length r → col ≡ column_at r at.left → at.left < next.left) → (at.right < length p → col ≡ column_at p at.right → at.right < next.right)
+further_added : (sum : Sum) (at next : Place) (col : ℕ) → IsFirst sum at col → at.is_added ≡ true → next.is_added ≡ at.is_added → at.left ≤ next.left → at.right ≤ next.right
+    → (at.left < length sum.r.now → col ≡ column_at sum.r.now at.left → at.left < next.left) → (at.right < length sum.p.now → col ≡ column_at sum.p.now at.right → at.right < next.right)
     → steps at < steps next
-further_added r p sum at next col first added same left_on right_on left_here right_here =
+further_added sum at next col first added same left_on right_on left_here right_here =
     let count : ◌≡◌ {A = ℕ} (cond next.is_added 1 0) (cond at.is_added 1 0) = count_same next.is_added at.is_added same in
     elim first.one [
       | inl l ↦ omega (arith, count, right_on, left_here l.0 l.1)
@@ -172,10 +168,10 @@ further_added r p sum at next col first added same left_on right_on left_here ri
       | inr (inr w) ↦ absurd (differ (sym added ∙ w.0))
     ]
 
-further_waiting : (r p : List Term) (sum : Sum) (at next : Place) (col : ℕ) → IsFirst r p sum at col → at.is_added ≡ false → next.is_added ≡ nat_eq col sum.at.0 → at.left ≤ next.left → at.right ≤ next.right
-    → (at.left < length r → col ≡ column_at r at.left → at.left < next.left) → (at.right < length p → col ≡ column_at p at.right → at.right < next.right)
+further_waiting : (sum : Sum) (at next : Place) (col : ℕ) → IsFirst sum at col → at.is_added ≡ false → next.is_added ≡ nat_eq col sum.at.0 → at.left ≤ next.left → at.right ≤ next.right
+    → (at.left < length sum.r.now → col ≡ column_at sum.r.now at.left → at.left < next.left) → (at.right < length sum.p.now → col ≡ column_at sum.p.now at.right → at.right < next.right)
     → steps at < steps next
-further_waiting r p sum at next col first waits same left_on right_on left_here right_here =
+further_waiting sum at next col first waits same left_on right_on left_here right_here =
     let none : ◌≡◌ {A = ℕ} (cond at.is_added 1 0) 0 = count_none at.is_added waits in
     let count : ◌≡◌ {A = ℕ} (cond next.is_added 1 0) (cond (nat_eq col sum.at.0) 1 0) = count_same next.is_added (nat_eq col sum.at.0) same in
     elim first.one [
@@ -185,10 +181,10 @@ further_waiting r p sum at next col first waits same left_on right_on left_here 
     ]
 
 -- where the number at one column has been added, the rows alone are read
-added_read : (r p : List Term) (sum : Sum) (at : Place) (x : RowsRead) → at.is_added ≡ true → IsRowRead r at.left x.col x.left x.next.left → IsRowRead p at.right x.col x.right x.next.right
-    → x.next.is_added ≡ at.is_added → HasNext r at.left x.col ⊎ HasNext p at.right x.col → IsSumRead r p sum at x
-added_read r p sum at x added left right same one =
-    let first : IsFirst r p sum at x.col =
+added_read : (sum : Sum) (at : Place) (x : RowsRead) → at.is_added ≡ true → IsRowRead sum.r.now at.left x.col x.left x.next.left → IsRowRead sum.p.now at.right x.col x.right x.next.right
+    → x.next.is_added ≡ at.is_added → HasNext sum.r.now at.left x.col ⊎ HasNext sum.p.now at.right x.col → IsSumRead sum at x
+added_read sum at x added left right same one =
+    let first : IsFirst sum at x.col =
     record {
       left = left.first;
       right = right.first;
@@ -203,22 +199,22 @@ added_read r p sum at x added left right same one =
       right = right;
       first = first;
       read = λ floor are.
-          let le : floor ≤ x.col = floor_below r p sum at floor x.col are first in
-          read_added r p sum at x.next floor x.col are le added same (left.read floor are.left le) (right.read floor are.right le);
-      further = further_added r p sum at x.next x.col first added same left.further right.further left.here right.here;
+          let le : floor ≤ x.col = floor_below sum at floor x.col are first in
+          read_added sum at x.next floor x.col are le added same (left.read floor are.left le) (right.read floor are.right le);
+      further = further_added sum at x.next x.col first added same left.further right.further left.here right.here;
     }
 
-pub added_reads : (r p : List Term) (sum : Sum) (at : Place) (o : Option RowsRead) → at.is_added ≡ true → IfSome o (λ x. IsRowRead r at.left x.col x.left x.next.left)
-    → IfSome o (λ x. IsRowRead p at.right x.col x.right x.next.right) → IfSome o (λ x. x.next.is_added ≡ at.is_added)
-    → IfSome o (λ x. HasNext r at.left x.col ⊎ HasNext p at.right x.col) → IfSome o (IsSumRead r p sum at)
-added_reads r p sum at None added left right same one = tt
-added_reads r p sum at (Some x) added left right same one = added_read r p sum at x added left right same one
+pub added_reads : (sum : Sum) (at : Place) (o : Option RowsRead) → at.is_added ≡ true → IfSome o (λ x. IsRowRead sum.r.now at.left x.col x.left x.next.left)
+    → IfSome o (λ x. IsRowRead sum.p.now at.right x.col x.right x.next.right) → IfSome o (λ x. x.next.is_added ≡ at.is_added)
+    → IfSome o (λ x. HasNext sum.r.now at.left x.col ⊎ HasNext sum.p.now at.right x.col) → IfSome o (IsSumRead sum at)
+added_reads sum at None added left right same one = tt
+added_reads sum at (Some x) added left right same one = added_read sum at x added left right same one
 
 -- with the rows' lowest column not above that of the number
-waiting_read : (r p : List Term) (sum : Sum) (at next : Place) (col : ℕ) (left_by right_by : ℤ) → at.is_added ≡ false → IsRowRead r at.left col left_by next.left → IsRowRead p at.right col right_by next.right
-    → HasNext r at.left col ⊎ HasNext p at.right col → col ≤ sum.at.0 → next.is_added ≡ nat_eq col sum.at.0 → IsSumRead r p sum at (record { col = col; left = left_by; right = right_by; next = next })
-waiting_read r p sum at next col left_by right_by waits left right one le added =
-    let first : IsFirst r p sum at col =
+waiting_read : (sum : Sum) (at next : Place) (col : ℕ) (left_by right_by : ℤ) → at.is_added ≡ false → IsRowRead sum.r.now at.left col left_by next.left → IsRowRead sum.p.now at.right col right_by next.right
+    → HasNext sum.r.now at.left col ⊎ HasNext sum.p.now at.right col → col ≤ sum.at.0 → next.is_added ≡ nat_eq col sum.at.0 → IsSumRead sum at (record { col = col; left = left_by; right = right_by; next = next })
+waiting_read sum at next col left_by right_by waits left right one le added =
+    let first : IsFirst sum at col =
     record {
       left = left.first;
       right = right.first;
@@ -233,16 +229,16 @@ waiting_read r p sum at next col left_by right_by waits left right one le added 
       right = right;
       first = first;
       read = λ floor are.
-          let from : floor ≤ col = floor_below r p sum at floor col are first in
-          read_waiting r p sum at next col first waits added (left.read floor are.left from) (right.read floor are.right from);
-      further = further_waiting r p sum at next col first waits added left.further right.further left.here right.here;
+          let from : floor ≤ col = floor_below sum at floor col are first in
+          read_waiting sum at next col first waits added (left.read floor are.left from) (right.read floor are.right from);
+      further = further_waiting sum at next col first waits added left.further right.further left.here right.here;
     }
 
-pub waiting_reads : (r p : List Term) (sum : Sum) (at : Place) (x y : RowsRead) → at.is_added ≡ false → IsRowRead r at.left x.col x.left x.next.left → IsRowRead p at.right x.col x.right x.next.right
-    → HasNext r at.left x.col ⊎ HasNext p at.right x.col → x.col ≤ sum.at.0 → y.col ≡ x.col → y.left ≡ x.left → y.right ≡ x.right → y.next.left ≡ x.next.left → y.next.right ≡ x.next.right
-    → y.next.is_added ≡ nat_eq x.col sum.at.0 → IsSumRead r p sum at y
-waiting_reads r p sum at x y waits left right one le col left_by right_by left_next right_next added =
-    waiting_read r p sum at y.next y.col y.left y.right waits
+pub waiting_reads : (sum : Sum) (at : Place) (x y : RowsRead) → at.is_added ≡ false → IsRowRead sum.r.now at.left x.col x.left x.next.left → IsRowRead sum.p.now at.right x.col x.right x.next.right
+    → HasNext sum.r.now at.left x.col ⊎ HasNext sum.p.now at.right x.col → x.col ≤ sum.at.0 → y.col ≡ x.col → y.left ≡ x.left → y.right ≡ x.right → y.next.left ≡ x.next.left → y.next.right ≡ x.next.right
+    → y.next.is_added ≡ nat_eq x.col sum.at.0 → IsSumRead sum at y
+waiting_reads sum at x y waits left right one le col left_by right_by left_next right_next added =
+    waiting_read sum at y.next y.col y.left y.right waits
     (rw (col, left_by, left_next) left) (rw (col, right_by, right_next) right) (rw col one) (rw col le) (rw col added)
 
 zero_product : (k : ℤ) → IsSmallProduct k (pos 0)
@@ -261,14 +257,14 @@ past_read row i col rising past = record {
 }
 
 -- the number at one column alone
-pub alone_read : (r p : List Term) (sum : Sum) (at : Place) → IsRising r → IsRising p → at.is_added ≡ false
-    → (at.left < length r → sum.at.0 < column_at r at.left) → (at.right < length p → sum.at.0 < column_at p at.right)
-    → IsSumRead r p sum at (record { col = sum.at.0; left = pos 0; right = pos 0; next = record { left = at.left; right = at.right; is_added = true } })
-alone_read r p sum at r_rising p_rising waits r_past p_past =
-    let left : IsRowRead r at.left sum.at.0 (pos 0) at.left = past_read r at.left sum.at.0 r_rising r_past in
-    let right : IsRowRead p at.right sum.at.0 (pos 0) at.right = past_read p at.right sum.at.0 p_rising p_past in
+pub alone_read : (sum : Sum) (at : Place) → HasRisingRows sum → at.is_added ≡ false
+    → (at.left < length sum.r.now → sum.at.0 < column_at sum.r.now at.left) → (at.right < length sum.p.now → sum.at.0 < column_at sum.p.now at.right)
+    → IsSumRead sum at (record { col = sum.at.0; left = pos 0; right = pos 0; next = record { left = at.left; right = at.right; is_added = true } })
+alone_read sum at rising waits r_past p_past =
+    let left : IsRowRead sum.r.now at.left sum.at.0 (pos 0) at.left = past_read sum.r.now at.left sum.at.0 rising.left r_past in
+    let right : IsRowRead sum.p.now at.right sum.at.0 (pos 0) at.right = past_read sum.p.now at.right sum.at.0 rising.right p_past in
     let next : Place = record { left = at.left; right = at.right; is_added = true } in
-    let first : IsFirst r p sum at sum.at.0 =
+    let first : IsFirst sum at sum.at.0 =
     record { left = left.first; right = right.first; waiting = λ on. omega arith; one = inr (inr (waits, refl)) } in
     let added : true ≡ nat_eq sum.at.0 sum.at.0 = sym (eq-eqb sum.at.0 sum.at.0 refl) in
     record {
@@ -276,7 +272,7 @@ alone_read r p sum at r_rising p_rising waits r_past p_past =
       right = right;
       first = first;
       read = λ floor are.
-          let from : floor ≤ sum.at.0 = floor_below r p sum at floor sum.at.0 are first in
-          read_waiting r p sum at next sum.at.0 first waits added (left.read floor are.left from) (right.read floor are.right from);
-      further = further_waiting r p sum at next sum.at.0 first waits added left.further right.further left.here right.here;
+          let from : floor ≤ sum.at.0 = floor_below sum at floor sum.at.0 are first in
+          read_waiting sum at next sum.at.0 first waits added (left.read floor are.left from) (right.read floor are.right from);
+      further = further_waiting sum at next sum.at.0 first waits added left.further right.further left.here right.here;
     }

@@ -1,12 +1,9 @@
 -- Sums of multiples of rows whose factors need not fit.
-use Rattle.std.specs.Prelude.{ℕ, ◌<◌, ◌^◌, cond, nat_eq, List, ℤ, pos, ◌+ℤ◌, unsigned_abs}
+use Rattle.std.specs.Prelude.{ℕ, cond, nat_eq, List, ℤ, pos, ◌+ℤ◌}
+pub use Rattle.frac_core.specs.Fraction.{IsFactor}
 use Rattle.row_core.specs.Rows.{Term, combination}
 use Rattle.row_core.specs.declared.entry.Factors.{Factors}
 use Rattle.row_core.specs.declared.entry.Patch.{Patch}
-
--- what the product of two fitting numbers is: 2^84 is the square of PART_BOUND
-abbrev pub IsFactor : ℤ → Type 0
-IsFactor k = unsigned_abs k < 2 ^ 84
 
 -- the coefficients of k*r + n*p, but 0 at one column, and with a number more at another one
 abbrev pub combination_but : Factors → List Term → List Term → Patch → ℕ → ℤ

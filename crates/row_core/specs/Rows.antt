@@ -1,18 +1,14 @@
 -- Rows of whole numbers by column: a row says that the sum of by*col is 0.
-use Rattle.std.specs.Prelude.{◌≡◌, ◌≢◌, ℕ, ◌<◌, cond, nat_eq, List, [], ◌∷◌, length, ℤ, pos, ◌+ℤ◌, ◌*ℤ◌}
+use Rattle.std.specs.Prelude.{◌≡◌, ◌≢◌, ℕ, ◌<◌, cond, nat_eq, List, length, ℤ, pos, ◌+ℤ◌, ◌*ℤ◌}
 use Rattle.std.specs.Prelude.{unsigned_abs, All, AllPairs}
 use Prim.Native.Nat.{◌∣◌}
 use Rattle.frac_core.specs.Fraction.{IsFitting}
+use Rattle.frac_core.specs.Sums.{sum_of}
 
 -- by*col
 pub record Term : Type 0 where
   pub col : ℕ
   pub by : ℤ
-
--- the sum of what f gives for each element
-abbrev pub sum_of : {A : Type 0} → (A → ℤ) → List A → ℤ
-sum_of f [] = pos 0
-sum_of f (x ∷ xs) = f x +ℤ sum_of f xs
 
 -- the number at the column c
 abbrev pub coefficient : ℕ → List Term → ℤ

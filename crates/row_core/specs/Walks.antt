@@ -5,7 +5,7 @@ use Rattle.std.specs.Prelude.{unsigned_abs, All, ◌⊎◌}
 use Prim.Native.Nat.{◌∣◌}
 use Rattle.frac_core.specs.Fraction.{IsFitting}
 use Rattle.frac_core.specs.declared.frac.TheConstants.{PART_BOUND}
-use Rattle.row_core.specs.Rows.{Term, coefficient, combination}
+use Rattle.row_core.specs.Rows.{Term, AllFit, IsRising, coefficient, combination}
 use Rattle.row_core.specs.Combinations.{IsFactor}
 use Rattle.row_core.specs.declared.walk.TheConstants.{NARROW_FACTOR, NARROW_PRODUCT}
 use Rattle.row_core.specs.declared.walk.Sum.{Sum}
@@ -20,13 +20,23 @@ IsSmallProduct k by = unsigned_abs (k *ℤ by) < 2 ^ 126 - 2 ^ 84
 -- the factor is one, and the numbers fit unless it is 1 in size or 0
 pub record IsFactorOf (k : ℤ) (row : List Term) : Type 0 where
   pub factor : IsFactor k
-  pub room : All (λ t. IsFitting t.by) row ⊎ (unsigned_abs k ≤ 1)
+  pub room : AllFit row ⊎ (unsigned_abs k ≤ 1)
 
 -- each factor is such a one of its row, and what is added is no larger than a factor may be
-pub record HasSmallProducts (sum : Sum) (r p : List Term) : Type 0 where
-  pub left : IsFactorOf sum.k r
-  pub right : IsFactorOf sum.n p
+pub record HasSmallProducts (sum : Sum) : Type 0 where
+  pub left : IsFactorOf sum.k sum.r.now
+  pub right : IsFactorOf sum.n sum.p.now
   pub extra : IsFactor sum.extra
+
+-- the columns of both rows rise
+pub record HasRisingRows (sum : Sum) : Type 0 where
+  pub left : IsRising sum.r.now
+  pub right : IsRising sum.p.now
+
+-- both rows rise, and the sum's numbers have 128 bits
+pub record CanBeAdded (sum : Sum) : Type 0 where
+  pub rising : HasRisingRows sum
+  pub products : HasSmallProducts sum
 
 -- the sum's number at the column c where that of the two rows is z
 abbrev pub whole_of : Sum → ℕ → ℤ → ℤ
@@ -34,8 +44,8 @@ whole_of sum c z =
     cond (sum.leaves && nat_eq c sum.without.0) (pos 0) (z +ℤ cond (nat_eq c sum.at.0) sum.extra (pos 0))
 
 -- the sum's numbers
-abbrev pub whole : Sum → List Term → List Term → ℕ → ℤ
-whole sum r p c = whole_of sum c (combination sum.k r sum.n p c)
+abbrev pub whole : Sum → ℕ → ℤ
+whole sum c = whole_of sum c (combination sum.k sum.r.now sum.n sum.p.now c)
 
 -- the column at the row's place i, 0 past its end
 abbrev pub column_at : List Term → ℕ → ℕ
@@ -47,10 +57,16 @@ pub record IsRead (row : List Term) (i floor : ℕ) : Type 0 where
   pub before : (m : ℕ) → m < i → column_at row m < floor
   pub behind : (m : ℕ) → i ≤ m → m < length row → floor ≤ column_at row m
 
+-- no more of the rows, whose columns rise, has been read than there is
+pub record IsPlaceOf (sum : Sum) (at : Place) : Type 0 where
+  pub rising : HasRisingRows sum
+  pub left : at.left ≤ length sum.r.now
+  pub right : at.right ≤ length sum.p.now
+
 -- all below the column has been read, and nothing else
-pub record AreRead (r p : List Term) (sum : Sum) (at : Place) (floor : ℕ) : Type 0 where
-  pub left : IsRead r at.left floor
-  pub right : IsRead p at.right floor
+pub record AreRead (sum : Sum) (at : Place) (floor : ℕ) : Type 0 where
+  pub left : IsRead sum.r.now at.left floor
+  pub right : IsRead sum.p.now at.right floor
   pub added : at.is_added ≡ true → (sum.at.0 < floor) ⊎ (sum.extra ≡ pos 0)
   pub waiting : at.is_added ≡ false → floor ≤ sum.at.0
 
@@ -59,16 +75,17 @@ abbrev pub HasNext : List Term → ℕ → ℕ → Type 0
 HasNext row i col = (i < length row) × (col ≡ column_at row i)
 
 -- the column is the lowest that has not been read
-pub record IsFirst (r p : List Term) (sum : Sum) (at : Place) (col : ℕ) : Type 0 where
-  pub left : at.left < length r → col ≤ column_at r at.left
-  pub right : at.right < length p → col ≤ column_at p at.right
+pub record IsFirst (sum : Sum) (at : Place) (col : ℕ) : Type 0 where
+  pub left : at.left < length sum.r.now → col ≤ column_at sum.r.now at.left
+  pub right : at.right < length sum.p.now → col ≤ column_at sum.p.now at.right
   pub waiting : at.is_added ≡ false → col ≤ sum.at.0
-  pub one : HasNext r at.left col ⊎ (HasNext p at.right col ⊎ ((at.is_added ≡ false) × (col ≡ sum.at.0)))
+  pub one : HasNext sum.r.now at.left col
+      ⊎ (HasNext sum.p.now at.right col ⊎ ((at.is_added ≡ false) × (col ≡ sum.at.0)))
 
 -- all columns have been read
-pub record IsEnd (r p : List Term) (at : Place) : Type 0 where
-  pub left : length r ≤ at.left
-  pub right : length p ≤ at.right
+pub record IsEnd (sum : Sum) (at : Place) : Type 0 where
+  pub left : length sum.r.now ≤ at.left
+  pub right : length sum.p.now ≤ at.right
   pub added : at.is_added ≡ true
 
 -- how many of the entries and of the numbers at one column have been read
@@ -81,7 +98,7 @@ pub record IsRowRead (row : List Term) (i col : ℕ) (by : ℤ) (next : ℕ) : T
   pub value : (floor : ℕ) → IsRead row i floor → floor ≤ col → by ≡ coefficient col row
   pub read : (floor : ℕ) → IsRead row i floor → floor ≤ col → IsRead row next (col + 1)
   pub small : (k : ℤ) → IsFactorOf k row → IsSmallProduct k by
-  pub fits : All (λ t. IsFitting t.by) row → IsFitting by
+  pub fits : AllFit row → IsFitting by
   pub further : i ≤ next
   pub here : i < length row → col ≡ column_at row i → i < next
 
@@ -96,18 +113,18 @@ alone at col =
     }
 
 -- the two rows have been read at the sum's lowest column
-pub record IsSumRead (r p : List Term) (sum : Sum) (at : Place) (x : RowsRead) : Type 0 where
-  pub left : IsRowRead r at.left x.col x.left x.next.left
-  pub right : IsRowRead p at.right x.col x.right x.next.right
-  pub first : IsFirst r p sum at x.col
-  pub read : (floor : ℕ) → AreRead r p sum at floor → AreRead r p sum x.next (x.col + 1)
+pub record IsSumRead (sum : Sum) (at : Place) (x : RowsRead) : Type 0 where
+  pub left : IsRowRead sum.r.now at.left x.col x.left x.next.left
+  pub right : IsRowRead sum.p.now at.right x.col x.right x.next.right
+  pub first : IsFirst sum at x.col
+  pub read : (floor : ℕ) → AreRead sum at floor → AreRead sum x.next (x.col + 1)
   pub further : steps at < steps x.next
 
 -- the sum has this number at its lowest column that has not been read
-pub record IsReading (r p : List Term) (sum : Sum) (at : Place) (x : Reading) : Type 0 where
-  pub value : (floor : ℕ) → AreRead r p sum at floor → x.by ≡ whole sum r p x.col
-  pub first : IsFirst r p sum at x.col
-  pub read : (floor : ℕ) → AreRead r p sum at floor → AreRead r p sum x.next (x.col + 1)
+pub record IsReading (sum : Sum) (at : Place) (x : Reading) : Type 0 where
+  pub value : (floor : ℕ) → AreRead sum at floor → x.by ≡ whole sum x.col
+  pub first : IsFirst sum at x.col
+  pub read : (floor : ℕ) → AreRead sum at floor → AreRead sum x.next (x.col + 1)
   pub further : steps at < steps x.next
 
 -- small enough for its product with a fitting number to be below NARROW_PRODUCT
@@ -120,11 +137,11 @@ pub record IsNarrowSum (sum : Sum) : Type 0 where
   pub n : IsNarrow sum.n
   pub extra : unsigned_abs sum.extra < NARROW_PRODUCT
 
--- all numbers of the sum of these rows have 64 bits
-pub record HasNarrowProducts (sum : Sum) (r p : List Term) : Type 0 where
+-- all numbers of the sum have 64 bits
+pub record HasNarrowProducts (sum : Sum) : Type 0 where
   pub narrow : IsNarrowSum sum
-  pub left : All (λ t. IsFitting t.by) r
-  pub right : All (λ t. IsFitting t.by) p
+  pub left : AllFit sum.r.now
+  pub right : AllFit sum.p.now
 
 -- d divides each of the numbers
 abbrev pub DividesWhole : ℕ → (ℕ → ℤ) → Type 0

@@ -3,28 +3,26 @@ ghost use Rattle.std.specs.Prelude.{◌≡◌, ℕ, ℤ, ◌*◌, ◌<◌, ◌^�
 ghost use Rattle.std.specs.Prelude.{IfErr, IfSome, IfNone};
 ghost use Prim.Native.Nat.{◌∣◌};
 ghost use Rattle.frac_core.specs.Fraction.{IsFitting};
-ghost use Rattle.row_core.specs.Rows.{IsRising, IsKeptRow, IsReduced, IsUnfit};
-ghost use Rattle.row_core.specs.Walks.{HasSmallProducts, DividesWhole, IsDivisor, IsPushed};
+ghost use Rattle.row_core.specs.Rows.{IsKeptRow, IsReduced, IsUnfit};
+ghost use Rattle.row_core.specs.Walks.{CanBeAdded, HasRisingRows, DividesWhole, IsDivisor, IsPushed};
 ghost use Rattle.row_core.specs.Walks.{IsTooLarge, whole};
 ghost use Rattle.frac_core.specs.Stops.{IsRefused};
 
 use crate::entry::{Col, Entry, RowStop};
 use crate::walk::{Sum, Wide, Width, start};
-use frac_core::{PART_BOUND, Stop, Unfit, gcd};
+use frac_core::{PART_BOUND, Stop, Unfit, gcd, quotient};
 use std::alloc::Global;
 
 // The greatest common divisor of the numbers, which is 0 where all are 0.
-fn common_divisor(r: &[Entry], p: &[Entry], sum: Sum) -> u128
-    requires r_rising { IsRising r.now }
-    requires p_rising { IsRising p.now }
-    requires products { HasSmallProducts sum r.now p.now }
-    ensures divides { DividesWhole result (whole sum r.now p.now) }
-    ensures greatest { (d : ℕ) → DividesWhole d (whole sum r.now p.now) → d ∣ result }
+fn common_divisor(sum: &Sum<'_>) -> u128
+    requires { CanBeAdded sum.now }
+    ensures divides { DividesWhole result (whole sum.now) }
+    ensures greatest { (d : ℕ) → DividesWhole d (whole sum.now) → d ∣ result }
     ensures small { result < 2 ^ 127 }
 {
     let mut divisor = 0;
     let mut at = start(sum);
-    while let Some(read) = Wide::next(r, p, sum, at) {
+    while let Some(read) = Wide::next(sum, at) {
         divisor = gcd(read.by.unsigned_abs(), divisor);
         if divisor == 1 {
             return 1;
@@ -35,26 +33,12 @@ fn common_divisor(r: &[Entry], p: &[Entry], sum: Sum) -> u128
 }
 
 /// The number that each number of the sum is to be divided by.
-pub(crate) fn divisor_of(r: &[Entry], p: &[Entry], sum: Sum) -> i128
-    requires r_rising { IsRising r.now }
-    requires p_rising { IsRising p.now }
-    requires products { HasSmallProducts sum r.now p.now }
-    ensures { IsDivisor result (whole sum r.now p.now) }
+pub(crate) fn divisor_of(sum: &Sum<'_>) -> i128
+    requires { CanBeAdded sum.now }
+    ensures { IsDivisor result (whole sum.now) }
 {
-    let divisor = common_divisor(r, p, sum);
+    let divisor = common_divisor(sum);
     if divisor == 0 { 1 } else { divisor as i128 }
-}
-
-// The exact quotient.
-fn quotient(by: i128, divisor: i128) -> i128
-    requires above { pos 0 <ℤ divisor }
-    requires divides { unsigned_abs divisor ∣ unsigned_abs by }
-    ensures { divisor *ℤ result ≡ by }
-{
-    if divisor == 1 {
-        return by;
-    }
-    by / divisor
 }
 
 // The quotient, where it fits.
@@ -92,22 +76,19 @@ fn keep(out: &mut Vec<Entry>, col: u64, by: i128, divisor: i128) -> Result<(), R
 /// The sum's numbers divided by their divisor, unless a quotient does not fit.
 pub(crate) fn divided<W: Width>(
     alloc: Global,
-    r: &[Entry],
-    p: &[Entry],
-    sum: Sum,
+    sum: &Sum<'_>,
     divisor: i128,
 ) -> Result<Vec<Entry>, RowStop>
-    requires r_rising { IsRising r.now }
-    requires p_rising { IsRising p.now }
-    requires holds { W.Holds sum r.now p.now }
-    requires divisor { IsDivisor divisor (whole sum r.now p.now) }
-    ensures value { IfOk result (λ out. IsReduced out.items (whole sum r.now p.now)) }
+    requires rising { HasRisingRows sum.now }
+    requires holds { W.Holds sum.now }
+    requires divisor { IsDivisor divisor (whole sum.now) }
+    ensures value { IfOk result (λ out. IsReduced out.items (whole sum.now)) }
     ensures kept { IfOk result (λ out. IsKeptRow out.items) }
-    ensures unfit { IfErr result (λ stop. IsRefused stop → IsUnfit (whole sum r.now p.now)) }
+    ensures unfit { IfErr result (λ stop. IsRefused stop → IsUnfit (whole sum.now)) }
 {
-    let mut out = Vec::with_capacity(alloc, r.len() + p.len())?;
+    let mut out = Vec::with_capacity(alloc, sum.r.len() + sum.p.len())?;
     let mut at = start(sum);
-    while let Some(read) = W::next(r, p, sum, at) {
+    while let Some(read) = W::next(sum, at) {
         keep(&mut out, read.col, read.by, divisor)?;
         at = read.next;
     }

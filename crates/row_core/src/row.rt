@@ -6,7 +6,7 @@ ghost use Rattle.frac_core.specs.Fraction.{IsFitting};
 ghost use Rattle.row_core.specs.Rows.{IsRising, AllFit, IsKeptRow, IsReduced, IsUnfit, coefficient};
 ghost use Rattle.row_core.specs.Rows.{combination};
 ghost use Rattle.row_core.specs.Combinations.{IsFactor, combination_but};
-ghost use Rattle.row_core.specs.Walks.{HasSmallProducts, IsNarrowSum, whole};
+ghost use Rattle.row_core.specs.Walks.{CanBeAdded, HasSmallProducts, IsNarrowSum, whole};
 ghost use Rattle.frac_core.specs.Stops.{IsRefused};
 
 use crate::divide::{divided, divisor_of};
@@ -34,23 +34,21 @@ impl Model for IntRow {
 }
 
 // The row in lowest terms with the coefficients of the sum.
-fn lowest<W: Width>(alloc: Global, r: &[Entry], p: &[Entry], sum: Sum) -> Result<IntRow, RowStop>
-    requires r_rising { IsRising r.now }
-    requires p_rising { IsRising p.now }
-    requires products { HasSmallProducts sum r.now p.now }
-    requires holds { W.Holds sum r.now p.now }
-    ensures value { IfOk result (λ row. IsReduced row (whole sum r.now p.now)) }
+fn lowest<W: Width>(alloc: Global, sum: &Sum<'_>) -> Result<IntRow, RowStop>
+    requires sum { CanBeAdded sum.now }
+    requires holds { W.Holds sum.now }
+    ensures value { IfOk result (λ row. IsReduced row (whole sum.now)) }
     ensures kept { IfOk result IsKeptRow }
-    ensures unfit { IfErr result (λ stop. IsRefused stop → IsUnfit (whole sum r.now p.now)) }
+    ensures unfit { IfErr result (λ stop. IsRefused stop → IsUnfit (whole sum.now)) }
 {
-    let divisor = divisor_of(r, p, sum);
-    let entries = divided::<W>(alloc, r, p, sum, divisor)?;
+    let divisor = divisor_of(sum);
+    let entries = divided::<W>(alloc, sum, divisor)?;
     Ok(IntRow { entries })
 }
 
 // Whether all numbers of the sum have 64 bits.
-fn is_narrow(sum: Sum) -> bool
-    ensures { IsTrue result → IsNarrowSum sum }
+fn is_narrow(sum: &Sum<'_>) -> bool
+    ensures { IsTrue result → IsNarrowSum sum.now }
 {
     sum.k.unsigned_abs() < NARROW_FACTOR
         && sum.n.unsigned_abs() < NARROW_FACTOR
@@ -58,18 +56,18 @@ fn is_narrow(sum: Sum) -> bool
 }
 
 // The row in lowest terms with the coefficients of the sum, of rows that are in lowest terms.
-fn combined(alloc: Global, r: &[Entry], p: &[Entry], sum: Sum) -> Result<IntRow, RowStop>
-    requires r { IsKeptRow r.now }
-    requires p { IsKeptRow p.now }
-    requires products { HasSmallProducts sum r.now p.now }
-    ensures value { IfOk result (λ row. IsReduced row (whole sum r.now p.now)) }
+fn combined(alloc: Global, sum: &Sum<'_>) -> Result<IntRow, RowStop>
+    requires r { IsKeptRow sum.now.r.now }
+    requires p { IsKeptRow sum.now.p.now }
+    requires products { HasSmallProducts sum.now }
+    ensures value { IfOk result (λ row. IsReduced row (whole sum.now)) }
     ensures kept { IfOk result IsKeptRow }
-    ensures unfit { IfErr result (λ stop. IsRefused stop → IsUnfit (whole sum r.now p.now)) }
+    ensures unfit { IfErr result (λ stop. IsRefused stop → IsUnfit (whole sum.now)) }
 {
     if is_narrow(sum) {
-        lowest::<Narrow>(alloc, r, p, sum)
+        lowest::<Narrow>(alloc, sum)
     } else {
-        lowest::<Wide>(alloc, r, p, sum)
+        lowest::<Wide>(alloc, sum)
     }
 }
 
@@ -155,7 +153,7 @@ impl IntRow {
         ensures kept { IfOk result IsKeptRow }
         ensures unfit { IfErr result (λ stop. IsRefused stop → IsUnfit (λ c. coefficient c entries.now)) }
     {
-        lowest::<Wide>(alloc, entries, &[], plain(Factors { k: 1, n: 0 }))
+        lowest::<Wide>(alloc, &plain(entries, &[], Factors { k: 1, n: 0 }))
     }
 
     /// The number at a column, which is 0 where the row has none.
@@ -225,7 +223,7 @@ pub fn combine_wide(
     ensures kept { IfOk result IsKeptRow }
     ensures unfit { IfErr result (λ stop. IsRefused stop → IsUnfit (combination k r.now n p.now)) }
 {
-    combined(alloc, &r.entries, &p.entries, plain(Factors { k, n }))
+    combined(alloc, &plain(&r.entries, &p.entries, Factors { k, n }))
 }
 
 /// The row `k*r + n*p` in lowest terms, without one column and with a number more at another one.
@@ -245,5 +243,5 @@ pub fn combine_but(
     ensures kept { IfOk result IsKeptRow }
     ensures unfit { IfErr result (λ stop. IsRefused stop → IsUnfit (combination_but by r.now p.now but)) }
 {
-    combined(alloc, &r.entries, &p.entries, patched(by, but))
+    combined(alloc, &patched(&r.entries, &p.entries, by, but))
 }

@@ -2,11 +2,11 @@
 ghost use Rattle.std.specs.Prelude.{◌≡◌, ℕ, ℤ, true, false, ◌&&◌, nat_eq, ◌+◌, ◌-◌, ◌<◌, ◌≤◌, ◌^◌};
 ghost use Rattle.std.specs.Prelude.{◌*ℤ◌, ◌+ℤ◌, pos, unsigned_abs, List, length, IfSome, IfNone, ◌⊎◌};
 ghost use Rattle.frac_core.specs.Fraction.{IsFitting};
-ghost use Rattle.row_core.specs.Rows.{Term, IsRising, AllFit, coefficient};
+ghost use Rattle.row_core.specs.Rows.{IsRising, AllFit, coefficient};
 ghost use Rattle.row_core.specs.Combinations.{IsFactor};
 ghost use Rattle.row_core.specs.Walks.{IsSmallProduct, IsFactorOf, HasSmallProducts, HasNext, alone};
 ghost use Rattle.row_core.specs.Walks.{IsRowRead, IsSumRead, IsReading, IsNarrow, IsNarrowSum, IsRead, IsEnd};
-ghost use Rattle.row_core.specs.Walks.{HasNarrowProducts, column_at, whole_of};
+ghost use Rattle.row_core.specs.Walks.{HasNarrowProducts, HasRisingRows, IsPlaceOf, column_at, whole_of};
 ghost use Rattle.row_core.specs.declared.walk.TheConstants.{NARROW_PRODUCT};
 
 use crate::entry::{Col, Entry, Factors, Patch};
@@ -17,9 +17,11 @@ pub(crate) const NARROW_FACTOR: u128 = 1 << 19;
 /// Of numbers below this, two and then one more can be added in 64 bits.
 pub(crate) const NARROW_PRODUCT: u128 = 1 << 61;
 
-/// A sum of multiples of two rows and of a number at one column, perhaps without another column.
-#[derive(Clone, Copy, Debug, PartialEq, Eq)]
-pub(crate) struct Sum {
+/// A sum `k*r + n*p` of multiples of two rows and of a number at one column, perhaps without another column.
+#[derive(Clone, Copy, Debug)]
+pub(crate) struct Sum<'a> {
+    pub r: &'a [Entry],
+    pub p: &'a [Entry],
     pub k: i128,
     pub n: i128,
     pub leaves: bool,
@@ -37,13 +39,17 @@ pub(crate) struct Place {
 }
 
 /// The sum of multiples of two rows alone.
-pub(crate) fn plain(by: Factors) -> Sum
+pub(crate) fn plain<'a>(r: &'a [Entry], p: &'a [Entry], by: Factors) -> Sum<'a>
+    ensures r { result.r.now ≡ r.now }
+    ensures p { result.p.now ≡ p.now }
     ensures k { result.k ≡ by.k }
     ensures n { result.n ≡ by.n }
     ensures extra { result.extra ≡ pos 0 }
     ensures leaves { result.leaves ≡ false }
 {
     Sum {
+        r,
+        p,
         k: by.k,
         n: by.n,
         leaves: false,
@@ -54,7 +60,9 @@ pub(crate) fn plain(by: Factors) -> Sum
 }
 
 /// The sum that leaves a column out and adds a number at another one.
-pub(crate) fn patched(by: Factors, but: Patch) -> Sum
+pub(crate) fn patched<'a>(r: &'a [Entry], p: &'a [Entry], by: Factors, but: Patch) -> Sum<'a>
+    ensures r { result.r.now ≡ r.now }
+    ensures p { result.p.now ≡ p.now }
     ensures k { result.k ≡ by.k }
     ensures n { result.n ≡ by.n }
     ensures leaves { result.leaves ≡ true }
@@ -63,6 +71,8 @@ pub(crate) fn patched(by: Factors, but: Patch) -> Sum
     ensures extra { result.extra ≡ but.extra }
 {
     Sum {
+        r,
+        p,
         k: by.k,
         n: by.n,
         leaves: true,
@@ -73,10 +83,10 @@ pub(crate) fn patched(by: Factors, but: Patch) -> Sum
 }
 
 /// The place before all columns.
-pub(crate) fn start(sum: Sum) -> Place
+pub(crate) fn start(sum: &Sum<'_>) -> Place
     ensures left { result.left ≡ 0 }
     ensures right { result.right ≡ 0 }
-    ensures added { result.is_added ≡ true → sum.extra ≡ pos 0 }
+    ensures added { result.is_added ≡ true → sum.now.extra ≡ pos 0 }
 {
     Place {
         left: 0,
@@ -125,18 +135,17 @@ pub(crate) struct RowsRead {
 }
 
 // Reads the two rows at their lowest column.
-fn read_rows(r: &[Entry], p: &[Entry], at: Place, col: u64) -> RowsRead
-    requires r_rising { IsRising r.now }
-    requires p_rising { IsRising p.now }
-    requires left { at.left < length r.now → col ≤ column_at r.now at.left }
-    requires right { at.right < length p.now → col ≤ column_at p.now at.right }
+fn read_rows(sum: &Sum<'_>, at: Place, col: u64) -> RowsRead
+    requires rising { HasRisingRows sum.now }
+    requires left { at.left < length sum.now.r.now → col ≤ column_at sum.now.r.now at.left }
+    requires right { at.right < length sum.now.p.now → col ≤ column_at sum.now.p.now at.right }
     ensures col { result.col ≡ col }
-    ensures left { IsRowRead r.now at.left col result.left result.next.left }
-    ensures right { IsRowRead p.now at.right col result.right result.next.right }
+    ensures left { IsRowRead sum.now.r.now at.left col result.left result.next.left }
+    ensures right { IsRowRead sum.now.p.now at.right col result.right result.next.right }
     ensures added { result.next.is_added ≡ at.is_added }
 {
-    let left = read_row(r, at.left, col);
-    let right = read_row(p, at.right, col);
+    let left = read_row(sum.r, at.left, col);
+    let right = read_row(sum.p, at.right, col);
     RowsRead {
         col,
         left: left.by,
@@ -150,36 +159,32 @@ fn read_rows(r: &[Entry], p: &[Entry], at: Place, col: u64) -> RowsRead
 }
 
 // Reads the two rows at the lowest column that has not been read, unless there is none.
-fn next_of_rows(r: &[Entry], p: &[Entry], at: Place) -> Option<RowsRead>
-    requires r_rising { IsRising r.now }
-    requires p_rising { IsRising p.now }
-    requires left { at.left ≤ length r.now }
-    requires right { at.right ≤ length p.now }
-    ensures left { IfSome result (λ x. IsRowRead r.now at.left x.col x.left x.next.left) }
-    ensures right { IfSome result (λ x. IsRowRead p.now at.right x.col x.right x.next.right) }
+fn next_of_rows(sum: &Sum<'_>, at: Place) -> Option<RowsRead>
+    requires { IsPlaceOf sum.now at }
+    ensures left { IfSome result (λ x. IsRowRead sum.now.r.now at.left x.col x.left x.next.left) }
+    ensures right { IfSome result (λ x. IsRowRead sum.now.p.now at.right x.col x.right x.next.right) }
     ensures added { IfSome result (λ x. x.next.is_added ≡ at.is_added) }
-    ensures one { IfSome result (λ x. HasNext r.now at.left x.col ⊎ HasNext p.now at.right x.col) }
-    ensures left_end { IfNone result (length r.now ≤ at.left) }
-    ensures right_end { IfNone result (length p.now ≤ at.right) }
+    ensures one { IfSome result (λ x. HasNext sum.now.r.now at.left x.col
+        ⊎ HasNext sum.now.p.now at.right x.col) }
+    ensures left_end { IfNone result (length sum.now.r.now ≤ at.left) }
+    ensures right_end { IfNone result (length sum.now.p.now ≤ at.right) }
 {
-    if at.left == r.len() {
-        if at.right == p.len() {
+    if at.left == sum.r.len() {
+        if at.right == sum.p.len() {
             return None;
         }
-        let right = p[at.right];
-        return Some(read_rows(r, p, at, right.col.0));
+        let right = sum.p[at.right];
+        return Some(read_rows(sum, at, right.col.0));
     }
-    let left = r[at.left];
-    if at.right == p.len() {
-        return Some(read_rows(r, p, at, left.col.0));
+    let left = sum.r[at.left];
+    if at.right == sum.p.len() {
+        return Some(read_rows(sum, at, left.col.0));
     }
-    let right = p[at.right];
-    if left.col.0 < right.col.0 {
-        Some(read_rows(r, p, at, left.col.0))
-    } else if right.col.0 < left.col.0 {
-        Some(read_rows(r, p, at, right.col.0))
+    let right = sum.p[at.right];
+    if right.col.0 < left.col.0 {
+        Some(read_rows(sum, at, right.col.0))
     } else {
-        Some(read_rows(r, p, at, left.col.0))
+        Some(read_rows(sum, at, left.col.0))
     }
 }
 
@@ -221,15 +226,12 @@ fn with_added(read: RowsRead, col: u64) -> RowsRead
 }
 
 // Reads the two rows at the lowest column that has not been read, or at that of the number.
-fn next_of_both(r: &[Entry], p: &[Entry], sum: Sum, at: Place) -> Option<RowsRead>
-    requires r_rising { IsRising r.now }
-    requires p_rising { IsRising p.now }
-    requires left { at.left ≤ length r.now }
-    requires right { at.right ≤ length p.now }
-    ensures read { IfSome result (IsSumRead r.now p.now sum at) }
-    ensures end { IfNone result (IsEnd r.now p.now at) }
+fn next_of_both(sum: &Sum<'_>, at: Place) -> Option<RowsRead>
+    requires { IsPlaceOf sum.now at }
+    ensures read { IfSome result (IsSumRead sum.now at) }
+    ensures end { IfNone result (IsEnd sum.now at) }
 {
-    let rows = next_of_rows(r, p, at);
+    let rows = next_of_rows(sum, at);
     if at.is_added {
         return rows;
     }
@@ -258,28 +260,28 @@ fn product(k: i128, by: i64) -> i128
 }
 
 // The sum of two products.
-fn both(sum: Sum, left: i64, right: i64) -> i128
-    requires left { IsSmallProduct sum.k left }
-    requires right { IsSmallProduct sum.n right }
-    ensures value { result ≡ sum.k *ℤ left +ℤ sum.n *ℤ right }
+fn both(sum: &Sum<'_>, left: i64, right: i64) -> i128
+    requires left { IsSmallProduct sum.now.k left }
+    requires right { IsSmallProduct sum.now.n right }
+    ensures value { result ≡ sum.now.k *ℤ left +ℤ sum.now.n *ℤ right }
     ensures small { unsigned_abs result < 2 ^ 127 - 2 ^ 85 }
 {
     product(sum.k, left) + product(sum.n, right)
 }
 
 // Whether the column is left out.
-fn is_left_out(sum: Sum, col: u64) -> bool
-    ensures { result ≡ (sum.leaves && nat_eq col sum.without.0) }
+fn is_left_out(sum: &Sum<'_>, col: u64) -> bool
+    ensures { result ≡ (sum.now.leaves && nat_eq col sum.now.without.0) }
 {
     sum.leaves && col == sum.without.0
 }
 
 // The number that the sum has at a column where the rows have these ones.
-fn total(sum: Sum, left: i64, right: i64, col: u64) -> i128
-    requires left { IsSmallProduct sum.k left }
-    requires right { IsSmallProduct sum.n right }
-    requires extra { IsFactor sum.extra }
-    ensures value { result ≡ whole_of sum col (sum.k *ℤ left +ℤ sum.n *ℤ right) }
+fn total(sum: &Sum<'_>, left: i64, right: i64, col: u64) -> i128
+    requires left { IsSmallProduct sum.now.k left }
+    requires right { IsSmallProduct sum.now.n right }
+    requires extra { IsFactor sum.now.extra }
+    ensures value { result ≡ whole_of sum.now col (sum.now.k *ℤ left +ℤ sum.now.n *ℤ right) }
     ensures small { unsigned_abs result < 2 ^ 127 }
 {
     if is_left_out(sum, col) {
@@ -304,23 +306,23 @@ fn narrow_product(k: i128, by: i64) -> i64
 }
 
 // The sum of two products of 64 bits.
-fn narrow_both(sum: Sum, left: i64, right: i64) -> i64
-    requires k { IsNarrow sum.k }
-    requires n { IsNarrow sum.n }
+fn narrow_both(sum: &Sum<'_>, left: i64, right: i64) -> i64
+    requires k { IsNarrow sum.now.k }
+    requires n { IsNarrow sum.now.n }
     requires left { IsFitting left }
     requires right { IsFitting right }
-    ensures value { result ≡ sum.k *ℤ left +ℤ sum.n *ℤ right }
+    ensures value { result ≡ sum.now.k *ℤ left +ℤ sum.now.n *ℤ right }
     ensures small { unsigned_abs result < 2 ^ 62 }
 {
     narrow_product(sum.k, left) + narrow_product(sum.n, right)
 }
 
 // The number that the sum has at a column where the rows have these ones, in 64 bits.
-fn narrow_total(sum: Sum, left: i64, right: i64, col: u64) -> i64
-    requires narrow { IsNarrowSum sum }
+fn narrow_total(sum: &Sum<'_>, left: i64, right: i64, col: u64) -> i64
+    requires narrow { IsNarrowSum sum.now }
     requires left { IsFitting left }
     requires right { IsFitting right }
-    ensures value { result ≡ whole_of sum col (sum.k *ℤ left +ℤ sum.n *ℤ right) }
+    ensures value { result ≡ whole_of sum.now col (sum.now.k *ℤ left +ℤ sum.now.n *ℤ right) }
 {
     if is_left_out(sum, col) {
         return 0;
@@ -345,18 +347,15 @@ pub(crate) struct Reading {
 pub(crate) trait Width {
     ghost use Rattle.row_core.specs.declared.walk.Sum.{Sum};
 
-    ghost Holds: { Sum → List Term → List Term → Type 0 };
+    ghost Holds: { Sum → Type 0 };
 
     /// Reads the sum at the lowest column that has not been read, unless there is none.
-    fn next(r: &[Entry], p: &[Entry], sum: Sum, at: Place) -> Option<Reading>
-        requires r_rising { IsRising r.now }
-        requires p_rising { IsRising p.now }
-        requires holds { Holds sum r.now p.now }
-        requires left { at.left ≤ length r.now }
-        requires right { at.right ≤ length p.now }
-        ensures read { IfSome result (IsReading r.now p.now sum at) }
+    fn next(sum: &Sum<'_>, at: Place) -> Option<Reading>
+        requires place { IsPlaceOf sum.now at }
+        requires holds { Holds sum.now }
+        ensures read { IfSome result (IsReading sum.now at) }
         ensures small { IfSome result (λ x. unsigned_abs x.by < 2 ^ 127) }
-        ensures end { IfNone result (IsEnd r.now p.now at) };
+        ensures end { IfNone result (IsEnd sum.now at) };
 }
 
 /// 128 bits, which hold the numbers of every sum.
@@ -365,8 +364,8 @@ pub(crate) struct Wide;
 impl Width for Wide {
     ghost Holds = { HasSmallProducts };
 
-    fn next(r: &[Entry], p: &[Entry], sum: Sum, at: Place) -> Option<Reading> {
-        let read = next_of_both(r, p, sum, at)?;
+    fn next(sum: &Sum<'_>, at: Place) -> Option<Reading> {
+        let read = next_of_both(sum, at)?;
         Some(Reading {
             col: read.col,
             by: total(sum, read.left, read.right, read.col),
@@ -381,8 +380,8 @@ pub(crate) struct Narrow;
 impl Width for Narrow {
     ghost Holds = { HasNarrowProducts };
 
-    fn next(r: &[Entry], p: &[Entry], sum: Sum, at: Place) -> Option<Reading> {
-        let read = next_of_both(r, p, sum, at)?;
+    fn next(sum: &Sum<'_>, at: Place) -> Option<Reading> {
+        let read = next_of_both(sum, at)?;
         Some(Reading {
             col: read.col,
             by: i128::from(narrow_total(sum, read.left, read.right, read.col)),

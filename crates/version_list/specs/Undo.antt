@@ -1,11 +1,12 @@
 -- What the logs of the marks stand for: the earlier versions.
 use Rattle.std.specs.Prelude.{◌≡◌, ◌≢◌, ℕ, ◌+◌, ◌<◌, ◌≤◌, List, [], ◌∷◌, length, take, slice_set, slice_get}
-use Rattle.std.specs.Prelude.{slice_index, slice_index_or, IsSomeAnd, All, AllPairs}
+use Rattle.std.specs.Prelude.{slice_index, slice_index_or, IsSomeAnd, All, AllPairs, min, vec_capacity}
 use Rattle.std.specs.List.{insert}
 use Rattle.version_list.specs.declared.TheConstants.{VERSION_LIMIT}
 use Rattle.version_list.specs.declared.log.Log.{Log}
 use Rattle.version_list.specs.declared.log.Removed.{Removed}
 use Rattle.version_list.specs.declared.log.Replaced.{Replaced}
+use Rattle.version_list.specs.declared.log.Slotted.{Slotted}
 
 -- the list with what was replaced at its places again, the last one first. `part` is the element or the slot.
 abbrev pub undo : {T X : Type 0} → (Replaced T → X) → List (Replaced T) → List X → List X
@@ -72,12 +73,29 @@ abbrev pub IsMarked : {T : Type 0} → List (Log T) → ℕ → Type 0
 IsMarked [] at = ⊥
 IsMarked (log ∷ logs) at = at < log.len
 
+-- there is a slot for each element
+abbrev pub AreSlotted : {T : Type 0} → Slotted T → Type 0
+AreSlotted list = length list.slots.items ≡ length list.items.items
+
+-- there is memory for n elements with their slots
+pub record HasRoomFor {T : Type 0} (n : ℕ) (list : Slotted T) : Type 0 where
+  pub items : n ≤ vec_capacity list.items
+  pub slots : n ≤ vec_capacity list.slots
+
+-- there is as much memory as before
+pub record KeepsRoom {T : Type 0} (old new : Slotted T) : Type 0 where
+  pub items : vec_capacity new.items ≡ vec_capacity old.items
+  pub slots : vec_capacity new.slots ≡ vec_capacity old.slots
+
+-- for how many elements with their slots there is memory
+abbrev pub room_of : {T : Type 0} → Slotted T → ℕ
+room_of list = min (vec_capacity list.items) (vec_capacity list.slots)
+
 -- the fields of a list: a slot for each element, logs of these, no more than the limit, room for that many,
--- and space for each
-pub record IsSound
-    {T : Type 0} (items : List T) (slots : List ℕ) (stack : List (Log T)) (capacity space : ℕ) : Type 0 where
-  pub lengths : length slots ≡ length items
-  pub logs : AreLogsOf slots stack
+-- and space for each version
+pub record IsSound {T : Type 0} (list : Slotted T) (stack : List (Log T)) (capacity : ℕ) : Type 0 where
+  pub lengths : AreSlotted list
+  pub logs : AreLogsOf list.slots.items stack
   pub few : length stack ≤ VERSION_LIMIT
   pub room : VERSION_LIMIT ≤ capacity
-  pub spacious : All (λ version. length version ≤ space) (versions items stack)
+  pub spacious : All (λ version. length version ≤ room_of list) (versions list.items.items stack)

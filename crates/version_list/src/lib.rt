@@ -29,7 +29,7 @@
 //! What the type keeps (`IsSound` in `specs/Undo.antt`): from the elements of now the logs of the marks, the
 //! newest first, give each earlier version.
 //!
-//! To read: `log` has the log of one mark, and this file the list.
+//! To read: `log` has elements with their slots and the log of one mark, and this file the list.
 #![tactic(auto)]
 
 ghost use Rattle.std.specs.Borrow.{sem};
@@ -40,7 +40,7 @@ ghost use Rattle.std.specs.List.{remove};
 mod log;
 
 use frac_core::OutOfMemory;
-use log::{Log, empty_log, is_kept, is_past, own, replace_at, restore, take_out};
+use log::{Log, Slotted, empty_log, is_kept, is_past, own, replace_at, restore, take_out};
 use std::alloc::Global;
 use std::collections::VecDeque;
 use std::marker::Model;
@@ -51,9 +51,7 @@ pub const VERSION_LIMIT: usize = 33;
 /// A list with its earlier versions, of which a mark past [`VERSION_LIMIT`] forgets the oldest.
 #[derive(Drop)]
 pub struct VersionList<T> {
-    items: Vec<T>,
-    // Where the newest log has the element that each place had at the mark, if it has one.
-    slots: Vec<usize>,
+    list: Slotted<T>,
     // The newest first.
     logs: VecDeque<Log<T>>,
     // One that was forgotten, whose memory the next one takes.
@@ -63,7 +61,6 @@ pub struct VersionList<T> {
 
 impl<T> Model for VersionList<T> {
     ghost use Rattle.std.specs.VecDeque.{deque_capacity};
-    ghost use Rattle.std.specs.Prelude.{min, vec_capacity};
     ghost use Rattle.version_list.specs.Versions.{Versions, versions_code};
 
     ghost Value = { Versions T };
@@ -72,10 +69,12 @@ impl<T> Model for VersionList<T> {
 
     ghost use Rattle.version_list.specs.Undo.{versions, IsSound};
 
-    ghost view = { λ s. record { items = s.items.items; before = versions s.items.items s.logs.items } };
+    ghost view = { λ s. record {
+      items = s.list.items.items;
+      before = versions s.list.items.items s.logs.items;
+    } };
 
-    ghost invariant = { λ s. IsSound s.items.items s.slots.items s.logs.items (deque_capacity s.logs)
-        (min (vec_capacity s.items) (vec_capacity s.slots)) };
+    ghost invariant = { λ s. IsSound s.list s.logs.items (deque_capacity s.logs) };
 }
 
 impl<T> VersionList<T> {
@@ -84,9 +83,12 @@ impl<T> VersionList<T> {
         ensures { IfOk result (λ list. list ≡ record { items = []; before = [] }) }
     {
         let logs = VecDeque::with_capacity(alloc, VERSION_LIMIT)?;
-        Ok(VersionList {
+        let list = Slotted {
             items: Vec::new(alloc),
             slots: Vec::new(alloc),
+        };
+        Ok(VersionList {
+            list,
             logs,
             spare: None,
             alloc,
@@ -97,14 +99,14 @@ impl<T> VersionList<T> {
     pub fn len(&self) -> usize
         ensures { result ≡ length self.now.items }
     {
-        self.items.len()
+        self.list.items.len()
     }
 
     /// Whether there is no element now.
     pub fn is_empty(&self) -> bool
         ensures { result ≡ (length self.now.items == 0) }
     {
-        self.items.is_empty()
+        self.list.items.is_empty()
     }
 
     /// How many earlier versions there are.
@@ -119,7 +121,7 @@ impl<T> VersionList<T> {
     pub fn as_slice(&self) -> &[T]
         ensures { result.now ≡ self.now.items }
     {
-        self.items.as_slice()
+        self.list.items.as_slice()
     }
 
     /// The element at a place.
@@ -127,7 +129,7 @@ impl<T> VersionList<T> {
         requires { i < length self.now.items }
         ensures { slice_get self.now.items i ≡ Some result.now }
     {
-        &self.items[i]
+        &self.list.items[i]
     }
 }
 
@@ -139,17 +141,11 @@ impl<T: Drop> VersionList<T> {
         ensures before { self.new.before ≡ self.old.before }
         ensures err { OnErr result (self.new ≡ self.old) }
     {
-        if is_kept(&self.logs, self.slots[i], i) {
-            self.items[i] = value;
+        if is_kept(&self.logs, self.list.slots[i], i) {
+            self.list.items[i] = value;
             return Ok(());
         }
-        replace_at(
-            &mut self.logs[0],
-            &mut self.items,
-            &mut self.slots,
-            i,
-            value,
-        )
+        replace_at(&mut self.logs[0], &mut self.list, i, value)
     }
 
     /// Puts a value behind the last element. After want of memory the list is as before.
@@ -158,10 +154,10 @@ impl<T: Drop> VersionList<T> {
         ensures before { self.new.before ≡ self.old.before }
         ensures err { OnErr result (self.new ≡ self.old) }
     {
-        self.items.reserve(1)?;
-        self.slots.reserve(1)?;
-        self.items.push_reserved(value);
-        self.slots.push_reserved(0);
+        self.list.items.reserve(1)?;
+        self.list.slots.reserve(1)?;
+        self.list.items.push_reserved(value);
+        self.list.slots.push_reserved(0);
         Ok(())
     }
 
@@ -173,17 +169,11 @@ impl<T: Drop> VersionList<T> {
         ensures err { OnErr result (self.new ≡ self.old) }
     {
         if is_past(&self.logs, i) {
-            self.items.remove(i);
-            self.slots.remove(i);
+            self.list.items.remove(i);
+            self.list.slots.remove(i);
             return Ok(());
         }
-        take_out(
-            &mut self.logs[0],
-            &mut self.items,
-            &mut self.slots,
-            i,
-            self.alloc,
-        )
+        take_out(&mut self.logs[0], &mut self.list, i, self.alloc)
     }
 
     /// Makes the elements of now the newest earlier version, and forgets the oldest where there are too many.
@@ -192,7 +182,7 @@ impl<T: Drop> VersionList<T> {
         ensures before { self.new.before ≡ take VERSION_LIMIT (self.old.items ∷ self.old.before) }
     {
         let mut log = empty_log(&mut self.logs, &mut self.spare, self.alloc);
-        log.len = self.items.len();
+        log.len = self.list.items.len();
         self.logs.push_front_reserved(log);
     }
 
@@ -202,7 +192,7 @@ impl<T: Drop> VersionList<T> {
         ensures version { self.old.before ≡ self.new.items ∷ self.new.before }
     {
         if let Some(log) = self.logs.pop_front() {
-            restore(log, &mut self.items, &mut self.slots);
+            restore(log, &mut self.list);
         }
     }
 
@@ -212,8 +202,8 @@ impl<T: Drop> VersionList<T> {
         ensures before { self.new.before ≡ self.old.before }
     {
         if self.logs.is_empty() {
-            self.items.clear();
-            self.slots.clear();
+            self.list.items.clear();
+            self.list.slots.clear();
         } else {
             self.back();
             self.mark();
@@ -241,7 +231,7 @@ impl<T: Clone + Drop> VersionList<T> {
         ensures* writes_back { sem 𝓛 (lends_item T.row self.entry i result) }
         ensures value { IfOk result (λ x. IsOwn T.is_clone self.old.items i x.now) }
     {
-        own(&mut self.logs, &mut self.items, &mut self.slots, i)?;
-        Ok(&mut self.items[i])
+        own(&mut self.logs, &mut self.list, i)?;
+        Ok(&mut self.list.items[i])
     }
 }

@@ -1,19 +1,27 @@
-// The log of one mark: how many of the elements of then are left, and those that others took the place of
-// since, or that left.
+// Elements with their slots, and the log of one mark: how many of the elements of then are left, and those
+// that others took the place of since, or that left.
 ghost use Rattle.std.specs.Prelude.{◌≡◌, ◌+◌, ◌-◌, ◌<◌, ◌≤◌, ℕ, List, [], length, take, slice_set};
 ghost use Rattle.std.specs.Prelude.{slice_index};
-ghost use Rattle.std.specs.Prelude.{IsTrue, ◌↔◌, false, All, OnErr, OnOk, vec_capacity};
+ghost use Rattle.std.specs.Prelude.{IsTrue, ◌↔◌, false, All, OnErr, OnOk};
 ghost use Rattle.std.specs.List.{insert, remove};
 ghost use Rattle.std.specs.VecDeque.{deque_len, deque_capacity};
 ghost use Rattle.version_list.specs.Versions.{IsOwn};
 ghost use Rattle.version_list.specs.Undo.{undo, items_at, slots_at, versions, AreLogsOf, HasAt, IsLogOf};
-ghost use Rattle.version_list.specs.Undo.{IsAsMarked, IsMarked};
+ghost use Rattle.version_list.specs.Undo.{AreSlotted, HasRoomFor, IsAsMarked, IsMarked, KeepsRoom};
 
 use crate::VERSION_LIMIT;
 use frac_core::OutOfMemory;
 use std::alloc::Global;
 use std::collections::VecDeque;
 use std::mem;
+
+/// The elements of now with their slots.
+#[derive(Drop)]
+pub struct Slotted<T> {
+    pub items: Vec<T>,
+    // Where the newest log has the element that each place had at the mark, if it has one.
+    pub slots: Vec<usize>,
+}
 
 /// What going back to one mark needs: the elements that were replaced since, and those that left.
 #[derive(Drop)]
@@ -68,32 +76,31 @@ pub fn is_kept<T>(logs: &VecDeque<Log<T>>, slot: usize, at: usize) -> bool
 /// Puts `value` at a place, and what was there into the log.
 pub fn replace_at<T: Drop>(
     log: &mut Log<T>,
-    items: &mut Vec<T>,
-    slots: &mut Vec<usize>,
+    list: &mut Slotted<T>,
     at: usize,
     value: T,
 ) -> Result<(), OutOfMemory>
-    requires item { at < length items.old.items }
-    requires slot { at < length slots.old.items }
+    requires item { at < length list.old.items.items }
+    requires lengths { AreSlotted list.old }
     requires marked { at < log.old.len }
-    requires unwritten { ¬ HasAt log.old.replaced.items (slice_index slots.old.items at) at }
-    ensures ok { OnOk result (items.new.items ≡ slice_set items.old.items at value) }
-    ensures err { OnErr result (items.new.items ≡ items.old.items) }
-    ensures items { items_at log.new items.new.items ≡ items_at log.old items.old.items }
+    requires unwritten { ¬ HasAt log.old.replaced.items (slice_index list.old.slots.items at) at }
+    ensures ok { OnOk result (list.new.items.items ≡ slice_set list.old.items.items at value) }
+    ensures err { OnErr result (list.new.items.items ≡ list.old.items.items) }
+    ensures items { items_at log.new list.new.items.items ≡ items_at log.old list.old.items.items }
     ensures kept { OnOk result ((other : T)
-        → items_at log.new (slice_set items.old.items at other) ≡ items_at log.old items.old.items) }
-    ensures slots { slots_at log.new slots.new.items ≡ slots_at log.old slots.old.items }
-    ensures items_len { length items.new.items ≡ length items.old.items }
-    ensures lengths { length slots.new.items ≡ length slots.old.items }
-    ensures log { IsLogOf slots.old.items log.old → IsLogOf slots.new.items log.new }
-    ensures items_room { vec_capacity items.new ≡ vec_capacity items.old }
-    ensures slots_room { vec_capacity slots.new ≡ vec_capacity slots.old }
+        → items_at log.new (slice_set list.old.items.items at other)
+        ≡ items_at log.old list.old.items.items) }
+    ensures slots { slots_at log.new list.new.slots.items ≡ slots_at log.old list.old.slots.items }
+    ensures items_len { length list.new.items.items ≡ length list.old.items.items }
+    ensures lengths { AreSlotted list.new }
+    ensures log { IsLogOf list.old.slots.items log.old → IsLogOf list.new.slots.items log.new }
+    ensures room { KeepsRoom list.old list.new }
 {
     log.replaced.reserve(1)?;
     let replaced = Replaced {
         at,
-        slot: mem::replace(&mut slots[at], log.replaced.len()),
-        value: mem::replace(&mut items[at], value),
+        slot: mem::replace(&mut list.slots[at], log.replaced.len()),
+        value: mem::replace(&mut list.items[at], value),
     };
     log.replaced.push_reserved(replaced);
     Ok(())
@@ -102,34 +109,33 @@ pub fn replace_at<T: Drop>(
 /// Puts a clone in the place of an element that going back needs, so that the place may be written.
 pub fn own<T: Clone + Drop>(
     logs: &mut VecDeque<Log<T>>,
-    items: &mut Vec<T>,
-    slots: &mut Vec<usize>,
+    list: &mut Slotted<T>,
     at: usize,
 ) -> Result<(), OutOfMemory>
-    requires item { at < length items.old.items }
-    requires slot { at < length slots.old.items }
-    requires logs { AreLogsOf slots.old.items logs.old.items }
+    requires item { at < length list.old.items.items }
+    requires lengths { AreSlotted list.old }
+    requires logs { AreLogsOf list.old.slots.items logs.old.items }
     ensures ok { OnOk result ((x : T)
-        × IsOwn T.is_clone items.old.items at x
-        × (items.new.items ≡ slice_set items.old.items at x)) }
-    ensures err { OnErr result (items.new.items ≡ items.old.items) }
-    ensures items { versions items.new.items logs.new.items ≡ versions items.old.items logs.old.items }
+        × IsOwn T.is_clone list.old.items.items at x
+        × (list.new.items.items ≡ slice_set list.old.items.items at x)) }
+    ensures err { OnErr result (list.new.items.items ≡ list.old.items.items) }
+    ensures items { versions list.new.items.items logs.new.items
+        ≡ versions list.old.items.items logs.old.items }
     ensures kept { OnOk result ((other : T)
-        → versions (slice_set items.old.items at other) logs.new.items
-        ≡ versions items.old.items logs.old.items) }
-    ensures logs { AreLogsOf slots.new.items logs.new.items }
-    ensures items_len { length items.new.items ≡ length items.old.items }
-    ensures lengths { length slots.new.items ≡ length slots.old.items }
-    ensures items_room { vec_capacity items.new ≡ vec_capacity items.old }
-    ensures slots_room { vec_capacity slots.new ≡ vec_capacity slots.old }
+        → versions (slice_set list.old.items.items at other) logs.new.items
+        ≡ versions list.old.items.items logs.old.items) }
+    ensures logs { AreLogsOf list.new.slots.items logs.new.items }
+    ensures items_len { length list.new.items.items ≡ length list.old.items.items }
+    ensures lengths { AreSlotted list.new }
+    ensures room { KeepsRoom list.old list.new }
     ensures len { deque_len logs.new ≡ deque_len logs.old }
     ensures capacity { deque_capacity logs.new ≡ deque_capacity logs.old }
 {
-    if is_kept(logs, slots[at], at) {
+    if is_kept(logs, list.slots[at], at) {
         return Ok(());
     }
-    let copy = items[at].clone()?;
-    replace_at(&mut logs[0], items, slots, at, copy)
+    let copy = list.items[at].clone()?;
+    replace_at(&mut logs[0], list, at, copy)
 }
 
 // A log whose memory the next one may take: the oldest, where there are as many as may be, or the spare one.
@@ -185,28 +191,26 @@ pub fn is_past<T>(logs: &VecDeque<Log<T>>, at: usize) -> bool
 /// Takes the element at a place out, and puts it into the log.
 pub fn take_out<T: Drop>(
     log: &mut Log<T>,
-    items: &mut Vec<T>,
-    slots: &mut Vec<usize>,
+    list: &mut Slotted<T>,
     at: usize,
     alloc: Global,
 ) -> Result<(), OutOfMemory>
-    requires item { at < length items.old.items }
-    requires lengths { length slots.old.items ≡ length items.old.items }
+    requires item { at < length list.old.items.items }
+    requires lengths { AreSlotted list.old }
     requires marked { at < log.old.len }
-    ensures ok { OnOk result (items.new.items ≡ remove items.old.items at) }
-    ensures err { OnErr result (items.new.items ≡ items.old.items) }
-    ensures items { items_at log.new items.new.items ≡ items_at log.old items.old.items }
-    ensures slots { slots_at log.new slots.new.items ≡ slots_at log.old slots.old.items }
-    ensures lengths { length slots.new.items ≡ length items.new.items }
-    ensures log { IsLogOf slots.old.items log.old → IsLogOf slots.new.items log.new }
-    ensures items_room { vec_capacity items.new ≡ vec_capacity items.old }
-    ensures slots_room { vec_capacity slots.new ≡ vec_capacity slots.old }
+    ensures ok { OnOk result (list.new.items.items ≡ remove list.old.items.items at) }
+    ensures err { OnErr result (list.new.items.items ≡ list.old.items.items) }
+    ensures items { items_at log.new list.new.items.items ≡ items_at log.old list.old.items.items }
+    ensures slots { slots_at log.new list.new.slots.items ≡ slots_at log.old list.old.slots.items }
+    ensures lengths { AreSlotted list.new }
+    ensures log { IsLogOf list.old.slots.items log.old → IsLogOf list.new.slots.items log.new }
+    ensures room { KeepsRoom list.old list.new }
 {
     log.removed.reserve(1)?;
     let element = Replaced {
         at,
-        slot: slots.remove(at),
-        value: items.remove(at),
+        slot: list.slots.remove(at),
+        value: list.items.remove(at),
     };
     let earlier = mem::replace(&mut log.replaced, Vec::new(alloc));
     log.removed.push_reserved(Removed { element, earlier });
@@ -215,61 +219,56 @@ pub fn take_out<T: Drop>(
 }
 
 /// Gives back the elements that the log has, the last one first, and drops those that came after the mark.
-pub fn restore<T: Drop>(log: Log<T>, items: &mut Vec<T>, slots: &mut Vec<usize>)
-    requires log { IsLogOf slots.old.items log }
-    requires lengths { length slots.old.items ≡ length items.old.items }
-    requires items_room { log.len + length log.removed.items ≤ vec_capacity items.old }
-    requires slots_room { log.len + length log.removed.items ≤ vec_capacity slots.old }
-    ensures items { items.new.items ≡ items_at log items.old.items }
-    ensures slots { slots.new.items ≡ slots_at log slots.old.items }
-    ensures items_kept { vec_capacity items.new ≡ vec_capacity items.old }
-    ensures slots_kept { vec_capacity slots.new ≡ vec_capacity slots.old }
+pub fn restore<T: Drop>(log: Log<T>, list: &mut Slotted<T>)
+    requires log { IsLogOf list.old.slots.items log }
+    requires lengths { AreSlotted list.old }
+    requires room { HasRoomFor (log.len + length log.removed.items) list.old }
+    ensures items { list.new.items.items ≡ items_at log list.old.items.items }
+    ensures slots { list.new.slots.items ≡ slots_at log list.old.slots.items }
+    ensures room { KeepsRoom list.old list.new }
 {
     let Log {
         len,
         replaced,
         mut removed,
     } = log;
-    items.truncate(len);
-    slots.truncate(len);
-    give_back(replaced, items, slots);
+    list.items.truncate(len);
+    list.slots.truncate(len);
+    give_back(replaced, list);
     while let Some(last) = removed.pop() {
-        put_back(last, items, slots);
+        put_back(last, list);
     }
 }
 
 // Puts an element where it left, and gives back what was replaced before.
-fn put_back<T: Drop>(removed: Removed<T>, items: &mut Vec<T>, slots: &mut Vec<usize>)
-    requires place { removed.element.at ≤ length items.old.items }
-    requires places { All (λ r. r.at ≤ length items.old.items) removed.earlier.items }
-    requires lengths { length slots.old.items ≡ length items.old.items }
-    requires items_room { length items.old.items < vec_capacity items.old }
-    requires slots_room { length slots.old.items < vec_capacity slots.old }
-    ensures items { items.new.items ≡ undo (λ r. r.value) removed.earlier.items
-        (insert items.old.items removed.element.at removed.element.value) }
-    ensures slots { slots.new.items ≡ undo (λ r. r.slot) removed.earlier.items
-        (insert slots.old.items removed.element.at removed.element.slot) }
-    ensures items_kept { vec_capacity items.new ≡ vec_capacity items.old }
-    ensures slots_kept { vec_capacity slots.new ≡ vec_capacity slots.old }
+fn put_back<T: Drop>(removed: Removed<T>, list: &mut Slotted<T>)
+    requires place { removed.element.at ≤ length list.old.items.items }
+    requires places { All (λ r. r.at ≤ length list.old.items.items) removed.earlier.items }
+    requires lengths { AreSlotted list.old }
+    requires room { HasRoomFor (length list.old.items.items + 1) list.old }
+    ensures items { list.new.items.items ≡ undo (λ r. r.value) removed.earlier.items
+        (insert list.old.items.items removed.element.at removed.element.value) }
+    ensures slots { list.new.slots.items ≡ undo (λ r. r.slot) removed.earlier.items
+        (insert list.old.slots.items removed.element.at removed.element.slot) }
+    ensures room { KeepsRoom list.old list.new }
 {
     let Removed { element, earlier } = removed;
     let Replaced { at, slot, value } = element;
-    let _placed = items.insert(at, value);
-    let _found = slots.insert(at, slot);
-    give_back(earlier, items, slots);
+    let _placed = list.items.insert(at, value);
+    let _found = list.slots.insert(at, slot);
+    give_back(earlier, list);
 }
 
 // Gives back what was replaced, the last one first.
-fn give_back<T: Drop>(mut replaced: Vec<Replaced<T>>, items: &mut Vec<T>, slots: &mut Vec<usize>)
-    requires places { All (λ r. r.at < length items.old.items) replaced.items }
-    requires lengths { length slots.old.items ≡ length items.old.items }
-    ensures items { items.new.items ≡ undo (λ r. r.value) replaced.items items.old.items }
-    ensures slots { slots.new.items ≡ undo (λ r. r.slot) replaced.items slots.old.items }
-    ensures items_kept { vec_capacity items.new ≡ vec_capacity items.old }
-    ensures slots_kept { vec_capacity slots.new ≡ vec_capacity slots.old }
+fn give_back<T: Drop>(mut replaced: Vec<Replaced<T>>, list: &mut Slotted<T>)
+    requires places { All (λ r. r.at < length list.old.items.items) replaced.items }
+    requires lengths { AreSlotted list.old }
+    ensures items { list.new.items.items ≡ undo (λ r. r.value) replaced.items list.old.items.items }
+    ensures slots { list.new.slots.items ≡ undo (λ r. r.slot) replaced.items list.old.slots.items }
+    ensures room { KeepsRoom list.old list.new }
 {
     while let Some(last) = replaced.pop() {
-        slots[last.at] = last.slot;
-        items[last.at] = last.value;
+        list.slots[last.at] = last.slot;
+        list.items[last.at] = last.value;
     }
 }

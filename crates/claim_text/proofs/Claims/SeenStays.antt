@@ -7,11 +7,12 @@ use Rattle.std.specs.Option.{is_some}
 use mathlib.Core.Bool.{not}
 use Rattle.std.proofs.lemmas.Bool.Decides.{nat_tests}
 use Rattle.std.specs.Ordering.{nat_cmp}
-use Rattle.std.specs.BTreeMap.{Updates, is_at, get}
+use Rattle.std.specs.BTreeMap.{Updates, get}
 use Rattle.std.proofs.lemmas.Bool.{cases_eq}
 use Rattle.std.proofs.lemmas.List.{take_more, length-map, get_or-map, get_or_default, map-append}
 use Rattle.std.proofs.lemmas.List.Elements.{All-push, All-weaker}
 use Rattle.frac_core.specs.Fraction.{Fraction}
+use Rattle.frac_core.proofs.Orders.{not-at}
 use Rattle.problem_core.specs.declared.parts.RowName.{RowName}
 use Rattle.problem_core.specs.declared.parts.RowName.TheVariants.{Held, Stay as StayRow}
 use Rattle.problem_core.specs.declared.parts.Level.{Level}
@@ -37,9 +38,6 @@ use Rattle.frac_core.proofs.Lists.{all-front as All-front}
 
 -- ---- keys
 
-apart : (x q : ℕ) → (x ≡ q → ⊥) → is_at (nat_cmp x) q ≡ false
-apart x q n = grind (arith, nat_tests)
-
 kept : {A : Type 0} (P : A → ℕ → Type 0) (xs : List A) (x : A) (q : ℕ) (o : Option ℕ) → P x q → MatchOption o (All (λ x. P x q) xs) (λ _. All (λ x. P x q) xs → ⊥) → MatchOption o (All (λ x. P x q) (xs ++ x ∷ [])) (λ _. All (λ x. P x q) (xs ++ x ∷ []) → ⊥)
 kept P xs x q None p all = All-push (λ x. P x q) xs x all p
 kept P xs x q (Some k) p none = λ all. none (All-front (λ x. P x q) xs (x ∷ []) all)
@@ -55,7 +53,7 @@ key_push P m n xs x attr v u never may keys q =
           subst (λ (o : Option ℕ). MatchOption o (All (λ x. P x q) (xs ++ x ∷ [])) (λ _. All (λ x. P x q) (xs ++ x ∷ []) → ⊥)) (sym found)
           (λ all. never (subst (P x) (sym e) (All-at_end (λ x. P x q) xs x all)))
       | inr e ↦
-          subst (λ (o : Option ℕ). MatchOption o (All (λ x. P x q) (xs ++ x ∷ [])) (λ _. All (λ x. P x q) (xs ++ x ∷ []) → ⊥)) (sym (u.2 q (apart attr q e)))
+          subst (λ (o : Option ℕ). MatchOption o (All (λ x. P x q) (xs ++ x ∷ [])) (λ _. All (λ x. P x q) (xs ++ x ∷ []) → ⊥)) (sym (u.2 q (not-at attr q e)))
           (kept P xs x q (get nat_cmp m q) (may q e) (keys q))
     ]
 

@@ -13,8 +13,8 @@ ghost use Rattle.constraint_compile.specs.Coefficients.Sums.{number_at};
 ghost use Rattle.constraint_compile.specs.Coefficients.Sums.{with_share_number};
 
 use crate::attributes::{Doubled, Share};
-use crate::wide::{product, quotient, total};
-use frac_core::{Frac, OutOfMemory, gcd};
+use crate::wide::{product, total};
+use frac_core::{Frac, OutOfMemory, gcd, quotient};
 use problem_core::{COEFFICIENT_LIMIT, Term};
 use std::alloc::Global;
 

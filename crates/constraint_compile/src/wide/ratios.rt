@@ -9,8 +9,7 @@ ghost use Rattle.constraint_compile.specs.declared.limits.TheConstants.{CONSTANT
 ghost use Rattle.constraint_compile.specs.declared.wide.ratios.TheConstants.{PRODUCT_BOUND};
 
 use crate::limits::CONSTANT_LIMIT;
-use crate::wide::quotient;
-use frac_core::{Frac, gcd};
+use frac_core::{Frac, gcd, quotient};
 
 /// What the products of a sum are below in size.
 pub(crate) const PRODUCT_BOUND: u128 = 1 << 112;

@@ -2,15 +2,13 @@
 use Rattle.std.proofs.Common.{◌≡◌, ◌∙◌, sym, ap, subst, arith, ℤ, pos, negsuc, neg_ℤ, ◌*ℤ◌}
 use borrow.Author.Differences.{ints}
 use Rattle.frac_core.specs.Fraction.{Fraction, Fits, IsKept, IsLowest, IsRatio, IsUnfitRatio, sum_den, sum_num}
+use Rattle.frac_core.proofs.Integers.{minus-one}
 use Rattle.frac_core.proofs.Made.{same_fraction}
 use Rattle.problem_core.specs.declared.parts.Side.TheVariants.{Under}
 use Rattle.problem_core.specs.Window.{zero_fraction}
 use Rattle.corner.specs.Swaps.Exchanges.{opposite}
 use Rattle.corner.proofs.Basics.SumTurns.{turn, turn-fits, turn-lowest}
 use Rattle.corner.proofs.Corners.NewTables.{zero_is as is-zero}
-
-minus-one : (z : ℤ) → negsuc 0 *ℤ z ≡ neg_ℤ z
-minus-one z = omega (arith, ints)
 
 opposite-turn : (f : Fraction) → turn Under f ≡ opposite f
 opposite-turn f = ap (λ (z : ℤ). (record { num = z; den = f.den })) (minus-one f.num)

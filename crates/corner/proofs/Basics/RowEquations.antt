@@ -2,7 +2,7 @@
 use Rattle.std.proofs.Common.{◌≡◌, ◌≢◌, ◌∙◌, ℕ, zero, suc, ◌+◌, ◌*◌, ◌<◌, ◌≤◌, Bool, true, false, cond, nat_eq, length, get_or, List, [], ◌∷◌, refl, sym, ap, subst, arith, inl, inr, ℤ, pos, negsuc, neg_ℤ, ◌*ℤ◌, ◌<ℤ◌, unsigned_abs, All, Any, ne_eqb}
 use Rattle.std.specs.Int.{◌∣◌}
 use Rattle.std.proofs.lemmas.Bool.Decides.{nat_tests}
-use Rattle.std.proofs.lemmas.Bool.{cases_lt, cases_order}
+use Rattle.std.proofs.lemmas.Bool.{cases_Bool, cases_lt, cases_order}
 use Rattle.std.proofs.lemmas.List.{get_or_past}
 use Rattle.std.proofs.lemmas.List.Elements.{All-cons, All-nil}
 use Rattle.std.proofs.lemmas.List.Kept.{AllPairs-cons}
@@ -26,7 +26,6 @@ use Rattle.corner.specs.Tables.{Lists, line_slot, problem_of, slot_at}
 use Rattle.corner.specs.Kept.{AreSlots, IsLineSlot, IsOwned, IsSlot}
 use Rattle.corner.specs.Swaps.Exchanges.{row_number}
 use Rattle.corner.proofs.Readings.SlotFacts.{any_is}
-use Rattle.row_core.proofs.Walks.{either}
 use Rattle.frac_core.proofs.Quotients.{size_opposite}
 use Rattle.frac_core.proofs.Numbers.{signed-not-zero as nonzero-signed, mul-neg}
 use Rattle.frac_core.proofs.Bools.{nat_eq-self as refl_eqb}
@@ -80,7 +79,7 @@ some-whole g z w above e some none = some (zero_from_mul g z above (e ∙ none))
 pub line-columns : (t : Lists) (w : ℕ) (whole : ℕ → ℤ) (own : ℕ) (by : RowName → ℤ) (row : List Term) (k low : ℕ) → AreTermsOf t w whole own by → (red : IsReduced row whole)
     → coefficient w row ≡ pos low → k ∣ low → All (λ l. k ∣ unsigned_abs (row_number t w row l.name)) (lines (problem_of t)) → (c : ℕ) → coefficient c row ≢ pos 0 → k ∣ unsigned_abs (coefficient c row)
 line-columns t w whole own by row k low are red low_is divides each c some =
-    elim (either (nat_eq c w)) [
+    elim (cases_Bool (nat_eq c w)) [
       | inl same ↦
           let e : c ≡ w = grind (arith, nat_tests) in
           subst (λ n. k ∣ n) (sym (ap (λ d. unsigned_abs (coefficient d row)) e ∙ ap unsigned_abs low_is)) divides
@@ -241,7 +240,7 @@ owner-same t w whole own by low part c (LineSlot name) slots are red ne e =
 slot-same : (t : Lists) (w : ℕ) (whole : ℕ → ℤ) (own : ℕ) (by : RowName → ℤ) (low : ℕ) (part : RowName → ℤ) (c : ℕ) → AreSlots t → AreTermsOf t w whole own by → (red : AreReduced (lines (problem_of t)) own by low part)
     → pos red.factor *ℤ slot-part t w low part c ≡ whole c
 slot-same t w whole own by low part c slots are red =
-    elim (either (nat_eq c w)) [
+    elim (cases_Bool (nat_eq c w)) [
       | inl same ↦
           let e : c ≡ w = grind (arith, nat_tests) in
           ap (λ b. pos red.factor *ℤ cond b (pos low) (owner-part part (slot_at t c).owner)) same ∙ ap pos red.own_same ∙ sym are.own_is ∙ ap whole (sym e)
@@ -271,7 +270,7 @@ owner-fits t part c (LineSlot name) slots fits e =
 
 slot-fits : (t : Lists) (w low : ℕ) (part : RowName → ℤ) (c : ℕ) → AreSlots t → IsFitting (pos low) → All (λ l. IsFitting (part l.name)) (lines (problem_of t)) → IsFitting (slot-part t w low part c)
 slot-fits t w low part c slots own fits =
-    elim (either (nat_eq c w)) [
+    elim (cases_Bool (nat_eq c w)) [
       | inl same ↦ subst (λ (b : Bool). IsFitting (cond b (pos low) (owner-part part (slot_at t c).owner))) (sym same) own
       | inr other ↦ subst (λ (b : Bool). IsFitting (cond b (pos low) (owner-part part (slot_at t c).owner))) (sym other) (owner-fits t part c (slot_at t c).owner slots fits refl)
     ]
@@ -280,7 +279,7 @@ part-divides : (t : Lists) (w : ℕ) (whole : ℕ → ℤ) (own : ℕ) (by : Row
     → pos red.factor *ℤ part l.name ≡ by l.name → by l.name ≡ cond (nat_eq (line_slot t l.name) w) (pos 0) (neg_ℤ (whole (line_slot t l.name)))
     → d ∣ unsigned_abs (slot-part t w low part (line_slot t l.name)) → d ∣ unsigned_abs (part l.name)
 part-divides t w whole own by low part d l slot red same is divides =
-    elim (either (nat_eq (line_slot t l.name) w)) [
+    elim (cases_Bool (nat_eq (line_slot t l.name) w)) [
       | inl here ↦
           let none : part l.name ≡ pos 0 = zero_from_mul red.factor (part l.name) red.factor_positive (same ∙ is ∙ ap (λ b. cond b (pos 0) (neg_ℤ (whole (line_slot t l.name)))) here) in
           subst (λ (z : ℤ). d ∣ unsigned_abs z) (sym none) (dvd-zero d)

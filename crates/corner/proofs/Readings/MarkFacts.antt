@@ -1,5 +1,6 @@
 -- The marks of a corner's lists.
 use Rattle.std.proofs.Common.{◌≡◌, ℕ, zero, suc, Bool, true, false, cond, List, [], ◌∷◌, filter, refl, sym, ap₂, subst, arith, inl, inr}
+use Rattle.std.proofs.lemmas.Bool.{cases_Bool}
 use Rattle.problem_core.specs.declared.parts.Mark.{Mark}
 use Rattle.problem_core.specs.declared.parts.RowName.{RowName}
 use Rattle.problem_core.specs.declared.parts.RowName.TheVariants.{Held, Stay as StayOf}
@@ -10,7 +11,6 @@ use Rattle.problem_core.specs.Corners.{IsIn, marks_of, place, place_of}
 use Rattle.corner_lines.proofs.Lines.MarkForms.{same-name}
 use Rattle.corner.specs.Views.{IsMarkOf}
 use Rattle.corner.specs.Tables.{Lists, marks_at, problem_of, stands_in}
-use Rattle.row_core.proofs.Walks.{either}
 use Rattle.frac_core.proofs.Bools.{not-both as not_both}
 
 abbrev holds_if : Bool → Type 0
@@ -19,7 +19,7 @@ holds_if false = ⊥
 
 keep : (p : Mark → Bool) (m : Mark) (ms : List Mark) (P : List Mark → Type 0) → (p m ≡ true → P (m ∷ filter p ms)) → (p m ≡ false → P (filter p ms)) → P (filter p (m ∷ ms))
 keep p m ms P passed other =
-    elim (either (p m)) [
+    elim (cases_Bool (p m)) [
       | inl e ↦ subst (λ (b : Bool). P (cond b (m ∷ filter p ms) (filter p ms))) (sym e) (passed e)
       | inr e ↦ subst (λ (b : Bool). P (cond b (m ∷ filter p ms) (filter p ms))) (sym e) (other e)
     ]

@@ -1,5 +1,6 @@
 -- What the lists keep where the stays have moved to the attributes' values.
 use Rattle.std.proofs.Common.{◌≡◌, ◌∙◌, ℕ, ◌+◌, ◌^◌, ◌*◌, ◌<◌, List, filter, length, refl, sym, ap, subst, arith, inl, inr, ℤ, pos, ◌+ℤ◌, ◌*ℤ◌, ◌-ℤ◌, neg_ℤ, slice_index_or, unsigned_abs, All, Some, None}
+use Rattle.std.proofs.lemmas.Bool.{cases_Bool}
 use Rattle.std.specs.declared.option.Option.{Option}
 use Rattle.std.specs.Int.{◌∣◌}
 use Rattle.std.proofs.lemmas.List.{get_or_default}
@@ -47,7 +48,6 @@ use Rattle.corner.proofs.Readings.SlotFacts.{any_is, named_stay}
 use Rattle.corner.proofs.Stays.StoodLevels.{cost_stood}
 use Rattle.corner.proofs.Stays.StoodLines.{AreSeenAlike, any_seen, each_seen, lines_alike, map_same, marks_seen, stay_line, sum_seen}
 use Rattle.corner.proofs.Stays.StoodLists.{held_no_stay, level_no_stay, no_first_attr}
-use Rattle.row_core.proofs.Walks.{either}
 use Rattle.frac_core.proofs.Numbers.{as-natural as above-zero}
 use Rattle.frac_core.proofs.Bools.{not-both as not_both}
 
@@ -139,7 +139,7 @@ first_slots n t stays standings slots h = record {
 
 -- a mark whose line is at 0
 mark_rests : (t : Lists) (m : Mark) (kept : IsKept t) → IsMarkOf (problem_of t) m → (standing_at t (line_slot t m.row)).value.num ≡ pos 0 → kept.corner.point.num (place m) ≡ pos 0
-mark_rests t m kept is none = elim (either (stands_in t m)) [
+mark_rests t m kept is none = elim (cases_Bool (stands_in t m)) [
   | inl e ↦
       let (y, stands, value) = value_inside t m kept is e in
       let f : Fraction = (standing_at t (line_slot t m.row)).value in

@@ -12,7 +12,8 @@ use Rattle.problem_core.specs.Layout.{Problem, coefficient, lines, value_at}
 use Rattle.problem_core.specs.Corners.{IsCorner, IsIn, Point, StandsAt, equation, marks_of, one_column, place}
 use Rattle.problem_core.specs.Rays.{HasRays, IsRay}
 use Rattle.problem_core.proofs.Corners.CornerFacts.{is_place}
-use Rattle.problem_core.proofs.Forms.{coefficient-times, each-impl, each-both, sum-append, times, value-times}
+use Rattle.frac_core.proofs.Sums.{sum-append}
+use Rattle.problem_core.proofs.Forms.{coefficient-times, each-impl, each-both, times, value-times}
 use Rattle.corner_laws.specs.Equations.{IsEquationOf}
 use Rattle.corner_laws.specs.Laws.{IsFixedAt, IsLinear, IsMarkAt}
 use Rattle.corner_laws.proofs.Counting.{IsIn-from_is_place}

@@ -19,7 +19,8 @@ use Rattle.problem_core.specs.Kept.{IsWhole}
 use Rattle.problem_core.specs.Corners.{IsCorner, IsIn, one_column, place_of}
 use Rattle.problem_core.specs.Unfit.{HasNoWriting, IsWritingOf}
 use Rattle.problem_core.specs.Rays.{HasRays}
-use Rattle.problem_core.proofs.Forms.{each-impl, each-both, sum-append, times, coefficient-times, value-times, mul-sum}
+use Rattle.frac_core.proofs.Sums.{sum-append}
+use Rattle.problem_core.proofs.Forms.{each-impl, each-both, times, coefficient-times, value-times, mul-sum}
 use Rattle.problem_core.proofs.Lowest.{lowest-dvd}
 use Rattle.corner_laws.specs.Equations.{IsEquationOf}
 use Rattle.corner_laws.proofs.MarkWritings.Directions.{writing_is_row, each-of}

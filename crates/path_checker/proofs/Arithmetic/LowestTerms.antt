@@ -12,6 +12,7 @@ use Rattle.std.proofs.Math.Nat.{eq-zero_of_zero-dvd, dvd-mul_right, mul-dvd-mul_
 use Rattle.frac_core.specs.Fraction.{IsFitting}
 use Rattle.frac_core.specs.declared.frac.TheConstants.{PART_BOUND}
 use Rattle.path_checker.specs.Numbers.{AreLowest, AreUnfit, DividesAll, HasTooLarge, IsCommonDivisor, IsFactor, IsSmallProduct, number_at}
+use Rattle.frac_core.proofs.Numbers.{divisor-above}
 use Rattle.frac_core.proofs.Products.{most_product}
 use Rattle.frac_core.proofs.Quotients.{positive_is, above_bound}
 
@@ -24,10 +25,6 @@ pub record IsDivisorSoFar (own : ℤ) (by : List ℤ) (divisor : ℕ) : Type 0 w
   pub greatest : (k : ℕ) → DividesAll k own by → k ∣ divisor
   pub small : divisor < 2 ^ 127
 
-above_of_dvd : (d n : ℕ) → d ∣ n → 0 < n → 0 < d
-above_of_dvd zero n h some = let none : n ≡ 0 = eq-zero_of_zero-dvd h in absurd (omega (arith, none, some))
-above_of_dvd (suc d) n h some = omega arith
-
 first_of_more : (P : ℤ → Type 0) (by : List ℤ) (i : ℕ) (d : ℤ) → i < length by → All P (take (i + 1) by) → All P (take i by) × P (get_or by i d)
 first_of_more P by i d within all = (
   λ k e less.
@@ -39,7 +36,7 @@ first_of_more P by i d within all = (
 pub divisor_more : (own : ℤ) (by : List ℤ) (i : ℕ) (e : ℤ) (old new : ℕ) → i < length by → IsDivisorSoFar own (take i by) old → IsGcd (unsigned_abs (get_or by i e)) old new
     → IsDivisorSoFar own (take (i + 1) by) new
 divisor_more own by i e old new within is gcd = record {
-  above = above_of_dvd new old gcd.1 is.above;
+  above = divisor-above new old is.above gcd.1;
   divides = (
     dvd_trans new gcd.1 is.divides.0,
     All-more (λ z. new ∣ unsigned_abs z) by i e within (All-weaker (λ z. old ∣ unsigned_abs z) (λ z. new ∣ unsigned_abs z) (λ z h. dvd_trans new gcd.1 h) (take i by) is.divides.1) gcd.0,

@@ -1,7 +1,7 @@
 -- A level's row and a pivot put together are a multiple of the level's row at the next corner.
 use Rattle.std.proofs.Common.{◌≡◌, ◌≢◌, ◌∙◌, ℕ, ◌<◌, Bool, true, false, cond, List, length, get_or, ℤ, pos, ◌+ℤ◌, ◌-ℤ◌, ◌*ℤ◌, ◌<ℤ◌, neg_ℤ, unsigned_abs, refl, sym, ap, ap₂, subst, arith, inl, inr, ◌⊎◌}
 use Rattle.std.specs.List.{AllByRecursion as Each}
-use Rattle.std.proofs.lemmas.Bool.{cases_eq}
+use Rattle.std.proofs.lemmas.Bool.{cases_Bool, cases_eq}
 use Rattle.std.proofs.lemmas.Int.{ints, unsigned_abs-mul}
 use Rattle.std.proofs.lemmas.List.Elements.{All-from_recursion, recursion_from_All}
 use lib.IntN.{*ℤ_comm}
@@ -117,14 +117,10 @@ before_turn f pivot place sum e = ap (λ (b : Bool). cond b (stood_of f pivot.st
 pub before_other : (f : LineFacts) (pivot : Pivot) (place : ℕ) (sum : LevelSum) → pivot.is_turn ≡ false → before_of f pivot place sum ≡ in_list sum.by.items pivot.step.enter.at
 before_other f pivot place sum e = ap (λ (b : Bool). cond b (stood_of f pivot.step.leave.side place sum) (in_list sum.by.items pivot.step.enter.at)) e
 
-pub bool_cases : (b : Bool) → (b ≡ true) ⊎ (b ≡ false)
-bool_cases true = inl refl
-bool_cases false = inr refl
-
 pub before_is : (p : Problem) (at : List Mark) (outline : Outline) (place : ℕ) (sum : LevelSum) (pivot : Pivot) (f : LineFacts) (d : LevelFacts) → IsOutline p outline → (is : IsLevelSum p at (number_at outline.levels.items place) sum) → place < length outline.levels.items
     → IsExchangePivot p at pivot → f ≡ get_or outline.lines.items pivot.step.enter.at f → is.there.row.by (name_at p pivot.step.enter.at) ≡ before_of f pivot place sum
 before_is p at outline place sum pivot f d outline_is is within turn f_is =
-    elim (bool_cases pivot.is_turn) [
+    elim (cases_Bool pivot.is_turn) [
       | inl yes_turn ↦
           let one : pivot.step.enter.at ≡ pivot.step.leave.at = turn.sized.turn yes_turn in
           stood_there p at outline place sum pivot.step.enter.at pivot.step.leave.side f d outline_is is within turn.sized.enter_at f_is (subst (λ (j : ℕ). IsIn (place_of (name_at p j) pivot.step.leave.side) at) (sym one) turn.exchange.leaves)

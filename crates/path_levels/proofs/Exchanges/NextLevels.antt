@@ -1,7 +1,7 @@
 -- The row of a level at the next corner, or its cost does not fit there.
 use Rattle.std.proofs.Common.{◌≡◌, ◌≢◌, ◌∙◌, ℕ, zero, suc, ◌*◌, ◌<◌, true, false, List, map, length, get_or, ℤ, pos, negsuc, ◌-ℤ◌, ◌*ℤ◌, ◌<ℤ◌, unsigned_abs, refl, sym, ap, ap₂, subst, subst₂, arith, inl, inr, All, ◌⊎◌, Option}
 use Rattle.std.specs.Int.{◌∣◌}
-use Rattle.std.proofs.lemmas.Bool.{cases_eq}
+use Rattle.std.proofs.lemmas.Bool.{cases_Bool, cases_eq}
 use Rattle.std.proofs.lemmas.Int.{ints, unsigned_abs-mul}
 use Rattle.std.proofs.lemmas.List.Elements.{All-from_recursion, All-map, recursion_from_All}
 use Rattle.std.proofs.lemmas.Nat.Gcd.{dvd-zero}
@@ -43,7 +43,7 @@ use Rattle.path_levels.specs.Exchanges.Pivots.{IsExchangePivot, IsMultipleAt, Is
 use Rattle.path_levels.proofs.Exchanges.CostFacts.{cost_step, entered, entered_is, unfit_step}
 use Rattle.path_levels.proofs.Exchanges.FitFacts.{fit_level, fitting_row, next_is_there}
 use Rattle.path_levels.proofs.Counting.LineShares.{facts_count, stood_line}
-use Rattle.path_levels.proofs.Exchanges.MultipleFacts.{any_level, before_other, before_turn, bool_cases, enter_out, some_number}
+use Rattle.path_levels.proofs.Exchanges.MultipleFacts.{any_level, before_other, before_turn, enter_out, some_number}
 use Rattle.path_checker.proofs.Arithmetic.Unfits.{same_list}
 use Rattle.frac_core.proofs.Numbers.{pos-size as up, product-up as positive_product}
 use Rattle.frac_core.proofs.Lists.{each-from_map as unmapped}
@@ -214,7 +214,7 @@ scale_above p at level sum is = positive_product sum.own sum.unit is.sized.own_a
 pub number_fits : (p : Problem) (at : List Mark) (outline : Outline) (place : ℕ) (sum : LevelSum) (pivot : Pivot) (f : LineFacts) → place < length outline.levels.items → f ≡ get_or outline.lines.items pivot.step.enter.at f → IsOutline p outline → IsExchangePivot p at pivot
     → IsLevelSum p at (number_at outline.levels.items place) sum → IsFitting (entering_of f pivot place sum)
 number_fits p at outline place sum pivot f within f_is outline_is turn is =
-    elim (bool_cases pivot.is_turn) [
+    elim (cases_Bool pivot.is_turn) [
       | inl one ↦
           turning_number_fits p at (swap_of p pivot.step) (number_at outline.levels.items place) (unsigned_abs sum.unit) (unsigned_abs sum.own) (numbers_of (lines p) sum.by.items) (entering_of f pivot place sum) turn.exchange is.fitting
           (ap (name_at p) (turn.sized.turn one)) (turning_is p at outline place sum pivot f within f_is outline_is turn one)
@@ -228,7 +228,7 @@ pub next_cost : (p : Problem) (at : List Mark) (outline : Outline) (place : ℕ)
 next_cost p at outline place sum pivot f cost within f_is outline_is turn is moved =
     let there = turn.deviation_is (entered pivot) (entered_is pivot turn.sized.above turn.value_den) in
     let step = cost_step (entering_of f pivot place sum) pivot sum cost turn.sized.above (scale_above p at (number_at outline.levels.items place) sum is) is.there.lowest.above turn.value_den moved.ratio in
-    elim (bool_cases pivot.is_turn) [
+    elim (cases_Bool pivot.is_turn) [
       | inl one ↦
           turned_cost_is_cost p at (swap_of p pivot.step) (number_at outline.levels.items place) (unsigned_abs sum.unit) (unsigned_abs sum.own) (unsigned_abs pivot.size) (numbers_of (lines p) sum.by.items) (numbers_of (lines p) pivot.by.items) (entering_of f pivot place sum)
           sum.cost (entered pivot) cost (exchange_is p at (number_at outline.levels.items place) sum pivot turn is) is.there.unit_is (ap (name_at p) (turn.sized.turn one)) (turning_is p at outline place sum pivot f within f_is outline_is turn one) is.there.cost_is there step
@@ -242,7 +242,7 @@ pub unfit_cost : (p : Problem) (at : List Mark) (outline : Outline) (place : ℕ
 unfit_cost p at outline place sum pivot f within f_is outline_is turn is unfit =
     let there = turn.deviation_is (entered pivot) (entered_is pivot turn.sized.above turn.value_den) in
     let step = unfit_step (entering_of f pivot place sum) pivot sum turn.sized.above (scale_above p at (number_at outline.levels.items place) sum is) (unfit (number_fits p at outline place sum pivot f within f_is outline_is turn is)) in
-    elim (bool_cases pivot.is_turn) [
+    elim (cases_Bool pivot.is_turn) [
       | inl one ↦
           unfit_turned_cost p at (swap_of p pivot.step) (number_at outline.levels.items place) (unsigned_abs sum.unit) (unsigned_abs sum.own) (unsigned_abs pivot.size) (numbers_of (lines p) sum.by.items) (numbers_of (lines p) pivot.by.items) (entering_of f pivot place sum)
           sum.cost (entered pivot) (exchange_is p at (number_at outline.levels.items place) sum pivot turn is) is.there.unit_is (ap (name_at p) (turn.sized.turn one)) (turning_is p at outline place sum pivot f within f_is outline_is turn one) is.there.cost_is there step

@@ -11,7 +11,8 @@ use Rattle.problem_core.specs.declared.parts.RowName.TheVariants.{Held}
 use Rattle.problem_core.specs.Layout.{Row, Line, Problem, IsProblem, lines, line_of_row, stay_lines, coefficient, common, share, sum_of, product_of}
 use Rattle.problem_core.specs.Certificates.{Multipliers, IsRefutation, HasSign, required, under, over, under_weight, over_weight, weight_at, constant}
 use Rattle.frac_core.proofs.Integers.{zero-mul_ℤ, zero-add_ℤ, add-zero_ℤ, mul_positive, positive_from, shift_factor}
-use Rattle.problem_core.proofs.Forms.{sum-append, mul-sum, each-map, each-filter, each-impl, each-both, product-shares, product-positive}
+use Rattle.frac_core.proofs.Sums.{sum-append}
+use Rattle.problem_core.proofs.Forms.{mul-sum, each-map, each-filter, each-impl, each-both, product-shares, product-positive}
 use Rattle.problem_core.proofs.Best.Duality.{shares}
 use Rattle.frac_core.proofs.Lists.{each-right}
 

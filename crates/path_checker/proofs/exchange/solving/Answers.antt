@@ -3,6 +3,7 @@ use borrow.Author.Differences.{ints}
 use Rattle.std.proofs.Common.{arith}
 use Rattle.std.specs.Int.{w64}
 use Rattle.std.proofs.lemmas.Int.{to_z-of_z}
+use Rattle.frac_core.proofs.Integers.{minus-one}
 use Rattle.frac_core.specs.Fraction.{IsFitting}
 use Rattle.path_checker.specs.Numbers.{IsReplaced, flip_sign, number_at}
 use Rattle.path_checker.proofs.exchange.solving.Goals as goal
@@ -13,9 +14,6 @@ some_above z ne up = omega (arith, ints, ne, up)
 size_up : (b : Bool) (z : ℤ) → (b ≡ true → z <ℤ pos 0) → (b ≡ false → pos 0 ≤ℤ z) → z ≢ pos 0 → pos 0 <ℤ (flip_sign b *ℤ z)
 size_up true z below above ne = let h : z <ℤ pos 0 = below refl in omega (arith, ints, h)
 size_up false z below above ne = let h : pos 0 <ℤ z = some_above z ne (above refl) in omega (arith, ints, h)
-
-times_turned : (z : ℤ) → negsuc 0 *ℤ z ≡ neg_ℤ z
-times_turned z = omega (arith, ints)
 
 pub returns : goal.returns
 returns c =
@@ -45,7 +43,7 @@ returns c =
       is_below = c.is_negative-is_below.result;
       size_is = size_same ∙ size_value ∙ ap (λ (z : ℤ). flip_sign c.is_negative-is_below.result *ℤ z) number_is;
       value_is = c.pivot_with.ensures.value;
-      times_is = times_same ∙ times_value ∙ times_turned c.turned-own.result ∙ ap neg_ℤ own_value;
+      times_is = times_same ∙ times_value ∙ minus-one c.turned-own.result ∙ ap neg_ℤ own_value;
       by_is = subst (λ (zs : List ℤ). IsReplaced (flip_sign (not c.is_negative-is_below.result)) c.args.leaving.now.by.items c.args.step.leave.at (flip_sign c.is_negative-is_below.result *ℤ c.args.leaving.now.own) zs) (sym c.pivot_with.ensures.by)
           (subst (λ (z : ℤ). IsReplaced (flip_sign (not c.is_negative-is_below.result)) c.args.leaving.now.by.items c.args.step.leave.at z c.in_ok-by.by.items) own_value
           (subst (λ (zs : List ℤ). IsReplaced (flip_sign (not c.is_negative-is_below.result)) zs c.args.step.leave.at c.turned-own.result c.in_ok-by.by.items) items replaced));

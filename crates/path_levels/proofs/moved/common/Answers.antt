@@ -1,18 +1,14 @@
-use Rattle.std.proofs.Common.{◌≡◌, ◌<◌, ◌≤◌, ◌^◌, ◌<ℤ◌, ℕ, ℤ, zero, suc, pos, unsigned_abs, sym, subst, subst₂, SFits, rules, arith}
+use Rattle.std.proofs.Common.{◌≡◌, ◌<◌, ◌≤◌, ◌^◌, ◌<ℤ◌, ℕ, ℤ, pos, unsigned_abs, sym, subst, subst₂, SFits, rules, arith}
 use Rattle.std.specs.Int.{w128, IsGcd, ◌∣◌}
 use borrow.Author.Differences.{ints}
 use Rattle.std.proofs.lemmas.Int.{to_z-of_z, fits_signed_from_abs, to_z_pos}
 use Rattle.std.proofs.lemmas.Nat.Gcd.{le_of_dvd}
-use Rattle.std.proofs.Math.Nat.{eq-zero_of_zero-dvd}
+use Rattle.frac_core.proofs.Numbers.{divisor-above}
 use Rattle.path_levels.proofs.moved.common.Goals as goal
 use Rattle.frac_core.proofs.Divisors.{size_above as some_up}
 
-above_of_dvd : (d n : ℕ) → d ∣ n → 0 < n → 0 < d
-above_of_dvd zero n h some = let none : n ≡ 0 = eq-zero_of_zero-dvd h in absurd (omega (arith, none, some))
-above_of_dvd (suc d) n h some = omega arith
-
 size_of : (m n g : ℕ) → IsGcd m n g → 0 < n → n < 2 ^ 127 → (0 < g) × (g < 2 ^ 127)
-size_of m n g is some less = (above_of_dvd g n is.1 some, let le : g ≤ n = le_of_dvd some is.1 in omega (arith, le, less))
+size_of m n g is some less = (divisor-above g n some is.1, let le : g ≤ n = le_of_dvd some is.1 in omega (arith, le, less))
 
 -- the divisor, which is above 0 and has 127 bits
 made : (c : goal.After-gcd) → IsGcd (unsigned_abs c.args.number) (unsigned_abs c.args.whole) c.gcd.result × (0 < c.gcd.result) × (c.gcd.result < 2 ^ 127)

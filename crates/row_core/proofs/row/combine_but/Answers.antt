@@ -1,5 +1,4 @@
-use Rattle.std.proofs.Common.{◌≡◌, ◌∙◌, ℕ, List, ap₂}
-use Rattle.row_core.specs.Rows.{Term}
+use Rattle.std.proofs.Common.{◌≡◌, ◌∙◌, ℕ}
 use Rattle.row_core.specs.Combinations.{combination_but}
 use Rattle.row_core.specs.Walks.{whole}
 use Rattle.row_core.proofs.Lowest.{unfit_same}
@@ -8,13 +7,12 @@ use Rattle.row_core.proofs.row.combine_but.Goals.{After-combined}
 use Rattle.row_core.proofs.row.combine_but.Goals as goal
 use Rattle.frac_core.proofs.Results.{err_implies}
 
-same : (c : After-combined) (q : ℕ) → whole c.patched.result c.deref.result.now c.deref-2.result.now q ≡ combination_but c.args.by c.args.r.now c.args.p.now c.args.but q
+same : (c : After-combined) (q : ℕ) → whole c.patched.result q ≡ combination_but c.args.by c.args.r.now c.args.p.now c.args.but q
 same c q =
-    let left : c.deref.result.now ≡ c.args.r.now = c.deref.ensures.value ∙ c.r.view_is in
-    let right : c.deref-2.result.now ≡ c.args.p.now = c.deref-2.ensures.value ∙ c.p.view_is in
-    patched_is c.patched.result c.deref.result.now c.deref-2.result.now c.args.by c.args.but c.patched.ensures.k c.patched.ensures.n c.patched.ensures.leaves c.patched.ensures.without
+    let left : c.patched.result.r.now ≡ c.args.r.now = c.patched.ensures.r ∙ c.deref.ensures.value ∙ c.r.view_is in
+    let right : c.patched.result.p.now ≡ c.args.p.now = c.patched.ensures.p ∙ c.deref-2.ensures.value ∙ c.p.view_is in
+    patched_is c.patched.result c.args.r.now c.args.p.now c.args.by c.args.but left right c.patched.ensures.k c.patched.ensures.n c.patched.ensures.leaves c.patched.ensures.without
     c.patched.ensures.at c.patched.ensures.extra q
-    ∙ ap₂ (λ (r p : List Term). combination_but c.args.by r p c.args.but q) left right
 
 pub returns-clause-unfit : goal.returns-clause-unfit
 returns-clause-unfit c = err_implies c.combined.result _ _ (λ stop unfit is. unfit_same _ _ (same c) (unfit is)) c.combined.ensures.unfit

@@ -7,7 +7,7 @@ pub returns-else-is_empty-clause-before : goal.returns-else-is_empty-clause-befo
 returns-else-is_empty-clause-before g c =
     let few : length c.args.self.now.before ≤ 33 =
     rw (← c.self.view_is)
-    (omega (arith, length-versions c.self.inside.items.items c.self.inside.logs.items, c.self.invariant.few))
+    (omega (arith, length-versions c.self.inside.list.items.items c.self.inside.logs.items, c.self.invariant.few))
     in
     c.mark.ensures.before
     ∙ ap (λ vs. take 33 vs) (sym c.back.ensures.version)

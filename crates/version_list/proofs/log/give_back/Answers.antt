@@ -6,14 +6,13 @@ use Rattle.version_list.proofs.log.give_back.Goals as goal
 pub loop-last-preserved : goal.loop-last-preserved
 loop-last-preserved g c = record {
   items =
-      sym (undo_push (λ r. r.value) c.pop.new.self.items c.in-Some.last c.loop-last.items.items)
+      sym (undo_push (λ r. r.value) c.pop.new.self.items c.in-Some.last c.loop-last.list.items.items)
       ∙ (rw c.in-Some.ensures.items at c.loop-last.invariant.items);
   slots =
-      sym (undo_push (λ r. r.slot) c.pop.new.self.items c.in-Some.last c.loop-last.slots.items)
+      sym (undo_push (λ r. r.slot) c.pop.new.self.items c.in-Some.last c.loop-last.list.slots.items)
       ∙ (rw c.in-Some.ensures.items at c.loop-last.invariant.slots);
   items_len = search rules;
   slots_len = search rules;
-  items_room = search rules;
-  slots_room = search rules;
-  places = (All-pop (λ r. r.at < length c.args.items.now.items) _ _ (Some c.in-Some.last) c.in-Some.ensures.items c.loop-last.invariant.places).0;
+  room = search rules;
+  places = (All-pop (λ r. r.at < length c.args.list.now.items.items) _ _ (Some c.in-Some.last) c.in-Some.ensures.items c.loop-last.invariant.places).0;
 }

@@ -1,17 +1,16 @@
-use Rattle.std.proofs.Common.{◌≡◌, ◌<◌, length, vec_capacity}
+use Rattle.std.proofs.Common.{◌≡◌, ◌<◌, length}
 use Rattle.std.specs.Prelude.{All}
-use Rattle.version_list.specs.Undo.{undo}
+use Rattle.version_list.specs.Undo.{KeepsRoom, undo}
 use Rattle.version_list.proofs.log.give_back.Given as goal
 
 abbrev pub invariant-loop-last : goal.invariant-loop-last
 invariant-loop-last g l = record {
-  items : undo (λ r. r.value) l.replaced.items l.items.items ≡ undo (λ r. r.value) l.fn.replaced.items l.fn.items.items;
-  slots : undo (λ r. r.slot) l.replaced.items l.slots.items ≡ undo (λ r. r.slot) l.fn.replaced.items l.fn.slots.items;
-  items_len : length l.items.items ≡ length l.fn.items.items;
-  slots_len : length l.slots.items ≡ length l.fn.items.items;
-  items_room : vec_capacity l.items ≡ vec_capacity l.fn.items;
-  slots_room : vec_capacity l.slots ≡ vec_capacity l.fn.slots;
-  places : All (λ r. r.at < length l.fn.items.items) l.replaced.items;
+  items : undo (λ r. r.value) l.replaced.items l.list.items.items ≡ undo (λ r. r.value) l.fn.replaced.items l.fn.list.items.items;
+  slots : undo (λ r. r.slot) l.replaced.items l.list.slots.items ≡ undo (λ r. r.slot) l.fn.replaced.items l.fn.list.slots.items;
+  items_len : length l.list.items.items ≡ length l.fn.list.items.items;
+  slots_len : length l.list.slots.items ≡ length l.fn.list.items.items;
+  room : KeepsRoom l.fn.list l.list;
+  places : All (λ r. r.at < length l.fn.list.items.items) l.replaced.items;
 }
 
 abbrev pub decreases-loop-last : goal.decreases-loop-last

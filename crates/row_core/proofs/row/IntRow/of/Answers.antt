@@ -7,5 +7,5 @@ pub returns-clause-unfit : goal.returns-clause-unfit
 returns-clause-unfit c =
     err_implies c.lowest.result _ _
     (λ stop unfit is.
-    unfit_same _ _ (alone_is c.plain.result c.args.entries.now c.plain.ensures.k c.plain.ensures.n c.plain.ensures.extra c.plain.ensures.leaves) (unfit is))
+    unfit_same _ _ (alone_is c.plain.result c.args.entries.now c.plain.ensures.r c.plain.ensures.p c.plain.ensures.k c.plain.ensures.n c.plain.ensures.extra c.plain.ensures.leaves) (unfit is))
     c.lowest.ensures.unfit

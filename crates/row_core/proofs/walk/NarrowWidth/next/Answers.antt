@@ -12,11 +12,11 @@ returns-clause-read c =
     let left : SFits w64 c.in_ok-read.read.left = search rules in
     let right : SFits w64 c.in_ok-read.read.right = search rules in
     let sum : SFits w64 c.narrow_total.result = record { sfits = c.narrow_total.type_inv } in
-    let made : c.narrow_total.result ≡ whole_of c.args.sum x.col (c.args.sum.k *ℤ x.left +ℤ c.args.sum.n *ℤ x.right) = simp to_z-of_z at c.narrow_total.ensures.value in
-    let value : (floor : ℕ) → AreRead c.args.r.now c.args.p.now c.args.sum c.args.at floor → c.narrow_total.result ≡ whole c.args.sum c.args.r.now c.args.p.now x.col =
+    let made : c.narrow_total.result ≡ whole_of c.args.sum.now x.col (c.args.sum.now.k *ℤ x.left +ℤ c.args.sum.now.n *ℤ x.right) = simp to_z-of_z at c.narrow_total.ensures.value in
+    let value : (floor : ℕ) → AreRead c.args.sum.now c.args.at floor → c.narrow_total.result ≡ whole c.args.sum.now x.col =
     λ floor are.
-    let le : floor ≤ x.col = floor_below c.args.r.now c.args.p.now c.args.sum c.args.at floor x.col are is.first in
-    made ∙ ap₂ (λ (a b : ℤ). whole_of c.args.sum x.col (c.args.sum.k *ℤ a +ℤ c.args.sum.n *ℤ b)) (is.left.value floor are.left le) (is.right.value floor are.right le) in
+    let le : floor ≤ x.col = floor_below c.args.sum.now c.args.at floor x.col are is.first in
+    made ∙ ap₂ (λ (a b : ℤ). whole_of c.args.sum.now x.col (c.args.sum.now.k *ℤ a +ℤ c.args.sum.now.n *ℤ b)) (is.left.value floor are.left le) (is.right.value floor are.right le) in
     let out : SFits w128 c.from.result = record { sfits = c.from.type_inv } in
     let same : c.from.result ≡ c.narrow_total.result = simp to_z-of_z at c.from.ensures in
     record { value = simp to_z-of_z (λ floor are. same ∙ value floor are); first = is.first; read = is.read; further = is.further }

@@ -8,12 +8,12 @@ use Rattle.row_core.proofs.walk.WideWidth.next.Goals as goal
 pub total-requires-clause-left : goal.total-requires-clause-left
 total-requires-clause-left c =
     let left : SFits w64 c.in_ok-read.read.left = search rules in
-    simp to_z-of_z (c.in_ok-read.ensures.read.left.small c.args.sum.k c.requires.holds.left)
+    simp to_z-of_z (c.in_ok-read.ensures.read.left.small c.args.sum.now.k c.requires.holds.left)
 
 pub total-requires-clause-right : goal.total-requires-clause-right
 total-requires-clause-right c =
     let right : SFits w64 c.in_ok-read.read.right = search rules in
-    simp to_z-of_z (c.in_ok-read.ensures.read.right.small c.args.sum.n c.requires.holds.right)
+    simp to_z-of_z (c.in_ok-read.ensures.read.right.small c.args.sum.now.n c.requires.holds.right)
 
 pub returns-clause-read : goal.returns-clause-read
 returns-clause-read c =
@@ -22,9 +22,9 @@ returns-clause-read c =
     let left : SFits w64 c.in_ok-read.read.left = search rules in
     let right : SFits w64 c.in_ok-read.read.right = search rules in
     let sum : SFits w128 c.total.result = record { sfits = c.total.type_inv } in
-    let made : c.total.result ≡ whole_of c.args.sum x.col (c.args.sum.k *ℤ x.left +ℤ c.args.sum.n *ℤ x.right) = simp to_z-of_z at c.total.ensures.value in
-    let value : (floor : ℕ) → AreRead c.args.r.now c.args.p.now c.args.sum c.args.at floor → c.total.result ≡ whole c.args.sum c.args.r.now c.args.p.now x.col =
+    let made : c.total.result ≡ whole_of c.args.sum.now x.col (c.args.sum.now.k *ℤ x.left +ℤ c.args.sum.now.n *ℤ x.right) = simp to_z-of_z at c.total.ensures.value in
+    let value : (floor : ℕ) → AreRead c.args.sum.now c.args.at floor → c.total.result ≡ whole c.args.sum.now x.col =
     λ floor are.
-    let le : floor ≤ x.col = floor_below c.args.r.now c.args.p.now c.args.sum c.args.at floor x.col are is.first in
-    made ∙ ap₂ (λ (a b : ℤ). whole_of c.args.sum x.col (c.args.sum.k *ℤ a +ℤ c.args.sum.n *ℤ b)) (is.left.value floor are.left le) (is.right.value floor are.right le) in
+    let le : floor ≤ x.col = floor_below c.args.sum.now c.args.at floor x.col are is.first in
+    made ∙ ap₂ (λ (a b : ℤ). whole_of c.args.sum.now x.col (c.args.sum.now.k *ℤ a +ℤ c.args.sum.now.n *ℤ b)) (is.left.value floor are.left le) (is.right.value floor are.right le) in
     record { value = simp to_z-of_z value; first = is.first; read = is.read; further = is.further }

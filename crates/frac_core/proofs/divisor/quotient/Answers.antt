@@ -1,7 +1,7 @@
 use Rattle.std.proofs.Common.{◌∙◌, ap, ◌*ℤ◌, ℤ}
 use Rattle.std.specs.Int.{w128}
 use Rattle.std.proofs.lemmas.Int.{quot_is, quot_fits}
-use Rattle.constraint_compile.proofs.wide.quotient.Goals as goal
+use Rattle.frac_core.proofs.divisor.quotient.Goals as goal
 use Rattle.frac_core.proofs.Quotients.{exact_quotient}
 
 pub returns : goal.returns
