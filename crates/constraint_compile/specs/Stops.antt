@@ -12,6 +12,9 @@ use Rattle.constraint_compile.specs.Meaning.{has_view_number, IsRank, IsWeight, 
 use Rattle.constraint_compile.specs.Coefficients.Sums.{first_sum, HasTooMany, AreTerms}
 use Rattle.constraint_compile.specs.Compiled.{Step, RowForm, CompiledLine, AreSmallSteps, AreSmallForms}
 use Rattle.constraint_compile.specs.Compiled.{last_scale}
+use Rattle.frac_core.specs.declared.memory.Stop.{Stop}
+use Rattle.frac_core.specs.declared.memory.Stop.TheVariants as stop
+use Rattle.constraint_compile.specs.declared.stops.LargeConstant.{LargeConstant}
 use Rattle.constraint_compile.specs.declared.stops.CompileStop.{CompileStop}
 use Rattle.constraint_compile.specs.declared.stops.CompileStop.TheVariants.{Unknown, Kind, Limit, OutOfMemory}
 use Rattle.constraint_compile.specs.declared.stops.KindWord.{KindWord}
@@ -134,9 +137,6 @@ IsRowStop views metrics terms (Unknown name) = ⊥
 IsRowStop views metrics terms (Kind word) = ⊥
 
 -- why rows have no constants for these metrics
-abbrev pub IsConstantStop : MetricList → List RowForm → CompileStop → Type 0
-IsConstantStop metrics forms (Limit limit.Constant) = AreSmallForms metrics forms → ⊥
-IsConstantStop metrics forms (Limit _) = ⊥
-IsConstantStop metrics forms OutOfMemory = ⊤
-IsConstantStop metrics forms (Unknown name) = ⊥
-IsConstantStop metrics forms (Kind word) = ⊥
+abbrev pub IsConstantStop : MetricList → List RowForm → Stop LargeConstant → Type 0
+IsConstantStop metrics forms (stop.Refused cause) = AreSmallForms metrics forms → ⊥
+IsConstantStop metrics forms stop.OutOfMemory = ⊤

@@ -13,9 +13,8 @@ use Rattle.view_tree.specs.Views.{LiveView}
 use Rattle.view_tree.specs.declared.limits.TheConstants.{ID_LIMIT}
 use Rattle.view_tree.specs.Attributes.{left_of, top_of, width_of, height_of}
 use Rattle.constraint_compile.specs.Meaning.{MetricList, IsRank, unknown_object}
-use Rattle.constraint_compile.specs.declared.stops.CompileStop.{CompileStop}
-use Rattle.constraint_compile.specs.declared.stops.CompileStop.TheVariants.{Unknown, Kind, Limit, OutOfMemory}
-use Rattle.constraint_compile.specs.declared.stops.KindWord.TheVariants as kind
+use Rattle.constraint_compile.specs.declared.stops.RankStop.{RankStop}
+use Rattle.constraint_compile.specs.declared.stops.RankStop.TheVariants.{Unknown, NoRank, OutOfMemory}
 use Rattle.constraint_compile.specs.declared.suggestion.Suggestion.{Suggestion}
 use Rattle.constraint_compile.specs.declared.suggestion.TheConstants.{USUAL_RANK}
 
@@ -77,10 +76,8 @@ suggested_priority None = Some (object.Number (pos (USUAL_RANK * UNIT)))
 suggested_priority (Some priority) = Some priority
 
 -- why a priority stands for no rank
-abbrev pub MayLackRank : List LiveView → MetricList → Option Meant → CompileStop → Type 0
+abbrev pub MayLackRank : List LiveView → MetricList → Option Meant → RankStop → Type 0
 MayLackRank views metrics priority (Unknown name) = unknown_object views metrics priority ≡ Some name
-MayLackRank views metrics priority (Kind kind.Priority) =
-    (unknown_object views metrics priority ≡ None) × ((rank : ℕ) → IsRank views metrics priority rank → ⊥)
-MayLackRank views metrics priority (Kind _) = ⊥
-MayLackRank views metrics priority (Limit limit) = ⊥
+MayLackRank views metrics priority NoRank = (unknown_object views metrics priority ≡ None)
+    × ((rank : ℕ) → IsRank views metrics priority rank → ⊥)
 MayLackRank views metrics priority OutOfMemory = ⊤

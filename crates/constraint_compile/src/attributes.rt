@@ -83,7 +83,7 @@ fn twice(view: ViewId, word: AttrWord) -> Doubled
     }
 }
 
-/// The number of a view.
+/// The live view of this name, if there is one. The name is looked up in the tree.
 pub(crate) fn id_named(tree: &Tree, name: &str) -> Option<ViewId>
     ensures id { option_map (λ id. id.0) result
         ≡ option_map (λ v. v.id) (view_named tree.now.views name.now) }

@@ -9,8 +9,9 @@ mod refusals;
 mod rows;
 mod spans;
 
-ghost use Rattle.std.specs.Prelude.{◌≡◌, ◌<◌, IfOk, IfErr};
+ghost use Rattle.std.specs.Prelude.{◌≡◌, ◌<◌, List, IfOk, IfErr};
 ghost use Rattle.vfl_text.specs.View.{meaning};
+ghost use Rattle.view_tree.specs.Views.{LiveView};
 ghost use Rattle.constraint_compile.specs.Formats.FormatParts as parts;
 ghost use Rattle.constraint_compile.specs.Formats.FormatStops.{row_count};
 ghost use Rattle.constraint_compile.specs.Formats.FormatRows.{IsCompiledFormat, MayStopFormat};
@@ -30,14 +31,14 @@ use view_tree::Tree;
 /// How many rows the format has.
 pub fn format_row_count(
     alloc: Global,
-    tree: &Tree,
     format: &Format<'_>,
     align: Option<Align>,
 ) -> Result<usize, OutOfMemory>
-    ensures { IfOk result (λ n. n ≡ row_count tree.now.views (parts.parts (meaning format.now) align)) }
+    ensures { IfOk result (λ n. (views : List LiveView)
+        → n ≡ row_count views (parts.parts (meaning format.now) align)) }
 {
     let parts = parts_of(alloc, format, align)?;
-    Ok(row_count(tree, &parts))
+    Ok(row_count(&parts))
 }
 
 /// The rows of a visual format and the views that its text names. The rows are numbered from the first

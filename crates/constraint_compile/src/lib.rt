@@ -55,5 +55,5 @@ pub use limits::{ADDEND_LIMIT, CONSTANT_LIMIT};
 pub use line::compile_line;
 pub use naming::RowConstant;
 pub use rows::constants_now;
-pub use stops::{CompileStop, KindWord};
+pub use stops::{CompileStop, KindWord, LargeConstant, RankStop};
 pub use suggestion::{Suggestion, USUAL_RANK, suggested_constant, suggested_rank};

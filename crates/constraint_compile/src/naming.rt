@@ -12,9 +12,9 @@ ghost use Rattle.constraint_compile.specs.Stops.{IsConstantStop};
 use crate::compiled::{Compiled, RowForm};
 use crate::rows::constant_now;
 use crate::steps::{Part, Step, name_at};
-use crate::stops::CompileStop;
-use frac_core::{Frac, OutOfMemory};
-use name_tables::{LimitWord, Metrics};
+use crate::stops::LargeConstant;
+use frac_core::{Frac, OutOfMemory, Stop};
+use name_tables::Metrics;
 use std::alloc::Global;
 
 /// A row's number, and its constant.
@@ -93,22 +93,22 @@ fn constants_naming(
 }
 
 impl Compiled {
-    /// The rows whose constants name the metric, each with its constant for these metrics. `Limit(Constant)`
-    /// where a part of such a constant isn't below the limit in size after some term. No other row is looked
-    /// at: its constant is the same whatever the metric's value.
+    /// The rows whose constants name the metric, each with its constant for these metrics, unless such a
+    /// constant is past the limit. No other row is looked at: its constant is the same whatever the metric's
+    /// value.
     pub fn constants_naming(
         &self,
         alloc: Global,
         metrics: &Metrics,
         name: &str,
-    ) -> Result<Vec<RowConstant>, CompileStop>
+    ) -> Result<Vec<RowConstant>, Stop<LargeConstant>>
         ensures constants { IfOk result (λ constants.
             AreConstantsOf metrics.now (naming name.now self.now.rows) constants.items) }
         ensures stop { IfErr result (IsConstantStop metrics.now (naming name.now self.now.rows)) }
     {
         match constants_naming(alloc, self.forms(), metrics, name)? {
             Some(constants) => Ok(constants),
-            None => Err(CompileStop::Limit(LimitWord::Constant)),
+            None => Err(Stop::Refused(LargeConstant)),
         }
     }
 }

@@ -13,9 +13,9 @@ ghost use Rattle.constraint_compile.specs.Stops.{IsConstantStop};
 
 use crate::compiled::{Compiled, RowForm};
 use crate::steps::{Step, constant_after};
-use crate::stops::CompileStop;
-use frac_core::{Frac, OutOfMemory};
-use name_tables::{LimitWord, Metrics};
+use crate::stops::LargeConstant;
+use frac_core::{Frac, OutOfMemory, Stop};
+use name_tables::Metrics;
 use problem_core::Row;
 use std::alloc::Global;
 
@@ -123,33 +123,36 @@ fn constants_of(
     Ok(Some(constants))
 }
 
-/// The constant of each row of a line for these metrics. `Limit(Constant)` where a part of the constant of
-/// some row isn't below [`CONSTANT_LIMIT`](crate::CONSTANT_LIMIT) in size after some term. A metric that
-/// isn't there counts as 0.
+/// The constant of each row of a line for these metrics, unless one is past the limit. A metric that isn't
+/// there counts as 0.
 pub fn constants_now(
     alloc: Global,
     c: &Compiled,
     metrics: &Metrics,
-) -> Result<Vec<Frac>, CompileStop>
+) -> Result<Vec<Frac>, Stop<LargeConstant>>
     ensures constants { IfOk result (λ constants. AreConstantsNow metrics.now c.now.rows constants.items) }
     ensures stop { IfErr result (IsConstantStop metrics.now c.now.rows) }
 {
     match constants_of(alloc, c.forms(), metrics)? {
         Some(constants) => Ok(constants),
-        None => Err(CompileStop::Limit(LimitWord::Constant)),
+        None => Err(Stop::Refused(LargeConstant)),
     }
 }
 
 impl Compiled {
     /// The rows with their constants for these metrics; the rest as in `constants_now`.
-    pub fn rows_now(&self, alloc: Global, metrics: &Metrics) -> Result<Vec<Row>, CompileStop>
+    pub fn rows_now(
+        &self,
+        alloc: Global,
+        metrics: &Metrics,
+    ) -> Result<Vec<Row>, Stop<LargeConstant>>
         ensures rows { IfOk result (λ rows. AreRowsNow metrics.now self.now.rows rows.items) }
         ensures each { IfOk result (λ rows. All IsRow rows.items) }
         ensures stop { IfErr result (IsConstantStop metrics.now self.now.rows) }
     {
         match rows_of(alloc, self.forms(), metrics)? {
             Some(rows) => Ok(rows),
-            None => Err(CompileStop::Limit(LimitWord::Constant)),
+            None => Err(Stop::Refused(LargeConstant)),
         }
     }
 }

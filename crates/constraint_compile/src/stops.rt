@@ -33,6 +33,36 @@ pub enum KindWord {
     Tree,
 }
 
+/// A part of a row's constant isn't below [`CONSTANT_LIMIT`](crate::CONSTANT_LIMIT) in size after some term.
+#[derive(Clone, Copy, Debug, PartialEq, Eq, Error)]
+#[error("a constant would be past its limit")]
+pub struct LargeConstant;
+
+/// Why a suggestion's priority stands for no rank.
+#[derive(Drop, Debug, Error)]
+pub enum RankStop {
+    /// This name must be that of a view or a metric, and isn't.
+    #[error("a name is neither a view's nor a metric's")]
+    Unknown(OwnedName),
+    /// The priority is no whole number from 1 to [`REQUIRED`](problem_core::REQUIRED).
+    #[error("the priority stands for no rank")]
+    NoRank,
+    /// Memory is wanting.
+    #[error("memory is wanting")]
+    OutOfMemory,
+}
+
+impl From<OutOfMemory> for RankStop {
+    ghost use Rattle.std.specs.Prelude.{◌≡◌};
+    ghost use Rattle.constraint_compile.specs.declared.stops.RankStop.TheVariants as stop;
+
+    ghost from_gives = { λ _ e. e ≡ stop.OutOfMemory };
+
+    fn from(_: OutOfMemory) -> RankStop {
+        RankStop::OutOfMemory
+    }
+}
+
 /// Why a line has no rows.
 #[derive(Drop, Debug, Error)]
 pub enum CompileStop {

@@ -11,7 +11,7 @@ ghost use Rattle.constraint_compile.specs.Suggestions.{with_terms, IsSuggestion,
 
 use crate::attributes::times;
 use crate::resolved::resolve_rank;
-use crate::stops::{CompileStop, KindWord};
+use crate::stops::RankStop;
 use crate::wide::ratios::{Ratio, small_of};
 use frac_core::{Frac, OutOfMemory};
 use name_tables::{Metrics, OwnedName};
@@ -80,15 +80,13 @@ fn or_usual(priority: Option<Object<'_>>) -> Option<Object<'_>>
     }
 }
 
-/// The rank that a suggestion's priority stands for: [`USUAL_RANK`] where none is written. `Unknown` with its
-/// name, where that is neither a view's nor a metric's; `Kind(Priority)` where it is no whole number from 1
-/// to [`REQUIRED`](problem_core::REQUIRED).
+/// The rank that a suggestion's priority stands for: [`USUAL_RANK`] where none is written.
 pub fn suggested_rank(
     alloc: Global,
     tree: &Tree,
     metrics: &Metrics,
     priority: Option<Object<'_>>,
-) -> Result<u16, CompileStop>
+) -> Result<u16, RankStop>
     ensures rank { IfOk result (IsRank tree.now.views metrics.now
         (suggested_priority (object_view priority.entry))) }
     ensures known { OnOk result (unknown_object tree.now.views metrics.now
@@ -99,8 +97,8 @@ pub fn suggested_rank(
     let priority = or_usual(priority);
     match resolve_rank(tree, metrics, &priority) {
         Ok(Some(rank)) => Ok(rank),
-        Ok(None) => Err(CompileStop::Kind(KindWord::Priority)),
-        Err(name) => Err(CompileStop::Unknown(OwnedName::of(alloc, name.as_bytes())?)),
+        Ok(None) => Err(RankStop::NoRank),
+        Err(name) => Err(RankStop::Unknown(OwnedName::of(alloc, name.as_bytes())?)),
     }
 }
 

@@ -55,7 +55,7 @@ fn put_format(
     let Setting { tree, metrics, .. } = setting;
     let made = compile_format(alloc, tree, metrics, format, align, setting.number.max(1));
     let count = put_made(alloc, out, setting, &made)?;
-    let counted = format_row_count(alloc, tree, format, align)?;
+    let counted = format_row_count(alloc, format, align)?;
     if made.is_ok() && count != counted {
         writeln!(out, "{counted} rows counted")?;
     }

@@ -44,11 +44,6 @@ impl<V: Copy> NameMap<V> {
         }
     }
 
-    /// Where the table takes its memory.
-    pub fn allocator(&self) -> Global {
-        *self.table.allocator()
-    }
-
     /// How many names there are.
     pub fn len(&self) -> usize
         ensures len { result ≡ length self.now }

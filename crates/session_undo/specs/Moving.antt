@@ -1,13 +1,13 @@
 -- What another value of a metric changes.
 use Rattle.std.specs.Prelude.{◌≡◌, ◌≢◌, ◌<◌, ⊤, ◌⊎◌, List, [], ◌∷◌, ◌++◌, All, AllPairs, Any}
-use Rattle.name_tables.specs.declared.stops.LimitWord.TheVariants as limit
 use Rattle.problem_core.specs.Layout.{Row}
 use Rattle.constraint_compile.specs.Meaning.{MetricList}
 use Rattle.constraint_compile.specs.Compiled.{RowForm, IsFittingSum}
 use Rattle.constraint_compile.specs.Fractions.{plus, negated}
 use Rattle.constraint_compile.specs.declared.naming.RowConstant.{RowConstant}
-use Rattle.constraint_compile.specs.declared.stops.CompileStop.{CompileStop}
-use Rattle.constraint_compile.specs.declared.stops.CompileStop.TheVariants as stop
+use Rattle.frac_core.specs.declared.memory.Stop.{Stop}
+use Rattle.frac_core.specs.declared.memory.Stop.TheVariants as stop
+use Rattle.constraint_compile.specs.declared.stops.LargeConstant.{LargeConstant}
 use Rattle.layout_solver.specs.declared.engine.Change.{Change}
 use Rattle.layout_solver.specs.Shifts.{AreKept, CanShift, shifted}
 use Rattle.session_undo.specs.Items.{Item, OfWindow, OfView, Sized, OfLine, Suggested, AreRows, IsSmallItem}
@@ -70,11 +70,8 @@ pub record AreChangesFor (scene : Scene) (metrics : MetricList) (to : List Chang
   pub kept : AreKept to
 
 -- why there are none: a constant isn't small after some term, or moves too far
-abbrev pub MayLackChanges : Scene → MetricList → CompileStop → Type 0
-MayLackChanges scene metrics (stop.Limit limit.Constant) =
+abbrev pub MayLackChanges : Scene → MetricList → Stop LargeConstant → Type 0
+MayLackChanges scene metrics (stop.Refused cause) =
     (All (IsSmallItem metrics) scene.held → ⊥)
     ⊎ ((rows : List Row) × AreRows metrics scene.held rows × (AreNear scene.rows rows → ⊥))
-MayLackChanges scene metrics (stop.Limit _) = ⊥
 MayLackChanges scene metrics stop.OutOfMemory = ⊤
-MayLackChanges scene metrics (stop.Unknown name) = ⊥
-MayLackChanges scene metrics (stop.Kind word) = ⊥

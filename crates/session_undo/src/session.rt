@@ -15,10 +15,10 @@ use crate::row_numbers::{SIZE_ROWS, VIEW_ROWS};
 use crate::scene::Scene;
 use crate::scene::values::values_of;
 use constraint_compile::{
-    CompileStop, Compiled, KindWord, Suggestion, compile_format, compile_line, format_row_count,
-    suggested_constant, suggested_rank,
+    CompileStop, Compiled, KindWord, RankStop, Suggestion, compile_format, compile_line,
+    format_row_count, suggested_constant, suggested_rank,
 };
-use frac_core::{Frac, OutOfMemory};
+use frac_core::{Frac, OutOfMemory, Stop};
 use layout_solver::{Change, Engine};
 use name_tables::{LimitWord, Metrics, NAME_LIMIT, OwnedName};
 use problem_core::{NUMBER_LIMIT, Problem, Row, Values};
@@ -270,9 +270,8 @@ impl Session {
         }
         let to = match self.scene.changes_for(&metrics, name) {
             Ok(to) => to,
-            Err(CompileStop::Limit(word)) => return Err(Refusal::Limit(word)),
-            Err(CompileStop::OutOfMemory) => return Err(Refusal::OutOfMemory),
-            Err(CompileStop::Unknown(_) | CompileStop::Kind(_)) => unreachable!(),
+            Err(Stop::Refused(_)) => return Err(Refusal::Limit(LimitWord::Constant)),
+            Err(Stop::OutOfMemory) => return Err(Refusal::OutOfMemory),
         };
         Ok(NewMetrics { metrics, to })
     }
@@ -459,7 +458,7 @@ impl Session {
         ) {
             Ok(compiled) => self.new_line(group, compiled),
             Err(stop) => {
-                let count = format_row_count(self.alloc, tree, format, align)?;
+                let count = format_row_count(self.alloc, format, align)?;
                 Err(self.line_refusal(group, count, stop))
             }
         }
@@ -533,10 +532,9 @@ impl Session {
         let (tree, metrics) = (self.scene.tree(), self.scene.metrics());
         match suggested_rank(self.alloc, tree, metrics, priority) {
             Ok(rank) => Ok(rank),
-            Err(CompileStop::Unknown(name)) => Err(Refusal::Unknown(name)),
-            Err(CompileStop::Kind(word)) => Err(Refusal::Kind(word)),
-            Err(CompileStop::OutOfMemory) => Err(Refusal::OutOfMemory),
-            Err(CompileStop::Limit(_)) => unreachable!(),
+            Err(RankStop::Unknown(name)) => Err(Refusal::Unknown(name)),
+            Err(RankStop::NoRank) => Err(Refusal::Kind(KindWord::Priority)),
+            Err(RankStop::OutOfMemory) => Err(Refusal::OutOfMemory),
         }
     }
 

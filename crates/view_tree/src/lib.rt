@@ -16,7 +16,7 @@
 //! [`ID_LIMIT`]). After a refusal all is as before.
 //!
 //! In reading order: `limits`, `view` (what a caller sees of one), `attributes` (the numbers of its four),
-//! `stops` (why a call is refused), `tree`, `plan` (the views that a JSON value names), `json` (trees from
+//! `stops` (why views aren't added), `tree`, `plan` (the views that a JSON value names), `json` (trees from
 //! JSON) and `laws`.
 #![tactic(auto)]
 

@@ -81,6 +81,7 @@ fn drop_nodes(table: &mut NameMap<Node>, gone: &[u32])
 /// The live views in order of creation, and the number that the next one takes. The first is the window.
 #[derive(Drop)]
 pub struct Tree {
+    alloc: Global,
     table: NameMap<Node>,
     next: u32,
 }
@@ -108,7 +109,11 @@ impl Tree {
             depth: 1,
         };
         table.add("window", node)?;
-        Ok(Tree { table, next: 1 })
+        Ok(Tree {
+            alloc,
+            table,
+            next: 1,
+        })
     }
 
     /// How many views are live.
@@ -128,9 +133,9 @@ impl Tree {
         Some(node.id)
     }
 
-    /// Where the table takes its memory.
+    /// Where the tree takes its memory.
     pub(crate) fn allocator(&self) -> Global {
-        self.table.allocator()
+        self.alloc
     }
 
     /// The number that the next view takes.
@@ -200,7 +205,9 @@ impl Tree {
         ensures new { OnOk result (IsNewView self.now name.now parent.0) }
         ensures refused { IfErr result (MayStop self.now name.now parent.0) }
     {
-        let above = self.node(parent).ok_or(ViewStop::Unknown)?;
+        let Some(above) = self.node(parent) else {
+            return Err(ViewStop::Unknown);
+        };
         if self.has_name(name) {
             return Err(ViewStop::Taken);
         }
@@ -266,7 +273,7 @@ impl Tree {
         ensures going { IfOk result (λ gone. AreGoing self.now.views root.0 gone.items) }
         ensures few { IfOk result (λ gone. length gone.items ≤ length self.now.views) }
     {
-        let mut gone = Vec::new(self.table.allocator());
+        let mut gone = Vec::new(self.alloc);
         for place in 0..self.len() {
             let Some(view) = self.at(place) else {
                 unreachable!()
@@ -292,6 +299,7 @@ impl Tree {
         ensures { IfOk result (λ same. same ≡ self.now) }
     {
         Ok(Tree {
+            alloc: self.alloc,
             table: self.table.copy()?,
             next: self.next,
         })

@@ -1,6 +1,7 @@
 // Why a format is refused, before its rows are made.
 ghost use Rattle.std.specs.Prelude.{◌≡◌, ◌≤◌, ◌+◌, ◌∷◌, List, false, All, length, IsTrue};
 ghost use Rattle.std.specs.Prelude.{IfOk, IfErr, OnOk};
+ghost use Rattle.view_tree.specs.Views.{LiveView};
 ghost use Rattle.constraint_compile.specs.Formats.Asks.{IsKeptAsk, AreAsks, IsUsableAsked, IsWrongAsked};
 ghost use Rattle.constraint_compile.specs.Formats.FormatLines.{lines_of, numbers, parts_views};
 ghost use Rattle.constraint_compile.specs.Formats.FormatStops as stops;
@@ -20,12 +21,11 @@ use vfl_text::Axis;
 use view_tree::Tree;
 
 // One for a row that is asked for.
-fn rows_in(tree: &Tree, part: &Part<'_>) -> usize
-    ensures count { (parts : List FormatPart) → stops.row_count tree.now.views (part_view part.now ∷ parts)
-        ≡ result + stops.row_count tree.now.views parts }
+fn rows_in(part: &Part<'_>) -> usize
+    ensures count { (views : List LiveView) (parts : List FormatPart)
+        → stops.row_count views (part_view part.now ∷ parts) ≡ result + stops.row_count views parts }
     ensures small { result ≤ 1 }
 {
-    let _count = tree.len(); // for the proof: what a tree keeps
     match part {
         Part::View { name: _ } => 0,
         Part::Bar { view: _ } => 0,
@@ -34,12 +34,12 @@ fn rows_in(tree: &Tree, part: &Part<'_>) -> usize
 }
 
 /// How many rows are asked for.
-pub(crate) fn row_count(tree: &Tree, parts: &[Part<'_>]) -> usize
-    ensures { result ≡ stops.row_count tree.now.views (parts_view parts.now) }
+pub(crate) fn row_count(parts: &[Part<'_>]) -> usize
+    ensures { (views : List LiveView) → result ≡ stops.row_count views (parts_view parts.now) }
 {
     let mut count = 0;
     for part in parts {
-        count += rows_in(tree, part);
+        count += rows_in(part);
     }
     count
 }

@@ -14,7 +14,6 @@ ghost use Rattle.constraint_compile.specs.Formats.FormatFound.{IsFoundWith, Ends
 ghost use Rattle.constraint_compile.specs.Formats.FormatFound.{noted};
 ghost use Rattle.constraint_compile.specs.Formats.FormatStops.{IsPastNumbers};
 ghost use Rattle.constraint_compile.specs.declared.format.rows.TheConstants.{TERM_COUNT};
-ghost use Rattle.constraint_compile.specs.declared.stops.CompileStop.TheVariants.{OutOfMemory as NoMemory};
 
 use crate::addends::Addend;
 use crate::compiled::RowForm;
@@ -76,9 +75,8 @@ fn row_of(alloc: Global, metrics: &Metrics, ask: &Ask<'_>, id: u32) -> Result<Ro
 }
 
 // Appends a row.
-fn push_row(rows: &mut Vec<RowForm>, row: RowForm) -> Result<(), CompileStop>
-    ensures pushed { OnOk result (rows.new.items ≡ rows.old.items ++ row ∷ []) }
-    ensures stop { IfErr result (λ e. e ≡ NoMemory) }
+fn push_row(rows: &mut Vec<RowForm>, row: RowForm) -> Result<(), OutOfMemory>
+    ensures { OnOk result (rows.new.items ≡ rows.old.items ++ row ∷ []) }
 {
     Ok(rows.push(row)?)
 }
@@ -118,7 +116,7 @@ fn add_row(
         → EndsRows views metrics.now (l ∷ []) e) }
 {
     match row_of(alloc, metrics, ask, id) {
-        Ok(row) => push_row(&mut found.rows, row),
+        Ok(row) => Ok(push_row(&mut found.rows, row)?),
         Err(stop) => note(&mut found.limit, stop),
     }
 }

@@ -9,14 +9,14 @@ use Rattle.std.specs.Str.{bytes_eq}
 use Rattle.std.proofs.lemmas.Option.{none-some, same_Some}
 use Rattle.frac_core.specs.Fraction.{Fraction}
 use Rattle.problem_core.specs.Layout.{Row}
-use Rattle.name_tables.specs.declared.stops.LimitWord.{LimitWord}
 use Rattle.name_tables.specs.declared.stops.LimitWord.TheVariants as word
 use Rattle.view_tree.specs.Views.{LiveView, ViewTree, view_of, view_named, IsAtDepth}
 use Rattle.view_tree.specs.Views as tree
 use Rattle.view_tree.specs.Stops.{IsNewView, is_full}
 use Rattle.view_tree.proofs.ViewLemmas.{IsAtDepth-unique, room}
 use Rattle.constraint_compile.specs.Meaning.{MetricList}
-use Rattle.constraint_compile.specs.declared.stops.CompileStop.TheVariants as stop
+use Rattle.frac_core.specs.declared.memory.Stop.TheVariants as stop
+use Rattle.constraint_compile.specs.declared.stops.LargeConstant.{LargeConstant}
 use Rattle.layout_solver.specs.declared.engine.Change.{Change}
 use Rattle.layout_solver.specs.Shifts.{shifted}
 use Rattle.session_undo.specs.declared.reply.Refusal.{Refusal}
@@ -238,21 +238,10 @@ metric-far : (old : State) (name : List ℕ) (value : Fraction) (ms : MetricList
 metric-far old name value ms End rows is are far =
     named-far old name value ms End is (inr ((λ no. no (rows-small ms old.scene.held rows are)), (rows, are, inl (far, refl, refl))))
 
-pub metric-lacks : (old : State) (name : List ℕ) (value : Fraction) (ms : MetricList) (End : Scene → Reply → State → Type 0) (limit : LimitWord) → IsNamed old name value ms → MayLackChanges old.scene ms (stop.Limit limit)
-    → TriedMetric old name value End (Limit limit) old
-metric-lacks old name value ms End word.Constant is (inl lacks) = named-far old name value ms End is (inl (lacks, refl, refl))
-metric-lacks old name value ms End word.Constant is (inr (rows, are, far)) = metric-far old name value ms End rows is are far
-metric-lacks old name value ms End word.Line is lacks = absurd lacks
-metric-lacks old name value ms End word.Name is lacks = absurd lacks
-metric-lacks old name value ms End word.Views is lacks = absurd lacks
-metric-lacks old name value ms End word.Depth is lacks = absurd lacks
-metric-lacks old name value ms End word.Metrics is lacks = absurd lacks
-metric-lacks old name value ms End word.Lines is lacks = absurd lacks
-metric-lacks old name value ms End word.Rows is lacks = absurd lacks
-metric-lacks old name value ms End word.Terms is lacks = absurd lacks
-metric-lacks old name value ms End word.Attributes is lacks = absurd lacks
-metric-lacks old name value ms End word.Coefficient is lacks = absurd lacks
-metric-lacks old name value ms End word.Budget is lacks = absurd lacks
+pub metric-lacks : (old : State) (name : List ℕ) (value : Fraction) (ms : MetricList) (End : Scene → Reply → State → Type 0) (cause : LargeConstant) → IsNamed old name value ms → MayLackChanges old.scene ms (stop.Refused cause)
+    → TriedMetric old name value End (Limit word.Constant) old
+metric-lacks old name value ms End cause is (inl lacks) = named-far old name value ms End is (inl (lacks, refl, refl))
+metric-lacks old name value ms End cause is (inr (rows, are, far)) = metric-far old name value ms End rows is are far
 
 -- ---- the window
 

@@ -7,7 +7,6 @@ use Rattle.std.proofs.lemmas.Slice.Eq.{bytes_eq-Decides}
 use Rattle.std.proofs.lemmas.List.Elements.{recursion_from_All, All-from_recursion, All-weaker}
 use Rattle.frac_core.specs.Fraction.{Fraction}
 use Rattle.name_tables.specs.Names.{names_of, place_of, value_of}
-use Rattle.name_tables.specs.declared.stops.LimitWord.TheVariants as limit
 use Rattle.problem_core.specs.Layout.{Row}
 use Rattle.problem_core.specs.Kept.{IsRow, IsWhole}
 use Rattle.view_tree.specs.Views.{ViewTree}
@@ -16,8 +15,9 @@ use Rattle.constraint_compile.specs.Compiled.{RowForm, AreSmallForms, AreSmallSt
 use Rattle.constraint_compile.specs.Naming.{naming, AreSameBut, AreConstantsOf}
 use Rattle.constraint_compile.specs.Stops.{IsConstantStop}
 use Rattle.constraint_compile.specs.declared.naming.RowConstant.{RowConstant}
-use Rattle.constraint_compile.specs.declared.stops.CompileStop.{CompileStop}
-use Rattle.constraint_compile.specs.declared.stops.CompileStop.TheVariants as stop
+use Rattle.frac_core.specs.declared.memory.Stop.{Stop}
+use Rattle.frac_core.specs.declared.memory.Stop.TheVariants as stop
+use Rattle.constraint_compile.specs.declared.stops.LargeConstant.{LargeConstant}
 use Rattle.layout_solver.specs.declared.engine.Change.{Change}
 use Rattle.layout_solver.specs.Layouts.{Layout}
 use Rattle.layout_solver.specs.Shifts.{AreKept, shifted}
@@ -104,47 +104,21 @@ module _ (tree : ViewTree) (ms : MetricList) (held : List Item) (next : ℕ) (l 
         kept = kept;
       }
 
-  pub changes-far : Any (IsFar l.problem.rows) constants → MayLackChanges (scene_at tree ms held next l) new (stop.Limit limit.Constant)
-  changes-far far = inr (after.after, after.are, far-moves l.problem.rows after.after constants whole.rising after.changes far)
+  pub changes-far : (cause : LargeConstant) → Any (IsFar l.problem.rows) constants → MayLackChanges (scene_at tree ms held next l) new (stop.Refused cause)
+  changes-far cause far = inr (after.after, after.are, far-moves l.problem.rows after.after constants whole.rising after.changes far)
 
 -- ---- what isn't small
 
 module _ (ms : MetricList) (xs ys : List RowForm) (to : AreSmallForms ms ys → AreSmallForms ms xs) where
   -- rows that are not small are not where they are among others
-  pub stop-among : (s : CompileStop) → IsConstantStop ms xs s → IsConstantStop ms ys s
-  stop-among (stop.Limit limit.Constant) h = λ small. h (to small)
-  stop-among (stop.Limit limit.Line) h = h
-  stop-among (stop.Limit limit.Name) h = h
-  stop-among (stop.Limit limit.Views) h = h
-  stop-among (stop.Limit limit.Depth) h = h
-  stop-among (stop.Limit limit.Metrics) h = h
-  stop-among (stop.Limit limit.Lines) h = h
-  stop-among (stop.Limit limit.Rows) h = h
-  stop-among (stop.Limit limit.Terms) h = h
-  stop-among (stop.Limit limit.Attributes) h = h
-  stop-among (stop.Limit limit.Coefficient) h = h
-  stop-among (stop.Limit limit.Budget) h = h
+  pub stop-among : (s : Stop LargeConstant) → IsConstantStop ms xs s → IsConstantStop ms ys s
+  stop-among (stop.Refused cause) h = λ small. h (to small)
   stop-among stop.OutOfMemory h = h
-  stop-among (stop.Unknown name) h = h
-  stop-among (stop.Kind word) h = h
 
-pub changes-lack : (tree : ViewTree) (ms : MetricList) (held : List Item) (next : ℕ) (l : Layout) (name : List ℕ) (new : MetricList) (s : CompileStop) → IsConstantStop new (naming name (forms_of held)) s
+pub changes-lack : (tree : ViewTree) (ms : MetricList) (held : List Item) (next : ℕ) (l : Layout) (name : List ℕ) (new : MetricList) (s : Stop LargeConstant) → IsConstantStop new (naming name (forms_of held)) s
     → MayLackChanges (scene_at tree ms held next l) new s
-changes-lack tree ms held next l name new (stop.Limit limit.Constant) h = inl (λ small. h (small-naming new name held small))
-changes-lack tree ms held next l name new (stop.Limit limit.Line) h = h
-changes-lack tree ms held next l name new (stop.Limit limit.Name) h = h
-changes-lack tree ms held next l name new (stop.Limit limit.Views) h = h
-changes-lack tree ms held next l name new (stop.Limit limit.Depth) h = h
-changes-lack tree ms held next l name new (stop.Limit limit.Metrics) h = h
-changes-lack tree ms held next l name new (stop.Limit limit.Lines) h = h
-changes-lack tree ms held next l name new (stop.Limit limit.Rows) h = h
-changes-lack tree ms held next l name new (stop.Limit limit.Terms) h = h
-changes-lack tree ms held next l name new (stop.Limit limit.Attributes) h = h
-changes-lack tree ms held next l name new (stop.Limit limit.Coefficient) h = h
-changes-lack tree ms held next l name new (stop.Limit limit.Budget) h = h
+changes-lack tree ms held next l name new (stop.Refused cause) h = inl (λ small. h (small-naming new name held small))
 changes-lack tree ms held next l name new stop.OutOfMemory h = h
-changes-lack tree ms held next l name new (stop.Unknown other) h = h
-changes-lack tree ms held next l name new (stop.Kind word) h = h
 
 -- where all are small, those of an item are
 pub item-small : (ms : MetricList) (name : List ℕ) (items : List declared.Item) (i : ℕ) (item : declared.Item) → i < length items → item ≡ get_or items i item → AreSmallForms ms (naming name (forms_of (items_of items)))

@@ -10,8 +10,8 @@ ghost use Rattle.session_undo.specs.Moving.{forms_in, forms_of, AreMoves, IsFar,
 
 use crate::changes::fits_after;
 use crate::item::Item;
-use constraint_compile::{CompileStop, RowConstant};
-use frac_core::OutOfMemory;
+use constraint_compile::{LargeConstant, RowConstant};
+use frac_core::{OutOfMemory, Stop};
 use layout_solver::Change;
 use name_tables::Metrics;
 use problem_core::Row;
@@ -23,7 +23,7 @@ fn item_constants(
     item: &Item,
     metrics: &Metrics,
     name: &str,
-) -> Result<Vec<RowConstant>, CompileStop>
+) -> Result<Vec<RowConstant>, Stop<LargeConstant>>
     ensures constants { IfOk result (λ constants. AreConstantsOf metrics.now
         (naming name.now (forms_in (item_of item.now))) constants.items) }
     ensures stop { IfErr result (IsConstantStop metrics.now (naming name.now (forms_in (item_of item.now)))) }
@@ -36,14 +36,14 @@ fn item_constants(
     }
 }
 
-/// The constants, for these metrics, of all rows that name the metric. It stops at `Limit(Constant)` where
-/// such a constant isn't small after some term.
+/// The constants, for these metrics, of all rows that name the metric, unless such a constant isn't small
+/// after some term.
 pub fn constants_naming(
     alloc: Global,
     items: &[Item],
     metrics: &Metrics,
     name: &str,
-) -> Result<Vec<RowConstant>, CompileStop>
+) -> Result<Vec<RowConstant>, Stop<LargeConstant>>
     ensures constants { IfOk result (λ constants. AreConstantsOf metrics.now
         (naming name.now (forms_of (items_of items.now))) constants.items) }
     ensures stop { IfErr result
@@ -53,7 +53,7 @@ pub fn constants_naming(
     for item in items {
         let mut more = item_constants(alloc, item, metrics, name)?;
         if constants.append(&mut more).is_err() {
-            return Err(CompileStop::OutOfMemory);
+            return Err(Stop::OutOfMemory);
         }
     }
     Ok(constants)

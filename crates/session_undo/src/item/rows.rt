@@ -12,8 +12,8 @@ ghost use Rattle.constraint_compile.specs.Suggestions.{suggested_row, IsSuggesti
 
 use crate::item::WindowSize;
 use crate::row_numbers::{HEIGHT_ROW, LEFT_ROW, TOP_ROW, VIEW_ROWS, WIDTH_ROW};
-use constraint_compile::{CompileStop, Compiled, Suggestion};
-use frac_core::{Frac, OutOfMemory};
+use constraint_compile::{Compiled, Suggestion};
+use frac_core::{Frac, OutOfMemory, Stop};
 use name_tables::Metrics;
 use problem_core::{REQUIRED, Rel, Row, Term};
 use std::alloc::Global;
@@ -125,9 +125,7 @@ pub fn small_line_rows(
 {
     match line.rows_now(alloc, metrics) {
         Ok(rows) => Ok(rows),
-        Err(CompileStop::OutOfMemory) => Err(OutOfMemory),
-        Err(CompileStop::Unknown(_) | CompileStop::Kind(_) | CompileStop::Limit(_)) => {
-            unreachable!()
-        }
+        Err(Stop::OutOfMemory) => Err(OutOfMemory),
+        Err(Stop::Refused(_)) => unreachable!(),
     }
 }

@@ -30,10 +30,10 @@ use crate::item::rows::{size_rows, suggestion_rows, view_rows};
 use crate::item::{HeldSize, WindowSize, size_of};
 use crate::scene::Scene;
 use crate::scene::drafts::{as_held, rows_after, with_less, with_more, with_rows};
-use constraint_compile::{CompileStop, Compiled, Suggestion};
-use frac_core::OutOfMemory;
+use constraint_compile::{Compiled, LargeConstant, Suggestion};
+use frac_core::{OutOfMemory, Stop};
 use layout_solver::Change;
-use name_tables::{LimitWord, Metrics};
+use name_tables::Metrics;
 use problem_core::{Problem, Row};
 use script_text::AttrWord;
 use view_tree::ViewId;
@@ -93,9 +93,12 @@ impl Scene {
     }
 
     /// The changes by which the rows become those for these metrics, of which the one of this name may have
-    /// another value. It stops at `Limit(Constant)` where a constant isn't small after some term, or moves
-    /// too far.
-    pub fn changes_for(&self, metrics: &Metrics, name: &str) -> Result<Vec<Change>, CompileStop>
+    /// another value, unless a constant isn't small after some term, or moves too far.
+    pub fn changes_for(
+        &self,
+        metrics: &Metrics,
+        name: &str,
+    ) -> Result<Vec<Change>, Stop<LargeConstant>>
         requires { AreSameBut name.now self.now.scene.metrics metrics.now }
         ensures changes { IfOk result (λ to. AreChangesFor self.now.scene metrics.now to.items) }
         ensures stop { IfErr result (MayLackChanges self.now.scene metrics.now) }
@@ -104,7 +107,7 @@ impl Scene {
         let constants = constants_naming(self.alloc, self.items.as_slice(), metrics, name)?;
         match moves(self.alloc, self.engine.rows(), &constants)? {
             Some(to) => Ok(to),
-            None => Err(CompileStop::Limit(LimitWord::Constant)),
+            None => Err(Stop::Refused(LargeConstant)),
         }
     }
 

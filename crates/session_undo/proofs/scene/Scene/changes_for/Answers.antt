@@ -29,4 +29,4 @@ returns-clause-stop c =
     let own = rw c.as_slice.ensures at c.in_ok-constants.ensures.constants in
     let far = rw (c.in-None.is, c.rows.ensures, c.deref.ensures.value) at c.in_ok-to.ensures.none in
     rw (← c.self.view_is)
-    (changes-far c.self.inside.tree c.self.inside.metrics (items_of c.self.inside.items.items) c.self.inside.next_row c.self.inside.engine c.args.name.now c.args.metrics.now same c.self.invariant.0.scene.are_rows c.show_layout.ensures.whole c.in_ok-constants.constants.items own far)
+    (changes-far c.self.inside.tree c.self.inside.metrics (items_of c.self.inside.items.items) c.self.inside.next_row c.self.inside.engine c.args.name.now c.args.metrics.now same c.self.invariant.0.scene.are_rows c.show_layout.ensures.whole c.in_ok-constants.constants.items own (record {}) far)

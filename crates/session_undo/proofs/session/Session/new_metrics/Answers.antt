@@ -12,8 +12,8 @@ changes_for-requires c =
     let made = rw (c.in_ok-metrics.ensures, c.metrics.ensures) at (c.in_ok-put_metric.ensures.made yes) in
     rw made.0 (other-metrics c.self.inside.scene.scene.metrics c.args.name.now c.args.value)
 
-pub returns-in-Err-Limit-clause-refused : goal.returns-in-Err-Limit-clause-refused
-returns-in-Err-Limit-clause-refused c =
+pub returns-in-Err-Refused-clause-refused : goal.returns-in-Err-Refused-clause-refused
+returns-in-Err-Refused-clause-refused c =
     let old = (session_at c.self.inside.scene c.self.inside.budget c.self.inside.limits) in
     let yes : c.in_ok-put_metric.field-0 ≡ true = search rules in
     let made = rw (c.in_ok-metrics.ensures, c.metrics.ensures) at (c.in_ok-put_metric.ensures.made yes) in
@@ -23,4 +23,4 @@ returns-in-Err-Limit-clause-refused c =
       room = made.1;
       new_is = made.0;
     } in
-    rw (← c.self.view_is) (metric-lacks old c.args.name.now c.args.value c.put_metric.new.metrics NoEnd c.in-Err-Limit.word named (rw c.in-Err-Limit.field-0-is at c.in-Err-Limit.ensures.stop))
+    rw (← c.self.view_is) (metric-lacks old c.args.name.now c.args.value c.put_metric.new.metrics NoEnd (record {}) named (rw c.in-Err-Refused.field-0-is at c.in-Err-Refused.ensures.stop))
