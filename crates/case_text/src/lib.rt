@@ -10,7 +10,8 @@
 //! }
 //! ```
 //!
-//! What [`print_answers`] keeps: the status is 0 only where all that `printed` made of the input was written.
+//! What holds: a text line stands for the bytes that its escapes mean (`line_bytes` in `specs/Escapes.antt`),
+//! and bytes are shown as lines (`as_lines`). What [`print_answers`] reads and writes is said by no clause.
 //!
 //! In reading order: `escapes` (text lines, read and written), `program` (input, output and exit status).
 #![tactic(auto)]
