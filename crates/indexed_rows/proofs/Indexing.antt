@@ -9,10 +9,10 @@ use Rattle.std.proofs.lemmas.List.Elements.{All-cons, Contains-get_or}
 use Rattle.std.proofs.Math.Seq.{get_or-append_seam}
 use Rattle.row_core.specs.Rows.{Term, coefficient, IsKeptRow}
 use Rattle.row_core.proofs.Places.{absent, coefficient_at}
+use Rattle.row_core.proofs.Walks.{nothing}
 use Rattle.indexed_rows.specs.Indexes.{IsColumnOf, IsIndexOf, list_at, row_at}
 use Rattle.indexed_rows.specs.Lists.{HasColumn, IsListedAt, IsSameBut}
 use Rattle.indexed_rows.proofs.Columns.{listed_within}
-use Rattle.indexed_rows.proofs.Relisting.{nothing}
 
 -- ---- the versions
 

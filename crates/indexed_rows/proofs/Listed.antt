@@ -10,7 +10,8 @@ use Rattle.std.proofs.lemmas.List.Elements.{Contains-append_left, Contains-appen
 use Rattle.std.proofs.lemmas.List.Quantifiers.{all_pairs_remove}
 use Rattle.std.proofs.lemmas.List.Sorted.{searched}
 use Rattle.std.proofs.Math.Seq.{drop-cons}
-use Rattle.indexed_rows.specs.Lists.{IsRisingList, IsWith, IsWithout}
+use Rattle.indexed_rows.specs.Indexes.{IsRisingList}
+use Rattle.indexed_rows.specs.Lists.{IsWith, IsWithout}
 
 -- a list that rises doesn't fall
 rises_to : (xs : List ℕ) → IsRisingList xs → (i j : ℕ) → i ≤ j → j < length xs → get_or xs i 0 ≤ get_or xs j 0

@@ -1,5 +1,5 @@
 -- The walk over the old and the new row.
-use Rattle.std.proofs.Common.{◌≡◌, ◌≢◌, ◌↔◌, ◌∙◌, ◌⊎◌, inl, inr, ℕ, zero, suc, ◌+◌, ◌<◌, ◌≤◌, List, [], ◌∷◌, ◌++◌, length, take, drop, get_or, pos, sym, refl, subst, ap, arith, All}
+use Rattle.std.proofs.Common.{◌≡◌, ◌≢◌, ◌↔◌, ◌∙◌, ◌⊎◌, inl, inr, ℕ, zero, suc, ◌+◌, ◌<◌, ◌≤◌, List, [], ◌∷◌, ◌++◌, length, take, drop, get_or, sym, refl, subst, ap, arith, All}
 use Rattle.std.specs.List.{Contains}
 use Rattle.std.specs.Global.{Vec}
 use Rattle.std.proofs.lemmas.Bool.{cases_eq, cases_lt}
@@ -8,15 +8,14 @@ use Rattle.std.proofs.lemmas.List.Elements.{All-push}
 use Rattle.std.proofs.Math.Seq.{drop-cons}
 use Rattle.row_core.specs.Rows.{Term, IsRising}
 use Rattle.row_core.proofs.Places.{all_tail}
-use Rattle.indexed_rows.specs.Indexes.{list_at}
+use Rattle.row_core.proofs.Walks.{nothing}
+use Rattle.indexed_rows.specs.Indexes.{IsRisingList, list_at}
 use Rattle.indexed_rows.proofs.Columns.{listed_within}
-use Rattle.indexed_rows.specs.Lists.{HasColumn, IsChangedAt, IsListedAt, IsRisingList, IsSameBut, IsWith, IsWithout}
+use Rattle.indexed_rows.specs.Lists.{HasColumn, IsChangedAt, IsListedAt, IsSameBut, IsWith, IsWithout}
 use Rattle.row_core.specs.Walks.{column_at}
+use Rattle.indexed_rows.specs.declared.lists.RowChange.{RowChange}
 use Rattle.indexed_rows.specs.Walks.{IsBehind, IsNext, IsNextInBoth, IsRelisted}
 use Rattle.frac_core.proofs.Bools.{iff-through as both_ways}
-
-abbrev pub nothing : Term
-nothing = record { col = 0; by = pos 0 }
 
 -- ---- the columns of a row in parts
 
@@ -176,8 +175,8 @@ same_then w old mid new first second = record {
 
 -- ---- the steps
 
-pub read_at : (row : List Term) (i : ℕ) (t : Term) → i < length row → t ≡ get_or row i t → t.col ≡ column_at row i
-read_at row i t within is = ap (λ (s : Term). s.col) (is ∙ get_or_default row i t nothing within)
+pub read_at : (row : List Term) (i : ℕ) (d : Term) → i < length row → (get_or row i d).col ≡ column_at row i
+read_at row i d within = ap (λ (t : Term). t.col) (get_or_default row i d nothing within)
 
 -- the old row has the next column
 old_mid : (old new : List Term) (i j : ℕ) → i < length old → take j new ++ drop i old ≡ take j new ++ get_or old i nothing ∷ drop (i + 1) old
@@ -210,19 +209,22 @@ old_none old new i j rising behind within h =
 behind_later : (out row : List Term) (i : ℕ) → IsBehind out row i → IsBehind out row (i + 1)
 behind_later out row i behind k d inside m le within = behind k d inside m (omega arith) within
 
-pub old_step : (w : ℕ) (old new : List Term) (i j : ℕ) (lists next : List (Vec ℕ)) (c : ℕ) → IsRising old → IsNext old i new j → c ≡ column_at old i
-    → IsRelisted w old new i j lists → IsChangedAt (IsWithout w) c lists next → IsRelisted w old new (i + 1) j next
-old_step w old new i j lists next c rising first col is changed = record {
-  old_within = omega (arith, first.within);
-  new_within = is.new_within;
-  behind = behind_later (take j new) old i is.behind;
-  listed =
-      listed_without w c (take j new ++ drop i old) (take j new ++ drop (i + 1) old) lists next is.listed changed
-      (λ d other.
-      subst (λ (row : List Term). HasColumn d (take j new ++ drop (i + 1) old) ↔ HasColumn d row) (sym (old_mid old new i j first.within))
-      (between_without d (get_or old i nothing) (take j new) (drop (i + 1) old) (λ e. other (e ∙ sym col))))
-      (λ h. old_none old new i j rising is.behind first.within (subst (λ (n : ℕ). HasColumn n (take j new ++ drop (i + 1) old)) col h));
-}
+pub old_step : (change : RowChange) (i j : ℕ) (lists next : List (Vec ℕ)) (c : ℕ) → IsRising change.old.now → IsNext change.old.now i change.new.now j → c ≡ column_at change.old.now i
+    → IsRelisted change i j lists → IsChangedAt (IsWithout change.w) c lists next → IsRelisted change (i + 1) j next
+old_step change i j lists next c rising first col is changed =
+    let old : List Term = change.old.now in
+    let new : List Term = change.new.now in
+    record {
+      old_within = omega (arith, first.within);
+      new_within = is.new_within;
+      behind = behind_later (take j new) old i is.behind;
+      listed =
+          listed_without change.w c (take j new ++ drop i old) (take j new ++ drop (i + 1) old) lists next is.listed changed
+          (λ d other.
+          subst (λ (row : List Term). HasColumn d (take j new ++ drop (i + 1) old) ↔ HasColumn d row) (sym (old_mid old new i j first.within))
+          (between_without d (get_or old i nothing) (take j new) (drop (i + 1) old) (λ e. other (e ∙ sym col))))
+          (λ h. old_none old new i j rising is.behind first.within (subst (λ (n : ℕ). HasColumn n (take j new ++ drop (i + 1) old)) col h));
+    }
 
 later_old : (old : List Term) (i m col : ℕ) → IsRising old → col < column_at old i → i ≤ m → m < length old → col < column_at old m
 later_old old i m col rising less le within =
@@ -241,44 +243,52 @@ behind_push new row i j within behind ahead =
     subst (λ (out : List Term). All Behind out) (sym (take_more new j nothing within))
     (All-push Behind (take j new) (get_or new j nothing) behind ahead)
 
-pub new_step : (w : ℕ) (old new : List Term) (i j : ℕ) (lists next : List (Vec ℕ)) (c : ℕ) → IsRising old → IsNext new j old i → c ≡ column_at new j
-    → IsRelisted w old new i j lists → IsChangedAt (IsWith w) c lists next → IsRelisted w old new i (j + 1) next
-new_step w old new i j lists next c rising first col is changed = record {
-  old_within = is.old_within;
-  new_within = omega (arith, first.within);
-  behind =
-      behind_push new old i j first.within is.behind
-      (λ m le within. later_old old i m (column_at new j) rising (first.first (omega (arith, le, within))) le within);
-  listed =
-      listed_with w c (take j new ++ drop i old) (take (j + 1) new ++ drop i old) lists next is.listed changed
-      (λ d other.
-      subst (λ (row : List Term). HasColumn d row ↔ HasColumn d (take j new ++ drop i old)) (sym (new_mid old new i j first.within))
-      (between_with d (get_or new j nothing) (take j new) (drop i old) (λ e. other (e ∙ sym col))))
-      (subst (λ (row : List Term). HasColumn c row) (sym (new_mid old new i j first.within))
-      (subst (λ (n : ℕ). HasColumn n ((take j new ++ get_or new j nothing ∷ []) ++ drop i old)) (sym col)
-      (with_here (get_or new j nothing) (take j new) (drop i old))));
-}
+pub new_step : (change : RowChange) (i j : ℕ) (lists next : List (Vec ℕ)) (c : ℕ) → IsRising change.old.now → IsNext change.new.now j change.old.now i → c ≡ column_at change.new.now j
+    → IsRelisted change i j lists → IsChangedAt (IsWith change.w) c lists next → IsRelisted change i (j + 1) next
+new_step change i j lists next c rising first col is changed =
+    let old : List Term = change.old.now in
+    let new : List Term = change.new.now in
+    record {
+      old_within = is.old_within;
+      new_within = omega (arith, first.within);
+      behind =
+          behind_push new old i j first.within is.behind
+          (λ m le within. later_old old i m (column_at new j) rising (first.first (omega (arith, le, within))) le within);
+      listed =
+          listed_with change.w c (take j new ++ drop i old) (take (j + 1) new ++ drop i old) lists next is.listed changed
+          (λ d other.
+          subst (λ (row : List Term). HasColumn d row ↔ HasColumn d (take j new ++ drop i old)) (sym (new_mid old new i j first.within))
+          (between_with d (get_or new j nothing) (take j new) (drop i old) (λ e. other (e ∙ sym col))))
+          (subst (λ (row : List Term). HasColumn c row) (sym (new_mid old new i j first.within))
+          (subst (λ (n : ℕ). HasColumn n ((take j new ++ get_or new j nothing ∷ []) ++ drop i old)) (sym col)
+          (with_here (get_or new j nothing) (take j new) (drop i old))));
+    }
 
-pub both_step : (w : ℕ) (old new : List Term) (i j : ℕ) (lists : List (Vec ℕ)) → IsRising old → IsNextInBoth old i new j
-    → IsRelisted w old new i j lists → IsRelisted w old new (i + 1) (j + 1) lists
-both_step w old new i j lists rising both is = record {
-  old_within = omega (arith, both.left_within);
-  new_within = omega (arith, both.right_within);
-  behind =
-      behind_push new old (i + 1) j both.right_within (behind_later (take j new) old i is.behind)
-      (λ m le within. omega (arith, both.one_column, rising i m nothing (omega (arith, le)) within));
-  listed =
-      listed_alike w (take j new ++ drop i old) (take (j + 1) new ++ drop (i + 1) old) lists is.listed
-      (λ d.
-      subst (λ (row : List Term). HasColumn d (take (j + 1) new ++ drop (i + 1) old) ↔ HasColumn d row) (sym (old_mid old new i j both.left_within))
-      (subst (λ (row : List Term). HasColumn d row ↔ HasColumn d (take j new ++ get_or old i nothing ∷ drop (i + 1) old)) (sym (new_mid old new (i + 1) j both.right_within))
-      (between_both d (get_or new j nothing) (get_or old i nothing) (take j new) (drop (i + 1) old) (sym both.one_column))));
-}
+pub both_step : (change : RowChange) (i j : ℕ) (lists : List (Vec ℕ)) → IsRising change.old.now → IsNextInBoth change.old.now i change.new.now j
+    → IsRelisted change i j lists → IsRelisted change (i + 1) (j + 1) lists
+both_step change i j lists rising both is =
+    let old : List Term = change.old.now in
+    let new : List Term = change.new.now in
+    record {
+      old_within = omega (arith, both.left_within);
+      new_within = omega (arith, both.right_within);
+      behind =
+          behind_push new old (i + 1) j both.right_within (behind_later (take j new) old i is.behind)
+          (λ m le within. omega (arith, both.one_column, rising i m nothing (omega (arith, le)) within));
+      listed =
+          listed_alike change.w (take j new ++ drop i old) (take (j + 1) new ++ drop (i + 1) old) lists is.listed
+          (λ d.
+          subst (λ (row : List Term). HasColumn d (take (j + 1) new ++ drop (i + 1) old) ↔ HasColumn d row) (sym (old_mid old new i j both.left_within))
+          (subst (λ (row : List Term). HasColumn d row ↔ HasColumn d (take j new ++ get_or old i nothing ∷ drop (i + 1) old)) (sym (new_mid old new (i + 1) j both.right_within))
+          (between_both d (get_or new j nothing) (get_or old i nothing) (take j new) (drop (i + 1) old) (sym both.one_column))));
+    }
 
 -- the next column of the old row has a list
-pub has_list : (w : ℕ) (old new : List Term) (i j : ℕ) (lists : List (Vec ℕ)) → i < length old → IsRelisted w old new i j lists → column_at old i < length lists
-has_list w old new i j lists within is =
+pub has_list : (change : RowChange) (i j : ℕ) (lists : List (Vec ℕ)) → i < length change.old.now → IsRelisted change i j lists → column_at change.old.now i < length lists
+has_list change i j lists within is =
+    let old : List Term = change.old.now in
+    let new : List Term = change.new.now in
     let here : HasColumn (column_at old i) (take j new ++ drop i old) =
     subst (HasColumn (column_at old i)) (sym (old_mid old new i j within))
     (has_right (column_at old i) (take j new) (get_or old i nothing ∷ drop (i + 1) old) (inl refl)) in
-    listed_within lists (column_at old i) w ((is.listed.listed (column_at old i)).1 here)
+    listed_within lists (column_at old i) change.w ((is.listed.listed (column_at old i)).1 here)

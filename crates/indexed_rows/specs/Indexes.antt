@@ -9,9 +9,13 @@ use Rattle.version_list.specs.Versions.{Versions}
 abbrev pub row_at : List (List Term) → ℕ → List Term
 row_at rows w = slice_index_or rows w []
 
+-- each slot is below all later ones
+abbrev pub IsRisingList : List ℕ → Type 0
+IsRisingList list = AllPairs (λ v w. v < w) list
+
 -- the slots of the rows in which the column stands, rising
 pub record IsColumnOf (rows : List (List Term)) (c : ℕ) (list : List ℕ) : Type 0 where
-  pub rising : AllPairs (λ v w. v < w) list
+  pub rising : IsRisingList list
   pub exact : (w : ℕ) → Contains list w ↔ (coefficient c (row_at rows w) ≢ pos 0)
 
 -- the list of a column, with nothing in it past the last slot

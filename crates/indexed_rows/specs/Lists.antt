@@ -1,13 +1,9 @@
 -- What becomes of the lists of an index when a row is changed.
-use Rattle.std.specs.Prelude.{◌≡◌, ◌≢◌, ◌↔◌, ◌⊎◌, ℕ, ◌<◌, List, [], ◌∷◌, length, AllPairs}
+use Rattle.std.specs.Prelude.{◌≡◌, ◌≢◌, ◌↔◌, ◌⊎◌, ℕ, List, [], ◌∷◌, length}
 use Rattle.std.specs.List.{Contains}
 use Rattle.std.specs.Global.{Vec}
 use Rattle.row_core.specs.Rows.{Term}
-use Rattle.indexed_rows.specs.Indexes.{list_at}
-
--- each slot is below all later ones
-abbrev pub IsRisingList : List ℕ → Type 0
-IsRisingList list = AllPairs (λ v w. v < w) list
+use Rattle.indexed_rows.specs.Indexes.{IsRisingList, list_at}
 
 -- the new list rises, has w, and of the others those that the old one has
 pub record IsWith (w : ℕ) (old new : List ℕ) : Type 0 where

@@ -4,6 +4,7 @@ use Rattle.std.specs.Global.{Vec}
 use Rattle.row_core.specs.Rows.{Term}
 use Rattle.row_core.specs.Walks.{column_at}
 use Rattle.indexed_rows.specs.Lists.{IsListedAt}
+use Rattle.indexed_rows.specs.declared.lists.RowChange.{RowChange}
 
 -- the row has a place i, and its column there is below that of the other row at j
 pub record IsNext (row : List Term) (i : ℕ) (other : List Term) (j : ℕ) : Type 0 where
@@ -20,9 +21,9 @@ pub record IsNextInBoth (row : List Term) (i : ℕ) (other : List Term) (j : ℕ
 abbrev pub IsBehind : List Term → List Term → ℕ → Type 0
 IsBehind read row i = All (λ t. (m : ℕ) → i ≤ m → m < length row → t.col < column_at row m) read
 
--- w is listed for the first j entries of the new row and for the old row's from i on
-pub record IsRelisted (w : ℕ) (old new : List Term) (i j : ℕ) (lists : List (Vec ℕ)) : Type 0 where
-  pub old_within : i ≤ length old
-  pub new_within : j ≤ length new
-  pub behind : IsBehind (take j new) old i
-  pub listed : IsListedAt w (take j new ++ drop i old) lists
+-- the slot is listed for the first j entries of the new row and for the old row's from i on
+pub record IsRelisted (change : RowChange) (i j : ℕ) (lists : List (Vec ℕ)) : Type 0 where
+  pub old_within : i ≤ length change.old.now
+  pub new_within : j ≤ length change.new.now
+  pub behind : IsBehind (take j change.new.now) change.old.now i
+  pub listed : IsListedAt change.w (take j change.new.now ++ drop i change.old.now) lists

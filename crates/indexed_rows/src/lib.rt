@@ -43,7 +43,7 @@ mod list;
 mod lists;
 
 use frac_core::OutOfMemory;
-use lists::relist;
+use lists::{RowChange, relist};
 use row_core::{Col, IntRow};
 use std::alloc::Global;
 use std::marker::Model;
@@ -84,7 +84,12 @@ fn replace(
     ensures rows_before { rows.new.before ≡ rows.old.before }
     ensures lists_before { lists.new.before ≡ lists.old.before }
 {
-    relist(lists, w, rows.get(w as usize).entries(), row.entries())?;
+    let change = RowChange {
+        w,
+        old: rows.get(w as usize).entries(),
+        new: row.entries(),
+    };
+    relist(lists, &change)?;
     rows.put(w as usize, row)
 }
 
@@ -105,7 +110,12 @@ fn append(
 {
     let w = rows.len() as u32;
     lists.push(Vec::new(alloc))?;
-    relist(lists, w, &[], row.entries())?;
+    let change = RowChange {
+        w,
+        old: &[],
+        new: row.entries(),
+    };
+    relist(lists, &change)?;
     rows.push(row)
 }
 

@@ -1,6 +1,7 @@
 // The list of a column: the slots of the rows in which it stands, rising.
 ghost use Rattle.std.specs.Prelude.{OnOk};
-ghost use Rattle.indexed_rows.specs.Lists.{IsRisingList, IsWith, IsWithout};
+ghost use Rattle.indexed_rows.specs.Indexes.{IsRisingList};
+ghost use Rattle.indexed_rows.specs.Lists.{IsWith, IsWithout};
 
 use frac_core::OutOfMemory;
 

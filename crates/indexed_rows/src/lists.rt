@@ -1,8 +1,8 @@
 // The lists of an index, when a row is changed.
 ghost use Rattle.std.specs.Prelude.{◌≡◌, ◌<◌, ◌≤◌, ◌+◌, ◌⊎◌, length, IfOk, OnOk};
 ghost use Rattle.row_core.specs.Rows.{IsRising};
-ghost use Rattle.indexed_rows.specs.Indexes.{list_at};
-ghost use Rattle.indexed_rows.specs.Lists.{IsRisingList, IsWith, IsWithout, IsChangedAt, IsListedAt};
+ghost use Rattle.indexed_rows.specs.Indexes.{IsRisingList, list_at};
+ghost use Rattle.indexed_rows.specs.Lists.{IsWith, IsWithout, IsChangedAt, IsListedAt};
 ghost use Rattle.indexed_rows.specs.Lists.{IsSameBut};
 ghost use Rattle.indexed_rows.specs.Matrices.{IsBelow};
 ghost use Rattle.indexed_rows.specs.Walks.{IsNext, IsNextInBoth, IsRelisted};
@@ -36,6 +36,14 @@ fn unlist_one(lists: &mut VersionList<Vec<u32>>, col: Col, w: u32) -> Result<(),
     Ok(())
 }
 
+/// The entries of a slot's row, and those of the row that takes its place.
+#[derive(Clone, Copy)]
+pub(crate) struct RowChange<'a> {
+    pub w: u32,
+    pub old: &'a [Entry],
+    pub new: &'a [Entry],
+}
+
 // How many entries of the old and the new row have been read.
 #[derive(Clone, Copy)]
 struct Place {
@@ -52,21 +60,21 @@ enum Turn {
 }
 
 // Which of the rows, one of which is not at its end, has the next column.
-fn next_turn(old: &[Entry], new: &[Entry], at: Place) -> Turn
-    requires old { at.old ≤ length old.now }
-    requires new { at.new ≤ length new.now }
-    requires more { at.old < length old.now ⊎ at.new < length new.now }
-    ensures old { result ≡ Old → IsNext old.now at.old new.now at.new }
-    ensures new { result ≡ New → IsNext new.now at.new old.now at.old }
-    ensures both { result ≡ Both → IsNextInBoth old.now at.old new.now at.new }
+fn next_turn(change: &RowChange<'_>, at: Place) -> Turn
+    requires old { at.old ≤ length change.now.old.now }
+    requires new { at.new ≤ length change.now.new.now }
+    requires more { at.old < length change.now.old.now ⊎ at.new < length change.now.new.now }
+    ensures old { result ≡ Old → IsNext change.now.old.now at.old change.now.new.now at.new }
+    ensures new { result ≡ New → IsNext change.now.new.now at.new change.now.old.now at.old }
+    ensures both { result ≡ Both → IsNextInBoth change.now.old.now at.old change.now.new.now at.new }
 {
-    if at.new == new.len() {
+    if at.new == change.new.len() {
         return Turn::Old;
     }
-    if at.old == old.len() {
+    if at.old == change.old.len() {
         return Turn::New;
     }
-    let (left, right) = (old[at.old], new[at.new]);
+    let (left, right) = (change.old[at.old], change.new[at.new]);
     if left.col.0 < right.col.0 {
         Turn::Old
     } else if right.col.0 < left.col.0 {
@@ -79,31 +87,29 @@ fn next_turn(old: &[Entry], new: &[Entry], at: Place) -> Turn
 // Reads what the two rows have at the next column, and changes its list where one of them lacks it.
 fn step(
     lists: &mut VersionList<Vec<u32>>,
-    w: u32,
-    old: &[Entry],
-    new: &[Entry],
+    change: &RowChange<'_>,
     at: Place,
 ) -> Result<Place, OutOfMemory>
-    requires old { IsRising old.now }
-    requires new { IsRising new.now }
-    requires below { IsBelow (length lists.old.items) new.now }
-    requires more { at.old < length old.now ⊎ at.new < length new.now }
-    requires relisted { IsRelisted w old.now new.now at.old at.new lists.old.items }
-    ensures relisted { IfOk result (λ next. IsRelisted w old.now new.now next.old next.new lists.new.items) }
-    ensures same { OnOk result (IsSameBut w lists.old.items lists.new.items) }
+    requires old { IsRising change.now.old.now }
+    requires new { IsRising change.now.new.now }
+    requires below { IsBelow (length lists.old.items) change.now.new.now }
+    requires more { at.old < length change.now.old.now ⊎ at.new < length change.now.new.now }
+    requires relisted { IsRelisted change.now at.old at.new lists.old.items }
+    ensures relisted { IfOk result (λ next. IsRelisted change.now next.old next.new lists.new.items) }
+    ensures same { OnOk result (IsSameBut change.now.w lists.old.items lists.new.items) }
     ensures further { IfOk result (λ next. at.old + at.new < next.old + next.new) }
     ensures before { lists.new.before ≡ lists.old.before }
 {
     let mut next = at;
-    match next_turn(old, new, at) {
+    match next_turn(change, at) {
         Turn::Old => {
-            let entry = old[at.old];
-            unlist_one(lists, entry.col, w)?;
+            let entry = change.old[at.old];
+            unlist_one(lists, entry.col, change.w)?;
             next.old += 1;
         }
         Turn::New => {
-            let entry = new[at.new];
-            list_one(lists, entry.col, w)?;
+            let entry = change.new[at.new];
+            list_one(lists, entry.col, change.w)?;
             next.new += 1;
         }
         Turn::Both => {
@@ -114,25 +120,23 @@ fn step(
     Ok(next)
 }
 
-/// Takes w out of the lists of the columns that only the old row has, and puts it into those that only the
-/// new row has.
+/// Takes the slot out of the lists of the columns that only the old row has, and puts it into those that
+/// only the new row has.
 pub(crate) fn relist(
     lists: &mut VersionList<Vec<u32>>,
-    w: u32,
-    old: &[Entry],
-    new: &[Entry],
+    change: &RowChange<'_>,
 ) -> Result<(), OutOfMemory>
-    requires old { IsRising old.now }
-    requires new { IsRising new.now }
-    requires below { IsBelow (length lists.old.items) new.now }
-    requires listed { IsListedAt w old.now lists.old.items }
-    ensures listed { OnOk result (IsListedAt w new.now lists.new.items) }
-    ensures same { OnOk result (IsSameBut w lists.old.items lists.new.items) }
+    requires old { IsRising change.now.old.now }
+    requires new { IsRising change.now.new.now }
+    requires below { IsBelow (length lists.old.items) change.now.new.now }
+    requires listed { IsListedAt change.now.w change.now.old.now lists.old.items }
+    ensures listed { OnOk result (IsListedAt change.now.w change.now.new.now lists.new.items) }
+    ensures same { OnOk result (IsSameBut change.now.w lists.old.items lists.new.items) }
     ensures before { lists.new.before ≡ lists.old.before }
 {
     let mut at = Place { old: 0, new: 0 };
-    while at.old < old.len() || at.new < new.len() {
-        at = step(lists, w, old, new, at)?;
+    while at.old < change.old.len() || at.new < change.new.len() {
+        at = step(lists, change, at)?;
     }
     Ok(())
 }

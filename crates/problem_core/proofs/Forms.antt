@@ -1,5 +1,5 @@
 -- Sums of integers over lists, and linear forms: a form all of whose coefficients are 0 has the value 0.
-use Rattle.std.proofs.Common.{◌≡◌, ℕ, zero, suc, ◌*◌, ◌/◌, ◌<◌, ◌≤◌, max, Bool, cond, nat_eq, List, [], ◌∷◌, ◌++◌, map, filter, length, take, get_or, ◌+◌, ℤ, pos, ◌+ℤ◌, ◌-ℤ◌, ◌*ℤ◌, neg_ℤ, refl, sym, ap, ap₂, ◌∙◌, inl, inr, arith, ne_eqb, mul-div_cancel, mul-pos}
+use Rattle.std.proofs.Common.{◌≡◌, ℕ, zero, suc, ◌*◌, ◌/◌, ◌<◌, ◌≤◌, max, Bool, cond, nat_eq, List, [], ◌∷◌, ◌++◌, map, filter, length, take, get_or, ◌+◌, ℤ, pos, ◌+ℤ◌, ◌-ℤ◌, ◌*ℤ◌, neg_ℤ, refl, sym, ap, ap₂, ◌∙◌, inl, inr, arith, mul-div_cancel, mul-pos}
 use Rattle.std.proofs.lemmas.List.{take_more}
 use Rattle.std.specs.List.{AllByRecursion as Each}
 use Rattle.std.proofs.lemmas.List.Elements.{recursion_from_All, All-from_recursion, All-filter}
@@ -8,7 +8,7 @@ use borrow.Author.Differences.{ints}
 use Rattle.problem_core.specs.declared.parts.Term.{Term}
 use Rattle.problem_core.specs.Layout.{sum_of, product_of, coefficient, value_at}
 use Rattle.frac_core.proofs.Integers.{mul-add_left, add-mul_right, mul_assoc_ℤ, mul_left_comm_ℤ, zero-mul_ℤ, mul-zero_ℤ, zero-add_ℤ, add-zero_ℤ, gap-share}
-use Rattle.frac_core.proofs.Bools.{count-same as at_same, cond-mul}
+use Rattle.frac_core.proofs.Bools.{cond-mul, count-other as at_other, count-same as at_same}
 use Rattle.frac_core.proofs.Sums.{sum-append, sum-push}
 
 -- ---- sums
@@ -44,9 +44,6 @@ below-add zero f g h e = refl
 below-add (suc n) f g h e = omega (arith, ints, e n, below-add n f g h e)
 
 -- ---- one entry
-
-at_other : (u v : ℕ) (k : ℤ) → (u ≡ v → ⊥) → cond (nat_eq u v) k (pos 0) ≡ pos 0
-at_other u v k e = rw (ne_eqb u v e) refl
 
 below-one : (bound u : ℕ) (k : ℤ) (n : ℕ → ℤ) → u < bound → sum_below bound (λ v. cond (nat_eq u v) k (pos 0) *ℤ n v) ≡ k *ℤ n u
 below-one zero u k n l = absurd (omega arith)

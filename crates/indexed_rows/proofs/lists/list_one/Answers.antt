@@ -1,7 +1,7 @@
 use Rattle.std.proofs.Common.{◌≡◌, subst, sym, List, ℕ}
 use Rattle.std.proofs.lemmas.Result.{on_ok_weaker}
-use Rattle.indexed_rows.specs.Indexes.{list_at}
-use Rattle.indexed_rows.specs.Lists.{IsWith, IsRisingList}
+use Rattle.indexed_rows.specs.Indexes.{IsRisingList, list_at}
+use Rattle.indexed_rows.specs.Lists.{IsWith}
 use Rattle.indexed_rows.proofs.Columns.{own_list, changed_at}
 use Rattle.indexed_rows.proofs.lists.list_one.Goals as goal
 

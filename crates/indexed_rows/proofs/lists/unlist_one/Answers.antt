@@ -1,6 +1,6 @@
 use Rattle.std.proofs.Common.{◌≡◌, subst, sym, List, ℕ}
-use Rattle.indexed_rows.specs.Indexes.{list_at}
-use Rattle.indexed_rows.specs.Lists.{IsWithout, IsRisingList}
+use Rattle.indexed_rows.specs.Indexes.{IsRisingList, list_at}
+use Rattle.indexed_rows.specs.Lists.{IsWithout}
 use Rattle.indexed_rows.proofs.Columns.{own_list, changed_at}
 use Rattle.indexed_rows.proofs.lists.unlist_one.Goals as goal
 
