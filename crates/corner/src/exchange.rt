@@ -27,7 +27,7 @@ ghost use Rattle.corner.specs.Swaps.Exchanges.{AreListedAfter, AreMarksAfter, Ar
 ghost use Rattle.corner.specs.Swaps.Exchanges.{IsExchangeOf};
 ghost use Rattle.corner.specs.Swaps.Exchanges.{IsMovedSlot, IsRestUntouched};
 ghost use Rattle.corner.specs.Swaps.Exchanges.{IsStaySlot, IsValueAfter, IsWhatAt, moved};
-ghost use Rattle.corner.specs.Kept.{AreSlots, IsKept, IsSlot};
+ghost use Rattle.corner.specs.Kept.{AreSlots, IsKept};
 ghost use Rattle.corner.specs.Swaps.NextLists.{AreKeptChanges, IsKeptChange};
 ghost use Rattle.corner.specs.Tables as tables;
 ghost use Rattle.corner.specs.Tables.{IsSign, entry, lists_of};

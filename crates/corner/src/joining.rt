@@ -15,7 +15,6 @@ ghost use Rattle.problem_core.specs.declared.parts.RowName.TheVariants.{Held};
 ghost use Rattle.problem_core.specs.declared.parts.Level.TheVariants.{Priority as PriorityLevel};
 ghost use Rattle.problem_core.specs.declared.stops.Quantity.TheVariants.{Rows, Terms};
 ghost use Rattle.frac_core.specs.declared.memory.Stop.TheVariants.{Refused};
-ghost use Rattle.corner_lines.specs.Joins.{with_row};
 ghost use Rattle.corner_lines.specs.LineEquations.{deviation as deviation_of};
 ghost use Rattle.corner.specs.Tables.{lists_of, marks_at, priority_at as level_at, problem_of, row_at};
 ghost use Rattle.corner.specs.declared.table.TheConstants.{LEVELS};
