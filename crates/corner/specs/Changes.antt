@@ -1,18 +1,16 @@
 -- What the changes of a corner answer.
-use Rattle.std.specs.Prelude.{◌≡◌, ℕ, false, List, [], ◌∷◌, ◌++◌, map, All}
+use Rattle.std.specs.Prelude.{◌≡◌, false, List, [], ◌∷◌, ◌++◌, map, All}
 use Rattle.problem_core.specs.declared.parts.Mark.{Mark}
 use Rattle.problem_core.specs.declared.parts.Side.{Side}
 use Rattle.problem_core.specs.declared.parts.RowName.{RowName}
-use Rattle.problem_core.specs.declared.stops.Quantity.{Quantity}
 use Rattle.problem_core.specs.declared.stops.Quantity.TheVariants.{Plain, Terms, Rows, Shifts}
 use Rattle.problem_core.specs.Changes.Stops.{TableStop}
 use Rattle.frac_core.specs.declared.memory.Stop.TheVariants.{Refused, OutOfMemory as NoMemory}
 use Rattle.problem_core.specs.Layout.{Row, Problem}
-use Rattle.frac_core.specs.Fraction.{Fraction}
 use Rattle.problem_core.specs.Corners.{HasNegativeColumn, attr_column}
 use Rattle.problem_core.specs.Changes.Begins.{BeginsWith}
 use Rattle.problem_core.specs.Unfit.{IsUnfitWhat}
-use Rattle.cert_core.specs.Stops.{IsStopOf}
+use Rattle.cert_core.specs.Stops.{IsPartial, IsStopOf}
 use Rattle.cert_core.specs.declared.stops.RunStop.{RunStop}
 use Rattle.cert_core.specs.declared.stops.RunStop.TheVariants.{Conflict, Unfit, Spent, OutOfMemory}
 use Rattle.corner_laws.specs.Lifts.{with_rows}
@@ -41,13 +39,6 @@ pub record IsRewound (old new : CornerView) : Type 0 where
 abbrev pub IsAsBefore : CornerView → CornerView → TableStop → Type 0
 IsAsBefore old new (Refused quantity) = new ≡ old
 IsAsBefore old new NoMemory = IsRewound old new
-
--- of the rows that join: sums of their terms, or of a level's rows, and no others
-abbrev pub IsPartial : Quantity → Type 0
-IsPartial (Plain what) = ⊥
-IsPartial (Terms mark j) = Unit {0}
-IsPartial (Rows level j) = Unit {0}
-IsPartial (Shifts what j) = ⊥
 
 -- some of the new rows have joined the kept marks with their marks that are not negative, and the rest are
 -- over

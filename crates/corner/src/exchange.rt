@@ -25,9 +25,9 @@ ghost use Rattle.corner.specs.Swaps.Exchanges.{CanExchange, CanPivot, IsCostedLe
 ghost use Rattle.corner.specs.Swaps.Exchanges.{IsPivotStop};
 ghost use Rattle.corner.specs.Swaps.Exchanges.{AreListedAfter, AreMarksAfter, ArePut, IsExchangeBy};
 ghost use Rattle.corner.specs.Swaps.Exchanges.{IsExchangeOf};
-ghost use Rattle.corner.specs.Swaps.Exchanges.{IsRestUntouched};
+ghost use Rattle.corner.specs.Swaps.Exchanges.{IsMovedSlot, IsRestUntouched};
 ghost use Rattle.corner.specs.Swaps.Exchanges.{IsStaySlot, IsValueAfter, IsWhatAt, moved};
-ghost use Rattle.corner.specs.Kept.{AreSlots, IsKept, IsSlot};
+ghost use Rattle.corner.specs.Kept.{AreSlots, IsKept};
 ghost use Rattle.corner.specs.Swaps.NextLists.{AreKeptChanges, IsKeptChange};
 ghost use Rattle.corner.specs.Tables as tables;
 ghost use Rattle.corner.specs.Tables.{IsSign, entry, lists_of};
@@ -180,7 +180,6 @@ fn size(number: i64) -> i64
 
 // The value that the entering mark comes to.
 fn entering_value(table: &Table, pair: Pair, by: i64) -> Result<Frac, TableStop>
-    requires kept { IsKept (lists_of table.now) }
     requires pair { CanExchange (lists_of table.now) pair }
     requires by { by ≡ entry (lists_of table.now) pair.leave pair.enter }
     requires fits { IsFitting by }
@@ -196,7 +195,6 @@ fn entering_value(table: &Table, pair: Pair, by: i64) -> Result<Frac, TableStop>
 
 // The pivot, unless the entering line is a stay whose level has no room.
 fn pivot_with(table: &Table, pair: Pair, by: i64, value: Frac) -> Result<Pivot, TableStop>
-    requires kept { IsKept (lists_of table.now) }
     requires pair { CanExchange (lists_of table.now) pair }
     requires by { by ≡ entry (lists_of table.now) pair.leave pair.enter }
     requires fits { IsFitting by }
@@ -212,7 +210,6 @@ fn pivot_with(table: &Table, pair: Pair, by: i64, value: Frac) -> Result<Pivot, 
 
 // What the exchange makes of the entering line, or the mark or the stay's level that does not fit.
 fn pivot_of(table: &Table, pair: Pair) -> Result<Pivot, TableStop>
-    requires kept { IsKept (lists_of table.now) }
     requires pair { CanExchange (lists_of table.now) pair }
     ensures pair { IfOk result (λ pivot. pivot.pair ≡ pair) }
     ensures ok { IfOk result (IsPivotOf (lists_of table.now) pair) }
@@ -240,11 +237,8 @@ fn count_at(table: &Table, l: u32, line: u32, side: Side) -> i64
 
 // The row of an attribute or an inside line in which the entering line is replaced by its own row.
 fn moved_row(table: &Table, pivot: &Pivot, w: u32, what: What) -> Result<IntRow, TableStop>
-    requires kept { IsKept (lists_of table.now) }
     requires pivot { CanPivot (lists_of table.now) pivot.now }
-    requires slot { IsSlot (lists_of table.now) w }
-    requires other { w ≢ pivot.now.pair.leave }
-    requires stands { entry (lists_of table.now) w pivot.now.pair.enter ≢ pos 0 }
+    requires moved { IsMovedSlot (lists_of table.now) pivot.now.pair w }
     requires what { IsWhatAt (lists_of table.now) w what }
     ensures ok { IfOk result (λ row. IsReduced row (moved (lists_of table.now) pivot.now.pair w)) }
     ensures kept { IfOk result IsKeptRow }
@@ -264,11 +258,8 @@ fn moved_row(table: &Table, pivot: &Pivot, w: u32, what: What) -> Result<IntRow,
 
 // The value that it comes to.
 fn moved_value(table: &Table, pivot: &Pivot, w: u32, what: What) -> Result<Frac, TableStop>
-    requires kept { IsKept (lists_of table.now) }
     requires pivot { CanPivot (lists_of table.now) pivot.now }
-    requires slot { IsSlot (lists_of table.now) w }
-    requires other { w ≢ pivot.now.pair.leave }
-    requires stands { entry (lists_of table.now) w pivot.now.pair.enter ≢ pos 0 }
+    requires moved { IsMovedSlot (lists_of table.now) pivot.now.pair w }
     requires what { IsWhatAt (lists_of table.now) w what }
     ensures ok { IfOk result (IsValueAfter (lists_of table.now) pivot.now w what) }
     ensures lowest { IfOk result fraction.IsLowest }
@@ -287,11 +278,8 @@ fn moved_value(table: &Table, pivot: &Pivot, w: u32, what: What) -> Result<Frac,
 
 // The change, unless the line is a stay whose level has no room.
 fn moved_line(table: &Table, pivot: &Pivot, what: What, change: Change) -> Result<Change, TableStop>
-    requires kept { IsKept (lists_of table.now) }
     requires pivot { CanPivot (lists_of table.now) pivot.now }
-    requires slot { IsSlot (lists_of table.now) change.at }
-    requires other { change.at ≢ pivot.now.pair.leave }
-    requires stands { entry (lists_of table.now) change.at pivot.now.pair.enter ≢ pos 0 }
+    requires moved { IsMovedSlot (lists_of table.now) pivot.now.pair change.at }
     requires what { IsWhatAt (lists_of table.now) change.at what }
     requires row { IsReduced change.row (moved (lists_of table.now) pivot.now.pair change.at) }
     requires value { IsValueAfter (lists_of table.now) pivot.now change.at what change.value }
@@ -307,11 +295,8 @@ fn moved_line(table: &Table, pivot: &Pivot, what: What, change: Change) -> Resul
 
 // The change of an attribute or an inside line in whose row the entering line stands.
 fn line_change(table: &Table, pivot: &Pivot, w: u32) -> Result<Change, TableStop>
-    requires kept { IsKept (lists_of table.now) }
     requires pivot { CanPivot (lists_of table.now) pivot.now }
-    requires slot { IsSlot (lists_of table.now) w }
-    requires other { w ≢ pivot.now.pair.leave }
-    requires stands { entry (lists_of table.now) w pivot.now.pair.enter ≢ pos 0 }
+    requires moved { IsMovedSlot (lists_of table.now) pivot.now.pair w }
     ensures at { IfOk result (λ change. change.at ≡ w) }
     ensures ok { IfOk result (IsChangeBy (lists_of table.now) pivot.now) }
     ensures stop { IfErr result (IsPivotStop (lists_of table.now) pivot.now) }
@@ -324,7 +309,6 @@ fn line_change(table: &Table, pivot: &Pivot, w: u32) -> Result<Change, TableStop
 
 // The entering line's number in a level's row, with what the line counts from now on.
 fn entering_at(table: &Table, pivot: &Pivot, l: u32) -> i64
-    requires kept { IsKept (lists_of table.now) }
     requires pivot { CanPivot (lists_of table.now) pivot.now }
     requires level { IsCostedLevel (lists_of table.now) l }
     ensures value { result ≡ level_changes.entering_at (lists_of table.now) pivot.now.pair l }
@@ -337,7 +321,6 @@ fn entering_at(table: &Table, pivot: &Pivot, l: u32) -> i64
 
 // What the leaving line counted in a level's row.
 fn leaving_at(table: &Table, pivot: &Pivot, l: u32) -> i64
-    requires kept { IsKept (lists_of table.now) }
     requires pivot { CanPivot (lists_of table.now) pivot.now }
     requires level { IsCostedLevel (lists_of table.now) l }
     ensures value { result ≡ level_changes.leaving_at (lists_of table.now) pivot.now.pair l }
@@ -356,7 +339,6 @@ fn level_row(
     c: i64,
     stop: TableStop,
 ) -> Result<IntRow, TableStop>
-    requires kept { IsKept (lists_of table.now) }
     requires pivot { CanPivot (lists_of table.now) pivot.now }
     requires level { IsCostedLevel (lists_of table.now) l }
     requires entering { c ≡ level_changes.entering_at (lists_of table.now) pivot.now.pair l }
@@ -389,7 +371,6 @@ fn level_value(
     c: i64,
     stop: TableStop,
 ) -> Result<Frac, TableStop>
-    requires kept { IsKept (lists_of table.now) }
     requires pivot { CanPivot (lists_of table.now) pivot.now }
     requires level { IsCostedLevel (lists_of table.now) l }
     requires entering { c ≡ level_changes.entering_at (lists_of table.now) pivot.now.pair l }
@@ -410,7 +391,6 @@ fn level_value(
 
 // The change of a level in whose cost the entering line stands or comes, or the leaving one stood.
 fn level_change(table: &Table, pivot: &Pivot, l: u32) -> Result<Change, TableStop>
-    requires kept { IsKept (lists_of table.now) }
     requires pivot { CanPivot (lists_of table.now) pivot.now }
     requires level { IsCostedLevel (lists_of table.now) l }
     ensures at { IfOk result (λ change. change.at ≡ l) }
@@ -438,7 +418,6 @@ fn level_change(table: &Table, pivot: &Pivot, l: u32) -> Result<Change, TableSto
 
 // The change of a slot in whose row the entering line stands.
 fn change_of(table: &Table, pivot: &Pivot, w: u32) -> Result<Change, TableStop>
-    requires kept { IsKept (lists_of table.now) }
     requires pivot { CanPivot (lists_of table.now) pivot.now }
     requires within { w < length table.now.slots.items }
     requires other { w ≢ pivot.now.pair.leave }
@@ -456,7 +435,6 @@ fn change_of(table: &Table, pivot: &Pivot, w: u32) -> Result<Change, TableStop>
 
 // Puts the change of a slot behind the others, unless it is the leaving line's.
 fn push_change(table: &Table, pivot: &Pivot, w: u32, out: &mut Vec<Change>) -> Result<(), TableStop>
-    requires kept { IsKept (lists_of table.now) }
     requires pivot { CanPivot (lists_of table.now) pivot.now }
     requires within { w < length table.now.slots.items }
     requires stands { entry (lists_of table.now) w pivot.now.pair.enter ≢ pos 0 }
@@ -499,7 +477,6 @@ fn is_last(changes: &[Change], w: u32) -> bool
 
 // Puts the change of a level behind the others.
 fn push_level(table: &Table, pivot: &Pivot, l: u32, out: &mut Vec<Change>) -> Result<(), TableStop>
-    requires kept { IsKept (lists_of table.now) }
     requires pivot { CanPivot (lists_of table.now) pivot.now }
     requires level { IsCostedLevel (lists_of table.now) l }
     requires changes { All (IsChangeBy (lists_of table.now) pivot.now) out.old.items }
@@ -521,7 +498,6 @@ fn push_line_level(
     side: Side,
     out: &mut Vec<Change>,
 ) -> Result<(), TableStop>
-    requires kept { IsKept (lists_of table.now) }
     requires pivot { CanPivot (lists_of table.now) pivot.now }
     requires line { IsSlotOfLine (lists_of table.now) line }
     requires changes { All (IsChangeBy (lists_of table.now) pivot.now) out.old.items }
@@ -541,7 +517,6 @@ fn push_line_level(
 
 // The levels that change though the entering line has no number there.
 fn push_touched(table: &Table, pivot: &Pivot, out: &mut Vec<Change>) -> Result<(), TableStop>
-    requires kept { IsKept (lists_of table.now) }
     requires pivot { CanPivot (lists_of table.now) pivot.now }
     requires changes { All (IsChangeBy (lists_of table.now) pivot.now) out.old.items }
     requires stands { ArePut (lists_of table.now) pivot.now.pair out.old.items }
@@ -556,7 +531,6 @@ fn push_touched(table: &Table, pivot: &Pivot, out: &mut Vec<Change>) -> Result<(
 
 // The changes of all rows but those of the two lines.
 fn changes(table: &Table, pivot: &Pivot) -> Result<Vec<Change>, TableStop>
-    requires kept { IsKept (lists_of table.now) }
     requires pivot { CanPivot (lists_of table.now) pivot.now }
     ensures changes { IfOk result (λ out. All (IsChangeBy (lists_of table.now) pivot.now) out.items) }
     ensures rest { IfOk result (λ out. IsRestUntouched (lists_of table.now) pivot.now out.items) }
@@ -580,7 +554,6 @@ fn turned_row(row: IntRow, by: i64) -> IntRow
 
 // The entering line's row and value.
 fn entering_change(table: &Table, pivot: &Pivot) -> Result<Change, OutOfMemory>
-    requires kept { IsKept (lists_of table.now) }
     requires pivot { CanPivot (lists_of table.now) pivot.now }
     ensures ok { IfOk result (IsEnteringBy (lists_of table.now) pivot.now) }
 {
@@ -602,7 +575,6 @@ pub(crate) struct Exchange {
 
 /// The rows and values after an exchange.
 pub(crate) fn exchange_of(table: &Table, pair: Pair) -> Result<Exchange, TableStop>
-    requires kept { IsKept (lists_of table.now) }
     requires pair { CanExchange (lists_of table.now) pair }
     ensures ok { IfOk result (IsExchangeBy (lists_of table.now) pair) }
     ensures stop { IfErr result (IsPairStop (lists_of table.now) pair) }

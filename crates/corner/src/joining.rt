@@ -15,7 +15,6 @@ ghost use Rattle.problem_core.specs.declared.parts.RowName.TheVariants.{Held};
 ghost use Rattle.problem_core.specs.declared.parts.Level.TheVariants.{Priority as PriorityLevel};
 ghost use Rattle.problem_core.specs.declared.stops.Quantity.TheVariants.{Rows, Terms};
 ghost use Rattle.frac_core.specs.declared.memory.Stop.TheVariants.{Refused};
-ghost use Rattle.corner_lines.specs.Joins.{with_row};
 ghost use Rattle.corner_lines.specs.LineEquations.{deviation as deviation_of};
 ghost use Rattle.corner.specs.Tables.{lists_of, marks_at, priority_at as level_at, problem_of, row_at};
 ghost use Rattle.corner.specs.declared.table.TheConstants.{LEVELS};
@@ -24,10 +23,10 @@ ghost use Rattle.corner_laws.specs.Lifts.{with_rows};
 ghost use Rattle.corner.specs.Changes.{IsAddStop, IsPathStop};
 ghost use Rattle.corner.specs.Invariants.{seen_of};
 ghost use Rattle.corner.specs.Kept.{AreSlots, IsKept};
-ghost use Rattle.corner.specs.Additions.Parts.{IsPartlyKept, IsTermsStop, IsWithRow};
+ghost use Rattle.corner.specs.Additions.Parts.{CanTakeRow, IsPartlyKept, IsTermsStop, IsWithRow};
 ghost use Rattle.corner.specs.Additions.RowJoins.{AreAsBefore, ArePushed, IsPlaced, IsPushed};
 ghost use Rattle.corner.specs.Additions.RowJoins.{IsStandingOf};
-ghost use Rattle.corner.specs.Additions.RowSums.{AreTermFactors, IsSumRow, IsTermRow, IsTermValue};
+ghost use Rattle.corner.specs.Additions.RowSums.{AreTermFactors, HasNextTerm, IsSumRow, IsTermRow, IsTermValue};
 ghost use Rattle.corner.specs.Additions.RowSums.{IsUnfitTerm, term_of};
 ghost use Rattle.corner.specs.Additions.Joining.{IsStayForm, IsWithAttr, at_value, at_zero, slot_of_attr};
 ghost use Rattle.corner.specs.Additions.Joining.{slot_of_row, slot_of_stay, with_slot};
@@ -46,7 +45,7 @@ ghost use Rattle.corner.specs.Additions.CostJoins.{AreAllJoined, AreCostsJoined,
 ghost use Rattle.corner.specs.Additions.CostJoins.{AreUnitFactors, IsCostJoined, IsCostStop, IsCostsStop};
 ghost use Rattle.corner.specs.Additions.CostJoins.{IsCountOf};
 ghost use Rattle.corner.specs.Additions.CostJoins.{IsFreeLine, IsInUnit, IsJoinedCost, IsJoinedRow};
-ghost use Rattle.corner.specs.Additions.CostJoins.{IsJoining};
+ghost use Rattle.corner.specs.Additions.CostJoins.{CanJoin};
 ghost use Rattle.corner.specs.Additions.CostJoins.{IsJoinStop, IsLineCostStop, IsNextListed, IsRise};
 ghost use Rattle.corner.specs.Additions.CostJoins.{IsRiseAt};
 ghost use Rattle.corner.specs.Additions.CostJoins.{IsShared};
@@ -211,10 +210,8 @@ fn terms_stop(id: u32, first: usize) -> TableStop
 
 // The value of the sum of a row's first terms with the next one.
 fn term_value(table: &Table, row: &Row, i: usize, sum: &Sum) -> Result<Frac, TableStop>
-    requires kept { IsPartlyKept (lists_of table.now) }
-    requires whole { IsWhole (with_row row.now (problem_of (lists_of table.now))) }
-    requires within { i < length row.now.terms }
-    requires sum { IsSumRow (lists_of table.now) row.now (first_terms row.now i) sum.now }
+    requires row { CanTakeRow (lists_of table.now) row.now }
+    requires sum { HasNextTerm (lists_of table.now) row.now i sum.now }
     ensures value { IfOk result (IsTermValue (lists_of table.now) row.now i sum.now.value) }
     ensures stop { IfErr result (IsTermsStop (lists_of table.now) row.now) }
 {
@@ -226,11 +223,9 @@ fn term_value(table: &Table, row: &Row, i: usize, sum: &Sum) -> Result<Frac, Tab
 
 // The row of the sum of a row's first terms with the next one.
 fn term_row(table: &Table, at: u32, row: &Row, i: usize, sum: &Sum) -> Result<IntRow, TableStop>
-    requires kept { IsPartlyKept (lists_of table.now) }
-    requires whole { IsWhole (with_row row.now (problem_of (lists_of table.now))) }
+    requires row { CanTakeRow (lists_of table.now) row.now }
     requires at { at ≡ length table.now.slots.items }
-    requires within { i < length row.now.terms }
-    requires sum { IsSumRow (lists_of table.now) row.now (first_terms row.now i) sum.now }
+    requires sum { HasNextTerm (lists_of table.now) row.now i sum.now }
     ensures value { IfOk result (IsTermRow (lists_of table.now) at sum.now.row (term_of row.now i)) }
     ensures stop { IfErr result (IsTermsStop (lists_of table.now) row.now) }
 {
@@ -241,11 +236,9 @@ fn term_row(table: &Table, at: u32, row: &Row, i: usize, sum: &Sum) -> Result<In
 
 // The sum of a row's first terms with the next one.
 fn with_term(table: &Table, at: u32, row: &Row, i: usize, sum: &Sum) -> Result<Sum, TableStop>
-    requires kept { IsPartlyKept (lists_of table.now) }
-    requires whole { IsWhole (with_row row.now (problem_of (lists_of table.now))) }
+    requires row { CanTakeRow (lists_of table.now) row.now }
     requires at { at ≡ length table.now.slots.items }
-    requires within { i < length row.now.terms }
-    requires sum { IsSumRow (lists_of table.now) row.now (first_terms row.now i) sum.now }
+    requires sum { HasNextTerm (lists_of table.now) row.now i sum.now }
     ensures sum { IfOk result (IsSumRow (lists_of table.now) row.now (first_terms row.now (i + 1))) }
     ensures stop { IfErr result (IsTermsStop (lists_of table.now) row.now) }
 {
@@ -256,8 +249,7 @@ fn with_term(table: &Table, at: u32, row: &Row, i: usize, sum: &Sum) -> Result<S
 
 // The value of the sum of all terms less the constant, which is the row's deviation.
 fn less_constant(table: &Table, row: &Row, sum: &Sum) -> Result<Frac, TableStop>
-    requires kept { IsPartlyKept (lists_of table.now) }
-    requires whole { IsWhole (with_row row.now (problem_of (lists_of table.now))) }
+    requires row { CanTakeRow (lists_of table.now) row.now }
     requires sum { IsSumRow (lists_of table.now) row.now
         (first_terms row.now (length row.now.terms)) sum.now }
     ensures value { IfOk result (λ value. IsSumRow (lists_of table.now) row.now
@@ -270,8 +262,7 @@ fn less_constant(table: &Table, row: &Row, sum: &Sum) -> Result<Frac, TableStop>
 
 // The sum of all terms of a row, at the next slot.
 fn all_terms(table: &Table, row: &Row) -> Result<Sum, TableStop>
-    requires kept { IsPartlyKept (lists_of table.now) }
-    requires whole { IsWhole (with_row row.now (problem_of (lists_of table.now))) }
+    requires row { CanTakeRow (lists_of table.now) row.now }
     ensures sum { IfOk result (IsSumRow (lists_of table.now) row.now
         (first_terms row.now (length row.now.terms))) }
     ensures stop { IfErr result (IsTermsStop (lists_of table.now) row.now) }
@@ -289,8 +280,7 @@ fn all_terms(table: &Table, row: &Row) -> Result<Sum, TableStop>
 
 // The deviation of a row's terms from its constant, at the next slot.
 fn deviation(table: &Table, row: &Row) -> Result<Sum, TableStop>
-    requires kept { IsPartlyKept (lists_of table.now) }
-    requires whole { IsWhole (with_row row.now (problem_of (lists_of table.now))) }
+    requires row { CanTakeRow (lists_of table.now) row.now }
     ensures sum { IfOk result (IsSumRow (lists_of table.now) row.now (deviation_of (Held row.now.id))) }
     ensures stop { IfErr result (IsTermsStop (lists_of table.now) row.now) }
 {
@@ -342,8 +332,7 @@ fn copy_of(row: &Row) -> Result<Row, OutOfMemory>
 
 // Puts a row with its deviation in the next slot.
 fn place_row(table: &mut Table, row: &Row, sum: Sum) -> Result<(), OutOfMemory>
-    requires kept { IsPartlyKept (lists_of table.old) }
-    requires whole { IsWhole (with_row row.now (problem_of (lists_of table.old))) }
+    requires row { CanTakeRow (lists_of table.old) row.now }
     requires sum { IsSumRow (lists_of table.old) row.now (deviation_of (Held row.now.id)) sum }
     ensures past { HasSameHistory table.old table.new }
     ensures lists { OnOk result (IsPlaced row.now sum (lists_of table.old) (lists_of table.new)) }
@@ -357,8 +346,7 @@ fn place_row(table: &mut Table, row: &Row, sum: Sum) -> Result<(), OutOfMemory>
 
 /// Adds a row as one, with the mark that is not negative inside, but not yet to the cost of its level.
 pub(crate) fn push_row(table: &mut Table, row: &Row) -> Result<(), TableStop>
-    requires kept { IsPartlyKept (lists_of table.old) }
-    requires whole { IsWhole (with_row row.now (problem_of (lists_of table.old))) }
+    requires row { CanTakeRow (lists_of table.old) row.now }
     ensures past { HasSameHistory table.old table.new }
     ensures lists { OnOk result (IsPushed row.now (lists_of table.old) (lists_of table.new)) }
     ensures joined { OnOk result (IsWithRow row.now (lists_of table.old) (lists_of table.new)) }
@@ -577,9 +565,7 @@ fn joined_row(
     count: i64,
     stop: TableStop,
 ) -> Result<IntRow, TableStop>
-    requires kept { IsPartlyKept (lists_of table.now) }
-    requires joins { (r : layout.Row) × IsJoining (lists_of table.now) r line }
-    requires within { line < length table.now.slots.items }
+    requires joins { CanJoin (lists_of table.now) line }
     requires rise { IsRiseAt (lists_of table.now) line rise }
     requires count { IsSignedCount (lists_of table.now) line rise.unit count }
     requires fits { IsFitting count }
@@ -601,9 +587,7 @@ fn joined_value(
     count: i64,
     stop: TableStop,
 ) -> Result<Frac, TableStop>
-    requires kept { IsPartlyKept (lists_of table.now) }
-    requires joins { (r : layout.Row) × IsJoining (lists_of table.now) r line }
-    requires within { line < length table.now.slots.items }
+    requires joins { CanJoin (lists_of table.now) line }
     requires rise { (times : ℤ) × IsRiseAt (lists_of table.now) line (record { unit = unit; times = times }) }
     requires count { IsCountOf (lists_of table.now) line unit count }
     requires fits { IsFitting count }
@@ -624,9 +608,7 @@ fn fitting_cost(
     change: Change,
     stop: TableStop,
 ) -> Result<Change, TableStop>
-    requires kept { IsPartlyKept (lists_of table.now) }
-    requires joins { (r : layout.Row) × IsJoining (lists_of table.now) r line }
-    requires within { line < length table.now.slots.items }
+    requires joins { CanJoin (lists_of table.now) line }
     requires rise { (times : ℤ) × IsRiseAt (lists_of table.now) line (record { unit = unit; times = times }) }
     requires at { change.at ≡ home_at (lists_of table.now) line }
     requires row { IsJoinedRow (lists_of table.now) line unit change.row }
@@ -657,9 +639,7 @@ fn fitting_cost(
 
 // The change of the line's level where the line has joined it.
 fn joined_cost(table: &Table, line: u32, rise: Rise, stop: TableStop) -> Result<Change, TableStop>
-    requires kept { IsPartlyKept (lists_of table.now) }
-    requires joins { (r : layout.Row) × IsJoining (lists_of table.now) r line }
-    requires within { line < length table.now.slots.items }
+    requires joins { CanJoin (lists_of table.now) line }
     requires rise { IsRiseAt (lists_of table.now) line rise }
     ensures ok { IfOk result (IsJoinedCost (lists_of table.now) line rise.unit) }
     ensures err { IfErr result (IsCostStop (lists_of table.now) line stop) }
@@ -675,9 +655,7 @@ fn joined_cost(table: &Table, line: u32, rise: Rise, stop: TableStop) -> Result<
 
 // How the unit of the line's level rises, unless it doesn't fit then.
 fn rise_at(table: &Table, line: u32, stop: TableStop) -> Result<Rise, TableStop>
-    requires kept { IsPartlyKept (lists_of table.now) }
-    requires joins { (r : layout.Row) × IsJoining (lists_of table.now) r line }
-    requires within { line < length table.now.slots.items }
+    requires joins { CanJoin (lists_of table.now) line }
     ensures ok { IfOk result (IsRiseAt (lists_of table.now) line) }
     ensures err { IfErr result (IsCostStop (lists_of table.now) line stop) }
 {
@@ -716,9 +694,7 @@ pub(crate) fn costs_at(table: &Table, line: u32) -> bool
 
 /// Adds a line to the cost of its level, and says whether it costs.
 pub(crate) fn join_cost(table: &mut Table, line: u32) -> Result<bool, TableStop>
-    requires kept { IsPartlyKept (lists_of table.old) }
-    requires joins { (r : layout.Row) × IsJoining (lists_of table.old) r line }
-    requires within { line < length table.old.slots.items }
+    requires joins { CanJoin (lists_of table.old) line }
     ensures joined { IfOk result (λ _. IsCostJoined (lists_of table.old) line (lists_of table.new)) }
     ensures costs { IfOk result (λ costs. costs ≡ false → IsFreeLine (lists_of table.new) line) }
     ensures before { lists_before table.new ≡ lists_before table.old }
@@ -814,9 +790,7 @@ fn push_rows(table: &mut Table, rows: &[Row]) -> Result<(), RunStop>
 
 // Adds a line to the cost of its level, and lists the lines of its row if it costs.
 fn join_next(table: &mut Table, listed: &mut Listed, line: u32) -> Result<(), RunStop>
-    requires kept { IsPartlyKept (lists_of table.old) }
-    requires joins { (r : layout.Row) × IsJoining (lists_of table.old) r line }
-    requires within { line < length table.old.slots.items }
+    requires joins { CanJoin (lists_of table.old) line }
     ensures joined { OnOk result (IsCostJoined (lists_of table.old) line (lists_of table.new)) }
     ensures listed { OnOk result (IsNextListed (lists_of table.new) line listed.old listed.new) }
     ensures before { lists_before table.new ≡ lists_before table.old }

@@ -1,7 +1,7 @@
 -- How a row that has joined the corner joins the cost of its level.
 use Rattle.std.specs.Prelude.{◌≡◌, ◌≢◌, ◌⊎◌, ℕ, ◌+◌, ◌*◌, ◌/◌, ◌<◌, ◌≤◌, cond, nat_eq, List, [], ◌∷◌}
 use Rattle.std.specs.Prelude.{◌++◌, false, slice_set, ℤ, pos, ◌+ℤ◌, ◌*ℤ◌, unsigned_abs, All, Any, Contains}
-use Rattle.std.specs.Prelude.{Some}
+use Rattle.std.specs.Prelude.{Some, length}
 use Rattle.std.specs.Int.{IsGcd}
 use Rattle.frac_core.specs.Fraction as fractions
 use Rattle.frac_core.specs.Fraction.{Fraction, IsFitting}
@@ -36,13 +36,20 @@ use Rattle.problem_core.specs.declared.parts.Level.TheVariants.{Priority as Prio
 use Rattle.problem_core.specs.declared.stops.Quantity.TheVariants.{Rows}
 use Rattle.corner.specs.Swaps.Exchanges.{IsOutsideSlot, row_number}
 use Rattle.corner.specs.Reads.LevelNumbers.{share_of, side_share}
-use Rattle.corner.specs.Additions.Parts.{IsNextRow, IsRowsStop}
+use Rattle.corner.specs.Additions.Parts.{IsNextRow, IsPartlyKept, IsRowsStop}
 
 -- the row is the next of its level, with a mark inside, and this is its slot
 pub record IsJoining (t : Lists) (r : Row) (line : ℕ) : Type 0 where
   pub next : IsNextRow t r
   pub inside : HasOneIn (marks_at t) r
   pub slot_is : line_slot t (Held r.id) ≡ line
+
+-- lists that keep all but their levels, where the row of the line is the next of its level
+pub record CanJoin (t : Lists) (line : ℕ) : Type 0 where
+  pub kept : IsPartlyKept t
+  pub row : Row
+  pub is : IsJoining t row line
+  pub within : line < length t.slots
 
 -- the row is one of the lists', with a mark inside, and this is its slot
 pub record IsHeldAt (t : Lists) (r : Row) (line : ℕ) : Type 0 where

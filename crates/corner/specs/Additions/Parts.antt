@@ -70,6 +70,11 @@ pub record IsPartlyKept (t : Lists) : Type 0 where
 
 -- ---- a row joins the corner
 
+-- lists that keep all but their levels, and the problem with the row is whole
+pub record CanTakeRow (t : Lists) (r : Row) : Type 0 where
+  pub kept : IsPartlyKept t
+  pub whole : IsWhole (with_row r (problem_of t))
+
 -- the lists have the row too, with its mark that is not negative, and no level has changed
 pub record IsWithRow (r : Row) (old new : Lists) : Type 0 where
   pub problem : problem_of new ≡ with_row r (problem_of old)

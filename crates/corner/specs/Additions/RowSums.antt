@@ -6,6 +6,7 @@ use Rattle.row_core.specs.Rows.{IsKeptRow, IsReduced, IsUnfit, Term, coefficient
 use Rattle.row_core.specs.declared.entry.Factors.{Factors}
 use Rattle.problem_core.specs.declared.parts.Term as parts
 use Rattle.problem_core.specs.Layout.{Row}
+use Rattle.problem_core.specs.Unfit.{first_terms}
 use Rattle.corner_lines.specs.Joins.{over_joined}
 use Rattle.corner.specs.declared.joining.Sum.{Sum}
 use Rattle.corner.specs.declared.table.Standing.{Standing}
@@ -34,6 +35,11 @@ pub record IsSumRow (t : Lists) (r : Row) (quantity : (ℕ → ℤ) → ℤ) (su
       sum.row sum.value.num sum.value.den
 
 -- ---- a term more
+
+-- the sum is that of the row's first i terms, and there is a next one
+pub record HasNextTerm (t : Lists) (r : Row) (i : ℕ) (sum : Sum) : Type 0 where
+  pub within : i < length r.terms
+  pub is : IsSumRow t r (first_terms r i) sum
 
 -- with these factors the sum's row and that of the term's attribute come to one own number
 pub record AreTermFactors (own attr_own by : ℤ) (factors : Factors) : Type 0 where

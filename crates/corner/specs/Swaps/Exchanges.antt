@@ -35,7 +35,7 @@ use Rattle.corner.specs.declared.table.Standing.{Standing}
 use Rattle.corner.specs.declared.table.TheConstants.{LEVELS}
 use Rattle.corner.specs.Tables.{Lists, entry, line_slot, marks_at, priority_at, problem_of, row_at}
 use Rattle.corner.specs.Tables.{sign_of_what, slot_at, standing_at}
-use Rattle.corner.specs.Kept.{IsSlot, IsStayOwner}
+use Rattle.corner.specs.Kept.{IsKept, IsSlot, IsStayOwner}
 use Rattle.corner.specs.Views.{IsNamed}
 
 -- ---- the marks
@@ -51,9 +51,11 @@ pub record IsPair (t : Lists) (pair : Pair) (s : Swap) : Type 0 where
   pub inside : (standing_at t pair.leave).side ≡ Some s.leave.side
   pub stands : entry t pair.leave pair.enter ≢ pos 0
 
--- there is an exchange of these slots
-abbrev pub CanExchange : Lists → Pair → Type 0
-CanExchange t pair = (s : Swap) × IsPair t pair s
+-- lists that are kept, with an exchange of these slots
+pub record CanExchange (t : Lists) (pair : Pair) : Type 0 where
+  pub kept : IsKept t
+  pub swap : Swap
+  pub is : IsPair t pair swap
 
 -- the marks inside after the exchange
 abbrev pub marks_after : Lists → Swap → List Mark
@@ -145,9 +147,17 @@ pub record IsPivotAt (t : Lists) (pivot : Pivot) (s : Swap) : Type 0 where
   pub lowest : IsLowest pivot.value
   pub room : IsStayOwner (slot_at t pivot.pair.enter).owner → IsFitting (pos 2 *ℤ pivot.by)
 
--- there is an exchange with this pivot
-abbrev pub CanPivot : Lists → Pivot → Type 0
-CanPivot t pivot = (s : Swap) × IsPivotAt t pivot s
+-- lists that are kept, with an exchange by this pivot
+pub record CanPivot (t : Lists) (pivot : Pivot) : Type 0 where
+  pub kept : IsKept t
+  pub swap : Swap
+  pub is : IsPivotAt t pivot swap
+
+-- the slot is past the levels' and not the leaving line's, and the entering line stands in its row
+pub record IsMovedSlot (t : Lists) (pair : Pair) (w : ℕ) : Type 0 where
+  pub slot : IsSlot t w
+  pub other : w ≢ pair.leave
+  pub stands : entry t w pair.enter ≢ pos 0
 
 -- the level of a priority, whose cost has rows
 abbrev pub IsCostedLevel : Lists → ℕ → Type 0

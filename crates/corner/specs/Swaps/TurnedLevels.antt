@@ -3,7 +3,7 @@ use Rattle.std.specs.Prelude.{◌≡◌, ◌≢◌, ℕ, ◌+◌, ◌<◌, ◌�
 use Rattle.std.specs.Prelude.{None}
 use Rattle.std.specs.declared.option.Option.{Option}
 use Rattle.frac_core.specs.Fraction as fractions
-use Rattle.frac_core.specs.Fraction.{Fraction, IsRatio, sum_den, sum_num}
+use Rattle.frac_core.specs.Fraction.{Fraction, IsFitting, IsRatio, sum_den, sum_num}
 use Rattle.row_core.specs.Rows.{IsKeptRow, coefficient, combination}
 use Rattle.indexed_rows.specs.Matrices.{IsBelow}
 use Rattle.problem_core.specs.declared.parts.Side.{Side}
@@ -16,7 +16,7 @@ use Rattle.corner.specs.declared.exchange.Change.{Change}
 use Rattle.corner.specs.declared.table.TheConstants.{LEVELS}
 use Rattle.corner.specs.Changes.{IsUnfitStop}
 use Rattle.corner.specs.Swaps.Exchanges.{IsLevelBy, IsOutsideSlot, marks_after}
-use Rattle.corner.specs.Kept.{level_own}
+use Rattle.corner.specs.Kept.{IsKept, level_own}
 use Rattle.corner.specs.Swaps.LevelChanges.{IsStopOf}
 use Rattle.corner.specs.Reads.LevelNumbers.{count_of}
 use Rattle.corner.specs.Tables.{Lists, entry, line_slot, priority_at, problem_of, row_at, slot_at}
@@ -41,19 +41,27 @@ pub record IsTurnedLevel (t : Lists) (line : ℕ) (s : Swap) (change : Change) :
   pub outside : (c : ℕ) → coefficient c change.row ≢ pos 0 → c ≢ change.at → IsOutsideSlot t c
   pub level_is : IsLevelBy t (marks_after t s) change.at change.row change.value
 
--- the line's mark of this side can come in place of the other
-abbrev pub CanTurnTo : Lists → ℕ → Side → Type 0
-CanTurnTo t line side = (s : Swap) × IsTurn t line side s
+-- lists that are kept, where the line's mark of this side can come in place of the other
+pub record CanTurnTo (t : Lists) (line : ℕ) (side : Side) : Type 0 where
+  pub kept : IsKept t
+  pub swap : Swap
+  pub is : IsTurn t line side swap
 
--- one of the line's marks is inside
+-- lists that are kept, with one of the line's marks inside
 abbrev pub CanTurn : Lists → ℕ → Type 0
-CanTurn t line = (side : Side) × (s : Swap) × IsTurn t line side s
+CanTurn t line = (side : Side) × CanTurnTo t line side
 
 -- ---- the numbers
 
 -- what the line counts on both sides
 abbrev pub counts_at : Lists → ℕ → ℕ
 counts_at t line = count_of t (slot_at t line) Under + count_of t (slot_at t line) Over
+
+-- the line has a priority's level, and counts this there on both sides
+pub record HasCounts (t : Lists) (line : ℕ) (count : ℤ) : Type 0 where
+  pub level : (slot_at t line).home < LEVELS
+  pub count_is : count ≡ pos (counts_at t line)
+  pub fits : IsFitting count
 
 -- what it counted in its level's row, less what it counts from now on
 abbrev pub turning_at : Lists → ℕ → Side → ℤ

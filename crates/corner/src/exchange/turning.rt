@@ -12,7 +12,7 @@ ghost use Rattle.corner.specs.Tables as tables;
 ghost use Rattle.corner.specs.Swaps.NextLists.{AreMarksTurned};
 ghost use Rattle.corner.specs.Tables.{IsListedOf, lists_of};
 ghost use Rattle.corner.specs.Swaps.TurnedLevels as turned;
-ghost use Rattle.corner.specs.Swaps.TurnedLevels.{CanTurnTo, IsTurnBy, IsTurnStop, IsTurnedBy};
+ghost use Rattle.corner.specs.Swaps.TurnedLevels.{CanTurnTo, HasCounts, IsTurnBy, IsTurnStop, IsTurnedBy};
 
 use crate::exchange::{Change, named_row, named_sum, put_change, put_standing};
 use crate::levels::Pair;
@@ -30,7 +30,6 @@ use row_core::{Col, Factors, IntRow, Patch, combine_but};
 
 // What a line counts on both sides.
 fn counts_at(table: &Table, line: u32) -> i64
-    requires kept { IsKept (lists_of table.now) }
     requires turn { turned.CanTurn (lists_of table.now) line }
     requires level { (tables.slot_at (lists_of table.now) line).home < LEVELS }
     ensures value { result ≡ pos (turned.counts_at (lists_of table.now) line) }
@@ -42,11 +41,8 @@ fn counts_at(table: &Table, line: u32) -> i64
 
 // What the line counted in its level's row, less what it counts from now on.
 fn turning_at(table: &Table, line: u32, side: Side, count: i64) -> i64
-    requires kept { IsKept (lists_of table.now) }
     requires turn { CanTurnTo (lists_of table.now) line side }
-    requires level { (tables.slot_at (lists_of table.now) line).home < LEVELS }
-    requires count { count ≡ pos (turned.counts_at (lists_of table.now) line) }
-    requires fits { IsFitting count }
+    requires count { HasCounts (lists_of table.now) line count }
     ensures value { result ≡ turned.turning_at (lists_of table.now) line side }
     ensures fits { IsFitting result }
 {
@@ -61,11 +57,8 @@ fn turning_row(
     count: i64,
     stop: TableStop,
 ) -> Result<IntRow, TableStop>
-    requires kept { IsKept (lists_of table.now) }
     requires turn { CanTurnTo (lists_of table.now) line side }
-    requires level { (tables.slot_at (lists_of table.now) line).home < LEVELS }
-    requires count { count ≡ pos (turned.counts_at (lists_of table.now) line) }
-    requires fits { IsFitting count }
+    requires count { HasCounts (lists_of table.now) line count }
     requires stop { turned.IsHomeStop (lists_of table.now) line stop }
     ensures ok { IfOk result (λ row. IsReduced row (turned.turned_sum (lists_of table.now) line side)) }
     ensures kept { IfOk result IsKeptRow }
@@ -87,11 +80,8 @@ fn turning_row(
 
 // The cost that the line's level comes to.
 fn turning_cost(table: &Table, line: u32, count: i64, stop: TableStop) -> Result<Frac, TableStop>
-    requires kept { IsKept (lists_of table.now) }
     requires turn { turned.CanTurn (lists_of table.now) line }
-    requires level { (tables.slot_at (lists_of table.now) line).home < LEVELS }
-    requires count { count ≡ pos (turned.counts_at (lists_of table.now) line) }
-    requires fits { IsFitting count }
+    requires count { HasCounts (lists_of table.now) line count }
     requires stop { turned.IsHomeStop (lists_of table.now) line stop }
     ensures ok { IfOk result (turned.IsTurnedValue (lists_of table.now) line) }
     ensures kept { IfOk result fraction.IsKept }
@@ -109,7 +99,6 @@ fn turning_cost(table: &Table, line: u32, count: i64, stop: TableStop) -> Result
 
 // The level of a line whose mark of this side comes in place of the other.
 fn turned_level(table: &Table, line: u32, side: Side) -> Result<Change, TableStop>
-    requires kept { IsKept (lists_of table.now) }
     requires turn { CanTurnTo (lists_of table.now) line side }
     requires level { (tables.slot_at (lists_of table.now) line).home < LEVELS }
     ensures ok { IfOk result (IsTurnedBy (lists_of table.now) line side) }
@@ -140,7 +129,6 @@ fn turned_level(table: &Table, line: u32, side: Side) -> Result<Change, TableSto
 
 /// The change of the level of a line that turns to this side, which a stay's needs not.
 pub(crate) fn turn_of(table: &Table, line: u32, side: Side) -> Result<Option<Change>, TableStop>
-    requires kept { IsKept (lists_of table.now) }
     requires turn { CanTurnTo (lists_of table.now) line side }
     ensures ok { IfOk result (IsTurnBy (lists_of table.now) line side) }
     ensures stop { IfErr result (IsTurnStop (lists_of table.now) line side) }
@@ -195,7 +183,6 @@ pub(crate) fn put_turn(
     side: Side,
     change: Option<Change>,
 ) -> Result<(), OutOfMemory>
-    requires kept { IsKept (lists_of table.old) }
     requires turn { CanTurnTo (lists_of table.old) line side }
     requires change { IsTurnBy (lists_of table.old) line side change }
     ensures lists { OnOk result (lists_of table.new

@@ -8,9 +8,9 @@ rewound-requires-clause-marked c = marked_next c.args.table.now c.put_exchange.n
 
 pub returns-in-Ok-put_exchange-clause-consistent : goal.returns-in-Ok-put_exchange-clause-consistent
 returns-in-Ok-put_exchange-clause-consistent c =
-    let is : IsExchangeOf (lists_of c.args.table.now) c.in-Ok.made c.requires.pair.0 = c.in-Ok.ensures.ok.1 c.requires.pair.0 c.requires.pair.1 in
-    exchanged_consistent c.args.table.now c.put_exchange.new.table c.in-Ok.made c.requires.pair.0 c.args.listed.now c.put_exchange.new.listed c.requires.consistent is
-    (c.in-Ok-put_exchange.ensures.alike c.requires.consistent.alike) c.in-Ok-put_exchange.ensures.before c.in-Ok-put_exchange.ensures.lists c.in-Ok-put_exchange.ensures.kept (c.in-Ok-put_exchange.ensures.marks c.requires.pair.0 is) c.in-Ok-put_exchange.ensures.listed
+    let is : IsExchangeOf (lists_of c.args.table.now) c.in-Ok.made c.requires.pair.swap = c.in-Ok.ensures.ok.1 c.requires.pair.swap c.requires.pair.is in
+    exchanged_consistent c.args.table.now c.put_exchange.new.table c.in-Ok.made c.requires.pair.swap c.args.listed.now c.put_exchange.new.listed c.requires.consistent is
+    (c.in-Ok-put_exchange.ensures.alike c.requires.consistent.alike) c.in-Ok-put_exchange.ensures.before c.in-Ok-put_exchange.ensures.lists c.in-Ok-put_exchange.ensures.kept (c.in-Ok-put_exchange.ensures.marks c.requires.pair.swap is) c.in-Ok-put_exchange.ensures.listed
 
 pub returns-in-Ok-put_exchange-clause-problem : goal.returns-in-Ok-put_exchange-clause-problem
 returns-in-Ok-put_exchange-clause-problem c = (exchanged_seen (lists_of c.args.table.now) (lists_of c.put_exchange.new.table) c.in-Ok.made c.in-Ok-put_exchange.ensures.lists).problem

@@ -9,8 +9,8 @@ rewound-requires-clause-marked c = marked_next c.args.table.now c.put_turn.new.t
 
 pub returns-in-Ok-put_turn-clause-consistent : goal.returns-in-Ok-put_turn-clause-consistent
 returns-in-Ok-put_turn-clause-consistent c =
-    turned_consistent c.args.table.now c.put_turn.new.table c.args.line c.args.side c.requires.turn.0 c.in-Ok.change c.args.listed.now c.put_turn.new.listed c.requires.consistent c.requires.turn.1
-    (c.in-Ok-put_turn.ensures.alike c.requires.consistent.alike) c.in-Ok-put_turn.ensures.before c.in-Ok-put_turn.ensures.lists c.in-Ok-put_turn.ensures.kept (c.in-Ok-put_turn.ensures.marks c.requires.turn.0 c.requires.turn.1) c.in-Ok-put_turn.ensures.listed
+    turned_consistent c.args.table.now c.put_turn.new.table c.args.line c.args.side c.requires.turn.swap c.in-Ok.change c.args.listed.now c.put_turn.new.listed c.requires.consistent c.requires.turn.is
+    (c.in-Ok-put_turn.ensures.alike c.requires.consistent.alike) c.in-Ok-put_turn.ensures.before c.in-Ok-put_turn.ensures.lists c.in-Ok-put_turn.ensures.kept (c.in-Ok-put_turn.ensures.marks c.requires.turn.swap c.requires.turn.is) c.in-Ok-put_turn.ensures.listed
 
 pub returns-in-Ok-put_turn-clause-problem : goal.returns-in-Ok-put_turn-clause-problem
 returns-in-Ok-put_turn-clause-problem c = (turned_seen (lists_of c.args.table.now) (lists_of c.put_turn.new.table) c.args.line c.args.side c.in-Ok.change c.in-Ok-put_turn.ensures.lists).problem

@@ -10,7 +10,7 @@ use Rattle.corner.proofs.LevelFacts.LevelWords.{product_fits, rest_cost, rest_fi
 use Rattle.corner.proofs.exchange.entering_at.Goals as goal
 
 pub count_at-comes-requires-clause-line : goal.count_at-comes-requires-clause-line
-count_at-comes-requires-clause-line c = enter_line (lists_of c.args.table.now) c.args.pivot.now.pair c.requires.pivot.0 c.requires.pivot.1.pair
+count_at-comes-requires-clause-line c = enter_line (lists_of c.args.table.now) c.args.pivot.now.pair c.requires.pivot.swap c.requires.pivot.is.pair
 
 pub overflow_mul-result : goal.overflow_mul-result
 overflow_mul-result c =
@@ -20,7 +20,7 @@ overflow_mul-result c =
     let comes : SFits w64 c.count_at-comes.result = search rules in
     let x : IsFitting (entry t c.args.l pair.enter) = search rules in
     let cost : IsCost (level_own t c.args.l *ℤ count_by t c.args.l pair.enter pair.side) =
-    rest_cost (entry t c.args.l pair.enter) (level_own t c.args.l *ℤ count_by t c.args.l pair.enter pair.side) x (entering_there t c.args.pivot.now c.requires.pivot.0 c.args.l c.requires.kept c.requires.pivot.1 c.requires.level.0 c.requires.level.1) in
+    rest_cost (entry t c.args.l pair.enter) (level_own t c.args.l *ℤ count_by t c.args.l pair.enter pair.side) x (entering_there t c.args.pivot.now c.requires.pivot.swap c.args.l c.requires.pivot.kept c.requires.pivot.is c.requires.level.0 c.requires.level.1) in
     product_fits c.own_of_level.result c.count_at-comes.result (level_own t c.args.l) (count_by t c.args.l pair.enter pair.side) own comes c.own_of_level.ensures.value c.count_at-comes.ensures.value cost
 
 pub overflow_sub-result : goal.overflow_sub-result
@@ -32,7 +32,7 @@ overflow_sub-result c =
     let comes : SFits w64 c.count_at-comes.result = search rules in
     let x : IsFitting (entry t c.args.l pair.enter) = search rules in
     rest_fits c.entry.result c.own_of_level.result c.count_at-comes.result (entry t c.args.l pair.enter) (level_own t c.args.l) (count_by t c.args.l pair.enter pair.side) number own comes
-    c.entry.ensures.value c.own_of_level.ensures.value c.count_at-comes.ensures.value x (entering_there t c.args.pivot.now c.requires.pivot.0 c.args.l c.requires.kept c.requires.pivot.1 c.requires.level.0 c.requires.level.1)
+    c.entry.ensures.value c.own_of_level.ensures.value c.count_at-comes.ensures.value x (entering_there t c.args.pivot.now c.requires.pivot.swap c.args.l c.requires.pivot.kept c.requires.pivot.is c.requires.level.0 c.requires.level.1)
 
 pub returns-clause-value : goal.returns-clause-value
 returns-clause-value c =
@@ -43,7 +43,7 @@ returns-clause-value c =
     let comes : SFits w64 c.count_at-comes.result = search rules in
     let x : IsFitting (entry t c.args.l pair.enter) = search rules in
     rest_is c.entry.result c.own_of_level.result c.count_at-comes.result (entry t c.args.l pair.enter) (level_own t c.args.l) (count_by t c.args.l pair.enter pair.side) number own comes
-    c.entry.ensures.value c.own_of_level.ensures.value c.count_at-comes.ensures.value x (entering_there t c.args.pivot.now c.requires.pivot.0 c.args.l c.requires.kept c.requires.pivot.1 c.requires.level.0 c.requires.level.1)
+    c.entry.ensures.value c.own_of_level.ensures.value c.count_at-comes.ensures.value x (entering_there t c.args.pivot.now c.requires.pivot.swap c.args.l c.requires.pivot.kept c.requires.pivot.is c.requires.level.0 c.requires.level.1)
 
 pub returns-clause-fits : goal.returns-clause-fits
-returns-clause-fits c = subst (λ (z : ℤ). IsFitting z) (sym (returns-clause-value c)) (entering_there (lists_of c.args.table.now) c.args.pivot.now c.requires.pivot.0 c.args.l c.requires.kept c.requires.pivot.1 c.requires.level.0 c.requires.level.1)
+returns-clause-fits c = subst (λ (z : ℤ). IsFitting z) (sym (returns-clause-value c)) (entering_there (lists_of c.args.table.now) c.args.pivot.now c.requires.pivot.swap c.args.l c.requires.pivot.kept c.requires.pivot.is c.requires.level.0 c.requires.level.1)

@@ -10,9 +10,9 @@ use Rattle.corner.proofs.exchange.entering_change.Goals as goal
 
 pub returns : goal.returns
 returns c =
-    let fits : IsFitting c.args.pivot.now.by = c.requires.pivot.1.fits in
+    let fits : IsFitting c.args.pivot.now.by = c.requires.pivot.is.fits in
     let by : SFits w64 c.args.pivot.now.by = search rules in
     record {
-      ok = λ s at. entering_is (lists_of c.args.table.now) c.args.pivot.now s c.turned_row.result c.requires.kept at c.turned_row.ensures.kept
+      ok = λ s at. entering_is (lists_of c.args.table.now) c.args.pivot.now s c.turned_row.result c.requires.pivot.kept at c.turned_row.ensures.kept
           (λ k. (simp to_z-of_z at (c.turned_row.ensures.value k)) ∙ ap (λ row. signed c.args.pivot.now.by (coefficient k row)) (c.in_ok-row.ensures ∙ sym (read_row c.args.table.now.matrix.rows c.args.pivot.now.pair.leave c.row.result.now c.row.ensures.value)));
     }

@@ -22,7 +22,7 @@ is-size c = (simp (to_z-of_z, c.ranges.by) at c.size.ensures.value) ∙ ap (λ (
 pub named_sum-requires-clause-above : goal.named_sum-requires-clause-above
 named_sum-requires-clause-above c =
     let fits : SFits w64 c.size.result = search rules in
-    simp to_z-of_z (size_above (entry (lists_of c.args.table.now) c.args.pair.leave c.args.pair.enter) c.size.result c.requires.pair.1.stands (is-size c))
+    simp to_z-of_z (size_above (entry (lists_of c.args.table.now) c.args.pair.leave c.args.pair.enter) c.size.result c.requires.pair.is.stands (is-size c))
 
 signed-is : (c : goal.After-value_at) → c.signed-own.result ≡ signed (entry (lists_of c.args.table.now) c.args.pair.leave c.args.pair.enter) (entry (lists_of c.args.table.now) c.args.pair.leave c.args.pair.leave)
 signed-is c =
@@ -50,7 +50,7 @@ returns-clause-ok c =
     let n : SFits w64 c.with_signs-n.result = search rules in
     let d : SFits w64 c.size.result = search rules in
     ok_both c.named_sum.result _ IsKept (λ value. (s : Swap) → IsPair (lists_of c.args.table.now) c.args.pair s → IsEntering (lists_of c.args.table.now) c.args.pair s value)
-    (λ f ratio kept s are. entering (lists_of c.args.table.now) c.args.pair s c.zero.result c.value_at.result f c.with_signs-n.result c.size.result c.requires.kept are (numbers c.before) kept.lowest.above (simp to_z-of_z at ratio))
+    (λ f ratio kept s are. entering (lists_of c.args.table.now) c.args.pair s c.zero.result c.value_at.result f c.with_signs-n.result c.size.result c.requires.pair.kept are (numbers c.before) kept.lowest.above (simp to_z-of_z at ratio))
     c.named_sum.ensures.ok c.named_sum.ensures.kept
 
 pub returns-clause-lowest : goal.returns-clause-lowest
@@ -58,7 +58,7 @@ returns-clause-lowest c = ok_implies c.named_sum.result IsKept IsLowest (λ f ke
 
 what-is : (c : goal.After-named_sum) (s : Swap) → IsPair (lists_of c.args.table.now) c.args.pair s → c.unfit-stop.result ≡ Refused (Plain (MarkOf s.enter))
 what-is c s are =
-    c.unfit-stop.ensures ∙ ap (λ (w : What). Refused (Plain w)) (c.what_at.ensures.line s.enter.row (enter_owner (lists_of c.args.table.now) c.args.pair s c.requires.kept.slots are) ∙ ap (λ (d : Side). MarkOf (record { row = s.enter.row; side = d })) (sym are.enter_side))
+    c.unfit-stop.ensures ∙ ap (λ (w : What). Refused (Plain w)) (c.what_at.ensures.line s.enter.row (enter_owner (lists_of c.args.table.now) c.args.pair s c.requires.pair.kept.slots are) ∙ ap (λ (d : Side). MarkOf (record { row = s.enter.row; side = d })) (sym are.enter_side))
 
 pub returns-clause-stop : goal.returns-clause-stop
 returns-clause-stop c =
@@ -66,5 +66,5 @@ returns-clause-stop c =
     let d : SFits w64 c.size.result = search rules in
     err_all c.named_sum.result _ (λ stop. (s : Swap) → IsPair (lists_of c.args.table.now) c.args.pair s → IsUnfitStop (problem_of (lists_of c.args.table.now)) (marks_after (lists_of c.args.table.now) s) stop)
     (λ stop h s are. subst (λ (e : TableStop). IsUnfitStop (problem_of (lists_of c.args.table.now)) (marks_after (lists_of c.args.table.now) s) e) (sym (h.0 ∙ what-is c s are))
-    (entering_unfit (lists_of c.args.table.now) c.args.pair s c.zero.result c.value_at.result c.with_signs-n.result c.size.result c.requires.kept are (numbers c.before) (simp to_z-of_z at h.1)))
+    (entering_unfit (lists_of c.args.table.now) c.args.pair s c.zero.result c.value_at.result c.with_signs-n.result c.size.result c.requires.pair.kept are (numbers c.before) (simp to_z-of_z at h.1)))
     c.named_sum.ensures.err

@@ -10,12 +10,12 @@ use Rattle.corner.proofs.LevelFacts.LevelWords.{product_fits, product_is}
 use Rattle.corner.proofs.exchange.leaving_at.Goals as goal
 
 pub count_at-goes-requires-clause-line : goal.count_at-goes-requires-clause-line
-count_at-goes-requires-clause-line c = leave_line (lists_of c.args.table.now) c.args.pivot.now.pair c.requires.pivot.0 c.requires.pivot.1.pair
+count_at-goes-requires-clause-line c = leave_line (lists_of c.args.table.now) c.args.pivot.now.pair c.requires.pivot.swap c.requires.pivot.is.pair
 
 goes-is : (c : goal.After-own_of_level) → c.count_at-goes.result ≡ count_by (lists_of c.args.table.now) c.args.l c.args.pivot.now.pair.leave (side_or (standing_at (lists_of c.args.table.now) c.args.pivot.now.pair.leave).side)
 goes-is c =
     c.count_at-goes.ensures.value
-    ∙ ap (count_by (lists_of c.args.table.now) c.args.l c.args.pivot.now.pair.leave) (side_there (lists_of c.args.table.now) c.args.pivot.now.pair c.requires.pivot.0 c.side_in.result c.requires.pivot.1.pair c.side_in.ensures)
+    ∙ ap (count_by (lists_of c.args.table.now) c.args.l c.args.pivot.now.pair.leave) (side_there (lists_of c.args.table.now) c.args.pivot.now.pair c.requires.pivot.swap c.side_in.result c.requires.pivot.is.pair c.side_in.ensures)
 
 pub overflow_mul-result : goal.overflow_mul-result
 overflow_mul-result c =
@@ -24,7 +24,7 @@ overflow_mul-result c =
     let own : SFits w64 c.own_of_level.result = search rules in
     let goes : SFits w64 c.count_at-goes.result = search rules in
     product_fits c.own_of_level.result c.count_at-goes.result (level_own t c.args.l) (count_by t c.args.l leave (side_or (standing_at t leave).side)) own goes c.own_of_level.ensures.value (goes-is c)
-    (fitting_cost (leaving_at t c.args.pivot.now.pair c.args.l) (leaving_there t c.args.pivot.now c.requires.pivot.0 c.args.l c.requires.kept c.requires.pivot.1 c.requires.level.0 c.requires.level.1))
+    (fitting_cost (leaving_at t c.args.pivot.now.pair c.args.l) (leaving_there t c.args.pivot.now c.requires.pivot.swap c.args.l c.requires.pivot.kept c.requires.pivot.is c.requires.level.0 c.requires.level.1))
 
 pub returns-clause-value : goal.returns-clause-value
 returns-clause-value c =
@@ -33,7 +33,7 @@ returns-clause-value c =
     let own : SFits w64 c.own_of_level.result = search rules in
     let goes : SFits w64 c.count_at-goes.result = search rules in
     product_is c.own_of_level.result c.count_at-goes.result (level_own t c.args.l) (count_by t c.args.l leave (side_or (standing_at t leave).side)) own goes c.own_of_level.ensures.value (goes-is c)
-    (fitting_cost (leaving_at t c.args.pivot.now.pair c.args.l) (leaving_there t c.args.pivot.now c.requires.pivot.0 c.args.l c.requires.kept c.requires.pivot.1 c.requires.level.0 c.requires.level.1))
+    (fitting_cost (leaving_at t c.args.pivot.now.pair c.args.l) (leaving_there t c.args.pivot.now c.requires.pivot.swap c.args.l c.requires.pivot.kept c.requires.pivot.is c.requires.level.0 c.requires.level.1))
 
 pub returns-clause-fits : goal.returns-clause-fits
-returns-clause-fits c = subst (λ (z : ℤ). IsFitting z) (sym (returns-clause-value c)) (leaving_there (lists_of c.args.table.now) c.args.pivot.now c.requires.pivot.0 c.args.l c.requires.kept c.requires.pivot.1 c.requires.level.0 c.requires.level.1)
+returns-clause-fits c = subst (λ (z : ℤ). IsFitting z) (sym (returns-clause-value c)) (leaving_there (lists_of c.args.table.now) c.args.pivot.now c.requires.pivot.swap c.args.l c.requires.pivot.kept c.requires.pivot.is c.requires.level.0 c.requires.level.1)

@@ -17,13 +17,13 @@ pub does_level_fit-requires-clause-unit : goal.does_level_fit-requires-clause-un
 does_level_fit-requires-clause-unit c =
     let fits : SFits w64 c.priority_at-old.result.unit = search rules in
     let is : c.priority_at-old.result.unit ≡ (priority_at (lists_of c.args.table.now) c.args.l).unit = search rules in
-    subst (λ (z : ℤ). pos 0 <ℤ z) (sym (to_z-of_z w64 c.priority_at-old.result.unit fits ∙ is)) (unit_above (lists_of c.args.table.now) c.args.l c.requires.kept c.requires.level.0)
+    subst (λ (z : ℤ). pos 0 <ℤ z) (sym (to_z-of_z w64 c.priority_at-old.result.unit fits ∙ is)) (unit_above (lists_of c.args.table.now) c.args.l c.requires.pivot.kept c.requires.level.0)
 
 pub does_level_fit-requires-clause-unit_fits : goal.does_level_fit-requires-clause-unit_fits
 does_level_fit-requires-clause-unit_fits c =
     let fits : SFits w64 c.priority_at-old.result.unit = search rules in
     let is : c.priority_at-old.result.unit ≡ (priority_at (lists_of c.args.table.now) c.args.l).unit = search rules in
-    subst (λ (z : ℤ). IsFitting z) (sym (to_z-of_z w64 c.priority_at-old.result.unit fits ∙ is)) (unit_fits (lists_of c.args.table.now) c.args.l c.requires.kept c.requires.level.0)
+    subst (λ (z : ℤ). IsFitting z) (sym (to_z-of_z w64 c.priority_at-old.result.unit fits ∙ is)) (unit_fits (lists_of c.args.table.now) c.args.l c.requires.pivot.kept c.requires.level.0)
 
 pub returns-then-not-does_level_fit-clause-stop : goal.returns-then-not-does_level_fit-clause-stop
 returns-then-not-does_level_fit-clause-stop c s at =
@@ -36,7 +36,7 @@ returns-then-not-does_level_fit-clause-stop c s at =
     record { level_is = refl; rows_is = rows-is; unit_is = to_z-of_z w64 c.priority_at-old.result.unit fits ∙ unit-is; pair_is = refl } in
     let stop : IsStopOf c.args.l c.unfit-stop.result = c.unfit-stop.ensures ∙ ap (λ (level : Level). Refused (Plain (LevelOf level))) (c.level_of.ensures.priority c.requires.level.0) in
     level_stop t (marks_after (lists_of c.args.table.now) s) c.args.l c.unfit-stop.result c.requires.level.0 stop
-    (draft_unfit t c.args.pivot.now s c.args.l c.in_ok-row.row c.in_ok-value.value draft c.requires.kept at c.requires.level.0 c.requires.level.1 is c.in_ok-row.ensures.kept c.in_ok-row.ensures.ok c.in_ok-value.ensures.ok c.in_ok-value.ensures.kept.lowest (c.if-not-does_level_fit.ensures.unfit refl))
+    (draft_unfit t c.args.pivot.now s c.args.l c.in_ok-row.row c.in_ok-value.value draft c.requires.pivot.kept at c.requires.level.0 c.requires.level.1 is c.in_ok-row.ensures.kept c.in_ok-row.ensures.ok c.in_ok-value.ensures.ok c.in_ok-value.ensures.kept.lowest (c.if-not-does_level_fit.ensures.unfit refl))
 
 pub returns-clause-ok : goal.returns-clause-ok
 returns-clause-ok c s at =
@@ -47,4 +47,4 @@ returns-clause-ok c s at =
     let draft : Draft = record { level = c.args.l; unit = to_z w64 (of_z w64 c.priority_at-old.result.unit); pair = c.args.pivot.now.pair; rows = c.priority_at-old.result.rows } in
     let is : IsDraftOf (lists_of c.args.table.now) c.args.pivot.now c.args.l (record { level = c.args.l; unit = to_z w64 (of_z w64 c.priority_at-old.result.unit); pair = c.args.pivot.now.pair; rows = c.priority_at-old.result.rows }) =
     record { level_is = refl; rows_is = rows-is; unit_is = to_z-of_z w64 c.priority_at-old.result.unit fits ∙ unit-is; pair_is = refl } in
-    change_after t c.args.pivot.now s c.args.l c.in_ok-row.row c.in_ok-value.value draft c.requires.kept at c.requires.level.0 c.requires.level.1 is c.in_ok-row.ensures.kept c.in_ok-row.ensures.ok c.in_ok-value.ensures.ok (c.if-not-does_level_fit.ensures.fits refl)
+    change_after t c.args.pivot.now s c.args.l c.in_ok-row.row c.in_ok-value.value draft c.requires.pivot.kept at c.requires.level.0 c.requires.level.1 is c.in_ok-row.ensures.kept c.in_ok-row.ensures.ok c.in_ok-value.ensures.ok (c.if-not-does_level_fit.ensures.fits refl)

@@ -41,13 +41,13 @@ patch c = record { without = record { 0 = c.from-3.result }; at = record { 0 = c
 
 size-is : (c : goal.After-named_row) → c.size-size.result ≡ pos (size_of (lists_of c.args.table.now) c.args.pivot.now.pair)
 size-is c =
-    let fits : IsFitting c.args.pivot.now.by = c.requires.pivot.1.fits in
+    let fits : IsFitting c.args.pivot.now.by = c.requires.pivot.is.fits in
     let by : SFits w64 c.args.pivot.now.by = search rules in
-    (simp to_z-of_z at c.size-size.ensures.value) ∙ ap (λ (z : ℤ). pos (unsigned_abs z)) c.requires.pivot.1.by
+    (simp to_z-of_z at c.size-size.ensures.value) ∙ ap (λ (z : ℤ). pos (unsigned_abs z)) c.requires.pivot.is.by
 
 numbers : (c : goal.After-named_row) → AreSumNumbers (lists_of c.args.table.now) c.args.pivot.now.pair c.args.l (factors c) (patch c) c.row-r.result.now c.row-p.result.now
 numbers c =
-    let fits : IsFitting c.args.pivot.now.by = c.requires.pivot.1.fits in
+    let fits : IsFitting c.args.pivot.now.by = c.requires.pivot.is.fits in
     let by : SFits w64 c.args.pivot.now.by = search rules in
     let entering : SFits w64 c.args.c = search rules in
     let leaving : SFits w64 c.leaving_at.result = search rules in
@@ -61,7 +61,7 @@ numbers c =
     let e4 : c.from-4.result ≡ c.args.pivot.now.pair.leave = search rules in
     record {
       size = to_z-of_z w128 c.from.result f1 ∙ e1 ∙ size-is c;
-      number = negated_is c.from-2.result c.signed.result f2 e2 c.signed.ensures.fits ∙ ap neg_ℤ ((simp to_z-of_z at c.signed.ensures.value) ∙ ap₂ signed c.requires.pivot.1.by c.requires.entering);
+      number = negated_is c.from-2.result c.signed.result f2 e2 c.signed.ensures.fits ∙ ap neg_ℤ ((simp to_z-of_z at c.signed.ensures.value) ∙ ap₂ signed c.requires.pivot.is.by c.requires.entering);
       without = e3;
       place = e4;
       extra = to_z-of_z w128 c.product.result f3 ∙ (simp to_z-of_z at c.product.ensures.value) ∙ ap₂ ◌*ℤ◌ (size-is c) c.leaving_at.ensures.value;
@@ -87,7 +87,7 @@ returns-clause-stop c =
     (λ stop h s at. elim h [
       | inl e ↦ subst (λ (x : TableStop). IsUnfitStop (problem_of (lists_of c.args.table.now)) (marks_after (lists_of c.args.table.now) s) x) (sym e) tt
       | inr (e, made) ↦
-          row_stop t c.args.pivot.now c.args.l stop c.requires.kept c.requires.level.0 c.requires.level.1 (e ∙ c.requires.stop)
+          row_stop t c.args.pivot.now c.args.l stop c.requires.pivot.kept c.requires.level.0 c.requires.level.1 (e ∙ c.requires.stop)
           (sum_unfit t c.args.pivot.now.pair c.args.l (factors c) (patch c) c.row-r.result.now c.row-p.result.now (numbers c)
           (err_of c.combine_but.result made.0 (λ (x : _). IsRefused x → IsUnfit (combination_but (factors c) c.row-r.result.now c.row-p.result.now (patch c))) made.1 c.combine_but.ensures.unfit made.2)) s at
     ])

@@ -20,7 +20,7 @@ overflow_mul-own_of_level c =
     let unit : SFits w64 c.priority_at.result.unit = search rules in
     let unit-is : c.priority_at.result.unit ≡ (priority_at t c.args.l).unit = search rules in
     product_fits c.own_of_level.result c.priority_at.result.unit (level_own t c.args.l) (priority_at t c.args.l).unit own unit c.own_of_level.ensures.value unit-is
-    (fitting_cost (level_own t c.args.l *ℤ (priority_at t c.args.l).unit) (scale_fits t c.args.l c.requires.kept c.requires.level.0))
+    (fitting_cost (level_own t c.args.l *ℤ (priority_at t c.args.l).unit) (scale_fits t c.args.l c.requires.pivot.kept c.requires.level.0))
 
 pub named_sum-requires-clause-d : goal.named_sum-requires-clause-d
 named_sum-requires-clause-d c =
@@ -28,7 +28,7 @@ named_sum-requires-clause-d c =
     let own : SFits w64 c.own_of_level.result = search rules in
     let unit : SFits w64 c.priority_at.result.unit = search rules in
     let unit-is : c.priority_at.result.unit ≡ (priority_at t c.args.l).unit = search rules in
-    let fits : IsFitting (level_own t c.args.l *ℤ (priority_at t c.args.l).unit) = scale_fits t c.args.l c.requires.kept c.requires.level.0 in
+    let fits : IsFitting (level_own t c.args.l *ℤ (priority_at t c.args.l).unit) = scale_fits t c.args.l c.requires.pivot.kept c.requires.level.0 in
     subst (λ (z : ℤ). IsFitting z)
     (sym (product_is c.own_of_level.result c.priority_at.result.unit (level_own t c.args.l) (priority_at t c.args.l).unit own unit c.own_of_level.ensures.value unit-is (fitting_cost (level_own t c.args.l *ℤ (priority_at t c.args.l).unit) fits))) fits
 
@@ -38,10 +38,10 @@ named_sum-requires-clause-above c =
     let own : SFits w64 c.own_of_level.result = search rules in
     let unit : SFits w64 c.priority_at.result.unit = search rules in
     let unit-is : c.priority_at.result.unit ≡ (priority_at t c.args.l).unit = search rules in
-    let fits : IsFitting (level_own t c.args.l *ℤ (priority_at t c.args.l).unit) = scale_fits t c.args.l c.requires.kept c.requires.level.0 in
+    let fits : IsFitting (level_own t c.args.l *ℤ (priority_at t c.args.l).unit) = scale_fits t c.args.l c.requires.pivot.kept c.requires.level.0 in
     subst (λ (z : ℤ). pos 0 <ℤ z)
     (sym (product_is c.own_of_level.result c.priority_at.result.unit (level_own t c.args.l) (priority_at t c.args.l).unit own unit c.own_of_level.ensures.value unit-is (fitting_cost (level_own t c.args.l *ℤ (priority_at t c.args.l).unit) fits)))
-    (scale_above t c.args.l c.requires.kept c.requires.level.0)
+    (scale_above t c.args.l c.requires.pivot.kept c.requires.level.0)
 
 number : (c : goal.After-named_sum) → to_z w64 (of_z w64 c.with_signs.result) ≡ neg_ℤ (entering_at (lists_of c.args.table.now) c.args.pivot.now.pair c.args.l *ℤ sign_of c.args.pivot.now.pair.side)
 number c =
@@ -59,7 +59,7 @@ scale c =
     let unit : SFits w64 c.priority_at.result.unit = search rules in
     let unit-is : c.priority_at.result.unit ≡ (priority_at t c.args.l).unit = search rules in
     product_is c.own_of_level.result c.priority_at.result.unit (level_own t c.args.l) (priority_at t c.args.l).unit own unit c.own_of_level.ensures.value unit-is
-    (fitting_cost (level_own t c.args.l *ℤ (priority_at t c.args.l).unit) (scale_fits t c.args.l c.requires.kept c.requires.level.0))
+    (fitting_cost (level_own t c.args.l *ℤ (priority_at t c.args.l).unit) (scale_fits t c.args.l c.requires.pivot.kept c.requires.level.0))
 
 pub returns-clause-ok : goal.returns-clause-ok
 returns-clause-ok c =
@@ -70,6 +70,6 @@ returns-clause-ok c =
 pub returns-clause-stop : goal.returns-clause-stop
 returns-clause-stop c =
     err_all c.named_sum.result _ (IsPivotStop (lists_of c.args.table.now) c.args.pivot.now)
-    (λ stop h s at. value_stop (lists_of c.args.table.now) c.args.pivot.now c.args.l stop c.requires.kept c.requires.level.0 c.requires.level.1 (h.0 ∙ c.requires.stop)
+    (λ stop h s at. value_stop (lists_of c.args.table.now) c.args.pivot.now c.args.l stop c.requires.pivot.kept c.requires.level.0 c.requires.level.1 (h.0 ∙ c.requires.stop)
     (unfit_of (lists_of c.args.table.now) c.args.pivot.now c.args.l c.value_at.result (to_z w64 (of_z w64 c.with_signs.result)) (to_z w64 (of_z w64 (to_z w64 (of_z w64 c.own_of_level.result) *ℤ to_z w64 (of_z w64 c.priority_at.result.unit)))) c.value_at.ensures (number c) (scale c) h.1) s at)
     c.named_sum.ensures.err

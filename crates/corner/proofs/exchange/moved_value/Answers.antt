@@ -14,8 +14,8 @@ pub named_sum-requires-clause-above : goal.named_sum-requires-clause-above
 named_sum-requires-clause-above c =
     let own : SFits w64 c.own_of.result = search rules in
     simp to_z-of_z (subst (λ (z : ℤ). pos 0 <ℤ z) (sym c.own_of.ensures.value)
-    (own_above (lists_of c.args.table.now) c.args.pivot.now.pair c.requires.pivot.0 c.args.w c.args.what
-    (what_moves (lists_of c.args.table.now) c.args.pivot.now c.requires.pivot.0 c.args.w c.args.what c.requires.kept c.requires.pivot.1 c.requires.slot c.requires.other c.requires.stands c.requires.what)))
+    (own_above (lists_of c.args.table.now) c.args.pivot.now.pair c.requires.pivot.swap c.args.w c.args.what
+    (what_moves (lists_of c.args.table.now) c.args.pivot.now c.requires.pivot.swap c.args.w c.args.what c.requires.pivot.kept c.requires.pivot.is c.requires.moved.slot c.requires.moved.other c.requires.moved.stands c.requires.what)))
 
 number : (c : goal.After-named_sum) → c.opposite-n.result ≡ moved_by (lists_of c.args.table.now) c.args.pivot.now.pair c.args.w c.args.what
 number c =
@@ -42,6 +42,6 @@ returns-clause-stop c =
     let d : SFits w64 c.own_of.result = search rules in
     err_all c.named_sum.result _ (λ stop. (s : Swap) → IsPivotAt (lists_of c.args.table.now) c.args.pivot.now s → IsUnfitStop (problem_of (lists_of c.args.table.now)) (marks_after (lists_of c.args.table.now) s) stop)
     (λ stop h s at. subst (λ (e : TableStop). IsUnfitStop (problem_of (lists_of c.args.table.now)) (marks_after (lists_of c.args.table.now) s) e) (sym (h.0 ∙ c.unfit.ensures))
-    (what_stop (lists_of c.args.table.now) c.args.pivot.now s c.args.w c.args.what c.requires.kept at c.requires.slot c.requires.other c.requires.stands c.requires.what
+    (what_stop (lists_of c.args.table.now) c.args.pivot.now s c.args.w c.args.what c.requires.pivot.kept at c.requires.moved.slot c.requires.moved.other c.requires.moved.stands c.requires.what
     (inr (unfit_after (lists_of c.args.table.now) c.args.pivot.now c.args.w c.args.what c.value_at.result c.opposite-n.result c.own_of.result c.value_at.ensures (number c) c.own_of.ensures.value (simp to_z-of_z at h.1)))))
     c.named_sum.ensures.err

@@ -14,38 +14,38 @@ use Rattle.corner.proofs.joining.join_cost.Goals as goal
 use Rattle.frac_core.proofs.Fitting.{fits-word as fitting_sfits}
 
 pub priority_at-requires-clause-level : goal.priority_at-requires-clause-level
-priority_at-requires-clause-level c = subst (λ (slot : Slot). slot.home < LEVELS) (sym c.slot_at-slot.ensures) (joining_below (lists_of c.args.table.now) c.requires.joins.0 c.args.line c.requires.kept c.requires.joins.1)
+priority_at-requires-clause-level c = subst (λ (slot : Slot). slot.home < LEVELS) (sym c.slot_at-slot.ensures) (joining_below (lists_of c.args.table.now) c.requires.joins.row c.args.line c.requires.joins.kept c.requires.joins.is)
 
 pub overflow_add-priority_at : goal.overflow_add-priority_at
 overflow_add-priority_at c =
-    let few = subst (λ (p : Priority). p.rows + 1 ≤ 4096) (sym (c.priority_at.ensures ∙ ap (λ (slot : Slot). priority_at (lists_of c.args.table.now) slot.home) c.slot_at-slot.ensures)) (joining_few (lists_of c.args.table.now) c.requires.joins.0 c.args.line c.requires.kept c.requires.joins.1) in
+    let few = subst (λ (p : Priority). p.rows + 1 ≤ 4096) (sym (c.priority_at.ensures ∙ ap (λ (slot : Slot). priority_at (lists_of c.args.table.now) slot.home) c.slot_at-slot.ensures)) (joining_few (lists_of c.args.table.now) c.requires.joins.row c.args.line c.requires.joins.kept c.requires.joins.is) in
     omega (arith, few)
 
 pub rows_stop-stop-requires : goal.rows_stop-stop-requires
-rows_stop-stop-requires c = let h = subst (λ (slot : Slot). slot.home < LEVELS) (sym c.slot_at-slot.ensures) (joining_below (lists_of c.args.table.now) c.requires.joins.0 c.args.line c.requires.kept c.requires.joins.1) in omega (arith, h)
+rows_stop-stop-requires c = let h = subst (λ (slot : Slot). slot.home < LEVELS) (sym c.slot_at-slot.ensures) (joining_below (lists_of c.args.table.now) c.requires.joins.row c.args.line c.requires.joins.kept c.requires.joins.is) in omega (arith, h)
 
 pub returns-in_err-rise-clause-stop : goal.returns-in_err-rise-clause-stop
 returns-in_err-rise-clause-stop c =
     passed_on c.from_residual.result c.in_err-rise.field-0.0 (IsJoinStop (lists_of c.args.table.now) c.args.line) c.from_residual.ensures.1
-    (stop_is (lists_of c.args.table.now) c.args.line c.rows_stop-stop.result c.in_err-rise.field-0.0 c.requires.kept (c.rows_stop-stop.ensures ∙ ap₂ (λ (slot : Slot) (n : ℕ). Refused (Rows (PriorityLevel (1000 - slot.home)) (n + 1))) c.slot_at-slot.ensures
+    (stop_is (lists_of c.args.table.now) c.args.line c.rows_stop-stop.result c.in_err-rise.field-0.0 c.requires.joins.kept (c.rows_stop-stop.ensures ∙ ap₂ (λ (slot : Slot) (n : ℕ). Refused (Rows (PriorityLevel (1000 - slot.home)) (n + 1))) c.slot_at-slot.ensures
     (ap (λ (p : Priority). p.rows) c.priority_at.ensures ∙ ap (λ (slot : Slot). (priority_at (lists_of c.args.table.now) slot.home).rows) c.slot_at-slot.ensures)) c.in_err-rise.ensures.err)
 
 pub returns-in_err-change-clause-stop : goal.returns-in_err-change-clause-stop
 returns-in_err-change-clause-stop c =
     passed_on c.from_residual-in_err-change.result c.in_err-change.field-0.0 (IsJoinStop (lists_of c.args.table.now) c.args.line) c.from_residual-in_err-change.ensures.1
-    (stop_is (lists_of c.args.table.now) c.args.line c.rows_stop-stop.result c.in_err-change.field-0.0 c.requires.kept (c.rows_stop-stop.ensures ∙ ap₂ (λ (slot : Slot) (n : ℕ). Refused (Rows (PriorityLevel (1000 - slot.home)) (n + 1))) c.slot_at-slot.ensures
+    (stop_is (lists_of c.args.table.now) c.args.line c.rows_stop-stop.result c.in_err-change.field-0.0 c.requires.joins.kept (c.rows_stop-stop.ensures ∙ ap₂ (λ (slot : Slot) (n : ℕ). Refused (Rows (PriorityLevel (1000 - slot.home)) (n + 1))) c.slot_at-slot.ensures
     (ap (λ (p : Priority). p.rows) c.priority_at.ensures ∙ ap (λ (slot : Slot). (priority_at (lists_of c.args.table.now) slot.home).rows) c.slot_at-slot.ensures)) c.in_err-change.ensures.err)
 
 pub put_cost-requires-clause-level : goal.put_cost-requires-clause-level
-put_cost-requires-clause-level c = subst (λ (w : ℕ). w < LEVELS) (sym c.in_ok-change.ensures.ok.at_is) (joining_below (lists_of c.args.table.now) c.requires.joins.0 c.args.line c.requires.kept c.requires.joins.1)
+put_cost-requires-clause-level c = subst (λ (w : ℕ). w < LEVELS) (sym c.in_ok-change.ensures.ok.at_is) (joining_below (lists_of c.args.table.now) c.requires.joins.row c.args.line c.requires.joins.kept c.requires.joins.is)
 
 pub put_cost-requires-clause-few : goal.put_cost-requires-clause-few
-put_cost-requires-clause-few c = let few = subst (λ (w : ℕ). (priority_at (lists_of c.args.table.now) w).rows + 1 ≤ 4096) (sym c.in_ok-change.ensures.ok.at_is) (joining_few (lists_of c.args.table.now) c.requires.joins.0 c.args.line c.requires.kept c.requires.joins.1) in omega (arith, few)
+put_cost-requires-clause-few c = let few = subst (λ (w : ℕ). (priority_at (lists_of c.args.table.now) w).rows + 1 ≤ 4096) (sym c.in_ok-change.ensures.ok.at_is) (joining_few (lists_of c.args.table.now) c.requires.joins.row c.args.line c.requires.joins.kept c.requires.joins.is) in omega (arith, few)
 
 pub put_cost-requires-clause-below : goal.put_cost-requires-clause-below
-put_cost-requires-clause-below c = joined_below (lists_of c.args.table.now) c.args.line c.in_ok-rise.rise.unit c.in_ok-change.change c.requires.kept (joining_below (lists_of c.args.table.now) c.requires.joins.0 c.args.line c.requires.kept c.requires.joins.1) c.in_ok-change.ensures.ok
+put_cost-requires-clause-below c = joined_below (lists_of c.args.table.now) c.args.line c.in_ok-rise.rise.unit c.in_ok-change.change c.requires.joins.kept (joining_below (lists_of c.args.table.now) c.requires.joins.row c.args.line c.requires.joins.kept c.requires.joins.is) c.in_ok-change.ensures.ok
 
 pub costs_at-requires-clause-slots : goal.costs_at-requires-clause-slots
 costs_at-requires-clause-slots c =
     let u : SFits w64 c.in_ok-rise.rise.unit = fitting_sfits c.in_ok-rise.rise.unit c.in_ok-rise.ensures.ok.fits in
-    (joined_kept (lists_of c.args.table.now) (lists_of c.put_cost.new.table) c.requires.joins.0 c.args.line c.in_ok-rise.rise.unit c.in_ok-change.change c.requires.kept c.requires.joins.1 c.in_ok-change.ensures.ok (simp to_z-of_z at c.in_ok-put_cost.ensures.ok)).0.slots
+    (joined_kept (lists_of c.args.table.now) (lists_of c.put_cost.new.table) c.requires.joins.row c.args.line c.in_ok-rise.rise.unit c.in_ok-change.change c.requires.joins.kept c.requires.joins.is c.in_ok-change.ensures.ok (simp to_z-of_z at c.in_ok-put_cost.ensures.ok)).0.slots

@@ -14,12 +14,16 @@ line_slot-line-requires-clause-row c =
     (to_join_named (lists_of c.loop-i.table) (c.requires.rows.0 ++ take c.loop-i.i c.args.rows.now) (drop (c.loop-i.i + 1) c.args.rows.now) c.index-rows-i.result
     (here_joins (lists_of c.loop-i.table) c.requires.rows.0 c.args.rows.now c.loop-i.i c.index-rows-i.result c.loop-i-test.true c.index-rows-i.is (c.loop-i.invariant.joins c.requires.rows.0 c.requires.rows.1)).rows)
 
-pub join_next-requires-clause-joins : goal.join_next-requires-clause-joins
-join_next-requires-clause-joins c = (
-  c.index-rows-i.result,
-  joins_at (lists_of c.loop-i.table) (c.requires.rows.0 ++ take c.loop-i.i c.args.rows.now) c.index-rows-i.result (drop (c.loop-i.i + 1) c.args.rows.now) c.line_slot-line.result (c.line_slot-line.ensures.value ∙ ap (λ (n : ℕ). line_slot (lists_of c.loop-i.table) (Held n)) c.id.ensures)
-      (here_joins (lists_of c.loop-i.table) c.requires.rows.0 c.args.rows.now c.loop-i.i c.index-rows-i.result c.loop-i-test.true c.index-rows-i.is (c.loop-i.invariant.joins c.requires.rows.0 c.requires.rows.1)),
-)
+pub join_next-requires : goal.join_next-requires
+join_next-requires c = record {
+  joins = record {
+    kept = c.loop-i.invariant.kept;
+    row = c.index-rows-i.result;
+    is = joins_at (lists_of c.loop-i.table) (c.requires.rows.0 ++ take c.loop-i.i c.args.rows.now) c.index-rows-i.result (drop (c.loop-i.i + 1) c.args.rows.now) c.line_slot-line.result (c.line_slot-line.ensures.value ∙ ap (λ (n : ℕ). line_slot (lists_of c.loop-i.table) (Held n)) c.id.ensures)
+        (here_joins (lists_of c.loop-i.table) c.requires.rows.0 c.args.rows.now c.loop-i.i c.index-rows-i.result c.loop-i-test.true c.index-rows-i.is (c.loop-i.invariant.joins c.requires.rows.0 c.requires.rows.1));
+    within = c.line_slot-line.ensures.within;
+  };
+}
 
 pub returns-in_err-join_next-clause-stop : goal.returns-in_err-join_next-clause-stop
 returns-in_err-join_next-clause-stop c =

@@ -6,16 +6,16 @@ use Rattle.corner.proofs.Costs.CostEnds.{cost_joined_kept, line_stop, row_listed
 use Rattle.corner.proofs.joining.join_next.Goals as goal
 
 pub list_row-requires-clause-slots : goal.list_row-requires-clause-slots
-list_row-requires-clause-slots c = (cost_joined_kept (lists_of c.args.table.now) (lists_of c.join_cost.new.table) c.requires.joins.0 c.args.line c.requires.kept c.requires.joins.1 c.in-Ok-true.ensures.joined).slots
+list_row-requires-clause-slots c = (cost_joined_kept (lists_of c.args.table.now) (lists_of c.join_cost.new.table) c.requires.joins.row c.args.line c.requires.joins.kept c.requires.joins.is c.in-Ok-true.ensures.joined).slots
 
 pub list_row-requires-clause-stored : goal.list_row-requires-clause-stored
-list_row-requires-clause-stored c = (cost_joined_kept (lists_of c.args.table.now) (lists_of c.join_cost.new.table) c.requires.joins.0 c.args.line c.requires.kept c.requires.joins.1 c.in-Ok-true.ensures.joined).stored
+list_row-requires-clause-stored c = (cost_joined_kept (lists_of c.args.table.now) (lists_of c.join_cost.new.table) c.requires.joins.row c.args.line c.requires.joins.kept c.requires.joins.is c.in-Ok-true.ensures.joined).stored
 
 pub returns-in_err-list_row-in-Ok-true-clause-stop : goal.returns-in_err-list_row-in-Ok-true-clause-stop
 returns-in_err-list_row-in-Ok-true-clause-stop c = passed_on c.from_residual.result OutOfMemory (IsLineCostStop (lists_of c.args.table.now) c.args.line) c.from_residual.ensures.1 tt
 
 pub added_stop-requires : goal.added_stop-requires
-added_stop-requires c = record { slots = same_slots (lists_of c.args.table.now) (lists_of c.join_cost.new.table) c.in-Err.stop c.requires.kept.slots c.in-Err.ensures.same }
+added_stop-requires c = record { slots = same_slots (lists_of c.args.table.now) (lists_of c.join_cost.new.table) c.in-Err.stop c.requires.joins.kept.slots c.in-Err.ensures.same }
 
 pub returns-in_ok-list_row-in-Ok-true-clause-listed : goal.returns-in_ok-list_row-in-Ok-true-clause-listed
 returns-in_ok-list_row-in-Ok-true-clause-listed c = row_listed (lists_of c.join_cost.new.table) c.args.line c.args.listed.now c.list_row.new.listed c.in_ok-list_row-in-Ok-true.ensures

@@ -15,14 +15,14 @@ use Rattle.frac_core.proofs.Fitting.{fits-word as fitting_sfits}
 pub counted-requires : goal.counted-requires
 counted-requires c =
     let u : SFits w64 c.args.rise.unit = fitting_sfits c.args.rise.unit c.requires.rise.fits in
-    record { counted = simp to_z-of_z (subst (λ (slot : Slot). IsCounted slot c.args.rise.unit) (sym c.slot_at-slot.ensures) (found_counted (lists_of c.args.table.now) c.args.line c.args.rise (found (lists_of c.args.table.now) c.requires.joins.0 c.args.line c.args.rise c.requires.kept c.requires.joins.1 c.requires.rise) c.requires.rise.fits)) }
+    record { counted = simp to_z-of_z (subst (λ (slot : Slot). IsCounted slot c.args.rise.unit) (sym c.slot_at-slot.ensures) (found_counted (lists_of c.args.table.now) c.args.line c.args.rise (found (lists_of c.args.table.now) c.requires.joins.row c.args.line c.args.rise c.requires.joins.kept c.requires.joins.is c.requires.rise) c.requires.rise.fits)) }
 
 pub returns-in_err-count-clause-err : goal.returns-in_err-count-clause-err
 returns-in_err-count-clause-err c =
     let u : SFits w64 c.args.rise.unit = fitting_sfits c.args.rise.unit c.requires.rise.fits in
     let h = simp to_z-of_z at c.in_err-count.ensures.err in
     passed_on c.from_residual.result c.in_err-count.field-0.0 (IsCostStop (lists_of c.args.table.now) c.args.line c.args.stop) c.from_residual.ensures.1
-    (inr (h.0, found_share_unfit (lists_of c.args.table.now) c.args.line c.args.rise (found (lists_of c.args.table.now) c.requires.joins.0 c.args.line c.args.rise c.requires.kept c.requires.joins.1 c.requires.rise) (subst (λ (slot : Slot). PART_BOUND ≤ share_of slot c.args.rise.unit) c.slot_at-slot.ensures h.1)))
+    (inr (h.0, found_share_unfit (lists_of c.args.table.now) c.args.line c.args.rise (found (lists_of c.args.table.now) c.requires.joins.row c.args.line c.args.rise c.requires.joins.kept c.requires.joins.is c.requires.rise) (subst (λ (slot : Slot). PART_BOUND ≤ share_of slot c.args.rise.unit) c.slot_at-slot.ensures h.1)))
 
 pub joined_row-requires-clause-count : goal.joined_row-requires-clause-count
 joined_row-requires-clause-count c = λ side e.

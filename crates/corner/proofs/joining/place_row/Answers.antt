@@ -10,7 +10,7 @@ use Rattle.corner.proofs.joining.place_row.Goals as goal
 pub push_slot-requires-clause-columns : goal.push_slot-requires-clause-columns
 push_slot-requires-clause-columns c =
     let kept : IsKeptRow c.args.sum.row = search rules in
-    sum_below (lists_of c.args.table.now) c.args.row.now (deviation (Held c.args.row.now.id)) c.args.sum c.requires.kept.slots c.requires.sum kept
+    sum_below (lists_of c.args.table.now) c.args.row.now (deviation (Held c.args.row.now.id)) c.args.sum c.requires.row.kept.slots c.requires.sum kept
 
 pub returns-clause-lists : goal.returns-clause-lists
 returns-clause-lists c =

@@ -19,10 +19,15 @@ loop-i-init c = record {
   values = c.requires.values;
 }
 
-pub push_row-requires-clause-whole : goal.push_row-requires-clause-whole
-push_row-requires-clause-whole c =
-    loop_whole (lists_of c.args.table.now) (lists_of c.loop-i.table) c.args.rows.now c.loop-i.i c.index-rows-i.result c.loop-i.invariant.lists c.requires.whole c.loop-i-test.true
-    (this_row c.args.rows.now c.loop-i.i c.index-rows-i.result c.loop-i-test.true c.index-rows-i.is)
+pub push_row-requires : goal.push_row-requires
+push_row-requires c =
+    record {
+      row = record {
+        kept = c.loop-i.invariant.kept;
+        whole = loop_whole (lists_of c.args.table.now) (lists_of c.loop-i.table) c.args.rows.now c.loop-i.i c.index-rows-i.result c.loop-i.invariant.lists c.requires.whole c.loop-i-test.true
+            (this_row c.args.rows.now c.loop-i.i c.index-rows-i.result c.loop-i-test.true c.index-rows-i.is);
+      };
+    }
 
 pub returns-in-Err-clause-stop : goal.returns-in-Err-clause-stop
 returns-in-Err-clause-stop c =

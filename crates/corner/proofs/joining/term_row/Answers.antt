@@ -9,13 +9,13 @@ use Rattle.corner.proofs.joining.term_row.Goals as goal
 use Rattle.frac_core.proofs.Results.{err_implies as err_all}
 
 pub more_row-requires-clause-attr : goal.more_row-requires-clause-attr
-more_row-requires-clause-attr c = terms_covered (lists_of c.args.table.now) c.args.row.now c.args.i _ c.terms.result.now c.terms.ensures c.requires.whole c.requires.within
+more_row-requires-clause-attr c = terms_covered (lists_of c.args.table.now) c.args.row.now c.args.i _ c.terms.result.now c.terms.ensures c.requires.row.whole c.requires.sum.within
 
 pub more_row-requires-clause-by : goal.more_row-requires-clause-by
-more_row-requires-clause-by c = terms_fit (lists_of c.args.table.now) c.args.row.now c.args.i _ c.terms.result.now c.terms.ensures c.requires.whole c.requires.within
+more_row-requires-clause-by c = terms_fit (lists_of c.args.table.now) c.args.row.now c.args.i _ c.terms.result.now c.terms.ensures c.requires.row.whole c.requires.sum.within
 
 pub more_row-requires-clause-own : goal.more_row-requires-clause-own
-more_row-requires-clause-own c = own_above (lists_of c.args.table.now) c.args.row.now (first_terms c.args.row.now c.args.i) c.args.sum.now c.args.at c.requires.at c.requires.sum
+more_row-requires-clause-own c = own_above (lists_of c.args.table.now) c.args.row.now (first_terms c.args.row.now c.args.i) c.args.sum.now c.args.at c.requires.at c.requires.sum.is
 
 pub returns-clause-stop : goal.returns-clause-stop
 returns-clause-stop c =
@@ -23,7 +23,7 @@ returns-clause-stop c =
     (λ stop h. elim h [
       | inl e ↦ subst (λ (x : TableStop). IsTermsStop (lists_of c.args.table.now) c.args.row.now x) (sym e) tt
       | inr (e, made) ↦ stop_of (lists_of c.args.table.now) c.args.row.now stop _ _ _ (e ∙ c.terms_stop-stop.ensures) c.id.ensures refl
-          (row_unfit (lists_of c.args.table.now) c.args.row.now c.args.i _ c.args.sum.now c.args.at c.terms.result.now c.requires.kept c.requires.whole c.requires.within c.requires.sum c.requires.at c.terms.ensures
+          (row_unfit (lists_of c.args.table.now) c.args.row.now c.args.i _ c.args.sum.now c.args.at c.terms.result.now c.requires.row.kept c.requires.row.whole c.requires.sum.within c.requires.sum.is c.requires.at c.terms.ensures
           (err_of c.more_row.result made.0 _ made.1 c.more_row.ensures.unfit made.2))
     ])
     c.named_row.ensures.err

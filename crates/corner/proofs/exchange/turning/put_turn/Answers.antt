@@ -18,39 +18,39 @@ on-ok-with (Ok x) P Q f p = f p
 on-ok-with (Err e) P Q f p = tt
 
 pub put_turned-requires-clause-within : goal.put_turned-requires-clause-within
-put_turned-requires-clause-within c = (turn_slot (lists_of c.args.table.now) c.args.line c.args.side c.requires.turn.0 c.requires.kept.slots c.requires.turn.1).1
+put_turned-requires-clause-within c = (turn_slot (lists_of c.args.table.now) c.args.line c.args.side c.requires.turn.swap c.requires.turn.kept.slots c.requires.turn.is).1
 
 pub put_turned-requires-clause-change : goal.put_turned-requires-clause-change
-put_turned-requires-clause-change c = turned_in (lists_of c.args.table.now) c.args.line c.args.side c.requires.turn.0 c.args.change c.requires.kept.slots c.requires.turn.1 c.requires.change
+put_turned-requires-clause-change c = turned_in (lists_of c.args.table.now) c.args.line c.args.side c.requires.turn.swap c.args.change c.requires.turn.kept.slots c.requires.turn.is c.requires.change
 
 pub list_row-requires-clause-slots : goal.list_row-requires-clause-slots
 list_row-requires-clause-slots c =
-    subst AreSlots (sym c.in_ok-put_turned.ensures.ok) (turned_kept (lists_of c.args.table.now) c.args.line c.args.side c.requires.turn.0 c.args.change c.requires.kept c.requires.turn.1 c.requires.change).slots
+    subst AreSlots (sym c.in_ok-put_turned.ensures.ok) (turned_kept (lists_of c.args.table.now) c.args.line c.args.side c.requires.turn.swap c.args.change c.requires.turn.kept c.requires.turn.is c.requires.change).slots
 
 pub list_row-requires-clause-within : goal.list_row-requires-clause-within
 list_row-requires-clause-within c =
-    let kept = turned_kept (lists_of c.args.table.now) c.args.line c.args.side c.requires.turn.0 c.args.change c.requires.kept c.requires.turn.1 c.requires.change in
+    let kept = turned_kept (lists_of c.args.table.now) c.args.line c.args.side c.requires.turn.swap c.args.change c.requires.turn.kept c.requires.turn.is c.requires.change in
     subst (λ (t : Lists). c.args.line < length t.matrix) (sym c.in_ok-put_turned.ensures.ok)
     (subst (λ n. c.args.line < n) (sym (kept.slots.matrix ∙ turned_count (lists_of c.args.table.now) c.args.line c.args.side c.args.change))
-    (turn_slot (lists_of c.args.table.now) c.args.line c.args.side c.requires.turn.0 c.requires.kept.slots c.requires.turn.1).1)
+    (turn_slot (lists_of c.args.table.now) c.args.line c.args.side c.requires.turn.swap c.requires.turn.kept.slots c.requires.turn.is).1)
 
 pub returns-clause-kept : goal.returns-clause-kept
 returns-clause-kept c =
     on-ok c.list_row.result (IsKept (lists_of c.put_turned.new.table))
-    (subst IsKept (sym c.in_ok-put_turned.ensures.ok) (turned_kept (lists_of c.args.table.now) c.args.line c.args.side c.requires.turn.0 c.args.change c.requires.kept c.requires.turn.1 c.requires.change))
+    (subst IsKept (sym c.in_ok-put_turned.ensures.ok) (turned_kept (lists_of c.args.table.now) c.args.line c.args.side c.requires.turn.swap c.args.change c.requires.turn.kept c.requires.turn.is c.requires.change))
 
 pub returns-clause-marks : goal.returns-clause-marks
 returns-clause-marks c =
     on-ok c.list_row.result (AreMarksTurned (lists_of c.args.table.now) c.args.line c.args.side (lists_of c.put_turned.new.table))
-    (λ s is. subst (λ (t : Lists). SameMarks (marks_at t) (marks_after (lists_of c.args.table.now) s)) (sym c.in_ok-put_turned.ensures.ok) (turned_after (lists_of c.args.table.now) c.args.line c.args.side s c.args.change c.requires.kept is c.requires.change))
+    (λ s is. subst (λ (t : Lists). SameMarks (marks_at t) (marks_after (lists_of c.args.table.now) s)) (sym c.in_ok-put_turned.ensures.ok) (turned_after (lists_of c.args.table.now) c.args.line c.args.side s c.args.change c.requires.turn.kept is c.requires.change))
 
 pub returns-clause-listed : goal.returns-clause-listed
 returns-clause-listed c =
     on-ok-with c.list_row.result (IsListedOf c.args.line (row_at (lists_of c.put_turned.new.table) c.args.line) c.args.listed.now c.list_row.new.listed) (IsListedOf c.args.line (row_at (lists_of c.args.table.now) c.args.line) c.args.listed.now c.list_row.new.listed)
-    (λ all. subst (λ (r : List Term). IsListedOf c.args.line r c.args.listed.now c.list_row.new.listed) (turned_row (lists_of c.args.table.now) c.args.line c.args.side c.requires.turn.0 c.args.change c.requires.kept.slots c.requires.turn.1 c.requires.change)
+    (λ all. subst (λ (r : List Term). IsListedOf c.args.line r c.args.listed.now c.list_row.new.listed) (turned_row (lists_of c.args.table.now) c.args.line c.args.side c.requires.turn.swap c.args.change c.requires.turn.kept.slots c.requires.turn.is c.requires.change)
     (subst (λ (t : Lists). IsListedOf c.args.line (row_at t c.args.line) c.args.listed.now c.list_row.new.listed) c.in_ok-put_turned.ensures.ok all))
     c.list_row.ensures
 
 pub list_row-requires-clause-stored : goal.list_row-requires-clause-stored
 list_row-requires-clause-stored c =
-    subst AreStored (sym c.in_ok-put_turned.ensures.ok) (turned_kept (lists_of c.args.table.now) c.args.line c.args.side c.requires.turn.0 c.args.change c.requires.kept c.requires.turn.1 c.requires.change).stored
+    subst AreStored (sym c.in_ok-put_turned.ensures.ok) (turned_kept (lists_of c.args.table.now) c.args.line c.args.side c.requires.turn.swap c.args.change c.requires.turn.kept c.requires.turn.is c.requires.change).stored

@@ -21,14 +21,14 @@ does_level_fit-requires-clause-unit c =
     let fits : SFits w64 c.priority_at-old.result.unit = search rules in
     let is : c.priority_at-old.result.unit ≡ (priority_at (lists_of c.args.table.now) c.slot_at-l.result.home).unit = search rules in
     let low : c.slot_at-l.result.home < LEVELS = subst (λ (s : Slot). s.home < LEVELS) (sym c.slot_at-l.ensures) c.requires.level in
-    subst (λ (z : ℤ). pos 0 <ℤ z) (sym (to_z-of_z w64 c.priority_at-old.result.unit fits ∙ is)) (unit_above (lists_of c.args.table.now) c.slot_at-l.result.home c.requires.kept low)
+    subst (λ (z : ℤ). pos 0 <ℤ z) (sym (to_z-of_z w64 c.priority_at-old.result.unit fits ∙ is)) (unit_above (lists_of c.args.table.now) c.slot_at-l.result.home c.requires.turn.kept low)
 
 pub does_level_fit-requires-clause-unit_fits : goal.does_level_fit-requires-clause-unit_fits
 does_level_fit-requires-clause-unit_fits c =
     let fits : SFits w64 c.priority_at-old.result.unit = search rules in
     let is : c.priority_at-old.result.unit ≡ (priority_at (lists_of c.args.table.now) c.slot_at-l.result.home).unit = search rules in
     let low : c.slot_at-l.result.home < LEVELS = subst (λ (s : Slot). s.home < LEVELS) (sym c.slot_at-l.ensures) c.requires.level in
-    subst (λ (z : ℤ). IsFitting z) (sym (to_z-of_z w64 c.priority_at-old.result.unit fits ∙ is)) (unit_fits (lists_of c.args.table.now) c.slot_at-l.result.home c.requires.kept low)
+    subst (λ (z : ℤ). IsFitting z) (sym (to_z-of_z w64 c.priority_at-old.result.unit fits ∙ is)) (unit_fits (lists_of c.args.table.now) c.slot_at-l.result.home c.requires.turn.kept low)
 
 pub returns-then-not-does_level_fit-clause-stop : goal.returns-then-not-does_level_fit-clause-stop
 returns-then-not-does_level_fit-clause-stop c s turn =
@@ -43,7 +43,7 @@ returns-then-not-does_level_fit-clause-stop c s turn =
     record { level_is = refl; rows_is = rows-is; unit_is = to_z-of_z w64 c.priority_at-old.result.unit fits ∙ unit-is; pair_is = refl } in
     let stop : IsHomeStop (lists_of c.args.table.now) c.args.line (Refused (Plain (LevelOf c.level_of.result))) =
     ap (λ (level : Level). Refused (Plain (LevelOf level))) (c.level_of.ensures.priority low ∙ ap (λ (k : ℕ). Priority (1000 - k)) (sym home)) in
-    turn_draft_stop t c.args.line c.args.side s c.slot_at-l.result.home c.in_ok-row.row c.in_ok-value.value draft (Refused (Plain (LevelOf c.level_of.result))) c.requires.kept turn c.requires.level home is stop c.in_ok-row.ensures.kept c.in_ok-value.ensures.kept c.in_ok-row.ensures.ok c.in_ok-value.ensures.ok (c.if-not-does_level_fit.ensures.unfit refl)
+    turn_draft_stop t c.args.line c.args.side s c.slot_at-l.result.home c.in_ok-row.row c.in_ok-value.value draft (Refused (Plain (LevelOf c.level_of.result))) c.requires.turn.kept turn c.requires.level home is stop c.in_ok-row.ensures.kept c.in_ok-value.ensures.kept c.in_ok-row.ensures.ok c.in_ok-value.ensures.ok (c.if-not-does_level_fit.ensures.unfit refl)
 
 pub returns-clause-ok : goal.returns-clause-ok
 returns-clause-ok c s turn =
@@ -55,7 +55,7 @@ returns-clause-ok c s turn =
     let draft : Draft = record { level = c.slot_at-l.result.home; unit = to_z w64 (of_z w64 c.priority_at-old.result.unit); pair = record { enter = c.args.line; side = c.args.side; leave = c.args.line }; rows = c.priority_at-old.result.rows } in
     let is : IsTurnDraft (lists_of c.args.table.now) c.args.line c.args.side c.slot_at-l.result.home (record { level = c.slot_at-l.result.home; unit = to_z w64 (of_z w64 c.priority_at-old.result.unit); pair = record { enter = c.args.line; side = c.args.side; leave = c.args.line }; rows = c.priority_at-old.result.rows }) =
     record { level_is = refl; rows_is = rows-is; unit_is = to_z-of_z w64 c.priority_at-old.result.unit fits ∙ unit-is; pair_is = refl } in
-    turned_change t c.args.line c.args.side s c.slot_at-l.result.home c.in_ok-row.row c.in_ok-value.value draft c.requires.kept turn c.requires.level home is c.in_ok-row.ensures.kept c.in_ok-value.ensures.kept c.in_ok-row.ensures.ok c.in_ok-value.ensures.ok (c.if-not-does_level_fit.ensures.fits refl)
+    turned_change t c.args.line c.args.side s c.slot_at-l.result.home c.in_ok-row.row c.in_ok-value.value draft c.requires.turn.kept turn c.requires.level home is c.in_ok-row.ensures.kept c.in_ok-value.ensures.kept c.in_ok-row.ensures.ok c.in_ok-value.ensures.ok (c.if-not-does_level_fit.ensures.fits refl)
 
 pub returns-in_err-value-clause-stop : goal.returns-in_err-value-clause-stop
 returns-in_err-value-clause-stop c =

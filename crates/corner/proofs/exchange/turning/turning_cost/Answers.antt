@@ -16,20 +16,20 @@ pub named_sum-requires-clause-d : goal.named_sum-requires-clause-d
 named_sum-requires-clause-d c =
     let fits : SFits w64 c.priority_at.result.unit = search rules in
     let is : c.priority_at.result.unit ≡ (priority_at (lists_of c.args.table.now) c.slot_at-home.result.home).unit = search rules in
-    let low : c.slot_at-home.result.home < LEVELS = subst (λ (s : Slot). s.home < LEVELS) (sym c.slot_at-home.ensures) c.requires.level in
-    subst (λ (z : ℤ). IsFitting z) (sym (to_z-of_z w64 c.priority_at.result.unit fits ∙ is)) (unit_fits (lists_of c.args.table.now) c.slot_at-home.result.home c.requires.kept low)
+    let low : c.slot_at-home.result.home < LEVELS = subst (λ (s : Slot). s.home < LEVELS) (sym c.slot_at-home.ensures) c.requires.count.level in
+    subst (λ (z : ℤ). IsFitting z) (sym (to_z-of_z w64 c.priority_at.result.unit fits ∙ is)) (unit_fits (lists_of c.args.table.now) c.slot_at-home.result.home c.requires.turn.1.kept low)
 
 pub named_sum-requires-clause-above : goal.named_sum-requires-clause-above
 named_sum-requires-clause-above c =
     let fits : SFits w64 c.priority_at.result.unit = search rules in
     let is : c.priority_at.result.unit ≡ (priority_at (lists_of c.args.table.now) c.slot_at-home.result.home).unit = search rules in
-    let low : c.slot_at-home.result.home < LEVELS = subst (λ (s : Slot). s.home < LEVELS) (sym c.slot_at-home.ensures) c.requires.level in
-    subst (λ (z : ℤ). pos 0 <ℤ z) (sym (to_z-of_z w64 c.priority_at.result.unit fits ∙ is)) (unit_above (lists_of c.args.table.now) c.slot_at-home.result.home c.requires.kept low)
+    let low : c.slot_at-home.result.home < LEVELS = subst (λ (s : Slot). s.home < LEVELS) (sym c.slot_at-home.ensures) c.requires.count.level in
+    subst (λ (z : ℤ). pos 0 <ℤ z) (sym (to_z-of_z w64 c.priority_at.result.unit fits ∙ is)) (unit_above (lists_of c.args.table.now) c.slot_at-home.result.home c.requires.turn.1.kept low)
 
 number : (c : goal.After-named_sum) → to_z w64 (of_z w64 (pos 0 -ℤ to_z w64 (of_z w64 c.args.count))) ≡ neg_ℤ (pos (counts_at (lists_of c.args.table.now) c.args.line))
 number c =
     let count : SFits w64 c.args.count = search rules in
-    negated c.args.count (pos (counts_at (lists_of c.args.table.now) c.args.line)) count (fitting_cost c.args.count c.requires.fits) c.requires.count
+    negated c.args.count (pos (counts_at (lists_of c.args.table.now) c.args.line)) count (fitting_cost c.args.count c.requires.count.fits) c.requires.count.count_is
 
 scale : (c : goal.After-named_sum) → to_z w64 (of_z w64 c.priority_at.result.unit) ≡ (priority_at (lists_of c.args.table.now) c.slot_at-home.result.home).unit
 scale c =
@@ -47,6 +47,6 @@ returns-clause-ok c =
 pub returns-clause-stop : goal.returns-clause-stop
 returns-clause-stop c =
     err_all c.named_sum.result _ (IsAnyTurnStop (lists_of c.args.table.now) c.args.line)
-    (λ stop h side s turn. turn_cost_stop (lists_of c.args.table.now) c.args.line side c.slot_at-home.result.home c.value_at.result c.value_at-2.result (to_z w64 (of_z w64 (pos 0 -ℤ to_z w64 (of_z w64 c.args.count)))) (to_z w64 (of_z w64 c.priority_at.result.unit)) stop c.requires.kept c.requires.level (h.0 ∙ c.requires.stop)
+    (λ stop h side s turn. turn_cost_stop (lists_of c.args.table.now) c.args.line side c.slot_at-home.result.home c.value_at.result c.value_at-2.result (to_z w64 (of_z w64 (pos 0 -ℤ to_z w64 (of_z w64 c.args.count)))) (to_z w64 (of_z w64 c.priority_at.result.unit)) stop c.requires.turn.1.kept c.requires.count.level (h.0 ∙ c.requires.stop)
     (ap (λ (s : Slot). s.home) (sym c.slot_at-home.ensures)) c.value_at.ensures c.value_at-2.ensures (number c) (scale c) h.1 s turn)
     c.named_sum.ensures.err

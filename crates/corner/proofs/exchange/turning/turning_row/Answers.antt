@@ -52,7 +52,7 @@ returns-clause-stop c =
     (λ stop h s turn. elim h [
       | inl e ↦ subst (λ (x : TableStop). IsUnfitStop (problem_of (lists_of c.args.table.now)) (marks_after (lists_of c.args.table.now) s) x) (sym e) tt
       | inr (e, made) ↦
-          turn_row_stop (lists_of c.args.table.now) c.args.line c.args.side (factors c) (patch c) c.row-r.result.now c.row-p.result.now stop c.requires.kept c.requires.level (e ∙ c.requires.stop) (numbers c)
+          turn_row_stop (lists_of c.args.table.now) c.args.line c.args.side (factors c) (patch c) c.row-r.result.now c.row-p.result.now stop c.requires.turn.kept c.requires.count.level (e ∙ c.requires.stop) (numbers c)
           (err_of c.combine_but.result made.0 (λ (x : _). IsRefused x → IsUnfit (combination_but (factors c) c.row-r.result.now c.row-p.result.now (patch c))) made.1 c.combine_but.ensures.unfit made.2) s turn
     ])
     c.named_row.ensures.err
