@@ -13,8 +13,10 @@
 //! What the status keeps (`exit_code` in `specs/Exit.antt`): each way in which a run ends has a number of its
 //! own.
 //!
-//! All that it does stands in `layout_cli`. Here are the words, the streams and the status, whose numbers
-//! `exits` has.
+//! All that it does stands in `layout_cli`. Here are the words, the streams and the status.
+//!
+//! In reading order: `exits` (the statuses' numbers), then below `exit_status`, `words_of` (the words),
+//! `run_words` (the streams) and `main`.
 #![tactic(auto)]
 
 mod exits;

@@ -4,6 +4,9 @@ use std::alloc::AllocError;
 // The most digits of a part.
 const DIGITS: usize = 13;
 
+// The thousandths of a unit: an attribute has three places.
+const UNIT: u128 = 1000;
+
 /// A fraction, or a whole number over 1.
 #[derive(Clone, Copy, Debug, PartialEq, Eq)]
 pub struct Fraction {
@@ -44,17 +47,17 @@ pub fn read_fraction(text: &str) -> Option<Fraction> {
 /// the nearest, a half away from 0.
 pub fn put_attribute(out: &mut String, word: &str, f: Fraction) -> Result<(), AllocError> {
     let den = u128::from(f.den.max(1));
-    let thousandths = (2000 * u128::from(f.num) + den) / (2 * den);
+    let thousandths = (2 * UNIT * u128::from(f.num) + den) / (2 * den);
     let sign = if f.is_negative && thousandths > 0 {
         "-"
     } else {
         ""
     };
-    let whole = thousandths / 1000;
+    let whole = thousandths / UNIT;
     if u128::from(f.num) % den == 0 {
         write!(out, " {word}=\"{sign}{whole}\"")
     } else {
-        let places = thousandths % 1000;
+        let places = thousandths % UNIT;
         write!(out, " {word}=\"{sign}{whole}.{places:03}\"")
     }
 }
