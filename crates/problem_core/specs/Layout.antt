@@ -1,6 +1,6 @@
 -- Layout problems: assignments, rows, stays, errors, vectors of errors, and the best assignment.
 use Rattle.std.specs.Prelude.{◌≡◌, ℕ, ◌+◌, ◌-◌, ◌*◌, ◌/◌, ◌<◌, ◌≤◌, cond, nat_eq, List, [], ◌∷◌, ◌++◌, map, ℤ}
-use Rattle.std.specs.Prelude.{pos, negsuc, ◌+ℤ◌, ◌-ℤ◌, ◌*ℤ◌, All, codes}
+use Rattle.std.specs.Prelude.{pos, negsuc, ◌-ℤ◌, ◌*ℤ◌, All, codes}
 use Rattle.std.specs.List.{Any}
 use Rattle.frac_core.specs.Fraction.{Fraction}
 pub use Rattle.frac_core.specs.Sums.{sum_of}

@@ -1,7 +1,7 @@
 -- The columns of two rows, from the lowest up.
 use Rattle.std.specs.Prelude.{◌≡◌, ◌≢◌, ℕ, ◌+◌, ◌-◌, ◌*◌, ◌<◌, ◌≤◌, ◌^◌, true, false, ◌&&◌, cond, nat_eq}
 use Rattle.std.specs.Prelude.{List, [], ◌∷◌, ◌++◌, length, slice_index_or, ℤ, pos, ◌<ℤ◌, ◌+ℤ◌, ◌*ℤ◌}
-use Rattle.std.specs.Prelude.{unsigned_abs, All, ◌⊎◌}
+use Rattle.std.specs.Prelude.{unsigned_abs, ◌⊎◌}
 use Prim.Native.Nat.{◌∣◌}
 use Rattle.frac_core.specs.Fraction.{IsFitting}
 use Rattle.frac_core.specs.declared.frac.TheConstants.{PART_BOUND}

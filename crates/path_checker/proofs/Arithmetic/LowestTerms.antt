@@ -1,5 +1,5 @@
 -- Lists of numbers in lowest terms.
-use Rattle.std.proofs.Common.{◌≡◌, ◌≢◌, ℕ, zero, suc, ◌+◌, ◌*◌, ◌<◌, ◌≤◌, ◌^◌, length, map, take, get_or, List, [], ◌∷◌, ◌++◌, inl, inr, ℤ, pos, ◌*ℤ◌, ◌<ℤ◌, sym, subst, ap, ap₂, ◌∙◌, arith, All}
+use Rattle.std.proofs.Common.{◌≡◌, ◌≢◌, ℕ, ◌+◌, ◌*◌, ◌<◌, ◌≤◌, ◌^◌, length, map, take, get_or, List, [], ◌∷◌, ◌++◌, inl, inr, ℤ, pos, ◌*ℤ◌, ◌<ℤ◌, sym, subst, ap, ap₂, ◌∙◌, arith, All}
 use Rattle.std.specs.Prelude.{◌+ℤ◌, unsigned_abs}
 use Rattle.std.specs.Int.{◌∣◌, IsGcd}
 use borrow.Author.Differences.{ints}
@@ -8,7 +8,7 @@ use Rattle.std.proofs.lemmas.Bool.{cases_lt}
 use Rattle.std.proofs.lemmas.List.{get_or-take, get_or_append_left, get_or_push, length-append, length-take-le, map_push, take_more}
 use Rattle.std.proofs.lemmas.List.Elements.{All-map, All-more, All-weaker}
 use Rattle.std.proofs.lemmas.Nat.Gcd.{dvd_refl, dvd_trans, le_of_dvd}
-use Rattle.std.proofs.Math.Nat.{eq-zero_of_zero-dvd, dvd-mul_right, mul-dvd-mul_left, dvd_of_mul-dvd-mul_left, eq-one_of_dvd-one}
+use Rattle.std.proofs.Math.Nat.{dvd-mul_right, mul-dvd-mul_left, dvd_of_mul-dvd-mul_left, eq-one_of_dvd-one}
 use Rattle.frac_core.specs.Fraction.{IsFitting}
 use Rattle.frac_core.specs.declared.frac.TheConstants.{PART_BOUND}
 use Rattle.path_checker.specs.Numbers.{AreLowest, AreUnfit, DividesAll, HasTooLarge, IsCommonDivisor, IsFactor, IsSmallProduct, number_at}

@@ -1,5 +1,5 @@
 use Rattle.std.proofs.Common.{◌≡◌, ◌<◌, ◌≤◌, ◌^◌, ◌<ℤ◌, ℕ, ℤ, pos, unsigned_abs, sym, subst, subst₂, SFits, rules, arith}
-use Rattle.std.specs.Int.{w128, IsGcd, ◌∣◌}
+use Rattle.std.specs.Int.{w128, IsGcd}
 use borrow.Author.Differences.{ints}
 use Rattle.std.proofs.lemmas.Int.{to_z-of_z, fits_signed_from_abs, to_z_pos}
 use Rattle.std.proofs.lemmas.Nat.Gcd.{le_of_dvd}
