@@ -36,7 +36,7 @@ pub enum Fit {
     NoRoom,
 }
 
-/// The corner after an exchange: the tableau before it.
+/// The corner after an exchange: the tableau of the corner before it, and the exchange.
 #[derive(Clone, Copy, Debug)]
 pub struct Last<'a> {
     pub tableau: Tableau<'a>,

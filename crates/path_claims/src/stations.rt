@@ -28,7 +28,7 @@ pub struct Table {
 }
 
 impl Table {
-    /// The tableau, of a problem with this outline.
+    /// The same with the outline of the problem whose lines and levels they are.
     pub fn tableau<'a>(&'a self, outline: &'a Outline) -> Tableau<'a>
         ensures outline { result.corner.outline.now ≡ outline.now }
         ensures lines { result.corner.lines.now ≡ self.now.lines.items }
