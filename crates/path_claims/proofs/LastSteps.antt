@@ -147,7 +147,7 @@ fit_by_last p path outline station step named NoRoom is are step_is part =
 pub last_comes : (p : Problem) (at : List Mark) (outline : Outline) (table : Table) (o : Option Step) (step : Step) → o ≡ Some step → IsStationBy p at outline table o → ComesBy p at outline table step
 last_comes p at outline table o step is by = subst (IsStationBy p at outline table) is by
 
-pub last_is : (p : Problem) (at : List Mark) (outline : Outline) (table : Table) (step : Step) (last : Last) → (comes : ComesBy p at outline table step) → last.outline.now ≡ outline → last.lines.now ≡ table.lines.items → last.levels.now ≡ table.levels.items → last.step ≡ step → IsLastAfter p comes.before last
+pub last_is : (p : Problem) (at : List Mark) (outline : Outline) (table : Table) (step : Step) (last : Last) → (comes : ComesBy p at outline table step) → last.tableau.corner.outline.now ≡ outline → last.tableau.corner.lines.now ≡ table.lines.items → last.tableau.levels.now ≡ table.levels.items → last.step ≡ step → IsLastAfter p comes.before last
 last_is p at outline table step last comes same_outline same_lines same_levels same_step = record {
   kept = subst₂ (λ (f : Outline) (zs : List (Option Inside)). AreKept p comes.before f zs) (sym same_outline) (sym same_lines) comes.table_is.kept;
   levels = subst₂ (λ (f : Outline) (zs : List LevelSum). AreLevels p comes.before f zs) (sym same_outline) (sym same_levels) comes.table_is.levels;
@@ -187,7 +187,7 @@ no_room_then p path OutOfMemory n v h ended = absurd ended
 
 -- ---- all together
 
-pub found_after : (case : PathCase) (walked : Walked) (step : Step) (named : Quantity) (last : Last) (sound : Bool) (fit : Fit) → IsPathCase case → (is : IsWalked case walked) → (e : walked.station.step ≡ Some step) → last.outline.now ≡ case.outline.now → last.lines.now ≡ walked.station.table.lines.items → last.levels.now ≡ walked.station.table.levels.items → last.step ≡ step
+pub found_after : (case : PathCase) (walked : Walked) (step : Step) (named : Quantity) (last : Last) (sound : Bool) (fit : Fit) → IsPathCase case → (is : IsWalked case walked) → (e : walked.station.step ≡ Some step) → last.tableau.corner.outline.now ≡ case.outline.now → last.tableau.corner.lines.now ≡ walked.station.table.lines.items → last.tableau.levels.now ≡ walked.station.table.levels.items → last.step ≡ step
     → ((at : List Mark) → IsLastAfter case.p.now at last → IsTrue sound ↔ IsSoundFrom case.path.now.dual case.p.now (marks_after case.p.now last at) (unjudged_from case.path.now.dual case.path.now.swaps (row_of_terms (Some named))))
     → ((at : List Mark) → IsLastAfter case.p.now at last → IsFitAt case.p.now (marks_after case.p.now last at) named fit) → IsFound case.p.now case.path.now (Some named) (walked.is_sound && sound) walked.is_called_for fit walked.station.count
 found_after case walked step named last sound fit is_case is e same_outline same_lines same_levels same_step says fits =

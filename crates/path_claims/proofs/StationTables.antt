@@ -13,6 +13,7 @@ use Rattle.path_checker.specs.Route.{over_marks}
 use Rattle.path_checker.specs.Tables.{AreLines, IsThere, line_count, swap_of}
 use Rattle.path_checker.proofs.Walking.FirstCorner.{begins_there}
 use Rattle.path_levels.specs.declared.outline.Outline.{Outline}
+use Rattle.path_levels.specs.declared.tableau.CornerLines.{CornerLines}
 use Rattle.path_claims.specs.declared.stations.Table.{Table}
 use Rattle.path_levels.specs.Outlines.{IsOutline}
 use Rattle.path_claims.specs.Fits.{AllAttrsFit}
@@ -29,8 +30,8 @@ outline_long p outline is = facts_long outline.levels.items (lines_of p) outline
 pub begins_kept : (p : Problem) (outline : Outline) (lines : List (Option Inside)) → IsOutline p outline → IsWhole p → AreLines p (over_marks p) lines → AreKept p (over_marks p) outline lines
 begins_kept p outline lines is whole are = record { outline_is = is; there = begins_there p whole; lines_are = are }
 
-pub rows_unfit : (p : Problem) (outline : Outline) (lines : List (Option Inside)) (level : Level) (j : ℕ) → AreKept p (over_marks p) outline lines → IsLevelsStop outline lines (unfit_rows level j) → HasUnfitRows p
-rows_unfit p outline lines level j kept stops = (level, j, (stops p (over_marks p) kept).unfit)
+pub rows_unfit : (p : Problem) (corner : CornerLines) (level : Level) (j : ℕ) → AreKept p (over_marks p) corner.outline.now corner.lines.now → IsLevelsStop corner (unfit_rows level j) → HasUnfitRows p
+rows_unfit p corner level j kept stops = (level, j, (stops p (over_marks p) kept).unfit)
 
 -- ---- after an exchange
 

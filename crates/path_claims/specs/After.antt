@@ -9,36 +9,43 @@ use Rattle.path_checker.specs.declared.table.Inside.{Inside}
 use Rattle.path_checker.specs.Exchanges.Pivots.{next_marks}
 use Rattle.path_checker.specs.Tables.{AreLines, AreSized, IsLineAt, IsThere, line_count, name_at, swap_of}
 use Rattle.path_levels.specs.Exchanges.Pivots.{IsExchangePivot, IsSizedPivot}
+use Rattle.path_claims.specs.declared.last.PivotCase.{PivotCase}
+use Rattle.path_claims.specs.declared.last.after.LineAt.{LineAt}
 use Rattle.path_claims.specs.Fits.{AllAttrsFit}
 
 -- each line of the problem is kept, and its sum and the pivot have a number for each line
-pub record IsSizedExchange (p : Problem) (lines : List (Option Inside)) (pivot : Pivot) : Type 0 where
-  pub count : length lines ≡ line_count p
-  pub lines_are : AreSized lines
-  pub pivot_is : IsSizedPivot (length lines) pivot
+pub record IsPivotCase (case : PivotCase) : Type 0 where
+  pub count : length case.lines.now ≡ line_count case.p.now
+  pub lines_are : AreSized case.lines.now
+  pub pivot_is : IsSizedPivot (length case.lines.now) case.pivot.now
 
 -- it holds at the corner after the exchange with this pivot, of each corner with these lines
 abbrev pub AfterExchange : Problem → Pivot → List (Option Inside) → (List Mark → Type 0) → Type 0
 AfterExchange p pivot lines holds = (at : List Mark) → IsExchangePivot p at pivot → AreLines p at lines
     → holds (next_marks p pivot at)
 
+-- the same of the case's corner
+abbrev pub AfterPivot : PivotCase → (List Mark → Type 0) → Type 0
+AfterPivot case holds = AfterExchange case.p.now case.pivot.now case.lines.now holds
+
 -- the same, of each at which all attributes fit
-abbrev pub AfterFittingAttrs : Problem → Pivot → List (Option Inside) → (List Mark → Type 0) → Type 0
-AfterFittingAttrs p pivot lines holds = (at : List Mark) → IsExchangePivot p at pivot → AreLines p at lines
-    → AllAttrsFit p at → holds (next_marks p pivot at)
+abbrev pub AfterFittingAttrs : PivotCase → (List Mark → Type 0) → Type 0
+AfterFittingAttrs case holds = (at : List Mark) → IsExchangePivot case.p.now at case.pivot.now
+    → AreLines case.p.now at case.lines.now → AllAttrsFit case.p.now at
+    → holds (next_marks case.p.now case.pivot.now at)
 
 -- ---- of the line at a place, of so many
 
 -- it holds at each corner at which this is kept of the line
-abbrev pub WithLine : (count at : ℕ) → Option Inside → (Problem → List Mark → Type 0) → Type 0
-WithLine count at line holds = (p : Problem) (marks : List Mark) → IsThere p marks → count ≡ line_count p
-    → at < line_count p → IsLineAt p marks (name_at p at) line → holds p marks
+abbrev pub WithLine : LineAt → (Problem → List Mark → Type 0) → Type 0
+WithLine line holds = (p : Problem) (marks : List Mark) → IsThere p marks → line.count ≡ line_count p
+    → line.at < line_count p → IsLineAt p marks (name_at p line.at) line.inside.now → holds p marks
 
 -- it holds after the exchange with this pivot, of each such corner
-abbrev pub AfterWithLine : Pivot → (count at : ℕ) → Option Inside → (Problem → List Mark → Type 0) → Type 0
-AfterWithLine pivot count at line holds = (p : Problem) (marks : List Mark) → IsExchangePivot p marks pivot
-    → count ≡ line_count p → at < line_count p → IsLineAt p marks (name_at p at) line
-    → holds p (next_marks p pivot marks)
+abbrev pub AfterWithLine : Pivot → LineAt → (Problem → List Mark → Type 0) → Type 0
+AfterWithLine pivot line holds = (p : Problem) (marks : List Mark) → IsExchangePivot p marks pivot
+    → line.count ≡ line_count p → line.at < line_count p
+    → IsLineAt p marks (name_at p line.at) line.inside.now → holds p (next_marks p pivot marks)
 
 -- it holds after the exchange by these places, of each such corner
 abbrev pub AfterStepWithLine : Step → (at : ℕ) → Option Inside → (Problem → List Mark → Type 0) → Type 0

@@ -11,6 +11,7 @@ use Rattle.problem_core.specs.Unfit.{HasNoWriting}
 use Rattle.path_checker.specs.declared.table.Inside.{Inside}
 use Rattle.path_checker.specs.declared.table.Sum.{Sum}
 use Rattle.path_checker.specs.Tables.{IsLineAt, IsSized, IsThere, line_count, name_at}
+use Rattle.path_claims.specs.declared.last.after.LineAt.{LineAt}
 use Rattle.path_claims.specs.Sums.{IsQuantitySum}
 
 -- the line at the place is the stay of this attribute, with this target
@@ -21,15 +22,17 @@ pub record IsStayAt (p : Problem) (attr at : ℕ) (target : Fraction) : Type 0 w
   pub is : (s : Stay) → get_or p.stays stay s ≡ record { attr = attr; target = target }
 
 -- the sum is the attribute's at the corner, wherever this is its stay's line
-abbrev pub IsAttrBefore : Fraction → (count at : ℕ) → Option Inside → Sum → Type 0
-IsAttrBefore target count at line sum = (p : Problem) (marks : List Mark) (attr : ℕ) → IsThere p marks
-    → count ≡ line_count p → IsStayAt p attr at target → IsLineAt p marks (name_at p at) line
+abbrev pub IsAttrBefore : Fraction → LineAt → Sum → Type 0
+IsAttrBefore target line sum = (p : Problem) (marks : List Mark) (attr : ℕ) → IsThere p marks
+    → line.count ≡ line_count p → IsStayAt p attr line.at target
+    → IsLineAt p marks (name_at p line.at) line.inside.now
     → IsQuantitySum p marks (λ x. x (attr_column attr)) sum
 
 -- the attribute does not fit there
-abbrev pub IsUnfitBefore : Fraction → (count at : ℕ) → Option Inside → Type 0
-IsUnfitBefore target count at line = (p : Problem) (marks : List Mark) (attr : ℕ) → IsThere p marks
-    → count ≡ line_count p → IsStayAt p attr at target → IsLineAt p marks (name_at p at) line
+abbrev pub IsUnfitBefore : Fraction → LineAt → Type 0
+IsUnfitBefore target line = (p : Problem) (marks : List Mark) (attr : ℕ) → IsThere p marks
+    → line.count ≡ line_count p → IsStayAt p attr line.at target
+    → IsLineAt p marks (name_at p line.at) line.inside.now
     → HasNoWriting p marks (λ x. x (attr_column attr))
 
 -- the attribute has no stay, or this is its sum, and it fits

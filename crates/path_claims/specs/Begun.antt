@@ -45,5 +45,5 @@ pub record IsBegunUntil (p : Problem) (lines : List (Option Inside)) (sum : Quan
 
 -- all of the corner where the route begins, or its lines before the first sum that does not fit
 abbrev pub IsBegun : Problem → Outline → Begun → Type 0
-IsBegun p outline (Whole lines levels) = IsWholeBegun p outline lines.items levels.items
+IsBegun p outline (Whole table) = IsWholeBegun p outline table.lines.items table.levels.items
 IsBegun p outline (Until lines unfit) = IsBegunUntil p lines.items unfit

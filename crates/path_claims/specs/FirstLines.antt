@@ -8,7 +8,7 @@ use Rattle.problem_core.specs.declared.stops.Quantity.TheVariants.{Rows}
 use Rattle.path_checker.specs.declared.exchange.Pivot.{Pivot}
 use Rattle.path_checker.specs.declared.table.Inside.{Inside}
 use Rattle.path_checker.specs.Tables.{IsLineAt, line_count, name_at}
-use Rattle.path_levels.specs.declared.outline.Outline.{Outline}
+use Rattle.path_levels.specs.declared.tableau.CornerLines.{CornerLines}
 use Rattle.path_levels.specs.declared.outline.LineFacts.{LineFacts}
 use Rattle.path_levels.specs.Outlines.{number_at}
 use Rattle.path_levels.specs.Rows.{AreKeptOf}
@@ -40,17 +40,19 @@ pub record HasUnfitFirst (p : Problem) (at : List Mark) (facts : List LineFacts)
 
 -- these lines are as they are kept
 abbrev pub AreFirstAfter : Last → Pivot → FirstLines → List (Option Inside) → Type 0
-AreFirstAfter last pivot firsts next = (k : ℕ) (d : Option Inside) → k < length last.lines.now
-    → IsFirstAt last.outline.now.lines.items firsts k → (p : Problem)
-    → AfterExchange p pivot last.lines.now (λ at. IsLineAt p at (name_at p k) (get_or next k d))
+AreFirstAfter last pivot firsts next = (k : ℕ) (d : Option Inside) → k < length last.tableau.corner.lines.now
+    → IsFirstAt last.tableau.corner.outline.now.lines.items firsts k → (p : Problem)
+    → AfterExchange p pivot last.tableau.corner.lines.now
+    (λ at. IsLineAt p at (name_at p k) (get_or next k d))
 
 -- after the exchange the inside mark of one of these lines does not fit
 abbrev pub LeadsToUnfitFirst : Last → Pivot → FirstLines → Type 0
-LeadsToUnfitFirst last pivot firsts = (p : Problem) → AfterExchange p pivot last.lines.now
-    (λ at. HasUnfitFirst p at last.outline.now.lines.items firsts)
+LeadsToUnfitFirst last pivot firsts = (p : Problem) → AfterExchange p pivot last.tableau.corner.lines.now
+    (λ at. HasUnfitFirst p at last.tableau.corner.outline.now.lines.items firsts)
 
 -- how so many first rows of the level at the place stand at each corner at which their lines are kept
-abbrev pub IsRowsFit : Outline → List (Option Inside) → (place first : ℕ) → Fit → Type 0
-IsRowsFit outline lines place first fit = (p : Problem) (at : List Mark) (level : Level)
-    → AreKeptOf p at outline place first lines → IsLevelAt p level (number_at outline.levels.items place)
+abbrev pub IsRowsFit : CornerLines → (place first : ℕ) → Fit → Type 0
+IsRowsFit corner place first fit = (p : Problem) (at : List Mark) (level : Level)
+    → AreKeptOf p at corner.outline.now place first corner.lines.now
+    → IsLevelAt p level (number_at corner.outline.now.levels.items place)
     → IsFitAt p at (Rows level first) fit

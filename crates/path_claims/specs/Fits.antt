@@ -9,8 +9,8 @@ use Rattle.problem_core.specs.Unfit.{IsUnfitAt, IsUnfitWhat}
 use Rattle.path_checker.specs.Room.{IsPartOf}
 use Rattle.path_checker.specs.Sides.{IsWithin}
 use Rattle.path_checker.specs.Tables.{AreSized, swap_of}
-use Rattle.path_levels.specs.Outlines.{IsSizedOutline}
-use Rattle.path_levels.specs.Levels.{AreLevels, AreSizedLevels}
+use Rattle.path_levels.specs.Corners.{HasSizedLevels}
+use Rattle.path_levels.specs.Levels.{AreLevels}
 use Rattle.path_levels.specs.Rows.{AreKept}
 use Rattle.path_claims.specs.declared.last.Fit.{Fit}
 use Rattle.path_claims.specs.declared.last.Fit.TheVariants.{Fits, Unfit, NoRoom}
@@ -26,12 +26,9 @@ IsFitAt p at named NoRoom = (q : Quantity) × IsPartOf p named q × IsUnfitAt p 
 
 -- lines and levels have the lengths that the outline says, and fit
 pub record IsSizedLast (last : Last) : Type 0 where
-  pub outline : IsSizedOutline last.outline.now
-  pub lines : AreSized last.lines.now
-  pub count : length last.lines.now ≡ length last.outline.now.lines.items
-  pub levels : AreSizedLevels (length last.lines.now) last.levels.now
-  pub level_count : length last.levels.now ≡ length last.outline.now.levels.items
-  pub step : IsWithin (length last.lines.now) last.step
+  pub tableau : HasSizedLevels last.tableau
+  pub lines : AreSized last.tableau.corner.lines.now
+  pub step : IsWithin (length last.tableau.corner.lines.now) last.step
 
 -- each attribute fits at the corner
 abbrev pub AllAttrsFit : Problem → List Mark → Type 0
@@ -39,8 +36,8 @@ AllAttrsFit p at = (attr : ℕ) → IsUnfitWhat p at (Attr attr) → ⊥
 
 -- lines and levels are those of the corner before, at which all attributes fit, and this is an exchange there
 pub record IsLastAfter (p : Problem) (at : List Mark) (last : Last) : Type 0 where
-  pub kept : AreKept p at last.outline.now last.lines.now
-  pub levels : AreLevels p at last.outline.now last.levels.now
+  pub kept : AreKept p at last.tableau.corner.outline.now last.tableau.corner.lines.now
+  pub levels : AreLevels p at last.tableau.corner.outline.now last.tableau.levels.now
   pub attrs : AllAttrsFit p at
   pub exchange : IsExchange p at (swap_of p last.step)
 

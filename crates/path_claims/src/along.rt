@@ -32,7 +32,7 @@ pub fn is_sound_there(case: PathCase<'_>, table: &Table) -> bool
     ensures { (at : List Mark) → IsTableAt case.entry.p.now at case.entry.outline.now table.now
         → IsTrue result ↔ IsSound case.entry.path.now.dual case.entry.p.now at }
 {
-    is_sound(case.path.dual(), case.outline, &table.lines, &table.levels)
+    is_sound(case.path.dual(), table.tableau(case.outline))
 }
 
 // Whether the corner with this table is no end, and the exchange is called for there.
@@ -45,8 +45,9 @@ fn is_called_for(case: PathCase<'_>, table: &Table, step: Step) -> bool
         → IsTrue result ↔ IsCalledThere case.entry step at }
 {
     let dual = case.path.dual();
-    let is_last = is_end(dual, case.outline, &table.lines, &table.levels);
-    let may = may_swap(dual, case.outline, &table.lines, &table.levels, step);
+    let tableau = table.tableau(case.outline);
+    let is_last = is_end(dual, tableau);
+    let may = may_swap(dual, tableau, step);
     !is_last && may
 }
 

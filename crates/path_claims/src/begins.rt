@@ -4,9 +4,10 @@ ghost use Rattle.path_claims.specs.Begun.{IsBegun};
 ghost use Rattle.path_levels.specs.Outlines.{IsOutline, IsSizedOutline};
 
 use crate::firsts::row_lines;
+use crate::stations::Table;
 use frac_core::{OutOfMemory, Stop};
 use path_checker::{Inside, with_stays};
-use path_levels::{LevelSum, Outline, first_levels};
+use path_levels::{CornerLines, Outline, first_levels};
 use problem_core::{Problem, Quantity};
 use std::alloc::Global;
 
@@ -14,10 +15,7 @@ use std::alloc::Global;
 /// terms or of a level's first rows that does not fit there.
 #[derive(Debug, Drop)]
 pub enum Begun {
-    Whole {
-        lines: Vec<Option<Inside>>,
-        levels: Vec<LevelSum>,
-    },
+    Whole(Table),
     Until {
         lines: Vec<Option<Inside>>,
         unfit: Quantity,
@@ -37,8 +35,12 @@ pub fn begin(alloc: Global, p: &Problem, outline: &Outline) -> Result<Begun, Out
         return Ok(Begun::Until { lines, unfit });
     }
     let lines = with_stays(made.lines, p)?;
-    match first_levels(alloc, outline, &lines) {
-        Ok(levels) => Ok(Begun::Whole { lines, levels }),
+    let corner = CornerLines {
+        outline,
+        lines: &lines,
+    };
+    match first_levels(alloc, corner) {
+        Ok(levels) => Ok(Begun::Whole(Table { lines, levels })),
         Err(Stop::Refused(rows)) => {
             let unfit = Quantity::Rows {
                 level: rows.level,

@@ -126,13 +126,8 @@ fn verdict_after(
     requires step { walked.now.station.step ≡ Some step }
     ensures { IfOk result (IsPathVerdict case.entry.p.now case.entry.path.now (Some named)) }
 {
-    let table = &walked.station.table;
-    let last = Last {
-        outline: case.outline,
-        lines: &table.lines,
-        levels: &table.levels,
-        step,
-    };
+    let tableau = walked.station.table.tableau(case.outline);
+    let last = Last { tableau, step };
     let is_sound = is_sound_last(alloc, case, last, named)?;
     let fit = fit_after(alloc, case.p, last, named)?;
     let all_sound = walked.is_sound & is_sound;

@@ -24,7 +24,7 @@ use crate::last::sums_after::level_fit;
 use crate::last::terms::{FirstTerms, terms_fit};
 use frac_core::{OutOfMemory, Stop};
 use path_checker::{Inside, Pivot, Step};
-use path_levels::{LevelSum, LineExchange, Outline, has_no_negative_column_after, pivot_of};
+use path_levels::{LineExchange, Tableau, has_no_negative_column_after, pivot_of};
 use problem_core::{Problem, Quantity, What};
 use std::alloc::Global;
 
@@ -36,13 +36,19 @@ pub enum Fit {
     NoRoom,
 }
 
-/// The corner after an exchange: the lines and the levels before it.
+/// The corner after an exchange: the tableau of the corner before it, and the exchange.
 #[derive(Clone, Copy, Debug)]
 pub struct Last<'a> {
-    pub outline: &'a Outline,
-    pub lines: &'a [Option<Inside>],
-    pub levels: &'a [LevelSum],
+    pub tableau: Tableau<'a>,
     pub step: Step,
+}
+
+/// An exchange at a corner of a problem: the corner's lines, and its pivot.
+#[derive(Clone, Copy)]
+pub(crate) struct PivotCase<'a> {
+    pub p: &'a Problem,
+    pub lines: &'a [Option<Inside>],
+    pub pivot: &'a Pivot,
 }
 
 // How what is written stands after the exchange.
@@ -54,16 +60,17 @@ fn what_fit(
     what: What,
 ) -> Result<Fit, OutOfMemory>
     requires last { IsSizedLast last }
-    requires count { length last.lines.now ≡ line_count p.now }
-    requires pivot { IsSizedPivot (length last.lines.now) pivot.now }
+    requires count { length last.tableau.corner.lines.now ≡ line_count p.now }
+    requires pivot { IsSizedPivot (length last.tableau.corner.lines.now) pivot.now }
     requires step { pivot.now.step ≡ last.step }
     ensures { IfOk result (λ fit. (at : List Mark) → IsLastAfter p.now at last.entry
         → IsExchangePivot p.now at pivot.now
         → IsFitAt p.now (next_marks p.now pivot.now at) (quantities.Plain what) fit) }
 {
+    let lines = last.tableau.corner.lines;
     match what {
-        What::Attr(attr) => attr_fit(alloc, p, last.lines, pivot, attr),
-        What::Mark(mark) => mark_fit(alloc, p, last.lines, pivot, mark),
+        What::Attr(attr) => attr_fit(alloc, PivotCase { p, lines, pivot }, attr),
+        What::Mark(mark) => mark_fit(alloc, PivotCase { p, lines, pivot }, mark),
         What::Level(level) => level_fit(alloc, p, last, level),
     }
 }
@@ -77,8 +84,8 @@ fn quantity_fit(
     named: Quantity,
 ) -> Result<Fit, OutOfMemory>
     requires last { IsSizedLast last }
-    requires count { length last.lines.now ≡ line_count p.now }
-    requires pivot { IsSizedPivot (length last.lines.now) pivot.now }
+    requires count { length last.tableau.corner.lines.now ≡ line_count p.now }
+    requires pivot { IsSizedPivot (length last.tableau.corner.lines.now) pivot.now }
     requires step { pivot.now.step ≡ last.step }
     ensures { IfOk result (λ fit. (at : List Mark) → IsLastAfter p.now at last.entry
         → IsExchangePivot p.now at pivot.now → IsFitAt p.now (next_marks p.now pivot.now at) named fit) }
@@ -87,7 +94,12 @@ fn quantity_fit(
         Quantity::Plain(what) => what_fit(alloc, p, last, pivot, what),
         Quantity::Shifts { what, .. } => what_fit(alloc, p, last, pivot, what),
         Quantity::Terms { mark, first } => {
-            terms_fit(alloc, p, last.lines, pivot, FirstTerms { mark, first })
+            let lines = last.tableau.corner.lines;
+            terms_fit(
+                alloc,
+                PivotCase { p, lines, pivot },
+                FirstTerms { mark, first },
+            )
         }
         Quantity::Rows { level, first } => rows_fit(alloc, last, pivot, level, first),
     }
@@ -105,10 +117,11 @@ pub fn fit_after(
         → IsFitAt p.now (marks_after p.now last.entry at) named fit) }
 {
     p.show_whole(); // for the proof: what a problem keeps
-    if last.lines.len() != p.rows().len() + p.stays().len() {
+    let lines = last.tableau.corner.lines;
+    if lines.len() != p.rows().len() + p.stays().len() {
         return Ok(Fit::Fits);
     }
-    match pivot_of(alloc, last.lines, last.step) {
+    match pivot_of(alloc, lines, last.step) {
         Ok(pivot) => quantity_fit(alloc, p, last, &pivot, named),
         Err(Stop::OutOfMemory) => Err(OutOfMemory),
         Err(Stop::Refused(_)) => Ok(Fit::Fits),
@@ -122,16 +135,16 @@ pub fn is_sound_after(alloc: Global, dual: bool, last: Last<'_>) -> Result<bool,
         → IsTrue holds ↔ IsSound dual p (marks_after p last.entry at)) }
 {
     if dual {
-        let (lines, step) = (last.lines, last.step);
+        let (corner, step) = (last.tableau.corner, last.step);
         return has_no_negative_column_after(
             alloc,
-            last.outline,
-            LineExchange { lines, step },
-            last.levels,
+            LineExchange { corner, step },
+            last.tableau.levels,
         );
     }
-    match pivot_of(alloc, last.lines, last.step) {
-        Ok(pivot) => Ok(are_up_after(last.lines, &pivot, last.lines.len(), last.lines.len())),
+    let lines = last.tableau.corner.lines;
+    match pivot_of(alloc, lines, last.step) {
+        Ok(pivot) => Ok(are_up_after(lines, &pivot, lines.len(), lines.len())),
         Err(Stop::OutOfMemory) => Err(OutOfMemory),
         Err(Stop::Refused(_)) => Ok(true),
     }
@@ -150,8 +163,9 @@ pub fn has_no_negative_before_after(
         → AreJudged p id judged rows
         → IsTrue holds ↔ AreNonnegativeBefore p (marks_after p last.entry at) id) }
 {
-    match pivot_of(alloc, last.lines, last.step) {
-        Ok(pivot) => Ok(are_up_after(last.lines, &pivot, judged, rows)),
+    let lines = last.tableau.corner.lines;
+    match pivot_of(alloc, lines, last.step) {
+        Ok(pivot) => Ok(are_up_after(lines, &pivot, judged, rows)),
         Err(Stop::OutOfMemory) => Err(OutOfMemory),
         Err(Stop::Refused(_)) => Ok(true),
     }

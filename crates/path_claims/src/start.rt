@@ -11,7 +11,7 @@ ghost use Rattle.path_checker.specs.declared.verdict.PathVerdict.TheVariants.{No
 ghost use Rattle.path_checker.specs.declared.verdict.TheConstants.{SOUND_CLAUSE, UNFIT_CLAUSE};
 ghost use Rattle.path_claims.specs.Begun.{IsBegunUntil, IsWholeBegun};
 ghost use Rattle.path_levels.specs.Outlines.{IsOutline, IsSizedOutline};
-ghost use Rattle.path_levels.specs.Levels.{IsSizedCorner};
+ghost use Rattle.path_levels.specs.Corners.{HasSizedLevels};
 ghost use Rattle.path_claims.specs.Orders.{IsJudgedTo};
 ghost use Rattle.path_claims.specs.Starts.{AreUpTo, IsAtStart};
 
@@ -21,7 +21,7 @@ use crate::orders::{fit_before, judged_rows};
 use cert_core::Path;
 use frac_core::OutOfMemory;
 use path_checker::{Inside, PathVerdict, SOUND_CLAUSE, UNFIT_CLAUSE, is_up};
-use path_levels::{LevelSum, Outline, has_no_negative_column};
+use path_levels::{Outline, Tableau, has_no_negative_column};
 use problem_core::{Problem, Quantity};
 use std::alloc::Global;
 
@@ -40,22 +40,18 @@ fn are_up(lines: &[Option<Inside>], count: usize) -> bool
 }
 
 // Whether what has to hold at the corner does, where all is made, and so many rows are judged.
-fn is_sound_there(
-    dual: bool,
-    outline: &Outline,
-    lines: &[Option<Inside>],
-    levels: &[LevelSum],
-    judged: usize,
-) -> bool
-    requires corner { IsSizedCorner outline.now lines.now levels.now }
-    requires judged { judged ≤ length lines.now }
-    ensures { (p : Problem) (row : Option ℕ) → IsWhole p → IsWholeBegun p outline.now lines.now levels.now
+fn is_sound_there(dual: bool, tableau: Tableau<'_>, judged: usize) -> bool
+    requires tableau { HasSizedLevels tableau }
+    requires judged { judged ≤ length tableau.corner.lines.now }
+    ensures { (p : Problem) (row : Option ℕ) → IsWhole p
+        → IsWholeBegun p tableau.entry.corner.outline.now tableau.entry.corner.lines.now
+        tableau.entry.levels.now
         → IsJudgedTo p row judged → IsTrue result ↔ AreSoundBefore dual p (over_marks p) [] row }
 {
     if dual {
-        return has_no_negative_column(outline, lines, levels);
+        return has_no_negative_column(tableau);
     }
-    are_up(lines, judged)
+    are_up(tableau.corner.lines, judged)
 }
 
 // The verdict on a path that holds to all clauses but SOUND_CLAUSE and UNFIT_CLAUSE, where the quantity fits.
@@ -115,9 +111,9 @@ pub fn check_at_start(
 {
     p.show_whole(); // for the proof: what a problem keeps
     match begin(alloc, p, outline)? {
-        Begun::Whole { lines, levels } => {
+        Begun::Whole(table) => {
             let judged = judged_rows(p, named);
-            let is_sound = is_sound_there(path.dual(), outline, &lines, &levels, judged);
+            let is_sound = is_sound_there(path.dual(), table.tableau(outline), judged);
             Ok(verdict_of_fitting(is_sound))
         }
         Begun::Until { lines, unfit } => Ok(verdict_until(p, path, named, &lines, unfit)),

@@ -3,9 +3,9 @@ ghost use Rattle.std.specs.Prelude.{◌≡◌, ◌<◌, ◌+◌, ◌^◌, List, 
 ghost use Rattle.problem_core.specs.declared.parts.Mark.{Mark};
 ghost use Rattle.path_checker.specs.Route.{over_marks};
 ghost use Rattle.path_checker.specs.Sides.{IsWithin};
-ghost use Rattle.path_checker.specs.Tables.{AreSized};
 ghost use Rattle.frac_core.specs.Stops.{IsRefused};
 ghost use Rattle.path_levels.specs.Outlines.{IsOutline, IsSizedOutline};
+ghost use Rattle.path_levels.specs.Corners.{IsSizedCorner};
 ghost use Rattle.path_levels.specs.Levels.{AreLevels, AreSizedLevels};
 ghost use Rattle.path_levels.specs.Rows.{AreKept};
 ghost use Rattle.path_claims.specs.Stations.{HasUnfitRows, HasUnfitSum, IsSizedTable, IsStation, IsStuckAt};
@@ -14,7 +14,9 @@ ghost use Rattle.path_claims.specs.Stations.{IsTableAt, IsUsableStation, LeadsTo
 use crate::last::fits::attrs_fit;
 use frac_core::{Stop, Unfit};
 use path_checker::{Inside, Step, SumStop, after_exchange, first_lines};
-use path_levels::{LevelSum, LineExchange, Outline, first_levels, next_levels};
+use path_levels::{
+    CornerLines, LevelSum, LineExchange, Outline, Tableau, first_levels, next_levels,
+};
 use problem_core::Problem;
 use std::alloc::Global;
 
@@ -23,6 +25,20 @@ use std::alloc::Global;
 pub struct Table {
     pub lines: Vec<Option<Inside>>,
     pub levels: Vec<LevelSum>,
+}
+
+impl Table {
+    /// The same with the outline of the problem whose lines and levels they are.
+    pub fn tableau<'a>(&'a self, outline: &'a Outline) -> Tableau<'a>
+        ensures outline { result.corner.outline.now ≡ outline.now }
+        ensures lines { result.corner.lines.now ≡ self.now.lines.items }
+        ensures levels { result.levels.now ≡ self.now.levels.items }
+    {
+        let lines = &self.lines;
+        let corner = CornerLines { outline, lines };
+        let levels = &self.levels;
+        Tableau { corner, levels }
+    }
 }
 
 /// What is kept of a corner of the route: the table of the one before and the exchange that leads here, or
@@ -39,19 +55,18 @@ pub struct Station {
 fn begun_levels(
     alloc: Global,
     p: &Problem,
-    outline: &Outline,
-    lines: &[Option<Inside>],
+    corner: CornerLines<'_>,
 ) -> Result<Vec<LevelSum>, SumStop>
-    requires sized { IsSizedOutline outline.now }
-    requires lines { AreSized lines.now }
-    requires kept { AreKept p.now (over_marks p.now) outline.now lines.now }
-    requires count { length lines.now ≡ length outline.now.lines.items }
-    ensures sized { IfOk result (λ levels. AreSizedLevels (length lines.now) levels.items) }
-    ensures count { IfOk result (λ levels. length levels.items ≡ length outline.now.levels.items) }
-    ensures levels { IfOk result (λ levels. AreLevels p.now (over_marks p.now) outline.now levels.items) }
+    requires corner { IsSizedCorner corner }
+    requires kept { AreKept p.now (over_marks p.now) corner.outline.now corner.lines.now }
+    ensures sized { IfOk result (λ levels. AreSizedLevels (length corner.entry.lines.now) levels.items) }
+    ensures count { IfOk result
+        (λ levels. length levels.items ≡ length corner.entry.outline.now.levels.items) }
+    ensures levels { IfOk result
+        (λ levels. AreLevels p.now (over_marks p.now) corner.entry.outline.now levels.items) }
     ensures unfit { IfErr result (λ stop. IsRefused stop → HasUnfitRows p.now) }
 {
-    match first_levels(alloc, outline, lines) {
+    match first_levels(alloc, corner) {
         Ok(levels) => Ok(levels),
         Err(Stop::Refused(_)) => Err(Stop::Refused(Unfit)),
         Err(Stop::OutOfMemory) => Err(Stop::OutOfMemory),
@@ -68,7 +83,11 @@ pub fn first_table(alloc: Global, p: &Problem, outline: &Outline) -> Result<Tabl
 {
     p.show_whole(); // for the proof: what a problem keeps
     let lines = first_lines(alloc, p)?;
-    let levels = begun_levels(alloc, p, outline, &lines)?;
+    let corner = CornerLines {
+        outline,
+        lines: &lines,
+    };
+    let levels = begun_levels(alloc, p, corner)?;
     Ok(Table { lines, levels })
 }
 
@@ -88,11 +107,12 @@ pub fn table_after(
     ensures next { IfOk result (LeadsToTable p.now outline.now table step) }
     ensures unfit { IfErr result (λ stop. IsRefused stop → LeadsToUnfitTable p.now outline.now table step) }
 {
-    let exchange = LineExchange {
+    let corner = CornerLines {
+        outline,
         lines: &table.lines,
-        step,
     };
-    let levels = next_levels(alloc, outline, exchange, &table.levels)?;
+    let exchange = LineExchange { corner, step };
+    let levels = next_levels(alloc, exchange, &table.levels)?;
     let lines = after_exchange(alloc, table.lines, step)?;
     if !attrs_fit(p, &lines) {
         return Err(Stop::Refused(Unfit));

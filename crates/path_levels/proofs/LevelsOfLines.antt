@@ -15,6 +15,7 @@ use Rattle.path_checker.specs.Room.{ComesBefore}
 use Rattle.path_checker.specs.declared.table.Inside.{Inside}
 use Rattle.path_checker.proofs.Walking.FirstLines.{count_lines, row_at}
 use Rattle.path_levels.specs.declared.outline.Outline.{Outline}
+use Rattle.path_levels.specs.declared.tableau.CornerLines.{CornerLines}
 use Rattle.path_levels.specs.declared.outline.LevelFacts.{LevelFacts}
 use Rattle.path_levels.specs.declared.outline.LineFacts.{LineFacts}
 use Rattle.frac_core.specs.declared.memory.Stop.TheVariants.{Refused, OutOfMemory}
@@ -201,7 +202,7 @@ first_of_all outline kept n levels p at level j within rows are (here, most, fir
     before other i (a, b, at_a, at_b, inr (same, less)) unfit =
         first.before i less (subst (λ (l : Level). IsUnfitRows p at l i) (level_unique p other level b (subst (IsLevelAt p other) same at_a) at_b) unfit)
 
-pub levels_stop : (outline : Outline) (kept : List (Option Inside)) (n : ℕ) (levels : List LevelSum) (stop : RowsStop) → n < length outline.levels.items → AreRowsTo outline kept n levels
-    → IsRowsStop outline n 4294967295 kept stop → IsLevelsStop outline kept stop
-levels_stop outline kept n levels (Refused bad) within rows is = λ p at are. first_of_all outline kept n levels p at bad.level bad.first within rows are (is p at (kept_of p at outline n 4294967295 kept are))
-levels_stop outline kept n levels OutOfMemory within rows is = tt
+pub levels_stop : (corner : CornerLines) (n : ℕ) (levels : List LevelSum) (stop : RowsStop) → n < length corner.outline.now.levels.items → AreRowsTo corner.outline.now corner.lines.now n levels
+    → IsRowsStop corner n 4294967295 stop → IsLevelsStop corner stop
+levels_stop corner n levels (Refused bad) within rows is = λ p at are. first_of_all corner.outline.now corner.lines.now n levels p at bad.level bad.first within rows are (is p at (kept_of p at corner.outline.now n 4294967295 corner.lines.now are))
+levels_stop corner n levels OutOfMemory within rows is = tt

@@ -1,6 +1,6 @@
 -- A line that joins the row of its level.
 use Rattle.std.specs.Prelude.{◌≡◌, ◌≢◌, ◌⊎◌, ℕ, ◌*◌, ◌/◌, ◌<◌, ◌≤◌, List, ℤ, pos, ◌*ℤ◌, ◌<ℤ◌, neg_ℤ}
-use Rattle.std.specs.Prelude.{unsigned_abs}
+use Rattle.std.specs.Prelude.{All, length, unsigned_abs}
 use Rattle.std.specs.Prelude.{◌+ℤ◌, ◌-ℤ◌, get_or, Option, None, Some}
 use Rattle.std.specs.Int.{IsGcd}
 use Rattle.frac_core.specs.Fraction.{Fits, Fraction, IsFitting, IsLowest, IsRatio, IsUnfitRatio, sum_den}
@@ -94,6 +94,13 @@ pub record HasNoDraft (old : LevelSum) (f : LineFacts) (kept : Option Inside) : 
       ⊎ IsUnfitJoinedCost old.cost f kept
 
 -- ---- what has to fit
+
+-- it has a number for each of so many lines, each of them fits, and unit and own number are above 0
+pub record IsMadeDraft (count : ℕ) (draft : Draft) : Type 0 where
+  pub count_is : length draft.by.items ≡ count
+  pub unit_above : pos 0 <ℤ draft.unit
+  pub own_above : pos 0 <ℤ draft.own
+  pub fits : All IsFitting draft.by.items
 
 -- what the line's deviation on one side counts
 abbrev pub side_count : Side → LineFacts → (unit own : ℕ) → ℕ

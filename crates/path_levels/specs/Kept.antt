@@ -8,6 +8,8 @@ use Rattle.path_checker.specs.declared.table.Inside.{Inside}
 use Rattle.path_checker.specs.Tables.{AreLines, IsThere, swap_of}
 use Rattle.path_levels.specs.declared.outline.Outline.{Outline}
 use Rattle.path_levels.specs.declared.sums.LevelSum.{LevelSum}
+use Rattle.path_levels.specs.declared.tableau.CornerLines.{CornerLines}
+use Rattle.path_levels.specs.declared.tableau.Tableau.{Tableau}
 use Rattle.path_levels.specs.Levels.{AreLevels, IsSumAt}
 use Rattle.path_levels.specs.Rows.{AreKept}
 
@@ -20,19 +22,24 @@ abbrev pub WithLines : List (Option Inside) → (Problem → List Mark → Type 
 WithLines lines holds = (p : Problem) (at : List Mark) → IsThere p at → AreLines p at lines → holds p at
 
 -- the same of a problem with this outline
-abbrev pub WithOutline : Outline → List (Option Inside) → (Problem → List Mark → Type 0) → Type 0
-WithOutline outline lines holds = (p : Problem) (at : List Mark) → AreKept p at outline lines → holds p at
+abbrev pub WithOutline : CornerLines → (Problem → List Mark → Type 0) → Type 0
+WithOutline corner holds = (p : Problem) (at : List Mark) → AreKept p at corner.outline.now corner.lines.now
+    → holds p at
 
 -- the same where these are the levels' rows
-abbrev pub WithLevels : Outline → List (Option Inside) → List LevelSum → (Problem → List Mark → Type 0)
-    → Type 0
-WithLevels outline lines levels holds = (p : Problem) (at : List Mark) → AreKept p at outline lines
-    → AreLevels p at outline levels → holds p at
+abbrev pub WithLevels : CornerLines → List LevelSum → (Problem → List Mark → Type 0) → Type 0
+WithLevels corner levels holds = (p : Problem) (at : List Mark)
+    → AreKept p at corner.outline.now corner.lines.now → AreLevels p at corner.outline.now levels → holds p at
+
+-- the same where the tableau has both
+abbrev pub WithTableau : Tableau → (Problem → List Mark → Type 0) → Type 0
+WithTableau tableau holds = WithLevels tableau.corner tableau.levels.now holds
 
 -- the same where this is the row of the level at a place
-abbrev pub WithRow : Outline → List (Option Inside) → ℕ → LevelSum → (Problem → List Mark → Type 0) → Type 0
-WithRow outline lines place sum holds = (p : Problem) (at : List Mark) → AreKept p at outline lines
-    → IsSumAt p at outline place sum → holds p at
+abbrev pub WithRow : CornerLines → ℕ → LevelSum → (Problem → List Mark → Type 0) → Type 0
+WithRow corner place sum holds = (p : Problem) (at : List Mark)
+    → AreKept p at corner.outline.now corner.lines.now → IsSumAt p at corner.outline.now place sum
+    → holds p at
 
 -- at the corner with these lines, whatever the levels' rows are, where this is the first of them
 abbrev pub WithFirstRow : Problem → List Mark → Outline → List (Option Inside) → LevelSum → Type 0 → Type 0

@@ -1,6 +1,5 @@
 -- What is kept of the levels at a corner.
 use Rattle.std.specs.Prelude.{◌≡◌, ◌⊎◌, ℕ, ◌<◌, List, length, get_or, pos, ◌<ℤ◌, ◌*ℤ◌, unsigned_abs, All}
-use Rattle.std.specs.Prelude.{Option}
 use Rattle.frac_core.specs.Fraction.{IsFitting}
 use Rattle.problem_core.specs.declared.parts.Mark.{Mark}
 use Rattle.problem_core.specs.declared.parts.Level.{Level}
@@ -10,11 +9,10 @@ use Rattle.problem_core.specs.Levels.{HasNoLevelWriting}
 use Rattle.problem_core.specs.Unfit.{IsUnfitWhat}
 use Rattle.corner_lines.specs.LineEquations.{IsOutsideLine}
 use Rattle.corner_lines.specs.Levels.LevelFits.{IsFittingRow, IsLevelThere}
-use Rattle.path_checker.specs.declared.table.Inside.{Inside}
 use Rattle.path_checker.specs.Tables.{line_count, numbers_of}
 use Rattle.path_levels.specs.declared.outline.Outline.{Outline}
 use Rattle.path_levels.specs.declared.sums.LevelSum.{LevelSum}
-use Rattle.path_levels.specs.Outlines.{IsSizedOutline, number_at}
+use Rattle.path_levels.specs.Outlines.{number_at}
 
 -- the sum has a number for each of so many lines, and its scale and its numbers fit
 pub record IsSizedLevel (count : ℕ) (sum : LevelSum) : Type 0 where
@@ -27,14 +25,6 @@ pub record IsSizedLevel (count : ℕ) (sum : LevelSum) : Type 0 where
 -- so it is with the sum of each level
 abbrev pub AreSizedLevels : ℕ → List LevelSum → Type 0
 AreSizedLevels count levels = All (IsSizedLevel count) levels
-
--- the outline is sized, it has as many lines as are kept, and each of its levels has a sized row
-pub record IsSizedCorner (outline : Outline) (lines : List (Option Inside)) (levels : List LevelSum)
-    : Type 0 where
-  pub outline_is : IsSizedOutline outline
-  pub count : length lines ≡ length outline.lines.items
-  pub levels_are : AreSizedLevels (length lines) levels
-  pub level_count : length levels ≡ length outline.levels.items
 
 -- it is the row of the level with this number at the corner, and the cost there; scale, numbers and reduced
 -- costs fit

@@ -1,5 +1,6 @@
 pub mod Outlines
 pub mod Levels
+pub mod Corners
 pub mod Rows
 pub mod Kept
 pub mod OutlineParts

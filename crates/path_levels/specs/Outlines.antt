@@ -1,7 +1,7 @@
 -- The lines and levels of a problem, in order.
-use Rattle.std.specs.Prelude.{◌≡◌, ℕ, ◌<◌, List, [], ◌∷◌, map, length, slice_index_or}
+use Rattle.std.specs.Prelude.{◌≡◌, ℕ, ◌<◌, ◌≤◌, List, [], ◌∷◌, map, length, slice_index_or}
 use Rattle.std.specs.Prelude.{pos, ◌<ℤ◌, ◌≤ℤ◌, All, AllPairs}
-use Rattle.problem_core.specs.declared.limits.TheConstants.{COEFFICIENT_LIMIT, WEIGHT_LIMIT}
+use Rattle.problem_core.specs.declared.limits.TheConstants.{COEFFICIENT_LIMIT, REQUIRED, WEIGHT_LIMIT}
 use Rattle.problem_core.specs.Layout.{Line, Problem, lines}
 use Rattle.problem_core.specs.Certificates.{over_weight, under_weight}
 use Rattle.problem_core.specs.Levels.{IsLevelAt}
@@ -12,6 +12,14 @@ use Rattle.path_levels.specs.declared.outline.Outline.{Outline}
 -- the number of the level at a place
 abbrev pub number_at : List LevelFacts → ℕ → ℕ
 number_at levels at = slice_index_or (map (λ f. f.number) levels) at 0
+
+-- the level at the place is one of rows
+abbrev pub IsOfRows : Outline → ℕ → Type 0
+IsOfRows outline place = number_at outline.levels.items place ≤ REQUIRED
+
+-- the level at the place is a stay's
+abbrev pub IsOfStay : Outline → ℕ → Type 0
+IsOfStay outline place = REQUIRED < number_at outline.levels.items place
 
 -- the facts are the line's
 pub record IsFactsOf (levels : List LevelFacts) (l : Line) (facts : LineFacts) : Type 0 where

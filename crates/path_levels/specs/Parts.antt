@@ -13,6 +13,7 @@ use Rattle.path_checker.specs.Tables.{IsLineAt, IsThere, line_count, name_at}
 use Rattle.path_levels.specs.declared.outline.Outline.{Outline}
 use Rattle.path_levels.specs.declared.outline.LineFacts.{LineFacts}
 use Rattle.path_levels.specs.declared.sums.LevelSum.{LevelSum}
+use Rattle.path_levels.specs.declared.tableau.CornerLines.{CornerLines}
 use Rattle.path_levels.specs.Outlines.{IsOutline, number_at}
 use Rattle.path_levels.specs.Levels.{IsLevelSum}
 use Rattle.path_levels.specs.Rows.{level_place}
@@ -58,11 +59,11 @@ IsPartSum p at outline place upto sum = IsLevelSum (part p (number_at outline.le
 
 -- what holds where the line at a place, and those of its level before it, are kept, and the sum is the row of
 -- the level with those before it
-abbrev pub WithPart : Outline → List (Option Inside) → (at : ℕ) → LevelSum
-    → (Problem → List Mark → ℕ → Type 0) → Type 0
-WithPart outline lines at old holds = (p : Problem) (marks : List Mark) (place : ℕ)
-    → level_there outline at ≡ place → IsPartKept p marks outline place (at + 1) lines
-    → IsPartSum p marks outline place at old → holds p marks place
+abbrev pub WithPart : CornerLines → (at : ℕ) → LevelSum → (Problem → List Mark → ℕ → Type 0) → Type 0
+WithPart corner at old holds = (p : Problem) (marks : List Mark) (place : ℕ)
+    → level_there corner.outline.now at ≡ place
+    → IsPartKept p marks corner.outline.now place (at + 1) corner.lines.now
+    → IsPartSum p marks corner.outline.now place at old → holds p marks place
 
 -- it does not fit
 abbrev pub IsPartUnfit : Problem → List Mark → Outline → (place upto : ℕ) → Type 0

@@ -16,6 +16,7 @@ use Rattle.path_levels.specs.declared.sums.LevelSum.{LevelSum}
 use Rattle.frac_core.specs.declared.memory.Stop.{Stop}
 use Rattle.frac_core.specs.declared.memory.Stop.TheVariants.{Refused, OutOfMemory}
 use Rattle.path_levels.specs.declared.rows.UnfitRows.{UnfitRows}
+use Rattle.path_levels.specs.declared.tableau.CornerLines.{CornerLines}
 use Rattle.path_levels.specs.Outlines.{IsOutline, number_at}
 use Rattle.path_levels.specs.Levels.{IsLevelSum}
 
@@ -73,10 +74,10 @@ abbrev pub unfit_rows : Level → ℕ → RowsStop
 unfit_rows level first = Refused (record { level = level; first = first })
 
 -- why the rows of all levels are not made
-abbrev pub IsLevelsStop : Outline → List (Option Inside) → RowsStop → Type 0
-IsLevelsStop outline kept (Refused rows) = (p : Problem) (at : List Mark) → AreKept p at outline kept
-    → IsFirstOfAll p at rows.level rows.first
-IsLevelsStop outline kept OutOfMemory = Unit {0}
+abbrev pub IsLevelsStop : CornerLines → RowsStop → Type 0
+IsLevelsStop corner (Refused rows) = (p : Problem) (at : List Mark)
+    → AreKept p at corner.outline.now corner.lines.now → IsFirstOfAll p at rows.level rows.first
+IsLevelsStop corner OutOfMemory = Unit {0}
 
 -- ---- one level
 
@@ -88,9 +89,14 @@ pub record IsRowsSum (p : Problem) (at : List Mark) (outline : Outline) (place m
   pub fitting : (level : Level) → IsLevelAt p level (number_at outline.levels.items place)
       → AreFittingRows p at level most
 
+-- what holds wherever the first so many lines of the level at the place are kept
+abbrev pub WithFirstLines : CornerLines → (place most : ℕ) → (Problem → List Mark → Type 0) → Type 0
+WithFirstLines corner place most holds = (p : Problem) (at : List Mark)
+    → AreKeptOf p at corner.outline.now place most corner.lines.now → holds p at
+
 -- why the row of the level at the place is not made
-abbrev pub IsRowsStop : Outline → ℕ → ℕ → List (Option Inside) → RowsStop → Type 0
-IsRowsStop outline place most kept (Refused rows) = (p : Problem) (at : List Mark)
-    → AreKeptOf p at outline place most kept → IsLevelAt p rows.level (number_at outline.levels.items place)
-    × (rows.first ≤ most) × IsFirstUnfit p at rows.level rows.first
-IsRowsStop outline place most kept OutOfMemory = Unit {0}
+abbrev pub IsRowsStop : CornerLines → (place most : ℕ) → RowsStop → Type 0
+IsRowsStop corner place most (Refused rows) = WithFirstLines corner place most
+    (λ p at. IsLevelAt p rows.level (number_at corner.outline.now.levels.items place)
+    × (rows.first ≤ most) × IsFirstUnfit p at rows.level rows.first)
+IsRowsStop corner place most OutOfMemory = Unit {0}

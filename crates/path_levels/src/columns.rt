@@ -5,17 +5,19 @@ ghost use Rattle.std.specs.Prelude.{IsTrue, [], false};
 ghost use Rattle.problem_core.specs.Corners.{HasNegativeColumn, NoNegativeColumn};
 ghost use Rattle.path_checker.specs.Tables.{mark_of};
 ghost use Rattle.path_levels.specs.Outlines.{IsPriced};
-ghost use Rattle.path_levels.specs.Levels.{IsSizedCorner, IsSizedLevel};
+ghost use Rattle.path_levels.specs.Levels.{IsSizedLevel};
+ghost use Rattle.path_levels.specs.Corners.{HasSizedLevels};
 ghost use Rattle.path_levels.specs.Costs.{AreSmall, HasLine, HasNegative, IsNegativeFirst};
 ghost use Rattle.path_levels.specs.Costs.{cost_in, cost_of, counted as counted_at, reduced_by};
 ghost use Rattle.path_levels.specs.Shares.{share_of};
 ghost use Rattle.path_levels.specs.declared.sums.LevelSum.{LevelSum as KeptSum};
-ghost use Rattle.path_levels.specs.Kept.{WithLevels};
+ghost use Rattle.path_levels.specs.Kept.{WithTableau};
 
-use crate::outline::{LineFacts, Outline};
+use crate::outline::LineFacts;
 use crate::shares::weight_on;
 use crate::sums::LevelSum;
-use path_checker::{Inside, Spot};
+use crate::tableau::{CornerLines, Tableau};
+use path_checker::Spot;
 use problem_core::Side;
 
 /// The parts of a level's row that its costs are counted by.
@@ -104,51 +106,38 @@ fn is_negative_first(facts: &LineFacts, levels: &[LevelSum], spot: Spot) -> bool
 }
 
 /// Whether the column of a mark is negative at the corner.
-pub fn is_negative_column(
-    outline: &Outline,
-    lines: &[Option<Inside>],
-    levels: &[LevelSum],
-    spot: Spot,
-) -> bool
-    requires corner { IsSizedCorner outline.now lines.now levels.now }
-    requires spot { spot.at < length lines.now }
-    ensures { WithLevels outline.now lines.now levels.now
+pub fn is_negative_column(tableau: Tableau<'_>, spot: Spot) -> bool
+    requires tableau { HasSizedLevels tableau }
+    requires spot { spot.at < length tableau.corner.lines.now }
+    ensures { WithTableau tableau.entry
         (λ p at. IsTrue result ↔ HasNegativeColumn p at (mark_of p spot)) }
 {
+    let CornerLines { outline, lines } = tableau.corner;
     match &lines[spot.at] {
         Some(_) => false,
-        None => is_negative_first(&outline.lines[spot.at], levels, spot),
+        None => is_negative_first(&outline.lines[spot.at], tableau.levels, spot),
     }
 }
 
 // Whether the column of a mark of the line is negative.
-fn has_negative_column(
-    outline: &Outline,
-    lines: &[Option<Inside>],
-    levels: &[LevelSum],
-    at: usize,
-) -> bool
-    requires corner { IsSizedCorner outline.now lines.now levels.now }
-    requires at { at < length lines.now }
-    ensures { WithLevels outline.now lines.now levels.now
+fn has_negative_column(tableau: Tableau<'_>, at: usize) -> bool
+    requires tableau { HasSizedLevels tableau }
+    requires at { at < length tableau.corner.lines.now }
+    ensures { WithTableau tableau.entry
         (λ p marks. IsTrue result ↔ HasNegative p marks at) }
 {
     let (under, over) = (Side::Under, Side::Over);
-    is_negative_column(outline, lines, levels, Spot { at, side: under })
-        || is_negative_column(outline, lines, levels, Spot { at, side: over })
+    is_negative_column(tableau, Spot { at, side: under })
+        || is_negative_column(tableau, Spot { at, side: over })
 }
 
 /// Whether no column is negative at the corner.
-pub fn has_no_negative_column(
-    outline: &Outline,
-    lines: &[Option<Inside>],
-    levels: &[LevelSum],
-) -> bool
-    requires { IsSizedCorner outline.now lines.now levels.now }
-    ensures { WithLevels outline.now lines.now levels.now (λ p at. IsTrue result ↔ NoNegativeColumn p at) }
+pub fn has_no_negative_column(tableau: Tableau<'_>) -> bool
+    requires { HasSizedLevels tableau }
+    ensures { WithTableau tableau.entry (λ p at. IsTrue result ↔ NoNegativeColumn p at) }
 {
-    for at in 0..lines.len() {
-        if has_negative_column(outline, lines, levels, at) {
+    for at in 0..tableau.corner.lines.len() {
+        if has_negative_column(tableau, at) {
             return false;
         }
     }

@@ -4,8 +4,9 @@ ghost use Rattle.std.specs.Prelude.{All};
 ghost use Rattle.problem_core.specs.Corners.{IsIn, NoNegativeColumn, place_of};
 ghost use Rattle.corner_lines.specs.LineEquations.{IsOutsideLine};
 ghost use Rattle.path_checker.specs.Sides.{IsWithin};
-ghost use Rattle.path_checker.specs.Tables.{AreSized, name_at};
+ghost use Rattle.path_checker.specs.Tables.{name_at};
 ghost use Rattle.path_levels.specs.Outlines.{IsPriced, IsSizedOutline};
+ghost use Rattle.path_levels.specs.Corners.{HasOutline, IsSizedExchange};
 ghost use Rattle.path_levels.specs.Levels.{AreSizedLevels};
 ghost use Rattle.path_levels.specs.Costs.{HasNegative, IsNegativeFirst};
 ghost use Rattle.path_levels.specs.Exchanges.Pivots.{IsSizedPivot};
@@ -126,44 +127,33 @@ fn is_outside_after(lines: &[Option<Inside>], step: Step, at: usize) -> bool
 
 // Whether the column of a mark of the line is negative after the exchange, where these are the levels' rows
 // there.
-fn has_negative_after(
-    outline: &Outline,
-    lines: &[Option<Inside>],
-    step: Step,
-    next: &[WideLevel],
-    at: usize,
-) -> bool
-    requires outline { IsSizedOutline outline.now }
-    requires count { length lines.now ≡ length outline.now.lines.items }
-    requires step { IsWithin (length lines.now) step }
-    requires next { All (IsSizedWide (length lines.now)) next.now }
-    requires at { at < length lines.now }
-    ensures { WithOutline outline.now lines.now (AfterStep step
-        (λ p marks. AreWideAt p marks outline.now next.now → IsTrue result ↔ HasNegative p marks at)) }
+fn has_negative_after(exchange: LineExchange<'_>, next: &[WideLevel], at: usize) -> bool
+    requires corner { HasOutline exchange.corner }
+    requires step { IsWithin (length exchange.corner.lines.now) exchange.step }
+    requires next { All (IsSizedWide (length exchange.corner.lines.now)) next.now }
+    requires at { at < length exchange.corner.lines.now }
+    ensures { WithOutline exchange.entry.corner (AfterStep exchange.entry.step
+        (λ p marks. AreWideAt p marks exchange.entry.corner.outline.now next.now
+        → IsTrue result ↔ HasNegative p marks at)) }
 {
-    if is_outside_after(lines, step, at) {
-        has_negative_first_after(&outline.lines[at], next, at)
+    if is_outside_after(exchange.corner.lines, exchange.step, at) {
+        has_negative_first_after(&exchange.corner.outline.lines[at], next, at)
     } else {
         false
     }
 }
 
 // Whether no column is negative after the exchange, where these are the levels' rows there.
-fn has_no_negative_after(
-    outline: &Outline,
-    lines: &[Option<Inside>],
-    step: Step,
-    next: &[WideLevel],
-) -> bool
-    requires outline { IsSizedOutline outline.now }
-    requires count { length lines.now ≡ length outline.now.lines.items }
-    requires step { IsWithin (length lines.now) step }
-    requires next { All (IsSizedWide (length lines.now)) next.now }
-    ensures { WithOutline outline.now lines.now (AfterStep step
-        (λ p at. AreWideAt p at outline.now next.now → IsTrue result ↔ NoNegativeColumn p at)) }
+fn has_no_negative_after(exchange: LineExchange<'_>, next: &[WideLevel]) -> bool
+    requires corner { HasOutline exchange.corner }
+    requires step { IsWithin (length exchange.corner.lines.now) exchange.step }
+    requires next { All (IsSizedWide (length exchange.corner.lines.now)) next.now }
+    ensures { WithOutline exchange.entry.corner (AfterStep exchange.entry.step
+        (λ p at. AreWideAt p at exchange.entry.corner.outline.now next.now
+        → IsTrue result ↔ NoNegativeColumn p at)) }
 {
-    for at in 0..lines.len() {
-        if has_negative_after(outline, lines, step, next, at) {
+    for at in 0..exchange.corner.lines.len() {
+        if has_negative_after(exchange, next, at) {
             return false;
         }
     }
@@ -173,24 +163,20 @@ fn has_no_negative_after(
 /// Whether no column is negative after an exchange, whether or not all fits there.
 pub fn has_no_negative_column_after(
     alloc: Global,
-    outline: &Outline,
     exchange: LineExchange<'_>,
     levels: &[LevelSum],
 ) -> Result<bool, OutOfMemory>
-    requires outline { IsSizedOutline outline.now }
-    requires lines { AreSized exchange.lines.now }
-    requires count { length exchange.lines.now ≡ length outline.now.lines.items }
-    requires step { IsWithin (length exchange.lines.now) exchange.step }
-    requires levels { AreSizedLevels (length exchange.lines.now) levels.now }
-    requires level_count { length levels.now ≡ length outline.now.levels.items }
-    ensures { IfOk result (λ holds. WithLevels outline.now exchange.entry.lines.now levels.now
+    requires exchange { IsSizedExchange exchange }
+    requires levels { AreSizedLevels (length exchange.corner.lines.now) levels.now }
+    requires level_count { length levels.now ≡ length exchange.corner.outline.now.levels.items }
+    ensures { IfOk result (λ holds. WithLevels exchange.entry.corner levels.now
         (AfterStep exchange.entry.step (λ p at. IsTrue holds ↔ NoNegativeColumn p at))) }
 {
-    let pivot = match pivot_of(alloc, exchange.lines, exchange.step) {
+    let pivot = match pivot_of(alloc, exchange.corner.lines, exchange.step) {
         Ok(pivot) => pivot,
         Err(Stop::Refused(_)) => return Ok(true),
         Err(Stop::OutOfMemory) => return Err(OutOfMemory),
     };
-    let next = wide_levels(alloc, outline, &pivot, levels)?;
-    Ok(has_no_negative_after(outline, exchange.lines, exchange.step, &next))
+    let next = wide_levels(alloc, exchange.corner.outline, &pivot, levels)?;
+    Ok(has_no_negative_after(exchange, &next))
 }

@@ -8,17 +8,19 @@ ghost use Rattle.problem_core.specs.Changes.Paths.{IsEndOf, IsSound, MaySwap, No
 ghost use Rattle.problem_core.specs.declared.parts.Mark.{Mark};
 ghost use Rattle.path_checker.specs.Sides.{IsWithin};
 ghost use Rattle.path_checker.specs.Tables.{swap_of};
-ghost use Rattle.path_levels.specs.Outlines.{IsPriced, IsSizedOutline};
-ghost use Rattle.path_levels.specs.Levels.{AreLevels, IsSizedCorner, IsSizedLevel};
+ghost use Rattle.path_levels.specs.Outlines.{IsPriced};
+ghost use Rattle.path_levels.specs.Corners.{HasOutline, HasSizedLevels};
+ghost use Rattle.path_levels.specs.Levels.{AreLevels, IsSizedLevel};
 ghost use Rattle.path_levels.specs.Rows.{AreKept};
 ghost use Rattle.path_levels.specs.Costs.{HasLine, cost_in};
 ghost use Rattle.path_levels.specs.Required.{HasRequired, IsBelow};
 ghost use Rattle.path_checker.specs.declared.table.Inside.{Inside as Kept};
-ghost use Rattle.path_levels.specs.Kept.{WithFirstRow, WithLevels};
+ghost use Rattle.path_levels.specs.Kept.{WithFirstRow, WithTableau};
 
 use crate::columns::{cost_at, has_no_negative_column, is_negative_column};
 use crate::outline::{LineFacts, Outline};
 use crate::sums::LevelSum;
+use crate::tableau::{CornerLines, Tableau};
 use frac_core::Frac;
 use path_checker::{Inside, Spot, Step, has_no_negative_value, is_down};
 use problem_core::Side;
@@ -95,13 +97,14 @@ fn is_line_below(line: &Option<Inside>, facts: &LineFacts, at: usize, sum: &Leve
 }
 
 // Whether no mark costs less than nothing at the first level, whose row this is.
-fn has_no_negative_required(outline: &Outline, lines: &[Option<Inside>], sum: &LevelSum) -> bool
-    requires outline { IsSizedOutline outline.now }
-    requires count { length lines.now ≡ length outline.now.lines.items }
-    requires sum { IsSizedLevel (length lines.now) sum.now }
-    ensures { (p : Problem) (at : List Mark) → WithFirstRow p at outline.now lines.now sum.now
-        (HasRequired outline.now → IsTrue result ↔ NoNegativeRequired p at) }
+fn has_no_negative_required(corner: CornerLines<'_>, sum: &LevelSum) -> bool
+    requires corner { HasOutline corner }
+    requires sum { IsSizedLevel (length corner.lines.now) sum.now }
+    ensures { (p : Problem) (at : List Mark) → WithFirstRow p at corner.entry.outline.now
+        corner.entry.lines.now sum.now
+        (HasRequired corner.entry.outline.now → IsTrue result ↔ NoNegativeRequired p at) }
 {
+    let CornerLines { outline, lines } = corner;
     for at in 0..lines.len() {
         if is_line_below(&lines[at], &outline.lines[at], at, sum) {
             return false;
@@ -111,63 +114,55 @@ fn has_no_negative_required(outline: &Outline, lines: &[Option<Inside>], sum: &L
 }
 
 // Whether the required rows cost, and no mark costs less than nothing at their level.
-fn is_refuted(outline: &Outline, lines: &[Option<Inside>], levels: &[LevelSum]) -> bool
-    requires { IsSizedCorner outline.now lines.now levels.now }
-    ensures { WithLevels outline.now lines.now levels.now
+fn is_refuted(tableau: Tableau<'_>) -> bool
+    requires { HasSizedLevels tableau }
+    ensures { WithTableau tableau.entry
         (λ p at. IsTrue result ↔ (CostsAbove p at 0 × NoNegativeRequired p at)) }
 {
-    match levels.first() {
-        Some(sum) => is_costly(outline, sum) && has_no_negative_required(outline, lines, sum),
+    let corner = tableau.corner;
+    match tableau.levels.first() {
+        Some(sum) => is_costly(corner.outline, sum) && has_no_negative_required(corner, sum),
         None => false,
     }
 }
 
 /// Whether what has to hold at each corner of a path does.
-pub fn is_sound(
-    dual: bool,
-    outline: &Outline,
-    lines: &[Option<Inside>],
-    levels: &[LevelSum],
-) -> bool
-    requires { IsSizedCorner outline.now lines.now levels.now }
-    ensures { WithLevels outline.now lines.now levels.now (λ p at. IsTrue result ↔ IsSound dual p at) }
+pub fn is_sound(dual: bool, tableau: Tableau<'_>) -> bool
+    requires { HasSizedLevels tableau }
+    ensures { WithTableau tableau.entry (λ p at. IsTrue result ↔ IsSound dual p at) }
 {
     if dual {
-        has_no_negative_column(outline, lines, levels)
+        has_no_negative_column(tableau)
     } else {
-        has_no_negative_value(lines)
+        has_no_negative_value(tableau.corner.lines)
     }
 }
 
 /// Whether a path may end at the corner.
-pub fn is_end(dual: bool, outline: &Outline, lines: &[Option<Inside>], levels: &[LevelSum]) -> bool
-    requires { IsSizedCorner outline.now lines.now levels.now }
-    ensures { WithLevels outline.now lines.now levels.now (λ p at. IsTrue result ↔ IsEndOf dual p at) }
+pub fn is_end(dual: bool, tableau: Tableau<'_>) -> bool
+    requires { HasSizedLevels tableau }
+    ensures { WithTableau tableau.entry (λ p at. IsTrue result ↔ IsEndOf dual p at) }
 {
     if dual {
-        has_no_negative_value(lines) || costs_above(outline, levels)
+        has_no_negative_value(tableau.corner.lines)
+            || costs_above(tableau.corner.outline, tableau.levels)
     } else {
-        has_no_negative_column(outline, lines, levels) || is_refuted(outline, lines, levels)
+        has_no_negative_column(tableau) || is_refuted(tableau)
     }
 }
 
 /// Whether a path may make an exchange there: of a mark with a negative column in, or with a negative value
 /// out.
-pub fn may_swap(
-    dual: bool,
-    outline: &Outline,
-    lines: &[Option<Inside>],
-    levels: &[LevelSum],
-    step: Step,
-) -> bool
-    requires corner { IsSizedCorner outline.now lines.now levels.now }
-    requires step { IsWithin (length lines.now) step }
-    ensures { WithLevels outline.now lines.now levels.now (λ p at. IsExchange p at (swap_of p step)
+pub fn may_swap(dual: bool, tableau: Tableau<'_>, step: Step) -> bool
+    requires tableau { HasSizedLevels tableau }
+    requires step { IsWithin (length tableau.corner.lines.now) step }
+    ensures { WithTableau tableau.entry (λ p at. IsExchange p at (swap_of p step)
         → IsTrue result ↔ MaySwap dual p at (swap_of p step)) }
 {
+    let lines = tableau.corner.lines;
     if dual {
         is_down(&lines[step.leave.at])
     } else {
-        is_negative_column(outline, lines, levels, step.enter)
+        is_negative_column(tableau, step.enter)
     }
 }

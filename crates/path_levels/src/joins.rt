@@ -9,15 +9,17 @@ ghost use Rattle.path_levels.specs.Outlines.{IsPriced};
 ghost use Rattle.path_levels.specs.Levels.{IsSizedLevel};
 ghost use Rattle.path_levels.specs.Joins.{HasNoDraft, IsDraft, IsJoinedCost, IsJoinedList, IsRise};
 ghost use Rattle.path_levels.specs.Joins.{AreFittingCosts, AreFittingTo, IsFittingAt, IsFittingTo};
+ghost use Rattle.path_levels.specs.Joins.{IsMadeDraft};
 ghost use Rattle.path_levels.specs.Joins.{IsUnfitJoinedCost, IsWeightOf};
 ghost use Rattle.path_levels.specs.Joins.{IsJoinedWide, cost_number, counted_number};
-ghost use Rattle.path_levels.specs.Outlines.{IsSizedOutline};
+ghost use Rattle.path_levels.specs.Corners.{HasOutline};
 ghost use Rattle.problem_core.specs.declared.limits.TheConstants.{COEFFICIENT_LIMIT, WEIGHT_LIMIT};
 ghost use Rattle.problem_core.specs.declared.parts.Side.TheVariants.{Under, Over};
 
 use crate::carried;
-use crate::outline::{LineFacts, Outline};
+use crate::outline::LineFacts;
 use crate::sums::LevelSum;
+use crate::tableau::CornerLines;
 use frac_core::{Frac, OutOfMemory, PART_BOUND, common_divisor};
 use path_checker::{Inside, Lowest, SumStop, Wide, combined, in_lowest_terms};
 use problem_core::Side;
@@ -301,23 +303,15 @@ fn is_scale_fitting(draft: &Draft) -> bool
 }
 
 // Whether the reduced costs of the line at a place fit, where it is of the level.
-fn is_line_fitting(
-    outline: &Outline,
-    lines: &[Option<Inside>],
-    place: usize,
-    draft: &Draft,
-    at: usize,
-) -> bool
-    requires outline { IsSizedOutline outline.now }
-    requires at { at < length lines.now }
-    requires count { length lines.now ≡ length outline.now.lines.items }
-    requires numbers { length draft.now.by.items ≡ length lines.now }
-    requires unit { pos 0 <ℤ draft.now.unit }
-    requires own { pos 0 <ℤ draft.now.own }
-    requires fits { All IsFitting draft.now.by.items }
+fn is_line_fitting(corner: CornerLines<'_>, place: usize, draft: &Draft, at: usize) -> bool
+    requires corner { HasOutline corner }
+    requires at { at < length corner.lines.now }
+    requires draft { IsMadeDraft (length corner.lines.now) draft.now }
     requires scale { IsFitting (draft.now.own *ℤ draft.now.unit) }
-    ensures { IsTrue result ↔ IsFittingAt outline.now lines.now place draft.now at }
+    ensures { IsTrue result
+        ↔ IsFittingAt corner.entry.outline.now corner.entry.lines.now place draft.now at }
 {
+    let CornerLines { outline, lines } = corner;
     let line = outline.lines[at];
     if line.level != place {
         return true;
@@ -326,25 +320,16 @@ fn is_line_fitting(
 }
 
 // Whether the reduced costs of the level's lines before the place fit.
-fn are_lines_fitting(
-    outline: &Outline,
-    lines: &[Option<Inside>],
-    place: usize,
-    draft: &Draft,
-    upto: usize,
-) -> bool
-    requires outline { IsSizedOutline outline.now }
-    requires upto { upto ≤ length lines.now }
-    requires count { length lines.now ≡ length outline.now.lines.items }
-    requires numbers { length draft.now.by.items ≡ length lines.now }
-    requires unit { pos 0 <ℤ draft.now.unit }
-    requires own { pos 0 <ℤ draft.now.own }
-    requires fits { All IsFitting draft.now.by.items }
+fn are_lines_fitting(corner: CornerLines<'_>, place: usize, draft: &Draft, upto: usize) -> bool
+    requires corner { HasOutline corner }
+    requires upto { upto ≤ length corner.lines.now }
+    requires draft { IsMadeDraft (length corner.lines.now) draft.now }
     requires scale { IsFitting (draft.now.own *ℤ draft.now.unit) }
-    ensures { IsTrue result ↔ AreFittingTo outline.now lines.now place upto draft.now }
+    ensures { IsTrue result
+        ↔ AreFittingTo corner.entry.outline.now corner.entry.lines.now place upto draft.now }
 {
     for at in 0..upto {
-        if !is_line_fitting(outline, lines, place, draft, at) {
+        if !is_line_fitting(corner, place, draft, at) {
             return false;
         }
     }
@@ -352,23 +337,14 @@ fn are_lines_fitting(
 }
 
 /// Whether the row fits, where the level has its lines before the place.
-pub(crate) fn does_fit(
-    outline: &Outline,
-    lines: &[Option<Inside>],
-    place: usize,
-    draft: &Draft,
-    upto: usize,
-) -> bool
-    requires outline { IsSizedOutline outline.now }
-    requires upto { upto ≤ length lines.now }
-    requires count { length lines.now ≡ length outline.now.lines.items }
-    requires numbers { length draft.now.by.items ≡ length lines.now }
-    requires unit { pos 0 <ℤ draft.now.unit }
+pub(crate) fn does_fit(corner: CornerLines<'_>, place: usize, draft: &Draft, upto: usize) -> bool
+    requires corner { HasOutline corner }
+    requires upto { upto ≤ length corner.lines.now }
+    requires draft { IsMadeDraft (length corner.lines.now) draft.now }
     requires small { unsigned_abs draft.now.unit < 2 ^ 72 }
-    requires own { pos 0 <ℤ draft.now.own }
-    requires own_fits { IsFitting draft.now.own }
-    requires fits { All IsFitting draft.now.by.items }
-    ensures { IsTrue result ↔ IsFittingTo outline.now lines.now place upto draft.now }
+    requires own { IsFitting draft.now.own }
+    ensures { IsTrue result
+        ↔ IsFittingTo corner.entry.outline.now corner.entry.lines.now place upto draft.now }
 {
-    is_scale_fitting(draft) && are_lines_fitting(outline, lines, place, draft, upto)
+    is_scale_fitting(draft) && are_lines_fitting(corner, place, draft, upto)
 }

@@ -5,9 +5,8 @@ ghost use Rattle.std.specs.Prelude.{◌<ℤ◌, pos, unsigned_abs};
 ghost use Rattle.frac_core.specs.Stops.{IsRefused};
 ghost use Rattle.frac_core.specs.Fraction.{IsFitting};
 ghost use Rattle.path_checker.specs.Numbers.{IsFactor};
-ghost use Rattle.path_checker.specs.Sides.{IsWithin};
-ghost use Rattle.path_checker.specs.Tables.{AreSized};
-ghost use Rattle.path_levels.specs.Outlines.{IsPriced, IsSizedOutline};
+ghost use Rattle.path_levels.specs.Corners.{HasOutline, IsSizedExchange};
+ghost use Rattle.path_levels.specs.Outlines.{IsPriced};
 ghost use Rattle.path_levels.specs.Levels.{AreLevels, AreSizedLevels, HasUnfitLevel};
 ghost use Rattle.path_levels.specs.Levels.{HasNoSumAt, IsSizedLevel, IsSumAt};
 ghost use Rattle.path_levels.specs.Shares.{IsScaled, entering_of, shown_of};
@@ -19,19 +18,20 @@ ghost use Rattle.path_levels.specs.Kept.{AfterStep, WithLevels, WithRow};
 
 use crate::carried::{entering_number, next_level_numbers, product};
 use crate::moved::moved_value;
-use crate::outline::{LineFacts, Outline};
+use crate::outline::LineFacts;
 use crate::pivots::pivot_of;
 use crate::shares::{has_fitting_cost, stood_number};
 use crate::sums::LevelSum;
+use crate::tableau::CornerLines;
 use frac_core::{Frac, PART_BOUND, Stop, Unfit};
 use path_checker::{Inside, Lowest, Pivot, Ratio, Step, SumStop, in_lowest_terms};
 use problem_core::Side;
 use std::alloc::Global;
 
-/// An exchange at a corner with these lines.
+/// An exchange at a corner, by the places of its lines.
 #[derive(Clone, Copy, Debug)]
 pub struct LineExchange<'a> {
-    pub lines: &'a [Option<Inside>],
+    pub corner: CornerLines<'a>,
     pub step: Step,
 }
 
@@ -101,23 +101,23 @@ fn scale_fits(sum: &LevelSum) -> bool
 }
 
 // Whether the row fits after the exchange.
-fn level_fits(
-    outline: &Outline,
-    lines: &[Option<Inside>],
-    pivot: &Pivot,
-    place: usize,
-    sum: &LevelSum,
-) -> bool
-    requires outline { IsSizedOutline outline.now }
-    requires count { length lines.now ≡ length outline.now.lines.items }
-    requires sum { IsMadeLevel (length lines.now) sum.now }
-    ensures { IsTrue result ↔ IsFitLevel outline.now lines.now pivot.now place sum.now }
+fn level_fits(corner: CornerLines<'_>, pivot: &Pivot, place: usize, sum: &LevelSum) -> bool
+    requires corner { HasOutline corner }
+    requires sum { IsMadeLevel (length corner.lines.now) sum.now }
+    ensures { IsTrue result
+        ↔ IsFitLevel corner.entry.outline.now corner.entry.lines.now pivot.now place sum.now }
 {
     if !scale_fits(sum) {
         return false;
     }
-    for (at, line) in outline.lines.iter().enumerate() {
-        if !line_fits(line, side_after(lines, pivot, at), place, sum, sum.by[at]) {
+    for (at, line) in corner.outline.lines.iter().enumerate() {
+        if !line_fits(
+            line,
+            side_after(corner.lines, pivot, at),
+            place,
+            sum,
+            sum.by[at],
+        ) {
             return false;
         }
     }
@@ -191,30 +191,31 @@ fn level_with(unit: i64, numbers: Lowest, cost: Frac) -> LevelSum
 /// The row of the level at a place after an exchange, or its cost does not fit there.
 pub fn next_level(
     alloc: Global,
-    outline: &Outline,
     exchange: LineExchange<'_>,
     place: usize,
     sum: &LevelSum,
 ) -> Result<LevelSum, SumStop>
-    requires outline { IsSizedOutline outline.now }
-    requires lines { AreSized exchange.lines.now }
-    requires count { length exchange.lines.now ≡ length outline.now.lines.items }
-    requires step { IsWithin (length exchange.lines.now) exchange.step }
-    requires place { place < length outline.now.levels.items }
-    requires sum { IsSizedLevel (length exchange.lines.now) sum.now }
-    ensures sized { IfOk result (IsSizedLevel (length exchange.entry.lines.now)) }
-    ensures next { IfOk result (λ next. WithRow outline.now exchange.entry.lines.now place sum.now
-        (AfterStep exchange.entry.step (λ p at. IsSumAt p at outline.now place next))) }
+    requires exchange { IsSizedExchange exchange }
+    requires place { place < length exchange.corner.outline.now.levels.items }
+    requires sum { IsSizedLevel (length exchange.corner.lines.now) sum.now }
+    ensures sized { IfOk result (IsSizedLevel (length exchange.entry.corner.lines.now)) }
+    ensures next { IfOk result (λ next. WithRow exchange.entry.corner place sum.now
+        (AfterStep exchange.entry.step (λ p at. IsSumAt p at exchange.entry.corner.outline.now place next))) }
     ensures unfit { IfErr result (λ stop. IsRefused stop
-        → WithRow outline.now exchange.entry.lines.now place sum.now
-        (AfterStep exchange.entry.step (HasNoSumAt outline.now place))) }
+        → WithRow exchange.entry.corner place sum.now
+        (AfterStep exchange.entry.step (HasNoSumAt exchange.entry.corner.outline.now place))) }
 {
-    let pivot = pivot_of(alloc, exchange.lines, exchange.step)?;
-    let wide = next_level_numbers(alloc, outline, &pivot, place, sum)?;
+    let pivot = pivot_of(alloc, exchange.corner.lines, exchange.step)?;
+    let wide = next_level_numbers(alloc, exchange.corner.outline, &pivot, place, sum)?;
     let numbers = in_lowest_terms(alloc, &wide)?;
-    let cost = cost_after(&outline.lines[exchange.step.enter.at], &pivot, place, sum)?;
+    let cost = cost_after(
+        &exchange.corner.outline.lines[exchange.step.enter.at],
+        &pivot,
+        place,
+        sum,
+    )?;
     let next = level_with(sum.unit, numbers, cost);
-    if !level_fits(outline, exchange.lines, &pivot, place, &next) {
+    if !level_fits(exchange.corner, &pivot, place, &next) {
         return Err(Stop::Refused(Unfit));
     }
     Ok(next)
@@ -223,27 +224,25 @@ pub fn next_level(
 /// The rows of all levels after an exchange, or the cost of one of them does not fit there.
 pub fn next_levels(
     alloc: Global,
-    outline: &Outline,
     exchange: LineExchange<'_>,
     levels: &[LevelSum],
 ) -> Result<Vec<LevelSum>, SumStop>
-    requires outline { IsSizedOutline outline.now }
-    requires lines { AreSized exchange.lines.now }
-    requires count { length exchange.lines.now ≡ length outline.now.lines.items }
-    requires step { IsWithin (length exchange.lines.now) exchange.step }
-    requires levels { AreSizedLevels (length exchange.lines.now) levels.now }
-    requires level_count { length levels.now ≡ length outline.now.levels.items }
-    ensures sized { IfOk result (λ next. AreSizedLevels (length exchange.entry.lines.now) next.items) }
-    ensures level_count { IfOk result (λ next. length next.items ≡ length outline.now.levels.items) }
-    ensures next { IfOk result (λ next. WithLevels outline.now exchange.entry.lines.now levels.now
-        (AfterStep exchange.entry.step (λ p at. AreLevels p at outline.now next.items))) }
+    requires exchange { IsSizedExchange exchange }
+    requires levels { AreSizedLevels (length exchange.corner.lines.now) levels.now }
+    requires level_count { length levels.now ≡ length exchange.corner.outline.now.levels.items }
+    ensures sized { IfOk result (λ next. AreSizedLevels (length exchange.entry.corner.lines.now) next.items) }
+    ensures level_count { IfOk result
+        (λ next. length next.items ≡ length exchange.entry.corner.outline.now.levels.items) }
+    ensures next { IfOk result (λ next. WithLevels exchange.entry.corner levels.now
+        (AfterStep exchange.entry.step
+        (λ p at. AreLevels p at exchange.entry.corner.outline.now next.items))) }
     ensures unfit { IfErr result (λ stop. IsRefused stop
-        → WithLevels outline.now exchange.entry.lines.now levels.now
+        → WithLevels exchange.entry.corner levels.now
         (AfterStep exchange.entry.step HasUnfitLevel)) }
 {
     let mut out = Vec::with_capacity(alloc, levels.len())?;
     for (place, sum) in levels.iter().enumerate() {
-        out.push(next_level(alloc, outline, exchange, place, sum)?)?;
+        out.push(next_level(alloc, exchange, place, sum)?)?;
     }
     Ok(out)
 }

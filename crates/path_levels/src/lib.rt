@@ -7,8 +7,9 @@
 //!
 //! ```
 //! let outline = Outline::of(alloc, &problem)?;               // its lines, and its levels, strongest first
-//! let levels = first_levels(alloc, &outline, &lines)?;       // one row a level
-//! has_no_negative_column(&outline, &lines, &levels)          // whether the corner is at its best
+//! let corner = CornerLines { outline: &outline, lines: &lines };
+//! let levels = first_levels(alloc, corner)?;                 // one row a level
+//! has_no_negative_column(Tableau { corner, levels: &levels })   // whether the corner is at its best
 //! ```
 //!
 //! Linear programming's words: the rows of the levels are the objective rows of the tableau, one for each
@@ -20,9 +21,10 @@
 //! own number are above 0, and their product is below 2^42. Want of room is never silent: a row is refused
 //! only where no writing of it fits.
 //!
-//! In reading order: `outline` (lines and levels in order), `sums` (a level's row), `rows` (levels line by
-//! line, by `joins` and `stays`), `levels_after` (rows after an exchange, by `pivots`, `moved`, `carried`,
-//! `shares`), `columns`, `columns_after` (signs), `ends` (what is judged at a corner).
+//! In reading order: `outline` (lines and levels in order), `sums` (a level's row), `tableau` (a corner's
+//! lines and levels), `rows` (levels line by line, by `joins` and `stays`), `levels_after` (rows after an
+//! exchange, by `pivots`, `moved`, `carried`, `shares`), `columns`, `columns_after` (signs), `ends` (what is
+//! judged at a corner).
 #![tactic(auto)]
 
 mod carried;
@@ -38,6 +40,7 @@ mod rows;
 mod shares;
 mod stays;
 mod sums;
+mod tableau;
 
 pub use carried::next_level_numbers;
 pub use columns::{has_no_negative_column, is_negative_column};
@@ -49,3 +52,4 @@ pub use outline::{LevelFacts, LineFacts, Outline};
 pub use pivots::pivot_of;
 pub use rows::{RowsStop, UnfitRows, first_levels, level_of_lines};
 pub use sums::LevelSum;
+pub use tableau::{CornerLines, Tableau};

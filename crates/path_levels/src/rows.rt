@@ -1,29 +1,27 @@
 // The rows of levels, line by line.
 ghost use Rattle.std.specs.Prelude.{◌≡◌, ◌<◌, ◌≤◌, length, List, IfOk, IfErr};
-ghost use Rattle.problem_core.specs.declared.limits.TheConstants.{REQUIRED};
 ghost use Rattle.problem_core.specs.Layout.{Problem};
-ghost use Rattle.problem_core.specs.declared.parts.Mark.{Mark};
-ghost use Rattle.path_checker.specs.Tables.{AreSized};
-ghost use Rattle.path_levels.specs.Outlines.{IsSizedOutline};
+ghost use Rattle.path_levels.specs.Corners.{IsSizedCorner};
 ghost use Rattle.path_levels.specs.Levels.{AreLevels, AreSizedLevels, IsSizedLevel};
 ghost use Rattle.std.specs.Prelude.{◌+◌, ◌<ℤ◌, ◌*ℤ◌, pos, All};
 ghost use Rattle.frac_core.specs.Stops.{IsRefused};
 ghost use Rattle.frac_core.specs.Fraction.{IsFitting};
 ghost use Rattle.frac_core.specs.declared.memory.Stop.TheVariants as stops;
-ghost use Rattle.path_levels.specs.Outlines.{IsOutline, number_at};
+ghost use Rattle.path_levels.specs.Outlines.{IsOfRows, IsOfStay, IsOutline};
 ghost use Rattle.path_levels.specs.Parts.{IsEmptySum, IsPartSum, IsPartUnfit, WithPart};
 ghost use Rattle.std.specs.Prelude.{◌≢◌, take, IfSome, IfNone};
 ghost use Rattle.std.specs.List.{HoldsAt};
 ghost use Rattle.path_checker.specs.Tables.{IsSizedLine};
 ghost use Rattle.path_levels.specs.StaySums.{IsStayRow, IsUnfitStay};
-ghost use Rattle.path_levels.specs.Rows.{AllRowsFit, AreKeptOf, IsLevelsStop, IsRowsStop, IsRowsSum};
+ghost use Rattle.path_levels.specs.Rows.{AllRowsFit, IsLevelsStop, IsRowsStop, IsRowsSum, WithFirstLines};
 ghost use Rattle.path_levels.specs.Rows.{unfit_rows};
 ghost use Rattle.path_levels.specs.Kept.{WithOutline};
 
 use crate::joins::{Draft, does_fit, joined};
-use crate::outline::{LineFacts, Outline};
+use crate::outline::LineFacts;
 use crate::stays::inside_stay;
 use crate::sums::LevelSum;
+use crate::tableau::CornerLines;
 use frac_core::{Frac, OutOfMemory, Stop, Unfit};
 use path_checker::{Inside, SumStop, zeros};
 use problem_core::Level;
@@ -46,24 +44,19 @@ const ALL_LINES: u32 = u32::MAX;
 
 /// The rows of all levels at a corner, each line by line, or the first sum of first rows that does not fit
 /// there.
-pub fn first_levels(
-    alloc: Global,
-    outline: &Outline,
-    lines: &[Option<Inside>],
-) -> Result<Vec<LevelSum>, RowsStop>
-    requires outline { IsSizedOutline outline.now }
-    requires lines { AreSized lines.now }
-    requires count { length lines.now ≡ length outline.now.lines.items }
-    ensures sized { IfOk result (λ levels. AreSizedLevels (length lines.now) levels.items) }
-    ensures count { IfOk result (λ levels. length levels.items ≡ length outline.now.levels.items) }
-    ensures levels { IfOk result (λ levels. WithOutline outline.now lines.now
-        (λ p at. AreLevels p at outline.now levels.items)) }
-    ensures fits { IfOk result (λ levels. WithOutline outline.now lines.now AllRowsFit) }
-    ensures unfit { IfErr result (IsLevelsStop outline.now lines.now) }
+pub fn first_levels(alloc: Global, corner: CornerLines<'_>) -> Result<Vec<LevelSum>, RowsStop>
+    requires corner { IsSizedCorner corner }
+    ensures sized { IfOk result (λ levels. AreSizedLevels (length corner.entry.lines.now) levels.items) }
+    ensures count { IfOk result
+        (λ levels. length levels.items ≡ length corner.entry.outline.now.levels.items) }
+    ensures levels { IfOk result (λ levels. WithOutline corner.entry
+        (λ p at. AreLevels p at corner.entry.outline.now levels.items)) }
+    ensures fits { IfOk result (λ levels. WithOutline corner.entry AllRowsFit) }
+    ensures unfit { IfErr result (IsLevelsStop corner.entry) }
 {
-    let mut levels = Vec::with_capacity(alloc, outline.levels.len())?;
-    for place in 0..outline.levels.len() {
-        levels.push(level_of_lines(alloc, outline, lines, place, ALL_LINES)?)?;
+    let mut levels = Vec::with_capacity(alloc, corner.outline.levels.len())?;
+    for place in 0..corner.outline.levels.len() {
+        levels.push(level_of_lines(alloc, corner, place, ALL_LINES)?)?;
     }
     Ok(levels)
 }
@@ -71,23 +64,20 @@ pub fn first_levels(
 /// The row of the level at a place, of its first lines, at most so many; or how many of them do not fit.
 pub fn level_of_lines(
     alloc: Global,
-    outline: &Outline,
-    lines: &[Option<Inside>],
+    corner: CornerLines<'_>,
     place: usize,
     most: u32,
 ) -> Result<LevelSum, RowsStop>
-    requires outline { IsSizedOutline outline.now }
-    requires lines { AreSized lines.now }
-    requires count { length lines.now ≡ length outline.now.lines.items }
-    requires place { place < length outline.now.levels.items }
-    ensures sized { IfOk result (IsSizedLevel (length lines.now)) }
-    ensures row { IfOk result (λ sum. (p : Problem) (at : List Mark)
-        → AreKeptOf p at outline.now place most lines.now → IsRowsSum p at outline.now place most sum) }
-    ensures unfit { IfErr result (IsRowsStop outline.now place most lines.now) }
+    requires corner { IsSizedCorner corner }
+    requires place { place < length corner.outline.now.levels.items }
+    ensures sized { IfOk result (IsSizedLevel (length corner.entry.lines.now)) }
+    ensures row { IfOk result (λ sum. WithFirstLines corner.entry place most
+        (λ p at. IsRowsSum p at corner.entry.outline.now place most sum)) }
+    ensures unfit { IfErr result (IsRowsStop corner.entry place most) }
 {
-    match outline.levels[place].level {
-        Level::Priority(_) => rows_level(alloc, outline, lines, place, most),
-        Level::Stay(_) => stay_level(alloc, outline, lines, place, most),
+    match corner.outline.levels[place].level {
+        Level::Priority(_) => rows_level(alloc, corner, place, most),
+        Level::Stay(_) => stay_level(alloc, corner, place, most),
     }
 }
 
@@ -107,25 +97,23 @@ fn empty_level(alloc: Global, count: usize) -> Result<LevelSum, OutOfMemory>
 // The row of a level with one line more.
 fn with_line(
     alloc: Global,
-    outline: &Outline,
-    lines: &[Option<Inside>],
+    corner: CornerLines<'_>,
     at: usize,
     old: &LevelSum,
 ) -> Result<LevelSum, SumStop>
-    requires outline { IsSizedOutline outline.now }
-    requires lines { AreSized lines.now }
-    requires count { length lines.now ≡ length outline.now.lines.items }
-    requires at { at < length lines.now }
-    requires old { IsSizedLevel (length lines.now) old.now }
-    ensures sized { IfOk result (IsSizedLevel (length lines.now)) }
-    ensures row { IfOk result (λ sum. WithPart outline.now lines.now at old.now
-        (λ p marks place. IsPartSum p marks outline.now place (at + 1) sum)) }
-    ensures unfit { IfErr result (λ stop. IsRefused stop → WithPart outline.now lines.now at old.now
-        (λ p marks place. IsPartUnfit p marks outline.now place (at + 1))) }
+    requires corner { IsSizedCorner corner }
+    requires at { at < length corner.lines.now }
+    requires old { IsSizedLevel (length corner.lines.now) old.now }
+    ensures sized { IfOk result (IsSizedLevel (length corner.entry.lines.now)) }
+    ensures row { IfOk result (λ sum. WithPart corner.entry at old.now
+        (λ p marks place. IsPartSum p marks corner.entry.outline.now place (at + 1) sum)) }
+    ensures unfit { IfErr result (λ stop. IsRefused stop → WithPart corner.entry at old.now
+        (λ p marks place. IsPartUnfit p marks corner.entry.outline.now place (at + 1))) }
 {
+    let CornerLines { outline, lines } = corner;
     let line = outline.lines[at];
     let draft = joined(alloc, old, line, &lines[at])?;
-    if does_fit(outline, lines, line.level, &draft, at + 1) {
+    if does_fit(corner, line.level, &draft, at + 1) {
         Ok(fitting_sum(draft))
     } else {
         Err(Stop::Refused(Unfit))
@@ -164,31 +152,28 @@ fn rows_stop(stop: SumStop, level: Level, first: u32) -> RowsStop
 // The row of a level of rows, of its first ones.
 fn rows_level(
     alloc: Global,
-    outline: &Outline,
-    lines: &[Option<Inside>],
+    corner: CornerLines<'_>,
     place: usize,
     most: u32,
 ) -> Result<LevelSum, RowsStop>
-    requires outline { IsSizedOutline outline.now }
-    requires lines { AreSized lines.now }
-    requires count { length lines.now ≡ length outline.now.lines.items }
-    requires place { place < length outline.now.levels.items }
-    ensures sized { IfOk result (IsSizedLevel (length lines.now)) }
-    ensures row { IfOk result (λ sum. (p : Problem) (at : List Mark)
-        → number_at outline.now.levels.items place ≤ REQUIRED
-        → AreKeptOf p at outline.now place most lines.now → IsRowsSum p at outline.now place most sum) }
-    ensures unfit { IfErr result (λ stop. ((p : Problem) → IsOutline p outline.now
-        → number_at outline.now.levels.items place ≤ REQUIRED)
-        → IsRowsStop outline.now place most lines.now stop) }
+    requires corner { IsSizedCorner corner }
+    requires place { place < length corner.outline.now.levels.items }
+    ensures sized { IfOk result (IsSizedLevel (length corner.entry.lines.now)) }
+    ensures row { IfOk result (λ sum. WithFirstLines corner.entry place most
+        (λ p at. IsOfRows corner.entry.outline.now place
+        → IsRowsSum p at corner.entry.outline.now place most sum)) }
+    ensures unfit { IfErr result (λ stop. ((p : Problem) → IsOutline p corner.entry.outline.now
+        → IsOfRows corner.entry.outline.now place)
+        → IsRowsStop corner.entry place most stop) }
 {
-    let mut sum = empty_level(alloc, lines.len())?;
+    let mut sum = empty_level(alloc, corner.lines.len())?;
     let mut first = 0;
-    for at in 0..lines.len() {
-        if outline.lines[at].level == place && first < most {
+    for at in 0..corner.lines.len() {
+        if corner.outline.lines[at].level == place && first < most {
             first += 1;
-            match with_line(alloc, outline, lines, at, &sum) {
+            match with_line(alloc, corner, at, &sum) {
                 Ok(next) => sum = next,
-                Err(stop) => return Err(rows_stop(stop, outline.levels[place].level, first)),
+                Err(stop) => return Err(rows_stop(stop, corner.outline.levels[place].level, first)),
             }
         }
     }
@@ -221,23 +206,21 @@ fn stay_sum(alloc: Global, count: usize, line: &Option<Inside>) -> Result<LevelS
 // The row of a stay's level, of its one line, or of none.
 fn stay_level(
     alloc: Global,
-    outline: &Outline,
-    lines: &[Option<Inside>],
+    corner: CornerLines<'_>,
     place: usize,
     most: u32,
 ) -> Result<LevelSum, RowsStop>
-    requires outline { IsSizedOutline outline.now }
-    requires lines { AreSized lines.now }
-    requires count { length lines.now ≡ length outline.now.lines.items }
-    requires place { place < length outline.now.levels.items }
-    ensures sized { IfOk result (IsSizedLevel (length lines.now)) }
-    ensures row { IfOk result (λ sum. (p : Problem) (at : List Mark)
-        → REQUIRED < number_at outline.now.levels.items place
-        → AreKeptOf p at outline.now place most lines.now → IsRowsSum p at outline.now place most sum) }
-    ensures unfit { IfErr result (λ stop. ((p : Problem) → IsOutline p outline.now
-        → REQUIRED < number_at outline.now.levels.items place)
-        → IsRowsStop outline.now place most lines.now stop) }
+    requires corner { IsSizedCorner corner }
+    requires place { place < length corner.outline.now.levels.items }
+    ensures sized { IfOk result (IsSizedLevel (length corner.entry.lines.now)) }
+    ensures row { IfOk result (λ sum. WithFirstLines corner.entry place most
+        (λ p at. IsOfStay corner.entry.outline.now place
+        → IsRowsSum p at corner.entry.outline.now place most sum)) }
+    ensures unfit { IfErr result (λ stop. ((p : Problem) → IsOutline p corner.entry.outline.now
+        → IsOfStay corner.entry.outline.now place)
+        → IsRowsStop corner.entry place most stop) }
 {
+    let CornerLines { outline, lines } = corner;
     let Some(at) = first_line(&outline.lines, place) else {
         return Ok(empty_level(alloc, lines.len())?);
     };

@@ -17,6 +17,14 @@ use path_checker::{Inside, Pivot, Ratio, Step, is_on_side, moved_sign, number_of
 use problem_core::Side;
 use std::cmp::Ordering;
 
+/// The line at a place of a corner, of so many: its equation, where a mark of it is inside.
+#[derive(Clone, Copy, Debug)]
+pub(crate) struct LineAt<'a> {
+    pub inside: &'a Option<Inside>,
+    pub at: usize,
+    pub count: usize,
+}
+
 /// Which mark of the line is inside after the exchange.
 pub(crate) fn side_after(line: &Option<Inside>, step: Step, at: usize) -> Option<Side>
     ensures { AfterStepWithLine step at line.now (λ p marks. IsSideAt marks (name_at p at) result) }
@@ -50,14 +58,14 @@ pub(crate) fn own_number(at: usize, enter: usize) -> i64
 }
 
 /// The line's share.
-pub(crate) fn share_of(line: &Option<Inside>, count: usize, enter: usize, at: usize) -> Share
-    requires sized { IsSizedLine count line.now }
-    requires enter { enter < count }
+pub(crate) fn share_of(line: LineAt<'_>, enter: usize) -> Share
+    requires sized { IsSizedLine line.count line.inside.now }
+    requires enter { enter < line.count }
     ensures sized { IsSizedShare result }
-    ensures share { WithLine count at line.now
-        (λ p marks. IsShareOf p marks (name_at p at) (name_at p enter) result) }
+    ensures share { WithLine line.entry
+        (λ p marks. IsShareOf p marks (name_at p line.entry.at) (name_at p enter) result) }
 {
-    match line {
+    match line.inside {
         Some(inside) => Share {
             own: inside.sum.own,
             number: number_of(&inside.sum.by, enter),
@@ -65,7 +73,7 @@ pub(crate) fn share_of(line: &Option<Inside>, count: usize, enter: usize, at: us
         },
         None => Share {
             own: 1,
-            number: own_number(at, enter),
+            number: own_number(line.at, enter),
             value: Frac::zero(),
         },
     }
@@ -113,37 +121,28 @@ fn sign_after(share: Share, pivot: &Pivot) -> Ordering
 }
 
 // Whether the line's inside mark, if it has one, has no negative value after the exchange.
-fn is_up_after(line: &Option<Inside>, pivot: &Pivot, count: usize, at: usize) -> bool
-    requires sized { IsSizedLine count line.now }
-    requires pivot { IsSizedPivot count pivot.now }
-    ensures { AfterWithLine pivot.now count at line.now
-        (λ p marks. IsTrue result ↔ IsUp p marks (name_at p at)) }
+fn is_up_after(line: LineAt<'_>, pivot: &Pivot) -> bool
+    requires sized { IsSizedLine line.count line.inside.now }
+    requires pivot { IsSizedPivot line.count pivot.now }
+    ensures { AfterWithLine pivot.now line.entry
+        (λ p marks. IsTrue result ↔ IsUp p marks (name_at p line.entry.at)) }
 {
-    match side_after(line, pivot.step, at) {
-        Some(side) => is_on_side(
-            sign_after(share_of(line, count, pivot.step.enter.at, at), pivot),
-            side,
-        ),
+    match side_after(line.inside, pivot.step, line.at) {
+        Some(side) => is_on_side(sign_after(share_of(line, pivot.step.enter.at), pivot), side),
         None => true,
     }
 }
 
 // Whether it is so, or isn't judged.
-fn is_fine_after(
-    line: &Option<Inside>,
-    pivot: &Pivot,
-    count: usize,
-    at: usize,
-    judged: bool,
-) -> bool
-    requires sized { IsSizedLine count line.now }
-    requires pivot { IsSizedPivot count pivot.now }
+fn is_fine_after(line: LineAt<'_>, pivot: &Pivot, judged: bool) -> bool
+    requires sized { IsSizedLine line.count line.inside.now }
+    requires pivot { IsSizedPivot line.count pivot.now }
     ensures free { judged ≡ false → result ≡ true }
-    ensures up { judged ≡ true → AfterWithLine pivot.now count at line.now
-        (λ p marks. IsTrue result ↔ IsUp p marks (name_at p at)) }
+    ensures up { judged ≡ true → AfterWithLine pivot.now line.entry
+        (λ p marks. IsTrue result ↔ IsUp p marks (name_at p line.entry.at)) }
 {
     if judged {
-        is_up_after(line, pivot, count, at)
+        is_up_after(line, pivot)
     } else {
         true
     }
@@ -168,8 +167,10 @@ pub(crate) fn are_up_after(
     ensures { (p : Problem) (marks : List Mark) → IsExchangePivot p marks pivot.now
         → AreLines p marks lines.now → IsTrue result ↔ AreUpAfter p marks pivot.now judged rows }
 {
-    for (at, line) in lines.iter().enumerate() {
-        if !is_fine_after(line, pivot, lines.len(), at, is_judged(at, judged, rows)) {
+    let count = lines.len();
+    for (at, inside) in lines.iter().enumerate() {
+        let line = LineAt { inside, at, count };
+        if !is_fine_after(line, pivot, is_judged(at, judged, rows)) {
             return false;
         }
     }

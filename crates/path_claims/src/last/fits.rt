@@ -16,14 +16,13 @@ ghost use Rattle.frac_core.specs.Stops.{IsRefused};
 ghost use Rattle.path_claims.specs.Fits.{AllAttrsFit, IsFitAt};
 ghost use Rattle.path_claims.specs.Attrs.{IsAttrAfter, IsAttrBefore, IsFittingStay, IsSizedMade};
 ghost use Rattle.path_claims.specs.Attrs.{IsStayAt, IsUnfitBefore, IsUnfitStay};
-ghost use Rattle.path_claims.specs.After.{AfterExchange, AfterFittingAttrs, AfterStepWithLine};
-ghost use Rattle.path_claims.specs.After.{IsSizedExchange};
+ghost use Rattle.path_claims.specs.After.{AfterFittingAttrs, AfterPivot, AfterStepWithLine, IsPivotCase};
 
-use crate::last::Fit;
-use crate::last::after::side_after;
+use crate::last::after::{LineAt, side_after};
 use crate::last::line_sums::{line_after, next_sum, unit_sum, with_value};
+use crate::last::{Fit, PivotCase};
 use frac_core::{Frac, OutOfMemory, Stop};
-use path_checker::{Inside, Pivot, Step, Sum, SumStop, names, spot_of, stay_of};
+use path_checker::{Inside, Step, Sum, SumStop, names, spot_of, stay_of};
 use problem_core::{Mark, Problem, Side, Stay};
 use std::alloc::Global;
 
@@ -39,26 +38,22 @@ pub(crate) fn is_inside_after(line: &Option<Inside>, step: Step, at: usize, side
 }
 
 /// How a mark stands after the exchange.
-pub(crate) fn mark_fit(
-    alloc: Global,
-    p: &Problem,
-    lines: &[Option<Inside>],
-    pivot: &Pivot,
-    mark: Mark,
-) -> Result<Fit, OutOfMemory>
-    requires { IsSizedExchange p.now lines.now pivot.now }
-    ensures { IfOk result (λ fit. AfterExchange p.now pivot.now lines.now
-        (λ marks. IsFitAt p.now marks (Plain (MarkOf mark)) fit)) }
+pub(crate) fn mark_fit(alloc: Global, case: PivotCase<'_>, mark: Mark) -> Result<Fit, OutOfMemory>
+    requires { IsPivotCase case }
+    ensures { IfOk result (λ fit. AfterPivot case.entry
+        (λ marks. IsFitAt case.entry.p.now marks (Plain (MarkOf mark)) fit)) }
 {
+    let PivotCase { p, lines, pivot } = case;
     let names = names(alloc, p)?;
     let Some(spot) = spot_of(&names, mark) else {
         return Ok(Fit::Fits);
     };
-    let line = &lines[spot.at];
-    if !is_inside_after(line, pivot.step, spot.at, spot.side) {
+    let inside = &lines[spot.at];
+    if !is_inside_after(inside, pivot.step, spot.at, spot.side) {
         return Ok(Fit::Fits);
     }
-    match line_after(alloc, line, pivot, lines.len(), spot.at) {
+    let (at, count) = (spot.at, lines.len());
+    match line_after(alloc, LineAt { inside, at, count }, pivot) {
         Ok(_) => Ok(Fit::Fits),
         Err(Stop::Refused(_)) => Ok(Fit::Unfit),
         Err(Stop::OutOfMemory) => Err(OutOfMemory),
@@ -66,24 +61,18 @@ pub(crate) fn mark_fit(
 }
 
 // The sum of the attribute whose stay has this target, at the corner before.
-fn attr_before(
-    alloc: Global,
-    target: Frac,
-    line: &Option<Inside>,
-    count: usize,
-    at: usize,
-) -> Result<Sum, SumStop>
-    requires { IsSizedLine count line.now }
-    ensures sized { IfOk result (IsSized count) }
-    ensures attr { IfOk result (IsAttrBefore target count at line.now) }
-    ensures unfit { IfErr result (λ stop. IsRefused stop → IsUnfitBefore target count at line.now) }
+fn attr_before(alloc: Global, target: Frac, line: LineAt<'_>) -> Result<Sum, SumStop>
+    requires { IsSizedLine line.count line.inside.now }
+    ensures sized { IfOk result (IsSized line.entry.count) }
+    ensures attr { IfOk result (IsAttrBefore target line.entry) }
+    ensures unfit { IfErr result (λ stop. IsRefused stop → IsUnfitBefore target line.entry) }
 {
-    match line {
+    match line.inside {
         Some(inside) => {
             let value = Frac::mul_add(target, 1, 1, inside.sum.value)?;
             Ok(with_value(alloc, &inside.sum, value)?)
         }
-        None => Ok(unit_sum(alloc, count, at, target)?),
+        None => Ok(unit_sum(alloc, line.count, line.at, target)?),
     }
 }
 
@@ -109,39 +98,37 @@ fn stay_place(p: &Problem, attr: u32) -> Option<StayPlace>
 /// The sum of an attribute after the exchange, unless it has no stay.
 pub(crate) fn attr_after(
     alloc: Global,
-    p: &Problem,
-    lines: &[Option<Inside>],
-    pivot: &Pivot,
+    case: PivotCase<'_>,
     attr: u32,
 ) -> Result<Option<Sum>, SumStop>
-    requires { IsSizedExchange p.now lines.now pivot.now }
-    ensures sized { IfOk result (IsSizedMade (length lines.now)) }
-    ensures attr { IfOk result (λ made. AfterExchange p.now pivot.now lines.now
-        (λ marks. IsAttrAfter p.now marks attr made)) }
-    ensures unfit { IfErr result (λ stop. IsRefused stop → AfterFittingAttrs p.now pivot.now lines.now
-        (λ marks. IsUnfitWhat p.now marks (Attr attr))) }
+    requires { IsPivotCase case }
+    ensures sized { IfOk result (IsSizedMade (length case.entry.lines.now)) }
+    ensures attr { IfOk result (λ made. AfterPivot case.entry
+        (λ marks. IsAttrAfter case.entry.p.now marks attr made)) }
+    ensures unfit { IfErr result (λ stop. IsRefused stop → AfterFittingAttrs case.entry
+        (λ marks. IsUnfitWhat case.entry.p.now marks (Attr attr))) }
 {
+    let PivotCase { p, lines, pivot } = case;
     let Some(stay) = stay_place(p, attr) else {
         return Ok(None);
     };
-    let before = attr_before(alloc, stay.target, &lines[stay.at], lines.len(), stay.at)?;
+    let line = LineAt {
+        inside: &lines[stay.at],
+        at: stay.at,
+        count: lines.len(),
+    };
+    let before = attr_before(alloc, stay.target, line)?;
     let sum = next_sum(alloc, pivot, &before)?;
     Ok(Some(sum))
 }
 
 /// How an attribute stands after the exchange.
-pub(crate) fn attr_fit(
-    alloc: Global,
-    p: &Problem,
-    lines: &[Option<Inside>],
-    pivot: &Pivot,
-    attr: u32,
-) -> Result<Fit, OutOfMemory>
-    requires { IsSizedExchange p.now lines.now pivot.now }
-    ensures { IfOk result (λ fit. AfterFittingAttrs p.now pivot.now lines.now
-        (λ marks. IsFitAt p.now marks (Plain (Attr attr)) fit)) }
+pub(crate) fn attr_fit(alloc: Global, case: PivotCase<'_>, attr: u32) -> Result<Fit, OutOfMemory>
+    requires { IsPivotCase case }
+    ensures { IfOk result (λ fit. AfterFittingAttrs case.entry
+        (λ marks. IsFitAt case.entry.p.now marks (Plain (Attr attr)) fit)) }
 {
-    match attr_after(alloc, p, lines, pivot, attr) {
+    match attr_after(alloc, case, attr) {
         Ok(_) => Ok(Fit::Fits),
         Err(Stop::Refused(_)) => Ok(Fit::Unfit),
         Err(Stop::OutOfMemory) => Err(OutOfMemory),

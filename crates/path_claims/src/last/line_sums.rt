@@ -9,7 +9,7 @@ ghost use Rattle.path_claims.specs.Sums.{IsUnfitLineAt, IsUnitList, IsUnitSum, n
 ghost use Rattle.path_levels.specs.Exchanges.Pivots.{IsSizedPivot};
 ghost use Rattle.path_claims.specs.After.{AfterWithLine, WithLine};
 
-use crate::last::after::{own_number, ratio_of, side_after};
+use crate::last::after::{LineAt, own_number, ratio_of, side_after};
 use frac_core::{Frac, OutOfMemory, Unfit};
 use path_checker::{Inside, Pivot, Sum, SumStop, carried, in_lowest_terms, number_of, sum_of};
 use path_levels::moved_value;
@@ -94,44 +94,37 @@ pub(crate) fn next_sum(alloc: Global, pivot: &Pivot, sum: &Sum) -> Result<Sum, S
 }
 
 /// The sum of a line's deviation before an exchange: its own where it is outside.
-pub(crate) fn line_before(
-    alloc: Global,
-    line: &Option<Inside>,
-    count: usize,
-    at: usize,
-) -> Result<Sum, OutOfMemory>
-    requires { IsSizedLine count line.now }
-    ensures sized { IfOk result (IsSized count) }
-    ensures sum { IfOk result (λ sum. WithLine count at line.now
-        (λ p marks. IsQuantitySum p marks (deviation (name_at p at)) sum)) }
+pub(crate) fn line_before(alloc: Global, line: LineAt<'_>) -> Result<Sum, OutOfMemory>
+    requires { IsSizedLine line.count line.inside.now }
+    ensures sized { IfOk result (IsSized line.entry.count) }
+    ensures sum { IfOk result (λ sum. WithLine line.entry
+        (λ p marks. IsQuantitySum p marks (deviation (name_at p line.entry.at)) sum)) }
 {
-    match line {
+    match line.inside {
         Some(inside) => with_value(alloc, &inside.sum, inside.sum.value),
-        None => unit_sum(alloc, count, at, Frac::zero()),
+        None => unit_sum(alloc, line.count, line.at, Frac::zero()),
     }
 }
 
 /// A line after an exchange.
 pub(crate) fn line_after(
     alloc: Global,
-    line: &Option<Inside>,
+    line: LineAt<'_>,
     pivot: &Pivot,
-    count: usize,
-    at: usize,
 ) -> Result<Option<Inside>, SumStop>
-    requires line { IsSizedLine count line.now }
-    requires pivot { IsSizedPivot count pivot.now }
-    ensures sized { IfOk result (IsSizedLine count) }
+    requires line { IsSizedLine line.count line.inside.now }
+    requires pivot { IsSizedPivot line.count pivot.now }
+    ensures sized { IfOk result (IsSizedLine line.entry.count) }
     ensures kept { IfOk result HasFittingValue }
-    ensures line { IfOk result (λ next. AfterWithLine pivot.now count at line.now
-        (λ p marks. IsLineAt p marks (name_at p at) next)) }
-    ensures unfit { IfErr result (λ stop. IsRefused stop → AfterWithLine pivot.now count at line.now
-        (λ p marks. IsUnfitLineAt p marks (name_at p at))) }
+    ensures line { IfOk result (λ next. AfterWithLine pivot.now line.entry
+        (λ p marks. IsLineAt p marks (name_at p line.entry.at) next)) }
+    ensures unfit { IfErr result (λ stop. IsRefused stop → AfterWithLine pivot.now line.entry
+        (λ p marks. IsUnfitLineAt p marks (name_at p line.entry.at))) }
 {
-    let Some(side) = side_after(line, pivot.step, at) else {
+    let Some(side) = side_after(line.inside, pivot.step, line.at) else {
         return Ok(None);
     };
-    let before = line_before(alloc, line, count, at)?;
+    let before = line_before(alloc, line)?;
     let sum = next_sum(alloc, pivot, &before)?;
     Ok(Some(Inside { side, sum }))
 }

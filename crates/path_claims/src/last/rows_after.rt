@@ -12,17 +12,18 @@ ghost use Rattle.path_checker.specs.declared.table.Inside.{Inside};
 ghost use Rattle.path_claims.specs.FirstLines.{AreFirstAfter, IsFirstAt, IsRowsFit, LeadsToUnfitFirst};
 ghost use Rattle.path_claims.specs.FirstLines.{size_in};
 ghost use Rattle.path_claims.specs.Fits.{IsFitAt, IsLastAfter, IsSizedLast};
-ghost use Rattle.path_levels.specs.Outlines.{IsSizedOutline};
+ghost use Rattle.path_levels.specs.Corners.{IsSizedCorner};
 ghost use Rattle.path_levels.specs.Exchanges.Pivots.{IsExchangePivot, IsSizedPivot};
 ghost use Rattle.path_claims.specs.After.{AfterExchange};
 ghost use Rattle.path_claims.specs.declared.last.Fit.TheVariants as fits;
 
+use crate::last::after::LineAt;
 use crate::last::line_sums::line_after;
 use crate::last::{Fit, Last};
 use crate::places::place_of_level;
 use frac_core::{OutOfMemory, Stop};
 use path_checker::{Inside, Pivot, SumStop};
-use path_levels::{LineFacts, Outline, level_of_lines};
+use path_levels::{CornerLines, LineFacts, level_of_lines};
 use problem_core::Level;
 use std::alloc::Global;
 
@@ -77,18 +78,24 @@ fn first_line(
     at: usize,
 ) -> Result<Option<Inside>, SumStop>
     requires last { IsSizedLast last }
-    requires pivot { IsSizedPivot (length last.lines.now) pivot.now }
-    requires at { at < length last.lines.now }
-    ensures sized { IfOk result (IsSizedLine (length last.entry.lines.now)) }
-    ensures line { IfOk result (λ next. IsFirstAt last.entry.outline.now.lines.items firsts at
-        → (p : Problem) → AfterExchange p pivot.now last.entry.lines.now
+    requires pivot { IsSizedPivot (length last.tableau.corner.lines.now) pivot.now }
+    requires at { at < length last.tableau.corner.lines.now }
+    ensures sized { IfOk result (IsSizedLine (length last.entry.tableau.corner.lines.now)) }
+    ensures line { IfOk result (λ next. IsFirstAt last.entry.tableau.corner.outline.now.lines.items firsts at
+        → (p : Problem) → AfterExchange p pivot.now last.entry.tableau.corner.lines.now
         (λ marks. IsLineAt p marks (name_at p at) next)) }
     ensures unfit { IfErr result (λ stop. IsRefused stop → LeadsToUnfitFirst last.entry pivot.now firsts) }
 {
-    if !is_first(&last.outline.lines, firsts, at) {
+    let corner = last.tableau.corner;
+    if !is_first(&corner.outline.lines, firsts, at) {
         return Ok(None);
     }
-    line_after(alloc, &last.lines[at], pivot, last.lines.len(), at)
+    let line = LineAt {
+        inside: &corner.lines[at],
+        at,
+        count: corner.lines.len(),
+    };
+    line_after(alloc, line, pivot)
 }
 
 // These lines after the exchange.
@@ -99,13 +106,13 @@ fn first_lines(
     firsts: FirstLines,
 ) -> Result<Vec<Option<Inside>>, SumStop>
     requires last { IsSizedLast last }
-    requires pivot { IsSizedPivot (length last.lines.now) pivot.now }
-    ensures count { IfOk result (λ next. length next.items ≡ length last.entry.lines.now) }
+    requires pivot { IsSizedPivot (length last.tableau.corner.lines.now) pivot.now }
+    ensures count { IfOk result (λ next. length next.items ≡ length last.entry.tableau.corner.lines.now) }
     ensures sized { IfOk result (λ next. AreSized next.items) }
     ensures lines { IfOk result (λ next. AreFirstAfter last.entry pivot.now firsts next.items) }
     ensures unfit { IfErr result (λ stop. IsRefused stop → LeadsToUnfitFirst last.entry pivot.now firsts) }
 {
-    let count = last.lines.len();
+    let count = last.tableau.corner.lines.len();
     let mut next = Vec::with_capacity(alloc, count)?;
     for at in 0..count {
         next.push(first_line(alloc, last, pivot, firsts, at)?)?;
@@ -128,18 +135,15 @@ fn stop_of(count: u32, first: u32) -> Fit
 // How the sum of a level's first rows stands at a corner of which their lines are kept.
 fn rows_at(
     alloc: Global,
-    outline: &Outline,
-    lines: &[Option<Inside>],
+    corner: CornerLines<'_>,
     place: usize,
     first: u32,
 ) -> Result<Fit, OutOfMemory>
-    requires outline { IsSizedOutline outline.now }
-    requires lines { AreSized lines.now }
-    requires count { length lines.now ≡ length outline.now.lines.items }
-    requires place { place < length outline.now.levels.items }
-    ensures { IfOk result (IsRowsFit outline.now lines.now place first) }
+    requires corner { IsSizedCorner corner }
+    requires place { place < length corner.outline.now.levels.items }
+    ensures { IfOk result (IsRowsFit corner.entry place first) }
 {
-    match level_of_lines(alloc, outline, lines, place, first) {
+    match level_of_lines(alloc, corner, place, first) {
         Ok(_) => Ok(Fit::Fits),
         Err(Stop::Refused(rows)) => Ok(stop_of(rows.first, first)),
         Err(Stop::OutOfMemory) => Err(OutOfMemory),
@@ -155,19 +159,23 @@ pub(crate) fn rows_fit(
     first: u32,
 ) -> Result<Fit, OutOfMemory>
     requires last { IsSizedLast last }
-    requires pivot { IsSizedPivot (length last.lines.now) pivot.now }
+    requires pivot { IsSizedPivot (length last.tableau.corner.lines.now) pivot.now }
     ensures { IfOk result (λ fit. (p : Problem) (at : List Mark) → IsLastAfter p at last.entry
         → IsExchangePivot p at pivot.now
         → IsFitAt p (next_marks p pivot.now at) (quantities.Rows level first) fit) }
 {
-    let Some(place) = place_of_level(last.outline, level) else {
+    let outline = last.tableau.corner.outline;
+    let Some(place) = place_of_level(outline, level) else {
         return Ok(Fit::Fits);
     };
-    let Some(end) = end_of_first(&last.outline.lines, place, first as usize) else {
+    let Some(end) = end_of_first(&outline.lines, place, first as usize) else {
         return Ok(Fit::Fits);
     };
     match first_lines(alloc, last, pivot, FirstLines { place, end }) {
-        Ok(lines) => rows_at(alloc, last.outline, &lines, place, first),
+        Ok(lines) => {
+            let lines = &lines;
+            rows_at(alloc, CornerLines { outline, lines }, place, first)
+        }
         Err(Stop::Refused(_)) => Ok(Fit::NoRoom),
         Err(Stop::OutOfMemory) => Err(OutOfMemory),
     }

@@ -8,7 +8,7 @@ ghost use Rattle.path_claims.specs.Fits.{IsFitAt, IsLastAfter, IsSizedLast, mark
 use crate::last::{Fit, Last};
 use crate::places::place_of_level;
 use frac_core::{OutOfMemory, Stop};
-use path_levels::{LineExchange, next_level};
+use path_levels::{LineExchange, Tableau, next_level};
 use problem_core::{Level, Problem};
 use std::alloc::Global;
 
@@ -23,17 +23,12 @@ pub(crate) fn level_fit(
     ensures { IfOk result (λ fit. (at : List Mark) → IsLastAfter p.now at last.entry
         → IsFitAt p.now (marks_after p.now last.entry at) (quantities.Plain (LevelOf level)) fit) }
 {
-    let Some(place) = place_of_level(last.outline, level) else {
+    let Tableau { corner, levels } = last.tableau;
+    let Some(place) = place_of_level(corner.outline, level) else {
         return Ok(Fit::Fits);
     };
-    let (lines, levels, step) = (last.lines, last.levels, last.step);
-    match next_level(
-        alloc,
-        last.outline,
-        LineExchange { lines, step },
-        place,
-        &levels[place],
-    ) {
+    let (step, sum) = (last.step, &levels[place]);
+    match next_level(alloc, LineExchange { corner, step }, place, sum) {
         Ok(next) => {
             let _ = next.cost.num(); // for the proof: what a fraction keeps
             Ok(Fit::Fits)

@@ -19,11 +19,11 @@ ghost use Rattle.path_checker.specs.Walking.FirstLines.{IsRowOf};
 ghost use Rattle.problem_core.specs.Unfit.{over_mark};
 ghost use Rattle.problem_core.specs.Window.{zero_fraction};
 ghost use Rattle.path_checker.specs.Numbers.{IsCombined};
-ghost use Rattle.path_claims.specs.After.{AfterExchange, AfterFittingAttrs, IsSizedExchange};
+ghost use Rattle.path_claims.specs.After.{AfterExchange, AfterFittingAttrs, AfterPivot, IsPivotCase};
 
-use crate::last::Fit;
 use crate::last::fits::{attr_after, is_inside_after};
 use crate::last::line_sums::unit_sum;
+use crate::last::{Fit, PivotCase};
 use frac_core::{Frac, OutOfMemory, Stop};
 use path_checker::{
     Inside, Pivot, Sum, SumStop, Wide, combined, in_lowest_terms, pair_product, sum_of,
@@ -111,22 +111,16 @@ fn one_more(alloc: Global, sum: &Sum, by: i64, more: &Sum, at: usize) -> Result<
 }
 
 // The sum of the attribute, which has a stay.
-fn attr_of_term(
-    alloc: Global,
-    p: &Problem,
-    lines: &[Option<Inside>],
-    pivot: &Pivot,
-    attr: u32,
-) -> Result<Sum, TermsStop>
-    requires exchange { IsSizedExchange p.now lines.now pivot.now }
-    requires stay { HasStay p.now.stays attr }
-    ensures sized { IfOk result (IsSized (length lines.now)) }
-    ensures attr { IfOk result (λ sum. AfterExchange p.now pivot.now lines.now
-        (λ marks. IsQuantitySum p.now marks (λ x. x (attr_column attr)) sum)) }
-    ensures stop { IfErr result (λ stop. AfterFittingAttrs p.now pivot.now lines.now
-        (λ marks. IsAttrStop p.now marks attr stop)) }
+fn attr_of_term(alloc: Global, case: PivotCase<'_>, attr: u32) -> Result<Sum, TermsStop>
+    requires case { IsPivotCase case }
+    requires stay { HasStay case.p.now.stays attr }
+    ensures sized { IfOk result (IsSized (length case.entry.lines.now)) }
+    ensures attr { IfOk result (λ sum. AfterPivot case.entry
+        (λ marks. IsQuantitySum case.entry.p.now marks (λ x. x (attr_column attr)) sum)) }
+    ensures stop { IfErr result (λ stop. AfterFittingAttrs case.entry
+        (λ marks. IsAttrStop case.entry.p.now marks attr stop)) }
 {
-    match attr_after(alloc, p, lines, pivot, attr) {
+    match attr_after(alloc, case, attr) {
         Ok(Some(sum)) => Ok(sum),
         Ok(None) => Err(TermsStop::OutOfMemory),
         Err(Stop::Refused(_)) => Err(TermsStop::UnfitAttr(attr)),
@@ -137,22 +131,20 @@ fn attr_of_term(
 /// The sum of the terms after the exchange, or which of them stops it.
 pub(crate) fn terms_after(
     alloc: Global,
-    p: &Problem,
-    lines: &[Option<Inside>],
-    pivot: &Pivot,
+    case: PivotCase<'_>,
     terms: &[Term],
 ) -> Result<Sum, TermsStop>
-    requires exchange { IsSizedExchange p.now lines.now pivot.now }
-    requires terms { AreKnownTerms p.now terms.now }
+    requires case { IsPivotCase case }
+    requires terms { AreKnownTerms case.p.now terms.now }
     ensures kept { IfOk result (λ sum. IsKept sum.value) }
-    ensures sum { IfOk result (λ sum. AfterFittingAttrs p.now pivot.now lines.now
-        (λ marks. IsQuantitySum p.now marks (terms_of terms.now) sum)) }
-    ensures stop { IfErr result (λ stop. AfterFittingAttrs p.now pivot.now lines.now
-        (λ marks. IsTermsStop p.now marks terms.now stop)) }
+    ensures sum { IfOk result (λ sum. AfterFittingAttrs case.entry
+        (λ marks. IsQuantitySum case.entry.p.now marks (terms_of terms.now) sum)) }
+    ensures stop { IfErr result (λ stop. AfterFittingAttrs case.entry
+        (λ marks. IsTermsStop case.entry.p.now marks terms.now stop)) }
 {
-    let mut sum = no_terms(alloc, lines.len())?;
+    let mut sum = no_terms(alloc, case.lines.len())?;
     for (at, term) in terms.iter().enumerate() {
-        let more = attr_of_term(alloc, p, lines, pivot, term.attr)?;
+        let more = attr_of_term(alloc, case, term.attr)?;
         sum = one_more(alloc, &sum, term.by, &more, at)?;
     }
     Ok(sum)
@@ -187,21 +179,15 @@ struct Sought<'a> {
 }
 
 // How the sum of so many of a row's terms stands after the exchange.
-fn some_fit(
-    alloc: Global,
-    p: &Problem,
-    lines: &[Option<Inside>],
-    pivot: &Pivot,
-    sought: Sought<'_>,
-) -> Result<Fit, OutOfMemory>
-    requires exchange { IsSizedExchange p.now lines.now pivot.now }
-    requires terms { AreKnownTerms p.now sought.row.now.terms }
+fn some_fit(alloc: Global, case: PivotCase<'_>, sought: Sought<'_>) -> Result<Fit, OutOfMemory>
+    requires case { IsPivotCase case }
+    requires terms { AreKnownTerms case.p.now sought.row.now.terms }
     requires first { sought.first ≤ length sought.row.now.terms }
-    ensures { IfOk result (λ fit. AfterFittingAttrs p.now pivot.now lines.now
-        (λ marks. IsRowFit p.now marks sought.entry.row.now sought.entry.first fit)) }
+    ensures { IfOk result (λ fit. AfterFittingAttrs case.entry
+        (λ marks. IsRowFit case.entry.p.now marks sought.entry.row.now sought.entry.first fit)) }
 {
     let terms = sought.row.terms();
-    match terms_after(alloc, p, lines, pivot, &terms[..sought.first]) {
+    match terms_after(alloc, case, &terms[..sought.first]) {
         Ok(_) => Ok(Fit::Fits),
         Err(TermsStop::UnfitAttr(_)) => Ok(Fit::NoRoom),
         Err(TermsStop::UnfitTerms(j)) => Ok(stopped_fit(j, sought.first)),
@@ -210,22 +196,16 @@ fn some_fit(
 }
 
 // How the sum of all of a row's terms less its constant stands after the exchange, where the row is over.
-fn whole_fit(
-    alloc: Global,
-    p: &Problem,
-    lines: &[Option<Inside>],
-    pivot: &Pivot,
-    r: &Row,
-) -> Result<Fit, OutOfMemory>
-    requires exchange { IsSizedExchange p.now lines.now pivot.now }
-    requires terms { AreKnownTerms p.now r.now.terms }
-    requires row { IsRowOf p.now r.now }
-    ensures { IfOk result (λ fit. AfterFittingAttrs p.now pivot.now lines.now
+fn whole_fit(alloc: Global, case: PivotCase<'_>, r: &Row) -> Result<Fit, OutOfMemory>
+    requires case { IsPivotCase case }
+    requires terms { AreKnownTerms case.p.now r.now.terms }
+    requires row { IsRowOf case.p.now r.now }
+    ensures { IfOk result (λ fit. AfterFittingAttrs case.entry
         (λ marks. IsIn (place (over_mark r.now.id)) marks
-        → IsRowFit p.now marks r.now (length r.now.terms + 1) fit)) }
+        → IsRowFit case.entry.p.now marks r.now (length r.now.terms + 1) fit)) }
 {
     r.show_row(); // for the proof: what a row keeps
-    match terms_after(alloc, p, lines, pivot, r.terms()) {
+    match terms_after(alloc, case, r.terms()) {
         Ok(sum) => {
             if less_fits(sum.value, r.constant()) {
                 Ok(Fit::Fits)
@@ -282,21 +262,19 @@ pub(crate) struct FirstTerms {
 /// How the sum of the first terms of a row stands after the exchange.
 pub(crate) fn terms_fit(
     alloc: Global,
-    p: &Problem,
-    lines: &[Option<Inside>],
-    pivot: &Pivot,
+    case: PivotCase<'_>,
     sum: FirstTerms,
 ) -> Result<Fit, OutOfMemory>
-    requires { IsSizedExchange p.now lines.now pivot.now }
-    ensures { IfOk result (λ fit. AfterFittingAttrs p.now pivot.now lines.now
-        (λ marks. IsFitAt p.now marks (quantities.Terms sum.mark sum.first) fit)) }
+    requires { IsPivotCase case }
+    ensures { IfOk result (λ fit. AfterFittingAttrs case.entry
+        (λ marks. IsFitAt case.entry.p.now marks (quantities.Terms sum.mark sum.first) fit)) }
 {
-    p.show_whole(); // for the proof: what a problem keeps
-    let rows = p.rows();
+    case.p.show_whole(); // for the proof: what a problem keeps
+    let rows = case.p.rows();
     let Some(at) = over_row(rows, sum.mark) else {
         return Ok(Fit::Fits);
     };
-    if !are_over_from(lines, pivot, at, rows.len()) {
+    if !are_over_from(case.lines, case.pivot, at, rows.len()) {
         return Ok(Fit::Fits);
     }
     let row = &rows[at];
@@ -305,10 +283,10 @@ pub(crate) fn terms_fit(
         return Ok(Fit::Fits);
     }
     if first <= count {
-        return some_fit(alloc, p, lines, pivot, Sought { row, first });
+        return some_fit(alloc, case, Sought { row, first });
     }
     if first > count + 1 {
         return Ok(Fit::Fits);
     }
-    whole_fit(alloc, p, lines, pivot, row)
+    whole_fit(alloc, case, row)
 }

@@ -21,6 +21,7 @@ use Rattle.frac_core.specs.declared.memory.Stop.TheVariants.{Refused, OutOfMemor
 use Rattle.path_checker.specs.declared.table.Inside.{Inside}
 use Rattle.path_checker.specs.Tables.{line_count}
 use Rattle.path_levels.specs.declared.outline.Outline.{Outline}
+use Rattle.path_levels.specs.declared.tableau.CornerLines.{CornerLines}
 use Rattle.path_levels.specs.declared.outline.LevelFacts.{LevelFacts}
 use Rattle.path_levels.specs.declared.outline.LineFacts.{LineFacts}
 use Rattle.path_levels.specs.declared.sums.LevelSum.{LevelSum}
@@ -260,17 +261,17 @@ join_next outline kept place most k first f sum next long there within less here
 }
 
 -- or does not fit
-pub join_unfit : (outline : Outline) (kept : List (Option Inside)) (place most k first : ℕ) (f : LineFacts) (sum : LevelSum) (level : Level) (d : LevelFacts) → length kept ≡ length outline.lines.items → place < length outline.levels.items → k < length kept → first < most → (get_or outline.lines.items k f).level ≡ place
-    → level ≡ (get_or outline.levels.items place d).level
-    → ((p : Problem) (at : List Mark) (there : ℕ) → level_there outline k ≡ there → IsPartKept p at outline there (k + 1) kept → IsPartSum p at outline there k sum → IsPartUnfit p at outline there (k + 1))
-    → AreJoined outline kept place most k first sum → ((p : Problem) → IsOutline p outline → number_at outline.levels.items place ≤ 1000) → IsRowsStop outline place most kept (unfit_rows level (first + 1))
-join_unfit outline kept place most k first f sum name d long there within less here name_is step h held p at are =
-    let level : ℕ = number_at outline.levels.items place in
+pub join_unfit : (corner : CornerLines) (place most k first : ℕ) (f : LineFacts) (sum : LevelSum) (level : Level) (d : LevelFacts) → length corner.lines.now ≡ length corner.outline.now.lines.items → place < length corner.outline.now.levels.items → k < length corner.lines.now → first < most → (get_or corner.outline.now.lines.items k f).level ≡ place
+    → level ≡ (get_or corner.outline.now.levels.items place d).level
+    → ((p : Problem) (at : List Mark) (there : ℕ) → level_there corner.outline.now k ≡ there → IsPartKept p at corner.outline.now there (k + 1) corner.lines.now → IsPartSum p at corner.outline.now there k sum → IsPartUnfit p at corner.outline.now there (k + 1))
+    → AreJoined corner.outline.now corner.lines.now place most k first sum → ((p : Problem) → IsOutline p corner.outline.now → number_at corner.outline.now.levels.items place ≤ 1000) → IsRowsStop corner place most (unfit_rows level (first + 1))
+join_unfit corner place most k first f sum name d long there within less here name_is step h held p at are =
+    let level : ℕ = number_at corner.outline.now.levels.items place in
     let low : level ≤ 1000 = held p are.outline_is in
     let j = h.rows p at low are in
-    let n = next-line p at outline kept place most k first f sum there within less here low are j in
-    let at_level : IsLevelAt p name level = subst (IsLevelAt p name) (sym (number-there outline.levels.items place d there)) (subst (λ (l : Level). IsLevelAt p l (get_or outline.levels.items place d).number) (sym name_is) (are.outline_is.levels_are.each place d there)) in
-    let unfit : HasNoLevelWriting (with_first_rows level (first + 1) p) at level = subst (λ (n : ℕ). HasNoLevelWriting (with_first_rows level n p) at level) n.more (step p at place (level-there outline k f (omega (arith, within, long)) ∙ here) n.part_kept n.part_sum) in
+    let n = next-line p at corner.outline.now corner.lines.now place most k first f sum there within less here low are j in
+    let at_level : IsLevelAt p name level = subst (IsLevelAt p name) (sym (number-there corner.outline.now.levels.items place d there)) (subst (λ (l : Level). IsLevelAt p l (get_or corner.outline.now.levels.items place d).number) (sym name_is) (are.outline_is.levels_are.each place d there)) in
+    let unfit : HasNoLevelWriting (with_first_rows level (first + 1) p) at level = subst (λ (n : ℕ). HasNoLevelWriting (with_first_rows level n p) at level) n.more (step p at place (level-there corner.outline.now k f (omega (arith, within, long)) ∙ here) n.part_kept n.part_sum) in
     let whole : level_place p level (k + 1) ≤ level_size p level = lines-within level (k + 1) (lines p) in (
       at_level,
       omega (arith, less),
@@ -282,13 +283,13 @@ join_unfit outline kept place most k first f sum name d long there within less h
       },
     )
 
-pub stop_is : (outline : Outline) (kept : List (Option Inside)) (place most k first : ℕ) (f : LineFacts) (sum : LevelSum) (d : LevelFacts) (stop : SumStop) (out : RowsStop) → length kept ≡ length outline.lines.items → place < length outline.levels.items → k < length kept → first < most → (get_or outline.lines.items k f).level ≡ place
-    → (IsRefused stop → out ≡ unfit_rows (get_or outline.levels.items place d).level (first + 1)) → (stop ≡ OutOfMemory → out ≡ OutOfMemory)
-    → (IsRefused stop → (p : Problem) (at : List Mark) (there : ℕ) → level_there outline k ≡ there → IsPartKept p at outline there (k + 1) kept → IsPartSum p at outline there k sum → IsPartUnfit p at outline there (k + 1))
-    → AreJoined outline kept place most k first sum → ((p : Problem) → IsOutline p outline → number_at outline.levels.items place ≤ 1000) → IsRowsStop outline place most kept out
-stop_is outline kept place most k first f sum d (Refused cause) out long there within less here unfit memory step h held =
-    subst (IsRowsStop outline place most kept) (sym (unfit tt)) (join_unfit outline kept place most k first f sum (get_or outline.levels.items place d).level d long there within less here refl (step tt) h held)
-stop_is outline kept place most k first f sum d OutOfMemory out long there within less here unfit memory step h held = subst (IsRowsStop outline place most kept) (sym (memory refl)) tt
+pub stop_is : (corner : CornerLines) (place most k first : ℕ) (f : LineFacts) (sum : LevelSum) (d : LevelFacts) (stop : SumStop) (out : RowsStop) → length corner.lines.now ≡ length corner.outline.now.lines.items → place < length corner.outline.now.levels.items → k < length corner.lines.now → first < most → (get_or corner.outline.now.lines.items k f).level ≡ place
+    → (IsRefused stop → out ≡ unfit_rows (get_or corner.outline.now.levels.items place d).level (first + 1)) → (stop ≡ OutOfMemory → out ≡ OutOfMemory)
+    → (IsRefused stop → (p : Problem) (at : List Mark) (there : ℕ) → level_there corner.outline.now k ≡ there → IsPartKept p at corner.outline.now there (k + 1) corner.lines.now → IsPartSum p at corner.outline.now there k sum → IsPartUnfit p at corner.outline.now there (k + 1))
+    → AreJoined corner.outline.now corner.lines.now place most k first sum → ((p : Problem) → IsOutline p corner.outline.now → number_at corner.outline.now.levels.items place ≤ 1000) → IsRowsStop corner place most out
+stop_is corner place most k first f sum d (Refused cause) out long there within less here unfit memory step h held =
+    subst (IsRowsStop corner place most) (sym (unfit tt)) (join_unfit corner place most k first f sum (get_or corner.outline.now.levels.items place d).level d long there within less here refl (step tt) h held)
+stop_is corner place most k first f sum d OutOfMemory out long there within less here unfit memory step h held = subst (IsRowsStop corner place most) (sym (memory refl)) tt
 
 -- ---- the end
 

@@ -12,6 +12,7 @@ use Rattle.corner_lines.proofs.LevelRows.StayRows.{stay_stands_alone}
 use Rattle.path_checker.specs.declared.table.Inside.{Inside}
 use Rattle.path_checker.specs.Tables.{IsThere, line_count}
 use Rattle.path_levels.specs.declared.outline.Outline.{Outline}
+use Rattle.path_levels.specs.declared.tableau.CornerLines.{CornerLines}
 use Rattle.path_levels.specs.declared.outline.LevelFacts.{LevelFacts}
 use Rattle.path_levels.specs.declared.sums.LevelSum.{LevelSum}
 use Rattle.path_checker.specs.Stops.{SumStop}
@@ -60,32 +61,32 @@ no_rows p at outline place most kept sum within none above are =
       fitting = λ level here j le unfit. let one = unfit.2 in absurd (omega (arith, le, none, one));
     }
 
-pub stay_stop : (outline : Outline) (place most : ℕ) (kept : List (Option Inside)) (k : ℕ) (line : Option Inside) (facts : LevelFacts) → IsStayPlace outline kept place k line → 0 < most → IsUnfitStay line → get_or outline.levels.items place facts ≡ facts
-    → ((p : Problem) → IsOutline p outline → 1000 < number_at outline.levels.items place) → IsRowsStop outline place most kept (unfit_rows facts.level 1)
-stay_stop outline place most kept k line facts is some unfit same stays p at are =
-    let n : ℕ = number_at outline.levels.items place in
-    let above : 1000 < number_at outline.levels.items place = stays p are.outline_is in
-    let number : facts.number ≡ number_at outline.levels.items place = sym (number_there outline.levels.items place facts is.place_within ∙ ap (λ (f : LevelFacts). f.number) same) in
+pub stay_stop : (corner : CornerLines) (place most : ℕ) (k : ℕ) (line : Option Inside) (facts : LevelFacts) → IsStayPlace corner.outline.now corner.lines.now place k line → 0 < most → IsUnfitStay line → get_or corner.outline.now.levels.items place facts ≡ facts
+    → ((p : Problem) → IsOutline p corner.outline.now → 1000 < number_at corner.outline.now.levels.items place) → IsRowsStop corner place most (unfit_rows facts.level 1)
+stay_stop corner place most k line facts is some unfit same stays p at are =
+    let n : ℕ = number_at corner.outline.now.levels.items place in
+    let above : 1000 < number_at corner.outline.now.levels.items place = stays p are.outline_is in
+    let number : facts.number ≡ number_at corner.outline.now.levels.items place = sym (number_there corner.outline.now.levels.items place facts is.place_within ∙ ap (λ (f : LevelFacts). f.number) same) in
     let there : IsLevelAt p facts.level facts.number = subst (λ (f : LevelFacts). IsLevelAt p f.level f.number) same (are.outline_is.levels_are.each place facts is.place_within) in
-    let here : IsLevelAt p facts.level (number_at outline.levels.items place) = subst (λ (n : ℕ). IsLevelAt p facts.level n) number there in
-    let stay = stay_of p facts.level (number_at outline.levels.items place) above here in
-    let level : IsLevelAt p (StayLevel stay.0) (number_at outline.levels.items place) = subst (λ (l : Level). IsLevelAt p l (number_at outline.levels.items place)) stay.1 here in (
+    let here : IsLevelAt p facts.level (number_at corner.outline.now.levels.items place) = subst (λ (n : ℕ). IsLevelAt p facts.level n) number there in
+    let stay = stay_of p facts.level (number_at corner.outline.now.levels.items place) above here in
+    let level : IsLevelAt p (StayLevel stay.0) (number_at corner.outline.now.levels.items place) = subst (λ (l : Level). IsLevelAt p l (number_at corner.outline.now.levels.items place)) stay.1 here in (
       here,
       some,
       record {
         unfit = (
-          number_at outline.levels.items place,
+          number_at corner.outline.now.levels.items place,
           here,
           omega arith,
-          has_line p stay.0 (number_at outline.levels.items place) level,
-          subst (λ (q : Problem). HasNoLevelWriting q at (number_at outline.levels.items place)) (sym (all_rows p (number_at outline.levels.items place) 1 above))
-              (stay_unfit p at (number_at outline.levels.items place) stay.0 line are.there level (line_kept p at outline place most kept k stay.0 line is are some level) unfit),
+          has_line p stay.0 (number_at corner.outline.now.levels.items place) level,
+          subst (λ (q : Problem). HasNoLevelWriting q at (number_at corner.outline.now.levels.items place)) (sym (all_rows p (number_at corner.outline.now.levels.items place) 1 above))
+              (stay_unfit p at (number_at corner.outline.now.levels.items place) stay.0 line are.there level (line_kept p at corner.outline.now place most corner.lines.now k stay.0 line is are some level) unfit),
         );
         before = λ i less u. let one = u.2 in absurd (omega (arith, less, one));
       },
     )
 
-pub one_stop : (outline : Outline) (place most : ℕ) (kept : List (Option Inside)) (level : Level) (stop : SumStop) (out : RowsStop) → (IsRefused stop → out ≡ unfit_rows level 1) → (stop ≡ OutOfMemory → out ≡ OutOfMemory)
-    → (IsRefused stop → IsRowsStop outline place most kept (unfit_rows level 1)) → IsRowsStop outline place most kept out
-one_stop outline place most kept level (Refused cause) out unfit memory is = subst (IsRowsStop outline place most kept) (sym (unfit tt)) (is tt)
-one_stop outline place most kept level OutOfMemory out unfit memory is = subst (IsRowsStop outline place most kept) (sym (memory refl)) tt
+pub one_stop : (corner : CornerLines) (place most : ℕ) (level : Level) (stop : SumStop) (out : RowsStop) → (IsRefused stop → out ≡ unfit_rows level 1) → (stop ≡ OutOfMemory → out ≡ OutOfMemory)
+    → (IsRefused stop → IsRowsStop corner place most (unfit_rows level 1)) → IsRowsStop corner place most out
+one_stop corner place most level (Refused cause) out unfit memory is = subst (IsRowsStop corner place most) (sym (unfit tt)) (is tt)
+one_stop corner place most level OutOfMemory out unfit memory is = subst (IsRowsStop corner place most) (sym (memory refl)) tt

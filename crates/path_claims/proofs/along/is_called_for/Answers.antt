@@ -6,5 +6,5 @@ use Rattle.path_claims.proofs.along.is_called_for.Goals as goal
 
 pub may_swap-may-requires-clause-step : goal.may_swap-may-requires-clause-step
 may_swap-may-requires-clause-step c =
-    let long : length c.deref-3.result.now ≡ line_count c.args.case.p.now = ap (λ (zs : List (Option Inside)). length zs) c.deref-3.ensures.value ∙ c.requires.table.count ∙ outline_long c.args.case.p.now c.args.case.outline.now c.requires.case.outline_is in
+    let long : length c.tableau-tableau.result.corner.lines.now ≡ line_count c.args.case.p.now = ap (λ (zs : List (Option Inside)). length zs) c.tableau-tableau.ensures.lines ∙ c.requires.table.count ∙ outline_long c.args.case.p.now c.args.case.outline.now c.requires.case.outline_is in
     (omega (arith, long, c.requires.step.0), omega (arith, long, c.requires.step.1))

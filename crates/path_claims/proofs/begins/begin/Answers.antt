@@ -2,6 +2,7 @@ use Rattle.std.proofs.Common.{◌∙◌, List, length, sym, ap, subst, Option}
 use Rattle.path_checker.specs.declared.table.Inside.{Inside}
 use Rattle.path_checker.specs.Route.{over_marks}
 use Rattle.path_claims.specs.FirstSums.{AreMade, AreMadeUntil}
+use Rattle.path_checker.specs.Tables.{AreSized}
 use Rattle.path_levels.specs.Levels.{AreSizedLevels}
 use Rattle.path_levels.specs.Rows.{AreKept, IsLevelsStop}
 use Rattle.path_claims.proofs.Beginning.BegunParts.{begun_until_rows, begun_until_terms, begun_whole, kept_there}
@@ -13,9 +14,16 @@ returns-in-Some c =
     let made = subst (AreMadeUntil c.args.p.now c.in_ok-made.made.lines.items) c.in-Some.is c.in_ok-made.ensures in
     begun_until_terms c.args.p.now c.in_ok-made.made.lines.items c.in-Some.unfit c.show_whole.ensures made.0 made.1
 
-pub first_levels-requires-clause-count : goal.first_levels-requires-clause-count
-first_levels-requires-clause-count c =
-    ap (λ (ls : List (Option Inside)). length ls) c.deref.ensures.value ∙ c.in_ok-lines.ensures.count ∙ sym (outline_count c.args.p.now c.args.outline.now c.requires.outline)
+pub first_levels-requires : goal.first_levels-requires
+first_levels-requires c = record {
+  corner = record {
+    outline = record {
+      outline_is = c.requires.sized;
+      count = ap (λ (ls : List (Option Inside)). length ls) c.deref.ensures.value ∙ c.in_ok-lines.ensures.count ∙ sym (outline_count c.args.p.now c.args.outline.now c.requires.outline);
+    };
+    lines_are = subst AreSized (sym c.deref.ensures.value) c.in_ok-lines.ensures.sized;
+  };
+}
 
 pub returns-in-Ok : goal.returns-in-Ok
 returns-in-Ok c =
@@ -31,6 +39,6 @@ returns-in-Err-Refused c =
     let made : AreMade c.args.p.now (length c.args.p.now.rows) c.in_ok-made.made.lines.items = subst (AreMadeUntil c.args.p.now c.in_ok-made.made.lines.items) c.in_default.is c.in_ok-made.ensures in
     let kept : AreKept c.args.p.now (over_marks c.args.p.now) c.args.outline.now c.deref.result.now =
     subst (AreKept c.args.p.now (over_marks c.args.p.now) c.args.outline.now) (sym c.deref.ensures.value) (kept_there c.args.p.now c.args.outline.now c.in_ok-lines.lines.items c.show_whole.ensures c.requires.outline c.in_ok-lines.ensures.lines) in
-    let stop = subst (IsLevelsStop c.args.outline.now c.deref.result.now) c.in-Err-Refused.field-0-is c.in-Err-Refused.ensures.unfit in
+    let stop = subst (IsLevelsStop (record { outline = c.args.outline; lines = c.deref.result })) c.in-Err-Refused.field-0-is c.in-Err-Refused.ensures.unfit in
     begun_until_rows c.args.p.now c.in_ok-made.made.lines.items c.in_ok-lines.lines.items c.in-Err-Refused.rows.level c.in-Err-Refused.rows.first c.show_whole.ensures made c.in_ok-lines.ensures.lines
     (stop c.args.p.now (over_marks c.args.p.now) kept)

@@ -10,5 +10,5 @@ returns-then-dual c = λ p row whole begun to.
 pub returns : goal.returns
 returns c = λ p row whole begun to.
     primal_by c.args.dual c.are_up.result p row c.if-dual.false
-    (through c.are_up.result (c.are_up.ensures p whole (whole_lines p c.args.outline.now c.args.lines.now c.args.levels.now begun))
-    (sound_before p row c.args.judged _ c.args.lines.now whole to c.requires.judged (whole_lines p c.args.outline.now c.args.lines.now c.args.levels.now begun)))
+    (through c.are_up.result (c.are_up.ensures p whole (whole_lines p c.args.tableau.corner.outline.now c.args.tableau.corner.lines.now c.args.tableau.levels.now begun))
+    (sound_before p row c.args.judged _ c.args.tableau.corner.lines.now whole to c.requires.judged (whole_lines p c.args.tableau.corner.outline.now c.args.tableau.corner.lines.now c.args.tableau.levels.now begun)))

@@ -8,4 +8,4 @@ returns-in-Ok-clause-levels c = c.in-Ok.ensures.levels c.args.p.now _ c.requires
 
 pub returns-in-Err-Refused-clause-unfit : goal.returns-in-Err-Refused-clause-unfit
 returns-in-Err-Refused-clause-unfit c = λ same.
-    rows_unfit c.args.p.now c.args.outline.now c.args.lines.now _ _ c.requires.kept (subst (IsLevelsStop c.args.outline.now c.args.lines.now) c.in-Err-Refused.field-0-is c.in-Err-Refused.ensures.unfit)
+    rows_unfit c.args.p.now c.args.corner _ _ c.requires.kept (subst (IsLevelsStop c.args.corner) c.in-Err-Refused.field-0-is c.in-Err-Refused.ensures.unfit)

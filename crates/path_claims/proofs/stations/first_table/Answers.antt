@@ -1,5 +1,6 @@
 use Rattle.std.proofs.Common.{◌∙◌, List, length, sym, ap, subst, Option}
 use Rattle.path_checker.specs.declared.table.Inside.{Inside}
+use Rattle.path_checker.specs.Tables.{AreSized}
 use Rattle.path_levels.specs.Levels.{AreSizedLevels}
 use Rattle.path_levels.specs.Rows.{AreKept}
 use Rattle.path_claims.proofs.Beginning.FirstAttrs.{attrs_first}
@@ -10,9 +11,14 @@ pub begun_levels-requires-clause-kept : goal.begun_levels-requires-clause-kept
 begun_levels-requires-clause-kept c =
     subst (AreKept c.args.p.now _ c.args.outline.now) (sym c.deref.ensures.value) (begins_kept c.args.p.now c.args.outline.now c.in_ok-lines.lines.items c.requires.outline c.show_whole.ensures c.in_ok-lines.ensures.lines)
 
-pub begun_levels-requires-clause-count : goal.begun_levels-requires-clause-count
-begun_levels-requires-clause-count c =
-    ap (λ (zs : List (Option Inside)). length zs) c.deref.ensures.value ∙ c.in_ok-lines.ensures.count ∙ sym (outline_long c.args.p.now c.args.outline.now c.requires.outline)
+pub begun_levels-requires-clause-corner : goal.begun_levels-requires-clause-corner
+begun_levels-requires-clause-corner c = record {
+  outline = record {
+    outline_is = c.requires.sized;
+    count = ap (λ (zs : List (Option Inside)). length zs) c.deref.ensures.value ∙ c.in_ok-lines.ensures.count ∙ sym (outline_long c.args.p.now c.args.outline.now c.requires.outline);
+  };
+  lines_are = subst AreSized (sym c.deref.ensures.value) c.in_ok-lines.ensures.sized;
+}
 
 pub returns-clause-sized : goal.returns-clause-sized
 returns-clause-sized c = record {

@@ -11,7 +11,7 @@ returns-then-has_negative_column c = λ p marks kept sums.
     let within : c.loop-at.at < line_count p = let h = kept.lines_are.count in omega (arith, c.loop-at-test.true, h) in
     let yes : c.has_negative_column.result ≡ true = search rules in
     never false refl
-    (λ none. (all_decided p marks c.args.outline.now c.args.lines.now c.args.levels.now kept sums).1 none c.loop-at.at within (right_then c.has_negative_column.result yes (c.has_negative_column.ensures p marks kept sums)))
+    (λ none. (all_decided p marks c.args.tableau.corner.outline.now c.args.tableau.corner.lines.now c.args.tableau.levels.now kept sums).1 none c.loop-at.at within (right_then c.has_negative_column.result yes (c.has_negative_column.ensures p marks kept sums)))
 
 pub loop-at-preserved : goal.loop-at-preserved
 loop-at-preserved c = λ k less p marks kept sums negative.
@@ -25,5 +25,5 @@ loop-at-preserved c = λ k less p marks kept sums negative.
 pub returns : goal.returns
 returns c = λ p marks kept sums.
     always true refl
-    ((all_decided p marks c.args.outline.now c.args.lines.now c.args.levels.now kept sums).0
+    ((all_decided p marks c.args.tableau.corner.outline.now c.args.tableau.corner.lines.now c.args.tableau.levels.now kept sums).0
     (λ k within negative. c.loop-at.invariant k (let h = kept.lines_are.count in omega (arith, within, h, c.loop-at-test.false)) p marks kept sums negative))

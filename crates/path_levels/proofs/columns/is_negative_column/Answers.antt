@@ -19,5 +19,5 @@ returns-in-None c = λ p at kept sums.
     let within : c.args.spot.at < line_count p = let h = kept.lines_are.count in omega (arith, c.requires.spot, h) in
     let line : IsLineAt p at (name_at p c.args.spot.at) c.index-lines-spot.result = subst (IsLineAt p at (name_at p c.args.spot.at)) (sym c.index-lines-spot.is) (kept.lines_are.each c.args.spot.at c.index-lines-spot.result within) in
     let outside : IsLineAt p at (name_at p c.args.spot.at) None = subst (IsLineAt p at (name_at p c.args.spot.at)) c.in-None.is line in
-    outside_decided c.is_negative_first.result p at c.args.outline.now c.args.lines.now c.args.levels.now c.index.result.now c.args.spot.at c.args.spot.side kept sums within outside c.is_negative_first.ensures.none
-    (subst (λ (f : LineFacts). (d : LevelSum) → IsTrue c.is_negative_first.result ↔ IsNegativeFirst (length c.args.levels.now) (λ k. cost_in c.args.spot.side f c.args.spot.at k (get_or c.args.levels.now k d))) c.index.ensures c.is_negative_first.ensures.first)
+    outside_decided c.is_negative_first.result p at c.args.tableau.corner.outline.now c.args.tableau.corner.lines.now c.args.tableau.levels.now c.index.result.now c.args.spot.at c.args.spot.side kept sums within outside c.is_negative_first.ensures.none
+    (subst (λ (f : LineFacts). (d : LevelSum) → IsTrue c.is_negative_first.result ↔ IsNegativeFirst (length c.args.tableau.levels.now) (λ k. cost_in c.args.spot.side f c.args.spot.at k (get_or c.args.tableau.levels.now k d))) c.index.ensures c.is_negative_first.ensures.first)

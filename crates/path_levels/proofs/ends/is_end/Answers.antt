@@ -10,7 +10,7 @@ returns-then-has_no_negative_value c = λ p at kept sums.
 pub returns-else-has_no_negative_value : goal.returns-else-has_no_negative_value
 returns-else-has_no_negative_value c = λ p at kept sums.
     subst (λ (b : Bool). IsTrue c.costs_above.result ↔ IsEndOf b p at) (sym c.if-dual.true)
-    (or_else c.has_no_negative_value.result c.costs_above.result c.if-has_no_negative_value.false (c.has_no_negative_value.ensures p at kept.there kept.lines_are) (c.costs_above.ensures p at c.args.lines.now kept sums))
+    (or_else c.has_no_negative_value.result c.costs_above.result c.if-has_no_negative_value.false (c.has_no_negative_value.ensures p at kept.there kept.lines_are) (c.costs_above.ensures p at c.args.tableau.corner.lines.now kept sums))
 
 pub returns-then-has_no_negative_column : goal.returns-then-has_no_negative_column
 returns-then-has_no_negative_column c = λ p at kept sums.

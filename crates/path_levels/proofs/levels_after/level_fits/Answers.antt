@@ -10,22 +10,22 @@ use Rattle.path_levels.proofs.levels_after.level_fits.Goals as goal
 pub loop-at-preserved : goal.loop-at-preserved
 loop-at-preserved c =
     let number : SFits w64 c.index.result.now = search rules in
-    let items : c.deref-line-items.result.now ≡ c.args.outline.now.lines.items = search rules in
-    let within : c.loop-at.at < length c.args.outline.now.lines.items = subst (λ (xs : List LineFacts). c.loop-at.at < length xs) items c.loop-at-test.true in
+    let items : c.deref-line-items.result.now ≡ c.args.corner.outline.now.lines.items = search rules in
+    let within : c.loop-at.at < length c.args.corner.outline.now.lines.items = subst (λ (xs : List LineFacts). c.loop-at.at < length xs) items c.loop-at-test.true in
     let up : IsTrue c.line_fits.result = search rules in
     record {
       scale = c.loop-at.invariant.scale;
-      each = level_more c.args.outline.now c.args.lines.now c.args.pivot.now c.args.place c.loop-at.at c.args.sum.now _ c.side_after.result c.index.result.now within c.side_after.ensures
-          (c.index.ensures ∙ get_or_default c.args.sum.now.by.items c.loop-at.at c.index.result.now (pos 0) (omega (arith, within, c.requires.count, c.requires.sum.count_is)))
+      each = level_more c.args.corner.outline.now c.args.corner.lines.now c.args.pivot.now c.args.place c.loop-at.at c.args.sum.now _ c.side_after.result c.index.result.now within c.side_after.ensures
+          (c.index.ensures ∙ get_or_default c.args.sum.now.by.items c.loop-at.at c.index.result.now (pos 0) (omega (arith, within, c.requires.corner.count, c.requires.sum.count_is)))
           (subst (λ (xs : List LineFacts). IsFitLine (get_or xs c.loop-at.at _) c.side_after.result c.args.place c.args.sum.now c.index.result.now) items ((simp to_z-of_z at c.line_fits.ensures).0 up)) c.loop-at.invariant.each;
     }
 
 pub returns-then-not-line_fits : goal.returns-then-not-line_fits
 returns-then-not-line_fits c =
     let number : SFits w64 c.index.result.now = search rules in
-    let items : c.deref-line-items.result.now ≡ c.args.outline.now.lines.items = search rules in
-    let within : c.loop-at.at < length c.args.outline.now.lines.items = subst (λ (xs : List LineFacts). c.loop-at.at < length xs) items c.loop-at-test.true in
+    let items : c.deref-line-items.result.now ≡ c.args.corner.outline.now.lines.items = search rules in
+    let within : c.loop-at.at < length c.args.corner.outline.now.lines.items = subst (λ (xs : List LineFacts). c.loop-at.at < length xs) items c.loop-at-test.true in
     let down : IsTrue c.line_fits.result → ⊥ = search rules in
-    level_less c.args.outline.now c.args.lines.now c.args.pivot.now c.args.place c.loop-at.at c.args.sum.now _ c.side_after.result c.index.result.now c.line_fits.result within c.side_after.ensures
-    (c.index.ensures ∙ get_or_default c.args.sum.now.by.items c.loop-at.at c.index.result.now (pos 0) (omega (arith, within, c.requires.count, c.requires.sum.count_is)))
+    level_less c.args.corner.outline.now c.args.corner.lines.now c.args.pivot.now c.args.place c.loop-at.at c.args.sum.now _ c.side_after.result c.index.result.now c.line_fits.result within c.side_after.ensures
+    (c.index.ensures ∙ get_or_default c.args.sum.now.by.items c.loop-at.at c.index.result.now (pos 0) (omega (arith, within, c.requires.corner.count, c.requires.sum.count_is)))
     (subst (λ (xs : List LineFacts). IsTrue c.line_fits.result ↔ IsFitLine (get_or xs c.loop-at.at _) c.side_after.result c.args.place c.args.sum.now c.index.result.now) items (simp to_z-of_z at c.line_fits.ensures)) down

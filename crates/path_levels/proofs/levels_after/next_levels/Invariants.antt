@@ -6,7 +6,7 @@ use Rattle.path_levels.proofs.levels_after.next_levels.Given as goal
 
 abbrev pub invariant-loop-place : goal.invariant-loop-place
 invariant-loop-place l = record {
-  sized : AreSizedLevels (length l.exchange.lines.now) l.out.items;
+  sized : AreSizedLevels (length l.exchange.corner.lines.now) l.out.items;
   count : length l.out.items ≡ l.place;
-  next : (k : ℕ) (d : LevelSum) → k < l.place → IsNextAt l.outline l.exchange.lines.now l.exchange.step k (get_or l.levels k d) (get_or l.out.items k d);
+  next : (k : ℕ) (d : LevelSum) → k < l.place → IsNextAt l.exchange.corner.outline.now l.exchange.corner.lines.now l.exchange.step k (get_or l.levels k d) (get_or l.out.items k d);
 }

@@ -27,23 +27,23 @@ above-none : (n : ℕ) → (n ≡ 0 → ⊥) → 0 < n
 above-none n h = omega (arith, h)
 
 pub returns-in_default-clause-row : goal.returns-in_default-clause-row
-returns-in_default-clause-row c = λ p at above are.
-    absurd (never_none p c.args.outline.now c.args.place are.outline_is c.requires.place above (subst (λ (fs : List LineFacts). All (λ f. f.level ≢ c.args.place) fs) c.deref.ensures.value c.in_default.ensures.none))
+returns-in_default-clause-row c = λ p at are above.
+    absurd (never_none p c.args.corner.outline.now c.args.place are.outline_is c.requires.place above (subst (λ (fs : List LineFacts). All (λ f. f.level ≢ c.args.place) fs) c.deref.ensures.value c.in_default.ensures.none))
 
 pub returns-then-most-eq0-clause-row : goal.returns-then-most-eq0-clause-row
-returns-then-most-eq0-clause-row c = λ p at above are.
-    no_rows p at c.args.outline.now c.args.place c.args.most c.args.lines.now c.in_ok-empty_level-2.field-0 c.requires.place (omega (arith, c.if-most-eq0.true)) above are
+returns-then-most-eq0-clause-row c = λ p at are above.
+    no_rows p at c.args.corner.outline.now c.args.place c.args.most c.args.corner.lines.now c.in_ok-empty_level-2.field-0 c.requires.place (omega (arith, c.if-most-eq0.true)) above are
 
 pub returns-in-Ok-clause-row : goal.returns-in-Ok-clause-row
-returns-in-Ok-clause-row c = λ p at above are.
-    stay_rows p at c.args.outline.now c.args.place c.args.most c.args.lines.now c.in-Some.at c.index-lines-at.result c.in-Ok.sum
-    (found-there c.args.outline.now c.args.lines.now c.args.place c.in-Some.at c.index-lines-at.result c.deref.result.now c.deref.ensures.value c.requires.place c.requires.count c.in-Some.ensures.within c.in-Some.ensures.found c.in-Some.ensures.before c.index-lines-at.is)
+returns-in-Ok-clause-row c = λ p at are above.
+    stay_rows p at c.args.corner.outline.now c.args.place c.args.most c.args.corner.lines.now c.in-Some.at c.index-lines-at.result c.in-Ok.sum
+    (found-there c.args.corner.outline.now c.args.corner.lines.now c.args.place c.in-Some.at c.index-lines-at.result c.deref.result.now c.deref.ensures.value c.requires.place c.requires.corner.outline.count c.in-Some.ensures.within c.in-Some.ensures.found c.in-Some.ensures.before c.index-lines-at.is)
     (above-none c.args.most c.if-most-eq0.false) c.in-Ok.ensures.sized c.in-Ok.ensures.row above are
 
 pub returns-in-Err-clause-unfit : goal.returns-in-Err-clause-unfit
 returns-in-Err-clause-unfit c = λ stays.
-    one_stop c.args.outline.now c.args.place c.args.most c.args.lines.now c.index.result.now.level c.in-Err.stop c.rows_stop.result c.rows_stop.ensures.unfit c.rows_stop.ensures.memory
+    one_stop c.args.corner c.args.place c.args.most c.index.result.now.level c.in-Err.stop c.rows_stop.result c.rows_stop.ensures.unfit c.rows_stop.ensures.memory
     (λ is.
-    stay_stop c.args.outline.now c.args.place c.args.most c.args.lines.now c.in-Some.at c.index-lines-at.result c.index.result.now
-    (found-there c.args.outline.now c.args.lines.now c.args.place c.in-Some.at c.index-lines-at.result c.deref.result.now c.deref.ensures.value c.requires.place c.requires.count c.in-Some.ensures.within c.in-Some.ensures.found c.in-Some.ensures.before c.index-lines-at.is)
+    stay_stop c.args.corner c.args.place c.args.most c.in-Some.at c.index-lines-at.result c.index.result.now
+    (found-there c.args.corner.outline.now c.args.corner.lines.now c.args.place c.in-Some.at c.index-lines-at.result c.deref.result.now c.deref.ensures.value c.requires.place c.requires.corner.outline.count c.in-Some.ensures.within c.in-Some.ensures.found c.in-Some.ensures.before c.index-lines-at.is)
     (above-none c.args.most c.if-most-eq0.false) (c.in-Err.ensures.unfit is) (sym c.index.ensures) stays)

@@ -9,19 +9,19 @@ does_fit-requires-clause-small c =
 
 pub returns-then-does_fit-clause-row : goal.returns-then-does_fit-clause-row
 returns-then-does_fit-clause-row c p marks place e is before =
-    read_row p marks c.args.outline.now place c.args.at c.args.lines.now c.args.old.now c.in_ok-draft.draft c.fitting_sum.result c.index-line.result.now c.index-lines-at.result
-    (record { within = c.requires.at; count = c.requires.count; line_is = c.index-line.ensures; inside_is = c.index-lines-at.is }) c.in_ok-draft.ensures.ok
+    read_row p marks c.args.corner.outline.now place c.args.at c.args.corner.lines.now c.args.old.now c.in_ok-draft.draft c.fitting_sum.result c.index-line.result.now c.index-lines-at.result
+    (record { within = c.requires.at; count = c.requires.corner.outline.count; line_is = c.index-line.ensures; inside_is = c.index-lines-at.is }) c.in_ok-draft.ensures.ok
     (c.does_fit.ensures.0 c.if-does_fit.true) (record { unit = c.fitting_sum.ensures.unit; own = c.fitting_sum.ensures.own; by = c.fitting_sum.ensures.by; cost = c.fitting_sum.ensures.cost }) e is before
 
 pub returns-else-does_fit-clause-unfit : goal.returns-else-does_fit-clause-unfit
 returns-else-does_fit-clause-unfit c same p marks place e is before =
-    read_unfit p marks c.args.outline.now place c.args.at c.args.lines.now c.args.old.now c.in_ok-draft.draft c.index-line.result.now c.index-lines-at.result
-    (record { within = c.requires.at; count = c.requires.count; line_is = c.index-line.ensures; inside_is = c.index-lines-at.is }) c.in_ok-draft.ensures.ok
+    read_unfit p marks c.args.corner.outline.now place c.args.at c.args.corner.lines.now c.args.old.now c.in_ok-draft.draft c.index-line.result.now c.index-lines-at.result
+    (record { within = c.requires.at; count = c.requires.corner.outline.count; line_is = c.index-line.ensures; inside_is = c.index-lines-at.is }) c.in_ok-draft.ensures.ok
     (λ fit. not_true ⊥ c.does_fit.result c.if-does_fit.false (c.does_fit.ensures.1 fit)) e is before
 
 pub returns-in_err-draft-clause-unfit : goal.returns-in_err-draft-clause-unfit
 returns-in_err-draft-clause-unfit c =
     let exit = err_from_is_err_and c.from_residual.result c.from_residual.ensures.1 in
     rw (exit.1, exit.2) (λ same p marks place e is before.
-    read_no_draft p marks c.args.outline.now place c.args.at c.args.lines.now c.args.old.now c.index-line.result.now c.index-lines-at.result
-    (record { within = c.requires.at; count = c.requires.count; line_is = c.index-line.ensures; inside_is = c.index-lines-at.is }) (c.in_err-draft.ensures.unfit same) e is before)
+    read_no_draft p marks c.args.corner.outline.now place c.args.at c.args.corner.lines.now c.args.old.now c.index-line.result.now c.index-lines-at.result
+    (record { within = c.requires.at; count = c.requires.corner.outline.count; line_is = c.index-line.ensures; inside_is = c.index-lines-at.is }) (c.in_err-draft.ensures.unfit same) e is before)

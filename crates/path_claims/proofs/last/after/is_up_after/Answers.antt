@@ -10,15 +10,15 @@ use Rattle.path_claims.proofs.last.after.is_up_after.Goals as goal
 
 pub returns-in-Some : goal.returns-in-Some
 returns-in-Some c = λ p marks is count within line.
-    let inside : IsSideAt (next_marks p c.args.pivot.now marks) (name_at p c.args.at) (Some c.in-Some.side) =
-    subst (IsSideAt (next_marks p c.args.pivot.now marks) (name_at p c.args.at)) c.in-Some.is (c.side_after.ensures p marks is.there is.exchange is.sized.enter_at is.sized.leave_at within line) in
-    let share : IsShareOf p marks (name_at p c.args.at) (name_at p c.args.pivot.now.step.enter.at) c.share_of.result = c.share_of.ensures.share p marks is.there count within line in
+    let inside : IsSideAt (next_marks p c.args.pivot.now marks) (name_at p c.args.line.at) (Some c.in-Some.side) =
+    subst (IsSideAt (next_marks p c.args.pivot.now marks) (name_at p c.args.line.at)) c.in-Some.is (c.side_after.ensures p marks is.there is.exchange is.sized.enter_at is.sized.leave_at within line) in
+    let share : IsShareOf p marks (name_at p c.args.line.at) (name_at p c.args.pivot.now.step.enter.at) c.share_of.result = c.share_of.ensures.share p marks is.there count within line in
     elim (cases_Bool c.args.pivot.now.is_turn) [
-      | inl turn ↦ through c.is_on_side.result (c.is_on_side.ensures _ (c.sign_after.ensures.turn turn)) (up_turned p marks c.args.pivot.now c.args.at c.in-Some.side c.share_of.result is turn within inside share)
-      | inr other ↦ through c.is_on_side.result (c.is_on_side.ensures _ (c.sign_after.ensures.other other)) (up_moved p marks c.args.pivot.now c.args.at c.in-Some.side c.share_of.result is other within inside c.share_of.ensures.sized.above share)
+      | inl turn ↦ through c.is_on_side.result (c.is_on_side.ensures _ (c.sign_after.ensures.turn turn)) (up_turned p marks c.args.pivot.now c.args.line.at c.in-Some.side c.share_of.result is turn within inside share)
+      | inr other ↦ through c.is_on_side.result (c.is_on_side.ensures _ (c.sign_after.ensures.other other)) (up_moved p marks c.args.pivot.now c.args.line.at c.in-Some.side c.share_of.result is other within inside c.share_of.ensures.sized.above share)
     ]
 
 pub returns-in-None : goal.returns-in-None
 returns-in-None c = λ p marks is count within line.
-    always true refl (outside_is_up p (next_marks p c.args.pivot.now marks) (name_at p c.args.at)
-    (subst (IsSideAt (next_marks p c.args.pivot.now marks) (name_at p c.args.at)) c.in-None.is (c.side_after.ensures p marks is.there is.exchange is.sized.enter_at is.sized.leave_at within line)))
+    always true refl (outside_is_up p (next_marks p c.args.pivot.now marks) (name_at p c.args.line.at)
+    (subst (IsSideAt (next_marks p c.args.pivot.now marks) (name_at p c.args.line.at)) c.in-None.is (c.side_after.ensures p marks is.there is.exchange is.sized.enter_at is.sized.leave_at within line)))

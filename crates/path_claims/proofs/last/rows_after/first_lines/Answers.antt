@@ -24,17 +24,17 @@ loop-at-preserved c =
       count = search rules;
       sized = λ k d less.
           elim (cases_eq k c.loop-at.at) [
-            | inl e ↦ subst (IsSizedLine (length c.args.last.lines.now)) (sym (new k d e)) c.in_ok-first_line.ensures.sized
+            | inl e ↦ subst (IsSizedLine (length c.args.last.tableau.corner.lines.now)) (sym (new k d e)) c.in_ok-first_line.ensures.sized
             | inr ne ↦
                 let before : k < c.loop-at.at = omega (arith, less, ne) in
-                subst (IsSizedLine (length c.args.last.lines.now)) (sym (old k d before)) (c.loop-at.invariant.sized k d before)
+                subst (IsSizedLine (length c.args.last.tableau.corner.lines.now)) (sym (old k d before)) (c.loop-at.invariant.sized k d before)
           ];
       lines = λ k d less first p marks turn lines.
           elim (cases_eq k c.loop-at.at) [
             | inl e ↦
                 subst (IsLineAt p (next_marks p c.args.pivot.now marks) (name_at p k)) (sym (new k d e))
                 (subst (λ (i : ℕ). IsLineAt p (next_marks p c.args.pivot.now marks) (name_at p i) c.in_ok-first_line.field-0) (sym e)
-                (c.in_ok-first_line.ensures.line (subst (IsFirstAt c.args.last.outline.now.lines.items c.args.firsts) e first) p marks turn lines))
+                (c.in_ok-first_line.ensures.line (subst (IsFirstAt c.args.last.tableau.corner.outline.now.lines.items c.args.firsts) e first) p marks turn lines))
             | inr ne ↦
                 let before : k < c.loop-at.at = omega (arith, less, ne) in
                 subst (IsLineAt p (next_marks p c.args.pivot.now marks) (name_at p k)) (sym (old k d before)) (c.loop-at.invariant.lines k d before first p marks turn lines)

@@ -11,7 +11,7 @@ use Rattle.path_claims.proofs.last.rows_after.first_lines.Given as goal
 abbrev pub invariant-loop-at : goal.invariant-loop-at
 invariant-loop-at l = record {
   count : length l.next.items ≡ l.at;
-  sized : (k : ℕ) (d : Option Inside) → k < l.at → IsSizedLine (length l.last.lines.now) (get_or l.next.items k d);
-  lines : (k : ℕ) (d : Option Inside) → k < l.at → IsFirstAt l.last.outline.now.lines.items l.firsts k → (p : Problem) (marks : List Mark) → IsExchangePivot p marks l.pivot → AreLines p marks l.last.lines.now
+  sized : (k : ℕ) (d : Option Inside) → k < l.at → IsSizedLine (length l.last.tableau.corner.lines.now) (get_or l.next.items k d);
+  lines : (k : ℕ) (d : Option Inside) → k < l.at → IsFirstAt l.last.tableau.corner.outline.now.lines.items l.firsts k → (p : Problem) (marks : List Mark) → IsExchangePivot p marks l.pivot → AreLines p marks l.last.tableau.corner.lines.now
       → IsLineAt p (next_marks p l.pivot marks) (name_at p k) (get_or l.next.items k d);
 }

@@ -14,14 +14,14 @@ pub returns : goal.returns
 returns c = elim c.match-level_of_lines.branch [
   | in-Ok w ↦ rw w.result-is (λ p at level kept is. (w.in-Ok.ensures.row p at kept).fitting level is c.args.first (omega arith))
   | in-Err-Refused w ↦ rw w.result-is (λ p at level kept is.
-      let stop : IsLevelAt p w.in-Err-Refused.rows.level (number_at c.args.outline.now.levels.items c.args.place) × (w.in-Err-Refused.rows.first ≤ c.args.first) × IsFirstUnfit p at w.in-Err-Refused.rows.level w.in-Err-Refused.rows.first = subst (IsRowsStop c.args.outline.now c.args.place c.args.first c.args.lines.now) w.in-Err-Refused.field-0-is w.in-Err-Refused.ensures.unfit p at kept in
+      let stop : IsLevelAt p w.in-Err-Refused.rows.level (number_at c.args.corner.outline.now.levels.items c.args.place) × (w.in-Err-Refused.rows.first ≤ c.args.first) × IsFirstUnfit p at w.in-Err-Refused.rows.level w.in-Err-Refused.rows.first = subst (IsRowsStop c.args.corner c.args.place c.args.first) w.in-Err-Refused.field-0-is w.in-Err-Refused.ensures.unfit p at kept in
       elim (cases_eq w.in-Err-Refused.rows.first c.args.first) [
         | inl e ↦
             subst (IsFitAt p at (Rows level c.args.first)) (sym (w.stop_of.ensures.whole e))
-            (subst (IsUnfitRows p at level) e (same_rows p at level w.in-Err-Refused.rows.level (number_at c.args.outline.now.levels.items c.args.place) w.in-Err-Refused.rows.first kept.there.whole is stop.0 stop.2.unfit))
+            (subst (IsUnfitRows p at level) e (same_rows p at level w.in-Err-Refused.rows.level (number_at c.args.corner.outline.now.levels.items c.args.place) w.in-Err-Refused.rows.first kept.there.whole is stop.0 stop.2.unfit))
         | inr ne ↦
             subst (IsFitAt p at (Rows level c.args.first)) (sym (w.stop_of.ensures.part ne))
-            (part_unfit p at level w.in-Err-Refused.rows.level (number_at c.args.outline.now.levels.items c.args.place) w.in-Err-Refused.rows.first c.args.first kept.there.whole is stop.0 stop.1 ne stop.2.unfit)
+            (part_unfit p at level w.in-Err-Refused.rows.level (number_at c.args.corner.outline.now.levels.items c.args.place) w.in-Err-Refused.rows.first c.args.first kept.there.whole is stop.0 stop.1 ne stop.2.unfit)
       ])
   | in-Err-OutOfMemory w ↦ rw w.result-is tt
 ]

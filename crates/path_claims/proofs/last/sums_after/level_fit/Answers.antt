@@ -15,14 +15,14 @@ returns-in_default c = λ at is unfit.
 
 pub returns-in-Ok : goal.returns-in-Ok
 returns-in-Ok c = λ at is unfit.
-    let level : IsLevelAt c.args.p.now c.args.level (number_at c.args.last.outline.now.levels.items c.in-Some.place) = c.in-Some.ensures.found c.args.p.now is.kept.outline_is in
-    let sum : IsLevelSum c.args.p.now at (number_at c.args.last.outline.now.levels.items c.in-Some.place) c.index-levels-place.result =
-    subst (IsLevelSum c.args.p.now at (number_at c.args.last.outline.now.levels.items c.in-Some.place)) (sym c.index-levels-place.is) (is.levels.each c.in-Some.place c.index-levels-place.result c.in-Some.ensures.within) in
-    level_fits_there c.args.p.now (marks_after c.args.p.now c.args.last at) c.args.level (number_at c.args.last.outline.now.levels.items c.in-Some.place) c.in-Ok.next is.kept.there.whole level (c.in-Ok.ensures.next c.args.p.now at is.kept sum is.exchange) c.num.ensures.kept.fits unfit
+    let level : IsLevelAt c.args.p.now c.args.level (number_at c.args.last.tableau.corner.outline.now.levels.items c.in-Some.place) = c.in-Some.ensures.found c.args.p.now is.kept.outline_is in
+    let sum : IsLevelSum c.args.p.now at (number_at c.args.last.tableau.corner.outline.now.levels.items c.in-Some.place) c.index-levels-place.result =
+    subst (IsLevelSum c.args.p.now at (number_at c.args.last.tableau.corner.outline.now.levels.items c.in-Some.place)) (sym c.index-levels-place.is) (is.levels.each c.in-Some.place c.index-levels-place.result c.in-Some.ensures.within) in
+    level_fits_there c.args.p.now (marks_after c.args.p.now c.args.last at) c.args.level (number_at c.args.last.tableau.corner.outline.now.levels.items c.in-Some.place) c.in-Ok.next is.kept.there.whole level (c.in-Ok.ensures.next c.args.p.now at is.kept sum is.exchange) c.num.ensures.kept.fits unfit
 
 pub returns-in-Err-Refused : goal.returns-in-Err-Refused
 returns-in-Err-Refused c = λ at is.
-    let level : IsLevelAt c.args.p.now c.args.level (number_at c.args.last.outline.now.levels.items c.in-Some.place) = c.in-Some.ensures.found c.args.p.now is.kept.outline_is in
-    let sum : IsLevelSum c.args.p.now at (number_at c.args.last.outline.now.levels.items c.in-Some.place) c.index-levels-place.result =
-    subst (IsLevelSum c.args.p.now at (number_at c.args.last.outline.now.levels.items c.in-Some.place)) (sym c.index-levels-place.is) (is.levels.each c.in-Some.place c.index-levels-place.result c.in-Some.ensures.within) in
-    (number_at c.args.last.outline.now.levels.items c.in-Some.place, level, c.in-Err-Refused.ensures.unfit (is_refused _ _ c.in-Err-Refused.field-0-is) c.args.p.now at is.kept sum is.exchange)
+    let level : IsLevelAt c.args.p.now c.args.level (number_at c.args.last.tableau.corner.outline.now.levels.items c.in-Some.place) = c.in-Some.ensures.found c.args.p.now is.kept.outline_is in
+    let sum : IsLevelSum c.args.p.now at (number_at c.args.last.tableau.corner.outline.now.levels.items c.in-Some.place) c.index-levels-place.result =
+    subst (IsLevelSum c.args.p.now at (number_at c.args.last.tableau.corner.outline.now.levels.items c.in-Some.place)) (sym c.index-levels-place.is) (is.levels.each c.in-Some.place c.index-levels-place.result c.in-Some.ensures.within) in
+    (number_at c.args.last.tableau.corner.outline.now.levels.items c.in-Some.place, level, c.in-Err-Refused.ensures.unfit (is_refused _ _ c.in-Err-Refused.field-0-is) c.args.p.now at is.kept sum is.exchange)

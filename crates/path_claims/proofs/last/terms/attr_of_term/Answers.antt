@@ -6,7 +6,7 @@ use Rattle.path_claims.proofs.last.terms.attr_of_term.Goals as goal
 
 pub returns-in-Ok-Some-clause-attr : goal.returns-in-Ok-Some-clause-attr
 returns-in-Ok-Some-clause-attr c = λ marks turn lines.
-    (subst (IsAttrAfter c.args.p.now (next_marks c.args.p.now c.args.pivot.now marks) c.args.attr) c.in-Ok-Some.field-0-is (c.in-Ok-Some.ensures.attr marks turn lines)).0
+    (subst (IsAttrAfter c.args.case.p.now (next_marks c.args.case.p.now c.args.case.pivot.now marks) c.args.attr) c.in-Ok-Some.field-0-is (c.in-Ok-Some.ensures.attr marks turn lines)).0
 
 pub returns-in-Err-Refused-clause-stop : goal.returns-in-Err-Refused-clause-stop
 returns-in-Err-Refused-clause-stop c = λ marks turn lines attrs. (refl, c.in-Err-Refused.ensures.unfit (is_refused _ _ c.in-Err-Refused.field-0-is) marks turn lines attrs)

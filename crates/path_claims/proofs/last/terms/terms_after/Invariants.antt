@@ -10,7 +10,7 @@ use Rattle.path_claims.proofs.last.terms.terms_after.Given as goal
 
 abbrev pub invariant-loop-at : goal.invariant-loop-at
 invariant-loop-at l = record {
-  sized : IsSized (length l.lines) l.sum;
+  sized : IsSized (length l.case.lines.now) l.sum;
   kept : IsKept l.sum.value;
-  sum : (marks : List Mark) → IsExchangePivot l.p marks l.pivot → AreLines l.p marks l.lines → IsQuantitySum l.p (next_marks l.p l.pivot marks) (terms_of (take l.at l.terms)) l.sum;
+  sum : (marks : List Mark) → IsExchangePivot l.case.p.now marks l.case.pivot.now → AreLines l.case.p.now marks l.case.lines.now → IsQuantitySum l.case.p.now (next_marks l.case.p.now l.case.pivot.now marks) (terms_of (take l.at l.terms)) l.sum;
 }
