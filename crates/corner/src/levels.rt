@@ -189,7 +189,6 @@ fn has_reduced(table: &Table, l: u32, line: u32, side: Side) -> bool
 fn first_in_column(table: &Table, line: u32, side: Side) -> Option<u32>
     requires kept { IsKept (lists_of table.now) }
     requires line { IsSlotOfLine (lists_of table.now) line }
-    requires within { line < length table.now.slots.items }
     ensures some { IfSome result (IsFirstInColumn (lists_of table.now) line side) }
     ensures within { IfSome result (λ l. l < length table.now.slots.items) }
     ensures none { IfNone result (IsNoneInColumn (lists_of table.now) line side) }
@@ -206,7 +205,6 @@ fn first_in_column(table: &Table, line: u32, side: Side) -> Option<u32>
 fn first_slot(table: &Table, line: u32, side: Side) -> Option<u32>
     requires kept { IsKept (lists_of table.now) }
     requires line { IsSlotOfLine (lists_of table.now) line }
-    requires within { line < length table.now.slots.items }
     ensures some { IfSome result (IsFirstSlot (lists_of table.now) line side) }
     ensures within { IfSome result (λ l. l < length table.now.slots.items) }
     ensures none { IfNone result ((l : ℕ) → HasReducedAt (lists_of table.now) line side l → ⊥) }

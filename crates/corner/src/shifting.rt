@@ -104,7 +104,6 @@ fn grow(table: &mut Table, w: u32, by: Growth, more: Frac, what: What) -> Result
 fn home_growth(table: &Table, line: u32, side: Side) -> Growth
     requires kept { IsKept (lists_of table.now) }
     requires line { IsSlotOfLine (lists_of table.now) line }
-    requires within { line < length table.now.slots.items }
     requires inside { (tables.standing_at (lists_of table.now) line).side ≡ Some side }
     requires level { (tables.slot_at (lists_of table.now) line).home < LEVELS }
     ensures value { result ≡ shifting.home_growth (lists_of table.now) line side }
@@ -123,7 +122,6 @@ fn home_growth(table: &Table, line: u32, side: Side) -> Growth
 fn grow_home(table: &mut Table, line: u32, side: Side, more: Frac) -> Result<(), TableStop>
     requires kept { IsKept (lists_of table.old) }
     requires line { IsSlotOfLine (lists_of table.old) line }
-    requires within { line < length table.old.slots.items }
     requires inside { (tables.standing_at (lists_of table.old) line).side ≡ Some side }
     requires level { (tables.slot_at (lists_of table.old) line).home < LEVELS }
     ensures ok { OnOk result (IsGrown (lists_of table.old) (tables.slot_at (lists_of table.old) line).home
