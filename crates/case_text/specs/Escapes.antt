@@ -1,6 +1,6 @@
 -- What a text line stands for, and how bytes are written as lines.
-use Rattle.std.specs.Prelude.{ℕ, ◌+◌, ◌-◌, ◌*◌, ◌<◌, ◌%◌, ◌==◌, ◌&&◌, cond, nat_le, List, [], ◌∷◌, ◌++◌, length}
-use Rattle.std.specs.Prelude.{Option, Some, None, slice_get, codes}
+use Rattle.std.specs.Prelude.{ℕ, ◌+◌, ◌-◌, ◌*◌, ◌<◌, ◌%◌, ◌==◌, ◌&&◌, cond, nat_le, List, [], ◌∷◌, ◌++◌}
+use Rattle.std.specs.Prelude.{length, Option, Some, None, slice_get, codes}
 use Rattle.span_text.specs.Bytes.{lower_a, newline, tab}
 use Rattle.case_text.specs.declared.escapes.Before.{Before}
 use Rattle.case_text.specs.declared.escapes.Before.TheVariants as before
