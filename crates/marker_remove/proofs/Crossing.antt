@@ -206,7 +206,8 @@ at-rest y h =
       attr2 = y0;
     }
 
-nothing : (z one : ℤ) → z ≡ pos 0 → pos 0 *ℤ one ≡ z *ℤ pos 1
+-- a column that is 0 at both
+pub nothing : (z one : ℤ) → z ≡ pos 0 → pos 0 *ℤ one ≡ z *ℤ pos 1
 nothing z one e = omega (arith, ints, e)
 
 freed-apart : AllPairs (λ (m n : Mark). place m ≢ place n) freed

@@ -23,7 +23,7 @@ use Rattle.corner_laws.proofs.MarkWritings.Fits.{one_factor, whole_is_kept, diff
 use Rattle.corner_laws.proofs.Instances.PathExamples.{alone-in, no, one-value}
 use Rattle.corner_laws.proofs.RunSteps.RunPaths.{contains_in}
 use Rattle.marker_remove.specs.Freed.{DoStand, IsFreeStop}
-use Rattle.marker_remove.proofs.Crossing.{whole, whole_fits, whole_stands, whole_unfit, whole_values}
+use Rattle.marker_remove.proofs.Crossing.{nothing, whole, whole_fits, whole_stands, whole_unfit, whole_values}
 use Rattle.marker_remove.proofs.ZeroSwaps.{next_stands}
 use Rattle.marker_remove.specs.Instances.{SomeRowsCannotLeave, row_for_stay, standing, unfit_at, x_over}
 use Rattle.corner_laws.proofs.Instances.BeginExamples.{one-same}
@@ -59,9 +59,6 @@ solve : (u o p q one a : ℤ) → u ≡ pos 0 → p ≡ pos 0 → q ≡ pos 0
     → pos 1 *ℤ p +ℤ (negsuc 0 *ℤ q +ℤ (negsuc 4398046511103 *ℤ one +ℤ (pos 1 *ℤ a +ℤ pos 0))) ≡ pos 0
     → (o ≡ pos 0) × (a ≡ pos 4398046511104 *ℤ one)
 solve u o p q one a e f g h k = (omega (arith, ints, e, f, g, h, k), omega (arith, ints, f, g, k))
-
-nothing : (z one : ℤ) → z ≡ pos 0 → pos 0 *ℤ one ≡ z *ℤ pos 1
-nothing z one e = omega (arith, ints, e)
 
 bound-same : (a one : ℤ) → a ≡ pos 4398046511104 *ℤ one → pos 4398046511104 *ℤ one ≡ a *ℤ pos 1
 bound-same a one e = omega (arith, ints, e)
