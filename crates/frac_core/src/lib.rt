@@ -13,9 +13,9 @@
 //! What the type keeps (`IsKept`): the denominator is above 0, there is no common factor but 1, and both
 //! parts fit.
 //!
-//! To read: `divisor` (the greatest common divisor, exact quotients), `frac`, `order` (the order of quotients whose cross
-//! products may be too large for 128 bits), `wide` (fractions for printing, which need not fit), `text`
-//! (fractions as text), `memory` (want of memory as an error of its own, for all crates).
+//! To read: `divisor` (the greatest common divisor, exact quotients), `frac`, `order` (the order of quotients
+//! whose cross products may be too large for 128 bits), `wide` (fractions for printing, which need not fit),
+//! `text` (fractions as text), `memory` (want of memory as an error of its own, for all crates).
 #![tactic(auto)]
 
 mod divisor;
