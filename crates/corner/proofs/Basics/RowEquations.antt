@@ -12,8 +12,7 @@ use Rattle.frac_core.specs.Fraction.{IsFitting}
 use Rattle.frac_core.proofs.Integers.{mul-zero_ℤ, neg-neg, positive_from, sign_cases, zero_from_mul}
 use Rattle.row_core.specs.Rows.{Term, coefficient, DividesAll, IsLowestRow, IsReduced, IsRising, IsUnfit}
 use Rattle.frac_core.specs.declared.frac.TheConstants.{PART_BOUND}
-use Rattle.row_core.proofs.Sums.{at}
-use Rattle.row_core.proofs.Places.{absent, at-elsewhere, at-here, coefficient_at, of_coefficients}
+use Rattle.row_core.proofs.Places.{absent, at-elsewhere, at-here, coefficient_at, number_of, of_coefficients}
 use Rattle.problem_core.specs.declared.parts.RowName.{RowName}
 use Rattle.problem_core.specs.declared.parts.Rel.TheVariants.{Eq}
 use Rattle.problem_core.specs.Layout.{Line, lines}
@@ -159,14 +158,14 @@ from-coefficient f c (suc m) d le less =
           let rest : coefficient d (row_from f (c + 1) m) ≡ pos 0 = from-above f (c + 1) m d (omega (arith, same)) in
           kept-or (λ ts. coefficient d ts ≡ f d) (f c) (record { col = c; by = f c }) (row_from f (c + 1) m) (λ e. rest ∙ sym e ∙ ap f same)
           (λ e.
-          let first : at d (record { col = c; by = f c }) ≡ f c = at-here d (record { col = c; by = f c }) same in
+          let first : number_of d (record { col = c; by = f c }) ≡ f c = at-here d (record { col = c; by = f c }) same in
           let same_f : f c ≡ f d = ap f same in
           omega (arith, ints, first, rest, same_f))
       | inr (inl below) ↦
           let rest : coefficient d (row_from f (c + 1) m) ≡ f d = from-coefficient f (c + 1) m d (omega (arith, below)) (omega (arith, less)) in
           kept-or (λ ts. coefficient d ts ≡ f d) (f c) (record { col = c; by = f c }) (row_from f (c + 1) m) (λ e. rest)
           (λ e.
-          let first : at d (record { col = c; by = f c }) ≡ pos 0 = at-elsewhere d (record { col = c; by = f c }) (omega (arith, below)) in
+          let first : number_of d (record { col = c; by = f c }) ≡ pos 0 = at-elsewhere d (record { col = c; by = f c }) (omega (arith, below)) in
           omega (arith, ints, first, rest))
       | inr (inr above) ↦ absurd (omega (arith, above, le))
     ]
@@ -177,7 +176,7 @@ from-past f c (suc m) d le =
     let rest : coefficient d (row_from f (c + 1) m) ≡ pos 0 = from-past f (c + 1) m d (omega (arith, le)) in
     kept-or (λ ts. coefficient d ts ≡ pos 0) (f c) (record { col = c; by = f c }) (row_from f (c + 1) m) (λ e. rest)
     (λ e.
-    let first : at d (record { col = c; by = f c }) ≡ pos 0 = at-elsewhere d (record { col = c; by = f c }) (omega (arith, le)) in
+    let first : number_of d (record { col = c; by = f c }) ≡ pos 0 = at-elsewhere d (record { col = c; by = f c }) (omega (arith, le)) in
     omega (arith, ints, first, rest))
 
 -- ---- numbers that do not fit
