@@ -23,9 +23,9 @@ use crate::slots::{
     cost_share, is_level, is_stay, level_of, level_slot, line_slot, own_of, own_of_level,
     priority_at, priority_level, side_at, slot_at, unit_of, value_at,
 };
-use crate::table::{LEVELS, Slot, Standing, Table};
+use crate::table::{LEVELS, Slot, Table};
 use frac_core::{Frac, OutOfMemory};
-use problem_core::{Level, Mark, RowName, Side};
+use problem_core::{Level, Mark, Side};
 
 /// The first level at which a mark's reduced cost is not 0, and this cost.
 #[derive(Clone, Copy, Debug, PartialEq, Eq)]

@@ -8,7 +8,7 @@ ghost use Rattle.dual_run.specs.Leaving.{AreLowLines, HasNoLow, IsLow, ListsSwap
 use corner::Corner;
 use corner_ends::is_below;
 use frac_core::OutOfMemory;
-use problem_core::{Mark, RowName, Side, What};
+use problem_core::{Mark, RowName, Side};
 
 /// The same line's mark on the other side.
 pub(crate) fn other(mark: Mark) -> Mark

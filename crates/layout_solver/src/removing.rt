@@ -19,7 +19,7 @@ use corner::Corner;
 use frac_core::{OutOfMemory, Stop};
 use marker_remove::free_row;
 use primal_run::settle;
-use problem_core::{Mark, RowName, TableStop};
+use problem_core::{Mark, RowName};
 use std::alloc::Global;
 use thiserror::Error;
 

@@ -15,7 +15,7 @@ use cert_core::{Path, RunStop, UnfitPath};
 use corner::Corner;
 use dual_run::{restore, shift};
 use frac_core::{Frac, OutOfMemory, Stop};
-use problem_core::{Quantity, Row, RowName, TableStop};
+use problem_core::{Quantity, Row, RowName};
 use std::alloc::Global;
 
 // The constant of a row.

@@ -14,7 +14,7 @@ use cert_core::{Path, RunStop, Swap, UnfitPath};
 use corner::Corner;
 use corner_ends::first_marks;
 use frac_core::{OutOfMemory, Stop};
-use problem_core::{Mark, Quantity, RowName, Side, TableStop};
+use problem_core::{Mark, Quantity, RowName, Side};
 use std::alloc::Global;
 
 // The row's mark on a side.

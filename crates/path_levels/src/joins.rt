@@ -1,6 +1,6 @@
 // A line that joins the row of its level.
 ghost use Rattle.std.specs.Prelude.{◌≡◌, ◌*◌, ◌/◌, ◌<◌, ◌≤◌, ◌^◌, pos, ◌*ℤ◌, ◌<ℤ◌, ◌≤ℤ◌};
-ghost use Rattle.std.specs.Prelude.{◌+ℤ◌, ◌-ℤ◌, ◌↔◌, All, IsTrue, unsigned_abs, length, IfOk, IfErr};
+ghost use Rattle.std.specs.Prelude.{◌+ℤ◌, ◌-ℤ◌, ◌↔◌, IsTrue, unsigned_abs, length, IfOk, IfErr};
 ghost use Rattle.frac_core.specs.Stops.{IsRefused};
 ghost use Rattle.frac_core.specs.Fraction.{IsFitting};
 ghost use Rattle.path_checker.specs.Numbers.{IsCombined, IsFactor};

@@ -1,5 +1,5 @@
 // The rows of levels, line by line.
-ghost use Rattle.std.specs.Prelude.{◌≡◌, ◌<◌, ◌≤◌, length, List, IfOk, IfErr};
+ghost use Rattle.std.specs.Prelude.{◌≡◌, ◌<◌, length, IfOk, IfErr};
 ghost use Rattle.problem_core.specs.Layout.{Problem};
 ghost use Rattle.path_levels.specs.Corners.{IsSizedCorner};
 ghost use Rattle.path_levels.specs.Levels.{AreLevels, AreSizedLevels, IsSizedLevel};

@@ -1,5 +1,5 @@
 // The lines of rows and stays as text.
-ghost use Rattle.std.specs.Prelude.{◌≡◌, ◌++◌, ◌∷◌, [], IfOk, map};
+ghost use Rattle.std.specs.Prelude.{◌++◌, ◌∷◌, [], IfOk, map};
 ghost use Rattle.frac_core.specs.Text.{fraction_text};
 ghost use Rattle.span_text.specs.Bytes.{newline, space};
 ghost use Rattle.claim_text.specs.Texts.{Adds};
