@@ -48,7 +48,6 @@ pub returns-in_ok-count-in-Err-clause-refused : goal.returns-in_ok-count-in-Err-
 returns-in_ok-count-in-Err-clause-refused c =
     let may : MayStopFormat c.args.self.now.scene.tree.views c.args.self.now.scene.metrics (meaning c.args.format.now) c.args.align c.args.self.now.scene.next_row c.in-Err.stop =
     subst (λ (s : State). MayStopFormat s.scene.tree.views s.scene.metrics (meaning c.args.format.now) c.args.align s.scene.next_row c.in-Err.stop) c.self.view_is (rw (c.tree-tree.ensures, c.metrics-metrics.ensures, c.next_row.ensures.value) at c.in-Err.ensures.stop) in
-    let count : c.in_ok-count-in-Err.count ≡ row_count c.args.self.now.scene.tree.views (parts (meaning c.args.format.now) c.args.align) =
-    subst (λ (s : State). c.in_ok-count-in-Err.count ≡ row_count s.scene.tree.views (parts (meaning c.args.format.now) c.args.align)) c.self.view_is (rw c.tree-tree.ensures at c.in_ok-count-in-Err.ensures) in
+    let count : c.in_ok-count-in-Err.count ≡ row_count c.args.self.now.scene.tree.views (parts (meaning c.args.format.now) c.args.align) = c.in_ok-count-in-Err.ensures c.args.self.now.scene.tree.views in
     refuses (λ (reply : Reply). StopStep c.args.self.now c.args.group.now c.in_ok-count-in-Err.count c.in-Err.stop reply c.args.self.now) (λ (reply : Reply). TriedFormat c.args.self.now c.args.group.now c.args.align (meaning c.args.format.now) NoEnd reply c.args.self.now) c.line_refusal.result
     (λ reply step. format-stopped c.args.self.now c.args.group.now c.args.align (meaning c.args.format.now) NoEnd c.in_ok-count-in-Err.count c.in-Err.stop reply c.args.self.now count may step) c.line_refusal.ensures
