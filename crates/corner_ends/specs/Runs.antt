@@ -6,12 +6,18 @@ use Rattle.problem_core.specs.Corners.{NoNegativeColumn, NoNegativeValue, SameMa
 use Rattle.problem_core.specs.Levels.{CostsAbove}
 use Rattle.problem_core.specs.Changes.Paths.{IsPath, last_marks}
 use Rattle.cert_core.specs.Paths.{Path}
+use Rattle.corner.specs.Views.{CornerView}
 
 -- no value is negative, no column is, and the required rows cost nothing
 pub record IsBestEnd (p : Problem) (at : List Mark) : Type 0 where
   pub values : NoNegativeValue p at
   pub columns : NoNegativeColumn p at
   pub required : CostsAbove p at 0 → ⊥
+
+-- the values are best at the corner, and no line is listed
+pub record HasEnded (c : CornerView) : Type 0 where
+  pub end : IsBestEnd c.problem c.marks
+  pub listed : c.candidates ≡ []
 
 -- a run begins at the corner that was there, and no row is still to join
 abbrev pub FromHere : List Mark → List Row → List Mark → Type 0
@@ -25,3 +31,7 @@ pub record IsRun (dual : Bool) (p : Problem) (Begins : List Mark → Type 0) (bu
   pub lawful : IsPath dual p path.corner path.swaps
   pub ends : SameMarks (last_marks path.corner path.swaps) last
   pub few : length path.swaps ≤ budget
+
+-- such a path leads from these marks to those
+abbrev pub HasRun : Bool → Problem → List Mark → ℕ → List Mark → Type 0
+HasRun dual p first budget last = (path : Path) × IsRun dual p (λ at. at ≡ first) budget last path

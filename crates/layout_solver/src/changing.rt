@@ -6,7 +6,7 @@ ghost use Rattle.problem_core.specs.Corners.{NoNegativeValue};
 ghost use Rattle.cert_core.specs.Stops.{IsStopOf};
 ghost use Rattle.corner_laws.specs.Lifts.{with_rows as with_more};
 ghost use Rattle.corner.specs.Changes.{FromAdded};
-ghost use Rattle.corner_ends.specs.Runs.{IsBestEnd};
+ghost use Rattle.corner_ends.specs.Runs.{HasEnded};
 ghost use Rattle.layout_solver.specs.Layouts.{stays_at, zeros};
 ghost use Rattle.layout_solver.specs.Starts.{CanTake, HasAdded, IsMoved, attrs_of};
 
@@ -42,8 +42,7 @@ fn join(alloc: Global, c: &mut Corner, rows: &[Row], budget: u64) -> Result<(), 
     requires values { NoNegativeValue c.old.problem c.old.marks }
     ensures problem { IfOk result (λ _. c.new.problem ≡ with_more rows.now c.old.problem) }
     ensures before { c.new.before ≡ c.old.before }
-    ensures end { IfOk result (λ _. IsBestEnd c.new.problem c.new.marks) }
-    ensures listed { IfOk result (λ _. c.new.candidates ≡ []) }
+    ensures end { IfOk result (λ _. HasEnded c.new) }
     ensures path { IfOk result
         (λ _. HasAdded (with_more rows.now c.old.problem) c.old.marks rows.now budget c.new.marks) }
     ensures stop { IfErr result (IsStopOf false (with_more rows.now c.old.problem) c.old.problem.rows
@@ -84,8 +83,7 @@ pub(crate) fn extend(
     ensures before { c.new.before ≡ c.old.before }
     ensures problem { IfOk result
         (λ _. IsMoved c.old attrs.now (c.old.problem.rows ++ rows.now) c.new.problem) }
-    ensures end { IfOk result (λ _. IsBestEnd c.new.problem c.new.marks) }
-    ensures listed { IfOk result (λ _. c.new.candidates ≡ []) }
+    ensures end { IfOk result (λ _. HasEnded c.new) }
     ensures path { IfOk result (λ _. (p : layout.Problem)
         → IsMoved c.old attrs.now (c.old.problem.rows ++ rows.now) p
         → HasAdded p c.old.marks rows.now budget c.new.marks) }

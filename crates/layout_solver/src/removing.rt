@@ -6,8 +6,7 @@ ghost use Rattle.problem_core.specs.Layout.{HasStay};
 ghost use Rattle.problem_core.specs.Changes.Begins.{without_marks};
 ghost use Rattle.problem_core.specs.Corners.{NoNegativeValue};
 ghost use Rattle.problem_core.specs.declared.parts.Mark.{Mark as MarkOfLine};
-ghost use Rattle.cert_core.specs.Paths as paths;
-ghost use Rattle.corner_ends.specs.Runs.{IsBestEnd, IsRun};
+ghost use Rattle.corner_ends.specs.Runs.{HasEnded, HasRun};
 ghost use Rattle.marker_remove.specs.Freed.{DoStand, HasMarkIn};
 ghost use Rattle.layout_solver.specs.Removals.{AfterFreed, AfterGone, CanLeave, HasRemoved, HaveGone};
 ghost use Rattle.layout_solver.specs.Removals.{IsEndStop, IsRemoveStop, IsStillStop, IsUnfitOf};
@@ -193,10 +192,8 @@ fn settle_left(alloc: Global, c: &mut Corner, budget: u64) -> Result<(), RemoveS
     requires satisfied { (x : layout.Assignment) × layout.Satisfies c.old.problem x }
     ensures problem { IfOk result (λ _. c.new.problem ≡ c.old.problem) }
     ensures before { c.new.before ≡ c.old.before }
-    ensures end { IfOk result (λ _. IsBestEnd c.new.problem c.new.marks) }
-    ensures listed { IfOk result (λ _. c.new.candidates ≡ []) }
-    ensures path { IfOk result (λ _. (path : paths.Path)
-        × IsRun false c.old.problem (λ at. at ≡ c.old.marks) budget c.new.marks path) }
+    ensures end { IfOk result (λ _. HasEnded c.new) }
+    ensures path { IfOk result (λ _. HasRun false c.old.problem c.old.marks budget c.new.marks) }
     ensures stop { IfErr result (IsEndStop c.old.problem c.old.marks budget) }
 {
     c.show_corner(); // for the proof: what a corner keeps
@@ -222,8 +219,7 @@ fn leave_attrs(alloc: Global, c: &mut Corner, attrs: &[u32], budget: u64) -> Res
     requires satisfied { (x : layout.Assignment) × layout.Satisfies c.old.problem x }
     ensures before { c.new.before ≡ c.old.before }
     ensures problem { IfOk result (λ _. c.new.problem ≡ without_attrs attrs.now c.old.problem) }
-    ensures end { IfOk result (λ _. IsBestEnd c.new.problem c.new.marks) }
-    ensures listed { IfOk result (λ _. c.new.candidates ≡ []) }
+    ensures end { IfOk result (λ _. HasEnded c.new) }
     ensures path { IfOk result (λ _. (p : layout.Problem) (kept : List MarkOfLine) (rows : List ℕ)
         → HaveGone p kept rows rows c.old
         → HasRemoved p kept (record { rows = rows; attrs = attrs.now }) budget c.new.marks) }
@@ -253,8 +249,7 @@ fn take_out(
     ensures before { c.new.before ≡ c.old.before }
     ensures problem { IfOk result
         (λ _. c.new.problem ≡ without (record { rows = rows.now; attrs = attrs.now }) c.old.problem) }
-    ensures end { IfOk result (λ _. IsBestEnd c.new.problem c.new.marks) }
-    ensures listed { IfOk result (λ _. c.new.candidates ≡ []) }
+    ensures end { IfOk result (λ _. HasEnded c.new) }
     ensures path { IfOk result (λ _. HasRemoved c.old.problem c.old.marks
         (record { rows = rows.now; attrs = attrs.now }) budget c.new.marks) }
     ensures stop { IfErr result (IsRemoveStop c.old.problem c.old.marks
@@ -277,8 +272,7 @@ pub(crate) fn shrink(
     requires leave { CanLeave (record { rows = rows.now; attrs = attrs.now }) c.old.problem }
     requires satisfied { (x : layout.Assignment) × layout.Satisfies c.old.problem x }
     ensures before { c.new.before ≡ c.old.before }
-    ensures end { IfOk result (λ _. IsBestEnd c.new.problem c.new.marks) }
-    ensures listed { IfOk result (λ _. c.new.candidates ≡ []) }
+    ensures end { IfOk result (λ _. HasEnded c.new) }
     ensures problem { IfOk result (λ _. (p : layout.Problem) → IsMoved c.old [] c.old.problem.rows p
         → c.new.problem ≡ without (record { rows = rows.now; attrs = attrs.now }) p) }
     ensures path { IfOk result (λ _. (p : layout.Problem) → IsMoved c.old [] c.old.problem.rows p

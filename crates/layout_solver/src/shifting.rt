@@ -4,7 +4,7 @@ ghost use Rattle.problem_core.specs.Layout as layout;
 ghost use Rattle.problem_core.specs.Corners.{NoNegativeColumn, NoNegativeValue};
 ghost use Rattle.cert_core.specs.Paths as paths;
 ghost use Rattle.cert_core.specs.Stops.{IsPlain, IsStopOf};
-ghost use Rattle.corner_ends.specs.Runs.{FromHere, IsBestEnd, IsRun};
+ghost use Rattle.corner_ends.specs.Runs.{FromHere, HasEnded, IsRun};
 ghost use Rattle.dual_run.specs.Leaving.{AreLowLines};
 ghost use Rattle.layout_solver.specs.Shifts.{AreKept, CanShift, IsAtMark, IsShiftsStop, shifted};
 ghost use Rattle.layout_solver.specs.Shifts.{with_constants};
@@ -113,8 +113,7 @@ pub(crate) fn alter(
     ensures before { c.new.before ≡ c.old.before }
     ensures problem { IfOk result
         (λ _. IsMoved c.old [] (shifted to.now c.old.problem.rows) c.new.problem) }
-    ensures end { IfOk result (λ _. IsBestEnd c.new.problem c.new.marks) }
-    ensures listed { IfOk result (λ _. c.new.candidates ≡ []) }
+    ensures end { IfOk result (λ _. HasEnded c.new) }
     ensures path { IfOk result (λ _. (p : layout.Problem)
         → IsMoved c.old [] (shifted to.now c.old.problem.rows) p
         → (path : paths.Path) × IsRun true p (FromHere c.old.marks []) budget c.new.marks path) }

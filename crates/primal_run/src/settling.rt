@@ -3,10 +3,9 @@ ghost use Rattle.std.specs.Prelude.{◌≡◌, ◌<◌, [], length, false, IfOk,
 ghost use Rattle.std.specs.Prelude.{IfSome, IfNone, None};
 ghost use Rattle.problem_core.specs.Corners.{NoNegativeColumn, NoNegativeValue};
 ghost use Rattle.problem_core.specs.Levels.{CostsAbove};
-ghost use Rattle.cert_core.specs.Paths as paths;
 ghost use Rattle.cert_core.specs.Stops.{IsStopOf};
 ghost use Rattle.corner_ends.specs.Columns.{IsNegative};
-ghost use Rattle.corner_ends.specs.Runs.{FromHere, IsBestEnd, IsRun};
+ghost use Rattle.corner_ends.specs.Runs.{FromHere, HasEnded, HasRun};
 ghost use Rattle.corner_ends.specs.Shares.{IsConflictStop};
 ghost use Rattle.primal_run.specs.Entering.{IsChoice, MayEnter};
 
@@ -76,10 +75,8 @@ fn run_on(alloc: Global, c: &mut Corner, budget: u64, first: Mark) -> Result<(),
     requires first { MayEnter c.old.problem c.old.marks first }
     ensures problem { IfOk result (λ _. c.new.problem ≡ c.old.problem) }
     ensures before { c.new.before ≡ c.old.before }
-    ensures end { IfOk result (λ _. IsBestEnd c.new.problem c.new.marks) }
-    ensures listed { IfOk result (λ _. c.new.candidates ≡ []) }
-    ensures path { IfOk result (λ _. (path : paths.Path)
-        × IsRun false c.old.problem (λ at. at ≡ c.old.marks) budget c.new.marks path) }
+    ensures end { IfOk result (λ _. HasEnded c.new) }
+    ensures path { IfOk result (λ _. HasRun false c.old.problem c.old.marks budget c.new.marks) }
     ensures stop { IfErr result
         (IsStopOf false c.old.problem c.old.problem.rows (FromHere c.old.marks) budget) }
 {
@@ -109,10 +106,8 @@ pub fn settle(alloc: Global, c: &mut Corner, budget: u64) -> Result<(), RunStop>
     requires values { NoNegativeValue c.old.problem c.old.marks }
     ensures problem { IfOk result (λ _. c.new.problem ≡ c.old.problem) }
     ensures before { c.new.before ≡ c.old.before }
-    ensures end { IfOk result (λ _. IsBestEnd c.new.problem c.new.marks) }
-    ensures listed { IfOk result (λ _. c.new.candidates ≡ []) }
-    ensures path { IfOk result (λ _. (path : paths.Path)
-        × IsRun false c.old.problem (λ at. at ≡ c.old.marks) budget c.new.marks path) }
+    ensures end { IfOk result (λ _. HasEnded c.new) }
+    ensures path { IfOk result (λ _. HasRun false c.old.problem c.old.marks budget c.new.marks) }
     ensures stop { IfErr result
         (IsStopOf false c.old.problem c.old.problem.rows (FromHere c.old.marks) budget) }
 {

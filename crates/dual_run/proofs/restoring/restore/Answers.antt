@@ -22,10 +22,11 @@ unlist_all-requires c = run_sound true c.loop-low.c.problem c.args.c.now.marks c
 
 pub returns-in-None-clause-end : goal.returns-in-None-clause-end
 returns-in-None-clause-end c =
-    best_end c.loop-low.c.problem c.unlist_all.new.c.problem c.loop-low.c.marks c.unlist_all.new.c.marks (ap (λ (s : Scene). s.problem) c.unlist_all.ensures.scene) (ap (λ (s : Scene). s.marks) c.unlist_all.ensures.scene)
+    let end = best_end c.loop-low.c.problem c.unlist_all.new.c.problem c.loop-low.c.marks c.unlist_all.new.c.marks (ap (λ (s : Scene). s.problem) c.unlist_all.ensures.scene) (ap (λ (s : Scene). s.marks) c.unlist_all.ensures.scene)
     (none_here c.in_ok-found.found c.in_ok-found.found (NoNegativeValue c.loop-low.c.problem c.loop-low.c.marks) (NoNegativeValue c.loop-low.c.problem c.loop-low.c.marks) c.in_ok-found.ensures.values c.in-None.is)
     (run_sound true c.loop-low.c.problem c.args.c.now.marks c.loop-low.c.marks c.loop-low.trail.swaps c.loop-low.invariant.trail.swapped)
-    (none_here c.in_ok-found.found c.in_ok-found.found (CostsAbove c.loop-low.c.problem c.loop-low.c.marks 0 → ⊥) (CostsAbove c.loop-low.c.problem c.loop-low.c.marks 0 → ⊥) c.in_ok-found.ensures.costs c.in-None.is)
+    (none_here c.in_ok-found.found c.in_ok-found.found (CostsAbove c.loop-low.c.problem c.loop-low.c.marks 0 → ⊥) (CostsAbove c.loop-low.c.problem c.loop-low.c.marks 0 → ⊥) c.in_ok-found.ensures.costs c.in-None.is) in
+    record { end = end; listed = c.unlist_all.ensures.listed }
 
 pub returns-in-None-clause-path : goal.returns-in-None-clause-path
 returns-in-None-clause-path c =

@@ -12,5 +12,5 @@ pub returns-clause-value : goal.returns-clause-value
 returns-clause-value c = λ p moved.
     subst (λ (q : Problem). IsBestValue q c.args.attr c.attr_value.result)
     (one_problem c.args.c.now [] (c.args.c.now.problem.rows ++ c.args.rows.now) c.extend.new.c.problem p c.show_corner.ensures.kept.corner c.in_ok-extend.ensures.problem moved)
-    (best_value c.extend.new.c.problem c.extend.new.c.marks c.args.attr c.attr_value.result c.show_corner-2.ensures.kept.whole c.show_corner-2.ensures.kept.corner c.in_ok-extend.ensures.end
+    (best_value c.extend.new.c.problem c.extend.new.c.marks c.args.attr c.attr_value.result c.show_corner-2.ensures.kept.whole c.show_corner-2.ensures.kept.corner c.in_ok-extend.ensures.end.end
     (moved_stay c.args.c.now (c.args.c.now.problem.rows ++ c.args.rows.now) c.extend.new.c.problem c.args.attr c.in_ok-extend.ensures.problem c.requires.attr) c.attr_value.ensures)

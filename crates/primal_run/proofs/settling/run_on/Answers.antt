@@ -1,4 +1,4 @@
-use Rattle.std.proofs.Common.{rules, false, ◌≡◌, ◌∙◌, ◌<◌, ℕ, length, arith, refl, subst}
+use Rattle.std.proofs.Common.{rules, false, ◌≡◌, ◌∙◌, ◌<◌, ℕ, length, arith, refl, subst, []}
 use Rattle.std.proofs.lemmas.Result.{err_from_is_err_and}
 use Rattle.problem_core.specs.Corners.{NoNegativeColumn}
 use Rattle.problem_core.specs.Levels.{CostsAbove}
@@ -31,9 +31,10 @@ returns-in_err-exchange-clause-stop c =
 pub returns-in-None-clause-end : goal.returns-in-None-clause-end
 returns-in-None-clause-end c =
     let run = c.in_ok-exchange.ensures.trail c.args.c.now.marks c.loop-alloc.invariant.trail in
-    best_end c.exchange.new.c.problem c.entering.new.c.problem c.exchange.new.c.marks c.entering.new.c.marks c.entering.ensures.problem c.entering.ensures.marks
+    let end = best_end c.exchange.new.c.problem c.entering.new.c.problem c.exchange.new.c.marks c.entering.new.c.marks c.entering.ensures.problem c.entering.ensures.marks
     (run_sound false c.exchange.new.c.problem c.args.c.now.marks c.exchange.new.c.marks c.exchange.new.trail.swaps run.swapped) (none_here c.in_ok-found.found c.in_ok-found.found (NoNegativeColumn c.exchange.new.c.problem c.exchange.new.c.marks) (NoNegativeColumn c.exchange.new.c.problem c.exchange.new.c.marks) c.in_ok-found.ensures.columns c.in-None.is)
-    (none_here c.in_ok-found.found c.in_ok-found.found (CostsAbove c.exchange.new.c.problem c.exchange.new.c.marks 0 → ⊥) (CostsAbove c.exchange.new.c.problem c.exchange.new.c.marks 0 → ⊥) c.in_ok-found.ensures.costs c.in-None.is)
+    (none_here c.in_ok-found.found c.in_ok-found.found (CostsAbove c.exchange.new.c.problem c.exchange.new.c.marks 0 → ⊥) (CostsAbove c.exchange.new.c.problem c.exchange.new.c.marks 0 → ⊥) c.in_ok-found.ensures.costs c.in-None.is) in
+    record { end = end; listed = none_here c.in_ok-found.found c.in_ok-found.found (c.entering.new.c.candidates ≡ []) (c.entering.new.c.candidates ≡ []) c.in_ok-found.ensures.listed c.in-None.is }
 
 pub returns-in-None-clause-path : goal.returns-in-None-clause-path
 returns-in-None-clause-path c =

@@ -13,9 +13,10 @@ use Rattle.primal_run.proofs.settling.settle.Goals as goal
 
 pub returns-in-None-clause-end : goal.returns-in-None-clause-end
 returns-in-None-clause-end c =
-    best_end c.args.c.now.problem c.entering.new.c.problem c.args.c.now.marks c.entering.new.c.marks c.entering.ensures.problem c.entering.ensures.marks c.requires.values
+    let end = best_end c.args.c.now.problem c.entering.new.c.problem c.args.c.now.marks c.entering.new.c.marks c.entering.ensures.problem c.entering.ensures.marks c.requires.values
     (none_here c.in_ok-found.found c.in_ok-found.found (NoNegativeColumn c.args.c.now.problem c.args.c.now.marks) (NoNegativeColumn c.args.c.now.problem c.args.c.now.marks) c.in_ok-found.ensures.columns c.in-None.is)
-    (none_here c.in_ok-found.found c.in_ok-found.found (CostsAbove c.args.c.now.problem c.args.c.now.marks 0 → ⊥) (CostsAbove c.args.c.now.problem c.args.c.now.marks 0 → ⊥) c.in_ok-found.ensures.costs c.in-None.is)
+    (none_here c.in_ok-found.found c.in_ok-found.found (CostsAbove c.args.c.now.problem c.args.c.now.marks 0 → ⊥) (CostsAbove c.args.c.now.problem c.args.c.now.marks 0 → ⊥) c.in_ok-found.ensures.costs c.in-None.is) in
+    record { end = end; listed = none_here c.in_ok-found.found c.in_ok-found.found (c.entering.new.c.candidates ≡ []) (c.entering.new.c.candidates ≡ []) c.in_ok-found.ensures.listed c.in-None.is }
 
 pub returns-in-None-clause-path : goal.returns-in-None-clause-path
 returns-in-None-clause-path c =

@@ -39,7 +39,7 @@ invariant_of-self c =
     (record { solved = c.self.invariant; view = c.self.view_is; scene = c.mark.ensures.scene; before = c.mark.ensures.before; room = c.requires.room }) c.alter-result.new.c c.in-Ok.ensures.before [] (shifted c.args.to.now c.mark.new.self.problem.rows) _ _
     (shifted_rising c.self.inside.corner c.mark.new.self c.self.inside.values.0 c.self.inside.earlier c.args.self.now
     (record { solved = c.self.invariant; view = c.self.view_is; scene = c.mark.ensures.scene; before = c.mark.ensures.before; room = c.requires.room }))
-    c.in-Ok.ensures.problem c.in-Ok.ensures.end c.in-Ok.ensures.listed c.show_corner.ensures.kept (search rules)
+    c.in-Ok.ensures.problem c.in-Ok.ensures.end.end c.in-Ok.ensures.end.listed c.show_corner.ensures.kept (search rules)
 
 pub invariant_of-self-inside-in-Err : goal.invariant_of-self-inside-in-Err
 invariant_of-self-inside-in-Err c = (
