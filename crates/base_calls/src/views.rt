@@ -24,7 +24,9 @@ fn put_added(out: &mut String, tree: &mut Tree, words: &str) -> Result<(), OutOf
 fn one_metric(alloc: Global) -> Result<Metrics, OutOfMemory> {
     let mut metrics = Metrics::new(alloc)?;
     if let Ok(eight) = Frac::of(8, 1) {
-        metrics.define("gap", eight).map_err(|_| OutOfMemory)?;
+        let Ok(()) = metrics.define("gap", eight) else {
+            return Err(OutOfMemory);
+        };
     }
     Ok(metrics)
 }

@@ -76,13 +76,13 @@ impl Model for Best {
 
 impl Best {
     /// The certificate with no level.
-    pub fn new(alloc: Global) -> Result<Best, OutOfMemory>
-        ensures { IfOk result (λ b. b ≡ []) }
+    pub fn new(alloc: Global) -> Best
+        ensures { result ≡ [] }
     {
-        Ok(Best {
+        Best {
             levels: Vec::new(alloc),
             alloc,
-        })
+        }
     }
 
     /// Puts a level at the end, one that is not there yet, whose scale and multipliers fit and whose

@@ -45,7 +45,7 @@ pub fn certificate(alloc: Global, c: &Corner) -> Result<Best, OutOfMemory>
 {
     c.show_corner(); // for the proof: what a corner keeps
     let levels = c.levels()?;
-    let mut best = Best::new(alloc)?;
+    let mut best = Best::new(alloc);
     for level in levels.iter() {
         push_level(alloc, &mut best, c, *level)?;
     }

@@ -3,7 +3,7 @@ use crate::formats::put_written;
 use case_text::put_text;
 use frac_core::{Frac, OutOfMemory, Stop};
 use script_text::{Align, AttrWord, Command, ExprTerm, Linear, Operand, read_line};
-use span_text::{Object, SyntaxAt};
+use span_text::{Object, SyntaxAt, UNIT};
 use std::alloc::Global;
 
 fn align_name(align: Align) -> &'static str {
@@ -47,7 +47,7 @@ fn put_priority(out: &mut String, priority: Option<Object<'_>>) -> Result<(), Ou
     match priority {
         None => Ok(()),
         Some(Object::Name { text }) => Ok(write!(out, " @ {text}")?),
-        Some(Object::Number { thousandths }) => Ok(write!(out, " @ {thousandths}/1000")?),
+        Some(Object::Number { thousandths }) => Ok(write!(out, " @ {thousandths}/{UNIT}")?),
     }
 }
 

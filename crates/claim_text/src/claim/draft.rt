@@ -118,7 +118,7 @@ fn best_of(alloc: Global, levels: &[EndedLevel]) -> Result<Best, OutOfMemory>
     requires { AreLevels levels.now }
     ensures { IfOk result (λ b. b ≡ levels.now) }
 {
-    let mut best = Best::new(alloc)?;
+    let mut best = Best::new(alloc);
     for ended in levels {
         best.push(ended.level(), ended.scale(), ended.by())?;
     }
