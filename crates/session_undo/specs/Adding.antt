@@ -14,8 +14,8 @@ use Rattle.frac_core.specs.Fraction.{Fraction}
 use Rattle.problem_core.specs.Kept.{IsRow}
 use Rattle.problem_core.specs.Layout.{Row}
 use Rattle.constraint_compile.specs.Meaning.{MetricList, IsRowRank, IsRank, unknown_object}
-use Rattle.constraint_compile.specs.Compiled.{CompiledLine, AreRowsNow, IsFittingSum}
-use Rattle.constraint_compile.specs.Fractions.{plus, negated, IsConstant, IsSmallConstant}
+use Rattle.constraint_compile.specs.Compiled.{CompiledLine, AreRowsNow}
+use Rattle.constraint_compile.specs.Fractions.{negated, IsConstant, IsSmallConstant}
 use Rattle.constraint_compile.specs.Suggestions.{scale_of, suggested_priority}
 use Rattle.constraint_compile.specs.declared.suggestion.Suggestion.{Suggestion}
 use Rattle.name_tables.specs.declared.stops.TheConstants.{NAME_LIMIT}
@@ -48,7 +48,8 @@ use Rattle.session_undo.specs.Replies.{Reply, Unknown, Limit, Kind, place_of}
 use Rattle.session_undo.specs.Scene.{Scene, State, moved, new_stays_from, metrics_with}
 use Rattle.session_undo.specs.Machine.{CannotLeave, still_place, IsStopped, Unless, Keeps, IsCrowded}
 use Rattle.session_undo.specs.Machine.{HasAllLines, IsTaken, IsDeep}
-use Rattle.session_undo.specs.Machine.{AreTooMany, HasAllViews, IsFarSize, Suggests, UnlessRankless}
+use Rattle.session_undo.specs.Machine.{AreTooMany, FitsAfter, HasAllViews, IsFarSize, Suggests}
+use Rattle.session_undo.specs.Machine.{UnlessRankless}
 
 -- ---- stops
 
@@ -197,7 +198,7 @@ pub record IsNearSuggestion (scene : Scene) (s : Suggestion) : Type 0 where
   pub before : Suggestion
   pub found : suggestion_of s.view s.word scene.held ≡ Some before
   pub row : s.row ≡ before.row
-  pub near : IsFittingSum (plus s.constant (negated before.constant))
+  pub near : FitsAfter before.constant s.constant
 
 -- the view of this name is there, the priority's name is known, and this is its rank
 pub record IsRanked (old : State) (name : List ℕ) (priority : Option Meant) (view : LiveView)
@@ -234,7 +235,7 @@ pub record IsLaterSuggestion (old : State) (name : List ℕ) (attr : AttrWord) (
   pub plain : IsSome priority → ⊥
   pub is : IsSuggestionOf view.id attr value s
   pub row : s.row ≡ before.row
-  pub near : IsFittingSum (plus s.constant (negated before.constant))
+  pub near : FitsAfter before.constant s.constant
 
 -- either of them
 abbrev pub IsFreeSuggestion : State → List ℕ → AttrWord → Fraction → Option Meant → NewSuggestion → Type 0

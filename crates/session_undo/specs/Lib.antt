@@ -1,6 +1,7 @@
 pub mod Adding
 pub mod Attributes
 pub mod Diagnosing
+pub mod Drafts
 pub mod Frames
 pub mod Items
 pub mod Kept

@@ -285,8 +285,12 @@ abbrev pub AreTooMany : MetricList → List ℕ → Type 0
 AreTooMany metrics name = (place_of (names_of metrics) name ≡ None) × (METRIC_LIMIT ≤ length metrics)
 
 -- the second constant less the first fits
+abbrev pub FitsAfter : Fraction → Fraction → Type 0
+FitsAfter before after = IsFittingSum (plus after (negated before))
+
+-- so it is with the constants of these rows
 abbrev pub IsNear : Row → Row → Type 0
-IsNear before after = IsFittingSum (plus after.constant (negated before.constant))
+IsNear before after = FitsAfter before.constant after.constant
 
 -- no constant moves too far
 pub record AreNear (before after : List Row) : Type 0 where
@@ -311,7 +315,7 @@ UnlessFar old draft F =
 -- the window has a size, and its width or its height moves too far
 abbrev pub IsFarSize : List Item → Fraction → Fraction → Type 0
 IsFarSize held width height = (size : Size) × (size_of held ≡ Some size)
-    × (IsFittingSum (plus width (negated size.width)) × IsFittingSum (plus height (negated size.height)) → ⊥)
+    × (FitsAfter size.width width × FitsAfter size.height height → ⊥)
 
 -- where no view is named, the window is meant
 abbrev pub parent_name : Option (List ℕ) → List ℕ
@@ -450,7 +454,7 @@ Suggests old view attr value priority rank None End =
 Suggests old view attr value priority rank (Some held) End =
     Unless (IsSome priority) (Kind kind.Suggested) old
     (UnlessLarge old attr value (λ c.
-    Unless (IsFittingSum (plus c (negated held.constant)) → ⊥) (Limit word.Constant) old
+    Unless (FitsAfter held.constant c → ⊥) (Limit word.Constant) old
     (End (with_suggested old.scene view attr c))))
 
 -- where the priority stands for no rank, why; otherwise as F says

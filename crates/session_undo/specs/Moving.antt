@@ -2,8 +2,7 @@
 use Rattle.std.specs.Prelude.{◌≡◌, ◌≢◌, ◌<◌, ⊤, ◌⊎◌, List, [], ◌∷◌, ◌++◌, All, AllPairs, Any}
 use Rattle.problem_core.specs.Layout.{Row}
 use Rattle.constraint_compile.specs.Meaning.{MetricList}
-use Rattle.constraint_compile.specs.Compiled.{RowForm, IsFittingSum}
-use Rattle.constraint_compile.specs.Fractions.{plus, negated}
+use Rattle.constraint_compile.specs.Compiled.{RowForm}
 use Rattle.constraint_compile.specs.declared.naming.RowConstant.{RowConstant}
 use Rattle.frac_core.specs.declared.memory.Stop.{Stop}
 use Rattle.frac_core.specs.declared.memory.Stop.TheVariants as stop
@@ -12,7 +11,7 @@ use Rattle.layout_solver.specs.declared.engine.Change.{Change}
 use Rattle.layout_solver.specs.Shifts.{AreKept, CanShift, shifted}
 use Rattle.session_undo.specs.Items.{Item, OfWindow, OfView, Sized, OfLine, Suggested, AreRows, IsSmallItem}
 use Rattle.session_undo.specs.Scene.{Scene, problem_of}
-use Rattle.session_undo.specs.Machine.{AreNear}
+use Rattle.session_undo.specs.Machine.{AreNear, FitsAfter}
 
 -- ---- rows that metrics have a part in
 
@@ -37,12 +36,11 @@ IsStill rows c = All (λ r. r.id ≡ c.row → r.constant ≡ c.constant) rows
 
 -- the row of this number has another constant, which is near
 abbrev pub IsMoved : List Row → RowConstant → Type 0
-IsMoved rows c = All (λ r. r.id ≡ c.row → (r.constant ≢ c.constant)
-    × IsFittingSum (plus c.constant (negated r.constant))) rows
+IsMoved rows c = All (λ r. r.id ≡ c.row → (r.constant ≢ c.constant) × FitsAfter r.constant c.constant) rows
 
 -- the row of this number has another constant, which is too far
 abbrev pub IsFar : List Row → RowConstant → Type 0
-IsFar rows c = Any (λ r. (r.id ≡ c.row) × (IsFittingSum (plus c.constant (negated r.constant)) → ⊥)) rows
+IsFar rows c = Any (λ r. (r.id ≡ c.row) × (FitsAfter r.constant c.constant → ⊥)) rows
 
 -- the change of a row's constant to this one
 abbrev pub change_to : RowConstant → Change

@@ -1,10 +1,8 @@
 // Parts of the changes of a session.
 ghost use Rattle.std.specs.Prelude.{◌≡◌, ◌<◌, true, false, IfOk, OnErr};
 ghost use Rattle.problem_core.specs.declared.limits.TheConstants.{NUMBER_LIMIT};
-ghost use Rattle.constraint_compile.specs.Compiled.{IsFittingSum};
-ghost use Rattle.constraint_compile.specs.Fractions.{plus, negated};
 ghost use Rattle.session_undo.specs.Adding.{size_changes};
-ghost use Rattle.session_undo.specs.Machine.{AreTooMany, parent_name};
+ghost use Rattle.session_undo.specs.Machine.{AreTooMany, FitsAfter, parent_name};
 ghost use Rattle.script_text.specs.View.{name_view};
 ghost use Rattle.session_undo.specs.Scene.{metrics_with};
 
@@ -36,8 +34,8 @@ pub fn put_metric(metrics: &mut Metrics, name: &str, value: Frac) -> Result<bool
 
 /// Whether the second constant less the first fits.
 pub fn fits_after(from: Frac, to: Frac) -> bool
-    ensures yes { result ≡ true → IsFittingSum (plus to (negated from)) }
-    ensures no { result ≡ false → IsFittingSum (plus to (negated from)) → ⊥ }
+    ensures yes { result ≡ true → FitsAfter from to }
+    ensures no { result ≡ false → FitsAfter from to → ⊥ }
 {
     match Frac::mul_add(to, -1, 1, from) {
         Ok(_) => true,
@@ -47,10 +45,10 @@ pub fn fits_after(from: Frac, to: Frac) -> bool
 
 /// Whether the second size less the first fits.
 pub fn is_near_size(from: &WindowSize, to: &WindowSize) -> bool
-    ensures yes { result ≡ true → IsFittingSum (plus to.now.width (negated from.now.width))
-        × IsFittingSum (plus to.now.height (negated from.now.height)) }
-    ensures no { result ≡ false → IsFittingSum (plus to.now.width (negated from.now.width))
-        × IsFittingSum (plus to.now.height (negated from.now.height)) → ⊥ }
+    ensures yes { result ≡ true
+        → FitsAfter from.now.width to.now.width × FitsAfter from.now.height to.now.height }
+    ensures no { result ≡ false
+        → FitsAfter from.now.width to.now.width × FitsAfter from.now.height to.now.height → ⊥ }
 {
     fits_after(from.width, to.width) && fits_after(from.height, to.height)
 }

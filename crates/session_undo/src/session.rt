@@ -79,24 +79,23 @@ impl Session {
     ghost use Rattle.constraint_compile.specs.Compiled.{AreSmallForms};
     ghost use Rattle.constraint_compile.specs.Stops.{IsCompiled};
     ghost use Rattle.constraint_compile.specs.Formats.FormatRows.{IsCompiledFormat};
-    ghost use Rattle.session_undo.specs.Attributes.{IsGrown, IsNextLine};
+    ghost use Rattle.session_undo.specs.Attributes.{IsNextLine};
+    ghost use Rattle.session_undo.specs.Drafts.{AreComing, Posing, again_draft};
     ghost use Rattle.session_undo.specs.Frames.{IsFrameOf};
     ghost use Rattle.session_undo.specs.Scene.{first_state, with_line};
-    ghost use Rattle.session_undo.specs.Scene.{with_suggestion, with_suggested};
+    ghost use Rattle.session_undo.specs.Scene.{with_suggestion};
     ghost use Rattle.session_undo.specs.Replies.{MayRefuse, Accepting, Refusing, Done, Limit};
     ghost use Rattle.session_undo.specs.Replies as reply;
     ghost use Rattle.session_undo.specs.Items.{has_size};
     ghost use Rattle.session_undo.specs.Machine.{IsTaken, TriedView, TriedTree, TriedMetric, TriedWindow};
     ghost use Rattle.session_undo.specs.Machine.{TriedConstraint, TriedFormat, TriedBudget, Tried};
-    ghost use Rattle.session_undo.specs.Machine.{MeaningStep, Poses, PosesDraft, PosesScene, IsProblemOf};
-    ghost use Rattle.session_undo.specs.Machine.{IsCrowded, Keeps, LeavesFree, Solves, SolvesFree};
+    ghost use Rattle.session_undo.specs.Machine.{MeaningStep, Poses, PosesScene, IsProblemOf};
+    ghost use Rattle.session_undo.specs.Machine.{FitsAfter, IsCrowded, Keeps, LeavesFree, Solves, SolvesFree};
     ghost use Rattle.session_undo.specs.Machine.{TriedDrop, TriedRelease, TriedRemove, TriedSuggest};
     ghost use Rattle.session_undo.specs.Machine.{Certifies, Diagnoses, Suggests, TriedUndo, UnlessRankless};
     ghost use Rattle.session_undo.specs.Adding.{IsFreeSuggestion, IsHeldSuggestion, IsNearSuggestion};
     ghost use Rattle.session_undo.specs.Adding.{IsNextSuggestion, IsSuggestionFor, IsSuggestionOf};
     ghost use Rattle.session_undo.specs.Adding.{SuggestStep};
-    ghost use Rattle.constraint_compile.specs.Compiled.{IsFittingSum};
-    ghost use Rattle.constraint_compile.specs.Fractions.{negated, plus};
     ghost use Rattle.constraint_compile.specs.Meaning.{IsRank, unknown_object};
     ghost use Rattle.constraint_compile.specs.Suggestions.{suggested_priority};
     ghost use Rattle.span_text.specs.Objects.{object_view};
@@ -154,8 +153,7 @@ impl Session {
         ensures made { IfOk result
             (λ new. IsFreeView self.now name.now parent.now new.tree new.first_view.0) }
         ensures one { IfOk result (λ new. new.count ≡ 1) }
-        ensures grown { IfOk result
-            (λ new. IsGrown self.now.scene.tree.views new.tree.views new.first_view.0 new.count) }
+        ensures grown { IfOk result (AreComing self.now.scene) }
         ensures refused { IfErr result
             (MayRefuse (λ reply. TriedView self.now name.now parent.now NoEnd reply self.now)) }
     {
@@ -195,8 +193,7 @@ impl Session {
     // The views with those of a tree, whose text begins at this offset of its line.
     fn new_tree(&self, text: &[u8], start: usize) -> Result<NewViews, Refusal>
         ensures made { IfOk result (λ new. IsFreeTree self.now text.now new.tree new.first_view.0 new.count) }
-        ensures grown { IfOk result
-            (λ new. IsGrown self.now.scene.tree.views new.tree.views new.first_view.0 new.count) }
+        ensures grown { IfOk result (AreComing self.now.scene) }
         ensures refused { Refusing (TriedTree self.now text.now start NoEnd) self.now result }
     {
         let views = self.scene.tree();
@@ -577,7 +574,7 @@ impl Session {
     ) -> Result<Suggestion, LimitWord>
         ensures made { IfOk result (IsSuggestionOf view.0 word value) }
         ensures row { IfOk result (λ s. s.row ≡ held.now.row) }
-        ensures near { IfOk result (λ s. IsFittingSum (plus s.constant (negated held.now.constant))) }
+        ensures near { IfOk result (λ s. FitsAfter held.now.constant s.constant) }
         ensures stop { IfErr result (λ limit. (rank : ℕ)
             → Suggests self.now view.0 word value None rank (Some held.now) NoEnd (Limit limit) self.now) }
     {
@@ -658,10 +655,8 @@ impl Session {
     // A suggestion that is held has another constant.
     fn suggest_later(&mut self, again: Suggestion) -> Result<Reply, Refusal>
         requires { IsNearSuggestion self.old.scene again }
-        ensures accepted { Accepting (Solves self.old
-            (with_suggested self.old.scene again.view again.word again.constant)) self.new result }
-        ensures refused { Refusing (Solves self.old
-            (with_suggested self.old.scene again.view again.word again.constant)) self.old result }
+        ensures accepted { Accepting (Solves self.old (again_draft self.old.scene again)) self.new result }
+        ensures refused { Refusing (Solves self.old (again_draft self.old.scene again)) self.old result }
         ensures same { OnErr result (self.new ≡ self.old) }
     {
         let end = self.scene.take_suggested(again, self.budget);
@@ -786,8 +781,7 @@ impl Session {
 
     // The problem with a new view in the one of the name `parent`.
     fn view_problem(&self, name: &str, parent: &str) -> Result<Problem, Refusal>
-        ensures posed { IfOk result
-            (λ p. TriedView self.now name.now parent.now (PosesDraft p) Done self.now) }
+        ensures posed { Posing (TriedView self.now name.now parent.now) self.now result }
         ensures refused { Refusing (TriedView self.now name.now parent.now NoEnd) self.now result }
     {
         let new = self.new_view(name, parent)?;
@@ -796,7 +790,7 @@ impl Session {
 
     // The problem with the views of a tree, whose text begins at this offset of its line.
     fn tree_problem(&self, text: &[u8], start: usize) -> Result<Problem, Refusal>
-        ensures posed { IfOk result (λ p. TriedTree self.now text.now start (PosesDraft p) Done self.now) }
+        ensures posed { Posing (TriedTree self.now text.now start) self.now result }
         ensures refused { Refusing (TriedTree self.now text.now start NoEnd) self.now result }
     {
         let new = self.new_tree(text, start)?;
@@ -805,7 +799,7 @@ impl Session {
 
     // The problem with a metric that is new or has another value.
     fn metric_problem(&self, name: &str, value: Frac) -> Result<Problem, Refusal>
-        ensures posed { IfOk result (λ p. TriedMetric self.now name.now value (PosesDraft p) Done self.now) }
+        ensures posed { Posing (TriedMetric self.now name.now value) self.now result }
         ensures refused { Refusing (TriedMetric self.now name.now value NoEnd) self.now result }
     {
         let new = self.new_metrics(name, value)?;
@@ -814,8 +808,7 @@ impl Session {
 
     // The problem with this size of the window.
     fn size_problem(&self, size: &WindowSize) -> Result<Problem, Refusal>
-        ensures posed { IfOk result
-            (λ p. TriedWindow self.now size.now.width size.now.height (PosesDraft p) Done self.now) }
+        ensures posed { Posing (TriedWindow self.now size.now.width size.now.height) self.now result }
         ensures refused { Refusing
             (TriedWindow self.now size.now.width size.now.height NoEnd) self.now result }
     {
@@ -836,8 +829,7 @@ impl Session {
 
     // The problem with a linear constraint more.
     fn constraint_problem(&self, group: &str, line: &Linear<'_>) -> Result<Problem, Refusal>
-        ensures posed { IfOk result
-            (λ p. TriedConstraint self.now group.now (linear_view line.now) (PosesDraft p) Done self.now) }
+        ensures posed { Posing (TriedConstraint self.now group.now (linear_view line.now)) self.now result }
         ensures refused { Refusing
             (TriedConstraint self.now group.now (linear_view line.now) NoEnd) self.now result }
     {
@@ -852,8 +844,7 @@ impl Session {
         align: Option<Align>,
         format: &Format<'_>,
     ) -> Result<Problem, Refusal>
-        ensures posed { IfOk result
-            (λ p. TriedFormat self.now group.now align (meaning format.now) (PosesDraft p) Done self.now) }
+        ensures posed { Posing (TriedFormat self.now group.now align (meaning format.now)) self.now result }
         ensures refused { Refusing
             (TriedFormat self.now group.now align (meaning format.now) NoEnd) self.now result }
     {
@@ -863,7 +854,7 @@ impl Session {
 
     // The problem without the view of this name and all below it.
     fn drop_problem(&self, name: &str) -> Result<Problem, Refusal>
-        ensures posed { IfOk result (λ p. TriedDrop self.now name.now (PosesDraft p) Done self.now) }
+        ensures posed { Posing (TriedDrop self.now name.now) self.now result }
         ensures refused { Refusing (TriedDrop self.now name.now NoEnd) self.now result }
     {
         let gone = self.going(name)?;
@@ -872,7 +863,7 @@ impl Session {
 
     // The problem without the lines of the group.
     fn remove_problem(&self, group: &str) -> Result<Problem, Refusal>
-        ensures posed { IfOk result (λ p. TriedRemove self.now group.now (PosesDraft p) Done self.now) }
+        ensures posed { Posing (TriedRemove self.now group.now) self.now result }
         ensures refused { Refusing (TriedRemove self.now group.now NoEnd) self.now result }
     {
         if !self.scene.has_group(group.as_bytes()) {
@@ -889,9 +880,8 @@ impl Session {
         value: Frac,
         priority: Option<Object<'_>>,
     ) -> Result<Problem, Refusal>
-        ensures posed { IfOk result
-            (λ p. TriedSuggest self.now name.now word value (object_view priority.entry) (PosesDraft p)
-            Done self.now) }
+        ensures posed { Posing
+            (TriedSuggest self.now name.now word value (object_view priority.entry)) self.now result }
         ensures refused { Refusing
             (TriedSuggest self.now name.now word value (object_view priority.entry) NoEnd) self.now result }
     {
@@ -903,7 +893,7 @@ impl Session {
 
     // The problem without this suggestion.
     fn release_problem(&self, name: &str, word: AttrWord) -> Result<Problem, Refusal>
-        ensures posed { IfOk result (λ p. TriedRelease self.now name.now word (PosesDraft p) Done self.now) }
+        ensures posed { Posing (TriedRelease self.now name.now word) self.now result }
         ensures refused { Refusing (TriedRelease self.now name.now word NoEnd) self.now result }
     {
         let view = self.suggested(name, word)?;

@@ -11,16 +11,16 @@ ghost use Rattle.layout_solver.specs.Layouts.{stays_at};
 ghost use Rattle.layout_solver.specs.Shifts.{shifted};
 ghost use Rattle.session_undo.specs.declared.limits.TheConstants.{MOST_ROWS};
 ghost use Rattle.session_undo.specs.declared.row_numbers.TheConstants.{SIZE_ROWS, VIEW_ROWS};
-ghost use Rattle.session_undo.specs.Adding.{IsNearSuggestion, IsNextSuggestion, metrics_draft, views_draft};
-ghost use Rattle.session_undo.specs.Attributes.{IsGrown, IsNextLine};
+ghost use Rattle.session_undo.specs.Adding.{IsNearSuggestion, IsNextSuggestion, metrics_draft};
+ghost use Rattle.session_undo.specs.Attributes.{IsNextLine};
+ghost use Rattle.session_undo.specs.Drafts.{AreComing, again_draft, coming_draft, left_draft, window_draft};
 ghost use Rattle.session_undo.specs.Items as held;
 ghost use Rattle.session_undo.specs.Items.{has_size, size_of};
-ghost use Rattle.session_undo.specs.Kept.{IsNextItem, is_leaving, size_in};
-ghost use Rattle.session_undo.specs.Leaving.{without_group, without_items, without_suggestion, without_views};
+ghost use Rattle.session_undo.specs.Kept.{IsNextItem, size_in};
+ghost use Rattle.session_undo.specs.Leaving.{without_group, without_suggestion, without_views};
 ghost use Rattle.session_undo.specs.Machine.{IsProblemOf};
 ghost use Rattle.session_undo.specs.Moving.{AreChangesFor, MayLackChanges};
-ghost use Rattle.session_undo.specs.Scene.{problem_of, with_item, with_line, with_suggested, with_suggestion};
-ghost use Rattle.session_undo.specs.Scene.{with_window};
+ghost use Rattle.session_undo.specs.Scene.{problem_of, with_item, with_line, with_suggestion};
 
 use crate::changes::size_changes;
 use crate::item::coming::{NewViews, attributes_from};
@@ -70,7 +70,7 @@ impl Scene {
 
     // The problem without what leaves, of which no view is one.
     fn left_items_problem(&self, leaver: Leaver<'_>) -> Result<Problem, OutOfMemory>
-        ensures { IfOk result (IsProblemOf (without_items self.now.scene (is_leaving leaver.entry))) }
+        ensures { IfOk result (IsProblemOf (left_draft self.now.scene leaver.entry)) }
     {
         self.engine.show_layout(); // for the proof: what an engine keeps
         let rows = leaving_numbers(self.alloc, self.items.as_slice(), leaver)?;
@@ -79,12 +79,10 @@ impl Scene {
 
     /// The problem with views that come.
     pub fn views_problem(&self, new: &NewViews) -> Result<Problem, OutOfMemory>
-        requires grown { IsGrown self.now.scene.tree.views new.now.tree.views new.now.first_view.0
-            new.now.count }
+        requires grown { AreComing self.now.scene new.now }
         requires room { length self.now.scene.rows + VIEW_ROWS * new.now.count ≤ MOST_ROWS }
         requires number { self.now.scene.next_row + VIEW_ROWS * new.now.count ≤ NUMBER_LIMIT }
-        ensures { IfOk result
-            (IsProblemOf (views_draft self.now.scene new.now.tree new.now.first_view.0 new.now.count)) }
+        ensures { IfOk result (IsProblemOf (coming_draft self.now.scene new.now)) }
     {
         self.engine.show_layout(); // for the proof: what an engine keeps
         let rows = view_rows(self.alloc, self.next_row, new.first_view.0, new.count)?;
@@ -125,7 +123,7 @@ impl Scene {
         requires none { has_size self.now.scene.held ≡ false }
         requires room { length self.now.scene.rows + SIZE_ROWS ≤ MOST_ROWS }
         requires number { self.now.scene.next_row < NUMBER_LIMIT }
-        ensures { IfOk result (IsProblemOf (with_window self.now.scene size.now.width size.now.height)) }
+        ensures { IfOk result (IsProblemOf (window_draft self.now.scene size.now)) }
     {
         let _count = self.tree.len(); // for the proof: what a tree keeps
         let rows = size_rows(self.alloc, self.next_row, size)?;
@@ -135,7 +133,7 @@ impl Scene {
     // The problem where the window has another size than this.
     fn other_size_problem(&self, held: HeldSize, size: &WindowSize) -> Result<Problem, OutOfMemory>
         requires { size_of self.now.scene.held ≡ Some (size_in held) }
-        ensures { IfOk result (IsProblemOf (with_window self.now.scene size.now.width size.now.height)) }
+        ensures { IfOk result (IsProblemOf (window_draft self.now.scene size.now)) }
     {
         self.engine.show_layout(); // for the proof: what an engine keeps
         self.constants_problem(&size_changes(held.first_row, size))
@@ -146,7 +144,7 @@ impl Scene {
         requires room { has_size self.now.scene.held ≡ false
             → length self.now.scene.rows + SIZE_ROWS ≤ MOST_ROWS }
         requires number { has_size self.now.scene.held ≡ false → self.now.scene.next_row < NUMBER_LIMIT }
-        ensures { IfOk result (IsProblemOf (with_window self.now.scene size.now.width size.now.height)) }
+        ensures { IfOk result (IsProblemOf (window_draft self.now.scene size.now)) }
     {
         match size_of(self.items.as_slice()) {
             Some(held) => self.other_size_problem(held, size),
@@ -185,8 +183,7 @@ impl Scene {
     /// The problem with another constant in the row of a suggestion that is held.
     pub fn suggested_problem(&self, again: &Suggestion) -> Result<Problem, OutOfMemory>
         requires { IsNearSuggestion self.now.scene again.now }
-        ensures { IfOk result (IsProblemOf
-            (with_suggested self.now.scene again.now.view again.now.word again.now.constant)) }
+        ensures { IfOk result (IsProblemOf (again_draft self.now.scene again.now)) }
     {
         self.engine.show_layout(); // for the proof: what an engine keeps
         self.constants_problem(&[Change {

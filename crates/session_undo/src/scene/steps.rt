@@ -1,7 +1,7 @@
 // The steps of a scene. Each changes the items, has the engine solve what they stand for, and keeps the
 // scene of before as the latest earlier one. After a stop all is as before.
 ghost use Rattle.std.specs.Prelude.{◌≡◌, ◌≢◌, ◌<◌, ◌≤◌, ◌+◌, ◌*◌, ℕ, false, length, Some};
-ghost use Rattle.std.specs.Prelude.{All, IfOk, IfErr, OnOk, OnErr};
+ghost use Rattle.std.specs.Prelude.{All, IfErr, OnOk, OnErr};
 ghost use Rattle.problem_core.specs.Kept.{IsRow};
 ghost use Rattle.problem_core.specs.declared.limits.TheConstants.{NUMBER_LIMIT};
 ghost use Rattle.view_tree.specs.Drops.{AreGoing};
@@ -9,16 +9,16 @@ ghost use Rattle.constraint_compile.specs.Compiled.{AreRowsNow};
 ghost use Rattle.diagnosis.specs.Probes.{NoConflict};
 ghost use Rattle.session_undo.specs.declared.limits.TheConstants.{MOST_ROWS};
 ghost use Rattle.session_undo.specs.declared.row_numbers.TheConstants.{SIZE_ROWS, VIEW_ROWS};
-ghost use Rattle.session_undo.specs.Adding.{IsNearSuggestion, IsNextSuggestion, metrics_draft, views_draft};
-ghost use Rattle.session_undo.specs.Adding.{LeaveStopsAt, RunStopsAt};
-ghost use Rattle.session_undo.specs.Attributes.{IsGrown, IsNextLine};
+ghost use Rattle.session_undo.specs.Adding.{IsNearSuggestion, IsNextSuggestion, metrics_draft};
+ghost use Rattle.session_undo.specs.Attributes.{IsNextLine};
+ghost use Rattle.session_undo.specs.Drafts.{AreComing, Removing, RemovingStops, Solving, SolvingStops};
+ghost use Rattle.session_undo.specs.Drafts.{again_draft, coming_draft, item_draft, left_draft, window_draft};
 ghost use Rattle.session_undo.specs.Items.{has_size, size_of};
-ghost use Rattle.session_undo.specs.Kept.{IsNextItem, is_leaving, item_of, size_in};
-ghost use Rattle.session_undo.specs.Leaving.{without_group, without_items, without_suggestion, without_views};
-ghost use Rattle.session_undo.specs.Machine.{HasLeft, HasSolved, IsFarSize};
+ghost use Rattle.session_undo.specs.Kept.{IsNextItem, item_of, size_in};
+ghost use Rattle.session_undo.specs.Leaving.{without_group, without_suggestion, without_views};
+ghost use Rattle.session_undo.specs.Machine.{IsFarSize};
 ghost use Rattle.session_undo.specs.Moving.{AreChangesFor};
-ghost use Rattle.session_undo.specs.Scene.{Remembers, with_item, with_line, with_suggested};
-ghost use Rattle.session_undo.specs.Scene.{with_suggestion, with_window};
+ghost use Rattle.session_undo.specs.Scene.{Remembers, with_line, with_suggestion};
 
 use crate::changes::size_changes;
 use crate::item::coming::{NewViews, attributes_from, push_views};
@@ -44,10 +44,8 @@ impl Scene {
     fn take_item(&mut self, item: Item, rows: &[Row], budget: u64) -> Result<(), RunStop>
         requires next { IsNextItem self.old.scene (item_of item) rows.now }
         requires number { self.old.scene.next_row + length rows.now ≤ NUMBER_LIMIT }
-        ensures solved { IfOk result (λ _. HasSolved self.old.scene
-            (with_item self.old.scene (item_of item) (length rows.now)) budget self.new.scene) }
-        ensures stop { IfErr result
-            (RunStopsAt self.old.scene (with_item self.old.scene (item_of item) (length rows.now)) budget) }
+        ensures solved { Solving self.old (item_draft self.old.scene item rows.now) budget self.new result }
+        ensures stop { SolvingStops self.old (item_draft self.old.scene item rows.now) budget result }
         ensures earlier { OnOk result (Remembers self.old self.new) }
         ensures same { OnErr result (self.new ≡ self.old) }
     {
@@ -62,11 +60,8 @@ impl Scene {
 
     // Takes out what leaves, of which no view is one.
     fn take_items_out(&mut self, leaver: Leaver<'_>, budget: u64) -> Result<(), RemoveStop>
-        ensures left { IfOk result
-            (λ _. HasLeft self.old.scene (without_items self.old.scene (is_leaving leaver.entry)) budget
-            self.new.scene) }
-        ensures stop { IfErr result
-            (LeaveStopsAt self.old.scene (without_items self.old.scene (is_leaving leaver.entry)) budget) }
+        ensures left { Removing self.old (left_draft self.old.scene leaver.entry) budget self.new result }
+        ensures stop { RemovingStops self.old (left_draft self.old.scene leaver.entry) budget result }
         ensures earlier { OnOk result (Remembers self.old self.new) }
         ensures same { OnErr result (self.new ≡ self.old) }
     {
@@ -81,13 +76,11 @@ impl Scene {
 
     /// Takes views that come, in one step.
     pub fn take_views(&mut self, new: NewViews, budget: u64) -> Result<(), RunStop>
-        requires grown { IsGrown self.old.scene.tree.views new.tree.views new.first_view.0 new.count }
+        requires grown { AreComing self.old.scene new }
         requires room { length self.old.scene.rows + VIEW_ROWS * new.count ≤ MOST_ROWS }
         requires number { self.old.scene.next_row + VIEW_ROWS * new.count ≤ NUMBER_LIMIT }
-        ensures solved { IfOk result (λ _. HasSolved self.old.scene
-            (views_draft self.old.scene new.tree new.first_view.0 new.count) budget self.new.scene) }
-        ensures stop { IfErr result (RunStopsAt self.old.scene
-            (views_draft self.old.scene new.tree new.first_view.0 new.count) budget) }
+        ensures solved { Solving self.old (coming_draft self.old.scene new) budget self.new result }
+        ensures stop { SolvingStops self.old (coming_draft self.old.scene new) budget result }
         ensures free { IfErr result NoConflict }
         ensures earlier { OnOk result (Remembers self.old self.new) }
         ensures same { OnErr result (self.new ≡ self.old) }
@@ -112,10 +105,8 @@ impl Scene {
         budget: u64,
     ) -> Result<(), RunStop>
         requires { AreChangesFor self.old.scene metrics to.now }
-        ensures solved { IfOk result
-            (λ _. HasSolved self.old.scene (metrics_draft self.old.scene metrics) budget self.new.scene) }
-        ensures stop { IfErr result
-            (RunStopsAt self.old.scene (metrics_draft self.old.scene metrics) budget) }
+        ensures solved { Solving self.old (metrics_draft self.old.scene metrics) budget self.new result }
+        ensures stop { SolvingStops self.old (metrics_draft self.old.scene metrics) budget result }
         ensures earlier { OnOk result (Remembers self.old self.new) }
         ensures same { OnErr result (self.new ≡ self.old) }
     {
@@ -132,10 +123,8 @@ impl Scene {
         requires none { has_size self.old.scene.held ≡ false }
         requires room { length self.old.scene.rows + SIZE_ROWS ≤ MOST_ROWS }
         requires number { self.old.scene.next_row + SIZE_ROWS ≤ NUMBER_LIMIT }
-        ensures solved { IfOk result (λ _. HasSolved self.old.scene
-            (with_window self.old.scene size.now.width size.now.height) budget self.new.scene) }
-        ensures stop { IfErr result
-            (RunStopsAt self.old.scene (with_window self.old.scene size.now.width size.now.height) budget) }
+        ensures solved { Solving self.old (window_draft self.old.scene size.now) budget self.new result }
+        ensures stop { SolvingStops self.old (window_draft self.old.scene size.now) budget result }
         ensures earlier { OnOk result (Remembers self.old self.new) }
         ensures same { OnErr result (self.new ≡ self.old) }
     {
@@ -153,10 +142,8 @@ impl Scene {
     fn size_again(&mut self, held: HeldSize, size: &WindowSize, budget: u64) -> Result<(), RunStop>
         requires some { size_of self.old.scene.held ≡ Some (size_in held) }
         requires near { IsFarSize self.old.scene.held size.now.width size.now.height → ⊥ }
-        ensures solved { IfOk result (λ _. HasSolved self.old.scene
-            (with_window self.old.scene size.now.width size.now.height) budget self.new.scene) }
-        ensures stop { IfErr result
-            (RunStopsAt self.old.scene (with_window self.old.scene size.now.width size.now.height) budget) }
+        ensures solved { Solving self.old (window_draft self.old.scene size.now) budget self.new result }
+        ensures stop { SolvingStops self.old (window_draft self.old.scene size.now) budget result }
         ensures earlier { OnOk result (Remembers self.old self.new) }
         ensures same { OnErr result (self.new ≡ self.old) }
     {
@@ -177,10 +164,8 @@ impl Scene {
         requires number { has_size self.old.scene.held ≡ false
             → self.old.scene.next_row + SIZE_ROWS ≤ NUMBER_LIMIT }
         requires near { IsFarSize self.old.scene.held size.now.width size.now.height → ⊥ }
-        ensures solved { IfOk result (λ _. HasSolved self.old.scene
-            (with_window self.old.scene size.now.width size.now.height) budget self.new.scene) }
-        ensures stop { IfErr result
-            (RunStopsAt self.old.scene (with_window self.old.scene size.now.width size.now.height) budget) }
+        ensures solved { Solving self.old (window_draft self.old.scene size.now) budget self.new result }
+        ensures stop { SolvingStops self.old (window_draft self.old.scene size.now) budget result }
         ensures earlier { OnOk result (Remembers self.old self.new) }
         ensures same { OnErr result (self.new ≡ self.old) }
     {
@@ -203,9 +188,8 @@ impl Scene {
         requires next { IsNextLine self.old.scene.tree.views self.old.scene.next_row line }
         requires room { length self.old.scene.rows + length rows.now ≤ MOST_ROWS }
         requires number { self.old.scene.next_row + length rows.now ≤ NUMBER_LIMIT }
-        ensures solved { IfOk result
-            (λ _. HasSolved self.old.scene (with_line self.old.scene group line) budget self.new.scene) }
-        ensures stop { IfErr result (RunStopsAt self.old.scene (with_line self.old.scene group line) budget) }
+        ensures solved { Solving self.old (with_line self.old.scene group line) budget self.new result }
+        ensures stop { SolvingStops self.old (with_line self.old.scene group line) budget result }
         ensures earlier { OnOk result (Remembers self.old self.new) }
         ensures same { OnErr result (self.new ≡ self.old) }
     {
@@ -217,9 +201,8 @@ impl Scene {
         requires next { IsNextSuggestion self.old.scene new }
         requires room { length self.old.scene.rows + 1 ≤ MOST_ROWS }
         requires number { self.old.scene.next_row < NUMBER_LIMIT }
-        ensures solved { IfOk result
-            (λ _. HasSolved self.old.scene (with_suggestion self.old.scene new) budget self.new.scene) }
-        ensures stop { IfErr result (RunStopsAt self.old.scene (with_suggestion self.old.scene new) budget) }
+        ensures solved { Solving self.old (with_suggestion self.old.scene new) budget self.new result }
+        ensures stop { SolvingStops self.old (with_suggestion self.old.scene new) budget result }
         ensures earlier { OnOk result (Remembers self.old self.new) }
         ensures same { OnErr result (self.new ≡ self.old) }
     {
@@ -231,10 +214,8 @@ impl Scene {
     /// Takes another constant in the row of a suggestion that is held.
     pub fn take_suggested(&mut self, again: Suggestion, budget: u64) -> Result<(), RunStop>
         requires { IsNearSuggestion self.old.scene again }
-        ensures solved { IfOk result (λ _. HasSolved self.old.scene
-            (with_suggested self.old.scene again.view again.word again.constant) budget self.new.scene) }
-        ensures stop { IfErr result (RunStopsAt self.old.scene
-            (with_suggested self.old.scene again.view again.word again.constant) budget) }
+        ensures solved { Solving self.old (again_draft self.old.scene again) budget self.new result }
+        ensures stop { SolvingStops self.old (again_draft self.old.scene again) budget result }
         ensures earlier { OnOk result (Remembers self.old self.new) }
         ensures same { OnErr result (self.new ≡ self.old) }
     {
@@ -253,10 +234,8 @@ impl Scene {
 
     /// Takes the lines of a group out.
     pub fn take_group_out(&mut self, name: &[u8], budget: u64) -> Result<(), RemoveStop>
-        ensures left { IfOk result
-            (λ _. HasLeft self.old.scene (without_group self.old.scene name.now) budget self.new.scene) }
-        ensures stop { IfErr result
-            (LeaveStopsAt self.old.scene (without_group self.old.scene name.now) budget) }
+        ensures left { Removing self.old (without_group self.old.scene name.now) budget self.new result }
+        ensures stop { RemovingStops self.old (without_group self.old.scene name.now) budget result }
         ensures earlier { OnOk result (Remembers self.old self.new) }
         ensures same { OnErr result (self.new ≡ self.old) }
     {
@@ -270,11 +249,9 @@ impl Scene {
         word: AttrWord,
         budget: u64,
     ) -> Result<(), RemoveStop>
-        ensures left { IfOk result
-            (λ _. HasLeft self.old.scene (without_suggestion self.old.scene view.0 word) budget
-            self.new.scene) }
-        ensures stop { IfErr result
-            (LeaveStopsAt self.old.scene (without_suggestion self.old.scene view.0 word) budget) }
+        ensures left { Removing
+            self.old (without_suggestion self.old.scene view.0 word) budget self.new result }
+        ensures stop { RemovingStops self.old (without_suggestion self.old.scene view.0 word) budget result }
         ensures earlier { OnOk result (Remembers self.old self.new) }
         ensures same { OnErr result (self.new ≡ self.old) }
     {
@@ -284,10 +261,8 @@ impl Scene {
     /// Takes these views out, which are a view and all below it, with the lines that name one of them.
     pub fn take_views_out(&mut self, gone: &[u32], budget: u64) -> Result<(), RemoveStop>
         requires { (root : ℕ) × (root ≢ 0) × AreGoing self.old.scene.tree.views root gone.now }
-        ensures left { IfOk result
-            (λ _. HasLeft self.old.scene (without_views self.old.scene gone.now) budget self.new.scene) }
-        ensures stop { IfErr result
-            (LeaveStopsAt self.old.scene (without_views self.old.scene gone.now) budget) }
+        ensures left { Removing self.old (without_views self.old.scene gone.now) budget self.new result }
+        ensures stop { RemovingStops self.old (without_views self.old.scene gone.now) budget result }
         ensures earlier { OnOk result (Remembers self.old self.new) }
         ensures same { OnErr result (self.new ≡ self.old) }
     {
