@@ -33,5 +33,5 @@ pub record IsRun (dual : Bool) (p : Problem) (Begins : List Mark → Type 0) (bu
   pub few : length path.swaps ≤ budget
 
 -- such a path leads from these marks to those
-abbrev pub HasRun : Bool → Problem → List Mark → ℕ → List Mark → Type 0
-HasRun dual p first budget last = (path : Path) × IsRun dual p (λ at. at ≡ first) budget last path
+abbrev pub HasRunBetween : Bool → Problem → List Mark → ℕ → List Mark → Type 0
+HasRunBetween dual p first budget last = (path : Path) × IsRun dual p (λ at. at ≡ first) budget last path

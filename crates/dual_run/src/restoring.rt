@@ -5,7 +5,7 @@ ghost use Rattle.problem_core.specs.Corners.{NoNegativeColumn, NoNegativeValue};
 ghost use Rattle.problem_core.specs.Levels.{CostsAbove};
 ghost use Rattle.cert_core.specs.Stops.{IsStopOf};
 ghost use Rattle.corner.specs.Changes.{scene_of};
-ghost use Rattle.corner_ends.specs.Runs.{FromHere, HasEnded, HasRun};
+ghost use Rattle.corner_ends.specs.Runs.{FromHere, HasEnded, HasRunBetween};
 ghost use Rattle.corner_ends.specs.Shares.{IsConflictStop};
 ghost use Rattle.dual_run.specs.Leaving.{AreLowLines, MayLeave};
 
@@ -61,7 +61,7 @@ pub fn restore(alloc: Global, c: &mut Corner, low: Vec<RowName>, budget: u64) ->
     ensures problem { IfOk result (λ _. c.new.problem ≡ c.old.problem) }
     ensures before { c.new.before ≡ c.old.before }
     ensures end { IfOk result (λ _. HasEnded c.new) }
-    ensures path { IfOk result (λ _. HasRun true c.old.problem c.old.marks budget c.new.marks) }
+    ensures path { IfOk result (λ _. HasRunBetween true c.old.problem c.old.marks budget c.new.marks) }
     ensures stop { IfErr result
         (IsStopOf true c.old.problem c.old.problem.rows (FromHere c.old.marks) budget) }
 {

@@ -6,7 +6,7 @@ ghost use Rattle.problem_core.specs.Layout.{HasStay};
 ghost use Rattle.problem_core.specs.Changes.Begins.{without_marks};
 ghost use Rattle.problem_core.specs.Corners.{NoNegativeValue};
 ghost use Rattle.problem_core.specs.declared.parts.Mark.{Mark as MarkOfLine};
-ghost use Rattle.corner_ends.specs.Runs.{HasEnded, HasRun};
+ghost use Rattle.corner_ends.specs.Runs.{HasEnded, HasRunBetween};
 ghost use Rattle.marker_remove.specs.Freed.{DoStand, HasMarkIn};
 ghost use Rattle.layout_solver.specs.Removals.{AfterFreed, AfterGone, CanLeave, HasRemoved, HaveGone};
 ghost use Rattle.layout_solver.specs.Removals.{IsEndStop, IsRemoveStop, IsStillStop, IsUnfitOf};
@@ -193,7 +193,7 @@ fn settle_left(alloc: Global, c: &mut Corner, budget: u64) -> Result<(), RemoveS
     ensures problem { IfOk result (λ _. c.new.problem ≡ c.old.problem) }
     ensures before { c.new.before ≡ c.old.before }
     ensures end { IfOk result (λ _. HasEnded c.new) }
-    ensures path { IfOk result (λ _. HasRun false c.old.problem c.old.marks budget c.new.marks) }
+    ensures path { IfOk result (λ _. HasRunBetween false c.old.problem c.old.marks budget c.new.marks) }
     ensures stop { IfErr result (IsEndStop c.old.problem c.old.marks budget) }
 {
     c.show_corner(); // for the proof: what a corner keeps

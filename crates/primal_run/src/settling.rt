@@ -5,7 +5,7 @@ ghost use Rattle.problem_core.specs.Corners.{NoNegativeColumn, NoNegativeValue};
 ghost use Rattle.problem_core.specs.Levels.{CostsAbove};
 ghost use Rattle.cert_core.specs.Stops.{IsStopOf};
 ghost use Rattle.corner_ends.specs.Columns.{IsNegative};
-ghost use Rattle.corner_ends.specs.Runs.{FromHere, HasEnded, HasRun};
+ghost use Rattle.corner_ends.specs.Runs.{FromHere, HasEnded, HasRunBetween};
 ghost use Rattle.corner_ends.specs.Shares.{IsConflictStop};
 ghost use Rattle.primal_run.specs.Entering.{IsChoice, MayEnter};
 
@@ -76,7 +76,7 @@ fn run_on(alloc: Global, c: &mut Corner, budget: u64, first: Mark) -> Result<(),
     ensures problem { IfOk result (λ _. c.new.problem ≡ c.old.problem) }
     ensures before { c.new.before ≡ c.old.before }
     ensures end { IfOk result (λ _. HasEnded c.new) }
-    ensures path { IfOk result (λ _. HasRun false c.old.problem c.old.marks budget c.new.marks) }
+    ensures path { IfOk result (λ _. HasRunBetween false c.old.problem c.old.marks budget c.new.marks) }
     ensures stop { IfErr result
         (IsStopOf false c.old.problem c.old.problem.rows (FromHere c.old.marks) budget) }
 {
@@ -107,7 +107,7 @@ pub fn settle(alloc: Global, c: &mut Corner, budget: u64) -> Result<(), RunStop>
     ensures problem { IfOk result (λ _. c.new.problem ≡ c.old.problem) }
     ensures before { c.new.before ≡ c.old.before }
     ensures end { IfOk result (λ _. HasEnded c.new) }
-    ensures path { IfOk result (λ _. HasRun false c.old.problem c.old.marks budget c.new.marks) }
+    ensures path { IfOk result (λ _. HasRunBetween false c.old.problem c.old.marks budget c.new.marks) }
     ensures stop { IfErr result
         (IsStopOf false c.old.problem c.old.problem.rows (FromHere c.old.marks) budget) }
 {
