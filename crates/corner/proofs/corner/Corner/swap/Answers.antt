@@ -38,12 +38,13 @@ turns c =
 
 pub turn_line-requires-clause-turn : goal.turn_line-requires-clause-turn
 turn_line-requires-clause-turn c =
-    let same : c.args.enter.row ≡ c.args.leave.row = c.are_of_line.ensures.0 c.if-are_of_line.true in (
-      record { enter = c.args.enter; leave = c.args.leave },
-      swap_turn (lists_of c.self.inside.table) c.args.enter c.args.leave c.line_slot-line.result c.self.invariant.kept
+    let same : c.args.enter.row ≡ c.args.leave.row = c.are_of_line.ensures.0 c.if-are_of_line.true in record {
+      kept = c.self.invariant.kept;
+      swap = record { enter = c.args.enter; leave = c.args.leave };
+      is = swap_turn (lists_of c.self.inside.table) c.args.enter c.args.leave c.line_slot-line.result c.self.invariant.kept
           (subst (λ (v : CornerView). IsOutside v.problem v.marks c.args.enter) (sym c.self.view_is) c.requires.enter)
-          (subst (λ (v : CornerView). IsIn (place c.args.leave) v.marks) (sym c.self.view_is) c.requires.leave) same c.line_slot-line.ensures.value,
-    )
+          (subst (λ (v : CornerView). IsIn (place c.args.leave) v.marks) (sym c.self.view_is) c.requires.leave) same c.line_slot-line.ensures.value;
+    }
 
 pub returns-then-are_of_line-clause-marks : goal.returns-then-are_of_line-clause-marks
 returns-then-are_of_line-clause-marks c =
@@ -77,13 +78,14 @@ pairs c =
 
 pub exchange_lines-requires-clause-pair : goal.exchange_lines-requires-clause-pair
 exchange_lines-requires-clause-pair c =
-    let ne : c.args.enter.row ≢ c.args.leave.row = λ e. not_both c.are_of_line.result (c.are_of_line.ensures.1 e) c.if-are_of_line.false in (
-      record { enter = c.args.enter; leave = c.args.leave },
-      swap_pair (lists_of c.self.inside.table) c.args.enter c.args.leave c.line_slot-line.result c.line_slot.result c.self.invariant.kept
+    let ne : c.args.enter.row ≢ c.args.leave.row = λ e. not_both c.are_of_line.result (c.are_of_line.ensures.1 e) c.if-are_of_line.false in record {
+      kept = c.self.invariant.kept;
+      swap = record { enter = c.args.enter; leave = c.args.leave };
+      is = swap_pair (lists_of c.self.inside.table) c.args.enter c.args.leave c.line_slot-line.result c.line_slot.result c.self.invariant.kept
           (subst (λ (v : CornerView). IsOutside v.problem v.marks c.args.enter) (sym c.self.view_is) c.requires.enter)
           (subst (λ (v : CornerView). IsIn (place c.args.leave) v.marks) (sym c.self.view_is) c.requires.leave)
-          (subst (λ (v : CornerView). MovesWith v.problem v.marks c.args.enter (MarkOf c.args.leave)) (sym c.self.view_is) c.requires.moves) ne c.line_slot-line.ensures.value c.line_slot.ensures.value,
-    )
+          (subst (λ (v : CornerView). MovesWith v.problem v.marks c.args.enter (MarkOf c.args.leave)) (sym c.self.view_is) c.requires.moves) ne c.line_slot-line.ensures.value c.line_slot.ensures.value;
+    }
 
 pub returns-clause-marks : goal.returns-clause-marks
 returns-clause-marks c =
