@@ -1,5 +1,5 @@
 -- What holds at a corner whose lines, or also its levels, are kept, and at the one after an exchange there.
-use Rattle.std.specs.Prelude.{◌≡◌, ℕ, List, get_or, Option}
+use Rattle.std.specs.Prelude.{◌≡◌, List, get_or, Option}
 use Rattle.problem_core.specs.declared.parts.Mark.{Mark}
 use Rattle.problem_core.specs.Layout.{Problem}
 use Rattle.problem_core.specs.Corners.{IsExchange, exchanged}
@@ -7,6 +7,7 @@ use Rattle.path_checker.specs.declared.spots.Step.{Step}
 use Rattle.path_checker.specs.declared.table.Inside.{Inside}
 use Rattle.path_checker.specs.Tables.{AreLines, IsThere, swap_of}
 use Rattle.path_levels.specs.declared.outline.Outline.{Outline}
+use Rattle.path_levels.specs.declared.sums.LevelRow.{LevelRow}
 use Rattle.path_levels.specs.declared.sums.LevelSum.{LevelSum}
 use Rattle.path_levels.specs.declared.tableau.CornerLines.{CornerLines}
 use Rattle.path_levels.specs.declared.tableau.Tableau.{Tableau}
@@ -36,9 +37,9 @@ abbrev pub WithTableau : Tableau → (Problem → List Mark → Type 0) → Type
 WithTableau tableau holds = WithLevels tableau.corner tableau.levels.now holds
 
 -- the same where this is the row of the level at a place
-abbrev pub WithRow : CornerLines → ℕ → LevelSum → (Problem → List Mark → Type 0) → Type 0
-WithRow corner place sum holds = (p : Problem) (at : List Mark)
-    → AreKept p at corner.outline.now corner.lines.now → IsSumAt p at corner.outline.now place sum
+abbrev pub WithRow : CornerLines → LevelRow → (Problem → List Mark → Type 0) → Type 0
+WithRow corner row holds = (p : Problem) (at : List Mark)
+    → AreKept p at corner.outline.now corner.lines.now → IsSumAt p at corner.outline.now row.place row.sum.now
     → holds p at
 
 -- at the corner with these lines, whatever the levels' rows are, where this is the first of them

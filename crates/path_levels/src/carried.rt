@@ -12,37 +12,37 @@ ghost use Rattle.path_levels.specs.Exchanges.Pivots.{IsNextMultiple, IsSizedPivo
 
 use crate::outline::{LineFacts, Outline};
 use crate::shares::stood_number;
-use crate::sums::LevelSum;
+use crate::sums::{LevelRow, LevelSum};
 use frac_core::{OutOfMemory, gcd};
 use path_checker::{Pivot, Wide, combined};
 use std::alloc::Global;
 
 // The entering line's number in the level's row before the exchange.
-fn number_before(line: &LineFacts, pivot: &Pivot, place: usize, sum: &LevelSum) -> i64
+fn number_before(line: &LineFacts, pivot: &Pivot, row: LevelRow<'_>) -> i64
     requires line { IsPriced line.now }
-    requires sum { IsScaled sum.now }
-    requires enter { pivot.now.step.enter.at < length sum.now.by.items }
-    requires fits { All IsFitting sum.now.by.items }
-    ensures value { result ≡ before_of line.now pivot.now place sum.now }
+    requires sum { IsScaled row.sum.now }
+    requires enter { pivot.now.step.enter.at < length row.sum.now.by.items }
+    requires fits { All IsFitting row.sum.now.by.items }
+    ensures value { result ≡ before_of line.now pivot.now row.entry.place row.entry.sum.now }
     ensures small { unsigned_abs result < 2 ^ 52 }
 {
     if pivot.is_turn {
-        return stood_number(line, pivot.step.leave.side, place, sum);
+        return stood_number(line, pivot.step.leave.side, row);
     }
-    sum.by[pivot.step.enter.at]
+    row.sum.by[pivot.step.enter.at]
 }
 
 /// The same less what the line counts from now on.
-pub fn entering_number(line: &LineFacts, pivot: &Pivot, place: usize, sum: &LevelSum) -> i64
+pub fn entering_number(line: &LineFacts, pivot: &Pivot, row: LevelRow<'_>) -> i64
     requires line { IsPriced line.now }
-    requires sum { IsScaled sum.now }
-    requires enter { pivot.now.step.enter.at < length sum.now.by.items }
-    requires fits { All IsFitting sum.now.by.items }
-    ensures value { result ≡ entering_of line.now pivot.now place sum.now }
+    requires sum { IsScaled row.sum.now }
+    requires enter { pivot.now.step.enter.at < length row.sum.now.by.items }
+    requires fits { All IsFitting row.sum.now.by.items }
+    ensures value { result ≡ entering_of line.now pivot.now row.entry.place row.entry.sum.now }
     ensures small { unsigned_abs result < 2 ^ 53 }
 {
-    let before = number_before(line, pivot, place, sum);
-    before - stood_number(line, pivot.step.enter.side, place, sum)
+    let before = number_before(line, pivot, row);
+    before - stood_number(line, pivot.step.enter.side, row)
 }
 
 // The greatest common divisor.
@@ -98,24 +98,18 @@ pub(crate) fn product(small: i64, other: i64) -> i128
 }
 
 // The leaving line's number after the exchange.
-fn leaving_number(
-    line: &LineFacts,
-    pivot: &Pivot,
-    place: usize,
-    sum: &LevelSum,
-    factors: Factors,
-) -> i128
+fn leaving_number(line: &LineFacts, pivot: &Pivot, row: LevelRow<'_>, factors: Factors) -> i128
     requires line { IsPriced line.now }
-    requires sum { IsScaled sum.now }
+    requires sum { IsScaled row.sum.now }
     requires leave { pivot.now.step.leave.at < length pivot.now.by.items }
     requires fits { All IsFitting pivot.now.by.items }
     requires row { IsFitting factors.row }
     requires pivot { unsigned_abs factors.pivot < 2 ^ 53 }
-    ensures value { result ≡ factors.row *ℤ stood_of line.now pivot.now.step.leave.side place sum.now
-        +ℤ in_list pivot.now.by.items pivot.now.step.leave.at *ℤ factors.pivot }
+    ensures value { result ≡ factors.row *ℤ stood_of line.now pivot.now.step.leave.side row.entry.place
+        row.entry.sum.now +ℤ in_list pivot.now.by.items pivot.now.step.leave.at *ℤ factors.pivot }
     ensures small { unsigned_abs result < 2 ^ 96 }
 {
-    let stood = stood_number(line, pivot.step.leave.side, place, sum);
+    let stood = stood_number(line, pivot.step.leave.side, row);
     let number = pivot.by[pivot.step.leave.at];
     product(factors.row, stood) + product(number, factors.pivot)
 }
@@ -150,19 +144,18 @@ pub fn next_level_numbers(
     alloc: Global,
     outline: &Outline,
     pivot: &Pivot,
-    place: usize,
-    sum: &LevelSum,
+    row: LevelRow<'_>,
 ) -> Result<Wide, OutOfMemory>
     requires outline { IsSizedOutline outline.now }
     requires pivot { IsSizedPivot (length outline.now.lines.items) pivot.now }
-    requires place { place < length outline.now.levels.items }
-    requires sum { IsSizedLevel (length outline.now.lines.items) sum.now }
-    ensures sized { IfOk result (IsWideLevel (length outline.now.lines.items) sum.now.unit) }
-    ensures next { IfOk result (IsNextMultiple outline.now pivot.now place sum.now) }
+    requires place { row.place < length outline.now.levels.items }
+    requires sum { IsSizedLevel (length outline.now.lines.items) row.sum.now }
+    ensures sized { IfOk result (IsWideLevel (length outline.now.lines.items) row.entry.sum.now.unit) }
+    ensures next { IfOk result (IsNextMultiple outline.now pivot.now row.entry.place row.entry.sum.now) }
 {
-    let n = entering_number(&outline.lines[pivot.step.enter.at], pivot, place, sum);
+    let n = entering_number(&outline.lines[pivot.step.enter.at], pivot, row);
     let factors = factors_of(pivot.size, n);
     let leaves = &outline.lines[pivot.step.leave.at];
-    let leaving = leaving_number(leaves, pivot, place, sum, factors);
-    put_together(alloc, pivot, sum, factors, leaving)
+    let leaving = leaving_number(leaves, pivot, row, factors);
+    put_together(alloc, pivot, row.sum, factors, leaving)
 }

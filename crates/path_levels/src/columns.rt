@@ -15,7 +15,7 @@ ghost use Rattle.path_levels.specs.Kept.{WithTableau};
 
 use crate::outline::LineFacts;
 use crate::shares::weight_on;
-use crate::sums::LevelSum;
+use crate::sums::{LevelRow, LevelSum};
 use crate::tableau::{CornerLines, Tableau};
 use path_checker::Spot;
 use problem_core::Side;
@@ -74,12 +74,13 @@ pub(crate) fn cost(facts: &LineFacts, side: Side, place: usize, units: Units, nu
 }
 
 /// That of a line's mark, where it is outside.
-pub(crate) fn cost_at(facts: &LineFacts, spot: Spot, place: usize, sum: &LevelSum) -> i128
+pub(crate) fn cost_at(facts: &LineFacts, spot: Spot, row: LevelRow<'_>) -> i128
     requires facts { IsPriced facts.now }
-    requires sum { IsSizedLevel (length sum.now.by.items) sum.now }
-    requires spot { spot.at < length sum.now.by.items }
-    ensures { result ≡ cost_in spot.side facts.now spot.at place sum.now }
+    requires sum { IsSizedLevel (length row.sum.now.by.items) row.sum.now }
+    requires spot { spot.at < length row.sum.now.by.items }
+    ensures { result ≡ cost_in spot.side facts.now spot.at row.entry.place row.entry.sum.now }
 {
+    let LevelRow { place, sum } = row;
     let units = Units {
         unit: sum.unit,
         own: u128::from(sum.own.unsigned_abs()),
@@ -97,7 +98,7 @@ fn is_negative_first(facts: &LineFacts, levels: &[LevelSum], spot: Spot) -> bool
         (λ k. cost_in spot.side facts.now spot.at k (get_or levels.now k d)) }
 {
     for (place, sum) in levels.iter().enumerate() {
-        let cost = cost_at(facts, spot, place, sum);
+        let cost = cost_at(facts, spot, LevelRow { place, sum });
         if cost != 0 {
             return cost < 0;
         }

@@ -18,7 +18,7 @@ ghost use Rattle.path_levels.specs.Kept.{AfterStep, WithLevels, WithLines, WithO
 use crate::columns::{Units, cost};
 use crate::levels_after::LineExchange;
 use crate::outline::{LineFacts, Outline};
-use crate::sums::LevelSum;
+use crate::sums::{LevelRow, LevelSum};
 use crate::{next_level_numbers, pivot_of};
 use frac_core::{OutOfMemory, Stop};
 use path_checker::{Inside, Pivot, Spot, Step, Wide};
@@ -56,7 +56,7 @@ fn wide_levels(
 {
     let mut out = Vec::with_capacity(alloc, levels.len())?;
     for (place, sum) in levels.iter().enumerate() {
-        let wide = next_level_numbers(alloc, outline, pivot, place, sum)?;
+        let wide = next_level_numbers(alloc, outline, pivot, LevelRow { place, sum })?;
         out.push(wide_level(sum.unit, wide))?;
     }
     Ok(out)

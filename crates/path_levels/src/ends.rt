@@ -19,7 +19,7 @@ ghost use Rattle.path_levels.specs.Kept.{WithFirstRow, WithTableau};
 
 use crate::columns::{cost_at, has_no_negative_column, is_negative_column};
 use crate::outline::{LineFacts, Outline};
-use crate::sums::LevelSum;
+use crate::sums::{LevelRow, LevelSum};
 use crate::tableau::{CornerLines, Tableau};
 use frac_core::Frac;
 use path_checker::{Inside, Spot, Step, has_no_negative_value, is_down};
@@ -69,7 +69,7 @@ fn is_cost_below(facts: &LineFacts, spot: Spot, sum: &LevelSum) -> bool
     requires sum { HasLine spot.at sum.now }
     ensures { IsTrue result ↔ (cost_in spot.side facts.now spot.at 0 sum.now <ℤ pos 0) }
 {
-    cost_at(facts, spot, 0, sum) < 0
+    cost_at(facts, spot, LevelRow { place: 0, sum }) < 0
 }
 
 // Whether that of one of its marks is.

@@ -21,7 +21,7 @@ use crate::moved::moved_value;
 use crate::outline::LineFacts;
 use crate::pivots::pivot_of;
 use crate::shares::{has_fitting_cost, stood_number};
-use crate::sums::LevelSum;
+use crate::sums::{LevelRow, LevelSum};
 use crate::tableau::CornerLines;
 use frac_core::{Frac, PART_BOUND, Stop, Unfit};
 use path_checker::{Inside, Lowest, Pivot, Ratio, Step, SumStop, in_lowest_terms};
@@ -51,44 +51,32 @@ fn side_after(lines: &[Option<Inside>], pivot: &Pivot, at: usize) -> Option<Side
 }
 
 // The line's number in the level's row, where a mark of this side is inside.
-fn shown_number(
-    line: &LineFacts,
-    inside: Option<Side>,
-    place: usize,
-    sum: &LevelSum,
-    number: i64,
-) -> i64
+fn shown_number(line: &LineFacts, inside: Option<Side>, row: LevelRow<'_>, number: i64) -> i64
     requires line { IsPriced line.now }
-    requires sum { IsScaled sum.now }
+    requires sum { IsScaled row.sum.now }
     requires number { IsFitting number }
-    ensures value { result ≡ shown_of line.now inside place sum.now number }
+    ensures value { result ≡ shown_of line.now inside row.entry.place row.entry.sum.now number }
     ensures small { unsigned_abs result < 2 ^ 52 }
 {
     match inside {
-        Some(side) => stood_number(line, side, place, sum),
+        Some(side) => stood_number(line, side, row),
         None => number,
     }
 }
 
 // Whether both reduced costs of the line fit, if it is of the level.
-fn line_fits(
-    line: &LineFacts,
-    inside: Option<Side>,
-    place: usize,
-    sum: &LevelSum,
-    number: i64,
-) -> bool
+fn line_fits(line: &LineFacts, inside: Option<Side>, row: LevelRow<'_>, number: i64) -> bool
     requires line { IsPriced line.now }
-    requires sum { IsScaled sum.now }
+    requires sum { IsScaled row.sum.now }
     requires number { IsFitting number }
-    ensures { IsTrue result ↔ IsFitLine line.now inside place sum.now number }
+    ensures { IsTrue result ↔ IsFitLine line.now inside row.entry.place row.entry.sum.now number }
 {
-    if line.level != place {
+    if line.level != row.place {
         return true;
     }
-    let shown = shown_number(line, inside, place, sum, number);
-    has_fitting_cost(line, Side::Under, place, sum, shown)
-        && has_fitting_cost(line, Side::Over, place, sum, shown)
+    let shown = shown_number(line, inside, row, number);
+    has_fitting_cost(line, Side::Under, row, shown)
+        && has_fitting_cost(line, Side::Over, row, shown)
 }
 
 // Whether the scale fits.
@@ -101,23 +89,19 @@ fn scale_fits(sum: &LevelSum) -> bool
 }
 
 // Whether the row fits after the exchange.
-fn level_fits(corner: CornerLines<'_>, pivot: &Pivot, place: usize, sum: &LevelSum) -> bool
+fn level_fits(corner: CornerLines<'_>, pivot: &Pivot, row: LevelRow<'_>) -> bool
     requires corner { HasOutline corner }
-    requires sum { IsMadeLevel (length corner.lines.now) sum.now }
+    requires sum { IsMadeLevel (length corner.lines.now) row.sum.now }
     ensures { IsTrue result
-        ↔ IsFitLevel corner.entry.outline.now corner.entry.lines.now pivot.now place sum.now }
+        ↔ IsFitLevel corner.entry.outline.now corner.entry.lines.now pivot.now row.entry.place
+        row.entry.sum.now }
 {
-    if !scale_fits(sum) {
+    if !scale_fits(row.sum) {
         return false;
     }
     for (at, line) in corner.outline.lines.iter().enumerate() {
-        if !line_fits(
-            line,
-            side_after(corner.lines, pivot, at),
-            place,
-            sum,
-            sum.by[at],
-        ) {
+        let inside = side_after(corner.lines, pivot, at);
+        if !line_fits(line, inside, row, row.sum.by[at]) {
             return false;
         }
     }
@@ -153,24 +137,19 @@ fn ratio_of(n: i64, pivot: &Pivot, sum: &LevelSum) -> Ratio
 }
 
 // The level's cost after the exchange, of which the entering line has these facts.
-fn cost_after(
-    line: &LineFacts,
-    pivot: &Pivot,
-    place: usize,
-    sum: &LevelSum,
-) -> Result<Frac, SumStop>
+fn cost_after(line: &LineFacts, pivot: &Pivot, row: LevelRow<'_>) -> Result<Frac, SumStop>
     requires line { IsPriced line.now }
-    requires pivot { IsSizedPivot (length sum.now.by.items) pivot.now }
-    requires sum { IsSizedLevel (length sum.now.by.items) sum.now }
-    ensures cost { IfOk result
-        (IsMovedCost (entering_of line.now pivot.now place sum.now) pivot.now sum.now) }
-    ensures stop { IfErr result
-        (IsCostStop (entering_of line.now pivot.now place sum.now) pivot.now sum.now) }
+    requires pivot { IsSizedPivot (length row.sum.now.by.items) pivot.now }
+    requires sum { IsSizedLevel (length row.sum.now.by.items) row.sum.now }
+    ensures cost { IfOk result (IsMovedCost
+        (entering_of line.now pivot.now row.entry.place row.entry.sum.now) pivot.now row.entry.sum.now) }
+    ensures stop { IfErr result (IsCostStop
+        (entering_of line.now pivot.now row.entry.place row.entry.sum.now) pivot.now row.entry.sum.now) }
 {
-    let Some(n) = fitting(entering_number(line, pivot, place, sum)) else {
+    let Some(n) = fitting(entering_number(line, pivot, row)) else {
         return Err(Stop::Refused(Unfit));
     };
-    Ok(moved_value(sum.cost, ratio_of(n, pivot, sum), pivot.value)?)
+    Ok(moved_value(row.sum.cost, ratio_of(n, pivot, row.sum), pivot.value)?)
 }
 
 // A row in lowest terms with its cost.
@@ -192,30 +171,33 @@ fn level_with(unit: i64, numbers: Lowest, cost: Frac) -> LevelSum
 pub fn next_level(
     alloc: Global,
     exchange: LineExchange<'_>,
-    place: usize,
-    sum: &LevelSum,
+    row: LevelRow<'_>,
 ) -> Result<LevelSum, SumStop>
     requires exchange { IsSizedExchange exchange }
-    requires place { place < length exchange.corner.outline.now.levels.items }
-    requires sum { IsSizedLevel (length exchange.corner.lines.now) sum.now }
+    requires place { row.place < length exchange.corner.outline.now.levels.items }
+    requires sum { IsSizedLevel (length exchange.corner.lines.now) row.sum.now }
     ensures sized { IfOk result (IsSizedLevel (length exchange.entry.corner.lines.now)) }
-    ensures next { IfOk result (λ next. WithRow exchange.entry.corner place sum.now
-        (AfterStep exchange.entry.step (λ p at. IsSumAt p at exchange.entry.corner.outline.now place next))) }
+    ensures next { IfOk result (λ next. WithRow exchange.entry.corner row.entry
+        (AfterStep exchange.entry.step
+        (λ p at. IsSumAt p at exchange.entry.corner.outline.now row.entry.place next))) }
     ensures unfit { IfErr result (λ stop. IsRefused stop
-        → WithRow exchange.entry.corner place sum.now
-        (AfterStep exchange.entry.step (HasNoSumAt exchange.entry.corner.outline.now place))) }
+        → WithRow exchange.entry.corner row.entry
+        (AfterStep exchange.entry.step (HasNoSumAt exchange.entry.corner.outline.now row.entry.place))) }
 {
     let pivot = pivot_of(alloc, exchange.corner.lines, exchange.step)?;
-    let wide = next_level_numbers(alloc, exchange.corner.outline, &pivot, place, sum)?;
+    let wide = next_level_numbers(alloc, exchange.corner.outline, &pivot, row)?;
     let numbers = in_lowest_terms(alloc, &wide)?;
     let cost = cost_after(
         &exchange.corner.outline.lines[exchange.step.enter.at],
         &pivot,
-        place,
-        sum,
+        row,
     )?;
-    let next = level_with(sum.unit, numbers, cost);
-    if !level_fits(exchange.corner, &pivot, place, &next) {
+    let next = level_with(row.sum.unit, numbers, cost);
+    let next_row = LevelRow {
+        place: row.place,
+        sum: &next,
+    };
+    if !level_fits(exchange.corner, &pivot, next_row) {
         return Err(Stop::Refused(Unfit));
     }
     Ok(next)
@@ -242,7 +224,7 @@ pub fn next_levels(
 {
     let mut out = Vec::with_capacity(alloc, levels.len())?;
     for (place, sum) in levels.iter().enumerate() {
-        out.push(next_level(alloc, exchange, place, sum)?)?;
+        out.push(next_level(alloc, exchange, LevelRow { place, sum })?)?;
     }
     Ok(out)
 }

@@ -51,5 +51,5 @@ pub use moved::moved_value;
 pub use outline::{LevelFacts, LineFacts, Outline};
 pub use pivots::pivot_of;
 pub use rows::{RowsStop, UnfitRows, first_levels, level_of_lines};
-pub use sums::LevelSum;
+pub use sums::{LevelRow, LevelSum};
 pub use tableau::{CornerLines, Tableau};

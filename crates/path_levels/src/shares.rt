@@ -7,7 +7,7 @@ ghost use Rattle.path_levels.specs.Shares.{IsScaled, counted_of, reduced_of, sha
 ghost use Rattle.path_levels.specs.Shares.{stood_of, weight_on};
 
 use crate::outline::LineFacts;
-use crate::sums::LevelSum;
+use crate::sums::LevelRow;
 use frac_core::PART_BOUND;
 use problem_core::Side;
 
@@ -36,23 +36,23 @@ fn share(line: &LineFacts, side: Side, place: usize, unit: i64) -> i64
 }
 
 /// The same as often as the level's row is taken.
-pub fn counted(line: &LineFacts, side: Side, place: usize, sum: &LevelSum) -> i64
+pub fn counted(line: &LineFacts, side: Side, row: LevelRow<'_>) -> i64
     requires line { IsPriced line.now }
-    requires sum { IsScaled sum.now }
-    ensures value { result ≡ pos (counted_of line.now side place sum.now) }
-    ensures small { counted_of line.now side place sum.now < 2 ^ 52 }
+    requires sum { IsScaled row.sum.now }
+    ensures value { result ≡ pos (counted_of line.now side row.entry.place row.entry.sum.now) }
+    ensures small { counted_of line.now side row.entry.place row.entry.sum.now < 2 ^ 52 }
 {
-    sum.own * share(line, side, place, sum.unit)
+    row.sum.own * share(line, side, row.place, row.sum.unit)
 }
 
 /// The line's number in the level's row where its mark of this side is inside.
-pub fn stood_number(line: &LineFacts, side: Side, place: usize, sum: &LevelSum) -> i64
+pub fn stood_number(line: &LineFacts, side: Side, row: LevelRow<'_>) -> i64
     requires line { IsPriced line.now }
-    requires sum { IsScaled sum.now }
-    ensures value { result ≡ stood_of line.now side place sum.now }
+    requires sum { IsScaled row.sum.now }
+    ensures value { result ≡ stood_of line.now side row.entry.place row.entry.sum.now }
     ensures small { unsigned_abs result < 2 ^ 52 }
 {
-    let counted = counted(line, side, place, sum);
+    let counted = counted(line, side, row);
     match side {
         Side::Under => counted,
         Side::Over => -counted,
@@ -60,19 +60,13 @@ pub fn stood_number(line: &LineFacts, side: Side, place: usize, sum: &LevelSum) 
 }
 
 /// Whether the reduced cost of the mark of this side fits, where the line has the number.
-pub fn has_fitting_cost(
-    line: &LineFacts,
-    side: Side,
-    place: usize,
-    sum: &LevelSum,
-    number: i64,
-) -> bool
+pub fn has_fitting_cost(line: &LineFacts, side: Side, row: LevelRow<'_>, number: i64) -> bool
     requires line { IsPriced line.now }
-    requires sum { IsScaled sum.now }
+    requires sum { IsScaled row.sum.now }
     requires number { unsigned_abs number < 2 ^ 52 }
-    ensures { IsTrue result ↔ IsFitting (reduced_of line.now side place sum.now number) }
+    ensures { IsTrue result ↔ IsFitting (reduced_of line.now side row.entry.place row.entry.sum.now number) }
 {
-    let counted = counted(line, side, place, sum);
+    let counted = counted(line, side, row);
     let reduced = match side {
         Side::Under => counted - number,
         Side::Over => counted + number,

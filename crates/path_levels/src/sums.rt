@@ -12,3 +12,10 @@ pub struct LevelSum {
     pub by: Vec<i64>,
     pub cost: Frac,
 }
+
+/// The row of the level at a place of the outline.
+#[derive(Clone, Copy, Debug)]
+pub struct LevelRow<'a> {
+    pub place: usize,
+    pub sum: &'a LevelSum,
+}

@@ -8,7 +8,7 @@ ghost use Rattle.path_claims.specs.Fits.{IsFitAt, IsLastAfter, IsSizedLast, mark
 use crate::last::{Fit, Last};
 use crate::places::place_of_level;
 use frac_core::{OutOfMemory, Stop};
-use path_levels::{LineExchange, Tableau, next_level};
+use path_levels::{LevelRow, LineExchange, Tableau, next_level};
 use problem_core::{Level, Problem};
 use std::alloc::Global;
 
@@ -28,7 +28,8 @@ pub(crate) fn level_fit(
         return Ok(Fit::Fits);
     };
     let (step, sum) = (last.step, &levels[place]);
-    match next_level(alloc, LineExchange { corner, step }, place, sum) {
+    let exchange = LineExchange { corner, step };
+    match next_level(alloc, exchange, LevelRow { place, sum }) {
         Ok(next) => {
             let _ = next.cost.num(); // for the proof: what a fraction keeps
             Ok(Fit::Fits)

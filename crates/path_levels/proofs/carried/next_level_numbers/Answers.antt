@@ -22,6 +22,6 @@ returns-clause-next c =
     let sharing : AreSharing c.args.pivot.now.size c.entering_number-n.result c.factors_of-factors.result = simp to_z-of_z at c.factors_of-factors.ensures in
     ok_then c.put_together.result
     (λ wide carried p at outline_is turn is.
-    multiple_there p at c.args.outline.now c.args.place c.args.sum.now c.args.pivot.now c.factors_of-factors.result c.entering_number-n.result c.leaving_number-leaving.result wide c.index.result.now c.index-leaves.result.now c.requires.place
+    multiple_there p at c.args.outline.now c.args.row.place c.args.row.sum.now c.args.pivot.now c.factors_of-factors.result c.entering_number-n.result c.leaving_number-leaving.result wide c.index.result.now c.index-leaves.result.now c.requires.place
     c.index.ensures c.index-leaves.ensures c.entering_number-n.ensures.value sharing c.leaving_number-leaving.ensures.value carried outline_is turn is)
     (simp to_z-of_z at c.put_together.ensures.carried)

@@ -13,7 +13,7 @@ returns-clause-cost c =
     let times_raw : c.ratio_of.result.times ≡ c.in-Some.n *ℤ c.args.pivot.now.times = simp to_z-of_z at c.ratio_of.ensures.times in
     record {
       kept = c.in_ok-moved_value.ensures.kept;
-      ratio = subst₂ (λ (t o : ℤ). IsRatio c.in_ok-moved_value.field-0 (sum_num c.args.sum.now.cost t o c.args.pivot.now.value) (sum_den c.args.sum.now.cost o c.args.pivot.now.value))
+      ratio = subst₂ (λ (t o : ℤ). IsRatio c.in_ok-moved_value.field-0 (sum_num c.args.row.sum.now.cost t o c.args.pivot.now.value) (sum_den c.args.row.sum.now.cost o c.args.pivot.now.value))
           (times_raw ∙ ap (λ (z : ℤ). z *ℤ c.args.pivot.now.times) (n_raw ∙ c.entering_number.ensures.value)) c.ratio_of.ensures.over c.in_ok-moved_value.ensures.value;
     }
 
@@ -26,6 +26,6 @@ returns-in_err-moved_value-clause-stop c =
     let exit = err_from_is_err_and c.from_residual.result c.from_residual.ensures.1 in
     rw (exit.1, exit.2) (
       tt,
-      λ fits. subst₂ (λ (t o : ℤ). IsUnfitRatio (sum_num c.args.sum.now.cost t o c.args.pivot.now.value) (sum_den c.args.sum.now.cost o c.args.pivot.now.value))
+      λ fits. subst₂ (λ (t o : ℤ). IsUnfitRatio (sum_num c.args.row.sum.now.cost t o c.args.pivot.now.value) (sum_den c.args.row.sum.now.cost o c.args.pivot.now.value))
           (times_raw ∙ ap (λ (z : ℤ). z *ℤ c.args.pivot.now.times) (n_raw ∙ c.entering_number.ensures.value)) c.ratio_of.ensures.over c.in_err-moved_value.ensures.unfit,
     )

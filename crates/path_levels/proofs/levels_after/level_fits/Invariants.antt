@@ -7,6 +7,6 @@ use Rattle.path_levels.proofs.levels_after.level_fits.Given as goal
 
 abbrev pub invariant-loop-at : goal.invariant-loop-at
 invariant-loop-at l = record {
-  scale : IsFitting (l.sum.own *ℤ l.sum.unit);
-  each : (k : ℕ) (d : LineFacts) → k < l.at → IsFitLine (get_or l.corner.outline.now.lines.items k d) (side_of_after l.corner.lines.now l.pivot k) l.place l.sum (number_at l.sum.by.items k);
+  scale : IsFitting (l.row.sum.now.own *ℤ l.row.sum.now.unit);
+  each : (k : ℕ) (d : LineFacts) → k < l.at → IsFitLine (get_or l.corner.outline.now.lines.items k d) (side_of_after l.corner.lines.now l.pivot k) l.row.place l.row.sum.now (number_at l.row.sum.now.by.items k);
 }

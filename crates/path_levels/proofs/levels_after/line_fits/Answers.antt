@@ -8,11 +8,11 @@ pub returns-then-has_fitting_cost : goal.returns-then-has_fitting_cost
 returns-then-has_fitting_cost c =
     let shown : SFits w64 c.shown_number-shown.result = record { sfits = c.shown_number-shown.type_inv } in
     let up : IsTrue c.has_fitting_cost.result = search rules in
-    both_sides c.args.line.now c.args.inside c.args.place c.args.sum.now c.args.number c.shown_number-shown.result c.has_fitting_cost.result c.has_fitting_cost-then-has_fitting_cost.result (simp (to_z-of_z, c.ranges.number) at c.shown_number-shown.ensures.value) c.if-line-place.false
+    both_sides c.args.line.now c.args.inside c.args.row.place c.args.row.sum.now c.args.number c.shown_number-shown.result c.has_fitting_cost.result c.has_fitting_cost-then-has_fitting_cost.result (simp (to_z-of_z, c.ranges.number) at c.shown_number-shown.ensures.value) c.if-line-row.false
     (simp to_z-of_z at c.has_fitting_cost.ensures) (simp to_z-of_z at c.has_fitting_cost-then-has_fitting_cost.ensures) up
 
 pub returns-else-has_fitting_cost : goal.returns-else-has_fitting_cost
 returns-else-has_fitting_cost c =
     let shown : SFits w64 c.shown_number-shown.result = record { sfits = c.shown_number-shown.type_inv } in
     let down : IsTrue c.has_fitting_cost.result → ⊥ = search rules in
-    under_unfit c.args.line.now c.args.inside c.args.place c.args.sum.now c.args.number c.shown_number-shown.result c.has_fitting_cost.result (simp (to_z-of_z, c.ranges.number) at c.shown_number-shown.ensures.value) c.if-line-place.false (simp to_z-of_z at c.has_fitting_cost.ensures) down
+    under_unfit c.args.line.now c.args.inside c.args.row.place c.args.row.sum.now c.args.number c.shown_number-shown.result c.has_fitting_cost.result (simp (to_z-of_z, c.ranges.number) at c.shown_number-shown.ensures.value) c.if-line-row.false (simp to_z-of_z at c.has_fitting_cost.ensures) down
