@@ -10,11 +10,11 @@ use Rattle.constraint_compile.proofs.Formats.Numbered.{found_row, found_stop}
 use Rattle.constraint_compile.proofs.format.rows.add_row.Goals as goal
 
 pub returns-in_ok-push_row-in-Ok-clause-forms : goal.returns-in_ok-push_row-in-Ok-clause-forms
-returns-in_ok-push_row-in-Ok-clause-forms c = subst (All IsForm) (sym c.in_ok-push_row.ensures) (All-push IsForm c.args.found.now.rows.items c.in-Ok.row c.requires.forms c.in-Ok.ensures.form)
+returns-in_ok-push_row-in-Ok-clause-forms c = subst (All IsForm) (sym c.in_ok-push_row-in-Ok.ensures) (All-push IsForm c.args.found.now.rows.items c.in-Ok.row c.requires.forms c.in-Ok.ensures.form)
 
 pub returns-in_ok-push_row-in-Ok-clause-found : goal.returns-in_ok-push_row-in-Ok-clause-found
 returns-in_ok-push_row-in-Ok-clause-found c = λ views lines l first is number found.
-    let more : map form_view c.push_row.new.rows.items ≡ map form_view c.args.found.now.rows.items ++ form_view c.in-Ok.row ∷ [] = ap (map form_view) c.in_ok-push_row.ensures ∙ map_push form_view c.args.found.now.rows.items c.in-Ok.row in
+    let more : map form_view c.push_row.new.rows.items ≡ map form_view c.args.found.now.rows.items ++ form_view c.in-Ok.row ∷ [] = ap (map form_view) c.in_ok-push_row-in-Ok.ensures ∙ map_push form_view c.args.found.now.rows.items c.in-Ok.row in
     subst (λ (rows : List compiled.RowForm). IsFound views c.args.metrics.now (lines ++ l ∷ []) first rows c.args.found.now.limit) (sym more)
     (found_row views c.args.metrics.now lines l first c.args.id (map form_view c.args.found.now.rows.items) (form_view c.in-Ok.row) c.args.found.now.limit number (c.in-Ok.ensures.row views l is) found)
 
