@@ -73,8 +73,8 @@ fn unfit(alloc: Global, c: &Corner, id: u32, swap: Swap, quantity: Quantity) -> 
 /// Brings a mark of the row in, against a stay's, where none is inside. The stays stand at the present
 /// values, and no value changes.
 ///
-/// `Unfit`: a quantity does not fit at the corner after the exchange, which is the path's, and the corner is
-/// as before. After want of memory it is that of the newest mark.
+/// `Unfit`: a quantity does not fit at the corner after the exchange, which is the path's. After an error
+/// only the earlier corners are said to be as before.
 pub fn free_row(alloc: Global, c: &mut Corner, id: u32) -> Result<Option<Swap>, RunStop>
     requires marked { 0 < length c.old.before }
     requires held { Any (λ r. r.id ≡ id) c.old.problem.rows }

@@ -12,7 +12,7 @@
 //! ```
 //!
 //! What [`free_row`] keeps: each value, so that none is negative after it, the problem, and the earlier
-//! corners. Where a quantity does not fit, it keeps all.
+//! corners.
 //!
 //! Linear programming's words: a slack or surplus variable of the row that is to leave becomes basic, by a
 //! degenerate pivot. The Cassowary solvers call it the row's marker.

@@ -118,12 +118,14 @@ pub fn fit_after(
 {
     p.show_whole(); // for the proof: what a problem keeps
     let lines = last.tableau.corner.lines;
+    // a corner that is kept has a line for each row and stay, so that nothing is owed here
     if lines.len() != p.rows().len() + p.stays().len() {
         return Ok(Fit::Fits);
     }
     match pivot_of(alloc, lines, last.step) {
         Ok(pivot) => quantity_fit(alloc, p, last, &pivot, named),
         Err(Stop::OutOfMemory) => Err(OutOfMemory),
+        // nor where the step is no exchange
         Err(Stop::Refused(_)) => Ok(Fit::Fits),
     }
 }

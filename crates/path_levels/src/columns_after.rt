@@ -174,6 +174,7 @@ pub fn has_no_negative_column_after(
 {
     let pivot = match pivot_of(alloc, exchange.corner.lines, exchange.step) {
         Ok(pivot) => pivot,
+        // the step is no exchange, so that nothing is owed
         Err(Stop::Refused(_)) => return Ok(true),
         Err(Stop::OutOfMemory) => return Err(OutOfMemory),
     };
