@@ -1,5 +1,5 @@
 -- Text that has gone to a sink in part.
-use Rattle.std.proofs.Common.{◌≡◌, ◌∙◌, ℕ, zero, suc, ◌+◌, ◌<◌, ◌≤◌, List, [], ◌∷◌, ◌++◌, length, take, drop, take_all, Some, None, refl, sym, ap, subst, arith, append_assoc, length-append, add-one}
+use Rattle.std.proofs.Common.{◌≡◌, ◌∙◌, ℕ, zero, suc, ◌+◌, ◌<◌, ◌≤◌, List, [], ◌∷◌, ◌++◌, length, take, drop, take_all, Some, None, refl, sym, ap, subst, arith, append_assoc, length-append, add-one, flat_map}
 use Rattle.std.specs.declared.option.Option.{Option}
 use Rattle.std.specs.declared.result.Result.{Result}
 use Rattle.std.specs.declared.result.Result.TheVariants.{Ok, Err}
@@ -10,7 +10,7 @@ use Rattle.std.proofs.Math.Seq.{take-append-add}
 use Rattle.edge_io.proofs.Moves.{appends_both}
 use Rattle.frac_core.specs.Fraction.{Fraction}
 use Rattle.view_tree.specs.Views.{LiveView}
-use Rattle.layout_cli.specs.Replies.{text_of_each, frame_text}
+use Rattle.layout_cli.specs.Replies.{frame_text}
 use Rattle.layout_cli.specs.Printing.{HasFront, frame_line_of}
 
 -- nothing was put
@@ -63,37 +63,37 @@ err_as r a b this that is front = subst (λ (t : List ℕ). OnErr r (HasFront a 
 
 -- the lines of the views before a place, the line there, and those behind it
 pub each_split : (values : List (ℕ × Fraction)) (views : List LiveView) (i : ℕ) → i < length views
-    → text_of_each (frame_text values) views ≡ text_of_each (frame_text values) (take i views) ++ (frame_line_of values (slice_get views i) ++ text_of_each (frame_text values) (drop (suc i) views))
+    → flat_map (frame_text values) views ≡ flat_map (frame_text values) (take i views) ++ (frame_line_of values (slice_get views i) ++ flat_map (frame_text values) (drop (suc i) views))
 each_split values [] i within = absurd (omega (arith, within))
 each_split values (v ∷ views) zero within = refl
 each_split values (v ∷ views) (suc i) within =
     ap (λ (t : List ℕ). frame_text values v ++ t) (each_split values views i (omega (arith, within)))
-    ∙ sym (append_assoc (frame_text values v) (text_of_each (frame_text values) (take i views)) (frame_line_of values (slice_get views i) ++ text_of_each (frame_text values) (drop (suc i) views)))
+    ∙ sym (append_assoc (frame_text values v) (flat_map (frame_text values) (take i views)) (frame_line_of values (slice_get views i) ++ flat_map (frame_text values) (drop (suc i) views)))
 
 each_suc : (values : List (ℕ × Fraction)) (views : List LiveView) (i : ℕ) → i < length views
-    → text_of_each (frame_text values) (take (suc i) views) ≡ text_of_each (frame_text values) (take i views) ++ frame_line_of values (slice_get views i)
+    → flat_map (frame_text values) (take (suc i) views) ≡ flat_map (frame_text values) (take i views) ++ frame_line_of values (slice_get views i)
 each_suc values [] i within = absurd (omega (arith, within))
 each_suc values (v ∷ views) zero within = append-nil (frame_text values v)
 each_suc values (v ∷ views) (suc i) within =
     ap (λ (t : List ℕ). frame_text values v ++ t) (each_suc values views i (omega (arith, within)))
-    ∙ sym (append_assoc (frame_text values v) (text_of_each (frame_text values) (take i views)) (frame_line_of values (slice_get views i)))
+    ∙ sym (append_assoc (frame_text values v) (flat_map (frame_text values) (take i views)) (frame_line_of values (slice_get views i)))
 
 -- the lines before the next place
 pub each_more : (values : List (ℕ × Fraction)) (views : List LiveView) (i : ℕ) → i < length views
-    → text_of_each (frame_text values) (take (i + 1) views) ≡ text_of_each (frame_text values) (take i views) ++ frame_line_of values (slice_get views i)
-each_more values views i within = ap (λ (n : ℕ). text_of_each (frame_text values) (take n views)) (add-one i) ∙ each_suc values views i within
+    → flat_map (frame_text values) (take (i + 1) views) ≡ flat_map (frame_text values) (take i views) ++ frame_line_of values (slice_get views i)
+each_more values views i within = ap (λ (n : ℕ). flat_map (frame_text values) (take n views)) (add-one i) ∙ each_suc values views i within
 
 -- a front of the line at a place, after the lines before it, is a front of the whole
 pub front_at : (a b c : Option (List ℕ)) (values : List (ℕ × Fraction)) (views : List LiveView) (i : ℕ) (last : List ℕ) → i < length views
-    → Appends a b (text_of_each (frame_text values) (take i views)) → HasFront b c (frame_line_of values (slice_get views i))
-    → HasFront a c (text_of_each (frame_text values) views ++ last)
+    → Appends a b (flat_map (frame_text values) (take i views)) → HasFront b c (frame_line_of values (slice_get views i))
+    → HasFront a c (flat_map (frame_text values) views ++ last)
 front_at a b c values views i last within put front =
-    let before : List ℕ = text_of_each (frame_text values) (take i views) in
+    let before : List ℕ = flat_map (frame_text values) (take i views) in
     let this : List ℕ = frame_line_of values (slice_get views i) in
-    let behind : List ℕ = text_of_each (frame_text values) (drop (suc i) views) in
-    front_first a c (text_of_each (frame_text values) views) last
+    let behind : List ℕ = flat_map (frame_text values) (drop (suc i) views) in
+    front_first a c (flat_map (frame_text values) views) last
     (subst (HasFront a c) (sym (each_split values views i within)) (front_then a b c before (this ++ behind) put (front_first b c this behind front)))
 
 -- all lines, once the place is at the end
-pub each_all : (values : List (ℕ × Fraction)) (views : List LiveView) (i : ℕ) → length views ≤ i → text_of_each (frame_text values) (take i views) ≡ text_of_each (frame_text values) views
-each_all values views i within = ap (text_of_each (frame_text values)) (take_all i views within)
+pub each_all : (values : List (ℕ × Fraction)) (views : List LiveView) (i : ℕ) → length views ≤ i → flat_map (frame_text values) (take i views) ≡ flat_map (frame_text values) views
+each_all values views i within = ap (flat_map (frame_text values)) (take_all i views within)
