@@ -1,11 +1,10 @@
 pub mod BestRuns
 pub mod EachView
-pub mod Stills
 pub mod Texts
 pub mod Told
 pub mod Printed
 pub mod Made
-pub mod FoundLines
+pub mod AttrNames
 pub mod Talks
 pub mod Answered
 pub mod Stops

@@ -1,6 +1,7 @@
 -- The text of what is found of a scene, and of the probe that stopped.
 use Rattle.std.specs.Prelude.{ℕ, Bool, true, false, cond, nat_eq, List, [], ◌∷◌, ◌++◌, codes, decimal}
 use Rattle.std.specs.Prelude.{Option, Some, None}
+use Rattle.std.specs.List.{flat_map}
 use Rattle.span_text.specs.Bytes.{newline, point, space}
 use Rattle.frac_core.specs.Fraction.{Fraction}
 use Rattle.frac_core.specs.Text.{fraction_text}
@@ -42,15 +43,10 @@ unmet_line e = found_line (codes "unmet ") (decimal e.0) e.1
 abbrev pub moving_line : List LiveView → ℕ × Fraction → List ℕ
 moving_line views m = found_line (codes "ambiguous ") (attr_name views m.0) m.1
 
--- the lines, one after the other
-abbrev pub line_of_each : (ℕ × Fraction → List ℕ) → List (ℕ × Fraction) → List ℕ
-line_of_each line [] = []
-line_of_each line (pair ∷ more) = line pair ++ line_of_each line more
-
 -- the lines of what is found: the errors, then the unmet rows, then the ambiguous attributes
 abbrev pub findings_text : List LiveView → Findings → List ℕ
-findings_text views f = line_of_each error_line f.errors
-    ++ (line_of_each unmet_line f.unmet ++ line_of_each (moving_line views) f.moving)
+findings_text views f = flat_map error_line f.errors
+    ++ (flat_map unmet_line f.unmet ++ flat_map (moving_line views) f.moving)
 
 -- a probe's direction, behind a space
 abbrev pub way_text : Bool → List ℕ

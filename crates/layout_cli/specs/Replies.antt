@@ -1,5 +1,6 @@
 -- The text of replies.
 use Rattle.std.specs.Prelude.{ℕ, Bool, List, [], ◌∷◌, ◌++◌, codes, decimal}
+use Rattle.std.specs.List.{flat_map}
 use Rattle.span_text.specs.Bytes.{newline, point, space}
 use Rattle.frac_core.specs.Fraction.{Fraction}
 use Rattle.frac_core.specs.Text.{fraction_text}
@@ -78,27 +79,22 @@ name_lines v = name_line (left_of v.id) v.name (codes "left")
     ++ (name_line (width_of v.id) v.name (codes "width")
     ++ name_line (height_of v.id) v.name (codes "height")))
 
--- the texts of the views, one after the other
-abbrev pub text_of_each : (LiveView → List ℕ) → List LiveView → List ℕ
-text_of_each text [] = []
-text_of_each text (v ∷ more) = text v ++ text_of_each text more
-
 -- these bytes, ended as a line
 abbrev pub line_of : List ℕ → List ℕ
 line_of bytes = bytes ++ newline ∷ []
 
 -- the frame of each view, a line each, and `ok`
 abbrev pub frames_text : Scene → List ℕ
-frames_text scene = text_of_each (frame_text scene.values) scene.tree.views ++ line_of (codes "ok")
+frames_text scene = flat_map (frame_text scene.values) scene.tree.views ++ line_of (codes "ok")
 
 -- the names of the views' attributes, the rows and stays, and `ok`
 abbrev pub rows_text : Scene → List ℕ
-rows_text scene = text_of_each name_lines scene.tree.views
+rows_text scene = flat_map name_lines scene.tree.views
     ++ (problem_text (problem_of scene) ++ line_of (codes "ok"))
 
 -- the lines of `rows`, the values, and the multipliers of each level
 abbrev pub certificate_text : Scene → List BestLevel → List ℕ
-certificate_text scene levels = text_of_each name_lines scene.tree.views
+certificate_text scene levels = flat_map name_lines scene.tree.views
     ++ (problem_text (problem_of scene)
     ++ (claim_text (IsBest scene.values levels) ++ line_of (codes "ok")))
 
@@ -110,15 +106,10 @@ conflict_text by = codes "refused 6 " ++ claim_text (IsConflict by)
 abbrev pub still_line : ℕ → List ℕ
 still_line id = codes "still " ++ (decimal id ++ newline ∷ [])
 
--- one line for each row that is still held
-abbrev pub still_text : List ℕ → List ℕ
-still_text [] = []
-still_text (id ∷ ids) = still_line id ++ still_text ids
-
 -- what stands before the path: no line where the command's own run stops
 abbrev pub place_text : List LiveView → Place → List ℕ
 place_text views Step = []
-place_text views (Still ids) = still_text ids
+place_text views (Still ids) = flat_map still_line ids
 place_text views (Probe attr up) = probe_line views attr up
 
 -- a quantity doesn't fit: what had stopped, the path, and the quantity

@@ -7,7 +7,8 @@ pub(crate) mod refusals;
 
 ghost use Rattle.std.specs.Prelude.{◌≡◌, ◌≤◌, ◌+◌, ◌++◌, IfOk, OnOk, IsOk, codes, vec_len};
 ghost use Rattle.std.specs.Prelude.{vec_capacity};
-ghost use Rattle.layout_cli.specs.Replies.{text_of, frames_text, rows_text, name_lines, text_of_each};
+ghost use Rattle.std.specs.List.{flat_map};
+ghost use Rattle.layout_cli.specs.Replies.{text_of, frames_text, rows_text, name_lines};
 ghost use Rattle.layout_cli.specs.Replies.{certificate_text, diagnosis_text, line_of};
 ghost use Rattle.diagnosis.specs.Diagnoses.{findings_of};
 ghost use Rattle.session_undo.specs.Replies.{accepted, IsChange, Tells};
@@ -37,7 +38,7 @@ fn push_ok(out: &mut Vec<u8>) -> Result<(), OutOfMemory>
 
 fn push_names(session: &Session, out: &mut Vec<u8>) -> Result<(), OutOfMemory>
     ensures { IfOk result (λ _. out.new.items ≡ out.old.items
-        ++ text_of_each name_lines session.now.scene.tree.views) }
+        ++ flat_map name_lines session.now.scene.tree.views) }
 {
     let mut text = String::new(*out.allocator());
     put_names(&mut text, session.state().tree())?;

@@ -1,11 +1,12 @@
 // The text of what is found of a scene, and of the probe that stopped.
 ghost use Rattle.std.specs.Prelude.{◌≡◌, ◌<◌, ◌++◌, ◌∷◌, [], Some, None, slice_get, IfOk, IfSome, IfNone};
+ghost use Rattle.std.specs.List.{flat_map};
 ghost use Rattle.span_text.specs.Bytes.{newline, point, space};
 ghost use Rattle.frac_core.specs.Text.{fraction_text};
 ghost use Rattle.view_tree.specs.Views.{LiveView};
 ghost use Rattle.view_tree.specs.declared.limits.TheConstants.{ID_LIMIT};
 ghost use Rattle.diagnosis.specs.Diagnoses.{findings_of};
-ghost use Rattle.layout_cli.specs.Found.{attr_name, error_line, findings_text, found_line, line_of_each};
+ghost use Rattle.layout_cli.specs.Found.{attr_name, error_line, findings_text, found_line};
 ghost use Rattle.layout_cli.specs.Found.{moving_line, probe_line, unmet_line, way_text, word_at};
 
 use crate::reply::frames::push_value;
@@ -126,7 +127,7 @@ fn push_moving(out: &mut Vec<u8>, tree: &Tree, attr: u32, value: Frac) -> Result
 
 // Appends the lines of the priorities.
 fn push_errors(out: &mut Vec<u8>, errors: &[(u16, Frac)]) -> Result<(), OutOfMemory>
-    ensures { IfOk result (λ _. out.new.items ≡ out.old.items ++ line_of_each error_line errors.now) }
+    ensures { IfOk result (λ _. out.new.items ≡ out.old.items ++ flat_map error_line errors.now) }
 {
     for error in errors {
         push_error(out, error.0, error.1)?;
@@ -136,7 +137,7 @@ fn push_errors(out: &mut Vec<u8>, errors: &[(u16, Frac)]) -> Result<(), OutOfMem
 
 // Appends the lines of the rows.
 fn push_unmets(out: &mut Vec<u8>, unmet: &[(u32, Wide)]) -> Result<(), OutOfMemory>
-    ensures { IfOk result (λ _. out.new.items ≡ out.old.items ++ line_of_each unmet_line unmet.now) }
+    ensures { IfOk result (λ _. out.new.items ≡ out.old.items ++ flat_map unmet_line unmet.now) }
 {
     for row in unmet {
         push_unmet(out, row.0, row.1)?;
@@ -147,7 +148,7 @@ fn push_unmets(out: &mut Vec<u8>, unmet: &[(u32, Wide)]) -> Result<(), OutOfMemo
 // Appends the lines of the attributes.
 fn push_movings(out: &mut Vec<u8>, tree: &Tree, moving: &[(u32, Frac)]) -> Result<(), OutOfMemory>
     ensures { IfOk result (λ _. out.new.items
-        ≡ out.old.items ++ line_of_each (moving_line tree.now.views) moving.now) }
+        ≡ out.old.items ++ flat_map (moving_line tree.now.views) moving.now) }
 {
     for attr in moving {
         push_moving(out, tree, attr.0, attr.1)?;

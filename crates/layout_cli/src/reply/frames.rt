@@ -1,7 +1,8 @@
 // The text of frames.
 ghost use Rattle.std.specs.Prelude.{◌≡◌, ◌++◌, ◌∷◌, [], IfOk, Some, None, slice_get};
+ghost use Rattle.std.specs.List.{flat_map};
 ghost use Rattle.view_tree.specs.Views.{LiveView};
-ghost use Rattle.layout_cli.specs.Replies.{value_text, frame_line, frame_text, text_of_each};
+ghost use Rattle.layout_cli.specs.Replies.{value_text, frame_line, frame_text};
 
 use frac_core::{FRACTION_ROOM, Frac, OutOfMemory, Wide, write_frac};
 use session_undo::Scene;
@@ -75,7 +76,7 @@ pub(crate) fn push_at(out: &mut Vec<u8>, scene: &Scene, place: usize) -> Result<
 /// Appends the frames of all views.
 pub fn push_frames(out: &mut Vec<u8>, scene: &Scene) -> Result<(), OutOfMemory>
     ensures { IfOk result (λ _. out.new.items
-        ≡ out.old.items ++ text_of_each (frame_text scene.now.scene.values) scene.now.scene.tree.views) }
+        ≡ out.old.items ++ flat_map (frame_text scene.now.scene.values) scene.now.scene.tree.views) }
 {
     for place in 0..scene.tree().len() {
         push_at(out, scene, place)?;

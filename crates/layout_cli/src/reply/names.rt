@@ -1,7 +1,8 @@
 // The lines that name the attributes of a scene.
 ghost use Rattle.std.specs.Prelude.{◌≡◌, ◌<◌, ◌++◌, IfOk, None, string_bytes};
+ghost use Rattle.std.specs.List.{flat_map};
 ghost use Rattle.view_tree.specs.declared.limits.TheConstants.{ID_LIMIT};
-ghost use Rattle.layout_cli.specs.Replies.{name_line, name_lines, text_of_each};
+ghost use Rattle.layout_cli.specs.Replies.{name_line, name_lines};
 
 use frac_core::OutOfMemory;
 use view_tree::{Tree, ViewId};
@@ -31,7 +32,7 @@ fn put_names_of(text: &mut String, view: ViewId, name: &str) -> Result<(), OutOf
 /// Appends the names of the attributes of all views.
 pub fn put_names(text: &mut String, tree: &Tree) -> Result<(), OutOfMemory>
     ensures { IfOk result (λ _. string_bytes text.new
-        ≡ string_bytes text.old ++ text_of_each name_lines tree.now.views) }
+        ≡ string_bytes text.old ++ flat_map name_lines tree.now.views) }
 {
     for place in 0..tree.len() {
         match tree.at(place) {

@@ -1,8 +1,6 @@
 // Frames that go straight to a sink.
-ghost use Rattle.std.specs.Prelude.{◌≡◌, ◌≤◌, ◌+◌, ◌++◌, [], length, take, IfSome, IfNone, OnOk, OnErr};
-ghost use Rattle.std.specs.Io.KnownBytes.{Appends};
-ghost use Rattle.edge_io.specs.Cause.{HasCause};
-ghost use Rattle.layout_cli.specs.Printing.{HasFront, line_at};
+ghost use Rattle.std.specs.Prelude.{◌≡◌, ◌≤◌, ◌+◌, ◌++◌, [], length, take, IfSome, IfNone};
+ghost use Rattle.layout_cli.specs.Printing.{Puts, line_at};
 ghost use Rattle.layout_cli.specs.Replies.{value_text, frame_line, frames_text};
 ghost use Rattle.frac_core.specs.declared.text.TheConstants.{FRACTION_ROOM};
 ghost use Rattle.layout_cli.specs.declared.reply.printing.TheConstants.{LINE_ROOM};
@@ -60,11 +58,8 @@ fn write_frame(line: &mut [u8; LINE_ROOM], name: &[u8], frame: &Frame) -> usize
 // Puts the line that shows a frame.
 fn print_frame<K: Sink>(sink: &mut K, name: &[u8], frame: &Frame) -> Result<(), Failed>
     requires { length name.now ≤ NAME_LIMIT }
-    ensures ok { OnOk result (Appends (K.held sink.old) (K.held sink.new)
-        (frame_line name.now frame.now.left frame.now.top frame.now.width frame.now.height)) }
-    ensures err { OnErr result (HasFront (K.held sink.old) (K.held sink.new)
-        (frame_line name.now frame.now.left frame.now.top frame.now.width frame.now.height)) }
-    ensures cause { HasCause (K.faults sink.old) (K.faults sink.new) result }
+    ensures { Puts K.held K.faults sink.old sink.new
+        (frame_line name.now frame.now.left frame.now.top frame.now.width frame.now.height) result }
 {
     let mut line = [0; LINE_ROOM];
     let end = write_frame(&mut line, name, frame);
@@ -98,10 +93,7 @@ fn shown_at(scene: &Scene, place: usize) -> Option<Shown<'_>>
 
 // Puts the line that shows the frame of the view at a place, if a view is there.
 fn print_at<K: Sink>(sink: &mut K, scene: &Scene, place: usize) -> Result<(), Failed>
-    ensures ok { OnOk result (Appends (K.held sink.old) (K.held sink.new) (line_at scene.now.scene place)) }
-    ensures err { OnErr result
-        (HasFront (K.held sink.old) (K.held sink.new) (line_at scene.now.scene place)) }
-    ensures cause { HasCause (K.faults sink.old) (K.faults sink.new) result }
+    ensures { Puts K.held K.faults sink.old sink.new (line_at scene.now.scene place) result }
 {
     match shown_at(scene, place) {
         Some(shown) => print_frame(sink, shown.name, &shown.frame),
@@ -112,10 +104,7 @@ fn print_at<K: Sink>(sink: &mut K, scene: &Scene, place: usize) -> Result<(), Fa
 /// Puts the reply to `frames`: the lines of the frames of all views, and `ok`. It takes no memory. `Failed`
 /// comes only from the sink, and then a front of the reply was appended.
 pub fn print_frames<K: Sink>(session: &Session, sink: &mut K) -> Result<(), Failed>
-    ensures ok { OnOk result (Appends (K.held sink.old) (K.held sink.new) (frames_text session.now.scene)) }
-    ensures err { OnErr result
-        (HasFront (K.held sink.old) (K.held sink.new) (frames_text session.now.scene)) }
-    ensures cause { HasCause (K.faults sink.old) (K.faults sink.new) result }
+    ensures { Puts K.held K.faults sink.old sink.new (frames_text session.now.scene) result }
 {
     let scene = session.state();
     for place in 0..scene.tree().len() {

@@ -1,9 +1,10 @@
 // The text of refusals.
 ghost use Rattle.std.specs.Prelude.{◌≡◌, ◌++◌, ◌∷◌, [], IfOk, codes, decimal};
+ghost use Rattle.std.specs.List.{flat_map};
 ghost use Rattle.span_text.specs.Bytes.{newline};
 ghost use Rattle.session_undo.specs.Replies.{IsTold, place_of};
 ghost use Rattle.layout_cli.specs.Replies.{limit_text, kind_text, refusal_text, conflict_text};
-ghost use Rattle.layout_cli.specs.Replies.{overflow_text, place_text, spent_text, still_line, still_text};
+ghost use Rattle.layout_cli.specs.Replies.{overflow_text, place_text, spent_text, still_line};
 ghost use Rattle.layout_cli.specs.Replies.{target_text};
 
 use crate::reply::found::push_probe;
@@ -86,7 +87,7 @@ fn push_still(out: &mut Vec<u8>, id: u32) -> Result<(), OutOfMemory>
 
 // Appends the lines of the rows that are still held.
 fn push_stills(out: &mut Vec<u8>, ids: &[u32]) -> Result<(), OutOfMemory>
-    ensures { IfOk result (λ _. out.new.items ≡ out.old.items ++ still_text ids.now) }
+    ensures { IfOk result (λ _. out.new.items ≡ out.old.items ++ flat_map still_line ids.now) }
 {
     for id in ids {
         push_still(out, *id)?;

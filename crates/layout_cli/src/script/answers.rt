@@ -1,12 +1,11 @@
 // The replies to lines.
 ghost use Rattle.std.specs.Prelude.{◌≡◌, ◌≤◌, [], true, IfOk, IfErr, IsErrOf, OnOk, OnErr, vec_capacity};
 ghost use Rattle.std.specs.Io.KnownBytes.{Appends};
-ghost use Rattle.edge_io.specs.Cause.{Rose};
 ghost use Rattle.frac_core.specs.declared.memory.Stop.TheVariants.{OutOfMemory as NoMemory};
 ghost use Rattle.layout_cli.specs.Machine.{Step};
 ghost use Rattle.layout_cli.specs.Printing.{HasFront};
 ghost use Rattle.layout_cli.specs.Replies.{text_of};
-ghost use Rattle.layout_cli.specs.Talks.{IsAnswered, IsAnsweredInPart, sink_failed};
+ghost use Rattle.layout_cli.specs.Talks.{HasStopCause, IsAnswered, IsAnsweredInPart, sink_failed};
 ghost use Rattle.layout_cli.specs.declared.reply.TheConstants.{OK_LENGTH};
 ghost use Rattle.session_undo.specs.Replies.{accepted, IsChange, MayRefuse, Tells};
 ghost use Rattle.session_undo.specs.Replies as reply;
@@ -54,9 +53,7 @@ pub(crate) fn put_reply<K: Sink>(
         Appends (K.held sink.old) (K.held sink.new) (text_of session.now.scene told)) reply.now) }
     ensures front { IsErrOf result sink_failed → Tells (λ told.
         HasFront (K.held sink.old) (K.held sink.new) (text_of session.now.scene told)) reply.now }
-    ensures fault { IsErrOf result sink_failed → Rose (K.faults sink.old) (K.faults sink.new) }
-    ensures later { K.faults sink.old ≤ K.faults sink.new }
-    ensures unwritten { IsErrOf result NoMemory → sink.new ≡ sink.old }
+    ensures cause { HasStopCause K.faults sink.old sink.new result }
     ensures unchanged { IsErrOf result NoMemory → IsChange reply.now → ⊥ }
 {
     if let Ok(Reply::Frames) = reply {
@@ -80,9 +77,7 @@ pub(crate) fn answer<K: Sink>(
         (IsAnswered session.old line.now session.new (K.held sink.old) (K.held sink.new) true) }
     ensures front { IsErrOf result sink_failed
         → IsAnsweredInPart session.old line.now (K.held sink.old) (K.held sink.new) }
-    ensures fault { IsErrOf result sink_failed → Rose (K.faults sink.old) (K.faults sink.new) }
-    ensures later { K.faults sink.old ≤ K.faults sink.new }
-    ensures unwritten { IsErrOf result NoMemory → sink.new ≡ sink.old }
+    ensures cause { HasStopCause K.faults sink.old sink.new result }
     ensures same { IsErrOf result NoMemory → session.new ≡ session.old }
 {
     text.clear();
@@ -102,9 +97,7 @@ pub(crate) fn refuse_long<K: Sink>(
         (text_of session.now.scene (reply.Limit LimitWord.Line))) }
     ensures front { IsErrOf result sink_failed → HasFront (K.held sink.old) (K.held sink.new)
         (text_of session.now.scene (reply.Limit LimitWord.Line)) }
-    ensures fault { IsErrOf result sink_failed → Rose (K.faults sink.old) (K.faults sink.new) }
-    ensures later { K.faults sink.old ≤ K.faults sink.new }
-    ensures unwritten { IsErrOf result NoMemory → sink.new ≡ sink.old }
+    ensures cause { HasStopCause K.faults sink.old sink.new result }
 {
     text.clear();
     text.reserve(OK_LENGTH)?;

@@ -1,10 +1,10 @@
 // A session that answers the lines of a script as a feed gives them.
-ghost use Rattle.std.specs.Prelude.{◌≡◌, ◌≤◌, true, List, ℕ, IfOk, OnOk, IsErrOf};
-ghost use Rattle.edge_io.specs.Cause.{Rose};
+ghost use Rattle.std.specs.Prelude.{◌≡◌, true, List, ℕ, IfOk, OnOk, IsErrOf};
 ghost use Rattle.edge_io.specs.Feeding.{shown};
 ghost use Rattle.frac_core.specs.declared.memory.Stop.TheVariants.{OutOfMemory as NoMemory};
 ghost use Rattle.layout_cli.specs.Ends.{IsScriptEnd, LeadsOutside};
-ghost use Rattle.layout_cli.specs.Talks.{IsAnswered, IsAnsweredInPart, IsGivenAs, IsTalk, sink_failed};
+ghost use Rattle.layout_cli.specs.Talks.{HasStopCause, IsAnswered, IsAnsweredInPart, IsGivenAs, IsTalk};
+ghost use Rattle.layout_cli.specs.Talks.{sink_failed};
 ghost use Rattle.session_undo.specs.Scene.{first_state};
 
 use crate::script::answers::{AnswerStop, answer, refuse_long};
@@ -41,9 +41,7 @@ impl Talk {
             self.old.is_good self.new.is_good) }
         ensures front { IsErrOf result sink_failed → (line : List ℕ) → IsGivenAs (shown piece.entry) line
             → IsAnsweredInPart self.old.session line (K.held sink.old) (K.held sink.new) }
-        ensures fault { IsErrOf result sink_failed → Rose (K.faults sink.old) (K.faults sink.new) }
-        ensures later { K.faults sink.old ≤ K.faults sink.new }
-        ensures unwritten { IsErrOf result NoMemory → sink.new ≡ sink.old }
+        ensures cause { HasStopCause K.faults sink.old sink.new result }
         ensures same { IsErrOf result NoMemory → self.new.session ≡ self.old.session }
     {
         match piece {

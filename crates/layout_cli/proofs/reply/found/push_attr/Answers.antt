@@ -3,7 +3,7 @@ use Rattle.std.proofs.lemmas.List.{append-nil}
 use Rattle.session_undo.proofs.Commands.Chains.{ok-map}
 use Rattle.layout_cli.specs.Found.{attr_name}
 use Rattle.layout_cli.proofs.EachView.{view_there}
-use Rattle.layout_cli.proofs.FoundLines.{name_found, name_none, name_skip}
+use Rattle.layout_cli.proofs.AttrNames.{name_found, name_none, name_skip}
 use Rattle.layout_cli.proofs.reply.found.push_attr.Goals as goal
 
 pub loop-place-preserved : goal.loop-place-preserved

@@ -1,10 +1,10 @@
-use Rattle.std.proofs.Common.{◌≡◌, ◌≤◌, ◌++◌, take, length}
-use Rattle.layout_cli.specs.Replies.{text_of_each, frame_text}
+use Rattle.std.proofs.Common.{◌≡◌, ◌≤◌, ◌++◌, take, length, flat_map}
+use Rattle.layout_cli.specs.Replies.{frame_text}
 use Rattle.layout_cli.proofs.reply.frames.push_frames.Given as goal
 
 abbrev pub invariant-loop-place : goal.invariant-loop-place
 invariant-loop-place l = record {
   within : l.place ≤ l.place-end;
   is_end : l.place-end ≡ length l.scene.scene.tree.views;
-  text : l.out.items ≡ l.fn.out.items ++ text_of_each (frame_text l.scene.scene.values) (take l.place l.scene.scene.tree.views);
+  text : l.out.items ≡ l.fn.out.items ++ flat_map (frame_text l.scene.scene.values) (take l.place l.scene.scene.tree.views);
 }

@@ -1,11 +1,12 @@
-use Rattle.std.proofs.Common.{◌<◌, ◌≤◌, ◌++◌, List, ℕ, length, take, sym, ap, arith}
+use Rattle.std.proofs.Common.{◌≡◌, ◌∙◌, ◌<◌, ◌≤◌, ◌++◌, List, ℕ, length, take, ap, arith, flat_map}
 use Rattle.std.specs.Prelude.{codes}
+use Rattle.std.proofs.lemmas.Result.{err_from_is_err_and}
 use Rattle.edge_io.proofs.Moves.{appends_both}
 use Rattle.frac_core.specs.Fraction.{Fraction}
 use Rattle.view_tree.specs.Views.{LiveView}
 use Rattle.session_undo.specs.Scene.{Scene}
-use Rattle.layout_cli.specs.Replies.{text_of_each, frame_text, frames_text, line_of}
-use Rattle.layout_cli.proofs.Printed.{each_more, each_all, front_at, front_as, for_err, ok_then, err_then, ok_as, err_as}
+use Rattle.layout_cli.specs.Replies.{frame_text, frames_text, line_of}
+use Rattle.layout_cli.proofs.Printed.{each_more, each_all, front_at, puts_as, puts_err, puts_then}
 use Rattle.layout_cli.proofs.reply.printing.print_frames.Goals as goal
 
 pub loop-place-preserved : goal.loop-place-preserved
@@ -17,30 +18,23 @@ loop-place-preserved g c = record {
   later = omega (arith, c.loop-place.invariant.later, c.in_ok-print_at.ensures.cause.later);
 }
 
-pub returns-in_err-print_at-clause-err : goal.returns-in_err-print_at-clause-err
-returns-in_err-print_at-clause-err g c =
+pub returns-in_err-print_at : goal.returns-in_err-print_at
+returns-in_err-print_at g c =
     let values : List (ℕ × Fraction) = c.state-scene.result.now.scene.values in
     let views : List LiveView = c.state-scene.result.now.scene.tree.views in
     let within : c.loop-place.place < length views = omega (arith, c.loop-place-test.true, c.loop-place.invariant.is_end) in
-    for_err _ (front_as _ _ (frames_text c.state-scene.result.now.scene) (frames_text c.args.session.now.scene) (ap (λ (s : Scene). frames_text s) c.state-scene.ensures.scene)
-    (front_at _ _ _ values views c.loop-place.place (line_of (codes "ok")) within c.loop-place.invariant.written c.in_err-print_at.ensures.err))
+    let exit = err_from_is_err_and c.from_residual.result c.from_residual.ensures.1 in
+    let front = front_at _ _ _ values views c.loop-place.place (line_of (codes "ok")) within c.loop-place.invariant.written c.in_err-print_at.ensures.err in
+    puts_as _ _ _ _ _ _ c.from_residual.result (ap (λ (s : Scene). frames_text s) c.state-scene.ensures.scene)
+    (puts_err g.K.Sink.held g.K.Sink.faults _ _ _ (frames_text c.state-scene.result.now.scene) c.from_residual.result exit.0 exit.1
+    front c.loop-place.invariant.later c.in_err-print_at.ensures.cause.later c.in_err-print_at.ensures.cause.failed)
 
-pub returns-clause-ok : goal.returns-clause-ok
-returns-clause-ok g c =
-    let values : List (ℕ × Fraction) = c.state-scene.result.now.scene.values in
-    let views : List LiveView = c.state-scene.result.now.scene.tree.views in
-    let done : length views ≤ c.loop-place.place = omega (arith, c.loop-place-test.false, c.loop-place.invariant.is_end) in
-    ok_as _ _ _ (frames_text c.state-scene.result.now.scene) (frames_text c.args.session.now.scene) (ap (λ (s : Scene). frames_text s) c.state-scene.ensures.scene)
-    (ok_then _ _ _ _ (text_of_each (frame_text values) (take c.loop-place.place views)) (line_of (codes "ok")) (frames_text c.state-scene.result.now.scene)
-    (ap (λ (t : List ℕ). t ++ line_of (codes "ok")) (sym (each_all values views c.loop-place.place done)))
-    c.loop-place.invariant.written c.put_all.ensures.ok)
-
-pub returns-clause-err : goal.returns-clause-err
-returns-clause-err g c =
-    let values : List (ℕ × Fraction) = c.state-scene.result.now.scene.values in
-    let views : List LiveView = c.state-scene.result.now.scene.tree.views in
-    let done : length views ≤ c.loop-place.place = omega (arith, c.loop-place-test.false, c.loop-place.invariant.is_end) in
-    err_as _ _ _ (frames_text c.state-scene.result.now.scene) (frames_text c.args.session.now.scene) (ap (λ (s : Scene). frames_text s) c.state-scene.ensures.scene)
-    (err_then _ _ _ _ (text_of_each (frame_text values) (take c.loop-place.place views)) (line_of (codes "ok")) (frames_text c.state-scene.result.now.scene)
-    (ap (λ (t : List ℕ). t ++ line_of (codes "ok")) (sym (each_all values views c.loop-place.place done)))
-    c.loop-place.invariant.written c.put_all.ensures.err)
+pub returns : goal.returns
+returns g c =
+    let scene = c.state-scene.result.now.scene in
+    let done : length scene.tree.views ≤ c.loop-place.place = omega (arith, c.loop-place-test.false, c.loop-place.invariant.is_end) in
+    let all : flat_map (frame_text scene.values) (take c.loop-place.place scene.tree.views) ++ line_of (codes "ok") ≡ frames_text c.args.session.now.scene =
+    ap (λ (t : List ℕ). t ++ line_of (codes "ok")) (each_all scene.values scene.tree.views c.loop-place.place done) ∙ ap (λ (s : Scene). frames_text s) c.state-scene.ensures.scene in
+    puts_as _ _ _ _ _ _ _ all
+    (puts_then g.K.Sink.held g.K.Sink.faults _ _ _ (flat_map (frame_text scene.values) (take c.loop-place.place scene.tree.views)) (line_of (codes "ok")) c.put_all.result
+    c.loop-place.invariant.written c.loop-place.invariant.later (record { ok = c.put_all.ensures.ok; err = c.put_all.ensures.err; cause = c.put_all.ensures.cause }))

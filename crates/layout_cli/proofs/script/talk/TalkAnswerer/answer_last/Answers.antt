@@ -23,7 +23,7 @@ returns-in-Some-clause-front g c =
 
 pub returns-in-Some-clause-first : goal.returns-in-Some-clause-first
 returns-in-Some-clause-first g c =
-    λ is before taken talk. rw (c.answer.ensures.unwritten is) (talk_first before _ taken _ _ _ talk)
+    λ is before taken talk. rw (c.answer.ensures.cause.unwritten is) (talk_first before _ taken _ _ _ talk)
 
 pub returns-in-None-clause-whole : goal.returns-in-None-clause-whole
 returns-in-None-clause-whole g c =

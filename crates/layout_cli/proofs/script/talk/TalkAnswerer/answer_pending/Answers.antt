@@ -14,7 +14,7 @@ loop-piece-preserved g c =
     let gives : Gives c.loop-piece.feed (shown c.in-Some.piece) c.next.follows.lender-at-none =
     subst (λ (r : Option Piece). IfSome r (λ piece. Gives c.loop-piece.feed (shown piece) c.next.follows.lender-at-none)) c.in-Some.is c.next.follows.holds-at-none.some in
     record {
-      later = omega (arith, c.loop-piece.invariant.later, c.in_ok-answer.ensures.later);
+      later = omega (arith, c.loop-piece.invariant.later, c.in_ok-answer.ensures.cause.later);
       talk = λ before taken talk. talk_answers before _ _ taken _ _ _ _ _ _ _ (c.loop-piece.invariant.talk before taken talk) gives c.in_ok-answer.ensures.told;
     }
 
@@ -30,7 +30,7 @@ pub returns-in_err-answer-clause-first : goal.returns-in_err-answer-clause-first
 returns-in_err-answer-clause-first g c =
     let exit = err_from_is_err_and c.from_residual.result c.from_residual.ensures.1 in
     λ is p before taken more talk joins.
-    rw (c.in_err-answer.ensures.unwritten (ap (λ (e : Stop Failed). Err e) (passed_on _ _ exit.0 _ exit.1 exit.2 is)))
+    rw (c.in_err-answer.ensures.cause.unwritten (ap (λ (e : Stop Failed). Err e) (passed_on _ _ exit.0 _ exit.1 exit.2 is)))
     (talk_first before _ _ _ _ _ (c.loop-piece.invariant.talk before _ (talk_takes before _ taken more p _ _ _ talk joins)))
 
 pub returns-clause-answered : goal.returns-clause-answered

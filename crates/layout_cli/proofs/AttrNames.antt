@@ -1,29 +1,9 @@
--- The lines of what is found, and the names of attributes.
-use Rattle.std.proofs.Common.{◌≡◌, ◌∙◌, ◌++◌, ◌<◌, ◌≤◌, ◌+◌, ℕ, zero, suc, List, [], ◌∷◌, length, take, drop, get_or, Option, Some, None, refl, sym, ap, arith, append_assoc, add-one}
+-- The names of attributes.
+use Rattle.std.proofs.Common.{◌≡◌, ◌∙◌, ◌++◌, ◌<◌, ◌≤◌, ◌+◌, ℕ, zero, suc, List, [], ◌∷◌, length, drop, Option, Some, None, refl, sym, ap, arith, add-one}
 use Rattle.std.specs.Prelude.{slice_get}
-use Rattle.std.proofs.lemmas.List.{append-nil, take_more}
 use Rattle.std.proofs.lemmas.Option.{none-some, same_Some}
-use Rattle.frac_core.specs.Fraction.{Fraction}
 use Rattle.view_tree.specs.Views.{LiveView}
-use Rattle.layout_cli.specs.Found.{attr_name, line_of_each, name_or, word_at}
-
--- ---- lines
-
-each-append : (line : ℕ × Fraction → List ℕ) (xs ys : List (ℕ × Fraction)) → line_of_each line (xs ++ ys) ≡ line_of_each line xs ++ line_of_each line ys
-each-append line [] ys = refl
-each-append line (x ∷ xs) ys = ap (λ bytes. line x ++ bytes) (each-append line xs ys) ∙ sym (append_assoc (line x) (line_of_each line xs) (line_of_each line ys))
-
--- one line more
-pub lines_next : (line : ℕ × Fraction → List ℕ) (old now new : List ℕ) (pairs : List (ℕ × Fraction)) (i : ℕ) (pair : ℕ × Fraction) → i < length pairs → pair ≡ get_or pairs i pair → now ≡ old ++ line_of_each line (take i pairs) → new ≡ now ++ line pair
-    → new ≡ old ++ line_of_each line (take (i + 1) pairs)
-lines_next line old now new pairs i pair within item before is =
-    is ∙ ap (λ bytes. bytes ++ line pair) before ∙ append_assoc old (line_of_each line (take i pairs)) (line pair)
-    ∙ ap (λ bytes. old ++ bytes) (ap (λ bytes. line_of_each line (take i pairs) ++ bytes) (sym (append-nil (line pair))) ∙ sym (each-append line (take i pairs) (pair ∷ [])) ∙ ap (line_of_each line) more)
-  where
-    more : take i pairs ++ pair ∷ [] ≡ take (i + 1) pairs
-    more = ap (λ (p : ℕ × Fraction). take i pairs ++ p ∷ []) item ∙ sym (take_more pairs i pair within)
-
--- ---- names
+use Rattle.layout_cli.specs.Found.{attr_name, name_or, word_at}
 
 skip : (views : List LiveView) (i attr : ℕ) (v : LiveView) → slice_get views i ≡ Some v → word_at v.id attr ≡ None → attr_name (drop i views) attr ≡ attr_name (drop (suc i) views) attr
 skip [] i attr v is none = absurd (none-some v is)
