@@ -3,6 +3,7 @@ use crate::setting::Setting;
 use crate::text::{put_row, put_stop};
 use constraint_compile::{CompileStop, Compiled, compile_format, compile_line, format_row_count};
 use frac_core::{OutOfMemory, Stop};
+use name_tables::LimitWord;
 use script_text::{Align, Command, Linear, read_line};
 use span_text::SyntaxAt;
 use std::alloc::Global;
@@ -17,10 +18,11 @@ fn put_rows(
 ) -> Result<usize, OutOfMemory> {
     let rows = match compiled.rows_now(alloc, &setting.metrics) {
         Ok(rows) => rows,
-        Err(stop) => {
-            put_stop(out, &stop)?;
+        Err(Stop::Refused(_)) => {
+            put_stop(out, &CompileStop::Limit(LimitWord::Constant))?;
             return Ok(0);
         }
+        Err(Stop::OutOfMemory) => return Err(OutOfMemory),
     };
     for row in &rows {
         put_row(out, row)?;
