@@ -15,10 +15,12 @@ put_back() {
         for body in "tests/wrong_bodies/$crate"/*.edit; do
             rm -f "crates/$crate/must-fail/$(basename "$body")"
         done
+        [ ! -d "crates/$crate/must-fail" ] || rmdir --ignore-fail-on-non-empty "crates/$crate/must-fail"
     done
 }
 trap 'put_back "$@"' EXIT
 for crate in "$@"; do
+    mkdir -p "crates/$crate/must-fail"
     cp "tests/wrong_bodies/$crate"/*.edit "crates/$crate/must-fail/"
 done
 rt must-fail "$@"

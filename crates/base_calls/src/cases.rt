@@ -35,42 +35,37 @@ fn put_std(alloc: Global, out: &mut String, heading: &str, calls: &str) -> Resul
     }
 }
 
-// Appends the heading and what the calls below it answer.
-fn put_case(
+// Appends what the calls below a heading answer.
+fn put_below(
     alloc: Global,
     out: &mut String,
     heading: &str,
     calls: &str,
 ) -> Result<(), OutOfMemory> {
-    if heading.is_empty() {
-        return Ok(());
-    }
-    writeln!(out, "= {heading}")?;
-    if let Some(limit) = heading.strip_prefix("names ") {
-        return put_names(alloc, out, limit, calls);
-    }
     match heading {
         "metrics" => put_metrics(alloc, out, calls),
         "views" => put_views(alloc, out, calls),
         "own names" => put_own_names(alloc, out, calls),
-        _ => put_streams(alloc, out, heading, calls),
+        _ => match heading.strip_prefix("names ") {
+            Some(limit) => put_names(alloc, out, limit, calls),
+            None => put_streams(alloc, out, heading, calls),
+        },
     }
+}
+
+// Appends what each case leads to, below its heading. In front of a heading an empty line is no call.
+fn put_cases(alloc: Global, out: &mut String, input: &str) -> Result<(), OutOfMemory> {
+    for case in input.strip_prefix("= ").unwrap_or(input).split("\n= ") {
+        let (heading, calls) = case.split_once("\n").unwrap_or((case, ""));
+        writeln!(out, "= {heading}")?;
+        put_below(alloc, out, heading, calls)?;
+    }
+    Ok(())
 }
 
 /// What the program prints.
 pub fn printed(alloc: Global, input: &str) -> Result<String, OutOfMemory> {
     let mut out = String::new(alloc);
-    let mut calls = String::new(alloc);
-    let mut heading = "";
-    for line in input.lines() {
-        if let Some(next) = line.strip_prefix("= ") {
-            put_case(alloc, &mut out, heading, &calls)?;
-            calls = String::new(alloc);
-            heading = next;
-        } else {
-            writeln!(calls, "{line}")?;
-        }
-    }
-    put_case(alloc, &mut out, heading, &calls)?;
+    put_cases(alloc, &mut out, input)?;
     Ok(out)
 }

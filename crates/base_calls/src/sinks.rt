@@ -1,6 +1,7 @@
 // Puts into sinks in memory, of std, and of a broken stream.
 use crate::broken::Broken;
 use crate::sources::fails_of;
+use case_text::put_shown;
 use edge_io::{Failed, MemorySink, Sink, StdSink, put_all};
 use frac_core::OutOfMemory;
 use std::alloc::Global;
@@ -18,23 +19,20 @@ fn all_put<K: Sink>(sink: &mut K, piece: &[u8]) -> Result<(), Failed> {
     put_all(sink, piece)
 }
 
-fn put_count(out: &mut String, answer: Result<usize, Failed>) -> Result<(), OutOfMemory> {
-    Ok(writeln!(out, "{answer:?}")?)
-}
-
-fn put_done(out: &mut String, answer: Result<(), Failed>) -> Result<(), OutOfMemory> {
-    Ok(writeln!(out, "{answer:?}")?)
+// Appends what a put answers, for a line that is one.
+fn put_put<K: Sink>(out: &mut String, sink: &mut K, call: &str) -> Result<(), OutOfMemory> {
+    match call.split_once(" ") {
+        Some(("put", text)) => put_shown(out, &count_put(sink, text.as_bytes())),
+        Some(("all", text)) => put_shown(out, &all_put(sink, text.as_bytes())),
+        _ => Ok(()),
+    }
 }
 
 // Appends what a put for each line answers.
 fn put_puts<K: Sink>(out: &mut String, sink: &mut K, calls: &str) -> Result<(), OutOfMemory> {
     for call in calls.lines() {
         writeln!(out, "{call}")?;
-        match call.split_once(" ") {
-            Some(("put", text)) => put_count(out, count_put(sink, text.as_bytes()))?,
-            Some(("all", text)) => put_done(out, all_put(sink, text.as_bytes()))?,
-            _ => (),
-        }
+        put_put(out, sink, call)?;
     }
     Ok(())
 }
@@ -45,6 +43,18 @@ fn put_held(out: &mut String, bytes: &[u8]) -> Result<(), OutOfMemory> {
     Ok(writeln!(out, "holds {text}")?)
 }
 
+// A sink in memory with so much room, whose put of this number fails.
+fn sink_of(alloc: Global, words: &str) -> Result<MemorySink, OutOfMemory> {
+    let (room, fail) = words.split_once(" ").unwrap_or((words, ""));
+    let fails = fails_of(alloc, fail)?;
+    MemorySink::new(alloc, room.parse::<usize>().unwrap_or(0), fails)
+}
+
+fn put_filled(out: &mut String, sink: &mut MemorySink, calls: &str) -> Result<(), OutOfMemory> {
+    put_puts(out, sink, calls)?;
+    put_held(out, sink.bytes())
+}
+
 /// Appends what puts into a sink in memory answer, and what it holds then.
 pub fn put_sink(
     alloc: Global,
@@ -52,17 +62,19 @@ pub fn put_sink(
     words: &str,
     calls: &str,
 ) -> Result<(), OutOfMemory> {
-    let (room, fail) = words.split_once(" ").unwrap_or((words, ""));
-    let room = room.parse::<usize>().unwrap_or(0);
-    let mut sink = MemorySink::new(alloc, room, fails_of(alloc, fail)?)?;
-    put_puts(out, &mut sink, calls)?;
-    put_held(out, sink.bytes())
+    let mut sink = sink_of(alloc, words)?;
+    put_filled(out, &mut sink, calls)
 }
 
 // Puts into a place with an end.
 fn put_into(out: &mut String, room: &mut [u8], calls: &str) -> Result<(), OutOfMemory> {
     let mut sink = StdSink::new(Cursor::new(room));
     put_puts(out, &mut sink, calls)
+}
+
+fn put_filled_room(out: &mut String, room: &mut [u8], calls: &str) -> Result<(), OutOfMemory> {
+    put_into(out, room, calls)?;
+    put_held(out, room)
 }
 
 /// Appends what puts into a writer of std answer, and what it holds then.
@@ -73,8 +85,7 @@ pub fn put_std_sink(
     calls: &str,
 ) -> Result<(), OutOfMemory> {
     let mut room = vec![in alloc; b' '; room.parse::<usize>().unwrap_or(0)]?;
-    put_into(out, &mut room, calls)?;
-    put_held(out, &room)
+    put_filled_room(out, &mut room, calls)
 }
 
 /// Appends what puts into a stream answer that fails after one byte, and whether it was used.

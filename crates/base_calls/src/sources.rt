@@ -19,14 +19,24 @@ fn put_pulled(
     piece: &[u8],
     pulled: Result<usize, Failed>,
 ) -> Result<(), OutOfMemory> {
-    match pulled {
-        Ok(count) => {
-            let bytes = piece.get(..count).unwrap_or(piece);
-            let text = std::str::from_utf8(bytes).unwrap_or("");
-            Ok(writeln!(out, "{count} {text}")?)
-        }
-        Err(Failed) => Ok(writeln!(out, "failed")?),
-    }
+    let Ok(count) = pulled else {
+        return Ok(writeln!(out, "failed")?);
+    };
+    let bytes = piece.get(..count).unwrap_or(piece);
+    let text = std::str::from_utf8(bytes).unwrap_or("");
+    Ok(writeln!(out, "{count} {text}")?)
+}
+
+// Appends what a pull of so many bytes gives.
+fn put_pull<S: Source>(
+    alloc: Global,
+    out: &mut String,
+    source: &mut S,
+    most: usize,
+) -> Result<(), OutOfMemory> {
+    let mut piece = vec![in alloc; b'-'; most]?;
+    let pulled = count_pulled(source, &mut piece);
+    put_pulled(out, &piece, pulled)
 }
 
 // Appends what a pull for each line gives.
@@ -37,11 +47,28 @@ fn put_pulls<S: Source>(
     calls: &str,
 ) -> Result<(), OutOfMemory> {
     for call in calls.lines() {
-        let mut piece = vec![in alloc; b'-'; call.parse::<usize>().unwrap_or(1)]?;
-        let pulled = count_pulled(source, &mut piece);
-        put_pulled(out, &piece, pulled)?;
+        put_pull(alloc, out, source, call.parse::<usize>().unwrap_or(1))?;
     }
     Ok(())
+}
+
+// The sizes that the words say, and 0 for one that says none.
+fn sizes_of(alloc: Global, words: &str) -> Result<Vec<usize>, OutOfMemory> {
+    let mut sizes = Vec::new(alloc);
+    for size in words.split_whitespace() {
+        sizes.push(size.parse::<usize>().unwrap_or(0))?;
+    }
+    Ok(sizes)
+}
+
+// A source in memory of a text, with the number of the pull that fails and the sizes of all.
+fn source_of(alloc: Global, words: &str) -> Result<MemorySource, OutOfMemory> {
+    let (text, rest) = words.split_once(" ").unwrap_or((words, ""));
+    let (fail, sizes) = rest.split_once(" ").unwrap_or((rest, ""));
+    let bytes = text.as_bytes().to_vec(alloc)?;
+    let sizes = sizes_of(alloc, sizes)?;
+    let fails = fails_of(alloc, fail)?;
+    Ok(MemorySource::new(bytes, sizes, fails))
 }
 
 /// Appends what pulls from a source in memory give.
@@ -51,14 +78,7 @@ pub fn put_source(
     words: &str,
     calls: &str,
 ) -> Result<(), OutOfMemory> {
-    let (text, rest) = words.split_once(" ").unwrap_or((words, ""));
-    let (fail, rest) = rest.split_once(" ").unwrap_or((rest, ""));
-    let mut sizes = Vec::new(alloc);
-    for size in rest.split_whitespace() {
-        sizes.push(size.parse::<usize>().unwrap_or(0))?;
-    }
-    let fails = fails_of(alloc, fail)?;
-    let mut source = MemorySource::new(text.as_bytes().to_vec(alloc)?, sizes, fails);
+    let mut source = source_of(alloc, words)?;
     put_pulls(alloc, out, &mut source, calls)
 }
 

@@ -1,4 +1,5 @@
 // Calls on names and metrics.
+use case_text::put_shown;
 use frac_core::{Frac, OutOfMemory};
 use name_tables::{Metrics, NameStop, Names, OwnedName};
 use std::alloc::Global;
@@ -13,17 +14,8 @@ fn added(names: &mut Names, name: &str) -> Result<u32, NameStop> {
     names.add(name)
 }
 
-fn put_found(out: &mut String, found: Option<u32>) -> Result<(), OutOfMemory> {
-    Ok(writeln!(out, "{found:?}")?)
-}
-
 fn put_name_at(out: &mut String, names: &Names, place: usize) -> Result<(), OutOfMemory> {
-    let found = names.at(u32::try_from(place).unwrap_or(u32::MAX));
-    Ok(writeln!(out, "{found:?}")?)
-}
-
-fn put_count(out: &mut String, count: usize) -> Result<(), OutOfMemory> {
-    Ok(writeln!(out, "{count}")?)
+    put_shown(out, &names.at(u32::try_from(place).unwrap_or(u32::MAX)))
 }
 
 // A copy in the place of the names.
@@ -34,15 +26,20 @@ fn copy_names(names: &mut Names) -> Result<(), OutOfMemory> {
 
 fn put_name_call(out: &mut String, names: &mut Names, call: &str) -> Result<(), OutOfMemory> {
     match call.split_once(" ") {
-        Some(("add", name)) => {
-            let answer = added(names, name);
-            Ok(writeln!(out, "{answer:?}")?)
-        }
-        Some(("find", name)) => put_found(out, names.find(name)),
+        Some(("add", name)) => put_shown(out, &added(names, name)),
+        Some(("find", name)) => put_shown(out, &names.find(name)),
         Some(("at", place)) => put_name_at(out, names, place_of(place)),
         _ if call == "copy" => copy_names(names),
-        _ => put_count(out, names.len()),
+        _ => put_shown(out, &names.len()),
     }
+}
+
+fn put_name_calls(out: &mut String, names: &mut Names, calls: &str) -> Result<(), OutOfMemory> {
+    for call in calls.lines() {
+        writeln!(out, "{call}")?;
+        put_name_call(out, names, call)?;
+    }
+    Ok(())
 }
 
 /// Appends what the calls on names answer, of which there may be so many.
@@ -53,11 +50,7 @@ pub fn put_names(
     calls: &str,
 ) -> Result<(), OutOfMemory> {
     let mut names = Names::new(alloc, limit.parse::<u32>().unwrap_or(0))?;
-    for call in calls.lines() {
-        writeln!(out, "{call}")?;
-        put_name_call(out, &mut names, call)?;
-    }
-    Ok(())
+    put_name_calls(out, &mut names, calls)
 }
 
 // The name and the whole number that follow a call.
@@ -65,11 +58,6 @@ fn name_and_value(words: &str) -> (&str, Option<Frac>) {
     let (name, number) = words.split_once(" ").unwrap_or((words, ""));
     let value = Frac::of(number.parse::<i128>().unwrap_or(0), 1);
     (name, value.ok())
-}
-
-// Appends what a call answers that changes the metrics.
-fn put_changed(out: &mut String, answer: Result<(), NameStop>) -> Result<(), OutOfMemory> {
-    Ok(writeln!(out, "{answer:?}")?)
 }
 
 fn defined(metrics: &mut Metrics, words: &str) -> Result<(), NameStop> {
@@ -108,33 +96,58 @@ fn copy_metrics(metrics: &mut Metrics) -> Result<(), OutOfMemory> {
     Ok(())
 }
 
+// What a call with words leads to.
+fn put_worded(
+    out: &mut String,
+    metrics: &mut Metrics,
+    call: &str,
+    words: &str,
+) -> Result<(), OutOfMemory> {
+    match call {
+        "define" => put_shown(out, &defined(metrics, words)),
+        "change" => put_shown(out, &changed(metrics, words)),
+        "get" => put_value(out, metrics.get(words)),
+        "at" => put_value(out, value_at(metrics, place_of(words))),
+        _ => put_shown(out, &metrics.len()),
+    }
+}
+
 fn put_metric_call(out: &mut String, metrics: &mut Metrics, call: &str) -> Result<(), OutOfMemory> {
     match call.split_once(" ") {
-        Some(("define", words)) => put_changed(out, defined(metrics, words)),
-        Some(("change", words)) => put_changed(out, changed(metrics, words)),
-        Some(("get", name)) => put_value(out, metrics.get(name)),
-        Some(("at", place)) => put_value(out, value_at(metrics, place_of(place))),
-        _ if call == "copy" => copy_metrics(metrics),
-        _ => put_count(out, metrics.len()),
+        Some((word, words)) => put_worded(out, metrics, word, words),
+        None if call == "copy" => copy_metrics(metrics),
+        None => put_shown(out, &metrics.len()),
     }
+}
+
+fn put_metric_calls(
+    out: &mut String,
+    metrics: &mut Metrics,
+    calls: &str,
+) -> Result<(), OutOfMemory> {
+    for call in calls.lines() {
+        writeln!(out, "{call}")?;
+        put_metric_call(out, metrics, call)?;
+    }
+    Ok(())
 }
 
 /// Appends what the calls on metrics answer.
 pub fn put_metrics(alloc: Global, out: &mut String, calls: &str) -> Result<(), OutOfMemory> {
     let mut metrics = Metrics::new(alloc)?;
-    for call in calls.lines() {
-        writeln!(out, "{call}")?;
-        put_metric_call(out, &mut metrics, call)?;
-    }
-    Ok(())
+    put_metric_calls(out, &mut metrics, calls)
+}
+
+fn put_own_name(out: &mut String, name: &OwnedName) -> Result<(), OutOfMemory> {
+    let text = std::str::from_utf8(name.bytes()).unwrap_or("");
+    Ok(writeln!(out, "{text}")?)
 }
 
 /// Appends each line as a name of its own.
 pub fn put_own_names(alloc: Global, out: &mut String, calls: &str) -> Result<(), OutOfMemory> {
     for call in calls.lines() {
         let name = OwnedName::of(alloc, call.as_bytes())?;
-        let text = std::str::from_utf8(name.bytes()).unwrap_or("");
-        writeln!(out, "{text}")?;
+        put_own_name(out, &name)?;
     }
     Ok(())
 }

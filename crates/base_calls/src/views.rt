@@ -1,4 +1,8 @@
 // Calls on the tree of views, each told by what it gives.
+//
+// What a function owns ends at each of its ways out, and that makes proofs long: trees, metrics and texts are
+// made by one function and lent to another.
+use case_text::put_shown;
 use frac_core::{Frac, OutOfMemory};
 use name_tables::Metrics;
 use std::alloc::Global;
@@ -16,24 +20,34 @@ fn added(tree: &mut Tree, name: &str, parent: u32) -> Result<ViewId, ViewStop> {
 
 fn put_added(out: &mut String, tree: &mut Tree, words: &str) -> Result<(), OutOfMemory> {
     let (name, parent) = words.split_once(" ").unwrap_or((words, ""));
-    let answer = added(tree, name, number_of(parent));
-    Ok(writeln!(out, "{answer:?}")?)
+    put_shown(out, &added(tree, name, number_of(parent)))
 }
 
-// The one metric, which is called `gap`.
-fn one_metric(alloc: Global) -> Result<Metrics, OutOfMemory> {
-    let mut metrics = Metrics::new(alloc)?;
-    if let Ok(eight) = Frac::of(8, 1) {
-        let Ok(()) = metrics.define("gap", eight) else {
-            return Err(OutOfMemory);
-        };
+// Defines the one metric, which is called `gap`.
+fn define_gap(metrics: &mut Metrics) -> Result<(), OutOfMemory> {
+    let Ok(eight) = Frac::of(8, 1) else {
+        return Ok(());
+    };
+    match metrics.define("gap", eight) {
+        Ok(()) => Ok(()),
+        Err(_) => Err(OutOfMemory),
     }
-    Ok(metrics)
 }
 
 // The call alone: nothing here needs a clause of it.
 fn grown(tree: &mut Tree, text: &str, metrics: &Metrics) -> Result<u32, TreeStop> {
     tree.add_json(text.as_bytes(), metrics)
+}
+
+// Appends what a tree written as JSON gives, where there is one metric.
+fn put_grown_by(
+    out: &mut String,
+    tree: &mut Tree,
+    text: &str,
+    metrics: &mut Metrics,
+) -> Result<(), OutOfMemory> {
+    define_gap(metrics)?;
+    put_shown(out, &grown(tree, text, metrics))
 }
 
 fn put_grown(
@@ -42,57 +56,73 @@ fn put_grown(
     tree: &mut Tree,
     text: &str,
 ) -> Result<(), OutOfMemory> {
-    let metrics = one_metric(alloc)?;
-    let answer = grown(tree, text, &metrics);
-    Ok(writeln!(out, "{answer:?}")?)
+    let mut metrics = Metrics::new(alloc)?;
+    put_grown_by(out, tree, text, &mut metrics)
 }
 
-// A tree of so many objects, each but the last with the next one in it.
-fn nested(alloc: Global, count: u32) -> Result<String, OutOfMemory> {
-    let mut text = String::new(alloc);
+// Appends the name of a place behind a front.
+fn push_named(text: &mut String, front: &str, place: u32) -> Result<(), OutOfMemory> {
+    text.push_str(front)?;
+    Ok(write!(text, "{place}\"")?)
+}
+
+// Appends a tree of so many objects, each but the last with the next one in it.
+fn push_nested(text: &mut String, count: u32) -> Result<(), OutOfMemory> {
     for place in 0..count {
-        if place > 0 {
-            text.push_str(",\"children\":[")?;
-        }
-        text.push_str("{\"name\":\"n")?;
-        write!(text, "{place}")?;
-        text.push_str("\"")?;
+        text.push_str(if place > 0 { ",\"children\":[" } else { "" })?;
+        push_named(text, "{\"name\":\"n", place)?;
     }
     for place in 0..count {
         text.push_str(if place > 0 { "]}" } else { "}" })?;
     }
-    Ok(text)
+    Ok(())
 }
 
-// A tree of one object with so many in it.
-fn broad(alloc: Global, count: u32) -> Result<String, OutOfMemory> {
+fn put_nested(
+    alloc: Global,
+    out: &mut String,
+    tree: &mut Tree,
+    count: u32,
+) -> Result<(), OutOfMemory> {
     let mut text = String::new(alloc);
-    text.push_str("{\"name\":\"b\",\"children\":[")?;
-    for place in 0..count {
-        if place > 0 {
-            text.push_str(",")?;
-        }
-        text.push_str("{\"name\":\"b")?;
-        write!(text, "{place}")?;
-        text.push_str("\"}")?;
-    }
-    text.push_str("]}")?;
-    Ok(text)
+    push_nested(&mut text, count)?;
+    put_grown(alloc, out, tree, &text)
 }
 
-fn put_id(out: &mut String, id: Option<ViewId>) -> Result<(), OutOfMemory> {
-    Ok(writeln!(out, "{id:?}")?)
+// Appends so many objects, with commas between them.
+fn push_leaves(text: &mut String, count: u32) -> Result<(), OutOfMemory> {
+    for place in 0..count {
+        text.push_str(if place > 0 { "}," } else { "" })?;
+        push_named(text, "{\"name\":\"b", place)?;
+    }
+    Ok(text.push_str(if count > 0 { "}" } else { "" })?)
+}
+
+// Appends a tree of one object with so many in it.
+fn push_broad(text: &mut String, count: u32) -> Result<(), OutOfMemory> {
+    text.push_str("{\"name\":\"b\",\"children\":[")?;
+    push_leaves(text, count)?;
+    Ok(text.push_str("]}")?)
+}
+
+fn put_broad(
+    alloc: Global,
+    out: &mut String,
+    tree: &mut Tree,
+    count: u32,
+) -> Result<(), OutOfMemory> {
+    let mut text = String::new(alloc);
+    push_broad(&mut text, count)?;
+    put_grown(alloc, out, tree, &text)
 }
 
 // Appends the name of the view at a place, or that there is none.
 fn put_name(out: &mut String, tree: &Tree, place: u32) -> Result<(), OutOfMemory> {
-    match tree.at(place as usize) {
-        Some(view) => {
-            let name = view.name;
-            Ok(writeln!(out, "{name}")?)
-        }
-        None => Ok(writeln!(out, "None")?),
-    }
+    let name = match tree.at(place as usize) {
+        Some(view) => view.name,
+        None => "None",
+    };
+    Ok(writeln!(out, "{name}")?)
 }
 
 fn copy_tree(tree: &mut Tree) -> Result<(), OutOfMemory> {
@@ -100,9 +130,31 @@ fn copy_tree(tree: &mut Tree) -> Result<(), OutOfMemory> {
     Ok(())
 }
 
-fn put_count(out: &mut String, tree: &Tree) -> Result<(), OutOfMemory> {
-    let count = tree.len();
-    Ok(writeln!(out, "{count}")?)
+// What a call with words asks of the tree.
+fn put_asked(out: &mut String, tree: &Tree, call: &str, words: &str) -> Result<(), OutOfMemory> {
+    match call {
+        "find" => put_shown(out, &tree.find(words)),
+        "parent" => put_shown(out, &tree.parent(ViewId(number_of(words)))),
+        "at" => put_name(out, tree, number_of(words)),
+        _ => put_shown(out, &tree.len()),
+    }
+}
+
+// What a call with words leads to.
+fn put_worded(
+    alloc: Global,
+    out: &mut String,
+    tree: &mut Tree,
+    call: &str,
+    words: &str,
+) -> Result<(), OutOfMemory> {
+    match call {
+        "add" => put_added(out, tree, words),
+        "json" => put_grown(alloc, out, tree, words),
+        "nest" => put_nested(alloc, out, tree, number_of(words)),
+        "broad" => put_broad(alloc, out, tree, number_of(words)),
+        _ => put_asked(out, tree, call, words),
+    }
 }
 
 fn put_call(
@@ -112,24 +164,28 @@ fn put_call(
     call: &str,
 ) -> Result<(), OutOfMemory> {
     match call.split_once(" ") {
-        Some(("add", words)) => put_added(out, tree, words),
-        Some(("json", text)) => put_grown(alloc, out, tree, text),
-        Some(("nest", count)) => put_grown(alloc, out, tree, &nested(alloc, number_of(count))?),
-        Some(("broad", count)) => put_grown(alloc, out, tree, &broad(alloc, number_of(count))?),
-        Some(("find", name)) => put_id(out, tree.find(name)),
-        Some(("parent", id)) => put_id(out, tree.parent(ViewId(number_of(id)))),
-        Some(("at", place)) => put_name(out, tree, number_of(place)),
-        _ if call == "copy" => copy_tree(tree),
-        _ => put_count(out, tree),
+        Some((word, words)) => put_worded(alloc, out, tree, word, words),
+        None if call == "copy" => copy_tree(tree),
+        None => put_shown(out, &tree.len()),
     }
+}
+
+// Appends each call and what it answers.
+fn put_calls(
+    alloc: Global,
+    out: &mut String,
+    tree: &mut Tree,
+    calls: &str,
+) -> Result<(), OutOfMemory> {
+    for call in calls.lines() {
+        writeln!(out, "{call}")?;
+        put_call(alloc, out, tree, call)?;
+    }
+    Ok(())
 }
 
 /// Appends what the calls on views answer.
 pub fn put_views(alloc: Global, out: &mut String, calls: &str) -> Result<(), OutOfMemory> {
     let mut tree = Tree::new(alloc)?;
-    for call in calls.lines() {
-        writeln!(out, "{call}")?;
-        put_call(alloc, out, &mut tree, call)?;
-    }
-    Ok(())
+    put_calls(alloc, out, &mut tree, calls)
 }

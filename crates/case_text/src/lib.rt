@@ -11,13 +11,17 @@
 //! ```
 //!
 //! What holds: a text line stands for the bytes that its escapes mean (`line_bytes` in `specs/Escapes.antt`),
-//! and bytes are shown as lines (`as_lines`). What [`print_answers`] reads and writes is said by no clause.
+//! and bytes are shown as lines (`as_lines`). What [`put_shown`] appends, and what [`print_answers`] reads and
+//! writes, is said by no clause.
 //!
-//! In reading order: `escapes` (text lines, read and written), `program` (input, output and exit status).
+//! In reading order: `escapes` (text lines, read and written), `shown` (values as lines), `program` (input,
+//! output and exit status).
 #![tactic(auto)]
 
 mod escapes;
 mod program;
+mod shown;
 
 pub use escapes::{put_escaped, put_text};
 pub use program::print_answers;
+pub use shown::put_shown;

@@ -6,3 +6,4 @@ pub mod Certifying
 pub mod PlacedLevels
 pub mod Fronts
 pub mod Laws
+pub mod Constants

@@ -17,14 +17,14 @@ use problem_core::{FIRST_STAY_LEVEL, Problem, REQUIRED, Rel, Side};
 use std::alloc::Global;
 
 /// The first level at which a column is not 0, and its sign there.
-#[derive(Clone, Copy, Debug, PartialEq, Eq)]
+#[derive(Clone, Copy)]
 pub(crate) struct Front {
     pub level: usize,
     pub negative: bool,
 }
 
 /// What a line's columns depend on: its own level, its weight, its relation and its scale.
-#[derive(Clone, Copy, Debug, PartialEq, Eq)]
+#[derive(Clone, Copy)]
 pub(crate) struct Facts {
     pub own: usize,
     pub weight: u16,
@@ -33,7 +33,7 @@ pub(crate) struct Facts {
 }
 
 /// The fronts of a line's two columns, and whether a multiplier at its own level was seen.
-#[derive(Clone, Copy, Debug, PartialEq, Eq)]
+#[derive(Clone, Copy)]
 pub(crate) struct Sides {
     pub under: Option<Front>,
     pub over: Option<Front>,

@@ -14,7 +14,7 @@ use problem_core::{FIRST_STAY_LEVEL, Level, Problem, REQUIRED, RowName};
 use std::alloc::Global;
 
 /// A level's place, strongest first, with its scale and the lines that it names.
-#[derive(Debug, Drop)]
+#[derive(Drop)]
 pub(crate) struct PlacedLevel {
     pub level: usize,
     pub scale: i64,

@@ -40,5 +40,5 @@ pub use laws::values_are_given;
 pub use refuting::check_conflict;
 pub use verdict::{
     BALANCE_CLAUSE, CANCEL_CLAUSE, COLUMNS_CLAUSE, FREE_CLAUSE, GIVEN_CLAUSE, REQUIRED_CLAUSE,
-    SIGNS_CLAUSE, SUM_CLAUSE, Verdict,
+    SIGNS_CLAUSE, SUM_CLAUSE, Verdict, constants_are_as_said,
 };

@@ -12,7 +12,7 @@ use std::alloc::Global;
 use std::collections::BTreeMap;
 
 /// The places of rows by number, and of stays by attribute.
-#[derive(Debug, Drop)]
+#[derive(Drop)]
 pub(crate) struct Places {
     rows: BTreeMap<u32, usize>,
     stays: BTreeMap<u32, usize>,

@@ -1,4 +1,5 @@
 // The checker's answer, and the numbers of the clauses.
+ghost use Rattle.cert_checker.specs.Constants.{ConstantsAreAsSaid};
 
 /// What the checker says of a claim: it holds, or the number of the first clause that fails, or the number
 /// of the row at which there is no room for the sums.
@@ -32,3 +33,8 @@ pub const SIGNS_CLAUSE: u32 = 7;
 
 /// The clause that the sum of the constants is above 0.
 pub const SUM_CLAUSE: u32 = 8;
+
+/// The constants that definitions and clauses cite by name are these numbers.
+pub fn constants_are_as_said()
+    ensures { ConstantsAreAsSaid }
+{}

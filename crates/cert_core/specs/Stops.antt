@@ -1,5 +1,5 @@
 -- What the stops of a change show.
-use Rattle.std.specs.Prelude.{◌≡◌, ◌≢◌, ℕ, ◌<◌, ◌≤◌, Bool, false, List, [], ◌∷◌, length, pos, ◌≤ℤ◌}
+use Rattle.std.specs.Prelude.{◌≡◌, ◌≢◌, ℕ, ◌<◌, ◌≤◌, Bool, true, false, List, [], ◌∷◌, length, pos, ◌≤ℤ◌}
 use Rattle.std.specs.Prelude.{unsigned_abs, All, AllPairs, Any}
 use Rattle.std.specs.Int.{◌∣◌}
 use Rattle.problem_core.specs.declared.parts.RowName.{RowName}
@@ -65,7 +65,7 @@ IsPartial (Shifts what j) = ⊥
 
 -- a lawful path to a corner at which the quantity does not fit. Before a run has begun it has no exchange;
 -- and while rows are still to join, which is before a primal run alone, these are over whatever their values
--- are, and the sum is one of the first of them
+-- are, and the sum is one of the first of them. Changed constants are those of a dual path
 abbrev pub IsUnfitPath : Bool → Problem → List Row → (List Row → List Mark → Type 0) → Path → Quantity
     → Type 0
 IsUnfitPath dual p old Begins path (Plain what) = Begins [] path.corner × IsPath dual p path.corner path.swaps
@@ -77,7 +77,7 @@ IsUnfitPath dual p old Begins path (Terms mark j) = (dual ≡ false) × (path.sw
     × IsUnfit p old path.corner (Terms mark j)
 IsUnfitPath dual p old Begins path (Rows level j) = (path.swaps ≡ []) × Begins [] path.corner
     × IsPath dual p path.corner [] × IsUnfit p old path.corner (Rows level j)
-IsUnfitPath dual p old Begins path (Shifts what j) = (path.swaps ≡ []) × Begins [] path.corner
+IsUnfitPath dual p old Begins path (Shifts what j) = (dual ≡ true) × (path.swaps ≡ []) × Begins [] path.corner
     × IsPath dual p path.corner [] × IsUnfit p old path.corner (Shifts what j)
 
 -- a lawful path of as many exchanges as the budget, to a corner that is no end

@@ -1,6 +1,6 @@
 //! Claims on layout problems: multipliers that show a conflict, certificates of what is best, and paths
 //! between corners. A claim is data that may be wrong: `cert_checker` and `path_claims` judge claims, and
-//! `claim_text` reads and writes them.
+//! `claim_writing` writes them, and `claim_text` reads them.
 //!
 //! ```
 //! // a row 7, attribute 1 is at least 20, and a row 8, it is at most 10: one less the other is 0 >= 10

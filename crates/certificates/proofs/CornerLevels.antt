@@ -22,8 +22,8 @@ use Rattle.certificates.specs.Reading.{AreNumbersAt, IsPushed}
 use Rattle.certificates.proofs.Factors.{no_factor}
 use Rattle.certificates.proofs.MultiplierLists.{DifferentRows, all_different, each_line, multiplied_different, names_different, none_written, nonzero_different}
 use Rattle.certificates.proofs.Numbers.{numbers_exist}
-use Rattle.corner.proofs.Additions.RowPaths.{positive_is}
-use Rattle.corner.proofs.LevelFacts.LevelUseFacts.{used_level as used_is_level}
+use Rattle.corner_joins.proofs.Additions.RowPaths.{positive_is}
+use Rattle.corner_writings.proofs.LevelFacts.LevelUseFacts.{used_level as used_is_level}
 
 -- ---- one level
 

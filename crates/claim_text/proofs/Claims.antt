@@ -2,7 +2,6 @@
 pub mod SameClaims
 pub mod ClaimDrafts
 pub mod ClaimReadings
-pub mod LevelTexts
 pub mod ClaimRoundTrip
 pub mod SeenStays
 pub mod ClaimForms

@@ -7,10 +7,10 @@ use Rattle.std.proofs.lemmas.List.Elements.{All-push}
 use Rattle.span_text.proofs.TextCuts.Cuts.{lines_at, first_part}
 use Rattle.claim_text.specs.Cut.{BeginsClaim, IsWithoutOk, ok_line}
 use Rattle.claim_text.specs.CutLines.{EndsBetweenLines, IsLineLength, IsLastStart, IsCutPlace}
-use Rattle.claim_text.proofs.Parts.{IsFree, whole_is}
-use Rattle.claim_text.proofs.Problems.Readings.{lines_count}
+use Rattle.problem_reading.proofs.Parts.{IsFree, whole_is}
+use Rattle.problem_reading.proofs.Problems.Readings.{lines_count}
 use Rattle.std.proofs.lemmas.Bool.Decides.{nat_tests}
-use Rattle.claim_text.specs.Words.{parts}
+use Rattle.problem_reading.specs.Words.{parts}
 
 -- ---- helpers
 

@@ -1,11 +1,4 @@
-pub mod Parts
-pub mod Numerals
-pub mod Maybe
-pub mod Rising
-pub mod Problems
-pub mod LineLists
-pub mod Texts
-pub mod Visible
+pub mod Names
 pub mod Paths
 pub mod Claims
 pub mod CutPlaces

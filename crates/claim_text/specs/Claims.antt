@@ -1,5 +1,4 @@
 -- Which lines and texts are claims, and what a reader of them has seen.
-pub mod ClaimLines
 pub mod ClaimTexts
 pub mod Seen
 pub mod ClaimForms

@@ -1,14 +1,5 @@
-pub mod Words
-pub mod Stops
-pub mod Lines
-pub mod Texts
-pub mod FirstBad
-pub mod Problems
-pub mod Sets
-pub mod Names
 pub mod Paths
 pub mod Claims
 pub mod Cut
 pub mod CutLines
-pub mod ProblemForms
 pub mod FormExamples

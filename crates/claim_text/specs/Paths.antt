@@ -1,4 +1,3 @@
 -- Which lines are paths, with lines inside and outside the form.
-pub mod PathTexts
 pub mod PathForms
 pub mod PathExamples

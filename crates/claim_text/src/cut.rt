@@ -4,9 +4,9 @@ ghost use Rattle.std.specs.Prelude.{IsTrue, ◌↔◌, MatchOption};
 ghost use Rattle.std.specs.Str.Lines.{lines};
 ghost use Rattle.claim_text.specs.Cut.{IsClaimWord, BeginsClaim, IsClaimStart, IsWithoutOk, IsCut, ok_line};
 ghost use Rattle.claim_text.specs.CutLines.{IsLineLength, IsLastStart, IsCutPlace};
-ghost use Rattle.claim_text.specs.declared.limits.TheConstants.{TEXT_LIMIT};
+ghost use Rattle.problem_reading.specs.declared.limits.TheConstants.{TEXT_LIMIT};
 
-use crate::words::first_part;
+use problem_reading::first_part;
 use span_text::{first_word, lines};
 
 /// The input of a check: the texts of a problem and of a claim, and the count of lines before the claim.

@@ -2,18 +2,11 @@
 ghost use Rattle.claim_text.specs.Claims.ClaimForms.{ClaimsAreTheForm};
 ghost use Rattle.claim_text.specs.FormExamples.{SomeAreOutside};
 ghost use Rattle.claim_text.specs.Paths.PathExamples.{SomePathsAreInside, SomePathsAreOutside};
-ghost use Rattle.claim_text.specs.ProblemForms.{ProblemsAreTheForm};
 
 /// The lines that `read_claim` reads as a claim are exactly that claim's lines, and the line at which it
 /// stops is the first outside the form.
 pub fn claims_are_the_form()
     ensures { ClaimsAreTheForm }
-{}
-
-/// The lines that `read_problem` reads as a problem are exactly that problem's lines, with some that are
-/// passed over, and the line at which it stops is the first outside the form.
-pub fn problems_are_the_form()
-    ensures { ProblemsAreTheForm }
 {}
 
 /// No line is no claim, for want of `best`, and is a problem; a line of another byte is none. Some lines are

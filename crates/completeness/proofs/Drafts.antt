@@ -25,12 +25,14 @@ use Rattle.layout_solver.specs.declared.removing.RemoveStop.TheVariants as remov
 use Rattle.corner.specs.Changes.{FromAdded}
 use Rattle.diagnosis.specs.Probes.{IsBeside, IsProbeStop, next_num, probe_row, with_probe}
 use Rattle.diagnosis.specs.declared.probing.DiagnoseStop.TheVariants as probed
-use Rattle.session_undo.specs.Diagnosing.{IsLayoutOf, IsProbedStop}
-use Rattle.session_undo.specs.Leaving.{stood_of}
-use Rattle.session_undo.specs.Machine.{CannotLeave, Conflicts, Diagnoses, Finds, IsLeaving, IsProblemOf, IsStopped, LeavesFree, LeftSpends, Solves, SolvesFree, Spends, TellsStill}
+use Rattle.scenes.specs.Diagnosing.{IsLayoutOf, IsProbedStop}
+use Rattle.scenes.specs.Leaving.{stood_of}
+use Rattle.scenes.specs.Steps.{CannotLeave, IsLeaving, IsProblemOf, IsStopped}
+use Rattle.session_undo.specs.Machine.{Conflicts, Diagnoses, Finds, LeavesFree, LeftSpends, Solves, SolvesFree, Spends, TellsStill}
 use Rattle.session_undo.specs.Replies.{Done, Reply}
-use Rattle.session_undo.specs.Scene.{Becomes, Scene, State, draft_problem, problem_of}
-use Rattle.completeness.specs.Room.{FitsOnTheWay, HasRoom, HasRoomToProbe, IsLarge, IsProbed, probe_problem}
+use Rattle.scenes.specs.Scene.{Becomes, Scene, draft_problem, problem_of}
+use Rattle.session_undo.specs.State.{State}
+use Rattle.completeness.specs.Room.{FitsOnTheWay, HasRoom, HasRoomToLeave, HasRoomToProbe, IsLarge, IsProbed, probe_problem}
 use Rattle.completeness.specs.Laws.{IsAccepted, IsDecided, LargeBudgetsAreNeverSpent}
 
 -- ---- budgets
@@ -96,30 +98,36 @@ module _ (old : State) (draft : Scene) (reply : Reply) (new : State) where
 
   -- ---- removals
 
-  left : (rows : List Row) (kept : List Mark) (l : Leaving) (stop : RunStop) → HasRoom old.scene.rows old.budget (draft_problem draft rows) → IsLeaving old.scene draft rows kept l → IsLeftStop (stood_of old.scene) kept l old.budget stop → IsConflict stop
+  -- each problem that the removal may leave has room over its own rows, also on the way
+  abbrev pub HasLeavingRoom : Type 0
+  HasLeavingRoom = (p : Problem) → IsProblemOf draft p → HasRoomToLeave old p
+
+  left : (rows : List Row) (kept : List Mark) (l : Leaving) (stop : RunStop) → HasRoomToLeave old (draft_problem draft rows) → IsLeaving old.scene draft rows kept l → IsLeftStop (stood_of old.scene) kept l old.budget stop → IsConflict stop
   left rows kept l stop room leaves h =
-      stops false (without l (stood_of old.scene)) old.scene.rows (FromRemoved (stood_of old.scene) kept l.rows l.rows (without l (stood_of old.scene))) old.budget stop
-      (subst (HasRoom old.scene.rows old.budget) leaves.left room) h
+      let q : Problem = without l (stood_of old.scene) in
+      stops false q q.rows (FromRemoved (stood_of old.scene) kept l.rows l.rows q) old.budget stop
+      (subst (λ (p : Problem). HasRoom p.rows old.budget p) leaves.left room.0) h
 
   held : (rows : List Row) (kept : List Mark) (l : Leaving) (still : List ℕ) (at : UnfitPath) → FitsOnTheWay old.scene (draft_problem draft rows) → IsLeaving old.scene draft rows kept l → IsHeldPath (stood_of old.scene) kept l.rows still at → ⊥
   held rows kept l still at fits leaves h =
       let q : Problem = without_rows h.gone (stood_of old.scene) in
-      unfit-there false q old.scene.rows (FromRemoved (stood_of old.scene) kept l.rows h.gone q) at.path at.quantity
+      unfit-there false q q.rows (FromRemoved (stood_of old.scene) kept l.rows h.gone q) at.path at.quantity
       (fits l leaves.can leaves.rising leaves.left h.gone still h.in_order) h.stop.2
 
-  cannot : (stop : RemoveStop) → HasRoomFor old draft → ((p : Problem) → IsProblemOf draft p → FitsOnTheWay old.scene p) → CannotLeave old.scene draft old.budget stop → TellsStill old stop reply new → ⊥
-  cannot (removal.Unfit still at) room fits h told =
+  cannot : (stop : RemoveStop) → HasLeavingRoom → CannotLeave old.scene draft old.budget stop → TellsStill old stop reply new → ⊥
+  cannot (removal.Unfit still at) room h told =
+      let roomy : HasRoomToLeave old (draft_problem draft h.rows) = room (draft_problem draft h.rows) (h.are, refl) in
       elim h.stops [
-        | inl way ↦ held h.rows h.kept h.leaving still.items at (fits (draft_problem draft h.rows) (h.are, refl)) h.leaves way
-        | inr end ↦ left h.rows h.kept h.leaving (run.Unfit at) (room (draft_problem draft h.rows) (h.are, refl)) h.leaves end.1
+        | inl way ↦ held h.rows h.kept h.leaving still.items at roomy.1 h.leaves way
+        | inr end ↦ left h.rows h.kept h.leaving (run.Unfit at) roomy h.leaves end.1
       ]
-  cannot (removal.Spent path) room fits h told = told
-  cannot removal.OutOfMemory room fits h told = told
+  cannot (removal.Spent path) room h told = told
+  cannot removal.OutOfMemory room h told = told
 
-  pub leaves-free : HasRoomFor old draft → ((p : Problem) → IsProblemOf draft p → FitsOnTheWay old.scene p) → LeavesFree old draft reply new → HasProblem draft (λ p. IsAccepted p reply)
-  leaves-free room fits (inl h) = becomes draft new.scene reply h.left.becomes h.done
-  leaves-free room fits (inr (inl h)) = absurd (cannot h.stop room fits h.stopped h.told)
-  leaves-free room fits (inr (inr h)) =
+  pub leaves-free : HasLeavingRoom → LeavesFree old draft reply new → HasProblem draft (λ p. IsAccepted p reply)
+  leaves-free room (inl h) = becomes draft new.scene reply h.left.becomes h.done
+  leaves-free room (inr (inl h)) = absurd (cannot h.stop room h.stopped h.told)
+  leaves-free room (inr (inr h)) =
       let s = h.stopped in
       absurd (left s.rows s.kept s.leaving (run.Spent h.path) (room (draft_problem draft s.rows) (s.are, refl)) s.leaves s.stops)
 

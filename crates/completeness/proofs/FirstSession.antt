@@ -7,9 +7,11 @@ use Rattle.problem_core.specs.Layout.{Assignment, IsInConflict, Problem, Row, Sa
 use Rattle.problem_core.specs.Window.{structural_rows}
 use Rattle.script_text.specs.Meaning as mean
 use Rattle.name_tables.specs.declared.stops.LimitWord.TheVariants as word
-use Rattle.session_undo.specs.Machine.{IsProblemOf, MeaningStep, Poses}
+use Rattle.scenes.specs.Steps.{IsProblemOf}
+use Rattle.session_undo.specs.Machine.{MeaningStep, Poses}
 use Rattle.session_undo.specs.Replies.{Done, Limit, Reply, Taken, is_accepted}
-use Rattle.session_undo.specs.Scene.{State, first_scene, first_state, with_metric}
+use Rattle.session_undo.specs.State.{State, first_state}
+use Rattle.scenes.specs.Scene.{first_scene, with_metric}
 use Rattle.completeness.specs.Examples.{first}
 use Rattle.completeness.specs.Room.{HasRoom}
 use Rattle.completeness.specs.Laws.{IsDecided, IsRefused}

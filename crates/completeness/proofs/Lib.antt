@@ -7,3 +7,7 @@ pub mod Resolved
 pub mod Lines
 pub mod FirstSession
 pub mod LoneSessions
+pub mod BoundLines
+pub mod BoundsFit
+pub mod BoundRemovals
+pub mod MiddleRemovals

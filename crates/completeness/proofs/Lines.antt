@@ -3,9 +3,11 @@ use Rattle.std.proofs.Common.{◌≡◌, ap, arith, inl, inr, ◌⊎◌, true}
 use Rattle.problem_core.specs.Layout.{Problem}
 use Rattle.script_text.specs.Meaning.{Meaning}
 use Rattle.script_text.specs.Meaning as mean
-use Rattle.session_undo.specs.Machine.{IsProblemOf, Keeps, LeavesFree, MeaningStep, Poses, Solves, SolvesFree}
+use Rattle.scenes.specs.Steps.{IsProblemOf}
+use Rattle.session_undo.specs.Machine.{Keeps, LeavesFree, MeaningStep, Poses, Solves, SolvesFree}
 use Rattle.session_undo.specs.Replies.{Reply, is_accepted}
-use Rattle.session_undo.specs.Scene.{Scene, State}
+use Rattle.scenes.specs.Scene.{Scene}
+use Rattle.session_undo.specs.State.{State}
 use Rattle.completeness.specs.Room.{HasRoom, HasRoomToLeave, HasRoomToStep}
 use Rattle.completeness.specs.Laws.{ComesTo, IsAccepted, IsChanging, IsDecided, IsRefused, NeedsNoRoom}
 use Rattle.completeness.proofs.Drafts.{decides, free, leaves-free}
@@ -36,7 +38,7 @@ module _ (old : State) (m : Meaning) (reply : Reply) (new : State) where
 
   gone : ((p : Problem) → Poses old m p → HasRoomToLeave old p) → IsRefused old m reply new ⊎ ((d : Scene) × LeavesFree old d reply new × AreIts d) → Says old m reply new (λ p. IsAccepted p reply)
   gone room (inl cause) = inl cause
-  gone room (inr (d, end, its)) = said (λ p. IsAccepted p reply) d its (leaves-free old d reply new (λ p of. (room p (its p of)).0) (λ p of. (room p (its p of)).1) end)
+  gone room (inr (d, end, its)) = said (λ p. IsAccepted p reply) d its (leaves-free old d reply new (λ p of. room p (its p of)) end)
 
 -- each change, by its command
 pub changes-answered : (old : State) (m : Meaning) (reply : Reply) (new : State) → IsChanging m → ((p : Problem) → Poses old m p → HasRoomToStep old m p) → MeaningStep old m reply new

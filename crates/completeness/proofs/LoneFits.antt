@@ -193,7 +193,7 @@ bare-fits old [] (Plain (MarkOf m)) corner (i, unfit) = nowhere (place m) i
 bare-fits old [] (Plain (LevelOf level)) corner (k, is, unfit) = bare-level k unfit
 bare-fits old [] (Terms mark j) corner ((k, r, within, is, h), fresh) = absurd (omega (arith, within))
 bare-fits old [] (Rows level j) corner (sum, (k, number, (before, r, after, e, count, fresh))) = absurd (split-length before after r e)
-bare-fits old [] (Shifts what j) corner (a, b, h) = absurd (omega (arith, a, b, no-changes old))
+bare-fits old [] (Shifts what j) corner (alike, a, b, h) = absurd (omega (arith, a, b, no-changes old))
 
 -- ---- with a row
 
@@ -489,4 +489,4 @@ lone-fits n unit old same (m ∷ []) (Plain (LevelOf level)) corner (k, is, unfi
 lone-fits n unit old same (m ∷ []) (Terms mark j) corner ((zero, r, within, is, (its, over, a, b, unfit)), fresh) = terms-fit n unit m corner j (subst (Said n (m ∷ []) j) (sym is) (over, a, b, unfit))
 lone-fits n unit old same (m ∷ []) (Terms mark j) corner ((suc k, r, within, is, h), fresh) = absurd (omega (arith, within))
 lone-fits n unit old same (m ∷ []) (Rows level j) corner ((k, number, a, b, unfit), new) = rows-fit n unit m corner k j a unfit
-lone-fits n unit old same (m ∷ []) (Shifts what j) corner (a, b, h) = absurd (omega (arith, a, b, same))
+lone-fits n unit old same (m ∷ []) (Shifts what j) corner (alike, a, b, h) = absurd (omega (arith, a, b, same))

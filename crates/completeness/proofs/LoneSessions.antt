@@ -11,8 +11,9 @@ use Rattle.corner_lines.specs.Removals.{without_row}
 use Rattle.layout_solver.specs.Removals.{CanLeave, Leaving, without_rows}
 use Rattle.diagnosis.specs.Probes.{next_num}
 use Rattle.script_text.specs.Meaning as mean
-use Rattle.session_undo.specs.Leaving.{without_group}
-use Rattle.session_undo.specs.Machine.{IsProblemOf, Poses}
+use Rattle.scenes.specs.Leaving.{without_group}
+use Rattle.scenes.specs.Steps.{IsProblemOf}
+use Rattle.session_undo.specs.Machine.{Poses}
 use Rattle.session_undo.specs.Replies.{Unknown}
 use Rattle.completeness.specs.Examples.{bare, lone, lone_row}
 use Rattle.completeness.specs.Room.{HasRoom, HasRoomToLeave, HasRoomToProbe, IsProbed, LacksWish, probe_problem}
@@ -69,8 +70,8 @@ far-lacks room = room.wishes 1 true (0, record { attr = 1; target = record { num
 removed : (p : Problem) → IsProblemOf (without_group held_state.scene []) p → p ≡ bare
 removed p (rows, stays) = ap₂ (λ (rs : List Row) (ss : List Stay). (let q : Problem = record { rows = rs; stays = ss } in q)) rows stays
 
-bare-room : HasRoom (lone_row (pos 0) ∷ []) 100000 bare
-bare-room = record { large = record { whole = bare-whole; exchanges = omega arith }; fits = bare-fits (lone_row (pos 0) ∷ []) }
+bare-room : HasRoom [] 100000 bare
+bare-room = record { large = record { whole = bare-whole; exchanges = omega arith }; fits = bare-fits [] }
 
 still-bare : (ids : List ℕ) → without_rows ids bare ≡ bare
 still-bare [] = refl
@@ -80,17 +81,21 @@ first-is : (id : ℕ) → Any (λ r. r.id ≡ id) (lone (pos 0)).rows → 1 ≡ 
 first-is id (zero, r, within, is, e) = ap (λ (q : Row). q.id) is ∙ e
 first-is id (suc k, r, within, is, e) = absurd (omega (arith, within))
 
-gone-fits : (l : Leaving) → CanLeave l (lone (pos 0)) → (gone still : List ℕ) → gone ++ still ≡ l.rows → AllFit (without_rows gone (lone (pos 0))) (lone_row (pos 0) ∷ [])
+-- each quantity fits at each corner of the problem, over its own rows
+abbrev IsRoomy : Problem → Type 0
+IsRoomy p = AllFit p p.rows
+
+gone-fits : (l : Leaving) → CanLeave l (lone (pos 0)) → (gone still : List ℕ) → gone ++ still ≡ l.rows → IsRoomy (without_rows gone (lone (pos 0)))
 gone-fits l can [] still is = lone-fits (pos 0) none (lone_row (pos 0) ∷ []) refl
 gone-fits l can (id ∷ gone) still is =
     let each : All (λ i. Any (λ r. r.id ≡ i) (lone (pos 0)).rows) ((id ∷ gone) ++ still) = subst (All (λ i. Any (λ r. r.id ≡ i) (lone (pos 0)).rows)) (sym is) can.held in
-    subst (λ (i : ℕ). AllFit (without_rows gone (without_row i (lone (pos 0)))) (lone_row (pos 0) ∷ [])) (first-is id (each 0 0 (omega arith)))
-    (subst (λ (p : Problem). AllFit p (lone_row (pos 0) ∷ [])) (sym (still-bare gone)) (bare-fits (lone_row (pos 0) ∷ [])))
+    subst (λ (i : ℕ). IsRoomy (without_rows gone (without_row i (lone (pos 0))))) (first-is id (each 0 0 (omega arith)))
+    (subst IsRoomy (sym (still-bare gone)) (bare-fits []))
 
 pub held-room : (p : Problem) → Poses held_state (mean.Remove []) p → HasRoomToLeave held_state p
 held-room p h =
     let is : p ≡ bare = removed p (no-cause (Unknown []) refl h) in
-    (subst (HasRoom (lone_row (pos 0) ∷ []) 100000) (sym is) bare-room, λ l can rising left gone still order. gone-fits l can gone still order)
+    (subst (λ (q : Problem). HasRoom q.rows 100000 q) (sym is) bare-room, λ l can rising left gone still order. gone-fits l can gone still order)
 
 pub held-poses : Poses held_state (mean.Remove []) bare
 held-poses = inr ((λ e. true≢false e), (refl, refl))

@@ -12,10 +12,12 @@ use Rattle.constraint_compile.specs.Compiled.{CompiledLine}
 use Rattle.constraint_compile.specs.declared.suggestion.Suggestion.{Suggestion}
 use Rattle.view_tree.specs.JsonTrees.{Branch, JsonTree}
 use Rattle.session_undo.specs.Adding.{NoEnd}
-use Rattle.session_undo.specs.Machine.{AddsBranch, AddsLine, AddsTree, AddsView, DropsView, IsProblemOf, PosesDraft, ReleasesOf, Suggests, SuggestsFor, Tried, TriedBranch, TriedDrop, TriedMetric, TriedRelease, TriedRemove, TriedSuggest, TriedTree, TriedView, TriedWindow, UnlessFar, parent_name}
+use Rattle.session_undo.specs.Machine.{AddsBranch, AddsLine, AddsTree, AddsView, DropsView, PosesDraft, ReleasesOf, Suggests, SuggestsFor, Tried, TriedBranch, TriedDrop, TriedMetric, TriedRelease, TriedRemove, TriedSuggest, TriedTree, TriedView, TriedWindow, UnlessFar, parent_name}
+use Rattle.scenes.specs.Steps.{IsProblemOf}
 use Rattle.session_undo.specs.Machine.{Poses}
 use Rattle.session_undo.specs.Replies.{Reply, Done}
-use Rattle.session_undo.specs.Scene.{Scene, State, with_metric}
+use Rattle.scenes.specs.Scene.{Scene, with_metric}
+use Rattle.session_undo.specs.State.{State}
 use Rattle.completeness.specs.Laws.{IsChanging, IsRefused}
 
 module _ (old : State) (E : Scene → Reply → State → Type 0) (r : Reply) (s : State) where

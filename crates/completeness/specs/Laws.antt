@@ -1,5 +1,5 @@
 -- With room each line is answered.
-use Rattle.std.specs.Prelude.{◌≡◌, ◌≢◌, ◌⊎◌, ℕ, ◌<◌, ◌≤◌, true, List, []}
+use Rattle.std.specs.Prelude.{◌≡◌, ◌≢◌, ◌⊎◌, ℕ, ◌<◌, ◌≤◌, true, List, [], ◌∷◌}
 use Rattle.frac_core.specs.Fraction.{Fraction}
 use Rattle.problem_core.specs.Layout.{Assignment, IsInConflict, Problem, Row, Satisfies}
 use Rattle.cert_core.specs.declared.by.By.{By}
@@ -8,13 +8,18 @@ use Rattle.script_text.specs.Meaning.{Meaning}
 use Rattle.script_text.specs.Meaning as mean
 use Rattle.session_undo.specs.declared.limits.TheConstants.{BUDGET_LIMIT}
 use Rattle.session_undo.specs.Adding.{NoEnd, NoOther}
-use Rattle.session_undo.specs.Machine.{Finds, IsProblemOf, LeftSpends, MeaningStep, Poses, ProbeSpends}
+use Rattle.session_undo.specs.Machine.{Finds, LeftSpends, MeaningStep, Poses, ProbeSpends}
+use Rattle.scenes.specs.Steps.{IsProblemOf}
 use Rattle.session_undo.specs.Machine.{Spends, Tried}
 use Rattle.session_undo.specs.Replies.{Conflict, Done, Reply, is_accepted}
-use Rattle.session_undo.specs.Scene.{Scene, State, first_scene, first_state, problem_of}
+use Rattle.scenes.specs.Leaving.{stood_of}
+use Rattle.scenes.specs.Scene.{Scene, first_scene, problem_of}
+use Rattle.session_undo.specs.State.{State, first_state}
 use Rattle.completeness.specs.Examples.{steep}
-use Rattle.completeness.specs.Room.{HasRoomToProbe, HasRoomToStep, IsLarge, IsProbed, probe_problem}
-use Rattle.completeness.specs.States.{held_state}
+use Rattle.completeness.specs.Bounds.{AreBounds}
+use Rattle.completeness.specs.Room.{HasRoomToLeave, HasRoomToProbe, HasRoomToStep, IsLarge, IsProbed}
+use Rattle.completeness.specs.Room.{probe_problem}
+use Rattle.completeness.specs.States.{bounded_state, held_state}
 
 -- ---- changes
 
@@ -112,7 +117,22 @@ FirstSceneFits = AllFit (problem_of first_scene) first_scene.rows
 abbrev pub SteepDoesNotFit : Type 0
 SteepDoesNotFit = (before : List Row) → AllFit steep before → ⊥
 
+-- where no row is new and no constant changes, each quantity fits at each corner of a problem whose rows bound
+-- one attribute each
+abbrev pub BoundsFit : Type 0
+BoundsFit = (p : Problem) → AreBounds p → AllFit p p.rows
+
+-- so a removal from such rows to such rows has room, with a budget that is large for what is left
+abbrev pub BoundRemovalsHaveRoom : Type 0
+BoundRemovalsHaveRoom = (old : State) (p : Problem) → AreBounds (stood_of old.scene) → AreBounds p
+    → IsLarge old.budget p → HasRoomToLeave old p
+
 -- where one attribute has a row, by a line of a group, there is room for the group's removal
 abbrev pub RemovalHasRoom : Type 0
 RemovalHasRoom = (p : Problem) → Poses held_state (mean.Remove []) p
     → HasRoomToStep held_state (mean.Remove []) p
+
+-- there is room for the removal of the group whose row comes before those of the suggestions
+abbrev pub MiddleRemovalHasRoom : Type 0
+MiddleRemovalHasRoom = (p : Problem) → Poses bounded_state (mean.Remove (103 ∷ [])) p
+    → HasRoomToStep bounded_state (mean.Remove (103 ∷ [])) p

@@ -1,4 +1,5 @@
 pub mod Examples
 pub mod States
+pub mod Bounds
 pub mod Room
 pub mod Laws

@@ -10,8 +10,9 @@ use Rattle.layout_solver.specs.Removals.{CanLeave, Leaving, without, without_row
 use Rattle.diagnosis.specs.Probes.{IsBeside, next_num, with_probe}
 use Rattle.script_text.specs.Meaning.{Meaning}
 use Rattle.script_text.specs.Meaning as mean
-use Rattle.session_undo.specs.Leaving.{stood_of}
-use Rattle.session_undo.specs.Scene.{Scene, State, problem_of}
+use Rattle.scenes.specs.Leaving.{stood_of}
+use Rattle.scenes.specs.Scene.{Scene, problem_of}
+use Rattle.session_undo.specs.State.{State}
 
 -- the problem is one that the types can hold, and the budget is at least 4^N, where N counts rows and stays
 pub record IsLarge (budget : ℕ) (p : Problem) : Type 0 where
@@ -26,16 +27,17 @@ pub record HasRoom (before : List Row) (budget : ℕ) (p : Problem) : Type 0 whe
 -- ---- changes
 
 -- for whatever leaves the scene towards this problem: each quantity fits at each corner also once the first
--- of the leaving rows have gone, while the others are still held
+-- of the leaving rows have gone, while the others are still held. No row of that problem is new and no
+-- constant changes, so it is judged over its own rows
 abbrev pub FitsOnTheWay : Scene → Problem → Type 0
 FitsOnTheWay scene p = (l : Leaving) → CanLeave l (stood_of scene) → AllPairs (λ a b. a < b) l.rows
     → p ≡ without l (stood_of scene)
     → (gone still : List ℕ) → gone ++ still ≡ l.rows
-    → AllFit (without_rows gone (stood_of scene)) scene.rows
+    → AllFit (without_rows gone (stood_of scene)) (without_rows gone (stood_of scene)).rows
 
--- a removal has room, also on the way
+-- a removal has room over the rows that are left, also on the way
 abbrev pub HasRoomToLeave : State → Problem → Type 0
-HasRoomToLeave old p = HasRoom old.scene.rows old.budget p × FitsOnTheWay old.scene p
+HasRoomToLeave old p = HasRoom p.rows old.budget p × FitsOnTheWay old.scene p
 
 -- there is room for a command, where this is its problem
 abbrev pub HasRoomToStep : State → Meaning → Problem → Type 0

@@ -1,13 +1,15 @@
 // The laws of completeness, each the contract of a function that does nothing.
-ghost use Rattle.std.specs.Prelude.{[]};
+ghost use Rattle.std.specs.Prelude.{[], ◌∷◌};
 ghost use Rattle.script_text.specs.Meaning as mean;
 ghost use Rattle.session_undo.specs.Machine.{Poses};
 ghost use Rattle.completeness.specs.Examples.{bare};
-ghost use Rattle.completeness.specs.States.{far_state, free_state, held_state};
+ghost use Rattle.completeness.specs.States.{bounded_state, far_state, free_state, held_state};
+ghost use Rattle.completeness.specs.States.{without_width};
 ghost use Rattle.completeness.specs.Room.{HasRoomToProbe};
-ghost use Rattle.completeness.specs.Laws.{ChangesAreAnswered, FirstMetricsAreAccepted, FirstSceneFits};
+ghost use Rattle.completeness.specs.Laws.{BoundRemovalsHaveRoom, BoundsFit, ChangesAreAnswered};
+ghost use Rattle.completeness.specs.Laws.{FirstMetricsAreAccepted, FirstSceneFits};
 ghost use Rattle.completeness.specs.Laws.{LargeBudgetsAreNeverSpent, OthersAreAccepted, ProbesAreAnswered};
-ghost use Rattle.completeness.specs.Laws.{RemovalHasRoom, SteepDoesNotFit};
+ghost use Rattle.completeness.specs.Laws.{MiddleRemovalHasRoom, RemovalHasRoom, SteepDoesNotFit};
 
 /// Where there is room for the problem of a command that makes a change, a cause is against it, or it is
 /// accepted where the required rows have a solution, and refused for their conflict where they have none.
@@ -54,8 +56,22 @@ pub fn some_probes_have_room()
     ensures lacks { HasRoomToProbe far_state → ⊥ }
 {}
 
-/// Where one attribute has a row, by a line of a group, there is room for the group's removal.
+/// Where one attribute has a row, by a line of a group, there is room for the group's removal; so is there in
+/// the scene of some lines, where the row that leaves comes before others.
 pub fn some_removals_have_room()
     ensures has { RemovalHasRoom }
     ensures some { Poses held_state (mean.Remove []) bare }
+    ensures middle { MiddleRemovalHasRoom }
+    ensures left { Poses bounded_state (mean.Remove (103 ∷ [])) without_width }
+{}
+
+/// Where each row bounds one attribute by a small whole number, no row is new and no constant changes, each
+/// quantity fits at each corner.
+pub fn bounds_fit()
+    ensures { BoundsFit }
+{}
+
+/// So a removal from such rows has room, whichever of them leave.
+pub fn bound_removals_have_room()
+    ensures { BoundRemovalsHaveRoom }
 {}

@@ -21,7 +21,7 @@
 mod laws;
 
 pub use laws::{
-    changes_are_answered, first_metrics_are_accepted, first_scene_fits,
-    large_budgets_are_never_spent, others_are_accepted, probes_are_answered, some_probes_have_room,
-    some_removals_have_room, steep_problem_does_not_fit,
+    bound_removals_have_room, bounds_fit, changes_are_answered, first_metrics_are_accepted,
+    first_scene_fits, large_budgets_are_never_spent, others_are_accepted, probes_are_answered,
+    some_probes_have_room, some_removals_have_room, steep_problem_does_not_fit,
 };

@@ -6,11 +6,11 @@ use Rattle.frac_core.specs.Fraction.{Fraction}
 use Rattle.script_text.specs.Meaning.{Term}
 use Rattle.view_tree.specs.Views.{LiveView}
 use Rattle.problem_core.specs.declared.parts.Term.{Term as RowTerm}
-use Rattle.constraint_compile.specs.Fractions.{plus, AreSmall, IsScale}
-use Rattle.constraint_compile.specs.Meaning as meaning
-use Rattle.constraint_compile.specs.Meaning.{share, sum_at}
-use Rattle.constraint_compile.specs.Addends.{Addend, addend, addends, addends_view, sum_of, first_of}
-use Rattle.constraint_compile.specs.declared.addends.Addend as code
+use Rattle.compile_parts.specs.Fractions.{plus, AreSmall, IsScale}
+use Rattle.compile_parts.specs.Meaning as meaning
+use Rattle.compile_parts.specs.Meaning.{share, sum_at}
+use Rattle.compile_parts.specs.Addends.{Addend, addend, addends, addends_view, sum_of, first_of}
+use Rattle.compile_parts.specs.declared.addends.Addend as code
 use Rattle.constraint_compile.specs.Coefficients.Sums.{first_sum, HasTooMany, AreTerms}
 use Rattle.constraint_compile.specs.Stops.{AreSmallSums}
 

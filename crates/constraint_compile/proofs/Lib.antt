@@ -1,8 +1,6 @@
 pub mod Added
-pub mod Formats
 pub mod Sums
 pub mod RowConstants
-pub mod Insertion
 pub mod Lines
 pub mod Lists
 pub mod Lowest

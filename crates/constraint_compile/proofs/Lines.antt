@@ -5,21 +5,22 @@ use Rattle.frac_core.specs.Fraction.{Fraction}
 use Rattle.problem_core.specs.declared.parts.Term.{Term as RowTerm}
 use Rattle.script_text.specs.Meaning.{Term}
 use Rattle.view_tree.specs.Views.{LiveView}
-use Rattle.constraint_compile.specs.Fractions.{IsScale}
-use Rattle.constraint_compile.specs.Meaning as meaning
-use Rattle.constraint_compile.specs.Meaning.{sum_at}
-use Rattle.constraint_compile.specs.Addends.{Addend, addend_view, addends, addends_view}
-use Rattle.constraint_compile.specs.declared.addends.Addend as code
+use Rattle.compile_parts.specs.Fractions.{IsScale}
+use Rattle.compile_parts.specs.Meaning as meaning
+use Rattle.compile_parts.specs.Meaning.{sum_at}
+use Rattle.compile_parts.specs.Addends.{Addend, addend_view, addends, addends_view}
+use Rattle.compile_parts.specs.declared.addends.Addend as code
 use Rattle.constraint_compile.specs.Coefficients.Sums.{first_sum, AreScales, AreTerms}
 use Rattle.constraint_compile.specs.Compiled as compiled
-use Rattle.constraint_compile.specs.Compiled.{last_scale}
-use Rattle.constraint_compile.specs.Keeps.{part_view, step_view, steps_view, metric_in, metric_name, is_metric, any_names_metric, HaveNames, AreScalesKept}
+use Rattle.compile_parts.specs.Steps as meant
+use Rattle.compile_parts.specs.Steps.{last_scale}
+use Rattle.compile_parts.specs.Keeps.{part_view, step_view, steps_view, metric_in, metric_name, is_metric, any_names_metric, HaveNames, AreScalesKept}
 use Rattle.constraint_compile.specs.Stops.{AreSteps, IsSumRow}
-use Rattle.constraint_compile.specs.declared.steps.Step.{Step}
-use Rattle.constraint_compile.specs.declared.steps.Part.TheVariants as part
+use Rattle.compile_parts.specs.declared.steps.Step.{Step}
+use Rattle.compile_parts.specs.declared.steps.Part.TheVariants as part
 use Rattle.constraint_compile.proofs.Added.{part_of, first_same, parts_same, same_count}
 use Rattle.constraint_compile.proofs.Sums.Beginnings.{zero_sum}
-use Rattle.constraint_compile.proofs.RowConstants.Constants.{last_more}
+use Rattle.compile_parts.proofs.Constants.{last_more}
 use Rattle.constraint_compile.proofs.Sums.Joint.{one_scale}
 use Rattle.frac_core.proofs.Bools.{neither}
 
@@ -50,12 +51,12 @@ all_names added names same = record { at = λ i. ap (λ (ns : List (List ℕ)). 
 
 pub parts_more : (added : List code.Addend) (steps : List Step) (i : ℕ) (a : code.Addend) (s : Step) → i < length added → a ≡ get_or added i a
     → ((names : List (List ℕ)) → get_or names i [] ≡ metric_name (addend_view a) → part_view names s.part ≡ (addend_view a).part)
-    → ((names : List (List ℕ)) → HaveNames names (addends_view added) → map (λ (u : compiled.Step). u.part) (steps_view names steps) ≡ map part_of (addends_view (take i added)))
-    → (names : List (List ℕ)) → HaveNames names (addends_view added) → map (λ (u : compiled.Step). u.part) (steps_view names (steps ++ s ∷ [])) ≡ map part_of (addends_view (take (i + 1) added))
+    → ((names : List (List ℕ)) → HaveNames names (addends_view added) → map (λ (u : meant.Step). u.part) (steps_view names steps) ≡ map part_of (addends_view (take i added)))
+    → (names : List (List ℕ)) → HaveNames names (addends_view added) → map (λ (u : meant.Step). u.part) (steps_view names (steps ++ s ∷ [])) ≡ map part_of (addends_view (take (i + 1) added))
 parts_more added steps i a s within is here before names same =
     let named : get_or names i [] ≡ metric_name (addend_view a) = same.at i ∙ name_at added i a within is in
-    let left : map (λ (u : compiled.Step). u.part) (steps_view names (steps ++ s ∷ [])) ≡ map (λ (u : compiled.Step). u.part) (steps_view names steps) ++ part_view names s.part ∷ [] =
-    ap (map (λ (u : compiled.Step). u.part)) (map_push (step_view names) steps s) ∙ map_push (λ (u : compiled.Step). u.part) (steps_view names steps) (step_view names s) in
+    let left : map (λ (u : meant.Step). u.part) (steps_view names (steps ++ s ∷ [])) ≡ map (λ (u : meant.Step). u.part) (steps_view names steps) ++ part_view names s.part ∷ [] =
+    ap (map (λ (u : meant.Step). u.part)) (map_push (step_view names) steps s) ∙ map_push (λ (u : meant.Step). u.part) (steps_view names steps) (step_view names s) in
     let right : map part_of (addends_view (take (i + 1) added)) ≡ map part_of (addends_view (take i added)) ++ (addend_view a).part ∷ [] =
     ap (λ (xs : List code.Addend). map part_of (addends_view xs)) (take_more added i a within ∙ ap (λ (x : code.Addend). take i added ++ x ∷ []) (sym is))
     ∙ ap (map part_of) (map_push addend_view (take i added) a) ∙ map_push part_of (addends_view (take i added)) (addend_view a) in
@@ -67,7 +68,7 @@ scales_more_steps scales steps i s within is before =
 
 -- the steps of the code are those of the terms
 pub are_steps : (views : List LiveView) (terms : List Term) (names : List (List ℕ)) (steps : List Step) (scales : List ℕ) → AreScales (addends views terms) (length terms) scales → length steps ≡ length terms
-    → map (λ (s : Step). s.scale) steps ≡ scales → map (λ (s : compiled.Step). s.part) (steps_view names steps) ≡ map part_of (addends views terms) → AreSteps views terms (steps_view names steps)
+    → map (λ (s : Step). s.scale) steps ≡ scales → map (λ (s : meant.Step). s.part) (steps_view names steps) ≡ map part_of (addends views terms) → AreSteps views terms (steps_view names steps)
 are_steps views terms names steps scales are long same parts = record {
   long = length-map steps (step_view names) ∙ long;
   scales = λ i d within. subst (λ (k : ℕ). IsScale (first_sum views terms (i + 1)) k) (sym (scale_at i d within)) (subst (λ (b : ℕ → Fraction). IsScale b (get_or scales i 0)) (first_same views terms (i + 1)) (are.each i within));
@@ -77,20 +78,20 @@ are_steps views terms names steps scales are long same parts = record {
     none : Step
     none = record { scale = 0; part = part.Nothing }
 
-    scale_at : (i : ℕ) (d : compiled.Step) → i < length terms → (get_or (steps_view names steps) i d).scale ≡ get_or scales i 0
+    scale_at : (i : ℕ) (d : meant.Step) → i < length terms → (get_or (steps_view names steps) i d).scale ≡ get_or scales i 0
     scale_at i d within =
-        ap (λ (s : compiled.Step). s.scale) (get_or-map (step_view names) steps i none d (omega (arith, within, long)))
+        ap (λ (s : meant.Step). s.scale) (get_or-map (step_view names) steps i none d (omega (arith, within, long)))
         ∙ sym (get_or-map (λ (s : Step). s.scale) steps i none 0 (omega (arith, within, long))) ∙ ap (λ (ks : List ℕ). get_or ks i 0) same
 
-no_terms : (views : List LiveView) (terms : List Term) (steps : List compiled.Step) → length terms ≡ 0 → length steps ≡ 0 → IsScale (sum_at views terms) (last_scale steps)
+no_terms : (views : List LiveView) (terms : List Term) (steps : List meant.Step) → length terms ≡ 0 → length steps ≡ 0 → IsScale (sum_at views terms) (last_scale steps)
 no_terms views [] [] none nothing = (zero_sum [] [] refl (λ k d h. absurd (omega (arith, h)))).is_scale
 no_terms views [] (s ∷ steps) none nothing = absurd (omega (arith, nothing))
 no_terms views (t ∷ terms) steps none nothing = absurd (omega (arith, none))
 
-pub last_is_scale : (views : List LiveView) (terms : List Term) (steps : List compiled.Step) → AreSteps views terms steps → IsScale (sum_at views terms) (last_scale steps)
+pub last_is_scale : (views : List LiveView) (terms : List Term) (steps : List meant.Step) → AreSteps views terms steps → IsScale (sum_at views terms) (last_scale steps)
 last_is_scale views terms steps are = at (length terms) refl
   where
-    first : compiled.Step
+    first : meant.Step
     first = record { scale = 0; part = meaning.Nothing }
 
     at : (n : ℕ) → length terms ≡ n → IsScale (sum_at views terms) (last_scale steps)
@@ -103,7 +104,7 @@ last_is_scale views terms steps are = at (length terms) refl
 
 -- the code's steps are those of whatever terms its addends come from
 pub code_steps : (views : List LiveView) (terms : List Term) (added : List code.Addend) (names : List (List ℕ)) (steps : List Step) (scales : List ℕ) → addends_view added ≡ addends views terms → AreScales (addends_view added) (length added) scales → length steps ≡ length added
-    → map (λ (s : Step). s.scale) steps ≡ scales → map (λ (s : compiled.Step). s.part) (steps_view names steps) ≡ map part_of (addends_view added) → AreSteps views terms (steps_view names steps)
+    → map (λ (s : Step). s.scale) steps ≡ scales → map (λ (s : meant.Step). s.part) (steps_view names steps) ≡ map part_of (addends_view added) → AreSteps views terms (steps_view names steps)
 code_steps views terms added names steps scales of are long same parts =
     let count : length added ≡ length terms = same_count views terms added of in
     are_steps views terms names steps scales (subst (λ (xs : List Addend). AreScales xs (length terms) scales) of (subst (λ (n : ℕ). AreScales (addends_view added) n scales) count are)) (long ∙ count) same (parts ∙ ap (map part_of) of)

@@ -1,6 +1,6 @@
 -- A value has one fraction in lowest terms.
 use Rattle.frac_core.specs.Fraction.{Fraction, IsKept}
-use Rattle.constraint_compile.specs.Fractions.{negated}
+use Rattle.compile_parts.specs.Fractions.{negated}
 use Rattle.frac_core.proofs.Quotients.{size_opposite as size-neg}
 
 pub negated_kept : (f : Fraction) → IsKept f → IsKept (negated f)

@@ -1,7 +1,5 @@
 -- The constants of rows, and how they change with the metrics that they name.
-pub mod Constants
 pub mod Forms
 pub mod Named
 pub mod NamedInstances
-pub mod Shifts
 pub mod SuggestedConstants

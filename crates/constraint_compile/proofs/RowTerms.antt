@@ -10,8 +10,8 @@ use Rattle.problem_core.specs.declared.parts.Term.{Term}
 use Rattle.problem_core.specs.Layout.{coefficient}
 use Rattle.problem_core.specs.Kept.{IsTerm}
 use Rattle.frac_core.proofs.Sums.{sum-append}
-use Rattle.constraint_compile.specs.Fractions.{IsOver}
-use Rattle.constraint_compile.specs.Coefficients.Shares.{IsOff}
+use Rattle.compile_parts.specs.Fractions.{IsOver}
+use Rattle.compile_parts.specs.Shares.{IsOff}
 use Rattle.constraint_compile.specs.Coefficients.Sums.{IsSum, HasFirst, AreTerms, HasTooMany, attr_at, number_at}
 use Rattle.constraint_compile.proofs.Sums.Joint.{find_place}
 use Rattle.constraint_compile.proofs.Sums.Beginnings.{zero_left}

@@ -4,7 +4,5 @@ pub mod Divisors
 pub mod Doubles
 pub mod Found
 pub mod Joint
-pub mod NoParts
 pub mod Quotients
-pub mod Totals
 pub mod Wholes

@@ -1,5 +1,3 @@
--- Whole coefficients as the code keeps them: shares, sums, pieces and quotients.
+-- Whole coefficients as the code keeps them: sums and pieces.
 pub mod Pieces
-pub mod Quotients
-pub mod Shares
 pub mod Sums

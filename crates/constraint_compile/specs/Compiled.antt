@@ -1,27 +1,13 @@
 -- Compiled lines: rows whose constants are sums of numbers and of multiples of metrics.
-use Rattle.std.specs.Prelude.{◌≡◌, ℕ, ◌+◌, ◌<◌, List, [], ◌∷◌, length, take}
+use Rattle.std.specs.Prelude.{◌≡◌, ℕ, ◌<◌, List, length}
 use Rattle.std.specs.Prelude.{slice_index_or, All, pos, ◌*ℤ◌}
 use Rattle.frac_core.specs.Fraction.{Fraction, IsLowest, Fits}
 use Rattle.problem_core.specs.declared.parts.Rel.{Rel}
 use Rattle.problem_core.specs.declared.parts.Term.{Term}
 use Rattle.problem_core.specs.Layout.{Row}
-use Rattle.constraint_compile.specs.Fractions.{total, IsConstant, IsSmallConstant}
-use Rattle.constraint_compile.specs.Meaning.{Part, MetricList, part_value}
-
--- the scale of the row after a term, and what the term adds to the constant
-pub record Step : Type 0 where
-  pub scale : ℕ
-  pub part : Part
-
--- the constant in the sum of some steps' terms
-abbrev pub step_sum : MetricList → List Step → Fraction
-step_sum metrics steps = total (λ s. part_value metrics s.part) steps
-
--- the scale after the last step
-abbrev pub last_scale : List Step → ℕ
-last_scale [] = 1
-last_scale (s ∷ []) = s.scale
-last_scale (s ∷ (t ∷ steps)) = last_scale (t ∷ steps)
+use Rattle.compile_parts.specs.Fractions.{IsConstant}
+use Rattle.compile_parts.specs.Meaning.{MetricList}
+use Rattle.compile_parts.specs.Steps.{AreSmallSteps, Step, last_scale, step_sum}
 
 -- a row, whose scale is that after its last step
 pub record RowForm : Type 0 where
@@ -47,15 +33,6 @@ pub record IsFittingSum (e : Fraction) : Type 0 where
   pub lowest : IsLowest sum
   pub fits : Fits sum
   pub value : IsValue sum e
-
--- after the step at i the constant is small
-abbrev pub IsSmallAfter : MetricList → List Step → ℕ → Step → Type 0
-IsSmallAfter metrics steps i s = IsSmallConstant s.scale (step_sum metrics (take (i + 1) steps))
-
--- after each step the constant is small
-abbrev pub AreSmallSteps : MetricList → List Step → Type 0
-AreSmallSteps metrics steps = (i : ℕ) (d : Step) → i < length steps
-    → IsSmallAfter metrics steps i (slice_index_or steps i d)
 
 -- the row for these metrics
 pub record IsRowNow (metrics : MetricList) (form : RowForm) (row : Row) : Type 0 where

@@ -7,8 +7,9 @@ use Rattle.problem_core.specs.Kept.{IsTerm}
 use Rattle.problem_core.specs.declared.limits.TheConstants.{NUMBER_LIMIT, REQUIRED, TERM_LIMIT}
 use Rattle.view_tree.specs.declared.view.ViewId.{ViewId}
 use Rattle.constraint_compile.specs.Compiled as compiled
-use Rattle.constraint_compile.specs.Meaning.{IsWeight}
-use Rattle.constraint_compile.specs.Keeps.{steps_view, AreScalesKept}
+use Rattle.compile_parts.specs.Meaning.{IsWeight}
+use Rattle.compile_parts.specs.Steps.{last_scale}
+use Rattle.compile_parts.specs.Keeps.{steps_view, AreScalesKept}
 use Rattle.constraint_compile.specs.declared.compiled.RowForm.{RowForm}
 
 -- a row without its constant, with the names of the metrics in its steps
@@ -25,7 +26,7 @@ form_view r = record {
 -- the row of this form with this constant
 abbrev pub IsRowWith : RowForm → Fraction → Row → Type 0
 IsRowWith form constant row = (row.id ≡ form.id) × (row.rank ≡ form.rank) × (row.weight ≡ form.weight)
-    × (row.rel ≡ form.rel) × (row.scale ≡ compiled.last_scale (form_view form).steps)
+    × (row.rel ≡ form.rel) × (row.scale ≡ last_scale (form_view form).steps)
     × (row.terms ≡ form.terms.items) × (row.constant ≡ constant)
 
 -- the line of these rows and these views

@@ -1,12 +1,7 @@
-pub mod Addends
-pub mod Formats
 pub mod Compiled
-pub mod Fractions
 pub mod Inside
-pub mod Keeps
-pub mod Meaning
 pub mod Naming
-pub mod Progress
 pub mod Coefficients
 pub mod Stops
 pub mod Suggestions
+pub mod Constants

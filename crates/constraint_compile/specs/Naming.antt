@@ -3,9 +3,10 @@ use Rattle.std.specs.Prelude.{◌≡◌, ℕ, Bool, false, List, filter}
 use Rattle.std.specs.List.{list_any, AllZip}
 use Rattle.std.specs.Str.{bytes_eq}
 use Rattle.name_tables.specs.Names.{value_of}
-use Rattle.constraint_compile.specs.Meaning.{Part, Nothing, Number, Multiple, MetricList}
-use Rattle.constraint_compile.specs.Compiled.{RowForm, AreSmallSteps, last_scale, step_sum}
-use Rattle.constraint_compile.specs.Fractions.{IsConstant}
+use Rattle.compile_parts.specs.Meaning.{Part, Nothing, Number, Multiple, MetricList}
+use Rattle.constraint_compile.specs.Compiled.{RowForm}
+use Rattle.compile_parts.specs.Steps.{AreSmallSteps, last_scale, step_sum}
+use Rattle.compile_parts.specs.Fractions.{IsConstant}
 use Rattle.constraint_compile.specs.declared.naming.RowConstant.{RowConstant}
 
 -- a multiple of the metric is added

@@ -6,20 +6,21 @@ use Rattle.name_tables.specs.declared.stops.LimitWord.{LimitWord}
 use Rattle.name_tables.specs.declared.stops.LimitWord.TheVariants as limit
 use Rattle.view_tree.specs.Views.{LiveView}
 use Rattle.script_text.specs.Meaning.{Term, Linear}
-use Rattle.constraint_compile.specs.Fractions.{IsScale, AreSmall}
-use Rattle.constraint_compile.specs.Meaning.{MetricList, part, terms_of, sum_at, first_unknown, unknown_among}
-use Rattle.constraint_compile.specs.Meaning.{has_view_number, IsRank, IsWeight, views_in}
+use Rattle.compile_parts.specs.Fractions.{IsScale, AreSmall}
+use Rattle.compile_parts.specs.Meaning.{MetricList, part, terms_of, sum_at, first_unknown}
+use Rattle.compile_parts.specs.Meaning.{has_view_number, IsRank, IsWeight, views_in}
 use Rattle.constraint_compile.specs.Coefficients.Sums.{first_sum, HasTooMany, AreTerms}
-use Rattle.constraint_compile.specs.Compiled.{Step, RowForm, CompiledLine, AreSmallSteps, AreSmallForms}
-use Rattle.constraint_compile.specs.Compiled.{last_scale}
+use Rattle.compile_parts.specs.Steps.{Step, AreSmallSteps}
+use Rattle.constraint_compile.specs.Compiled.{RowForm, CompiledLine, AreSmallForms}
+use Rattle.compile_parts.specs.Steps.{last_scale}
 use Rattle.frac_core.specs.declared.memory.Stop.{Stop}
 use Rattle.frac_core.specs.declared.memory.Stop.TheVariants as stop
-use Rattle.constraint_compile.specs.declared.stops.LargeConstant.{LargeConstant}
-use Rattle.constraint_compile.specs.declared.stops.CompileStop.{CompileStop}
-use Rattle.constraint_compile.specs.declared.stops.CompileStop.TheVariants.{Unknown, Kind, Limit, OutOfMemory}
-use Rattle.constraint_compile.specs.declared.stops.KindWord.{KindWord}
-use Rattle.constraint_compile.specs.declared.stops.KindWord.TheVariants as kind
-use Rattle.constraint_compile.specs.declared.limits.TheConstants.{ADDEND_LIMIT}
+use Rattle.compile_parts.specs.declared.stops.LargeConstant.{LargeConstant}
+use Rattle.compile_parts.specs.declared.stops.CompileStop.{CompileStop}
+use Rattle.compile_parts.specs.declared.stops.CompileStop.TheVariants.{Unknown, Kind, Limit, OutOfMemory}
+use Rattle.compile_parts.specs.declared.stops.KindWord.{KindWord}
+use Rattle.compile_parts.specs.declared.stops.KindWord.TheVariants as kind
+use Rattle.compile_parts.specs.declared.limits.TheConstants.{ADDEND_LIMIT}
 
 -- each name of the line is a view's or a metric's where it must be
 abbrev pub AreKnown : List LiveView → MetricList → Linear → Type 0
@@ -121,13 +122,6 @@ MayStop views metrics l number (Kind word) = AreKnown views metrics l × IsWrong
 MayStop views metrics l number (Limit word) = IsUsable views metrics l
     × PassesLimit views metrics l number word
 MayStop views metrics l number OutOfMemory = ⊤
-
--- when a name in terms may be refused
-abbrev pub IsUnknownTerm : List LiveView → MetricList → List Term → CompileStop → Type 0
-IsUnknownTerm views metrics terms (Unknown name) = unknown_among views metrics terms ≡ Some name
-IsUnknownTerm views metrics terms OutOfMemory = ⊤
-IsUnknownTerm views metrics terms (Kind word) = ⊥
-IsUnknownTerm views metrics terms (Limit word) = ⊥
 
 -- why terms have no row
 abbrev pub IsRowStop : List LiveView → MetricList → List Term → CompileStop → Type 0

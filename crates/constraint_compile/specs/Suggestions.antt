@@ -12,9 +12,9 @@ use Rattle.script_text.specs.declared.words.AttrWord.TheVariants as word
 use Rattle.view_tree.specs.Views.{LiveView}
 use Rattle.view_tree.specs.declared.limits.TheConstants.{ID_LIMIT}
 use Rattle.view_tree.specs.Attributes.{left_of, top_of, width_of, height_of}
-use Rattle.constraint_compile.specs.Meaning.{MetricList, IsRank, unknown_object}
-use Rattle.constraint_compile.specs.declared.stops.RankStop.{RankStop}
-use Rattle.constraint_compile.specs.declared.stops.RankStop.TheVariants.{Unknown, NoRank, OutOfMemory}
+use Rattle.compile_parts.specs.Meaning.{MetricList, IsRank, unknown_object}
+use Rattle.compile_parts.specs.declared.stops.RankStop.{RankStop}
+use Rattle.compile_parts.specs.declared.stops.RankStop.TheVariants.{Unknown, NoRank, OutOfMemory}
 use Rattle.constraint_compile.specs.declared.suggestion.Suggestion.{Suggestion}
 use Rattle.constraint_compile.specs.declared.suggestion.TheConstants.{USUAL_RANK}
 

@@ -4,7 +4,7 @@ ghost use Rattle.std.specs.List.{list_any};
 ghost use Rattle.std.specs.String.{string_bytes};
 ghost use Rattle.constraint_compile.specs.Inside.{form_view, compiled_line, IsForm, AreForms};
 
-use crate::steps::Step;
+use compile_parts::Step;
 use frac_core::OutOfMemory;
 use problem_core::{Rel, Term};
 use std::alloc::Global;
@@ -12,8 +12,8 @@ use std::marker::Model;
 use view_tree::ViewId;
 
 /// A row without its constant. The steps name metrics by the places of their names.
-#[derive(Debug, Drop)]
-pub(crate) struct RowForm {
+#[derive(Drop)]
+pub struct RowForm {
     pub id: u32,
     pub rank: u16,
     pub weight: u16,
@@ -44,7 +44,7 @@ impl Model for Compiled {
 
 impl Compiled {
     /// The rows and the views with just these parts.
-    pub(crate) fn of(rows: Vec<RowForm>, views: Vec<ViewId>) -> Compiled
+    pub fn of(rows: Vec<RowForm>, views: Vec<ViewId>) -> Compiled
         requires { AreForms rows.items }
         ensures { result ≡ compiled_line rows.items views.items }
     {

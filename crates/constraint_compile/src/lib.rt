@@ -1,9 +1,10 @@
 //! From the reading of a line to its rows: names become views and metrics, views become attributes, and what
 //! was written becomes rows of whole coefficients.
 //!
-//! [`compile_line`] makes the row of a linear constraint, [`compile_format`] the rows of a visual format,
-//! and [`Suggestion::row`] that of a suggestion. A [`Compiled`] line keeps its constants as sums of numbers
-//! and of multiples of metrics, so it follows the metrics without being read again.
+//! [`compile_line`] makes the row of a linear constraint, and [`Suggestion::row`] that of a suggestion;
+//! `format_compile` makes those of a visual format, each by [`row_of_addends`]. A [`Compiled`] line keeps its
+//! constants as sums of numbers and of multiples of metrics, so it follows the metrics without being read
+//! again.
 //!
 //! ```
 //! // of the line `constrain c a.width >= 2*gap`, as row 7
@@ -21,39 +22,25 @@
 //! A row is a constraint in linear programming's words; its rank is the priority of a goal, and its scale
 //! the factor that makes the coefficients whole.
 //!
-//! In reading order: `stops` (why there are no rows), `limits`. Sums: `wide`, `wide::ratios`, `steps` (a
-//! constant, step by step), `compiled` (a line's rows and views). Names: `addends` (a term with no name
-//! left), `attributes`, `resolved` with `resolved::lookups` (the names of a line, each looked up once).
-//! `line`, with `line::signs` (all terms on one side), `line::sums`, `line::scales`, `line::nonzero` and
-//! `line::row_terms` (the coefficients), `line::parts` and `line::rows` (the row). `format`, with
-//! `format::parts`, `format::spans` and `format::lists` (what its text says), `format::checks`,
-//! `format::lines` and `format::asks` (what is asked for), `format::refusals`, `format::rows`,
-//! `format::laws`. Afterwards: `rows` (the constants at given metrics), `naming` (those that name a metric),
+//! What the names of a line stand for, and what its terms add, stands in `compile_parts`. In reading order:
+//! `compiled` (a line's rows and views). `line`, with `line::signs` (all terms on one side), `line::sums`,
+//! `line::scales`, `line::nonzero` and `line::row_terms` (the coefficients), `line::parts` and `line::rows`
+//! (the row). Afterwards: `rows` (the constants at given metrics), `naming` (those that name a metric),
 //! `suggestion`.
 #![tactic(auto)]
 
-mod addends;
-mod attributes;
 mod compiled;
-mod format;
-mod limits;
 mod line;
 mod naming;
-mod resolved;
 mod rows;
-mod steps;
-mod stops;
 mod suggestion;
-mod wide;
 
-pub use compiled::Compiled;
-pub use format::laws::{
-    compiled_formats_have_all_rows, compiled_formats_have_no_refusal, format_refusal_is_unique,
-};
-pub use format::{compile_format, format_row_count};
-pub use limits::{ADDEND_LIMIT, CONSTANT_LIMIT};
+pub use compiled::{Compiled, RowForm};
 pub use line::compile_line;
+pub use line::rows::{Head, row_of_addends};
+pub use line::signs::negated;
 pub use naming::RowConstant;
 pub use rows::constants_now;
-pub use stops::{CompileStop, KindWord, LargeConstant, RankStop};
-pub use suggestion::{Suggestion, USUAL_RANK, suggested_constant, suggested_rank};
+pub use suggestion::{
+    Suggestion, USUAL_RANK, constants_are_as_said, suggested_constant, suggested_rank,
+};

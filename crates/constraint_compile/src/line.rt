@@ -13,21 +13,19 @@ ghost use Rattle.problem_core.specs.declared.limits.TheConstants.{NUMBER_LIMIT};
 ghost use Rattle.view_tree.specs.Views.{LiveView};
 ghost use Rattle.span_text.specs.Objects.{object_view};
 ghost use Rattle.script_text.specs.View.{terms_view, linear_view};
-ghost use Rattle.constraint_compile.specs.Meaning.{MetricList, terms_of, views_in, IsRank, IsWeight};
-ghost use Rattle.constraint_compile.specs.Meaning.{HasDenominator, has_view_number};
+ghost use Rattle.compile_parts.specs.Meaning.{MetricList, terms_of, views_in, IsRank, IsWeight};
+ghost use Rattle.compile_parts.specs.Meaning.{HasDenominator, has_view_number};
 ghost use Rattle.constraint_compile.specs.Stops.{AreKnown, IsWrongNamed, IsCompiled, MayStop};
 ghost use Rattle.constraint_compile.specs.Stops.{PassesLimit, HasRank};
-ghost use Rattle.constraint_compile.specs.Addends.{addends, addends_view, IsKept};
-ghost use Rattle.constraint_compile.specs.Formats.FormatLines.{numbers};
+ghost use Rattle.compile_parts.specs.Addends.{addends, addends_view, IsKept};
+ghost use Rattle.compile_parts.specs.Lookups.{numbers};
 ghost use Rattle.constraint_compile.specs.Inside.{form_view, IsForm};
-ghost use Rattle.constraint_compile.specs.declared.limits.TheConstants.{ADDEND_LIMIT};
+ghost use Rattle.compile_parts.specs.declared.limits.TheConstants.{ADDEND_LIMIT};
 
 use crate::compiled::{Compiled, RowForm};
-use crate::limits::ADDEND_LIMIT;
 use crate::line::rows::{Head, row_of_addends};
 use crate::line::signs::signed_terms;
-use crate::resolved::{Resolved, resolve, resolve_rank};
-use crate::stops::{CompileStop, KindWord};
+use compile_parts::{ADDEND_LIMIT, CompileStop, KindWord, Resolved, resolve, resolve_rank};
 use frac_core::OutOfMemory;
 use name_tables::{LimitWord, Metrics, OwnedName};
 use problem_core::{NUMBER_LIMIT, WEIGHT_LIMIT};
@@ -36,7 +34,7 @@ use std::alloc::Global;
 use view_tree::{Tree, ViewId};
 
 // What the names of a line stand for.
-#[derive(Drop, Debug)]
+#[derive(Drop)]
 struct Names<'a> {
     terms: Resolved<'a>,
     rank: Option<u16>,
@@ -75,7 +73,7 @@ fn names_of<'a>(
 }
 
 // The rank and the weight of a row.
-#[derive(Clone, Copy, Debug)]
+#[derive(Clone, Copy)]
 struct Strength {
     rank: u16,
     weight: u16,
@@ -154,7 +152,7 @@ fn with_views(alloc: Global, views: Vec<ViewId>, row: RowForm) -> Result<Compile
 /// [`TERM_LIMIT`](problem_core::TERM_LIMIT) attributes with coefficients that aren't 0, `Coefficient` where
 /// after some term the scale or a coefficient is past [`COEFFICIENT_LIMIT`](problem_core::COEFFICIENT_LIMIT)
 /// in size, `Constant` where after some term a part of the constant isn't below
-/// [`CONSTANT_LIMIT`](crate::CONSTANT_LIMIT) in size.
+/// [`CONSTANT_LIMIT`](compile_parts::CONSTANT_LIMIT) in size.
 pub fn compile_line(
     alloc: Global,
     tree: &Tree,

@@ -2,23 +2,23 @@
 ghost use Rattle.std.specs.Prelude.{◌≡◌, true, map, IfOk, IfErr, IfSome, IfNone};
 ghost use Rattle.std.specs.List.{list_any};
 ghost use Rattle.std.specs.String.{string_bytes};
-ghost use Rattle.constraint_compile.specs.Compiled.{AreSmallForms, AreSmallSteps};
+ghost use Rattle.constraint_compile.specs.Compiled.{AreSmallForms};
+ghost use Rattle.compile_parts.specs.Steps.{AreSmallSteps};
 ghost use Rattle.constraint_compile.specs.Inside.{form_view, IsForm, AreForms};
-ghost use Rattle.constraint_compile.specs.Keeps.{part_view};
+ghost use Rattle.compile_parts.specs.Keeps.{part_view};
 ghost use Rattle.constraint_compile.specs.Naming.{is_multiple, names_metric, naming, IsConstantOf};
 ghost use Rattle.constraint_compile.specs.Naming.{AreConstantsOf};
 ghost use Rattle.constraint_compile.specs.Stops.{IsConstantStop};
 
 use crate::compiled::{Compiled, RowForm};
 use crate::rows::constant_now;
-use crate::steps::{Part, Step, name_at};
-use crate::stops::LargeConstant;
+use compile_parts::{LargeConstant, Part, Step, name_at};
 use frac_core::{Frac, OutOfMemory, Stop};
 use name_tables::Metrics;
 use std::alloc::Global;
 
 /// A row's number, and its constant.
-#[derive(Clone, Copy, Debug, PartialEq, Eq)]
+#[derive(Clone, Copy)]
 pub struct RowConstant {
     pub row: u32,
     pub constant: Frac,

@@ -4,15 +4,13 @@ ghost use Rattle.std.specs.Prelude.{IfOk, IfErr, OnOk, IfSome, IfNone, OnSome};
 ghost use Rattle.frac_core.specs.Fraction.{IsFitting};
 ghost use Rattle.problem_core.specs.Kept.{IsNumber, IsTerm};
 ghost use Rattle.span_text.specs.Objects.{object_view};
-ghost use Rattle.constraint_compile.specs.Fractions.{negated, IsConstant, IsSmallConstant};
-ghost use Rattle.constraint_compile.specs.Meaning.{IsRank, unknown_object};
+ghost use Rattle.compile_parts.specs.Fractions.{negated, IsConstant, IsSmallConstant};
+ghost use Rattle.compile_parts.specs.Meaning.{IsRank, unknown_object};
 ghost use Rattle.constraint_compile.specs.Suggestions.{one_term, scale_of, suggested_row, suggested_priority};
 ghost use Rattle.constraint_compile.specs.Suggestions.{with_terms, IsSuggestion, MayLackRank};
+ghost use Rattle.constraint_compile.specs.Constants.{ConstantsAreAsSaid};
 
-use crate::attributes::times;
-use crate::resolved::resolve_rank;
-use crate::stops::RankStop;
-use crate::wide::ratios::{Ratio, small_of};
+use compile_parts::{RankStop, Ratio, resolve_rank, small_of, times};
 use frac_core::{Frac, OutOfMemory};
 use name_tables::{Metrics, OwnedName};
 use problem_core::{Rel, Row, Term};
@@ -23,7 +21,7 @@ use view_tree::{Tree, ViewId};
 
 /// That an attribute of a view has a value: the number and the rank of the row, the view's number, the
 /// attribute as it is written, and the row's constant.
-#[derive(Clone, Copy, Debug)]
+#[derive(Clone, Copy)]
 pub struct Suggestion {
     pub row: u32,
     pub rank: u16,
@@ -164,3 +162,8 @@ impl Suggestion {
         }
     }
 }
+
+/// The constants that definitions and clauses cite by name are these numbers.
+pub fn constants_are_as_said()
+    ensures { ConstantsAreAsSaid }
+{}

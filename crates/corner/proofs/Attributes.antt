@@ -1,7 +1,4 @@
 -- What a corner keeps where an attribute joins, or one that no row names is taken out.
-pub mod AttrRows
-pub mod AttrJoins
-pub mod AttrLevels
 pub mod AttrColumns
 pub mod CornerAttrs
 pub mod DroppedAttrLevels

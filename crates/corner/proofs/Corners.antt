@@ -1,5 +1,3 @@
--- A new corner, and one whose lists are marked, go back or are forgotten.
-pub mod HistoryFacts
+-- A corner, and a new one.
 pub mod CornerFacts
-pub mod NewTables
 pub mod NewCorners

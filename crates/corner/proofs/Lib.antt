@@ -1,12 +1,7 @@
 pub mod Corners
-pub mod Readings
-pub mod Basics
-pub mod Pivots
-pub mod LevelFacts
 pub mod Swaps
 pub mod Stays
 pub mod Shifts
 pub mod Attributes
 pub mod Additions
-pub mod Costs
 pub mod Removals

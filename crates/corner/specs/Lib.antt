@@ -1,11 +1,4 @@
 pub mod Views
 pub mod Changes
-pub mod Tables
-pub mod Histories
-pub mod Kept
-pub mod Invariants
-pub mod Reads
-pub mod Swaps
-pub mod Additions
 pub mod Shifts
 pub mod Removals

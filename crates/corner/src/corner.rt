@@ -20,9 +20,9 @@ ghost use Rattle.problem_core.specs.declared.stops.What as what_type;
 ghost use Rattle.problem_core.specs.declared.stops.What.TheVariants.{Mark as MarkOf};
 ghost use Rattle.version_list.specs.declared.TheConstants.{VERSION_LIMIT};
 ghost use Rattle.corner.specs.Views.{AreCandidates, AreMovers, HasNoFront, HasNumbers};
-ghost use Rattle.corner.specs.Reads.Entries.{AreEntries};
-ghost use Rattle.corner.specs.Reads.Growing.{AreGrowersDear};
-ghost use Rattle.corner.specs.Reads.Lows.{ListsLow};
+ghost use Rattle.corner_writings.specs.Entries.{AreEntries};
+ghost use Rattle.corner_writings.specs.Growing.{AreGrowersDear};
+ghost use Rattle.corner_writings.specs.Lows.{ListsLow};
 ghost use Rattle.corner.specs.Views.{HasValueAt};
 ghost use Rattle.corner.specs.Views.{IsCoefficientOf, IsFrontOf, IsInUse};
 ghost use Rattle.corner.specs.Views.{IsKeptCorner, IsLevelOf, IsMarkOf, IsNamed, IsOutside, IsReducedAt};
@@ -35,35 +35,31 @@ ghost use Rattle.corner_lines.specs.Joins.{with_attr};
 ghost use Rattle.corner.specs.Shifts.Shifting.{IsNear};
 ghost use Rattle.corner_lines.specs.Removals.{IsFree, without_attr, without_row};
 ghost use Rattle.corner_lines.specs.Shifts.{with_constant};
-ghost use Rattle.corner.specs.Swaps.NextLists.{AreMarksBy, AreMarksTurned};
-ghost use Rattle.corner.specs.Swaps.Exchanges.{CanExchange, IsPairStop};
-ghost use Rattle.corner.specs.Swaps.TurnedLevels.{CanTurnTo, IsTurnStop};
+ghost use Rattle.corner_exchange.specs.Swaps.NextLists.{AreMarksBy, AreMarksTurned};
+ghost use Rattle.corner_exchange.specs.Swaps.Exchanges.{CanExchange, IsPairStop};
+ghost use Rattle.corner_exchange.specs.Swaps.TurnedLevels.{CanTurnTo, IsTurnStop};
 ghost use Rattle.corner.specs.Removals.Dropping.{AreLeftListed, dropped};
 ghost use Rattle.corner.specs.Removals.Leaving.{IsLeaver, IsLevelLeft, marks_left, problem_left};
-ghost use Rattle.corner.specs.Tables.{Lists, lists_of, marks_at, problem_of};
-ghost use Rattle.corner.specs.Histories.{AreAlike, lists_before};
-ghost use Rattle.corner.specs.Invariants.{IsConsistent, IsEarlier, view_of};
+ghost use Rattle.corner_table.specs.Tables.{Lists, lists_of, marks_at, problem_of};
+ghost use Rattle.corner_table.specs.Histories.{AreAlike, lists_before};
+ghost use Rattle.corner_table.specs.Invariants.{IsConsistent, IsEarlier, view_of};
 
-use crate::exchange::turning::{put_turn, turn_of};
-use crate::exchange::{exchange_of, put_exchange};
-use crate::joining::{join_all, push_attr, stand_stays};
 use crate::leaving::dropping::{drop_line, drop_stay, list_left};
 use crate::leaving::{Leaver, Left, leaver_of, left_level};
-use crate::levels::growing::are_growers_dear;
-use crate::levels::{
-    Front, Pair, cost_at, front_of, is_stronger, reduced_at, scale_at, times_at, used,
-};
-use crate::listing::Listed;
-use crate::listing::lows::list_low;
-use crate::marking::marks_with;
 use crate::shifting::shift_row;
-use crate::slots::{attr_slot, level_slot, line_slot, name_at};
-use crate::table::{Table, back, forget, mark, new_table, rewind};
-use crate::writings::{
-    attr_value, coefficient, denominator, entries_in, entry_in, is_inside, mark_value, mover,
-    movers,
-};
+use crate::standing::stand_stays;
 use cert_core::RunStop;
+use corner_exchange::{exchange_of, put_exchange, put_turn, turn_of};
+use corner_joins::{join_all, push_attr};
+use corner_table::{
+    Listed, Table, attr_slot, back, forget, level_slot, line_slot, mark, marks_with, name_at,
+    new_table, rewind,
+};
+use corner_writings::{
+    Front, Pair, are_growers_dear, attr_value, coefficient, cost_at, denominator, entries_in,
+    entry_in, front_of, is_inside, is_stronger, list_low, mark_value, mover, movers, reduced_at,
+    scale_at, times_at, used,
+};
 use frac_core::{Frac, OutOfMemory, Stop};
 use problem_core::{Level, Mark, Row, RowName, Side, Stay, TableStop, What};
 use std::alloc::Global;
@@ -230,7 +226,7 @@ fn are_of_line(a: Mark, b: Mark) -> bool
 
 impl Model for Corner {
     ghost use Rattle.corner.specs.Views.{CornerView};
-    ghost use Rattle.corner.specs.Invariants.{IsConsistent, view_of};
+    ghost use Rattle.corner_table.specs.Invariants.{IsConsistent, view_of};
 
     ghost Value = { CornerView };
 

@@ -18,33 +18,32 @@ ghost use Rattle.problem_core.specs.declared.stops.What.TheVariants.{Level as Le
 ghost use Rattle.problem_core.specs.declared.stops.Quantity.TheVariants.{Plain};
 ghost use Rattle.frac_core.specs.declared.memory.Stop.TheVariants.{Refused};
 ghost use Rattle.corner_laws.specs.Lifts.{HasOneIn};
-ghost use Rattle.corner.specs.Changes.{IsUnfitStop};
-ghost use Rattle.corner.specs.Additions.CostJoins.{IsLeastUnit};
-ghost use Rattle.corner.specs.Kept.{AreSlots, IsKept};
+ghost use Rattle.corner_exchange.specs.Stops.{IsUnfitStop};
+ghost use Rattle.corner_joins.specs.Additions.CostJoins.{IsLeastUnit};
+ghost use Rattle.corner_table.specs.Kept.{AreSlots, IsKept};
 ghost use Rattle.corner.specs.Removals.Leaving.{AreLeftFitting, HasMultiple, IsFittingLeft, IsLeaver};
 ghost use Rattle.corner.specs.Removals.Leaving.{IsLeftRow};
 ghost use Rattle.corner.specs.Removals.Leaving.{IsLeftStop, IsLeftUnit, IsLevelLeft, IsTimes, IsUnfitLeft};
 ghost use Rattle.corner.specs.Removals.Leaving.{left_count, marks_left, problem_left};
-ghost use Rattle.corner.specs.Tables as tables;
-ghost use Rattle.corner.specs.Tables.{lists_of, marks_at};
+ghost use Rattle.corner_table.specs.Tables as tables;
+ghost use Rattle.corner_table.specs.Tables.{lists_of, marks_at};
 
-use crate::exchange::{Change, named_row, named_sum, opposite};
-use crate::joining::{common_factors, over, risen};
-use crate::levels::Pair;
-use crate::levels::fitting::{
-    Draft, SMALL_SCALE, are_small, does_line_fit, is_fitting, level_at, scale_of,
+use corner_exchange::{Change, named_row, named_sum, opposite};
+use corner_joins::{common_factors, over, risen};
+use corner_table::{
+    Table, cost_share, line_slot, own_of, priority_at, priority_level, side_in, sign, slot_at,
+    value_at,
 };
-use crate::slots::{
-    cost_share, line_slot, own_of, priority_at, priority_level, side_in, sign, slot_at, value_at,
+use corner_writings::{
+    Draft, Pair, SMALL_SCALE, are_small, does_line_fit, is_fitting, level_at, scale_of,
 };
-use crate::table::Table;
 use frac_core::{Frac, Stop, common_divisor};
 use problem_core::{Quantity, Row, RowName, Side, TableStop, What};
 use row_core::{Col, Factors, IntRow, Patch, combine_but};
 use std::alloc::Global;
 
 /// A row that leaves: its number and slot, the side of its inside mark, and its level.
-#[derive(Clone, Copy, Debug, PartialEq, Eq)]
+#[derive(Clone, Copy)]
 pub(crate) struct Leaver {
     pub id: u32,
     pub line: u32,

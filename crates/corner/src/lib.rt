@@ -42,26 +42,16 @@
 //! [`Corner::reduced`] a reduced cost at one level, and [`Corner::front`] the first of a mark's that isn't
 //! 0. [`Corner::swap`] is a pivot, for which the caller makes the ratio test.
 //!
-//! To read: `table` has the lists, each with its earlier versions; `slots` finds in them by name;
-//! `writings`, `levels` and `levels::growing` read what is written of attributes, marks and costs; `listing`
-//! lists lines, and `listing::lows` those with negative values; `marking` names the marks inside; `sums`
-//! adds, and `levels::fitting` tells what fits; `exchange` and `exchange::turning` go to the next corner,
-//! `joining` to that of a larger problem, `shifting` to that with another constant, `leaving`, with
-//! `leaving::freeing` and `leaving::dropping`, to that of a smaller one; and `corner` is what callers use.
+//! The lists are a `Table` of `corner_table`, of which `corner_writings` reads. `corner_exchange` goes to the
+//! next corner, `corner_joins` to that of a larger problem. To read: `shifting` goes to that with another
+//! constant, `standing` to that with other targets, `leaving`, with `leaving::freeing` and `leaving::dropping`,
+//! to that of a smaller problem; and `corner` is what callers use.
 #![tactic(auto)]
 
 mod corner;
-mod exchange;
-mod joining;
 mod leaving;
-mod levels;
-mod listing;
-mod marking;
 mod shifting;
-mod slots;
-mod sums;
-mod table;
-mod writings;
+mod standing;
 
 pub use corner::Corner;
-pub use levels::Front;
+pub use corner_writings::Front;

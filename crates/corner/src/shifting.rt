@@ -8,27 +8,26 @@ ghost use Rattle.problem_core.specs.Layout as layout;
 ghost use Rattle.problem_core.specs.Kept.{IsRow};
 ghost use Rattle.problem_core.specs.declared.parts.RowName as row_type;
 ghost use Rattle.corner_lines.specs.Shifts.{has_constant};
-ghost use Rattle.corner.specs.declared.table.Owner.TheVariants.{Line as LineSlot};
-ghost use Rattle.corner.specs.declared.table.TheConstants.{LEVELS};
-ghost use Rattle.corner.specs.Histories.{AreAlike, lists_before};
-ghost use Rattle.corner.specs.Kept.{AreSlots, IsKept, IsSlot};
-ghost use Rattle.corner.specs.Reads.LevelNumbers.{IsSlotOfLine};
+ghost use Rattle.corner_table.specs.declared.table.Owner.TheVariants.{Line as LineSlot};
+ghost use Rattle.corner_table.specs.declared.table.TheConstants.{LEVELS};
+ghost use Rattle.corner_table.specs.Histories.{AreAlike, lists_before};
+ghost use Rattle.corner_table.specs.Kept.{AreSlots, IsKept, IsSlot};
+ghost use Rattle.corner_table.specs.Reads.LevelNumbers.{IsSlotOfLine};
 ghost use Rattle.corner.specs.Shifts.Shifting as shifting;
 ghost use Rattle.corner.specs.Shifts.Shifting.{CanGrow, HaveGrown, IsGrowStop, IsGrown};
 ghost use Rattle.corner.specs.Shifts.Shifting.{IsGrownValueStop, IsNear};
 ghost use Rattle.corner.specs.Shifts.Shifting.{IsShifted, IsShiftedStop, IsThere, mark_growth};
 ghost use Rattle.corner.specs.Shifts.Shifting.{outside_growth};
 ghost use Rattle.corner.specs.Shifts.Shifting.{with_constant_at};
-ghost use Rattle.corner.specs.Tables as tables;
-ghost use Rattle.corner.specs.Tables.{lists_of, problem_of};
+ghost use Rattle.corner_table.specs.Tables as tables;
+ghost use Rattle.corner_table.specs.Tables.{lists_of, problem_of};
 
-use crate::exchange::{named_sum, opposite, put_value, with_signs};
-use crate::slots::{
-    cost_share, is_level, level_of, line_slot, own_of, own_of_level, priority_at, side_at, side_in,
-    sign, slot_at, unit_of, value_at, what_at,
+use corner_exchange::{named_sum, opposite, put_value, with_signs};
+use corner_table::{
+    Table, cost_share, is_level, level_of, line_slot, own_of, own_of_level, priority_at, side_at,
+    side_in, sign, slot_at, unit_of, value_at, what_at,
 };
-use crate::table::Table;
-use crate::writings::what_sign;
+use corner_writings::what_sign;
 use frac_core::{Frac, OutOfMemory, Stop};
 use problem_core::{Quantity, Row, RowName, Side, TableStop, What};
 use std::alloc::Global;
@@ -75,7 +74,7 @@ fn with_constant(alloc: Global, row: &Row, to: Frac) -> Result<Row, OutOfMemory>
 }
 
 // How many times the difference a value grows: `n` over `d`.
-#[derive(Clone, Copy, Debug)]
+#[derive(Clone, Copy)]
 struct Growth {
     n: i64,
     d: i64,

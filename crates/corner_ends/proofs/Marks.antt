@@ -14,7 +14,7 @@ use Rattle.problem_core.specs.Corners.{HasNegativeColumn, IsIn, marks_of, place,
 use Rattle.corner_laws.proofs.WrittenValues.{contains_each}
 use Rattle.corner.specs.Views.{IsKeptCorner, IsMarkOf, IsNamed}
 use Rattle.corner.specs.Changes.{HasNoNegative}
-use Rattle.corner.proofs.Readings.ReadFacts.{named_in as named_mark}
+use Rattle.corner_table.proofs.Readings.ReadFacts.{named_in as named_mark}
 
 pub mark_is : (p : Problem) (m : Mark) (name : RowName) (side : Side) → m ≡ record { row = name; side = side } → IsNamed p name → IsMarkOf p m
 mark_is p m name side e named = subst (IsMarkOf p) (sym e) (named_mark p name side named)

@@ -10,3 +10,8 @@ pub mod ZeroColumns
 pub mod RunSteps
 pub mod Swaps
 pub mod LinePlaces
+pub mod Systems
+pub mod CornerRays
+pub mod OtherConstants
+pub mod LightRows
+pub mod UnfitWritten

@@ -4,7 +4,8 @@ use Rattle.std.specs.List.{AllByRecursion as Each}
 use Rattle.std.proofs.lemmas.List.Elements.{recursion_from_All, All-from_recursion}
 use Rattle.problem_core.specs.declared.parts.Side.TheVariants.{Under, Over}
 use Rattle.problem_core.specs.declared.parts.Stay.{Stay}
-use Rattle.problem_core.specs.Kept.{IsTerm, IsRow, IsStay, IsWhole}
+use Rattle.problem_core.specs.Kept.{IsNumber, IsTerm, IsRow, IsStay, IsWhole}
+use Rattle.problem_core.specs.declared.parts.Term.{Term}
 use Rattle.problem_core.specs.Layout.{Problem, Row, Line, lines, line_of_row, line_of_stay, stay_lines, sum_of}
 use Rattle.problem_core.specs.Corners.{place_of, attr_column, marks_of, place}
 use Rattle.problem_core.proofs.Forms.{sum-zero, each-impl, each-both}
@@ -44,12 +45,38 @@ apart-sym k l a = record {
   over_over = λ e. a.over_over (sym e);
 }
 
-pub small-row : (r : Row) → IsRow r → IsSmallLine (line_of_row r)
-small-row r h = record {
-  under = omega (arith, h.number.1);
-  over = omega (arith, h.number.1);
+-- a row whose own number and attributes are within the limits
+abbrev pub IsPlacedRow : Row → Type 0
+IsPlacedRow r = IsNumber r.id × Each (λ (t : Term). IsNumber t.attr) r.terms
+
+-- such rows by rising number, and stays of different attributes: what a problem keeps but for numbers that no
+-- column depends on
+pub record IsPlaced (p : Problem) : Type 0 where
+  pub rows : Each IsPlacedRow p.rows
+  pub stays : Each IsStay p.stays
+  pub rising : AllPairs (λ r s. r.id < s.id) p.rows
+  pub apart : AllPairs (λ s t. s.attr ≢ t.attr) p.stays
+
+placed-row : (r : Row) → IsRow r → IsPlacedRow r
+placed-row r h = (h.number, each-impl IsTerm (λ t. IsNumber t.attr) r.terms (λ t k. k.attr) (recursion_from_All IsTerm r.terms h.terms))
+
+pub whole-placed : (p : Problem) → IsWhole p → IsPlaced p
+whole-placed p whole = record {
+  rows = each-impl IsRow IsPlacedRow p.rows placed-row (recursion_from_All IsRow p.rows whole.rows);
+  stays = recursion_from_All IsStay p.stays whole.stays;
+  rising = whole.rising;
+  apart = whole.apart;
+}
+
+row-small : (r : Row) → IsPlacedRow r → IsSmallLine (line_of_row r)
+row-small r h = record {
+  under = omega (arith, h.0.1);
+  over = omega (arith, h.0.1);
   sides = λ e. omega (arith, e);
 }
+
+pub small-row : (r : Row) → IsRow r → IsSmallLine (line_of_row r)
+small-row r h = row-small r (placed-row r h)
 
 small-stay : (level : ℕ) (s : Stay) → IsStay s → IsSmallLine (line_of_stay level s)
 small-stay level s h = record {
@@ -58,33 +85,36 @@ small-stay level s h = record {
   sides = λ e. omega (arith, e);
 }
 
-small-rows : (rows : List Row) → Each IsRow rows → Each IsSmallLine (map line_of_row rows)
+small-rows : (rows : List Row) → Each IsPlacedRow rows → Each IsSmallLine (map line_of_row rows)
 small-rows [] h = tt
-small-rows (r ∷ rows) h = (small-row r h.0, small-rows rows h.1)
+small-rows (r ∷ rows) h = (row-small r h.0, small-rows rows h.1)
 
 small-stays : (level : ℕ) (stays : List Stay) → Each IsStay stays → Each IsSmallLine (stay_lines level stays)
 small-stays level [] h = tt
 small-stays level (s ∷ stays) h = (small-stay level s h.0, small-stays (level + 1) stays h.1)
 
-pub lines_small : (p : Problem) → IsWhole p → Each IsSmallLine (lines p)
-lines_small p whole =
+pub placed_small : (p : Problem) → IsPlaced p → Each IsSmallLine (lines p)
+placed_small p placed =
     each-joined IsSmallLine (map line_of_row p.rows) (stay_lines 1001 p.stays)
-    (small-rows p.rows (recursion_from_All IsRow p.rows whole.rows))
-    (small-stays 1001 p.stays (recursion_from_All IsStay p.stays whole.stays))
+    (small-rows p.rows placed.rows)
+    (small-stays 1001 p.stays placed.stays)
 
-row-row : (r s : Row) → IsRow r → IsRow s → r.id < s.id → AreApart (line_of_row r) (line_of_row s)
+pub lines_small : (p : Problem) → IsWhole p → Each IsSmallLine (lines p)
+lines_small p whole = placed_small p (whole-placed p whole)
+
+row-row : (r s : Row) → IsPlacedRow r → IsPlacedRow s → r.id < s.id → AreApart (line_of_row r) (line_of_row s)
 row-row r s h k lt = record {
-  first = small-row r h;
-  second = small-row s k;
+  first = row-small r h;
+  second = row-small s k;
   under_under = λ e. omega (arith, e, lt);
   under_over = λ e. omega (arith, e, lt);
   over_under = λ e. omega (arith, e, lt);
   over_over = λ e. omega (arith, e, lt);
 }
 
-row-stay : (level : ℕ) (r : Row) (s : Stay) → IsRow r → IsStay s → AreApart (line_of_row r) (line_of_stay level s)
+row-stay : (level : ℕ) (r : Row) (s : Stay) → IsPlacedRow r → IsStay s → AreApart (line_of_row r) (line_of_stay level s)
 row-stay level r s h k = record {
-  first = small-row r h;
+  first = row-small r h;
   second = small-stay level s k;
   under_under = λ e. omega (arith, e);
   under_over = λ e. omega (arith, e);
@@ -103,11 +133,11 @@ stay-stay n m s t h k ne = record {
 }
 
 -- a row and the later ones
-row-rows : (r : Row) (rows : List Row) → IsRow r → Each IsRow rows → Each (λ s. r.id < s.id) rows → Each (AreApart (line_of_row r)) (map line_of_row rows)
+row-rows : (r : Row) (rows : List Row) → IsPlacedRow r → Each IsPlacedRow rows → Each (λ s. r.id < s.id) rows → Each (AreApart (line_of_row r)) (map line_of_row rows)
 row-rows r [] h k lt = tt
 row-rows r (s ∷ rows) h k lt = (row-row r s h k.0 lt.0, row-rows r rows h k.1 lt.1)
 
-row-stays : (level : ℕ) (r : Row) (stays : List Stay) → IsRow r → Each IsStay stays → Each (AreApart (line_of_row r)) (stay_lines level stays)
+row-stays : (level : ℕ) (r : Row) (stays : List Stay) → IsPlacedRow r → Each IsStay stays → Each (AreApart (line_of_row r)) (stay_lines level stays)
 row-stays level r [] h k = tt
 row-stays level r (s ∷ stays) h k = (row-stay level r s h k.0, row-stays (level + 1) r stays h k.1)
 
@@ -122,7 +152,7 @@ stays-apart level (s ∷ stays) h k = (
   stays-apart (level + 1) stays h.1 (pairs-rest (λ s t. s.attr ≢ t.attr) s stays k),
 )
 
-rows-apart : (rows : List Row) (level : ℕ) (stays : List Stay) → Each IsRow rows → Each IsStay stays → AllPairs (λ r s. r.id < s.id) rows → AllApart (stay_lines level stays) → AllApart (map line_of_row rows ++ stay_lines level stays)
+rows-apart : (rows : List Row) (level : ℕ) (stays : List Stay) → Each IsPlacedRow rows → Each IsStay stays → AllPairs (λ r s. r.id < s.id) rows → AllApart (stay_lines level stays) → AllApart (map line_of_row rows ++ stay_lines level stays)
 rows-apart [] level stays h k lt a = a
 rows-apart (r ∷ rows) level stays h k lt a = (
   each-joined (AreApart (line_of_row r)) (map line_of_row rows) (stay_lines level stays)
@@ -131,17 +161,18 @@ rows-apart (r ∷ rows) level stays h k lt a = (
   rows-apart rows level stays h.1 k (pairs-rest (λ r s. r.id < s.id) r rows lt) a,
 )
 
+pub placed_apart : (p : Problem) → IsPlaced p → AllApart (lines p)
+placed_apart p placed = rows-apart p.rows 1001 p.stays placed.rows placed.stays placed.rising (stays-apart 1001 p.stays placed.stays placed.apart)
+
 pub lines_apart : (p : Problem) → IsWhole p → AllApart (lines p)
-lines_apart p whole =
-    let stays : Each IsStay p.stays = recursion_from_All IsStay p.stays whole.stays in
-    rows-apart p.rows 1001 p.stays (recursion_from_All IsRow p.rows whole.rows) stays whole.rising (stays-apart 1001 p.stays stays whole.apart)
+lines_apart p whole = placed_apart p (whole-placed p whole)
 
 -- ---- the lines' attributes
 
-row-attrs : (rows : List Row) → Each IsRow rows → Each (λ l. Each (λ e. e.attr < attr_column 0) l.form) (map line_of_row rows)
+row-attrs : (rows : List Row) → Each IsPlacedRow rows → Each (λ l. Each (λ e. e.attr < attr_column 0) l.form) (map line_of_row rows)
 row-attrs [] h = tt
 row-attrs (r ∷ rows) h = (
-  each-impl IsTerm (λ e. e.attr < attr_column 0) r.terms (λ e k. omega (arith, k.attr.1)) (recursion_from_All IsTerm r.terms h.0.terms),
+  each-impl (λ (t : Term). IsNumber t.attr) (λ e. e.attr < attr_column 0) r.terms (λ e k. omega (arith, k.1)) h.0.1,
   row-attrs rows h.1,
 )
 
@@ -149,11 +180,14 @@ stay-attrs : (level : ℕ) (stays : List Stay) → Each IsStay stays → Each (�
 stay-attrs level [] h = tt
 stay-attrs level (s ∷ stays) h = ((omega (arith, h.0.attr.1), tt), stay-attrs (level + 1) stays h.1)
 
-pub lines_attrs : (p : Problem) → IsWhole p → Each (λ l. Each (λ e. e.attr < attr_column 0) l.form) (lines p)
-lines_attrs p whole =
+pub placed_attrs : (p : Problem) → IsPlaced p → Each (λ l. Each (λ e. e.attr < attr_column 0) l.form) (lines p)
+placed_attrs p placed =
     each-joined (λ l. Each (λ e. e.attr < attr_column 0) l.form) (map line_of_row p.rows) (stay_lines 1001 p.stays)
-    (row-attrs p.rows (recursion_from_All IsRow p.rows whole.rows))
-    (stay-attrs 1001 p.stays (recursion_from_All IsStay p.stays whole.stays))
+    (row-attrs p.rows placed.rows)
+    (stay-attrs 1001 p.stays placed.stays)
+
+pub lines_attrs : (p : Problem) → IsWhole p → Each (λ l. Each (λ e. e.attr < attr_column 0) l.form) (lines p)
+lines_attrs p whole = placed_attrs p (whole-placed p whole)
 
 -- ---- sums over the lines
 

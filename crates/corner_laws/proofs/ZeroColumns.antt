@@ -60,12 +60,14 @@ pub all-marks : (ms : List Mark) → Each (λ m. Contains (map place ms) (place 
 all-marks [] = tt
 all-marks (m ∷ ms) = ((0, omega arith, refl), each-impl (λ n. Contains (map place ms) (place n)) (λ n. Contains (map place (m ∷ ms)) (place n)) ms (λ n h. later-mark m ms (place n) h) (all-marks ms))
 
--- at a corner no direction moves inside marks alone
-pub direction_zero : (p : Problem) (at : List Mark) (d : ℕ → ℤ) (c : ℕ) → IsCorner p at → IsDirection p d → ((v : ℕ) → (IsIn v at → ⊥) → Contains (map place (marks_of (lines p))) v → d v ≡ pos 0) → Contains (map place (marks_of (lines p))) c → d c ≡ pos 0
-direction_zero p at d c corner dir zeros mark =
-    let x : Point = corner.point in
-    let y : Point = shifted p x d dir.still in
-    let stands : StandsAt p at y = (
+-- a direction in which no outside mark moves
+abbrev pub MovesNone : Problem → List Mark → (ℕ → ℤ) → Type 0
+MovesNone p at d = (v : ℕ) → (IsIn v at → ⊥) → Contains (map place (marks_of (lines p))) v → d v ≡ pos 0
+
+-- the corner's point moved along it stands there too
+moved-stands : (p : Problem) (at : List Mark) (d : ℕ → ℤ) (corner : IsCorner p at) (dir : IsDirection p d) → MovesNone p at d → StandsAt p at (shifted p corner.point d dir.still)
+moved-stands p at d corner dir zeros =
+    let x : Point = corner.point in (
       All-from_recursion (λ l. value_at (λ v. x.num v +ℤ d v) (equation l) ≡ pos 0) (lines p)
           (each-impl (λ l. (value_at x.num (equation l) ≡ pos 0) × (value_at d (equation l) ≡ pos 0)) _ (lines p) (λ l e. value-plus x.num d (equation l) ∙ ap₂ ◌+ℤ◌ e.0 e.1)
           (each-both _ _ (lines p) (recursion_from_All _ (lines p) corner.stands.0) (recursion_from_All _ (lines p) dir.holds))),
@@ -73,9 +75,24 @@ direction_zero p at d c corner dir zeros mark =
           (each-impl (λ m. ((IsIn (place m) at → ⊥) → x.num (place m) ≡ pos 0) × Contains (map place (marks_of (lines p))) (place m)) _ (marks_of (lines p))
           (λ m h out. ap₂ ◌+ℤ◌ (h.0 out) (zeros (place m) out h.1))
           (each-both _ _ (marks_of (lines p)) (recursion_from_All _ (marks_of (lines p)) corner.stands.1) (all-marks (marks_of (lines p))))),
-    ) in
+    )
+
+-- at a corner no direction moves inside marks alone
+pub direction_zero : (p : Problem) (at : List Mark) (d : ℕ → ℤ) (c : ℕ) → IsCorner p at → IsDirection p d → ((v : ℕ) → (IsIn v at → ⊥) → Contains (map place (marks_of (lines p))) v → d v ≡ pos 0) → Contains (map place (marks_of (lines p))) c → d c ≡ pos 0
+direction_zero p at d c corner dir zeros mark =
+    let x : Point = corner.point in
+    let y : Point = shifted p x d dir.still in
     no-shift (x.num c) (d c) (x.num one_column) (d one_column) x.positive dir.still
-    (contains_each (λ v. Agree v x y) (marks_of (lines p)) c (recursion_from_All (λ m. Agree (place m) x y) (marks_of (lines p)) (corner.marks_fixed y stands)) mark)
+    (contains_each (λ v. Agree v x y) (marks_of (lines p)) c (recursion_from_All (λ m. Agree (place m) x y) (marks_of (lines p)) (corner.marks_fixed y (moved-stands p at d corner dir zeros))) mark)
+
+-- nor an attribute
+pub direction_still : (p : Problem) (at : List Mark) (d : ℕ → ℤ) → IsCorner p at → IsDirection p d → MovesNone p at d → Each (λ s. d (attr_column s.attr) ≡ pos 0) p.stays
+direction_still p at d corner dir zeros =
+    let x : Point = corner.point in
+    let y : Point = shifted p x d dir.still in
+    each-impl (λ s. Agree (attr_column s.attr) x y) (λ s. d (attr_column s.attr) ≡ pos 0) p.stays
+    (λ s agree. no-shift (x.num (attr_column s.attr)) (d (attr_column s.attr)) (x.num one_column) (d one_column) x.positive dir.still agree)
+    (recursion_from_All (λ s. Agree (attr_column s.attr) x y) p.stays (corner.attrs_fixed y (moved-stands p at d corner dir zeros)))
 
 -- ---- both marks of a line
 

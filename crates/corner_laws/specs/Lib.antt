@@ -5,6 +5,7 @@ pub mod Lifts
 pub mod Laws
 pub mod Runs
 pub mod Examples
+pub mod CornerLaws
 pub mod WritingLaws
 pub mod LevelLaws
 pub mod ExchangeLaws

@@ -20,13 +20,15 @@
 //!   for the mark that enters is the dual ratio test;
 //! - the tie rule of a primal run is the lexicographic one, by which the simplex method cannot cycle.
 //!
-//! In reading order: `writings` (of attributes and marks), `levels` (of levels' costs), `exchanges` (what
-//! stays from one corner to the next), `paths` (how long they are, how costs move along them, what their
-//! ends show), `changes` (where a change begins, and why it stops), `runs` (primal and dual runs, in which
-//! no corner comes twice).
+//! In reading order: `writings` (of attributes and marks), `levels` (of levels' costs), `corners` (a corner is
+//! a square system, whatever the constants; what is told as unfit has a writing), `exchanges` (what stays from
+//! one corner to the next), `paths` (how long they are, how costs move along them, what their ends show),
+//! `changes` (where a change begins, and why it stops), `runs` (primal and dual runs, in which no corner comes
+//! twice).
 #![tactic(auto)]
 
 mod changes;
+mod corners;
 mod exchanges;
 mod levels;
 mod paths;
@@ -34,6 +36,7 @@ mod runs;
 mod writings;
 
 pub use changes::{begins_unique, early_terms_are_refused, plain_alone, stops_are_conflicts};
+pub use corners::{constants_keep_corner, corner_has_rays, unfit_is_written};
 pub use exchanges::{
     columns_stay, dual_choice_stays, pivot_is_exchange, primal_choice_stays, rays_stay, values_stay,
 };

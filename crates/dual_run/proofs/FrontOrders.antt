@@ -8,7 +8,7 @@ use Rattle.problem_core.specs.Certificates.{IsLexNonnegative}
 use Rattle.problem_core.specs.Corners.{NoNegativeColumn, place}
 use Rattle.problem_core.specs.Levels.{IsLevelAt}
 use Rattle.corner_laws.proofs.RunSteps.ColumnSigns.{negative_by_reduced}
-use Rattle.corner.specs.declared.levels.Front.{Front}
+use Rattle.corner_writings.specs.declared.levels.Front.{Front}
 use Rattle.corner.specs.Views.{HasNoFront, IsFrontOf, IsKeptCorner, IsMarkOf, IsStronger}
 use Rattle.corner_ends.specs.Columns.{Reduced}
 use Rattle.corner_ends.proofs.Fronts.{front_below, level_named, reduced_there, some_line}
@@ -17,7 +17,7 @@ use Rattle.dual_run.specs.declared.ratios.Choice.{Choice}
 use Rattle.dual_run.specs.Entering.{IsNoGreater, IsPositive}
 use Rattle.dual_run.proofs.Lesser.{lex_at, lex_same, lex_times}
 use Rattle.dual_run.proofs.Orders.{both-zero, cost_there}
-use Rattle.corner.proofs.Readings.LowLines.{up_or_low}
+use Rattle.corner_writings.proofs.Readings.LowLines.{up_or_low}
 use Rattle.corner_lines.proofs.LevelRows.StayRows.{level_one}
 
 not-none : (z : ℤ) → pos 0 ≤ℤ z → z ≢ pos 0 → pos 0 <ℤ z

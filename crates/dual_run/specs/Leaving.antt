@@ -7,7 +7,7 @@ use Rattle.problem_core.specs.Layout.{Problem}
 use Rattle.problem_core.specs.Corners.{HasNegativeValue, IsIn, place}
 use Rattle.problem_core.specs.Changes.Paths.{IsEndOf}
 use Rattle.corner.specs.Views.{IsNamed}
-use Rattle.corner.specs.Reads.Lows.{ListsLow}
+use Rattle.corner_writings.specs.Lows.{ListsLow}
 
 -- the mark is inside, and its value is negative
 pub record IsLow (p : Problem) (at : List Mark) (m : Mark) : Type 0 where

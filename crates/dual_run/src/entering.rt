@@ -5,7 +5,7 @@ ghost use Rattle.problem_core.specs.Corners.{IsIn, NoNegativeColumn};
 ghost use Rattle.problem_core.specs.declared.stops.What.TheVariants.{Mark as MarkOf};
 ghost use Rattle.corner_laws.specs.Runs.{IsDualSwap, other_mark};
 ghost use Rattle.corner.specs.Views.{IsMarkOf, IsOutside, MovesWith};
-ghost use Rattle.corner.specs.Reads.Entries.{AreBothOutside};
+ghost use Rattle.corner_writings.specs.Entries.{AreBothOutside};
 ghost use Rattle.dual_run.specs.Entering.{AreDear, IsBeforeEntries, IsBeforeLine, IsBeforeMark, IsChoice};
 ghost use Rattle.dual_run.specs.Entering.{IsDear, IsFound, IsFree, IsNoGreater, NeverGrows};
 ghost use Rattle.dual_run.specs.Leaving.{MayLeave};

@@ -3,9 +3,10 @@ ghost use Rattle.std.specs.Prelude.{◌≡◌, ◌≤◌, ◌<◌, ◌+◌, ◌-
 ghost use Rattle.std.specs.Prelude.{slice_range, IfOk, OnErr, IfSome, IfNone, None};
 ghost use Rattle.std.specs.Io.KnownBytes.{Keeps, Consumes, IsAtEnd};
 ghost use Rattle.span_text.specs.Bytes.{newline};
-ghost use Rattle.edge_io.specs.Cause.{HasCause};
+ghost use Rattle.edge_io.specs.Cause.{HasCause, next_count};
 ghost use Rattle.edge_io.specs.Feed.{nothing, given_as, IsOpen, IsUnended};
 ghost use Rattle.edge_io.specs.Feeding.{shown};
+ghost use Rattle.edge_io.specs.Constants.{ConstantsAreAsSaid};
 
 use crate::{Failed, Source};
 use frac_core::OutOfMemory;
@@ -75,6 +76,7 @@ impl Feed {
         requires open { IsOpen self.old }
         ensures ok { IfOk result (Takes self.old self.new (S.left source.old) (S.left source.new) most) }
         ensures err { OnErr result ((self.new ≡ self.old) × Keeps (S.left source.old) (S.left source.new)) }
+        ensures one { S.pulls source.new ≡ next_count (S.pulls source.old) }
         ensures cause { HasCause (S.faults source.old) (S.faults source.new) result }
     {
         let len = self.end - self.start;
@@ -157,6 +159,7 @@ fn pull_behind<S: Source>(
     ensures err { OnErr result ((slice_range buffer.new 0 len ≡ slice_range buffer.old 0 len)
         × Keeps (S.left source.old) (S.left source.new)) }
     ensures size { length buffer.new ≡ length buffer.old }
+    ensures one { S.pulls source.new ≡ next_count (S.pulls source.old) }
     ensures cause { HasCause (S.faults source.old) (S.faults source.new) result }
 {
     let count = source.pull(&mut buffer[len..len + room])?;
@@ -183,3 +186,8 @@ fn piece_of(is_cut: bool, line: &[u8]) -> Piece<'_>
         Piece::Line(line)
     }
 }
+
+/// The constants that definitions and clauses cite by name are these numbers.
+pub fn constants_are_as_said()
+    ensures { ConstantsAreAsSaid }
+{}

@@ -24,7 +24,7 @@ mod put;
 mod standard;
 mod traits;
 
-pub use feed::{Feed, LINE_LIMIT, Piece};
+pub use feed::{Feed, LINE_LIMIT, Piece, constants_are_as_said};
 pub use memory::{MemorySink, MemorySource};
 pub use put::put_all;
 pub use standard::{StdSink, StdSource};

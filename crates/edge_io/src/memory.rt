@@ -2,7 +2,7 @@
 ghost use Rattle.std.specs.Prelude.{◌≡◌, ◌≤◌, ◌<◌, [], Some, drop, vec_len, IfOk, length};
 ghost use Rattle.std.specs.Io.{ReadsAtMost};
 ghost use Rattle.std.specs.Io.KnownBytes.{ReadConsumes, WriteAppends};
-ghost use Rattle.edge_io.specs.Cause.{HasCause};
+ghost use Rattle.edge_io.specs.Cause.{HasCause, next_count};
 ghost use Rattle.edge_io.specs.Memory.{size_of, PullsMost, PutsMost};
 
 use crate::{Failed, Sink, Source};
@@ -80,6 +80,8 @@ impl MemorySource {
 impl Source for MemorySource {
     ghost left = { λ s. Some s.left };
 
+    ghost pulls = { λ s. s.call };
+
     ghost faults = { λ s. s.faults };
 
     /// Takes as many bytes as the size of the call, the bytes left and `buf` allow. It fails only in a call
@@ -88,6 +90,7 @@ impl Source for MemorySource {
         requires { 0 < length buf.old }
         ensures bound { ReadsAtMost result buf.new }
         ensures bytes { ReadConsumes (Some self.old.left) (Some self.new.left) result buf.new }
+        ensures counted { self.new.call ≡ next_count self.old.call }
         ensures cause { HasCause self.old.faults self.new.faults result }
         ensures most { PullsMost self.old self.new (length buf.old) result }
     {

@@ -8,24 +8,32 @@ use std::io::{Read, Write};
 #[derive(Drop)]
 pub struct StdSource<R> {
     inner: R,
+    pulls: u64,
     faults: u64,
 }
 
 impl<R> StdSource<R> {
-    /// The source of what this reader reads, with no fault so far.
+    /// The source of what this reader reads, with no pull and no fault so far.
     pub fn new(inner: R) -> Self
-        ensures { result ≡ record { inner = inner; faults = 0 } }
+        ensures { result ≡ record { inner = inner; pulls = 0; faults = 0 } }
     {
-        StdSource { inner, faults: 0 }
+        StdSource {
+            inner,
+            pulls: 0,
+            faults: 0,
+        }
     }
 }
 
 impl<R: Read> Source for StdSource<R> {
     ghost left = { λ s. R.remaining s.inner };
 
+    ghost pulls = { λ s. s.pulls };
+
     ghost faults = { λ s. s.faults };
 
     fn pull(&mut self, buf: &mut [u8]) -> Result<usize, Failed> {
+        self.pulls = self.pulls.saturating_add(1);
         match self.inner.read(buf) {
             Ok(count) => Ok(count),
             Err(_) => {

@@ -8,14 +8,20 @@ use frac_core::OutOfMemory;
 // The longest line that is shown byte by byte.
 const SHOWN: usize = 8;
 
-// Appends what a piece is: the bytes of a short line, the length of another, or that the line was too long.
+// Appends the bytes of a short line, or the length of another.
+fn put_line(out: &mut String, line: &[u8]) -> Result<(), OutOfMemory> {
+    let length = line.len();
+    if length > SHOWN {
+        Ok(writeln!(out, "line of {length}")?)
+    } else {
+        Ok(writeln!(out, "line {line:?}")?)
+    }
+}
+
+// Appends what a piece is: a line, or that the line was too long.
 fn put_piece(out: &mut String, piece: Piece<'_>) -> Result<(), OutOfMemory> {
     match piece {
-        Piece::Line(line) if line.len() > SHOWN => {
-            let length = line.len();
-            Ok(writeln!(out, "line of {length}")?)
-        }
-        Piece::Line(line) => Ok(writeln!(out, "line {line:?}")?),
+        Piece::Line(line) => put_line(out, line),
         Piece::Long => Ok(writeln!(out, "long")?),
     }
 }

@@ -1,8 +1,8 @@
 // Rows and refusals as text.
-use constraint_compile::{CompileStop, KindWord};
+use compile_parts::{CompileStop, KindWord};
 use frac_core::{Frac, OutOfMemory};
 use name_tables::LimitWord;
-use problem_core::Row;
+use problem_core::{Row, Term};
 
 fn put_fraction(out: &mut String, f: Frac) -> Result<(), OutOfMemory> {
     let num = f.num();
@@ -11,6 +11,15 @@ fn put_fraction(out: &mut String, f: Frac) -> Result<(), OutOfMemory> {
         write!(out, "{num}")?;
     } else {
         write!(out, "{num}/{den}")?;
+    }
+    Ok(())
+}
+
+fn put_terms(out: &mut String, terms: &[Term]) -> Result<(), OutOfMemory> {
+    for term in terms {
+        let attr = term.attr;
+        let by = term.by;
+        write!(out, " {attr}:{by}")?;
     }
     Ok(())
 }
@@ -24,13 +33,8 @@ pub fn put_row(out: &mut String, row: &Row) -> Result<(), OutOfMemory> {
     let scale = row.scale();
     write!(out, "row {id} {rank} {weight} {rel} {scale} ")?;
     put_fraction(out, row.constant())?;
-    for term in row.terms() {
-        let attr = term.attr;
-        let by = term.by;
-        write!(out, " {attr}:{by}")?;
-    }
-    writeln!(out)?;
-    Ok(())
+    put_terms(out, row.terms())?;
+    Ok(writeln!(out)?)
 }
 
 fn kind(word: KindWord) -> &'static str {
@@ -55,22 +59,22 @@ fn limit(word: LimitWord) -> &'static str {
     }
 }
 
+// The text of a name.
+fn name_text(name: &[u8]) -> &str {
+    std::str::from_utf8(name).unwrap_or("bytes that are no text")
+}
+
+// Appends the line of a cause.
+fn put_cause(out: &mut String, cause: &str, word: &str) -> Result<(), OutOfMemory> {
+    Ok(writeln!(out, "{cause} {word}")?)
+}
+
 /// Appends the line of a refusal.
 pub fn put_stop(out: &mut String, stop: &CompileStop) -> Result<(), OutOfMemory> {
     match stop {
-        CompileStop::Unknown(name) => {
-            let name = str::from_utf8(name.bytes()).unwrap_or("bytes that are no text");
-            writeln!(out, "unknown {name}")?;
-        }
-        CompileStop::Kind(word) => {
-            let word = kind(*word);
-            writeln!(out, "kind {word}")?;
-        }
-        CompileStop::Limit(word) => {
-            let word = limit(*word);
-            writeln!(out, "limit {word}")?;
-        }
-        CompileStop::OutOfMemory => return Err(OutOfMemory),
+        CompileStop::Unknown(name) => put_cause(out, "unknown", name_text(name.bytes())),
+        CompileStop::Kind(word) => put_cause(out, "kind", kind(*word)),
+        CompileStop::Limit(word) => put_cause(out, "limit", limit(*word)),
+        CompileStop::OutOfMemory => Err(OutOfMemory),
     }
-    Ok(())
 }

@@ -8,7 +8,7 @@ use Rattle.session_undo.specs.declared.reply.Refusal.{Refusal}
 use Rattle.session_undo.specs.declared.reply.Refusal.TheVariants as refusal
 use Rattle.session_undo.specs.declared.reply.Reply as answer
 use Rattle.session_undo.specs.declared.reply.Reply.TheVariants as good
-use Rattle.session_undo.specs.Scene.{State}
+use Rattle.session_undo.specs.State.{State}
 use Rattle.session_undo.specs.Replies.{Reply, MayRefuse, IsTold, Tells, accepted, is_accepted, Outside, Unknown, Taken, Limit, Kind, Conflict, NoEarlier, Overflow, Spent, NoTarget, place_of}
 use Rattle.layout_cli.specs.Machine.{Step}
 

@@ -5,18 +5,19 @@ use Rattle.std.proofs.lemmas.List.Elements.{All-cons, All-head, All-tail, All-ta
 use Rattle.span_text.specs.Objects.{Meant}
 use Rattle.script_text.specs.declared.words.AttrWord.{AttrWord}
 use Rattle.constraint_compile.specs.declared.suggestion.Suggestion.{Suggestion}
-use Rattle.session_undo.specs.Items.{suggestion_of}
+use Rattle.held_items.specs.Items.{suggestion_of}
 use Rattle.frac_core.specs.Fraction.{Fraction}
 use Rattle.script_text.specs.Meaning.{Meaning}
 use Rattle.script_text.specs.Meaning as mean
 use Rattle.constraint_compile.specs.Compiled.{CompiledLine}
 use Rattle.constraint_compile.specs.Stops.{IsCompiled, MayStop}
-use Rattle.constraint_compile.specs.Formats.FormatParts.{parts}
-use Rattle.constraint_compile.specs.Formats.FormatStops.{row_count}
-use Rattle.constraint_compile.specs.Formats.FormatRows.{IsCompiledFormat, MayStopFormat}
-use Rattle.constraint_compile.specs.declared.stops.CompileStop.{CompileStop}
-use Rattle.session_undo.specs.Scene.{Scene, State, IsBestScene, IsBestState, with_earlier}
-use Rattle.session_undo.specs.declared.limits.TheConstants.{EARLIER}
+use Rattle.format_compile.specs.FormatParts.{parts}
+use Rattle.format_compile.specs.FormatStops.{row_count}
+use Rattle.format_compile.specs.FormatRows.{IsCompiledFormat, MayStopFormat}
+use Rattle.compile_parts.specs.declared.stops.CompileStop.{CompileStop}
+use Rattle.scenes.specs.Scene.{Scene, IsBestScene, with_earlier}
+use Rattle.session_undo.specs.State.{State, IsBestState}
+use Rattle.held_items.specs.declared.limits.TheConstants.{EARLIER}
 use Rattle.session_undo.specs.Replies.{Reply, Done}
 use Rattle.layout_solver.specs.declared.removing.RemoveStop.{RemoveStop}
 use Rattle.layout_solver.specs.declared.removing.RemoveStop.TheVariants as removal

@@ -1,11 +1,9 @@
 pub mod BestRuns
-pub mod EachView
-pub mod Texts
 pub mod Told
-pub mod Printed
 pub mod Made
-pub mod AttrNames
 pub mod Talks
 pub mod Answered
+pub mod Checked
 pub mod Stops
+pub mod Counted
 pub mod Ways

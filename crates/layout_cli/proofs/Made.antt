@@ -3,13 +3,13 @@ use Rattle.std.proofs.Common.{◌≡◌, ◌∙◌, ◌++◌, ◌+◌, ◌==◌,
 use Rattle.std.specs.Prelude.{cond, IfOk, IfErr, OnErr}
 use Rattle.std.specs.declared.result.Result.{Result}
 use Rattle.std.specs.declared.result.Result.TheVariants.{Ok, Err}
-use Rattle.session_undo.specs.Scene.{State}
+use Rattle.session_undo.specs.State.{State}
 use Rattle.session_undo.specs.Replies.{Reply, MayRefuse, accepted, is_accepted, place_of, Outside, Unknown, Taken, Limit, Kind, Conflict, NoEarlier, Overflow, Spent, NoTarget}
 use Rattle.session_undo.specs.declared.reply.Refusal.{Refusal}
 use Rattle.session_undo.specs.declared.reply.Refusal.TheVariants as refusal
 use Rattle.session_undo.specs.declared.reply.Reply as answer
 use Rattle.session_undo.specs.declared.reply.Reply.TheVariants as good
-use Rattle.layout_cli.specs.Replies.{text_of}
+use Rattle.reply_texts.specs.Replies.{text_of}
 use Rattle.layout_cli.specs.Machine.{Step, Run}
 use Rattle.layout_cli.specs.Making.{Refuses, refusal_count}
 

@@ -10,7 +10,7 @@ use Rattle.program_words.specs.declared.mode.Mode.TheVariants as mode
 use Rattle.layout_cli.specs.Checks.{IsCheckOf}
 use Rattle.layout_cli.specs.Ends.{Outside, AfterNoMemory, AfterReadFault, AfterTooLong, AfterWriteFault, HasOutput, IsEndOf, IsScriptEnd, IsTooLong}
 use Rattle.layout_cli.specs.Making.{IsMade}
-use Rattle.layout_cli.specs.Printing.{HasFront}
+use Rattle.reply_texts.specs.Printing.{HasFront}
 use Rattle.layout_cli.specs.declared.program.Status.{Status}
 use Rattle.layout_cli.specs.declared.program.Status.TheVariants as status
 use Rattle.edge_io.specs.declared.traits.Failed.{Failed}

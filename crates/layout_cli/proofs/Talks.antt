@@ -10,13 +10,13 @@ use Rattle.edge_io.specs.Feed.{Pending, nothing, cut, given_as, IsUnended}
 use Rattle.edge_io.specs.Feeding.{Gives, Waits}
 use Rattle.edge_io.proofs.Feeds.{lines_at, lines_last, strip_keeps}
 use Rattle.edge_io.proofs.Moves.{appends_both}
-use Rattle.session_undo.specs.Scene.{State, first_state}
+use Rattle.session_undo.specs.State.{State, first_state}
 use Rattle.session_undo.specs.Replies.{Reply, is_accepted}
-use Rattle.layout_cli.specs.Replies.{text_of}
+use Rattle.reply_texts.specs.Replies.{text_of}
 use Rattle.layout_cli.specs.Machine.{Step, Run, IsRunOf}
-use Rattle.layout_cli.specs.Printing.{HasFront}
+use Rattle.reply_texts.specs.Printing.{HasFront}
 use Rattle.layout_cli.specs.Talks.{AreWholeLines, AnswersWhole, AnswersFirst, AnswersInPart, IsTalk, IsGivenAs, joined}
-use Rattle.layout_cli.proofs.Printed.{appends_none, front_then}
+use Rattle.reply_texts.proofs.Printed.{appends_none, front_then}
 
 and_assoc : (a b c : Bool) → ((a && b) && c) ≡ (a && (b && c))
 and_assoc true b c = refl

@@ -7,14 +7,15 @@ use Rattle.session_undo.specs.declared.reply.Refusal.{Refusal}
 use Rattle.session_undo.specs.declared.reply.Refusal.TheVariants as refusal
 use Rattle.session_undo.specs.declared.reply.Reply as answer
 use Rattle.session_undo.specs.declared.reply.Reply.TheVariants as good
-use Rattle.session_undo.specs.Scene.{Scene, State}
+use Rattle.scenes.specs.Scene.{Scene}
+use Rattle.session_undo.specs.State.{State}
 use Rattle.session_undo.specs.Machine.{MeaningStep}
 use Rattle.script_text.specs.Meaning.{Meaning}
 use Rattle.script_text.specs.Grammar.{Line, all_words}
 use Rattle.layout_cli.specs.Machine.{Step}
 use Rattle.session_undo.specs.Replies.{Reply, MayRefuse, IsTold, Tells, IsChange, accepted, is_accepted, Nothing, Done, Frames, Rows, Certificate, Outside, Unknown, Taken, Limit, Kind, Conflict, NoEarlier, Overflow, Spent, Diagnosed, NoTarget, place_of}
 use Rattle.diagnosis.specs.Diagnoses.{findings_of}
-use Rattle.layout_cli.specs.Replies.{refusal_text, text_of}
+use Rattle.reply_texts.specs.Replies.{refusal_text, text_of}
 use Rattle.layout_cli.proofs.BestRuns.{step-change, MayChange}
 
 abbrev pub Adds : Scene → List ℕ → List ℕ → Reply → Type 0

@@ -11,11 +11,11 @@ use Rattle.cert_checker.specs.Refuting.{IsConflictVerdict}
 use Rattle.path_checker.specs.declared.verdict.PathVerdict.{PathVerdict}
 use Rattle.path_checker.specs.declared.verdict.PathVerdict.TheVariants as on_path
 use Rattle.path_checker.specs.PathClauses.{IsPathVerdict}
-use Rattle.claim_text.specs.declared.claim.Claim.{Claim}
-use Rattle.claim_text.specs.declared.claim.Claim.TheVariants.{IsBest, IsConflict, IsPath}
-use Rattle.claim_text.specs.Stops.{bad_line}
+use Rattle.claim_writing.specs.declared.claim.Claim.{Claim}
+use Rattle.claim_writing.specs.declared.claim.Claim.TheVariants.{IsBest, IsConflict, IsPath}
+use Rattle.problem_reading.specs.Stops.{bad_line}
 use Rattle.claim_text.specs.Cut.{IsCut}
-use Rattle.claim_text.specs.Problems as problem
+use Rattle.problem_reading.specs.Problems as problem
 use Rattle.claim_text.specs.Claims.ClaimTexts as claim
 use Rattle.layout_cli.specs.declared.checking.Answer.{Answer}
 use Rattle.layout_cli.specs.declared.checking.Answer.TheVariants.{Judged, Bad}
@@ -51,6 +51,12 @@ pub record IsBad (all : List (List ℕ)) (n : ℕ) : Type 0 where
   pub cut : IsCut all before after
   pub bad : problem.IsProblemStop before (bad_line n) ⊎ ((p : Problem) × problem.Reads before p × (m : ℕ)
       × claim.IsClaimStop after (bad_line m) × (n ≡ length before + m))
+
+-- the lines of a claim on the problem are answered so, behind so many others: with the verdict on the claim,
+-- or with the number of the first line outside the form
+abbrev pub IsClaimAnswer : Problem → List (List ℕ) → ℕ → Answer → Type 0
+IsClaimAnswer p all before (Judged v) = (c : Claim) × claim.Reads all c × IsVerdictOn p c v
+IsClaimAnswer p all before (Bad n) = (m : ℕ) × claim.IsClaimStop all (bad_line m) × (n ≡ before + m)
 
 -- the check of these lines answers so: with the verdict, or with the number of the first bad line
 abbrev pub IsAnswerTo : List (List ℕ) → Answer → Type 0

@@ -1,6 +1,6 @@
 -- What was written where a run of a mode ends.
-use Rattle.std.specs.Prelude.{◌≡◌, ◌⊎◌, ℕ, ◌<◌, ◌≤◌, Bool, true, false, List, [], ◌∷◌, ◌++◌, length, Option}
-use Rattle.std.specs.Prelude.{IfSome, String}
+use Rattle.std.specs.Prelude.{◌≡◌, ◌⊎◌, ℕ, ◌+◌, ◌<◌, ◌≤◌, Bool, true, false, List, [], ◌∷◌, ◌++◌, length, Option}
+use Rattle.std.specs.Prelude.{IfSome, IsErrOf, String}
 use Rattle.std.specs.Io.KnownBytes.{Appends, Consumes}
 use Rattle.edge_io.specs.Cause.{Rose}
 use Rattle.program_words.specs.Words.{AreOther}
@@ -15,7 +15,7 @@ use Rattle.layout_cli.specs.declared.program.Status.{Status}
 use Rattle.layout_cli.specs.declared.program.Status.TheVariants as status
 use Rattle.layout_cli.specs.Words.{NameMode, input_of, limit_of, usage_line}
 use Rattle.layout_cli.specs.Outputs.{IsOutputOf}
-use Rattle.layout_cli.specs.Printing.{HasFront}
+use Rattle.reply_texts.specs.Printing.{HasFront}
 use Rattle.layout_cli.specs.Talks.{AnswersWhole, AnswersFirst, AnswersInPart}
 
 -- ---- what was written: from what was left in the source and held by the sink to what is
@@ -70,6 +70,36 @@ IsCutShort words left rest before now = (AreOther words × HasFront before now u
 abbrev pub IsBrokenOff : {A : Type 0} → List (String A) → (left rest before now : Option (List ℕ)) → Type 0
 IsBrokenOff words left rest before now =
     Appends before now [] ⊎ NameMode words (λ mode. AfterNoMemory mode left rest before now)
+
+-- ---- how often what is outside is called, and fails
+
+-- how often a source was pulled, how often it failed, and how often a sink did
+pub record Counts : Type 0 where
+  pub pulls : ℕ
+  pub reads_failed : ℕ
+  pub writes_failed : ℕ
+
+-- the counts of a source and a sink, by what tells them
+abbrev pub counts : {A B : Type 0} → (A → ℕ) → (A → ℕ) → (B → ℕ) → A × B → Counts
+counts pulls reads_failed writes_failed at = record {
+  pulls = pulls at.0;
+  reads_failed = reads_failed at.0;
+  writes_failed = writes_failed at.1;
+}
+
+-- There were so many pulls more at the most. No pull failed, unless this is said; and no put, unless that is.
+pub record IsCounted (most : ℕ) (ReadFails WriteFails : Type 0) (old new : Counts) : Type 0 where
+  pub few : new.pulls ≤ old.pulls + most
+  pub reads : ReadFails ⊎ (new.reads_failed ≡ old.reads_failed)
+  pub writes : WriteFails ⊎ (new.writes_failed ≡ old.writes_failed)
+
+-- a script's answers are counted so: a pull a byte at the most within the limit, and one that shows the end
+abbrev pub IsScriptCounted : Result Bool ScriptStop → Counts → Counts → Type 0
+IsScriptCounted result = IsCounted (INPUT_LIMIT + 1) (IsErrOf result script.ReadFault) (IsErrOf result script.WriteFault)
+
+-- a mode's run is counted so
+abbrev pub IsRunCounted : Mode → Status → Counts → Counts → Type 0
+IsRunCounted mode end = IsCounted (limit_of mode + 1) (end ≡ status.ReadFault) (end ≡ status.WriteFault)
 
 -- ---- how a run may end
 

@@ -3,7 +3,7 @@ use Rattle.std.specs.Prelude.{◌≡◌, ℕ, Bool, List, ◌==◌}
 use Rattle.frac_core.specs.Fraction.{Fraction}
 use Rattle.problem_core.specs.Layout.{Problem, IsProblem}
 use Rattle.layout_solver.specs.Layouts.{AreBest}
-use Rattle.session_undo.specs.Scene.{State, IsBestState}
+use Rattle.session_undo.specs.State.{State, IsBestState}
 use Rattle.layout_cli.specs.Machine.{Run}
 use Rattle.layout_cli.specs.Making.{Refuses}
 

@@ -1,11 +1,9 @@
 pub mod Machine
-pub mod Found
-pub mod Replies
 pub mod Words
 pub mod Checks
 pub mod Outputs
-pub mod Printing
 pub mod Making
 pub mod Talks
 pub mod Ends
 pub mod Laws
+pub mod Constants

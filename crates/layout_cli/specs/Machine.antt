@@ -6,10 +6,10 @@ use Rattle.span_text.specs.Language.{LeavesAt}
 use Rattle.name_tables.specs.declared.stops.LimitWord.TheVariants as word
 use Rattle.script_text.specs.Grammar.{Line, all_words}
 use Rattle.script_text.specs.Meaning.{Meaning}
-use Rattle.session_undo.specs.Scene.{State, first_state}
+use Rattle.session_undo.specs.State.{State, first_state}
 use Rattle.session_undo.specs.Replies.{Reply, Outside, Limit, is_accepted}
 use Rattle.session_undo.specs.Machine.{Unless, Keeps, MeaningStep}
-use Rattle.layout_cli.specs.Replies.{text_of}
+use Rattle.reply_texts.specs.Replies.{text_of}
 
 -- the line leaves the grammar there, or it is in the grammar and does what it says
 abbrev pub GrammarStep : State → List ℕ → Reply → State → Type 0

@@ -3,10 +3,11 @@ use Rattle.std.specs.Prelude.{◌≡◌, ℕ, ◌+◌, ◌-◌, ◌==◌, Bool, 
 use Rattle.std.specs.Str.Lines.{lines}
 use Rattle.span_text.specs.Bytes.{newline}
 use Rattle.make_script.specs.Script.{script}
-use Rattle.session_undo.specs.Scene.{Scene, State, first_state}
+use Rattle.scenes.specs.Scene.{Scene}
+use Rattle.session_undo.specs.State.{State, first_state}
 use Rattle.session_undo.specs.Replies.{Reply, is_accepted}
 use Rattle.layout_cli.specs.Machine.{Step}
-use Rattle.layout_cli.specs.Printing.{line_at}
+use Rattle.reply_texts.specs.Printing.{line_at}
 
 -- a refusal counts 1
 abbrev pub refusal_count : Reply → ℕ

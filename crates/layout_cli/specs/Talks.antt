@@ -1,6 +1,6 @@
 -- What has been written of the replies to a script, where a run ends early too.
 use Rattle.std.specs.Prelude.{◌≡◌, ◌⊎◌, ℕ, ◌+◌, ◌<◌, ◌≤◌, Bool, true, false, ◌&&◌, List, [], ◌∷◌, ◌++◌}
-use Rattle.std.specs.Prelude.{length, Option, Some, None, Result, IsErrOf}
+use Rattle.std.specs.Prelude.{length, Option, Some, None, Result, IsErrOf, OnOk}
 use Rattle.std.specs.Str.Lines.{lines}
 use Rattle.std.specs.Io.KnownBytes.{Appends, Consumes, IsAtEnd}
 use Rattle.span_text.specs.Bytes.{newline}
@@ -10,11 +10,11 @@ use Rattle.edge_io.specs.declared.feed.TheConstants.{LINE_LIMIT}
 use Rattle.edge_io.specs.declared.traits.Failed.{Failed}
 use Rattle.frac_core.specs.declared.memory.Stop.{Stop}
 use Rattle.frac_core.specs.declared.memory.Stop.TheVariants.{Refused, OutOfMemory}
-use Rattle.session_undo.specs.Scene.{State, first_state}
+use Rattle.session_undo.specs.State.{State, first_state}
 use Rattle.session_undo.specs.Replies.{Reply, is_accepted}
 use Rattle.layout_cli.specs.Machine.{Step, Run, IsRunOf}
-use Rattle.layout_cli.specs.Printing.{HasFront}
-use Rattle.layout_cli.specs.Replies.{text_of}
+use Rattle.reply_texts.specs.Printing.{HasFront}
+use Rattle.reply_texts.specs.Replies.{text_of}
 
 -- there is no byte, or the last one ends a line
 abbrev pub AreWholeLines : List ℕ → Type 0
@@ -61,12 +61,13 @@ pub record AnswersInPart (before now left : Option (List ℕ)) (taken : List ℕ
 abbrev pub sink_failed : Stop Failed
 sink_failed = Refused (record {})
 
--- A sink's count of faults didn't fall, and it rose where the sink failed. The sink is as before where memory
--- was wanting.
+-- A sink's count of faults didn't fall, it rose where the sink failed, and is as before where there is an answer. The
+-- sink is as before where memory was wanting.
 pub record HasStopCause {K T : Type 0} (faults : K → ℕ) (old new : K) (result : Result T (Stop Failed))
     : Type 0 where
   pub later : faults old ≤ faults new
   pub failed : IsErrOf result sink_failed → Rose (faults old) (faults new)
+  pub unfailed : OnOk result (faults new ≡ faults old)
   pub unwritten : IsErrOf result OutOfMemory → new ≡ old
 
 -- The line gets a reply, which was written, and leads to the new session. It is good where it was before, and

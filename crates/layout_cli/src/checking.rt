@@ -3,22 +3,24 @@ ghost use Rattle.std.specs.Prelude.{◌≡◌, ◌<◌, ◌-◌, ◌++◌, ◌�
 ghost use Rattle.std.specs.Str.Lines.{lines};
 ghost use Rattle.span_text.specs.Bytes.{newline};
 ghost use Rattle.claim_text.specs.Claims.ClaimTexts.{HasNoMoreParts};
-ghost use Rattle.claim_text.specs.declared.limits.TheConstants.{TEXT_LIMIT};
-ghost use Rattle.layout_cli.specs.Checks.{IsAnswerTo, IsCheckOf, IsVerdictOn};
+ghost use Rattle.problem_reading.specs.declared.limits.TheConstants.{TEXT_LIMIT};
+ghost use Rattle.layout_cli.specs.Checks.{IsAnswerTo, IsCheckOf, IsClaimAnswer, IsVerdictOn};
 ghost use Rattle.layout_cli.specs.Checks.{answer_text, is_yes, verdict_of};
 
 use crate::output::Output;
-use crate::reply::refusals::push_line;
 use cert_checker::{Verdict, check_best, check_conflict};
-use claim_text::{BadLine, Claim, cut_input, read_claim, read_problem};
+use claim_text::{cut_input, read_claim};
+use claim_writing::Claim;
 use frac_core::{OutOfMemory, Stop};
 use path_checker::PathVerdict;
 use path_claims::check_path;
 use problem_core::Problem;
+use problem_reading::{BadLine, read_problem};
+use reply_texts::push_line;
 use std::alloc::Global;
 
 /// What the check of an input answers.
-#[derive(Clone, Copy, Debug, PartialEq, Eq)]
+#[derive(Clone, Copy, PartialEq, Eq)]
 pub enum Answer {
     /// The checker's verdict.
     Judged(Verdict),
@@ -56,22 +58,30 @@ fn verdict_on(alloc: Global, p: &Problem, claim: &Claim) -> Result<Verdict, OutO
     }
 }
 
+// What is answered to the lines of a claim on the problem, behind so many other lines.
+fn claim_answer(alloc: Global, p: &Problem, text: &[u8], before: u32) -> Result<Answer, OutOfMemory>
+    requires { length text.now < TEXT_LIMIT }
+    ensures { IfOk result (IsClaimAnswer p.now (lines text.now) before) }
+{
+    let claim = match read_claim(alloc, text) {
+        Ok(claim) => claim,
+        Err(Stop::Refused(BadLine(line))) => {
+            return Ok(Answer::Bad(u64::from(before) + u64::from(line)));
+        }
+        Err(Stop::OutOfMemory) => return Err(OutOfMemory),
+    };
+    Ok(Answer::Judged(verdict_on(alloc, p, &claim)?))
+}
+
 // What the check of an input answers.
 fn answer_to(alloc: Global, input: &[u8]) -> Result<Answer, OutOfMemory>
     requires { length input.now < TEXT_LIMIT }
     ensures { IfOk result (IsAnswerTo (lines input.now)) }
 {
     let cut = cut_input(input);
-    let problem = match read_problem(alloc, cut.problem) {
-        Ok(problem) => problem,
-        Err(Stop::Refused(BadLine(line))) => return Ok(Answer::Bad(u64::from(line))),
-        Err(Stop::OutOfMemory) => return Err(OutOfMemory),
-    };
-    match read_claim(alloc, cut.claim) {
-        Ok(claim) => Ok(Answer::Judged(verdict_on(alloc, &problem, &claim)?)),
-        Err(Stop::Refused(BadLine(line))) => {
-            Ok(Answer::Bad(u64::from(cut.lines_before) + u64::from(line)))
-        }
+    match read_problem(alloc, cut.problem) {
+        Ok(problem) => claim_answer(alloc, &problem, cut.claim, cut.lines_before),
+        Err(Stop::Refused(BadLine(line))) => Ok(Answer::Bad(u64::from(line))),
         Err(Stop::OutOfMemory) => Err(OutOfMemory),
     }
 }

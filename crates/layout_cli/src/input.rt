@@ -1,5 +1,5 @@
 // The whole input, in as many pulls as it takes.
-ghost use Rattle.std.specs.Prelude.{◌≡◌, ◌≤◌, ◌<◌, length, vec_len, IfOk, IfSome, IsErrOf};
+ghost use Rattle.std.specs.Prelude.{◌≡◌, ◌⊎◌, ◌+◌, ◌≤◌, ◌<◌, length, vec_len, IfOk, IfSome, IsErrOf};
 ghost use Rattle.edge_io.specs.Cause.{Rose};
 ghost use Rattle.layout_cli.specs.declared.input.InputStop.TheVariants.{OutOfMemory};
 
@@ -7,7 +7,7 @@ use edge_io::Source;
 use std::alloc::{AllocError, Global};
 
 /// Why the input is not there.
-#[derive(Clone, Copy, Debug, PartialEq, Eq)]
+#[derive(Clone, Copy)]
 pub(crate) enum InputStop {
     /// The source failed.
     Fault,
@@ -39,6 +39,8 @@ pub(crate) fn read_all<S: Source>(
     ensures fault { IsErrOf result InputStop.Fault → Rose (S.faults source.old) (S.faults source.new) }
     ensures too_long { IsErrOf result InputStop.TooLong
         → IfSome (S.left source.old) (λ bs. limit < length bs) }
+    ensures few { S.pulls source.new ≤ S.pulls source.old + (limit + 1) }
+    ensures unfailed { IsErrOf result InputStop.Fault ⊎ (S.faults source.new ≡ S.faults source.old) }
 {
     let mut input = Vec::new(alloc);
     let mut piece = [0; PIECE];

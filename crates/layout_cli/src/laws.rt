@@ -1,5 +1,5 @@
 // The laws of runs, each the contract of a function that does nothing.
-ghost use Rattle.session_undo.specs.Scene.{first_state, IsBestState};
+ghost use Rattle.session_undo.specs.State.{first_state, IsBestState};
 ghost use Rattle.layout_cli.specs.Laws.{BestValuesAreUnique, CountedRunsAreRuns, RunsLeadToBestValues};
 
 /// A problem has at most one list of best values.

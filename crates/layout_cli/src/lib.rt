@@ -20,10 +20,9 @@
 //! taken, and the session is the one that these lines lead to.
 //!
 //! In reading order: `program` ([`run`]), `mode` (what each mode reads). For `run`: `script` (the loop over
-//! the pulls) with `script::talk` (a session that answers lines) and `script::answers` (one line); `reply`
-//! with `reply::refusals`, `reply::frames`, `reply::names`, `reply::found` (what a scene lacks, and probes)
-//! and `reply::printing` (frames straight to a sink). For `check`: `input` (the whole input), `checking`. For
-//! `make`: `making`. `output`, `laws`.
+//! the pulls) with `script::talk` (a session that answers lines) and `script::answers` (one line, whose reply
+//! `reply_texts` writes). For `check`: `input` (the whole input), `checking`. For `make`: `making`. `output`,
+//! `laws`.
 #![tactic(auto)]
 
 mod checking;
@@ -33,13 +32,10 @@ mod making;
 mod mode;
 mod output;
 mod program;
-mod reply;
 mod script;
 
 pub use laws::{
     best_values_are_unique, counted_runs_are_runs, first_values_are_best, runs_lead_to_best_values,
 };
-pub use mode::{CHECK_LIMIT, INPUT_LIMIT};
+pub use mode::{CHECK_LIMIT, INPUT_LIMIT, constants_are_as_said};
 pub use program::{Status, run};
-pub use reply::printing::print_frames;
-pub use reply::{OK_LENGTH, reply_text};

@@ -2,16 +2,16 @@
 ghost use Rattle.std.specs.Prelude.{◌≡◌, ◌<◌, ◌≤◌, ◌++◌, IfOk, length, string_bytes};
 ghost use Rattle.std.specs.Str.Lines.{lines as lines_in};
 ghost use Rattle.make_script.specs.Script.{script};
-ghost use Rattle.session_undo.specs.Scene.{first_state};
+ghost use Rattle.session_undo.specs.State.{first_state};
 ghost use Rattle.session_undo.specs.Replies as reply;
 ghost use Rattle.layout_cli.specs.Machine.{Step};
 ghost use Rattle.layout_cli.specs.Making.{IsMade, Refuses, last_line, refusal_count, summary_line};
 
 use crate::output::Output;
-use crate::reply::frames::push_at;
 use crate::script::answers::step;
 use frac_core::OutOfMemory;
 use make_script::make_script;
+use reply_texts::push_at;
 use session_undo::{Refusal, Session};
 use span_text::lines;
 use std::alloc::Global;

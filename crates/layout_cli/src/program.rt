@@ -1,11 +1,11 @@
 // The program's run, over any source and sink.
-ghost use Rattle.std.specs.Prelude.{◌≡◌, ◌⊎◌, ℕ, List, Option, true, false};
+ghost use Rattle.std.specs.Prelude.{◌≡◌, ◌⊎◌, ◌+◌, ◌≤◌, ℕ, List, Option, true, false};
 ghost use Rattle.std.specs.Io.KnownBytes.{Appends};
 ghost use Rattle.edge_io.specs.Cause.{Rose};
 ghost use Rattle.layout_cli.specs.Ends.{AfterReadFault, AfterTooLong, HasOutput, IsBrokenOff, IsCutShort};
-ghost use Rattle.layout_cli.specs.Ends.{IsEndOf, IsTooLong, LeadsOutside, outside};
-ghost use Rattle.layout_cli.specs.Printing.{HasFront};
-ghost use Rattle.layout_cli.specs.Words.{NameMode, Pulls, usage_line};
+ghost use Rattle.layout_cli.specs.Ends.{IsEndOf, IsRunCounted, IsTooLong, LeadsOutside, counts, outside};
+ghost use Rattle.reply_texts.specs.Printing.{HasFront};
+ghost use Rattle.layout_cli.specs.Words.{NameMode, Pulls, limit_of, usage_line};
 ghost use Rattle.program_words.specs.Words.{AreOther};
 ghost use Rattle.program_words.specs.declared.mode.Mode.TheVariants.{Run, Check, Make};
 
@@ -63,8 +63,14 @@ pub fn run<S: Source, K: Sink>(
     ensures other_words { AreOther words.now
         → (result ≡ Status.Usage) ⊎ (result ≡ Status.WriteFault) ⊎ (result ≡ Status.OutOfMemory) }
 
-    // The source is as before, but for a mode that pulls from it.
+    // The source is as before, but for a mode that pulls from it: once a byte of its limit at the most, and once more.
     ensures unread { (source.new ≡ source.old) ⊎ NameMode words.now Pulls }
+    ensures few { (source.new ≡ source.old) ⊎ NameMode words.now (λ mode.
+        S.pulls source.new ≤ S.pulls source.old + (limit_of mode + 1)) }
+
+    // No pull and no put failed where the status doesn't say so.
+    ensures pulled { (result ≡ Status.ReadFault) ⊎ (S.faults source.new ≡ S.faults source.old) }
+    ensures put { (result ≡ Status.WriteFault) ⊎ (K.faults sink.new ≡ K.faults sink.old) }
 
     // A fault has its cause. Exactly the replies to the whole lines that were read were written before the
     // source failed, and a front of the output before the sink did.
@@ -99,7 +105,9 @@ pub fn run<S: Source, K: Sink>(
 
 // Answers a script line by line.
 fn run_script<S: Source, K: Sink>(alloc: Global, source: &mut S, sink: &mut K) -> Status
-    ensures { LeadsOutside S.left S.faults K.held K.faults (source.old, sink.old) (source.new, sink.new)
+    ensures counted { IsRunCounted Run result (counts S.pulls S.faults K.faults (source.old, sink.old))
+        (counts S.pulls S.faults K.faults (source.new, sink.new)) }
+    ensures ends { LeadsOutside S.left S.faults K.held K.faults (source.old, sink.old) (source.new, sink.new)
         (λ old new. IsEndOf Run old new result) }
 {
     match talk_over(alloc, source, sink) {
@@ -114,7 +122,9 @@ fn run_script<S: Source, K: Sink>(alloc: Global, source: &mut S, sink: &mut K) -
 
 // Reads a problem and a claim, and puts the checker's verdict.
 fn run_check<S: Source, K: Sink>(alloc: Global, source: &mut S, sink: &mut K) -> Status
-    ensures { LeadsOutside S.left S.faults K.held K.faults (source.old, sink.old) (source.new, sink.new)
+    ensures counted { IsRunCounted Check result (counts S.pulls S.faults K.faults (source.old, sink.old))
+        (counts S.pulls S.faults K.faults (source.new, sink.new)) }
+    ensures ends { LeadsOutside S.left S.faults K.held K.faults (source.old, sink.old) (source.new, sink.new)
         (λ old new. IsEndOf Check old new result) }
 {
     let input = match read_all(alloc, source, CHECK_LIMIT) {
@@ -131,7 +141,8 @@ fn run_check<S: Source, K: Sink>(alloc: Global, source: &mut S, sink: &mut K) ->
 
 // Puts what a run of a script comes to that is drawn.
 fn run_made<K: Sink>(alloc: Global, seed: u64, views: u32, sink: &mut K) -> Status
-    ensures { (left : Option (List ℕ)) (failed : ℕ) → IsEndOf (Make seed views)
+    ensures unfailed { (result ≡ Status.WriteFault) ⊎ (K.faults sink.new ≡ K.faults sink.old) }
+    ensures ends { (left : Option (List ℕ)) (failed : ℕ) → IsEndOf (Make seed views)
         (outside left failed (K.held sink.old) (K.faults sink.old))
         (outside left failed (K.held sink.new) (K.faults sink.new)) result }
 {
@@ -149,6 +160,7 @@ fn put_output<K: Sink>(output: &Output, sink: &mut K) -> Status
         × Appends (K.held sink.old) (K.held sink.new) output.now.text.items }
     ensures fault { result ≡ Status.WriteFault → Rose (K.faults sink.old) (K.faults sink.new)
         × HasFront (K.held sink.old) (K.held sink.new) output.now.text.items }
+    ensures unfailed { (result ≡ Status.WriteFault) ⊎ (K.faults sink.new ≡ K.faults sink.old) }
     ensures ends { (result ≡ Status.Done) ⊎ ((result ≡ Status.Refused) ⊎ (result ≡ Status.WriteFault)) }
 {
     if put_all(sink, &output.text).is_err() {
@@ -167,6 +179,7 @@ fn put_usage<K: Sink>(sink: &mut K) -> Status
     ensures usage { result ≡ Status.Usage → Appends (K.held sink.old) (K.held sink.new) usage_line }
     ensures fault { result ≡ Status.WriteFault → Rose (K.faults sink.old) (K.faults sink.new) }
     ensures front { result ≡ Status.WriteFault → HasFront (K.held sink.old) (K.held sink.new) usage_line }
+    ensures unfailed { (result ≡ Status.WriteFault) ⊎ (K.faults sink.new ≡ K.faults sink.old) }
 {
     match put_all(sink, b"usage: layout run | check | make SEED VIEWS\n") {
         Ok(()) => Status::Usage,

@@ -2,12 +2,12 @@
 pub(crate) mod answers;
 pub(crate) mod talk;
 
-ghost use Rattle.std.specs.Prelude.{◌≡◌, ◌≤◌, ◌∷◌, [], Bool, ℕ, List, Option, IfOk, IsErrOf, OnOk};
+ghost use Rattle.std.specs.Prelude.{◌≡◌, ◌⊎◌, ◌≤◌, ◌∷◌, [], Bool, ℕ, List, Option, IfOk, IsErrOf, OnOk};
 ghost use Rattle.std.specs.Io.KnownBytes.{Appends, Consumes, IsAtEnd, Keeps};
-ghost use Rattle.edge_io.specs.Cause.{Rose};
+ghost use Rattle.edge_io.specs.Cause.{Rose, next_count};
 ghost use Rattle.edge_io.specs.Feed.{Pending, IsOpen, nothing};
 ghost use Rattle.frac_core.specs.declared.memory.Stop.TheVariants.{OutOfMemory as NoMemory};
-ghost use Rattle.layout_cli.specs.Ends.{IsScriptEnd, LeadsOutside};
+ghost use Rattle.layout_cli.specs.Ends.{IsScriptCounted, IsScriptEnd, LeadsOutside, counts};
 ghost use Rattle.layout_cli.specs.Machine.{IsRunOf};
 ghost use Rattle.layout_cli.specs.Talks.{AnswersFirst, AnswersInPart, AnswersSoFar, OnceJoined, OnceTaken};
 ghost use Rattle.layout_cli.specs.Talks.{TakesMore, sink_failed};
@@ -22,7 +22,7 @@ use frac_core::{OutOfMemory, Stop};
 use std::alloc::Global;
 
 /// Why a script isn't answered to its end.
-#[derive(Clone, Copy, Debug, PartialEq, Eq)]
+#[derive(Clone, Copy)]
 pub(crate) enum ScriptStop {
     /// The source failed.
     ReadFault,
@@ -90,6 +90,8 @@ pub(crate) trait Answerer {
             (λ before. AnswersInPart before (K.held sink.new) left) }
         ensures fault { IsErrOf result sink_failed → Rose (K.faults sink.old) (K.faults sink.new) }
         ensures later { K.faults sink.old ≤ K.faults sink.new }
+        ensures unfailed { OnOk result (K.faults sink.new ≡ K.faults sink.old) }
+        ensures unfailed_first { IsErrOf result NoMemory → K.faults sink.new ≡ K.faults sink.old }
         ensures first { IsErrOf result NoMemory
             → OnceJoined (has_answered self.old) (K.held sink.old) feed.old
             (λ before. AnswersFirst before (K.held sink.new)) };
@@ -104,6 +106,8 @@ pub(crate) trait Answerer {
             → OnceTaken (has_answered self.old) (K.held sink.old) feed.old
             (λ before. AnswersInPart before (K.held sink.new) left) }
         ensures fault { IsErrOf result sink_failed → Rose (K.faults sink.old) (K.faults sink.new) }
+        ensures unfailed { OnOk result (K.faults sink.new ≡ K.faults sink.old) }
+        ensures unfailed_first { IsErrOf result NoMemory → K.faults sink.new ≡ K.faults sink.old }
         ensures first { IsErrOf result NoMemory
             → OnceTaken (has_answered self.old) (K.held sink.old) feed.old
             (λ before. AnswersFirst before (K.held sink.new)) };
@@ -126,6 +130,8 @@ fn take_more<S: Source>(
         × ((byte : ℕ) × Consumes (S.left source.old) (S.left source.new) (byte ∷ [])) }
     ensures enough { IsErrOf result InputStop.OutOfMemory → ⊥ }
     ensures later { S.faults source.old ≤ S.faults source.new }
+    ensures one { S.pulls source.new ≡ next_count (S.pulls source.old) }
+    ensures unfailed { IsErrOf result InputStop.Fault ⊎ (S.faults source.new ≡ S.faults source.old) }
 {
     match feed.fill(source, (*room).max(1)) {
         Ok(0) => Ok(false),
@@ -146,7 +152,9 @@ pub(crate) fn answer_script<S: Source, K: Sink, T: Answerer>(
     sink: &mut K,
 ) -> Result<bool, ScriptStop>
     requires { T.has_answered talk.old nothing (K.held sink.old) (K.held sink.old) [] }
-    ensures { LeadsOutside S.left S.faults K.held K.faults (source.old, sink.old) (source.new, sink.new)
+    ensures counted { IsScriptCounted result (counts S.pulls S.faults K.faults (source.old, sink.old))
+        (counts S.pulls S.faults K.faults (source.new, sink.new)) }
+    ensures ends { LeadsOutside S.left S.faults K.held K.faults (source.old, sink.old) (source.new, sink.new)
         (λ old new. IsScriptEnd old new result) }
 {
     let mut feed = Feed::new(alloc)?;

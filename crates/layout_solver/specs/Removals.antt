@@ -57,12 +57,12 @@ pub record IsHeldPath (p : Problem) (kept : List Mark) (leaving still : List ℕ
     (at : UnfitPath) : Type 0 where
   pub gone : List ℕ
   pub in_order : gone ++ still ≡ leaving
-  pub stop : IsStopOf false (without_rows gone p) p.rows
+  pub stop : IsStopOf false (without_rows gone p) (without_rows gone p).rows
       (FromRemoved p kept leaving gone (without_rows gone p)) 0 (UnfitRun at)
 
 -- a stop of the run once all have gone
 abbrev pub IsLeftStop : Problem → List Mark → Leaving → ℕ → RunStop → Type 0
-IsLeftStop p kept l budget stop = IsStopOf false (without l p) p.rows
+IsLeftStop p kept l budget stop = IsStopOf false (without l p) (without l p).rows
     (FromRemoved p kept l.rows l.rows (without l p)) budget stop
 
 -- why they cannot leave the problem at the marks that were kept: never a conflict

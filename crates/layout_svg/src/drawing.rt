@@ -25,27 +25,30 @@ fn put_head(out: &mut String, window: &Frame<'_>) -> Result<(), AllocError> {
     Ok(())
 }
 
-// Appends a rectangle with the view's name in its corner.
-fn put_view(out: &mut String, view: &Frame<'_>) -> Result<(), AllocError> {
+// Appends the view's rectangle.
+fn put_rectangle(out: &mut String, view: &Frame<'_>) -> Result<(), AllocError> {
     out.push_str("<rect")?;
     put_place(out, view)?;
     put_size(out, view)?;
-    out.push_str(" fill=\"steelblue\" fill-opacity=\"0.2\" stroke=\"steelblue\"/>\n<text")?;
+    out.push_str(" fill=\"steelblue\" fill-opacity=\"0.2\" stroke=\"steelblue\"/>\n<text")
+}
+
+// Appends a rectangle with the view's name in its corner.
+fn put_view(out: &mut String, view: &Frame<'_>) -> Result<(), AllocError> {
+    put_rectangle(out, view)?;
     put_place(out, view)?;
     let name = view.name;
     write!(out, " dx=\"4\" dy=\"14\">{name}</text>\n")
 }
 
-/// The drawing of the frames, of which the first is the window's.
-pub fn drawn(alloc: Global, frames: &[Frame<'_>]) -> Result<String, AllocError> {
-    let mut out = String::new(alloc);
+/// Appends the drawing of the frames, of which the first is the window's.
+pub fn put_drawing(out: &mut String, frames: &[Frame<'_>]) -> Result<(), AllocError> {
     for (place, frame) in frames.iter().enumerate() {
         if place == 0 {
-            put_head(&mut out, frame)?;
+            put_head(out, frame)?;
         } else {
-            put_view(&mut out, frame)?;
+            put_view(out, frame)?;
         }
     }
-    out.push_str("</svg>\n")?;
-    Ok(out)
+    out.push_str("</svg>\n")
 }

@@ -8,7 +8,7 @@ const DIGITS: usize = 13;
 const UNIT: u128 = 1000;
 
 /// A fraction, or a whole number over 1.
-#[derive(Clone, Copy, Debug, PartialEq, Eq)]
+#[derive(Clone, Copy)]
 pub struct Fraction {
     pub is_negative: bool,
     pub num: u64,
@@ -23,21 +23,23 @@ fn digits(text: &str) -> Option<u64> {
     text.parse::<u64>().ok()
 }
 
+// A fraction without a sign, as its two parts.
+fn parts(text: &str) -> Option<(u64, u64)> {
+    match text.split_once('/') {
+        Some((num, den)) => Some((digits(num)?, digits(den)?)),
+        None => Some((digits(text)?, 1)),
+    }
+}
+
 /// The fraction that the text writes, as `p/q` or as `p`, of at most 13 digits each, where q isn't 0.
 pub fn read_fraction(text: &str) -> Option<Fraction> {
-    let (is_negative, size) = match text.strip_prefix('-') {
-        Some(size) => (true, size),
-        None => (false, text),
-    };
-    let (num, den) = match size.split_once('/') {
-        Some((num, den)) => (digits(num)?, digits(den)?),
-        None => (digits(size)?, 1),
-    };
+    let size = text.strip_prefix('-').unwrap_or(text);
+    let (num, den) = parts(size)?;
     if den == 0 {
         return None;
     }
     Some(Fraction {
-        is_negative,
+        is_negative: size.len() < text.len(),
         num,
         den,
     })

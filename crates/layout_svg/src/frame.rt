@@ -2,7 +2,7 @@
 use crate::fraction::{Fraction, read_fraction};
 
 /// A view's name, and where it stands.
-#[derive(Clone, Copy, Debug, PartialEq, Eq)]
+#[derive(Clone, Copy)]
 pub struct Frame<'a> {
     pub name: &'a str,
     pub left: Fraction,
@@ -17,33 +17,38 @@ fn is_name(text: &str) -> bool {
         && text.bytes().next().is_some_and(|b| !b.is_ascii_digit())
 }
 
-// A fraction that isn't negative.
-fn size(text: &str) -> Option<Fraction> {
-    match read_fraction(text) {
-        Some(f) if !f.is_negative => Some(f),
+// Two fractions with a space between them.
+fn point(text: &str) -> Option<(Fraction, Fraction)> {
+    let (left, top) = text.split_once(' ')?;
+    Some((read_fraction(left)?, read_fraction(top)?))
+}
+
+// Two fractions with a space between them that aren't negative.
+fn sizes(text: &str) -> Option<(Fraction, Fraction)> {
+    match point(text) {
+        Some((width, height)) if !width.is_negative && !height.is_negative => Some((width, height)),
         _ => None,
     }
 }
 
-/// The frame that the line says, if it says one whose width and height aren't negative.
-pub fn read_frame(line: &str) -> Option<Frame<'_>> {
-    let mut words = line.split(' ');
-    if words.next() != Some("frame") {
-        return None;
-    }
-    let name = words.next()?;
-    let left = read_fraction(words.next()?)?;
-    let top = read_fraction(words.next()?)?;
-    let width = size(words.next()?)?;
-    let height = size(words.next()?)?;
-    if !is_name(name) || words.next().is_some() {
-        return None;
-    }
+// The frame of this name at these numbers.
+fn frame_at<'a>(name: &'a str, numbers: &str) -> Option<Frame<'a>> {
+    let (left, rest) = numbers.split_once(' ')?;
+    let (top, rest) = rest.split_once(' ')?;
+    let (width, height) = sizes(rest)?;
     Some(Frame {
         name,
-        left,
-        top,
+        left: read_fraction(left)?,
+        top: read_fraction(top)?,
         width,
         height,
     })
+}
+
+/// The frame that the line says, if it says one whose width and height aren't negative.
+pub fn read_frame(line: &str) -> Option<Frame<'_>> {
+    match line.strip_prefix("frame ")?.split_once(' ') {
+        Some((name, numbers)) if is_name(name) => frame_at(name, numbers),
+        _ => None,
+    }
 }

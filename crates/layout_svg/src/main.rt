@@ -20,7 +20,7 @@ mod fraction;
 mod frame;
 mod reply;
 
-use crate::drawing::drawn;
+use crate::drawing::put_drawing;
 use crate::reply::{Fault, last_reply};
 use std::alloc::{AllocError, Global};
 use std::io;
@@ -30,46 +30,65 @@ use std::process::ExitCode;
 // The greatest length of the input, in bytes.
 const LIMIT: usize = 1_048_576;
 
-// What is printed for the input, and whether it is the drawing: otherwise it is a line that says why there is
-// none.
-fn printed(alloc: Global, input: &str) -> Result<(String, bool), AllocError> {
-    if input.len() > LIMIT {
-        return Ok((
-            format!(in alloc; "no drawing: more than {LIMIT} bytes\n")?,
-            false,
-        ));
-    }
-    match last_reply(alloc, input) {
-        Ok(frames) => Ok((drawn(alloc, &frames)?, true)),
-        Err(Fault::Malformed(line)) => Ok((
-            format!(in alloc; "no drawing: line {line} is no frame\n")?,
-            false,
-        )),
-        Err(Fault::NotWhole) => Ok((
-            format!(in alloc; "no drawing: the input has no whole reply to frames\n")?,
-            false,
-        )),
-        Err(Fault::OutOfMemory(stop)) => Err(stop),
+// Appends why there is no drawing.
+fn put_fault(out: &mut String, fault: Fault) -> Result<(), AllocError> {
+    match fault {
+        Fault::Malformed(line) => write!(out, "no drawing: line {line} is no frame\n"),
+        Fault::NotWhole => out.push_str("no drawing: the input has no whole reply to frames\n"),
+        Fault::OutOfMemory(stop) => Err(stop),
     }
 }
 
-fn main(rt: HostRuntime) -> ExitCode {
-    let input = match io::read_to_string(rt.alloc(), rt.reader()) {
-        Ok(input) => input,
-        // What is no text has no reply.
-        Err(error) if error.kind() == io::ErrorKind::InvalidData => String::new(rt.alloc()),
-        Err(_) => return ExitCode::from(3),
-    };
-    let Ok((text, is_drawn)) = printed(rt.alloc(), &input) else {
-        return ExitCode::from(5);
-    };
-    let mut sink = io::writer(&rt);
-    if write!(sink, "{text}").is_err() {
-        return ExitCode::from(4);
+// Appends the drawing, or a line that says why there is none. Says whether it is the drawing.
+fn put_reply(alloc: Global, out: &mut String, input: &str) -> Result<bool, AllocError> {
+    match last_reply(alloc, input) {
+        Ok(frames) => {
+            put_drawing(out, &frames)?;
+            Ok(true)
+        }
+        Err(fault) => {
+            put_fault(out, fault)?;
+            Ok(false)
+        }
     }
+}
+
+// Appends what is printed for the input, and says whether it is the drawing.
+fn put_answer(alloc: Global, out: &mut String, input: &str) -> Result<bool, AllocError> {
+    if input.len() <= LIMIT {
+        return put_reply(alloc, out, input);
+    }
+    write!(out, "no drawing: more than {LIMIT} bytes\n")?;
+    Ok(false)
+}
+
+// The exit status behind a drawing, or behind a line that says why there is none.
+fn status(is_drawn: bool) -> ExitCode {
     if is_drawn {
         ExitCode::SUCCESS
     } else {
         ExitCode::from(1)
+    }
+}
+
+// Writes the answer to the input.
+fn answer(rt: &HostRuntime, input: &str) -> ExitCode {
+    let mut text = String::new(rt.alloc());
+    let Ok(is_drawn) = put_answer(rt.alloc(), &mut text, input) else {
+        return ExitCode::from(5);
+    };
+    let mut sink = io::writer(rt);
+    match write!(sink, "{text}") {
+        Ok(()) => status(is_drawn),
+        Err(_) => ExitCode::from(4),
+    }
+}
+
+fn main(rt: HostRuntime) -> ExitCode {
+    match io::read_to_string(rt.alloc(), rt.reader()) {
+        Ok(input) => answer(&rt, &input),
+        // What is no text has no reply.
+        Err(error) if error.kind() == io::ErrorKind::InvalidData => answer(&rt, ""),
+        Err(_) => ExitCode::from(3),
     }
 }

@@ -18,3 +18,4 @@ mod script;
 mod texts;
 
 pub use script::make_script;
+pub use texts::constants_are_as_said;

@@ -2,6 +2,7 @@
 ghost use Rattle.std.specs.Prelude.{◌≡◌, ◌<◌, ◌++◌, IfOk, string_bytes};
 ghost use Rattle.make_script.specs.Script.{line_of, view_line, size_line, stack_line};
 ghost use Rattle.make_script.specs.Script.{width_line, suggestion_line};
+ghost use Rattle.make_script.specs.Constants.{ConstantsAreAsSaid};
 
 use crate::draws::{draw, next_state};
 use crate::part::Part;
@@ -114,3 +115,8 @@ pub(crate) fn put_line(text: &mut String, part: Part, i: u64, state: u64) -> Res
         ),
     }
 }
+
+/// The constants that definitions and clauses cite by name are these numbers.
+pub fn constants_are_as_said()
+    ensures { ConstantsAreAsSaid }
+{}

@@ -29,7 +29,7 @@ use Rattle.marker_remove.specs.Freed.{DoStand, HasMarkIn, IsFreedPath, IsStayMov
 use Rattle.marker_remove.proofs.ZeroSwaps.{no_value, same_up}
 use Rattle.frac_core.proofs.Bools.{bools-same as same_bool}
 use Rattle.corner_laws.proofs.Swaps.Pivots.{leave-gone as left-out}
-use Rattle.corner.proofs.Readings.KeptFacts.{is_in, in_is}
+use Rattle.corner_table.proofs.Readings.KeptFacts.{is_in, in_is}
 use Rattle.problem_core.proofs.Marks.{entered-in as enter_in, same-back as same_back, kept-in as kept_in, later-in, in-list as in_list, no-swaps as path_here}
 
 -- ---- marks in order

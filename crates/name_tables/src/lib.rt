@@ -27,4 +27,4 @@ pub use metrics::{METRIC_LIMIT, Metrics};
 pub use name_map::{NameMap, Named};
 pub use names::Names;
 pub use owned_name::OwnedName;
-pub use stops::{LimitWord, NAME_LIMIT, NameStop};
+pub use stops::{LimitWord, NAME_LIMIT, NameStop, constants_are_as_said};

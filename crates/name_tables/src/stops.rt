@@ -1,4 +1,6 @@
 // Why a name is refused.
+ghost use Rattle.name_tables.specs.Constants.{ConstantsAreAsSaid};
+
 use frac_core::OutOfMemory;
 use thiserror::Error;
 
@@ -61,3 +63,8 @@ pub enum LimitWord {
     /// The exchanges of a run.
     Budget,
 }
+
+/// The constants that definitions and clauses cite by name are these numbers.
+pub fn constants_are_as_said()
+    ensures { ConstantsAreAsSaid }
+{}

@@ -9,3 +9,4 @@ pub mod PathClauses
 pub mod Laws
 pub mod Sides
 pub mod Instances
+pub mod Constants

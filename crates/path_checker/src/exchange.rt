@@ -24,7 +24,7 @@ use std::alloc::Global;
 
 /// An exchange with the leaving line's sum, solved for the entering line: `size` times what the entering
 /// line's deviation is. Where both marks are of one line, its own sum.
-#[derive(Debug, Drop)]
+#[derive(Drop)]
 pub struct Pivot {
     pub step: Step,
     /// Whether both marks are of one line.

@@ -21,7 +21,7 @@ use problem_core::{Problem, Row, Side, Stay, Term};
 use std::alloc::Global;
 
 // A sum of terms: its number for each line, and its value.
-#[derive(Debug, Drop)]
+#[derive(Drop)]
 struct Terms {
     by: Vec<i64>,
     value: Frac,

@@ -68,7 +68,7 @@ pub use stop::SumStop;
 pub use table::{Inside, Sum, turn};
 pub use verdict::{
     APART_CLAUSE, CALLED_CLAUSE, CORNER_CLAUSE, EXCHANGES_CLAUSE, PathVerdict, SOUND_CLAUSE,
-    UNFIT_CLAUSE,
+    UNFIT_CLAUSE, constants_are_as_said,
 };
 pub use way::{
     Kept, PATH_LIMIT, Way, WayStop, brought, first_sides, follow, lines_now, to_corner, told,

@@ -14,14 +14,14 @@ use std::alloc::Global;
 use std::cmp::Ordering;
 
 /// A number above 0 and others, whose ratios are meant.
-#[derive(Debug, Drop)]
+#[derive(Drop)]
 pub struct Wide {
     pub own: i128,
     pub by: Vec<i128>,
 }
 
 /// The same in lowest terms, where all of them fit.
-#[derive(Debug, Drop)]
+#[derive(Drop)]
 pub struct Lowest {
     pub own: i64,
     pub by: Vec<i64>,
@@ -140,7 +140,7 @@ pub fn combined(
 }
 
 /// A factor `times / over`, whose denominator is above 0.
-#[derive(Clone, Copy, Debug)]
+#[derive(Clone, Copy)]
 pub struct Ratio {
     pub times: i128,
     pub over: i128,

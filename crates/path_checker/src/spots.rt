@@ -9,14 +9,14 @@ use problem_core::{Mark, Problem, RowName, Side};
 use std::alloc::Global;
 
 /// A mark, by the place of its line.
-#[derive(Clone, Copy, Debug, PartialEq, Eq)]
+#[derive(Clone, Copy)]
 pub struct Spot {
     pub at: usize,
     pub side: Side,
 }
 
 /// An exchange of two marks.
-#[derive(Clone, Copy, Debug)]
+#[derive(Clone, Copy)]
 pub struct Step {
     pub enter: Spot,
     pub leave: Spot,

@@ -8,7 +8,7 @@ use problem_core::Side;
 
 /// `own` times a line's deviation is the sum of the outside lines' deviations, each times its number, and
 /// `own` times the value; in lowest terms.
-#[derive(Debug, Drop)]
+#[derive(Drop)]
 pub struct Sum {
     pub own: i64,
     pub by: Vec<i64>,
@@ -16,7 +16,7 @@ pub struct Sum {
 }
 
 /// A line whose mark of this side is inside.
-#[derive(Debug, Drop)]
+#[derive(Drop)]
 pub struct Inside {
     pub side: Side,
     pub sum: Sum,

@@ -1,4 +1,5 @@
 // The checker's answer on a path, and the numbers of the clauses.
+ghost use Rattle.path_checker.specs.Constants.{ConstantsAreAsSaid};
 
 /// What the checker says of a path: it is lawful, or the number of the first clause that fails, or the count
 /// of exchanges of the checker's route after which a quantity that counts does not fit.
@@ -26,3 +27,8 @@ pub const CALLED_CLAUSE: u32 = 13;
 
 /// The clause that the quantity of a path does not fit at its last corner.
 pub const UNFIT_CLAUSE: u32 = 14;
+
+/// The constants that definitions and clauses cite by name are these numbers.
+pub fn constants_are_as_said()
+    ensures { ConstantsAreAsSaid }
+{}

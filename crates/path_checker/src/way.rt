@@ -35,7 +35,7 @@ pub const PATH_LIMIT: usize = 1 << 31;
 /// What is kept of a corner of the route: the lines before the exchange that leads there, or nothing of the
 /// one where it begins, and how many exchanges led there. Its own lines are made once another exchange is to
 /// be judged there.
-#[derive(Debug, Drop)]
+#[derive(Drop)]
 pub struct Kept {
     pub lines: Vec<Option<Inside>>,
     pub step: Option<Step>,
@@ -43,7 +43,7 @@ pub struct Kept {
 }
 
 /// A corner on the way: what is kept of it, and which mark of each line is inside.
-#[derive(Debug, Drop)]
+#[derive(Drop)]
 pub struct Way {
     pub kept: Kept,
     pub sides: Vec<Option<Side>>,

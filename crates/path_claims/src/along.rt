@@ -18,7 +18,7 @@ use std::alloc::Global;
 
 /// What is kept of a path's last corner, whether all holds that has to at each corner before it, and whether
 /// each exchange is called for.
-#[derive(Debug, Drop)]
+#[derive(Drop)]
 pub struct Walked {
     pub station: Station,
     pub is_sound: bool,

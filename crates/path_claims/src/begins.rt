@@ -13,7 +13,7 @@ use std::alloc::Global;
 
 /// The lines and the rows of levels where a route begins, or the lines before the first sum of a row's first
 /// terms or of a level's first rows that does not fit there.
-#[derive(Debug, Drop)]
+#[derive(Drop)]
 pub enum Begun {
     Whole(Table),
     Until {

@@ -20,7 +20,7 @@ use thiserror::Error;
 
 /// The sum of so many first terms of a row does not fit, one more than there are terms for all of them less
 /// the constant.
-#[derive(Clone, Copy, Debug, PartialEq, Eq, Error)]
+#[derive(Clone, Copy, Debug, Error)]
 #[error("the sum of the first {first} terms of a row does not fit")]
 pub struct UnfitTerms {
     pub first: u32,
@@ -31,7 +31,7 @@ pub type LineStop = Stop<UnfitTerms>;
 
 /// The lines of the rows where the route begins, and the first sum that does not fit, where there is one: the
 /// lines end before its row.
-#[derive(Debug, Drop)]
+#[derive(Drop)]
 pub struct RowLines {
     pub lines: Vec<Option<Inside>>,
     pub unfit: Option<Quantity>,

@@ -31,7 +31,7 @@ pub struct PathCase<'a> {
 }
 
 /// A corner on the way to a path's first, and which mark of each line is inside there.
-#[derive(Debug, Drop)]
+#[derive(Drop)]
 pub struct Journey {
     pub station: Station,
     pub sides: Vec<Option<Side>>,

@@ -29,7 +29,7 @@ use problem_core::{Problem, Quantity, What};
 use std::alloc::Global;
 
 /// How a quantity stands at a corner: it fits, it does not, or something that it is made of does not.
-#[derive(Clone, Copy, Debug, PartialEq, Eq)]
+#[derive(Clone, Copy, PartialEq, Eq)]
 pub enum Fit {
     Fits,
     Unfit,
@@ -37,7 +37,7 @@ pub enum Fit {
 }
 
 /// The corner after an exchange: the tableau of the corner before it, and the exchange.
-#[derive(Clone, Copy, Debug)]
+#[derive(Clone, Copy)]
 pub struct Last<'a> {
     pub tableau: Tableau<'a>,
     pub step: Step,

@@ -17,7 +17,7 @@ use problem_core::{
 };
 
 /// Where a sum stands: at the number of its row or level, by how many it sums.
-#[derive(Clone, Copy, Debug, PartialEq, Eq)]
+#[derive(Clone, Copy)]
 pub struct Place {
     pub is_rows: bool,
     pub at: u32,

@@ -21,7 +21,7 @@ use problem_core::Problem;
 use std::alloc::Global;
 
 /// The lines and the levels of a corner.
-#[derive(Debug, Drop)]
+#[derive(Drop)]
 pub struct Table {
     pub lines: Vec<Option<Inside>>,
     pub levels: Vec<LevelSum>,
@@ -44,7 +44,7 @@ impl Table {
 /// What is kept of a corner of the route: the table of the one before and the exchange that leads here, or
 /// nothing of the one where it begins, and how many exchanges led here. Its own table is made once it is
 /// asked for.
-#[derive(Debug, Drop)]
+#[derive(Drop)]
 pub struct Station {
     pub table: Table,
     pub step: Option<Step>,

@@ -67,7 +67,7 @@ fn quotient(number: i64, divisor: i64) -> i64
 }
 
 /// By what a row and a pivot are taken for the entering line to cancel.
-#[derive(Clone, Copy, Debug)]
+#[derive(Clone, Copy)]
 pub struct Factors {
     pub row: i64,
     pub pivot: i64,

@@ -21,7 +21,7 @@ use path_checker::Spot;
 use problem_core::Side;
 
 /// The parts of a level's row that its costs are counted by.
-#[derive(Clone, Copy, Debug)]
+#[derive(Clone, Copy)]
 pub(crate) struct Units {
     pub unit: i64,
     pub own: u128,

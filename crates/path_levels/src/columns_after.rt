@@ -26,7 +26,7 @@ use problem_core::Side;
 use std::alloc::Global;
 
 // A level's row before it is divided, and its unit.
-#[derive(Debug, Drop)]
+#[derive(Drop)]
 struct WideLevel {
     unit: i64,
     wide: Wide,

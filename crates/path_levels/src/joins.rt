@@ -26,7 +26,7 @@ use problem_core::Side;
 use std::alloc::Global;
 
 /// A level's row with a line more, in lowest terms. Its unit may not fit.
-#[derive(Debug, Drop)]
+#[derive(Drop)]
 pub(crate) struct Draft {
     pub unit: i128,
     pub own: i64,

@@ -29,7 +29,7 @@ use problem_core::Side;
 use std::alloc::Global;
 
 /// An exchange at a corner, by the places of its lines.
-#[derive(Clone, Copy, Debug)]
+#[derive(Clone, Copy)]
 pub struct LineExchange<'a> {
     pub corner: CornerLines<'a>,
     pub step: Step,

@@ -11,7 +11,7 @@ use frac_core::{Frac, PART_BOUND, Unfit, gcd, quotient};
 use path_checker::Ratio;
 
 // A fraction in lowest terms.
-#[derive(Clone, Copy, Debug)]
+#[derive(Clone, Copy)]
 struct Portion {
     num: i128,
     den: i128,

@@ -12,7 +12,7 @@ use problem_core::{FIRST_STAY_LEVEL, Level, Problem, REQUIRED, Row, RowName, Sta
 use std::alloc::Global;
 
 /// A line's name, the place of its level, what each of its deviations costs there, and its scale.
-#[derive(Clone, Copy, Debug)]
+#[derive(Clone, Copy)]
 pub struct LineFacts {
     pub name: RowName,
     pub level: usize,
@@ -26,14 +26,14 @@ pub struct LineFacts {
 
 /// A level, and its number among all levels: `REQUIRED` less the priority, or from [`FIRST_STAY_LEVEL`] on
 /// for the stays.
-#[derive(Clone, Copy, Debug)]
+#[derive(Clone, Copy)]
 pub struct LevelFacts {
     pub level: Level,
     pub number: u32,
 }
 
 /// The lines of a problem, held rows by number and then stays, and its levels, strongest first.
-#[derive(Debug, Drop)]
+#[derive(Drop)]
 pub struct Outline {
     pub lines: Vec<LineFacts>,
     pub levels: Vec<LevelFacts>,

@@ -5,14 +5,14 @@ use crate::sums::LevelSum;
 use path_checker::Inside;
 
 /// A corner's lines, and the outline of the problem whose lines they are.
-#[derive(Clone, Copy, Debug)]
+#[derive(Clone, Copy)]
 pub struct CornerLines<'a> {
     pub outline: &'a Outline,
     pub lines: &'a [Option<Inside>],
 }
 
 /// A corner's tableau: its lines, and the row of each level of the outline.
-#[derive(Clone, Copy, Debug)]
+#[derive(Clone, Copy)]
 pub struct Tableau<'a> {
     pub corner: CornerLines<'a>,
     pub levels: &'a [LevelSum],

@@ -24,7 +24,7 @@ use Rattle.corner_ends.specs.Columns.{IsNegative, Reduced}
 use Rattle.corner_ends.proofs.Fronts.{any_there, each_mark, inside_zero, none_negative, reduced_at_all, reduced_same, some_line}
 use Rattle.corner_ends.proofs.Marks.{contained}
 use Rattle.corner_ends.proofs.Signs.{columns_alike, mark_column, not_both_signs}
-use Rattle.corner.proofs.Readings.LowLines.{up_or_low}
+use Rattle.corner_writings.proofs.Readings.LowLines.{up_or_low}
 use Rattle.corner_lines.proofs.ColumnsBelow.{low_from}
 use Rattle.frac_core.proofs.Numbers.{one-times as times-one, none-below as nothing-before}
 

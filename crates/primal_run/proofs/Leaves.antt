@@ -20,7 +20,7 @@ use Rattle.primal_run.specs.declared.ties.Ratio.{Ratio}
 use Rattle.primal_run.specs.Entering.{MayEnter}
 use Rattle.primal_run.specs.Leaving.{IsFirstOf, IsRatioAt, NeverFalls}
 use Rattle.corner_ends.proofs.Marks.{contained, in_mark}
-use Rattle.corner.proofs.Readings.LowLines.{up_or_low}
+use Rattle.corner_writings.proofs.Readings.LowLines.{up_or_low}
 use Rattle.frac_core.proofs.Numbers.{low-not-zero as low-some, low-back as low-left, neg-times}
 use Rattle.problem_core.proofs.Marks.{in-list as in_list}
 

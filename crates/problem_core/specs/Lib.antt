@@ -11,3 +11,4 @@ pub mod Levels
 pub mod Unfit
 pub mod Changes
 pub mod Rays
+pub mod Constants

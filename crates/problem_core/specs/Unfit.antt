@@ -1,6 +1,6 @@
 -- What does not fit at a corner.
 use Rattle.std.specs.Prelude.{◌≡◌, ◌≢◌, ℕ, ◌+◌, ◌-◌, ◌≤◌, Bool, false, cond, nat_eq, nat_lt, List, [], ◌∷◌}
-use Rattle.std.specs.Prelude.{◌++◌, filter, length, take, ℤ, pos, nat_abs, ◌-ℤ◌, ◌*ℤ◌, All, Any}
+use Rattle.std.specs.Prelude.{◌++◌, filter, length, map, take, ℤ, pos, nat_abs, ◌-ℤ◌, ◌*ℤ◌, All, Any}
 use Rattle.frac_core.specs.Fraction.{Fraction, IsFitting, IsKept}
 use Rattle.problem_core.specs.declared.parts.RowName.TheVariants.{Held}
 use Rattle.problem_core.specs.declared.parts.Side.TheVariants.{Under, Over}
@@ -15,6 +15,7 @@ use Rattle.problem_core.specs.Layout.{Row, Problem, HasStay, lines, coefficient,
 use Rattle.problem_core.specs.Corners.{IsIn, attr_column, place}
 pub use Rattle.problem_core.specs.Corners.{IsWritingOf}
 use Rattle.problem_core.specs.Levels.{IsLevelAt, HasNoLevelWriting}
+use Rattle.problem_core.specs.Window.{zero_fraction}
 
 -- the over mark of the held row of this number
 abbrev pub over_mark : ℕ → Mark
@@ -105,6 +106,26 @@ abbrev pub IsNewAt : List Row → ℕ → List Row → Type 0
 IsNewAt old j rows = (before : List Row) × (r : Row) × (after : List Row) × (rows ≡ before ++ (r ∷ after))
     × (length before + 1 ≡ j) × IsNew old r.id
 
+-- the row at this constant
+abbrev pub at_constant : Fraction → Row → Row
+at_constant constant r = record {
+  id = r.id;
+  rank = r.rank;
+  weight = r.weight;
+  rel = r.rel;
+  scale = r.scale;
+  constant = constant;
+  terms = r.terms;
+}
+
+-- the row with 0 in place of its constant
+abbrev pub without_constant : Row → Row
+without_constant r = at_constant zero_fraction r
+
+-- the same rows in the same order, but for their constants
+abbrev pub AreSameButConstants : List Row → List Row → Type 0
+AreSameButConstants old rows = map without_constant old ≡ map without_constant rows
+
 -- whether two constants are the same, part by part
 abbrev pub same_constant : Fraction → Fraction → Bool
 same_constant f g = cond (nat_eq f.den g.den) (nat_eq (nat_abs (f.num -ℤ g.num)) 0) false
@@ -128,11 +149,12 @@ abbrev pub with_first_shifts : List Row → ℕ → Problem → Problem
 with_first_shifts old j p = record { rows = first_shifted j old p.rows; stays = p.stays }
 
 -- the quantity does not fit at the corner of the step's problem. The row of a sum of terms, and the last of a
--- level's first rows, are new; the first j changed constants are the new ones, and the others are as before
+-- level's first rows, are new. Where changed constants are named, the rows are those before but for their
+-- constants, of which the first j that changed are the new ones, and the others are as before
 abbrev pub IsUnfit : Problem → List Row → List Mark → Quantity → Type 0
 IsUnfit p old at (Plain what) = IsUnfitWhat p at what
 IsUnfit p old at (Terms mark j) = IsUnfitTerms p at mark j × All (λ r. Held r.id ≢ mark.row) old
 IsUnfit p old at (Rows level j) = IsUnfitRows p at level j
     × ((k : ℕ) × IsLevelAt p level k × IsNewAt old j (filter (λ r. nat_eq (rank_level r.rank) k) p.rows))
-IsUnfit p old at (Shifts what j) = (1 ≤ j) × (j ≤ changes old p.rows)
+IsUnfit p old at (Shifts what j) = AreSameButConstants old p.rows × (1 ≤ j) × (j ≤ changes old p.rows)
     × IsUnfitWhat (with_first_shifts old j p) at what

@@ -51,7 +51,7 @@ pub use laws::{
 };
 pub use limits::{
     COEFFICIENT_LIMIT, FIRST_STAY_LEVEL, GAP_ROOM, MARKS, NUMBER_LIMIT, REQUIRED, ROW_LIMIT,
-    TERM_LIMIT, WEIGHT_LIMIT,
+    TERM_LIMIT, WEIGHT_LIMIT, constants_are_as_said,
 };
 pub use parts::{Level, Mark, Rel, RowName, Side, Stay, Term};
 pub use places::{mark_at, place};

@@ -1,4 +1,5 @@
 // The limits of problems, and the numbers by which levels and columns are counted.
+ghost use Rattle.problem_core.specs.Constants.{ConstantsAreAsSaid};
 
 /// The rank of required rows, which is the greatest one.
 pub const REQUIRED: u16 = 1000;
@@ -28,3 +29,8 @@ pub const MARKS: u64 = 1 << 34;
 /// What the common denominator of a row's values is below, and each value times it, where a gap's sign is
 /// asked for.
 pub const GAP_ROOM: u128 = 1 << 62;
+
+/// The constants that definitions and clauses cite by name are these numbers.
+pub fn constants_are_as_said()
+    ensures { ConstantsAreAsSaid }
+{}

@@ -23,3 +23,4 @@ mod numbers;
 pub use command::mode_of;
 pub use laws::{mode_is_unique, others_ask_for_nothing, plain_words_ask_for_what_they_say};
 pub use mode::Mode;
+pub use numbers::constants_are_as_said;

@@ -3,6 +3,7 @@ ghost use Rattle.std.specs.Prelude.{◌≡◌, ℕ, IfSome, IfNone, IsTrue, ◌�
 ghost use Rattle.span_text.specs.Bytes.{plus};
 ghost use Rattle.program_words.specs.Words.{IsWritten, AreViews};
 ghost use Rattle.program_words.specs.declared.numbers.TheConstants.{SEED_DIGITS};
+ghost use Rattle.program_words.specs.Constants.{ConstantsAreAsSaid};
 
 // The most digits of a seed.
 const SEED_DIGITS: usize = 20;
@@ -51,3 +52,8 @@ pub(crate) fn views_of(word: &str) -> Option<u32>
         _ => None,
     }
 }
+
+/// The constants that definitions and clauses cite by name are these numbers.
+pub fn constants_are_as_said()
+    ensures { ConstantsAreAsSaid }
+{}

@@ -1,11 +1,10 @@
 // Whole texts: lines, problems, claims, and both together.
 use case_text::put_text;
-use claim_text::{
-    BadLine, Claim, ReadStop, TEXT_LIMIT, cert_text, cut_input, problem_text, read_claim,
-    read_problem,
-};
+use claim_text::{cut_input, read_claim};
+use claim_writing::{Claim, cert_text, problem_text};
 use frac_core::{OutOfMemory, Stop};
 use problem_core::Problem;
+use problem_reading::{BadLine, ReadStop, TEXT_LIMIT, read_problem};
 use span_text::lines;
 use std::alloc::Global;
 
@@ -26,10 +25,14 @@ fn put_stop(out: &mut String, stop: ReadStop) -> Result<(), OutOfMemory> {
     }
 }
 
+fn put_sizes(out: &mut String, problem: &Problem) -> Result<(), OutOfMemory> {
+    let (rows, stays) = (problem.rows().len(), problem.stays().len());
+    Ok(writeln!(out, "{rows} rows and {stays} stays")?)
+}
+
 // Appends how many rows and stays a problem has, and the problem as it is written.
 fn put_written(alloc: Global, out: &mut String, problem: &Problem) -> Result<(), OutOfMemory> {
-    let (rows, stays) = (problem.rows().len(), problem.stays().len());
-    writeln!(out, "{rows} rows and {stays} stays")?;
+    put_sizes(out, problem)?;
     let mut text = Vec::new(alloc);
     problem_text(problem, &mut text)?;
     put_text(out, &text)

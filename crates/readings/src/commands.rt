@@ -1,10 +1,11 @@
 // Lines of a script: their readings, part by part.
-use crate::formats::put_written;
+use crate::formats::{put_stop, put_written};
 use case_text::put_text;
-use frac_core::{Frac, OutOfMemory, Stop};
+use frac_core::{Frac, OutOfMemory};
 use script_text::{Align, AttrWord, Command, ExprTerm, Linear, Operand, read_line};
-use span_text::{Object, SyntaxAt, UNIT};
+use span_text::{Object, UNIT};
 use std::alloc::Global;
+use vfl_text::Format;
 
 fn align_name(align: Align) -> &'static str {
     match align {
@@ -23,13 +24,15 @@ fn put_fraction(out: &mut String, f: Frac) -> Result<(), OutOfMemory> {
     Ok(write!(out, " {num}/{den}")?)
 }
 
+fn put_attr(out: &mut String, view: &str, word: AttrWord) -> Result<(), OutOfMemory> {
+    let word = word.text();
+    Ok(write!(out, " of {view}.{word}")?)
+}
+
 fn put_term(out: &mut String, term: &ExprTerm<'_>) -> Result<(), OutOfMemory> {
     put_fraction(out, term.by)?;
     match term.of {
-        Operand::Attr { view, word } => {
-            let word = word.text();
-            Ok(write!(out, " of {view}.{word}")?)
-        }
+        Operand::Attr { view, word } => put_attr(out, view, word),
         Operand::Metric { name } => Ok(write!(out, " of {name}")?),
         Operand::One => Ok(()),
     }
@@ -51,11 +54,16 @@ fn put_priority(out: &mut String, priority: Option<Object<'_>>) -> Result<(), Ou
     }
 }
 
-fn put_linear(out: &mut String, line: &Linear<'_>) -> Result<(), OutOfMemory> {
+// Appends the two sides of a line, and how they stand to each other.
+fn put_sides(out: &mut String, line: &Linear<'_>) -> Result<(), OutOfMemory> {
     put_terms(out, line.left())?;
     let rel = line.rel.word();
     write!(out, " {rel}")?;
-    put_terms(out, line.right())?;
+    put_terms(out, line.right())
+}
+
+fn put_linear(out: &mut String, line: &Linear<'_>) -> Result<(), OutOfMemory> {
+    put_sides(out, line)?;
     put_priority(out, line.priority)?;
     let weight = line.weight;
     Ok(writeln!(out, " weight {weight}")?)
@@ -118,35 +126,66 @@ fn put_release(out: &mut String, view: &str, word: AttrWord) -> Result<(), OutOf
     Ok(writeln!(out, "release {view}.{word}")?)
 }
 
-// Appends the reading of a line of a group.
+// Appends a word and a name.
+fn put_named(out: &mut String, word: &str, name: &str) -> Result<(), OutOfMemory> {
+    Ok(writeln!(out, "{word} {name}")?)
+}
+
+fn put_budget(out: &mut String, exchanges: u64) -> Result<(), OutOfMemory> {
+    Ok(writeln!(out, "budget {exchanges}")?)
+}
+
+// Appends a format behind its group and its alignment.
+fn put_vfl(
+    alloc: Global,
+    out: &mut String,
+    group: &str,
+    align: Option<Align>,
+    format: &Format<'_>,
+) -> Result<(), OutOfMemory> {
+    write!(out, "vfl {group} ")?;
+    put_align(out, align)?;
+    put_written(alloc, out, format)
+}
+
+fn put_constraint(out: &mut String, group: &str, line: &Linear<'_>) -> Result<(), OutOfMemory> {
+    write!(out, "constrain {group}")?;
+    put_linear(out, line)
+}
+
+// The word of a command that has no other.
+fn lone_word(command: &Command<'_>) -> Option<&'static str> {
+    match command {
+        Command::Nothing => Some("nothing"),
+        Command::Undo => Some("undo"),
+        Command::Frames => Some("frames"),
+        Command::Rows => Some("rows"),
+        Command::Diagnose => Some("diagnose"),
+        Command::Certify => Some("certify"),
+        _ => None,
+    }
+}
+
+// Appends the reading of a line of a group, and of one that takes lines or views away.
 fn put_group(alloc: Global, out: &mut String, command: &Command<'_>) -> Result<(), OutOfMemory> {
     match command {
         Command::Vfl {
             group,
             align,
             format,
-        } => {
-            write!(out, "vfl {group} ")?;
-            put_align(out, *align)?;
-            put_written(alloc, out, format)
-        }
-        Command::Constrain { group, line } => {
-            write!(out, "constrain {group}")?;
-            put_linear(out, line)
-        }
+        } => put_vfl(alloc, out, group, *align, format),
+        Command::Constrain { group, line } => put_constraint(out, group, line),
+        Command::Drop { name } => put_named(out, "drop", name),
+        Command::Remove { group } => put_named(out, "remove", group),
         _ => Ok(()),
     }
 }
 
-fn put_command(alloc: Global, out: &mut String, command: &Command<'_>) -> Result<(), OutOfMemory> {
+// Appends the reading of a line about numbers.
+fn put_number(alloc: Global, out: &mut String, command: &Command<'_>) -> Result<(), OutOfMemory> {
     match command {
-        Command::Nothing => Ok(writeln!(out, "nothing")?),
-        Command::View { name, parent } => put_view(out, name, *parent),
-        Command::Tree { text, start } => put_tree(out, text, *start),
         Command::Metric { name, value } => put_metric(out, name, *value),
         Command::Window { width, height } => put_numbers(out, "window", *width, *height),
-        Command::Drop { name } => Ok(writeln!(out, "drop {name}")?),
-        Command::Remove { group } => Ok(writeln!(out, "remove {group}")?),
         Command::Suggest {
             view,
             word,
@@ -154,13 +193,19 @@ fn put_command(alloc: Global, out: &mut String, command: &Command<'_>) -> Result
             priority,
         } => put_suggestion(out, view, *word, *value, *priority),
         Command::Release { view, word } => put_release(out, view, *word),
-        Command::Undo => Ok(writeln!(out, "undo")?),
-        Command::Budget { exchanges } => Ok(writeln!(out, "budget {exchanges}")?),
-        Command::Frames => Ok(writeln!(out, "frames")?),
-        Command::Rows => Ok(writeln!(out, "rows")?),
-        Command::Diagnose => Ok(writeln!(out, "diagnose")?),
-        Command::Certify => Ok(writeln!(out, "certify")?),
+        Command::Budget { exchanges } => put_budget(out, *exchanges),
         _ => put_group(alloc, out, command),
+    }
+}
+
+fn put_command(alloc: Global, out: &mut String, command: &Command<'_>) -> Result<(), OutOfMemory> {
+    if let Some(word) = lone_word(command) {
+        return Ok(writeln!(out, "{word}")?);
+    }
+    match command {
+        Command::View { name, parent } => put_view(out, name, *parent),
+        Command::Tree { text, start } => put_tree(out, text, *start),
+        _ => put_number(alloc, out, command),
     }
 }
 
@@ -168,7 +213,6 @@ fn put_command(alloc: Global, out: &mut String, command: &Command<'_>) -> Result
 pub fn put_line(alloc: Global, out: &mut String, line: &[u8]) -> Result<(), OutOfMemory> {
     match read_line(alloc, line) {
         Ok(command) => put_command(alloc, out, &command),
-        Err(Stop::Refused(SyntaxAt(at))) => Ok(writeln!(out, "syntax {at}")?),
-        Err(Stop::OutOfMemory) => Err(OutOfMemory),
+        Err(stop) => put_stop(out, stop),
     }
 }

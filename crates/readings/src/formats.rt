@@ -5,6 +5,12 @@ use span_text::SyntaxAt;
 use std::alloc::Global;
 use vfl_text::{Format, Spacing, read, write};
 
+// Appends a format's line to bytes.
+fn push_written(alloc: Global, format: &Format<'_>, text: &mut Vec<u8>) -> Result<(), OutOfMemory> {
+    write(alloc, format, text)?;
+    Ok(text.push(b'\n')?)
+}
+
 /// Appends the canonical text of a format.
 pub fn put_written(
     alloc: Global,
@@ -12,8 +18,7 @@ pub fn put_written(
     format: &Format<'_>,
 ) -> Result<(), OutOfMemory> {
     let mut text = Vec::new(alloc);
-    write(alloc, format, &mut text)?;
-    text.push(b'\n')?;
+    push_written(alloc, format, &mut text)?;
     put_text(out, &text)
 }
 
@@ -22,7 +27,8 @@ fn text_of(bytes: &[u8]) -> &str {
     std::str::from_utf8(bytes).unwrap_or("")
 }
 
-fn put_stop(out: &mut String, stop: Stop<SyntaxAt>) -> Result<(), OutOfMemory> {
+/// Appends where a text leaves its grammar.
+pub fn put_stop(out: &mut String, stop: Stop<SyntaxAt>) -> Result<(), OutOfMemory> {
     match stop {
         Stop::Refused(SyntaxAt(at)) => Ok(writeln!(out, "syntax {at}")?),
         Stop::OutOfMemory => Err(OutOfMemory),
@@ -45,15 +51,17 @@ fn count_of(spacing: &Spacing<'_>) -> usize {
     }
 }
 
+fn put_count(out: &mut String, part: &str, count: usize) -> Result<(), OutOfMemory> {
+    Ok(writeln!(out, "{part} with {count}")?)
+}
+
 // Appends how many predicates each view and each connection between views has.
 fn put_parts(out: &mut String, format: &Format<'_>) -> Result<(), OutOfMemory> {
     for item in format.items() {
-        let (name, count) = (item.name, item.sizes().len());
-        writeln!(out, "{name} with {count}")?;
+        put_count(out, item.name, item.sizes().len())?;
     }
     for spacing in format.spacings() {
-        let count = count_of(spacing);
-        writeln!(out, "between with {count}")?;
+        put_count(out, "between", count_of(spacing))?;
     }
     Ok(())
 }

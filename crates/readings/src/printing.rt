@@ -20,6 +20,23 @@ fn put_larger(alloc: Global, out: &mut String, kind: &str, line: &[u8]) -> Resul
     }
 }
 
+// Appends the reading of a line by the kinds of names and words.
+fn put_wording(
+    alloc: Global,
+    out: &mut String,
+    kind: &str,
+    line: &[u8],
+) -> Result<(), OutOfMemory> {
+    match kind {
+        "name" => put_name(out, line),
+        "raw name" => put_raw_name(out, line),
+        "word in" => put_word(out, line),
+        "sign -" => put_sign(out, line),
+        "vfl or view" => put_either(out, line),
+        _ => put_larger(alloc, out, kind, line),
+    }
+}
+
 // Appends the reading of a line.
 fn put_reading(
     alloc: Global,
@@ -32,27 +49,42 @@ fn put_reading(
         "number" => put_number(out, line),
         "ratio" => put_ratio(out, line),
         "whole" => put_whole(out, line),
-        "name" => put_name(out, line),
-        "raw name" => put_raw_name(out, line),
-        "word in" => put_word(out, line),
-        "sign -" => put_sign(out, line),
-        "vfl or view" => put_either(out, line),
-        _ => put_larger(alloc, out, kind, line),
+        _ => put_wording(alloc, out, kind, line),
     }
+}
+
+// Appends the reading of the bytes of a line, without its end.
+fn put_unended(
+    alloc: Global,
+    out: &mut String,
+    kind: &str,
+    bytes: &[u8],
+) -> Result<(), OutOfMemory> {
+    put_reading(alloc, out, kind, bytes.strip_suffix(b"\n").unwrap_or(bytes))
 }
 
 // Appends the line as it is written, and its reading.
 fn put_case(alloc: Global, out: &mut String, kind: &str, line: &str) -> Result<(), OutOfMemory> {
     writeln!(out, "{line}")?;
-    let mut text = Vec::new(alloc);
-    put_escaped(&mut text, line)?;
-    let bytes = text.as_slice();
-    put_reading(alloc, out, kind, bytes.strip_suffix(b"\n").unwrap_or(bytes))
+    let mut bytes = Vec::new(alloc);
+    put_escaped(&mut bytes, line)?;
+    put_unended(alloc, out, kind, &bytes)
 }
 
-// Whether the texts of the kind are read as one.
-fn is_block(kind: &str) -> bool {
-    matches!(kind, "problem" | "claim" | "cut" | "lines")
+// Appends each line and its reading.
+fn put_each(alloc: Global, out: &mut String, kind: &str, lines: &str) -> Result<(), OutOfMemory> {
+    for line in lines.split("\n").skip(1) {
+        put_case(alloc, out, kind, line)?;
+    }
+    Ok(())
+}
+
+// Appends the bytes that the lines stand for.
+fn push_escaped(bytes: &mut Vec<u8>, lines: &str) -> Result<(), OutOfMemory> {
+    for line in lines.split("\n").skip(1) {
+        put_escaped(bytes, line)?;
+    }
+    Ok(())
 }
 
 // Appends the reading of a whole text, for the kinds of blocks.
@@ -61,28 +93,44 @@ fn put_block(alloc: Global, out: &mut String, kind: &str, text: &[u8]) -> Result
         "problem" => put_problem(alloc, out, text),
         "claim" => put_claim(alloc, out, text),
         "cut" => put_cut(out, text),
-        "lines" => put_lines(out, text),
-        _ => Ok(()),
+        _ => put_lines(out, text),
     }
+}
+
+// Appends the reading of the lines as one text.
+fn put_whole_text(
+    alloc: Global,
+    out: &mut String,
+    kind: &str,
+    lines: &str,
+) -> Result<(), OutOfMemory> {
+    let mut bytes = Vec::new(alloc);
+    push_escaped(&mut bytes, lines)?;
+    put_block(alloc, out, kind, &bytes)
+}
+
+// Appends the readings of the lines below a heading, which come each behind a byte 10.
+fn put_below(alloc: Global, out: &mut String, kind: &str, lines: &str) -> Result<(), OutOfMemory> {
+    match kind {
+        "problem" | "claim" | "cut" | "lines" => put_whole_text(alloc, out, kind, lines),
+        _ => put_each(alloc, out, kind, lines),
+    }
+}
+
+// Appends each heading and the readings of the lines below it.
+fn put_all(alloc: Global, out: &mut String, input: &str) -> Result<(), OutOfMemory> {
+    let text = input.strip_suffix("\n").unwrap_or(input);
+    for case in text.strip_prefix("= ").unwrap_or(text).split("\n= ") {
+        let (kind, _) = case.split_once("\n").unwrap_or((case, ""));
+        writeln!(out, "= {kind}")?;
+        put_below(alloc, out, kind, case.strip_prefix(kind).unwrap_or(""))?;
+    }
+    Ok(())
 }
 
 /// What the program prints.
 pub fn printed(alloc: Global, input: &str) -> Result<String, OutOfMemory> {
     let mut out = String::new(alloc);
-    let mut block = Vec::new(alloc);
-    let mut kind = "";
-    for line in input.lines() {
-        if let Some(next) = line.strip_prefix("= ") {
-            put_block(alloc, &mut out, kind, &block)?;
-            block = Vec::new(alloc);
-            kind = next;
-            writeln!(out, "{line}")?;
-        } else if is_block(kind) {
-            put_escaped(&mut block, line)?;
-        } else {
-            put_case(alloc, &mut out, kind, line)?;
-        }
-    }
-    put_block(alloc, &mut out, kind, &block)?;
+    put_all(alloc, &mut out, input)?;
     Ok(out)
 }

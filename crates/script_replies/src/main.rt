@@ -11,7 +11,8 @@
 //! - `std`: the run reads and writes by a reader and a writer of std.
 //!
 //! Below a heading `== session` stand the lines that a session takes, as `sessions` says. Below `== table`
-//! stands a script of which each read and each write fails in turn, as `table` says.
+//! stands a script of which each read and each write fails in turn, as `table` says. Below `== paths NAME`
+//! stands a script whose refusals 7 and 8 are judged by their paths, as `paths` says.
 //!
 //! Among the runs stand the example screens and the scripts that the pages show, each below a comment `#: `
 //! that says what it is.
@@ -25,11 +26,15 @@
 //! ```
 //!
 //! In reading order: `cases` (the headings), `runs`, `table`; `sessions`, `steps` (one step, and what a check
-//! says of it), `drawing` (drawn lines).
+//! says of it), `drawing` (drawn lines); `paths`, `held` (what a session holds), `posed` (the problem that a
+//! path speaks of).
 #![tactic(auto)]
 
 mod cases;
 mod drawing;
+mod held;
+mod paths;
+mod posed;
 mod runs;
 mod sessions;
 mod steps;

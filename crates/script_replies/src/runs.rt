@@ -1,4 +1,7 @@
 // Runs over sources and sinks in memory, and over std's.
+//
+// What a function owns ends at each of its ways out, and that makes proofs long: a source, a sink, a list of
+// words are made by one function and lent to another.
 use case_text::put_text;
 use edge_io::{MemorySink, MemorySource, Sink, Source, StdSink, StdSource};
 use frac_core::OutOfMemory;
@@ -6,15 +9,8 @@ use layout_cli::{Status, run};
 use std::alloc::Global;
 use std::io::{Cursor, Write};
 
-/// What a run leaves in its sink, and how it ends.
-#[derive(Drop)]
-pub struct Ended {
-    pub text: Vec<u8>,
-    pub status: Status,
-}
-
-// The status alone: nothing here needs a clause of `run`.
-fn status_of<S: Source, K: Sink>(
+/// How a run ends: the status alone, since nothing here needs a clause of `run`.
+pub fn status_of<S: Source, K: Sink>(
     alloc: Global,
     words: &[String],
     source: &mut S,
@@ -99,49 +95,9 @@ fn source_of(alloc: Global, options: &str, text: &[u8]) -> Result<MemorySource, 
     Ok(MemorySource::new(whole, sizes, fails))
 }
 
-/// A run that writes to memory.
-pub fn ended_in_memory<S: Source>(
-    alloc: Global,
-    words: &[String],
-    source: &mut S,
-    sink: &mut MemorySink,
-) -> Result<Ended, OutOfMemory> {
-    let status = status_of(alloc, words, source, sink);
-    let text = sink.bytes().to_vec(alloc)?;
-    Ok(Ended { text, status })
-}
-
-// How a run ends that reads by a reader of std and writes by a writer of std.
-fn status_in_std<W: Write>(
-    alloc: Global,
-    words: &[String],
-    text: &[u8],
-    sink: &mut StdSink<W>,
-) -> Status {
-    let mut source = StdSource::new(Cursor::new(text));
-    status_of(alloc, words, &mut source, sink)
-}
-
-// Such a run that writes to a list.
-fn ended_in_std(alloc: Global, words: &[String], text: &[u8]) -> Ended {
-    let mut sink = StdSink::new(Vec::new(alloc));
-    let status = status_in_std(alloc, words, text, &mut sink);
-    Ended {
-        text: sink.into_inner(),
-        status,
-    }
-}
-
-// How such a run ends that writes to a place with an end.
-fn status_in_room(alloc: Global, words: &[String], text: &[u8], room: &mut [u8]) -> Status {
-    let mut sink = StdSink::new(Cursor::new(room));
-    status_in_std(alloc, words, text, &mut sink)
-}
-
-/// Appends what a run left and how it ended.
-pub fn put_ended(out: &mut String, ended: &Ended) -> Result<(), OutOfMemory> {
-    put_text(out, &ended.text)?;
-    let status = ended.status;
+/// Appends what a run left, and how it ended.
+pub fn put_ended(out: &mut String, text: &[u8], status: Status) -> Result<(), OutOfMemory> {
+    put_text(out, text)?;
     Ok(writeln!(out, "-- {status:?}")?)
 }
 
@@ -153,30 +109,76 @@ struct Case<'a> {
     text: &'a [u8],
 }
 
-// Appends how a run in memory ends, and how often its source was pulled.
-fn put_counted(alloc: Global, out: &mut String, case: Case<'_>) -> Result<(), OutOfMemory> {
-    let mut source = source_of(alloc, case.options, case.text)?;
+// Appends what a run from this source leaves in a sink in memory, and how it ends.
+fn put_in_memory(
+    alloc: Global,
+    out: &mut String,
+    case: Case<'_>,
+    source: &mut MemorySource,
+) -> Result<(), OutOfMemory> {
     let room = number_after(case.options, "room").unwrap_or(65_536);
     let mut sink = MemorySink::new(alloc, room, Vec::new(alloc))?;
-    let ended = ended_in_memory(alloc, case.words, &mut source, &mut sink)?;
-    put_ended(out, &ended)?;
+    let status = status_of(alloc, case.words, source, &mut sink);
+    put_ended(out, sink.bytes(), status)
+}
+
+// Appends how a run from this source ends, and how often it was pulled.
+fn put_pulled(
+    alloc: Global,
+    out: &mut String,
+    case: Case<'_>,
+    source: &mut MemorySource,
+) -> Result<(), OutOfMemory> {
+    put_in_memory(alloc, out, case, source)?;
     let pulls = source.calls();
     Ok(writeln!(out, "-- {pulls} pulls")?)
 }
 
-// Appends how a run over a reader and a writer of std ends.
-fn put_standard(alloc: Global, out: &mut String, case: Case<'_>) -> Result<(), OutOfMemory> {
+// Appends how a run in memory ends, and how often its source was pulled.
+fn put_counted(alloc: Global, out: &mut String, case: Case<'_>) -> Result<(), OutOfMemory> {
+    let mut source = source_of(alloc, case.options, case.text)?;
+    put_pulled(alloc, out, case, &mut source)
+}
+
+// How a run ends that reads by a reader of std and writes by a writer of std.
+fn status_in_std<W: Write>(alloc: Global, case: Case<'_>, sink: &mut StdSink<W>) -> Status {
+    let mut source = StdSource::new(Cursor::new(case.text));
+    status_of(alloc, case.words, &mut source, sink)
+}
+
+// How such a run ends that writes to a place with an end.
+fn status_in_room(alloc: Global, case: Case<'_>, room: &mut [u8]) -> Status {
+    let mut sink = StdSink::new(Cursor::new(room));
+    status_in_std(alloc, case, &mut sink)
+}
+
+// Appends how such a run ends.
+fn put_in_room(
+    alloc: Global,
+    out: &mut String,
+    case: Case<'_>,
+    room: usize,
+) -> Result<(), OutOfMemory> {
+    let mut left = vec![in alloc; b' '; room]?;
+    let status = status_in_room(alloc, case, &mut left);
+    put_ended(out, &left, status)
+}
+
+// Appends how a run by std ends that writes to a list.
+fn put_in_list(alloc: Global, out: &mut String, case: Case<'_>) -> Result<(), OutOfMemory> {
+    let mut sink = StdSink::new(Vec::new(alloc));
+    let status = status_in_std(alloc, case, &mut sink);
+    put_ended(out, &sink.into_inner(), status)
+}
+
+// Appends how a run ends, and over a source in memory how often that was pulled.
+fn put_case(alloc: Global, out: &mut String, case: Case<'_>) -> Result<(), OutOfMemory> {
+    if !has_option(case.options, "std") {
+        return put_counted(alloc, out, case);
+    }
     match number_after(case.options, "room") {
-        Some(room) => {
-            let mut text_left = vec![in alloc; b' '; room]?;
-            let status = status_in_room(alloc, case.words, case.text, &mut text_left);
-            let ended = Ended {
-                text: text_left,
-                status,
-            };
-            put_ended(out, &ended)
-        }
-        None => put_ended(out, &ended_in_std(alloc, case.words, case.text)),
+        Some(room) => put_in_room(alloc, out, case, room),
+        None => put_in_list(alloc, out, case),
     }
 }
 
@@ -188,25 +190,32 @@ pub fn put_run(
     text: &[u8],
 ) -> Result<(), OutOfMemory> {
     let (words, options) = heading.split_once(";").unwrap_or((heading, ""));
-    let words = &words_of(alloc, words)?;
+    let words = words_of(alloc, words)?;
     let case = Case {
-        words,
+        words: &words,
         options,
         text,
     };
-    if has_option(options, "std") {
-        put_standard(alloc, out, case)
-    } else {
-        put_counted(alloc, out, case)
-    }
+    put_case(alloc, out, case)
 }
 
-/// What the word `check` leads to.
-pub fn verdict_of(alloc: Global, text: Vec<u8>) -> Result<Vec<u8>, OutOfMemory> {
-    let words = words_of(alloc, "check")?;
+// What the word `check`, which stands alone in the list, leads to.
+fn checked(alloc: Global, words: &[String], text: Vec<u8>) -> Result<Vec<u8>, OutOfMemory> {
     let mut source = MemorySource::new(text, Vec::new(alloc), Vec::new(alloc));
     let mut sink = MemorySink::new(alloc, 100, Vec::new(alloc))?;
-    let ended = ended_in_memory(alloc, &words, &mut source, &mut sink)?;
-    let Ended { text, status: _ } = ended;
+    status_of(alloc, words, &mut source, &mut sink);
+    Ok(sink.bytes().to_vec(alloc)?)
+}
+
+/// What the word `check` says of a problem and a claim.
+pub fn verdict_of(alloc: Global, problem: &[u8], claim: &[u8]) -> Result<Vec<u8>, OutOfMemory> {
+    let words = words_of(alloc, "check")?;
+    checked(alloc, &words, joined(alloc, problem, claim)?)
+}
+
+// Both texts, one behind the other.
+fn joined(alloc: Global, problem: &[u8], claim: &[u8]) -> Result<Vec<u8>, OutOfMemory> {
+    let mut text = problem.to_vec(alloc)?;
+    text.extend_from_slice(claim)?;
     Ok(text)
 }

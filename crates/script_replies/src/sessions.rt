@@ -8,14 +8,16 @@
 // - `print ROOM`: the frames, put into a sink with so much room;
 // - `draw SEED COUNT`: the same as `judged`, counted over so many drawn lines.
 use crate::drawing::put_drawn;
-use crate::steps::{answer, problem_of, put_reply, text_of, text_of_problem, verdict_on};
-use case_text::put_text;
+use crate::steps::{
+    answer, first_session, problem_of, push_problem, push_reply, put_problem_text, put_reply,
+    verdict_on,
+};
+use case_text::{put_shown, put_text};
 use cert_core::Path;
 use edge_io::MemorySink;
 use frac_core::OutOfMemory;
-use layout_cli::print_frames;
-use problem_core::Problem;
-use session_undo::{Refusal, Reply, Session};
+use reply_texts::print_frames;
+use session_undo::{Refusal, Reply, Session, StopPlace};
 use std::alloc::Global;
 
 // Appends what a line is answered.
@@ -31,6 +33,16 @@ fn put_answer(
     }
 }
 
+// Appends why a line is refused.
+fn put_refusal(
+    alloc: Global,
+    out: &mut String,
+    session: &Session,
+    refusal: Refusal,
+) -> Result<(), OutOfMemory> {
+    put_reply(alloc, out, session, &Err(refusal))
+}
+
 // Appends the problem that a line would solve, or why it is refused before.
 fn put_problem(
     alloc: Global,
@@ -39,23 +51,32 @@ fn put_problem(
     line: &str,
 ) -> Result<(), OutOfMemory> {
     match problem_of(alloc, session, line) {
-        Some(Ok(problem)) => {
-            let text = text_of_problem(alloc, &problem)?;
-            put_text(out, &text)
-        }
-        Some(Err(refusal)) => {
-            let reply: Result<Reply, Refusal> = Err(refusal);
-            put_reply(alloc, out, session, &reply)
-        }
+        Some(Ok(problem)) => put_problem_text(alloc, out, &problem),
+        Some(Err(refusal)) => put_refusal(alloc, out, session, refusal),
         None => Ok(writeln!(out, "outside the grammar")?),
     }
 }
 
-// Appends how a path stands to the problem of its step.
-fn put_path(out: &mut String, problem: &Problem, path: &Path) -> Result<(), OutOfMemory> {
-    let rows = problem.rows().len();
-    let marks = path.corner().len();
-    let swaps = path.swaps().len();
+// How many rows the text of a problem has.
+fn row_count(problem: &[u8]) -> usize {
+    let mut count: usize = 0;
+    for line in std::str::from_utf8(problem).unwrap_or("").lines() {
+        if line.starts_with("row ") {
+            count = count.saturating_add(1);
+        }
+    }
+    count
+}
+
+// Appends where a line stopped, and how its path stands to the problem of its step.
+fn put_path(
+    out: &mut String,
+    problem: &[u8],
+    place: &StopPlace,
+    path: &Path,
+) -> Result<(), OutOfMemory> {
+    put_shown(out, place)?;
+    let (rows, marks, swaps) = (row_count(problem), path.corner().len(), path.swaps().len());
     let is_dual = path.dual();
     Ok(writeln!(
         out,
@@ -66,19 +87,67 @@ fn put_path(out: &mut String, problem: &Problem, path: &Path) -> Result<(), OutO
 // Appends how the path of a refusal stands to the problem.
 fn put_stop(
     out: &mut String,
-    problem: &Problem,
+    problem: &[u8],
     reply: &Result<Reply, Refusal>,
 ) -> Result<(), OutOfMemory> {
     match reply {
-        Err(Refusal::Spent { place, path }) => {
-            writeln!(out, "{place:?}")?;
-            put_path(out, problem, path)
-        }
-        Err(Refusal::Overflow { place, at }) => {
-            writeln!(out, "{place:?}")?;
-            put_path(out, problem, &at.path)
-        }
+        Err(Refusal::Spent { place, path }) => put_path(out, problem, place, path),
+        Err(Refusal::Overflow { place, at }) => put_path(out, problem, place, &at.path),
         _ => Ok(()),
+    }
+}
+
+// Appends what is said of the multipliers of a reply, where it prints any.
+fn put_verdict(
+    alloc: Global,
+    out: &mut String,
+    problem: &[u8],
+    reply: &Result<Reply, Refusal>,
+    text: &[u8],
+) -> Result<(), OutOfMemory> {
+    match verdict_on(alloc, problem, reply, text)? {
+        Some(verdict) => put_text(out, &verdict),
+        None => Ok(()),
+    }
+}
+
+// Appends a reply, and what is said of it.
+fn put_said(
+    alloc: Global,
+    out: &mut String,
+    problem: &[u8],
+    reply: &Result<Reply, Refusal>,
+    text: &[u8],
+) -> Result<(), OutOfMemory> {
+    put_text(out, text)?;
+    put_stop(out, problem, reply)?;
+    put_verdict(alloc, out, problem, reply, text)
+}
+
+// Appends a reply as its text, and what is said of it.
+fn put_judged_reply(
+    alloc: Global,
+    out: &mut String,
+    session: &Session,
+    problem: &[u8],
+    reply: &Result<Reply, Refusal>,
+) -> Result<(), OutOfMemory> {
+    let mut text = Vec::new(alloc);
+    push_reply(&mut text, session, reply)?;
+    put_said(alloc, out, problem, reply, &text)
+}
+
+// Appends what a line is answered that would solve this problem, and what is said of the answer.
+fn put_judged_by(
+    alloc: Global,
+    out: &mut String,
+    session: &mut Session,
+    line: &str,
+    problem: &[u8],
+) -> Result<(), OutOfMemory> {
+    match answer(alloc, session, line) {
+        Some(reply) => put_judged_reply(alloc, out, session, problem, &reply),
+        None => Ok(()),
     }
 }
 
@@ -89,24 +158,28 @@ fn put_judged(
     session: &mut Session,
     line: &str,
 ) -> Result<(), OutOfMemory> {
-    let Some(Ok(problem)) = problem_of(alloc, session, line) else {
-        return Ok(writeln!(out, "no problem")?);
-    };
-    let Some(reply) = answer(alloc, session, line) else {
-        return Ok(());
-    };
-    let text = text_of(alloc, session, &reply)?;
-    put_text(out, &text)?;
-    put_stop(out, &problem, &reply)?;
-    match verdict_on(alloc, &problem, &reply, &text)? {
-        Some(verdict) => put_text(out, &verdict),
-        None => Ok(()),
+    let mut problem = Vec::new(alloc);
+    if push_problem(alloc, &mut problem, session, line)? {
+        put_judged_by(alloc, out, session, line, &problem)
+    } else {
+        Ok(writeln!(out, "no problem")?)
     }
 }
 
 // Whether all frames were put: nothing here needs a clause of `print_frames`.
 fn is_printed(session: &Session, sink: &mut MemorySink) -> bool {
     print_frames(session, sink).is_ok()
+}
+
+// Appends what the frames leave in a sink.
+fn put_printed(
+    out: &mut String,
+    session: &Session,
+    sink: &mut MemorySink,
+) -> Result<(), OutOfMemory> {
+    let is_whole = is_printed(session, sink);
+    put_text(out, sink.bytes())?;
+    Ok(writeln!(out, "whole {is_whole}")?)
 }
 
 // Appends what the frames leave in a sink with so much room.
@@ -118,9 +191,7 @@ fn put_frames(
 ) -> Result<(), OutOfMemory> {
     let room = room.parse::<usize>().unwrap_or(0);
     let mut sink = MemorySink::new(alloc, room, Vec::new(alloc))?;
-    let is_whole = is_printed(session, &mut sink);
-    put_text(out, sink.bytes())?;
-    Ok(writeln!(out, "whole {is_whole}")?)
+    put_printed(out, session, &mut sink)
 }
 
 // Appends the line and what it leads to.
@@ -140,15 +211,21 @@ fn put_line(
     }
 }
 
-fn first_session(alloc: Global) -> Result<Session, OutOfMemory> {
-    Session::new(alloc)
+// Appends what the lines lead to, each below the line.
+fn put_lines(
+    alloc: Global,
+    out: &mut String,
+    session: &mut Session,
+    text: &[u8],
+) -> Result<(), OutOfMemory> {
+    for line in std::str::from_utf8(text).unwrap_or("").lines() {
+        put_line(alloc, out, session, line)?;
+    }
+    Ok(())
 }
 
 /// Appends what the lines of a session lead to, each below the line.
 pub fn put_session(alloc: Global, out: &mut String, text: &[u8]) -> Result<(), OutOfMemory> {
     let mut session = first_session(alloc)?;
-    for line in std::str::from_utf8(text).unwrap_or("").lines() {
-        put_line(alloc, out, &mut session, line)?;
-    }
-    Ok(())
+    put_lines(alloc, out, &mut session, text)
 }

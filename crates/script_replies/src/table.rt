@@ -5,9 +5,10 @@
 // so on. Each line ends with the first run that ends as one without a fault. A line tells how many bytes each
 // run leaves, with its status where that is another than the status before, and says `no front` of bytes that
 // are no front of the whole output.
-use crate::runs::{Ended, ended_in_memory, put_ended, words_of};
+use crate::runs::{put_ended, status_of, words_of};
 use edge_io::{MemorySink, MemorySource};
 use frac_core::OutOfMemory;
+use layout_cli::Status;
 use std::alloc::Global;
 
 // The greatest sizes of a pull.
@@ -16,85 +17,180 @@ const SIZES: [usize; 3] = [1, 2, 5];
 // More than the calls of a run, and than the bytes that it leaves.
 const AMPLE: usize = 1000;
 
+// What a run leaves in its sink, and how it ends.
+#[derive(Drop)]
+struct Ended {
+    text: Vec<u8>,
+    status: Status,
+}
+
 // What may end a run early.
-#[derive(Clone, Copy, Debug, PartialEq, Eq)]
+#[derive(Clone, Copy, PartialEq, Eq)]
 enum Fault {
     FailingPull,
     Room,
     FailingPut,
 }
 
-// A list of one call.
-fn one_call(alloc: Global, call: usize) -> Result<Vec<u64>, OutOfMemory> {
-    Ok(vec![in alloc; call as u64; 1]?)
+impl Fault {
+    fn word(self) -> &'static str {
+        match self {
+            Fault::FailingPull => "FailingPull",
+            Fault::Room => "Room",
+            Fault::FailingPut => "FailingPut",
+        }
+    }
 }
 
-// A source of a script, whose pulls have a greatest size.
-fn source_of(
-    alloc: Global,
-    script: &[u8],
-    size: usize,
-    fails: Vec<u64>,
-) -> Result<MemorySource, OutOfMemory> {
-    let sizes = vec![in alloc; size; AMPLE]?;
-    Ok(MemorySource::new(script.to_vec(alloc)?, sizes, fails))
-}
-
-// A run with a fault at this call, or with so much room.
-fn ended_at(
-    alloc: Global,
-    script: &[u8],
+// What all runs of a line of the table have: the word that they are run with, their script, the greatest size
+// of a pull, and what may end them.
+#[derive(Clone, Copy)]
+struct Runs<'a> {
+    words: &'a [String],
+    script: &'a [u8],
     size: usize,
     fault: Fault,
-    at: usize,
-) -> Result<Ended, OutOfMemory> {
-    let (pulls, room, puts) = match fault {
-        Fault::FailingPull => (one_call(alloc, at)?, AMPLE, Vec::new(alloc)),
-        Fault::Room => (Vec::new(alloc), at, Vec::new(alloc)),
-        Fault::FailingPut => (Vec::new(alloc), AMPLE, one_call(alloc, at)?),
-    };
-    let words = words_of(alloc, "run")?;
-    let mut source = source_of(alloc, script, size, pulls)?;
-    let mut sink = MemorySink::new(alloc, room, puts)?;
-    ended_in_memory(alloc, &words, &mut source, &mut sink)
 }
 
-// Appends a line of runs with a fault, each later than the one before.
-fn put_faults(
-    alloc: Global,
-    out: &mut String,
-    script: &[u8],
-    size: usize,
-    fault: Fault,
-) -> Result<(), OutOfMemory> {
-    let whole = ended_at(alloc, script, size, Fault::Room, AMPLE)?;
-    let mut before = whole.status;
-    write!(out, "pulls of {size}, {fault:?}:")?;
-    for at in 0..AMPLE {
-        let Ended { text, status } = ended_at(alloc, script, size, fault, at)?;
+impl Runs<'_> {
+    // The list of one call, where this is the fault.
+    fn calls(self, alloc: Global, fault: Fault, at: usize) -> Result<Vec<u64>, OutOfMemory> {
+        let count = if self.fault == fault { 1 } else { 0 };
+        Ok(vec![in alloc; at as u64; count]?)
+    }
+
+    // The source of the script, with a fault at this call where pulls fail.
+    fn source(self, alloc: Global, at: usize) -> Result<MemorySource, OutOfMemory> {
+        let fails = self.calls(alloc, Fault::FailingPull, at)?;
+        let sizes = vec![in alloc; self.size; AMPLE]?;
+        Ok(MemorySource::new(self.script.to_vec(alloc)?, sizes, fails))
+    }
+
+    // The sink, with so much room or a fault at this call where one of these may end a run.
+    fn sink(self, alloc: Global, at: usize) -> Result<MemorySink, OutOfMemory> {
+        let fails = self.calls(alloc, Fault::FailingPut, at)?;
+        let room = if self.fault == Fault::Room { at } else { AMPLE };
+        MemorySink::new(alloc, room, fails)
+    }
+
+    // A run from this source.
+    fn ended_from(
+        self,
+        alloc: Global,
+        source: &mut MemorySource,
+        at: usize,
+    ) -> Result<Ended, OutOfMemory> {
+        let mut sink = self.sink(alloc, at)?;
+        let status = status_of(alloc, self.words, source, &mut sink);
+        let text = sink.bytes().to_vec(alloc)?;
+        Ok(Ended { text, status })
+    }
+
+    // A run with a fault at this call, or with so much room.
+    fn ended(self, alloc: Global, at: usize) -> Result<Ended, OutOfMemory> {
+        let mut source = self.source(alloc, at)?;
+        self.ended_from(alloc, &mut source, at)
+    }
+
+    // The same runs with this fault.
+    fn with(self, fault: Fault) -> Self {
+        Runs { fault, ..self }
+    }
+}
+
+// A line of the table: its runs, and the one without a fault that they stand beside.
+#[derive(Clone, Copy)]
+struct Line<'a> {
+    runs: Runs<'a>,
+    whole: &'a Ended,
+}
+
+impl Line<'_> {
+    // Appends how many bytes a run leaves, and its status where that isn't the one before. Gives the status.
+    fn put_ended(
+        self,
+        out: &mut String,
+        ended: &Ended,
+        before: Status,
+    ) -> Result<Status, OutOfMemory> {
+        let (status, count) = (ended.status, ended.text.len());
         if status != before {
             write!(out, " {status:?}")?;
         }
-        let count = text.len();
         write!(out, " {count}")?;
-        if !whole.text.starts_with(&text) {
+        if !self.whole.text.starts_with(&ended.text) {
             write!(out, " no front")?;
         }
-        if status == whole.status {
-            break;
-        }
-        before = status;
+        Ok(status)
     }
-    Ok(writeln!(out)?)
+
+    // Appends what the run leaves that has its fault at this call, or so much room. Gives its status.
+    fn put_run(
+        self,
+        alloc: Global,
+        out: &mut String,
+        at: usize,
+        before: Status,
+    ) -> Result<Status, OutOfMemory> {
+        let ended = self.runs.ended(alloc, at)?;
+        self.put_ended(out, &ended, before)
+    }
+
+    // Appends what the runs leave, each with a later fault, up to the first that ends as the whole one.
+    fn put_runs(self, alloc: Global, out: &mut String) -> Result<(), OutOfMemory> {
+        let mut before = self.whole.status;
+        for at in 0..AMPLE {
+            before = self.put_run(alloc, out, at, before)?;
+            if before == self.whole.status {
+                break;
+            }
+        }
+        Ok(writeln!(out)?)
+    }
+}
+
+// Appends a line of the table.
+fn put_line(alloc: Global, out: &mut String, runs: Runs<'_>) -> Result<(), OutOfMemory> {
+    let (size, word) = (runs.size, runs.fault.word());
+    write!(out, "pulls of {size}, {word}:")?;
+    let whole = runs.with(Fault::Room).ended(alloc, AMPLE)?;
+    let line = Line {
+        runs,
+        whole: &whole,
+    };
+    line.put_runs(alloc, out)
+}
+
+// Appends the lines of one size.
+fn put_lines(alloc: Global, out: &mut String, runs: Runs<'_>) -> Result<(), OutOfMemory> {
+    put_line(alloc, out, runs.with(Fault::FailingPull))?;
+    put_line(alloc, out, runs.with(Fault::Room))?;
+    put_line(alloc, out, runs.with(Fault::FailingPut))
+}
+
+// Appends what a run leads to that nothing ends early.
+fn put_whole(alloc: Global, out: &mut String, runs: Runs<'_>) -> Result<(), OutOfMemory> {
+    let ended = runs.ended(alloc, AMPLE)?;
+    put_ended(out, &ended.text, ended.status)
+}
+
+// Appends that, and the lines of all sizes.
+fn put_sizes(alloc: Global, out: &mut String, runs: Runs<'_>) -> Result<(), OutOfMemory> {
+    put_whole(alloc, out, runs)?;
+    for size in SIZES {
+        put_lines(alloc, out, Runs { size, ..runs })?;
+    }
+    Ok(())
 }
 
 /// Appends what a script leads to, and what becomes of that where each call fails in turn.
 pub fn put_table(alloc: Global, out: &mut String, script: &[u8]) -> Result<(), OutOfMemory> {
-    put_ended(out, &ended_at(alloc, script, AMPLE, Fault::Room, AMPLE)?)?;
-    for size in &SIZES {
-        put_faults(alloc, out, script, *size, Fault::FailingPull)?;
-        put_faults(alloc, out, script, *size, Fault::Room)?;
-        put_faults(alloc, out, script, *size, Fault::FailingPut)?;
-    }
-    Ok(())
+    let words = words_of(alloc, "run")?;
+    let runs = Runs {
+        words: &words,
+        script,
+        size: AMPLE,
+        fault: Fault::Room,
+    };
+    put_sizes(alloc, out, runs)
 }

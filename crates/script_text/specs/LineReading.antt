@@ -75,6 +75,13 @@ named_at f s = do
   _ ← end_at name.1
   Ok (f name.0)
 
+-- for the metric of this name a value
+unfoldable pub metric_value_at : List ℕ → Bool → List ℕ → Result Meaning ℕ
+metric_value_at name is_negative s = do
+  value ← number_at s
+  _ ← end_at value.1
+  Ok (mean.Metric name (decimal is_negative value.0))
+
 -- what follows the word `metric`: a name, perhaps -, and a value
 unfoldable pub metric_at : List ℕ → Result Meaning ℕ
 metric_at s = do
@@ -82,13 +89,8 @@ metric_at s = do
   if starts is_minus name.1
       then (do
         rest ← sign_at minus name.1
-        value ← number_at rest
-        _ ← end_at value.1
-        Ok (mean.Metric name.0 (decimal true value.0)))
-      else (do
-        value ← number_at name.1
-        _ ← end_at value.1
-        Ok (mean.Metric name.0 (decimal false value.0)))
+        metric_value_at name.0 true rest)
+      else metric_value_at name.0 false name.1
 
 -- what follows the word `window`: a width and a height
 unfoldable pub window_at : List ℕ → Result Meaning ℕ
@@ -150,11 +152,15 @@ term_at is_negative s = if starts is_letter s
 abbrev pub some_term : Term × List ℕ → Result (Option (Term × List ℕ)) ℕ
 some_term t = Ok (Some t)
 
+-- this sign and a term behind it
+abbrev pub signed_at : Bool → ℕ → List ℕ → Result (Option (Term × List ℕ)) ℕ
+signed_at is_negative sign s = sign_at sign s >>= term_at is_negative >>= some_term
+
 -- the next term of a sum, if there is one
 unfoldable pub next_at : List ℕ → Result (Option (Term × List ℕ)) ℕ
 next_at s = if starts is_plus s
-    then sign_at plus s >>= term_at false >>= some_term
-    else (if starts is_minus s then sign_at minus s >>= term_at true >>= some_term else Ok None)
+    then signed_at false plus s
+    else (if starts is_minus s then signed_at true minus s else Ok None)
 
 -- where a next term was read, what g reads behind it; otherwise these terms, and the text
 abbrev pub go_on : (List Term → List ℕ → Result (List Term × List ℕ) ℕ) → List Term → List ℕ

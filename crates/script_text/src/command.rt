@@ -8,7 +8,7 @@ use span_text::Object;
 use vfl_text::Format;
 
 /// What a term of an expression is a multiple of.
-#[derive(Clone, Copy, Debug, PartialEq, Eq)]
+#[derive(Clone, Copy)]
 pub enum Operand<'a> {
     /// An attribute of the view of this name.
     Attr { view: &'a str, word: AttrWord },
@@ -19,7 +19,7 @@ pub enum Operand<'a> {
 }
 
 /// A term of an expression: so many times the operand, with the sign of the term.
-#[derive(Clone, Copy, Debug, PartialEq, Eq)]
+#[derive(Clone, Copy)]
 pub struct ExprTerm<'a> {
     pub by: Frac,
     pub of: Operand<'a>,
@@ -27,7 +27,7 @@ pub struct ExprTerm<'a> {
 
 /// A linear constraint. The terms of both sides stand in the order in which they were written; where no
 /// weight was written, the weight is 1.
-#[derive(Debug, Drop)]
+#[derive(Drop)]
 pub struct Linear<'a> {
     pub left: Vec<ExprTerm<'a>>,
     pub rel: Rel,
@@ -53,7 +53,7 @@ impl<'a> Linear<'a> {
 }
 
 /// The reading of a line. Each name is a slice of the line.
-#[derive(Debug, Drop)]
+#[derive(Drop)]
 pub enum Command<'a> {
     /// A blank line or a comment.
     Nothing,

@@ -6,7 +6,7 @@ ghost use Rattle.script_text.specs.Meaning.{Meaning};
 ghost use Rattle.script_text.specs.Meaning as mean;
 ghost use Rattle.script_text.specs.LineReading.{view_at, tree_at, named_at, metric_at, window_at, budget_at};
 ghost use Rattle.script_text.specs.LineReading.{bare_at, apart_at, arguments_at, command_at, content_at};
-ghost use Rattle.script_text.specs.LineReading.{line_at};
+ghost use Rattle.script_text.specs.LineReading.{line_at, metric_value_at};
 ghost use Rattle.span_text.specs.Gives.{Gives};
 ghost use Rattle.vfl_text.specs.Stops.{IsStopOf};
 ghost use Rattle.script_text.specs.View.{view};
@@ -69,21 +69,26 @@ fn remove_line(text: &[u8]) -> Result<Command<'_>, PartStop>
     Ok(Command::Remove { group })
 }
 
+// The value of the metric of this name.
+#[tactic(auto, unfolding(crate::specs::LineReading::metric_value_at))]
+fn metric_value<'a>(name: &'a str, is_negative: bool, text: &[u8]) -> Result<Command<'a>, PartStop>
+    ensures { GivesOrMemory view result (metric_value_at name.now is_negative text.now) }
+{
+    let (thousandths, text) = numbers::number(text)?;
+    pieces::end(text)?;
+    let value = signed_number(is_negative, thousandths);
+    Ok(Command::Metric { name, value })
+}
+
 #[tactic(auto, unfolding(crate::specs::LineReading::metric_at))]
 fn metric_line(text: &[u8]) -> Result<Command<'_>, PartStop>
     ensures { GivesOrMemory view result (metric_at text.now) }
 {
     let (name, text) = names::name(text)?;
     if pieces::begins(text, b'-') {
-        let (thousandths, text) = numbers::number(names::sign(b'-', text)?)?;
-        pieces::end(text)?;
-        let value = signed_number(true, thousandths);
-        Ok(Command::Metric { name, value })
+        metric_value(name, true, names::sign(b'-', text)?)
     } else {
-        let (thousandths, text) = numbers::number(text)?;
-        pieces::end(text)?;
-        let value = signed_number(false, thousandths);
-        Ok(Command::Metric { name, value })
+        metric_value(name, false, text)
     }
 }
 

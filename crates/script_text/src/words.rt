@@ -7,7 +7,7 @@ ghost use Rattle.script_text.specs.Grammar.{all_words, alignments, attributes, w
 use span_text::pieces::or_else;
 
 /// The first word of a line.
-#[derive(Clone, Copy, Debug, PartialEq, Eq)]
+#[derive(Clone, Copy)]
 pub enum Keyword {
     View,
     Tree,
@@ -28,7 +28,7 @@ pub enum Keyword {
 }
 
 /// The edges and middles that an alignment may name.
-#[derive(Clone, Copy, Debug, PartialEq, Eq)]
+#[derive(Clone, Copy)]
 pub enum Align {
     Left,
     Right,
@@ -39,7 +39,7 @@ pub enum Align {
 }
 
 /// The attributes of a view that an expression may name.
-#[derive(Clone, Copy, Debug, PartialEq, Eq)]
+#[derive(Clone, Copy, PartialEq, Eq)]
 pub enum AttrWord {
     Left,
     Top,

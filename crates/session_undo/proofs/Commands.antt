@@ -1,6 +1,10 @@
 -- What the commands of a session come to, and which cause of a refusal comes first.
 pub mod Chains
+pub mod Diagnosed
+pub mod LeavingSteps
 pub mod LineStops
+pub mod Rooms
 pub mod Steps
+pub mod SuggestionSteps
 pub mod TreeChains
 pub mod TreeInstances

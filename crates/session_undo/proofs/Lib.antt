@@ -1,12 +1,1 @@
-pub mod Engines
-pub mod Constants
-pub mod Views
 pub mod Commands
-pub mod First
-pub mod HeldRows
-pub mod Histories
-pub mod Removals
-pub mod KeptScenes
-pub mod Lists
-pub mod Suggestions
-pub mod Diagnosed

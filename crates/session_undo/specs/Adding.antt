@@ -1,55 +1,51 @@
 -- Parts of the steps.
-use Rattle.std.specs.Prelude.{◌≡◌, ◌≢◌, ℕ, ◌+◌, ◌*◌, ◌<◌, ◌≤◌, true, false, List, [], ◌∷◌, ◌++◌, length, Some}
-use Rattle.std.specs.Prelude.{All, IsSome, Option, None}
+use Rattle.std.specs.Prelude.{◌≡◌, ◌≢◌, ℕ, ◌*◌, ◌<◌, ◌≤◌, false, List, [], length, Some, All, IsSome, Option}
+use Rattle.std.specs.Prelude.{None, IfOk}
 use Rattle.span_text.specs.Objects.{Meant}
 use Rattle.script_text.specs.declared.words.AttrWord.{AttrWord}
 use Rattle.name_tables.specs.declared.stops.LimitWord.{LimitWord}
-use Rattle.name_tables.specs.declared.stops.LimitWord.TheVariants as word
 use Rattle.view_tree.specs.Views.{ViewTree, LiveView, view_named}
-use Rattle.view_tree.specs.Views as tree
 use Rattle.view_tree.specs.Drops.{AreGoing}
 use Rattle.view_tree.specs.JsonTrees.{JsonTree, IsTreeText, names, size, with_branch}
+use Rattle.scenes.specs.Scene.{Scene, metrics_with}
 use Rattle.view_tree.specs.JsonStops.{AreFree, GoesIn, IsWithin}
 use Rattle.frac_core.specs.Fraction.{Fraction}
 use Rattle.problem_core.specs.Kept.{IsRow}
-use Rattle.problem_core.specs.Layout.{Row}
-use Rattle.constraint_compile.specs.Meaning.{MetricList, IsRowRank, IsRank, unknown_object}
+use Rattle.problem_core.specs.Layout.{Row, Problem}
+use Rattle.compile_parts.specs.Meaning.{MetricList, IsRank, unknown_object}
 use Rattle.constraint_compile.specs.Compiled.{CompiledLine, AreRowsNow}
-use Rattle.constraint_compile.specs.Fractions.{negated, IsConstant, IsSmallConstant}
+use Rattle.compile_parts.specs.Fractions.{negated, IsConstant, IsSmallConstant}
 use Rattle.constraint_compile.specs.Suggestions.{scale_of, suggested_priority}
 use Rattle.constraint_compile.specs.declared.suggestion.Suggestion.{Suggestion}
 use Rattle.name_tables.specs.declared.stops.TheConstants.{NAME_LIMIT}
-use Rattle.session_undo.specs.declared.item.suggesting.NewSuggestion.{NewSuggestion}
-use Rattle.session_undo.specs.declared.item.suggesting.NewSuggestion.TheVariants as new
-use Rattle.constraint_compile.specs.declared.stops.CompileStop.{CompileStop}
-use Rattle.constraint_compile.specs.declared.stops.CompileStop.TheVariants as stop
+use Rattle.held_items.specs.declared.item.suggesting.NewSuggestion.{NewSuggestion}
+use Rattle.compile_parts.specs.declared.stops.CompileStop.{CompileStop}
 use Rattle.cert_core.specs.declared.stops.RunStop.{RunStop}
-use Rattle.cert_core.specs.declared.stops.RunStop.TheVariants as run
 use Rattle.layout_solver.specs.declared.engine.Change.{Change}
-use Rattle.layout_solver.specs.Layouts.{Layout}
-use Rattle.layout_solver.specs.Begins.{Start, IsReached}
-use Rattle.layout_solver.specs.Removals.{HasRemoved, Leaving, stood}
-use Rattle.problem_core.specs.declared.parts.Mark.{Mark}
 use Rattle.std.specs.declared.result.Result.{Result}
 use Rattle.std.specs.declared.result.Result.TheVariants.{Ok, Err}
+use Rattle.session_undo.specs.declared.reply.StopPlace.{StopPlace}
+use Rattle.layout_solver.specs.declared.removing.RemoveStop.{RemoveStop}
+use Rattle.session_undo.specs.declared.reply.Refusal.{Refusal}
+use Rattle.held_items.specs.declared.row_numbers.TheConstants.{SIZE_ROWS, VIEW_ROWS}
+use Rattle.held_items.specs.Attributes.{IsNextLine}
+use Rattle.held_items.specs.Items.{has_size, suggestion_of}
+use Rattle.scenes.specs.Moving.{AreChangesFor}
+use Rattle.session_undo.specs.Replies.{Reply, Unknown, Limit, Kind, place_of, Done}
+use Rattle.session_undo.specs.State.{State}
+use Rattle.session_undo.specs.Machine.{still_place, Unless, Keeps, IsCrowded, HasAllLines, IsTaken, IsDeep}
+use Rattle.session_undo.specs.Machine.{AreTooMany, HasAllViews, Suggests, UnlessRankless, PosesDraft}
+use Rattle.held_items.specs.Moving.{FitsAfter, IsFarSize}
+use Rattle.name_tables.specs.declared.stops.LimitWord.TheVariants as word
+use Rattle.view_tree.specs.Views as tree
+use Rattle.held_items.specs.declared.item.suggesting.NewSuggestion.TheVariants as new
+use Rattle.compile_parts.specs.declared.stops.CompileStop.TheVariants as stop
+use Rattle.cert_core.specs.declared.stops.RunStop.TheVariants as run
 use Rattle.session_undo.specs.declared.reply.Reply as answer
 use Rattle.session_undo.specs.declared.reply.Reply.TheVariants as good
-use Rattle.session_undo.specs.declared.reply.StopPlace.{StopPlace}
 use Rattle.session_undo.specs.declared.reply.StopPlace.TheVariants as place
-use Rattle.layout_solver.specs.declared.removing.RemoveStop.{RemoveStop}
 use Rattle.layout_solver.specs.declared.removing.RemoveStop.TheVariants as removal
-use Rattle.session_undo.specs.declared.reply.Refusal.{Refusal}
 use Rattle.session_undo.specs.declared.reply.Refusal.TheVariants as refusal
-use Rattle.session_undo.specs.declared.row_numbers.TheConstants.{SIZE_ROWS, VIEW_ROWS}
-use Rattle.session_undo.specs.Attributes.{IsNextLine}
-use Rattle.session_undo.specs.Items.{has_size, suggestion_of, view_items}
-use Rattle.session_undo.specs.Moving.{AreChangesFor}
-use Rattle.session_undo.specs.Replies.{Reply, Unknown, Limit, Kind, place_of}
-use Rattle.session_undo.specs.Scene.{Scene, State, moved, new_stays_from, metrics_with}
-use Rattle.session_undo.specs.Machine.{CannotLeave, still_place, IsStopped, Unless, Keeps, IsCrowded}
-use Rattle.session_undo.specs.Machine.{HasAllLines, IsTaken, IsDeep}
-use Rattle.session_undo.specs.Machine.{AreTooMany, FitsAfter, HasAllViews, IsFarSize, Suggests}
-use Rattle.session_undo.specs.Machine.{UnlessRankless}
 
 -- ---- stops
 
@@ -77,34 +73,6 @@ abbrev pub IsLeftAnswer : Result (Unit {0}) RemoveStop → Result answer.Reply R
 IsLeftAnswer (Ok done) told = told ≡ Ok good.Done
 IsLeftAnswer (Err stop) told = (refused : Refusal) × (told ≡ Err refused) × TellsStop stop refused
 
--- these have left the problem, and a run within the budget has led to the values
-pub record HasRun (old new : Layout) (l : Leaving) (budget : ℕ) : Type 0 where
-  pub last : List Mark
-  pub run : HasRemoved (stood old) old.corner l budget last
-  pub reached : IsReached new.problem last new.values
-
--- why the scene can't become the draft, where memory may be wanting
-abbrev pub LeaveStopsAt : Scene → Scene → ℕ → RemoveStop → Type 0
-LeaveStopsAt scene draft budget (removal.Unfit still at) =
-    CannotLeave scene draft budget (removal.Unfit still at)
-LeaveStopsAt scene draft budget (removal.Spent path) = CannotLeave scene draft budget (removal.Spent path)
-LeaveStopsAt scene draft budget removal.OutOfMemory = Unit {0}
-
--- where an engine begins that takes more rows
-abbrev pub from_corner : Layout → List Row → Start
-from_corner l rows = record { dual = false; before = l.problem.rows; joining = rows; kept = l.corner }
-
--- where one begins whose rows get other constants
-abbrev pub from_shifts : Layout → Start
-from_shifts l = record { dual = true; before = l.problem.rows; joining = []; kept = l.corner }
-
--- why the run from the scene to the draft stops, where memory may be wanting
-abbrev pub RunStopsAt : Scene → Scene → ℕ → RunStop → Type 0
-RunStopsAt scene draft budget (run.Conflict by) = IsStopped scene draft budget (run.Conflict by)
-RunStopsAt scene draft budget (run.Unfit at) = IsStopped scene draft budget (run.Unfit at)
-RunStopsAt scene draft budget (run.Spent path) = IsStopped scene draft budget (run.Spent path)
-RunStopsAt scene draft budget run.OutOfMemory = Unit {0}
-
 -- no draft comes to its end
 abbrev pub NoEnd : Scene → Reply → State → Type 0
 NoEnd draft reply new = ⊥
@@ -113,26 +81,10 @@ NoEnd draft reply new = ⊥
 abbrev pub NoOther : Reply → State → Reply → State → Type 0
 NoOther answer next reply new = ⊥
 
--- ---- drafts
-
--- with this tree, of which so many views are new, the first of this number
-abbrev pub views_draft : Scene → ViewTree → ℕ → ℕ → Scene
-views_draft old tree id count = record old {
-  tree = tree;
-  held = old.held ++ view_items old.next_row id count;
-  next_row = old.next_row + VIEW_ROWS * count;
-  stays = moved old.stays old.values ++ new_stays_from id count;
-}
-
--- with these metrics
-abbrev pub metrics_draft : Scene → MetricList → Scene
-metrics_draft old metrics = record old { metrics = metrics; stays = moved old.stays old.values }
-
--- the constants of the two rows of the window's size, of which the first has this number
-abbrev pub size_changes : ℕ → Fraction → Fraction → List Change
-size_changes first_row width height =
-    (record { row = first_row; constant = width })
-    ∷ (record { row = first_row + 1; constant = height }) ∷ []
+-- where a problem is posed, no cause that is tried is against the command, and the problem is its draft's
+abbrev pub Posing : ((Scene → Reply → State → Type 0) → Reply → State → Type 0) → State
+    → Result Problem Refusal → Type 0
+Posing Causes old result = IfOk result (λ p. Causes (PosesDraft p) Done old)
 
 -- ---- no cause is there
 
@@ -183,22 +135,6 @@ pub record IsGoing (scene : Scene) (name gone : List ℕ) : Type 0 where
   pub are : AreGoing scene.tree.views root.id gone
 
 -- ---- suggestions
-
--- the suggestion's row has the next number, its rank is one that a priority stands for, and its view is there
-pub record IsNextSuggestion (scene : Scene) (s : Suggestion) : Type 0 where
-  pub row : s.row ≡ scene.next_row
-  pub rank : IsRowRank s.rank
-  pub name : List ℕ
-  pub view : LiveView
-  pub found : view_named scene.tree.views name ≡ Some view
-  pub same : s.view ≡ view.id
-
--- it is held, and no constant moves too far
-pub record IsNearSuggestion (scene : Scene) (s : Suggestion) : Type 0 where
-  pub before : Suggestion
-  pub found : suggestion_of s.view s.word scene.held ≡ Some before
-  pub row : s.row ≡ before.row
-  pub near : FitsAfter before.constant s.constant
 
 -- the view of this name is there, the priority's name is known, and this is its rank
 pub record IsRanked (old : State) (name : List ℕ) (priority : Option Meant) (view : LiveView)

@@ -1,13 +1,7 @@
 pub mod Adding
-pub mod Attributes
-pub mod Diagnosing
-pub mod Drafts
-pub mod Frames
-pub mod Items
+pub mod Constants
 pub mod Kept
-pub mod Leaving
 pub mod Machine
-pub mod Moving
 pub mod Probed
 pub mod Replies
-pub mod Scene
+pub mod State

@@ -1,13 +1,10 @@
 -- The step of a session: what a command leads to.
-use Rattle.std.specs.Prelude.{◌≡◌, ℕ, ◌+◌, ◌*◌, ◌<◌, ◌≤◌, ◌⊎◌, List, [], ◌∷◌, ◌++◌, length, codes}
-use Rattle.std.specs.Prelude.{Option}
-use Rattle.std.specs.Prelude.{Some, None, IsSome, Bool, true, false, map, slice_index_or, All, AllPairs}
+use Rattle.std.specs.Prelude.{◌≡◌, ℕ, ◌+◌, ◌*◌, ◌<◌, ◌≤◌, ◌⊎◌, List, [], ◌∷◌, length, codes, Option, Some}
+use Rattle.std.specs.Prelude.{None, IsSome, Bool, false, All}
 use Rattle.std.specs.List.{list_any}
 use Rattle.std.specs.Option.{option_map}
-use Rattle.span_text.specs.Bytes.{point}
 use Rattle.frac_core.specs.Fraction.{Fraction}
 use Rattle.name_tables.specs.Names.{names_of, place_of, value_of}
-use Rattle.name_tables.specs.declared.stops.LimitWord.TheVariants as word
 use Rattle.serde_json.specs.Data.{Data}
 use Rattle.view_tree.specs.JsonTrees.{Branch, IsJson, IsTreeText, JsonTree, names, size, tree_of}
 use Rattle.view_tree.specs.JsonStops.{GoesIn, IsFirstHeld, PassesTreeLimit}
@@ -16,56 +13,51 @@ use Rattle.problem_core.specs.Layout.{Row, Problem}
 use Rattle.cert_core.specs.declared.by.By.{By}
 use Rattle.cert_core.specs.Claims.{BestLevel}
 use Rattle.cert_core.specs.Paths.{Path}
-use Rattle.certificates.specs.Accepted.{IsCertified}
 use Rattle.cert_core.specs.Stops.{IsShownConflict}
 use Rattle.cert_core.specs.declared.stops.UnfitPath.{UnfitPath}
-use Rattle.cert_core.specs.declared.stops.RunStop.{RunStop}
-use Rattle.cert_core.specs.declared.stops.RunStop.TheVariants as run
 use Rattle.vfl_text.specs.Formats.{FormatMeaning}
-use Rattle.problem_core.specs.declared.parts.Mark.{Mark}
 use Rattle.view_tree.specs.Drops.{AreGoing}
-use Rattle.layout_solver.specs.Removals.{CanLeave, HasRemoved, IsRemoveStop, Leaving, without}
 use Rattle.layout_solver.specs.declared.removing.RemoveStop.{RemoveStop}
-use Rattle.layout_solver.specs.declared.removing.RemoveStop.TheVariants as removal
-use Rattle.constraint_compile.specs.declared.stops.KindWord.TheVariants as kind
-use Rattle.layout_solver.specs.Begins.{Start, IsReached, IsRunFrom, IsStopFrom}
 use Rattle.span_text.specs.Objects.{Meant}
-use Rattle.script_text.specs.Grammar.{word_text}
 use Rattle.script_text.specs.declared.words.Align.{Align}
 use Rattle.script_text.specs.declared.words.AttrWord.{AttrWord}
 use Rattle.script_text.specs.Meaning.{Meaning, Linear}
-use Rattle.script_text.specs.Meaning as mean
-use Rattle.constraint_compile.specs.Meaning.{MetricList, IsRank, unknown_object}
+use Rattle.compile_parts.specs.Meaning.{MetricList, IsRank, unknown_object}
 use Rattle.constraint_compile.specs.Suggestions.{scale_of, suggested_priority}
 use Rattle.constraint_compile.specs.declared.suggestion.Suggestion.{Suggestion}
-use Rattle.constraint_compile.specs.Compiled.{CompiledLine, IsFittingSum}
-use Rattle.constraint_compile.specs.Fractions.{plus, negated, IsConstant, IsSmallConstant}
+use Rattle.constraint_compile.specs.Compiled.{CompiledLine}
+use Rattle.compile_parts.specs.Fractions.{negated, IsConstant, IsSmallConstant}
 use Rattle.constraint_compile.specs.Stops.{IsCompiled, MayStop}
-use Rattle.constraint_compile.specs.Formats.FormatParts.{parts}
-use Rattle.constraint_compile.specs.Formats.FormatStops.{row_count}
-use Rattle.constraint_compile.specs.Formats.FormatRows.{IsCompiledFormat, MayStopFormat}
-use Rattle.constraint_compile.specs.declared.stops.CompileStop.{CompileStop}
-use Rattle.constraint_compile.specs.declared.stops.CompileStop.TheVariants as stop
+use Rattle.format_compile.specs.FormatParts.{parts}
+use Rattle.format_compile.specs.FormatStops.{row_count}
+use Rattle.format_compile.specs.FormatRows.{IsCompiledFormat, MayStopFormat}
+use Rattle.compile_parts.specs.declared.stops.CompileStop.{CompileStop}
 use Rattle.name_tables.specs.declared.metrics.TheConstants.{METRIC_LIMIT}
 use Rattle.name_tables.specs.declared.stops.TheConstants.{NAME_LIMIT}
 use Rattle.problem_core.specs.declared.limits.TheConstants.{NUMBER_LIMIT}
 use Rattle.view_tree.specs.declared.limits.TheConstants.{DEPTH_LIMIT, ID_LIMIT}
 use Rattle.session_undo.specs.declared.limits.TheConstants.{BUDGET_LIMIT}
-use Rattle.session_undo.specs.declared.row_numbers.TheConstants.{SIZE_ROWS, VIEW_ROWS}
-use Rattle.session_undo.specs.Items.{IsSmallItem, Item, Size, line_count, has_size, size_of, without_constant}
-use Rattle.session_undo.specs.Items.{suggestion_of}
-use Rattle.session_undo.specs.Scene.{Scene, State, with_view, with_metric, with_window, with_line, problem_of}
-use Rattle.session_undo.specs.Scene.{with_branch, with_earlier, with_suggestion}
-use Rattle.session_undo.specs.Scene.{with_suggested, draft_problem, AreDraftRows, Becomes}
-use Rattle.session_undo.specs.Replies.{Reply, Done, Nothing, Frames, Rows, Outside}
-use Rattle.session_undo.specs.Replies.{Unknown, Taken, Limit, Kind}
-use Rattle.session_undo.specs.Replies.{Certificate, NoEarlier, Conflict, Overflow, Spent, Place, Step, Still}
-use Rattle.session_undo.specs.Replies.{Diagnosed, NoTarget, Probe}
+use Rattle.held_items.specs.declared.row_numbers.TheConstants.{SIZE_ROWS, VIEW_ROWS}
+use Rattle.held_items.specs.Items.{IsSmallItem, line_count, has_size, suggestion_of, suggestion_name}
+use Rattle.scenes.specs.Scene.{Scene, with_view, with_metric, with_window, with_line, problem_of, with_branch}
+use Rattle.scenes.specs.Scene.{with_earlier, with_suggestion, with_suggested, draft_problem, AreDraftRows}
+use Rattle.session_undo.specs.State.{State}
+use Rattle.session_undo.specs.Replies.{Reply, Done, Nothing, Frames, Rows, Outside, Unknown, Taken, Limit}
+use Rattle.session_undo.specs.Replies.{Kind, Certificate, NoEarlier, Conflict, Overflow, Spent, Place, Step}
+use Rattle.session_undo.specs.Replies.{Still, Diagnosed, NoTarget, Probe}
 use Rattle.diagnosis.specs.Diagnoses.{Findings}
+use Rattle.scenes.specs.Diagnosing.{AreFindingsOf, IsCertificateOf, IsProbedStop}
+use Rattle.held_items.specs.Leaving.{is_in_group}
+use Rattle.scenes.specs.Leaving.{without_group, without_suggestion, without_views}
+use Rattle.held_items.specs.Moving.{AreNear, FitsAfter, IsFarSize}
+use Rattle.scenes.specs.Steps.{IsProblemOf, CannotLeave, HasLeft, IsStopped, IsSolved}
+use Rattle.name_tables.specs.declared.stops.LimitWord.TheVariants as word
+use Rattle.cert_core.specs.declared.stops.RunStop.TheVariants as run
+use Rattle.layout_solver.specs.declared.removing.RemoveStop.TheVariants as removal
+use Rattle.compile_parts.specs.declared.stops.KindWord.TheVariants as kind
+use Rattle.script_text.specs.Meaning as mean
+use Rattle.compile_parts.specs.declared.stops.CompileStop.TheVariants as stop
 use Rattle.diagnosis.specs.declared.probing.DiagnoseStop.TheVariants as probed
-use Rattle.session_undo.specs.Diagnosing.{AreFindingsOf, IsProbedStop}
-use Rattle.session_undo.specs.Leaving.{is_in_group, stood_of, without_group, without_suggestion}
-use Rattle.session_undo.specs.Leaving.{without_views}
 
 -- where the fact holds, this refusal and no change; otherwise as F says
 abbrev pub Unless : Type 0 → Reply → State → (Reply → State → Type 0) → Reply → State → Type 0
@@ -82,43 +74,6 @@ abbrev pub Keeps : Reply → State → Reply → State → Type 0
 Keeps answer old reply new = (reply ≡ answer) × (new ≡ old)
 
 -- ---- solving
-
--- rows join those before
-pub record IsJoining (rows : List Row) (s : Start) : Type 0 where
-  pub primal : s.dual ≡ false
-  pub parts : rows ≡ s.before ++ s.joining
-
--- no row joins, and the rows are those before but for their constants
-pub record IsShifting (rows : List Row) (s : Start) : Type 0 where
-  pub dual : s.dual ≡ true
-  pub none : s.joining ≡ []
-  pub alike : map without_constant rows ≡ map without_constant s.before
-
--- where the path from a scene to a draft begins, of which these are the rows: at a corner that was kept for
--- the scene's values, with the scene's rows
-pub record IsStart (scene : Scene) (rows : List Row) (s : Start) : Type 0 where
-  pub before : s.before ≡ scene.rows
-  pub kept : IsReached (problem_of scene) s.kept scene.values
-  pub way : IsJoining rows s ⊎ IsShifting rows s
-
--- the new scene is this draft with its rows and the best values, to which a path within the budget leads
-pub record IsSolved (scene draft : Scene) (budget : ℕ) (path : Path) (new : Scene) : Type 0 where
-  pub becomes : Becomes draft new
-  pub start : Start
-  pub begins : IsStart scene new.rows start
-  pub run : IsRunFrom start (problem_of new) budget path new.values
-
--- some path leads to it
-abbrev pub HasSolved : Scene → Scene → ℕ → Scene → Type 0
-HasSolved scene draft budget new = (path : Path) × IsSolved scene draft budget path new
-
--- the run to the draft stops so
-pub record IsStopped (scene draft : Scene) (budget : ℕ) (stop : RunStop) : Type 0 where
-  pub rows : List Row
-  pub are : AreDraftRows draft rows
-  pub start : Start
-  pub begins : IsStart scene rows start
-  pub stops : IsStopFrom start (draft_problem draft rows) budget stop
 
 -- the command is accepted, and the scene is this draft solved
 pub record Accepts (draft : Scene) (old : State) (reply : Reply) (new : State) : Type 0 where
@@ -157,34 +112,6 @@ abbrev pub Solves : State → Scene → Reply → State → Type 0
 Solves old draft reply new = Conflicts draft old reply new ⊎ SolvesFree old draft reply new
 
 -- ---- leaving
-
--- these leave the scene's problem for that of the draft, of which these are the rows; the marks are a corner
--- that was kept for the scene's values
-pub record IsLeaving (scene draft : Scene) (rows : List Row) (kept : List Mark) (l : Leaving) : Type 0 where
-  pub reached : IsReached (problem_of scene) kept scene.values
-  pub can : CanLeave l (stood_of scene)
-  pub rising : AllPairs (λ a b. a < b) l.rows
-  pub left : draft_problem draft rows ≡ without l (stood_of scene)
-
--- the new scene is this draft with its rows and the best values, to which a path within the budget leads from
--- where the rows have left
-pub record HasLeft (scene draft : Scene) (budget : ℕ) (new : Scene) : Type 0 where
-  pub becomes : Becomes draft new
-  pub kept : List Mark
-  pub leaving : Leaving
-  pub leaves : IsLeaving scene draft new.rows kept leaving
-  pub last : List Mark
-  pub run : HasRemoved (stood_of scene) kept leaving budget last
-  pub reached : IsReached (problem_of new) last new.values
-
--- the removal stops so
-pub record CannotLeave (scene draft : Scene) (budget : ℕ) (stop : RemoveStop) : Type 0 where
-  pub rows : List Row
-  pub are : AreDraftRows draft rows
-  pub kept : List Mark
-  pub leaving : Leaving
-  pub leaves : IsLeaving scene draft rows kept leaving
-  pub stops : IsRemoveStop (stood_of scene) kept leaving budget stop
 
 -- the command is accepted, and the scene is this draft once the rest has left
 pub record Leaves (draft : Scene) (old : State) (reply : Reply) (new : State) : Type 0 where
@@ -284,20 +211,6 @@ HasAllLines s = s.limits.lines ≤ line_count s.scene.held
 abbrev pub AreTooMany : MetricList → List ℕ → Type 0
 AreTooMany metrics name = (place_of (names_of metrics) name ≡ None) × (METRIC_LIMIT ≤ length metrics)
 
--- the second constant less the first fits
-abbrev pub FitsAfter : Fraction → Fraction → Type 0
-FitsAfter before after = IsFittingSum (plus after (negated before))
-
--- so it is with the constants of these rows
-abbrev pub IsNear : Row → Row → Type 0
-IsNear before after = FitsAfter before.constant after.constant
-
--- no constant moves too far
-pub record AreNear (before after : List Row) : Type 0 where
-  pub long : length after ≡ length before
-  pub each : (i : ℕ) (b a : Row) → i < length before
-      → IsNear (slice_index_or before i b) (slice_index_or after i a)
-
 -- after each term each constant of what the draft holds is small
 abbrev pub AreSmall : Scene → Type 0
 AreSmall draft = All (IsSmallItem draft.metrics) draft.held
@@ -311,11 +224,6 @@ abbrev pub UnlessFar : State → Scene → (Reply → State → Type 0) → Repl
 UnlessFar old draft F =
     Unless (AreSmall draft → ⊥) (Limit word.Constant) old
     (WithRows draft (λ rows. Unless (AreNear old.scene.rows rows → ⊥) (Limit word.Constant) old F))
-
--- the window has a size, and its width or its height moves too far
-abbrev pub IsFarSize : List Item → Fraction → Fraction → Type 0
-IsFarSize held width height = (size : Size) × (size_of held ≡ Some size)
-    × (FitsAfter size.width width × FitsAfter size.height height → ⊥)
 
 -- where no view is named, the window is meant
 abbrev pub parent_name : Option (List ℕ) → List ℕ
@@ -481,10 +389,6 @@ TriedSuggest old name attr value priority End =
 
 -- ---- what leaves
 
--- the view, a point and the attribute
-abbrev pub suggestion_name : List ℕ → AttrWord → List ℕ
-suggestion_name name attr = name ++ (point ∷ word_text attr)
-
 -- the view of this name, whose suggestion of this attribute leaves if one is held
 abbrev pub ReleasesOf : State → List ℕ → AttrWord → (Scene → Reply → State → Type 0) → Reply → State → Type 0
 ReleasesOf old name attr End reply new =
@@ -532,8 +436,7 @@ TriedBudget old exchanges Other =
 -- the reply is a certificate of the scene's values
 abbrev pub Certifies : State → (Reply → State → Reply → State → Type 0) → Reply → State → Type 0
 Certifies old Other reply new =
-    (levels : List BestLevel) × IsCertified (problem_of old.scene) old.scene.values levels
-    × Other (Certificate levels) old reply new
+    (levels : List BestLevel) × IsCertificateOf old.scene levels × Other (Certificate levels) old reply new
 
 -- the latest earlier scene is the scene, and leaves the list
 abbrev pub TakesBack : State → (Reply → State → Reply → State → Type 0) → Reply → State → Type 0
@@ -594,10 +497,6 @@ abbrev pub MeaningStep : State → Meaning → Reply → State → Type 0
 MeaningStep old m = Tried old m (Ends old m) Keeps
 
 -- ---- what a command would solve
-
--- the rows of the draft, and its stays
-abbrev pub IsProblemOf : Scene → Problem → Type 0
-IsProblemOf draft p = AreDraftRows draft p.rows × (p.stays ≡ draft.stays)
 
 -- the problem is that of the draft
 abbrev pub PosesDraft : Problem → Scene → Reply → State → Type 0

@@ -4,12 +4,12 @@ use Rattle.std.specs.declared.result.Result.{Result}
 use Rattle.std.specs.declared.result.Result.TheVariants.{Ok, Err}
 use Rattle.problem_core.specs.declared.stops.Quantity.{Quantity}
 use Rattle.name_tables.specs.declared.stops.LimitWord.{LimitWord}
-use Rattle.constraint_compile.specs.declared.stops.KindWord.{KindWord}
+use Rattle.compile_parts.specs.declared.stops.KindWord.{KindWord}
 use Rattle.cert_core.specs.declared.by.By.{By}
 use Rattle.cert_core.specs.Claims.{BestLevel}
 use Rattle.cert_core.specs.Paths.{Path}
 use Rattle.diagnosis.specs.Diagnoses.{Findings, findings_of}
-use Rattle.session_undo.specs.Scene.{State}
+use Rattle.session_undo.specs.State.{State}
 use Rattle.session_undo.specs.declared.reply.Reply as answer
 use Rattle.session_undo.specs.declared.reply.Reply.TheVariants as good
 use Rattle.session_undo.specs.declared.reply.StopPlace.{StopPlace}

@@ -18,26 +18,17 @@
 //! (`specs/Machine.antt`): which causes refuse a command, in their order, and what scene an accepted one
 //! leads to.
 //!
-//! Invariant of a [`Scene`] (`IsKeptHistory`): the engine's problem is that of the rows of what is held, at
-//! this scene and at each earlier one that is kept; and so its values are best (`layout_solver`).
+//! What solves a draft, and what a problem is of, is the scene's (`scenes`): a session finds the causes against
+//! a command, and tells what the scene's step came to.
 //!
-//! In reading order: `reply`, `limits`, `row_numbers`, `changes`; `item` is what is held, with `rows` (its
-//! rows), `coming`, `leaving`, `moving` and `suggesting` (what a change does to it); `scene` is what it comes
-//! to, with `past` (earlier scenes), `frames`, `values`, `drafts` (problems that no engine has taken),
-//! `problems` (those of a scene's changes), `solving` (the engine's changes) and `steps` (the scene's); then
-//! `session`.
+//! In reading order: `reply`, `limits`, `changes`, `session`.
 #![tactic(auto)]
 
 mod changes;
-mod item;
 mod limits;
 mod reply;
-mod row_numbers;
-mod scene;
 mod session;
 
-pub use item::{Item, WindowSize};
-pub use limits::Limits;
+pub use limits::{Limits, constants_are_as_said};
 pub use reply::{NoEarlier, Refusal, Reply, StopPlace};
-pub use scene::Scene;
 pub use session::Session;

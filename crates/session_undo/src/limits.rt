@@ -1,19 +1,11 @@
 // How much a session may hold, and how far a run may go.
-use version_list::VERSION_LIMIT;
+ghost use Rattle.session_undo.specs.Constants.{ConstantsAreAsSaid};
+
+use held_items::MOST_ROWS;
 use view_tree::VIEW_LIMIT;
 
 /// How many lines of groups a new session may hold.
 pub const MOST_LINES: usize = 2_000;
-
-/// How many rows a session may hold.
-pub const MOST_ROWS: usize = 2_000;
-
-/// How many earlier scenes are kept. A list of versions keeps one more: the scene before a command that is
-/// still tried.
-pub const EARLIER: usize = VERSION_LIMIT - 1;
-
-/// How many exchanges a run may make in a new session.
-pub const FIRST_BUDGET: u64 = 100_000;
 
 /// How many exchanges a run may be allowed.
 pub const BUDGET_LIMIT: u64 = 1_000_000_000_000_000_000;
@@ -32,3 +24,8 @@ pub const FIRST_LIMITS: Limits = Limits {
     lines: MOST_LINES,
     rows: MOST_ROWS,
 };
+
+/// The constants that definitions and clauses cite by name are these numbers.
+pub fn constants_are_as_said()
+    ensures { ConstantsAreAsSaid }
+{}

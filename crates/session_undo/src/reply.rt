@@ -4,7 +4,7 @@ ghost use Rattle.session_undo.specs.Adding.{refusal_of, answer_of, IsLeftAnswer,
 ghost use Rattle.session_undo.specs.Probed.{probe_refusal};
 
 use cert_core::{Best, Conflict, Path, RunStop, UnfitPath};
-use constraint_compile::KindWord;
+use compile_parts::KindWord;
 use diagnosis::{DiagnoseStop, Diagnosis};
 use frac_core::OutOfMemory;
 use layout_solver::RemoveStop;

@@ -2,26 +2,23 @@
 ghost use Rattle.std.specs.Prelude.{◌≡◌, ◌<◌, ◌≤◌, ◌⊎◌, true, false, length, None};
 ghost use Rattle.std.specs.Prelude.{Option, Some, ℕ, IfOk, IfErr, IfSome, IfNone, OnOk, OnErr};
 ghost use Rattle.session_undo.specs.declared.limits.TheConstants.{BUDGET_LIMIT};
-ghost use Rattle.session_undo.specs.declared.row_numbers.TheConstants.{SIZE_ROWS};
+ghost use Rattle.held_items.specs.declared.row_numbers.TheConstants.{SIZE_ROWS};
 
-use crate::changes::{fits_after, parent_or_window, put_metric};
-use crate::item::WindowSize;
-use crate::item::coming::NewViews;
-use crate::item::rows::small_line_rows;
-use crate::item::suggesting::{NewSuggestion, suggestion_name};
-use crate::limits::{BUDGET_LIMIT, FIRST_BUDGET, FIRST_LIMITS, Limits};
+use crate::changes::{parent_or_window, put_metric};
+use crate::limits::{BUDGET_LIMIT, FIRST_LIMITS, Limits};
 use crate::reply::{NoEarlier, Refusal, Reply, answer_of, left_answer, probe_refusal};
-use crate::row_numbers::{SIZE_ROWS, VIEW_ROWS};
-use crate::scene::Scene;
-use crate::scene::values::values_of;
-use constraint_compile::{
-    CompileStop, Compiled, KindWord, RankStop, Suggestion, compile_format, compile_line,
-    format_row_count, suggested_constant, suggested_rank,
-};
+use compile_parts::{CompileStop, KindWord, RankStop};
+use constraint_compile::{Compiled, Suggestion, compile_line, suggested_constant, suggested_rank};
+use format_compile::{compile_format, format_row_count};
 use frac_core::{Frac, OutOfMemory, Stop};
+use held_items::{
+    NewSuggestion, NewViews, SIZE_ROWS, VIEW_ROWS, WindowSize, fits_after, small_line_rows,
+    suggestion_name,
+};
 use layout_solver::{Change, Engine};
 use name_tables::{LimitWord, Metrics, NAME_LIMIT, OwnedName};
 use problem_core::{NUMBER_LIMIT, Problem, Row, Values};
+use scenes::{FIRST_BUDGET, Scene, values_of};
 use script_text::{Align, AttrWord, Command, Linear};
 use span_text::Object;
 use std::alloc::Global;
@@ -47,7 +44,7 @@ pub struct Session {
 }
 
 impl Model for Session {
-    ghost use Rattle.session_undo.specs.Scene.{State};
+    ghost use Rattle.session_undo.specs.State.{State};
     ghost use Rattle.session_undo.specs.Kept.{AreWithin, limits_of, session_at};
 
     ghost Value = { State };
@@ -78,25 +75,31 @@ impl Session {
     ghost use Rattle.view_tree.specs.Views.{view_of};
     ghost use Rattle.constraint_compile.specs.Compiled.{AreSmallForms};
     ghost use Rattle.constraint_compile.specs.Stops.{IsCompiled};
-    ghost use Rattle.constraint_compile.specs.Formats.FormatRows.{IsCompiledFormat};
-    ghost use Rattle.session_undo.specs.Attributes.{IsNextLine};
-    ghost use Rattle.session_undo.specs.Drafts.{AreComing, Posing, again_draft};
-    ghost use Rattle.session_undo.specs.Frames.{IsFrameOf};
-    ghost use Rattle.session_undo.specs.Scene.{first_state, with_line};
-    ghost use Rattle.session_undo.specs.Scene.{with_suggestion};
+    ghost use Rattle.format_compile.specs.FormatRows.{IsCompiledFormat};
+    ghost use Rattle.held_items.specs.Attributes.{IsNextLine};
+    ghost use Rattle.scenes.specs.Drafts.{AreComing, again_draft};
+    ghost use Rattle.session_undo.specs.Adding.{Posing};
+    ghost use Rattle.scenes.specs.Frames.{IsFrameOf};
+    ghost use Rattle.session_undo.specs.State.{first_state};
+    ghost use Rattle.scenes.specs.Scene.{with_line};
+    ghost use Rattle.scenes.specs.Scene.{with_suggestion};
     ghost use Rattle.session_undo.specs.Replies.{MayRefuse, Accepting, Refusing, Done, Limit};
     ghost use Rattle.session_undo.specs.Replies as reply;
-    ghost use Rattle.session_undo.specs.Items.{has_size};
+    ghost use Rattle.held_items.specs.Items.{has_size};
     ghost use Rattle.session_undo.specs.Machine.{IsTaken, TriedView, TriedTree, TriedMetric, TriedWindow};
     ghost use Rattle.session_undo.specs.Machine.{TriedConstraint, TriedFormat, TriedBudget, Tried};
-    ghost use Rattle.session_undo.specs.Machine.{MeaningStep, Poses, PosesScene, IsProblemOf};
-    ghost use Rattle.session_undo.specs.Machine.{FitsAfter, IsCrowded, Keeps, LeavesFree, Solves, SolvesFree};
+    ghost use Rattle.session_undo.specs.Machine.{MeaningStep, Poses, PosesScene};
+    ghost use Rattle.scenes.specs.Steps.{IsProblemOf};
+    ghost use Rattle.held_items.specs.Moving.{FitsAfter};
+    ghost use Rattle.session_undo.specs.Machine.{IsCrowded, Keeps, LeavesFree, Solves, SolvesFree};
     ghost use Rattle.session_undo.specs.Machine.{TriedDrop, TriedRelease, TriedRemove, TriedSuggest};
     ghost use Rattle.session_undo.specs.Machine.{Certifies, Diagnoses, Suggests, TriedUndo, UnlessRankless};
-    ghost use Rattle.session_undo.specs.Adding.{IsFreeSuggestion, IsHeldSuggestion, IsNearSuggestion};
-    ghost use Rattle.session_undo.specs.Adding.{IsNextSuggestion, IsSuggestionFor, IsSuggestionOf};
+    ghost use Rattle.session_undo.specs.Adding.{IsFreeSuggestion, IsHeldSuggestion};
+    ghost use Rattle.scenes.specs.Drafts.{IsNearSuggestion};
+    ghost use Rattle.scenes.specs.Drafts.{IsNextSuggestion};
+    ghost use Rattle.session_undo.specs.Adding.{IsSuggestionFor, IsSuggestionOf};
     ghost use Rattle.session_undo.specs.Adding.{SuggestStep};
-    ghost use Rattle.constraint_compile.specs.Meaning.{IsRank, unknown_object};
+    ghost use Rattle.compile_parts.specs.Meaning.{IsRank, unknown_object};
     ghost use Rattle.constraint_compile.specs.Suggestions.{suggested_priority};
     ghost use Rattle.span_text.specs.Objects.{object_view};
     ghost use Rattle.span_text.specs.Objects.{Meant};
@@ -715,7 +718,7 @@ impl Session {
         ensures accepted { Accepting (Certifies self.now Keeps) self.now result }
         ensures refused { Refusing (Certifies self.now Keeps) self.now result }
     {
-        Ok(Reply::Certificate(self.scene.engine().certificate()?))
+        Ok(Reply::Certificate(self.scene.certificate()?))
     }
 
     /// Takes the latest earlier scene back, which takes no memory. The budget is as before.

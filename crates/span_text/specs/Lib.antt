@@ -10,3 +10,4 @@ pub mod Multiples
 pub mod Objects
 pub mod Reading
 pub mod Tokens
+pub mod Constants

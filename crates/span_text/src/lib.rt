@@ -34,7 +34,10 @@ mod token;
 mod word;
 
 pub use cut::{lines, tokens};
-pub use limits::{DECIMALS, HUNDREDTH, NUMBER_DIGITS, RATIO_DIGITS, TENTH, UNIT, WHOLE_DIGITS};
+pub use limits::{
+    DECIMALS, HUNDREDTH, NUMBER_DIGITS, RATIO_DIGITS, TENTH, UNIT, WHOLE_DIGITS,
+    constants_are_as_said,
+};
 pub use line::{Line, Lines, without_return};
 pub use multiples::{Multiple, number_or_ratio};
 pub use object::Object;

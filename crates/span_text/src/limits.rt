@@ -1,4 +1,5 @@
 // How numbers are written.
+ghost use Rattle.span_text.specs.Constants.{ConstantsAreAsSaid};
 
 /// One, in thousandths.
 pub const UNIT: u32 = 1000;
@@ -20,3 +21,8 @@ pub const RATIO_DIGITS: usize = 4;
 
 /// How many digits a whole number may have that counts something.
 pub const WHOLE_DIGITS: usize = 19;
+
+/// The constants that definitions and clauses cite by name are these numbers.
+pub fn constants_are_as_said()
+    ensures { ConstantsAreAsSaid }
+{}

@@ -9,7 +9,7 @@ use crate::limits::{NUMBER_DIGITS, RATIO_DIGITS};
 use crate::{names, numbers, pieces};
 
 /// What a multiplier may be: a number in thousandths, or a ratio of two whole numbers as it is written.
-#[derive(Clone, Copy, Debug, PartialEq, Eq)]
+#[derive(Clone, Copy)]
 pub enum Multiple {
     Number { thousandths: u32 },
     Ratio { above: u32, below: u32 },

@@ -8,7 +8,7 @@ ghost use Rattle.span_text.specs.TextCuts.Cutting.{IsToken, IsOther, begins_rela
 use crate::pieces;
 
 /// A token: the slice of its line from `start` to `end`.
-#[derive(Clone, Copy, Debug, PartialEq, Eq)]
+#[derive(Clone, Copy)]
 pub struct Token<'a> {
     pub text: &'a str,
     pub start: usize,

@@ -8,7 +8,7 @@
 //! ```
 //!
 //! A [`Format`] says what was written and no more: what a name stands for, and what the usual space is,
-//! `constraint_compile` says. Its names are slices of the text.
+//! `format_compile` says. Its names are slices of the text.
 //!
 //! What [`read`] and [`write`] keep: a text has one reading at most, a format that was read has one
 //! connection fewer than views between its views, and its canonical text is read as that format again.

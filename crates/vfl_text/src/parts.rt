@@ -6,14 +6,14 @@ use problem_core::Rel;
 use span_text::Object;
 
 /// The direction of a format.
-#[derive(Clone, Copy, Debug, PartialEq, Eq)]
+#[derive(Clone, Copy)]
 pub enum Axis {
     H,
     V,
 }
 
 /// What a size or a space is to be, and how strongly: with no priority it is required.
-#[derive(Clone, Copy, Debug, PartialEq, Eq)]
+#[derive(Clone, Copy)]
 pub struct Pred<'a> {
     pub rel: Rel,
     pub object: Object<'a>,
@@ -21,7 +21,7 @@ pub struct Pred<'a> {
 }
 
 /// A connection of two neighbours.
-#[derive(Debug, Drop)]
+#[derive(Drop)]
 pub enum Spacing<'a> {
     /// No space.
     Flush,
@@ -32,14 +32,14 @@ pub enum Spacing<'a> {
 }
 
 /// A view and what its size along the format is to be.
-#[derive(Debug, Drop)]
+#[derive(Drop)]
 pub struct Item<'a> {
     pub name: &'a str,
     pub sizes: Vec<Pred<'a>>,
 }
 
 /// A row or a column of views, from left to right or from top to bottom. A parent may stand at either end.
-#[derive(Debug, Drop)]
+#[derive(Drop)]
 pub struct Format<'a> {
     pub axis: Axis,
     pub from_parent: Option<Spacing<'a>>,

@@ -1,5 +1,5 @@
 -- What a plan says of its tree.
-use Rattle.std.proofs.Common.{◌≡◌, ◌||◌, ℕ, zero, suc, ◌+◌, ◌-◌, ◌<◌, ◌≤◌, Bool, true, false, cond, not, List, [], ◌∷◌, ◌++◌, Option, None, Some, IsSome, is_some, add-one, length, map, drop, take, get_or, nat_eq, nat_lt, position, unwrap_or, refl, sym, ap, subst, ◌∙◌, true≢false, arith, append_assoc, append-nil, length-append}
+use Rattle.std.proofs.Common.{◌≡◌, ◌||◌, ℕ, zero, suc, ◌+◌, ◌-◌, ◌<◌, ◌≤◌, Bool, true, false, cond, not, List, [], ◌∷◌, ◌++◌, Option, None, Some, IsSome, is_some, Result, Ok, Err, IfErr, add-one, length, map, drop, take, get_or, nat_eq, nat_lt, position, unwrap_or, refl, sym, ap, subst, ◌∙◌, true≢false, arith, append_assoc, append-nil, length-append}
 use Rattle.std.proofs.lemmas.Bool.{eqb-true}
 use Rattle.std.proofs.lemmas.Bool.Decides.{nat_tests}
 use Rattle.std.proofs.lemmas.Grind.{common_steps}
@@ -14,10 +14,9 @@ use Rattle.frac_core.specs.Fraction.{Fraction}
 use Rattle.name_tables.specs.Names.{names_of, value_of}
 use Rattle.name_tables.specs.declared.stops.LimitWord.{LimitWord}
 use Rattle.name_tables.specs.declared.stops.LimitWord.TheVariants.{Name, Views, Depth}
-use Rattle.serde_json.specs.Data.{Data}
-use Rattle.view_tree.specs.JsonStops.{AreFree, AreShort, GoesIn, IsFirstHeld, IsGrown, IsWithin, MayStayOut, PassesTreeLimit, has_room, is_held}
-use Rattle.view_tree.specs.JsonTrees.{IsJson, IsTreeText, JsonTree, names, size, tree_of}
-use Rattle.view_tree.specs.Plans.{AreNew, IsPlanOf, grown, names_of_plan, id_named, pair_of, pairs_of}
+use Rattle.view_tree.specs.JsonStops.{AreFree, AreShort, GoesIn, IsAddable, IsFirstHeld, IsGrown, IsWithin, MayStayOut, PassesTreeLimit, has_room, is_held}
+use Rattle.view_tree.specs.JsonTrees.{IsTreeText, JsonTree, names, size}
+use Rattle.view_tree.specs.Plans.{AreNew, IsPlanOf, PlanGoesIn, grown, names_of_plan, id_named, pair_of, pairs_of}
 use Rattle.view_tree.specs.Stops.{IsNewView, PassesLimit}
 use Rattle.view_tree.specs.Views.{AreAbove, IsAtDepth, IsTree, LiveView, ViewTree, view_named, view_of, with_view}
 use Rattle.view_tree.specs.declared.stops.TreeStop.TheVariants as stop
@@ -222,49 +221,46 @@ is_parent t up parent e = by (view_named t.views up) e
 
 -- ---- the whole call
 
--- the tree of a text, of which this is the plan
-pub record Reads (text : List ℕ) (plan : Plan) : Type 0 where
-  pub tree : JsonTree
-  pub from_text : IsTreeText text tree
-  pub planned : IsPlanOf plan tree
+module _ (t : ViewTree) (metrics : List (List ℕ × Fraction)) (plan : Plan) (tree : JsonTree) (planned : IsPlanOf plan tree) where
+  free_names : AreFree t metrics [] (names_of_plan plan.views.items) → AreFree t metrics [] (names tree.branch)
+  free_names free = subst (AreFree t metrics []) (names_are plan tree planned) free
 
-pub reads : (text : List ℕ) (d : Data) (plan : Plan) → IsJson text d → (tree : JsonTree) × (tree_of d ≡ Some tree) × IsPlanOf plan tree → Reads text plan
-reads text d plan json is = record { tree = is.0; from_text = record { value = d; json = json; shape = is.1 }; planned = is.2 }
+  goes_in : (parent : ℕ) → PlanGoesIn t plan parent → GoesIn t tree parent
+  goes_in parent found = ap (λ n. option_map (λ v. v.id) (view_named t.views n)) (sym planned.place) ∙ sym found
 
-module _ (t : ViewTree) (metrics : List (List ℕ × Fraction)) (text : List ℕ) (plan : Plan) (read : Reads text plan) (parent : ℕ) (found : Some parent ≡ option_map (λ v. v.id) (view_named t.views plan.place.now)) where
-  goes : GoesIn t read.tree parent
-  goes = ap (λ n. option_map (λ v. v.id) (view_named t.views n)) (sym read.planned.place) ∙ sym found
+  pub taken_by : (text : List ℕ) → IsTreeText text tree → IsSome (view_named t.views plan.place.now) → (name : List ℕ) → IsFirstHeld t metrics (names_of_plan plan.views.items) name
+      → (held : List ℕ) → held ≡ name → MayStayOut t metrics text (stop.Taken held)
+  taken_by text from placed name first held is = (
+    tree,
+    from,
+    subst (λ n. IsSome (view_named t.views n)) planned.place placed,
+    subst (λ n. IsFirstHeld t metrics (names tree.branch) n) (sym is) (subst (λ ns. IsFirstHeld t metrics ns name) (names_are plan tree planned) first),
+  )
 
-  placed : IsSome (view_named t.views read.tree.place)
-  placed = some_mapped (λ (v : LiveView). v.id) (view_named t.views read.tree.place) parent goes
+  pub limited_by : (text : List ℕ) → IsTreeText text tree → (parent : ℕ) → PlanGoesIn t plan parent → AreFree t metrics [] (names_of_plan plan.views.items)
+      → (limit : LimitWord) → PassesTreeLimit t parent tree.branch limit → MayStayOut t metrics text (stop.Limit limit)
+  limited_by text from parent found free limit passes = (tree, from, (parent, goes_in parent found, free_names free, passes))
 
-  pub taken_by : (views : List Planned) → views ≡ plan.views.items → (name : List ℕ) → IsFirstHeld t metrics (names_of_plan views) name → (held : List ℕ) → held ≡ name
-      → MayStayOut t metrics text (stop.Taken held)
-  taken_by views are name first held is = (read.tree, read.from_text, placed, subst (λ n. IsFirstHeld t metrics (names read.tree.branch) n) (sym is) (subst (λ ns. IsFirstHeld t metrics ns name) (ap names_of_plan are ∙ names_are plan read.tree read.planned) first))
+  pub new_views : IsAddable t metrics plan → AreNew t (pairs_of plan.views.items)
+  new_views may = subst (AreNew t) (sym planned.pairs) (AreNew-pairs t metrics tree.place may.parent tree.branch may.whole (goes_in may.parent may.goes) (free_names may.free) (may.within tree planned))
 
-  free_names : (views : List Planned) → views ≡ plan.views.items → AreFree t metrics [] (names_of_plan views) → AreFree t metrics [] (names read.tree.branch)
-  free_names views are free = subst (AreFree t metrics []) (ap names_of_plan are ∙ names_are plan read.tree read.planned) free
+  pub few_views : IsAddable t metrics plan → length plan.views.items ≤ 200
+  few_views may = omega (arith, (room_for t (size tree.branch) (may.within tree planned).room).0, count_is plan tree planned)
 
-  pub limited_by : (views : List Planned) → views ≡ plan.views.items → AreFree t metrics [] (names_of_plan views) → (limit : LimitWord) → PassesTreeLimit t parent read.tree.branch limit → MayStayOut t metrics text (stop.Limit limit)
-  limited_by views are free limit passes = (read.tree, read.from_text, (parent, goes, free_names views are free, passes))
-
-  pub new_views : (views : List Planned) → views ≡ plan.views.items → AreFree t metrics [] (names_of_plan views) → IsTree t → IsWithin t parent read.tree.branch
-      → (others : List Planned) → others ≡ plan.views.items → AreNew t (pairs_of others)
-  new_views views are free whole within others same =
-      subst (AreNew t) (sym (ap pairs_of same ∙ read.planned.pairs)) (AreNew-pairs t metrics read.tree.place parent read.tree.branch whole goes (free_names views are free) within)
-
-  pub few_views : IsWithin t parent read.tree.branch → length plan.views.items ≤ 200
-  few_views within = omega (arith, (room_for t (size read.tree.branch) within.room).0, count_is plan read.tree read.planned)
-
-  pub is_grown : (views : List Planned) → views ≡ plan.views.items → AreFree t metrics [] (names_of_plan views) → IsTree t → IsWithin t parent read.tree.branch
-      → (others : List Planned) → others ≡ plan.views.items → (new : ViewTree) → new ≡ grown t (pairs_of others) → (count : ℕ) → count ≡ length plan.views.items → IsGrown t metrics text new count
-  is_grown views are free whole within others same new is count counts = record {
-    tree = read.tree;
-    parent = parent;
-    read = read.from_text;
-    goes = goes;
-    free = free_names views are free;
-    within = within;
-    grown = is ∙ ap (grown t) (ap pairs_of same ∙ read.planned.pairs) ∙ grown-pairs t metrics read.tree.place parent read.tree.branch whole goes (free_names views are free) within;
-    counted = counts ∙ count_is plan read.tree read.planned;
+  pub is_grown : IsAddable t metrics plan → (text : List ℕ) → IsTreeText text tree → (new : ViewTree) → new ≡ grown t (pairs_of plan.views.items)
+      → (count : ℕ) → count ≡ length plan.views.items → IsGrown t metrics text new count
+  is_grown may text from new is count counts = record {
+    tree = tree;
+    parent = may.parent;
+    read = from;
+    goes = goes_in may.parent may.goes;
+    free = free_names may.free;
+    within = may.within tree planned;
+    grown = is ∙ ap (grown t) planned.pairs ∙ grown-pairs t metrics tree.place may.parent tree.branch may.whole (goes_in may.parent may.goes) (free_names may.free) (may.within tree planned);
+    counted = counts ∙ count_is plan tree planned;
   }
+
+-- what each stop of one kind is of another
+pub stop_then : {T E : Type 0} (r : Result T E) (P Q : E → Type 0) → ((e : E) → P e → Q e) → IfErr r P → IfErr r Q
+stop_then (Ok x) P Q f h = tt
+stop_then (Err e) P Q f h = f e h

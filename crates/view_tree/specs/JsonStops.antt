@@ -12,8 +12,10 @@ use Rattle.name_tables.specs.declared.stops.TheConstants.{NAME_LIMIT}
 use Rattle.serde_json.specs.Data.{Data}
 use Rattle.view_tree.specs.JsonTrees.{Branch, IsJson, IsTreeText, JsonTree}
 use Rattle.view_tree.specs.JsonTrees.{height, names, size, tree_of, with_branch}
-use Rattle.view_tree.specs.Views.{ViewTree, IsAtDepth, view_named}
+use Rattle.view_tree.specs.Plans.{IsPlanOf, PlanGoesIn, names_of_plan}
+use Rattle.view_tree.specs.Views.{ViewTree, IsAtDepth, IsTree, view_named}
 use Rattle.view_tree.specs.declared.limits.TheConstants.{DEPTH_LIMIT, ID_LIMIT, VIEW_LIMIT}
+use Rattle.view_tree.specs.declared.plan.Plan.{Plan}
 use Rattle.view_tree.specs.declared.stops.TreeStop.{TreeStop}
 use Rattle.view_tree.specs.declared.stops.TreeStop.TheVariants.{Syntax, Shape, Unknown, Taken, Limit}
 use Rattle.view_tree.specs.declared.stops.TreeStop.TheVariants.{OutOfMemory}
@@ -90,3 +92,16 @@ MayStayOut t metrics text (Limit word) = (tree : JsonTree) × IsTreeText text tr
     × PassesTreeLimit t parent tree.branch word)
 -- want of memory says nothing of the text
 MayStayOut t metrics text OutOfMemory = Unit {0}
+
+-- a text whose tree the plan is may be refused
+abbrev pub MayLeaveOut : ViewTree → List (List ℕ × Fraction) → Plan → TreeStop → Type 0
+MayLeaveOut t metrics plan stop = (text : List ℕ) (tree : JsonTree) → IsTreeText text tree
+    → IsPlanOf plan tree → MayStayOut t metrics text stop
+
+-- the views of the plan may be added below this view
+pub record IsAddable (t : ViewTree) (metrics : List (List ℕ × Fraction)) (plan : Plan) : Type 0 where
+  pub parent : ℕ
+  pub goes : PlanGoesIn t plan parent
+  pub free : AreFree t metrics [] (names_of_plan plan.views.items)
+  pub whole : IsTree t
+  pub within : (tree : JsonTree) → IsPlanOf plan tree → IsWithin t parent tree.branch

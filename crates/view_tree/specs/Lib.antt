@@ -7,3 +7,4 @@ pub mod Plans
 pub mod Stops
 pub mod Views
 pub mod Laws
+pub mod Constants

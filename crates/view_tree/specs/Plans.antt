@@ -1,6 +1,6 @@
 -- The views of a branch one by one.
-use Rattle.std.specs.Prelude.{◌≡◌, ◌+◌, ℕ, List, [], ◌∷◌, ◌++◌, IsSome, length, map}
-use Rattle.std.specs.Option.{option_map_or}
+use Rattle.std.specs.Prelude.{◌≡◌, ◌+◌, ℕ, List, [], ◌∷◌, ◌++◌, Some, IsSome, length, map}
+use Rattle.std.specs.Option.{option_map, option_map_or}
 use Rattle.view_tree.specs.JsonTrees.{Branch, branch, Branches, no_branches, more, JsonTree, height}
 use Rattle.view_tree.specs.Stops.{IsNewView}
 use Rattle.view_tree.specs.Views.{LiveView, ViewTree, IsTree, view_named, with_view}
@@ -33,6 +33,14 @@ pub record IsPlanOf (plan : Plan) (tree : JsonTree) : Type 0 where
   pub place : plan.place.now ≡ tree.place
   pub pairs : pairs_of plan.views.items ≡ pairs tree.place tree.branch
   pub height : plan.height ≡ height tree.branch
+
+-- the plan is that of some tree
+abbrev pub IsPlan : Plan → Type 0
+IsPlan plan = (tree : JsonTree) × IsPlanOf plan tree
+
+-- the number of the view that the plan's views go in
+abbrev pub PlanGoesIn : ViewTree → Plan → ℕ → Type 0
+PlanGoesIn t plan parent = Some parent ≡ option_map (λ v. v.id) (view_named t.views plan.place.now)
 
 -- the number of the live view of this name, and 0 where there is none
 abbrev pub id_named : ViewTree → List ℕ → ℕ

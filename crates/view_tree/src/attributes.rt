@@ -6,7 +6,7 @@ ghost use Rattle.view_tree.specs.declared.limits.TheConstants.{ID_LIMIT};
 use crate::view::ViewId;
 
 /// The numbers of a view's attributes.
-#[derive(Clone, Copy, Debug, PartialEq, Eq)]
+#[derive(Clone, Copy)]
 pub struct Attributes {
     pub left: u32,
     pub top: u32,

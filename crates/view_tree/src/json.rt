@@ -1,18 +1,20 @@
 // Views from JSON.
-ghost use Rattle.std.specs.Prelude.{◌≡◌, ◌<◌, ◌≤◌, ◌+◌, ℕ, [], IsSome, IfOk, IfSome, IfNone};
+ghost use Rattle.std.specs.Prelude.{◌≡◌, ◌<◌, ◌≤◌, ◌+◌, ℕ, List, [], Some, IsSome, IfOk, IfSome, IfNone};
 ghost use Rattle.std.specs.Prelude.{IfErr, OnOk, OnErr, true, false, length, nat_lt};
 ghost use Rattle.std.specs.List.{list_any};
+ghost use Rattle.frac_core.specs.Fraction.{Fraction};
 ghost use Rattle.serde_json.specs.Data.{Data};
 ghost use Rattle.serde_json.specs.View.{view};
 ghost use Rattle.name_tables.specs.Names.{names_of};
 ghost use Rattle.name_tables.specs.declared.stops.TheConstants.{NAME_LIMIT};
 ghost use Rattle.view_tree.specs.JsonStops.{AreFree, IsFirstHeld, IsGrown, IsWithin, MayStayOut};
-ghost use Rattle.view_tree.specs.JsonStops.{PassesTreeLimit, has_room, is_held};
-ghost use Rattle.view_tree.specs.JsonTrees.{IsJson, JsonTree};
-ghost use Rattle.view_tree.specs.Plans.{AreNew, IsPlanOf, grown, names_of_plan, id_named, pairs_of};
+ghost use Rattle.view_tree.specs.JsonStops.{IsAddable, MayLeaveOut, PassesTreeLimit, has_room, is_held};
+ghost use Rattle.view_tree.specs.JsonTrees.{IsJson, IsTreeText, JsonTree, tree_of};
+ghost use Rattle.view_tree.specs.Plans.{AreNew, IsPlan, IsPlanOf, PlanGoesIn, grown, names_of_plan};
+ghost use Rattle.view_tree.specs.Plans.{id_named, pairs_of};
 ghost use Rattle.view_tree.specs.Stops.{IsNewView};
 ghost use Rattle.view_tree.specs.declared.limits.TheConstants.{DEPTH_LIMIT};
-ghost use Rattle.view_tree.specs.Views.{IsAtDepth, IsTree, view_named, view_of, with_view};
+ghost use Rattle.view_tree.specs.Views.{IsAtDepth, IsTree, ViewTree, view_named, view_of, with_view};
 
 use crate::limits::{DEPTH_LIMIT, ID_LIMIT, VIEW_LIMIT};
 use crate::plan::{Plan, Planned, plan_of};
@@ -36,6 +38,20 @@ fn value_of(alloc: Global, text: &[u8]) -> Result<Option<Value>, OutOfMemory>
         } else {
             Ok(None)
         },
+    }
+}
+
+// The plan of a value that has the shape of a tree.
+fn shaped(alloc: Global, value: &Value) -> Result<Plan<'_>, TreeStop>
+    ensures planned { IfOk result (λ plan. (tree : JsonTree) × (tree_of (view value.now) ≡ Some tree)
+        × IsPlanOf plan tree) }
+    ensures stop { IfErr result (λ stop. (t : ViewTree) (metrics : List (List ℕ × Fraction))
+        (text : List ℕ) → IsJson text (view value.now) → MayStayOut t metrics text stop) }
+{
+    match plan_of(alloc, value) {
+        Ok(plan) => Ok(plan),
+        Err(Stop::Refused(_)) => Err(TreeStop::Shape),
+        Err(Stop::OutOfMemory) => Err(TreeStop::OutOfMemory),
     }
 }
 
@@ -161,6 +177,58 @@ impl Tree {
         Ok(())
     }
 
+    // The view that a plan goes in.
+    fn parent_of(&self, plan: &Plan<'_>) -> Result<ViewId, TreeStop>
+        ensures found { IfOk result (λ parent. PlanGoesIn self.now plan.now parent.0) }
+        ensures stop { IfErr result (λ stop. (metrics : List (List ℕ × Fraction))
+            → MayLeaveOut self.now metrics plan.now stop) }
+    {
+        let Some(parent) = self.find(plan.place) else {
+            let name = OwnedName::of(self.allocator(), plan.place.as_bytes())?;
+            return Err(TreeStop::Unknown(name));
+        };
+        Ok(parent)
+    }
+
+    // That none of a plan's names is held.
+    fn holds_none(&self, plan: &Plan<'_>, metrics: &Metrics) -> Result<(), TreeStop>
+        requires { IsSome (view_named self.now.views plan.now.place.now) }
+        ensures free { OnOk result (AreFree self.now metrics.now [] (names_of_plan plan.now.views.items)) }
+        ensures stop { IfErr result (MayLeaveOut self.now metrics.now plan.now) }
+    {
+        let Some(name) = self.first_held(&plan.views, metrics)? else {
+            return Ok(());
+        };
+        let name = OwnedName::of(self.allocator(), name.as_bytes())?;
+        Err(TreeStop::Taken(name))
+    }
+
+    // That the views of a plan may be added.
+    fn may_add(&self, plan: &Plan<'_>, metrics: &Metrics) -> Result<(), TreeStop>
+        ensures addable { OnOk result (IsAddable self.now metrics.now plan.now) }
+        ensures stop { IfErr result (MayLeaveOut self.now metrics.now plan.now) }
+    {
+        let parent = self.parent_of(plan)?;
+        self.holds_none(plan, metrics)?;
+        match self.plan_limit(plan, parent) {
+            Some(word) => Err(TreeStop::Limit(word)),
+            None => Ok(()),
+        }
+    }
+
+    // Adds the views of a plan, and answers how many they are.
+    fn add_plan(&mut self, plan: &Plan<'_>, metrics: &Metrics) -> Result<u32, TreeStop>
+        requires { IsPlan plan.now }
+        ensures grown { IfOk result (λ count. (text : List ℕ) (tree : JsonTree) → IsTreeText text tree
+            → IsPlanOf plan.now tree → IsGrown self.old metrics.now text self.new count) }
+        ensures refused { IfErr result (MayLeaveOut self.old metrics.now plan.now) }
+        ensures unchanged { OnErr result (self.new ≡ self.old) }
+    {
+        self.may_add(plan, metrics)?;
+        self.add_all(&plan.views)?;
+        Ok(plan.views.len() as u32)
+    }
+
     /// Adds the views of a tree that is written as JSON, each before those in it, and answers how many they
     /// are.
     ///
@@ -182,23 +250,7 @@ impl Tree {
         let Some(value) = value_of(alloc, json)? else {
             return Err(TreeStop::Syntax);
         };
-        let plan = match plan_of(alloc, &value) {
-            Ok(plan) => plan,
-            Err(Stop::Refused(_)) => return Err(TreeStop::Shape),
-            Err(Stop::OutOfMemory) => return Err(TreeStop::OutOfMemory),
-        };
-        let Some(parent) = self.find(plan.place) else {
-            let name = OwnedName::of(alloc, plan.place.as_bytes())?;
-            return Err(TreeStop::Unknown(name));
-        };
-        if let Some(name) = self.first_held(&plan.views, metrics)? {
-            let name = OwnedName::of(alloc, name.as_bytes())?;
-            return Err(TreeStop::Taken(name));
-        }
-        if let Some(word) = self.plan_limit(&plan, parent) {
-            return Err(TreeStop::Limit(word));
-        }
-        self.add_all(&plan.views)?;
-        Ok(plan.views.len() as u32)
+        let plan = shaped(alloc, &value)?;
+        self.add_plan(&plan, metrics)
     }
 }

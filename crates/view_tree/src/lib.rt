@@ -31,7 +31,7 @@ mod view;
 
 pub use attributes::Attributes;
 pub use laws::{depth_is_unique, numbers_rise};
-pub use limits::{DEPTH_LIMIT, ID_LIMIT, VIEW_LIMIT};
+pub use limits::{DEPTH_LIMIT, ID_LIMIT, VIEW_LIMIT, constants_are_as_said};
 pub use stops::{TreeStop, ViewStop};
 pub use tree::Tree;
 pub use view::{View, ViewId};

@@ -1,4 +1,5 @@
 // The limits of a tree.
+ghost use Rattle.view_tree.specs.Constants.{ConstantsAreAsSaid};
 
 /// How many views may be live, the window counted.
 pub const VIEW_LIMIT: usize = 200;
@@ -9,3 +10,8 @@ pub const ID_LIMIT: u32 = 1 << 29;
 
 /// The greatest depth of a view. The window's is 1.
 pub const DEPTH_LIMIT: u32 = 32;
+
+/// The constants that definitions and clauses cite by name are these numbers.
+pub fn constants_are_as_said()
+    ensures { ConstantsAreAsSaid }
+{}

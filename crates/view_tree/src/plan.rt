@@ -15,14 +15,14 @@ use span_text::names;
 use std::alloc::Global;
 
 /// A view to be made, and the name of its parent.
-#[derive(Clone, Copy, Debug)]
+#[derive(Clone, Copy)]
 pub(crate) struct Planned<'v> {
     pub name: &'v str,
     pub parent: &'v str,
 }
 
 /// What a JSON value makes: views in preorder, and their height, below the view of the name `place`.
-#[derive(Debug, Drop)]
+#[derive(Drop)]
 pub(crate) struct Plan<'v> {
     pub place: &'v str,
     pub views: Vec<Planned<'v>>,
@@ -30,7 +30,7 @@ pub(crate) struct Plan<'v> {
 }
 
 /// The value has another shape than a tree.
-#[derive(Clone, Copy, Debug, PartialEq, Eq)]
+#[derive(Clone, Copy)]
 pub(crate) struct Misshapen;
 
 // Whether the text is a name.

@@ -19,7 +19,7 @@ use std::alloc::Global;
 use std::marker::Model;
 
 /// What is kept under a view's name.
-#[derive(Clone, Copy, Debug)]
+#[derive(Clone, Copy)]
 pub(crate) struct Node {
     id: ViewId,
     parent: Option<ViewId>,

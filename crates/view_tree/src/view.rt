@@ -5,7 +5,7 @@
 pub struct ViewId(pub u32);
 
 /// A live view. The window alone has no parent.
-#[derive(Clone, Copy, Debug)]
+#[derive(Clone, Copy)]
 pub struct View<'a> {
     pub id: ViewId,
     pub name: &'a str,

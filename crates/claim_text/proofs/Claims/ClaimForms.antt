@@ -3,23 +3,21 @@ use Rattle.std.proofs.Common.{◌≡◌, ◌∙◌, ℕ, ◌+◌, ◌<◌, List,
 use Rattle.std.specs.Prelude.{AllPairs}
 use Rattle.std.proofs.lemmas.List.{append_assoc, append-nil, length-append, map-append}
 use Rattle.std.proofs.lemmas.List.Elements.{All-append, All-from_recursion, All-nil}
-use Rattle.std.proofs.lemmas.List.Splits.{join_with_byte-slice_split}
-use Rattle.std.specs.List.{join_with_byte}
 use Rattle.frac_core.specs.Fraction.{Fraction}
 use Rattle.cert_core.specs.declared.by.By.{By}
 use Rattle.cert_core.specs.Claims.{BestLevel}
 use Rattle.claim_text.specs.declared.claim.lines.ClaimLine.{ClaimLine}
 use Rattle.claim_text.specs.declared.claim.lines.ClaimLine.TheVariants.{OfValue, OfBest, OfConflict, OfLevel, OfBy, OfPath, OfPart}
-use Rattle.claim_text.specs.declared.claim.lines.LevelLine.{LevelLine}
+use Rattle.claim_writing.specs.declared.claim.LevelLine.{LevelLine}
 use Rattle.claim_text.specs.declared.claim.draft.Stage.{Stage}
 use Rattle.claim_text.specs.declared.claim.draft.Stage.TheVariants.{Values, Levels, Bys, Conflict, Path}
-use Rattle.claim_text.specs.declared.claim.Claim.{Claim}
-use Rattle.claim_text.specs.declared.claim.Claim.TheVariants.{IsBest, IsConflict, IsPath}
-use Rattle.claim_text.specs.Stops.{bad_line}
-use Rattle.claim_text.specs.Words.{line_of, words}
-use Rattle.claim_text.specs.Claims.ClaimLines.{IsValue, best_lines, best_words, by_line, conflict_words, level_line, lines_of_levels, value_line}
+use Rattle.claim_writing.specs.declared.claim.Claim.{Claim}
+use Rattle.claim_writing.specs.declared.claim.Claim.TheVariants.{IsBest, IsConflict, IsPath}
+use Rattle.problem_reading.specs.Stops.{bad_line}
+use Rattle.claim_writing.specs.Words.{line_of}
+use Rattle.claim_writing.specs.ClaimLines.{IsValue, best_lines, best_words, by_line, conflict_words, level_line, lines_of_levels, value_line}
 use Rattle.claim_text.specs.Claims.ClaimTexts.{Draft, Ends, TakesBys, TakesLevels, IsBestWritten, IsDraft, IsLevelRead, MayFollow, ReadFrom, Reads, Says, Step, IsClaimStop, closed, nothing_read, with_line}
-use Rattle.claim_text.specs.Names.{IsLevelBefore}
+use Rattle.claim_writing.specs.Names.{IsLevelBefore}
 use Rattle.std.proofs.Common.{Bool, Option, suc}
 use Rattle.std.specs.Str.Lines.{lines}
 use Rattle.std.proofs.lemmas.List.{length-map}
@@ -27,14 +25,15 @@ use Rattle.problem_core.specs.declared.stops.Quantity.{Quantity}
 use Rattle.problem_core.specs.Corners.{Swap}
 use Rattle.claim_text.specs.declared.claim.path_lines.PathLine.{PathLine}
 use Rattle.claim_text.specs.declared.claim.path_lines.PathLine.TheVariants.{OfIn, OfSwap, OfUnfit}
-use Rattle.claim_text.specs.Paths.PathTexts.{kind_words, in_words, swap_words, unfit_words, in_line, swap_line, unfit_line, path_lines, unfit_lines}
+use Rattle.claim_writing.specs.PathTexts.{kind_words, in_words, swap_words, unfit_words, in_line, swap_line, unfit_line, path_lines, unfit_lines}
 use Rattle.claim_text.specs.Paths.PathForms.{PathDraft, SaysPart, PartMayFollow, path_of, with_part}
 use Rattle.claim_text.specs.Claims.ClaimTexts.{HasNoMoreParts, IsStage, stage_with}
-use Rattle.claim_text.proofs.Problems.Readings.{lines_count}
+use Rattle.problem_reading.proofs.LineLists.{longer, same-number, line-is}
+use Rattle.problem_reading.proofs.Problems.Readings.{lines_count}
 use Rattle.claim_text.proofs.Claims.ClaimReadings.{draft_nothing, draft_read, no_bad_line, one_reading, read_more, read_split as read-split}
 use Rattle.claim_text.proofs.Claims.ClaimRoundTrip.{reads_lines}
 use Rattle.claim_text.specs.Claims.ClaimForms.{AreLinesOf, ClaimsAreTheForm, IsFirstOutside, IsFront, LeavesForm}
-use Rattle.claim_text.proofs.Claims.LevelTexts.{lines_of_levels-append as levels-more}
+use Rattle.claim_writing.proofs.LevelTexts.{lines_of_levels-append as levels-more}
 
 -- ---- the lines of a draft
 
@@ -57,10 +56,6 @@ record Says-so (d : Draft) (ls : List (List ℕ)) : Type 0 where
   lines : ls ≡ stage_lines d.stage d.values d.levels d.bys
   values : All IsValue d.values
   start : IsStart d.stage d.levels d.bys
-
--- a line is that of its words
-pub line-is : (line : List ℕ) (ws : List (List ℕ)) → words line ≡ ws → line ≡ line_of ws
-line-is line ws e = sym (join_with_byte-slice_split 32 line) ∙ ap (join_with_byte 32) e
 
 -- a level and multipliers
 abbrev level_of : LevelLine → List By → BestLevel
@@ -355,26 +350,6 @@ outside-at all before (line ∷ more) n parts number front leaves =
 
 -- ---- one line alone
 
-head-of : {X : Type 0} {x y : X} {xs ys : List X} → (x ∷ xs) ≡ (y ∷ ys) → (x ≡ y) × (xs ≡ ys)
-head-of {X = X} {x = x} {xs = xs} e = (ap first e, ap rest e)
-  where
-    first : List X → X
-    first [] = x
-    first (z ∷ zs) = z
-
-    rest : List X → List X
-    rest [] = xs
-    rest (z ∷ zs) = zs
-
--- of two fronts of a list the longer begins with the shorter, and with the element behind it
-pub longer : {X : Type 0} (a b : List X) (x : X) (us vs : List X) → a ++ x ∷ us ≡ b ++ vs → length a < length b → (rest : List X) × (b ≡ (a ++ x ∷ []) ++ rest)
-longer a [] x us vs e less = absurd (omega (arith, less))
-longer [] (y ∷ b) x us vs e less = (b, ap (λ (z : _). z ∷ b) (sym (head-of e).0))
-longer (z ∷ a) (y ∷ b) x us vs e less =
-    let same = head-of e in
-    let more = longer a b x us vs same.1 (omega (arith, less)) in
-    (more.0, ap₂ (λ (w : _) (ws : List _). w ∷ ws) (sym same.0) more.1)
-
 shorter-front : (xs rest : List (List ℕ)) → IsFront (xs ++ rest) → IsFront xs
 shorter-front xs rest (c, is, (more, lines)) = (c, is, (rest ++ more, lines ∙ append_assoc xs rest more))
 
@@ -386,9 +361,6 @@ not-before all a [] b vs of_a of_b leaves front less =
 not-before all a (line ∷ us) b vs of_a of_b leaves front less =
     let more = longer a b line us vs (sym of_a ∙ of_b) less in
     leaves (shorter-front (a ++ line ∷ []) more.0 (subst IsFront more.1 front))
-
-pub same-number : (a b m n : ℕ) → m ≡ a + 1 → n ≡ b + 1 → (a < b → ⊥) → (b < a → ⊥) → m ≡ n
-same-number a b m n e f low high = omega (arith, e, f, low, high)
 
 one-outside : (all : List (List ℕ)) (m n : ℕ) → IsFirstOutside all m → IsFirstOutside all n → m ≡ n
 one-outside all m n h k =

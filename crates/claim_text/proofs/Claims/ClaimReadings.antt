@@ -15,21 +15,21 @@ use Rattle.claim_text.specs.declared.claim.lines.ClaimLine.{ClaimLine}
 use Rattle.claim_text.specs.declared.claim.lines.ClaimLine.TheVariants.{OfValue, OfBest, OfConflict, OfLevel, OfBy, OfPath, OfPart}
 use Rattle.claim_text.specs.declared.claim.draft.Stage.{Stage}
 use Rattle.claim_text.specs.declared.claim.draft.Stage.TheVariants.{Values, Levels, Bys, Conflict, Path}
-use Rattle.claim_text.specs.Claims.ClaimLines.{IsBy}
-use Rattle.claim_text.specs.Names.{IsLevelName}
+use Rattle.claim_writing.specs.ClaimLines.{IsBy}
+use Rattle.claim_writing.specs.Names.{IsLevelName}
 use Rattle.claim_text.specs.Claims.ClaimTexts.{Says, MayFollow, Draft, Step, ReadFrom, nothing_read, closed, with_line, AreRead, IsLevelRead, IsDraft}
-use Rattle.claim_text.specs.FirstBad.{IsFirstBad}
-use Rattle.claim_text.specs.Names.{IsRowName, IsRowBefore, IsLevelBefore}
+use Rattle.problem_reading.specs.FirstBad.{IsFirstBad}
+use Rattle.claim_writing.specs.Names.{IsRowName, IsRowBefore, IsLevelBefore}
 use Rattle.std.proofs.Common.{Bool, None}
 use Rattle.problem_core.specs.declared.parts.Mark.{Mark}
 use Rattle.claim_text.specs.declared.claim.path_lines.PathLine.{PathLine}
 use Rattle.claim_text.specs.declared.claim.path_lines.PathLine.TheVariants.{OfIn, OfSwap, OfUnfit}
-use Rattle.claim_text.specs.Paths.PathTexts.{IsSwapName}
+use Rattle.claim_writing.specs.PathTexts.{IsSwapName}
 use Rattle.claim_text.specs.Paths.PathForms.{PathDraft, SaysPart, PartMayFollow, IsPathWritten, path_begun, path_of, with_part}
 use Rattle.claim_text.specs.Claims.ClaimTexts.{IsStage}
-use Rattle.claim_text.proofs.LineLists.{line_here}
+use Rattle.problem_reading.proofs.LineLists.{line_here}
 use Rattle.claim_text.proofs.Claims.SameClaims.{one_line}
-use Rattle.claim_text.proofs.Rising.{All-last, All-at_end}
+use Rattle.problem_reading.proofs.Rising.{All-last, All-at_end}
 use Rattle.frac_core.proofs.Lists.{pairs-nil as none_pairs, all-front as All-front, pairs-front as AllPairs-front}
 
 pub read_more : (xs : List (List ℕ)) (old mid new : Draft) (line : List ℕ) → ReadFrom old xs mid → Step mid line new → ReadFrom old (xs ++ line ∷ []) new

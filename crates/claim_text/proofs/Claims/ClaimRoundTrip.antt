@@ -13,19 +13,19 @@ use Rattle.problem_core.specs.declared.parts.Level.{Level}
 use Rattle.problem_core.specs.declared.parts.Level.TheVariants.{Priority, Stay as StayLevel}
 use Rattle.cert_core.specs.declared.by.By.{By}
 use Rattle.cert_core.specs.Claims.{BestLevel}
-use Rattle.claim_text.specs.declared.claim.lines.LevelLine.{LevelLine}
+use Rattle.claim_writing.specs.declared.claim.LevelLine.{LevelLine}
 use Rattle.claim_text.specs.declared.claim.lines.ClaimLine.TheVariants.{OfValue, OfBest, OfConflict, OfLevel, OfBy, OfPath, OfPart}
 use Rattle.claim_text.specs.declared.claim.draft.Stage.{Stage}
 use Rattle.claim_text.specs.declared.claim.draft.Stage.TheVariants.{Values, Levels, Bys, Conflict, Path}
-use Rattle.claim_text.specs.declared.claim.Claim.{Claim}
-use Rattle.claim_text.specs.declared.claim.Claim.TheVariants.{IsBest, IsConflict, IsPath}
-use Rattle.claim_text.specs.Stops.{ReadStop, bad_line}
+use Rattle.claim_writing.specs.declared.claim.Claim.{Claim}
+use Rattle.claim_writing.specs.declared.claim.Claim.TheVariants.{IsBest, IsConflict, IsPath}
+use Rattle.problem_reading.specs.Stops.{ReadStop, bad_line}
 use Rattle.frac_core.specs.declared.memory.Stop.TheVariants.{OutOfMemory, Refused}
-use Rattle.claim_text.specs.Words.{line_of}
-use Rattle.claim_text.specs.Claims.ClaimLines.{value_words, level_words, by_words, best_words, conflict_words, value_line, level_line, by_line, lines_of_levels, claim_lines, claim_text, IsValue, IsLevelLine, IsBy}
-use Rattle.claim_text.specs.Names.{row_word, level_word, IsRowName, IsLevelName}
+use Rattle.claim_writing.specs.Words.{line_of}
+use Rattle.claim_writing.specs.ClaimLines.{value_words, level_words, by_words, best_words, conflict_words, value_line, level_line, by_line, lines_of_levels, claim_lines, claim_text, IsValue, IsLevelLine, IsBy}
+use Rattle.claim_writing.specs.Names.{row_word, level_word, IsRowName, IsLevelName}
 use Rattle.claim_text.specs.Claims.ClaimTexts.{Draft, Step, ReadFrom, nothing_read, closed, TakesLevels, TakesBys, AreRead, IsLevelRead, Ends, Reads, IsClaimStop, IsWritten, IsRead, LinesStopAt}
-use Rattle.claim_text.specs.Names.{IsRowBefore, IsLevelBefore}
+use Rattle.claim_writing.specs.Names.{IsRowBefore, IsLevelBefore}
 use Rattle.std.proofs.Common.{Bool, true, false, Option, None, Some}
 use Rattle.problem_core.specs.declared.parts.Side.{Side}
 use Rattle.problem_core.specs.declared.parts.Side.TheVariants.{Under, Over}
@@ -38,11 +38,11 @@ use Rattle.problem_core.specs.Corners.{Swap}
 use Rattle.cert_core.specs.Paths.{Path as LawfulPath}
 use Rattle.claim_text.specs.declared.claim.path_lines.PathLine.{PathLine}
 use Rattle.claim_text.specs.declared.claim.path_lines.PathLine.TheVariants.{OfIn, OfSwap, OfUnfit}
-use Rattle.claim_text.specs.Paths.PathTexts.{side_word, mark_text, kind_words, in_words, swap_words, what_words, quantity_words, unfit_words, in_line, swap_line, unfit_line, unfit_lines, IsWhatName, IsCount, IsQuantityName, IsSwapName}
+use Rattle.claim_writing.specs.PathTexts.{side_word, mark_text, kind_words, in_words, swap_words, what_words, quantity_words, unfit_words, in_line, swap_line, unfit_line, unfit_lines, IsWhatName, IsCount, IsQuantityName, IsSwapName}
 use Rattle.claim_text.specs.Paths.PathForms.{PathDraft, SaysPart, PartMayFollow, IsPathWritten, IsQuantityWritten, path_begun, path_of, with_part}
 use Rattle.claim_text.specs.Claims.ClaimTexts.{IsBestWritten}
-use Rattle.claim_text.proofs.Rising.{All-last, All-at_end}
-use Rattle.claim_text.proofs.Visible.{IsVisible, both, decimal_visible, signed_visible, fraction_visible, words_of_line, line_bytes, lines_of_text, visible, word}
+use Rattle.problem_reading.proofs.Rising.{All-last, All-at_end}
+use Rattle.problem_reading.proofs.Visible.{IsVisible, both, decimal_visible, signed_visible, fraction_visible, words_of_line, line_bytes, lines_of_text, visible, word}
 use Rattle.claim_text.proofs.Claims.ClaimReadings.{read_two, one_reading, no_bad_line}
 use Rattle.frac_core.proofs.Lists.{all-front as All-front, pairs-front as AllPairs-front}
 

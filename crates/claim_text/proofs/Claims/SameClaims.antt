@@ -6,20 +6,20 @@ use Rattle.frac_core.specs.Text.{fraction_text}
 use Rattle.problem_core.specs.declared.parts.RowName.{RowName}
 use Rattle.problem_core.specs.declared.parts.Level.{Level}
 use Rattle.cert_core.specs.declared.by.By.{By}
-use Rattle.claim_text.specs.declared.claim.lines.LevelLine.{LevelLine}
+use Rattle.claim_writing.specs.declared.claim.LevelLine.{LevelLine}
 use Rattle.claim_text.specs.declared.claim.lines.ClaimLine.{ClaimLine}
 use Rattle.claim_text.specs.declared.claim.lines.ClaimLine.TheVariants.{OfValue, OfBest, OfConflict, OfLevel, OfBy, OfPath, OfPart}
 use Rattle.claim_text.specs.declared.claim.path_lines.PathLine.{PathLine}
 use Rattle.claim_text.specs.declared.claim.path_lines.PathLine.TheVariants.{OfIn, OfSwap, OfUnfit}
 use Rattle.claim_text.specs.Paths.PathForms.{SaysPart}
-use Rattle.claim_text.specs.Words.{words}
-use Rattle.claim_text.specs.Claims.ClaimLines.{value_words, level_words, by_words, IsValue, IsLevelLine, IsBy}
-use Rattle.claim_text.specs.Names.{row_word, level_word}
+use Rattle.problem_reading.specs.Words.{words}
+use Rattle.claim_writing.specs.ClaimLines.{value_words, level_words, by_words, IsValue, IsLevelLine, IsBy}
+use Rattle.claim_writing.specs.Names.{row_word, level_word}
 use Rattle.claim_text.specs.Claims.ClaimTexts.{Says}
-use Rattle.claim_text.proofs.Numerals.Digits.{same_value, same_integer}
-use Rattle.claim_text.proofs.Numerals.Names.{same_row_word, same_level_word}
+use Rattle.problem_reading.proofs.Numerals.Digits.{same_value, same_integer}
+use Rattle.claim_text.proofs.Names.{same_row_word, same_level_word}
 use Rattle.claim_text.proofs.Paths.PathWords.{same_mark, same_swap, same_unfit, same_kind}
-use Rattle.claim_text.proofs.Problems.Same.{same_fraction_text}
+use Rattle.problem_reading.proofs.Problems.Same.{same_fraction_text}
 
 nth : ℕ → List (List ℕ) → List ℕ
 nth k ws = get_or ws k []

@@ -18,11 +18,11 @@ use Rattle.problem_core.specs.declared.parts.RowName.TheVariants.{Held, Stay as 
 use Rattle.problem_core.specs.declared.parts.Level.{Level}
 use Rattle.problem_core.specs.declared.parts.Level.TheVariants.{Priority, Stay as StayLevel}
 use Rattle.cert_core.specs.Claims.{BestLevel}
-use Rattle.claim_text.specs.declared.claim.lines.LevelLine.{LevelLine}
+use Rattle.claim_writing.specs.declared.claim.LevelLine.{LevelLine}
 use Rattle.claim_text.specs.declared.claim.draft.Stage.{Stage}
 use Rattle.claim_text.specs.declared.claim.draft.Stage.TheVariants.{Values, Levels, Bys, Conflict, Path}
 use Rattle.claim_text.specs.Claims.ClaimTexts.{Draft, closed}
-use Rattle.claim_text.specs.Names.{IsRowBefore, IsLevelBefore}
+use Rattle.claim_writing.specs.Names.{IsRowBefore, IsLevelBefore}
 use Rattle.claim_text.specs.declared.claim.lines.ClaimLine.{ClaimLine}
 use Rattle.claim_text.specs.declared.claim.lines.ClaimLine.TheVariants.{OfLevel, OfPart}
 use Rattle.claim_text.specs.declared.claim.path_lines.PathLine.TheVariants.{OfIn}
@@ -33,7 +33,7 @@ use Rattle.claim_text.specs.declared.claim.seen.Seen.{Seen}
 use Rattle.claim_text.specs.Claims.ClaimTexts.{MayFollow, with_line}
 use Rattle.claim_text.specs.Claims.Seen.{AreKeys, AreRowKeys, AreLevelKeys, AreSeen, MayStandBehind, levels_of, marked_rows}
 use Rattle.claim_text.specs.Claims.ClaimTexts.{TakesLevels, stage_with}
-use Rattle.claim_text.proofs.Rising.{All-at_end, All-last}
+use Rattle.problem_reading.proofs.Rising.{All-at_end, All-last}
 use Rattle.frac_core.proofs.Lists.{all-front as All-front}
 
 -- ---- keys

@@ -11,22 +11,22 @@ use Rattle.problem_core.specs.declared.stops.What.TheVariants as what
 use Rattle.problem_core.specs.declared.stops.Quantity.{Quantity}
 use Rattle.problem_core.specs.declared.stops.Quantity.TheVariants.{Plain, Terms, Rows, Shifts}
 use Rattle.problem_core.specs.Corners.{Swap}
-use Rattle.claim_text.specs.declared.claim.Claim.TheVariants.{IsPath}
+use Rattle.claim_writing.specs.declared.claim.Claim.TheVariants.{IsPath}
 use Rattle.claim_text.specs.declared.claim.draft.Stage.TheVariants.{Path}
 use Rattle.claim_text.specs.declared.claim.lines.ClaimLine.{ClaimLine}
 use Rattle.claim_text.specs.declared.claim.lines.ClaimLine.TheVariants.{OfValue, OfBest, OfConflict, OfLevel, OfBy, OfPath, OfPart}
 use Rattle.claim_text.specs.declared.claim.path_lines.PathLine.{PathLine}
 use Rattle.claim_text.specs.declared.claim.path_lines.PathLine.TheVariants.{OfIn, OfSwap, OfUnfit}
-use Rattle.claim_text.specs.Words.{words}
-use Rattle.claim_text.specs.Names.{IsRowBefore}
-use Rattle.claim_text.specs.Paths.PathTexts.{side_word, kind_words, quantity_words, what_words, unfit_words, IsQuantityName, IsCount}
+use Rattle.problem_reading.specs.Words.{words}
+use Rattle.claim_writing.specs.Names.{IsRowBefore}
+use Rattle.claim_writing.specs.PathTexts.{side_word, kind_words, quantity_words, what_words, unfit_words, IsQuantityName, IsCount}
 use Rattle.claim_text.specs.Paths.PathForms.{PathDraft, SaysPart, PartMayFollow, path_begun, path_of, with_part}
 use Rattle.claim_text.specs.Claims.ClaimTexts.{Draft, MayFollow, ReadFrom, Says, Step, nothing_read}
 use Rattle.claim_text.specs.Claims.ClaimForms.{IsFirstOutside}
 use Rattle.claim_text.specs.Paths.PathExamples.{AreClaimLines, SomePathsAreInside, SomePathsAreOutside}
 use Rattle.std.specs.Char.{IsAsciiDigit}
 use Rattle.std.proofs.lemmas.Fmt.{decimal_digit}
-use Rattle.claim_text.proofs.Numerals.Digits.{same_value, written}
+use Rattle.problem_reading.proofs.Numerals.Digits.{same_value, written}
 use Rattle.claim_text.proofs.Paths.PathWords.{counted, no_terms, two_parts}
 use Rattle.claim_text.proofs.Claims.SameClaims.{mark, mark_of, marked, one_line, part_mark}
 use Rattle.claim_text.proofs.Claims.ClaimForms.{claims-are-the-form}

@@ -11,13 +11,13 @@ use Rattle.problem_core.specs.declared.stops.What.TheVariants as what
 use Rattle.problem_core.specs.declared.stops.Quantity.{Quantity}
 use Rattle.problem_core.specs.declared.stops.Quantity.TheVariants.{Plain, Terms, Rows, Shifts}
 use Rattle.problem_core.specs.Corners.{Swap}
-use Rattle.claim_text.specs.Names.{row_word, IsRowName}
-use Rattle.claim_text.specs.Paths.PathTexts.{side_word, mark_text, kind_words, swap_words, what_words, quantity_words, unfit_words, IsWhatName, IsCount, IsQuantityName, IsSwapName}
+use Rattle.claim_writing.specs.Names.{row_word, IsRowName}
+use Rattle.claim_writing.specs.PathTexts.{side_word, mark_text, kind_words, swap_words, what_words, quantity_words, unfit_words, IsWhatName, IsCount, IsQuantityName, IsSwapName}
 use Rattle.claim_text.specs.declared.claim.path_lines.Part.{Part}
 use Rattle.claim_text.specs.declared.claim.path_lines.Part.TheVariants as part
 use Rattle.claim_text.specs.Paths.PathForms.{part_word}
-use Rattle.claim_text.proofs.Numerals.Digits.{same_value}
-use Rattle.claim_text.proofs.Numerals.Names.{same_row_word, same_level_word}
+use Rattle.problem_reading.proofs.Numerals.Digits.{same_value}
+use Rattle.claim_text.proofs.Names.{same_row_word, same_level_word}
 
 -- ---- marks
 

@@ -1,8 +1,8 @@
 -- Which lines are claims, and which line is the first outside the form: without a reader.
 use Rattle.std.specs.Prelude.{◌≡◌, ℕ, ◌+◌, List, [], ◌∷◌, ◌++◌, length}
-use Rattle.claim_text.specs.declared.claim.Claim.{Claim}
-use Rattle.claim_text.specs.Stops.{bad_line}
-use Rattle.claim_text.specs.Claims.ClaimLines.{claim_lines}
+use Rattle.claim_writing.specs.declared.claim.Claim.{Claim}
+use Rattle.problem_reading.specs.Stops.{bad_line}
+use Rattle.claim_writing.specs.ClaimLines.{claim_lines}
 use Rattle.claim_text.specs.Claims.ClaimTexts.{IsWritten, Reads, IsClaimStop}
 
 -- the claim is one that is written, and these are its lines

@@ -8,17 +8,17 @@ use Rattle.claim_text.specs.declared.claim.lines.ClaimLine.TheVariants.{OfValue,
 use Rattle.claim_text.specs.declared.claim.lines.ClaimLine.TheVariants.{OfBy, OfPath, OfPart}
 use Rattle.claim_text.specs.declared.claim.draft.Stage.{Stage}
 use Rattle.claim_text.specs.declared.claim.draft.Stage.TheVariants.{Values, Levels, Bys, Conflict, Path}
-use Rattle.claim_text.specs.declared.claim.Claim.{Claim}
-use Rattle.claim_text.specs.declared.claim.Claim.TheVariants.{IsBest, IsConflict, IsPath}
-use Rattle.claim_text.specs.Stops.{ReadStop}
-use Rattle.claim_text.specs.FirstBad.{IsFirstBad}
+use Rattle.claim_writing.specs.declared.claim.Claim.{Claim}
+use Rattle.claim_writing.specs.declared.claim.Claim.TheVariants.{IsBest, IsConflict, IsPath}
+use Rattle.problem_reading.specs.Stops.{ReadStop}
+use Rattle.problem_reading.specs.FirstBad.{IsFirstBad}
 use Rattle.frac_core.specs.declared.memory.Stop.TheVariants.{OutOfMemory, Refused}
-use Rattle.claim_text.specs.Words.{words}
-use Rattle.claim_text.specs.Claims.ClaimLines.{value_words, level_words, by_words, best_words, conflict_words}
-use Rattle.claim_text.specs.Claims.ClaimLines.{IsValue, IsLevelLine, IsBy}
-use Rattle.claim_text.specs.Names.{IsLevelName, IsRowBefore, IsLevelBefore}
+use Rattle.problem_reading.specs.Words.{words}
+use Rattle.claim_writing.specs.ClaimLines.{value_words, level_words, by_words, best_words, conflict_words}
+use Rattle.claim_writing.specs.ClaimLines.{IsValue, IsLevelLine, IsBy}
+use Rattle.claim_writing.specs.Names.{IsLevelName, IsRowBefore, IsLevelBefore}
 use Rattle.claim_text.specs.declared.claim.path_lines.PathLine.{PathLine}
-use Rattle.claim_text.specs.Paths.PathTexts.{kind_words}
+use Rattle.claim_writing.specs.PathTexts.{kind_words}
 use Rattle.claim_text.specs.Paths.PathForms.{PathDraft, SaysPart, PartMayFollow, path_begun, with_part}
 use Rattle.claim_text.specs.Paths.PathForms.{path_of}
 use Rattle.claim_text.specs.Paths.PathForms.{IsPathWritten}

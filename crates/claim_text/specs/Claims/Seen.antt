@@ -10,7 +10,7 @@ use Rattle.claim_text.specs.declared.claim.seen.Seen.{Seen}
 use Rattle.claim_text.specs.declared.claim.draft.Stage.{Stage}
 use Rattle.claim_text.specs.declared.claim.draft.Stage.TheVariants.{Values, Levels, Bys, Conflict, Path}
 use Rattle.claim_text.specs.Claims.ClaimTexts.{Draft, closed}
-use Rattle.claim_text.specs.Names.{IsRowBefore, IsLevelBefore}
+use Rattle.claim_writing.specs.Names.{IsRowBefore, IsLevelBefore}
 
 -- a stay of the attribute may stand behind all of these exactly where the attribute is no key
 abbrev pub AreKeys : {A : Type 0} → (A → ℕ → Type 0) → List A → BTreeMap ℕ ℕ → Type 0

@@ -1,6 +1,6 @@
 -- Lines inside and outside the form of paths.
 use Rattle.std.specs.Prelude.{ℕ, List, [], ◌∷◌, codes}
-use Rattle.claim_text.specs.declared.claim.Claim.{Claim}
+use Rattle.claim_writing.specs.declared.claim.Claim.{Claim}
 use Rattle.claim_text.specs.Claims.ClaimForms.{AreLinesOf, IsFirstOutside}
 
 -- these are the lines of a claim

@@ -8,9 +8,9 @@ use Rattle.claim_text.specs.declared.claim.path_lines.PathLine.{PathLine}
 use Rattle.claim_text.specs.declared.claim.path_lines.PathLine.TheVariants.{OfIn, OfSwap, OfUnfit}
 use Rattle.claim_text.specs.declared.claim.path_lines.Part.{Part}
 use Rattle.claim_text.specs.declared.claim.path_lines.Part.TheVariants.{Terms, Rows, Shifts}
-use Rattle.claim_text.specs.Words.{words}
-use Rattle.claim_text.specs.Names.{IsRowName, IsRowBefore}
-use Rattle.claim_text.specs.Paths.PathTexts.{in_words, swap_words, unfit_words, IsSwapName, IsQuantityName}
+use Rattle.problem_reading.specs.Words.{words}
+use Rattle.claim_writing.specs.Names.{IsRowName, IsRowBefore}
+use Rattle.claim_writing.specs.PathTexts.{in_words, swap_words, unfit_words, IsSwapName, IsQuantityName}
 
 -- what a line behind the first says by itself
 abbrev pub SaysPart : List ℕ → PathLine → Type 0

@@ -6,13 +6,13 @@ ghost use Rattle.cert_core.specs.Claims.{AreBys, AreLevels};
 ghost use Rattle.problem_core.specs.declared.parts.RowName.{RowName};
 ghost use Rattle.problem_core.specs.declared.parts.Level.{Level};
 
-use crate::claim::Claim;
-use crate::claim::lines::{ClaimLine, LevelLine, read_claim_line};
+use crate::claim::lines::{ClaimLine, read_claim_line};
 use crate::claim::order::{are_rows_before, is_level_before};
 use crate::claim::path_draft::PathDraft;
 use crate::claim::path_lines::PathLine;
 use crate::claim::seen::Seen;
 use cert_core::{Best, By, Conflict};
+use claim_writing::{Claim, LevelLine};
 use frac_core::{Frac, OutOfMemory};
 use problem_core::{Level, RowName, Values};
 use std::alloc::Global;
@@ -135,7 +135,7 @@ impl ClaimDraft {
     ghost use Rattle.claim_text.specs.Claims.ClaimTexts.{nothing_read, closed, TakesLevels, TakesBys};
     ghost use Rattle.claim_text.specs.Claims.ClaimTexts.{stage_with, MayFollow, with_line, Step, Ends};
     ghost use Rattle.claim_text.specs.Claims.ClaimTexts.{IsDraft, IsStage};
-    ghost use Rattle.claim_text.specs.Names.{IsRowBefore, IsLevelBefore};
+    ghost use Rattle.claim_writing.specs.Names.{IsRowBefore, IsLevelBefore};
     ghost use Rattle.claim_text.specs.Paths.PathForms as forms;
 
     /// What was read before the first line.
@@ -357,6 +357,18 @@ impl ClaimDraft {
         best_of(alloc, &self.levels)
     }
 
+    // The claim of values and levels, once the level that is open has ended.
+    fn best_claim(&mut self, alloc: Global) -> Result<Claim, OutOfMemory>
+        requires draft { IsDraft self.old }
+        requires levels { TakesLevels self.old.stage }
+        ensures { IfOk result (Ends self.old) }
+    {
+        self.close(alloc)?;
+        let values = self.values(alloc)?;
+        let best = self.best(alloc)?;
+        Ok(Claim::IsBest { values, best })
+    }
+
     /// The claim that was read, if what must stand in one was read.
     pub(crate) fn finish(&mut self, alloc: Global) -> Result<Option<Claim>, OutOfMemory>
         requires { IsDraft self.old }
@@ -372,9 +384,6 @@ impl ClaimDraft {
         if !self.takes_levels() {
             return Ok(Some(Claim::IsConflict(self.conflict(alloc)?)));
         }
-        self.close(alloc)?;
-        let values = self.values(alloc)?;
-        let best = self.best(alloc)?;
-        Ok(Some(Claim::IsBest { values, best }))
+        Ok(Some(self.best_claim(alloc)?))
     }
 }

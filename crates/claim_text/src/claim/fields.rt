@@ -7,12 +7,11 @@ ghost use Rattle.problem_core.specs.declared.parts.RowName.{RowName};
 ghost use Rattle.problem_core.specs.declared.parts.Level.{Level};
 ghost use Rattle.problem_core.specs.declared.parts.Side.{Side};
 ghost use Rattle.problem_core.specs.declared.parts.Mark.{Mark};
-ghost use Rattle.claim_text.specs.Paths.PathTexts.{side_word, mark_text};
-ghost use Rattle.claim_text.specs.Names.{row_word, level_word, IsRowName, IsLevelName};
+ghost use Rattle.claim_writing.specs.PathTexts.{side_word, mark_text};
+ghost use Rattle.claim_writing.specs.Names.{row_word, level_word, IsRowName, IsLevelName};
 
-use crate::numbers::{integer, natural};
-use crate::words::Words;
 use problem_core::{Level, Mark, NUMBER_LIMIT, REQUIRED, RowName, Side};
+use problem_reading::{Words, integer, natural};
 
 // What follows an `s`.
 fn after_s(word: &[u8]) -> Option<&[u8]>

@@ -2,28 +2,20 @@
 ghost use Rattle.std.specs.Prelude.{◌≡◌, ◌∷◌, [], ℕ, IfSome, IfNone, IsTrue, ◌↔◌};
 ghost use Rattle.frac_core.specs.Fraction.{Fraction};
 ghost use Rattle.cert_core.specs.declared.by.By.{By};
-ghost use Rattle.claim_text.specs.declared.claim.lines.LevelLine.{LevelLine};
+ghost use Rattle.claim_writing.specs.declared.claim.LevelLine.{LevelLine};
 ghost use Rattle.claim_text.specs.declared.claim.lines.ClaimLine as item;
 ghost use Rattle.claim_text.specs.Claims.ClaimTexts.{Says};
-ghost use Rattle.claim_text.specs.Words.{words};
-ghost use Rattle.claim_text.specs.Claims.ClaimLines.{value_words, level_words, by_words, IsValue};
-ghost use Rattle.claim_text.specs.Claims.ClaimLines.{IsLevelLine, IsBy};
+ghost use Rattle.problem_reading.specs.Words.{words};
+ghost use Rattle.claim_writing.specs.ClaimLines.{value_words, level_words, by_words, IsValue};
+ghost use Rattle.claim_writing.specs.ClaimLines.{IsLevelLine, IsBy};
 
 use crate::claim::fields::{next_integer, next_level_name, next_nonzero, next_row_name};
 use crate::claim::path_lines::{PathLine, read_kind, read_path_line};
-use crate::fields::{next_fraction, next_is, next_number};
-use crate::numbers::FITTING;
-use crate::words::Words;
 use cert_core::By;
+use claim_writing::LevelLine;
 use frac_core::Frac;
-use problem_core::{Level, NUMBER_LIMIT};
-
-/// A level and its scale.
-#[derive(Clone, Copy)]
-pub(crate) struct LevelLine {
-    pub(crate) level: Level,
-    pub(crate) scale: i64,
-}
+use problem_core::NUMBER_LIMIT;
+use problem_reading::{FITTING, Words, next_fraction, next_is, next_number};
 
 // The attribute and the value that a line says.
 fn read_value(line: &[u8]) -> Option<(u32, Frac)>

@@ -1,6 +1,6 @@
 // The order in which rows and levels come.
 ghost use Rattle.std.specs.Prelude.{All, AllPairs, IsTrue, ◌↔◌, map};
-ghost use Rattle.claim_text.specs.Names.{IsRowBefore, IsLevelBefore};
+ghost use Rattle.claim_writing.specs.Names.{IsRowBefore, IsLevelBefore};
 ghost use Rattle.claim_text.specs.Claims.Seen.{AreRowKeys, MayStandBehind};
 
 use cert_core::By;

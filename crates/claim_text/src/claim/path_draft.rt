@@ -1,13 +1,13 @@
 // A path while it is read.
 ghost use Rattle.std.specs.Prelude.{◌≡◌, [], None, All, IfOk, IsTrue, ◌↔◌, map};
-ghost use Rattle.claim_text.specs.Names.{IsRowBefore};
+ghost use Rattle.claim_writing.specs.Names.{IsRowBefore};
 ghost use Rattle.claim_text.specs.Claims.Seen.{AreRowKeys};
-ghost use Rattle.claim_text.specs.declared.claim.Claim.TheVariants.{IsPath};
+ghost use Rattle.claim_writing.specs.declared.claim.Claim.TheVariants.{IsPath};
 
-use crate::claim::Claim;
 use crate::claim::order::are_marks_before;
 use crate::claim::path_lines::PathLine;
 use cert_core::{Path, Swap};
+use claim_writing::Claim;
 use frac_core::OutOfMemory;
 use problem_core::{Mark, Quantity, RowName};
 use std::alloc::Global;

@@ -4,21 +4,19 @@ ghost use Rattle.problem_core.specs.Corners as corners;
 ghost use Rattle.problem_core.specs.declared.parts.Mark.{Mark};
 ghost use Rattle.problem_core.specs.declared.stops.Quantity as quantity;
 ghost use Rattle.problem_core.specs.declared.stops.What as what;
-ghost use Rattle.claim_text.specs.Names.{IsRowName};
+ghost use Rattle.claim_writing.specs.Names.{IsRowName};
 ghost use Rattle.claim_text.specs.Paths.PathForms.{SaysPart, part_word};
 ghost use Rattle.claim_text.specs.declared.claim.path_lines.Part.{Part};
-ghost use Rattle.claim_text.specs.Paths.PathTexts.{kind_word, kind_words, in_words, swap_words, what_words};
-ghost use Rattle.claim_text.specs.Paths.PathTexts.{quantity_words, unfit_words};
-ghost use Rattle.claim_text.specs.Paths.PathTexts.{IsSwapName, IsWhatName, IsCount, IsQuantityName};
-ghost use Rattle.claim_text.specs.Words.{words};
+ghost use Rattle.claim_writing.specs.PathTexts.{kind_word, kind_words, in_words, swap_words, what_words};
+ghost use Rattle.claim_writing.specs.PathTexts.{quantity_words, unfit_words};
+ghost use Rattle.claim_writing.specs.PathTexts.{IsSwapName, IsWhatName, IsCount, IsQuantityName};
+ghost use Rattle.problem_reading.specs.Words.{words};
 ghost use Rattle.claim_text.specs.declared.claim.path_lines.PathLine as item;
 
 use crate::claim::fields::{level_name, mark, next_mark};
-use crate::fields::{next_is, next_number};
-use crate::numbers::natural;
-use crate::words::Words;
 use cert_core::Swap;
 use problem_core::{Mark, NUMBER_LIMIT, Quantity, What};
+use problem_reading::{Words, natural, next_is, next_number};
 
 /// What a line of a path says, behind the first.
 #[derive(Clone, Copy)]

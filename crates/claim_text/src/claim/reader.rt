@@ -2,17 +2,17 @@
 ghost use Rattle.std.specs.Prelude.{◌≡◌, ◌<◌, length, IfOk, IfErr, MatchResult};
 ghost use Rattle.std.specs.Str.Lines.{lines};
 ghost use Rattle.frac_core.specs.declared.memory.Stop.TheVariants.{OutOfMemory};
-ghost use Rattle.claim_text.specs.declared.claim.Claim as claim;
-ghost use Rattle.claim_text.specs.Claims.ClaimLines.{claim_text};
+ghost use Rattle.claim_writing.specs.declared.claim.Claim as claim;
+ghost use Rattle.claim_writing.specs.ClaimLines.{claim_text};
 ghost use Rattle.claim_text.specs.Claims.ClaimTexts.{IsRead, LinesStopAt, Reads, IsClaimStop, IsWritten};
 ghost use Rattle.claim_text.specs.Claims.ClaimTexts.{HasNoMoreParts};
-ghost use Rattle.claim_text.specs.declared.limits.TheConstants.{TEXT_LIMIT};
+ghost use Rattle.problem_reading.specs.declared.limits.TheConstants.{TEXT_LIMIT};
 
-use crate::claim::Claim;
 use crate::claim::draft::ClaimDraft;
 use crate::claim::seen::Seen;
-use crate::stops::{BadLine, ReadStop};
+use claim_writing::Claim;
 use frac_core::Stop;
+use problem_reading::{BadLine, ReadStop};
 use span_text::lines;
 use std::alloc::Global;
 

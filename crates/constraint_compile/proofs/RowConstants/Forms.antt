@@ -8,10 +8,11 @@ use Rattle.std.proofs.lemmas.List.Elements.{All-push}
 use Rattle.frac_core.specs.Fraction.{Fraction}
 use Rattle.problem_core.specs.Layout.{Row}
 use Rattle.view_tree.specs.declared.view.ViewId.{ViewId}
-use Rattle.constraint_compile.specs.Fractions.{IsConstant}
-use Rattle.constraint_compile.specs.Meaning.{MetricList}
+use Rattle.compile_parts.specs.Fractions.{IsConstant}
+use Rattle.compile_parts.specs.Meaning.{MetricList}
 use Rattle.constraint_compile.specs.Compiled as compiled
-use Rattle.constraint_compile.specs.Compiled.{AreSmallSteps, AreSmallForms, AreRowsNow, AreConstantsNow, IsRowNow, step_sum, last_scale}
+use Rattle.compile_parts.specs.Steps.{AreSmallSteps, step_sum, last_scale}
+use Rattle.constraint_compile.specs.Compiled.{AreSmallForms, AreRowsNow, AreConstantsNow, IsRowNow}
 use Rattle.constraint_compile.specs.Inside.{form_view}
 use Rattle.constraint_compile.specs.declared.compiled.RowForm.{RowForm}
 use Rattle.frac_core.proofs.Numbers.{less-or-here as lt_or_eq}

@@ -5,10 +5,11 @@ use Rattle.std.proofs.lemmas.List.{append-nil}
 use Rattle.std.proofs.lemmas.List.Elements.{All-head, All-tail, filter-append}
 use Rattle.frac_core.specs.Fraction.{Fraction}
 use Rattle.problem_core.specs.Layout.{Row}
-use Rattle.constraint_compile.specs.Meaning.{Part, Nothing, Number, Multiple, MetricList, part_value, value_in}
-use Rattle.constraint_compile.specs.Fractions.{plus, IsConstant, IsSmallConstant}
+use Rattle.compile_parts.specs.Meaning.{Part, Nothing, Number, Multiple, MetricList, part_value, value_in}
+use Rattle.compile_parts.specs.Fractions.{plus, IsConstant, IsSmallConstant}
 use Rattle.constraint_compile.specs.Compiled as compiled
-use Rattle.constraint_compile.specs.Compiled.{Step, AreSmallSteps, AreSmallForms, IsRowNow, step_sum, last_scale}
+use Rattle.compile_parts.specs.Steps.{Step, AreSmallSteps, step_sum, last_scale}
+use Rattle.constraint_compile.specs.Compiled.{AreSmallForms, IsRowNow}
 use Rattle.constraint_compile.specs.Inside.{form_view}
 use Rattle.constraint_compile.specs.Naming.{is_multiple, names_metric, naming, AreSameBut, IsConstantOf, AreConstantsOf}
 use Rattle.constraint_compile.specs.declared.compiled.RowForm.{RowForm}

@@ -2,8 +2,9 @@
 use Rattle.std.proofs.Common.{◌≡◌, ℕ, true, false, List, [], ◌∷◌, pos, refl}
 use Rattle.frac_core.specs.Fraction.{Fraction}
 use Rattle.problem_core.specs.declared.parts.Rel.TheVariants.{Eq}
-use Rattle.constraint_compile.specs.Meaning.{Part, Nothing, Number, Multiple}
-use Rattle.constraint_compile.specs.Compiled.{RowForm, Step}
+use Rattle.compile_parts.specs.Meaning.{Part, Nothing, Number, Multiple}
+use Rattle.constraint_compile.specs.Compiled.{RowForm}
+use Rattle.compile_parts.specs.Steps.{Step}
 use Rattle.constraint_compile.specs.Naming.{names_metric, naming}
 
 abbrev gap : List ℕ

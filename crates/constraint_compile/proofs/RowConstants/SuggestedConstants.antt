@@ -6,7 +6,7 @@ use borrow.Author.Differences.{ints}
 use lib.IntN.{*ℤ_comm}
 use Rattle.frac_core.specs.Fraction.{Fraction, IsLowest, IsRatio}
 use Rattle.frac_core.proofs.Integers.{mul-opposite}
-use Rattle.constraint_compile.specs.Fractions.{negated, IsConstant, IsSmallConstant}
+use Rattle.compile_parts.specs.Fractions.{negated, IsConstant, IsSmallConstant}
 
 negated-twice : (k : ℕ) (n : ℤ) → pos k *ℤ n ≡ neg_ℤ (pos k *ℤ neg_ℤ n)
 negated-twice k n =

@@ -8,15 +8,15 @@ use Rattle.frac_core.proofs.Integers.{cancel_mul, mul-zero_ℤ}
 use Rattle.std.proofs.Math.ListN.{get_or-map}
 use Rattle.std.proofs.lemmas.List.{length-map}
 use Rattle.problem_core.specs.Window.{zero_fraction}
-use Rattle.constraint_compile.specs.Fractions.{plus, IsOver, IsScale, MakesWhole, AreSmall}
-use Rattle.constraint_compile.specs.Addends.{Addend, addend_view, addends_view, first_of, with_addend}
-use Rattle.constraint_compile.specs.declared.addends.Addend as code
-use Rattle.constraint_compile.specs.Coefficients.Shares.{IsOff, share_fraction}
+use Rattle.compile_parts.specs.Fractions.{plus, IsOver, IsScale, MakesWhole, AreSmall}
+use Rattle.compile_parts.specs.Addends.{Addend, addend_view, addends_view, first_of, with_addend}
+use Rattle.compile_parts.specs.declared.addends.Addend as code
+use Rattle.compile_parts.specs.Shares.{IsOff, share_fraction}
 use Rattle.constraint_compile.specs.Coefficients.Sums.{AreKept, IsSum, IsCovered, AreScales, attr_at, number_at, with_share, IsSumWithShare, IsSumWithAddend, IsPastWithShare, IsPastWithAddend}
-use Rattle.constraint_compile.specs.declared.attributes.Share.{Share}
+use Rattle.compile_parts.specs.declared.shares.Share.{Share}
 use Rattle.constraint_compile.proofs.Sums.Joint.{find_place}
 use Rattle.constraint_compile.proofs.Lists.{each_pushed_by}
-use Rattle.constraint_compile.proofs.Sums.Totals.{total_more, plus-zero}
+use Rattle.compile_parts.proofs.Totals.{total_more, plus-zero}
 use Rattle.frac_core.proofs.Numbers.{less-or-here as lt_or_eq}
 
 -- ---- coefficients that are the same

@@ -10,12 +10,12 @@ use Rattle.std.proofs.lemmas.List.Elements.{All-push}
 use Rattle.std.proofs.lemmas.Int.{unsigned_abs-mul}
 use Rattle.frac_core.specs.Fraction.{Fraction}
 use Rattle.frac_core.proofs.Integers.{on_1, on_2, diff, diff_eq, diff-add, diff-mul, diff-pos, mul-zero_ℤ, mul_assoc_ℤ}
-use Rattle.constraint_compile.specs.Addends.{Addend, addend_view, addends_view}
-use Rattle.constraint_compile.specs.declared.addends.Addend as code
-use Rattle.constraint_compile.specs.Fractions.{plus, total}
+use Rattle.compile_parts.specs.Addends.{Addend, addend_view, addends_view}
+use Rattle.compile_parts.specs.declared.addends.Addend as code
+use Rattle.compile_parts.specs.Fractions.{plus, total}
 use Rattle.constraint_compile.specs.Coefficients.Pieces.{piece_value, IsPiece, AreDoubled}
 use Rattle.constraint_compile.specs.declared.line.nonzero.Piece.{Piece}
-use Rattle.constraint_compile.proofs.Sums.Totals.{total_pushed}
+use Rattle.compile_parts.proofs.Totals.{total_pushed}
 use Rattle.frac_core.proofs.Numbers.{pos-size as size_pos, size-zero as size_zero, size-sum as triangle}
 use Rattle.frac_core.proofs.Divisors.{size_above as above_size}
 

@@ -2,10 +2,10 @@
 use Rattle.std.proofs.Common.{◌≡◌, ℕ, zero, suc, ◌<◌, ◌≤◌, List, [], ◌∷◌, length, get_or, All, AllPairs, pos, ℤ, ◌+ℤ◌, ◌*ℤ◌, refl, sym, arith, ◌⊎◌, inl, inr}
 use Rattle.std.proofs.lemmas.Bool.{cases_eq}
 use borrow.Author.Differences.{ints}
-use Rattle.constraint_compile.specs.Addends.{addend_view, addends_view, sum_of}
-use Rattle.constraint_compile.specs.declared.addends.Addend.{Addend}
+use Rattle.compile_parts.specs.Addends.{addend_view, addends_view, sum_of}
+use Rattle.compile_parts.specs.declared.addends.Addend.{Addend}
 use Rattle.frac_core.specs.Fraction.{Fraction}
-use Rattle.constraint_compile.specs.Coefficients.Shares.{IsOff}
+use Rattle.compile_parts.specs.Shares.{IsOff}
 use Rattle.constraint_compile.specs.Coefficients.Sums.{HasTooMany, attr_at}
 use Rattle.constraint_compile.specs.Coefficients.Pieces.{HasFound}
 use Rattle.constraint_compile.proofs.Sums.Joint.{find_place}

@@ -12,10 +12,10 @@ use Rattle.std.proofs.Math.Nat.{dvd-mul_right, dvd_of_mul-dvd-mul_right, div-mul
 use Rattle.frac_core.specs.Fraction.{Fraction}
 use Rattle.frac_core.proofs.Integers.{cancel_mul, mul_assoc_ℤ, mul_left_comm_ℤ, on_2, diff_eq, diff-add, diff-mul, diff-pos, mul-zero_ℤ, zero-mul_ℤ}
 use Rattle.problem_core.specs.Layout.{coefficient}
-use Rattle.constraint_compile.specs.Fractions.{plus, IsOver, IsScale, MakesWhole, AreSmall}
-use Rattle.constraint_compile.specs.Coefficients.Shares.{IsOff, share_fraction, form}
+use Rattle.compile_parts.specs.Fractions.{plus, IsOver, IsScale, MakesWhole, AreSmall}
+use Rattle.compile_parts.specs.Shares.{IsOff, share_fraction, form}
 use Rattle.constraint_compile.specs.Coefficients.Sums.{AreOver, AreKept, HasOnly, IsSum, IsCovered, IsDivisor, AreDivided, IsPast, attr_at, number_at, with_share, with_share_number}
-use Rattle.constraint_compile.specs.declared.attributes.Share.{Share}
+use Rattle.compile_parts.specs.declared.shares.Share.{Share}
 use Rattle.constraint_compile.proofs.Sums.Quotients.{has_quotient}
 use Rattle.frac_core.proofs.Gauss.{above_left as quotient_above}
 

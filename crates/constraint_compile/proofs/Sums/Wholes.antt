@@ -9,7 +9,7 @@ use Rattle.std.proofs.Math.ListN.{get_or-map}
 use Rattle.std.proofs.Math.Nat.{dvd-mul_right}
 use Rattle.frac_core.specs.Fraction.{Fraction}
 use Rattle.constraint_compile.specs.Coefficients.Sums.{AreKept, IsSum, IsCovered, IsDivisor, AreDivided, AreWhole, number_at, with_share}
-use Rattle.constraint_compile.specs.declared.attributes.Share.{Share}
+use Rattle.compile_parts.specs.declared.shares.Share.{Share}
 use Rattle.constraint_compile.proofs.Sums.Joint.{IsStep, step_sum}
 use Rattle.frac_core.proofs.Numbers.{one-times as one_times}
 

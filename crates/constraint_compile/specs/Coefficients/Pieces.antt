@@ -2,8 +2,8 @@
 use Rattle.std.specs.Prelude.{◌≡◌, ◌≢◌, ℕ, AllPairs, ◌*◌, ◌<◌, ◌≤◌, ◌^◌, List, length, ℤ, pos, ◌+ℤ◌, ◌*ℤ◌}
 use Rattle.std.specs.Prelude.{◌<ℤ◌, unsigned_abs, All}
 use Rattle.frac_core.specs.Fraction.{Fraction}
-use Rattle.constraint_compile.specs.Fractions.{total}
-use Rattle.constraint_compile.specs.Coefficients.Shares.{IsOff}
+use Rattle.compile_parts.specs.Fractions.{total}
+use Rattle.compile_parts.specs.Shares.{IsOff}
 use Rattle.constraint_compile.specs.Coefficients.Sums.{attr_at}
 use Rattle.constraint_compile.specs.declared.line.nonzero.Piece.{Piece}
 use Rattle.constraint_compile.specs.declared.line.nonzero.TheConstants.{DEN_BITS}

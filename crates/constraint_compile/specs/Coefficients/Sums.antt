@@ -9,11 +9,11 @@ use Rattle.problem_core.specs.Layout.{coefficient}
 use Rattle.problem_core.specs.declared.limits.TheConstants.{COEFFICIENT_LIMIT, TERM_LIMIT}
 use Rattle.view_tree.specs.Views.{LiveView}
 use Rattle.script_text.specs.Meaning.{Term}
-use Rattle.constraint_compile.specs.Meaning.{sum_at}
-use Rattle.constraint_compile.specs.Addends.{Addend, first_of, with_addend}
-use Rattle.constraint_compile.specs.Fractions.{plus, IsOver, IsScale, AreSmall}
-use Rattle.constraint_compile.specs.Coefficients.Shares.{IsOff, share_fraction, form}
-use Rattle.constraint_compile.specs.declared.attributes.Share.{Share}
+use Rattle.compile_parts.specs.Meaning.{sum_at}
+use Rattle.compile_parts.specs.Addends.{Addend, first_of, with_addend}
+use Rattle.compile_parts.specs.Fractions.{plus, IsOver, IsScale, AreSmall}
+use Rattle.compile_parts.specs.Shares.{IsOff, share_fraction, form}
+use Rattle.compile_parts.specs.declared.shares.Share.{Share}
 
 -- the attribute at a place, and 0 past the end
 abbrev pub attr_at : List ℕ → ℕ → ℕ

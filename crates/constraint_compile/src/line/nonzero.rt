@@ -2,22 +2,21 @@
 ghost use Rattle.std.specs.Prelude.{◌≡◌, ◌≢◌, ◌≤◌, ◌<◌, ◌+◌, ◌*◌, ◌^◌, ◌+ℤ◌, ◌*ℤ◌, ℕ, pos, unsigned_abs};
 ghost use Rattle.std.specs.Prelude.{true, false, length, IsTrue, IfOk, OnOk, All, AllPairs};
 ghost use Rattle.problem_core.specs.declared.limits.TheConstants.{TERM_LIMIT};
-ghost use Rattle.constraint_compile.specs.Fractions.{total};
-ghost use Rattle.constraint_compile.specs.Addends.{addend_view, addends_view, sum_of, IsKept};
-ghost use Rattle.constraint_compile.specs.Coefficients.Shares.{IsOff};
+ghost use Rattle.compile_parts.specs.Fractions.{total};
+ghost use Rattle.compile_parts.specs.Addends.{addend_view, addends_view, sum_of, IsKept};
+ghost use Rattle.compile_parts.specs.Shares.{IsOff};
 ghost use Rattle.constraint_compile.specs.Coefficients.Sums.{HasTooMany};
 ghost use Rattle.constraint_compile.specs.Coefficients.Pieces.{piece_value, IsPiece, AreDoubled, HasFound};
-ghost use Rattle.constraint_compile.specs.declared.limits.TheConstants.{ADDEND_LIMIT};
+ghost use Rattle.compile_parts.specs.declared.limits.TheConstants.{ADDEND_LIMIT};
 
-use crate::addends::Addend;
-use crate::limits::ADDEND_LIMIT;
 use crate::line::sums::{double_den, halves, split, times_halves};
+use compile_parts::{ADDEND_LIMIT, Addend};
 use frac_core::OutOfMemory;
 use problem_core::TERM_LIMIT;
 use std::alloc::Global;
 
 /// A fraction that need not be in lowest terms.
-#[derive(Clone, Copy, Debug)]
+#[derive(Clone, Copy)]
 pub(crate) struct Piece {
     pub num: i64,
     pub den: i64,
@@ -61,7 +60,7 @@ fn pieces_of(alloc: Global, added: &[Addend<'_>], attr: u32) -> Result<Vec<Piece
 }
 
 // Twice a piece: a whole number, and a piece that is at most 1 in size.
-#[derive(Clone, Copy, Debug)]
+#[derive(Clone, Copy)]
 struct TwoPieces {
     whole: i64,
     rest: Piece,
@@ -86,7 +85,7 @@ fn twice(piece: Piece) -> TwoPieces
 }
 
 // Twice a sum of pieces.
-#[derive(Drop, Debug)]
+#[derive(Drop)]
 struct Double {
     whole: i64,
     rests: Vec<Piece>,

@@ -1,13 +1,12 @@
 // What a row keeps of its addends.
 ghost use Rattle.std.specs.Prelude.{◌≡◌, ℕ, ◌≤◌, List, [], length, map, slice_index_or, IfOk};
 ghost use Rattle.std.specs.String.{string_bytes};
-ghost use Rattle.constraint_compile.specs.Addends.{addend_view, addends_view};
-ghost use Rattle.constraint_compile.specs.Keeps as keeps;
-ghost use Rattle.constraint_compile.specs.Keeps.{part_view, steps_view, metric_name, HaveNames};
-ghost use Rattle.constraint_compile.specs.declared.limits.TheConstants.{ADDEND_LIMIT};
+ghost use Rattle.compile_parts.specs.Addends.{addend_view, addends_view};
+ghost use Rattle.compile_parts.specs.Keeps as keeps;
+ghost use Rattle.compile_parts.specs.Keeps.{part_view, steps_view, metric_name, HaveNames};
+ghost use Rattle.compile_parts.specs.declared.limits.TheConstants.{ADDEND_LIMIT};
 
-use crate::addends::Addend;
-use crate::steps::{Part, Step};
+use compile_parts::{Addend, Part, Step};
 use frac_core::OutOfMemory;
 use std::alloc::Global;
 

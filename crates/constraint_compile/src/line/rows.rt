@@ -5,34 +5,31 @@ ghost use Rattle.problem_core.specs.Kept.{IsTerm};
 ghost use Rattle.std.specs.String.{string_bytes};
 ghost use Rattle.problem_core.specs.declared.limits.TheConstants.{NUMBER_LIMIT, REQUIRED, TERM_LIMIT};
 ghost use Rattle.script_text.specs.Meaning.{Term as Summand};
-ghost use Rattle.constraint_compile.specs.Fractions.{IsScale};
-ghost use Rattle.constraint_compile.specs.Meaning.{MetricList, IsWeight};
-ghost use Rattle.constraint_compile.specs.Addends.{addends, addends_view, sum_of, IsKept};
+ghost use Rattle.compile_parts.specs.Fractions.{IsScale};
+ghost use Rattle.compile_parts.specs.Meaning.{MetricList, IsWeight};
+ghost use Rattle.compile_parts.specs.Addends.{addends, addends_view, sum_of, IsKept};
 ghost use Rattle.constraint_compile.specs.Coefficients.Sums.{AreTerms, AreScales, HasTooMany};
 ghost use Rattle.constraint_compile.specs.Stops.{AreSteps, IsSumRow, IsWithinLimits, IsRowStop};
-ghost use Rattle.constraint_compile.specs.Compiled.{AreSmallSteps};
-ghost use Rattle.constraint_compile.specs.Keeps.{AreScalesKept, steps_view};
+ghost use Rattle.compile_parts.specs.Steps.{AreSmallSteps};
+ghost use Rattle.compile_parts.specs.Keeps.{AreScalesKept, steps_view};
 ghost use Rattle.view_tree.specs.Views.{LiveView};
 ghost use Rattle.constraint_compile.specs.Inside.{form_view, IsForm};
-ghost use Rattle.constraint_compile.specs.declared.limits.TheConstants.{ADDEND_LIMIT};
+ghost use Rattle.compile_parts.specs.declared.limits.TheConstants.{ADDEND_LIMIT};
 
-use crate::addends::Addend;
-use crate::attributes::attributes;
 use crate::compiled::RowForm;
 use crate::line::nonzero::has_too_many;
 use crate::line::parts::{metric_names, steps_of};
 use crate::line::row_terms::row_terms;
 use crate::line::scales::scales_of;
-use crate::steps::{Step, constant_after};
-use crate::stops::CompileStop;
+use compile_parts::{Addend, CompileStop, Step, attributes, constant_after};
 use frac_core::OutOfMemory;
 use name_tables::{LimitWord, Metrics};
 use problem_core::{Rel, Term};
 use std::alloc::Global;
 
 /// What a row has beside its terms.
-#[derive(Clone, Copy, Debug)]
-pub(crate) struct Head {
+#[derive(Clone, Copy)]
+pub struct Head {
     pub id: u32,
     pub rank: u16,
     pub weight: u16,
@@ -40,7 +37,7 @@ pub(crate) struct Head {
 }
 
 // The coefficients of a sum of terms, and the scale after each term.
-#[derive(Drop, Debug)]
+#[derive(Drop)]
 struct Coefficients {
     terms: Vec<Term>,
     scales: Vec<u32>,
@@ -75,7 +72,7 @@ fn coefficients_of(alloc: Global, added: &[Addend<'_>]) -> Result<Coefficients, 
 }
 
 // The steps of a constant, and the names of the metrics in them by place.
-#[derive(Drop, Debug)]
+#[derive(Drop)]
 struct NamedSteps {
     names: Vec<String>,
     steps: Vec<Step>,
@@ -114,7 +111,7 @@ fn is_constant_small(metrics: &Metrics, named: &NamedSteps) -> bool
 
 /// The row of what is added on its left side, whatever the views and the terms from which that comes. A limit
 /// of a row that is passed is named by the first in the order attributes, coefficient, constant.
-pub(crate) fn row_of_addends(
+pub fn row_of_addends(
     alloc: Global,
     metrics: &Metrics,
     added: &[Addend<'_>],

@@ -1,20 +1,20 @@
 // The scales of ever longer sums.
 ghost use Rattle.std.specs.Prelude.{◌≡◌, ◌<◌, ◌+◌, ℕ, pos, length, All, IfOk, IfSome, IfNone};
 ghost use Rattle.problem_core.specs.Window.{zero_fraction};
-ghost use Rattle.constraint_compile.specs.Fractions.{AreSmall};
-ghost use Rattle.constraint_compile.specs.Addends.{addend_view, addends_view, sum_of, first_of};
-ghost use Rattle.constraint_compile.specs.Addends.{IsKept};
-ghost use Rattle.constraint_compile.specs.Coefficients.Shares.{IsOff};
+ghost use Rattle.compile_parts.specs.Fractions.{AreSmall};
+ghost use Rattle.compile_parts.specs.Addends.{addend_view, addends_view, sum_of, first_of};
+ghost use Rattle.compile_parts.specs.Addends.{IsKept};
+ghost use Rattle.compile_parts.specs.Shares.{IsOff};
 ghost use Rattle.constraint_compile.specs.Coefficients.Sums.{AreKept, IsSum, AreScales, IsSumWithAddend};
 ghost use Rattle.constraint_compile.specs.Coefficients.Sums.{IsPastWithAddend};
 
-use crate::addends::Addend;
 use crate::line::sums::{Sum, added};
+use compile_parts::Addend;
 use frac_core::OutOfMemory;
 use std::alloc::Global;
 
 /// The sum of all addends, and the scale after each.
-#[derive(Drop, Debug)]
+#[derive(Drop)]
 pub(crate) struct Scaled {
     pub sum: Sum,
     pub scales: Vec<u32>,

@@ -1,8 +1,8 @@
 // The terms of both sides of a line, brought to one side.
 ghost use Rattle.std.specs.Prelude.{◌≡◌, ◌++◌, map, IfOk};
 ghost use Rattle.script_text.specs.View.{term_view, terms_view, linear_view};
-ghost use Rattle.constraint_compile.specs.Fractions as fractions;
-ghost use Rattle.constraint_compile.specs.Meaning.{minus, terms_of};
+ghost use Rattle.compile_parts.specs.Fractions as fractions;
+ghost use Rattle.compile_parts.specs.Meaning.{minus, terms_of};
 
 use frac_core::{Frac, OutOfMemory};
 use script_text::{ExprTerm, Linear};
@@ -10,7 +10,7 @@ use std::alloc::Global;
 use std::slice;
 
 /// The fraction with the other sign.
-pub(crate) fn negated(f: Frac) -> Frac
+pub fn negated(f: Frac) -> Frac
     ensures { result ≡ fractions.negated f }
 {
     match Frac::of(-i128::from(f.num()), i128::from(f.den())) {

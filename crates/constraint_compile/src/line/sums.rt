@@ -5,21 +5,20 @@ ghost use Prim.Native.Nat.{◌∣◌};
 ghost use Rattle.frac_core.specs.declared.frac.TheConstants.{PART_BOUND};
 ghost use Rattle.problem_core.specs.Layout.{coefficient};
 ghost use Rattle.problem_core.specs.declared.limits.TheConstants.{COEFFICIENT_LIMIT};
-ghost use Rattle.constraint_compile.specs.Coefficients.Shares.{form, AreHalves};
+ghost use Rattle.compile_parts.specs.Shares.{form, AreHalves};
 ghost use Rattle.constraint_compile.specs.Coefficients.Sums.{AreKept, IsSumWithShare, IsPastWithShare};
 ghost use Rattle.constraint_compile.specs.Coefficients.Sums.{IsDivisor};
 ghost use Rattle.constraint_compile.specs.Coefficients.Sums.{AreDivided, IsPast, AreWhole, attr_at};
 ghost use Rattle.constraint_compile.specs.Coefficients.Sums.{number_at};
 ghost use Rattle.constraint_compile.specs.Coefficients.Sums.{with_share_number};
 
-use crate::attributes::{Doubled, Share};
-use crate::wide::{product, total};
+use compile_parts::{Doubled, Share, product, total};
 use frac_core::{Frac, OutOfMemory, gcd, quotient};
 use problem_core::{COEFFICIENT_LIMIT, Term};
 use std::alloc::Global;
 
 /// A sum of terms: each attribute of a list of them has the number at its place, over the scale.
-#[derive(Drop, Debug)]
+#[derive(Drop)]
 pub(crate) struct Sum {
     pub scale: u32,
     pub numbers: Vec<i64>,
@@ -44,7 +43,7 @@ pub(crate) fn halves(of: &Doubled, attr: u32) -> i64
 }
 
 /// A quotient and its rest.
-#[derive(Clone, Copy, Debug)]
+#[derive(Clone, Copy)]
 pub(crate) struct Division {
     pub whole: i64,
     pub rest: i64,

@@ -27,22 +27,22 @@ use Rattle.corner_lines.specs.Levels.LevelRows.{IsPivot, line_numbers}
 use Rattle.corner_lines.proofs.LevelRows.LevelExchanges.{by-sides}
 use Rattle.corner_lines.proofs.Lines.LinePivots.{equation_is_pivot}
 use Rattle.corner_lines.proofs.Lines.LineSums.{both-cancel}
-use Rattle.corner.specs.Tables.{Lists, entry, line_slot, marks_at, number, problem_of, slot_at, standing_at}
-use Rattle.corner.specs.Kept.{IsEquationAt, IsLineRow}
-use Rattle.corner.specs.Additions.Parts.{IsPartlyKept}
+use Rattle.corner_table.specs.Tables.{Lists, entry, line_slot, marks_at, number, problem_of, slot_at, standing_at}
+use Rattle.corner_table.specs.Kept.{IsEquationAt, IsLineRow}
+use Rattle.corner_joins.specs.Additions.Parts.{IsPartlyKept}
 use Rattle.corner.specs.Views.{AreCandidates, IsNamed}
-use Rattle.corner.specs.Invariants.{name_of, names_of}
-use Rattle.corner.specs.Reads.LevelNumbers.{side_share}
-use Rattle.corner.specs.Additions.JoinedLists.{AreRowsListed, IsFreeRow, IsRowListed}
+use Rattle.corner_table.specs.Invariants.{name_of, names_of}
+use Rattle.corner_table.specs.Reads.LevelNumbers.{side_share}
+use Rattle.corner_joins.specs.Additions.JoinedLists.{AreRowsListed, IsFreeRow, IsRowListed}
 use Rattle.corner.proofs.Attributes.AttrColumns.{negative_mark}
 use Rattle.corner.proofs.Swaps.CandidatesAfter.{listed_name}
 use Rattle.corner_lines.proofs.LevelRows.OtherNumbers.{other-number}
 use Rattle.corner.proofs.Swaps.ColumnReturns.{inside_not_negative, negative-line, returned, unmoved-column}
-use Rattle.corner.proofs.Basics.ListFacts.{from_map, to_map}
-use Rattle.corner.proofs.Readings.MarkFacts.{inside_stands}
-use Rattle.corner.proofs.Readings.ReadFacts.{is_some, mark_named}
-use Rattle.corner.proofs.Readings.SlotFacts.{any_impl, any_is}
-use Rattle.corner.proofs.Readings.WritingFacts.{lines_apart}
+use Rattle.corner_table.proofs.Basics.ListFacts.{from_map, to_map}
+use Rattle.corner_table.proofs.Readings.MarkFacts.{inside_stands}
+use Rattle.corner_table.proofs.Readings.ReadFacts.{is_some, mark_named}
+use Rattle.corner_table.proofs.Readings.SlotFacts.{any_impl, any_is}
+use Rattle.corner_table.proofs.Readings.WritingFacts.{lines_apart}
 use Rattle.frac_core.proofs.Numbers.{no-product as times-none, zero-parts as still-none, signed-not-zero as not_zero}
 use Rattle.frac_core.proofs.Lists.{any-cases as any-first, any-here, pairs-rest, each-right as each-second, any-later as later-any}
 use Rattle.problem_core.proofs.RowNames.{stay-not-held as stay-held}
@@ -50,7 +50,7 @@ use Rattle.corner_laws.proofs.MarkWritings.Lifts.{taken}
 use Rattle.corner_lines.proofs.LevelRows.LevelRests.{below-other as held-less}
 use Rattle.problem_core.proofs.Lines.{each-less as each_less, name-cases}
 use Rattle.corner_laws.proofs.Counting.{head_pairs as pairs-first}
-use Rattle.corner.proofs.Pivots.LineChanges.{cond-zero as row-none}
+use Rattle.corner_exchange.proofs.Pivots.LineChanges.{cond-zero as row-none}
 
 -- ---- a row that has joined
 

@@ -15,8 +15,9 @@ use Rattle.problem_core.specs.Certificates.{Multipliers}
 use Rattle.problem_core.specs.Corners.{AreMultipliersAt, HasNegativeColumn, IsIn, IsLexNegative, column, marks_of, place, place_of}
 use Rattle.corner_lines.specs.Joins.{with_attr}
 use Rattle.corner.specs.Views.{IsMarkOf}
-use Rattle.corner.proofs.Attributes.AttrJoins.{lines_more, new_line, own_stay}
-use Rattle.corner.proofs.Attributes.AttrLevels.{each_old, sum_push}
+use Rattle.corner_joins.proofs.Attributes.AttrJoins.{lines_more, new_line}
+use Rattle.corner_exchange.proofs.Basics.SmallFacts.{own_stay}
+use Rattle.corner_joins.proofs.Attributes.AttrLevels.{each_old, sum_push}
 
 -- ---- the new attribute stands in no line before
 

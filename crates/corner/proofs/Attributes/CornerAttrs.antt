@@ -12,21 +12,21 @@ use Rattle.problem_core.specs.declared.parts.RowName.{RowName}
 use Rattle.problem_core.specs.Layout.{HasStay, Line, Problem, Row, line_of_row, stay_lines}
 use Rattle.problem_core.specs.Kept.{IsNumber, IsRow, IsWhole}
 use Rattle.corner_lines.specs.Joins.{with_attr}
-use Rattle.corner.specs.declared.table.Owner.TheVariants.{Level as LevelSlot}
-use Rattle.corner.specs.declared.table.Priority.{Priority}
-use Rattle.corner.specs.declared.table.Slot.{Slot}
-use Rattle.corner.specs.declared.table.Standing.{Standing}
-use Rattle.corner.specs.declared.table.Table.{Table}
+use Rattle.corner_table.specs.declared.table.Owner.TheVariants.{Level as LevelSlot}
+use Rattle.corner_table.specs.declared.table.Priority.{Priority}
+use Rattle.corner_table.specs.declared.table.Slot.{Slot}
+use Rattle.corner_table.specs.declared.table.Standing.{Standing}
+use Rattle.corner_table.specs.declared.table.Table.{Table}
 use Rattle.corner.specs.Views.{AreCandidates, IsNamed}
-use Rattle.corner.specs.Tables.{Lists, lists_of, marks_at, problem_of, scene_at, slot_at}
-use Rattle.corner.specs.Kept.{IsKept}
-use Rattle.corner.specs.Histories.{AreAlike, HasSameHistory, lists_before, side_by_side}
-use Rattle.corner.specs.Invariants.{IsConsistent, IsEarlier, name_of, names_of}
-use Rattle.corner.specs.Additions.Joining.{IsWithAttr, slot_of_attr, slot_of_stay}
+use Rattle.corner_table.specs.Tables.{Lists, lists_of, marks_at, problem_of, scene_at, slot_at}
+use Rattle.corner_table.specs.Kept.{IsKept}
+use Rattle.corner_table.specs.Histories.{AreAlike, HasSameHistory, lists_before, side_by_side}
+use Rattle.corner_table.specs.Invariants.{IsConsistent, IsEarlier, name_of, names_of}
+use Rattle.corner_table.specs.Joining.{IsWithAttr, slot_of_attr, slot_of_stay}
 use Rattle.corner.proofs.Attributes.AttrColumns.{negative_before, negative_mark}
-use Rattle.corner.proofs.Attributes.AttrJoins.{count_two, joined, named_more, old_slot}
-use Rattle.corner.proofs.Attributes.AttrLevels.{attr_kept, attr_marks, attr_problem, joined_is}
-use Rattle.corner.proofs.Attributes.AttrRows.{below_or}
+use Rattle.corner_joins.proofs.Attributes.AttrJoins.{count_two, joined, named_more, old_slot}
+use Rattle.corner_joins.proofs.Attributes.AttrLevels.{attr_kept, attr_marks, attr_problem, joined_is}
+use Rattle.corner_exchange.proofs.Basics.SmallFacts.{below_or}
 
 pub past_same : (t u : Table) → HasSameHistory t u → lists_before u ≡ lists_before t
 past_same t u h =

@@ -6,25 +6,25 @@ use Rattle.problem_core.specs.declared.parts.RowName.TheVariants.{Held, Stay as 
 use Rattle.problem_core.specs.Corners.{HasNegativeColumn}
 use Rattle.problem_core.specs.Layout.{Problem, lines}
 use Rattle.corner_lines.specs.Removals.{IsFree, without_attr}
-use Rattle.corner.specs.declared.table.Owner.{Owner}
-use Rattle.corner.specs.declared.table.Owner.TheVariants.{Level as LevelSlot, Attr as AttrSlot, Line as LineSlot}
-use Rattle.corner.specs.declared.table.Slot.{Slot}
-use Rattle.corner.specs.declared.table.Table.{Table}
+use Rattle.corner_table.specs.declared.table.Owner.{Owner}
+use Rattle.corner_table.specs.declared.table.Owner.TheVariants.{Level as LevelSlot, Attr as AttrSlot, Line as LineSlot}
+use Rattle.corner_table.specs.declared.table.Slot.{Slot}
+use Rattle.corner_table.specs.declared.table.Table.{Table}
 use Rattle.corner.specs.Removals.Dropping.{dropped_attr}
-use Rattle.corner.specs.Histories.{AreAlike, lists_before}
-use Rattle.corner.specs.Invariants.{IsConsistent, IsEarlier, name_of, names_of}
-use Rattle.corner.specs.Kept.{IsKept, IsOwned, IsSlot}
-use Rattle.corner.specs.Reads.Listing.{HasLeft}
-use Rattle.corner.specs.Tables.{Lists, attr_slot, line_slot, lists_of, marks_at, problem_of, slot_at}
+use Rattle.corner_table.specs.Histories.{AreAlike, lists_before}
+use Rattle.corner_table.specs.Invariants.{IsConsistent, IsEarlier, name_of, names_of}
+use Rattle.corner_table.specs.Kept.{IsKept, IsOwned, IsSlot}
+use Rattle.corner_table.specs.Reads.Listing.{HasLeft}
+use Rattle.corner_table.specs.Tables.{Lists, attr_slot, line_slot, lists_of, marks_at, problem_of, slot_at}
 use Rattle.corner.specs.Views.{AreCandidates, IsNamed, IsOutside}
-use Rattle.corner.proofs.Attributes.AttrLevels.{stay_named}
+use Rattle.corner_writings.proofs.Basics.OwnerFacts.{stay_named}
 use Rattle.corner.proofs.Attributes.DroppedAttrCandidates.{attr_left_negative}
 use Rattle.corner.proofs.Attributes.DroppedAttrKept.{IsApart, IsAttrDrop, attr_drop, attr_drop_kept, attr_drop_marks, attr_slot_same, count, left-lines, named-attr-left}
-use Rattle.corner.proofs.Basics.ListFacts.{all_from, from_map, to_map}
+use Rattle.corner_table.proofs.Basics.ListFacts.{all_from, from_map, to_map}
 use Rattle.corner.proofs.Swaps.NextConsistent.{were_listed}
-use Rattle.corner.proofs.Readings.ReadFacts.{mark_named, named_in}
-use Rattle.corner.proofs.Readings.SlotFacts.{any_is}
-use Rattle.corner.proofs.Readings.WritingFacts.{attr_owner, line_owner}
+use Rattle.corner_table.proofs.Readings.ReadFacts.{mark_named, named_in}
+use Rattle.corner_table.proofs.Readings.SlotFacts.{any_is}
+use Rattle.corner_table.proofs.Readings.WritingFacts.{attr_owner, line_owner}
 use Rattle.problem_core.proofs.RowNames.{held-not-stay as held-not}
 
 -- neither of the attribute's slots is listed then

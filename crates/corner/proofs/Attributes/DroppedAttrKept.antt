@@ -30,27 +30,27 @@ use Rattle.corner_laws.proofs.LevelCosts.LevelSizes.{no-over, no-under}
 use Rattle.corner_lines.specs.LineEquations.{IsLineEquation, IsOutsideLine, deviation, sign_of}
 use Rattle.corner_lines.specs.Removals.{IsFree, without_attr}
 use Rattle.corner_lines.proofs.ProblemChanges.DroppedAttr.{attr_left_attr, attr_left_corner, attr_left_inside, attr_left_rays, attr_none, line_none, stay-out, filter-on, filter-off, other_stay}
-use Rattle.corner.specs.declared.table.Owner.{Owner}
-use Rattle.corner.specs.declared.table.Owner.TheVariants.{Level as LevelSlot, Attr as AttrSlot, Line as LineSlot}
-use Rattle.corner.specs.declared.table.Slot.{Slot}
-use Rattle.corner.specs.declared.table.Standing.{Standing}
-use Rattle.corner.specs.declared.table.TheConstants.{LEVELS}
+use Rattle.corner_table.specs.declared.table.Owner.{Owner}
+use Rattle.corner_table.specs.declared.table.Owner.TheVariants.{Level as LevelSlot, Attr as AttrSlot, Line as LineSlot}
+use Rattle.corner_table.specs.declared.table.Slot.{Slot}
+use Rattle.corner_table.specs.declared.table.Standing.{Standing}
+use Rattle.corner_table.specs.declared.table.TheConstants.{LEVELS}
 use Rattle.corner.specs.Removals.Dropping.{dropped_attr, no_slot}
-use Rattle.corner.specs.Kept.{AreOutside, AreSlots, AreStored, HasStayRoom, IsAttrRow, IsAttrSlot, IsEquationAt, IsKept, IsLevelKept, IsLineRow, IsLineSlot, IsOwned, IsSlot, home_of}
-use Rattle.corner.specs.Swaps.Exchanges.{row_number}
-use Rattle.corner.specs.Tables.{Lists, attr_slot, entry, is_side, line_slot, marks_at, number, priority_at, problem_of, row_at, slot_at, standing_at, stands_in}
+use Rattle.corner_table.specs.Kept.{AreOutside, AreSlots, AreStored, HasStayRoom, IsAttrRow, IsAttrSlot, IsEquationAt, IsKept, IsLevelKept, IsLineRow, IsLineSlot, IsOwned, IsSlot, home_of}
+use Rattle.corner_writings.specs.Rows.{row_number}
+use Rattle.corner_table.specs.Tables.{Lists, attr_slot, entry, is_side, line_slot, marks_at, number, priority_at, problem_of, row_at, slot_at, standing_at, stands_in}
 use Rattle.corner.specs.Views.{IsNamed}
-use Rattle.corner.proofs.Attributes.AttrJoins.{own_name, own_stay}
-use Rattle.corner.proofs.Attributes.AttrLevels.{stay_named}
+use Rattle.corner_exchange.proofs.Basics.SmallFacts.{own_name, own_stay}
+use Rattle.corner_writings.proofs.Basics.OwnerFacts.{stay_named}
 use Rattle.corner.proofs.Attributes.DroppedAttrLevels.{attr_left_cost, attr_left_level, attr_left_unit, attr_level_none, stays_part}
-use Rattle.corner.proofs.Readings.MarkFacts.{stands_inside}
-use Rattle.corner.proofs.Pivots.PairFacts.{named_mark}
-use Rattle.corner.proofs.Readings.ReadFacts.{attr_equation}
-use Rattle.corner.proofs.Readings.SlotFacts.{any_is, named_slot}
-use Rattle.corner.proofs.Readings.WritingFacts.{attr_apart, attr_owner, lines_apart}
+use Rattle.corner_table.proofs.Readings.MarkFacts.{stands_inside}
+use Rattle.corner_exchange.proofs.Pivots.PairFacts.{named_mark}
+use Rattle.corner_table.proofs.Readings.ReadFacts.{attr_equation}
+use Rattle.corner_table.proofs.Readings.SlotFacts.{any_is, named_slot}
+use Rattle.corner_table.proofs.Readings.WritingFacts.{attr_apart, attr_owner, lines_apart}
 use Rattle.corner.proofs.Removals.DroppedKept.{EquationBy, no_standing}
 use Rattle.problem_core.proofs.Lines.{rows-change as rows-left}
-use Rattle.corner.proofs.Readings.MovedFacts.{side_itself as side-true}
+use Rattle.corner_writings.proofs.Readings.MovedFacts.{side_itself as side-true}
 use Rattle.problem_core.proofs.Sides.{zero-kept as zero_kept}
 
 -- ---- stays without one

@@ -2,13 +2,13 @@
 use Rattle.std.proofs.Common.{◌≡◌, ◌∙◌, ◌-◌, ℕ, zero, suc, List, [], ◌∷◌, length, map, take, refl, ap, sym, subst, All}
 use Rattle.std.specs.List.{AllByRecursion as Each}
 use Rattle.std.proofs.lemmas.List.Elements.{All-from_recursion, recursion_from_All}
-use Rattle.corner.specs.declared.table.Table.{Table}
+use Rattle.corner_table.specs.declared.table.Table.{Table}
 use Rattle.corner.specs.Views.{AreCandidates, IsNamed}
-use Rattle.corner.specs.Tables.{Lists, lists_of, marks_at, problem_of, scene_at}
-use Rattle.corner.specs.Kept.{IsKept, IsSlot}
-use Rattle.corner.specs.Histories.{AreAlike, lists_before}
-use Rattle.corner.proofs.Corners.HistoryFacts.{sided}
-use Rattle.corner.specs.Invariants.{IsConsistent, IsEarlier, names_of}
+use Rattle.corner_table.specs.Tables.{Lists, lists_of, marks_at, problem_of, scene_at}
+use Rattle.corner_table.specs.Kept.{IsKept, IsSlot}
+use Rattle.corner_table.specs.Histories.{AreAlike, lists_before}
+use Rattle.corner_table.proofs.Corners.HistoryFacts.{sided}
+use Rattle.corner_table.specs.Invariants.{IsConsistent, IsEarlier, names_of}
 use Rattle.frac_core.proofs.Lists.{length-mapped as map_length}
 
 each_take : {X : Type 0} (P : X → Type 0) (n : ℕ) (xs : List X) → Each P xs → Each P (take n xs)

@@ -22,8 +22,8 @@ use Rattle.corner_lines.specs.Removals.{without_row}
 use Rattle.corner_lines.proofs.LevelRows.LevelExchanges.{by-sides}
 use Rattle.corner_lines.proofs.Lines.LineSums.{both-cancel}
 use Rattle.corner_lines.proofs.Lines.MarkForms.{same-name}
-use Rattle.corner.specs.Additions.JoinedLists.{IsFreeRow}
-use Rattle.corner.specs.Reads.LevelNumbers.{side_share}
+use Rattle.corner_joins.specs.Additions.JoinedLists.{IsFreeRow}
+use Rattle.corner_table.specs.Reads.LevelNumbers.{side_share}
 use Rattle.corner.proofs.Swaps.ColumnReturns.{factor_of, leaving-column, negative-line, returned, unmoved-column}
 use Rattle.corner.proofs.Removals.DroppedLevels.{lines_back, sum_without}
 use Rattle.corner.proofs.Removals.LeftLists.{in_left}

@@ -19,37 +19,37 @@ use Rattle.corner_lines.specs.Removals.{without_row}
 use Rattle.corner_lines.proofs.Lines.LinePivots.{equation_is_pivot}
 use Rattle.corner.specs.declared.leaving.Leaver.{Leaver}
 use Rattle.corner.specs.declared.leaving.Left.{Left}
-use Rattle.corner.specs.declared.table.Owner.{Owner}
-use Rattle.corner.specs.declared.table.Owner.TheVariants.{Level as LevelSlot, Attr as AttrSlot, Line as LineSlot}
-use Rattle.corner.specs.declared.table.Slot.{Slot}
-use Rattle.corner.specs.declared.table.Table.{Table}
-use Rattle.corner.specs.Additions.CostJoins.{IsFreeLine}
+use Rattle.corner_table.specs.declared.table.Owner.{Owner}
+use Rattle.corner_table.specs.declared.table.Owner.TheVariants.{Level as LevelSlot, Attr as AttrSlot, Line as LineSlot}
+use Rattle.corner_table.specs.declared.table.Slot.{Slot}
+use Rattle.corner_table.specs.declared.table.Table.{Table}
+use Rattle.corner_joins.specs.Additions.CostJoins.{IsFreeLine}
 use Rattle.corner.specs.Removals.Dropping.{AreLeftListed, dropped}
-use Rattle.corner.specs.Histories.{AreAlike, lists_before}
-use Rattle.corner.specs.Invariants.{IsConsistent, IsEarlier, name_of, names_of}
-use Rattle.corner.specs.Kept.{AreSlots, IsEquationAt, IsKept, IsLineRow, IsSlot}
-use Rattle.corner.specs.Additions.JoinedLists.{IsFreeRow}
+use Rattle.corner_table.specs.Histories.{AreAlike, lists_before}
+use Rattle.corner_table.specs.Invariants.{IsConsistent, IsEarlier, name_of, names_of}
+use Rattle.corner_table.specs.Kept.{AreSlots, IsEquationAt, IsKept, IsLineRow, IsSlot}
+use Rattle.corner_joins.specs.Additions.JoinedLists.{IsFreeRow}
 use Rattle.corner.specs.Removals.Leaving.{IsLeaver, marks_left, problem_left}
-use Rattle.corner.specs.Reads.LevelNumbers.{side_share}
-use Rattle.corner.specs.Tables.{Lists, entry, line_slot, lists_of, marks_at, number, problem_of, row_at, slot_at, standing_at}
+use Rattle.corner_table.specs.Reads.LevelNumbers.{side_share}
+use Rattle.corner_table.specs.Tables.{Lists, entry, line_slot, lists_of, marks_at, number, problem_of, row_at, slot_at, standing_at}
 use Rattle.corner.specs.Views.{AreCandidates, IsNamed, IsOutside}
 use Rattle.corner_lines.proofs.LevelRows.OtherNumbers.{other-number}
 use Rattle.corner.proofs.Attributes.CornerAttrs.{not_zero}
 use Rattle.corner.proofs.Removals.DroppedCandidates.{left_negative}
 use Rattle.corner.proofs.Removals.DroppedKept.{IsDrop, IsGoing, drop-slot-count, drop_kept, drop_marks, drop_slot_same, left-named, named-left, one-row}
 use Rattle.corner.proofs.Removals.LeftLists.{in_left}
-use Rattle.corner.proofs.Readings.MarkFacts.{inside_stands}
-use Rattle.corner.proofs.Readings.KeptFacts.{row_kept}
-use Rattle.corner.proofs.Basics.ListFacts.{all_from, from_map, to_map}
+use Rattle.corner_table.proofs.Readings.MarkFacts.{inside_stands}
+use Rattle.corner_table.proofs.Readings.KeptFacts.{row_kept}
+use Rattle.corner_table.proofs.Basics.ListFacts.{all_from, from_map, to_map}
 use Rattle.corner.proofs.Swaps.NextConsistent.{CanBeListed, outside_listed, were_listed}
-use Rattle.corner.proofs.Readings.ReadFacts.{is_some, mark_named, named_in}
-use Rattle.corner.proofs.Basics.RowEquations.{line-owned}
-use Rattle.corner.proofs.Readings.SlotFacts.{any_is, named_slot}
-use Rattle.corner.proofs.Readings.WritingFacts.{line_owner, lines_apart}
+use Rattle.corner_table.proofs.Readings.ReadFacts.{is_some, mark_named, named_in}
+use Rattle.corner_writings.proofs.Basics.OwnerFacts.{line-owned}
+use Rattle.corner_table.proofs.Readings.SlotFacts.{any_is, named_slot}
+use Rattle.corner_table.proofs.Readings.WritingFacts.{line_owner, lines_apart}
 use Rattle.problem_core.proofs.RowNames.{stay-not-held as stay-not}
 use Rattle.problem_core.proofs.Sides.{some-same as some-one}
 use Rattle.frac_core.proofs.Numbers.{zero-or-not as decide_zero}
-use Rattle.corner.proofs.Pivots.LineChanges.{cond-zero as row-none}
+use Rattle.corner_exchange.proofs.Pivots.LineChanges.{cond-zero as row-none}
 
 -- ---- names
 

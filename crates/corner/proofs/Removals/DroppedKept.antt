@@ -30,27 +30,28 @@ use Rattle.corner_lines.specs.LineEquations.{IsLineEquation, IsOutsideLine, devi
 use Rattle.corner_lines.proofs.ProblemChanges.Dropped.{attr_without, deviation_without, left_corner, left_line, left_rays, row-on, row-off, filter-on, filter-off, other_row, left-far as left_far}
 use Rattle.corner.specs.declared.leaving.Leaver.{Leaver}
 use Rattle.corner.specs.declared.leaving.Left.{Left}
-use Rattle.corner.specs.declared.table.Owner.{Owner}
-use Rattle.corner.specs.declared.table.Owner.TheVariants.{Level as LevelSlot, Attr as AttrSlot, Line as LineSlot}
-use Rattle.corner.specs.declared.table.Priority.{Priority}
-use Rattle.corner.specs.declared.table.Slot.{Slot}
-use Rattle.corner.specs.declared.table.Standing.{Standing}
-use Rattle.corner.specs.declared.table.TheConstants.{LEVELS}
+use Rattle.corner_table.specs.declared.table.Owner.{Owner}
+use Rattle.corner_table.specs.declared.table.Owner.TheVariants.{Level as LevelSlot, Attr as AttrSlot, Line as LineSlot}
+use Rattle.corner_table.specs.declared.table.Priority.{Priority}
+use Rattle.corner_table.specs.declared.table.Slot.{Slot}
+use Rattle.corner_table.specs.declared.table.Standing.{Standing}
+use Rattle.corner_table.specs.declared.table.TheConstants.{LEVELS}
 use Rattle.corner.specs.Removals.Dropping.{dropped, no_slot}
-use Rattle.corner.specs.Swaps.Exchanges.{IsOutsideSlot, row_number}
-use Rattle.corner.specs.Kept.{AreOutside, AreSlots, AreStored, HasStayRoom, IsAttrRow, IsAttrSlot, IsEquationAt, IsKept, IsLevelKept, IsLineRow, IsLineSlot, IsOwned, IsSlot, home_of, row_count}
+use Rattle.corner_exchange.specs.Swaps.Exchanges.{IsOutsideSlot}
+use Rattle.corner_writings.specs.Rows.{row_number}
+use Rattle.corner_table.specs.Kept.{AreOutside, AreSlots, AreStored, HasStayRoom, IsAttrRow, IsAttrSlot, IsEquationAt, IsKept, IsLevelKept, IsLineRow, IsLineSlot, IsOwned, IsSlot, home_of, row_count}
 use Rattle.corner.specs.Removals.Leaving.{IsLeaver, IsLevelLeft, marks_left, problem_left}
-use Rattle.corner.specs.Tables.{Lists, attr_slot, entry, is_side, line_slot, marks_at, number, priority_at, problem_of, row_at, slot_at, standing_at, stands_in}
+use Rattle.corner_table.specs.Tables.{Lists, attr_slot, entry, is_side, line_slot, marks_at, number, priority_at, problem_of, row_at, slot_at, standing_at, stands_in}
 use Rattle.corner.specs.Views.{IsNamed}
-use Rattle.corner.proofs.Attributes.AttrJoins.{own_name, own_stay}
-use Rattle.corner.proofs.Attributes.AttrLevels.{stay_named}
+use Rattle.corner_exchange.proofs.Basics.SmallFacts.{own_name, own_stay}
+use Rattle.corner_writings.proofs.Basics.OwnerFacts.{stay_named}
 use Rattle.corner.proofs.Removals.DroppedLevels.{CountsNothing, other_cost, other_row_is, other_unit}
 use Rattle.corner.proofs.Removals.LeftLists.{all_left, left_whole_problem, outside_back}
-use Rattle.corner.proofs.Readings.MarkFacts.{stands_inside}
-use Rattle.corner.proofs.Readings.MovedFacts.{none_some}
-use Rattle.corner.proofs.Pivots.PairFacts.{named_mark, side-stands}
-use Rattle.corner.proofs.Readings.SlotFacts.{any_impl, any_is, named_slot}
-use Rattle.corner.proofs.Readings.WritingFacts.{attr_apart, lines_apart}
+use Rattle.corner_table.proofs.Readings.MarkFacts.{stands_inside}
+use Rattle.corner_writings.proofs.Readings.MovedFacts.{none_some}
+use Rattle.corner_exchange.proofs.Pivots.PairFacts.{named_mark, side-stands}
+use Rattle.corner_table.proofs.Readings.SlotFacts.{any_impl, any_is, named_slot}
+use Rattle.corner_table.proofs.Readings.WritingFacts.{attr_apart, lines_apart}
 use Rattle.frac_core.proofs.Numbers.{zero-or-not as decide_zero}
 use Rattle.problem_core.proofs.Sides.{zero-kept as zero_kept}
 

@@ -15,19 +15,19 @@ use Rattle.problem_core.specs.Corners.{IsIn, place, place_of}
 use Rattle.corner_laws.specs.Lifts.{HasOneIn}
 use Rattle.corner.specs.declared.leaving.Leaver.{Leaver}
 use Rattle.corner.specs.declared.leaving.Left.{Left}
-use Rattle.corner.specs.declared.table.TheConstants.{LEVELS}
-use Rattle.corner.specs.Additions.CostJoins.{IsFreeLine}
+use Rattle.corner_table.specs.declared.table.TheConstants.{LEVELS}
+use Rattle.corner_joins.specs.Additions.CostJoins.{IsFreeLine}
 use Rattle.corner.specs.Removals.Dropping.{AreLeftListed, dropped, dropped_attr, freed, no_slot, with_left}
-use Rattle.corner.specs.Kept.{IsKept}
-use Rattle.corner.specs.Reads.Listing.{HasLeft}
+use Rattle.corner_table.specs.Kept.{IsKept}
+use Rattle.corner_table.specs.Reads.Listing.{HasLeft}
 use Rattle.corner.specs.Removals.Leaving.{IsLeaver, IsLevelLeft}
-use Rattle.corner.specs.Tables.{IsListedOf, Lists, attr_slot, marks_at, problem_of, row_at, standing_at}
+use Rattle.corner_table.specs.Tables.{IsListedOf, Lists, attr_slot, marks_at, problem_of, row_at, standing_at}
 use Rattle.problem_core.specs.Window.{zero_fraction}
 use Rattle.corner.specs.Views.{IsNamed}
 use Rattle.corner.proofs.Removals.DroppedLists.{other_than, removed}
-use Rattle.corner.proofs.Basics.ListFacts.{to_map}
-use Rattle.corner.proofs.Readings.WritingFacts.{in_mark}
-use Rattle.corner.proofs.Readings.ReadFacts.{mark_named}
+use Rattle.corner_table.proofs.Basics.ListFacts.{to_map}
+use Rattle.corner_table.proofs.Readings.WritingFacts.{in_mark}
+use Rattle.corner_table.proofs.Readings.ReadFacts.{mark_named}
 
 pub left_below : (t : Lists) (leaver : Leaver) (left : Left) → IsKept t → leaver.level < LEVELS → IsLevelLeft t leaver left → IsBelow (length t.slots) left.change.row
 left_below t leaver left kept lt h = λ i d within.

@@ -32,15 +32,15 @@ use Rattle.corner_lines.proofs.LevelRows.LevelJoins.{empty_level_has_row}
 use Rattle.corner_lines.proofs.LevelRows.LevelSound.{whole_is_sound}
 use Rattle.corner.specs.declared.leaving.Leaver.{Leaver}
 use Rattle.corner.specs.declared.leaving.Left.{Left}
-use Rattle.corner.specs.declared.table.TheConstants.{LEVELS}
-use Rattle.corner.specs.Tables.{Lists, line_slot, marks_at, number, priority_at, problem_of, standing_at}
-use Rattle.corner.specs.Changes.{IsUnfitStop}
-use Rattle.corner.specs.Swaps.Exchanges.{row_number}
+use Rattle.corner_table.specs.declared.table.TheConstants.{LEVELS}
+use Rattle.corner_table.specs.Tables.{Lists, line_slot, marks_at, number, priority_at, problem_of, standing_at}
+use Rattle.corner_exchange.specs.Stops.{IsUnfitStop}
+use Rattle.corner_writings.specs.Rows.{row_number}
 use Rattle.corner.specs.Removals.Leaving.{IsFittingLeft, IsLeftRow, IsLeftStop, IsLevelLeft, IsUnfitLeft, left_count, marks_left, problem_left}
-use Rattle.corner.proofs.Costs.CostJoins.{row_fits, row_unfit}
-use Rattle.corner.proofs.Costs.CostValues.{ratio-back, ratio-same}
-use Rattle.corner.proofs.LevelFacts.FittingRows.{stays_above}
-use Rattle.corner.proofs.Readings.KeptFacts.{value_kept}
+use Rattle.corner_joins.proofs.Costs.CostJoins.{row_fits, row_unfit}
+use Rattle.corner_joins.proofs.Costs.CostValues.{ratio-back, ratio-same}
+use Rattle.corner_writings.proofs.LevelFacts.FittingRows.{stays_above}
+use Rattle.corner_table.proofs.Readings.KeptFacts.{value_kept}
 use Rattle.corner.proofs.Removals.LeavingRows.{IsLeavingRow, count_is, its_count, its_deviation, its_equation, its_leave, its_level, its_name, its_numbers, its_size, left_sound, level_kept, rows_left_is}
 use Rattle.corner.proofs.Removals.LeftLevels.{cost_left, cost_ratio, no_cost}
 use Rattle.corner.proofs.Removals.LeftLists.{with_lighter}

@@ -18,7 +18,7 @@ use Rattle.frac_core.proofs.Integers.{mul-zero_ℤ, add-zero_ℤ}
 use Rattle.problem_core.specs.declared.parts.Side.{Side}
 use Rattle.problem_core.specs.declared.parts.Side.TheVariants.{Under, Over}
 use Rattle.problem_core.specs.declared.parts.RowName.TheVariants.{Held}
-use Rattle.problem_core.specs.Layout.{Line, Row, line_of_row, lines, stay_lines}
+use Rattle.problem_core.specs.Layout.{Line, Row, line_of_row, lines}
 use Rattle.problem_core.specs.Corners.{IsIn, place_of}
 use Rattle.problem_core.specs.Certificates.{weight_at}
 use Rattle.std.proofs.lemmas.Bool.{cases_eq}
@@ -28,31 +28,29 @@ use Rattle.corner_lines.specs.Levels.LevelRows.{inside_number}
 use Rattle.corner_lines.proofs.LevelRows.LevelExchanges.{inside-numbers}
 use Rattle.std.proofs.lemmas.List.Elements.{All-from_recursion}
 use Rattle.corner.specs.declared.leaving.Leaver.{Leaver}
-use Rattle.corner.specs.declared.table.TheConstants.{LEVELS}
-use Rattle.corner.specs.declared.table.Slot.{Slot}
-use Rattle.corner.specs.Tables.{Lists, entry, line_slot, marks_at, priority_at, problem_of, row_at, slot_at, standing_at}
-use Rattle.corner.specs.Kept.{AreSlots, IsKept, IsLineSlot}
+use Rattle.corner_table.specs.declared.table.TheConstants.{LEVELS}
+use Rattle.corner_table.specs.declared.table.Slot.{Slot}
+use Rattle.corner_table.specs.Tables.{Lists, entry, line_slot, marks_at, priority_at, problem_of, row_at, slot_at, standing_at}
+use Rattle.corner_table.specs.Kept.{AreSlots, IsKept, IsLineSlot}
 use Rattle.corner.specs.Views.{IsNamed}
-use Rattle.corner.specs.Reads.LevelNumbers.{IsCounted, unit_at}
-use Rattle.corner.specs.Additions.CostJoins.{AreShareFactors, IsLeastUnit, IsUnfitRise}
+use Rattle.corner_table.specs.Reads.LevelNumbers.{IsCounted, unit_at}
+use Rattle.corner_joins.specs.Additions.CostJoins.{AreShareFactors, IsLeastUnit, IsUnfitRise}
 use Rattle.corner.specs.Removals.Leaving.{HasMultiple, IsLeaver, IsLeftRow, IsLeftShare, IsLeftUnit, IsTimes, left_count, left_whole, marks_left, problem_left}
-use Rattle.corner.proofs.Readings.SlotFacts.{any_impl, any_is}
-use Rattle.corner.proofs.LevelFacts.FittingLoops.{counted_named}
+use Rattle.corner_table.proofs.Readings.SlotFacts.{any_impl, any_is}
+use Rattle.corner_writings.proofs.LevelFacts.FittingLoops.{counted_named}
 use Rattle.corner_laws.specs.Lifts.{HasOneIn}
 use Rattle.problem_core.specs.Kept.{IsRow}
-use Rattle.corner.proofs.Attributes.AttrJoins.{zero_unless}
-use Rattle.corner.proofs.Costs.CostUnits.{scale_above}
+use Rattle.corner_writings.proofs.Basics.SmallFacts.{zero_unless}
+use Rattle.corner_joins.proofs.Costs.CostUnits.{scale_above}
 use Rattle.corner.proofs.Removals.LeavingRows.{IsLeavingRow, count_is, its_home, its_level, its_line, its_mark, its_size, its_size_above, its_size_is, its_slot, level_apart, left_row_is, left_unfit, level_kept, level_own_is, times-count}
 use Rattle.corner.proofs.Removals.LeavingUnits.{IsUnitTo, never_unfit, one_row_more}
 use Rattle.frac_core.proofs.Numbers.{times-one, above-right as quotient-above, rest-less as own-part}
-use Rattle.corner.proofs.Costs.CostLines.{one-side, as_line as line-among}
+use Rattle.corner_joins.proofs.Costs.CostLines.{one-side}
 use Rattle.frac_core.proofs.Products.{above_zero as positive-pos}
-use Rattle.corner.proofs.LevelFacts.LevelRowFacts.{unit-below as below-unit}
+use Rattle.corner_writings.proofs.LevelFacts.LevelRowFacts.{unit-below as below-unit}
+use Rattle.corner_joins.proofs.Costs.CostEnds.{row_line}
 
 -- ---- a row of the lists
-
-pub row_line : (t : Lists) (s : Row) → Any (λ o. o ≡ s) t.rows → Any (λ l. l ≡ line_of_row s) (lines (problem_of t))
-row_line t s is = line-among s t.rows (stay_lines 1001 t.stays) is
 
 pub row_name : (t : Lists) (s : Row) → Any (λ o. o ≡ s) t.rows → IsNamed (problem_of t) (Held s.id)
 row_name t s is = any_impl (λ l. l ≡ line_of_row s) (λ l. l.name ≡ Held s.id) (lines (problem_of t)) (λ l e. ap (λ (k : Line). k.name) e) (row_line t s is)
@@ -158,9 +156,6 @@ scale_room t r x unit times h u q =
     (smaller-product lev.own q.size u.size lev.unit PART_BOUND u.least.above same lev.numbers.fits.scale_fits)
 
 -- ---- factors
-
-pub one-step : (a b : ℤ) → a ≡ b → a ≡ b *ℤ pos 1
-one-step a b e = e ∙ sym (times-one b)
 
 pub left_share : (t : Lists) (r : Row) (x : Leaver) (own line_own count : ℤ) (by : Factors) → IsLeavingRow t r x → own ≡ entry t x.level x.level → line_own ≡ entry t x.line x.line → count ≡ neg_ℤ (pos (left_count t x) *ℤ sign_of x.side)
     → (f : AreShareFactors own line_own count (pos 1) by) → IsLeftShare t x f.k by.n

@@ -15,14 +15,14 @@ use Rattle.corner_lines.specs.LineEquations.{IsOutsideLine}
 use Rattle.corner_laws.specs.LevelLaws.{small_number, small_scale}
 use Rattle.corner_lines.specs.Levels.LevelRows.{inside_number, reduced_number}
 use Rattle.corner_lines.proofs.Costs.LevelFits.{small_row_fits}
-use Rattle.corner.specs.declared.levels.fitting.Draft.{Draft}
+use Rattle.corner_writings.specs.declared.levels.fitting.Draft.{Draft}
 use Rattle.corner.specs.declared.leaving.Leaver.{Leaver}
-use Rattle.corner.specs.Tables.{Lists, line_slot, marks_at}
-use Rattle.corner.specs.Swaps.Exchanges.{row_number}
-use Rattle.corner.specs.Reads.Fitting.{IsFittingLine}
+use Rattle.corner_table.specs.Tables.{Lists, line_slot, marks_at}
+use Rattle.corner_writings.specs.Rows.{row_number}
+use Rattle.corner_writings.specs.Fitting.{IsFittingLine}
 use Rattle.corner.specs.Removals.Leaving.{AreLeftFitting, IsFittingLeft, IsUnfitLeft, marks_left, problem_left}
-use Rattle.corner.proofs.Costs.CostFits.{sides}
-use Rattle.corner.proofs.LevelFacts.FittingRows.{IsDraftThere, IsFitThere, IsSeen, fits-line, line-fits, number_fits, seen-lines, small-numbers, stays_above}
+use Rattle.corner_joins.proofs.Costs.CostFits.{sides}
+use Rattle.corner_writings.proofs.LevelFacts.FittingRows.{IsDraftThere, IsFitThere, IsSeen, fits-line, line-fits, number_fits, seen-lines, small-numbers, stays_above}
 use Rattle.corner.proofs.Removals.LeavingRows.{IsLeavingRow, its_level, left_sound}
 use Rattle.corner.proofs.Removals.LeftLists.{in_left, left_rows, outside_back, rows_left}
 use Rattle.problem_core.proofs.RowNames.{held-same}

@@ -1,5 +1,5 @@
 -- The row of a level that a row leaves.
-use Rattle.std.proofs.Common.{◌≡◌, ◌≢◌, ◌∙◌, ◌⊎◌, ℕ, zero, suc, ◌+◌, ◌-◌, ◌*◌, ◌/◌, ◌<◌, Bool, cond, nat_eq, List, [], refl, sym, ap, ap₂, subst, arith, inl, inr, ℤ, pos, negsuc, neg_ℤ, ◌+ℤ◌, ◌*ℤ◌, ◌<ℤ◌, unsigned_abs, All, Any, Some, None, eq-eqb, ne_eqb, get_or, mul-pos}
+use Rattle.std.proofs.Common.{◌≡◌, ◌≢◌, ◌∙◌, ◌⊎◌, ℕ, zero, suc, ◌+◌, ◌-◌, ◌*◌, ◌/◌, ◌<◌, Bool, cond, nat_eq, List, refl, sym, ap, ap₂, subst, arith, inl, inr, ℤ, pos, negsuc, neg_ℤ, ◌+ℤ◌, ◌*ℤ◌, ◌<ℤ◌, unsigned_abs, All, Any, Some, None, eq-eqb, ne_eqb, get_or, mul-pos}
 use Rattle.std.specs.List.{AllByRecursion as Each}
 use Rattle.std.specs.declared.option.Option.{Option}
 use Rattle.std.specs.Int.{◌∣◌}
@@ -19,7 +19,7 @@ use Rattle.problem_core.specs.declared.parts.RowName.TheVariants.{Held}
 use Rattle.problem_core.specs.Layout as layout
 use Rattle.problem_core.specs.Layout.{Line, Problem, Row, line_of_row, lines, stay_lines}
 use Rattle.problem_core.specs.Corners.{IsCorner, IsIn, place_of}
-use Rattle.problem_core.specs.Certificates.{over_weight, under_weight, weight_at}
+use Rattle.problem_core.specs.Certificates.{over_weight, under_weight}
 use Rattle.problem_core.specs.Rays.{HasRays}
 use Rattle.problem_core.specs.Levels.{HasNoLevelWriting}
 use Rattle.problem_core.specs.Window.{zero_fraction}
@@ -37,30 +37,33 @@ use Rattle.corner_lines.proofs.LevelRows.LevelSound.{whole_is_sound}
 use Rattle.corner_lines.proofs.Lines.LinePivots.{equation_is_pivot}
 use Rattle.corner_lines.proofs.Lines.LineWritings.{line_value}
 use Rattle.corner.specs.declared.leaving.Leaver.{Leaver}
-use Rattle.corner.specs.declared.table.TheConstants.{LEVELS}
-use Rattle.corner.specs.Tables.{Lists, entry, line_slot, marks_at, number, priority_at, problem_of, slot_at, standing_at}
-use Rattle.corner.specs.Kept.{IsEquationAt, IsKept, IsLevelKept, IsLineRow, IsLineSlot, IsSlot}
+use Rattle.corner_table.specs.declared.table.TheConstants.{LEVELS}
+use Rattle.corner_table.specs.Tables.{Lists, entry, line_slot, marks_at, number, priority_at, problem_of, slot_at, standing_at}
+use Rattle.corner_table.specs.Kept.{IsEquationAt, IsKept, IsLevelKept, IsLineRow, IsLineSlot, IsSlot}
 use Rattle.corner.specs.Views.{IsNamed}
-use Rattle.corner.specs.Swaps.Exchanges.{IsOutsideSlot, row_number}
-use Rattle.corner.specs.Reads.LevelNumbers.{share_of, side_share, unit_at}
+use Rattle.corner_exchange.specs.Swaps.Exchanges.{IsOutsideSlot}
+use Rattle.corner_writings.specs.Rows.{row_number}
+use Rattle.corner_table.specs.Reads.LevelNumbers.{share_of, side_share, unit_at}
 use Rattle.corner.specs.Removals.Leaving.{IsLeaver, IsLeftRow, IsLeftShare, left_count, left_whole, marks_left, problem_left}
-use Rattle.corner.proofs.Readings.SlotFacts.{any_impl, any_is, named_slot}
-use Rattle.corner.proofs.Readings.MarkFacts.{inside_stands, stands_inside}
-use Rattle.corner.proofs.Readings.ReadFacts.{is_some}
-use Rattle.corner.proofs.Pivots.PairFacts.{named_mark, side-stands}
-use Rattle.corner.proofs.Basics.RowEquations.{AreTermsOf, line-owned, reduced_terms, unfit_terms, some-whole as some_whole}
-use Rattle.corner.proofs.Readings.WritingFacts.{lines_apart, number_is}
-use Rattle.corner.proofs.Attributes.AttrJoins.{own_name}
-use Rattle.corner.proofs.LevelFacts.LevelRowFacts.{out_line, unit-below as below-unit}
-use Rattle.corner.proofs.Costs.CostJoins.{row_unfit}
-use Rattle.corner.proofs.Costs.CostTerms.{by_slot, lowest_terms, negated-sum}
+use Rattle.corner_table.proofs.Readings.SlotFacts.{any_impl, any_is, named_slot}
+use Rattle.corner_table.proofs.Readings.MarkFacts.{inside_stands, stands_inside}
+use Rattle.corner_table.proofs.Readings.ReadFacts.{is_some}
+use Rattle.corner_exchange.proofs.Pivots.PairFacts.{named_mark, side-stands}
+use Rattle.corner_exchange.proofs.Basics.RowEquations.{AreTermsOf, reduced_terms, unfit_terms, some-whole as some_whole}
+use Rattle.corner_writings.proofs.Basics.OwnerFacts.{line-owned}
+use Rattle.corner_table.proofs.Readings.WritingFacts.{lines_apart, number_is}
+use Rattle.corner_exchange.proofs.Basics.SmallFacts.{own_name}
+use Rattle.corner_writings.proofs.LevelFacts.LevelRowFacts.{out_line, unit-below as below-unit}
+use Rattle.corner_joins.proofs.Costs.CostJoins.{row_unfit}
+use Rattle.corner_joins.proofs.Costs.CostTerms.{by_slot, lowest_terms, negated-sum}
 use Rattle.corner.proofs.Removals.LeftLists.{all_left, each_lighter, left_before, left_count_is, left_whole_problem, names_back, outside_back, with_lighter}
 use Rattle.corner.proofs.Removals.LeftLevels.{left_number, multiple_left}
 use Rattle.corner_lines.proofs.LevelRows.OtherNumbers.{other-number}
-use Rattle.corner.proofs.Costs.CostLines.{as_line as line-among, only_named as only-named, some-side}
+use Rattle.corner_joins.proofs.Costs.CostLines.{as_line as line-among, only_named as only-named, some-side}
 use Rattle.frac_core.proofs.Numbers.{mul-neg}
 use Rattle.problem_core.proofs.Sides.{zero-kept as zero_kept}
 use Rattle.corner_lines.proofs.LevelRows.LevelExchanges.{at-side as at_side}
+use Rattle.corner_joins.proofs.Basics.SmallFacts.{weight-there}
 
 -- a row that leaves lists that are kept
 pub record IsLeavingRow (t : Lists) (r : Row) (x : Leaver) : Type 0 where
@@ -195,9 +198,6 @@ pub its_count : (t : Lists) (r : Row) (x : Leaver) (level unit own : ℕ) → Is
 its_count t r x level unit own h = its_each (λ l. inside_number x.side level unit own (line_of_row r) ≡ inside_number x.side level unit own l) t r x h refl
 
 -- ---- what it counts
-
-pub weight-there : (r : Row) (l : ℕ) → l ≡ 1000 - r.rank → weight_at (line_of_row r) l ≡ r.weight
-weight-there r l e = ap (λ (b : Bool). cond b r.weight 0) (eq-eqb (1000 - r.rank) l (sym e))
 
 inside-count : (side : Side) (rel : Rel) (l unit m : ℕ) (r : Row) → rel ≡ r.rel → l ≡ 1000 - r.rank → m ≡ unit * r.weight / r.scale → neg_ℤ (pos (side_share rel side m) *ℤ sign_of side) ≡ inside_number side l unit 1 (line_of_row r)
 inside-count Under rel l unit m r e f g =

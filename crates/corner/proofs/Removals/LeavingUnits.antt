@@ -20,12 +20,12 @@ use Rattle.corner_lines.specs.Levels.LevelJoins.{IsLeastMultiple}
 use Rattle.corner_lines.proofs.LevelRows.LevelJoins.{whole-none}
 use Rattle.corner_lines.proofs.Lines.MarkForms.{same-name}
 use Rattle.corner.specs.declared.leaving.Leaver.{Leaver}
-use Rattle.corner.specs.declared.table.Slot.{Slot}
-use Rattle.corner.specs.Tables.{Lists, priority_at, problem_of}
-use Rattle.corner.specs.Additions.CostJoins.{IsLeastUnit, IsUnfitRise}
+use Rattle.corner_table.specs.declared.table.Slot.{Slot}
+use Rattle.corner_table.specs.Tables.{Lists, priority_at, problem_of}
+use Rattle.corner_joins.specs.Additions.CostJoins.{IsLeastUnit, IsUnfitRise}
 use Rattle.corner.specs.Removals.Leaving.{HasMultiple, IsLeftUnit, problem_left}
-use Rattle.corner.proofs.Readings.SlotFacts.{any_is}
-use Rattle.corner.proofs.LevelFacts.FittingRows.{stays_above}
+use Rattle.corner_table.proofs.Readings.SlotFacts.{any_is}
+use Rattle.corner_writings.proofs.LevelFacts.FittingRows.{stays_above}
 use Rattle.corner.proofs.Removals.LeavingRows.{IsLeavingRow, its_each, its_level, level_kept}
 use Rattle.corner.proofs.Removals.LeftLists.{all_left, left_rows, lines_back, rows_left}
 use Rattle.frac_core.proofs.Numbers.{less-or-here as split}

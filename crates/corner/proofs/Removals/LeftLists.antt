@@ -24,6 +24,7 @@ use Rattle.corner_lines.proofs.Lines.MarkForms.{same-name}
 use Rattle.corner_lines.proofs.ProblemChanges.Dropped.{filter-on, filter-off, lines-left, other_row}
 use Rattle.problem_core.proofs.RowNames.{stay-not-held as stay-not, held-same}
 use Rattle.problem_core.proofs.Marks.{later-in}
+use Rattle.corner_joins.proofs.Basics.SmallFacts.{no-more}
 
 -- ---- the problem where the row has no weight
 
@@ -159,9 +160,6 @@ left_product id (r ∷ rows) ls = elim (cases_eq r.id id) [
 ]
 
 -- ---- how many rows the level has
-
-pub no-more : (n : ℕ) → suc n ≡ n + 1
-no-more n = omega arith
 
 count-without : (k id : ℕ) (rows : List Row) → Each (λ (s : Row). s.id ≢ id) rows → level_count k (filter (other_row id) rows) ≡ level_count k rows
 count-without k id [] h = refl

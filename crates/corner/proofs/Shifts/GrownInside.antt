@@ -20,27 +20,27 @@ use Rattle.problem_core.specs.Corners.{Swap}
 use Rattle.problem_core.specs.Layout.{lines}
 use Rattle.corner_laws.specs.Runs.{other_side}
 use Rattle.corner.specs.declared.shifting.Growth.{Growth}
-use Rattle.corner.specs.declared.table.Owner.TheVariants.{Line as LineSlot}
-use Rattle.corner.specs.declared.table.Standing.{Standing}
-use Rattle.corner.specs.declared.table.TheConstants.{LEVELS}
-use Rattle.corner.specs.Swaps.Exchanges.{with_value}
-use Rattle.corner.specs.Additions.Joining.{at_zero}
-use Rattle.corner.specs.Kept.{AreSlots, IsKept, IsLineSlot, IsSlot, home_of}
-use Rattle.corner.specs.Reads.LevelNumbers.{IsSlotOfLine, count_of, unit_at}
+use Rattle.corner_table.specs.declared.table.Owner.TheVariants.{Line as LineSlot}
+use Rattle.corner_table.specs.declared.table.Standing.{Standing}
+use Rattle.corner_table.specs.declared.table.TheConstants.{LEVELS}
+use Rattle.corner_exchange.specs.Swaps.Exchanges.{with_value}
+use Rattle.corner_table.specs.Joining.{at_zero}
+use Rattle.corner_table.specs.Kept.{AreSlots, IsKept, IsLineSlot, IsSlot, home_of}
+use Rattle.corner_table.specs.Reads.LevelNumbers.{IsSlotOfLine, count_of, unit_at}
 use Rattle.corner.specs.Shifts.Shifting.{AreGrown, HaveGrown, IsGrowStop, IsGrowth, IsGrown, IsGrownValueStop, IsThere, growth_at, growth_by, home_growth, inside_growth, mark_growth, with_standings}
-use Rattle.corner.specs.Tables.{Lists, line_slot, problem_of, slot_at, standing_at}
-use Rattle.corner.specs.Swaps.TurnedLevels.{IsTurn, counts_at}
+use Rattle.corner_table.specs.Tables.{Lists, line_slot, problem_of, slot_at, standing_at}
+use Rattle.corner_exchange.specs.Swaps.TurnedLevels.{IsTurn, counts_at}
 use Rattle.corner.specs.Views.{IsNamed}
 use Rattle.corner.proofs.Shifts.GrownLists.{there_before}
-use Rattle.corner.proofs.Readings.KeptFacts.{value_kept}
-use Rattle.corner.proofs.Pivots.LevelCosts.{unit_above, unit_fits}
-use Rattle.corner.proofs.LevelFacts.LevelNumberFacts.{AreLevelsOf, named_line}
-use Rattle.corner.proofs.Readings.MarkingFacts.{row_named}
-use Rattle.corner.proofs.Swaps.PutFacts.{standing_slots}
-use Rattle.corner.proofs.Readings.SlotFacts.{any_is}
-use Rattle.corner.proofs.Basics.SumTurns.{nothing-added}
-use Rattle.corner.proofs.Swaps.TurnedChanges.{counts_there}
-use Rattle.corner.proofs.LevelFacts.LevelRowFacts.{unit-below as unit-there}
+use Rattle.corner_table.proofs.Readings.KeptFacts.{value_kept}
+use Rattle.corner_exchange.proofs.Pivots.LevelCosts.{unit_above, unit_fits}
+use Rattle.corner_writings.proofs.LevelFacts.LevelNumberFacts.{AreLevelsOf, named_line}
+use Rattle.corner_table.proofs.Readings.MarkingFacts.{row_named}
+use Rattle.corner_exchange.proofs.Swaps.PutFacts.{standing_slots}
+use Rattle.corner_table.proofs.Readings.SlotFacts.{any_is}
+use Rattle.corner_exchange.proofs.Basics.SumTurns.{nothing-added}
+use Rattle.corner_exchange.proofs.Swaps.TurnedChanges.{counts_there}
+use Rattle.corner_writings.proofs.LevelFacts.LevelRowFacts.{unit-below as unit-there}
 use Rattle.corner.proofs.Shifts.ShiftValues.{no-zero as sign-some}
 use Rattle.corner.proofs.Shifts.ShiftGrowths.{own_growth as at-line}
 

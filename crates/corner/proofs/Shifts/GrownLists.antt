@@ -1,5 +1,5 @@
 -- The values of an outside line's column grow one by one.
-use Rattle.std.proofs.Common.{◌≡◌, ◌≢◌, ◌∙◌, ℕ, zero, suc, ◌+◌, ◌<◌, ◌≤◌, List, [], ◌∷◌, length, refl, sym, ap, subst, arith, inl, inr, ℤ, pos, neg_ℤ, ◌*ℤ◌, slice_index_or, slice_set, All, AllPairs, Contains, Some, None}
+use Rattle.std.proofs.Common.{◌≡◌, ◌≢◌, ◌∙◌, ℕ, ◌+◌, ◌<◌, ◌≤◌, List, [], ◌∷◌, length, refl, sym, ap, subst, arith, inl, inr, ℤ, pos, neg_ℤ, ◌*ℤ◌, slice_index_or, slice_set, All, AllPairs, Contains, Some, None}
 use Rattle.std.proofs.lemmas.Bool.{cases_eq}
 use Rattle.std.proofs.lemmas.List.{get_or_default, get_or-set_same, get_or-set_other, length-set}
 use Rattle.std.proofs.lemmas.List.Elements.{All-contains, All-set}
@@ -16,20 +16,21 @@ use Rattle.problem_core.specs.declared.stops.What.{What}
 use Rattle.problem_core.specs.Changes.Stops.{TableStop}
 use Rattle.frac_core.specs.declared.memory.Stop.TheVariants.{Refused, OutOfMemory as NoMemory}
 use Rattle.corner.specs.declared.shifting.Growth.{Growth}
-use Rattle.corner.specs.declared.table.Owner.{Owner}
-use Rattle.corner.specs.declared.table.Owner.TheVariants.{Level as LevelSlot, Attr as AttrSlot, Line as LineSlot}
-use Rattle.corner.specs.declared.table.Standing.{Standing}
-use Rattle.corner.specs.Swaps.Exchanges.{IsWhatOf}
-use Rattle.corner.specs.Kept.{AreSlots, IsKept}
-use Rattle.corner.specs.Additions.Joining.{at_zero}
+use Rattle.corner_table.specs.declared.table.Owner.{Owner}
+use Rattle.corner_table.specs.declared.table.Owner.TheVariants.{Level as LevelSlot, Attr as AttrSlot, Line as LineSlot}
+use Rattle.corner_table.specs.declared.table.Standing.{Standing}
+use Rattle.corner_exchange.specs.Swaps.Exchanges.{IsWhatOf}
+use Rattle.corner_table.specs.Kept.{AreSlots, IsKept}
+use Rattle.corner_table.specs.Joining.{at_zero}
 use Rattle.corner.specs.Shifts.Shifting.{CanGrow, HaveGrown, IsGrowStop, IsGrowth, IsGrown, IsGrownValueStop, IsThere, growth_at, growth_by, outside_growth, sign_at, sign_there, with_standings}
-use Rattle.corner.specs.Tables.{IsSign, Lists, entry, slot_at, standing_at}
+use Rattle.corner_table.specs.Tables.{IsSign, Lists, entry, slot_at, standing_at}
 use Rattle.corner.proofs.Shifts.GrownSlots.{can_grow}
-use Rattle.corner.proofs.Basics.ListFacts.{further}
-use Rattle.corner.proofs.Swaps.NextFacts.{over_slots}
-use Rattle.corner.proofs.Corners.NewTables.{less_or}
+use Rattle.corner_table.proofs.Basics.ListFacts.{further}
+use Rattle.corner_exchange.proofs.Swaps.NextFacts.{over_slots}
+use Rattle.corner_table.proofs.Corners.NewTables.{less_or}
 use Rattle.frac_core.proofs.Lists.{pairs-rest}
 use Rattle.corner_laws.proofs.Counting.{head_pairs as pairs-first}
+use Rattle.corner_writings.proofs.Basics.SmallFacts.{behind}
 
 -- no one of the first n slots is this one
 abbrev pub IsNoFirst : ℕ → List ℕ → ℕ → Type 0
@@ -128,10 +129,6 @@ next_grown n w t line more slots u v rising within is below h grown =
     subst (AreFirstGrown (n + 1) t line more slots) (sym same) (step below growth, refl)
 
 -- ---- the column
-
-pub behind : (w : ℕ) (ws : List ℕ) (v : ℕ) → Contains (w ∷ ws) v → (w ≡ v → ⊥) → Contains ws v
-behind w ws v (zero, lt, x) never = absurd (never x)
-behind w ws v (suc k, lt, x) never = (k, omega (arith, lt), x)
 
 least : (w v : ℕ) (ws vs : List ℕ) → AllPairs (λ a b. a < b) (w ∷ ws) → Contains (w ∷ ws) v → w ≤ v
 least w v ws vs rising c =

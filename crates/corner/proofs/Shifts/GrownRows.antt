@@ -9,7 +9,7 @@ use Rattle.problem_core.specs.declared.parts.RowName.TheVariants.{Held}
 use Rattle.problem_core.specs.Layout.{Problem, Row}
 use Rattle.corner_lines.specs.Shifts.{IsShift, has_constant}
 use Rattle.corner.specs.Shifts.Shifting.{HaveGrown, IsNear, IsShifted, with_constant_at, with_shifted}
-use Rattle.corner.specs.Tables.{Lists, line_slot, problem_of}
+use Rattle.corner_table.specs.Tables.{Lists, line_slot, problem_of}
 use Rattle.corner_lines.proofs.ProblemChanges.Shifted.{shift-off as other-row}
 use Rattle.frac_core.proofs.Lists.{pairs-rest}
 use Rattle.corner_laws.proofs.Counting.{head_pairs as pairs-first}

@@ -13,24 +13,24 @@ use Rattle.problem_core.specs.declared.stops.What.{What}
 use Rattle.problem_core.specs.declared.stops.What.TheVariants.{Attr as AttrOf, Mark as MarkOf, Level as LevelOf}
 use Rattle.problem_core.specs.Layout.{HasStay, lines}
 use Rattle.corner.specs.declared.shifting.Growth.{Growth}
-use Rattle.corner.specs.declared.table.Owner.{Owner}
-use Rattle.corner.specs.declared.table.Owner.TheVariants.{Level as LevelSlot, Attr as AttrSlot, Line as LineSlot}
-use Rattle.corner.specs.declared.table.TheConstants.{LEVELS}
-use Rattle.corner.specs.Swaps.Exchanges.{IsWhatOf, IsWhatAt}
-use Rattle.corner.specs.Kept.{AreSlots, IsAttrRow, IsKept, IsLineRow, IsOwned, IsSlot, level_own}
+use Rattle.corner_table.specs.declared.table.Owner.{Owner}
+use Rattle.corner_table.specs.declared.table.Owner.TheVariants.{Level as LevelSlot, Attr as AttrSlot, Line as LineSlot}
+use Rattle.corner_table.specs.declared.table.TheConstants.{LEVELS}
+use Rattle.corner_exchange.specs.Swaps.Exchanges.{IsWhatOf, IsWhatAt}
+use Rattle.corner_table.specs.Kept.{AreSlots, IsAttrRow, IsKept, IsLineRow, IsOwned, IsSlot, level_own}
 use Rattle.corner.specs.Shifts.Shifting.{CanGrow, IsThere, over_at, sign_at, sign_there}
-use Rattle.corner.specs.Tables.{Lists, attr_slot, entry, line_slot, priority_at, problem_of, sign_of_what, slot_at, standing_at}
-use Rattle.corner.proofs.Readings.KeptFacts.{entry_fits}
-use Rattle.corner.proofs.Pivots.LevelCosts.{minus_sign, scale_above, scale_fits}
-use Rattle.corner.proofs.LevelFacts.LevelReadFacts.{fitting_cost}
-use Rattle.corner.proofs.LevelFacts.LevelWords.{product_is}
-use Rattle.corner.proofs.Readings.FreeSlots.{not_free}
-use Rattle.corner.proofs.Pivots.LineSlots.{stands_apart}
-use Rattle.corner.proofs.Readings.ReadFacts.{attr_equation}
-use Rattle.corner.proofs.Attributes.AttrRows.{below_or}
-use Rattle.corner.proofs.Pivots.LineChanges.{IsNoOutside}
-use Rattle.corner.proofs.Basics.RowEquations.{line-owned}
-use Rattle.corner.proofs.Readings.SlotFacts.{any_is}
+use Rattle.corner_table.specs.Tables.{Lists, attr_slot, entry, line_slot, priority_at, problem_of, sign_of_what, slot_at, standing_at}
+use Rattle.corner_table.proofs.Readings.KeptFacts.{entry_fits}
+use Rattle.corner_exchange.proofs.Pivots.LevelCosts.{minus_sign, scale_above, scale_fits}
+use Rattle.corner_writings.proofs.LevelFacts.LevelReadFacts.{fitting_cost}
+use Rattle.corner_exchange.proofs.LevelFacts.LevelWords.{product_is}
+use Rattle.corner_writings.proofs.Readings.FreeSlots.{not_free}
+use Rattle.corner_exchange.proofs.Pivots.LineSlots.{stands_apart}
+use Rattle.corner_table.proofs.Readings.ReadFacts.{attr_equation}
+use Rattle.corner_exchange.proofs.Basics.SmallFacts.{below_or}
+use Rattle.corner_exchange.proofs.Pivots.LineChanges.{IsNoOutside}
+use Rattle.corner_writings.proofs.Basics.OwnerFacts.{line-owned}
+use Rattle.corner_table.proofs.Readings.SlotFacts.{any_is}
 
 -- ---- what is at the slot
 

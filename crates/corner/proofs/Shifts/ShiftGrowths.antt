@@ -22,23 +22,23 @@ use Rattle.corner_lines.proofs.LevelRows.LevelExchanges.{inside-numbers}
 use Rattle.corner_lines.proofs.Lines.LineWritings.{named-mark}
 use Rattle.corner_lines.proofs.ProblemChanges.Shifted.{held-named}
 use Rattle.corner.specs.declared.shifting.Growth.{Growth}
-use Rattle.corner.specs.declared.table.Owner.{Owner}
-use Rattle.corner.specs.declared.table.Standing.{Standing}
-use Rattle.corner.specs.declared.table.TheConstants.{LEVELS}
-use Rattle.corner.specs.Tables.{Lists, entry, line_slot, marks_at, number, priority_at, problem_of, slot_at, standing_at}
-use Rattle.corner.specs.Kept.{IsKept, IsLevelKept, IsSlot, home_of, level_own}
-use Rattle.corner.specs.Swaps.LevelChanges.{count_by}
-use Rattle.corner.specs.Reads.LevelNumbers.{count_of, unit_at}
+use Rattle.corner_table.specs.declared.table.Owner.{Owner}
+use Rattle.corner_table.specs.declared.table.Standing.{Standing}
+use Rattle.corner_table.specs.declared.table.TheConstants.{LEVELS}
+use Rattle.corner_table.specs.Tables.{Lists, entry, line_slot, marks_at, number, priority_at, problem_of, slot_at, standing_at}
+use Rattle.corner_table.specs.Kept.{IsKept, IsLevelKept, IsSlot, home_of, level_own}
+use Rattle.corner_exchange.specs.Swaps.LevelChanges.{count_by}
+use Rattle.corner_table.specs.Reads.LevelNumbers.{count_of, unit_at}
 use Rattle.corner.specs.Shifts.Shifting.{AreShifted, growth_at, growth_by, home_growth, inside_growth, mark_growth, sign_at, sign_there, with_shifted}
 use Rattle.corner.specs.Views.{IsNamed}
-use Rattle.corner.proofs.LevelFacts.LevelCounts.{count_is}
-use Rattle.corner.proofs.LevelFacts.LevelNumberFacts.{AreLevelsOf, IsKnown, all-known, named_line}
-use Rattle.corner.proofs.LevelFacts.LevelRowFacts.{in_line, out_line}
-use Rattle.corner.proofs.Readings.ReadFacts.{mark_named}
+use Rattle.corner_exchange.proofs.LevelFacts.LevelCounts.{count_is}
+use Rattle.corner_writings.proofs.LevelFacts.LevelNumberFacts.{AreLevelsOf, IsKnown, all-known, named_line}
+use Rattle.corner_writings.proofs.LevelFacts.LevelRowFacts.{in_line, out_line}
+use Rattle.corner_table.proofs.Readings.ReadFacts.{mark_named}
 use Rattle.corner.proofs.Shifts.ShiftCosts.{IsShiftHere}
-use Rattle.corner.proofs.Readings.SlotFacts.{any_is, named_slot}
-use Rattle.corner.proofs.Basics.SumTurns.{nothing-added}
-use Rattle.corner.proofs.Readings.WritingFacts.{number_is}
+use Rattle.corner_table.proofs.Readings.SlotFacts.{any_is, named_slot}
+use Rattle.corner_exchange.proofs.Basics.SumTurns.{nothing-added}
+use Rattle.corner_table.proofs.Readings.WritingFacts.{number_is}
 use Rattle.frac_core.proofs.Numbers.{one-times, zero-or-not as decide_zero, mul-neg}
 use Rattle.problem_core.proofs.Sides.{none-not-some as not-some}
 

@@ -12,15 +12,15 @@ use Rattle.corner_lines.specs.Fronts.{constantless}
 use Rattle.corner_lines.specs.LineEquations.{IsOutsideLine}
 use Rattle.corner_lines.specs.Shifts.{has_constant, with_constant}
 use Rattle.corner_lines.proofs.ProblemChanges.Shifted.{changed, shift_rays}
-use Rattle.corner.specs.declared.table.Owner.{Owner}
-use Rattle.corner.specs.declared.table.Owner.TheVariants.{Level as LevelSlot, Attr as AttrSlot, Line as LineSlot}
-use Rattle.corner.specs.declared.table.Standing.{Standing}
-use Rattle.corner.specs.declared.table.TheConstants.{LEVELS}
-use Rattle.corner.specs.Tables.{Lists, line_slot, marks_at, number, problem_of, slot_at, standing_at}
-use Rattle.corner.specs.Kept.{AreSlots, HasLevelNumbers, IsKept, IsLevelKept, IsLineRow, IsLineSlot, IsOwned, row_count}
+use Rattle.corner_table.specs.declared.table.Owner.{Owner}
+use Rattle.corner_table.specs.declared.table.Owner.TheVariants.{Level as LevelSlot, Attr as AttrSlot, Line as LineSlot}
+use Rattle.corner_table.specs.declared.table.Standing.{Standing}
+use Rattle.corner_table.specs.declared.table.TheConstants.{LEVELS}
+use Rattle.corner_table.specs.Tables.{Lists, line_slot, marks_at, number, problem_of, slot_at, standing_at}
+use Rattle.corner_table.specs.Kept.{AreSlots, HasLevelNumbers, IsKept, IsLevelKept, IsLineRow, IsLineSlot, IsOwned, row_count}
 use Rattle.corner.specs.Shifts.Shifting.{AreShifted, with_shifted}
-use Rattle.corner.proofs.Attributes.AttrJoins.{own_name, own_stay}
-use Rattle.corner.proofs.Readings.KeptFacts.{value_kept}
+use Rattle.corner_exchange.proofs.Basics.SmallFacts.{own_name, own_stay}
+use Rattle.corner_table.proofs.Readings.KeptFacts.{value_kept}
 use Rattle.corner.proofs.Shifts.ShiftCosts.{after_corner, shifted_cost}
 use Rattle.corner.proofs.Shifts.ShiftGrowths.{IsShiftOf, level_grown, shift_here}
 use Rattle.corner.proofs.Shifts.ShiftLines.{fitting_seen, reduced_seen, row_seen_alike, shift_named, shift_seen, shift_whole, unit_seen}

@@ -6,13 +6,13 @@ use Rattle.problem_core.specs.declared.parts.Mark.{Mark}
 use Rattle.problem_core.specs.Changes.Stops.{TableStop}
 use Rattle.problem_core.specs.Layout.{Problem}
 use Rattle.corner_lines.specs.Shifts.{with_constant}
-use Rattle.corner.specs.declared.table.Table.{Table}
+use Rattle.corner_table.specs.declared.table.Table.{Table}
 use Rattle.corner.specs.Views.{AreCandidates, IsNamed}
-use Rattle.corner.specs.Changes.{IsUnfitStop}
-use Rattle.corner.specs.Tables.{Lists, lists_of, marks_at, problem_of}
-use Rattle.corner.specs.Kept.{IsKept, IsSlot}
-use Rattle.corner.specs.Histories.{AreAlike, lists_before}
-use Rattle.corner.specs.Invariants.{IsConsistent, IsEarlier, names_of}
+use Rattle.corner_exchange.specs.Stops.{IsUnfitStop}
+use Rattle.corner_table.specs.Tables.{Lists, lists_of, marks_at, problem_of}
+use Rattle.corner_table.specs.Kept.{IsKept, IsSlot}
+use Rattle.corner_table.specs.Histories.{AreAlike, lists_before}
+use Rattle.corner_table.specs.Invariants.{IsConsistent, IsEarlier, names_of}
 use Rattle.corner.specs.Shifts.Shifting.{IsShifted, IsShiftedStop, with_shifted}
 use Rattle.corner.proofs.Shifts.ShiftGrowths.{IsShiftOf}
 use Rattle.corner.proofs.Shifts.ShiftKept.{shift_kept}

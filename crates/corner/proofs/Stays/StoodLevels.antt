@@ -14,8 +14,8 @@ use Rattle.problem_core.specs.Levels.{IsCostAt, cost_at, line_cost, scales}
 use Rattle.corner_lines.specs.Joins.{HaveStood, with_stays}
 use Rattle.corner_lines.proofs.Costs.LevelPlaces.{cost_everywhere}
 use Rattle.corner_lines.proofs.ProblemChanges.MovedStays.{stood_points}
-use Rattle.corner.specs.declared.table.TheConstants.{LEVELS}
-use Rattle.corner.proofs.Attributes.AttrLevels.{free_stay}
+use Rattle.corner_table.specs.declared.table.TheConstants.{LEVELS}
+use Rattle.corner_joins.proofs.Attributes.AttrLevels.{free_stay}
 use Rattle.corner.proofs.Stays.StoodLines.{AreSeenAlike, scales_seen}
 
 -- stays cost nothing at a level before theirs

@@ -13,20 +13,20 @@ use Rattle.problem_core.specs.declared.parts.RowName.{RowName}
 use Rattle.problem_core.specs.declared.parts.RowName.TheVariants.{Held, Stay as StayOf}
 use Rattle.problem_core.specs.declared.parts.Stay.{Stay}
 use Rattle.problem_core.specs.Layout.{HasStay, lines}
-use Rattle.corner.specs.declared.table.Owner.{Owner}
-use Rattle.corner.specs.declared.table.Owner.TheVariants.{Level as LevelSlot, Attr as AttrSlot, Line as LineSlot}
-use Rattle.corner.specs.declared.table.Standing.{Standing}
-use Rattle.corner.specs.declared.table.TheConstants.{LEVELS}
-use Rattle.corner.specs.Tables.{Lists, attr_slot, line_slot, problem_of, slot_at, standing_at}
-use Rattle.corner.specs.Kept.{AreSlots, IsKept, IsLineSlot}
-use Rattle.corner.specs.Additions.Joining.{at_zero}
+use Rattle.corner_table.specs.declared.table.Owner.{Owner}
+use Rattle.corner_table.specs.declared.table.Owner.TheVariants.{Level as LevelSlot, Attr as AttrSlot, Line as LineSlot}
+use Rattle.corner_table.specs.declared.table.Standing.{Standing}
+use Rattle.corner_table.specs.declared.table.TheConstants.{LEVELS}
+use Rattle.corner_table.specs.Tables.{Lists, attr_slot, line_slot, problem_of, slot_at, standing_at}
+use Rattle.corner_table.specs.Kept.{AreSlots, IsKept, IsLineSlot}
+use Rattle.corner_table.specs.Joining.{at_zero}
 use Rattle.corner.specs.Shifts.Stood.{HaveFirstStood, IsNoFirst, IsStoodStay, at_present, at_rest, stay_slot, with_moved}
-use Rattle.corner.proofs.Attributes.AttrJoins.{own_stay}
-use Rattle.corner.proofs.Attributes.AttrLevels.{stay_named}
-use Rattle.corner.proofs.Readings.KeptFacts.{zero_kept}
-use Rattle.corner.proofs.Corners.NewTables.{less_or, zero_is}
-use Rattle.corner.proofs.Readings.SlotFacts.{any_is, named_slot}
-use Rattle.corner.proofs.Readings.WritingFacts.{attr_owner}
+use Rattle.corner_exchange.proofs.Basics.SmallFacts.{own_stay}
+use Rattle.corner_writings.proofs.Basics.OwnerFacts.{stay_named}
+use Rattle.corner_table.proofs.Readings.KeptFacts.{zero_kept}
+use Rattle.corner_table.proofs.Corners.NewTables.{less_or, zero_is}
+use Rattle.corner_table.proofs.Readings.SlotFacts.{any_is, named_slot}
+use Rattle.corner_table.proofs.Readings.WritingFacts.{attr_owner}
 
 -- ---- slots of stays
 

@@ -6,13 +6,13 @@ use Rattle.problem_core.specs.declared.parts.Stay.{Stay}
 use Rattle.problem_core.specs.Layout.{Problem}
 use Rattle.problem_core.specs.Corners.{place}
 use Rattle.corner_lines.specs.Joins.{with_stays}
-use Rattle.corner.specs.declared.table.Table.{Table}
+use Rattle.corner_table.specs.declared.table.Table.{Table}
 use Rattle.corner.specs.Views.{AreCandidates, IsNamed}
 use Rattle.corner.specs.Changes.{HasStood}
-use Rattle.corner.specs.Tables.{Lists, lists_of, marks_at, problem_of, standing_at}
-use Rattle.corner.specs.Kept.{AreSlots, IsKept, IsSlot}
-use Rattle.corner.specs.Histories.{HasSameHistory}
-use Rattle.corner.specs.Invariants.{IsConsistent, IsEarlier, names_of, view_of}
+use Rattle.corner_table.specs.Tables.{Lists, lists_of, marks_at, problem_of, standing_at}
+use Rattle.corner_table.specs.Kept.{AreSlots, IsKept, IsSlot}
+use Rattle.corner_table.specs.Histories.{HasSameHistory}
+use Rattle.corner_table.specs.Invariants.{IsConsistent, IsEarlier, names_of, view_of}
 use Rattle.corner.specs.Shifts.Stood.{AreFirstStood, IsStoodAt, stay_slot, with_moved, with_present}
 use Rattle.corner.proofs.Attributes.CornerAttrs.{alike_same, past_same}
 use Rattle.corner.proofs.Stays.StoodColumns.{negative_seen}
@@ -21,18 +21,6 @@ use Rattle.corner.proofs.Stays.StoodLines.{AreSeenAlike, marks_seen}
 use Rattle.corner.proofs.Stays.StoodLists.{one_moves, one_rests}
 
 -- ---- the loop
-
-pub same_again : (s t u : Table) → HasSameHistory s t → HasSameHistory t u → HasSameHistory s u
-same_again s t u a b = record {
-  rows = b.rows ∙ a.rows;
-  stays = b.stays ∙ a.stays;
-  slots = b.slots ∙ a.slots;
-  standings = b.standings ∙ a.standings;
-  matrix = b.matrix ∙ a.matrix;
-  attr_slots = b.attr_slots ∙ a.attr_slots;
-  row_slots = b.row_slots ∙ a.row_slots;
-  priorities = b.priorities ∙ a.priorities;
-}
 
 pub first_are_slots : (n : ℕ) (t u : Lists) → AreSlots t → AreFirstStood n t u → AreSlots u
 first_are_slots n t u slots h = subst AreSlots (sym h.0) (first_slots n t u.stays u.standings slots h.1)

@@ -23,22 +23,23 @@ use Rattle.corner_lines.specs.LineEquations.{IsOutsideLine, deviation, sign_of}
 use Rattle.corner_lines.specs.Levels.LevelRows.{IsPivot, line_numbers}
 use Rattle.corner_lines.proofs.LevelRows.LevelExchanges.{by-sides, at-side}
 use Rattle.corner_lines.proofs.Lines.LinePivots.{equation_is_pivot}
-use Rattle.corner.specs.declared.exchange.Exchange.{Exchange}
-use Rattle.corner.specs.declared.table.Slot.{Slot}
-use Rattle.corner.specs.Tables.{Lists, entry, line_slot, marks_at, number, problem_of, slot_at, standing_at}
-use Rattle.corner.specs.Kept.{AreSlots, IsEquationAt, IsKept}
+use Rattle.corner_exchange.specs.declared.exchange.Exchange.{Exchange}
+use Rattle.corner_table.specs.declared.table.Slot.{Slot}
+use Rattle.corner_table.specs.Tables.{Lists, entry, line_slot, marks_at, number, problem_of, slot_at, standing_at}
+use Rattle.corner_table.specs.Kept.{AreSlots, IsEquationAt, IsKept}
 use Rattle.corner.specs.Views.{AreCandidates, IsNamed}
-use Rattle.corner.specs.Invariants.{name_of, names_of}
-use Rattle.corner.specs.Swaps.Exchanges.{AreListedAfter, IsExchangeOf, marks_after, row_number}
+use Rattle.corner_table.specs.Invariants.{name_of, names_of}
+use Rattle.corner_exchange.specs.Swaps.Exchanges.{AreListedAfter, IsExchangeOf, marks_after}
+use Rattle.corner_writings.specs.Rows.{row_number}
 use Rattle.corner.proofs.Swaps.ColumnReturns.{IsReturn, candidates_return}
-use Rattle.corner.proofs.LevelFacts.LevelRowFacts.{out_line}
-use Rattle.corner.proofs.Basics.ListFacts.{from_map, to_map}
-use Rattle.corner.proofs.Pivots.PairFacts.{leave_in, named_mark, pair_exchange, side-stands}
-use Rattle.corner.proofs.Readings.MarkFacts.{stands_inside}
-use Rattle.corner.proofs.Readings.ReadFacts.{inside_equation}
-use Rattle.corner.proofs.Readings.SlotFacts.{any_is}
-use Rattle.corner.proofs.Readings.WritingFacts.{lines_apart, line_owner}
-use Rattle.corner.proofs.Pivots.LineChanges.{cond-zero as row-none}
+use Rattle.corner_writings.proofs.LevelFacts.LevelRowFacts.{out_line}
+use Rattle.corner_table.proofs.Basics.ListFacts.{from_map, to_map}
+use Rattle.corner_exchange.proofs.Pivots.PairFacts.{leave_in, named_mark, pair_exchange, side-stands}
+use Rattle.corner_table.proofs.Readings.MarkFacts.{stands_inside}
+use Rattle.corner_table.proofs.Readings.ReadFacts.{inside_equation}
+use Rattle.corner_table.proofs.Readings.SlotFacts.{any_is}
+use Rattle.corner_table.proofs.Readings.WritingFacts.{lines_apart, line_owner}
+use Rattle.corner_exchange.proofs.Pivots.LineChanges.{cond-zero as row-none}
 use Rattle.problem_core.proofs.Marks.{entered-in as enter_in, kept-in as kept_in}
 use Rattle.problem_core.proofs.Lines.{name-cases}
 

@@ -10,38 +10,38 @@ use Rattle.problem_core.specs.declared.parts.Side.TheVariants.{Under, Over}
 use Rattle.problem_core.specs.declared.stops.What.TheVariants.{Mark as MarkOf}
 use Rattle.problem_core.specs.Corners.{IsExchange, IsIn, SameMarks, Swap, place}
 use Rattle.corner_laws.specs.Runs.{other_side}
-use Rattle.corner.specs.declared.exchange.Change.{Change}
-use Rattle.corner.specs.declared.exchange.Exchange.{Exchange}
-use Rattle.corner.specs.declared.table.Slot.{Slot}
-use Rattle.corner.specs.declared.table.Table.{Table}
-use Rattle.corner.specs.declared.table.TheConstants.{LEVELS}
+use Rattle.corner_exchange.specs.declared.exchange.Change.{Change}
+use Rattle.corner_exchange.specs.declared.exchange.Exchange.{Exchange}
+use Rattle.corner_table.specs.declared.table.Slot.{Slot}
+use Rattle.corner_table.specs.declared.table.Table.{Table}
+use Rattle.corner_table.specs.declared.table.TheConstants.{LEVELS}
 use Rattle.corner.specs.Views.{AreCandidates, IsNamed, IsOutside, MovesWith}
-use Rattle.corner.specs.Tables.{IsListedOf, Lists, entry, line_slot, lists_of, marks_at, problem_of, row_at, scene_at, slot_at, standing_at}
-use Rattle.corner.specs.Kept.{AreSlots, IsKept, IsSlot}
-use Rattle.corner.specs.Histories.{AreAlike, lists_before}
-use Rattle.corner.specs.Invariants.{IsConsistent, IsEarlier, name_of, names_of}
+use Rattle.corner_table.specs.Tables.{IsListedOf, Lists, entry, line_slot, lists_of, marks_at, problem_of, row_at, scene_at, slot_at, standing_at}
+use Rattle.corner_table.specs.Kept.{AreSlots, IsKept, IsSlot}
+use Rattle.corner_table.specs.Histories.{AreAlike, lists_before}
+use Rattle.corner_table.specs.Invariants.{IsConsistent, IsEarlier, name_of, names_of}
 use Rattle.std.proofs.Common.{slice_index_or, Contains}
 use Rattle.problem_core.specs.Layout.{Problem}
-use Rattle.corner.specs.Swaps.Exchanges.{AreListedAfter, IsExchangeOf, IsOutsideAfter, IsOutsideSlot, IsPair, exchanged_lists, marks_after, turned_lists}
-use Rattle.corner.proofs.Attributes.AttrJoins.{nowhere}
-use Rattle.corner.proofs.Readings.FreeSlots.{line_named}
-use Rattle.corner.proofs.Readings.SlotFacts.{named_slot}
-use Rattle.corner.proofs.Readings.WritingFacts.{line_owner}
-use Rattle.corner.specs.Swaps.TurnedLevels.{IsTurn}
-use Rattle.corner.proofs.Corners.HistoryFacts.{sided}
+use Rattle.corner_exchange.specs.Swaps.Exchanges.{AreListedAfter, IsExchangeOf, IsOutsideAfter, IsOutsideSlot, IsPair, exchanged_lists, marks_after, turned_lists}
+use Rattle.corner_joins.proofs.Attributes.AttrJoins.{nowhere}
+use Rattle.corner_writings.proofs.Readings.FreeSlots.{line_named}
+use Rattle.corner_table.proofs.Readings.SlotFacts.{named_slot}
+use Rattle.corner_table.proofs.Readings.WritingFacts.{line_owner}
+use Rattle.corner_exchange.specs.Swaps.TurnedLevels.{IsTurn}
+use Rattle.corner_table.proofs.Corners.HistoryFacts.{sided}
 use Rattle.corner.proofs.Attributes.CornerAttrs.{marked_rows}
-use Rattle.corner.proofs.Readings.MarkFacts.{inside_stands}
-use Rattle.corner.proofs.Readings.ReadFacts.{is_some, mark_named}
-use Rattle.corner.proofs.Basics.ListFacts.{all_from, from_map, to_map}
-use Rattle.corner.proofs.Readings.WritingFacts.{in_mark, lines_apart}
-use Rattle.corner.proofs.Readings.KeptFacts.{row_kept}
-use Rattle.corner.proofs.Readings.MovedFacts.{moves_entry}
-use Rattle.corner.proofs.Pivots.PairFacts.{pair_exchange}
+use Rattle.corner_table.proofs.Readings.MarkFacts.{inside_stands}
+use Rattle.corner_table.proofs.Readings.ReadFacts.{is_some, mark_named}
+use Rattle.corner_table.proofs.Basics.ListFacts.{all_from, from_map, to_map}
+use Rattle.corner_table.proofs.Readings.WritingFacts.{in_mark, lines_apart}
+use Rattle.corner_table.proofs.Readings.KeptFacts.{row_kept}
+use Rattle.corner_writings.proofs.Readings.MovedFacts.{moves_entry}
+use Rattle.corner_exchange.proofs.Pivots.PairFacts.{pair_exchange}
 use Rattle.corner.proofs.Swaps.CandidatesAfter.{exchanged_candidates, turned_candidates}
-use Rattle.corner.proofs.Swaps.ExchangedFacts.{exchanged_over}
-use Rattle.corner.proofs.Swaps.TurnedFacts.{turn_leaves, turn_named, turned_over}
+use Rattle.corner_exchange.proofs.Swaps.ExchangedFacts.{exchanged_over}
+use Rattle.corner_exchange.proofs.Swaps.TurnedFacts.{turn_leaves, turn_named, turned_over}
 use Rattle.frac_core.proofs.Lists.{length-mapped as map_length}
-use Rattle.corner.proofs.Swaps.LevelTurns.{turn_exchange}
+use Rattle.corner_exchange.proofs.Swaps.LevelTurns.{turn_exchange}
 
 -- ---- names
 

@@ -7,12 +7,12 @@ use Rattle.problem_core.specs.Window.{zero_fraction}
 use Rattle.corner_lines.specs.Removals.{without_attr}
 use Rattle.corner.specs.declared.leaving.Leaver.{Leaver}
 use Rattle.corner.specs.declared.leaving.Left.{Left}
-use Rattle.corner.specs.declared.table.Owner.TheVariants.{Level as LevelSlot}
-use Rattle.corner.specs.declared.table.Slot.{Slot}
-use Rattle.corner.specs.declared.table.TheConstants.{LEVELS}
-use Rattle.corner.specs.Additions.CostJoins.{IsLineListed}
+use Rattle.corner_table.specs.declared.table.Owner.TheVariants.{Level as LevelSlot}
+use Rattle.corner_table.specs.declared.table.Slot.{Slot}
+use Rattle.corner_table.specs.declared.table.TheConstants.{LEVELS}
+use Rattle.corner_joins.specs.Additions.CostJoins.{IsLineListed}
 use Rattle.corner.specs.Removals.Leaving.{problem_left}
-use Rattle.corner.specs.Tables.{Lists, attr_slot, problem_of, row_at, standing_at}
+use Rattle.corner_table.specs.Tables.{Lists, attr_slot, problem_of, row_at, standing_at}
 
 -- of nothing
 abbrev pub no_slot : Slot

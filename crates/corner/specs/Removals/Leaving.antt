@@ -18,15 +18,15 @@ use Rattle.corner_lines.specs.Levels.LevelFits.{IsFittingRow}
 use Rattle.corner_lines.specs.Levels.LevelJoins.{level_count}
 use Rattle.corner_lines.specs.Levels.LevelRows.{HasLevelRow}
 use Rattle.corner_lines.specs.Removals.{without_row}
-use Rattle.corner.specs.declared.levels.fitting.Draft.{Draft}
+use Rattle.corner_writings.specs.declared.levels.fitting.Draft.{Draft}
 use Rattle.corner.specs.declared.leaving.Leaver.{Leaver}
 use Rattle.corner.specs.declared.leaving.Left.{Left}
-use Rattle.corner.specs.Tables.{Lists, entry, line_slot, marks_at, priority_at, problem_of, slot_at}
-use Rattle.corner.specs.Tables.{standing_at}
-use Rattle.corner.specs.Swaps.Exchanges.{row_number}
-use Rattle.corner.specs.Reads.Fitting.{IsFittingLine}
-use Rattle.corner.specs.Reads.LevelNumbers.{count_of}
-use Rattle.corner.specs.Additions.CostJoins.{HasOutside}
+use Rattle.corner_table.specs.Tables.{Lists, entry, line_slot, marks_at, priority_at, problem_of, slot_at}
+use Rattle.corner_table.specs.Tables.{standing_at}
+use Rattle.corner_writings.specs.Rows.{row_number}
+use Rattle.corner_writings.specs.Fitting.{IsFittingLine}
+use Rattle.corner_table.specs.Reads.LevelNumbers.{count_of}
+use Rattle.corner_joins.specs.Additions.CostJoins.{HasOutside}
 
 -- a row of the lists, with its slot, the side of its inside mark and its level
 pub record IsLeaver (t : Lists) (r : Row) (leaver : Leaver) : Type 0 where

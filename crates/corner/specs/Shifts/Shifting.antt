@@ -16,16 +16,16 @@ use Rattle.problem_core.specs.Layout.{Problem, Row}
 use Rattle.problem_core.specs.Window.{zero_fraction}
 use Rattle.corner_lines.specs.LineEquations.{sign_of}
 use Rattle.corner_lines.specs.Shifts.{IsShift, has_constant}
-use Rattle.corner.specs.Swaps.Exchanges.{IsWhatAt, with_value}
+use Rattle.corner_exchange.specs.Swaps.Exchanges.{IsWhatAt, with_value}
 use Rattle.corner.specs.declared.shifting.Growth.{Growth}
-use Rattle.corner.specs.declared.table.Owner.{Owner}
-use Rattle.corner.specs.declared.table.Owner.TheVariants.{Level as LevelSlot, Attr as AttrSlot}
-use Rattle.corner.specs.declared.table.Owner.TheVariants.{Line as LineSlot}
-use Rattle.corner.specs.declared.table.Standing.{Standing}
-use Rattle.corner.specs.declared.table.TheConstants.{LEVELS}
-use Rattle.corner.specs.Kept.{level_own}
-use Rattle.corner.specs.Reads.LevelNumbers.{count_of, unit_at}
-use Rattle.corner.specs.Tables.{Lists, entry, line_slot, priority_at, problem_of, slot_at, standing_at}
+use Rattle.corner_table.specs.declared.table.Owner.{Owner}
+use Rattle.corner_table.specs.declared.table.Owner.TheVariants.{Level as LevelSlot, Attr as AttrSlot}
+use Rattle.corner_table.specs.declared.table.Owner.TheVariants.{Line as LineSlot}
+use Rattle.corner_table.specs.declared.table.Standing.{Standing}
+use Rattle.corner_table.specs.declared.table.TheConstants.{LEVELS}
+use Rattle.corner_table.specs.Kept.{level_own}
+use Rattle.corner_table.specs.Reads.LevelNumbers.{count_of, unit_at}
+use Rattle.corner_table.specs.Tables.{Lists, entry, line_slot, priority_at, problem_of, slot_at, standing_at}
 
 -- the problem has the row, and what this constant is above the row's own fits
 abbrev pub IsNear : Problem → ℕ → Fraction → Type 0

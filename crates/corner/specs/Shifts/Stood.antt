@@ -4,8 +4,8 @@ use Rattle.std.specs.Prelude.{slice_index_or, slice_set, All}
 use Rattle.frac_core.specs.Fraction as fractions
 use Rattle.problem_core.specs.Window.{zero_fraction}
 use Rattle.problem_core.specs.declared.parts.Stay.{Stay}
-use Rattle.corner.specs.declared.table.Standing.{Standing}
-use Rattle.corner.specs.Tables.{Lists, attr_slot, standing_at}
+use Rattle.corner_table.specs.declared.table.Standing.{Standing}
+use Rattle.corner_table.specs.Tables.{Lists, attr_slot, standing_at}
 
 -- the lists with other stays and standings
 abbrev pub with_moved : List Stay → List Standing → Lists → Lists

@@ -1,10 +1,10 @@
 // Slots that are of nothing.
 ghost use Rattle.std.specs.Prelude.{◌≡◌, ◌<◌, length, OnOk};
 ghost use Rattle.corner.specs.Removals.Dropping.{freed};
-ghost use Rattle.corner.specs.Histories.{AreAlike, lists_before};
-ghost use Rattle.corner.specs.Tables.{lists_of};
+ghost use Rattle.corner_table.specs.Histories.{AreAlike, lists_before};
+ghost use Rattle.corner_table.specs.Tables.{lists_of};
 
-use crate::table::{Owner, Slot, Standing, Table};
+use corner_table::{Owner, Slot, Standing, Table};
 use frac_core::{Frac, OutOfMemory};
 use problem_core::Rel;
 use row_core::IntRow;

@@ -120,7 +120,7 @@ terms_unfit = ((0, at_least 4398046511104, omega arith, refl, (refl, only-over 4
 
 -- the constant alone has changed
 pub shifts_unfit : IsUnfit (single 4398046511104) (at_least 5 ∷ []) (over_stay ∷ []) (Shifts (Attr 1) 1)
-shifts_unfit = (omega arith, omega arith, attr_unfit)
+shifts_unfit = (refl, omega arith, omega arith, attr_unfit)
 
 -- ---- a level
 
@@ -186,7 +186,7 @@ late_terms_fit k old at ((suc i, r, within, is, h), fresh) = absurd (omega (arit
 
 -- more changes than there are
 pub late_shifts_fit : (at : List Mark) → IsUnfit (single 4398046511104) (at_least 5 ∷ []) at (Shifts (Attr 1) 2) → ⊥
-late_shifts_fit at (a, b, h) = absurd (omega (arith, b))
+late_shifts_fit at (same, a, b, h) = absurd (omega (arith, b))
 
 -- more rows than the level has
 pub late_rows_fit : (k : ℕ) (old : List Row) (at : List Mark) → IsUnfit (single k) old at (Rows (Priority 1000) 2) → ⊥

@@ -149,7 +149,7 @@ all_fit at (Plain (LevelOf level)) corner (k, is, none) =
     (whole_is_kept 0 (omega arith))
 all_fit at (Terms mark j) corner ((k, r, within, is, h), fresh) = absurd (omega (arith, within))
 all_fit at (Rows level j) corner ((k, is, a, b, none), fresh) = absurd (omega (arith, a, b))
-all_fit at (Shifts what j) corner (a, b, h) = absurd (omega (arith, a, b))
+all_fit at (Shifts what j) corner (same, a, b, h) = absurd (omega (arith, a, b))
 
 -- `x >= 2^42` has a corner at which x does not fit
 pub not_all_fit : AllFit (single 4398046511104) [] → ⊥

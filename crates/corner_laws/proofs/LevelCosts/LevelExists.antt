@@ -14,7 +14,7 @@ use Rattle.problem_core.specs.declared.parts.RowName.{RowName}
 use Rattle.problem_core.specs.declared.parts.Side.{Side}
 use Rattle.problem_core.specs.declared.parts.Side.TheVariants.{Under, Over}
 use Rattle.problem_core.specs.declared.parts.Term.{Term}
-use Rattle.problem_core.specs.Layout.{Line, Problem, coefficient, lines, stay_lines, sum_of, value_at}
+use Rattle.problem_core.specs.Layout.{IsProblem, Line, Problem, coefficient, lines, sum_of, value_at}
 use Rattle.problem_core.specs.Kept.{IsWhole}
 use Rattle.problem_core.specs.Certificates.{Multipliers, over_weight, under_weight, weight_at}
 use Rattle.problem_core.specs.Corners.{AreMultipliersAt, IsCorner, IsIn, Point, Solves, attr_column, column, equation, one_column, place_of}
@@ -26,11 +26,11 @@ use Rattle.problem_core.proofs.Wholes.{whole-IsProblem}
 use Rattle.corner_laws.specs.Equations.{AreLowestNumbers, IsEquationOf, IsLevelSum}
 use Rattle.corner_laws.specs.Laws.{IsFixedAt, IsLinear}
 use Rattle.corner_laws.proofs.Swaps.ColumnsStay.{sums-AreMultipliersAt, together}
-use Rattle.corner_laws.proofs.Counting.{IsSmall, bump, bump_other, bump_under, rows_small, sides_apart, stays_small, unit_value}
-use Rattle.corner_laws.proofs.MarkWritings.Directions.{attr-direction, attr_ray, bump-direction, each-of, no-attr, none-unless, only-first, only-rest, small-mark, spread, spread-none, spread-own, spread-value}
+use Rattle.corner_laws.proofs.Counting.{IsSmall, bump, bump_other, bump_under, over_next, sides_apart, unit_value}
+use Rattle.corner_laws.proofs.MarkWritings.Directions.{attr_ray, bump-direction, each-of, no-attr, none-unless, only-first, only-rest, placed-direction, placed-mark, spread, spread-none, spread-own, spread-value}
 use Rattle.corner_laws.proofs.LevelCosts.Equal.{writing_from_level}
 use Rattle.corner_laws.proofs.LevelCosts.Gaps.{shares}
-use Rattle.corner_laws.proofs.LinePlaces.{IsSmallLine, lines_apart, lines_attrs, lines_small, sum-single}
+use Rattle.corner_laws.proofs.LinePlaces.{IsPlaced, IsSmallLine, placed_apart, placed_attrs, placed_small, sum-single, whole-placed}
 use Rattle.corner_laws.proofs.MarkWritings.Linear.{equation_exists}
 use Rattle.corner_laws.proofs.MarkWritings.LowestForms.{marks_are_fixed, pos-quotient, shared}
 use Rattle.corner_laws.proofs.PathEnds.Rises.{cost_linear}
@@ -101,27 +101,27 @@ both-cost q w v a b e f =
     ap₂ (λ (y z : ℤ). pos q *ℤ (pos w *ℤ y +ℤ pos v *ℤ z)) e f
     ∙ ap (λ (z : ℤ). pos q *ℤ z) (let h : pos w *ℤ pos 1 +ℤ pos v *ℤ pos 1 ≡ pos (w + v) = omega (arith, ints) in h)
 
-cost_of_both : (p : Problem) (level : ℕ) → IsWhole p → Each (λ l. cost_at p level (bump l.name) ≡ pos (share p l * (under_at level l + over_at level l))) (lines p)
-cost_of_both p level whole =
+cost_of_both : (p : Problem) (level : ℕ) → IsPlaced p → Each (λ l. cost_at p level (bump l.name) ≡ pos (share p l * (under_at level l + over_at level l))) (lines p)
+cost_of_both p level placed =
     each-impl (λ k. cost_at p level (bump k.name) ≡ pos (share p k) *ℤ line_cost level (bump k.name) k) _ (lines p)
     (λ k e. e ∙ both-cost (share p k) (under_at level k) (over_at level k) (bump k.name (place_of k.name Under)) (bump k.name (place_of k.name Over)) (bump_under k.name) (bump-over k.name))
     (sum-single (λ k l. pos (share p l) *ℤ line_cost level (bump k.name) l)
     (λ k l a. none-cost (share p l) (under_at level l) (over_at level l) (bump k.name (place_of l.name Under)) (bump k.name (place_of l.name Over))
     (bump_other k.name (place_of l.name Under) (λ e. a.under_under (sym e)) (λ e. a.over_under (sym e)))
     (bump_other k.name (place_of l.name Over) (λ e. a.under_over (sym e)) (λ e. a.over_over (sym e))))
-    (lines p) (lines_apart p whole))
+    (lines p) (placed_apart p placed))
 
 -- ---- one attribute
 
-ray_at_lines : (p : Problem) (v : ℕ) → IsWhole p → Each (λ l. (attr_ray v (lines p) (place_of l.name Under) ≡ neg_ℤ (coefficient v l.form)) × (attr_ray v (lines p) (place_of l.name Over) ≡ pos 0)) (lines p)
-ray_at_lines p v whole =
+ray_at_lines : (p : Problem) (v : ℕ) → IsPlaced p → Each (λ l. (attr_ray v (lines p) (place_of l.name Under) ≡ neg_ℤ (coefficient v l.form)) × (attr_ray v (lines p) (place_of l.name Over) ≡ pos 0)) (lines p)
+ray_at_lines p v placed =
     each-impl (λ l. IsSmallLine l × (spread v (lines p) (place_of l.name Under) ≡ coefficient v l.form)) _ (lines p)
     (λ l h. (
       only-rest (unit_at (attr_column v) (place_of l.name Under)) (spread v (lines p) (place_of l.name Under)) (coefficient v l.form) (cond_other (place_of l.name Under) (attr_column v) (pos 1) (λ e. absurd (omega (arith, h.0.under, e)))) h.1,
       only-first (unit_at (attr_column v) (place_of l.name Over)) (spread v (lines p) (place_of l.name Over)) (spread-none v (place_of l.name Over) (lines p) (each-of (λ k. place_of l.name Over ≢ place_of k.name Under) (lines p) (λ k. sides_apart l.name k.name)))
           ∙ cond_other (place_of l.name Over) (attr_column v) (pos 1) (λ e. absurd (omega (arith, h.0.over, e))),
     ))
-    (each-both _ _ (lines p) (lines_small p whole) (spread-own v (lines p) (lines_apart p whole)))
+    (each-both _ _ (lines p) (placed_small p placed) (spread-own v (lines p) (placed_apart p placed)))
 
 under-cost : (q w v : ℕ) (a b c : ℤ) → a ≡ neg_ℤ c → b ≡ pos 0 → pos q *ℤ (pos w *ℤ a +ℤ pos v *ℤ b) ≡ negsuc 0 *ℤ (pos (q * w) *ℤ c)
 under-cost q w v a b c e f =
@@ -136,12 +136,12 @@ under-cost q w v a b c e f =
 abbrev attr_cost : Problem → ℕ → ℕ → ℤ
 attr_cost p level v = sum_of (λ l. pos (share p l * under_at level l) *ℤ coefficient v l.form) (lines p)
 
-cost_of_attr : (p : Problem) (level v : ℕ) → IsWhole p → cost_at p level (attr_ray v (lines p)) ≡ negsuc 0 *ℤ attr_cost p level v
-cost_of_attr p level v whole =
+cost_of_attr : (p : Problem) (level v : ℕ) → IsPlaced p → cost_at p level (attr_ray v (lines p)) ≡ negsuc 0 *ℤ attr_cost p level v
+cost_of_attr p level v placed =
     sum-each (λ l. pos (share p l) *ℤ line_cost level (attr_ray v (lines p)) l) (λ l. negsuc 0 *ℤ (pos (share p l * under_at level l) *ℤ coefficient v l.form)) (lines p)
     (each-impl (λ l. (attr_ray v (lines p) (place_of l.name Under) ≡ neg_ℤ (coefficient v l.form)) × (attr_ray v (lines p) (place_of l.name Over) ≡ pos 0)) _ (lines p)
     (λ l h. under-cost (share p l) (under_at level l) (over_at level l) (attr_ray v (lines p) (place_of l.name Under)) (attr_ray v (lines p) (place_of l.name Over)) (coefficient v l.form) h.0 h.1)
-    (ray_at_lines p v whole))
+    (ray_at_lines p v placed))
     ∙ mul-sum (negsuc 0) (λ l. pos (share p l * under_at level l) *ℤ coefficient v l.form) (lines p)
 
 -- ---- the multipliers
@@ -150,13 +150,13 @@ cost_of_attr p level v whole =
 abbrev heavy : Problem → ℕ → ℕ → RowName → ℤ
 heavy p level scale name = sum_of (λ l. pos (scale * (share p l * under_at level l)) *ℤ unit_at (place_of l.name Under) (place_of name Under)) (lines p)
 
-heavy_own : (p : Problem) (level scale : ℕ) → IsWhole p → Each (λ l. heavy p level scale l.name ≡ pos (scale * (share p l * under_at level l))) (lines p)
-heavy_own p level scale whole =
+heavy_own : (p : Problem) (level scale : ℕ) → IsPlaced p → Each (λ l. heavy p level scale l.name ≡ pos (scale * (share p l * under_at level l))) (lines p)
+heavy_own p level scale placed =
     each-impl (λ k. heavy p level scale k.name ≡ pos (scale * (share p k * under_at level k)) *ℤ unit_at (place_of k.name Under) (place_of k.name Under)) _ (lines p)
     (λ k e. e ∙ ap (λ (z : ℤ). pos (scale * (share p k * under_at level k)) *ℤ z) (cond_same (place_of k.name Under) (place_of k.name Under) (pos 1) refl) ∙ (let h : pos (scale * (share p k * under_at level k)) *ℤ pos 1 ≡ pos (scale * (share p k * under_at level k)) = omega (arith, ints) in h))
     (sum-single (λ k l. pos (scale * (share p l * under_at level l)) *ℤ unit_at (place_of l.name Under) (place_of k.name Under))
     (λ k l a. no-part (pos (scale * (share p l * under_at level l))) (unit_at (place_of l.name Under) (place_of k.name Under)) (cond_other (place_of k.name Under) (place_of l.name Under) (pos 1) a.under_under))
-    (lines p) (lines_apart p whole))
+    (lines p) (placed_apart p placed))
 
 abbrev times_by : Problem → ℕ → ℕ → List Term → RowName → ℤ
 times_by p level scale form name = heavy p level scale name -ℤ coefficient (place_of name Under) form
@@ -175,26 +175,26 @@ sum-closed s h t f none e =
     let c : pos s *ℤ (negsuc 0 *ℤ h) ≡ pos s *ℤ neg_ℤ h = ap (λ (z : ℤ). pos s *ℤ z) a in
     omega (arith, ints, a, b, c, none, e)
 
-times_cancel : (p : Problem) (at : List Mark) (level scale : ℕ) (form : List Term) (const : ℤ) (x : Point) → IsWhole p → Solves p x → IsEquationOf p at (cost_at p level) scale form const → (v : ℕ) → sum_of (λ l. times_by p level scale form l.name *ℤ coefficient v l.form) (lines p) ≡ pos 0
-times_cancel p at level scale form const x whole solves e v =
+times_cancel : (p : Problem) (at : List Mark) (level scale : ℕ) (form : List Term) (const : ℤ) (x : Point) → IsPlaced p → Solves p x → IsEquationOf p at (cost_at p level) scale form const → (v : ℕ) → sum_of (λ l. times_by p level scale form l.name *ℤ coefficient v l.form) (lines p) ≡ pos 0
+times_cancel p at level scale form const x placed solves e v =
     elim (cases_eq v (attr_column 0)) [
       | inl q ↦
           sum-zero (λ l. times_by p level scale form l.name *ℤ coefficient v l.form) (lines p)
-          (each-impl (λ l. Each (λ t. t.attr < attr_column 0) l.form) _ (lines p) (λ l h. no-part (times_by p level scale form l.name) (coefficient v l.form) (no-attr v l.form h q)) (lines_attrs p whole))
+          (each-impl (λ l. Each (λ t. t.attr < attr_column 0) l.form) _ (lines p) (λ l h. no-part (times_by p level scale form l.name) (coefficient v l.form) (no-attr v l.form h q)) (placed_attrs p placed))
       | inr ne ↦
           let moves : pos scale *ℤ (negsuc 0 *ℤ attr_cost p level v) ≡ coefficient (attr_column v) form +ℤ negsuc 0 *ℤ sum_of (λ l. coefficient v l.form *ℤ coefficient (place_of l.name Under) form) (lines p) =
-          ap (λ (z : ℤ). pos scale *ℤ z) (sym (cost_of_attr p level v whole))
-          ∙ equation_along p at (cost_at p level) scale form const x (attr_ray v (lines p)) solves (cost-IsLinear p level) e (attr-direction p v whole ne)
+          ap (λ (z : ℤ). pos scale *ℤ z) (sym (cost_of_attr p level v placed))
+          ∙ equation_along p at (cost_at p level) scale form const x (attr_ray v (lines p)) solves (cost-IsLinear p level) e (placed-direction p v placed ne)
           ∙ value-plus (unit_at (attr_column v)) (λ u. negsuc 0 *ℤ spread v (lines p) u) form
           ∙ ap₂ ◌+ℤ◌ (unit_value (attr_column v) form) (value-scaled (negsuc 0) (spread v (lines p)) form ∙ ap (λ (z : ℤ). negsuc 0 *ℤ z) (spread-value v (lines p) form)) in
           sum-each (λ l. times_by p level scale form l.name *ℤ coefficient v l.form) (λ l. pos scale *ℤ (pos (share p l * under_at level l) *ℤ coefficient v l.form) +ℤ negsuc 0 *ℤ (coefficient v l.form *ℤ coefficient (place_of l.name Under) form)) (lines p)
           (each-impl (λ l. heavy p level scale l.name ≡ pos (scale * (share p l * under_at level l))) _ (lines p)
           (λ l h. ap (λ (z : ℤ). (z -ℤ coefficient (place_of l.name Under) form) *ℤ coefficient v l.form) h ∙ split-part scale (share p l * under_at level l) (coefficient (place_of l.name Under) form) (coefficient v l.form))
-          (heavy_own p level scale whole))
+          (heavy_own p level scale placed))
           ∙ sum-add (λ l. pos scale *ℤ (pos (share p l * under_at level l) *ℤ coefficient v l.form)) (λ l. negsuc 0 *ℤ (coefficient v l.form *ℤ coefficient (place_of l.name Under) form)) (lines p)
           ∙ ap₂ ◌+ℤ◌ (mul-sum (pos scale) (λ l. pos (share p l * under_at level l) *ℤ coefficient v l.form) (lines p)) (mul-sum (negsuc 0) (λ l. coefficient v l.form *ℤ coefficient (place_of l.name Under) form) (lines p))
           ∙ sum-closed scale (attr_cost p level v) (sum_of (λ l. coefficient v l.form *ℤ coefficient (place_of l.name Under) form) (lines p)) (coefficient (attr_column v) form)
-          (none-unless p at form (attr_column v) e.outside (λ o. let h = small-mark p (attr_column v) whole o.0 in absurd (omega (arith, h))))
+          (none-unless p at form (attr_column v) e.outside (λ o. let h = placed-mark p (attr_column v) placed o.0 in absurd (omega (arith, h))))
           moves
     ]
 
@@ -222,15 +222,15 @@ Facts p level scale form l =
     (share p l * l.scale ≡ scales p) × ((heavy p level scale l.name ≡ pos (scale * (share p l * under_at level l)))
     × (coefficient (place_of l.name Under) form +ℤ coefficient (place_of l.name Over) form ≡ pos scale *ℤ pos (share p l * (under_at level l + over_at level l))))
 
-both_sides : (p : Problem) (at : List Mark) (level scale : ℕ) (form : List Term) (const : ℤ) (x : Point) → IsWhole p → Solves p x → IsEquationOf p at (cost_at p level) scale form const
+both_sides : (p : Problem) (at : List Mark) (level scale : ℕ) (form : List Term) (const : ℤ) (x : Point) → IsPlaced p → Solves p x → IsEquationOf p at (cost_at p level) scale form const
     → Each (λ l. coefficient (place_of l.name Under) form +ℤ coefficient (place_of l.name Over) form ≡ pos scale *ℤ pos (share p l * (under_at level l + over_at level l))) (lines p)
-both_sides p at level scale form const x whole solves e =
+both_sides p at level scale form const x placed solves e =
     each-impl (λ l. IsSmall l.name × (cost_at p level (bump l.name) ≡ pos (share p l * (under_at level l + over_at level l)))) _ (lines p)
     (λ l h.
     sym (value-plus (unit_at (place_of l.name Under)) (unit_at (place_of l.name Over)) form ∙ ap₂ ◌+ℤ◌ (unit_value (place_of l.name Under) form) (unit_value (place_of l.name Over) form))
     ∙ sym (equation_along p at (cost_at p level) scale form const x (bump l.name) solves (cost-IsLinear p level) e (bump-direction p l.name h.0))
     ∙ ap (λ (z : ℤ). pos scale *ℤ z) h.1)
-    (each-both _ _ (lines p) (rows_small p.rows (stay_lines 1001 p.stays) (recursion_from_All _ _ whole.rows) (stays_small 1001 p.stays (recursion_from_All _ _ whole.stays))) (cost_of_both p level whole))
+    (each-both _ _ (lines p) (each-impl IsSmallLine (λ l. IsSmall l.name) (lines p) (λ l s. (let next = over_next l.name in omega (arith, s.over, next))) (placed_small p placed)) (cost_of_both p level placed))
 
 sum_columns : (p : Problem) (level scale : ℕ) (form : List Term) → Each (Facts p level scale form) (lines p) → (side : Side) → All (λ l. pos l.scale *ℤ coefficient (place_of l.name side) form ≡ column (alone (scale * scales p) (times_by p level scale form)) side l level) (lines p)
 sum_columns p level scale form facts Under =
@@ -243,22 +243,24 @@ sum_columns p level scale form facts Over =
     (λ l h. over-column l.scale scale (share p l) (under_at level l) (over_at level l) (scales p) (coefficient (place_of l.name Under) form) (coefficient (place_of l.name Over) form) (times_by p level scale form l.name) h.0 (ap (λ (z : ℤ). z -ℤ coefficient (place_of l.name Under) form) h.1.0) h.1.1) facts)
 
 -- the level's numbers, not yet in lowest terms
-pub sum_exists : (p : Problem) (at : List Mark) (level : ℕ) → IsWhole p → IsCorner p at → HasRays p at → (scale : ℕ) × (times : RowName → ℤ) × (reduced : ℕ → ℤ) × IsLevelSum p at level scale times reduced
-sum_exists p at level whole corner rays =
+placed_sum : (p : Problem) (at : List Mark) (level : ℕ) → IsPlaced p → IsProblem p → IsCorner p at → HasRays p at → (scale : ℕ) × (times : RowName → ℤ) × (reduced : ℕ → ℤ) × IsLevelSum p at level scale times reduced
+placed_sum p at level placed problem corner rays =
     let e = equation_exists p at (cost_at p level) corner rays (cost-IsLinear p level) (cost_fixed p at level corner) in
-    let problem = whole-IsProblem p whole in
-    let facts : Each (Facts p level e.0 e.1) (lines p) = each-both _ _ (lines p) (shares p problem) (each-both _ _ (lines p) (heavy_own p level e.0 whole) (both_sides p at level e.0 e.1 e.2 corner.point whole corner.stands.0 e.3)) in (
+    let facts : Each (Facts p level e.0 e.1) (lines p) = each-both _ _ (lines p) (shares p problem) (each-both _ _ (lines p) (heavy_own p level e.0 placed) (both_sides p at level e.0 e.1 e.2 corner.point placed corner.stands.0 e.3)) in (
       e.0 * scales p,
       times_by p level e.0 e.1,
       λ v. coefficient v e.1,
       record {
         scale_positive = mul-pos e.3.scale_positive (scales-above p problem);
-        cancel = times_cancel p at level e.0 e.1 e.2 corner.point whole corner.stands.0 e.3;
+        cancel = times_cancel p at level e.0 e.1 e.2 corner.point placed corner.stands.0 e.3;
         columns = sum_columns p level e.0 e.1 facts;
         inside_zero = λ side. All-from_recursion (λ l. IsIn (place_of l.name side) at → coefficient (place_of l.name side) e.1 ≡ pos 0) (lines p)
             (each-of (λ l. IsIn (place_of l.name side) at → coefficient (place_of l.name side) e.1 ≡ pos 0) (lines p) (λ l i. none-unless p at e.1 (place_of l.name side) e.3.outside (λ o. o.1 i)));
       },
     )
+
+pub sum_exists : (p : Problem) (at : List Mark) (level : ℕ) → IsWhole p → IsCorner p at → HasRays p at → (scale : ℕ) × (times : RowName → ℤ) × (reduced : ℕ → ℤ) × IsLevelSum p at level scale times reduced
+sum_exists p at level whole corner rays = placed_sum p at level (whole-placed p whole) (whole-IsProblem p whole) corner rays
 
 -- so the corner has multipliers at all levels
 pub multipliers_exist : (p : Problem) (at : List Mark) → IsWhole p → IsCorner p at → HasRays p at → (m : Multipliers) × AreMultipliersAt p at m
@@ -337,8 +339,11 @@ lowest_numbers p scale times reduced above =
       },
     )
 
-pub level_writing_exists : (p : Problem) (at : List Mark) (level : ℕ) → IsWhole p → IsCorner p at → HasRays p at → (scale : ℕ) × (times : RowName → ℤ) × (reduced : ℕ → ℤ) × IsLevelWriting p at level scale times reduced
-level_writing_exists p at level whole corner rays =
-    let s = sum_exists p at level whole corner rays in
+pub placed_level_writing : (p : Problem) (at : List Mark) (level : ℕ) → IsPlaced p → IsProblem p → IsCorner p at → HasRays p at → (scale : ℕ) × (times : RowName → ℤ) × (reduced : ℕ → ℤ) × IsLevelWriting p at level scale times reduced
+placed_level_writing p at level placed problem corner rays =
+    let s = placed_sum p at level placed problem corner rays in
     let l = lowest_numbers p s.0 s.1 s.2 s.3.scale_positive in
     (l.0, l.1, l.2, writing_from_level p at level s.0 s.1 s.2 l.0 l.1 l.2 s.3 l.3)
+
+pub level_writing_exists : (p : Problem) (at : List Mark) (level : ℕ) → IsWhole p → IsCorner p at → HasRays p at → (scale : ℕ) × (times : RowName → ℤ) × (reduced : ℕ → ℤ) × IsLevelWriting p at level scale times reduced
+level_writing_exists p at level whole corner rays = placed_level_writing p at level (whole-placed p whole) (whole-IsProblem p whole) corner rays

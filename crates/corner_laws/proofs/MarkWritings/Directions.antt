@@ -20,7 +20,7 @@ use Rattle.corner_laws.specs.Sums.{IsRowOf}
 use Rattle.problem_core.specs.Unfit.{IsWritingOf}
 use Rattle.corner_laws.proofs.Swaps.ColumnsStay.{each_marks}
 use Rattle.corner_laws.proofs.Counting.{IsSmall, bump, bump_one, cancels, rows_small, sides_apart, stays_small, unit_value}
-use Rattle.corner_laws.proofs.LinePlaces.{AllApart, IsSmallLine, lines_apart, lines_attrs, lines_small, sum-single}
+use Rattle.corner_laws.proofs.LinePlaces.{AllApart, IsPlaced, IsSmallLine, lines_attrs, placed_apart, placed_small, sum-single, whole-placed}
 use Rattle.corner_laws.proofs.Rays.{ray_form}
 use Rattle.corner_laws.proofs.WrittenValues.{contains_each}
 use Rattle.corner_laws.proofs.ZeroColumns.{IsDirection}
@@ -138,9 +138,9 @@ parts-none q u o k one w c e f g h =
     let d = no-part k one g in
     omega (arith, ints, a, b, d, h)
 
-pub attr-direction : (p : Problem) (v : ℕ) → IsWhole p → v ≢ attr_column 0 → IsDirection p (attr_ray v (lines p))
-attr-direction p v whole ne =
-    let small = lines_small p whole in
+pub placed-direction : (p : Problem) (v : ℕ) → IsPlaced p → v ≢ attr_column 0 → IsDirection p (attr_ray v (lines p))
+placed-direction p v placed ne =
+    let small = placed_small p placed in
     let still : attr_ray v (lines p) one_column ≡ pos 0 =
     only-first (unit_at (attr_column v) one_column) (spread v (lines p) one_column) (spread-none v one_column (lines p) (each-impl IsSmallLine _ (lines p) (λ l s e. absurd (omega (arith, s.under, e))) small))
     ∙ cond_other one_column (attr_column v) (pos 1) (λ e. ne (omega (arith, e))) in
@@ -160,8 +160,11 @@ attr-direction p v whole ne =
           (only-first (unit_at (attr_column v) (attr_column e.attr)) (spread v (lines p) (attr_column e.attr)) (spread-none v (attr_column e.attr) (lines p) (each-impl IsSmallLine _ (lines p) (λ l s e. absurd (omega (arith, s.under, e))) small))
           ∙ attr-unit v e.attr))
           ∙ unit_value v l.form)))
-          (each-both _ _ (lines p) small (spread-own v (lines p) (lines_apart p whole))));
+          (each-both _ _ (lines p) small (spread-own v (lines p) (placed_apart p placed))));
     }
+
+attr-direction : (p : Problem) (v : ℕ) → IsWhole p → v ≢ attr_column 0 → IsDirection p (attr_ray v (lines p))
+attr-direction p v whole ne = placed-direction p v (whole-placed p whole) ne
 
 -- ---- the lines cancel
 
@@ -182,10 +185,13 @@ from-along s a m f t e g h =
     omega (arith, ints, two, three, g)
 
 -- a mark's column is below those of attributes
-pub small-mark : (p : Problem) (c : ℕ) → IsWhole p → Contains (map place (marks_of (lines p))) c → c < attr_column 0
-small-mark p c whole is =
+pub placed-mark : (p : Problem) (c : ℕ) → IsPlaced p → Contains (map place (marks_of (lines p))) c → c < attr_column 0
+placed-mark p c placed is =
     contains_each (λ u. u < attr_column 0) (marks_of (lines p)) c
-    (each_marks (λ u. u < attr_column 0) (lines p) (each-impl IsSmallLine _ (lines p) (λ l s. s.under) (lines_small p whole)) (each-impl IsSmallLine _ (lines p) (λ l s. s.over) (lines_small p whole))) is
+    (each_marks (λ u. u < attr_column 0) (lines p) (each-impl IsSmallLine _ (lines p) (λ l s. s.under) (placed_small p placed)) (each-impl IsSmallLine _ (lines p) (λ l s. s.over) (placed_small p placed))) is
+
+pub small-mark : (p : Problem) (c : ℕ) → IsWhole p → Contains (map place (marks_of (lines p))) c → c < attr_column 0
+small-mark p c whole is = placed-mark p c (whole-placed p whole) is
 
 pub none-unless : (p : Problem) (at : List Mark) (form : List Term) (v : ℕ) → ((u : ℕ) → coefficient u form ≢ pos 0 → Contains (map place (marks_of (lines p))) u × (IsIn u at → ⊥)) → ((Contains (map place (marks_of (lines p))) v × (IsIn v at → ⊥)) → ⊥) → coefficient v form ≡ pos 0
 none-unless p at form v outside never = elim (sign_cases (coefficient v form)) [

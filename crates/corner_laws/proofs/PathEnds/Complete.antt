@@ -25,7 +25,7 @@ pub unfit-none : (dual : Bool) (p : Problem) (old : List Row) (Begins : List Row
 unfit-none dual p old Begins path (Plain what) fit h = fit (last_marks path.corner path.swaps) (Plain what) (last_corner dual p path.corner path.swaps h.1.corner h.1.lawful) h.2
 unfit-none dual p old Begins path (Terms mark j) fit h = fit path.corner (Terms mark j) h.2 h.4
 unfit-none dual p old Begins path (Rows level j) fit h = fit path.corner (Rows level j) h.2.corner h.3
-unfit-none dual p old Begins path (Shifts what j) fit h = fit path.corner (Shifts what j) h.2.corner h.3
+unfit-none dual p old Begins path (Shifts what j) fit h = fit path.corner (Shifts what j) h.3.corner h.4
 
 -- the only stops are a conflict and want of memory
 pub stops_are_conflicts : (dual : Bool) (p : Problem) (old : List Row) (Begins : List Row → List Mark → Type 0) (budget : ℕ) (stop : RunStop) → IsWhole p → AllFit p old → 3 ^ (length p.rows + length p.stays) ≤ budget → IsStopOf dual p old Begins budget stop → IsConflict stop
@@ -62,4 +62,4 @@ plain_alone p at (Plain what) h = tt
 plain_alone p at (Terms mark j) ((k, r, within, is, (same, over, a, b, none)), fresh) = absurd (fresh k r within (ap (λ (s : Row). Held s.id) is ∙ ap (λ (m : Mark). m.row) (sym same)))
 plain_alone p at (Rows level j) (sum, (k, number, (before, r, after, e, count, fresh))) =
     absurd (middle (λ s. s.id ≢ r.id) before after r (each-new (λ s. nat_eq (1000 - s.rank) k) p.rows before after r e (recursion_from_All (λ s. s.id ≢ r.id) p.rows fresh)) refl)
-plain_alone p at (Shifts what j) (a, b, h) = absurd (omega (arith, a, b, no-changes p.rows))
+plain_alone p at (Shifts what j) (same, a, b, h) = absurd (omega (arith, a, b, no-changes p.rows))

@@ -3,18 +3,17 @@ ghost use Rattle.std.specs.Prelude.{◌≡◌, ◌≤◌, [], true, IfOk, IfErr,
 ghost use Rattle.std.specs.Io.KnownBytes.{Appends};
 ghost use Rattle.frac_core.specs.declared.memory.Stop.TheVariants.{OutOfMemory as NoMemory};
 ghost use Rattle.layout_cli.specs.Machine.{Step};
-ghost use Rattle.layout_cli.specs.Printing.{HasFront};
-ghost use Rattle.layout_cli.specs.Replies.{text_of};
+ghost use Rattle.reply_texts.specs.Printing.{HasFront};
+ghost use Rattle.reply_texts.specs.Replies.{text_of};
 ghost use Rattle.layout_cli.specs.Talks.{HasStopCause, IsAnswered, IsAnsweredInPart, sink_failed};
-ghost use Rattle.layout_cli.specs.declared.reply.TheConstants.{OK_LENGTH};
+ghost use Rattle.reply_texts.specs.declared.reply.TheConstants.{OK_LENGTH};
 ghost use Rattle.session_undo.specs.Replies.{accepted, IsChange, MayRefuse, Tells};
 ghost use Rattle.session_undo.specs.Replies as reply;
 
-use crate::reply::printing::print_frames;
-use crate::reply::{OK_LENGTH, reply_text};
 use edge_io::{Failed, LINE_LIMIT, Sink, put_all};
 use frac_core::Stop;
 use name_tables::LimitWord;
+use reply_texts::{OK_LENGTH, print_frames, reply_text};
 use script_text::read_line;
 use session_undo::{Refusal, Reply, Session};
 use span_text::SyntaxAt;

@@ -2,10 +2,10 @@
 ghost use Rattle.std.specs.Prelude.{◌≡◌, true, List, ℕ, IfOk, OnOk, IsErrOf};
 ghost use Rattle.edge_io.specs.Feeding.{shown};
 ghost use Rattle.frac_core.specs.declared.memory.Stop.TheVariants.{OutOfMemory as NoMemory};
-ghost use Rattle.layout_cli.specs.Ends.{IsScriptEnd, LeadsOutside};
+ghost use Rattle.layout_cli.specs.Ends.{IsScriptCounted, IsScriptEnd, LeadsOutside, counts};
 ghost use Rattle.layout_cli.specs.Talks.{HasStopCause, IsAnswered, IsAnsweredInPart, IsGivenAs, IsTalk};
 ghost use Rattle.layout_cli.specs.Talks.{sink_failed};
-ghost use Rattle.session_undo.specs.Scene.{first_state};
+ghost use Rattle.session_undo.specs.State.{first_state};
 
 use crate::script::answers::{AnswerStop, answer, refuse_long};
 use crate::script::{Answerer, ScriptStop, answer_script};
@@ -88,7 +88,9 @@ pub(crate) fn talk_over<S: Source, K: Sink>(
     source: &mut S,
     sink: &mut K,
 ) -> Result<bool, ScriptStop>
-    ensures { LeadsOutside S.left S.faults K.held K.faults (source.old, sink.old) (source.new, sink.new)
+    ensures counted { IsScriptCounted result (counts S.pulls S.faults K.faults (source.old, sink.old))
+        (counts S.pulls S.faults K.faults (source.new, sink.new)) }
+    ensures ends { LeadsOutside S.left S.faults K.held K.faults (source.old, sink.old) (source.new, sink.new)
         (λ old new. IsScriptEnd old new result) }
 {
     let mut talk = Talk::new(alloc)?;

@@ -161,7 +161,7 @@ no-rows [] stays = refl
 no-rows (id ∷ ids) stays = no-rows ids stays
 
 stop-not : (gone still : List ℕ) → gone ++ still ≡ 2 ∷ 1 ∷ []
-    → IsStopOf false (without_rows gone (with_second (standing 5))) (with_second (standing 5)).rows (FromRemoved (with_second (standing 5)) both_over (2 ∷ 1 ∷ []) gone (without_rows gone (with_second (standing 5)))) 0 (UnfitRun x_over) → ⊥
+    → IsStopOf false (without_rows gone (with_second (standing 5))) (without_rows gone (with_second (standing 5))).rows (FromRemoved (with_second (standing 5)) both_over (2 ∷ 1 ∷ []) gone (without_rows gone (with_second (standing 5)))) 0 (UnfitRun x_over) → ⊥
 stop-not [] still e (kind, few, (begins, path, bad)) =
     let count : 1 ≡ 2 = path.corner.count in absurd (omega (arith, count))
 stop-not (a ∷ []) still e (kind, few, (begins, path, bad)) =
@@ -180,7 +180,7 @@ fits : (still : List ℕ) → IsHeldPath (with_second (standing 5)) both_over (2
 fits still h = stop-not h.gone still h.in_order h.stop
 
 freed-not : (gone still : List ℕ) → gone ++ still ≡ 1 ∷ []
-    → IsStopOf false (without_rows gone (standing 5)) (standing 5).rows (FromRemoved (standing 5) (over_stay ∷ []) (1 ∷ []) gone (without_rows gone (standing 5))) 0 (UnfitRun x_over) → ⊥
+    → IsStopOf false (without_rows gone (standing 5)) (without_rows gone (standing 5)).rows (FromRemoved (standing 5) (over_stay ∷ []) (1 ∷ []) gone (without_rows gone (standing 5))) 0 (UnfitRun x_over) → ⊥
 freed-not [] still e (kind, few, (begins, path, bad)) = x_fits bad
 freed-not (a ∷ more) still e (kind, few, (begins, path, bad)) =
     let first : a ≡ 1 = ap (λ (ids : List ℕ). get_or ids 0 0) e in

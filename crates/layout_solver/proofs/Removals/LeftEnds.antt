@@ -55,15 +55,15 @@ use Rattle.problem_core.proofs.Best.Agreed.{each-lines as each-whole}
 is-path : (path : Path) (at : List Mark) → path.dual ≡ false → path.swaps ≡ [] → path.corner ≡ at → path ≡ record { dual = false; corner = at; swaps = [] }
 is-path path at a b e = ap₂ (λ (d : Bool) (s : List Swap). record { dual = d; corner = path.corner; swaps = s }) a b ∙ ap (λ (ms : List Mark). record { dual = false; corner = ms; swaps = [] }) e
 
-held-stop : (p q : Problem) (kept at : List Mark) (leaving gone : List ℕ) (what : What) → ComesFrom p kept leaving gone at → at ≡ in_order q at → IsPath false q at [] → IsUnfitStop q at (Refused (Plain what)) → IsStopOf false q p.rows (FromRemoved p kept leaving gone q) 0 (UnfitRun (record { path = record { dual = false; corner = at; swaps = [] }; quantity = Plain what }))
+held-stop : (p q : Problem) (kept at : List Mark) (leaving gone : List ℕ) (what : What) → ComesFrom p kept leaving gone at → at ≡ in_order q at → IsPath false q at [] → IsUnfitStop q at (Refused (Plain what)) → IsStopOf false q q.rows (FromRemoved p kept leaving gone q) 0 (UnfitRun (record { path = record { dual = false; corner = at; swaps = [] }; quantity = Plain what }))
 held-stop p q kept at leaving gone what comes ordered lawful unfit = (refl, omega arith, ((refl, comes, ordered), lawful, unfit))
 
 pub held_path : (p q : Problem) (kept at : List Mark) (leaving gone still : List ℕ) (path : Path) (quantity : Quantity) → gone ++ still ≡ leaving → q ≡ without_rows gone p → path ≡ record { dual = false; corner = at; swaps = [] } → ComesFrom p kept leaving gone at → at ≡ in_order q at → IsPath false q at [] → IsUnfitStop q at (Refused quantity) → IsHeldPath p kept leaving still (record { path = path; quantity = quantity })
 held_path p q kept at leaving gone still path (Plain what) all is e comes ordered lawful unfit = record {
   gone = gone;
   in_order = all;
-  stop = subst (λ (r : Problem). IsStopOf false r p.rows (FromRemoved p kept leaving gone r) 0 (UnfitRun (record { path = path; quantity = Plain what }))) is
-      (subst (λ (h : Path). IsStopOf false q p.rows (FromRemoved p kept leaving gone q) 0 (UnfitRun (record { path = h; quantity = Plain what }))) (sym e)
+  stop = subst (λ (r : Problem). IsStopOf false r r.rows (FromRemoved p kept leaving gone r) 0 (UnfitRun (record { path = path; quantity = Plain what }))) is
+      (subst (λ (h : Path). IsStopOf false q q.rows (FromRemoved p kept leaving gone q) 0 (UnfitRun (record { path = h; quantity = Plain what }))) (sym e)
       (held-stop p q kept at leaving gone what comes ordered lawful unfit));
 }
 held_path p q kept at leaving gone still path (Terms mark j) all is e comes ordered lawful unfit = absurd unfit
@@ -175,10 +175,10 @@ left_path p kept at last l q budget is from (path, run) =
     )
 
 module _ (p : Problem) (kept at : List Mark) (l : Leaving) (q : Problem) (budget : ℕ) (is : q ≡ without l p) (from : FromRemoved p kept l.rows l.rows q [] at) where
-  left-unfit : (path : UnfitPath) → IsStopOf false q q.rows (FromHere at) budget (UnfitRun path) → IsStopOf false q p.rows (FromRemoved p kept l.rows l.rows q) budget (UnfitRun path)
-  left-unfit path (primal, few, unfit) = (primal, few, unfit-added q p.rows (FromRemoved p kept l.rows l.rows q) at path.path path.quantity from unfit)
+  left-unfit : (path : UnfitPath) → IsStopOf false q q.rows (FromHere at) budget (UnfitRun path) → IsStopOf false q q.rows (FromRemoved p kept l.rows l.rows q) budget (UnfitRun path)
+  left-unfit path (primal, few, unfit) = (primal, few, unfit-added q q.rows (FromRemoved p kept l.rows l.rows q) at path.path path.quantity from unfit)
 
-  left-spent : (path : Path) → IsStopOf false q q.rows (FromHere at) budget (SpentRun path) → IsStopOf false q p.rows (FromRemoved p kept l.rows l.rows q) budget (SpentRun path)
+  left-spent : (path : Path) → IsStopOf false q q.rows (FromHere at) budget (SpentRun path) → IsStopOf false q q.rows (FromRemoved p kept l.rows l.rows q) budget (SpentRun path)
   left-spent path (primal, spent) = (
     primal,
     record {
@@ -190,8 +190,8 @@ module _ (p : Problem) (kept at : List Mark) (l : Leaving) (q : Problem) (budget
   )
 
   pub end_stop : (stop : RemoveStop) → IsEndStop q at budget stop → IsRemoveStop p kept l budget stop
-  end_stop (Unfit still path) h = inr (h.0, subst (λ (r : Problem). IsStopOf false r p.rows (FromRemoved p kept l.rows l.rows r) budget (UnfitRun path)) is (left-unfit path h.1))
-  end_stop (Spent path) h = subst (λ (r : Problem). IsStopOf false r p.rows (FromRemoved p kept l.rows l.rows r) budget (SpentRun path)) is (left-spent path h)
+  end_stop (Unfit still path) h = inr (h.0, subst (λ (r : Problem). IsStopOf false r r.rows (FromRemoved p kept l.rows l.rows r) budget (UnfitRun path)) is (left-unfit path h.1))
+  end_stop (Spent path) h = subst (λ (r : Problem). IsStopOf false r r.rows (FromRemoved p kept l.rows l.rows r) budget (SpentRun path)) is (left-spent path h)
   end_stop OutOfMemory h = tt
 
 pub still_stop : (p : Problem) (kept : List Mark) (l : Leaving) (budget : ℕ) (stop : RemoveStop) → IsStillStop p kept l.rows stop → IsRemoveStop p kept l budget stop

@@ -14,7 +14,7 @@ use Rattle.corner_lines.specs.Removals.{without_row}
 use Rattle.layout_solver.proofs.Removals.LeftMarks.{far_in, is_row-own, is_row-other, was_in}
 use Rattle.corner_lines.proofs.ProblemChanges.Dropped.{filter-on, filter-off, left_mark, other_row}
 use Rattle.frac_core.proofs.Bools.{bools-same as same_bool}
-use Rattle.corner.proofs.Readings.KeptFacts.{is_in as in_is, in_is as is_in}
+use Rattle.corner_table.proofs.Readings.KeptFacts.{is_in as in_is, in_is as is_in}
 
 -- ---- the marks that are left are in order
 

@@ -32,7 +32,7 @@ unfit-alone : (p : Problem) (old : List Row) (at : List Mark) (path : Path) (qua
 unfit-alone p old at path (Plain what) h = h
 unfit-alone p old at path (Terms mark j) (primal, none, corner, begins, unfit) = absurd (no-truth primal)
 unfit-alone p old at path (Rows level j) (none, begins, lawful, unfit) = absurd (plain_alone p path.corner (Rows level j) unfit)
-unfit-alone p old at path (Shifts what j) (none, begins, lawful, unfit) = absurd (plain_alone p path.corner (Shifts what j) unfit)
+unfit-alone p old at path (Shifts what j) (dual, none, begins, lawful, unfit) = absurd (plain_alone p path.corner (Shifts what j) unfit)
 
 -- so its stops are those of a change, whichever rows were there before
 stop-alone : (p : Problem) (old : List Row) (at : List Mark) (budget : ℕ) (stop : RunStop) → IsStopOf true p p.rows (FromHere at) budget stop → IsStopOf true p old (FromHere at) budget stop

@@ -8,7 +8,7 @@ use Rattle.std.proofs.lemmas.List.Elements.{recursion_from_All}
 use borrow.Author.Differences.{ints}
 use Rattle.frac_core.specs.Fraction.{Fraction}
 use Rattle.problem_core.specs.Layout.{Row}
-use Rattle.problem_core.specs.Unfit.{changes, first_shifted, same_constant}
+use Rattle.problem_core.specs.Unfit.{changes, first_shifted, same_constant, without_constant}
 use Rattle.problem_core.proofs.Forms.{each-impl}
 use Rattle.corner_laws.proofs.Counting.{head_pairs}
 use Rattle.corner_lines.specs.Shifts.{has_constant}
@@ -50,6 +50,21 @@ same_false f g n = elim (cases_Bool (same_constant f g)) [
 has-alone : (b : Bool) (f g : Fraction) (r : Row) → changed g (cond b (changed f r) r) ≡ changed g r
 has-alone true f g r = refl
 has-alone false f g r = refl
+
+alike : (id : ℕ) (f : Fraction) (r : Row) → without_constant (has_constant id f r) ≡ without_constant r
+alike id f r = elim (nat_eq r.id id) as (λ b. without_constant (cond b (changed f r) r) ≡ without_constant r) [
+  | true ↦ refl
+  | false ↦ refl
+]
+
+all-alike : (id : ℕ) (f : Fraction) (rows : List Row) → map without_constant (map (has_constant id f) rows) ≡ map without_constant rows
+all-alike id f [] = refl
+all-alike id f (r ∷ rows) = ap₂ (λ (s : Row) (ss : List Row). s ∷ ss) (alike id f r) (all-alike id f rows)
+
+-- the rows are those before but for their constants
+pub shifted-alike : (to : List Change) (rows : List Row) → map without_constant (shifted to rows) ≡ map without_constant rows
+shifted-alike [] rows = refl
+shifted-alike (c ∷ to) rows = shifted-alike to (map (has_constant c.row c.constant) rows) ∙ all-alike c.row c.constant rows
 
 -- where the row has the constant already, it is no change
 pub no_change : (id : ℕ) (f : Fraction) (rows : List Row) → Each (λ (r : Row). r.id ≡ id → r.constant ≡ f) rows → map (has_constant id f) rows ≡ rows

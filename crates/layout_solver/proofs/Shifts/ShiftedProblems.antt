@@ -37,7 +37,7 @@ use Rattle.corner.proofs.Stays.StoodLines.{AreSeenAlike, each_seen, rows_alike}
 use Rattle.corner_ends.specs.Runs.{FromHere}
 use Rattle.layout_solver.specs.declared.engine.Change.{Change}
 use Rattle.layout_solver.specs.Shifts.{CanShift, IsAtMark, shifted, with_constants}
-use Rattle.layout_solver.proofs.Shifts.Constants.{changes_few, changes_less, first_changes, next_taken, no_change, one_change, shifted_on, split_at}
+use Rattle.layout_solver.proofs.Shifts.Constants.{changes_few, changes_less, first_changes, next_taken, no_change, one_change, shifted-alike, shifted_on, split_at}
 use Rattle.corner_laws.proofs.PathEnds.Complete.{no-changes}
 
 abbrev made : Problem → List Row → Problem
@@ -201,6 +201,7 @@ module _ (p q : Problem) (to : List Change) (i n : ℕ) (t : Change) (within : i
     -- what does not fit once it has changed
     pub next_unfit : (marks : List Mark) (what : What) → IsUnfitWhat (with_constant t.row t.constant q) marks what → IsUnfit (with_constants to p) p.rows marks (Shifts what (n + 1))
     next_unfit marks what unfit = (
+      sym (shifted-alike to p.rows),
       omega arith,
       subst (λ (k : ℕ). k ≤ changes p.rows (shifted to p.rows)) (sym count) (changes_less to (take i to) t (drop (i + 1) to) (split_at to i t rising within is) p.rows),
       subst (λ (r : Problem). IsUnfitWhat r marks what) first-alone unfit,
@@ -217,7 +218,7 @@ pub path_stop : (p : Problem) (old : List Row) (marks : List Mark) (path : Path)
 path_stop p old marks path quantity what other n budget is also e lawful unfit =
     subst (λ (w : What). IsStopOf true p old (FromHere marks) budget (Unfit (record { path = path; quantity = Shifts w n }))) (same-what what other (sym is ∙ also))
     (subst (λ (q : Path). IsStopOf true p old (FromHere marks) budget (Unfit (record { path = q; quantity = Shifts what n }))) (sym e)
-    (refl, omega arith, (refl, (refl, refl), lawful, unfit)))
+    (refl, omega arith, (refl, refl, (refl, refl), lawful, unfit)))
 
 pub head-of : (s t : Scene) (ss ts : List Scene) → s ∷ ss ≡ t ∷ ts → s ≡ t
 head-of s t ss ts e = cc

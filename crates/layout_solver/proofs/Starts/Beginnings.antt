@@ -102,7 +102,7 @@ pub unfit-added : (p : Problem) (old : List Row) (Begins : List Row → List Mar
 unfit-added p old Begins mid path (Plain what) from (begins, lawful, unfit) = (subst (Begins []) (sym begins.1) from, lawful, unfit)
 unfit-added p old Begins mid path (Terms mark j) from (dual, none, corner, begins, unfit) = absurd (plain_alone p path.corner (Terms mark j) unfit)
 unfit-added p old Begins mid path (Rows level j) from (none, begins, lawful, unfit) = absurd (plain_alone p path.corner (Rows level j) unfit)
-unfit-added p old Begins mid path (Shifts what j) from (none, begins, lawful, unfit) = absurd (plain_alone p path.corner (Shifts what j) unfit)
+unfit-added p old Begins mid path (Shifts what j) from (dual, none, begins, lawful, unfit) = absurd (plain_alone p path.corner (Shifts what j) unfit)
 
 pub stop_added : (p : Problem) (old : List Row) (kept mid : List Mark) (rows : List Row) (budget : ℕ) (stop : RunStop) → FromAdded p kept rows [] mid → IsStopOf false p p.rows (FromHere mid) budget stop → IsStopOf false p old (FromAdded p kept rows) budget stop
 stop_added p old kept mid rows budget (Conflict by) from h = h

@@ -18,7 +18,7 @@ use problem_core::Side;
 use std::cmp::Ordering;
 
 /// The line at a place of a corner, of so many: its equation, where a mark of it is inside.
-#[derive(Clone, Copy, Debug)]
+#[derive(Clone, Copy)]
 pub(crate) struct LineAt<'a> {
     pub inside: &'a Option<Inside>,
     pub at: usize,
@@ -41,7 +41,7 @@ pub(crate) fn side_after(line: &Option<Inside>, step: Step, at: usize) -> Option
 
 /// What moves a line's deviation: `own` times it has this number at the entering line, and this value before
 /// the exchange.
-#[derive(Clone, Copy, Debug)]
+#[derive(Clone, Copy)]
 pub(crate) struct Share {
     pub own: i64,
     pub number: i64,

@@ -77,7 +77,7 @@ fn attr_before(alloc: Global, target: Frac, line: LineAt<'_>) -> Result<Sum, Sum
 }
 
 // The target of an attribute's stay, and the place of its line.
-#[derive(Clone, Copy, Debug)]
+#[derive(Clone, Copy)]
 struct StayPlace {
     target: Frac,
     at: usize,

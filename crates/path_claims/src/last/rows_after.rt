@@ -54,7 +54,7 @@ fn end_of_first(lines: &[LineFacts], place: usize, first: usize) -> Option<usize
 }
 
 /// The lines of the level at a place that come before an end.
-#[derive(Clone, Copy, Debug)]
+#[derive(Clone, Copy)]
 pub(crate) struct FirstLines {
     pub place: usize,
     pub end: usize,

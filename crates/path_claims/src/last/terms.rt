@@ -33,7 +33,7 @@ use std::alloc::Global;
 
 /// Why the sum of terms is not made: an attribute does not fit, or the sum of so many of the first terms, or
 /// memory is wanting.
-#[derive(Clone, Copy, Debug, PartialEq, Eq)]
+#[derive(Clone, Copy)]
 pub(crate) enum TermsStop {
     UnfitAttr(u32),
     UnfitTerms(usize),
@@ -172,7 +172,7 @@ fn stopped_fit(j: usize, first: usize) -> Fit
 }
 
 // So many of a row's first terms.
-#[derive(Clone, Copy, Debug)]
+#[derive(Clone, Copy)]
 struct Sought<'a> {
     row: &'a Row,
     first: usize,
@@ -253,7 +253,7 @@ fn are_over_from(lines: &[Option<Inside>], pivot: &Pivot, from: usize, rows: usi
 }
 
 /// The first terms of the row whose over mark this is, so many.
-#[derive(Clone, Copy, Debug)]
+#[derive(Clone, Copy)]
 pub(crate) struct FirstTerms {
     pub mark: Mark,
     pub first: u32,

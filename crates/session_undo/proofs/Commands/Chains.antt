@@ -14,30 +14,25 @@ use Rattle.view_tree.specs.Views.{LiveView, ViewTree, view_of, view_named, IsAtD
 use Rattle.view_tree.specs.Views as tree
 use Rattle.view_tree.specs.Stops.{IsNewView, is_full}
 use Rattle.view_tree.proofs.ViewLemmas.{IsAtDepth-unique, room}
-use Rattle.constraint_compile.specs.Meaning.{MetricList}
+use Rattle.compile_parts.specs.Meaning.{MetricList}
 use Rattle.frac_core.specs.declared.memory.Stop.TheVariants as stop
-use Rattle.constraint_compile.specs.declared.stops.LargeConstant.{LargeConstant}
+use Rattle.compile_parts.specs.declared.stops.LargeConstant.{LargeConstant}
 use Rattle.layout_solver.specs.declared.engine.Change.{Change}
 use Rattle.layout_solver.specs.Shifts.{shifted}
 use Rattle.session_undo.specs.declared.reply.Refusal.{Refusal}
 use Rattle.session_undo.specs.Replies.{Reply, Unknown, Taken, Limit, MayRefuse}
-use Rattle.session_undo.specs.Scene.{Scene, State, AreDraftRows, with_window, metrics_with}
-use Rattle.session_undo.specs.Machine.{IsTaken, IsDeep, IsCrowded, IsFarSize, AreNear, AreTooMany, TriedView, TriedMetric, TriedWindow, UnlessFar, HasAllViews}
-use Rattle.session_undo.specs.Items.{has_size}
-use Rattle.session_undo.specs.Adding.{NoEnd, IsFreeView, IsFreeMetric, views_draft, metrics_draft}
+use Rattle.scenes.specs.Scene.{Scene, AreDraftRows, with_window, metrics_with}
+use Rattle.session_undo.specs.State.{State}
+use Rattle.session_undo.specs.Machine.{IsTaken, IsDeep, IsCrowded, AreTooMany, TriedView, TriedMetric, TriedWindow, UnlessFar, HasAllViews}
+use Rattle.held_items.specs.Moving.{IsFarSize, AreNear}
+use Rattle.held_items.specs.Items.{has_size}
+use Rattle.session_undo.specs.Adding.{NoEnd, IsFreeView, IsFreeMetric}
+use Rattle.scenes.specs.Drafts.{views_draft, metrics_draft}
 use Rattle.session_undo.specs.Kept.{AreWithin}
-use Rattle.session_undo.specs.Moving.{MayLackChanges}
-use Rattle.session_undo.proofs.HeldRows.ItemRows.{rows-small}
+use Rattle.scenes.specs.Moving.{MayLackChanges}
+use Rattle.held_items.proofs.HeldRows.ItemRows.{rows-small}
 use Rattle.session_undo.proofs.Commands.Steps.{refuses}
-use Rattle.session_undo.proofs.Suggestions.SuggestionSteps.{view-found}
-
-pub ok-map : {T E : Type 0} (P Q : T → Type 0) (r : Result T E) → ((x : T) → P x → Q x) → IfOk r P → IfOk r Q
-ok-map P Q (Ok x) to h = to x h
-ok-map P Q (Err e) to h = h
-
-pub stop-map : {T E : Type 0} (P Q : E → Type 0) (r : Result T E) → ((e : E) → P e → Q e) → IfErr r P → IfErr r Q
-stop-map P Q (Ok x) to h = h
-stop-map P Q (Err e) to h = to e h
+use Rattle.session_undo.proofs.Commands.SuggestionSteps.{view-found}
 
 pub err-map : {T : Type 0} (F G : Reply → Type 0) (r : Result T Refusal) → ((reply : Reply) → F reply → G reply) → IfErr r (MayRefuse F) → IfErr r (MayRefuse G)
 err-map F G (Ok x) to h = h

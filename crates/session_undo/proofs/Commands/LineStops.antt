@@ -8,20 +8,22 @@ use Rattle.vfl_text.specs.Formats.{FormatMeaning}
 use Rattle.script_text.specs.declared.words.Align.{Align}
 use Rattle.script_text.specs.Meaning.{Linear}
 use Rattle.view_tree.specs.Views.{LiveView}
-use Rattle.constraint_compile.specs.Meaning.{MetricList, terms_of}
-use Rattle.constraint_compile.specs.Compiled.{CompiledLine, AreSmallSteps}
+use Rattle.compile_parts.specs.Meaning.{MetricList, terms_of}
+use Rattle.constraint_compile.specs.Compiled.{CompiledLine}
+use Rattle.compile_parts.specs.Steps.{AreSmallSteps}
 use Rattle.constraint_compile.specs.Stops.{IsUsable, IsWrongUse, IsCompiled, MayStop}
-use Rattle.constraint_compile.specs.Formats.FormatParts.{parts}
-use Rattle.constraint_compile.specs.Formats.FormatStops.{row_count}
-use Rattle.constraint_compile.specs.Formats.FormatRows.{IsCompiledFormat, MayStopFormat}
-use Rattle.constraint_compile.specs.declared.stops.KindWord.{KindWord}
-use Rattle.constraint_compile.specs.declared.stops.KindWord.TheVariants as kind
-use Rattle.constraint_compile.specs.declared.stops.CompileStop.{CompileStop}
-use Rattle.constraint_compile.specs.declared.stops.CompileStop.TheVariants as stop
-use Rattle.constraint_compile.proofs.Formats.FormatCauses.{steps_same, compiled_count, compiled_refused, refused_once}
+use Rattle.format_compile.specs.FormatParts.{parts}
+use Rattle.format_compile.specs.FormatStops.{row_count}
+use Rattle.format_compile.specs.FormatRows.{IsCompiledFormat, MayStopFormat}
+use Rattle.compile_parts.specs.declared.stops.KindWord.{KindWord}
+use Rattle.compile_parts.specs.declared.stops.KindWord.TheVariants as kind
+use Rattle.compile_parts.specs.declared.stops.CompileStop.{CompileStop}
+use Rattle.compile_parts.specs.declared.stops.CompileStop.TheVariants as stop
+use Rattle.format_compile.proofs.FormatCauses.{steps_same, compiled_count, compiled_refused, refused_once}
 use Rattle.session_undo.specs.Replies.{Reply}
 use Rattle.problem_core.specs.Layout.{Row}
-use Rattle.session_undo.specs.Scene.{Scene, State, with_line}
+use Rattle.scenes.specs.Scene.{Scene, with_line}
+use Rattle.session_undo.specs.State.{State}
 use Rattle.session_undo.specs.Machine.{TriedConstraint, TriedFormat}
 use Rattle.session_undo.specs.Adding.{AddStop, StopStep, NoEnd, IsFreeLine}
 use Rattle.session_undo.proofs.Commands.Steps.{Excludes, NoStop, stop-step, add-stop, add-passed, line-causes}

@@ -2,9 +2,9 @@
 use Rattle.std.proofs.Common.{◌≡◌, ℕ, ◌<◌, List, [], ◌∷◌, length, refl, sym, ap, ◌∙◌, subst, inl, inr, arith}
 use Rattle.name_tables.specs.declared.stops.LimitWord.{LimitWord}
 use Rattle.name_tables.specs.declared.stops.LimitWord.TheVariants as word
-use Rattle.constraint_compile.specs.declared.stops.KindWord.{KindWord}
-use Rattle.constraint_compile.specs.declared.stops.CompileStop.{CompileStop}
-use Rattle.constraint_compile.specs.declared.stops.CompileStop.TheVariants as stop
+use Rattle.compile_parts.specs.declared.stops.KindWord.{KindWord}
+use Rattle.compile_parts.specs.declared.stops.CompileStop.{CompileStop}
+use Rattle.compile_parts.specs.declared.stops.CompileStop.TheVariants as stop
 use Rattle.constraint_compile.specs.Compiled.{CompiledLine}
 use Rattle.problem_core.specs.Layout.{Row}
 use Rattle.cert_core.specs.declared.stops.RunStop.{RunStop}
@@ -16,10 +16,13 @@ use Rattle.std.specs.Prelude.{IfOk, IfErr, OnOk, OnErr}
 use Rattle.std.specs.declared.result.Result.{Result}
 use Rattle.std.specs.declared.result.Result.TheVariants.{Ok, Err}
 use Rattle.session_undo.specs.Replies.{Reply, Done, Limit, Kind, MayRefuse, accepted}
-use Rattle.session_undo.specs.Scene.{History, Scene, State, with_earlier, with_line}
-use Rattle.session_undo.specs.Machine.{TriedUndo, Unless, UnlessAny, Keeps, IsSolved, Solves, SolvesFree, TriedLine, AddsLine, IsCrowded}
+use Rattle.scenes.specs.Scene.{History, Scene, with_earlier, with_line}
+use Rattle.session_undo.specs.State.{State}
+use Rattle.session_undo.specs.Machine.{TriedUndo, Unless, UnlessAny, Keeps, Solves, SolvesFree, TriedLine, AddsLine, IsCrowded}
+use Rattle.scenes.specs.Steps.{IsSolved}
 use Rattle.diagnosis.specs.Probes.{NoConflict}
-use Rattle.session_undo.specs.Adding.{refusal_of, answer_of, RunStopsAt, NoEnd, UnlessFull, AddStop, StopStep, IsGroupLimit, IsGroupFree, IsLineLimit, IsLineFree, IsFreeLine}
+use Rattle.session_undo.specs.Adding.{refusal_of, answer_of, NoEnd, UnlessFull, AddStop, StopStep, IsGroupLimit, IsGroupFree, IsLineLimit, IsLineFree, IsFreeLine}
+use Rattle.scenes.specs.Steps.{RunStopsAt}
 
 -- what refuses for a narrower relation refuses for a wider one
 pub refuses : (F G : Reply → Type 0) (r : Refusal) → ((reply : Reply) → F reply → G reply) → MayRefuse F r → MayRefuse G r

@@ -13,11 +13,13 @@ use Rattle.view_tree.specs.JsonStops.{AreFree, GoesIn, IsFirstHeld, IsGrown, IsW
 use Rattle.view_tree.specs.Views.{LiveView, ViewTree, view_named}
 use Rattle.view_tree.specs.declared.stops.TreeStop.TheVariants as stays
 use Rattle.view_tree.proofs.ViewLemmas.{IsAtDepth-unique}
-use Rattle.constraint_compile.specs.declared.stops.KindWord.TheVariants as kind
+use Rattle.compile_parts.specs.declared.stops.KindWord.TheVariants as kind
 use Rattle.session_undo.specs.Replies.{Reply, Outside, Unknown, Taken, Limit, Kind}
-use Rattle.session_undo.specs.Scene.{Scene, State}
+use Rattle.scenes.specs.Scene.{Scene}
+use Rattle.session_undo.specs.State.{State}
 use Rattle.session_undo.specs.Machine.{AddsBranch, IsCrowded, IsMisshapen, TriedTree, Unless, UnlessAny}
-use Rattle.session_undo.specs.Adding.{NoEnd, IsFreeTree, views_draft}
+use Rattle.session_undo.specs.Adding.{NoEnd, IsFreeTree}
+use Rattle.scenes.specs.Drafts.{views_draft}
 use Rattle.session_undo.proofs.Commands.Chains.{not-both, not-some}
 
 -- ---- names

@@ -9,9 +9,10 @@ use Rattle.view_tree.specs.JsonStops.{IsFirstHeld, PassesTreeLimit}
 use Rattle.view_tree.specs.JsonTrees.{branch, no_branches, names, size, IsTreeText, JsonTree}
 use Rattle.view_tree.specs.Views.{view_named, window}
 use Rattle.view_tree.proofs.JsonExamples.{limits_fail, shape_fails, shape_holds, syntax_holds, within_two, ascii, two_value, two_tree, two_views, json_two as json-two, text_two as text-two, one_tree as one-tree}
-use Rattle.constraint_compile.specs.declared.stops.KindWord.TheVariants as kind
+use Rattle.compile_parts.specs.declared.stops.KindWord.TheVariants as kind
 use Rattle.session_undo.specs.Replies.{Reply, Done, Outside, Unknown, Taken, Limit, Kind}
-use Rattle.session_undo.specs.Scene.{State, first_scene, first_state}
+use Rattle.session_undo.specs.State.{State, first_state}
+use Rattle.scenes.specs.Scene.{first_scene}
 use Rattle.session_undo.specs.Machine.{AddsBranch, IsCrowded, Keeps, TriedTree, Unless, UnlessAny}
 use Rattle.session_undo.specs.Adding.{NoEnd}
 use Rattle.session_undo.proofs.Commands.TreeChains.{no-first, no-limit, tree-crowded, tree-limited, tree-misshapen, tree-outside, tree-taken, tree-unknown}

@@ -1,7 +1,7 @@
 use Rattle.std.proofs.Common.{◌≡◌, drop, map}
 use Rattle.std.specs.List.{list_any}
 use Rattle.std.specs.String.{string_bytes}
-use Rattle.constraint_compile.specs.Keeps.{part_view}
+use Rattle.compile_parts.specs.Keeps.{part_view}
 use Rattle.constraint_compile.specs.Naming.{is_multiple}
 use Rattle.constraint_compile.proofs.naming.has_multiple.Given as goal
 

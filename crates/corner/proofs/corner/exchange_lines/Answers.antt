@@ -1,5 +1,5 @@
-use Rattle.corner.specs.Swaps.Exchanges.{IsExchangeOf}
-use Rattle.corner.specs.Tables.{lists_of}
+use Rattle.corner_exchange.specs.Swaps.Exchanges.{IsExchangeOf}
+use Rattle.corner_table.specs.Tables.{lists_of}
 use Rattle.corner.proofs.Swaps.NextConsistent.{exchanged_consistent, exchanged_seen, marked_next}
 use Rattle.corner.proofs.corner.exchange_lines.Goals as goal
 

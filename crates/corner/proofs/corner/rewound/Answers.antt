@@ -1,6 +1,6 @@
 use Rattle.std.proofs.Common.{map, ap}
-use Rattle.corner.specs.Invariants.{names_of}
-use Rattle.corner.specs.Tables.{lists_of, scene_at}
+use Rattle.corner_table.specs.Invariants.{names_of}
+use Rattle.corner_table.specs.Tables.{lists_of, scene_at}
 use Rattle.corner.proofs.corner.rewound.Goals as goal
 
 pub returns-clause-rewound : goal.returns-clause-rewound

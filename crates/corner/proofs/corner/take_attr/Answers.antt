@@ -1,9 +1,9 @@
 use Rattle.std.proofs.Common.{ap, subst}
-use Rattle.corner.specs.Reads.Listing.{HasLeft}
-use Rattle.corner.specs.Tables.{lists_of, problem_of}
-use Rattle.corner.proofs.Attributes.AttrLevels.{stay_named}
+use Rattle.corner_table.specs.Reads.Listing.{HasLeft}
+use Rattle.corner_table.specs.Tables.{lists_of, problem_of}
+use Rattle.corner_writings.proofs.Basics.OwnerFacts.{stay_named}
 use Rattle.corner.proofs.Attributes.DroppedAttrConsistent.{attr_drop_consistent, attr_dropped_marks, attr_left_listed}
-use Rattle.corner.proofs.Additions.RowPlaced.{on_ok}
+use Rattle.corner_exchange.proofs.Basics.SmallFacts.{on_ok}
 use Rattle.corner.proofs.corner.take_attr.Goals as goal
 
 pub attr_slot-requires-clause-attr : goal.attr_slot-requires-clause-attr

@@ -1,6 +1,6 @@
 use Rattle.std.proofs.Common.{subst, sym}
-use Rattle.corner.specs.Histories.{lists_before}
-use Rattle.corner.specs.Invariants.{IsConsistent}
+use Rattle.corner_table.specs.Histories.{lists_before}
+use Rattle.corner_table.specs.Invariants.{IsConsistent}
 use Rattle.corner.proofs.Attributes.CornerAttrs.{back_consistent}
 use Rattle.corner.proofs.corner.take_back.Goals as goal
 

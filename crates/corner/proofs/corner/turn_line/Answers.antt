@@ -1,6 +1,6 @@
 use Rattle.std.proofs.Common.{subst, sym}
-use Rattle.corner.specs.Swaps.TurnedLevels.{IsTurnStop}
-use Rattle.corner.specs.Tables.{lists_of}
+use Rattle.corner_exchange.specs.Swaps.TurnedLevels.{IsTurnStop}
+use Rattle.corner_table.specs.Tables.{lists_of}
 use Rattle.corner.proofs.Swaps.NextConsistent.{marked_next, turned_consistent, turned_seen}
 use Rattle.corner.proofs.corner.turn_line.Goals as goal
 

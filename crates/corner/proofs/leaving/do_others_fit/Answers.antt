@@ -1,11 +1,11 @@
 use Rattle.std.proofs.Common.{rules, ◌≡◌, ◌≢◌, ◌-◌, ◌<◌, length, slice_index_or, sym, subst, ℕ}
 use Rattle.problem_core.specs.declared.parts.RowName.TheVariants.{Held}
-use Rattle.corner.specs.Tables.{line_slot, lists_of, problem_of, slot_at}
+use Rattle.corner_table.specs.Tables.{line_slot, lists_of, problem_of, slot_at}
 use Rattle.corner.specs.Views.{IsNamed}
-use Rattle.corner.specs.Reads.LevelNumbers.{IsCounted}
-use Rattle.corner.specs.Reads.Fitting.{IsFittingLine}
-use Rattle.corner.proofs.Readings.MarkingFacts.{row_named}
-use Rattle.corner.proofs.LevelFacts.FittingLoops.{counted_named}
+use Rattle.corner_table.specs.Reads.LevelNumbers.{IsCounted}
+use Rattle.corner_writings.specs.Fitting.{IsFittingLine}
+use Rattle.corner_table.proofs.Readings.MarkingFacts.{row_named}
+use Rattle.corner_writings.proofs.LevelFacts.FittingLoops.{counted_named}
 use Rattle.corner.proofs.Removals.LeavingFits.{FitsOther}
 use Rattle.corner.proofs.Removals.LeavingUnits.{next-to}
 use Rattle.corner.proofs.leaving.do_others_fit.Goals as goal

@@ -1,4 +1,4 @@
-use Rattle.corner.specs.Tables.{lists_of}
+use Rattle.corner_table.specs.Tables.{lists_of}
 use Rattle.corner.proofs.Removals.LeavingFits.{FitsOther}
 use Rattle.corner.proofs.Removals.LeavingUnits.{AllTo}
 use Rattle.corner.proofs.leaving.do_others_fit.Given as goal

@@ -4,7 +4,7 @@ use borrow.Author.Differences.{ints}
 use Rattle.frac_core.specs.Fraction.{IsFitting}
 use Rattle.row_core.specs.Rows.{coefficient}
 use Rattle.corner_laws.specs.LevelLaws.{small_number}
-use Rattle.corner.specs.Tables.{lists_of}
+use Rattle.corner_table.specs.Tables.{lists_of}
 use Rattle.corner.specs.Removals.Leaving.{AreLeftFitting}
 use Rattle.corner.proofs.Removals.LeavingFits.{draft_left, fits_left, small_left, unfit_left}
 use Rattle.corner.proofs.leaving.does_left_fit.Goals as goal

@@ -1,5 +1,5 @@
 use Rattle.std.proofs.Common.{ap}
-use Rattle.corner.specs.Tables.{lists_of}
+use Rattle.corner_table.specs.Tables.{lists_of}
 use Rattle.corner.proofs.Removals.LeavingEnds.{leaver_is, leaver_name}
 use Rattle.corner.proofs.leaving.leaver_of.Goals as goal
 

@@ -1,9 +1,9 @@
 use Rattle.std.proofs.Common.{rules, SFits, w64, ◌∙◌, ℤ, pos, sym, ap, subst}
 use Rattle.std.proofs.lemmas.Int.{to_z-of_z}
 use Rattle.frac_core.specs.Fraction.{IsFitting}
-use Rattle.corner.specs.declared.table.Slot.{Slot}
-use Rattle.corner.specs.Tables.{lists_of}
-use Rattle.corner.specs.Reads.LevelNumbers.{IsCounted, count_of, unit_at}
+use Rattle.corner_table.specs.declared.table.Slot.{Slot}
+use Rattle.corner_table.specs.Tables.{lists_of}
+use Rattle.corner_table.specs.Reads.LevelNumbers.{IsCounted, count_of, unit_at}
 use Rattle.corner.proofs.Removals.LeavingEnds.{count_fits, its_counted}
 use Rattle.corner.proofs.leaving.leaving_count.Goals as goal
 

@@ -1,7 +1,7 @@
 use Rattle.std.proofs.Common.{rules, ◌≡◌, ◌+◌, ◌-◌, ◌∙◌, pos, ap, sym, arith}
-use Rattle.corner.specs.declared.table.Priority.{Priority}
-use Rattle.corner.specs.Tables.{lists_of}
-use Rattle.corner.specs.Changes.{IsUnfitStop}
+use Rattle.corner_table.specs.declared.table.Priority.{Priority}
+use Rattle.corner_table.specs.Tables.{lists_of}
+use Rattle.corner_exchange.specs.Stops.{IsUnfitStop}
 use Rattle.corner.specs.Removals.Leaving.{IsLeftStop, marks_left, problem_left}
 use Rattle.corner.proofs.Removals.LeavingRows.{its_level, rows_left_is}
 use Rattle.corner.proofs.Removals.LeavingCosts.{left_stop, none_left}

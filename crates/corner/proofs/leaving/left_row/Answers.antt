@@ -3,11 +3,11 @@ use Rattle.std.specs.Int.{w128}
 use Rattle.std.proofs.lemmas.Int.{to_z-of_z}
 use Rattle.row_core.specs.Rows.{IsKeptRow}
 use Rattle.corner_lines.specs.LineEquations.{sign_of}
-use Rattle.corner.specs.Tables.{lists_of}
+use Rattle.corner_table.specs.Tables.{lists_of}
 use Rattle.corner.specs.Removals.Leaving.{IsLeftRow, IsLeftStop, left_count}
-use Rattle.corner.proofs.Pivots.LineSlots.{err_of, ok_of, read_row}
-use Rattle.corner.proofs.LevelFacts.LevelReadFacts.{fitting_cost}
-use Rattle.corner.proofs.LevelFacts.LevelWords.{product_fits, product_is}
+use Rattle.corner_exchange.proofs.Pivots.LineSlots.{err_of, ok_of, read_row}
+use Rattle.corner_writings.proofs.LevelFacts.LevelReadFacts.{fitting_cost}
+use Rattle.corner_exchange.proofs.LevelFacts.LevelWords.{product_fits, product_is}
 use Rattle.corner.proofs.Removals.LeavingEnds.{level_above, line_above, made_row, made_unfit, signed_cost}
 use Rattle.corner.proofs.leaving.left_row.Goals as goal
 use Rattle.frac_core.proofs.Results.{ok_implies, err_implies as err_all}

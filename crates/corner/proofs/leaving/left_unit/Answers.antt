@@ -1,8 +1,8 @@
 use Rattle.std.proofs.Common.{rules, SFits, w64, ◌≡◌, ◌<ℤ◌, pos, sym, subst}
 use Rattle.std.proofs.lemmas.Int.{to_z-of_z}
-use Rattle.corner.specs.declared.table.Priority.{Priority}
-use Rattle.corner.specs.declared.table.Slot.{Slot}
-use Rattle.corner.specs.Tables.{lists_of}
+use Rattle.corner_table.specs.declared.table.Priority.{Priority}
+use Rattle.corner_table.specs.declared.table.Slot.{Slot}
+use Rattle.corner_table.specs.Tables.{lists_of}
 use Rattle.corner.specs.Removals.Leaving.{IsLeftUnit}
 use Rattle.corner.proofs.Removals.LeavingUnits.{unit_stays}
 use Rattle.corner.proofs.Removals.LeavingEnds.{free_share, its_scale_above}

@@ -2,8 +2,8 @@ use Rattle.std.proofs.Common.{rules, SFits, w64, ◌<ℤ◌, ◌∙◌, inr, pos
 use Rattle.std.proofs.lemmas.Int.{to_z-of_z}
 use Rattle.frac_core.specs.Fraction.{Fraction, IsFitting, IsRatio, IsUnfitRatio, sum_den, sum_num}
 use Rattle.problem_core.specs.Levels.{IsCostAt}
-use Rattle.corner.specs.declared.table.Priority.{Priority}
-use Rattle.corner.specs.Tables.{lists_of, standing_at}
+use Rattle.corner_table.specs.declared.table.Priority.{Priority}
+use Rattle.corner_table.specs.Tables.{lists_of, standing_at}
 use Rattle.corner.specs.Removals.Leaving.{IsLeftStop, marks_left, problem_left}
 use Rattle.corner.proofs.Removals.LeavingRows.{its_level, its_place}
 use Rattle.corner.proofs.Removals.LeavingCosts.{left_cost_is, left_cost_unfit}

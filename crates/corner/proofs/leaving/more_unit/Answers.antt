@@ -1,11 +1,11 @@
 use Rattle.std.proofs.Common.{SFits, w64, ◌∙◌, ℕ, sym, ap, subst}
 use Rattle.std.proofs.lemmas.Int.{to_z-of_z}
 use Rattle.problem_core.specs.declared.parts.RowName.TheVariants.{Held}
-use Rattle.corner.specs.declared.table.Slot.{Slot}
-use Rattle.corner.specs.Tables.{line_slot, lists_of, problem_of, slot_at}
+use Rattle.corner_table.specs.declared.table.Slot.{Slot}
+use Rattle.corner_table.specs.Tables.{line_slot, lists_of, problem_of, slot_at}
 use Rattle.corner.specs.Views.{IsNamed}
-use Rattle.corner.specs.Additions.CostJoins.{IsUnfitRise}
-use Rattle.corner.specs.Reads.LevelNumbers.{IsCounted}
+use Rattle.corner_joins.specs.Additions.CostJoins.{IsUnfitRise}
+use Rattle.corner_table.specs.Reads.LevelNumbers.{IsCounted}
 use Rattle.corner.proofs.Removals.LeavingEnds.{more_never, row_counted, row_name}
 use Rattle.corner.proofs.leaving.more_unit.Goals as goal
 

@@ -1,8 +1,8 @@
 use Rattle.std.proofs.Common.{rules, SFits, w64, ◌≡◌, true, false, ℕ, ap, subst, unsigned_abs, refl}
 use Rattle.std.proofs.lemmas.Int.{to_z-of_z}
-use Rattle.corner.specs.Tables.{lists_of}
+use Rattle.corner_table.specs.Tables.{lists_of}
 use Rattle.corner.specs.Removals.Leaving.{IsLeftRow, IsLeftStop}
-use Rattle.corner.proofs.Costs.CostFound.{passed_on}
+use Rattle.corner_joins.proofs.Costs.CostFound.{passed_on}
 use Rattle.corner.proofs.Removals.LeavingCosts.{some_left, unfit_stop}
 use Rattle.corner.proofs.Removals.LeavingEnds.{left_unit_above, left_unit_fits}
 use Rattle.corner.proofs.leaving.rest_level.Goals as goal

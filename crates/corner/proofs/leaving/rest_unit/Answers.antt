@@ -1,8 +1,8 @@
 use Rattle.std.proofs.Common.{rules, ◌≡◌, ◌≢◌, ◌<◌, ◌≤◌, ◌+◌, ◌-◌, ◌<ℤ◌, length, slice_index_or, ℤ, List, pos, to_z, w64, sym, subst, unsigned_abs}
 use Rattle.problem_core.specs.Layout.{Row}
 use Rattle.problem_core.specs.declared.parts.RowName.TheVariants.{Held}
-use Rattle.corner.specs.Tables.{line_slot, lists_of, slot_at}
-use Rattle.corner.specs.Additions.CostJoins.{IsLeastUnit}
+use Rattle.corner_table.specs.Tables.{line_slot, lists_of, slot_at}
+use Rattle.corner_joins.specs.Additions.CostJoins.{IsLeastUnit}
 use Rattle.corner.proofs.Removals.LeavingUnits.{IsUnitTo, no_rows_yet, other_row_passes, row_room, unit_of_all}
 use Rattle.corner.proofs.Removals.LeavingEnds.{among, room_fits, unit_step}
 use Rattle.corner.proofs.leaving.rest_unit.Goals as goal

@@ -1,7 +1,7 @@
 use Rattle.std.proofs.Common.{rules, SFits, w64, ◌<ℤ◌, pos, ap, sym, subst}
 use Rattle.std.proofs.lemmas.Int.{to_z-of_z}
-use Rattle.corner.specs.declared.table.Priority.{Priority}
-use Rattle.corner.specs.Tables.{lists_of}
+use Rattle.corner_table.specs.declared.table.Priority.{Priority}
+use Rattle.corner_table.specs.Tables.{lists_of}
 use Rattle.corner.proofs.Removals.LeavingRows.{its_level}
 use Rattle.corner.proofs.Removals.LeavingEnds.{IsQuotient, left_unit_above, quotient_is, scale_room, unit_up}
 use Rattle.corner.proofs.leaving.times_of.Goals as goal

@@ -1,7 +1,7 @@
 use Rattle.std.proofs.Common.{ap}
 use Rattle.std.proofs.lemmas.Result.{on_ok_weaker}
-use Rattle.corner.specs.declared.table.Slot.{Slot}
-use Rattle.corner.specs.Tables.{lists_of}
+use Rattle.corner_table.specs.declared.table.Slot.{Slot}
+use Rattle.corner_table.specs.Tables.{lists_of}
 use Rattle.corner.proofs.Shifts.GrownInside.{home_grown}
 use Rattle.corner.proofs.shifting.grow_home.Goals as goal
 

@@ -1,8 +1,8 @@
 use Rattle.std.proofs.Common.{rules, ◌∙◌, ap}
 use Rattle.std.proofs.lemmas.Result.{on_ok_weaker}
-use Rattle.corner.specs.declared.table.Slot.{Slot}
+use Rattle.corner_table.specs.declared.table.Slot.{Slot}
 use Rattle.corner.specs.Shifts.Shifting.{IsGrownValueStop, home_growth}
-use Rattle.corner.specs.Tables.{lists_of}
+use Rattle.corner_table.specs.Tables.{lists_of}
 use Rattle.corner.proofs.Shifts.GrownInside.{both_grown, home_slot, home_slots, home_stop, line_owner, mark_stop}
 use Rattle.corner.proofs.shifting.grow_inside.Goals as goal
 use Rattle.frac_core.proofs.Results.{err_implies as err_all}

@@ -5,7 +5,7 @@ use Rattle.std.proofs.lemmas.Result.{on_ok_weaker}
 use Rattle.frac_core.specs.Fraction.{IsFitting}
 use Rattle.corner.specs.declared.shifting.Growth.{Growth}
 use Rattle.corner.specs.Shifts.Shifting.{IsGrowStop, IsGrown, outside_growth, over_at}
-use Rattle.corner.specs.Tables.{lists_of, priority_at}
+use Rattle.corner_table.specs.Tables.{lists_of, priority_at}
 use Rattle.corner.proofs.Shifts.GrownSlots.{growth_is, level_number, level_scale}
 use Rattle.corner.proofs.shifting.grow_level.Goals as goal
 use Rattle.frac_core.proofs.Results.{err_implies as err_all}

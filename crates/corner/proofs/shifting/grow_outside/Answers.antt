@@ -1,6 +1,6 @@
 use Rattle.std.proofs.Common.{rules, ◌≡◌, ◌∙◌, ◌<◌, ◌≤◌, ℕ, ◌+◌, List, length, refl, ap, subst, arith, slice_index_or}
 use Rattle.corner.specs.Shifts.Shifting.{IsGrownValueStop}
-use Rattle.corner.specs.Tables.{lists_of}
+use Rattle.corner_table.specs.Tables.{lists_of}
 use Rattle.corner.proofs.Shifts.GrownLists.{AreFirstGrown, all_grown, column_now, column_within, first_slots, next_grown, next_grows, next_stop, none_grown, one_column}
 use Rattle.corner.proofs.shifting.grow_outside.Goals as goal
 

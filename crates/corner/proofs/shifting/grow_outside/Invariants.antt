@@ -1,7 +1,7 @@
 use Rattle.std.proofs.Common.{◌≡◌, List, ℕ, length}
 use Rattle.indexed_rows.specs.Indexes.{IsColumnOf}
-use Rattle.corner.specs.Histories.{AreAlike, lists_before}
-use Rattle.corner.specs.Tables.{lists_of}
+use Rattle.corner_table.specs.Histories.{AreAlike, lists_before}
+use Rattle.corner_table.specs.Tables.{lists_of}
 use Rattle.corner.proofs.Shifts.GrownLists.{AreFirstGrown}
 use Rattle.corner.proofs.shifting.grow_outside.Given as goal
 

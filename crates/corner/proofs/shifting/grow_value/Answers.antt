@@ -3,9 +3,9 @@ use Rattle.std.specs.Int.{w64}
 use Rattle.std.proofs.lemmas.Int.{to_z-of_z}
 use Rattle.std.proofs.lemmas.Result.{on_ok_weaker}
 use Rattle.corner.specs.declared.shifting.Growth.{Growth}
-use Rattle.corner.specs.Swaps.Exchanges.{IsWhatAt}
+use Rattle.corner_exchange.specs.Swaps.Exchanges.{IsWhatAt}
 use Rattle.corner.specs.Shifts.Shifting.{IsGrowStop, IsGrown, outside_growth}
-use Rattle.corner.specs.Tables.{lists_of}
+use Rattle.corner_table.specs.Tables.{lists_of}
 use Rattle.corner.proofs.Shifts.GrownSlots.{growth_is, over_above, there_above, value_number, what_found}
 use Rattle.corner.proofs.shifting.grow_value.Goals as goal
 use Rattle.frac_core.proofs.Results.{err_implies as err_all}

@@ -3,13 +3,13 @@ use Rattle.std.specs.Int.{w64}
 use Rattle.std.proofs.lemmas.Int.{to_z-of_z}
 use Rattle.frac_core.specs.Fraction.{IsFitting}
 use Rattle.corner_lines.specs.LineEquations.{sign_of}
-use Rattle.corner.specs.declared.table.Slot.{Slot}
-use Rattle.corner.specs.Reads.LevelNumbers.{count_of, unit_at}
+use Rattle.corner_table.specs.declared.table.Slot.{Slot}
+use Rattle.corner_table.specs.Reads.LevelNumbers.{count_of, unit_at}
 use Rattle.corner.specs.Shifts.Shifting.{home_growth}
-use Rattle.corner.specs.Tables.{lists_of, slot_at}
+use Rattle.corner_table.specs.Tables.{lists_of, slot_at}
 use Rattle.corner.proofs.Shifts.GrownInside.{count_fits, home_unit_above, home_unit_fits}
 use Rattle.corner.proofs.Shifts.GrownSlots.{growth_is, signed_number}
-use Rattle.corner.proofs.LevelFacts.LevelReadFacts.{counted}
+use Rattle.corner_writings.proofs.LevelFacts.LevelReadFacts.{counted}
 use Rattle.corner.proofs.shifting.home_growth.Goals as goal
 
 pub cost_share-requires-clause-counted : goal.cost_share-requires-clause-counted

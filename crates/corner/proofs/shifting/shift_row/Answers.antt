@@ -3,13 +3,13 @@ use Rattle.std.proofs.lemmas.Option.{get_or_from_slice_get}
 use Rattle.frac_core.specs.Fraction.{Fraction, IsRatio, sum_den, sum_num}
 use Rattle.problem_core.specs.declared.parts.RowName.TheVariants.{Held}
 use Rattle.problem_core.specs.Layout.{Row}
-use Rattle.corner.specs.declared.table.TheConstants.{LEVELS}
-use Rattle.corner.specs.Reads.LevelNumbers.{IsSlotOfLine}
+use Rattle.corner_table.specs.declared.table.TheConstants.{LEVELS}
+use Rattle.corner_table.specs.Reads.LevelNumbers.{IsSlotOfLine}
 use Rattle.corner.specs.Shifts.Shifting.{HaveGrown, IsGrownValueStop, IsShiftedStop}
-use Rattle.corner.specs.Tables.{lists_of, problem_of, slot_at}
+use Rattle.corner_table.specs.Tables.{lists_of, problem_of, slot_at}
 use Rattle.corner.proofs.Shifts.GrownInside.{held_named, home_low}
 use Rattle.corner.proofs.Shifts.GrownRows.{shift_there, shifted}
-use Rattle.corner.proofs.LevelFacts.LevelReadFacts.{named_line_slot}
+use Rattle.corner_writings.proofs.LevelFacts.LevelReadFacts.{named_line_slot}
 use Rattle.corner.proofs.shifting.shift_row.Goals as goal
 
 pub line_slot-line-requires-clause-row : goal.line_slot-line-requires-clause-row

@@ -1,6 +1,6 @@
 use Rattle.std.proofs.Common.{◌≡◌, ◌<◌, ℕ, List, Some, slice_get}
 use Rattle.problem_core.specs.declared.parts.RowName.{RowName}
-use Rattle.corner.specs.Reads.Entries.{AreEntries}
+use Rattle.corner_writings.specs.Entries.{AreEntries}
 use Rattle.dual_run.specs.Entering.{IsBeforeLine, IsFound}
 use Rattle.dual_run.proofs.entering.least.Given as goal
 

@@ -5,7 +5,7 @@ use Rattle.problem_core.specs.Corners.{HasNegativeValue}
 use Rattle.corner_laws.specs.Runs.{other_mark}
 use Rattle.dual_run.proofs.Lows.{other_not_low, outside_not_low}
 use Rattle.dual_run.proofs.leaving.standing.Goals as goal
-use Rattle.corner.proofs.Readings.ReadFacts.{named_in as named_mark}
+use Rattle.corner_table.proofs.Readings.ReadFacts.{named_in as named_mark}
 
 pub is_inside-requires : goal.is_inside-requires
 is_inside-requires c = record { mark = named_mark c.args.c.now.problem c.args.row Under c.requires }

@@ -13,7 +13,7 @@ use Rattle.corner_ends.proofs.MarkOrders.{same_self}
 use Rattle.dual_run.proofs.Moved.{lows_swapped}
 use Rattle.dual_run.proofs.RunFacts.{swap_more}
 use Rattle.dual_run.proofs.runs.exchange.Goals as goal
-use Rattle.corner.proofs.Readings.ReadFacts.{mark_named}
+use Rattle.corner_table.proofs.Readings.ReadFacts.{mark_named}
 
 pub returns-in_ok-push-in-Ok-clause-trail : goal.returns-in_ok-push-in-Ok-clause-trail
 returns-in_ok-push-in-Ok-clause-trail c = λ first trail.

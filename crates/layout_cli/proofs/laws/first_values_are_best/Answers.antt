@@ -1,5 +1,5 @@
 use Rattle.std.proofs.Common.{arith}
-use Rattle.session_undo.proofs.First.{first-AreBest}
+use Rattle.scenes.proofs.First.{first-AreBest}
 use Rattle.layout_cli.proofs.laws.first_values_are_best.Goals as goal
 
 pub returns : goal.returns

@@ -1,8 +1,8 @@
 use Rattle.std.proofs.Common.{◌≡◌, ◌+◌, List, ℕ, length, ap, arith, rules}
 use Rattle.std.specs.Str.Lines.{lines}
 use Rattle.span_text.specs.TextCuts.Lines.{lines_left}
-use Rattle.claim_text.proofs.Problems.Readings.{lines_count}
-use Rattle.session_undo.specs.Scene.{first_state}
+use Rattle.problem_reading.proofs.Problems.Readings.{lines_count}
+use Rattle.session_undo.specs.State.{first_state}
 use Rattle.layout_cli.proofs.Made.{refuses_begin, refuses_more, refuses_end}
 use Rattle.layout_cli.proofs.making.answer_lines.Goals as goal
 

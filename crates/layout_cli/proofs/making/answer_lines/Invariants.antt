@@ -1,7 +1,7 @@
 use Rattle.std.proofs.Common.{◌≡◌, ◌+◌, ◌≤◌, ℕ, length}
 use Rattle.std.specs.Str.Lines.{lines}
 use Rattle.span_text.specs.TextCuts.Lines.{lines_left}
-use Rattle.session_undo.specs.Scene.{State, first_state}
+use Rattle.session_undo.specs.State.{State, first_state}
 use Rattle.layout_cli.specs.Making.{Refuses}
 use Rattle.layout_cli.proofs.making.answer_lines.Given as goal
 

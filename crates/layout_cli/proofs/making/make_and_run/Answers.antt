@@ -1,7 +1,7 @@
 use Rattle.std.proofs.Common.{◌≡◌, ◌∙◌, ◌++◌, List, ℕ, length, ap, subst, refl}
 use Rattle.std.specs.Str.Lines.{lines}
 use Rattle.make_script.specs.Script.{script}
-use Rattle.session_undo.specs.Scene.{State, first_state}
+use Rattle.session_undo.specs.State.{State, first_state}
 use Rattle.layout_cli.specs.Making.{Refuses, last_line, summary_line}
 use Rattle.layout_cli.proofs.making.make_and_run.Goals as goal
 

@@ -24,7 +24,7 @@ returns-in-Make-clause-done g c =
     let words : AreWordsOf c.args.words.now made = subst (λ (m : Mode). AreWordsOf c.args.words.now m) c.in-Make.is was in
     let old : Outside = record { left = g.S.Source.left c.args.source.now; held = g.K.Sink.held c.args.sink.now; reads_failed = g.S.Source.faults c.args.source.now; writes_failed = g.K.Sink.faults c.args.sink.now } in
     let new : Outside = record { left = g.S.Source.left c.args.source.now; held = g.K.Sink.held c.run_made.new.sink; reads_failed = g.S.Source.faults c.args.source.now; writes_failed = g.K.Sink.faults c.run_made.new.sink } in
-    let end : IsEndOf made old new c.run_made.result = c.run_made.ensures (g.S.Source.left c.args.source.now) (g.S.Source.faults c.args.source.now) in
+    let end : IsEndOf made old new c.run_made.result = c.run_made.ensures.ends (g.S.Source.left c.args.source.now) (g.S.Source.faults c.args.source.now) in
     λ is. (made, words, ended_as made old new _ status.Done is end)
 
 pub returns-in-Make-clause-refused : goal.returns-in-Make-clause-refused
@@ -34,7 +34,7 @@ returns-in-Make-clause-refused g c =
     let words : AreWordsOf c.args.words.now made = subst (λ (m : Mode). AreWordsOf c.args.words.now m) c.in-Make.is was in
     let old : Outside = record { left = g.S.Source.left c.args.source.now; held = g.K.Sink.held c.args.sink.now; reads_failed = g.S.Source.faults c.args.source.now; writes_failed = g.K.Sink.faults c.args.sink.now } in
     let new : Outside = record { left = g.S.Source.left c.args.source.now; held = g.K.Sink.held c.run_made.new.sink; reads_failed = g.S.Source.faults c.args.source.now; writes_failed = g.K.Sink.faults c.run_made.new.sink } in
-    let end : IsEndOf made old new c.run_made.result = c.run_made.ensures (g.S.Source.left c.args.source.now) (g.S.Source.faults c.args.source.now) in
+    let end : IsEndOf made old new c.run_made.result = c.run_made.ensures.ends (g.S.Source.left c.args.source.now) (g.S.Source.faults c.args.source.now) in
     λ is. (made, words, ended_as made old new _ status.Refused is end)
 
 pub returns-in-Make-clause-usage : goal.returns-in-Make-clause-usage
@@ -42,7 +42,7 @@ returns-in-Make-clause-usage g c =
     let made : Mode = Make c.in-Make.seed c.in-Make.views in
     let old : Outside = record { left = g.S.Source.left c.args.source.now; held = g.K.Sink.held c.args.sink.now; reads_failed = g.S.Source.faults c.args.source.now; writes_failed = g.K.Sink.faults c.args.sink.now } in
     let new : Outside = record { left = g.S.Source.left c.args.source.now; held = g.K.Sink.held c.run_made.new.sink; reads_failed = g.S.Source.faults c.args.source.now; writes_failed = g.K.Sink.faults c.run_made.new.sink } in
-    let end : IsEndOf made old new c.run_made.result = c.run_made.ensures (g.S.Source.left c.args.source.now) (g.S.Source.faults c.args.source.now) in
+    let end : IsEndOf made old new c.run_made.result = c.run_made.ensures.ends (g.S.Source.left c.args.source.now) (g.S.Source.faults c.args.source.now) in
     λ is. absurd (ended_as made old new _ status.Usage is end)
 
 pub returns-in-Make-clause-words : goal.returns-in-Make-clause-words
@@ -50,7 +50,7 @@ returns-in-Make-clause-words g c =
     let made : Mode = Make c.in-Make.seed c.in-Make.views in
     let old : Outside = record { left = g.S.Source.left c.args.source.now; held = g.K.Sink.held c.args.sink.now; reads_failed = g.S.Source.faults c.args.source.now; writes_failed = g.K.Sink.faults c.args.sink.now } in
     let new : Outside = record { left = g.S.Source.left c.args.source.now; held = g.K.Sink.held c.run_made.new.sink; reads_failed = g.S.Source.faults c.args.source.now; writes_failed = g.K.Sink.faults c.run_made.new.sink } in
-    let end : IsEndOf made old new c.run_made.result = c.run_made.ensures (g.S.Source.left c.args.source.now) (g.S.Source.faults c.args.source.now) in
+    let end : IsEndOf made old new c.run_made.result = c.run_made.ensures.ends (g.S.Source.left c.args.source.now) (g.S.Source.faults c.args.source.now) in
     λ is. absurd (ended_as made old new _ status.Usage is end)
 
 pub returns-in-Make-clause-other_words : goal.returns-in-Make-clause-other_words
@@ -63,7 +63,7 @@ returns-in-Make-clause-read_fault g c =
     let made : Mode = Make c.in-Make.seed c.in-Make.views in
     let old : Outside = record { left = g.S.Source.left c.args.source.now; held = g.K.Sink.held c.args.sink.now; reads_failed = g.S.Source.faults c.args.source.now; writes_failed = g.K.Sink.faults c.args.sink.now } in
     let new : Outside = record { left = g.S.Source.left c.args.source.now; held = g.K.Sink.held c.run_made.new.sink; reads_failed = g.S.Source.faults c.args.source.now; writes_failed = g.K.Sink.faults c.run_made.new.sink } in
-    let end : IsEndOf made old new c.run_made.result = c.run_made.ensures (g.S.Source.left c.args.source.now) (g.S.Source.faults c.args.source.now) in
+    let end : IsEndOf made old new c.run_made.result = c.run_made.ensures.ends (g.S.Source.left c.args.source.now) (g.S.Source.faults c.args.source.now) in
     λ is. (ended_as made old new _ status.ReadFault is end).0
 
 pub returns-in-Make-clause-after_read_fault : goal.returns-in-Make-clause-after_read_fault
@@ -71,7 +71,7 @@ returns-in-Make-clause-after_read_fault g c =
     let made : Mode = Make c.in-Make.seed c.in-Make.views in
     let old : Outside = record { left = g.S.Source.left c.args.source.now; held = g.K.Sink.held c.args.sink.now; reads_failed = 0; writes_failed = g.K.Sink.faults c.args.sink.now } in
     let new : Outside = record { left = g.S.Source.left c.args.source.now; held = g.K.Sink.held c.run_made.new.sink; reads_failed = 0; writes_failed = g.K.Sink.faults c.run_made.new.sink } in
-    let end : IsEndOf made old new c.run_made.result = c.run_made.ensures (g.S.Source.left c.args.source.now) 0 in
+    let end : IsEndOf made old new c.run_made.result = c.run_made.ensures.ends (g.S.Source.left c.args.source.now) 0 in
     λ is. absurd (none_rose (ended_as made old new _ status.ReadFault is end).0)
 
 pub returns-in-Make-clause-write_fault : goal.returns-in-Make-clause-write_fault
@@ -79,7 +79,7 @@ returns-in-Make-clause-write_fault g c =
     let made : Mode = Make c.in-Make.seed c.in-Make.views in
     let old : Outside = record { left = g.S.Source.left c.args.source.now; held = g.K.Sink.held c.args.sink.now; reads_failed = g.S.Source.faults c.args.source.now; writes_failed = g.K.Sink.faults c.args.sink.now } in
     let new : Outside = record { left = g.S.Source.left c.args.source.now; held = g.K.Sink.held c.run_made.new.sink; reads_failed = g.S.Source.faults c.args.source.now; writes_failed = g.K.Sink.faults c.run_made.new.sink } in
-    let end : IsEndOf made old new c.run_made.result = c.run_made.ensures (g.S.Source.left c.args.source.now) (g.S.Source.faults c.args.source.now) in
+    let end : IsEndOf made old new c.run_made.result = c.run_made.ensures.ends (g.S.Source.left c.args.source.now) (g.S.Source.faults c.args.source.now) in
     λ is. (ended_as made old new _ status.WriteFault is end).0
 
 pub returns-in-Make-clause-after_write_fault : goal.returns-in-Make-clause-after_write_fault
@@ -89,7 +89,7 @@ returns-in-Make-clause-after_write_fault g c =
     let words : AreWordsOf c.args.words.now made = subst (λ (m : Mode). AreWordsOf c.args.words.now m) c.in-Make.is was in
     let old : Outside = record { left = g.S.Source.left c.args.source.now; held = g.K.Sink.held c.args.sink.now; reads_failed = g.S.Source.faults c.args.source.now; writes_failed = g.K.Sink.faults c.args.sink.now } in
     let new : Outside = record { left = g.S.Source.left c.args.source.now; held = g.K.Sink.held c.run_made.new.sink; reads_failed = g.S.Source.faults c.args.source.now; writes_failed = g.K.Sink.faults c.run_made.new.sink } in
-    let end : IsEndOf made old new c.run_made.result = c.run_made.ensures (g.S.Source.left c.args.source.now) (g.S.Source.faults c.args.source.now) in
+    let end : IsEndOf made old new c.run_made.result = c.run_made.ensures.ends (g.S.Source.left c.args.source.now) (g.S.Source.faults c.args.source.now) in
     λ is. inr (made, words, (ended_as made old new _ status.WriteFault is end).1)
 
 pub returns-in-Make-clause-too_long : goal.returns-in-Make-clause-too_long
@@ -99,7 +99,7 @@ returns-in-Make-clause-too_long g c =
     let words : AreWordsOf c.args.words.now made = subst (λ (m : Mode). AreWordsOf c.args.words.now m) c.in-Make.is was in
     let old : Outside = record { left = g.S.Source.left c.args.source.now; held = g.K.Sink.held c.args.sink.now; reads_failed = g.S.Source.faults c.args.source.now; writes_failed = g.K.Sink.faults c.args.sink.now } in
     let new : Outside = record { left = g.S.Source.left c.args.source.now; held = g.K.Sink.held c.run_made.new.sink; reads_failed = g.S.Source.faults c.args.source.now; writes_failed = g.K.Sink.faults c.run_made.new.sink } in
-    let end : IsEndOf made old new c.run_made.result = c.run_made.ensures (g.S.Source.left c.args.source.now) (g.S.Source.faults c.args.source.now) in
+    let end : IsEndOf made old new c.run_made.result = c.run_made.ensures.ends (g.S.Source.left c.args.source.now) (g.S.Source.faults c.args.source.now) in
     λ is. (made, words, (ended_as made old new _ status.TooLong is end).0)
 
 pub returns-in-Make-clause-after_too_long : goal.returns-in-Make-clause-after_too_long
@@ -109,7 +109,7 @@ returns-in-Make-clause-after_too_long g c =
     let words : AreWordsOf c.args.words.now made = subst (λ (m : Mode). AreWordsOf c.args.words.now m) c.in-Make.is was in
     let old : Outside = record { left = g.S.Source.left c.args.source.now; held = g.K.Sink.held c.args.sink.now; reads_failed = g.S.Source.faults c.args.source.now; writes_failed = g.K.Sink.faults c.args.sink.now } in
     let new : Outside = record { left = g.S.Source.left c.args.source.now; held = g.K.Sink.held c.run_made.new.sink; reads_failed = g.S.Source.faults c.args.source.now; writes_failed = g.K.Sink.faults c.run_made.new.sink } in
-    let end : IsEndOf made old new c.run_made.result = c.run_made.ensures (g.S.Source.left c.args.source.now) (g.S.Source.faults c.args.source.now) in
+    let end : IsEndOf made old new c.run_made.result = c.run_made.ensures.ends (g.S.Source.left c.args.source.now) (g.S.Source.faults c.args.source.now) in
     λ is. (made, words, (ended_as made old new _ status.TooLong is end).1)
 
 pub returns-in-Make-clause-out_of_memory : goal.returns-in-Make-clause-out_of_memory
@@ -119,5 +119,5 @@ returns-in-Make-clause-out_of_memory g c =
     let words : AreWordsOf c.args.words.now made = subst (λ (m : Mode). AreWordsOf c.args.words.now m) c.in-Make.is was in
     let old : Outside = record { left = g.S.Source.left c.args.source.now; held = g.K.Sink.held c.args.sink.now; reads_failed = g.S.Source.faults c.args.source.now; writes_failed = g.K.Sink.faults c.args.sink.now } in
     let new : Outside = record { left = g.S.Source.left c.args.source.now; held = g.K.Sink.held c.run_made.new.sink; reads_failed = g.S.Source.faults c.args.source.now; writes_failed = g.K.Sink.faults c.run_made.new.sink } in
-    let end : IsEndOf made old new c.run_made.result = c.run_made.ensures (g.S.Source.left c.args.source.now) (g.S.Source.faults c.args.source.now) in
+    let end : IsEndOf made old new c.run_made.result = c.run_made.ensures.ends (g.S.Source.left c.args.source.now) (g.S.Source.faults c.args.source.now) in
     λ is. inr (made, words, ended_as made old new _ status.OutOfMemory is end)

@@ -4,8 +4,8 @@ use Rattle.layout_cli.specs.Ends.{Outside}
 use Rattle.layout_cli.proofs.Stops.{check_ends}
 use Rattle.layout_cli.proofs.program.run_check.Goals as goal
 
-pub returns-in-Ok-check_input : goal.returns-in-Ok-check_input
-returns-in-Ok-check_input g c =
+pub returns-in-Ok-check_input-clause-ends : goal.returns-in-Ok-check_input-clause-ends
+returns-in-Ok-check_input-clause-ends g c =
     let old : Outside = record { left = g.S.Source.left c.args.source.now; held = g.K.Sink.held c.args.sink.now; reads_failed = g.S.Source.faults c.args.source.now; writes_failed = g.K.Sink.faults c.args.sink.now } in
     let new : Outside = record { left = g.S.Source.left c.read_all.new.source; held = g.K.Sink.held c.put_output.new.sink; reads_failed = g.S.Source.faults c.read_all.new.source; writes_failed = g.K.Sink.faults c.put_output.new.sink } in
     let output = c.in-Ok-check_input.output in

@@ -1,5 +1,6 @@
-use Rattle.std.proofs.Common.{◌≤◌}
+use Rattle.std.proofs.Common.{◌≡◌, ◌≤◌, ◌+◌}
 use Rattle.edge_io.specs.Feed.{IsOpen}
+use Rattle.layout_cli.specs.declared.mode.TheConstants.{INPUT_LIMIT}
 use Rattle.layout_cli.proofs.Ways.{IsUnderWay}
 use Rattle.layout_cli.proofs.script.answer_script.Given as goal
 
@@ -10,6 +11,9 @@ invariant-loop-feed g l = record {
   ready : IsOpen l.feed;
   reads : g.S.Source.faults l.fn.source ≤ g.S.Source.faults l.source;
   writes : g.K.Sink.faults l.fn.sink ≤ g.K.Sink.faults l.sink;
+  few : g.S.Source.pulls l.source + l.room ≤ g.S.Source.pulls l.fn.source + INPUT_LIMIT;
+  pulled : g.S.Source.faults l.source ≡ g.S.Source.faults l.fn.source;
+  put : g.K.Sink.faults l.sink ≡ g.K.Sink.faults l.fn.sink;
 }
 
 abbrev pub decreases-loop-feed : goal.decreases-loop-feed

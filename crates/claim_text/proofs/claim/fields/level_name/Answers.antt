@@ -1,4 +1,4 @@
-use Rattle.claim_text.proofs.Numerals.Names.{no_level}
+use Rattle.claim_text.proofs.Names.{no_level}
 use Rattle.claim_text.proofs.claim.fields.level_name.Goals as goal
 
 pub returns-in_err-attr-in-Some-clause-none : goal.returns-in_err-attr-in-Some-clause-none

@@ -1,6 +1,6 @@
 use Rattle.std.proofs.Common.{rules, ap, sym, ◌∙◌, SFits, w64, to_z}
 use Rattle.std.proofs.lemmas.Int.{to_z-of_z}
-use Rattle.claim_text.proofs.Numerals.Names.{zero_alone}
+use Rattle.claim_text.proofs.Names.{zero_alone}
 use Rattle.claim_text.proofs.claim.fields.next_nonzero.Goals as goal
 
 pub returns-then-number-eq0-clause-none : goal.returns-then-number-eq0-clause-none

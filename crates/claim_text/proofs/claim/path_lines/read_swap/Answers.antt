@@ -1,7 +1,7 @@
 use Rattle.std.proofs.Common.{rules, ◌≡◌, ◌∷◌, List, ℕ, drop, ap, sym, ◌∙◌}
 use Rattle.std.specs.Prelude.{codes}
-use Rattle.claim_text.specs.Words.{words}
-use Rattle.claim_text.specs.Paths.PathTexts.{mark_text}
+use Rattle.problem_reading.specs.Words.{words}
+use Rattle.claim_writing.specs.PathTexts.{mark_text}
 use Rattle.claim_text.proofs.Paths.PathWords.{no_leave}
 use Rattle.claim_text.proofs.claim.path_lines.read_swap.Goals as goal
 

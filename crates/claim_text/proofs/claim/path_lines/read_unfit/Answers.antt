@@ -1,6 +1,6 @@
 use Rattle.std.proofs.Common.{rules, ◌≡◌, ◌∷◌, drop, ap, sym, ◌∙◌, List, ℕ}
 use Rattle.std.specs.Prelude.{codes}
-use Rattle.claim_text.specs.Words.{words}
+use Rattle.problem_reading.specs.Words.{words}
 use Rattle.claim_text.proofs.Paths.PathWords.{no_what}
 use Rattle.claim_text.proofs.claim.path_lines.read_unfit.Goals as goal
 

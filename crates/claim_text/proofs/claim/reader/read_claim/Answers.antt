@@ -2,7 +2,7 @@ use Rattle.std.proofs.Common.{arith}
 use Rattle.std.proofs.lemmas.Result.{err_from_is_err_and}
 use Rattle.claim_text.proofs.Claims.ClaimRoundTrip.{read_is, lines_stop_is, not_early}
 use Rattle.claim_text.specs.Claims.ClaimTexts.{nothing_read}
-use Rattle.claim_text.proofs.Problems.Readings.{lines_count}
+use Rattle.problem_reading.proofs.Problems.Readings.{lines_count}
 use Rattle.claim_text.proofs.Claims.ClaimReadings.{draft_read, draft_nothing}
 use Rattle.claim_text.proofs.Claims.ClaimForms.{few-parts}
 use Rattle.claim_text.proofs.claim.reader.read_claim.Goals as goal

@@ -1,8 +1,8 @@
 use Rattle.std.proofs.Common.{arith, ◌∷◌, [], ◌++◌}
 use Rattle.std.specs.Str.Lines.{lines}
 use Rattle.claim_text.specs.Claims.ClaimTexts.{nothing_read}
-use Rattle.claim_text.proofs.LineLists.{line_more, line_number, length_more}
-use Rattle.claim_text.proofs.Problems.Readings.{lines_count}
+use Rattle.problem_reading.proofs.LineLists.{line_more, line_number, length_more}
+use Rattle.problem_reading.proofs.Problems.Readings.{lines_count}
 use Rattle.claim_text.proofs.Claims.ClaimReadings.{first_bad, read_more, draft_read, draft_nothing}
 use Rattle.claim_text.proofs.claim.reader.read_lines.Goals as goal
 

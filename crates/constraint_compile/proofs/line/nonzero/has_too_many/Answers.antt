@@ -1,6 +1,6 @@
 use Rattle.std.proofs.Common.{arith, refl}
 use Rattle.std.proofs.lemmas.Bool.Decides.{nat_tests}
-use Rattle.constraint_compile.specs.Addends.{addends_view, sum_of}
+use Rattle.compile_parts.specs.Addends.{addends_view, sum_of}
 use Rattle.constraint_compile.proofs.Sums.Found.{attrs_few, found_few, zero_shares}
 use Rattle.constraint_compile.proofs.line.nonzero.has_too_many.Goals as goal
 

@@ -1,4 +1,4 @@
-use Rattle.constraint_compile.specs.Addends.{addends_view, sum_of}
+use Rattle.compile_parts.specs.Addends.{addends_view, sum_of}
 use Rattle.constraint_compile.specs.Coefficients.Pieces.{HasFound}
 use Rattle.constraint_compile.proofs.line.nonzero.nonzero.Given as goal
 

@@ -1,5 +1,5 @@
 use Rattle.std.proofs.lemmas.List.Elements.{All-push}
-use Rattle.constraint_compile.specs.Addends.{Addend, addends_view}
+use Rattle.compile_parts.specs.Addends.{Addend, addends_view}
 use Rattle.constraint_compile.specs.Coefficients.Pieces.{IsPiece, piece_value}
 use Rattle.constraint_compile.proofs.Sums.Doubles.{values_more, values_whole, same_length, same_total}
 use Rattle.constraint_compile.proofs.line.nonzero.pieces_of.Goals as goal

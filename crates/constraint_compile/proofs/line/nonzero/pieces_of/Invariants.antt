@@ -1,5 +1,5 @@
 use Rattle.std.proofs.Common.{◌≡◌, map, take, All}
-use Rattle.constraint_compile.specs.Addends.{addends_view}
+use Rattle.compile_parts.specs.Addends.{addends_view}
 use Rattle.constraint_compile.specs.Coefficients.Pieces.{piece_value, IsPiece}
 use Rattle.constraint_compile.proofs.line.nonzero.pieces_of.Given as goal
 

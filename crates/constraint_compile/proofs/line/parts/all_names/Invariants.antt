@@ -1,7 +1,7 @@
 use Rattle.std.proofs.Common.{◌≡◌, map, take}
 use Rattle.std.specs.String.{string_bytes}
-use Rattle.constraint_compile.specs.Addends.{addends_view}
-use Rattle.constraint_compile.specs.Keeps.{metric_name}
+use Rattle.compile_parts.specs.Addends.{addends_view}
+use Rattle.compile_parts.specs.Keeps.{metric_name}
 use Rattle.constraint_compile.proofs.line.parts.all_names.Given as goal
 
 abbrev pub invariant-loop-addend : goal.invariant-loop-addend

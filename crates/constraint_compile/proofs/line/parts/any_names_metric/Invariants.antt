@@ -1,6 +1,6 @@
 use Rattle.std.proofs.Common.{◌≡◌, drop}
-use Rattle.constraint_compile.specs.Addends.{addends_view}
-use Rattle.constraint_compile.specs.Keeps.{any_names_metric}
+use Rattle.compile_parts.specs.Addends.{addends_view}
+use Rattle.compile_parts.specs.Keeps.{any_names_metric}
 use Rattle.constraint_compile.proofs.line.parts.any_names_metric.Given as goal
 
 abbrev pub invariant-loop-addend : goal.invariant-loop-addend

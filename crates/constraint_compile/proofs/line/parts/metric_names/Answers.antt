@@ -1,7 +1,7 @@
 use Rattle.std.proofs.Common.{◌≡◌, false, map, rules}
 use Rattle.std.specs.String.{string_bytes}
-use Rattle.constraint_compile.specs.Addends.{addends_view}
-use Rattle.constraint_compile.specs.Keeps.{any_names_metric}
+use Rattle.compile_parts.specs.Addends.{addends_view}
+use Rattle.compile_parts.specs.Keeps.{any_names_metric}
 use Rattle.constraint_compile.proofs.Lines.{no_names, all_names}
 use Rattle.constraint_compile.proofs.line.parts.metric_names.Goals as goal
 

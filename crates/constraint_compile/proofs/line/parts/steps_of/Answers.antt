@@ -1,5 +1,5 @@
 use Rattle.std.proofs.Common.{◌≡◌, ◌++◌, ◌∷◌, [], length-append, get_or, refl, arith}
-use Rattle.constraint_compile.specs.declared.steps.Step.{Step}
+use Rattle.compile_parts.specs.declared.steps.Step.{Step}
 use Rattle.constraint_compile.proofs.Lines.{parts_more, scales_more_steps}
 use Rattle.constraint_compile.proofs.line.parts.steps_of.Goals as goal
 

@@ -1,6 +1,6 @@
 use Rattle.std.proofs.Common.{◌≡◌, ℕ, List, map, take, length}
-use Rattle.constraint_compile.specs.Addends.{addends_view}
-use Rattle.constraint_compile.specs.Keeps.{HaveNames, steps_view}
+use Rattle.compile_parts.specs.Addends.{addends_view}
+use Rattle.compile_parts.specs.Keeps.{HaveNames, steps_view}
 use Rattle.constraint_compile.proofs.line.parts.steps_of.Given as goal
 
 abbrev pub invariant-loop-place : goal.invariant-loop-place

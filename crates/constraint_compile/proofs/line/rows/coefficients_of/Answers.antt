@@ -1,5 +1,5 @@
 use Rattle.std.proofs.Common.{rules}
-use Rattle.constraint_compile.specs.Addends.{addends_view, sum_of}
+use Rattle.compile_parts.specs.Addends.{addends_view, sum_of}
 use Rattle.constraint_compile.specs.Coefficients.Sums.{HasTooMany}
 use Rattle.constraint_compile.proofs.Added.{AreSmallFirst, many_is, few_is, past_is}
 use Rattle.constraint_compile.proofs.Lines.{terms_at}

@@ -1,6 +1,6 @@
 use Rattle.std.proofs.Common.{length, map}
 use Rattle.std.specs.String.{string_bytes}
-use Rattle.constraint_compile.specs.Addends.{addends_view}
+use Rattle.compile_parts.specs.Addends.{addends_view}
 use Rattle.constraint_compile.proofs.Lines.{code_steps, scales_kept}
 use Rattle.constraint_compile.proofs.line.rows.named_steps.Goals as goal
 

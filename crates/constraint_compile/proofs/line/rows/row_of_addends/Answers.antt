@@ -1,7 +1,7 @@
 use Rattle.std.proofs.Common.{map, refl}
 use Rattle.std.specs.String.{string_bytes}
 use Rattle.std.proofs.lemmas.Result.{err_from_is_err_and}
-use Rattle.constraint_compile.specs.Keeps.{steps_view}
+use Rattle.compile_parts.specs.Keeps.{steps_view}
 use Rattle.constraint_compile.proofs.Added.{few_is, small_is, terms_is}
 use Rattle.constraint_compile.proofs.Lines.{sum_row}
 use Rattle.constraint_compile.proofs.line.rows.row_of_addends.Goals as goal

@@ -1,7 +1,7 @@
 use Rattle.std.proofs.Common.{◌≡◌, ℕ, ◌+◌, ◌++◌, ◌∷◌, [], pos, sym, subst}
-use Rattle.constraint_compile.specs.Addends.{addend_view, addends_view, first_of, with_addend}
-use Rattle.constraint_compile.specs.declared.addends.Addend.{Addend}
-use Rattle.constraint_compile.specs.Coefficients.Shares.{IsOff}
+use Rattle.compile_parts.specs.Addends.{addend_view, addends_view, first_of, with_addend}
+use Rattle.compile_parts.specs.declared.addends.Addend.{Addend}
+use Rattle.compile_parts.specs.Shares.{IsOff}
 use Rattle.constraint_compile.specs.Coefficients.Sums.{AreKept, IsSum}
 use Rattle.constraint_compile.proofs.Sums.Beginnings.{AreSame, sum_same, small_same, same_addend, scales_more}
 use Rattle.constraint_compile.proofs.line.scales.scales_of.Goals as goal

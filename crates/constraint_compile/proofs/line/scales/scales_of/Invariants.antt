@@ -1,4 +1,4 @@
-use Rattle.constraint_compile.specs.Addends.{addends_view, first_of}
+use Rattle.compile_parts.specs.Addends.{addends_view, first_of}
 use Rattle.constraint_compile.specs.Coefficients.Sums.{AreKept, IsSum, AreScales}
 use Rattle.constraint_compile.proofs.line.scales.scales_of.Given as goal
 

@@ -1,6 +1,6 @@
 use Rattle.std.proofs.lemmas.Result.{IfOk-weaker}
 use Rattle.std.specs.Prelude.{Option, None, Some, IfSome, IfNone}
-use Rattle.constraint_compile.specs.Addends.{addend_view, with_addend}
+use Rattle.compile_parts.specs.Addends.{addend_view, with_addend}
 use Rattle.constraint_compile.specs.Coefficients.Sums.{IsPastWithAddend, IsPastWithShare, IsSumWithAddend, IsSumWithShare}
 use Rattle.constraint_compile.specs.declared.line.sums.Sum.{Sum}
 use Rattle.constraint_compile.proofs.Sums.Beginnings.{sum_same, same_none, sum_by, past_by}

@@ -3,7 +3,7 @@ use Rattle.std.specs.Int.{w64, w128}
 use Rattle.std.proofs.lemmas.Int.{to_z-of_z, fits_signed_from_abs}
 use borrow.Author.Differences.{ints}
 use Rattle.frac_core.specs.Fraction.{IsKept, IsFitting}
-use Rattle.constraint_compile.specs.Fractions.{negated}
+use Rattle.compile_parts.specs.Fractions.{negated}
 use Rattle.constraint_compile.proofs.Lowest.{negated_kept}
 use Rattle.constraint_compile.proofs.line.signs.negated.Goals as goal
 use Rattle.frac_core.proofs.Made.{same_fraction as one_lowest}

@@ -1,6 +1,6 @@
 use Rattle.std.proofs.Common.{◌≡◌, ◌++◌, map, take}
 use Rattle.script_text.specs.View.{terms_view}
-use Rattle.constraint_compile.specs.Meaning.{minus}
+use Rattle.compile_parts.specs.Meaning.{minus}
 use Rattle.constraint_compile.proofs.line.signs.subtract.Given as goal
 
 abbrev pub invariant-loop-term : goal.invariant-loop-term

@@ -3,7 +3,7 @@ use Rattle.std.specs.Int.{w64}
 use borrow.Author.Differences.{ints}
 use Rattle.std.proofs.lemmas.Int.{to_z-of_z, fits_signed_from_abs}
 use Rattle.problem_core.specs.Layout.{coefficient}
-use Rattle.constraint_compile.specs.Coefficients.Shares.{form}
+use Rattle.compile_parts.specs.Shares.{form}
 use Rattle.constraint_compile.proofs.Sums.Wholes.{whole_value}
 use Rattle.constraint_compile.proofs.line.sums.whole_more.Goals as goal
 

@@ -1,8 +1,8 @@
 use Rattle.std.proofs.Common.{◌∙◌, ◌<◌, ap, length, subst, sym}
 use Rattle.problem_core.specs.Layout.{HasStay}
 use Rattle.corner.specs.Views.{CornerView}
-use Rattle.corner.specs.Tables.{lists_of}
-use Rattle.corner.proofs.Attributes.AttrLevels.{attr_marks}
+use Rattle.corner_table.specs.Tables.{lists_of}
+use Rattle.corner_joins.proofs.Attributes.AttrLevels.{attr_marks}
 use Rattle.corner.proofs.Attributes.CornerAttrs.{attr_consistent, attr_names}
 use Rattle.corner.proofs.corner.Corner.add_attr.Goals as goal
 

@@ -1,8 +1,8 @@
 use Rattle.std.proofs.Common.{subst, sym}
 use Rattle.problem_core.specs.Corners.{NoNegativeValue}
-use Rattle.corner.specs.Changes.{IsAddStop}
+use Rattle.corner_joins.specs.Stops.{IsAddStop}
 use Rattle.corner.specs.Views.{CornerView}
-use Rattle.corner.proofs.Additions.AddedRows.{added_consistent, seen_stop}
+use Rattle.corner.proofs.Additions.AddedConsistent.{added_consistent, seen_stop}
 use Rattle.corner.proofs.corner.Corner.add_rows.Goals as goal
 
 pub join_all-requires-clause-values : goal.join_all-requires-clause-values

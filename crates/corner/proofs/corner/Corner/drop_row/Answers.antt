@@ -2,8 +2,8 @@ use Rattle.std.proofs.Common.{◌≡◌, ◌∙◌, ℕ, [], ◌∷◌, Any, ap�
 use Rattle.problem_core.specs.Changes.Begins.{without_marks}
 use Rattle.problem_core.specs.declared.parts.RowName.TheVariants.{Held}
 use Rattle.corner_lines.specs.Removals.{without_row}
-use Rattle.corner.specs.Changes.{IsUnfitStop}
-use Rattle.corner.specs.Tables.{lists_of, marks_at, problem_of}
+use Rattle.corner_exchange.specs.Stops.{IsUnfitStop}
+use Rattle.corner_table.specs.Tables.{lists_of, marks_at, problem_of}
 use Rattle.corner.specs.Views.{CornerView}
 use Rattle.corner.proofs.Removals.DroppedTables.{inside_row}
 use Rattle.corner.proofs.corner.Corner.drop_row.Goals as goal

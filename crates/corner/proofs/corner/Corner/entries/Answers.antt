@@ -1,7 +1,7 @@
 use Rattle.std.proofs.Common.{subst}
 use Rattle.corner.specs.Views.{CornerView}
-use Rattle.corner.specs.Reads.Entries.{AreEntries}
-use Rattle.corner.proofs.Readings.EntryFacts.{seen_entries}
+use Rattle.corner_writings.specs.Entries.{AreEntries}
+use Rattle.corner_writings.proofs.Readings.EntryFacts.{seen_entries}
 use Rattle.corner.proofs.corner.Corner.entries.Goals as goal
 
 pub returns : goal.returns

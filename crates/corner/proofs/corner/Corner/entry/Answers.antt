@@ -1,7 +1,7 @@
 use Rattle.std.proofs.Common.{subst, sym}
 use Rattle.corner.specs.Views.{CornerView}
-use Rattle.corner.specs.Reads.Entries.{AreEntries}
-use Rattle.corner.proofs.Readings.EntryFacts.{entries_seen}
+use Rattle.corner_writings.specs.Entries.{AreEntries}
+use Rattle.corner_writings.proofs.Readings.EntryFacts.{entries_seen}
 use Rattle.corner.proofs.corner.Corner.entry.Goals as goal
 
 pub entry_in-requires-clause-within : goal.entry_in-requires-clause-within

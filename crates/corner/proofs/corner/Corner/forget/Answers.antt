@@ -1,8 +1,8 @@
 use Rattle.std.proofs.Common.{◌≡◌, ◌-◌, length, map, take, subst}
 use Rattle.corner.proofs.Corners.CornerFacts.{forget_before, forget_kept}
 use Rattle.corner.specs.Views.{CornerView}
-use Rattle.corner.specs.Histories.{lists_before}
-use Rattle.corner.specs.Tables.{scene_at}
+use Rattle.corner_table.specs.Histories.{lists_before}
+use Rattle.corner_table.specs.Tables.{scene_at}
 use Rattle.corner.proofs.corner.Corner.forget.Goals as goal
 
 pub invariant_of-self : goal.invariant_of-self

@@ -3,8 +3,8 @@ use Rattle.version_list.specs.declared.TheConstants.{VERSION_LIMIT}
 use Rattle.corner.specs.Views.{CornerView}
 use Rattle.corner.proofs.Corners.CornerFacts.{mark_before, mark_kept}
 use Rattle.corner.specs.Changes.{scene_of}
-use Rattle.corner.specs.Histories.{lists_before}
-use Rattle.corner.specs.Tables.{scene_at}
+use Rattle.corner_table.specs.Histories.{lists_before}
+use Rattle.corner_table.specs.Tables.{scene_at}
 use Rattle.corner.proofs.corner.Corner.mark.Goals as goal
 
 pub invariant_of-self : goal.invariant_of-self

@@ -1,8 +1,8 @@
 use Rattle.std.proofs.Common.{◌≡◌, ◌∙◌, List, IfOk, ap, subst}
 use Rattle.problem_core.specs.declared.parts.Mark.{Mark}
 use Rattle.corner.specs.Views.{CornerView}
-use Rattle.corner.specs.Tables.{lists_of}
-use Rattle.corner.proofs.Readings.MarkingFacts.{marks_inside}
+use Rattle.corner_table.specs.Tables.{lists_of}
+use Rattle.corner_table.proofs.Readings.MarkingFacts.{marks_inside}
 use Rattle.corner.proofs.corner.Corner.marks.Goals as goal
 
 pub returns : goal.returns

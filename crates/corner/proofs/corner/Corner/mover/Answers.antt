@@ -1,6 +1,6 @@
 use Rattle.std.proofs.Common.{subst, sym}
 use Rattle.corner.specs.Views.{AreMovers, CornerView}
-use Rattle.corner.proofs.Readings.MovedFacts.{moves_seen}
+use Rattle.corner_writings.proofs.Readings.MovedFacts.{moves_seen}
 use Rattle.corner.proofs.corner.Corner.mover.Goals as goal
 
 pub mover-requires-clause-within : goal.mover-requires-clause-within

@@ -1,6 +1,6 @@
 use Rattle.std.proofs.Common.{subst}
 use Rattle.corner.specs.Views.{AreMovers, CornerView}
-use Rattle.corner.proofs.Readings.MovedFacts.{seen_moves}
+use Rattle.corner_writings.proofs.Readings.MovedFacts.{seen_moves}
 use Rattle.corner.proofs.corner.Corner.movers.Goals as goal
 
 pub returns : goal.returns

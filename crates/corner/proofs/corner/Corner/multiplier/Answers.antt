@@ -1,11 +1,11 @@
 use Rattle.std.proofs.Common.{rules, ◌≡◌, ◌∙◌, subst, sym, ap₂, ℤ, SFits, to_z, of_z}
 use Rattle.std.specs.Int.{w64}
 use Rattle.std.proofs.lemmas.Int.{to_z-of_z}
-use Rattle.corner.specs.Tables.{lists_of, marks_at, problem_of}
-use Rattle.corner.specs.Reads.LevelNumbers.{IsSlotOfLine, times_at}
+use Rattle.corner_table.specs.Tables.{lists_of, marks_at, problem_of}
+use Rattle.corner_table.specs.Reads.LevelNumbers.{IsSlotOfLine, times_at}
 use Rattle.corner.specs.Views.{CornerView, HasNumbers, IsLevelOf, IsNamed}
-use Rattle.corner.proofs.LevelFacts.LevelReadFacts.{named_line_slot}
-use Rattle.corner.proofs.LevelFacts.LevelWrittenFacts.{has_times}
+use Rattle.corner_writings.proofs.LevelFacts.LevelReadFacts.{named_line_slot}
+use Rattle.corner_writings.proofs.LevelFacts.LevelWrittenFacts.{has_times}
 use Rattle.corner.proofs.corner.Corner.multiplier.Goals as goal
 
 pub times_at-requires-clause-line : goal.times_at-requires-clause-line

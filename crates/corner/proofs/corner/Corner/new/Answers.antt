@@ -1,5 +1,5 @@
 use Rattle.std.proofs.Common.{◌∙◌, ap}
-use Rattle.corner.specs.Invariants.{view_of}
+use Rattle.corner_table.specs.Invariants.{view_of}
 use Rattle.corner.proofs.Corners.NewCorners.{new_view}
 use Rattle.corner.proofs.corner.Corner.new.Goals as goal
 

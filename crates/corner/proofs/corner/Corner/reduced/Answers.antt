@@ -1,10 +1,10 @@
 use Rattle.std.proofs.Common.{rules, ◌∙◌, subst, sym, ap, ℤ, SFits, to_z, of_z}
 use Rattle.std.specs.Int.{w64}
 use Rattle.std.proofs.lemmas.Int.{to_z-of_z}
-use Rattle.corner.specs.Tables.{line_slot, lists_of, marks_at, problem_of}
-use Rattle.corner.specs.Reads.LevelNumbers.{reduced_at}
+use Rattle.corner_table.specs.Tables.{line_slot, lists_of, marks_at, problem_of}
+use Rattle.corner_table.specs.Reads.LevelNumbers.{reduced_at}
 use Rattle.corner.specs.Views.{CornerView, IsLevelOf, IsMarkOf, IsReducedAt}
-use Rattle.corner.proofs.LevelFacts.LevelWrittenFacts.{has_reduced}
+use Rattle.corner_writings.proofs.LevelFacts.LevelWrittenFacts.{has_reduced}
 use Rattle.corner.proofs.corner.Corner.reduced.Goals as goal
 
 pub returns : goal.returns

@@ -1,10 +1,10 @@
 use Rattle.std.proofs.Common.{rules, ◌≡◌, ◌∙◌, subst, sym, ap, ℤ, pos, ◌*ℤ◌, SFits, to_z, of_z}
 use Rattle.std.specs.Int.{w64}
 use Rattle.std.proofs.lemmas.Int.{to_z-of_z}
-use Rattle.corner.specs.Tables.{lists_of, marks_at, problem_of}
-use Rattle.corner.specs.Reads.LevelNumbers.{own_at, unit_at}
+use Rattle.corner_table.specs.Tables.{lists_of, marks_at, problem_of}
+use Rattle.corner_table.specs.Reads.LevelNumbers.{own_at, unit_at}
 use Rattle.corner.specs.Views.{CornerView, HasNumbers, IsLevelOf}
-use Rattle.corner.proofs.LevelFacts.LevelWrittenFacts.{has_scale}
+use Rattle.corner_writings.proofs.LevelFacts.LevelWrittenFacts.{has_scale}
 use Rattle.corner.proofs.corner.Corner.scale.Goals as goal
 
 pub returns : goal.returns

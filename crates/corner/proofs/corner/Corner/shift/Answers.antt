@@ -1,9 +1,9 @@
 use Rattle.std.proofs.Common.{◌∙◌, All, ap, subst, sym}
 use Rattle.corner_lines.specs.Shifts.{with_constant}
-use Rattle.corner.specs.Changes.{IsUnfitStop}
+use Rattle.corner_exchange.specs.Stops.{IsUnfitStop}
 use Rattle.corner.specs.Views.{CornerView}
-use Rattle.corner.specs.Tables.{lists_of}
-use Rattle.corner.specs.Invariants.{IsEarlier}
+use Rattle.corner_table.specs.Tables.{lists_of}
+use Rattle.corner_table.specs.Invariants.{IsEarlier}
 use Rattle.corner.proofs.Shifts.ShiftTables.{shifted_consistent, shifted_marks, shifted_stop}
 use Rattle.corner.proofs.corner.Corner.shift.Goals as goal
 

@@ -1,8 +1,8 @@
 use Rattle.std.proofs.Common.{subst, All}
 use Rattle.corner.specs.Views.{AreCandidates, CornerView, IsKeptCorner, IsNamed, IsSettled}
-use Rattle.corner.specs.Histories.{lists_before}
-use Rattle.corner.specs.Tables.{lists_of}
-use Rattle.corner.proofs.Readings.KeptFacts.{corner_kept, settled}
+use Rattle.corner_table.specs.Histories.{lists_before}
+use Rattle.corner_table.specs.Tables.{lists_of}
+use Rattle.corner_table.proofs.Readings.KeptFacts.{corner_kept, settled}
 use Rattle.corner.proofs.corner.Corner.show_corner.Goals as goal
 
 pub returns-clause-kept : goal.returns-clause-kept

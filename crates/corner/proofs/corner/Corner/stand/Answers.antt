@@ -1,8 +1,8 @@
 use Rattle.std.proofs.Common.{◌∙◌, ap, subst}
 use Rattle.corner.specs.Changes.{HasStood}
 use Rattle.corner.specs.Views.{CornerView}
-use Rattle.corner.specs.Tables.{lists_of}
-use Rattle.corner.specs.Invariants.{view_of}
+use Rattle.corner_table.specs.Tables.{lists_of}
+use Rattle.corner_table.specs.Invariants.{view_of}
 use Rattle.corner.proofs.Stays.StoodTables.{has_stood, stood_consistent, stood_names, stood_same_marks}
 use Rattle.corner.proofs.corner.Corner.stand.Goals as goal
 

@@ -1,14 +1,14 @@
 use Rattle.std.proofs.Common.{◌≡◌, ◌≢◌, Result, Ok, Err, IfOk, IfErr, OnOk, inl, inr, sym, subst}
 use Rattle.problem_core.specs.declared.stops.What.TheVariants.{Mark as MarkOf}
 use Rattle.problem_core.specs.Corners.{IsExchange, IsIn, SameMarks, exchanged, place}
-use Rattle.corner.specs.Changes.{IsUnfitStop}
-use Rattle.corner.specs.Swaps.Exchanges.{IsPair, IsPairStop}
-use Rattle.corner.specs.Swaps.NextLists.{AreMarksBy, AreMarksTurned}
-use Rattle.corner.specs.Swaps.TurnedLevels.{IsTurn, IsTurnStop}
-use Rattle.corner.specs.Tables.{lists_of, marks_at, problem_of}
+use Rattle.corner_exchange.specs.Stops.{IsUnfitStop}
+use Rattle.corner_exchange.specs.Swaps.Exchanges.{IsPair, IsPairStop}
+use Rattle.corner_exchange.specs.Swaps.NextLists.{AreMarksBy, AreMarksTurned}
+use Rattle.corner_exchange.specs.Swaps.TurnedLevels.{IsTurn, IsTurnStop}
+use Rattle.corner_table.specs.Tables.{lists_of, marks_at, problem_of}
 use Rattle.corner.specs.Views.{CornerView, IsOutside, MovesWith}
-use Rattle.corner.proofs.Readings.ReadFacts.{mark_named}
-use Rattle.corner.proofs.Readings.WritingFacts.{in_mark}
+use Rattle.corner_table.proofs.Readings.ReadFacts.{mark_named}
+use Rattle.corner_table.proofs.Readings.WritingFacts.{in_mark}
 use Rattle.corner.proofs.Swaps.NextConsistent.{swap_exchange, swap_pair, swap_turn}
 use Rattle.corner.proofs.corner.Corner.swap.Goals as goal
 use Rattle.frac_core.proofs.Bools.{not-both as not_both}

@@ -2,9 +2,9 @@ use Rattle.std.proofs.Common.{◌≡◌, ◌<◌, sym, subst, length, slice_get,
 use Rattle.problem_core.specs.declared.parts.RowName.{RowName}
 use Rattle.corner.specs.Views.{CornerView}
 use Rattle.corner.specs.Changes.{HasNoNegative}
-use Rattle.corner.specs.Invariants.{name_of, names_of}
-use Rattle.corner.specs.Tables.{lists_of, slot_at}
-use Rattle.corner.proofs.Basics.ListFacts.{get_mapped, unlist_kept}
+use Rattle.corner_table.specs.Invariants.{name_of, names_of}
+use Rattle.corner_table.specs.Tables.{lists_of, slot_at}
+use Rattle.corner_table.proofs.Basics.ListFacts.{get_mapped, unlist_kept}
 use Rattle.corner.proofs.corner.Corner.unlist.Goals as goal
 use Rattle.frac_core.proofs.Lists.{length-mapped as map_length}
 

@@ -1,8 +1,8 @@
 use Rattle.std.proofs.Common.{◌∙◌, ◌<◌, length, ap, arith, subst, sym}
-use Rattle.corner.specs.Tables.{Lists, lists_of}
+use Rattle.corner_table.specs.Tables.{Lists, lists_of}
 use Rattle.corner.proofs.Removals.DroppedKept.{going}
 use Rattle.corner.proofs.Removals.DroppedTables.{leaver_low, left_below, left_rows, left_standings, line_dropped}
-use Rattle.corner.proofs.Additions.RowPlaced.{on_ok}
+use Rattle.corner_exchange.proofs.Basics.SmallFacts.{on_ok}
 use Rattle.corner.proofs.leaving.dropping.drop_line.Goals as goal
 
 pub row_place-at-requires-clause-held : goal.row_place-at-requires-clause-held

@@ -1,9 +1,9 @@
 use Rattle.std.proofs.Common.{◌∙◌, length, ap, arith}
 use Rattle.corner.specs.Removals.Dropping.{freed}
-use Rattle.corner.specs.Tables.{Lists, lists_of, problem_of}
-use Rattle.corner.proofs.Attributes.AttrLevels.{stay_named}
+use Rattle.corner_table.specs.Tables.{Lists, lists_of, problem_of}
+use Rattle.corner_writings.proofs.Basics.OwnerFacts.{stay_named}
 use Rattle.corner.proofs.Removals.DroppedTables.{freed_rows, freed_slots, freed_standings, stay_dropped}
-use Rattle.corner.proofs.Additions.RowPlaced.{on_ok}
+use Rattle.corner_exchange.proofs.Basics.SmallFacts.{on_ok}
 use Rattle.corner.proofs.leaving.dropping.drop_stay.Goals as goal
 
 pub stay_place-i-requires : goal.stay_place-i-requires

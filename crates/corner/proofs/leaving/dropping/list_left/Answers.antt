@@ -1,7 +1,7 @@
 use Rattle.std.proofs.Common.{◌≡◌, false, rules}
-use Rattle.corner.specs.Tables.{lists_of}
+use Rattle.corner_table.specs.Tables.{lists_of}
 use Rattle.corner.proofs.Removals.DroppedTables.{listed_free, listed_row}
-use Rattle.corner.proofs.Additions.RowPlaced.{on_ok}
+use Rattle.corner_exchange.proofs.Basics.SmallFacts.{on_ok}
 use Rattle.corner.proofs.leaving.dropping.list_left.Goals as goal
 
 pub returns-then-not-costs_at : goal.returns-then-not-costs_at

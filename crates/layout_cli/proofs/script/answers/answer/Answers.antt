@@ -2,8 +2,8 @@ use Rattle.std.proofs.Common.{◌∙◌, Err, ap}
 use Rattle.std.specs.Io.KnownBytes.{Appends}
 use Rattle.std.proofs.lemmas.Result.{err_from_is_err_and}
 use Rattle.session_undo.specs.Replies.{Reply}
-use Rattle.layout_cli.specs.Printing.{HasFront}
-use Rattle.layout_cli.specs.Replies.{text_of}
+use Rattle.reply_texts.specs.Printing.{HasFront}
+use Rattle.reply_texts.specs.Replies.{text_of}
 use Rattle.edge_io.specs.declared.traits.Failed.{Failed}
 use Rattle.frac_core.specs.declared.memory.Stop.{Stop}
 use Rattle.layout_cli.proofs.Answered.{passed_on, step_told}

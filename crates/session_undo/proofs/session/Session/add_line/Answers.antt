@@ -1,9 +1,9 @@
 use Rattle.std.proofs.Common.{ℕ, length, subst, sym}
 use Rattle.session_undo.specs.Machine.{IsCrowded}
-use Rattle.session_undo.specs.Scene.{with_line}
+use Rattle.scenes.specs.Scene.{with_line}
 use Rattle.session_undo.specs.Kept.{session_at}
 use Rattle.session_undo.proofs.Commands.Steps.{run-accepted, run-refused, answer-same}
-use Rattle.session_undo.proofs.Engines.Additions.{room-fits, room-numbers}
+use Rattle.session_undo.proofs.Commands.Rooms.{room-fits, room-numbers}
 use Rattle.session_undo.proofs.session.Session.add_line.Goals as goal
 
 pub returns-clause-accepted : goal.returns-clause-accepted

@@ -1,15 +1,16 @@
 use Rattle.std.proofs.Common.{◌+◌, ◌*◌, ◌≤◌, ◌^◌, length, arith}
-use Rattle.std.proofs.lemmas.Result.{err_from_is_err_and}
+use Rattle.std.proofs.lemmas.Result.{err_from_is_err_and, IfOk-weaker}
 use Rattle.view_tree.specs.JsonTrees.{size}
 use Rattle.session_undo.specs.Replies.{Reply, accepted}
 use Rattle.session_undo.specs.declared.reply.Reply as answer
 use Rattle.session_undo.specs.Machine.{TriedTree, SolvesFree}
-use Rattle.session_undo.specs.Adding.{NoEnd, views_draft}
+use Rattle.session_undo.specs.Adding.{NoEnd}
+use Rattle.scenes.specs.Drafts.{views_draft}
 use Rattle.session_undo.specs.Kept.{session_at}
 use Rattle.session_undo.proofs.Commands.Steps.{refuses, free-accepted, free-refused, answer-same, after}
 use Rattle.session_undo.proofs.Commands.TreeChains.{tree-causes, tree-passed}
-use Rattle.session_undo.proofs.Commands.Chains.{ok-map, err-map}
-use Rattle.session_undo.proofs.Engines.Additions.{room-fits, room-numbers}
+use Rattle.session_undo.proofs.Commands.Chains.{err-map}
+use Rattle.session_undo.proofs.Commands.Rooms.{room-fits, room-numbers}
 use Rattle.session_undo.proofs.session.Session.add_tree.Goals as goal
 
 pub returns-in_err-new-clause-refused : goal.returns-in_err-new-clause-refused
@@ -23,8 +24,8 @@ pub returns-clause-accepted : goal.returns-clause-accepted
 returns-clause-accepted c =
     let old = (session_at c.self.inside.scene c.self.inside.budget c.self.inside.limits) in
     rw (c.answer_of.ensures, ← c.self.view_is)
-    (ok-map (λ (reply : answer.Reply). SolvesFree old (views_draft old.scene c.in_ok-new.new.tree c.in_ok-new.new.first_view.0 c.in_ok-new.new.count) (accepted reply) (after old c.take_views-end.new.self))
-    (λ (reply : answer.Reply). TriedTree old c.args.text.now c.args.start (SolvesFree old) (accepted reply) (after old c.take_views-end.new.self)) _
+    (IfOk-weaker _ (λ (reply : answer.Reply). SolvesFree old (views_draft old.scene c.in_ok-new.new.tree c.in_ok-new.new.first_view.0 c.in_ok-new.new.count) (accepted reply) (after old c.take_views-end.new.self))
+    (λ (reply : answer.Reply). TriedTree old c.args.text.now c.args.start (SolvesFree old) (accepted reply) (after old c.take_views-end.new.self))
     (λ reply end. tree-passed old c.args.text.now c.args.start (SolvesFree old) c.in_ok-new.new.tree c.in_ok-new.new.first_view.0 c.in_ok-new.new.count (accepted reply) (after old c.take_views-end.new.self) (rw (← c.self.view_is) at c.in_ok-new.ensures.made) end)
     (free-accepted (views_draft old.scene c.in_ok-new.new.tree c.in_ok-new.new.first_view.0 c.in_ok-new.new.count) old c.take_views-end.new.self c.take_views-end.result c.take_views-end.ensures.solved c.take_views-end.ensures.earlier))
 

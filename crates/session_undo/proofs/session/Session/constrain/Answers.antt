@@ -1,19 +1,18 @@
-use Rattle.std.proofs.lemmas.Result.{err_from_is_err_and}
+use Rattle.std.proofs.lemmas.Result.{err_from_is_err_and, IfOk-weaker}
 use Rattle.script_text.specs.View.{linear_view}
 use Rattle.session_undo.specs.Replies.{Reply, accepted}
 use Rattle.session_undo.specs.declared.reply.Reply as answer
-use Rattle.session_undo.specs.Scene.{with_line}
+use Rattle.scenes.specs.Scene.{with_line}
 use Rattle.session_undo.specs.Machine.{TriedConstraint, Solves}
 use Rattle.session_undo.specs.Adding.{NoEnd}
 use Rattle.session_undo.proofs.Commands.Steps.{refuses}
-use Rattle.session_undo.proofs.Commands.Chains.{ok-map, err-map}
+use Rattle.session_undo.proofs.Commands.Chains.{err-map}
 use Rattle.session_undo.proofs.Commands.LineStops.{constraint-passed, constraint-causes}
 use Rattle.session_undo.proofs.session.Session.constrain.Goals as goal
 
 pub returns-clause-accepted : goal.returns-clause-accepted
 returns-clause-accepted c =
-    ok-map (λ (reply : answer.Reply). Solves c.args.self.now (with_line c.args.self.now.scene c.in_ok-new.new.group c.in_ok-new.new.line) (accepted reply) c.add_line.new.self) (λ (reply : answer.Reply). TriedConstraint c.args.self.now c.args.group.now (linear_view c.args.line.now) (Solves c.args.self.now) (accepted reply) c.add_line.new.self)
-    c.add_line.result
+    IfOk-weaker c.add_line.result (λ (reply : answer.Reply). Solves c.args.self.now (with_line c.args.self.now.scene c.in_ok-new.new.group c.in_ok-new.new.line) (accepted reply) c.add_line.new.self) (λ (reply : answer.Reply). TriedConstraint c.args.self.now c.args.group.now (linear_view c.args.line.now) (Solves c.args.self.now) (accepted reply) c.add_line.new.self)
     (λ reply end. constraint-passed c.args.self.now c.args.group.now (linear_view c.args.line.now) (Solves c.args.self.now) c.in_ok-new.new.line c.in_ok-new.new.group c.in_ok-new.new.rows.items (accepted reply) c.add_line.new.self c.in_ok-new.ensures.is c.in_ok-new.ensures.made end)
     c.add_line.ensures.accepted
 

@@ -1,7 +1,7 @@
 use Rattle.std.proofs.Common.{ap}
 use Rattle.session_undo.specs.Kept.{session_at}
-use Rattle.session_undo.specs.Scene.{History}
-use Rattle.session_undo.proofs.Diagnosed.{found-answer, stop-answer}
+use Rattle.scenes.specs.Scene.{History}
+use Rattle.session_undo.proofs.Commands.Diagnosed.{found-answer, stop-answer}
 use Rattle.session_undo.proofs.Commands.Steps.{after}
 use Rattle.session_undo.proofs.session.Session.diagnose.Goals as goal
 use Rattle.session_undo.proofs.session.Session.diagnose.Goals.{in-Ok, in-Err}

@@ -1,13 +1,13 @@
-use Rattle.std.proofs.lemmas.Result.{err_from_is_err_and}
+use Rattle.std.proofs.lemmas.Result.{err_from_is_err_and, IfOk-weaker}
 use Rattle.session_undo.specs.Replies.{Reply, accepted}
 use Rattle.session_undo.specs.declared.reply.Reply as answer
-use Rattle.session_undo.specs.Leaving.{without_views}
+use Rattle.scenes.specs.Leaving.{without_views}
 use Rattle.session_undo.specs.Machine.{LeavesFree, TriedDrop}
 use Rattle.session_undo.specs.Adding.{NoEnd}
 use Rattle.session_undo.specs.Kept.{session_at}
 use Rattle.session_undo.proofs.Commands.Steps.{refuses, after}
-use Rattle.session_undo.proofs.Commands.Chains.{ok-map, err-map}
-use Rattle.session_undo.proofs.Removals.LeavingSteps.{dropped-causes, dropped-passed, left-accepted, left-refused, left-same}
+use Rattle.session_undo.proofs.Commands.Chains.{err-map}
+use Rattle.session_undo.proofs.Commands.LeavingSteps.{dropped-causes, dropped-passed, left-accepted, left-refused, left-same}
 use Rattle.session_undo.proofs.session.Session.drop_view.Goals as goal
 
 pub returns-in_err-gone-clause-refused : goal.returns-in_err-gone-clause-refused
@@ -21,8 +21,8 @@ pub returns-clause-accepted : goal.returns-clause-accepted
 returns-clause-accepted c =
     let old = (session_at c.self.inside.scene c.self.inside.budget c.self.inside.limits) in
     rw (← c.self.view_is)
-    (ok-map (λ (reply : answer.Reply). LeavesFree old (without_views old.scene c.in_ok-gone.gone.items) (accepted reply) (after old c.take_views_out-end.new.self))
-    (λ (reply : answer.Reply). TriedDrop old c.args.name.now (LeavesFree old) (accepted reply) (after old c.take_views_out-end.new.self)) _
+    (IfOk-weaker _ (λ (reply : answer.Reply). LeavesFree old (without_views old.scene c.in_ok-gone.gone.items) (accepted reply) (after old c.take_views_out-end.new.self))
+    (λ (reply : answer.Reply). TriedDrop old c.args.name.now (LeavesFree old) (accepted reply) (after old c.take_views_out-end.new.self))
     (λ reply end. dropped-passed old c.args.name.now c.in_ok-gone.gone.items (LeavesFree old) (accepted reply) (after old c.take_views_out-end.new.self) (rw (← c.self.view_is) at c.in_ok-gone.ensures.going) end)
     (left-accepted (without_views old.scene c.in_ok-gone.gone.items) old c.take_views_out-end.new.self c.take_views_out-end.result c.left_answer.result c.left_answer.ensures (rw c.deref.ensures.value at c.take_views_out-end.ensures.left) c.take_views_out-end.ensures.earlier))
 

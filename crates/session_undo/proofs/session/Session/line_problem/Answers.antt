@@ -1,7 +1,7 @@
 use Rattle.std.proofs.Common.{ℕ, subst, sym, length}
 use Rattle.session_undo.specs.Machine.{IsCrowded}
 use Rattle.session_undo.specs.Kept.{session_at}
-use Rattle.session_undo.proofs.Engines.Additions.{room-fits}
+use Rattle.session_undo.proofs.Commands.Rooms.{room-fits}
 use Rattle.session_undo.proofs.session.Session.line_problem.Goals as goal
 
 pub line_problem-requires : goal.line_problem-requires

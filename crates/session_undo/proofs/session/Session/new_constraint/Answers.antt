@@ -1,15 +1,16 @@
 use Rattle.std.proofs.Common.{◌≡◌, subst, sym}
+use Rattle.std.proofs.lemmas.Result.{IfOk-weaker}
 use Rattle.constraint_compile.specs.Compiled.{CompiledLine}
 use Rattle.script_text.specs.View.{linear_view}
 use Rattle.constraint_compile.specs.Stops.{IsCompiled, MayStop}
-use Rattle.session_undo.proofs.HeldRows.SmallLines.{line-small}
-use Rattle.session_undo.proofs.HeldRows.NextLines.{constrain-next}
-use Rattle.session_undo.specs.Scene.{State}
+use Rattle.held_items.proofs.HeldRows.SmallLines.{line-small}
+use Rattle.held_items.proofs.HeldRows.NextLines.{constrain-next}
+use Rattle.session_undo.specs.State.{State}
 use Rattle.session_undo.specs.Replies.{Reply}
 use Rattle.session_undo.specs.Machine.{TriedConstraint}
 use Rattle.session_undo.specs.Adding.{AddStop, StopStep, NoEnd}
 use Rattle.session_undo.proofs.Commands.Steps.{refuses}
-use Rattle.session_undo.proofs.Commands.Chains.{ok-map, err-map}
+use Rattle.session_undo.proofs.Commands.Chains.{err-map}
 use Rattle.session_undo.proofs.Commands.LineStops.{constraint-full, constraint-stopped}
 use Rattle.session_undo.proofs.session.Session.new_constraint.Goals as goal
 
@@ -17,7 +18,7 @@ pub returns-in-Ok-clause-is : goal.returns-in-Ok-clause-is
 returns-in-Ok-clause-is c =
     let is : IsCompiled c.args.self.now.scene.tree.views c.args.self.now.scene.metrics (linear_view c.args.line.now) c.args.self.now.scene.next_row c.in-Ok.compiled =
     subst (λ (s : State). IsCompiled s.scene.tree.views s.scene.metrics (linear_view c.args.line.now) s.scene.next_row c.in-Ok.compiled) c.self.view_is (rw (c.tree-tree.ensures, c.metrics-metrics.ensures, c.next_row.ensures.value) at c.in-Ok.ensures.compiled) in
-    ok-map (λ new. new.line ≡ c.in-Ok.compiled) (λ new. IsCompiled c.args.self.now.scene.tree.views c.args.self.now.scene.metrics (linear_view c.args.line.now) c.args.self.now.scene.next_row new.line) c.new_line.result (λ new same. subst (λ (l : CompiledLine). IsCompiled c.args.self.now.scene.tree.views c.args.self.now.scene.metrics (linear_view c.args.line.now) c.args.self.now.scene.next_row l) (sym same) is) c.new_line.ensures.line
+    IfOk-weaker c.new_line.result (λ new. new.line ≡ c.in-Ok.compiled) (λ new. IsCompiled c.args.self.now.scene.tree.views c.args.self.now.scene.metrics (linear_view c.args.line.now) c.args.self.now.scene.next_row new.line) (λ new same. subst (λ (l : CompiledLine). IsCompiled c.args.self.now.scene.tree.views c.args.self.now.scene.metrics (linear_view c.args.line.now) c.args.self.now.scene.next_row l) (sym same) is) c.new_line.ensures.line
 
 pub returns-in-Ok-clause-refused : goal.returns-in-Ok-clause-refused
 returns-in-Ok-clause-refused c =

@@ -1,20 +1,21 @@
 use Rattle.std.proofs.Common.{◌≡◌, ◌+◌, arith, length, subst, sym}
 use Rattle.std.proofs.lemmas.List.{length-map}
+use Rattle.std.proofs.lemmas.Result.{IfOk-weaker}
 use Rattle.view_tree.specs.Views.{IsTree}
-use Rattle.session_undo.proofs.HeldRows.FormatOwners.{format-owned}
+use Rattle.held_items.proofs.HeldRows.FormatOwners.{format-owned}
 use Rattle.constraint_compile.specs.Compiled.{CompiledLine}
 use Rattle.vfl_text.specs.View.{spacing_meaning, spacing_meanings, item_meaning, item_meanings, meaning}
-use Rattle.constraint_compile.specs.Formats.FormatParts.{parts}
-use Rattle.constraint_compile.specs.Formats.FormatStops.{row_count}
-use Rattle.constraint_compile.specs.Formats.FormatRows.{IsCompiledFormat, MayStopFormat}
-use Rattle.session_undo.proofs.HeldRows.SmallLines.{format-small}
-use Rattle.session_undo.proofs.HeldRows.NextLines.{format-next}
-use Rattle.session_undo.specs.Scene.{State}
+use Rattle.format_compile.specs.FormatParts.{parts}
+use Rattle.format_compile.specs.FormatStops.{row_count}
+use Rattle.format_compile.specs.FormatRows.{IsCompiledFormat, MayStopFormat}
+use Rattle.held_items.proofs.HeldRows.SmallLines.{format-small}
+use Rattle.held_items.proofs.HeldRows.NextLines.{format-next}
+use Rattle.session_undo.specs.State.{State}
 use Rattle.session_undo.specs.Replies.{Reply}
 use Rattle.session_undo.specs.Machine.{TriedFormat}
 use Rattle.session_undo.specs.Adding.{AddStop, StopStep, NoEnd}
 use Rattle.session_undo.proofs.Commands.Steps.{refuses}
-use Rattle.session_undo.proofs.Commands.Chains.{ok-map, err-map}
+use Rattle.session_undo.proofs.Commands.Chains.{err-map}
 use Rattle.session_undo.proofs.Commands.LineStops.{format-full, format-stopped}
 use Rattle.session_undo.proofs.session.Session.new_format.Goals as goal
 
@@ -22,7 +23,7 @@ pub returns-in-Ok-clause-is : goal.returns-in-Ok-clause-is
 returns-in-Ok-clause-is c =
     let is : IsCompiledFormat c.args.self.now.scene.tree.views c.args.self.now.scene.metrics (meaning c.args.format.now) c.args.align c.args.self.now.scene.next_row c.in-Ok.compiled =
     subst (λ (s : State). IsCompiledFormat s.scene.tree.views s.scene.metrics (meaning c.args.format.now) c.args.align s.scene.next_row c.in-Ok.compiled) c.self.view_is (rw (c.tree-tree.ensures, c.metrics-metrics.ensures, c.next_row.ensures.value) at c.in-Ok.ensures.compiled) in
-    ok-map (λ new. new.line ≡ c.in-Ok.compiled) (λ new. IsCompiledFormat c.args.self.now.scene.tree.views c.args.self.now.scene.metrics (meaning c.args.format.now) c.args.align c.args.self.now.scene.next_row new.line) c.new_line.result (λ new same. subst (λ (l : CompiledLine). IsCompiledFormat c.args.self.now.scene.tree.views c.args.self.now.scene.metrics (meaning c.args.format.now) c.args.align c.args.self.now.scene.next_row l) (sym same) is) c.new_line.ensures.line
+    IfOk-weaker c.new_line.result (λ new. new.line ≡ c.in-Ok.compiled) (λ new. IsCompiledFormat c.args.self.now.scene.tree.views c.args.self.now.scene.metrics (meaning c.args.format.now) c.args.align c.args.self.now.scene.next_row new.line) (λ new same. subst (λ (l : CompiledLine). IsCompiledFormat c.args.self.now.scene.tree.views c.args.self.now.scene.metrics (meaning c.args.format.now) c.args.align c.args.self.now.scene.next_row l) (sym same) is) c.new_line.ensures.line
 
 pub returns-in-Ok-clause-refused : goal.returns-in-Ok-clause-refused
 returns-in-Ok-clause-refused c =

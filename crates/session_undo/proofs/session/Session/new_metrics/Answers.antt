@@ -3,7 +3,7 @@ use Rattle.view_tree.specs.Views.{view_named}
 use Rattle.session_undo.specs.Adding.{NoEnd}
 use Rattle.session_undo.specs.Kept.{session_at}
 use Rattle.session_undo.proofs.Commands.Chains.{IsNamed, metric-lacks, unfound}
-use Rattle.session_undo.proofs.Constants.MetricChanges.{other-metrics}
+use Rattle.scenes.proofs.MetricChanges.{other-metrics}
 use Rattle.session_undo.proofs.session.Session.new_metrics.Goals as goal
 
 pub changes_for-requires : goal.changes_for-requires

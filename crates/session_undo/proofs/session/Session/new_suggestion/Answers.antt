@@ -1,13 +1,14 @@
 use Rattle.std.proofs.Common.{ℕ, sym, subst}
+use Rattle.std.proofs.lemmas.Result.{IfOk-weaker}
 use Rattle.span_text.specs.Objects.{object_view}
 use Rattle.view_tree.specs.Views.{view_named}
-use Rattle.session_undo.specs.declared.item.suggesting.NewSuggestion.{NewSuggestion}
+use Rattle.held_items.specs.declared.item.suggesting.NewSuggestion.{NewSuggestion}
 use Rattle.session_undo.specs.Adding.{IsFreeSuggestion, IsSuggestionFor, NoEnd, SuggestStep}
 use Rattle.session_undo.specs.Machine.{TriedSuggest}
 use Rattle.session_undo.specs.Replies.{Reply}
 use Rattle.session_undo.specs.Kept.{session_at}
-use Rattle.session_undo.proofs.Commands.Chains.{ok-map, err-map}
-use Rattle.session_undo.proofs.Suggestions.SuggestionSteps.{step-causes, view-found}
+use Rattle.session_undo.proofs.Commands.Chains.{err-map}
+use Rattle.session_undo.proofs.Commands.SuggestionSteps.{step-causes, view-found}
 use Rattle.session_undo.proofs.session.Session.new_suggestion.Goals as goal
 
 pub returns-clause-made : goal.returns-clause-made
@@ -15,7 +16,7 @@ returns-clause-made c =
     let old = (session_at c.self.inside.scene c.self.inside.budget c.self.inside.limits) in
     let f = view-found (view_named old.scene.tree.views c.args.name.now) c.in-Some.view.0 (rw c.tree.ensures at c.in-Some.ensures) in
     rw (← c.self.view_is)
-    (ok-map (λ (new : NewSuggestion). IsSuggestionFor old c.in-Some.view.0 c.args.word c.args.value (object_view c.args.priority) new) (λ (new : NewSuggestion). IsFreeSuggestion old c.args.name.now c.args.word c.args.value (object_view c.args.priority) new) c.suggestion_for.result
+    (IfOk-weaker c.suggestion_for.result (λ (new : NewSuggestion). IsSuggestionFor old c.in-Some.view.0 c.args.word c.args.value (object_view c.args.priority) new) (λ (new : NewSuggestion). IsFreeSuggestion old c.args.name.now c.args.word c.args.value (object_view c.args.priority) new)
     (λ new to. to c.args.name.now f.0 f.1 f.2) (rw (← c.self.view_is) at c.suggestion_for.ensures.made))
 
 pub returns-clause-refused : goal.returns-clause-refused

@@ -2,7 +2,7 @@ use Rattle.std.proofs.Common.{refl}
 use Rattle.view_tree.specs.JsonStops.{IsGrown}
 use Rattle.session_undo.specs.Adding.{NoEnd}
 use Rattle.session_undo.specs.Kept.{session_at}
-use Rattle.session_undo.proofs.Views.Attributes.{grown-branch}
+use Rattle.held_items.proofs.Views.Attributes.{grown-branch}
 use Rattle.session_undo.proofs.Commands.TreeChains.{crowded-tree, first-number, first-there, free-tree, limited-tree, taken-tree, tree-misshapen, tree-outside, unknown-tree}
 use Rattle.session_undo.proofs.session.Session.new_tree.Goals as goal
 

@@ -4,7 +4,7 @@ use Rattle.view_tree.specs.declared.stops.ViewStop.TheVariants.{Unknown, Taken}
 use Rattle.session_undo.specs.Machine.{IsTaken}
 use Rattle.session_undo.specs.Kept.{session_at}
 use Rattle.session_undo.specs.Adding.{NoEnd}
-use Rattle.session_undo.proofs.Views.Attributes.{grown-view}
+use Rattle.held_items.proofs.Views.Attributes.{grown-view}
 use Rattle.session_undo.proofs.Commands.Chains.{IsAsked, found-live, view-full, view-free}
 use Rattle.session_undo.proofs.session.Session.new_view.Goals as goal
 

@@ -1,7 +1,7 @@
 use Rattle.session_undo.specs.Replies.{Done}
 use Rattle.session_undo.specs.Machine.{PosesDraft}
 use Rattle.session_undo.specs.Kept.{session_at}
-use Rattle.session_undo.proofs.Suggestions.SuggestionSteps.{release-passed}
+use Rattle.session_undo.proofs.Commands.SuggestionSteps.{release-passed}
 use Rattle.session_undo.proofs.session.Session.release_problem.Goals as goal
 
 pub returns-clause-posed : goal.returns-clause-posed

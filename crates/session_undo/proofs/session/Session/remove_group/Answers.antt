@@ -2,12 +2,14 @@ use Rattle.std.proofs.Common.{◌≡◌, ◌∙◌, true, false, rules}
 use Rattle.session_undo.specs.Replies.{Reply, accepted}
 use Rattle.session_undo.specs.declared.reply.Reply as answer
 use Rattle.std.specs.List.{list_any}
-use Rattle.session_undo.specs.Leaving.{is_in_group, without_group}
+use Rattle.std.proofs.lemmas.Result.{IfOk-weaker}
+use Rattle.held_items.specs.Leaving.{is_in_group}
+use Rattle.scenes.specs.Leaving.{without_group}
 use Rattle.session_undo.specs.Machine.{LeavesFree, TriedRemove}
 use Rattle.session_undo.specs.Kept.{session_at}
 use Rattle.session_undo.proofs.Commands.Steps.{after}
-use Rattle.session_undo.proofs.Commands.Chains.{ok-map, err-map}
-use Rattle.session_undo.proofs.Removals.LeavingSteps.{left-accepted, left-refused, left-same, removed-passed, removed-unknown}
+use Rattle.session_undo.proofs.Commands.Chains.{err-map}
+use Rattle.session_undo.proofs.Commands.LeavingSteps.{left-accepted, left-refused, left-same, removed-passed, removed-unknown}
 use Rattle.session_undo.proofs.session.Session.remove_group.Goals as goal
 
 pub returns-clause-accepted : goal.returns-clause-accepted
@@ -15,8 +17,8 @@ returns-clause-accepted c =
     let old = (session_at c.self.inside.scene c.self.inside.budget c.self.inside.limits) in
     let here : list_any (is_in_group c.args.group.now) old.scene.held ≡ true = search rules in
     rw (← c.self.view_is)
-    (ok-map (λ (reply : answer.Reply). LeavesFree old (without_group old.scene c.args.group.now) (accepted reply) (after old c.take_group_out-end.new.self))
-    (λ (reply : answer.Reply). TriedRemove old c.args.group.now (LeavesFree old) (accepted reply) (after old c.take_group_out-end.new.self)) _
+    (IfOk-weaker _ (λ (reply : answer.Reply). LeavesFree old (without_group old.scene c.args.group.now) (accepted reply) (after old c.take_group_out-end.new.self))
+    (λ (reply : answer.Reply). TriedRemove old c.args.group.now (LeavesFree old) (accepted reply) (after old c.take_group_out-end.new.self))
     (λ reply end. removed-passed old c.args.group.now (LeavesFree old) (accepted reply) (after old c.take_group_out-end.new.self) here end)
     (left-accepted (without_group old.scene c.args.group.now) old c.take_group_out-end.new.self c.take_group_out-end.result c.left_answer.result c.left_answer.ensures (rw c.as_bytes-2.ensures.value at c.take_group_out-end.ensures.left) c.take_group_out-end.ensures.earlier))
 

@@ -1,11 +1,11 @@
 use Rattle.std.proofs.Common.{◌≡◌, ◌∙◌, true, false, rules}
 use Rattle.std.specs.List.{list_any}
 use Rattle.session_undo.specs.Replies.{Done}
-use Rattle.session_undo.specs.Leaving.{is_in_group}
+use Rattle.held_items.specs.Leaving.{is_in_group}
 use Rattle.session_undo.specs.Machine.{PosesDraft}
 use Rattle.session_undo.specs.Adding.{NoEnd}
 use Rattle.session_undo.specs.Kept.{session_at}
-use Rattle.session_undo.proofs.Removals.LeavingSteps.{removed-passed, removed-unknown}
+use Rattle.session_undo.proofs.Commands.LeavingSteps.{removed-passed, removed-unknown}
 use Rattle.session_undo.proofs.session.Session.remove_problem.Goals as goal
 
 pub returns-then-not-has_group-clause-refused : goal.returns-then-not-has_group-clause-refused

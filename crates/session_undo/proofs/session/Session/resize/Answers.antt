@@ -1,11 +1,12 @@
+use Rattle.std.proofs.lemmas.Result.{IfOk-weaker}
 use Rattle.session_undo.specs.Replies.{Reply, accepted, Limit}
 use Rattle.session_undo.specs.declared.reply.Reply as answer
 use Rattle.session_undo.specs.Machine.{TriedWindow, Solves}
-use Rattle.session_undo.specs.Scene.{with_window}
+use Rattle.scenes.specs.Scene.{with_window}
 use Rattle.session_undo.specs.Kept.{session_at}
 use Rattle.session_undo.proofs.Commands.Steps.{run-accepted, run-refused, answer-same, after}
-use Rattle.session_undo.proofs.Commands.Chains.{window-causes, window-passed, ok-map, err-map}
-use Rattle.session_undo.proofs.Engines.Additions.{room-fits, room-numbers}
+use Rattle.session_undo.proofs.Commands.Chains.{window-causes, window-passed, err-map}
+use Rattle.session_undo.proofs.Commands.Rooms.{room-fits, room-numbers}
 use Rattle.session_undo.proofs.session.Session.resize.Goals as goal
 
 pub returns-in-Some-clause-refused : goal.returns-in-Some-clause-refused
@@ -17,8 +18,8 @@ returns-clause-accepted c =
     let old = (session_at c.self.inside.scene c.self.inside.budget c.self.inside.limits) in
     let free = rw (← c.self.view_is) at c.in_default.ensures.free in
     rw (c.answer_of.ensures, ← c.self.view_is)
-    (ok-map (λ (reply : answer.Reply). Solves old (with_window old.scene c.args.width c.args.height) (accepted reply) (after old c.take_size-end.new.self))
-    (λ (reply : answer.Reply). TriedWindow old c.args.width c.args.height (Solves old) (accepted reply) (after old c.take_size-end.new.self)) _
+    (IfOk-weaker _ (λ (reply : answer.Reply). Solves old (with_window old.scene c.args.width c.args.height) (accepted reply) (after old c.take_size-end.new.self))
+    (λ (reply : answer.Reply). TriedWindow old c.args.width c.args.height (Solves old) (accepted reply) (after old c.take_size-end.new.self))
     (λ reply end. window-passed old c.args.width c.args.height (Solves old) free.room (accepted reply) (after old c.take_size-end.new.self) free.near end)
     (run-accepted (with_window old.scene c.args.width c.args.height) old c.take_size-end.new.self c.take_size-end.result c.take_size-end.ensures.solved c.take_size-end.ensures.earlier))
 

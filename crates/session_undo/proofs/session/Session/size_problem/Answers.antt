@@ -3,7 +3,7 @@ use Rattle.session_undo.specs.Replies.{Done}
 use Rattle.session_undo.specs.Machine.{PosesDraft}
 use Rattle.session_undo.specs.Kept.{session_at}
 use Rattle.session_undo.proofs.Commands.Chains.{window-passed}
-use Rattle.session_undo.proofs.Engines.Additions.{room-fits, room-numbers}
+use Rattle.session_undo.proofs.Commands.Rooms.{room-fits, room-numbers}
 use Rattle.session_undo.proofs.session.Session.size_problem.Goals as goal
 
 pub returns-clause-posed : goal.returns-clause-posed

@@ -1,4 +1,4 @@
-use Rattle.session_undo.specs.Scene.{with_suggested}
+use Rattle.scenes.specs.Scene.{with_suggested}
 use Rattle.session_undo.specs.Kept.{session_at}
 use Rattle.session_undo.proofs.Commands.Steps.{run-accepted, run-refused, answer-same}
 use Rattle.session_undo.proofs.session.Session.suggest_later.Goals as goal

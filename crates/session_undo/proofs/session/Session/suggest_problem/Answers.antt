@@ -4,8 +4,8 @@ use Rattle.session_undo.specs.Replies.{Done}
 use Rattle.session_undo.specs.Machine.{PosesDraft}
 use Rattle.session_undo.specs.Adding.{IsFirstSuggestion, IsLaterSuggestion}
 use Rattle.session_undo.specs.Kept.{session_at}
-use Rattle.session_undo.proofs.Engines.Additions.{room-fits, room-numbers}
-use Rattle.session_undo.proofs.Suggestions.SuggestionSteps.{first-next, first-passed, later-near, later-passed}
+use Rattle.session_undo.proofs.Commands.Rooms.{room-fits, room-numbers}
+use Rattle.session_undo.proofs.Commands.SuggestionSteps.{first-next, first-passed, later-near, later-passed}
 use Rattle.session_undo.proofs.session.Session.suggest_problem.Goals as goal
 
 pub returns-in_ok-suggestion_problem-in-First-clause-posed : goal.returns-in_ok-suggestion_problem-in-First-clause-posed

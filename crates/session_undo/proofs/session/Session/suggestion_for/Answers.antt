@@ -1,10 +1,10 @@
 use Rattle.std.proofs.Common.{◌≡◌, Option, Some, None, false, is_some, sym, subst, rules}
 use Rattle.span_text.specs.Objects.{Meant, object_view}
-use Rattle.session_undo.specs.Items.{suggestion_of}
+use Rattle.held_items.specs.Items.{suggestion_of}
 use Rattle.session_undo.specs.Adding.{NoEnd}
 use Rattle.session_undo.specs.Machine.{Suggests}
 use Rattle.session_undo.specs.Replies.{Limit}
-use Rattle.session_undo.proofs.Suggestions.SuggestionSteps.{held-step, no-priority, ranked-step}
+use Rattle.session_undo.proofs.Commands.SuggestionSteps.{held-step, no-priority, ranked-step}
 use Rattle.session_undo.proofs.session.Session.suggestion_for.Goals as goal
 
 pub returns-in-Err-clause-refused : goal.returns-in-Err-clause-refused

@@ -1,10 +1,11 @@
 use Rattle.std.proofs.Common.{◌+◌, ◌≤◌, ◌^◌, ℕ, length, subst, arith}
 use Rattle.session_undo.specs.Replies.{Done}
-use Rattle.session_undo.specs.Machine.{IsProblemOf, PosesDraft}
-use Rattle.session_undo.specs.Adding.{views_draft}
+use Rattle.scenes.specs.Steps.{IsProblemOf}
+use Rattle.session_undo.specs.Machine.{PosesDraft}
+use Rattle.scenes.specs.Drafts.{views_draft}
 use Rattle.session_undo.specs.Kept.{session_at}
 use Rattle.session_undo.proofs.Commands.Chains.{view-passed}
-use Rattle.session_undo.proofs.Engines.Additions.{room-fits, room-numbers}
+use Rattle.session_undo.proofs.Commands.Rooms.{room-fits, room-numbers}
 use Rattle.session_undo.proofs.session.Session.view_problem.Goals as goal
 
 pub returns-clause-posed : goal.returns-clause-posed

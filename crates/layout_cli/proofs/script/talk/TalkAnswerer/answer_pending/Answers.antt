@@ -1,4 +1,4 @@
-use Rattle.std.proofs.Common.{Err, subst, ap, arith}
+use Rattle.std.proofs.Common.{◌∙◌, Err, subst, ap, arith}
 use Rattle.std.specs.Prelude.{IfSome, IfNone, Option}
 use Rattle.std.proofs.lemmas.Result.{err_from_is_err_and}
 use Rattle.edge_io.specs.Feeding.{Gives, Waits, shown}
@@ -15,6 +15,7 @@ loop-piece-preserved g c =
     subst (λ (r : Option Piece). IfSome r (λ piece. Gives c.loop-piece.feed (shown piece) c.next.follows.lender-at-none)) c.in-Some.is c.next.follows.holds-at-none.some in
     record {
       later = omega (arith, c.loop-piece.invariant.later, c.in_ok-answer.ensures.cause.later);
+      unfailed = c.in_ok-answer.ensures.cause.unfailed ∙ c.loop-piece.invariant.unfailed;
       talk = λ before taken talk. talk_answers before _ _ taken _ _ _ _ _ _ _ (c.loop-piece.invariant.talk before taken talk) gives c.in_ok-answer.ensures.told;
     }
 
@@ -41,3 +42,8 @@ returns-clause-answered g c =
     let was = c.loop-piece.invariant.talk before _ (talk_takes before _ taken more p _ _ _ talk joins) in
     let is = talk_waits before _ _ _ _ _ _ was waits in
     (is, talk_whole before _ _ _ _ _ is waits.ready.unended)
+
+pub returns-in_err-answer-clause-unfailed_first : goal.returns-in_err-answer-clause-unfailed_first
+returns-in_err-answer-clause-unfailed_first g c =
+    let exit = err_from_is_err_and c.from_residual.result c.from_residual.ensures.1 in
+    λ is. ap g.K.Sink.faults (c.in_err-answer.ensures.cause.unwritten (ap (λ (e : Stop Failed). Err e) (passed_on _ _ exit.0 _ exit.1 exit.2 is))) ∙ c.loop-piece.invariant.unfailed

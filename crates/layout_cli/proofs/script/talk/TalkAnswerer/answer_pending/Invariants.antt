@@ -1,4 +1,4 @@
-use Rattle.std.proofs.Common.{◌≤◌, List, ℕ, Option, length}
+use Rattle.std.proofs.Common.{◌≡◌, ◌≤◌, List, ℕ, Option, length}
 use Rattle.layout_cli.specs.Talks.{IsTalk}
 use Rattle.layout_cli.proofs.script.talk.TalkAnswerer.answer_pending.Given as goal
 
@@ -6,6 +6,7 @@ use Rattle.layout_cli.proofs.script.talk.TalkAnswerer.answer_pending.Given as go
 abbrev pub invariant-loop-piece : goal.invariant-loop-piece
 invariant-loop-piece g l = record {
   later : g.K.Sink.faults l.fn.sink ≤ g.K.Sink.faults l.sink;
+  unfailed : g.K.Sink.faults l.sink ≡ g.K.Sink.faults l.fn.sink;
   talk : (before : Option (List ℕ)) (taken : List ℕ)
       → IsTalk before (g.K.Sink.held l.fn.sink) taken l.fn.feed l.fn.self.is_good l.fn.self.session
       → IsTalk before (g.K.Sink.held l.sink) taken l.feed l.self.is_good l.self.session;

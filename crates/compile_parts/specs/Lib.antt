@@ -1,0 +1,10 @@
+pub mod Fractions
+pub mod Meaning
+pub mod Shares
+pub mod Addends
+pub mod Quotients
+pub mod Steps
+pub mod Keeps
+pub mod Progress
+pub mod Lookups
+pub mod Constants

@@ -1,0 +1,39 @@
+//! The parts of a line's rows: what its names stand for, and what each of its terms adds.
+//!
+//! A name becomes a view or a metric, an attribute of a view becomes halves of those that are kept, and a
+//! constant is summed step by step, so that it follows the metrics. [`resolve`] looks up the names of some
+//! terms, each once and in the order of the text, and [`resolve_rank`] that of a priority.
+//!
+//! ```
+//! // of the terms of `a.centerX - 2*gap`
+//! let resolved = resolve(alloc, &tree, &metrics, &terms)?;
+//! resolved.added    // half of 2*a.left + a.width: Addend::Attr; and -2 times gap: Addend::Multiple
+//! ```
+//!
+//! An [`Addend`] is what a term adds to a row; a [`Step`] has the row's scale after a term, and what the term
+//! adds to the constant. [`constant_after`] takes the steps at given metrics, unless a part of the constant
+//! would be past [`CONSTANT_LIMIT`].
+//!
+//! Invariant (`IsKept`): an attribute in an addend is halves, at most two of an edge and two of a size.
+//!
+//! In reading order: `stops` (why there are no rows), `limits`. Sums: `wide`, `wide::ratios`, `steps` (a
+//! constant, step by step). Names: `addends` (a term with no name left), `shares` (attributes of views, by
+//! halves), `resolved` with `resolved::lookups` (the names of a line).
+#![tactic(auto)]
+
+mod addends;
+mod limits;
+mod resolved;
+mod shares;
+mod steps;
+mod stops;
+mod wide;
+
+pub use addends::Addend;
+pub use limits::{ADDEND_LIMIT, CONSTANT_LIMIT, constants_are_as_said};
+pub use resolved::{Resolved, resolve, resolve_rank};
+pub use shares::{Doubled, Share, attributes, id_named, share_at, times};
+pub use steps::{Part, Step, constant_after, name_at};
+pub use stops::{CompileStop, KindWord, LargeConstant, RankStop};
+pub use wide::ratios::{Ratio, small_of};
+pub use wide::{product, total};

@@ -1,0 +1,13 @@
+// The limits of lines, beside those of problems.
+ghost use Rattle.compile_parts.specs.Constants.{ConstantsAreAsSaid};
+
+/// How many addends a row may have, which are the terms of a line on both of its sides.
+pub const ADDEND_LIMIT: usize = 64;
+
+/// Both parts of a row's constant are below this in size.
+pub const CONSTANT_LIMIT: u64 = 1 << 40;
+
+/// The constants that definitions and clauses cite by name are these numbers.
+pub fn constants_are_as_said()
+    ensures { ConstantsAreAsSaid }
+{}

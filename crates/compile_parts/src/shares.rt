@@ -1,0 +1,204 @@
+// The attributes that terms have.
+ghost use Rattle.std.specs.Prelude.{◌≡◌, ◌≢◌, ℕ, ◌<◌, ◌≤◌, pos, ◌*◌, ◌*ℤ◌, false, length};
+ghost use Rattle.problem_core.specs.Layout.{coefficient};
+ghost use Rattle.std.specs.Prelude.{slice_index_or, All, AllPairs, IsTrue, IfOk, IfSome, OnOk};
+ghost use Rattle.std.specs.Option.{option_map};
+ghost use Rattle.view_tree.specs.Views.{view_named};
+ghost use Rattle.problem_core.specs.Kept.{IsNumber};
+ghost use Rattle.view_tree.specs.declared.limits.TheConstants.{ID_LIMIT};
+ghost use Rattle.compile_parts.specs.Meaning as meaning;
+ghost use Rattle.compile_parts.specs.Addends.{addend_view, IsKept};
+ghost use Rattle.compile_parts.specs.Shares.{form, share_fraction, AreHalves, IsOff};
+
+use crate::addends::Addend;
+use frac_core::{Frac, OutOfMemory};
+use problem_core::Term;
+use script_text::AttrWord;
+use std::alloc::Global;
+use view_tree::{Tree, ViewId};
+
+/// Twice an attribute, by an edge and a size that are kept.
+#[derive(Clone, Copy)]
+pub struct Doubled {
+    pub edge: Term,
+    pub size: Term,
+}
+
+/// So many times half of a sum of attributes.
+#[derive(Clone, Copy)]
+pub struct Share {
+    pub by: Frac,
+    pub of: Doubled,
+}
+
+/// So many times an attribute.
+pub fn times(attr: u32, by: u8) -> Term
+    ensures { result ≡ record { attr = attr; by = pos by } }
+{
+    Term {
+        attr,
+        by: i64::from(by),
+    }
+}
+
+fn horizontal(view: ViewId, edge: u8, size: u8) -> Doubled
+    requires { view.0 < ID_LIMIT }
+    ensures { form result ≡ meaning.horizontal view.0 edge size }
+{
+    let of = view.attributes();
+    Doubled {
+        edge: times(of.left, edge),
+        size: times(of.width, size),
+    }
+}
+
+fn vertical(view: ViewId, edge: u8, size: u8) -> Doubled
+    requires { view.0 < ID_LIMIT }
+    ensures { form result ≡ meaning.vertical view.0 edge size }
+{
+    let of = view.attributes();
+    Doubled {
+        edge: times(of.top, edge),
+        size: times(of.height, size),
+    }
+}
+
+// Twice an attribute of a view.
+fn twice(view: ViewId, word: AttrWord) -> Doubled
+    requires { view.0 < ID_LIMIT }
+    ensures form { form result ≡ meaning.doubled view.0 word }
+    ensures halves { AreHalves result }
+{
+    match word {
+        AttrWord::Left => horizontal(view, 2, 0),
+        AttrWord::Leading => horizontal(view, 2, 0),
+        AttrWord::Right => horizontal(view, 2, 2),
+        AttrWord::Trailing => horizontal(view, 2, 2),
+        AttrWord::CenterX => horizontal(view, 2, 1),
+        AttrWord::Width => horizontal(view, 0, 2),
+        AttrWord::Top => vertical(view, 2, 0),
+        AttrWord::Bottom => vertical(view, 2, 2),
+        AttrWord::CenterY => vertical(view, 2, 1),
+        AttrWord::Height => vertical(view, 0, 2),
+    }
+}
+
+/// The live view of this name, if there is one. The name is looked up in the tree.
+pub fn id_named(tree: &Tree, name: &str) -> Option<ViewId>
+    ensures id { option_map (λ id. id.0) result
+        ≡ option_map (λ v. v.id) (view_named tree.now.views name.now) }
+    ensures within { IfSome result (λ id. id.0 < ID_LIMIT) }
+{
+    let _count = tree.len(); // for the proof: what a tree keeps
+    tree.find(name)
+}
+
+/// So many times an attribute of a view.
+pub fn share_at(by: Frac, view: ViewId, word: AttrWord) -> Share
+    requires { view.0 < ID_LIMIT }
+    ensures share { (v : ℕ) → share_fraction result v
+        ≡ record { num = by.num *ℤ coefficient v (meaning.doubled view.0 word); den = by.den * 2 } }
+    ensures halves { AreHalves result.of }
+{
+    Share {
+        by,
+        of: twice(view, word),
+    }
+}
+
+// The place of the first attribute that isn't below this one.
+fn place_of(attrs: &[u32], attr: u32) -> usize
+    ensures within { result ≤ length attrs.now }
+    ensures below { (k d : ℕ) → k < result → slice_index_or attrs.now k d < attr }
+    ensures here { (d : ℕ) → result < length attrs.now → attr ≤ slice_index_or attrs.now result d }
+{
+    attrs.iter().position(|a| *a >= attr).unwrap_or(attrs.len())
+}
+
+fn stands_at(attrs: &[u32], place: usize, attr: u32) -> bool
+    ensures yes { IsTrue result → (place < length attrs.now)
+        × ((d : ℕ) → slice_index_or attrs.now place d ≡ attr) }
+    ensures no { result ≡ false → (d : ℕ) → place < length attrs.now
+        → slice_index_or attrs.now place d ≢ attr }
+{
+    place < attrs.len() && attrs[place] == attr
+}
+
+// Puts an attribute in its place among rising ones, unless it is there.
+fn include(attrs: &mut Vec<u32>, attr: u32) -> Result<(), OutOfMemory>
+    requires rising { AllPairs (λ a b. a < b) attrs.old.items }
+    requires numbers { All IsNumber attrs.old.items }
+    requires number { IsNumber attr }
+    ensures rising { OnOk result (AllPairs (λ a b. a < b) attrs.new.items) }
+    ensures numbers { OnOk result (All IsNumber attrs.new.items) }
+    ensures off { OnOk result ((v : ℕ) → IsOff attrs.new.items v → IsOff attrs.old.items v × (attr ≢ v)) }
+{
+    let place = place_of(attrs, attr);
+    if stands_at(attrs, place, attr) {
+        return Ok(());
+    }
+    attrs.insert(place, attr)?;
+    Ok(())
+}
+
+// Puts the attribute of a part among the others, unless the part is 0.
+fn include_part(attrs: &mut Vec<u32>, part: Term) -> Result<(), OutOfMemory>
+    requires rising { AllPairs (λ a b. a < b) attrs.old.items }
+    requires numbers { All IsNumber attrs.old.items }
+    requires number { IsNumber part.attr }
+    ensures rising { OnOk result (AllPairs (λ a b. a < b) attrs.new.items) }
+    ensures numbers { OnOk result (All IsNumber attrs.new.items) }
+    ensures off { OnOk result ((v : ℕ) → IsOff attrs.new.items v
+        → IsOff attrs.old.items v × ((part.attr ≡ v) → part.by ≡ pos 0)) }
+{
+    if part.by == 0 {
+        return Ok(());
+    }
+    include(attrs, part.attr)
+}
+
+// Puts the attributes of a share among the others.
+fn include_share(attrs: &mut Vec<u32>, share: &Share) -> Result<(), OutOfMemory>
+    requires rising { AllPairs (λ a b. a < b) attrs.old.items }
+    requires numbers { All IsNumber attrs.old.items }
+    requires halves { AreHalves share.now.of }
+    ensures rising { OnOk result (AllPairs (λ a b. a < b) attrs.new.items) }
+    ensures numbers { OnOk result (All IsNumber attrs.new.items) }
+    ensures off { OnOk result ((v : ℕ) → IsOff attrs.new.items v
+        → IsOff attrs.old.items v × ((share_fraction share.now v).num ≡ pos 0)) }
+{
+    include_part(attrs, share.of.edge)?;
+    include_part(attrs, share.of.size)?;
+    Ok(())
+}
+
+// Puts the attributes of an addend among the others.
+fn include_addend(attrs: &mut Vec<u32>, addend: &Addend<'_>) -> Result<(), OutOfMemory>
+    requires kept { IsKept addend.now }
+    requires rising { AllPairs (λ a b. a < b) attrs.old.items }
+    requires numbers { All IsNumber attrs.old.items }
+    ensures rising { OnOk result (AllPairs (λ a b. a < b) attrs.new.items) }
+    ensures numbers { OnOk result (All IsNumber attrs.new.items) }
+    ensures off { OnOk result ((v : ℕ) → IsOff attrs.new.items v
+        → IsOff attrs.old.items v × (((addend_view addend.now).share v).num ≡ pos 0)) }
+{
+    if let Some(share) = addend.share() {
+        include_share(attrs, &share)?;
+    }
+    Ok(())
+}
+
+/// The attributes of all addends, each once, by rising number.
+pub fn attributes(alloc: Global, added: &[Addend<'_>]) -> Result<Vec<u32>, OutOfMemory>
+    requires kept { All IsKept added.now }
+    ensures rising { IfOk result (λ attrs. AllPairs (λ a b. a < b) attrs.items) }
+    ensures numbers { IfOk result (λ attrs. All IsNumber attrs.items) }
+    ensures off { IfOk result (λ attrs. (v : ℕ) → IsOff attrs.items v
+        → All (λ a. ((addend_view a).share v).num ≡ pos 0) added.now) }
+{
+    let mut attrs = Vec::new(alloc);
+    for addend in added {
+        include_addend(&mut attrs, addend)?;
+    }
+    Ok(attrs)
+}

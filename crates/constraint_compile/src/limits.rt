@@ -1,7 +1,0 @@
-// The limits of lines, beside those of problems.
-
-/// How many addends a row may have, which are the terms of a line on both of its sides.
-pub const ADDEND_LIMIT: usize = 64;
-
-/// Both parts of a row's constant are below this in size.
-pub const CONSTANT_LIMIT: u64 = 1 << 40;

@@ -1,6 +1,0 @@
-use Rattle.corner.specs.Tables.{lists_of}
-use Rattle.corner.proofs.Pivots.TouchedFacts.{AreGone}
-use Rattle.corner.proofs.exchange.changes.Given as goal
-
-abbrev pub invariant-loop-w : goal.invariant-loop-w
-invariant-loop-w l = AreGone (lists_of l.fn.table) l.fn.pivot l.w-items l.w-index l.out.items

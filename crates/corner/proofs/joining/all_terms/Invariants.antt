@@ -1,7 +1,0 @@
-use Rattle.problem_core.specs.Unfit.{first_terms}
-use Rattle.corner.specs.Tables.{lists_of}
-use Rattle.corner.specs.Additions.RowSums.{IsSumRow}
-use Rattle.corner.proofs.joining.all_terms.Given as goal
-
-abbrev pub invariant-loop-i : goal.invariant-loop-i
-invariant-loop-i l = IsSumRow (lists_of l.table) l.row (first_terms l.row l.i) l.sum

@@ -1,7 +1,0 @@
-use Rattle.corner.specs.Tables.{lists_of}
-use Rattle.corner.specs.Histories.{HasSameHistory}
-use Rattle.corner.specs.Shifts.Stood.{AreFirstStood}
-use Rattle.corner.proofs.joining.stand_stays.Given as goal
-
-abbrev pub invariant-loop-i : goal.invariant-loop-i
-invariant-loop-i l = record { past : HasSameHistory l.fn.table l.table; lists : AreFirstStood l.i (lists_of l.fn.table) (lists_of l.table) }

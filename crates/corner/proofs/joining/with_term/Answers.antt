@@ -1,8 +1,0 @@
-use Rattle.corner.specs.Tables.{lists_of}
-use Rattle.corner.proofs.Additions.RowTerms.{with_more}
-use Rattle.corner.proofs.joining.with_term.Goals as goal
-
-pub returns-clause-sum : goal.returns-clause-sum
-returns-clause-sum c =
-    with_more (lists_of c.args.table.now) c.args.row.now c.args.i c.args.sum.now c.in_ok-row.row c.in_ok-value.value c.args.at c.requires.row.kept c.requires.row.whole c.requires.sum.within c.requires.sum.is c.requires.at
-    c.in_ok-row.ensures.value c.in_ok-value.ensures.value

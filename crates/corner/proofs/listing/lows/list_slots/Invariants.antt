@@ -1,6 +1,0 @@
-use Rattle.corner.specs.Tables.{lists_of}
-use Rattle.corner.proofs.Readings.LowLines.{ListsFirst}
-use Rattle.corner.proofs.listing.lows.list_slots.Given as goal
-
-abbrev pub invariant-loop-i : goal.invariant-loop-i
-invariant-loop-i l = ListsFirst (lists_of l.table) l.slots l.i l.fn.low.items l.low.items

@@ -1,0 +1,7 @@
+use Rattle.corner_table.specs.Tables.{lists_of}
+use Rattle.corner_table.specs.Histories.{HasSameHistory}
+use Rattle.corner.specs.Shifts.Stood.{AreFirstStood}
+use Rattle.corner.proofs.standing.stand_stays.Given as goal
+
+abbrev pub invariant-loop-i : goal.invariant-loop-i
+invariant-loop-i l = record { past : HasSameHistory l.fn.table l.table; lists : AreFirstStood l.i (lists_of l.fn.table) (lists_of l.table) }

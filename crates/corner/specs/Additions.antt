@@ -1,7 +1,0 @@
--- How attributes and rows join the lists of a corner, and rows the costs of their levels.
-pub mod Joining
-pub mod Parts
-pub mod RowJoins
-pub mod RowSums
-pub mod CostJoins
-pub mod JoinedLists

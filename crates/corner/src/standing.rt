@@ -1,0 +1,56 @@
+// The stays' targets where they are moved to the values of now.
+ghost use Rattle.std.specs.Prelude.{◌≡◌, ◌<◌, length, OnOk};
+ghost use Rattle.problem_core.specs.Layout.{HasStay};
+ghost use Rattle.corner.specs.Shifts.Stood.{AreFirstStood, IsStoodAt, with_present};
+ghost use Rattle.corner_table.specs.Histories.{HasSameHistory};
+ghost use Rattle.corner_table.specs.Kept.{AreSlots, IsKept};
+ghost use Rattle.corner_table.specs.Tables.{lists_of};
+
+use corner_table::{Standing, Table, attr_slot, line_slot, side_at, value_at};
+use frac_core::{Frac, OutOfMemory};
+use problem_core::{RowName, Stay};
+
+// Gives a stay its attribute's value as target.
+fn move_stay(table: &mut Table, i: usize, attr: u32) -> Result<(), OutOfMemory>
+    requires slots { AreSlots (lists_of table.old) }
+    requires within { i < length table.old.stays.items }
+    requires attr { HasStay table.old.stays.items attr }
+    ensures past { HasSameHistory table.old table.new }
+    ensures lists { OnOk result (lists_of table.new ≡ with_present (lists_of table.old) i attr) }
+{
+    let line = line_slot(table, RowName::Stay(attr));
+    let side = side_at(table, line);
+    let target = value_at(table, attr_slot(table, attr));
+    table.stays.put(i, Stay { attr, target })?;
+    let value = Frac::zero();
+    table.standings.put(line as usize, Standing { side, value })
+}
+
+// Gives a stay that has moved its attribute's value as target.
+fn stand_stay(table: &mut Table, i: usize) -> Result<(), OutOfMemory>
+    requires slots { AreSlots (lists_of table.old) }
+    requires within { i < length table.old.stays.items }
+    ensures past { HasSameHistory table.old table.new }
+    ensures lists { OnOk result (IsStoodAt i (lists_of table.old) (lists_of table.new)) }
+{
+    let attr = table.stays.get(i).attr;
+    let line = line_slot(table, RowName::Stay(attr));
+    if value_at(table, line).num() == 0 {
+        return Ok(());
+    }
+    move_stay(table, i, attr)
+}
+
+/// Gives each stay that has moved its attribute's value as target.
+pub(crate) fn stand_stays(table: &mut Table) -> Result<(), OutOfMemory>
+    requires kept { IsKept (lists_of table.old) }
+    ensures past { HasSameHistory table.old table.new }
+    ensures lists { OnOk result (AreFirstStood (length table.old.stays.items) (lists_of table.old)
+        (lists_of table.new)) }
+{
+    let count = table.stays.len();
+    for i in 0..count {
+        stand_stay(table, i)?;
+    }
+    Ok(())
+}

@@ -1,0 +1,4 @@
+pub mod Basics
+pub mod Pivots
+pub mod LevelFacts
+pub mod Swaps

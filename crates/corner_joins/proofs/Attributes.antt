@@ -1,0 +1,4 @@
+-- What the lists keep where an attribute joins.
+pub mod AttrRows
+pub mod AttrJoins
+pub mod AttrLevels

@@ -1,0 +1,2 @@
+-- Numbers, the weight of a line and histories of tables.
+pub mod SmallFacts

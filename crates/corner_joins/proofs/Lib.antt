@@ -1,0 +1,4 @@
+pub mod Basics
+pub mod Attributes
+pub mod Additions
+pub mod Costs

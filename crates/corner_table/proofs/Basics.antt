@@ -1,0 +1,3 @@
+-- Lists, and sums of whole numbers.
+pub mod ListFacts
+pub mod WholeSums

@@ -1,0 +1,8 @@
+pub mod Views
+pub mod Tables
+pub mod Histories
+pub mod Kept
+pub mod Invariants
+pub mod Reads
+pub mod Joining
+pub mod Paths

@@ -1,0 +1,47 @@
+//! The lists in which a layout problem is kept at one of its corners, and what is read of them.
+//!
+//! A [`Table`] has a problem's rows and stays, and a slot for each attribute, line and priority level: a row
+//! and a column of one sparse matrix of whole numbers. [`new_table`] is that of no row and no stay. What a
+//! quantity is worth is the value in its slot ([`value_at`]); a line's slot says which of its marks is inside
+//! ([`side_at`]), and [`marks_with`] names all of these. Each list has as many earlier versions: [`mark`],
+//! [`back`], [`forget`] and [`rewind`] keep them alike.
+//!
+//! ```
+//! let mut table = new_table(alloc)?;            // the slots of the priority levels, and nothing else
+//! mark(&mut table);
+//! let slot = Slot { owner: Owner::Attr(1), home: LEVELS, weight: 1, scale: 1, rel: Rel::Eq };
+//! push_slot(&mut table, slot, None, Frac::zero(), row)?;
+//! value_at(&table, LEVELS);                     // 0
+//! back(&mut table);                             // the slots of the levels alone
+//! ```
+//!
+//! [`Listed`] is a list of slots, each once: those of the lines that may have a negative column.
+//!
+//! A contract sees the `Lists` of now and of each mark (`lists_of`, `lists_before`). What they keep where an
+//! operation is done is `IsKept` (`specs/Kept.antt`): each attribute and line of the problem has a slot, and a
+//! row and a value there are its equation by the outside lines in lowest terms; those of a level are its cost.
+//! `IsConsistent` (`specs/Invariants.antt`) says it of the earlier versions too. The words for what is seen of
+//! a corner (`specs/Views.antt`) are here, since the lists are read by them.
+//!
+//! To read: `table` has the lists, each with its earlier versions; `slots` finds in them by name; `listing`
+//! lists lines; `marking` names the marks inside and lists the lines of a row; `sums` adds.
+#![tactic(auto)]
+
+mod listing;
+mod marking;
+mod slots;
+mod sums;
+mod table;
+
+pub use listing::Listed;
+pub use marking::{list_row, marks_with, path_stop};
+pub use slots::{
+    attr_slot, cost_share, costs, is_level, is_stay, level_of, level_slot, line_slot, name_at,
+    other, own_of, own_of_level, priority_at, priority_level, put_number, share, side_at, side_in,
+    sign, slot_at, unit_of, value_at, what_at, what_slot,
+};
+pub use sums::{product, sum};
+pub use table::{
+    LEVELS, Owner, Priority, Slot, Standing, Table, back, forget, mark, new_table, next_slot,
+    push_slot, rewind,
+};

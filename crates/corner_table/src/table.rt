@@ -1,0 +1,218 @@
+// The lists that a corner is kept in.
+ghost use Rattle.std.specs.Prelude.{◌≡◌, ◌<◌, ◌-◌, ◌+◌, ◌^◌, [], ◌∷◌, List, length, take, IfOk, OnOk};
+ghost use Rattle.indexed_rows.specs.Matrices.{IsBelow};
+ghost use Rattle.version_list.specs.declared.TheConstants.{VERSION_LIMIT};
+ghost use Rattle.corner_table.specs.Tables.{Lists, lists_of};
+ghost use Rattle.corner_table.specs.Histories.{AreAlike, HasSameHistory, lists_before};
+ghost use Rattle.corner_table.specs.Kept.{IsKept};
+ghost use Rattle.corner_table.specs.Joining.{HasNoPast, with_level, with_slot};
+
+use frac_core::{Frac, OutOfMemory};
+use indexed_rows::IndexedRows;
+use problem_core::{FIRST_STAY_LEVEL, Rel, Row, RowName, Side, Stay};
+use row_core::IntRow;
+use std::alloc::Global;
+use version_list::VersionList;
+
+/// The first slots are those of the priority levels, by number; those from here on are in the order in
+/// which they came.
+pub const LEVELS: u32 = FIRST_STAY_LEVEL;
+
+/// The slot of a number that has none.
+pub(crate) const ABSENT: u32 = 0;
+
+// More slots than these are want of memory.
+const MOST_SLOTS: usize = 1 << 31;
+
+/// What a slot is of. `Level` past those of the levels is of nothing: what it was of was taken out.
+#[derive(Clone, Copy, Debug, PartialEq, Eq)]
+pub enum Owner {
+    Level,
+    Attr(u32),
+    Line(RowName),
+}
+
+/// What does not change of a slot. The home is the slot of a line's level, a stay's own; only lines have
+/// the rest.
+#[derive(Clone, Copy, Debug, PartialEq, Eq)]
+pub struct Slot {
+    pub owner: Owner,
+    pub home: u32,
+    pub weight: i64,
+    pub scale: i64,
+    pub rel: Rel,
+}
+
+/// The side of a line that is inside, and the value of this mark, of an attribute or of a level's cost.
+#[derive(Clone, Copy, Debug, PartialEq, Eq)]
+pub struct Standing {
+    pub side: Option<Side>,
+    pub value: Frac,
+}
+
+/// The unit of a level's cost, and how many rows the level has.
+#[derive(Clone, Copy, Debug, PartialEq, Eq)]
+pub struct Priority {
+    pub unit: i64,
+    pub rows: u32,
+}
+
+/// The lists, each with as many earlier versions.
+#[derive(Drop)]
+pub struct Table {
+    pub rows: VersionList<Row>,
+    pub stays: VersionList<Stay>,
+    pub slots: VersionList<Slot>,
+    pub standings: VersionList<Standing>,
+    pub matrix: IndexedRows,
+    pub attr_slots: VersionList<u32>,
+    pub row_slots: VersionList<u32>,
+    pub priorities: VersionList<Priority>,
+    pub alloc: Global,
+}
+
+/// The slots of the levels alone, none of which has a row.
+pub fn new_table(alloc: Global) -> Result<Table, OutOfMemory>
+    ensures past { IfOk result HasNoPast }
+    ensures kept { IfOk result (λ t. IsKept (lists_of t)) }
+    ensures rows { IfOk result (λ t. t.rows.items ≡ []) }
+    ensures stays { IfOk result (λ t. t.stays.items ≡ []) }
+    ensures slots { IfOk result (λ t. length t.slots.items ≡ LEVELS) }
+{
+    let mut table = Table {
+        rows: VersionList::new(alloc)?,
+        stays: VersionList::new(alloc)?,
+        slots: VersionList::new(alloc)?,
+        standings: VersionList::new(alloc)?,
+        matrix: IndexedRows::new(alloc)?,
+        attr_slots: VersionList::new(alloc)?,
+        row_slots: VersionList::new(alloc)?,
+        priorities: VersionList::new(alloc)?,
+        alloc,
+    };
+    for level in 0..LEVELS {
+        push_level(&mut table, level)?;
+    }
+    Ok(table)
+}
+
+// Puts the slot of a level behind the last one, with no row.
+fn push_level(table: &mut Table, level: u32) -> Result<(), OutOfMemory>
+    requires room { length table.old.matrix.rows < 2 ^ 32 }
+    ensures past { HasSameHistory table.old table.new }
+    ensures lists { OnOk result (lists_of table.new ≡ with_level level (lists_of table.old)) }
+{
+    table.priorities.push(Priority { unit: 1, rows: 0 })?;
+    let slot = Slot {
+        owner: Owner::Level,
+        home: level,
+        weight: 1,
+        scale: 1,
+        rel: Rel::Eq,
+    };
+    let row = IntRow::empty(table.alloc);
+    push_slot(table, slot, None, Frac::zero(), row)
+}
+
+/// Puts a slot behind the last one.
+pub fn push_slot(
+    table: &mut Table,
+    slot: Slot,
+    side: Option<Side>,
+    value: Frac,
+    row: IntRow,
+) -> Result<(), OutOfMemory>
+    requires room { length table.old.matrix.rows < 2 ^ 32 }
+    requires columns { IsBelow (length table.old.matrix.rows + 1) row }
+    ensures past { HasSameHistory table.old table.new }
+    ensures lists { OnOk result (lists_of table.new
+        ≡ with_slot slot (record { side = side; value = value }) row (lists_of table.old)) }
+{
+    table.slots.push(slot)?;
+    table.standings.push(Standing { side, value })?;
+    table.matrix.push(row)
+}
+
+/// The number of the next slot, unless there are too many.
+pub fn next_slot(table: &Table) -> Result<u32, OutOfMemory>
+    ensures next { IfOk result (λ at. at ≡ length table.now.slots.items) }
+    ensures room { IfOk result (λ at. at + 2 < 2 ^ 32) }
+{
+    let at = table.slots.len();
+    if at >= MOST_SLOTS {
+        return Err(OutOfMemory);
+    }
+    Ok(at as u32)
+}
+
+/// Makes the lists of now their newest earlier versions.
+pub fn mark(table: &mut Table)
+    requires { AreAlike table.old }
+    ensures alike { AreAlike table.new }
+    ensures now { lists_of table.new ≡ lists_of table.old }
+    ensures before { lists_before table.new
+        ≡ take VERSION_LIMIT (lists_of table.old ∷ lists_before table.old) }
+{
+    table.rows.mark();
+    table.stays.mark();
+    table.slots.mark();
+    table.standings.mark();
+    table.matrix.mark();
+    table.attr_slots.mark();
+    table.row_slots.mark();
+    table.priorities.mark();
+}
+
+/// Goes back to the newest earlier versions.
+pub fn back(table: &mut Table)
+    requires alike { AreAlike table.old }
+    requires marked { 0 < length table.old.rows.before }
+    ensures alike { AreAlike table.new }
+    ensures before { lists_before table.old ≡ lists_of table.new ∷ lists_before table.new }
+{
+    table.rows.back();
+    table.stays.back();
+    table.slots.back();
+    table.standings.back();
+    table.matrix.back();
+    table.attr_slots.back();
+    table.row_slots.back();
+    table.priorities.back();
+}
+
+/// Forgets the oldest earlier versions.
+pub fn forget(table: &mut Table)
+    requires alike { AreAlike table.old }
+    requires marked { 0 < length table.old.rows.before }
+    ensures alike { AreAlike table.new }
+    ensures now { lists_of table.new ≡ lists_of table.old }
+    ensures before { lists_before table.new
+        ≡ take (length table.old.rows.before - 1) (lists_before table.old) }
+{
+    table.rows.forget();
+    table.stays.forget();
+    table.slots.forget();
+    table.standings.forget();
+    table.matrix.forget();
+    table.attr_slots.forget();
+    table.row_slots.forget();
+    table.priorities.forget();
+}
+
+/// Takes back what was done since the newest mark.
+pub fn rewind(table: &mut Table)
+    requires alike { AreAlike table.old }
+    requires marked { 0 < length table.old.rows.before }
+    ensures alike { AreAlike table.new }
+    ensures before { lists_before table.new ≡ lists_before table.old }
+    ensures now { (rest : List Lists) × (lists_before table.old ≡ lists_of table.new ∷ rest) }
+{
+    table.rows.rewind();
+    table.stays.rewind();
+    table.slots.rewind();
+    table.standings.rewind();
+    table.matrix.rewind();
+    table.attr_slots.rewind();
+    table.row_slots.rewind();
+    table.priorities.rewind();
+}

@@ -1,0 +1,12 @@
+-- What levels cost and count, which are in use, and what of them fits, as the lists have it.
+pub mod LevelNumberFacts
+pub mod LevelRowFacts
+pub mod LevelReadFacts
+pub mod LevelWrittenFacts
+pub mod LevelCostFacts
+pub mod LevelFrontFacts
+pub mod LevelUseFacts
+pub mod UsedLevels
+pub mod FittingRows
+pub mod FittingLoops
+pub mod GrowingFacts

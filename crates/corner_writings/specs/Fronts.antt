@@ -1,0 +1,19 @@
+-- The first level at which a mark's reduced cost isn't 0.
+use Rattle.std.specs.Prelude.{◌≢◌, List, pos}
+use Rattle.problem_core.specs.declared.parts.Mark.{Mark}
+use Rattle.problem_core.specs.declared.parts.Level.{Level}
+use Rattle.problem_core.specs.Layout.{Problem}
+use Rattle.corner_table.specs.Views.{IsInUse, IsReducedAt, IsStronger}
+use Rattle.corner_writings.specs.declared.levels.Front.{Front}
+
+-- the mark's reduced cost is not 0 at this level, and is 0 at each stronger one that is in use
+pub record IsFrontOf (p : Problem) (at : List Mark) (m : Mark) (f : Front) : Type 0 where
+  pub used : IsInUse p f.level
+  pub reduced : IsReducedAt p at f.level m f.reduced
+  pub nonzero : f.reduced ≢ pos 0
+  pub first : (level : Level) → IsInUse p level → IsStronger p level f.level
+      → IsReducedAt p at level m (pos 0)
+
+-- the mark's reduced cost is 0 at each level that is in use
+abbrev pub HasNoFront : Problem → List Mark → Mark → Type 0
+HasNoFront p at m = (level : Level) → IsInUse p level → IsReducedAt p at level m (pos 0)

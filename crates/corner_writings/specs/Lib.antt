@@ -1,0 +1,6 @@
+pub mod Fronts
+pub mod Entries
+pub mod Lows
+pub mod Growing
+pub mod Rows
+pub mod Fitting

@@ -1,0 +1,59 @@
+-- The lines whose marks have negative values.
+use Rattle.std.specs.Prelude.{◌≡◌, ◌⊎◌, ◌++◌, ◌∷◌, [], ℕ, ◌<◌, List, pos, ◌<ℤ◌, ◌≤ℤ◌, All}
+use Rattle.std.specs.Prelude.{Contains}
+use Rattle.std.specs.Prelude.{Some, None}
+use Rattle.std.specs.declared.option.Option.{Option}
+use Rattle.frac_core.specs.Fraction.{Fraction}
+use Rattle.problem_core.specs.declared.parts.Mark.{Mark}
+use Rattle.problem_core.specs.declared.parts.RowName.{RowName}
+use Rattle.problem_core.specs.declared.parts.Side.{Side}
+use Rattle.problem_core.specs.declared.stops.What.TheVariants.{Mark as MarkOf}
+use Rattle.problem_core.specs.Layout.{Problem}
+use Rattle.problem_core.specs.Corners.{IsIn, place}
+use Rattle.corner_table.specs.Views.{HasValueAt, IsNamed, IsOutside, MovesWith}
+use Rattle.corner_table.specs.Tables.{Lists, problem_of, slot_at, standing_at}
+use Rattle.corner_table.specs.Invariants.{name_of}
+
+-- the mark's value is not negative
+abbrev pub HasValueUp : Problem → List Mark → Mark → Type 0
+HasValueUp p at m = (f : Fraction) × (0 < f.den) × HasValueAt p at (place m) f × (pos 0 ≤ℤ f.num)
+
+-- the line is listed, or the value of the inside mark is not negative
+abbrev pub IsListedIfLow : Problem → List Mark → List RowName → Mark → Type 0
+IsListedIfLow p at names m = Contains names m.row ⊎ HasValueUp p at m
+
+-- the row's inside mark and those that move with its outside marks are of listed lines, if their values are
+-- negative
+pub record ListsLow (p : Problem) (at : List Mark) (row : RowName) (old new : List RowName) : Type 0 where
+  pub keeps : (name : RowName) → Contains old name → Contains new name
+  pub named : All (IsNamed p) old → All (IsNamed p) new
+  pub own : (m : Mark) → m.row ≡ row → IsIn (place m) at → IsListedIfLow p at new m
+  pub moved : (side : Side) → IsOutside p at (record { row = row; side = side }) → (m : Mark)
+      → MovesWith p at (record { row = row; side = side }) (MarkOf m) → IsListedIfLow p at new m
+
+-- ---- by slots
+
+-- there is a side
+abbrev pub HasSide : Option Side → Type 0
+HasSide None = ⊥
+HasSide (Some side) = Unit {0}
+
+-- the slot has an inside mark, whose value is negative
+abbrev pub IsLowSlot : Lists → ℕ → Type 0
+IsLowSlot t w = HasSide (standing_at t w).side × ((standing_at t w).value.num <ℤ pos 0)
+
+-- the name of what the slot is of
+abbrev pub name_at : Lists → ℕ → RowName
+name_at t w = name_of (slot_at t w).owner
+
+-- its line is at the end, if it has
+abbrev pub ListsSlot : Lists → ℕ → List RowName → List RowName → Type 0
+ListsSlot t w old new = (IsLowSlot t w × (new ≡ old ++ name_at t w ∷ []))
+    ⊎ ((IsLowSlot t w → ⊥) × (new ≡ old))
+
+-- the lines of those of the slots that have are listed, and no others are new
+pub record ListsSlots (t : Lists) (ws : List ℕ) (old new : List RowName) : Type 0 where
+  pub keeps : (name : RowName) → Contains old name → Contains new name
+  pub named : ((w : ℕ) → Contains ws w → IsLowSlot t w → IsNamed (problem_of t) (name_at t w))
+      → All (IsNamed (problem_of t)) old → All (IsNamed (problem_of t)) new
+  pub has : (w : ℕ) → Contains ws w → IsLowSlot t w → Contains new (name_at t w)

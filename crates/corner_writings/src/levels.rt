@@ -1,0 +1,291 @@
+// What is read of the writings of the levels' costs.
+pub(crate) mod fitting;
+pub(crate) mod growing;
+
+ghost use Rattle.std.specs.Prelude.{◌≡◌, ◌*ℤ◌, ◌<◌, ◌≤◌, length, All, AllPairs, Contains, IfSome, IfNone};
+ghost use Rattle.std.specs.Prelude.{OnOk};
+ghost use Rattle.std.specs.Prelude.{ℕ, [], None, true, false, ◌↔◌};
+ghost use Rattle.frac_core.specs.Fraction.{IsFitting};
+ghost use Rattle.problem_core.specs.declared.parts.Level as level_type;
+ghost use Rattle.problem_core.specs.Levels.{IsCostAt, IsLevelAt};
+ghost use Rattle.corner_lines.specs.LineEquations.{sign_of};
+ghost use Rattle.corner_writings.specs.Fitting as fitting;
+ghost use Rattle.corner_table.specs.Reads.LevelNumbers as numbers;
+ghost use Rattle.corner_table.specs.Reads.LevelNumbers.{IsCost, IsLevelSlot, IsLinesSlot, HasReducedAt};
+ghost use Rattle.corner_table.specs.Reads.LevelNumbers.{IsFirstInColumn, IsFirstSlot, IsLevelThere, IsNoneInColumn};
+ghost use Rattle.corner_table.specs.Reads.LevelNumbers.{IsSlotOfLevel, IsSlotOfLine, own_at, unit_at};
+ghost use Rattle.corner_table.specs.Kept.{AreSlots, HasCost, IsKept};
+ghost use Rattle.corner_table.specs.Tables as tables;
+ghost use Rattle.corner_table.specs.Tables.{lists_of, marks_at, problem_of};
+ghost use Rattle.corner_table.specs.Views.{IsInUse, IsLevelOf, IsMarkOf, IsStronger};
+ghost use Rattle.corner_writings.specs.Fronts.{HasNoFront, IsFrontOf};
+
+use corner_table::{
+    LEVELS, Slot, Table, cost_share, is_level, is_stay, level_of, level_slot, line_slot, own_of,
+    own_of_level, priority_at, priority_level, side_at, slot_at, unit_of, value_at,
+};
+use frac_core::{Frac, OutOfMemory};
+use problem_core::{Level, Mark, Side};
+
+/// The first level at which a mark's reduced cost is not 0, and this cost.
+#[derive(Clone, Copy, Debug, PartialEq, Eq)]
+pub struct Front {
+    pub level: Level,
+    pub reduced: i64,
+}
+
+/// The scale of the level at a slot.
+pub fn scale_at(table: &Table, l: u32) -> i64
+    requires kept { IsKept (lists_of table.now) }
+    requires level { IsLevelSlot (lists_of table.now) l }
+    ensures { result ≡ own_at (lists_of table.now) l *ℤ unit_at (lists_of table.now) l }
+{
+    level_own(table, l) * unit_of(table, slot_at(table, l))
+}
+
+/// The cost of the level at a slot.
+pub fn cost_at(table: &Table, l: u32) -> Frac
+    requires kept { IsKept (lists_of table.now) }
+    requires level { IsLevelSlot (lists_of table.now) l }
+    ensures { (k : ℕ) → IsSlotOfLevel (lists_of table.now) l k
+        → IsCostAt (problem_of (lists_of table.now)) (marks_at (lists_of table.now)) k result }
+{
+    value_at(table, l)
+}
+
+/// The number of the level's row, 1 where it has none.
+pub(crate) fn level_own(table: &Table, l: u32) -> i64
+    requires kept { IsKept (lists_of table.now) }
+    requires level { IsLevelSlot (lists_of table.now) l }
+    ensures value { result ≡ own_at (lists_of table.now) l }
+    ensures fits { IsFitting result }
+{
+    if is_level(l) {
+        own_of_level(table, l)
+    } else if side_at(table, l).is_some() {
+        own_of(table, l)
+    } else {
+        1
+    }
+}
+
+// The number with the sign of a mark of this side.
+fn signed(side: Side, number: i64) -> i64
+    requires { IsCost number }
+    ensures value { result ≡ sign_of side *ℤ number }
+    ensures small { IsCost result }
+{
+    match side {
+        Side::Under => -number,
+        Side::Over => number,
+    }
+}
+
+// The number of an outside line in the row of the level at a slot.
+fn outside_times(table: &Table, l: u32, line: u32) -> i64
+    requires slots { AreSlots (lists_of table.now) }
+    requires within { l < length table.now.slots.items }
+    ensures value { result ≡ numbers.outside_times (lists_of table.now) l line }
+    ensures fits { IsFitting result }
+{
+    if is_level(l) {
+        return -table.matrix.entry(l, line);
+    }
+    match side_at(table, l) {
+        Some(side) => -signed(side, table.matrix.entry(l, line)),
+        None => 0,
+    }
+}
+
+/// What a mark costs by itself at its line's level.
+pub(crate) fn own_cost(table: &Table, slot: Slot, side: Side) -> i64
+    requires kept { IsKept (lists_of table.now) }
+    requires line { IsLinesSlot (lists_of table.now) slot }
+    ensures value { result ≡ numbers.own_cost (lists_of table.now) slot side }
+    ensures small { IsCost result }
+{
+    level_own(table, slot.home) * cost_share(table, slot, side)
+}
+
+/// The multiplier of a line at the level at a slot.
+pub fn times_at(table: &Table, l: u32, line: u32) -> i64
+    requires kept { IsKept (lists_of table.now) }
+    requires level { IsLevelSlot (lists_of table.now) l }
+    requires line { IsSlotOfLine (lists_of table.now) line }
+    ensures value { result ≡ numbers.times_at (lists_of table.now) l line }
+    ensures small { IsCost result }
+{
+    let Some(side) = side_at(table, line) else {
+        return outside_times(table, l, line);
+    };
+    let slot = slot_at(table, line);
+    if slot.home == l {
+        -signed(side, own_cost(table, slot, side))
+    } else {
+        0
+    }
+}
+
+/// The reduced cost of the mark of a line's slot at the level at a slot.
+pub(crate) fn reduced_of(table: &Table, l: u32, line: u32, side: Side) -> i64
+    requires kept { IsKept (lists_of table.now) }
+    requires level { IsLevelSlot (lists_of table.now) l }
+    requires line { IsSlotOfLine (lists_of table.now) line }
+    ensures { result ≡ numbers.reduced_at (lists_of table.now) l line side }
+{
+    let slot = slot_at(table, line);
+    let rest = signed(side, times_at(table, l, line));
+    if slot.home == l {
+        own_cost(table, slot, side) + rest
+    } else {
+        rest
+    }
+}
+
+/// The reduced cost of a mark at the level at a slot.
+pub fn reduced_at(table: &Table, l: u32, mark: Mark) -> i64
+    requires kept { IsKept (lists_of table.now) }
+    requires level { IsLevelSlot (lists_of table.now) l }
+    requires mark { IsMarkOf (problem_of (lists_of table.now)) mark }
+    ensures { result ≡ numbers.reduced_at (lists_of table.now) l
+        (tables.line_slot (lists_of table.now) mark.row) mark.side }
+{
+    reduced_of(table, l, line_slot(table, mark.row), mark.side)
+}
+
+// Whether the slot's row is the cost of a level.
+fn has_cost(table: &Table, w: u32) -> bool
+    requires { w < length table.now.slots.items }
+    ensures { (result ≡ true) ↔ HasCost (lists_of table.now) w }
+{
+    is_level(w) || is_stay(table, w)
+}
+
+// The front with this reduced cost at the level of a slot.
+fn front_at(table: &Table, l: u32, reduced: i64) -> Front
+    requires kept { IsKept (lists_of table.now) }
+    requires within { l < length table.now.slots.items }
+    requires level { HasCost (lists_of table.now) l }
+    ensures level { IsLevelThere (lists_of table.now) l result.level }
+    ensures reduced { result.reduced ≡ reduced }
+{
+    Front {
+        level: level_of(table, l),
+        reduced,
+    }
+}
+
+// Whether the slot is that of a level at which the mark has a reduced cost.
+fn has_reduced(table: &Table, l: u32, line: u32, side: Side) -> bool
+    requires kept { IsKept (lists_of table.now) }
+    requires within { l < length table.now.slots.items }
+    requires line { IsSlotOfLine (lists_of table.now) line }
+    ensures { (result ≡ true) ↔ HasReducedAt (lists_of table.now) line side l }
+{
+    has_cost(table, l) && reduced_of(table, l, line, side) != 0
+}
+
+// The first of them in the line's column.
+fn first_in_column(table: &Table, line: u32, side: Side) -> Option<u32>
+    requires kept { IsKept (lists_of table.now) }
+    requires line { IsSlotOfLine (lists_of table.now) line }
+    ensures some { IfSome result (IsFirstInColumn (lists_of table.now) line side) }
+    ensures within { IfSome result (λ l. l < length table.now.slots.items) }
+    ensures none { IfNone result (IsNoneInColumn (lists_of table.now) line side) }
+{
+    for l in table.matrix.column(line) {
+        if has_reduced(table, *l, line, side) {
+            return Some(*l);
+        }
+    }
+    None
+}
+
+// The first slot of a level at which the mark has a reduced cost.
+fn first_slot(table: &Table, line: u32, side: Side) -> Option<u32>
+    requires kept { IsKept (lists_of table.now) }
+    requires line { IsSlotOfLine (lists_of table.now) line }
+    ensures some { IfSome result (IsFirstSlot (lists_of table.now) line side) }
+    ensures within { IfSome result (λ l. l < length table.now.slots.items) }
+    ensures none { IfNone result ((l : ℕ) → HasReducedAt (lists_of table.now) line side l → ⊥) }
+{
+    let home = slot_at(table, line).home;
+    let first = first_in_column(table, line, side);
+    if has_reduced(table, home, line, side) {
+        match first {
+            Some(l) if l < home => Some(l),
+            _ => Some(home),
+        }
+    } else {
+        first
+    }
+}
+
+/// The front of a mark, which an inside one has not.
+pub fn front_of(table: &Table, mark: Mark) -> Option<Front>
+    requires kept { IsKept (lists_of table.now) }
+    requires mark { IsMarkOf (problem_of (lists_of table.now)) mark }
+    ensures some { IfSome result
+        (IsFrontOf (problem_of (lists_of table.now)) (marks_at (lists_of table.now)) mark) }
+    ensures none { IfNone result
+        (HasNoFront (problem_of (lists_of table.now)) (marks_at (lists_of table.now)) mark) }
+{
+    let line = line_slot(table, mark.row);
+    let l = first_slot(table, line, mark.side)?;
+    Some(front_at(table, l, reduced_of(table, l, line, mark.side)))
+}
+
+/// Whether the first level is stronger.
+pub fn is_stronger(table: &Table, a: Level, b: Level) -> bool
+    requires kept { IsKept (lists_of table.now) }
+    requires a { IsLevelOf (problem_of (lists_of table.now)) a }
+    requires b { IsLevelOf (problem_of (lists_of table.now)) b }
+    ensures yes { result ≡ true → IsStronger (problem_of (lists_of table.now)) a b }
+    ensures no { result ≡ false → (j k : ℕ) → IsLevelAt (problem_of (lists_of table.now)) a j
+        → IsLevelAt (problem_of (lists_of table.now)) b k → k ≤ j }
+{
+    level_slot(table, a) < level_slot(table, b)
+}
+
+/// An exchange by slots: a line enters with a side, and a line leaves.
+#[derive(Clone, Copy, Debug, PartialEq, Eq)]
+pub struct Pair {
+    pub enter: u32,
+    pub side: Side,
+    pub leave: u32,
+}
+
+/// The side of a line after the exchange.
+pub(crate) fn side_after(table: &Table, pair: Pair, line: u32) -> Option<Side>
+    requires slots { AreSlots (lists_of table.now) }
+    requires within { line < length table.now.slots.items }
+    ensures { result ≡ fitting.side_after (lists_of table.now) pair line }
+{
+    if line == pair.enter {
+        Some(pair.side)
+    } else if line == pair.leave {
+        None
+    } else {
+        side_at(table, line)
+    }
+}
+
+/// The levels at which a row or a stay stands, strongest first.
+pub fn used(table: &Table, out: &mut Vec<Level>) -> Result<(), OutOfMemory>
+    requires kept { IsKept (lists_of table.now) }
+    requires empty { out.old.items ≡ [] }
+    ensures used { OnOk result (All (IsInUse (problem_of (lists_of table.now))) out.new.items) }
+    ensures all { OnOk result ((level : level_type.Level)
+        → IsInUse (problem_of (lists_of table.now)) level → Contains out.new.items level) }
+    ensures order { OnOk result (AllPairs (IsStronger (problem_of (lists_of table.now))) out.new.items) }
+{
+    for level in 0..LEVELS {
+        if priority_at(table, level).rows > 0 {
+            out.push(priority_level(level))?;
+        }
+    }
+    for stay in table.stays.as_slice() {
+        out.push(Level::Stay(stay.attr))?;
+    }
+    Ok(())
+}

@@ -1,0 +1,4 @@
+pub mod Asked
+pub mod FormatCauses
+pub mod Numbered
+pub mod Parents

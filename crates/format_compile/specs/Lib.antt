@@ -1,0 +1,10 @@
+pub mod Asks
+pub mod FormatFound
+pub mod FormatLines
+pub mod FormatParts
+pub mod FormatRefusals
+pub mod FormatRows
+pub mod FormatStops
+pub mod FormatViews
+pub mod FormatLaws
+pub mod Constants

@@ -1,0 +1,3 @@
+-- What goes of what is held: items and rows.
+pub mod LeavingItems
+pub mod LeavingRows

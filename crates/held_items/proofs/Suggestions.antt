@@ -1,0 +1,3 @@
+-- Suggestions: their items and rows.
+pub mod SuggestionItems
+pub mod SuggestionTerms

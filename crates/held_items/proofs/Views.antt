@@ -1,0 +1,3 @@
+-- Views that are there and views that come: their attributes and their rows.
+pub mod Attributes
+pub mod ViewRows

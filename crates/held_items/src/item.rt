@@ -1,0 +1,165 @@
+// What is held, apart from its rows.
+pub(crate) mod coming;
+pub(crate) mod leaving;
+pub(crate) mod moving;
+pub(crate) mod placing;
+pub(crate) mod rows;
+pub(crate) mod suggesting;
+
+ghost use Rattle.std.specs.Prelude.{◌≡◌, ◌∷◌, ◌≤◌, true, false, length, Some, None};
+ghost use Rattle.std.specs.Prelude.{IfSome, IfNone, OnSome, OnOk, OnErr};
+ghost use Rattle.held_items.specs.Items.{is_line, is_size, line_count, has_size, own_size, size_of};
+ghost use Rattle.held_items.specs.Items.{sized, resized};
+ghost use Rattle.held_items.specs.Kept.{item_of, items_of, size_in};
+ghost use Rattle.held_items.specs.declared.limits.TheConstants.{EARLIER};
+
+use crate::item::placing::put_item;
+use constraint_compile::{Compiled, Suggestion};
+use frac_core::{Frac, OutOfMemory};
+use name_tables::OwnedName;
+use version_list::VersionList;
+
+/// What a session holds rows for. A view is named by its number, the window's being 0.
+#[derive(Drop)]
+pub enum Item {
+    /// The window: its left and top are 0, its width and height at least 0.
+    OfWindow,
+    /// A view: its width and height are at least 0. Its two rows have the numbers from `first_row` on.
+    OfView {
+        first_row: u32,
+        id: u32,
+    },
+    /// The window's size. Its two rows have the numbers from `first_row` on.
+    Sized {
+        first_row: u32,
+        width: Frac,
+        height: Frac,
+    },
+    /// A line of a group.
+    OfLine {
+        group: OwnedName,
+        line: Compiled,
+    },
+    /// That an attribute of a view has a value.
+    Suggested(Suggestion),
+}
+
+/// The constants of the window's rows.
+#[derive(Clone, Copy, Debug, PartialEq, Eq)]
+pub struct WindowSize {
+    pub width: Frac,
+    pub height: Frac,
+}
+
+/// The window's size as it is held, with the number of the first of its two rows.
+#[derive(Clone, Copy, Debug, PartialEq, Eq)]
+pub struct HeldSize {
+    pub first_row: u32,
+    pub size: WindowSize,
+}
+
+fn is_line(item: &Item) -> bool
+    ensures { result ≡ is_line (item_of item.now) }
+{
+    matches!(item, Item::OfLine { .. })
+}
+
+fn is_size(item: &Item) -> bool
+    ensures { result ≡ is_size (item_of item.now) }
+{
+    matches!(item, Item::Sized { .. })
+}
+
+/// How many of the items are lines of groups.
+pub fn line_count(items: &[Item]) -> usize
+    ensures { result ≡ line_count (items_of items.now) }
+{
+    let mut count = 0;
+    for item in items {
+        if is_line(item) {
+            count += 1;
+        }
+    }
+    count
+}
+
+// The window's size, where the item is it.
+fn own_size(item: &Item) -> Option<HeldSize>
+    ensures some { IfSome result (λ s. own_size (item_of item.now) ≡ Some (size_in s)) }
+    ensures none { IfNone result (own_size (item_of item.now) ≡ None) }
+{
+    match item {
+        Item::Sized {
+            first_row,
+            width,
+            height,
+        } => Some(HeldSize {
+            first_row: *first_row,
+            size: WindowSize {
+                width: *width,
+                height: *height,
+            },
+        }),
+        Item::OfWindow | Item::OfView { .. } | Item::OfLine { .. } | Item::Suggested(_) => None,
+    }
+}
+
+/// The window's size, where one is held.
+pub fn size_of(items: &[Item]) -> Option<HeldSize>
+    ensures some { IfSome result (λ s. size_of (items_of items.now) ≡ Some (size_in s)) }
+    ensures none { IfNone result (size_of (items_of items.now) ≡ None) }
+{
+    for item in items {
+        if is_size(item) {
+            return own_size(item);
+        }
+    }
+    None
+}
+
+/// Whether the window's size is held.
+pub fn has_size(items: &[Item]) -> bool
+    ensures { result ≡ has_size (items_of items.now) }
+{
+    for item in items {
+        if is_size(item) {
+            return true;
+        }
+    }
+    false
+}
+
+// The item with these constants, if it is the window's size.
+fn sized(item: &Item, size: &WindowSize) -> Option<Item>
+    ensures some { IfSome result
+        (λ new. item_of new ≡ sized size.now.width size.now.height (item_of item.now)) }
+    ensures own { OnSome result (is_size (item_of item.now) ≡ true) }
+    ensures none { IfNone result (is_size (item_of item.now) ≡ false) }
+{
+    match item {
+        Item::Sized { first_row, .. } => Some(Item::Sized {
+            first_row: *first_row,
+            width: size.width,
+            height: size.height,
+        }),
+        Item::OfWindow | Item::OfView { .. } | Item::OfLine { .. } | Item::Suggested(_) => None,
+    }
+}
+
+/// Gives the window these constants in place of those that it has. The items of before are the newest earlier
+/// version. After want of memory all is as before.
+pub fn resize_first(items: &mut VersionList<Item>, size: &WindowSize) -> Result<(), OutOfMemory>
+    requires { length items.old.before ≤ EARLIER }
+    ensures items { OnOk result
+        (items_of items.new.items ≡ resized size.now.width size.now.height (items_of items.old.items)) }
+    ensures before { OnOk result (items.new.before ≡ items.old.items ∷ items.old.before) }
+    ensures same { OnErr result (items.new ≡ items.old) }
+{
+    items.mark();
+    for place in 0..items.len() {
+        if let Some(new) = sized(items.get(place), size) {
+            return put_item(items, place, new);
+        }
+    }
+    Ok(())
+}

@@ -1,0 +1,131 @@
+// The rows of what is held.
+ghost use Rattle.std.specs.Prelude.{◌≡◌, ◌∷◌, ◌<◌, ◌≤◌, ◌*◌, ◌+◌, [], All, IfOk};
+ghost use Rattle.problem_core.specs.declared.parts.Rel.TheVariants as rel;
+ghost use Rattle.problem_core.specs.declared.limits.TheConstants.{NUMBER_LIMIT};
+ghost use Rattle.problem_core.specs.Kept.{IsNumber, IsRow};
+ghost use Rattle.problem_core.specs.Window.{required_row, structural_rows};
+ghost use Rattle.view_tree.specs.declared.limits.TheConstants.{ID_LIMIT};
+ghost use Rattle.held_items.specs.declared.row_numbers.TheConstants.{VIEW_ROWS};
+ghost use Rattle.held_items.specs.Items.{rows_of_views, size_rows};
+ghost use Rattle.constraint_compile.specs.Compiled.{AreRowsNow, AreSmallForms};
+ghost use Rattle.constraint_compile.specs.Suggestions.{suggested_row, IsSuggestion};
+
+use crate::item::WindowSize;
+use crate::row_numbers::{HEIGHT_ROW, LEFT_ROW, TOP_ROW, VIEW_ROWS, WIDTH_ROW};
+use constraint_compile::{Compiled, Suggestion};
+use frac_core::{Frac, OutOfMemory, Stop};
+use name_tables::Metrics;
+use problem_core::{REQUIRED, Rel, Row, Term};
+use std::alloc::Global;
+use view_tree::ViewId;
+
+// The required row of one attribute, once.
+fn required(alloc: Global, id: u32, attr: u32, rel: Rel, constant: Frac) -> Result<Row, OutOfMemory>
+    requires id { IsNumber id }
+    requires attr { IsNumber attr }
+    ensures row { IfOk result (λ row. row ≡ required_row id attr rel constant) }
+    ensures kept { IfOk result IsRow }
+{
+    let _den = constant.den(); // for the proof: what a fraction keeps
+    let terms = [Term { attr, by: 1 }];
+    let row = Row::of(alloc, id, REQUIRED, 1, rel, 1, constant, &terms)?;
+    row.show_row(); // for the proof: what a row keeps
+    Ok(row)
+}
+
+// A list of two rows.
+fn pair(alloc: Global, one: Row, other: Row) -> Result<Vec<Row>, OutOfMemory>
+    ensures { IfOk result (λ rows. rows.items ≡ one ∷ other ∷ []) }
+{
+    let mut rows = Vec::new(alloc);
+    rows.push(one)?;
+    rows.push(other)?;
+    Ok(rows)
+}
+
+/// The rows that the window always has: its left and top are 0, its width and height at least 0.
+pub fn structural_rows(alloc: Global) -> Result<Vec<Row>, OutOfMemory>
+    ensures rows { IfOk result (λ rows. rows.items ≡ structural_rows) }
+    ensures each { IfOk result (λ rows. All IsRow rows.items) }
+{
+    let attrs = ViewId(0).attributes();
+    let mut rows = Vec::new(alloc);
+    rows.push(required(alloc, LEFT_ROW, attrs.left, Rel::Eq, Frac::zero())?)?;
+    rows.push(required(alloc, TOP_ROW, attrs.top, Rel::Eq, Frac::zero())?)?;
+    rows.push(required(alloc, WIDTH_ROW, attrs.width, Rel::Ge, Frac::zero())?)?;
+    rows.push(required(alloc, HEIGHT_ROW, attrs.height, Rel::Ge, Frac::zero())?)?;
+    Ok(rows)
+}
+
+/// The rows of so many views. The first has these numbers of its first row and its own.
+pub fn view_rows(
+    alloc: Global,
+    first_row: u32,
+    id: u32,
+    count: u32,
+) -> Result<Vec<Row>, OutOfMemory>
+    requires first_row { 0 < first_row }
+    requires rows { first_row + VIEW_ROWS * count ≤ NUMBER_LIMIT }
+    requires ids { id + count ≤ ID_LIMIT }
+    ensures rows { IfOk result (λ rows. rows.items ≡ rows_of_views first_row id count) }
+    ensures each { IfOk result (λ rows. All IsRow rows.items) }
+{
+    let mut rows = Vec::new(alloc);
+    let mut row = first_row;
+    let mut next = id;
+    let mut left = count;
+    while left > 0 {
+        let attrs = ViewId(next).attributes();
+        let width = required(alloc, row, attrs.width, Rel::Ge, Frac::zero())?;
+        let height = required(alloc, row + 1, attrs.height, Rel::Ge, Frac::zero())?;
+        rows.push(width)?;
+        rows.push(height)?;
+        row += VIEW_ROWS;
+        next += 1;
+        left -= 1;
+    }
+    Ok(rows)
+}
+
+/// The rows of the window's size.
+pub fn size_rows(alloc: Global, first_row: u32, size: &WindowSize) -> Result<Vec<Row>, OutOfMemory>
+    requires { (0 < first_row) × (first_row < NUMBER_LIMIT) }
+    ensures rows { IfOk result
+        (λ rows. rows.items ≡ size_rows first_row size.now.width size.now.height) }
+    ensures each { IfOk result (λ rows. All IsRow rows.items) }
+{
+    let attrs = ViewId(0).attributes();
+    let width = required(alloc, first_row, attrs.width, Rel::Eq, size.width)?;
+    let height = required(alloc, first_row + 1, attrs.height, Rel::Eq, size.height)?;
+    pair(alloc, width, height)
+}
+
+/// The row of a suggestion, in a list.
+pub fn suggestion_rows(alloc: Global, suggestion: &Suggestion) -> Result<Vec<Row>, OutOfMemory>
+    requires { IsSuggestion suggestion.now }
+    ensures rows { IfOk result (λ rows. rows.items ≡ suggested_row suggestion.now ∷ []) }
+    ensures each { IfOk result (λ rows. All IsRow rows.items) }
+{
+    let row = suggestion.row(alloc)?;
+    row.show_row(); // for the proof: what a row keeps
+    let mut rows = Vec::new(alloc);
+    rows.push(row)?;
+    Ok(rows)
+}
+
+/// The rows of a line, whose constants are small for these metrics after each term.
+pub fn small_line_rows(
+    alloc: Global,
+    line: &Compiled,
+    metrics: &Metrics,
+) -> Result<Vec<Row>, OutOfMemory>
+    requires { AreSmallForms metrics.now line.now.rows }
+    ensures rows { IfOk result (λ rows. AreRowsNow metrics.now line.now.rows rows.items) }
+    ensures each { IfOk result (λ rows. All IsRow rows.items) }
+{
+    match line.rows_now(alloc, metrics) {
+        Ok(rows) => Ok(rows),
+        Err(Stop::OutOfMemory) => Err(OutOfMemory),
+        Err(Stop::Refused(_)) => unreachable!(),
+    }
+}

@@ -1,0 +1,42 @@
+//! What a session holds, and the rows that this stands for.
+//!
+//! An [`Item`] is the window, a view, the window's size, a line of a group, or a suggestion. The items stand in
+//! order of acceptance in a list with earlier versions ([`VersionList`](version_list::VersionList)); the
+//! numbers of their rows rise in that order.
+//!
+//! ```
+//! push_views(&mut items, 5, 1, 1)?;             // the first view, ViewId(1), whose rows are 5 and 6
+//! view_rows(alloc, 5, 1, 1)?;                   // width and height are at least 0
+//! push_item(&mut items, Item::OfLine { group, line })?; // a line of the group `g`
+//! let leaver = Leaver::Group(b"g");
+//! leaving_numbers(alloc, items.as_slice(), leaver)?; // the numbers of the rows of that group's lines
+//! take_leaving_out(&mut items, leaver)?;        // what was held before is the newest earlier version
+//! ```
+//!
+//! A contract sees an item without its code (`item_of`): what it keeps (`IsItem`), its rows at given metrics
+//! (`AreItemRows`, `AreRows`), and its numbers (`item_numbers`). No function here sees a scene, an engine or a
+//! reply: those who keep a scene have the items change with the engine's rows.
+//!
+//! What always holds: after want of memory the items are as before; after a change those of before are the
+//! newest earlier version; and what changes the constants of rows says so of each row whose constant changes.
+//!
+//! In reading order: `limits`, `row_numbers`, `changes` (how far a constant moves); `item` is what is held,
+//! with `rows` (its rows), and with what a change does to it: `placing` (one item more, another one, or one
+//! less), `coming` (views), `leaving`, `moving` (metrics) and `suggesting`.
+#![tactic(auto)]
+
+mod changes;
+mod item;
+mod limits;
+mod row_numbers;
+
+pub use changes::{fits_after, is_near_size, size_changes};
+pub use item::coming::{NewViews, attributes_from, push_views, view_attributes};
+pub use item::leaving::{Leaver, attributes_in, has_group, leaving_numbers, take_leaving_out};
+pub use item::moving::{constants_naming, moves};
+pub use item::placing::push_item;
+pub use item::rows::{size_rows, small_line_rows, structural_rows, suggestion_rows, view_rows};
+pub use item::suggesting::{NewSuggestion, suggest_again, suggestion_name, suggestion_of};
+pub use item::{HeldSize, Item, WindowSize, has_size, line_count, resize_first, size_of};
+pub use limits::{EARLIER, MOST_ROWS, constants_are_as_said};
+pub use row_numbers::{FIRST_FREE_ROW, SIZE_ROWS, VIEW_ROWS};

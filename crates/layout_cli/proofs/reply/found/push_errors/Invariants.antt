@@ -1,6 +1,0 @@
-use Rattle.std.proofs.Common.{◌≡◌, ◌++◌, take, flat_map}
-use Rattle.layout_cli.specs.Found.{error_line}
-use Rattle.layout_cli.proofs.reply.found.push_errors.Given as goal
-
-abbrev pub invariant-loop-error : goal.invariant-loop-error
-invariant-loop-error l = l.out.items ≡ l.fn.out.items ++ flat_map error_line (take l.error-index l.errors)

@@ -1,7 +1,0 @@
-use Rattle.layout_cli.specs.Found.{moving_line}
-use Rattle.layout_cli.proofs.Texts.{texts_next}
-use Rattle.layout_cli.proofs.reply.found.push_movings.Goals as goal
-
-pub loop-attr-preserved : goal.loop-attr-preserved
-loop-attr-preserved c =
-    texts_next (moving_line c.args.tree.now.views) c.args.out.now.items c.loop-attr.out.items c.push_moving.new.out.items c.args.moving.now c.loop-attr.attr-index c.attr-item.result c.loop-attr-test.true c.attr-item.is c.loop-attr.invariant c.in_ok-push_moving.ensures

@@ -1,6 +1,0 @@
-use Rattle.std.proofs.Common.{◌≡◌, ◌++◌, take, flat_map}
-use Rattle.layout_cli.specs.Found.{unmet_line}
-use Rattle.layout_cli.proofs.reply.found.push_unmets.Given as goal
-
-abbrev pub invariant-loop-row : goal.invariant-loop-row
-invariant-loop-row l = l.out.items ≡ l.fn.out.items ++ flat_map unmet_line (take l.row-index l.unmet)

@@ -1,0 +1,11 @@
+use Rattle.std.proofs.Common.{◌≡◌, ◌++◌, List, ℕ}
+use Rattle.std.specs.Str.Lines.{lines}
+use Rattle.span_text.specs.TextCuts.Lines.{lines_left}
+use Rattle.problem_reading.specs.Problems.{AreStayAttributes}
+use Rattle.problem_reading.proofs.problem.attributes.attributes_in_order.Given as goal
+
+abbrev pub invariant-loop-line : goal.invariant-loop-line
+invariant-loop-line l =
+    (goal.iterator-loop-line).can_next l.line-iterator
+    × (goal.iterator-loop-line).is_finite l.line-iterator
+    × ((before : List (List ℕ)) × (lines l.text ≡ before ++ lines_left l.line-iterator) × AreStayAttributes before l.attrs.items)

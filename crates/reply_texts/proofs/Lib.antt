@@ -1,0 +1,4 @@
+pub mod EachView
+pub mod Texts
+pub mod Printed
+pub mod AttrNames

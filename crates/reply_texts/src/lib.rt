@@ -1,0 +1,30 @@
+//! The text of replies: what is written of the answer to a line, accepted or refused.
+//!
+//! ```
+//! // the session has answered the line `frames`
+//! reply_text(&session, &reply, &mut text)?; // appended is `frame window 0 0 320 480`, `ok`
+//! print_frames(&session, &mut sink)?;       // the same, straight to a sink, and without memory
+//! ```
+//!
+//! [`reply_text`] appends the lines of a reply, [`print_frames`] puts those of `frames` into a sink,
+//! [`push_at`] appends the line of one frame, and [`push_line`] a line of bytes and a word. Nothing here
+//! reads, and nothing changes a session.
+//!
+//! What always holds: a refusal for want of memory has no text; a change's reply has [`OK_LENGTH`] bytes, and
+//! where there is room for these its text is appended.
+//!
+//! In reading order: `frames`, `names` (the attributes by their names), `found` (what a scene lacks, and
+//! probes), `refusals`, `reply`; `printing` (frames straight to a sink).
+#![tactic(auto)]
+
+mod found;
+mod frames;
+mod names;
+mod printing;
+mod refusals;
+mod reply;
+
+pub use frames::push_at;
+pub use printing::print_frames;
+pub use refusals::push_line;
+pub use reply::{OK_LENGTH, reply_text};

@@ -1,0 +1,107 @@
+// The text of replies.
+ghost use Rattle.std.specs.Prelude.{◌≡◌, ◌≤◌, ◌+◌, ◌++◌, IfOk, OnOk, IsOk, codes, vec_len};
+ghost use Rattle.std.specs.Prelude.{vec_capacity};
+ghost use Rattle.std.specs.List.{flat_map};
+ghost use Rattle.reply_texts.specs.Replies.{text_of, frames_text, rows_text, name_lines};
+ghost use Rattle.reply_texts.specs.Replies.{certificate_text, diagnosis_text, line_of};
+ghost use Rattle.diagnosis.specs.Diagnoses.{findings_of};
+ghost use Rattle.session_undo.specs.Replies.{accepted, IsChange, Tells};
+ghost use Rattle.reply_texts.specs.declared.reply.TheConstants.{OK_LENGTH};
+ghost use Rattle.session_undo.specs.declared.reply.Reply.TheVariants.{Done};
+
+use crate::found::push_found;
+use crate::frames::push_frames;
+use crate::names::put_names;
+use crate::refusals::push_refusal;
+use cert_core::Best;
+use claim_writing::{best_text, rows_text};
+use diagnosis::Diagnosis;
+use frac_core::OutOfMemory;
+use session_undo::{Refusal, Reply, Session};
+
+/// The length of the reply to a change: `ok` and the end of the line.
+pub const OK_LENGTH: usize = 3;
+
+fn push_ok(out: &mut Vec<u8>) -> Result<(), OutOfMemory>
+    ensures text { IfOk result (λ _. out.new.items ≡ out.old.items ++ line_of (codes "ok")) }
+    ensures room { vec_len out.old + OK_LENGTH ≤ vec_capacity out.old → IsOk result }
+{
+    out.extend_from_slice(b"ok\n")?;
+    Ok(())
+}
+
+fn push_names(session: &Session, out: &mut Vec<u8>) -> Result<(), OutOfMemory>
+    ensures { IfOk result (λ _. out.new.items ≡ out.old.items
+        ++ flat_map name_lines session.now.scene.tree.views) }
+{
+    let mut text = String::new(*out.allocator());
+    put_names(&mut text, session.state().tree())?;
+    out.extend_from_slice(text.as_bytes())?;
+    Ok(())
+}
+
+fn show_frames(session: &Session, out: &mut Vec<u8>) -> Result<(), OutOfMemory>
+    ensures { IfOk result (λ _. out.new.items ≡ out.old.items ++ frames_text session.now.scene) }
+{
+    push_frames(out, session.state())?;
+    push_ok(out)
+}
+
+fn show_rows(session: &Session, out: &mut Vec<u8>) -> Result<(), OutOfMemory>
+    ensures { IfOk result (λ _. out.new.items ≡ out.old.items ++ rows_text session.now.scene) }
+{
+    push_names(session, out)?;
+    rows_text(session.engine().rows(), session.engine().stays(), out)?;
+    push_ok(out)
+}
+
+fn show_certificate(session: &Session, best: &Best, out: &mut Vec<u8>) -> Result<(), OutOfMemory>
+    ensures { IfOk result (λ _. out.new.items
+        ≡ out.old.items ++ certificate_text session.now.scene best.now) }
+{
+    push_names(session, out)?;
+    rows_text(session.engine().rows(), session.engine().stays(), out)?;
+    best_text(&session.values()?, best, out)?;
+    push_ok(out)
+}
+
+fn show_found(session: &Session, found: &Diagnosis, out: &mut Vec<u8>) -> Result<(), OutOfMemory>
+    ensures { IfOk result (λ _. out.new.items
+        ≡ out.old.items ++ diagnosis_text session.now.scene (findings_of found.now)) }
+{
+    push_found(out, session.state().tree(), found)?;
+    push_ok(out)
+}
+
+// Appends the text of the reply to an accepted line.
+fn push_reply(session: &Session, reply: &Reply, out: &mut Vec<u8>) -> Result<(), OutOfMemory>
+    ensures text { IfOk result (λ _. out.new.items
+        ≡ out.old.items ++ text_of session.now.scene (accepted reply.now)) }
+    ensures room { reply.now ≡ Done → vec_len out.old + OK_LENGTH ≤ vec_capacity out.old → IsOk result }
+{
+    match reply {
+        Reply::Silent => Ok(()),
+        Reply::Done => push_ok(out),
+        Reply::Frames => show_frames(session, out),
+        Reply::Rows => show_rows(session, out),
+        Reply::Certificate(best) => show_certificate(session, best, out),
+        Reply::Diagnosed(found) => show_found(session, found, out),
+    }
+}
+
+/// Appends the lines of the reply to a command of the session; there are none for want of memory. Where a
+/// change was made, room for [`OK_LENGTH`] bytes is enough.
+pub fn reply_text(
+    session: &Session,
+    reply: &Result<Reply, Refusal>,
+    out: &mut Vec<u8>,
+) -> Result<(), OutOfMemory>
+    ensures text { OnOk result (Tells (λ told. out.new.items
+        ≡ out.old.items ++ text_of session.now.scene told) reply.now) }
+    ensures room { IsChange reply.now → vec_len out.old + OK_LENGTH ≤ vec_capacity out.old → IsOk result }
+{
+    match reply {
+        Ok(reply) => push_reply(session, reply, out),
+        Err(refusal) => push_refusal(session.state().tree(), refusal, out),
+    }
+}

@@ -1,0 +1,99 @@
+-- The first session.
+use Rattle.std.proofs.Common.{◌≡◌, ℕ, List, [], ◌∷◌, refl, ap, ap₂, ◌∙◌, subst, sym, lit<, pos, ◌<◌, ◌-◌, length, take, arith}
+use Rattle.std.specs.Prelude.{◌*ℤ◌}
+use Rattle.std.proofs.lemmas.List.Elements.{All-from_recursion}
+use Rattle.frac_core.specs.Fraction.{Fraction, IsLowest}
+use Rattle.problem_core.specs.Window.{structural_rows}
+use Rattle.problem_core.specs.Layout.{Problem, Assignment, IsProblem, lines}
+use Rattle.problem_core.proofs.Best.WindowRows.{first-IsBest}
+use Rattle.view_tree.specs.Views.{ViewTree, window}
+use Rattle.compile_parts.specs.Meaning.{MetricList}
+use Rattle.layout_solver.specs.Layouts.{Layout, Solution, AreBest, solution_of, stays_at}
+use Rattle.held_items.specs.Items.{OfWindow}
+use Rattle.version_list.specs.Versions.{Versions}
+use Rattle.held_items.specs.declared.item.Item as declared
+use Rattle.held_items.specs.declared.item.Item.TheVariants as kind
+use Rattle.scenes.specs.declared.scene.past.Past.{Past}
+use Rattle.scenes.specs.Scene.{Scene, new_values, first_scene}
+use Rattle.held_items.specs.Attributes.{IsCounted}
+use Rattle.scenes.specs.Kept.{AreAlike, IsKept, IsKeptHistory, history_at, scene_at}
+use Rattle.held_items.specs.Kept.{IsItem, IsNamed}
+use Rattle.scenes.proofs.Engines.BestValues.{best-unique}
+use Rattle.problem_core.proofs.Sides.{zero-lowest as zero-IsLowest}
+
+abbrev pub first_problem : Problem
+first_problem = record { rows = structural_rows; stays = stays_at (new_values 0) }
+
+abbrev nothing : Assignment
+nothing = record { den = 1; num = λ v. pos 0; positive = lit< tt }
+
+pub first-AreBest : AreBest first_problem (new_values 0)
+first-AreBest = record {
+  attributes = refl;
+  lowest = All-from_recursion (λ v. IsLowest v.1) (new_values 0) (zero-IsLowest, (zero-IsLowest, (zero-IsLowest, (zero-IsLowest, tt))));
+  best = (
+    nothing,
+    first-IsBest (stays_at (new_values 0)) (refl, All-from_recursion (λ s. 0 < s.target.den) (stays_at (new_values 0)) (lit< tt, (lit< tt, (lit< tt, (lit< tt, tt)))))
+        (All-from_recursion (λ s. s.target.num ≡ pos 0) (stays_at (new_values 0)) (refl, (refl, (refl, (refl, tt))))) nothing
+        (All-from_recursion (λ v. nothing.num v.0 *ℤ pos v.1.den ≡ v.1.num *ℤ pos nothing.den) (new_values 0) (refl, (refl, (refl, (refl, tt))))),
+    All-from_recursion (λ v. nothing.num v.0 *ℤ pos v.1.den ≡ v.1.num *ℤ pos nothing.den) (new_values 0) (refl, (refl, (refl, (refl, tt)))),
+  );
+}
+
+first-IsProblem : IsProblem first_problem
+first-IsProblem =
+    All-from_recursion (λ l. (0 < l.scale) × (0 < l.den)) (lines first_problem)
+    ((lit< tt, lit< tt), ((lit< tt, lit< tt), ((lit< tt, lit< tt), ((lit< tt, lit< tt), ((lit< tt, lit< tt), ((lit< tt, lit< tt), ((lit< tt, lit< tt), ((lit< tt, lit< tt), tt))))))))
+
+-- the values of a layout of the first problem
+first-values : (l : Layout) → l.problem ≡ first_problem → AreBest l.problem l.values → l.values ≡ new_values 0
+first-values l is best = best-unique first_problem first-IsProblem l.values (new_values 0) (subst (λ (p : Problem). AreBest p l.values) is best) first-AreBest
+
+abbrev pub first_tree : ViewTree
+first_tree = record { views = window ∷ []; next = 1 }
+
+pub first-is : (t : ViewTree) (l : Layout) → t ≡ first_tree → l.problem ≡ first_problem → AreBest l.problem l.values → scene_at t [] (OfWindow ∷ []) 5 l ≡ first_scene
+first-is t l t_is is best =
+    ap (λ (u : ViewTree). scene_at u [] (OfWindow ∷ []) 5 l) t_is
+    ∙ ap₂ (λ (p : Problem) (vs : List (ℕ × Fraction)). scene_at first_tree [] (OfWindow ∷ []) 5 (record l { problem = p; values = vs })) is (first-values l is best)
+
+pub first-kept : (t : ViewTree) (l : Layout) → l.problem ≡ first_problem → IsCounted t.views 5 l.problem → IsKept (scene_at t [] (OfWindow ∷ []) 5 l)
+first-kept t l is counted = record {
+  are_rows = (structural_rows, [], ap (λ (p : Problem). p.rows) is, refl, refl);
+  each = All-from_recursion IsItem (OfWindow ∷ []) (tt, tt);
+  named = All-from_recursion (IsNamed t.views) (OfWindow ∷ []) (tt, tt);
+  next = lit< tt;
+  top = omega arith;
+  counted = counted;
+}
+
+-- ---- with no scene before it
+
+abbrev pub versions : List declared.Item → List (List declared.Item) → Versions declared.Item
+versions items before = record { items = items; before = before }
+
+abbrev pub first_items : Versions declared.Item
+first_items = record { items = kind.OfWindow ∷ []; before = [] }
+
+pub first-history : (t : ViewTree) (ms : MetricList) (items : Versions declared.Item) (l : Layout) (pasts : List Past) → t ≡ first_tree → ms ≡ [] → items ≡ first_items → l.problem ≡ first_problem → AreBest l.problem l.values
+    → history_at t ms items 5 l pasts ≡ record { scene = first_scene; earlier = [] }
+first-history t ms items l pasts t_is ms_is items_is is best =
+    ap (λ (m : MetricList). history_at t m items 5 l pasts) ms_is
+    ∙ ap (λ (v : Versions declared.Item). history_at t [] v 5 l pasts) items_is
+    ∙ ap (λ (s : Scene). record { scene = s; earlier = [] }) (first-is t l t_is is best)
+
+pub first-history-kept : (t : ViewTree) (ms : MetricList) (items : Versions declared.Item) (l : Layout) (pasts : List Past) → ms ≡ [] → items ≡ first_items → l.problem ≡ first_problem → IsCounted t.views 5 l.problem
+    → IsKeptHistory (history_at t ms items 5 l pasts)
+first-history-kept t ms items l pasts ms_is items_is is counted =
+    subst (λ (m : MetricList). IsKeptHistory (history_at t m items 5 l pasts)) (sym ms_is)
+    (subst (λ (v : Versions declared.Item). IsKeptHistory (history_at t [] v 5 l pasts)) (sym items_is)
+    (record { scene = first-kept t l is counted; earlier = All-from_recursion IsKept [] tt }))
+
+pub first-alike : (items : List (List declared.Item)) (solutions : List Solution) (pasts : List Past) → items ≡ [] → solutions ≡ [] → pasts ≡ [] → AreAlike items solutions pasts
+first-alike items solutions pasts no_items no_solutions no_pasts =
+    rw (no_items, no_solutions, no_pasts) (record { items = refl; solutions = refl; few = omega arith })
+
+-- the layout of no attribute is forgotten
+pub first-forgotten : (before : Layout) (run earlier : List Solution) → before.earlier ≡ [] → run ≡ solution_of before ∷ before.earlier → earlier ≡ take (length run - 1) run → earlier ≡ []
+first-forgotten before run earlier none run_is earlier_is =
+    earlier_is ∙ ap (λ (ss : List Solution). take (length ss - 1) ss) (run_is ∙ ap (λ (ss : List Solution). solution_of before ∷ ss) none)

@@ -1,0 +1,10 @@
+pub mod Diagnosed
+pub mod Engines
+pub mod First
+pub mod Histories
+pub mod KeptScenes
+pub mod MetricChanges
+pub mod NextItems
+pub mod Removals
+pub mod SuggestionScenes
+pub mod Views

@@ -1,0 +1,140 @@
+-- What the engine's answers come to where an item more is held, and which items may be held next.
+use Rattle.std.proofs.Common.{◌≡◌, ◌∙◌, ℕ, ◌+◌, ◌<◌, ◌≤◌, false, List, [], ◌∷◌, ◌++◌, length, All, refl, sym, ap, subst, arith}
+use Rattle.std.proofs.lemmas.List.{append-nil}
+use Rattle.std.proofs.lemmas.List.Elements.{All-from_recursion}
+use Rattle.frac_core.specs.Fraction.{Fraction}
+use Rattle.problem_core.specs.declared.limits.TheConstants.{NUMBER_LIMIT}
+use Rattle.problem_core.specs.Kept.{IsRow, IsWhole}
+use Rattle.problem_core.specs.Layout.{Row, Problem}
+use Rattle.cert_core.specs.Paths.{Path}
+use Rattle.cert_core.specs.declared.stops.RunStop.{RunStop}
+use Rattle.view_tree.specs.Views.{ViewTree, IsTree}
+use Rattle.constraint_compile.specs.Compiled.{AreRowsNow, CompiledLine}
+use Rattle.compile_parts.specs.Meaning.{MetricList}
+use Rattle.constraint_compile.specs.Suggestions.{suggested_row}
+use Rattle.constraint_compile.specs.declared.suggestion.Suggestion.{Suggestion}
+use Rattle.layout_solver.specs.Begins.{IsRunFrom, IsStopFrom}
+use Rattle.layout_solver.specs.Layouts.{Layout, AreBest, IsKeptLayout, stays_at, with_added, zeros}
+use Rattle.held_items.specs.declared.limits.TheConstants.{MOST_ROWS}
+use Rattle.scenes.specs.Drafts.{IsNextSuggestion}
+use Rattle.scenes.specs.Steps.{RunStopsAt, from_corner}
+use Rattle.held_items.specs.Attributes.{IsNextLine, all_attributes}
+use Rattle.held_items.specs.Items.{AreRows, Item, OfLine, Sized, Suggested, has_size, size_rows}
+use Rattle.held_items.specs.Kept.{IsItem, IsNamed}
+use Rattle.scenes.specs.Kept.{IsKept, IsNextItem, scene_at}
+use Rattle.scenes.specs.Steps.{IsProblemOf, IsSolved}
+use Rattle.scenes.specs.Scene.{Scene, with_item, with_window}
+use Rattle.scenes.proofs.Engines.Additions.{counted-added, rows-whole}
+use Rattle.held_items.proofs.HeldRows.RequiredRows.{size-may}
+use Rattle.held_items.proofs.HeldRows.ItemRows.{all-more, rows-more}
+use Rattle.held_items.proofs.HeldRows.NextRows.{line-below, line-may}
+use Rattle.held_items.proofs.HeldRows.Ranks.{HasRank, ranks-now, size-ranked}
+use Rattle.scenes.proofs.Engines.Reached.{settled}
+use Rattle.scenes.proofs.Engines.Solved.{kept-start, solved-at, still, stops-at}
+use Rattle.scenes.proofs.SuggestionScenes.{suggestion-own}
+use Rattle.held_items.proofs.Suggestions.SuggestionTerms.{suggestion-may}
+use Rattle.scenes.proofs.Removals.LeavingScenes.{rows_is, stays_is}
+
+module _ (tree : ViewTree) (ms : MetricList) (held : List Item) (next : ℕ) (l : Layout) (kept : IsKept (scene_at tree ms held next l)) (sound : IsKeptLayout l)
+    (item : Item) (more : List Row) (fits : IsNextItem (scene_at tree ms held next l) item more) where
+  pub item-whole : IsWhole (with_added l [] more)
+  item-whole = rows-whole tree.views next l more (settled l sound) kept.counted fits.may fits.room
+
+  with-rows : (rows : List Row) → rows ≡ l.problem.rows ++ more → AreRows ms (held ++ item ∷ []) rows
+  with-rows rows joined = subst (AreRows ms (held ++ item ∷ [])) (sym joined) (rows-more ms held item l.problem.rows more kept.are_rows fits.own)
+
+  pub item-stops : (budget : ℕ) (stop : RunStop) → IsStopFrom (from_corner l more) (with_added l [] more) budget stop
+      → RunStopsAt (scene_at tree ms held next l) (with_item (scene_at tree ms held next l) item (length more)) budget stop
+  item-stops budget stop stops =
+      stops-at (scene_at tree ms held next l) (with_item (scene_at tree ms held next l) item (length more)) (l.problem.rows ++ more) (from_corner l more) (stays_at (l.values ++ zeros [])) budget stop
+      (with-rows (l.problem.rows ++ more) refl) (still tree ms held next l kept sound)
+      (kept-start tree ms held next l kept sound (l.problem.rows ++ more) more refl) stops
+
+  pub item-solved : (items : List Item) (new : Layout) (budget : ℕ) → new.problem ≡ with_added l [] more → AreBest new.problem new.values
+      → (path : Path) × IsRunFrom (from_corner l more) new.problem budget path new.values → items ≡ held ++ item ∷ []
+      → (path : Path) × IsSolved (scene_at tree ms held next l) (with_item (scene_at tree ms held next l) item (length more)) budget path (scene_at tree ms items (next + length more) new)
+  item-solved items new budget done best runs items_is =
+      solved-at (scene_at tree ms held next l) (with_item (scene_at tree ms held next l) item (length more)) items (next + length more) new (from_corner l more) budget items_is refl
+      (stays_is new.problem (with_added l [] more) done ∙ sym (still tree ms held next l kept sound))
+      (with-rows new.problem.rows (rows_is new.problem (with_added l [] more) done))
+      best (kept-start tree ms held next l kept sound new.problem.rows more (rows_is new.problem (with_added l [] more) done)) runs
+
+  pub item-kept : (items : List Item) (new : Layout) → new.problem ≡ with_added l [] more → items ≡ held ++ item ∷ [] → next + length more ≤ NUMBER_LIMIT
+      → IsKept (scene_at tree ms items (next + length more) new)
+  item-kept items new done items_is small =
+      subst (λ (hs : List Item). IsKept (scene_at tree ms hs (next + length more) new)) (sym items_is)
+      (record {
+        are_rows = with-rows new.problem.rows (rows_is new.problem (with_added l [] more) done);
+        each = all-more IsItem held item kept.each fits.is;
+        named = all-more (IsNamed tree.views) held item kept.named fits.named;
+        next = omega (arith, kept.next);
+        top = small;
+        counted = counted-added tree.views tree.views next (next + length more) l [] more new.problem (settled l sound).attributes kept.counted
+            (sym (append-nil (all_attributes tree.views))) fits.below fits.ranks (omega arith) fits.room done;
+      })
+
+  pub item-posed : (p : Problem) → p ≡ with_added l [] more → IsProblemOf (with_item (scene_at tree ms held next l) item (length more)) p
+  item-posed p made = (
+    with-rows p.rows (rows_is p (with_added l [] more) made),
+    stays_is p (with_added l [] more) made ∙ sym (still tree ms held next l kept sound),
+  )
+
+-- ---- the draft with an item more
+
+-- the window's first size
+pub size-draft : (scene : Scene) (w h : Fraction) (more : List Row) → has_size scene.held ≡ false → more ≡ size_rows scene.next_row w h
+    → with_item scene (Sized scene.next_row w h) (length more) ≡ with_window scene w h
+size-draft scene w h more none are = ap (λ (rows : List Row). with_item scene (Sized scene.next_row w h) (length rows)) are ∙ sym (first scene w h none)
+  where
+    first : (scene : Scene) (w h : Fraction) → has_size scene.held ≡ false → with_window scene w h ≡ with_item scene (Sized scene.next_row w h) 2
+    first scene w h none = rw none refl
+
+-- so many rows
+pub count-draft : (scene : Scene) (item : Item) (m n : ℕ) → m ≡ n → with_item scene item m ≡ with_item scene item n
+count-draft scene item m n same = ap (with_item scene item) same
+
+-- ---- items that may be held next
+
+pub line-next : (scene : Scene) (group : List ℕ) (line : CompiledLine) (more : List Row) → IsNextLine scene.tree.views scene.next_row line → AreRowsNow scene.metrics line.rows more → All IsRow more
+    → length scene.rows + length more ≤ MOST_ROWS → IsNextItem scene (OfLine group line) more
+line-next scene group line more fits are each room = record {
+  own = are;
+  is = tt;
+  named = fits.owned;
+  may = line-may scene.tree.views scene.next_row line scene.metrics more fits are each;
+  below = line-below scene.tree.views scene.next_row line scene.metrics more fits are;
+  ranks = ranks-now scene.metrics line.rows more are fits.ranks;
+  room = room;
+}
+
+module _ (tree : ViewTree) (ms : MetricList) (held : List Item) (next : ℕ) (l : Layout) (kept : IsKept (scene_at tree ms held next l)) where
+  pub size-next : (w h : Fraction) (more : List Row) → IsTree tree → more ≡ size_rows next w h → All IsRow more → length l.problem.rows + 2 ≤ MOST_ROWS → next < NUMBER_LIMIT
+      → IsNextItem (scene_at tree ms held next l) (Sized next w h) more
+  size-next w h more whole are each room small =
+      let two : length more ≡ 2 = ap length are in
+      record {
+        own = are;
+        is = (kept.next, small);
+        named = tt;
+        may = size-may tree next w h more whole are each;
+        below = subst (λ (n : ℕ). All (λ (r : Row). r.id < next + n) more) (sym two)
+            (subst (All (λ (r : Row). r.id < next + 2)) (sym are) (All-from_recursion (λ (r : Row). r.id < next + 2) (size_rows next w h) (omega arith, (omega arith, tt))));
+        ranks = subst (All HasRank) (sym are) (size-ranked next w h);
+        room = omega (arith, room, two);
+      }
+
+  pub suggestion-next : (s : Suggestion) (more : List Row) → IsTree tree → IsNextSuggestion (scene_at tree ms held next l) s → next < NUMBER_LIMIT → more ≡ suggested_row s ∷ [] → All IsRow more
+      → length l.problem.rows + 1 ≤ MOST_ROWS → IsNextItem (scene_at tree ms held next l) (Suggested s) more
+  suggestion-next s more whole new small are each room =
+      let own : IsRow (suggested_row s) = subst (All IsRow) are each 0 (suggested_row s) (omega arith) in
+      let count : length more ≡ 1 = ap length are in
+      record {
+        own = are;
+        is = suggestion-own tree ms held next l s kept whole new small;
+        named = tt;
+        may = rw are (suggestion-may tree.views next s new.name new.view new.found new.same new.row own);
+        below = subst (λ (n : ℕ). All (λ (r : Row). r.id < next + n) more) (sym count)
+            (subst (All (λ (r : Row). r.id < next + 1)) (sym are) (All-from_recursion (λ (r : Row). r.id < next + 1) (suggested_row s ∷ []) (omega (arith, new.row), tt)));
+        ranks = subst (All HasRank) (sym are) (All-from_recursion HasRank (suggested_row s ∷ []) (new.rank.0, tt));
+        room = omega (arith, room, count);
+      }

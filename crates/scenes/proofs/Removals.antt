@@ -1,0 +1,5 @@
+-- What leaves a scene: rows, views, and the problem that is left.
+pub mod LeavingViews
+pub mod LeavingWhole
+pub mod LeavingProblems
+pub mod LeavingScenes

@@ -1,0 +1,289 @@
+-- What a removal comes to.
+use Rattle.std.proofs.Common.{◌≡◌, ◌≢◌, inl, inr, Some, ℕ, ◌^◌, ◌<◌, Bool, true, false, cond, not, nat_eq, List, [], ◌∷◌, length, map, filter, All, refl, sym, ap, ap₂, ◌∙◌, subst, arith}
+use Rattle.frac_core.specs.Fraction.{Fraction}
+use Rattle.std.proofs.lemmas.List.Elements.{All-filter, All-from_recursion, All-map, All-weaker, recursion_from_All}
+use Rattle.std.specs.List.{Any, Contains, list_any, AllByRecursion as Each}
+use Rattle.problem_core.specs.declared.parts.Stay.{Stay}
+use Rattle.problem_core.specs.Layout.{Row, Problem}
+use Rattle.view_tree.specs.Views.{IsTree, LiveView, ViewTree}
+use Rattle.view_tree.specs.Drops.{AreGoing, is_among}
+use Rattle.view_tree.specs.Drops as drops
+use Rattle.view_tree.proofs.DropLemmas.{HasParent-left, window-stays, shorter}
+use Rattle.compile_parts.specs.Meaning.{MetricList}
+use Rattle.layout_solver.specs.Layouts.{Layout, AreBest, IsKeptLayout, stays_at}
+use Rattle.layout_solver.specs.Removals.{CanLeave, HasRemoved, IsRemoveStop, Leaving, stood, with_removed}
+use Rattle.layout_solver.specs.declared.removing.RemoveStop.{RemoveStop}
+use Rattle.layout_solver.specs.declared.removing.RemoveStop.TheVariants as removal
+use Rattle.held_items.specs.Items.{Item, OfWindow, OfView, Sized, OfLine, Suggested, AreRows}
+use Rattle.scenes.specs.Scene.{Scene, AreDraftRows, moved}
+use Rattle.held_items.specs.Leaving.{attributes_in, goes_with, numbers_of, other_stays, staying}
+use Rattle.scenes.specs.Leaving.{stood_of, without_items, without_views}
+use Rattle.scenes.specs.Steps.{CannotLeave, HasLeft, IsLeaving, IsProblemOf}
+use Rattle.scenes.specs.Steps.{HasRun, LeaveStopsAt}
+use Rattle.held_items.specs.Attributes.{IsClose, all_attributes}
+use Rattle.held_items.specs.Kept.{IsItem, IsNamed}
+use Rattle.scenes.specs.Kept.{IsKept, scene_at}
+use Rattle.scenes.proofs.Removals.LeavingProblems.{apart-from-up, ids-up, no-stays-leave, numbers-held, numbers-up, rows-can, without-is}
+use Rattle.held_items.proofs.Removals.LeavingRows.{agree, keeps, rows-stay, up-pairs}
+use Rattle.scenes.proofs.Removals.LeavingViews.{attributes-up, gone-up, have-stays, left-attributes, names-none, rows-covered}
+use Rattle.scenes.proofs.Engines.Moves.{moved-is}
+use Rattle.held_items.proofs.HeldRows.Ranks.{HasRank}
+use Rattle.scenes.proofs.Engines.Reached.{reached, settled}
+use Rattle.scenes.proofs.Engines.Wholes.{IsSettled}
+use Rattle.corner.proofs.Corners.NewCorners.{made_problem}
+
+abbrev pub parts : Scene → List Item → ℕ → Layout → Scene
+parts draft held next l = record draft { held = held; next_row = next; rows = l.problem.rows; stays = l.problem.stays; values = l.values }
+
+pub left-at : (scene draft : Scene) (held : List Item) (next : ℕ) (old new : Layout) (l : Leaving) (budget : ℕ)
+    → held ≡ draft.held → next ≡ draft.next_row → new.problem.stays ≡ draft.stays → AreDraftRows draft new.problem.rows
+    → AreBest new.problem new.values → IsLeaving scene draft new.problem.rows old.corner l → stood old ≡ stood_of scene → HasRun old new l budget
+    → HasLeft scene draft budget (parts draft held next new)
+left-at scene draft held next old new l budget held_is next_is stays_is are best leaves stands run = record {
+  becomes = record {
+    same = ap₂ (λ (hs : List Item) (ss : List Stay). parts draft hs next (record new { problem = record { rows = new.problem.rows; stays = ss } })) held_is stays_is
+        ∙ ap (λ (n : ℕ). parts draft draft.held n (record new { problem = record { rows = new.problem.rows; stays = draft.stays } })) next_is;
+    rows = are;
+    best = best;
+  };
+  kept = old.corner;
+  leaving = l;
+  leaves = leaves;
+  last = run.last;
+  run = subst (λ (p : Problem). HasRemoved p old.corner l budget run.last) stands run.run;
+  reached = run.reached;
+}
+
+-- what stops the removal stops the draft
+over-stops : (scene draft : Scene) (budget : ℕ) (s : RemoveStop) → CannotLeave scene draft budget s → LeaveStopsAt scene draft budget s
+over-stops scene draft budget (removal.Unfit still at) h = h
+over-stops scene draft budget (removal.Spent path) h = h
+over-stops scene draft budget removal.OutOfMemory h = tt
+
+pub left-stops : (scene draft : Scene) (rows : List Row) (old : Layout) (l : Leaving) (budget : ℕ) (s : RemoveStop)
+    → AreDraftRows draft rows → IsLeaving scene draft rows old.corner l → stood old ≡ stood_of scene → IsRemoveStop (stood old) old.corner l budget s
+    → LeaveStopsAt scene draft budget s
+left-stops scene draft rows old l budget s are leaves stands stops =
+    over-stops scene draft budget s (record {
+      rows = rows;
+      are = are;
+      kept = old.corner;
+      leaving = l;
+      leaves = leaves;
+      stops = subst (λ (p : Problem). IsRemoveStop p old.corner l budget s) stands stops;
+    })
+
+pub rows_is : (p q : Problem) → p ≡ q → p.rows ≡ q.rows
+rows_is p q e = ap (λ (r : Problem). r.rows) e
+
+pub stays_is : (p q : Problem) → p ≡ q → p.stays ≡ q.stays
+stays_is p q e = ap (λ (r : Problem). r.stays) e
+
+-- the stays move, and keep their attributes
+moved-attrs : (stays : List Stay) (values : List (ℕ × Fraction)) → map (λ s. s.attr) (moved stays values) ≡ map (λ s. s.attr) stays
+moved-attrs [] values = refl
+moved-attrs (s ∷ stays) values = ap (λ ns. s.attr ∷ ns) (moved-attrs stays values)
+
+-- ---- rows leave alone, as those made_problem a group or made_problem a suggestion
+
+module _ (tree : ViewTree) (ms : MetricList) (held : List Item) (next : ℕ) (l : Layout) (kept : IsKept (scene_at tree ms held next l)) (sound : IsKeptLayout l) where
+  is : IsSettled l.problem l.values
+  is = settled l sound
+
+  moves : moved l.problem.stays l.values ≡ stays_at l.values
+  moves = moved-is l.problem.stays l.values is.attributes is.rising
+
+  pub stands : stood l ≡ stood_of (scene_at tree ms held next l)
+  stands = ap (made_problem l.problem.rows) (sym moves)
+
+  module _ (goes : Item → Bool) where
+    abbrev group_leaving : Leaving
+    group_leaving = record { rows = numbers_of goes held; attrs = [] }
+
+    pub group-can : CanLeave (record { rows = numbers_of goes held; attrs = [] }) l.problem
+    group-can = rows-can goes ms held l.problem kept.are_rows is.whole.rising
+
+    group-rows : AreRows ms (staying goes held) (filter (keeps (numbers_of goes held)) l.problem.rows)
+    group-rows = rows-stay goes ms (numbers_of goes held) held l.problem.rows kept.are_rows (agree goes held (ids-up goes ms held l.problem kept.are_rows is.whole.rising))
+
+    group-problem : with_removed l group_leaving ≡ made_problem (filter (keeps (numbers_of goes held)) l.problem.rows) (moved l.problem.stays l.values)
+    group-problem = without-is group_leaving (stood l) ∙ ap (made_problem (filter (keeps (numbers_of goes held)) l.problem.rows)) (no-stays-leave (stays_at l.values) ∙ sym moves)
+
+    group-leaves : (rows : List Row) → rows ≡ filter (keeps (numbers_of goes held)) l.problem.rows
+        → IsLeaving (scene_at tree ms held next l) (without_items (scene_at tree ms held next l) goes) rows l.corner group_leaving
+    group-leaves rows rows_are = record {
+      reached = reached l sound;
+      can = rows-can goes ms held (stood_of (scene_at tree ms held next l)) kept.are_rows is.whole.rising;
+      rising = up-pairs (numbers_of goes held) (numbers-up goes ms held l.problem kept.are_rows is.whole.rising);
+      left = ap₂ made_problem rows_are (sym (no-stays-leave (moved l.problem.stays l.values))) ∙ sym (without-is group_leaving (stood_of (scene_at tree ms held next l)));
+    }
+
+    pub group-poses : (p : Problem) → p ≡ with_removed l group_leaving → IsProblemOf (without_items (scene_at tree ms held next l) goes) p
+    group-poses p e = (subst (AreRows ms (staying goes held)) (sym (rows_is p _ (e ∙ group-problem))) group-rows, stays_is p _ (e ∙ group-problem))
+
+    pub group-stops : (budget : ℕ) (s : RemoveStop) → IsRemoveStop (stood l) l.corner group_leaving budget s
+        → LeaveStopsAt (scene_at tree ms held next l) (without_items (scene_at tree ms held next l) goes) budget s
+    group-stops budget s stops =
+        left-stops (scene_at tree ms held next l) (without_items (scene_at tree ms held next l) goes) (filter (keeps (numbers_of goes held)) l.problem.rows) l group_leaving budget s
+        group-rows (group-leaves (filter (keeps (numbers_of goes held)) l.problem.rows) refl) stands stops
+
+    module _ (items : List Item) (new : Layout) (done : new.problem ≡ with_removed l group_leaving) (items_are : items ≡ staying goes held) where
+      rows_are : new.problem.rows ≡ filter (keeps (numbers_of goes held)) l.problem.rows
+      rows_are = rows_is new.problem _ (done ∙ group-problem)
+
+      stays_are : new.problem.stays ≡ moved l.problem.stays l.values
+      stays_are = stays_is new.problem _ (done ∙ group-problem)
+
+      are : AreRows ms (staying goes held) new.problem.rows
+      are = subst (AreRows ms (staying goes held)) (sym rows_are) group-rows
+
+      pub group-left : (budget : ℕ) → AreBest new.problem new.values → HasRun l new group_leaving budget
+          → HasLeft (scene_at tree ms held next l) (without_items (scene_at tree ms held next l) goes) budget (scene_at tree ms items next new)
+      group-left budget best run =
+          left-at (scene_at tree ms held next l) (without_items (scene_at tree ms held next l) goes) items next l new group_leaving budget
+          items_are refl stays_are are best (group-leaves new.problem.rows rows_are) stands run
+
+      pub group-kept : IsKept (scene_at tree ms items next new)
+      group-kept =
+          subst (λ (hs : List Item). IsKept (scene_at tree ms hs next new)) (sym items_are)
+          (record {
+            are_rows = are;
+            each = All-filter (λ item. not (goes item)) IsItem held kept.each;
+            named = All-filter (λ item. not (goes item)) (IsNamed tree.views) held kept.named;
+            next = kept.next;
+            top = kept.top;
+            counted = record {
+              stays = ap (map (λ (s : Stay). s.attr)) stays_are ∙ moved-attrs l.problem.stays l.values ∙ kept.counted.stays;
+              below = subst (All (λ r. r.id < next)) (sym rows_are) (All-filter (keeps (numbers_of goes held)) (λ r. r.id < next) l.problem.rows kept.counted.below);
+              ranks = subst (All HasRank) (sym rows_are) (All-filter (keeps (numbers_of goes held)) HasRank l.problem.rows kept.counted.ranks);
+              few = omega (arith, ap length rows_are, shorter (keeps (numbers_of goes held)) l.problem.rows, kept.counted.few);
+            };
+          })
+
+-- ---- views leave, with their rows and attributes
+
+-- their numbers are small
+pub gone-small : (t : ViewTree) (root : ℕ) (gone : List ℕ) → IsTree t → AreGoing t.views root gone → All (λ id. id < 2 ^ 29) gone
+gone-small t root gone whole going =
+    subst (All (λ id. id < 2 ^ 29)) (sym going.order)
+    (All-map (λ id. id < 2 ^ 29) (λ (v : LiveView). v.id) (filter (λ v. is_among gone v.id) t.views)
+    (All-filter (λ v. is_among gone v.id) (λ v. v.id < 2 ^ 29) t.views
+    (All-weaker (λ (v : LiveView). v.id < t.next) (λ v. v.id < 2 ^ 29) (λ v below. omega (arith, below, whole.ids)) t.views whole.below)))
+
+-- a line that stays is close to views that stay
+module _ (views : List LiveView) (gone : List ℕ) where
+  abbrev left_views : List LiveView
+  left_views = filter (λ v. not (is_among gone v.id)) views
+
+  close-left : (vs : List ℕ) (id : ℕ) → list_any (λ g. list_any (λ v. nat_eq v g) vs) gone ≡ false → IsClose views vs id → IsClose (filter (λ v. not (is_among gone v.id)) views) vs id
+  close-left vs id none (inl named) = inl named
+  close-left vs id none (inr (child, named, has)) = inr (child, named, HasParent-left (is_among gone) views child (Some id) (names-none vs gone child none named) has)
+
+  named-left : (item : Item) → goes_with gone item ≡ false → IsNamed views item → IsNamed (filter (λ v. not (is_among gone v.id)) views) item
+  named-left OfWindow stays is = is
+  named-left (OfView first id) stays is = is
+  named-left (Sized first width height) stays is = is
+  named-left (OfLine name line) stays is = λ k d within j e inside. (let owner = is k d within j e inside in (owner.0, close-left line.views owner.0 stays owner.1, owner.2))
+  named-left (Suggested s) stays is = is
+
+  each-named-left : (held : List Item) → Each (IsNamed views) held → Each (IsNamed (filter (λ v. not (is_among gone v.id)) views)) (staying (goes_with gone) held)
+  each-named-left [] h = tt
+  each-named-left (item ∷ held) h = by (goes_with gone item) refl (each-named-left held h.1)
+    where
+      by : (b : Bool) → goes_with gone item ≡ b → Each (IsNamed (filter (λ v. not (is_among gone v.id)) views)) (staying (goes_with gone) held) → Each (IsNamed (filter (λ v. not (is_among gone v.id)) views)) (cond (not (goes_with gone item)) (item ∷ staying (goes_with gone) held) (staying (goes_with gone) held))
+      by true e rest = subst (λ b. Each (IsNamed (filter (λ v. not (is_among gone v.id)) views)) (cond (not b) (item ∷ staying (goes_with gone) held) (staying (goes_with gone) held))) (sym e) rest
+      by false e rest = subst (λ b. Each (IsNamed (filter (λ v. not (is_among gone v.id)) views)) (cond (not b) (item ∷ staying (goes_with gone) held) (staying (goes_with gone) held))) (sym e) (named-left item e h.0, rest)
+
+  pub all-named-left : (held : List Item) → All (IsNamed views) held → All (IsNamed (filter (λ v. not (is_among gone v.id)) views)) (staying (goes_with gone) held)
+  all-named-left held h = All-from_recursion (IsNamed (filter (λ v. not (is_among gone v.id)) views)) (staying (goes_with gone) held) (each-named-left held (recursion_from_All (IsNamed views) held h))
+
+module _ (tree : ViewTree) (ms : MetricList) (held : List Item) (next : ℕ) (l : Layout) (kept : IsKept (scene_at tree ms held next l)) (sound : IsKeptLayout l)
+    (whole : IsTree tree) (root : ℕ) (gone : List ℕ) (below : root ≢ 0) (going : AreGoing tree.views root gone) where
+  is-settled : IsSettled l.problem l.values
+  is-settled = settled l sound
+
+  moves-to : moved l.problem.stays l.values ≡ stays_at l.values
+  moves-to = moved-is l.problem.stays l.values is-settled.attributes is-settled.rising
+
+  window : is_among gone 0 ≡ false
+  window = window-stays tree.views root gone going below whole.root
+
+  abbrev views_leaving : Leaving
+  views_leaving = record { rows = numbers_of (goes_with gone) held; attrs = attributes_in gone }
+
+  covers : (rows : List Row) → AreRows ms held rows → All (λ r. Any (λ t. Contains (attributes_in gone) t.attr) r.terms → Contains (numbers_of (goes_with gone) held) r.id) rows
+  covers rows are =
+      All-from_recursion (λ r. Any (λ t. Contains (attributes_in gone) t.attr) r.terms → Contains (numbers_of (goes_with gone) held) r.id) rows
+      (rows-covered tree.views root gone going window ms held rows are (recursion_from_All (IsNamed tree.views) held kept.named))
+
+  can-leave : (stays : List Stay) → map (λ s. s.attr) stays ≡ all_attributes tree.views → CanLeave (record { rows = numbers_of (goes_with gone) held; attrs = attributes_in gone }) (record { rows = l.problem.rows; stays = stays })
+  can-leave stays attrs = record {
+    held = numbers-held (goes_with gone) ms held l.problem kept.are_rows is-settled.whole.rising;
+    stays = have-stays tree.views root gone stays going attrs;
+    rows_apart = apart-from-up (numbers_of (goes_with gone) held) (numbers-up (goes_with gone) ms held l.problem kept.are_rows is-settled.whole.rising);
+    attrs_apart = apart-from-up (attributes_in gone) (attributes-up gone (gone-up tree.views root gone going whole.rising));
+    covered = covers l.problem.rows kept.are_rows;
+  }
+
+  pub views-can : CanLeave (record { rows = numbers_of (goes_with gone) held; attrs = attributes_in gone }) l.problem
+  views-can = can-leave l.problem.stays kept.counted.stays
+
+  view-rows : AreRows ms (staying (goes_with gone) held) (filter (keeps (numbers_of (goes_with gone) held)) l.problem.rows)
+  view-rows = rows-stay (goes_with gone) ms (numbers_of (goes_with gone) held) held l.problem.rows kept.are_rows (agree (goes_with gone) held (ids-up (goes_with gone) ms held l.problem kept.are_rows is-settled.whole.rising))
+
+  views-problem : with_removed l views_leaving ≡ made_problem (filter (keeps (numbers_of (goes_with gone) held)) l.problem.rows) (other_stays (attributes_in gone) (moved l.problem.stays l.values))
+  views-problem = without-is views_leaving (stood l) ∙ ap (λ ss. made_problem (filter (keeps (numbers_of (goes_with gone) held)) l.problem.rows) (other_stays (attributes_in gone) ss)) (sym moves-to)
+
+  views-leave : (rows : List Row) → rows ≡ filter (keeps (numbers_of (goes_with gone) held)) l.problem.rows
+      → IsLeaving (scene_at tree ms held next l) (without_views (scene_at tree ms held next l) gone) rows l.corner views_leaving
+  views-leave rows rows_are = record {
+    reached = reached l sound;
+    can = can-leave (moved l.problem.stays l.values) (moved-attrs l.problem.stays l.values ∙ kept.counted.stays);
+    rising = up-pairs (numbers_of (goes_with gone) held) (numbers-up (goes_with gone) ms held l.problem kept.are_rows is-settled.whole.rising);
+    left = ap (λ rs. made_problem rs (other_stays (attributes_in gone) (moved l.problem.stays l.values))) rows_are ∙ sym (without-is views_leaving (stood_of (scene_at tree ms held next l)));
+  }
+
+  pub views-pose : (p : Problem) → p ≡ with_removed l views_leaving → IsProblemOf (without_views (scene_at tree ms held next l) gone) p
+  views-pose p e = (subst (AreRows ms (staying (goes_with gone) held)) (sym (rows_is p _ (e ∙ views-problem))) view-rows, stays_is p _ (e ∙ views-problem))
+
+  stands-to : stood l ≡ stood_of (scene_at tree ms held next l)
+  stands-to = ap (made_problem l.problem.rows) (sym moves-to)
+
+  pub views-stop : (budget : ℕ) (s : RemoveStop) → IsRemoveStop (stood l) l.corner views_leaving budget s
+      → LeaveStopsAt (scene_at tree ms held next l) (without_views (scene_at tree ms held next l) gone) budget s
+  views-stop budget s stops =
+      left-stops (scene_at tree ms held next l) (without_views (scene_at tree ms held next l) gone) (filter (keeps (numbers_of (goes_with gone) held)) l.problem.rows) l views_leaving budget s
+      view-rows (views-leave (filter (keeps (numbers_of (goes_with gone) held)) l.problem.rows) refl) stands-to stops
+
+  module _ (items : List Item) (new : Layout) (done : new.problem ≡ with_removed l views_leaving) (items_are : items ≡ staying (goes_with gone) held) where
+    new_rows : new.problem.rows ≡ filter (keeps (numbers_of (goes_with gone) held)) l.problem.rows
+    new_rows = rows_is new.problem _ (done ∙ views-problem)
+
+    new_stays : new.problem.stays ≡ other_stays (attributes_in gone) (moved l.problem.stays l.values)
+    new_stays = stays_is new.problem _ (done ∙ views-problem)
+
+    are-rows : AreRows ms (staying (goes_with gone) held) new.problem.rows
+    are-rows = subst (AreRows ms (staying (goes_with gone) held)) (sym new_rows) view-rows
+
+    pub views-left : (budget : ℕ) → AreBest new.problem new.values → HasRun l new views_leaving budget
+        → HasLeft (scene_at tree ms held next l) (without_views (scene_at tree ms held next l) gone) budget (scene_at (drops.without tree gone) ms items next new)
+    views-left budget best run =
+        left-at (scene_at tree ms held next l) (without_views (scene_at tree ms held next l) gone) items next l new views_leaving budget
+        items_are refl new_stays are-rows best (views-leave new.problem.rows new_rows) stands-to run
+
+    pub views-kept : IsKept (scene_at (drops.without tree gone) ms items next new)
+    views-kept =
+        subst (λ (hs : List Item). IsKept (scene_at (drops.without tree gone) ms hs next new)) (sym items_are)
+        (record {
+          are_rows = are-rows;
+          each = All-filter (λ item. not (goes_with gone item)) IsItem held kept.each;
+          named = all-named-left tree.views gone held kept.named;
+          next = kept.next;
+          top = kept.top;
+          counted = record {
+            stays = ap (map (λ (s : Stay). s.attr)) new_stays ∙ left-attributes gone tree.views (moved l.problem.stays l.values) (moved-attrs l.problem.stays l.values ∙ kept.counted.stays);
+            below = subst (All (λ r. r.id < next)) (sym new_rows) (All-filter (keeps (numbers_of (goes_with gone) held)) (λ r. r.id < next) l.problem.rows kept.counted.below);
+            ranks = subst (All HasRank) (sym new_rows) (All-filter (keeps (numbers_of (goes_with gone) held)) HasRank l.problem.rows kept.counted.ranks);
+            few = omega (arith, ap length new_rows, shorter (keeps (numbers_of (goes_with gone) held)) l.problem.rows, kept.counted.few);
+          };
+        })

@@ -1,0 +1,4 @@
+-- Views that are there and views that come: their places, and the problems with them.
+pub mod ViewsCome
+pub mod NewViews
+pub mod Places

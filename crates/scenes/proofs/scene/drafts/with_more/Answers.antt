@@ -1,0 +1,24 @@
+use Rattle.std.proofs.Common.{◌≡◌, ◌∙◌, ◌++◌, List, ap, refl}
+use Rattle.problem_core.specs.declared.parts.Stay.{Stay}
+use Rattle.problem_core.specs.Layout.{Row}
+use Rattle.layout_solver.specs.Layouts.{stays_at, zeros}
+use Rattle.scenes.proofs.Engines.Moves.{moved-added}
+use Rattle.scenes.proofs.scene.drafts.with_more.Goals as goal
+
+pub of-requires : goal.of-requires
+of-requires c =
+    let rows_are : c.append.new.self.items ≡ c.args.engine.now.problem.rows ++ c.args.rows.items =
+    c.in_ok-append.ensures.items ∙ ap (λ (rs : List Row). rs ++ c.args.rows.items) (c.in_ok-all.ensures.rows ∙ c.rows.ensures) in
+    let stays_are : c.push_zeros.new.stays.items ≡ stays_at (c.args.engine.now.values ++ zeros c.args.attrs.now) =
+    c.in_ok-push_zeros.ensures ∙ ap (λ (ss : List Stay). ss ++ stays_at (zeros c.args.attrs.now)) c.in_ok-stays.ensures
+    ∙ moved-added c.args.engine.now.problem.stays c.args.engine.now.values c.args.attrs.now c.show_layout.ensures.best.attributes c.show_layout.ensures.rising in
+    rw (rows_are, stays_are) c.requires
+
+pub returns : goal.returns
+returns c =
+    let rows_are : c.append.new.self.items ≡ c.args.engine.now.problem.rows ++ c.args.rows.items =
+    c.in_ok-append.ensures.items ∙ ap (λ (rs : List Row). rs ++ c.args.rows.items) (c.in_ok-all.ensures.rows ∙ c.rows.ensures) in
+    let stays_are : c.push_zeros.new.stays.items ≡ stays_at (c.args.engine.now.values ++ zeros c.args.attrs.now) =
+    c.in_ok-push_zeros.ensures ∙ ap (λ (ss : List Stay). ss ++ stays_at (zeros c.args.attrs.now)) c.in_ok-stays.ensures
+    ∙ moved-added c.args.engine.now.problem.stays c.args.engine.now.values c.args.attrs.now c.show_layout.ensures.best.attributes c.show_layout.ensures.rising in
+    rw (c.of.ensures, rows_are, stays_are) refl

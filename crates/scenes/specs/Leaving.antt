@@ -1,0 +1,32 @@
+-- What leaves a scene: a group of lines, a suggestion, or a view with all below it.
+use Rattle.std.specs.Prelude.{ℕ, Bool, List, []}
+use Rattle.problem_core.specs.Layout.{Problem}
+use Rattle.view_tree.specs.Drops as tree
+use Rattle.script_text.specs.declared.words.AttrWord.{AttrWord}
+use Rattle.held_items.specs.Items.{Item, is_suggestion}
+use Rattle.scenes.specs.Scene.{Scene, moved}
+use Rattle.held_items.specs.Leaving.{attributes_in, goes_with, is_in_group, other_stays, staying}
+
+-- the problem of the scene, with the stays moved to the values
+abbrev pub stood_of : Scene → Problem
+stood_of scene = record { rows = scene.rows; stays = moved scene.stays scene.values }
+
+-- without those items that go, none of which is a view
+abbrev pub without_items : Scene → (Item → Bool) → Scene
+without_items old goes = record old { held = staying goes old.held; stays = moved old.stays old.values }
+
+-- without the lines of the group
+abbrev pub without_group : Scene → List ℕ → Scene
+without_group old group = without_items old (is_in_group group)
+
+-- without the suggestion of this attribute
+abbrev pub without_suggestion : Scene → ℕ → AttrWord → Scene
+without_suggestion old view word = without_items old (is_suggestion view word)
+
+-- without these views, their stays and suggestions, and the lines that name one of them
+abbrev pub without_views : Scene → List ℕ → Scene
+without_views old gone = record old {
+  tree = tree.without old.tree gone;
+  held = staying (goes_with gone) old.held;
+  stays = other_stays (attributes_in gone) (moved old.stays old.values);
+}

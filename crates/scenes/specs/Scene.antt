@@ -1,0 +1,178 @@
+-- The scene: what a script has said so far, the rows that this stands for, and the values that it has led to.
+use Rattle.std.specs.Prelude.{◌≡◌, ℕ, ◌+◌, ◌*◌, Bool, true, false, List, [], ◌∷◌, ◌++◌, length, cond, take}
+use Rattle.std.specs.Prelude.{is_some, map}
+use Rattle.frac_core.specs.Fraction.{Fraction}
+use Rattle.name_tables.specs.Names.{names_of, place_of, with_value}
+use Rattle.problem_core.specs.declared.parts.Stay.{Stay}
+use Rattle.problem_core.specs.Gaps.{value_of}
+use Rattle.problem_core.specs.Layout.{Row, Problem}
+use Rattle.problem_core.specs.Window.{structural_rows, zero_fraction}
+use Rattle.view_tree.specs.Attributes.{left_of, top_of, width_of, height_of}
+use Rattle.view_tree.specs.Views.{ViewTree, window}
+use Rattle.view_tree.specs.JsonTrees.{Branch, size}
+use Rattle.compile_parts.specs.Meaning.{MetricList}
+use Rattle.constraint_compile.specs.Compiled.{CompiledLine}
+use Rattle.layout_solver.specs.Layouts.{AreBest, stays_at, zeros}
+use Rattle.script_text.specs.declared.words.AttrWord.{AttrWord}
+use Rattle.constraint_compile.specs.declared.suggestion.Suggestion.{Suggestion}
+use Rattle.held_items.specs.Items.{Item, OfWindow, OfView, Sized, OfLine, Suggested, AreRows, has_size}
+use Rattle.held_items.specs.Items.{resized, suggested_again, view_items}
+use Rattle.held_items.specs.Attributes.{attributes_from}
+use Rattle.held_items.specs.declared.limits.TheConstants.{EARLIER}
+use Rattle.held_items.specs.declared.row_numbers.TheConstants.{FIRST_FREE_ROW, SIZE_ROWS, VIEW_ROWS}
+use Rattle.view_tree.specs.Views as tree
+use Rattle.view_tree.specs.JsonTrees as branches
+
+-- the views, the metrics in order of definition, what is held in order of acceptance, the number that the
+-- next row takes, the rows by rising number, the stays, and the values by their attributes' numbers
+pub record Scene : Type 0 where
+  pub tree : ViewTree
+  pub metrics : MetricList
+  pub held : List Item
+  pub next_row : ℕ
+  pub rows : List Row
+  pub stays : List Stay
+  pub values : List (ℕ × Fraction)
+
+-- a scene, and those before it, the latest first
+pub record History : Type 0 where
+  pub scene : Scene
+  pub earlier : List Scene
+
+-- the earlier scenes, once there is another scene after this one: the oldest of too many is forgotten
+abbrev pub with_earlier : Scene → List Scene → List Scene
+with_earlier scene earlier = take EARLIER (scene ∷ earlier)
+
+-- after a step the earlier scenes are these
+abbrev pub Remembers : History → History → Type 0
+Remembers old new = new.earlier ≡ with_earlier old.scene old.earlier
+
+-- the problem of the scene's rows and stays
+abbrev pub problem_of : Scene → Problem
+problem_of scene = record { rows = scene.rows; stays = scene.stays }
+
+-- ---- changes
+
+-- stays of the same attributes, at their values
+abbrev pub moved : List Stay → List (ℕ × Fraction) → List Stay
+moved stays values = map (λ s. record { attr = s.attr; target = value_of values s.attr }) stays
+
+-- the four attributes of a view, at 0
+abbrev pub new_values : ℕ → List (ℕ × Fraction)
+new_values id =
+    (left_of id, zero_fraction) ∷ (top_of id, zero_fraction) ∷ (width_of id, zero_fraction)
+    ∷ (height_of id, zero_fraction) ∷ []
+
+-- the stays of these attributes, at 0
+abbrev pub new_stays : ℕ → List Stay
+new_stays id = stays_at (new_values id)
+
+-- those of so many views, of which the first has this number
+abbrev pub new_stays_from : ℕ → ℕ → List Stay
+new_stays_from id count = stays_at (zeros (attributes_from id count))
+
+-- In each draft that follows the stays have moved to the values before. Its rows and values are still those
+-- before.
+
+-- with a view more, whose two rows have the next numbers
+abbrev pub with_view : Scene → List ℕ → ℕ → Scene
+with_view old name parent = record old {
+  tree = tree.with_view old.tree name parent;
+  held = old.held ++ OfView old.next_row old.tree.next ∷ [];
+  next_row = old.next_row + VIEW_ROWS;
+  stays = moved old.stays old.values ++ new_stays old.tree.next;
+}
+
+-- with the views of a branch more, each before those in it, and two rows of each
+abbrev pub with_branch : Scene → ℕ → Branch → Scene
+with_branch old parent b = record old {
+  tree = branches.with_branch old.tree parent b;
+  held = old.held ++ view_items old.next_row old.tree.next (size b);
+  next_row = old.next_row + VIEW_ROWS * size b;
+  stays = moved old.stays old.values ++ new_stays_from old.tree.next (size b);
+}
+
+-- the metrics, of which the one of this name has this value
+abbrev pub metrics_with : MetricList → List ℕ → Fraction → MetricList
+metrics_with metrics name value =
+    cond (is_some (place_of (names_of metrics) name)) (with_value metrics name value)
+    (metrics ++ (name, value) ∷ [])
+
+-- with this value of the metric of this name
+abbrev pub with_metric : Scene → List ℕ → Fraction → Scene
+with_metric old name value =
+    record old { metrics = metrics_with old.metrics name value; stays = moved old.stays old.values }
+
+-- a window without a size takes two rows; else its size alone is another
+abbrev pub held_with_size : Bool → ℕ → Fraction → Fraction → List Item → List Item
+held_with_size false n width height held = held ++ Sized n width height ∷ []
+held_with_size true n width height held = resized width height held
+
+-- the number that the next row takes then
+abbrev pub next_with_size : Bool → ℕ → ℕ
+next_with_size false n = n + SIZE_ROWS
+next_with_size true n = n
+
+-- with this size of the window
+abbrev pub with_window : Scene → Fraction → Fraction → Scene
+with_window old width height = record old {
+  held = held_with_size (has_size old.held) old.next_row width height old.held;
+  next_row = next_with_size (has_size old.held) old.next_row;
+  stays = moved old.stays old.values;
+}
+
+-- with an item more, which has so many rows
+abbrev pub with_item : Scene → Item → ℕ → Scene
+with_item old item count = record old {
+  held = old.held ++ item ∷ [];
+  next_row = old.next_row + count;
+  stays = moved old.stays old.values;
+}
+
+-- with a line of a group more
+abbrev pub with_line : Scene → List ℕ → CompiledLine → Scene
+with_line old group line = with_item old (OfLine group line) (length line.rows)
+
+-- with a suggestion more, whose row takes the next number
+abbrev pub with_suggestion : Scene → Suggestion → Scene
+with_suggestion old s = with_item old (Suggested s) 1
+
+-- with another constant in the row of a suggestion
+abbrev pub with_suggested : Scene → ℕ → AttrWord → Fraction → Scene
+with_suggested old view word constant = record old {
+  held = suggested_again view word constant old.held;
+  stays = moved old.stays old.values;
+}
+
+-- the rows that a draft stands for
+abbrev pub AreDraftRows : Scene → List Row → Type 0
+AreDraftRows draft rows = AreRows draft.metrics draft.held rows
+
+-- the problem of a draft, where these are its rows
+abbrev pub draft_problem : Scene → List Row → Problem
+draft_problem draft rows = record { rows = rows; stays = draft.stays }
+
+-- all but the rows and the values is as drafted, the rows are those of what is held, and the values are the
+-- best
+pub record Becomes (draft new : Scene) : Type 0 where
+  pub same : new ≡ record draft { rows = new.rows; values = new.values }
+  pub rows : AreDraftRows draft new.rows
+  pub best : AreBest (problem_of new) new.values
+
+-- the values are the best for the rows and stays
+abbrev pub IsBestScene : Scene → Type 0
+IsBestScene scene = AreBest (problem_of scene) scene.values
+
+-- ---- the first scene
+
+-- the window alone, with its four rows, no size, and every value 0
+abbrev pub first_scene : Scene
+first_scene = record {
+  tree = record { views = window ∷ []; next = 1 };
+  metrics = [];
+  held = OfWindow ∷ [];
+  next_row = FIRST_FREE_ROW;
+  rows = structural_rows;
+  stays = new_stays 0;
+  values = new_values 0;
+}

@@ -1,0 +1,120 @@
+-- The way from a scene to a draft of it: how it is solved, and why it stops.
+use Rattle.std.specs.Prelude.{◌≡◌, ℕ, ◌+◌, ◌<◌, ◌⊎◌, List, [], ◌++◌, true, false, map, AllPairs}
+use Rattle.problem_core.specs.Layout.{Row, Problem}
+use Rattle.cert_core.specs.Paths.{Path}
+use Rattle.cert_core.specs.declared.stops.RunStop.{RunStop}
+use Rattle.problem_core.specs.declared.parts.Mark.{Mark}
+use Rattle.layout_solver.specs.Removals.{CanLeave, HasRemoved, IsRemoveStop, Leaving, without, stood}
+use Rattle.layout_solver.specs.declared.removing.RemoveStop.{RemoveStop}
+use Rattle.layout_solver.specs.Begins.{Start, IsReached, IsRunFrom, IsStopFrom}
+use Rattle.problem_core.specs.Unfit.{without_constant}
+use Rattle.scenes.specs.Scene.{Scene, problem_of, draft_problem, AreDraftRows, Becomes}
+use Rattle.scenes.specs.Leaving.{stood_of}
+use Rattle.layout_solver.specs.Layouts.{Layout}
+use Rattle.cert_core.specs.declared.stops.RunStop.TheVariants as run
+use Rattle.layout_solver.specs.declared.removing.RemoveStop.TheVariants as removal
+
+-- ---- solving
+
+-- rows join those before
+pub record IsJoining (rows : List Row) (s : Start) : Type 0 where
+  pub primal : s.dual ≡ false
+  pub parts : rows ≡ s.before ++ s.joining
+
+-- no row joins, and the rows are those before but for their constants
+pub record IsShifting (rows : List Row) (s : Start) : Type 0 where
+  pub dual : s.dual ≡ true
+  pub none : s.joining ≡ []
+  pub alike : map without_constant rows ≡ map without_constant s.before
+
+-- where the path from a scene to a draft begins, of which these are the rows: at a corner that was kept for
+-- the scene's values, with the scene's rows
+pub record IsStart (scene : Scene) (rows : List Row) (s : Start) : Type 0 where
+  pub before : s.before ≡ scene.rows
+  pub kept : IsReached (problem_of scene) s.kept scene.values
+  pub way : IsJoining rows s ⊎ IsShifting rows s
+
+-- the new scene is this draft with its rows and the best values, to which a path within the budget leads
+pub record IsSolved (scene draft : Scene) (budget : ℕ) (path : Path) (new : Scene) : Type 0 where
+  pub becomes : Becomes draft new
+  pub start : Start
+  pub begins : IsStart scene new.rows start
+  pub run : IsRunFrom start (problem_of new) budget path new.values
+
+-- some path leads to it
+abbrev pub HasSolved : Scene → Scene → ℕ → Scene → Type 0
+HasSolved scene draft budget new = (path : Path) × IsSolved scene draft budget path new
+
+-- the run to the draft stops so
+pub record IsStopped (scene draft : Scene) (budget : ℕ) (stop : RunStop) : Type 0 where
+  pub rows : List Row
+  pub are : AreDraftRows draft rows
+  pub start : Start
+  pub begins : IsStart scene rows start
+  pub stops : IsStopFrom start (draft_problem draft rows) budget stop
+
+-- ---- leaving
+
+-- these leave the scene's problem for that of the draft, of which these are the rows; the marks are a corner
+-- that was kept for the scene's values
+pub record IsLeaving (scene draft : Scene) (rows : List Row) (kept : List Mark) (l : Leaving) : Type 0 where
+  pub reached : IsReached (problem_of scene) kept scene.values
+  pub can : CanLeave l (stood_of scene)
+  pub rising : AllPairs (λ a b. a < b) l.rows
+  pub left : draft_problem draft rows ≡ without l (stood_of scene)
+
+-- the new scene is this draft with its rows and the best values, to which a path within the budget leads from
+-- where the rows have left
+pub record HasLeft (scene draft : Scene) (budget : ℕ) (new : Scene) : Type 0 where
+  pub becomes : Becomes draft new
+  pub kept : List Mark
+  pub leaving : Leaving
+  pub leaves : IsLeaving scene draft new.rows kept leaving
+  pub last : List Mark
+  pub run : HasRemoved (stood_of scene) kept leaving budget last
+  pub reached : IsReached (problem_of new) last new.values
+
+-- the removal stops so
+pub record CannotLeave (scene draft : Scene) (budget : ℕ) (stop : RemoveStop) : Type 0 where
+  pub rows : List Row
+  pub are : AreDraftRows draft rows
+  pub kept : List Mark
+  pub leaving : Leaving
+  pub leaves : IsLeaving scene draft rows kept leaving
+  pub stops : IsRemoveStop (stood_of scene) kept leaving budget stop
+
+-- ---- what a command would solve
+
+-- the rows of the draft, and its stays
+abbrev pub IsProblemOf : Scene → Problem → Type 0
+IsProblemOf draft p = AreDraftRows draft p.rows × (p.stays ≡ draft.stays)
+
+-- ---- stops
+
+-- these have left the problem, and a run within the budget has led to the values
+pub record HasRun (old new : Layout) (l : Leaving) (budget : ℕ) : Type 0 where
+  pub last : List Mark
+  pub run : HasRemoved (stood old) old.corner l budget last
+  pub reached : IsReached new.problem last new.values
+
+-- why the scene can't become the draft, where memory may be wanting
+abbrev pub LeaveStopsAt : Scene → Scene → ℕ → RemoveStop → Type 0
+LeaveStopsAt scene draft budget (removal.Unfit still at) =
+    CannotLeave scene draft budget (removal.Unfit still at)
+LeaveStopsAt scene draft budget (removal.Spent path) = CannotLeave scene draft budget (removal.Spent path)
+LeaveStopsAt scene draft budget removal.OutOfMemory = Unit {0}
+
+-- where an engine begins that takes more rows
+abbrev pub from_corner : Layout → List Row → Start
+from_corner l rows = record { dual = false; before = l.problem.rows; joining = rows; kept = l.corner }
+
+-- where one begins whose rows get other constants
+abbrev pub from_shifts : Layout → Start
+from_shifts l = record { dual = true; before = l.problem.rows; joining = []; kept = l.corner }
+
+-- why the run from the scene to the draft stops, where memory may be wanting
+abbrev pub RunStopsAt : Scene → Scene → ℕ → RunStop → Type 0
+RunStopsAt scene draft budget (run.Conflict by) = IsStopped scene draft budget (run.Conflict by)
+RunStopsAt scene draft budget (run.Unfit at) = IsStopped scene draft budget (run.Unfit at)
+RunStopsAt scene draft budget (run.Spent path) = IsStopped scene draft budget (run.Spent path)
+RunStopsAt scene draft budget run.OutOfMemory = Unit {0}

@@ -1,0 +1,275 @@
+// The scene: what a script has said so far, and the engine that solves it.
+pub(crate) mod drafts;
+pub(crate) mod frames;
+pub(crate) mod past;
+mod problems;
+pub(crate) mod solving;
+mod steps;
+pub(crate) mod values;
+
+ghost use Rattle.std.specs.Prelude.{◌≡◌, ◌<◌, ◌≤◌, ◌∷◌, [], true, false, length};
+ghost use Rattle.std.specs.Prelude.{None, slice_get, IfOk, IfErr, IfSome, IfNone};
+ghost use Rattle.std.specs.List.{list_any};
+ghost use Rattle.problem_core.specs.Window.{structural_rows};
+ghost use Rattle.layout_solver.specs.Layouts.{AreBest};
+ghost use Rattle.held_items.specs.declared.item.Item.TheVariants as kind;
+ghost use Rattle.scenes.specs.Kept.{own_or};
+ghost use Rattle.scenes.specs.Scene.{new_stays};
+
+use crate::limits::FIRST_BUDGET;
+use crate::scene::frames::{frame_of, place_of};
+use crate::scene::past::Past;
+use cert_core::Best;
+use constraint_compile::Suggestion;
+use diagnosis::{Diagnosis, Stopped, diagnose};
+use frac_core::{Frac, OutOfMemory};
+use held_items::{
+    EARLIER, FIRST_FREE_ROW, Item, WindowSize, has_group, has_size, is_near_size, line_count,
+    size_of, structural_rows, suggestion_of, view_attributes,
+};
+use layout_solver::Engine;
+use name_tables::Metrics;
+use script_text::AttrWord;
+use std::alloc::Global;
+use std::collections::VecDeque;
+use std::marker::Model;
+use version_list::VersionList;
+use view_tree::{Tree, ViewId};
+
+/// The views, the metrics, what is held, and the engine with the rows of it and the best values; and those of
+/// the scenes before, which share with the scene after them what is the same.
+#[derive(Drop)]
+pub struct Scene {
+    tree: Tree,
+    metrics: Metrics,
+    items: VersionList<Item>,
+    next_row: u32,
+    engine: Engine,
+    // What each earlier scene has of its own, the latest first.
+    pasts: VecDeque<Past>,
+    alloc: Global,
+}
+
+impl Model for Scene {
+    ghost use Rattle.std.specs.Prelude.{◌<◌};
+    ghost use Rattle.std.specs.VecDeque.{deque_capacity};
+    ghost use Rattle.held_items.specs.declared.limits.TheConstants.{EARLIER};
+    ghost use Rattle.scenes.specs.Scene.{History};
+    ghost use Rattle.scenes.specs.Kept.{AreAlike, IsKeptHistory, history_at};
+
+    ghost Value = { History };
+
+    ghost view = { λ s. history_at s.tree s.metrics s.items s.next_row s.engine s.pasts.items };
+
+    ghost invariant = { λ s. IsKeptHistory
+        (history_at s.tree s.metrics s.items s.next_row s.engine s.pasts.items)
+        × AreAlike s.items.before s.engine.earlier s.pasts.items
+        × (EARLIER < deque_capacity s.pasts) };
+}
+
+// What the window alone holds.
+fn first_items(alloc: Global) -> Result<VersionList<Item>, OutOfMemory>
+    ensures { IfOk result (λ items. items ≡ record { items = kind.OfWindow ∷ []; before = [] }) }
+{
+    let mut items = VersionList::new(alloc)?;
+    items.push(Item::OfWindow)?;
+    Ok(items)
+}
+
+// The engine of the window's rows, with no layout before.
+fn first_engine(alloc: Global) -> Result<Engine, OutOfMemory>
+    ensures problem { IfOk result
+        (λ engine. engine.problem ≡ record { rows = structural_rows; stays = new_stays 0 }) }
+    ensures best { IfOk result (λ engine. AreBest engine.problem engine.values) }
+    ensures earlier { IfOk result (λ engine. engine.earlier ≡ []) }
+{
+    let mut engine = Engine::new(alloc)?;
+    let rows = structural_rows(alloc)?;
+    // This run needs few exchanges, and all numbers fit, so it is memory that is wanting.
+    let Ok(()) = engine.add(&view_attributes(0), &rows, FIRST_BUDGET) else {
+        return Err(OutOfMemory);
+    };
+    engine.forget();
+    engine.show_layout(); // for the proof: what an engine keeps
+    Ok(engine)
+}
+
+// Puts what an earlier scene has of its own in the place of what the scene after it has.
+fn put_own<T: Drop>(mut own: Option<T>, part: &mut T)
+    ensures { part.new ≡ own_or own part.old }
+{
+    if let Some(own) = own.take() {
+        *part = own;
+    }
+}
+
+impl Scene {
+    ghost use Rattle.view_tree.specs.Views.{view_of};
+    ghost use Rattle.diagnosis.specs.Diagnoses.{findings_of};
+    ghost use Rattle.scenes.specs.Diagnosing.{AreFindingsOf, IsCertificateOf, IsProbedStop};
+    ghost use Rattle.scenes.specs.Frames.{IsFrameAt, IsFrameOf};
+    ghost use Rattle.held_items.specs.Items.{has_size, line_count, suggestion_of};
+    ghost use Rattle.held_items.specs.Leaving.{is_in_group};
+    ghost use Rattle.held_items.specs.Moving.{IsFarSize};
+    ghost use Rattle.scenes.specs.Scene.{first_scene};
+
+    /// The window alone.
+    pub fn new(alloc: Global) -> Result<Scene, OutOfMemory>
+        ensures { IfOk result (λ scene. scene ≡ record { scene = first_scene; earlier = [] }) }
+    {
+        let items = first_items(alloc)?;
+        let engine = first_engine(alloc)?;
+        let pasts = VecDeque::with_capacity(alloc, EARLIER + 1)?;
+        let tree = Tree::new(alloc)?;
+        let metrics = Metrics::new(alloc)?;
+        Ok(Scene {
+            tree,
+            metrics,
+            items,
+            next_row: FIRST_FREE_ROW,
+            engine,
+            pasts,
+            alloc,
+        })
+    }
+
+    /// The views.
+    pub fn tree(&self) -> &Tree
+        ensures { result.now ≡ self.now.scene.tree }
+    {
+        &self.tree
+    }
+
+    /// The metrics, in order of definition.
+    pub fn metrics(&self) -> &Metrics
+        ensures { result.now ≡ self.now.scene.metrics }
+    {
+        &self.metrics
+    }
+
+    /// The number that the next row takes.
+    pub fn next_row(&self) -> u32
+        ensures value { result ≡ self.now.scene.next_row }
+        ensures above { 0 < result }
+    {
+        self.next_row
+    }
+
+    /// The engine: the problem of the rows of all that is held, and its best values.
+    pub fn engine(&self) -> &Engine
+        ensures rows { result.now.problem.rows ≡ self.now.scene.rows }
+        ensures stays { result.now.problem.stays ≡ self.now.scene.stays }
+        ensures values { result.now.values ≡ self.now.scene.values }
+    {
+        &self.engine
+    }
+
+    /// Left, top, width and height of the view at a place, counted from 0 in order of creation. There is none
+    /// exactly past the end.
+    pub fn frame_at(&self, place: usize) -> Option<[Frac; 4]>
+        ensures some { IfSome result (IsFrameAt self.now.scene place) }
+        ensures none { IfNone result (slice_get self.now.scene.tree.views place ≡ None) }
+    {
+        let _count = self.tree.len(); // for the proof: what a tree keeps
+        let view = self.tree.at(place)?;
+        Some(frame_of(&self.engine, view.id.0))
+    }
+
+    /// Left, top, width and height of a view, in window coordinates. There is none exactly where no view has
+    /// the number.
+    pub fn frame(&self, view: ViewId) -> Option<[Frac; 4]>
+        ensures some { IfSome result (IsFrameOf self.now.scene view.0) }
+        ensures none { IfNone result (view_of self.now.scene.tree.views view.0 ≡ None) }
+    {
+        let place = place_of(&self.tree, view)?;
+        self.frame_at(place)
+    }
+
+    /// Whether at least so many lines of groups are held.
+    pub fn has_lines(&self, count: usize) -> bool
+        ensures yes { result ≡ true → count ≤ line_count self.now.scene.held }
+        ensures no { result ≡ false → line_count self.now.scene.held < count }
+    {
+        // Each line is an item, so with fewer items the lines need no counting.
+        if self.items.len() < count {
+            return false;
+        }
+        line_count(self.items.as_slice()) >= count
+    }
+
+    /// Whether the window's size is held.
+    pub fn has_size(&self) -> bool
+        ensures { result ≡ has_size self.now.scene.held }
+    {
+        has_size(self.items.as_slice())
+    }
+
+    /// Whether the window has a size, and this one is too far from it.
+    pub fn is_far(&self, size: &WindowSize) -> bool
+        ensures yes { result ≡ true → IsFarSize self.now.scene.held size.now.width size.now.height }
+        ensures no { result ≡ false → IsFarSize self.now.scene.held size.now.width size.now.height → ⊥ }
+    {
+        match size_of(self.items.as_slice()) {
+            Some(held) => !is_near_size(&held.size, size),
+            None => false,
+        }
+    }
+
+    /// Whether a line of this group is held.
+    pub fn has_group(&self, name: &[u8]) -> bool
+        ensures { result ≡ list_any (is_in_group name.now) self.now.scene.held }
+    {
+        has_group(self.items.as_slice(), name)
+    }
+
+    /// The suggestion of this attribute of the view, where one is held.
+    pub fn suggestion(&self, view: ViewId, word: AttrWord) -> Option<Suggestion>
+        ensures { result ≡ suggestion_of view.0 word self.now.scene.held }
+    {
+        suggestion_of(self.items.as_slice(), view.0, word)
+    }
+
+    /// All that the layout lacks and leaves open. The scene is as before. A stop comes with the number of the
+    /// attribute whose probe stopped.
+    pub fn diagnose(&mut self, budget: u64) -> Result<Diagnosis, Stopped>
+        ensures found { IfOk result (λ d. AreFindingsOf self.old.scene (findings_of d)) }
+        ensures stop { IfErr result (λ s. IsProbedStop self.old.scene budget s.attr s.stop) }
+        ensures same { self.new ≡ self.old }
+    {
+        self.engine.show_layout(); // for the proof: what an engine keeps
+        diagnose(self.alloc, &mut self.engine, budget)
+    }
+
+    /// The multipliers that show the values to be best: those of the corner's levels, in the form in which a checker
+    /// reads them.
+    pub fn certificate(&self) -> Result<Best, OutOfMemory>
+        ensures { IfOk result (IsCertificateOf self.now.scene) }
+    {
+        self.engine.show_layout(); // for the proof: what an engine keeps
+        self.engine.certificate()
+    }
+
+    /// Whether there is an earlier scene.
+    pub fn has_earlier(&self) -> bool
+        ensures yes { result ≡ true → 0 < length self.now.earlier }
+        ensures no { result ≡ false → self.now.earlier ≡ [] }
+    {
+        self.items.earlier() > 0
+    }
+
+    /// Goes back to the latest earlier scene.
+    pub fn back(&mut self)
+        requires { 0 < length self.old.earlier }
+        ensures { self.old.earlier ≡ self.new.scene ∷ self.new.earlier }
+    {
+        // There are as many as earlier scenes.
+        let Some(past) = self.pasts.pop_front() else {
+            return;
+        };
+        self.items.back();
+        self.engine.back();
+        self.next_row = past.next_row;
+        put_own(past.tree, &mut self.tree);
+        put_own(past.metrics, &mut self.metrics);
+    }
+}

@@ -1,0 +1,86 @@
+// The parts of a scene that are kept with their earlier versions.
+ghost use Rattle.std.specs.Prelude.{◌≡◌, ◌∷◌, ◌+◌, ◌<◌, ◌≤◌, length, take};
+ghost use Rattle.std.specs.Prelude.{Some, None};
+ghost use Rattle.std.specs.VecDeque.{deque_capacity};
+ghost use Rattle.layout_solver.specs.Layouts.{solution_of};
+ghost use Rattle.scenes.specs.Kept.{AreAlike};
+ghost use Rattle.held_items.specs.declared.limits.TheConstants.{EARLIER};
+
+use held_items::{EARLIER, Item};
+use layout_solver::Engine;
+use name_tables::Metrics;
+use std::collections::VecDeque;
+use version_list::VersionList;
+use view_tree::Tree;
+
+/// What an earlier scene has otherwise than the one after it. Views and metrics that are the same stand in
+/// the scene after it alone.
+#[derive(Drop)]
+pub struct Past {
+    pub tree: Option<Tree>,
+    pub metrics: Option<Metrics>,
+    pub next_row: u32,
+}
+
+impl Past {
+    /// The scene has the views and metrics of the one after it.
+    pub fn alike(next_row: u32) -> Past
+        ensures { result ≡ record { tree = None; metrics = None; next_row = next_row } }
+    {
+        Past {
+            tree: None,
+            metrics: None,
+            next_row,
+        }
+    }
+
+    /// The scene has views of its own.
+    pub fn with_tree(tree: Tree, next_row: u32) -> Past
+        ensures { result ≡ record { tree = Some tree; metrics = None; next_row = next_row } }
+    {
+        Past {
+            tree: Some(tree),
+            metrics: None,
+            next_row,
+        }
+    }
+
+    /// The scene has metrics of its own.
+    pub fn with_metrics(metrics: Metrics, next_row: u32) -> Past
+        ensures { result ≡ record { tree = None; metrics = Some metrics; next_row = next_row } }
+    {
+        Past {
+            tree: None,
+            metrics: Some(metrics),
+            next_row,
+        }
+    }
+}
+
+/// Makes what a scene has of its own the newest of the earlier ones, with the newest versions of the items
+/// and the engine. The oldest of too many is forgotten.
+pub fn keep(
+    items: &mut VersionList<Item>,
+    engine: &mut Engine,
+    pasts: &mut VecDeque<Past>,
+    past: Past,
+)
+    requires few { length pasts.old.items ≤ EARLIER }
+    requires room { EARLIER < deque_capacity pasts.old }
+    requires items { length items.old.before ≡ 1 + length pasts.old.items }
+    requires solutions { length engine.old.earlier ≡ 1 + length pasts.old.items }
+    ensures now { items.new.items ≡ items.old.items }
+    ensures solution { solution_of engine.new ≡ solution_of engine.old }
+    ensures items { items.new.before ≡ take EARLIER items.old.before }
+    ensures solutions { engine.new.earlier ≡ take EARLIER engine.old.earlier }
+    ensures pasts { pasts.new.items ≡ take EARLIER (past ∷ pasts.old.items) }
+    ensures alike { AreAlike items.new.before engine.new.earlier pasts.new.items }
+    ensures capacity { deque_capacity pasts.new ≡ deque_capacity pasts.old }
+{
+    pasts.push_front_reserved(past);
+    if pasts.len() > EARLIER {
+        let _oldest = pasts.pop_back();
+        items.forget();
+        engine.forget();
+    }
+}

@@ -1,0 +1,121 @@
+// The engine's changes, as a scene tells them. The items are marked before; after a stop those of before the
+// mark are back, and the engine is as before.
+ghost use Rattle.std.specs.Prelude.{◌≡◌, ◌<◌, ◌∷◌, ◌++◌, length, AllPairs, IfOk, IfErr, OnOk, OnErr};
+ghost use Rattle.problem_core.specs.Kept.{IsWhole, AreRising};
+ghost use Rattle.cert_core.specs.Paths as paths;
+ghost use Rattle.layout_solver.specs.Begins.{IsRunFrom, IsStopFrom};
+ghost use Rattle.layout_solver.specs.Layouts.{AreBest, solution_of, with_added, zeros};
+ghost use Rattle.layout_solver.specs.Removals.{CanLeave, IsRemoveStop, stood, with_removed};
+ghost use Rattle.layout_solver.specs.Shifts.{AreKept, CanShift, with_shifts};
+ghost use Rattle.version_list.specs.declared.TheConstants.{VERSION_LIMIT};
+ghost use Rattle.scenes.specs.Steps.{from_corner, from_shifts, HasRun};
+
+use cert_core::RunStop;
+use held_items::Item;
+use layout_solver::{Change, Engine, RemoveStop};
+use problem_core::Row;
+use version_list::VersionList;
+
+/// Takes more attributes and rows, with the stays at the present values, and goes on to the best values.
+pub fn take_more(
+    engine: &mut Engine,
+    items: &mut VersionList<Item>,
+    attrs: &[u32],
+    rows: &[Row],
+    budget: u64,
+) -> Result<(), RunStop>
+    requires marked { 0 < length items.old.before }
+    requires room { length engine.old.earlier < VERSION_LIMIT }
+    requires whole { IsWhole (with_added engine.old attrs.now rows.now) }
+    requires rising { AreRising (engine.old.values ++ zeros attrs.now) }
+    ensures done { OnOk result (engine.new.problem ≡ with_added engine.old attrs.now rows.now) }
+    ensures best { OnOk result (AreBest engine.new.problem engine.new.values) }
+    ensures run { IfOk result (λ _. (path : paths.Path)
+        × IsRunFrom (from_corner engine.old rows.now) engine.new.problem budget path engine.new.values) }
+    ensures stop { IfErr result
+        (IsStopFrom (from_corner engine.old rows.now) (with_added engine.old attrs.now rows.now) budget) }
+    ensures earlier { OnOk result (engine.new.earlier ≡ solution_of engine.old ∷ engine.old.earlier) }
+    ensures items { OnOk result (items.new ≡ items.old) }
+    ensures same { OnErr result (engine.new ≡ engine.old) }
+    ensures back { OnErr result (items.old.before ≡ items.new.items ∷ items.new.before) }
+{
+    match engine.add(attrs, rows, budget) {
+        Ok(()) => {
+            engine.show_layout(); // for the proof: what an engine keeps
+            Ok(())
+        }
+        Err(stop) => {
+            items.back();
+            Err(stop)
+        }
+    }
+}
+
+/// Gives rows other constants, with the stays at the present values, and goes on to the best values.
+pub fn take_constants(
+    engine: &mut Engine,
+    items: &mut VersionList<Item>,
+    to: &[Change],
+    budget: u64,
+) -> Result<(), RunStop>
+    requires marked { 0 < length items.old.before }
+    requires room { length engine.old.earlier < VERSION_LIMIT }
+    requires held { CanShift engine.old.problem to.now }
+    requires rising { AllPairs (λ a b. a.row < b.row) to.now }
+    requires kept { AreKept to.now }
+    ensures done { OnOk result (engine.new.problem ≡ with_shifts engine.old to.now) }
+    ensures best { OnOk result (AreBest engine.new.problem engine.new.values) }
+    ensures run { IfOk result (λ _. (path : paths.Path)
+        × IsRunFrom (from_shifts engine.old) engine.new.problem budget path engine.new.values) }
+    ensures stop { IfErr result (IsStopFrom (from_shifts engine.old) (with_shifts engine.old to.now) budget) }
+    ensures earlier { OnOk result (engine.new.earlier ≡ solution_of engine.old ∷ engine.old.earlier) }
+    ensures items { OnOk result (items.new ≡ items.old) }
+    ensures same { OnErr result (engine.new ≡ engine.old) }
+    ensures back { OnErr result (items.old.before ≡ items.new.items ∷ items.new.before) }
+{
+    match engine.shift(to, budget) {
+        Ok(()) => {
+            engine.show_layout(); // for the proof: what an engine keeps
+            Ok(())
+        }
+        Err(stop) => {
+            items.back();
+            Err(stop)
+        }
+    }
+}
+
+/// Takes rows and attributes out, with the stays at the present values, and goes on to the best values.
+pub fn take_out(
+    engine: &mut Engine,
+    items: &mut VersionList<Item>,
+    rows: &[u32],
+    attrs: &[u32],
+    budget: u64,
+) -> Result<(), RemoveStop>
+    requires marked { 0 < length items.old.before }
+    requires room { length engine.old.earlier < VERSION_LIMIT }
+    requires leave { CanLeave (record { rows = rows.now; attrs = attrs.now }) engine.old.problem }
+    ensures done { OnOk result
+        (engine.new.problem ≡ with_removed engine.old (record { rows = rows.now; attrs = attrs.now })) }
+    ensures best { OnOk result (AreBest engine.new.problem engine.new.values) }
+    ensures run { IfOk result (λ _. HasRun engine.old engine.new
+        (record { rows = rows.now; attrs = attrs.now }) budget) }
+    ensures stop { IfErr result (IsRemoveStop (stood engine.old) engine.old.corner
+        (record { rows = rows.now; attrs = attrs.now }) budget) }
+    ensures earlier { OnOk result (engine.new.earlier ≡ solution_of engine.old ∷ engine.old.earlier) }
+    ensures items { OnOk result (items.new ≡ items.old) }
+    ensures same { OnErr result (engine.new ≡ engine.old) }
+    ensures back { OnErr result (items.old.before ≡ items.new.items ∷ items.new.before) }
+{
+    match engine.remove(rows, attrs, budget) {
+        Ok(()) => {
+            engine.show_layout(); // for the proof: what an engine keeps
+            Ok(())
+        }
+        Err(stop) => {
+            items.back();
+            Err(stop)
+        }
+    }
+}

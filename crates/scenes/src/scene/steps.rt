@@ -1,0 +1,280 @@
+// The steps of a scene. Each changes the items, has the engine solve what they stand for, and keeps the
+// scene of before as the latest earlier one. After a stop all is as before.
+ghost use Rattle.std.specs.Prelude.{◌≡◌, ◌≢◌, ◌<◌, ◌≤◌, ◌+◌, ◌*◌, ℕ, false, length, Some};
+ghost use Rattle.std.specs.Prelude.{All, IfErr, OnOk, OnErr};
+ghost use Rattle.problem_core.specs.Kept.{IsRow};
+ghost use Rattle.problem_core.specs.declared.limits.TheConstants.{NUMBER_LIMIT};
+ghost use Rattle.view_tree.specs.Drops.{AreGoing};
+ghost use Rattle.constraint_compile.specs.Compiled.{AreRowsNow};
+ghost use Rattle.diagnosis.specs.Probes.{NoConflict};
+ghost use Rattle.held_items.specs.declared.limits.TheConstants.{MOST_ROWS};
+ghost use Rattle.held_items.specs.declared.row_numbers.TheConstants.{SIZE_ROWS, VIEW_ROWS};
+ghost use Rattle.scenes.specs.Drafts.{IsNearSuggestion, IsNextSuggestion, metrics_draft};
+ghost use Rattle.held_items.specs.Attributes.{IsNextLine};
+ghost use Rattle.scenes.specs.Drafts.{AreComing, Removing, RemovingStops, Solving, SolvingStops};
+ghost use Rattle.scenes.specs.Drafts.{again_draft, coming_draft, item_draft, left_draft, window_draft};
+ghost use Rattle.held_items.specs.Items.{has_size, size_of};
+ghost use Rattle.scenes.specs.Kept.{IsNextItem};
+ghost use Rattle.held_items.specs.Kept.{item_of, size_in};
+ghost use Rattle.scenes.specs.Leaving.{without_group, without_suggestion, without_views};
+ghost use Rattle.held_items.specs.Moving.{IsFarSize};
+ghost use Rattle.scenes.specs.Moving.{AreChangesFor};
+ghost use Rattle.scenes.specs.Scene.{Remembers, with_line, with_suggestion};
+
+use crate::scene::Scene;
+use crate::scene::past::{Past, keep};
+use crate::scene::solving::{take_constants, take_more, take_out};
+use cert_core::RunStop;
+use constraint_compile::{Compiled, Suggestion};
+use held_items::{
+    HeldSize, Item, Leaver, NewViews, VIEW_ROWS, WindowSize, attributes_from, attributes_in,
+    leaving_numbers, push_item, push_views, resize_first, size_changes, size_of, size_rows,
+    suggest_again, suggestion_rows, take_leaving_out, view_rows,
+};
+use layout_solver::{Change, RemoveStop};
+use name_tables::{Metrics, OwnedName};
+use problem_core::Row;
+use script_text::AttrWord;
+use std::mem;
+use view_tree::ViewId;
+
+impl Scene {
+    // Takes an item more, whose rows these are.
+    fn take_item(&mut self, item: Item, rows: &[Row], budget: u64) -> Result<(), RunStop>
+        requires next { IsNextItem self.old.scene (item_of item) rows.now }
+        requires number { self.old.scene.next_row + length rows.now ≤ NUMBER_LIMIT }
+        ensures solved { Solving self.old (item_draft self.old.scene item rows.now) budget self.new result }
+        ensures stop { SolvingStops self.old (item_draft self.old.scene item rows.now) budget result }
+        ensures earlier { OnOk result (Remembers self.old self.new) }
+        ensures same { OnErr result (self.new ≡ self.old) }
+    {
+        self.engine.show_layout(); // for the proof: what an engine keeps
+        push_item(&mut self.items, item)?;
+        take_more(&mut self.engine, &mut self.items, &[], rows, budget)?;
+        let past = Past::alike(self.next_row);
+        self.next_row += rows.len() as u32;
+        keep(&mut self.items, &mut self.engine, &mut self.pasts, past);
+        Ok(())
+    }
+
+    // Takes out what leaves, of which no view is one.
+    fn take_items_out(&mut self, leaver: Leaver<'_>, budget: u64) -> Result<(), RemoveStop>
+        ensures left { Removing self.old (left_draft self.old.scene leaver.entry) budget self.new result }
+        ensures stop { RemovingStops self.old (left_draft self.old.scene leaver.entry) budget result }
+        ensures earlier { OnOk result (Remembers self.old self.new) }
+        ensures same { OnErr result (self.new ≡ self.old) }
+    {
+        self.engine.show_layout(); // for the proof: what an engine keeps
+        let rows = leaving_numbers(self.alloc, self.items.as_slice(), leaver)?;
+        take_leaving_out(&mut self.items, leaver)?;
+        take_out(&mut self.engine, &mut self.items, &rows, &[], budget)?;
+        let past = Past::alike(self.next_row);
+        keep(&mut self.items, &mut self.engine, &mut self.pasts, past);
+        Ok(())
+    }
+
+    /// Takes views that come, in one step.
+    pub fn take_views(&mut self, new: NewViews, budget: u64) -> Result<(), RunStop>
+        requires grown { AreComing self.old.scene new }
+        requires room { length self.old.scene.rows + VIEW_ROWS * new.count ≤ MOST_ROWS }
+        requires number { self.old.scene.next_row + VIEW_ROWS * new.count ≤ NUMBER_LIMIT }
+        ensures solved { Solving self.old (coming_draft self.old.scene new) budget self.new result }
+        ensures stop { SolvingStops self.old (coming_draft self.old.scene new) budget result }
+        ensures free { IfErr result NoConflict }
+        ensures earlier { OnOk result (Remembers self.old self.new) }
+        ensures same { OnErr result (self.new ≡ self.old) }
+    {
+        self.engine.show_layout(); // for the proof: what an engine keeps
+        let first_row = self.next_row;
+        let rows = view_rows(self.alloc, first_row, new.first_view.0, new.count)?;
+        let attrs = attributes_from(self.alloc, new.first_view.0, new.count)?;
+        push_views(&mut self.items, first_row, new.first_view.0, new.count)?;
+        take_more(&mut self.engine, &mut self.items, &attrs, &rows, budget)?;
+        self.next_row = first_row + VIEW_ROWS * new.count;
+        let past = Past::with_tree(mem::replace(&mut self.tree, new.tree), first_row);
+        keep(&mut self.items, &mut self.engine, &mut self.pasts, past);
+        Ok(())
+    }
+
+    /// Takes these metrics, for which these are the changes.
+    pub fn take_metrics(
+        &mut self,
+        metrics: Metrics,
+        to: &[Change],
+        budget: u64,
+    ) -> Result<(), RunStop>
+        requires { AreChangesFor self.old.scene metrics to.now }
+        ensures solved { Solving self.old (metrics_draft self.old.scene metrics) budget self.new result }
+        ensures stop { SolvingStops self.old (metrics_draft self.old.scene metrics) budget result }
+        ensures earlier { OnOk result (Remembers self.old self.new) }
+        ensures same { OnErr result (self.new ≡ self.old) }
+    {
+        self.engine.show_layout(); // for the proof: what an engine keeps
+        self.items.mark();
+        take_constants(&mut self.engine, &mut self.items, to, budget)?;
+        let past = Past::with_metrics(mem::replace(&mut self.metrics, metrics), self.next_row);
+        keep(&mut self.items, &mut self.engine, &mut self.pasts, past);
+        Ok(())
+    }
+
+    // The window has a size for the first time, which takes two rows.
+    fn size_first(&mut self, size: &WindowSize, budget: u64) -> Result<(), RunStop>
+        requires none { has_size self.old.scene.held ≡ false }
+        requires room { length self.old.scene.rows + SIZE_ROWS ≤ MOST_ROWS }
+        requires number { self.old.scene.next_row + SIZE_ROWS ≤ NUMBER_LIMIT }
+        ensures solved { Solving self.old (window_draft self.old.scene size.now) budget self.new result }
+        ensures stop { SolvingStops self.old (window_draft self.old.scene size.now) budget result }
+        ensures earlier { OnOk result (Remembers self.old self.new) }
+        ensures same { OnErr result (self.new ≡ self.old) }
+    {
+        let _count = self.tree.len(); // for the proof: what a tree keeps
+        let rows = size_rows(self.alloc, self.next_row, size)?;
+        let sized = Item::Sized {
+            first_row: self.next_row,
+            width: size.width,
+            height: size.height,
+        };
+        self.take_item(sized, &rows, budget)
+    }
+
+    // The window has another size than this.
+    fn size_again(&mut self, held: HeldSize, size: &WindowSize, budget: u64) -> Result<(), RunStop>
+        requires some { size_of self.old.scene.held ≡ Some (size_in held) }
+        requires near { IsFarSize self.old.scene.held size.now.width size.now.height → ⊥ }
+        ensures solved { Solving self.old (window_draft self.old.scene size.now) budget self.new result }
+        ensures stop { SolvingStops self.old (window_draft self.old.scene size.now) budget result }
+        ensures earlier { OnOk result (Remembers self.old self.new) }
+        ensures same { OnErr result (self.new ≡ self.old) }
+    {
+        self.engine.show_layout(); // for the proof: what an engine keeps
+        let _dens = (size.width.den(), size.height.den()); // for the proof: what fractions keep
+        let to = size_changes(held.first_row, size);
+        resize_first(&mut self.items, size)?;
+        take_constants(&mut self.engine, &mut self.items, &to, budget)?;
+        let past = Past::alike(self.next_row);
+        keep(&mut self.items, &mut self.engine, &mut self.pasts, past);
+        Ok(())
+    }
+
+    /// Takes this size of the window. The first takes two rows, for which there is to be room.
+    pub fn take_size(&mut self, size: &WindowSize, budget: u64) -> Result<(), RunStop>
+        requires room { has_size self.old.scene.held ≡ false
+            → length self.old.scene.rows + SIZE_ROWS ≤ MOST_ROWS }
+        requires number { has_size self.old.scene.held ≡ false
+            → self.old.scene.next_row + SIZE_ROWS ≤ NUMBER_LIMIT }
+        requires near { IsFarSize self.old.scene.held size.now.width size.now.height → ⊥ }
+        ensures solved { Solving self.old (window_draft self.old.scene size.now) budget self.new result }
+        ensures stop { SolvingStops self.old (window_draft self.old.scene size.now) budget result }
+        ensures earlier { OnOk result (Remembers self.old self.new) }
+        ensures same { OnErr result (self.new ≡ self.old) }
+    {
+        match size_of(self.items.as_slice()) {
+            Some(held) => self.size_again(held, size, budget),
+            None => self.size_first(size, budget),
+        }
+    }
+
+    /// Takes a line more of this group, whose rows these are.
+    pub fn take_line(
+        &mut self,
+        group: OwnedName,
+        line: Compiled,
+        rows: &[Row],
+        budget: u64,
+    ) -> Result<(), RunStop>
+        requires rows { AreRowsNow self.old.scene.metrics line.rows rows.now }
+        requires each { All IsRow rows.now }
+        requires next { IsNextLine self.old.scene.tree.views self.old.scene.next_row line }
+        requires room { length self.old.scene.rows + length rows.now ≤ MOST_ROWS }
+        requires number { self.old.scene.next_row + length rows.now ≤ NUMBER_LIMIT }
+        ensures solved { Solving self.old (with_line self.old.scene group line) budget self.new result }
+        ensures stop { SolvingStops self.old (with_line self.old.scene group line) budget result }
+        ensures earlier { OnOk result (Remembers self.old self.new) }
+        ensures same { OnErr result (self.new ≡ self.old) }
+    {
+        self.take_item(Item::OfLine { group, line }, rows, budget)
+    }
+
+    /// Takes a suggestion more, for whose row there is to be room.
+    pub fn take_suggestion(&mut self, new: Suggestion, budget: u64) -> Result<(), RunStop>
+        requires next { IsNextSuggestion self.old.scene new }
+        requires room { length self.old.scene.rows + 1 ≤ MOST_ROWS }
+        requires number { self.old.scene.next_row < NUMBER_LIMIT }
+        ensures solved { Solving self.old (with_suggestion self.old.scene new) budget self.new result }
+        ensures stop { SolvingStops self.old (with_suggestion self.old.scene new) budget result }
+        ensures earlier { OnOk result (Remembers self.old self.new) }
+        ensures same { OnErr result (self.new ≡ self.old) }
+    {
+        let _count = self.tree.len(); // for the proof: what a tree keeps
+        let rows = suggestion_rows(self.alloc, &new)?;
+        self.take_item(Item::Suggested(new), &rows, budget)
+    }
+
+    /// Takes another constant in the row of a suggestion that is held.
+    pub fn take_suggested(&mut self, again: Suggestion, budget: u64) -> Result<(), RunStop>
+        requires { IsNearSuggestion self.old.scene again }
+        ensures solved { Solving self.old (again_draft self.old.scene again) budget self.new result }
+        ensures stop { SolvingStops self.old (again_draft self.old.scene again) budget result }
+        ensures earlier { OnOk result (Remembers self.old self.new) }
+        ensures same { OnErr result (self.new ≡ self.old) }
+    {
+        self.engine.show_layout(); // for the proof: what an engine keeps
+        let _den = again.constant.den(); // for the proof: what a fraction keeps
+        let to = [Change {
+            row: again.row,
+            constant: again.constant,
+        }];
+        suggest_again(&mut self.items, &again)?;
+        take_constants(&mut self.engine, &mut self.items, &to, budget)?;
+        let past = Past::alike(self.next_row);
+        keep(&mut self.items, &mut self.engine, &mut self.pasts, past);
+        Ok(())
+    }
+
+    /// Takes the lines of a group out.
+    pub fn take_group_out(&mut self, name: &[u8], budget: u64) -> Result<(), RemoveStop>
+        ensures left { Removing self.old (without_group self.old.scene name.now) budget self.new result }
+        ensures stop { RemovingStops self.old (without_group self.old.scene name.now) budget result }
+        ensures earlier { OnOk result (Remembers self.old self.new) }
+        ensures same { OnErr result (self.new ≡ self.old) }
+    {
+        self.take_items_out(Leaver::Group(name), budget)
+    }
+
+    /// Takes the suggestion of this attribute of the view out.
+    pub fn take_suggestion_out(
+        &mut self,
+        view: ViewId,
+        word: AttrWord,
+        budget: u64,
+    ) -> Result<(), RemoveStop>
+        ensures left { Removing
+            self.old (without_suggestion self.old.scene view.0 word) budget self.new result }
+        ensures stop { RemovingStops self.old (without_suggestion self.old.scene view.0 word) budget result }
+        ensures earlier { OnOk result (Remembers self.old self.new) }
+        ensures same { OnErr result (self.new ≡ self.old) }
+    {
+        self.take_items_out(Leaver::Suggestion(view.0, word), budget)
+    }
+
+    /// Takes these views out, which are a view and all below it, with the lines that name one of them.
+    pub fn take_views_out(&mut self, gone: &[u32], budget: u64) -> Result<(), RemoveStop>
+        requires { (root : ℕ) × (root ≢ 0) × AreGoing self.old.scene.tree.views root gone.now }
+        ensures left { Removing self.old (without_views self.old.scene gone.now) budget self.new result }
+        ensures stop { RemovingStops self.old (without_views self.old.scene gone.now) budget result }
+        ensures earlier { OnOk result (Remembers self.old self.new) }
+        ensures same { OnErr result (self.new ≡ self.old) }
+    {
+        self.engine.show_layout(); // for the proof: what an engine keeps
+        let _count = self.tree.len(); // for the proof: what a tree keeps
+        let rows = leaving_numbers(self.alloc, self.items.as_slice(), Leaver::Views(gone))?;
+        let attrs = attributes_in(self.alloc, gone)?;
+        let mut tree = self.tree.copy()?;
+        tree.drop_views(gone);
+        take_leaving_out(&mut self.items, Leaver::Views(gone))?;
+        take_out(&mut self.engine, &mut self.items, &rows, &attrs, budget)?;
+        let past = Past::with_tree(mem::replace(&mut self.tree, tree), self.next_row);
+        keep(&mut self.items, &mut self.engine, &mut self.pasts, past);
+        Ok(())
+    }
+}

@@ -1,5 +1,0 @@
-use Rattle.std.proofs.Common.{refl}
-use Rattle.session_undo.proofs.item.coming.view_attributes.Goals as goal
-
-pub returns : goal.returns
-returns c = rw c.attributes-attrs.ensures refl

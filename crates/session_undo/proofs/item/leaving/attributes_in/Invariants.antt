@@ -1,6 +1,0 @@
-use Rattle.std.proofs.Common.{◌≡◌, take}
-use Rattle.session_undo.specs.Leaving.{attributes_in}
-use Rattle.session_undo.proofs.item.leaving.attributes_in.Given as goal
-
-abbrev pub invariant-loop-id : goal.invariant-loop-id
-invariant-loop-id l = l.attrs.items ≡ attributes_in (take l.id-index l.gone)

@@ -1,0 +1,35 @@
+-- What a session holds: a scene, those before it, and how much there may be.
+use Rattle.std.specs.Prelude.{ℕ, List, [], All}
+use Rattle.view_tree.specs.declared.limits.TheConstants.{VIEW_LIMIT}
+use Rattle.held_items.specs.declared.limits.TheConstants.{MOST_ROWS}
+use Rattle.scenes.specs.declared.limits.TheConstants.{FIRST_BUDGET}
+use Rattle.session_undo.specs.declared.limits.TheConstants.{MOST_LINES}
+use Rattle.scenes.specs.Scene.{IsBestScene, first_scene, Scene}
+
+-- how many views, lines of groups and rows there may be
+pub record Limits : Type 0 where
+  pub views : ℕ
+  pub lines : ℕ
+  pub rows : ℕ
+
+-- the scene, those before it, the latest first, how many exchanges each run may make, and the limits
+pub record State : Type 0 where
+  pub scene : Scene
+  pub earlier : List Scene
+  pub budget : ℕ
+  pub limits : Limits
+
+-- the values of the scene, and of all that are kept, are the best
+abbrev pub IsBestState : State → Type 0
+IsBestState s = IsBestScene s.scene × All IsBestScene s.earlier
+
+-- ---- a new session
+
+-- the limits of a new session
+abbrev pub first_limits : Limits
+first_limits = record { views = VIEW_LIMIT; lines = MOST_LINES; rows = MOST_ROWS }
+
+-- a new session
+abbrev pub first_state : State
+first_state =
+    record { scene = first_scene; earlier = []; budget = FIRST_BUDGET; limits = first_limits }
