@@ -1,5 +1,5 @@
 -- What a draft with room comes to.
-use Rattle.std.proofs.Common.{◌≡◌, ◌∙◌, ℕ, zero, suc, ◌+◌, ◌^◌, ◌≤◌, Bool, false, List, [], ◌∷◌, length, pos, refl, sym, ap, subst, arith, inl, inr, ◌⊎◌}
+use Rattle.std.proofs.Common.{◌≡◌, ◌≢◌, ◌∙◌, ℕ, zero, suc, ◌+◌, ◌^◌, ◌≤◌, Bool, false, List, [], ◌∷◌, length, pos, refl, sym, ap, subst, arith, inl, inr, ◌⊎◌}
 use Rattle.frac_core.specs.Fraction.{Fraction, IsKept, IsUnfitRatio}
 use Rattle.problem_core.specs.declared.parts.Mark.{Mark}
 use Rattle.problem_core.specs.declared.parts.RowName.TheVariants.{Held}
@@ -108,17 +108,17 @@ module _ (old : State) (draft : Scene) (reply : Reply) (new : State) where
       stops false q q.rows (FromRemoved (stood_of old.scene) kept l.rows l.rows q) old.budget stop
       (subst (λ (p : Problem). HasRoom p.rows old.budget p) leaves.left room.0) h
 
-  held : (rows : List Row) (kept : List Mark) (l : Leaving) (still : List ℕ) (at : UnfitPath) → FitsOnTheWay old.scene (draft_problem draft rows) → IsLeaving old.scene draft rows kept l → IsHeldPath (stood_of old.scene) kept l.rows still at → ⊥
-  held rows kept l still at fits leaves h =
+  held : (rows : List Row) (kept : List Mark) (l : Leaving) (still : List ℕ) (at : UnfitPath) → FitsOnTheWay old.scene (draft_problem draft rows) → IsLeaving old.scene draft rows kept l → still ≢ [] → IsHeldPath (stood_of old.scene) kept l.rows still at → ⊥
+  held rows kept l still at fits leaves some h =
       let q : Problem = without_rows h.gone (stood_of old.scene) in
       unfit-there false q q.rows (FromRemoved (stood_of old.scene) kept l.rows h.gone q) at.path at.quantity
-      (fits l leaves.can leaves.rising leaves.left h.gone still h.in_order) h.stop.2
+      (fits l leaves.can leaves.rising leaves.left h.gone still h.in_order some) h.stop.2
 
   cannot : (stop : RemoveStop) → HasLeavingRoom → CannotLeave old.scene draft old.budget stop → TellsStill old stop reply new → ⊥
   cannot (removal.Unfit still at) room h told =
       let roomy : HasRoomToLeave old (draft_problem draft h.rows) = room (draft_problem draft h.rows) (h.are, refl) in
       elim h.stops [
-        | inl way ↦ held h.rows h.kept h.leaving still.items at roomy.1 h.leaves way
+        | inl way ↦ held h.rows h.kept h.leaving still.items at roomy.1 h.leaves way.0 way.1
         | inr end ↦ left h.rows h.kept h.leaving (run.Unfit at) roomy h.leaves end.1
       ]
   cannot (removal.Spent path) room h told = told

@@ -95,7 +95,7 @@ gone-fits l can (id ∷ gone) still is =
 pub held-room : (p : Problem) → Poses held_state (mean.Remove []) p → HasRoomToLeave held_state p
 held-room p h =
     let is : p ≡ bare = removed p (no-cause (Unknown []) refl h) in
-    (subst (λ (q : Problem). HasRoom q.rows 100000 q) (sym is) bare-room, λ l can rising left gone still order. gone-fits l can gone still order)
+    (subst (λ (q : Problem). HasRoom q.rows 100000 q) (sym is) bare-room, λ l can rising left gone still order some. gone-fits l can gone still order)
 
 pub held-poses : Poses held_state (mean.Remove []) bare
 held-poses = inr ((λ e. true≢false e), (refl, refl))

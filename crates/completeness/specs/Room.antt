@@ -1,5 +1,5 @@
 -- What room a step needs: numbers that fit, and a budget that is large.
-use Rattle.std.specs.Prelude.{◌≡◌, ℕ, ◌+◌, ◌^◌, ◌<◌, ◌≤◌, Bool, List, [], ◌++◌, length, pos, AllPairs}
+use Rattle.std.specs.Prelude.{◌≡◌, ◌≢◌, ℕ, ◌+◌, ◌^◌, ◌<◌, ◌≤◌, Bool, List, [], ◌++◌, length, pos, AllPairs}
 use Rattle.frac_core.specs.Fraction.{Fraction, IsKept, IsUnfitRatio}
 use Rattle.problem_core.specs.Gaps.{value_of}
 use Rattle.problem_core.specs.Kept.{IsWhole}
@@ -32,7 +32,7 @@ pub record HasRoom (before : List Row) (budget : ℕ) (p : Problem) : Type 0 whe
 abbrev pub FitsOnTheWay : Scene → Problem → Type 0
 FitsOnTheWay scene p = (l : Leaving) → CanLeave l (stood_of scene) → AllPairs (λ a b. a < b) l.rows
     → p ≡ without l (stood_of scene)
-    → (gone still : List ℕ) → gone ++ still ≡ l.rows
+    → (gone still : List ℕ) → gone ++ still ≡ l.rows → still ≢ []
     → AllFit (without_rows gone (stood_of scene)) (without_rows gone (stood_of scene)).rows
 
 -- a removal has room over the rows that are left, also on the way

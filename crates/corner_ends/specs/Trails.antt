@@ -5,7 +5,7 @@ use Rattle.problem_core.specs.declared.parts.Mark.{Mark}
 use Rattle.problem_core.specs.declared.stops.Quantity.{Quantity}
 use Rattle.problem_core.specs.Layout.{Problem}
 use Rattle.problem_core.specs.Kept.{IsWhole}
-use Rattle.problem_core.specs.Corners.{IsCorner, SameMarks, Swap}
+use Rattle.problem_core.specs.Corners.{IsCorner, SameMarks, Swap, place}
 use Rattle.problem_core.specs.Changes.Paths.{IsEndOf, IsSound, last_marks}
 use Rattle.problem_core.specs.Rays.{HasRays}
 use Rattle.corner_laws.specs.Runs.{AreDualSwaps, AreRunSwaps}
@@ -13,15 +13,12 @@ use Rattle.cert_core.specs.Paths.{Path}
 use Rattle.cert_core.specs.Stops.{IsStopOf}
 use Rattle.cert_core.specs.declared.stops.RunStop.{RunStop}
 use Rattle.corner.specs.Changes.{IsUnfitStop}
-use Rattle.corner.specs.Views.{CornerView, in_order}
+use Rattle.corner.specs.Views.{CornerView, in_order, is_mark}
 use Rattle.corner_ends.specs.Runs.{FromHere}
 
--- exchanges of a run, dual or primal, and the marks of its first corner, which are listed where they are
--- known
+-- exchanges of a run, dual or primal
 pub record Trail : Type 0 where
   pub dual : Bool
-  pub corner : List Mark
-  pub is_known : Bool
   pub swaps : List Swap
 
 -- the exchanges of a dual run from these marks, or of a primal one
@@ -46,7 +43,6 @@ pub record IsTrailOf (dual : Bool) (p : Problem) (first : List Mark) (trail : Tr
   pub kind : trail.dual ≡ dual
   pub swapped : HasRun dual p first trail.swaps at
   pub ordered : first ≡ in_order p first
-  pub known : trail.is_known ≡ true → trail.corner ≡ first
 
 -- ---- what holds of a trail at a corner, whichever run it is of
 
@@ -54,6 +50,11 @@ pub record IsTrailOf (dual : Bool) (p : Problem) (first : List Mark) (trail : Tr
 abbrev pub IsFirstCorner : CornerView → Trail → List Mark → Type 0
 IsFirstCorner c trail marks = (dual : Bool) (first : List Mark) → IsTrailOf dual c.problem first trail c.marks
     → marks ≡ first
+
+-- the mark is among these or not, as told
+abbrev pub BeganWith : CornerView → Trail → Mark → Bool → Type 0
+BeganWith c trail m told = (dual : Bool) (first : List Mark) → IsTrailOf dual c.problem first trail c.marks
+    → told ≡ is_mark first (place m)
 
 -- the path goes from the run's first corner by these exchanges
 abbrev pub IsPathBy : CornerView → Trail → List Swap → Path → Type 0

@@ -20,8 +20,8 @@ fn mark_at(row: RowName, side: Side) -> Mark
     Mark { row, side }
 }
 
-// Whether the mark was inside the first corner: the first exchange that names it tells.
-fn was_inside(c: &Corner, swaps: &[Swap], mark: Mark) -> bool
+/// Whether the mark was inside the first corner: the first exchange that names it tells.
+pub(crate) fn was_inside(c: &Corner, swaps: &[Swap], mark: Mark) -> bool
     requires { IsMarkOf c.now.problem mark }
     ensures { (first : List MarkOfLine) → HasExchanged first swaps.now c.now.marks
         → result ≡ is_mark first (corners.place mark) }

@@ -1,9 +1,10 @@
 // The exchanges of a run so far, primal or dual, and the stops that name them.
-ghost use Rattle.std.specs.Prelude.{◌≡◌, ◌<◌, ◌≤◌, ◌+◌, ◌++◌, ◌∷◌, [], Bool, length, true, false};
+ghost use Rattle.std.specs.Prelude.{◌≡◌, ◌<◌, ◌≤◌, ◌+◌, ◌++◌, ◌∷◌, [], length, true, false};
 ghost use Rattle.std.specs.Prelude.{IfOk};
 ghost use Rattle.problem_core.specs.Changes.Paths.{IsSound};
+ghost use Rattle.corner.specs.Views.{IsMarkOf};
 
-use crate::begins::first_marks;
+use crate::begins::{first_marks, was_inside};
 use cert_core::{Path, RunStop, Swap, UnfitPath};
 use corner::Corner;
 use frac_core::OutOfMemory;
@@ -11,13 +12,11 @@ use problem_core::{Mark, Quantity};
 use std::alloc::Global;
 use std::marker::Model;
 
-/// The exchanges of a run so far. The marks of its first corner are listed where they are wanted.
+/// The exchanges of a run so far. The marks of its first corner are listed at a stop alone.
 #[derive(Drop)]
 pub struct Trail {
     alloc: Global,
     dual: bool,
-    corner: Vec<Mark>,
-    is_known: bool,
     swaps: Vec<Swap>,
 }
 
@@ -28,15 +27,13 @@ impl Model for Trail {
 
     ghost view = { λ t. record {
       dual = t.dual;
-      corner = t.corner.items;
-      is_known = t.is_known;
       swaps = t.swaps.items;
     } };
 }
 
 impl Trail {
-    ghost use Rattle.corner_ends.specs.Trails.{GoesOnBy, IsFirstCorner, IsPathBy, IsSpentStop, IsTrailOf};
-    ghost use Rattle.corner_ends.specs.Trails.{IsUnfitAfter, StaysTrail};
+    ghost use Rattle.corner_ends.specs.Trails.{BeganWith, GoesOnBy, IsFirstCorner, IsPathBy, IsSpentStop};
+    ghost use Rattle.corner_ends.specs.Trails.{IsTrailOf, IsUnfitAfter};
 
     // The trail of these exchanges, which are none yet.
     fn begun(alloc: Global, dual: bool, c: &Corner, swaps: Vec<Swap>) -> Trail
@@ -46,13 +43,7 @@ impl Trail {
         ensures trail { IsTrailOf dual c.now.problem c.now.marks result c.now.marks }
     {
         c.show_corner(); // for the proof: what a corner keeps
-        Trail {
-            alloc,
-            dual,
-            corner: Vec::new(alloc),
-            is_known: false,
-            swaps,
-        }
+        Trail { alloc, dual, swaps }
     }
 
     /// The trail of no exchange from the corner.
@@ -105,57 +96,34 @@ impl Trail {
         Ok(marks)
     }
 
-    /// Lists the marks of the first corner, where they aren't listed yet.
-    pub fn find_corner(&mut self, c: &Corner) -> Result<(), OutOfMemory>
-        ensures swaps { self.new.swaps ≡ self.old.swaps }
-        ensures known { IfOk result (λ _. IsFirstCorner c.now self.old self.new.corner) }
-        ensures trail { IfOk result (λ _. (dual : Bool) → StaysTrail dual c.now self.old c.now self.new) }
+    /// Whether the mark was inside the first corner.
+    pub fn began_with(&self, c: &Corner, mark: Mark) -> bool
+        requires { IsMarkOf c.now.problem mark }
+        ensures { BeganWith c.now self.now mark result }
     {
-        if !self.is_known {
-            self.corner = self.first_corner(c)?;
-            self.is_known = true;
-        }
-        Ok(())
-    }
-
-    /// The marks that are listed.
-    pub fn corner(&self) -> &[Mark]
-        ensures { result.now ≡ self.now.corner }
-    {
-        &self.corner
-    }
-
-    // The path from the listed marks.
-    fn to_path(&self) -> Result<Path, OutOfMemory>
-        ensures { IfOk result (λ path. path ≡ record {
-          dual = self.now.dual;
-          corner = self.now.corner;
-          swaps = self.now.swaps;
-        }) }
-    {
-        Path::of(self.alloc, self.dual, &self.corner, &self.swaps)
+        was_inside(c, &self.swaps, mark)
     }
 
     // The path so far.
-    fn path(&mut self, c: &Corner) -> Result<Path, OutOfMemory>
-        ensures { IfOk result (IsPathBy c.now self.old self.old.swaps) }
+    fn path(&self, c: &Corner) -> Result<Path, OutOfMemory>
+        ensures { IfOk result (IsPathBy c.now self.now self.now.swaps) }
     {
-        self.find_corner(c)?;
-        self.to_path()
+        let marks = self.first_corner(c)?;
+        Path::of(self.alloc, self.dual, &marks, &self.swaps)
     }
 
     // The path so far, with one exchange more.
     fn path_with(&mut self, c: &Corner, swap: Swap) -> Result<Path, OutOfMemory>
         ensures { IfOk result (IsPathBy c.now self.old (self.old.swaps ++ swap ∷ [])) }
     {
-        self.find_corner(c)?;
+        let marks = self.first_corner(c)?;
         self.swaps.push(swap)?;
-        self.to_path()
+        Path::of(self.alloc, self.dual, &marks, &self.swaps)
     }
 
     /// The stop where the exchanges are used up.
-    pub fn spent(&mut self, c: &Corner) -> RunStop
-        ensures { IsSpentStop c.now self.old result }
+    pub fn spent(&self, c: &Corner) -> RunStop
+        ensures { IsSpentStop c.now self.now result }
     {
         match self.path(c) {
             Ok(path) => RunStop::Spent(path),

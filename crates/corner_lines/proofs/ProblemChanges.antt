@@ -8,4 +8,6 @@ pub mod Shifted
 pub mod ShiftedCorner
 pub mod Dropped
 pub mod DroppedAttr
+pub mod LeftWholes
+pub mod LeftUnfits
 pub mod JoinedBegins

@@ -5,10 +5,12 @@ use Rattle.problem_core.specs.Kept.{IsWhole}
 use Rattle.problem_core.specs.Changes.Begins.{without_marks}
 use Rattle.problem_core.specs.Corners.{IsCorner, IsIn, attr_column, place_of}
 use Rattle.problem_core.specs.Rays.{HasRays}
+use Rattle.problem_core.specs.Unfit.{IsUnfitWhat}
 use Rattle.problem_core.specs.declared.parts.Mark.{Mark}
 use Rattle.problem_core.specs.declared.parts.RowName.{RowName}
 use Rattle.problem_core.specs.declared.parts.RowName.TheVariants.{Held, Stay as StayOf}
 use Rattle.problem_core.specs.declared.parts.Side.{Side}
+use Rattle.problem_core.specs.declared.stops.What.{What}
 use Rattle.corner_lines.specs.LineEquations.{deviation}
 use Rattle.corner_lines.specs.Removals.{HoldsWithoutAttr, HoldsWithoutRow, IsFree, without_attr, without_row}
 
@@ -58,3 +60,8 @@ abbrev pub WithoutAttrKeepsLines : Type 0
 WithoutAttrKeepsLines = (p : Problem) (at : List Mark) (attr : ℕ) (name : RowName) (side : Side) → IsWhole p
     → IsCorner p at → IsFree p attr → IsIn (place_of name side) at
     → HoldsWithoutAttr p at attr (deviation name)
+
+-- what does not fit beside such an attribute does not fit without it
+abbrev pub LeftIsUnfit : Type 0
+LeftIsUnfit = (p : Problem) (at : List Mark) (attr : ℕ) (what : What) → IsWhole p → IsCorner p at
+    → IsFree p attr → IsUnfitWhat p at what → IsUnfitWhat (without_attr attr p) at what

@@ -145,6 +145,7 @@ pub use levels::unfit_turned_cost;
 pub use levels::untouched_row_stays;
 pub use levels::whole_is_sound;
 pub use removals::free_stay_is_outside;
+pub use removals::left_is_unfit;
 pub use removals::without_attr_has_rays;
 pub use removals::without_attr_is_corner;
 pub use removals::without_attr_keeps_attrs;

@@ -1,5 +1,6 @@
 // The laws of a row or an attribute that is taken out, each the contract of a function that does nothing.
-ghost use Rattle.corner_lines.specs.RemovalLaws.{FreeStayIsOutside, WithoutAttrHasRays, WithoutAttrIsCorner};
+ghost use Rattle.corner_lines.specs.RemovalLaws.{FreeStayIsOutside, LeftIsUnfit, WithoutAttrHasRays};
+ghost use Rattle.corner_lines.specs.RemovalLaws.{WithoutAttrIsCorner};
 ghost use Rattle.corner_lines.specs.RemovalLaws.{WithoutAttrKeepsAttrs, WithoutAttrKeepsLines};
 ghost use Rattle.corner_lines.specs.RemovalLaws.{WithoutRowHasRays, WithoutRowIsCorner, WithoutRowKeepsAttrs};
 ghost use Rattle.corner_lines.specs.RemovalLaws.{WithoutRowKeepsLines};
@@ -47,4 +48,9 @@ pub fn without_attr_keeps_attrs()
 /// So do those of the inside lines' deviations.
 pub fn without_attr_keeps_lines()
     ensures { WithoutAttrKeepsLines }
+{}
+
+/// What does not fit beside such an attribute does not fit without it.
+pub fn left_is_unfit()
+    ensures { LeftIsUnfit }
 {}

@@ -4,5 +4,7 @@ pub mod LeftPaths
 pub mod LeftRows
 pub mod LeftStops
 pub mod LeftEnds
+pub mod LeftAttrs
 pub mod LeftChanges
+pub mod PlainStops
 pub mod Instances

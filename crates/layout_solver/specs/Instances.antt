@@ -7,6 +7,7 @@ use Rattle.problem_core.specs.declared.parts.Mark.{Mark}
 use Rattle.problem_core.specs.declared.parts.Rel.TheVariants.{Ge}
 use Rattle.problem_core.specs.Layout.{Problem, Row}
 use Rattle.cert_core.specs.Paths.{Path}
+use Rattle.cert_core.specs.Stops.{IsPlain}
 use Rattle.cert_core.specs.declared.stops.UnfitPath.{UnfitPath}
 use Rattle.corner_laws.specs.Examples.{over_row, over_second, over_stay, single, under_row}
 use Rattle.marker_remove.specs.Instances.{standing, x_over}
@@ -75,3 +76,8 @@ pub record SomeRemovalsStop : Type 0 where
       (Spent below_bound)
   pub not_spent : IsRemoveStop (with_second (single 5)) (under_row ∷ over_second ∷ []) (leaving (2 ∷ []) []) 1
       (Spent below_bound) → ⊥
+
+-- whatever leaves, a removal's stop names a whole quantity: no first terms or rows, and no changed constants
+abbrev pub RemovalsStopPlainly : Type 0
+RemovalsStopPlainly = (p : Problem) (kept : List Mark) (l : Leaving) (budget : ℕ) (still : Vec ℕ)
+    (at : UnfitPath) → IsRemoveStop p kept l budget (Unfit still at) → IsPlain at.quantity

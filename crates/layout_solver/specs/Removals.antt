@@ -65,9 +65,11 @@ abbrev pub IsLeftStop : Problem → List Mark → Leaving → ℕ → RunStop �
 IsLeftStop p kept l budget stop = IsStopOf false (without l p) (without l p).rows
     (FromRemoved p kept l.rows l.rows (without l p)) budget stop
 
--- why they cannot leave the problem at the marks that were kept: never a conflict
+-- why they cannot leave the problem at the marks that were kept: never a conflict. Where no row is told as
+-- still held, the attributes have left too
 abbrev pub IsRemoveStop : Problem → List Mark → Leaving → ℕ → RemoveStop → Type 0
-IsRemoveStop p kept l budget (Unfit still at) = IsHeldPath p kept l.rows still.items at
+IsRemoveStop p kept l budget (Unfit still at) =
+    ((still.items ≢ []) × IsHeldPath p kept l.rows still.items at)
     ⊎ ((still.items ≡ []) × IsLeftStop p kept l budget (UnfitRun at))
 IsRemoveStop p kept l budget (Spent path) = IsLeftStop p kept l budget (SpentRun path)
 IsRemoveStop p kept l budget OutOfMemory = Unit {0}

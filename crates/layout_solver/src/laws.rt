@@ -1,5 +1,5 @@
 // That some rows and attributes cannot leave, and some removals stop.
-ghost use Rattle.layout_solver.specs.Instances.{SomeCannotLeave, SomeRemovalsStop};
+ghost use Rattle.layout_solver.specs.Instances.{RemovalsStopPlainly, SomeCannotLeave, SomeRemovalsStop};
 
 /// Two rows of one attribute can leave with it, or one of them without it; but the attribute not without
 /// both, no row twice, and nothing that is not there.
@@ -12,4 +12,9 @@ pub fn some_cannot_leave()
 /// first. A budget of 0 is used up where x is below its bound, and a budget of 1 is not.
 pub fn some_removals_stop()
     ensures { SomeRemovalsStop }
+{}
+
+/// Whatever leaves, a removal's stop names a whole quantity: no first terms or rows, and no changed constants.
+pub fn removals_stop_plainly()
+    ensures { RemovalsStopPlainly }
 {}

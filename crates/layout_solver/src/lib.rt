@@ -66,5 +66,5 @@ mod shifting;
 mod trying;
 
 pub use engine::{Change, Engine};
-pub use laws::{some_cannot_leave, some_removals_stop};
+pub use laws::{removals_stop_plainly, some_cannot_leave, some_removals_stop};
 pub use removing::RemoveStop;

@@ -255,6 +255,7 @@ fn take_out(
     ensures stop { IfErr result (IsRemoveStop c.old.problem c.old.marks
         (record { rows = rows.now; attrs = attrs.now }) budget) }
 {
+    c.show_corner(); // for the proof: what a corner keeps
     drop_rows(alloc, c, rows)?;
     leave_attrs(alloc, c, attrs, budget)
 }

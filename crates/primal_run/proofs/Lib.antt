@@ -2,3 +2,4 @@ pub mod FirstLevel
 pub mod Counts
 pub mod Leaves
 pub mod RunFacts
+pub mod Deciders

@@ -1,2 +1,3 @@
 pub mod Entering
 pub mod Leaving
+pub mod Deciding

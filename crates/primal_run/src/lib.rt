@@ -32,11 +32,12 @@
 //! There is no first phase apart: what the required rows lack is the cost of the strongest level.
 //!
 //! To read: `entering` finds the mark that enters, `required` does so where the required rows cost; `ties`
-//! tells which of two marks comes to 0 first, `leaving` which of all; `runs` makes an exchange; and
-//! `settling` is the run. What it shares with the dual run is in `corner_ends`, which keeps the exchanges so
-//! far (`Trail`).
+//! tells where an inside mark comes to 0, `deciding` which of two comes to 0 first, and `leaving` which of
+//! all; `runs` makes an exchange; and `settling` is the run. What it shares with the dual run is in
+//! `corner_ends`, which keeps the exchanges so far (`Trail`).
 #![tactic(auto)]
 
+mod deciding;
 mod entering;
 mod leaving;
 mod required;

@@ -9,31 +9,12 @@ ghost use Rattle.corner.specs.Views.{MovesWith};
 ghost use Rattle.corner_ends.specs.Trails.{IsTrailOf, IsTrailStop, StaysTrail};
 ghost use Rattle.primal_run.specs.Entering.{MayEnter};
 
-use crate::leaving::{leaving, leaving_untied};
+use crate::leaving::leaving;
 use cert_core::{RunStop, Swap};
 use corner::Corner;
 use corner_ends::Trail;
-use frac_core::{OutOfMemory, Stop};
+use frac_core::Stop;
 use problem_core::Mark;
-
-// The inside mark that leaves. The marks of the first corner are listed where two come to 0 together.
-fn leaving_mark(trail: &mut Trail, c: &Corner, enter: Mark) -> Result<Mark, OutOfMemory>
-    requires trail { (first : List MarkOfLine) × IsTrailOf false c.now.problem first trail.old c.now.marks }
-    requires enter { MayEnter c.now.problem c.now.marks enter }
-    ensures swaps { trail.new.swaps ≡ trail.old.swaps }
-    ensures trail { IfOk result (λ _. StaysTrail false c.now trail.old c.now trail.new) }
-    ensures inside { IfOk result (λ m. IsIn (corners.place m) c.now.marks) }
-    ensures moves { IfOk result (λ m. MovesWith c.now.problem c.now.marks enter (MarkOf m)) }
-    ensures first { IfOk result (λ m. (first : List MarkOfLine)
-        → IsTrailOf false c.now.problem first trail.old c.now.marks
-        → IsFirstToLeave c.now.problem first c.now.marks (record { enter = enter; leave = m })) }
-{
-    if let Ok(leave) = leaving_untied(c, enter) {
-        return Ok(leave);
-    }
-    trail.find_corner(c)?;
-    Ok(leaving(c, enter, trail.corner()))
-}
 
 /// Exchanges a mark that may enter for the one that comes to 0 first.
 pub(crate) fn exchange(trail: &mut Trail, c: &mut Corner, enter: Mark) -> Result<(), RunStop>
@@ -47,7 +28,7 @@ pub(crate) fn exchange(trail: &mut Trail, c: &mut Corner, enter: Mark) -> Result
     ensures stop { IfErr result (IsTrailStop false c.old trail.old) }
 {
     c.show_corner(); // for the proof: what a corner keeps
-    let leave = leaving_mark(trail, c, enter)?;
+    let leave = leaving(c, trail, enter);
     match c.swap(enter, leave) {
         Ok(()) => {
             trail.push(Swap { enter, leave })?;

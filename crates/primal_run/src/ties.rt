@@ -1,18 +1,15 @@
-// How much of an entering mark takes an inside mark's value to 0, and which of two marks falls first.
-ghost use Rattle.std.specs.Prelude.{◌≡◌, ◌≤◌, ◌^◌, ◌*ℤ◌, neg_ℤ, pos, true, false};
-ghost use Rattle.std.specs.Prelude.{All, List, unsigned_abs, IfOk, IfSome, IfNone};
+// How much of an entering mark takes an inside mark's value to 0, and what it counts at other marks.
+ghost use Rattle.std.specs.Prelude.{◌≡◌, ◌≤◌, ◌^◌, ◌*ℤ◌, neg_ℤ, pos, unsigned_abs, IfSome, IfNone};
 ghost use Rattle.problem_core.specs.Corners as corners;
 ghost use Rattle.problem_core.specs.Corners.{IsIn};
 ghost use Rattle.corner_laws.specs.Runs.{Writes, Writing, count_at};
-ghost use Rattle.problem_core.specs.declared.parts.Mark.{Mark as MarkOfLine};
 ghost use Rattle.problem_core.specs.declared.stops.What.TheVariants.{Mark as MarkOf};
 ghost use Rattle.corner.specs.Views.{IsMarkOf, IsOutside, IsScaleOf};
 ghost use Rattle.primal_run.specs.Leaving as leaving;
-ghost use Rattle.primal_run.specs.Leaving.{ForWritings, IsEarlier, IsRatioAt, NeverFalls, WinsTie};
+ghost use Rattle.primal_run.specs.Leaving.{ForWritings, IsRatioAt, NeverFalls};
 
 use corner::Corner;
 use corner_ends::{coefficient_of, is_below, product};
-use frac_core::cmp_wide;
 use problem_core::{Mark, What};
 use std::cmp::Ordering;
 
@@ -84,8 +81,8 @@ fn count(c: &Corner, m: Mark, f: Mark, by: i64) -> i128
     opposite(product(coefficient_of(c, m, f), by))
 }
 
-// The order of what two inside marks count at a mark of the run's first corner, each over its coefficient.
-fn count_order(c: &Corner, a: Ratio, b: Ratio, f: Mark) -> Ordering
+/// The order of what two inside marks count at a mark of the run's first corner, each over its coefficient.
+pub(crate) fn count_order(c: &Corner, a: Ratio, b: Ratio, f: Mark) -> Ordering
     requires a { IsIn (corners.place a.mark) c.now.marks }
     requires b { IsIn (corners.place b.mark) c.now.marks }
     requires first { IsMarkOf c.now.problem f }
@@ -93,66 +90,4 @@ fn count_order(c: &Corner, a: Ratio, b: Ratio, f: Mark) -> Ordering
         (λ v w. result ≡ leaving.count_order f a v b w) }
 {
     count(c, b.mark, f, a.by).cmp(&count(c, a.mark, f, b.by))
-}
-
-// Whether the first of two marks that come to 0 together leaves, by what they count at the marks of the
-// run's first corner.
-fn breaks_tie(c: &Corner, a: Ratio, b: Ratio, enter: Mark, first: &[Mark]) -> bool
-    requires a { IsRatioAt c.now.problem c.now.marks (corners.place enter) a }
-    requires b { IsRatioAt c.now.problem c.now.marks (corners.place enter) b }
-    requires first { All (IsMarkOf c.now.problem) first.now }
-    ensures yes { result ≡ true
-        → WinsTie c.now.problem c.now.marks (corners.place enter) first.now a.mark b.mark }
-    ensures no { result ≡ false
-        → WinsTie c.now.problem c.now.marks (corners.place enter) first.now b.mark a.mark }
-{
-    c.show_corner(); // for the proof: what a corner keeps
-    for f in first {
-        match count_order(c, a, b, *f) {
-            Ordering::Less => return true,
-            Ordering::Greater => return false,
-            Ordering::Equal => {}
-        }
-    }
-    false
-}
-
-/// Two ratios are equal, so that the marks of the run's first corner decide.
-#[derive(Clone, Copy, Debug)]
-pub(crate) struct Tied;
-
-/// The smaller one of two ratios, unless they are equal.
-pub(crate) fn smaller(c: &Corner, a: Ratio, b: Ratio, enter: Mark) -> Result<Ratio, Tied>
-    requires a { IsRatioAt c.now.problem c.now.marks (corners.place enter) a }
-    requires b { IsRatioAt c.now.problem c.now.marks (corners.place enter) b }
-    ensures { IfOk result (λ best. (first : List MarkOfLine)
-        → IsEarlier c.now.problem c.now.marks (corners.place enter) first a b best) }
-{
-    c.show_corner(); // for the proof: what a corner keeps
-    match cmp_wide(a.above, a.below, b.above, b.below) {
-        Ordering::Less => Ok(a),
-        Ordering::Greater => Ok(b),
-        Ordering::Equal => Err(Tied),
-    }
-}
-
-/// The ratio of the mark that leaves, of two: the smaller one, and of equal ones that which breaks the tie.
-pub(crate) fn earlier(c: &Corner, a: Ratio, b: Ratio, enter: Mark, first: &[Mark]) -> Ratio
-    requires a { IsRatioAt c.now.problem c.now.marks (corners.place enter) a }
-    requires b { IsRatioAt c.now.problem c.now.marks (corners.place enter) b }
-    requires first { All (IsMarkOf c.now.problem) first.now }
-    ensures { IsEarlier c.now.problem c.now.marks (corners.place enter) first.now a b result }
-{
-    c.show_corner(); // for the proof: what a corner keeps
-    match cmp_wide(a.above, a.below, b.above, b.below) {
-        Ordering::Less => a,
-        Ordering::Greater => b,
-        Ordering::Equal => {
-            if breaks_tie(c, a, b, enter, first) {
-                a
-            } else {
-                b
-            }
-        }
-    }
 }

@@ -225,7 +225,9 @@ fn with_added(read: RowsRead, col: u64) -> RowsRead
     }
 }
 
-// Reads the two rows at the lowest column that has not been read, or at that of the number.
+// Reads the two rows at the lowest column that has not been read, or at that of the number. Its callers are
+// loops that keep the place in registers where this is inlined.
+#[inline(always)]
 fn next_of_both(sum: &Sum<'_>, at: Place) -> Option<RowsRead>
     requires { IsPlaceOf sum.now at }
     ensures read { IfSome result (IsSumRead sum.now at) }

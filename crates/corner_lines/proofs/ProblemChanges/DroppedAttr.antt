@@ -49,7 +49,7 @@ pub filter-off : (attr : ℕ) (s : Stay) (stays : List Stay) → s.attr ≢ attr
 filter-off attr s stays n = ap (λ (b : Bool). cond (cond b false true) (s ∷ filter (other_stay attr) stays) (filter (other_stay attr) stays)) (ne_eqb s.attr attr n)
 
 -- a property that does not speak of levels
-abbrev NoLevel : (Line → Type 0) → Type 0
+abbrev pub NoLevel : (Line → Type 0) → Type 0
 NoLevel P = (n m : ℕ) (s : Stay) → P (line_of_stay n s) → P (line_of_stay m s)
 
 stays-left : (P : Line → Type 0) (attr n m : ℕ) (stays : List Stay) → NoLevel P → Each P (stay_lines n stays) → Each P (stay_lines m (filter (other_stay attr) stays))
@@ -70,7 +70,7 @@ rows-split : (P : Line → Type 0) (rows : List Row) (ls : List Line) → Each P
 rows-split P [] ls h = (tt, h)
 rows-split P (r ∷ rows) ls h = let k = rows-split P rows ls h.1 in ((h.0, k.0), k.1)
 
-lines-left : (P : Line → Type 0) (attr : ℕ) (p : Problem) → NoLevel P → Each P (lines p) → Each P (lines (without_attr attr p))
+pub lines-left : (P : Line → Type 0) (attr : ℕ) (p : Problem) → NoLevel P → Each P (lines p) → Each P (lines (without_attr attr p))
 lines-left P attr p move h =
     let k = rows-split P p.rows (stay_lines 1001 p.stays) h in
     each-joined P (map line_of_row p.rows) (stay_lines 1001 (without_attr attr p).stays) k.0 (stays-left P attr 1001 1001 p.stays move k.1)
@@ -96,10 +96,10 @@ sum-left F attr p none = rows p.rows
 
 -- ---- the stay
 
-record IsTheStay (attr : ℕ) (stays : List Stay) (s : Stay) : Type 0 where
-  is : s.attr ≡ attr
-  stay : IsStay s
-  only : Each (λ (t : Stay). t.attr ≡ attr → t ≡ s) stays
+pub record IsTheStay (attr : ℕ) (stays : List Stay) (s : Stay) : Type 0 where
+  pub is : s.attr ≡ attr
+  pub stay : IsStay s
+  pub only : Each (λ (t : Stay). t.attr ≡ attr → t ≡ s) stays
 
 the-stay : (attr : ℕ) (stays : List Stay) → Each IsStay stays → AllPairs (λ s t. s.attr ≢ t.attr) stays → HasStay stays attr → (s : Stay) × IsTheStay attr stays s
 the-stay attr [] whole apart (k, t, within, is, e) = absurd (omega (arith, within))
@@ -121,7 +121,7 @@ the-stay attr (s ∷ stays) whole apart h = elim (cases_eq s.attr attr) [
     further (zero, t, within, is, e) n = absurd (n (ap (λ (u : Stay). u.attr) is ∙ e))
     further (suc k, t, within, is, e) n = (k, t, omega (arith, within), is, e)
 
-the-held : (p : Problem) (attr : ℕ) → IsWhole p → IsFree p attr → (s : Stay) × IsTheStay attr p.stays s
+pub the-held : (p : Problem) (attr : ℕ) → IsWhole p → IsFree p attr → (s : Stay) × IsTheStay attr p.stays s
 the-held p attr whole free = the-stay attr p.stays (recursion_from_All IsStay p.stays whole.stays) whole.apart free.held
 
 stay-named : (p : Problem) (attr : ℕ) → HasStay p.stays attr → Named (StayOf attr) (lines p)
@@ -139,7 +139,7 @@ stay-named p attr h = rows p.rows
 -- ---- the columns of other lines
 
 -- none of the stay's marks, nor the attribute
-abbrev IsFar : ℕ → ℕ → Type 0
+abbrev pub IsFar : ℕ → ℕ → Type 0
 IsFar attr v = (v ≢ place_of (StayOf attr) Under) × (v ≢ place_of (StayOf attr) Over) × (v ≢ attr_column attr)
 
 far-form : (attr d : ℕ) (form : List Term) → attr ≤ 2147483648 → Each (λ (e : Term). e.attr ≢ attr) form → Each (λ (e : Term). IsFar attr e.attr) (map (λ (e : Term). record { attr = attr_column e.attr; by = pos d *ℤ e.by }) form)
@@ -157,14 +157,14 @@ far-equation attr l small ne tiny form = (
 
 -- ---- a solution with the attribute, from one without it
 
-small-attr : (s : Stay) (attr : ℕ) → IsStay s → s.attr ≡ attr → attr ≤ 2147483648
+pub small-attr : (s : Stay) (attr : ℕ) → IsStay s → s.attr ≡ attr → attr ≤ 2147483648
 small-attr s attr h e = let n = h.attr.1 in omega (arith, n, e)
 
 -- the attribute is at its stay's target, whose marks are 0
-abbrev restored : ℕ → Stay → (ℕ → ℤ) → ℕ → ℤ
+abbrev pub restored : ℕ → Stay → (ℕ → ℤ) → ℕ → ℤ
 restored attr s y v = cond (nat_eq v (place_of (StayOf attr) Under)) (pos 0) (cond (nat_eq v (place_of (StayOf attr) Over)) (pos 0) (cond (nat_eq v (attr_column attr)) (s.target.num *ℤ y one_column) (pos s.target.den *ℤ y v)))
 
-restored-far : (attr : ℕ) (s : Stay) (y : ℕ → ℤ) (v : ℕ) → IsFar attr v → restored attr s y v ≡ pos s.target.den *ℤ y v
+pub restored-far : (attr : ℕ) (s : Stay) (y : ℕ → ℤ) (v : ℕ) → IsFar attr v → restored attr s y v ≡ pos s.target.den *ℤ y v
 restored-far attr s y v f =
     ap (λ (b : Bool). cond b (pos 0) (cond (nat_eq v (place_of (StayOf attr) Over)) (pos 0) (cond (nat_eq v (attr_column attr)) (s.target.num *ℤ y one_column) (pos s.target.den *ℤ y v)))) (ne_eqb v (place_of (StayOf attr) Under) f.0)
     ∙ ap (λ (b : Bool). cond b (pos 0) (cond (nat_eq v (attr_column attr)) (s.target.num *ℤ y one_column) (pos s.target.den *ℤ y v))) (ne_eqb v (place_of (StayOf attr) Over) f.1)
@@ -187,7 +187,7 @@ restored-attr attr s y small =
 far-one : (attr : ℕ) → attr ≤ 2147483648 → IsFar attr one_column
 far-one attr small = ((λ e. absurd (omega (arith, small, e))), (λ e. absurd (omega (arith, small, e))), (λ e. absurd (omega (arith, small, e))))
 
-restored-one : (attr : ℕ) (s : Stay) (y : ℕ → ℤ) → attr ≤ 2147483648 → restored attr s y one_column ≡ pos s.target.den *ℤ y one_column
+pub restored-one : (attr : ℕ) (s : Stay) (y : ℕ → ℤ) → attr ≤ 2147483648 → restored attr s y one_column ≡ pos s.target.den *ℤ y one_column
 restored-one attr s y small = restored-far attr s y one_column (far-one attr small)
 
 -- the lines that are left, by their columns
@@ -222,12 +222,12 @@ restored-solves p attr s y whole free the h =
     target-parts : (d : ℕ) (k y1 u o a w : ℤ) → u ≡ pos 0 → o ≡ pos 0 → a ≡ k *ℤ y1 → w ≡ pos d *ℤ y1 → pos d *ℤ ((u -ℤ o) +ℤ a) ≡ k *ℤ w
     target-parts d k y1 u o a w e f g h = ap (λ (z : ℤ). pos d *ℤ z) (let i : (u -ℤ o) +ℤ a ≡ k *ℤ y1 = omega (arith, ints, e, f, g) in i) ∙ mul_left_comm_ℤ (pos d) k y1 ∙ ap (λ (z : ℤ). k *ℤ z) (sym h)
 
-unfoldable restored-point : (attr : ℕ) (s : Stay) → IsStay s → s.attr ≡ attr → Point → Point
+unfoldable pub restored-point : (attr : ℕ) (s : Stay) → IsStay s → s.attr ≡ attr → Point → Point
 restored-point attr s h e y = record { num = restored attr s y.num; positive = subst (λ (z : ℤ). pos 0 <ℤ z) (sym (restored-one attr s y.num (small-attr s attr h e))) (mul_positive s.target.den (y.num one_column) h.target.lowest.above y.positive) }
 
 -- ---- the marks
 
-mark-was : (p : Problem) (attr c : ℕ) → Contains (map place (marks_of (lines (without_attr attr p)))) c → Contains (map place (marks_of (lines p))) c
+pub mark-was : (p : Problem) (attr c : ℕ) → Contains (map place (marks_of (lines (without_attr attr p)))) c → Contains (map place (marks_of (lines p))) c
 mark-was p attr c is =
     let here = lines-left (λ l. Contains (map place (marks_of (lines p))) (place_of l.name Under) × Contains (map place (marks_of (lines p))) (place_of l.name Over)) attr p (λ n m s k. k) (here-in (lines p)) in
     contains_each (λ v. Contains (map place (marks_of (lines p))) v) (marks_of (lines (without_attr attr p))) c
@@ -246,7 +246,7 @@ rows-far : (attr : ℕ) (rows : List Row) → Each (λ l. l.name ≢ StayOf attr
 rows-far attr [] = tt
 rows-far attr (r ∷ rows) = (held-not-stay r.id attr, rows-far attr rows)
 
-left-far : (p : Problem) (attr : ℕ) → Each (λ l. l.name ≢ StayOf attr) (lines (without_attr attr p))
+pub left-far : (p : Problem) (attr : ℕ) → Each (λ l. l.name ≢ StayOf attr) (lines (without_attr attr p))
 left-far p attr = each-joined (λ l. l.name ≢ StayOf attr) (map line_of_row p.rows) (stay_lines 1001 (without_attr attr p).stays) (rows-far attr p.rows) (stays-far attr 1001 p.stays)
 
 small-left : (p : Problem) (attr c : ℕ) → IsWhole p → Contains (map place (marks_of (lines (without_attr attr p)))) c → (c < 17179869184) × ((side : Side) → c ≢ place_of (StayOf attr) side)
@@ -359,7 +359,7 @@ line_none p at attr name side own by num den whole corner free inside e =
 
 -- ---- the corner
 
-stands-back : (p : Problem) (at : List Mark) (attr : ℕ) (s : Stay) (whole : IsWhole p) (free : IsFree p attr) (the : IsTheStay attr p.stays s) (y : Point) → StandsAt (without_attr attr p) at y → StandsAt p at (restored-point attr s the.stay the.is y)
+pub stands-back : (p : Problem) (at : List Mark) (attr : ℕ) (s : Stay) (whole : IsWhole p) (free : IsFree p attr) (the : IsTheStay attr p.stays s) (y : Point) → StandsAt (without_attr attr p) at y → StandsAt p at (restored-point attr s the.stay the.is y)
 unfolding restored-point
 stands-back p at attr s whole free the y stands = (
   restored-solves p attr s y.num whole free the stands.0,

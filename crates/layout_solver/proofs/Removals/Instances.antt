@@ -152,7 +152,7 @@ none_held : (still : Vec ℕ) → still.items ≡ [] → IsRemoveStop (with_seco
 none_held still e = inr (e, (refl, omega arith, ((refl, comes (with_second (standing 4398046511104)) (2 ∷ []), refl), row_path, x_unfit)))
 
 one_held : (still : Vec ℕ) → still.items ≡ 1 ∷ [] → IsRemoveStop (with_second (standing 4398046511104)) both_over (leaving (2 ∷ 1 ∷ []) (1 ∷ [])) 0 (Unfit still x_over)
-one_held still e = inl (subst (λ (ids : List ℕ). IsHeldPath (with_second (standing 4398046511104)) both_over (2 ∷ 1 ∷ []) ids x_over) (sym e) held)
+one_held still e = inl ((λ none. absurd (let c : 0 ≡ 1 = ap length (sym none ∙ e) in omega (arith, c))), subst (λ (ids : List ℕ). IsHeldPath (with_second (standing 4398046511104)) both_over (2 ∷ 1 ∷ []) ids x_over) (sym e) held)
 
 -- ---- none
 
@@ -206,7 +206,7 @@ out_of_order : (p : Problem) (kept : List Mark) (at : UnfitPath) → IsHeldPath 
 out_of_order p kept at h = let e : 2 ≡ 1 = last-one 2 h.gone h.in_order in absurd (omega (arith, e))
 
 none_unfit : (still : Vec ℕ) (budget : ℕ) → IsRemoveStop (with_second (standing 5)) both_over (leaving (2 ∷ 1 ∷ []) (1 ∷ [])) budget (Unfit still x_over) → ⊥
-none_unfit still budget (inl h) = fits still.items h
+none_unfit still budget (inl (some, h)) = fits still.items h
 none_unfit still budget (inr (e, (kind, few, (begins, path, bad)))) =
     let count : 1 ≡ 0 = path.corner.count in absurd (omega (arith, count))
 

@@ -194,11 +194,6 @@ module _ (p : Problem) (kept at : List Mark) (l : Leaving) (q : Problem) (budget
   end_stop (Spent path) h = subst (λ (r : Problem). IsStopOf false r r.rows (FromRemoved p kept l.rows l.rows r) budget (SpentRun path)) is (left-spent path h)
   end_stop OutOfMemory h = tt
 
-pub still_stop : (p : Problem) (kept : List Mark) (l : Leaving) (budget : ℕ) (stop : RemoveStop) → IsStillStop p kept l.rows stop → IsRemoveStop p kept l budget stop
-still_stop p kept l budget (Unfit still at) h = inl h
-still_stop p kept l budget (Spent path) h = absurd h
-still_stop p kept l budget OutOfMemory h = tt
-
 -- a mark of the row as one of the list
 pub has_mark : (at : List Mark) (id : ℕ) → HasMarkIn at id → Any (λ m. m.row ≡ Held id) at
 has_mark at id (inl u) = row_there at (record { row = Held id; side = Under }) u

@@ -3,7 +3,7 @@ use Rattle.std.proofs.lemmas.Result.{IfErr-weaker, IfOk-weaker, err_from_is_err_
 use Rattle.problem_core.specs.declared.parts.Stay.{Stay}
 use Rattle.problem_core.specs.Layout.{HasStay, Problem, error, line_of_row}
 use Rattle.layout_solver.specs.Removals.{without, without_attrs}
-use Rattle.layout_solver.proofs.Removals.LeftEnds.{still_stop}
+use Rattle.layout_solver.proofs.Removals.LeftAttrs.{still_stop}
 use Rattle.layout_solver.proofs.Removals.LeftRows.{left_free, rows_all, stays_same}
 use Rattle.layout_solver.proofs.removing.take_out.Goals as goal
 
@@ -39,4 +39,4 @@ returns-clause-stop c =
 pub returns-in_err-drop_rows-clause-stop : goal.returns-in_err-drop_rows-clause-stop
 returns-in_err-drop_rows-clause-stop c =
     let p = err_from_is_err_and c.from_residual.result c.from_residual.ensures.1 in
-    rw (p.1, p.2) (still_stop c.args.c.now.problem c.args.c.now.marks (record { rows = c.args.rows.now; attrs = c.args.attrs.now }) c.args.budget c.in_err-drop_rows.field-0.0 c.in_err-drop_rows.ensures.stop)
+    rw (p.1, p.2) (still_stop c.args.c.now.problem c.args.c.now.marks (record { rows = c.args.rows.now; attrs = c.args.attrs.now }) c.args.budget c.in_err-drop_rows.field-0.0 c.show_corner.ensures.kept.whole c.requires.leave c.in_err-drop_rows.ensures.stop)

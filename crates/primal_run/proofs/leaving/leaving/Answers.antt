@@ -26,19 +26,21 @@ next_first-found-requires-clause-moves c =
 pub loop-i-preserved : goal.loop-i-preserved
 loop-i-preserved c = record {
   ratio = c.next_first-found.ensures.ratio;
-  first = λ whats are.
-      subst (λ (xs : List What). IsFirstOf c.args.c.now.problem c.args.c.now.marks (place c.args.enter) c.args.first.now xs c.next_first-found.result) (took_next whats c.loop-i.i c.mover.result (c.mover.ensures whats are))
-      (c.next_first-found.ensures.first (take c.loop-i.i whats) (c.loop-i.invariant.first whats are));
+  first = λ first run whats are.
+      subst (λ (xs : List What). IsFirstOf c.args.c.now.problem c.args.c.now.marks (place c.args.enter) first xs c.next_first-found.result) (took_next whats c.loop-i.i c.mover.result (c.mover.ensures whats are))
+      (c.next_first-found.ensures.first first run (take c.loop-i.i whats) (c.loop-i.invariant.first first run whats are));
 }
 
 pub unreachable-requires : goal.unreachable-requires
 unreachable-requires c =
+    let first = c.requires.trail.0 in
+    let run = c.requires.trail.1 in
     let m = c.movers-count.ensures in
     let same = m.2 in
     let over = c.loop-i-test.false in
-    none_leaves c.args.c.now c.args.enter c.args.first.now m.0 c.show_corner.ensures.kept c.requires.enter m.1
-    (subst (λ (xs : List What). IsFirstOf c.args.c.now.problem c.args.c.now.marks (place c.args.enter) c.args.first.now xs None) (take_all c.loop-i.i m.0 (omega (arith, same, over)))
-    (subst (λ (f : Option Ratio). IsFirstOf c.args.c.now.problem c.args.c.now.marks (place c.args.enter) c.args.first.now (take c.loop-i.i m.0) f) c.in-None.is (c.loop-i.invariant.first m.0 m.1)))
+    none_leaves c.args.c.now c.args.enter first m.0 c.show_corner.ensures.kept c.requires.enter m.1
+    (subst (λ (xs : List What). IsFirstOf c.args.c.now.problem c.args.c.now.marks (place c.args.enter) first xs None) (take_all c.loop-i.i m.0 (omega (arith, same, over)))
+    (subst (λ (f : Option Ratio). IsFirstOf c.args.c.now.problem c.args.c.now.marks (place c.args.enter) first (take c.loop-i.i m.0) f) c.in-None.is (c.loop-i.invariant.first first run m.0 m.1)))
 
 pub returns-clause-moves : goal.returns-clause-moves
 returns-clause-moves c =
@@ -46,10 +48,10 @@ returns-clause-moves c =
     (subst (IsRatioOrNone c.args.c.now.problem c.args.c.now.marks (place c.args.enter)) c.in-Some.is c.loop-i.invariant.ratio)
 
 pub returns-clause-first : goal.returns-clause-first
-returns-clause-first c =
+returns-clause-first c = λ first run.
     let m = c.movers-count.ensures in
     let same = m.2 in
     let over = c.loop-i-test.false in
-    first_leaves c.args.c.now c.args.enter c.args.first.now m.0 c.in-Some.ratio c.show_corner.ensures.kept m.1
-    (subst (λ (xs : List What). IsFirstOf c.args.c.now.problem c.args.c.now.marks (place c.args.enter) c.args.first.now xs (Some c.in-Some.ratio)) (take_all c.loop-i.i m.0 (omega (arith, same, over)))
-    (subst (λ (f : Option Ratio). IsFirstOf c.args.c.now.problem c.args.c.now.marks (place c.args.enter) c.args.first.now (take c.loop-i.i m.0) f) c.in-Some.is (c.loop-i.invariant.first m.0 m.1)))
+    first_leaves c.args.c.now c.args.enter first m.0 c.in-Some.ratio c.show_corner.ensures.kept m.1
+    (subst (λ (xs : List What). IsFirstOf c.args.c.now.problem c.args.c.now.marks (place c.args.enter) first xs (Some c.in-Some.ratio)) (take_all c.loop-i.i m.0 (omega (arith, same, over)))
+    (subst (λ (f : Option Ratio). IsFirstOf c.args.c.now.problem c.args.c.now.marks (place c.args.enter) first (take c.loop-i.i m.0) f) c.in-Some.is (c.loop-i.invariant.first first run m.0 m.1)))

@@ -14,21 +14,19 @@ use Rattle.primal_run.proofs.runs.exchange.Goals as goal
 
 pub returns-in_ok-push-in-Ok-clause-trail : goal.returns-in_ok-push-in-Ok-clause-trail
 returns-in_ok-push-in-Ok-clause-trail c = λ first trail.
-    let s : Swap = record { enter = c.args.enter; leave = c.in_ok-leave.leave } in
-    let before = c.in_ok-leave.ensures.trail first trail in
+    let s : Swap = record { enter = c.args.enter; leave = c.leaving-leave.result } in
     subst (λ (p : Problem). IsTrailOf false p first c.push.new.self c.swap.new.self.marks) (sym c.in-Ok.ensures.problem)
-    (c.in_ok-push-in-Ok.ensures.trail false c.args.c.now.problem first c.args.c.now.marks c.swap.new.self.marks before
-    (swap_more c.args.c.now.problem first c.args.c.now.marks c.swap.new.self.marks c.leaving_mark.new.trail.swaps s before.swapped c.requires.enter c.in_ok-leave.ensures.inside (c.in_ok-leave.ensures.first first trail) c.in-Ok.ensures.marks))
+    (c.in_ok-push-in-Ok.ensures.trail false c.args.c.now.problem first c.args.c.now.marks c.swap.new.self.marks trail
+    (swap_more c.args.c.now.problem first c.args.c.now.marks c.swap.new.self.marks c.args.trail.now.swaps s trail.swapped c.requires.enter c.leaving-leave.ensures.inside (c.leaving-leave.ensures.first first trail) c.in-Ok.ensures.marks))
 
 pub returns-in-Err-Refused-clause-stop : goal.returns-in-Err-Refused-clause-stop
 returns-in-Err-Refused-clause-stop c = λ first trail budget short.
-    let s : Swap = record { enter = c.args.enter; leave = c.in_ok-leave.leave } in
+    let s : Swap = record { enter = c.args.enter; leave = c.leaving-leave.result } in
     let next : List Mark = exchanged s c.args.c.now.marks in
     let same : c.swap.new.self ≡ c.args.c.now = search rules in
-    let before = c.in_ok-leave.ensures.trail first trail in
-    let told : IsTrailOf false c.args.c.now.problem first c.leaving_mark.new.trail c.args.c.now.marks → HasRun false c.args.c.now.problem first (c.leaving_mark.new.trail.swaps ++ s ∷ []) next → IsUnfitStop c.args.c.now.problem next (Refused c.in-Err-Refused.quantity) → (most : ℕ) → length c.leaving_mark.new.trail.swaps < most → IsStopOf false c.args.c.now.problem c.args.c.now.problem.rows (FromHere first) most c.unfit.result =
-    subst (λ (v : CornerView). IsTrailOf false v.problem first c.leaving_mark.new.trail v.marks → HasRun false v.problem first (c.leaving_mark.new.trail.swaps ++ s ∷ []) next → IsUnfitStop v.problem next (Refused c.in-Err-Refused.quantity) → (most : ℕ) → length c.leaving_mark.new.trail.swaps < most → IsStopOf false v.problem v.problem.rows (FromHere first) most c.unfit.result) same (c.unfit.ensures false first next) in
-    told before
-    (swap_more c.args.c.now.problem first c.args.c.now.marks next c.leaving_mark.new.trail.swaps s before.swapped c.requires.enter c.in_ok-leave.ensures.inside (c.in_ok-leave.ensures.first first trail) (same_self next))
+    let told : IsTrailOf false c.args.c.now.problem first c.args.trail.now c.args.c.now.marks → HasRun false c.args.c.now.problem first (c.args.trail.now.swaps ++ s ∷ []) next → IsUnfitStop c.args.c.now.problem next (Refused c.in-Err-Refused.quantity) → (most : ℕ) → length c.args.trail.now.swaps < most → IsStopOf false c.args.c.now.problem c.args.c.now.problem.rows (FromHere first) most c.unfit.result =
+    subst (λ (v : CornerView). IsTrailOf false v.problem first c.args.trail.now v.marks → HasRun false v.problem first (c.args.trail.now.swaps ++ s ∷ []) next → IsUnfitStop v.problem next (Refused c.in-Err-Refused.quantity) → (most : ℕ) → length c.args.trail.now.swaps < most → IsStopOf false v.problem v.problem.rows (FromHere first) most c.unfit.result) same (c.unfit.ensures false first next) in
+    told trail
+    (swap_more c.args.c.now.problem first c.args.c.now.marks next c.args.trail.now.swaps s trail.swapped c.requires.enter c.leaving-leave.ensures.inside (c.leaving-leave.ensures.first first trail) (same_self next))
     (search rules)
-    budget (subst (λ (xs : List Swap). length xs < budget) (sym c.leaving_mark.ensures.swaps) short)
+    budget short
